@@ -1,0 +1,49 @@
+-- What a run serves: the workers' calls, answered from a map on, and the text of their replies and of the last map's rows.
+use Rattle.std.specs.Prelude.{ℕ, ◌≤◌, ◌≡◌, List, [], ◌∷◌, ◌++◌, length, map, Option}
+use Rattle.std.specs.List.{AllByRecursion, flat_map}
+use Rattle.vm_io.specs.Shown.{Shown}
+use Rattle.vm_map.specs.Map.{Pairs}
+use Rattle.vm_map.specs.declared.call.Call.{Call}
+use Rattle.vm_map.specs.declared.call.Said.{Said}
+use Rattle.vm_map.specs.History.{AreReplies, after_all}
+use Rattle.vm_script.specs.Scripts.{IsScript, most_bytes}
+use Rattle.vm_script.specs.Texts.{worker_replies, rows_text}
+use Rattle.vm_cli.specs.Files.{HasFile}
+use Rattle.vm_cli.specs.Images.{IsEmptyImage}
+
+-- the calls of a history
+abbrev pub calls_in : List Said → List Call
+calls_in history = map (λ said. said.call) history
+
+-- the lists in the vectors
+abbrev pub items_of : {X : Type 0} → List (Vec X Global) → List (List X)
+items_of vectors = map (λ v. v.items) vectors
+
+-- no list has more than a script's most lines
+abbrev pub AreFew : {X : Type 0} → List (List X) → Type 0
+AreFew lists = AllByRecursion (λ list. length list ≤ 1000000) lists
+
+-- the workers' histories after each other
+abbrev pub joined : List (List Said) → List Said
+joined histories = flat_map (λ history. history) histories
+
+-- The workers' calls are answered one after another, worker after worker, from this map on.
+-- The history of the run is the workers' histories in that order.
+pub record IsAnswered (start : Pairs) (lists : List (List Call)) (text : List ℕ) : Type 0 where
+  pub histories : List (List Said)
+  -- each reply is right for the map after the calls before it
+  pub legal : AreReplies start (joined histories)
+  -- each worker's history is its calls, each once, in the script's order
+  pub holds : map calls_in histories ≡ lists
+  -- what is printed: each reply under its worker and number, then the rows of the last map
+  pub told : text ≡ worker_replies 0 histories ++ rows_text (after_all start (joined histories))
+
+-- the bytes are a script of so many workers with these calls
+pub record IsGoodScript (workers : ℕ) (bytes : List ℕ) (lists : List (List Call)) : Type 0 where
+  pub short : length bytes ≤ most_bytes
+  pub reads : IsScript workers bytes lists
+
+-- image and script are accepted, and the calls answered from the empty map on
+abbrev pub IsServed : Option Shown → List ℕ → List ℕ → List ℕ → Type 0
+IsServed shown image script text =
+    HasFile shown image IsEmptyImage × HasFile shown script (λ bytes. (lists : List (List Call)) × IsGoodScript 1 bytes lists × IsAnswered [] lists text)
