@@ -1,5 +1,6 @@
 -- What a run serves: the workers' calls, answered from a map on, and the text of their replies and of the last map's rows.
-use Rattle.std.specs.Prelude.{ℕ, ◌≤◌, ◌≡◌, List, [], ◌∷◌, ◌++◌, length, map, Option}
+use Rattle.std.specs.Prelude.{ℕ, ◌≤◌, ◌≡◌, List, [], ◌∷◌, ◌++◌, length, map, Option, Vec}
+use Rattle.std.specs.declared.alloc.Global.{Global}
 use Rattle.std.specs.List.{AllByRecursion, flat_map}
 use Rattle.vm_io.specs.Shown.{Shown}
 use Rattle.vm_map.specs.Map.{Pairs}

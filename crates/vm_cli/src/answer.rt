@@ -15,21 +15,21 @@ use vm_script::text::{reply_text, row_text};
 // One worker's calls, in order. The room for its replies is taken before its first call.
 fn answer_worker<G: Gate>(
     alloc: Global,
-    map: &mut PlainMap,
+    store: &mut PlainMap,
     worker: u32,
     calls: &[Call],
     gate: &G,
 ) -> Result<Vec<Said>, AllocError>
-    ensures legal { IfOk result (λ v. AreReplies map.old v.items) }
+    ensures legal { IfOk result (λ v. AreReplies store.old v.items) }
     ensures holds { IfOk result (λ v. calls_in v.items ≡ calls.now) }
-    ensures after { IfOk result (λ v. map.new ≡ after_all map.old v.items) }
+    ensures after { IfOk result (λ v. store.new ≡ after_all store.old v.items) }
 {
     let mut history = Vec::with_capacity(alloc, calls.len())?;
     let mut number = 0u32;
     'calls: for call in calls {
         number = number.saturating_add(1);
         gate.before(worker, number);
-        let reply = map.apply(call)?;
+        let reply = store.apply(call)?;
         gate.after(worker, number);
         history.push(Said { call: *call, reply })?;
     }
@@ -39,18 +39,18 @@ fn answer_worker<G: Gate>(
 // All workers' calls, worker after worker.
 fn answer_all<G: Gate>(
     alloc: Global,
-    map: &mut PlainMap,
+    store: &mut PlainMap,
     lists: &[Vec<Call>],
     gate: &G,
 ) -> Result<Vec<Vec<Said>>, AllocError>
-    ensures legal { IfOk result (λ v. AreReplies map.old (joined (items_of v.items))) }
+    ensures legal { IfOk result (λ v. AreReplies store.old (joined (items_of v.items))) }
     ensures holds { IfOk result (λ v. map calls_in (items_of v.items) ≡ items_of lists.now) }
-    ensures after { IfOk result (λ v. map.new ≡ after_all map.old (joined (items_of v.items))) }
+    ensures after { IfOk result (λ v. store.new ≡ after_all store.old (joined (items_of v.items))) }
 {
     let mut histories = Vec::with_capacity(alloc, lists.len())?;
     let mut worker = 0u32;
     'workers: for calls in lists {
-        histories.push(answer_worker(alloc, map, worker, calls.as_slice(), gate)?)?;
+        histories.push(answer_worker(alloc, store, worker, calls.as_slice(), gate)?)?;
         worker = worker.saturating_add(1);
     }
     Ok(histories)
@@ -103,14 +103,14 @@ fn add_rows(alloc: Global, rows: &[Pair], out: &mut Vec<u8>) -> Result<(), Alloc
 }
 
 // The text of the replies and of the map's rows.
-fn text_of(alloc: Global, histories: &[Vec<Said>], map: &PlainMap) -> Result<Vec<u8>, AllocError>
+fn text_of(alloc: Global, histories: &[Vec<Said>], store: &PlainMap) -> Result<Vec<u8>, AllocError>
     requires few { AreFew (items_of histories.now) }
     requires workers { length histories.now ≤ 64 }
-    ensures { IfOk result (λ v. v.items ≡ worker_replies 0 (items_of histories.now) ++ rows_text map.now) }
+    ensures { IfOk result (λ v. v.items ≡ worker_replies 0 (items_of histories.now) ++ rows_text store.now) }
 {
     let mut out = Vec::new(alloc);
     add_all_replies(alloc, histories, &mut out)?;
-    let rows = map.pairs(alloc)?;
+    let rows = store.pairs(alloc)?;
     add_rows(alloc, rows.as_slice(), &mut out)?;
     Ok(out)
 }
@@ -119,15 +119,15 @@ fn text_of(alloc: Global, histories: &[Vec<Said>], map: &PlainMap) -> Result<Vec
 /// and of the last map's rows. The only error is want of memory.
 pub fn answered<G: Gate>(
     alloc: Global,
-    map: PlainMap,
+    store: PlainMap,
     lists: &[Vec<Call>],
     gate: &G,
 ) -> Result<Vec<u8>, AllocError>
     requires few { AreFew (items_of lists.now) }
     requires workers { length lists.now ≤ 64 }
-    ensures { IfOk result (λ v. IsAnswered map (items_of lists.now) v.items) }
+    ensures { IfOk result (λ v. IsAnswered store (items_of lists.now) v.items) }
 {
-    let mut map = map;
-    let histories = answer_all(alloc, &mut map, lists, gate)?;
-    text_of(alloc, histories.as_slice(), &map)
+    let mut store = store;
+    let histories = answer_all(alloc, &mut store, lists, gate)?;
+    text_of(alloc, histories.as_slice(), &store)
 }

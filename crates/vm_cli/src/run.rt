@@ -1,7 +1,7 @@
 //! The top call: a command line, a host, and the status that the process ends with.
 
 ghost use Rattle.std.specs.Prelude.{◌≡◌, ◌≢◌, ◌⊎◌, ◌≤◌, map, string_bytes};
-ghost use Rattle.vm_io.specs.Causes.{Rose};
+ghost use Rattle.vm_io.specs.Causes.{Rose, SameTakes};
 ghost use Rattle.vm_cli.specs.Stops.{status_of as status_for, stop_text};
 ghost use Rattle.vm_cli.specs.Endings.{IsHeadline, IsSaid, RunEnds};
 
@@ -18,8 +18,7 @@ use vm_io::loops::say_all;
 // Says the whole text, and gives the status; 3 where the host failed.
 fn say<H: Host>(host: &mut H, text: &[u8], status: u8) -> u8
     ensures said { IsSaid (H.shown host.old) (H.shown host.new) text.now status result }
-    ensures last { H.last host.new ≡ H.last host.old }
-    ensures takes { H.takes host.new ≡ H.takes host.old }
+    ensures apart { SameTakes (H.takes host.old) (H.takes host.new) (H.last host.old) (H.last host.new) }
     ensures later { H.gives host.old ≤ H.gives host.new }
     ensures failed { (result ≡ status) ⊎ ((result ≡ 3) × Rose (H.gives host.old) (H.gives host.new)) }
 {
@@ -32,8 +31,7 @@ fn say<H: Host>(host: &mut H, text: &[u8], status: u8) -> u8
 // Tells why no call was made; 6 where there is no memory for the line.
 fn refuse<H: Host>(alloc: Global, host: &mut H, command: &Command<'_>, stop: Stop) -> u8
     ensures said { IsSaid (H.shown host.old) (H.shown host.new) (stop_text command.now.image.now command.now.script.now stop) (status_for stop) result ⊎ ((H.shown host.new ≡ H.shown host.old) × (result ≡ 6)) }
-    ensures last { H.last host.new ≡ H.last host.old }
-    ensures takes { H.takes host.new ≡ H.takes host.old }
+    ensures apart { SameTakes (H.takes host.old) (H.takes host.new) (H.last host.old) (H.last host.new) }
     ensures later { H.gives host.old ≤ H.gives host.new }
     ensures failed { (result ≡ status_for stop) ⊎ (result ≡ 6) ⊎ ((result ≡ 3) × Rose (H.gives host.old) (H.gives host.new)) }
 {

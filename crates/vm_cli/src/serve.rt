@@ -1,6 +1,6 @@
 //! Reads image and script, and serves the script's calls.
 
-ghost use Rattle.std.specs.Prelude.{◌≡◌, ◌≤◌, ◌×◌, length, IfOk};
+ghost use Rattle.std.specs.Prelude.{◌≡◌, ◌≤◌, length, IfOk};
 ghost use Rattle.vm_cli.specs.Served.{items_of, AreFew};
 ghost use Rattle.vm_cli.specs.Stops.{HasReadCause, ReadsCalls, ReadsImage, Serves};
 

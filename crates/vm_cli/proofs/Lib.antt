@@ -1,0 +1,4 @@
+pub mod Sevens
+pub mod Histories
+pub mod Files
+pub mod Outcomes

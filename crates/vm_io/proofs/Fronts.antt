@@ -1,0 +1,79 @@
+-- Steps of the loops over a host.
+use Rattle.std.proofs.Common.{◌≡◌, ℕ, min, ◌+◌, ◌-◌, ◌≤◌, ◌<◌, ◌⊎◌, inl, inr, List, ◌++◌, length, take, drop, Option, Some, None, true, false, refl, sym, ap, subst, ◌∙◌, arith, length-take, append_assoc}
+use Rattle.std.proofs.lemmas.List.{take_all, take_min, length-take-le, append-nil}
+use Rattle.std.proofs.Math.Seq.{take-add, take-append_seam}
+use Rattle.vm_io.specs.Shown.{Shown, say_more, SaidFront, PutFront, Holds, IsHeld, kept}
+use Rattle.vm_io.specs.Loops.{ReadsMore, ReadsWhole, IsFront}
+
+-- a front and the bytes behind it are a front
+join_front : (bytes old : List ℕ) (n : ℕ) → old ≡ take (length old) bytes → n ≤ length bytes - length old → old ++ take n (drop (length old) bytes) ≡ take (length (old ++ take n (drop (length old) bytes))) bytes
+join_front bytes old n e enough =
+    let whole : old ++ take n (drop (length old) bytes) ≡ take (length old + n) bytes = ap (λ l. l ++ take n (drop (length old) bytes)) e ∙ sym (take-add (length old) n bytes) in
+    let short : length old ≤ length bytes = omega (arith, ap length e, length-take (length old) bytes) in
+    let len : length (take (length old + n) bytes) ≡ length old + n = length-take-le (length old + n) bytes (omega arith) in
+    whole ∙ ap (λ k. take k bytes) (sym len ∙ ap length (sym whole))
+
+pub front_more : (shown : Option Shown) (name old new : List ℕ) (n : ℕ) → IsFront shown name old → ReadsMore shown name old new n → IsFront shown name new
+front_more None name old new n f m = tt
+front_more (Some s) name old new n f m = λ bytes file.
+    let same : m.bytes ≡ bytes = cc (m.file, file) in
+    let h : n ≤ length bytes - length old = subst (λ b. n ≤ length b - length old) same m.enough in
+    let e : new ≡ old ++ take n (drop (length old) bytes) = subst (λ b. new ≡ old ++ take n (drop (length old) b)) same m.more in
+    subst (λ v. v ≡ take (length v) bytes) (sym e) (join_front bytes old n (f bytes file) h)
+
+pub whole_end : (shown : Option Shown) (name : List ℕ) (limit : ℕ) (old new : List ℕ) (n : ℕ) → IsFront shown name old → ReadsMore shown name old new n → length old ≤ limit → length new ≤ limit + 1 → (n ≡ 0) ⊎ (limit < length new) → ReadsWhole shown name limit new
+whole_end None name limit old new n f m low high done = tt
+whole_end (Some s) name limit old new n f m low high done = record {
+  bytes = m.bytes;
+  file = m.file;
+  front = elim done [
+    | inl none ↦
+        let end : length m.bytes ≤ length old = m.end none in
+        let same : new ≡ old = m.more ∙ ap (λ k. old ++ take k (drop (length old) m.bytes)) none ∙ append-nil old in
+        let a : take (length old) m.bytes ≡ m.bytes = take_all _ _ end in
+        let b : take (limit + 1) m.bytes ≡ m.bytes = take_all _ _ (omega arith) in
+        same ∙ f m.bytes m.file ∙ a ∙ sym b
+    | inr full ↦
+        let len : length new ≡ limit + 1 = omega arith in
+        front_more (Some s) name old new n f m m.bytes m.file ∙ ap (λ k. take k m.bytes) len
+  ];
+}
+
+said_on : (old mid new : Shown) (bytes : List ℕ) (at n : ℕ) → mid ≡ say_more old (take at bytes) → new ≡ say_more mid (take n (drop at bytes)) → new ≡ say_more old (take (at + n) bytes)
+said_on old mid new bytes at n e h =
+    h ∙ ap (λ s. say_more s (take n (drop at bytes))) e
+    ∙ ap (λ l. record old { said = l }) (append_assoc old.said (take at bytes) (take n (drop at bytes)) ∙ ap (λ l. old.said ++ l) (sym (take-add at n bytes)))
+
+pub said_more : (old mid new : Option Shown) (bytes : List ℕ) (at n : ℕ) → SaidFront old mid bytes at → SaidFront mid new (drop at bytes) n → SaidFront old new bytes (at + n)
+said_more None mid new bytes at n f s = let h : SaidFront None new (drop at bytes) n = subst (λ m. SaidFront m new (drop at bytes) n) f s in h
+said_more (Some old) mid new bytes at n f s =
+    let h : SaidFront (Some (say_more old (take at bytes))) new (drop at bytes) n = subst (λ m. SaidFront m new (drop at bytes) n) f s in
+    h ∙ ap (λ x. Some x) (said_on old (say_more old (take at bytes)) (say_more (say_more old (take at bytes)) (take n (drop at bytes))) bytes at n refl refl)
+
+-- a first piece is the front of all bytes
+pub put_first : (old new : Option Shown) (name bytes : List ℕ) (n : ℕ) → PutFront old new name true bytes n → Holds old new name (take n bytes)
+put_first None new name bytes n p = p
+put_first (Some old) new name bytes n p = p
+
+held_on : (old mid new : Shown) (name bytes : List ℕ) (at n : ℕ) → IsHeld old mid name (take at bytes) → IsHeld mid new name (kept false (mid.files name) ++ take n (drop at bytes)) → IsHeld old new name (take (at + n) bytes)
+held_on old mid new name bytes at n h p =
+    let whole : kept false (mid.files name) ++ take n (drop at bytes) ≡ take (at + n) bytes = ap (λ f. kept false f ++ take n (drop at bytes)) h.file ∙ sym (take-add at n bytes) in
+    record {
+      file = p.file ∙ ap (λ b. Some b) whole;
+      others = λ other apart. p.others other apart ∙ h.others other apart;
+      said = p.said ∙ h.said;
+    }
+
+-- a further piece behind a front is a longer front
+pub put_more : (old mid new : Option Shown) (name bytes : List ℕ) (at n : ℕ) → Holds old mid name (take at bytes) → PutFront mid new name false (drop at bytes) n → Holds old new name (take (at + n) bytes)
+put_more None mid new name bytes at n h p = subst (λ m. PutFront m new name false (drop at bytes) n) h p
+put_more (Some old) mid new name bytes at n (between, is, h) p =
+    let q : PutFront (Some between) new name false (drop at bytes) n = subst (λ m. PutFront m new name false (drop at bytes) n) is p in
+    (q.0, q.1, held_on old between q.0 name bytes at n h q.2)
+
+-- what is copied over the front of a buffer is all that is kept of it
+pub kept_front : (copied rest name : List ℕ) (n : ℕ) → n ≡ min (length name) 255 → copied ≡ take n name → take n (copied ++ rest) ≡ take 255 name
+kept_front copied rest name n least same =
+    let len : length copied ≡ n = ap length same ∙ length-take-le n name (omega (arith, least)) in
+    let least' : n ≡ min 255 (length name) = omega (arith, least) in
+    ap (λ k. take k (copied ++ rest)) (sym len) ∙ take-append_seam copied rest ∙ same ∙ ap (λ k. take k name) least' ∙ take_min 255 name

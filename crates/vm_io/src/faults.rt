@@ -1,0 +1,56 @@
+// What each host keeps of its failures: takes and gives are counted apart, each up to the greatest `u64`.
+ghost use Rattle.std.specs.Prelude.{◌≡◌, ℕ, ◌+◌, ◌-◌, ◌^◌, ◌≤◌, ◌<◌, min, [], take};
+ghost use Rattle.vm_io.specs.Causes.{FailedTake, Rose, SameTakes};
+
+use crate::failed_name::FailedName;
+use crate::host::Failed;
+
+/// Counts of failed takes and gives, and the name of the file whose take failed last.
+#[derive(Drop)]
+pub struct Faults {
+    pub takes: u64,
+    pub gives: u64,
+    pub last: FailedName,
+}
+
+impl Faults {
+    pub fn new() -> Self
+        ensures takes { result.takes ≡ 0 }
+        ensures gives { result.gives ≡ 0 }
+        ensures last { result.last ≡ [] }
+    {
+        Faults {
+            takes: 0,
+            gives: 0,
+            last: FailedName::new(),
+        }
+    }
+
+    /// Counts a failed take.
+    pub fn fail_take(&mut self, name: &str) -> Failed
+        ensures later { self.old.takes ≤ self.new.takes }
+        ensures failed { FailedTake self.old.takes self.new.takes self.new.last name.now }
+        ensures apart { self.new.gives ≡ self.old.gives }
+    {
+        self.takes = self.takes.saturating_add(1);
+        self.last.set(name);
+        Failed
+    }
+
+    /// Counts a failed put or say.
+    pub fn fail_give(&mut self) -> Failed
+        ensures later { self.old.gives ≤ self.new.gives }
+        ensures failed { Rose self.old.gives self.new.gives }
+        ensures apart { SameTakes self.old.takes self.new.takes self.old.last self.new.last }
+    {
+        self.gives = self.gives.saturating_add(1);
+        Failed
+    }
+
+    /// All that failed, up to the greatest `u64`.
+    pub fn total(&self) -> u64
+        ensures { result ≡ min (self.now.takes + self.now.gives) (2 ^ 64 - 1) }
+    {
+        self.takes.saturating_add(self.gives)
+    }
+}

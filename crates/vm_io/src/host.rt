@@ -1,0 +1,56 @@
+// The trait of hosts: named files and standard output, with counts of what failed.
+// Takes and gives are counted apart, and the name of the last failed take is kept, so that a caller can be held to which of them failed.
+ghost use Rattle.std.specs.Prelude.{◌≡◌, ℕ, ◌+◌, ◌-◌, ◌^◌, ◌≤◌, ◌<◌, min, length, Option, IfOk, List};
+ghost use Rattle.vm_io.specs.Causes.{HasCause, HasStuckCause, HasTakeCause, SameTakes};
+ghost use Rattle.vm_io.specs.Shown.{Shown, Takes, Puts, Says};
+
+use thiserror::Error;
+
+/// A call of the host failed.
+#[derive(Clone, Copy, Debug, PartialEq, Eq, Error)]
+#[error("the host failed")]
+pub struct Failed;
+
+/// Named files and standard output.
+pub trait Host {
+    /// The files and what was said, where the host tells them.
+    ghost shown: { Self → Option Shown };
+
+    /// How many calls of `take` failed.
+    ghost takes: { Self → ℕ };
+
+    /// How many calls of `put` and `say` failed, or took nothing of a piece that is not empty.
+    ghost gives: { Self → ℕ };
+
+    /// The first 255 bytes of the name of the file whose `take` failed last.
+    ghost last: { Self → List ℕ };
+
+    /// Copies bytes of a file from an offset on, and answers how many. 0 means the end of the file, or an empty buffer.
+    /// A missing file is a failure.
+    fn take(&mut self, name: &str, at: u64, into: &mut [u8]) -> Result<usize, Failed>
+        ensures bound { IfOk result (λ n. n ≤ length into.new) }
+        ensures bytes { Takes (shown self.old) name.now at into.old into.new result }
+        ensures keeps { shown self.new ≡ shown self.old }
+        ensures cause { HasTakeCause (takes self.old) (takes self.new) (last self.old) (last self.new) name.now result }
+        ensures apart { gives self.new ≡ gives self.old };
+
+    /// Appends the front of a piece to a file, which `first` makes empty before, and answers how many bytes.
+    fn put(&mut self, name: &str, first: bool, piece: &[u8]) -> Result<usize, Failed>
+        ensures bound { IfOk result (λ n. n ≤ length piece.now) }
+        ensures bytes { Puts (shown self.old) (shown self.new) name.now first piece.now result }
+        ensures cause { HasCause (gives self.old) (gives self.new) result }
+        ensures stuck { HasStuckCause (gives self.old) (gives self.new) (length piece.now) result }
+        ensures apart { SameTakes (takes self.old) (takes self.new) (last self.old) (last self.new) };
+
+    /// Writes the front of a piece to standard output, and answers how many bytes.
+    fn say(&mut self, piece: &[u8]) -> Result<usize, Failed>
+        ensures bound { IfOk result (λ n. n ≤ length piece.now) }
+        ensures bytes { Says (shown self.old) (shown self.new) piece.now result }
+        ensures cause { HasCause (gives self.old) (gives self.new) result }
+        ensures stuck { HasStuckCause (gives self.old) (gives self.new) (length piece.now) result }
+        ensures apart { SameTakes (takes self.old) (takes self.new) (last self.old) (last self.new) };
+
+    /// How many calls failed or took nothing, up to the greatest `u64`.
+    fn faults(&self) -> u64
+        ensures { result ≡ min (takes self.now + gives self.now) (2 ^ 64 - 1) };
+}

@@ -1,0 +1,29 @@
+use Rattle.std.proofs.Common.{rules, sym, ap, ◌∙◌, ◌^◌, arith}
+use Rattle.vm_map.specs.Map.{lookup_at, put_pair}
+use Rattle.vm_map.specs.History.{AddsKey}
+use Rattle.vm_map.proofs.MapLemmas.{Rises-put}
+use Rattle.vm_map.proofs.Entries.{lookup_is, insert_is}
+use Rattle.vm_map.proofs.plain.PlainMap.apply.Goals as goal
+
+pub returns-in_err-insert-in-Put-clause-only_new_key : goal.returns-in_err-insert-in-Put-clause-only_new_key
+returns-in_err-insert-in-Put-clause-only_new_key c =
+    let new_key : AddsKey c.args.self.now c.args.call.now = rw c.in-Put.is (rw (← c.self.view_is) (sym (lookup_is c.self.inside.entries.entries c.in-Put.key) ∙ c.in_err-insert-in-Put.ensures.absent)) in
+    search (rules, new_key)
+
+pub invariant_of-self-in-Put : goal.invariant_of-self-in-Put
+invariant_of-self-in-Put c = rw (c.in_ok-insert-in-Put.ensures.entries, insert_is c.self.inside.entries.entries c.in-Put.key c.in-Put.value)
+    (Rises-put c.self.inside.entries.entries 0 (2 ^ 64) c.in-Put.key c.in-Put.value c.self.invariant (omega arith) (search rules))
+
+pub returns-in-Get-clause-reply : goal.returns-in-Get-clause-reply
+returns-in-Get-clause-reply c = rw c.in-Get.is (c.copied.ensures ∙ c.get.ensures.value ∙ lookup_is c.self.inside.entries.entries c.in-Get.key ∙ ap (λ m. lookup_at m c.in-Get.key) c.self.view_is)
+
+pub returns-in_ok-insert-in-Put-clause-reply : goal.returns-in_ok-insert-in-Put-clause-reply
+returns-in_ok-insert-in-Put-clause-reply c =
+    rw c.in-Put.is (c.in_ok-insert-in-Put.ensures.old ∙ lookup_is c.self.inside.entries.entries c.in-Put.key ∙ ap (λ m. lookup_at m c.in-Put.key) c.self.view_is)
+
+pub returns-in_ok-insert-in-Put-clause-after : goal.returns-in_ok-insert-in-Put-clause-after
+returns-in_ok-insert-in-Put-clause-after c =
+    rw c.in-Put.is (c.in_ok-insert-in-Put.ensures.entries ∙ insert_is c.self.inside.entries.entries c.in-Put.key c.in-Put.value ∙ ap (λ m. put_pair m c.in-Put.key c.in-Put.value) c.self.view_is)
+
+pub returns-in_ok-insert-in-Put-clause-rises : goal.returns-in_ok-insert-in-Put-clause-rises
+returns-in_ok-insert-in-Put-clause-rises c = invariant_of-self-in-Put c

@@ -1,0 +1,44 @@
+// The calls on a map, what they are answered, and the pairs that a map holds.
+use std::marker::Model;
+
+/// A call on the map.
+#[derive(Clone, Copy, Debug, PartialEq, Eq)]
+pub enum Call {
+    /// Asks for the value at a key.
+    Get { key: u64 },
+    /// Puts a value at a key, over the one that is there.
+    Put { key: u64, value: u64 },
+}
+
+/// What a call is answered.
+#[derive(Clone, Copy, Debug, PartialEq, Eq)]
+pub enum Reply {
+    /// The value at the key of a `Get`.
+    Got(Option<u64>),
+    /// The value that was at the key of a `Put` before.
+    Was(Option<u64>),
+}
+
+/// A call with its reply.
+#[derive(Clone, Copy, Debug, PartialEq, Eq)]
+pub struct Said {
+    pub call: Call,
+    pub reply: Reply,
+}
+
+/// A key with its value: contracts see the pair of the two numbers.
+#[derive(Clone, Copy, Debug, Default, Drop, PartialEq)]
+pub struct Pair {
+    pub key: u64,
+    pub value: u64,
+}
+
+impl Model for Pair {
+    ghost use Rattle.std.specs.Prelude.{ℕ};
+
+    ghost Value = { ℕ × ℕ };
+
+    ghost view = { λ p. (p.key, p.value) };
+
+    ghost inverse = { λ d. record { key = d.0; value = d.1 } };
+}

@@ -1,0 +1,5 @@
+//! Calls on a map from numbers to numbers, their replies, and a plain map that answers them.
+#![tactic(auto)]
+
+pub mod call;
+pub mod plain;

@@ -1,0 +1,4 @@
+pub mod Decimals
+pub mod Words
+pub mod Lines
+pub mod Readings

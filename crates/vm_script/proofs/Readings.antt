@@ -1,0 +1,134 @@
+-- Bytes have one reading as lines of orders.
+use Rattle.std.proofs.Common.{◌≡◌, ◌⊎◌, inl, inr, ℕ, ◌≤◌, ◌<◌, ◌^◌, lit<, get_or, List, [], ◌∷◌, ◌++◌, length, refl, sym, ap, ◌∙◌, arith, append_assoc, length-append}
+use Rattle.std.specs.Fmt.{decimal}
+use Rattle.std.specs.List.{AllByRecursion}
+use Rattle.std.proofs.lemmas.Fmt.{decimal_injective}
+use Rattle.std.proofs.lemmas.List.{append-nil}
+use Rattle.vm_map.specs.declared.call.Call.{Call}
+use Rattle.vm_map.specs.declared.call.Call.TheVariants.{Get, Put}
+use Rattle.vm_script.specs.declared.script.Order.{Order}
+use Rattle.vm_script.specs.Scripts.{call_text, order_text, lines_text, lists_of, IsCall, IsOrder, Spells, IsScript, IsFirstBad, BeginsWith, most_lines}
+use Rattle.vm_script.proofs.Words.{lacks_decimal, one_cut}
+use Rattle.vm_script.proofs.Lines.{lacks_order}
+
+one_pair : (key value key' value' : ℕ) → key < 2 ^ 64 → value < 2 ^ 64 → key' < 2 ^ 64 → value' < 2 ^ 64 → decimal key ++ 32 ∷ decimal value ≡ decimal key' ++ 32 ∷ decimal value' → (key ≡ key') × (value ≡ value')
+one_pair key value key' value' k v k' v' e =
+    let parts = one_cut 32 (decimal key) (decimal value) (decimal key') (decimal value') (lacks_decimal 32 key (lit< tt) k) (lacks_decimal 32 key' (lit< tt) k') e in
+    (decimal_injective key key' k k' parts.0, decimal_injective value value' v v' parts.1)
+
+-- a text is that of one call
+one_call : (a b : Call) → IsCall a → IsCall b → call_text a ≡ call_text b → a ≡ b
+one_call (Get k) (Get k') a b e = let rest : decimal k ≡ decimal k' = cc in ap Get (decimal_injective k k' a b rest)
+one_call (Get k) (Put k' v') a b e = let first : 103 ≡ 112 = ap (λ l. get_or l 0 0) e in absurd (omega (arith, first))
+one_call (Put k v) (Get k') a b e = let first : 112 ≡ 103 = ap (λ l. get_or l 0 0) e in absurd (omega (arith, first))
+one_call (Put k v) (Put k' v') a b e =
+    let rest : decimal k ++ 32 ∷ decimal v ≡ decimal k' ++ 32 ∷ decimal v' = cc in
+    let same = one_pair k v k' v' a.0 a.1 b.0 b.1 rest in
+    cc (same.0, same.1)
+
+one_order : (workers : ℕ) (a b : Order) → workers < 2 ^ 32 → IsOrder workers a → IsOrder workers b → order_text a ≡ order_text b → a ≡ b
+one_order workers a b w is_a is_b e =
+    let small : a.worker < 2 ^ 64 = omega (arith, is_a.worker) in
+    let small' : b.worker < 2 ^ 64 = omega (arith, is_b.worker) in
+    let parts = one_cut 32 (decimal a.worker) (call_text a.call) (decimal b.worker) (call_text b.call) (lacks_decimal 32 a.worker (lit< tt) small) (lacks_decimal 32 b.worker (lit< tt) small') e in
+    let worker = decimal_injective a.worker b.worker small small' parts.0 in
+    let call = one_call a.call b.call is_a.call is_b.call parts.1 in
+    ap (λ w. record a { worker = w }) worker ∙ ap (λ c. record b { call = c }) call
+
+-- the line of an order stands at the head of these bytes
+record HasLine (workers : ℕ) (bytes : List ℕ) : Type 0 where
+  pub order : Order
+  pub is : IsOrder workers order
+  pub behind : List ℕ
+  pub line : bytes ≡ order_text order ++ 10 ∷ behind
+
+-- of two ways to read lines, both are one, or one of them stopped before a line
+data Compared (workers : ℕ) (a b : List Order) (rest rest' : List ℕ) : Type 0 where
+  same : a ≡ b → rest ≡ rest' → Compared workers a b rest rest'
+  first_stopped : length a < length b → HasLine workers rest → Compared workers a b rest rest'
+  second_stopped : length b < length a → HasLine workers rest' → Compared workers a b rest rest'
+
+lines_more : (order : Order) (orders : List Order) (rest : List ℕ) → lines_text (order ∷ orders) ++ rest ≡ order_text order ++ 10 ∷ (lines_text orders ++ rest)
+lines_more order orders rest = append_assoc (order_text order ++ 10 ∷ []) (lines_text orders) rest ∙ append_assoc (order_text order) (10 ∷ []) (lines_text orders ++ rest)
+
+compared : (workers : ℕ) (a b : List Order) (rest rest' : List ℕ) → workers < 2 ^ 32 → AllByRecursion (IsOrder workers) a → AllByRecursion (IsOrder workers) b → lines_text a ++ rest ≡ lines_text b ++ rest' → Compared workers a b rest rest'
+compared workers [] [] rest rest' w is is' e = same refl e
+compared workers [] (y ∷ ys) rest rest' w is is' e = first_stopped (omega arith) (record { order = y; is = is'.0; behind = lines_text ys ++ rest'; line = e ∙ lines_more y ys rest' })
+compared workers (x ∷ xs) [] rest rest' w is is' e = second_stopped (omega arith) (record { order = x; is = is.0; behind = lines_text xs ++ rest; line = sym e ∙ lines_more x xs rest })
+compared workers (x ∷ xs) (y ∷ ys) rest rest' w is is' e =
+    let parts = one_cut 10 (order_text x) (lines_text xs ++ rest) (order_text y) (lines_text ys ++ rest') (lacks_order workers x w is.0) (lacks_order workers y w is'.0) (sym (lines_more x xs rest) ∙ e ∙ lines_more y ys rest') in
+    let first = one_order workers x y w is.0 is'.0 parts.0 in
+    elim (compared workers xs ys rest rest' w is.1 is'.1 parts.1) [
+      | same all rests ↦ same (cc (first, all)) rests
+      | first_stopped fewer line ↦ first_stopped (omega (arith, fewer)) line
+      | second_stopped fewer line ↦ second_stopped (omega (arith, fewer)) line
+    ]
+
+-- the line of an order is longer than a line feed
+no_line : (workers : ℕ) (rest : List ℕ) → length rest ≤ 1 → HasLine workers rest → ⊥
+no_line workers rest few line =
+    let long = ap length line.line ∙ length-append (order_text line.order) (10 ∷ line.behind) in
+    let text = length-append (decimal line.order.worker) (32 ∷ call_text line.order.call) in
+    omega (arith, long, text)
+
+-- what the lines of a script leave, once its last line has its line feed
+spelled : (workers : ℕ) (bytes : List ℕ) (orders : List Order) → Spells workers bytes orders → (bytes ≡ lines_text orders ++ []) ⊎ (bytes ++ 10 ∷ [] ≡ lines_text orders ++ [])
+spelled workers bytes orders s = elim s.spelling [ inl e ↦ inl (e ∙ sym (append-nil (lines_text orders))) | inr e ↦ inr (e ∙ sym (append-nil (lines_text orders))) ]
+
+-- two readings that leave at most a line feed are one
+one_of : (workers : ℕ) (a b : List Order) (rest rest' : List ℕ) → workers < 2 ^ 32 → AllByRecursion (IsOrder workers) a → AllByRecursion (IsOrder workers) b → length rest ≤ 1 → length rest' ≤ 1 → lines_text a ++ rest ≡ lines_text b ++ rest' → (a ≡ b) × (rest ≡ rest')
+one_of workers a b rest rest' w is is' few few' e = elim (compared workers a b rest rest' w is is' e) [
+  | same all rests ↦ (all, rests)
+  | first_stopped fewer line ↦ absurd (no_line workers rest few line)
+  | second_stopped fewer line ↦ absurd (no_line workers rest' few' line)
+]
+
+pub one_list : (workers : ℕ) (bytes : List ℕ) (a b : List Order) → workers < 2 ^ 32 → Spells workers bytes a → Spells workers bytes b → a ≡ b
+one_list workers bytes a b w s t = elim (spelled workers bytes a s) [
+  | inl x ↦ elim (spelled workers bytes b t) [
+    | inl y ↦ (one_of workers a b [] [] w s.each t.each (omega arith) (omega arith) (sym x ∙ y)).0
+    | inr y ↦ (one_of workers a b (10 ∷ []) [] w s.each t.each (omega arith) (omega arith) (ap (λ l. l ++ 10 ∷ []) (sym (append-nil (lines_text a)) ∙ sym x) ∙ y)).0
+  ]
+  | inr x ↦ elim (spelled workers bytes b t) [
+    | inl y ↦ (one_of workers a b [] (10 ∷ []) w s.each t.each (omega arith) (omega arith) (sym x ∙ ap (λ l. l ++ 10 ∷ []) (y ∙ append-nil (lines_text b)))).0
+    | inr y ↦ (one_of workers a b [] [] w s.each t.each (omega arith) (omega arith) (sym x ∙ y)).0
+  ]
+]
+
+pub one_script : (workers : ℕ) (bytes : List ℕ) (a b : List (List Call)) → workers < 2 ^ 32 → IsScript workers bytes a → IsScript workers bytes b → a ≡ b
+one_script workers bytes a b w s t = s.each ∙ ap (λ orders. lists_of workers orders) (one_list workers bytes s.orders t.orders w s.spells t.spells) ∙ sym t.each
+
+-- a reading that stopped before a line, and is no first bad line for that
+stops : (workers : ℕ) (bytes : List ℕ) (n : ℕ) (bad : IsFirstBad workers bytes n) (m : ℕ) → length bad.good < m → m ≤ most_lines → (order : Order) → IsOrder workers order → BeginsWith bad.rest (order_text order) → ⊥
+stops workers bytes n bad m fewer most order is begins = elim bad.bad [ inl full ↦ omega (arith, full, fewer, most) | inr none ↦ none order is begins ]
+
+pub one_bad_line : (workers : ℕ) (bytes : List ℕ) (m n : ℕ) → workers < 2 ^ 32 → IsFirstBad workers bytes m → IsFirstBad workers bytes n → m ≡ n
+one_bad_line workers bytes m n w a b = elim (compared workers a.good b.good a.rest b.rest w a.each b.each (sym a.front ∙ b.front)) [
+  | same all rests ↦ omega (arith, ap length all, a.count, b.count)
+  | first_stopped fewer line ↦ absurd (stops workers bytes m a (length b.good) fewer b.few line.order line.is (inr (line.behind, line.line)))
+  | second_stopped fewer line ↦ absurd (stops workers bytes n b (length a.good) fewer a.few line.order line.is (inr (line.behind, line.line)))
+]
+
+-- bytes that a line feed makes begin with a whole line begin with that line
+begins_of : (rest line behind : List ℕ) → rest ++ 10 ∷ [] ≡ line ++ 10 ∷ behind → BeginsWith rest line
+begins_of [] [] behind e = inl refl
+begins_of [] (y ∷ line) behind e = absurd (omega (arith, ap length e, length-append line (10 ∷ behind)))
+begins_of (x ∷ rest) [] behind e = let first : x ≡ 10 = cc in inr (rest, ap (λ b. b ∷ rest) first)
+begins_of (x ∷ rest) (y ∷ line) behind e =
+    let first : x ≡ y = cc in
+    let others : rest ++ 10 ∷ [] ≡ line ++ 10 ∷ behind = cc in
+    elim (begins_of rest line behind others) [ inl all ↦ inl (cc (first, all)) | inr more ↦ inr (more.0, cc (first, more.1)) ]
+
+pub not_both : (workers : ℕ) (bytes : List ℕ) (orders : List Order) (n : ℕ) → workers < 2 ^ 32 → Spells workers bytes orders → IsFirstBad workers bytes n → ⊥
+not_both workers bytes orders n w s bad = elim (spelled workers bytes orders s) [
+  | inl e ↦ elim (compared workers bad.good orders bad.rest [] w bad.each s.each (sym bad.front ∙ e)) [
+    | same all rests ↦ omega (arith, ap length rests, bad.more)
+    | first_stopped fewer line ↦ stops workers bytes n bad (length orders) fewer s.few line.order line.is (inr (line.behind, line.line))
+    | second_stopped fewer line ↦ no_line workers [] (omega arith) line
+  ]
+  | inr e ↦ elim (compared workers bad.good orders (bad.rest ++ 10 ∷ []) [] w bad.each s.each (sym (append_assoc (lines_text bad.good) bad.rest (10 ∷ [])) ∙ ap (λ l. l ++ 10 ∷ []) (sym bad.front) ∙ e)) [
+    | same all rests ↦ omega (arith, ap length rests, length-append bad.rest (10 ∷ []))
+    | first_stopped fewer line ↦ stops workers bytes n bad (length orders) fewer s.few line.order line.is (begins_of bad.rest (order_text line.order) line.behind line.line)
+    | second_stopped fewer line ↦ no_line workers [] (omega arith) line
+  ]
+]

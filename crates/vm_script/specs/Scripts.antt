@@ -1,0 +1,90 @@
+-- Scripts: lines `WORKER CALL`, each ended by a line feed, which the last may lack.
+use Rattle.std.specs.Prelude.{ℕ, zero, suc, ◌+◌, ◌<◌, ◌≤◌, ◌^◌, ◌≡◌, ◌⊎◌, List, [], ◌∷◌, ◌++◌, length, map, filter, ◌==◌, codes, Result, Ok, Err}
+use Rattle.std.specs.Fmt.{decimal}
+use Rattle.std.specs.List.{AllByRecursion, flat_map}
+use Rattle.vm_map.specs.declared.call.Call.{Call}
+use Rattle.vm_map.specs.declared.call.Call.TheVariants.{Get, Put}
+use Rattle.vm_script.specs.declared.script.Order.{Order}
+use Rattle.vm_script.specs.declared.script.ScriptFault.{ScriptFault}
+use Rattle.vm_script.specs.declared.script.ScriptFault.TheVariants.{Long, Line, Memory}
+
+-- `get K` or `put K V`
+abbrev pub call_text : Call → List ℕ
+call_text (Get key) = codes "get" ++ 32 ∷ decimal key
+call_text (Put key value) = codes "put" ++ 32 ∷ decimal key ++ 32 ∷ decimal value
+
+-- `WORKER CALL`
+abbrev pub order_text : Order → List ℕ
+order_text order = decimal order.worker ++ 32 ∷ call_text order.call
+
+abbrev pub IsCall : Call → Type 0
+IsCall (Get key) = key < 2 ^ 64
+IsCall (Put key value) = (key < 2 ^ 64) × (value < 2 ^ 64)
+
+-- an order that a script for so many workers may have
+pub record IsOrder (workers : ℕ) (order : Order) : Type 0 where
+  pub worker : order.worker < workers
+  pub call : IsCall order.call
+
+-- the lines, each with its line feed
+abbrev pub lines_text : List Order → List ℕ
+lines_text orders = flat_map (λ order. order_text order ++ 10 ∷ []) orders
+
+-- the last line feed may be missing
+abbrev pub IsSpelling : List ℕ → List ℕ → Type 0
+IsSpelling bytes lines = (bytes ≡ lines) ⊎ (bytes ++ 10 ∷ [] ≡ lines)
+
+abbrev pub most_lines : ℕ
+most_lines = 1000000
+
+abbrev pub most_bytes : ℕ
+most_bytes = 16777216
+
+-- the bytes spell these orders
+pub record Spells (workers : ℕ) (bytes : List ℕ) (orders : List Order) : Type 0 where
+  pub each : AllByRecursion (IsOrder workers) orders
+  pub few : length orders ≤ most_lines
+  pub spelling : IsSpelling bytes (lines_text orders)
+
+-- the bytes begin with this line: it is all of them, or a line feed ends it
+abbrev pub BeginsWith : List ℕ → List ℕ → Type 0
+BeginsWith bytes line = (bytes ≡ line) ⊎ ((rest : List ℕ) × (bytes ≡ line ++ 10 ∷ rest))
+
+-- line number n is the first bad one: behind n - 1 good lines something stands that begins with no order, or it is one line too many
+pub record IsFirstBad (workers : ℕ) (bytes : List ℕ) (n : ℕ) : Type 0 where
+  pub good : List Order
+  pub rest : List ℕ
+  pub each : AllByRecursion (IsOrder workers) good
+  pub few : length good ≤ most_lines
+  pub front : bytes ≡ lines_text good ++ rest
+  pub more : 0 < length rest
+  pub count : length good + 1 ≡ n
+  pub bad : (length good ≡ most_lines) ⊎ ((order : Order) → IsOrder workers order → BeginsWith rest (order_text order) → ⊥)
+
+-- the calls of one worker, in the script's order
+abbrev pub calls_of : ℕ → List Order → List Call
+calls_of worker orders = map (λ order. order.call) (filter (λ order. order.worker == worker) orders)
+
+-- what a reader of scripts answers, its answer seen by `view`; want of memory is free
+abbrev pub ReadsOrders : {V : Type 0} → (V → List Order) → ℕ → List ℕ → Result V ScriptFault → Type 0
+ReadsOrders view workers bytes (Ok v) = (length bytes ≤ most_bytes) × Spells workers bytes (view v)
+ReadsOrders view workers bytes (Err Long) = most_bytes < length bytes
+ReadsOrders view workers bytes (Err (Line n)) = (length bytes ≤ most_bytes) × IsFirstBad workers bytes n
+ReadsOrders view workers bytes (Err Memory) = Unit {0}
+
+-- the calls of each worker below a number
+abbrev pub lists_of : ℕ → List Order → List (List Call)
+lists_of zero orders = []
+lists_of (suc worker) orders = lists_of worker orders ++ calls_of worker orders ∷ []
+
+-- a script gives each worker its calls, in order
+pub record IsScript (workers : ℕ) (bytes : List ℕ) (lists : List (List Call)) : Type 0 where
+  pub orders : List Order
+  pub spells : Spells workers bytes orders
+  pub each : lists ≡ lists_of workers orders
+
+abbrev pub ReadsScript : {V : Type 0} → (V → List (List Call)) → ℕ → List ℕ → Result V ScriptFault → Type 0
+ReadsScript view workers bytes (Ok v) = (length bytes ≤ most_bytes) × IsScript workers bytes (view v)
+ReadsScript view workers bytes (Err Long) = most_bytes < length bytes
+ReadsScript view workers bytes (Err (Line n)) = (length bytes ≤ most_bytes) × IsFirstBad workers bytes n
+ReadsScript view workers bytes (Err Memory) = Unit {0}

@@ -1,0 +1,24 @@
+// Laws on scripts and numbers that hold of their definitions, for whoever reads or writes them.
+ghost use Rattle.std.specs.Prelude.{◌≡◌, ℕ, ◌<◌, ◌^◌, List};
+ghost use Rattle.std.specs.Fmt.{decimal};
+ghost use Rattle.vm_map.specs.declared.call.Call.{Call};
+ghost use Rattle.vm_script.specs.declared.script.Order.{Order};
+ghost use Rattle.vm_script.specs.Scripts.{Spells, IsScript, IsFirstBad};
+
+/// A script has one reading: its bytes spell one list of orders, and so one list of calls for each
+/// worker, or they have one first bad line, and never both.
+pub fn one_reading()
+    ensures one_list { (workers : ℕ) (bytes : List ℕ) (a b : List Order) → workers < 2 ^ 32
+        → Spells workers bytes a → Spells workers bytes b → a ≡ b }
+    ensures one_script { (workers : ℕ) (bytes : List ℕ) (a b : List (List Call)) → workers < 2 ^ 32
+        → IsScript workers bytes a → IsScript workers bytes b → a ≡ b }
+    ensures one_bad_line { (workers : ℕ) (bytes : List ℕ) (m n : ℕ) → workers < 2 ^ 32
+        → IsFirstBad workers bytes m → IsFirstBad workers bytes n → m ≡ n }
+    ensures not_both { (workers : ℕ) (bytes : List ℕ) (orders : List Order) (n : ℕ) → workers < 2 ^ 32
+        → Spells workers bytes orders → IsFirstBad workers bytes n → ⊥ }
+{}
+
+/// Two numbers with one text are one.
+pub fn one_number()
+    ensures { (m n : ℕ) → m < 2 ^ 64 → n < 2 ^ 64 → decimal m ≡ decimal n → m ≡ n }
+{}

@@ -1,0 +1,196 @@
+// Reads scripts: lines `WORKER CALL`, single spaces, each line ended by a line feed.
+ghost use Rattle.std.specs.Prelude.{◌≡◌, IfOk, MatchOption, map};
+ghost use Rattle.vm_script.specs.declared.script.ScriptFault.TheVariants.{Memory};
+ghost use Rattle.vm_script.specs.Calls.{ReadsCall, ReadsOrder, ReadsPair};
+ghost use Rattle.vm_script.specs.Cuts.{IsCut, IsLine, Lacks};
+ghost use Rattle.vm_script.specs.Scripts.{ReadsOrders, ReadsScript, calls_of as calls_in, lists_of as lists_in};
+
+use crate::number::number_of;
+use std::alloc::{AllocError, AllocFailed, Global};
+use thiserror::Error;
+use vm_map::call::Call;
+
+/// A line of a script: a call, and the worker that makes it.
+#[derive(Clone, Copy, Debug, PartialEq, Eq)]
+pub struct Order {
+    pub worker: u32,
+    pub call: Call,
+}
+
+/// Why a script was not read.
+#[derive(Clone, Copy, Debug, PartialEq, Eq, Error)]
+pub enum ScriptFault {
+    /// It has more than `MOST_BYTES`.
+    #[error("the script is too long")]
+    Long,
+    /// The first line, counted from 1, that is refused or is one more than `MOST_LINES`.
+    #[error("line {0} is refused")]
+    Line(u32),
+    #[error("out of memory")]
+    Memory,
+}
+
+impl From<AllocError> for ScriptFault {
+    ghost from_gives = { λ _ fault. fault ≡ Memory };
+
+    fn from(_: AllocError) -> Self {
+        ScriptFault::Memory
+    }
+}
+
+impl<T: Drop> From<AllocFailed<T>> for ScriptFault {
+    ghost from_gives = { λ _ fault. fault ≡ Memory };
+
+    fn from(_: AllocFailed<T>) -> Self {
+        ScriptFault::Memory
+    }
+}
+
+/// How many bytes a script may have.
+pub const MOST_BYTES: usize = 16_777_216;
+
+/// How many lines a script may have.
+pub const MOST_LINES: u32 = 1_000_000;
+
+// The bytes before the first `at`, and those behind it.
+fn cut(bytes: &[u8], at: u8) -> Option<(&[u8], &[u8])>
+    ensures { MatchOption result (Lacks at bytes.now) (λ x. IsCut bytes.now at x.0.now x.1.now) }
+{
+    for (i, byte) in bytes.iter().enumerate() {
+        if *byte == at {
+            return Some((&bytes[..i], &bytes[i + 1..]));
+        }
+    }
+    None
+}
+
+// Two numbers with a space between them.
+fn pair_of(bytes: &[u8]) -> Option<(u64, u64)>
+    ensures { ReadsPair bytes.now result }
+{
+    let Some((key, value)) = cut(bytes, b' ') else {
+        return None;
+    };
+    let Some(key) = number_of(key) else {
+        return None;
+    };
+    let Some(value) = number_of(value) else {
+        return None;
+    };
+    Some((key, value))
+}
+
+// The call that a line spells behind its worker.
+fn call_of(bytes: &[u8]) -> Option<Call>
+    ensures { ReadsCall bytes.now result }
+{
+    let Some((verb, rest)) = cut(bytes, b' ') else {
+        return None;
+    };
+    if verb == b"get".as_slice() {
+        let Some(key) = number_of(rest) else {
+            return None;
+        };
+        return Some(Call::Get { key });
+    }
+    if verb == b"put".as_slice() {
+        let Some((key, value)) = pair_of(rest) else {
+            return None;
+        };
+        return Some(Call::Put { key, value });
+    }
+    None
+}
+
+// The order that a line spells.
+fn order_of(line: &[u8], workers: u32) -> Option<Order>
+    ensures { ReadsOrder workers line.now result }
+{
+    let Some((worker, rest)) = cut(line, b' ') else {
+        return None;
+    };
+    let Some(worker) = number_of(worker) else {
+        return None;
+    };
+    let Some(call) = call_of(rest) else {
+        return None;
+    };
+    if worker < u64::from(workers) {
+        Some(Order {
+            worker: worker as u32,
+            call,
+        })
+    } else {
+        None
+    }
+}
+
+// The first line, and what stands behind it.
+fn line_of(bytes: &[u8]) -> (&[u8], &[u8])
+    ensures { IsLine bytes.now result.0.now result.1.now }
+{
+    match cut(bytes, b'\n') {
+        Some((line, rest)) => (line, rest),
+        None => (bytes, &[]),
+    }
+}
+
+// The orders that a script spells.
+fn read_orders(alloc: Global, bytes: &[u8], workers: u32) -> Result<Vec<Order>, ScriptFault>
+    ensures { ReadsOrders (λ v. v.items) workers bytes.now result }
+{
+    if bytes.len() > MOST_BYTES {
+        return Err(ScriptFault::Long);
+    }
+    let mut orders = Vec::new(alloc);
+    let mut rest = bytes;
+    let mut number = 0;
+    'lines: while !rest.is_empty() {
+        number += 1;
+        if number > MOST_LINES {
+            return Err(ScriptFault::Line(number));
+        }
+        let (line, behind) = line_of(rest);
+        let Some(order) = order_of(line, workers) else {
+            return Err(ScriptFault::Line(number));
+        };
+        orders.push(order)?;
+        rest = behind;
+    }
+    Ok(orders)
+}
+
+// The calls of one worker, in order.
+fn calls_of(alloc: Global, orders: &[Order], worker: u32) -> Result<Vec<Call>, AllocError>
+    ensures { IfOk result (λ v. v.items ≡ calls_in worker orders.now) }
+{
+    orders
+        .iter()
+        .filter(|order| order.worker == worker)
+        .map(|order| order.call)
+        .collect(alloc)
+}
+
+fn lists_of(alloc: Global, orders: &[Order], workers: u32) -> Result<Vec<Vec<Call>>, AllocError>
+    ensures { IfOk result (λ v. map (λ calls. calls.items) v.items ≡ lists_in workers orders.now) }
+{
+    let mut lists = Vec::new(alloc);
+    'workers: for worker in 0..workers {
+        lists.push(calls_of(alloc, orders, worker)?)?;
+    }
+    Ok(lists)
+}
+
+/// Reads a script: the calls of each worker below `workers`, in the script's order. Each line is
+/// `WORKER CALL`, where the call is `get K` or `put K V` in canonical decimals below 2^64; the last
+/// line feed may be missing, and no bytes are no lines.
+///
+/// # Errors
+/// `Long` exactly over `MOST_BYTES`. Else `Line` exactly where a line is refused or is one too
+/// many, with the first such. `Memory` where there is none.
+pub fn read_script(alloc: Global, bytes: &[u8], workers: u32) -> Result<Vec<Vec<Call>>, ScriptFault>
+    ensures { ReadsScript (λ v. map (λ calls. calls.items) v.items) workers bytes.now result }
+{
+    let orders = read_orders(alloc, bytes, workers)?;
+    Ok(lists_of(alloc, orders.as_slice(), workers)?)
+}
