@@ -1,5 +1,6 @@
 -- What is read of a file, and what the file has.
-use Rattle.std.proofs.Common.{◌≡◌, Bool, true, false, cond, zero, suc, ◌==◌, ℕ, ◌+◌, ◌≤◌, ◌<◌, List, [], ◌∷◌, ◌++◌, length, map, take, Option, Some, None, refl, sym, ap, subst, ◌∙◌, arith, length-take, length-append}
+use Rattle.std.proofs.Common.{◌≡◌, Bool, true, false, cond, zero, suc, ◌==◌, ℕ, ◌+◌, ◌≤◌, ◌<◌, List, [], ◌∷◌, ◌++◌, length, map, take, Option, Some, None, ◌⊎◌, inl, inr, refl, sym, ap, subst, ◌∙◌, arith, length-take, length-append}
+use Rattle.std.proofs.lemmas.Bool.{cases_lt}
 use Rattle.std.proofs.lemmas.List.{take_all, length-map}
 use Rattle.std.specs.List.{AllByRecursion, filter}
 use Rattle.vm_io.specs.Shown.{Shown}
@@ -8,7 +9,9 @@ use Rattle.vm_map.specs.declared.call.Call.{Call}
 use Rattle.vm_script.specs.declared.script.Order.{Order}
 use Rattle.vm_script.specs.Scripts.{IsScript, Spells, calls_of, lists_of, most_lines}
 use Rattle.vm_cli.specs.Files.{HasFile}
+use Rattle.vm_image.specs.File.{IsPageFile}
 use Rattle.vm_cli.specs.Served.{AreFew}
+use Rattle.vm_cli.specs.Stops.{most_image, IsWrongLength}
 
 whole_bytes : (bytes found : List ℕ) (limit : ℕ) → found ≡ take (limit + 1) bytes → length found ≤ limit → found ≡ bytes
 whole_bytes bytes found limit e h = e ∙ take_all (limit + 1) bytes (omega (arith, ap length e, length-take (limit + 1) bytes))
@@ -23,10 +26,24 @@ pub long_file : (told : Option Shown) (name found : List ℕ) (limit : ℕ) → 
 long_file None name found limit w h = tt
 long_file (Some shown) name found limit w h = (w.bytes, w.file, omega (arith, ap length w.front, length-take (limit + 1) w.bytes))
 
--- where P holds of short files only and not of what was read, it does not hold of the file
-pub other_file : (told : Option Shown) (name found : List ℕ) (limit : ℕ) (P : List ℕ → Type 0) → ReadsWhole told name limit found → ((bytes : List ℕ) → P bytes → length bytes ≤ limit) → (P found → ⊥) → HasFile told name (λ bytes. P bytes → ⊥)
-other_file None name found limit P w short h = tt
-other_file (Some shown) name found limit P w short h = (w.bytes, w.file, λ p. h (subst P (sym (take_all (limit + 1) w.bytes (omega (arith, short w.bytes p))) ∙ sym w.front) p))
+-- a page file that was read is the file
+pub page_file : (told : Option Shown) (name found : List ℕ) (P : List ℕ → Type 0) → ReadsWhole told name most_image found → IsPageFile found → P found → HasFile told name P
+page_file told name found P w file p = short_file told name found most_image P w (omega (arith, file.2, file.3)) p
+
+short_length : (bytes found : List ℕ) (told : ℕ) → found ≡ take (most_image + 1) bytes → told ≡ length found → ¬ (IsPageFile found) → (most_image < length found) ⊎ (length found ≤ most_image) → IsWrongLength bytes told
+short_length bytes found told e t none (inr short) =
+    let same : found ≡ bytes = whole_bytes bytes found most_image e short in
+    let len : length found ≡ length bytes = ap length same in
+    record { none = λ file. none (subst (λ b. IsPageFile b) (sym same) file); len = omega arith }
+short_length bytes found told e t none (inl long) = record {
+  none = λ file. omega (arith, ap length e, length-take (most_image + 1) bytes, file.2, file.3);
+  len = omega (arith, ap length e, length-take (most_image + 1) bytes);
+}
+
+-- where what was read is no page file, the file is none, and its length is told up to one past a page file's most
+pub wrong_length : (told : Option Shown) (name found : List ℕ) (len : ℕ) → ReadsWhole told name most_image found → len ≡ length found → ¬ (IsPageFile found) → HasFile told name (λ bytes. IsWrongLength bytes len)
+wrong_length None name found len w e none = tt
+wrong_length (Some shown) name found len w e none = (w.bytes, w.file, short_length w.bytes found len w.front e none (cases_lt most_image (length found)))
 
 length_filter : {X : Type 0} (p : X → Bool) (xs : List X) → length (filter p xs) ≤ length xs
 length_filter p [] = omega arith
@@ -55,3 +72,8 @@ few_script workers bytes lists s = subst (λ l. AreFew l) (sym s.each) (few_list
 -- a script has a list for each worker
 pub lists_script : (workers : ℕ) (bytes : List ℕ) (lists : List (List Call)) → IsScript workers bytes lists → length lists ≡ workers
 lists_script workers bytes lists s = ap length s.each ∙ length_lists workers s.orders
+
+-- what holds of a file's bytes may be said weaker
+pub has_file : (told : Option Shown) (name : List ℕ) (P Q : List ℕ → Type 0) → ((bytes : List ℕ) → P bytes → Q bytes) → HasFile told name P → HasFile told name Q
+has_file None name P Q h f = tt
+has_file (Some shown) name P Q h f = (f.0, f.1, h f.0 f.2)

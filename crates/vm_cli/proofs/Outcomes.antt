@@ -1,31 +1,101 @@
--- How a run ends, from what was served or stopped and what was said.
-use Rattle.std.proofs.Common.{◌≡◌, ◌⊎◌, inl, inr, ℕ, ◌+◌, ◌≤◌, List, Option, Some, None, refl, sym, ap, subst, ◌∙◌, arith}
+-- How a run ends, from what its parts tell.
+use Rattle.std.proofs.Common.{◌≡◌, ◌⊎◌, inl, inr, ℕ, ◌+◌, ◌^◌, ◌≤◌, List, length, Option, Some, None, Result, Ok, Err, IfOk, refl, sym, ap, subst, ◌∙◌, arith}
 use Rattle.vm_io.specs.Shown.{Shown}
-use Rattle.vm_io.specs.Causes.{Rose}
+use Rattle.vm_io.specs.Loops.{ReadsWhole}
+use Rattle.vm_map.specs.Map.{Pairs, Rises}
+use Rattle.vm_map.specs.declared.call.Call.{Call}
 use Rattle.vm_cli.specs.declared.stop.Stop.{Stop}
-use Rattle.vm_cli.specs.declared.stop.Stop.TheVariants.{ReadImage, ImageOther, ReadScript, ScriptLong, ScriptLine}
-use Rattle.vm_cli.specs.Words.{IsRun}
-use Rattle.vm_cli.specs.Served.{IsServed}
-use Rattle.vm_cli.specs.Stops.{IsStopped, stop_text, status_of}
-use Rattle.vm_cli.specs.Endings.{IsSaid, RunEnds, served, stopped, exhausted}
+use Rattle.vm_cli.specs.declared.stop.Stop.TheVariants.{ShapeWorkers, ShapeFrames, ReadImage, ImageLength, ImagePage, ReadScript, ScriptLong, ScriptLine}
+use Rattle.vm_cli.specs.declared.stop.Unserved.{Unserved}
+use Rattle.vm_cli.specs.declared.stop.Unserved.TheVariants.{Stopped, Memory}
+use Rattle.vm_cli.specs.Asked.{Asked, HasShape}
+use Rattle.vm_cli.specs.Files.{HasFile}
+use Rattle.vm_cli.specs.Images.{IsTreeFile, IsNoTree, HasRows, file_map}
+use Rattle.vm_cli.specs.Served.{IsServed, IsAnswered, IsGoodScript, Answers}
+use Rattle.vm_cli.specs.Stops.{HasGoodImage, HasReadCause, IsStopped, IsWrongLength, ReadsCalls, ReadsImage, Serves, TellsImage, TellsShape, most_image, status_of, stop_text}
+use Rattle.vm_cli.specs.Endings.{IsSaid, ScriptEnds, stopped, unable}
+use Rattle.vm_cli.proofs.Files.{page_file, wrong_length, has_file}
 
-pub served_ends : (words : List (List ℕ)) (failed image script text : List ℕ) (old new : Option Shown) (status : ℕ) → IsRun words image script → IsServed old image script text → IsSaid old new text 0 status → RunEnds words failed old new status
-served_ends words failed image script text old new status run s e = served image script text run s e
+-- ---- the numbers
 
-pub refused_ends : (words : List (List ℕ)) (failed image script : List ℕ) (stop : Stop) (old new : Option Shown) (status : ℕ) → IsRun words image script → IsStopped old failed image script stop → IsSaid old new (stop_text image script stop) (status_of stop) status ⊎ ((new ≡ old) × (status ≡ 6)) → RunEnds words failed old new status
-refused_ends words failed image script stop old new status run s (inl said) = stopped image script stop run s said
-refused_ends words failed image script stop old new status run s (inr out) = exhausted image script run out.0 out.1
+pub shape_stops : (V : Type 0) {W : Type 0} (view : W → List ℕ) (told : Option Shown) (failed : List ℕ) (asked : Asked) (stop : Stop) → TellsShape {V = V} asked (Err stop) → Serves view told failed asked (Err (Stopped stop))
+shape_stops V view told failed asked ShapeWorkers t = t
+shape_stops V view told failed asked ShapeFrames t = t
+shape_stops V view told failed asked ReadImage t = absurd t
+shape_stops V view told failed asked (ImageLength len) t = absurd t
+shape_stops V view told failed asked (ImagePage page why) t = absurd t
+shape_stops V view told failed asked ReadScript t = absurd t
+shape_stops V view told failed asked ScriptLong t = absurd t
+shape_stops V view told failed asked (ScriptLine n) t = absurd t
 
-pub no_success : (stop : Stop) → status_of stop ≡ 0 → ⊥
-no_success ReadImage s = omega arith
-no_success ReadScript s = omega arith
-no_success ImageOther s = omega arith
-no_success ScriptLong s = omega arith
-no_success (ScriptLine n) s = omega arith
+pub shape_cause : (V W : Type 0) (asked : Asked) (before now : ℕ) (stop : Stop) → TellsShape {V = V} asked (Err stop) → HasReadCause {V = W} before now (Err (Stopped stop))
+shape_cause V W asked before now ShapeWorkers t = λ two. absurd (omega arith)
+shape_cause V W asked before now ShapeFrames t = λ two. absurd (omega arith)
+shape_cause V W asked before now ReadImage t = absurd t
+shape_cause V W asked before now (ImageLength len) t = absurd t
+shape_cause V W asked before now (ImagePage page why) t = absurd t
+shape_cause V W asked before now ReadScript t = absurd t
+shape_cause V W asked before now ScriptLong t = absurd t
+shape_cause V W asked before now (ScriptLine n) t = absurd t
 
-pub no_write : (stop : Stop) → status_of stop ≡ 3 → ⊥
-no_write ReadImage s = omega arith
-no_write ReadScript s = omega arith
-no_write ImageOther s = omega arith
-no_write ScriptLong s = omega arith
-no_write (ScriptLine n) s = omega arith
+-- ---- the image
+
+-- what the bytes read tell is told of the file
+pub image_told : {V : Type 0} (view : V → Pairs) (told : Option Shown) (failed name found : List ℕ) (r : Result V Unserved) → ReadsWhole told name most_image found → TellsImage view found r → ReadsImage view told failed name r
+image_told view told failed name found (Ok v) w t = page_file told name found (λ bytes. HasRows bytes (view v)) w t.good.file t
+image_told view told failed name found (Err Memory) w t = tt
+image_told view told failed name found (Err (Stopped (ImageLength len))) w t = λ asked named shape.
+    (shape, subst (λ n. HasFile told n (λ bytes. IsWrongLength bytes len)) (sym named) (wrong_length told name found len w t.0 t.1))
+image_told view told failed name found (Err (Stopped (ImagePage page why))) w t = λ asked named shape.
+    (shape, subst (λ n. HasFile told n (λ bytes. IsNoTree bytes page why)) (sym named) (page_file told name found (λ bytes. IsNoTree bytes page why) w t.file t))
+image_told view told failed name found (Err (Stopped ShapeWorkers)) w t = absurd t
+image_told view told failed name found (Err (Stopped ShapeFrames)) w t = absurd t
+image_told view told failed name found (Err (Stopped ReadImage)) w t = absurd t
+image_told view told failed name found (Err (Stopped ReadScript)) w t = absurd t
+image_told view told failed name found (Err (Stopped ScriptLong)) w t = absurd t
+image_told view told failed name found (Err (Stopped (ScriptLine n))) w t = absurd t
+
+-- bytes that were read cause no fault of reading
+pub image_cause : {V : Type 0} (view : V → Pairs) (found : List ℕ) (before now : ℕ) (r : Result V Unserved) → TellsImage view found r → HasReadCause before now r
+image_cause view found before now (Ok v) t = tt
+image_cause view found before now (Err Memory) t = tt
+image_cause view found before now (Err (Stopped (ImageLength len))) t = λ two. absurd (omega arith)
+image_cause view found before now (Err (Stopped (ImagePage page why))) t = λ two. absurd (omega arith)
+image_cause view found before now (Err (Stopped ShapeWorkers)) t = absurd t
+image_cause view found before now (Err (Stopped ShapeFrames)) t = absurd t
+image_cause view found before now (Err (Stopped ReadImage)) t = absurd t
+image_cause view found before now (Err (Stopped ReadScript)) t = absurd t
+image_cause view found before now (Err (Stopped ScriptLong)) t = absurd t
+image_cause view found before now (Err (Stopped (ScriptLine n))) t = absurd t
+
+pub image_rises : {V : Type 0} (view : V → Pairs) (found : List ℕ) (r : Result V Unserved) → TellsImage view found r → IfOk r (λ v. Rises 0 (2 ^ 64) (view v))
+image_rises view found (Ok v) t = t.rise
+image_rises view found (Err u) t = tt
+
+-- ---- what is served
+
+pub image_stops : {V W : Type 0} (view : V → Pairs) (text : W → List ℕ) (told : Option Shown) (failed : List ℕ) (asked : Asked) (u : Unserved) → HasShape asked → ReadsImage view told failed asked.image (Err u) → Serves text told failed asked (Err u)
+image_stops view text told failed asked Memory shape r = tt
+image_stops view text told failed asked (Stopped stop) shape r = r asked refl shape
+
+pub good_image : (told : Option Shown) (asked : Asked) (rows : Pairs) → HasShape asked → HasFile told asked.image (λ bytes. HasRows bytes rows) → HasGoodImage told asked
+good_image told asked rows shape h = record { shape = shape; image = has_file told asked.image (λ bytes. HasRows bytes rows) IsTreeFile (λ bytes has. has.good) h }
+
+pub calls_stop : {V W : Type 0} (view : V → List (List Call)) (text : W → List ℕ) (told : Option Shown) (failed : List ℕ) (asked : Asked) (u : Unserved) → HasGoodImage told asked → ReadsCalls view told failed asked.script asked.workers (Err u) → Serves text told failed asked (Err u)
+calls_stop view text told failed asked Memory good r = tt
+calls_stop view text told failed asked (Stopped stop) good r = r asked refl refl good
+
+pub run_serves : (told : Option Shown) (asked : Asked) (rows : Pairs) (lists : List (List Call)) (text : List ℕ) → HasShape asked → HasFile told asked.image (λ bytes. HasRows bytes rows) → HasFile told asked.script (λ bytes. IsGoodScript asked.workers bytes lists) → IsAnswered rows lists text → IsServed told asked text
+run_serves None asked rows lists text shape image script a = record { shape = shape; answers = tt }
+run_serves (Some shown) asked rows lists text shape image script a = record {
+  shape = shape;
+  answers =
+      let rows_are : rows ≡ file_map image.0 = image.2.are in
+      (image.0, image.1, (image.2.good, (script.0, script.1, (lists, script.2, subst (λ m. IsAnswered m lists text) rows_are a))));
+}
+
+-- ---- the end
+
+pub refused_ends : (asked : Asked) (failed : List ℕ) (stop : Stop) (old new : Option Shown) (status : ℕ) → IsStopped old failed asked stop → IsSaid old new (stop_text asked stop) (status_of stop) status ⊎ ((new ≡ old) × (status ≡ 6)) → ScriptEnds asked failed old new status
+refused_ends asked failed stop old new status s (inl said) = stopped stop s said
+refused_ends asked failed stop old new status s (inr out) = unable out.0 out.1

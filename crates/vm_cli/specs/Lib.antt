@@ -1,6 +1,6 @@
-pub mod Words
-pub mod Images
+pub mod Asked
 pub mod Files
+pub mod Images
 pub mod Served
 pub mod Stops
 pub mod Endings

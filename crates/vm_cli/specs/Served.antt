@@ -1,5 +1,5 @@
 -- What a run serves: the workers' calls, answered from a map on, and the text of their replies and of the last map's rows.
-use Rattle.std.specs.Prelude.{ℕ, ◌≤◌, ◌≡◌, List, [], ◌∷◌, ◌++◌, length, map, Option, Vec}
+use Rattle.std.specs.Prelude.{ℕ, ◌≤◌, ◌≡◌, List, ◌++◌, length, map, Option, Vec}
 use Rattle.std.specs.declared.alloc.Global.{Global}
 use Rattle.std.specs.List.{AllByRecursion, flat_map}
 use Rattle.vm_io.specs.Shown.{Shown}
@@ -9,8 +9,9 @@ use Rattle.vm_map.specs.declared.call.Said.{Said}
 use Rattle.vm_map.specs.History.{AreReplies, after_all}
 use Rattle.vm_script.specs.Scripts.{IsScript, most_bytes}
 use Rattle.vm_script.specs.Texts.{worker_replies, rows_text}
+use Rattle.vm_cli.specs.Asked.{Asked, HasShape}
 use Rattle.vm_cli.specs.Files.{HasFile}
-use Rattle.vm_cli.specs.Images.{IsEmptyImage}
+use Rattle.vm_cli.specs.Images.{IsTreeFile, file_map}
 
 -- the calls of a history
 abbrev pub calls_in : List Said → List Call
@@ -44,7 +45,11 @@ pub record IsGoodScript (workers : ℕ) (bytes : List ℕ) (lists : List (List C
   pub short : length bytes ≤ most_bytes
   pub reads : IsScript workers bytes lists
 
--- image and script are accepted, and the calls answered from the empty map on
-abbrev pub IsServed : Option Shown → List ℕ → List ℕ → List ℕ → Type 0
-IsServed shown image script text =
-    HasFile shown image IsEmptyImage × HasFile shown script (λ bytes. (lists : List (List Call)) × IsGoodScript 1 bytes lists × IsAnswered [] lists text)
+-- the script of these bytes is accepted, and its calls answered from this map on
+abbrev pub Answers : ℕ → Pairs → List ℕ → List ℕ → Type 0
+Answers workers start text bytes = (lists : List (List Call)) × IsGoodScript workers bytes lists × IsAnswered start lists text
+
+-- numbers, image and script are accepted, and the calls answered from the image's map on
+pub record IsServed (shown : Option Shown) (asked : Asked) (text : List ℕ) : Type 0 where
+  pub shape : HasShape asked
+  pub answers : HasFile shown asked.image (λ bytes. IsTreeFile bytes × HasFile shown asked.script (Answers asked.workers (file_map bytes) text))

@@ -2,6 +2,7 @@
 
 ghost use Rattle.std.specs.Prelude.{◌≡◌, ◌+◌, ◌≤◌, ◌<◌, ◌^◌, ◌++◌, map, length, IfOk, OnOk};
 ghost use Rattle.std.specs.List.{AllByRecursion};
+ghost use Rattle.vm_map.specs.Map.{Rises};
 ghost use Rattle.vm_map.specs.History.{AreReplies, after_all};
 ghost use Rattle.vm_script.specs.Texts.{replies_text, rows_text, worker_replies};
 ghost use Rattle.vm_cli.specs.Served.{calls_in, items_of, joined, AreFew, IsAnswered};
@@ -115,19 +116,20 @@ fn text_of(alloc: Global, histories: &[Vec<Said>], store: &PlainMap) -> Result<V
     Ok(out)
 }
 
-/// Answers the workers' calls from the map on, worker after worker, and gives the text of the replies
-/// and of the last map's rows. The only error is want of memory.
+/// Answers the workers' calls from a map of these rows on, worker after worker, and gives the text of the
+/// replies and of the last map's rows. The only error is want of memory.
 pub fn answered<G: Gate>(
     alloc: Global,
-    store: PlainMap,
+    rows: &[Pair],
     lists: &[Vec<Call>],
     gate: &G,
 ) -> Result<Vec<u8>, AllocError>
+    requires rise { Rises 0 (2 ^ 64) rows.now }
     requires few { AreFew (items_of lists.now) }
     requires workers { length lists.now ≤ 64 }
-    ensures { IfOk result (λ v. IsAnswered store (items_of lists.now) v.items) }
+    ensures { IfOk result (λ v. IsAnswered rows.now (items_of lists.now) v.items) }
 {
-    let mut store = store;
+    let mut store = PlainMap::from_pairs(alloc, rows)?;
     let histories = answer_all(alloc, &mut store, lists, gate)?;
     text_of(alloc, histories.as_slice(), &store)
 }

@@ -2,11 +2,13 @@
 #![tactic(auto)]
 
 mod answer;
-mod command;
 mod gate;
 mod image;
 mod run;
+mod run_script;
+mod say;
 mod serve;
+mod shape;
 mod stop;
 #[cfg(test)]
 mod tests;

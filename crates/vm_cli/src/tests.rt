@@ -10,6 +10,8 @@ use vm_io::memory::MemHost;
 
 const RUN: [&str; 7] = ["run", "I0", "S", "--workers", "1", "--frames", "64"];
 
+const RUN_BY_TWO: [&str; 7] = ["run", "I0", "S", "--workers", "2", "--frames", "64"];
+
 const USAGE: &[u8] = b"usage: vmcache run, make, check, churn, replay\n";
 
 fn words(alloc: Global, words: &[&str]) -> Result<Vec<String>, AllocError> {
@@ -20,10 +22,24 @@ fn words(alloc: Global, words: &[&str]) -> Result<Vec<String>, AllocError> {
     Ok(list)
 }
 
-// The page file of eight pages whose one leaf is empty.
-fn empty_image(alloc: Global) -> Result<Vec<u8>, AllocError> {
-    let mut image = vec![in alloc; 0u8; 4096]?;
-    for (place, byte) in [
+// Zeros with some bytes set.
+fn with_bytes(
+    alloc: Global,
+    len: usize,
+    bytes: &[(usize, u8)],
+) -> Result<Vec<u8>, AllocError> {
+    let mut image = vec![in alloc; 0u8; len]?;
+    for &(place, byte) in bytes {
+        if place < image.len() {
+            image[place] = byte;
+        }
+    }
+    Ok(image)
+}
+
+// A page file of eight pages whose one leaf is empty, or so many bytes of it, with zeros behind.
+fn empty_image(alloc: Global, len: usize) -> Result<Vec<u8>, AllocError> {
+    let bytes = [
         (0, b'V'),
         (1, b'M'),
         (2, b'C'),
@@ -35,20 +51,11 @@ fn empty_image(alloc: Global) -> Result<Vec<u8>, AllocError> {
         (15, 1),
         (519, 2),
         (551, 1),
-    ] {
-        if place < image.len() {
-            image[place] = byte;
-        }
-    }
-    Ok(image)
+    ];
+    with_bytes(alloc, len, &bytes)
 }
 
-fn host(
-    alloc: Global,
-    image: Vec<u8>,
-    script: &[u8],
-    plan: &[u64],
-) -> Result<MemHost, AllocError> {
+fn host(alloc: Global, image: Vec<u8>, script: &[u8], plan: &[u64]) -> Result<MemHost, AllocError> {
     let mut files = Vec::new(alloc);
     files.push((String::from_str(alloc, "I0")?, image))?;
     files.push((
@@ -73,9 +80,9 @@ fn expect<R: Abort + Threads + Wait + Sync>(
     Ok(())
 }
 
-// Scripts over the empty page file, with the status and what is printed.
+// Scripts of one worker over the empty page file.
 #[test]
-fn scripts_over_the_empty_page_file(rt: HostRuntime) -> Result<(), Fail> {
+fn one_worker(rt: HostRuntime) -> Result<(), Fail> {
     let alloc = rt.alloc();
     for (script, status, said) in [
         (b"".as_slice(), 0, b"".as_slice()),
@@ -84,21 +91,97 @@ fn scripts_over_the_empty_page_file(rt: HostRuntime) -> Result<(), Fail> {
             0,
             b"0 1 new\n0 2 some 7\nrow 5 7\n",
         ),
+        (
+            b"0 put 5 7\n0 put 5 8\n0 del 5\n0 del 5",
+            0,
+            b"0 1 new\n0 2 was 7\n0 3 gone 8\n0 4 none\n",
+        ),
         (b"0 put 05 1\n", 5, b"script line 1\n"),
         (b"1 get 1\n", 5, b"script line 1\n"),
+        (b"0 get 1\n0 scan 1 1\n", 5, b"script line 2\n"),
     ] {
-        let host = host(alloc, empty_image(alloc)?, script, &[])?;
+        let host = host(alloc, empty_image(alloc, 4096)?, script, &[])?;
         expect(&rt, alloc, host, &RUN, status, said)?;
     }
     Ok(())
 }
 
+// Worker after worker: the second sees what the first put.
 #[test]
-fn other_words_are_refused(rt: HostRuntime) -> Result<(), Fail> {
+fn two_workers(rt: HostRuntime) -> Result<(), Fail> {
+    let alloc = rt.alloc();
+    let host = host(
+        alloc,
+        empty_image(alloc, 4096)?,
+        b"0 put 1 10\n1 put 1 20\n",
+        &[],
+    )?;
+    expect(
+        &rt,
+        alloc,
+        host,
+        &RUN_BY_TWO,
+        0,
+        b"0 1 new\n1 1 was 10\nrow 1 20\n",
+    )
+}
+
+// A page file with a pair: the map starts with it.
+#[test]
+fn the_rows_of_the_image_are_there(rt: HostRuntime) -> Result<(), Fail> {
+    let alloc = rt.alloc();
+    let mut image = empty_image(alloc, 4096)?;
+    for (place, byte) in [(527, 1), (583, 9), (591, 4)] {
+        if place < image.len() {
+            image[place] = byte;
+        }
+    }
+    let host = host(alloc, image, b"0 get 9\n0 put 3 1\n", &[])?;
+    expect(
+        &rt,
+        alloc,
+        host,
+        &RUN,
+        0,
+        b"0 1 some 4\n0 2 new\nrow 3 1\nrow 9 4\n",
+    )
+}
+
+#[test]
+fn images_that_are_refused(rt: HostRuntime) -> Result<(), Fail> {
+    let alloc = rt.alloc();
+    for (len, status, said) in [
+        (4095, 4, b"image length 4095\n".as_slice()),
+        (4608, 0, b""),
+        (512, 4, b"image length 512\n"),
+    ] {
+        let host = host(alloc, empty_image(alloc, len)?, b"", &[])?;
+        expect(&rt, alloc, host, &RUN, status, said)?;
+    }
+    let zeros = host(alloc, with_bytes(alloc, 1024, &[])?, b"", &[])?;
+    expect(&rt, alloc, zeros, &RUN, 4, b"image page 0 why 1\n")
+}
+
+#[test]
+fn words_that_are_refused(rt: HostRuntime) -> Result<(), Fail> {
     let alloc = rt.alloc();
     for line in [["run", "I0"].as_slice(), &["walk", "I0"]] {
-        let host = host(alloc, empty_image(alloc)?, b"", &[])?;
+        let host = host(alloc, empty_image(alloc, 4096)?, b"", &[])?;
         expect(&rt, alloc, host, line, 1, USAGE)?;
+    }
+    Ok(())
+}
+
+#[test]
+fn shapes_that_are_refused(rt: HostRuntime) -> Result<(), Fail> {
+    let alloc = rt.alloc();
+    for (workers, said) in [
+        ("9", b"shape frames\n".as_slice()),
+        ("0", b"shape workers\n"),
+    ] {
+        let host = host(alloc, empty_image(alloc, 4096)?, b"", &[])?;
+        let line = ["run", "I0", "S", "--workers", workers, "--frames", "64"];
+        expect(&rt, alloc, host, &line, 5, said)?;
     }
     Ok(())
 }
@@ -107,29 +190,18 @@ fn other_words_are_refused(rt: HostRuntime) -> Result<(), Fail> {
 #[test]
 fn missing_files_are_named(rt: HostRuntime) -> Result<(), Fail> {
     let alloc = rt.alloc();
-    for (image, script, said) in [
-        ("NOFILE", "S", b"read NOFILE\n".as_slice()),
-        ("I0", "NOFILE", b"read NOFILE\n"),
-    ] {
-        let host = host(alloc, empty_image(alloc)?, b"", &[])?;
+    for (image, script) in [("NOFILE", "S"), ("I0", "NOFILE")] {
+        let host = host(alloc, empty_image(alloc, 4096)?, b"", &[])?;
         let line = ["run", image, script, "--workers", "1", "--frames", "64"];
-        expect(&rt, alloc, host, &line, 2, said)?;
+        expect(&rt, alloc, host, &line, 2, b"read NOFILE\n")?;
     }
     Ok(())
 }
 
-#[test]
-fn a_shorter_image_is_another(rt: HostRuntime) -> Result<(), Fail> {
-    let alloc = rt.alloc();
-    let mut image = empty_image(alloc)?;
-    let _last = image.pop();
-    expect(&rt, alloc, host(alloc, image, b"", &[])?, &RUN, 4, b"image other\n")
-}
-
-// The fifth call of the host is the one that says the text: the reads take two calls each.
+// Image and script take two calls of the host each, to their end; the fifth call is the first that says.
 #[test]
 fn a_failed_say_is_status_3(rt: HostRuntime) -> Result<(), Fail> {
     let alloc = rt.alloc();
-    let host = host(alloc, empty_image(alloc)?, b"0 put 5 7\n", &[5])?;
+    let host = host(alloc, empty_image(alloc, 4096)?, b"0 put 5 7\n", &[5])?;
     expect(&rt, alloc, host, &RUN, 3, b"")
 }

@@ -1,9 +1,13 @@
 -- When a fault may be answered: a count of failures never falls, and rose in the call or stands at its last value.
 use Rattle.std.specs.Prelude.{ℕ, ◌+◌, ◌-◌, ◌^◌, ◌≤◌, ◌<◌, ◌≡◌, List, min, take, Result, OnOk, OnErr, IfOk}
 
--- one more, or at the last value
+-- a count after one more, which stands still at the last value
+abbrev pub one_more : ℕ → ℕ
+one_more before = min (before + 1) (2 ^ 64 - 1)
+
+-- one more at least, or at the last value
 abbrev pub Rose : ℕ → ℕ → Type 0
-Rose before now = min (before + 1) (2 ^ 64 - 1) ≤ now
+Rose before now = one_more before ≤ now
 
 pub record HasCause {T E : Type 0} (before now : ℕ) (result : Result T E) : Type 0 where
   pub later : before ≤ now

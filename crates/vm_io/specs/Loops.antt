@@ -1,6 +1,6 @@
 -- What the loops over a host read, say and put.
 use Rattle.std.specs.Prelude.{ℕ, ◌+◌, ◌-◌, ◌≤◌, ◌≡◌, ◌⊎◌, List, ◌++◌, length, take, drop, Option, Some, None}
-use Rattle.vm_io.specs.Shown.{Shown, say_more, Holds, SaidFront}
+use Rattle.vm_io.specs.Shown.{Shown, Holds, SaidFront}
 
 -- new is old with the next n bytes of the file behind it; none only at the file's end
 pub record IsMore (shown : Shown) (name old new : List ℕ) (n : ℕ) : Type 0 where

@@ -1,6 +1,6 @@
 // What each host keeps of its failures: takes and gives are counted apart, each up to the greatest `u64`.
 ghost use Rattle.std.specs.Prelude.{◌≡◌, ℕ, ◌+◌, ◌-◌, ◌^◌, ◌≤◌, ◌<◌, min, [], take};
-ghost use Rattle.vm_io.specs.Causes.{FailedTake, Rose, SameTakes};
+ghost use Rattle.vm_io.specs.Causes.{SameTakes, name_front, one_more};
 
 use crate::failed_name::FailedName;
 use crate::host::Failed;
@@ -28,8 +28,9 @@ impl Faults {
 
     /// Counts a failed take.
     pub fn fail_take(&mut self, name: &str) -> Failed
+        ensures counted { self.new.takes ≡ one_more self.old.takes }
         ensures later { self.old.takes ≤ self.new.takes }
-        ensures failed { FailedTake self.old.takes self.new.takes self.new.last name.now }
+        ensures named { self.new.last ≡ name_front name.now }
         ensures apart { self.new.gives ≡ self.old.gives }
     {
         self.takes = self.takes.saturating_add(1);
@@ -39,8 +40,8 @@ impl Faults {
 
     /// Counts a failed put or say.
     pub fn fail_give(&mut self) -> Failed
+        ensures counted { self.new.gives ≡ one_more self.old.gives }
         ensures later { self.old.gives ≤ self.new.gives }
-        ensures failed { Rose self.old.gives self.new.gives }
         ensures apart { SameTakes self.old.takes self.new.takes self.old.last self.new.last }
     {
         self.gives = self.gives.saturating_add(1);

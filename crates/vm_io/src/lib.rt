@@ -1,9 +1,12 @@
 // Named files and standard output: a trait with counts of what failed, a host over the system, a host in memory, and loops over a host.
 #![tactic(auto)]
 
-pub mod failed_name;
-pub mod faults;
+mod failed_name;
+mod faults;
 pub mod host;
 pub mod loops;
 pub mod memory;
+mod store;
 pub mod system;
+#[cfg(test)]
+mod tests;

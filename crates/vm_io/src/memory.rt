@@ -1,67 +1,37 @@
-ghost use Rattle.vm_io.specs.Causes.{Rose, SameTakes, FailedTake};
-ghost use Rattle.std.specs.Prelude.{◌-◌, ◌++◌, ◌⊎◌, take, drop, MatchOption, option_map, ◌≡◌, ℕ, ◌+◌, ◌≤◌, ◌<◌, ◌^◌, ◌≢◌, length, vec_len, vec_capacity, IfOk, OnOk, OnErr, IfSome, IfNone, IsSome, Some, None, string_bytes, slice_index};
-ghost use Rattle.vm_io.specs.InMemory.{bytes_at, shown_of, IsPlace};
+// A host in memory for tests: it fails exactly where its plan, a missing file or its room says so.
+ghost use Rattle.std.specs.Prelude.{◌≡◌, ℕ, ◌+◌, ◌-◌, ◌^◌, ◌≤◌, ◌<◌, ◌++◌, ◌⊎◌, min, take, drop, map, length, Some, IfOk, is_ok, if◌then◌else◌, option_map, string_bytes};
+ghost use Rattle.vm_io.specs.Causes.{HasCause, HasStuckCause, HasTakeCause, SameTakes, one_more};
+ghost use Rattle.vm_io.specs.Shown.{Takes, Puts, Says};
+ghost use Rattle.vm_io.specs.Planned.{shown_of, failed_takes, failed_gives, last_failed, next_call, is_planned, can_take, can_put, can_say, IsNext, IsFresh, IsMostTaken};
 
-use crate::failed_name::FailedName;
 use crate::faults::Faults;
 use crate::host::{Failed, Host};
+use crate::store::Store;
 use std::alloc::{AllocError, Global};
 
-#[derive(Drop)]
-pub struct MemFile {
-    name: String,
-    bytes: Vec<u8>,
-}
-
-/// Files and standard output in memory, each with room that is taken when the host is made.
+/// Files and standard output in memory, each with room that is taken when the host is made, and a plan of the calls that fail.
 #[derive(Drop)]
 pub struct MemHost {
-    files: Vec<MemFile>,
-    said: Vec<u8>,
-    room: usize,
+    store: Store,
     plan: Vec<u64>,
     calls: u64,
     faults: Faults,
 }
 
-// Bytes in a vector that has room for so many, which may be more than that many already.
-fn with_room(alloc: Global, bytes: &[u8], room: usize) -> Result<Vec<u8>, AllocError>
-    ensures items { IfOk result (λ v. v.items ≡ bytes.now) }
-    ensures capacity { IfOk result (λ v. room ≤ vec_capacity v) }
-{
-    let mut kept = Vec::with_capacity(alloc, room.max(bytes.len()))?;
-    kept.extend_from_slice(bytes)?;
-    Ok(kept)
-}
-
-// The place of the first file with a name.
-fn place_of(files: &[MemFile], name: &str) -> Option<usize>
-    ensures { MatchOption result (bytes_at files.now name.now ≡ None) (IsPlace files.now name.now) }
-{
-    'files: for (i, file) in files.iter().enumerate() {
-        if file.name.as_str() == name {
-            return Some(i);
-        }
-    }
-    None
-}
-
 impl MemHost {
+    /// A host with these files (of two with one name, only the first is seen), with room for `room` bytes in each file and of what is said.
+    /// The plan has the numbers of the calls that fail; `take`, `put` and `say` are numbered together, from 1.
+    /// It fails only for want of memory, and no later call takes any.
     pub fn new(
         alloc: Global,
         files: Vec<(String, Vec<u8>)>,
         room: usize,
         plan: &[u64],
-    ) -> Result<MemHost, AllocError> {
-        let mut kept = Vec::new(alloc);
-        for (name, bytes) in files {
-            let bytes = with_room(alloc, bytes.as_slice(), room)?;
-            kept.push(MemFile { name, bytes })?;
-        }
+    ) -> Result<MemHost, AllocError>
+        ensures { IfOk result (λ host. IsFresh host (map (λ file. (string_bytes file.0, file.1.items)) files.items) room plan.now) }
+    {
         Ok(MemHost {
-            files: kept,
-            said: with_room(alloc, &[], room)?,
-            room,
+            store: Store::new(alloc, files, room)?,
             plan: Vec::from_slice(alloc, plan)?,
             calls: 0,
             faults: Faults::new(),
@@ -70,24 +40,22 @@ impl MemHost {
 
     /// The bytes said.
     pub fn said(&self) -> &[u8]
-        ensures { result.now ≡ self.now.said.items }
+        ensures { result.now ≡ (shown_of self.now).said }
     {
-        self.said.as_slice()
+        self.store.said.as_slice()
     }
 
     /// The bytes of a file.
     pub fn file(&self, name: &str) -> Option<&[u8]>
-        ensures { option_map (λ b. b.now) result ≡ bytes_at self.now.files.items name.now }
+        ensures { option_map (λ b. b.now) result ≡ (shown_of self.now).files name.now }
     {
-        match place_of(&self.files, name) {
-            Some(i) => Some(self.files[i].bytes.as_slice()),
-            None => None,
-        }
+        self.store.file(name)
     }
 
     // Counts a call, and says whether the plan lets it fail.
     fn is_planned(&mut self) -> bool
-        ensures { self.new ≡ record self.old { calls = self.new.calls } }
+        ensures planned { result ≡ is_planned self.old }
+        ensures keeps { self.new ≡ record self.old { calls = next_call self.old } }
     {
         self.calls = self.calls.saturating_add(1);
         self.plan.contains(&self.calls)
@@ -95,39 +63,72 @@ impl MemHost {
 }
 
 impl Host for MemHost {
-    ghost shown = { λ h. Some (shown_of h) };
+    ghost shown = { λ host. Some (shown_of host) };
 
-    ghost takes = { λ h. h.faults.takes };
+    ghost takes = { λ host. failed_takes host };
 
-    ghost gives = { λ h. h.faults.gives };
+    ghost gives = { λ host. failed_gives host };
 
-    ghost last = { λ h. h.faults.last };
+    ghost last = { λ host. last_failed host };
 
-    fn take(&mut self, name: &str, at: u64, into: &mut [u8]) -> Result<usize, Failed> {
+    fn take(&mut self, name: &str, at: u64, into: &mut [u8]) -> Result<usize, Failed>
+        ensures bound { IfOk result (λ n. n ≤ length into.new) }
+        ensures bytes { Takes (Some (shown_of self.old)) name.now at into.old into.new result }
+        ensures keeps { shown_of self.new ≡ shown_of self.old }
+        ensures cause { HasTakeCause (failed_takes self.old) (failed_takes self.new) (last_failed self.old) (last_failed self.new) name.now result }
+        ensures apart { failed_gives self.new ≡ failed_gives self.old }
+        ensures exact { is_ok result ≡ can_take self.old name.now }
+        ensures counted { failed_takes self.new ≡ (if is_ok result then failed_takes self.old else one_more (failed_takes self.old)) }
+        ensures most { IfOk result (λ n. IsMostTaken (shown_of self.old) name.now at (length into.old) n) }
+        ensures next { IsNext self.old self.new }
+    {
         if self.is_planned() {
             return Err(self.faults.fail_take(name));
         }
-        let Some(i) = place_of(&self.files, name) else {
+        let Some(bytes) = self.store.file(name) else {
             return Err(self.faults.fail_take(name));
         };
-        Ok(copy_from(self.files[i].bytes.as_slice(), at as usize, into))
+        Ok(copy_from(bytes, at as usize, into))
     }
 
-    fn put(&mut self, _name: &str, _first: bool, _piece: &[u8]) -> Result<usize, Failed> {
-        Err(self.faults.fail_give())
-    }
-
-    fn say(&mut self, piece: &[u8]) -> Result<usize, Failed> {
+    fn put(&mut self, name: &str, first: bool, piece: &[u8]) -> Result<usize, Failed>
+        ensures bound { IfOk result (λ n. n ≤ length piece.now) }
+        ensures bytes { Puts (Some (shown_of self.old)) (Some (shown_of self.new)) name.now first piece.now result }
+        ensures cause { HasCause (failed_gives self.old) (failed_gives self.new) result }
+        ensures stuck { HasStuckCause (failed_gives self.old) (failed_gives self.new) (length piece.now) result }
+        ensures apart { SameTakes (failed_takes self.old) (failed_takes self.new) (last_failed self.old) (last_failed self.new) }
+        ensures exact { is_ok result ≡ can_put self.old name.now first piece.now }
+        ensures counted { failed_gives self.new ≡ (if is_ok result then failed_gives self.old else one_more (failed_gives self.old)) }
+        ensures whole { IfOk result (λ n. n ≡ length piece.now) }
+        ensures next { IsNext self.old self.new }
+    {
         if self.is_planned() {
             return Err(self.faults.fail_give());
         }
-        if self.room < self.said.len() || self.room - self.said.len() < piece.len() {
+        if !self.store.put(name, first, piece) {
             return Err(self.faults.fail_give());
         }
-        match self.said.extend_from_slice(piece) {
-            Ok(()) => Ok(piece.len()),
-            Err(AllocError) => Err(self.faults.fail_give()),
+        Ok(piece.len())
+    }
+
+    fn say(&mut self, piece: &[u8]) -> Result<usize, Failed>
+        ensures bound { IfOk result (λ n. n ≤ length piece.now) }
+        ensures bytes { Says (Some (shown_of self.old)) (Some (shown_of self.new)) piece.now result }
+        ensures cause { HasCause (failed_gives self.old) (failed_gives self.new) result }
+        ensures stuck { HasStuckCause (failed_gives self.old) (failed_gives self.new) (length piece.now) result }
+        ensures apart { SameTakes (failed_takes self.old) (failed_takes self.new) (last_failed self.old) (last_failed self.new) }
+        ensures exact { is_ok result ≡ can_say self.old piece.now }
+        ensures counted { failed_gives self.new ≡ (if is_ok result then failed_gives self.old else one_more (failed_gives self.old)) }
+        ensures whole { IfOk result (λ n. n ≡ length piece.now) }
+        ensures next { IsNext self.old self.new }
+    {
+        if self.is_planned() {
+            return Err(self.faults.fail_give());
         }
+        if !self.store.say(piece) {
+            return Err(self.faults.fail_give());
+        }
+        Ok(piece.len())
     }
 
     fn faults(&self) -> u64 {
@@ -137,8 +138,7 @@ impl Host for MemHost {
 
 // Copies bytes from an offset on, as many as there are and as fit.
 fn copy_from(bytes: &[u8], at: usize, into: &mut [u8]) -> usize
-    ensures bound { result ≤ length into.new }
-    ensures enough { result ≤ length bytes.now - at }
+    ensures count { result ≡ min (length into.old) (length bytes.now - at) }
     ensures copied { into.new ≡ take result (drop at bytes.now) ++ drop result into.old }
     ensures end { result ≡ 0 → (length into.old ≡ 0) ⊎ (length bytes.now ≤ at) }
 {

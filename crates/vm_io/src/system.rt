@@ -1,5 +1,6 @@
 // The real files and standard output: the edge whose bytes no contract tells, kept to a few lines.
 ghost use Rattle.std.specs.Prelude.{◌≡◌, ℕ, ◌+◌, ◌-◌, ◌^◌, ◌≤◌, ◌<◌, min, length, IfOk, None};
+ghost use Rattle.vm_io.specs.Edge.{CountsNone};
 ghost use Rattle.vm_io.specs.Causes.{Rose, HasCause, HasStuckCause, SameTakes};
 
 use crate::failed_name::FailedName;
@@ -40,7 +41,9 @@ fn write_piece<R: Files>(rt: &R, name: &str, first: bool, piece: &[u8]) -> io::R
 
 impl<R: Files + Print + Drop> StdHost<R> {
     /// A host over a runtime, with nothing counted.
-    pub fn new(rt: R) -> Self {
+    pub fn new(rt: R) -> Self
+        ensures { CountsNone result }
+    {
         StdHost {
             rt,
             faults: Faults::new(),

@@ -1,0 +1,5 @@
+mod Steps
+mod Pushes
+mod Visits
+mod Answered
+mod Flats

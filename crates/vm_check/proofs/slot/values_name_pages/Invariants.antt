@@ -1,0 +1,7 @@
+use Rattle.std.proofs.Common.{◌≡◌, drop}
+use Rattle.vm_tree_model.specs.Page.{pairs_of}
+use Rattle.vm_tree_model.specs.Walk.{names_pages}
+use Rattle.vm_check.proofs.slot.values_name_pages.Given as goal
+
+abbrev pub invariant-loop-i : goal.invariant-loop-i
+invariant-loop-i l = names_pages l.pages (drop l.i (pairs_of l.page)) ≡ names_pages l.pages (pairs_of l.page)

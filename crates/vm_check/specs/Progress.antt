@@ -1,0 +1,41 @@
+-- How far a walk in the program has come.
+use Rattle.std.specs.Prelude.{◌≡◌, ℕ, ◌<◌, List, [], ◌∷◌, length, reverse, Option, Some, Err}
+use Rattle.vm_tree_model.specs.Walk.{Slot}
+use Rattle.vm_tree_model.specs.Reason.{Walked, comes_to, unseen_pages}
+use Rattle.vm_check.specs.declared.walk.Walk.{Walk}
+use Rattle.vm_check.specs.declared.fault.CheckFault.{CheckFault}
+use Rattle.vm_check.specs.declared.fault.CheckFault.TheVariants.{BadPage, Memory}
+
+-- the slots name pages of the image
+abbrev pub AllInside : ℕ → List Slot → Type 0
+AllInside pages [] = Unit {0}
+AllInside pages (slot ∷ slots) = (slot.page < pages) × AllInside pages slots
+
+-- there is a flag for each page, and the slots name pages of the image
+pub record IsGoing (pages : List (List ℕ)) (walk : Walk) : Type 0 where
+  pub flags : length walk.visited.items ≡ length pages
+  pub inside : AllInside (length pages) (reverse walk.slots.items)
+
+-- what the walk comes to from here
+abbrev pub outcome : List (List ℕ) → Walk → Walked
+outcome pages walk = comes_to pages (reverse walk.slots.items) walk.visited.items walk.rows.items
+
+-- what it comes to if this slot is still to be filled first
+abbrev pub outcome_at : List (List ℕ) → Slot → Walk → Walked
+outcome_at pages slot walk = comes_to pages (slot ∷ reverse walk.slots.items) walk.visited.items walk.rows.items
+
+-- one visit further: the outcome is the same, and one page fewer is unvisited
+pub record IsNext (pages : List (List ℕ)) (slot : Slot) (old new : Walk) : Type 0 where
+  pub going : IsGoing pages new
+  pub same : outcome_at pages slot old ≡ outcome pages new
+  pub fewer : unseen_pages new.visited.items < unseen_pages old.visited.items
+
+-- the fault is the one that the walk comes to, or want of memory
+abbrev pub IsFaultOf : Walked → CheckFault → Type 0
+IsFaultOf walked (BadPage page why) = walked ≡ Err (page, why)
+IsFaultOf walked Memory = Unit {0}
+
+-- the fault is that of the page that was lost
+abbrev pub IsLost : Option ℕ → CheckFault → Type 0
+IsLost lost (BadPage page why) = (lost ≡ Some page) × (why ≡ 9)
+IsLost lost Memory = ⊥

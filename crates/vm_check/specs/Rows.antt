@@ -1,0 +1,32 @@
+-- What the checker answers.
+use Rattle.std.specs.Prelude.{◌≡◌, ◌^◌, slice_index, List, ℕ, Some}
+use Rattle.vm_map.specs.Map.{Rises}
+use Rattle.vm_tree_model.specs.Pages.{page_at}
+use Rattle.vm_tree_model.specs.Tree.{IsTree, map_of}
+use Rattle.vm_tree_model.specs.Reason.{reason, used_pages}
+use Rattle.vm_tree_model.specs.Flat.{flat_reason, IsFlatTree}
+use Rattle.vm_check.specs.declared.rows.Rows.{Rows}
+use Rattle.vm_check.specs.declared.fault.CheckFault.{CheckFault}
+use Rattle.vm_check.specs.declared.fault.CheckFault.TheVariants.{BadPage, Memory}
+
+-- the pages are a tree, and these are its rows: the map's pairs by rising key, the root's level, and the number of pages that are not all zero
+pub record AreRows (pages : List (List ℕ)) (rows : Rows) : Type 0 where
+  pub tree : IsTree pages
+  pub pairs : rows.pairs.items ≡ map_of pages
+  pub rise : Rises 0 (2 ^ 64) rows.pairs.items
+  pub height : rows.height ≡ slice_index (page_at pages 0) 2
+  pub used : rows.used ≡ used_pages pages
+
+-- the pages are no tree, and this is the first reason; or memory is wanting
+abbrev pub IsRefused : List (List ℕ) → CheckFault → Type 0
+IsRefused pages (BadPage page why) = (reason pages ≡ Some (page, why)) × ¬ (IsTree pages)
+IsRefused pages Memory = Unit {0}
+
+-- the same at height 0
+pub record AreFlatRows (pages : List (List ℕ)) (rows : Rows) : Type 0 where
+  pub flat : IsFlatTree pages
+  pub answer : AreRows pages rows
+
+abbrev pub IsFlatRefused : List (List ℕ) → CheckFault → Type 0
+IsFlatRefused pages (BadPage page why) = (flat_reason pages ≡ Some (page, why)) × ¬ (IsFlatTree pages)
+IsFlatRefused pages Memory = Unit {0}

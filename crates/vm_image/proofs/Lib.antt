@@ -1,0 +1,3 @@
+pub mod ZeroWords
+pub mod FilePages
+pub mod NextPage

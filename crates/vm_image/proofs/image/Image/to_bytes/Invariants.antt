@@ -1,0 +1,6 @@
+use Rattle.std.proofs.Common.{◌≡◌, ◌*◌, length, take}
+use Rattle.vm_image.specs.File.{pages_in, bytes_of_pages}
+use Rattle.vm_image.proofs.image.Image.to_bytes.Given as goal
+
+abbrev pub invariant-loop-p : goal.invariant-loop-p
+invariant-loop-p l = (l.bytes.items ≡ bytes_of_pages (take l.p l.self)) × (length l.bytes.items ≡ 512 * l.p) × (pages_in l.bytes.items l.p ≡ take l.p l.self)

@@ -1,0 +1,10 @@
+//! Page files: the pages of an image, read from bytes and written back.
+#![tactic(auto)]
+
+mod fault;
+mod image;
+mod zeros;
+
+pub use fault::ImageFault;
+pub use image::{Image, read_image};
+pub use zeros::{is_free, is_zero_from};

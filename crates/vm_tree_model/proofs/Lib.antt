@@ -1,0 +1,22 @@
+pub mod Levels
+pub mod LeafLaw
+pub mod MapOf
+pub mod Laws
+pub mod LeafPages
+pub mod SplitLaw
+pub mod PairWords
+pub mod GrowLaw
+pub mod SameTree
+pub mod SplitPages
+pub mod RootSplit
+pub mod Load
+pub mod WordTests
+pub mod Tests
+mod Slots
+mod Linked
+mod Ordered
+pub mod Height
+mod Sound
+pub mod Complete
+pub mod Theorem
+pub mod FlatTheorem

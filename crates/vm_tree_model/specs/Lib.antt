@@ -1,0 +1,8 @@
+pub mod Node
+pub mod Page
+pub mod Pages
+pub mod Tree
+pub mod Count
+pub mod Walk
+pub mod Reason
+pub mod Flat

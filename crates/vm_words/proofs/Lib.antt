@@ -1,0 +1,4 @@
+mod Options
+mod Faultless
+mod Filled
+mod Lines
