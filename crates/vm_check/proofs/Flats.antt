@@ -1,6 +1,6 @@
 -- The answers at any height are those at height 0 where the height is not above 0.
-use Rattle.std.proofs.Common.{◌≡◌, ℕ, List, Some, Bool, true, false, refl, sym, ◌∙◌}
-use Rattle.vm_tree_model.specs.Flat.{is_high, flat_reason, IsFlatTree}
+use Rattle.std.proofs.Common.{◌≡◌, ℕ, List, true, false, refl, sym, ◌∙◌}
+use Rattle.vm_tree_model.specs.Flat.{is_high}
 use Rattle.vm_tree_model.proofs.FlatTheorem.{not_high, flat_height}
 use Rattle.vm_check.specs.Rows.{AreRows, IsRefused, AreFlatRows, IsFlatRefused}
 use Rattle.vm_check.specs.declared.rows.Rows.{Rows}

@@ -1,5 +1,5 @@
 -- One step of what goes through the words or the pairs of a page, or through the pages.
-use Rattle.std.proofs.Common.{◌≡◌, ℕ, ◌+◌, ◌<◌, ◌≤◌, List, [], length, get_or, drop, Bool, true, ◌&&◌, eqb, leb, ltb, not, false, if◌then◌else◌, Some, arith}
+use Rattle.std.proofs.Common.{◌≡◌, ℕ, ◌+◌, ◌<◌, ◌≤◌, List, [], length, get_or, drop, Bool, true, ◌&&◌, leb, ltb, not, false, if◌then◌else◌, Some}
 use Rattle.std.proofs.lemmas.List.{at_drop_more, at_drop_all}
 use Rattle.vm_map.specs.Map.{Pairs}
 use Rattle.vm_tree_model.specs.Tree.{page_at}

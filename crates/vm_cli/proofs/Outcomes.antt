@@ -8,12 +8,14 @@ use Rattle.vm_cli.specs.declared.stop.Stop.{Stop}
 use Rattle.vm_cli.specs.declared.stop.Stop.TheVariants.{ShapeWorkers, ShapeFrames, ReadImage, ImageLength, ImagePage, ReadScript, ScriptLong, ScriptLine}
 use Rattle.vm_cli.specs.declared.stop.Unserved.{Unserved}
 use Rattle.vm_cli.specs.declared.stop.Unserved.TheVariants.{Stopped, Memory}
-use Rattle.vm_cli.specs.Asked.{Asked, HasShape}
+use Rattle.vm_words.specs.declared.Command.{Command}
+use Rattle.vm_words.specs.declared.Command.TheVariants.{Run}
+use Rattle.vm_cli.specs.Asked.{Asked, HasShape, asked_of}
 use Rattle.vm_cli.specs.Files.{HasFile}
 use Rattle.vm_cli.specs.Images.{IsTreeFile, IsNoTree, HasRows, file_map}
 use Rattle.vm_cli.specs.Served.{IsServed, IsAnswered, IsGoodScript, Answers}
 use Rattle.vm_cli.specs.Stops.{HasGoodImage, HasReadCause, IsStopped, IsWrongLength, ReadsCalls, ReadsImage, Serves, TellsImage, TellsShape, most_image, status_of, stop_text}
-use Rattle.vm_cli.specs.Endings.{IsSaid, ScriptEnds, stopped, unable}
+use Rattle.vm_cli.specs.Endings.{CommandEnds, IsSaid, ScriptEnds, stopped, unable}
 use Rattle.vm_cli.proofs.Files.{page_file, wrong_length, has_file}
 
 -- ---- the numbers
@@ -99,3 +101,10 @@ run_serves (Some shown) asked rows lists text shape image script a = record {
 pub refused_ends : (asked : Asked) (failed : List ℕ) (stop : Stop) (old new : Option Shown) (status : ℕ) → IsStopped old failed asked stop → IsSaid old new (stop_text asked stop) (status_of stop) status ⊎ ((new ≡ old) × (status ≡ 6)) → ScriptEnds asked failed old new status
 refused_ends asked failed stop old new status s (inl said) = stopped stop s said
 refused_ends asked failed stop old new status s (inr out) = unable out.0 out.1
+
+-- what the command `run` asks
+abbrev pub asked_in : Command → Asked
+asked_in (Run run) = asked_of run
+
+pub run_ends : (command : Command) (asked : Asked) (failed : List ℕ) (old new : Option Shown) (status : ℕ) → asked ≡ asked_in command → ScriptEnds asked failed old new status → CommandEnds command failed old new status
+run_ends (Run run) asked failed old new status same ends = subst (λ a. ScriptEnds a failed old new status) same ends

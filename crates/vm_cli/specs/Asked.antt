@@ -1,7 +1,6 @@
 -- What the words ask of the command `run`, and the limits of its numbers.
 use Rattle.std.specs.Prelude.{ℕ, ◌*◌, ◌≤◌, List}
 use Rattle.vm_words.specs.declared.Run.{Run}
-use Rattle.vm_words.specs.Commands.{IsRun}
 
 pub record Asked : Type 0 where
   pub image : List ℕ
@@ -12,10 +11,6 @@ pub record Asked : Type 0 where
 -- what a command of the program asks
 abbrev pub asked_of : Run → Asked
 asked_of run = record { image = run.image.now; script = run.script.now; workers = run.workers; frames = run.frames }
-
--- the words are the command `run` that asks this
-abbrev pub Asks : List (List ℕ) → Asked → Type 0
-Asks words asked = IsRun words asked.image asked.script asked.workers asked.frames
 
 -- 1 to 64 workers
 abbrev pub AreWorkers : ℕ → Type 0

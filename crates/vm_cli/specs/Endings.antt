@@ -3,8 +3,10 @@ use Rattle.std.specs.Prelude.{ℕ, ◌<◌, ◌≡◌, ◌⊎◌, List, [], ◌�
 use Rattle.vm_io.specs.Shown.{Shown, say_more}
 use Rattle.vm_io.specs.Loops.{SaidSome}
 use Rattle.vm_cli.specs.declared.stop.Stop.{Stop}
-use Rattle.vm_words.specs.Commands.{IsNoCommand, WhyRefused}
-use Rattle.vm_cli.specs.Asked.{Asked, Asks}
+use Rattle.vm_words.specs.declared.Command.{Command}
+use Rattle.vm_words.specs.declared.Command.TheVariants.{Run}
+use Rattle.vm_words.specs.Commands.{IsCommand, IsNoCommand, WhyRefused}
+use Rattle.vm_cli.specs.Asked.{Asked, asked_of}
 use Rattle.vm_cli.specs.Served.{IsServed}
 use Rattle.vm_cli.specs.Stops.{IsStopped, status_of, stop_text}
 
@@ -26,10 +28,14 @@ pub data ScriptEnds (asked : Asked) (failed : List ℕ) (old new : Option Shown)
   stopped : (stop : Stop) → IsStopped old failed asked stop → IsSaid old new (stop_text asked stop) (status_of stop) status → ScriptEnds asked failed old new status
   unable : new ≡ old → status ≡ 6 → ScriptEnds asked failed old new status
 
+-- how a command may end
+abbrev pub CommandEnds : Command → List ℕ → Option Shown → Option Shown → ℕ → Type 0
+CommandEnds (Run run) failed old new status = ScriptEnds (asked_of run) failed old new status
+
 -- How the program may end on these words
 pub data RunEnds (words : List (List ℕ)) (failed : List ℕ) (old new : Option Shown) (status : ℕ) : Type 0 where
   usage : IsNoCommand words → WhyRefused words → IsSaid old new usage_text 1 status → RunEnds words failed old new status
-  script : (asked : Asked) → Asks words asked → ScriptEnds asked failed old new status → RunEnds words failed old new status
+  command : (command : Command) → IsCommand words command → CommandEnds command failed old new status → RunEnds words failed old new status
   exhausted : new ≡ old → status ≡ 6 → RunEnds words failed old new status
 
 -- the script's calls are answered from the image's map on, and what was said is the text of that
@@ -38,8 +44,12 @@ pub record IsToldScript (asked : Asked) (old new : Option Shown) : Type 0 where
   pub answered : IsServed old asked text
   pub told : SaidAll old new text
 
--- What status 0 says of words that are the command `run`
+-- what status 0 says of a command
+abbrev pub CommandTold : Command → Option Shown → Option Shown → Type 0
+CommandTold (Run run) old new = IsToldScript (asked_of run) old new
+
+-- What status 0 says of the words
 pub record IsHeadline (words : List (List ℕ)) (old new : Option Shown) : Type 0 where
-  pub asked : Asked
-  pub named : Asks words asked
-  pub script : IsToldScript asked old new
+  pub command : Command
+  pub named : IsCommand words command
+  pub told : CommandTold command old new

@@ -2,7 +2,7 @@
 
 ghost use Rattle.std.specs.Prelude.{◌≡◌, map, string_bytes};
 ghost use Rattle.vm_io.specs.Causes.{Rose};
-ghost use Rattle.vm_cli.specs.Endings.{IsHeadline, RunEnds};
+ghost use Rattle.vm_cli.specs.Endings.{CommandEnds, CommandTold, IsHeadline, RunEnds};
 
 use crate::gate::Gate;
 use crate::run_script::run_script;
@@ -41,8 +41,20 @@ pub fn run<R: Threads + Wait + Sync, H: Host, G: Gate + Sync>(
     ensures write { result ≡ 3 → Rose (H.gives host.old) (H.gives host.new) }
 {
     match command_of(alloc, words) {
-        Ok(Command::Run(asked)) => run_script(alloc, host, &asked, gate),
+        Ok(command) => perform(alloc, host, command, gate),
         Err(WordsFault::Refused) => say(host, USAGE, 1),
         Err(WordsFault::Memory) => 6,
+    }
+}
+
+// Performs a command and gives the exit status.
+fn perform<H: Host, G: Gate>(alloc: Global, host: &mut H, command: Command<'_>, gate: &G) -> u8
+    ensures headline { result ≡ 0 → CommandTold command.entry (H.shown host.old) (H.shown host.new) }
+    ensures ends { CommandEnds command.entry (H.last host.new) (H.shown host.old) (H.shown host.new) result }
+    ensures read { result ≡ 2 → Rose (H.takes host.old) (H.takes host.new) }
+    ensures write { result ≡ 3 → Rose (H.gives host.old) (H.gives host.new) }
+{
+    match command {
+        Command::Run(run) => run_script(alloc, host, &run, gate),
     }
 }

@@ -3,6 +3,8 @@
 
 mod fault;
 mod image;
+#[cfg(test)]
+mod tests;
 mod zeros;
 
 pub use fault::ImageFault;

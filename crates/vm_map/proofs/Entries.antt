@@ -3,8 +3,8 @@ use Rattle.std.proofs.Common.{◌≡◌, ℕ, zero, suc, ◌+◌, ◌<◌, ◌�
 use Rattle.std.proofs.lemmas.Bool.Decides.{nat_tests}
 use Rattle.std.specs.Ordering.{nat_cmp}
 use Rattle.std.specs.BTreeMap.{is_at, insert_entry}
-use Rattle.std.specs.Map.{lookup}
-use Rattle.vm_map.specs.Map.{Pairs, lookup_at, put_pair, Rises}
+use Rattle.std.specs.Map.{lookup, remove_entry}
+use Rattle.vm_map.specs.Map.{Pairs, lookup_at, put_pair, del_pair, Rises}
 
 pub lookup_is : (m : Pairs) (k : ℕ) → lookup (is_at (nat_cmp k)) m ≡ lookup_at m k
 lookup_is [] k = refl
@@ -13,6 +13,10 @@ lookup_is (e ∷ es) k = grind (arith, nat_tests, lookup_is es k)
 pub insert_is : (m : Pairs) (k v : ℕ) → insert_entry nat_cmp m k v ≡ put_pair m k v
 insert_is [] k v = refl
 insert_is (e ∷ es) k v = grind (arith, nat_tests, insert_is es k v)
+
+pub remove_is : (m : Pairs) (k : ℕ) → remove_entry (is_at (nat_cmp k)) m ≡ del_pair m k
+remove_is [] k = refl
+remove_is (e ∷ es) k = grind (arith, nat_tests, remove_is es k)
 
 -- no key of a rising list is below its low end
 at_from : (m : Pairs) (d : ℕ × ℕ) (low high i : ℕ) → Rises low high m → i < length m → low ≤ (get_or m i d).0

@@ -8,6 +8,8 @@ pub enum Call {
     Get { key: u64 },
     /// Puts a value at a key, over the one that is there.
     Put { key: u64, value: u64 },
+    /// Takes the pair of a key out.
+    Del { key: u64 },
 }
 
 /// What a call is answered.
@@ -17,6 +19,8 @@ pub enum Reply {
     Got(Option<u64>),
     /// The value that was at the key of a `Put` before.
     Was(Option<u64>),
+    /// The value that was at the key of a `Del` before.
+    Gone(Option<u64>),
 }
 
 /// A call with its reply.

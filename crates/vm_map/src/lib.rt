@@ -3,3 +3,5 @@
 
 pub mod call;
 pub mod plain;
+#[cfg(test)]
+mod tests;

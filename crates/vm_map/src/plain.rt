@@ -59,6 +59,7 @@ impl PlainMap {
         match *call {
             Call::Get { key } => Ok(Reply::Got(self.entries.get(&key).copied())),
             Call::Put { key, value } => Ok(Reply::Was(self.entries.insert(key, value)?)),
+            Call::Del { key } => Ok(Reply::Gone(self.entries.remove(&key))),
         }
     }
 

@@ -1,6 +1,6 @@
 -- Words and their bytes, both ways.
 use Rattle.std.proofs.Common.{◌≡◌, ℕ, zero, suc, ◌+◌, ◌*◌, ◌/◌, ◌^◌, ◌<◌, ◌≤◌, List, [], ◌∷◌, ◌++◌, length, get_or, set, take, drop, refl, arith, ap, sym, ◌∙◌, length-append, length-drop, take-add, add-one}
-use Rattle.std.proofs.lemmas.List.{append_assoc, append-nil, drop-append-le, drop_all, drop-drop, get_or-drop, get_or-take, length-take-le, take-append-le, take_all, take_more, take_more_set}
+use Rattle.std.proofs.lemmas.List.{append_assoc, append-nil, drop-append-le, drop-drop, get_or-drop, length-take-le, take-append-le, take_all, take_more, take_more_set}
 use Rattle.std.proofs.lemmas.Nat.{from_be_bytes-to_be_bytes_8, be_bytes_8}
 use Rattle.std.proofs.lemmas.Slice.{take-put_mid}
 use Rattle.std.specs.Int.{w64, to_be_bytes, from_be_bytes}

@@ -2,3 +2,9 @@ pub mod Decimals
 pub mod Words
 pub mod Lines
 pub mod Readings
+pub mod Lists
+pub mod StateWords
+pub mod FieldLists
+pub mod VerbNames
+pub mod EventTexts
+pub mod EventRuns

@@ -5,7 +5,7 @@ use Rattle.std.specs.List.{AllByRecursion}
 use Rattle.std.proofs.lemmas.List.{append-nil}
 use Rattle.std.proofs.lemmas.Grind.{flat_map-append}
 use Rattle.vm_map.specs.declared.call.Call.{Call}
-use Rattle.vm_map.specs.declared.call.Call.TheVariants.{Get, Put}
+use Rattle.vm_map.specs.declared.call.Call.TheVariants.{Get, Put, Del}
 use Rattle.vm_script.specs.declared.script.Order.{Order}
 use Rattle.vm_script.specs.Cuts.{IsLine, Lacks}
 use Rattle.vm_script.specs.Scripts.{call_text, order_text, lines_text, IsCall, IsOrder, Spells, IsFirstBad, BeginsWith, most_lines}
@@ -36,6 +36,7 @@ lacks_call (Put key value) is = (
     ),
   ),
 )
+lacks_call (Del key) is = (λ e. omega arith, (λ e. omega arith, (λ e. omega arith, (λ e. omega arith, lacks_decimal 10 key (omega arith) is))))
 
 pub lacks_order : (workers : ℕ) (order : Order) → workers < 2 ^ 32 → IsOrder workers order → Lacks 10 (order_text order)
 lacks_order workers order w is =

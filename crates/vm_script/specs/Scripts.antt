@@ -3,15 +3,16 @@ use Rattle.std.specs.Prelude.{ℕ, zero, suc, ◌+◌, ◌<◌, ◌≤◌, ◌^�
 use Rattle.std.specs.Fmt.{decimal}
 use Rattle.std.specs.List.{AllByRecursion, flat_map}
 use Rattle.vm_map.specs.declared.call.Call.{Call}
-use Rattle.vm_map.specs.declared.call.Call.TheVariants.{Get, Put}
+use Rattle.vm_map.specs.declared.call.Call.TheVariants.{Get, Put, Del}
 use Rattle.vm_script.specs.declared.script.Order.{Order}
 use Rattle.vm_script.specs.declared.script.ScriptFault.{ScriptFault}
 use Rattle.vm_script.specs.declared.script.ScriptFault.TheVariants.{Long, Line, Memory}
 
--- `get K` or `put K V`
+-- `get K`, `put K V` or `del K`
 abbrev pub call_text : Call → List ℕ
 call_text (Get key) = codes "get" ++ 32 ∷ decimal key
 call_text (Put key value) = codes "put" ++ 32 ∷ decimal key ++ 32 ∷ decimal value
+call_text (Del key) = codes "del" ++ 32 ∷ decimal key
 
 -- `WORKER CALL`
 abbrev pub order_text : Order → List ℕ
@@ -20,6 +21,7 @@ order_text order = decimal order.worker ++ 32 ∷ call_text order.call
 abbrev pub IsCall : Call → Type 0
 IsCall (Get key) = key < 2 ^ 64
 IsCall (Put key value) = (key < 2 ^ 64) × (value < 2 ^ 64)
+IsCall (Del key) = key < 2 ^ 64
 
 -- an order that a script for so many workers may have
 pub record IsOrder (workers : ℕ) (order : Order) : Type 0 where

@@ -3,16 +3,18 @@ use Rattle.std.specs.Prelude.{ℕ, ◌+◌, List, [], ◌∷◌, ◌++◌, Some,
 use Rattle.std.specs.Fmt.{decimal}
 use Rattle.std.specs.List.{flat_map}
 use Rattle.vm_map.specs.declared.call.Reply.{Reply}
-use Rattle.vm_map.specs.declared.call.Reply.TheVariants.{Got, Was}
+use Rattle.vm_map.specs.declared.call.Reply.TheVariants.{Got, Was, Gone}
 use Rattle.vm_map.specs.declared.call.Said.{Said}
 use Rattle.vm_map.specs.Map.{Pairs}
 
--- `some V` or `none`, `new` or `was V`
+-- `some V` or `none`, `new` or `was V`, `gone V` or `none`
 abbrev pub answer_text : Reply → List ℕ
 answer_text (Got None) = codes "none"
 answer_text (Got (Some value)) = codes "some " ++ decimal value
 answer_text (Was None) = codes "new"
 answer_text (Was (Some value)) = codes "was " ++ decimal value
+answer_text (Gone None) = codes "none"
+answer_text (Gone (Some value)) = codes "gone " ++ decimal value
 
 -- `WORKER NUMBER REPLY`
 abbrev pub reply_line : ℕ → ℕ → Reply → List ℕ

@@ -1,7 +1,15 @@
-//! Scripts of calls for workers, and the text of replies and rows.
+//! Scripts of calls for workers, lists of events for the machine, and the text of what they answer.
 #![tactic(auto)]
 
+pub mod event_line;
+#[cfg(test)]
+mod event_tests;
+mod event_words;
+pub mod events;
 pub mod laws;
 pub mod number;
 pub mod script;
+pub mod seen;
+#[cfg(test)]
+mod tests;
 pub mod text;

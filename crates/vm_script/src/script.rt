@@ -1,9 +1,15 @@
 // Reads scripts: lines `WORKER CALL`, single spaces, each line ended by a line feed.
-ghost use Rattle.std.specs.Prelude.{◌≡◌, IfOk, MatchOption, map};
+ghost use Rattle.std.specs.Prelude.{◌≡◌, ◌≤◌, IfOk, MatchOption, All, length, map};
 ghost use Rattle.vm_script.specs.declared.script.ScriptFault.TheVariants.{Memory};
 ghost use Rattle.vm_script.specs.Calls.{ReadsCall, ReadsOrder, ReadsPair};
 ghost use Rattle.vm_script.specs.Cuts.{IsCut, IsLine, Lacks};
-ghost use Rattle.vm_script.specs.Scripts.{ReadsOrders, ReadsScript, calls_of as calls_in, lists_of as lists_in};
+ghost use Rattle.vm_script.specs.Scripts.{
+  ReadsOrders,
+  ReadsScript,
+  calls_of as calls_in,
+  lists_of as lists_in,
+  most_lines,
+};
 
 use crate::number::number_of;
 use std::alloc::{AllocError, AllocFailed, Global};
@@ -53,7 +59,7 @@ pub const MOST_BYTES: usize = 16_777_216;
 pub const MOST_LINES: u32 = 1_000_000;
 
 // The bytes before the first `at`, and those behind it.
-fn cut(bytes: &[u8], at: u8) -> Option<(&[u8], &[u8])>
+pub(crate) fn cut(bytes: &[u8], at: u8) -> Option<(&[u8], &[u8])>
     ensures { MatchOption result (Lacks at bytes.now) (λ x. IsCut bytes.now at x.0.now x.1.now) }
 {
     for (i, byte) in bytes.iter().enumerate() {
@@ -93,6 +99,12 @@ fn call_of(bytes: &[u8]) -> Option<Call>
         };
         return Some(Call::Get { key });
     }
+    if verb == b"del".as_slice() {
+        let Some(key) = number_of(rest) else {
+            return None;
+        };
+        return Some(Call::Del { key });
+    }
     if verb == b"put".as_slice() {
         let Some((key, value)) = pair_of(rest) else {
             return None;
@@ -126,7 +138,7 @@ fn order_of(line: &[u8], workers: u32) -> Option<Order>
 }
 
 // The first line, and what stands behind it.
-fn line_of(bytes: &[u8]) -> (&[u8], &[u8])
+pub(crate) fn line_of(bytes: &[u8]) -> (&[u8], &[u8])
     ensures { IsLine bytes.now result.0.now result.1.now }
 {
     match cut(bytes, b'\n') {
@@ -182,14 +194,16 @@ fn lists_of(alloc: Global, orders: &[Order], workers: u32) -> Result<Vec<Vec<Cal
 }
 
 /// Reads a script: the calls of each worker below `workers`, in the script's order. Each line is
-/// `WORKER CALL`, where the call is `get K` or `put K V` in canonical decimals below 2^64; the last
+/// `WORKER CALL`, where the call is `get K`, `put K V` or `del K` in canonical decimals below 2^64; the last
 /// line feed may be missing, and no bytes are no lines.
 ///
 /// # Errors
 /// `Long` exactly over `MOST_BYTES`. Else `Line` exactly where a line is refused or is one too
 /// many, with the first such. `Memory` where there is none.
 pub fn read_script(alloc: Global, bytes: &[u8], workers: u32) -> Result<Vec<Vec<Call>>, ScriptFault>
-    ensures { ReadsScript (λ v. map (λ calls. calls.items) v.items) workers bytes.now result }
+    ensures reading { ReadsScript (λ v. map (λ calls. calls.items) v.items) workers bytes.now result }
+    ensures count { IfOk result (λ v. length v.items ≡ workers) }
+    ensures few { IfOk result (λ v. All (λ calls. length calls.items ≤ most_lines) v.items) }
 {
     let orders = read_orders(alloc, bytes, workers)?;
     Ok(lists_of(alloc, orders.as_slice(), workers)?)

@@ -14,11 +14,13 @@ fn answer(alloc: Global, reply: &Reply) -> Result<String, AllocError>
         Reply::Got(Some(value)) => format!(in alloc; "some {value}"),
         Reply::Was(None) => String::from_str(alloc, "new"),
         Reply::Was(Some(value)) => format!(in alloc; "was {value}"),
+        Reply::Gone(None) => String::from_str(alloc, "none"),
+        Reply::Gone(Some(value)) => format!(in alloc; "gone {value}"),
     }
 }
 
 /// Appends the line `WORKER NUMBER REPLY` of a worker's reply: `some V` or `none` to a get, `new` or
-/// `was V` to a put. An `Err` leaves `out` as it was.
+/// `was V` to a put, `gone V` or `none` to a del. An `Err` leaves `out` as it was.
 pub fn reply_text(
     alloc: Global,
     worker: u32,

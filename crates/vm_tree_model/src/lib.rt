@@ -15,33 +15,28 @@ ghost use Rattle.vm_tree_model.specs.Flat.{flat_reason, IsFlatTree};
 pub fn walk_is_exact()
     ensures reason { (pages : List (List ℕ)) → (reason pages ≡ None) ↔ IsTree pages }
     ensures rows { (pages : List (List ℕ)) → IsTree pages → walked pages ≡ Ok (map_of pages) }
-{
-}
+{}
 
 /// The same at height 0.
 #[tactic(auto, using(crate::proofs::FlatTheorem::no_flat_reason, crate::proofs::FlatTheorem::flat_is_any))]
 pub fn flat_walk_is_exact()
     ensures reason { (pages : List (List ℕ)) → (flat_reason pages ≡ None) ↔ IsFlatTree pages }
     ensures same { (pages : List (List ℕ)) → slice_index (page_at pages 0) 2 ≡ 0 → flat_reason pages ≡ reason pages }
-{
-}
+{}
 
 /// In a tree each number of 64 bits lies in the fences of exactly one leaf.
 #[tactic(auto, using(crate::proofs::Laws::parted_leaves))]
 pub fn tree_is_parted()
     ensures { (pages : List (List ℕ)) → IsTree pages → IsParted pages }
-{
-}
+{}
 
 /// The map of a tree is listed by rising keys of 64 bits.
 pub fn map_rises()
     ensures { (pages : List (List ℕ)) → IsTree pages → Rises 0 (2 ^ 64) (map_of pages) }
-{
-}
+{}
 
 /// A tree is lower than its pages are many: each level has a node, and page 0 is none.
 #[tactic(auto, using(crate::proofs::Height::height_fits))]
 pub fn height_fits()
     ensures { (pages : List (List ℕ)) → IsTree pages → slice_index (page_at pages 0) 2 + 2 ≤ length pages }
-{
-}
+{}

@@ -2,9 +2,9 @@
 use Rattle.std.specs.Prelude.{◌≡◌, ◌⊎◌, ℕ, List, true, false}
 use Rattle.clap.specs.Words.{Text, subcommand_of, takes}
 use Rattle.vm_words.specs.Apps.{vmcache_app}
-use Rattle.vm_words.specs.Found.{EntersRun, EntersRunOf, IsNoNumber}
+use Rattle.vm_words.specs.Found.{EntersReplay, EntersRun, EntersRunOf, IsNoNumber}
 use Rattle.vm_words.specs.declared.Command.{Command}
-use Rattle.vm_words.specs.declared.Command.TheVariants.{Run}
+use Rattle.vm_words.specs.declared.Command.TheVariants.{Run, Replay}
 
 -- clap takes the words, and reads them as `run` with these names and with canonical decimals of
 -- these numbers
@@ -12,25 +12,29 @@ pub record IsRun (words : List Text) (image script : Text) (workers frames : ℕ
   pub taken : takes vmcache_app words ≡ true
   pub line : EntersRunOf (subcommand_of vmcache_app words) image script workers frames
 
+-- clap takes the words, and reads them as `replay` with this name
+pub record IsReplay (words : List Text) (file : Text) : Type 0 where
+  pub taken : takes vmcache_app words ≡ true
+  pub line : EntersReplay (subcommand_of vmcache_app words) file
+
 abbrev pub IsCommand : List Text → Command → Type 0
 IsCommand words (Run run) = IsRun words run.image.now run.script.now run.workers run.frames
+IsCommand words (Replay replay) = IsReplay words replay.file.now
 
 -- the words are no command
-abbrev pub IsNoCommand : List Text → Type 0
-IsNoCommand words = (image script : Text) (workers frames : ℕ) → IsRun words image script workers frames → ⊥
+pub record IsNoCommand (words : List Text) : Type 0 where
+  pub no_run : (image script : Text) (workers frames : ℕ) → IsRun words image script workers frames → ⊥
+  pub no_replay : (file : Text) → IsReplay words file → ⊥
 
 -- clap takes the words, and reads them as `run` with these four texts
 pub record IsRunLine (words : List Text) (image script workers frames : Text) : Type 0 where
   pub taken : takes vmcache_app words ≡ true
   pub line : EntersRun (subcommand_of vmcache_app words) image script workers frames
 
--- there are such texts
-pub record HasRunLine (words : List Text) : Type 0 where
-  pub image : Text
-  pub script : Text
-  pub workers : Text
-  pub frames : Text
-  pub line : IsRunLine words image script workers frames
+-- the words have all that one of the commands asks for
+pub data HasLine (words : List Text) : Type 0 where
+  run_line : (image script workers frames : Text) → IsRunLine words image script workers frames → HasLine words
+  replay_line : (file : Text) → IsReplay words file → HasLine words
 
 -- two readings of `run` are one
 pub record SameRun (image script : Text) (workers frames : ℕ) (i s : Text) (w f : ℕ) : Type 0 where

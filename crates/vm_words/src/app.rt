@@ -2,7 +2,7 @@
 //! that each says what clap's definitions make of it.
 ghost use Rattle.std.specs.Prelude.{◌≡◌, IfOk, false};
 ghost use Rattle.clap.specs.Words.{app_of, rule_of};
-ghost use Rattle.vm_words.specs.Apps.{IsApp, IsLocal, bare_app, named as named_rule, placed as placed_rule, run_app, vmcache_app};
+ghost use Rattle.vm_words.specs.Apps.{IsApp, IsLocal, bare_app, named as named_rule, placed as placed_rule, replay_app, run_app, vmcache_app};
 
 use clap::{Arg, Command};
 use std::alloc::{AllocError, Global};
@@ -34,6 +34,13 @@ fn run<'a>(alloc: Global) -> Result<Command<'a>, AllocError>
         .arg(named(alloc, "frames"))
 }
 
+fn replay<'a>(alloc: Global) -> Result<Command<'a>, AllocError>
+    ensures app { IfOk result (IsApp replay_app) }
+    ensures local { IfOk result IsLocal }
+{
+    Command::new(alloc, "replay").arg(placed(alloc, "file"))
+}
+
 // The program, with no command yet.
 fn bare<'a>(alloc: Global) -> Command<'a>
     ensures app { app_of result ≡ bare_app }
@@ -50,5 +57,6 @@ pub fn vmcache<'a>(alloc: Global) -> Result<Command<'a>, AllocError>
     ensures { IfOk result (IsApp vmcache_app) }
 {
     let run = run(alloc)?;
-    bare(alloc).subcommand(run)
+    let replay = replay(alloc)?;
+    bare(alloc).subcommand(run)?.subcommand(replay)
 }

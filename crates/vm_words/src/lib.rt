@@ -17,6 +17,7 @@ use thiserror::Error;
 #[derive(Clone, Copy, Debug, PartialEq, Eq)]
 pub enum Command<'a> {
     Run(Run<'a>),
+    Replay(Replay<'a>),
 }
 
 /// `run IMAGE SCRIPT --workers W --frames F`
@@ -32,12 +33,19 @@ pub struct Run<'a> {
     pub frames: u64,
 }
 
+/// `replay FILE`
+#[derive(Clone, Copy, Debug, PartialEq, Eq)]
+pub struct Replay<'a> {
+    /// The name of the file with the events.
+    pub file: &'a str,
+}
+
 /// Why the words gave no command.
 #[derive(Clone, Copy, Debug, PartialEq, Eq, Error)]
 pub enum WordsFault {
     /// They are none of the commands, or a number word is no canonical decimal below 2^64. A wish
     /// for help is refused too.
-    #[error("usage: vmcache run")]
+    #[error("the words are no command")]
     Refused,
     #[error("out of memory")]
     Memory,

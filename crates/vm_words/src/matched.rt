@@ -5,10 +5,9 @@ ghost use Rattle.clap.specs.Words.{app_of, first_of, found_of, kind_of, rows_of,
 ghost use Rattle.vm_words.specs.Apps.{IsApp, vmcache_app};
 ghost use Rattle.vm_words.specs.Found.{EntersCommand, EntersNone, FindsNoRun, FindsRun, IsNoNumber};
 
-use crate::{Command, Run, WordsFault};
+use crate::{Command, Replay, Run, WordsFault};
 use clap::error::ErrorKind;
 use clap::{ArgMatches, Error};
-use std::alloc::Global;
 use vm_script::number::number_of;
 
 /// What clap finds in the words.
@@ -52,13 +51,19 @@ pub fn command_in<'a>(matches: &ArgMatches<'a>) -> Option<Command<'a>>
     let Some((name, inner)) = entered(matches) else {
         return None;
     };
-    if name != "run" {
+    if name == "run" {
+        let Some(run) = run_in(inner) else {
+            return None;
+        };
+        return Some(Command::Run(run));
+    }
+    if name != "replay" {
         return None;
     }
-    let Some(run) = run_in(inner) else {
+    let Some(file) = text_at(inner, "file") else {
         return None;
     };
-    Some(Command::Run(run))
+    Some(Command::Replay(Replay { file }))
 }
 
 // The name of the command that was entered, and its matches.

@@ -1,5 +1,5 @@
 //! The words of a few lines, and what they have to give.
-use crate::{Command, Run, WordsFault, command_of};
+use crate::{Command, Replay, Run, WordsFault, command_of};
 use std::alloc::{AllocError, Global};
 
 // The words of a line, cut at its spaces.
@@ -29,6 +29,13 @@ fn reads_run(rt: HostRuntime) {
 }
 
 #[test]
+fn reads_replay(rt: HostRuntime) {
+    let words = words_of(rt.alloc(), "replay E0").expect(&rt, "words");
+    let command = command_of(rt.alloc(), words.as_slice());
+    assert!(rt; command == Ok(Command::Replay(Replay { file: "E0" })));
+}
+
+#[test]
 fn refuses_other_words(rt: HostRuntime) {
     for line in [
         "",
@@ -43,6 +50,9 @@ fn refuses_other_words(rt: HostRuntime) {
         "run I0 S0 S1 --workers 1 --frames 64",
         "run I0 S0 --workers 1 --workers 1 --frames 64",
         "run I0 S0 --workers 1 --frames 64 --other",
+        "replay",
+        "replay E0 E1",
+        "replay E0 --workers 1",
         "run --help",
         "--help",
         "help",

@@ -1,9 +1,9 @@
 use Rattle.std.proofs.Common.{Err, ap}
-use Rattle.vm_cli.specs.Endings.{usage, script}
+use Rattle.vm_cli.specs.Endings.{usage, command}
 use Rattle.vm_cli.proofs.run.run.Goals as goal
 
-pub returns-in-Ok-Run-clause-ends : goal.returns-in-Ok-Run-clause-ends
-returns-in-Ok-Run-clause-ends g c = let h = c.in-Ok-Run.ensures.command in let k = c.run_script.ensures.ends in let m = c.in-Ok-Run.is in ?
+pub returns-in-Ok-clause-ends : goal.returns-in-Ok-clause-ends
+returns-in-Ok-clause-ends g c = command _ c.in-Ok.ensures.command c.perform.ensures.ends
 
 pub returns-in-Err-Refused-clause-ends : goal.returns-in-Err-Refused-clause-ends
 returns-in-Err-Refused-clause-ends g c =

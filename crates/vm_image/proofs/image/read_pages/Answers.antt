@@ -1,6 +1,4 @@
-use Rattle.std.proofs.Common.{rules, ◌≡◌, ℕ, ◌+◌, ◌*◌, List, length, take, drop, arith, refl, ◌∙◌}
-use Rattle.vm_page.specs.Bytes.{bytes_of_words, words_of_bytes}
-use Rattle.vm_image.specs.File.{page_in}
+use Rattle.std.proofs.Common.{rules, ◌≡◌, ◌*◌, take, drop, refl, ◌∙◌}
 use Rattle.vm_image.proofs.FilePages.{read_more, read_back, have_more}
 use Rattle.vm_image.proofs.image.read_pages.Goals as goal
 

@@ -1,7 +1,6 @@
-use Rattle.std.proofs.Common.{rules, ◌≡◌, ℕ, ◌+◌, ◌*◌, ◌^◌, ◌<◌, List, length, take, get_or, arith, sym, ap, ◌∙◌}
-use Rattle.std.proofs.lemmas.List.{take_all}
+use Rattle.std.proofs.Common.{rules, arith, ap, ◌∙◌}
 use Rattle.std.proofs.lemmas.Slice.{overwrites}
-use Rattle.vm_page.specs.Bytes.{bytes_of_words, words_of_bytes}
+use Rattle.vm_page.specs.Bytes.{words_of_bytes}
 use Rattle.vm_page.proofs.Words.{written_more, written_all, words_of-bytes_of}
 use Rattle.vm_page.proofs.buf.bytes_of.Goals as goal
 

@@ -1,5 +1,8 @@
-use Rattle.vm_words.proofs.Lines.{run_is_one}
+use Rattle.vm_words.proofs.Lines.{run_is_one, run_no_replay}
 use Rattle.vm_words.proofs.laws.run_is_one.Goals as goal
 
-pub returns : goal.returns
-returns c = run_is_one
+pub returns-clause-one : goal.returns-clause-one
+returns-clause-one c = run_is_one
+
+pub returns-clause-no_replay : goal.returns-clause-no_replay
+returns-clause-no_replay c = run_no_replay

@@ -1,6 +1,5 @@
-use Rattle.std.proofs.Common.{rules, ◌≡◌, ℕ, ◌+◌, ◌*◌, ◌<◌, List, length, take, arith, ap, ◌∙◌, length-append}
-use Rattle.vm_page.specs.Bytes.{bytes_of_words, words_of_bytes}
-use Rattle.vm_tree_model.specs.Pages.{page_at}
+use Rattle.std.proofs.Common.{rules, ◌≡◌, ◌<◌, length, arith, ap, ◌∙◌, length-append}
+use Rattle.vm_page.specs.Bytes.{bytes_of_words}
 use Rattle.vm_image.proofs.FilePages.{write_more, write_back}
 use Rattle.vm_image.proofs.image.Image.to_bytes.Goals as goal
 

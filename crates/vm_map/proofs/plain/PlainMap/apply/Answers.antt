@@ -1,8 +1,8 @@
 use Rattle.std.proofs.Common.{rules, sym, ap, ◌∙◌, ◌^◌, arith}
-use Rattle.vm_map.specs.Map.{lookup_at, put_pair}
+use Rattle.vm_map.specs.Map.{lookup_at, put_pair, del_pair}
 use Rattle.vm_map.specs.History.{AddsKey}
-use Rattle.vm_map.proofs.MapLemmas.{Rises-put}
-use Rattle.vm_map.proofs.Entries.{lookup_is, insert_is}
+use Rattle.vm_map.proofs.MapLemmas.{Rises-put, Rises-del}
+use Rattle.vm_map.proofs.Entries.{lookup_is, insert_is, remove_is}
 use Rattle.vm_map.proofs.plain.PlainMap.apply.Goals as goal
 
 pub returns-in_err-insert-in-Put-clause-only_new_key : goal.returns-in_err-insert-in-Put-clause-only_new_key
@@ -27,3 +27,15 @@ returns-in_ok-insert-in-Put-clause-after c =
 
 pub returns-in_ok-insert-in-Put-clause-rises : goal.returns-in_ok-insert-in-Put-clause-rises
 returns-in_ok-insert-in-Put-clause-rises c = invariant_of-self-in-Put c
+
+pub invariant_of-self-in-Del : goal.invariant_of-self-in-Del
+invariant_of-self-in-Del c = rw (c.remove.ensures.entries, remove_is c.self.inside.entries.entries c.in-Del.key) (Rises-del c.self.inside.entries.entries 0 (2 ^ 64) c.in-Del.key c.self.invariant)
+
+pub returns-in-Del-clause-reply : goal.returns-in-Del-clause-reply
+returns-in-Del-clause-reply c = rw c.in-Del.is (c.remove.ensures.value ∙ lookup_is c.self.inside.entries.entries c.in-Del.key ∙ ap (λ m. lookup_at m c.in-Del.key) c.self.view_is)
+
+pub returns-in-Del-clause-after : goal.returns-in-Del-clause-after
+returns-in-Del-clause-after c = rw c.in-Del.is (c.remove.ensures.entries ∙ remove_is c.self.inside.entries.entries c.in-Del.key ∙ ap (λ m. del_pair m c.in-Del.key) c.self.view_is)
+
+pub returns-in-Del-clause-rises : goal.returns-in-Del-clause-rises
+returns-in-Del-clause-rises c = invariant_of-self-in-Del c

@@ -1,0 +1,13 @@
+pub mod WordBits
+pub mod Upd
+pub mod Locks
+pub mod PageFacts
+pub mod PageMoves
+pub mod Whole
+pub mod At
+pub mod Masks
+pub mod Act
+pub mod Running
+pub mod Cleaning
+pub mod Fits
+pub mod Starting

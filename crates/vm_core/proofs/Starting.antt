@@ -1,0 +1,139 @@
+-- The lists that a core starts with are the core's start.
+use Rattle.std.proofs.Common.{ℕ, zero, suc, ◌≡◌, ◌+◌, ◌-◌, ◌*◌, ◌/◌, ◌%◌, ◌^◌, ◌<◌, ◌≤◌, ◌∷◌, ◌++◌, List, [], length, refl, sym, ap, subst, ◌∙◌, ⊎_elim, arith, true, false, None, min, map, get_or, replicate, ltb}
+use mathlib.Core.Path.{fun_ext}
+use Rattle.std.specs.Int.{bit_at}
+use Rattle.std.proofs.Math.ListN.{get_or-append, get_or-eq_default}
+use Rattle.std.proofs.lemmas.Bool.{cases_eq, cases_lt, cond-false, le-ltb, ne_eqb, false≢true}
+use Rattle.std.proofs.lemmas.List.{get_or_default, get_or-replicate, get_or_push, length-append, length-map, length-replicate}
+use Rattle.std.proofs.lemmas.Nat.Bits.{bit_at-zero}
+use Rattle.vm_core.specs.declared.event.CoreShape.{CoreShape}
+use Rattle.vm_core.specs.CoreOf.{CoreFits, InFrames}
+use Rattle.vm_core.specs.Fn.{at, sum_below}
+use Rattle.vm_core.specs.Inv.{LocksInv}
+use Rattle.vm_core.specs.Making.{IsStartPage, StartPages, StartBundles}
+use Rattle.vm_core.specs.PageOf.{PageData, page_of, pages_of, words_of, held_of, core_of}
+use Rattle.vm_core.specs.Start.{core_block, core_start, evicted_page, full_bundle, no_seat, outside_page, start}
+use Rattle.vm_core.specs.Words.{is_free, EVICTED, MAX_VERSION}
+use Rattle.vm_core.proofs.At.{at-get, page-here}
+
+-- one page more
+pub pages-more : (shape : CoreShape) (n : ℕ) (xs : List PageData) (r : PageData) → StartPages shape n xs → IsStartPage shape n r → StartPages shape (n + 1) (xs ++ r ∷ [])
+pages-more shape n xs r i s =
+    record {
+      len = length-append xs (r ∷ []) ∙ ap (λ k. k + 1) i.len;
+      each = λ p d lt. ⊎_elim
+          (λ e. subst (IsStartPage shape p) (sym (get_or_push xs r d p (i.len ∙ sym e))) (subst (λ k. IsStartPage shape k r) (sym e) s))
+          (λ ne. subst (IsStartPage shape p) (sym (get_or-append xs (r ∷ []) d p (omega (arith, i.len)))) (i.each p d (omega arith)))
+          (cases_eq p n);
+    }
+
+-- one bundle word more
+pub words-more : (frames n : ℕ) (xs : List ℕ) (x : ℕ) → StartBundles frames n xs → x ≡ full_bundle frames n → StartBundles frames (n + 1) (xs ++ x ∷ [])
+words-more frames n xs x i s =
+    record {
+      len = length-append xs (x ∷ []) ∙ ap (λ k. k + 1) i.len;
+      each = λ g lt. ⊎_elim
+          (λ e. get_or_push xs x 0 g (i.len ∙ sym e) ∙ s ∙ ap (full_bundle frames) (sym e))
+          (λ ne. get_or-append xs (x ∷ []) 0 g (omega (arith, i.len)) ∙ i.each g (omega arith))
+          (cases_eq g n);
+    }
+
+-- the lists of the start
+pub record StartLists (shape : CoreShape) (pages : List PageData) (frames : List (List ℕ)) (bundles : List ℕ) (held : List (List ℕ)) : Type 0 where
+  pub pages_are : StartPages shape shape.pages pages
+  pub frames_are : frames ≡ replicate shape.frames (replicate 64 0)
+  pub bundles_are : StartBundles shape.frames ((shape.frames + 63) / 64) bundles
+  pub held_are : held ≡ replicate shape.actors (replicate ((shape.frames + 63) / 64) 0)
+
+pub start-fits : (shape : CoreShape) (pages : List PageData) (frames : List (List ℕ)) (bundles : List ℕ) (held : List (List ℕ)) → StartLists shape pages frames bundles held → CoreFits (record { shape = shape; pages = pages; frames = frames; bundles = bundles; held = held; next = shape.next; hand = 0 })
+start-fits shape pages frames bundles held i =
+    record {
+      pages = i.pages_are.len;
+      each = λ p d lt. (i.pages_are.each p d (omega (arith, i.pages_are.len, lt))).seats;
+      mapped = λ p d lt. subst (InFrames shape.frames) (sym (i.pages_are.each p d (omega (arith, i.pages_are.len, lt))).empty) tt;
+      frames = ap length i.frames_are ∙ length-replicate shape.frames (replicate 64 0);
+      bundles = i.bundles_are.len;
+      held = ap length i.held_are ∙ length-replicate shape.actors (replicate ((shape.frames + 63) / 64) 0);
+      rows = λ a d lt. ap (λ xs. length (get_or xs a d)) i.held_are
+          ∙ ap length (get_or-replicate shape.actors a (replicate ((shape.frames + 63) / 64) 0) d (omega (arith, ap length i.held_are ∙ length-replicate shape.actors (replicate ((shape.frames + 63) / 64) 0), lt)))
+          ∙ length-replicate ((shape.frames + 63) / 64) 0;
+    }
+
+pub block-past : (next p : ℕ) → next ≤ p → core_block next p ≡ replicate 64 0
+unfolding core_block
+block-past next p le = cond-false (ltb p next) _ (replicate 64 0) (le-ltb p next le)
+
+start-pages : (shape : CoreShape) (pages : List PageData) → shape.next ≤ shape.pages → StartPages shape shape.pages pages → pages_of pages ≡ (λ p. evicted_page 0 (core_block shape.next p) 0)
+start-pages shape pages le i =
+    fun_ext (λ p. ⊎_elim
+    (λ lt. let d : PageData = record { state = 0; version = 0; trans = None; fault = 0; count = 0; block = []; seats = [] } in
+    let in' : p < length pages = omega (arith, i.len) in
+    page-here pages p (get_or pages p d) in' (get_or_default pages p d (get_or pages p d) in') ∙ (i.each p d lt).page)
+    (λ past. at-get outside_page (map page_of pages) p ∙ get_or-eq_default (map page_of pages) outside_page (omega (arith, length-map pages page_of, i.len, past))
+    ∙ ap (λ b. evicted_page 0 b 0) (sym (block-past shape.next p (omega arith))))
+    (cases_lt p shape.pages))
+
+-- a list of one thing, with that thing past its end
+all-same : {A : Type 0} (n i : ℕ) (x : A) → at x (replicate n x) i ≡ x
+all-same n i x =
+    at-get x (replicate n x) i ∙ ⊎_elim (λ lt. get_or-replicate n i x x lt) (λ le. get_or-eq_default (replicate n x) x (omega (arith, length-replicate n x))) (cases_lt i n)
+
+-- a page with no seat taken
+pub no-seats : (n : ℕ) → at no_seat (replicate n no_seat) ≡ (λ a. no_seat)
+no-seats n = fun_ext (λ a. all-same n a no_seat)
+
+-- no shares, no sum
+sum-none : (n : ℕ) → sum_below n (λ a. 0) ≡ 0
+unfolding sum_below
+sum-none zero = refl
+sum-none (suc n) = let e : sum_below n (λ a. 0) ≡ 0 = sum-none n in omega arith
+
+-- nobody has a lock of an evicted page
+pub locks-none : (actors version : ℕ) → version ≤ MAX_VERSION → LocksInv actors EVICTED version (λ a. no_seat)
+locks-none actors version le =
+    record {
+      known = omega arith;
+      in_range = le;
+      shares = sum-none actors;
+      unheld = λ _ _. refl;
+      held = λ q. absurd (omega arith);
+      below = λ q. absurd (omega arith);
+      writer = λ a e. absurd (false≢true e);
+      one_writer = λ a b e. absurd (false≢true e);
+    }
+
+pub locks-start : (actors : ℕ) → LocksInv (length (replicate actors no_seat)) 255 0 (at no_seat (replicate actors no_seat))
+locks-start actors =
+    subst (LocksInv (length (replicate actors no_seat)) 255 0) (sym (no-seats actors)) (locks-none (length (replicate actors no_seat)) 0 (omega arith))
+
+full-past : (frames g : ℕ) → frames ≤ 64 * g → full_bundle frames g ≡ 0
+unfolding full_bundle
+full-past frames g le = let e : min 64 (frames - 64 * g) ≡ 0 = omega arith in ap (λ k. 2 ^ k - 1) e
+
+start-bundles : (frames : ℕ) (bundles : List ℕ) → StartBundles frames ((frames + 63) / 64) bundles → at 0 bundles ≡ full_bundle frames
+start-bundles frames bundles i =
+    fun_ext (λ g. at-get 0 bundles g ∙ ⊎_elim (i.each g)
+    (λ le. get_or-eq_default bundles 0 (omega (arith, i.len, le)) ∙ sym (full-past frames g (omega arith)))
+    (cases_lt g ((frames + 63) / 64)))
+
+none-free : (n f : ℕ) → is_free (at 0 (replicate n 0)) f ≡ false
+unfolding is_free
+none-free n f = ne_eqb (bit_at (at 0 (replicate n 0) (f / 64)) (f % 64)) 1
+    (λ q. let z : bit_at (at 0 (replicate n 0) (f / 64)) (f % 64) ≡ 0 = ap (λ v. bit_at v (f % 64)) (all-same n (f / 64) 0) ∙ bit_at-zero (f % 64) in omega arith)
+
+start-held : (actors n : ℕ) → held_of (replicate actors (replicate n 0)) ≡ (λ a f. false)
+start-held actors n =
+    let none : List ℕ = replicate n 0 in
+    let rows : List (List ℕ) = replicate actors none in
+    fun_ext (λ a. fun_ext (λ f. ⊎_elim
+    (λ lt. ap (λ row. is_free (at 0 row) f) (at-get [] rows a ∙ get_or-replicate actors a none [] lt) ∙ none-free n f)
+    (λ le. ap (λ row. is_free (at 0 row) f) (at-get [] rows a ∙ get_or-eq_default rows [] (omega (arith, length-replicate actors none, le))) ∙ none-free 0 f)
+    (cases_lt a actors)))
+
+pub start-is : (shape : CoreShape) (pages : List PageData) (frames : List (List ℕ)) (bundles : List ℕ) (held : List (List ℕ)) → shape.next ≤ shape.pages → StartLists shape pages frames bundles held → core_of (record { shape = shape; pages = pages; frames = frames; bundles = bundles; held = held; next = shape.next; hand = 0 }) ≡ start (core_start shape)
+start-is shape pages frames bundles held le i =
+    let ps : pages_of pages ≡ (λ p. evicted_page 0 (core_block shape.next p) 0) = start-pages shape pages le i.pages_are in
+    let ws : words_of frames ≡ (λ f. replicate 64 0) = ap words_of i.frames_are ∙ fun_ext (λ f. all-same shape.frames f (replicate 64 0)) in
+    let bs : at 0 bundles ≡ full_bundle shape.frames = start-bundles shape.frames bundles i.bundles_are in
+    let hs : held_of held ≡ (λ a f. false) = ap held_of i.held_are ∙ start-held shape.actors ((shape.frames + 63) / 64) in
+    λ k. record { shape = shape; tells = true; pages = ps k; words = ws k; bundles = bs k; held = hs k; next = shape.next; hand = 0 }

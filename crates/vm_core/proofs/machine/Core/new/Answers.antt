@@ -1,0 +1,16 @@
+use Rattle.std.proofs.Common.{◌≡◌, ◌+◌, ◌/◌, ◌∙◌, ap, subst, replicate}
+use Rattle.vm_core.specs.Making.{StartBundles}
+use Rattle.vm_core.proofs.Starting.{StartLists, start-is}
+use Rattle.vm_core.proofs.machine.Core.new.Goals as goal
+
+pub returns : goal.returns
+returns c =
+    let n : c.bundle_count-count.result ≡ (c.args.shape.frames + 63) / 64 = c.bundle_count-count.ensures in
+    let lists : StartLists c.args.shape c.in_ok-pages.pages.items c.in_ok-frames.frames.items c.in_ok-bundles.bundles.items c.in_ok-held.held.items =
+    record {
+      pages_are = c.in_ok-pages.ensures;
+      frames_are = c.in_ok-frames.ensures;
+      bundles_are = subst (λ k. StartBundles c.args.shape.frames k c.in_ok-bundles.bundles.items) n c.in_ok-bundles.ensures;
+      held_are = c.in_ok-held.ensures ∙ ap (λ k. replicate c.args.shape.actors (replicate k 0)) n;
+    } in
+    rw c.from.ensures (start-is c.args.shape _ _ _ _ c.requires lists)

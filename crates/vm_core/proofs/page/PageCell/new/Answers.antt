@@ -1,0 +1,17 @@
+use Rattle.std.proofs.Common.{◌∙◌, ap, sym, subst, length, List}
+use Rattle.vm_core.specs.declared.event.Seat.{Seat}
+use Rattle.vm_core.specs.Fn.{at}
+use Rattle.vm_core.specs.Inv.{LocksInv}
+use Rattle.vm_core.specs.Start.{no_seat, evicted_page}
+use Rattle.vm_core.proofs.Starting.{no-seats, locks-start}
+use Rattle.vm_core.proofs.page.PageCell.new.Goals as goal
+
+pub invariant_of-result : goal.invariant_of-result
+invariant_of-result c =
+    subst (λ (xs : List Seat). LocksInv (length xs) 255 0 (at no_seat xs)) (sym (c.in_ok-seats.ensures.items_if_clones_equal (λ y e. e))) (locks-start c.args.shape.actors)
+
+pub returns-clause-page : goal.returns-clause-page
+returns-clause-page c =
+    ap (λ xs. record (evicted_page 0 c.core_block.result 0) { seats = at no_seat xs }) (c.in_ok-seats.ensures.items_if_clones_equal (λ y e. e))
+    ∙ ap (λ s. record (evicted_page 0 c.core_block.result 0) { seats = s }) (no-seats c.args.shape.actors)
+    ∙ ap (λ b. evicted_page 0 b 0) c.core_block.ensures

@@ -1,0 +1,10 @@
+use Rattle.std.proofs.Common.{◌≡◌, ◌≤◌}
+use Rattle.std.specs.Int.{bit_at}
+use Rattle.vm_core.specs.Fn.{sum_below}
+use Rattle.vm_core.proofs.words.Bundle.lowest.Given as goal
+
+abbrev pub invariant-loop-i : goal.invariant-loop-i
+invariant-loop-i l = record {
+  counted : l.count ≡ sum_below l.i (bit_at l.word);
+  few : l.count ≤ l.n;
+}

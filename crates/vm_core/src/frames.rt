@@ -1,0 +1,94 @@
+//! The words of frames, and the set of frames that an actor holds.
+
+ghost use Rattle.std.specs.Prelude.{ℕ, ◌≡◌, ◌<◌, ◌/◌, List, length, bit_or, true, false, if◌then◌else◌, IsTrue, ◌↔◌, IfOk, replicate};
+ghost use Rattle.vm_core.specs.Fn.{at, upd};
+ghost use Rattle.vm_core.specs.PageOf.{words_of};
+ghost use Rattle.vm_core.specs.Words.{in_mask, is_free};
+
+use std::alloc::{AllocError, Global};
+use std::marker::Model;
+
+/// The frames that an actor holds, as a mask for each bundle.
+#[derive(Drop)]
+pub struct FrameSet {
+    masks: Vec<u64>,
+}
+
+impl Model for FrameSet {
+    ghost Value = { List ℕ };
+
+    ghost view = { λ s. s.masks.items };
+}
+
+impl FrameSet {
+    /// No frames, of this many bundles.
+    pub fn new(alloc: Global, bundles: usize) -> Result<Self, AllocError>
+        ensures { IfOk result (λ s. s ≡ replicate bundles 0) }
+    {
+        Ok(FrameSet {
+            masks: vec![in alloc; 0; bundles]?,
+        })
+    }
+
+    /// Whether the frame is in the set.
+    pub fn has(&self, f: u32) -> bool
+        requires { f / 64 < length self.now }
+        ensures { result ≡ is_free (at 0 self.now) f }
+    {
+        (self.masks[(f / 64) as usize] >> (f % 64)) & 1 == 1
+    }
+
+    /// The frames of the mask come in.
+    pub fn add(&mut self, g: usize, mask: u64)
+        requires { g < length self.old }
+        ensures words { at 0 self.new ≡ upd (at 0 self.old) g (bit_or (at 0 self.old g) mask) }
+        ensures len { length self.new ≡ length self.old }
+    {
+        self.masks[g] |= mask;
+    }
+
+    /// The frame goes out.
+    pub fn remove(&mut self, f: u32)
+        requires { f / 64 < length self.old }
+        ensures words { is_free (at 0 self.new) ≡ upd (is_free (at 0 self.old)) f false }
+        ensures len { length self.new ≡ length self.old }
+    {
+        self.masks[(f / 64) as usize] &= !(1 << (f % 64));
+    }
+
+    /// The frame comes in.
+    pub fn insert(&mut self, f: u32)
+        requires { f / 64 < length self.old }
+        ensures words { is_free (at 0 self.new) ≡ upd (is_free (at 0 self.old)) f true }
+        ensures len { length self.new ≡ length self.old }
+    {
+        self.masks[(f / 64) as usize] |= 1 << (f % 64);
+    }
+
+    /// Whether all frames of the mask are in the set.
+    pub fn has_all(&self, g: usize, mask: u64) -> bool
+        requires { g < length self.now }
+        ensures { IsTrue result ↔ ((f : ℕ) → in_mask g mask f ≡ true → is_free (at 0 self.now) f ≡ true) }
+    {
+        mask & self.masks[g] == mask
+    }
+
+    /// The frames of the mask go out.
+    pub fn remove_all(&mut self, g: usize, mask: u64)
+        requires { g < length self.old }
+        ensures words { (f : ℕ) → is_free (at 0 self.new) f ≡ (if in_mask g mask f then false else is_free (at 0 self.old) f) }
+        ensures len { length self.new ≡ length self.old }
+    {
+        self.masks[g] &= !mask;
+    }
+}
+
+/// The words of a frame; a frame past the last has zeros.
+pub fn frame_words(frames: &[[u64; 64]], f: u32) -> [u64; 64]
+    ensures { result ≡ words_of frames.now f }
+{
+    match frames.get(f as usize) {
+        Some(words) => *words,
+        None => [0; 64],
+    }
+}

@@ -1,0 +1,96 @@
+//! The lists of a machine at the start.
+
+ghost use Rattle.std.specs.Prelude.{◌≡◌, ◌<◌, ◌+◌, ◌*◌, ◌/◌, replicate, IfOk};
+ghost use Rattle.vm_core.specs.Making.{StartBundles, StartPages};
+ghost use Rattle.vm_core.specs.Start.{core_block, full_bundle};
+
+use crate::event::CoreShape;
+use crate::frames::FrameSet;
+use crate::page::PageCell;
+use std::alloc::{AllocError, Global};
+
+/// The words of a page's block at the start.
+pub fn core_block(next: u32, p: u32) -> [u64; 64]
+    ensures { result ≡ core_block next p }
+{
+    let mut words = [0; 64];
+    if p < next {
+        let base = 64 * u64::from(p);
+        for i in 0..64 {
+            words[i] = base + i as u64;
+        }
+    }
+    words
+}
+
+/// The bundle word of all frames of a bundle.
+pub fn full_bundle(frames: u32, g: u32) -> u64
+    requires { g * 64 < frames }
+    ensures { result ≡ full_bundle frames g }
+{
+    let left = frames - g * 64;
+    if left >= 64 {
+        u64::MAX
+    } else {
+        (1 << left) - 1
+    }
+}
+
+/// How many bundles the frames have.
+pub fn bundle_count(frames: u32) -> u32
+    ensures { result ≡ (frames + 63) / 64 }
+{
+    if frames % 64 == 0 {
+        frames / 64
+    } else {
+        frames / 64 + 1
+    }
+}
+
+/// The pages at the start.
+pub fn start_pages(alloc: Global, shape: CoreShape) -> Result<Vec<PageCell>, AllocError>
+    ensures { IfOk result (λ v. StartPages shape shape.pages v.items) }
+{
+    let mut pages = Vec::new(alloc);
+    for p in 0..shape.pages {
+        let page = PageCell::new(alloc, shape, p)?;
+        pages.push(page)?;
+    }
+    Ok(pages)
+}
+
+/// The frames at the start.
+pub fn start_frames(alloc: Global, count: u32) -> Result<Vec<[u64; 64]>, AllocError>
+    ensures { IfOk result (λ v. v.items ≡ replicate count (replicate 64 0)) }
+{
+    let mut frames = Vec::new(alloc);
+    for f in 0..count {
+        frames.push([0; 64])?;
+    }
+    Ok(frames)
+}
+
+/// The bundle words at the start.
+pub fn start_bundles(alloc: Global, frames: u32, count: u32) -> Result<Vec<u64>, AllocError>
+    requires { count ≡ (frames + 63) / 64 }
+    ensures { IfOk result (λ v. StartBundles frames count v.items) }
+{
+    let mut bundles = Vec::new(alloc);
+    for g in 0..count {
+        let word = full_bundle(frames, g);
+        bundles.push(word)?;
+    }
+    Ok(bundles)
+}
+
+/// What the actors hold at the start.
+pub fn start_held(alloc: Global, actors: u32, count: u32) -> Result<Vec<FrameSet>, AllocError>
+    ensures { IfOk result (λ v. v.items ≡ replicate actors (replicate count 0)) }
+{
+    let mut held = Vec::new(alloc);
+    for actor in 0..actors {
+        let row = FrameSet::new(alloc, count as usize)?;
+        held.push(row)?;
+    }
+    Ok(held)
+}

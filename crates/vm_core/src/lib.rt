@@ -1,0 +1,22 @@
+//! The buffer manager's core as a pure machine: the words that a pool shares, the events on them, which of them may happen in a state, the
+//! state that each leads to, and what it sees.
+//!
+//! Nothing runs here at the same time as anything else. The running pool is proved against this machine: each of its atomic actions is one
+//! event of it.
+#![tactic(auto)]
+
+mod event;
+mod frames;
+mod initial;
+mod machine;
+mod page;
+mod playing;
+mod words;
+
+pub use event::{CoreShape, Event, Illegal, Mapping, Open, PageAct, ReadIs, Seat, Seen};
+pub use machine::{Core, Memory};
+pub use playing::{ReplayFault, replay};
+pub use words::{Bundle, MAX_VERSION, StateWord, TransWord};
+
+#[cfg(test)]
+mod tests;

@@ -1,0 +1,155 @@
+//! The machine: a pool's pages, frames, bundle words and counters as plain values, and one step.
+//!
+//! It is the rule book of the running pool: which events may happen in a state, the state that each leads to, and what it sees. The events
+//! on frames, bundles and counters stand in the child modules, those on one page in `page`.
+
+ghost use Rattle.std.specs.Prelude.{slice_index, ◌≡◌, ◌<◌, ◌≤◌, IsTrue, ◌↔◌, IfOk};
+ghost use Rattle.vm_core.specs.CoreOf.{ActSteps, CoreFits, Steps};
+ghost use Rattle.vm_core.specs.PageOf.{CoreData, core_of};
+ghost use Rattle.vm_core.specs.Start.{core_start, start};
+ghost use Rattle.vm_core.specs.Step.{Names};
+
+mod bundles;
+mod counters;
+mod frames;
+
+use crate::event::{CoreShape, Event, Illegal, PageAct, Seen};
+use crate::frames::FrameSet;
+use crate::initial::{bundle_count, start_bundles, start_frames, start_held, start_pages};
+use crate::page::PageCell;
+use std::alloc::{AllocError, Global};
+use std::marker::Model;
+use thiserror::Error;
+
+/// There was not enough memory.
+#[derive(Clone, Copy, Debug, Error, PartialEq)]
+#[error("out of memory")]
+pub struct Memory;
+
+impl From<AllocError> for Memory {
+    fn from(_: AllocError) -> Self {
+        Memory
+    }
+}
+
+/// The machine. For contracts it is the state `core_of core` of `specs/State.antt`: its shape, its pages, the words of its frames, its bundle
+/// words, the frames that each actor holds, the next word and the hand.
+#[derive(Drop)]
+pub struct Core {
+    shape: CoreShape,
+    pages: Vec<PageCell>,
+    frames: Vec<[u64; 64]>,
+    bundles: Vec<u64>,
+    held: Vec<FrameSet>,
+    next: u64,
+    hand: u64,
+}
+
+impl Model for Core {
+    ghost Value = { CoreData };
+
+    ghost view = { λ c. record { shape = c.shape; pages = c.pages.items; frames = c.frames.items; bundles = c.bundles.items; held = c.held.items; next = c.next; hand = c.hand } };
+
+    ghost invariant = { λ c. CoreFits (record { shape = c.shape; pages = c.pages.items; frames = c.frames.items; bundles = c.bundles.items; held = c.held.items; next = c.next; hand = c.hand }) };
+}
+
+impl Core {
+    /// The machine at the start: every page is evicted at version 0 with no fault, every frame is free and zero, nobody holds anything, and
+    /// the hand is 0. Block `p` holds the words `64 * p + i` for pages below `shape.next`, and zeros from there on.
+    pub fn new(alloc: Global, shape: CoreShape) -> Result<Self, Memory>
+        requires { shape.next ≤ shape.pages }
+        ensures { IfOk result (λ c. core_of c ≡ start (core_start shape)) }
+    {
+        let count = bundle_count(shape.frames);
+        let pages = start_pages(alloc, shape)?;
+        let frames = start_frames(alloc, shape.frames)?;
+        let bundles = start_bundles(alloc, shape.frames, count)?;
+        let held = start_held(alloc, shape.actors, count)?;
+        Ok(Core {
+            shape,
+            pages,
+            frames,
+            bundles,
+            held,
+            next: u64::from(shape.next),
+            hand: 0,
+        })
+    }
+
+    /// Its shape, with the next word that it had at the start.
+    pub fn shape(&self) -> CoreShape
+        ensures { result ≡ (core_of self.now).shape }
+    {
+        self.shape
+    }
+
+    /// Word `i` of the block of page `p`.
+    pub fn block_word(&self, p: u32, i: u32) -> u64
+        requires page { p < (core_of self.now).shape.pages }
+        requires place { i < 64 }
+        ensures { result ≡ slice_index ((core_of self.now).pages p).block i }
+    {
+        self.pages[p as usize].block_word(i)
+    }
+
+    /// One event. `Illegal` is answered exactly where the event may not happen, with numbers outside the shape among the causes; the machine
+    /// is then as it was. Else it is in the next state, and what the event sees is answered. No memory is taken.
+    pub fn step(&mut self, event: Event) -> Result<Seen, Illegal>
+        ensures { Steps self.old event result self.new }
+    {
+        match event {
+            Event::Look { a, p } => self.on_page(a, p, PageAct::Look),
+            Event::LockX { a, p, expects } => self.on_page(a, p, PageAct::LockX(expects)),
+            Event::LockS { a, p, expects } => self.on_page(a, p, PageAct::LockS(expects)),
+            Event::UnlockS { a, p } => self.on_page(a, p, PageAct::UnlockS),
+            Event::Mark { a, p, expects } => self.on_page(a, p, PageAct::Mark(expects)),
+            Event::Unmark { a, p, expects } => self.on_page(a, p, PageAct::Unmark(expects)),
+            Event::LockW { a, p, expects } => self.on_page(a, p, PageAct::LockW(expects)),
+            Event::Upgrade { a, p, expects } => self.on_page(a, p, PageAct::Upgrade(expects)),
+            Event::Release { a, p } => self.on_page(a, p, PageAct::Release),
+            Event::ReleaseE { a, p } => self.on_page(a, p, PageAct::ReleaseE),
+            Event::Downgrade { a, p } => self.on_page(a, p, PageAct::Downgrade),
+            Event::TLoad { a, p } => self.on_page(a, p, PageAct::TLoad),
+            Event::Install { a, p, f } => self.install(a, p, f),
+            Event::Clear { a, p } => self.clear(a, p),
+            Event::Dirty { a, p } => self.on_page(a, p, PageAct::Dirty),
+            Event::Clean { a, p } => self.on_page(a, p, PageAct::Clean),
+            Event::Load { a, p, i } => self.load(a, p, i),
+            Event::Store { a, f, i, w } => self.store(a, f, i, w),
+            Event::BLoad { a, g } => self.bundle_load(a, g),
+            Event::Take {
+                a,
+                g,
+                expects,
+                mask,
+            } => self.take(a, g, expects, mask),
+            Event::Give { a, g, mask } => self.give(a, g, mask),
+            Event::Read { a, p } => self.on_page(a, p, PageAct::Read),
+            Event::RFail { a, p } => self.on_page(a, p, PageAct::RFail),
+            Event::Write { a, p } => self.on_page(a, p, PageAct::Write),
+            Event::WFail { a, p } => self.on_page(a, p, PageAct::WFail),
+            Event::Raise { a, p } => self.on_page(a, p, PageAct::Raise),
+            Event::NLoad { a } => self.next_load(a),
+            Event::Claim { a, x, n } => self.claim(a, x, n),
+            Event::Hand { a } => self.hand(a),
+        }
+    }
+
+    /// Whether the numbers name an actor and a page.
+    fn names(&self, a: u32, p: u32) -> bool
+        ensures { IsTrue result ↔ Names (core_of self.now) a p }
+    {
+        a < self.shape.actors && p < self.shape.pages
+    }
+
+    /// An event on one page alone.
+    fn on_page(&mut self, a: u32, p: u32, act: PageAct) -> Result<Seen, Illegal>
+        ensures { ActSteps self.old a p act result self.new }
+    {
+        if !self.names(a, p) {
+            return Err(Illegal);
+        }
+        let page = &mut self.pages[p as usize];
+        page.act(a as usize, act, &self.frames)
+    }
+}

@@ -1,0 +1,126 @@
+//! The frame under a page: put there, taken away, made dirty and clean.
+
+ghost use Rattle.std.specs.Prelude.{◌≡◌, ◌<◌, IsTrue, true, [], length, ◌↔◌};
+ghost use Rattle.vm_core.specs.CoreOf.{ClearFrame, PageSteps};
+ghost use Rattle.vm_core.specs.FrameActs.{HoldsAt, MayClean, MayDirty, MayInstall, cleared, installed, with_dirty};
+ghost use Rattle.vm_core.specs.PageOf.{page_of, words_of};
+
+use crate::event::{Illegal, Mapping, PageAct, Seen};
+use crate::frames::frame_words;
+use crate::page::PageCell;
+
+#[tactic(auto, using(crate::proofs::At::at_set, crate::proofs::At::seat_here))]
+impl PageCell {
+    /// Whether the actor may put a frame with these words under the page.
+    pub fn may_install(&self, a: usize, words: &[u64; 64]) -> bool
+        requires { a < length self.now.seats }
+        ensures { IsTrue result ↔ MayInstall true (page_of self.now) a words.now }
+    {
+        if !self.seats[a].exclusive || self.trans.is_some() {
+            return false;
+        }
+        words.as_slice() == self.block.as_slice()
+    }
+
+    /// The frame is put under the page, clean.
+    pub fn install(&mut self, f: u32)
+        ensures page { page_of self.new ≡ installed (page_of self.old) f }
+        ensures seats { self.new.seats ≡ self.old.seats }
+    {
+        self.trans = Some(Mapping {
+            frame: f,
+            dirty: false,
+        });
+    }
+
+    /// The frame of a page that the actor may clear: it holds the page exclusively, and the page is clean.
+    pub fn clear_frame(&self, a: usize) -> Option<u32>
+        requires { a < length self.now.seats }
+        ensures { ClearFrame (page_of self.now) a result }
+    {
+        match self.trans {
+            Some(mapping) if self.seats[a].exclusive && !mapping.dirty => Some(mapping.frame),
+            _ => None,
+        }
+    }
+
+    /// The page is taken out of its frame.
+    pub fn clear(&mut self)
+        ensures page { page_of self.new ≡ cleared (page_of self.old) }
+        ensures seats { self.new.seats ≡ self.old.seats }
+    {
+        self.trans = None;
+    }
+
+    /// Whether the actor holds the page exclusively, dirty, in this frame.
+    pub fn writes_to(&self, a: usize, f: u32) -> bool
+        requires { a < length self.now.seats }
+        ensures { IsTrue result ↔ HoldsAt (page_of self.now) a f true }
+    {
+        match self.trans {
+            Some(mapping) => self.seats[a].exclusive && mapping.frame == f && mapping.dirty,
+            None => false,
+        }
+    }
+
+    /// Whether the actor holds the page exclusively, and it is resident.
+    pub fn may_dirty(&self, a: usize) -> bool
+        requires { a < length self.now.seats }
+        ensures { IsTrue result ↔ MayDirty (page_of self.now) a }
+    {
+        self.seats[a].exclusive && self.trans.is_some()
+    }
+
+    /// The page is made dirty.
+    pub(super) fn try_dirty(&mut self, a: usize) -> Result<Seen, Illegal>
+        requires { a < length self.old.seats }
+        ensures step { PageSteps [] self.old a PageAct.Dirty result self.new }
+        ensures seats { length self.new.seats ≡ length self.old.seats }
+    {
+        if !self.may_dirty(a) {
+            return Err(Illegal);
+        }
+        self.trans = with_dirty(true, self.trans);
+        Ok(Seen::Done)
+    }
+
+    /// Whether the actor writes the page back, and the block has the words of its frame.
+    fn may_clean(&self, a: usize, frames: &[[u64; 64]]) -> bool
+        requires { a < length self.now.seats }
+        ensures { IsTrue result ↔ MayClean true (words_of frames.now) (page_of self.now) a }
+    {
+        if !self.seats[a].writing {
+            return false;
+        }
+        match self.trans {
+            None => false,
+            Some(mapping) => {
+                let words = frame_words(frames, mapping.frame);
+                self.block.as_slice() == words.as_slice()
+            }
+        }
+    }
+
+    /// The page is made clean.
+    pub(super) fn try_clean(&mut self, a: usize, frames: &[[u64; 64]]) -> Result<Seen, Illegal>
+        requires { a < length self.old.seats }
+        ensures step { PageSteps frames.now self.old a PageAct.Clean result self.new }
+        ensures seats { length self.new.seats ≡ length self.old.seats }
+    {
+        if !self.may_clean(a, frames) {
+            return Err(Illegal);
+        }
+        self.trans = with_dirty(false, self.trans);
+        Ok(Seen::Done)
+    }
+}
+
+/// The translation made dirty or clean.
+fn with_dirty(dirty: bool, trans: Option<Mapping>) -> Option<Mapping>
+    ensures { result ≡ with_dirty dirty trans }
+{
+    match trans {
+        None => None,
+        Some(mapping) => Some(Mapping { dirty, ..mapping }),
+    }
+}

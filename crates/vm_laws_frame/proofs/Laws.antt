@@ -1,0 +1,152 @@
+-- Each event on translations and frames keeps the invariant.
+use Rattle.std.proofs.Common.{ℕ, ◌≡◌, refl, sym, ap, subst, ◌∙◌, ⊎_elim, Bool, true, false, eqb, cond, length}
+use Rattle.std.proofs.lemmas.List.{length-set}
+use Rattle.std.proofs.lemmas.Bool.{cases_Bool, true≢false, eqb-true, eq-eqb, ne_eqb, and_from, and_right}
+use Rattle.vm_core.specs.declared.event.Event.TheVariants.{TLoad, Install, Clear, Dirty, Clean, Load, Store, BLoad, Take, Give}
+use Rattle.vm_core.specs.Fn.{upd}
+use Rattle.vm_core.specs.Words.{is_free, in_mask}
+use Rattle.vm_core.specs.State.{Page, State}
+use Rattle.vm_core.specs.FrameActs.{HoldsAt, stands_in, installed, cleared, gains}
+use Rattle.vm_core.specs.History.{World}
+use Rattle.vm_core.specs.Inv.{Keeps, Inv, FrameInv, PageInv, at_actor, at_page}
+use Rattle.vm_core.specs.Inv.Place.{Free, Held, Mapped}
+use Rattle.vm_core.specs.Step.{Legal}
+use Rattle.vm_core.proofs.Upd.{upd-same, upd-other, upd-keeps, upd-map, each-upd}
+use Rattle.vm_core.proofs.Whole.{frame-same, page-alone, pages-page}
+use Rattle.vm_laws_frame.proofs.Bits.{taken-free, given-free}
+use Rattle.vm_laws_frame.proofs.Dirty.{dirty-stands, dirtied-keeps, cleaned-keeps}
+use Rattle.vm_laws_frame.proofs.Places.{mapped-place, frame-install, frame-clear, frame-take, frame-give}
+use Rattle.vm_laws_frame.proofs.Put.{installed-keeps, cleared-keeps}
+use Rattle.vm_laws_frame.proofs.Read.{frame_read-keeps, loaded-keeps}
+use Rattle.vm_laws_frame.proofs.Store.{store-here, store-elsewhere}
+
+pub translation_load_law : (w : World) (a p : ℕ) → Keeps w (TLoad a p)
+translation_load_law w a p i m = page-alone w p _ i (λ _. refl) (frame_read-keeps a (i.pages p))
+
+pub dirty_law : (w : World) (a p : ℕ) → Keeps w (Dirty a p)
+dirty_law w a p i m = page-alone w p _ i (dirty-stands true (w.core.pages p).trans) (dirtied-keeps a (i.pages p) m.1)
+
+pub clean_law : (w : World) (a p : ℕ) → Keeps w (Clean a p)
+clean_law w a p i m = page-alone w p _ i (dirty-stands false (w.core.pages p).trans) (cleaned-keeps a (i.pages p) m.1)
+
+pub load_law : (w : World) (a p n : ℕ) → Keeps w (Load a p n)
+load_law w a p n i m =
+    record {
+      place = i.place;
+      frames = i.frames;
+      words = i.words;
+      next = i.next;
+      pages = each-upd (λ q y. PageInv w.core.shape.actors w.core.tells w.core.words (w.core.pages q) (w.histories q) y) w.loads p _ (loaded-keeps a n (i.pages p)) (λ q _. i.pages q);
+    }
+
+pub bundle_load_law : (w : World) (a g : ℕ) → Keeps w (BLoad a g)
+bundle_load_law w a g i m = i
+
+-- the frames of one actor, seen at one frame
+row-at : (held : ℕ → ℕ → Bool) (a f : ℕ) (row : ℕ → Bool) (v : Bool) → row f ≡ v → (b : ℕ) → upd held a row b f ≡ upd (λ c. held c f) a v b
+row-at held a f row v e b = upd-map (λ y. y f) held a row b ∙ ap (λ x. upd (λ c. held c f) a x b) e
+
+-- the pages that stand in one frame, after a change of one page
+stands-at : (pages : ℕ → Page) (p f : ℕ) (r : Page) (v : Bool) → stands_in r.trans f ≡ v → (q : ℕ) → stands_in (upd pages p r q).trans f ≡ upd (λ s. stands_in (pages s).trans f) p v q
+stands-at pages p f r v e q = upd-map (λ y. stands_in y.trans f) pages p r q ∙ ap (λ x. upd (λ s. stands_in (pages s).trans f) p x q) e
+
+pub install_law : (w : World) (a p f : ℕ) → Keeps w (Install a p f)
+install_law w a p f i m =
+    let c : State = w.core in
+    let row : ℕ → Bool = upd (c.held a) f false in
+    let r : Page = installed (c.pages p) f in
+    record {
+      place = upd i.place f (Mapped p);
+      frames = each-upd (λ g x. FrameInv c.shape.actors c.shape.pages c.shape.frames g (is_free c.bundles g) (λ b. upd c.held a row b g) (λ q. stands_in (upd c.pages p r q).trans g) x) i.place f (Mapped p)
+          (frame-same refl (row-at c.held a f row false (upd-same (c.held a) f false)) (stands-at c.pages p f r true (eq-eqb f f refl))
+          (frame-install a p m.names.page m.frame m.holds (i.frames f)))
+          (λ g ne. frame-same refl
+          (λ b. upd-keeps (λ y. y g) c.held a row (upd-other (c.held a) f false g ne) b)
+          (λ q. upd-keeps (λ y. stands_in y.trans g) c.pages p r (ne_eqb f g (λ s. ne (sym s)) ∙ sym (ap (λ t. stands_in t g) m.page.empty)) q)
+          (i.frames g));
+      words = i.words;
+      next = i.next;
+      pages = pages-page c w.histories w.loads p r i.pages (installed-keeps a f (i.pages p) m.page);
+    }
+
+pub clear_law : (w : World) (a p : ℕ) → Keeps w (Clear a p)
+clear_law w a p i m =
+    let c : State = w.core in
+    let f : ℕ = m.1.0 in
+    let at : HoldsAt (c.pages p) a f false = m.1.1 in
+    let row : ℕ → Bool = gains (c.held a) (c.pages p).trans in
+    let row-is : row ≡ upd (c.held a) f true = ap (gains (c.held a)) at.stands in
+    let r : Page = cleared (c.pages p) in
+    record {
+      place = upd i.place f (Held a);
+      frames = each-upd (λ g x. FrameInv c.shape.actors c.shape.pages c.shape.frames g (is_free c.bundles g) (λ b. upd c.held a row b g) (λ q. stands_in (upd c.pages p r q).trans g) x) i.place f (Held a)
+          (frame-same refl (row-at c.held a f row true (ap (λ y. y f) row-is ∙ upd-same (c.held a) f true)) (stands-at c.pages p f r false refl)
+          (frame-clear a p m.0.actor (ap (λ t. stands_in t f) at.stands ∙ eq-eqb f f refl) (i.frames f)))
+          (λ g ne. frame-same refl
+          (λ b. upd-keeps (λ y. y g) c.held a row (ap (λ y. y g) row-is ∙ upd-other (c.held a) f true g ne) b)
+          (λ q. upd-keeps (λ y. stands_in y.trans g) c.pages p r (sym (ap (λ t. stands_in t g) at.stands ∙ ne_eqb f g (λ s. ne (sym s)))) q)
+          (i.frames g));
+      words = i.words;
+      next = i.next;
+      pages = pages-page c w.histories w.loads p r i.pages (cleared-keeps a (i.pages p) m.1);
+    }
+
+-- a page whose holder may store into the frame
+stored-page : (w : World) (a f n x q : ℕ) → Inv w → Legal w.core (Store a f n x) → stands_in (w.core.pages q).trans f ≡ true → HoldsAt (w.core.pages q) a f true
+stored-page w a f n x q i m s =
+    let mapped : i.place f ≡ Mapped q = mapped-place (i.place f) q (sym ((i.frames f).mapped q) ∙ s) in
+    ⊎_elim
+    (λ held. absurd (true≢false (sym held ∙ (i.frames f).holds a ∙ ap (λ y. at_actor y a) mapped)))
+    (λ t. let at : HoldsAt (w.core.pages t.0) a f true = t.2 in
+    let there : stands_in (w.core.pages t.0).trans f ≡ true = ap (λ y. stands_in y f) at.stands ∙ eq-eqb f f refl in
+    let same : t.0 ≡ q = eqb-true t.0 q (sym ((i.frames f).mapped t.0 ∙ ap (λ y. at_page y t.0) mapped) ∙ there) in
+    subst (λ y. HoldsAt (w.core.pages y) a f true) same at)
+    m.owns
+
+pub store_law : (w : World) (a f n x : ℕ) → Keeps w (Store a f n x)
+store_law w a f n x i m =
+    record {
+      place = i.place;
+      frames = i.frames;
+      words = each-upd (λ g ws. length ws ≡ 64) w.core.words f _ (length-set (w.core.words f) n x ∙ i.words f) (λ g _. i.words g);
+      next = i.next;
+      pages = λ q. ⊎_elim
+          (λ s. let at : HoldsAt (w.core.pages q) a f true = stored-page w a f n x q i m s in
+          rw (and_from ((w.core.pages q).seats a).exclusive (stands_in (w.core.pages q).trans f) at.owns s)
+          (store-here a f n x at (i.pages q)))
+          (λ s. rw (and_right ((w.core.pages q).seats a).exclusive (stands_in (w.core.pages q).trans f) s)
+          (store-elsewhere f _ s (i.pages q)))
+          (cases_Bool (stands_in (w.core.pages q).trans f));
+    }
+
+pub take_law : (w : World) (a g expects mask : ℕ) → Keeps w (Take a g expects mask)
+take_law w a g expects mask i m =
+    let c : State = w.core in
+    ⊎_elim
+    (λ e. rw e (record {
+      place = λ f. cond (in_mask g mask f) (Held a) (i.place f);
+      frames = λ f. ⊎_elim
+          (λ t. rw (t.0) (frame-same t.2 (λ b. refl) (λ q. refl)
+          (frame-take {hs = λ b. c.held b f} a m.names.actor (subst (λ y. FrameInv c.shape.actors c.shape.pages c.shape.frames f y (λ b. c.held b f) (λ q. stands_in (c.pages q).trans f) (i.place f)) t.1 (i.frames f)))))
+          (λ t. rw (t.0) (frame-same t.1 (λ b. rw (and_right (eqb b a) false refl) refl) (λ q. refl) (i.frames f)))
+          (taken-free c.bundles g expects mask f (eqb-true _ _ e) m.among);
+      words = i.words;
+      next = i.next;
+      pages = i.pages;
+    }))
+    (λ e. rw e i)
+    (cases_Bool (eqb (c.bundles g) expects))
+
+pub give_law : (w : World) (a g mask : ℕ) → Keeps w (Give a g mask)
+give_law w a g mask i m =
+    let c : State = w.core in
+    record {
+      place = λ f. cond (in_mask g mask f) Free (i.place f);
+      frames = λ f. ⊎_elim
+          (λ t. rw (t.0) (frame-same t.1 (λ b. refl) (λ q. refl) (frame-give {hs = λ b. c.held b f} a (m.holds f t.0) (i.frames f))))
+          (λ t. rw (t.0) (frame-same t.1 (λ b. rw (and_right (eqb b a) false refl) refl) (λ q. refl) (i.frames f)))
+          (given-free c.bundles g mask f);
+      words = i.words;
+      next = i.next;
+      pages = i.pages;
+    }

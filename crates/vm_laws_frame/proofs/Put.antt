@@ -1,0 +1,63 @@
+-- A page that is put into a frame, or taken out of it, keeps what holds of it.
+use Rattle.std.proofs.Common.{ℕ, ◌≡◌, refl, sym, subst, ◌∙◌, arith, Bool, false, List, Some, None, Option}
+use Rattle.vm_core.specs.declared.event.Mapping.{Mapping}
+use Rattle.vm_core.specs.declared.event.Open.{Open}
+use Rattle.vm_core.specs.Words.{LOCKED}
+use Rattle.vm_core.specs.State.{Page}
+use Rattle.vm_core.specs.FrameActs.{MayInstall, installed, MayClear, cleared}
+use Rattle.vm_core.specs.History.{History}
+use Rattle.vm_core.specs.Inv.{PageInv, StandsInv, ReadInv}
+use Rattle.vm_core.proofs.Locks.{locked-from_owner}
+use Rattle.vm_core.proofs.PageFacts.{none-some, some-same}
+
+-- a locked page, wherever it stands
+locked-stands : {state version : ℕ} → {trans : Option Mapping} → {h : History} → (next : Option Mapping) → state ≡ LOCKED → StandsInv state version trans h → StandsInv state version next h
+locked-stands {state} {version} {trans} {h} next locked i =
+    record { last = i.last; resident = λ ne. absurd (ne locked); evicted = λ q. absurd (omega arith) }
+
+locked-read : {words : ℕ → List ℕ} → {state version : ℕ} → {trans : Option Mapping} → {o : Option Open} → {l : List (ℕ × ℕ)} → (next : Option Mapping) → state ≡ LOCKED → ReadInv words state version trans o l → ReadInv words state version next o l
+locked-read {words} {state} {version} {trans} {o} {l} next locked i =
+    record { old = i.old; evicted = λ q. absurd (omega arith); current = λ ne. absurd (ne locked) }
+
+-- in the only frame that the page can stand in
+in-frame : (f : ℕ) (m : Mapping) (P : Mapping → Type 0) → P (record { frame = f; dirty = false }) → Some (record { frame = f; dirty = false }) ≡ Some m → P m
+in-frame f m P x e = subst P (some-same _ m e) x
+
+pub installed-keeps : {actors : ℕ} → {tells : Bool} → {words : ℕ → List ℕ} → {r : Page} → {h : History} → {l : ℕ → List (ℕ × ℕ)} → (a f : ℕ) → PageInv actors tells words r h l → MayInstall tells r a (words f) → PageInv actors tells words (installed r f) h l
+installed-keeps {actors} {tells} {words} {r} {h} {l} a f i m =
+    let locked : r.state ≡ LOCKED = locked-from_owner i.locks a m.owns in
+    record {
+      locks = i.locks;
+      stands = locked-stands _ locked i.stands;
+      sizes = i.sizes;
+      contents = λ t. let same : (h.draft ≡ h.last.words) × (r.block ≡ h.last.words) = (i.contents t).unwritten locked (λ m' e. absurd (none-some m' (sym m.empty ∙ e))) in
+          record {
+            clean = λ m' e _. in-frame f m' (λ y. words y.frame ≡ r.block) (m.loaded t) e;
+            logical = λ ne. absurd (ne locked);
+            draft = λ _ m' e. in-frame f m' (λ y. words y.frame ≡ h.draft) (m.loaded t ∙ same.1 ∙ sym same.0) e;
+            unwritten = λ _ _. same;
+            device = λ q. absurd (omega arith);
+            size = (i.contents t).size;
+          };
+      faults = i.faults;
+      reads = λ b. locked-read _ locked (i.reads b);
+    }
+
+pub cleared-keeps : {actors : ℕ} → {tells : Bool} → {words : ℕ → List ℕ} → {r : Page} → {h : History} → {l : ℕ → List (ℕ × ℕ)} → (a : ℕ) → PageInv actors tells words r h l → MayClear r a → PageInv actors tells words (cleared r) h l
+cleared-keeps {actors} {tells} {words} {r} {h} {l} a i m =
+    let locked : r.state ≡ LOCKED = locked-from_owner i.locks a m.1.owns in
+    record {
+      locks = i.locks;
+      stands = locked-stands None locked i.stands;
+      sizes = i.sizes;
+      contents = λ t. record {
+        clean = λ m' e. absurd (none-some m' e);
+        logical = λ _ m' e. absurd (none-some m' e);
+        draft = λ _ m' e. absurd (none-some m' e);
+        unwritten = λ _ _. (i.contents t).unwritten locked (λ m' e. in-frame m.0 m' (λ y. y.dirty ≡ false) refl (sym m.1.stands ∙ e));
+        device = λ q. absurd (omega arith);
+        size = (i.contents t).size;
+      };
+      faults = i.faults;
+      reads = λ b. locked-read None locked (i.reads b);
+    }

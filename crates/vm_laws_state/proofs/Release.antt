@@ -1,0 +1,55 @@
+-- A page given up by its exclusive holder, in its three forms, keeps what holds of it.
+use Rattle.std.proofs.Common.{ℕ, ◌≡◌, ◌+◌, ◌<◌, refl, sym, ap, ◌∙◌, arith, Bool, List}
+use Rattle.vm_core.specs.Words.{UNLOCKED, LOCKED, EVICTED}
+use Rattle.vm_core.specs.State.{Page}
+use Rattle.vm_core.specs.StateActs.{MayRelease, released, MayEmpty, emptied, downgraded}
+use Rattle.vm_core.specs.History.{History, appended}
+use Rattle.vm_core.specs.Inv.{PageInv, WordsInv}
+use Rattle.vm_core.proofs.Locks.{locked-from_owner, locks-release, locks-empty, locks-downgrade}
+use Rattle.vm_core.proofs.PageFacts.{none-some, reads-keep}
+use Rattle.vm_core.proofs.PageMoves.{stands-release, sizes-release, contents-release, read-release}
+
+pub released-keeps : {actors : ℕ} → {tells : Bool} → {words : ℕ → List ℕ} → {r : Page} → {h : History} → {l : ℕ → List (ℕ × ℕ)} → (a : ℕ) → PageInv actors tells words r h l → MayRelease r a → PageInv actors tells words (released r a) (appended h) l
+released-keeps {actors} {tells} {words} {r} {h} {l} a i m =
+    let locked : r.state ≡ LOCKED = locked-from_owner i.locks a m.owns in
+    record {
+      locks = locks-release actors r.state r.version r.seats a m.owns i.locks;
+      stands = stands-release m.resident (omega arith) i.stands;
+      sizes = sizes-release locked (omega arith) i.sizes;
+      contents = λ t. contents-release locked (omega arith) (omega arith) (i.contents t);
+      faults = λ _ _. m.told;
+      reads = reads-keep words UNLOCKED (r.version + 1) r.trans r.seats l a _ refl (λ b. read-release UNLOCKED (i.reads b));
+    }
+
+pub downgraded-keeps : {actors : ℕ} → {tells : Bool} → {words : ℕ → List ℕ} → {r : Page} → {h : History} → {l : ℕ → List (ℕ × ℕ)} → (a : ℕ) → a < actors → PageInv actors tells words r h l → MayRelease r a → PageInv actors tells words (downgraded r a) (appended h) l
+downgraded-keeps {actors} {tells} {words} {r} {h} {l} a lt i m =
+    let locked : r.state ≡ LOCKED = locked-from_owner i.locks a m.owns in
+    record {
+      locks = locks-downgrade actors r.state r.version r.seats a lt m.owns i.locks;
+      stands = stands-release m.resident (omega arith) i.stands;
+      sizes = sizes-release locked (omega arith) i.sizes;
+      contents = λ t. contents-release locked (omega arith) (omega arith) (i.contents t);
+      faults = λ _ _. m.told;
+      reads = reads-keep words 1 (r.version + 1) r.trans r.seats l a _ refl (λ b. read-release 1 (i.reads b));
+    }
+
+pub emptied-keeps : {actors : ℕ} → {tells : Bool} → {words : ℕ → List ℕ} → {r : Page} → {h : History} → {l : ℕ → List (ℕ × ℕ)} → (a : ℕ) → PageInv actors tells words r h l → MayEmpty r a → PageInv actors tells words (emptied r a) (appended h) l
+emptied-keeps {actors} {tells} {words} {r} {h} {l} a i m =
+    let locked : r.state ≡ LOCKED = locked-from_owner i.locks a m.owns in
+    record {
+      locks = locks-empty actors r.state r.version r.seats a m.owns i.locks;
+      stands = record { last = ap (λ v. v + 1) i.stands.last; resident = λ _ ne. absurd (ne refl); evicted = λ _. m.empty };
+      sizes = sizes-release locked (omega arith) i.sizes;
+      contents = λ t. let c : WordsInv words r.state r.trans r.block h = i.contents t in
+          let same : (h.draft ≡ h.last.words) × (r.block ≡ h.last.words) = c.unwritten locked (λ m' e. absurd (none-some m' (sym m.empty ∙ e))) in
+          record {
+            clean = c.clean;
+            logical = λ _. c.draft locked;
+            draft = λ q. absurd (omega arith);
+            unwritten = λ q. absurd (omega arith);
+            device = λ _. same.1 ∙ sym same.0;
+            size = c.size;
+          };
+      faults = λ _ _. m.told;
+      reads = reads-keep words EVICTED (r.version + 1) r.trans r.seats l a _ refl (λ b. read-release EVICTED (i.reads b));
+    }

@@ -1,0 +1,47 @@
+-- A shared lock, plain or for write-back, keeps what holds of a page.
+use Rattle.std.proofs.Common.{ℕ, ◌≡◌, ◌≢◌, ◌<◌, refl, sym, ap, ◌∙◌, arith, Bool, true, List, []}
+use Rattle.std.proofs.lemmas.Bool.{true≢false}
+use Rattle.std.proofs.lemmas.Bool.Decides.{nat_tests}
+use Rattle.vm_core.specs.Fn.{upd}
+use Rattle.vm_core.specs.Words.{LOCKED, MARKED, EVICTED, state_of, version_of}
+use Rattle.vm_core.specs.State.{Page}
+use Rattle.vm_core.specs.StateActs.{finds, MayShare, shared, write_locked}
+use Rattle.vm_core.specs.History.{History}
+use Rattle.vm_core.specs.Inv.{PageInv}
+use Rattle.vm_core.proofs.Upd.{upd-same}
+use Rattle.vm_core.proofs.Locks.{locks-share, locks-write_lock}
+use Rattle.vm_core.proofs.PageFacts.{found, faults-seat, no-read, reads-seat}
+use Rattle.vm_core.proofs.PageMoves.{stands-open, sizes-open, contents-open, read-open}
+
+pub shared-keeps : {actors : ℕ} → {tells : Bool} → {words : ℕ → List ℕ} → {r : Page} → {h : History} → {l : ℕ → List (ℕ × ℕ)} → (a expects : ℕ) → a < actors → PageInv actors tells words r h l → MayShare expects → finds r expects ≡ true → PageInv actors tells words (shared r a) h (upd l a [])
+shared-keeps {actors} {tells} {words} {r} {h} {l} a expects lt i m e =
+    let f : (r.state ≡ state_of expects) × (r.version ≡ version_of expects) = found r expects e in
+    let sl : r.state ≢ LOCKED = grind (arith, m, f) in
+    let se : r.state ≢ EVICTED = grind (arith, m, f) in
+    let after : (shared r a).state < LOCKED = grind (arith, m, f, nat_tests) in
+    let tl : (shared r a).state ≢ LOCKED = omega arith in
+    let te : (shared r a).state ≢ EVICTED = omega arith in
+    record {
+      locks = locks-share actors r.state r.version r.seats a lt (rw f.0 m) i.locks;
+      stands = stands-open sl se te i.stands;
+      sizes = sizes-open tl i.sizes;
+      contents = λ t. contents-open sl tl te (i.contents t);
+      faults = faults-seat (shared r a).state r.fault r.count r.seats a _ refl (λ _. i.faults sl);
+      reads = reads-seat words (shared r a).state r.version r.trans r.seats l a _ [] (no-read words (shared r a).state r.version r.trans [])
+          (λ b. read-open sl se te (i.reads b));
+    }
+
+pub write_locked-keeps : {actors : ℕ} → {tells : Bool} → {words : ℕ → List ℕ} → {r : Page} → {h : History} → {l : ℕ → List (ℕ × ℕ)} → (a expects : ℕ) → a < actors → PageInv actors tells words r h l → state_of expects ≡ MARKED → finds r expects ≡ true → PageInv actors tells words (write_locked r a) h (upd l a [])
+write_locked-keeps {actors} {tells} {words} {r} {h} {l} a expects lt i m e =
+    let u : r.state ≡ MARKED = (found r expects e).0 ∙ m in
+    let sl : r.state ≢ LOCKED = omega arith in
+    let se : r.state ≢ EVICTED = omega arith in
+    record {
+      locks = locks-write_lock actors r.state r.version r.seats a lt u i.locks;
+      stands = stands-open sl se (omega arith) i.stands;
+      sizes = sizes-open (omega arith) i.sizes;
+      contents = λ t. contents-open sl (omega arith) (omega arith) (i.contents t);
+      faults = λ _ q. absurd (true≢false (sym (ap (λ s. s.writing) (upd-same r.seats a _)) ∙ q a));
+      reads = reads-seat words 1 r.version r.trans r.seats l a _ [] (no-read words 1 r.version r.trans [])
+          (λ b. read-open sl se (omega arith) (i.reads b));
+    }

@@ -1,0 +1,64 @@
+-- A share given up, a mark set or taken away keep what holds of a page.
+use Rattle.std.proofs.Common.{ℕ, ◌≡◌, ◌≢◌, ◌-◌, ◌<◌, ◌≤◌, ◌⊎◌, refl, sym, ap, ◌∙◌, inl, inr, ⊎_elim, arith, Bool, true, false, List}
+use Rattle.std.proofs.lemmas.Bool.{cases_eq, cases_Bool, cond-false, ne_eqb, true≢false}
+use Rattle.vm_core.specs.declared.event.Seat.{Seat}
+use Rattle.vm_core.specs.Fn.{sum_below}
+use Rattle.vm_core.specs.Words.{UNLOCKED, LOCKED, MARKED, EVICTED, state_of}
+use Rattle.vm_core.specs.State.{Page}
+use Rattle.vm_core.specs.StateActs.{finds, MayUnlock, unlocked, unshared, marked, unmarked}
+use Rattle.vm_core.specs.History.{History}
+use Rattle.vm_core.specs.Inv.{PageInv}
+use Rattle.vm_core.proofs.Upd.{upd-same, upd-other}
+use Rattle.vm_core.proofs.Locks.{locks-unlock, locks-mark, sum_below-at, shared-state}
+use Rattle.vm_core.proofs.PageFacts.{found, reads-keep}
+use Rattle.vm_core.proofs.PageMoves.{stands-open, sizes-open, contents-open, read-open}
+
+-- a write-back that ended did so with the last share
+last-share : (s : Seat) → s.writing ≡ true → (unshared s).writing ≡ false → s.shares ≡ 1
+last-share s w e =
+    ⊎_elim (λ q. q)
+    (λ ne. absurd (true≢false (sym w ∙ sym (cond-false _ false s.writing (ne_eqb s.shares 1 ne)) ∙ e)))
+    (cases_eq s.shares 1)
+
+pub unlocked-keeps : {actors : ℕ} → {tells : Bool} → {words : ℕ → List ℕ} → {r : Page} → {h : History} → {l : ℕ → List (ℕ × ℕ)} → (a : ℕ) → a < actors → PageInv actors tells words r h l → MayUnlock r a → PageInv actors tells words (unlocked r a) h l
+unlocked-keeps {actors} {tells} {words} {r} {h} {l} a lt i m =
+    let sum : (r.seats a).shares ≤ sum_below actors (λ b. (r.seats b).shares) = sum_below-at actors (λ b. (r.seats b).shares) a lt in
+    let s : (1 ≤ r.state) × (r.state < LOCKED) = shared-state r.state (sum_below actors (λ b. (r.seats b).shares)) (omega (arith, m.has)) i.locks.shares in
+    let sl : r.state ≢ LOCKED = omega arith in
+    let se : r.state ≢ EVICTED = omega arith in
+    let tl : r.state - 1 ≢ LOCKED = omega arith in
+    let te : r.state - 1 ≢ EVICTED = omega arith in
+    record {
+      locks = locks-unlock actors r.state r.version r.seats a lt m.has i.locks;
+      stands = stands-open sl se te i.stands;
+      sizes = sizes-open tl i.sizes;
+      contents = λ t. contents-open sl tl te (i.contents t);
+      faults = λ _ q. ⊎_elim
+          (λ w. m.told w (last-share (r.seats a) w (sym (ap (λ s. s.writing) (upd-same r.seats a (unshared (r.seats a)))) ∙ q a)))
+          (λ f. i.faults sl (λ b. ⊎_elim (λ e. ap (λ c. (r.seats c).writing) e ∙ f)
+          (λ ne. sym (ap (λ s. s.writing) (upd-other r.seats a (unshared (r.seats a)) b ne)) ∙ q b) (cases_eq b a)))
+          (cases_Bool (r.seats a).writing);
+      reads = reads-keep words (r.state - 1) r.version r.trans r.seats l a (unshared (r.seats a)) refl (λ b. read-open sl se te (i.reads b));
+    }
+
+-- a page without shares whose mark is set or taken away
+remarked-keeps : {actors : ℕ} → {tells : Bool} → {words : ℕ → List ℕ} → {r : Page} → {h : History} → {l : ℕ → List (ℕ × ℕ)} → (next : ℕ) → PageInv actors tells words r h l → (r.state ≡ UNLOCKED) ⊎ (r.state ≡ MARKED) → (next ≡ UNLOCKED) ⊎ (next ≡ MARKED) → PageInv actors tells words (record r { state = next }) h l
+remarked-keeps {actors} {tells} {words} {r} {h} {l} next i u n =
+    let sl : r.state ≢ LOCKED = grind (arith, u) in
+    let se : r.state ≢ EVICTED = grind (arith, u) in
+    let tl : next ≢ LOCKED = grind (arith, n) in
+    let te : next ≢ EVICTED = grind (arith, n) in
+    record {
+      locks = locks-mark actors r.state next r.version r.seats u n i.locks;
+      stands = stands-open sl se te i.stands;
+      sizes = sizes-open tl i.sizes;
+      contents = λ t. contents-open sl tl te (i.contents t);
+      faults = λ _. i.faults sl;
+      reads = λ b. read-open sl se te (i.reads b);
+    }
+
+pub marked-keeps : {actors : ℕ} → {tells : Bool} → {words : ℕ → List ℕ} → {r : Page} → {h : History} → {l : ℕ → List (ℕ × ℕ)} → (expects : ℕ) → PageInv actors tells words r h l → state_of expects ≡ UNLOCKED → finds r expects ≡ true → PageInv actors tells words (marked r) h l
+marked-keeps {actors} {tells} {words} {r} {h} {l} expects i m e = remarked-keeps MARKED i (inl ((found r expects e).0 ∙ m)) (inr refl)
+
+pub unmarked-keeps : {actors : ℕ} → {tells : Bool} → {words : ℕ → List ℕ} → {r : Page} → {h : History} → {l : ℕ → List (ℕ × ℕ)} → (expects : ℕ) → PageInv actors tells words r h l → state_of expects ≡ MARKED → finds r expects ≡ true → PageInv actors tells words (unmarked r) h l
+unmarked-keeps {actors} {tells} {words} {r} {h} {l} expects i m e = remarked-keeps UNLOCKED i (inr ((found r expects e).0 ∙ m)) (inl refl)

@@ -1,0 +1,42 @@
+// Each public call once, with replies that were worked out by hand.
+use crate::call::{Call, Pair, Reply};
+use crate::plain::PlainMap;
+use std::test::Fail;
+
+#[test]
+fn answers_calls(rt: HostRuntime) -> Result<(), Fail> {
+    let alloc = rt.alloc();
+    let mut map = PlainMap::new(alloc);
+    let last = u64::MAX;
+    for (call, reply) in [
+        (Call::Get { key: 5 }, Reply::Got(None)),
+        (
+            Call::Put {
+                key: last,
+                value: 1,
+            },
+            Reply::Was(None),
+        ),
+        (Call::Put { key: 5, value: 7 }, Reply::Was(None)),
+        (Call::Put { key: 5, value: 8 }, Reply::Was(Some(7))),
+        (Call::Get { key: 5 }, Reply::Got(Some(8))),
+        (Call::Get { key: 6 }, Reply::Got(None)),
+        (Call::Put { key: 6, value: 9 }, Reply::Was(None)),
+        (Call::Del { key: 6 }, Reply::Gone(Some(9))),
+        (Call::Del { key: 6 }, Reply::Gone(None)),
+    ] {
+        assert_eq!(rt; map.apply(&call)?, reply);
+    }
+    let pairs = map.pairs(alloc)?;
+    let wanted = [
+        Pair { key: 5, value: 8 },
+        Pair {
+            key: last,
+            value: 1,
+        },
+    ];
+    assert_eq!(rt; pairs.as_slice(), wanted.as_slice());
+    let again = PlainMap::from_pairs(alloc, pairs.as_slice())?;
+    assert_eq!(rt; again.pairs(alloc)?.as_slice(), wanted.as_slice());
+    Ok(())
+}

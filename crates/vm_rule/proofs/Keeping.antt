@@ -1,0 +1,48 @@
+-- Runs one after another.
+use Rattle.std.proofs.Common.{◌≡◌, true, List, [], ◌∷◌, ◌++◌, refl, sym, ap, subst, ◌∙◌}
+use Rattle.vm_core.specs.declared.event.Event.{Event}
+use Rattle.vm_core.specs.State.{State}
+use Rattle.vm_core.specs.Step.{after, AllLegal, run, RunsTo}
+use Rattle.vm_core.specs.History.{world_run}
+use Rattle.vm_core.specs.Inv.{Inv}
+use Rattle.vm_core.specs.Told.{FrameOnce, FaultsTold, Told}
+use Rattle.vm_core.specs.Start.{Start, IsStart, start, begin, core_start}
+use Rattle.vm_rule.specs.Kept.{KeptFrom, Kept}
+use Rattle.vm_rule.proofs.Runs.{run_law, run-one, run-tells, run-core}
+use Rattle.vm_rule.proofs.Starts.{start_law, core-start}
+use Rattle.vm_rule.proofs.Tells.{told_law}
+
+run-both : (c : State) (xs ys : List Event) → run c (xs ++ ys) ≡ run (run c xs) ys
+run-both c [] ys = refl
+run-both c (x ∷ xs) ys = run-both (after c x) xs ys
+
+legal-both : (c : State) (xs ys : List Event) → AllLegal c xs → AllLegal (run c xs) ys → AllLegal c (xs ++ ys)
+legal-both c [] ys m n = n
+legal-both c (x ∷ xs) ys m n = (m.0, legal-both (after c x) xs ys m.1 n)
+
+runs-both : (c c' c'' : State) (xs ys : List Event) → RunsTo c xs c' → RunsTo c' ys c'' → RunsTo c (xs ++ ys) c''
+runs-both c c' c'' xs ys r s =
+    record {
+      legal = legal-both c xs ys r.legal (subst (λ x. AllLegal x ys) r.state s.legal);
+      state = s.state ∙ ap (λ x. run x ys) r.state ∙ sym (run-both c xs ys);
+    }
+
+-- legal events from a start whose blocks tell their words are kept
+pub kept-run : (s : Start) (events : List Event) (new : State) → IsStart s → s.tells ≡ true → RunsTo (start s) events new → KeptFrom s events new
+kept-run s events new ok t r =
+    let i : Inv (world_run (begin s) events) = run_law (begin s) events (start_law s ok) r.legal in
+    let told : Told (world_run (begin s) events) = told_law (world_run (begin s) events) i in
+    let core : (world_run (begin s) events).core ≡ new = run-core (begin s) events ∙ sym r.state in
+    record {
+      runs = r;
+      core = core;
+      invariant = i;
+      frames = subst FrameOnce core told.frames;
+      device = told.device (run-tells (begin s) events ∙ t);
+      faults = subst FaultsTold core told.faults;
+      reads = run-one (begin s) events t (start_law s ok) r.legal;
+    }
+
+pub kept-more : (old new : State) (done : List Event) → RunsTo old done new → Kept old done new
+kept-more old new done r shape before le b =
+    kept-run (core_start shape) (before ++ done) new (core-start shape le) refl (runs-both (start (core_start shape)) old new before done b r)

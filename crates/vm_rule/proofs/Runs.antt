@@ -1,0 +1,75 @@
+-- Lists of events keep the invariant, and each validated read saw one version.
+use Rattle.std.proofs.Common.{◌≡◌, refl, ◌∙◌, ⊎_elim, true, eqb, List, [], ◌∷◌}
+use Rattle.std.proofs.lemmas.Bool.{cases_Bool}
+use Rattle.vm_core.specs.declared.event.Event.{Event}
+use Rattle.vm_core.specs.declared.event.Event.TheVariants.{Look, LockX, LockS, UnlockS, Mark, Unmark, LockW, Upgrade, Release, ReleaseE, Downgrade, TLoad, Install, Clear, Dirty, Clean, Load, Store, BLoad, Take, Give, Read, RFail, Write, WFail, Raise, NLoad, Claim, Hand}
+use Rattle.vm_core.specs.State.{State}
+use Rattle.vm_core.specs.Step.{AllLegal, after, run}
+use Rattle.vm_core.specs.History.{World, world_after, world_run}
+use Rattle.vm_core.specs.Inv.{Inv, Keeps}
+use Rattle.vm_core.specs.OneVersion.{Validates, AllReadOne}
+use Rattle.vm_laws_state.proofs.Laws.{look_law, lock_exclusive_law, lock_shared_law, unlock_shared_law, mark_law, unmark_law, lock_write_back_law, upgrade_law, release_law, release_evicted_law, downgrade_law}
+use Rattle.vm_laws_state.proofs.Validate.{look_validates, lock_exclusive_validates, lock_shared_validates, lock_write_back_validates, upgrade_validates}
+use Rattle.vm_laws_frame.proofs.Laws.{translation_load_law, install_law, clear_law, dirty_law, clean_law, load_law, store_law, bundle_load_law, take_law, give_law}
+use Rattle.vm_laws_device.proofs.Laws.{read_law, read_fault_law, write_law, write_fault_law, raise_law, next_load_law, claim_law, hand_law}
+
+pub event_law : (w : World) (e : Event) → Keeps w e
+event_law w (Look a p) i m = look_law w a p i m
+event_law w (LockX a p expects) i m = lock_exclusive_law w a p expects i m
+event_law w (LockS a p expects) i m = lock_shared_law w a p expects i m
+event_law w (UnlockS a p) i m = unlock_shared_law w a p i m
+event_law w (Mark a p expects) i m = mark_law w a p expects i m
+event_law w (Unmark a p expects) i m = unmark_law w a p expects i m
+event_law w (LockW a p expects) i m = lock_write_back_law w a p expects i m
+event_law w (Upgrade a p expects) i m = upgrade_law w a p expects i m
+event_law w (Release a p) i m = release_law w a p i m
+event_law w (ReleaseE a p) i m = release_evicted_law w a p i m
+event_law w (Downgrade a p) i m = downgrade_law w a p i m
+event_law w (TLoad a p) i m = translation_load_law w a p i m
+event_law w (Install a p f) i m = install_law w a p f i m
+event_law w (Clear a p) i m = clear_law w a p i m
+event_law w (Dirty a p) i m = dirty_law w a p i m
+event_law w (Clean a p) i m = clean_law w a p i m
+event_law w (Load a p n) i m = load_law w a p n i m
+event_law w (Store a f n x) i m = store_law w a f n x i m
+event_law w (BLoad a g) i m = bundle_load_law w a g i m
+event_law w (Take a g expects mask) i m = take_law w a g expects mask i m
+event_law w (Give a g mask) i m = give_law w a g mask i m
+event_law w (Read a p) i m = read_law w a p i m
+event_law w (RFail a p) i m = read_fault_law w a p i m
+event_law w (Write a p) i m = write_law w a p i m
+event_law w (WFail a p) i m = write_fault_law w a p i m
+event_law w (Raise a p) i m = raise_law w a p i m
+event_law w (NLoad a) i m = next_load_law w a i m
+event_law w (Claim a x n) i m = claim_law w a x n i m
+event_law w (Hand a) i m = hand_law w a i m
+
+event-one : (w : World) (e : Event) → Validates w e
+event-one w (Look a p) t i m = look_validates w a p t i m
+event-one w (LockX a p expects) t i m = lock_exclusive_validates w a p expects t i m
+event-one w (LockS a p expects) t i m = lock_shared_validates w a p expects t i m
+event-one w (LockW a p expects) t i m = lock_write_back_validates w a p expects t i m
+event-one w (Upgrade a p expects) t i m = upgrade_validates w a p expects t i m
+event-one w e t i m = tt
+
+-- whether the blocks tell their words is settled at the start
+same-tells : (c : State) (e : Event) → (after c e).tells ≡ c.tells
+same-tells c (Take a g expects mask) = ⊎_elim (λ e. rw e refl) (λ e. rw e refl) (cases_Bool (eqb (c.bundles g) expects))
+same-tells c e = refl
+
+pub run_law : (w : World) (es : List Event) → Inv w → AllLegal w.core es → Inv (world_run w es)
+run_law w [] i m = i
+run_law w (e ∷ es) i m = run_law (world_after w e) es (event_law w e i m.0) m.1
+
+pub run-one : (w : World) (es : List Event) → w.core.tells ≡ true → Inv w → AllLegal w.core es → AllReadOne w es
+run-one w [] t i m = tt
+run-one w (e ∷ es) t i m =
+    (event-one w e t i m.0, run-one (world_after w e) es (same-tells w.core e ∙ t) (event_law w e i m.0) m.1)
+
+pub run-tells : (w : World) (es : List Event) → (world_run w es).core.tells ≡ w.core.tells
+run-tells w [] = refl
+run-tells w (e ∷ es) = run-tells (world_after w e) es ∙ same-tells w.core e
+
+pub run-core : (w : World) (es : List Event) → (world_run w es).core ≡ run w.core es
+run-core w [] = refl
+run-core w (e ∷ es) = run-core (world_after w e) es

@@ -1,0 +1,70 @@
+-- The start meets the invariant.
+use Rattle.std.proofs.Common.{ℕ, ◌≡◌, ◌-◌, ◌*◌, ◌/◌, ◌%◌, ◌^◌, ◌≤◌, refl, ⊎_elim, arith, cond, ltb, min, length, replicate, ◌+◌}
+use Rattle.std.specs.Int.{bit_at}
+use Rattle.std.proofs.lemmas.Bool.{cases_Bool, cases_lt, eq-eqb, ne_eqb, lt-ltb, le-ltb}
+use Rattle.std.proofs.lemmas.Nat.Bits.{bit_at_ones, bit_at_ones_above}
+use Rattle.std.proofs.lemmas.List.{length-replicate}
+use Rattle.std.proofs.lemmas.List.FromFn.{length-map-range_with_len}
+use Rattle.vm_core.specs.declared.event.CoreShape.{CoreShape}
+use Rattle.vm_core.specs.Words.{is_free}
+use Rattle.vm_core.specs.Inv.{Inv, FrameIsAt, at_free}
+use Rattle.vm_core.specs.Inv.Place.{Nowhere, Free}
+use Rattle.vm_core.proofs.Starting.{locks-none}
+use Rattle.vm_core.specs.Start.{Start, IsStart, start, begin, full_bundle, core_block, core_start}
+
+start-free : (frames f : ℕ) → is_free (full_bundle frames) f ≡ at_free (cond (ltb f frames) Free Nowhere)
+unfolding is_free full_bundle
+start-free frames f =
+    ⊎_elim
+    (λ lt. rw (lt-ltb f frames lt) (eq-eqb _ _ (bit_at_ones (min 64 (frames - 64 * (f / 64))) (f % 64) (omega arith))))
+    (λ le. rw (le-ltb f frames le) (ne_eqb (bit_at (2 ^ min 64 (frames - 64 * (f / 64)) - 1) (f % 64)) 1 (λ q. let z : bit_at (2 ^ min 64 (frames - 64 * (f / 64)) - 1) (f % 64) ≡ 0 = bit_at_ones_above (min 64 (frames - 64 * (f / 64))) (f % 64) (omega arith) in omega arith)))
+    (cases_lt f frames)
+
+start-frames : (s : Start) (f : ℕ) → FrameIsAt (start s) f (cond (ltb f s.shape.frames) Free Nowhere)
+start-frames s f =
+    record {
+      inside = λ lt. rw (lt-ltb f s.shape.frames lt) tt;
+      outside = λ le. rw (le-ltb f s.shape.frames le) refl;
+      free = start-free s.shape.frames f;
+      holds = λ a. ⊎_elim (λ e. rw e refl) (λ e. rw e refl) (cases_Bool (ltb f s.shape.frames));
+      mapped = λ p. ⊎_elim (λ e. rw e refl) (λ e. rw e refl) (cases_Bool (ltb f s.shape.frames));
+    }
+
+-- a list of one number
+numbers-long : (n x : ℕ) → length (replicate n x) ≡ n
+numbers-long n x = length-replicate n x
+
+pub start_law : (s : Start) → IsStart s → Inv (begin s)
+start_law s ok =
+    record {
+      place = λ f. cond (ltb f s.shape.frames) Free Nowhere;
+      frames = start-frames s;
+      words = λ f. numbers-long 64 0;
+      next = ok.next;
+      pages = λ p. record {
+        locks = locks-none s.shape.actors s.first ok.first;
+        stands = record { last = refl; resident = λ _ ne. absurd (ne refl); evicted = λ _. refl };
+        sizes = record { older = tt; last = ok.blocks p; draft = λ q. absurd (omega arith) };
+        contents = λ _. record {
+          clean = λ m e. cc;
+          logical = λ _ m e. cc;
+          draft = λ q. absurd (omega arith);
+          unwritten = λ q. absurd (omega arith);
+          device = λ _. refl;
+          size = ok.blocks p;
+        };
+        faults = λ _ _. refl;
+        reads = λ a. record { old = λ o e. cc; evicted = λ _ o e. cc; current = λ _ ne. absurd (ne refl) };
+      };
+    }
+
+block-long : (next p : ℕ) → length (core_block next p) ≡ 64
+unfolding core_block
+block-long next p =
+    ⊎_elim
+    (λ lt. rw (lt-ltb p next lt) (length-map-range_with_len (λ i. 64 * p + i) 0 64))
+    (λ le. rw (le-ltb p next le) (numbers-long 64 0))
+    (cases_lt p next)
+
+pub core-start : (shape : CoreShape) → shape.next ≤ shape.pages → IsStart (core_start shape)
+core-start shape le = record { next = le; first = omega arith; blocks = block-long shape.next }

@@ -1,0 +1,42 @@
+-- What the invariant tells, in full.
+use Rattle.std.proofs.Common.{ℕ, ◌≡◌, ◌<◌, refl, sym, subst, ◌∙◌}
+use Rattle.std.proofs.lemmas.Bool.{eq-eqb}
+use Rattle.vm_core.specs.State.{State}
+use Rattle.vm_core.specs.History.{World}
+use Rattle.vm_core.specs.Inv.{Inv, FrameIsAt, Place}
+use Rattle.vm_core.specs.Inv.Place.{Nowhere, Free, Held, Mapped}
+use Rattle.vm_core.specs.Told.{StandsAt, FrameOnce, Told}
+use Rattle.vm_laws_frame.proofs.Places.{held-place, mapped-place, free-place}
+
+at-place : (c : State) (f : ℕ) (x : Place) → f < c.shape.frames → FrameIsAt c f x → StandsAt c f x
+at-place c f Nowhere lt i = i.inside lt
+at-place c f Free lt i = i.free
+at-place c f (Held a) lt i = (i.inside lt, i.holds a ∙ eq-eqb a a refl)
+at-place c f (Mapped p) lt i = (i.inside lt, i.mapped p ∙ eq-eqb p p refl)
+
+only-place : (c : State) (f : ℕ) (x : Place) → FrameIsAt c f x → (y : Place) → StandsAt c f y → y ≡ x
+only-place c f x i Nowhere s = absurd s
+only-place c f x i Free s = sym (free-place x (sym i.free ∙ s))
+only-place c f x i (Held a) s = sym (held-place x a (sym (i.holds a) ∙ s.1))
+only-place c f x i (Mapped p) s = sym (mapped-place x p (sym (i.mapped p) ∙ s.1))
+
+outside-place : (c : State) (f : ℕ) (x : Place) → x ≡ Nowhere → FrameIsAt c f x → (y : Place) → StandsAt c f y → ⊥
+outside-place c f x e i y s = subst (StandsAt c f) (only-place c f x i y s ∙ e) s
+
+frame-once : (w : World) → Inv w → FrameOnce w.core
+frame-once w i =
+    record {
+      each = λ f lt. record { place = i.place f; stands = at-place w.core f (i.place f) lt (i.frames f); only = only-place w.core f (i.place f) (i.frames f) };
+      past = λ f le. outside-place w.core f (i.place f) ((i.frames f).outside le) (i.frames f);
+    }
+
+pub told_law : (w : World) → Inv w → Told w
+told_law w i =
+    record {
+      frames = frame-once w i;
+      device = λ t p. record {
+        evicted = ((i.pages p).contents t).device;
+        clean = λ m e d ne. sym (((i.pages p).contents t).clean m e d) ∙ ((i.pages p).contents t).logical ne m e;
+      };
+      faults = λ p. (i.pages p).faults;
+    }

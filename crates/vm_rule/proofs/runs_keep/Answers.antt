@@ -1,0 +1,7 @@
+use Rattle.vm_core.specs.Start.{begin}
+use Rattle.vm_rule.proofs.Runs.{run_law}
+use Rattle.vm_rule.proofs.Starts.{start_law}
+use Rattle.vm_rule.proofs.runs_keep.Goals as goal
+
+pub returns : goal.returns
+returns c s events ok legal = run_law (begin s) events (start_law s ok) legal

@@ -1,0 +1,57 @@
+-- The verbs' words: letters alone, and no two the same.
+use Rattle.std.proofs.Common.{◌≡◌, ◌≢◌, ℕ, zero, suc, ◌+◌, length, take, get_or, eqb, Bool, true, false, ◌<◌, ◌&&◌, nat_lt, List, [], ◌∷◌, Option, Some, None, refl, sym, ap, ◌∙◌, arith, find, bytes_eq}
+use Rattle.std.specs.List.{AllByRecursion, list_all}
+use Rattle.std.specs.Cmp.Lexicographic.{pointwise}
+use Rattle.std.proofs.lemmas.Slice.Eq.{slice_eq-Decides}
+use Rattle.std.proofs.lemmas.Bool.Decides.{Decides-eqb}
+use Rattle.std.proofs.lemmas.Grind.{common_steps}
+use Rattle.vm_script.specs.declared.event_line.Verb.{Verb}
+use Rattle.vm_script.specs.declared.event_line.Verb.TheVariants.{Look, LockX, LockS, UnlockS, Mark, Unmark, LockW, Upgrade, Release, ReleaseE, Downgrade, TLoad, Install, Clear, Dirty, Clean, Load, Store, BLoad, Take, Give, Read, RFail, Write, WFail, Raise, NLoad, Claim, Hand, Fill, Loads}
+use Rattle.vm_script.specs.Cuts.{Lacks}
+use Rattle.vm_script.specs.Verbs.{verb_name}
+
+and_left : (a b : Bool) → (a && b) ≡ true → a ≡ true
+and_left true b h = refl
+and_left false b h = h
+
+and_right : (a b : Bool) → (a && b) ≡ true → b ≡ true
+and_right true b h = h
+and_right false b h = cc
+
+letters : (verb : Verb) → list_all (λ b. nat_lt 96 b) (verb_name verb) ≡ true
+letters Look = refl
+letters _ = refl
+
+lacks_first : (at b : ℕ) → at < 48 → nat_lt 96 b ≡ true → b ≢ at
+lacks_first at b low h = λ e. grind (arith, common_steps)
+
+lacks_letters : (at : ℕ) → at < 48 → (bytes : List ℕ) → list_all (λ b. nat_lt 96 b) bytes ≡ true → Lacks at bytes
+lacks_letters at low [] h = tt
+lacks_letters at low (b ∷ bytes) h = (lacks_first at b low (and_left (nat_lt 96 b) _ h), lacks_letters at low bytes (and_right (nat_lt 96 b) _ h))
+
+pub lacks_verb : (at : ℕ) (verb : Verb) → at < 48 → Lacks at (verb_name verb)
+lacks_verb at verb low = lacks_letters at low (verb_name verb) (letters verb)
+
+abbrev verbs : List Verb
+verbs = Look ∷ LockX ∷ LockS ∷ UnlockS ∷ Mark ∷ Unmark ∷ LockW ∷ Upgrade ∷ Release ∷ ReleaseE ∷ Downgrade ∷ TLoad ∷ Install ∷ Clear ∷ Dirty ∷ Clean ∷ Load ∷ Store ∷ BLoad ∷ Take ∷ Give ∷ Read ∷ RFail ∷ Write ∷ WFail ∷ Raise ∷ NLoad ∷ Claim ∷ Hand ∷ Fill ∷ Loads ∷ []
+
+-- the verb with this word
+abbrev verb_at : List ℕ → Option Verb
+verb_at word = find (λ verb. bytes_eq (verb_name verb) word) verbs
+
+at_name : (verb : Verb) → verb_at (verb_name verb) ≡ Some verb
+at_name Look = refl
+at_name _ = refl
+
+pub one_verb : (one other : Verb) → verb_name one ≡ verb_name other → one ≡ other
+one_verb one other e = let h : ◌≡◌ {A = Option Verb} (Some one) (Some other) = sym (at_name one) ∙ ap verb_at e ∙ at_name other in cc
+
+-- slices that `==` finds different are
+pub differs : (one other : List ℕ) (same : Bool) → same ≡ pointwise eqb one other → same ≡ false → one ≢ other
+differs one other same is not_same = λ e. let h : same ≡ true = (slice_eq-Decides Decides-eqb one other same is).1 e in cc
+
+-- what each of the first elements has, and the next one too
+pub each_more : {X : Type 0} (P : X → Type 0) (xs : List X) (i : ℕ) (d : X) → i < length xs → AllByRecursion P (take i xs) → P (get_or xs i d) → AllByRecursion P (take (i + 1) xs)
+each_more P [] i d inside front here = absurd (omega arith)
+each_more P (x ∷ xs) zero d inside front here = (here, tt)
+each_more P (x ∷ xs) (suc i) d inside front here = let e : suc i + 1 ≡ suc (i + 1) = omega arith in rw e (front.0, each_more P xs i d (omega arith) front.1 here)

@@ -1,0 +1,108 @@
+-- Event lines: a verb and its numbers, with single spaces between them.
+use Rattle.std.specs.Prelude.{ℕ, ◌+◌, ◌*◌, ◌/◌, ◌%◌, ◌<◌, ◌≤◌, ◌^◌, ◌≡◌, ◌==◌, if◌then◌else◌, List, [], ◌∷◌, ◌++◌, codes}
+use Rattle.std.specs.Fmt.{decimal}
+use Rattle.vm_core.specs.Words.{state_of, version_of}
+use Rattle.vm_core.specs.declared.event.CoreShape.{CoreShape}
+use Rattle.vm_core.specs.declared.event.Event.{Event}
+use Rattle.vm_core.specs.declared.event.Event.TheVariants.{Look, LockX, LockS, UnlockS, Mark, Unmark, LockW, Upgrade, Release, ReleaseE, Downgrade, TLoad, Install, Clear, Dirty, Clean, Load, Store, BLoad, Take, Give, Read, RFail, Write, WFail, Raise, NLoad, Claim, Hand}
+use Rattle.vm_script.specs.declared.event_line.EventLine.{EventLine}
+use Rattle.vm_script.specs.declared.event_line.EventLine.TheVariants.{One, Fill, Loads}
+use Rattle.vm_script.specs.declared.event_line.Kind.{Kind}
+use Rattle.vm_script.specs.declared.event_line.Kind.TheVariants.{Actor, Page, Frame, Place, Bundle, Word, State, Count}
+use Rattle.vm_script.specs.declared.event_line.Verb.{Verb}
+use Rattle.vm_script.specs.declared.event_line.Verb.TheVariants as verbs
+use Rattle.vm_script.specs.Verbs.{verb_name, kinds_of}
+
+-- the limits of a shape
+pub record IsShape (shape : CoreShape) : Type 0 where
+  pub pages : (1 ≤ shape.pages) × (shape.pages ≤ 64)
+  pub frames : (1 ≤ shape.frames) × (shape.frames ≤ 256)
+  pub actors : (1 ≤ shape.actors) × (shape.actors ≤ 64)
+  pub next : (1 ≤ shape.next) × (shape.next ≤ shape.pages)
+
+-- `u`, `x`, `m`, `e`, or the number of shares
+abbrev pub state_name : ℕ → List ℕ
+state_name state =
+    if state == 0 then codes "u" else if state == 253 then codes "x" else if state == 254 then codes "m" else if state == 255 then codes "e" else decimal state
+
+-- `S:V`
+abbrev pub state_text : ℕ → List ℕ
+state_text word = state_name (state_of word) ++ 58 ∷ decimal (version_of word)
+
+-- what a number of this kind may be
+abbrev pub IsField : CoreShape → Kind → ℕ → Type 0
+IsField shape Actor a = a < shape.actors
+IsField shape Page p = p < shape.pages
+IsField shape Frame f = f < shape.frames
+IsField shape Place i = i < 64
+IsField shape Bundle g = g * 64 < shape.frames
+IsField shape Word w = w < 2 ^ 64
+IsField shape State w = w < 2 ^ 64
+IsField shape Count n = n < 2 ^ 32
+
+-- a state word as `S:V`, all else in decimal
+abbrev pub field_text : Kind → ℕ → List ℕ
+field_text State w = state_text w
+field_text _ n = decimal n
+
+-- as many numbers as kinds, each what its kind may be
+abbrev pub AreFields : CoreShape → List Kind → List ℕ → Type 0
+AreFields shape [] [] = Unit {0}
+AreFields shape [] (value ∷ values) = ⊥
+AreFields shape (kind ∷ kinds) [] = ⊥
+AreFields shape (kind ∷ kinds) (value ∷ values) = IsField shape kind value × AreFields shape kinds values
+
+-- the numbers, with single spaces between them
+abbrev pub fields_text : List Kind → List ℕ → List ℕ
+fields_text (kind ∷ []) (value ∷ []) = field_text kind value
+fields_text (kind ∷ more ∷ kinds) (value ∷ values) = field_text kind value ++ 32 ∷ fields_text (more ∷ kinds) values
+fields_text _ _ = []
+
+-- the verb of a line, and its numbers in order
+abbrev pub form : EventLine → Verb × List ℕ
+form (One (Look a p)) = (verbs.Look, a ∷ p ∷ [])
+form (One (LockX a p expects)) = (verbs.LockX, a ∷ p ∷ expects ∷ [])
+form (One (LockS a p expects)) = (verbs.LockS, a ∷ p ∷ expects ∷ [])
+form (One (UnlockS a p)) = (verbs.UnlockS, a ∷ p ∷ [])
+form (One (Mark a p expects)) = (verbs.Mark, a ∷ p ∷ expects ∷ [])
+form (One (Unmark a p expects)) = (verbs.Unmark, a ∷ p ∷ expects ∷ [])
+form (One (LockW a p expects)) = (verbs.LockW, a ∷ p ∷ expects ∷ [])
+form (One (Upgrade a p expects)) = (verbs.Upgrade, a ∷ p ∷ expects ∷ [])
+form (One (Release a p)) = (verbs.Release, a ∷ p ∷ [])
+form (One (ReleaseE a p)) = (verbs.ReleaseE, a ∷ p ∷ [])
+form (One (Downgrade a p)) = (verbs.Downgrade, a ∷ p ∷ [])
+form (One (TLoad a p)) = (verbs.TLoad, a ∷ p ∷ [])
+form (One (Install a p f)) = (verbs.Install, a ∷ p ∷ f ∷ [])
+form (One (Clear a p)) = (verbs.Clear, a ∷ p ∷ [])
+form (One (Dirty a p)) = (verbs.Dirty, a ∷ p ∷ [])
+form (One (Clean a p)) = (verbs.Clean, a ∷ p ∷ [])
+form (One (Load a p i)) = (verbs.Load, a ∷ p ∷ i ∷ [])
+form (One (Store a f i w)) = (verbs.Store, a ∷ f ∷ i ∷ w ∷ [])
+form (One (BLoad a g)) = (verbs.BLoad, a ∷ g ∷ [])
+form (One (Take a g expects mask)) = (verbs.Take, a ∷ g ∷ expects ∷ mask ∷ [])
+form (One (Give a g mask)) = (verbs.Give, a ∷ g ∷ mask ∷ [])
+form (One (Read a p)) = (verbs.Read, a ∷ p ∷ [])
+form (One (RFail a p)) = (verbs.RFail, a ∷ p ∷ [])
+form (One (Write a p)) = (verbs.Write, a ∷ p ∷ [])
+form (One (WFail a p)) = (verbs.WFail, a ∷ p ∷ [])
+form (One (Raise a p)) = (verbs.Raise, a ∷ p ∷ [])
+form (One (NLoad a)) = (verbs.NLoad, a ∷ [])
+form (One (Claim a x n)) = (verbs.Claim, a ∷ x ∷ n ∷ [])
+form (One (Hand a)) = (verbs.Hand, a ∷ [])
+form (Fill a p f) = (verbs.Fill, a ∷ p ∷ f ∷ [])
+form (Loads a p) = (verbs.Loads, a ∷ p ∷ [])
+
+abbrev pub form_text : Verb × List ℕ → List ℕ
+form_text form = verb_name form.0 ++ 32 ∷ fields_text (kinds_of form.0) form.1
+
+-- `VERB NUMBER ..`
+abbrev pub event_line_text : EventLine → List ℕ
+event_line_text line = form_text (form line)
+
+-- the numbers of the line name actors, pages, frames, bundles and words of the shape
+abbrev pub IsEventLine : CoreShape → EventLine → Type 0
+IsEventLine shape line = AreFields shape (kinds_of (form line).0) (form line).1
+
+-- `shape P F A X`
+abbrev pub shape_text : CoreShape → List ℕ
+shape_text shape = codes "shape" ++ 32 ∷ (decimal shape.pages ++ 32 ∷ (decimal shape.frames ++ 32 ∷ (decimal shape.actors ++ 32 ∷ decimal shape.next)))

@@ -1,0 +1,36 @@
+-- What the readers of parts of an event line answer.
+use Rattle.std.specs.Prelude.{ℕ, ◌<◌, ◌≤◌, ◌^◌, ◌≡◌, ◌≢◌, List, [], ◌∷◌, Option, Some, None, length, take}
+use Rattle.std.specs.List.{AllByRecursion}
+use Rattle.vm_script.specs.declared.event_line.Kind.{Kind}
+use Rattle.vm_script.specs.declared.event_line.Kind.TheVariants.{Actor, Page, Frame, Place, Bundle, Word, State, Count}
+
+-- the bytes spell the value that is answered, or none that they could
+abbrev pub Reads : {X : Type 0} → (X → Type 0) → (X → List ℕ) → List ℕ → Option X → Type 0
+Reads Is text bytes (Some x) = Is x × (bytes ≡ text x)
+Reads {X = X} Is text bytes None = (x : X) → Is x → bytes ≢ text x
+
+-- four numbers, of which a line uses as many as it has kinds
+abbrev pub Four : Type 0
+Four = ℕ × ℕ × ℕ × ℕ
+
+abbrev pub used : List Kind → Four → List ℕ
+used kinds four = take (length kinds) (four.0 ∷ four.1 ∷ four.2 ∷ four.3 ∷ [])
+
+abbrev pub used_of : List Kind → Option Four → Option (List ℕ)
+used_of kinds (Some four) = Some (used kinds four)
+used_of kinds None = None
+
+-- a number of this kind fits 32 bits
+abbrev pub IsNarrow : Kind → ℕ → Type 0
+IsNarrow Word n = Unit {0}
+IsNarrow State n = Unit {0}
+IsNarrow _ n = n < 2 ^ 32
+
+abbrev pub AreNarrow : List Kind → List ℕ → Type 0
+AreNarrow (kind ∷ kinds) (value ∷ values) = IsNarrow kind value × AreNarrow kinds values
+AreNarrow _ _ = Unit {0}
+
+-- the state word of so many shares
+pub record IsShared (shares : ℕ) : Type 0 where
+  pub some : 1 ≤ shares
+  pub few : shares ≤ 252

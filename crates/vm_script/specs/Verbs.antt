@@ -1,0 +1,73 @@
+-- The verbs of event lines, and the kinds of the numbers behind each.
+use Rattle.std.specs.Prelude.{ℕ, List, [], ◌∷◌, codes}
+use Rattle.vm_script.specs.declared.event_line.Kind.{Kind}
+use Rattle.vm_script.specs.declared.event_line.Kind.TheVariants.{Actor, Page, Frame, Place, Bundle, Word, State, Count}
+use Rattle.vm_script.specs.declared.event_line.Verb.{Verb}
+use Rattle.vm_script.specs.declared.event_line.Verb.TheVariants.{Look, LockX, LockS, UnlockS, Mark, Unmark, LockW, Upgrade, Release, ReleaseE, Downgrade, TLoad, Install, Clear, Dirty, Clean, Load, Store, BLoad, Take, Give, Read, RFail, Write, WFail, Raise, NLoad, Claim, Hand, Fill, Loads}
+
+abbrev pub verb_name : Verb → List ℕ
+verb_name Look = codes "look"
+verb_name LockX = codes "lockx"
+verb_name LockS = codes "locks"
+verb_name UnlockS = codes "unlocks"
+verb_name Mark = codes "mark"
+verb_name Unmark = codes "unmark"
+verb_name LockW = codes "lockw"
+verb_name Upgrade = codes "upgrade"
+verb_name Release = codes "release"
+verb_name ReleaseE = codes "releasee"
+verb_name Downgrade = codes "downgrade"
+verb_name TLoad = codes "tload"
+verb_name Install = codes "install"
+verb_name Clear = codes "clear"
+verb_name Dirty = codes "dirty"
+verb_name Clean = codes "clean"
+verb_name Load = codes "load"
+verb_name Store = codes "store"
+verb_name BLoad = codes "bload"
+verb_name Take = codes "take"
+verb_name Give = codes "give"
+verb_name Read = codes "read"
+verb_name RFail = codes "rfail"
+verb_name Write = codes "write"
+verb_name WFail = codes "wfail"
+verb_name Raise = codes "raise"
+verb_name NLoad = codes "nload"
+verb_name Claim = codes "claim"
+verb_name Hand = codes "hand"
+verb_name Fill = codes "fill"
+verb_name Loads = codes "loads"
+
+-- what the numbers of a line with this verb are, in order
+abbrev pub kinds_of : Verb → List Kind
+kinds_of Look = Actor ∷ Page ∷ []
+kinds_of LockX = Actor ∷ Page ∷ State ∷ []
+kinds_of LockS = Actor ∷ Page ∷ State ∷ []
+kinds_of UnlockS = Actor ∷ Page ∷ []
+kinds_of Mark = Actor ∷ Page ∷ State ∷ []
+kinds_of Unmark = Actor ∷ Page ∷ State ∷ []
+kinds_of LockW = Actor ∷ Page ∷ State ∷ []
+kinds_of Upgrade = Actor ∷ Page ∷ State ∷ []
+kinds_of Release = Actor ∷ Page ∷ []
+kinds_of ReleaseE = Actor ∷ Page ∷ []
+kinds_of Downgrade = Actor ∷ Page ∷ []
+kinds_of TLoad = Actor ∷ Page ∷ []
+kinds_of Install = Actor ∷ Page ∷ Frame ∷ []
+kinds_of Clear = Actor ∷ Page ∷ []
+kinds_of Dirty = Actor ∷ Page ∷ []
+kinds_of Clean = Actor ∷ Page ∷ []
+kinds_of Load = Actor ∷ Page ∷ Place ∷ []
+kinds_of Store = Actor ∷ Frame ∷ Place ∷ Word ∷ []
+kinds_of BLoad = Actor ∷ Bundle ∷ []
+kinds_of Take = Actor ∷ Bundle ∷ Word ∷ Word ∷ []
+kinds_of Give = Actor ∷ Bundle ∷ Word ∷ []
+kinds_of Read = Actor ∷ Page ∷ []
+kinds_of RFail = Actor ∷ Page ∷ []
+kinds_of Write = Actor ∷ Page ∷ []
+kinds_of WFail = Actor ∷ Page ∷ []
+kinds_of Raise = Actor ∷ Page ∷ []
+kinds_of NLoad = Actor ∷ []
+kinds_of Claim = Actor ∷ Word ∷ Count ∷ []
+kinds_of Hand = Actor ∷ []
+kinds_of Fill = Actor ∷ Page ∷ Frame ∷ []
+kinds_of Loads = Actor ∷ Page ∷ []

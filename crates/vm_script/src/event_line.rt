@@ -1,0 +1,267 @@
+//! The lines of an event list: what one says, its verb, and the kinds of its numbers.
+
+ghost use Rattle.std.specs.Prelude.{◌≡◌, ◌<◌, ◌^◌};
+ghost use Rattle.vm_script.specs.EventLines.{form};
+ghost use Rattle.vm_script.specs.EventWords.{AreNarrow, used};
+ghost use Rattle.vm_script.specs.Verbs.{kinds_of as kinds_in, verb_name};
+
+use vm_core::Event;
+
+/// One event, or one of the two short forms for 64 events.
+#[derive(Clone, Copy)]
+pub enum EventLine {
+    /// One event of the core.
+    One(Event),
+    /// Actor `a` stores the words of page `p`'s block into frame `f`, word by word.
+    Fill { a: u32, p: u32, f: u32 },
+    /// Actor `a` loads the words of page `p`, word by word.
+    Loads { a: u32, p: u32 },
+}
+
+/// The first word of a line.
+#[derive(Clone, Copy)]
+pub(crate) enum Verb {
+    Look,
+    LockX,
+    LockS,
+    UnlockS,
+    Mark,
+    Unmark,
+    LockW,
+    Upgrade,
+    Release,
+    ReleaseE,
+    Downgrade,
+    TLoad,
+    Install,
+    Clear,
+    Dirty,
+    Clean,
+    Load,
+    Store,
+    BLoad,
+    Take,
+    Give,
+    Read,
+    RFail,
+    Write,
+    WFail,
+    Raise,
+    NLoad,
+    Claim,
+    Hand,
+    Fill,
+    Loads,
+}
+
+/// What a number of a line is.
+#[derive(Clone, Copy)]
+pub(crate) enum Kind {
+    Actor,
+    Page,
+    Frame,
+    Place,
+    Bundle,
+    Word,
+    State,
+    Count,
+}
+
+// Every verb.
+pub(crate) const VERBS: [Verb; 31] = [
+    Verb::Look,
+    Verb::LockX,
+    Verb::LockS,
+    Verb::UnlockS,
+    Verb::Mark,
+    Verb::Unmark,
+    Verb::LockW,
+    Verb::Upgrade,
+    Verb::Release,
+    Verb::ReleaseE,
+    Verb::Downgrade,
+    Verb::TLoad,
+    Verb::Install,
+    Verb::Clear,
+    Verb::Dirty,
+    Verb::Clean,
+    Verb::Load,
+    Verb::Store,
+    Verb::BLoad,
+    Verb::Take,
+    Verb::Give,
+    Verb::Read,
+    Verb::RFail,
+    Verb::Write,
+    Verb::WFail,
+    Verb::Raise,
+    Verb::NLoad,
+    Verb::Claim,
+    Verb::Hand,
+    Verb::Fill,
+    Verb::Loads,
+];
+
+// The verb's word.
+pub(crate) fn name_of(verb: Verb) -> &'static [u8]
+    ensures { result.now ≡ verb_name verb }
+{
+    match verb {
+        Verb::Look => b"look",
+        Verb::LockX => b"lockx",
+        Verb::LockS => b"locks",
+        Verb::UnlockS => b"unlocks",
+        Verb::Mark => b"mark",
+        Verb::Unmark => b"unmark",
+        Verb::LockW => b"lockw",
+        Verb::Upgrade => b"upgrade",
+        Verb::Release => b"release",
+        Verb::ReleaseE => b"releasee",
+        Verb::Downgrade => b"downgrade",
+        Verb::TLoad => b"tload",
+        Verb::Install => b"install",
+        Verb::Clear => b"clear",
+        Verb::Dirty => b"dirty",
+        Verb::Clean => b"clean",
+        Verb::Load => b"load",
+        Verb::Store => b"store",
+        Verb::BLoad => b"bload",
+        Verb::Take => b"take",
+        Verb::Give => b"give",
+        Verb::Read => b"read",
+        Verb::RFail => b"rfail",
+        Verb::Write => b"write",
+        Verb::WFail => b"wfail",
+        Verb::Raise => b"raise",
+        Verb::NLoad => b"nload",
+        Verb::Claim => b"claim",
+        Verb::Hand => b"hand",
+        Verb::Fill => b"fill",
+        Verb::Loads => b"loads",
+    }
+}
+
+// The kinds of the numbers behind a verb.
+pub(crate) fn kinds_of(verb: Verb) -> &'static [Kind]
+    ensures { result.now ≡ kinds_in verb }
+{
+    match verb {
+        Verb::Look
+        | Verb::UnlockS
+        | Verb::Release
+        | Verb::ReleaseE
+        | Verb::Downgrade
+        | Verb::TLoad
+        | Verb::Clear
+        | Verb::Dirty
+        | Verb::Clean
+        | Verb::Read
+        | Verb::RFail
+        | Verb::Write
+        | Verb::WFail
+        | Verb::Raise
+        | Verb::Loads => &[Kind::Actor, Kind::Page],
+        Verb::LockX | Verb::LockS | Verb::Mark | Verb::Unmark | Verb::LockW | Verb::Upgrade => &[
+            Kind::Actor,
+            Kind::Page,
+            Kind::State,
+        ],
+        Verb::Install | Verb::Fill => &[Kind::Actor, Kind::Page, Kind::Frame],
+        Verb::Load => &[Kind::Actor, Kind::Page, Kind::Place],
+        Verb::Store => &[Kind::Actor, Kind::Frame, Kind::Place, Kind::Word],
+        Verb::BLoad => &[Kind::Actor, Kind::Bundle],
+        Verb::Take => &[Kind::Actor, Kind::Bundle, Kind::Word, Kind::Word],
+        Verb::Give => &[Kind::Actor, Kind::Bundle, Kind::Word],
+        Verb::NLoad | Verb::Hand => &[Kind::Actor],
+        Verb::Claim => &[Kind::Actor, Kind::Word, Kind::Count],
+    }
+}
+
+// The number, where it fits 32 bits.
+fn narrow(value: u64) -> u32
+    ensures { value < 2 ^ 32 → result ≡ value }
+{
+    (value % 0x1_0000_0000) as u32
+}
+
+// The line with this verb and these numbers.
+pub(crate) fn line_with(verb: Verb, values: (u64, u64, u64, u64)) -> EventLine
+    ensures { AreNarrow (kinds_in verb) (used (kinds_in verb) values) → form result ≡ (verb, used (kinds_in verb) values) }
+{
+    let (first, second, third, fourth) = values;
+    let a = narrow(first);
+    let p = narrow(second);
+    let f = narrow(third);
+    let event = match verb {
+        Verb::Look => Event::Look { a, p },
+        Verb::LockX => Event::LockX {
+            a,
+            p,
+            expects: third,
+        },
+        Verb::LockS => Event::LockS {
+            a,
+            p,
+            expects: third,
+        },
+        Verb::UnlockS => Event::UnlockS { a, p },
+        Verb::Mark => Event::Mark {
+            a,
+            p,
+            expects: third,
+        },
+        Verb::Unmark => Event::Unmark {
+            a,
+            p,
+            expects: third,
+        },
+        Verb::LockW => Event::LockW {
+            a,
+            p,
+            expects: third,
+        },
+        Verb::Upgrade => Event::Upgrade {
+            a,
+            p,
+            expects: third,
+        },
+        Verb::Release => Event::Release { a, p },
+        Verb::ReleaseE => Event::ReleaseE { a, p },
+        Verb::Downgrade => Event::Downgrade { a, p },
+        Verb::TLoad => Event::TLoad { a, p },
+        Verb::Install => Event::Install { a, p, f },
+        Verb::Clear => Event::Clear { a, p },
+        Verb::Dirty => Event::Dirty { a, p },
+        Verb::Clean => Event::Clean { a, p },
+        Verb::Load => Event::Load { a, p, i: f },
+        Verb::Store => Event::Store {
+            a,
+            f: p,
+            i: f,
+            w: fourth,
+        },
+        Verb::BLoad => Event::BLoad { a, g: p },
+        Verb::Take => Event::Take {
+            a,
+            g: p,
+            expects: third,
+            mask: fourth,
+        },
+        Verb::Give => Event::Give {
+            a,
+            g: p,
+            mask: third,
+        },
+        Verb::Read => Event::Read { a, p },
+        Verb::RFail => Event::RFail { a, p },
+        Verb::Write => Event::Write { a, p },
+        Verb::WFail => Event::WFail { a, p },
+        Verb::Raise => Event::Raise { a, p },
+        Verb::NLoad => Event::NLoad { a },
+        Verb::Claim => Event::Claim { a, x: second, n: f },
+        Verb::Hand => Event::Hand { a },
+        Verb::Fill => return EventLine::Fill { a, p, f },
+        Verb::Loads => return EventLine::Loads { a, p },
+    };
+    EventLine::One(event)
+}

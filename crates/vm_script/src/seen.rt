@@ -1,0 +1,197 @@
+//! The text of what the events of a line saw.
+
+ghost use Rattle.std.specs.Prelude.{◌≡◌, ◌++◌, IfOk, if◌then◌else◌, is_ok, string_bytes};
+ghost use Rattle.vm_script.specs.EventLines.{state_text};
+ghost use Rattle.vm_script.specs.SeenTexts.{FitsLine, seen_line, sight_of as sight_in, told_text};
+ghost use Rattle.vm_script.specs.Sights.{found_text, left_name, sight_text, translation_text, word_in, word_text};
+
+use crate::event_line::EventLine;
+use std::alloc::{AllocError, Global};
+use vm_core::{Event, ReadIs, Seen, StateWord};
+
+// How what an event sees is told.
+#[derive(Clone, Copy)]
+pub(crate) enum Sight {
+    Look,
+    Exchange,
+    NumberExchange,
+    Translation,
+    Loaded,
+    Bits,
+    Next,
+    Place,
+    State,
+    Failed,
+    Done,
+}
+
+// How what this event sees is told.
+fn sight_of(event: &Event) -> Sight
+    ensures { result ≡ sight_in event.now }
+{
+    match *event {
+        Event::Look { .. } => Sight::Look,
+        Event::LockX { .. }
+        | Event::LockS { .. }
+        | Event::Mark { .. }
+        | Event::Unmark { .. }
+        | Event::LockW { .. }
+        | Event::Upgrade { .. } => Sight::Exchange,
+        Event::UnlockS { .. } => Sight::State,
+        Event::Release { .. }
+        | Event::ReleaseE { .. }
+        | Event::Downgrade { .. }
+        | Event::Install { .. }
+        | Event::Clear { .. }
+        | Event::Dirty { .. }
+        | Event::Clean { .. }
+        | Event::Store { .. }
+        | Event::Read { .. }
+        | Event::Write { .. }
+        | Event::Raise { .. } => Sight::Done,
+        Event::TLoad { .. } => Sight::Translation,
+        Event::Load { .. } => Sight::Loaded,
+        Event::BLoad { .. } | Event::Give { .. } => Sight::Bits,
+        Event::Take { .. } | Event::Claim { .. } => Sight::NumberExchange,
+        Event::RFail { .. } | Event::WFail { .. } => Sight::Failed,
+        Event::NLoad { .. } => Sight::Next,
+        Event::Hand { .. } => Sight::Place,
+    }
+}
+
+// What became of an open read.
+fn name_of(left: ReadIs) -> &'static str
+    ensures { result.now ≡ left_name left }
+{
+    match left {
+        ReadIs::Opened => "opened",
+        ReadIs::Same => "same",
+        ReadIs::Moved => "moved",
+        ReadIs::Closed => "closed",
+    }
+}
+
+// A state word as `S:V`.
+fn state_string(alloc: Global, word: u64) -> Result<String, AllocError>
+    ensures { IfOk result (λ text. string_bytes text ≡ state_text word) }
+{
+    let version = StateWord::version(word);
+    match StateWord::state(word) {
+        0 => format!(in alloc; "u:{version}"),
+        253 => format!(in alloc; "x:{version}"),
+        254 => format!(in alloc; "m:{version}"),
+        255 => format!(in alloc; "e:{version}"),
+        shares => format!(in alloc; "{shares}:{version}"),
+    }
+}
+
+// A translation word.
+fn translation_string(alloc: Global, word: u64) -> Result<String, AllocError>
+    ensures { IfOk result (λ text. string_bytes text ≡ translation_text word) }
+{
+    const DIRTY: u64 = 0x8000_0000_0000_0000;
+    if word == 0 {
+        return String::from_str(alloc, "empty");
+    }
+    if word < DIRTY {
+        let frame = word - 1;
+        return format!(in alloc; "frame {frame} clean");
+    }
+    let frame = (word - DIRTY).saturating_sub(1);
+    format!(in alloc; "frame {frame} dirty")
+}
+
+// A word that was seen.
+fn word_string(alloc: Global, sight: Sight, word: u64) -> Result<String, AllocError>
+    ensures { IfOk result (λ text. string_bytes text ≡ word_text sight word) }
+{
+    match sight {
+        Sight::Translation => translation_string(alloc, word),
+        Sight::Loaded => format!(in alloc; "word {word}"),
+        Sight::Bits => format!(in alloc; "bits {word}"),
+        Sight::Next => format!(in alloc; "next {word}"),
+        Sight::Place => format!(in alloc; "place {word}"),
+        Sight::State => state_string(alloc, word),
+        Sight::Failed => format!(in alloc; "failed {word}"),
+        _ => format!(in alloc; "{word}"),
+    }
+}
+
+// The word that an exchange found.
+fn found_string(alloc: Global, sight: Sight, word: u64) -> Result<String, AllocError>
+    ensures { IfOk result (λ text. string_bytes text ≡ found_text sight word) }
+{
+    match sight {
+        Sight::Exchange => state_string(alloc, word),
+        _ => format!(in alloc; "{word}"),
+    }
+}
+
+// What one event saw.
+fn sight_string(alloc: Global, sight: Sight, seen: &Seen) -> Result<String, AllocError>
+    ensures { IfOk result (λ text. string_bytes text ≡ sight_text sight seen.now) }
+{
+    match *seen {
+        Seen::Done => String::from_str(alloc, "done"),
+        Seen::Word(seen) => word_string(alloc, sight, seen),
+        Seen::Look { word, left: after } => {
+            let word = state_string(alloc, word)?;
+            let after = name_of(after);
+            format!(in alloc; "{word} {after}")
+        }
+        Seen::Taken => String::from_str(alloc, "taken"),
+        Seen::Lost(seen) => {
+            let word = found_string(alloc, sight, seen)?;
+            format!(in alloc; "lost {word}")
+        }
+    }
+}
+
+// The word that a load saw.
+fn word_of(seen: &Seen) -> u64
+    ensures { result ≡ word_in seen.now }
+{
+    match *seen {
+        Seen::Word(word) => word,
+        _ => 0,
+    }
+}
+
+// What the events of a line saw.
+fn told_string(alloc: Global, line: &EventLine, seen: &[Seen]) -> Result<String, AllocError>
+    requires { FitsLine line.now seen.now }
+    ensures { IfOk result (λ text. string_bytes text ≡ told_text line.now seen.now) }
+{
+    match *line {
+        EventLine::One(event) => sight_string(alloc, sight_of(&event), &seen[0]),
+        EventLine::Fill { .. } => String::from_str(alloc, "done"),
+        EventLine::Loads { .. } => {
+            let first = word_of(&seen[0]);
+            let last = word_of(&seen[63]);
+            format!(in alloc; "words {first} {last}")
+        }
+    }
+}
+
+/// Appends `NUMBER` and what the events of the line saw, as one line: `taken` or `lost` with the word found, the word seen
+/// behind its name, or `done`. Of the words that `loads` saw the first and the last are told.
+///
+/// `seen` has what each event of the line saw: 64 for the short forms `fill` and `loads`, else one.
+///
+/// # Errors
+///
+/// `AllocError` where memory was refused; `out` is then as before.
+pub fn seen_text(
+    alloc: Global,
+    number: u32,
+    line: &EventLine,
+    seen: &[Seen],
+    out: &mut Vec<u8>,
+) -> Result<(), AllocError>
+    requires { FitsLine line.now seen.now }
+    ensures { out.new.items ≡ (if is_ok result then out.old.items ++ seen_line number line.now seen.now else out.old.items) }
+{
+    let told = told_string(alloc, line, seen)?;
+    let line = format!(in alloc; "{number} {told}\n")?;
+    out.extend_from_slice(line.as_bytes())
+}
