@@ -1,13 +1,13 @@
 -- What is read of a file, and what the file has.
-use Rattle.std.proofs.Common.{◌≡◌, Bool, true, false, cond, zero, suc, ◌==◌, ℕ, ◌+◌, ◌≤◌, ◌<◌, List, [], ◌∷◌, ◌++◌, length, map, take, Option, Some, None, ◌⊎◌, inl, inr, refl, sym, ap, subst, ◌∙◌, arith, length-take, length-append}
+use Rattle.std.proofs.Common.{◌≡◌, Bool, true, false, cond, zero, suc, ◌==◌, ℕ, ◌+◌, ◌≤◌, ◌<◌, List, [], ◌∷◌, ◌++◌, length, take, Option, Some, None, ◌⊎◌, inl, inr, refl, sym, ap, subst, ◌∙◌, arith, length-take, length-append}
 use Rattle.std.proofs.lemmas.Bool.{cases_lt}
 use Rattle.std.proofs.lemmas.List.{take_all, length-map}
-use Rattle.std.specs.List.{AllByRecursion, filter}
+use Rattle.std.specs.List.{filter}
 use Rattle.vm_io.specs.Shown.{Shown}
-use Rattle.vm_io.specs.Loops.{IsWhole, ReadsWhole}
+use Rattle.vm_io.specs.Loops.{ReadsWhole}
 use Rattle.vm_map.specs.declared.call.Call.{Call}
 use Rattle.vm_script.specs.declared.script.Order.{Order}
-use Rattle.vm_script.specs.Scripts.{IsScript, Spells, calls_of, lists_of, most_lines}
+use Rattle.vm_script.specs.Scripts.{IsScript, calls_of, lists_of, most_lines}
 use Rattle.vm_cli.specs.Files.{HasFile}
 use Rattle.vm_image.specs.File.{IsPageFile}
 use Rattle.vm_cli.specs.Served.{AreFew}

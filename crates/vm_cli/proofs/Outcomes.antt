@@ -1,5 +1,5 @@
 -- How a run ends, from what its parts tell.
-use Rattle.std.proofs.Common.{◌≡◌, ◌⊎◌, inl, inr, ℕ, ◌+◌, ◌^◌, ◌≤◌, List, length, Option, Some, None, Result, Ok, Err, IfOk, refl, sym, ap, subst, ◌∙◌, arith}
+use Rattle.std.proofs.Common.{◌≡◌, ◌⊎◌, inl, inr, ℕ, ◌^◌, Bool, true, false, List, Option, Some, None, Result, Ok, Err, IfOk, refl, sym, subst, arith}
 use Rattle.vm_io.specs.Shown.{Shown}
 use Rattle.vm_io.specs.Loops.{ReadsWhole}
 use Rattle.vm_map.specs.Map.{Pairs, Rises}
@@ -8,14 +8,15 @@ use Rattle.vm_cli.specs.declared.stop.Stop.{Stop}
 use Rattle.vm_cli.specs.declared.stop.Stop.TheVariants.{ShapeWorkers, ShapeFrames, ReadImage, ImageLength, ImagePage, ReadScript, ScriptLong, ScriptLine}
 use Rattle.vm_cli.specs.declared.stop.Unserved.{Unserved}
 use Rattle.vm_cli.specs.declared.stop.Unserved.TheVariants.{Stopped, Memory}
-use Rattle.vm_words.specs.declared.Command.{Command}
-use Rattle.vm_words.specs.declared.Command.TheVariants.{Run}
-use Rattle.vm_cli.specs.Asked.{Asked, HasShape, asked_of}
+use Rattle.vm_replay.specs.Told.{PlayedFile}
+use Rattle.vm_cli.specs.declared.halt.Halt.{Halt}
+use Rattle.vm_cli.specs.Asked.{Asked, HasShape}
+use Rattle.vm_cli.specs.Halts.{IsHalted, halt_text, played_status, status_of as halt_status}
 use Rattle.vm_cli.specs.Files.{HasFile}
 use Rattle.vm_cli.specs.Images.{IsTreeFile, IsNoTree, HasRows, file_map}
-use Rattle.vm_cli.specs.Served.{IsServed, IsAnswered, IsGoodScript, Answers}
+use Rattle.vm_cli.specs.Served.{IsServed, IsAnswered, IsGoodScript}
 use Rattle.vm_cli.specs.Stops.{HasGoodImage, HasReadCause, IsStopped, IsWrongLength, ReadsCalls, ReadsImage, Serves, TellsImage, TellsShape, most_image, status_of, stop_text}
-use Rattle.vm_cli.specs.Endings.{CommandEnds, IsSaid, ScriptEnds, stopped, unable}
+use Rattle.vm_cli.specs.Endings.{IsSaid, IsToldReplay, ReplayEnds, ScriptEnds, halted, stopped, unable, untold}
 use Rattle.vm_cli.proofs.Files.{page_file, wrong_length, has_file}
 
 -- ---- the numbers
@@ -102,9 +103,15 @@ pub refused_ends : (asked : Asked) (failed : List ℕ) (stop : Stop) (old new : 
 refused_ends asked failed stop old new status s (inl said) = stopped stop s said
 refused_ends asked failed stop old new status s (inr out) = unable out.0 out.1
 
--- what the command `run` asks
-abbrev pub asked_in : Command → Asked
-asked_in (Run run) = asked_of run
+-- ---- a replay
 
-pub run_ends : (command : Command) (asked : Asked) (failed : List ℕ) (old new : Option Shown) (status : ℕ) → asked ≡ asked_in command → ScriptEnds asked failed old new status → CommandEnds command failed old new status
-run_ends (Run run) asked failed old new status same ends = subst (λ a. ScriptEnds a failed old new status) same ends
+pub halted_ends : (file failed : List ℕ) (halt : Halt) (old new : Option Shown) (status : ℕ) → IsHalted old failed file halt → IsSaid old new (halt_text file halt) (halt_status halt) status ⊎ ((new ≡ old) × (status ≡ 6)) → ReplayEnds file failed old new status
+halted_ends file failed halt old new status h (inl said) = halted halt h said
+halted_ends file failed halt old new status h (inr out) = untold out.0 out.1
+
+-- a list that was played and ended with status 0 had no illegal event
+pub told_replay : (file text : List ℕ) (is_legal : Bool) (old new : Option Shown) (status : ℕ) → status ≡ 0 → HasFile old file (λ bytes. PlayedFile bytes text is_legal) → IsSaid old new text (played_status is_legal) status → IsToldReplay file old new
+told_replay file text true old new status zero has (inl said) = record { text = text; played = has; told = said.1 }
+told_replay file text true old new status zero has (inr front) = absurd (omega (arith, front.0))
+told_replay file text false old new status zero has (inl said) = absurd (omega (arith, said.0))
+told_replay file text false old new status zero has (inr front) = absurd (omega (arith, front.0))

@@ -3,4 +3,5 @@ pub mod Files
 pub mod Images
 pub mod Served
 pub mod Stops
+pub mod Halts
 pub mod Endings

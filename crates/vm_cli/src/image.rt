@@ -36,11 +36,7 @@ fn rows_in(alloc: Global, bytes: &[u8]) -> Result<Vec<Pair>, Unserved>
 }
 
 /// Reads a page file and checks it: its rows by rising key.
-pub fn read_rows<H: Host>(
-    alloc: Global,
-    host: &mut H,
-    name: &str,
-) -> Result<Vec<Pair>, Unserved>
+pub fn read_rows<H: Host>(alloc: Global, host: &mut H, name: &str) -> Result<Vec<Pair>, Unserved>
     ensures reads { ReadsImage (λ v. v.items) (H.shown host.old) (H.last host.new) name.now result }
     ensures rise { IfOk result (λ v. Rises 0 (2 ^ 64) v.items) }
     ensures shown { H.shown host.new ≡ H.shown host.old }

@@ -1,10 +1,12 @@
-//! Runs scripts of calls on a map, and prints the replies and the rows.
+//! Runs scripts of calls on a page file's map, and prints the replies and the rows; replays lists of events.
 #![tactic(auto)]
 
 mod answer;
 mod gate;
+mod halt;
 mod image;
 mod run;
+mod run_replay;
 mod run_script;
 mod say;
 mod serve;

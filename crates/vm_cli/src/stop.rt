@@ -63,8 +63,8 @@ pub fn line_of(alloc: Global, run: &Run<'_>, stop: Stop) -> Result<String, Alloc
     }
 }
 
-// The line that names a file that could not be read.
-fn read_line(alloc: Global, name: &str) -> Result<String, AllocError>
+/// The line that names a file that could not be read.
+pub fn read_line(alloc: Global, name: &str) -> Result<String, AllocError>
     ensures { IfOk result (λ line. string_bytes line ≡ codes "read " ++ name.now ++ 10 ∷ []) }
 {
     format!(in alloc; "read {name}\n")

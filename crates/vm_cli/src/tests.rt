@@ -23,11 +23,7 @@ fn words(alloc: Global, words: &[&str]) -> Result<Vec<String>, AllocError> {
 }
 
 // Zeros with some bytes set.
-fn with_bytes(
-    alloc: Global,
-    len: usize,
-    bytes: &[(usize, u8)],
-) -> Result<Vec<u8>, AllocError> {
+fn with_bytes(alloc: Global, len: usize, bytes: &[(usize, u8)]) -> Result<Vec<u8>, AllocError> {
     let mut image = vec![in alloc; 0u8; len]?;
     for &(place, byte) in bytes {
         if place < image.len() {
@@ -204,4 +200,24 @@ fn a_failed_say_is_status_3(rt: HostRuntime) -> Result<(), Fail> {
     let alloc = rt.alloc();
     let host = host(alloc, empty_image(alloc, 4096)?, b"0 put 5 7\n", &[5])?;
     expect(&rt, alloc, host, &RUN, 3, b"")
+}
+
+// Event lists: what each event saw, up to the first illegal one; a list with no shape is refused.
+#[test]
+fn replays(rt: HostRuntime) -> Result<(), Fail> {
+    let alloc = rt.alloc();
+    for (events, status, said) in [
+        (
+            b"shape 1 1 1 1\nlockx 0 0 e:1\nlook 0 0\n".as_slice(),
+            0,
+            b"2 lost e:0\n3 e:0 closed\nend 2\n".as_slice(),
+        ),
+        (b"shape 1 1 1 1\nrelease 0 0\n", 5, b"illegal 2\n"),
+        (b"", 5, b"events line 1\n"),
+    ] {
+        let host = host(alloc, empty_image(alloc, 512)?, events, &[])?;
+        expect(&rt, alloc, host, &["replay", "S"], status, said)?;
+    }
+    let host = host(alloc, empty_image(alloc, 512)?, b"", &[])?;
+    expect(&rt, alloc, host, &["replay", "NOFILE"], 2, b"read NOFILE\n")
 }

@@ -1,4 +1,4 @@
-use Rattle.vm_cli.proofs.Outcomes.{image_told, image_cause, image_rises}
+use Rattle.vm_cli.proofs.Outcomes.{image_told}
 use Rattle.vm_cli.proofs.image.read_rows.Goals as goal
 
 pub returns-in-Ok-clause-reads : goal.returns-in-Ok-clause-reads

@@ -1,6 +1,7 @@
-use Rattle.std.proofs.Common.{arith}
-use Rattle.vm_cli.proofs.Outcomes.{run_ends}
 use Rattle.vm_cli.proofs.run.perform.Goals as goal
 
-pub returns-clause-ends : goal.returns-clause-ends
-returns-clause-ends g c = run_ends c.args.command _ _ _ _ _ (grind arith) c.run_script.ensures.ends
+pub returns-in-Run-clause-ends : goal.returns-in-Run-clause-ends
+returns-in-Run-clause-ends g c = rw c.in-Run.is c.run_script.ensures.ends
+
+pub returns-in-Replay-clause-ends : goal.returns-in-Replay-clause-ends
+returns-in-Replay-clause-ends g c = rw c.in-Replay.is c.run_replay.ensures.ends

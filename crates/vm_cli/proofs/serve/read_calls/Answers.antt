@@ -1,30 +1,24 @@
-use Rattle.std.proofs.Common.{◌≡◌, ◌≤◌, ℕ, List, arith, length, refl, subst, sym, ap}
-use Rattle.std.proofs.lemmas.List.{length-map}
-use Rattle.vm_script.specs.Scripts.{IsFirstBad, most_bytes}
+use Rattle.vm_script.specs.Scripts.{most_bytes}
 use Rattle.vm_cli.specs.Served.{items_of, IsGoodScript}
 use Rattle.vm_cli.specs.Stops.{IsBadLine}
-use Rattle.vm_cli.proofs.Files.{short_file, long_file, few_script, lists_script}
+use Rattle.vm_cli.proofs.Files.{short_file, long_file, few_script}
 use Rattle.vm_cli.proofs.serve.read_calls.Goals as goal
 
 pub returns-in-Ok-read_script-clause-reads : goal.returns-in-Ok-read_script-clause-reads
 returns-in-Ok-read_script-clause-reads g c =
-    let k = rw c.as_slice.ensures.value at c.in-Ok-read_script.ensures in
+    let k = rw c.as_slice.ensures.value at c.in-Ok-read_script.ensures.reading in
     short_file _ _ _ most_bytes (λ bytes. IsGoodScript c.args.workers bytes (items_of c.in-Ok-read_script.lists.items)) c.in-Ok.ensures.whole k.0 (record { short = k.0; reads = k.1 })
 
 pub returns-in-Ok-read_script-clause-few : goal.returns-in-Ok-read_script-clause-few
-returns-in-Ok-read_script-clause-few g c = few_script _ _ _ c.in-Ok-read_script.ensures.1
-
-pub returns-in-Ok-read_script-clause-workers : goal.returns-in-Ok-read_script-clause-workers
-returns-in-Ok-read_script-clause-workers g c =
-    omega (arith, lists_script _ _ _ c.in-Ok-read_script.ensures.1, length-map c.in-Ok-read_script.lists.items (λ v. v.items))
+returns-in-Ok-read_script-clause-few g c = few_script _ _ _ c.in-Ok-read_script.ensures.reading.1
 
 pub returns-in-Err-Long-clause-reads : goal.returns-in-Err-Long-clause-reads
 returns-in-Err-Long-clause-reads g c = λ asked script workers good.
-    let k = rw c.in-Err-Long.field-0-is at c.in-Err-Long.ensures in
+    let k = rw c.in-Err-Long.field-0-is at c.in-Err-Long.ensures.reading in
     (good, rw script (long_file _ _ _ _ c.in-Ok.ensures.whole (rw c.as_slice.ensures.value at k)))
 
 pub returns-in-Err-Line-clause-reads : goal.returns-in-Err-Line-clause-reads
 returns-in-Err-Line-clause-reads g c = λ asked script workers good.
-    let k = rw c.in-Err-Line.field-0-is at c.in-Err-Line.ensures in
+    let k = rw c.in-Err-Line.field-0-is at c.in-Err-Line.ensures.reading in
     let h = rw c.as_slice.ensures.value at k in
     (good, rw (script, workers) (short_file _ _ _ most_bytes (IsBadLine c.args.workers c.in-Err-Line.line) c.in-Ok.ensures.whole h.0 (record { short = h.0; first = h.1 })))

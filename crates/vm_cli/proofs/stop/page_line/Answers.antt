@@ -1,4 +1,4 @@
-use Rattle.std.proofs.Common.{◌∙◌, sym, append_assoc}
+use Rattle.std.proofs.Common.{◌∙◌, append_assoc}
 use Rattle.vm_cli.proofs.stop.page_line.Goals as goal
 
 pub returns : goal.returns

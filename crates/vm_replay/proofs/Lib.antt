@@ -1,0 +1,4 @@
+mod Lines
+mod Seeing
+mod Shapes
+mod Stopping

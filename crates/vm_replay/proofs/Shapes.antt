@@ -1,0 +1,45 @@
+-- A core keeps its shape.
+use Rattle.std.proofs.Common.{Bool, true, false, ◌≡◌, ◌∙◌, List, [], ◌∷◌, refl, if◌then◌else◌}
+use Rattle.vm_core.specs.declared.event.Event.{Event}
+use Rattle.vm_core.specs.declared.event.Event.TheVariants.{Look, LockX, LockS, UnlockS, Mark, Unmark, LockW, Upgrade, Release, ReleaseE, Downgrade, TLoad, Install, Clear, Dirty, Clean, Load, Store, BLoad, Take, Give, Read, RFail, Write, WFail, Raise, NLoad, Claim, Hand}
+use Rattle.vm_core.specs.State.{State}
+use Rattle.vm_core.specs.Step.{after, run}
+
+either_shape : (b : Bool) (c d : State) → c.shape ≡ d.shape → (if b then c else d).shape ≡ d.shape
+either_shape true c d e = e
+either_shape false c d e = refl
+
+after_shape : (c : State) (e : Event) → (after c e).shape ≡ c.shape
+after_shape c (Look a p) = refl
+after_shape c (LockX a p expects) = refl
+after_shape c (LockS a p expects) = refl
+after_shape c (UnlockS a p) = refl
+after_shape c (Mark a p expects) = refl
+after_shape c (Unmark a p expects) = refl
+after_shape c (LockW a p expects) = refl
+after_shape c (Upgrade a p expects) = refl
+after_shape c (Release a p) = refl
+after_shape c (ReleaseE a p) = refl
+after_shape c (Downgrade a p) = refl
+after_shape c (TLoad a p) = refl
+after_shape c (Install a p f) = refl
+after_shape c (Clear a p) = refl
+after_shape c (Dirty a p) = refl
+after_shape c (Clean a p) = refl
+after_shape c (Load a p i) = refl
+after_shape c (Store a f i w) = refl
+after_shape c (BLoad a g) = refl
+after_shape c (Take a g expects mask) = either_shape _ _ c refl
+after_shape c (Give a g mask) = refl
+after_shape c (Read a p) = refl
+after_shape c (RFail a p) = refl
+after_shape c (Write a p) = refl
+after_shape c (WFail a p) = refl
+after_shape c (Raise a p) = refl
+after_shape c (NLoad a) = refl
+after_shape c (Claim a x n) = refl
+after_shape c (Hand a) = refl
+
+pub run_shape : (c : State) (es : List Event) → (run c es).shape ≡ c.shape
+run_shape c [] = refl
+run_shape c (e ∷ es) = run_shape (after c e) es ∙ after_shape c e

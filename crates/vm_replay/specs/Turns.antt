@@ -1,0 +1,22 @@
+-- The turn of one line.
+use Rattle.std.specs.Prelude.{ℕ, ◌≡◌, ◌≤◌, List, ◌++◌, length}
+use Rattle.vm_core.specs.State.{State}
+use Rattle.vm_core.specs.Step.{AllLegal, run, sees}
+use Rattle.vm_script.specs.declared.event_line.EventLine.{EventLine}
+use Rattle.vm_script.specs.SeenTexts.{seen_line}
+use Rattle.vm_replay.specs.declared.line.Turn.{Turn}
+use Rattle.vm_replay.specs.declared.line.Turn.TheVariants.{Done, Illegal}
+use Rattle.vm_replay.specs.Played.{events_of, illegal_line}
+
+-- so many events were done and told behind the text before, and led to the new state
+pub record IsDone (old : State) (number : ℕ) (line : EventLine) (before : List ℕ) (count : ℕ) (new : State) (text : List ℕ) : Type 0 where
+  pub legal : AllLegal old (events_of old line)
+  pub state : new ≡ run old (events_of old line)
+  pub told : text ≡ before ++ seen_line number line (sees old (events_of old line))
+  pub counted : count ≡ length (events_of old line)
+  pub few : count ≤ 64
+
+-- how the turn of the line ended
+abbrev pub Turned : State → ℕ → EventLine → List ℕ → Turn → State → List ℕ → Type 0
+Turned old number line before (Done count) new text = IsDone old number line before count new text
+Turned old number line before Illegal new text = (AllLegal old (events_of old line) → ⊥) × (text ≡ before ++ illegal_line number)

@@ -1,0 +1,67 @@
+//! The lines of an event list, played one after another on a core of their shape.
+
+ghost use Rattle.std.specs.Prelude.{◌≤◌, ◌+◌, ◌++◌, ◌≡◌, IfOk, length};
+ghost use Rattle.std.specs.List.{AllByRecursion};
+ghost use Rattle.vm_replay.specs.Played.{PlayedFromStart, end_line};
+ghost use Rattle.vm_script.specs.EventLines.{IsEventLine};
+ghost use Rattle.vm_script.specs.Events.{most_event_lines};
+
+use crate::line::{Turn, play_line};
+use std::alloc::{AllocError, Global};
+use vm_core::{Core, CoreShape, Memory};
+use vm_script::event_line::EventLine;
+
+/// What is told of a replay.
+#[derive(Drop)]
+pub struct Played {
+    /// A line for each event line that was done, and then `end COUNT` with the number of events, or `illegal NUMBER` with that of the
+    /// line of which an event may not happen. Each ends with a line feed.
+    pub text: Vec<u8>,
+    /// Whether every event might happen.
+    pub is_legal: bool,
+}
+
+// Appends how many events there were.
+fn end_text(alloc: Global, count: u32, out: &mut Vec<u8>) -> Result<(), AllocError>
+    ensures { IfOk result (λ _. out.new.items ≡ out.old.items ++ end_line count) }
+{
+    let line = format!(in alloc; "end {count}\n")?;
+    out.extend_from_slice(line.as_bytes())
+}
+
+/// Plays the event lines in order on a core of this shape, from its start.
+///
+/// The lines are numbered from 2, since line 1 is the shape's. A short form counts as 64 events; `fill` stores the words that the page's
+/// block has at that time. The first line of which an event may not happen is the last one played: nothing of it is told but its number.
+///
+/// # Errors
+///
+/// `Memory` where memory was refused.
+pub fn play(alloc: Global, shape: CoreShape, lines: &[EventLine]) -> Result<Played, Memory>
+    requires next { shape.next ≤ shape.pages }
+    requires each { AllByRecursion (IsEventLine shape) lines.now }
+    requires few { length lines.now + 1 ≤ most_event_lines }
+    ensures { IfOk result (λ played. PlayedFromStart shape lines.now played.text.items played.is_legal) }
+{
+    let mut core = Core::new(alloc, shape)?;
+    let mut text = Vec::new(alloc);
+    let mut number = 2;
+    let mut count = 0;
+    for line in lines {
+        match play_line(alloc, &mut core, number, line, &mut text)? {
+            Turn::Done(events) => count += events,
+            Turn::Illegal => {
+                return Ok(Played {
+                    text,
+                    is_legal: false,
+                });
+            }
+        }
+        number += 1;
+    }
+    end_text(alloc, count, &mut text)?;
+    Ok(Played {
+        text,
+        is_legal: true,
+    })
+}
