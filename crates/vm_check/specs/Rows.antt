@@ -1,7 +1,7 @@
 -- What the checker answers.
 use Rattle.std.specs.Prelude.{◌≡◌, ◌^◌, slice_index, List, ℕ, Some}
 use Rattle.vm_map.specs.Map.{Rises}
-use Rattle.vm_tree_model.specs.Pages.{page_at}
+use Rattle.vm_page.specs.Pages.{page_at}
 use Rattle.vm_tree_model.specs.Tree.{IsTree, map_of}
 use Rattle.vm_tree_model.specs.Reason.{reason, used_pages}
 use Rattle.vm_tree_model.specs.Flat.{flat_reason, IsFlatTree}

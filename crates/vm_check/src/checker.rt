@@ -1,7 +1,7 @@
 //! What the checker answers: the rows of a tree, or the first reason why the pages are none.
 
 ghost use Rattle.std.specs.Prelude.{◌≡◌, length, slice_index, MatchOption, MatchResult};
-ghost use Rattle.vm_tree_model.specs.Pages.{page_at};
+ghost use Rattle.vm_page.specs.Pages.{page_at};
 ghost use Rattle.vm_tree_model.specs.Walk.{meta_fault};
 ghost use Rattle.vm_tree_model.specs.Reason.{walked};
 ghost use Rattle.vm_tree_model.specs.Flat.{is_high};

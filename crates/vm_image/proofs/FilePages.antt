@@ -2,7 +2,7 @@
 use Rattle.std.proofs.Common.{◌≡◌, ℕ, zero, suc, ◌+◌, ◌*◌, ◌/◌, ◌<◌, ◌≤◌, List, [], ◌∷◌, ◌++◌, length, take, drop, refl, arith, ap, sym, ◌∙◌, length-drop, take-add, add-one}
 use Rattle.std.proofs.lemmas.List.{append_assoc, append-nil, drop-append-le, drop_all, take-append-le, take_all, take_more}
 use Rattle.vm_page.specs.Bytes.{bytes_of_words, words_of_bytes}
-use Rattle.vm_tree_model.specs.Pages.{page_at}
+use Rattle.vm_page.specs.Pages.{page_at}
 use Rattle.vm_image.specs.File.{page_in, pages_in, pages_of_bytes, bytes_of_pages, HaveWords}
 
 pub bytes_of-append : (xs ys : List (List ℕ)) → bytes_of_pages (xs ++ ys) ≡ bytes_of_pages xs ++ bytes_of_pages ys

@@ -1,7 +1,7 @@
 -- A look for the next page, from the last page down.
 use Rattle.std.proofs.Common.{◌≡◌, ℕ, ◌+◌, ◌-◌, ◌<◌, ◌≤◌, inl, inr, List, length, true, false, arith, sym, ◌∙◌}
 use Rattle.std.proofs.lemmas.Bool.{cases_eq}
-use Rattle.vm_tree_model.specs.Pages.{page_at}
+use Rattle.vm_page.specs.Pages.{page_at}
 use Rattle.vm_tree_model.specs.Page.{IsFree}
 use Rattle.vm_tree_model.specs.Walk.{is_free}
 use Rattle.vm_tree_model.proofs.WordTests.{is_free-tells, is_free-from}

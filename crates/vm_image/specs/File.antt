@@ -1,7 +1,7 @@
 -- The bytes of a page file, and the next page of an image.
 use Rattle.std.specs.Prelude.{◌≡◌, ℕ, zero, suc, ◌+◌, ◌*◌, ◌/◌, ◌<◌, ◌≤◌, List, [], ◌∷◌, ◌++◌, length, take, drop}
 use Rattle.vm_page.specs.Bytes.{bytes_of_words, words_of_bytes}
-use Rattle.vm_tree_model.specs.Pages.{page_at}
+use Rattle.vm_page.specs.Pages.{page_at}
 use Rattle.vm_tree_model.specs.Page.{IsFree}
 
 -- 2 to 65,536 pages of 512 bytes

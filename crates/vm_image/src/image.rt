@@ -1,7 +1,7 @@
 //! The pages of a page file as words.
 
 ghost use Rattle.std.specs.Prelude.{◌≡◌, ℕ, ◌+◌, ◌*◌, ◌<◌, ◌≤◌, length, slice_index, MatchResult, IfOk};
-ghost use Rattle.vm_tree_model.specs.Pages.{page_at};
+ghost use Rattle.vm_page.specs.Pages.{page_at};
 ghost use Rattle.vm_image.specs.File.{IsPageFile, pages_of_bytes, bytes_of_pages, HaveWords, IsNextPage};
 ghost use Rattle.vm_image.specs.Faults.{IsRefused};
 

@@ -1,6 +1,6 @@
 -- Trees of height 0, one leaf under page 0: what the checker takes for now. The definitions of a tree and of its walk stand for every height; this is the one place that leaves all but height 0 out.
 use Rattle.std.specs.Prelude.{◌≡◌, ℕ, List, slice_index, Option, Some, Bool, not, ◌&&◌, ◌==◌, if◌then◌else◌}
-use Rattle.vm_tree_model.specs.Pages.{page_at}
+use Rattle.vm_page.specs.Pages.{page_at}
 use Rattle.vm_tree_model.specs.Tree.{IsTree}
 use Rattle.vm_tree_model.specs.Reason.{reason}
 

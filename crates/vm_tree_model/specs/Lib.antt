@@ -1,6 +1,5 @@
 pub mod Node
 pub mod Page
-pub mod Pages
 pub mod Tree
 pub mod Count
 pub mod Walk

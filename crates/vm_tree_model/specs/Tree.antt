@@ -2,7 +2,7 @@
 use Rattle.std.specs.Prelude.{◌≡◌, ℕ, ◌^◌, ◌<◌, ◌≤◌, ◌==◌, List, [], ◌∷◌, ◌++◌, length, drop, slice_index, if◌then◌else◌, ◌⊎◌}
 use Rattle.vm_map.specs.Map.{Pairs, gather}
 use Rattle.vm_tree_model.specs.Node.{Node, Covers, IsTreeOf}
-pub use Rattle.vm_tree_model.specs.Pages.{page_at}
+pub use Rattle.vm_page.specs.Pages.{page_at}
 use Rattle.vm_tree_model.specs.Page.{pairs_of, node_of, IsFree, IsLeaf, IsInner, IsMeta}
 
 abbrev pub node_at : List (List ℕ) → ℕ → Node

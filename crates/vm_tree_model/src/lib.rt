@@ -5,7 +5,7 @@
 
 ghost use Rattle.std.specs.Prelude.{◌≡◌, ◌↔◌, ℕ, ◌+◌, ◌^◌, ◌≤◌, List, length, slice_index, None, Ok};
 ghost use Rattle.vm_map.specs.Map.{Rises};
-ghost use Rattle.vm_tree_model.specs.Pages.{page_at};
+ghost use Rattle.vm_page.specs.Pages.{page_at};
 ghost use Rattle.vm_tree_model.specs.Tree.{IsTree, IsParted, map_of};
 ghost use Rattle.vm_tree_model.specs.Reason.{reason, walked};
 ghost use Rattle.vm_tree_model.specs.Flat.{flat_reason, IsFlatTree};

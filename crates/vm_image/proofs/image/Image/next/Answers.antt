@@ -1,5 +1,5 @@
 use Rattle.std.proofs.Common.{◌≡◌, ◌-◌, true, false, arith, sym, ◌∙◌, ap}
-use Rattle.vm_tree_model.specs.Pages.{page_at}
+use Rattle.vm_page.specs.Pages.{page_at}
 use Rattle.vm_tree_model.specs.Walk.{is_free}
 use Rattle.vm_image.proofs.NextPage.{used_before, free_before}
 use Rattle.vm_image.proofs.image.Image.next.Goals as goal

@@ -1,5 +1,5 @@
 use Rattle.std.proofs.Common.{ℕ, ◌≤◌, ◌<◌, length}
-use Rattle.vm_tree_model.specs.Pages.{page_at}
+use Rattle.vm_page.specs.Pages.{page_at}
 use Rattle.vm_tree_model.specs.Page.{IsFree}
 use Rattle.vm_image.proofs.image.Image.next.Given as goal
 
