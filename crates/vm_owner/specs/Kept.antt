@@ -1,0 +1,98 @@
+-- What a layer above a page store keeps a relation of, as plain data, and the steps that change it.
+use Rattle.std.specs.Prelude.{◌≡◌, ℕ, zero, suc, ◌+◌, ◌<◌, ◌≤◌, ◌==◌, true, false, List, [], ◌∷◌, ◌++◌, length, slice_index, slice_set, if◌then◌else◌}
+use Rattle.vm_page.specs.Pages.{page_at}
+use Rattle.vm_owner.specs.Numbers.{has, without, AreApart}
+use Rattle.vm_owner.specs.declared.Entry.{Entry}
+
+-- The pages and the next page with which the table began
+pub record Start : Type 0 where
+  pub pages : List (List ℕ)
+  pub next : ℕ
+
+-- The logical pages, the next page, the pages that were claimed for a group still to be released, and the history
+pub record Kept (S : Type 0) : Type 0 where
+  pub pages : List (List ℕ)
+  pub next : ℕ
+  pub owed : List ℕ
+  pub history : List (Entry S)
+
+-- A page's words before and after a release
+pub record Change : Type 0 where
+  pub page : ℕ
+  pub old : List ℕ
+  pub new : List ℕ
+
+abbrev pub pages_of : List Change → List ℕ
+pages_of [] = []
+pages_of (c ∷ cs) = c.page ∷ pages_of cs
+
+-- each change has the page's words before
+abbrev pub Agrees : List (List ℕ) → List Change → Type 0
+Agrees pages [] = Unit {0}
+Agrees pages (c ∷ cs) = (c.page < length pages) × (page_at pages c.page ≡ c.old) × Agrees pages cs
+
+-- the pages after all changes
+abbrev pub changed : List Change → List (List ℕ) → List (List ℕ)
+changed [] pages = pages
+changed (c ∷ cs) pages = changed cs (slice_set pages c.page c.new)
+
+-- the pages still owed after a release of these
+abbrev pub owed_after : List Change → List ℕ → List ℕ
+owed_after [] owed = owed
+owed_after (c ∷ cs) owed = owed_after cs (without c.page owed)
+
+-- no word changes, and no page is among those that are owed to the pass
+abbrev pub AreUnchanged : List ℕ → List Change → Type 0
+AreUnchanged due [] = Unit {0}
+AreUnchanged due (c ∷ cs) = (c.new ≡ c.old) × (has c.page due ≡ false) × AreUnchanged due cs
+
+-- each page has 64 words, before and after
+abbrev pub AreSized : List Change → Type 0
+AreSized [] = Unit {0}
+AreSized (c ∷ cs) = (length c.old ≡ 64) × (length c.new ≡ 64) × AreSized cs
+
+-- how many entries a number has
+abbrev pub calls_of : {S : Type 0} → ℕ → List (Entry S) → ℕ
+calls_of number [] = 0
+calls_of number (e ∷ h) = (if e.number == number then 1 else 0) + calls_of number h
+
+-- there is no entry, or one, which is its number's next
+abbrev pub IsTurn : {S : Type 0} → List (Entry S) → List (Entry S) → Type 0
+IsTurn history [] = Unit {0}
+IsTurn history (e ∷ es) = (e.count ≡ calls_of e.number history + 1) × (es ≡ [])
+
+module _ {S : Type 0} where
+  -- The changes of a pass to which the pages `due` are owed fit what stands: one to four pages, each another one
+  pub record Fits (kept : Kept S) (due : List ℕ) (changes : List Change) : Type 0 where
+    pub agrees : Agrees kept.pages changes
+    pub apart : AreApart (pages_of changes)
+    pub sized : AreSized changes
+    pub few : length changes ≤ 4
+    pub owed : (p : ℕ) → has p due ≡ true → has p kept.owed ≡ true
+
+  -- after pages were released together, at the group's first release
+  abbrev pub released : List Change → List (Entry S) → Kept S → Kept S
+  released changes entries kept = record { pages = changed changes kept.pages; next = kept.next; owed = owed_after changes kept.owed; history = kept.history ++ entries }
+
+  -- after a validated read
+  abbrev pub told : List (Entry S) → Kept S → Kept S
+  told entries kept = record kept { history = kept.history ++ entries }
+
+  -- after a claim of n pages
+  abbrev pub claimed : ℕ → Kept S → Kept S
+  claimed zero kept = kept
+  claimed (suc n) kept = claimed n (record kept { next = kept.next + 1; owed = kept.next ∷ kept.owed })
+
+  -- the next n pages are there, and all their words are 0
+  pub record AreZero (kept : Kept S) (n : ℕ) : Type 0 where
+    pub there : kept.next + n ≤ length kept.pages
+    pub zero : (p i : ℕ) → kept.next ≤ p → p < kept.next + n → slice_index (page_at kept.pages p) i ≡ 0
+
+  -- the list has just the pages that are owed, each once
+  pub record IsOwedList (kept : Kept S) (owed : List ℕ) : Type 0 where
+    pub apart : AreApart owed
+    pub same : (p : ℕ) → has p owed ≡ has p kept.owed
+
+  -- what stands at the start
+  abbrev pub first_kept : Start → Kept S
+  first_kept start = record { pages = start.pages; next = start.next; owed = []; history = [] }

@@ -1,0 +1,71 @@
+//! What a layer above a page store keeps true of the logical pages and the history: an interface over plain data,
+//! with the laws that let the store take each step without knowing the layer.
+#![tactic(auto)]
+
+/// An entry of the history: the number under which it was made, how many that number has with it, and what was said.
+pub struct Entry<S> {
+    pub number: u64,
+    pub count: u64,
+    pub said: S,
+}
+
+ghost use Rattle.std.specs.Prelude.{◌≡◌, []};
+
+/// A layer above a page store: a relation over plain data, and its laws.
+pub trait Owner {
+    type Said;
+
+    ghost use Rattle.std.specs.Prelude.{ℕ, ◌<◌, List, length};
+    ghost use Rattle.vm_page.specs.Pages.{page_at};
+    ghost use Rattle.vm_owner.specs.declared.Entry.{Entry};
+    ghost use Rattle.vm_owner.specs.Kept.{Start, Kept, Change, Fits, IsTurn, released, told, claimed, AreZero, IsOwedList};
+
+    // What holds of the start and of what stands now.
+    ghost keeps: { Start → Kept Self.Said → Type 0 };
+
+    // When a pass, to which some pages are owed, may release pages together with these entries.
+    ghost may_release: { Start → List ℕ → List Change → List (Entry Self.Said) → Type 0 };
+
+    // When a page's words, read whole at one moment, prove these entries.
+    ghost may_read: { Start → ℕ → List ℕ → List (Entry Self.Said) → Type 0 };
+
+    // What a page's words say of another page's words.
+    ghost tied: { Start → ℕ → List ℕ → ℕ → List ℕ → Type 0 };
+
+    ghost releases: { (start : Start) (kept : Kept Self.Said) (due : List ℕ) (changes : List Change) (entries : List (Entry Self.Said)) → keeps start kept → Fits kept due changes → IsTurn kept.history entries → may_release start due changes entries → keeps start (released changes entries kept) };
+
+    ghost reads: { (start : Start) (kept : Kept Self.Said) (page : ℕ) (entries : List (Entry Self.Said)) → keeps start kept → page < length kept.pages → IsTurn kept.history entries → may_read start page (page_at kept.pages page) entries → keeps start (told entries kept) };
+
+    ghost claims: { (start : Start) (kept : Kept Self.Said) (n : ℕ) → keeps start kept → AreZero kept n → keeps start (claimed n kept) };
+
+    // The order of the pages owed does not matter.
+    ghost reorders: { (start : Start) (kept : Kept Self.Said) (owed : List ℕ) → keeps start kept → IsOwedList kept owed → keeps start (record kept { owed = owed }) };
+
+    ghost ties: { (start : Start) (kept : Kept Self.Said) (r p : ℕ) → keeps start kept → r < length kept.pages → p < length kept.pages → tied start r (page_at kept.pages r) p (page_at kept.pages p) };
+}
+
+/// An owner that keeps nothing and adds no entry.
+#[derive(Drop)]
+pub struct Bare;
+
+impl Owner for Bare {
+    type Said = ();
+
+    ghost keeps = { λ _ _. Unit {0} };
+
+    ghost may_release = { λ _ _ _ entries. entries ≡ [] };
+
+    ghost may_read = { λ _ _ _ entries. entries ≡ [] };
+
+    ghost tied = { λ _ _ _ _ _. Unit {0} };
+
+    ghost releases = { λ _ _ _ _ _ _ _ _ _. tt };
+
+    ghost reads = { λ _ _ _ _ _ _ _ _. tt };
+
+    ghost claims = { λ _ _ _ _ _. tt };
+
+    ghost reorders = { λ _ _ _ _ _. tt };
+
+    ghost ties = { λ _ _ _ _ _ _ _. tt };
+}
