@@ -2,4 +2,3 @@ mod Steps
 mod Pushes
 mod Visits
 mod Answered
-mod Flats

@@ -4,7 +4,6 @@ use Rattle.vm_map.specs.Map.{Rises}
 use Rattle.vm_page.specs.Pages.{page_at}
 use Rattle.vm_tree_model.specs.Tree.{IsTree, map_of}
 use Rattle.vm_tree_model.specs.Reason.{reason, used_pages}
-use Rattle.vm_tree_model.specs.Flat.{flat_reason, IsFlatTree}
 use Rattle.vm_check.specs.declared.rows.Rows.{Rows}
 use Rattle.vm_check.specs.declared.fault.CheckFault.{CheckFault}
 use Rattle.vm_check.specs.declared.fault.CheckFault.TheVariants.{BadPage, Memory}
@@ -21,12 +20,3 @@ pub record AreRows (pages : List (List ℕ)) (rows : Rows) : Type 0 where
 abbrev pub IsRefused : List (List ℕ) → CheckFault → Type 0
 IsRefused pages (BadPage page why) = (reason pages ≡ Some (page, why)) × ¬ (IsTree pages)
 IsRefused pages Memory = Unit {0}
-
--- the same at height 0
-pub record AreFlatRows (pages : List (List ℕ)) (rows : Rows) : Type 0 where
-  pub flat : IsFlatTree pages
-  pub answer : AreRows pages rows
-
-abbrev pub IsFlatRefused : List (List ℕ) → CheckFault → Type 0
-IsFlatRefused pages (BadPage page why) = (flat_reason pages ≡ Some (page, why)) × ¬ (IsFlatTree pages)
-IsFlatRefused pages Memory = Unit {0}

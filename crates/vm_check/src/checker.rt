@@ -4,8 +4,7 @@ ghost use Rattle.std.specs.Prelude.{◌≡◌, length, slice_index, MatchOption,
 ghost use Rattle.vm_page.specs.Pages.{page_at};
 ghost use Rattle.vm_tree_model.specs.Walk.{meta_fault};
 ghost use Rattle.vm_tree_model.specs.Reason.{walked};
-ghost use Rattle.vm_tree_model.specs.Flat.{is_high};
-ghost use Rattle.vm_check.specs.Rows.{AreRows, IsRefused, AreFlatRows, IsFlatRefused};
+ghost use Rattle.vm_check.specs.Rows.{AreRows, IsRefused};
 ghost use Rattle.vm_check.specs.Progress.{outcome, IsGoing};
 
 use crate::fault::CheckFault;
@@ -17,30 +16,33 @@ use vm_image::{Image, is_zero_from};
 // The first word of a page file: the bytes "VMCACHE1".
 const MAGIC: u64 = 0x564D_4341_4348_4531;
 
-/// The rows of a tree of height 0 by rising key, or the first reason why the pages are none: the page at fault and the
-/// reason's number, as the walk over page 0, the tree and the other pages meets them.
-///
-/// A height above 0 is refused for now, as reason 2 of page 0.
-#[tactic(auto, using(crate::proofs::Flats::high_refused, crate::proofs::Flats::flat_rows, crate::proofs::Flats::flat_refused))]
+/// The rows of the tree that the pages are, by rising key; or the first reason why they are none: the page at fault and
+/// the reason's number, as the walk over page 0, the tree and the other pages meets them.
 pub fn check(alloc: Global, image: &Image) -> Result<Rows, CheckFault>
-    ensures { MatchResult result (λ rows. AreFlatRows image.now rows) (λ fault. IsFlatRefused image.now fault) }
+    ensures { MatchResult result (λ rows. AreRows image.now rows) (λ fault. IsRefused image.now fault) }
 {
-    if is_high(image) {
-        return Err(CheckFault::BadPage { pid: 0, why: 2 });
+    match meta_fault(image) {
+        Some(why) => return Err(CheckFault::BadPage { pid: 0, why }),
+        None => {}
     }
-    match check_any_height(alloc, image) {
-        Ok(rows) => Ok(rows),
+    let mut walk = match Walk::start(alloc, image) {
+        Ok(walk) => walk,
+        Err(_) => return Err(CheckFault::Memory),
+    };
+    while let Some(slot) = walk.next() {
+        match walk.visit(image, slot) {
+            Ok(()) => {}
+            Err(fault) => return Err(fault),
+        }
+    }
+    match walk.used_pages(image) {
+        Ok(used) => Ok(Rows {
+            pairs: walk.rows,
+            height: image.page(0).get(2),
+            used,
+        }),
         Err(fault) => Err(fault),
     }
-}
-
-// Page 0 has the magic word and a height above 0.
-fn is_high(image: &Image) -> bool
-    ensures { result ≡ is_high image.now }
-{
-    // An image has two pages at least.
-    let _ = image.pages();
-    image.word(0, 0) == MAGIC && image.word(0, 2) != 0
 }
 
 // Why page 0 is no meta page, in its order: the magic word, then all else that it asks for.
@@ -66,32 +68,4 @@ fn meta_fault(image: &Image) -> Option<u8>
         return Some(2);
     }
     None
-}
-
-// The rows of a tree of any height by rising key, or the first reason why the pages are none.
-fn check_any_height(alloc: Global, image: &Image) -> Result<Rows, CheckFault>
-    ensures { MatchResult result (λ rows. AreRows image.now rows) (λ fault. IsRefused image.now fault) }
-{
-    match meta_fault(image) {
-        Some(why) => return Err(CheckFault::BadPage { pid: 0, why }),
-        None => {}
-    }
-    let mut walk = match Walk::start(alloc, image) {
-        Ok(walk) => walk,
-        Err(_) => return Err(CheckFault::Memory),
-    };
-    while let Some(slot) = walk.next() {
-        match walk.visit(image, slot) {
-            Ok(()) => {}
-            Err(fault) => return Err(fault),
-        }
-    }
-    match walk.used_pages(image) {
-        Ok(used) => Ok(Rows {
-            pairs: walk.rows,
-            height: image.page(0).get(2),
-            used,
-        }),
-        Err(fault) => Err(fault),
-    }
 }

@@ -1,30 +1,24 @@
-//! Two page files with their rows, and a table of damaged ones: the expected page and reason are worked out by hand
-//! from the rules of the walk.
-//!
-//! Reasons 3 and 8 can't be met at height 0: the root alone is visited, once, and a leaf names no child.
+//! Page files with their rows, and tables of damaged ones: the expected page and reason are worked out by hand from the
+//! rules of the walk.
+
+mod leaf;
+mod two_leaves;
 
 use crate::{CheckFault, check};
+use std::alloc::Global;
+use std::process::Abort;
 use std::test::Fail;
 use vm_image::read_image;
-use vm_map::call::Pair;
 
 /// A page, a word of it, and what stands there.
 type Place = (usize, usize, u64);
 
+/// A word that is changed, the page at fault then, and the reason.
+type Damage = (Place, u32, u8);
+
 const MAGIC: u64 = 0x564D_4341_4348_4531;
 
-// Page 0 names the root on page 1, which is a leaf without a high fence.
-const EMPTY: [Place; 4] = [(0, 0, MAGIC), (0, 1, 1), (1, 0, 2), (1, 4, 1)];
-
-// The leaf has the pairs 1 1 and 7806831264735756412 2.
-const PAIRS: [Place; 5] = [
-    (1, 1, 2),
-    (1, 8, 1),
-    (1, 9, 1),
-    (1, 10, 7806831264735756412),
-    (1, 11, 2),
-];
-
+/// Writes words of a page file of eight pages.
 fn write(bytes: &mut [u8; 4096], places: &[Place]) {
     for &(page, word, value) in places {
         if page < 8 && word < 64 {
@@ -34,84 +28,32 @@ fn write(bytes: &mut [u8; 4096], places: &[Place]) {
     }
 }
 
-#[test]
-fn a_tree_has_its_rows(rt: HostRuntime) -> Result<(), Fail> {
-    let mut bytes = [0; 4096];
-    write(&mut bytes, EMPTY.as_slice());
-    let empty = check(rt.alloc(), &read_image(rt.alloc(), &bytes)?)?;
-    assert_eq!(rt; empty.pairs.len(), 0);
-    assert_eq!(rt; (empty.height, empty.used), (0, 2));
-
-    write(&mut bytes, PAIRS.as_slice());
-    let rows = check(rt.alloc(), &read_image(rt.alloc(), &bytes)?)?;
-    let first = Pair { key: 1, value: 1 };
-    let second = Pair {
-        key: 7806831264735756412,
-        value: 2,
-    };
-    assert_eq!(rt; rows.pairs.as_slice(), [first, second].as_slice());
-    assert_eq!(rt; (rows.height, rows.used), (0, 2));
-    Ok(())
-}
-
-#[test]
-fn damage_has_its_page_and_reason(rt: HostRuntime) -> Result<(), Fail> {
-    for (place, page, reason) in [
-        // The magic word.
-        ((0, 0, 0), 0, 1),
-        // The root's page is 0, or past the last; a height above 0; a word of page 0 that carries nothing.
-        ((0, 1, 0), 0, 2),
-        ((0, 1, 8), 0, 2),
-        ((0, 2, 1), 0, 2),
-        ((0, 3, 1), 0, 2),
-        ((0, 63, 1), 0, 2),
-        // The tag of an inner node; a root on a free page.
-        ((1, 0, 3), 1, 4),
-        ((0, 1, 2), 2, 4),
-        // The low fence, the high fence, and the word that says that there is none.
-        ((1, 2, 1), 1, 5),
-        ((1, 3, 5), 1, 5),
-        ((1, 4, 0), 1, 5),
-        // A count above 28, a level, the two words without meaning, words after the last pair.
-        ((1, 1, 29), 1, 6),
-        ((1, 5, 1), 1, 6),
-        ((1, 6, 1), 1, 6),
-        ((1, 7, 1), 1, 6),
-        ((1, 12, 9), 1, 6),
-        ((1, 1, 1), 1, 6),
-        // The second key is the first one, or below it.
-        ((1, 10, 1), 1, 7),
-        ((1, 8, 18446744073709551615), 1, 7),
-        // A page that nobody names and that is not all zero.
-        ((2, 5, 1), 2, 9),
-        ((7, 63, 1), 7, 9),
-    ] {
-        let mut bytes = [0; 4096];
-        write(&mut bytes, EMPTY.as_slice());
-        write(&mut bytes, PAIRS.as_slice());
-        write(&mut bytes, [place].as_slice());
-        let image = read_image(rt.alloc(), &bytes)?;
-        match check(rt.alloc(), &image) {
-            Err(CheckFault::BadPage { pid, why }) => {
-                assert_eq!(rt; (pid, why), (page, reason), "with {place:?}");
-            }
-            _ => assert!(rt; false, "{place:?} is damage"),
-        }
+/// Writes pairs of a key that is its own value: those from the first key on and below the end.
+fn write_pairs(bytes: &mut [u8; 4096], page: usize, first: u32, end: u32) {
+    for key in first..end {
+        let word = 8 + 2 * (key - first) as usize;
+        let value = key as u64;
+        write(
+            bytes,
+            [(page, word, value), (page, word + 1, value)].as_slice(),
+        );
     }
-    Ok(())
 }
 
-// An inner node that names itself, under a page 0 of height 1: the height is refused first.
-#[test]
-fn a_height_above_0_is_refused(rt: HostRuntime) -> Result<(), Fail> {
-    let mut bytes = [0; 4096];
-    let node = [(1, 0, 3), (1, 1, 1), (1, 4, 1), (1, 5, 1), (1, 9, 1)];
-    write(&mut bytes, [(0, 0, MAGIC), (0, 1, 1), (0, 2, 1)].as_slice());
-    write(&mut bytes, node.as_slice());
-    let image = read_image(rt.alloc(), &bytes[0..1536])?;
-    match check(rt.alloc(), &image) {
-        Err(CheckFault::BadPage { pid, why }) => assert_eq!(rt; (pid, why), (0, 2)),
-        _ => assert!(rt; false, "a height of 1 is refused"),
+/// The page file is refused with this page and reason.
+fn expect_fault<R: Abort>(
+    rt: &R,
+    alloc: Global,
+    bytes: &[u8],
+    place: Place,
+    page: u32,
+    reason: u8,
+) -> Result<(), Fail> {
+    match check(alloc, &read_image(alloc, bytes)?) {
+        Err(CheckFault::BadPage { pid, why }) => {
+            assert_eq!(rt; (pid, why), (page, reason), "with {place:?}");
+        }
+        _ => assert!(rt; false, "{place:?} is damage"),
     }
     Ok(())
 }

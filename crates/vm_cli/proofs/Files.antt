@@ -1,17 +1,19 @@
 -- What is read of a file, and what the file has.
-use Rattle.std.proofs.Common.{◌≡◌, Bool, true, false, cond, zero, suc, ◌==◌, ℕ, ◌+◌, ◌≤◌, ◌<◌, List, [], ◌∷◌, ◌++◌, length, take, Option, Some, None, ◌⊎◌, inl, inr, refl, sym, ap, subst, ◌∙◌, arith, length-take, length-append}
+use Rattle.std.proofs.Common.{◌≡◌, Bool, true, false, cond, zero, suc, ◌==◌, ℕ, ◌+◌, ◌≤◌, ◌<◌, List, [], ◌∷◌, ◌++◌, length, map, take, Option, Some, None, ◌⊎◌, inl, inr, refl, sym, ap, subst, ◌∙◌, arith, length-take, length-append}
 use Rattle.std.proofs.lemmas.Bool.{cases_lt}
 use Rattle.std.proofs.lemmas.List.{take_all, length-map}
-use Rattle.std.specs.List.{filter}
+use Rattle.std.specs.List.{AllByRecursion, filter}
 use Rattle.vm_io.specs.Shown.{Shown}
 use Rattle.vm_io.specs.Loops.{ReadsWhole}
 use Rattle.vm_map.specs.declared.call.Call.{Call}
+use Rattle.vm_map.specs.declared.call.Call.TheVariants.{Get, Put, Del, Window}
+use Rattle.vm_map.specs.History.{IsAskable}
 use Rattle.vm_script.specs.declared.script.Order.{Order}
-use Rattle.vm_script.specs.Scripts.{IsScript, calls_of, lists_of, most_lines}
+use Rattle.vm_script.specs.Scripts.{IsCall, IsOrder, IsScript, calls_of, lists_of, most_lines}
 use Rattle.vm_cli.specs.Files.{HasFile}
 use Rattle.vm_image.specs.File.{IsPageFile}
-use Rattle.vm_cli.specs.Served.{AreFew}
-use Rattle.vm_cli.specs.Stops.{most_image, IsWrongLength}
+use Rattle.vm_cli.specs.Served.{AreAskable, AreFew}
+use Rattle.vm_cli.specs.Images.{most_image, IsWrongLength}
 
 whole_bytes : (bytes found : List ℕ) (limit : ℕ) → found ≡ take (limit + 1) bytes → length found ≤ limit → found ≡ bytes
 whole_bytes bytes found limit e h = e ∙ take_all (limit + 1) bytes (omega (arith, ap length e, length-take (limit + 1) bytes))
@@ -68,6 +70,33 @@ length_lists (suc workers) orders = omega (arith, length-append (lists_of worker
 -- no worker of a script has more calls than a script has lines
 pub few_script : (workers : ℕ) (bytes : List ℕ) (lists : List (List Call)) → IsScript workers bytes lists → AreFew lists
 few_script workers bytes lists s = subst (λ l. AreFew l) (sym s.each) (few_lists workers s.orders s.spells.few)
+
+askable_call : (call : Call) → IsCall call → IsAskable call
+askable_call (Get key) is = tt
+askable_call (Put key value) is = tt
+askable_call (Del key) is = tt
+askable_call (Window start most) is = is.1
+
+askable_calls : (workers worker : ℕ) (orders : List Order) → AllByRecursion (IsOrder workers) orders → AllByRecursion IsAskable (calls_of worker orders)
+askable_calls workers worker [] each = tt
+askable_calls workers worker (order ∷ orders) each =
+    let others = askable_calls workers worker orders each.1 in
+    elim (order.worker == worker) as (λ b. AllByRecursion IsAskable (map (λ (o : Order). o.call) (cond b (order ∷ filter (λ o. o.worker == worker) orders) (filter (λ o. o.worker == worker) orders)))) [
+      | true ↦ (askable_call order.call each.0.call, others)
+      | false ↦ others
+    ]
+
+askable_append : (xs : List (List Call)) (x : List Call) → AreAskable xs → AllByRecursion IsAskable x → AreAskable (xs ++ x ∷ [])
+askable_append [] x all h = (h, tt)
+askable_append (y ∷ xs) x all h = (all.0, askable_append xs x all.1 h)
+
+askable_lists : (workers below : ℕ) (orders : List Order) → AllByRecursion (IsOrder workers) orders → AreAskable (lists_of below orders)
+askable_lists workers zero orders each = tt
+askable_lists workers (suc below) orders each = askable_append (lists_of below orders) (calls_of below orders) (askable_lists workers below orders each) (askable_calls workers below orders each)
+
+-- every call of a script is askable
+pub askable_script : (workers : ℕ) (bytes : List ℕ) (lists : List (List Call)) → IsScript workers bytes lists → AreAskable lists
+askable_script workers bytes lists s = subst (λ l. AreAskable l) (sym s.each) (askable_lists workers workers s.orders s.spells.each)
 
 -- a script has a list for each worker
 pub lists_script : (workers : ℕ) (bytes : List ℕ) (lists : List (List Call)) → IsScript workers bytes lists → length lists ≡ workers

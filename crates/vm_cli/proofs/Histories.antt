@@ -3,12 +3,13 @@ use Rattle.std.proofs.Common.{◌≡◌, ◌<◌, ◌≤◌, ℕ, zero, suc, ◌
 use Rattle.std.proofs.lemmas.List.{length-map, map-append, take_more}
 use Rattle.std.proofs.lemmas.List.Concat.{flat_map-append}
 use Rattle.std.specs.declared.alloc.Global.{Global}
+use Rattle.std.specs.List.{AllByRecursion}
 use Rattle.vm_map.specs.declared.call.Call.{Call}
 use Rattle.vm_map.specs.declared.call.Reply.{Reply}
 use Rattle.vm_map.specs.declared.call.Said.{Said}
 use Rattle.vm_map.specs.Map.{Pairs}
-use Rattle.vm_map.specs.History.{IsReply, AreReplies, after, after_all}
-use Rattle.vm_cli.specs.Served.{calls_in, items_of, joined, AreFew}
+use Rattle.vm_map.specs.History.{IsAskable, IsReply, AreReplies, after, after_all}
+use Rattle.vm_cli.specs.Served.{calls_in, items_of, joined, AreAskable, AreFew}
 
 after_both : (m : Pairs) (h k : List Said) → after_all m (h ++ k) ≡ after_all (after_all m h) k
 after_both m [] k = refl
@@ -63,6 +64,18 @@ pub few_at : {X : Type 0} (vs : List (Vec X Global)) (i : ℕ) (v : Vec X Global
 few_at [] i v few h e = absurd (omega arith)
 few_at {X = X} (w ∷ vs) zero v few h e = subst (λ (x : Vec X Global). length x.items ≤ 1000000) (sym e) few.0
 few_at (w ∷ vs) (suc i) v few h e = few_at vs i v few.1 (omega arith) e
+
+-- each list of askable calls has askable calls
+pub askable_list : (vs : List (Vec Call Global)) (i : ℕ) (v : Vec Call Global) → AreAskable (items_of vs) → i < length vs → v ≡ get_or vs i v → AllByRecursion IsAskable v.items
+askable_list [] i v all h e = absurd (omega arith)
+askable_list (w ∷ vs) zero v all h e = subst (λ (x : Vec Call Global). AllByRecursion IsAskable x.items) (sym e) all.0
+askable_list (w ∷ vs) (suc i) v all h e = askable_list vs i v all.1 (omega arith) e
+
+-- each of them is askable
+pub askable_call : (calls : List Call) (i : ℕ) (call d : Call) → AllByRecursion IsAskable calls → i < length calls → call ≡ get_or calls i d → IsAskable call
+askable_call [] i call d all h e = absurd (omega arith)
+askable_call (x ∷ calls) zero call d all h e = subst (λ (c : Call). IsAskable c) (sym e) all.0
+askable_call (x ∷ calls) (suc i) call d all h e = askable_call calls i call d all.1 (omega arith) e
 
 few_histories : (histories : List (List Said)) → AreFew (map calls_in histories) → AreFew histories
 few_histories [] few = tt

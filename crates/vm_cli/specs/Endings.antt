@@ -1,30 +1,22 @@
 -- How a run ends: each status with its cause, and what is said.
-use Rattle.std.specs.Prelude.{ℕ, ◌<◌, ◌≡◌, ◌⊎◌, List, [], ◌∷◌, ◌++◌, length, codes, Bool, true, Option, Some, None}
-use Rattle.vm_io.specs.Shown.{Shown, say_more}
-use Rattle.vm_io.specs.Loops.{SaidSome}
+use Rattle.std.specs.Prelude.{ℕ, ◌≡◌, List, [], ◌∷◌, ◌++◌, codes, Bool, true, Option}
+use Rattle.vm_io.specs.Shown.{Shown}
 use Rattle.vm_cli.specs.declared.stop.Stop.{Stop}
 use Rattle.vm_words.specs.declared.Command.{Command}
-use Rattle.vm_words.specs.declared.Command.TheVariants.{Run, Replay}
+use Rattle.vm_words.specs.declared.Command.TheVariants.{Run, Check, Replay}
 use Rattle.vm_words.specs.Commands.{IsCommand, IsNoCommand, WhyRefused}
 use Rattle.vm_cli.specs.Asked.{Asked, asked_of}
 use Rattle.vm_replay.specs.Told.{PlayedFile}
 use Rattle.vm_cli.specs.declared.halt.Halt.{Halt}
+use Rattle.vm_cli.specs.Checks.{CheckEnds, IsToldCheck}
 use Rattle.vm_cli.specs.Files.{HasFile}
 use Rattle.vm_cli.specs.Halts.{IsHalted, halt_text, played_status, status_of as halt_status}
+use Rattle.vm_cli.specs.Said.{IsSaid, SaidAll}
 use Rattle.vm_cli.specs.Served.{IsServed}
 use Rattle.vm_cli.specs.Stops.{IsStopped, status_of, stop_text}
 
 abbrev pub usage_text : List ℕ
 usage_text = codes "usage: vmcache run, make, check, churn, replay" ++ 10 ∷ []
-
--- the whole text was said
-abbrev pub SaidAll : Option Shown → Option Shown → List ℕ → Type 0
-SaidAll None new text = new ≡ None
-SaidAll (Some old) new text = new ≡ Some (say_more old text)
-
--- the whole text was said and this is the status; or a front of a text that is not empty, and the status is 3
-abbrev pub IsSaid : Option Shown → Option Shown → List ℕ → ℕ → ℕ → Type 0
-IsSaid old new text wanted status = ((status ≡ wanted) × SaidAll old new text) ⊎ ((status ≡ 3) × (0 < length text) × SaidSome old new text)
 
 -- How a script's run may end. The causes of two endings with different statuses exclude each other, but for want of memory.
 pub data ScriptEnds (asked : Asked) (failed : List ℕ) (old new : Option Shown) (status : ℕ) : Type 0 where
@@ -41,6 +33,7 @@ pub data ReplayEnds (file failed : List ℕ) (old new : Option Shown) (status : 
 -- how a command may end
 abbrev pub CommandEnds : Command → List ℕ → Option Shown → Option Shown → ℕ → Type 0
 CommandEnds (Run run) failed old new status = ScriptEnds (asked_of run) failed old new status
+CommandEnds (Check check) failed old new status = CheckEnds check.file.now failed old new status
 CommandEnds (Replay replay) failed old new status = ReplayEnds replay.file.now failed old new status
 
 -- How the program may end on these words
@@ -64,6 +57,7 @@ pub record IsToldReplay (file : List ℕ) (old new : Option Shown) : Type 0 wher
 -- what status 0 says of a command
 abbrev pub CommandTold : Command → Option Shown → Option Shown → Type 0
 CommandTold (Run run) old new = IsToldScript (asked_of run) old new
+CommandTold (Check check) old new = IsToldCheck check.file.now old new
 CommandTold (Replay replay) old new = IsToldReplay replay.file.now old new
 
 -- What status 0 says of the words

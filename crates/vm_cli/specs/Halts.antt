@@ -2,14 +2,14 @@
 use Rattle.std.specs.Prelude.{ℕ, ◌<◌, ◌≤◌, ◌≡◌, Bool, true, false, List, [], ◌∷◌, ◌++◌, length, codes, Option, Result, Ok, Err}
 use Rattle.std.specs.Fmt.{decimal}
 use Rattle.vm_io.specs.Shown.{Shown}
-use Rattle.vm_io.specs.Causes.{Rose, name_front}
+use Rattle.vm_io.specs.Causes.{name_front}
 use Rattle.vm_script.specs.Scripts.{most_bytes}
 use Rattle.vm_script.specs.Events.{IsFirstBadEvent}
 use Rattle.vm_replay.specs.Told.{PlayedFile}
 use Rattle.vm_cli.specs.declared.halt.Halt.{Halt}
 use Rattle.vm_cli.specs.declared.halt.Halt.TheVariants.{ReadEvents, EventsLong, EventsLine}
-use Rattle.vm_cli.specs.declared.halt.Unplayed.{Unplayed}
-use Rattle.vm_cli.specs.declared.halt.Unplayed.TheVariants.{Halted, Memory}
+use Rattle.vm_cli.specs.declared.undone.Undone.{Undone}
+use Rattle.vm_cli.specs.declared.undone.Undone.TheVariants.{Stopped, Memory}
 use Rattle.vm_cli.specs.Files.{HasFile}
 
 -- so many bytes are an event list's most, and line n is the first refused, or one too many
@@ -39,14 +39,8 @@ abbrev pub played_status : Bool → ℕ
 played_status true = 0
 played_status false = 5
 
--- a halt with status 2 comes only where a `take` of the host failed
-abbrev pub HasHaltCause : {V : Type 0} → ℕ → ℕ → Result V Unplayed → Type 0
-HasHaltCause before now (Ok v) = Unit {0}
-HasHaltCause before now (Err Memory) = Unit {0}
-HasHaltCause before now (Err (Halted halt)) = status_of halt ≡ 2 → Rose before now
-
 -- what the reader of the event list answers
-abbrev pub ReadsReplay : {V : Type 0} → (V → List ℕ × Bool) → Option Shown → List ℕ → List ℕ → Result V Unplayed → Type 0
+abbrev pub ReadsReplay : {V : Type 0} → (V → List ℕ × Bool) → Option Shown → List ℕ → List ℕ → Result V (Undone Halt) → Type 0
 ReadsReplay view shown failed file (Ok v) = HasFile shown file (λ bytes. PlayedFile bytes (view v).0 (view v).1)
 ReadsReplay view shown failed file (Err Memory) = Unit {0}
-ReadsReplay view shown failed file (Err (Halted halt)) = IsHalted shown failed file halt
+ReadsReplay view shown failed file (Err (Stopped halt)) = IsHalted shown failed file halt

@@ -1,6 +1,9 @@
 pub mod Asked
 pub mod Files
+pub mod Causes
 pub mod Images
+pub mod Said
+pub mod Checks
 pub mod Served
 pub mod Stops
 pub mod Halts

@@ -6,7 +6,7 @@ use Rattle.vm_io.specs.Shown.{Shown}
 use Rattle.vm_map.specs.Map.{Pairs}
 use Rattle.vm_map.specs.declared.call.Call.{Call}
 use Rattle.vm_map.specs.declared.call.Said.{Said}
-use Rattle.vm_map.specs.History.{AreReplies, after_all}
+use Rattle.vm_map.specs.History.{IsAskable, AreReplies, after_all}
 use Rattle.vm_script.specs.Scripts.{IsScript, most_bytes}
 use Rattle.vm_script.specs.Texts.{worker_replies, rows_text}
 use Rattle.vm_cli.specs.Asked.{Asked, HasShape}
@@ -24,6 +24,10 @@ items_of vectors = map (λ v. v.items) vectors
 -- no list has more than a script's most lines
 abbrev pub AreFew : {X : Type 0} → List (List X) → Type 0
 AreFew lists = AllByRecursion (λ list. length list ≤ 1000000) lists
+
+-- every window of the lists is asked for at least one pair
+abbrev pub AreAskable : List (List Call) → Type 0
+AreAskable lists = AllByRecursion (λ calls. AllByRecursion IsAskable calls) lists
 
 -- the workers' histories after each other
 abbrev pub joined : List (List Said) → List Said

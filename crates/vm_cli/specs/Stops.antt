@@ -1,29 +1,18 @@
 -- Why a run stopped before a call was made, its status and its line.
-use Rattle.std.specs.Prelude.{ℕ, ◌<◌, ◌≤◌, ◌≡◌, List, [], ◌∷◌, ◌++◌, length, min, codes, Option, Result, Ok, Err}
+use Rattle.std.specs.Prelude.{ℕ, ◌<◌, ◌≤◌, ◌≡◌, List, [], ◌∷◌, ◌++◌, length, codes, Option, Result, Ok, Err}
 use Rattle.std.specs.Fmt.{decimal}
 use Rattle.vm_io.specs.Shown.{Shown}
-use Rattle.vm_io.specs.Causes.{Rose, name_front}
-use Rattle.vm_map.specs.Map.{Pairs}
+use Rattle.vm_io.specs.Causes.{name_front}
 use Rattle.vm_map.specs.declared.call.Call.{Call}
-use Rattle.vm_image.specs.File.{IsPageFile}
 use Rattle.vm_script.specs.Scripts.{IsFirstBad, most_bytes}
 use Rattle.vm_cli.specs.declared.stop.Stop.{Stop}
-use Rattle.vm_cli.specs.declared.stop.Stop.TheVariants.{ShapeWorkers, ShapeFrames, ReadImage, ImageLength, ImagePage, ReadScript, ScriptLong, ScriptLine}
-use Rattle.vm_cli.specs.declared.stop.Unserved.{Unserved}
-use Rattle.vm_cli.specs.declared.stop.Unserved.TheVariants.{Stopped, Memory}
+use Rattle.vm_cli.specs.declared.stop.Stop.TheVariants.{ShapeWorkers, ShapeFrames, Image, ReadScript, ScriptLong, ScriptLine}
+use Rattle.vm_cli.specs.declared.undone.Undone.{Undone}
+use Rattle.vm_cli.specs.declared.undone.Undone.TheVariants.{Stopped, Memory}
 use Rattle.vm_cli.specs.Asked.{Asked, AreWorkers, AreFrames, HasShape}
 use Rattle.vm_cli.specs.Files.{HasFile}
-use Rattle.vm_cli.specs.Images.{IsTreeFile, IsNoTree, HasRows}
+use Rattle.vm_cli.specs.Images.{IsTreeFile, IsImageStopped, image_status, image_text}
 use Rattle.vm_cli.specs.Served.{IsServed, IsGoodScript}
-
--- the greatest number of bytes of a page file
-abbrev pub most_image : ℕ
-most_image = 33554432
-
--- the bytes are no page file; of their number at most one more than a page file's most is told
-pub record IsWrongLength (bytes : List ℕ) (told : ℕ) : Type 0 where
-  pub none : ¬ (IsPageFile bytes)
-  pub len : told ≡ min (length bytes) 33554433
 
 -- so many bytes are a script's most, and line n is the first refused, or one too many
 pub record IsBadLine (workers n : ℕ) (bytes : List ℕ) : Type 0 where
@@ -40,9 +29,7 @@ pub record HasGoodImage (shown : Option Shown) (asked : Asked) : Type 0 where
 abbrev pub IsStopped : Option Shown → List ℕ → Asked → Stop → Type 0
 IsStopped shown failed asked ShapeWorkers = ¬ (AreWorkers asked.workers)
 IsStopped shown failed asked ShapeFrames = AreWorkers asked.workers × ¬ (AreFrames asked.workers asked.frames)
-IsStopped shown failed asked ReadImage = HasShape asked × (failed ≡ name_front asked.image)
-IsStopped shown failed asked (ImageLength told) = HasShape asked × HasFile shown asked.image (λ bytes. IsWrongLength bytes told)
-IsStopped shown failed asked (ImagePage page why) = HasShape asked × HasFile shown asked.image (λ bytes. IsNoTree bytes page why)
+IsStopped shown failed asked (Image stop) = HasShape asked × IsImageStopped shown failed asked.image stop
 IsStopped shown failed asked ReadScript = HasGoodImage shown asked × (failed ≡ name_front asked.script)
 IsStopped shown failed asked ScriptLong = HasGoodImage shown asked × HasFile shown asked.script (λ bytes. most_bytes < length bytes)
 IsStopped shown failed asked (ScriptLine n) = HasGoodImage shown asked × HasFile shown asked.script (IsBadLine asked.workers n)
@@ -50,9 +37,7 @@ IsStopped shown failed asked (ScriptLine n) = HasGoodImage shown asked × HasFil
 abbrev pub status_of : Stop → ℕ
 status_of ShapeWorkers = 5
 status_of ShapeFrames = 5
-status_of ReadImage = 2
-status_of (ImageLength told) = 4
-status_of (ImagePage page why) = 4
+status_of (Image stop) = image_status stop
 status_of ReadScript = 2
 status_of ScriptLong = 5
 status_of (ScriptLine n) = 5
@@ -61,58 +46,29 @@ status_of (ScriptLine n) = 5
 abbrev pub stop_text : Asked → Stop → List ℕ
 stop_text asked ShapeWorkers = codes "shape workers" ++ 10 ∷ []
 stop_text asked ShapeFrames = codes "shape frames" ++ 10 ∷ []
-stop_text asked ReadImage = codes "read " ++ asked.image ++ 10 ∷ []
-stop_text asked (ImageLength told) = codes "image length " ++ decimal told ++ 10 ∷ []
-stop_text asked (ImagePage page why) = codes "image page " ++ decimal page ++ codes " why " ++ decimal why ++ 10 ∷ []
+stop_text asked (Image stop) = image_text asked.image stop
 stop_text asked ReadScript = codes "read " ++ asked.script ++ 10 ∷ []
 stop_text asked ScriptLong = codes "script long" ++ 10 ∷ []
 stop_text asked (ScriptLine n) = codes "script line " ++ decimal n ++ 10 ∷ []
-
--- a stop with status 2 comes only where a `take` of the host failed
-abbrev pub HasReadCause : {V : Type 0} → ℕ → ℕ → Result V Unserved → Type 0
-HasReadCause before now (Ok v) = Unit {0}
-HasReadCause before now (Err Memory) = Unit {0}
-HasReadCause before now (Err (Stopped stop)) = status_of stop ≡ 2 → Rose before now
 
 -- what the test of the numbers answers
 abbrev pub TellsShape : {V : Type 0} → Asked → Result V Stop → Type 0
 TellsShape asked (Ok v) = HasShape asked
 TellsShape asked (Err ShapeWorkers) = ¬ (AreWorkers asked.workers)
 TellsShape asked (Err ShapeFrames) = AreWorkers asked.workers × ¬ (AreFrames asked.workers asked.frames)
-TellsShape asked (Err ReadImage) = ⊥
-TellsShape asked (Err (ImageLength told)) = ⊥
-TellsShape asked (Err (ImagePage page why)) = ⊥
+TellsShape asked (Err (Image stop)) = ⊥
 TellsShape asked (Err ReadScript) = ⊥
 TellsShape asked (Err ScriptLong) = ⊥
 TellsShape asked (Err (ScriptLine n)) = ⊥
 
--- what the bytes of an image give: its rows, or why it is refused
-abbrev pub TellsImage : {V : Type 0} → (V → Pairs) → List ℕ → Result V Unserved → Type 0
-TellsImage view bytes (Ok v) = HasRows bytes (view v)
-TellsImage view bytes (Err Memory) = Unit {0}
-TellsImage view bytes (Err (Stopped (ImageLength told))) = (told ≡ length bytes) × ¬ (IsPageFile bytes)
-TellsImage view bytes (Err (Stopped (ImagePage page why))) = IsNoTree bytes page why
-TellsImage view bytes (Err (Stopped ShapeWorkers)) = ⊥
-TellsImage view bytes (Err (Stopped ShapeFrames)) = ⊥
-TellsImage view bytes (Err (Stopped ReadImage)) = ⊥
-TellsImage view bytes (Err (Stopped ReadScript)) = ⊥
-TellsImage view bytes (Err (Stopped ScriptLong)) = ⊥
-TellsImage view bytes (Err (Stopped (ScriptLine n))) = ⊥
-
--- what the reader of the image answers, behind good numbers
-abbrev pub ReadsImage : {V : Type 0} → (V → Pairs) → Option Shown → List ℕ → List ℕ → Result V Unserved → Type 0
-ReadsImage view shown failed image (Ok v) = HasFile shown image (λ bytes. HasRows bytes (view v))
-ReadsImage view shown failed image (Err Memory) = Unit {0}
-ReadsImage view shown failed image (Err (Stopped stop)) = (asked : Asked) → asked.image ≡ image → HasShape asked → IsStopped shown failed asked stop
-
 -- what the reader of the script answers, behind a good image
-abbrev pub ReadsCalls : {V : Type 0} → (V → List (List Call)) → Option Shown → List ℕ → List ℕ → ℕ → Result V Unserved → Type 0
+abbrev pub ReadsCalls : {V : Type 0} → (V → List (List Call)) → Option Shown → List ℕ → List ℕ → ℕ → Result V (Undone Stop) → Type 0
 ReadsCalls view shown failed script workers (Ok v) = HasFile shown script (λ bytes. IsGoodScript workers bytes (view v))
 ReadsCalls view shown failed script workers (Err Memory) = Unit {0}
 ReadsCalls view shown failed script workers (Err (Stopped stop)) = (asked : Asked) → asked.script ≡ script → asked.workers ≡ workers → HasGoodImage shown asked → IsStopped shown failed asked stop
 
 -- what is served, or why not
-abbrev pub Serves : {V : Type 0} → (V → List ℕ) → Option Shown → List ℕ → Asked → Result V Unserved → Type 0
+abbrev pub Serves : {V : Type 0} → (V → List ℕ) → Option Shown → List ℕ → Asked → Result V (Undone Stop) → Type 0
 Serves view shown failed asked (Ok v) = IsServed shown asked (view v)
 Serves view shown failed asked (Err Memory) = Unit {0}
 Serves view shown failed asked (Err (Stopped stop)) = IsStopped shown failed asked stop

@@ -3,9 +3,9 @@
 ghost use Rattle.std.specs.Prelude.{◌≡◌, ◌+◌, ◌≤◌, ◌<◌, ◌^◌, ◌++◌, map, length, IfOk, OnOk};
 ghost use Rattle.std.specs.List.{AllByRecursion};
 ghost use Rattle.vm_map.specs.Map.{Rises};
-ghost use Rattle.vm_map.specs.History.{AreReplies, after_all};
+ghost use Rattle.vm_map.specs.History.{AreReplies, IsAskable, after_all};
 ghost use Rattle.vm_script.specs.Texts.{replies_text, rows_text, worker_replies};
-ghost use Rattle.vm_cli.specs.Served.{calls_in, items_of, joined, AreFew, IsAnswered};
+ghost use Rattle.vm_cli.specs.Served.{calls_in, items_of, joined, AreAskable, AreFew, IsAnswered};
 
 use crate::gate::Gate;
 use std::alloc::{AllocError, Global};
@@ -21,6 +21,7 @@ fn answer_worker<G: Gate>(
     calls: &[Call],
     gate: &G,
 ) -> Result<Vec<Said>, AllocError>
+    requires { AllByRecursion IsAskable calls.now }
     ensures legal { IfOk result (λ v. AreReplies store.old v.items) }
     ensures holds { IfOk result (λ v. calls_in v.items ≡ calls.now) }
     ensures after { IfOk result (λ v. store.new ≡ after_all store.old v.items) }
@@ -44,6 +45,7 @@ fn answer_all<G: Gate>(
     lists: &[Vec<Call>],
     gate: &G,
 ) -> Result<Vec<Vec<Said>>, AllocError>
+    requires { AreAskable (items_of lists.now) }
     ensures legal { IfOk result (λ v. AreReplies store.old (joined (items_of v.items))) }
     ensures holds { IfOk result (λ v. map calls_in (items_of v.items) ≡ items_of lists.now) }
     ensures after { IfOk result (λ v. store.new ≡ after_all store.old (joined (items_of v.items))) }
@@ -93,8 +95,8 @@ fn add_all_replies(
     Ok(())
 }
 
-// Appends the rows.
-fn add_rows(alloc: Global, rows: &[Pair], out: &mut Vec<u8>) -> Result<(), AllocError>
+/// Appends the rows.
+pub fn add_rows(alloc: Global, rows: &[Pair], out: &mut Vec<u8>) -> Result<(), AllocError>
     ensures { OnOk result (out.new.items ≡ out.old.items ++ rows_text rows.now) }
 {
     'rows: for row in rows {
@@ -126,6 +128,7 @@ pub fn answered<G: Gate>(
 ) -> Result<Vec<u8>, AllocError>
     requires rise { Rises 0 (2 ^ 64) rows.now }
     requires few { AreFew (items_of lists.now) }
+    requires askable { AreAskable (items_of lists.now) }
     requires workers { length lists.now ≤ 64 }
     ensures { IfOk result (λ v. IsAnswered rows.now (items_of lists.now) v.items) }
 {

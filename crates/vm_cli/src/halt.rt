@@ -3,7 +3,7 @@
 ghost use Rattle.std.specs.Prelude.{◌≡◌, IfOk, string_bytes};
 ghost use Rattle.vm_cli.specs.Halts.{halt_text, status_of as status_for};
 
-use crate::stop::read_line;
+use crate::say::read_line;
 use std::alloc::{AllocError, Global};
 
 /// Why no event was played.
@@ -15,13 +15,6 @@ pub enum Halt {
     EventsLong,
     /// This line of the event list is the first that is refused, or one too many.
     EventsLine(u32),
-}
-
-/// Why nothing was played: a halt that is told, or want of memory, which is not.
-#[derive(Clone, Copy, Debug, PartialEq, Eq)]
-pub enum Unplayed {
-    Halted(Halt),
-    Memory,
 }
 
 /// The exit status of a halt.

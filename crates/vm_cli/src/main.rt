@@ -1,4 +1,4 @@
-//! Runs scripts of calls on a page file's map, and prints the replies and the rows; replays lists of events.
+//! Runs scripts of calls on a page file's map, and prints the replies and the rows; checks page files; replays lists of events.
 #![tactic(auto)]
 
 mod answer;
@@ -6,6 +6,7 @@ mod gate;
 mod halt;
 mod image;
 mod run;
+mod run_check;
 mod run_replay;
 mod run_script;
 mod say;
@@ -14,6 +15,7 @@ mod shape;
 mod stop;
 #[cfg(test)]
 mod tests;
+mod undone;
 
 use gate::Open;
 use run::run;

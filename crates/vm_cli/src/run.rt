@@ -5,6 +5,7 @@ ghost use Rattle.vm_io.specs.Causes.{Rose};
 ghost use Rattle.vm_cli.specs.Endings.{CommandEnds, CommandTold, IsHeadline, RunEnds};
 
 use crate::gate::Gate;
+use crate::run_check::run_check;
 use crate::run_replay::run_replay;
 use crate::run_script::run_script;
 use crate::say::say;
@@ -20,7 +21,7 @@ const USAGE: &[u8] = b"usage: vmcache run, make, check, churn, replay\n";
 ///
 /// | status | comes |
 /// |---|---|
-/// | 0 | `run`: the calls were answered; the replies and the rows were said. `replay`: what each event saw was said |
+/// | 0 | `run`: the calls were answered; the replies and the rows were said. `check`: the rows and the size were said. `replay`: what each event saw was said |
 /// | 1 | exactly where the words are no command; the usage line was said |
 /// | 2 | only where a `take` of the host failed; the line names the file |
 /// | 3 | only where a `put` or `say` failed, or took nothing of a piece; a prefix of the text was said |
@@ -57,6 +58,7 @@ fn perform<H: Host, G: Gate>(alloc: Global, host: &mut H, command: Command<'_>, 
 {
     match command {
         Command::Run(run) => run_script(alloc, host, &run, gate),
+        Command::Check(check) => run_check(alloc, host, &check),
         Command::Replay(replay) => run_replay(alloc, host, &replay),
     }
 }

@@ -1,13 +1,15 @@
 //! The command `replay`: an event list on one core of the buffer manager's machine, to the last line said.
 
-ghost use Rattle.std.specs.Prelude.{◌≡◌, ◌⊎◌, ◌≤◌};
-ghost use Rattle.vm_io.specs.Causes.{Rose, SameTakes};
-ghost use Rattle.vm_cli.specs.Halts.{halt_text, HasHaltCause, ReadsReplay, played_status as status_when, status_of as status_for};
-ghost use Rattle.vm_cli.specs.Endings.{IsSaid, IsToldReplay, ReplayEnds};
+ghost use Rattle.std.specs.Prelude.{◌≡◌, ◌≤◌};
+ghost use Rattle.vm_io.specs.Causes.{Rose};
+ghost use Rattle.vm_cli.specs.Causes.{HasReadCause};
+ghost use Rattle.vm_cli.specs.Halts.{ReadsReplay, played_status as status_when, status_of as status_for};
+ghost use Rattle.vm_cli.specs.Endings.{IsToldReplay, ReplayEnds};
 
-use crate::halt::{Halt, Unplayed, line_of, status_of};
-use crate::say::say;
-use std::alloc::{AllocError, Global};
+use crate::halt::{Halt, line_of, status_of};
+use crate::say::{refuse, say};
+use crate::undone::Undone;
+use std::alloc::Global;
 use vm_io::host::Host;
 use vm_io::loops::{ReadFault, read_whole};
 use vm_replay::{Played, ReplayStop, replay_file};
@@ -15,35 +17,22 @@ use vm_script::script::MOST_BYTES;
 use vm_words::Replay;
 
 // Reads the event list and plays it.
-fn read_played<H: Host>(alloc: Global, host: &mut H, name: &str) -> Result<Played, Unplayed>
+fn read_played<H: Host>(alloc: Global, host: &mut H, name: &str) -> Result<Played, Undone<Halt>>
     ensures reads { ReadsReplay (λ played. (played.text.items, played.is_legal)) (H.shown host.old) (H.last host.new) name.now result }
     ensures shown { H.shown host.new ≡ H.shown host.old }
     ensures gives { H.gives host.new ≡ H.gives host.old }
     ensures later { H.takes host.old ≤ H.takes host.new }
-    ensures cause { HasHaltCause (H.takes host.old) (H.takes host.new) result }
+    ensures cause { HasReadCause status_for (H.takes host.old) (H.takes host.new) result }
 {
     match read_whole(alloc, host, name, MOST_BYTES) {
         Ok(bytes) => match replay_file(alloc, bytes.as_slice()) {
             Ok(played) => Ok(played),
-            Err(ReplayStop::Long) => Err(Unplayed::Halted(Halt::EventsLong)),
-            Err(ReplayStop::Line(line)) => Err(Unplayed::Halted(Halt::EventsLine(line))),
-            Err(ReplayStop::Memory) => Err(Unplayed::Memory),
+            Err(ReplayStop::Long) => Err(Undone::Stopped(Halt::EventsLong)),
+            Err(ReplayStop::Line(line)) => Err(Undone::Stopped(Halt::EventsLine(line))),
+            Err(ReplayStop::Memory) => Err(Undone::Memory),
         },
-        Err(ReadFault::Failed) => Err(Unplayed::Halted(Halt::ReadEvents)),
-        Err(ReadFault::Memory) => Err(Unplayed::Memory),
-    }
-}
-
-// Tells why no event was played; 6 where there is no memory for the line.
-fn refuse<H: Host>(alloc: Global, host: &mut H, file: &str, halt: Halt) -> u8
-    ensures said { IsSaid (H.shown host.old) (H.shown host.new) (halt_text file.now halt) (status_for halt) result ⊎ ((H.shown host.new ≡ H.shown host.old) × (result ≡ 6)) }
-    ensures apart { SameTakes (H.takes host.old) (H.takes host.new) (H.last host.old) (H.last host.new) }
-    ensures later { H.gives host.old ≤ H.gives host.new }
-    ensures failed { (result ≡ status_for halt) ⊎ (result ≡ 6) ⊎ ((result ≡ 3) × Rose (H.gives host.old) (H.gives host.new)) }
-{
-    match line_of(alloc, file, halt) {
-        Ok(line) => say(host, line.as_bytes(), status_of(halt)),
-        Err(AllocError) => 6,
+        Err(ReadFault::Failed) => Err(Undone::Stopped(Halt::ReadEvents)),
+        Err(ReadFault::Memory) => Err(Undone::Memory),
     }
 }
 
@@ -63,7 +52,11 @@ pub fn run_replay<H: Host>(alloc: Global, host: &mut H, replay: &Replay<'_>) -> 
 {
     match read_played(alloc, host, replay.file) {
         Ok(played) => say(host, played.text.as_slice(), played_status(played.is_legal)),
-        Err(Unplayed::Halted(halt)) => refuse(alloc, host, replay.file, halt),
-        Err(Unplayed::Memory) => 6,
+        Err(Undone::Stopped(halt)) => refuse(
+            host,
+            line_of(alloc, replay.file, halt),
+            status_of(halt),
+        ),
+        Err(Undone::Memory) => 6,
     }
 }

@@ -2,14 +2,16 @@
 
 ghost use Rattle.std.specs.Prelude.{◌≡◌, ◌≤◌, length, IfOk};
 ghost use Rattle.vm_cli.specs.Asked.{asked_of};
-ghost use Rattle.vm_cli.specs.Served.{items_of, AreFew};
-ghost use Rattle.vm_cli.specs.Stops.{HasReadCause, ReadsCalls, Serves};
+ghost use Rattle.vm_cli.specs.Served.{items_of, AreAskable, AreFew};
+ghost use Rattle.vm_cli.specs.Causes.{HasReadCause};
+ghost use Rattle.vm_cli.specs.Stops.{ReadsCalls, Serves, status_of as status_for};
 
 use crate::answer::answered;
 use crate::gate::Gate;
-use crate::image::read_rows;
+use crate::image::read_tree;
 use crate::shape::workers_of;
-use crate::stop::{Stop, Unserved};
+use crate::stop::Stop;
+use crate::undone::Undone;
 use std::alloc::{AllocError, Global};
 use vm_io::host::Host;
 use vm_io::loops::{ReadFault, read_whole};
@@ -23,24 +25,25 @@ fn read_calls<H: Host>(
     host: &mut H,
     name: &str,
     workers: u32,
-) -> Result<Vec<Vec<Call>>, Unserved>
+) -> Result<Vec<Vec<Call>>, Undone<Stop>>
     ensures reads { ReadsCalls (λ v. items_of v.items) (H.shown host.old) (H.last host.new) name.now workers result }
     ensures few { IfOk result (λ v. AreFew (items_of v.items)) }
+    ensures askable { IfOk result (λ v. AreAskable (items_of v.items)) }
     ensures workers { IfOk result (λ v. length v.items ≡ workers) }
     ensures shown { H.shown host.new ≡ H.shown host.old }
     ensures gives { H.gives host.new ≡ H.gives host.old }
     ensures later { H.takes host.old ≤ H.takes host.new }
-    ensures cause { HasReadCause (H.takes host.old) (H.takes host.new) result }
+    ensures cause { HasReadCause status_for (H.takes host.old) (H.takes host.new) result }
 {
     match read_whole(alloc, host, name, MOST_BYTES) {
         Ok(script) => match read_script(alloc, script.as_slice(), workers) {
             Ok(lists) => Ok(lists),
-            Err(ScriptFault::Long) => Err(Unserved::Stopped(Stop::ScriptLong)),
-            Err(ScriptFault::Line(line)) => Err(Unserved::Stopped(Stop::ScriptLine(line))),
-            Err(ScriptFault::Memory) => Err(Unserved::Memory),
+            Err(ScriptFault::Long) => Err(Undone::Stopped(Stop::ScriptLong)),
+            Err(ScriptFault::Line(line)) => Err(Undone::Stopped(Stop::ScriptLine(line))),
+            Err(ScriptFault::Memory) => Err(Undone::Memory),
         },
-        Err(ReadFault::Failed) => Err(Unserved::Stopped(Stop::ReadScript)),
-        Err(ReadFault::Memory) => Err(Unserved::Memory),
+        Err(ReadFault::Failed) => Err(Undone::Stopped(Stop::ReadScript)),
+        Err(ReadFault::Memory) => Err(Undone::Memory),
     }
 }
 
@@ -51,27 +54,28 @@ pub fn serve<H: Host, G: Gate>(
     host: &mut H,
     run: &Run<'_>,
     gate: &G,
-) -> Result<Vec<u8>, Unserved>
+) -> Result<Vec<u8>, Undone<Stop>>
     ensures serves { Serves (λ v. v.items) (H.shown host.old) (H.last host.new) (asked_of run.now) result }
     ensures shown { H.shown host.new ≡ H.shown host.old }
     ensures gives { H.gives host.new ≡ H.gives host.old }
     ensures later { H.takes host.old ≤ H.takes host.new }
-    ensures cause { HasReadCause (H.takes host.old) (H.takes host.new) result }
+    ensures cause { HasReadCause status_for (H.takes host.old) (H.takes host.new) result }
 {
     let workers = match workers_of(run) {
         Ok(workers) => workers,
-        Err(stop) => return Err(Unserved::Stopped(stop)),
+        Err(stop) => return Err(Undone::Stopped(stop)),
     };
-    let rows = match read_rows(alloc, host, run.image) {
+    let rows = match read_tree(alloc, host, run.image) {
         Ok(rows) => rows,
-        Err(unserved) => return Err(unserved),
+        Err(Undone::Stopped(stop)) => return Err(Undone::Stopped(Stop::Image(stop))),
+        Err(Undone::Memory) => return Err(Undone::Memory),
     };
     let lists = match read_calls(alloc, host, run.script, workers) {
         Ok(lists) => lists,
-        Err(unserved) => return Err(unserved),
+        Err(undone) => return Err(undone),
     };
-    match answered(alloc, rows.as_slice(), lists.as_slice(), gate) {
+    match answered(alloc, rows.pairs.as_slice(), lists.as_slice(), gate) {
         Ok(text) => Ok(text),
-        Err(AllocError) => Err(Unserved::Memory),
+        Err(AllocError) => Err(Undone::Memory),
     }
 }

@@ -1,5 +1,7 @@
 //! Whole runs over a host in memory: what is printed and the status, from worked examples.
 
+mod checks;
+
 use super::*;
 use std::alloc::{AllocError, Global};
 use std::process::Abort;
@@ -94,7 +96,12 @@ fn one_worker(rt: HostRuntime) -> Result<(), Fail> {
         ),
         (b"0 put 05 1\n", 5, b"script line 1\n"),
         (b"1 get 1\n", 5, b"script line 1\n"),
-        (b"0 get 1\n0 scan 1 1\n", 5, b"script line 2\n"),
+        (b"0 get 1\n0 scan 1 29\n", 5, b"script line 2\n"),
+        (
+            b"0 put 18446744073709551615 1\n0 scan 18446744073709551615 1\n",
+            0,
+            b"0 1 new\n0 2 window 18446744073709551615 end 18446744073709551615=1\nrow 18446744073709551615 1\n",
+        ),
     ] {
         let host = host(alloc, empty_image(alloc, 4096)?, script, &[])?;
         expect(&rt, alloc, host, &RUN, status, said)?;
@@ -156,6 +163,66 @@ fn images_that_are_refused(rt: HostRuntime) -> Result<(), Fail> {
     }
     let zeros = host(alloc, with_bytes(alloc, 1024, &[])?, b"", &[])?;
     expect(&rt, alloc, zeros, &RUN, 4, b"image page 0 why 1\n")
+}
+
+// The empty page file with some bytes changed.
+fn changed_image(alloc: Global, len: usize, bytes: &[(usize, u8)]) -> Result<Vec<u8>, AllocError> {
+    let mut image = empty_image(alloc, len)?;
+    for &(place, byte) in bytes {
+        if place < image.len() {
+            image[place] = byte;
+        }
+    }
+    Ok(image)
+}
+
+// Three pages, of which page 1 is an inner node of the whole range that names itself.
+#[test]
+fn an_image_that_is_no_tree(rt: HostRuntime) -> Result<(), Fail> {
+    let alloc = rt.alloc();
+    let bytes = [(23, 1), (519, 3), (527, 1), (559, 1), (591, 1)];
+    let image = changed_image(alloc, 1536, &bytes)?;
+    let host = host(alloc, image, b"", &[])?;
+    expect(&rt, alloc, host, &RUN, 4, b"image page 1 why 3\n")
+}
+
+// Two leaves that part at key 15, with the pairs 5 1 and 15 2, under a root on page 3.
+#[test]
+fn a_tree_of_two_leaves(rt: HostRuntime) -> Result<(), Fail> {
+    let alloc = rt.alloc();
+    let page_0 = [(15, 3), (23, 1)];
+    let page_1 = [(527, 1), (543, 15), (551, 0), (583, 5), (591, 1)];
+    let page_2 = [
+        (1031, 2),
+        (1039, 1),
+        (1047, 15),
+        (1063, 1),
+        (1095, 15),
+        (1103, 2),
+    ];
+    let page_3 = [
+        (1543, 3),
+        (1551, 2),
+        (1575, 1),
+        (1583, 1),
+        (1615, 1),
+        (1623, 15),
+        (1631, 2),
+    ];
+    let mut bytes = Vec::new(alloc);
+    for page in [page_0.as_slice(), &page_1, &page_2, &page_3] {
+        bytes.extend_from_slice(page)?;
+    }
+    let image = changed_image(alloc, 4096, bytes.as_slice())?;
+    let host = host(alloc, image, b"0 get 15\n0 del 5\n", &[])?;
+    expect(
+        &rt,
+        alloc,
+        host,
+        &RUN,
+        0,
+        b"0 1 some 2\n0 2 gone 1\nrow 15 2\n",
+    )
 }
 
 #[test]

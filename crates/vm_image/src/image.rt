@@ -14,7 +14,7 @@ use vm_page::PageBuf;
 /// 2 to 65,536 pages of 64 words: contracts see the list of their words.
 #[derive(Drop)]
 pub struct Image {
-    pages: Vec<PageBuf>,
+    pub(crate) pages: Vec<PageBuf>,
 }
 
 impl Model for Image {

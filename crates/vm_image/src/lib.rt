@@ -1,12 +1,14 @@
 //! Page files: the pages of an image, read from bytes and written back.
 #![tactic(auto)]
 
+mod blocks;
 mod fault;
 mod image;
 #[cfg(test)]
 mod tests;
 mod zeros;
 
+pub use blocks::{PlannedFault, blocks_of, image_of};
 pub use fault::ImageFault;
 pub use image::{Image, read_image};
 pub use zeros::{is_free, is_zero_from};

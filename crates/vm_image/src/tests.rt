@@ -1,7 +1,9 @@
-//! The empty page file of eight pages, and lengths that are no page file's.
+//! The empty page file of eight pages, lengths that are no page file's, and the blocks of its pages.
 
-use crate::{ImageFault, read_image};
+use crate::{ImageFault, PlannedFault, blocks_of, image_of, read_image};
 use std::test::Fail;
+use vm_block::{Block, Failed};
+use vm_page::PageBuf;
 
 // The empty page file of eight pages: page 0 names the root on page 1, height 0; page 1 is a leaf without a pair, with no high fence.
 fn empty_file() -> [u8; 4096] {
@@ -47,4 +49,32 @@ fn other_lengths_are_refused(rt: HostRuntime) {
             _ => assert!(rt; false, "{len} bytes are no page file"),
         }
     }
+}
+
+// Page 1's first and third call fail; the file has no page 8 and no page 9.
+#[test]
+fn each_page_has_a_block_with_its_numbers(rt: HostRuntime) -> Result<(), Fail> {
+    let bytes = empty_file();
+    let image = read_image(rt.alloc(), &bytes)?;
+    let plan = [(1, 1), (9, 2), (1, 3), (8, 1)].map(|(page, number)| PlannedFault { page, number });
+    let mut blocks = blocks_of(rt.alloc(), &image, plan.as_slice())?;
+    assert_eq!(rt; blocks.len(), 8);
+    assert_eq!(rt; blocks[0].words().get(0), 0x564D_4341_4348_4531);
+    let block = &mut blocks[1];
+    let mut into = PageBuf::zero();
+    for answer in [Err(Failed), Ok(()), Err(Failed), Ok(())] {
+        assert_eq!(rt; block.read(&mut into), answer);
+    }
+    assert_eq!(rt; (into.get(0), into.get(4)), (2, 1));
+    Ok(())
+}
+
+#[test]
+fn blocks_have_the_image_that_they_were_made_of(rt: HostRuntime) -> Result<(), Fail> {
+    let bytes = empty_file();
+    let image = read_image(rt.alloc(), &bytes)?;
+    let blocks = blocks_of(rt.alloc(), &image, &[])?;
+    let written = image_of(rt.alloc(), blocks.as_slice())?.to_bytes(rt.alloc())?;
+    assert_eq!(rt; written.as_slice(), bytes.as_slice());
+    Ok(())
 }

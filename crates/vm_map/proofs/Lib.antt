@@ -1,2 +1,5 @@
 pub mod MapLemmas
+pub mod EditedSizes
 pub mod Entries
+pub mod FirstPairs
+pub mod WindowLaws

@@ -1,17 +1,37 @@
 -- What a call on a map is answered, which map it leaves, and when a history of calls is right.
-use Rattle.std.specs.Prelude.{◌≡◌, List, [], ◌∷◌, None}
+use Rattle.std.specs.Prelude.{◌≡◌, ℕ, ◌^◌, ◌<◌, ◌≤◌, List, [], ◌∷◌, length, filter, nat_lt, nat_le, ◌&&◌, None}
 use Rattle.vm_map.specs.Map.{Pairs, lookup_at, put_pair, del_pair}
 use Rattle.vm_map.specs.declared.call.Call.{Call}
-use Rattle.vm_map.specs.declared.call.Call.TheVariants.{Get, Put, Del}
+use Rattle.vm_map.specs.declared.call.Call.TheVariants.{Get, Put, Del, Window}
 use Rattle.vm_map.specs.declared.call.Reply.{Reply}
-use Rattle.vm_map.specs.declared.call.Reply.TheVariants.{Got, Was, Gone}
+use Rattle.vm_map.specs.declared.call.Reply.TheVariants.{Got, Was, Gone, Win}
 use Rattle.vm_map.specs.declared.call.Said.{Said}
+use Rattle.vm_map.specs.declared.window.Bound.{Bound}
+use Rattle.vm_map.specs.declared.window.Bound.TheVariants.{Key, End}
 
--- the reply to a call on the map m: the value at the key, before a put or a del
+-- a bound as a number: no key reaches 2 ^ 64
+abbrev pub bound_of : Bound → ℕ
+bound_of (Key key) = key
+bound_of End = 2 ^ 64
+
+-- the pairs of the map from a key on and below a bound
+abbrev pub between : Pairs → ℕ → ℕ → Pairs
+between m from upto = filter (λ e. nat_le from e.0 && nat_lt e.0 upto) m
+
+-- a window is asked for at least one pair
+abbrev pub IsAskable : Call → Type 0
+IsAskable (Get key) = Unit {0}
+IsAskable (Put key value) = Unit {0}
+IsAskable (Del key) = Unit {0}
+IsAskable (Window start most) = 1 ≤ most
+
+-- the reply to a call on the map m: the value at the key, before a put or a del; to a window all pairs
+-- from its start up to a bound above it, as many as it asks for or fewer
 abbrev pub IsReply : Pairs → Call → Reply → Type 0
 IsReply m (Get key) (Got found) = found ≡ lookup_at m key
 IsReply m (Put key value) (Was old) = old ≡ lookup_at m key
 IsReply m (Del key) (Gone old) = old ≡ lookup_at m key
+IsReply m (Window start most) (Win window) = (start < bound_of window.bound) × (window.pairs ≡ between m start (bound_of window.bound)) × (length window.pairs ≤ most)
 IsReply _ _ _ = ⊥
 
 -- the map after the call
@@ -19,12 +39,14 @@ abbrev pub after : Pairs → Call → Pairs
 after m (Get key) = m
 after m (Put key value) = put_pair m key value
 after m (Del key) = del_pair m key
+after m (Window start most) = m
 
 -- the call puts a value at a key that the map lacks
 abbrev pub AddsKey : Pairs → Call → Type 0
 AddsKey m (Get key) = ⊥
 AddsKey m (Put key value) = lookup_at m key ≡ None
 AddsKey m (Del key) = ⊥
+AddsKey m (Window start most) = ⊥
 
 -- each reply is right for the map after the calls before it
 abbrev pub AreReplies : Pairs → List Said → Type 0

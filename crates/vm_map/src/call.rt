@@ -1,4 +1,5 @@
 // The calls on a map, what they are answered, and the pairs that a map holds.
+use crate::window::Window;
 use std::marker::Model;
 
 /// A call on the map.
@@ -10,10 +11,12 @@ pub enum Call {
     Put { key: u64, value: u64 },
     /// Takes the pair of a key out.
     Del { key: u64 },
+    /// Asks for the first pairs from a key on: at least one and at most 28 of them.
+    Window { start: u64, most: u32 },
 }
 
 /// What a call is answered.
-#[derive(Clone, Copy, Debug, PartialEq, Eq)]
+#[derive(Debug, Drop, PartialEq)]
 pub enum Reply {
     /// The value at the key of a `Get`.
     Got(Option<u64>),
@@ -21,10 +24,12 @@ pub enum Reply {
     Was(Option<u64>),
     /// The value that was at the key of a `Del` before.
     Gone(Option<u64>),
+    /// What a `Window` shows.
+    Win(Window),
 }
 
 /// A call with its reply.
-#[derive(Clone, Copy, Debug, PartialEq, Eq)]
+#[derive(Debug, Drop, PartialEq)]
 pub struct Said {
     pub call: Call,
     pub reply: Reply,

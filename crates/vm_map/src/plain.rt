@@ -1,9 +1,11 @@
 // A map in memory that answers calls at once, one after another.
-ghost use Rattle.std.specs.Prelude.{◌≡◌, ◌^◌, [], OnOk, OnErr, IfOk};
+ghost use Rattle.std.specs.Prelude.{◌≡◌, ◌^◌, ◌≤◌, [], min, OnOk, OnErr, IfOk};
 ghost use Rattle.vm_map.specs.Map.{Rises};
-ghost use Rattle.vm_map.specs.History.{IsReply, after, AddsKey};
+ghost use Rattle.vm_map.specs.History.{IsAskable, IsReply, after, AddsKey};
+ghost use Rattle.vm_map.specs.Windows.{IsWindow, IsFirstWindow};
 
 use crate::call::{Call, Pair, Reply};
+use crate::window::{Bound, Pairs, Window};
 use std::alloc::{AllocError, Global};
 use std::collections::BTreeMap;
 use std::marker::Model;
@@ -48,9 +50,11 @@ impl PlainMap {
     }
 
     /// Answers a call and goes on to the next map. Only a `Put` at a new key takes memory; where
-    /// there is none, nothing changes.
+    /// there is none, nothing changes. A `Window` shows the first `most` pairs from its start, at most 28,
+    /// and ends at the first pair that is left, or at the end; one that asks for no pair shows none.
     pub fn apply(&mut self, call: &Call) -> Result<Reply, AllocError>
-        ensures reply { IfOk result (IsReply self.old call.now) }
+        ensures reply { IsAskable call.now → IfOk result (IsReply self.old call.now) }
+        ensures window { IfOk result (IsFirstWindow self.old call.now) }
         ensures after { OnOk result (self.new ≡ after self.old call.now) }
         ensures err { OnErr result (self.new ≡ self.old) }
         ensures only_new_key { OnErr result (AddsKey self.old call.now) }
@@ -60,6 +64,7 @@ impl PlainMap {
             Call::Get { key } => Ok(Reply::Got(self.entries.get(&key).copied())),
             Call::Put { key, value } => Ok(Reply::Was(self.entries.insert(key, value)?)),
             Call::Del { key } => Ok(Reply::Gone(self.entries.remove(&key))),
+            Call::Window { start, most } => Ok(Reply::Win(window_of(&self.entries, start, most))),
         }
     }
 
@@ -69,6 +74,27 @@ impl PlainMap {
         ensures rises { Rises 0 (2 ^ 64) self.now }
     {
         pairs_of(alloc, &self.entries)
+    }
+}
+
+// The first pairs of a map in memory from a key on, `most` of them and at most 28, up to the first that is left.
+fn window_of(entries: &BTreeMap<u64, u64>, start: u64, most: u32) -> Window
+    ensures { IsWindow entries.now.entries (2 ^ 64) start (min most 28) result }
+{
+    let most = most.min(28) as usize;
+    let mut pairs = Pairs::new();
+    'pairs: for (key, value) in entries.range(start..) {
+        if pairs.len() >= most {
+            return Window {
+                bound: Bound::Key(*key),
+                pairs,
+            };
+        }
+        pairs.push(*key, *value);
+    }
+    Window {
+        bound: Bound::End,
+        pairs,
     }
 }
 

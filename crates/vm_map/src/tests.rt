@@ -1,6 +1,7 @@
 // Each public call once, with replies that were worked out by hand.
 use crate::call::{Call, Pair, Reply};
 use crate::plain::PlainMap;
+use crate::window::{Bound, Pairs, Window};
 use std::test::Fail;
 
 #[test]
@@ -38,5 +39,45 @@ fn answers_calls(rt: HostRuntime) -> Result<(), Fail> {
     assert_eq!(rt; pairs.as_slice(), wanted.as_slice());
     let again = PlainMap::from_pairs(alloc, pairs.as_slice())?;
     assert_eq!(rt; again.pairs(alloc)?.as_slice(), wanted.as_slice());
+    Ok(())
+}
+
+#[test]
+fn answers_windows(rt: HostRuntime) -> Result<(), Fail> {
+    let mut map = PlainMap::new(rt.alloc());
+    let last = u64::MAX;
+    map.apply(&Call::Put {
+        key: last,
+        value: 1,
+    })?;
+    let mut at_last = Pairs::new();
+    assert!(rt; !at_last.is_full());
+    at_last.push(last, 1);
+    assert_eq!(rt; at_last.len(), 1);
+    assert_eq!(rt;
+        at_last.as_slice(),
+        [Pair {
+            key: last,
+            value: 1
+        }]
+        .as_slice()
+    );
+    let call = Call::Window {
+        start: last,
+        most: 1,
+    };
+    let reply = Reply::Win(Window {
+        bound: Bound::End,
+        pairs: at_last,
+    });
+    assert_eq!(rt; map.apply(&call)?, reply);
+    map.apply(&Call::Put { key: 5, value: 7 })?;
+    let mut first = Pairs::new();
+    first.push(5, 7);
+    let reply = Reply::Win(Window {
+        bound: Bound::Key(last),
+        pairs: first,
+    });
+    assert_eq!(rt; map.apply(&Call::Window { start: 0, most: 1 })?, reply);
     Ok(())
 }

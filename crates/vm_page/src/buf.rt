@@ -49,6 +49,14 @@ impl PageBuf {
         self.words[i] = w;
     }
 
+    /// Takes over the words of another page.
+    pub fn copy_from(&mut self, page: &PageBuf)
+        ensures words { self.new ≡ page.now }
+        ensures length { length self.new ≡ 64 }
+    {
+        self.words = page.words;
+    }
+
     /// The bytes of the words; read back they are the same words.
     pub fn to_bytes(&self) -> [u8; 512]
         ensures bytes { result ≡ bytes_of_words self.now }

@@ -11,7 +11,8 @@ use Rattle.vm_script.specs.EventWords.{Reads}
 use Rattle.vm_script.specs.Events.{IsFirstBadEvent, LacksShape, SpellsEvents, events_text, most_event_lines}
 use Rattle.vm_script.specs.Scripts.{BeginsWith}
 use Rattle.vm_script.proofs.EventTexts.{lacks_line, lacks_shape}
-use Rattle.vm_script.proofs.Lines.{each_append, first_line}
+use Rattle.vm_script.proofs.Words.{each_append}
+use Rattle.vm_script.proofs.Lines.{first_line}
 
 -- this shape and these lines are read, and the rest is still to be read
 pub record IsEventsRead (bytes : List ℕ) (shape : CoreShape) (lines : List EventLine) (rest : List ℕ) : Type 0 where

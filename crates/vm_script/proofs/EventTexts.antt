@@ -10,7 +10,7 @@ use Rattle.vm_script.specs.Cuts.{IsCut, Lacks}
 use Rattle.vm_script.specs.EventLines.{AreFields, IsEventLine, IsShape, event_line_text, fields_text, form, form_text, shape_text}
 use Rattle.vm_script.specs.Verbs.{kinds_of, verb_name}
 use Rattle.vm_script.proofs.FieldLists.{lacks_fields, one_list}
-use Rattle.vm_script.proofs.Lines.{each_append}
+use Rattle.vm_script.proofs.Words.{each_append}
 use Rattle.vm_script.proofs.VerbNames.{lacks_verb, one_verb}
 use Rattle.vm_script.proofs.Words.{one_cut, cut_here}
 

@@ -8,7 +8,7 @@ use Rattle.vm_script.specs.declared.event_line.Kind.TheVariants.{Actor, Page, Fr
 use Rattle.vm_script.specs.Cuts.{IsCut, Lacks}
 use Rattle.vm_script.specs.EventLines.{AreFields, IsField, IsShape, field_text, fields_text}
 use Rattle.vm_script.specs.EventWords.{AreNarrow, IsNarrow, used}
-use Rattle.vm_script.proofs.Lines.{each_append}
+use Rattle.vm_script.proofs.Words.{each_append}
 use Rattle.vm_script.proofs.StateWords.{lacks_state, one_state}
 use Rattle.vm_script.proofs.Words.{lacks_decimal, one_cut, no_cut, cut_here}
 

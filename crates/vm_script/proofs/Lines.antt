@@ -5,38 +5,26 @@ use Rattle.std.specs.List.{AllByRecursion}
 use Rattle.std.proofs.lemmas.List.{append-nil}
 use Rattle.std.proofs.lemmas.Grind.{flat_map-append}
 use Rattle.vm_map.specs.declared.call.Call.{Call}
-use Rattle.vm_map.specs.declared.call.Call.TheVariants.{Get, Put, Del}
+use Rattle.vm_map.specs.declared.call.Call.TheVariants.{Get, Put, Del, Window}
 use Rattle.vm_script.specs.declared.script.Order.{Order}
 use Rattle.vm_script.specs.Cuts.{IsLine, Lacks}
 use Rattle.vm_script.specs.Scripts.{call_text, order_text, lines_text, IsCall, IsOrder, Spells, IsFirstBad, BeginsWith, most_lines}
 use Rattle.vm_script.specs.Calls.{ReadsOrder}
-use Rattle.vm_script.proofs.Words.{lacks_decimal, one_cut, no_cut}
+use Rattle.vm_script.proofs.Words.{each_append, lacks_decimal, lacks_pair, lacks_verb, numbers_text, one_cut, no_cut, text_is, verb_text}
 
 -- these orders are read, and the rest is still to be read
 pub record IsRead (workers : ℕ) (bytes : List ℕ) (orders : List Order) (rest : List ℕ) : Type 0 where
   pub each : AllByRecursion (IsOrder workers) orders
   pub front : (bytes ≡ lines_text orders ++ rest) ⊎ ((rest ≡ []) × (bytes ++ 10 ∷ [] ≡ lines_text orders))
 
-pub each_append : {X : Type 0} (P : X → Type 0) (xs ys : List X) → AllByRecursion P xs → AllByRecursion P ys → AllByRecursion P (xs ++ ys)
-each_append P [] ys h k = k
-each_append P (x ∷ xs) ys h k = (h.0, each_append P xs ys h.1 k)
+lacks_numbers : (call : Call) → IsCall call → Lacks 10 (numbers_text call)
+lacks_numbers (Get key) is = lacks_decimal 10 key (omega arith) is
+lacks_numbers (Put key value) is = lacks_pair 10 key value (omega arith) is.0 is.1
+lacks_numbers (Del key) is = lacks_decimal 10 key (omega arith) is
+lacks_numbers (Window start most) is = lacks_pair 10 start most (omega arith) is.0 (omega (arith, is.2))
 
 lacks_call : (call : Call) → IsCall call → Lacks 10 (call_text call)
-lacks_call (Get key) is = (λ e. omega arith, (λ e. omega arith, (λ e. omega arith, (λ e. omega arith, lacks_decimal 10 key (omega arith) is))))
-lacks_call (Put key value) is = (
-  λ e. omega arith,
-  (
-    λ e. omega arith,
-    (
-      λ e. omega arith,
-      (
-        λ e. omega arith,
-        each_append (λ b. b ≢ 10) (decimal key) (32 ∷ decimal value) (lacks_decimal 10 key (omega arith) is.0) (λ e. omega arith, lacks_decimal 10 value (omega arith) is.1),
-      ),
-    ),
-  ),
-)
-lacks_call (Del key) is = (λ e. omega arith, (λ e. omega arith, (λ e. omega arith, (λ e. omega arith, lacks_decimal 10 key (omega arith) is))))
+lacks_call call is = rw (text_is call) (each_append (λ b. b ≢ 10) (verb_text call) (32 ∷ numbers_text call) (lacks_verb 10 call (omega arith)) (λ e. omega arith, lacks_numbers call is))
 
 pub lacks_order : (workers : ℕ) (order : Order) → workers < 2 ^ 32 → IsOrder workers order → Lacks 10 (order_text order)
 lacks_order workers order w is =

@@ -5,31 +5,36 @@ use Rattle.std.specs.List.{AllByRecursion}
 use Rattle.std.proofs.lemmas.Fmt.{decimal_injective}
 use Rattle.std.proofs.lemmas.List.{append-nil}
 use Rattle.vm_map.specs.declared.call.Call.{Call}
-use Rattle.vm_map.specs.declared.call.Call.TheVariants.{Get, Put, Del}
+use Rattle.vm_map.specs.declared.call.Call.TheVariants.{Get, Put, Del, Window}
 use Rattle.vm_script.specs.declared.script.Order.{Order}
 use Rattle.vm_script.specs.Scripts.{call_text, order_text, lines_text, lists_of, IsCall, IsOrder, Spells, IsScript, IsFirstBad, BeginsWith, most_lines}
-use Rattle.vm_script.proofs.Words.{lacks_decimal, one_cut}
+use Rattle.vm_script.proofs.Words.{lacks_decimal, one_cut, one_pair}
 use Rattle.vm_script.proofs.Lines.{lacks_order}
-
-one_pair : (key value key' value' : ℕ) → key < 2 ^ 64 → value < 2 ^ 64 → key' < 2 ^ 64 → value' < 2 ^ 64 → decimal key ++ 32 ∷ decimal value ≡ decimal key' ++ 32 ∷ decimal value' → (key ≡ key') × (value ≡ value')
-one_pair key value key' value' k v k' v' e =
-    let parts = one_cut 32 (decimal key) (decimal value) (decimal key') (decimal value') (lacks_decimal 32 key (lit< tt) k) (lacks_decimal 32 key' (lit< tt) k') e in
-    (decimal_injective key key' k k' parts.0, decimal_injective value value' v v' parts.1)
 
 -- a text is that of one call
 one_call : (a b : Call) → IsCall a → IsCall b → call_text a ≡ call_text b → a ≡ b
 one_call (Get k) (Get k') a b e = let rest : decimal k ≡ decimal k' = cc in ap Get (decimal_injective k k' a b rest)
 one_call (Get k) (Put k' v') a b e = let first : 103 ≡ 112 = ap (λ l. get_or l 0 0) e in absurd (omega (arith, first))
 one_call (Get k) (Del k') a b e = let first : 103 ≡ 100 = ap (λ l. get_or l 0 0) e in absurd (omega (arith, first))
+one_call (Get k) (Window s' n') a b e = let first : 103 ≡ 115 = ap (λ l. get_or l 0 0) e in absurd (omega (arith, first))
 one_call (Put k v) (Get k') a b e = let first : 112 ≡ 103 = ap (λ l. get_or l 0 0) e in absurd (omega (arith, first))
 one_call (Put k v) (Put k' v') a b e =
     let rest : decimal k ++ 32 ∷ decimal v ≡ decimal k' ++ 32 ∷ decimal v' = cc in
     let same = one_pair k v k' v' a.0 a.1 b.0 b.1 rest in
     cc (same.0, same.1)
 one_call (Put k v) (Del k') a b e = let first : 112 ≡ 100 = ap (λ l. get_or l 0 0) e in absurd (omega (arith, first))
+one_call (Put k v) (Window s' n') a b e = let first : 112 ≡ 115 = ap (λ l. get_or l 0 0) e in absurd (omega (arith, first))
 one_call (Del k) (Get k') a b e = let first : 100 ≡ 103 = ap (λ l. get_or l 0 0) e in absurd (omega (arith, first))
 one_call (Del k) (Put k' v') a b e = let first : 100 ≡ 112 = ap (λ l. get_or l 0 0) e in absurd (omega (arith, first))
 one_call (Del k) (Del k') a b e = let rest : decimal k ≡ decimal k' = cc in ap Del (decimal_injective k k' a b rest)
+one_call (Del k) (Window s' n') a b e = let first : 100 ≡ 115 = ap (λ l. get_or l 0 0) e in absurd (omega (arith, first))
+one_call (Window s n) (Get k') a b e = let first : 115 ≡ 103 = ap (λ l. get_or l 0 0) e in absurd (omega (arith, first))
+one_call (Window s n) (Put k' v') a b e = let first : 115 ≡ 112 = ap (λ l. get_or l 0 0) e in absurd (omega (arith, first))
+one_call (Window s n) (Del k') a b e = let first : 115 ≡ 100 = ap (λ l. get_or l 0 0) e in absurd (omega (arith, first))
+one_call (Window s n) (Window s' n') a b e =
+    let rest : decimal s ++ 32 ∷ decimal n ≡ decimal s' ++ 32 ∷ decimal n' = cc in
+    let same = one_pair s n s' n' a.0 (omega (arith, a.2)) b.0 (omega (arith, b.2)) rest in
+    cc (same.0, same.1)
 
 one_order : (workers : ℕ) (a b : Order) → workers < 2 ^ 32 → IsOrder workers a → IsOrder workers b → order_text a ≡ order_text b → a ≡ b
 one_order workers a b w is_a is_b e =

@@ -10,7 +10,7 @@ use Rattle.std.proofs.lemmas.Bool.{eqb-false}
 use Rattle.vm_core.specs.Words.{word_of, state_of, version_of}
 use Rattle.vm_script.specs.Cuts.{IsCut, Lacks}
 use Rattle.vm_script.specs.EventLines.{state_name, state_text}
-use Rattle.vm_script.proofs.Lines.{each_append}
+use Rattle.vm_script.proofs.Words.{each_append}
 use Rattle.vm_script.proofs.Words.{cut_here, one_cut}
 
 -- what a state may be called

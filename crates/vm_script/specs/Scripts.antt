@@ -3,16 +3,17 @@ use Rattle.std.specs.Prelude.{ℕ, zero, suc, ◌+◌, ◌<◌, ◌≤◌, ◌^�
 use Rattle.std.specs.Fmt.{decimal}
 use Rattle.std.specs.List.{AllByRecursion, flat_map}
 use Rattle.vm_map.specs.declared.call.Call.{Call}
-use Rattle.vm_map.specs.declared.call.Call.TheVariants.{Get, Put, Del}
+use Rattle.vm_map.specs.declared.call.Call.TheVariants.{Get, Put, Del, Window}
 use Rattle.vm_script.specs.declared.script.Order.{Order}
 use Rattle.vm_script.specs.declared.script.ScriptFault.{ScriptFault}
 use Rattle.vm_script.specs.declared.script.ScriptFault.TheVariants.{Long, Line, Memory}
 
--- `get K`, `put K V` or `del K`
+-- `get K`, `put K V`, `del K` or `scan K N`
 abbrev pub call_text : Call → List ℕ
 call_text (Get key) = codes "get" ++ 32 ∷ decimal key
 call_text (Put key value) = codes "put" ++ 32 ∷ decimal key ++ 32 ∷ decimal value
 call_text (Del key) = codes "del" ++ 32 ∷ decimal key
+call_text (Window start most) = codes "scan" ++ 32 ∷ decimal start ++ 32 ∷ decimal most
 
 -- `WORKER CALL`
 abbrev pub order_text : Order → List ℕ
@@ -22,6 +23,7 @@ abbrev pub IsCall : Call → Type 0
 IsCall (Get key) = key < 2 ^ 64
 IsCall (Put key value) = (key < 2 ^ 64) × (value < 2 ^ 64)
 IsCall (Del key) = key < 2 ^ 64
+IsCall (Window start most) = (start < 2 ^ 64) × (1 ≤ most) × (most ≤ 28)
 
 -- an order that a script for so many workers may have
 pub record IsOrder (workers : ℕ) (order : Order) : Type 0 where

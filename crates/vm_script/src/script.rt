@@ -55,6 +55,9 @@ impl<T: Drop> From<AllocFailed<T>> for ScriptFault {
 /// How many bytes a script may have.
 pub const MOST_BYTES: usize = 16_777_216;
 
+/// How many pairs a window may be asked for.
+pub const MOST_PAIRS: u64 = 28;
+
 /// How many lines a script may have.
 pub const MOST_LINES: u32 = 1_000_000;
 
@@ -110,6 +113,17 @@ fn call_of(bytes: &[u8]) -> Option<Call>
             return None;
         };
         return Some(Call::Put { key, value });
+    }
+    if verb == b"scan".as_slice() {
+        let Some((start, most)) = pair_of(rest) else {
+            return None;
+        };
+        if 1 <= most && most <= MOST_PAIRS {
+            return Some(Call::Window {
+                start,
+                most: most as u32,
+            });
+        }
     }
     None
 }
@@ -194,8 +208,8 @@ fn lists_of(alloc: Global, orders: &[Order], workers: u32) -> Result<Vec<Vec<Cal
 }
 
 /// Reads a script: the calls of each worker below `workers`, in the script's order. Each line is
-/// `WORKER CALL`, where the call is `get K`, `put K V` or `del K` in canonical decimals below 2^64; the last
-/// line feed may be missing, and no bytes are no lines.
+/// `WORKER CALL`, where the call is `get K`, `put K V`, `del K` or `scan K N` in canonical decimals below 2^64,
+/// N from 1 to 28; the last line feed may be missing, and no bytes are no lines.
 ///
 /// # Errors
 /// `Long` exactly over `MOST_BYTES`. Else `Line` exactly where a line is refused or is one too

@@ -3,9 +3,10 @@
 use crate::laws::{one_number, one_reading};
 use crate::number::number_of;
 use crate::script::{MOST_BYTES, MOST_LINES, ScriptFault, read_script};
-use crate::text::{reply_text, row_text};
+use crate::text::{reply_text, row_text, tree_text};
 use std::test::Fail;
 use vm_map::call::{Call, Pair, Reply, Said};
+use vm_map::window::{Bound, Pairs, Window};
 
 #[test]
 fn reads_numbers(rt: HostRuntime) {
@@ -42,6 +43,13 @@ fn reads_scripts(rt: HostRuntime) -> Result<(), Fail> {
         assert_eq!(rt; lists[0].as_slice(), [put, get].as_slice());
         assert_eq!(rt; lists[1].as_slice(), [get, del].as_slice());
     }
+    let lists = read_script(alloc, b"0 scan 18446744073709551615 1\n0 scan 0 28", 1)?;
+    let scan = Call::Window {
+        start: u64::MAX,
+        most: 1,
+    };
+    let whole = Call::Window { start: 0, most: 28 };
+    assert_eq!(rt; lists[0].as_slice(), [scan, whole].as_slice());
     let lists = read_script(alloc, b"", 1)?;
     assert_eq!(rt; lists.len(), 1);
     assert!(rt; lists[0].is_empty());
@@ -51,7 +59,7 @@ fn reads_scripts(rt: HostRuntime) -> Result<(), Fail> {
 
 #[test]
 fn refuses_lines(rt: HostRuntime) {
-    let lines: [(&[u8], u32); 13] = [
+    let lines: [(&[u8], u32); 17] = [
         (b"0 put 05 1\n", 1),
         (b"1 get 1\n", 1),
         (b"\n", 1),
@@ -64,7 +72,11 @@ fn refuses_lines(rt: HostRuntime) {
         (b"0 put 1\n", 1),
         (b"0 del 1 2\n", 1),
         (b"0 get 18446744073709551616\n", 1),
-        (b"0 get 1\n0 get 2\n0 scan 1 1\n", 3),
+        (b"0 get 1\n0 get 2\n0 walk 1 1\n", 3),
+        (b"0 scan 1 0\n", 1),
+        (b"0 scan 1 28\n0 scan 1 29\n", 2),
+        (b"0 scan 1\n", 1),
+        (b"0 scan 1 4294967297\n", 1),
     ];
     for (bytes, line) in lines {
         let fault = read_script(rt.alloc(), bytes, 1).err();
@@ -115,6 +127,38 @@ fn writes_lines(rt: HostRuntime) -> Result<(), Fail> {
     }
     row_text(alloc, &Pair { key: 5, value: 8 }, &mut out)?;
     let wanted = b"3 10 new\n3 10 was 7\n3 10 some 8\n3 10 none\n3 10 gone 8\n3 10 none\nrow 5 8\n";
+    assert_eq!(rt; out.as_slice(), wanted.as_slice());
+    Ok(())
+}
+
+#[test]
+fn writes_windows(rt: HostRuntime) -> Result<(), Fail> {
+    let alloc = rt.alloc();
+    let mut out = Vec::new(alloc);
+    let last = u64::MAX;
+    let call = Call::Window {
+        start: last,
+        most: 1,
+    };
+    let mut pairs = Pairs::new();
+    pairs.push(last, 1);
+    let reply = Reply::Win(Window {
+        bound: Bound::End,
+        pairs,
+    });
+    reply_text(alloc, 0, 2, &Said { call, reply }, &mut out)?;
+    let call = Call::Window { start: 1, most: 2 };
+    let mut pairs = Pairs::new();
+    pairs.push(3, 30);
+    pairs.push(4, 40);
+    let reply = Reply::Win(Window {
+        bound: Bound::Key(9),
+        pairs,
+    });
+    reply_text(alloc, 0, 3, &Said { call, reply }, &mut out)?;
+    tree_text(alloc, 0, 2, 2, &mut out)?;
+    let wanted =
+        b"0 2 window 18446744073709551615 end 18446744073709551615=1\n0 3 window 1 9 3=30 4=40\ntree height 0 used 2 rows 2\n";
     assert_eq!(rt; out.as_slice(), wanted.as_slice());
     Ok(())
 }

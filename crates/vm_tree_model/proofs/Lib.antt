@@ -19,4 +19,3 @@ pub mod Height
 mod Sound
 pub mod Complete
 pub mod Theorem
-pub mod FlatTheorem

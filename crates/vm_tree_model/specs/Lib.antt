@@ -5,4 +5,3 @@ pub mod Tree
 pub mod Count
 pub mod Walk
 pub mod Reason
-pub mod Flat

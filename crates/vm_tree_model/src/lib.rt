@@ -8,20 +8,12 @@ ghost use Rattle.vm_map.specs.Map.{Rises};
 ghost use Rattle.vm_page.specs.Pages.{page_at};
 ghost use Rattle.vm_tree_model.specs.Tree.{IsTree, IsParted, map_of};
 ghost use Rattle.vm_tree_model.specs.Reason.{reason, walked};
-ghost use Rattle.vm_tree_model.specs.Flat.{flat_reason, IsFlatTree};
 
 /// The walk meets no reason exactly where the pages are a tree, and its rows are then the map that the pages hold.
 #[tactic(auto, using(crate::proofs::Theorem::no_reason, crate::proofs::Theorem::walk_from_tree))]
 pub fn walk_is_exact()
     ensures reason { (pages : List (List ℕ)) → (reason pages ≡ None) ↔ IsTree pages }
     ensures rows { (pages : List (List ℕ)) → IsTree pages → walked pages ≡ Ok (map_of pages) }
-{}
-
-/// The same at height 0.
-#[tactic(auto, using(crate::proofs::FlatTheorem::no_flat_reason, crate::proofs::FlatTheorem::flat_is_any))]
-pub fn flat_walk_is_exact()
-    ensures reason { (pages : List (List ℕ)) → (flat_reason pages ≡ None) ↔ IsFlatTree pages }
-    ensures same { (pages : List (List ℕ)) → slice_index (page_at pages 0) 2 ≡ 0 → flat_reason pages ≡ reason pages }
 {}
 
 /// In a tree each number of 64 bits lies in the fences of exactly one leaf.

@@ -298,3 +298,11 @@ pub taken : (app : App) (words : List Text) → app ≡ vmcache_app → (is_simp
 taken app words is faultless =
     let none = faultless (subst (λ a. is_simple_and_free a ≡ true) (sym is) refl) in
     takes_faultless vmcache_app words refl refl (subst (λ a. fault_of a words ≡ []) is none)
+
+not_true : (b : Bool) → (b ≡ true → ⊥) → b ≡ false
+not_true true never = absurd (never refl)
+not_true false never = refl
+
+-- words that would only want memory if they were taken, and do not want it, are not taken
+pub untaken : (app : App) (words : List Text) (K : Type 0) → app ≡ vmcache_app → (takes app words ≡ true → K) → (K → ⊥) → takes vmcache_app words ≡ false
+untaken app words K is passes never = subst (λ a. takes a words ≡ false) is (not_true (takes app words) (λ e. never (passes e)))

@@ -1,5 +1,5 @@
 -- Words that clap takes name a command, and give it all its texts; and they do so in one way.
-use Rattle.std.proofs.Common.{◌≡◌, ◌<◌, ◌^◌, ◌∙◌, ◌⊎◌, inl, inr, ℕ, Bool, cond, true, false, refl, sym, ap, subst, List, [], Option, Some, None, is_some, true≢false, codes, option_map, slice_index_or}
+use Rattle.std.proofs.Common.{◌≡◌, ◌<◌, ◌^◌, ◌∙◌, ◌⊎◌, inl, inr, ℕ, Bool, cond, not, ◌||◌, true, false, refl, sym, ap, subst, List, [], Option, Some, None, is_some, true≢false, codes, option_map, slice_index_or}
 use Rattle.std.specs.Fmt.{decimal}
 use Rattle.std.specs.Option.{option_map_or}
 use Rattle.std.proofs.lemmas.Fmt.{decimal_injective}
@@ -9,10 +9,11 @@ use Rattle.clap.specs.Takes.{entered_passes, is_given, level_passes, takes}
 use Rattle.clap.proofs.WalkLemmas.{both}
 use Rattle.vm_words.specs.Apps.{vmcache_app}
 use Rattle.vm_words.specs.declared.Command.{Command}
-use Rattle.vm_words.specs.declared.Command.TheVariants.{Run, Replay}
-use Rattle.vm_words.specs.Found.{EntersReplay, EntersNone, EntersRun, Entered, FindsNoRun, HasRunTexts, IsNoNumber}
-use Rattle.vm_words.specs.Commands.{HasLine, IsCommand, IsNoCommand, IsReplay, IsRun, SameRun, WhyRefused, odd_number, replay_line, run_line, untaken}
-use Rattle.vm_words.proofs.Filled.{given_text, level_whole, required_given}
+use Rattle.vm_words.specs.declared.Command.TheVariants.{Run, Check, Replay}
+use Rattle.vm_words.specs.Found.{EntersFile, EntersNone, EntersRun, Entered, FindsNoRun, HasRunTexts, IsNoNumber}
+use Rattle.vm_words.specs.Commands.{HasLine, IsCheck, IsCommand, IsNoCommand, IsReplay, IsRun, NamesFile, SameRun, WhyRefused, check_line, odd_number, replay_line, run_line, untaken}
+use Rattle.std.specs.List.{list_all}
+use Rattle.vm_words.proofs.Filled.{fills, given_text, level_whole, required_given}
 
 -- the program and its commands, as clap builds them
 abbrev whole : App
@@ -21,13 +22,17 @@ whole = built vmcache_app
 abbrev run_leaf : Shape
 run_leaf = slice_index_or whole.subs 0 (new_shape [])
 
+abbrev check_leaf : Shape
+check_leaf = slice_index_or whole.subs 1 (new_shape [])
+
 abbrev replay_leaf : Shape
-replay_leaf = slice_index_or whole.subs 1 (new_shape [])
+replay_leaf = slice_index_or whole.subs 2 (new_shape [])
 
 -- the command that was entered has all its texts
 data IsWholeLine (met : Entered) : Type 0 where
   whole_run : (image script workers frames : Text) → EntersRun met image script workers frames → IsWholeLine met
-  whole_replay : (file : Text) → EntersReplay met file → IsWholeLine met
+  whole_check : (file : Text) → EntersFile met (codes "check") file → IsWholeLine met
+  whole_replay : (file : Text) → EntersFile met (codes "replay") file → IsWholeLine met
 
 run_texts : (words : List Text) → level_passes run_leaf [] nothing_held words false ≡ true → IsWholeLine (Some (rows_at run_leaf words))
 run_texts words e =
@@ -47,24 +52,32 @@ run_texts words e =
       texts = record { image_is = i.1; script_is = s.1; workers_is = w.1; frames_is = f.1 };
     })
 
-replay_texts : (words : List Text) → level_passes replay_leaf [] nothing_held words false ≡ true → IsWholeLine (Some (rows_at replay_leaf words))
-replay_texts words e =
-    let rows = rows_after replay_leaf.rules [] words in
-    let level = level_whole replay_leaf [] words false refl e in
-    let file = both (is_given (codes "file") rows) _ (required_given replay_leaf rows false refl level.valid) in
+-- a command with one file
+record FileText (met : Entered) (name : Text) : Type 0 where
+  file : Text
+  is : EntersFile met name file
+
+file_texts : (leaf : Shape) (name : Text) (words : List Text) → leaf.rules ≡ check_leaf.rules → leaf.subcommand_negates_reqs ≡ false → rows_at leaf words ≡ (name, rows_after leaf.rules [] words)
+    → level_passes leaf [] nothing_held words false ≡ true → FileText (Some (rows_at leaf words)) name
+file_texts leaf name words rules negates at e =
+    let rows = rows_after leaf.rules [] words in
+    let level = level_whole leaf [] words false (subst (λ r. list_all fills r ≡ true) (sym rules) refl) e in
+    let needed = subst (λ r. list_all (λ a. not a.required || is_given a.id rows) r ≡ true) rules (required_given leaf rows false negates level.valid) in
+    let file = both (is_given (codes "file") rows) _ needed in
     let f = given_text (codes "file") rows level.filled file.0 in
-    whole_replay f.0 (record { rows = rows; named = refl; file_is = f.1 })
+    record { file = f.0; is = record { rows = rows; named = ap (λ p. Some p) at; file_is = f.1 } }
 
 entered_whole : (stop : Option (Text × List Text)) → entered_passes whole stop ≡ true → is_some (entered whole stop) ≡ true → IsWholeLine (entered whole stop)
 entered_whole None e has = absurd (true≢false (sym has))
-entered_whole (Some p) e has = go (answers_to p.0 (label_of run_leaf)) (answers_to p.0 (label_of replay_leaf)) e has
+entered_whole (Some p) e has = go (answers_to p.0 (label_of run_leaf)) (answers_to p.0 (label_of check_leaf)) (answers_to p.0 (label_of replay_leaf)) e has
   where
-    go : (r s : Bool) → let met = cond r (Some run_leaf) (cond s (Some replay_leaf) None) in
+    go : (r c s : Bool) → let met = cond r (Some run_leaf) (cond c (Some check_leaf) (cond s (Some replay_leaf) None)) in
         option_map_or (λ s. level_passes s [] nothing_held p.1 false) met true ≡ true
         → is_some (option_map (λ s. rows_at s p.1) met) ≡ true → IsWholeLine (option_map (λ s. rows_at s p.1) met)
-    go true s e has = run_texts p.1 e
-    go false true e has = replay_texts p.1 e
-    go false false e has = absurd (true≢false (sym has))
+    go true c s e has = run_texts p.1 e
+    go false true s e has = let line = file_texts check_leaf (codes "check") p.1 refl refl refl e in whole_check line.file line.is
+    go false false true e has = let line = file_texts replay_leaf (codes "replay") p.1 refl refl refl e in whole_replay line.file line.is
+    go false false false e has = absurd (true≢false (sym has))
 
 taken_line : (words : List Text) → takes vmcache_app words ≡ true → IsWholeLine (subcommand_of vmcache_app words)
 taken_line words e =
@@ -75,6 +88,7 @@ taken_line words e =
 
 line_of : (words : List Text) → takes vmcache_app words ≡ true → IsWholeLine (subcommand_of vmcache_app words) → HasLine words
 line_of words e (whole_run image script workers frames line) = run_line image script workers frames (record { taken = e; line = line })
+line_of words e (whole_check file line) = check_line file (record { taken = e; line = line })
 line_of words e (whole_replay file line) = replay_line file (record { taken = e; line = line })
 
 pub taken_is_whole : (words : List Text) → takes vmcache_app words ≡ true → HasLine words
@@ -124,16 +138,32 @@ run_is_one words image script workers frames i s w f a b =
       frames_same = decimal_injective frames f a.line.found.frames_fit b.line.found.frames_fit same.frames_same;
     }
 
--- `run` and `replay` have two names
-pub two_names : (met : Entered) (a b : List Row) → met ≡ Some (codes "run", a) → met ≡ Some (codes "replay", b) → ⊥
-two_names met a b p q = let e : codes "run" ≡ codes "replay" = ap (λ o. option_map_or (λ x. x.0) o []) (sym p ∙ q) in absurd cc
+-- the name of what was entered
+pub one_name : (met : Entered) (n m : Text) (a b : List Row) → met ≡ Some (n, a) → met ≡ Some (m, b) → n ≡ m
+one_name met n m a b p q = ap (λ o. option_map_or (λ x. x.0) o n) (sym p ∙ q)
+
+-- no two commands have one name
+run_not_check : codes "run" ≡ codes "check" → ⊥
+run_not_check e = absurd cc
+
+run_not_replay : codes "run" ≡ codes "replay" → ⊥
+run_not_replay e = absurd cc
+
+check_not_replay : codes "check" ≡ codes "replay" → ⊥
+check_not_replay e = absurd cc
+
+pub run_no_check : (words : List Text) (image script : Text) (workers frames : ℕ) (file : Text) → IsRun words image script workers frames → IsCheck words file → ⊥
+run_no_check words image script workers frames file run check = run_not_check (one_name _ _ _ _ _ run.line.named check.line.named)
 
 pub run_no_replay : (words : List Text) (image script : Text) (workers frames : ℕ) (file : Text) → IsRun words image script workers frames → IsReplay words file → ⊥
-run_no_replay words image script workers frames file run replay = two_names _ _ _ run.line.named replay.line.named
+run_no_replay words image script workers frames file run replay = run_not_replay (one_name _ _ _ _ _ run.line.named replay.line.named)
 
-pub replay_is_one : (words : List Text) (file other : Text) → IsReplay words file → IsReplay words other → file ≡ other
-replay_is_one words file other a b =
-    let rows = same_rows _ (codes "replay") (codes "replay") a.line.rows b.line.rows a.line.named b.line.named in
+pub check_no_replay : (words : List Text) (file other : Text) → IsCheck words file → IsReplay words other → ⊥
+check_no_replay words file other check replay = check_not_replay (one_name _ _ _ _ _ check.line.named replay.line.named)
+
+pub file_is_one : (words : List Text) (name file other : Text) → NamesFile words name file → NamesFile words name other → file ≡ other
+file_is_one words name file other a b =
+    let rows = same_rows _ name name a.line.rows b.line.rows a.line.named b.line.named in
     some_same file other (first_of (codes "file") b.line.rows) (subst (λ x. first_of (codes "file") x ≡ Some file) rows a.line.file_is) b.line.file_is
 
 odd_one : (w f : Text) (workers frames : ℕ) → workers < 2 ^ 64 → frames < 2 ^ 64 → IsNoNumber w ⊎ IsNoNumber f → w ≡ decimal workers → f ≡ decimal frames → ⊥
@@ -143,22 +173,26 @@ odd_one w f workers frames small fits (inr odd) p q = odd frames fits q
 pub refused_is_none : (words : List Text) → WhyRefused words → IsNoCommand words
 refused_is_none words (untaken e) = record {
   no_run = λ image script workers frames run. true≢false (sym run.taken ∙ e);
+  no_check = λ file check. true≢false (sym check.taken ∙ e);
   no_replay = λ file replay. true≢false (sym replay.taken ∙ e);
 }
 refused_is_none words (odd_number i s w f line odd) = record {
   no_run = λ image script workers frames run.
       let same = same_line _ _ _ _ _ _ _ _ _ line.line (run_entered words image script workers frames run) in
       odd_one w f workers frames run.line.found.workers_fit run.line.found.frames_fit odd same.workers_same same.frames_same;
-  no_replay = λ file replay. two_names _ _ _ line.line.named replay.line.named;
+  no_check = λ file check. run_not_check (one_name _ _ _ _ _ line.line.named check.line.named);
+  no_replay = λ file replay. run_not_replay (one_name _ _ _ _ _ line.line.named replay.line.named);
 }
 
 pub command_apart : (words : List Text) (command : Command) → IsCommand words command → IsNoCommand words → ⊥
 command_apart words (Run run) is none = none.no_run run.image.now run.script.now run.workers run.frames is
+command_apart words (Check check) is none = none.no_check check.file.now is
 command_apart words (Replay replay) is none = none.no_replay replay.file.now is
 
 none_at : (words : List Text) → HasLine words → EntersNone (subcommand_of vmcache_app words) → WhyRefused words
 none_at words (run_line image script workers frames line) none =
     odd_number image script workers frames line (none.no_run image script workers frames line.line)
+none_at words (check_line file line) none = absurd (none.no_check file line.line)
 none_at words (replay_line file line) none = absurd (none.no_replay file line.line)
 
 -- where clap takes the words and nothing was read of them, a number word is odd
@@ -171,5 +205,6 @@ pub no_run : (met : Entered) (name : Text) (rows : List Row) → name ≡ codes 
 no_run met name rows named is none = record {
   no_run = λ image script workers frames run. none image script workers frames
       (subst (λ x. HasRunTexts x image script workers frames) (same_rows met (codes "run") name run.rows rows run.named (sym is)) run.texts);
-  no_replay = λ file replay. two_names met rows replay.rows (subst (λ x. met ≡ Some (x, rows)) named (sym is)) replay.named;
+  no_check = λ file check. run_not_check (one_name met _ _ rows check.rows (subst (λ x. met ≡ Some (x, rows)) named (sym is)) check.named);
+  no_replay = λ file replay. run_not_replay (one_name met _ _ rows replay.rows (subst (λ x. met ≡ Some (x, rows)) named (sym is)) replay.named);
 }

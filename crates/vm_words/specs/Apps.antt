@@ -16,9 +16,15 @@ named id = record (new_rule id) { required = true; long = Some id }
 abbrev pub run_app : App
 run_app = with_rule (with_rule (with_rule (with_rule (new_app (codes "run")) (placed (codes "image"))) (placed (codes "script"))) (named (codes "workers"))) (named (codes "frames"))
 
--- `replay FILE`
+-- a command of this name with one file: `NAME FILE`
+abbrev pub file_app : Text → App
+file_app name = with_rule (new_app name) (placed (codes "file"))
+
+abbrev pub check_app : App
+check_app = file_app (codes "check")
+
 abbrev pub replay_app : App
-replay_app = with_rule (new_app (codes "replay")) (placed (codes "file"))
+replay_app = file_app (codes "replay")
 
 -- a command has to be named by the first word, and clap adds no command `help` of its own
 abbrev pub bare_app : App
@@ -26,7 +32,7 @@ bare_app = let a = new_app (codes "vmcache") in record a { top = record a.top { 
 
 -- the whole command line: one of the commands, with its words
 abbrev pub vmcache_app : App
-vmcache_app = with_subcommand (with_subcommand bare_app run_app.top) replay_app.top
+vmcache_app = with_subcommand (with_subcommand (with_subcommand bare_app run_app.top) check_app.top) replay_app.top
 
 abbrev pub IsApp : App → Command → Type 0
 IsApp app command = app_of command ≡ app

@@ -4,7 +4,7 @@ use Rattle.std.specs.Fmt.{decimal}
 use Rattle.clap.specs.Words.{Row, Text, first_of}
 use Rattle.vm_script.specs.Decimals.{ReadsNumber}
 use Rattle.vm_words.specs.declared.Command.{Command}
-use Rattle.vm_words.specs.declared.Command.TheVariants.{Run, Replay}
+use Rattle.vm_words.specs.declared.Command.TheVariants.{Run, Check, Replay}
 
 -- the matches have a text for each argument of `run`
 pub record HasRunTexts (rows : List Row) (image script workers frames : Text) : Type 0 where
@@ -41,17 +41,19 @@ pub record EntersRunOf (entered : Entered) (image script : Text) (workers frames
   pub named : entered ≡ Some (codes "run", rows)
   pub found : FindsRun rows image script workers frames
 
--- the command that was entered is `replay`, with this text
-pub record EntersReplay (entered : Entered) (file : Text) : Type 0 where
+-- the command that was entered has this name and one file, with this text
+pub record EntersFile (entered : Entered) (name file : Text) : Type 0 where
   pub rows : List Row
-  pub named : entered ≡ Some (codes "replay", rows)
+  pub named : entered ≡ Some (name, rows)
   pub file_is : first_of (codes "file") rows ≡ Some file
 
 abbrev pub EntersCommand : Entered → Command → Type 0
 EntersCommand entered (Run run) = EntersRunOf entered run.image.now run.script.now run.workers run.frames
-EntersCommand entered (Replay replay) = EntersReplay entered replay.file.now
+EntersCommand entered (Check check) = EntersFile entered (codes "check") check.file.now
+EntersCommand entered (Replay replay) = EntersFile entered (codes "replay") replay.file.now
 
 -- no command was entered, but for a `run` with a number word that is no number
 pub record EntersNone (entered : Entered) : Type 0 where
   pub no_run : (image script workers frames : Text) → EntersRun entered image script workers frames → IsNoNumber workers ⊎ IsNoNumber frames
-  pub no_replay : (file : Text) → EntersReplay entered file → ⊥
+  pub no_check : (file : Text) → EntersFile entered (codes "check") file → ⊥
+  pub no_replay : (file : Text) → EntersFile entered (codes "replay") file → ⊥

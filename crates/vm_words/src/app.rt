@@ -2,7 +2,7 @@
 //! that each says what clap's definitions make of it.
 ghost use Rattle.std.specs.Prelude.{◌≡◌, IfOk, false};
 ghost use Rattle.clap.specs.Words.{app_of, rule_of};
-ghost use Rattle.vm_words.specs.Apps.{IsApp, IsLocal, bare_app, named as named_rule, placed as placed_rule, replay_app, run_app, vmcache_app};
+ghost use Rattle.vm_words.specs.Apps.{IsApp, IsLocal, bare_app, file_app, named as named_rule, placed as placed_rule, run_app, vmcache_app};
 
 use clap::{Arg, Command};
 use std::alloc::{AllocError, Global};
@@ -34,11 +34,12 @@ fn run<'a>(alloc: Global) -> Result<Command<'a>, AllocError>
         .arg(named(alloc, "frames"))
 }
 
-fn replay<'a>(alloc: Global) -> Result<Command<'a>, AllocError>
-    ensures app { IfOk result (IsApp replay_app) }
+// A command with one file.
+fn with_file<'a>(alloc: Global, name: &'a str) -> Result<Command<'a>, AllocError>
+    ensures app { IfOk result (IsApp (file_app name.entry.now)) }
     ensures local { IfOk result IsLocal }
 {
-    Command::new(alloc, "replay").arg(placed(alloc, "file"))
+    Command::new(alloc, name).arg(placed(alloc, "file"))
 }
 
 // The program, with no command yet.
@@ -57,6 +58,10 @@ pub fn vmcache<'a>(alloc: Global) -> Result<Command<'a>, AllocError>
     ensures { IfOk result (IsApp vmcache_app) }
 {
     let run = run(alloc)?;
-    let replay = replay(alloc)?;
-    bare(alloc).subcommand(run)?.subcommand(replay)
+    let check = with_file(alloc, "check")?;
+    let replay = with_file(alloc, "replay")?;
+    bare(alloc)
+        .subcommand(run)?
+        .subcommand(check)?
+        .subcommand(replay)
 }

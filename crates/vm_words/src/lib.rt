@@ -17,6 +17,7 @@ use thiserror::Error;
 #[derive(Clone, Copy, Debug, PartialEq, Eq)]
 pub enum Command<'a> {
     Run(Run<'a>),
+    Check(Check<'a>),
     Replay(Replay<'a>),
 }
 
@@ -31,6 +32,13 @@ pub struct Run<'a> {
     pub workers: u64,
     /// How many frames.
     pub frames: u64,
+}
+
+/// `check FILE`
+#[derive(Clone, Copy, Debug, PartialEq, Eq)]
+pub struct Check<'a> {
+    /// The name of the file with the image.
+    pub file: &'a str,
 }
 
 /// `replay FILE`

@@ -5,7 +5,7 @@ ghost use Rattle.clap.specs.Words.{app_of, first_of, found_of, kind_of, rows_of,
 ghost use Rattle.vm_words.specs.Apps.{IsApp, vmcache_app};
 ghost use Rattle.vm_words.specs.Found.{EntersCommand, EntersNone, FindsNoRun, FindsRun, IsNoNumber};
 
-use crate::{Command, Replay, Run, WordsFault};
+use crate::{Check, Command, Replay, Run, WordsFault};
 use clap::error::ErrorKind;
 use clap::{ArgMatches, Error};
 use vm_script::number::number_of;
@@ -57,13 +57,19 @@ pub fn command_in<'a>(matches: &ArgMatches<'a>) -> Option<Command<'a>>
         };
         return Some(Command::Run(run));
     }
-    if name != "replay" {
-        return None;
+    if name == "check" {
+        let Some(file) = text_at(inner, "file") else {
+            return None;
+        };
+        return Some(Command::Check(Check { file }));
     }
-    let Some(file) = text_at(inner, "file") else {
-        return None;
-    };
-    Some(Command::Replay(Replay { file }))
+    if name == "replay" {
+        let Some(file) = text_at(inner, "file") else {
+            return None;
+        };
+        return Some(Command::Replay(Replay { file }));
+    }
+    None
 }
 
 // The name of the command that was entered, and its matches.

@@ -1,5 +1,5 @@
 //! The words of a few lines, and what they have to give.
-use crate::{Command, Replay, Run, WordsFault, command_of};
+use crate::{Check, Command, Replay, Run, WordsFault, command_of};
 use std::alloc::{AllocError, Global};
 
 // The words of a line, cut at its spaces.
@@ -29,10 +29,14 @@ fn reads_run(rt: HostRuntime) {
 }
 
 #[test]
-fn reads_replay(rt: HostRuntime) {
-    let words = words_of(rt.alloc(), "replay E0").expect(&rt, "words");
-    let command = command_of(rt.alloc(), words.as_slice());
-    assert!(rt; command == Ok(Command::Replay(Replay { file: "E0" })));
+fn reads_a_file(rt: HostRuntime) {
+    let check = Command::Check(Check { file: "I0" });
+    let replay = Command::Replay(Replay { file: "E0" });
+    for (line, wanted) in [("check I0", check), ("replay E0", replay)] {
+        let words = words_of(rt.alloc(), line).expect(&rt, "words");
+        let command = command_of(rt.alloc(), words.as_slice());
+        assert!(rt; command == Ok(wanted), "at {line}");
+    }
 }
 
 #[test]
@@ -50,6 +54,9 @@ fn refuses_other_words(rt: HostRuntime) {
         "run I0 S0 S1 --workers 1 --frames 64",
         "run I0 S0 --workers 1 --workers 1 --frames 64",
         "run I0 S0 --workers 1 --frames 64 --other",
+        "check",
+        "check I0 I1",
+        "check --file I0",
         "replay",
         "replay E0 E1",
         "replay E0 --workers 1",

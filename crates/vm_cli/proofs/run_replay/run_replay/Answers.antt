@@ -10,7 +10,7 @@ pub returns-in-Ok-clause-ends : goal.returns-in-Ok-clause-ends
 returns-in-Ok-clause-ends g c =
     played c.in-Ok.played.text.items c.in-Ok.played.is_legal c.in-Ok.ensures.reads (rw (c.in-Ok.ensures.shown, c.as_slice.ensures.value, c.played_status.ensures) at c.say.ensures.said)
 
-pub returns-in-Err-Halted-clause-ends : goal.returns-in-Err-Halted-clause-ends
-returns-in-Err-Halted-clause-ends g c =
-    let why = rw c.in-Err-Halted.field-0-is at c.in-Err-Halted.ensures.reads in
-    halted_ends _ _ c.in-Err-Halted.halt _ _ _ (rw c.refuse.ensures.apart.name why) (rw c.in-Err-Halted.ensures.shown at c.refuse.ensures.said)
+pub returns-in-Err-Stopped-clause-ends : goal.returns-in-Err-Stopped-clause-ends
+returns-in-Err-Stopped-clause-ends g c =
+    let why = rw c.in-Err-Stopped.field-0-is at c.in-Err-Stopped.ensures.reads in
+    halted_ends _ _ c.in-Err-Stopped.halt _ _ _ (rw c.refuse.ensures.apart.name why) (rw (c.in-Err-Stopped.ensures.shown, c.status_of.ensures) at c.refuse.ensures.said _ c.line_of.ensures)

@@ -8,4 +8,4 @@ returns-in-Ok-clause-ends g c = served c.in-Ok.text.items c.in-Ok.ensures.serves
 pub returns-in-Err-Stopped-clause-ends : goal.returns-in-Err-Stopped-clause-ends
 returns-in-Err-Stopped-clause-ends g c =
     let why = rw c.in-Err-Stopped.field-0-is at c.in-Err-Stopped.ensures.serves in
-    refused_ends _ _ c.in-Err-Stopped.stop _ _ _ (rw c.refuse.ensures.apart.name why) (rw c.in-Err-Stopped.ensures.shown at c.refuse.ensures.said)
+    refused_ends _ _ c.in-Err-Stopped.stop _ _ _ (rw c.refuse.ensures.apart.name why) (rw (c.in-Err-Stopped.ensures.shown, c.status_of.ensures) at c.refuse.ensures.said _ c.line_of.ensures)

@@ -1,7 +1,7 @@
 use Rattle.vm_script.specs.Scripts.{most_bytes}
 use Rattle.vm_cli.specs.Served.{items_of, IsGoodScript}
 use Rattle.vm_cli.specs.Stops.{IsBadLine}
-use Rattle.vm_cli.proofs.Files.{short_file, long_file, few_script}
+use Rattle.vm_cli.proofs.Files.{short_file, long_file, few_script, askable_script}
 use Rattle.vm_cli.proofs.serve.read_calls.Goals as goal
 
 pub returns-in-Ok-read_script-clause-reads : goal.returns-in-Ok-read_script-clause-reads
@@ -11,6 +11,9 @@ returns-in-Ok-read_script-clause-reads g c =
 
 pub returns-in-Ok-read_script-clause-few : goal.returns-in-Ok-read_script-clause-few
 returns-in-Ok-read_script-clause-few g c = few_script _ _ _ c.in-Ok-read_script.ensures.reading.1
+
+pub returns-in-Ok-read_script-clause-askable : goal.returns-in-Ok-read_script-clause-askable
+returns-in-Ok-read_script-clause-askable g c = askable_script _ _ _ c.in-Ok-read_script.ensures.reading.1
 
 pub returns-in-Err-Long-clause-reads : goal.returns-in-Err-Long-clause-reads
 returns-in-Err-Long-clause-reads g c = λ asked script workers good.

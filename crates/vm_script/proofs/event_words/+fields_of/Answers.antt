@@ -1,4 +1,4 @@
-use Rattle.std.proofs.Common.{◌≡◌, ◌<◌, ◌≤◌, length, arith, ap}
+use Rattle.std.proofs.Common.{arith}
 use Rattle.vm_script.proofs.FieldLists.{no_split, split_fields, read_more}
 use Rattle.vm_script.proofs.event_words.+fields_of.Goals as goal
 

@@ -1,4 +1,4 @@
-use Rattle.std.proofs.Common.{◌≡◌, ◌<◌, ◌^◌, IsTrue, subst, arith, sym, ◌∙◌}
+use Rattle.std.proofs.Common.{◌≡◌, IsTrue, subst, sym, ◌∙◌}
 use Rattle.std.proofs.lemmas.Fmt.{decimal_injective}
 use Rattle.vm_script.specs.EventLines.{IsField}
 use Rattle.vm_script.proofs.FieldLists.{field_small, plain_text}

@@ -1,7 +1,7 @@
 use Rattle.std.proofs.Common.{◌≡◌, codes, rules, ap₂, sym, subst, ◌∙◌, ◌++◌, ◌∷◌, List, ℕ}
 use Rattle.vm_core.specs.declared.event.CoreShape.{CoreShape}
-use Rattle.vm_script.specs.EventLines.{IsShape, fields_text}
-use Rattle.vm_script.proofs.EventTexts.{are_counts, counts, cut_shape, largest, numbers, one_shape}
+use Rattle.vm_script.specs.EventLines.{IsShape}
+use Rattle.vm_script.proofs.EventTexts.{are_counts, cut_shape, largest, numbers, one_shape}
 use Rattle.vm_script.proofs.event_words.shape_of.Goals as goal
 
 pub returns-then-ne : goal.returns-then-ne

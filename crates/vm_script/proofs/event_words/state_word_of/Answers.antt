@@ -1,7 +1,7 @@
-use Rattle.std.proofs.Common.{◌≡◌, ◌<◌, ◌^◌, arith, sym, ◌∙◌, ◌++◌, ◌∷◌, rules}
+use Rattle.std.proofs.Common.{◌<◌, ◌^◌, arith, sym, ◌∙◌}
 use Rattle.std.specs.Fmt.{decimal}
 use Rattle.std.proofs.lemmas.Fmt.{decimal_injective}
-use Rattle.vm_core.specs.Words.{word_of, state_of, version_of}
+use Rattle.vm_core.specs.Words.{state_of, version_of}
 use Rattle.vm_script.specs.EventLines.{state_name}
 use Rattle.vm_script.proofs.StateWords.{cut_state, state_in, version_in, spelled_state}
 use Rattle.vm_script.proofs.Words.{no_cut}

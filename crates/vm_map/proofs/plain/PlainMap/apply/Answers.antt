@@ -1,7 +1,8 @@
-use Rattle.std.proofs.Common.{rules, sym, ap, ◌∙◌, ◌^◌, arith}
+use Rattle.std.proofs.Common.{◌^◌, min, rules, sym, ap, ◌∙◌, arith}
 use Rattle.vm_map.specs.Map.{lookup_at, put_pair, del_pair}
 use Rattle.vm_map.specs.History.{AddsKey}
 use Rattle.vm_map.proofs.MapLemmas.{Rises-put, Rises-del}
+use Rattle.vm_map.proofs.WindowLaws.{window_replies}
 use Rattle.vm_map.proofs.Entries.{lookup_is, insert_is, remove_is}
 use Rattle.vm_map.proofs.plain.PlainMap.apply.Goals as goal
 
@@ -15,11 +16,11 @@ invariant_of-self-in-Put c = rw (c.in_ok-insert-in-Put.ensures.entries, insert_i
     (Rises-put c.self.inside.entries.entries 0 (2 ^ 64) c.in-Put.key c.in-Put.value c.self.invariant (omega arith) (search rules))
 
 pub returns-in-Get-clause-reply : goal.returns-in-Get-clause-reply
-returns-in-Get-clause-reply c = rw c.in-Get.is (c.copied.ensures ∙ c.get.ensures.value ∙ lookup_is c.self.inside.entries.entries c.in-Get.key ∙ ap (λ m. lookup_at m c.in-Get.key) c.self.view_is)
+returns-in-Get-clause-reply c = rw c.in-Get.is (λ _. c.copied.ensures ∙ c.get.ensures.value ∙ lookup_is c.self.inside.entries.entries c.in-Get.key ∙ ap (λ m. lookup_at m c.in-Get.key) c.self.view_is)
 
 pub returns-in_ok-insert-in-Put-clause-reply : goal.returns-in_ok-insert-in-Put-clause-reply
 returns-in_ok-insert-in-Put-clause-reply c =
-    rw c.in-Put.is (c.in_ok-insert-in-Put.ensures.old ∙ lookup_is c.self.inside.entries.entries c.in-Put.key ∙ ap (λ m. lookup_at m c.in-Put.key) c.self.view_is)
+    rw c.in-Put.is (λ _. c.in_ok-insert-in-Put.ensures.old ∙ lookup_is c.self.inside.entries.entries c.in-Put.key ∙ ap (λ m. lookup_at m c.in-Put.key) c.self.view_is)
 
 pub returns-in_ok-insert-in-Put-clause-after : goal.returns-in_ok-insert-in-Put-clause-after
 returns-in_ok-insert-in-Put-clause-after c =
@@ -32,10 +33,15 @@ pub invariant_of-self-in-Del : goal.invariant_of-self-in-Del
 invariant_of-self-in-Del c = rw (c.remove.ensures.entries, remove_is c.self.inside.entries.entries c.in-Del.key) (Rises-del c.self.inside.entries.entries 0 (2 ^ 64) c.in-Del.key c.self.invariant)
 
 pub returns-in-Del-clause-reply : goal.returns-in-Del-clause-reply
-returns-in-Del-clause-reply c = rw c.in-Del.is (c.remove.ensures.value ∙ lookup_is c.self.inside.entries.entries c.in-Del.key ∙ ap (λ m. lookup_at m c.in-Del.key) c.self.view_is)
+returns-in-Del-clause-reply c = rw c.in-Del.is (λ _. c.remove.ensures.value ∙ lookup_is c.self.inside.entries.entries c.in-Del.key ∙ ap (λ m. lookup_at m c.in-Del.key) c.self.view_is)
 
 pub returns-in-Del-clause-after : goal.returns-in-Del-clause-after
 returns-in-Del-clause-after c = rw c.in-Del.is (c.remove.ensures.entries ∙ remove_is c.self.inside.entries.entries c.in-Del.key ∙ ap (λ m. del_pair m c.in-Del.key) c.self.view_is)
 
 pub returns-in-Del-clause-rises : goal.returns-in-Del-clause-rises
 returns-in-Del-clause-rises c = invariant_of-self-in-Del c
+
+pub returns-in-Window-clause-reply : goal.returns-in-Window-clause-reply
+returns-in-Window-clause-reply c = rw (c.in-Window.is, ← c.self.view_is) (λ some.
+    let (above, upto, shows, few) = window_replies c.self.inside.entries.entries 0 (2 ^ 64) c.in-Window.start (min c.in-Window.most 28) c.window_of.result c.self.invariant (search rules) (omega (arith, some)) c.window_of.ensures in
+    (above, shows, omega (arith, few)))

@@ -1,0 +1,53 @@
+//! The trait of blocks: each is the storage of one page, which is read and written whole.
+
+ghost use Rattle.std.specs.Prelude.{◌≡◌, ℕ, ◌-◌, ◌^◌, ◌≤◌, length, true};
+ghost use Rattle.vm_block.specs.Blocks.{Reads, Writes};
+
+use thiserror::Error;
+use vm_page::PageBuf;
+
+/// A call of a block failed.
+#[derive(Clone, Copy, Debug, PartialEq, Eq, Error)]
+#[error("the block failed")]
+pub struct Failed;
+
+/// The storage of one page.
+pub trait Block {
+    ghost use Rattle.std.specs.Prelude.{Bool};
+    ghost use Rattle.vm_block.specs.declared.stored.Stored.{Stored};
+
+    /// Whether this kind of block tells its words.
+    ghost tells: { Bool };
+
+    /// What the block holds and has counted.
+    ghost stored: { Self → Stored };
+
+    /// Reads the page. After a failure the buffer may hold anything.
+    fn read(&mut self, into: &mut PageBuf) -> Result<(), Failed>
+        ensures { Reads tells (stored self.old) (stored self.new) into.new result };
+
+    /// Writes the page. A failure leaves the words that were held.
+    fn write(&mut self, words: &PageBuf) -> Result<(), Failed>
+        ensures { Writes tells (stored self.old) (stored self.new) words.now result };
+
+    /// How many reads answered, up to the greatest `u64`.
+    fn reads(&self) -> u64
+        ensures { result ≡ (stored self.now).reads };
+
+    /// How many writes answered, up to the greatest `u64`.
+    fn writes(&self) -> u64
+        ensures { result ≡ (stored self.now).writes };
+
+    /// How many calls failed, up to the greatest `u64`.
+    fn faults(&self) -> u64
+        ensures { result ≡ (stored self.now).count };
+
+    /// The words held are a page's.
+    ghost whole: { (b : Self) → tells ≡ true → length (stored b).words ≡ 64 };
+
+    /// No more calls fail than the bound says.
+    ghost bounded: { (b : Self) → (stored b).count ≤ (stored b).bound };
+
+    /// The bound is a number that the count can reach.
+    ghost capped: { (b : Self) → (stored b).bound ≤ 2 ^ 64 - 1 };
+}

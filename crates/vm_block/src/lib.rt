@@ -1,0 +1,13 @@
+//! The storage of one page: the trait of devices, each with counts of its calls and its faults, and a device in memory.
+#![tactic(auto)]
+
+mod block;
+mod memory;
+mod plan;
+mod stored;
+#[cfg(test)]
+mod tests;
+
+pub use block::{Block, Failed};
+pub use memory::MemBlock;
+pub use stored::Stored;

@@ -1,0 +1,91 @@
+//! The calls of a block in memory.
+
+ghost use Rattle.std.specs.Prelude.{◌≡◌, ℕ, ◌-◌, ◌^◌, ◌≤◌, length, true, IfOk, is_ok, not};
+ghost use Rattle.vm_block.specs.Blocks.{Reads, Writes};
+ghost use Rattle.vm_block.specs.Memory.{stored_of, words_of, is_planned, IsFresh, IsNext};
+
+use crate::block::{Block, Failed};
+use crate::memory::MemBlock;
+use crate::plan::Plan;
+use std::alloc::{AllocError, Global};
+use vm_page::PageBuf;
+
+impl MemBlock {
+    /// A block that holds the words and fails exactly the calls whose numbers are in the plan. Reads and writes are numbered together,
+    /// from 1; a call past number 2^64 - 1 has no number, and does not fail.
+    pub fn new(alloc: Global, words: PageBuf, plan: &[u64]) -> Result<MemBlock, AllocError>
+        ensures { IfOk result (λ block. IsFresh block words plan.now) }
+    {
+        // A page has 64 words.
+        let _ = words.get(0);
+        Ok(MemBlock {
+            words,
+            plan: Plan::new(alloc, plan)?,
+            reads: 0,
+            writes: 0,
+        })
+    }
+
+    /// The words held.
+    pub fn words(&self) -> &PageBuf
+        ensures words { result.now ≡ words_of self.now }
+        ensures length { length result.now ≡ 64 }
+    {
+        &self.words
+    }
+}
+
+impl Block for MemBlock {
+    ghost use Rattle.std.specs.Prelude.{true};
+    ghost use Rattle.std.proofs.Common.{arith};
+    ghost use Rattle.vm_block.specs.Memory.{stored_of};
+
+    ghost tells = { true };
+
+    ghost stored = { stored_of };
+
+    fn read(&mut self, into: &mut PageBuf) -> Result<(), Failed>
+        ensures stored { Reads true (stored_of self.old) (stored_of self.new) into.new result }
+        ensures exact { is_ok result ≡ not (is_planned self.old) }
+        ensures next { IsNext self.old self.new }
+    {
+        if self.plan.fails() {
+            return Err(Failed);
+        }
+        into.copy_from(&self.words);
+        self.reads = self.reads.saturating_add(1);
+        Ok(())
+    }
+
+    fn write(&mut self, words: &PageBuf) -> Result<(), Failed>
+        ensures stored { Writes true (stored_of self.old) (stored_of self.new) words.now result }
+        ensures exact { is_ok result ≡ not (is_planned self.old) }
+        ensures next { IsNext self.old self.new }
+    {
+        // The words are taken over only once the plan lets the call through.
+        if self.plan.fails() {
+            return Err(Failed);
+        }
+        self.words.copy_from(words);
+        self.writes = self.writes.saturating_add(1);
+        Ok(())
+    }
+
+    fn reads(&self) -> u64 {
+        self.reads
+    }
+
+    fn writes(&self) -> u64 {
+        self.writes
+    }
+
+    fn faults(&self) -> u64 {
+        self.plan.faults
+    }
+
+    ghost whole = { λ block _. block.whole };
+
+    ghost bounded = { λ block. block.plan.within };
+
+    ghost capped = { λ block. Prim.omega arith };
+}

@@ -1,0 +1,51 @@
+//! Which calls of a block in memory fail.
+
+ghost use Rattle.std.specs.Prelude.{◌≡◌, ℕ, ◌+◌, ◌-◌, ◌^◌, ◌≤◌, ◌<◌, IfOk, if◌then◌else◌};
+ghost use Rattle.vm_block.specs.Blocks.{one_more};
+ghost use Rattle.vm_block.specs.Plans.{is_planned, most_faults, next_call, up_to};
+
+use std::alloc::{AllocError, Global};
+
+/// The numbers of the calls that fail, how many calls were made, and how many of them failed.
+#[derive(Drop)]
+pub struct Plan {
+    pub numbers: Vec<u64>,
+    pub calls: u64,
+    pub faults: u64,
+    /// A number fails once at most.
+    pub ghost once: { faults ≤ up_to numbers.items calls },
+    pub ghost within: { faults ≤ most_faults numbers.items },
+}
+
+impl Plan {
+    /// A plan of which no call was made yet. Calls are numbered from 1.
+    pub fn new(alloc: Global, numbers: &[u64]) -> Result<Plan, AllocError>
+        ensures numbers { IfOk result (λ plan. plan.numbers.items ≡ numbers.now) }
+        ensures calls { IfOk result (λ plan. plan.calls ≡ 0) }
+        ensures faults { IfOk result (λ plan. plan.faults ≡ 0) }
+    {
+        Ok(Plan {
+            numbers: Vec::from_slice(alloc, numbers)?,
+            calls: 0,
+            faults: 0,
+        })
+    }
+
+    /// Counts a call, and says whether it fails. A failure is counted too.
+    pub fn fails(&mut self) -> bool
+        ensures planned { result ≡ is_planned self.old.numbers.items self.old.calls }
+        ensures calls { self.new.calls ≡ next_call self.old.calls }
+        ensures numbers { self.new.numbers.items ≡ self.old.numbers.items }
+        ensures faults { self.new.faults ≡ (if result then one_more self.old.faults else self.old.faults) }
+    {
+        if self.calls == u64::MAX {
+            return false;
+        }
+        self.calls += 1;
+        let fails = self.numbers.contains(&self.calls);
+        if fails {
+            self.faults = self.faults.saturating_add(1);
+        }
+        fails
+    }
+}

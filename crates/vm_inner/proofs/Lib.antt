@@ -1,0 +1,3 @@
+mod Floor
+mod NewRoots
+pub mod InnerNodes

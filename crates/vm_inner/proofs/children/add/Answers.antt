@@ -1,0 +1,6 @@
+-- An inner node with one child more is an inner node.
+use Rattle.vm_inner.proofs.InnerNodes.{adds_inner}
+use Rattle.vm_inner.proofs.children.add.Goals as goal
+
+pub returns-clause-inner : goal.returns-clause-inner
+returns-clause-inner c = adds_inner _ _ _ _ c.in_ok-put.ensures.node

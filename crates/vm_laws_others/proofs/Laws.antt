@@ -1,0 +1,157 @@
+-- Each event leaves what the other actors know and hold.
+use Rattle.std.proofs.Common.{ℕ, Bool, ◌≡◌, ◌≢◌, refl, subst, ⊎_elim, inl, List}
+use Rattle.std.proofs.lemmas.Bool.{cases_Bool}
+use Rattle.vm_core.specs.declared.event.Event.{Event}
+use Rattle.vm_core.specs.declared.event.Event.TheVariants.{Look, LockX, LockS, UnlockS, Mark, Unmark, LockW, Upgrade, Release, ReleaseE, Downgrade, TLoad, Install, Clear, Dirty, Clean, Load, Store, BLoad, Take, Give, Read, RFail, Write, WFail, Raise, NLoad, Claim, Hand}
+use Rattle.vm_core.specs.Fn.{upd}
+use Rattle.vm_core.specs.State.{Page}
+use Rattle.vm_core.specs.StateActs.{finds}
+use Rattle.vm_core.specs.Step.{on_page}
+use Rattle.vm_core.specs.History.{World, History}
+use Rattle.vm_core.proofs.Upd.{upd-self, upd-other}
+use Rattle.vm_laws_others.specs.Leaves.{LeavesOthers, Leaves}
+use Rattle.vm_laws_others.proofs.Page.{PageLeaves, page-leaves, page-same, loads-other}
+use Rattle.vm_laws_others.proofs.State.{seat-leaves, release-leaves, locked-leaves, upgraded-leaves, shared-leaves, unlocked-leaves, marked-leaves, unmarked-leaves, write_locked-leaves}
+use Rattle.vm_laws_others.proofs.Device.{mapped-leaves, cleaned-leaves, written-leaves, failed-leaves, raised-leaves}
+use Rattle.vm_laws_others.proofs.Frames.{load-leaves, store-leaves, bundle_load-leaves, take-leaves, give-leaves, next_load-leaves, claim-leaves, hand-leaves}
+
+-- an event on one page alone, by what it leaves of the page and its history
+page-acts : (w : World) (a p : ℕ) (r : Page) (h : History) (ls : ℕ → ℕ → List (ℕ × ℕ)) → PageLeaves w.core.shape.actors a (w.core.pages p) r (w.histories p) h → ((b q : ℕ) → b ≢ a → ls q b ≡ w.loads q b) → Leaves a w (record { core = on_page w.core p r; histories = upd w.histories p h; loads = ls })
+page-acts w a p r h ls here loads = page-leaves w a p r h ls w.core.held here loads (λ b ne. refl)
+
+-- the same, where the history stays
+page-alone : (w : World) (a p : ℕ) (r : Page) (ls : ℕ → ℕ → List (ℕ × ℕ)) → PageLeaves w.core.shape.actors a (w.core.pages p) r (w.histories p) (w.histories p) → ((b q : ℕ) → b ≢ a → ls q b ≡ w.loads q b) → Leaves a w (record { core = on_page w.core p r; histories = w.histories; loads = ls })
+page-alone w a p r ls here loads =
+    subst (λ hs. Leaves a w (record { core = on_page w.core p r; histories = hs; loads = ls })) (upd-self w.histories p) (page-acts w a p r (w.histories p) ls here loads)
+
+-- the same, where the actor's frames change in place of its loads
+page-frames : (w : World) (a p : ℕ) (r : Page) (row : ℕ → Bool) → PageLeaves w.core.shape.actors a (w.core.pages p) r (w.histories p) (w.histories p) → Leaves a w (record { core = record w.core { pages = upd w.core.pages p r; held = upd w.core.held a row }; histories = w.histories; loads = w.loads })
+page-frames w a p r row here =
+    subst (λ hs. Leaves a w (record { core = record w.core { pages = upd w.core.pages p r; held = upd w.core.held a row }; histories = hs; loads = w.loads })) (upd-self w.histories p)
+    (page-leaves w a p r (w.histories p) w.loads (upd w.core.held a row) here (λ b q ne. refl) (upd-other w.core.held a row))
+
+-- ---- the events on a state word
+
+look-leaves : (w : World) (a p : ℕ) → LeavesOthers w (Look a p)
+look-leaves w a p i m = page-alone w a p _ _ (seat-leaves _ a (w.core.pages p) (w.histories p) _) (loads-other w.loads p a _)
+
+lock_exclusive-leaves : (w : World) (a p expects : ℕ) → LeavesOthers w (LockX a p expects)
+lock_exclusive-leaves w a p expects i m =
+    ⊎_elim
+    (λ e. rw e (page-acts w a p _ _ _ (locked-leaves _ a expects (w.core.pages p) (w.histories p) (i.pages p).locks m.1 e) (loads-other w.loads p a _)))
+    (λ e. rw e (page-acts w a p _ _ _ (page-same _ a (w.core.pages p) (w.histories p)) (loads-other w.loads p a _)))
+    (cases_Bool (finds (w.core.pages p) expects))
+
+lock_shared-leaves : (w : World) (a p expects : ℕ) → LeavesOthers w (LockS a p expects)
+lock_shared-leaves w a p expects i m =
+    ⊎_elim
+    (λ e. rw e (page-alone w a p _ _ (shared-leaves _ a expects (w.core.pages p) (w.histories p) m.1 e) (loads-other w.loads p a _)))
+    (λ e. rw e (page-alone w a p _ _ (page-same _ a (w.core.pages p) (w.histories p)) (loads-other w.loads p a _)))
+    (cases_Bool (finds (w.core.pages p) expects))
+
+unlock_shared-leaves : (w : World) (a p : ℕ) → LeavesOthers w (UnlockS a p)
+unlock_shared-leaves w a p i m = page-alone w a p _ _ (unlocked-leaves _ a (w.core.pages p) (w.histories p) m.0.actor (i.pages p).locks m.1) (λ b q ne. refl)
+
+mark-leaves : (w : World) (a p expects : ℕ) → LeavesOthers w (Mark a p expects)
+mark-leaves w a p expects i m =
+    ⊎_elim
+    (λ e. rw e (page-alone w a p _ _ (marked-leaves _ a expects (w.core.pages p) (w.histories p) m.1 e) (λ b q ne. refl)))
+    (λ e. rw e (page-alone w a p _ _ (page-same _ a (w.core.pages p) (w.histories p)) (λ b q ne. refl)))
+    (cases_Bool (finds (w.core.pages p) expects))
+
+unmark-leaves : (w : World) (a p expects : ℕ) → LeavesOthers w (Unmark a p expects)
+unmark-leaves w a p expects i m =
+    ⊎_elim
+    (λ e. rw e (page-alone w a p _ _ (unmarked-leaves _ a expects (w.core.pages p) (w.histories p) m.1 e) (λ b q ne. refl)))
+    (λ e. rw e (page-alone w a p _ _ (page-same _ a (w.core.pages p) (w.histories p)) (λ b q ne. refl)))
+    (cases_Bool (finds (w.core.pages p) expects))
+
+lock_write_back-leaves : (w : World) (a p expects : ℕ) → LeavesOthers w (LockW a p expects)
+lock_write_back-leaves w a p expects i m =
+    ⊎_elim
+    (λ e. rw e (page-alone w a p _ _ (write_locked-leaves _ a expects (w.core.pages p) (w.histories p) m.1 e) (loads-other w.loads p a _)))
+    (λ e. rw e (page-alone w a p _ _ (page-same _ a (w.core.pages p) (w.histories p)) (loads-other w.loads p a _)))
+    (cases_Bool (finds (w.core.pages p) expects))
+
+upgrade-leaves : (w : World) (a p expects : ℕ) → LeavesOthers w (Upgrade a p expects)
+upgrade-leaves w a p expects i m =
+    ⊎_elim
+    (λ e. rw e (page-acts w a p _ _ _ (upgraded-leaves _ a expects (w.core.pages p) (w.histories p) (i.pages p).locks m.1 e) (loads-other w.loads p a _)))
+    (λ e. rw e (page-acts w a p _ _ _ (page-same _ a (w.core.pages p) (w.histories p)) (loads-other w.loads p a _)))
+    (cases_Bool (finds (w.core.pages p) expects))
+
+release_full-leaves : (w : World) (a p : ℕ) → LeavesOthers w (Release a p)
+release_full-leaves w a p i m = page-acts w a p _ _ _ (release-leaves _ a (w.core.pages p) (w.histories p) _ _ (i.pages p).locks m.1.owns) (λ b q ne. refl)
+
+release_evicted-leaves : (w : World) (a p : ℕ) → LeavesOthers w (ReleaseE a p)
+release_evicted-leaves w a p i m = page-acts w a p _ _ _ (release-leaves _ a (w.core.pages p) (w.histories p) _ _ (i.pages p).locks m.1.owns) (λ b q ne. refl)
+
+downgrade-leaves : (w : World) (a p : ℕ) → LeavesOthers w (Downgrade a p)
+downgrade-leaves w a p i m = page-acts w a p _ _ _ (release-leaves _ a (w.core.pages p) (w.histories p) _ _ (i.pages p).locks m.1.owns) (λ b q ne. refl)
+
+-- ---- the events on a translation
+
+translation_load-leaves : (w : World) (a p : ℕ) → LeavesOthers w (TLoad a p)
+translation_load-leaves w a p i m = page-alone w a p _ _ (seat-leaves _ a (w.core.pages p) (w.histories p) _) (λ b q ne. refl)
+
+install-leaves : (w : World) (a p f : ℕ) → LeavesOthers w (Install a p f)
+install-leaves w a p f i m = page-frames w a p _ _ (mapped-leaves _ a (w.core.pages p) (w.histories p) _ (i.pages p).locks m.page.owns)
+
+clear-leaves : (w : World) (a p : ℕ) → LeavesOthers w (Clear a p)
+clear-leaves w a p i m = page-frames w a p _ _ (mapped-leaves _ a (w.core.pages p) (w.histories p) _ (i.pages p).locks m.1.1.owns)
+
+dirty-leaves : (w : World) (a p : ℕ) → LeavesOthers w (Dirty a p)
+dirty-leaves w a p i m = page-alone w a p _ _ (mapped-leaves _ a (w.core.pages p) (w.histories p) _ (i.pages p).locks m.1.owns) (λ b q ne. refl)
+
+clean-leaves : (w : World) (a p : ℕ) → LeavesOthers w (Clean a p)
+clean-leaves w a p i m = page-alone w a p _ _ (cleaned-leaves _ a (w.core.pages p) (w.histories p) (i.pages p).locks m.1.writes) (λ b q ne. refl)
+
+-- ---- the events of a device
+
+read-leaves : (w : World) (a p : ℕ) → LeavesOthers w (Read a p)
+read-leaves w a p i m = page-alone w a p _ _ (page-same _ a (w.core.pages p) (w.histories p)) (λ b q ne. refl)
+
+read_failure-leaves : (w : World) (a p : ℕ) → LeavesOthers w (RFail a p)
+read_failure-leaves w a p i m = page-alone w a p _ _ (failed-leaves _ a (w.core.pages p) (w.histories p) (i.pages p).locks (inl m.1)) (λ b q ne. refl)
+
+write-leaves : (w : World) (a p : ℕ) → LeavesOthers w (Write a p)
+write-leaves w a p i m = page-alone w a p _ _ (written-leaves w.core.words _ a (w.core.pages p) (w.histories p) (i.pages p).locks m.1.call) (λ b q ne. refl)
+
+write_failure-leaves : (w : World) (a p : ℕ) → LeavesOthers w (WFail a p)
+write_failure-leaves w a p i m = page-alone w a p _ _ (failed-leaves _ a (w.core.pages p) (w.histories p) (i.pages p).locks m.1.call) (λ b q ne. refl)
+
+raise-leaves : (w : World) (a p : ℕ) → LeavesOthers w (Raise a p)
+raise-leaves w a p i m = page-alone w a p _ _ (raised-leaves _ a (w.core.pages p) (w.histories p) (i.pages p).locks m.1) (λ b q ne. refl)
+
+-- ---- every event
+
+pub leave_others : (w : World) (e : Event) → LeavesOthers w e
+leave_others w (Look a p) = look-leaves w a p
+leave_others w (LockX a p expects) = lock_exclusive-leaves w a p expects
+leave_others w (LockS a p expects) = lock_shared-leaves w a p expects
+leave_others w (UnlockS a p) = unlock_shared-leaves w a p
+leave_others w (Mark a p expects) = mark-leaves w a p expects
+leave_others w (Unmark a p expects) = unmark-leaves w a p expects
+leave_others w (LockW a p expects) = lock_write_back-leaves w a p expects
+leave_others w (Upgrade a p expects) = upgrade-leaves w a p expects
+leave_others w (Release a p) = release_full-leaves w a p
+leave_others w (ReleaseE a p) = release_evicted-leaves w a p
+leave_others w (Downgrade a p) = downgrade-leaves w a p
+leave_others w (TLoad a p) = translation_load-leaves w a p
+leave_others w (Install a p f) = install-leaves w a p f
+leave_others w (Clear a p) = clear-leaves w a p
+leave_others w (Dirty a p) = dirty-leaves w a p
+leave_others w (Clean a p) = clean-leaves w a p
+leave_others w (Load a p i) = load-leaves w a p i
+leave_others w (Store a f i x) = store-leaves w a f i x
+leave_others w (BLoad a g) = bundle_load-leaves w a g
+leave_others w (Take a g expects mask) = take-leaves w a g expects mask
+leave_others w (Give a g mask) = give-leaves w a g mask
+leave_others w (Read a p) = read-leaves w a p
+leave_others w (RFail a p) = read_failure-leaves w a p
+leave_others w (Write a p) = write-leaves w a p
+leave_others w (WFail a p) = write_failure-leaves w a p
+leave_others w (Raise a p) = raise-leaves w a p
+leave_others w (NLoad a) = next_load-leaves w a
+leave_others w (Claim a x n) = claim-leaves w a x n
+leave_others w (Hand a) = hand-leaves w a

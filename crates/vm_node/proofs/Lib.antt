@@ -1,0 +1,10 @@
+pub mod PlaceLemmas
+pub mod Shifts
+pub mod Indexes
+pub mod Puts
+pub mod Dels
+pub mod CutPairs
+pub mod Leaves
+mod WindowSteps
+pub mod LeafWindows
+pub mod SplitWords

@@ -1,0 +1,75 @@
+-- Where a key stands among pairs, and what an edit there does.
+use Rattle.std.proofs.Common.{◌≡◌, ℕ, zero, suc, ◌+◌, ◌<◌, ◌≤◌, ◌≢◌, [], ◌∷◌, length, get_or, set, take, drop, Some, None, refl, ap, arith, ltb, eqb, true, false, inl, inr}
+use Rattle.std.proofs.lemmas.Bool.{cases_lt}
+use Rattle.std.proofs.lemmas.Bool.Decides.{nat_tests}
+use Rattle.std.proofs.lemmas.List.{at_drop_more, drop_all}
+use Rattle.std.specs.List.{insert}
+use Rattle.vm_map.specs.Map.{Pairs, lookup_at, put_pair, Rises}
+use Rattle.vm_map.proofs.MapLemmas.{lookup-below}
+use Rattle.vm_node.specs.Places.{place_of}
+
+-- no pair has the key: it is put before the place
+pub put-insert : (m : Pairs) (k v : ℕ) → (place_of m k < length m → (get_or m (place_of m k) (0, 0)).0 ≢ k) → insert m (place_of m k) (k, v) ≡ put_pair m k v
+put-insert [] k v other = refl
+put-insert (e ∷ es) k v other = elim (cases_lt e.0 k) [
+  | inl below ↦
+      let less : ltb e.0 k ≡ true = grind (arith, nat_tests) in
+      let not_less : ltb k e.0 ≡ false = grind (arith, nat_tests) in
+      let not_same : eqb k e.0 ≡ false = grind (arith, nat_tests) in
+      let other' = rw less at other in
+      rw (less, not_less, not_same) (ap (λ (l : Pairs). e ∷ l) (put-insert es k v (λ lt. other' (omega arith))))
+  | inr from ↦
+      let not_less : ltb e.0 k ≡ false = grind (arith, nat_tests) in
+      let other' = rw not_less at other in
+      let ne = other' (omega arith) in
+      let less : ltb k e.0 ≡ true = grind (arith, nat_tests) in
+      rw (not_less, less) refl
+]
+
+pub put-set : (m : Pairs) (k v : ℕ) → place_of m k < length m → (get_or m (place_of m k) (0, 0)).0 ≡ k → set m (place_of m k) (k, v) ≡ put_pair m k v
+put-set [] k v lt same = absurd (omega arith)
+put-set (e ∷ es) k v lt same = elim (cases_lt e.0 k) [
+  | inl below ↦
+      let less : ltb e.0 k ≡ true = grind (arith, nat_tests) in
+      let not_less : ltb k e.0 ≡ false = grind (arith, nat_tests) in
+      let not_same : eqb k e.0 ≡ false = grind (arith, nat_tests) in
+      let lt' = rw less at lt in
+      let same' = rw less at same in
+      rw (less, not_less, not_same) (ap (λ (l : Pairs). e ∷ l) (put-set es k v (omega arith) same'))
+  | inr from ↦
+      let not_less : ltb e.0 k ≡ false = grind (arith, nat_tests) in
+      let same' = rw not_less at same in
+      let not_more : ltb k e.0 ≡ false = grind (arith, nat_tests) in
+      let equal : eqb k e.0 ≡ true = grind (arith, nat_tests) in
+      rw (not_less, not_more, equal) refl
+]
+
+pub lookup-place : (m : Pairs) (k : ℕ) → place_of m k < length m → (get_or m (place_of m k) (0, 0)).0 ≡ k → lookup_at m k ≡ Some (get_or m (place_of m k) (0, 0)).1
+lookup-place [] k lt same = absurd (omega arith)
+lookup-place (e ∷ es) k lt same = grind (arith, nat_tests, lookup-place es k)
+
+pub lookup-no_place : (m : Pairs) (low high k : ℕ) → Rises low high m → (place_of m k < length m → (get_or m (place_of m k) (0, 0)).0 ≢ k) → lookup_at m k ≡ None
+lookup-no_place [] low high k r other = refl
+lookup-no_place (e ∷ es) low high k r other = grind (arith, nat_tests, other, lookup-below es (e.0 + 1) high k r.2, lookup-no_place es (e.0 + 1) high k r.2)
+
+-- a step of the search for the place
+pub place_more : (m : Pairs) (i k : ℕ) → i < length m → (get_or m i (0, 0)).0 < k → place_of (drop i m) k ≡ suc (place_of (drop (i + 1) m) k)
+place_more m i k lt below = let more = at_drop_more (λ (l : Pairs). place_of l k) m i (0, 0) lt in grind (arith, nat_tests, more)
+
+pub place_here : (m : Pairs) (i k : ℕ) → i < length m → k ≤ (get_or m i (0, 0)).0 → place_of (drop i m) k ≡ 0
+place_here m i k lt le = let more = at_drop_more (λ (l : Pairs). place_of l k) m i (0, 0) lt in grind (arith, nat_tests, more)
+
+-- one step of a shift: the pair that stood at j is carried on
+pub insert_carry : (m : Pairs) (j : ℕ) (x : ℕ × ℕ) → j < length m → insert (set m j x) (suc j) (get_or m j (0, 0)) ≡ insert m j x
+insert_carry [] j x lt = absurd (omega arith)
+insert_carry (e ∷ es) zero x lt = refl
+insert_carry (e ∷ es) (suc j) x lt = ap (λ (l : Pairs). e ∷ l) (insert_carry es j x (omega arith))
+
+pub take-insert : (m : Pairs) (n j : ℕ) (x : ℕ × ℕ) → j ≤ n → n ≤ length m → take (suc n) (insert m j x) ≡ insert (take n m) j x
+take-insert m n zero x le len = refl
+take-insert [] n (suc j) x le len = absurd (omega arith)
+take-insert (e ∷ es) zero (suc j) x le len = absurd (omega arith)
+take-insert (e ∷ es) (suc n) (suc j) x le len = ap (λ (l : Pairs). e ∷ l) (take-insert es n j x (omega arith) (omega arith))
+
+pub place_end : (m : Pairs) (i k : ℕ) → length m ≤ i → place_of (drop i m) k ≡ 0
+place_end m i k le = rw (drop_all i m le) refl

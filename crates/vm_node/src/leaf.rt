@@ -1,0 +1,74 @@
+//! The calls on a leaf: which keys it answers for, and look-ups and edits of its pairs.
+
+ghost use Rattle.std.specs.Prelude.{◌≡◌, ◌≢◌, true, false, OnOk, OnErr, IfOk, MatchResult, IfNone};
+ghost use Rattle.vm_map.specs.Map.{lookup_at, del_pair};
+ghost use Rattle.vm_tree_model.specs.Node.{Covers};
+ghost use Rattle.vm_tree_model.specs.Page.{pairs_of, node_of, IsLeaf};
+ghost use Rattle.vm_tree_model.specs.Edits.{IsFullFor, AddsPair, IsRefused, PutsInLeaf, IsLeafWith};
+ghost use Rattle.vm_node.specs.Takes.{TakesPair};
+
+use crate::full::Full;
+use crate::pairs::{count_of, index_of, key_at, place_of, shift_in, shift_out, value_at};
+use vm_page::PageBuf;
+
+/// Whether the page has a leaf's tag.
+pub fn is_leaf(page: &PageBuf) -> bool
+    ensures yes { result ≡ true → (node_of page.now).tag ≡ 2 }
+    ensures no { result ≡ false → (node_of page.now).tag ≢ 2 }
+{
+    page.get(0) == 2
+}
+
+/// Whether the key lies in the page's fences, from the low one on and below the high one.
+pub fn covers(page: &PageBuf, key: u64) -> bool
+    ensures yes { result ≡ true → Covers (node_of page.now) key }
+    ensures no { result ≡ false → ¬ (Covers (node_of page.now) key) }
+{
+    page.get(2) <= key && (page.get(4) != 0 || key < page.get(3))
+}
+
+/// The value at the key.
+pub fn find(page: &PageBuf, key: u64) -> Option<u64>
+    ensures { result ≡ lookup_at (pairs_of page.now) key }
+{
+    let at = index_of(page, key)?;
+    Some(value_at(page, at))
+}
+
+/// Puts a value at the key, and gives the old value. `Full` comes exactly where the leaf has 28 pairs and not the key;
+/// the page is then unchanged.
+pub fn put(page: &mut PageBuf, key: u64, value: u64) -> Result<Option<u64>, Full>
+    ensures node { OnOk result (AddsPair page.old page.new key value) }
+    ensures refused { OnErr result (IsRefused page.old page.new key) }
+    ensures full { IsLeaf page.old → MatchResult result (λ _. ¬ (IsFullFor page.old key)) (λ _. IsFullFor page.old key) }
+    ensures leaf { IsLeaf page.old → Covers (node_of page.old) key → IfOk result (PutsInLeaf page.old page.new key value) }
+{
+    let count = count_of(page);
+    let at = place_of(page, key);
+    if at < count && key_at(page, at) == key {
+        let was = value_at(page, at);
+        page.set(9 + 2 * at, value);
+        return Ok(Some(was));
+    }
+    if count == 28 {
+        return Err(Full);
+    }
+    shift_in(page, at, count, key, value);
+    page.set(1, count as u64 + 1);
+    Ok(None)
+}
+
+/// Takes the pair of the key out, and gives its value.
+pub fn del(page: &mut PageBuf, key: u64) -> Option<u64>
+    ensures was { result ≡ lookup_at (pairs_of page.old) key }
+    ensures node { TakesPair page.old page.new key }
+    ensures none { IfNone result (page.new ≡ page.old) }
+    ensures leaf { IsLeaf page.old → IsLeafWith page.old page.new (del_pair (pairs_of page.old) key) }
+{
+    let at = index_of(page, key)?;
+    let count = count_of(page);
+    let was = value_at(page, at);
+    shift_out(page, at, count);
+    page.set(1, count as u64 - 1);
+    Some(was)
+}

@@ -1,0 +1,30 @@
+//! Nodes on the 64 words of a page: leaves, and what inner nodes share with them.
+//!
+//! | word | a node |
+//! |---|---|
+//! | 0 | its tag: 2 for a leaf, 3 for an inner node |
+//! | 1 | how many pairs it has, at most 28 |
+//! | 2 | its low fence: the least key that it answers for |
+//! | 3, 4 | its high fence, exclusive, and 0; where it has none, 0 and 1 |
+//! | 5 | its level: 0 for a leaf |
+//! | 6, 7 | 0 |
+//! | 8 + 2i, 9 + 2i | pair i by rising key: a key and its value; in an inner node the lowest key of a child and its page |
+//! | the rest | 0 |
+//!
+//! Every call works on any 64 words, also on words that no one validated: a count above 28 is read as 28. None takes
+//! memory.
+#![tactic(auto)]
+
+mod full;
+mod halves;
+pub mod header;
+mod leaf;
+pub mod pairs;
+mod shown;
+#[cfg(test)]
+mod tests;
+
+pub use full::Full;
+pub use halves::split;
+pub use leaf::{covers, del, find, is_leaf, put};
+pub use shown::window;

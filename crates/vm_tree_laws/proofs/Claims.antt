@@ -1,0 +1,77 @@
+-- A claim of zero pages keeps what the tree keeps.
+use Rattle.std.proofs.Common.{◌≡◌, ◌⊎◌, inl, inr, ℕ, zero, suc, ◌+◌, ◌<◌, ◌≤◌, Bool, true, false, ◌∷◌, length, slice_index, refl, arith}
+use Rattle.std.proofs.lemmas.Bool.{cases_eq}
+use Rattle.std.proofs.lemmas.Bool.Decides.{nat_tests}
+use Rattle.vm_tree_model.specs.Node.{IsNode}
+use Rattle.vm_tree_model.specs.Page.{IsFree}
+use Rattle.vm_tree_model.specs.Tree.{page_at, node_at}
+use Rattle.vm_owner.specs.Numbers.{has}
+use Rattle.vm_owner.specs.Kept.{Start, Kept, claimed, AreZero}
+use Rattle.vm_map.specs.declared.call.Said.{Said}
+use Rattle.vm_tree_laws.specs.Keeps.{Keeps}
+
+module _ (start : Start) (kept : Kept Said) (keeps : Keeps start kept) where
+  next_not_owed : has kept.next kept.owed ≡ false
+  next_not_owed = go (has kept.next kept.owed) refl
+    where
+      go : (b : Bool) → has kept.next kept.owed ≡ b → b ≡ false
+      go true some = absurd (omega (arith, (keeps.owed.range kept.next some).1))
+      go false none = refl
+
+  -- a page owed after the claim is the page claimed, or was owed
+  owed_before : (x : ℕ) → has x (kept.next ∷ kept.owed) ≡ true → (x ≡ kept.next) ⊎ (has x kept.owed ≡ true)
+  owed_before x some = elim (cases_eq x kept.next) [
+    | inl same ↦ inl same
+    | inr other ↦ inr (grind (arith, nat_tests, some, other))
+  ]
+
+  -- a page of zeros is free: in a tree each page has 64 words, and page 0 has its magic word
+  free_at : (p : ℕ) → p < length kept.pages → ((i : ℕ) → slice_index (page_at kept.pages p) i ≡ 0) → IsFree (page_at kept.pages p)
+  free_at zero lt zeros = absurd (omega (arith, zeros 0, keeps.tree.meta.magic))
+  free_at (suc p) lt zeros = elim (keeps.tree.kind (suc p) (omega arith) lt) [
+    | inl free ↦ free
+    | inr kind ↦ elim kind [
+      | inl leaf ↦ absurd (omega (arith, zeros 0, leaf.node.tag))
+      | inr inner ↦ absurd (omega (arith, zeros 0, inner.node.tag))
+    ]
+  ]
+
+  claim_keeps : kept.next < length kept.pages → IsFree (page_at kept.pages kept.next) → Keeps start (record kept { next = kept.next + 1; owed = kept.next ∷ kept.owed })
+  claim_keeps there free = record {
+    same_count = keeps.same_count;
+    tree = keeps.tree;
+    parted = keeps.parted;
+    contents = keeps.contents;
+    legal = keeps.legal;
+    risen = omega (arith, keeps.risen);
+    bounded = omega arith;
+    claimed = claimed_or_owed;
+    owed = record {
+      apart = (next_not_owed, keeps.owed.apart);
+      range = λ x some. elim (owed_before x some) [
+        | inl same ↦ (omega (arith, keeps.risen), omega arith)
+        | inr before ↦ let range = keeps.owed.range x before in (range.0, omega (arith, range.1))
+      ];
+      free = λ x some. elim (owed_before x some) [
+        | inl same ↦ rw same free
+        | inr before ↦ keeps.owed.free x before
+      ];
+    };
+    count = omega (arith, keeps.count);
+    room = keeps.room;
+  }
+    where
+      claimed_or_owed : (x : ℕ) → start.next ≤ x → x < kept.next + 1 → IsNode (node_at kept.pages x) ⊎ (has x (kept.next ∷ kept.owed) ≡ true)
+      claimed_or_owed x ge lt = elim (cases_eq x kept.next) [
+        | inl same ↦ inr (grind (arith, nat_tests, same))
+        | inr other ↦ elim (keeps.claimed x ge (omega arith)) [
+          | inl is ↦ inl is
+          | inr some ↦ inr (grind (arith, nat_tests, some))
+        ]
+      ]
+
+pub claims_keep : (start : Start) (kept : Kept Said) (n : ℕ) → Keeps start kept → AreZero kept n → Keeps start (claimed n kept)
+claims_keep start kept zero keeps zeros = keeps
+claims_keep start kept (suc n) keeps zeros = claims_keep start (record kept { next = kept.next + 1; owed = kept.next ∷ kept.owed }) n
+    (claim_keeps start kept keeps (omega (arith, zeros.there)) (free_at start kept keeps kept.next (omega (arith, zeros.there)) (λ i. zeros.zero kept.next i (omega arith) (omega arith))))
+    (record { there = omega (arith, zeros.there); zero = λ p i ge lt. zeros.zero p i (omega (arith, ge)) (omega (arith, lt)) })

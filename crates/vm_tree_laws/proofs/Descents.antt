@@ -1,0 +1,83 @@
+-- Each step of a coupled descent reaches the node of its level that covers the key. The loop that descends keeps `IsReached` and `IsSound` of the page last validated, and its level falls.
+use Rattle.std.proofs.Common.{◌≡◌, ◌⊎◌, inl, inr, ℕ, zero, suc, ◌+◌, ◌^◌, ◌<◌, ◌≤◌, List, [], ◌∷◌, length, slice_index, Option, Some, None, refl, sym, arith, ap, ◌∙◌, option_map}
+use Rattle.std.proofs.lemmas.Bool.Decides.{nat_tests}
+use Rattle.vm_map.specs.Map.{floor_pair}
+use Rattle.vm_tree_model.specs.Node.{Covers}
+use Rattle.vm_tree_model.specs.Page.{pairs_of, node_of, IsLeaf, IsInner}
+use Rattle.vm_map.proofs.MapLemmas.{floor_is, floor_some}
+use Rattle.vm_tree_model.specs.Edits.{child_of}
+use Rattle.vm_tree_laws.specs.Descent.{IsReached, IsWay, last_words}
+use Rattle.vm_tree_laws.specs.Tied.{IsTied, IsSound}
+
+-- the root that a validated page 0 names, validated at the version seen before
+pub reached_root : (pages p key : ℕ) (meta words : List ℕ) → IsTied pages 0 meta p words → slice_index meta 1 ≡ p → key < 2 ^ 64 → IsReached pages p words (slice_index meta 2) key
+reached_root pages p key meta words tied root_is fits =
+    let form = tied.root refl root_is in
+    let m = tied.sound.meta refl in
+    record {
+      from_one = omega (arith, m.root_low, root_is);
+      in_range = omega (arith, m.root_high, root_is);
+      kind = form.kind;
+      level_is = form.level_is;
+      covers = (omega (arith, form.low_is), omega (arith, form.high_is, fits));
+    }
+
+module _ (pages r : ℕ) (words : List ℕ) (level key : ℕ) (reached : IsReached pages r words level key) where
+  pub inner_by_tag : (node_of words).tag ≡ 3 → (1 ≤ level) × IsInner words
+  inner_by_tag tag = elim reached.kind [
+    | inl leaf ↦ absurd (omega (arith, leaf.node.tag, tag))
+    | inr inner ↦ (omega (arith, inner.node.level, reached.level_is), inner)
+  ]
+
+  pub leaf_by_tag : (node_of words).tag ≡ 2 → (level ≡ 0) × IsLeaf words
+  leaf_by_tag tag = elim reached.kind [
+    | inl leaf ↦ (omega (arith, leaf.node.level, reached.level_is), leaf)
+    | inr inner ↦ absurd (omega (arith, inner.node.tag, tag))
+  ]
+
+  -- what is no leaf is an inner node, above level 0
+  pub kind_by_level : ((level ≡ 0) × IsLeaf words) ⊎ ((1 ≤ level) × IsInner words)
+  kind_by_level = elim reached.kind [
+    | inl leaf ↦ inl (omega (arith, leaf.node.level, reached.level_is), leaf)
+    | inr inner ↦ inr (omega (arith, inner.node.level, reached.level_is), inner)
+  ]
+
+  -- an inner node has a child for the key, on a page of the image
+  pub child_there : IsSound pages r words → IsInner words → (p : ℕ) × (child_of words key ≡ Some p) × (1 ≤ p) × (p < pages)
+  child_there sound inner =
+      let (x, is) = floor_some (pairs_of words) (node_of words).low key inner.node.starts reached.covers.0 in
+      let f = floor_is (pairs_of words) (node_of words).low (node_of words).high key x inner.node.rises reached.covers.1 is in
+      let range = sound.children reached.from_one x.0 x.1 inner.node.tag f.found in
+      (x.1, ap (option_map (λ (y : ℕ × ℕ). y.1)) is, range.0, range.1)
+
+  -- the child that validated words name, validated at the version seen before
+  pub reached_child : (p : ℕ) (child : List ℕ) → IsInner words → child_of words key ≡ Some p → IsTied pages r words p child → (below : ℕ) → below + 1 ≡ level → IsReached pages p child below key
+  reached_child p child inner names tied below up = go (floor_pair (pairs_of words) key) refl
+    where
+      go : (o : Option (ℕ × ℕ)) → floor_pair (pairs_of words) key ≡ o → IsReached pages p child below key
+      go None none = let no : child_of words key ≡ None = ap (option_map (λ (y : ℕ × ℕ). y.1)) none in absurd (cc)
+      go (Some x) is =
+          let some : child_of words key ≡ Some x.1 = ap (option_map (λ (y : ℕ × ℕ). y.1)) is in
+          let page : x.1 ≡ p = grind (arith, nat_tests, some, names) in
+          let f = floor_is (pairs_of words) (node_of words).low (node_of words).high key x inner.node.rises reached.covers.1 is in
+          let found = f.found ∙ ap (λ (c : ℕ). Some c) page in
+          let form = tied.child reached.from_one inner.node.tag x.0 below found (omega (arith, reached.level_is, up)) in
+          let range = tied.sound.children reached.from_one x.0 p inner.node.tag found in
+          record {
+            from_one = range.0;
+            in_range = range.1;
+            kind = form.kind;
+            level_is = form.level_is;
+            covers = (omega (arith, form.low_is, f.up_to), omega (arith, form.high_is, f.next));
+          }
+
+-- a coupled descent ends, after as many steps as its first page's level, at a leaf that covers the key
+pub way_ends : (pages key : ℕ) (steps : List (ℕ × List ℕ)) (r : ℕ) (words : List ℕ) (level : ℕ) → IsReached pages r words level key → IsWay pages key steps r words
+    → (length steps ≡ level) × IsLeaf (last_words steps words) × Covers (node_of (last_words steps words)) key
+way_ends pages key [] r words level reached tag = let leaf = leaf_by_tag pages r words level key reached tag in (sym leaf.0, leaf.1, reached.covers)
+way_ends pages key (step ∷ steps) r words zero reached way = absurd (omega (arith, (inner_by_tag pages r words zero key reached way.0).0))
+way_ends pages key (step ∷ steps) r words (suc level) reached way =
+    let inner = (inner_by_tag pages r words (suc level) key reached way.0).1 in
+    let below = reached_child pages r words (suc level) key reached step.0 step.1 inner way.1 way.2 level (omega arith) in
+    let rest = way_ends pages key steps step.0 step.1 level below way.3 in
+    (omega (arith, rest.0), rest.1, rest.2)

@@ -1,0 +1,145 @@
+-- The release of parent, node and sibling after a split below the root keeps what the tree keeps.
+use Rattle.std.proofs.Common.{◌≡◌, ◌≢◌, ◌⊎◌, inl, inr, ℕ, ◌+◌, ◌≤◌, true, List, [], ◌∷◌, length, get_or, set, take, drop, refl, sym, ap, ◌∙◌, subst, arith, length-set}
+use Rattle.std.proofs.lemmas.Bool.{cases_eq}
+use Rattle.std.proofs.lemmas.Bool.Decides.{nat_tests}
+use Rattle.vm_map.specs.Map.{put_pair}
+use Rattle.vm_tree_model.specs.Node.{Node, IsNode}
+use Rattle.vm_tree_model.specs.Page.{pairs_of, node_of}
+use Rattle.vm_tree_model.specs.Tree.{page_at, node_at}
+use Rattle.vm_tree_model.specs.Count.{node_count}
+use Rattle.vm_map.proofs.MapLemmas.{length-put}
+use Rattle.vm_tree_model.proofs.Laws.{in_range}
+use Rattle.vm_tree_model.proofs.Load.{load_of, load}
+use Rattle.vm_tree_model.proofs.SplitLaw.{IsSplitStep}
+use Rattle.vm_tree_model.proofs.SplitPages.{IsSplitPages, split_pages_tree, split_pages_map}
+use Rattle.vm_owner.specs.Numbers.{has, AreApart}
+use Rattle.vm_owner.specs.Kept.{Start, Kept, Change, pages_of, Agrees, changed, owed_after, released}
+use Rattle.vm_owner.proofs.NumberLemmas.{without-none, length-without}
+use Rattle.vm_owner.proofs.ChangeLemmas.{length-changed, changed-other, changed-here, sum-changed}
+use Rattle.vm_map.specs.declared.call.Said.{Said}
+use Rattle.vm_tree_laws.specs.Keeps.{Keeps}
+use Rattle.vm_tree_laws.specs.May.{MaySplit}
+use Rattle.vm_tree_laws.proofs.GroupReleases.{group_keeps}
+use Rattle.vm_tree_laws.proofs.Halves.{IsOther, counted, counted_node, counted_other, load_at, halves, left_some, starts, left_node, right_node, old_load, left_load, right_load}
+use Rattle.vm_tree_laws.proofs.Nodes.{not_owed, clean_at}
+
+module _ (start : Start) (kept : Kept Said) (keeps : Keeps start kept) (q p r : ℕ) (parent node sibling : List ℕ) where
+  abbrev old : List (List ℕ)
+  old = kept.pages
+
+  abbrev parent_change : Change
+  parent_change = record { page = q; old = page_at old q; new = parent }
+
+  abbrev node_change : Change
+  node_change = record { page = p; old = page_at old p; new = node }
+
+  abbrev sibling_change : Change
+  sibling_change = record { page = r; old = page_at old r; new = sibling }
+
+  abbrev changes : List Change
+  changes = parent_change ∷ node_change ∷ sibling_change ∷ []
+
+  abbrev new : List (List ℕ)
+  new = changed changes old
+
+  module _ (due : List ℕ) (may : MaySplit due parent_change node_change sibling_change)
+      (agrees : Agrees old changes) (apart : AreApart (pages_of changes)) (owed : has r kept.owed ≡ true) where
+    q_is : IsNode (node_at old q)
+    q_is = let tag = may.inner in (omega (arith, tag), omega (arith, tag))
+
+    p_is : IsNode (node_at old p)
+    p_is = keeps.tree.tree.child_is q may.key p (may.inner, may.names)
+
+    at_q : page_at new q ≡ parent
+    at_q = changed-here parent_change (node_change ∷ sibling_change ∷ []) old apart.0 agrees.0
+
+    at_p : page_at new p ≡ node
+    at_p = changed-here node_change (sibling_change ∷ []) (set old q parent) apart.1.0 (rw length-set agrees.2.0)
+
+    at_r : page_at new r ≡ sibling
+    at_r = changed-here sibling_change [] (set (set old q parent) p node) refl (rw (length-set, length-set) agrees.2.2.0)
+
+    others : (x : ℕ) → x ≢ q → x ≢ p → x ≢ r → page_at new x ≡ page_at old x
+    others x nq np nr = changed-other changes old x (grind (arith, nat_tests, nq, np, nr))
+
+    -- page 0 is none of the three
+    page_zero : page_at new 0 ≡ page_at old 0
+    page_zero = others 0
+        (λ e. omega (arith, ap (λ x. (node_at old x).tag) e, may.inner, keeps.tree.meta.magic))
+        (λ e. omega (arith, ap (λ x. (node_at old x).tag) e, p_is, keeps.tree.meta.magic))
+        (λ e. omega (arith, ap (λ x. (node_at old x).tag) e, (keeps.owed.free r owed).zero 0, keeps.tree.meta.magic))
+
+    r_other : IsOther (node_at old r)
+    r_other = let tag = (keeps.owed.free r owed).zero 0 in ((λ e. omega (arith, tag, e)), (λ e. omega (arith, tag, e)))
+
+    step : IsSplitStep (node_at old) (node_at new) q may.key p r may.separator (take 14 (pairs_of (page_at old p))) (drop 14 (pairs_of (page_at old p)))
+    step = record {
+      named = (may.inner, may.names);
+      room = may.room;
+      free = (keeps.owed.free r owed).zero 0;
+      halves = halves (page_at old p) node sibling may.separator may.full may.split;
+      left_some = left_some (page_at old p) node sibling may.separator may.full may.split;
+      starts = starts (page_at old p) node sibling may.separator may.full may.split;
+      parent = ap node_of at_q ∙ may.adds.node;
+      left = ap node_of at_p ∙ may.split.left_is;
+      right = ap node_of at_r ∙ may.split.right_is;
+      others = λ x nq np nr. ap node_of (others x nq np nr);
+    }
+
+    pages : IsSplitPages old new (node_at old) (get_or (page_at old 0) 1 0) (get_or (page_at old 0) 2 0) q may.key p r may.separator (take 14 (pairs_of (page_at old p))) (drop 14 (pairs_of (page_at old p)))
+    pages = record {
+      same_count = length-changed changes old;
+      meta = rw (page_zero, length-changed changes old) keeps.tree.meta;
+      root_word = ap (λ (w : List ℕ). get_or w 1 0) page_zero;
+      height_word = ap (λ (w : List ℕ). get_or w 2 0) page_zero;
+      parent = rw at_q (may.adds.clean (clean_at start kept keeps q q_is));
+      left = rw at_p (may.split.left_clean (clean_at start kept keeps p p_is));
+      right = rw at_r (may.split.right_clean (clean_at start kept keeps p p_is));
+      tree = keeps.tree.tree;
+      same = λ x ge ne. refl;
+      left_page = (in_range old keeps.tree p p_is).0;
+      inner = λ tag. omega (arith, tag, may.inner);
+      step = step;
+      others = λ x ge nq np nr. others x nq np nr;
+    }
+
+    parent_node : IsNode (node_of parent)
+    parent_node = let tag : (node_of parent).tag ≡ (node_at old q).tag = ap (λ (n : Node). n.tag) may.adds.node in (omega (arith, tag, q_is), omega (arith, tag, q_is))
+
+    parent_load : load_of parent ≤ load_of (page_at old q) + 2
+    parent_load =
+        let pairs : length (pairs_of parent) ≡ length (put_pair (pairs_of (page_at old q)) may.separator r) = ap (λ (n : Node). length n.pairs) may.adds.node in
+        omega (arith, load_at parent parent_node, load_at (page_at old q) q_is, pairs, length-put (pairs_of (page_at old q)) may.separator r)
+
+    room : load new ≤ load old
+    room = omega (arith, sum-changed load_of changes old agrees apart, parent_load, old_load _ node sibling may.separator may.full may.split p_is, left_load _ node sibling may.separator may.full may.split p_is, right_load _ node sibling may.separator may.full may.split p_is)
+
+    sibling_node : IsNode (node_of sibling)
+    sibling_node = right_node (page_at old p) node sibling may.separator may.full may.split p_is
+
+    left_is_node : IsNode (node_of node)
+    left_is_node = left_node (page_at old p) node sibling may.separator may.full may.split p_is
+
+    more_nodes : node_count new ≡ node_count old + 1
+    more_nodes = omega (arith, sum-changed counted changes old agrees apart, counted_node parent parent_node, counted_node node left_is_node, counted_node sibling sibling_node, counted_node (page_at old q) q_is, counted_node (page_at old p) p_is, counted_other (page_at old r) r_other)
+
+    fewer_owed : length (owed_after changes kept.owed) + 1 ≡ length kept.owed
+    fewer_owed = rw (without-none q kept.owed (not_owed start kept keeps q q_is)) (rw (without-none p kept.owed (not_owed start kept keeps p p_is)) (length-without r kept.owed keeps.owed.apart owed))
+
+    nodes : (x : ℕ) → has x (pages_of changes) ≡ true → (x ≡ 0) ⊎ IsNode (node_at new x)
+    nodes x some = elim (cases_eq x q) [
+      | inl e ↦ inr (rw e (subst (λ w. IsNode (node_of w)) (sym at_q) parent_node))
+      | inr nq ↦ elim (cases_eq x p) [
+        | inl e ↦ inr (rw e (subst (λ w. IsNode (node_of w)) (sym at_p) left_is_node))
+        | inr np ↦ let e : x ≡ r = grind (arith, nat_tests, some, nq, np) in inr (rw e (subst (λ w. IsNode (node_of w)) (sym at_r) sibling_node))
+      ]
+    ]
+
+    pub split_keeps : Keeps start (released changes [] kept)
+    split_keeps = group_keeps start kept keeps changes record {
+      tree = split_pages_tree old new _ _ _ _ _ _ _ _ _ _ keeps.tree pages;
+      contents = split_pages_map old new _ _ _ _ _ _ _ _ _ _ keeps.tree pages;
+      nodes = nodes;
+      count = omega (arith, more_nodes, fewer_owed);
+      room = room;
+    }

@@ -1,0 +1,5 @@
+pub mod History
+pub mod Keeps
+pub mod May
+pub mod Tied
+pub mod Descent

@@ -1,0 +1,39 @@
+//! The tree as the owner of a page store: what its pages and its history are is kept at each step of the store.
+#![tactic(auto)]
+
+ghost use Rattle.vm_tree_laws.specs.Keeps.{Keeps};
+ghost use Rattle.vm_tree_laws.specs.May.{MayRelease, MayRead};
+ghost use Rattle.vm_tree_laws.specs.Tied.{Tied};
+ghost use Rattle.vm_tree_laws.proofs.Laws.{releases_keep, reads_keep};
+ghost use Rattle.vm_tree_laws.proofs.Claims.{claims_keep};
+ghost use Rattle.vm_tree_laws.proofs.OwedLists.{reorders_keep};
+ghost use Rattle.vm_tree_laws.proofs.Ties.{ties_hold};
+
+use vm_map::call::Said;
+use vm_owner::Owner;
+
+/// The tree. It has no state of its own: the pages are the store's, and what is kept of them is stated alone.
+#[derive(Drop)]
+pub struct Tree;
+
+impl Owner for Tree {
+    type Said = Said;
+
+    ghost keeps = { Keeps };
+
+    ghost may_release = { MayRelease };
+
+    ghost may_read = { MayRead };
+
+    ghost tied = { Tied };
+
+    ghost releases = { releases_keep };
+
+    ghost reads = { λ start kept page entries keeps there. reads_keep start kept page entries keeps };
+
+    ghost claims = { claims_keep };
+
+    ghost reorders = { reorders_keep };
+
+    ghost ties = { λ start kept r p keeps there other. ties_hold start kept r p keeps there };
+}
