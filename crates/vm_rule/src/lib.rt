@@ -14,8 +14,12 @@ ghost use Rattle.vm_core.specs.Step.{AllLegal, RunsTo};
 ghost use Rattle.vm_core.specs.Told.{Told};
 ghost use Rattle.vm_rule.specs.Kept.{Kept, KeptFault, KeptFrom};
 
+pub mod began;
+mod fixed;
 #[cfg(test)]
 mod tests;
+pub mod view;
+pub mod words;
 
 use std::alloc::Global;
 use vm_core::{Core, Event, ReplayFault, Seen, replay};

@@ -1,0 +1,142 @@
+-- What a step tells of the lists, the table and the log; and the step that changes nothing of the core and of its own view but these.
+use Rattle.std.proofs.Common.{ℕ, Bool, true, true≢false, Option, None, List, [], ◌∷◌, ◌++◌, ◌≡◌, ◌+◌, ◌<◌, length, refl, sym, ap, subst, ◌∙◌, inl, arith, slice_set, length-append}
+use mathlib.Core.Path.{fun_ext}
+use mathlib.Core.Option.{some}
+use lib.ListN.{get_elem?}
+use Rattle.atomic_table.specs.Table.{State as Table}
+use Rattle.vm_core.specs.declared.event.Event.{Event}
+use Rattle.vm_core.specs.State.{Page}
+use Rattle.vm_core.specs.History.{World, world_after}
+use Rattle.vm_core.specs.Step.{Legal}
+use Rattle.vm_laws_others.specs.Leaves.{Leaves, actor_of}
+use Rattle.vm_laws_others.proofs.Laws.{leave_others}
+use Rattle.vm_owner.specs.declared.Entry.{Entry}
+use Rattle.vm_owner.specs.Kept.{Start, Kept}
+use Rattle.vm_owner.specs.Numbers.{has}
+use Rattle.vm_block.specs.declared.stored.Stored.{Stored}
+use Rattle.vm_rule.specs.declared.view.Did.{Did}
+use Rattle.vm_rule.specs.declared.view.Origin.{Origin}
+use Rattle.vm_rule.specs.declared.view.Release.{Release}
+use Rattle.vm_rule.specs.declared.view.Snapshot.{Snapshot}
+use Rattle.vm_rule.specs.declared.view.View.{View}
+use Rattle.vm_rule.specs.Puts.{listed, put_at, chosen}
+use Rattle.vm_rule.specs.Layout.{Within, index_of}
+use Rattle.vm_rule.specs.Views.{StartsWith, seat_of}
+use Rattle.vm_rule.specs.Reading.{block_of, core_of, world_of, histories_of, last_in}
+use Rattle.vm_rule.specs.Rule.{KnowsPage, no_held, is_pending, is_owed, logical, began_of, KnowsLists, KnowsPages, Ruled}
+use Rattle.vm_rule.specs.Brought.{set_if, IsFoundAt, IsStepOf, brought, Brings}
+use Rattle.vm_rule.proofs.Views.{any-same}
+use Rattle.vm_rule.proofs.Entries.{append-none}
+use Rattle.vm_rule.proofs.Worlds.{last-is, draft-is, core-still, world-still}
+use Rattle.vm_rule.proofs.Adding.{became, after_step, Shows, adds}
+
+-- what is the whole list has nothing behind it
+none-behind : {A : Type 0} (l rest : List A) → l ≡ l ++ rest → rest ≡ []
+none-behind l [] e = refl
+none-behind l (x ∷ xs) e = absurd (let long : length l ≡ length l + length (x ∷ xs) = ap length e ∙ length-append l (x ∷ xs) in omega arith)
+
+module _ {X B : Type 0} (stored : B → Stored) (keeps : Start → Kept X → Type 0) (tied : Start → ℕ → List ℕ → ℕ → List ℕ → Type 0) (start : Origin) (tells : Bool) where
+  -- what any step tells: it found the word that stands there, and left these words
+  pub brings : (s : Table (Option B) (View X)) (r : Ruled stored keeps tied start tells s) (id : ℕ) (v : View X) (words : List ℕ) (own : List Release) (entries : List (Entry X)) (did : Did) (inner : View X)
+      → get_elem? s.views id ≡ some v → v.live ≡ true
+      → IsFoundAt did.found (index_of start did.at) s.words → words ≡ set_if did.wrote (index_of start did.at) s.words
+      → Brings did own entries v inner (after_step stored keeps tied start tells s r words own entries did inner)
+  brings s r id v words own entries did inner there live found left =
+      let g : KnowsLists start r.releases r.history v = r.heard id v there live in
+      let k : KnowsPages tied start (world_of stored start r.releases r.drafts s) (is_pending s.views) v = r.known id v there live in
+      record {
+        between = g.saw.0;
+        others = g.heard.0;
+        snapshot = record { words = words; blocks = listed start.pages (block_of stored s.homes s.views) };
+        view = λ i. brought inner (g.saw.1 i ++ own) (g.heard.1 i ++ entries) (record { words = words; blocks = listed start.pages (block_of stored s.homes s.views) }) did;
+        foreign = g.heard.2;
+        kept = λ p locks. (λ i. last_in (g.same_start i) (sym g.saw.1 i) p) ∙ last-is start r.releases r.drafts p ∙ sym (k.latest p locks);
+        told = (subst (λ l. StartsWith l v.told_releases) g.saw.1 g.told.0, subst (λ l. StartsWith l v.told) g.heard.1 g.told.1);
+        alone = λ whole current.
+            let same = r.parts.whole id v there live whole current in (
+              none-behind v.releases g.saw.0 (same.0 ∙ g.saw.1),
+              none-behind v.seen g.heard.0 (same.1 ∙ g.heard.1),
+              subst (λ (o : Origin). IsStepOf o did None v.snapshot (record { words = words; blocks = listed start.pages (block_of stored s.homes s.views) })) (sym g.same_start)
+                  (subst (λ (y : Snapshot). IsStepOf start did None y (record { words = words; blocks = listed start.pages (block_of stored s.homes s.views) })) (sym same.2)
+                  (record { found = found; words = left; blocks = refl })),
+            );
+      }
+
+  -- a step that is an event of its pass, and shows its own part, keeps the rule and tells what it brings
+  pub steps : (s : Table (Option B) (View X)) (r : Ruled stored keeps tied start tells s) (id : ℕ) (v : View X) (words : List ℕ) (drafts : ℕ → List ℕ) (own : List Release) (entries : List (Entry X)) (did : Did) (inner : View X) (e : Event)
+      → get_elem? s.views id ≡ some v → v.live ≡ true → 0 < length v.used → actor_of e ≡ id
+      → words ≡ set_if did.wrote (index_of start did.at) s.words
+      → Shows stored keeps tied start tells s r id v words drafts own entries did inner e
+      → Ruled stored keeps tied start tells (became stored keeps tied start tells s words id (after_step stored keeps tied start tells s r words own entries did inner))
+      × Brings did own entries v inner (after_step stored keeps tied start tells s r words own entries did inner)
+  steps s r id v words drafts own entries did inner e there live number actor left sh =
+      let old : World = world_of stored start r.releases r.drafts s in (
+        adds stored keeps tied start tells s r id v words drafts own entries did inner e there live number (subst (λ a. Leaves a old (world_after old e)) actor (leave_others old e r.inv sh.legal)) sh,
+        brings s r id v words own entries did inner there live sh.found left,
+      )
+
+  -- a step that is an event which changes nothing, with a view that keeps all but what any step brings
+  pub rests : (s : Table (Option B) (View X)) (r : Ruled stored keeps tied start tells s) (id : ℕ) (v : View X) (did : Did) (e : Event) → get_elem? s.views id ≡ some v → v.live ≡ true
+      → Legal (core_of stored start s) e
+      → world_after (world_of stored start r.releases r.drafts s) e ≡ world_of stored start r.releases r.drafts s
+      → Within start did.at → IsFoundAt did.found (index_of start did.at) s.words → did.wrote ≡ None
+      → Shows stored keeps tied start tells s r id v s.words r.drafts [] [] did v e
+  rests s r id v did e there live legal lost inside found none =
+      let w : View X = after_step stored keeps tied start tells s r s.words [] [] did v in
+      let new : Table (Option B) (View X) = became stored keeps tied start tells s s.words id w in
+      let k : KnowsPages tied start (world_of stored start r.releases r.drafts s) (is_pending s.views) v = r.known id v there live in
+      let releases : r.releases ++ [] ≡ r.releases = append-none r.releases in
+      let history : r.history ++ [] ≡ r.history = append-none r.history in
+      let core : core_of stored start new ≡ core_of stored start s = core-still stored start s id v w there refl refl refl in
+      let still : world_of stored start r.releases r.drafts new ≡ world_of stored start r.releases r.drafts s = world-still stored start s r.releases r.drafts id v w there refl refl refl refl in
+      let world : world_of stored start (r.releases ++ []) r.drafts new ≡ world_of stored start r.releases r.drafts s = ap (λ l. world_of stored start l r.drafts new) releases ∙ still in
+      let pending : is_pending (slice_set s.views id w) ≡ is_pending s.views = fun_ext (λ p. any-same (λ y. has p y.pending) s.views id v w there refl) in
+      let owed : is_owed (slice_set s.views id w) ≡ is_owed s.views = fun_ext (λ p. any-same (λ y. has p y.owed) s.views id v w there refl) in
+      record {
+        wide = r.wide.0;
+        spelled = r.spelled;
+        legal = legal;
+        at = inside;
+        found = found;
+        wrote = subst (λ o. IsFoundAt o (index_of start did.at) s.words) (sym none) tt;
+        world = world ∙ sym lost;
+        live = refl;
+        same_start = refl;
+        used = refl;
+        fresh = refl;
+        notes = refl;
+        log = refl;
+        out = refl;
+        calls = λ o x. (r.blocks.away id v o there x).1;
+        entry = inl refl;
+        mine = sym (append-none v.mine);
+        next_versions = tt;
+        zero = λ t p le l. ap (λ y. (histories_of start y r.drafts p).last.words) releases ∙ r.zero t p le l;
+        knows = λ p. subst (λ (y : ℕ → Page). KnowsPage (seat_of v p) (put_at no_held v.held p) (y p)) (sym (ap (λ c. c.pages) core)) (k.knows p);
+        contents = k.contents;
+        drafted = λ p x. k.drafts p x ∙ draft-is start r.releases r.drafts p;
+        pending = λ p x. let m = k.pending p x in (m.0, λ t past. sym (draft-is start r.releases r.drafts p) ∙ m.1 t past ∙ sym (ap (λ y. (histories_of start y r.drafts p).last.words) releases));
+        owed = k.owed;
+        next = k.next;
+        loaded = ([], refl, tt);
+        tying = ([], refl, λ _. tt);
+        members = λ p was gone. absurd (true≢false (sym was ∙ gone));
+        owner = λ t. subst (keeps (began_of start)) (λ i. record {
+          pages = listed start.pages (logical (sym world i).histories (sym pending i));
+          next = (sym world i).core.next;
+          owed = chosen start.pages (sym owed i);
+          history = sym history i;
+        });
+      }
+
+  -- so it keeps the rule and tells this much: an exchange that is lost, or a load that no read is open for
+  pub rested : (s : Table (Option B) (View X)) (r : Ruled stored keeps tied start tells s) (id : ℕ) (v : View X) (did : Did) (e : Event) → get_elem? s.views id ≡ some v → v.live ≡ true → 0 < length v.used → actor_of e ≡ id
+      → Legal (core_of stored start s) e
+      → world_after (world_of stored start r.releases r.drafts s) e ≡ world_of stored start r.releases r.drafts s
+      → Within start did.at → IsFoundAt did.found (index_of start did.at) s.words → did.wrote ≡ None
+      → Ruled stored keeps tied start tells (became stored keeps tied start tells s s.words id (after_step stored keeps tied start tells s r s.words [] [] did v))
+      × Brings did [] [] v v (after_step stored keeps tied start tells s r s.words [] [] did v)
+  rested s r id v did e there live number actor legal lost inside found none =
+      steps s r id v s.words r.drafts [] [] did v e there live number actor
+      (sym (ap (λ o. set_if o (index_of start did.at) s.words) none))
+      (rests s r id v did e there live legal lost inside found none)

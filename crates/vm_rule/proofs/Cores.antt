@@ -1,0 +1,126 @@
+-- A step of one pass on one word of the table: the core that is read changes as by the event.
+use Rattle.std.proofs.Common.{ℕ, ◌≡◌, ◌<◌, List, [], length, refl, sym, ap, ◌∙◌, slice_set, Bool, Option, length-set}
+use mathlib.Core.Path.{fun_ext}
+use mathlib.Core.Option.{some}
+use lib.ListN.{get_elem?}
+use Rattle.atomic_table.specs.Table.{State as Table}
+use Rattle.vm_core.specs.declared.event.Seat.{Seat}
+use Rattle.vm_core.specs.Fn.{at, upd}
+use Rattle.vm_core.specs.Words.{state_of, version_of}
+use Rattle.vm_core.specs.Start.{no_seat}
+use Rattle.vm_core.specs.State.{State}
+use Rattle.vm_core.specs.Step.{on_page, stored_at}
+use Rattle.vm_core.proofs.Upd.{upd-same, upd-other, upd-keeps, upd-map}
+use Rattle.vm_block.specs.declared.stored.Stored.{Stored}
+use Rattle.vm_rule.specs.declared.view.Origin.{Origin}
+use Rattle.vm_rule.specs.declared.view.Place.{Place}
+use Rattle.vm_rule.specs.declared.view.Place.TheVariants as places
+use Rattle.vm_rule.specs.declared.view.View.{View}
+use Rattle.vm_rule.specs.Puts.{put, put_at}
+use Rattle.vm_owner.specs.Numbers.{has}
+use Rattle.vm_core.specs.FrameActs.{mapping_of}
+use Rattle.vm_rule.specs.Layout.{Words, Within, index_of, width, words_of, written}
+use Rattle.vm_rule.specs.Views.{spent}
+use Rattle.vm_rule.specs.Reading.{page_from, pages_from, core_from, seats_of, loads_of, held_of, block_of, core_of}
+use Rattle.vm_rule.proofs.Parts.{words-written, frame-written}
+use Rattle.vm_rule.proofs.Pages.{put-column, put-still, page-in, page-changed}
+use Rattle.vm_rule.proofs.Views.{at-there, views-set, block-same}
+
+module _ {X : Type 0} where
+  -- what the pass has of page p changes
+  pub seats-put : (views : List (View X)) (id p : ℕ) (v w : View X) (seat : Seat) → get_elem? views id ≡ some v → w.seats ≡ put p seat v.seats → seats_of (slice_set views id w) ≡ upd (seats_of views) p (upd (seats_of views p) id seat)
+  seats-put views id p v w seat there e =
+      ap {B = ℕ → ℕ → Seat} (λ (f : ℕ → View X) q b. put_at no_seat (f b).seats q) (views-set views id v w there)
+      ∙ put-column no_seat (λ (y : View X). y.seats) (at spent views) id p seat w (e ∙ ap (λ (y : View X). put p seat y.seats) (sym (at-there spent views id v there)))
+
+  pub seats-still : (views : List (View X)) (id : ℕ) (v w : View X) → get_elem? views id ≡ some v → w.seats ≡ v.seats → seats_of (slice_set views id w) ≡ seats_of views
+  seats-still views id v w there e =
+      ap {B = ℕ → ℕ → Seat} (λ (f : ℕ → View X) q b. put_at no_seat (f b).seats q) (views-set views id v w there)
+      ∙ put-still no_seat (λ (y : View X). y.seats) (at spent views) id w (e ∙ ap (λ (y : View X). y.seats) (sym (at-there spent views id v there)))
+
+  pub loads-put : (views : List (View X)) (id p : ℕ) (v w : View X) (l : List (ℕ × ℕ)) → get_elem? views id ≡ some v → w.loads ≡ put p l v.loads → loads_of (slice_set views id w) ≡ upd (loads_of views) p (upd (loads_of views p) id l)
+  loads-put views id p v w l there e =
+      ap {B = ℕ → ℕ → List (ℕ × ℕ)} (λ (f : ℕ → View X) q b. put_at [] (f b).loads q) (views-set views id v w there)
+      ∙ put-column [] (λ (y : View X). y.loads) (at spent views) id p l w (e ∙ ap (λ (y : View X). put p l y.loads) (sym (at-there spent views id v there)))
+
+  pub loads-still : (views : List (View X)) (id : ℕ) (v w : View X) → get_elem? views id ≡ some v → w.loads ≡ v.loads → loads_of (slice_set views id w) ≡ loads_of views
+  loads-still views id v w there e =
+      ap {B = ℕ → ℕ → List (ℕ × ℕ)} (λ (f : ℕ → View X) q b. put_at [] (f b).loads q) (views-set views id v w there)
+      ∙ put-still [] (λ (y : View X). y.loads) (at spent views) id w (e ∙ ap (λ (y : View X). y.loads) (sym (at-there spent views id v there)))
+
+  -- the frames that the passes hold
+  pub held-put : (views : List (View X)) (id : ℕ) (v w : View X) → get_elem? views id ≡ some v → held_of (slice_set views id w) ≡ upd (held_of views) id (λ f. has f w.frames)
+  held-put views id v w there =
+      fun_ext (λ b. ap (λ (f : ℕ → View X). λ n. has n (f b).frames) (views-set views id v w there) ∙ upd-map (λ (y : View X). λ n. has n y.frames) (at spent views) id w b)
+
+  pub held-still : (views : List (View X)) (id : ℕ) (v w : View X) → get_elem? views id ≡ some v → w.frames ≡ v.frames → held_of (slice_set views id w) ≡ held_of views
+  held-still views id v w there e =
+      fun_ext (λ b. ap (λ (f : ℕ → View X). λ n. has n (f b).frames) (views-set views id v w there)
+      ∙ upd-keeps (λ (y : View X). λ n. has n y.frames) (at spent views) id w (ap (λ l n. has n l) (e ∙ ap (λ (y : View X). y.frames) (sym (at-there spent views id v there)))) b)
+
+module _ (start : Origin) (actors : ℕ) (r : Words) (blocks : ℕ → Stored) (seats : ℕ → ℕ → Seat) (held : ℕ → ℕ → Bool) where
+  abbrev core : State
+  core = core_from start actors r blocks seats held
+
+  -- a state word, and one row of seats
+  pub core-state : (p x : ℕ) (row : ℕ → Seat) → p < start.pages → core_from start actors (written r (places.State p) x) blocks (upd seats p row) held ≡ on_page core p (record (core.pages p) { state = state_of x; version = version_of x; seats = row })
+  core-state p x row l =
+      ap (λ pages. record core { pages = pages }) (page-changed start.pages r (written r (places.State p) x) blocks blocks seats (upd seats p row) p (record (core.pages p) { state = state_of x; version = version_of x; seats = row }) l
+      (rw (page-in start.pages r blocks seats p l) (λ i. record (page_from r blocks seats p) { state = state_of (upd-same r.states p x i); version = version_of (upd-same r.states p x i); seats = upd-same seats p row i }))
+      (λ q ne i. record (page_from r blocks seats q) { state = state_of (upd-other r.states p x q ne i); version = version_of (upd-other r.states p x q ne i); seats = upd-other seats p row q ne i }))
+
+  -- a translation word
+  pub core-translation : (p x : ℕ) → p < start.pages → core_from start actors (written r (places.Translation p) x) blocks seats held ≡ on_page core p (record (core.pages p) { trans = mapping_of x })
+  core-translation p x l =
+      ap (λ pages. record core { pages = pages }) (page-changed start.pages r (written r (places.Translation p) x) blocks blocks seats seats p (record (core.pages p) { trans = mapping_of x }) l
+      (rw (page-in start.pages r blocks seats p l) (λ i. record (page_from r blocks seats p) { trans = mapping_of (upd-same r.translations p x i) }))
+      (λ q ne i. record (page_from r blocks seats q) { trans = mapping_of (upd-other r.translations p x q ne i) }))
+
+  -- a fault word
+  pub core-fault : (p x : ℕ) → p < start.pages → core_from start actors (written r (places.Fault p) x) blocks seats held ≡ on_page core p (record (core.pages p) { fault = x })
+  core-fault p x l =
+      ap (λ pages. record core { pages = pages }) (page-changed start.pages r (written r (places.Fault p) x) blocks blocks seats seats p (record (core.pages p) { fault = x }) l
+      (rw (page-in start.pages r blocks seats p l) (λ i. record (page_from r blocks seats p) { fault = upd-same r.faults p x i }))
+      (λ q ne i. record (page_from r blocks seats q) { fault = upd-other r.faults p x q ne i }))
+
+  -- what one pass has of a page, and no word
+  pub core-seat : (p : ℕ) (row : ℕ → Seat) → p < start.pages → core_from start actors r blocks (upd seats p row) held ≡ on_page core p (record (core.pages p) { seats = row })
+  core-seat p row l =
+      ap (λ pages. record core { pages = pages }) (page-changed start.pages r r blocks blocks seats (upd seats p row) p (record (core.pages p) { seats = row }) l
+      (rw (page-in start.pages r blocks seats p l) (λ i. record (page_from r blocks seats p) { seats = upd-same seats p row i }))
+      (λ q ne i. record (page_from r blocks seats q) { seats = upd-other seats p row q ne i }))
+
+  -- a block came home
+  pub core-block : (p : ℕ) (b : Stored) → p < start.pages → core_from start actors r (upd blocks p b) seats held ≡ on_page core p (record (core.pages p) { count = b.count; block = b.words })
+  core-block p b l =
+      ap (λ pages. record core { pages = pages }) (page-changed start.pages r r blocks (upd blocks p b) seats seats p (record (core.pages p) { count = b.count; block = b.words }) l
+      (rw (page-in start.pages r blocks seats p l) (λ i. record (page_from r blocks seats p) { count = (upd-same blocks p b i).count; block = (upd-same blocks p b i).words }))
+      (λ q ne i. record (page_from r blocks seats q) { count = (upd-other blocks p b q ne i).count; block = (upd-other blocks p b q ne i).words }))
+
+  -- a word of a frame
+  pub core-word : (f i x : ℕ) → i < 64 → core_from start actors (written r (places.Content f i) x) blocks seats held ≡ stored_at core f i x
+  unfolding pages_from
+  core-word f i x l = ap (λ words. record core { words = words }) (frame-written r.contents f i x l)
+
+  -- a bundle word, and the frames held
+  pub core-bundle : (g x : ℕ) (held' : ℕ → ℕ → Bool) → core_from start actors (written r (places.Bundle g) x) blocks seats held' ≡ record core { bundles = upd r.bundles g x; held = held' }
+  unfolding pages_from
+  core-bundle g x held' = refl
+
+  -- the next word, the hand
+  pub core-next : (x : ℕ) → core_from start actors (written r places.Next x) blocks seats held ≡ record core { next = x }
+  unfolding pages_from
+  core-next x = refl
+
+  pub core-hand : (x : ℕ) → core_from start actors (written r places.Hand x) blocks seats held ≡ record core { hand = x }
+  unfolding pages_from
+  core-hand x = refl
+
+module _ {X B : Type 0} (stored : B → Stored) (start : Origin) where
+  -- the one word that a step writes, and the one view that it changes
+  pub core-step : (s : Table (Option B) (View X)) (id : ℕ) (v w : View X) (word : Place) (x : ℕ) → length s.words ≡ width start → Within start word → get_elem? s.views id ≡ some v → w.out ≡ v.out
+      → (seats : ℕ → ℕ → Seat) (held : ℕ → ℕ → Bool) → seats_of (slice_set s.views id w) ≡ seats → held_of (slice_set s.views id w) ≡ held
+      → core_of stored start (record { words = slice_set s.words (index_of start word) x; homes = s.homes; views = slice_set s.views id w })
+      ≡ core_from start (length s.views) (written (words_of start s.words) word x) (block_of stored s.homes s.views) seats held
+  core-step s id v w word x wide within there out seats held es eh i =
+      core_from start (length-set s.views id w i) (words-written start s.words word x wide within i) (block-same stored s.homes s.views id v w there out i) (es i) (eh i)

@@ -1,0 +1,120 @@
+-- What a step adds to the lists: an entry is the pass's own, with the next count of one of its numbers, which no other pass has; the
+-- releases have the next versions.
+use Rattle.std.proofs.Common.{ℕ, Bool, true, false, true≢false, ◌≡◌, ◌≢◌, ◌⊎◌, ◌+◌, ◌<◌, ◌≤◌, ◌==◌, if◌then◌else◌, List, [], ◌∷◌, ◌++◌, length, refl, sym, ap, subst, ◌∙◌, arith, ⊎_elim, append_assoc, slice_index}
+use Rattle.std.proofs.lemmas.Bool.{cases_Bool, cases_eq, cases_lt, eq-eqb, ne_eqb, lt-ltb, le-ltb}
+use mathlib.Core.Option.{some}
+use lib.ListN.{get_elem?}
+use Rattle.vm_owner.specs.declared.Entry.{Entry}
+use Rattle.vm_owner.specs.Kept.{calls_of}
+use Rattle.vm_owner.specs.Numbers.{has}
+use Rattle.vm_rule.specs.declared.view.Origin.{Origin}
+use Rattle.vm_rule.specs.declared.view.Release.{Release}
+use Rattle.vm_rule.specs.declared.view.View.{View}
+use Rattle.vm_rule.specs.Views.{StartsWith, Each, times, PARTS, one_part, entries_by, total, owns}
+use Rattle.vm_rule.specs.Rule.{AreNext, AreCounted}
+use Rattle.vm_rule.specs.Brought.{entry_of}
+use Rattle.vm_rule.proofs.Entries.{append-none, total-at, total-two}
+
+pub each-both : {A : Type 0} (P : A → Type 0) (l m : List A) → Each P l → Each P m → Each P (l ++ m)
+each-both P [] m e f = f
+each-both P (x ∷ xs) m e f = (e.0, each-both P xs m e.1 f)
+
+pub starts-more : {A : Type 0} (l m n : List A) → StartsWith l m → StartsWith (l ++ n) m
+starts-more l m n s = (s.0 ++ n, ap (λ (y : List _). y ++ n) s.1 ∙ append_assoc m s.0 n)
+
+pub times-has : (k : ℕ) (ns : List ℕ) → has k ns ≡ true → 1 ≤ times k ns
+times-has k [] e = absurd (true≢false (sym e))
+times-has k (n ∷ ns) e =
+    ⊎_elim
+    (λ here. rw (eq-eqb n k (sym here)) (omega arith))
+    (λ ne. let drop : has k (n ∷ ns) ≡ has k ns = rw (ne_eqb k n ne) refl in let rest : 1 ≤ times k ns = times-has k ns (sym drop ∙ e) in omega arith)
+    (cases_eq k n)
+
+-- the pass's first number
+pub has-first : (ns : List ℕ) → 0 < length ns → has (slice_index ns 0) ns ≡ true
+has-first [] l = absurd (omega arith)
+has-first (n ∷ ns) l = rw (eq-eqb n n refl) refl
+
+pub one-most : (k : ℕ) → one_part k ≤ 1
+one-most k = ⊎_elim (λ l. rw (lt-ltb k PARTS l) (omega arith)) (λ le. rw (le-ltb k PARTS le) (omega arith)) (cases_lt k PARTS)
+
+not-true : (b : Bool) → (b ≡ true → ⊥) → b ≡ false
+not-true true f = absurd (f refl)
+not-true false f = refl
+
+-- the releases that come have the next versions
+pub next-both : (start : Origin) (before done own : List Release) → AreNext start before done → AreNext start (before ++ done) own → AreNext start before (done ++ own)
+next-both start before [] own a b = subst (λ l. AreNext start l own) (append-none before) b
+next-both start before (x ∷ xs) own a b = (a.0, next-both start (before ++ x ∷ []) xs own a.1 (subst (λ l. AreNext start l own) (sym (append_assoc before (x ∷ []) xs)) b))
+
+module _ {X : Type 0} where
+  -- a part stands in one view
+  pub one-owner : (views : List (View X)) (i j : ℕ) (u v : View X) (k : ℕ) → total (owns k) views ≡ one_part k → i ≢ j → get_elem? views i ≡ some u → get_elem? views j ≡ some v → 1 ≤ owns k u → 1 ≤ owns k v → ⊥
+  one-owner views i j u v k all ne e e' a b =
+      let both : owns k u + owns k v ≤ total (owns k) views = total-two (owns k) views i j u v ne e e' in
+      let most : one_part k ≤ 1 = one-most k in
+      omega arith
+
+  -- the entries of a number are counted among those of a pass that has it
+  pub calls-by : (n : ℕ) (ns : List ℕ) (h : List (Entry X)) → has n ns ≡ true → calls_of n (entries_by ns h) ≡ calls_of n h
+  calls-by n ns [] e = refl
+  calls-by n ns (x ∷ xs) e =
+      ⊎_elim
+      (λ t. rw t (ap (λ k. (if x.number == n then 1 else 0) + k) (calls-by n ns xs e)))
+      (λ f. let rest : calls_of n (entries_by ns xs) ≡ calls_of n xs = calls-by n ns xs e in rw f (rw (ne_eqb x.number n (λ q. true≢false (sym e ∙ ap (λ k. has k ns) (sym q) ∙ f))) (omega arith)))
+      (cases_Bool (has x.number ns))
+
+  -- one entry more, with its number's next count
+  counted-more : (before : ℕ → ℕ) (h : List (Entry X)) (x : Entry X) → AreCounted before h → x.count ≡ (calls_of x.number h + before x.number) + 1 → AreCounted before (h ++ x ∷ [])
+  counted-more before [] x a e = (omega arith, tt)
+  counted-more before (y ∷ ys) x a e = (
+    a.0,
+    counted-more (λ n. (if y.number == n then 1 else 0) + before n) ys x a.1
+        (e ∙ omega (arith)),
+  )
+
+  -- what the entries es, which the pass id adds, mean to the passes
+  pub record Added (views : List (View X)) (id : ℕ) (v : View X) (history es : List (Entry X)) : Type 0 where
+    pub own : entries_by v.used es ≡ es
+    pub own_fresh : (k : ℕ) → has k v.fresh ≡ true → entries_by (k ∷ []) es ≡ []
+    pub others : (j : ℕ) (u : View X) → j ≢ id → get_elem? views j ≡ some u → entries_by u.used es ≡ []
+    pub others_fresh : (j : ℕ) (u : View X) → j ≢ id → get_elem? views j ≡ some u → (k : ℕ) → has k u.fresh ≡ true → entries_by (k ∷ []) es ≡ []
+    pub numbered : Each (λ e. e.number < PARTS) es
+    pub counted : AreCounted (λ _. 0) history → AreCounted (λ _. 0) (history ++ es)
+
+  added-none : (views : List (View X)) (id : ℕ) (v : View X) (history : List (Entry X)) → Added views id v history []
+  added-none views id v history = record {
+    own = refl;
+    own_fresh = λ k _. refl;
+    others = λ j u _ _. refl;
+    others_fresh = λ j u _ _ k _. refl;
+    numbered = tt;
+    counted = subst (AreCounted (λ _. 0)) (sym (append-none history));
+  }
+
+  added-one : (views : List (View X)) (id : ℕ) (v : View X) (history : List (Entry X)) (x : X) → get_elem? views id ≡ some v → ((k : ℕ) → total (owns k) views ≡ one_part k) → 0 < length v.used → v.mine ≡ entries_by v.used history
+      → Added views id v history (entry_of v x ∷ [])
+  added-one views id v history x there parts number mine =
+      let n : ℕ = slice_index v.used 0 in
+      let in_used : has n v.used ≡ true = has-first v.used number in
+      let first : 1 ≤ times n v.used = times-has n v.used in_used in
+      let single : (k : ℕ) → k ≢ n → has n (k ∷ []) ≡ false = λ k ne. rw (ne_eqb n k (λ e. ne (sym e))) refl in
+      let all : total (owns n) views ≡ one_part n = parts n in
+      let at : owns n v ≤ total (owns n) views = total-at (owns n) views id v there in
+      record {
+        own = rw in_used refl;
+        own_fresh = λ k e. rw (single k (λ i. let fresh : 1 ≤ times n v.fresh = times-has n v.fresh (ap (λ m. has m v.fresh) (sym i) ∙ e) in let most : one_part n ≤ 1 = one-most n in absurd (omega arith))) refl;
+        others = λ j u ne e. rw (not-true (has n u.used) (λ t. let theirs : 1 ≤ times n u.used = times-has n u.used t in one-owner views j id u v n all ne e there (omega arith) (omega arith))) refl;
+        others_fresh = λ j u ne e k t. rw (single k (λ i. let theirs : 1 ≤ times n u.fresh = times-has n u.fresh (ap (λ m. has m u.fresh) (sym i) ∙ t) in one-owner views j id u v n all ne e there (omega arith) (omega arith))) refl;
+        numbered = (⊎_elim (λ l. l) (λ le. let none : one_part n ≡ 0 = rw (le-ltb n PARTS le) refl in absurd (omega arith)) (cases_lt n PARTS), tt);
+        counted = λ c. counted-more (λ _. 0) history (entry_of v x) c (let same : calls_of n v.mine ≡ calls_of n history = ap (calls_of n) mine ∙ calls-by n v.used history in_used in omega arith);
+      }
+
+  -- a step adds no entry, or one
+  pub added : (views : List (View X)) (id : ℕ) (v : View X) (history entries : List (Entry X)) → (entries ≡ []) ⊎ ((x : X) × (entries ≡ entry_of v x ∷ [])) → get_elem? views id ≡ some v → ((k : ℕ) → total (owns k) views ≡ one_part k) → 0 < length v.used → v.mine ≡ entries_by v.used history
+      → Added views id v history entries
+  added views id v history entries said there parts number mine =
+      ⊎_elim
+      (λ e. subst (Added views id v history) (sym e) (added-none views id v history))
+      (λ e. subst (Added views id v history) (sym e.1) (added-one views id v history e.0 there parts number mine))
+      said

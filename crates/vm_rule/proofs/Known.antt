@@ -1,0 +1,134 @@
+-- What a pass knows of pages stays true after an event of another pass; and so does what any pass knows of translations and ties.
+use Rattle.std.proofs.Common.{ℕ, Bool, true, false, true≢false, ◌≡◌, ◌<◌, ◌≤◌, ◌||◌, List, [], ◌∷◌, zero, suc, refl, sym, ap, subst, ◌∙◌, arith, ⊎_elim, slice_set}
+use Rattle.std.proofs.lemmas.Bool.{cases_lt}
+use mathlib.Core.Option as maybe
+use mathlib.Core.Option.{some, some-injective}
+use lib.ListN.{get_elem?}
+use Rattle.vm_core.specs.declared.event.Event.{Event}
+use Rattle.vm_core.specs.declared.event.Event.TheVariants.{LockX, Upgrade, Release, ReleaseE, Downgrade, Store}
+use Rattle.vm_core.specs.declared.event.Seat.{Seat}
+use Rattle.vm_core.specs.Words.{EVICTED}
+use Rattle.vm_core.specs.State.{Page}
+use Rattle.vm_core.specs.History.{History, Version, World, histories_after}
+use Rattle.vm_core.specs.Step.{Legal}
+use Rattle.vm_core.proofs.Upd.{upd-other}
+use Rattle.vm_laws_others.specs.Leaves.{PageMoves, Leaves, LeavesActor}
+use Rattle.vm_owner.specs.Kept.{Start}
+use Rattle.vm_owner.specs.Numbers.{has}
+use Rattle.vm_rule.specs.declared.view.Origin.{Origin}
+use Rattle.vm_rule.specs.declared.view.Tie.{Tie}
+use Rattle.vm_rule.specs.declared.view.Translation.{Translation}
+use Rattle.vm_rule.specs.declared.view.View.{View}
+use Rattle.vm_rule.specs.Puts.{put_at}
+use Rattle.vm_rule.specs.Views.{any, seat_of, may_call}
+use Rattle.vm_rule.specs.Rule.{KnowsPage, no_held, TranslationHolds, TieHolds, began_of, KnowsPages}
+use Rattle.vm_rule.proofs.Entries.{each-map}
+use Rattle.vm_rule.proofs.Were.{were-moves}
+
+-- the versions and drafts of a page past the last one, which nobody holds, stay
+pub histories-outside : (w : World) (e : Event) → Legal w.core e → (p : ℕ) → w.core.shape.pages ≤ p → ((a : ℕ) → ((w.core.pages p).seats a).exclusive ≡ false) → histories_after w e p ≡ w.histories p
+histories-outside w (LockX a q expects) m p le none = let inside : q < w.core.shape.pages = m.0.page in upd-other w.histories q _ p (λ e. absurd (omega arith))
+histories-outside w (Upgrade a q expects) m p le none = let inside : q < w.core.shape.pages = m.0.page in upd-other w.histories q _ p (λ e. absurd (omega arith))
+histories-outside w (Release a q) m p le none = let inside : q < w.core.shape.pages = m.0.page in upd-other w.histories q _ p (λ e. absurd (omega arith))
+histories-outside w (ReleaseE a q) m p le none = let inside : q < w.core.shape.pages = m.0.page in upd-other w.histories q _ p (λ e. absurd (omega arith))
+histories-outside w (Downgrade a q) m p le none = let inside : q < w.core.shape.pages = m.0.page in upd-other w.histories q _ p (λ e. absurd (omega arith))
+histories-outside w (Store a f i x) m p le none = rw (none a) refl
+histories-outside w e m p le none = refl
+
+pub translation-moves : (pages pages' : ℕ → Page) → ((p : ℕ) → PageMoves (pages p) (pages' p)) → (t : Translation) → TranslationHolds pages t → TranslationHolds pages' t
+translation-moves pages pages' moves t h =
+    let up : (pages t.page).version ≤ (pages' t.page).version = (moves t.page).version in
+    let old : t.version ≤ (pages t.page).version = h.0 in (
+      omega arith,
+      λ e locked evicted.
+          let same : (pages' t.page).version ≡ (pages t.page).version = omega arith in
+          let k = (moves t.page).still same locked evicted in
+          h.1 (e ∙ same) k.0 k.1 ∙ sym k.2,
+    )
+
+pub tie-moves : (tied : Start → ℕ → List ℕ → ℕ → List ℕ → Type 0) (began : Start) (w w' : World) (pending pending' : ℕ → Bool) → w'.core.shape.pages ≡ w.core.shape.pages → ((p : ℕ) → PageMoves (w.core.pages p) (w'.core.pages p))
+    → ((p : ℕ) → (w'.core.pages p).version ≡ (w.core.pages p).version → (w'.histories p).last ≡ (w.histories p).last)
+    → ((p : ℕ) → (w'.core.pages p).version ≡ (w.core.pages p).version → pending' p ≡ false → pending p ≡ false)
+    → (t : Tie) → TieHolds tied began w pending t → TieHolds tied began w' pending' t
+tie-moves tied began w w' pending pending' shape moves last members t h =
+    let up : (w.core.pages t.page).version ≤ (w'.core.pages t.page).version = (moves t.page).version in
+    let old : t.version ≤ (w.core.pages t.page).version = h.1 in (
+      subst (λ n. t.page < n) (sym shape) h.0,
+      omega arith,
+      λ e free.
+          let still : (w'.core.pages t.page).version ≡ (w.core.pages t.page).version = omega arith in
+          subst (λ (y : Version). tied began t.of t.words t.page y.words) (sym (last t.page still)) (h.2 (e ∙ still) (members t.page still free)),
+    )
+
+or-none : (a b : Bool) → (a || b) ≡ false → (a ≡ false) × (b ≡ false)
+or-none true b e = absurd (true≢false e)
+or-none false b e = (refl, e)
+
+or-first : (a b : Bool) → (a || b) ≡ true → b ≡ false → a ≡ true
+or-first true b e f = refl
+or-first false b e f = absurd (true≢false (sym e ∙ f))
+
+module _ {X : Type 0} where
+  -- where some view said so, and none does after one of them changed, it was that one
+  pub any-gone : (f : View X → Bool) (views : List (View X)) (id : ℕ) (v w : View X) → get_elem? views id ≡ some v → any f views ≡ true → any f (slice_set views id w) ≡ false → (f v ≡ true) × (f w ≡ false)
+  any-gone f [] id v w there was gone = absurd (maybe.some-ne-none v (sym there))
+  any-gone f (x ∷ xs) zero v w there was gone =
+      let none = or-none (f w) (any f xs) gone in
+      (ap f (sym (some-injective x v there)) ∙ or-first (f x) (any f xs) was none.1, none.0)
+  any-gone f (x ∷ xs) (suc id) v w there was gone =
+      let none = or-none (f x) (any f (slice_set xs id w)) gone in
+      any-gone f xs id v w there (ap (λ b. b || any f xs) (sym none.0) ∙ was) none.1
+
+  module _ (tied : Start → ℕ → List ℕ → ℕ → List ℕ → Type 0) (start : Origin) where
+    -- what the pass j knows, after an event of the pass a
+    pub known-else : (w w' : World) (unreleased unreleased' : ℕ → Bool) (a j : ℕ) (u : View X) → Leaves a w w' → LeavesActor j w w'
+        → ((p : ℕ) → p < w.core.shape.pages → (w.core.pages p).seats j ≡ seat_of u p)
+        → ((p : ℕ) → w.core.shape.pages ≤ p → (w'.core.pages p ≡ w.core.pages p) × (w'.histories p ≡ w.histories p))
+        → ((f : ℕ) → w.core.held j f ≡ has f u.frames)
+        → ((p : ℕ) → (w.core.pages p).state ≤ EVICTED)
+        → w'.core.next ≤ w.core.shape.pages
+        → ((t : Tie) → TieHolds tied (began_of start) w unreleased t → TieHolds tied (began_of start) w' unreleased' t)
+        → KnowsPages tied start w unreleased u → KnowsPages tied start w' unreleased' u
+    known-else w w' unreleased unreleased' a j u left mine seats outside held known inside ties g =
+        let owns : (p : ℕ) → p < w.core.shape.pages → (seat_of u p).exclusive ≡ true → ((w.core.pages p).seats j).exclusive ≡ true = λ p l x. ap (λ (y : Seat). y.exclusive) (seats p l) ∙ x in
+        let shares : (p : ℕ) → p < w.core.shape.pages → 1 ≤ (seat_of u p).shares → 1 ≤ ((w.core.pages p).seats j).shares = λ p l x. subst (λ (y : Seat). 1 ≤ y.shares) (sym (seats p l)) x in
+        let histories : (p : ℕ) → (seat_of u p).exclusive ≡ true → w'.histories p ≡ w.histories p = λ p x. ⊎_elim (λ l. mine.owned p (owns p l x)) (λ le. (outside p le).1) (cases_lt p w.core.shape.pages) in
+        let more : w.core.next ≤ w'.core.next = left.next in
+        record {
+          knows = λ p. ⊎_elim
+              (λ l. record {
+                calls = λ x.
+                    let k = (mine.untouched p).calls (ap may_call (seats p l) ∙ x) in
+                    let b = (g.knows p).calls x in
+                    (b.0 ∙ sym k.0, b.1 ∙ sym k.1, b.2 ∙ sym k.2, b.3 ∙ sym k.3);
+                shares = λ x. (g.knows p).shares x ∙ sym ((mine.untouched p).shares (shares p l x));
+              })
+              (λ le. subst (KnowsPage (seat_of u p) (put_at no_held u.held p)) (sym (outside p le).0) (g.knows p))
+              (cases_lt p w.core.shape.pages);
+          contents = λ f x. g.contents f x ∙ sym (mine.words f (held f ∙ x));
+          drafts = λ p x. g.drafts p x ∙ ap (λ (h : History). h.draft) (sym (histories p x));
+          latest = λ p x. g.latest p x ∙ sym (⊎_elim
+              (λ l. ⊎_elim (λ e. ap (λ (h : History). h.last) (mine.owned p (owns p l e))) (λ e. mine.shared p (shares p l e)) x)
+              (λ le. ap (λ (h : History). h.last) (outside p le).1)
+              (cases_lt p w.core.shape.pages));
+          pending = λ p x.
+              let k = g.pending p x in (
+                k.0,
+                λ t past.
+                    let same : w'.histories p ≡ w.histories p = histories p k.0 in
+                    ap (λ (h : History). h.draft) same ∙ k.1 t (omega arith) ∙ ap (λ (h : History). h.last.words) (sym same),
+              );
+          owed = λ p x. let k = g.owed p x in let below : p < w.core.next = k.2 in (k.0, k.1, omega arith, k.3);
+          next = λ x e.
+              let k = g.next x e in
+              let is : w.core.next ≡ x = k.1 in (
+                k.0,
+                ⊎_elim
+                    (λ l. mine.next (ap (λ n. ((w.core.pages n).seats j).exclusive) is ∙ owns x l k.0) ∙ is)
+                    (λ (le : w.core.shape.pages ≤ x). omega arith)
+                    (cases_lt x w.core.shape.pages),
+              );
+          translations = each-map _ _ (translation-moves w.core.pages w'.core.pages left.pages) u.translations g.translations;
+          words = each-map _ _ (were-moves w w' left.pages known more) u.log g.words;
+          ties = λ tells. each-map _ _ ties u.ties (g.ties tells);
+        }

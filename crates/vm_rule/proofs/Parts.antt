@@ -1,0 +1,161 @@
+-- A word of the table is written: the words of its kind change at one place, and all others stay.
+use Rattle.std.proofs.Common.{ℕ, ◌≡◌, ◌≢◌, ◌⊎◌, ◌+◌, ◌*◌, ◌<◌, ◌≤◌, List, ◌∷◌, length, zero, suc, refl, sym, ap, ◌∙◌, inl, inr, ⊎_elim, arith, slice_set}
+use Rattle.std.proofs.lemmas.Bool.{cases_eq, cases_lt, lt-ltb, le-ltb}
+use mathlib.Core.Path.{fun_ext}
+use Rattle.vm_core.specs.Fn.{at, upd}
+use Rattle.vm_core.proofs.Upd.{upd-same, upd-other}
+use Rattle.vm_core.proofs.At.{at_set}
+use Rattle.vm_rule.specs.declared.view.Origin.{Origin}
+use Rattle.vm_rule.specs.declared.view.Place.{Place}
+use Rattle.vm_rule.specs.declared.view.Place.TheVariants as places
+use Rattle.vm_rule.specs.Puts.{listed}
+use Rattle.vm_rule.specs.Layout.{Within, bundle_count, part, index_of, width, words_of, written}
+use Rattle.vm_rule.specs.Reading.{frame_words}
+
+-- a function that differs from f at k alone
+pub upd-is : {A : Type 0} (f g : ℕ → A) (k : ℕ) (x : A) → g k ≡ x → ((j : ℕ) → j ≢ k → g j ≡ f j) → g ≡ upd f k x
+upd-is f g k x here there =
+    fun_ext (λ j. ⊎_elim (λ e. ap g e ∙ here ∙ sym (ap (upd f k x) e ∙ upd-same f k x)) (λ ne. there j ne ∙ sym (upd-other f k x j ne)) (cases_eq j k))
+
+at-here : (words : List ℕ) (i x : ℕ) → i < length words → at 0 (slice_set words i x) i ≡ x
+at-here words i x lt = ap (λ f. f i) (at_set 0 words i x lt) ∙ upd-same (at 0 words) i x
+
+at-else : (words : List ℕ) (i x j : ℕ) → i < length words → j ≢ i → at 0 (slice_set words i x) j ≡ at 0 words j
+at-else words i x j lt ne = ap (λ f. f j) (at_set 0 words i x lt) ∙ upd-other (at 0 words) i x j ne
+
+-- the word is not one of the part
+part-else : (base n : ℕ) (words : List ℕ) (i x : ℕ) → i < length words → (i < base) ⊎ (base + n ≤ i) → part base n (slice_set words i x) ≡ part base n words
+unfolding part
+part-else base n words i x lt out =
+    fun_ext (λ k. ⊎_elim
+    (λ l. rw (lt-ltb k n l) (at-else words i x (base + k) lt (λ e. ⊎_elim (λ o. absurd (omega arith)) (λ o. absurd (omega arith)) out)))
+    (λ le. rw (le-ltb k n le) refl)
+    (cases_lt k n))
+
+-- the word is the k-th of the part
+pub part-here : (base n : ℕ) (words : List ℕ) (k i x : ℕ) → k < n → i < length words → base + k ≡ i → part base n (slice_set words i x) ≡ upd (part base n words) k x
+unfolding part
+part-here base n words k i x l lt e =
+    upd-is (part base n words) (part base n (slice_set words i x)) k x
+    (rw (lt-ltb k n l) (ap (at 0 (slice_set words i x)) e ∙ at-here words i x lt))
+    (λ j ne. ⊎_elim
+    (λ l'. rw (lt-ltb j n l') (at-else words i x (base + j) lt (λ e'. ne (omega arith))))
+    (λ le. rw (le-ltb j n le) refl)
+    (cases_lt j n))
+
+-- the value of a word within the table
+pub part-at : (base n : ℕ) (words : List ℕ) (k : ℕ) → k < n → part base n words k ≡ at 0 words (base + k)
+unfolding part
+part-at base n words k l = rw (lt-ltb k n l) refl
+
+-- one word is written
+pub words-written : (start : Origin) (words : List ℕ) (w : Place) (x : ℕ) → length words ≡ width start → Within start w → words_of start (slice_set words (index_of start w) x) ≡ written (words_of start words) w x
+words-written start words (places.State p) x wide l =
+    let lt : p < length words = omega arith in
+    λ i. record {
+      states = part-here 0 start.pages words p p x l lt (omega arith) i;
+      translations = part-else start.pages start.pages words p x lt (inl l) i;
+      faults = part-else (2 * start.pages) start.pages words p x lt (inl (omega arith)) i;
+      contents = part-else (3 * start.pages) (64 * start.frames) words p x lt (inl (omega arith)) i;
+      bundles = part-else (3 * start.pages + 64 * start.frames) (bundle_count start) words p x lt (inl (omega arith)) i;
+      next = at-else words p x (index_of start places.Next) lt (λ e. absurd (omega arith)) i;
+      hand = at-else words p x (index_of start places.Hand) lt (λ e. absurd (omega arith)) i;
+    }
+words-written start words (places.Translation p) x wide l =
+    let lt : start.pages + p < length words = omega arith in
+    λ i. record {
+      states = part-else 0 start.pages words (start.pages + p) x lt (inr (omega arith)) i;
+      translations = part-here start.pages start.pages words p (start.pages + p) x l lt refl i;
+      faults = part-else (2 * start.pages) start.pages words (start.pages + p) x lt (inl (omega arith)) i;
+      contents = part-else (3 * start.pages) (64 * start.frames) words (start.pages + p) x lt (inl (omega arith)) i;
+      bundles = part-else (3 * start.pages + 64 * start.frames) (bundle_count start) words (start.pages + p) x lt (inl (omega arith)) i;
+      next = at-else words (start.pages + p) x (index_of start places.Next) lt (λ e. absurd (omega arith)) i;
+      hand = at-else words (start.pages + p) x (index_of start places.Hand) lt (λ e. absurd (omega arith)) i;
+    }
+words-written start words (places.Fault p) x wide l =
+    let k : ℕ = 2 * start.pages + p in
+    let lt : k < length words = omega arith in
+    λ i. record {
+      states = part-else 0 start.pages words k x lt (inr (omega arith)) i;
+      translations = part-else start.pages start.pages words k x lt (inr (omega arith)) i;
+      faults = part-here (2 * start.pages) start.pages words p k x l lt refl i;
+      contents = part-else (3 * start.pages) (64 * start.frames) words k x lt (inl (omega arith)) i;
+      bundles = part-else (3 * start.pages + 64 * start.frames) (bundle_count start) words k x lt (inl (omega arith)) i;
+      next = at-else words k x (index_of start places.Next) lt (λ e. absurd (omega arith)) i;
+      hand = at-else words k x (index_of start places.Hand) lt (λ e. absurd (omega arith)) i;
+    }
+words-written start words (places.Content f n) x wide l =
+    let k : ℕ = 3 * start.pages + (64 * f + n) in
+    let frame : f < start.frames = l.0 in
+    let inside : n < 64 = l.1 in
+    let lt : k < length words = omega arith in
+    λ i. record {
+      states = part-else 0 start.pages words k x lt (inr (omega arith)) i;
+      translations = part-else start.pages start.pages words k x lt (inr (omega arith)) i;
+      faults = part-else (2 * start.pages) start.pages words k x lt (inr (omega arith)) i;
+      contents = part-here (3 * start.pages) (64 * start.frames) words (64 * f + n) k x (omega arith) lt refl i;
+      bundles = part-else (3 * start.pages + 64 * start.frames) (bundle_count start) words k x lt (inl (omega arith)) i;
+      next = at-else words k x (index_of start places.Next) lt (λ e. absurd (omega arith)) i;
+      hand = at-else words k x (index_of start places.Hand) lt (λ e. absurd (omega arith)) i;
+    }
+words-written start words (places.Bundle g) x wide l =
+    let k : ℕ = 3 * start.pages + 64 * start.frames + g in
+    let lt : k < length words = omega arith in
+    λ i. record {
+      states = part-else 0 start.pages words k x lt (inr (omega arith)) i;
+      translations = part-else start.pages start.pages words k x lt (inr (omega arith)) i;
+      faults = part-else (2 * start.pages) start.pages words k x lt (inr (omega arith)) i;
+      contents = part-else (3 * start.pages) (64 * start.frames) words k x lt (inr (omega arith)) i;
+      bundles = part-here (3 * start.pages + 64 * start.frames) (bundle_count start) words g k x l lt refl i;
+      next = at-else words k x (index_of start places.Next) lt (λ e. absurd (omega arith)) i;
+      hand = at-else words k x (index_of start places.Hand) lt (λ e. absurd (omega arith)) i;
+    }
+words-written start words places.Next x wide l =
+    let k : ℕ = index_of start places.Next in
+    let lt : k < length words = omega arith in
+    λ i. record {
+      states = part-else 0 start.pages words k x lt (inr (omega arith)) i;
+      translations = part-else start.pages start.pages words k x lt (inr (omega arith)) i;
+      faults = part-else (2 * start.pages) start.pages words k x lt (inr (omega arith)) i;
+      contents = part-else (3 * start.pages) (64 * start.frames) words k x lt (inr (omega arith)) i;
+      bundles = part-else (3 * start.pages + 64 * start.frames) (bundle_count start) words k x lt (inr (omega arith)) i;
+      next = at-here words k x lt i;
+      hand = at-else words k x (index_of start places.Hand) lt (λ e. absurd (omega arith)) i;
+    }
+words-written start words places.Hand x wide l =
+    let k : ℕ = index_of start places.Hand in
+    let lt : k < length words = omega arith in
+    λ i. record {
+      states = part-else 0 start.pages words k x lt (inr (omega arith)) i;
+      translations = part-else start.pages start.pages words k x lt (inr (omega arith)) i;
+      faults = part-else (2 * start.pages) start.pages words k x lt (inr (omega arith)) i;
+      contents = part-else (3 * start.pages) (64 * start.frames) words k x lt (inr (omega arith)) i;
+      bundles = part-else (3 * start.pages + 64 * start.frames) (bundle_count start) words k x lt (inr (omega arith)) i;
+      next = at-else words k x (index_of start places.Next) lt (λ e. absurd (omega arith)) i;
+      hand = at-here words k x lt i;
+    }
+
+-- the values below n, of functions that agree there
+pub listed-same : {A : Type 0} (n : ℕ) (f g : ℕ → A) → ((k : ℕ) → k < n → f k ≡ g k) → listed n f ≡ listed n g
+unfolding listed
+listed-same zero f g e = refl
+listed-same (suc n) f g e = λ i. e 0 (omega arith) i ∷ listed-same n (λ k. f (suc k)) (λ k. g (suc k)) (λ k l. e (suc k) (omega arith)) i
+
+pub listed-upd : {A : Type 0} (n : ℕ) (f : ℕ → A) (k : ℕ) (x : A) → k < n → listed n (upd f k x) ≡ slice_set (listed n f) k x
+unfolding listed
+listed-upd zero f k x l = absurd (omega arith)
+listed-upd (suc n) f zero x l = λ i. upd-same f 0 x i ∷ listed-same n (λ k. upd f 0 x (suc k)) (λ k. f (suc k)) (λ k _. upd-other f 0 x (suc k) (λ e. absurd (omega arith))) i
+listed-upd (suc n) f (suc k) x l =
+    (λ i. upd-other f (suc k) x 0 (λ e. absurd (omega arith)) i ∷ listed n (λ j. upd f (suc k) x (suc j)))
+    ∙ ap (λ (t : List _). f 0 ∷ t)
+    (ap (listed n) (upd-is (λ j. f (suc j)) (λ j. upd f (suc k) x (suc j)) k x (upd-same f (suc k) x) (λ j ne. upd-other f (suc k) x (suc j) (λ e. ne (omega arith))))
+    ∙ listed-upd n (λ j. f (suc j)) k x (omega arith))
+
+-- a word of frame f is written
+pub frame-written : (contents : ℕ → ℕ) (f i x : ℕ) → i < 64 → frame_words (upd contents (64 * f + i) x) ≡ upd (frame_words contents) f (slice_set (frame_words contents f) i x)
+unfolding frame_words
+frame-written contents f i x l =
+    upd-is (frame_words contents) (frame_words (upd contents (64 * f + i) x)) f (slice_set (frame_words contents f) i x)
+    (ap (listed 64) (upd-is (λ k. contents (64 * f + k)) (λ k. upd contents (64 * f + i) x (64 * f + k)) i x (upd-same contents (64 * f + i) x) (λ k ne. upd-other contents (64 * f + i) x (64 * f + k) (λ e. ne (omega arith))))
+    ∙ listed-upd 64 (λ k. contents (64 * f + k)) i x l)
+    (λ g ne. listed-same 64 (λ k. upd contents (64 * f + i) x (64 * g + k)) (λ k. contents (64 * g + k)) (λ k lt. upd-other contents (64 * f + i) x (64 * g + k) (λ e. ne (omega arith))))

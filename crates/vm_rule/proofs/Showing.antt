@@ -1,0 +1,77 @@
+-- What a step of a pass that is an event of the core shows of itself: what the others know stays by the event's law, so it is the pass's own part alone.
+use Rattle.std.proofs.Common.{ℕ, Bool, true, false, Option, Some, List, [], ◌∷◌, ◌++◌, ◌≡◌, ◌≢◌, ◌⊎◌, ◌<◌, ◌≤◌, length, replicate, slice_set}
+use Rattle.atomic_table.specs.Table.{State as Table}
+use Rattle.vm_core.specs.declared.event.Event.{Event}
+use Rattle.vm_core.specs.History.{world_after}
+use Rattle.vm_core.specs.Step.{Legal}
+use Rattle.vm_owner.specs.declared.Entry.{Entry}
+use Rattle.vm_owner.specs.Kept.{Start, Kept}
+use Rattle.vm_owner.specs.Numbers.{has}
+use Rattle.vm_block.specs.declared.stored.Stored.{Stored}
+use Rattle.vm_rule.specs.declared.view.Did.{Did}
+use Rattle.vm_rule.specs.declared.view.Origin.{Origin}
+use Rattle.vm_rule.specs.declared.view.Out.{Out}
+use Rattle.vm_rule.specs.declared.view.Release.{Release}
+use Rattle.vm_rule.specs.declared.view.Tie.{Tie}
+use Rattle.vm_rule.specs.declared.view.Translation.{Translation}
+use Rattle.vm_rule.specs.declared.view.View.{View}
+use Rattle.vm_rule.specs.Puts.{put_at, listed}
+use Rattle.vm_rule.specs.Layout.{Within, index_of, width}
+use Rattle.vm_rule.specs.Views.{Each, seat_of, draft_of, may_call}
+use Rattle.vm_rule.specs.Reading.{block_of, core_of, world_of, histories_of}
+use Rattle.vm_rule.specs.Rule.{KnowsPage, no_held, TranslationHolds, TieHolds, began_of, is_pending, kept_of, AreNext, ArePlain, Ruled}
+use Rattle.vm_rule.specs.Brought.{IsFoundAt, entry_of, brought}
+
+module _ {X B : Type 0} (stored : B → Stored) (keeps : Start → Kept X → Type 0) (tied : Start → ℕ → List ℕ → ℕ → List ℕ → Type 0) (start : Origin) (tells : Bool) where
+  -- the table after the step: these words, and this view of the pass
+  abbrev pub became : Table (Option B) (View X) → List ℕ → ℕ → View X → Table (Option B) (View X)
+  became s words id w = record { words = words; homes = s.homes; views = slice_set s.views id w }
+
+  -- the view after a step that made the changes of `inner`
+  abbrev pub after_step : (s : Table (Option B) (View X)) → Ruled stored keeps tied start tells s → List ℕ → List Release → List (Entry X) → Did → View X → View X
+  after_step s r words own entries did inner =
+      brought inner (r.releases ++ own) (r.history ++ entries) (record { words = words; blocks = listed start.pages (block_of stored s.homes s.views) }) did
+
+  -- what a step shows of itself
+  pub record Shows (s : Table (Option B) (View X)) (r : Ruled stored keeps tied start tells s) (id : ℕ) (v : View X) (words : List ℕ) (drafts : ℕ → List ℕ) (own : List Release) (entries : List (Entry X)) (did : Did) (inner : View X) (e : Event) : Type 0 where
+    -- it is this event of the core
+    pub wide : length words ≡ width start
+    pub spelled : ArePlain start words
+    pub legal : Legal (core_of stored start s) e
+    pub world : world_of stored start (r.releases ++ own) drafts (became s words id (after_step s r words own entries did inner)) ≡ world_after (world_of stored start r.releases r.drafts s) e
+    -- the step's place in the log: the word found there before, and the word left there
+    pub at : Within start did.at
+    pub found : IsFoundAt did.found (index_of start did.at) s.words
+    pub wrote : IsFoundAt did.wrote (index_of start did.at) words
+    -- what the view keeps
+    pub live : inner.live ≡ v.live
+    pub same_start : inner.start ≡ v.start
+    pub used : inner.used ≡ v.used
+    pub fresh : inner.fresh ≡ v.fresh
+    pub notes : inner.notes ≡ v.notes
+    pub log : inner.log ≡ v.log
+    pub out : inner.out ≡ v.out
+    pub calls : (o : Out) → v.out ≡ Some o → may_call (seat_of inner o.page) ≡ true
+    -- its entry, if there is one, and its releases, which have the next versions
+    pub entry : (entries ≡ []) ⊎ ((x : X) × (entries ≡ entry_of v x ∷ []))
+    pub mine : inner.mine ≡ v.mine ++ entries
+    pub next_versions : AreNext start r.releases own
+    pub zero : start.tells ≡ true → (p : ℕ) → (core_of stored start (became s words id (after_step s r words own entries did inner))).next ≤ p → p < start.pages → (histories_of start (r.releases ++ own) drafts p).last.words ≡ replicate 64 0
+    -- what it knows of what it holds
+    pub knows : (p : ℕ) → KnowsPage (seat_of inner p) (put_at no_held inner.held p) ((core_of stored start (became s words id (after_step s r words own entries did inner))).pages p)
+    pub contents : (f : ℕ) → has f inner.frames ≡ true → put_at [] inner.contents f ≡ (core_of stored start (became s words id (after_step s r words own entries did inner))).words f
+    pub drafted : (p : ℕ) → (seat_of inner p).exclusive ≡ true → draft_of inner p ≡ drafts p
+    pub pending : (p : ℕ) → has p inner.pending ≡ true → ((seat_of inner p).exclusive ≡ true)
+        × (start.tells ≡ true → (core_of stored start (became s words id (after_step s r words own entries did inner))).next ≤ p → drafts p ≡ (histories_of start (r.releases ++ own) drafts p).last.words)
+    pub owed : (p : ℕ) → has p inner.owed ≡ true → ((seat_of inner p).exclusive ≡ true) × (start.next ≤ p) × (p < (core_of stored start (became s words id (after_step s r words own entries did inner))).next) × (has p inner.pending ≡ false)
+    pub next : (x : ℕ) → inner.next ≡ Some x → ((seat_of inner x).exclusive ≡ true) × ((core_of stored start (became s words id (after_step s r words own entries did inner))).next ≡ x)
+    -- the translations and the ties that came to it
+    pub loaded : (l : List Translation) × (inner.translations ≡ l ++ v.translations) × Each (TranslationHolds (core_of stored start (became s words id (after_step s r words own entries did inner))).pages) l
+    pub tying : (l : List Tie) × (inner.ties ≡ l ++ v.ties)
+        × (start.tells ≡ true → Each (TieHolds tied (began_of start) (world_of stored start (r.releases ++ own) drafts (became s words id (after_step s r words own entries did inner))) (is_pending (slice_set s.views id (after_step s r words own entries did inner)))) l)
+    -- a page that is no member any more has another version
+    pub members : (p : ℕ) → has p v.pending ≡ true → has p inner.pending ≡ false
+        → ((core_of stored start (became s words id (after_step s r words own entries did inner))).pages p).version ≢ ((core_of stored start s).pages p).version
+    -- the layer above keeps its relation
+    pub owner : start.tells ≡ true → keeps (began_of start) (kept_of (world_of stored start r.releases r.drafts s) r.history s.views)
+        → keeps (began_of start) (kept_of (world_of stored start (r.releases ++ own) drafts (became s words id (after_step s r words own entries did inner))) (r.history ++ entries) (slice_set s.views id (after_step s r words own entries did inner)))

@@ -1,0 +1,102 @@
+-- The words that the steps of a pass found and left on a state word or on the next word tell of the table's words from then on.
+use Rattle.std.proofs.Common.{ℕ, true, true≢false, Option, Some, None, ◌≡◌, ◌≢◌, ◌<◌, ◌≤◌, sym, ap, ◌∙◌, arith, ⊎_elim}
+use Rattle.std.proofs.lemmas.Bool.{cases_Bool}
+use Rattle.std.proofs.lemmas.Bool.Decides.{nat_tests}
+use Rattle.atomic_table.specs.Table.{State as Table}
+use Rattle.vm_core.specs.Words.{state_of, version_of, LOCKED, EVICTED}
+use Rattle.vm_core.specs.State.{Page}
+use Rattle.vm_core.specs.StateActs.{is_readable}
+use Rattle.vm_core.specs.History.{World}
+use Rattle.vm_laws_others.specs.Leaves.{PageMoves}
+use Rattle.vm_block.specs.declared.stored.Stored.{Stored}
+use Rattle.vm_rule.specs.declared.view.Did.{Did}
+use Rattle.vm_rule.specs.declared.view.Origin.{Origin}
+use Rattle.vm_rule.specs.declared.view.Place.{Place}
+use Rattle.vm_rule.specs.declared.view.Place.TheVariants.{State, Translation, Fault, Content, Bundle, Next, Hand}
+use Rattle.vm_rule.specs.declared.view.View.{View}
+use Rattle.vm_rule.specs.Layout.{Within, index_of, at_state, at_next}
+use Rattle.vm_rule.specs.Reading.{core_of}
+use Rattle.vm_rule.specs.Rule.{WasWord, WasNext, WereWords}
+use Rattle.vm_rule.specs.Brought.{IsFoundAt}
+use Rattle.vm_rule.proofs.Found.{state-here, version-here, next-here}
+
+readable-free : (state : ℕ) → is_readable state ≡ true → (state ≢ LOCKED) × (state ≢ EVICTED)
+readable-free state e = ((λ l. grind (arith, nat_tests, e, l)), (λ l. grind (arith, nat_tests, e, l)))
+
+free-readable : (state : ℕ) → state ≤ EVICTED → state ≢ LOCKED → state ≢ EVICTED → is_readable state ≡ true
+free-readable state known locked evicted = grind (arith, nat_tests, known, locked, evicted)
+
+word-moves : (r r' : Page) → PageMoves r r' → r.state ≤ EVICTED → (word : Option ℕ) → WasWord r word → WasWord r' word
+word-moves r r' moves known None was = tt
+word-moves r r' moves known (Some word) was =
+    let up : r.version ≤ r'.version = moves.version in
+    let old : version_of word ≤ r.version = was.0 in (
+      omega arith,
+      λ closed at.
+          let same : r'.version ≡ r.version = omega arith in
+          ⊎_elim
+          (λ readable.
+          let free = readable-free r'.state readable in
+          let before = moves.still same free.0 free.1 in
+          absurd (true≢false (sym (free-readable r.state known before.0 before.1) ∙ was.1 closed (at ∙ same))))
+          (λ f. f)
+          (cases_Bool (is_readable r'.state)),
+      λ gone at.
+          let same : r'.version ≡ r.version = omega arith in
+          was.2 (moves.gone same gone) (at ∙ same),
+    )
+
+next-moves : (next next' : ℕ) → next ≤ next' → (word : Option ℕ) → WasNext next word → WasNext next' word
+next-moves next next' up None was = tt
+next-moves next next' up (Some word) was = omega arith
+
+at_state-map : (at : Place) (P Q : ℕ → Type 0) → ((p : ℕ) → P p → Q p) → at_state at P → at_state at Q
+at_state-map (State p) P Q f x = f p x
+at_state-map (Translation p) P Q f x = tt
+at_state-map (Fault p) P Q f x = tt
+at_state-map (Content g i) P Q f x = tt
+at_state-map (Bundle g) P Q f x = tt
+at_state-map Next P Q f x = tt
+at_state-map Hand P Q f x = tt
+
+at_next-map : (at : Place) (P Q : Type 0) → (P → Q) → at_next at P → at_next at Q
+at_next-map (State p) P Q f x = tt
+at_next-map (Translation p) P Q f x = tt
+at_next-map (Fault p) P Q f x = tt
+at_next-map (Content g i) P Q f x = tt
+at_next-map (Bundle g) P Q f x = tt
+at_next-map Next P Q f x = f x
+at_next-map Hand P Q f x = tt
+
+-- what was a word of the table was one after an event too
+pub were-moves : (w w' : World) → ((p : ℕ) → PageMoves (w.core.pages p) (w'.core.pages p)) → ((p : ℕ) → (w.core.pages p).state ≤ EVICTED) → w.core.next ≤ w'.core.next → (d : Did) → WereWords w d → WereWords w' d
+were-moves w w' moves known up d x = (
+  at_state-map d.at _ _ (λ p y. (word-moves (w.core.pages p) (w'.core.pages p) (moves p) (known p) d.found y.0, word-moves (w.core.pages p) (w'.core.pages p) (moves p) (known p) d.wrote y.1)) x.0,
+  at_next-map d.at _ _ (λ y. (next-moves w.core.next w'.core.next up d.found y.0, next-moves w.core.next w'.core.next up d.wrote y.1)) x.1,
+)
+
+module _ {X B : Type 0} (stored : B → Stored) (start : Origin) where
+  -- the word that stands at a page's place
+  was-word : (s : Table (Option B) (View X)) (p : ℕ) → p < start.pages → (word : Option ℕ) → IsFoundAt word (index_of start (State p)) s.words → WasWord ((core_of stored start s).pages p) word
+  was-word s p l None e = tt
+  was-word s p l (Some word) e =
+      let version : version_of word ≡ ((core_of stored start s).pages p).version = ap version_of e ∙ sym (version-here stored start s p l) in
+      let state : ((core_of stored start s).pages p).state ≡ state_of word = state-here stored start s p l ∙ ap state_of (sym e) in
+      (omega arith, λ closed _. ap is_readable state ∙ closed, λ gone _. sym state ∙ gone)
+
+  was-next : (s : Table (Option B) (View X)) (word : Option ℕ) → IsFoundAt word (index_of start Next) s.words → WasNext (core_of stored start s).next word
+  was-next s None e = tt
+  was-next s (Some word) e = let is : word ≡ (core_of stored start s).next = e ∙ sym (next-here stored start s) in omega arith
+
+  -- what a step found before the event, and what it left after it
+  pub were-did : (s s' : Table (Option B) (View X)) → ((p : ℕ) → PageMoves ((core_of stored start s).pages p) ((core_of stored start s').pages p)) → ((p : ℕ) → ((core_of stored start s).pages p).state ≤ EVICTED) → (core_of stored start s).next ≤ (core_of stored start s').next
+      → (at : Place) (found wrote : Option ℕ) → Within start at → IsFoundAt found (index_of start at) s.words → IsFoundAt wrote (index_of start at) s'.words
+      → at_state at (λ p. WasWord ((core_of stored start s').pages p) found × WasWord ((core_of stored start s').pages p) wrote) × at_next at (WasNext (core_of stored start s').next found × WasNext (core_of stored start s').next wrote)
+  were-did s s' moves known up (State p) found wrote l e e' =
+      ((word-moves ((core_of stored start s).pages p) ((core_of stored start s').pages p) (moves p) (known p) found (was-word s p l found e), was-word s' p l wrote e'), tt)
+  were-did s s' moves known up (Translation p) found wrote l e e' = (tt, tt)
+  were-did s s' moves known up (Fault p) found wrote l e e' = (tt, tt)
+  were-did s s' moves known up (Content f i) found wrote l e e' = (tt, tt)
+  were-did s s' moves known up (Bundle g) found wrote l e e' = (tt, tt)
+  were-did s s' moves known up Next found wrote l e e' = (tt, (next-moves (core_of stored start s).next (core_of stored start s').next up found (was-next s found e), was-next s' wrote e'))
+  were-did s s' moves known up Hand found wrote l e e' = (tt, tt)

@@ -1,0 +1,55 @@
+-- The rule of a table that is made with its shape. How it began, with its first words and blocks, the shape has for proofs alone: the first
+-- step of its first pass learns them. Until then the first view stands for nothing but its parts.
+use Rattle.std.specs.Prelude.{ℕ, Bool, false, Option, List, [], ◌∷◌, ◌≡◌, ◌⊎◌, slice_index}
+use Rattle.atomic_table.specs.Table.{State as Table, Me, Step}
+use Rattle.vm_block.specs.declared.stored.Stored.{Stored}
+use Rattle.vm_owner.specs.Kept.{Start, Kept}
+use Rattle.vm_rule.specs.declared.view.Origin.{Origin}
+use Rattle.vm_rule.specs.declared.view.Place.TheVariants as places
+use Rattle.vm_rule.specs.declared.view.Shape.{Shape}
+use Rattle.vm_rule.specs.declared.view.View.{View}
+use Rattle.vm_rule.specs.Views.{numbers, view_from, first_view}
+use Rattle.vm_rule.specs.Rule.{snapshot_of, Ruled}
+use Rattle.vm_rule.specs.Brought.{brought}
+use Rattle.vm_rule.specs.Log.{did_load}
+
+-- the shape of a table without pages
+abbrev pub no_shape : Shape
+no_shape =
+    record {
+      pages = 0;
+      frames = 0;
+      version = 0;
+      next = 0;
+      began = record { origin = record { tells = false; pages = 0; frames = 0; version = 0; next = 0; contents = []; bounds = [] }; snapshot = record { words = []; blocks = [] } };
+    }
+
+-- the table began with this shape, and just so
+pub record HasShape (shape : Shape) (start : Origin) : Type 0 where
+  pub same : start ≡ shape.began.origin
+  pub pages : start.pages ≡ shape.pages
+  pub frames : start.frames ≡ shape.frames
+  pub version : start.version ≡ shape.version
+  pub next : start.next ≡ shape.next
+
+module _ {X : Type 0} where
+  -- the first pass before its first step: it has all parts, and does not live yet. How the table began it has for that step to tell
+  abbrev pub unborn : Shape → View X
+  unborn shape = record (view_from false shape.began.origin (0 ∷ []) (numbers 1 4294967295)) { snapshot = shape.began.snapshot }
+
+  -- and after it: it has loaded the first state word, and knows how the table began
+  abbrev pub begun : View X → View X
+  begun v = brought (first_view v.start) [] [] v.snapshot (did_load (places.State 0) (slice_index v.snapshot.words 0))
+
+  -- what that step tells
+  abbrev pub begin_play : {S : Type 0} → Step S → Me S (View X) → ℕ → Me S (View X) → Type 0
+  begin_play step m found m' = (m'.0 ≡ begun m.0) × (m'.1 ≡ m.1)
+
+  module _ {B : Type 0} (stored : B → Stored) (keeps : Start → Kept X → Type 0) (tied : Start → ℕ → List ℕ → ℕ → List ℕ → Type 0) where
+    -- the table meets the rule; or it has its first words and blocks, and would meet the rule with the first pass's view
+    pub record Stands (shape : Shape) (tells : Bool) (s : Table (Option B) (View X)) : Type 0 where
+      pub start : Origin
+      pub is_shape : HasShape shape start
+      pub rule :
+          Ruled stored keeps tied start tells s
+          ⊎ ((s.views ≡ unborn shape ∷ []) × Ruled stored keeps tied start tells (record s { views = first_view start ∷ [] }) × (snapshot_of stored start s ≡ shape.began.snapshot))

@@ -1,0 +1,89 @@
+-- What the steps on locks tell: an exclusive lock or a share that is tried, and a share that is given up. A step that expects a word
+-- changes the view only where it found that word.
+use Rattle.std.specs.Prelude.{ℕ, Bool, true, false, Some, None, List, [], ◌≡◌, ◌≢◌, ◌+◌, ◌-◌, ◌^◌, ◌<◌, ◌≤◌, ◌==◌, ◌||◌, nat_lt, length, if◌then◌else◌, IsSome}
+use Rattle.vm_core.specs.declared.event.Mapping.{Mapping}
+use Rattle.vm_core.specs.declared.event.Open.{Open}
+use Rattle.vm_core.specs.declared.event.Seat.{Seat}
+use Rattle.vm_core.specs.Words.{state_of, version_of, word_of, LOCKED, EVICTED}
+use Rattle.vm_core.specs.StateActs.{unshared, one_more}
+use Rattle.vm_core.specs.Inv.{LoadsAre}
+use Rattle.vm_owner.specs.Kept.{Start}
+use Rattle.vm_rule.specs.declared.view.Held.{Held}
+use Rattle.vm_rule.specs.declared.view.Place.TheVariants as places
+use Rattle.vm_rule.specs.declared.view.View.{View}
+use Rattle.vm_rule.specs.Puts.{put_at, put}
+use Rattle.vm_rule.specs.Views.{Each, seat_of, loads_at}
+use Rattle.vm_rule.specs.Reading.{last_of}
+use Rattle.vm_rule.specs.Rule.{began_of, no_held}
+use Rattle.vm_rule.specs.Brought.{Brings}
+use Rattle.vm_rule.specs.Log.{did_exchange, did_change}
+use Rattle.vm_rule.specs.Looks.{IsSinceAll, IsOlder}
+
+-- what a lock tells that was taken at this word, while the page had these last words: whether the page is resident, and where; its fault
+-- word; and that the block of a page that is clean or not resident has its last words
+pub record IsHeldAt (expects frames : ℕ) (tells : Bool) (words : List ℕ) (h : Held) : Type 0 where
+  pub empty : state_of expects ≡ EVICTED → h.mapping ≡ None
+  pub resident : state_of expects ≢ EVICTED → IsSome h.mapping
+  pub inside : (m : Mapping) → h.mapping ≡ Some m → m.frame < frames
+  pub told : h.fault ≡ h.block.count
+  pub device : tells ≡ true → ((m : Mapping) → h.mapping ≡ Some m → m.dirty ≡ false) → h.block.words ≡ words
+
+-- the seat has the page locked
+abbrev pub has_lock : Seat → Bool
+has_lock s = s.exclusive || (s.writing || nat_lt 0 s.shares)
+
+module _ {X : Type 0} where
+  -- what a lock of p validates that was taken at a word of this version, while p had these last words: the pass's open read, and the ties
+  pub record Validates (tied : Start → ℕ → List ℕ → ℕ → List ℕ → Type 0) (p version : ℕ) (words : List ℕ) (v : View X) : Type 0 where
+    pub valid : (o : Open) → (seat_of v p).reading ≡ Some o → o.version ≡ version → LoadsAre words (loads_at v p)
+    pub holds : Each (λ t. t.page ≡ p → t.version ≡ version → tied (began_of v.start) t.of t.words p words) v.ties
+    pub itself : tied (began_of v.start) p words p words
+
+  -- p is locked exclusively: the open read is closed, the draft is the last words, and the pass knows the page
+  abbrev pub locked_view : ℕ → Held → List ℕ → View X → View X
+  locked_view p h words v =
+      record v {
+        seats = put p (record (seat_of v p) { exclusive = true; reading = None }) v.seats;
+        loads = put p [] v.loads;
+        held = put p h v.held;
+        drafts = put p words v.drafts;
+      }
+
+  pub record LockTold (tied : Start → ℕ → List ℕ → ℕ → List ℕ → Type 0) (p expects found : ℕ) (v w : View X) : Type 0 where
+    pub held : Held
+    pub brings : Brings (did_exchange (places.State p) expects found (word_of LOCKED (version_of expects))) [] [] v (if found == expects then locked_view p held (last_of w p).words v else v) w
+    pub version : (last_of w p).version ≡ version_of found
+    pub since : IsSinceAll p found v.log
+    pub older : IsOlder found (seat_of v p).reading
+    pub size : length (last_of w p).words ≡ 64
+    pub stands : found ≡ expects → IsHeldAt expects v.start.frames v.start.tells (last_of w p).words held
+    pub validates : v.start.tells ≡ true → found ≡ expects → Validates tied p (version_of expects) (last_of w p).words v
+
+  -- the pass has one share of p more: the open read is closed, and it knows the page, if it did not yet
+  abbrev pub shared_view : ℕ → Held → View X → View X
+  shared_view p h v =
+      record v {
+        seats = put p (record (seat_of v p) { shares = (seat_of v p).shares + 1; reading = None }) v.seats;
+        loads = put p [] v.loads;
+        held = if has_lock (seat_of v p) then v.held else put p h v.held;
+      }
+
+  pub record ShareTold (tied : Start → ℕ → List ℕ → ℕ → List ℕ → Type 0) (p expects found : ℕ) (v w : View X) : Type 0 where
+    pub held : Held
+    pub brings : Brings (did_exchange (places.State p) expects found (word_of (one_more (state_of expects)) (version_of expects))) [] [] v (if found == expects then shared_view p held v else v) w
+    pub version : (last_of w p).version ≡ version_of found
+    pub since : IsSinceAll p found v.log
+    pub older : IsOlder found (seat_of v p).reading
+    pub size : length (last_of w p).words ≡ 64
+    pub resident : found ≡ expects → IsSome (put_at no_held w.held p).mapping
+    pub inside : found ≡ expects → (m : Mapping) → (put_at no_held w.held p).mapping ≡ Some m → m.frame < v.start.frames
+    pub validates : v.start.tells ≡ true → found ≡ expects → Validates tied p (version_of expects) (last_of w p).words v
+
+  -- one share of p is given up
+  abbrev pub unshared_view : ℕ → View X → View X
+  unshared_view p v = record v { seats = put p (unshared (seat_of v p)) v.seats }
+
+  pub record UnshareTold (p found : ℕ) (v w : View X) : Type 0 where
+    pub brings : Brings (did_change (places.State p) found (found - 2 ^ 56)) [] [] v (unshared_view p v) w
+    pub version : (last_of w p).version ≡ version_of found
+    pub shared : 1 ≤ state_of found

@@ -1,0 +1,143 @@
+-- The words, the blocks and the views, read together: one state of the core, with the versions of its pages.
+use Rattle.std.specs.Prelude.{ℕ, Bool, Option, Some, None, List, [], ◌∷◌, ◌++◌, ◌+◌, ◌*◌, ◌==◌, nat_lt, replicate, length, if◌then◌else◌}
+use mathlib.Core.Option as maybe
+use Rattle.atomic_table.specs.Table.{State as Table}
+use Rattle.vm_core.specs.declared.event.Seat.{Seat}
+use Rattle.vm_core.specs.Fn.{at}
+use Rattle.vm_core.specs.Words.{state_of, version_of}
+use Rattle.vm_core.specs.FrameActs.{mapping_of}
+use Rattle.vm_core.specs.Start.{outside_page}
+use Rattle.vm_core.specs.State.{Page, State}
+use Rattle.vm_core.specs.History.{History, Version, World}
+use Rattle.vm_owner.specs.Numbers.{has}
+use Rattle.vm_block.specs.declared.stored.Stored.{Stored}
+use Rattle.vm_rule.specs.declared.view.Origin.{Origin}
+use Rattle.vm_rule.specs.declared.view.Out.{Out}
+use Rattle.vm_rule.specs.declared.view.Release.{Release}
+use Rattle.vm_rule.specs.declared.view.View.{View}
+use Rattle.vm_rule.specs.Puts.{listed}
+use Rattle.vm_rule.specs.Layout.{Words, words_of}
+use Rattle.vm_rule.specs.Views.{spent, seat_of, loads_at}
+
+-- ---- pages and frames
+
+-- the words of frame f
+unfoldable pub frame_words : (ℕ → ℕ) → ℕ → List ℕ
+frame_words contents f = listed 64 (λ i. contents (64 * f + i))
+
+-- page p from its words, its block and the seats
+abbrev pub page_from : Words → (ℕ → Stored) → (ℕ → ℕ → Seat) → ℕ → Page
+page_from r blocks seats p =
+    record {
+      state = state_of (r.states p);
+      version = version_of (r.states p);
+      trans = mapping_of (r.translations p);
+      fault = r.faults p;
+      count = (blocks p).count;
+      block = (blocks p).words;
+      seats = seats p;
+    }
+
+unfoldable pub pages_from : ℕ → Words → (ℕ → Stored) → (ℕ → ℕ → Seat) → ℕ → Page
+pages_from pages r blocks seats p = if nat_lt p pages then page_from r blocks seats p else outside_page
+
+-- the core state; its actors are the passes
+abbrev pub core_from : Origin → ℕ → Words → (ℕ → Stored) → (ℕ → ℕ → Seat) → (ℕ → ℕ → Bool) → State
+core_from start actors r blocks seats held =
+    record {
+      shape = record { pages = start.pages; frames = start.frames; actors = actors; next = start.next };
+      tells = start.tells;
+      pages = pages_from start.pages r blocks seats;
+      words = frame_words r.contents;
+      bundles = r.bundles;
+      held = held;
+      next = r.next;
+      hand = r.hand;
+    }
+
+-- ---- versions
+
+-- the first version of page p: the words that it had at the start; past the last page stand zeros
+abbrev pub first_history : Origin → ℕ → History
+first_history start p =
+    record {
+      older = [];
+      last = record { version = if nat_lt p start.pages then start.version else 0; words = if nat_lt p start.pages then at (replicate 64 0) start.contents p else replicate 64 0 };
+      draft = [];
+    }
+
+abbrev pub pushed : History → Release → History
+pushed h r = record h { older = h.older ++ h.last ∷ []; last = record { version = r.version; words = r.words } }
+
+-- the history after those of the releases that are of page p
+abbrev pub after_releases : ℕ → History → List Release → History
+after_releases p h [] = h
+after_releases p h (r ∷ rs) = after_releases p (if r.page == p then pushed h r else h) rs
+
+-- the versions of page p: the first one and those released, with the draft
+unfoldable pub histories_of : Origin → List Release → (ℕ → List ℕ) → ℕ → History
+histories_of start releases drafts p = record (after_releases p (first_history start p) releases) { draft = drafts p }
+
+-- the last version of page p after the releases
+abbrev pub last_in : Origin → List Release → ℕ → Version
+last_in start releases p = (after_releases p (first_history start p) releases).last
+
+-- ---- blocks
+
+abbrev pub no_block : Stored
+no_block = record { words = replicate 64 0; count = 0; bound = 0; reads = 0; writes = 0 }
+
+-- the block at home
+abbrev pub at_home : {B : Type 0} → maybe.Option (Option B) → Option B
+at_home maybe.none = None
+at_home (maybe.some b) = b
+
+abbrev pub home : {B : Type 0} → List (maybe.Option (Option B)) → ℕ → Option B
+home homes p = at_home (at maybe.none homes p)
+
+-- the block that is out, if it is the page's
+abbrev pub out_or : Option Out → ℕ → Option Stored → Option Stored
+out_or None p d = d
+out_or (Some o) p d = if o.page == p then Some o.block else d
+
+-- the block at home, or else as it was taken out
+abbrev pub known : {B : Type 0} → (B → Stored) → Option B → Option Stored → Stored
+known stored (Some b) o = stored b
+known stored None (Some s) = s
+known stored None None = no_block
+
+-- ---- all together
+
+module _ {X : Type 0} where
+  -- what actor a has of page p
+  abbrev pub seats_of : List (View X) → ℕ → ℕ → Seat
+  seats_of views p a = seat_of (at spent views a) p
+
+  abbrev pub loads_of : List (View X) → ℕ → ℕ → List (ℕ × ℕ)
+  loads_of views p a = loads_at (at spent views a) p
+
+  abbrev pub held_of : List (View X) → ℕ → ℕ → Bool
+  held_of views a = λ f. has f (at spent views a).frames
+
+  -- the block of page p that a pass has out
+  abbrev pub out_of : List (View X) → ℕ → Option Stored
+  out_of [] p = None
+  out_of (v ∷ vs) p = out_or v.out p (out_of vs p)
+
+  -- the last version of page p, as far as the view knows the releases
+  abbrev pub last_of : View X → ℕ → Version
+  last_of v p = last_in v.start v.releases p
+
+  module _ {B : Type 0} (stored : B → Stored) where
+    -- the block of page p, at home or as it was taken out
+    unfoldable pub block_of : List (maybe.Option (Option B)) → List (View X) → ℕ → Stored
+    block_of homes views p = known stored (home homes p) (out_of views p)
+
+    -- the core state that the table shows
+    abbrev pub core_of : Origin → Table (Option B) (View X) → State
+    core_of start s = core_from start (length s.views) (words_of start s.words) (block_of s.homes s.views) (seats_of s.views) (held_of s.views)
+
+    -- with the versions of its pages and the loads of the open reads
+    abbrev pub world_of : Origin → List Release → (ℕ → List ℕ) → Table (Option B) (View X) → World
+    world_of start releases drafts s =
+        record { core = core_of start s; histories = histories_of start releases drafts; loads = loads_of s.views }

@@ -1,0 +1,44 @@
+-- What a release tells: the draft is the next version. The first release of a group makes the drafts of all its members logical.
+use Rattle.std.specs.Prelude.{ℕ, false, Option, Some, None, List, [], ◌∷◌, ◌++◌, ◌+◌, ◌==◌, if◌then◌else◌}
+use Rattle.vm_owner.specs.Kept.{Change}
+use Rattle.vm_owner.specs.Numbers.{has, without}
+use Rattle.vm_rule.specs.declared.view.Place.TheVariants as places
+use Rattle.vm_rule.specs.declared.view.View.{View}
+use Rattle.vm_rule.specs.Puts.{put}
+use Rattle.vm_rule.specs.Views.{seat_of, draft_of}
+use Rattle.vm_rule.specs.Reading.{last_of}
+use Rattle.vm_rule.specs.Brought.{entries_of, Brings}
+use Rattle.vm_rule.specs.Log.{did_store}
+
+-- without all of these
+abbrev pub without_all : List ℕ → List ℕ → List ℕ
+without_all [] owed = owed
+without_all (q ∷ qs) owed = without_all qs (without q owed)
+
+-- the loaded next word is no more known once its page is given up
+abbrev pub next_after : ℕ → Option ℕ → Option ℕ
+next_after p None = None
+next_after p (Some x) = if x == p then None else Some x
+
+module _ {X : Type 0} where
+  -- the change that a release makes of page q, whose draft the pass has
+  abbrev pub change_of : View X → ℕ → Change
+  change_of v q = record { page = q; old = (last_of v q).words; new = draft_of v q }
+
+  abbrev pub changes_of : View X → List ℕ → List Change
+  changes_of v [] = []
+  changes_of v (q ∷ qs) = change_of v q ∷ changes_of v qs
+
+  -- p is released: alone, or first of a group, whose other members are pending then; or as a pending member
+  abbrev pub released_view : ℕ → List ℕ → Option X → View X → View X
+  released_view p rest said v =
+      record v {
+        seats = put p (record (seat_of v p) { exclusive = false }) v.seats;
+        pending = if has p v.pending then without p v.pending else rest ++ v.pending;
+        owed = without_all (p ∷ rest) v.owed;
+        next = next_after p v.next;
+        mine = v.mine ++ entries_of v said;
+      }
+
+  pub record ReleaseTold (p version : ℕ) (rest : List ℕ) (said : Option X) (v w : View X) : Type 0 where
+    pub brings : Brings (did_store (places.State p) (version + 1)) (record { page = p; version = version + 1; words = draft_of v p } ∷ []) (entries_of v said) v (released_view p rest said v) w

@@ -1,0 +1,61 @@
+// The shared table, and a caller's token for it.
+ghost use Rattle.std.specs.Prelude.{◌≡◌, ◌≤◌, length, true, []};
+ghost use Rattle.vm_rule.specs.Layout.{width_of};
+ghost use Rattle.vm_rule.specs.Views.{view_of};
+
+use crate::view::{Shape, View};
+use atomic_table::{Badge, Table, TableRule};
+use std::alloc::Global;
+use std::marker::PhantomData;
+use vm_block::Block;
+use vm_owner::Owner;
+
+/// The rule of the table, for an owner and a kind of block.
+pub struct Law<U, B> {
+    marker: PhantomData<(U, B)>,
+}
+
+impl<U: Owner, B: Block> TableRule<Option<B>, View<U::Said>, Shape> for Law<U, B> {
+    ghost use Rattle.vm_rule.specs.Begun.{Stands, unborn};
+
+    ghost holds = { λ shape s. Stands B.stored U.keeps U.tied shape B.tells s };
+
+    ghost first = { unborn };
+}
+
+/// The shared words of a table, and its slots with the blocks: all passes step on them through a `&`.
+pub struct Words<U: Owner, B: Block> {
+    pub table: Table<Option<B>, View<U::Said>, Shape, Law<U, B>, Global>,
+    pub pages: usize,
+    pub frames: usize,
+    pub ghost shape: { (pages ≡ table.shared.key.pages) × (frames ≡ table.shared.key.frames) × (pages ≤ 65536) × (frames ≤ 65536) },
+    pub ghost wide: { (table.shared.table_id.words ≡ width_of table.shared.key.pages table.shared.key.frames) × (table.shared.table_id.slots ≡ table.shared.key.pages) },
+}
+
+/// A caller's token: what it knows and holds of one table. It has no bytes.
+pub struct Pass<U: Owner> {
+    pub badge: Badge<View<U::Said>>,
+    pub ghost one: { length badge.views ≡ 1 },
+    pub ghost live: { (view_of badge.views).live ≡ true },
+    pub ghost settled: { ((view_of badge.views).told_releases ≡ []) × ((view_of badge.views).told ≡ []) },
+}
+
+// A table that is let go drops the blocks that are at home.
+impl<U: Owner, B: Block + Drop> Drop for Words<U, B> {
+    fn drop(self) {
+        let Words {
+            table,
+            pages: _,
+            frames: _,
+        } = self;
+        drop(table);
+    }
+}
+
+// What a pass holds that is let go stays held.
+impl<U: Owner> Drop for Pass<U> {
+    fn drop(self) {
+        let Pass { badge } = self;
+        drop(badge);
+    }
+}

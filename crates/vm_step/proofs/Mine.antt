@@ -1,0 +1,80 @@
+-- What the rule says of the pages that a pass holds exclusively: where they stand, what is known of them, and that no other view says a thing of them.
+use Rattle.std.proofs.Common.{ℕ, ◌≡◌, ◌≢◌, ◌<◌, ◌≤◌, List, refl, sym, ap, ◌∙◌, ⊎_elim, slice_set, true, false, true≢false, Bool, Option, Some, None}
+use Rattle.std.proofs.lemmas.Bool.{false≢true, cases_Bool, cases_lt, le-ltb}
+use mathlib.Core.Option.{some, some-injective}
+use lib.ListN.{get_elem?}
+use Rattle.atomic_table.specs.Table.{State as Table}
+use Rattle.atomic_table.proofs.Lists.{at_set}
+use Rattle.vm_core.specs.declared.event.Mapping.{Mapping}
+use Rattle.vm_core.specs.Start.{outside_page}
+use Rattle.vm_core.specs.State.{Page}
+use Rattle.vm_owner.specs.Kept.{Start, Kept}
+use Rattle.vm_owner.specs.Numbers.{has}
+use Rattle.vm_block.specs.declared.stored.Stored.{Stored}
+use Rattle.vm_rule.specs.declared.view.Origin.{Origin}
+use Rattle.vm_rule.specs.declared.view.View.{View}
+use Rattle.vm_rule.specs.Puts.{put_at}
+use Rattle.vm_rule.specs.Views.{any, seat_of, may_call, spent}
+use Rattle.vm_rule.specs.Reading.{pages_from, core_of}
+use Rattle.vm_rule.specs.Rule.{no_held, is_pending, is_owed, Ruled}
+use Rattle.vm_rule.proofs.Facts.{any-true, caller-here}
+
+module _ {X B : Type 0} (stored : B → Stored) (keeps : Start → Kept X → Type 0) (tied : Start → ℕ → List ℕ → ℕ → List ℕ → Type 0) (start : Origin) (tells : Bool) (s : Table (Option B) (View X)) (r : Ruled stored keeps tied start tells s) (id : ℕ) (v : View X) (there : get_elem? s.views id ≡ some v) (live : v.live ≡ true) where
+  -- past the last page stands a page that is always the same
+  outside : (p : ℕ) → start.pages ≤ p → (core_of stored start s).pages p ≡ outside_page
+  unfolding pages_from
+  outside p le = rw (le-ltb p start.pages le) refl
+
+  -- a page that the pass knows to stand in a frame is one of the table's, and stands there
+  pub stands-known : (p : ℕ) (m : Mapping) → (seat_of v p).exclusive ≡ true → (put_at no_held v.held p).mapping ≡ Some m → (p < start.pages) × (((core_of stored start s).pages p).trans ≡ Some m)
+  stands-known p m owns at =
+      let calls : may_call (seat_of v p) ≡ true = rw owns refl in
+      let is : ((core_of stored start s).pages p).trans ≡ Some m = sym (((r.known id v there live).knows p).calls calls).0 ∙ at in (
+        ⊎_elim (λ l. l) (λ le. absurd (let none : None ≡ Some m = sym (ap (λ (y : Page). y.trans) (outside p le)) ∙ is in cc)) (cases_lt p start.pages),
+        is,
+      )
+
+  -- where a view says so only of a page that it holds exclusively, and some view says it of this page, it is the pass's
+  pub holder-says : (f : View X → Bool) (p : ℕ) → p < start.pages → (seat_of v p).exclusive ≡ true → f spent ≡ false
+      → ((j : ℕ) (u : View X) → get_elem? s.views j ≡ some u → u.live ≡ true → f u ≡ true → (seat_of u p).exclusive ≡ true) → any f s.views ≡ true → f v ≡ true
+  holder-says f p l owns none holds e =
+      let k = any-true f s.views e in
+      let on : k.1.live ≡ true = ⊎_elim (λ t. t) (λ off. absurd (false≢true (sym none ∙ ap f (sym (r.parts.spent k.0 k.1 k.2 off)) ∙ k.3))) (cases_Bool k.1.live) in
+      let theirs : may_call (seat_of k.1 p) ≡ true = rw (holds k.0 k.1 k.2 on k.3) refl in
+      let same : k.0 ≡ id = caller-here stored start s id k.0 p v k.1 (r.inv.pages p).locks l there (rw owns refl) k.2 theirs in
+      let here : some v ≡ some k.1 = sym there ∙ ap (λ n. get_elem? s.views n) (sym same) ∙ k.2 in
+      ap f (some-injective v k.1 here) ∙ k.3
+
+  -- a page that the pass holds is a member still to be released, or is owed, only if its own view says so
+  pub member-mine : (p : ℕ) → p < start.pages → (seat_of v p).exclusive ≡ true → is_pending s.views p ≡ true → has p v.pending ≡ true
+  member-mine p l owns e = holder-says (λ u. has p u.pending) p l owns refl (λ j u at on x. ((r.known j u at on).pending p x).0) e
+
+  pub owed-mine : (p : ℕ) → p < start.pages → (seat_of v p).exclusive ≡ true → is_owed s.views p ≡ true → has p v.owed ≡ true
+  owed-mine p l owns e = holder-says (λ u. has p u.owed) p l owns refl (λ j u at on x. ((r.known j u at on).owed p x).0) e
+
+  -- after a step of the pass, the same is so of its view then
+  pub holder-said : (f : View X → Bool) (p : ℕ) (w : View X) → p < start.pages → (seat_of v p).exclusive ≡ true → f spent ≡ false
+      → ((j : ℕ) (u : View X) → get_elem? s.views j ≡ some u → u.live ≡ true → f u ≡ true → (seat_of u p).exclusive ≡ true) → any f (slice_set s.views id w) ≡ true → f w ≡ true
+  holder-said f p w l owns none holds e =
+      let k = any-true f (slice_set s.views id w) e in
+      ⊎_elim
+      (λ (t : (k.0 ≡ id) × (w ≡ k.1)). ap f t.1 ∙ k.3)
+      (λ (t : (k.0 ≢ id) × (get_elem? s.views k.0 ≡ some k.1)).
+      let on : k.1.live ≡ true = ⊎_elim (λ y. y) (λ off. absurd (false≢true (sym none ∙ ap f (sym (r.parts.spent k.0 k.1 t.1 off)) ∙ k.3))) (cases_Bool k.1.live) in
+      let theirs : may_call (seat_of k.1 p) ≡ true = rw (holds k.0 k.1 t.1 on k.3) refl in
+      absurd (t.0 (caller-here stored start s id k.0 p v k.1 (r.inv.pages p).locks l there (rw owns refl) t.1 theirs)))
+      (at_set s.views id k.0 w k.1 k.2)
+
+  pub not-member : (p : ℕ) (w : View X) → p < start.pages → (seat_of v p).exclusive ≡ true → has p w.pending ≡ false → is_pending (slice_set s.views id w) p ≡ false
+  not-member p w l owns none =
+      ⊎_elim
+      (λ t. absurd (true≢false (sym (holder-said (λ u. has p u.pending) p w l owns refl (λ j u at on x. ((r.known j u at on).pending p x).0) t) ∙ none)))
+      (λ f. f)
+      (cases_Bool (is_pending (slice_set s.views id w) p))
+
+  pub not-owed : (p : ℕ) (w : View X) → p < start.pages → (seat_of v p).exclusive ≡ true → has p w.owed ≡ false → is_owed (slice_set s.views id w) p ≡ false
+  not-owed p w l owns none =
+      ⊎_elim
+      (λ t. absurd (true≢false (sym (holder-said (λ u. has p u.owed) p w l owns refl (λ j u at on x. ((r.known j u at on).owed p x).0) t) ∙ none)))
+      (λ f. f)
+      (cases_Bool (is_owed (slice_set s.views id w) p))

@@ -1,0 +1,166 @@
+-- A step that releases no page and says nothing: the layer above sees nothing of it, so it shows little more than what the pass knows of pages.
+use Rattle.std.proofs.Common.{ℕ, ◌≡◌, ◌<◌, ◌≤◌, Bool, List, [], ◌++◌, length, refl, sym, ap, subst, ◌∙◌, inl, slice_set, true, true≢false, Option, Some}
+use mathlib.Core.Path.{fun_ext}
+use mathlib.Core.Option.{some}
+use lib.ListN.{get_elem?}
+use Rattle.atomic_table.specs.Table.{State as Table}
+use Rattle.vm_core.specs.declared.event.Event.{Event}
+use Rattle.vm_core.specs.declared.event.Seat.{Seat}
+use Rattle.vm_core.specs.Step.{Legal}
+use Rattle.vm_core.specs.History.{World, world_after}
+use Rattle.vm_owner.specs.Kept.{Start, Kept}
+use Rattle.vm_owner.specs.Numbers.{has}
+use Rattle.vm_block.specs.declared.stored.Stored.{Stored}
+use Rattle.vm_rule.specs.declared.view.Did.{Did}
+use Rattle.vm_rule.specs.declared.view.Held.{Held}
+use Rattle.vm_rule.specs.declared.view.Origin.{Origin}
+use Rattle.vm_rule.specs.declared.view.Out.{Out}
+use Rattle.vm_rule.specs.declared.view.Put.{Put}
+use Rattle.vm_rule.specs.declared.view.Translation.{Translation}
+use Rattle.vm_rule.specs.declared.view.View.{View}
+use Rattle.vm_rule.specs.Puts.{put_at, listed, chosen}
+use Rattle.vm_rule.specs.Layout.{Within, index_of, width}
+use Rattle.vm_rule.specs.Views.{Each, seat_of, draft_of, may_call}
+use Rattle.vm_rule.specs.Reading.{core_of, world_of, histories_of}
+use Rattle.vm_rule.specs.Rule.{KnowsPage, KnowsPages, no_held, TranslationHolds, began_of, logical, is_pending, is_owed, kept_of, ArePlain, Ruled}
+use Rattle.vm_rule.specs.Brought.{IsFoundAt}
+use Rattle.vm_rule.proofs.Entries.{append-none}
+use Rattle.vm_rule.proofs.Facts.{any-here}
+use Rattle.vm_rule.proofs.Views.{any-same}
+use Rattle.vm_rule.proofs.Worlds.{draft-is, last-same}
+use Rattle.vm_rule.proofs.Adding.{became, after_step, Shows}
+use Rattle.vm_step.proofs.Logical.{logical-same}
+
+module _ {X : Type 0} where
+  -- the parts of a view that such a step leaves
+  pub record IsQuiet (v inner : View X) : Type 0 where
+    pub live : inner.live ≡ v.live
+    pub start : inner.start ≡ v.start
+    pub used : inner.used ≡ v.used
+    pub fresh : inner.fresh ≡ v.fresh
+    pub notes : inner.notes ≡ v.notes
+    pub log : inner.log ≡ v.log
+    pub out : inner.out ≡ v.out
+    pub mine : inner.mine ≡ v.mine
+    pub frames : inner.frames ≡ v.frames
+    pub contents : inner.contents ≡ v.contents
+    pub pending : inner.pending ≡ v.pending
+    pub owed : inner.owed ≡ v.owed
+    pub next : inner.next ≡ v.next
+    pub ties : inner.ties ≡ v.ties
+
+  -- a step on a lock changes the seats, the loads, and what is known of the pages held
+  pub lock-quiet : (v : View X) (seats : List (Put Seat)) (loads : List (Put (List (ℕ × ℕ)))) (held : List (Put Held)) (drafts : List (Put (List ℕ))) → IsQuiet v (record v { seats = seats; loads = loads; held = held; drafts = drafts })
+  lock-quiet v seats loads held drafts = record { live = refl; start = refl; used = refl; fresh = refl; notes = refl; log = refl; out = refl; mine = refl; frames = refl; contents = refl; pending = refl; owed = refl; next = refl; ties = refl }
+
+module _ {X B : Type 0} (stored : B → Stored) (keeps : Start → Kept X → Type 0) (tied : Start → ℕ → List ℕ → ℕ → List ℕ → Type 0) (start : Origin) (tells : Bool) (s : Table (Option B) (View X)) (r : Ruled stored keeps tied start tells s) (id : ℕ) (v : View X) (words : List ℕ) (drafts : ℕ → List ℕ) (did : Did) (inner : View X) (e : Event) where
+  abbrev after : View X
+  after = after_step stored keeps tied start tells s r words [] [] did inner
+
+  abbrev new : Table (Option B) (View X)
+  new = became stored keeps tied start tells s words id after
+
+  abbrev old : World
+  old = world_of stored start r.releases r.drafts s
+
+  -- what is to be shown of it
+  pub record ShowsQuiet : Type 0 where
+    pub wide : length words ≡ width start
+    pub spelled : ArePlain start words
+    pub legal : Legal old.core e
+    pub world : world_of stored start r.releases drafts new ≡ world_after old e
+    pub at : Within start did.at
+    pub found : IsFoundAt did.found (index_of start did.at) s.words
+    pub wrote : IsFoundAt did.wrote (index_of start did.at) words
+    pub leaves : IsQuiet v inner
+    pub calls : (o : Out) → v.out ≡ Some o → may_call (seat_of inner o.page) ≡ true
+    -- the pass holds what it held; drafts stay, but of pages that were not held
+    pub holds : (q : ℕ) → (seat_of v q).exclusive ≡ true → (seat_of inner q).exclusive ≡ true
+    pub members : (q : ℕ) → is_pending s.views q ≡ true → drafts q ≡ r.drafts q
+    pub next : (world_after old e).core.next ≡ old.core.next
+    pub frames : (f : ℕ) → has f v.frames ≡ true → (world_after old e).core.words f ≡ old.core.words f
+    pub knows : (q : ℕ) → KnowsPage (seat_of inner q) (put_at no_held inner.held q) ((world_after old e).core.pages q)
+    pub drafted : (q : ℕ) → (seat_of inner q).exclusive ≡ true → draft_of inner q ≡ drafts q
+    pub loaded : (l : List Translation) × (inner.translations ≡ l ++ v.translations) × Each (TranslationHolds (world_after old e).core.pages) l
+
+  module _ (there : get_elem? s.views id ≡ some v) (live : v.live ≡ true) (sh : ShowsQuiet) where
+    world-told : world_of stored start (r.releases ++ []) drafts new ≡ world_after old e
+    world-told = ap (λ l. world_of stored start l drafts new) (append-none r.releases) ∙ sh.world
+
+    last-stays : (q : ℕ) → (histories_of start (r.releases ++ []) drafts q).last ≡ (histories_of start r.releases r.drafts q).last
+    last-stays q = ap (λ l. (histories_of start l drafts q).last) (append-none r.releases) ∙ last-same start r.releases drafts r.drafts q
+
+    pending-stays : is_pending (slice_set s.views id after) ≡ is_pending s.views
+    pending-stays = fun_ext (λ q. any-same (λ (y : View X). has q y.pending) s.views id v after there (ap (has q) sh.leaves.pending))
+
+    owed-stays : is_owed (slice_set s.views id after) ≡ is_owed s.views
+    owed-stays = fun_ext (λ q. any-same (λ (y : View X). has q y.owed) s.views id v after there (ap (has q) sh.leaves.owed))
+
+    logical-stays : logical (histories_of start (r.releases ++ []) drafts) (is_pending s.views) ≡ logical (histories_of start r.releases r.drafts) (is_pending s.views)
+    logical-stays =
+        fun_ext (λ q. logical-same (histories_of start (r.releases ++ []) drafts) (histories_of start r.releases r.drafts) (is_pending s.views) (is_pending s.views) q refl
+        (λ t. draft-is start (r.releases ++ []) drafts q ∙ sh.members q t ∙ sym (draft-is start r.releases r.drafts q))
+        (λ _. ap (λ x. x.words) (last-stays q)))
+
+    next-stays : (core_of stored start new).next ≡ old.core.next
+    next-stays = ap (λ (w : World). w.core.next) sh.world ∙ sh.next
+
+    kept-stays : kept_of (world_of stored start (r.releases ++ []) drafts new) (r.history ++ []) (slice_set s.views id after) ≡ kept_of old r.history s.views
+    kept-stays i = record {
+      pages = listed start.pages (((λ j. logical (histories_of start (r.releases ++ []) drafts) (pending-stays j)) ∙ logical-stays) i);
+      next = next-stays i;
+      owed = chosen start.pages (owed-stays i);
+      history = append-none r.history i;
+    }
+
+    pub quiet-shows : Shows stored keeps tied start tells s r id v words drafts [] [] did inner e
+    quiet-shows =
+        let k : KnowsPages tied start old (is_pending s.views) v = r.known id v there live in
+        record {
+          wide = sh.wide;
+          spelled = sh.spelled;
+          legal = sh.legal;
+          world = world-told;
+          at = sh.at;
+          found = sh.found;
+          wrote = sh.wrote;
+          live = sh.leaves.live;
+          same_start = sh.leaves.start;
+          used = sh.leaves.used;
+          fresh = sh.leaves.fresh;
+          notes = sh.leaves.notes;
+          log = sh.leaves.log;
+          out = sh.leaves.out;
+          calls = sh.calls;
+          entry = inl refl;
+          mine = sh.leaves.mine ∙ sym (append-none v.mine);
+          next_versions = tt;
+          zero = λ t q le l. ap (λ x. x.words) (last-stays q) ∙ r.zero t q (subst (λ n. n ≤ q) next-stays le) l;
+          knows = λ q. subst (λ (w : World). KnowsPage (seat_of inner q) (put_at no_held inner.held q) (w.core.pages q)) (sym sh.world) (sh.knows q);
+          contents = λ f x.
+              let has-it : has f v.frames ≡ true = sym (ap (has f) sh.leaves.frames) ∙ x in
+              ap (λ l. put_at [] l f) sh.leaves.contents ∙ k.contents f has-it ∙ sym (sh.frames f has-it) ∙ sym (ap (λ (w : World). w.core.words f) sh.world);
+          drafted = sh.drafted;
+          pending = λ q x.
+              let was : has q v.pending ≡ true = sym (ap (has q) sh.leaves.pending) ∙ x in
+              let m = k.pending q was in (
+                sh.holds q m.0,
+                λ t past.
+                    sh.members q (any-here (λ (y : View X). has q y.pending) s.views id v there was)
+                    ∙ sym (draft-is start r.releases r.drafts q)
+                    ∙ m.1 t (subst (λ n. n ≤ q) next-stays past)
+                    ∙ sym (ap (λ y. y.words) (last-stays q)),
+              );
+          owed = λ q x.
+              let m = k.owed q (sym (ap (has q) sh.leaves.owed) ∙ x) in (
+                sh.holds q m.0,
+                m.1,
+                subst (λ n. q < n) (sym next-stays) m.2,
+                ap (has q) sh.leaves.pending ∙ m.3,
+              );
+          next = λ x e'. let m = k.next x (sym sh.leaves.next ∙ e') in (sh.holds x m.0, next-stays ∙ m.1);
+          loaded = subst (λ (w : World). (l : List Translation) × (inner.translations ≡ l ++ v.translations) × Each (TranslationHolds w.core.pages) l) (sym sh.world) sh.loaded;
+          tying = ([], sh.leaves.ties, λ _. tt);
+          members = λ q was gone. absurd (true≢false (sym was ∙ sym (ap (has q) sh.leaves.pending) ∙ gone));
+          owner = λ t. subst (keeps (began_of start)) (sym kept-stays);
+        }

@@ -1,0 +1,34 @@
+-- One word of the table is written: the number that stands there then, and what of the table it leaves.
+use Rattle.std.proofs.Common.{ℕ, ◌≡◌, ◌<◌, List, length, sym, ap, ◌∙◌, arith, slice_set, slice_index}
+use Rattle.vm_core.specs.FrameActs.{mapping_of, trans_word}
+use Rattle.vm_rule.specs.declared.view.Origin.{Origin}
+use Rattle.vm_rule.specs.declared.view.Place.{Place}
+use Rattle.vm_rule.specs.declared.view.Place.TheVariants as places
+use Rattle.vm_rule.specs.Layout.{Within, Words, width, index_of, words_of, written}
+use Rattle.vm_rule.specs.Rule.{ArePlain}
+use Rattle.vm_rule.proofs.Parts.{words-written}
+use Rattle.std.proofs.lemmas.List.{get_or-set_same}
+
+-- the place is one of the table's words
+pub index-below : (start : Origin) (w : Place) → Within start w → index_of start w < width start
+index-below start (places.State p) l = omega (arith, l)
+index-below start (places.Translation p) l = omega (arith, l)
+index-below start (places.Fault p) l = omega (arith, l)
+index-below start (places.Content f i) l = omega (arith, l.0, l.1)
+index-below start (places.Bundle g) l = omega (arith, l)
+index-below start places.Next l = omega arith
+index-below start places.Hand l = omega arith
+
+-- the number that was written stands there
+pub stands-there : (start : Origin) (words : List ℕ) (w : Place) (x : ℕ) → length words ≡ width start → Within start w → x ≡ slice_index (slice_set words (index_of start w) x) (index_of start w)
+stands-there start words w x wide l =
+    let lt : index_of start w < length words = (let b = index-below start w l in omega (arith, b, wide)) in
+    sym (get_or-set_same words (index_of start w) x 0 lt)
+
+-- where no translation word was written, each spells what it means
+pub spelled-still : (start : Origin) (words : List ℕ) (w : Place) (x : ℕ) → length words ≡ width start → Within start w → (written (words_of start words) w x).translations ≡ (words_of start words).translations
+    → ArePlain start words → ArePlain start (slice_set words (index_of start w) x)
+spelled-still start words w x wide l same plain p lp =
+    let e : (words_of start (slice_set words (index_of start w) x)).translations p ≡ (words_of start words).translations p =
+    ap (λ (r : Words). r.translations p) (words-written start words w x wide l) ∙ ap (λ t. t p) same in
+    e ∙ plain p lp ∙ ap (λ t. trans_word (mapping_of t)) (sym e)

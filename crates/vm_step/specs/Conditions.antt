@@ -1,0 +1,65 @@
+-- What a pass must know before a step: conditions over its own view alone.
+use Rattle.std.specs.Prelude.{ℕ, true, false, Option, Some, None, List, [], ◌∷◌, ◌≡◌, ◌≢◌, ◌⊎◌, ◌<◌, ◌≤◌, length, replicate, IsSome}
+use Rattle.vm_core.specs.Inv.{LoadsAre}
+use Rattle.vm_owner.specs.declared.Entry.{Entry}
+use Rattle.vm_owner.specs.Kept.{Start, Change, AreUnchanged}
+use Rattle.vm_owner.specs.Numbers.{has, AreApart}
+use Rattle.vm_rule.specs.declared.view.Out.{Out}
+use Rattle.vm_rule.specs.declared.view.View.{View}
+use Rattle.vm_rule.specs.Puts.{put_at}
+use Rattle.vm_rule.specs.Views.{Each, seat_of, loads_at, draft_of}
+use Rattle.vm_rule.specs.Reading.{last_of}
+use Rattle.vm_rule.specs.Rule.{began_of, no_held}
+use Rattle.vm_rule.specs.Brought.{entries_of}
+use Rattle.vm_rule.specs.Releases.{changes_of}
+
+module _ {X : Type 0} where
+  -- nothing is said, or every page that has the loaded words proves what is said
+  abbrev pub MayTell : (Start → ℕ → List ℕ → List (Entry X) → Type 0) → ℕ → Option X → View X → Type 0
+  MayTell may_read p said v =
+      (said ≡ None) ⊎ (v.start.tells ≡ true → (words : List ℕ) → length words ≡ 64 → LoadsAre words (loads_at v p) → may_read (began_of v.start) p words (entries_of v said))
+
+  -- the block of page p is not out with the pass
+  abbrev pub IsNotOut : View X → ℕ → Type 0
+  IsNotOut v p = (o : Out) → v.out ≡ Some o → o.page ≢ p
+
+  -- the last share of a page under write-back is given up only once the fault word is the block's count
+  abbrev pub IsToldOf : View X → ℕ → Type 0
+  IsToldOf v p = (put_at no_held v.held p).fault ≡ (put_at no_held v.held p).block.count
+
+  pub record MayUnshare (v : View X) (p : ℕ) : Type 0 where
+    pub has : 1 ≤ (seat_of v p).shares
+    pub told : (seat_of v p).writing ≡ true → (seat_of v p).shares ≡ 1 → IsToldOf v p
+    pub home : IsNotOut v p
+
+  -- the page was claimed, as far as the pass can know, where its words are not those that it had
+  abbrev pub IsClaimed : View X → ℕ → Type 0
+  IsClaimed v q = (draft_of v q ≡ (last_of v q).words) ⊎ (((last_of v q).words ≢ replicate 64 0) ⊎ ((q < v.start.next) ⊎ (has q v.owed ≡ true)))
+
+  -- a member of a group that is not released yet in part
+  pub record IsMember (v : View X) (q : ℕ) : Type 0 where
+    pub page : q < v.start.pages
+    pub owns : (seat_of v q).exclusive ≡ true
+    pub free : has q v.pending ≡ false
+    pub claimed : v.start.tells ≡ true → IsClaimed v q
+
+  -- p is the first of a group with the others `rest`, or alone; the layer above lets the changes be made, or there are none
+  pub record IsFirst (may_release : Start → List ℕ → List Change → List (Entry X) → Type 0) (p : ℕ) (rest : List ℕ) (said : Option X) (v : View X) : Type 0 where
+    pub members : Each (IsMember v) (p ∷ rest)
+    pub apart : AreApart (p ∷ rest)
+    pub few : length rest ≤ 3
+    pub owner : v.start.tells ≡ true → ((said ≡ None) × AreUnchanged v.owed (changes_of v (p ∷ rest))) ⊎ may_release (began_of v.start) v.owed (changes_of v (p ∷ rest)) (entries_of v said)
+
+  -- p is a later member of its group, which says nothing more
+  pub record IsLater (p : ℕ) (rest : List ℕ) (said : Option X) (v : View X) : Type 0 where
+    pub pending : has p v.pending ≡ true
+    pub alone : rest ≡ []
+    pub silent : said ≡ None
+
+  pub record MayGiveUp (may_release : Start → List ℕ → List Change → List (Entry X) → Type 0) (p version : ℕ) (rest : List ℕ) (said : Option X) (v : View X) : Type 0 where
+    pub owns : (seat_of v p).exclusive ≡ true
+    pub resident : IsSome (put_at no_held v.held p).mapping
+    pub told : IsToldOf v p
+    pub home : IsNotOut v p
+    pub at : version ≡ (last_of v p).version
+    pub group : IsFirst may_release p rest said v ⊎ IsLater p rest said v

@@ -1,0 +1,83 @@
+-- What the steps of a call, as its pass's log has them, say of the words that the call answers with.
+use Rattle.std.specs.Prelude.{◌≡◌, ◌≢◌, ◌⊎◌, ℕ, List, [], ◌∷◌, ◌++◌, Some, None}
+use Rattle.vm_core.specs.Words.{state_of, version_of, LOCKED, EVICTED, MAX_VERSION}
+use Rattle.vm_rule.specs.declared.view.Place.{Place}
+use Rattle.vm_rule.specs.declared.view.Place.TheVariants as places
+use Rattle.vm_rule.specs.declared.view.Did.{Did}
+use Rattle.vm_rule.specs.Views.{Each}
+use Rattle.vm_step.specs.declared.saw.At.{At}
+use Rattle.vm_step.specs.declared.saw.At.TheVariants as ats
+use Rattle.vm_step.specs.declared.saw.Saw.{Saw}
+
+abbrev pub place_of : At → Place
+place_of (ats.Page p) = places.State p
+place_of (ats.Bundle g) = places.Bundle g
+place_of ats.Next = places.Next
+
+-- the step found this word there
+abbrev pub Gives : Did → Place → ℕ → Type 0
+Gives d at word = (d.at ≡ at) × (d.found ≡ Some word)
+
+-- one of the steps found it
+pub record HasGiven (done : List Did) (at : Place) (word : ℕ) : Type 0 where
+  pub earlier : List Did
+  pub step : Did
+  pub later : List Did
+  pub cut : done ≡ earlier ++ step ∷ later
+  pub gives : Gives step at word
+
+-- an exchange that expected one word found the other, and left it
+pub record IsLost (d : Did) (at : Place) (expects found : ℕ) : Type 0 where
+  pub gives : Gives d at found
+  pub expected : d.expects ≡ Some expects
+  pub other : found ≢ expects
+  pub left : d.wrote ≡ None
+
+-- the steps neither wrote the word there nor stored a next version
+abbrev pub AreQuiet : Place → ℕ → List Did → Type 0
+AreQuiet at seen done = Each (λ d. d.at ≡ at → (d.wrote ≢ Some seen) × (d.found ≡ None → d.wrote ≡ None)) done
+
+-- where the first word is from, and the steps since: a guard kept it; this call read it; the exchange expects it, at the version that this
+-- call read; or it is the last word itself
+pub data Begins (kept : ℕ → Type 0) (at : Place) (first seen : ℕ) (last : Did) (earlier since : List Did) : Type 0 where
+  guarded : kept first → earlier ≡ since → Begins kept at first seen last earlier since
+  read : (before : List Did) (d : Did) → earlier ≡ before ++ d ∷ since → Gives d at first → Begins kept at first seen last earlier since
+  expected : (before : List Did) (d : Did) (word : ℕ) → earlier ≡ before ++ d ∷ since → Gives d at word → version_of word ≡ version_of first → last.expects ≡ Some first → Begins kept at first seen last earlier since
+  same : first ≡ seen → since ≡ [] → Begins kept at first seen last earlier since
+
+-- why the call may be tried again
+abbrev pub WhyAgain : At → ℕ → ℕ → Did → Type 0
+WhyAgain (ats.Page p) first seen last = (version_of first ≢ version_of seen) ⊎ ((state_of seen ≡ LOCKED) ⊎ IsLost last (places.State p) first seen)
+WhyAgain (ats.Bundle g) first seen last = IsLost last (places.Bundle g) first seen
+WhyAgain ats.Next first seen last = first ≢ seen
+
+-- the words are the evidence of these steps
+pub record IsSaw (kept : ℕ → Type 0) (done : List Did) (saw : Saw) : Type 0 where
+  pub earlier : List Did
+  pub last : Did
+  pub later : List Did
+  pub cut : done ≡ earlier ++ last ∷ later
+  pub gives : Gives last (place_of saw.at) saw.seen
+  pub since : List Did
+  pub begins : Begins kept (place_of saw.at) saw.first saw.seen last earlier since
+  pub quiet : AreQuiet (place_of saw.at) saw.seen since
+  pub why : WhyAgain saw.at saw.first saw.seen last
+
+-- the page was found evicted, and none of the steps before had evicted it
+pub record NeedsPage (done : List Did) (p : ℕ) : Type 0 where
+  pub word : ℕ
+  pub given : HasGiven done (places.State p) word
+  pub evicted : state_of word ≡ EVICTED
+  pub foreign : Each (λ d. d.at ≡ places.State p → d.wrote ≢ Some word) given.earlier
+
+-- the page was found with all shares taken
+pub record IsCrowded (done : List Did) (p : ℕ) : Type 0 where
+  pub word : ℕ
+  pub given : HasGiven done (places.State p) word
+  pub full : state_of word ≡ 252
+
+-- the page was found at the last version
+pub record IsWorn (done : List Did) (p : ℕ) : Type 0 where
+  pub word : ℕ
+  pub given : HasGiven done (places.State p) word
+  pub last : version_of word ≡ MAX_VERSION

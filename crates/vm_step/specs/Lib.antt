@@ -1,0 +1,5 @@
+pub mod Conditions
+pub mod Plays
+pub mod Passes
+pub mod Events
+pub mod Evidence
