@@ -8,6 +8,7 @@ use Rattle.vm_core.specs.Words.{state_of, version_of, word_of, LOCKED, EVICTED}
 use Rattle.vm_core.specs.StateActs.{unshared, one_more}
 use Rattle.vm_core.specs.Inv.{LoadsAre}
 use Rattle.vm_owner.specs.Kept.{Start}
+use Rattle.vm_owner.specs.Numbers.{has}
 use Rattle.vm_rule.specs.declared.view.Held.{Held}
 use Rattle.vm_rule.specs.declared.view.Place.TheVariants as places
 use Rattle.vm_rule.specs.declared.view.View.{View}
@@ -57,6 +58,8 @@ module _ {X : Type 0} where
     pub older : IsOlder found (seat_of v p).reading
     pub size : length (last_of w p).words ≡ 64
     pub stands : found ≡ expects → IsHeldAt expects v.start.frames v.start.tells (last_of w p).words held
+    -- a page that was not locked is no member still to be released
+    pub free : found ≡ expects → has p v.pending ≡ false
     pub validates : v.start.tells ≡ true → found ≡ expects → Validates tied p (version_of expects) (last_of w p).words v
 
   -- the pass has one share of p more: the open read is closed, and it knows the page, if it did not yet

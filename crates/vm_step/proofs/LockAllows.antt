@@ -1,5 +1,5 @@
 -- An exclusive lock that is tried: what it tells, and that it keeps the rule.
-use Rattle.std.proofs.Common.{ℕ, ◌≡◌, ◌<◌, ◌≤◌, Bool, List, [], ◌++◌, length, refl, sym, ap, subst, ◌∙◌, arith, ⊎_elim, slice_index, true, Option, eqb}
+use Rattle.std.proofs.Common.{ℕ, ◌≡◌, ◌<◌, ◌≤◌, Bool, List, [], ◌++◌, length, refl, sym, ap, subst, ◌∙◌, arith, ⊎_elim, slice_index, true, false, true≢false, Option, eqb}
 use Rattle.std.proofs.lemmas.Bool.{cases_Bool, cases_eq}
 use mathlib.Core.Option as maybe
 use mathlib.Core.Option.{some}
@@ -16,6 +16,7 @@ use Rattle.vm_core.specs.History.{Version}
 use Rattle.vm_core.proofs.Locks.{sum_below-at, shared-state}
 use Rattle.vm_core.proofs.PageFacts.{block-is_last}
 use Rattle.vm_owner.specs.Kept.{Start, Kept}
+use Rattle.vm_owner.specs.Numbers.{has}
 use Rattle.vm_block.specs.declared.stored.Stored.{Stored}
 use Rattle.vm_rule.specs.declared.view.Origin.{Origin}
 use Rattle.vm_rule.specs.declared.view.Shape.{Shape}
@@ -29,6 +30,8 @@ use Rattle.vm_rule.proofs.Worlds.{lost-lockx}
 use Rattle.vm_rule.proofs.Adding.{became}
 use Rattle.vm_step.specs.Plays.{lock_play}
 use Rattle.vm_step.proofs.Here.{world, last-told, version-told, size-told, since, older, validates, frame-inside}
+use Rattle.vm_rule.proofs.Facts.{any-here}
+use Rattle.vm_step.proofs.Logical.{not-pending}
 use Rattle.vm_step.proofs.Standing.{plays-any}
 use Rattle.vm_step.proofs.StateWord.{names, missing}
 use Rattle.vm_step.proofs.Locking.{page_held, free, lock-shows}
@@ -55,6 +58,13 @@ module _ {X B : Type 0} (stored : B → Stored) (keeps : Start → Kept X → Ty
           may.state))
           (λ f. f)
           (cases_Bool (y.seats a).writing))
+
+      free-of : slice_index s.words p ≡ expects → has p v.pending ≡ false
+      free-of hit =
+          ⊎_elim
+          (λ t. absurd (true≢false (sym (any-here (λ (y : View X). has p y.pending) s.views id v there t) ∙ not-pending stored keeps tied start tells s r p l (free stored keeps tied start tells s r id v there live p expects l may hit))))
+          (λ f. f)
+          (cases_Bool (has p v.pending))
 
       held-at : slice_index s.words p ≡ expects → IsHeldAt expects v.start.frames v.start.tells (last_in v.start (r.releases ++ []) p).words (page_held stored keeps tied start tells s r p)
       held-at hit =
@@ -91,6 +101,7 @@ module _ {X B : Type 0} (stored : B → Stored) (keeps : Start → Kept X → Ty
                 older = older stored keeps tied start tells s r id v there live p l;
                 size = size-told stored keeps tied start tells s r id v there live p;
                 stands = held-at;
+                free = free-of;
                 validates = λ t h. validates stored keeps tied start tells s r id v there live law p expects l h (free stored keeps tied start tells s r id v there live p expects l may h) t;
               },
             ))
@@ -108,6 +119,7 @@ module _ {X B : Type 0} (stored : B → Stored) (keeps : Start → Kept X → Ty
                 older = older stored keeps tied start tells s r id v there live p l;
                 size = size-told stored keeps tied start tells s r id v there live p;
                 stands = λ h. absurd (miss h);
+                free = λ h. absurd (miss h);
                 validates = λ t h. absurd (miss h);
               },
             ))

@@ -81,3 +81,12 @@ pub record IsWorn (done : List Did) (p : ℕ) : Type 0 where
   pub word : ℕ
   pub given : HasGiven done (places.State p) word
   pub last : version_of word ≡ MAX_VERSION
+
+-- one of the steps left this word there
+pub record HasWritten (done : List Did) (at : Place) (word : ℕ) : Type 0 where
+  pub earlier : List Did
+  pub step : Did
+  pub later : List Did
+  pub cut : done ≡ earlier ++ step ∷ later
+  pub place : step.at ≡ at
+  pub wrote : step.wrote ≡ Some word

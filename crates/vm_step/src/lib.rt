@@ -12,5 +12,5 @@ mod took;
 
 pub use frames::{load, store, tload};
 pub use saw::{At, Saw};
-pub use states::{lock_exclusive, lock_shared, look, release, unlock_shared};
+pub use states::{lock_exclusive, lock_shared, look, look_silently, release, unlock_shared};
 pub use took::Took;

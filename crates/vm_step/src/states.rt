@@ -1,5 +1,5 @@
 // The steps on a page's state word: look, lock exclusively, lock shared, give a share up, release.
-ghost use Rattle.std.specs.Prelude.{◌≡◌, ◌≢◌, ◌<◌, ℕ, option_map};
+ghost use Rattle.std.specs.Prelude.{◌≡◌, ◌≢◌, ◌<◌, ℕ, None, option_map};
 ghost use Rattle.vm_core.specs.StateActs.{MayLock, MayShare, one_more};
 ghost use Rattle.vm_core.specs.Words.{LOCKED, MAX_VERSION, state_of, version_of, word_of};
 ghost use Rattle.vm_rule.specs.Locks.{LockTold, ShareTold, UnshareTold};
@@ -58,6 +58,25 @@ fn answer(found: u64, expects: u64) -> Took
     }
 }
 
+fn look_step<U: Owner, B: Block, M: Given<U::Said>>(
+    words: &Words<U, B>,
+    pass: &mut Pass<U>,
+    p: u32,
+) -> u64
+    requires pass { MayStep words.now.table.shared.table_id pass.old }
+    requires page { p < words.now.table.shared.key.pages }
+    requires owner { MayTell U.may_read p M.said (view pass.old) }
+    requires given { (M.shape ≡ words.now.table.shared.key) × (M.tells ≡ B.tells) }
+    ensures pass { IsSamePass pass.old pass.new }
+    ensures table { IsOf words.now.table.shared.key B.tells (view pass.old) }
+    ensures told { LookTold U.tied p M.said result (view pass.old) (view pass.new) }
+{
+    let mut seat = lift::<View<U::Said>, Option<B>>(&mut pass.badge);
+    let found = words.table.shared.load::<Look<U, M>>(&mut seat, p as usize);
+    pass.badge = seat.into_badge();
+    found
+}
+
 fn look_with<U: Owner, B: Block, M: Given<U::Said>>(
     words: &Words<U, B>,
     pass: &mut Pass<U>,
@@ -72,10 +91,7 @@ fn look_with<U: Owner, B: Block, M: Given<U::Said>>(
     ensures table { IsOf words.now.table.shared.key B.tells (view pass.old) }
     ensures told { LookTold U.tied p M.said result (view pass.old) (view pass.new) }
 {
-    let mut seat = lift::<View<U::Said>, Option<B>>(&mut pass.badge);
-    let found = words.table.shared.load::<Look<U, M>>(&mut seat, p as usize);
-    pass.badge = seat.into_badge();
-    found
+    look_step::<U, B, M>(words, pass, p)
 }
 
 /// The page's state word. A look that leaves the pass's open read of the page in place validates that read; what is said becomes an
@@ -94,6 +110,17 @@ pub fn look<U: Owner, B: Block>(
     ensures told { LookTold U.tied p (option_map (λ b. b.now) said.entry) result (view pass.old) (view pass.new) }
 {
     look_with::<U, B, Brand>(words, pass, p, said)
+}
+
+/// The page's state word, by a look that says nothing.
+pub fn look_silently<U: Owner, B: Block>(words: &Words<U, B>, pass: &mut Pass<U>, p: u32) -> u64
+    requires pass { MayStep words.now.table.shared.table_id pass.old }
+    requires page { p < words.now.table.shared.key.pages }
+    ensures pass { IsSamePass pass.old pass.new }
+    ensures table { IsOf words.now.table.shared.key B.tells (view pass.old) }
+    ensures told { LookTold U.tied p None result (view pass.old) (view pass.new) }
+{
+    look_step::<U, B, Brand>(words, pass, p)
 }
 
 fn lock_exclusive_with<U: Owner, B: Block, M: Given<U::Said>>(

@@ -2,7 +2,7 @@ use Rattle.std.proofs.Common.{rules, ◌≡◌, ◌<◌, true, length, subst, ap
 use Rattle.vm_rule.specs.Views.{view_of}
 use Rattle.vm_step.specs.Conditions.{MayTell}
 use Rattle.vm_step.proofs.LookAllows.{look_allows}
-use Rattle.vm_step.proofs.states.look_with.Goals as goal
+use Rattle.vm_step.proofs.states.look_step.Goals as goal
 
 pub load-found-requires : goal.load-found-requires
 load-found-requires g c =
