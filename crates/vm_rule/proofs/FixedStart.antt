@@ -24,7 +24,8 @@ use Rattle.vm_rule.specs.Fixed.{IsFixed, MayBegin, counts_of, dirty_word, fixed_
 use Rattle.vm_rule.proofs.WordFacts.{mapping-dirty}
 use Rattle.vm_rule.proofs.Parts.{listed-same}
 use Rattle.vm_rule.proofs.Parted.{opened}
-use Rattle.vm_rule.proofs.FixedWords.{at-any, at-map, length-mapped, listed-all, listed-long, fixed-wide, fixed-translation}
+use Rattle.vm_rule.proofs.ListFacts.{at-any, at-map, length-mapped, listed-all, listed-long}
+use Rattle.vm_rule.proofs.FixedWords.{fixed-wide, fixed-translation}
 use Rattle.vm_rule.proofs.FixedWorld.{fixed_page, fixed_history, fixed_world, fixed-inv, home-there, blocks, start, table, as-many, fixed-block, shown}
 
 chosen-none : (n : ℕ) (f : ℕ → Bool) → ((p : ℕ) → f p ≡ false) → chosen n f ≡ []
@@ -209,3 +210,11 @@ module _ {X B : Type 0} (stored : B → Stored) (keeps : Start → Kept X → Ty
   -- its words and slots are as many as the layout says
   pub fixed-fits : (words : List ℕ) (slots : List (Option B)) → words ≡ fixed_words version next pages (counts_of stands) → slots ≡ map Some items → (length words ≡ width_of (length pages) (length pages)) × (length slots ≡ length pages)
   fixed-fits words slots e f = (ap length e ∙ fixed-wide tells version next pages stands many long, ap length f ∙ length-mapped Some items ∙ ok.blocks)
+
+-- a table that was made has the numbers of its shape
+pub made-fits : (key shape : Shape) (words slots n : ℕ) → key ≡ shape → shape.pages ≡ n → shape.frames ≡ n → n ≤ 65536 → words ≡ width_of n n → slots ≡ n
+    → ((n ≡ key.pages) × (n ≡ key.frames) × (n ≤ 65536) × (n ≤ 65536)) × ((words ≡ width_of key.pages key.frames) × (slots ≡ key.pages))
+made-fits key shape words slots n e p f few w s =
+    let pages : key.pages ≡ n = ap (λ (x : Shape). x.pages) e ∙ p in
+    let frames : key.frames ≡ n = ap (λ (x : Shape). x.frames) e ∙ f in
+    ((sym pages, sym frames, few, few), (w ∙ (λ i. width_of (sym pages i) (sym frames i)), s ∙ sym pages))

@@ -24,7 +24,8 @@ use Rattle.vm_rule.specs.Views.{Each, first_view}
 use Rattle.vm_rule.specs.Reading.{no_block, home, known, pages_from, histories_of, block_of, seats_of, loads_of, held_of, world_of}
 use Rattle.vm_rule.specs.Fixed.{IsFixed, counts_of, fixed_words, fixed_origin}
 use Rattle.vm_rule.proofs.WordFacts.{bare-state, bare-version, mapping-dirty}
-use Rattle.vm_rule.proofs.FixedWords.{at-past, length-mapped, each-at, fixed-state, fixed-translation, fixed-fault, fixed-bundle, fixed-next, fixed-hand, fixed-frame}
+use Rattle.vm_rule.proofs.ListFacts.{at-past, length-mapped, each-at}
+use Rattle.vm_rule.proofs.FixedWords.{fixed-state, fixed-translation, fixed-fault, fixed-bundle, fixed-next, fixed-hand, fixed-frame}
 
 -- page p, unlocked and dirty in frame p
 abbrev pub resident : ℕ → Stored → ℕ → Page

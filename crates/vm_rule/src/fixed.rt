@@ -34,8 +34,9 @@ impl<S, U: Owner> Play<S, View<U::Said>> for Begin<U> {
 impl<U: Owner, B: Block + Drop> Words<U, B> {
     /// A table of these pages, each with its block, and its first pass, which has all parts.
     ///
-    /// Page `p` is unlocked, at the version given, and stands, dirty, in frame `p`: with as many frames as pages none is free. The pages
-    /// from `next` on are not claimed yet. Where there is no memory, the blocks are dropped.
+    /// Takes 1 to 65536 pages, as many blocks, and a version of at most 2^56 - 1. Page `p` is unlocked, at that version, and stands,
+    /// dirty, in frame `p`: with as many frames as pages none is free. The pages from `next` on are zero and not claimed yet. The pass has
+    /// made one step, a load of the first state word, and knows all words and blocks. Where there is no memory the blocks are dropped.
     pub fn fixed(
         alloc: Global,
         pages: &[PageBuf],

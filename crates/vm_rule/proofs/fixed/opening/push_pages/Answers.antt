@@ -1,4 +1,4 @@
-use Rattle.vm_rule.proofs.FixedWords.{pushed-page}
+use Rattle.vm_rule.proofs.ListFacts.{pushed-page}
 use Rattle.vm_rule.proofs.fixed.opening.push_pages.Goals as goal
 
 pub loop-page-preserved : goal.loop-page-preserved

@@ -1,5 +1,5 @@
 use Rattle.std.proofs.Common.{refl}
-use Rattle.vm_rule.proofs.FixedWords.{listed-none, pushed-listed}
+use Rattle.vm_rule.proofs.ListFacts.{listed-none, pushed-listed}
 use Rattle.vm_rule.proofs.fixed.opening.push_same.Goals as goal
 
 pub loop-i-init : goal.loop-i-init

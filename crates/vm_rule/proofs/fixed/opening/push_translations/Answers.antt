@@ -1,5 +1,5 @@
 use Rattle.std.proofs.Common.{refl}
-use Rattle.vm_rule.proofs.FixedWords.{listed-none, pushed-listed}
+use Rattle.vm_rule.proofs.ListFacts.{listed-none, pushed-listed}
 use Rattle.vm_rule.proofs.fixed.opening.push_translations.Goals as goal
 
 pub loop-p-init : goal.loop-p-init

@@ -1,0 +1,136 @@
+-- Lists read as functions: one behind another, the values of a function, and pages of 64 words one after another.
+use Rattle.std.proofs.Common.{ℕ, ◌≡◌, ◌+◌, ◌*◌, ◌<◌, ◌≤◌, List, [], ◌∷◌, ◌++◌, length, map, replicate, take, get_or, zero, suc, refl, sym, ap, subst, append_assoc, ◌∙◌, arith}
+use Rattle.std.proofs.lemmas.List.{append-nil, take_more}
+use Rattle.vm_core.specs.Fn.{at}
+use Rattle.vm_rule.specs.Puts.{listed}
+use Rattle.vm_rule.specs.Views.{Each}
+use Rattle.vm_rule.specs.Fixed.{flat}
+
+at-skip : {A : Type 0} (d : A) (xs ys : List A) (k : ℕ) → at d (xs ++ ys) (length xs + k) ≡ at d ys k
+unfolding at
+at-skip d [] ys k = let e : 0 + k ≡ k = omega arith in ap (at d ys) e
+at-skip d (x ∷ xs) ys k = let e : suc (length xs) + k ≡ suc (length xs + k) = omega arith in ap (at d (x ∷ (xs ++ ys))) e ∙ at-skip d xs ys k
+
+-- behind the first list, and in it
+pub at-right : {A : Type 0} (d : A) (xs ys : List A) (i k : ℕ) → i ≡ length xs + k → at d (xs ++ ys) i ≡ at d ys k
+at-right d xs ys i k e = ap (at d (xs ++ ys)) e ∙ at-skip d xs ys k
+
+pub at-left : {A : Type 0} (d : A) (xs ys : List A) (k : ℕ) → k < length xs → at d (xs ++ ys) k ≡ at d xs k
+unfolding at
+at-left d [] ys k l = absurd (omega arith)
+at-left d (x ∷ xs) ys zero l = refl
+at-left d (x ∷ xs) ys (suc k) l = at-left d xs ys k (omega arith)
+
+-- what stands past the end does not matter
+pub at-any : {A : Type 0} (d e : A) (xs : List A) (k : ℕ) → k < length xs → at d xs k ≡ at e xs k
+unfolding at
+at-any d e [] k l = absurd (omega arith)
+at-any d e (x ∷ xs) zero l = refl
+at-any d e (x ∷ xs) (suc k) l = at-any d e xs k (omega arith)
+
+pub at-past : {A : Type 0} (d : A) (xs : List A) (k : ℕ) → length xs ≤ k → at d xs k ≡ d
+unfolding at
+at-past d [] k l = refl
+at-past d (x ∷ xs) zero l = absurd (omega arith)
+at-past d (x ∷ xs) (suc k) l = at-past d xs k (omega arith)
+
+pub at-map : {A B : Type 0} (f : A → B) (d : B) (e : A) (xs : List A) (k : ℕ) → k < length xs → at d (map f xs) k ≡ f (at e xs k)
+unfolding at
+at-map f d e [] k l = absurd (omega arith)
+at-map f d e (x ∷ xs) zero l = refl
+at-map f d e (x ∷ xs) (suc k) l = at-map f d e xs k (omega arith)
+
+pub length-mapped : {A B : Type 0} (f : A → B) (xs : List A) → length (map f xs) ≡ length xs
+length-mapped f [] = refl
+length-mapped f (x ∷ xs) = ap suc (length-mapped f xs)
+
+pub length-listed : {A : Type 0} (n : ℕ) (f : ℕ → A) → length (listed n f) ≡ n
+unfolding listed
+length-listed zero f = refl
+length-listed (suc n) f = ap suc (length-listed n (λ k. f (suc k)))
+
+pub at-listed : {A : Type 0} (d : A) (n : ℕ) (f : ℕ → A) (k : ℕ) → k < n → at d (listed n f) k ≡ f k
+unfolding listed at
+at-listed d zero f k l = absurd (omega arith)
+at-listed d (suc n) f zero l = refl
+at-listed d (suc n) f (suc k) l = at-listed d n (λ j. f (suc j)) k (omega arith)
+
+-- one value more
+listed-more : {A : Type 0} (n : ℕ) (f : ℕ → A) → listed (suc n) f ≡ listed n f ++ f n ∷ []
+unfolding listed
+listed-more zero f = refl
+listed-more (suc n) f = ap (λ (l : List _). f 0 ∷ l) (listed-more n (λ k. f (suc k)))
+
+pub pushed-listed : (before items after : List ℕ) (n : ℕ) (f : ℕ → ℕ) (x : ℕ) → items ≡ before ++ listed n f → after ≡ items ++ x ∷ [] → x ≡ f n → after ≡ before ++ listed (n + 1) f
+pushed-listed before items after n f x was grown is =
+    let next : n + 1 ≡ suc n = omega arith in
+    grown
+    ∙ ap (λ l. l ++ x ∷ []) was
+    ∙ append_assoc before (listed n f) (x ∷ [])
+    ∙ ap (λ y. before ++ (listed n f ++ y ∷ [])) is
+    ∙ sym (ap (λ l. before ++ l) (ap (λ k. listed k f) next ∙ listed-more n f))
+
+pub listed-none : (items : List ℕ) (f : ℕ → ℕ) → items ≡ items ++ listed 0 f
+unfolding listed
+listed-none items f = sym (append-nil items)
+
+-- the list of a list's elements is the list
+pub listed-all : {A : Type 0} (d : A) (xs : List A) → listed (length xs) (at d xs) ≡ xs
+unfolding listed at
+listed-all d [] = refl
+listed-all d (x ∷ xs) = ap (λ (l : List _). x ∷ l) (listed-all d xs)
+
+pub listed-long : {A : Type 0} (d : A) (n : ℕ) (xs : List A) → length xs ≡ n → listed n (at d xs) ≡ xs
+listed-long d n xs e = ap (λ k. listed k (at d xs)) (sym e) ∙ listed-all d xs
+
+pub zeros : listed {A = ℕ} 64 (λ i. 0) ≡ replicate 64 0
+unfolding listed
+zeros = refl
+
+-- ---- pages of 64 words, one after another
+
+pub each-at : (pages : List (List ℕ)) → Each (λ w. length w ≡ 64) pages → (d : List ℕ) (p : ℕ) → p < length pages → length (at d pages p) ≡ 64
+unfolding at
+each-at [] e d p l = absurd (omega arith)
+each-at (x ∷ xs) e d zero l = e.0
+each-at (x ∷ xs) e d (suc p) l = each-at xs e.1 d p (omega arith)
+
+flat-both : (xs ys : List (List ℕ)) → flat (xs ++ ys) ≡ flat xs ++ flat ys
+flat-both [] ys = refl
+flat-both (x ∷ xs) ys = ap (λ l. x ++ l) (flat-both xs ys) ∙ sym (append_assoc x (flat xs) (flat ys))
+
+each-more : (xs : List (List ℕ)) (y : List ℕ) → Each (λ w. length w ≡ 64) xs → length y ≡ 64 → Each (λ w. length w ≡ 64) (xs ++ y ∷ [])
+each-more [] y e l = (l, tt)
+each-more (x ∷ xs) y e l = (e.0, each-more xs y e.1 l)
+
+-- one page more
+pub pushed-page : (before items after : List ℕ) (pages : List (List ℕ)) (n : ℕ) (page : List ℕ) → n < length pages → page ≡ get_or pages n page → (items ≡ before ++ flat (take n pages)) × Each (λ w. length w ≡ 64) (take n pages)
+    → after ≡ items ++ page → length page ≡ 64 → (after ≡ before ++ flat (take (n + 1) pages)) × Each (λ w. length w ≡ 64) (take (n + 1) pages)
+pushed-page before items after pages n page l is was grown long =
+    let more : take (n + 1) pages ≡ take n pages ++ page ∷ [] = take_more pages n page l ∙ ap (λ (y : List ℕ). take n pages ++ y ∷ []) (sym is) in (
+      grown
+          ∙ ap (λ k. k ++ page) was.0
+          ∙ append_assoc before (flat (take n pages)) page
+          ∙ ap (λ k. before ++ (flat (take n pages) ++ k)) (sym (append-nil page))
+          ∙ ap (λ k. before ++ k) (sym (flat-both (take n pages) (page ∷ [])))
+          ∙ ap (λ (k : List (List ℕ)). before ++ flat k) (sym more),
+      subst (Each (λ w. length w ≡ 64)) (sym more) (each-more (take n pages) page was.1 long),
+    )
+
+pub length-both : {A : Type 0} (xs ys : List A) → length (xs ++ ys) ≡ length xs + length ys
+length-both [] ys = omega arith
+length-both (x ∷ xs) ys = let e : length (xs ++ ys) ≡ length xs + length ys = length-both xs ys in omega arith
+
+pub length-flat : (pages : List (List ℕ)) → Each (λ w. length w ≡ 64) pages → length (flat pages) ≡ 64 * length pages
+length-flat [] e = refl
+length-flat (x ∷ xs) e =
+    let both : length (x ++ flat xs) ≡ length x + length (flat xs) = length-both x (flat xs) in
+    let rest : length (flat xs) ≡ 64 * length xs = length-flat xs e.1 in
+    let here : length x ≡ 64 = e.0 in
+    omega arith
+
+pub flat-at : (pages : List (List ℕ)) → Each (λ w. length w ≡ 64) pages → (d : List ℕ) (p i : ℕ) → p < length pages → i < 64 → at 0 (flat pages) (64 * p + i) ≡ at 0 (at d pages p) i
+unfolding at
+flat-at [] e d p i l l' = absurd (omega arith)
+flat-at (x ∷ xs) e d zero i l l' = let here : length x ≡ 64 = e.0 in let same : 64 * 0 + i ≡ i = omega arith in ap (at 0 (x ++ flat xs)) same ∙ at-left 0 x (flat xs) i (omega arith)
+flat-at (x ∷ xs) e d (suc p) i l l' = let here : length x ≡ 64 = e.0 in at-right 0 x (flat xs) (64 * suc p + i) (64 * p + i) (omega arith) ∙ flat-at xs e.1 d p i (omega arith) l'
