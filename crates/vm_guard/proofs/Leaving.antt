@@ -1,0 +1,52 @@
+-- A pass that locks a page exclusively which it was reading optimistically has left that read behind.
+use Rattle.std.proofs.Common.{ℕ, ◌≡◌, ◌≢◌, ◌<◌, ◌≤◌, ◌++◌, Bool, List, [], ◌∷◌, Option, Some, None, sym, ap, subst, ◌∙◌, arith, ⊎_elim, inl, inr, append_assoc}
+use Rattle.std.proofs.lemmas.Bool.{cases_eq}
+use Rattle.vm_core.specs.declared.event.Open.{Open}
+use Rattle.vm_core.specs.Words.{version_of, word_of, LOCKED, MAX_VERSION}
+use Rattle.vm_owner.specs.Kept.{Start}
+use Rattle.vm_rule.specs.declared.view.Did.{Did}
+use Rattle.vm_rule.specs.declared.view.View.{View}
+use Rattle.vm_rule.specs.Looks.{IsOlder}
+use Rattle.vm_rule.proofs.WordFacts.{word-state, word-version}
+use Rattle.vm_guard.specs.Quiet.{IsSteady}
+use Rattle.vm_guard.specs.Guards.{HasLeft, IsLocked, IsReading}
+
+-- an open read is of no later version than the word found
+pub older-read : (found : ℕ) (o : Option Open) → IsOlder found o → (x : Open) → o ≡ Some x → x.version ≤ version_of found
+older-read found None older x e = cc
+older-read found (Some y) older x e = let same : y ≡ x = cc in subst (λ (z : Open). z.version ≤ version_of found) same older.0
+
+module _ {X : Type 0} where
+  -- what a read has left behind stays behind
+  pub has-left-on : (p word : ℕ) (done : List Did) (v w : View X) → HasLeft p word v → IsSteady done v w → HasLeft p word w
+  has-left-on p word done v w h steady = record {
+    earlier = h.earlier;
+    step = h.step;
+    later = h.later ++ done;
+    cut = steady.log ∙ ap (λ (l : List Did). l ++ done) h.cut ∙ append_assoc h.earlier (h.step ∷ h.later) done;
+    at = h.at;
+    other = h.other;
+    was = h.was;
+    gone = h.gone;
+  }
+
+  pub lock-leaves : (tied : Start → ℕ → List ℕ → ℕ → List ℕ → Type 0) (p word frame f version : ℕ) (dirty : Bool) (v w : View X) → IsReading p word frame v → IsLocked tied p f version dirty v w → HasLeft p word w
+  lock-leaves tied p word frame f version dirty v w reads k =
+      let wr = k.wrote in
+      let within : version ≤ MAX_VERSION = (let below : version < MAX_VERSION = k.holding.below in omega (arith, below)) in
+      let same : version_of (word_of LOCKED version) ≡ version = word-version LOCKED version within in
+      let older : version_of word ≤ version = k.older _ reads.reading in
+      record {
+        earlier = v.log ++ wr.earlier;
+        step = wr.step;
+        later = wr.later;
+        cut = k.elsewhere.steady.log ∙ ap (λ (l : List Did). v.log ++ l) wr.cut ∙ sym (append_assoc v.log wr.earlier (wr.step ∷ wr.later));
+        at = wr.place;
+        other = word_of LOCKED version;
+        was = inr wr.wrote;
+        gone =
+            ⊎_elim
+            (λ e. inr (word-state LOCKED version within, same ∙ sym e))
+            (λ ne. inl (subst (λ (n : ℕ). version_of word < n) (sym same) (omega (arith, older, ne))))
+            (cases_eq (version_of word) version);
+      }

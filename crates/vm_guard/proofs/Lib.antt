@@ -1,0 +1,14 @@
+pub mod QuietSteps
+pub mod OpenReads
+pub mod Starting
+pub mod Reading
+pub mod Validating
+pub mod Singles
+pub mod Denials
+pub mod Seats
+pub mod GuardSteps
+pub mod Sharings
+pub mod Lockings
+pub mod Upgrading
+pub mod Expecting
+pub mod Leaving

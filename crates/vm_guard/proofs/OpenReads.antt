@@ -1,0 +1,212 @@
+-- What looks and loads leave of the open read of their page, and when a look leaves it in place.
+use Rattle.std.proofs.Common.{ℕ, ◌≡◌, ◌≢◌, ◌⊎◌, ◌<◌, ◌&&◌, ◌||◌, if◌then◌else◌, Bool, true, false, true≢false, nat_lt, is_some, Option, Some, None, List, [], ◌∷◌, ◌++◌, refl, sym, ap, subst, ◌∙◌, ⊎_elim, inl, inr, eqb, arith}
+use Rattle.std.proofs.lemmas.Bool.{cases_Bool, cases_eq, eq-eqb, ne_eqb, cond-true, cond-false}
+use Rattle.std.proofs.lemmas.Bool.Decides.{nat_tests}
+use Rattle.vm_core.specs.declared.event.Mapping.{Mapping}
+use Rattle.vm_core.specs.declared.event.Open.{Open}
+use Rattle.vm_core.specs.declared.event.ReadIs.TheVariants as read
+use Rattle.vm_core.specs.declared.event.Seat.{Seat}
+use Rattle.vm_core.specs.Words.{state_of, version_of, frame_in, is_dirty, LOCKED, EVICTED}
+use Rattle.vm_core.specs.StateActs.{is_readable, left_open, open_after}
+use Rattle.vm_core.specs.FrameActs.{mapping_of, mapping_at, frame_of, frame_or, open_frame, framed}
+use Rattle.vm_core.specs.History.{kept_loads, loads_more}
+use Rattle.vm_core.specs.Start.{no_seat}
+use Rattle.vm_core.proofs.PageFacts.{some-same, none-some}
+use Rattle.vm_core.proofs.Upd.{upd-same}
+use Rattle.vm_owner.specs.Kept.{Start}
+use Rattle.vm_rule.specs.declared.view.Place.TheVariants as places
+use Rattle.vm_rule.specs.declared.view.Translation.{Translation}
+use Rattle.vm_rule.specs.declared.view.View.{View}
+use Rattle.vm_rule.specs.Puts.{put_at}
+use Rattle.vm_rule.specs.Views.{Each, IsLocking, seat_of, loads_at}
+use Rattle.vm_rule.specs.Reading.{last_of}
+use Rattle.vm_rule.specs.Rule.{no_held}
+use Rattle.vm_rule.specs.Brought.{entries_of}
+use Rattle.vm_rule.specs.Log.{did_load}
+use Rattle.vm_rule.specs.Looks.{LookTold, NamesFrame, left_at, where_same, looked_view}
+use Rattle.vm_rule.specs.Loads.{TranslationTold, LoadTold, translation_of, tloaded_view, loaded_view, frame_read_by}
+use Rattle.vm_guard.specs.Quiet.{HoldsPage}
+use Rattle.vm_guard.proofs.QuietSteps.{seat-after, loads-after}
+
+-- ---- open reads alone
+
+-- a look at a readable page leaves an open read at its version
+opened-at : (o : Option Open) (n : ℕ) → (x : Open) × (open_after (left_open o n) o n ≡ Some x) × (x.version ≡ n)
+opened-at None n = (record { version = n; frame = None }, refl, refl)
+opened-at (Some o) n =
+    ⊎_elim
+    (λ (e : o.version ≡ n). (o, ap (λ l. open_after l (Some o) n) (cond-true (eqb o.version n) read.Same read.Moved (eq-eqb o.version n e)), e))
+    (λ ne. (record { version = n; frame = None }, ap (λ l. open_after l (Some o) n) (cond-false (eqb o.version n) read.Same read.Moved (ne_eqb o.version n ne)), refl))
+    (cases_eq o.version n)
+
+-- an open read at the version of the readable word stays
+pub left-same : (found : ℕ) (x : Open) → is_readable (state_of found) ≡ true → x.version ≡ version_of found → left_at found (Some x) ≡ read.Same
+left-same found x r e =
+    cond-true (is_readable (state_of found)) (left_open (Some x) (version_of found)) read.Closed r
+    ∙ cond-true (eqb x.version (version_of found)) read.Same read.Moved (eq-eqb x.version (version_of found) e)
+
+-- one at another version does not, and neither does one of a page that can't be read
+pub left-other : (found : ℕ) (x : Open) → (x.version ≢ version_of found) ⊎ (is_readable (state_of found) ≡ false) → left_at found (Some x) ≢ read.Same
+left-other found x other same =
+    ⊎_elim
+    (λ t. ⊎_elim
+    (λ ne. let moved : read.Moved ≡ read.Same = sym (cond-false (eqb x.version (version_of found)) read.Same read.Moved (ne_eqb x.version (version_of found) ne)) ∙ sym (cond-true (is_readable (state_of found)) (left_open (Some x) (version_of found)) read.Closed t) ∙ same in cc)
+    (λ f. true≢false (sym t ∙ f))
+    other)
+    (λ f. let closed : read.Closed ≡ read.Same = sym (cond-false (is_readable (state_of found)) (left_open (Some x) (version_of found)) read.Closed f) ∙ same in cc)
+    (cases_Bool (is_readable (state_of found)))
+
+-- a state of 8 bits that is neither Locked nor Evicted is readable, and those two are not
+pub readable-state : (state : ℕ) → state < 256 → state ≢ LOCKED → state ≢ EVICTED → is_readable state ≡ true
+readable-state state l locked evicted = grind (arith, nat_tests)
+
+pub locked-unreadable : (state : ℕ) → state ≡ LOCKED → is_readable state ≡ false
+locked-unreadable state e = rw e refl
+
+-- the open read after a translation was loaded has the version that it had, and the frame that it had or was loaded
+framed-at : (o : Open) (m : Option Mapping) → (y : Open) × (framed (Some o) m ≡ Some y) × (y.version ≡ o.version) × ((k : Mapping) → m ≡ Some k → y.frame ≡ frame_or o.frame k.frame)
+framed-at o None = (o, refl, refl, λ k e. absurd (none-some k e))
+framed-at o (Some m) = (record o { frame = frame_or o.frame m.frame }, refl, refl, λ k e. ap (λ (j : Mapping). frame_or o.frame j.frame) (some-same m k e))
+
+frame-or : (g : Option ℕ) (f : ℕ) → ((h : ℕ) → frame_or g f ≡ Some h → h ≡ f) → frame_or g f ≡ Some f
+frame-or None f same = refl
+frame-or (Some g) f same = ap (λ (n : ℕ). Some n) (same g refl)
+
+pub open-is : (y : Open) (version frame : ℕ) → y.version ≡ version → y.frame ≡ Some frame → Some y ≡ Some (record { version = version; frame = Some frame })
+open-is y version frame v f = λ i. Some (record { version = v i; frame = f i })
+
+pub mapped : (word frame : ℕ) → frame_in word ≡ Some frame → mapping_of word ≡ Some (record { frame = frame; dirty = is_dirty word })
+mapped word frame e = ap (λ o. mapping_at o (is_dirty word)) e
+
+pub mapped-frame : (word : ℕ) → frame_of (mapping_of word) ≡ frame_in word
+mapped-frame word = at-frame (frame_in word) (is_dirty word)
+  where
+    at-frame : (o : Option ℕ) (dirty : Bool) → frame_of (mapping_at o dirty) ≡ o
+    at-frame None dirty = refl
+    at-frame (Some f) dirty = refl
+
+-- ---- the frame that a load reads
+
+pub locking-by : (s : Seat) → (s.exclusive || nat_lt 0 s.shares) ≡ true → IsLocking s
+locking-by s e =
+    ⊎_elim (λ t. inl t)
+    (λ f. let shares : nat_lt 0 s.shares ≡ true = ap (λ b. b || nat_lt 0 s.shares) (sym f) ∙ e in inr (grind (arith, nat_tests, shares)))
+    (cases_Bool s.exclusive)
+
+read-by : (b : Bool) (m : Option Mapping) (r : Option ℕ) (f : ℕ) → (b ≡ true → frame_of m ≡ Some f) → r ≡ Some f → (if b && is_some m then frame_of m else r) ≡ Some f
+read-by false m r f h e = e
+read-by true None r f h e = e
+read-by true (Some m) r f h e = h refl
+
+module _ {X : Type 0} where
+  -- a load reads the open read's frame, where that is the page's frame too if the pass has the page locked
+  pub reads-by : (v : View X) (p f : ℕ) → (IsLocking (seat_of v p) → frame_of (put_at no_held v.held p).mapping ≡ Some f) → open_frame (seat_of v p).reading ≡ Some f → frame_read_by v p ≡ Some f
+  reads-by v p f h e =
+      read-by ((seat_of v p).exclusive || nat_lt 0 (seat_of v p).shares) (put_at no_held v.held p).mapping (open_frame (seat_of v p).reading) f
+      (λ t. h (locking-by (seat_of v p) t)) e
+
+  pub holds-back : (v w : View X) (q : ℕ) → HoldsPage v w q → HoldsPage w v q
+  holds-back v w q h = record { shares = sym h.shares; exclusive = sym h.exclusive; writing = sym h.writing }
+
+  -- the frame that a load of page q reads stays, where its locks, what is known of it and its open read stay
+  pub still-read : (v w : View X) (q f : ℕ) → HoldsPage v w q → (IsLocking (seat_of v q) → put_at no_held w.held q ≡ put_at no_held v.held q) → (seat_of w q).reading ≡ (seat_of v q).reading
+      → frame_read_by v q ≡ Some f → open_frame (seat_of v q).reading ≡ Some f → frame_read_by w q ≡ Some f
+  still-read v w q f holds held reading by frame =
+      let same : ((seat_of w q).exclusive || nat_lt 0 (seat_of w q).shares) ≡ ((seat_of v q).exclusive || nat_lt 0 (seat_of v q).shares) = (λ i. holds.exclusive i || nat_lt 0 (holds.shares i)) in
+      ⊎_elim
+      (λ t. let e : put_at no_held w.held q ≡ put_at no_held v.held q = held (locking-by (seat_of v q) t) in
+      let whole : frame_read_by w q ≡ frame_read_by v q = (λ i. if (holds.exclusive i || nat_lt 0 (holds.shares i)) && is_some (e i).mapping then frame_of (e i).mapping else open_frame (reading i)) in
+      whole ∙ by)
+      (λ no. read-by ((seat_of w q).exclusive || nat_lt 0 (seat_of w q).shares) (put_at no_held w.held q).mapping (open_frame (seat_of w q).reading) f
+      (λ t. absurd (true≢false (sym t ∙ same ∙ no)))
+      (ap open_frame reading ∙ frame))
+      (cases_Bool ((seat_of v q).exclusive || nat_lt 0 (seat_of v q).shares))
+
+  -- ---- steps
+
+  module _ (tied : Start → ℕ → List ℕ → ℕ → List ℕ → Type 0) (p : ℕ) where
+    -- the open read after a look
+    pub looked-reading : (said : Option X) (found : ℕ) (v w : View X) → LookTold tied p said found v w
+        → (seat_of w p).reading ≡ open_after (left_at found (seat_of v p).reading) (seat_of v p).reading (version_of found)
+    looked-reading said found v w t =
+        let s : Seat = record (seat_of v p) { reading = open_after (left_at found (seat_of v p).reading) (seat_of v p).reading (version_of found) } in
+        ap (λ (s : Seat). s.reading) (seat-after (did_load (places.State p) found) [] (where_same (left_at found (seat_of v p).reading) (entries_of v said) []) v (looked_view p said found (last_of w p).words v) w t.brings p
+        ∙ upd-same (put_at no_seat v.seats) p s)
+
+    pub looked-loads : (said : Option X) (found : ℕ) (v w : View X) → LookTold tied p said found v w → loads_at w p ≡ kept_loads (left_at found (seat_of v p).reading) (loads_at v p)
+    looked-loads said found v w t =
+        loads-after (did_load (places.State p) found) [] (where_same (left_at found (seat_of v p).reading) (entries_of v said) []) v (looked_view p said found (last_of w p).words v) w t.brings p
+        ∙ upd-same (put_at [] v.loads) p (kept_loads (left_at found (seat_of v p).reading) (loads_at v p))
+
+    -- a look at a readable page leaves an open read at its version
+    pub looked-open : (said : Option X) (found : ℕ) (v w : View X) → LookTold tied p said found v w → is_readable (state_of found) ≡ true
+        → (x : Open) × ((seat_of w p).reading ≡ Some x) × (x.version ≡ version_of found)
+    looked-open said found v w t r =
+        let o : Option Open = (seat_of v p).reading in
+        let k = opened-at o (version_of found) in (
+          k.0,
+          looked-reading said found v w t
+              ∙ ap (λ l. open_after l o (version_of found)) (cond-true (is_readable (state_of found)) (left_open o (version_of found)) read.Closed r)
+              ∙ k.1,
+          k.2,
+        )
+
+    -- a look that leaves the open read in place leaves it as it was
+    pub looked-same : (said : Option X) (found : ℕ) (v w : View X) → LookTold tied p said found v w → left_at found (seat_of v p).reading ≡ read.Same → (seat_of w p).reading ≡ (seat_of v p).reading
+    looked-same said found v w t same = looked-reading said found v w t ∙ ap (λ l. open_after l (seat_of v p).reading (version_of found)) same
+
+  pub loaded-reading : (p f i found : ℕ) (v w : View X) → LoadTold p f i found v w → (seat_of w p).reading ≡ (seat_of v p).reading
+  loaded-reading p f i found v w t = ap (λ (s : Seat). s.reading) (seat-after (did_load (places.Content f i) found) [] [] v (loaded_view p i found v) w t.brings p)
+
+  -- a word that is loaded through an open read with a frame is the last of its loads
+  pub loaded-loads : (p f i found g : ℕ) (v w : View X) → LoadTold p f i found v w → open_frame (seat_of v p).reading ≡ Some g → loads_at w p ≡ loads_at v p ++ (i, found) ∷ []
+  loaded-loads p f i found g v w t frame =
+      loads-after (did_load (places.Content f i) found) [] [] v (loaded_view p i found v) w t.brings p
+      ∙ upd-same (put_at [] v.loads) p (loads_more (open_frame (seat_of v p).reading) (loads_at v p) i found)
+      ∙ ap (λ o. loads_more o (loads_at v p) i found) frame
+
+  -- the open read after its page's translation word was loaded, and the frame that a later look at the same version ties it to
+  pub translated-reading : (p word : ℕ) (v w : View X) (o : Open) → TranslationTold p word v w → (seat_of v p).reading ≡ Some o
+      → (y : Open) × ((seat_of w p).reading ≡ Some y) × (y.version ≡ o.version) × ((k : Mapping) → mapping_of word ≡ Some k → y.frame ≡ frame_or o.frame k.frame)
+  translated-reading p word v w o t e =
+      let s : Seat = record (seat_of v p) { reading = framed (seat_of v p).reading (mapping_of word) } in
+      let k = framed-at o (mapping_of word) in (
+        k.0,
+        ap (λ (s : Seat). s.reading) (seat-after (did_load (places.Translation p) word) [] [] v (tloaded_view p word v) w t.brings p ∙ upd-same (put_at no_seat v.seats) p s)
+            ∙ ap (λ r. framed r (mapping_of word)) e
+            ∙ k.1,
+        k.2,
+        k.3,
+      )
+
+  -- a frame that the open read had stays
+  pub translated-keeps : (p word : ℕ) (v w : View X) (version frame : ℕ) → TranslationTold p word v w → (seat_of v p).reading ≡ Some (record { version = version; frame = Some frame }) → (seat_of w p).reading ≡ Some (record { version = version; frame = Some frame })
+  translated-keeps p word v w version frame t e =
+      let s : Seat = record (seat_of v p) { reading = framed (seat_of v p).reading (mapping_of word) } in
+      ap (λ (s : Seat). s.reading) (seat-after (did_load (places.Translation p) word) [] [] v (tloaded_view p word v) w t.brings p ∙ upd-same (put_at no_seat v.seats) p s)
+      ∙ ap (λ r. framed r (mapping_of word)) e
+      ∙ keeps (mapping_of word)
+    where
+      keeps : (m : Option Mapping) → framed (Some (record { version = version; frame = Some frame })) m ≡ Some (record { version = version; frame = Some frame })
+      keeps None = refl
+      keeps (Some k) = refl
+
+  pub translated-list : (p word : ℕ) (v w : View X) (o : Open) → TranslationTold p word v w → (seat_of v p).reading ≡ Some o → w.translations ≡ record { page = p; version = o.version; word = word } ∷ v.translations
+  translated-list p word v w o t e =
+      ap (λ (x : View X). x.translations) t.brings.view ∙ ap (λ r. translation_of p word r ++ v.translations) e
+
+  -- an open read at the version found gets the frame that the translation word names, and a look at that version finds it in place
+  pub named : (tied : Start → ℕ → List ℕ → ℕ → List ℕ → Type 0) (p word seen : ℕ) (v w z : View X) (o : Open) → (seat_of v p).reading ≡ Some o → TranslationTold p word v w → LookTold tied p None seen w z
+      → is_readable (state_of seen) ≡ true → o.version ≡ version_of seen
+      → (f : ℕ) × (frame_in word ≡ Some f) × (f < w.start.frames) × ((seat_of z p).reading ≡ Some (record { version = version_of seen; frame = Some f }))
+  named tied p word seen v w z o reading t l readable at =
+      let y = translated-reading p word v w o t reading in
+      let same : left_at seen (seat_of w p).reading ≡ read.Same = ap (left_at seen) y.1 ∙ left-same seen y.0 readable (y.2 ∙ at) in
+      let all : Each (λ (t : Translation). t.page ≡ p → t.version ≡ version_of seen → NamesFrame w.start.frames t.word (seat_of w p).reading) (record { page = p; version = o.version; word = word } ∷ v.translations)
+      = subst (λ ts. Each (λ (t : Translation). t.page ≡ p → t.version ≡ version_of seen → NamesFrame w.start.frames t.word (seat_of w p).reading) ts) (translated-list p word v w o t reading) (l.frames same) in
+      let n : NamesFrame w.start.frames word (seat_of w p).reading = all.0 refl at in
+      let is : frame_in word ≡ Some n.frame = sym (mapped-frame word) ∙ n.names in
+      let own : (h : ℕ) → y.0.frame ≡ Some h → h ≡ n.frame = λ h e. n.same h (ap open_frame y.1 ∙ e) in
+      let got : y.0.frame ≡ frame_or o.frame n.frame = y.3 (record { frame = n.frame; dirty = is_dirty word }) (mapped word n.frame is) in
+      let frame : y.0.frame ≡ Some n.frame = got ∙ frame-or o.frame n.frame (λ h e. own h (got ∙ e)) in
+      (n.frame, is, n.inside, looked-same tied p None seen w z l same ∙ y.1 ∙ open-is y.0 (version_of seen) n.frame (y.2 ∙ at) frame)

@@ -1,0 +1,71 @@
+-- An open read stays as it is over steps that leave its page, and over loads of its words.
+use Rattle.std.proofs.Common.{ℕ, ◌≡◌, ◌≢◌, ◌<◌, ◌+◌, List, [], ◌∷◌, ◌++◌, length, take, suc, sym, ap, subst, ◌∙◌, append_assoc, slice_set, arith}
+use Rattle.std.proofs.lemmas.List.{take_more_set, length-take-le}
+use Rattle.vm_core.specs.FrameActs.{open_frame}
+use Rattle.vm_rule.specs.declared.view.Did.{Did}
+use Rattle.vm_rule.specs.declared.view.Place.TheVariants as places
+use Rattle.vm_rule.specs.declared.view.View.{View}
+use Rattle.vm_rule.specs.Puts.{put_at}
+use Rattle.vm_rule.specs.Views.{IsLocking, seat_of, loads_at}
+use Rattle.vm_rule.specs.Rule.{no_held}
+use Rattle.vm_rule.specs.Log.{did_load}
+use Rattle.vm_rule.specs.Loads.{LoadTold}
+use Rattle.vm_rule.proofs.Entries.{append-none}
+use Rattle.vm_guard.specs.Quiet.{HoldsPage, IsQuiet}
+use Rattle.vm_guard.specs.Guards.{IsReading, Loads, IsElsewhere, placed}
+use Rattle.vm_guard.proofs.QuietSteps.{load-quiet, quiet-then, quiet-none}
+use Rattle.vm_guard.proofs.OpenReads.{still-read, loaded-reading, loaded-loads}
+
+-- ---- words with their places
+
+pub placed-more : (n : ℕ) (xs : List ℕ) (x : ℕ) → placed n (xs ++ x ∷ []) ≡ placed n xs ++ (n + length xs, x) ∷ []
+placed-more n [] x = ap (λ (k : ℕ). (k, x) ∷ []) (omega arith)
+placed-more n (y ∷ ys) x =
+    let moved : suc n + length ys ≡ n + length (y ∷ ys) = omega arith in
+    ap (λ (l : List (ℕ × ℕ)). (n, y) ∷ l) (placed-more (suc n) ys x ∙ ap (λ (k : ℕ). placed (suc n) ys ++ (k, x) ∷ []) moved)
+
+-- one word more of a page that is filled from its first word on
+pub placed-taken : (i : ℕ) (xs : List ℕ) (x : ℕ) → i < length xs → placed 0 (take (i + 1) (slice_set xs i x)) ≡ placed 0 (take i xs) ++ (i, x) ∷ []
+placed-taken i xs x l =
+    let long : length (take i xs) ≡ i = length-take-le i xs (omega arith) in
+    let here : 0 + length (take i xs) ≡ i = omega (arith, long) in
+    ap (λ (ys : List ℕ). placed 0 ys) (take_more_set xs i x l) ∙ placed-more 0 (take i xs) x ∙ ap (λ (k : ℕ). placed 0 (take i xs) ++ (k, x) ∷ []) here
+
+module _ {X : Type 0} (p word frame : ℕ) where
+  pub reading-kept : (v w : View X) → IsReading p word frame v → w.start ≡ v.start → HoldsPage v w p → (IsLocking (seat_of v p) → put_at no_held w.held p ≡ put_at no_held v.held p)
+      → (seat_of w p).reading ≡ (seat_of v p).reading → IsReading p word frame w
+  reading-kept v w r start holds held reading = record {
+    page = subst (λ s. p < s.pages) (sym start) r.page;
+    frame_is = subst (λ s. frame < s.frames) (sym start) r.frame_is;
+    open_word = r.open_word;
+    reading = reading ∙ r.reading;
+    reads_from = still-read v w p frame holds held reading r.reads_from (ap open_frame r.reading);
+  }
+
+  -- calls that speak of another page leave it
+  pub reading-elsewhere : (q : ℕ) (done : List Did) (v w : View X) → p ≢ q → IsElsewhere q done v w → IsReading p word frame v → IsReading p word frame w
+  reading-elsewhere q done v w ne e r = reading-kept v w r e.steady.start (e.holds p ne) (λ l. (e.knows p ne l).held) (e.others p ne).reading
+
+  -- a word was loaded
+  pub word-loaded : (i found : ℕ) (v w : View X) → IsReading p word frame v → LoadTold p frame i found v w → Loads p word frame ((i, found) ∷ []) v w
+  word-loaded i found v w r t =
+      let quiet : IsQuiet p (did_load (places.Content frame i) found ∷ []) v w = load-quiet p frame i found v w t in
+      record {
+        done = did_load (places.Content frame i) found ∷ [];
+        quiet = quiet;
+        reads = reading-kept v w r quiet.steady.start (quiet.holds p) (λ l. (quiet.knows p l).held) (loaded-reading p frame i found v w t);
+        loads = loaded-loads p frame i found frame v w t (ap open_frame r.reading);
+      }
+
+  -- no word was
+  pub none-loaded : (v : View X) → IsReading p word frame v → Loads p word frame [] v v
+  none-loaded v r = record { done = []; quiet = quiet-none p v; reads = r; loads = sym (append-none (loads_at v p)) }
+
+  -- some words, and then others
+  pub loaded-then : (a b : List (ℕ × ℕ)) (u v w : View X) → Loads p word frame a u v → Loads p word frame b v w → Loads p word frame (a ++ b) u w
+  loaded-then a b u v w f g = record {
+    done = f.done ++ g.done;
+    quiet = quiet-then p f.done g.done u v w f.quiet g.quiet;
+    reads = g.reads;
+    loads = g.loads ∙ ap (λ (l : List (ℕ × ℕ)). l ++ b) f.loads ∙ append_assoc (loads_at u p) a b;
+  }

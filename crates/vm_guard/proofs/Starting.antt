@@ -1,0 +1,163 @@
+-- The start of an optimistic guard: what its looks and its load of the translation word prove of each answer.
+use Rattle.std.proofs.Common.{ℕ, ◌≡◌, ◌≢◌, ◌⊎◌, ◌<◌, ◌≤◌, true, Some, None, List, [], ◌∷◌, ◌++◌, refl, sym, ap, subst, ◌∙◌, ⊎_elim, arith, inl, inr}
+use Rattle.std.proofs.lemmas.Bool.{cases_eq}
+use Rattle.vm_core.specs.declared.event.Open.{Open}
+use Rattle.vm_core.specs.Words.{state_of, version_of, frame_in, LOCKED, EVICTED}
+use Rattle.vm_core.specs.StateActs.{is_readable}
+use Rattle.vm_core.specs.FrameActs.{frame_of, open_frame}
+use Rattle.vm_core.proofs.PageFacts.{some-same, none-some}
+use Rattle.vm_owner.specs.Kept.{Start}
+use Rattle.vm_rule.specs.declared.view.Did.{Did}
+use Rattle.vm_rule.specs.declared.view.Place.TheVariants as places
+use Rattle.vm_rule.specs.declared.view.View.{View}
+use Rattle.vm_rule.specs.Layout.{at_state}
+use Rattle.vm_rule.specs.Views.{Each, IsLocking, seat_of}
+use Rattle.vm_rule.specs.Log.{did_load}
+use Rattle.vm_rule.specs.Looks.{LookTold, IsSince, IsOlder, left_at}
+use Rattle.vm_rule.specs.Loads.{TranslationTold}
+use Rattle.vm_step.specs.declared.saw.At.TheVariants as ats
+use Rattle.vm_guard.specs.declared.deny.Deny.{Deny}
+use Rattle.vm_guard.specs.declared.deny.Deny.TheVariants as denies
+use Rattle.vm_step.specs.Evidence.Begins.{same, read}
+use Rattle.vm_guard.specs.Quiet.{IsQuiet}
+use Rattle.vm_guard.specs.Guards.{Begins, HasLeft, IsReading}
+use Rattle.vm_guard.specs.Denied.{AgainOrNeed, IsDenied, NoWord}
+use Rattle.vm_guard.proofs.QuietSteps.{quiet-then, look-quiet, translation-quiet, still-locking}
+use Rattle.vm_guard.proofs.Reading.{reading-kept}
+use Rattle.vm_guard.proofs.OpenReads.{left-same, looked-open, looked-same, translated-keeps, named, mapped-frame, reads-by, holds-back}
+
+-- a fact of a step in the middle
+pub each-at : {A : Type 0} (P : A → Type 0) (l : List A) (d : A) (m : List A) → Each P (l ++ d ∷ m) → P d
+each-at P [] d m h = h.0
+each-at P (x ∷ l) d m h = each-at P l d m h.1
+
+module _ {X : Type 0} (tied : Start → ℕ → List ℕ → ℕ → List ℕ → Type 0) (p : ℕ) where
+  -- the page was found Evicted by the first look
+  pub needed : (allowed : Deny → Type 0) (first : ℕ) (v w : View X) → allowed (denies.Need p) → LookTold tied p None first v w → state_of first ≡ EVICTED → IsDenied allowed NoWord p (denies.Need p) v w
+  needed allowed first v w may t e = record {
+    done = did_load (places.State p) first ∷ [];
+    quiet = look-quiet tied p first v w t;
+    evidence = (refl, record { word = first; given = record { earlier = []; step = did_load (places.State p) first; later = []; cut = refl; gives = (refl, refl) }; evicted = e; foreign = tt });
+    kind = may;
+  }
+
+  -- it was found Locked by the first look
+  pub locked-first : (allowed : Deny → Type 0) (first : ℕ) (v w : View X) → allowed (denies.Again (record { at = ats.Page p; first = first; seen = first })) → LookTold tied p None first v w → state_of first ≡ LOCKED
+      → IsDenied allowed NoWord p (denies.Again (record { at = ats.Page p; first = first; seen = first })) v w
+  locked-first allowed first v w may t e = record {
+    done = did_load (places.State p) first ∷ [];
+    quiet = look-quiet tied p first v w t;
+    evidence = (
+      refl,
+      record {
+        earlier = [];
+        last = did_load (places.State p) first;
+        later = [];
+        cut = refl;
+        gives = (refl, refl);
+        since = [];
+        begins = same refl refl;
+        quiet = tt;
+        why = inr (inl e);
+      },
+    );
+    kind = may;
+  }
+
+  module _ (first word seen : ℕ) (u v x w : View X) (l : LookTold tied p None first u v) (t : TranslationTold p word v x) (m : LookTold tied p None seen x w) where
+    later-quiet : IsQuiet p (did_load (places.Translation p) word ∷ did_load (places.State p) seen ∷ []) v w
+    later-quiet = quiet-then p (did_load (places.Translation p) word ∷ []) (did_load (places.State p) seen ∷ []) v x w (translation-quiet p word v x t) (look-quiet tied p seen x w m)
+
+    all-quiet : IsQuiet p (did_load (places.State p) first ∷ did_load (places.Translation p) word ∷ did_load (places.State p) seen ∷ []) u w
+    all-quiet = quiet-then p (did_load (places.State p) first ∷ []) (did_load (places.Translation p) word ∷ did_load (places.State p) seen ∷ []) u v w (look-quiet tied p first u v l) later-quiet
+
+    -- another version came to the page between the looks, or the second one found it Locked
+    pub moved : (version_of first ≢ version_of seen) ⊎ (state_of seen ≡ LOCKED) → IsDenied AgainOrNeed NoWord p (denies.Again (record { at = ats.Page p; first = first; seen = seen })) u w
+    moved why = record {
+      done = did_load (places.State p) first ∷ did_load (places.Translation p) word ∷ did_load (places.State p) seen ∷ [];
+      quiet = all-quiet;
+      evidence = (
+        refl,
+        record {
+          earlier = did_load (places.State p) first ∷ did_load (places.Translation p) word ∷ [];
+          last = did_load (places.State p) seen;
+          later = [];
+          cut = refl;
+          gives = (refl, refl);
+          since = did_load (places.Translation p) word ∷ [];
+          begins = read [] (did_load (places.State p) first) refl (refl, refl);
+          quiet = (λ _. (none-some seen, λ _. refl), tt);
+          why = ⊎_elim (λ n. inl n) (λ e. inr (inl e)) why;
+        },
+      );
+      kind = tt;
+    }
+
+    -- a page that was not Evicted is not at the same version later
+    pub still-resident : state_of first ≢ EVICTED → version_of seen ≡ version_of first → state_of seen ≢ EVICTED
+    still-resident resident at gone =
+        let before : x.log ≡ (u.log ++ did_load (places.State p) first ∷ []) ++ did_load (places.Translation p) word ∷ []
+        = (translation-quiet p word v x t).steady.log ∙ ap (λ (g : List Did). g ++ did_load (places.Translation p) word ∷ []) (look-quiet tied p first u v l).steady.log in
+        let all = subst (λ g. Each (λ (d : Did). at_state d.at (λ q. q ≡ p → IsSince seen d.found × IsSince seen d.wrote)) g) before m.since in
+        let near = front (λ (d : Did). at_state d.at (λ q. q ≡ p → IsSince seen d.found × IsSince seen d.wrote)) (u.log ++ did_load (places.State p) first ∷ []) (did_load (places.Translation p) word ∷ []) all in
+        let since = each-at (λ (d : Did). at_state d.at (λ q. q ≡ p → IsSince seen d.found × IsSince seen d.wrote)) u.log (did_load (places.State p) first) [] near in
+        resident ((since refl).0.2 gone (sym at))
+      where
+        front : {A : Type 0} (P : A → Type 0) (l m : List A) → Each P (l ++ m) → Each P l
+        front P [] m h = tt
+        front P (d ∷ l) m h = (h.0, front P l m h.1)
+
+    module _ (readable : is_readable (state_of first) ≡ true) (still : is_readable (state_of seen) ≡ true) (at : version_of seen ≡ version_of first) where
+      names : (f : ℕ) × (frame_in word ≡ Some f) × (f < x.start.frames) × ((seat_of w p).reading ≡ Some (record { version = version_of seen; frame = Some f }))
+      names =
+          let o = looked-open tied p None first u v l readable in
+          named tied p word seen v x w o.0 o.1 t m still (o.2 ∙ sym at)
+
+      -- the translation word names a frame
+      pub names-frame : frame_in word ≡ None → ⊥
+      names-frame e = none-some names.0 (sym e ∙ names.1)
+
+      -- an earlier guard of the page, at the version found, reads on; one at an earlier version was left
+      stays : (kept frame : ℕ) → IsReading p kept frame u → IsReading p kept frame w ⊎ HasLeft p kept w
+      stays kept frame r =
+          let o : Open = record { version = version_of kept; frame = Some frame } in
+          let older : IsOlder first (Some o) = subst (IsOlder first) r.reading l.older in
+          let low : version_of kept ≤ version_of first = older.0 in
+          ⊎_elim
+          (λ e. let opened : (seat_of v p).reading ≡ Some o = looked-same tied p None first u v l (ap (left_at first) r.reading ∙ left-same first o readable e) ∙ r.reading in
+          let named : (seat_of x p).reading ≡ Some o = translated-keeps p word v x (version_of kept) frame t opened in
+          let seen-same : (seat_of w p).reading ≡ (seat_of x p).reading = looked-same tied p None seen x w m (ap (left_at seen) named ∙ left-same seen o still (e ∙ sym at)) in
+          inl (reading-kept p kept frame u w r all-quiet.steady.start (all-quiet.holds p) (λ k. (all-quiet.knows p k).held) (seen-same ∙ named ∙ sym r.reading)))
+          (λ ne. inr record {
+            earlier = u.log;
+            step = did_load (places.State p) first;
+            later = did_load (places.Translation p) word ∷ did_load (places.State p) seen ∷ [];
+            cut = all-quiet.steady.log;
+            at = refl;
+            other = first;
+            was = inl refl;
+            gone = inl (omega (arith, low, ne));
+          })
+          (cases_eq (version_of kept) (version_of first))
+
+      pub began : (frame : ℕ) → p < u.start.pages → frame_in word ≡ Some frame → Begins p seen frame u w
+      began frame inside e =
+          let here : names.0 ≡ frame = some-same names.0 frame (sym names.1 ∙ e) in
+          let start : w.start ≡ u.start = all-quiet.steady.start in
+          let reading : (seat_of w p).reading ≡ Some (record { version = version_of seen; frame = Some frame }) = names.3 ∙ ap (λ (f : ℕ). Some (record { version = version_of seen; frame = Some f })) here in
+          record {
+            done = did_load (places.State p) first ∷ did_load (places.Translation p) word ∷ did_load (places.State p) seen ∷ [];
+            quiet = all-quiet;
+            reads = record {
+              page = subst (λ s. p < s.pages) (sym start) inside;
+              frame_is = subst (λ s. frame < s.frames) (sym (look-quiet tied p seen x w m).steady.start) (subst (λ f. f < x.start.frames) here names.2);
+              open_word = still;
+              reading = reading;
+              reads_from = reads-by w p frame
+                  (λ k. let locking : IsLocking (seat_of v p) = still-locking w v p (holds-back v w p (later-quiet.holds p)) k in
+                  ap (λ h. frame_of h.mapping) (later-quiet.knows p locking).held ∙ sym (t.locked locking) ∙ mapped-frame word ∙ e)
+                  (ap open_frame reading);
+            };
+            version = m.version;
+            stays = stays;
+          }

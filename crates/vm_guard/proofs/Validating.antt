@@ -1,0 +1,128 @@
+-- The look that validates an optimistic guard: what it proves of each answer.
+use Rattle.std.proofs.Common.{ℕ, ◌≡◌, ◌≢◌, ◌⊎◌, ◌<◌, ◌≤◌, true, false, true≢false, Option, Some, None, List, [], ◌∷◌, ◌++◌, refl, sym, ap, subst, ◌∙◌, ⊎_elim, inl, inr, arith}
+use Rattle.std.proofs.lemmas.Bool.{cases_eq}
+use Rattle.vm_core.specs.declared.event.ReadIs.TheVariants as opens
+use Rattle.vm_core.specs.Words.{state_of, version_of, LOCKED, EVICTED}
+use Rattle.vm_core.specs.StateActs.{is_readable}
+use Rattle.vm_core.specs.History.{kept_loads}
+use Rattle.vm_owner.specs.declared.Entry.{Entry}
+use Rattle.vm_owner.specs.Kept.{Start}
+use Rattle.vm_rule.specs.declared.view.Did.{Did}
+use Rattle.vm_rule.specs.declared.view.Place.TheVariants as places
+use Rattle.vm_rule.specs.declared.view.Tie.{Tie}
+use Rattle.vm_rule.specs.declared.view.View.{View}
+use Rattle.vm_rule.specs.Layout.{at_state}
+use Rattle.vm_rule.specs.Views.{Each, seat_of, loads_at}
+use Rattle.vm_rule.specs.Reading.{last_of}
+use Rattle.vm_rule.specs.Rule.{began_of}
+use Rattle.vm_rule.specs.Brought.{entries_of}
+use Rattle.vm_rule.specs.Log.{did_load}
+use Rattle.vm_rule.specs.Looks.{LookTold, IsSince, IsSinceAll, IsOlder, left_at, where_same, ties_below}
+use Rattle.vm_step.specs.declared.saw.At.TheVariants as ats
+use Rattle.vm_step.specs.Evidence.Begins.{guarded}
+use Rattle.vm_guard.specs.declared.deny.Deny.TheVariants as denies
+use Rattle.vm_guard.specs.Quiet.{ReadsAsBefore}
+use Rattle.vm_guard.specs.Guards.{IsReading, HasLeft, IsValid}
+use Rattle.vm_guard.specs.Denied.{AgainOrNeed, IsDenied, KeptWord}
+use Rattle.vm_guard.proofs.QuietSteps.{IsLooked, looked, look-unsaid, same-both, where-other}
+use Rattle.vm_guard.proofs.OpenReads.{left-same, left-other, readable-state, locked-unreadable, looked-same, looked-loads}
+use Rattle.vm_guard.proofs.Reading.{reading-kept}
+use Rattle.vm_guard.proofs.Starting.{each-at}
+
+-- the word found agrees with the one that a step of the pass found or left since the guard began
+pub left-since : {X : Type 0} (p word seen : ℕ) (v : View X) (h : HasLeft p word v) → IsSinceAll p seen v.log → IsSince seen (Some h.other)
+left-since p word seen v h since =
+    let all = subst (λ g. Each (λ (d : Did). at_state d.at (λ q. q ≡ p → IsSince seen d.found × IsSince seen d.wrote)) g) h.cut since in
+    let here = each-at (λ (d : Did). at_state d.at (λ q. q ≡ p → IsSince seen d.found × IsSince seen d.wrote)) h.earlier h.step h.later all in
+    let both : IsSince seen h.step.found × IsSince seen h.step.wrote = subst (λ x. at_state x (λ q. q ≡ p → IsSince seen h.step.found × IsSince seen h.step.wrote)) h.at here refl in
+    ⊎_elim (λ e. subst (IsSince seen) e both.0) (λ e. subst (IsSince seen) e both.1) h.was
+
+module _ {X : Type 0} (tied : Start → ℕ → List ℕ → ℕ → List ℕ → Type 0) (p word frame : ℕ) (said : Option X) (seen : ℕ) (v w : View X) (t : LookTold tied p said seen v w) where
+  -- the guard's read is open, or the pass left it, and then nothing is said
+  abbrev pub MayValidate : Type 0
+  MayValidate = IsReading p word frame v ⊎ (HasLeft p word v × (said ≡ None))
+
+  -- what is said becomes no entry where the page has another version or can't be read
+  unsaid : MayValidate → (version_of seen ≢ version_of word) ⊎ (is_readable (state_of seen) ≡ false) → where_same (left_at seen (seat_of v p).reading) (entries_of v said) [] ≡ []
+  unsaid may other =
+      ⊎_elim
+      (λ r. where-other (left_at seen (seat_of v p).reading) (entries_of v said) []
+      (λ e. left-other seen (record { version = version_of word; frame = Some frame }) (⊎_elim (λ ne. inl (λ h. ne (sym h))) (λ f. inr f) other) (ap (left_at seen) (sym r.reading) ∙ e)))
+      (λ h. subst (λ s. where_same (left_at seen (seat_of v p).reading) (entries_of v s) [] ≡ []) (sym h.1) (same-both (left_at seen (seat_of v p).reading) []))
+      may
+
+  pub refused : MayValidate → (version_of seen ≢ version_of word) ⊎ (state_of seen ≡ LOCKED) → IsDenied AgainOrNeed (KeptWord word) p (denies.Again (record { at = ats.Page p; first = word; seen = seen })) v w
+  refused may why = record {
+    done = did_load (places.State p) seen ∷ [];
+    quiet = look-unsaid tied p said seen v w t (unsaid may (⊎_elim (λ ne. inl ne) (λ e. inr (locked-unreadable (state_of seen) e)) why));
+    evidence = (
+      refl,
+      record {
+        earlier = [];
+        last = did_load (places.State p) seen;
+        later = [];
+        cut = refl;
+        gives = (refl, refl);
+        since = [];
+        begins = guarded refl refl;
+        quiet = tt;
+        why = ⊎_elim (λ ne. inl (λ e. ne (sym e))) (λ e. inr (inl e)) why;
+      },
+    );
+    kind = tt;
+  }
+
+  module _ (at : version_of seen ≡ version_of word) (unlocked : state_of seen ≢ LOCKED) (small : state_of seen < 256) where
+    -- an open read at the version of an Evicted page there can't be
+    reading-resident : IsReading p word frame v → state_of seen ≢ EVICTED
+    reading-resident r gone =
+        let older : IsOlder seen (Some (record { version = version_of word; frame = Some frame })) = subst (IsOlder seen) r.reading t.older in
+        let less : version_of word < version_of seen = older.1 gone in
+        omega (arith, less, at)
+
+    -- a page that a step left Locked at that version, or at a later one, is never found readable at that version again
+    since-left : (other : ℕ) → IsSince seen (Some other) → (version_of word < version_of other) ⊎ ((state_of other ≡ LOCKED) × (version_of other ≡ version_of word)) → ⊥
+    since-left other h gone =
+        ⊎_elim
+        (λ less. let within : version_of other ≤ version_of seen = h.0 in omega (arith, less, within, at))
+        (λ l. let same : version_of other ≡ version_of seen = l.1 ∙ sym at in
+        let resident : state_of seen ≢ EVICTED = (λ e. let gone : state_of other ≡ EVICTED = h.2 e same in let locked : state_of other ≡ LOCKED = l.0 in omega (arith, gone, locked)) in
+        true≢false (sym (readable-state (state_of seen) small unlocked resident) ∙ h.1 (locked-unreadable (state_of other) l.0) same))
+        gone
+
+    not-left : HasLeft p word v → ⊥
+    not-left h = since-left h.other (left-since p word seen v h t.since) h.gone
+
+    pub in-place : MayValidate → IsReading p word frame v
+    in-place may = ⊎_elim (λ r. r) (λ h. absurd (not-left h.0)) may
+
+    pub validated : MayValidate → IsValid tied p word frame said v w
+    validated may =
+        let r : IsReading p word frame v = in-place may in
+        let readable : is_readable (state_of seen) ≡ true = readable-state (state_of seen) small unlocked (reading-resident r) in
+        let same : left_at seen (seat_of v p).reading ≡ opens.Same = ap (left_at seen) r.reading ∙ left-same seen (record { version = version_of word; frame = Some frame }) readable (sym at) in
+        let k : IsLooked p (did_load (places.State p) seen ∷ []) v w = looked tied p said seen v w t in
+        let reading : (seat_of w p).reading ≡ (seat_of v p).reading = looked-same tied p said seen v w t same in
+        let entries : where_same (left_at seen (seat_of v p).reading) (entries_of v said) [] ≡ entries_of v said = ap (λ l. where_same l (entries_of v said) []) same in
+        record {
+          done = did_load (places.State p) seen ∷ [];
+          steady = k.steady;
+          mine = ap (λ (x : View X). x.mine) t.brings.view ∙ ap (λ (l : List (Entry X)). v.mine ++ l) entries;
+          entry = (t.brings.others, ap (λ (x : View X). x.seen) t.brings.view ∙ ap (λ (l : List (Entry X)). (v.seen ++ t.brings.others) ++ l) entries);
+          group = k.group;
+          holds = k.holds;
+          knows = k.knows;
+          reads = reading-kept p word frame v w r k.steady.start (k.holds p) (λ l. (k.knows p l).held) reading;
+          same_reads = λ q. ⊎_elim
+              (λ e. subst (λ n. ReadsAsBefore v w n) (sym e) (record { reading = reading; loads = looked-loads tied p said seen v w t ∙ ap (λ l. kept_loads l (loads_at v p)) same }))
+              (λ ne. k.others q ne)
+              (cases_eq q p);
+          version = t.version ∙ at;
+          size = t.size;
+          ties = ap (λ (x : View X). x.ties) t.brings.view ∙ ap (λ l. where_same l (ties_below v.start.pages v p (last_of w p).words) [] ++ v.ties) same;
+          validates = λ tells. record {
+            valid = λ o e _. t.valid tells same;
+            holds = subst (λ n. Each (λ (x : Tie). x.page ≡ p → x.version ≡ n → tied (began_of v.start) x.of x.words p (last_of w p).words) v.ties) at (t.holds tells same);
+            itself = t.itself tells same;
+          };
+        }

@@ -1,0 +1,33 @@
+use Rattle.std.proofs.Common.{◌<◌, subst, sym, refl, inl, ◌∙◌}
+use Rattle.std.proofs.Common.{IsSome}
+use Rattle.vm_step.specs.Passes.{view}
+use Rattle.vm_guard.proofs.GuardSteps.{parts-on, still-of}
+use Rattle.vm_guard.proofs.QuietSteps.{load-quiet}
+use Rattle.vm_guard.proofs.Seats.{frame-read}
+use Rattle.vm_guard.proofs.exclusive.ExclusiveGuard.read.Goals as goal
+
+pub load-requires-clause-page : goal.load-requires-clause-page
+load-requires-clause-page g c =
+    let is = c.requires.ready.table.is_shape in
+    let h = c.requires.holds in (
+      subst (λ n. c.args.self.now.pid < n) is.pages h.page,
+      subst (λ n. c.args.self.now.frame < n) is.frames h.frame_is,
+      c.requires.word,
+    )
+
+pub load-requires-clause-frame : goal.load-requires-clause-frame
+load-requires-clause-frame g c = let h = c.requires.holds in frame-read (view c.args.pass.now) c.args.self.now.pid _ (inl h.owns) h.stands
+
+pub returns-clause-quiet : goal.returns-clause-quiet
+returns-clause-quiet g c = (_, load-quiet _ _ _ _ _ _ c.load.ensures.told)
+
+pub returns-clause-value : goal.returns-clause-value
+returns-clause-value g c tells =
+    let h = c.requires.holds in
+    c.load.ensures.told.drafted tells h.owns (subst (λ o. IsSome o) (sym h.stands) refl)
+
+pub returns-clause-ready : goal.returns-clause-ready
+returns-clause-ready g c =
+    let ready = c.requires.ready in
+    let steady = (load-quiet _ _ _ _ _ _ c.load.ensures.told).steady in
+    record { may = (c.load.ensures.pass.0 ∙ ready.may.0, parts-on _ _ _ steady ready.may.1); table = still-of _ _ _ _ steady.start ready.table }

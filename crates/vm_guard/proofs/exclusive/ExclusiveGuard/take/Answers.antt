@@ -1,0 +1,38 @@
+-- The look, the exchange and the load of the translation word give each answer.
+use Rattle.std.proofs.Common.{◌<◌, refl, sym, subst, inl}
+use Rattle.std.proofs.lemmas.Result.{err_from_is_err_and}
+use Rattle.vm_core.specs.Words.{version_of, word_of, LOCKED}
+use Rattle.vm_step.specs.Passes.{view}
+use Rattle.vm_guard.specs.Denied.{NotCrowded}
+use Rattle.vm_guard.specs.Guards.{IsLocked}
+use Rattle.vm_guard.proofs.Denials.{denied-at-once, denied-lost}
+use Rattle.vm_guard.proofs.QuietSteps.{lock-lost}
+use Rattle.vm_guard.proofs.Lockings.{lock-owns, lock-resident, locked}
+use Rattle.vm_guard.proofs.exclusive.ExclusiveGuard.take.Goals as goal
+
+pub returns-in_err-expects-clause-denied : goal.returns-in_err-expects-clause-denied
+returns-in_err-expects-clause-denied g c =
+    let p = err_from_is_err_and c.from_residual.result c.from_residual.ensures.1 in
+    let why = c.in_err-expects.ensures.denied in
+    rw (p.1, p.2) (denied-at-once g.U.Owner.tied NotCrowded c.args.pid c.look_silently-word.result c.in_err-expects.field-0.0 _ _ c.look_silently-word.ensures.told why.0 why.1)
+
+pub standing-stands-requires-clause-locked : goal.standing-stands-requires-clause-locked
+standing-stands-requires-clause-locked g c = inl (lock-owns _ _ _ _ _ c.in-Taken.ensures.told)
+
+pub standing-stands-requires-clause-resident : goal.standing-stands-requires-clause-resident
+standing-stands-requires-clause-resident g c = lock-resident _ _ _ _ _ c.in-Taken.ensures.told c.in_ok-expects.ensures.ok.resident
+
+pub returns-in-Lost-clause-denied : goal.returns-in-Lost-clause-denied
+returns-in-Lost-clause-denied g c =
+    let lost = c.in-Lost.ensures in
+    let other = lost.lost c.in-Lost.seen refl in
+    denied-lost g.U.Owner.tied NotCrowded c.args.pid c.look_silently-word.result c.in_ok-expects.expects c.in-Lost.seen (word_of LOCKED (version_of c.in_ok-expects.expects)) _ _ _ c.look_silently-word.ensures.told
+    (lock-lost _ _ _ _ _ _ other lost.told) c.in_ok-expects.ensures.ok.version other tt
+
+pub returns-in-Taken-clause-taken : goal.returns-in-Taken-clause-taken
+returns-in-Taken-clause-taken g c = (
+  refl,
+  subst (λ n. IsLocked g.U.Owner.tied c.args.pid c.standing-stands.result.frame n c.standing-stands.result.dirty (view c.args.pass.now) (view c.standing-stands.new.pass)) (sym c.version.ensures)
+      (locked _ _ _ _ _ _ _ _ _ _ c.look_silently-word.ensures.told c.in_ok-expects.ensures.ok c.in-Taken.ensures.told c.standing-stands.ensures.told.1 c.standing-stands.ensures.told.2
+      (subst (λ n. c.args.pid < n) (sym c.look_silently-word.ensures.table.is_shape.pages) c.requires.page)),
+)

@@ -1,0 +1,21 @@
+use Rattle.std.proofs.Common.{◌≡◌, ◌≢◌, ◌<◌, ◌∙◌, sym, subst, arith, ⊎_elim, inl, inr}
+use Rattle.vm_core.specs.Words.{state_of, LOCKED, EVICTED}
+use Rattle.vm_rule.proofs.WordFacts.{version-within}
+use Rattle.vm_guard.specs.Takes.{IsToExpect}
+use Rattle.vm_guard.proofs.Expecting.{expect-same, expect-bare}
+use Rattle.vm_guard.proofs.exclusive.expected.Goals as goal
+
+pub of-requires : goal.of-requires
+of-requires c = omega (arith, c.version-version.ensures, version-within c.args.word)
+
+pub returns-in-0-clause-ok : goal.returns-in-0-clause-ok
+returns-in-0-clause-ok c =
+    expect-same c.args.word (⊎_elim (λ e. inl (sym c.state.ensures ∙ e)) (λ e. inr (sym c.state.ensures ∙ e)) c.in-0.is)
+    (λ e. c.if-version-eq-MAX_VERSION.false (c.version-version.ensures ∙ e))
+
+pub returns-in_default-2-clause-ok : goal.returns-in_default-2-clause-ok
+returns-in_default-2-clause-ok c =
+    let unlocked : state_of c.args.word ≢ LOCKED = λ (e : state_of c.args.word ≡ LOCKED). omega (arith, c.state.ensures, e) in
+    let resident : state_of c.args.word ≢ EVICTED = λ (e : state_of c.args.word ≡ EVICTED). omega (arith, c.state.ensures, e) in
+    subst (IsToExpect c.args.word) (sym c.of.ensures)
+    (expect-bare c.args.word c.version-version.result c.version-version.ensures (λ e. c.if-version-eq-MAX_VERSION.false (c.version-version.ensures ∙ e)) (subst (λ n. n < 256) c.state.ensures c.state.type_inv) unlocked resident)

@@ -1,0 +1,35 @@
+use Rattle.std.proofs.Common.{◌≡◌, ◌≢◌, ◌<◌, ◌≤◌, refl, sym, subst, ◌∙◌, inl, arith}
+use Rattle.vm_core.specs.Words.{version_of}
+use Rattle.vm_rule.proofs.WordFacts.{version-within}
+use Rattle.vm_guard.proofs.Upgrading.{worn, lost, upgraded}
+use Rattle.vm_guard.proofs.Lockings.{lock-owns, lock-resident}
+use Rattle.vm_guard.proofs.opt.OptGuard.upgrade.Goals as goal
+
+pub returns-then-version-eq-MAX_VERSION-clause-denied : goal.returns-then-version-eq-MAX_VERSION-clause-denied
+returns-then-version-eq-MAX_VERSION-clause-denied g c =
+    worn g.U.Owner.tied _ _ c.args.self.frame _ _ _ c.look_silently.ensures.told c.requires.reading (sym c.version.ensures ∙ c.if-version-eq-MAX_VERSION.true)
+
+pub unlocked-expects-requires : goal.unlocked-expects-requires
+unlocked-expects-requires g c =
+    let within : version_of c.args.self.word ≤ 72057594037927935 = version-within c.args.self.word in
+    let other : version_of c.args.self.word ≢ 72057594037927935 = λ e. c.if-version-eq-MAX_VERSION.false (c.version.ensures ∙ e) in
+    omega (arith, within, other)
+
+pub standing-stands-requires-clause-locked : goal.standing-stands-requires-clause-locked
+standing-stands-requires-clause-locked g c = inl (lock-owns g.U.Owner.tied _ _ _ _ c.in-Taken.ensures.told)
+
+pub standing-stands-requires-clause-resident : goal.standing-stands-requires-clause-resident
+standing-stands-requires-clause-resident g c = lock-resident g.U.Owner.tied _ _ _ _ c.in-Taken.ensures.told c.unlocked-expects.ensures.expects.resident
+
+pub returns-in-Lost-clause-denied : goal.returns-in-Lost-clause-denied
+returns-in-Lost-clause-denied g c = lost g.U.Owner.tied _ _ c.args.self.frame _ _ _ _ c.in-Lost.ensures.told (c.in-Lost.ensures.lost _ refl) c.unlocked-expects.ensures.kept
+
+pub returns-in-Taken-clause-taken : goal.returns-in-Taken-clause-taken
+returns-in-Taken-clause-taken g c =
+    let stands = c.standing-stands.ensures.told in (
+      refl,
+      c.version-in-Taken.ensures ∙ c.unlocked-expects.ensures.version,
+      rw c.version-in-Taken.ensures
+          (upgraded g.U.Owner.tied _ _ stands.0 _ _ _ _ c.unlocked-expects.ensures.expects c.in-Taken.ensures.told stands.1 stands.2
+          (subst (λ n. c.args.self.pid < n) (sym c.requires.ready.table.is_shape.pages) c.requires.page)),
+    )

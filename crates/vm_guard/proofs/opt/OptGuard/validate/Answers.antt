@@ -1,0 +1,21 @@
+use Rattle.std.proofs.Common.{◌<◌, sym, subst, ◌∙◌, inl, inr}
+use Rattle.vm_guard.proofs.Validating.{refused, validated}
+use Rattle.vm_guard.proofs.opt.OptGuard.validate.Goals as goal
+
+pub returns-then-version-clause-err : goal.returns-then-version-clause-err
+returns-then-version-clause-err g c =
+    rw c.saw.ensures
+    (refused g.U.Owner.tied _ _ c.args.self.now.frame _ _ _ _ c.look-seen.ensures.told c.requires.reading (inl (λ e. c.if-version.true (c.version.ensures ∙ e ∙ sym c.version-2.ensures))))
+
+pub returns-then-state-clause-err : goal.returns-then-state-clause-err
+returns-then-state-clause-err g c =
+    rw c.saw-then-state.ensures
+    (refused g.U.Owner.tied _ _ c.args.self.now.frame _ _ _ _ c.look-seen.ensures.told c.requires.reading (inr (sym c.state.ensures ∙ c.if-state.true)))
+
+pub returns-clause-ok : goal.returns-clause-ok
+returns-clause-ok g c =
+    validated g.U.Owner.tied _ _ c.args.self.now.frame _ _ _ _ c.look-seen.ensures.told
+    (sym c.version.ensures ∙ c.if-version.false ∙ c.version-2.ensures)
+    (λ e. c.if-state.false (c.state.ensures ∙ e))
+    (subst (λ n. n < 256) c.state.ensures c.state.type_inv)
+    c.requires.reading

@@ -1,0 +1,172 @@
+-- What guards are to the view of their pass, and what their calls answer.
+use Rattle.std.specs.Prelude.{ℕ, Bool, true, false, Option, Some, None, List, [], ◌∷◌, ◌++◌, ◌≡◌, ◌≢◌, ◌⊎◌, ◌+◌, ◌<◌, ◌≤◌, length, slice_set, suc}
+use Rattle.vm_core.specs.declared.event.Mapping.{Mapping}
+use Rattle.vm_core.specs.declared.event.Open.{Open}
+use Rattle.vm_core.specs.Words.{state_of, version_of, word_of, LOCKED, MAX_VERSION}
+use Rattle.vm_core.specs.StateActs.{is_readable, unshared}
+use Rattle.vm_owner.specs.Kept.{Start}
+use Rattle.vm_owner.specs.Numbers.{has, without}
+use Rattle.vm_rule.specs.declared.view.Did.{Did}
+use Rattle.vm_rule.specs.declared.view.Place.TheVariants as places
+use Rattle.vm_rule.specs.declared.view.View.{View}
+use Rattle.vm_rule.specs.Puts.{put_at}
+use Rattle.vm_rule.specs.Views.{IsLocking, seat_of, loads_at, draft_of}
+use Rattle.vm_rule.specs.Reading.{last_of}
+use Rattle.vm_rule.specs.Rule.{no_held}
+use Rattle.vm_rule.specs.Brought.{entries_of}
+use Rattle.vm_rule.specs.Looks.{ties_below}
+use Rattle.vm_rule.specs.Releases.{next_after}
+use Rattle.vm_rule.specs.Loads.{frame_read_by}
+use Rattle.vm_rule.specs.Locks.{Validates}
+use Rattle.vm_step.specs.Evidence.{HasWritten}
+use Rattle.vm_guard.specs.Quiet.{IsSteady, IsQuiet, HoldsPage, KnowsAsBefore, ReadsAsBefore}
+
+-- the words of a page with their places, from i on
+abbrev pub placed : ℕ → List ℕ → List (ℕ × ℕ)
+placed i [] = []
+placed i (x ∷ xs) = (i, x) ∷ placed (suc i) xs
+
+module _ {X : Type 0} where
+  -- ---- optimistic guards
+
+  -- the pass still has the open read that began at this word of page p, which could be read, and reads it from this frame
+  pub record IsReading (p word frame : ℕ) (v : View X) : Type 0 where
+    pub page : p < v.start.pages
+    pub frame_is : frame < v.start.frames
+    pub open_word : is_readable (state_of word) ≡ true
+    pub reading : (seat_of v p).reading ≡ Some (record { version = version_of word; frame = Some frame })
+    -- that is the frame which a load of the page reads, also under a share of the page
+    pub reads_from : frame_read_by v p ≡ Some frame
+
+  -- since the guard began at this word, a step of the pass found or left the page Locked at that version, or at a later version
+  pub record HasLeft (p word : ℕ) (v : View X) : Type 0 where
+    pub earlier : List Did
+    pub step : Did
+    pub later : List Did
+    pub cut : v.log ≡ earlier ++ step ∷ later
+    pub at : step.at ≡ places.State p
+    pub other : ℕ
+    pub was : (step.found ≡ Some other) ⊎ (step.wrote ≡ Some other)
+    pub gone : (version_of word < version_of other) ⊎ ((state_of other ≡ LOCKED) × (version_of other ≡ version_of word))
+
+  -- a guard began
+  pub record Begins (p word frame : ℕ) (v w : View X) : Type 0 where
+    pub done : List Did
+    pub quiet : IsQuiet p done v w
+    pub reads : IsReading p word frame w
+    pub version : (last_of w p).version ≡ version_of word
+    -- a guard of the page that the pass had before reads on, or its read was left
+    pub stays : (kept frame' : ℕ) → IsReading p kept frame' v → IsReading p kept frame' w ⊎ HasLeft p kept w
+
+  -- words of the page were loaded, and the read is still open
+  pub record Loads (p word frame : ℕ) (loaded : List (ℕ × ℕ)) (v w : View X) : Type 0 where
+    pub done : List Did
+    pub quiet : IsQuiet p done v w
+    pub reads : IsReading p word frame w
+    pub loads : loads_at w p ≡ loads_at v p ++ loaded
+
+  -- the read was validated: every word loaded through it is the last version's, what is said is an entry there, every other open read is
+  -- tied to the page's words, and what earlier validations tied to the page holds
+  pub record IsValid (tied : Start → ℕ → List ℕ → ℕ → List ℕ → Type 0) (p word frame : ℕ) (said : Option X) (v w : View X) : Type 0 where
+    pub done : List Did
+    pub steady : IsSteady done v w
+    pub mine : w.mine ≡ v.mine ++ entries_of v said
+    pub entry : (others : List _) × (w.seen ≡ (v.seen ++ others) ++ entries_of v said)
+    pub group : (w.pending ≡ v.pending) × (w.owed ≡ v.owed) × (w.next ≡ v.next)
+    pub holds : (q : ℕ) → HoldsPage v w q
+    pub knows : (q : ℕ) → IsLocking (seat_of v q) → KnowsAsBefore v w q
+    pub reads : IsReading p word frame w
+    pub same_reads : (q : ℕ) → ReadsAsBefore v w q
+    pub version : (last_of w p).version ≡ version_of word
+    pub size : length (last_of w p).words ≡ 64
+    pub ties : w.ties ≡ ties_below v.start.pages v p (last_of w p).words ++ v.ties
+    pub validates : v.start.tells ≡ true → Validates tied p (version_of word) (last_of w p).words v
+
+  -- ---- exclusive guards
+
+  -- the pass holds page p exclusively, in this frame, dirty or not, at this version; it has not begun to release it, and its block is at home
+  pub record IsHolding (p frame version : ℕ) (dirty : Bool) (v : View X) : Type 0 where
+    pub page : p < v.start.pages
+    pub frame_is : frame < v.start.frames
+    pub below : version < MAX_VERSION
+    pub owns : (seat_of v p).exclusive ≡ true
+    pub stands : (put_at no_held v.held p).mapping ≡ Some (record { frame = frame; dirty = dirty })
+    pub told : (put_at no_held v.held p).fault ≡ (put_at no_held v.held p).block.count
+    pub at : (last_of v p).version ≡ version
+    pub size : length (draft_of v p) ≡ 64
+    pub free : has p v.pending ≡ false
+
+  -- all but page p is as it was
+  pub record IsElsewhere (p : ℕ) (done : List Did) (v w : View X) : Type 0 where
+    pub steady : IsSteady done v w
+    pub holds : (q : ℕ) → q ≢ p → HoldsPage v w q
+    pub knows : (q : ℕ) → q ≢ p → IsLocking (seat_of v q) → KnowsAsBefore v w q
+    pub others : (q : ℕ) → q ≢ p → ReadsAsBefore v w q
+
+  -- page p was locked exclusively: its draft is its last words; the open read of the page that was at this version saw those words
+  pub record IsLocked (tied : Start → ℕ → List ℕ → ℕ → List ℕ → Type 0) (p frame version : ℕ) (dirty : Bool) (v w : View X) : Type 0 where
+    pub done : List Did
+    pub elsewhere : IsElsewhere p done v w
+    pub mine : w.mine ≡ v.mine
+    pub group : (w.pending ≡ v.pending) × (w.owed ≡ v.owed) × (w.next ≡ v.next)
+    pub holding : IsHolding p frame version dirty w
+    pub draft : draft_of w p ≡ (last_of w p).words
+    pub validates : v.start.tells ≡ true → Validates tied p version (last_of w p).words v
+    pub wrote : HasWritten done (places.State p) (word_of LOCKED version)
+    -- the pass was reading the page at no later version
+    pub older : (o : Open) → (seat_of v p).reading ≡ Some o → o.version ≤ version
+
+  -- word i of the draft of page p is x now, and nothing else has changed
+  pub record IsSet (p i x : ℕ) (v w : View X) : Type 0 where
+    pub done : List Did
+    pub elsewhere : IsElsewhere p done v w
+    pub mine : w.mine ≡ v.mine
+    pub group : (w.pending ≡ v.pending) × (w.owed ≡ v.owed) × (w.next ≡ v.next)
+    pub holds : HoldsPage v w p
+    pub reads : ReadsAsBefore v w p
+    pub held : put_at no_held w.held p ≡ put_at no_held v.held p
+    pub last : last_of w p ≡ last_of v p
+    pub draft : draft_of w p ≡ slice_set (draft_of v p) i x
+
+  -- page p was released: its draft is its last version, the next one, and what is said is an entry there
+  pub record IsReleased (p version : ℕ) (said : Option X) (v w : View X) : Type 0 where
+    pub done : List Did
+    pub elsewhere : IsElsewhere p done v w
+    pub mine : w.mine ≡ v.mine ++ entries_of v said
+    pub entry : (others : List _) × (w.seen ≡ (v.seen ++ others) ++ entries_of v said)
+    pub group : (w.pending ≡ v.pending) × (w.owed ≡ without p v.owed) × (w.next ≡ next_after p v.next)
+    pub seat : seat_of w p ≡ record (seat_of v p) { exclusive = false }
+    pub loads : loads_at w p ≡ loads_at v p
+    pub last : last_of w p ≡ record { version = version + 1; words = draft_of v p }
+    pub wrote : HasWritten done (places.State p) (version + 1)
+
+  -- ---- shared guards
+
+  -- the pass has a share of page p, which stands in this frame
+  pub record IsSharing (p frame : ℕ) (v : View X) : Type 0 where
+    pub page : p < v.start.pages
+    pub frame_is : frame < v.start.frames
+    pub has_share : 1 ≤ (seat_of v p).shares
+    pub stands : (m : Mapping) × ((put_at no_held v.held p).mapping ≡ Some m) × (m.frame ≡ frame)
+
+  -- page p got one share more, and its open read is closed; that read, if it was at the page's version, saw its last words
+  pub record IsShared (tied : Start → ℕ → List ℕ → ℕ → List ℕ → Type 0) (p frame : ℕ) (v w : View X) : Type 0 where
+    pub done : List Did
+    pub elsewhere : IsElsewhere p done v w
+    pub mine : w.mine ≡ v.mine
+    pub group : (w.pending ≡ v.pending) × (w.owed ≡ v.owed) × (w.next ≡ v.next)
+    pub seat : seat_of w p ≡ record (seat_of v p) { shares = (seat_of v p).shares + 1; reading = None }
+    pub knows : IsLocking (seat_of v p) → KnowsAsBefore v w p
+    pub sharing : IsSharing p frame w
+    pub size : length (last_of w p).words ≡ 64
+    pub validates : v.start.tells ≡ true → Validates tied p (last_of w p).version (last_of w p).words v
+
+  -- one share of page p was given up
+  pub record IsUnshared (p : ℕ) (v w : View X) : Type 0 where
+    pub done : List Did
+    pub elsewhere : IsElsewhere p done v w
+    pub mine : w.mine ≡ v.mine
+    pub group : (w.pending ≡ v.pending) × (w.owed ≡ v.owed) × (w.next ≡ v.next)
+    pub seat : seat_of w p ≡ unshared (seat_of v p)
+    pub loads : loads_at w p ≡ loads_at v p
+    pub knows : KnowsAsBefore v w p

@@ -1,0 +1,5 @@
+pub mod Ready
+pub mod Quiet
+pub mod Guards
+pub mod Denied
+pub mod Takes

@@ -1,0 +1,144 @@
+// Guards that hold a page exclusively: the page's words are the guard's draft until its release makes them the next version.
+ghost use Rattle.std.specs.Prelude.{◌≡◌, ◌<◌, ℕ, IfOk, IfErr, None, [], true, false, option_map, slice_index};
+ghost use Rattle.vm_core.specs.Words.{MAX_VERSION, version_of};
+ghost use Rattle.vm_rule.specs.Views.{draft_of};
+ghost use Rattle.vm_step.specs.Conditions.{IsClaimed, IsNotOut};
+ghost use Rattle.vm_guard.specs.Denied.{IsDenied, NotCrowded, NoWord};
+ghost use Rattle.vm_guard.specs.Guards.{IsHolding, IsLocked, IsReleased, IsSet};
+ghost use Rattle.vm_step.specs.Passes.{IsSamePass, MayStep, view};
+ghost use Rattle.vm_guard.specs.Quiet.{IsQuiet};
+ghost use Rattle.vm_guard.specs.Ready.{IsReady};
+ghost use Rattle.vm_guard.specs.Takes.{IsToExpect, MayRelease, SaysWhy};
+
+use crate::deny::Deny;
+use crate::standing::{Lock, standing};
+use vm_block::Block;
+use vm_core::{MAX_VERSION, StateWord};
+use vm_owner::Owner;
+use vm_rule::words::{Pass, Words};
+use vm_step::{At, Saw, Took, load, lock_exclusive, look_silently, release, store};
+
+/// An exclusive lock of a page: the version that it was locked at, the frame that it stands in, and whether it is dirty there.
+///
+/// It is spent by `release` alone.
+pub struct ExclusiveGuard {
+    pub pid: u32,
+    pub version: u64,
+    pub frame: u32,
+    pub dirty: bool,
+    pub(crate) lock: Lock,
+}
+
+/// The word that a lock is to expect of a page whose word is this one: with shares, the unlocked word at its version.
+fn expected(word: u64, pid: u32) -> Result<u64, Deny>
+    ensures ok { IfOk result (λ expects. IsToExpect word expects) }
+    ensures denied { IfErr result (λ d. SaysWhy pid word d × NotCrowded d) }
+{
+    let version = StateWord::version(word);
+    match StateWord::state(word) {
+        StateWord::EVICTED => Err(Deny::Need(pid)),
+        StateWord::LOCKED => Err(Deny::Again(Saw {
+            at: At::Page(pid),
+            first: word,
+            seen: word,
+        })),
+        _ if version == MAX_VERSION => Err(Deny::Worn(pid)),
+        StateWord::UNLOCKED | StateWord::MARKED => Ok(word),
+        _ => Ok(StateWord::of(StateWord::UNLOCKED, version)),
+    }
+}
+
+impl ExclusiveGuard {
+    /// Locks the page exclusively, which has to be resident, with no lock by anyone, and below the last version.
+    pub fn take<U: Owner, B: Block>(
+        words: &Words<U, B>,
+        pass: &mut Pass<U>,
+        pid: u32,
+    ) -> Result<ExclusiveGuard, Deny>
+        requires pass { MayStep words.now.table.shared.table_id pass.old }
+        requires page { pid < words.now.table.shared.key.pages }
+        ensures pass { IsSamePass pass.old pass.new }
+        ensures ready { IsReady words.now.table.shared.key B.tells words.now.table.shared.table_id pass.new }
+        ensures taken { IfOk result (λ g. (g.pid ≡ pid) × IsLocked U.tied pid g.frame g.version g.dirty (view pass.old) (view pass.new)) }
+        ensures denied { IfErr result (λ d. IsDenied NotCrowded NoWord pid d (view pass.old) (view pass.new)) }
+    {
+        let word = look_silently(words, pass, pid);
+        let expects = expected(word, pid)?;
+        match lock_exclusive(words, pass, pid, expects) {
+            Took::Lost(seen) => Err(Deny::Again(Saw {
+                at: At::Page(pid),
+                first: expects,
+                seen,
+            })),
+            Took::Taken => {
+                let stands = standing(words, pass, pid);
+                Ok(ExclusiveGuard {
+                    pid,
+                    version: StateWord::version(word),
+                    frame: stands.frame,
+                    dirty: stands.dirty,
+                    lock: Lock,
+                })
+            }
+        }
+    }
+
+    /// Word `i` (0 to 63) of the draft.
+    pub fn read<U: Owner, B: Block>(&self, words: &Words<U, B>, pass: &mut Pass<U>, i: usize) -> u64
+        requires ready { IsReady words.now.table.shared.key B.tells words.now.table.shared.table_id pass.old }
+        requires holds { IsHolding self.now.pid self.now.frame self.now.version self.now.dirty (view pass.old) }
+        requires word { i < 64 }
+        ensures pass { IsSamePass pass.old pass.new }
+        ensures ready { IsReady words.now.table.shared.key B.tells words.now.table.shared.table_id pass.new }
+        ensures quiet { (done : _) × IsQuiet self.now.pid done (view pass.old) (view pass.new) }
+        ensures value { (view pass.old).start.tells ≡ true → result ≡ slice_index (draft_of (view pass.old) self.now.pid) i }
+    {
+        load(words, pass, self.pid, self.frame, i)
+    }
+
+    /// Sets word `i` (0 to 63) of the draft of a dirty page.
+    pub fn set<U: Owner, B: Block>(
+        &mut self,
+        words: &Words<U, B>,
+        pass: &mut Pass<U>,
+        i: usize,
+        w: u64,
+    )
+        requires ready { IsReady words.now.table.shared.key B.tells words.now.table.shared.table_id pass.old }
+        requires holds { IsHolding self.old.pid self.old.frame self.old.version true (view pass.old) }
+        requires word { i < 64 }
+        ensures pass { IsSamePass pass.old pass.new }
+        ensures ready { IsReady words.now.table.shared.key B.tells words.now.table.shared.table_id pass.new }
+        ensures set { IsSet self.old.pid i w (view pass.old) (view pass.new) }
+        ensures holds { IsHolding self.old.pid self.old.frame self.old.version true (view pass.new) }
+        ensures guard { self.new ≡ self.old }
+    {
+        store(words, pass, self.frame, i, w);
+    }
+
+    /// Releases the page: the draft is its last version from then on, the next one. What is said becomes an entry there.
+    pub fn release<U: Owner, B: Block>(
+        self,
+        words: &Words<U, B>,
+        pass: &mut Pass<U>,
+        said: Option<&U::Said>,
+    )
+        requires ready { IsReady words.now.table.shared.key B.tells words.now.table.shared.table_id pass.old }
+        requires holds { IsHolding self.pid self.frame self.version self.dirty (view pass.old) }
+        requires home { IsNotOut (view pass.old) self.pid }
+        requires claimed { (view pass.old).start.tells ≡ true → IsClaimed (view pass.old) self.pid }
+        requires owner { MayRelease U.may_release self.pid (option_map (λ b. b.now) said) (view pass.old) }
+        ensures pass { IsSamePass pass.old pass.new }
+        ensures ready { IsReady words.now.table.shared.key B.tells words.now.table.shared.table_id pass.new }
+        ensures released { IsReleased self.pid self.version (option_map (λ b. b.now) said.entry) (view pass.old) (view pass.new) }
+    {
+        let ExclusiveGuard {
+            pid,
+            version,
+            frame: _,
+            dirty: _,
+            lock: Lock,
+        } = self;
+        release(words, pass, pid, version, &[], said);
+    }
+}

@@ -1,0 +1,221 @@
+// Optimistic guards: a page is read without a lock, and a later look at its word tells whether all words read were of one version.
+ghost use Rattle.std.specs.Prelude.{◌≡◌, ◌<◌, ◌⊎◌, ℕ, IfOk, IfErr, None, [], ◌∷◌, length, option_map};
+ghost use Rattle.vm_core.specs.Words.{MAX_VERSION, version_of};
+ghost use Rattle.vm_guard.specs.Denied.{AgainOrNeed, AgainOrWorn, IsDenied, KeptOrUnlocked, KeptWord, NoWord};
+ghost use Rattle.vm_guard.specs.Guards.{Begins, HasLeft, IsLocked, IsReading, IsValid, Loads, placed};
+ghost use Rattle.vm_guard.specs.Ready.{IsReady};
+ghost use Rattle.vm_guard.specs.Takes.{IsToExpect};
+ghost use Rattle.vm_step.specs.Conditions.{MayTell};
+ghost use Rattle.vm_step.specs.Passes.{IsSamePass, MayStep, view};
+
+use crate::deny::Deny;
+use crate::exclusive::ExclusiveGuard;
+use crate::standing::{Lock, standing};
+use vm_block::Block;
+use vm_core::{MAX_VERSION, StateWord, TransWord};
+use vm_owner::Owner;
+use vm_page::{PageBuf, WORDS};
+use vm_rule::words::{Pass, Words};
+use vm_step::{At, Saw, Took, load, lock_exclusive, look, look_silently, tload};
+
+/// A page that is read optimistically: the word that the read began at, and the frame that it reads. It holds no lock, and may be dropped.
+#[derive(Drop)]
+pub struct OptGuard {
+    pub pid: u32,
+    pub word: u64,
+    pub frame: u32,
+}
+
+/// The word that a lock is to expect of a page whose word was this one: Unlocked at its version, where it had shares.
+fn unlocked(word: u64) -> u64
+    requires { version_of word < MAX_VERSION }
+    ensures expects { IsToExpect result result }
+    ensures version { version_of result ≡ version_of word }
+    ensures kept { KeptOrUnlocked word result }
+{
+    match StateWord::state(word) {
+        StateWord::UNLOCKED | StateWord::MARKED => word,
+        _ => StateWord::of(StateWord::UNLOCKED, StateWord::version(word)),
+    }
+}
+
+impl OptGuard {
+    /// Begins to read the page. A page that is Evicted is needed; one that is Locked, or that another version came to between the two
+    /// looks, may be tried again.
+    pub fn start<U: Owner, B: Block>(
+        words: &Words<U, B>,
+        pass: &mut Pass<U>,
+        pid: u32,
+    ) -> Result<OptGuard, Deny>
+        requires pass { MayStep words.now.table.shared.table_id pass.old }
+        requires page { pid < words.now.table.shared.key.pages }
+        ensures pass { IsSamePass pass.old pass.new }
+        ensures ready { IsReady words.now.table.shared.key B.tells words.now.table.shared.table_id pass.new }
+        ensures ok { IfOk result (λ guard. (guard.pid ≡ pid) × Begins pid guard.word guard.frame (view pass.old) (view pass.new)) }
+        ensures err { IfErr result (λ deny. IsDenied AgainOrNeed NoWord pid deny (view pass.old) (view pass.new)) }
+    {
+        let first = look_silently(words, pass, pid);
+        if StateWord::state(first) == StateWord::EVICTED {
+            return Err(Deny::Need(pid));
+        }
+        let at = At::Page(pid);
+        if StateWord::state(first) == StateWord::LOCKED {
+            return Err(Deny::Again(Saw {
+                at,
+                first,
+                seen: first,
+            }));
+        }
+        let translation = tload(words, pass, pid);
+        let seen = look_silently(words, pass, pid);
+        if StateWord::version(seen) != StateWord::version(first) {
+            return Err(Deny::Again(Saw { at, first, seen }));
+        }
+        if StateWord::state(seen) == StateWord::LOCKED {
+            return Err(Deny::Again(Saw { at, first, seen }));
+        }
+        match TransWord::frame(translation) {
+            Some(frame) => Ok(OptGuard {
+                pid,
+                word: seen,
+                frame,
+            }),
+            None => unreachable!(),
+        }
+    }
+
+    /// Word `i` (0 to 63) of the page, through the guard's open read. Whether it is a word of one version a validation tells.
+    pub fn word<U: Owner, B: Block>(&self, words: &Words<U, B>, pass: &mut Pass<U>, i: usize) -> u64
+        requires ready { IsReady words.now.table.shared.key B.tells words.now.table.shared.table_id pass.old }
+        requires reading { IsReading self.now.pid self.now.word self.now.frame (view pass.old) }
+        requires place { i < 64 }
+        ensures pass { IsSamePass pass.old pass.new }
+        ensures ready { IsReady words.now.table.shared.key B.tells words.now.table.shared.table_id pass.new }
+        ensures loads { Loads self.now.pid self.now.word self.now.frame ((i, result) ∷ []) (view pass.old) (view pass.new) }
+    {
+        load(words, pass, self.pid, self.frame, i)
+    }
+
+    /// All 64 words of the page, through the guard's open read.
+    pub fn read_all<U: Owner, B: Block>(
+        &self,
+        words: &Words<U, B>,
+        pass: &mut Pass<U>,
+        into: &mut PageBuf,
+    )
+        requires ready { IsReady words.now.table.shared.key B.tells words.now.table.shared.table_id pass.old }
+        requires reading { IsReading self.now.pid self.now.word self.now.frame (view pass.old) }
+        requires size { length into.old ≡ 64 }
+        ensures pass { IsSamePass pass.old pass.new }
+        ensures ready { IsReady words.now.table.shared.key B.tells words.now.table.shared.table_id pass.new }
+        ensures size { length into.new ≡ 64 }
+        ensures loads { Loads self.now.pid self.now.word self.now.frame (placed 0 into.new) (view pass.old) (view pass.new) }
+    {
+        for i in 0..WORDS {
+            let word = self.word(words, pass, i);
+            into.set(i, word);
+        }
+    }
+
+    /// Validates all that was read through the guard, and makes what is said an entry of the history there. Only a guard whose read is
+    /// still open may say something. `Err` where the page is Locked, or has another version than the guard.
+    pub fn validate<U: Owner, B: Block>(
+        &self,
+        words: &Words<U, B>,
+        pass: &mut Pass<U>,
+        said: Option<&U::Said>,
+    ) -> Result<(), Saw>
+        requires ready { IsReady words.now.table.shared.key B.tells words.now.table.shared.table_id pass.old }
+        requires page { self.now.pid < words.now.table.shared.key.pages }
+        requires reading { IsReading self.now.pid self.now.word self.now.frame (view pass.old) ⊎ (HasLeft self.now.pid self.now.word (view pass.old) × (option_map (λ b. b.now) said ≡ None)) }
+        requires owner { MayTell U.may_read self.now.pid (option_map (λ b. b.now) said) (view pass.old) }
+        ensures pass { IsSamePass pass.old pass.new }
+        ensures ready { IsReady words.now.table.shared.key B.tells words.now.table.shared.table_id pass.new }
+        ensures ok { IfOk result (λ _. IsValid U.tied self.now.pid self.now.word self.now.frame (option_map (λ b. b.now) said.entry) (view pass.old) (view pass.new)) }
+        ensures err { IfErr result (λ saw. IsDenied AgainOrNeed (KeptWord self.now.word) self.now.pid (Deny.Again saw) (view pass.old) (view pass.new)) }
+    {
+        let seen = look(words, pass, self.pid, said);
+        if StateWord::version(seen) != StateWord::version(self.word) {
+            return Err(self.saw(seen));
+        }
+        if StateWord::state(seen) == StateWord::LOCKED {
+            return Err(self.saw(seen));
+        }
+        Ok(())
+    }
+
+    /// Validates all that was read through the guard, with nothing to say.
+    pub fn validate_silently<U: Owner, B: Block>(
+        &self,
+        words: &Words<U, B>,
+        pass: &mut Pass<U>,
+    ) -> Result<(), Saw>
+        requires ready { IsReady words.now.table.shared.key B.tells words.now.table.shared.table_id pass.old }
+        requires page { self.now.pid < words.now.table.shared.key.pages }
+        requires reading { IsReading self.now.pid self.now.word self.now.frame (view pass.old) ⊎ HasLeft self.now.pid self.now.word (view pass.old) }
+        ensures pass { IsSamePass pass.old pass.new }
+        ensures ready { IsReady words.now.table.shared.key B.tells words.now.table.shared.table_id pass.new }
+        ensures ok { IfOk result (λ _. IsValid U.tied self.now.pid self.now.word self.now.frame None (view pass.old) (view pass.new)) }
+        ensures err { IfErr result (λ saw. IsDenied AgainOrNeed (KeptWord self.now.word) self.now.pid (Deny.Again saw) (view pass.old) (view pass.new)) }
+    {
+        let seen = look_silently(words, pass, self.pid);
+        if StateWord::version(seen) != StateWord::version(self.word) {
+            return Err(self.saw(seen));
+        }
+        if StateWord::state(seen) == StateWord::LOCKED {
+            return Err(self.saw(seen));
+        }
+        Ok(())
+    }
+
+    /// Locks the page exclusively at the guard's version, which proves of all that was read through the guard what a validation would.
+    /// A page with a share or another lock, or with another version, may be tried again; one at the last version is worn.
+    pub fn upgrade<U: Owner, B: Block>(
+        self,
+        words: &Words<U, B>,
+        pass: &mut Pass<U>,
+    ) -> Result<ExclusiveGuard, Deny>
+        requires ready { IsReady words.now.table.shared.key B.tells words.now.table.shared.table_id pass.old }
+        requires page { self.pid < words.now.table.shared.key.pages }
+        requires reading { IsReading self.pid self.word self.frame (view pass.old) ⊎ HasLeft self.pid self.word (view pass.old) }
+        ensures pass { IsSamePass pass.old pass.new }
+        ensures ready { IsReady words.now.table.shared.key B.tells words.now.table.shared.table_id pass.new }
+        ensures taken { IfOk result (λ guard. (guard.pid ≡ self.pid) × (guard.version ≡ version_of self.word) × IsLocked U.tied self.pid guard.frame guard.version guard.dirty (view pass.old) (view pass.new)) }
+        ensures denied { IfErr result (λ deny. IsDenied AgainOrWorn (KeptOrUnlocked self.word) self.pid deny (view pass.old) (view pass.new)) }
+    {
+        let pid = self.pid;
+        if StateWord::version(self.word) == MAX_VERSION {
+            look_silently(words, pass, pid);
+            return Err(Deny::Worn(pid));
+        }
+        let expects = unlocked(self.word);
+        match lock_exclusive(words, pass, pid, expects) {
+            Took::Lost(seen) => Err(Deny::Again(Saw {
+                at: At::Page(pid),
+                first: expects,
+                seen,
+            })),
+            Took::Taken => {
+                let stands = standing(words, pass, pid);
+                Ok(ExclusiveGuard {
+                    pid,
+                    version: StateWord::version(expects),
+                    frame: stands.frame,
+                    dirty: stands.dirty,
+                    lock: Lock,
+                })
+            }
+        }
+    }
+
+    /// The evidence that the page's word is not the guard's any more.
+    fn saw(&self, seen: u64) -> Saw
+        ensures { result ≡ record { at = At.Page self.now.pid; first = self.now.word; seen = seen } }
+    {
+        Saw {
+            at: At::Page(self.pid),
+            first: self.word,
+            seen,
+        }
+    }
+}

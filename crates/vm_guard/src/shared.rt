@@ -1,0 +1,105 @@
+// Guards that hold a share of a page: its words stay what they are.
+ghost use Rattle.std.specs.Prelude.{◌≡◌, ◌<◌, ◌+◌, ℕ, IfOk, IfErr, None, true, slice_index};
+ghost use Rattle.vm_rule.specs.Reading.{last_of};
+ghost use Rattle.vm_step.specs.Conditions.{MayUnshare};
+ghost use Rattle.vm_guard.specs.Denied.{IsDenied, NotWorn, NoWord};
+ghost use Rattle.vm_guard.specs.Guards.{IsShared, IsSharing, IsUnshared};
+ghost use Rattle.vm_step.specs.Passes.{IsSamePass, MayStep, view};
+ghost use Rattle.vm_guard.specs.Quiet.{IsQuiet};
+ghost use Rattle.vm_guard.specs.Ready.{IsReady};
+ghost use Rattle.vm_guard.specs.Takes.{HasRoom, SaysWhy};
+
+use crate::deny::Deny;
+use crate::standing::{Lock, standing};
+use vm_block::Block;
+use vm_core::StateWord;
+use vm_owner::Owner;
+use vm_rule::words::{Pass, Words};
+use vm_step::{At, Saw, Took, load, lock_shared, look_silently, unlock_shared};
+
+/// A share of a page, and the frame that the page stands in.
+///
+/// It is spent by `drop_with` alone.
+pub struct SharedGuard {
+    pub pid: u32,
+    pub frame: u32,
+    lock: Lock,
+}
+
+/// Whether a page whose word is this one has room for a share.
+fn room(word: u64, pid: u32) -> Result<(), Deny>
+    ensures ok { IfOk result (λ _. HasRoom word) }
+    ensures refused { IfErr result (λ d. SaysWhy pid word d × NotWorn d) }
+{
+    match StateWord::state(word) {
+        StateWord::EVICTED => Err(Deny::Need(pid)),
+        StateWord::LOCKED => Err(Deny::Again(Saw {
+            at: At::Page(pid),
+            first: word,
+            seen: word,
+        })),
+        StateWord::MAX_SHARES => Err(Deny::Crowded(pid)),
+        _ => Ok(()),
+    }
+}
+
+impl SharedGuard {
+    /// Takes a share of the page, which has to be resident, not locked, and with fewer than 252 shares.
+    pub fn take<U: Owner, B: Block>(
+        words: &Words<U, B>,
+        pass: &mut Pass<U>,
+        pid: u32,
+    ) -> Result<SharedGuard, Deny>
+        requires pass { MayStep words.now.table.shared.table_id pass.old }
+        requires page { pid < words.now.table.shared.key.pages }
+        ensures pass { IsSamePass pass.old pass.new }
+        ensures ready { IsReady words.now.table.shared.key B.tells words.now.table.shared.table_id pass.new }
+        ensures taken { IfOk result (λ g. (g.pid ≡ pid) × IsShared U.tied pid g.frame (view pass.old) (view pass.new)) }
+        ensures denied { IfErr result (λ d. IsDenied NotWorn NoWord pid d (view pass.old) (view pass.new)) }
+    {
+        let word = look_silently(words, pass, pid);
+        room(word, pid)?;
+        match lock_shared(words, pass, pid, word) {
+            Took::Lost(seen) => Err(Deny::Again(Saw {
+                at: At::Page(pid),
+                first: word,
+                seen,
+            })),
+            Took::Taken => Ok(SharedGuard {
+                pid,
+                frame: standing(words, pass, pid).frame,
+                lock: Lock,
+            }),
+        }
+    }
+
+    /// Word `i` (0 to 63) of the page's last version.
+    pub fn read<U: Owner, B: Block>(&self, words: &Words<U, B>, pass: &mut Pass<U>, i: usize) -> u64
+        requires ready { IsReady words.now.table.shared.key B.tells words.now.table.shared.table_id pass.old }
+        requires shares { IsSharing self.now.pid self.now.frame (view pass.old) }
+        requires word { i < 64 }
+        ensures pass { IsSamePass pass.old pass.new }
+        ensures ready { IsReady words.now.table.shared.key B.tells words.now.table.shared.table_id pass.new }
+        ensures quiet { (done : _) × IsQuiet self.now.pid done (view pass.old) (view pass.new) }
+        ensures value { (view pass.old).start.tells ≡ true → result ≡ slice_index (last_of (view pass.old) self.now.pid).words i }
+    {
+        load(words, pass, self.pid, self.frame, i)
+    }
+
+    /// Gives the share up.
+    pub fn drop_with<U: Owner, B: Block>(self, words: &Words<U, B>, pass: &mut Pass<U>)
+        requires ready { IsReady words.now.table.shared.key B.tells words.now.table.shared.table_id pass.old }
+        requires shares { IsSharing self.pid self.frame (view pass.old) }
+        requires legal { MayUnshare (view pass.old) self.pid }
+        ensures pass { IsSamePass pass.old pass.new }
+        ensures ready { IsReady words.now.table.shared.key B.tells words.now.table.shared.table_id pass.new }
+        ensures given_up { IsUnshared self.pid (view pass.old) (view pass.new) }
+    {
+        let SharedGuard {
+            pid,
+            frame: _,
+            lock: Lock,
+        } = self;
+        unlock_shared(words, pass, pid);
+    }
+}

@@ -1,0 +1,34 @@
+// One word of a page, read optimistically: the least that a caller of the guards does. It stands on their contracts alone.
+ghost use Rattle.std.specs.Prelude.{◌≡◌, ◌<◌, IfSome, true, slice_index};
+ghost use Rattle.vm_guard.specs.Ready.{IsReady};
+ghost use Rattle.vm_rule.specs.Reading.{last_of};
+ghost use Rattle.vm_step.specs.Passes.{IsSamePass, MayStep, view};
+
+use crate::opt::OptGuard;
+use vm_block::Block;
+use vm_owner::Owner;
+use vm_rule::words::{Pass, Words};
+
+/// Word `i` (0 to 63) of the page's last version, or `None` where the page could not be read so: it was Locked or Evicted, or changed
+/// meanwhile.
+pub fn read_word<U: Owner, B: Block>(
+    words: &Words<U, B>,
+    pass: &mut Pass<U>,
+    pid: u32,
+    i: usize,
+) -> Option<u64>
+    requires pass { MayStep words.now.table.shared.table_id pass.old }
+    requires page { (pid < words.now.table.shared.key.pages) × (i < 64) }
+    ensures pass { IsSamePass pass.old pass.new }
+    ensures ready { IsReady words.now.table.shared.key B.tells words.now.table.shared.table_id pass.new }
+    ensures word { IfSome result (λ word. B.tells ≡ true → word ≡ slice_index (last_of (view pass.new) pid).words i) }
+{
+    let Ok(guard) = OptGuard::start(words, pass, pid) else {
+        return None;
+    };
+    let word = guard.word(words, pass, i);
+    match guard.validate_silently(words, pass) {
+        Ok(()) => Some(word),
+        Err(_) => None,
+    }
+}

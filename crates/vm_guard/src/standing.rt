@@ -1,0 +1,45 @@
+// What guards that hold a lock share: the mark of a lock, and where a page stands that the pass has locked.
+ghost use Rattle.std.specs.Prelude.{◌≡◌, ◌<◌, ℕ, Some, IsSome};
+ghost use Rattle.vm_core.specs.FrameActs.{mapping_of};
+ghost use Rattle.vm_rule.specs.Loads.{TranslationTold};
+ghost use Rattle.vm_rule.specs.Puts.{put_at};
+ghost use Rattle.vm_rule.specs.Rule.{no_held};
+ghost use Rattle.vm_rule.specs.Views.{IsLocking, seat_of};
+ghost use Rattle.vm_step.specs.Passes.{IsSamePass, MayStep, view};
+
+use vm_block::Block;
+use vm_core::{Mapping, TransWord};
+use vm_owner::Owner;
+use vm_rule::words::{Pass, Words};
+use vm_step::tload;
+
+/// Marks a guard that holds a lock: no other crate can make one or take it apart, so a guard ends only in a call of its own.
+pub(crate) struct Lock;
+
+/// The frame that a translation word names, and whether the page is dirty there.
+fn mapping_in(word: u64) -> Mapping
+    requires { IsSome (mapping_of word) }
+    ensures { mapping_of word ≡ Some result }
+{
+    let dirty = TransWord::dirty(word);
+    match TransWord::frame(word) {
+        Some(frame) => Mapping { frame, dirty },
+        None => unreachable!(),
+    }
+}
+
+/// Where a resident page stands that the pass has locked.
+pub(crate) fn standing<U: Owner, B: Block>(
+    words: &Words<U, B>,
+    pass: &mut Pass<U>,
+    p: u32,
+) -> Mapping
+    requires pass { MayStep words.now.table.shared.table_id pass.old }
+    requires page { p < words.now.table.shared.key.pages }
+    requires locked { IsLocking (seat_of (view pass.old) p) }
+    requires resident { IsSome (put_at no_held (view pass.old).held p).mapping }
+    ensures pass { IsSamePass pass.old pass.new }
+    ensures told { (word : ℕ) × TranslationTold p word (view pass.old) (view pass.new) × (mapping_of word ≡ Some result) }
+{
+    mapping_in(tload(words, pass, p))
+}
