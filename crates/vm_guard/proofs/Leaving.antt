@@ -1,5 +1,5 @@
 -- A pass that locks a page exclusively which it was reading optimistically has left that read behind.
-use Rattle.std.proofs.Common.{ℕ, ◌≡◌, ◌≢◌, ◌<◌, ◌≤◌, ◌++◌, Bool, List, [], ◌∷◌, Option, Some, None, sym, ap, subst, ◌∙◌, arith, ⊎_elim, inl, inr, append_assoc}
+use Rattle.std.proofs.Common.{ℕ, ◌≡◌, ◌<◌, ◌≤◌, ◌++◌, Bool, List, ◌∷◌, Option, Some, None, sym, ap, subst, ◌∙◌, arith, ⊎_elim, inl, inr, append_assoc}
 use Rattle.std.proofs.lemmas.Bool.{cases_eq}
 use Rattle.vm_core.specs.declared.event.Open.{Open}
 use Rattle.vm_core.specs.Words.{version_of, word_of, LOCKED, MAX_VERSION}

@@ -1,8 +1,8 @@
 -- An optimistic guard that becomes an exclusive one: what each answer proves.
-use Rattle.std.proofs.Common.{ℕ, ◌≡◌, ◌≢◌, ◌⊎◌, ◌<◌, ◌≤◌, true, Some, None, List, [], ◌∷◌, refl, sym, ap, subst, ◌∙◌, ⊎_elim, inl, inr, arith, eqb}
+use Rattle.std.proofs.Common.{ℕ, ◌≡◌, ◌≢◌, ◌⊎◌, ◌<◌, ◌≤◌, Some, None, List, [], ◌∷◌, refl, sym, subst, ◌∙◌, ⊎_elim, inl, inr, arith, eqb}
 use Rattle.std.proofs.lemmas.Bool.{ne_eqb, cond-false, cond-true, eq-eqb}
 use Rattle.vm_core.specs.declared.event.Mapping.{Mapping}
-use Rattle.vm_core.specs.Words.{state_of, version_of, word_of, UNLOCKED, LOCKED, MAX_VERSION}
+use Rattle.vm_core.specs.Words.{version_of, word_of, UNLOCKED, LOCKED, MAX_VERSION}
 use Rattle.vm_core.specs.FrameActs.{mapping_of}
 use Rattle.vm_core.specs.History.{Version}
 use Rattle.vm_owner.specs.Kept.{Start}
@@ -11,7 +11,6 @@ use Rattle.vm_rule.specs.declared.view.Origin.{Origin}
 use Rattle.vm_rule.specs.declared.view.Place.TheVariants as places
 use Rattle.vm_rule.specs.declared.view.View.{View}
 use Rattle.vm_rule.specs.Views.{seat_of}
-use Rattle.vm_rule.specs.Reading.{last_of}
 use Rattle.vm_rule.specs.Log.{did_load, did_exchange}
 use Rattle.vm_rule.specs.Looks.{LookTold, IsSince, IsOlder}
 use Rattle.vm_rule.specs.Loads.{TranslationTold}

@@ -1,4 +1,4 @@
-use Rattle.std.proofs.Common.{◌≡◌, ◌≢◌, ◌<◌, ◌≤◌, refl, sym, subst, ◌∙◌, inl, arith}
+use Rattle.std.proofs.Common.{◌≢◌, ◌<◌, ◌≤◌, refl, sym, subst, ◌∙◌, inl, arith}
 use Rattle.vm_core.specs.Words.{version_of}
 use Rattle.vm_rule.proofs.WordFacts.{version-within}
 use Rattle.vm_guard.proofs.Upgrading.{worn, lost, upgraded}
