@@ -1,0 +1,72 @@
+-- Beside a pass with all parts every other pass has none, so it holds nothing; and what it has still to release, or owes, it would hold.
+use Rattle.std.proofs.Common.{ℕ, Bool, true, true≢false, ◌≡◌, ◌≢◌, ◌+◌, ◌≤◌, Option, List, [], ◌∷◌, refl, sym, ap, subst, ◌∙◌, arith, ⊎_elim}
+use Rattle.std.proofs.lemmas.Bool.{cases_Bool, eq-eqb}
+use mathlib.Core.Option.{some}
+use lib.ListN.{get_elem?}
+use Rattle.atomic_table.specs.Table.{State as Table}
+use Rattle.vm_owner.specs.Kept.{Start, Kept}
+use Rattle.vm_owner.specs.Numbers.{has}
+use Rattle.vm_block.specs.declared.stored.Stored.{Stored}
+use Rattle.vm_rule.specs.declared.view.Origin.{Origin}
+use Rattle.vm_rule.specs.declared.view.View.{View}
+use Rattle.vm_rule.specs.Views.{times, owns, spent}
+use Rattle.vm_rule.specs.Reading.{world_of}
+use Rattle.vm_rule.specs.Rule.{is_pending, HoldsNothing, KnowsPages, Ruled}
+use Rattle.vm_rule.proofs.Entries.{not-whole}
+use Rattle.vm_rule_laws.specs.Alone.{HasNothing}
+use Rattle.vm_rule_laws.specs.Known.{IsWholePass}
+
+-- a list with no number
+no-number : (l : List ℕ) → ((n : ℕ) → has n l ≡ true → ⊥) → l ≡ []
+no-number [] none = refl
+no-number (n ∷ ns) none = absurd (none n (rw (eq-eqb n n refl) refl))
+
+no-times : (l : List ℕ) → ((n : ℕ) → 1 ≤ times n l → ⊥) → l ≡ []
+no-times [] none = refl
+no-times (n ∷ ns) none = absurd (none n (rw (eq-eqb n n refl) (omega arith)))
+
+more-left : (a b : ℕ) → 1 ≤ a → 1 ≤ a + b
+more-left a b l = omega arith
+
+more-right : (a b : ℕ) → 1 ≤ b → 1 ≤ a + b
+more-right a b l = omega arith
+
+module _ {X B : Type 0} (stored : B → Stored) (keeps : Start → Kept X → Type 0) (tied : Start → ℕ → List ℕ → ℕ → List ℕ → Type 0) (start : Origin) (tells : Bool) (s : Table (Option B) (View X)) (r : Ruled stored keeps tied start tells s) where
+  -- a live pass without a part has nothing
+  without-parts : (j : ℕ) (u : View X) → get_elem? s.views j ≡ some u → u.live ≡ true → ((k : ℕ) → 1 ≤ owns k u → ⊥) → HasNothing u
+  without-parts j u there on none =
+      let used : u.used ≡ [] = no-times u.used (λ n l. none n (more-left (times n u.used) (times n u.fresh) l)) in
+      let fresh : u.fresh ≡ [] = no-times u.fresh (λ n l. none n (more-right (times n u.used) (times n u.fresh) l)) in
+      let idle : HoldsNothing u = (r.heard j u there on).idle used fresh in
+      let knows : KnowsPages tied start (world_of stored start r.releases r.drafts s) (is_pending s.views) u = r.known j u there on in
+      record {
+        used = used;
+        fresh = fresh;
+        holds = idle;
+        pending = no-number u.pending (λ p x. true≢false (sym (knows.pending p x).0 ∙ idle.exclusive p));
+        owed = no-number u.owed (λ p x. true≢false (sym (knows.owed p x).0 ∙ idle.exclusive p));
+      }
+
+  spent-has-nothing : HasNothing {X = X} spent
+  spent-has-nothing = record {
+    used = refl;
+    fresh = refl;
+    holds = record { shares = λ p. refl; exclusive = λ p. refl; writing = λ p. refl; frames = refl; out = refl };
+    pending = refl;
+    owed = refl;
+  }
+
+  -- a pass that was joined away has no part
+  pub whole-lives : (id : ℕ) (v : View X) → IsWholePass s.views id v → v.live ≡ true
+  whole-lives id v at =
+      ⊎_elim
+      (λ on. on)
+      (λ off. absurd (let some' : 1 ≤ owns 0 v = at.whole 0 (omega arith) in let none : owns 0 v ≡ 0 = ap (owns 0) (r.parts.spent id v at.there off) in omega arith))
+      (cases_Bool v.live)
+
+  pub others-have-nothing : (id : ℕ) (v : View X) → IsWholePass s.views id v → (j : ℕ) (u : View X) → j ≢ id → get_elem? s.views j ≡ some u → HasNothing u
+  others-have-nothing id v at j u ne there =
+      ⊎_elim
+      (λ on. without-parts j u there on (λ k l. not-whole s.views id j v u r.parts.parts (λ e. ne (sym e)) at.there there (k, l) at.whole))
+      (λ off. subst HasNothing (sym (r.parts.spent j u there off)) spent-has-nothing)
+      (cases_Bool u.live)

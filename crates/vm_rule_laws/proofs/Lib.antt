@@ -1,0 +1,5 @@
+pub mod Lists
+pub mod Alone
+pub mod Histories
+pub mod Knowing
+pub mod Standing

@@ -1,0 +1,82 @@
+-- Where the pages' last words stand follows from the core's invariant, read off the snapshot of a pass beside which no other holds a page.
+use Rattle.std.proofs.Common.{ℕ, Bool, false, true≢false, ◌≡◌, ◌≢◌, ◌<◌, Option, List, [], ◌∷◌, length, zero, suc, refl, sym, ap, subst, ◌∙◌, arith, ⊎_elim}
+use Rattle.std.proofs.lemmas.Bool.{cases_eq, cases_lt}
+use mathlib.Core.Option.{some}
+use lib.ListN.{get_elem?}
+use Rattle.atomic_table.specs.Table.{State as Table}
+use Rattle.vm_core.specs.Fn.{at}
+use Rattle.vm_core.specs.Inv.{OneHolder, PageInv}
+use Rattle.vm_core.specs.State.{Page}
+use Rattle.vm_core.specs.Words.{state_of, LOCKED}
+use Rattle.vm_core.specs.History.{Version}
+use Rattle.vm_owner.specs.Kept.{Start, Kept}
+use Rattle.vm_block.specs.declared.stored.Stored.{Stored}
+use Rattle.vm_rule.specs.declared.view.Origin.{Origin}
+use Rattle.vm_rule.specs.declared.view.Release.{Release}
+use Rattle.vm_rule.specs.declared.view.Snapshot.{Snapshot}
+use Rattle.vm_rule.specs.declared.view.View.{View}
+use Rattle.vm_rule.specs.Layout.{words_of}
+use Rattle.vm_rule.specs.Views.{spent, seat_of}
+use Rattle.vm_rule.specs.Reading.{no_block, frame_words, page_from, block_of, seats_of, loads_of, last_in, histories_of}
+use Rattle.vm_rule.specs.Rule.{HoldsNothing, snapshot_of, Ruled}
+use Rattle.vm_rule.proofs.Found.{page-here}
+use Rattle.vm_rule.proofs.ListFacts.{at-listed, at-past}
+use Rattle.vm_rule.proofs.Views.{at-there}
+use Rattle.vm_rule.proofs.Worlds.{last-is}
+use Rattle.vm_rule_laws.specs.Known.{IsWholePass, HasStepped}
+use Rattle.vm_rule_laws.specs.Standing.{block_in, PageStands}
+use Rattle.vm_rule_laws.proofs.Alone.{whole-lives, others-have-nothing}
+
+there-at : {A : Type 0} (d : A) (l : List A) (i : ℕ) → i < length l → get_elem? l i ≡ some (at d l i)
+unfolding at
+there-at d [] i l = absurd (omega arith)
+there-at d (x ∷ xs) zero l = refl
+there-at d (x ∷ xs) (suc i) l = there-at d xs i (omega arith)
+
+module _ {X B : Type 0} (stored : B → Stored) (keeps : Start → Kept X → Type 0) (tied : Start → ℕ → List ℕ → ℕ → List ℕ → Type 0) (start : Origin) (tells : Bool) (s : Table (Option B) (View X)) (r : Ruled stored keeps tied start tells s) where
+  -- no other actor holds anything
+  others-hold : (id : ℕ) (v : View X) → IsWholePass s.views id v → (a : ℕ) → a ≢ id → HoldsNothing (at spent s.views a)
+  others-hold id v pass a ne =
+      ⊎_elim
+      (λ l. (others-have-nothing stored keeps tied start tells s r id v pass a (at spent s.views a) ne (there-at spent s.views a l)).holds)
+      (λ le. subst HoldsNothing (sym (at-past spent s.views a le)) (record { shares = λ p. refl; exclusive = λ p. refl; writing = λ p. refl; frames = refl; out = refl }))
+      (cases_lt a (length s.views))
+
+  pub page-stands : (id : ℕ) (v : View X) → IsWholePass s.views id v → (p : ℕ) → p < start.pages → PageStands start r.releases (snapshot_of stored start s) (seat_of v p) p
+  page-stands id v pass p l =
+      let inv : PageInv (length s.views) start.tells (frame_words (words_of start s.words).contents) (page_from (words_of start s.words) (block_of stored s.homes s.views) (seats_of s.views) p) (histories_of start r.releases r.drafts p) (loads_of s.views p) =
+      subst (λ (y : Page). PageInv (length s.views) start.tells (frame_words (words_of start s.words).contents) y (histories_of start r.releases r.drafts p) (loads_of s.views p)) (page-here stored start s p l) (r.inv.pages p) in
+      let last : (histories_of start r.releases r.drafts p).last ≡ last_in start r.releases p = sym (last-is start r.releases r.drafts p) in
+      let words : (histories_of start r.releases r.drafts p).last.words ≡ (last_in start r.releases p).words = ap (λ (y : Version). y.words) last in
+      let block : block_in (snapshot_of stored start s) p ≡ block_of stored s.homes s.views p = at-listed no_block start.pages (block_of stored s.homes s.views) p l in
+      let here : at spent s.views id ≡ v = at-there spent s.views id v pass.there in
+      let free : (seat_of v p).exclusive ≡ false → state_of ((words_of start s.words).states p) ≢ LOCKED =
+      λ none locked.
+      let one : OneHolder (length s.views) (seats_of s.views p) = inv.locks.held locked in
+      ⊎_elim
+      (λ (e : one.holder ≡ id). true≢false (sym one.owns ∙ ap (λ a. (seats_of s.views p a).exclusive) e ∙ ap (λ (y : View X). (seat_of y p).exclusive) here ∙ none))
+      (λ ne. true≢false (sym one.owns ∙ (others-hold id v pass one.holder ne).exclusive p))
+      (cases_eq one.holder id) in
+      record {
+        version = sym inv.stands.last ∙ ap (λ (y : Version). y.version) last;
+        sized = ap length (sym words) ∙ inv.sizes.last;
+        unlocked = free;
+        resident = inv.stands.resident;
+        evicted = inv.stands.evicted;
+        frame = λ t free_now m at. (inv.contents t).logical free_now m at ∙ words;
+        clean = λ t free_now m at no. ap (λ (b : Stored). b.words) block ∙ sym ((inv.contents t).clean m at no) ∙ (inv.contents t).logical free_now m at ∙ words;
+        device = λ t gone. ap (λ (b : Stored). b.words) block ∙ (inv.contents t).device gone ∙ words;
+        fault = λ none quiet.
+            inv.faults (free none)
+            (λ a. ⊎_elim
+            (λ (e : a ≡ id). ap (λ b. (seats_of s.views p b).writing) e ∙ ap (λ (y : View X). (seat_of y p).writing) here ∙ quiet)
+            (λ ne. (others-hold id v pass a ne).writing p)
+            (cases_eq a id))
+            ∙ ap (λ (b : Stored). b.count) (sym block);
+      }
+
+  pub stands-known : (id : ℕ) (v : View X) → HasStepped s.views id v → (p : ℕ) → p < start.pages → PageStands start v.releases v.snapshot (seat_of v p) p
+  stands-known id v at p l =
+      let all : (v.releases ≡ r.releases) × (v.seen ≡ r.history) × (v.snapshot ≡ snapshot_of stored start s) = r.parts.whole id v at.pass.there (whole-lives stored keeps tied start tells s r id v at.pass) at.pass.whole at.current in
+      subst (λ (n : Snapshot). PageStands start v.releases n (seat_of v p) p) (sym all.2)
+      (subst (λ (k : List Release). PageStands start k (snapshot_of stored start s) (seat_of v p) p) (sym all.0) (page-stands id v at.pass p l))

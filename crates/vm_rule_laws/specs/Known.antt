@@ -1,0 +1,53 @@
+-- What a pass with all parts of a table knows of it once it has made a step, read off its view alone.
+use Rattle.std.specs.Prelude.{ℕ, true, Option, List, length, ◌≡◌}
+use mathlib.Core.Option.{some}
+use lib.ListN.{get_elem?}
+use Rattle.atomic_table.specs.Table.{State as Table}
+use Rattle.vm_block.specs.declared.stored.Stored.{Stored}
+use Rattle.vm_core.specs.Fn.{at}
+use Rattle.vm_core.specs.State.{State}
+use Rattle.vm_owner.specs.declared.Entry.{Entry}
+use Rattle.vm_owner.specs.Kept.{Kept}
+use Rattle.vm_owner.specs.Numbers.{has}
+use Rattle.vm_rule.specs.declared.view.Origin.{Origin}
+use Rattle.vm_rule.specs.declared.view.Release.{Release}
+use Rattle.vm_rule.specs.declared.view.Snapshot.{Snapshot}
+use Rattle.vm_rule.specs.declared.view.View.{View}
+use Rattle.vm_rule.specs.Layout.{words_of}
+use Rattle.vm_rule.specs.Puts.{listed, chosen}
+use Rattle.vm_rule.specs.Views.{IsWhole}
+use Rattle.vm_rule.specs.Reading.{no_block, seats_of, held_of, last_of, core_from, core_of}
+
+module _ {X : Type 0} where
+  -- the pass id of these has this view, with all parts
+  pub record IsWholePass (views : List (View X)) (id : ℕ) (v : View X) : Type 0 where
+    pub there : get_elem? views id ≡ some v
+    pub whole : IsWhole v
+
+  -- and it has made a step since it was split or joined
+  pub record HasStepped (views : List (View X)) (id : ℕ) (v : View X) : Type 0 where
+    pub pass : IsWholePass views id v
+    pub current : v.current ≡ true
+
+  -- the core, from the words and blocks of a snapshot
+  abbrev pub core_in : Origin → Snapshot → List (View X) → State
+  core_in start snapshot views = core_from start (length views) (words_of start snapshot.words) (at no_block snapshot.blocks) (seats_of views) (held_of views)
+
+  -- what the layer above keeps, as the pass knows it: the pages with their last words, the next word, the pages that the pass owes, and
+  -- the history that it has seen
+  abbrev pub kept_by : View X → Kept X
+  kept_by v =
+      record {
+        pages = listed v.start.pages (λ p. (last_of v p).words);
+        next = (words_of v.start v.snapshot.words).next;
+        owed = chosen v.start.pages (λ p. has p v.owed);
+        history = v.seen;
+      }
+
+  -- the pass knows how the table began, all its releases and entries, and the core that it shows
+  pub record KnowsTable {B : Type 0} (stored : B → Stored) (start : Origin) (releases : List Release) (history : List (Entry X)) (s : Table (Option B) (View X)) (v : View X) : Type 0 where
+    pub start_known : v.start ≡ start
+    pub releases_known : v.releases ≡ releases
+    pub history_known : v.seen ≡ history
+    pub words_known : v.snapshot.words ≡ s.words
+    pub core_known : core_of stored start s ≡ core_in v.start v.snapshot s.views

@@ -1,0 +1,61 @@
+//! What follows from the rule of the running table: laws over every table that meets it, for callers that have all parts of a table in one
+//! pass, such as one that closes it. A law is a function without a body whose contract is the law.
+#![tactic(auto)]
+
+ghost use Rattle.std.specs.Prelude.{◌≡◌, ◌≢◌, ◌<◌, ℕ, Option, [], true};
+ghost use mathlib.Core.Option.{some};
+ghost use lib.ListN.{get_elem?};
+ghost use Rattle.atomic_table.specs.Table.{State as Table};
+ghost use Rattle.vm_rule.specs.declared.view.Origin.{Origin};
+ghost use Rattle.vm_rule.specs.declared.view.View.{View};
+ghost use Rattle.vm_rule.specs.Rule.{Ruled, began_of};
+ghost use Rattle.vm_rule.specs.Views.{seat_of};
+ghost use Rattle.vm_rule_laws.specs.Alone.{HasNothing};
+ghost use Rattle.vm_rule_laws.specs.Known.{HasStepped, IsWholePass, KnowsTable, kept_by};
+ghost use Rattle.vm_rule_laws.specs.Standing.{PageStands};
+
+use vm_block::Block;
+use vm_owner::Owner;
+
+/// The releases and the history of a table are its own: two proofs that it meets the rule speak of the same two lists.
+pub fn lists_are_one<U: Owner, B: Block>()
+    ensures { (start : Origin) (s : Table (Option B) (View U.Said)) (r other : Ruled B.stored U.keeps U.tied start B.tells s) → (r.releases ≡ other.releases) × (r.history ≡ other.history) }
+{}
+
+/// A pass that has all parts was not joined away.
+pub fn a_whole_pass_lives<U: Owner, B: Block>()
+    ensures { (start : Origin) (s : Table (Option B) (View U.Said)) → Ruled B.stored U.keeps U.tied start B.tells s → (id : ℕ) (v : View U.Said) → IsWholePass s.views id v → v.live ≡ true }
+{}
+
+/// Where a pass has all parts of a table, no other has anything of it: no lock, frame or block, no member of a group still to be
+/// released, no page that it owes.
+pub fn a_whole_pass_is_alone<U: Owner, B: Block>()
+    ensures { (start : Origin) (s : Table (Option B) (View U.Said)) → Ruled B.stored U.keeps U.tied start B.tells s → (id : ℕ) (v : View U.Said) → IsWholePass s.views id v → (j : ℕ) (u : View U.Said) → j ≢ id → get_elem? s.views j ≡ some u → HasNothing u }
+{}
+
+/// A pass that has all parts has made every entry: it has seen the whole history, and all of it is its own.
+pub fn a_whole_pass_has_the_history<U: Owner, B: Block>()
+    ensures { (start : Origin) (s : Table (Option B) (View U.Said)) (r : Ruled B.stored U.keeps U.tied start B.tells s) (id : ℕ) (v : View U.Said) → IsWholePass s.views id v → (v.seen ≡ r.history) × (v.mine ≡ r.history) }
+{}
+
+/// A pass with all parts that has made a step knows the table: how it began, every release and entry, every word, and the core that the
+/// table shows, which is the one that its snapshot shows.
+pub fn a_whole_pass_knows_the_table<U: Owner, B: Block>()
+    ensures { (start : Origin) (s : Table (Option B) (View U.Said)) (r : Ruled B.stored U.keeps U.tied start B.tells s) (id : ℕ) (v : View U.Said) → HasStepped s.views id v → KnowsTable B.stored start r.releases r.history s v }
+{}
+
+/// Where no group is released in part, such a pass knows what the layer above keeps: the last words of each page, the next word, the pages
+/// that are owed, and the history.
+pub fn a_whole_pass_knows_what_is_kept<U: Owner, B: Block>()
+    ensures { (start : Origin) (s : Table (Option B) (View U.Said)) → Ruled B.stored U.keeps U.tied start B.tells s → (id : ℕ) (v : View U.Said) → HasStepped s.views id v → v.pending ≡ [] → start.tells ≡ true → U.keeps (began_of start) (kept_by v) }
+{}
+
+/// Such a pass knows where each page's last words stand: in the frame or in the block that its snapshot shows.
+pub fn pages_stand_as_the_snapshot_shows<U: Owner, B: Block>()
+    ensures { (start : Origin) (s : Table (Option B) (View U.Said)) → Ruled B.stored U.keeps U.tied start B.tells s → (id : ℕ) (v : View U.Said) → HasStepped s.views id v → (p : ℕ) → p < start.pages → PageStands start v.releases v.snapshot (seat_of v p) p }
+{}
+
+/// A pass that owes no page knows that none is owed.
+pub fn nothing_is_owed<U: Owner>()
+    ensures { (v : View U.Said) → v.owed ≡ [] → (kept_by v).owed ≡ [] }
+{}
