@@ -58,15 +58,15 @@ module _ {X B : Type 0} (stored : B → Stored) (keeps : Start → Kept X → Ty
 
   -- a pass that was joined away has no part
   pub whole-lives : (id : ℕ) (v : View X) → IsWholePass s.views id v → v.live ≡ true
-  whole-lives id v at =
+  whole-lives id v pass =
       ⊎_elim
       (λ on. on)
-      (λ off. absurd (let some' : 1 ≤ owns 0 v = at.whole 0 (omega arith) in let none : owns 0 v ≡ 0 = ap (owns 0) (r.parts.spent id v at.there off) in omega arith))
+      (λ off. absurd (let some' : 1 ≤ owns 0 v = pass.whole 0 (omega arith) in let none : owns 0 v ≡ 0 = ap (owns 0) (r.parts.spent id v pass.there off) in omega arith))
       (cases_Bool v.live)
 
   pub others-have-nothing : (id : ℕ) (v : View X) → IsWholePass s.views id v → (j : ℕ) (u : View X) → j ≢ id → get_elem? s.views j ≡ some u → HasNothing u
-  others-have-nothing id v at j u ne there =
+  others-have-nothing id v pass j u ne there =
       ⊎_elim
-      (λ on. without-parts j u there on (λ k l. not-whole s.views id j v u r.parts.parts (λ e. ne (sym e)) at.there there (k, l) at.whole))
+      (λ on. without-parts j u there on (λ k l. not-whole s.views id j v u r.parts.parts (λ e. ne (sym e)) pass.there there (k, l) pass.whole))
       (λ off. subst HasNothing (sym (r.parts.spent j u there off)) spent-has-nothing)
       (cases_Bool u.live)

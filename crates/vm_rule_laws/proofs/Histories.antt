@@ -61,9 +61,9 @@ module _ {X : Type 0} where
 
 module _ {X B : Type 0} (stored : B → Stored) (keeps : Start → Kept X → Type 0) (tied : Start → ℕ → List ℕ → ℕ → List ℕ → Type 0) (start : Origin) (tells : Bool) (s : Table (Option B) (View X)) (r : Ruled stored keeps tied start tells s) where
   pub all-seen : (id : ℕ) (v : View X) → IsWholePass s.views id v → (v.seen ≡ r.history) × (v.mine ≡ r.history)
-  all-seen id v at =
-      let g : KnowsLists start r.releases r.history v = r.heard id v at.there (whole-lives stored keeps tied start tells s r id v at) in
-      let used : Each (λ e. has e.number v.used ≡ true) r.history = numbers-used v at.whole r.history r.lists.numbered g.fresh in
+  all-seen id v pass =
+      let g : KnowsLists start r.releases r.history v = r.heard id v pass.there (whole-lives stored keeps tied start tells s r id v pass) in
+      let used : Each (λ e. has e.number v.used ≡ true) r.history = numbers-used v pass.whole r.history r.lists.numbered g.fresh in
       let rest : List (Entry X) = g.heard.0 in
       let behind : Each (λ e. has e.number v.used ≡ true) rest = each-behind (λ e. has e.number v.used ≡ true) v.seen rest (subst (Each (λ e. has e.number v.used ≡ true)) g.heard.1 used) in
       let none : rest ≡ [] = sym (all-own v.used rest behind) ∙ g.heard.2 in (

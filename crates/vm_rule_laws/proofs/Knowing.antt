@@ -32,7 +32,7 @@ use Rattle.vm_rule_laws.proofs.Alone.{whole-lives, others-have-nothing}
 pages-same : (pages : ℕ) (r : Words) (blocks blocks' : ℕ → Stored) (seats : ℕ → ℕ → Seat) → ((p : ℕ) → p < pages → blocks p ≡ blocks' p) → pages_from pages r blocks seats ≡ pages_from pages r blocks' seats
 pages-same pages r blocks blocks' seats same =
     fun_ext (λ p. ⊎_elim
-    (λ l. page-in pages r blocks seats p l ∙ (λ i. record { state = (page_from r blocks seats p).state; version = (page_from r blocks seats p).version; trans = (page_from r blocks seats p).trans; fault = (page_from r blocks seats p).fault; count = (same p l i).count; block = (same p l i).words; seats = seats p }) ∙ sym (page-in pages r blocks' seats p l))
+    (λ l. page-in pages r blocks seats p l ∙ ap (λ (b : Stored). page_from r (λ _. b) seats p) (same p l) ∙ sym (page-in pages r blocks' seats p l))
     (λ le. page-out pages r blocks seats p le ∙ sym (page-out pages r blocks' seats p le))
     (cases_lt p pages))
 
@@ -41,7 +41,7 @@ logical-last : (h : ℕ → History) (members : ℕ → Bool) (p : ℕ) → memb
 unfolding logical
 logical-last h members p e = rw e refl
 
--- of no list a number is chosen
+-- where none is chosen
 chosen-never : (n : ℕ) → chosen n (λ _. false) ≡ []
 unfolding chosen
 chosen-never zero = refl
@@ -70,10 +70,10 @@ module _ {X B : Type 0} (stored : B → Stored) (keeps : Start → Kept X → Ty
   }
 
   pub table-known : (id : ℕ) (v : View X) → HasStepped s.views id v → KnowsTable stored start r.releases r.history s v
-  table-known id v at =
-      let live : v.live ≡ true = whole-lives stored keeps tied start tells s r id v at.pass in
-      let all : (v.releases ≡ r.releases) × (v.seen ≡ r.history) × (v.snapshot ≡ snapshot_of stored start s) = r.parts.whole id v at.pass.there live at.pass.whole at.current in
-      let same : v.start ≡ start = (r.heard id v at.pass.there live).same_start in
+  table-known id v stepped =
+      let live : v.live ≡ true = whole-lives stored keeps tied start tells s r id v stepped.pass in
+      let all : (v.releases ≡ r.releases) × (v.seen ≡ r.history) × (v.snapshot ≡ snapshot_of stored start s) = r.parts.whole id v stepped.pass.there live stepped.pass.whole stepped.current in
+      let same : v.start ≡ start = (r.heard id v stepped.pass.there live).same_start in
       record {
         start_known = same;
         releases_known = all.0;
@@ -83,13 +83,13 @@ module _ {X B : Type 0} (stored : B → Stored) (keeps : Start → Kept X → Ty
       }
 
   kept-same : (id : ℕ) (v : View X) → HasStepped s.views id v → v.pending ≡ [] → kept_of (world_of stored start r.releases r.drafts s) r.history s.views ≡ kept_by v
-  kept-same id v at none =
-      let known : KnowsTable stored start r.releases r.history s v = table-known id v at in
-      let others : (j : ℕ) (u : View X) → j ≢ id → get_elem? s.views j ≡ some u → HasNothing u = others-have-nothing stored keeps tied start tells s r id v at.pass in
+  kept-same id v stepped none =
+      let known : KnowsTable stored start r.releases r.history s v = table-known id v stepped in
+      let others : (j : ℕ) (u : View X) → j ≢ id → get_elem? s.views j ≡ some u → HasNothing u = others-have-nothing stored keeps tied start tells s r id v stepped.pass in
       let members : (p : ℕ) → is_pending s.views p ≡ false =
-      λ p. any-only (λ u. has p u.pending) s.views id v at.pass.there (λ j u ne there. ap (has p) (others j u ne there).pending) ∙ ap (has p) none in
+      λ p. any-only (λ u. has p u.pending) s.views id v stepped.pass.there (λ j u ne there. ap (has p) (others j u ne there).pending) ∙ ap (has p) none in
       let owes : (p : ℕ) → is_owed s.views p ≡ has p v.owed =
-      λ p. any-only (λ u. has p u.owed) s.views id v at.pass.there (λ j u ne there. ap (has p) (others j u ne there).owed) in
+      λ p. any-only (λ u. has p u.owed) s.views id v stepped.pass.there (λ j u ne there. ap (has p) (others j u ne there).owed) in
       let pages : listed start.pages (logical (histories_of start r.releases r.drafts) (is_pending s.views)) ≡ listed v.start.pages (λ p. (last_in v.start v.releases p).words) =
       listed-same start.pages (logical (histories_of start r.releases r.drafts) (is_pending s.views)) (λ p. (last_in start r.releases p).words)
       (λ p _. logical-last (histories_of start r.releases r.drafts) (is_pending s.views) p (members p) ∙ ap (λ y. y.words) (sym (last-is start r.releases r.drafts p)))
@@ -104,4 +104,4 @@ module _ {X B : Type 0} (stored : B → Stored) (keeps : Start → Kept X → Ty
       }
 
   pub what-is-kept : (id : ℕ) (v : View X) → HasStepped s.views id v → v.pending ≡ [] → start.tells ≡ true → keeps (began_of start) (kept_by v)
-  what-is-kept id v at none telling = subst (keeps (began_of start)) (kept-same id v at none) (r.owner telling)
+  what-is-kept id v stepped none telling = subst (keeps (began_of start)) (kept-same id v stepped none) (r.owner telling)

@@ -3,3 +3,4 @@ pub mod Alone
 pub mod Histories
 pub mod Knowing
 pub mod Standing
+pub mod Begun

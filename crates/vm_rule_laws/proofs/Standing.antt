@@ -63,8 +63,8 @@ module _ {X B : Type 0} (stored : B → Stored) (keeps : Start → Kept X → Ty
         unlocked = free;
         resident = inv.stands.resident;
         evicted = inv.stands.evicted;
-        frame = λ t free_now m at. (inv.contents t).logical free_now m at ∙ words;
-        clean = λ t free_now m at no. ap (λ (b : Stored). b.words) block ∙ sym ((inv.contents t).clean m at no) ∙ (inv.contents t).logical free_now m at ∙ words;
+        frame = λ t free_now m is. (inv.contents t).logical free_now m is ∙ words;
+        clean = λ t free_now m is no. ap (λ (b : Stored). b.words) block ∙ sym ((inv.contents t).clean m is no) ∙ (inv.contents t).logical free_now m is ∙ words;
         device = λ t gone. ap (λ (b : Stored). b.words) block ∙ (inv.contents t).device gone ∙ words;
         fault = λ none quiet.
             inv.faults (free none)
@@ -76,7 +76,7 @@ module _ {X B : Type 0} (stored : B → Stored) (keeps : Start → Kept X → Ty
       }
 
   pub stands-known : (id : ℕ) (v : View X) → HasStepped s.views id v → (p : ℕ) → p < start.pages → PageStands start v.releases v.snapshot (seat_of v p) p
-  stands-known id v at p l =
-      let all : (v.releases ≡ r.releases) × (v.seen ≡ r.history) × (v.snapshot ≡ snapshot_of stored start s) = r.parts.whole id v at.pass.there (whole-lives stored keeps tied start tells s r id v at.pass) at.pass.whole at.current in
+  stands-known id v stepped p l =
+      let all : (v.releases ≡ r.releases) × (v.seen ≡ r.history) × (v.snapshot ≡ snapshot_of stored start s) = r.parts.whole id v stepped.pass.there (whole-lives stored keeps tied start tells s r id v stepped.pass) stepped.pass.whole stepped.current in
       subst (λ (n : Snapshot). PageStands start v.releases n (seat_of v p) p) (sym all.2)
-      (subst (λ (k : List Release). PageStands start k (snapshot_of stored start s) (seat_of v p) p) (sym all.0) (page-stands id v at.pass p l))
+      (subst (λ (k : List Release). PageStands start k (snapshot_of stored start s) (seat_of v p) p) (sym all.0) (page-stands id v stepped.pass p l))

@@ -7,7 +7,9 @@ ghost use mathlib.Core.Option.{some};
 ghost use lib.ListN.{get_elem?};
 ghost use Rattle.atomic_table.specs.Table.{State as Table};
 ghost use Rattle.vm_rule.specs.declared.view.Origin.{Origin};
+ghost use Rattle.vm_rule.specs.declared.view.Shape.{Shape};
 ghost use Rattle.vm_rule.specs.declared.view.View.{View};
+ghost use Rattle.vm_rule.specs.Begun.{HasShape, Stands};
 ghost use Rattle.vm_rule.specs.Rule.{Ruled, began_of};
 ghost use Rattle.vm_rule.specs.Views.{seat_of};
 ghost use Rattle.vm_rule_laws.specs.Alone.{HasNothing};
@@ -16,6 +18,12 @@ ghost use Rattle.vm_rule_laws.specs.Standing.{PageStands};
 
 use vm_block::Block;
 use vm_owner::Owner;
+
+/// Where a pass of a table lives, the table meets the rule, from the start that its shape has for proofs: what a table keeps between steps
+/// has one other case, that its first pass has not begun.
+pub fn a_live_pass_meets_the_rule<U: Owner, B: Block>()
+    ensures { (shape : Shape) (s : Table (Option B) (View U.Said)) → Stands B.stored U.keeps U.tied shape B.tells s → (id : ℕ) (v : View U.Said) → get_elem? s.views id ≡ some v → v.live ≡ true → HasShape shape shape.began.origin × Ruled B.stored U.keeps U.tied shape.began.origin B.tells s }
+{}
 
 /// The releases and the history of a table are its own: two proofs that it meets the rule speak of the same two lists.
 pub fn lists_are_one<U: Owner, B: Block>()
