@@ -1,6 +1,5 @@
 -- A call that looked at a page's word and was denied: at once, or by an exchange that was lost.
-use Rattle.std.proofs.Common.{ℕ, ◌≡◌, ◌≢◌, List, [], ◌∷◌, None, refl, sym, subst, inl, inr, eqb}
-use Rattle.std.proofs.lemmas.Bool.{ne_eqb, cond-false}
+use Rattle.std.proofs.Common.{ℕ, ◌≡◌, ◌≢◌, List, [], ◌∷◌, None, refl, sym, subst, inl, inr}
 use Rattle.vm_core.specs.Words.{version_of}
 use Rattle.vm_owner.specs.Kept.{Start}
 use Rattle.vm_rule.specs.declared.view.Place.TheVariants as places
@@ -11,15 +10,12 @@ use Rattle.vm_guard.specs.declared.deny.Deny.{Deny}
 use Rattle.vm_guard.specs.declared.deny.Deny.TheVariants as denies
 use Rattle.vm_step.specs.declared.saw.At.TheVariants as ats
 use Rattle.vm_step.specs.declared.saw.Saw.{Saw}
-use Rattle.vm_guard.specs.Denied.{IsDenied, IsEvidence, NoWord}
-use Rattle.vm_step.specs.Evidence.{HasGiven, IsSaw, same, expected}
+use Rattle.vm_guard.specs.Denied.{IsDenied, IsEvidence}
+use Rattle.vm_step.specs.Evidence.{IsSaw, NoWord, same}
+use Rattle.vm_step.proofs.Saws.{lost-saw, one-given}
 use Rattle.vm_guard.specs.Quiet.{IsQuiet}
 use Rattle.vm_guard.specs.Takes.{SaysWhy}
 use Rattle.vm_guard.proofs.QuietSteps.{look-quiet, quiet-then}
-
--- the one step gave the word
-abbrev one-given : (p word : ℕ) → HasGiven (did_load (places.State p) word ∷ []) (places.State p) word
-one-given p word = record { earlier = []; step = did_load (places.State p) word; later = []; cut = refl; gives = (refl, refl) }
 
 word-shows : (p word : ℕ) (d : Deny) → SaysWhy p word d → IsEvidence NoWord (did_load (places.State p) word ∷ []) p d
 word-shows p word (denies.Again saw) why =
@@ -40,21 +36,6 @@ word-shows p word (denies.Again saw) why =
 word-shows p word (denies.Need q) why = (why.0, record { word = word; given = one-given p word; evicted = why.1; foreign = tt })
 word-shows p word (denies.Crowded q) why = (why.0, record { word = word; given = one-given p word; full = why.1 })
 word-shows p word (denies.Worn q) why = (why.0, record { word = word; given = one-given p word; last = why.1 })
-
--- the word expected is of the version of the word seen, and another word was found
-lost-saw : (p word expects found new : ℕ) → version_of word ≡ version_of expects → found ≢ expects
-    → IsSaw NoWord (did_load (places.State p) word ∷ did_exchange (places.State p) expects found new ∷ []) (record { at = ats.Page p; first = expects; seen = found })
-lost-saw p word expects found new version ne = record {
-  earlier = did_load (places.State p) word ∷ [];
-  last = did_exchange (places.State p) expects found new;
-  later = [];
-  cut = refl;
-  gives = (refl, refl);
-  since = [];
-  begins = expected [] (did_load (places.State p) word) word refl (refl, refl) version refl;
-  quiet = tt;
-  why = inr (inr record { gives = (refl, refl); expected = refl; other = ne; left = cond-false (eqb found expects) _ _ (ne_eqb found expects ne) });
-}
 
 module _ {X : Type 0} (tied : Start → ℕ → List ℕ → ℕ → List ℕ → Type 0) (allowed : Deny → Type 0) where
   pub denied-at-once : (p word : ℕ) (d : Deny) (v w : View X) → LookTold tied p None word v w → SaysWhy p word d → allowed d → IsDenied allowed NoWord p d v w

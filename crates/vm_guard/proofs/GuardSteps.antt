@@ -1,11 +1,11 @@
 -- What the calls on a page that is locked already leave of the view: a word read, a word set, a share given up, a release.
-use Rattle.std.proofs.Common.{ℕ, ◌≡◌, ◌≤◌, ◌<◌, ◌+◌, ◌-◌, ◌^◌, ◌++◌, Bool, true, false, List, [], ◌∷◌, length, Option, refl, sym, ap, subst, ◌∙◌, arith, inl, inr, slice_set, length-set, IsSome}
+use Rattle.std.proofs.Common.{ℕ, ◌≡◌, ◌≤◌, ◌<◌, ◌+◌, ◌-◌, ◌^◌, ◌++◌, Bool, true, false, List, [], ◌∷◌, length, Option, Some, refl, sym, ap, subst, ◌∙◌, arith, inl, inr, slice_set, length-set, IsSome}
 use Rattle.std.proofs.lemmas.Bool.{cond-false}
 use Rattle.vm_core.specs.declared.event.Mapping.{Mapping}
-use Rattle.vm_core.specs.declared.event.Seat.{Seat}
 use Rattle.vm_core.specs.History.{History, Version}
 use Rattle.vm_core.specs.Start.{no_seat}
 use Rattle.vm_core.specs.StateActs.{unshared}
+use Rattle.vm_core.specs.FrameActs.{trans_word}
 use Rattle.vm_core.proofs.Upd.{upd-same}
 use Rattle.vm_owner.specs.declared.Entry.{Entry}
 use Rattle.vm_owner.specs.Kept.{Start, Change}
@@ -19,21 +19,25 @@ use Rattle.vm_rule.specs.declared.view.Shape.{Shape}
 use Rattle.vm_rule.specs.declared.view.View.{View}
 use Rattle.vm_rule.specs.Puts.{put_at}
 use Rattle.vm_rule.specs.Views.{seat_of, draft_of}
-use Rattle.vm_rule.specs.Reading.{last_in}
+use Rattle.vm_rule.specs.Reading.{last_in, last_of}
 use Rattle.vm_rule.specs.Rule.{no_held}
 use Rattle.vm_rule.specs.Brought.{Brings, entries_of}
 use Rattle.vm_rule.specs.Log.{did_store, did_change}
 use Rattle.vm_rule.specs.Locks.{UnshareTold, unshared_view}
+use Rattle.vm_rule.specs.Mappings.{DirtyTold, StandsIn, dirty_in, dirty_view}
 use Rattle.vm_rule.specs.Releases.{ReleaseTold, released_view}
-use Rattle.vm_rule.specs.Stores.{Drafts, StoreTold, drafted_view}
+use Rattle.vm_rule.specs.Stores.{Drafts, StoreTold, StoresTold, drafted_view}
 use Rattle.vm_rule.specs.Begun.{HasShape}
+use Rattle.vm_rule.proofs.Entries.{append-none}
 use Rattle.vm_rule.proofs.Worlds.{last-is, release-here}
 use Rattle.vm_step.specs.Conditions.{IsClaimed, IsNotOut, MayGiveUp}
-use Rattle.vm_guard.specs.Guards.{IsHolding, IsReleased, IsSet, IsUnshared}
+use Rattle.vm_step.specs.Asides.{HoldsPage}
+use Rattle.vm_step.proofs.Asides.{alone-self, alone-then}
+use Rattle.vm_guard.specs.Guards.{IsDirtied, IsHolding, IsReleased, IsSet, IsUnshared, dirty_steps}
 use Rattle.vm_step.specs.Plays.{IsOf}
 use Rattle.vm_guard.specs.Quiet.{IsSteady}
 use Rattle.vm_guard.specs.Takes.{MayRelease}
-use Rattle.vm_guard.proofs.QuietSteps.{last-kept, seat-after, loads-after, unshare-aside, store-aside, release-elsewhere}
+use Rattle.vm_guard.proofs.QuietSteps.{dirty-aside, elsewhere-then, holds-then, last-kept, loads-after, quiet-elsewhere, quiet-none, reads-then, release-elsewhere, release-last, seat-after, still-holds, still-reads, store-aside, unshare-aside}
 
 module _ {X : Type 0} where
   -- a view of the table is one after the call too
@@ -54,6 +58,7 @@ module _ {X : Type 0} where
         elsewhere = aside.elsewhere;
         mine = aside.mine;
         group = aside.group;
+        alone = aside.alone;
         seat = seat-after did [] [] v (unshared_view p v) w b p ∙ upd-same (put_at no_seat v.seats) p (unshared (seat_of v p));
         loads = loads-after did [] [] v (unshared_view p v) w b p;
         knows = record {
@@ -68,38 +73,91 @@ module _ {X : Type 0} where
   pub drafts-of : (p f version : ℕ) (v : View X) → IsHolding p f version true v → Drafts v p f
   drafts-of p f version v h = record { owns = h.owns; stands = h.stands; free = h.free }
 
-  pub sets : (p f version i x : ℕ) (v w : View X) → IsHolding p f version true v → StoreTold p f i x v w → IsSet p i x v w
-  sets p f version i x v w h t =
-      let did : Did = did_store (places.Content f i) x in
-      let b : Brings did [] [] v (drafted_view p i x v) w = t.brings in
-      let aside = store-aside p f i x v w t in
-      let seat : seat_of w p ≡ seat_of v p = seat-after did [] [] v (drafted_view p i x v) w b p in
+  pub stands-in : (p f version : ℕ) (dirty : Bool) (v : View X) → IsHolding p f version dirty v → StandsIn v p f
+  stands-in p f version dirty v h = record { owns = h.owns; dirty = dirty; stands = h.stands }
+
+  -- a page that is held is held dirty, where it was made so and as many words are its draft
+  holding-on : (p f version : ℕ) (dirty : Bool) (v w : View X) → IsHolding p f version dirty v → w.start ≡ v.start → HoldsPage v w p → put_at no_held w.held p ≡ record (put_at no_held v.held p) { mapping = Some (dirty_in f) }
+      → last_of w p ≡ last_of v p → length (draft_of w p) ≡ length (draft_of v p) → w.pending ≡ v.pending → IsHolding p f version true w
+  holding-on p f version dirty v w h start holds held last size pending = record {
+    page = subst (λ (o : Origin). p < o.pages) (sym start) h.page;
+    frame_is = subst (λ (o : Origin). f < o.frames) (sym start) h.frame_is;
+    below = h.below;
+    owns = holds.exclusive ∙ h.owns;
+    stands = ap (λ (y : Held). y.mapping) held;
+    told = ap (λ (y : Held). y.fault) held ∙ h.told ∙ ap (λ (y : Held). y.block.count) (sym held);
+    at = ap (λ (y : Version). y.version) last ∙ h.at;
+    size = size ∙ h.size;
+    free = ap (has p) pending ∙ h.free;
+  }
+
+  -- a page that is dirty already is left so
+  pub was-dirty : (p f version : ℕ) (dirty : Bool) (v : View X) → IsHolding p f version dirty v → dirty ≡ true → IsDirtied p f dirty v v
+  was-dirty p f version dirty v h e = record {
+    done = [];
+    steps = sym (ap (dirty_steps p f) e);
+    elsewhere = quiet-elsewhere p [] v v (quiet-none p v);
+    mine = refl;
+    group = (refl, refl, refl);
+    alone = alone-self v;
+    holds = record { shares = refl; exclusive = refl; writing = refl };
+    reads = record { reading = refl; loads = refl };
+    held = (λ i. record (put_at no_held v.held p) { mapping = (h.stands ∙ ap (λ (b : Bool). Some (record { frame = f; dirty = b })) e) i });
+    last = refl;
+    draft = refl;
+  }
+
+  -- a clean one is made so
+  pub dirties : (p f version : ℕ) (dirty : Bool) (v w : View X) → IsHolding p f version dirty v → dirty ≡ false → DirtyTold p f v w → IsDirtied p f dirty v w
+  dirties p f version dirty v w h e t =
+      let did : Did = did_store (places.Translation p) (trans_word (Some (dirty_in f))) in
+      let b : Brings did [] [] v (dirty_view p f v) w = t.brings in
+      let aside = dirty-aside p f v w t in
       record {
         done = did ∷ [];
+        steps = sym (ap (dirty_steps p f) e);
         elsewhere = aside.elsewhere;
         mine = aside.mine;
         group = aside.group;
-        holds = record { shares = ap (λ (s : Seat). s.shares) seat; exclusive = ap (λ (s : Seat). s.exclusive) seat; writing = ap (λ (s : Seat). s.writing) seat };
-        reads = record { reading = ap (λ (s : Seat). s.reading) seat; loads = loads-after did [] [] v (drafted_view p i x v) w b p };
-        held = ap (λ (y : View X). put_at no_held y.held p) b.view;
-        last = last-kept did [] v (drafted_view p i x v) w b refl p (inl h.owns);
-        draft = ap (λ (y : View X). draft_of y p) b.view ∙ upd-same (put_at [] v.drafts) p (slice_set (draft_of v p) i x);
+        alone = aside.alone;
+        holds = still-holds did v (dirty_view p f v) w b refl p;
+        reads = still-reads did v (dirty_view p f v) w b refl refl p;
+        held = ap (λ (y : View X). put_at no_held y.held p) b.view ∙ upd-same (put_at no_held v.held) p (record (put_at no_held v.held p) { mapping = Some (dirty_in f) });
+        last = last-kept did [] v (dirty_view p f v) w b refl p (inl h.owns);
+        draft = ap (λ (y : View X). draft_of y p) b.view;
       }
 
-  pub still-holding : (p f version i x : ℕ) (v w : View X) → IsHolding p f version true v → IsSet p i x v w → IsHolding p f version true w
-  still-holding p f version i x v w h s =
-      let start : w.start ≡ v.start = s.elsewhere.steady.start in
+  pub holds-dirty : (p f version : ℕ) (dirty : Bool) (v w : View X) → IsHolding p f version dirty v → IsDirtied p f dirty v w → IsHolding p f version true w
+  holds-dirty p f version dirty v w h d = holding-on p f version dirty v w h d.elsewhere.steady.start d.holds d.held d.last (ap (λ (l : List ℕ). length l) d.draft) d.group.0
+
+  -- a word of a page that was made dirty is set
+  pub sets : (p f version : ℕ) (dirty : Bool) (i x : ℕ) (v u w : View X) → IsHolding p f version dirty v → IsDirtied p f dirty v u → StoresTold f i x u w → IsSet p f dirty i x v w
+  sets p f version dirty i x v u w before d stores =
+      let h : IsHolding p f version true u = holds-dirty p f version dirty v u before d in
+      let t : StoreTold p f i x u w = stores.page p (drafts-of p f version u h) in
+      let did : Did = did_store (places.Content f i) x in
+      let b : Brings did [] [] u (drafted_view p i x u) w = t.brings in
+      let aside = store-aside p f i x u w t in
       record {
-        page = subst (λ (o : Origin). p < o.pages) (sym start) h.page;
-        frame_is = subst (λ (o : Origin). f < o.frames) (sym start) h.frame_is;
-        below = h.below;
-        owns = s.holds.exclusive ∙ h.owns;
-        stands = ap (λ (y : Held). y.mapping) s.held ∙ h.stands;
-        told = ap (λ (y : Held). y.fault) s.held ∙ h.told ∙ ap (λ (y : Held). y.block.count) (sym s.held);
-        at = ap (λ (y : Version). y.version) s.last ∙ h.at;
-        size = ap (λ (l : List ℕ). length l) s.draft ∙ length-set (draft_of v p) i x ∙ h.size;
-        free = ap (has p) s.group.0 ∙ h.free;
+        done = d.done ++ did ∷ [];
+        steps = ap (λ (l : List Did). l ++ did ∷ []) d.steps;
+        elsewhere = elsewhere-then p d.done (did ∷ []) v u w d.elsewhere aside.elsewhere;
+        mine = aside.mine ∙ d.mine;
+        group = (aside.group.0 ∙ d.group.0, aside.group.1 ∙ d.group.1, aside.group.2 ∙ d.group.2);
+        alone = alone-then v u w d.elsewhere.steady.parts d.alone aside.alone;
+        holds = holds-then v u w p d.holds (still-holds did u (drafted_view p i x u) w b refl p);
+        reads = reads-then v u w p d.reads (still-reads did u (drafted_view p i x u) w b refl refl p);
+        held = ap (λ (y : View X). put_at no_held y.held p) b.view ∙ d.held;
+        last = last-kept did [] u (drafted_view p i x u) w b refl p (inl h.owns) ∙ d.last;
+        draft =
+            ap (λ (y : View X). draft_of y p) b.view
+            ∙ upd-same (put_at [] u.drafts) p (slice_set (draft_of u p) i x)
+            ∙ ap (λ (l : List ℕ). slice_set l i x) d.draft;
       }
+
+  pub still-holding : (p f version : ℕ) (dirty : Bool) (i x : ℕ) (v w : View X) → IsHolding p f version dirty v → IsSet p f dirty i x v w → IsHolding p f version true w
+  still-holding p f version dirty i x v w h s =
+      holding-on p f version dirty v w h s.elsewhere.steady.start s.holds s.held s.last (ap (λ (l : List ℕ). length l) s.draft ∙ length-set (draft_of v p) i x) s.group.0
 
   -- ---- a release
 
@@ -136,5 +194,10 @@ module _ {X : Type 0} where
             ap (λ (y : View X). last_in y.start y.releases p) b.view
             ∙ last-is v.start ((v.releases ++ b.between) ++ r ∷ []) (λ k. []) p
             ∙ ap (λ (y : History). y.last) (release-here v.start (v.releases ++ b.between) (λ k. []) r);
+        alone = λ all e q ne.
+            ap (λ (y : View X). (last_in y.start y.releases q).words) b.view
+            ∙ ap (λ (rs : List Release). (last_in v.start ((v.releases ++ rs) ++ r ∷ []) q).words) (b.alone all e).0
+            ∙ ap (λ (x : Version). x.words) (release-last v (v.releases ++ []) r q ne)
+            ∙ ap (λ (rs : List Release). (last_in v.start rs q).words) (append-none v.releases);
         wrote = record { earlier = []; step = did; later = []; cut = refl; place = refl; wrote = refl };
       }

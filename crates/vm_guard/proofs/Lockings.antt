@@ -24,7 +24,9 @@ use Rattle.vm_rule.specs.Log.{did_load, did_exchange}
 use Rattle.vm_rule.specs.Looks.{LookTold}
 use Rattle.vm_rule.specs.Loads.{TranslationTold}
 use Rattle.vm_rule.specs.Locks.{LockTold, Validates, locked_view}
-use Rattle.vm_guard.specs.Quiet.{IsQuiet, KnowsAsBefore}
+use Rattle.vm_step.specs.Asides.{KnowsAsBefore}
+use Rattle.vm_step.proofs.Asides.{alone-then}
+use Rattle.vm_guard.specs.Quiet.{IsQuiet}
 use Rattle.vm_guard.specs.Guards.{IsHolding, IsLocked}
 use Rattle.vm_guard.specs.Takes.{IsToExpect}
 use Rattle.vm_guard.proofs.Leaving.{older-read}
@@ -104,6 +106,7 @@ module _ {X : Type 0} (tied : Start → ℕ → List ℕ → ℕ → List ℕ �
             (elsewhere-then p (second ∷ []) (third ∷ []) u x w aside.elsewhere (quiet-elsewhere p (third ∷ []) x w after));
         mine = after.mine ∙ aside.mine ∙ before.mine;
         group = (after.group.0 ∙ aside.group.0 ∙ before.group.0, after.group.1 ∙ aside.group.1 ∙ before.group.1, after.group.2 ∙ aside.group.2 ∙ before.group.2);
+        alone = alone-then v u w before.steady.parts before.alone (alone-then u x w aside.elsewhere.steady.parts aside.alone after.alone);
         holding = holding p expects u x t word found m w to load named (subst (λ (o : Origin). p < o.pages) (sym (aside.elsewhere.steady.start ∙ before.steady.start)) page);
         draft = draft-then p expects u x t word found m w to load named (subst (λ (o : Origin). p < o.pages) (sym (aside.elsewhere.steady.start ∙ before.steady.start)) page);
         validates = λ tells.

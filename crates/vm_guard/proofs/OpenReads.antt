@@ -25,7 +25,7 @@ use Rattle.vm_rule.specs.Brought.{entries_of}
 use Rattle.vm_rule.specs.Log.{did_load}
 use Rattle.vm_rule.specs.Looks.{LookTold, NamesFrame, left_at, where_same, looked_view}
 use Rattle.vm_rule.specs.Loads.{TranslationTold, LoadTold, translation_of, tloaded_view, loaded_view, frame_read_by}
-use Rattle.vm_guard.specs.Quiet.{HoldsPage}
+use Rattle.vm_step.specs.Asides.{HoldsPage}
 use Rattle.vm_guard.proofs.QuietSteps.{seat-after, loads-after}
 
 -- ---- open reads alone

@@ -1,5 +1,5 @@
 -- What each kind of step leaves of a view that it does not speak of, and that this holds of several steps in a row.
-use Rattle.std.proofs.Common.{ℕ, ◌≡◌, ◌≢◌, ◌≤◌, ◌+◌, ◌-◌, ◌^◌, ◌==◌, if◌then◌else◌, Bool, true, false, Option, None, List, [], ◌∷◌, ◌++◌, refl, sym, ap, subst, ◌∙◌, ⊎_elim, inl, inr, append_assoc, eqb, slice_set}
+use Rattle.std.proofs.Common.{ℕ, ◌≡◌, ◌≢◌, ◌≤◌, ◌+◌, ◌-◌, ◌^◌, ◌==◌, if◌then◌else◌, Bool, true, false, Option, Some, None, List, [], ◌∷◌, ◌++◌, refl, sym, ap, subst, ◌∙◌, ⊎_elim, inl, inr, append_assoc, eqb, slice_set}
 use Rattle.std.proofs.lemmas.Bool.{eq-eqb, ne_eqb, cond-true, cond-false}
 use Rattle.vm_core.specs.declared.event.Open.{Open}
 use Rattle.vm_core.specs.declared.event.ReadIs.{ReadIs}
@@ -7,7 +7,7 @@ use Rattle.vm_core.specs.declared.event.ReadIs.TheVariants as read
 use Rattle.vm_core.specs.declared.event.Seat.{Seat}
 use Rattle.vm_core.specs.Words.{state_of, version_of, word_of, LOCKED}
 use Rattle.vm_core.specs.StateActs.{open_after, one_more, unshared}
-use Rattle.vm_core.specs.FrameActs.{mapping_of, open_frame, framed}
+use Rattle.vm_core.specs.FrameActs.{mapping_of, open_frame, framed, trans_word}
 use Rattle.vm_core.specs.History.{History, kept_loads, loads_more}
 use Rattle.vm_core.specs.Start.{no_seat}
 use Rattle.vm_core.proofs.Upd.{upd-other, upd-keeps}
@@ -29,12 +29,15 @@ use Rattle.vm_rule.specs.Brought.{Brings, entries_of}
 use Rattle.vm_rule.specs.Log.{did_load, did_store, did_exchange, did_change}
 use Rattle.vm_rule.specs.Looks.{LookTold, where_same, left_at, looked_view, ties_below}
 use Rattle.vm_rule.specs.Loads.{TranslationTold, LoadTold, tloaded_view, loaded_view}
-use Rattle.vm_rule.specs.Locks.{LockTold, ShareTold, UnshareTold, has_lock, locked_view, shared_view, unshared_view}
+use Rattle.vm_rule.specs.Mappings.{DirtyTold, dirty_in, dirty_view}
+use Rattle.vm_rule.specs.Locks.{LockTold, MarkTold, ShareTold, UnshareTold, has_lock, locked_view, shared_view, unshared_view}
 use Rattle.vm_rule.specs.Releases.{ReleaseTold, released_view}
 use Rattle.vm_rule.specs.Stores.{StoreTold, drafted_view}
 use Rattle.vm_rule.proofs.Entries.{append-none}
 use Rattle.vm_rule.proofs.Worlds.{last-is, release-else}
-use Rattle.vm_guard.specs.Quiet.{HoldsPage, KnowsAsBefore, ReadsAsBefore, IsSteady, IsQuiet}
+use Rattle.vm_step.specs.Asides.{HoldsPage, KnowsAsBefore, ReadsAsBefore, StaysAlone}
+use Rattle.vm_step.proofs.Asides.{alone-self, alone-silent, alone-then}
+use Rattle.vm_guard.specs.Quiet.{IsSteady, IsQuiet}
 use Rattle.vm_guard.specs.Guards.{IsElsewhere}
 
 -- one choice of both
@@ -70,6 +73,7 @@ module _ {X : Type 0} where
     out = g.out ∙ f.out;
     notes = g.notes ∙ f.notes;
     ties = (g.ties.0 ++ f.ties.0, g.ties.1 ∙ ap (λ (t : List Tie). g.ties.0 ++ t) f.ties.1 ∙ sym (append_assoc g.ties.0 f.ties.0 u.ties));
+    current = λ e. g.current (f.current e);
   }
 
   pub holds-then : (u v w : View X) (q : ℕ) → HoldsPage u v q → HoldsPage v w q → HoldsPage u w q
@@ -93,6 +97,7 @@ module _ {X : Type 0} where
     holds = λ q. holds-then u v w q (f.holds q) (g.holds q);
     knows = λ q l. knows-then u v w q (f.knows q l) (g.knows q (still-locking u v q (f.holds q) l));
     others = λ q ne. reads-then u v w q (f.others q ne) (g.others q ne);
+    alone = alone-then u v w f.steady.parts f.alone g.alone;
   }
 
   pub elsewhere-then : (p : ℕ) (a b : List Did) (u v w : View X) → IsElsewhere p a u v → IsElsewhere p b v w → IsElsewhere p (a ++ b) u w
@@ -120,12 +125,14 @@ module _ {X : Type 0} where
       out = refl;
       notes = refl;
       ties = ([], refl);
+      current = λ e. e;
     };
     mine = refl;
     group = (refl, refl, refl);
     holds = λ q. record { shares = refl; exclusive = refl; writing = refl };
     knows = λ q l. record { held = refl; draft = refl; last = refl };
     others = λ q ne. record { reading = refl; loads = refl };
+    alone = alone-self v;
   }
 
   -- ---- one step
@@ -153,6 +160,7 @@ module _ {X : Type 0} where
     out = ap (λ (x : View X). x.out) b.view ∙ l.out;
     notes = ap (λ (x : View X). x.notes) b.view ∙ l.notes;
     ties = (l.ties.0, ap (λ (x : View X). x.ties) b.view ∙ l.ties.1);
+    current = λ _. ap (λ (x : View X). x.current) b.view;
   }
 
   -- a step that releases no page leaves the last version of each page that the pass has locked
@@ -168,6 +176,20 @@ module _ {X : Type 0} where
 
   pub loads-after : (did : Did) (own : List Release) (entries : List (Entry X)) (v inner w : View X) → Brings did own entries v inner w → (q : ℕ) → loads_at w q ≡ loads_at inner q
   loads-after did own entries v inner w b q = ap (λ (x : View X). loads_at x q) b.view
+
+  -- a step that changes no seat leaves the locks and the open reads
+  pub still-holds : (did : Did) (v inner w : View X) → Brings did [] [] v inner w → inner.seats ≡ v.seats → (q : ℕ) → HoldsPage v w q
+  still-holds did v inner w b seats q =
+      let e : seat_of w q ≡ seat_of v q = seat-after did [] [] v inner w b q ∙ ap (λ (l : List (Put Seat)). put_at no_seat l q) seats in
+      record { shares = ap (λ (s : Seat). s.shares) e; exclusive = ap (λ (s : Seat). s.exclusive) e; writing = ap (λ (s : Seat). s.writing) e }
+
+  pub still-reads : (did : Did) (v inner w : View X) → Brings did [] [] v inner w → inner.seats ≡ v.seats → inner.loads ≡ v.loads → (q : ℕ) → ReadsAsBefore v w q
+  still-reads did v inner w b seats loads q =
+      let e : seat_of w q ≡ seat_of v q = seat-after did [] [] v inner w b q ∙ ap (λ (l : List (Put Seat)). put_at no_seat l q) seats in
+      record {
+        reading = ap (λ (s : Seat). s.reading) e;
+        loads = loads-after did [] [] v inner w b q ∙ ap (λ (l : List (Put (List (ℕ × ℕ)))). put_at [] l q) loads;
+      }
 
   -- the seat of one page alone changes, and there the open read alone
   pub record IsReadOf (p : ℕ) (v inner : View X) : Type 0 where
@@ -198,6 +220,7 @@ module _ {X : Type 0} where
       reading = ap (λ (s : Seat). s.reading) (seat-after did [] [] v inner w b q) ∙ (r.others q ne).reading;
       loads = loads-after did [] [] v inner w b q ∙ (r.others q ne).loads;
     };
+    alone = alone-silent did None [] v inner w b r.level.start;
   }
 
   pub elsewhere-from : (p : ℕ) (did : Did) (own : List Release) (entries : List (Entry X)) (v inner w : View X) → Brings did own entries v inner w → IsLevel v inner
@@ -262,6 +285,7 @@ module _ {X : Type 0} where
     pub holds : (q : ℕ) → HoldsPage v w q
     pub knows : (q : ℕ) → IsLocking (seat_of v q) → KnowsAsBefore v w q
     pub others : (q : ℕ) → q ≢ p → ReadsAsBefore v w q
+    pub alone : StaysAlone v w
 
   pub looked : (tied : Start → ℕ → List ℕ → ℕ → List ℕ → Type 0) (p : ℕ) (said : Option X) (found : ℕ) (v w : View X) → LookTold tied p said found v w → IsLooked p (did_load (places.State p) found ∷ []) v w
   looked tied p said found v w t =
@@ -288,6 +312,7 @@ module _ {X : Type 0} where
           reading = ap (λ (s : Seat). s.reading) (seat-after did [] entries v inner w t.brings q ∙ upd-other (put_at no_seat v.seats) p (record (seat_of v p) { reading = o }) q ne);
           loads = loads-after did [] entries v inner w t.brings q ∙ upd-other (put_at [] v.loads) p (kept_loads left (loads_at v p)) q ne;
         };
+        alone = alone-silent did None entries v inner w t.brings refl;
       }
 
   -- a look that made no entry
@@ -302,6 +327,7 @@ module _ {X : Type 0} where
         holds = k.holds;
         knows = k.knows;
         others = k.others;
+        alone = k.alone;
       }
 
   -- a look without a word to say
@@ -355,6 +381,10 @@ module _ {X : Type 0} where
         others = λ q ne. record { reading = refl; loads = refl };
       }
 
+  -- a mark is taken away, or is not since the word was another
+  pub mark-quiet : (p expects found new : ℕ) (v w : View X) → MarkTold p expects found new v w → IsQuiet p (did_exchange (places.State p) expects found new ∷ []) v w
+  mark-quiet p expects found new v w t = still-quiet p (did_exchange (places.State p) expects found new) v w t.brings
+
   -- the view after an exchange that was lost, and after one that took
   lost-view : (did : Did) (expects found : ℕ) (v inner w : View X) → found ≢ expects → Brings did [] [] v (if found == expects then inner else v) w → Brings did [] [] v v w
   lost-view did expects found v inner w ne b = subst (λ (x : View X). Brings did [] [] v x w) (cond-false (eqb found expects) inner v (ne_eqb found expects ne)) b
@@ -379,6 +409,7 @@ module _ {X : Type 0} where
     pub elsewhere : IsElsewhere p done v w
     pub mine : w.mine ≡ v.mine
     pub group : (w.pending ≡ v.pending) × (w.owed ≡ v.owed) × (w.next ≡ v.next)
+    pub alone : StaysAlone v w
 
   pub lock-taken : (tied : Start → ℕ → List ℕ → ℕ → List ℕ → Type 0) (p expects found : ℕ) (v w : View X) → found ≡ expects → LockTold tied p expects found v w
       → IsAside p (did_exchange (places.State p) expects found (word_of LOCKED (version_of expects)) ∷ []) v w
@@ -396,6 +427,7 @@ module _ {X : Type 0} where
             (λ q ne. upd-other (put_at [] v.drafts) p words q ne);
         mine = ap (λ (x : View X). x.mine) b.view;
         group = (ap (λ (x : View X). x.pending) b.view, ap (λ (x : View X). x.owed) b.view, ap (λ (x : View X). x.next) b.view);
+        alone = alone-silent did None [] v inner w b refl;
       }
 
   held-if : (b : Bool) (v : View X) (p : ℕ) (h : Held) (q : ℕ) → q ≢ p → put_at no_held (if b then v.held else put p h v.held) q ≡ put_at no_held v.held q
@@ -417,6 +449,7 @@ module _ {X : Type 0} where
             (λ q ne. refl);
         mine = ap (λ (x : View X). x.mine) b.view;
         group = (ap (λ (x : View X). x.pending) b.view, ap (λ (x : View X). x.owed) b.view, ap (λ (x : View X). x.next) b.view);
+        alone = alone-silent did None [] v inner w b refl;
       }
 
   pub unshare-aside : (p found : ℕ) (v w : View X) → UnshareTold p found v w → IsAside p (did_change (places.State p) found (found - 2 ^ 56) ∷ []) v w
@@ -433,6 +466,24 @@ module _ {X : Type 0} where
             (λ q ne. refl);
         mine = ap (λ (x : View X). x.mine) b.view;
         group = (ap (λ (x : View X). x.pending) b.view, ap (λ (x : View X). x.owed) b.view, ap (λ (x : View X). x.next) b.view);
+        alone = alone-silent did None [] v inner w b refl;
+      }
+
+  pub dirty-aside : (p f : ℕ) (v w : View X) → DirtyTold p f v w → IsAside p (did_store (places.Translation p) (trans_word (Some (dirty_in f))) ∷ []) v w
+  dirty-aside p f v w t =
+      let did : Did = did_store (places.Translation p) (trans_word (Some (dirty_in f))) in
+      let inner : View X = dirty_view p f v in
+      let b : Brings did [] [] v inner w = t.brings in
+      record {
+        elsewhere = elsewhere-from p did [] [] v inner w b (level v)
+            (λ q ne. last-kept did [] v inner w b refl q)
+            (λ q ne. refl)
+            (λ q ne. refl)
+            (λ q ne. upd-other (put_at no_held v.held) p (record (put_at no_held v.held p) { mapping = Some (dirty_in f) }) q ne)
+            (λ q ne. refl);
+        mine = ap (λ (y : View X). y.mine) b.view;
+        group = (ap (λ (y : View X). y.pending) b.view, ap (λ (y : View X). y.owed) b.view, ap (λ (y : View X). y.next) b.view);
+        alone = alone-silent did None [] v inner w b refl;
       }
 
   pub store-aside : (p f i x : ℕ) (v w : View X) → StoreTold p f i x v w → IsAside p (did_store (places.Content f i) x ∷ []) v w
@@ -449,7 +500,15 @@ module _ {X : Type 0} where
             (λ q ne. upd-other (put_at [] v.drafts) p (slice_set (draft_of v p) i x) q ne);
         mine = ap (λ (y : View X). y.mine) b.view;
         group = (ap (λ (y : View X). y.pending) b.view, ap (λ (y : View X). y.owed) b.view, ap (λ (y : View X). y.next) b.view);
+        alone = alone-silent did None [] v inner w b refl;
       }
+
+  -- a release of one page leaves the last version of each other page
+  pub release-last : (v : View X) (rs : List Release) (r : Release) (q : ℕ) → q ≢ r.page → last_in v.start (rs ++ r ∷ []) q ≡ last_in v.start rs q
+  release-last v rs r q ne =
+      last-is v.start (rs ++ r ∷ []) (λ k. []) q
+      ∙ ap (λ (h : History). h.last) (release-else v.start rs (λ k. []) r q ne)
+      ∙ sym (last-is v.start rs (λ k. []) q)
 
   -- a release of page p leaves all but that page and the group
   pub release-elsewhere : (p version : ℕ) (rest : List ℕ) (said : Option X) (v w : View X) → ReleaseTold p version rest said v w → IsElsewhere p (did_store (places.State p) (version + 1) ∷ []) v w
@@ -460,9 +519,7 @@ module _ {X : Type 0} where
       let b : Brings did (r ∷ []) (entries_of v said) v inner w = t.brings in
       elsewhere-from p did (r ∷ []) (entries_of v said) v inner w b (level v)
       (λ q ne l. ap (λ (y : View X). last_in y.start y.releases q) b.view
-      ∙ last-is v.start ((v.releases ++ b.between) ++ r ∷ []) (λ k. []) q
-      ∙ ap (λ (h : History). h.last) (release-else v.start (v.releases ++ b.between) (λ k. []) r q ne)
-      ∙ sym (last-is v.start (v.releases ++ b.between) (λ k. []) q)
+      ∙ release-last v (v.releases ++ b.between) r q ne
       ∙ b.kept q l)
       (λ q ne. upd-other (put_at no_seat v.seats) p (record (seat_of v p) { exclusive = false }) q ne)
       (λ q ne. refl)

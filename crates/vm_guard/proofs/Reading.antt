@@ -11,7 +11,8 @@ use Rattle.vm_rule.specs.Rule.{no_held}
 use Rattle.vm_rule.specs.Log.{did_load}
 use Rattle.vm_rule.specs.Loads.{LoadTold}
 use Rattle.vm_rule.proofs.Entries.{append-none}
-use Rattle.vm_guard.specs.Quiet.{HoldsPage, IsQuiet}
+use Rattle.vm_step.specs.Asides.{HoldsPage}
+use Rattle.vm_guard.specs.Quiet.{IsQuiet}
 use Rattle.vm_guard.specs.Guards.{IsReading, Loads, IsElsewhere, placed}
 use Rattle.vm_guard.proofs.QuietSteps.{load-quiet, quiet-then, quiet-none}
 use Rattle.vm_guard.proofs.OpenReads.{still-read, loaded-reading, loaded-loads}

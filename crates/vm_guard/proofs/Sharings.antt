@@ -24,7 +24,9 @@ use Rattle.vm_rule.specs.Log.{did_load, did_exchange}
 use Rattle.vm_rule.specs.Looks.{LookTold}
 use Rattle.vm_rule.specs.Loads.{TranslationTold}
 use Rattle.vm_rule.specs.Locks.{ShareTold, Validates, has_lock, shared_view}
-use Rattle.vm_guard.specs.Quiet.{IsQuiet, KnowsAsBefore}
+use Rattle.vm_step.specs.Asides.{KnowsAsBefore}
+use Rattle.vm_step.proofs.Asides.{alone-then}
+use Rattle.vm_guard.specs.Quiet.{IsQuiet}
 use Rattle.vm_guard.specs.Guards.{IsElsewhere, IsShared}
 use Rattle.vm_guard.specs.Takes.{HasRoom}
 use Rattle.vm_guard.proofs.QuietSteps.{IsAside, elsewhere-then, knows-then, last-kept, look-quiet, quiet-elsewhere, seat-after, share-taken, still-locking, taken-view, translation-quiet}
@@ -81,6 +83,7 @@ module _ {X : Type 0} (tied : Start → ℕ → List ℕ → ℕ → List ℕ �
         elsewhere = elsewhere;
         mine = after.mine ∙ aside.mine ∙ before.mine;
         group = (after.group.0 ∙ aside.group.0 ∙ before.group.0, after.group.1 ∙ aside.group.1 ∙ before.group.1, after.group.2 ∙ aside.group.2 ∙ before.group.2);
+        alone = alone-then v u w before.steady.parts before.alone (alone-then u x w aside.elsewhere.steady.parts aside.alone after.alone);
         seat = seat-w;
         knows = λ l. knows-then v u w p (before.knows p l) (knows-then u x w p (share-knows p word u x t (still-locking v u p (before.holds p) l)) known);
         sharing = record {

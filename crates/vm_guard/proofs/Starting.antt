@@ -1,5 +1,5 @@
--- The start of an optimistic guard: what its looks and its load of the translation word prove of each answer.
-use Rattle.std.proofs.Common.{ℕ, ◌≡◌, ◌≢◌, ◌⊎◌, ◌<◌, ◌≤◌, true, Some, None, List, [], ◌∷◌, ◌++◌, refl, sym, ap, subst, ◌∙◌, ⊎_elim, arith, inl, inr}
+-- The start of an optimistic guard: what its looks, the mark that it takes away and its load of the translation word prove of each answer.
+use Rattle.std.proofs.Common.{ℕ, ◌≡◌, ◌≢◌, ◌⊎◌, ◌<◌, ◌≤◌, true, Some, None, List, [], ◌∷◌, ◌++◌, append_assoc, refl, sym, ap, subst, ◌∙◌, ⊎_elim, arith, inl, inr}
 use Rattle.std.proofs.lemmas.Bool.{cases_eq}
 use Rattle.vm_core.specs.declared.event.Open.{Open}
 use Rattle.vm_core.specs.Words.{state_of, version_of, frame_in, LOCKED, EVICTED}
@@ -18,18 +18,29 @@ use Rattle.vm_rule.specs.Loads.{TranslationTold}
 use Rattle.vm_step.specs.declared.saw.At.TheVariants as ats
 use Rattle.vm_guard.specs.declared.deny.Deny.{Deny}
 use Rattle.vm_guard.specs.declared.deny.Deny.TheVariants as denies
+use Rattle.vm_step.specs.Evidence.{NoWord}
 use Rattle.vm_step.specs.Evidence.Begins.{same, read}
 use Rattle.vm_guard.specs.Quiet.{IsQuiet}
-use Rattle.vm_guard.specs.Guards.{Begins, HasLeft, IsReading}
-use Rattle.vm_guard.specs.Denied.{AgainOrNeed, IsDenied, NoWord}
+use Rattle.vm_guard.specs.Guards.{Begins, HasLeft, IsReading, IsUnmarked}
+use Rattle.vm_guard.specs.Denied.{AgainOrNeed, IsDenied}
 use Rattle.vm_guard.proofs.QuietSteps.{quiet-then, look-quiet, translation-quiet, still-locking}
 use Rattle.vm_guard.proofs.Reading.{reading-kept}
+use Rattle.vm_guard.proofs.Unmarking.{unmarking-quiet}
 use Rattle.vm_guard.proofs.OpenReads.{left-same, looked-open, looked-same, translated-keeps, named, mapped-frame, reads-by, holds-back}
 
 -- a fact of a step in the middle
 pub each-at : {A : Type 0} (P : A → Type 0) (l : List A) (d : A) (m : List A) → Each P (l ++ d ∷ m) → P d
 each-at P [] d m h = h.0
 each-at P (x ∷ l) d m h = each-at P l d m h.1
+
+-- and of those before
+each-front : {A : Type 0} (P : A → Type 0) (l m : List A) → Each P (l ++ m) → Each P l
+each-front P [] m h = tt
+each-front P (d ∷ l) m h = (h.0, each-front P l m h.1)
+
+-- the word seen agrees with those that the step found and left
+abbrev Agrees : ℕ → ℕ → Did → Type 0
+Agrees p seen d = at_state d.at (λ q. q ≡ p → IsSince seen d.found × IsSince seen d.wrote)
 
 module _ {X : Type 0} (tied : Start → ℕ → List ℕ → ℕ → List ℕ → Type 0) (p : ℕ) where
   -- the page was found Evicted by the first look
@@ -64,29 +75,32 @@ module _ {X : Type 0} (tied : Start → ℕ → List ℕ → ℕ → List ℕ �
     kind = may;
   }
 
-  module _ (first word seen : ℕ) (u v x w : View X) (l : LookTold tied p None first u v) (t : TranslationTold p word v x) (m : LookTold tied p None seen x w) where
-    later-quiet : IsQuiet p (did_load (places.Translation p) word ∷ did_load (places.State p) seen ∷ []) v w
-    later-quiet = quiet-then p (did_load (places.Translation p) word ∷ []) (did_load (places.State p) seen ∷ []) v x w (translation-quiet p word v x t) (look-quiet tied p seen x w m)
+  module _ (first word seen : ℕ) (u v y x w : View X) (l : LookTold tied p None first u v) (c : IsUnmarked p first v y) (t : TranslationTold p word y x) (m : LookTold tied p None seen x w) where
+    abbrev later-steps : List Did
+    later-steps = did_load (places.Translation p) word ∷ did_load (places.State p) seen ∷ []
 
-    all-quiet : IsQuiet p (did_load (places.State p) first ∷ did_load (places.Translation p) word ∷ did_load (places.State p) seen ∷ []) u w
-    all-quiet = quiet-then p (did_load (places.State p) first ∷ []) (did_load (places.Translation p) word ∷ did_load (places.State p) seen ∷ []) u v w (look-quiet tied p first u v l) later-quiet
+    later-quiet : IsQuiet p later-steps y w
+    later-quiet = quiet-then p (did_load (places.Translation p) word ∷ []) (did_load (places.State p) seen ∷ []) y x w (translation-quiet p word y x t) (look-quiet tied p seen x w m)
+
+    all-quiet : IsQuiet p (did_load (places.State p) first ∷ c.done ++ later-steps) u w
+    all-quiet = quiet-then p (did_load (places.State p) first ∷ []) (c.done ++ later-steps) u v w (look-quiet tied p first u v l) (quiet-then p c.done later-steps v y w c.quiet later-quiet)
 
     -- another version came to the page between the looks, or the second one found it Locked
     pub moved : (version_of first ≢ version_of seen) ⊎ (state_of seen ≡ LOCKED) → IsDenied AgainOrNeed NoWord p (denies.Again (record { at = ats.Page p; first = first; seen = seen })) u w
     moved why = record {
-      done = did_load (places.State p) first ∷ did_load (places.Translation p) word ∷ did_load (places.State p) seen ∷ [];
+      done = did_load (places.State p) first ∷ c.done ++ later-steps;
       quiet = all-quiet;
       evidence = (
         refl,
         record {
-          earlier = did_load (places.State p) first ∷ did_load (places.Translation p) word ∷ [];
+          earlier = did_load (places.State p) first ∷ c.done ++ did_load (places.Translation p) word ∷ [];
           last = did_load (places.State p) seen;
           later = [];
-          cut = refl;
+          cut = ap (λ (k : List Did). did_load (places.State p) first ∷ k) (sym (append_assoc c.done (did_load (places.Translation p) word ∷ []) (did_load (places.State p) seen ∷ [])));
           gives = (refl, refl);
-          since = did_load (places.Translation p) word ∷ [];
+          since = c.done ++ did_load (places.Translation p) word ∷ [];
           begins = read [] (did_load (places.State p) first) refl (refl, refl);
-          quiet = (λ _. (none-some seen, λ _. refl), tt);
+          quiet = unmarking-quiet p first seen c.done (did_load (places.Translation p) word ∷ []) c.clears why (λ _. (none-some seen, λ _. refl), tt);
           why = ⊎_elim (λ n. inl n) (λ e. inr (inl e)) why;
         },
       );
@@ -96,22 +110,19 @@ module _ {X : Type 0} (tied : Start → ℕ → List ℕ → ℕ → List ℕ �
     -- a page that was not Evicted is not at the same version later
     pub still-resident : state_of first ≢ EVICTED → version_of seen ≡ version_of first → state_of seen ≢ EVICTED
     still-resident resident at gone =
-        let before : x.log ≡ (u.log ++ did_load (places.State p) first ∷ []) ++ did_load (places.Translation p) word ∷ []
-        = (translation-quiet p word v x t).steady.log ∙ ap (λ (g : List Did). g ++ did_load (places.Translation p) word ∷ []) (look-quiet tied p first u v l).steady.log in
-        let all = subst (λ g. Each (λ (d : Did). at_state d.at (λ q. q ≡ p → IsSince seen d.found × IsSince seen d.wrote)) g) before m.since in
-        let near = front (λ (d : Did). at_state d.at (λ q. q ≡ p → IsSince seen d.found × IsSince seen d.wrote)) (u.log ++ did_load (places.State p) first ∷ []) (did_load (places.Translation p) word ∷ []) all in
-        let since = each-at (λ (d : Did). at_state d.at (λ q. q ≡ p → IsSince seen d.found × IsSince seen d.wrote)) u.log (did_load (places.State p) first) [] near in
+        let before : x.log ≡ ((u.log ++ did_load (places.State p) first ∷ []) ++ c.done) ++ did_load (places.Translation p) word ∷ []
+        = (translation-quiet p word y x t).steady.log
+        ∙ ap (λ (g : List Did). g ++ did_load (places.Translation p) word ∷ []) (c.quiet.steady.log ∙ ap (λ (g : List Did). g ++ c.done) (look-quiet tied p first u v l).steady.log) in
+        let all = subst (λ g. Each (Agrees p seen) g) before m.since in
+        let near = each-front (Agrees p seen) (u.log ++ did_load (places.State p) first ∷ []) c.done (each-front (Agrees p seen) ((u.log ++ did_load (places.State p) first ∷ []) ++ c.done) (did_load (places.Translation p) word ∷ []) all) in
+        let since = each-at (Agrees p seen) u.log (did_load (places.State p) first) [] near in
         resident ((since refl).0.2 gone (sym at))
-      where
-        front : {A : Type 0} (P : A → Type 0) (l m : List A) → Each P (l ++ m) → Each P l
-        front P [] m h = tt
-        front P (d ∷ l) m h = (h.0, front P l m h.1)
 
     module _ (readable : is_readable (state_of first) ≡ true) (still : is_readable (state_of seen) ≡ true) (at : version_of seen ≡ version_of first) where
       names : (f : ℕ) × (frame_in word ≡ Some f) × (f < x.start.frames) × ((seat_of w p).reading ≡ Some (record { version = version_of seen; frame = Some f }))
       names =
           let o = looked-open tied p None first u v l readable in
-          named tied p word seen v x w o.0 o.1 t m still (o.2 ∙ sym at)
+          named tied p word seen y x w o.0 (c.reads.reading ∙ o.1) t m still (o.2 ∙ sym at)
 
       -- the translation word names a frame
       pub names-frame : frame_in word ≡ None → ⊥
@@ -124,14 +135,14 @@ module _ {X : Type 0} (tied : Start → ℕ → List ℕ → ℕ → List ℕ �
           let older : IsOlder first (Some o) = subst (IsOlder first) r.reading l.older in
           let low : version_of kept ≤ version_of first = older.0 in
           ⊎_elim
-          (λ e. let opened : (seat_of v p).reading ≡ Some o = looked-same tied p None first u v l (ap (left_at first) r.reading ∙ left-same first o readable e) ∙ r.reading in
-          let named : (seat_of x p).reading ≡ Some o = translated-keeps p word v x (version_of kept) frame t opened in
+          (λ e. let opened : (seat_of y p).reading ≡ Some o = c.reads.reading ∙ looked-same tied p None first u v l (ap (left_at first) r.reading ∙ left-same first o readable e) ∙ r.reading in
+          let named : (seat_of x p).reading ≡ Some o = translated-keeps p word y x (version_of kept) frame t opened in
           let seen-same : (seat_of w p).reading ≡ (seat_of x p).reading = looked-same tied p None seen x w m (ap (left_at seen) named ∙ left-same seen o still (e ∙ sym at)) in
           inl (reading-kept p kept frame u w r all-quiet.steady.start (all-quiet.holds p) (λ k. (all-quiet.knows p k).held) (seen-same ∙ named ∙ sym r.reading)))
           (λ ne. inr record {
             earlier = u.log;
             step = did_load (places.State p) first;
-            later = did_load (places.Translation p) word ∷ did_load (places.State p) seen ∷ [];
+            later = c.done ++ later-steps;
             cut = all-quiet.steady.log;
             at = refl;
             other = first;
@@ -146,7 +157,7 @@ module _ {X : Type 0} (tied : Start → ℕ → List ℕ → ℕ → List ℕ �
           let start : w.start ≡ u.start = all-quiet.steady.start in
           let reading : (seat_of w p).reading ≡ Some (record { version = version_of seen; frame = Some frame }) = names.3 ∙ ap (λ (f : ℕ). Some (record { version = version_of seen; frame = Some f })) here in
           record {
-            done = did_load (places.State p) first ∷ did_load (places.Translation p) word ∷ did_load (places.State p) seen ∷ [];
+            done = did_load (places.State p) first ∷ c.done ++ later-steps;
             quiet = all-quiet;
             reads = record {
               page = subst (λ s. p < s.pages) (sym start) inside;
@@ -154,10 +165,11 @@ module _ {X : Type 0} (tied : Start → ℕ → List ℕ → ℕ → List ℕ �
               open_word = still;
               reading = reading;
               reads_from = reads-by w p frame
-                  (λ k. let locking : IsLocking (seat_of v p) = still-locking w v p (holds-back v w p (later-quiet.holds p)) k in
+                  (λ k. let locking : IsLocking (seat_of y p) = still-locking w y p (holds-back y w p (later-quiet.holds p)) k in
                   ap (λ h. frame_of h.mapping) (later-quiet.knows p locking).held ∙ sym (t.locked locking) ∙ mapped-frame word ∙ e)
                   (ap open_frame reading);
             };
             version = m.version;
             stays = stays;
+            clears = record { word = first; clearing = c.done; later = later-steps; cut = refl; clears = c.clears };
           }

@@ -18,6 +18,7 @@ use Rattle.vm_rule.specs.Locks.{LockTold, Validates}
 use Rattle.vm_rule.proofs.WordFacts.{version-within, word-state, word-version}
 use Rattle.vm_step.specs.declared.saw.At.TheVariants as ats
 use Rattle.vm_step.specs.Evidence.Begins.{guarded}
+use Rattle.vm_step.proofs.Asides.{alone-then}
 use Rattle.vm_guard.specs.declared.deny.Deny.TheVariants as denies
 use Rattle.vm_guard.specs.Quiet.{IsQuiet}
 use Rattle.vm_guard.specs.Guards.{IsReading, HasLeft, IsLocked}
@@ -97,6 +98,7 @@ module _ {X : Type 0} (tied : Start → ℕ → List ℕ → ℕ → List ℕ �
         elsewhere = elsewhere-then p (first ∷ []) (second ∷ []) v x w aside.elsewhere (quiet-elsewhere p (second ∷ []) x w after);
         mine = after.mine ∙ aside.mine;
         group = (after.group.0 ∙ aside.group.0, after.group.1 ∙ aside.group.1, after.group.2 ∙ aside.group.2);
+        alone = alone-then v x w aside.elsewhere.steady.parts aside.alone after.alone;
         holding = holding tied p expects v x t expects found m w to load named inside;
         draft = draft-then tied p expects v x t expects found m w to load named inside;
         older = older-read expects (seat_of v p).reading t.older;

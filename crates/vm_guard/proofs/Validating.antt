@@ -21,7 +21,7 @@ use Rattle.vm_rule.specs.Looks.{LookTold, IsSince, IsSinceAll, IsOlder, left_at,
 use Rattle.vm_step.specs.declared.saw.At.TheVariants as ats
 use Rattle.vm_step.specs.Evidence.Begins.{guarded}
 use Rattle.vm_guard.specs.declared.deny.Deny.TheVariants as denies
-use Rattle.vm_guard.specs.Quiet.{ReadsAsBefore}
+use Rattle.vm_step.specs.Asides.{ReadsAsBefore}
 use Rattle.vm_guard.specs.Guards.{IsReading, HasLeft, IsValid}
 use Rattle.vm_guard.specs.Denied.{AgainOrNeed, IsDenied, KeptWord}
 use Rattle.vm_guard.proofs.QuietSteps.{IsLooked, looked, look-unsaid, same-both, where-other}
@@ -117,6 +117,7 @@ module _ {X : Type 0} (tied : Start → ℕ → List ℕ → ℕ → List ℕ �
               (λ e. subst (λ n. ReadsAsBefore v w n) (sym e) (record { reading = reading; loads = looked-loads tied p said seen v w t ∙ ap (λ l. kept_loads l (loads_at v p)) same }))
               (λ ne. k.others q ne)
               (cases_eq q p);
+          alone = k.alone;
           version = t.version ∙ at;
           size = t.size;
           ties = ap (λ (x : View X). x.ties) t.brings.view ∙ ap (λ l. where_same l (ties_below v.start.pages v p (last_of w p).words) [] ++ v.ties) same;

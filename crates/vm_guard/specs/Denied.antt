@@ -16,10 +16,6 @@ IsEvidence kept done p (denies.Need q) = (q ≡ p) × NeedsPage done p
 IsEvidence kept done p (denies.Crowded q) = (q ≡ p) × IsCrowded done p
 IsEvidence kept done p (denies.Worn q) = (q ≡ p) × IsWorn done p
 
--- no guard was kept before
-abbrev pub NoWord : ℕ → Type 0
-NoWord word = ⊥
-
 -- the guard kept this word
 abbrev pub KeptWord : ℕ → ℕ → Type 0
 KeptWord kept word = word ≡ kept

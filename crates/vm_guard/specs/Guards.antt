@@ -2,15 +2,16 @@
 use Rattle.std.specs.Prelude.{ℕ, Bool, true, false, Option, Some, None, List, [], ◌∷◌, ◌++◌, ◌≡◌, ◌≢◌, ◌⊎◌, ◌+◌, ◌<◌, ◌≤◌, length, slice_set, suc}
 use Rattle.vm_core.specs.declared.event.Mapping.{Mapping}
 use Rattle.vm_core.specs.declared.event.Open.{Open}
-use Rattle.vm_core.specs.Words.{state_of, version_of, word_of, LOCKED, MAX_VERSION}
+use Rattle.vm_core.specs.Words.{state_of, version_of, word_of, UNLOCKED, LOCKED, MARKED, MAX_VERSION}
 use Rattle.vm_core.specs.StateActs.{is_readable, unshared}
+use Rattle.vm_core.specs.FrameActs.{trans_word}
 use Rattle.vm_owner.specs.Kept.{Start}
 use Rattle.vm_owner.specs.Numbers.{has, without}
 use Rattle.vm_rule.specs.declared.view.Did.{Did}
 use Rattle.vm_rule.specs.declared.view.Place.TheVariants as places
 use Rattle.vm_rule.specs.declared.view.View.{View}
 use Rattle.vm_rule.specs.Puts.{put_at}
-use Rattle.vm_rule.specs.Views.{IsLocking, seat_of, loads_at, draft_of}
+use Rattle.vm_rule.specs.Views.{IsLocking, IsWhole, seat_of, loads_at, draft_of}
 use Rattle.vm_rule.specs.Reading.{last_of}
 use Rattle.vm_rule.specs.Rule.{no_held}
 use Rattle.vm_rule.specs.Brought.{entries_of}
@@ -18,13 +19,35 @@ use Rattle.vm_rule.specs.Looks.{ties_below}
 use Rattle.vm_rule.specs.Releases.{next_after}
 use Rattle.vm_rule.specs.Loads.{frame_read_by}
 use Rattle.vm_rule.specs.Locks.{Validates}
+use Rattle.vm_rule.specs.Log.{did_load, did_store, did_exchange}
+use Rattle.vm_rule.specs.Mappings.{dirty_in}
 use Rattle.vm_step.specs.Evidence.{HasWritten}
-use Rattle.vm_guard.specs.Quiet.{IsSteady, IsQuiet, HoldsPage, KnowsAsBefore, ReadsAsBefore}
+use Rattle.vm_step.specs.Asides.{HoldsPage, KnowsAsBefore, ReadsAsBefore, StaysAlone}
+use Rattle.vm_guard.specs.Quiet.{IsSteady, IsQuiet}
 
 -- the words of a page with their places, from i on
 abbrev pub placed : ℕ → List ℕ → List (ℕ × ℕ)
 placed i [] = []
 placed i (x ∷ xs) = (i, x) ∷ placed (suc i) xs
+
+-- the steps that take the mark of page p away, whose word was found: none where it was not Marked, else one exchange that expects that word
+abbrev pub AreUnmarking : ℕ → ℕ → List Did → Type 0
+AreUnmarking p word done =
+    ((state_of word ≢ MARKED) × (done ≡ []))
+    ⊎ ((state_of word ≡ MARKED) × ((found : ℕ) × (done ≡ did_exchange (places.State p) word found (word_of UNLOCKED (version_of word)) ∷ [])))
+
+-- the first step found the word of page p; where it was Marked, the second expected that word and was to make the page Unlocked
+pub record ClearsMark (p : ℕ) (done : List Did) : Type 0 where
+  pub word : ℕ
+  pub clearing : List Did
+  pub later : List Did
+  pub cut : done ≡ did_load (places.State p) word ∷ clearing ++ later
+  pub clears : AreUnmarking p word clearing
+
+-- the steps that make page p dirty in this frame: none where it is dirty, else its translation word is written so
+abbrev pub dirty_steps : ℕ → ℕ → Bool → List Did
+dirty_steps p frame true = []
+dirty_steps p frame false = did_store (places.Translation p) (trans_word (Some (dirty_in frame))) ∷ []
 
 module _ {X : Type 0} where
   -- ---- optimistic guards
@@ -57,6 +80,15 @@ module _ {X : Type 0} where
     pub version : (last_of w p).version ≡ version_of word
     -- a guard of the page that the pass had before reads on, or its read was left
     pub stays : (kept frame' : ℕ) → IsReading p kept frame' v → IsReading p kept frame' w ⊎ HasLeft p kept w
+    -- a mark that the first look found was to be taken away next
+    pub clears : ClearsMark p done
+
+  -- the mark of page p, where this word that was found of it has one, was taken away, unless the page had another word by then
+  pub record IsUnmarked (p word : ℕ) (v w : View X) : Type 0 where
+    pub done : List Did
+    pub quiet : IsQuiet p done v w
+    pub reads : ReadsAsBefore v w p
+    pub clears : AreUnmarking p word done
 
   -- words of the page were loaded, and the read is still open
   pub record Loads (p word frame : ℕ) (loaded : List (ℕ × ℕ)) (v w : View X) : Type 0 where
@@ -77,6 +109,7 @@ module _ {X : Type 0} where
     pub knows : (q : ℕ) → IsLocking (seat_of v q) → KnowsAsBefore v w q
     pub reads : IsReading p word frame w
     pub same_reads : (q : ℕ) → ReadsAsBefore v w q
+    pub alone : StaysAlone v w
     pub version : (last_of w p).version ≡ version_of word
     pub size : length (last_of w p).words ≡ 64
     pub ties : w.ties ≡ ties_below v.start.pages v p (last_of w p).words ++ v.ties
@@ -109,6 +142,7 @@ module _ {X : Type 0} where
     pub elsewhere : IsElsewhere p done v w
     pub mine : w.mine ≡ v.mine
     pub group : (w.pending ≡ v.pending) × (w.owed ≡ v.owed) × (w.next ≡ v.next)
+    pub alone : StaysAlone v w
     pub holding : IsHolding p frame version dirty w
     pub draft : draft_of w p ≡ (last_of w p).words
     pub validates : v.start.tells ≡ true → Validates tied p version (last_of w p).words v
@@ -116,15 +150,31 @@ module _ {X : Type 0} where
     -- the pass was reading the page at no later version
     pub older : (o : Open) → (seat_of v p).reading ≡ Some o → o.version ≤ version
 
-  -- word i of the draft of page p is x now, and nothing else has changed
-  pub record IsSet (p i x : ℕ) (v w : View X) : Type 0 where
+  -- page p, which the pass holds and which stood in this frame, is dirty there; nothing else has changed
+  pub record IsDirtied (p frame : ℕ) (dirty : Bool) (v w : View X) : Type 0 where
     pub done : List Did
+    pub steps : done ≡ dirty_steps p frame dirty
     pub elsewhere : IsElsewhere p done v w
     pub mine : w.mine ≡ v.mine
     pub group : (w.pending ≡ v.pending) × (w.owed ≡ v.owed) × (w.next ≡ v.next)
+    pub alone : StaysAlone v w
     pub holds : HoldsPage v w p
     pub reads : ReadsAsBefore v w p
-    pub held : put_at no_held w.held p ≡ put_at no_held v.held p
+    pub held : put_at no_held w.held p ≡ record (put_at no_held v.held p) { mapping = Some (dirty_in frame) }
+    pub last : last_of w p ≡ last_of v p
+    pub draft : draft_of w p ≡ draft_of v p
+
+  -- word i of the draft of page p, which stood in this frame, is x now; the page was made dirty before, and nothing else has changed
+  pub record IsSet (p frame : ℕ) (dirty : Bool) (i x : ℕ) (v w : View X) : Type 0 where
+    pub done : List Did
+    pub steps : done ≡ dirty_steps p frame dirty ++ did_store (places.Content frame i) x ∷ []
+    pub elsewhere : IsElsewhere p done v w
+    pub mine : w.mine ≡ v.mine
+    pub group : (w.pending ≡ v.pending) × (w.owed ≡ v.owed) × (w.next ≡ v.next)
+    pub alone : StaysAlone v w
+    pub holds : HoldsPage v w p
+    pub reads : ReadsAsBefore v w p
+    pub held : put_at no_held w.held p ≡ record (put_at no_held v.held p) { mapping = Some (dirty_in frame) }
     pub last : last_of w p ≡ last_of v p
     pub draft : draft_of w p ≡ slice_set (draft_of v p) i x
 
@@ -138,6 +188,8 @@ module _ {X : Type 0} where
     pub seat : seat_of w p ≡ record (seat_of v p) { exclusive = false }
     pub loads : loads_at w p ≡ loads_at v p
     pub last : last_of w p ≡ record { version = version + 1; words = draft_of v p }
+    -- a pass that is alone finds the last words of each other page as they were
+    pub alone : IsWhole v → v.current ≡ true → (q : ℕ) → q ≢ p → (last_of w q).words ≡ (last_of v q).words
     pub wrote : HasWritten done (places.State p) (version + 1)
 
   -- ---- shared guards
@@ -155,6 +207,7 @@ module _ {X : Type 0} where
     pub elsewhere : IsElsewhere p done v w
     pub mine : w.mine ≡ v.mine
     pub group : (w.pending ≡ v.pending) × (w.owed ≡ v.owed) × (w.next ≡ v.next)
+    pub alone : StaysAlone v w
     pub seat : seat_of w p ≡ record (seat_of v p) { shares = (seat_of v p).shares + 1; reading = None }
     pub knows : IsLocking (seat_of v p) → KnowsAsBefore v w p
     pub sharing : IsSharing p frame w
@@ -167,6 +220,7 @@ module _ {X : Type 0} where
     pub elsewhere : IsElsewhere p done v w
     pub mine : w.mine ≡ v.mine
     pub group : (w.pending ≡ v.pending) × (w.owed ≡ v.owed) × (w.next ≡ v.next)
+    pub alone : StaysAlone v w
     pub seat : seat_of w p ≡ unshared (seat_of v p)
     pub loads : loads_at w p ≡ loads_at v p
     pub knows : KnowsAsBefore v w p

@@ -1,4 +1,3 @@
-pub mod Ready
 pub mod Quiet
 pub mod Guards
 pub mod Denied

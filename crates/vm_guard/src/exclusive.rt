@@ -3,11 +3,12 @@ ghost use Rattle.std.specs.Prelude.{◌≡◌, ◌<◌, ℕ, IfOk, IfErr, None, 
 ghost use Rattle.vm_core.specs.Words.{MAX_VERSION, version_of};
 ghost use Rattle.vm_rule.specs.Views.{draft_of};
 ghost use Rattle.vm_step.specs.Conditions.{IsClaimed, IsNotOut};
-ghost use Rattle.vm_guard.specs.Denied.{IsDenied, NotCrowded, NoWord};
-ghost use Rattle.vm_guard.specs.Guards.{IsHolding, IsLocked, IsReleased, IsSet};
+ghost use Rattle.vm_step.specs.Evidence.{NoWord};
+ghost use Rattle.vm_guard.specs.Denied.{IsDenied, NotCrowded};
+ghost use Rattle.vm_guard.specs.Guards.{IsDirtied, IsHolding, IsLocked, IsReleased, IsSet};
 ghost use Rattle.vm_step.specs.Passes.{IsSamePass, MayStep, view};
 ghost use Rattle.vm_guard.specs.Quiet.{IsQuiet};
-ghost use Rattle.vm_guard.specs.Ready.{IsReady};
+ghost use Rattle.vm_step.specs.Ready.{IsReady};
 ghost use Rattle.vm_guard.specs.Takes.{IsToExpect, MayRelease, SaysWhy};
 
 use crate::deny::Deny;
@@ -16,7 +17,7 @@ use vm_block::Block;
 use vm_core::{MAX_VERSION, StateWord};
 use vm_owner::Owner;
 use vm_rule::words::{Pass, Words};
-use vm_step::{At, Saw, Took, load, lock_exclusive, look_silently, release, store};
+use vm_step::{At, Saw, Took, load, lock_exclusive, look_silently, release, set_dirty, store};
 
 /// An exclusive lock of a page: the version that it was locked at, the frame that it stands in, and whether it is dirty there.
 ///
@@ -96,7 +97,22 @@ impl ExclusiveGuard {
         load(words, pass, self.pid, self.frame, i)
     }
 
-    /// Sets word `i` (0 to 63) of the draft of a dirty page.
+    /// Makes the page dirty, where it is clean.
+    fn make_dirty<U: Owner, B: Block>(&mut self, words: &Words<U, B>, pass: &mut Pass<U>)
+        requires ready { IsReady words.now.table.shared.key B.tells words.now.table.shared.table_id pass.old }
+        requires holds { IsHolding self.old.pid self.old.frame self.old.version self.old.dirty (view pass.old) }
+        ensures pass { IsSamePass pass.old pass.new }
+        ensures ready { IsReady words.now.table.shared.key B.tells words.now.table.shared.table_id pass.new }
+        ensures dirtied { IsDirtied self.old.pid self.old.frame self.old.dirty (view pass.old) (view pass.new) }
+        ensures guard { self.new ≡ record self.old { dirty = true } }
+    {
+        if !self.dirty {
+            set_dirty(words, pass, self.pid, self.frame);
+            self.dirty = true;
+        }
+    }
+
+    /// Sets word `i` (0 to 63) of the draft. A clean page is made dirty first.
     pub fn set<U: Owner, B: Block>(
         &mut self,
         words: &Words<U, B>,
@@ -105,14 +121,15 @@ impl ExclusiveGuard {
         w: u64,
     )
         requires ready { IsReady words.now.table.shared.key B.tells words.now.table.shared.table_id pass.old }
-        requires holds { IsHolding self.old.pid self.old.frame self.old.version true (view pass.old) }
+        requires holds { IsHolding self.old.pid self.old.frame self.old.version self.old.dirty (view pass.old) }
         requires word { i < 64 }
         ensures pass { IsSamePass pass.old pass.new }
         ensures ready { IsReady words.now.table.shared.key B.tells words.now.table.shared.table_id pass.new }
-        ensures set { IsSet self.old.pid i w (view pass.old) (view pass.new) }
+        ensures set { IsSet self.old.pid self.old.frame self.old.dirty i w (view pass.old) (view pass.new) }
         ensures holds { IsHolding self.old.pid self.old.frame self.old.version true (view pass.new) }
-        ensures guard { self.new ≡ self.old }
+        ensures guard { self.new ≡ record self.old { dirty = true } }
     {
+        self.make_dirty(words, pass);
         store(words, pass, self.frame, i, w);
     }
 

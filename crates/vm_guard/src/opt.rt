@@ -1,9 +1,10 @@
 // Optimistic guards: a page is read without a lock, and a later look at its word tells whether all words read were of one version.
 ghost use Rattle.std.specs.Prelude.{◌≡◌, ◌<◌, ◌⊎◌, ℕ, IfOk, IfErr, None, [], ◌∷◌, length, option_map};
 ghost use Rattle.vm_core.specs.Words.{MAX_VERSION, version_of};
-ghost use Rattle.vm_guard.specs.Denied.{AgainOrNeed, AgainOrWorn, IsDenied, KeptOrUnlocked, KeptWord, NoWord};
-ghost use Rattle.vm_guard.specs.Guards.{Begins, HasLeft, IsLocked, IsReading, IsValid, Loads, placed};
-ghost use Rattle.vm_guard.specs.Ready.{IsReady};
+ghost use Rattle.vm_guard.specs.Denied.{AgainOrNeed, AgainOrWorn, IsDenied, KeptOrUnlocked, KeptWord};
+ghost use Rattle.vm_guard.specs.Guards.{Begins, HasLeft, IsLocked, IsReading, IsUnmarked, IsValid, Loads, placed};
+ghost use Rattle.vm_step.specs.Evidence.{NoWord};
+ghost use Rattle.vm_step.specs.Ready.{IsReady};
 ghost use Rattle.vm_guard.specs.Takes.{IsToExpect};
 ghost use Rattle.vm_step.specs.Conditions.{MayTell};
 ghost use Rattle.vm_step.specs.Passes.{IsSamePass, MayStep, view};
@@ -16,7 +17,7 @@ use vm_core::{MAX_VERSION, StateWord, TransWord};
 use vm_owner::Owner;
 use vm_page::{PageBuf, WORDS};
 use vm_rule::words::{Pass, Words};
-use vm_step::{At, Saw, Took, load, lock_exclusive, look, look_silently, tload};
+use vm_step::{At, Saw, Took, load, lock_exclusive, look, look_silently, tload, unmark};
 
 /// A page that is read optimistically: the word that the read began at, and the frame that it reads. It holds no lock, and may be dropped.
 #[derive(Drop)]
@@ -39,8 +40,21 @@ fn unlocked(word: u64) -> u64
     }
 }
 
+/// Takes the mark of the page away, whose word was found to be this one, where it has one. The page may have another word by now.
+fn clear_mark<U: Owner, B: Block>(words: &Words<U, B>, pass: &mut Pass<U>, pid: u32, word: u64)
+    requires ready { IsReady words.now.table.shared.key B.tells words.now.table.shared.table_id pass.old }
+    requires page { pid < words.now.table.shared.key.pages }
+    ensures pass { IsSamePass pass.old pass.new }
+    ensures ready { IsReady words.now.table.shared.key B.tells words.now.table.shared.table_id pass.new }
+    ensures clears { IsUnmarked pid word (view pass.old) (view pass.new) }
+{
+    if StateWord::state(word) == StateWord::MARKED {
+        unmark(words, pass, pid, word);
+    }
+}
+
 impl OptGuard {
-    /// Begins to read the page. A page that is Evicted is needed; one that is Locked, or that another version came to between the two
+    /// Begins to read the page, and takes a mark of the clock away. A page that is Evicted is needed; one that is Locked, or that another version came to between the two
     /// looks, may be tried again.
     pub fn start<U: Owner, B: Block>(
         words: &Words<U, B>,
@@ -66,6 +80,7 @@ impl OptGuard {
                 seen: first,
             }));
         }
+        clear_mark(words, pass, pid, first);
         let translation = tload(words, pass, pid);
         let seen = look_silently(words, pass, pid);
         if StateWord::version(seen) != StateWord::version(first) {

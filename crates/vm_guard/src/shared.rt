@@ -2,11 +2,12 @@
 ghost use Rattle.std.specs.Prelude.{◌≡◌, ◌<◌, ◌+◌, ℕ, IfOk, IfErr, None, true, slice_index};
 ghost use Rattle.vm_rule.specs.Reading.{last_of};
 ghost use Rattle.vm_step.specs.Conditions.{MayUnshare};
-ghost use Rattle.vm_guard.specs.Denied.{IsDenied, NotWorn, NoWord};
+ghost use Rattle.vm_guard.specs.Denied.{IsDenied, NotWorn};
+ghost use Rattle.vm_step.specs.Evidence.{NoWord};
 ghost use Rattle.vm_guard.specs.Guards.{IsShared, IsSharing, IsUnshared};
 ghost use Rattle.vm_step.specs.Passes.{IsSamePass, MayStep, view};
 ghost use Rattle.vm_guard.specs.Quiet.{IsQuiet};
-ghost use Rattle.vm_guard.specs.Ready.{IsReady};
+ghost use Rattle.vm_step.specs.Ready.{IsReady};
 ghost use Rattle.vm_guard.specs.Takes.{HasRoom, SaysWhy};
 
 use crate::deny::Deny;

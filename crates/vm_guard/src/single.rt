@@ -1,6 +1,7 @@
 // One word of a page, read optimistically: the least that a caller of the guards does. It stands on their contracts alone.
 ghost use Rattle.std.specs.Prelude.{◌≡◌, ◌<◌, IfSome, true, slice_index};
-ghost use Rattle.vm_guard.specs.Ready.{IsReady};
+ghost use Rattle.vm_step.specs.Asides.{StaysAlone};
+ghost use Rattle.vm_step.specs.Ready.{IsReady};
 ghost use Rattle.vm_rule.specs.Reading.{last_of};
 ghost use Rattle.vm_step.specs.Passes.{IsSamePass, MayStep, view};
 
@@ -21,6 +22,7 @@ pub fn read_word<U: Owner, B: Block>(
     requires page { (pid < words.now.table.shared.key.pages) × (i < 64) }
     ensures pass { IsSamePass pass.old pass.new }
     ensures ready { IsReady words.now.table.shared.key B.tells words.now.table.shared.table_id pass.new }
+    ensures alone { StaysAlone (view pass.old) (view pass.new) }
     ensures word { IfSome result (λ word. B.tells ≡ true → word ≡ slice_index (last_of (view pass.new) pid).words i) }
 {
     let Ok(guard) = OptGuard::start(words, pass, pid) else {

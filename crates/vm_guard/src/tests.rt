@@ -1,20 +1,22 @@
 //! Guards over a table of one resident page, with ample memory. The values are worked out by hand from the rules, and not taken from a run.
 ghost use Rattle.std.specs.Prelude.{◌≡◌, ◌≤◌, IfOk, None, [], false};
 ghost use Rattle.vm_core.specs.Words.{MAX_VERSION};
-ghost use Rattle.vm_guard.specs.Ready.{IsReady};
+ghost use Rattle.vm_step.specs.Ready.{IsReady};
 ghost use Rattle.vm_guard.specs.Shares.{KeepsShares};
 ghost use Rattle.vm_rule.specs.Views.{seat_of};
 ghost use Rattle.vm_step.specs.Passes.{MayStep, view};
 
+use crate::standing::standing;
 use crate::{Deny, ExclusiveGuard, OptGuard, SharedGuard};
 use std::alloc::Global;
 use std::process::Abort;
 use std::test::Fail;
-use vm_block::{Block, MemBlock};
+use vm_block::{Block, Failed, MemBlock};
+use vm_core::StateWord;
 use vm_owner::Bare;
 use vm_page::PageBuf;
 use vm_rule::words::{Pass, Words};
-use vm_step::{At, Saw};
+use vm_step::{At, Saw, Took, lock_write_back, look_silently, mark, set_clean, unlock_shared};
 
 /// A table of one page of zeros, unlocked at this version, and its first pass.
 fn one_page(alloc: Global, version: u64) -> Result<(Words<Bare, MemBlock>, Pass<Bare>), Fail>
@@ -120,6 +122,8 @@ fn a_validated_read_has_the_word_that_was_set(rt: HostRuntime) -> Result<(), Fai
     let dirty = held.dirty;
     assert!(rt; dirty);
     held.set(&words, &mut pass, 63, 5);
+    let dirty = held.dirty;
+    assert!(rt; dirty);
     let drafted = held.read(&words, &mut pass, 63);
     assert_eq!(rt; drafted, 5);
     held.release(&words, &mut pass, None);
@@ -130,5 +134,117 @@ fn a_validated_read_has_the_word_that_was_set(rt: HostRuntime) -> Result<(), Fai
     let valid = guard.validate_silently(&words, &mut pass).is_ok();
     assert!(rt; valid);
     assert_eq!(rt; read, 5);
+    Ok(())
+}
+
+#[test]
+fn a_start_takes_a_mark_away(rt: HostRuntime) -> Result<(), Fail> {
+    let (words, mut pass) = one_page(rt.alloc(), 7)?;
+    let took = mark(&words, &mut pass, 0, 7);
+    assert_eq!(rt; took, Took::Taken);
+    let marked = look_silently(&words, &mut pass, 0);
+    assert_eq!(rt; StateWord::state(marked), StateWord::MARKED);
+    let Ok(guard) = OptGuard::start(&words, &mut pass, 0) else {
+        panic!(rt; "the page can be read");
+    };
+    let valid = guard.validate_silently(&words, &mut pass).is_ok();
+    assert!(rt; valid);
+    let word = look_silently(&words, &mut pass, 0);
+    assert_eq!(rt; word, 7);
+    Ok(())
+}
+
+/// A block that does not tell its words, and that answers each call.
+#[derive(Drop)]
+struct Mute {
+    reads: u64,
+    writes: u64,
+}
+
+impl Block for Mute {
+    ghost use Rattle.std.specs.Prelude.{false, []};
+    ghost use Rattle.std.proofs.Common.{arith};
+
+    ghost tells = { false };
+
+    ghost stored = { λ block. record { words = []; count = 0; bound = 0; reads = block.reads; writes = block.writes } };
+
+    fn read(&mut self, into: &mut PageBuf) -> Result<(), Failed> {
+        let _ = into.get(0);
+        self.reads = self.reads.saturating_add(1);
+        Ok(())
+    }
+
+    fn write(&mut self, _words: &PageBuf) -> Result<(), Failed> {
+        self.writes = self.writes.saturating_add(1);
+        Ok(())
+    }
+
+    fn reads(&self) -> u64 {
+        self.reads
+    }
+
+    fn writes(&self) -> u64 {
+        self.writes
+    }
+
+    fn faults(&self) -> u64 {
+        0
+    }
+
+    ghost whole = { λ block tells. cc };
+
+    ghost bounded = { λ block. Prim.omega arith };
+
+    ghost capped = { λ block. Prim.omega arith };
+}
+
+/// Makes the page clean, which is unlocked at version 7: as far as is told, its block has its words.
+fn make_clean<B: Block>(rt: &impl Abort, words: &Words<Bare, B>, pass: &mut Pass<Bare>)
+    requires pass { MayStep words.now.table.shared.table_id pass.old }
+    requires pages { words.now.table.shared.key.pages ≡ 1 }
+    requires mute { B.tells ≡ false }
+    requires out { (view pass.old).out ≡ None }
+    ensures ready { IsReady words.now.table.shared.key B.tells words.now.table.shared.table_id pass.new }
+    ensures out { (view pass.new).out ≡ None }
+{
+    mark(words, pass, 0, 7);
+    let marked = StateWord::of(StateWord::MARKED, 7);
+    match lock_write_back(words, pass, 0, marked) {
+        Took::Lost(_) => panic!(rt; "the page was unlocked"),
+        Took::Taken => {
+            let stands = standing(words, pass, 0);
+            set_clean(words, pass, 0, stands.frame);
+            unlock_shared(words, pass, 0);
+        }
+    }
+}
+
+#[test]
+fn a_set_makes_a_clean_page_dirty(rt: HostRuntime) -> Result<(), Fail> {
+    let mut blocks = Vec::new(rt.alloc());
+    blocks.push(Mute {
+        reads: 0,
+        writes: 0,
+    })?;
+    let pages = [PageBuf::zero()];
+    let (words, mut pass) = Words::<Bare, Mute>::fixed(rt.alloc(), &pages, blocks, 1, 7)?;
+    make_clean(&rt, &words, &mut pass);
+    let Ok(mut held) = ExclusiveGuard::take(&words, &mut pass, 0) else {
+        panic!(rt; "the page can be locked");
+    };
+    let clean = !held.dirty;
+    assert!(rt; clean);
+    held.set(&words, &mut pass, 0, 5);
+    let dirty = held.dirty;
+    assert!(rt; dirty);
+    held.set(&words, &mut pass, 1, 6);
+    held.release(&words, &mut pass, None);
+    let Ok(held) = ExclusiveGuard::take(&words, &mut pass, 0) else {
+        panic!(rt; "the page can be locked");
+    };
+    let dirty = held.dirty;
+    assert!(rt; dirty);
+    held.release(&words, &mut pass, None);
     Ok(())
 }

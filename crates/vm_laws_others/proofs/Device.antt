@@ -1,5 +1,5 @@
 -- What an act on a page's translation or device leaves of the page.
-use Rattle.std.proofs.Common.{ℕ, Bool, ◌≡◌, ◌⊎◌, refl, inl, inr, ⊎_elim, arith, true, List, Option, Some, None}
+use Rattle.std.proofs.Common.{ℕ, Bool, ◌≡◌, ◌⊎◌, refl, inl, inr, ⊎_elim, arith, true, false, true≢false, sym, ◌∙◌, List, Option, Some, None}
 use Rattle.vm_core.specs.declared.event.Mapping.{Mapping}
 use Rattle.vm_core.specs.Words.{count_more}
 use Rattle.vm_core.specs.State.{Page}
@@ -8,21 +8,21 @@ use Rattle.vm_core.specs.DeviceActs.{MayCall, written, failed, raised}
 use Rattle.vm_core.specs.History.{History}
 use Rattle.vm_core.specs.Inv.{LocksInv}
 use Rattle.vm_core.proofs.Locks.{locked-from_owner}
-use Rattle.vm_laws_others.specs.Leaves.{CountsMove}
+use Rattle.vm_laws_others.specs.Leaves.{CountsMove, stands_dirty}
 use Rattle.vm_laws_others.proofs.Alone.{one-caller, unshared-beside}
 use Rattle.vm_laws_others.proofs.Page.{PageLeaves, counts-same}
 
 -- an act of the one actor that may call the device: on the translation, the fault word, the block and its count. The frame changes only
 -- under an exclusive lock
-pub called-leaves : (actors a : ℕ) (r : Page) (h : History) (trans : Option Mapping) (fault count : ℕ) (block : List ℕ) → LocksInv actors r.state r.version r.seats → MayCall r a → ((r.seats a).exclusive ≡ true) ⊎ (frame_of trans ≡ frame_of r.trans) → CountsMove r (record r { trans = trans; fault = fault; count = count; block = block }) → PageLeaves actors a r (record r { trans = trans; fault = fault; count = count; block = block }) h h
+pub called-leaves : (actors a : ℕ) (r : Page) (h : History) (trans : Option Mapping) (fault count : ℕ) (block : List ℕ) → LocksInv actors r.state r.version r.seats → MayCall r a → ((r.seats a).exclusive ≡ true) ⊎ ((frame_of trans ≡ frame_of r.trans) × (stands_dirty trans ≡ true → stands_dirty r.trans ≡ true)) → CountsMove r (record r { trans = trans; fault = fault; count = count; block = block }) → PageLeaves actors a r (record r { trans = trans; fault = fault; count = count; block = block }) h h
 called-leaves actors a r h trans fault count block i may frame counts =
     record {
-      moves = record { version = omega arith; still = λ _ sl se. (sl, se, ⊎_elim (λ e. absurd (sl (locked-from_owner i a e))) (λ same. same) frame); gone = λ _ e. e };
+      moves = record { version = omega arith; still = λ _ sl se. (sl, se, ⊎_elim (λ e. absurd (sl (locked-from_owner i a e))) (λ same. same.0) frame); cleaner = λ _ sl _. ⊎_elim (λ e. absurd (sl (locked-from_owner i a e))) (λ same. same.1) frame; gone = λ _ e. e };
       counts = counts;
       seats = λ b ne. refl;
       untouched = λ b lt ne. record {
         calls = λ call. absurd (ne (one-caller r i a b may call));
-        shares = λ has. ⊎_elim (λ e. absurd (unshared-beside i a b e lt has)) (λ same. same) frame;
+        shares = λ has. ⊎_elim (λ e. absurd (unshared-beside i a b e lt has)) (λ same. same.0) frame;
       };
       owned = λ b ne e. refl;
       shared = λ b lt ne s. refl;
@@ -40,14 +40,18 @@ frame-dirty : (dirty : Bool) (trans : Option Mapping) → frame_of (with_dirty d
 frame-dirty dirty None = refl
 frame-dirty dirty (Some m) = refl
 
+never-dirty : (trans : Option Mapping) → stands_dirty (with_dirty false trans) ≡ false
+never-dirty None = refl
+never-dirty (Some m) = refl
+
 pub cleaned-leaves : (actors a : ℕ) (r : Page) (h : History) → LocksInv actors r.state r.version r.seats → (r.seats a).writing ≡ true → PageLeaves actors a r (cleaned r) h h
 cleaned-leaves actors a r h i writes =
-    called-leaves actors a r h _ r.fault r.count r.block i (inr writes) (inr (frame-dirty _ r.trans)) (counts-same r _ refl refl)
+    called-leaves actors a r h _ r.fault r.count r.block i (inr writes) (inr (frame-dirty _ r.trans, λ d. absurd (true≢false (sym d ∙ never-dirty r.trans)))) (counts-same r _ refl refl)
 
 -- ---- the device
 
 pub written-leaves : (words : ℕ → List ℕ) (actors a : ℕ) (r : Page) (h : History) → LocksInv actors r.state r.version r.seats → MayCall r a → PageLeaves actors a r (written words r) h h
-written-leaves words actors a r h i may = called-leaves actors a r h r.trans r.fault r.count _ i may (inr refl) (counts-same r _ refl refl)
+written-leaves words actors a r h i may = called-leaves actors a r h r.trans r.fault r.count _ i may (inr (refl, λ d. d)) (counts-same r _ refl refl)
 
 -- one fault more is counted
 counts-failed : (r : Page) → CountsMove r (failed r)
@@ -56,11 +60,11 @@ counts-failed r =
     record { fault = λ le. omega arith; count = λ le. omega arith; within = λ le le'. omega arith; inside = λ le. omega arith }
 
 pub failed-leaves : (actors a : ℕ) (r : Page) (h : History) → LocksInv actors r.state r.version r.seats → MayCall r a → PageLeaves actors a r (failed r) h h
-failed-leaves actors a r h i may = called-leaves actors a r h r.trans r.fault _ r.block i may (inr refl) (counts-failed r)
+failed-leaves actors a r h i may = called-leaves actors a r h r.trans r.fault _ r.block i may (inr (refl, λ d. d)) (counts-failed r)
 
 counts-raised : (r : Page) → CountsMove r (raised r)
 counts-raised r =
     record { fault = λ le. le; count = λ le. omega arith; within = λ le le'. omega arith; inside = λ le. le }
 
 pub raised-leaves : (actors a : ℕ) (r : Page) (h : History) → LocksInv actors r.state r.version r.seats → MayCall r a → PageLeaves actors a r (raised r) h h
-raised-leaves actors a r h i may = called-leaves actors a r h r.trans r.count r.count r.block i may (inr refl) (counts-raised r)
+raised-leaves actors a r h i may = called-leaves actors a r h r.trans r.count r.count r.block i may (inr (refl, λ d. d)) (counts-raised r)

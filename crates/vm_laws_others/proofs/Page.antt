@@ -25,7 +25,7 @@ counts-same r r' f c =
 pub page-same : (actors a : ℕ) (r : Page) (h : History) → PageLeaves actors a r r h h
 page-same actors a r h =
     record {
-      moves = record { version = omega arith; still = λ _ sl se. (sl, se, refl); gone = λ _ e. e };
+      moves = record { version = omega arith; still = λ _ sl se. (sl, se, refl); cleaner = λ _ _ _ d. d; gone = λ _ e. e };
       counts = counts-same r r refl refl;
       seats = λ b ne. refl;
       untouched = λ b lt ne. record { calls = λ _. (refl, refl, refl, refl); shares = λ _. refl };

@@ -17,7 +17,7 @@ use Rattle.vm_laws_others.proofs.Page.{PageLeaves, counts-same}
 pub state-leaves : (actors a : ℕ) (r : Page) (h h' : History) (state : ℕ) (seats : ℕ → Seat) → ((b : ℕ) → b ≢ a → seats b ≡ r.seats b) → (state ≢ LOCKED → state ≢ EVICTED → (r.state ≢ LOCKED) × (r.state ≢ EVICTED)) → (state ≡ EVICTED → r.state ≡ EVICTED) → h'.last ≡ h.last → ((b : ℕ) → (r.seats b).exclusive ≡ true → h' ≡ h) → PageLeaves actors a r (record r { state = state; seats = seats }) h h'
 state-leaves actors a r h h' state seats others readable gone last owned =
     record {
-      moves = record { version = omega arith; still = λ _ sl se. let was : (r.state ≢ LOCKED) × (r.state ≢ EVICTED) = readable sl se in (was.0, was.1, refl); gone = λ _ e. gone e };
+      moves = record { version = omega arith; still = λ _ sl se. let was : (r.state ≢ LOCKED) × (r.state ≢ EVICTED) = readable sl se in (was.0, was.1, refl); cleaner = λ _ _ _ d. d; gone = λ _ e. gone e };
       counts = counts-same r _ refl refl;
       seats = others;
       untouched = λ b lt ne. record { calls = λ _. (refl, refl, refl, refl); shares = λ _. refl };
@@ -39,7 +39,7 @@ lock-leaves actors a r h s i free =
 pub release-leaves : (actors a : ℕ) (r : Page) (h : History) (state : ℕ) (s : Seat) → LocksInv actors r.state r.version r.seats → (r.seats a).exclusive ≡ true → PageLeaves actors a r (record r { state = state; version = r.version + 1; seats = upd r.seats a s }) h (appended h)
 release-leaves actors a r h state s i owns =
     record {
-      moves = record { version = omega arith; still = λ e. absurd (omega arith); gone = λ e. absurd (omega arith) };
+      moves = record { version = omega arith; still = λ e. absurd (omega arith); cleaner = λ e. absurd (omega arith); gone = λ e. absurd (omega arith) };
       counts = counts-same r _ refl refl;
       seats = upd-other r.seats a s;
       untouched = λ b lt ne. record { calls = λ _. (refl, refl, refl, refl); shares = λ _. refl };

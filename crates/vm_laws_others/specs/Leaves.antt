@@ -1,7 +1,8 @@
 -- What an event of one actor leaves of all that the other actors know and hold.
-use Rattle.std.specs.Prelude.{ℕ, true, ◌≡◌, ◌≢◌, ◌<◌, ◌≤◌, ◌||◌}
+use Rattle.std.specs.Prelude.{ℕ, Bool, true, false, Option, Some, None, ◌≡◌, ◌≢◌, ◌<◌, ◌≤◌, ◌||◌}
 use Rattle.vm_core.specs.declared.event.Event.{Event}
 use Rattle.vm_core.specs.declared.event.Event.TheVariants.{Look, LockX, LockS, UnlockS, Mark, Unmark, LockW, Upgrade, Release, ReleaseE, Downgrade, TLoad, Install, Clear, Dirty, Clean, Load, Store, BLoad, Take, Give, Read, RFail, Write, WFail, Raise, NLoad, Claim, Hand}
+use Rattle.vm_core.specs.declared.event.Mapping.{Mapping}
 use Rattle.vm_core.specs.declared.event.Seat.{Seat}
 use Rattle.vm_core.specs.Words.{LOCKED, EVICTED}
 use Rattle.vm_core.specs.FrameActs.{frame_of}
@@ -42,11 +43,17 @@ actor_of (NLoad a) = a
 actor_of (Claim a x n) = a
 actor_of (Hand a) = a
 
--- a page moves on: its version never falls; a page that can be read at the same version could be read before, in the same frame; and a page
--- that is evicted at the same version was evicted before
+-- the page stands in a frame, dirty
+abbrev pub stands_dirty : Option Mapping → Bool
+stands_dirty None = false
+stands_dirty (Some m) = m.dirty
+
+-- a page moves on: its version never falls; a page that can be read at the same version could be read before, in the same frame, and is dirty
+-- only if it was; and a page that is evicted at the same version was evicted before
 pub record PageMoves (r r' : Page) : Type 0 where
   pub version : r.version ≤ r'.version
   pub still : r'.version ≡ r.version → r'.state ≢ LOCKED → r'.state ≢ EVICTED → (r.state ≢ LOCKED) × (r.state ≢ EVICTED) × (frame_of r'.trans ≡ frame_of r.trans)
+  pub cleaner : r'.version ≡ r.version → r'.state ≢ LOCKED → r'.state ≢ EVICTED → stands_dirty r'.trans ≡ true → stands_dirty r.trans ≡ true
   pub gone : r'.version ≡ r.version → r'.state ≡ EVICTED → r.state ≡ EVICTED
 
 -- the last value of a count of faults: a word of 64 bits

@@ -1,6 +1,7 @@
--- The rule after one step of a pass that is an event of the core.
+-- The rule after one step of a pass.
 use Rattle.std.proofs.Common.{ℕ, Bool, true, false, true≢false, Option, List, [], ◌∷◌, ◌++◌, ◌≡◌, ◌≢◌, ◌+◌, ◌<◌, ◌≤◌, length, refl, sym, ap, subst, ◌∙◌, inl, arith, ⊎_elim, append_assoc, slice_set}
 use Rattle.std.proofs.lemmas.Bool.{cases_Bool}
+use mathlib.Core.Option as maybe
 use mathlib.Core.Option.{some}
 use lib.ListN.{get_elem?}
 use Rattle.atomic_table.specs.Table.{State as Table}
@@ -22,7 +23,7 @@ use Rattle.vm_rule.specs.declared.view.Tie.{Tie}
 use Rattle.vm_rule.specs.declared.view.View.{View}
 use Rattle.vm_rule.specs.Puts.{listed}
 use Rattle.vm_rule.specs.Views.{Each, PARTS, times, times_noted, entries_by, owns, spent}
-use Rattle.vm_rule.specs.Reading.{last_in, world_of}
+use Rattle.vm_rule.specs.Reading.{block_of, last_in, world_of}
 use Rattle.vm_rule.specs.Rule.{TranslationHolds, TieHolds, WereWords, began_of, is_pending, KnowsLists, KnowsPages, FaultsFit, ListsFit, PartsFit, snapshot_of, Ruled}
 use Rattle.vm_rule.proofs.Runs.{event_law}
 use Rattle.vm_rule.proofs.Views.{at-bound, at-there, block-same}
@@ -33,36 +34,40 @@ use Rattle.vm_rule.proofs.Known.{histories-outside, translation-moves, tie-moves
 use Rattle.vm_rule.proofs.Found.{seat-here, outside-here}
 use Rattle.vm_rule.proofs.Worlds.{last-is, draft-is}
 use Rattle.vm_rule.proofs.Facts.{has-part, blocks-still}
-pub use Rattle.vm_rule.proofs.Showing.{became, after_step, Shows}
+pub use Rattle.vm_rule.proofs.Showing.{after_more, became_more, world_more, ShowsMore, became, after_step, Shows}
 
 module _ {X B : Type 0} (stored : B → Stored) (keeps : Start → Kept X → Type 0) (tied : Start → ℕ → List ℕ → ℕ → List ℕ → Type 0) (start : Origin) (tells : Bool) where
-  module _ (s : Table (Option B) (View X)) (r : Ruled stored keeps tied start tells s) (id : ℕ) (v : View X) (words : List ℕ) (drafts : ℕ → List ℕ) (own : List Release) (entries : List (Entry X)) (did : Did) (inner : View X) (e : Event) (there : get_elem? s.views id ≡ some v) (live : v.live ≡ true) (number : 0 < length v.used) (sh : Shows stored keeps tied start tells s r id v words drafts own entries did inner e) where
+  -- the faults, after a step of a pass that notes none
+  pub faults-still : (s : Table (Option B) (View X)) (r : Ruled stored keeps tied start tells s) (id : ℕ) (v w : View X) (new : World) → get_elem? s.views id ≡ some v → w.notes ≡ v.notes
+      → Leaves id (world_of stored start r.releases r.drafts s) new → FaultsFit new.core.pages (slice_set s.views id w)
+  faults-still s r id v w new there notes left =
+      let old : World = world_of stored start r.releases r.drafts s in
+      record {
+        below = λ p. (left.counts p).within (r.faults.capped p) (r.faults.below p);
+        capped = λ p. (left.counts p).inside (r.faults.capped p);
+        noted = λ j u at p n m.
+            let more : (old.core.pages p).fault ≤ (new.core.pages p).fault = (left.counts p).fault (r.faults.below p) in
+            let was : (1 ≤ n) × (n ≤ (old.core.pages p).fault) = ⊎_elim
+            (λ (t : (j ≡ id) × (w ≡ u)). r.faults.noted id v there p n (subst (λ l. 1 ≤ times_noted p n l) (ap (λ (y : View X). y.notes) (sym t.1) ∙ notes) m))
+            (λ (t : (j ≢ id) × (get_elem? s.views j ≡ some u)). r.faults.noted j u t.1 p n m)
+            (at_set s.views id j w u at) in
+            let below : n ≤ (old.core.pages p).fault = was.1 in
+            (was.0, omega arith);
+        once = λ p n ne. subst (λ k. k ≤ 1) (sym (total-same (λ y. times_noted p n y.notes) s.views id v w there (ap (times_noted p n) notes))) (r.faults.once p n ne);
+      }
+
+  module _ (s : Table (Option B) (View X)) (r : Ruled stored keeps tied start tells s) (id : ℕ) (v : View X) (words : List ℕ) (homes : List (maybe.Option (Option B))) (blocks : List Stored) (drafts : ℕ → List ℕ) (own : List Release) (entries : List (Entry X)) (did : Did) (inner : View X) (there : get_elem? s.views id ≡ some v) (live : v.live ≡ true) (number : 0 < length v.used) (sh : ShowsMore stored keeps tied start tells s r id v words homes blocks drafts own entries did inner) where
     abbrev after-view : View X
-    after-view = after_step stored keeps tied start tells s r words own entries did inner
+    after-view = after_more stored keeps tied start tells s r id v words homes blocks drafts own entries did inner
 
     abbrev after-table : Table (Option B) (View X)
-    after-table = became stored keeps tied start tells s words id after-view
+    after-table = became_more stored keeps tied start tells s r id v words homes blocks drafts own entries did inner
 
     abbrev before-world : World
     before-world = world_of stored start r.releases r.drafts s
 
     abbrev next-world : World
     next-world = world_of stored start (r.releases ++ own) drafts after-table
-
-    adds-faults : Leaves id before-world next-world → FaultsFit next-world.core.pages (slice_set s.views id after-view)
-    adds-faults left = record {
-      below = λ p. (left.counts p).within (r.faults.capped p) (r.faults.below p);
-      capped = λ p. (left.counts p).inside (r.faults.capped p);
-      noted = λ j u at p n m.
-          let more : (before-world.core.pages p).fault ≤ (next-world.core.pages p).fault = (left.counts p).fault (r.faults.below p) in
-          let old : (1 ≤ n) × (n ≤ (before-world.core.pages p).fault) = ⊎_elim
-          (λ (t : (j ≡ id) × (after-view ≡ u)). r.faults.noted id v there p n (subst (λ l. 1 ≤ times_noted p n l) (ap (λ (y : View X). y.notes) (sym t.1) ∙ sh.notes) m))
-          (λ (t : (j ≢ id) × (get_elem? s.views j ≡ some u)). r.faults.noted j u t.1 p n m)
-          (at_set s.views id j after-view u at) in
-          let below : n ≤ (before-world.core.pages p).fault = old.1 in
-          (old.0, omega arith);
-      once = λ p n ne. subst (λ k. k ≤ 1) (sym (total-same (λ y. times_noted p n y.notes) s.views id v after-view there (ap (times_noted p n) sh.notes))) (r.faults.once p n ne);
-    }
 
     adds-lists : Added s.views id v r.history entries → ListsFit start (r.releases ++ own) (r.history ++ entries) (slice_set s.views id after-view)
     adds-lists new = record {
@@ -82,7 +87,7 @@ module _ {X B : Type 0} (stored : B → Stored) (keeps : Start → Kept X → Ty
           (at_set s.views id j after-view u at);
       whole = λ j u at on all current. ⊎_elim
           (λ (t : (j ≡ id) × (after-view ≡ u)). subst (λ (y : View X). (y.releases ≡ r.releases ++ own) × (y.seen ≡ r.history ++ entries) × (y.snapshot ≡ snapshot_of stored start after-table)) t.1
-          (refl, refl, λ i. record { words = words; blocks = listed start.pages (sym (block-same stored s.homes s.views id v after-view there sh.out) i) }))
+          (refl, refl, λ i. record { words = words; blocks = sym sh.told i }))
           (λ (t : (j ≢ id) × (get_elem? s.views j ≡ some u)). absurd (not-whole s.views j id u v r.parts.parts t.0 t.1 there (has-part v number) all))
           (at_set s.views id j after-view u at);
     }
@@ -119,8 +124,9 @@ module _ {X B : Type 0} (stored : B → Stored) (keeps : Start → Kept X → Ty
         (at_set s.views id j after-view u at)
 
     -- what is known of pages
-    adds-known : Leaves id before-world next-world → (j : ℕ) (u : View X) → get_elem? (slice_set s.views id after-view) j ≡ some u → u.live ≡ true → KnowsPages tied start next-world (is_pending (slice_set s.views id after-view)) u
-    adds-known left j u at on =
+    adds-known : (j : ℕ) (u : View X) → get_elem? (slice_set s.views id after-view) j ≡ some u → u.live ≡ true → KnowsPages tied start next-world (is_pending (slice_set s.views id after-view)) u
+    adds-known j u at on =
+        let left : Leaves id before-world next-world = sh.left in
         let members : (p : ℕ) → (next-world.core.pages p).version ≡ (before-world.core.pages p).version → is_pending (slice_set s.views id after-view) p ≡ false → is_pending s.views p ≡ false =
         λ p same none. ⊎_elim
         (λ was. let k = any-gone (λ y. has p y.pending) s.views id v after-view there was none in absurd (sh.members p k.0 k.1 same))
@@ -131,10 +137,9 @@ module _ {X B : Type 0} (stored : B → Stored) (keeps : Start → Kept X → Ty
         let outside : (p : ℕ) → start.pages ≤ p → (next-world.core.pages p ≡ before-world.core.pages p) × (next-world.histories p ≡ before-world.histories p) =
         λ p le. (
           outside-here stored start after-table p le ∙ sym (outside-here stored start s p le),
-          ap (λ (w : World). w.histories p) sh.world ∙ histories-outside before-world e sh.legal p le (λ a. ap (λ (y : Page). (y.seats a).exclusive) (outside-here stored start s p le)),
+          sh.outside p le,
         ) in
         let known : (p : ℕ) → (before-world.core.pages p).state ≤ EVICTED = λ p. (r.inv.pages p).locks.known in
-        let inv : Inv next-world = subst Inv (sym sh.world) (event_law before-world e r.inv sh.legal) in
         ⊎_elim
         (λ (t : (j ≡ id) × (after-view ≡ u)).
         let g : KnowsPages tied start before-world (is_pending s.views) v = r.known id v there live in
@@ -156,40 +161,92 @@ module _ {X B : Type 0} (stored : B → Stored) (keeps : Start → Kept X → Ty
         }))
         (λ (t : (j ≢ id) × (get_elem? s.views j ≡ some u)).
         known-else tied start before-world next-world (is_pending s.views) (is_pending (slice_set s.views id after-view)) id j u left (left.others j (at-bound s.views j u t.1) t.0)
-        (λ p l. seat-here stored start s j p u l t.1) outside (λ f. ap (λ (y : View X). has f y.frames) (at-there spent s.views j u t.1)) known inv.next ties (r.known j u t.1 on))
+        (λ p l. seat-here stored start s j p u l t.1) outside (λ f. ap (λ (y : View X). has f y.frames) (at-there spent s.views j u t.1)) known sh.inv.next ties (r.known j u t.1 on))
         (at_set s.views id j after-view u at)
 
-  -- a step that is an event of the core keeps the rule, where the event leaves what the others know
-  pub adds : (s : Table (Option B) (View X)) (r : Ruled stored keeps tied start tells s) (id : ℕ) (v : View X) (words : List ℕ) (drafts : ℕ → List ℕ) (own : List Release) (entries : List (Entry X)) (did : Did) (inner : View X) (e : Event)
+  -- a step keeps the rule
+  pub adds_more : (s : Table (Option B) (View X)) (r : Ruled stored keeps tied start tells s) (id : ℕ) (v : View X) (words : List ℕ) (homes : List (maybe.Option (Option B))) (blocks : List Stored) (drafts : ℕ → List ℕ) (own : List Release) (entries : List (Entry X)) (did : Did) (inner : View X)
       → get_elem? s.views id ≡ some v → v.live ≡ true → 0 < length v.used
-      → Leaves id (world_of stored start r.releases r.drafts s) (world_after (world_of stored start r.releases r.drafts s) e)
-      → Shows stored keeps tied start tells s r id v words drafts own entries did inner e
-      → Ruled stored keeps tied start tells (became stored keeps tied start tells s words id (after_step stored keeps tied start tells s r words own entries did inner))
-  adds s r id v words drafts own entries did inner e there live number leaves sh =
-      let w : View X = after_step stored keeps tied start tells s r words own entries did inner in
+      → ShowsMore stored keeps tied start tells s r id v words homes blocks drafts own entries did inner
+      → Ruled stored keeps tied start tells (became_more stored keeps tied start tells s r id v words homes blocks drafts own entries did inner)
+  adds_more s r id v words homes blocks drafts own entries did inner there live number sh =
       let old : World = world_of stored start r.releases r.drafts s in
-      let new : World = world_of stored start (r.releases ++ own) drafts (became stored keeps tied start tells s words id w) in
-      let left : Leaves id old new = subst (Leaves id old) (sym sh.world) leaves in
+      let new : World = world_more stored keeps tied start tells s r id v words homes blocks drafts own entries did inner in
       let heard : KnowsLists start r.releases r.history v = r.heard id v there live in
       let entry : Added s.views id v r.history entries = added s.views id v r.history entries sh.entry there r.parts.parts number (mine-in v.used r.history v.seen v.mine heard.mine heard.heard) in
-      let up : old.core.next ≤ new.core.next = left.next in
+      let up : old.core.next ≤ new.core.next = sh.left.next in
       let risen : start.next ≤ old.core.next = r.risen in
       record {
         releases = r.releases ++ own;
         history = r.history ++ entries;
         drafts = drafts;
         telling = r.telling;
-        wide = (sh.wide, r.wide.1);
+        wide = (sh.wide, sh.slots);
         sized = r.sized;
         spelled = sh.spelled;
-        inv = subst Inv (sym sh.world) (event_law old e r.inv sh.legal);
+        inv = sh.inv;
         risen = omega arith;
         zero = sh.zero;
-        blocks = blocks-still stored start s.homes s.views id v w there sh.out sh.calls r.blocks;
-        faults = adds-faults s r id v words drafts own entries did inner e there live number sh left;
-        lists = adds-lists s r id v words drafts own entries did inner e there live number sh entry;
-        parts = adds-parts s r id v words drafts own entries did inner e there live number sh;
-        heard = adds-heard s r id v words drafts own entries did inner e there live number sh entry;
-        known = adds-known s r id v words drafts own entries did inner e there live number sh left;
+        blocks = sh.fit;
+        faults = sh.faults;
+        lists = adds-lists s r id v words homes blocks drafts own entries did inner there live number sh entry;
+        parts = adds-parts s r id v words homes blocks drafts own entries did inner there live number sh;
+        heard = adds-heard s r id v words homes blocks drafts own entries did inner there live number sh entry;
+        known = adds-known s r id v words homes blocks drafts own entries did inner there live number sh;
         owner = λ tells. sh.owner tells (r.owner tells);
       }
+
+  -- a step that is an event of the core, and moves no block, shows this much
+  shows-more : (s : Table (Option B) (View X)) (r : Ruled stored keeps tied start tells s) (id : ℕ) (v : View X) (words : List ℕ) (drafts : ℕ → List ℕ) (own : List Release) (entries : List (Entry X)) (did : Did) (inner : View X) (e : Event)
+      → get_elem? s.views id ≡ some v
+      → Leaves id (world_of stored start r.releases r.drafts s) (world_after (world_of stored start r.releases r.drafts s) e)
+      → Shows stored keeps tied start tells s r id v words drafts own entries did inner e
+      → ShowsMore stored keeps tied start tells s r id v words s.homes (listed start.pages (block_of stored s.homes s.views)) drafts own entries did inner
+  shows-more s r id v words drafts own entries did inner e there leaves sh =
+      let w : View X = after_step stored keeps tied start tells s r words own entries did inner in
+      let old : World = world_of stored start r.releases r.drafts s in
+      let new : World = world_of stored start (r.releases ++ own) drafts (became stored keeps tied start tells s words id w) in
+      let left : Leaves id old new = subst (Leaves id old) (sym sh.world) leaves in
+      record {
+        wide = sh.wide;
+        slots = r.wide.1;
+        spelled = sh.spelled;
+        inv = subst Inv (sym sh.world) (event_law old e r.inv sh.legal);
+        left = left;
+        outside = λ p le. ap (λ (y : World). y.histories p) sh.world ∙ histories-outside old e sh.legal p le (λ a. ap (λ (y : Page). (y.seats a).exclusive) (outside-here stored start s p le));
+        told = ap (listed start.pages) (block-same stored s.homes s.views id v w there sh.out);
+        fit = blocks-still stored start s.homes s.views id v w there sh.out sh.calls r.blocks;
+        faults = faults-still s r id v w new there sh.notes left;
+        at = sh.at;
+        found = sh.found;
+        wrote = sh.wrote;
+        live = sh.live;
+        same_start = sh.same_start;
+        used = sh.used;
+        fresh = sh.fresh;
+        log = sh.log;
+        entry = sh.entry;
+        mine = sh.mine;
+        next_versions = sh.next_versions;
+        zero = sh.zero;
+        knows = sh.knows;
+        contents = sh.contents;
+        drafted = sh.drafted;
+        pending = sh.pending;
+        owed = sh.owed;
+        next = sh.next;
+        loaded = sh.loaded;
+        tying = sh.tying;
+        members = sh.members;
+        owner = sh.owner;
+      }
+
+  -- so it keeps the rule, where the event leaves what the others know
+  pub adds : (s : Table (Option B) (View X)) (r : Ruled stored keeps tied start tells s) (id : ℕ) (v : View X) (words : List ℕ) (drafts : ℕ → List ℕ) (own : List Release) (entries : List (Entry X)) (did : Did) (inner : View X) (e : Event)
+      → get_elem? s.views id ≡ some v → v.live ≡ true → 0 < length v.used
+      → Leaves id (world_of stored start r.releases r.drafts s) (world_after (world_of stored start r.releases r.drafts s) e)
+      → Shows stored keeps tied start tells s r id v words drafts own entries did inner e
+      → Ruled stored keeps tied start tells (became stored keeps tied start tells s words id (after_step stored keeps tied start tells s r words own entries did inner))
+  adds s r id v words drafts own entries did inner e there live number leaves sh =
+      adds_more s r id v words s.homes (listed start.pages (block_of stored s.homes s.views)) drafts own entries did inner there live number
+      (shows-more s r id v words drafts own entries did inner e there leaves sh)

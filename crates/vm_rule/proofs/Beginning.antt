@@ -21,7 +21,7 @@ use Rattle.vm_rule.specs.Log.{did_load}
 use Rattle.vm_rule.specs.Begun.{HasShape, unborn, begun, begin_play, Stands}
 use Rattle.vm_rule.proofs.Found.{same-word}
 use Rattle.vm_rule.proofs.Bringing.{rested}
-use Rattle.vm_rule.proofs.FixedStart.{only-view}
+use Rattle.vm_rule.proofs.FirstRule.{only-view}
 
 only-place : {A : Type 0} (x : A) (j : ℕ) (y : A) → get_elem? (x ∷ []) j ≡ some y → j ≡ 0
 only-place x zero y e = refl

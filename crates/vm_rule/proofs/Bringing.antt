@@ -1,6 +1,7 @@
 -- What a step tells of the lists, the table and the log; and the step that changes nothing of the core and of its own view but these.
 use Rattle.std.proofs.Common.{ℕ, Bool, true, true≢false, Option, None, List, [], ◌∷◌, ◌++◌, ◌≡◌, ◌+◌, ◌<◌, length, refl, sym, ap, subst, ◌∙◌, inl, arith, slice_set, length-append}
 use mathlib.Core.Path.{fun_ext}
+use mathlib.Core.Option as maybe
 use mathlib.Core.Option.{some}
 use lib.ListN.{get_elem?}
 use Rattle.atomic_table.specs.Table.{State as Table}
@@ -24,11 +25,11 @@ use Rattle.vm_rule.specs.Layout.{Within, index_of}
 use Rattle.vm_rule.specs.Views.{StartsWith, seat_of}
 use Rattle.vm_rule.specs.Reading.{block_of, core_of, world_of, histories_of, last_in}
 use Rattle.vm_rule.specs.Rule.{KnowsPage, no_held, is_pending, is_owed, logical, began_of, KnowsLists, KnowsPages, Ruled}
-use Rattle.vm_rule.specs.Brought.{set_if, IsFoundAt, IsStepOf, brought, Brings}
+use Rattle.vm_rule.specs.Brought.{set_if, set_block, IsFoundAt, IsStepOf, brought, BringsWith, Brings}
 use Rattle.vm_rule.proofs.Views.{any-same}
 use Rattle.vm_rule.proofs.Entries.{append-none}
 use Rattle.vm_rule.proofs.Worlds.{last-is, draft-is, core-still, world-still}
-use Rattle.vm_rule.proofs.Adding.{became, after_step, Shows, adds}
+use Rattle.vm_rule.proofs.Adding.{after_more, became_more, ShowsMore, became, after_step, Shows, adds, adds_more}
 
 -- what is the whole list has nothing behind it
 none-behind : {A : Type 0} (l rest : List A) → l ≡ l ++ rest → rest ≡ []
@@ -36,19 +37,21 @@ none-behind l [] e = refl
 none-behind l (x ∷ xs) e = absurd (let long : length l ≡ length l + length (x ∷ xs) = ap length e ∙ length-append l (x ∷ xs) in omega arith)
 
 module _ {X B : Type 0} (stored : B → Stored) (keeps : Start → Kept X → Type 0) (tied : Start → ℕ → List ℕ → ℕ → List ℕ → Type 0) (start : Origin) (tells : Bool) where
-  -- what any step tells: it found the word that stands there, and left these words
-  pub brings : (s : Table (Option B) (View X)) (r : Ruled stored keeps tied start tells s) (id : ℕ) (v : View X) (words : List ℕ) (own : List Release) (entries : List (Entry X)) (did : Did) (inner : View X)
+  -- what any step tells: it found the word that stands there, and left these words and blocks
+  pub brings_more : (s : Table (Option B) (View X)) (r : Ruled stored keeps tied start tells s) (id : ℕ) (v : View X) (words : List ℕ) (blocks : List Stored) (block : Option (ℕ × Stored)) (own : List Release) (entries : List (Entry X)) (did : Did) (inner : View X)
       → get_elem? s.views id ≡ some v → v.live ≡ true
       → IsFoundAt did.found (index_of start did.at) s.words → words ≡ set_if did.wrote (index_of start did.at) s.words
-      → Brings did own entries v inner (after_step stored keeps tied start tells s r words own entries did inner)
-  brings s r id v words own entries did inner there live found left =
+      → blocks ≡ set_block block (listed start.pages (block_of stored s.homes s.views))
+      → BringsWith did block own entries v inner (brought inner (r.releases ++ own) (r.history ++ entries) (record { words = words; blocks = blocks }) did)
+  brings_more s r id v words blocks block own entries did inner there live found left moved =
       let g : KnowsLists start r.releases r.history v = r.heard id v there live in
       let k : KnowsPages tied start (world_of stored start r.releases r.drafts s) (is_pending s.views) v = r.known id v there live in
+      let now : Snapshot = record { words = words; blocks = blocks } in
       record {
         between = g.saw.0;
         others = g.heard.0;
-        snapshot = record { words = words; blocks = listed start.pages (block_of stored s.homes s.views) };
-        view = λ i. brought inner (g.saw.1 i ++ own) (g.heard.1 i ++ entries) (record { words = words; blocks = listed start.pages (block_of stored s.homes s.views) }) did;
+        snapshot = now;
+        view = λ i. brought inner (g.saw.1 i ++ own) (g.heard.1 i ++ entries) now did;
         foreign = g.heard.2;
         kept = λ p locks. (λ i. last_in (g.same_start i) (sym g.saw.1 i) p) ∙ last-is start r.releases r.drafts p ∙ sym (k.latest p locks);
         told = (subst (λ l. StartsWith l v.told_releases) g.saw.1 g.told.0, subst (λ l. StartsWith l v.told) g.heard.1 g.told.1);
@@ -56,11 +59,31 @@ module _ {X B : Type 0} (stored : B → Stored) (keeps : Start → Kept X → Ty
             let same = r.parts.whole id v there live whole current in (
               none-behind v.releases g.saw.0 (same.0 ∙ g.saw.1),
               none-behind v.seen g.heard.0 (same.1 ∙ g.heard.1),
-              subst (λ (o : Origin). IsStepOf o did None v.snapshot (record { words = words; blocks = listed start.pages (block_of stored s.homes s.views) })) (sym g.same_start)
-                  (subst (λ (y : Snapshot). IsStepOf start did None y (record { words = words; blocks = listed start.pages (block_of stored s.homes s.views) })) (sym same.2)
-                  (record { found = found; words = left; blocks = refl })),
+              subst (λ (o : Origin). IsStepOf o did block v.snapshot now) (sym g.same_start)
+                  (subst (λ (y : Snapshot). IsStepOf start did block y now) (sym same.2) (record { found = found; words = left; blocks = moved })),
             );
       }
+
+  -- a step that moves no block
+  pub brings : (s : Table (Option B) (View X)) (r : Ruled stored keeps tied start tells s) (id : ℕ) (v : View X) (words : List ℕ) (own : List Release) (entries : List (Entry X)) (did : Did) (inner : View X)
+      → get_elem? s.views id ≡ some v → v.live ≡ true
+      → IsFoundAt did.found (index_of start did.at) s.words → words ≡ set_if did.wrote (index_of start did.at) s.words
+      → Brings did own entries v inner (after_step stored keeps tied start tells s r words own entries did inner)
+  brings s r id v words own entries did inner there live found left =
+      brings_more s r id v words (listed start.pages (block_of stored s.homes s.views)) None own entries did inner there live found left refl
+
+  -- a step that shows its own part keeps the rule and tells what it brings
+  pub steps_more : (s : Table (Option B) (View X)) (r : Ruled stored keeps tied start tells s) (id : ℕ) (v : View X) (words : List ℕ) (homes : List (maybe.Option (Option B))) (blocks : List Stored) (block : Option (ℕ × Stored)) (drafts : ℕ → List ℕ) (own : List Release) (entries : List (Entry X)) (did : Did) (inner : View X)
+      → get_elem? s.views id ≡ some v → v.live ≡ true → 0 < length v.used
+      → words ≡ set_if did.wrote (index_of start did.at) s.words
+      → blocks ≡ set_block block (listed start.pages (block_of stored s.homes s.views))
+      → ShowsMore stored keeps tied start tells s r id v words homes blocks drafts own entries did inner
+      → Ruled stored keeps tied start tells (became_more stored keeps tied start tells s r id v words homes blocks drafts own entries did inner)
+      × BringsWith did block own entries v inner (after_more stored keeps tied start tells s r id v words homes blocks drafts own entries did inner)
+  steps_more s r id v words homes blocks block drafts own entries did inner there live number left moved sh = (
+    adds_more stored keeps tied start tells s r id v words homes blocks drafts own entries did inner there live number sh,
+    brings_more s r id v words blocks block own entries did inner there live sh.found left moved,
+  )
 
   -- a step that is an event of its pass, and shows its own part, keeps the rule and tells what it brings
   pub steps : (s : Table (Option B) (View X)) (r : Ruled stored keeps tied start tells s) (id : ℕ) (v : View X) (words : List ℕ) (drafts : ℕ → List ℕ) (own : List Release) (entries : List (Entry X)) (did : Did) (inner : View X) (e : Event)

@@ -44,6 +44,10 @@ translation-moves pages pages' moves t h =
           let same : (pages' t.page).version ≡ (pages t.page).version = omega arith in
           let k = (moves t.page).still same locked evicted in
           h.1 (e ∙ same) k.0 k.1 ∙ sym k.2,
+      λ e locked evicted dirty.
+          let same : (pages' t.page).version ≡ (pages t.page).version = omega arith in
+          let k = (moves t.page).still same locked evicted in
+          h.2 (e ∙ same) k.0 k.1 ((moves t.page).cleaner same locked evicted dirty),
     )
 
 pub tie-moves : (tied : Start → ℕ → List ℕ → ℕ → List ℕ → Type 0) (began : Start) (w w' : World) (pending pending' : ℕ → Bool) → w'.core.shape.pages ≡ w.core.shape.pages → ((p : ℕ) → PageMoves (w.core.pages p) (w'.core.pages p))

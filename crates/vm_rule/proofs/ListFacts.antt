@@ -1,5 +1,6 @@
 -- Lists read as functions: one behind another, the values of a function, and pages of 64 words one after another.
-use Rattle.std.proofs.Common.{ℕ, ◌≡◌, ◌+◌, ◌*◌, ◌<◌, ◌≤◌, List, [], ◌∷◌, ◌++◌, length, map, replicate, take, get_or, zero, suc, refl, sym, ap, subst, append_assoc, ◌∙◌, arith}
+use Rattle.std.proofs.Common.{ℕ, ◌≡◌, ◌+◌, ◌*◌, ◌<◌, ◌≤◌, List, [], ◌∷◌, ◌++◌, length, map, replicate, take, get_or, zero, suc, refl, sym, ap, subst, append_assoc, ◌∙◌, arith, ⊎_elim}
+use Rattle.std.proofs.lemmas.Bool.{cases_lt}
 use Rattle.std.proofs.lemmas.List.{append-nil, take_more}
 use Rattle.vm_core.specs.Fn.{at}
 use Rattle.vm_rule.specs.Puts.{listed}
@@ -54,6 +55,15 @@ unfolding listed at
 at-listed d zero f k l = absurd (omega arith)
 at-listed d (suc n) f zero l = refl
 at-listed d (suc n) f (suc k) l = at-listed d n (λ j. f (suc j)) k (omega arith)
+
+-- a list of one number, and one of zeros
+pub at-same : (n x k : ℕ) → k < n → at 0 (listed n (λ i. x)) k ≡ x
+at-same n x k l = at-listed 0 n (λ i. x) k l
+
+pub at-zeros : (n k : ℕ) → at 0 (listed {A = ℕ} n (λ i. 0)) k ≡ 0
+at-zeros n k =
+    let long : length (listed {A = ℕ} n (λ i. 0)) ≡ n = length-listed {A = ℕ} n (λ i. 0) in
+    ⊎_elim (λ l. at-same n 0 k l) (λ le. at-past 0 (listed {A = ℕ} n (λ i. 0)) k (omega arith)) (cases_lt k n)
 
 -- one value more
 listed-more : {A : Type 0} (n : ℕ) (f : ℕ → A) → listed (suc n) f ≡ listed n f ++ f n ∷ []

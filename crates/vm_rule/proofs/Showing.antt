@@ -1,9 +1,13 @@
--- What a step of a pass that is an event of the core shows of itself: what the others know stays by the event's law, so it is the pass's own part alone.
+-- What a step of a pass shows of itself. `ShowsMore` is the step in full, which may move the pass's block and note faults: what the others know
+-- stays by what the step leaves, so it is the pass's own part alone. `Shows` is a step that is an event of the core and moves no block.
 use Rattle.std.proofs.Common.{ℕ, Bool, true, false, Option, Some, List, [], ◌∷◌, ◌++◌, ◌≡◌, ◌≢◌, ◌⊎◌, ◌<◌, ◌≤◌, length, replicate, slice_set}
+use mathlib.Core.Option as maybe
 use Rattle.atomic_table.specs.Table.{State as Table}
 use Rattle.vm_core.specs.declared.event.Event.{Event}
-use Rattle.vm_core.specs.History.{world_after}
+use Rattle.vm_core.specs.History.{World, world_after}
+use Rattle.vm_core.specs.Inv.{Inv}
 use Rattle.vm_core.specs.Step.{Legal}
+use Rattle.vm_laws_others.specs.Leaves.{Leaves}
 use Rattle.vm_owner.specs.declared.Entry.{Entry}
 use Rattle.vm_owner.specs.Kept.{Start, Kept}
 use Rattle.vm_owner.specs.Numbers.{has}
@@ -19,10 +23,67 @@ use Rattle.vm_rule.specs.Puts.{put_at, listed}
 use Rattle.vm_rule.specs.Layout.{Within, index_of, width}
 use Rattle.vm_rule.specs.Views.{Each, seat_of, draft_of, may_call}
 use Rattle.vm_rule.specs.Reading.{block_of, core_of, world_of, histories_of}
-use Rattle.vm_rule.specs.Rule.{KnowsPage, no_held, TranslationHolds, TieHolds, began_of, is_pending, kept_of, AreNext, ArePlain, Ruled}
+use Rattle.vm_rule.specs.Rule.{KnowsPage, no_held, TranslationHolds, TieHolds, began_of, is_pending, kept_of, AreNext, ArePlain, BlocksFit, FaultsFit, Ruled}
 use Rattle.vm_rule.specs.Brought.{IsFoundAt, entry_of, brought}
 
 module _ {X B : Type 0} (stored : B → Stored) (keeps : Start → Kept X → Type 0) (tied : Start → ℕ → List ℕ → ℕ → List ℕ → Type 0) (start : Origin) (tells : Bool) where
+  module _ (s : Table (Option B) (View X)) (r : Ruled stored keeps tied start tells s) (id : ℕ) (v : View X) (words : List ℕ) (homes : List (maybe.Option (Option B))) (blocks : List Stored) (drafts : ℕ → List ℕ) (own : List Release) (entries : List (Entry X)) (did : Did) (inner : View X) where
+    -- the view after a step that made the changes of `inner`, and left these words and blocks
+    abbrev pub after_more : View X
+    after_more = brought inner (r.releases ++ own) (r.history ++ entries) (record { words = words; blocks = blocks }) did
+
+    -- the table after the step: these words, these slots, and this view of the pass
+    abbrev pub became_more : Table (Option B) (View X)
+    became_more = record { words = words; homes = homes; views = slice_set s.views id after_more }
+
+    abbrev pub world_before : World
+    world_before = world_of stored start r.releases r.drafts s
+
+    abbrev pub world_more : World
+    world_more = world_of stored start (r.releases ++ own) drafts became_more
+
+    pub record ShowsMore : Type 0 where
+      pub wide : length words ≡ width start
+      pub slots : length homes ≡ start.pages
+      pub spelled : ArePlain start words
+      -- the core's invariant holds, and the others have what they had
+      pub inv : Inv world_more
+      pub left : Leaves id world_before world_more
+      pub outside : (p : ℕ) → start.pages ≤ p → world_more.histories p ≡ world_before.histories p
+      -- the blocks and the faults
+      pub told : listed start.pages (block_of stored homes (slice_set s.views id after_more)) ≡ blocks
+      pub fit : BlocksFit stored start homes (slice_set s.views id after_more)
+      pub faults : FaultsFit world_more.core.pages (slice_set s.views id after_more)
+      -- the step's place in the log: the word found there before, and the word left there
+      pub at : Within start did.at
+      pub found : IsFoundAt did.found (index_of start did.at) s.words
+      pub wrote : IsFoundAt did.wrote (index_of start did.at) words
+      -- what the view keeps
+      pub live : inner.live ≡ v.live
+      pub same_start : inner.start ≡ v.start
+      pub used : inner.used ≡ v.used
+      pub fresh : inner.fresh ≡ v.fresh
+      pub log : inner.log ≡ v.log
+      -- its entry, if there is one, and its releases, which have the next versions
+      pub entry : (entries ≡ []) ⊎ ((x : X) × (entries ≡ entry_of v x ∷ []))
+      pub mine : inner.mine ≡ v.mine ++ entries
+      pub next_versions : AreNext start r.releases own
+      pub zero : start.tells ≡ true → (p : ℕ) → world_more.core.next ≤ p → p < start.pages → (world_more.histories p).last.words ≡ replicate 64 0
+      -- what it knows of what it holds
+      pub knows : (p : ℕ) → KnowsPage (seat_of inner p) (put_at no_held inner.held p) (world_more.core.pages p)
+      pub contents : (f : ℕ) → has f inner.frames ≡ true → put_at [] inner.contents f ≡ world_more.core.words f
+      pub drafted : (p : ℕ) → (seat_of inner p).exclusive ≡ true → draft_of inner p ≡ drafts p
+      pub pending : (p : ℕ) → has p inner.pending ≡ true → ((seat_of inner p).exclusive ≡ true) × (start.tells ≡ true → world_more.core.next ≤ p → drafts p ≡ (world_more.histories p).last.words)
+      pub owed : (p : ℕ) → has p inner.owed ≡ true → ((seat_of inner p).exclusive ≡ true) × (start.next ≤ p) × (p < world_more.core.next) × (has p inner.pending ≡ false)
+      pub next : (x : ℕ) → inner.next ≡ Some x → ((seat_of inner x).exclusive ≡ true) × (world_more.core.next ≡ x)
+      -- the translations and the ties that came to it
+      pub loaded : (l : List Translation) × (inner.translations ≡ l ++ v.translations) × Each (TranslationHolds world_more.core.pages) l
+      pub tying : (l : List Tie) × (inner.ties ≡ l ++ v.ties) × (start.tells ≡ true → Each (TieHolds tied (began_of start) world_more (is_pending (slice_set s.views id after_more))) l)
+      -- a page that is no member any more has another version
+      pub members : (p : ℕ) → has p v.pending ≡ true → has p inner.pending ≡ false → (world_more.core.pages p).version ≢ (world_before.core.pages p).version
+      -- the layer above keeps its relation
+      pub owner : start.tells ≡ true → keeps (began_of start) (kept_of world_before r.history s.views) → keeps (began_of start) (kept_of world_more (r.history ++ entries) (slice_set s.views id after_more))
+
   -- the table after the step: these words, and this view of the pass
   abbrev pub became : Table (Option B) (View X) → List ℕ → ℕ → View X → Table (Option B) (View X)
   became s words id w = record { words = words; homes = s.homes; views = slice_set s.views id w }

@@ -1,16 +1,16 @@
 -- The start meets the invariant.
-use Rattle.std.proofs.Common.{ℕ, ◌≡◌, ◌-◌, ◌*◌, ◌/◌, ◌%◌, ◌^◌, ◌≤◌, refl, ⊎_elim, arith, cond, ltb, min, length, replicate, ◌+◌}
+use Rattle.std.proofs.Common.{ℕ, Bool, true, List, [], ap, ◌∙◌, ◌≡◌, ◌-◌, ◌*◌, ◌/◌, ◌%◌, ◌^◌, ◌≤◌, refl, ⊎_elim, arith, cond, ltb, min, length, replicate, ◌+◌}
 use Rattle.std.specs.Int.{bit_at}
 use Rattle.std.proofs.lemmas.Bool.{cases_Bool, cases_lt, eq-eqb, ne_eqb, lt-ltb, le-ltb}
 use Rattle.std.proofs.lemmas.Nat.Bits.{bit_at_ones, bit_at_ones_above}
 use Rattle.std.proofs.lemmas.List.{length-replicate}
 use Rattle.std.proofs.lemmas.List.FromFn.{length-map-range_with_len}
 use Rattle.vm_core.specs.declared.event.CoreShape.{CoreShape}
-use Rattle.vm_core.specs.Words.{is_free}
-use Rattle.vm_core.specs.Inv.{Inv, FrameIsAt, at_free}
+use Rattle.vm_core.specs.Words.{is_free, MAX_VERSION}
+use Rattle.vm_core.specs.Inv.{Inv, PageInv, FrameIsAt, at_free}
 use Rattle.vm_core.specs.Inv.Place.{Nowhere, Free}
 use Rattle.vm_core.proofs.Starting.{locks-none}
-use Rattle.vm_core.specs.Start.{Start, IsStart, start, begin, full_bundle, core_block, core_start}
+use Rattle.vm_core.specs.Start.{Start, IsStart, start, begin, evicted_page, full_bundle, core_block, core_start}
 
 start-free : (frames f : ℕ) → is_free (full_bundle frames) f ≡ at_free (cond (ltb f frames) Free Nowhere)
 unfolding is_free full_bundle
@@ -20,7 +20,7 @@ start-free frames f =
     (λ le. rw (le-ltb f frames le) (ne_eqb (bit_at (2 ^ min 64 (frames - 64 * (f / 64)) - 1) (f % 64)) 1 (λ q. let z : bit_at (2 ^ min 64 (frames - 64 * (f / 64)) - 1) (f % 64) ≡ 0 = bit_at_ones_above (min 64 (frames - 64 * (f / 64))) (f % 64) (omega arith) in omega arith)))
     (cases_lt f frames)
 
-start-frames : (s : Start) (f : ℕ) → FrameIsAt (start s) f (cond (ltb f s.shape.frames) Free Nowhere)
+pub start-frames : (s : Start) (f : ℕ) → FrameIsAt (start s) f (cond (ltb f s.shape.frames) Free Nowhere)
 start-frames s f =
     record {
       inside = λ lt. rw (lt-ltb f s.shape.frames lt) tt;
@@ -34,6 +34,26 @@ start-frames s f =
 numbers-long : (n x : ℕ) → length (replicate n x) ≡ n
 numbers-long n x = length-replicate n x
 
+-- an evicted page with one version, which its block has, and no lock
+pub evicted-inv : (actors : ℕ) (tells : Bool) (words : ℕ → List ℕ) (version : ℕ) (block w : List ℕ) (count : ℕ) → version ≤ MAX_VERSION → length w ≡ 64 → (tells ≡ true → block ≡ w)
+    → PageInv actors tells words (evicted_page version block count) (record { older = []; last = record { version = version; words = w }; draft = [] }) (λ a. [])
+evicted-inv actors tells words version block w count le long same =
+    record {
+      locks = locks-none actors version le;
+      stands = record { last = refl; resident = λ _ ne. absurd (ne refl); evicted = λ _. refl };
+      sizes = record { older = tt; last = long; draft = λ q. absurd (omega arith) };
+      contents = λ t. record {
+        clean = λ m e. cc;
+        logical = λ _ m e. cc;
+        draft = λ q. absurd (omega arith);
+        unwritten = λ q. absurd (omega arith);
+        device = λ _. same t;
+        size = ap length (same t) ∙ long;
+      };
+      faults = λ _ _. refl;
+      reads = λ a. record { old = λ o e. cc; evicted = λ _ o e. cc; current = λ _ ne. absurd (ne refl) };
+    }
+
 pub start_law : (s : Start) → IsStart s → Inv (begin s)
 start_law s ok =
     record {
@@ -41,21 +61,7 @@ start_law s ok =
       frames = start-frames s;
       words = λ f. numbers-long 64 0;
       next = ok.next;
-      pages = λ p. record {
-        locks = locks-none s.shape.actors s.first ok.first;
-        stands = record { last = refl; resident = λ _ ne. absurd (ne refl); evicted = λ _. refl };
-        sizes = record { older = tt; last = ok.blocks p; draft = λ q. absurd (omega arith) };
-        contents = λ _. record {
-          clean = λ m e. cc;
-          logical = λ _ m e. cc;
-          draft = λ q. absurd (omega arith);
-          unwritten = λ q. absurd (omega arith);
-          device = λ _. refl;
-          size = ok.blocks p;
-        };
-        faults = λ _ _. refl;
-        reads = λ a. record { old = λ o e. cc; evicted = λ _ o e. cc; current = λ _ ne. absurd (ne refl) };
-      };
+      pages = λ p. evicted-inv s.shape.actors s.tells (λ f. replicate 64 0) s.first (s.blocks p) (s.blocks p) (s.counts p) ok.first (ok.blocks p) (λ _. refl);
     }
 
 block-long : (next p : ℕ) → length (core_block next p) ≡ 64

@@ -1,12 +1,14 @@
--- What the steps on locks tell: an exclusive lock or a share that is tried, and a share that is given up. A step that expects a word
--- changes the view only where it found that word.
+-- What the steps on locks tell: an exclusive lock, a share or a lock for write-back that is tried, a share that is given up, and a lock for
+-- write-back that becomes exclusive. So do the steps on marks. A step that expects a word changes the view only where it found that word.
 use Rattle.std.specs.Prelude.{ℕ, Bool, true, false, Some, None, List, [], ◌≡◌, ◌≢◌, ◌+◌, ◌-◌, ◌^◌, ◌<◌, ◌≤◌, ◌==◌, ◌||◌, nat_lt, length, if◌then◌else◌, IsSome}
 use Rattle.vm_core.specs.declared.event.Mapping.{Mapping}
 use Rattle.vm_core.specs.declared.event.Open.{Open}
 use Rattle.vm_core.specs.declared.event.Seat.{Seat}
-use Rattle.vm_core.specs.Words.{state_of, version_of, word_of, LOCKED, EVICTED}
+use Rattle.vm_core.specs.Words.{state_of, version_of, word_of, UNLOCKED, LOCKED, MARKED, EVICTED, MAX_VERSION}
+use Rattle.vm_core.specs.FrameActs.{mapping_of}
 use Rattle.vm_core.specs.StateActs.{unshared, one_more}
 use Rattle.vm_core.specs.Inv.{LoadsAre}
+use Rattle.vm_laws_others.specs.Leaves.{stands_dirty}
 use Rattle.vm_owner.specs.Kept.{Start}
 use Rattle.vm_owner.specs.Numbers.{has}
 use Rattle.vm_rule.specs.declared.view.Held.{Held}
@@ -50,6 +52,14 @@ module _ {X : Type 0} where
         drafts = put p words v.drafts;
       }
 
+  -- the pass has no lock of page p, did not claim it for a group still to be released, and does not hold it as the next page
+  pub record IsUnheld (v : View X) (p : ℕ) : Type 0 where
+    pub exclusive : (seat_of v p).exclusive ≡ false
+    pub shares : (seat_of v p).shares ≡ 0
+    pub writing : (seat_of v p).writing ≡ false
+    pub paid : has p v.owed ≡ false
+    pub next : v.next ≢ Some p
+
   pub record LockTold (tied : Start → ℕ → List ℕ → ℕ → List ℕ → Type 0) (p expects found : ℕ) (v w : View X) : Type 0 where
     pub held : Held
     pub brings : Brings (did_exchange (places.State p) expects found (word_of LOCKED (version_of expects))) [] [] v (if found == expects then locked_view p held (last_of w p).words v else v) w
@@ -60,6 +70,9 @@ module _ {X : Type 0} where
     pub stands : found ≡ expects → IsHeldAt expects v.start.frames v.start.tells (last_of w p).words held
     -- a page that was not locked is no member still to be released
     pub free : found ≡ expects → has p v.pending ≡ false
+    pub unheld : found ≡ expects → IsUnheld v p
+    -- a page whose translation was loaded as clean while the pass read it at this version is clean
+    pub clean : found ≡ expects → state_of expects ≢ EVICTED → Each (λ t. t.page ≡ p → t.version ≡ version_of expects → stands_dirty held.mapping ≡ true → stands_dirty (mapping_of t.word) ≡ true) v.translations
     pub validates : v.start.tells ≡ true → found ≡ expects → Validates tied p (version_of expects) (last_of w p).words v
 
   -- the pass has one share of p more: the open read is closed, and it knows the page, if it did not yet
@@ -90,3 +103,62 @@ module _ {X : Type 0} where
     pub brings : Brings (did_change (places.State p) found (found - 2 ^ 56)) [] [] v (unshared_view p v) w
     pub version : (last_of w p).version ≡ version_of found
     pub shared : 1 ≤ state_of found
+
+  -- ---- marks
+
+  -- the mark was set or taken away, where the word was the one expected; the view is as it was
+  pub record MarkTold (p expects found new : ℕ) (v w : View X) : Type 0 where
+    pub brings : Brings (did_exchange (places.State p) expects found new) [] [] v v w
+    pub version : (last_of w p).version ≡ version_of found
+    pub since : IsSinceAll p found v.log
+    pub older : IsOlder found (seat_of v p).reading
+
+  -- ---- write-back
+
+  -- p is locked for write-back: the pass has its one share, the open read is closed, and it knows the page
+  abbrev pub write_locked_view : ℕ → Held → View X → View X
+  write_locked_view p h v =
+      record v {
+        seats = put p (record (seat_of v p) { shares = 1; writing = true; reading = None }) v.seats;
+        loads = put p [] v.loads;
+        held = put p h v.held;
+      }
+
+  pub record WriteLockTold (tied : Start → ℕ → List ℕ → ℕ → List ℕ → Type 0) (p expects found : ℕ) (v w : View X) : Type 0 where
+    pub held : Held
+    pub brings : Brings (did_exchange (places.State p) expects found (word_of 1 (version_of expects))) [] [] v (if found == expects then write_locked_view p held v else v) w
+    pub version : (last_of w p).version ≡ version_of found
+    pub since : IsSinceAll p found v.log
+    pub older : IsOlder found (seat_of v p).reading
+    pub size : length (last_of w p).words ≡ 64
+    pub stands : found ≡ expects → IsHeldAt expects v.start.frames v.start.tells (last_of w p).words held
+    -- nobody had the page locked
+    pub free : found ≡ expects → has p v.pending ≡ false
+    pub unheld : found ≡ expects → IsUnheld v p
+    pub validates : v.start.tells ≡ true → found ≡ expects → Validates tied p (version_of expects) (last_of w p).words v
+
+  -- the pass has p under write-back, with one share, which is the page's only one where it has the word expected
+  pub record MayRaiseLock (v : View X) (p expects : ℕ) : Type 0 where
+    pub state : state_of expects ≡ 1
+    pub below : version_of expects < MAX_VERSION
+    pub writes : (seat_of v p).writing ≡ true
+    pub one : (seat_of v p).shares ≡ 1
+
+  -- p is locked exclusively, and the pass has no share of it any more
+  abbrev pub upgraded_view : ℕ → List ℕ → View X → View X
+  upgraded_view p words v =
+      record v {
+        seats = put p (record { shares = 0; exclusive = true; writing = false; reading = None }) v.seats;
+        loads = put p [] v.loads;
+        drafts = put p words v.drafts;
+      }
+
+  pub record UpgradeTold (tied : Start → ℕ → List ℕ → ℕ → List ℕ → Type 0) (p expects found : ℕ) (v w : View X) : Type 0 where
+    pub brings : Brings (did_exchange (places.State p) expects found (word_of LOCKED (version_of expects))) [] [] v (if found == expects then upgraded_view p (last_of w p).words v else v) w
+    pub version : (last_of w p).version ≡ version_of found
+    pub since : IsSinceAll p found v.log
+    pub older : IsOlder found (seat_of v p).reading
+    pub size : length (last_of w p).words ≡ 64
+    pub free : found ≡ expects → has p v.pending ≡ false
+    pub paid : found ≡ expects → has p v.owed ≡ false
+    pub validates : v.start.tells ≡ true → found ≡ expects → Validates tied p (version_of expects) (last_of w p).words v

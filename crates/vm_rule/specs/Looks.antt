@@ -1,9 +1,9 @@
 -- What a look tells: the view after it, and what a validated read saw.
-use Rattle.std.specs.Prelude.{ℕ, true, false, ◌<◌, ◌≤◌, Option, Some, None, List, [], ◌∷◌, ◌++◌, ◌≡◌, ◌==◌, zero, suc, length, if◌then◌else◌}
+use Rattle.std.specs.Prelude.{ℕ, true, false, ◌⊎◌, ◌<◌, ◌≤◌, Option, Some, None, List, [], ◌∷◌, ◌++◌, ◌≡◌, ◌==◌, zero, suc, length, if◌then◌else◌}
 use Rattle.vm_core.specs.declared.event.Open.{Open}
 use Rattle.vm_core.specs.declared.event.ReadIs.{ReadIs}
 use Rattle.vm_core.specs.declared.event.ReadIs.TheVariants.{Opened, Same, Moved, Closed}
-use Rattle.vm_core.specs.Words.{state_of, version_of, EVICTED}
+use Rattle.vm_core.specs.Words.{state_of, version_of, UNLOCKED, MARKED, EVICTED}
 use Rattle.vm_core.specs.StateActs.{is_readable, left_open, open_after}
 use Rattle.vm_core.specs.FrameActs.{mapping_of, frame_of, open_frame}
 use Rattle.vm_core.specs.History.{kept_loads}
@@ -15,7 +15,7 @@ use Rattle.vm_rule.specs.declared.view.Tie.{Tie}
 use Rattle.vm_rule.specs.declared.view.View.{View}
 use Rattle.vm_rule.specs.Puts.{put}
 use Rattle.vm_rule.specs.Layout.{at_state}
-use Rattle.vm_rule.specs.Views.{Each, seat_of, loads_at}
+use Rattle.vm_rule.specs.Views.{Each, IsWhole, seat_of, loads_at}
 use Rattle.vm_rule.specs.Reading.{last_of}
 use Rattle.vm_rule.specs.Rule.{began_of}
 use Rattle.vm_rule.specs.Brought.{entries_of, Brings}
@@ -92,3 +92,5 @@ module _ {X : Type 0} where
     pub frames : left_at found (seat_of v p).reading ≡ Same → Each (λ t. t.page ≡ p → t.version ≡ version_of found → NamesFrame v.start.frames t.word (seat_of v p).reading) v.translations
     pub since : IsSinceAll p found v.log
     pub older : IsOlder found (seat_of v p).reading
+    -- beside a pass with all parts, which has no lock of the page, nobody has one
+    pub unlocked : IsWhole v → (seat_of v p).exclusive ≡ false → (seat_of v p).shares ≡ 0 → (state_of found ≡ UNLOCKED) ⊎ ((state_of found ≡ MARKED) ⊎ (state_of found ≡ EVICTED))

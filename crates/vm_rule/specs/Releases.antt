@@ -1,5 +1,7 @@
--- What a release tells: the draft is the next version. The first release of a group makes the drafts of all its members logical.
-use Rattle.std.specs.Prelude.{ℕ, false, Option, Some, None, List, [], ◌∷◌, ◌++◌, ◌+◌, ◌==◌, if◌then◌else◌}
+-- What a release tells: the draft is the next version. The first release of a group makes the drafts of all its members logical. A page that
+-- is not resident is released as evicted.
+use Rattle.std.specs.Prelude.{ℕ, true, false, Option, Some, None, List, [], ◌∷◌, ◌++◌, ◌≡◌, ◌+◌, ◌==◌, if◌then◌else◌}
+use Rattle.vm_core.specs.Words.{word_of, EVICTED}
 use Rattle.vm_owner.specs.Kept.{Change}
 use Rattle.vm_owner.specs.Numbers.{has, without}
 use Rattle.vm_rule.specs.declared.view.Place.TheVariants as places
@@ -42,3 +44,12 @@ module _ {X : Type 0} where
 
   pub record ReleaseTold (p version : ℕ) (rest : List ℕ) (said : Option X) (v w : View X) : Type 0 where
     pub brings : Brings (did_store (places.State p) (version + 1)) (record { page = p; version = version + 1; words = draft_of v p } ∷ []) (entries_of v said) v (released_view p rest said v) w
+
+  -- p, which is not resident, is released as evicted
+  abbrev pub evicted_view : ℕ → View X → View X
+  evicted_view p v = record v { seats = put p (record (seat_of v p) { exclusive = false }) v.seats; next = next_after p v.next }
+
+  -- its words are those that it had
+  pub record EvictTold (p version : ℕ) (v w : View X) : Type 0 where
+    pub brings : Brings (did_store (places.State p) (word_of EVICTED (version + 1))) (record { page = p; version = version + 1; words = draft_of v p } ∷ []) [] v (evicted_view p v) w
+    pub same : v.start.tells ≡ true → draft_of v p ≡ (last_of v p).words

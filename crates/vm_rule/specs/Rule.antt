@@ -11,6 +11,7 @@ use Rattle.vm_core.specs.State.{Page}
 use Rattle.vm_core.specs.FrameActs.{frame_of, mapping_of, trans_word}
 use Rattle.vm_core.specs.History.{History, World}
 use Rattle.vm_core.specs.Inv.{Inv}
+use Rattle.vm_laws_others.specs.Leaves.{stands_dirty}
 use Rattle.vm_owner.specs.declared.Entry.{Entry}
 use Rattle.vm_owner.specs.Kept.{Start, Kept}
 use Rattle.vm_owner.specs.Numbers.{has}
@@ -53,11 +54,13 @@ pub record KnowsPage (seat : Seat) (h : Held) (r : Page) : Type 0 where
   pub calls : may_call seat ≡ true → (h.mapping ≡ r.trans) × (h.fault ≡ r.fault) × (h.block.words ≡ r.block) × (h.block.count ≡ r.count)
   pub shares : 1 ≤ seat.shares → frame_of h.mapping ≡ frame_of r.trans
 
--- the word that was loaded names the page's frame, as long as the page has the version of the read and is neither locked nor evicted
+-- the word that was loaded names the page's frame, as long as the page has the version of the read and is neither locked nor evicted; a page
+-- that it says to be clean stays clean so long
 abbrev pub TranslationHolds : (ℕ → Page) → Translation → Type 0
 TranslationHolds pages t =
     (t.version ≤ (pages t.page).version)
     × (t.version ≡ (pages t.page).version → (pages t.page).state ≢ LOCKED → (pages t.page).state ≢ EVICTED → frame_of (mapping_of t.word) ≡ frame_of (pages t.page).trans)
+    × (t.version ≡ (pages t.page).version → (pages t.page).state ≢ LOCKED → (pages t.page).state ≢ EVICTED → stands_dirty (pages t.page).trans ≡ true → stands_dirty (mapping_of t.word) ≡ true)
 
 -- the word was the page's once: the page's version is no lower; where the word said that it can't be read, it can't be at that version; and
 -- at that version it is evicted only where the word said so

@@ -1,5 +1,5 @@
--- What a store into a page's frame tells.
-use Rattle.std.specs.Prelude.{ℕ, true, false, Some, [], ◌≡◌, slice_set}
+-- What a store tells: into the frame of a page that the pass holds exclusively, or into a frame of its own.
+use Rattle.std.specs.Prelude.{ℕ, true, false, Some, [], ◌≡◌, ◌⊎◌, length, slice_set}
 use Rattle.vm_owner.specs.Numbers.{has}
 use Rattle.vm_rule.specs.declared.view.Place.TheVariants as places
 use Rattle.vm_rule.specs.declared.view.View.{View}
@@ -22,3 +22,19 @@ module _ {X : Type 0} where
 
   pub record StoreTold (p f i x : ℕ) (v w : View X) : Type 0 where
     pub brings : Brings (did_store (places.Content f i) x) [] [] v (drafted_view p i x v) w
+
+  -- a word of a free frame of the pass
+  abbrev pub filled_view : ℕ → ℕ → ℕ → View X → View X
+  filled_view f i x v = record v { contents = put f (slice_set (put_at [] v.contents f) i x) v.contents }
+
+  pub record FillTold (f i x : ℕ) (v w : View X) : Type 0 where
+    pub brings : Brings (did_store (places.Content f i) x) [] [] v (filled_view f i x v) w
+    pub size : length (put_at [] v.contents f) ≡ 64
+
+  -- the frame is the pass's own, or a page's whose draft stands in it
+  abbrev pub MayStore : View X → ℕ → Type 0
+  MayStore v f = (has f v.frames ≡ true) ⊎ ((p : ℕ) × Drafts v p f)
+
+  pub record StoresTold (f i x : ℕ) (v w : View X) : Type 0 where
+    pub own : has f v.frames ≡ true → FillTold f i x v w
+    pub page : (p : ℕ) → Drafts v p f → StoreTold p f i x v w

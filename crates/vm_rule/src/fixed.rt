@@ -1,35 +1,24 @@
 //! The first maker of a table: every page stands in a frame of its own, and none is free.
 
-ghost use Rattle.std.specs.Prelude.{◌≡◌, ℕ, ◌<◌, ◌≤◌, length, map, true, IfOk, []};
+ghost use Rattle.std.specs.Prelude.{◌≡◌, ◌≤◌, ◌++◌, length, map, true, IfOk};
 ghost use Rattle.vm_rule.specs.declared.began.Began.{Began};
 ghost use Rattle.vm_rule.specs.Begun.{begun, unborn};
-ghost use Rattle.vm_rule.specs.Fixed.{IsFixed, MayBegin, counts_of, fixed_shape, fixed_words};
+ghost use Rattle.vm_rule.specs.Fixed.{IsFixed, MayBegin, counts_of, dirty_word, fixed_shape, fixed_words, flat};
+ghost use Rattle.vm_rule.specs.Puts.{listed};
 ghost use Rattle.vm_rule.specs.Views.{Each, view_of};
 
-mod opening;
-
 use crate::began::Began;
-use crate::view::{Shape, View};
-use crate::words::{Law, Pass, Words};
-use atomic_table::{Play, Seat, Table};
-use opening::{opening_words, slots_of};
-use std::alloc::Global;
-use std::marker::PhantomData;
+use crate::opening::{opened, push_faults, push_same, slots_of};
+use crate::view::Shape;
+use crate::words::{Pass, Words};
+use std::alloc::{AllocError, Global};
 use vm_block::Block;
 use vm_core::Memory;
 use vm_owner::Owner;
-use vm_page::PageBuf;
+use vm_page::{PageBuf, WORDS};
 
-/// What the load of the first state word tells.
-pub(crate) struct Begin<U> {
-    marker: PhantomData<U>,
-}
-
-impl<S, U: Owner> Play<S, View<U::Said>> for Begin<U> {
-    ghost use Rattle.vm_rule.specs.Begun.{begin_play};
-
-    ghost then = { begin_play };
-}
+/// The dirty bit of a translation word.
+const DIRTY: u64 = 1 << 63;
 
 impl<U: Owner, B: Block + Drop> Words<U, B> {
     /// A table of these pages, each with its block, and its first pass, which has all parts.
@@ -53,19 +42,7 @@ impl<U: Owner, B: Block + Drop> Words<U, B> {
         let words = opening_words(alloc, pages, blocks.as_slice(), next, version)?;
         let shape = shape_of(pages, blocks.as_slice(), next, version);
         let slots = slots_of(alloc, blocks)?;
-        let Ok((table, mut seat)) = Table::new(alloc, words.as_slice(), slots, &shape) else {
-            return Err(Memory);
-        };
-        first_step(&table, &mut seat);
-        let words = Words {
-            table,
-            pages: pages.len(),
-            frames: pages.len(),
-        };
-        let pass = Pass {
-            badge: seat.into_badge(),
-        };
-        Ok((words, pass))
+        opened(alloc, words.as_slice(), slots, &shape)
     }
 }
 
@@ -83,15 +60,62 @@ pub(crate) fn shape_of<B: Block>(pages: &[PageBuf], _blocks: &[B], next: u32, ve
     }
 }
 
-/// The first step of the first pass.
-pub(crate) fn first_step<U: Owner, B: Block>(
-    table: &Table<Option<B>, View<U::Said>, Shape, Law<U, B>, Global>,
-    seat: &mut Seat<Option<B>, View<U::Said>>,
-)
-    requires table { (seat.old.table_id ≡ table.now.shared.table_id) × (0 < table.now.shared.table_id.words) × (1 ≤ table.now.shared.key.pages) }
-    requires seat { seat.old.me ≡ (unborn table.now.shared.key, []) }
-    ensures table { seat.new.table_id ≡ seat.old.table_id }
-    ensures seat { seat.new.me ≡ (begun (unborn table.now.shared.key), []) }
+/// The words of the table, by its layout.
+pub(crate) fn opening_words<B: Block>(
+    alloc: Global,
+    pages: &[PageBuf],
+    blocks: &[B],
+    next: u32,
+    version: u64,
+) -> Result<Vec<u64>, AllocError>
+    requires few { length pages.now ≤ 65536 }
+    requires blocks { length blocks.now ≤ 65536 }
+    ensures words { IfOk result (λ words. words.items ≡ fixed_words version next pages.now (counts_of (map B.stored blocks.now))) }
+    ensures long { IfOk result (λ _. Each (λ words. length words ≡ 64) pages.now) }
 {
-    table.shared.load::<Begin<U>>(seat, 0);
+    let count = pages.len();
+    let bundles = (count + 63) / 64;
+    let mut words = Vec::with_capacity(alloc, (3 + WORDS) * count + bundles + 2)?;
+    push_same(&mut words, count, version)?;
+    push_translations(&mut words, count)?;
+    push_faults(&mut words, blocks)?;
+    push_pages(&mut words, pages)?;
+    push_same(&mut words, bundles, 0)?;
+    words.push(next as u64)?;
+    words.push(0)?;
+    Ok(words)
+}
+
+/// Page `p` stands, dirty, in frame `p`.
+fn push_translations(words: &mut Vec<u64>, count: usize) -> Result<(), AllocError>
+    requires { count ≤ 65536 }
+    ensures { IfOk result (λ _. words.new.items ≡ words.old.items ++ listed count dirty_word) }
+{
+    for p in 0..count {
+        words.push(p as u64 + 1 + DIRTY)?;
+    }
+    Ok(())
+}
+
+/// The words of the pages, one page after another.
+fn push_pages(words: &mut Vec<u64>, pages: &[PageBuf]) -> Result<(), AllocError>
+    ensures words { IfOk result (λ _. words.new.items ≡ words.old.items ++ flat pages.now) }
+    ensures long { IfOk result (λ _. Each (λ page. length page ≡ 64) pages.now) }
+{
+    for page in pages {
+        push_page(words, page)?;
+    }
+    Ok(())
+}
+
+fn push_page(words: &mut Vec<u64>, page: &PageBuf) -> Result<(), AllocError>
+    ensures words { IfOk result (λ _. words.new.items ≡ words.old.items ++ page.now) }
+    ensures long { length page.now ≡ 64 }
+{
+    // A page has 64 words.
+    let _ = page.get(0);
+    for i in 0..WORDS {
+        words.push(page.get(i))?;
+    }
+    Ok(())
 }

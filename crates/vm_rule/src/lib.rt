@@ -16,6 +16,8 @@ ghost use Rattle.vm_rule.specs.Kept.{Kept, KeptFault, KeptFrom};
 
 pub mod began;
 mod fixed;
+mod opening;
+mod started;
 #[cfg(test)]
 mod tests;
 pub mod view;

@@ -82,3 +82,28 @@ fn a_table_of_resident_pages_has_its_words_by_the_layout(rt: HostRuntime) -> Res
     assert_eq!(rt; table.peek(136), 0);
     Ok(())
 }
+
+/// The state word of an evicted page at version 7.
+const EVICTED_AT_7: u64 = 0xff00_0000_0000_0007;
+
+#[test]
+fn a_started_table_has_its_words_by_the_layout(rt: HostRuntime) -> Result<(), Fail> {
+    let alloc = rt.alloc();
+    let mut blocks = Vec::new(alloc);
+    blocks.push(MemBlock::new(alloc, PageBuf::zero(), &[])?)?;
+    blocks.push(MemBlock::new(alloc, PageBuf::zero(), &[])?)?;
+    let (words, _pass) = Words::<Bare, MemBlock>::started(alloc, 67, 1, 7, blocks)?;
+    let table = &words.table.shared;
+    // Two state words, two translations, two fault words, 4288 words of frames, two bundles, the next word, the hand.
+    assert_eq!(rt; words.table.word_count(), 4298);
+    assert_eq!(rt; table.peek(0), EVICTED_AT_7);
+    assert_eq!(rt; table.peek(1), EVICTED_AT_7);
+    assert_eq!(rt; table.peek(3), 0);
+    assert_eq!(rt; table.peek(5), 0);
+    assert_eq!(rt; table.peek(4293), 0);
+    assert_eq!(rt; table.peek(4294), u64::MAX);
+    assert_eq!(rt; table.peek(4295), 7);
+    assert_eq!(rt; table.peek(4296), 1);
+    assert_eq!(rt; table.peek(4297), 0);
+    Ok(())
+}

@@ -4,7 +4,7 @@ ghost use Rattle.vm_rule.specs.Layout.{width_of};
 ghost use Rattle.vm_rule.specs.Views.{view_of};
 
 use crate::view::{Shape, View};
-use atomic_table::{Badge, Table, TableRule};
+use atomic_table::{Badge, Closed, Table, TableRule};
 use std::alloc::Global;
 use std::marker::PhantomData;
 use vm_block::Block;
@@ -38,6 +38,35 @@ pub struct Pass<U: Owner> {
     pub ghost one: { length badge.views ≡ 1 },
     pub ghost live: { (view_of badge.views).live ≡ true },
     pub ghost settled: { ((view_of badge.views).told_releases ≡ []) × ((view_of badge.views).told ≡ []) },
+}
+
+impl<U: Owner, B: Block> Words<U, B> {
+    ghost use Rattle.std.specs.Mem.Slots.{IsFull, slots_items, slots_len};
+    ghost use Rattle.atomic_table.specs.Table.{Final, Seen};
+    ghost use Rattle.vm_rule.specs.Begun.{Stands};
+
+    /// Ends the table: its words and its slots, as the last state that met the rule has them, in which this pass has its view.
+    pub fn close_with(self, pass: Pass<U>) -> Closed<Option<B>, Global>
+        requires { pass.badge.table_id ≡ self.table.shared.table_id }
+        ensures counts { (slots_len result.words ≡ width_of self.pages self.frames) × (slots_len result.slots ≡ self.pages) }
+        ensures values { IsFull result.words × IsFull result.slots × Final (Seen (Stands B.stored U.keeps U.tied self.table.shared.key B.tells) pass.badge.id (view_of pass.badge.views)) (slots_items result.words) (slots_items result.slots) }
+    {
+        let Words {
+            table,
+            pages: _,
+            frames: _,
+        } = self;
+        table.close_with(pass.into_badge().into_seat())
+    }
+}
+
+impl<U: Owner> Pass<U> {
+    fn into_badge(self) -> Badge<View<U::Said>>
+        ensures { result ≡ self.badge }
+    {
+        let Pass { badge } = self;
+        badge
+    }
 }
 
 // A table that is let go drops the blocks that are at home.

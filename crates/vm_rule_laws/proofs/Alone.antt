@@ -12,6 +12,7 @@ use Rattle.vm_rule.specs.declared.view.View.{View}
 use Rattle.vm_rule.specs.Views.{times, owns, spent}
 use Rattle.vm_rule.specs.Reading.{world_of}
 use Rattle.vm_rule.specs.Rule.{is_pending, HoldsNothing, KnowsPages, Ruled}
+use Rattle.vm_rule.proofs.Beside.{no-times, more-left, more-right}
 use Rattle.vm_rule.proofs.Entries.{not-whole}
 use Rattle.vm_rule_laws.specs.Alone.{HasNothing}
 use Rattle.vm_rule_laws.specs.Known.{IsWholePass}
@@ -20,16 +21,6 @@ use Rattle.vm_rule_laws.specs.Known.{IsWholePass}
 no-number : (l : List ℕ) → ((n : ℕ) → has n l ≡ true → ⊥) → l ≡ []
 no-number [] none = refl
 no-number (n ∷ ns) none = absurd (none n (rw (eq-eqb n n refl) refl))
-
-no-times : (l : List ℕ) → ((n : ℕ) → 1 ≤ times n l → ⊥) → l ≡ []
-no-times [] none = refl
-no-times (n ∷ ns) none = absurd (none n (rw (eq-eqb n n refl) (omega arith)))
-
-more-left : (a b : ℕ) → 1 ≤ a → 1 ≤ a + b
-more-left a b l = omega arith
-
-more-right : (a b : ℕ) → 1 ≤ b → 1 ≤ a + b
-more-right a b l = omega arith
 
 module _ {X B : Type 0} (stored : B → Stored) (keeps : Start → Kept X → Type 0) (tied : Start → ℕ → List ℕ → ℕ → List ℕ → Type 0) (start : Origin) (tells : Bool) (s : Table (Option B) (View X)) (r : Ruled stored keeps tied start tells s) where
   -- a live pass without a part has nothing

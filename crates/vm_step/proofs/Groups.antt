@@ -23,7 +23,7 @@ has-end l k q ne = has-both q l (k ∷ []) ∙ rw (ne_eqb q k ne) (or-none (has 
     or-none true = refl
     or-none false = refl
 
-apart-end : (l : List ℕ) (k : ℕ) → AreApart l → has k l ≡ false → AreApart (l ++ k ∷ [])
+pub apart-end : (l : List ℕ) (k : ℕ) → AreApart l → has k l ≡ false → AreApart (l ++ k ∷ [])
 apart-end [] k apart none = (refl, tt)
 apart-end (q ∷ qs) k apart none =
     let ne : q ≢ k = grind (arith, nat_tests, none) in

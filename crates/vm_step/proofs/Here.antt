@@ -150,13 +150,12 @@ module _ {X B : Type 0} (stored : B → Stored) (keeps : Start → Kept X → Ty
           (tied-now stored keeps tied start tells s r law t p p l l stays stays)
 
       -- a lock that is taken on the word validates the open read and the ties
-      pub validates : (p expects : ℕ) → p < start.pages → slice_index s.words p ≡ expects → (world.core.pages p).state ≢ LOCKED → v.start.tells ≡ true → Validates tied p (version_of expects) (last_in v.start (r.releases ++ []) p).words v
+      pub validates : (p expects : ℕ) → p < start.pages → slice_index s.words p ≡ expects → (world.core.pages p).state ≢ LOCKED → v.start.tells ≡ true → Validates tied p (version_of expects) (last p).words v
       validates p expects l hit free t' =
           let t : start.tells ≡ true = ap (λ (o : Origin). o.tells) (sym (r.heard id v there live).same_start) ∙ t' in
           let at : (world.core.pages p).version ≡ version_of expects = version-here stored start s p l ∙ ap version_of hit in
-          subst (λ (x : Version). Validates tied p (version_of expects) x.words v) (sym (last-told p))
-          (record {
+          record {
             valid = λ o e n. read-valid p l t free o e (n ∙ sym at);
             holds = each-map _ _ (λ d h e n. h e (n ∙ sym at)) v.ties (ties-hold p l t free);
             itself = tied-itself p l t free;
-          })
+          }

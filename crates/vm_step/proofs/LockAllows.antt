@@ -1,6 +1,5 @@
 -- An exclusive lock that is tried: what it tells, and that it keeps the rule.
-use Rattle.std.proofs.Common.{ℕ, ◌≡◌, ◌<◌, ◌≤◌, Bool, List, [], ◌++◌, length, refl, sym, ap, subst, ◌∙◌, arith, ⊎_elim, slice_index, true, false, true≢false, Option, eqb}
-use Rattle.std.proofs.lemmas.Bool.{cases_Bool, cases_eq}
+use Rattle.std.proofs.Common.{ℕ, ◌≡◌, ◌≢◌, ◌<◌, Bool, List, [], length, refl, sym, ap, subst, ◌∙◌, slice_index, true, Option, eqb, if◌then◌else◌}
 use mathlib.Core.Option as maybe
 use mathlib.Core.Option.{some}
 use lib.ListN.{get_elem?}
@@ -8,122 +7,72 @@ use prog.Atomic.{either}
 use Rattle.atomic_table.specs.Table.{State as Table, Me, step, Allows}
 use Rattle.vm_page.specs.Pages.{page_at}
 use Rattle.vm_core.specs.declared.event.Event.TheVariants.{LockX}
-use Rattle.vm_core.specs.Fn.{sum_below}
 use Rattle.vm_core.specs.Words.{state_of, version_of, word_of, LOCKED}
-use Rattle.vm_core.specs.State.{Page}
 use Rattle.vm_core.specs.StateActs.{MayLock}
 use Rattle.vm_core.specs.History.{Version}
-use Rattle.vm_core.proofs.Locks.{sum_below-at, shared-state}
-use Rattle.vm_core.proofs.PageFacts.{block-is_last}
+use Rattle.vm_core.specs.Inv.{share_count}
 use Rattle.vm_owner.specs.Kept.{Start, Kept}
-use Rattle.vm_owner.specs.Numbers.{has}
 use Rattle.vm_block.specs.declared.stored.Stored.{Stored}
+use Rattle.vm_rule.specs.declared.view.Held.{Held}
 use Rattle.vm_rule.specs.declared.view.Origin.{Origin}
+use Rattle.vm_rule.specs.declared.view.Place.TheVariants as places
 use Rattle.vm_rule.specs.declared.view.Shape.{Shape}
 use Rattle.vm_rule.specs.declared.view.View.{View}
-use Rattle.vm_rule.specs.Reading.{last_in}
-use Rattle.vm_rule.specs.Rule.{no_held, Ruled}
+use Rattle.vm_laws_others.specs.Leaves.{stands_dirty}
+use Rattle.vm_rule.specs.Rule.{Ruled, TranslationHolds}
+use Rattle.vm_rule.proofs.Entries.{each-map}
 use Rattle.vm_rule.specs.Begun.{Stands}
+use Rattle.vm_rule.specs.Brought.{Brings}
 use Rattle.vm_rule.specs.Locks.{IsHeldAt, LockTold, locked_view}
-use Rattle.vm_rule.proofs.Found.{state-here, block-here}
-use Rattle.vm_rule.proofs.Worlds.{lost-lockx}
+use Rattle.vm_rule.specs.Log.{did_exchange}
+use Rattle.vm_rule.proofs.Found.{state-here, version-here}
 use Rattle.vm_rule.proofs.Adding.{became}
 use Rattle.vm_step.specs.Plays.{lock_play}
-use Rattle.vm_step.proofs.Here.{world, last-told, version-told, size-told, since, older, validates, frame-inside}
-use Rattle.vm_rule.proofs.Facts.{any-here}
-use Rattle.vm_step.proofs.Logical.{not-pending}
-use Rattle.vm_step.proofs.Standing.{plays-any}
-use Rattle.vm_step.proofs.StateWord.{names, missing}
-use Rattle.vm_step.proofs.Locking.{page_held, free, lock-shows}
-use Rattle.vm_step.proofs.Exchange.{exchanged, taken, lost}
+use Rattle.vm_step.proofs.Here.{world, last}
+use Rattle.vm_step.proofs.TakenShows.{opened}
+use Rattle.vm_step.proofs.Unlocked.{page_held, free-member, free-unheld, held-at}
+use Rattle.vm_step.proofs.Locking.{lockable, locked_inner, lock-is, lock-shows}
+use Rattle.vm_step.proofs.Exchange.{exchanged, tried, tried-validates, exchange_allows}
 
-module _ {X B : Type 0} (stored : B → Stored) (keeps : Start → Kept X → Type 0) (tied : Start → ℕ → List ℕ → ℕ → List ℕ → Type 0) (start : Origin) (tells : Bool) where
-  module _ (s : Table (Option B) (View X)) (r : Ruled stored keeps tied start tells s) where
-    module _ (id : ℕ) (v : View X) (there : get_elem? s.views id ≡ some v) (live : v.live ≡ true) (p expects : ℕ) (l : p < start.pages) (may : MayLock expects) where
-      -- nobody writes back a page that may be locked, so its fault word is its block's count
-      fault-told : slice_index s.words p ≡ expects → ((world stored keeps tied start tells s r).core.pages p).fault ≡ ((world stored keeps tied start tells s r).core.pages p).count
-      fault-told hit =
-          let y : Page = (world stored keeps tied start tells s r).core.pages p in
-          let locks = (r.inv.pages p).locks in
-          let state : y.state ≡ state_of expects = state-here stored start s p l ∙ ap state_of hit in
-          (r.inv.pages p).faults (free stored keeps tied start tells s r id v there live p expects l may hit)
-          (λ a. ⊎_elim
-          (λ t.
-          let w = locks.writer a t in
-          let some' : 1 ≤ sum_below (length s.views) (λ b. (y.seats b).shares) = (let below : (y.seats a).shares ≤ sum_below (length s.views) (λ b. (y.seats b).shares) = sum_below-at (length s.views) (λ b. (y.seats b).shares) a w.1 in let one : 1 ≤ (y.seats a).shares = w.0 in omega (arith, below, one)) in
-          let shared : (1 ≤ y.state) × (y.state < LOCKED) = shared-state y.state (sum_below (length s.views) (λ b. (y.seats b).shares)) some' locks.shares in
-          absurd (⊎_elim
-          (λ (q : state_of expects ≡ 0). omega (arith, q, state, shared.0))
-          (λ k. ⊎_elim (λ (q : state_of expects ≡ 254). omega (arith, q, state, shared.1)) (λ (q : state_of expects ≡ 255). omega (arith, q, state, shared.1)) k)
-          may.state))
-          (λ f. f)
-          (cases_Bool (y.seats a).writing))
+module _ {X B : Type 0} (stored : B → Stored) (keeps : Start → Kept X → Type 0) (tied : Start → ℕ → List ℕ → ℕ → List ℕ → Type 0) (start : Origin) (tells : Bool)
+    (law : (start : Start) (kept : Kept X) (q p : ℕ) → keeps start kept → q < length kept.pages → p < length kept.pages → tied start q (page_at kept.pages q) p (page_at kept.pages p)) where
+  module _ (s : Table (Option B) (View X)) (r : Ruled stored keeps tied start tells s) (id : ℕ) (v : View X) (there : get_elem? s.views id ≡ some v) (live : v.live ≡ true) (p expects : ℕ) (l : p < start.pages) (may : MayLock expects) (number : 0 < length v.used) where
+    found-state : slice_index s.words p ≡ expects → ((world stored keeps tied start tells s r).core.pages p).state ≡ state_of expects
+    found-state hit = state-here stored start s p l ∙ ap state_of hit
 
-      free-of : slice_index s.words p ≡ expects → has p v.pending ≡ false
-      free-of hit =
-          ⊎_elim
-          (λ t. absurd (true≢false (sym (any-here (λ (y : View X). has p y.pending) s.views id v there t) ∙ not-pending stored keeps tied start tells s r p l (free stored keeps tied start tells s r id v there live p expects l may hit))))
-          (λ f. f)
-          (cases_Bool (has p v.pending))
+    free : slice_index s.words p ≡ expects → ((world stored keeps tied start tells s r).core.pages p).state ≢ LOCKED
+    free hit e = (lockable expects may).0 (sym (found-state hit) ∙ e)
 
-      held-at : slice_index s.words p ≡ expects → IsHeldAt expects v.start.frames v.start.tells (last_in v.start (r.releases ++ []) p).words (page_held stored keeps tied start tells s r p)
-      held-at hit =
-          let y : Page = (world stored keeps tied start tells s r).core.pages p in
-          let state : y.state ≡ state_of expects = state-here stored start s p l ∙ ap state_of hit in
-          let unlocked = free stored keeps tied start tells s r id v there live p expects l may hit in
-          let block = block-here stored start s p l in
-          subst (λ (o : Origin). IsHeldAt expects o.frames o.tells (last_in v.start (r.releases ++ []) p).words (page_held stored keeps tied start tells s r p)) (sym (r.heard id v there live).same_start)
-          (record {
-            empty = λ e. (r.inv.pages p).stands.evicted (state ∙ e);
-            resident = λ ne. (r.inv.pages p).stands.resident unlocked (λ e. ne (sym state ∙ e));
-            inside = frame-inside stored keeps tied start tells s r p;
-            told = fault-told hit ∙ block.1;
-            device = λ t clean.
-                sym block.0
-                ∙ block-is_last (r.inv.pages p).stands ((r.inv.pages p).contents t) unlocked clean
-                ∙ ap (λ (x : Version). x.words) (sym (last-told stored keeps tied start tells s r id v there live p));
-          })
-
-      module _ (law : (start : Start) (kept : Kept X) (q p : ℕ) → keeps start kept → q < length kept.pages → p < length kept.pages → tied start q (page_at kept.pages q) p (page_at kept.pages p)) (number : 0 < length v.used) where
-        -- taken or lost, it keeps the rule and tells what it is to tell
-        lock-tells : (w : View X) × Ruled stored keeps tied start tells (became stored keeps tied start tells s (exchanged stored keeps tied start tells s r id v there live number p expects (word_of LOCKED (version_of expects)) l) id w) × LockTold tied p expects (slice_index s.words p) v w
-        lock-tells =
-            ⊎_elim
-            (λ hit.
-            let k = taken stored keeps tied start tells s r id v there live number p expects (word_of LOCKED (version_of expects)) l _ _ (LockX id p expects) hit refl (lock-shows stored keeps tied start tells s r id v there live p expects l may hit) in (
-              _,
-              k.0,
-              record {
-                held = page_held stored keeps tied start tells s r p;
-                brings = k.1;
-                version = version-told stored keeps tied start tells s r id v there live p l;
-                since = since stored keeps tied start tells s r id v there live p l;
-                older = older stored keeps tied start tells s r id v there live p l;
-                size = size-told stored keeps tied start tells s r id v there live p;
-                stands = held-at;
-                free = free-of;
-                validates = λ t h. validates stored keeps tied start tells s r id v there live law p expects l h (free stored keeps tied start tells s r id v there live p expects l may h) t;
-              },
-            ))
-            (λ miss.
-            let k = lost stored keeps tied start tells s r id v there live number p expects (word_of LOCKED (version_of expects)) l (locked_view p no_held (last_in v.start (r.releases ++ []) p).words v) (LockX id p expects) miss refl
-            (names stored keeps tied start tells s r id v there p l, may)
-            (lost-lockx (world stored keeps tied start tells s r) id p expects (missing stored keeps tied start tells s r id v there p expects l miss)) in (
-              _,
-              k.0,
-              record {
-                held = no_held;
-                brings = k.1;
-                version = version-told stored keeps tied start tells s r id v there live p l;
-                since = since stored keeps tied start tells s r id v there live p l;
-                older = older stored keeps tied start tells s r id v there live p l;
-                size = size-told stored keeps tied start tells s r id v there live p;
-                stands = λ h. absurd (miss h);
-                free = λ h. absurd (miss h);
-                validates = λ t h. absurd (miss h);
-              },
-            ))
-            (cases_eq (slice_index s.words p) expects)
+    -- taken or lost, it keeps the rule and tells what it is to tell
+    pub lock-tells : (w : View X) × Ruled stored keeps tied start tells (became stored keeps tied start tells s (exchanged stored keeps tied start tells s r id v there live number p expects (word_of LOCKED (version_of expects)) l) id w) × LockTold tied p expects (slice_index s.words p) v w
+    lock-tells =
+        let held : Held = page_held stored keeps tied start tells s r p in
+        let k = tried stored keeps tied start tells s r id v there live number p expects (word_of LOCKED (version_of expects)) l (opened stored keeps tied start tells s r p) (locked_inner stored keeps tied start tells s r id v there live p expects l may) (LockX id p expects) _ refl
+        (lock-is stored keeps tied start tells s r id v there live p expects l may)
+        (λ hit. lock-shows stored keeps tied start tells s r id v there live p expects l may hit (free hit)) in (
+          k.0,
+          k.1.rule,
+          record {
+            held = held;
+            brings = subst (λ (y : Version). Brings (did_exchange (places.State p) expects (slice_index s.words p) (word_of LOCKED (version_of expects))) [] [] v (if eqb (slice_index s.words p) expects then locked_view p held y.words v else v) k.0) (sym k.1.last) k.1.brings;
+            version = k.1.version;
+            since = k.1.since;
+            older = k.1.older;
+            size = k.1.size;
+            stands = λ hit. subst (λ (y : Version). IsHeldAt expects v.start.frames v.start.tells y.words held) (sym k.1.last)
+                (held-at stored keeps tied start tells s r id v there p l (free hit) (ap share_count (found-state hit) ∙ (lockable expects may).1) live expects hit);
+            free = λ hit. free-member stored keeps tied start tells s r id v there p l (free hit);
+            unheld = λ hit. free-unheld stored keeps tied start tells s r id v there p l (free hit) (ap share_count (found-state hit) ∙ (lockable expects may).1) live;
+            clean = λ hit stays. each-map (TranslationHolds (world stored keeps tied start tells s r).core.pages) _
+                (λ t h here version dirty.
+                let at : t.version ≡ ((world stored keeps tied start tells s r).core.pages t.page).version =
+                version ∙ ap version_of (sym hit) ∙ sym (version-here stored start s p l) ∙ ap (λ q. ((world stored keeps tied start tells s r).core.pages q).version) (sym here) in
+                let state : ((world stored keeps tied start tells s r).core.pages t.page).state ≡ ((world stored keeps tied start tells s r).core.pages p).state = ap (λ q. ((world stored keeps tied start tells s r).core.pages q).state) here in
+                h.2 at (λ e. free hit (sym state ∙ e)) (λ e. stays (sym (found-state hit) ∙ sym state ∙ e)) (ap (λ q. stands_dirty ((world stored keeps tied start tells s r).core.pages q).trans) here ∙ dirty))
+                v.translations (r.known id v there live).translations;
+            validates = λ t hit. tried-validates stored keeps tied start tells s r id v there live number p expects (word_of LOCKED (version_of expects)) l law _ k.0 k.1 (free hit) t hit;
+          },
+        )
 
 module _ {X B : Type 0} (stored : B → Stored) (keeps : Start → Kept X → Type 0) (tied : Start → ℕ → List ℕ → ℕ → List ℕ → Type 0) (shape : Shape) (tells : Bool)
     (law : (start : Start) (kept : Kept X) (q p : ℕ) → keeps start kept → q < length kept.pages → p < length kept.pages → tied start q (page_at kept.pages q) p (page_at kept.pages p)) where
@@ -131,6 +80,5 @@ module _ {X B : Type 0} (stored : B → Stored) (keeps : Start → Kept X → Ty
   pub lock_allows : (slots id : ℕ) (me : Me (Option B) (View X)) (p expects x : ℕ) → me.0.live ≡ true → 0 < length me.0.used → p < shape.pages → MayLock expects → x ≡ word_of LOCKED (version_of expects)
       → Allows (Stands stored keeps tied shape tells) slots id me p (λ n. either (eqb n expects) x n) (lock_play shape tells tied (step slots p expects x maybe.none) me)
   lock_allows slots id me p expects x live number l may is =
-      subst (λ y. Allows (Stands stored keeps tied shape tells) slots id me p (λ n. either (eqb n expects) y n) (lock_play shape tells tied (step slots p expects x maybe.none) me)) (sym is)
-      (plays-any stored keeps tied shape tells slots id me p (λ n. either (eqb n expects) (word_of LOCKED (version_of expects)) n) (LockTold tied p expects) live
-      (λ start has s r there below. lock-tells stored keeps tied start tells s r id me.0 there live p expects (subst (λ n. p < n) (sym has.pages) l) may law number))
+      exchange_allows stored keeps tied shape tells slots id me p expects x (word_of LOCKED (version_of expects)) (LockTold tied p expects) live l is
+      (λ start l' s r there. lock-tells stored keeps tied start tells law s r id me.0 there live p expects l' may number)

@@ -1,5 +1,5 @@
 -- What the steps on locks tell are the events of these names.
-use Rattle.std.proofs.Common.{ℕ, Bool, true, false, Option, List, [], ◌≡◌, ◌-◌, ◌^◌, refl, sym, ap, ◌∙◌, ⊎_elim, slice_set, eqb, eq-eqb, ne_eqb, if◌then◌else◌}
+use Rattle.std.proofs.Common.{ℕ, Bool, true, false, Option, List, [], ◌≡◌, ◌-◌, ◌^◌, sym, ap, ◌∙◌, ⊎_elim, slice_set, eqb, eq-eqb, ne_eqb, if◌then◌else◌}
 use Rattle.std.proofs.lemmas.Bool.{cases_eq}
 use Rattle.atomic_table.specs.Table.{State as Table}
 use Rattle.vm_core.specs.declared.event.Event.{Event}
@@ -10,23 +10,23 @@ use Rattle.vm_core.specs.Words.{state_of, version_of, word_of, LOCKED}
 use Rattle.vm_core.specs.State.{Page}
 use Rattle.vm_core.specs.StateActs.{MayLock, MayShare, one_more, finds, page_word}
 use Rattle.vm_core.specs.PageStep.{exchange_seen}
-use Rattle.vm_core.specs.Step.{Legal, after, seen}
-use Rattle.vm_core.specs.History.{World, world_after}
+use Rattle.vm_core.specs.History.{World}
 use Rattle.vm_owner.specs.Kept.{Start, Kept}
 use Rattle.vm_block.specs.declared.stored.Stored.{Stored}
 use Rattle.vm_rule.specs.declared.view.Did.{Did}
 use Rattle.vm_rule.specs.declared.view.Origin.{Origin}
 use Rattle.vm_rule.specs.declared.view.Place.TheVariants as places
 use Rattle.vm_rule.specs.declared.view.View.{View}
-use Rattle.vm_rule.specs.Reading.{core_of, world_of, last_of}
+use Rattle.vm_rule.specs.Reading.{core_of, last_of}
 use Rattle.vm_rule.specs.Brought.{Brings}
-use Rattle.vm_rule.specs.Locks.{LockTold, ShareTold, UnshareTold, locked_view, shared_view}
+use Rattle.vm_rule.specs.Locks.{LockTold, ShareTold, UnshareTold}
 use Rattle.vm_rule.proofs.Found.{same-word, word-here, state-here, version-here}
-use Rattle.vm_rule.proofs.WordFacts.{word-state, word-version, version-within, less-state, less-version}
-use Rattle.vm_rule.proofs.Worlds.{core-still, lockx-step, locks-step, unlocks-step, lost-lockx, lost-locks}
+use Rattle.vm_rule.proofs.WordFacts.{less-state, less-version}
+use Rattle.vm_rule.proofs.Worlds.{core-still, unlocks-step}
 use Rattle.vm_step.specs.Conditions.{MayUnshare}
 use Rattle.vm_step.specs.Events.{FindsAt, IsEvent, IsPassOf, exchange_sees, exchanged, table_after}
 use Rattle.vm_step.proofs.StateWord.{names, finding, missing}
+use Rattle.vm_step.proofs.Exchanging.{IsExchange, lockx-exchange, locks-exchange}
 use Rattle.vm_step.proofs.Unsharing.{may-unlock}
 
 -- what an exchange sees, by whether the page has the word expected
@@ -36,12 +36,10 @@ seen-as y expects found b at is word =
 
 module _ {X B : Type 0} (stored : B → Stored) (start : Origin) (keeps : Start → Kept X → Type 0) (tied : Start → ℕ → List ℕ → ℕ → List ℕ → Type 0) (tells : Bool) (s : Table (Option B) (View X)) (id p : ℕ) where
   -- what an exchange on a page's state word tells, of a kind whose view where it was taken is `inner`: the event is this one
-  exchange-event : (expects found x : ℕ) (did : Did) (v inner w : View X) (e : Event) → IsPassOf stored start keeps tied tells s id v → FindsAt start s (places.State p) found → Brings did [] [] v (if eqb found expects then inner else v) w
-      → Legal (core_of stored start s) e → seen (core_of stored start s) e ≡ exchange_seen ((core_of stored start s).pages p) expects
-      → (finds ((core_of stored start s).pages p) expects ≡ true → w.out ≡ inner.out → w.frames ≡ inner.frames → w.seats ≡ inner.seats → w.loads ≡ inner.loads → core_of stored start (table_after s (slice_set s.words p x) id w) ≡ after (core_of stored start s) e)
-      → (finds ((core_of stored start s).pages p) expects ≡ false → world_after (world_of stored start [] (λ _. []) s) e ≡ world_of stored start [] (λ _. []) s)
+  pub exchange-event : (expects found x : ℕ) (drafts : ℕ → List ℕ) (did : Did) (v inner w : View X) (e : Event) (z : Page) → IsPassOf stored start keeps tied tells s id v → FindsAt start s (places.State p) found
+      → IsExchange stored start s [] (λ _. []) id p expects x drafts inner e z → Brings did [] [] v (if eqb found expects then inner else v) w
       → IsEvent stored start s (table_after s (exchanged s.words p expects found x) id w) e (exchange_sees expects found)
-  exchange-event expects found x did v inner w e pass at brings legal sees taken lost =
+  exchange-event expects found x drafts did v inner w e z pass at event brings =
       let y : Page = (core_of stored start s).pages p in
       let word : page_word y ≡ found = word-here stored start s p at.0 ∙ sym at.1 in
       let as-is : (b : Bool) → eqb found expects ≡ b → core_of stored start (table_after s (exchanged s.words p expects found x) id w) ≡ core_of stored start (table_after s (slice_set s.words p (if b then x else found)) id w) =
@@ -52,14 +50,15 @@ module _ {X B : Type 0} (stored : B → Stored) (start : Origin) (keeps : Start 
       let finds-it : finds y expects ≡ true = finding stored keeps tied start tells s pass.rule id v pass.there p expects at.0 (sym at.1 ∙ hit) in
       let view = ap {B = View X} (λ b. if b then inner else v) is in
       record {
-        legal = legal;
+        legal = event.legal;
         core = as-is true is
-            ∙ taken finds-it
+            ∙ ap (λ (k : World). k.core) (event.leads w
             (ap (λ (k : View X). k.out) brings.view ∙ ap (λ (k : View X). k.out) view)
             (ap (λ (k : View X). k.frames) brings.view ∙ ap (λ (k : View X). k.frames) view)
             (ap (λ (k : View X). k.seats) brings.view ∙ ap (λ (k : View X). k.seats) view)
-            (ap (λ (k : View X). k.loads) brings.view ∙ ap (λ (k : View X). k.loads) view);
-        sees = sees ∙ seen-as y expects found true finds-it is word;
+            (ap (λ (k : View X). k.loads) brings.view ∙ ap (λ (k : View X). k.loads) view)
+            finds-it);
+        sees = event.sees ∙ seen-as y expects found true finds-it is word;
       })
       (λ miss.
       let is : eqb found expects ≡ false = ne_eqb found expects miss in
@@ -67,41 +66,27 @@ module _ {X B : Type 0} (stored : B → Stored) (start : Origin) (keeps : Start 
       let view = ap {B = View X} (λ b. if b then inner else v) is in
       let still : slice_set s.words p found ≡ s.words = ap (slice_set s.words p) at.1 ∙ same-word s.words p in
       record {
-        legal = legal;
+        legal = event.legal;
         core = as-is false is
             ∙ ap (λ l. core_of stored start (table_after s l id w)) still
             ∙ core-still stored start s id v w pass.there
             (ap (λ (k : View X). k.out) brings.view ∙ ap (λ (k : View X). k.out) view)
             (ap (λ (k : View X). k.frames) brings.view ∙ ap (λ (k : View X). k.frames) view)
             (ap (λ (k : View X). k.seats) brings.view ∙ ap (λ (k : View X). k.seats) view)
-            ∙ sym (ap (λ (k : World). k.core) (lost misses));
-        sees = sees ∙ seen-as y expects found false misses is word;
+            ∙ sym (ap (λ (k : World). k.core) (event.none misses));
+        sees = event.sees ∙ seen-as y expects found false misses is word;
       })
       (cases_eq found expects)
 
   pub lock_exclusive_event : (expects found : ℕ) (v w : View X) → IsPassOf stored start keeps tied tells s id v → FindsAt start s (places.State p) found → MayLock expects → LockTold tied p expects found v w
       → IsEvent stored start s (table_after s (exchanged s.words p expects found (word_of LOCKED (version_of expects))) id w) (LockX id p expects) (exchange_sees expects found)
   lock_exclusive_event expects found v w pass at may told =
-      exchange-event expects found (word_of LOCKED (version_of expects)) _ v (locked_view p told.held (last_of w p).words v) w (LockX id p expects) pass at told.brings (names stored keeps tied start tells s pass.rule id v pass.there p at.0, may) refl
-      (λ finds-it out frames seats loads.
-      ap (λ (k : World). k.core)
-      (lockx-step stored start s [] (λ _. []) id v w p expects (word_of LOCKED (version_of expects)) pass.rule.wide.0 at.0 pass.there out frames seats loads
-      (word-state LOCKED (version_of expects) (version-within expects))
-      (word-version LOCKED (version_of expects) (version-within expects))
-      finds-it))
-      (lost-lockx (world_of stored start [] (λ _. []) s) id p expects)
+      exchange-event expects found _ _ _ v _ w _ _ pass at (lockx-exchange stored start s [] (λ _. []) id v p expects pass.rule.wide.0 at.0 pass.there may told.held (last_of w p).words) told.brings
 
   pub lock_shared_event : (expects found : ℕ) (v w : View X) → IsPassOf stored start keeps tied tells s id v → FindsAt start s (places.State p) found → MayShare expects → ShareTold tied p expects found v w
       → IsEvent stored start s (table_after s (exchanged s.words p expects found (word_of (one_more (state_of expects)) (version_of expects))) id w) (LockS id p expects) (exchange_sees expects found)
   lock_shared_event expects found v w pass at may told =
-      exchange-event expects found (word_of (one_more (state_of expects)) (version_of expects)) _ v (shared_view p told.held v) w (LockS id p expects) pass at told.brings (names stored keeps tied start tells s pass.rule id v pass.there p at.0, may) refl
-      (λ finds-it out frames seats loads.
-      ap (λ (k : World). k.core)
-      (locks-step stored start s [] (λ _. []) id v w p expects (word_of (one_more (state_of expects)) (version_of expects)) pass.rule.wide.0 at.0 pass.there out frames seats loads
-      (word-state (one_more (state_of expects)) (version_of expects) (version-within expects))
-      (word-version (one_more (state_of expects)) (version_of expects) (version-within expects))
-      finds-it))
-      (lost-locks (world_of stored start [] (λ _. []) s) id p expects)
+      exchange-event expects found _ _ _ v _ w _ _ pass at (locks-exchange stored start s [] (λ _. []) id v p expects pass.rule.wide.0 at.0 pass.there may told.held) told.brings
 
   pub unlock_shared_event : (found : ℕ) (v w : View X) → IsPassOf stored start keeps tied tells s id v → FindsAt start s (places.State p) found → MayUnshare v p → UnshareTold p found v w
       → IsEvent stored start s (table_after s (slice_set s.words p (found - 2 ^ 56)) id w) (UnlockS id p) (sights.Word found)

@@ -1,12 +1,12 @@
 -- What a look tells of a read that it leaves in place, and of the word found.
-use Rattle.std.proofs.Common.{ℕ, Bool, true, Option, Some, List, [], ◌≡◌, ◌≢◌, ◌<◌, length, sym, ap, subst, ◌∙◌, slice_index}
+use Rattle.std.proofs.Common.{ℕ, Bool, true, Option, Some, List, [], ◌≡◌, ◌≢◌, ◌⊎◌, ◌<◌, length, sym, ap, subst, ◌∙◌, slice_index}
 use mathlib.Core.Option.{some}
 use lib.ListN.{get_elem?}
 use Rattle.atomic_table.specs.Table.{State as Table}
 use Rattle.vm_page.specs.Pages.{page_at}
 use Rattle.vm_core.specs.declared.event.Mapping.{Mapping}
 use Rattle.vm_core.specs.declared.event.Open.{Open}
-use Rattle.vm_core.specs.Words.{state_of, version_of, LOCKED, EVICTED}
+use Rattle.vm_core.specs.Words.{state_of, version_of, UNLOCKED, LOCKED, MARKED, EVICTED}
 use Rattle.vm_core.specs.FrameActs.{frame_of, mapping_of, open_frame}
 use Rattle.vm_core.specs.History.{Version, World}
 use Rattle.vm_core.specs.Inv.{ReadInv}
@@ -22,6 +22,7 @@ use Rattle.vm_rule.specs.Reading.{world_of}
 use Rattle.vm_rule.specs.Rule.{TranslationHolds, began_of, Ruled}
 use Rattle.vm_rule.specs.Looks.{NamesFrame, LookTold}
 use Rattle.vm_rule.proofs.Entries.{each-map}
+use Rattle.vm_rule.proofs.Beside.{page-open}
 use Rattle.vm_rule.proofs.Found.{state-here, version-here}
 use Rattle.vm_step.proofs.Validated.{stays, readable, free-here}
 use Rattle.vm_step.proofs.Here.{last-told, version-told, size-told, since, reads, older, frame-inside, read-valid, ties-hold, tied-itself}
@@ -80,4 +81,5 @@ module _ {X B : Type 0} (stored : B → Stored) (keeps : Start → Kept X → Ty
               each-map (TranslationHolds world.core.pages) _ (names-frame may.0 may.1 k.0 k.1 k.2) v.translations (r.known id v there live).translations;
           since = since stored keeps tied start tells s r id v there live p l;
           older = older stored keeps tied start tells s r id v there live p l;
+          unlocked = λ whole alone none. subst (λ n. (n ≡ UNLOCKED) ⊎ ((n ≡ MARKED) ⊎ (n ≡ EVICTED))) (state-here stored start s p l) (page-open stored keeps tied start tells s r id v there whole p l alone none);
         }

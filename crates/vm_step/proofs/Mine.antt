@@ -25,14 +25,17 @@ module _ {X B : Type 0} (stored : B → Stored) (keeps : Start → Kept X → Ty
   unfolding pages_from
   outside p le = rw (le-ltb p start.pages le) refl
 
-  -- a page that the pass knows to stand in a frame is one of the table's, and stands there
-  pub stands-known : (p : ℕ) (m : Mapping) → (seat_of v p).exclusive ≡ true → (put_at no_held v.held p).mapping ≡ Some m → (p < start.pages) × (((core_of stored start s).pages p).trans ≡ Some m)
-  stands-known p m owns at =
-      let calls : may_call (seat_of v p) ≡ true = rw owns refl in
+  -- a page whose device the pass may call, and that it knows to stand in a frame, is one of the table's, and stands there
+  pub stands-called : (p : ℕ) (m : Mapping) → may_call (seat_of v p) ≡ true → (put_at no_held v.held p).mapping ≡ Some m → (p < start.pages) × (((core_of stored start s).pages p).trans ≡ Some m)
+  stands-called p m calls at =
       let is : ((core_of stored start s).pages p).trans ≡ Some m = sym (((r.known id v there live).knows p).calls calls).0 ∙ at in (
         ⊎_elim (λ l. l) (λ le. absurd (let none : None ≡ Some m = sym (ap (λ (y : Page). y.trans) (outside p le)) ∙ is in cc)) (cases_lt p start.pages),
         is,
       )
+
+  -- and so of a page that it holds exclusively
+  pub stands-known : (p : ℕ) (m : Mapping) → (seat_of v p).exclusive ≡ true → (put_at no_held v.held p).mapping ≡ Some m → (p < start.pages) × (((core_of stored start s).pages p).trans ≡ Some m)
+  stands-known p m owns at = stands-called p m (rw owns refl) at
 
   -- where a view says so only of a page that it holds exclusively, and some view says it of this page, it is the pass's
   pub holder-says : (f : View X → Bool) (p : ℕ) → p < start.pages → (seat_of v p).exclusive ≡ true → f spent ≡ false

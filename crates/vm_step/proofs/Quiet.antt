@@ -1,4 +1,5 @@
--- A step that releases no page and says nothing: the layer above sees nothing of it, so it shows little more than what the pass knows of pages.
+-- A step that releases no page and says nothing: the layer above sees nothing of it, so it shows little more than what the pass knows of pages
+-- and of the frames that it holds.
 use Rattle.std.proofs.Common.{ℕ, ◌≡◌, ◌<◌, ◌≤◌, Bool, List, [], ◌++◌, length, refl, sym, ap, subst, ◌∙◌, inl, slice_set, true, true≢false, Option, Some}
 use mathlib.Core.Path.{fun_ext}
 use mathlib.Core.Option.{some}
@@ -53,6 +54,13 @@ module _ {X : Type 0} where
   pub lock-quiet : (v : View X) (seats : List (Put Seat)) (loads : List (Put (List (ℕ × ℕ)))) (held : List (Put Held)) (drafts : List (Put (List ℕ))) → IsQuiet v (record v { seats = seats; loads = loads; held = held; drafts = drafts })
   lock-quiet v seats loads held drafts = record { live = refl; start = refl; used = refl; fresh = refl; notes = refl; log = refl; out = refl; mine = refl; frames = refl; contents = refl; pending = refl; owed = refl; next = refl; ties = refl }
 
+  -- the view with the frames that the pass had, and what it knew of them
+  abbrev pub with_frames_of : View X → View X → View X
+  with_frames_of v inner = record inner { frames = v.frames; contents = v.contents }
+
+  with-frames : (v inner : View X) → IsQuiet v inner → IsQuiet v (with_frames_of v inner)
+  with-frames v inner q = record { live = q.live; start = q.start; used = q.used; fresh = q.fresh; notes = q.notes; log = q.log; out = q.out; mine = q.mine; frames = refl; contents = refl; pending = q.pending; owed = q.owed; next = q.next; ties = q.ties }
+
 module _ {X B : Type 0} (stored : B → Stored) (keeps : Start → Kept X → Type 0) (tied : Start → ℕ → List ℕ → ℕ → List ℕ → Type 0) (start : Origin) (tells : Bool) (s : Table (Option B) (View X)) (r : Ruled stored keeps tied start tells s) (id : ℕ) (v : View X) (words : List ℕ) (drafts : ℕ → List ℕ) (did : Did) (inner : View X) (e : Event) where
   abbrev after : View X
   after = after_step stored keeps tied start tells s r words [] [] did inner
@@ -63,8 +71,8 @@ module _ {X B : Type 0} (stored : B → Stored) (keeps : Start → Kept X → Ty
   abbrev old : World
   old = world_of stored start r.releases r.drafts s
 
-  -- what is to be shown of it
-  pub record ShowsQuiet : Type 0 where
+  -- what is to be shown of it, where frames may come to the pass or go from it
+  pub record ShowsMoved : Type 0 where
     pub wide : length words ≡ width start
     pub spelled : ArePlain start words
     pub legal : Legal old.core e
@@ -72,18 +80,19 @@ module _ {X B : Type 0} (stored : B → Stored) (keeps : Start → Kept X → Ty
     pub at : Within start did.at
     pub found : IsFoundAt did.found (index_of start did.at) s.words
     pub wrote : IsFoundAt did.wrote (index_of start did.at) words
-    pub leaves : IsQuiet v inner
+    pub leaves : IsQuiet v (with_frames_of v inner)
     pub calls : (o : Out) → v.out ≡ Some o → may_call (seat_of inner o.page) ≡ true
     -- the pass holds what it held; drafts stay, but of pages that were not held
     pub holds : (q : ℕ) → (seat_of v q).exclusive ≡ true → (seat_of inner q).exclusive ≡ true
     pub members : (q : ℕ) → is_pending s.views q ≡ true → drafts q ≡ r.drafts q
     pub next : (world_after old e).core.next ≡ old.core.next
-    pub frames : (f : ℕ) → has f v.frames ≡ true → (world_after old e).core.words f ≡ old.core.words f
+    -- it knows the words of each frame that it holds
+    pub contents : (f : ℕ) → has f inner.frames ≡ true → put_at [] inner.contents f ≡ (world_after old e).core.words f
     pub knows : (q : ℕ) → KnowsPage (seat_of inner q) (put_at no_held inner.held q) ((world_after old e).core.pages q)
     pub drafted : (q : ℕ) → (seat_of inner q).exclusive ≡ true → draft_of inner q ≡ drafts q
     pub loaded : (l : List Translation) × (inner.translations ≡ l ++ v.translations) × Each (TranslationHolds (world_after old e).core.pages) l
 
-  module _ (there : get_elem? s.views id ≡ some v) (live : v.live ≡ true) (sh : ShowsQuiet) where
+  module _ (there : get_elem? s.views id ≡ some v) (live : v.live ≡ true) (sh : ShowsMoved) where
     world-told : world_of stored start (r.releases ++ []) drafts new ≡ world_after old e
     world-told = ap (λ l. world_of stored start l drafts new) (append-none r.releases) ∙ sh.world
 
@@ -113,8 +122,8 @@ module _ {X B : Type 0} (stored : B → Stored) (keeps : Start → Kept X → Ty
       history = append-none r.history i;
     }
 
-    pub quiet-shows : Shows stored keeps tied start tells s r id v words drafts [] [] did inner e
-    quiet-shows =
+    pub moved-shows : Shows stored keeps tied start tells s r id v words drafts [] [] did inner e
+    moved-shows =
         let k : KnowsPages tied start old (is_pending s.views) v = r.known id v there live in
         record {
           wide = sh.wide;
@@ -137,9 +146,7 @@ module _ {X B : Type 0} (stored : B → Stored) (keeps : Start → Kept X → Ty
           next_versions = tt;
           zero = λ t q le l. ap (λ x. x.words) (last-stays q) ∙ r.zero t q (subst (λ n. n ≤ q) next-stays le) l;
           knows = λ q. subst (λ (w : World). KnowsPage (seat_of inner q) (put_at no_held inner.held q) (w.core.pages q)) (sym sh.world) (sh.knows q);
-          contents = λ f x.
-              let has-it : has f v.frames ≡ true = sym (ap (has f) sh.leaves.frames) ∙ x in
-              ap (λ l. put_at [] l f) sh.leaves.contents ∙ k.contents f has-it ∙ sym (sh.frames f has-it) ∙ sym (ap (λ (w : World). w.core.words f) sh.world);
+          contents = λ f x. sh.contents f x ∙ sym (ap (λ (w : World). w.core.words f) sh.world);
           drafted = sh.drafted;
           pending = λ q x.
               let was : has q v.pending ≡ true = sym (ap (has q) sh.leaves.pending) ∙ x in
@@ -164,3 +171,45 @@ module _ {X B : Type 0} (stored : B → Stored) (keeps : Start → Kept X → Ty
           members = λ q was gone. absurd (true≢false (sym was ∙ sym (ap (has q) sh.leaves.pending) ∙ gone));
           owner = λ t. subst (keeps (began_of start)) (sym kept-stays);
         }
+
+  -- the same, where it holds the frames that it held, and their words stay
+  pub record ShowsQuiet : Type 0 where
+    pub wide : length words ≡ width start
+    pub spelled : ArePlain start words
+    pub legal : Legal old.core e
+    pub world : world_of stored start r.releases drafts new ≡ world_after old e
+    pub at : Within start did.at
+    pub found : IsFoundAt did.found (index_of start did.at) s.words
+    pub wrote : IsFoundAt did.wrote (index_of start did.at) words
+    pub leaves : IsQuiet v inner
+    pub calls : (o : Out) → v.out ≡ Some o → may_call (seat_of inner o.page) ≡ true
+    pub holds : (q : ℕ) → (seat_of v q).exclusive ≡ true → (seat_of inner q).exclusive ≡ true
+    pub members : (q : ℕ) → is_pending s.views q ≡ true → drafts q ≡ r.drafts q
+    pub next : (world_after old e).core.next ≡ old.core.next
+    pub frames : (f : ℕ) → has f v.frames ≡ true → (world_after old e).core.words f ≡ old.core.words f
+    pub knows : (q : ℕ) → KnowsPage (seat_of inner q) (put_at no_held inner.held q) ((world_after old e).core.pages q)
+    pub drafted : (q : ℕ) → (seat_of inner q).exclusive ≡ true → draft_of inner q ≡ drafts q
+    pub loaded : (l : List Translation) × (inner.translations ≡ l ++ v.translations) × Each (TranslationHolds (world_after old e).core.pages) l
+
+  pub quiet-shows : get_elem? s.views id ≡ some v → v.live ≡ true → ShowsQuiet → Shows stored keeps tied start tells s r id v words drafts [] [] did inner e
+  quiet-shows there live sh =
+      moved-shows there live (record {
+        wide = sh.wide;
+        spelled = sh.spelled;
+        legal = sh.legal;
+        world = sh.world;
+        at = sh.at;
+        found = sh.found;
+        wrote = sh.wrote;
+        leaves = with-frames v inner sh.leaves;
+        calls = sh.calls;
+        holds = sh.holds;
+        members = sh.members;
+        next = sh.next;
+        contents = λ f x.
+            let has-it : has f v.frames ≡ true = sym (ap (has f) sh.leaves.frames) ∙ x in
+            ap (λ l. put_at [] l f) sh.leaves.contents ∙ (r.known id v there live).contents f has-it ∙ sym (sh.frames f has-it);
+        knows = sh.knows;
+        drafted = sh.drafted;
+        loaded = sh.loaded;
+      })

@@ -1,16 +1,15 @@
 -- A release of a page that the pass holds exclusively: the table, the versions and the group, before and after it.
-use Rattle.std.proofs.Common.{ℕ, ◌≡◌, ◌≢◌, ◌+◌, ◌<◌, ◌≤◌, List, [], ◌∷◌, ◌++◌, refl, sym, ap, subst, ◌∙◌, inl, inr, ⊎_elim, arith, slice_set, true, false, Bool, Option, IsSome}
+use Rattle.std.proofs.Common.{ℕ, ◌≡◌, ◌≢◌, ◌+◌, ◌<◌, ◌≤◌, List, [], ◌∷◌, ◌++◌, refl, sym, ap, subst, ◌∙◌, inl, inr, ⊎_elim, arith, slice_set, true, false, Bool, Option, ◌⊎◌}
 use Rattle.std.proofs.lemmas.Bool.{false≢true}
 use mathlib.Core.Option.{some}
 use lib.ListN.{get_elem?}
 use Rattle.atomic_table.specs.Table.{State as Table}
-use Rattle.vm_core.specs.declared.event.Event.TheVariants.{Release}
+use Rattle.vm_core.specs.declared.event.Event.{Event}
 use Rattle.vm_core.specs.declared.event.Seat.{Seat}
 use Rattle.vm_core.specs.Fn.{upd}
-use Rattle.vm_core.specs.State.{Page}
-use Rattle.vm_core.specs.StateActs.{released}
-use Rattle.vm_core.specs.Words.{MAX_VERSION}
-use Rattle.vm_core.specs.Step.{Legal}
+use Rattle.vm_core.specs.State.{Page, State}
+use Rattle.vm_core.specs.Words.{state_of, version_of, MAX_VERSION}
+use Rattle.vm_core.specs.Step.{Legal, on_page}
 use Rattle.vm_core.specs.History.{History, Version, World, world_after}
 use Rattle.vm_core.proofs.Upd.{upd-same, upd-other}
 use Rattle.vm_owner.specs.declared.Entry.{Entry}
@@ -21,19 +20,20 @@ use Rattle.vm_rule.specs.declared.view.Origin.{Origin}
 use Rattle.vm_rule.specs.declared.view.Place.TheVariants as places
 use Rattle.vm_rule.specs.declared.view.Release.{Release as Released}
 use Rattle.vm_rule.specs.declared.view.View.{View}
+use Rattle.vm_rule.specs.Puts.{put_at}
 use Rattle.vm_rule.specs.Layout.{index_of}
 use Rattle.vm_rule.specs.Views.{seat_of, draft_of, may_call}
 use Rattle.vm_rule.specs.Reading.{core_of, world_of, histories_of, last_in, last_of}
-use Rattle.vm_rule.specs.Rule.{KnowsPages, is_pending, Ruled}
+use Rattle.vm_rule.specs.Rule.{KnowsPages, no_held, is_pending, Ruled}
 use Rattle.vm_rule.specs.Brought.{entries_of}
 use Rattle.vm_rule.specs.Log.{did_store}
 use Rattle.vm_rule.specs.Releases.{released_view}
 use Rattle.vm_rule.proofs.Adding.{became, after_step}
 use Rattle.vm_rule.proofs.Found.{seat-here}
 use Rattle.vm_rule.proofs.Views.{at-bound}
-use Rattle.vm_rule.proofs.WordFacts.{bare-state, bare-version}
-use Rattle.vm_rule.proofs.Worlds.{last-is, draft-is, release-here, release-else, release-step, release_of}
-use Rattle.vm_step.specs.Conditions.{IsClaimed, IsMember, IsFirst, IsLater, MayGiveUp}
+use Rattle.vm_rule.proofs.Worlds.{last-is, draft-is, release-here, release-else, release_of}
+use Rattle.vm_step.specs.Conditions.{IsClaimed, IsMember, IsFirst, IsLater, IsNotOut, IsToldOf}
+use Rattle.vm_step.proofs.ReleaseWays.{StandsFor, word_left, state_left, left-state, left-version, event_left, page_left, left-core, left-legal, left-step}
 use Rattle.vm_step.proofs.ReleaseGroup.{Members, first-members, later-members, each-has}
 
 -- a release that a pass may make of a page, on a table that meets the rule
@@ -50,7 +50,14 @@ pub record Releasing {X B : Type 0} (stored : B → Stored) (keeps : Start → K
   pub said : Option X
   pub inside : p < start.pages
   pub below : version < MAX_VERSION
-  pub may : MayGiveUp may_release p version rest said v
+  -- whether it becomes Evicted, and what the pass knows of it
+  pub evicts : Bool
+  pub owns : (seat_of v p).exclusive ≡ true
+  pub stands : StandsFor evicts (put_at no_held v.held p).mapping
+  pub told : IsToldOf v p
+  pub home : IsNotOut v p
+  pub at_last : version ≡ (last_of v p).version
+  pub group : IsFirst may_release p rest said v ⊎ IsLater p rest said v
 
 module _ {X B : Type 0} {stored : B → Stored} {keeps : Start → Kept X → Type 0} {tied : Start → ℕ → List ℕ → ℕ → List ℕ → Type 0} {start : Origin} {tells : Bool} {may_release : Start → List ℕ → List Change → List (Entry X) → Type 0} (rel : Releasing stored keeps tied start tells may_release) where
   abbrev pub old : World
@@ -74,8 +81,12 @@ module _ {X B : Type 0} {stored : B → Stored} {keeps : Start → Kept X → Ty
       absurd (let same = ap (λ (o : Origin). o.next) (rel.r.heard rel.id rel.v rel.there rel.live).same_start in let risen = rel.r.risen in omega (arith, early, same, risen, le))
   unclaimed q l owns (inr (inr (inr due))) t le = absurd (let under = (mine.owed q due).2 in omega (arith, under, le))
 
+  -- the word that it leaves
+  abbrev pub word : ℕ
+  word = word_left rel.evicts (rel.version + 1)
+
   abbrev pub words : List ℕ
-  words = slice_set rel.s.words (index_of start (places.State rel.p)) (rel.version + 1)
+  words = slice_set rel.s.words (index_of start (places.State rel.p)) word
 
   -- its release
   abbrev pub own : Released
@@ -88,37 +99,55 @@ module _ {X B : Type 0} {stored : B → Stored} {keeps : Start → Kept X → Ty
   inner = released_view rel.p rel.rest rel.said rel.v
 
   abbrev pub left : View X
-  left = after_step stored keeps tied start tells rel.s rel.r words (own ∷ []) (entries_of rel.v rel.said) (did_store (places.State rel.p) (rel.version + 1)) inner
+  left = after_step stored keeps tied start tells rel.s rel.r words (own ∷ []) (entries_of rel.v rel.said) (did_store (places.State rel.p) word) inner
 
   abbrev pub new : Table (Option B) (View X)
   new = became stored keeps tied start tells rel.s words rel.id left
 
   pub version-is : rel.version ≡ (old.core.pages rel.p).version
-  version-is = rel.may.at ∙ ap (λ (h : Version). h.version) (mine.latest rel.p (inl rel.may.owns)) ∙ (rel.r.inv.pages rel.p).stands.last
+  version-is = rel.at_last ∙ ap (λ (h : Version). h.version) (mine.latest rel.p (inl rel.owns)) ∙ (rel.r.inv.pages rel.p).stands.last
 
   pub next-version : rel.version ≡ (last_in start rel.r.releases rel.p).version
-  next-version = rel.may.at ∙ ap (λ (h : Version). h.version) (mine.latest rel.p (inl rel.may.owns) ∙ sym (last-is start rel.r.releases rel.r.drafts rel.p))
+  next-version = rel.at_last ∙ ap (λ (h : Version). h.version) (mine.latest rel.p (inl rel.owns) ∙ sym (last-is start rel.r.releases rel.r.drafts rel.p))
 
   pub own-is : own ≡ release_of start rel.r.releases rel.r.drafts rel.p
-  own-is i = record { page = rel.p; version = next-version i + 1; words = draft-known rel.p rel.may.owns i }
+  own-is i = record { page = rel.p; version = next-version i + 1; words = draft-known rel.p rel.owns i }
 
-  pub world-is : world_of stored start releases rel.r.drafts new ≡ world_after old (Release rel.id rel.p)
+  abbrev pub event : Event
+  event = event_left rel.evicts rel.id rel.p
+
+  -- the page after it
+  abbrev pub page : Page
+  page = page_left rel.evicts (old.core.pages rel.p) rel.id
+
+  pub word-state : state_of word ≡ state_left rel.evicts
+  word-state = left-state rel.evicts (rel.version + 1) (omega (arith, rel.below))
+
+  pub word-version : version_of word ≡ (old.core.pages rel.p).version + 1
+  word-version = left-version rel.evicts (rel.version + 1) (omega (arith, rel.below)) ∙ ap (λ n. n + 1) version-is
+
+  pub world-is : world_of stored start releases rel.r.drafts new ≡ world_after old event
   world-is =
       ap (λ o. world_of stored start (rel.r.releases ++ o ∷ []) rel.r.drafts new) own-is
-      ∙ release-step stored start rel.s rel.r.releases rel.r.drafts rel.id rel.v left rel.p (rel.version + 1) rel.r.wide.0 rel.inside rel.there refl refl refl refl (bare-state (rel.version + 1) (omega (arith, rel.below)))
-      (bare-version (rel.version + 1) (omega (arith, rel.below)) ∙ ap (λ n. n + 1) version-is)
+      ∙ left-step stored start rel.evicts rel.s rel.r.releases rel.r.drafts rel.id rel.v left rel.p word rel.r.wide.0 rel.inside rel.there refl refl refl refl word-state word-version
+
+  core-is : core_of stored start new ≡ on_page old.core rel.p page
+  core-is = ap (λ (y : World). y.core) world-is ∙ left-core rel.evicts old rel.id rel.p
 
   pub next-is : (core_of stored start new).next ≡ old.core.next
-  next-is = ap (λ (y : World). y.core.next) world-is
+  next-is = ap (λ (c : State). c.next) core-is
 
-  pub pages-is : (core_of stored start new).pages ≡ upd old.core.pages rel.p (released (old.core.pages rel.p) rel.id)
-  pages-is = ap (λ (y : World). y.core.pages) world-is
+  pub frames-are : (f : ℕ) → (core_of stored start new).words f ≡ old.core.words f
+  frames-are f = ap (λ (c : State). c.words f) core-is
 
-  pub page-here : (core_of stored start new).pages rel.p ≡ released (old.core.pages rel.p) rel.id
-  page-here = ap (λ (f : ℕ → Page). f rel.p) pages-is ∙ upd-same old.core.pages rel.p (released (old.core.pages rel.p) rel.id)
+  pub pages-is : (core_of stored start new).pages ≡ upd old.core.pages rel.p page
+  pages-is = ap (λ (c : State). c.pages) core-is
+
+  pub page-here : (core_of stored start new).pages rel.p ≡ page
+  page-here = ap (λ (f : ℕ → Page). f rel.p) pages-is ∙ upd-same old.core.pages rel.p page
 
   pub page-else : (q : ℕ) → q ≢ rel.p → (core_of stored start new).pages q ≡ old.core.pages q
-  page-else q ne = ap (λ (f : ℕ → Page). f q) pages-is ∙ upd-other old.core.pages rel.p (released (old.core.pages rel.p) rel.id) q ne
+  page-else q ne = ap (λ (f : ℕ → Page). f q) pages-is ∙ upd-other old.core.pages rel.p page q ne
 
   -- the histories after it
   pub last-here : (histories_of start releases rel.r.drafts rel.p).last.words ≡ draft_of rel.v rel.p
@@ -138,17 +167,14 @@ module _ {X B : Type 0} {stored : B → Stored} {keeps : Start → Kept X → Ty
   still-owns q ne owns = ap (λ (y : Seat). y.exclusive) (seat-else q ne) ∙ owns
 
   pub calls-p : may_call (seat_of rel.v rel.p) ≡ true
-  calls-p = rw rel.may.owns refl
+  calls-p = rw rel.owns refl
 
-  pub release-legal : Legal old.core (Release rel.id rel.p)
-  release-legal = (
-    record { actor = at-bound rel.s.views rel.id rel.v rel.there; page = rel.inside },
-    record {
-      owns = ap (λ (y : Seat). y.exclusive) (seat-here stored start rel.s rel.id rel.p rel.v rel.inside rel.there) ∙ rel.may.owns;
-      resident = subst IsSome ((mine.knows rel.p).calls calls-p).0 rel.may.resident;
-      told = sym ((mine.knows rel.p).calls calls-p).1 ∙ rel.may.told ∙ ((mine.knows rel.p).calls calls-p).3;
-    },
-  )
+  pub release-legal : Legal old.core event
+  release-legal =
+      left-legal rel.evicts old.core rel.id rel.p (at-bound rel.s.views rel.id rel.v rel.there) rel.inside
+      (ap (λ (y : Seat). y.exclusive) (seat-here stored start rel.s rel.id rel.p rel.v rel.inside rel.there) ∙ rel.owns)
+      (subst (StandsFor rel.evicts) ((mine.knows rel.p).calls calls-p).0 rel.stands)
+      (sym ((mine.knows rel.p).calls calls-p).1 ∙ rel.told ∙ ((mine.knows rel.p).calls calls-p).3)
 
   -- the group
   pub members-are : Members rel.p rel.rest rel.v.pending inner.pending
@@ -156,14 +182,14 @@ module _ {X B : Type 0} {stored : B → Stored} {keeps : Start → Kept X → Ty
       ⊎_elim
       (λ (f : IsFirst may_release rel.p rel.rest rel.said rel.v). first-members rel.p rel.rest rel.v.pending f.members.0.free f.apart.0)
       (λ (k : IsLater rel.p rel.rest rel.said rel.v). subst (λ l. Members rel.p l rel.v.pending (released_view rel.p l rel.said rel.v).pending) (sym k.alone) (later-members rel.p rel.v.pending k.pending))
-      rel.may.group
+      rel.group
 
   pub member-is : (q : ℕ) → has q rel.rest ≡ true → IsMember rel.v q
   member-is q e =
       ⊎_elim
       (λ (f : IsFirst may_release rel.p rel.rest rel.said rel.v). each-has (IsMember rel.v) rel.rest q f.members.1 e)
       (λ (k : IsLater rel.p rel.rest rel.said rel.v). absurd (false≢true (sym (ap (has q) k.alone) ∙ e)))
-      rel.may.group
+      rel.group
 
   pub member-page : (q : ℕ) → IsMember rel.v q → q < start.pages
   member-page q m = let l = m.page in let same = ap (λ (o : Origin). o.pages) (rel.r.heard rel.id rel.v rel.there rel.live).same_start in omega (arith, l, same)
@@ -176,5 +202,5 @@ module _ {X B : Type 0} {stored : B → Stored} {keeps : Start → Kept X → Ty
   unwritten t le =
       ⊎_elim
       (λ (f : IsFirst may_release rel.p rel.rest rel.said rel.v). claimed rel.p f.members.0 t le)
-      (λ (k : IsLater rel.p rel.rest rel.said rel.v). mine.drafts rel.p rel.may.owns ∙ (mine.pending rel.p k.pending).1 t le)
-      rel.may.group
+      (λ (k : IsLater rel.p rel.rest rel.said rel.v). mine.drafts rel.p rel.owns ∙ (mine.pending rel.p k.pending).1 t le)
+      rel.group

@@ -76,7 +76,7 @@ module _ {X B : Type 0} {stored : B → Stored} {keeps : Start → Kept X → Ty
   -- the released page's are the words that were its draft
   logical-here : logical h' m' rel.p ≡ draft_of rel.v rel.p
   logical-here =
-      logical-last h' m' rel.p (not-member stored keeps tied start tells rel.s rel.r rel.id rel.v rel.there rel.live rel.p w rel.inside rel.may.owns group.gone)
+      logical-last h' m' rel.p (not-member stored keeps tied start tells rel.s rel.r rel.id rel.v rel.there rel.live rel.p w rel.inside rel.owns group.gone)
       ∙ last-here rel
 
   -- so are the drafts of the members that are still to be released
@@ -205,7 +205,7 @@ module _ {X B : Type 0} {stored : B → Stored} {keeps : Start → Kept X → Ty
       let none : (q : ℕ) → has q rel.rest ≡ false = λ q. ap (has q) later.alone in
       let same-words : (q : ℕ) → logical h (is_pending rel.s.views) q ≡ logical h' m' q = λ q.
       ⊎_elim
-      (λ (e : q ≡ rel.p). ap (logical h (is_pending rel.s.views)) e ∙ logical-draft h (is_pending rel.s.views) rel.p member ∙ draft-is start rel.r.releases rel.r.drafts rel.p ∙ sym (draft rel.p rel.may.owns) ∙ sym logical-here ∙ ap (logical h' m') (sym e))
+      (λ (e : q ≡ rel.p). ap (logical h (is_pending rel.s.views)) e ∙ logical-draft h (is_pending rel.s.views) rel.p member ∙ draft-is start rel.r.releases rel.r.drafts rel.p ∙ sym (draft rel.p rel.owns) ∙ sym logical-here ∙ ap (logical h' m') (sym e))
       (λ ne. sym (logical-else q ne (none q)))
       (cases_eq q rel.p) in
       let due : has rel.p rel.v.owed ≡ false = ⊎_elim (λ e. absurd (true≢false (sym later.pending ∙ ((mine rel).owed rel.p e).3))) (λ f. f) (cases_Bool (has rel.p rel.v.owed)) in

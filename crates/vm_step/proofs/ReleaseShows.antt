@@ -1,10 +1,9 @@
--- What the release of a page that the pass holds exclusively shows of itself, apart from what the layer above keeps.
+-- What a release of a page that the pass holds exclusively shows of itself, apart from what the layer above keeps.
 use Rattle.std.proofs.Common.{ℕ, ◌≡◌, ◌≢◌, ◌+◌, ◌<◌, ◌≤◌, List, [], ◌∷◌, ◌++◌, refl, sym, ap, subst, ◌∙◌, ⊎_elim, arith, slice_set, true, false, true≢false, Bool, length-set, eqb, ◌||◌}
 use Rattle.std.proofs.lemmas.Bool.{false≢true, cases_Bool, cases_eq, eq-eqb}
-use Rattle.vm_core.specs.declared.event.Event.TheVariants.{Release}
 use Rattle.vm_core.specs.declared.event.Seat.{Seat}
 use Rattle.vm_core.specs.State.{Page}
-use Rattle.vm_core.specs.History.{History, World}
+use Rattle.vm_core.specs.History.{History}
 use Rattle.vm_owner.specs.declared.Entry.{Entry}
 use Rattle.vm_owner.specs.Kept.{Start, Kept, Change}
 use Rattle.vm_owner.specs.Numbers.{has}
@@ -23,7 +22,7 @@ use Rattle.vm_rule.proofs.Worlds.{draft-is}
 use Rattle.vm_step.proofs.Groups.{has-without_all}
 use Rattle.vm_step.proofs.Written.{stands-there, spelled-still}
 use Rattle.vm_step.proofs.ReleaseGroup.{next-kept, entries-one}
-use Rattle.vm_step.proofs.ReleaseFacts.{Releasing, old, mine, draft-known, words, own, releases, inner, left, new, next-version, world-is, next-is, page-here, page-else, last-here, history-else, seat-p, seat-else, still-owns, calls-p, release-legal, members-are, member-is, claimed, unwritten}
+use Rattle.vm_step.proofs.ReleaseFacts.{Releasing, old, mine, draft-known, word, words, event, own, releases, inner, left, new, next-version, world-is, next-is, frames-are, page-here, page-else, last-here, history-else, seat-p, seat-else, still-owns, calls-p, release-legal, members-are, member-is, claimed, unwritten}
 
 or-true : (a b : Bool) → b ≡ true → (a || b) ≡ true
 or-true true b e = refl
@@ -53,15 +52,15 @@ module _ {X B : Type 0} {stored : B → Stored} {keeps : Start → Kept X → Ty
       tail q none = ⊎_elim (λ t. absurd (true≢false (sym (or-true (eqb q rel.p) (has q rel.rest) t) ∙ none))) (λ f. f) (cases_Bool (has q rel.rest))
 
   pub release-shows : (start.tells ≡ true → keeps (began_of start) (kept_of (old rel) rel.r.history rel.s.views) → keeps (began_of start) (kept_of (world_of stored start (releases rel) rel.r.drafts (new rel)) (rel.r.history ++ entries_of rel.v rel.said) (slice_set rel.s.views rel.id (left rel))))
-      → Shows stored keeps tied start tells rel.s rel.r rel.id rel.v (words rel) rel.r.drafts (own rel ∷ []) (entries_of rel.v rel.said) (did_store (places.State rel.p) (rel.version + 1)) (inner rel) (Release rel.id rel.p)
+      → Shows stored keeps tied start tells rel.s rel.r rel.id rel.v (words rel) rel.r.drafts (own rel ∷ []) (entries_of rel.v rel.said) (did_store (places.State rel.p) (word rel)) (inner rel) (event rel)
   release-shows owner = record {
-    wide = length-set rel.s.words (index_of start (places.State rel.p)) (rel.version + 1) ∙ rel.r.wide.0;
-    spelled = spelled-still start rel.s.words (places.State rel.p) (rel.version + 1) rel.r.wide.0 rel.inside refl rel.r.spelled;
+    wide = length-set rel.s.words (index_of start (places.State rel.p)) (word rel) ∙ rel.r.wide.0;
+    spelled = spelled-still start rel.s.words (places.State rel.p) (word rel) rel.r.wide.0 rel.inside refl rel.r.spelled;
     legal = release-legal rel;
     world = world-is rel;
     at = rel.inside;
     found = tt;
-    wrote = stands-there start rel.s.words (places.State rel.p) (rel.version + 1) rel.r.wide.0 rel.inside;
+    wrote = stands-there start rel.s.words (places.State rel.p) (word rel) rel.r.wide.0 rel.inside;
     live = refl;
     same_start = refl;
     used = refl;
@@ -69,7 +68,7 @@ module _ {X B : Type 0} {stored : B → Stored} {keeps : Start → Kept X → Ty
     notes = refl;
     log = refl;
     out = refl;
-    calls = λ o e. ap may_call (seat-else rel o.page (rel.may.home o e)) ∙ (rel.r.blocks.away rel.id rel.v o rel.there e).1;
+    calls = λ o e. ap may_call (seat-else rel o.page (rel.home o e)) ∙ (rel.r.blocks.away rel.id rel.v o rel.there e).1;
     entry = entries-one rel.v rel.said;
     mine = refl;
     next_versions = (ap (λ n. n + 1) (next-version rel), tt);
@@ -88,7 +87,7 @@ module _ {X B : Type 0} {stored : B → Stored} {keeps : Start → Kept X → Ty
         (λ ne. subst (λ y. KnowsPage y (put_at no_held rel.v.held q) ((core_of stored start (new rel)).pages q)) (sym (seat-else rel q ne))
         (subst (λ y. KnowsPage (seat_of rel.v q) (put_at no_held rel.v.held q) y) (sym (page-else rel q ne)) ((mine rel).knows q)))
         (cases_eq q rel.p);
-    contents = λ f e. (mine rel).contents f e ∙ sym (ap (λ (y : World). y.core.words f) (world-is rel));
+    contents = λ f e. (mine rel).contents f e ∙ sym (frames-are rel f);
     drafted = λ q owns.
         ⊎_elim
         (λ (e : q ≡ rel.p). absurd (false≢true (sym (ap (λ n. (seat_of (inner rel) n).exclusive) e ∙ ap (λ (y : Seat). y.exclusive) (seat-p rel)) ∙ owns)))

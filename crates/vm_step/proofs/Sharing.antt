@@ -1,5 +1,5 @@
 -- A share that is taken: what it shows of itself.
-use Rattle.std.proofs.Common.{ℕ, ◌≡◌, ◌≢◌, ◌<◌, ◌≤◌, ◌+◌, ◌⊎◌, Bool, List, [], refl, sym, ap, subst, ◌∙◌, arith, ⊎_elim, inl, inr, slice_set, slice_index, true, false, Option, Some, None, IsSome, eq-eqb, if◌then◌else◌, ◌||◌, nat_lt}
+use Rattle.std.proofs.Common.{ℕ, ◌≡◌, ◌≢◌, ◌<◌, ◌≤◌, ◌+◌, ◌⊎◌, Bool, List, refl, sym, ap, ◌∙◌, arith, ⊎_elim, inl, inr, slice_set, slice_index, true, false, Option, Some, None, IsSome, if◌then◌else◌, ◌||◌, nat_lt}
 use Rattle.std.proofs.lemmas.Bool.Decides.{nat_tests}
 use mathlib.Core.Option.{some}
 use lib.ListN.{get_elem?}
@@ -11,12 +11,10 @@ use Rattle.vm_core.specs.Words.{state_of, version_of, word_of, LOCKED, EVICTED}
 use Rattle.vm_core.specs.State.{Page}
 use Rattle.vm_core.specs.StateActs.{MayShare, one_more, shared}
 use Rattle.vm_core.specs.FrameActs.{frame_of}
-use Rattle.vm_core.specs.History.{World}
 use Rattle.vm_core.proofs.PageFacts.{some-same}
-use Rattle.vm_core.proofs.Upd.{upd-same, upd-other, upd-keeps}
+use Rattle.vm_core.proofs.Upd.{upd-same, upd-other}
 use Rattle.vm_owner.specs.Kept.{Start, Kept}
 use Rattle.vm_block.specs.declared.stored.Stored.{Stored}
-use Rattle.vm_rule.specs.declared.view.Did.{Did}
 use Rattle.vm_rule.specs.declared.view.Held.{Held}
 use Rattle.vm_rule.specs.declared.view.Put.{Put}
 use Rattle.vm_rule.specs.declared.view.Origin.{Origin}
@@ -27,14 +25,12 @@ use Rattle.vm_rule.specs.Views.{seat_of, may_call}
 use Rattle.vm_rule.specs.Rule.{KnowsPage, no_held, Ruled}
 use Rattle.vm_rule.specs.Locks.{has_lock, shared_view}
 use Rattle.vm_rule.specs.Log.{did_exchange}
-use Rattle.vm_rule.specs.Brought.{IsFoundAt}
 use Rattle.vm_rule.proofs.Found.{state-here, block-here}
-use Rattle.vm_rule.proofs.WordFacts.{word-state, word-version, version-within}
-use Rattle.vm_rule.proofs.Worlds.{locks-step, draft-is}
 use Rattle.vm_step.proofs.Here.{world}
-use Rattle.vm_step.proofs.Quiet.{lock-quiet, ShowsQuiet}
-use Rattle.vm_step.proofs.StateWord.{wide-after, spelled-after, wrote-there, knows-one, seats-keep, calls-still, names, finding}
-use Rattle.vm_step.proofs.Locking.{page_held}
+use Rattle.vm_step.proofs.Quiet.{ShowsQuiet}
+use Rattle.vm_step.proofs.Exchanging.{IsExchange, locks-exchange}
+use Rattle.vm_step.proofs.TakenShows.{sharer-shows}
+use Rattle.vm_step.proofs.Unlocked.{page_held}
 
 -- a word that may be shared is of a page that is neither locked nor evicted
 pub shareable : (expects : ℕ) → MayShare expects → (state_of expects ≢ LOCKED) × (state_of expects ≢ EVICTED)
@@ -79,21 +75,15 @@ framed-same o None m e x = cc
 framed-same o (Some n) m e x = (n, refl, some-same m.frame n.frame (sym (ap frame_of x) ∙ e))
 
 module _ {X B : Type 0} (stored : B → Stored) (keeps : Start → Kept X → Type 0) (tied : Start → ℕ → List ℕ → ℕ → List ℕ → Type 0) (start : Origin) (tells : Bool) (s : Table (Option B) (View X)) (r : Ruled stored keeps tied start tells s)
-    (id : ℕ) (v : View X) (there : get_elem? s.views id ≡ some v) (live : v.live ≡ true) (p expects : ℕ) (l : p < start.pages) (may : MayShare expects) (hit : slice_index s.words p ≡ expects) where
-  abbrev pub shared_word_of : ℕ
-  shared_word_of = word_of (one_more (state_of expects)) (version_of expects)
-
+    (id : ℕ) (v : View X) (there : get_elem? s.views id ≡ some v) (live : v.live ≡ true) (p expects : ℕ) (l : p < start.pages) (may : MayShare expects) where
   abbrev pub shared_inner : View X
   shared_inner = shared_view p (page_held stored keeps tied start tells s r p) v
 
-  abbrev pub shared_did : Did
-  shared_did = did_exchange (places.State p) expects (slice_index s.words p) shared_word_of
+  pub unlocked-page : slice_index s.words p ≡ expects → ((world stored keeps tied start tells s r).core.pages p).state ≢ LOCKED
+  unlocked-page hit e = (shareable expects may).0 (sym (state-here stored start s p l ∙ ap state_of hit) ∙ e)
 
-  pub unlocked-page : ((world stored keeps tied start tells s r).core.pages p).state ≢ LOCKED
-  unlocked-page e = (shareable expects may).0 (sym (state-here stored start s p l ∙ ap state_of hit) ∙ e)
-
-  pub resident-page : IsSome ((world stored keeps tied start tells s r).core.pages p).trans
-  resident-page = (r.inv.pages p).stands.resident unlocked-page (λ e. (shareable expects may).1 (sym (state-here stored start s p l ∙ ap state_of hit) ∙ e))
+  pub resident-page : slice_index s.words p ≡ expects → IsSome ((world stored keeps tied start tells s r).core.pages p).trans
+  resident-page hit = (r.inv.pages p).stands.resident (unlocked-page hit) (λ e. (shareable expects may).1 (sym (state-here stored start s p l ∙ ap state_of hit) ∙ e))
 
   knows-here : KnowsPage (record (seat_of v p) { shares = (seat_of v p).shares + 1; reading = None }) (put_at no_held shared_inner.held p) (shared ((world stored keeps tied start tells s r).core.pages p) id)
   knows-here =
@@ -104,33 +94,14 @@ module _ {X B : Type 0} (stored : B → Stored) (keeps : Start → Kept X → Ty
   pub frame-known : frame_of (put_at no_held shared_inner.held p).mapping ≡ frame_of ((world stored keeps tied start tells s r).core.pages p).trans
   frame-known = knows-here.shares (omega arith)
 
-  pub share-shows : ShowsQuiet stored keeps tied start tells s r id v (slice_set s.words p shared_word_of) r.drafts shared_did shared_inner (LockS id p expects)
-  share-shows =
-      let old : World = world stored keeps tied start tells s r in
+  abbrev pub share-is : IsExchange stored start s r.releases r.drafts id p expects (word_of (one_more (state_of expects)) (version_of expects)) r.drafts shared_inner (LockS id p expects) (shared ((world stored keeps tied start tells s r).core.pages p) id)
+  share-is = locks-exchange stored start s r.releases r.drafts id v p expects r.wide.0 l there may (page_held stored keeps tied start tells s r p)
+
+  pub share-shows : slice_index s.words p ≡ expects
+      → ShowsQuiet stored keeps tied start tells s r id v (slice_set s.words p (word_of (one_more (state_of expects)) (version_of expects))) r.drafts (did_exchange (places.State p) expects (slice_index s.words p) (word_of (one_more (state_of expects)) (version_of expects))) shared_inner (LockS id p expects)
+  share-shows hit =
       let seat : Seat = record (seat_of v p) { shares = (seat_of v p).shares + 1; reading = None } in
-      let finds-it = finding stored keeps tied start tells s r id v there p expects l hit in
-      record {
-        wide = wide-after start s.words p shared_word_of r.wide.0;
-        spelled = spelled-after start s.words p shared_word_of r.wide.0 l r.spelled;
-        legal = (names stored keeps tied start tells s r id v there p l, may);
-        world =
-            locks-step stored start s r.releases r.drafts id v _ p expects shared_word_of r.wide.0 l there refl refl refl refl
-            (word-state (one_more (state_of expects)) (version_of expects) (version-within expects))
-            (word-version (one_more (state_of expects)) (version_of expects) (version-within expects))
-            finds-it;
-        at = l;
-        found = refl;
-        wrote = subst (λ b. IsFoundAt (if b then Some shared_word_of else None) p (slice_set s.words p shared_word_of)) (sym (eq-eqb (slice_index s.words p) expects hit)) (wrote-there start s.words p shared_word_of r.wide.0 l);
-        leaves = lock-quiet v shared_inner.seats shared_inner.loads shared_inner.held shared_inner.drafts;
-        calls = calls-still stored keeps tied start tells s r id v there p seat (λ o x e m. m);
-        holds = seats-keep (λ k. k.exclusive ≡ true) v p seat (λ x. x);
-        members = λ q t. refl;
-        next = refl;
-        frames = λ f x. refl;
-        knows =
-            knows-one v old.core.pages p seat shared_inner.held _ (r.known id v there live).knows
-            (λ q ne. put-else (has_lock (seat_of v p)) p q (page_held stored keeps tied start tells s r p) v.held ne)
-            (rw finds-it knows-here);
-        drafted = λ q x. (r.known id v there live).drafts q (sym (upd-keeps (λ (k : Seat). k.exclusive) (λ n. seat_of v n) p seat refl q) ∙ x) ∙ draft-is start r.releases r.drafts q;
-        loaded = ([], refl, tt);
-      }
+      sharer-shows stored keeps tied start tells s r id v there live p expects (word_of (one_more (state_of expects)) (version_of expects)) l hit (LockS id p expects) (shared ((world stored keeps tied start tells s r).core.pages p) id) seat shared_inner.held share-is
+      (λ m. m) refl
+      (λ q ne. put-else (has_lock (seat_of v p)) p q (page_held stored keeps tied start tells s r p) v.held ne)
+      knows-here

@@ -34,6 +34,11 @@ use Rattle.vm_step.proofs.Mine.{stands-known, member-mine}
 use Rattle.vm_step.proofs.Quiet.{lock-quiet, quiet-shows}
 
 module _ {X B : Type 0} (stored : B → Stored) (keeps : Start → Kept X → Type 0) (tied : Start → ℕ → List ℕ → ℕ → List ℕ → Type 0) (start : Origin) (tells : Bool) (s : Table (Option B) (View X)) (r : Ruled stored keeps tied start tells s) (id : ℕ) (v : View X) (there : get_elem? s.views id ≡ some v) (live : v.live ≡ true) where
+  -- the page stands in the frame
+  pub stands-drafted : (p f : ℕ) → Drafts v p f → stands_in ((core_of stored start s).pages p).trans f ≡ true
+  stands-drafted p f d =
+      ap (λ t. stands_in t f) (stands-known stored keeps tied start tells s r id v there live p (record { frame = f; dirty = true }) d.owns d.stands).1 ∙ eq-eqb f f refl
+
   pub store-legal : (p f i x : ℕ) → f < start.frames → i < 64 → Drafts v p f → Legal (core_of stored start s) (Store id f i x)
   store-legal p f i x lf li d =
       let known = stands-known stored keeps tied start tells s r id v there live p (record { frame = f; dirty = true }) d.owns d.stands in

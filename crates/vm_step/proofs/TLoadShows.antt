@@ -10,6 +10,7 @@ use Rattle.vm_core.specs.Fn.{upd}
 use Rattle.vm_core.specs.State.{Page, State}
 use Rattle.vm_core.specs.FrameActs.{mapping_of, frame_of, framed, frame_read}
 use Rattle.vm_core.proofs.Upd.{each-upd2, upd-keeps}
+use Rattle.vm_laws_others.specs.Leaves.{stands_dirty}
 use Rattle.vm_owner.specs.Kept.{Start, Kept}
 use Rattle.vm_block.specs.declared.stored.Stored.{Stored}
 use Rattle.vm_rule.specs.declared.view.Did.{Did}
@@ -32,10 +33,10 @@ use Rattle.vm_step.proofs.Here.{frame-inside}
 use Rattle.vm_step.proofs.Quiet.{quiet-shows}
 
 -- the translation that an open read got holds: the word is the page's now
-translation-now : (pages : ℕ → Page) (p found : ℕ) (o : Option Open) → ((x : Open) → o ≡ Some x → x.version ≤ (pages p).version) → frame_of (mapping_of found) ≡ frame_of (pages p).trans
+translation-now : (pages : ℕ → Page) (p found : ℕ) (o : Option Open) → ((x : Open) → o ≡ Some x → x.version ≤ (pages p).version) → mapping_of found ≡ (pages p).trans
     → Each (TranslationHolds pages) (translation_of p found o)
 translation-now pages p found None old same = tt
-translation-now pages p found (Some x) old same = ((old x refl, λ _ _ _. same), tt)
+translation-now pages p found (Some x) old same = ((old x refl, λ _ _ _. ap frame_of same, λ _ _ _ d. ap stands_dirty same ∙ d), tt)
 
 module _ {X B : Type 0} (stored : B → Stored) (keeps : Start → Kept X → Type 0) (tied : Start → ℕ → List ℕ → ℕ → List ℕ → Type 0) (start : Origin) (tells : Bool) (s : Table (Option B) (View X)) (r : Ruled stored keeps tied start tells s) (id : ℕ) (v : View X) (p : ℕ) where
   -- the word that stands there
@@ -81,7 +82,7 @@ module _ {X B : Type 0} (stored : B → Stored) (keeps : Start → Kept X → Ty
             refl,
             translation-now (upd c.pages p page) p tload-found (seat_of v p).reading
                 (λ x e. subst (λ n. x.version ≤ n) (sym (upd-keeps (λ (y : Page). y.version) c.pages p page refl p)) (((r.inv.pages p).reads id).old x (ap (λ (y : Seat). y.reading) (seat-here stored start s id p v l there) ∙ e)))
-                (sym (upd-keeps (λ (y : Page). frame_of y.trans) c.pages p page refl p ∙ ap frame_of (translation-here stored start s p l))),
+                (sym (upd-keeps (λ (y : Page). y.trans) c.pages p page refl p ∙ translation-here stored start s p l)),
           );
         })
 

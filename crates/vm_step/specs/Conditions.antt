@@ -1,5 +1,6 @@
 -- What a pass must know before a step: conditions over its own view alone.
-use Rattle.std.specs.Prelude.{ℕ, true, false, Option, Some, None, List, [], ◌∷◌, ◌≡◌, ◌≢◌, ◌⊎◌, ◌<◌, ◌≤◌, length, replicate, IsSome}
+use Rattle.std.specs.Prelude.{ℕ, true, false, Option, Some, None, List, [], ◌∷◌, ◌≡◌, ◌≢◌, ◌⊎◌, ◌<◌, ◌≤◌, length, replicate, IsSome, bit_and}
+use Rattle.vm_core.specs.Words.{in_mask}
 use Rattle.vm_core.specs.Inv.{LoadsAre}
 use Rattle.vm_owner.specs.declared.Entry.{Entry}
 use Rattle.vm_owner.specs.Kept.{Start, Change, AreUnchanged}
@@ -7,11 +8,17 @@ use Rattle.vm_owner.specs.Numbers.{has, AreApart}
 use Rattle.vm_rule.specs.declared.view.Out.{Out}
 use Rattle.vm_rule.specs.declared.view.View.{View}
 use Rattle.vm_rule.specs.Puts.{put_at}
-use Rattle.vm_rule.specs.Views.{Each, seat_of, loads_at, draft_of}
+use Rattle.vm_rule.specs.Views.{Each, seat_of, loads_at, draft_of, may_call}
 use Rattle.vm_rule.specs.Reading.{last_of}
 use Rattle.vm_rule.specs.Rule.{began_of, no_held}
 use Rattle.vm_rule.specs.Brought.{entries_of}
 use Rattle.vm_rule.specs.Releases.{changes_of}
+use Rattle.vm_rule.specs.Mappings.{held_at}
+
+-- some of the bits expected, and not none
+pub record MayTake (expects mask : ℕ) : Type 0 where
+  pub some : mask ≢ 0
+  pub among : bit_and mask expects ≡ mask
 
 module _ {X : Type 0} where
   -- nothing is said, or every page that has the loaded words proves what is said
@@ -63,3 +70,27 @@ module _ {X : Type 0} where
     pub home : IsNotOut v p
     pub at : version ≡ (last_of v p).version
     pub group : IsFirst may_release p rest said v ⊎ IsLater p rest said v
+
+  -- p is not resident, and is neither a member of a group still to be released nor owed
+  pub record MayEvict (v : View X) (p version : ℕ) : Type 0 where
+    pub owns : (seat_of v p).exclusive ≡ true
+    pub empty : (held_at v p).mapping ≡ None
+    pub told : IsToldOf v p
+    pub home : IsNotOut v p
+    pub at : version ≡ (last_of v p).version
+    pub free : has p v.pending ≡ false
+    pub paid : has p v.owed ≡ false
+
+  -- the pass holds all frames of the mask, which is not empty
+  pub record MayGive (v : View X) (g mask : ℕ) : Type 0 where
+    pub some : mask ≢ 0
+    pub holds : (f : ℕ) → in_mask g mask f ≡ true → has f v.frames ≡ true
+
+  -- the pass may call the device of p, and has no block out
+  pub record MayTakeOut (v : View X) (p : ℕ) : Type 0 where
+    pub calls : may_call (seat_of v p) ≡ true
+    pub none : v.out ≡ None
+
+  pub record MayRaise (v : View X) (p count : ℕ) : Type 0 where
+    pub calls : may_call (seat_of v p) ≡ true
+    pub is : count ≡ (held_at v p).block.count

@@ -33,6 +33,10 @@ pub record IsLost (d : Did) (at : Place) (expects found : ℕ) : Type 0 where
   pub other : found ≢ expects
   pub left : d.wrote ≡ None
 
+-- no word was known before the call
+abbrev pub NoWord : ℕ → Type 0
+NoWord word = ⊥
+
 -- the steps neither wrote the word there nor stored a next version
 abbrev pub AreQuiet : Place → ℕ → List Did → Type 0
 AreQuiet at seen done = Each (λ d. d.at ≡ at → (d.wrote ≢ Some seen) × (d.found ≡ None → d.wrote ≡ None)) done

@@ -3,3 +3,8 @@ pub mod Plays
 pub mod Passes
 pub mod Events
 pub mod Evidence
+pub mod Ready
+pub mod Asides
+pub mod BlockMoves
+pub mod Works
+pub mod Alone

@@ -1,7 +1,7 @@
 // The steps on a page's translation word and on the words of its frame: load the translation, load a word, store a word.
 ghost use Rattle.std.specs.Prelude.{◌≡◌, ◌<◌, ℕ, Some};
 ghost use Rattle.vm_rule.specs.Loads.{LoadTold, TranslationTold, frame_read_by};
-ghost use Rattle.vm_rule.specs.Stores.{Drafts, StoreTold};
+ghost use Rattle.vm_rule.specs.Stores.{MayStore, StoresTold};
 ghost use Rattle.vm_step.specs.Passes.{IsSamePass, MayStep, view};
 ghost use Rattle.vm_step.specs.Plays.{IsOf};
 
@@ -98,11 +98,11 @@ fn store_with<U: Owner, B: Block, M: Given<U::Said>>(
 )
     requires pass { MayStep words.now.table.shared.table_id pass.old }
     requires frame { (f < words.now.table.shared.key.frames) × (i < 64) }
-    requires legal { (p : ℕ) × Drafts (view pass.old) p f }
+    requires legal { MayStore (view pass.old) f }
     requires given { (M.shape ≡ words.now.table.shared.key) × (M.tells ≡ B.tells) × (M.first ≡ f) × (M.second ≡ i) }
     ensures pass { IsSamePass pass.old pass.new }
     ensures table { IsOf words.now.table.shared.key B.tells (view pass.old) }
-    ensures told { (p : ℕ) → Drafts (view pass.old) p f → StoreTold p f i w (view pass.old) (view pass.new) }
+    ensures told { StoresTold f i w (view pass.old) (view pass.new) }
 {
     let place = 3 * words.pages + (PAGE_WORDS * f as usize + i);
     let mut seat = lift::<View<U::Said>, Option<B>>(&mut pass.badge);
@@ -110,14 +110,15 @@ fn store_with<U: Owner, B: Block, M: Given<U::Said>>(
     pass.badge = seat.into_badge();
 }
 
-/// Stores word `i` (0 to 63) of the frame of a dirty page that the pass has locked exclusively: a word of the page's draft.
+/// Stores word `i` (0 to 63) of a frame: one that the pass holds, or that of a dirty page which the pass has locked exclusively, where it
+/// is a word of the page's draft.
 pub fn store<U: Owner, B: Block>(words: &Words<U, B>, pass: &mut Pass<U>, f: u32, i: usize, w: u64)
     requires pass { MayStep words.now.table.shared.table_id pass.old }
     requires frame { (f < words.now.table.shared.key.frames) × (i < 64) }
-    requires legal { (p : ℕ) × Drafts (view pass.old) p f }
+    requires legal { MayStore (view pass.old) f }
     ensures pass { IsSamePass pass.old pass.new }
     ensures table { IsOf words.now.table.shared.key B.tells (view pass.old) }
-    ensures told { (p : ℕ) → Drafts (view pass.old) p f → StoreTold p f i w (view pass.old) (view pass.new) }
+    ensures told { StoresTold f i w (view pass.old) (view pass.new) }
 {
     store_with::<U, B, Brand>(words, pass, f, i, w);
 }

@@ -2,15 +2,31 @@
 //! function of its view before and of the word found.
 #![tactic(auto)]
 
+pub mod block_laws;
+mod blocks;
+pub mod bundle_laws;
+mod bundles;
 mod frames;
 pub mod laws;
+pub mod mapping_laws;
+mod mappings;
+pub mod mark_laws;
+mod marks;
 mod plays;
+pub mod release_laws;
 mod saw;
 mod seat;
 mod states;
 mod took;
 
+pub use blocks::{block_home, block_out, raise};
+pub use bundles::{bload, give, hand, take};
 pub use frames::{load, store, tload};
+pub use mappings::{clear, install, set_clean, set_dirty};
+pub use marks::{lock_write_back, mark, unmark, upgrade};
 pub use saw::{At, Saw};
-pub use states::{lock_exclusive, lock_shared, look, look_silently, release, unlock_shared};
+pub use states::{
+    lock_exclusive, lock_shared, look, look_silently, release, release_evicted, release_silently,
+    unlock_shared,
+};
 pub use took::Took;

@@ -1,6 +1,7 @@
 // What each step tells. A call picks the values that its proof must know as a ghost member of `Given`.
 use atomic_table::Play;
 use std::marker::{Brand, PhantomData};
+use vm_block::Block;
 use vm_owner::Owner;
 use vm_rule::view::View;
 
@@ -121,4 +122,184 @@ impl<S, U: Owner, M: Given<U::Said>> Play<S, View<U::Said>> for Store<U, M> {
     ghost use Rattle.vm_step.specs.Plays.{store_play};
 
     ghost then = { store_play M.shape M.tells M.first M.second };
+}
+
+pub(crate) struct ReleaseEvicted<U, M> {
+    marker: PhantomData<(U, M)>,
+}
+
+impl<S, U: Owner, M: Given<U::Said>> Play<S, View<U::Said>> for ReleaseEvicted<U, M> {
+    ghost use Rattle.vm_step.specs.Plays.{evict_play};
+
+    ghost then = { evict_play M.shape M.tells M.first };
+}
+
+pub(crate) struct Install<U, M> {
+    marker: PhantomData<(U, M)>,
+}
+
+impl<S, U: Owner, M: Given<U::Said>> Play<S, View<U::Said>> for Install<U, M> {
+    ghost use Rattle.vm_step.specs.Plays.{install_play};
+
+    ghost then = { install_play M.shape M.tells M.first M.second };
+}
+
+pub(crate) struct Clear<U, M> {
+    marker: PhantomData<(U, M)>,
+}
+
+impl<S, U: Owner, M: Given<U::Said>> Play<S, View<U::Said>> for Clear<U, M> {
+    ghost use Rattle.vm_step.specs.Plays.{clear_play};
+
+    ghost then = { clear_play M.shape M.tells M.first };
+}
+
+pub(crate) struct SetDirty<U, M> {
+    marker: PhantomData<(U, M)>,
+}
+
+impl<S, U: Owner, M: Given<U::Said>> Play<S, View<U::Said>> for SetDirty<U, M> {
+    ghost use Rattle.vm_step.specs.Plays.{dirty_play};
+
+    ghost then = { dirty_play M.shape M.tells M.first M.second };
+}
+
+pub(crate) struct SetClean<U, M> {
+    marker: PhantomData<(U, M)>,
+}
+
+impl<S, U: Owner, M: Given<U::Said>> Play<S, View<U::Said>> for SetClean<U, M> {
+    ghost use Rattle.vm_step.specs.Plays.{clean_play};
+
+    ghost then = { clean_play M.shape M.tells M.first M.second };
+}
+
+pub(crate) struct LoadBundle<U, M> {
+    marker: PhantomData<(U, M)>,
+}
+
+impl<S, U: Owner, M: Given<U::Said>> Play<S, View<U::Said>> for LoadBundle<U, M> {
+    ghost use Rattle.vm_step.specs.Plays.{bundle_play};
+
+    ghost then = { bundle_play M.shape M.tells M.first };
+}
+
+pub(crate) struct Take<U, M> {
+    marker: PhantomData<(U, M)>,
+}
+
+impl<S, U: Owner, M: Given<U::Said>> Play<S, View<U::Said>> for Take<U, M> {
+    ghost use Rattle.vm_step.specs.Plays.{take_play};
+
+    ghost then = { take_play M.shape M.tells M.first M.second };
+}
+
+pub(crate) struct Give<U, M> {
+    marker: PhantomData<(U, M)>,
+}
+
+impl<S, U: Owner, M: Given<U::Said>> Play<S, View<U::Said>> for Give<U, M> {
+    ghost use Rattle.vm_step.specs.Plays.{give_play};
+
+    ghost then = { give_play M.shape M.tells M.first M.second };
+}
+
+pub(crate) struct MoveHand<U, M> {
+    marker: PhantomData<(U, M)>,
+}
+
+impl<S, U: Owner, M: Given<U::Said>> Play<S, View<U::Said>> for MoveHand<U, M> {
+    ghost use Rattle.vm_step.specs.Plays.{hand_play};
+
+    ghost then = { hand_play M.shape M.tells };
+}
+
+pub(crate) struct Mark<U, M> {
+    marker: PhantomData<(U, M)>,
+}
+
+impl<S, U: Owner, M: Given<U::Said>> Play<S, View<U::Said>> for Mark<U, M> {
+    ghost use Rattle.vm_step.specs.Plays.{mark_play};
+
+    ghost then = { mark_play M.shape M.tells };
+}
+
+pub(crate) struct Unmark<U, M> {
+    marker: PhantomData<(U, M)>,
+}
+
+impl<S, U: Owner, M: Given<U::Said>> Play<S, View<U::Said>> for Unmark<U, M> {
+    ghost use Rattle.vm_step.specs.Plays.{mark_play};
+
+    ghost then = { mark_play M.shape M.tells };
+}
+
+pub(crate) struct LockWriteBack<U, M> {
+    marker: PhantomData<(U, M)>,
+}
+
+impl<S, U: Owner, M: Given<U::Said>> Play<S, View<U::Said>> for LockWriteBack<U, M> {
+    ghost use Rattle.vm_step.specs.Plays.{write_lock_play};
+
+    ghost then = { write_lock_play M.shape M.tells U.tied };
+}
+
+pub(crate) struct Upgrade<U, M> {
+    marker: PhantomData<(U, M)>,
+}
+
+impl<S, U: Owner, M: Given<U::Said>> Play<S, View<U::Said>> for Upgrade<U, M> {
+    ghost use Rattle.vm_step.specs.Plays.{upgrade_play};
+
+    ghost then = { upgrade_play M.shape M.tells U.tied };
+}
+
+pub(crate) struct Raise<U, M> {
+    marker: PhantomData<(U, M)>,
+}
+
+impl<S, U: Owner, M: Given<U::Said>> Play<S, View<U::Said>> for Raise<U, M> {
+    ghost use Rattle.vm_step.specs.Plays.{raise_play};
+
+    ghost then = { raise_play M.shape M.tells M.first };
+}
+
+pub(crate) struct EmptySlot<U, B, M> {
+    marker: PhantomData<(U, B, M)>,
+}
+
+impl<U: Owner, B: Block, M: Given<U::Said>> Play<Option<B>, View<U::Said>> for EmptySlot<U, B, M> {
+    ghost use Rattle.vm_step.specs.Plays.{empty_play};
+
+    ghost then = { empty_play M.shape M.tells M.first };
+}
+
+pub(crate) struct TakeEmpty<U, B, M> {
+    marker: PhantomData<(U, B, M)>,
+}
+
+impl<U: Owner, B: Block, M: Given<U::Said>> Play<Option<B>, View<U::Said>> for TakeEmpty<U, B, M> {
+    ghost use Rattle.vm_step.specs.Plays.{lift_play};
+
+    ghost then = { lift_play M.shape M.tells M.first };
+}
+
+pub(crate) struct TakeSlot<U, B, M> {
+    marker: PhantomData<(U, B, M)>,
+}
+
+impl<U: Owner, B: Block, M: Given<U::Said>> Play<Option<B>, View<U::Said>> for TakeSlot<U, B, M> {
+    ghost use Rattle.vm_step.specs.Plays.{slot_play};
+
+    ghost then = { slot_play M.shape M.tells B.stored M.first };
+}
+
+pub(crate) struct ReturnSlot<U, B, M> {
+    marker: PhantomData<(U, B, M)>,
+}
+
+impl<U: Owner, B: Block, M: Given<U::Said>> Play<Option<B>, View<U::Said>> for ReturnSlot<U, B, M> {
+    ghost use Rattle.vm_step.specs.Plays.{return_play};
+
+    ghost then = { return_play M.shape M.tells B.stored M.first };
 }

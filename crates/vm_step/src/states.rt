@@ -1,18 +1,18 @@
-// The steps on a page's state word: look, lock exclusively, lock shared, give a share up, release.
-ghost use Rattle.std.specs.Prelude.{◌≡◌, ◌≢◌, ◌<◌, ℕ, None, option_map};
+// The steps on a page's state word that guards make: look, lock exclusively, lock shared, give a share up, release, release as evicted.
+ghost use Rattle.std.specs.Prelude.{◌≡◌, ◌≢◌, ◌<◌, ℕ, None, [], option_map};
 ghost use Rattle.vm_core.specs.StateActs.{MayLock, MayShare, one_more};
 ghost use Rattle.vm_core.specs.Words.{LOCKED, MAX_VERSION, state_of, version_of, word_of};
 ghost use Rattle.vm_rule.specs.Locks.{LockTold, ShareTold, UnshareTold};
 ghost use Rattle.vm_rule.specs.Looks.{LookTold};
-ghost use Rattle.vm_rule.specs.Releases.{ReleaseTold};
-ghost use Rattle.vm_step.specs.Conditions.{MayGiveUp, MayTell, MayUnshare};
+ghost use Rattle.vm_rule.specs.Releases.{EvictTold, ReleaseTold};
+ghost use Rattle.vm_step.specs.Conditions.{MayEvict, MayGiveUp, MayTell, MayUnshare};
 ghost use Rattle.vm_step.specs.Passes.{IsSamePass, MayStep, found_by, view};
 ghost use Rattle.vm_step.specs.Plays.{IsOf};
 ghost use Rattle.vm_step.specs.declared.took.Took.TheVariants.{Lost};
 
-use crate::plays::{Given, LockExclusive, LockShared, Look, Release, UnlockShared};
+use crate::plays::{Given, LockExclusive, LockShared, Look, Release, ReleaseEvicted, UnlockShared};
 use crate::seat::lift;
-use crate::took::Took;
+use crate::took::{Took, answer};
 use std::marker::Brand;
 use vm_block::Block;
 use vm_owner::Owner;
@@ -20,7 +20,7 @@ use vm_rule::view::View;
 use vm_rule::words::{Pass, Words};
 
 /// One state more, in a state word: the version stands below.
-const UNIT: u64 = 1 << 56;
+pub(crate) const UNIT: u64 = 1 << 56;
 
 /// The state of a page that is locked exclusively.
 const LOCKED: u64 = 253;
@@ -28,8 +28,11 @@ const LOCKED: u64 = 253;
 /// The state of a page that the clock marked.
 const MARKED: u64 = 254;
 
+/// The state of a page that is not in memory.
+const EVICTED: u64 = 255;
+
 /// The word of a Locked page at the version of `word`.
-fn locked_word(word: u64) -> u64
+pub(crate) fn locked_word(word: u64) -> u64
     ensures { result ≡ word_of LOCKED (version_of word) }
 {
     LOCKED * UNIT + word % UNIT
@@ -44,17 +47,6 @@ fn shared_word(word: u64) -> u64
         UNIT + word % UNIT
     } else {
         word + UNIT
-    }
-}
-
-fn answer(found: u64, expects: u64) -> Took
-    ensures word { found_by expects result ≡ found }
-    ensures lost { (word : ℕ) → result ≡ Lost word → word ≢ expects }
-{
-    if found == expects {
-        Took::Taken
-    } else {
-        Took::Lost(found)
     }
 }
 
@@ -247,6 +239,29 @@ pub fn unlock_shared<U: Owner, B: Block>(words: &Words<U, B>, pass: &mut Pass<U>
     unlock_shared_with::<U, B, Brand>(words, pass, p)
 }
 
+fn release_step<U: Owner, B: Block, M: Given<U::Said>>(
+    words: &Words<U, B>,
+    pass: &mut Pass<U>,
+    p: u32,
+    version: u64,
+)
+    requires pass { MayStep words.now.table.shared.table_id pass.old }
+    requires page { p < words.now.table.shared.key.pages }
+    requires below { version < MAX_VERSION }
+    requires legal { MayGiveUp U.may_release p version M.rest M.said (view pass.old) }
+    requires given { (M.shape ≡ words.now.table.shared.key) × (M.tells ≡ B.tells) × (M.first ≡ version) }
+    ensures pass { IsSamePass pass.old pass.new }
+    ensures table { IsOf words.now.table.shared.key B.tells (view pass.old) }
+    ensures told { ReleaseTold p version M.rest M.said (view pass.old) (view pass.new) }
+{
+    let mut seat = lift::<View<U::Said>, Option<B>>(&mut pass.badge);
+    words
+        .table
+        .shared
+        .store::<Release<U, M>>(&mut seat, p as usize, version + 1);
+    pass.badge = seat.into_badge();
+}
+
 fn release_with<U: Owner, B: Block, M: Given<U::Said>>(
     words: &Words<U, B>,
     pass: &mut Pass<U>,
@@ -264,12 +279,7 @@ fn release_with<U: Owner, B: Block, M: Given<U::Said>>(
     ensures table { IsOf words.now.table.shared.key B.tells (view pass.old) }
     ensures told { ReleaseTold p version M.rest M.said (view pass.old) (view pass.new) }
 {
-    let mut seat = lift::<View<U::Said>, Option<B>>(&mut pass.badge);
-    words
-        .table
-        .shared
-        .store::<Release<U, M>>(&mut seat, p as usize, version + 1);
-    pass.badge = seat.into_badge();
+    release_step::<U, B, M>(words, pass, p, version);
 }
 
 /// Releases the page, which is locked at `version`, as Unlocked at the next version: its draft is its last words then. As the first of a
@@ -291,4 +301,64 @@ pub fn release<U: Owner, B: Block>(
     ensures told { ReleaseTold p version rest.now (option_map (λ b. b.now) said.entry) (view pass.old) (view pass.new) }
 {
     release_with::<U, B, Brand>(words, pass, p, version, rest, said);
+}
+
+/// Releases a page alone, whose words have not changed and which is owed to nobody, and says nothing.
+pub fn release_silently<U: Owner, B: Block>(
+    words: &Words<U, B>,
+    pass: &mut Pass<U>,
+    p: u32,
+    version: u64,
+)
+    requires pass { MayStep words.now.table.shared.table_id pass.old }
+    requires page { p < words.now.table.shared.key.pages }
+    requires below { version < MAX_VERSION }
+    requires legal { MayGiveUp U.may_release p version [] None (view pass.old) }
+    ensures pass { IsSamePass pass.old pass.new }
+    ensures table { IsOf words.now.table.shared.key B.tells (view pass.old) }
+    ensures told { ReleaseTold p version [] None (view pass.old) (view pass.new) }
+{
+    release_step::<U, B, Brand>(words, pass, p, version);
+}
+
+fn release_evicted_with<U: Owner, B: Block, M: Given<U::Said>>(
+    words: &Words<U, B>,
+    pass: &mut Pass<U>,
+    p: u32,
+    version: u64,
+)
+    requires pass { MayStep words.now.table.shared.table_id pass.old }
+    requires page { p < words.now.table.shared.key.pages }
+    requires below { version < MAX_VERSION }
+    requires legal { MayEvict (view pass.old) p version }
+    requires given { (M.shape ≡ words.now.table.shared.key) × (M.tells ≡ B.tells) × (M.first ≡ version) }
+    ensures pass { IsSamePass pass.old pass.new }
+    ensures table { IsOf words.now.table.shared.key B.tells (view pass.old) }
+    ensures told { EvictTold p version (view pass.old) (view pass.new) }
+{
+    let new = EVICTED * UNIT + (version + 1);
+    let mut seat = lift::<View<U::Said>, Option<B>>(&mut pass.badge);
+    words
+        .table
+        .shared
+        .store::<ReleaseEvicted<U, M>>(&mut seat, p as usize, new);
+    pass.badge = seat.into_badge();
+}
+
+/// Releases a page as Evicted at its next version, which the pass has locked exclusively and which is not resident.
+pub fn release_evicted<U: Owner, B: Block>(
+    words: &Words<U, B>,
+    pass: &mut Pass<U>,
+    p: u32,
+    version: u64,
+)
+    requires pass { MayStep words.now.table.shared.table_id pass.old }
+    requires page { p < words.now.table.shared.key.pages }
+    requires below { version < MAX_VERSION }
+    requires legal { MayEvict (view pass.old) p version }
+    ensures pass { IsSamePass pass.old pass.new }
+    ensures table { IsOf words.now.table.shared.key B.tells (view pass.old) }
+    ensures told { EvictTold p version (view pass.old) (view pass.new) }
+{
+    release_evicted_with::<U, B, Brand>(words, pass, p, version);
 }

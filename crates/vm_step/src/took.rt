@@ -1,4 +1,7 @@
 // What an exchange answers.
+ghost use Rattle.std.specs.Prelude.{◌≡◌, ◌≢◌, ℕ};
+ghost use Rattle.vm_step.specs.Passes.{found_by};
+ghost use Rattle.vm_step.specs.declared.took.Took.TheVariants.{Lost};
 
 /// Whether the word was the one expected.
 #[derive(Clone, Copy, Debug, PartialEq, Eq)]
@@ -7,4 +10,16 @@ pub enum Took {
     Taken,
     /// It was this other one, and is as it was.
     Lost(u64),
+}
+
+/// The answer, from the word that was found.
+pub(crate) fn answer(found: u64, expects: u64) -> Took
+    ensures word { found_by expects result ≡ found }
+    ensures lost { (word : ℕ) → result ≡ Lost word → word ≢ expects }
+{
+    if found == expects {
+        Took::Taken
+    } else {
+        Took::Lost(found)
+    }
 }

@@ -1,4 +1,4 @@
-use Rattle.std.proofs.Common.{◌≡◌, sym, subst, inr}
+use Rattle.std.proofs.Common.{sym, subst, inr}
 use Rattle.vm_step.specs.Passes.{view}
 use Rattle.vm_guard.specs.Guards.{HasLeft}
 use Rattle.vm_guard.proofs.Leaving.{has-left-on, lock-leaves}

@@ -1,4 +1,4 @@
--- The looks and the load of the translation word give each answer.
+-- The looks, the mark that is taken away and the load of the translation word give each answer.
 use Rattle.std.proofs.Common.{◌<◌, ◌≢◌, refl, sym, subst, ◌∙◌, inl, inr}
 use Rattle.vm_core.specs.Words.{state_of, EVICTED}
 use Rattle.vm_guard.specs.Denied.{AgainOrNeed}
@@ -14,21 +14,21 @@ returns-then-state-2-clause-err g c = locked-first _ _ AgainOrNeed _ _ _ tt c.lo
 
 pub returns-then-version-clause-err : goal.returns-then-version-clause-err
 returns-then-version-clause-err g c =
-    moved _ _ _ _ _ _ _ _ _ c.look_silently-first.ensures.told c.tload-translation.ensures.told c.look_silently-seen.ensures.told
+    moved _ _ _ _ _ _ _ _ _ _ c.look_silently-first.ensures.told c.clear_mark.ensures.clears c.tload-translation.ensures.told c.look_silently-seen.ensures.told
     (inl (λ e. c.if-version.true (c.version.ensures ∙ sym e ∙ sym c.version-2.ensures)))
 
 pub returns-then-state-3-clause-err : goal.returns-then-state-3-clause-err
 returns-then-state-3-clause-err g c =
-    moved _ _ _ _ _ _ _ _ _ c.look_silently-first.ensures.told c.tload-translation.ensures.told c.look_silently-seen.ensures.told (inr (sym c.state-3.ensures ∙ c.if-state-3.true))
+    moved _ _ _ _ _ _ _ _ _ _ c.look_silently-first.ensures.told c.clear_mark.ensures.clears c.tload-translation.ensures.told c.look_silently-seen.ensures.told (inr (sym c.state-3.ensures ∙ c.if-state-3.true))
 
 pub unreachable-requires : goal.unreachable-requires
 unreachable-requires g c =
     let at = sym c.version.ensures ∙ c.if-version.false ∙ c.version-2.ensures in
     let resident : state_of c.look_silently-first.result ≢ EVICTED = λ e. c.if-state.false (c.state.ensures ∙ e) in
-    names-frame _ _ _ _ _ _ _ _ _ c.look_silently-first.ensures.told c.tload-translation.ensures.told c.look_silently-seen.ensures.told
+    names-frame _ _ _ _ _ _ _ _ _ _ c.look_silently-first.ensures.told c.clear_mark.ensures.clears c.tload-translation.ensures.told c.look_silently-seen.ensures.told
     (readable-state _ (subst (λ n. n < 256) c.state.ensures c.state.type_inv) (λ e. c.if-state-2.false (c.state-2.ensures ∙ e)) resident)
     (readable-state _ (subst (λ n. n < 256) c.state-3.ensures c.state-3.type_inv) (λ e. c.if-state-3.false (c.state-3.ensures ∙ e))
-    (still-resident _ _ _ _ _ _ _ _ _ c.look_silently-first.ensures.told c.tload-translation.ensures.told c.look_silently-seen.ensures.told resident at))
+    (still-resident _ _ _ _ _ _ _ _ _ _ c.look_silently-first.ensures.told c.clear_mark.ensures.clears c.tload-translation.ensures.told c.look_silently-seen.ensures.told resident at))
     at
     (sym c.frame.ensures ∙ c.in-None.is)
 
@@ -37,10 +37,10 @@ returns-clause-ok g c =
     let at = sym c.version.ensures ∙ c.if-version.false ∙ c.version-2.ensures in
     let resident : state_of c.look_silently-first.result ≢ EVICTED = λ e. c.if-state.false (c.state.ensures ∙ e) in (
       refl,
-      began _ _ _ _ _ _ _ _ _ c.look_silently-first.ensures.told c.tload-translation.ensures.told c.look_silently-seen.ensures.told
+      began _ _ _ _ _ _ _ _ _ _ c.look_silently-first.ensures.told c.clear_mark.ensures.clears c.tload-translation.ensures.told c.look_silently-seen.ensures.told
           (readable-state _ (subst (λ n. n < 256) c.state.ensures c.state.type_inv) (λ e. c.if-state-2.false (c.state-2.ensures ∙ e)) resident)
           (readable-state _ (subst (λ n. n < 256) c.state-3.ensures c.state-3.type_inv) (λ e. c.if-state-3.false (c.state-3.ensures ∙ e))
-          (still-resident _ _ _ _ _ _ _ _ _ c.look_silently-first.ensures.told c.tload-translation.ensures.told c.look_silently-seen.ensures.told resident at))
+          (still-resident _ _ _ _ _ _ _ _ _ _ c.look_silently-first.ensures.told c.clear_mark.ensures.clears c.tload-translation.ensures.told c.look_silently-seen.ensures.told resident at))
           at
           _
           (subst (λ n. c.args.pid < n) (sym c.look_silently-first.ensures.table.is_shape.pages) c.requires.page)

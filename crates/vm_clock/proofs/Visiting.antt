@@ -1,0 +1,54 @@
+-- What a visit comes to, by the word that its look found and by the exchange that would mark the page.
+use Rattle.std.proofs.Common.{ℕ, ◌≡◌, ◌≢◌, ◌<◌, ◌≤◌, Bool, false, Option, Some, None, List, [], ◌∷◌, ◌++◌, refl, sym, ap, ◌∙◌, arith}
+use Rattle.std.specs.Option.{option_or}
+use Rattle.vm_core.specs.Words.{state_of, version_of, word_of, MARKED, MAX_VERSION}
+use Rattle.vm_rule.proofs.WordFacts.{version-within}
+use Rattle.vm_owner.specs.Kept.{Start}
+use Rattle.vm_owner.specs.Numbers.{has}
+use Rattle.vm_rule.specs.declared.view.Did.{Did}
+use Rattle.vm_rule.specs.declared.view.Place.TheVariants as places
+use Rattle.vm_rule.specs.declared.view.View.{View}
+use Rattle.vm_rule.specs.Locks.{MarkTold}
+use Rattle.vm_rule.specs.Log.{did_load, did_exchange}
+use Rattle.vm_rule.specs.Looks.{LookTold}
+use Rattle.vm_step.proofs.Asides.{OnlyReads, only-then, look-only, mark-only}
+use Rattle.vm_clock.specs.declared.looks.Looks.{Looks}
+use Rattle.vm_clock.specs.Clock.{IsFresh, IsHeld, IsVisited, LooksAt, Visits, first_or, pages_of}
+
+-- the first worn page, or this one
+pub first-or : (first : Option ℕ) (p : ℕ) → option_or first (Some p) ≡ first_or first p
+first-or None p = refl
+first-or (Some q) p = refl
+
+-- a state of 8 bits that is none of three is that of a page that somebody has locked
+pub held-state : (word : ℕ) → state_of word < 256 → state_of word ≢ 255 → state_of word ≢ 0 → state_of word ≢ 254 → IsHeld word
+held-state word l a b c = (omega (arith, b), omega (arith, l, a, c))
+
+-- a version of 56 bits that is not the last is below it
+pub fresh-word : (word : ℕ) → version_of word ≢ MAX_VERSION → IsFresh word
+fresh-word word ne = let l : version_of word ≤ MAX_VERSION = version-within word in omega (arith, l, ne)
+
+-- what a search of the list told of the page
+pub told-of : (p : ℕ) (chosen list : List (ℕ × ℕ)) (answer known : Bool) → list ≡ chosen → answer ≡ has p (pages_of list) → answer ≡ known → has p (pages_of chosen) ≡ known
+told-of p chosen list answer known same is e = ap (λ l. has p (pages_of l)) (sym same) ∙ sym is ∙ e
+
+pub looks-at : (chosen : List (ℕ × ℕ)) (p word : ℕ) (more : List Did) → has p (pages_of chosen) ≡ false → LooksAt chosen p word (did_load (places.State p) word ∷ more) more
+looks-at chosen p word more new = record { new = new; steps_are = refl }
+
+module _ {X : Type 0} (tied : Start → ℕ → List ℕ → ℕ → List ℕ → Type 0) (p word : ℕ) (v w : View X) (page : p < v.start.pages) (t : LookTold tied p None word v w) (chosen : List (ℕ × ℕ)) (old : Looks) where
+  looked : OnlyReads (λ q. q < v.start.pages) (did_load (places.State p) word ∷ []) v w
+  looked = look-only (λ q. q < v.start.pages) tied p word v w page t
+
+  -- the look was all
+  pub by-look : (new : Looks) (list : List (ℕ × ℕ)) → Visits chosen p (did_load (places.State p) word ∷ []) old new list → IsVisited p old chosen new list v w
+  by-look new list visits = record { steps = did_load (places.State p) word ∷ []; visits = visits; aside = looked.aside; keeps = looked.keeps }
+
+  -- an exchange followed
+  pub by-mark : (found : ℕ) (x : View X) → MarkTold p word found (word_of MARKED (version_of word)) w x → (new : Looks) (list : List (ℕ × ℕ))
+      → Visits chosen p (did_load (places.State p) word ∷ did_exchange (places.State p) word found (word_of MARKED (version_of word)) ∷ []) old new list → IsVisited p old chosen new list v x
+  by-mark found x m new list visits =
+      let touched : ℕ → Type 0 = λ q. q < v.start.pages in
+      let first : List Did = did_load (places.State p) word ∷ [] in
+      let second : List Did = did_exchange (places.State p) word found (word_of MARKED (version_of word)) ∷ [] in
+      let both : OnlyReads touched (first ++ second) v x = only-then touched first second v w x looked (mark-only touched p word found (word_of MARKED (version_of word)) w x m) in
+      record { steps = first ++ second; visits = visits; aside = both.aside; keeps = both.keeps }

@@ -1,0 +1,104 @@
+-- A walk: the next visit makes it longer; each of its looks is counted; its candidates are pages of the table, each another.
+use Rattle.std.proofs.Common.{ℕ, ◌≡◌, ◌<◌, ◌≤◌, ◌+◌, ◌*◌, ◌%◌, List, [], ◌∷◌, ◌++◌, length, zero, suc, refl, sym, ap, subst, ◌∙◌, arith}
+use Rattle.std.proofs.lemmas.List.{length-append}
+use Rattle.std.proofs.Math.Nat.{mod-lt, mod-add-mod}
+use Rattle.vm_core.specs.Words.{hand_more}
+use Rattle.vm_rule.specs.declared.view.Did.{Did}
+use Rattle.vm_rule.specs.declared.view.Origin.{Origin}
+use Rattle.vm_rule.specs.declared.view.Place.TheVariants as places
+use Rattle.vm_rule.specs.declared.view.View.{View}
+use Rattle.vm_rule.specs.Bundles.{HandTold}
+use Rattle.vm_rule.specs.Log.{did_change}
+use Rattle.vm_step.proofs.Asides.{OnlyReads, aside-within, hand-only, only-then}
+use Rattle.vm_clock.specs.declared.looks.Looks.{Looks}
+use Rattle.vm_clock.specs.Clock.{AreCandidates, IsVisited, Visits, Visits as visits, Walks, no_looks, total}
+use Rattle.vm_clock.proofs.Choices.{candidates-end, no-candidates}
+
+-- ---- one visit
+
+one-counted : (p : ℕ) (steps : List Did) (chosen list : List (ℕ × ℕ)) (old new : Looks) → Visits chosen p steps old new list → total new ≡ suc (total old)
+one-counted p steps chosen list old new (visits.again word is steps_are e l) = ap total e ∙ omega arith
+one-counted p steps chosen list old new (visits.gone word look state e l) = ap total e ∙ omega arith
+one-counted p steps chosen list old new (visits.held word look held e l) = ap total e ∙ omega arith
+one-counted p steps chosen list old new (visits.worn word look state last e l) = ap total e ∙ omega arith
+one-counted p steps chosen list old new (visits.marked word look state fresh e l) = ap total e ∙ omega arith
+one-counted p steps chosen list old new (visits.lost word other ne look state fresh e l) = ap total e ∙ omega arith
+one-counted p steps chosen list old new (visits.found word look state fresh e l) = ap total e ∙ omega arith
+
+same-list : (chosen list : List (ℕ × ℕ)) → list ≡ chosen → length list ≤ suc (length chosen)
+same-list chosen list e = let n : length list ≡ length chosen = ap (λ l. length l) e in omega (arith, n)
+
+one-more : (p : ℕ) (steps : List Did) (chosen list : List (ℕ × ℕ)) (old new : Looks) → Visits chosen p steps old new list → length list ≤ suc (length chosen)
+one-more p steps chosen list old new (visits.again word is steps_are e l) = same-list chosen list l
+one-more p steps chosen list old new (visits.gone word look state e l) = same-list chosen list l
+one-more p steps chosen list old new (visits.held word look held e l) = same-list chosen list l
+one-more p steps chosen list old new (visits.worn word look state last e l) = same-list chosen list l
+one-more p steps chosen list old new (visits.marked word look state fresh e l) = same-list chosen list l
+one-more p steps chosen list old new (visits.lost word other ne look state fresh e l) = same-list chosen list l
+one-more p steps chosen list old new (visits.found word look state fresh e l) =
+    let n : length list ≡ length chosen + 1 = ap (λ t. length t) l ∙ length-append chosen ((p, word) ∷ []) in omega (arith, n)
+
+still-candidates : (pages p : ℕ) (steps : List Did) (chosen list : List (ℕ × ℕ)) (old new : Looks) → p < pages → AreCandidates pages chosen → Visits chosen p steps old new list → AreCandidates pages list
+still-candidates pages p steps chosen list old new page are (visits.again word is steps_are e l) = subst (AreCandidates pages) (sym l) are
+still-candidates pages p steps chosen list old new page are (visits.gone word look state e l) = subst (AreCandidates pages) (sym l) are
+still-candidates pages p steps chosen list old new page are (visits.held word look held e l) = subst (AreCandidates pages) (sym l) are
+still-candidates pages p steps chosen list old new page are (visits.worn word look state last e l) = subst (AreCandidates pages) (sym l) are
+still-candidates pages p steps chosen list old new page are (visits.marked word look state fresh e l) = subst (AreCandidates pages) (sym l) are
+still-candidates pages p steps chosen list old new page are (visits.lost word other ne look state fresh e l) = subst (AreCandidates pages) (sym l) are
+still-candidates pages p steps chosen list old new page are (visits.found word look state fresh e l) =
+    subst (AreCandidates pages) (sym l) (candidates-end pages chosen (p, word) are look.new record { page = page; marked = state; below = fresh })
+
+-- ---- the walk
+
+module _ (want pages drawn : ℕ) where
+  -- each look is counted once
+  pub all-counted : (k : ℕ) (done : List Did) (looks : Looks) (list : List (ℕ × ℕ)) → Walks want pages drawn k done looks list → total looks ≡ k
+  all-counted zero done looks list w = ap total w.1
+  all-counted (suc k) done looks list (before, steps, old, chosen, cut, walk, room, visit) = one-counted _ _ _ _ _ _ visit ∙ ap suc (all-counted k before old chosen walk)
+
+  -- no more are chosen than were wanted
+  pub few-chosen : (k : ℕ) (done : List Did) (looks : Looks) (list : List (ℕ × ℕ)) → Walks want pages drawn k done looks list → length list ≤ want
+  few-chosen zero done looks list w = let n : length list ≡ 0 = ap (λ (l : List (ℕ × ℕ)). length l) w.2 in omega (arith, n)
+  few-chosen (suc k) done looks list (before, steps, old, chosen, cut, walk, room, visit) = let n = one-more _ _ _ _ _ _ visit in omega (arith, n, room)
+
+  -- and those are candidates: there is a page where there is a look
+  pub are-candidates : (k : ℕ) (done : List Did) (looks : Looks) (list : List (ℕ × ℕ)) → k ≤ 2 * pages → Walks want pages drawn k done looks list → AreCandidates pages list
+  are-candidates zero done looks list most w = subst (AreCandidates pages) (sym w.2) (no-candidates pages)
+  are-candidates (suc k) done looks list most (before, steps, old, chosen, cut, walk, room, visit) =
+      still-candidates pages _ _ _ _ _ _ (mod-lt (drawn + k) (omega (arith, most))) (are-candidates k before old chosen (omega (arith, most)) walk) visit
+
+module _ {X : Type 0} (want drawn : ℕ) where
+  -- a walk of k visits so far, from the place drawn
+  pub record IsWalking (k : ℕ) (looks : Looks) (list : List (ℕ × ℕ)) (v w : View X) : Type 0 where
+    pub steps : List Did
+    pub walk : Walks want v.start.pages drawn k steps looks list
+    pub only : OnlyReads (λ q. q < v.start.pages) (did_change places.Hand drawn (hand_more drawn) ∷ steps) v w
+
+  pub walking-none : (v w : View X) → HandTold drawn v w → IsWalking 0 no_looks [] v w
+  walking-none v w t = record { steps = []; walk = (refl, refl, refl); only = hand-only (λ q. q < v.start.pages) drawn v w t }
+
+  -- one visit more
+  pub walking-on : (k p : ℕ) (old new : Looks) (chosen list : List (ℕ × ℕ)) (v w x : View X) → IsWalking k old chosen v w → length chosen < want → p ≡ (drawn % v.start.pages + k) % v.start.pages
+      → IsVisited p old chosen new list w x → IsWalking (suc k) new list v x
+  walking-on k p old new chosen list v w x so-far room at visited =
+      let touched : ℕ → Type 0 = λ q. q < v.start.pages in
+      let place : p ≡ (drawn + k) % v.start.pages = at ∙ mod-add-mod drawn v.start.pages k in
+      let start : w.start ≡ v.start = so-far.only.aside.start in
+      record {
+        steps = so-far.steps ++ visited.steps;
+        walk = (so-far.steps, visited.steps, old, chosen, refl, so-far.walk, room, subst (λ q. Visits chosen q visited.steps old new list) place visited.visits);
+        only = only-then touched (did_change places.Hand drawn (hand_more drawn) ∷ so-far.steps) visited.steps v w x so-far.only
+            record { aside = aside-within (λ q. q < w.start.pages) touched visited.steps w x (λ q l. subst (λ (o : Origin). q < o.pages) start l) visited.aside; keeps = visited.keeps };
+      }
+
+  -- what the looks and the candidates of a walk are, in a table of so many pages
+  module _ (k : ℕ) (looks : Looks) (list : List (ℕ × ℕ)) (v w : View X) (walking : IsWalking k looks list v w) where
+    pub walked-list : (pages : ℕ) → v.start.pages ≡ pages → k ≤ 2 * pages → AreCandidates pages list
+    walked-list pages is most =
+        subst (λ n. AreCandidates n list) is (are-candidates want v.start.pages drawn k walking.steps looks list (subst (λ n. k ≤ 2 * n) (sym is) most) walking.walk)
+
+    pub walked-looks : total looks ≡ k
+    walked-looks = all-counted want v.start.pages drawn k walking.steps looks list walking.walk
+
+    pub walked-few : length list ≤ want
+    walked-few = few-chosen want v.start.pages drawn k walking.steps looks list walking.walk

@@ -1,0 +1,59 @@
+-- The walk so far gives each clause.
+use Rattle.std.proofs.Common.{◌≡◌, ◌<◌, ◌≤◌, ◌+◌, ◌*◌, ◌%◌, length, suc, sym, ap, subst, ◌∙◌, arith}
+use Rattle.vm_step.specs.Passes.{view}
+use Rattle.vm_clock.specs.Clock.{total}
+use Rattle.vm_clock.proofs.Walking.{IsWalking, walked-few, walked-list, walked-looks, walking-on}
+use Rattle.vm_clock.proofs.candidates.Goals as goal
+
+pub returns-then-len-want-clause-list : goal.returns-then-len-want-clause-list
+returns-then-len-want-clause-list g c =
+    walked-list _ _ _ _ _ _ _ c.loop-k.invariant.walking _ c.requires.ready.table.is_shape.pages (subst (λ n. c.loop-k.k ≤ 2 * n) c.args.words.now.shape.0 c.loop-k.auto.k-end)
+
+pub returns-then-len-want-clause-looks : goal.returns-then-len-want-clause-looks
+returns-then-len-want-clause-looks g c =
+    subst (λ n. n ≤ 2 * c.args.words.now.table.shared.key.pages) (sym (walked-looks _ _ _ _ _ _ _ c.loop-k.invariant.walking)) (subst (λ n. c.loop-k.k ≤ 2 * n) c.args.words.now.shape.0 c.loop-k.auto.k-end)
+
+pub visit-requires-clause-room : goal.visit-requires-clause-room
+visit-requires-clause-room g c =
+    let few : length c.loop-k.chosen.list.items ≤ c.args.want = walked-few _ _ _ _ _ _ _ c.loop-k.invariant.walking in
+    let ne = c.if-len-want.false in
+    let len = c.len.ensures.value in
+    let most = c.requires.want.1 in
+    omega (arith, few, ne, len, most)
+
+pub visit-requires-clause-counts : goal.visit-requires-clause-counts
+visit-requires-clause-counts g c =
+    let counted : total c.loop-k.chosen.looks ≡ c.loop-k.k = walked-looks _ _ _ _ _ _ _ c.loop-k.invariant.walking in
+    let most : c.loop-k.k < 4294967295 =
+    let test = c.loop-k-test.true in
+    let pages = c.args.words.now.shape.2 in
+    omega (arith, test, pages) in
+    subst (λ n. n < 4294967295) (sym counted) most
+
+pub loop-k-preserved : goal.loop-k-preserved
+loop-k-preserved g c =
+    let few : length c.loop-k.chosen.list.items ≤ c.args.want = walked-few _ _ _ _ _ _ _ c.loop-k.invariant.walking in
+    let ne = c.if-len-want.false in
+    let len = c.len.ensures.value in
+    let room : length c.loop-k.chosen.list.items < c.args.want = omega (arith, few, ne, len) in
+    let pages : c.args.words.now.pages ≡ (view c.args.pass.now).start.pages = c.args.words.now.shape.0 ∙ sym c.requires.ready.table.is_shape.pages in
+    let place : (c.hand-drawn.result % c.args.words.now.pages + c.loop-k.k) % c.args.words.now.pages ≡ (c.hand-drawn.result % (view c.args.pass.now).start.pages + c.loop-k.k) % (view c.args.pass.now).start.pages =
+    ap (λ n. (c.hand-drawn.result % n + c.loop-k.k) % n) pages in
+    let next : suc c.loop-k.k ≡ c.loop-k.k + 1 = omega arith in
+    record {
+      same = (c.visit.ensures.pass.0 ∙ c.loop-k.invariant.same.0, c.visit.ensures.pass.1 ∙ c.loop-k.invariant.same.1);
+      ready = c.visit.ensures.ready;
+      walking = subst (λ n. IsWalking c.args.want c.hand-drawn.result n c.visit.new.chosen.looks c.visit.new.chosen.list.items (view c.args.pass.now) (view c.visit.new.pass)) next
+          (walking-on _ _ _ _ _ _ _ _ _ _ _ c.loop-k.invariant.walking room place c.visit.ensures.visited);
+    }
+
+pub returns-clause-list : goal.returns-clause-list
+returns-clause-list g c =
+    walked-list _ _ _ _ _ _ _ c.loop-k.invariant.walking _ c.requires.ready.table.is_shape.pages (subst (λ n. c.loop-k.k ≤ 2 * n) c.args.words.now.shape.0 c.loop-k.auto.k-end)
+
+pub returns-clause-looks : goal.returns-clause-looks
+returns-clause-looks g c =
+    subst (λ n. n ≤ 2 * c.args.words.now.table.shared.key.pages) (sym (walked-looks _ _ _ _ _ _ _ c.loop-k.invariant.walking)) (subst (λ n. c.loop-k.k ≤ 2 * n) c.args.words.now.shape.0 c.loop-k.auto.k-end)
+
+pub returns-clause-few : goal.returns-clause-few
+returns-clause-few g c = walked-few _ _ _ _ _ _ _ c.loop-k.invariant.walking

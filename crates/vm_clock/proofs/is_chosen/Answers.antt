@@ -1,0 +1,13 @@
+use Rattle.std.proofs.Common.{◌≡◌, ◌+◌, false, suc, take, sym, subst, arith}
+use Rattle.vm_clock.specs.Clock.{pages_of}
+use Rattle.vm_owner.specs.Numbers.{has}
+use Rattle.vm_clock.proofs.Choices.{has-at, has-next}
+use Rattle.vm_clock.proofs.is_chosen.Goals as goal
+
+pub returns-then-list-i : goal.returns-then-list-i
+returns-then-list-i c = sym (has-at _ _ _ _ c.loop-i-test.true c.if-list-i.true)
+
+pub loop-i-preserved : goal.loop-i-preserved
+loop-i-preserved c =
+    let on : suc c.loop-i.i ≡ c.loop-i.i + 1 = omega arith in
+    subst (λ n. has c.args.p (pages_of (take n c.args.list.now)) ≡ false) on (has-next _ _ _ _ c.loop-i-test.true c.if-list-i.false c.loop-i.invariant)

@@ -1,0 +1,91 @@
+-- How the clock chooses candidates for eviction: from a place drawn from the hand it walks over the pages, round and round, looks at each, and
+-- counts what it sees by the first of these that fits: a page chosen before; an evicted one; one that somebody has locked; one at the last
+-- version; an unlocked one, which it marks; a marked one, which it chooses.
+use Rattle.std.specs.Prelude.{ℕ, true, false, Option, Some, None, List, [], ◌∷◌, ◌++◌, ◌≡◌, ◌≢◌, ◌⊎◌, ◌+◌, ◌*◌, ◌%◌, ◌<◌, ◌≤◌, zero, suc, length}
+use Rattle.vm_core.specs.Words.{state_of, version_of, word_of, hand_more, UNLOCKED, LOCKED, MARKED, EVICTED, MAX_VERSION}
+use Rattle.vm_owner.specs.Numbers.{has, AreApart}
+use Rattle.vm_rule.specs.declared.view.Did.{Did}
+use Rattle.vm_rule.specs.declared.view.Place.TheVariants as places
+use Rattle.vm_rule.specs.declared.view.View.{View}
+use Rattle.vm_rule.specs.Views.{Each}
+use Rattle.vm_rule.specs.Log.{did_load, did_exchange, did_change}
+use Rattle.vm_step.specs.Asides.{IsAsideOf, KeepsFrames}
+use Rattle.vm_clock.specs.declared.looks.Looks.{Looks}
+
+-- the pages of the candidates
+abbrev pub pages_of : List (ℕ × ℕ) → List ℕ
+pages_of [] = []
+pages_of (c ∷ cs) = c.0 ∷ pages_of cs
+
+abbrev pub no_looks : Looks
+no_looks = record { found = 0; again = 0; marked = 0; lost = 0; held = 0; gone = 0; worn = 0; first_worn = None }
+
+-- how many looks are counted
+abbrev pub total : Looks → ℕ
+total l = l.found + (l.again + (l.marked + (l.lost + (l.held + (l.gone + l.worn)))))
+
+-- the first of them, or this page
+abbrev pub first_or : Option ℕ → ℕ → Option ℕ
+first_or None p = Some p
+first_or (Some q) p = Some q
+
+-- somebody has the page locked: exclusively, or by shares
+abbrev pub IsHeld : ℕ → Type 0
+IsHeld word = ((1 ≤ state_of word) × (state_of word ≤ LOCKED))
+
+-- the word of a page that may be locked exclusively as far as its version goes
+abbrev pub IsFresh : ℕ → Type 0
+IsFresh word = version_of word < MAX_VERSION
+
+-- a look at page p found this word, and the page was not chosen before
+pub record LooksAt (chosen : List (ℕ × ℕ)) (p word : ℕ) (steps : List Did) (more : List Did) : Type 0 where
+  pub new : has p (pages_of chosen) ≡ false
+  pub steps_are : steps ≡ did_load (places.State p) word ∷ more
+
+-- what the look at page p comes to: the looks counted after it, and the candidates
+pub data Visits (chosen : List (ℕ × ℕ)) (p : ℕ) (steps : List Did) (old : Looks) (new : Looks) (list : List (ℕ × ℕ)) : Type 0 where
+  again : (word : ℕ) → has p (pages_of chosen) ≡ true → steps ≡ did_load (places.State p) word ∷ [] → new ≡ record old { again = old.again + 1 } → list ≡ chosen → Visits chosen p steps old new list
+  gone : (word : ℕ) → LooksAt chosen p word steps [] → state_of word ≡ EVICTED → new ≡ record old { gone = old.gone + 1 } → list ≡ chosen → Visits chosen p steps old new list
+  held : (word : ℕ) → LooksAt chosen p word steps [] → IsHeld word → new ≡ record old { held = old.held + 1 } → list ≡ chosen → Visits chosen p steps old new list
+  worn : (word : ℕ) → LooksAt chosen p word steps [] → (state_of word ≡ UNLOCKED) ⊎ (state_of word ≡ MARKED) → version_of word ≡ MAX_VERSION → new ≡ record old { worn = old.worn + 1; first_worn = first_or old.first_worn p } → list ≡ chosen → Visits chosen p steps old new list
+  marked : (word : ℕ) → LooksAt chosen p word steps (did_exchange (places.State p) word word (word_of MARKED (version_of word)) ∷ []) → state_of word ≡ UNLOCKED → IsFresh word → new ≡ record old { marked = old.marked + 1 } → list ≡ chosen → Visits chosen p steps old new list
+  lost : (word other : ℕ) → other ≢ word → LooksAt chosen p word steps (did_exchange (places.State p) word other (word_of MARKED (version_of word)) ∷ []) → state_of word ≡ UNLOCKED → IsFresh word → new ≡ record old { lost = old.lost + 1 } → list ≡ chosen → Visits chosen p steps old new list
+  found : (word : ℕ) → LooksAt chosen p word steps [] → state_of word ≡ MARKED → IsFresh word → new ≡ record old { found = old.found + 1 } → list ≡ chosen ++ (p, word) ∷ [] → Visits chosen p steps old new list
+
+-- the first `count` looks of a walk from the place drawn: each was made because candidates were still wanted
+abbrev pub Walks : ℕ → ℕ → ℕ → ℕ → List Did → Looks → List (ℕ × ℕ) → Type 0
+Walks want pages drawn zero done looks list = (done ≡ []) × (looks ≡ no_looks) × (list ≡ [])
+Walks want pages drawn (suc k) done looks list =
+    (before : List Did) × (steps : List Did) × (old : Looks) × (chosen : List (ℕ × ℕ))
+    × (done ≡ before ++ steps) × Walks want pages drawn k before old chosen × (length chosen < want)
+    × Visits chosen ((drawn + k) % pages) steps old looks list
+
+-- a candidate: a page of the table, with its word, which was marked below the last version
+pub record IsCandidate (pages : ℕ) (c : ℕ × ℕ) : Type 0 where
+  pub page : c.0 < pages
+  pub marked : state_of c.1 ≡ MARKED
+  pub below : version_of c.1 < MAX_VERSION
+
+-- candidates for eviction: each another page
+pub record AreCandidates (pages : ℕ) (list : List (ℕ × ℕ)) : Type 0 where
+  pub apart : AreApart (pages_of list)
+  pub each : Each (IsCandidate pages) list
+
+module _ {X : Type 0} where
+  -- the walk that chose these candidates, and what it left of the view: no lock, no frame and no entry changed
+  pub record IsChosen (want : ℕ) (looks : Looks) (list : List (ℕ × ℕ)) (v w : View X) : Type 0 where
+    pub drawn : ℕ
+    pub count : ℕ
+    pub steps : List Did
+    pub walk : Walks want v.start.pages drawn count steps looks list
+    pub most : count ≤ 2 * v.start.pages
+    pub ends : (length list ≡ want) ⊎ (count ≡ 2 * v.start.pages)
+    pub aside : IsAsideOf (λ p. p < v.start.pages) (did_change places.Hand drawn (hand_more drawn) ∷ steps) v w
+    pub keeps : KeepsFrames v w
+
+  -- page p was visited: what the look came to, and what it left of the view
+  pub record IsVisited (p : ℕ) (old : Looks) (chosen : List (ℕ × ℕ)) (new : Looks) (list : List (ℕ × ℕ)) (v w : View X) : Type 0 where
+    pub steps : List Did
+    pub visits : Visits chosen p steps old new list
+    pub aside : IsAsideOf (λ q. q < v.start.pages) steps v w
+    pub keeps : KeepsFrames v w

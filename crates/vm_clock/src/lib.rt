@@ -1,0 +1,102 @@
+//! The clock that chooses pages for eviction: it marks the pages that it passes, and chooses those that still have their mark when it comes
+//! round. Marks are states of the page's word, which a reader takes away.
+#![tactic(auto)]
+
+ghost use Rattle.std.specs.Prelude.{◌≡◌, ◌*◌, ◌<◌, ◌≤◌, length};
+ghost use Rattle.vm_clock.specs.Clock.{AreCandidates, IsChosen, IsVisited, pages_of, total};
+ghost use Rattle.vm_owner.specs.Numbers.{has};
+ghost use Rattle.vm_step.specs.Passes.{IsSamePass, view};
+ghost use Rattle.vm_step.specs.Ready.{IsReady};
+
+mod looks;
+
+use arrayvec::ArrayVec;
+use looks::NO_LOOKS;
+pub use looks::{Candidates, Looks};
+use vm_block::Block;
+use vm_core::{MAX_VERSION, StateWord};
+use vm_owner::Owner;
+use vm_rule::words::{Pass, Words};
+use vm_step::{Took, hand, look_silently, mark};
+
+#[cfg(test)]
+mod tests;
+
+/// Chooses up to `want` (1 to 64) candidates, with at most two looks at each page of the table.
+pub fn candidates<U: Owner, B: Block>(
+    words: &Words<U, B>,
+    pass: &mut Pass<U>,
+    want: u32,
+) -> Candidates
+    requires ready { IsReady words.now.table.shared.key B.tells words.now.table.shared.table_id pass.old }
+    requires want { (1 ≤ want) × (want ≤ 64) }
+    ensures pass { IsSamePass pass.old pass.new }
+    ensures ready { IsReady words.now.table.shared.key B.tells words.now.table.shared.table_id pass.new }
+    ensures chosen { IsChosen want result.looks result.list.items (view pass.old) (view pass.new) }
+    ensures list { AreCandidates words.now.table.shared.key.pages result.list.items }
+    ensures looks { total result.looks ≤ 2 * words.now.table.shared.key.pages }
+    ensures few { length result.list.items ≤ want }
+{
+    let drawn = hand(words, pass);
+    let mut chosen = Candidates {
+        list: ArrayVec::new(),
+        looks: NO_LOOKS,
+    };
+    for k in 0..2 * words.pages {
+        if chosen.list.len() == want as usize {
+            return chosen;
+        }
+        let page = (drawn % words.pages as u64 + k as u64) % words.pages as u64;
+        visit(words, pass, page as u32, &mut chosen);
+    }
+    chosen
+}
+
+/// Whether the page is one of the candidates.
+fn is_chosen(list: &[(u32, u64)], p: u32) -> bool
+    ensures { result ≡ has p (pages_of list.now) }
+{
+    for i in 0..list.len() {
+        if list[i].0 == p {
+            return true;
+        }
+    }
+    false
+}
+
+/// Looks at the page, and counts what the look came to: the first that fits. An unlocked page is marked, a marked one is chosen.
+fn visit<U: Owner, B: Block>(
+    words: &Words<U, B>,
+    pass: &mut Pass<U>,
+    p: u32,
+    chosen: &mut Candidates,
+)
+    requires ready { IsReady words.now.table.shared.key B.tells words.now.table.shared.table_id pass.old }
+    requires page { p < words.now.table.shared.key.pages }
+    requires room { length chosen.old.list.items < 64 }
+    requires counts { total chosen.old.looks < 4294967295 }
+    ensures pass { IsSamePass pass.old pass.new }
+    ensures ready { IsReady words.now.table.shared.key B.tells words.now.table.shared.table_id pass.new }
+    ensures visited { IsVisited p chosen.old.looks chosen.old.list.items chosen.new.looks chosen.new.list.items (view pass.old) (view pass.new) }
+{
+    let word = look_silently(words, pass, p);
+    let state = StateWord::state(word);
+    if is_chosen(chosen.list.as_slice(), p) {
+        chosen.looks.again += 1;
+    } else if state == StateWord::EVICTED {
+        chosen.looks.gone += 1;
+    } else if state != StateWord::UNLOCKED && state != StateWord::MARKED {
+        chosen.looks.held += 1;
+    } else if StateWord::version(word) == MAX_VERSION {
+        chosen.looks.worn += 1;
+        chosen.looks.first_worn = chosen.looks.first_worn.or(Some(p));
+    } else if state == StateWord::MARKED {
+        chosen.looks.found += 1;
+        chosen.list.push((p, word));
+    } else {
+        match mark(words, pass, p, word) {
+            Took::Taken => chosen.looks.marked += 1,
+            Took::Lost(_) => chosen.looks.lost += 1,
+        }
+    }
+}

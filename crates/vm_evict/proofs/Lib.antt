@@ -1,0 +1,17 @@
+pub mod Copying
+pub mod Writing
+pub mod Evidenced
+pub mod FlushSteps
+pub mod FlushWords
+pub mod FlushEnds
+pub mod FlushVisits
+pub mod FlushAlone
+pub mod FlushPages
+pub mod Taken
+pub mod Dropping
+pub mod Owning
+pub mod Saving
+pub mod Locking
+pub mod Afterwards
+pub mod Looking
+pub mod Tallies

@@ -1,0 +1,241 @@
+-- The write-back of a dirty page: its block is taken out, the page's words are copied from its frame and written, and the block is brought home;
+-- then the page is made clean, or the fault is noted.
+use Rattle.std.proofs.Common.{ℕ, ◌≡◌, ◌≤◌, ◌&&◌, ◌||◌, ◌++◌, true, false, nat_lt, List, [], ◌∷◌, Option, Some, None, IsSome, is_some, length, refl, sym, ap, subst, ◌∙◌, inl, inr, if◌then◌else◌, Bool, Result, Ok, Err, is_ok}
+use Rattle.std.proofs.lemmas.Bool.{cond-true, cond-false, lt-ltb, or_right}
+use Rattle.vm_core.specs.declared.event.Mapping.{Mapping}
+use Rattle.vm_core.specs.declared.event.Seat.{Seat}
+use Rattle.vm_core.specs.Words.{count_more}
+use Rattle.vm_core.specs.FrameActs.{frame_of, open_frame, trans_word}
+use Rattle.vm_core.specs.History.{Version}
+use Rattle.vm_core.proofs.Upd.{upd-other, upd-same}
+use Rattle.vm_block.specs.Blocks.{Writes, one_more}
+use Rattle.vm_block.specs.declared.stored.Stored.{Stored}
+use Rattle.vm_rule.specs.declared.view.Did.{Did}
+use Rattle.vm_rule.specs.declared.view.Held.{Held}
+use Rattle.vm_rule.specs.declared.view.Origin.{Origin}
+use Rattle.vm_rule.specs.declared.view.Place.TheVariants as places
+use Rattle.vm_rule.specs.declared.view.View.{View}
+use Rattle.vm_rule.specs.Puts.{put, put_at}
+use Rattle.vm_rule.specs.Views.{Each, seat_of, draft_of}
+use Rattle.vm_rule.specs.Reading.{last_of}
+use Rattle.vm_rule.specs.Rule.{no_held}
+use Rattle.vm_rule.specs.Faults.{RaiseTold, notes_of}
+use Rattle.vm_rule.specs.Loads.{frame_read_by}
+use Rattle.vm_rule.specs.Log.{did_store}
+use Rattle.vm_rule.specs.Mappings.{CleanTold, IsWritten, clean_in, held_at, mapped}
+use Rattle.vm_rule.specs.Slots.{HomeTold, MayBring, OutTold, out_at, words_held}
+use Rattle.vm_rule.proofs.Heard.{each-both}
+use Rattle.vm_step.specs.Asides.{KeepsFrames}
+use Rattle.vm_step.specs.Conditions.{MayRaise, MayTakeOut}
+use Rattle.vm_step.specs.Works.{Works}
+use Rattle.vm_step.proofs.Asides.{keeps-then}
+use Rattle.vm_step.proofs.Device.{Moves, comes-home, goes-out, may-bring-written, more-is, noted-more, two-loads}
+use Rattle.vm_step.proofs.Leaves.{works-one, works-then}
+use Rattle.vm_evict.specs.Writes.{IsCleaned, IsCopied, IsRefused, IsToWrite, LeavesState, WritesOwn}
+use Rattle.vm_evict.proofs.Copying.{leaves-both, no-state, reads-same}
+
+-- the frame of a page that is shared and resident is read
+shared-frame : (e b s : Bool) (x y : Option ℕ) → b ≡ true → s ≡ true → (if (e || b) && s then x else y) ≡ x
+shared-frame e b s x y hb hs = cond-true ((e || b) && s) x y (ap (λ (t : Bool). t && s) (or_right e b hb) ∙ hs)
+
+module _ {X : Type 0} (p f : ℕ) (v : View X) (r : IsToWrite p f v) where
+  pub may-take-out : MayTakeOut v p
+  may-take-out = record { calls = or_right (seat_of v p).exclusive (seat_of v p).writing r.writes; none = r.home }
+
+  reads-frame : frame_read_by v p ≡ Some f
+  reads-frame =
+      shared-frame (seat_of v p).exclusive (nat_lt 0 (seat_of v p).shares) (is_some (held_at v p).mapping) (frame_of (held_at v p).mapping) (open_frame (seat_of v p).reading) (lt-ltb 0 (seat_of v p).shares r.shared) (ap (λ (m : Option Mapping). is_some m) r.stands)
+      ∙ ap frame_of r.stands
+
+  module _ (old : Stored) (a : View X) (o : OutTold p old v a) where
+    abbrev out-did : List Did
+    out-did = two-loads p o.first o.second
+
+    gone : Moves p out-did (held_at v p) (Some (out_at p false old)) v a
+    gone = goes-out p old v a o
+
+    pub work-gone : Works p out-did v a
+    work-gone = gone.works
+
+    pub copies-frame : frame_read_by a p ≡ Some f
+    copies-frame = reads-same p v a gone.works.seat gone.known ∙ reads-frame
+
+    pub copies-shared : (1 ≤ (seat_of a p).shares) × ((seat_of a p).reading ≡ None)
+    copies-shared = (subst (λ (s : Seat). 1 ≤ s.shares) (sym gone.works.seat) r.shared, ap (λ (s : Seat). s.reading) gone.works.seat ∙ r.closed)
+
+    pub copies-size : length (last_of a p).words ≡ 64
+    copies-size = ap (λ (x : Version). length x.words) (gone.works.last (inr r.shared)) ∙ r.size
+
+    module _ (page : List ℕ) (b : View X) (k : IsCopied p page a b) where
+      abbrev copied-did : List Did
+      copied-did = out-did ++ k.done
+
+      work-copied : Works p copied-did v b
+      work-copied = works-then p out-did k.done v a b gone.works k.works
+
+      held-copied : held_at b p ≡ held_at v p
+      held-copied = k.held ∙ gone.known
+
+      stands-copied : IsSome (held_at b p).mapping
+      stands-copied = subst (λ (h : Held). IsSome h.mapping) (sym held-copied) (subst (λ (m : Option Mapping). IsSome m) (sym r.stands) refl)
+
+      last-copied : last_of b p ≡ last_of v p
+      last-copied = work-copied.last (inr r.shared)
+
+      -- the page has the words that stand in its frame
+      page-is : v.start.tells ≡ true → page ≡ (last_of v p).words
+      page-is tells = k.same (ap (λ (s : Origin). s.tells) gone.works.leaves.start ∙ tells) ∙ ap (λ (x : Version). x.words) (gone.works.last (inr r.shared))
+
+      page-held : b.start.tells ≡ true → page ≡ words_held b p
+      page-held tells =
+          page-is (sym (ap (λ (s : Origin). s.tells) work-copied.leaves.start) ∙ tells)
+          ∙ ap (λ (x : Version). x.words) (sym last-copied)
+          ∙ sym (cond-false (seat_of b p).exclusive (draft_of b p) (last_of b p).words (ap (λ (s : Seat). s.exclusive) work-copied.seat ∙ r.owns))
+
+      module _ {E : Type 0} (tells : Bool) (telling : v.start.tells ≡ tells) (new : Stored) (result : Result (Unit {0}) E) (write : Writes tells old new page result) where
+        pub may-come-home : MayBring b p old new
+        may-come-home =
+            may-bring-written p tells b old new page (ap (λ (s : Origin). s.tells) work-copied.leaves.start ∙ telling) result write stands-copied page-held (k.out ∙ gone.away)
+
+        module _ (d : View X) (home : (x : Stored) → MayBring b p x new → HomeTold p x new b d) where
+          abbrev pub m : HomeTold p old new b d
+          m = home old may-come-home
+
+          abbrev home-did : List Did
+          home-did = two-loads p m.first m.second
+
+          abbrev called-did : List Did
+          called-did = copied-did ++ home-did
+
+          back : Moves p home-did (record (held_at b p) { block = new }) None b d
+          back = comes-home p old new b d m
+
+          pub work-called : Works p called-did v d
+          work-called = works-then p copied-did home-did v b d work-copied back.works
+
+          abbrev held-called : Held
+          held-called = record (held_at v p) { block = new }
+
+          held-is : held_at d p ≡ held-called
+          held-is = back.known ∙ ap (λ (h : Held). record h { block = new }) held-copied
+
+          state-called : LeavesState p called-did
+          state-called =
+              let away = no-state p (places.Fault p) refl in
+              leaves-both p copied-did home-did (leaves-both p out-did k.done (away, (away, tt)) k.state) (away, (away, tt))
+
+          own-called : Each (WritesOwn p) called-did
+          own-called =
+              each-both (WritesOwn p) copied-did home-did (each-both (WritesOwn p) out-did k.done (inl refl, (inl refl, tt)) k.own) (inl refl, (inl refl, tt))
+
+          keeps-called : KeepsFrames v d
+          keeps-called = keeps-then v b d (keeps-then v a b gone.keeps k.keeps) back.keeps
+
+          last-called : last_of d p ≡ last_of v p
+          last-called = work-called.last (inr r.shared)
+
+          writes-called : (seat_of d p).writing ≡ true
+          writes-called = ap (λ (s : Seat). s.writing) work-called.seat ∙ r.writes
+
+          -- ---- the write answered
+
+          module _ (u : Unit {0}) (ok : result ≡ Ok u) where
+            stored : v.start.tells ≡ true → new.words ≡ (last_of v p).words
+            stored t = write.held (sym telling ∙ t) ∙ ap (λ (y : Result (Unit {0}) E). if is_ok y then page else old.words) ok ∙ page-is t
+
+            count-same : new.count ≡ old.count
+            count-same = write.count ∙ ap (λ (y : Result (Unit {0}) E). if is_ok y then old.count else one_more old.count) ok
+
+            pub may-clean : IsWritten d p f
+            may-clean = record {
+              writes = writes-called;
+              dirty = true;
+              stands = ap (λ (h : Held). h.mapping) held-is ∙ r.stands;
+              stored = λ t.
+                  ap (λ (h : Held). h.block.words) held-is
+                  ∙ stored (ap (λ (s : Origin). s.tells) (sym work-called.leaves.start) ∙ t)
+                  ∙ ap (λ (x : Version). x.words) (sym last-called);
+            }
+
+            module _ (w : View X) (t : CleanTold p f d w) where
+              abbrev clean-did : Did
+              clean-did = did_store (places.Translation p) (trans_word (Some (clean_in f)))
+
+              clean-work : Works p (clean-did ∷ []) d w
+              clean-work =
+                  works-one p clean-did _ d (mapped p (Some (clean_in f)) d) d.frames d.contents d.out d.notes w
+                  (λ q ne. upd-other (put_at no_held d.held) p (record (held_at d p) { mapping = Some (clean_in f) }) q ne) t.brings
+
+              work-cleaned : Works p (called-did ++ clean-did ∷ []) v w
+              work-cleaned = works-then p called-did (clean-did ∷ []) v d w work-called clean-work
+
+              held-cleaned : held_at w p ≡ record held-called { mapping = Some (clean_in f) }
+              held-cleaned =
+                  ap (λ (y : View X). held_at y p) t.brings.view
+                  ∙ upd-same (put_at no_held d.held) p (record (held_at d p) { mapping = Some (clean_in f) })
+                  ∙ ap (λ (h : Held). record h { mapping = Some (clean_in f) }) held-is
+
+              pub cleaned : IsCleaned p f v w
+              cleaned = record {
+                done = called-did ++ clean-did ∷ [];
+                works = work-cleaned;
+                state = leaves-both p called-did (clean-did ∷ []) state-called (no-state p (places.Translation p) refl, tt);
+                own = each-both (WritesOwn p) called-did (clean-did ∷ []) own-called (inr (inl refl), tt);
+                cleaned = record { earlier = called-did; step = clean-did; later = []; cut = refl; place = refl; wrote = refl };
+                ends = refl;
+                stands = ap (λ (h : Held). h.mapping) held-cleaned;
+                stored = λ tells. ap (λ (h : Held). h.block.words) held-cleaned ∙ stored tells ∙ ap (λ (x : Version). x.words) (sym (work-cleaned.last (inr r.shared)));
+                told = subst (λ (h : Held). h.fault ≡ h.block.count) (sym held-cleaned) (r.told ∙ sym o.slot.block.count ∙ sym count-same);
+                keeps = keeps-then v d w keeps-called
+                    record { frames = ap (λ (y : View X). y.frames) t.brings.view; contents = ap (λ (y : View X). y.contents) t.brings.view; notes = ap (λ (y : View X). y.notes) t.brings.view };
+                home = ap (λ (y : View X). y.out) t.brings.view ∙ back.away;
+              }
+
+          -- ---- the write failed
+
+          module _ (n : ℕ) (is : n ≡ new.count) where
+            pub may-raise : MayRaise d p n
+            may-raise = record {
+              calls = or_right (seat_of d p).exclusive (seat_of d p).writing writes-called;
+              is = is ∙ ap (λ (h : Held). h.block.count) (sym held-is);
+            }
+
+            module _ (u : E) (err : result ≡ Err u) (w : View X) (t : RaiseTold p n d w) where
+              abbrev raise-did : Did
+              raise-did = did_store (places.Fault p) n
+
+              raise-work : Works p (raise-did ∷ []) d w
+              raise-work =
+                  works-one p raise-did _ d (put p (record (held_at d p) { fault = n }) d.held) d.frames d.contents d.out (d.notes ++ notes_of p (held_at d p).fault n) w
+                  (λ q ne. upd-other (put_at no_held d.held) p (record (held_at d p) { fault = n }) q ne) t.brings
+
+              held-raised : held_at w p ≡ record held-called { fault = n }
+              held-raised =
+                  ap (λ (y : View X). held_at y p) t.brings.view ∙ upd-same (put_at no_held d.held) p (record (held_at d p) { fault = n }) ∙ ap (λ (h : Held). record h { fault = n }) held-is
+
+              count : new.count ≡ count_more old.count
+              count = write.count ∙ ap (λ (y : Result (Unit {0}) E). if is_ok y then old.count else one_more old.count) err ∙ more-is old.count
+
+              -- the fault word was the count before
+              noted-once : notes_of p (held_at d p).fault n ≡ record { page = p; count = n } ∷ []
+              noted-once =
+                  let fault : (held_at d p).fault ≡ old.count = ap (λ (h : Held). h.fault) held-is ∙ r.told ∙ sym o.slot.block.count in
+                  subst (λ (j : ℕ). notes_of p j n ≡ record { page = p; count = n } ∷ []) (sym fault)
+                  (subst (λ (j : ℕ). notes_of p old.count j ≡ record { page = p; count = j } ∷ []) (sym (is ∙ count)) (noted-more p old.count))
+
+              pub refused : IsRefused p f n v w
+              refused = record {
+                done = called-did ++ raise-did ∷ [];
+                works = works-then p called-did (raise-did ∷ []) v d w work-called raise-work;
+                state = leaves-both p called-did (raise-did ∷ []) state-called (no-state p (places.Fault p) refl, tt);
+                own = each-both (WritesOwn p) called-did (raise-did ∷ []) own-called (inr (inr refl), tt);
+                raised = record { earlier = called-did; step = raise-did; later = []; cut = refl; place = refl; wrote = refl };
+                noted =
+                    ap (λ (y : View X). y.notes) t.brings.view
+                    ∙ ap (λ l. d.notes ++ l) noted-once
+                    ∙ ap (λ l. l ++ record { page = p; count = n } ∷ []) keeps-called.notes;
+                stands = ap (λ (h : Held). h.mapping) held-raised ∙ r.stands;
+                told = subst (λ (h : Held). h.fault ≡ h.block.count) (sym held-raised) is;
+                frames = (ap (λ (y : View X). y.frames) t.brings.view ∙ keeps-called.frames, ap (λ (y : View X). y.contents) t.brings.view ∙ keeps-called.contents);
+                home = ap (λ (y : View X). y.out) t.brings.view ∙ back.away;
+              }

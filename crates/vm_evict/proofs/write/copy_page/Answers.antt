@@ -1,0 +1,34 @@
+use Rattle.std.proofs.Common.{◌≡◌, ◌≤◌, ℕ, length, refl, ap, ◌∙◌, arith}
+use Rattle.vm_step.specs.Passes.{view}
+use Rattle.vm_step.proofs.Leaves.{ready-after}
+use Rattle.vm_evict.proofs.Copying.{copied, copies-more, copies-none, reads-same}
+use Rattle.vm_evict.proofs.write.copy_page.Goals as goal
+
+sixty-four : (i : ℕ) → 64 ≤ i → i ≤ 64 → i ≡ 64
+sixty-four i ge le = omega (arith, ge, le)
+
+pub load-requires-clause-pass : goal.load-requires-clause-pass
+load-requires-clause-pass g c =
+    (ready-after _ _ _ c.args.pass.now c.loop-i.pass c.args.p _ c.loop-i.invariant.same c.loop-i.invariant.copies.works.leaves c.requires.ready).may
+
+pub load-requires-clause-frame : goal.load-requires-clause-frame
+load-requires-clause-frame g c =
+    reads-same c.args.p (view c.args.pass.now) (view c.loop-i.pass) c.loop-i.invariant.copies.works.seat c.loop-i.invariant.copies.held ∙ c.requires.frame
+
+pub loop-i-init : goal.loop-i-init
+loop-i-init g c = record { same = (refl, refl); copies = copies-none c.args.p c.zero-page.result (view c.args.pass.now) (ap length c.zero-page.ensures) }
+
+pub loop-i-preserved : goal.loop-i-preserved
+loop-i-preserved g c = record {
+  same = (c.load.ensures.pass.0 ∙ c.loop-i.invariant.same.0, c.load.ensures.pass.1 ∙ c.loop-i.invariant.same.1);
+  copies =
+      rw c.set.ensures.words
+      (copies-more c.args.p c.args.frame c.loop-i.i c.load.result c.loop-i.page (view c.args.pass.now) (view c.loop-i.pass) (view c.load.new.pass) c.loop-i.invariant.copies c.requires.shared.0 c.requires.shared.1 c.loop-i-test.true c.load.ensures.told);
+}
+
+pub returns-clause-ready : goal.returns-clause-ready
+returns-clause-ready g c = ready-after _ _ _ c.args.pass.now c.loop-i.pass c.args.p _ c.loop-i.invariant.same c.loop-i.invariant.copies.works.leaves c.requires.ready
+
+pub returns-clause-copied : goal.returns-clause-copied
+returns-clause-copied g c =
+    copied c.args.p c.loop-i.i c.loop-i.page (view c.args.pass.now) (view c.loop-i.pass) (sixty-four c.loop-i.i c.loop-i-test.false c.loop-i.auto.i-end) c.requires.size c.loop-i.invariant.copies

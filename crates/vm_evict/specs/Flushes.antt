@@ -1,0 +1,167 @@
+-- What a flush does with each page, by rising number. A page that is evicted or clean it leaves; one that somebody has locked, or that changed
+-- before it could be locked, is busy; any other is written under a share, and is clean then, or its write failed and it stays dirty.
+use Rattle.std.specs.Prelude.{ℕ, true, false, Option, Some, None, List, [], ◌∷◌, ◌++◌, ◌≡◌, ◌≢◌, ◌⊎◌, ◌+◌, ◌<◌, ◌≤◌, zero, suc, length}
+use Rattle.vm_core.specs.Words.{state_of, version_of, word_of, UNLOCKED, MARKED, EVICTED}
+use Rattle.vm_core.specs.FrameActs.{mapping_of, trans_word}
+use Rattle.vm_laws_others.specs.Leaves.{stands_dirty}
+use Rattle.vm_rule.specs.declared.view.Did.{Did}
+use Rattle.vm_rule.specs.declared.view.Note.{Note}
+use Rattle.vm_rule.specs.declared.view.Place.TheVariants as places
+use Rattle.vm_rule.specs.declared.view.View.{View}
+use Rattle.vm_owner.specs.Numbers.{has}
+use Rattle.vm_rule.specs.Views.{Each, IsWhole, seat_of}
+use Rattle.vm_rule.specs.Reading.{last_of}
+use Rattle.vm_rule.specs.Mappings.{clean_in, dirty_in}
+use Rattle.vm_rule.specs.Log.{did_exchange}
+use Rattle.vm_rule_laws.specs.Standing.{state_in, mapping_in}
+use Rattle.vm_step.specs.Alone.{RunsAlone}
+use Rattle.vm_step.specs.Asides.{IsAside, IsAsideOf, KeepsFrames}
+use Rattle.vm_step.specs.Conditions.{IsToldOf}
+use Rattle.vm_step.specs.Evidence.{HasGiven, HasWritten}
+use Rattle.vm_step.specs.Works.{Works}
+use Rattle.vm_step.specs.declared.took.Took.{Took}
+use Rattle.vm_step.specs.declared.took.Took.TheVariants.{Taken, Lost}
+use Rattle.vm_clock.specs.Clock.{IsHeld, first_or}
+use Rattle.vm_evict.specs.Evictions.{HasLost, IsUnwritten}
+use Rattle.vm_evict.specs.Writes.{WritesOwn}
+use Rattle.vm_evict.specs.declared.flushing.Flushed.{Flushed}
+
+abbrev pub nothing_flushed : Flushed
+nothing_flushed = record { written = 0; failed = 0; busy = 0; first = None }
+
+-- how many pages were written, failed or were busy
+abbrev pub done_of : Flushed → ℕ
+done_of f = f.written + (f.failed + f.busy)
+
+-- the frame of a dirty page, by its translation word; none where the page is not dirty
+abbrev pub IsDirtyFrame : ℕ → Option ℕ → Type 0
+IsDirtyFrame word None = stands_dirty (mapping_of word) ≡ false
+IsDirtyFrame word (Some f) = mapping_of word ≡ Some (dirty_in f)
+
+-- the page of the first of these notes
+abbrev pub first_noted : List Note → Option ℕ
+first_noted [] = None
+first_noted (n ∷ ns) = Some n.page
+
+-- the notes are of pages from `low` on and below `high`, each of a greater one than the note before
+abbrev pub RisesFrom : ℕ → ℕ → List Note → Type 0
+RisesFrom low high [] = low ≤ high
+RisesFrom low high (n ∷ ns) = (low ≤ n.page) × (n.page < high) × RisesFrom (n.page + 1) high ns
+
+-- the pages of the notes
+abbrev pub noted_pages : List Note → List ℕ
+noted_pages [] = []
+noted_pages (n ∷ ns) = n.page ∷ noted_pages ns
+
+module _ {X : Type 0} where
+  -- nothing of page p changed but its open read
+  pub record IsLeft (p : ℕ) (done : List Did) (v w : View X) : Type 0 where
+    pub aside : IsAside p done v w
+    pub keeps : KeepsFrames v w
+    pub alone : RunsAlone done [] v w
+
+  -- what the visit of page p comes to
+  pub data Visits (p : ℕ) (v w : View X) (old new : Flushed) : Type 0 where
+    gone : (done : List Did) (word : ℕ) → IsLeft p done v w → HasGiven done (places.State p) word → state_of word ≡ EVICTED → new ≡ old → Visits p v w old new
+    clean : (done : List Did) (word : ℕ) → IsLeft p done v w → HasGiven done (places.Translation p) word → stands_dirty (mapping_of word) ≡ false → new ≡ old → Visits p v w old new
+    held : (done : List Did) (word : ℕ) → IsLeft p done v w → HasGiven done (places.State p) word → IsHeld word → new ≡ record old { busy = old.busy + 1 } → Visits p v w old new
+    lost : (done : List Did) (word : ℕ) → IsLeft p done v w → HasLost done (places.State p) word → new ≡ record old { busy = old.busy + 1 } → Visits p v w old new
+    written : (done : List Did) (frame : ℕ) → IsLeft p done v w → HasWritten done (places.Translation p) (trans_word (Some (clean_in frame))) → new ≡ record old { written = old.written + 1 } → Visits p v w old new
+    failed : (version count : ℕ) → IsUnwritten p version count v w → new ≡ record old { failed = old.failed + 1; first = first_or old.first p } → Visits p v w old new
+
+  -- the first n pages, one after another
+  abbrev pub Flushes : ℕ → View X → View X → Flushed → Type 0
+  Flushes zero v w report = (w ≡ v) × (report ≡ nothing_flushed)
+  Flushes (suc n) v w report = (x : View X) × (old : Flushed) × Flushes n v x old × Visits n x w old report
+
+  -- the notes that came with the failed pages: one for each, by rising number; the first is of the least
+  pub record IsNoted (pages : ℕ) (report : Flushed) (v w : View X) : Type 0 where
+    pub notes : List Note
+    pub after : w.notes ≡ v.notes ++ notes
+    pub each : length notes ≡ report.failed
+    pub rises : RisesFrom 0 pages notes
+    pub first : report.first ≡ first_noted notes
+
+  -- the pass has all parts, and knows the table
+  abbrev pub IsAlone : View X → Type 0
+  IsAlone v = IsWhole v × (v.current ≡ true)
+
+  -- it has no share of page p, so no write-back either, and no exclusive lock
+  abbrev pub HasNoLock : View X → ℕ → Type 0
+  HasNoLock v p = ((seat_of v p).exclusive ≡ false) × ((seat_of v p).shares ≡ 0)
+
+  -- the view's snapshot shows page p evicted; or locked by nobody, so resident (`pages_stand_as_the_snapshot_shows`), and not dirty
+  abbrev pub IsSaved : View X → ℕ → Type 0
+  IsSaved v p =
+      (state_in v.start v.snapshot p ≡ EVICTED)
+      ⊎ (((state_in v.start v.snapshot p ≡ UNLOCKED) ⊎ (state_in v.start v.snapshot p ≡ MARKED)) × (stands_dirty (mapping_in v.start v.snapshot p) ≡ false))
+
+  -- what the flush of the first n pages by a pass that is alone comes to: no page is busy, none is released, and each is saved, or its write failed
+  pub record IsFlushedAlone (n : ℕ) (report : Flushed) (notes : List Note) (v w : View X) : Type 0 where
+    pub busy : report.busy ≡ 0
+    pub releases : w.releases ≡ v.releases
+    pub pages : (p : ℕ) → p < n → IsSaved w p ⊎ (has p (noted_pages notes) ≡ true)
+
+  -- what a flush of the first n pages did: no frame of the pass changed, no lock is kept, and the device faults were noted
+  pub record IsFlushedTo (n : ℕ) (report : Flushed) (v w : View X) : Type 0 where
+    pub each : Flushes n v w report
+    pub all : done_of report ≤ n
+    pub done : List Did
+    pub aside : IsAsideOf (λ p. p < v.start.pages) done v w
+    pub frames : (w.frames ≡ v.frames) × (w.contents ≡ v.contents)
+    pub noted : IsNoted n report v w
+    pub alone : IsAlone v → ((p : ℕ) → p < v.start.pages → HasNoLock v p) → IsFlushedAlone n report noted.notes v w
+
+  abbrev pub IsFlushed : Flushed → View X → View X → Type 0
+  IsFlushed report v w = IsFlushedTo v.start.pages report v w
+
+  -- ---- the parts of a visit
+
+  -- both snapshots show the same words of page q
+  pub record ShowsSame (v w : View X) (q : ℕ) : Type 0 where
+    pub state : state_in w.start w.snapshot q ≡ state_in v.start v.snapshot q
+    pub mapping : mapping_in w.start w.snapshot q ≡ mapping_in v.start v.snapshot q
+
+  -- what the visit of page p by a pass that is alone comes to: it is not busy, nothing is released, and it is saved, or its write failed
+  pub record IsSettled (p : ℕ) (v w : View X) (old new : Flushed) : Type 0 where
+    pub busy : new.busy ≡ old.busy
+    pub current : w.current ≡ true
+    pub releases : w.releases ≡ v.releases
+    pub others : (q : ℕ) → q ≢ p → q < v.start.pages → ShowsSame v w q
+    pub saved : IsSaved w p ⊎ (new.failed ≡ old.failed + 1)
+
+  -- a pass that is alone, and has not locked the page, settles it
+  abbrev pub Settles : ℕ → View X → View X → Flushed → Flushed → Type 0
+  Settles p v w old new = IsAlone v → HasNoLock v p → IsSettled p v w old new
+
+  -- the page was marked already, or a mark was tried: set, or lost to another word
+  abbrev pub Marks : ℕ → ℕ → View X → View X → Took → Type 0
+  Marks p word v w Taken =
+      (done : List Did) × IsLeft p done v w
+      × (((done ≡ []) × (state_of word ≡ MARKED)) ⊎ (done ≡ did_exchange (places.State p) word word (word_of MARKED (version_of word)) ∷ []))
+  Marks p word v w (Lost found) = (found ≢ word) × IsLeft p (did_exchange (places.State p) word found (word_of MARKED (version_of word)) ∷ []) v w
+
+  -- the pass has page p under write-back, as the lock leaves it
+  pub record IsUnderWriteBack (p : ℕ) (v : View X) : Type 0 where
+    pub seat : seat_of v p ≡ record { shares = 1; exclusive = false; writing = true; reading = None }
+    pub told : IsToldOf v p
+    pub size : length (last_of v p).words ≡ 64
+    pub home : v.out ≡ None
+
+  -- the pass still has page p under write-back, and may give it up
+  pub record IsStillLocked (p : ℕ) (done : List Did) (v w : View X) : Type 0 where
+    pub works : Works p done v w
+    pub own : Each (WritesOwn p) done
+    pub told : IsToldOf w p
+    pub home : w.out ≡ None
+    pub frames : (w.frames ≡ v.frames) × (w.contents ≡ v.contents)
+
+  -- a pass that is alone knows that the page is clean, whose translation word is one of the table
+  abbrev pub KnowsClean : ℕ → View X → View X → Type 0
+  KnowsClean p v w = IsAlone v → p < v.start.pages → v.start.pages + p < length v.snapshot.words → stands_dirty (mapping_in w.start w.snapshot p) ≡ false
+
+  -- how the write of a page under write-back ends: the page was clean; it was written; or its write failed
+  pub data Writes (p : ℕ) (v w : View X) (old new : Flushed) : Type 0 where
+    left_clean : (done : List Did) (word : ℕ) → IsStillLocked p done v w → HasGiven done (places.Translation p) word → stands_dirty (mapping_of word) ≡ false → KnowsClean p v w → w.notes ≡ v.notes → new ≡ old → Writes p v w old new
+    made_clean : (done : List Did) (frame : ℕ) → IsStillLocked p done v w → HasWritten done (places.Translation p) (trans_word (Some (clean_in frame))) → KnowsClean p v w → w.notes ≡ v.notes → new ≡ record old { written = old.written + 1 } → Writes p v w old new
+    refused : (done : List Did) (count : ℕ) → IsStillLocked p done v w → HasWritten done (places.Fault p) count → w.notes ≡ v.notes ++ record { page = p; count = count } ∷ [] → new ≡ record old { failed = old.failed + 1; first = first_or old.first p } → Writes p v w old new

@@ -1,0 +1,4 @@
+pub mod Evictions
+pub mod Writes
+pub mod Flushes
+pub mod Stages

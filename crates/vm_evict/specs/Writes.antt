@@ -1,0 +1,77 @@
+-- Writing a dirty page back, which the pass has locked for that: the page's last words go to its block, and the page becomes clean; or the write
+-- fails, and its fault is noted. The page stays locked, and in its frame.
+use Rattle.std.specs.Prelude.{ℕ, true, false, Some, None, List, [], ◌∷◌, ◌++◌, ◌≡◌, ◌≢◌, ◌≤◌, length, Result, Ok, Err, ◌⊎◌}
+use Rattle.vm_core.specs.FrameActs.{trans_word}
+use Rattle.vm_rule.specs.declared.view.Did.{Did}
+use Rattle.vm_rule.specs.declared.view.Place.TheVariants as places
+use Rattle.vm_rule.specs.declared.view.View.{View}
+use Rattle.vm_rule.specs.Views.{Each, seat_of}
+use Rattle.vm_rule.specs.Reading.{last_of}
+use Rattle.vm_rule.specs.Mappings.{held_at, clean_in, dirty_in}
+use Rattle.vm_step.specs.Asides.{KeepsFrames}
+use Rattle.vm_step.specs.Conditions.{IsToldOf}
+use Rattle.vm_step.specs.Evidence.{HasWritten}
+use Rattle.vm_step.specs.Works.{Works}
+
+-- none of the steps was one on the state word of page p
+abbrev pub LeavesState : ℕ → List Did → Type 0
+LeavesState p done = Each (λ d. d.at ≢ places.State p) done
+
+-- the step wrote no word, or the page's translation word or its fault word
+abbrev pub WritesOwn : ℕ → Did → Type 0
+WritesOwn p d = (d.wrote ≡ None) ⊎ ((d.at ≡ places.Translation p) ⊎ (d.at ≡ places.Fault p))
+
+module _ {X : Type 0} where
+  -- the pass has page p under write-back and reads it by no open read; p stands dirty in frame f; no block is out
+  pub record IsToWrite (p f : ℕ) (v : View X) : Type 0 where
+    pub writes : (seat_of v p).writing ≡ true
+    pub shared : 1 ≤ (seat_of v p).shares
+    pub owns : (seat_of v p).exclusive ≡ false
+    pub closed : (seat_of v p).reading ≡ None
+    pub stands : (held_at v p).mapping ≡ Some (dirty_in f)
+    pub told : IsToldOf v p
+    pub size : length (last_of v p).words ≡ 64
+    pub home : v.out ≡ None
+
+  -- the page was written and made clean: its block has its last words
+  pub record IsCleaned (p f : ℕ) (v w : View X) : Type 0 where
+    pub done : List Did
+    pub works : Works p done v w
+    pub state : LeavesState p done
+    pub own : Each (WritesOwn p) done
+    pub cleaned : HasWritten done (places.Translation p) (trans_word (Some (clean_in f)))
+    pub ends : cleaned.later ≡ []
+    pub stands : (held_at w p).mapping ≡ Some (clean_in f)
+    pub stored : v.start.tells ≡ true → (held_at w p).block.words ≡ (last_of w p).words
+    pub told : IsToldOf w p
+    pub keeps : KeepsFrames v w
+    pub home : w.out ≡ None
+
+  -- the write failed: the page is as dirty as it was, and the fault was noted, with the count that the fault word was raised to
+  pub record IsRefused (p f count : ℕ) (v w : View X) : Type 0 where
+    pub done : List Did
+    pub works : Works p done v w
+    pub state : LeavesState p done
+    pub own : Each (WritesOwn p) done
+    pub raised : HasWritten done (places.Fault p) count
+    pub noted : w.notes ≡ v.notes ++ record { page = p; count = count } ∷ []
+    pub stands : (held_at w p).mapping ≡ Some (dirty_in f)
+    pub told : IsToldOf w p
+    pub frames : (w.frames ≡ v.frames) × (w.contents ≡ v.contents)
+    pub home : w.out ≡ None
+
+  -- how a write-back ends
+  abbrev pub WritesBack : ℕ → ℕ → View X → View X → Result (Unit {0}) ℕ → Type 0
+  WritesBack p f v w (Ok u) = IsCleaned p f v w
+  WritesBack p f v w (Err count) = IsRefused p f count v w
+
+  -- the words of page p, which is shared and read by no open read, were loaded from its frame; all else is as it was
+  pub record IsCopied (p : ℕ) (words : List ℕ) (v w : View X) : Type 0 where
+    pub done : List Did
+    pub works : Works p done v w
+    pub state : LeavesState p done
+    pub own : Each (WritesOwn p) done
+    pub same : v.start.tells ≡ true → words ≡ (last_of v p).words
+    pub held : held_at w p ≡ held_at v p
+    pub keeps : KeepsFrames v w
+    pub out : w.out ≡ v.out

@@ -1,0 +1,139 @@
+// All dirty pages that nobody has locked are written, and stay resident.
+ghost use Rattle.std.specs.Prelude.{◌≡◌, ◌+◌, ◌<◌, ◌⊎◌, None};
+ghost use Rattle.vm_core.specs.Words.{MARKED, UNLOCKED, state_of};
+ghost use Rattle.vm_evict.specs.Flushes.{IsDirtyFrame, IsFlushed, IsUnderWriteBack, Marks, Settles, Visits, Writes, done_of};
+ghost use Rattle.vm_step.specs.Passes.{IsSamePass, view};
+ghost use Rattle.vm_step.specs.Ready.{IsReady};
+
+use crate::write::write_back;
+use vm_block::Block;
+use vm_core::{StateWord, TransWord};
+use vm_owner::Owner;
+use vm_rule::words::{Pass, Words};
+use vm_step::{Took, lock_write_back, look_silently, mark, tload, unlock_shared};
+
+/// What a flush did.
+#[derive(Clone, Copy, Debug, PartialEq, Eq)]
+pub struct Flushed {
+    /// Pages written.
+    pub written: u32,
+    /// Pages whose write failed: they stay dirty.
+    pub failed: u32,
+    /// Pages that somebody had locked, or that changed before they could be locked.
+    pub busy: u32,
+    /// The least page whose write failed.
+    pub first: Option<u32>,
+}
+
+/// Nothing was done yet.
+const NOTHING: Flushed = Flushed {
+    written: 0,
+    failed: 0,
+    busy: 0,
+    first: None,
+};
+
+/// Writes each dirty page of the table to its block, from page 0 on, and makes it clean. Pages that somebody has locked are left.
+pub fn flush<U: Owner, B: Block>(words: &Words<U, B>, pass: &mut Pass<U>) -> Flushed
+    requires ready { IsReady words.now.table.shared.key B.tells words.now.table.shared.table_id pass.old }
+    requires home { (view pass.old).out ≡ None }
+    ensures pass { IsSamePass pass.old pass.new }
+    ensures ready { IsReady words.now.table.shared.key B.tells words.now.table.shared.table_id pass.new }
+    ensures flushed { IsFlushed result (view pass.old) (view pass.new) }
+{
+    let mut flushed = NOTHING;
+    for p in 0..words.pages {
+        visit(words, pass, p as u32, &mut flushed);
+    }
+    flushed
+}
+
+/// The frame of a dirty page, by its translation word.
+fn dirty_frame(word: u64) -> Option<u32>
+    ensures { IsDirtyFrame word result }
+{
+    if TransWord::dirty(word) {
+        TransWord::frame(word)
+    } else {
+        None
+    }
+}
+
+/// Looks at the page, and writes it where it is dirty and nobody has it locked.
+fn visit<U: Owner, B: Block>(words: &Words<U, B>, pass: &mut Pass<U>, p: u32, flushed: &mut Flushed)
+    requires ready { IsReady words.now.table.shared.key B.tells words.now.table.shared.table_id pass.old }
+    requires home { (view pass.old).out ≡ None }
+    requires page { p < words.now.table.shared.key.pages }
+    requires counts { done_of flushed.old < 4294967295 }
+    ensures pass { IsSamePass pass.old pass.new }
+    ensures ready { IsReady words.now.table.shared.key B.tells words.now.table.shared.table_id pass.new }
+    ensures visited { Visits p (view pass.old) (view pass.new) flushed.old flushed.new }
+    ensures settles { Settles p (view pass.old) (view pass.new) flushed.old flushed.new }
+{
+    let word = look_silently(words, pass, p);
+    let state = StateWord::state(word);
+    if state == StateWord::EVICTED {
+        return;
+    }
+    if state != StateWord::UNLOCKED && state != StateWord::MARKED {
+        flushed.busy += 1;
+        return;
+    }
+    if dirty_frame(tload(words, pass, p)).is_none() {
+        return;
+    }
+    let marked = StateWord::of(StateWord::MARKED, StateWord::version(word));
+    if let Took::Lost(_) = mark_page(words, pass, p, word) {
+        flushed.busy += 1;
+        return;
+    }
+    match lock_write_back(words, pass, p, marked) {
+        Took::Lost(_) => flushed.busy += 1,
+        Took::Taken => {
+            write_dirty(words, pass, p, flushed);
+            unlock_shared(words, pass, p);
+        }
+    }
+}
+
+/// Marks a page whose word was this one, where it is not marked already.
+fn mark_page<U: Owner, B: Block>(words: &Words<U, B>, pass: &mut Pass<U>, p: u32, word: u64) -> Took
+    requires ready { IsReady words.now.table.shared.key B.tells words.now.table.shared.table_id pass.old }
+    requires page { p < words.now.table.shared.key.pages }
+    requires legal { (state_of word ≡ UNLOCKED) ⊎ (state_of word ≡ MARKED) }
+    ensures pass { IsSamePass pass.old pass.new }
+    ensures ready { IsReady words.now.table.shared.key B.tells words.now.table.shared.table_id pass.new }
+    ensures marks { Marks p word (view pass.old) (view pass.new) result }
+{
+    if StateWord::state(word) == StateWord::MARKED {
+        return Took::Taken;
+    }
+    mark(words, pass, p, word)
+}
+
+/// Writes the page, which the pass has locked for write-back, where it is dirty.
+fn write_dirty<U: Owner, B: Block>(
+    words: &Words<U, B>,
+    pass: &mut Pass<U>,
+    p: u32,
+    flushed: &mut Flushed,
+)
+    requires ready { IsReady words.now.table.shared.key B.tells words.now.table.shared.table_id pass.old }
+    requires page { p < words.now.table.shared.key.pages }
+    requires legal { IsUnderWriteBack p (view pass.old) }
+    requires counts { done_of flushed.old < 4294967295 }
+    ensures pass { IsSamePass pass.old pass.new }
+    ensures ready { IsReady words.now.table.shared.key B.tells words.now.table.shared.table_id pass.new }
+    ensures written { Writes p (view pass.old) (view pass.new) flushed.old flushed.new }
+{
+    let word = tload(words, pass, p);
+    if let Some(frame) = dirty_frame(word) {
+        match write_back(words, pass, p, frame) {
+            Ok(()) => flushed.written += 1,
+            Err(_) => {
+                flushed.failed += 1;
+                flushed.first = flushed.first.or(Some(p));
+            }
+        }
+    }
+}

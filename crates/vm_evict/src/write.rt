@@ -1,0 +1,69 @@
+// A dirty page is written to its block, and made clean.
+ghost use Rattle.std.specs.Prelude.{◌≡◌, ◌<◌, ◌≤◌, None, Some, length};
+ghost use Rattle.vm_evict.specs.Writes.{IsCopied, IsToWrite, WritesBack};
+ghost use Rattle.vm_rule.specs.Loads.{frame_read_by};
+ghost use Rattle.vm_rule.specs.Reading.{last_of};
+ghost use Rattle.vm_rule.specs.Views.{seat_of};
+ghost use Rattle.vm_step.specs.Passes.{IsSamePass, view};
+ghost use Rattle.vm_step.specs.Ready.{IsReady};
+
+use vm_block::Block;
+use vm_owner::Owner;
+use vm_page::{PageBuf, WORDS};
+use vm_rule::words::{Pass, Words};
+use vm_step::{block_home, block_out, load, raise, set_clean};
+
+/// The words of a page that the pass shares, from its frame.
+fn copy_page<U: Owner, B: Block>(
+    words: &Words<U, B>,
+    pass: &mut Pass<U>,
+    p: u32,
+    frame: u32,
+) -> PageBuf
+    requires ready { IsReady words.now.table.shared.key B.tells words.now.table.shared.table_id pass.old }
+    requires page { (p < words.now.table.shared.key.pages) × (frame < words.now.table.shared.key.frames) }
+    requires frame { frame_read_by (view pass.old) p ≡ Some frame }
+    requires shared { (1 ≤ (seat_of (view pass.old) p).shares) × ((seat_of (view pass.old) p).reading ≡ None) }
+    requires size { length (last_of (view pass.old) p).words ≡ 64 }
+    ensures pass { IsSamePass pass.old pass.new }
+    ensures ready { IsReady words.now.table.shared.key B.tells words.now.table.shared.table_id pass.new }
+    ensures copied { IsCopied p result (view pass.old) (view pass.new) }
+{
+    let mut page = PageBuf::zero();
+    for i in 0..WORDS {
+        page.set(i, load(words, pass, p, frame, i));
+    }
+    page
+}
+
+/// Writes a dirty page to its block and makes it clean: the pass has it under write-back, and it stands in this frame. Where the write
+/// fails, the page stays as it is, and the answer is the count of the fault, which the fault word is raised to.
+pub fn write_back<U: Owner, B: Block>(
+    words: &Words<U, B>,
+    pass: &mut Pass<U>,
+    p: u32,
+    frame: u32,
+) -> Result<(), u64>
+    requires ready { IsReady words.now.table.shared.key B.tells words.now.table.shared.table_id pass.old }
+    requires page { (p < words.now.table.shared.key.pages) × (frame < words.now.table.shared.key.frames) }
+    requires legal { IsToWrite p frame (view pass.old) }
+    ensures pass { IsSamePass pass.old pass.new }
+    ensures ready { IsReady words.now.table.shared.key B.tells words.now.table.shared.table_id pass.new }
+    ensures written { WritesBack p frame (view pass.old) (view pass.new) result }
+{
+    let mut block = block_out(words, pass, p);
+    let page = copy_page(words, pass, p, frame);
+    let wrote = block.write(&page);
+    let count = block.faults();
+    block_home(words, pass, p, block);
+    match wrote {
+        Ok(()) => {
+            set_clean(words, pass, p, frame);
+            Ok(())
+        }
+        Err(_) => {
+            raise(words, pass, p, count);
+            Err(count)
+        }
+    }
+}

@@ -1,0 +1,119 @@
+-- What steps leave of a view that move free frames alone: of one step, of several in a row, and that the pass may step on.
+use Rattle.std.proofs.Common.{ℕ, ◌≡◌, ◌<◌, ◌++◌, Bool, true, None, List, [], ◌∷◌, length, refl, sym, ap, subst, ◌∙◌, append_assoc}
+use Rattle.atomic_table.specs.Seated.{TableId}
+use Rattle.vm_core.specs.declared.event.Seat.{Seat}
+use Rattle.vm_core.specs.Start.{no_seat}
+use Rattle.vm_owner.specs.Numbers.{has}
+use Rattle.vm_rule.specs.declared.view.Did.{Did}
+use Rattle.vm_rule.specs.declared.view.Held.{Held}
+use Rattle.vm_rule.specs.declared.view.Origin.{Origin}
+use Rattle.vm_rule.specs.declared.view.Put.{Put}
+use Rattle.vm_rule.specs.declared.view.Release.{Release}
+use Rattle.vm_rule.specs.declared.view.Shape.{Shape}
+use Rattle.vm_rule.specs.declared.view.View.{View}
+use Rattle.vm_rule.specs.declared.words.Pass.{Pass}
+use Rattle.vm_rule.specs.Puts.{put_at}
+use Rattle.vm_rule.specs.Views.{seat_of, IsLocking}
+use Rattle.vm_rule.specs.Rule.{no_held}
+use Rattle.vm_rule.specs.Reading.{last_in}
+use Rattle.vm_rule.specs.Mappings.{contents_at}
+use Rattle.vm_rule.specs.Begun.{HasShape}
+use Rattle.vm_rule.specs.Brought.{Brings}
+use Rattle.vm_rule.proofs.Entries.{append-none, starts-self}
+use Rattle.vm_exmap.specs.Frames.{MovesFrames}
+use Rattle.vm_step.specs.Asides.{IsAsideOf}
+use Rattle.vm_step.specs.Passes.{IsSamePass, view}
+use Rattle.vm_step.specs.Ready.{IsReady}
+use Rattle.vm_step.proofs.Asides.{alone-self, alone-silent, alone-then, starts-then}
+
+module _ {X : Type 0} where
+  -- no step at all
+  pub moved-nothing : (v : View X) → MovesFrames [] v v
+  moved-nothing v = record {
+    log = sym (append-none v.log);
+    live = refl;
+    start = refl;
+    parts = (refl, refl);
+    pages = (refl, refl, refl, refl);
+    reads = (refl, refl);
+    out = refl;
+    notes = refl;
+    group = (refl, refl, refl);
+    mine = refl;
+    seen = starts-self v.seen;
+    releases = starts-self v.releases;
+    last = λ p l. refl;
+    contents = λ f a b. refl;
+    alone = alone-self v;
+  }
+
+  -- one step that changes the free frames and what is known of their words
+  pub moved-by : (did : Did) (frames : List ℕ) (contents : List (Put (List ℕ))) (v w : View X) → Brings did [] [] v (record v { frames = frames; contents = contents }) w
+      → ((f : ℕ) → has f v.frames ≡ true → has f frames ≡ true → put_at [] contents f ≡ contents_at v f) → MovesFrames (did ∷ []) v w
+  moved-by did frames contents v w b same = record {
+    log = ap (λ (x : View X). x.log) b.view;
+    live = ap (λ (x : View X). x.live) b.view;
+    start = ap (λ (x : View X). x.start) b.view;
+    parts = (ap (λ (x : View X). x.used) b.view, ap (λ (x : View X). x.fresh) b.view);
+    pages = (ap (λ (x : View X). x.seats) b.view, ap (λ (x : View X). x.loads) b.view, ap (λ (x : View X). x.held) b.view, ap (λ (x : View X). x.drafts) b.view);
+    reads = (ap (λ (x : View X). x.translations) b.view, ap (λ (x : View X). x.ties) b.view);
+    out = ap (λ (x : View X). x.out) b.view;
+    notes = ap (λ (x : View X). x.notes) b.view;
+    group = (ap (λ (x : View X). x.pending) b.view, ap (λ (x : View X). x.owed) b.view, ap (λ (x : View X). x.next) b.view);
+    mine = ap (λ (x : View X). x.mine) b.view;
+    seen = (b.others ++ [], ap (λ (x : View X). x.seen) b.view ∙ append_assoc v.seen b.others []);
+    releases = (b.between ++ [], ap (λ (x : View X). x.releases) b.view ∙ append_assoc v.releases b.between []);
+    last = λ p l.
+        ap (λ (x : View X). last_in x.start x.releases p) b.view ∙ ap (λ (t : List Release). last_in v.start t p) (append-none (v.releases ++ b.between)) ∙ b.kept p l;
+    contents = λ f h k. ap (λ (x : View X). contents_at x f) b.view ∙ same f h (sym (ap (λ (x : View X). has f x.frames) b.view) ∙ k);
+    alone = alone-silent did None [] v (record v { frames = frames; contents = contents }) w b refl;
+  }
+
+  -- steps, and then more: a frame that the pass had and has it had in between
+  pub moved-then : (a b : List Did) (u v w : View X) → MovesFrames a u v → MovesFrames b v w → ((f : ℕ) → has f u.frames ≡ true → has f w.frames ≡ true → has f v.frames ≡ true) → MovesFrames (a ++ b) u w
+  moved-then a b u v w f g between = record {
+    log = g.log ∙ ap (λ (t : List Did). t ++ b) f.log ∙ append_assoc u.log a b;
+    live = g.live ∙ f.live;
+    start = g.start ∙ f.start;
+    parts = (g.parts.0 ∙ f.parts.0, g.parts.1 ∙ f.parts.1);
+    pages = (g.pages.0 ∙ f.pages.0, g.pages.1 ∙ f.pages.1, g.pages.2 ∙ f.pages.2, g.pages.3 ∙ f.pages.3);
+    reads = (g.reads.0 ∙ f.reads.0, g.reads.1 ∙ f.reads.1);
+    out = g.out ∙ f.out;
+    notes = g.notes ∙ f.notes;
+    group = (g.group.0 ∙ f.group.0, g.group.1 ∙ f.group.1, g.group.2 ∙ f.group.2);
+    mine = g.mine ∙ f.mine;
+    seen = starts-then u.seen v.seen w.seen f.seen g.seen;
+    releases = starts-then u.releases v.releases w.releases f.releases g.releases;
+    last = λ p l. g.last p (subst (λ (seats : List (Put Seat)). IsLocking (put_at no_seat seats p)) (sym f.pages.0) l) ∙ f.last p l;
+    contents = λ n h k. let m = between n h k in g.contents n m k ∙ f.contents n h m;
+    alone = alone-then u v w f.parts f.alone g.alone;
+  }
+
+  -- such steps are aside of all pages: no read of theirs is another either
+  pub moved-aside : (touched : ℕ → Type 0) (done : List Did) (v w : View X) → MovesFrames done v w → IsAsideOf touched done v w
+  moved-aside touched done v w f =
+      let seat : (q : ℕ) → seat_of w q ≡ seat_of v q = λ q. ap (λ (seats : List (Put Seat)). put_at no_seat seats q) f.pages.0 in
+      record {
+        log = f.log;
+        live = f.live;
+        start = f.start;
+        parts = f.parts;
+        mine = f.mine;
+        seen = f.seen;
+        releases = f.releases;
+        out = f.out;
+        ties = ([], f.reads.1);
+        group = f.group;
+        holds = λ q. record { shares = ap (λ (s : Seat). s.shares) (seat q); exclusive = ap (λ (s : Seat). s.exclusive) (seat q); writing = ap (λ (s : Seat). s.writing) (seat q) };
+        knows = λ q l. record { held = ap (λ (t : List (Put Held)). put_at no_held t q) f.pages.2; draft = ap (λ (t : List (Put (List ℕ))). put_at [] t q) f.pages.3; last = f.last q l };
+        others = λ q ne. record { reading = ap (λ (s : Seat). s.reading) (seat q); loads = ap (λ (t : List (Put (List (ℕ × ℕ)))). put_at [] t q) f.pages.1 };
+        alone = f.alone;
+      }
+
+module _ {U X : Type 0} {o : _} (shape : Shape) (tells : Bool) (t : TableId) where
+  -- the pass may step on
+  pub ready-after : (done : List Did) (p q : Pass U X o) → IsReady shape tells t p → IsSamePass p q → MovesFrames done (view p) (view q) → IsReady shape tells t q
+  ready-after done p q r same moves = record {
+    may = (same.0 ∙ r.may.0, subst (λ (ns : List ℕ). 0 < length ns) (sym moves.parts.0) r.may.1);
+    table = record { is_shape = subst (HasShape shape) (sym moves.start) r.table.is_shape; tells_is = ap (λ (x : Origin). x.tells) moves.start ∙ r.table.tells_is };
+  }

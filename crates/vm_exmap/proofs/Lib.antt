@@ -1,0 +1,5 @@
+pub mod BundleBits
+pub mod FrameMoves
+pub mod Handing
+pub mod Walking
+pub mod Returning

@@ -1,0 +1,126 @@
+-- Frames that go back to their bundles, a bundle at a time: those of the first bundles are given, the others are still held.
+use Rattle.std.proofs.Common.{ℕ, ◌≡◌, ◌≢◌, ◌+◌, ◌/◌, ◌%◌, ◌<◌, ◌≤◌, ◌++◌, ◌&&◌, true, false, Bool, List, [], ◌∷◌, suc, refl, sym, ap, subst, ◌∙◌, ⊎_elim, arith, bit_or, eqb, ltb, if◌then◌else◌}
+use Rattle.std.proofs.lemmas.Bool.{cases_Bool, cases_eq, cases_lt, eq-eqb, ne_eqb, and_left, and_right, and_parts, lt-ltb, le-ltb, eqb-true, true≢false}
+use Rattle.std.proofs.lemmas.Nat.Bits.{bit_at-zero}
+use Rattle.std.specs.Int.{bit_at}
+use Rattle.vm_core.specs.Words.{in_mask}
+use Rattle.vm_owner.specs.Numbers.{has}
+use Rattle.vm_rule.specs.declared.view.Did.{Did}
+use Rattle.vm_rule.specs.declared.view.Place.TheVariants as places
+use Rattle.vm_rule.specs.declared.view.View.{View}
+use Rattle.vm_rule.specs.Layout.{bundles_of}
+use Rattle.vm_rule.specs.Log.{did_change}
+use Rattle.vm_rule.specs.Bundles.{frames_in, GiveTold}
+use Rattle.vm_rule.specs.Releases.{without_all}
+use Rattle.vm_rule.proofs.Bundled.{has-frames_in, has-without_all}
+use Rattle.vm_rule.proofs.Entries.{append-none}
+use Rattle.vm_step.specs.Conditions.{MayGive}
+use Rattle.vm_exmap.specs.Frames.{AreHeld, MovesFrames}
+use Rattle.vm_exmap.specs.Returns.{is_of, Gives, AreGiven}
+use Rattle.vm_exmap.specs.Returns.GivesTo.{none, some}
+use Rattle.vm_exmap.proofs.FrameMoves.{moved-by, moved-then}
+use Rattle.vm_exmap.proofs.Handing.{each-of}
+
+-- the frame is one of these, and of the first `count` bundles
+abbrev pub is_below : ℕ → List ℕ → ℕ → Bool
+is_below count frames f = ltb (f / 64) count && has f frames
+
+-- one bundle more: what is of it is below then
+below-more : (g : ℕ) (frames : List ℕ) (f : ℕ) (old : Bool) → (if is_of g frames f then false else (if is_below g frames f then false else old)) ≡ (if is_below (g + 1) frames f then false else old)
+below-more g frames f old =
+    ⊎_elim
+    (λ (here : f / 64 ≡ g).
+    let low : f / 64 < g + 1 = omega (arith, here) in
+    let of : is_of g frames f ≡ has f frames = ap (λ b. b && has f frames) (eq-eqb (f / 64) g here) in
+    let before : is_below g frames f ≡ false = and_left (ltb (f / 64) g) (has f frames) (le-ltb (f / 64) g (omega (arith, here))) in
+    let after : is_below (g + 1) frames f ≡ has f frames = ap (λ b. b && has f frames) (lt-ltb (f / 64) (g + 1) low) in
+    (λ i. if of i then false else (if before i then false else old)) ∙ sym (ap (λ b. if b then false else old) after))
+    (λ ne.
+    let of : is_of g frames f ≡ false = and_left (eqb (f / 64) g) (has f frames) (ne_eqb (f / 64) g ne) in
+    ap (λ b. if b then false else (if is_below g frames f then false else old)) of ∙ ap (λ b. if b && has f frames then false else old) (same-side ne))
+    (cases_eq (f / 64) g)
+  where
+    same-side : f / 64 ≢ g → ltb (f / 64) g ≡ ltb (f / 64) (g + 1)
+    same-side ne =
+        ⊎_elim
+        (λ (l : f / 64 < g). lt-ltb (f / 64) g l ∙ sym (lt-ltb (f / 64) (g + 1) (omega (arith, l))))
+        (λ (h : g ≤ f / 64). le-ltb (f / 64) g h ∙ sym (le-ltb (f / 64) (g + 1) (omega (arith, h, ne))))
+        (cases_lt (f / 64) g)
+
+-- a mask without a bit is that of no frame
+no-frame : (g mask f : ℕ) → mask ≡ 0 → in_mask g mask f ≡ false
+unfolding in_mask
+no-frame g mask f e = and_right (eqb (f / 64) g) (eqb (bit_at mask (f % 64)) 1) (ap (λ m. eqb (bit_at m (f % 64)) 1) e ∙ ap (λ n. eqb n 1) (bit_at-zero (f % 64)))
+
+module _ {X : Type 0} where
+  -- the frames of the first `count` bundles went back
+  pub record AreGivenBelow (frames : List ℕ) (count : ℕ) (v w : View X) : Type 0 where
+    pub done : List Did
+    pub moves : MovesFrames done v w
+    pub gives : Gives frames count done
+    pub left : (f : ℕ) → has f w.frames ≡ (if is_below count frames f then false else has f v.frames)
+
+module _ {X : Type 0} (frames : List ℕ) (g mask : ℕ) (u v : View X) (below : AreGivenBelow frames g u v) (bits : (f : ℕ) → in_mask g mask f ≡ is_of g frames f) where
+  -- those of the next bundle are still held
+  pub may-give : AreHeld frames u → mask ≢ 0 → MayGive v g mask
+  may-give held ne = record { some = ne; holds = holds }
+    where
+      holds : (f : ℕ) → in_mask g mask f ≡ true → has f v.frames ≡ true
+      holds f e =
+          let of = and_parts (eqb (f / 64) g) (has f frames) (sym (bits f) ∙ e) in
+          let here : is_below g frames f ≡ false = and_left (ltb (f / 64) g) (has f frames) (le-ltb (f / 64) g (let at : f / 64 ≡ g = eqb-true (f / 64) g of.0 in omega (arith, at))) in
+          below.left f ∙ ap (λ b. if b then false else has f u.frames) here ∙ each-of (λ n. has n u.frames ≡ true) frames f held.held of.1
+
+  -- they go back by one step
+  pub given-more : (found : ℕ) (w : View X) → GiveTold g mask found v w → AreGivenBelow frames (g + 1) u w
+  given-more found w t =
+      let did : Did = did_change (places.Bundle g) found (bit_or found mask) in
+      let left : (f : ℕ) → has f w.frames ≡ (if is_of g frames f then false else has f v.frames) = λ f.
+      ap (λ (x : View X). has f x.frames) t.brings.view
+      ∙ has-without_all f (frames_in g mask) v.frames
+      ∙ ap (λ b. if b then false else has f v.frames) (has-frames_in g mask f ∙ bits f) in
+      let moves : MovesFrames (did ∷ []) v w = moved-by did (without_all (frames_in g mask) v.frames) v.contents v w t.brings (λ f a b. refl) in
+      let next : suc g ≡ g + 1 = omega arith in
+      let done : List Did = below.done ++ did ∷ [] in
+      record {
+        done = done;
+        moves = moved-then below.done (did ∷ []) u v w below.moves moves (λ f a b. had (is_of g frames f) (has f v.frames) (sym (left f) ∙ b));
+        gives = subst (λ n. Gives frames n done) next (below.done, did ∷ [], refl, below.gives, some mask found bits refl);
+        left = λ f. left f ∙ ap (λ b. if is_of g frames f then false else b) (below.left f) ∙ below-more g frames f (has f u.frames);
+      }
+    where
+      had : (gone old : Bool) → (if gone then false else old) ≡ true → old ≡ true
+      had true old e = absurd (true≢false (sym e))
+      had false old e = e
+
+  -- or there are none, and no step is made
+  pub given-none : mask ≡ 0 → AreGivenBelow frames (g + 1) u v
+  given-none e =
+      let clear : (f : ℕ) → is_of g frames f ≡ false = λ f. sym (bits f) ∙ no-frame g mask f e in
+      let next : suc g ≡ g + 1 = omega arith in
+      record {
+        done = below.done;
+        moves = below.moves;
+        gives = subst (λ n. Gives frames n below.done) next (below.done, [], sym (append-none below.done), below.gives, none clear refl);
+        left = λ f.
+            ap (λ b. if b then false else has f v.frames) (sym (clear f)) ∙ ap (λ b. if is_of g frames f then false else b) (below.left f) ∙ below-more g frames f (has f u.frames);
+      }
+
+module _ {X : Type 0} (frames : List ℕ) (n : ℕ) (u w : View X) (all : n ≡ bundles_of u.start.frames) where
+  -- all of them went back
+  pub all-given : AreHeld frames u → AreGivenBelow frames n u w → AreGiven frames u w
+  all-given held below = record {
+    done = below.done;
+    moves = below.moves;
+    gives = subst (λ k. Gives frames k below.done) all below.gives;
+    left = λ f. below.left f ∙ ap (λ b. if b then false else has f u.frames) (same f);
+  }
+    where
+      same : (f : ℕ) → is_below n frames f ≡ has f frames
+      same f =
+          ⊎_elim
+          (λ (e : has f frames ≡ true).
+          let low : f < u.start.frames = each-of (λ k. k < u.start.frames) frames f held.inside e in
+          ap (λ b. b && has f frames) (lt-ltb (f / 64) n (omega (arith, low, all))))
+          (λ e. and_right (ltb (f / 64) n) (has f frames) e ∙ sym e)
+          (cases_Bool (has f frames))

@@ -1,0 +1,206 @@
+-- A walk over the bundles, a visit at a time: each that was passed by adds its steps; where the bits of one were lost, they are the evidence.
+use Rattle.std.proofs.Common.{ℕ, ◌≡◌, ◌≢◌, ◌+◌, ◌<◌, ◌≤◌, ◌++◌, ◌%◌, ◌/◌, min, true, false, List, [], ◌∷◌, Option, Some, None, suc, length, refl, sym, ap, subst, ◌∙◌, ⊎_elim, arith, append_assoc, bit_xor, if◌then◌else◌}
+use Rattle.std.proofs.lemmas.Bool.{ne_eqb, eq-eqb, or_left, cases_Bool, true≢false}
+use Rattle.vm_core.specs.Words.{AreLowest}
+use Rattle.vm_owner.specs.Numbers.{has}
+use Rattle.vm_rule.specs.declared.view.Did.{Did}
+use Rattle.vm_rule.specs.declared.view.Place.TheVariants as places
+use Rattle.vm_rule.specs.declared.view.View.{View}
+use Rattle.vm_rule.specs.Layout.{bundles_of}
+use Rattle.vm_rule.specs.Log.{did_load, did_exchange}
+use Rattle.vm_rule.specs.Bundles.{frames_in, BundleTold, TakeTold, taken_view, with_contents}
+use Rattle.vm_rule.specs.Mappings.{contents_at}
+use Rattle.vm_rule.specs.Brought.{Brings}
+use Rattle.vm_rule.proofs.Bundled.{has-frames_in, frames_in-apart, with_contents-at}
+use Rattle.vm_rule.proofs.Facts.{has-both}
+use Rattle.vm_step.specs.declared.saw.At.TheVariants as ats
+use Rattle.vm_step.specs.declared.saw.Saw.{Saw}
+use Rattle.vm_step.specs.Evidence.{IsSaw, NoWord, WhyAgain, place_of}
+use Rattle.vm_step.specs.Evidence.Begins.{read}
+use Rattle.vm_exmap.specs.Frames.{AreHeld, MovesFrames}
+use Rattle.vm_exmap.specs.Walks.{Asks, Walks, Dry, bundle_at}
+use Rattle.vm_exmap.specs.Walks.PassesBy.{empty, lost}
+use Rattle.vm_exmap.specs.Visits.{IsEmptyVisit, IsLostVisit, IsTakenVisit, IsFound}
+use Rattle.vm_exmap.proofs.FrameMoves.{moved-by, moved-then}
+use Rattle.vm_exmap.proofs.Handing.{each-has}
+
+-- ---- one bundle
+
+module _ {X : Type 0} (g word : ℕ) (u v : View X) (told : BundleTold g word u v) where
+  loaded : MovesFrames (did_load (places.Bundle g) word ∷ []) u v
+  loaded = moved-by (did_load (places.Bundle g) word) u.frames u.contents u v told.brings (λ f a b. refl)
+
+  same-frames : v.frames ≡ u.frames
+  same-frames = ap (λ (x : View X). x.frames) told.brings.view
+
+  module _ (most mask : ℕ) (some : word ≢ 0) (low : AreLowest word most mask) (w : View X) where
+    exchange : ℕ → Did
+    exchange seen = did_exchange (places.Bundle g) word seen (bit_xor word mask)
+
+    abbrev asks : Asks most g word mask (did_load (places.Bundle g) word)
+    asks = record { some = some; lowest = low; is = refl }
+
+    pub lost-visit : (seen : ℕ) → TakeTold g word mask seen v w → seen ≢ word → IsLostVisit most g (record { at = ats.Bundle g; first = word; seen = seen }) u w
+    lost-visit seen t ne =
+        let did : Did = did_exchange (places.Bundle g) word seen (bit_xor word mask) in
+        let b : Brings did [] [] v v w = subst (λ hit. Brings did [] [] v (if hit then taken_view g mask t.words v else v) w) (ne_eqb seen word ne) t.brings in
+        let moves : MovesFrames (did ∷ []) v w = moved-by did v.frames v.contents v w b (λ f a c. refl) in
+        record {
+          mask = mask;
+          load = did_load (places.Bundle g) word;
+          asks = asks;
+          at = refl;
+          other = ne;
+          moves = moved-then (did_load (places.Bundle g) word ∷ []) (did ∷ []) u v w loaded moves (λ f a c. subst (λ (l : List ℕ). has f l ≡ true) (sym same-frames) a);
+          frames = ap (λ (x : View X). x.frames) b.view ∙ same-frames;
+        }
+
+    pub taken-visit : TakeTold g word mask word v w → 1 ≤ length (frames_in g mask) → IsTakenVisit most g mask u w
+    taken-visit t frames_there =
+        let did : Did = did_exchange (places.Bundle g) word word (bit_xor word mask) in
+        let b : Brings did [] [] v (taken_view g mask t.words v) w = subst (λ hit. Brings did [] [] v (if hit then taken_view g mask t.words v else v) w) (eq-eqb word word refl) t.brings in
+        let old : (f : ℕ) → has f v.frames ≡ true → has f (frames_in g mask) ≡ false = λ f had.
+        ⊎_elim (λ (e : has f (frames_in g mask) ≡ true). absurd (true≢false (sym had ∙ t.new refl f (sym (has-frames_in g mask f) ∙ e)))) (λ e. e) (cases_Bool (has f (frames_in g mask))) in
+        let moves : MovesFrames (did ∷ []) v w =
+        moved-by did (frames_in g mask ++ v.frames) (with_contents t.words (frames_in g mask) v.contents) v w b
+        (λ f had _. with_contents-at t.words (frames_in g mask) v.contents f ∙ ap (λ hit. if hit then t.words f else contents_at v f) (old f had)) in
+        let frames : w.frames ≡ frames_in g mask ++ v.frames = ap (λ (x : View X). x.frames) b.view in
+        let start : w.start ≡ v.start = moves.start in
+        record {
+          word = word;
+          load = did_load (places.Bundle g) word;
+          asks = asks;
+          moves = moved-then (did_load (places.Bundle g) word ∷ []) (did ∷ []) u v w loaded moves (λ f a c. subst (λ (l : List ℕ). has f l ≡ true) (sym same-frames) a);
+          frames = frames ∙ ap (λ (l : List ℕ). frames_in g mask ++ l) same-frames;
+          held = record {
+            apart = frames_in-apart g mask;
+            inside = each-has (λ f. f < w.start.frames) (frames_in g mask) (λ f e. subst (λ s. f < s.frames) (sym start) (t.inside refl f (sym (has-frames_in g mask f) ∙ e)));
+            held = each-has (λ f. has f w.frames ≡ true) (frames_in g mask) (λ f e. ap (has f) frames ∙ has-both f (frames_in g mask) v.frames ∙ or_left (has f (frames_in g mask)) (has f v.frames) e);
+          };
+          some = frames_there;
+        }
+
+-- ---- the walk
+
+-- how many bundles the table has, as it is computed from its number of frames
+pub bundle-count : (n frames table start : ℕ) → n ≡ frames / 64 + min 1 (frames % 64) → frames ≡ table → start ≡ table → n ≡ bundles_of start
+bundle-count n frames table start is shape same = omega (arith, is, shape, same)
+
+-- the bundle that the walk comes to, as it is computed from the home and from how many there are
+pub comes-to : (home k from n start : ℕ) → from ≡ home → n ≡ bundles_of start → (from + k) % n ≡ bundle_at home (bundles_of start) k
+comes-to home k from n start is all i = (is i + k) % all i
+
+-- what was lost last of the first `count` bundles: nothing, and then each word was 0; or these bits
+abbrev pub IsLastLost : ℕ → ℕ → ℕ → Option Saw → List Did → Type 0
+IsLastLost home bundles count None done = Dry home bundles count done
+IsLastLost home bundles count (Some saw) done = (g : ℕ) × (saw.at ≡ ats.Bundle g) × IsSaw NoWord done saw
+
+module _ {X : Type 0} where
+  -- the first `count` bundles of the walk were passed by
+  pub record IsUnderWay (most home count : ℕ) (lost : Option Saw) (v w : View X) : Type 0 where
+    pub done : List Did
+    pub moves : MovesFrames done v w
+    pub frames : w.frames ≡ v.frames
+    pub walk : Walks most home (bundles_of v.start.frames) count done
+    pub last : IsLastLost home (bundles_of v.start.frames) count lost done
+
+-- steps that came later leave the evidence
+saw-more : (kept : ℕ → Type 0) (done more : List Did) (saw : Saw) → IsSaw kept done saw → IsSaw kept (done ++ more) saw
+saw-more kept done more saw s = record {
+  earlier = s.earlier;
+  last = s.last;
+  later = s.later ++ more;
+  cut = ap (λ (l : List Did). l ++ more) s.cut ∙ append_assoc s.earlier (s.last ∷ s.later) more;
+  gives = s.gives;
+  since = s.since;
+  begins = s.begins;
+  quiet = s.quiet;
+  why = s.why;
+}
+
+-- the load of a bundle's word and the exchange that was lost are evidence
+lost-shows : (most g mask : ℕ) (before : List Did) (load : Did) (saw : Saw) → Asks most g saw.first mask load → saw.at ≡ ats.Bundle g → saw.seen ≢ saw.first
+    → IsSaw NoWord (before ++ load ∷ did_exchange (places.Bundle g) saw.first saw.seen (bit_xor saw.first mask) ∷ []) saw
+lost-shows most g mask before load saw asks at ne =
+    let did : Did = did_exchange (places.Bundle g) saw.first saw.seen (bit_xor saw.first mask) in
+    let place : places.Bundle g ≡ place_of saw.at = sym (ap place_of at) in
+    record {
+      earlier = before ++ load ∷ [];
+      last = did;
+      later = [];
+      cut = sym (append_assoc before (load ∷ []) (did ∷ []));
+      gives = (place, refl);
+      since = [];
+      begins = read before load refl (ap (λ (d : Did). d.at) asks.is ∙ place, ap (λ (d : Did). d.found) asks.is);
+      quiet = tt;
+      why = subst (λ a. WhyAgain a saw.first saw.seen did) (sym at)
+          (record { gives = (refl, refl); expected = refl; other = ne; left = ap (λ hit. if hit then Some (bit_xor saw.first mask) else None) (ne_eqb saw.seen saw.first ne) });
+    }
+
+-- what was lost last is so after a bundle whose word was 0
+still-lost : (home bundles k : ℕ) (lost : Option Saw) (done : List Did) → IsLastLost home bundles k lost done
+    → IsLastLost home bundles (suc k) lost (done ++ did_load (places.Bundle (bundle_at home bundles k)) 0 ∷ [])
+still-lost home bundles k None done l = (done, refl, l)
+still-lost home bundles k (Some saw) done l = (l.0, l.1, saw-more NoWord done (did_load (places.Bundle (bundle_at home bundles k)) 0 ∷ []) saw l.2)
+
+module _ {X : Type 0} (most home k g : ℕ) (last : Option Saw) (u v w : View X) (way : IsUnderWay most home k last u v) (is : g ≡ bundle_at home (bundles_of u.start.frames) k) where
+  abbrev bundles : ℕ
+  bundles = bundles_of u.start.frames
+
+  -- a frame that the pass had at the start it has
+  had : (f : ℕ) → has f u.frames ≡ true → has f v.frames ≡ true
+  had f e = subst (λ (l : List ℕ). has f l ≡ true) (sym way.frames) e
+
+  -- a bundle whose word was 0 is passed by
+  pub pass-empty : IsEmptyVisit g v w → IsUnderWay most home (k + 1) last u w
+  pass-empty at =
+      let next : suc k ≡ k + 1 = omega arith in
+      let here = subst (λ n. IsEmptyVisit n v w) is at in
+      let did : Did = did_load (places.Bundle (bundle_at home bundles k)) 0 in
+      subst (λ n. IsUnderWay most home n last u w) next
+      (record {
+        done = way.done ++ did ∷ [];
+        moves = moved-then way.done (did ∷ []) u v w way.moves here.moves (λ f a b. had f a);
+        frames = here.frames ∙ way.frames;
+        walk = (way.done, did ∷ [], refl, way.walk, empty refl);
+        last = still-lost home bundles k last way.done way.last;
+      })
+
+  -- so is one whose bits were lost
+  pub pass-lost : (saw : Saw) → IsLostVisit most g saw v w → IsUnderWay most home (k + 1) (Some saw) u w
+  pass-lost saw at =
+      let next : suc k ≡ k + 1 = omega arith in
+      let here = subst (λ n. IsLostVisit most n saw v w) is at in
+      let did : Did = did_exchange (places.Bundle (bundle_at home bundles k)) saw.first saw.seen (bit_xor saw.first here.mask) in
+      subst (λ n. IsUnderWay most home n (Some saw) u w) next
+      (record {
+        done = way.done ++ here.load ∷ did ∷ [];
+        moves = moved-then way.done (here.load ∷ did ∷ []) u v w way.moves here.moves (λ f a b. had f a);
+        frames = here.frames ∙ way.frames;
+        walk = (way.done, here.load ∷ did ∷ [], refl, way.walk, lost saw.first here.mask saw.seen here.load here.asks here.other refl);
+        last = (bundle_at home bundles k, here.at, lost-shows most (bundle_at home bundles k) here.mask way.done here.load saw here.asks here.at here.other);
+      })
+
+  -- the walk ends with the first bits that were taken
+  pub finds : (mask : ℕ) (frames : List ℕ) → k < bundles → IsTakenVisit most g mask v w → frames ≡ frames_in g mask → IsFound most home frames u w
+  finds mask frames below at are = record {
+    done = way.done ++ at.load ∷ did_exchange (places.Bundle g) at.word at.word (bit_xor at.word mask) ∷ [];
+    moves = moved-then way.done (at.load ∷ did_exchange (places.Bundle g) at.word at.word (bit_xor at.word mask) ∷ []) u v w way.moves at.moves (λ f a b. had f a);
+    g = g;
+    mask = mask;
+    takes = record {
+      passed = k;
+      below = below;
+      bundle = is;
+      before = way.done;
+      walk = way.walk;
+      word = at.word;
+      load = at.load;
+      asks = at.asks;
+      cut = refl;
+      frames = at.frames ∙ ap (λ (l : List ℕ). frames_in g mask ++ l) way.frames;
+    };
+    are = are;
+    held = subst (λ (l : List ℕ). AreHeld l w) (sym are) at.held;
+    some = subst (λ (l : List ℕ). 1 ≤ length l) (sym are) at.some;
+  }

@@ -1,0 +1,10 @@
+use Rattle.std.proofs.Common.{◌≡◌, ◌≤◌, length}
+use Rattle.vm_rule.specs.Bundles.{frames_below}
+use Rattle.vm_exmap.proofs.batch.Batch.of_bundle.Given as goal
+
+-- the frames of the first i bits
+abbrev pub invariant-loop-i : goal.invariant-loop-i
+invariant-loop-i l = record {
+  are : l.frames ≡ frames_below l.i l.g l.mask;
+  few : length l.frames ≤ l.i;
+}

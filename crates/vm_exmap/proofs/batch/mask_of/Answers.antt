@@ -1,0 +1,26 @@
+use Rattle.std.proofs.Common.{ℕ, ◌≡◌, ◌+◌, ◌++◌, ◌∷◌, ◌%◌, ◌^◌, [], get_or, take, suc, sym, ap, ◌∙◌, arith, bit_or}
+use Rattle.std.proofs.Math.Seq.{take-suc}
+use Rattle.std.proofs.lemmas.Nat.{one_shl}
+use Rattle.vm_core.specs.Words.{in_mask}
+use Rattle.vm_exmap.specs.Returns.{is_of}
+use Rattle.vm_exmap.proofs.BundleBits.{mask-none, mask-more, mask-same}
+use Rattle.vm_exmap.proofs.batch.mask_of.Goals as goal
+use Rattle.vm_exmap.proofs.batch.mask_of.Goals.{then-frame-g, else-frame-g}
+
+pub loop-frame-init : goal.loop-frame-init
+loop-frame-init c f = mask-none c.args.g f
+
+pub loop-frame-preserved : goal.loop-frame-preserved
+loop-frame-preserved c f =
+    let n : ℕ = c.loop-frame.frame-index in
+    let x : ℕ = get_or c.args.frames.now n 0 in
+    let next : take (n + 1) c.args.frames.now ≡ take n c.args.frames.now ++ x ∷ [] = (let e : n + 1 ≡ suc n = omega arith in ap (λ k. take k c.args.frames.now) e) ∙ take-suc c.args.frames.now n 0 c.loop-frame-test.true in
+    elim c.if-frame-g.branch [
+      | then-frame-g w ↦
+          let bit : 2 ^ (x % 64) ≡ _ = sym (one_shl (x % 64) 64 (omega arith)) in
+          ap (λ m. in_mask c.args.g m f) (w.mask-is ∙ ap (bit_or c.loop-frame.mask) (sym bit))
+          ∙ mask-more c.args.g c.loop-frame.mask x (take n c.args.frames.now) w.if-frame-g.true c.loop-frame.invariant f
+          ∙ ap (λ l. is_of c.args.g l f) (sym next)
+      | else-frame-g w ↦
+          ap (λ m. in_mask c.args.g m f) w.mask-is ∙ mask-same c.args.g c.loop-frame.mask x (take n c.args.frames.now) w.if-frame-g.false c.loop-frame.invariant f ∙ ap (λ l. is_of c.args.g l f) (sym next)
+    ]

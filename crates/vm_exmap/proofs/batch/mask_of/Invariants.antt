@@ -1,0 +1,8 @@
+use Rattle.std.proofs.Common.{ℕ, ◌≡◌, take}
+use Rattle.vm_core.specs.Words.{in_mask}
+use Rattle.vm_exmap.specs.Returns.{is_of}
+use Rattle.vm_exmap.proofs.batch.mask_of.Given as goal
+
+-- the bits of the first frames
+abbrev pub invariant-loop-frame : goal.invariant-loop-frame
+invariant-loop-frame l = (f : ℕ) → in_mask l.g l.mask f ≡ is_of l.g (take l.frame-index l.frames) f

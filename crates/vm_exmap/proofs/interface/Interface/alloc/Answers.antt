@@ -1,0 +1,14 @@
+-- What stays with the interface is part of what it had, or of what was taken, and that is held.
+use Rattle.std.proofs.Common.{ℕ, List, subst}
+use Rattle.vm_exmap.specs.Frames.{AreHeld}
+use Rattle.vm_step.specs.Passes.{view}
+use Rattle.vm_exmap.proofs.Handing.{held-rest}
+use Rattle.vm_exmap.proofs.interface.Interface.alloc.Goals as goal
+
+pub returns-then-not-is_empty-clause-held : goal.returns-then-not-is_empty-clause-held
+returns-then-not-is_empty-clause-held g c =
+    held-rest c.hand_out.result c.hand_out.new.self.frames (view c.args.pass.now) (subst (λ (l : List ℕ). AreHeld l (view c.args.pass.now)) c.hand_out.ensures.hands.all c.requires.frames)
+
+pub returns-in-Batch-clause-held : goal.returns-in-Batch-clause-held
+returns-in-Batch-clause-held g c =
+    held-rest c.hand_out-in-Batch.result c.hand_out-in-Batch.new.self.frames (view c.walk.new.pass) (subst (λ (l : List ℕ). AreHeld l (view c.walk.new.pass)) c.hand_out-in-Batch.ensures.hands.all c.in-Batch.ensures.walk.held)

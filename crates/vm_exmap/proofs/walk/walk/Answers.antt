@@ -1,0 +1,30 @@
+-- Each visit is to the next bundle of the walk: it is passed by, or the walk ends there.
+use Rattle.std.proofs.Common.{◌<◌, ◌+◌, ◌∙◌, sym, subst}
+use Rattle.vm_step.specs.Passes.{IsSamePass, view}
+use Rattle.vm_exmap.proofs.Walking.{IsUnderWay, bundle-count, comes-to, pass-empty, pass-lost, finds}
+use Rattle.vm_exmap.proofs.walk.walk.Goals as goal
+use Rattle.vm_exmap.proofs.walk.walk.Goals.{in-Empty, in-Lost}
+
+pub returns-in-Taken-clause-walk : goal.returns-in-Taken-clause-walk
+returns-in-Taken-clause-walk g c =
+    let n = bundle-count c.div_ceil-bundles.result c.args.words.now.frames _ _ c.div_ceil-bundles.ensures c.args.words.now.shape.1 c.requires.ready.table.is_shape.frames in
+    let is = comes-to c.args.home c.loop-k.k c.from.result c.div_ceil-bundles.result _ c.from.ensures n in
+    finds c.args.most c.args.home c.loop-k.k _ c.loop-k.lost _ _ _ c.loop-k.invariant.walked is c.in-Taken.mask c.of_bundle.result (subst (λ m. c.loop-k.k < m) n c.loop-k-test.true) c.in-Taken.ensures.visited c.of_bundle.ensures
+
+pub loop-k-preserved : goal.loop-k-preserved
+loop-k-preserved g c =
+    let same : IsSamePass c.args.pass.now c.visit.new.pass = (c.visit.ensures.pass.0 ∙ c.loop-k.invariant.same.0, c.visit.ensures.pass.1 ∙ c.loop-k.invariant.same.1) in
+    let n = bundle-count c.div_ceil-bundles.result c.args.words.now.frames _ _ c.div_ceil-bundles.ensures c.args.words.now.shape.1 c.requires.ready.table.is_shape.frames in
+    let is = comes-to c.args.home c.loop-k.k c.from.result c.div_ceil-bundles.result _ c.from.ensures n in
+    record {
+      same = same;
+      ready = c.visit.ensures.ready;
+      walked = elim c.match-visit.branch [
+        | in-Empty w ↦
+            subst (λ last. IsUnderWay c.args.most c.args.home (c.loop-k.k + 1) last (view c.args.pass.now) (view c.visit.new.pass)) (sym w.lost-is)
+            (pass-empty c.args.most c.args.home c.loop-k.k _ c.loop-k.lost _ _ _ c.loop-k.invariant.walked is w.in-Empty.ensures.visited)
+        | in-Lost w ↦
+            subst (λ last. IsUnderWay c.args.most c.args.home (c.loop-k.k + 1) last (view c.args.pass.now) (view c.visit.new.pass)) (sym w.lost-is)
+            (pass-lost c.args.most c.args.home c.loop-k.k _ c.loop-k.lost _ _ _ c.loop-k.invariant.walked is w.in-Lost.saw w.in-Lost.ensures.visited)
+      ];
+    }

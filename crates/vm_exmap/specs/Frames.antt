@@ -1,0 +1,35 @@
+-- Frames that a pass holds, and what a call leaves that moves free frames alone.
+use Rattle.std.specs.Prelude.{ℕ, true, List, ◌++◌, ◌≡◌, ◌<◌}
+use Rattle.vm_owner.specs.Numbers.{has, AreApart}
+use Rattle.vm_rule.specs.declared.view.Did.{Did}
+use Rattle.vm_rule.specs.declared.view.View.{View}
+use Rattle.vm_rule.specs.Views.{Each, StartsWith, IsLocking, seat_of}
+use Rattle.vm_rule.specs.Reading.{last_of}
+use Rattle.vm_rule.specs.Mappings.{contents_at}
+use Rattle.vm_step.specs.Asides.{StaysAlone}
+
+module _ {X : Type 0} where
+  -- these are frames of the table, each once, which the pass holds
+  pub record AreHeld (frames : List ℕ) (v : View X) : Type 0 where
+    pub apart : AreApart frames
+    pub inside : Each (λ f. f < v.start.frames) frames
+    pub held : Each (λ f. has f v.frames ≡ true) frames
+
+  -- the call made these steps, and left all of the view but its free frames
+  pub record MovesFrames (done : List Did) (v w : View X) : Type 0 where
+    pub log : w.log ≡ v.log ++ done
+    pub live : w.live ≡ v.live
+    pub start : w.start ≡ v.start
+    pub parts : (w.used ≡ v.used) × (w.fresh ≡ v.fresh)
+    pub pages : (w.seats ≡ v.seats) × (w.loads ≡ v.loads) × (w.held ≡ v.held) × (w.drafts ≡ v.drafts)
+    pub reads : (w.translations ≡ v.translations) × (w.ties ≡ v.ties)
+    pub out : w.out ≡ v.out
+    pub notes : w.notes ≡ v.notes
+    pub group : (w.pending ≡ v.pending) × (w.owed ≡ v.owed) × (w.next ≡ v.next)
+    pub mine : w.mine ≡ v.mine
+    pub seen : StartsWith w.seen v.seen
+    pub releases : StartsWith w.releases v.releases
+    pub last : (p : ℕ) → IsLocking (seat_of v p) → last_of w p ≡ last_of v p
+    -- the words of a frame that the pass had and has are as they were
+    pub contents : (f : ℕ) → has f v.frames ≡ true → has f w.frames ≡ true → contents_at w f ≡ contents_at v f
+    pub alone : StaysAlone v w

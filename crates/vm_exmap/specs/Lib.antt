@@ -1,0 +1,4 @@
+pub mod Frames
+pub mod Walks
+pub mod Returns
+pub mod Visits

@@ -1,0 +1,41 @@
+-- How frames go back to the bundles: for each bundle that has some of them, by rising number, one step that sets their bits.
+use Rattle.std.specs.Prelude.{ℕ, Bool, false, List, [], ◌∷◌, ◌++◌, ◌≡◌, ◌-◌, ◌/◌, ◌==◌, ◌&&◌, zero, suc, length, bit_or, min, if◌then◌else◌}
+use Rattle.vm_core.specs.Words.{in_mask}
+use Rattle.vm_owner.specs.Numbers.{has}
+use Rattle.vm_rule.specs.declared.view.Did.{Did}
+use Rattle.vm_rule.specs.declared.view.Place.TheVariants as places
+use Rattle.vm_rule.specs.declared.view.View.{View}
+use Rattle.vm_rule.specs.Layout.{bundles_of}
+use Rattle.vm_rule.specs.Log.{did_change}
+use Rattle.vm_exmap.specs.Frames.{MovesFrames}
+
+-- the frame is one of these, and of bundle g
+abbrev pub is_of : ℕ → List ℕ → ℕ → Bool
+is_of g frames f = (f / 64 == g) && has f frames
+
+-- the bits of the frames that are of bundle g were set, by one step; or there are none, and no step was made
+pub data GivesTo (frames : List ℕ) (g : ℕ) (steps : List Did) : Type 0 where
+  none : ((f : ℕ) → is_of g frames f ≡ false) → steps ≡ [] → GivesTo frames g steps
+  some : (mask found : ℕ) → ((f : ℕ) → in_mask g mask f ≡ is_of g frames f) → steps ≡ did_change (places.Bundle g) found (bit_or found mask) ∷ [] → GivesTo frames g steps
+
+-- so it was done with the first `count` bundles, in order
+abbrev pub Gives : List ℕ → ℕ → List Did → Type 0
+Gives frames zero done = done ≡ []
+Gives frames (suc g) done = (before : List Did) × (steps : List Did) × (done ≡ before ++ steps) × Gives frames g before × GivesTo frames g steps
+
+module _ {X : Type 0} where
+  -- these frames went back to the bundles, and no others
+  pub record AreGiven (frames : List ℕ) (v w : View X) : Type 0 where
+    pub done : List Did
+    pub moves : MovesFrames done v w
+    pub gives : Gives frames (bundles_of v.start.frames) done
+    pub left : (f : ℕ) → has f w.frames ≡ (if has f frames then false else has f v.frames)
+
+  -- an interface with the frames `old` was handed these frames: it keeps the first ones up to its cap, and the others went back
+  pub record IsFreed (cap : ℕ) (old frames new : List ℕ) (v w : View X) : Type 0 where
+    pub kept : List ℕ
+    pub given : List ℕ
+    pub all : frames ≡ kept ++ given
+    pub new_frames : new ≡ old ++ kept
+    pub count : length kept ≡ min (cap - length old) (length frames)
+    pub back : AreGiven given v w

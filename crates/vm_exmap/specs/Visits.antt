@@ -1,0 +1,79 @@
+-- What comes of a visit to one bundle on a walk, and of the walk: the parts of an allocation from an interface without a frame.
+use Rattle.std.specs.Prelude.{ℕ, List, [], ◌∷◌, ◌++◌, ◌≡◌, ◌≢◌, ◌≤◌, length, bit_xor}
+use Rattle.vm_rule.specs.declared.view.Did.{Did}
+use Rattle.vm_rule.specs.declared.view.Place.TheVariants as places
+use Rattle.vm_rule.specs.declared.view.View.{View}
+use Rattle.vm_rule.specs.Layout.{bundles_of}
+use Rattle.vm_rule.specs.Log.{did_load, did_exchange}
+use Rattle.vm_rule.specs.Bundles.{frames_in}
+use Rattle.vm_step.specs.declared.saw.At.TheVariants as ats
+use Rattle.vm_step.specs.declared.saw.Saw.{Saw}
+use Rattle.vm_exmap.specs.declared.interface.Alloc.{Alloc}
+use Rattle.vm_exmap.specs.declared.interface.Alloc.TheVariants as allocs
+use Rattle.vm_exmap.specs.declared.walk.Visited.{Visited}
+use Rattle.vm_exmap.specs.declared.walk.Visited.TheVariants as visits
+use Rattle.vm_step.specs.Evidence.{IsSaw, NoWord}
+use Rattle.vm_exmap.specs.Frames.{AreHeld, MovesFrames}
+use Rattle.vm_exmap.specs.Walks.{Asks, Walks, TakesFrom, IsRefused, IsDry}
+
+module _ {X : Type 0} where
+  -- ---- one bundle
+
+  -- the bundle's word was 0
+  pub record IsEmptyVisit (g : ℕ) (v w : View X) : Type 0 where
+    pub moves : MovesFrames (did_load (places.Bundle g) 0 ∷ []) v w
+    pub frames : w.frames ≡ v.frames
+
+  -- the bits asked for were lost: another word stood there by then
+  pub record IsLostVisit (most g : ℕ) (saw : Saw) (v w : View X) : Type 0 where
+    pub mask : ℕ
+    pub load : Did
+    pub asks : Asks most g saw.first mask load
+    pub at : saw.at ≡ ats.Bundle g
+    pub other : saw.seen ≢ saw.first
+    pub moves : MovesFrames (load ∷ did_exchange (places.Bundle g) saw.first saw.seen (bit_xor saw.first mask) ∷ []) v w
+    pub frames : w.frames ≡ v.frames
+
+  -- they were taken: their frames, which are not none, are the pass's now, and were not before
+  pub record IsTakenVisit (most g mask : ℕ) (v w : View X) : Type 0 where
+    pub word : ℕ
+    pub load : Did
+    pub asks : Asks most g word mask load
+    pub moves : MovesFrames (load ∷ did_exchange (places.Bundle g) word word (bit_xor word mask) ∷ []) v w
+    pub frames : w.frames ≡ frames_in g mask ++ v.frames
+    pub held : AreHeld (frames_in g mask) w
+    pub some : 1 ≤ length (frames_in g mask)
+
+  -- what came of a visit to bundle g
+  abbrev pub IsVisited : ℕ → ℕ → View X → View X → Visited → Type 0
+  IsVisited most g v w visits.Empty = IsEmptyVisit g v w
+  IsVisited most g v w (visits.Lost saw) = IsLostVisit most g saw v w
+  IsVisited most g v w (visits.Taken mask) = IsTakenVisit most g mask v w
+
+  -- ---- the walk
+
+  -- it ended with these frames, which are not none
+  pub record IsFound (most home : ℕ) (frames : List ℕ) (v w : View X) : Type 0 where
+    pub done : List Did
+    pub moves : MovesFrames done v w
+    pub g : ℕ
+    pub mask : ℕ
+    pub takes : TakesFrom most home g mask done v w
+    pub are : frames ≡ frames_in g mask
+    pub held : AreHeld frames w
+    pub some : 1 ≤ length frames
+
+  -- each bundle was passed by, and the bits of one were lost: the evidence is that exchange
+  pub record IsLostWalk (most home : ℕ) (saw : Saw) (v w : View X) : Type 0 where
+    pub done : List Did
+    pub refused : IsRefused done [] [] v w
+    pub walk : Walks most home (bundles_of v.start.frames) (bundles_of v.start.frames) done
+    pub g : ℕ
+    pub at : saw.at ≡ ats.Bundle g
+    pub evidence : IsSaw NoWord done saw
+
+  -- what a walk over the bundles comes to
+  abbrev pub IsWalk : ℕ → ℕ → View X → View X → Alloc → Type 0
+  IsWalk most home v w (allocs.Batch frames) = IsFound most home frames v w
+  IsWalk most home v w allocs.Dry = IsDry home [] [] v w
+  IsWalk most home v w (allocs.Again saw) = IsLostWalk most home saw v w

@@ -1,0 +1,85 @@
+// A walk over the bundles for free frames: each is visited once, from a home on and round, until the bits asked of one of them are taken.
+ghost use Rattle.std.specs.Prelude.{◌≡◌, ◌*◌, ◌<◌, ◌≤◌, ℕ};
+ghost use Rattle.vm_exmap.specs.Visits.{IsVisited, IsWalk};
+ghost use Rattle.vm_step.specs.Passes.{IsSamePass, view};
+ghost use Rattle.vm_step.specs.Ready.{IsReady};
+
+use crate::batch::Batch;
+use crate::interface::Alloc;
+use vm_block::Block;
+use vm_core::Bundle;
+use vm_owner::Owner;
+use vm_rule::words::{Pass, Words};
+use vm_step::{At, Saw, Took, bload, take};
+
+/// How many frames a bundle has.
+const FRAMES: usize = 64;
+
+/// What came of a visit to a bundle.
+pub(crate) enum Visited {
+    /// Its word was 0.
+    Empty,
+    /// The bits asked for were lost.
+    Lost(Saw),
+    /// These bits were taken.
+    Taken(u64),
+}
+
+/// Visits bundle `g`, and asks for its `most` lowest bits (1 or more).
+pub(crate) fn visit<U: Owner, B: Block>(
+    words: &Words<U, B>,
+    pass: &mut Pass<U>,
+    g: u32,
+    most: u32,
+) -> Visited
+    requires ready { IsReady words.now.table.shared.key B.tells words.now.table.shared.table_id pass.old }
+    requires bundle { g * 64 < words.now.table.shared.key.frames }
+    requires some { 1 ≤ most }
+    ensures pass { IsSamePass pass.old pass.new }
+    ensures ready { IsReady words.now.table.shared.key B.tells words.now.table.shared.table_id pass.new }
+    ensures visited { IsVisited most g (view pass.old) (view pass.new) result }
+{
+    let word = bload(words, pass, g);
+    if word == 0 {
+        return Visited::Empty;
+    }
+    let mask = Bundle::lowest(word, most);
+    match take(words, pass, g, word, mask) {
+        Took::Taken => Visited::Taken(mask),
+        Took::Lost(seen) => Visited::Lost(Saw {
+            at: At::Bundle(g),
+            first: word,
+            seen,
+        }),
+    }
+}
+
+/// Walks over the bundles once, from `home` on and round, and takes the `most` lowest bits (1 or more) of the first one whose exchange
+/// succeeds.
+pub(crate) fn walk<U: Owner, B: Block>(
+    words: &Words<U, B>,
+    pass: &mut Pass<U>,
+    home: u32,
+    most: u32,
+) -> Alloc
+    requires ready { IsReady words.now.table.shared.key B.tells words.now.table.shared.table_id pass.old }
+    requires some { 1 ≤ most }
+    ensures pass { IsSamePass pass.old pass.new }
+    ensures ready { IsReady words.now.table.shared.key B.tells words.now.table.shared.table_id pass.new }
+    ensures walk { IsWalk most home (view pass.old) (view pass.new) result }
+{
+    let bundles = words.frames.div_ceil(FRAMES) as u64;
+    let mut lost = None;
+    for k in 0..bundles {
+        let g = ((u64::from(home) + k) % bundles) as u32;
+        match visit(words, pass, g, most) {
+            Visited::Empty => {}
+            Visited::Lost(saw) => lost = Some(saw),
+            Visited::Taken(mask) => return Alloc::Batch(Batch::of_bundle(g, mask)),
+        }
+    }
+    match lost {
+        None => Alloc::Dry,
+        Some(saw) => Alloc::Again(saw),
+    }
+}

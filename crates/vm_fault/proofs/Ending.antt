@@ -1,0 +1,185 @@
+-- The release of a page that was found evicted and locked: nothing but its version is another then, and the pass holds what it held.
+use Rattle.std.proofs.Common.{ℕ, ◌≡◌, ◌≢◌, ◌≤◌, ◌<◌, ◌+◌, ◌++◌, if◌then◌else◌, true, false, List, [], ◌∷◌, Option, Some, None, refl, sym, ap, ◌∙◌, inl, arith, ⊎_elim, eqb, append_assoc}
+use Rattle.std.proofs.lemmas.Bool.{false≢true, cond-false, ne_eqb}
+use Rattle.vm_core.specs.declared.event.Seat.{Seat}
+use Rattle.vm_core.specs.Words.{word_of, UNLOCKED, EVICTED, MAX_VERSION}
+use Rattle.vm_core.specs.History.{History, Version}
+use Rattle.vm_core.specs.Start.{no_seat}
+use Rattle.vm_core.proofs.Upd.{upd-other, upd-same}
+use Rattle.vm_owner.specs.declared.Entry.{Entry}
+use Rattle.vm_owner.specs.Numbers.{has, without}
+use Rattle.vm_owner.proofs.NumberLemmas.{without-none}
+use Rattle.vm_rule.specs.declared.view.Did.{Did}
+use Rattle.vm_rule.specs.declared.view.Origin.{Origin}
+use Rattle.vm_rule.specs.declared.view.Place.{Place}
+use Rattle.vm_rule.specs.declared.view.Place.TheVariants as places
+use Rattle.vm_rule.specs.declared.view.Release.{Release}
+use Rattle.vm_rule.specs.declared.view.View.{View}
+use Rattle.vm_rule.specs.Puts.{put, put_at}
+use Rattle.vm_rule.specs.Views.{IsLocking, seat_of, draft_of}
+use Rattle.vm_rule.specs.Reading.{last_in, last_of}
+use Rattle.vm_rule.specs.Brought.{Brings}
+use Rattle.vm_rule.specs.Log.{did_store}
+use Rattle.vm_rule.specs.Releases.{EvictTold, ReleaseTold, next_after}
+use Rattle.vm_rule.proofs.Entries.{append-none}
+use Rattle.vm_rule.proofs.Worlds.{last-is, release-here}
+use Rattle.vm_step.specs.Asides.{IsAside}
+use Rattle.vm_step.specs.Evidence.{HasGiven, HasWritten}
+use Rattle.vm_fault.specs.Fetches.{IsReleasedAs}
+use Rattle.vm_fault.proofs.Evicted.{IsHeldEmpty}
+use Rattle.vm_fault.proofs.Leaves.{Leaves, Works, aside-of, leaves-released, leaves-then}
+
+-- ---- evidence in a longer list of steps
+
+pub given-front : (a b : List Did) (at : Place) (word : ℕ) → HasGiven a at word → HasGiven (a ++ b) at word
+given-front a b at word h = record { earlier = h.earlier; step = h.step; later = h.later ++ b; cut = ap (λ (t : List Did). t ++ b) h.cut ∙ append_assoc h.earlier (h.step ∷ h.later) b; gives = h.gives }
+
+pub written-front : (a b : List Did) (at : Place) (word : ℕ) → HasWritten a at word → HasWritten (a ++ b) at word
+written-front a b at word h =
+    record { earlier = h.earlier; step = h.step; later = h.later ++ b; cut = ap (λ (t : List Did). t ++ b) h.cut ∙ append_assoc h.earlier (h.step ∷ h.later) b; place = h.place; wrote = h.wrote }
+
+pub written-behind : (a b : List Did) (at : Place) (word : ℕ) → HasWritten b at word → HasWritten (a ++ b) at word
+written-behind a b at word h =
+    record { earlier = a ++ h.earlier; step = h.step; later = h.later; cut = ap (λ (t : List Did). a ++ t) h.cut ∙ sym (append_assoc a h.earlier (h.step ∷ h.later)); place = h.place; wrote = h.wrote }
+
+-- the next word is known on where it was another page
+next-stays : (p : ℕ) (o : Option ℕ) → o ≢ Some p → next_after p o ≡ o
+next-stays p None ne = refl
+next-stays p (Some x) ne = cond-false (eqb x p) None (Some x) (ne_eqb x p (λ e. ne (ap (λ (y : ℕ). Some y) e)))
+
+-- an unlocked word is its version
+pub unlocked-is : (version : ℕ) → version ≡ word_of UNLOCKED version
+unfolding word_of
+unlocked-is version = omega arith
+
+module _ {X : Type 0} (p version : ℕ) (words : List ℕ) (before more : List Did) (v x f : View X) (h : IsHeldEmpty p version words before v x) (k : Works p more x f) where
+  pub still-owns : (seat_of f p).exclusive ≡ true
+  still-owns = ap (λ (s : Seat). s.exclusive) k.seat ∙ h.owns
+
+  pub still-draft : draft_of f p ≡ words
+  still-draft = k.draft ∙ h.draft
+
+  pub still-last : last_of f p ≡ record { version = version; words = words }
+  still-last = k.last (inl h.owns) ∙ h.last
+
+  pub still-free : has p f.pending ≡ false
+  still-free = ap (has p) k.leaves.group.0 ∙ h.free
+
+  pub still-paid : has p f.owed ≡ false
+  still-paid = ap (has p) k.leaves.group.1 ∙ h.paid
+
+  still-next : f.next ≢ Some p
+  still-next e = h.next (sym k.leaves.group.2 ∙ e)
+
+  abbrev all-before : List Did
+  all-before = before ++ more
+
+  pub so-far : Leaves p all-before v f
+  so-far = leaves-then p before more v x f h.leaves k.leaves
+
+  not-before : IsLocking (seat_of v p) → ⊥
+  not-before l =
+      ⊎_elim (λ (e : (seat_of v p).exclusive ≡ true). false≢true (sym h.before.0 ∙ e)) (λ (s : 1 ≤ (seat_of v p).shares). let none : (seat_of v p).shares ≡ 0 = h.before.1 in absurd (omega (arith, s, none))) l
+
+  -- ---- the release, whatever the word
+
+  module _ (state wrote : ℕ) (spelled : wrote ≡ word_of state (version + 1)) (below : version < MAX_VERSION) (pending owed : List ℕ) (next : Option ℕ) (mine : List (Entry X)) (w : View X) where
+    abbrev end-did : Did
+    end-did = did_store (places.State p) wrote
+
+    abbrev end-seat : Seat
+    end-seat = record (seat_of f p) { exclusive = false }
+
+    abbrev end-release : Release
+    end-release = record { page = p; version = version + 1; words = draft_of f p }
+
+    abbrev end-inner : View X
+    end-inner = record f { seats = put p end-seat f.seats; pending = pending; owed = owed; next = next; mine = mine }
+
+    abbrev all : List Did
+    all = all-before ++ end-did ∷ []
+
+    module _ (b : Brings end-did (end-release ∷ []) [] f end-inner w) (same : (pending ≡ f.pending) × (owed ≡ f.owed) × (next ≡ f.next)) (silent : mine ≡ f.mine) where
+      seat-now : seat_of w p ≡ end-seat
+      seat-now = ap (λ (y : View X). seat_of y p) b.view ∙ upd-same (put_at no_seat f.seats) p end-seat
+
+      one : Leaves p (end-did ∷ []) f w
+      one = leaves-released p end-did (version + 1) (draft_of f p) [] f end-inner w b (still-draft ∙ ap (λ (y : Version). y.words) (sym still-last))
+          record {
+            log = refl;
+            live = refl;
+            start = refl;
+            parts = (refl, refl);
+            mine = silent;
+            ties = ([], refl);
+            group = same;
+            seats = λ q ne. upd-other (put_at no_seat f.seats) p end-seat q ne;
+            loads = λ q ne. refl;
+            held = λ q ne. refl;
+            drafts = λ q ne. refl;
+          }
+
+      shares-now : (seat_of w p).shares ≡ (seat_of v p).shares
+      shares-now = ap (λ (s : Seat). s.shares) seat-now ∙ ap (λ (s : Seat). s.shares) k.seat ∙ h.shares
+
+      writing-now : (seat_of w p).writing ≡ (seat_of v p).writing
+      writing-now = ap (λ (s : Seat). s.writing) seat-now ∙ ap (λ (s : Seat). s.writing) k.seat ∙ h.writing
+
+      pub ends-aside : f.out ≡ v.out → IsAside p all v w
+      ends-aside out =
+          aside-of p all v w (leaves-then p all-before (end-did ∷ []) v f w so-far one) (ap (λ (y : View X). y.out) b.view ∙ out)
+          record { shares = shares-now; exclusive = ap (λ (s : Seat). s.exclusive) seat-now ∙ sym h.before.0; writing = writing-now } (λ l. absurd (not-before l))
+
+      abbrev since : List Release
+      since = so-far.releases.0 ++ b.between
+
+      known : f.releases ++ b.between ≡ v.releases ++ since
+      known = ap (λ (t : List Release). t ++ b.between) so-far.releases.1 ∙ append_assoc v.releases so-far.releases.0 b.between
+
+      last-now : last_of w p ≡ record { version = version + 1; words = words }
+      last-now =
+          ap (λ (y : View X). last_in y.start y.releases p) b.view
+          ∙ last-is f.start ((f.releases ++ b.between) ++ end-release ∷ []) (λ n. []) p
+          ∙ ap (λ (y : History). y.last) (release-here f.start (f.releases ++ b.between) (λ n. []) end-release)
+          ∙ ap (λ (l : List ℕ). record { version = version + 1; words = l }) still-draft
+
+      pub ends-released : IsReleasedAs state p version words all v w
+      ends-released = record {
+        below = below;
+        found = given-front all-before (end-did ∷ []) (places.State p) (word_of EVICTED version) (given-front before more (places.State p) (word_of EVICTED version) h.found);
+        left = record { earlier = all-before; step = end-did; later = []; cut = refl; place = refl; wrote = ap (λ (n : ℕ). Some n) spelled };
+        between = since;
+        releases =
+            ap (λ (y : View X). y.releases) b.view
+            ∙ ap (λ (t : List Release). t ++ end-release ∷ []) known
+            ∙ ap (λ (l : List ℕ). (v.releases ++ since) ++ record { page = p; version = version + 1; words = l } ∷ []) still-draft;
+        same =
+            ap (λ (t : List Release). last_in v.start t p) (sym known)
+            ∙ ap (λ (o : Origin). last_in o (f.releases ++ b.between) p) (sym so-far.start)
+            ∙ b.kept p (inl still-owns)
+            ∙ still-last;
+        last = last-now;
+      }
+
+  -- ---- the two releases
+
+  module _ (below : version < MAX_VERSION) (w : View X) where
+    abbrev same-group : List ℕ
+    same-group = if has p f.pending then without p f.pending else [] ++ f.pending
+
+    module _ (t : ReleaseTold p version [] None f w) where
+      group-stays : (same-group ≡ f.pending) × (without p f.owed ≡ f.owed) × (next_after p f.next ≡ f.next)
+      group-stays = (cond-false (has p f.pending) (without p f.pending) ([] ++ f.pending) still-free, without-none p f.owed still-paid, next-stays p f.next still-next)
+
+      pub unlocked-aside : f.out ≡ v.out → IsAside p (all-before ++ did_store (places.State p) (version + 1) ∷ []) v w
+      unlocked-aside = ends-aside UNLOCKED (version + 1) (unlocked-is (version + 1)) below same-group (without p f.owed) (next_after p f.next) (f.mine ++ []) w t.brings group-stays (append-none f.mine)
+
+      pub unlocked-released : IsReleasedAs UNLOCKED p version words (all-before ++ did_store (places.State p) (version + 1) ∷ []) v w
+      unlocked-released = ends-released UNLOCKED (version + 1) (unlocked-is (version + 1)) below same-group (without p f.owed) (next_after p f.next) (f.mine ++ []) w t.brings group-stays (append-none f.mine)
+
+    module _ (t : EvictTold p version f w) where
+      pub evicted-aside : f.out ≡ v.out → IsAside p (all-before ++ did_store (places.State p) (word_of EVICTED (version + 1)) ∷ []) v w
+      evicted-aside = ends-aside EVICTED (word_of EVICTED (version + 1)) refl below f.pending f.owed (next_after p f.next) f.mine w t.brings (refl, refl, next-stays p f.next still-next) refl
+
+      pub evicted-released : IsReleasedAs EVICTED p version words (all-before ++ did_store (places.State p) (word_of EVICTED (version + 1)) ∷ []) v w
+      evicted-released = ends-released EVICTED (word_of EVICTED (version + 1)) refl below f.pending f.owed (next_after p f.next) f.mine w t.brings (refl, refl, next-stays p f.next still-next) refl

@@ -1,0 +1,274 @@
+-- The page was found evicted and locked, and its block was read: it is installed with the block's words and released, or released as evicted.
+use Rattle.std.proofs.Common.{ℕ, ◌≡◌, ◌<◌, ◌==◌, ◌||◌, ◌+◌, ◌++◌, true, false, nat_lt, List, [], ◌∷◌, Some, None, IsSome, length, refl, sym, ap, subst, ◌∙◌, inl, arith, ⊎_elim, slice_index, min, if◌then◌else◌, Bool, Result, Ok, Err, is_ok, OnOk}
+use Rattle.std.proofs.lemmas.Bool.{cond-true, eq-eqb, lt-ltb, or_left, or_right, cases_lt}
+use Rattle.std.proofs.lemmas.Option.{none-some}
+use Rattle.vm_core.specs.Words.{count_more, MAX_VERSION, EVICTED, word_of}
+use Rattle.vm_core.specs.FrameActs.{trans_word}
+use Rattle.vm_core.specs.History.{Version}
+use Rattle.vm_core.proofs.Upd.{upd-other, upd-same}
+use Rattle.vm_block.specs.Blocks.{Reads, one_more}
+use Rattle.vm_block.specs.declared.stored.Stored.{Stored}
+use Rattle.vm_owner.specs.declared.Entry.{Entry}
+use Rattle.vm_owner.specs.Kept.{Start, Change}
+use Rattle.vm_owner.specs.Numbers.{has, without}
+use Rattle.vm_rule.specs.declared.view.Did.{Did}
+use Rattle.vm_rule.specs.declared.view.Held.{Held}
+use Rattle.vm_rule.specs.declared.view.Origin.{Origin}
+use Rattle.vm_rule.specs.declared.view.Place.TheVariants as places
+use Rattle.vm_rule.specs.declared.view.View.{View}
+use Rattle.vm_rule.specs.Puts.{put, put_at}
+use Rattle.vm_rule.specs.Views.{seat_of}
+use Rattle.vm_rule.specs.Rule.{no_held, MAX_COUNT}
+use Rattle.vm_rule.specs.Faults.{RaiseTold, notes_of}
+use Rattle.vm_rule.specs.Log.{did_store}
+use Rattle.vm_rule.specs.Mappings.{InstallTold, MayPutInto, clean_in, held_at, mapped}
+use Rattle.vm_rule.specs.Releases.{EvictTold, ReleaseTold}
+use Rattle.vm_rule.specs.Slots.{HomeTold, MayBring, OutTold, out_at}
+use Rattle.vm_step.specs.Conditions.{IsNotOut, MayEvict, MayGiveUp, MayRaise, MayTakeOut}
+use Rattle.vm_step.specs.Evidence.{HasWritten}
+use Rattle.vm_fault.specs.Fetches.{IsBrought, IsFailed, Stores}
+use Rattle.vm_fault.proofs.Device.{Moves, call-did, called, goes-out, may-bring, more-is, two-loads}
+use Rattle.vm_fault.proofs.Ending.{evicted-aside, evicted-released, still-draft, still-free, still-last, still-owns, still-paid, unlocked-aside, unlocked-released, written-behind, written-front}
+use Rattle.vm_fault.proofs.Evicted.{IsHeldEmpty}
+use Rattle.vm_fault.proofs.Filling.{Fills, all-stored, filled, fills, stores-did}
+use Rattle.vm_fault.proofs.Leaves.{Works, works-one, works-then}
+
+-- a count that a fault raises is higher, or the last one
+higher : (n : ℕ) → (nat_lt n (count_more n) || count_more n == MAX_COUNT) ≡ true
+unfolding count_more
+higher n =
+    ⊎_elim
+    (λ l. or_left (nat_lt n (min (n + 1) MAX_COUNT)) (min (n + 1) MAX_COUNT == MAX_COUNT) (lt-ltb n (min (n + 1) MAX_COUNT) (omega (arith, l))))
+    (λ le. or_right (nat_lt n (min (n + 1) MAX_COUNT)) (min (n + 1) MAX_COUNT == MAX_COUNT) (eq-eqb (min (n + 1) MAX_COUNT) MAX_COUNT (omega (arith, le))))
+    (cases_lt n MAX_COUNT)
+
+noted-more : (p count : ℕ) → notes_of p count (count_more count) ≡ record { page = p; count = count_more count } ∷ []
+noted-more p count = cond-true (nat_lt count (count_more count) || count_more count == MAX_COUNT) (record { page = p; count = count_more count } ∷ []) [] (higher count)
+
+module _ {X : Type 0} (p version : ℕ) (words : List ℕ) (before : List Did) (v x : View X) (h : IsHeldEmpty p version words before v x) where
+  -- the block may be taken out
+  pub may-take-out : x.out ≡ None → MayTakeOut x p
+  may-take-out none = record { calls = or_left (seat_of x p).exclusive (seat_of x p).writing h.owns; none = none }
+
+  -- the block was taken out, read into a page, and brought home
+  module _ {E : Type 0} (old new : Stored) (a d : View X) (o : OutTold p old x a) (tells : Bool) (telling : x.start.tells ≡ tells) (page : List ℕ) (result : Result (Unit {0}) E) (read : Reads tells old new page result) (home : (b : Stored) → MayBring a p b new → HomeTold p b new a d) where
+    gone : Moves p (two-loads p o.first o.second) (held_at x p) (Some (out_at p false old)) x a
+    gone = goes-out p old x a o
+
+    pub may-come-home : MayBring a p old new
+    may-come-home = may-bring p tells a old new page (ap (λ (y : Origin). y.tells) gone.works.leaves.start ∙ telling) result read gone.away
+
+    pub m : HomeTold p old new a d
+    m = home old may-come-home
+
+    abbrev called-did : List Did
+    called-did = call-did p old new x a d o m
+
+    abbrev held-called : Held
+    held-called = record (held_at x p) { block = new }
+
+    moved : Moves p called-did held-called None x d
+    moved = called p old new x a d o m
+
+    pub work-called : Works p called-did x d
+    work-called = moved.works
+
+    pub frames-called : d.frames ≡ x.frames
+    frames-called = moved.keeps.frames
+
+    -- the block had the page's words
+    had-words : x.start.tells ≡ true → old.words ≡ words
+    had-words tells = o.slot.block.words ∙ h.device tells
+
+    -- nothing is out at a view that has out what this one has
+    not-out : (y : View X) → y.out ≡ None → IsNotOut y p
+    not-out y e b is = absurd (none-some b (sym e ∙ is))
+
+    -- ---- the read answered
+
+    module _ (u : Unit {0}) (ok : result ≡ Ok u) where
+      count-same : new.count ≡ old.count
+      count-same = read.count ∙ ap (λ (y : Result (Unit {0}) E). if is_ok y then old.count else one_more old.count) ok
+
+      pub long : length page ≡ 64
+      long = subst (λ (y : Result (Unit {0}) E). OnOk y (length page ≡ 64)) ok read.whole
+
+      given : x.start.tells ≡ true → page ≡ old.words
+      given t = subst (λ (y : Result (Unit {0}) E). OnOk y (page ≡ old.words)) ok (read.given (sym telling ∙ t))
+
+      same : x.start.tells ≡ true → new.words ≡ old.words
+      same t = read.held (sym telling ∙ t)
+
+    module _ (u : Unit {0}) (ok : result ≡ Ok u) (f : ℕ) (holds : has f x.frames ≡ true) (e : View X) (s : Stores f 0 page d e) where
+      filled-as : Fills f p (stores-did f 0 page) d e
+      filled-as = fills f p 0 page d e s
+
+      abbrev filled-did : List Did
+      filled-did = called-did ++ stores-did f 0 page
+
+      work-filled : Works p filled-did x e
+      work-filled = works-then p called-did (stores-did f 0 page) x d e moved.works filled-as.works
+
+      held-filled : held_at e p ≡ held-called
+      held-filled = ap (λ l. put_at no_held l p) filled-as.held ∙ moved.known
+
+      empty-then : (held_at e p).mapping ≡ None
+      empty-then = ap (λ (y : Held). y.mapping) held-filled ∙ h.empty
+
+      pub may-put : MayPutInto e p f
+      may-put = record {
+        owns = still-owns p version words before filled-did v x e h work-filled;
+        empty = empty-then;
+        holds = ap (has f) (filled-as.frames ∙ moved.keeps.frames) ∙ holds;
+        loaded = λ tells.
+            let told : x.start.tells ≡ true = ap (λ (y : Origin). y.tells) (sym work-filled.leaves.start) ∙ tells in
+            filled f page d e (long u ok) s ∙ given u ok told ∙ sym (same u ok told) ∙ ap (λ (y : Held). y.block.words) (sym held-filled);
+      }
+
+      module _ (i : View X) (t : InstallTold p f e i) where
+        abbrev install-did : Did
+        install-did = did_store (places.Translation p) (trans_word (Some (clean_in f)))
+
+        abbrev worked-did : List Did
+        worked-did = filled-did ++ install-did ∷ []
+
+        work-installed : Works p worked-did x i
+        work-installed =
+            works-then p filled-did (install-did ∷ []) x e i work-filled
+            (works-one p install-did None e (mapped p (Some (clean_in f)) e) (without f e.frames) e.contents e.out e.notes i
+            (λ q ne. upd-other (put_at no_held e.held) p (record (held_at e p) { mapping = Some (clean_in f) }) q ne) t.brings)
+
+        held-installed : held_at i p ≡ record held-called { mapping = Some (clean_in f) }
+        held-installed =
+            ap (λ (y : View X). held_at y p) t.brings.view
+            ∙ upd-same (put_at no_held e.held) p (record (held_at e p) { mapping = Some (clean_in f) })
+            ∙ ap (λ (y : Held). record y { mapping = Some (clean_in f) }) held-filled
+
+        out-installed : i.out ≡ None
+        out-installed = ap (λ (y : View X). y.out) t.brings.view ∙ filled-as.out ∙ moved.away
+
+        -- the page's words are those that it had, and it is owed to nobody
+        pub may-give_up : (may_release : Start → List ℕ → List Change → List (Entry X) → Type 0) → p < x.start.pages → MayGiveUp may_release p version [] None i
+        may-give_up may_release inside =
+            let owns = still-owns p version words before worked-did v x i h work-installed in
+            let draft = still-draft p version words before worked-did v x i h work-installed in
+            let last = still-last p version words before worked-did v x i h work-installed in
+            let free = still-free p version words before worked-did v x i h work-installed in
+            let paid = still-paid p version words before worked-did v x i h work-installed in
+            let unchanged = draft ∙ ap (λ (y : Version). y.words) (sym last) in
+            record {
+              owns = owns;
+              resident = subst (λ (y : Held). IsSome y.mapping) (sym held-installed) refl;
+              told = subst (λ (y : Held). y.fault ≡ y.block.count) (sym held-installed) (h.told ∙ sym o.slot.block.count ∙ sym (count-same u ok));
+              home = not-out i out-installed;
+              at = ap (λ (y : Version). y.version) (sym last);
+              group = inl record {
+                members = (record { page = subst (λ (y : Origin). p < y.pages) (sym work-installed.leaves.start) inside; owns = owns; free = free; claimed = λ tells. inl unchanged }, tt);
+                apart = (refl, tt);
+                few = omega arith;
+                owner = λ tells. inl (refl, (unchanged, paid, tt));
+              };
+            }
+
+        module _ (below : version < MAX_VERSION) (none : x.out ≡ None) (w : View X) (r : ReleaseTold p version [] None i w) where
+          abbrev end-did : Did
+          end-did = did_store (places.State p) (version + 1)
+
+          pub brought : IsBrought p f v w
+          brought = record {
+            done = (before ++ worked-did) ++ end-did ∷ [];
+            aside = unlocked-aside p version words before worked-did v x i h work-installed below w r (out-installed ∙ sym none ∙ h.out);
+            version = version;
+            words = words;
+            released = unlocked-released p version words before worked-did v x i h work-installed below w r;
+            mapped =
+                written-front (before ++ worked-did) (end-did ∷ []) (places.Translation p) (trans_word (Some (clean_in f)))
+                (written-behind before worked-did (places.Translation p) (trans_word (Some (clean_in f)))
+                record { earlier = filled-did; step = install-did; later = []; cut = refl; place = refl; wrote = refl });
+            stored = λ tells k l.
+                let told : x.start.tells ≡ true = ap (λ (y : Origin). y.tells) h.leaves.start ∙ tells in
+                subst (λ (ws : List ℕ). HasWritten ((before ++ worked-did) ++ end-did ∷ []) (places.Content f k) (slice_index ws k)) (given u ok told ∙ had-words told)
+                (written-front (before ++ worked-did) (end-did ∷ []) (places.Content f k) (slice_index page k)
+                (written-behind before worked-did (places.Content f k) (slice_index page k)
+                (written-front filled-did (install-did ∷ []) (places.Content f k) (slice_index page k)
+                (written-behind called-did (stores-did f 0 page) (places.Content f k) (slice_index page k) (all-stored f page k (long u ok) l)))));
+            frames =
+                ap (λ (y : View X). y.frames) r.brings.view
+                ∙ ap (λ (y : View X). y.frames) t.brings.view
+                ∙ ap (without f) (filled-as.frames ∙ moved.keeps.frames ∙ h.keeps.frames);
+            notes = ap (λ (y : View X). y.notes) r.brings.view ∙ ap (λ (y : View X). y.notes) t.brings.view ∙ filled-as.notes ∙ moved.keeps.notes ∙ h.keeps.notes;
+          }
+
+    -- ---- the read failed
+
+    pub may-raise : (n : ℕ) → n ≡ new.count → MayRaise d p n
+    may-raise n is = record {
+      calls = or_left (seat_of d p).exclusive (seat_of d p).writing (still-owns p version words before called-did v x d h moved.works);
+      is = is ∙ ap (λ (y : Held). y.block.count) (sym moved.known);
+    }
+
+    module _ (n : ℕ) (is : n ≡ new.count) (y : View X) (t : RaiseTold p n d y) where
+      abbrev raise-did : Did
+      raise-did = did_store (places.Fault p) n
+
+      abbrev raised-did : List Did
+      raised-did = called-did ++ raise-did ∷ []
+
+      pub work-raised : Works p raised-did x y
+      work-raised =
+          works-then p called-did (raise-did ∷ []) x d y moved.works
+          (works-one p raise-did None d (put p (record (held_at d p) { fault = n }) d.held) d.frames d.contents d.out (d.notes ++ notes_of p (held_at d p).fault n) y
+          (λ q ne. upd-other (put_at no_held d.held) p (record (held_at d p) { fault = n }) q ne) t.brings)
+
+      held-raised : held_at y p ≡ record held-called { fault = n }
+      held-raised =
+          ap (λ (z : View X). held_at z p) t.brings.view ∙ upd-same (put_at no_held d.held) p (record (held_at d p) { fault = n }) ∙ ap (λ (z : Held). record z { fault = n }) moved.known
+
+      out-raised : y.out ≡ None
+      out-raised = ap (λ (z : View X). z.out) t.brings.view ∙ moved.away
+
+      pub may-evict : MayEvict y p version
+      may-evict = record {
+        owns = still-owns p version words before raised-did v x y h work-raised;
+        empty = ap (λ (z : Held). z.mapping) held-raised ∙ h.empty;
+        told = subst (λ (z : Held). z.fault ≡ z.block.count) (sym held-raised) is;
+        home = not-out y out-raised;
+        at = ap (λ (z : Version). z.version) (sym (still-last p version words before raised-did v x y h work-raised));
+        free = still-free p version words before raised-did v x y h work-raised;
+        paid = still-paid p version words before raised-did v x y h work-raised;
+      }
+
+      module _ (u : E) (err : result ≡ Err u) (below : version < MAX_VERSION) (none : x.out ≡ None) (w : View X) (r : EvictTold p version y w) where
+        abbrev evict-did : Did
+        evict-did = did_store (places.State p) (word_of EVICTED (version + 1))
+
+        count : new.count ≡ count_more old.count
+        count = read.count ∙ ap (λ (z : Result (Unit {0}) E). if is_ok z then old.count else one_more old.count) err ∙ more-is old.count
+
+        -- the fault word was the count before
+        noted-once : notes_of p (held_at d p).fault n ≡ record { page = p; count = n } ∷ []
+        noted-once =
+            let fault : (held_at d p).fault ≡ old.count = ap (λ (z : Held). z.fault) moved.known ∙ h.told ∙ sym o.slot.block.count in
+            subst (λ (k : ℕ). notes_of p k n ≡ record { page = p; count = n } ∷ []) (sym fault)
+            (subst (λ (k : ℕ). notes_of p old.count k ≡ record { page = p; count = k } ∷ []) (sym (is ∙ count)) (noted-more p old.count))
+
+        pub failed : IsFailed p n v w
+        failed = record {
+          done = (before ++ raised-did) ++ evict-did ∷ [];
+          aside = evicted-aside p version words before raised-did v x y h work-raised below w r (out-raised ∙ sym none ∙ h.out);
+          version = version;
+          words = words;
+          released = evicted-released p version words before raised-did v x y h work-raised below w r;
+          raised =
+              written-front (before ++ raised-did) (evict-did ∷ []) (places.Fault p) n
+              (written-behind before raised-did (places.Fault p) n record { earlier = called-did; step = raise-did; later = []; cut = refl; place = refl; wrote = refl });
+          noted =
+              ap (λ (z : View X). z.notes) r.brings.view
+              ∙ ap (λ (z : View X). z.notes) t.brings.view
+              ∙ ap (λ l. d.notes ++ l) noted-once
+              ∙ ap (λ l. l ++ record { page = p; count = n } ∷ []) (moved.keeps.notes ∙ h.keeps.notes);
+          frames = (
+            ap (λ (z : View X). z.frames) r.brings.view ∙ ap (λ (z : View X). z.frames) t.brings.view ∙ moved.keeps.frames ∙ h.keeps.frames,
+            ap (λ (z : View X). z.contents) r.brings.view ∙ ap (λ (z : View X). z.contents) t.brings.view ∙ moved.keeps.contents ∙ h.keeps.contents,
+          );
+        }

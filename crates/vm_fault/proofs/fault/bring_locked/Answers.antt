@@ -1,0 +1,68 @@
+use Rattle.std.proofs.Common.{◌<◌, ◌≤◌, ℕ, refl, sym, ap, subst, ◌∙◌, arith}
+use Rattle.vm_core.specs.Words.{MAX_VERSION}
+use Rattle.vm_owner.specs.Numbers.{has}
+use Rattle.vm_rule.specs.declared.view.View.{View}
+use Rattle.vm_rule.specs.declared.view.Origin.{Origin}
+use Rattle.vm_fault.proofs.Device.{goes-out, may-bring}
+use Rattle.vm_fault.proofs.Evicted.{held-empty}
+use Rattle.vm_fault.proofs.Fetching.{brought, failed, frames-called, may-evict, may-give_up, may-put, may-raise, may-take-out, work-called, work-raised}
+use Rattle.vm_fault.proofs.Leaves.{ready-after, ready-on}
+use Rattle.vm_fault.proofs.fault.bring_locked.Goals as goal
+
+within : (n : ℕ) → n < MAX_VERSION → n ≤ MAX_VERSION
+within n l = omega arith
+
+pub block_out-block-requires-clause-legal : goal.block_out-block-requires-clause-legal
+block_out-block-requires-clause-legal g c =
+    may-take-out _ _ _ _ _ _ (held-empty g.U.Owner.tied c.args.pid c.args.version c.requires.locked.0 _ (within _ c.requires.below) c.requires.locked.1) c.requires.home
+
+pub block_home-requires-clause-legal : goal.block_home-requires-clause-legal
+block_home-requires-clause-legal g c =
+    let out = goes-out c.args.pid _ _ _ c.block_out-block.ensures.told in
+    (_, may-bring c.args.pid g.B.Block.tells _ _ _ c.read-read.new.into (ap (λ (o : Origin). o.tells) out.works.leaves.start ∙ c.requires.ready.table.tells_is) c.read-read.result c.read-read.ensures out.away)
+
+pub fill-requires-clause-ready : goal.fill-requires-clause-ready
+fill-requires-clause-ready g c =
+    ready-after _ _ _ c.args.pass.now c.block_home.new.pass c.args.pid _ (c.block_home.ensures.pass.0 ∙ c.block_out-block.ensures.pass.0, c.block_home.ensures.pass.1 ∙ c.block_out-block.ensures.pass.1) (work-called _ _ _ _ _ _ (held-empty g.U.Owner.tied c.args.pid c.args.version c.requires.locked.0 _ (within _ c.requires.below) c.requires.locked.1) _ _ _ _ c.block_out-block.ensures.told g.B.Block.tells c.requires.ready.table.tells_is c.read-read.new.into c.read-read.result c.read-read.ensures c.block_home.ensures.told).leaves c.requires.ready
+
+pub fill-requires-clause-frame : goal.fill-requires-clause-frame
+fill-requires-clause-frame g c =
+    (c.requires.frame.0, ap (has c.args.frame) (frames-called _ _ _ _ _ _ (held-empty g.U.Owner.tied c.args.pid c.args.version c.requires.locked.0 _ (within _ c.requires.below) c.requires.locked.1) _ _ _ _ c.block_out-block.ensures.told g.B.Block.tells c.requires.ready.table.tells_is c.read-read.new.into c.read-read.result c.read-read.ensures c.block_home.ensures.told) ∙ c.requires.frame.1)
+
+pub install-requires-clause-legal : goal.install-requires-clause-legal
+install-requires-clause-legal g c =
+    may-put _ _ _ _ _ _ (held-empty g.U.Owner.tied c.args.pid c.args.version c.requires.locked.0 _ (within _ c.requires.below) c.requires.locked.1) _ _ _ _ c.block_out-block.ensures.told g.B.Block.tells c.requires.ready.table.tells_is c.read-read.new.into c.read-read.result c.read-read.ensures c.block_home.ensures.told _ c.in-Ok.is c.args.frame c.requires.frame.1 _ c.fill.ensures.stores
+
+pub release_silently-requires-clause-legal : goal.release_silently-requires-clause-legal
+release_silently-requires-clause-legal g c =
+    may-give_up _ _ _ _ _ _ (held-empty g.U.Owner.tied c.args.pid c.args.version c.requires.locked.0 _ (within _ c.requires.below) c.requires.locked.1) _ _ _ _ c.block_out-block.ensures.told g.B.Block.tells c.requires.ready.table.tells_is c.read-read.new.into c.read-read.result c.read-read.ensures c.block_home.ensures.told _ c.in-Ok.is c.args.frame c.requires.frame.1 _ c.fill.ensures.stores _ c.install.ensures.told g.U.Owner.may_release (subst (λ n. c.args.pid < n) (sym c.requires.ready.table.is_shape.pages) c.requires.page)
+
+pub raise-requires-clause-pass : goal.raise-requires-clause-pass
+raise-requires-clause-pass g c =
+    (ready-after _ _ _ c.args.pass.now c.block_home.new.pass c.args.pid _ (c.block_home.ensures.pass.0 ∙ c.block_out-block.ensures.pass.0, c.block_home.ensures.pass.1 ∙ c.block_out-block.ensures.pass.1) (work-called _ _ _ _ _ _ (held-empty g.U.Owner.tied c.args.pid c.args.version c.requires.locked.0 _ (within _ c.requires.below) c.requires.locked.1) _ _ _ _ c.block_out-block.ensures.told g.B.Block.tells c.requires.ready.table.tells_is c.read-read.new.into c.read-read.result c.read-read.ensures c.block_home.ensures.told).leaves c.requires.ready).may
+
+pub raise-requires-clause-legal : goal.raise-requires-clause-legal
+raise-requires-clause-legal g c =
+    may-raise _ _ _ _ _ _ (held-empty g.U.Owner.tied c.args.pid c.args.version c.requires.locked.0 _ (within _ c.requires.below) c.requires.locked.1) _ _ _ _ c.block_out-block.ensures.told g.B.Block.tells c.requires.ready.table.tells_is c.read-read.new.into c.read-read.result c.read-read.ensures c.block_home.ensures.told _ c.faults-count.ensures
+
+pub release_evicted-requires-clause-pass : goal.release_evicted-requires-clause-pass
+release_evicted-requires-clause-pass g c =
+    (ready-after _ _ _ c.args.pass.now c.raise.new.pass c.args.pid _ (c.raise.ensures.pass.0 ∙ c.block_home.ensures.pass.0 ∙ c.block_out-block.ensures.pass.0, c.raise.ensures.pass.1 ∙ c.block_home.ensures.pass.1 ∙ c.block_out-block.ensures.pass.1) (work-raised _ _ _ _ _ _ (held-empty g.U.Owner.tied c.args.pid c.args.version c.requires.locked.0 _ (within _ c.requires.below) c.requires.locked.1) _ _ _ _ c.block_out-block.ensures.told g.B.Block.tells c.requires.ready.table.tells_is c.read-read.new.into c.read-read.result c.read-read.ensures c.block_home.ensures.told _ c.faults-count.ensures _ c.raise.ensures.told).leaves c.requires.ready).may
+
+pub release_evicted-requires-clause-legal : goal.release_evicted-requires-clause-legal
+release_evicted-requires-clause-legal g c =
+    may-evict _ _ _ _ _ _ (held-empty g.U.Owner.tied c.args.pid c.args.version c.requires.locked.0 _ (within _ c.requires.below) c.requires.locked.1) _ _ _ _ c.block_out-block.ensures.told g.B.Block.tells c.requires.ready.table.tells_is c.read-read.new.into c.read-read.result c.read-read.ensures c.block_home.ensures.told _ c.faults-count.ensures _ c.raise.ensures.told
+
+pub returns-in-Ok-clause-fetched : goal.returns-in-Ok-clause-fetched
+returns-in-Ok-clause-fetched g c first found =
+    brought _ _ _ _ _ _ (held-empty g.U.Owner.tied c.args.pid c.args.version first _ (within _ c.requires.below) found) _ _ _ _ c.block_out-block.ensures.told g.B.Block.tells c.requires.ready.table.tells_is c.read-read.new.into c.read-read.result c.read-read.ensures c.block_home.ensures.told _ c.in-Ok.is c.args.frame c.requires.frame.1 _ c.fill.ensures.stores _ c.install.ensures.told c.requires.below c.requires.home _ c.release_silently.ensures.told
+
+pub returns-in-Err-clause-ready : goal.returns-in-Err-clause-ready
+returns-in-Err-clause-ready g c =
+    let raised = ready-after _ _ _ c.args.pass.now c.raise.new.pass c.args.pid _ (c.raise.ensures.pass.0 ∙ c.block_home.ensures.pass.0 ∙ c.block_out-block.ensures.pass.0, c.raise.ensures.pass.1 ∙ c.block_home.ensures.pass.1 ∙ c.block_out-block.ensures.pass.1) (work-raised _ _ _ _ _ _ (held-empty g.U.Owner.tied c.args.pid c.args.version c.requires.locked.0 _ (within _ c.requires.below) c.requires.locked.1) _ _ _ _ c.block_out-block.ensures.told g.B.Block.tells c.requires.ready.table.tells_is c.read-read.new.into c.read-read.result c.read-read.ensures c.block_home.ensures.told _ c.faults-count.ensures _ c.raise.ensures.told).leaves c.requires.ready in
+    let view-is = c.release_evicted.ensures.told.brings.view in
+    ready-on _ _ _ c.raise.new.pass c.release_evicted.new.pass c.release_evicted.ensures.pass (ap (λ (v : View _). v.start) view-is) (ap (λ (v : View _). v.used) view-is) raised
+
+pub returns-in-Err-clause-fetched : goal.returns-in-Err-clause-fetched
+returns-in-Err-clause-fetched g c first found =
+    (refl, refl, failed _ _ _ _ _ _ (held-empty g.U.Owner.tied c.args.pid c.args.version first _ (within _ c.requires.below) found) _ _ _ _ c.block_out-block.ensures.told g.B.Block.tells c.requires.ready.table.tells_is c.read-read.new.into c.read-read.result c.read-read.ensures c.block_home.ensures.told _ c.faults-count.ensures _ c.raise.ensures.told _ c.in-Err.is c.requires.below c.requires.home _ c.release_evicted.ensures.told)

@@ -1,0 +1,51 @@
+use Rattle.std.proofs.Common.{◌≡◌, ◌≢◌, ◌<◌, ◌≤◌, ℕ, refl, sym, ap, subst, ◌∙◌, inr, arith}
+use Rattle.vm_core.specs.Words.{EVICTED, MAX_VERSION, state_of, version_of, word_of}
+use Rattle.vm_rule.proofs.WordFacts.{version-within, word-state, word-version}
+use Rattle.vm_fault.specs.Fetches.{IsFetched}
+use Rattle.vm_step.specs.Passes.{view}
+use Rattle.vm_fault.proofs.Tries.{lost, worn-in, worn-out}
+use Rattle.vm_fault.proofs.fault.fault_in.Goals as goal
+
+-- the version of a word
+fits : (word version : ℕ) → version ≡ version_of word → version < 72057594037927936
+fits word version e = let h : version_of word ≤ MAX_VERSION = version-within word in omega (arith, h, e)
+
+below : (word version : ℕ) → version ≡ version_of word → version ≢ MAX_VERSION → version < MAX_VERSION
+below word version e ne = let h : version_of word ≤ MAX_VERSION = version-within word in omega (arith, h, e, ne)
+
+within : (word version : ℕ) → version ≡ version_of word → version ≤ MAX_VERSION
+within word version e = subst (λ (n : ℕ). n ≤ MAX_VERSION) (sym e) (version-within word)
+
+pub of-first-requires : goal.of-first-requires
+of-first-requires g c = fits c.look_silently-word.result _ c.version-version.ensures
+
+pub returns-then-word-first-clause-fetched : goal.returns-then-word-first-clause-fetched
+returns-then-word-first-clause-fetched g c = (
+  refl,
+  refl,
+  worn-out g.U.Owner.tied c.args.pid c.look_silently-word.result _ _ c.look_silently-word.ensures.told
+      (c.if-word-first.true ∙ c.of-first.ensures ∙ ap (word_of EVICTED) c.if-version-eq-MAX_VERSION.true),
+)
+
+pub returns-then-version-eq-MAX_VERSION-clause-fetched : goal.returns-then-version-eq-MAX_VERSION-clause-fetched
+returns-then-version-eq-MAX_VERSION-clause-fetched g c =
+    subst (IsFetched c.args.pid c.args.frame (view c.args.pass.now) (view c.look_silently-word.new.pass)) (sym c.again.ensures)
+    (refl, worn-in g.U.Owner.tied c.args.pid c.look_silently-word.result _ _ c.look_silently-word.ensures.told c.of-first.result (c.of-first.ensures ∙ ap (word_of EVICTED) c.if-version-eq-MAX_VERSION.true) (sym c.version-version.ensures ∙ c.if-version-eq-MAX_VERSION.true) c.if-word-first.false)
+
+pub lock_exclusive-requires-clause-legal : goal.lock_exclusive-requires-clause-legal
+lock_exclusive-requires-clause-legal g c =
+    let n : c.version-version.result ≤ MAX_VERSION = within c.look_silently-word.result _ c.version-version.ensures in
+    record {
+      state = inr (inr (ap state_of c.of-first.ensures ∙ word-state EVICTED c.version-version.result n));
+      version = subst (λ (k : ℕ). k < MAX_VERSION) (sym (ap version_of c.of-first.ensures ∙ word-version EVICTED c.version-version.result n)) (below c.look_silently-word.result _ c.version-version.ensures c.if-version-eq-MAX_VERSION.false);
+    }
+
+pub bring_locked-requires-clause-below : goal.bring_locked-requires-clause-below
+bring_locked-requires-clause-below g c = below c.look_silently-word.result _ c.version-version.ensures c.if-version-eq-MAX_VERSION.false
+
+pub returns-in-Lost-clause-fetched : goal.returns-in-Lost-clause-fetched
+returns-in-Lost-clause-fetched g c =
+    let n : c.version-version.result ≤ MAX_VERSION = within c.look_silently-word.result _ c.version-version.ensures in
+    let same = sym c.version-version.ensures ∙ sym (ap version_of c.of-first.ensures ∙ word-version EVICTED c.version-version.result n) in
+    subst (IsFetched c.args.pid c.args.frame (view c.args.pass.now) (view c.lock_exclusive.new.pass)) (sym c.again-in-Lost.ensures)
+    (refl, lost g.U.Owner.tied c.args.pid c.look_silently-word.result _ _ c.look_silently-word.ensures.told c.of-first.result c.in-Lost.seen _ same (c.lock_exclusive.ensures.lost c.in-Lost.seen c.in-Lost.is) c.in-Lost.ensures.told)

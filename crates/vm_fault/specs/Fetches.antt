@@ -1,0 +1,97 @@
+-- What bringing a page into a frame answers. A page that was evicted is released at its next version with the words that it had: resident in
+-- the frame, or evicted again where its block could not be read.
+use Rattle.std.specs.Prelude.{ℕ, true, List, [], ◌∷◌, ◌++◌, ◌≡◌, ◌≢◌, ◌⊎◌, ◌+◌, ◌<◌, slice_index, Some, None}
+use Rattle.vm_core.specs.Words.{state_of, version_of, word_of, UNLOCKED, EVICTED, MAX_VERSION}
+use Rattle.vm_core.specs.FrameActs.{trans_word}
+use Rattle.vm_owner.specs.Kept.{Start}
+use Rattle.vm_owner.specs.Numbers.{without}
+use Rattle.vm_rule.specs.declared.view.Did.{Did}
+use Rattle.vm_rule.specs.declared.view.Place.TheVariants as places
+use Rattle.vm_rule.specs.declared.view.Release.{Release}
+use Rattle.vm_rule.specs.declared.view.View.{View}
+use Rattle.vm_rule.specs.Reading.{last_in, last_of}
+use Rattle.vm_rule.specs.Locks.{LockTold}
+use Rattle.vm_rule.specs.Looks.{LookTold}
+use Rattle.vm_rule.specs.Mappings.{clean_in}
+use Rattle.vm_rule.specs.Stores.{FillTold}
+use Rattle.vm_step.specs.declared.saw.At.TheVariants as ats
+use Rattle.vm_step.specs.declared.saw.Saw.{Saw}
+use Rattle.vm_fault.specs.declared.fault.Fetch.{Fetch}
+use Rattle.vm_fault.specs.declared.fault.Fetch.TheVariants as fetches
+use Rattle.vm_step.specs.Asides.{IsAside, KeepsFrames}
+use Rattle.vm_step.specs.Evidence.{HasGiven, HasWritten, IsSaw, NoWord}
+
+-- the page was found at the last version, in a state other than evicted: no lock of it may be tried
+pub record IsWornIn (done : List Did) (p : ℕ) (saw : Saw) : Type 0 where
+  pub given : HasGiven done (places.State p) saw.seen
+  pub last : version_of saw.seen ≡ MAX_VERSION
+  pub other : state_of saw.seen ≢ EVICTED
+  pub first : saw.first ≡ word_of EVICTED MAX_VERSION
+
+module _ {X : Type 0} where
+  -- a look at page p led on from v, and then the lock of the page, which was evicted at this version, to w
+  pub record IsFoundEvicted (tied : Start → ℕ → List ℕ → ℕ → List ℕ → Type 0) (p version : ℕ) (v w : View X) : Type 0 where
+    pub between : View X
+    pub word : ℕ
+    pub look : LookTold tied p None word v between
+    pub lock : LockTold tied p (word_of EVICTED version) (word_of EVICTED version) between w
+
+  -- stores of these words into frame f, from word i on, led from v to w
+  abbrev pub Stores : ℕ → ℕ → List ℕ → View X → View X → Type 0
+  Stores f i [] v w = w ≡ v
+  Stores f i (x ∷ xs) v w = (between : View X) × FillTold f i x v between × Stores f (i + 1) xs between w
+
+  -- page p was found evicted at this version, below the last, and was released with this word at the next one; its words are those that it had
+  pub record IsReleasedAs (state p version : ℕ) (words : List ℕ) (done : List Did) (v w : View X) : Type 0 where
+    pub below : version < MAX_VERSION
+    pub found : HasGiven done (places.State p) (word_of EVICTED version)
+    pub left : HasWritten done (places.State p) (word_of state (version + 1))
+    pub between : List Release
+    pub releases : w.releases ≡ (v.releases ++ between) ++ record { page = p; version = version + 1; words = words } ∷ []
+    pub same : last_in v.start (v.releases ++ between) p ≡ record { version = version; words = words }
+    pub last : last_of w p ≡ record { version = version + 1; words = words }
+
+  -- page p is resident in frame f, which is the pass's no more; where blocks tell, all words of the frame were stored, the page's last ones
+  pub record IsBrought (p f : ℕ) (v w : View X) : Type 0 where
+    pub done : List Did
+    pub aside : IsAside p done v w
+    pub version : ℕ
+    pub words : List ℕ
+    pub released : IsReleasedAs UNLOCKED p version words done v w
+    pub mapped : HasWritten done (places.Translation p) (trans_word (Some (clean_in f)))
+    pub stored : v.start.tells ≡ true → (i : ℕ) → i < 64 → HasWritten done (places.Content f i) (slice_index words i)
+    pub frames : w.frames ≡ without f v.frames
+    pub notes : w.notes ≡ v.notes
+
+  -- its block could not be read: the fault was noted, with the count that the fault word was raised to, and the page is evicted again
+  pub record IsFailed (p count : ℕ) (v w : View X) : Type 0 where
+    pub done : List Did
+    pub aside : IsAside p done v w
+    pub version : ℕ
+    pub words : List ℕ
+    pub released : IsReleasedAs EVICTED p version words done v w
+    pub raised : HasWritten done (places.Fault p) count
+    pub noted : w.notes ≡ v.notes ++ record { page = p; count = count } ∷ []
+    pub frames : (w.frames ≡ v.frames) × (w.contents ≡ v.contents)
+
+  -- it may be tried again
+  pub record IsToTry (p : ℕ) (saw : Saw) (v w : View X) : Type 0 where
+    pub done : List Did
+    pub aside : IsAside p done v w
+    pub keeps : KeepsFrames v w
+    pub at : saw.at ≡ ats.Page p
+    pub why : IsSaw NoWord done saw ⊎ IsWornIn done p saw
+
+  -- it is evicted at the last version
+  pub record IsWornOut (p : ℕ) (v w : View X) : Type 0 where
+    pub done : List Did
+    pub aside : IsAside p done v w
+    pub keeps : KeepsFrames v w
+    pub found : HasGiven done (places.State p) (word_of EVICTED MAX_VERSION)
+
+  -- what `fault_in` of page p into frame f answers: on every answer but Brought the frame comes back
+  abbrev pub IsFetched : ℕ → ℕ → View X → View X → Fetch → Type 0
+  IsFetched p f v w fetches.Brought = IsBrought p f v w
+  IsFetched p f v w (fetches.Again frame saw) = (frame ≡ f) × IsToTry p saw v w
+  IsFetched p f v w (fetches.Worn frame pid) = (frame ≡ f) × (pid ≡ p) × IsWornOut p v w
+  IsFetched p f v w (fetches.Device frame pid count) = (frame ≡ f) × (pid ≡ p) × IsFailed p count v w

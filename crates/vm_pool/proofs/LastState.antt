@@ -1,0 +1,185 @@
+-- The last state of a table that was closed with a pass that has all parts and holds no page: every block is at home, and the words and
+-- blocks are those of the pass's snapshot.
+use Rattle.std.proofs.Common.{ℕ, Bool, true, false, true≢false, Option, Some, None, IsSome, ◌≡◌, ◌+◌, ◌*◌, ◌<◌, ◌≤◌, List, [], ◌∷◌, length, map, zero, suc, refl, sym, ap, subst, ◌∙◌, arith, ⊎_elim}
+use Rattle.std.proofs.lemmas.Bool.{cases_eq}
+use mathlib.Core.Option as maybe
+use mathlib.Core.Option.{some, some-injective}
+use lib.ListN.{get_elem?}
+use Rattle.atomic_table.specs.Table.{State as Table, Final, Seen}
+use Rattle.vm_core.specs.declared.event.Mapping.{Mapping}
+use Rattle.vm_core.specs.Fn.{at}
+use Rattle.vm_block.specs.declared.stored.Stored.{Stored}
+use Rattle.vm_owner.specs.Kept.{Start, Kept}
+use Rattle.vm_rule.specs.declared.view.Origin.{Origin}
+use Rattle.vm_rule.specs.declared.view.Out.{Out}
+use Rattle.vm_rule.specs.declared.view.Place.TheVariants as places
+use Rattle.vm_rule.specs.declared.view.Shape.{Shape}
+use Rattle.vm_rule.specs.declared.view.Snapshot.{Snapshot}
+use Rattle.vm_rule.specs.declared.view.View.{View}
+use Rattle.vm_rule.specs.Puts.{listed}
+use Rattle.vm_rule.specs.Layout.{bundles_of, index_of, words_of}
+use Rattle.vm_rule.specs.Views.{seat_of, IsWhole}
+use Rattle.vm_rule.specs.Reading.{no_block, at_home, out_of, out_or, known, block_of}
+use Rattle.vm_rule.specs.Rule.{began_of, snapshot_of, Ruled}
+use Rattle.vm_rule.specs.Begun.{HasShape, Stands}
+use Rattle.vm_rule.specs.Fixed.{bounds_of}
+use Rattle.vm_rule.proofs.ListFacts.{at-map, length-mapped, at-listed, length-listed, listed-long}
+use Rattle.vm_rule.proofs.Parts.{listed-same}
+use Rattle.vm_rule_laws.specs.Known.{HasStepped, kept_by}
+use Rattle.vm_rule_laws.specs.Standing.{mapping_in, PageStands}
+use Rattle.vm_rule_laws.proofs.Alone.{others-have-nothing}
+use Rattle.vm_rule_laws.proofs.Begun.{begun-ruled}
+use Rattle.vm_rule_laws.proofs.Knowing.{table-known, what-is-kept}
+use Rattle.vm_rule_laws.proofs.Standing.{stands-known}
+use Rattle.vm_pool.specs.Holding.{HoldsNoPage}
+use Rattle.vm_pool.specs.Closing.{IsClosed}
+use Rattle.vm_pool.proofs.HomeBlocks.{all-home}
+
+-- ---- lists
+
+there-at : {A : Type 0} (d : A) (l : List A) (i : ℕ) → i < length l → get_elem? l i ≡ some (at d l i)
+unfolding at
+there-at d [] i l = absurd (omega arith)
+there-at d (x ∷ xs) zero l = refl
+there-at d (x ∷ xs) (suc i) l = there-at d xs i (omega arith)
+
+-- two lists of one length that agree at each place
+same-lists : {A : Type 0} (d : A) (xs ys : List A) (n : ℕ) → length xs ≡ n → length ys ≡ n → ((p : ℕ) → p < n → at d xs p ≡ at d ys p) → xs ≡ ys
+same-lists d xs ys n a b each = sym (listed-long d n xs a) ∙ listed-same n (at d xs) (at d ys) each ∙ listed-long d n ys b
+
+-- the block in a slot
+at-slot : {B : Type 0} (stored : B → Stored) (items : List B) (k : ℕ) (b : B) → get_elem? (map Some items) k ≡ some (Some b) → at no_block (map stored items) k ≡ stored b
+unfolding at
+at-slot stored [] k b e = absurd (maybe.some-ne-none (Some b) (sym e))
+at-slot stored (x ∷ xs) zero b e = let same : Some x ≡ Some b = some-injective (Some x) (Some b) e in ap stored cc
+at-slot stored (x ∷ xs) (suc k) b e = at-slot stored xs k b e
+
+-- a slot that is at home with a block in it
+home-some : {B : Type 0} (h : maybe.Option (Option B)) → IsSome (at_home h) → (b : B) × (h ≡ some (Some b)) × (at_home h ≡ Some b)
+home-some maybe.none is = absurd (true≢false (sym is))
+home-some (maybe.some None) is = absurd (true≢false (sym is))
+home-some (maybe.some (Some b)) is = (b, refl, refl)
+
+-- ---- no block is out
+
+module _ {X : Type 0} where
+  none-out : (views : List (View X)) → ((j : ℕ) (u : View X) → get_elem? views j ≡ some u → u.out ≡ None) → (p : ℕ) → out_of views p ≡ None
+  none-out [] none p = refl
+  none-out (v ∷ vs) none p = ap (λ (o : Option Out). out_or o p (out_of vs p)) (none 0 v refl) ∙ none-out vs (λ j u e. none (suc j) u e) p
+
+module _ {X B : Type 0} (stored : B → Stored) (keeps : Start → Kept X → Type 0) (tied : Start → ℕ → List ℕ → ℕ → List ℕ → Type 0) (start : Origin) (tells : Bool) (s : Table (Option B) (View X)) (r : Ruled stored keeps tied start tells s)
+    (id : ℕ) (v : View X) (stepped : HasStepped s.views id v) (holds : HoldsNoPage v) where
+  nothing-out : (p : ℕ) → out_of s.views p ≡ None
+  nothing-out =
+      none-out s.views
+      (λ j u there. ⊎_elim
+      (λ (e : j ≡ id). ap (λ (y : View X). y.out) (some-injective u v (sym there ∙ ap (get_elem? s.views) e ∙ stepped.pass.there)) ∙ holds.out)
+      (λ ne. (others-have-nothing stored keeps tied start tells s r id v stepped.pass j u ne there).holds.out)
+      (cases_eq j id))
+
+  -- each block is at home
+  home-at : (p : ℕ) → p < start.pages → (b : B) × (get_elem? s.homes p ≡ some (some (Some b))) × (block_of stored s.homes s.views p ≡ stored b)
+  unfolding block_of
+  home-at p l =
+      let long : length s.homes ≡ start.pages = r.wide.1 in
+      let h = home-some (at maybe.none s.homes p) (r.blocks.home p l (nothing-out p)) in
+      (h.0, there-at maybe.none s.homes p (omega arith) ∙ ap some h.1, ap (λ (o : Option B). known stored o (out_of s.views p)) h.2)
+
+-- ---- the last state
+
+module _ {X B : Type 0} (stored : B → Stored) (keeps : Start → Kept X → Type 0) (tied : Start → ℕ → List ℕ → ℕ → List ℕ → Type 0) (shape : Shape) (tells : Bool) (id : ℕ) (v : View X) (live : v.live ≡ true) (whole : IsWhole v) (current : v.current ≡ true) (holds : HoldsNoPage v)
+    (ws : List ℕ) (xs : List (Option B)) (last : Final (Seen (Stands stored keeps tied shape tells) id v) ws xs) where
+  abbrev s : Table (Option B) (View X)
+  s = last.0
+
+  abbrev start : Origin
+  start = shape.began.origin
+
+  is-ruled : HasShape shape start × Ruled stored keeps tied start tells s
+  is-ruled = begun-ruled stored keeps tied shape tells s last.1.0 id v last.1.1 live
+
+  abbrev rule : Ruled stored keeps tied start tells s
+  rule = is-ruled.1
+
+  stepped : HasStepped s.views id v
+  stepped = record { pass = record { there = last.1.1; whole = whole }; current = current }
+
+  pub same-start : v.start ≡ start
+  same-start = (table-known stored keeps tied start tells s rule id v stepped).start_known
+
+  same-snapshot : v.snapshot ≡ snapshot_of stored start s
+  same-snapshot = (rule.parts.whole id v last.1.1 live whole current).2
+
+  slots-long : length xs ≡ start.pages
+  slots-long = sym last.3 ∙ rule.wide.1
+
+  -- the slots have their blocks
+  pub slots-home : (items : List B) × (map Some items ≡ xs)
+  slots-home =
+      all-home xs
+      (λ k l. let long : length xs ≡ start.pages = slots-long in
+      let h = home-at stored keeps tied start tells s rule id v stepped holds k (omega arith) in
+      (h.0, last.4 k (Some h.0) h.1))
+
+  -- where the next word stands
+  next-place : (pages frames : ℕ) → pages ≡ shape.pages → frames ≡ shape.frames → 3 * pages + 64 * frames + bundles_of frames ≡ index_of start places.Next
+  next-place pages frames p f = (λ i. 3 * (p ∙ sym is-ruled.0.pages) i + 64 * (f ∙ sym is-ruled.0.frames) i + bundles_of ((f ∙ sym is-ruled.0.frames) i))
+
+  next-there : (pages frames : ℕ) → pages ≡ shape.pages → frames ≡ shape.frames → at 0 ws (3 * pages + 64 * frames + bundles_of frames) ≡ (words_of start s.words).next
+  next-there pages frames p f = ap (at 0 ws) (next-place pages frames p f) ∙ sym (ap (λ l. at 0 l (index_of start places.Next)) last.2)
+
+  -- it is at most the number of pages
+  pub next-small : (pages frames : ℕ) → pages ≡ shape.pages → frames ≡ shape.frames → pages ≤ 65536 → at 0 ws (3 * pages + 64 * frames + bundles_of frames) ≤ 65536
+  next-small pages frames p f few =
+      let here : at 0 ws (3 * pages + 64 * frames + bundles_of frames) ≡ (words_of start s.words).next = next-there pages frames p f in
+      let low : (words_of start s.words).next ≤ start.pages = rule.inv.next in
+      let same : start.pages ≡ shape.pages = is-ruled.0.pages in
+      omega arith
+
+  module _ (items : List B) (are : map Some items ≡ xs) where
+    abbrev blocks : List Stored
+    blocks = map stored items
+
+    blocks-long : length blocks ≡ start.pages
+    blocks-long = length-mapped stored items ∙ sym (length-mapped Some items) ∙ ap length are ∙ slots-long
+
+    -- each is the block that the last state has
+    item-at : (p : ℕ) → p < start.pages → at no_block blocks p ≡ block_of stored s.homes s.views p
+    item-at p l =
+        let h = home-at stored keeps tied start tells s rule id v stepped holds p l in
+        at-slot stored items p h.0 (ap (λ k. get_elem? k p) are ∙ last.4 p (Some h.0) h.1) ∙ sym h.2
+
+    all-shown : blocks ≡ v.snapshot.blocks
+    all-shown =
+        same-lists no_block blocks (listed start.pages (block_of stored s.homes s.views)) start.pages blocks-long (length-listed start.pages (block_of stored s.homes s.views))
+        (λ p l. item-at p l ∙ sym (at-listed no_block start.pages (block_of stored s.homes s.views) p l))
+        ∙ sym (ap (λ (n : Snapshot). n.blocks) same-snapshot)
+
+    all-bounds : bounds_of blocks ≡ start.bounds
+    all-bounds =
+        same-lists 0 (bounds_of blocks) start.bounds start.pages (length-mapped (λ (b : Stored). b.bound) blocks ∙ blocks-long) rule.sized.1
+        (λ p l. let long : length blocks ≡ start.pages = blocks-long in
+        at-map (λ (b : Stored). b.bound) 0 no_block blocks p (omega arith) ∙ ap (λ (b : Stored). b.bound) (item-at p l) ∙ rule.blocks.bounds p l)
+
+    page-stands : (p : ℕ) → p < v.start.pages → PageStands v.start v.releases v.snapshot (seat_of v p) p
+    page-stands p l =
+        let many : v.start.pages ≡ start.pages = ap (λ (o : Origin). o.pages) same-start in
+        subst (λ (o : Origin). PageStands o v.releases v.snapshot (seat_of v p) p) (sym same-start) (stands-known stored keeps tied start tells s rule id v stepped p (omega arith))
+
+    telling : tells ≡ true → v.start.tells ≡ true
+    telling t = ap (λ (o : Origin). o.tells) same-start ∙ rule.telling ∙ t
+
+    pub closes : (pages frames next : ℕ) → pages ≡ shape.pages → frames ≡ shape.frames → next ≡ at 0 ws (3 * pages + 64 * frames + bundles_of frames) → IsClosed tells keeps v blocks next
+    closes pages frames next p f n =
+        record {
+          count = blocks-long ∙ sym (ap (λ (o : Origin). o.pages) same-start);
+          shown = all-shown;
+          bounds = all-bounds ∙ sym (ap (λ (o : Origin). o.bounds) same-start);
+          faults = λ q l. ap (λ k. (at no_block k q).count) all-shown ∙ sym ((page-stands q l).fault (holds.exclusive q) (holds.writing q));
+          words = λ t q l is.
+              let page = page-stands q l in
+              ap (λ k. (at no_block k q).words) all-shown
+              ∙ ⊎_elim (λ gone. page.device (telling t) gone) (λ (in_frame : (m : Mapping) × (mapping_in v.start v.snapshot q ≡ Some m) × (m.dirty ≡ false)). page.clean (telling t) (page.unlocked (holds.exclusive q)) in_frame.0 in_frame.1 in_frame.2) is;
+          next_is = n ∙ next-there pages frames p f ∙ (λ i. (words_of (sym same-start i) (sym (ap (λ (y : Snapshot). y.words) same-snapshot) i)).next);
+          kept = λ t none. subst (λ (o : Origin). keeps (began_of o) (kept_by v)) (sym same-start) (what-is-kept stored keeps tied start tells s rule id v stepped none (rule.telling ∙ t));
+        }

@@ -1,0 +1,6 @@
+pub mod HomeBlocks
+pub mod Sums
+pub mod LastState
+pub mod AtOnce
+pub mod Sweeping
+pub mod Bringing

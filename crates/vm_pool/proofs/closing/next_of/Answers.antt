@@ -1,0 +1,15 @@
+use Rattle.std.proofs.Common.{◌≡◌, ◌+◌, ◌*◌, ◌≤◌, sym, arith}
+use Rattle.std.specs.Mem.Slots.{slots_items}
+use Rattle.vm_core.specs.Fn.{at}
+use Rattle.vm_rule.specs.Layout.{bundles_of}
+use Rattle.vm_rule.proofs.Views.{at-there}
+use Rattle.vm_pool.proofs.closing.next_of.Goals as goal
+
+pub overflow_cast-result : goal.overflow_cast-result
+overflow_cast-result g c =
+    let here : at 0 (slots_items c.args.table.now.words) (3 * c.args.pages + 64 * c.args.frames + bundles_of c.args.frames) ≡ c.word.result = at-there 0 (slots_items c.args.table.now.words) (3 * c.args.pages + 64 * c.args.frames + bundles_of c.args.frames) c.word.result c.word.ensures in
+    let small : at 0 (slots_items c.args.table.now.words) (3 * c.args.pages + 64 * c.args.frames + bundles_of c.args.frames) ≤ 65536 = c.requires.small in
+    omega arith
+
+pub returns : goal.returns
+returns g c = sym (at-there 0 (slots_items c.args.table.now.words) (3 * c.args.pages + 64 * c.args.frames + bundles_of c.args.frames) c.word.result c.word.ensures)

@@ -1,0 +1,18 @@
+use Rattle.std.proofs.Common.{ℕ, List, sym, subst}
+use Rattle.vm_exmap.specs.Returns.{IsFreed}
+use Rattle.vm_exmap.proofs.Handing.{held-on}
+use Rattle.vm_step.specs.Passes.{view}
+use Rattle.vm_pool.proofs.Sweeping.{held-come, swept}
+use Rattle.vm_pool.proofs.pool.Pool.sweep.Goals as goal
+
+pub free-requires-clause-frames : goal.free-requires-clause-frames
+free-requires-clause-frames g c =
+    held-come _ _ (view c.candidates-chosen.new.pass) (view c.evict-evicted.new.pass)
+    (held-on _ (view c.args.pass.now) (view c.candidates-chosen.new.pass) c.requires.frames c.candidates-chosen.ensures.chosen.aside.start c.candidates-chosen.ensures.chosen.keeps.frames)
+    c.evict-evicted.ensures.evicted.aside.start
+    c.evict-evicted.ensures.evicted.frames
+
+pub returns-clause-swept : goal.returns-clause-swept
+returns-clause-swept g c =
+    swept _ _ _ _ _ _ _ _ _ _ _ _ c.candidates-chosen.ensures.chosen c.evict-evicted.ensures.evicted
+    (subst (λ (l : List ℕ). IsFreed c.args.iface.now.cap c.args.iface.now.frames c.evict-evicted.result.frames l (view c.evict-evicted.new.pass) (view c.free.new.pass)) (sym c.add_swept.ensures.same.2) c.free.ensures.freed)

@@ -1,0 +1,77 @@
+-- What bringing a page does: a frame is allocated, after one sweep where none was free, and the page is brought into it; or no frame was to be
+-- had, for a cause that the sweep tells.
+use Rattle.std.specs.Prelude.{ℕ, Option, Some, None, Result, Ok, Err, List, [], ◌∷◌, ◌≡◌}
+use Rattle.vm_rule.specs.declared.view.View.{View}
+use Rattle.vm_step.specs.Asides.{HoldsPage, StaysAlone}
+use Rattle.vm_step.specs.declared.saw.Saw.{Saw}
+use Rattle.vm_clock.specs.declared.looks.Looks.{Looks}
+use Rattle.vm_evict.specs.declared.report.Report.{Report}
+use Rattle.vm_exmap.specs.declared.interface.Alloc.TheVariants as allocs
+use Rattle.vm_exmap.specs.Walks.{IsAlloc}
+use Rattle.vm_exmap.specs.Returns.{IsFreed}
+use Rattle.vm_fault.specs.declared.fault.Fetch.TheVariants as fetches
+use Rattle.vm_fault.specs.Fetches.{IsFetched}
+use Rattle.vm_pool.specs.declared.bring.Bring.{Bring}
+use Rattle.vm_pool.specs.declared.bring.Bring.TheVariants as brings
+use Rattle.vm_pool.specs.Sweeps.{IsSwept}
+
+-- a walk that met only pages at the last version, of which this is the first, and evicted ones
+pub record OnlyWorn (looks : Looks) (p : ℕ) : Type 0 where
+  pub first : looks.first_worn ≡ Some p
+  pub found : looks.found ≡ 0
+  pub again : looks.again ≡ 0
+  pub marked : looks.marked ≡ 0
+  pub lost : looks.lost ≡ 0
+  pub held : looks.held ≡ 0
+
+-- the page that the first of these is, or none where the walk met others too
+abbrev pub NamesWorn : Looks → Option ℕ → Type 0
+NamesWorn looks (Some p) = OnlyWorn looks p
+NamesWorn looks None = (p : ℕ) → OnlyWorn looks p → ⊥
+
+-- why a sweep brought no frame: a write of it failed; it met only worn pages; or neither
+abbrev pub SaysDry : Report → Bring → Type 0
+SaysDry report brings.Brought = ⊥
+SaysDry report (brings.Again saw) = ⊥
+SaysDry report (brings.Device p count) = (report.freed ≡ 0) × (report.first_failed ≡ Some (p, count))
+SaysDry report (brings.Worn p) = (report.freed ≡ 0) × (report.failed ≡ 0) × OnlyWorn report.looks p
+SaysDry report (brings.Dry looks) =
+    (looks ≡ report.looks) × ((report.freed ≡ 0 → report.first_failed ≡ None) × (report.freed ≡ 0 → report.failed ≡ 0 → (p : ℕ) → OnlyWorn report.looks p → ⊥))
+
+module _ {X : Type 0} where
+  -- the interface got a frame: at once, or after a sweep with its cap
+  pub data Gets (home cap f : ℕ) (old new : List ℕ) (v w : View X) : Type 0 where
+    once : IsAlloc home cap 1 old new v w (allocs.Batch (f ∷ [])) → Gets home cap f old new v w
+    swept : (dry clean : View X) (emptied filled : List ℕ) (report : Report) → IsAlloc home cap 1 old emptied v dry allocs.Dry → IsSwept cap cap emptied filled report dry clean → IsAlloc home cap 1 filled new clean w (allocs.Batch (f ∷ [])) → Gets home cap f old new v w
+
+  -- it got none: the bits asked for were lost, before a sweep or after it; or no frame was free after a sweep either
+  pub data GetsNone (home cap : ℕ) (old new : List ℕ) (v w : View X) (answer : Bring) : Type 0 where
+    lost : (saw : Saw) → IsAlloc home cap 1 old new v w (allocs.Again saw) → answer ≡ brings.Again saw → GetsNone home cap old new v w answer
+    lost_then : (saw : Saw) (dry clean : View X) (emptied filled : List ℕ) (report : Report) → IsAlloc home cap 1 old emptied v dry allocs.Dry → IsSwept cap cap emptied filled report dry clean → IsAlloc home cap 1 filled new clean w (allocs.Again saw) → answer ≡ brings.Again saw → GetsNone home cap old new v w answer
+    dry : (dry clean : View X) (emptied filled : List ℕ) (report : Report) → IsAlloc home cap 1 old emptied v dry allocs.Dry → IsSwept cap cap emptied filled report dry clean → IsAlloc home cap 1 filled new clean w allocs.Dry → SaysDry report answer → GetsNone home cap old new v w answer
+
+  -- it got this frame, or none, with this answer
+  abbrev pub IsFramed : ℕ → ℕ → List ℕ → List ℕ → View X → View X → Result ℕ Bring → Type 0
+  IsFramed home cap old new v w (Ok f) = Gets home cap f old new v w
+  IsFramed home cap old new v w (Err answer) = GetsNone home cap old new v w answer
+
+  -- the page was brought into the frame f, or not, and then the frame is the interface's again, or in its bundle
+  pub data Fetches (cap p f : ℕ) (old new : List ℕ) (v w : View X) (answer : Bring) : Type 0 where
+    brought : IsFetched p f v w fetches.Brought → new ≡ old → answer ≡ brings.Brought → Fetches cap p f old new v w answer
+    again : (saw : Saw) (x : View X) → IsFetched p f v x (fetches.Again f saw) → IsFreed cap old (f ∷ []) new x w → answer ≡ brings.Again saw → Fetches cap p f old new v w answer
+    worn : (x : View X) → IsFetched p f v x (fetches.Worn f p) → IsFreed cap old (f ∷ []) new x w → answer ≡ brings.Worn p → Fetches cap p f old new v w answer
+    device : (count : ℕ) (x : View X) → IsFetched p f v x (fetches.Device f p count) → IsFreed cap old (f ∷ []) new x w → answer ≡ brings.Device p count → Fetches cap p f old new v w answer
+
+  -- what `bring` of page p answers, by an interface that had the frames `old` and then has the frames `new`
+  pub data IsBring (home cap p : ℕ) (old new : List ℕ) (v w : View X) (answer : Bring) : Type 0 where
+    framed : (f : ℕ) (kept : List ℕ) (x : View X) → Gets home cap f old kept v x → Fetches cap p f kept new x w answer → IsBring home cap p old new v w answer
+    frameless : GetsNone home cap old new v w answer → IsBring home cap p old new v w answer
+
+  -- the pass holds just the locks that it held, made no entry, and has its block at home
+  pub record KeepsLocks (v w : View X) : Type 0 where
+    pub holds : (q : ℕ) → HoldsPage v w q
+    pub mine : w.mine ≡ v.mine
+    pub out : w.out ≡ v.out
+    pub start : w.start ≡ v.start
+    pub parts : (w.used ≡ v.used) × (w.fresh ≡ v.fresh)
+    pub alone : StaysAlone v w

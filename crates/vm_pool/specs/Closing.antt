@@ -1,0 +1,50 @@
+-- What is left of a pool that was closed by a pass with all parts: the blocks, the next word, and sums of the blocks' counts.
+use Rattle.std.specs.Prelude.{ℕ, Bool, true, false, Some, List, [], ◌≡◌, ◌⊎◌, ◌-◌, ◌^◌, ◌<◌, ◌≤◌, length, min}
+use Rattle.std.specs.List.{sum_by}
+use Rattle.vm_core.specs.declared.event.Mapping.{Mapping}
+use Rattle.vm_core.specs.Fn.{at}
+use Rattle.vm_core.specs.Words.{EVICTED}
+use Rattle.vm_block.specs.declared.stored.Stored.{Stored}
+use Rattle.vm_owner.specs.Kept.{Start, Kept}
+use Rattle.vm_rule.specs.declared.view.View.{View}
+use Rattle.vm_rule.specs.Layout.{words_of}
+use Rattle.vm_rule.specs.Fixed.{bounds_of}
+use Rattle.vm_rule.specs.Reading.{no_block, last_of}
+use Rattle.vm_rule.specs.Rule.{began_of}
+use Rattle.vm_pool.specs.declared.ended.Ended.{Ended}
+use Rattle.vm_rule_laws.specs.Known.{kept_by}
+use Rattle.vm_rule_laws.specs.Standing.{state_in, mapping_in, fault_in}
+
+module _ {X : Type 0} where
+  -- the view's snapshot shows page p evicted, or in a frame and clean
+  abbrev pub IsStored : View X → ℕ → Type 0
+  IsStored v p = (state_in v.start v.snapshot p ≡ EVICTED) ⊎ ((m : Mapping) × (mapping_in v.start v.snapshot p ≡ Some m) × (m.dirty ≡ false))
+
+  -- A pool was closed by a pass with this view: a block for each page, which is, whole, the one that the pass's snapshot shows; each has the
+  -- bound of the one handed in, and its count of faults is the page's fault word; the next word is the snapshot's. Where the blocks tell
+  -- their words, those of a page that is evicted, or clean, are its last ones; and where no group is released in part, the layer above keeps
+  -- its relation of the pages' last words
+  pub record IsClosed (tells : Bool) (keeps : Start → Kept X → Type 0) (v : View X) (blocks : List Stored) (next : ℕ) : Type 0 where
+    pub count : length blocks ≡ v.start.pages
+    pub shown : blocks ≡ v.snapshot.blocks
+    pub bounds : bounds_of blocks ≡ v.start.bounds
+    pub faults : (p : ℕ) → p < v.start.pages → (at no_block blocks p).count ≡ fault_in v.start v.snapshot p
+    pub words : tells ≡ true → (p : ℕ) → p < v.start.pages → IsStored v p → (at no_block blocks p).words ≡ (last_of v p).words
+    pub next_is : next ≡ (words_of v.start v.snapshot.words).next
+    pub kept : tells ≡ true → v.pending ≡ [] → keeps (began_of v.start) (kept_by v)
+
+-- a sum over the blocks that stops at 2^64 - 1
+abbrev pub sum_to_max : (Stored → ℕ) → List Stored → ℕ
+sum_to_max count blocks = min (sum_by count blocks) (2 ^ 64 - 1)
+
+module _ {U X : Type 0} where
+  -- what the pass knew that closed the pool
+  abbrev pub view_at_end : Ended U X → View X
+  view_at_end end = end.knew.view
+
+  -- the sums of the blocks' reads, writes and faults; no more calls failed than the blocks' bounds say
+  pub record AreSums (blocks : List Stored) (end : Ended U X) : Type 0 where
+    pub reads_are : end.reads ≡ sum_to_max (λ b. b.reads) blocks
+    pub writes_are : end.writes ≡ sum_to_max (λ b. b.writes) blocks
+    pub faults_are : end.faults ≡ sum_to_max (λ b. b.count) blocks
+    pub bounded : sum_by (λ (b : Stored). b.count) blocks ≤ sum_by (λ (b : Stored). b.bound) blocks

@@ -1,0 +1,4 @@
+pub mod Holding
+pub mod Closing
+pub mod Sweeps
+pub mod Brings

@@ -1,0 +1,171 @@
+// A page is brought into memory, and frames are made free for it by a sweep.
+ghost use Rattle.std.specs.Prelude.{◌≡◌, ◌<◌, ◌≤◌, ◌+◌, ◌-◌, ◌^◌, ◌∷◌, [], IfOk, None, length, min};
+ghost use Rattle.vm_exmap.specs.Frames.{AreHeld};
+ghost use Rattle.vm_pool.specs.Brings.{Fetches, IsBring, IsFramed, KeepsLocks, NamesWorn, SaysDry};
+ghost use Rattle.vm_pool.specs.Sweeps.{IsSwept};
+ghost use Rattle.vm_step.specs.Passes.{IsSamePass, view};
+ghost use Rattle.vm_step.specs.Ready.{IsReady};
+
+use crate::pool::Pool;
+use vm_block::Block;
+use vm_clock::{Looks, candidates};
+use vm_evict::evict;
+use vm_evict::report::Report;
+use vm_exmap::{Alloc, Batch, Interface};
+use vm_fault::{Fetch, fault_in};
+use vm_owner::Owner;
+use vm_rule::words::Pass;
+use vm_step::Saw;
+
+/// What bringing a page answers.
+#[derive(Clone, Copy, Debug, PartialEq, Eq)]
+pub enum Bring {
+    /// The page is resident.
+    Brought,
+    /// The page was not Evicted, or others came before; or the frames asked for were lost to others.
+    Again(Saw),
+    /// This page is at the last version: the page asked for, or the first that a sweep met where it freed nothing, failed no write and met only
+    /// such pages and evicted ones.
+    Worn(u32),
+    /// The device of this page failed: a read of the page asked for, or the first write of a sweep that freed nothing.
+    Device { pid: u32, count: u64 },
+    /// No frame was free, after a sweep either.
+    Dry { looks: Looks },
+}
+
+/// The page that `Worn` names: the first page at the last version, where a walk met only such pages and evicted ones.
+fn only_worn(looks: &Looks) -> Option<u32>
+    ensures { NamesWorn looks.now result }
+{
+    if looks.found != 0 || looks.again != 0 || looks.marked != 0 {
+        return None;
+    }
+    if looks.lost != 0 || looks.held != 0 {
+        return None;
+    }
+    looks.first_worn
+}
+
+/// Why no frame was free after a sweep with this report.
+fn dry_cause(report: &Report) -> Bring
+    ensures { SaysDry report.now result }
+{
+    let dry = Bring::Dry {
+        looks: report.looks,
+    };
+    if report.freed != 0 {
+        return dry;
+    }
+    if let Some((pid, count)) = report.first_failed {
+        return Bring::Device { pid, count };
+    }
+    if report.failed != 0 {
+        return dry;
+    }
+    match only_worn(&report.looks) {
+        Some(pid) => Bring::Worn(pid),
+        None => dry,
+    }
+}
+
+/// The frame of a batch of one.
+fn only_frame(batch: &Batch) -> u32
+    requires { length batch.now ≡ 1 }
+    ensures { batch.now ≡ result ∷ [] }
+{
+    batch.as_slice()[0]
+}
+
+impl<U: Owner, B: Block> Pool<U, B> {
+    /// Evicts up to `want` (1 to 64) pages that the clock chooses, and gives their frames to the interface.
+    pub fn sweep(&self, pass: &mut Pass<U>, iface: &mut Interface, want: u32) -> Report
+        requires ready { IsReady self.now.words.table.shared.key B.tells self.now.words.table.shared.table_id pass.old }
+        requires home { (view pass.old).out ≡ None }
+        requires frames { AreHeld iface.old.frames (view pass.old) }
+        requires want { (1 ≤ want) × (want ≤ 64) }
+        ensures pass { IsSamePass pass.old pass.new }
+        ensures ready { IsReady self.now.words.table.shared.key B.tells self.now.words.table.shared.table_id pass.new }
+        ensures swept { IsSwept want iface.old.cap iface.old.frames iface.new.frames result (view pass.old) (view pass.new) }
+        ensures iface { (iface.new.home ≡ iface.old.home) × (iface.new.cap ≡ iface.old.cap) × (iface.new.swept ≡ min (iface.old.swept + result.freed) (2 ^ 64 - 1)) }
+        ensures held { AreHeld iface.new.frames (view pass.new) }
+        ensures keeps { KeepsLocks (view pass.old) (view pass.new) }
+    {
+        let chosen = candidates(&self.words, pass, want);
+        let evicted = evict(&self.words, pass, &chosen);
+        let report = evicted.report;
+        iface.free(&self.words, pass, evicted.frames);
+        iface.add_swept(report.freed);
+        report
+    }
+
+    /// A frame for a page, or the answer where there is none. Where no frame is free it sweeps once, with the interface's cap.
+    fn frame_for(&self, pass: &mut Pass<U>, iface: &mut Interface) -> Result<u32, Bring>
+        requires ready { IsReady self.now.words.table.shared.key B.tells self.now.words.table.shared.table_id pass.old }
+        requires home { (view pass.old).out ≡ None }
+        requires frames { AreHeld iface.old.frames (view pass.old) }
+        ensures pass { IsSamePass pass.old pass.new }
+        ensures ready { IsReady self.now.words.table.shared.key B.tells self.now.words.table.shared.table_id pass.new }
+        ensures framed { IsFramed iface.old.home iface.old.cap iface.old.frames iface.new.frames (view pass.old) (view pass.new) result }
+        ensures iface { (iface.new.home ≡ iface.old.home) × (iface.new.cap ≡ iface.old.cap) }
+        ensures frame { IfOk result (λ frame. AreHeld (frame ∷ iface.new.frames) (view pass.new)) }
+        ensures held { AreHeld iface.new.frames (view pass.new) }
+        ensures keeps { KeepsLocks (view pass.old) (view pass.new) }
+    {
+        match iface.alloc(&self.words, pass, 1) {
+            Alloc::Batch(batch) => return Ok(only_frame(&batch)),
+            Alloc::Again(saw) => return Err(Bring::Again(saw)),
+            Alloc::Dry => {}
+        }
+        let cap = iface.cap;
+        let report = self.sweep(pass, iface, cap);
+        match iface.alloc(&self.words, pass, 1) {
+            Alloc::Batch(batch) => Ok(only_frame(&batch)),
+            Alloc::Again(saw) => Err(Bring::Again(saw)),
+            Alloc::Dry => Err(dry_cause(&report)),
+        }
+    }
+
+    /// Brings a page that is Evicted into this frame of the pass. Where it can't be brought, the interface gets the frame.
+    fn bring_into(&self, pass: &mut Pass<U>, iface: &mut Interface, pid: u32, frame: u32) -> Bring
+        requires ready { IsReady self.now.words.table.shared.key B.tells self.now.words.table.shared.table_id pass.old }
+        requires home { (view pass.old).out ≡ None }
+        requires frames { AreHeld (frame ∷ iface.old.frames) (view pass.old) }
+        requires page { pid < self.now.words.table.shared.key.pages }
+        ensures pass { IsSamePass pass.old pass.new }
+        ensures ready { IsReady self.now.words.table.shared.key B.tells self.now.words.table.shared.table_id pass.new }
+        ensures fetches { Fetches iface.old.cap pid frame iface.old.frames iface.new.frames (view pass.old) (view pass.new) result }
+        ensures iface { (iface.new.home ≡ iface.old.home) × (iface.new.cap ≡ iface.old.cap) }
+        ensures held { AreHeld iface.new.frames (view pass.new) }
+        ensures keeps { KeepsLocks (view pass.old) (view pass.new) }
+    {
+        let answer = match fault_in(&self.words, pass, pid, frame) {
+            Fetch::Brought => return Bring::Brought,
+            Fetch::Again { saw, .. } => Bring::Again(saw),
+            Fetch::Worn { pid, .. } => Bring::Worn(pid),
+            Fetch::Device { pid, count, .. } => Bring::Device { pid, count },
+        };
+        let mut back = Batch::new();
+        back.push(frame);
+        iface.free(&self.words, pass, back);
+        answer
+    }
+
+    /// Brings a page that is Evicted into memory. Where no frame is free it sweeps once, with the interface's cap.
+    pub fn bring(&self, pass: &mut Pass<U>, iface: &mut Interface, pid: u32) -> Bring
+        requires ready { IsReady self.now.words.table.shared.key B.tells self.now.words.table.shared.table_id pass.old }
+        requires home { (view pass.old).out ≡ None }
+        requires frames { AreHeld iface.old.frames (view pass.old) }
+        requires page { pid < self.now.words.table.shared.key.pages }
+        ensures pass { IsSamePass pass.old pass.new }
+        ensures ready { IsReady self.now.words.table.shared.key B.tells self.now.words.table.shared.table_id pass.new }
+        ensures answer { IsBring iface.old.home iface.old.cap pid iface.old.frames iface.new.frames (view pass.old) (view pass.new) result }
+        ensures iface { (iface.new.home ≡ iface.old.home) × (iface.new.cap ≡ iface.old.cap) }
+        ensures held { AreHeld iface.new.frames (view pass.new) }
+        ensures keeps { KeepsLocks (view pass.old) (view pass.new) }
+    {
+        match self.frame_for(pass, iface) {
+            Ok(frame) => self.bring_into(pass, iface, pid, frame),
+            Err(answer) => answer,
+        }
+    }
+}

@@ -1,0 +1,17 @@
+//! A pool of pages as a whole: its start, the sweep that makes frames free, the bringing of a page into memory, and its end.
+#![tactic(auto)]
+
+mod bring;
+#[cfg(test)]
+mod bring_tests;
+mod closing;
+mod ended;
+mod pool;
+#[cfg(test)]
+mod tests;
+mod told;
+
+pub use bring::Bring;
+pub use ended::{Closed, Ended};
+pub use pool::{Pool, Shape};
+pub use told::Told;

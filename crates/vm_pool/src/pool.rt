@@ -1,0 +1,96 @@
+//! A pool: the shared words with their blocks, from the start to the end.
+
+ghost use Rattle.std.specs.Prelude.{◌≡◌, length, map, true, IfErr, IfOk};
+ghost use Rattle.vm_pool.specs.Closing.{AreSums, IsClosed, view_at_end};
+ghost use Rattle.vm_pool.specs.Holding.{HoldsNoPage};
+ghost use Rattle.vm_rule.specs.Begun.{begun, unborn};
+ghost use Rattle.vm_rule.specs.Fixed.{MayBegin};
+ghost use Rattle.vm_rule.specs.Started.{IsStarted, started_shape, words_in};
+ghost use Rattle.vm_rule.specs.Views.{IsWhole, view_of};
+
+use crate::closing::closed;
+use crate::ended::Closed;
+use std::alloc::Global;
+use vm_block::Block;
+use vm_core::Memory;
+use vm_owner::Owner;
+use vm_rule::words::{Pass, Words};
+
+/// What a pool is started with, beside its blocks: 1 to 65536 pages, as many as blocks, and 1 to 65536 frames; the least page number that is
+/// not claimed; the first version of every page, at most 2^56 - 1.
+#[derive(Clone, Copy, Debug, PartialEq, Eq)]
+pub struct Shape {
+    pub pages: u32,
+    pub frames: u32,
+    pub next: u32,
+    pub first_version: u64,
+}
+
+/// The pages of an owner, each with its block, for any number of passes.
+pub struct Pool<U: Owner, B: Block> {
+    pub words: Words<U, B>,
+}
+
+// A pool that is let go drops the blocks that are at home.
+impl<U: Owner, B: Block + Drop> Drop for Pool<U, B> {
+    fn drop(self) {
+        let Pool { words } = self;
+        drop(words);
+    }
+}
+
+impl<U: Owner, B: Block + Drop> Pool<U, B> {
+    /// A pool whose pages are all evicted, with their words in the blocks, and whose frames are all free; and its first pass, which has all
+    /// parts and knows every word and block. The pages from the next one on are zero, where the blocks tell. Where there is no memory the
+    /// blocks are dropped.
+    pub fn start(
+        alloc: Global,
+        shape: Shape,
+        blocks: Vec<B>,
+    ) -> Result<(Pool<U, B>, Pass<U>), Memory>
+        requires pages { shape.pages ≡ length blocks.items }
+        requires fits { IsStarted shape.first_version shape.next shape.frames (length blocks.items) }
+        requires begins { B.tells ≡ true → MayBegin U.keeps shape.next (words_in (map B.stored blocks.items)) }
+        ensures key { IfOk result (λ made. made.0.words.table.shared.key ≡ started_shape B.tells shape.first_version shape.next shape.frames (map B.stored blocks.items)) }
+        ensures pass { IfOk result (λ made. made.1.badge.table_id ≡ made.0.words.table.shared.table_id) }
+        ensures view { IfOk result (λ made. view_of made.1.badge.views ≡ begun (unborn (started_shape B.tells shape.first_version shape.next shape.frames (map B.stored blocks.items)))) }
+    {
+        let (words, pass) = Words::started(
+            alloc,
+            shape.frames,
+            shape.next,
+            shape.first_version,
+            blocks,
+        )?;
+        Ok((Pool { words }, pass))
+    }
+
+    /// The shared words, for the calls of passes.
+    pub fn words(&self) -> &Words<U, B>
+        ensures { result.now ≡ self.now.words }
+    {
+        &self.words
+    }
+
+    /// Ends the pool with a pass that has all parts, has made a step since it was split or joined, and holds no page: the blocks come back, in
+    /// the order of their pages. Where there is no memory for their list nothing has changed.
+    pub fn close(self, alloc: Global, pass: Pass<U>) -> Result<Closed<U, B>, (Pool<U, B>, Pass<U>)>
+        requires pass { pass.badge.table_id ≡ self.words.table.shared.table_id }
+        requires whole { IsWhole (view_of pass.badge.views) }
+        requires current { (view_of pass.badge.views).current ≡ true }
+        requires holds { HoldsNoPage (view_of pass.badge.views) }
+        ensures closed { IfOk result (λ end. IsClosed B.tells U.keeps (view_of pass.badge.views) (map B.stored end.blocks.items) end.next) }
+        ensures sums { IfOk result (λ end. AreSums (map B.stored end.blocks.items) end.ended) }
+        ensures told { IfOk result (λ end. view_at_end end.ended ≡ view_of pass.badge.views) }
+        ensures start { IfOk result (λ _. (view_of pass.badge.views).start ≡ self.words.table.shared.key.began.origin) }
+        ensures refused { IfErr result (λ back. (back.0 ≡ self) × (back.1 ≡ pass)) }
+    {
+        match Vec::with_capacity(alloc, self.words.pages) {
+            Ok(room) => {
+                let Pool { words } = self;
+                Ok(closed(words, pass, room))
+            }
+            Err(_) => Err((self, pass)),
+        }
+    }
+}

@@ -1,0 +1,84 @@
+-- Beside a pass with all parts every other has none, so it holds nothing: a page that such a pass has not locked is not locked.
+use Rattle.std.proofs.Common.{ℕ, Bool, true, false, true≢false, ◌≡◌, ◌≢◌, ◌⊎◌, ◌+◌, ◌<◌, ◌≤◌, Option, List, [], ◌∷◌, length, zero, suc, refl, sym, ap, subst, ◌∙◌, inl, inr, arith, ⊎_elim}
+use Rattle.std.proofs.lemmas.Bool.{cases_Bool, cases_eq, cases_lt, eq-eqb, lt-ltb}
+use mathlib.Core.Option.{some}
+use lib.ListN.{get_elem?}
+use Rattle.atomic_table.specs.Table.{State as Table}
+use Rattle.vm_core.specs.declared.event.Seat.{Seat}
+use Rattle.vm_core.specs.Fn.{sum_below}
+use Rattle.vm_core.specs.Words.{UNLOCKED, LOCKED, MARKED, EVICTED}
+use Rattle.vm_core.specs.State.{Page}
+use Rattle.vm_core.specs.Inv.{share_count}
+use Rattle.vm_core.proofs.Upd.{sum_below-past}
+use Rattle.vm_owner.specs.Kept.{Start, Kept}
+use Rattle.vm_block.specs.declared.stored.Stored.{Stored}
+use Rattle.vm_rule.specs.declared.view.Origin.{Origin}
+use Rattle.vm_rule.specs.declared.view.View.{View}
+use Rattle.vm_rule.specs.Views.{IsWhole, times, owns, seat_of, spent}
+use Rattle.vm_rule.specs.Reading.{core_of}
+use Rattle.vm_rule.specs.Rule.{HoldsNothing, Ruled}
+use Rattle.vm_rule.proofs.Entries.{not-whole}
+use Rattle.vm_rule.proofs.Found.{seat-here}
+
+pub no-times : (l : List ℕ) → ((n : ℕ) → 1 ≤ times n l → ⊥) → l ≡ []
+no-times [] none = refl
+no-times (n ∷ ns) none = absurd (none n (rw (eq-eqb n n refl) (omega arith)))
+
+pub more-left : (a b : ℕ) → 1 ≤ a → 1 ≤ a + b
+more-left a b l = omega arith
+
+pub more-right : (a b : ℕ) → 1 ≤ b → 1 ≤ a + b
+more-right a b l = omega arith
+
+some-there : {A : Type 0} (l : List A) (i : ℕ) → i < length l → (a : A) × (get_elem? l i ≡ some a)
+some-there [] i l = absurd (omega arith)
+some-there (x ∷ xs) zero l = (x, refl)
+some-there (x ∷ xs) (suc i) l = some-there xs i (omega arith)
+
+no-sum : (n : ℕ) → sum_below n (λ k. 0) ≡ 0
+unfolding sum_below
+no-sum zero = refl
+no-sum (suc n) = let rest : sum_below n (λ k. 0) ≡ 0 = no-sum n in omega arith
+
+-- a state that is not locked and counts no share
+open-state : (state : ℕ) → state ≤ EVICTED → state ≢ LOCKED → share_count state ≡ 0 → (state ≡ UNLOCKED) ⊎ ((state ≡ MARKED) ⊎ (state ≡ EVICTED))
+open-state state le free none =
+    ⊎_elim
+    (λ l. let is : share_count state ≡ state = rw (lt-ltb state LOCKED l) refl in inl (sym is ∙ none))
+    (λ ge. ⊎_elim (λ e. inr (inl e)) (λ ne. inr (inr (omega (arith, le, free, ge, ne)))) (cases_eq state MARKED))
+    (cases_lt state LOCKED)
+
+spent-holds-nothing : {X : Type 0} → HoldsNothing {X = X} spent
+spent-holds-nothing = record { shares = λ p. refl; exclusive = λ p. refl; writing = λ p. refl; frames = refl; out = refl }
+
+module _ {X B : Type 0} (stored : B → Stored) (keeps : Start → Kept X → Type 0) (tied : Start → ℕ → List ℕ → ℕ → List ℕ → Type 0) (start : Origin) (tells : Bool) (s : Table (Option B) (View X)) (r : Ruled stored keeps tied start tells s) (id : ℕ) (v : View X) (there : get_elem? s.views id ≡ some v) (whole : IsWhole v) where
+  pub others-hold-nothing : (j : ℕ) (u : View X) → j ≢ id → get_elem? s.views j ≡ some u → HoldsNothing u
+  others-hold-nothing j u ne at =
+      let none : (k : ℕ) → 1 ≤ owns k u → ⊥ = λ k l. not-whole s.views id j v u r.parts.parts (λ e. ne (sym e)) there at (k, l) whole in
+      ⊎_elim
+      (λ on. (r.heard j u at on).idle (no-times u.used (λ n l. none n (more-left (times n u.used) (times n u.fresh) l))) (no-times u.fresh (λ n l. none n (more-right (times n u.used) (times n u.fresh) l))))
+      (λ off. subst HoldsNothing (sym (r.parts.spent j u at off)) spent-holds-nothing)
+      (cases_Bool u.live)
+
+  module _ (p : ℕ) (l : p < start.pages) (alone : (seat_of v p).exclusive ≡ false) (none : (seat_of v p).shares ≡ 0) where
+    -- what any pass has of the page
+    seats-open : (a : ℕ) → a < length s.views → ((((core_of stored start s).pages p).seats a).exclusive ≡ false) × ((((core_of stored start s).pages p).seats a).shares ≡ 0)
+    seats-open a la =
+        let u = some-there s.views a la in
+        let here : ((core_of stored start s).pages p).seats a ≡ seat_of u.0 p = seat-here stored start s a p u.0 l u.1 in
+        ⊎_elim
+        (λ e.
+        let mine : ((core_of stored start s).pages p).seats id ≡ seat_of v p = seat-here stored start s id p v l there in
+        let same : ((core_of stored start s).pages p).seats a ≡ seat_of v p = ap ((core_of stored start s).pages p).seats e ∙ mine in
+        (ap (λ (k : Seat). k.exclusive) same ∙ alone, ap (λ (k : Seat). k.shares) same ∙ none))
+        (λ ne. let h = others-hold-nothing a u.0 ne u.1 in (ap (λ (k : Seat). k.exclusive) here ∙ h.exclusive p, ap (λ (k : Seat). k.shares) here ∙ h.shares p))
+        (cases_eq a id)
+
+    -- so it is unlocked, marked or evicted
+    pub page-open : (((core_of stored start s).pages p).state ≡ UNLOCKED) ⊎ ((((core_of stored start s).pages p).state ≡ MARKED) ⊎ (((core_of stored start s).pages p).state ≡ EVICTED))
+    page-open =
+        let y : Page = (core_of stored start s).pages p in
+        let locks = (r.inv.pages p).locks in
+        let free : y.state ≢ LOCKED = (λ e. let h = locks.held e in true≢false (sym h.owns ∙ (seats-open h.holder h.named).0)) in
+        let sum : sum_below (length s.views) (λ b. (y.seats b).shares) ≡ 0 = sum_below-past (length s.views) (λ b. (y.seats b).shares) (λ k. 0) (λ j lj. (seats-open j lj).1) ∙ no-sum (length s.views) in
+        open-state y.state locks.known free (sym locks.shares ∙ sum)

@@ -1,9 +1,0 @@
-use Rattle.std.proofs.Common.{refl}
-use Rattle.vm_rule.proofs.ListFacts.{listed-none, pushed-listed}
-use Rattle.vm_rule.proofs.fixed.opening.push_same.Goals as goal
-
-pub loop-i-init : goal.loop-i-init
-loop-i-init c = listed-none _ _
-
-pub loop-i-preserved : goal.loop-i-preserved
-loop-i-preserved c = pushed-listed _ _ _ _ _ _ c.loop-i.invariant c.in_ok-push.ensures.items refl

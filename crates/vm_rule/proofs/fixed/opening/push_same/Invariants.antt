@@ -1,6 +1,0 @@
-use Rattle.std.proofs.Common.{◌≡◌, ◌++◌}
-use Rattle.vm_rule.specs.Puts.{listed}
-use Rattle.vm_rule.proofs.fixed.opening.push_same.Given as goal
-
-abbrev pub invariant-loop-i : goal.invariant-loop-i
-invariant-loop-i l = l.words.items ≡ l.initial.words.items ++ listed l.i (λ _. l.word)

@@ -1,0 +1,5 @@
+use Rattle.std.proofs.Common.{◌≡◌, map, Some}
+use Rattle.vm_rule.proofs.opening.slots_of.Given as goal
+
+abbrev pub invariant-loop-block : goal.invariant-loop-block
+invariant-loop-block g l = l.slots.items ≡ map Some l.yielded

@@ -1,0 +1,25 @@
+use Rattle.std.proofs.Common.{ℕ, ◌*◌, ◌++◌, ◌∙◌, ap, length, map}
+use Rattle.vm_core.specs.Start.{full_bundle}
+use Rattle.vm_core.specs.Words.{word_of, EVICTED}
+use Rattle.vm_rule.specs.Fixed.{counts_of}
+use Rattle.vm_rule.specs.Layout.{bundles_of}
+use Rattle.vm_rule.specs.Puts.{listed}
+use Rattle.vm_rule.proofs.LaidWords.{pushed-parts}
+use Rattle.vm_rule.proofs.started.evicted_words.Goals as goal
+
+pub returns : goal.returns
+returns g c =
+    pushed-parts
+    (listed (length c.args.blocks.now) (λ p. word_of EVICTED c.args.version))
+    (listed (length c.args.blocks.now) (λ p. 0))
+    (counts_of (map g.B.Block.stored c.args.blocks.now))
+    (listed (64 * c.args.frames) (λ i. 0))
+    (listed (bundles_of c.args.frames) (full_bundle c.args.frames))
+    c.args.next 0 _ _ _ _ _ _ _ _ c.in_ok-words.ensures.items
+    (c.in_ok-push_same.ensures ∙ ap (λ (w : ℕ). c.in_ok-words.words.items ++ listed (length c.args.blocks.now) (λ p. w)) c.of.ensures)
+    c.in_ok-push_same-2.ensures
+    c.in_ok-push_faults.ensures
+    c.in_ok-push_same-3.ensures
+    c.in_ok-push_bundles.ensures
+    c.in_ok-push.ensures.items
+    c.in_ok-push-2.ensures.items

@@ -1,0 +1,6 @@
+use Rattle.std.proofs.Common.{map}
+use Rattle.vm_rule.specs.Started.{started_shape}
+use Rattle.vm_rule.proofs.words.Words.started.Given as goal
+
+abbrev pub ghost-shape_of : goal.ghost-shape_of
+ghost-shape_of g a = (started_shape g.B.Block.tells a.version a.next a.frames (map g.B.Block.stored a.blocks.now)).began

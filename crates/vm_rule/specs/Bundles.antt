@@ -1,0 +1,53 @@
+-- What the steps on a bundle word and on the hand tell. Frames that are taken come to the pass with their words; frames that are given back
+-- leave it.
+use Rattle.std.specs.Prelude.{ℕ, true, false, List, [], ◌∷◌, ◌++◌, ◌≡◌, ◌≢◌, ◌+◌, ◌*◌, ◌<◌, ◌==◌, length, zero, suc, bit_and, bit_or, bit_xor, if◌then◌else◌}
+use Rattle.std.specs.Int.{bit_at}
+use Rattle.vm_core.specs.Words.{in_mask, hand_more}
+use Rattle.vm_owner.specs.Numbers.{has}
+use Rattle.vm_rule.specs.declared.view.Put.{Put}
+use Rattle.vm_rule.specs.declared.view.Place.TheVariants as places
+use Rattle.vm_rule.specs.declared.view.View.{View}
+use Rattle.vm_rule.specs.Puts.{put}
+use Rattle.vm_rule.specs.Brought.{Brings}
+use Rattle.vm_rule.specs.Log.{did_load, did_exchange, did_change}
+use Rattle.vm_rule.specs.Releases.{without_all}
+
+-- the frames of bundle g whose bits are set among the first n, by rising number
+abbrev pub frames_below : ℕ → ℕ → ℕ → List ℕ
+frames_below zero g mask = []
+frames_below (suc n) g mask = frames_below n g mask ++ (if bit_at mask n == 1 then (64 * g + n) ∷ [] else [])
+
+-- the frames of bundle g whose bits are set
+unfoldable pub frames_in : ℕ → ℕ → List ℕ
+frames_in g mask = frames_below 64 g mask
+
+-- the words of these frames are known
+abbrev pub with_contents : (ℕ → List ℕ) → List ℕ → List (Put (List ℕ)) → List (Put (List ℕ))
+with_contents words [] l = l
+with_contents words (f ∷ fs) l = put f (words f) (with_contents words fs l)
+
+module _ {X : Type 0} where
+  pub record BundleTold (g found : ℕ) (v w : View X) : Type 0 where
+    pub brings : Brings (did_load (places.Bundle g) found) [] [] v v w
+
+  abbrev pub taken_view : ℕ → ℕ → (ℕ → List ℕ) → View X → View X
+  taken_view g mask words v = record v { frames = frames_in g mask ++ v.frames; contents = with_contents words (frames_in g mask) v.contents }
+
+  -- the frames taken are frames of the table, and were not the pass's
+  pub record TakeTold (g expects mask found : ℕ) (v w : View X) : Type 0 where
+    pub words : ℕ → List ℕ
+    pub brings : Brings (did_exchange (places.Bundle g) expects found (bit_xor expects mask)) [] [] v (if found == expects then taken_view g mask words v else v) w
+    pub size : (f : ℕ) → length (words f) ≡ 64
+    pub inside : found ≡ expects → (f : ℕ) → in_mask g mask f ≡ true → f < v.start.frames
+    pub new : found ≡ expects → (f : ℕ) → in_mask g mask f ≡ true → has f v.frames ≡ false
+
+  abbrev pub given_view : ℕ → ℕ → View X → View X
+  given_view g mask v = record v { frames = without_all (frames_in g mask) v.frames }
+
+  -- none of their bits was set
+  pub record GiveTold (g mask found : ℕ) (v w : View X) : Type 0 where
+    pub brings : Brings (did_change (places.Bundle g) found (bit_or found mask)) [] [] v (given_view g mask v) w
+    pub unset : bit_and found mask ≡ 0
+
+  pub record HandTold (found : ℕ) (v w : View X) : Type 0 where
+    pub brings : Brings (did_change places.Hand found (hand_more found)) [] [] v v w

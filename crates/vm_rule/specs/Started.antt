@@ -1,0 +1,51 @@
+-- The opening of a pool's table: every page is evicted, with its words in its block; every frame is free; every block is at home.
+use Rattle.std.specs.Prelude.{ℕ, Bool, List, [], ◌∷◌, ◌++◌, ◌*◌, ◌≤◌, length, map, replicate, if◌then◌else◌}
+use Rattle.vm_core.specs.Start.{full_bundle}
+use Rattle.vm_core.specs.Words.{word_of, EVICTED, MAX_VERSION}
+use Rattle.vm_block.specs.declared.stored.Stored.{Stored}
+use Rattle.vm_rule.specs.declared.view.Origin.{Origin}
+use Rattle.vm_rule.specs.declared.view.Shape.{Shape}
+use Rattle.vm_rule.specs.declared.view.Snapshot.{Snapshot}
+use Rattle.vm_rule.specs.Puts.{listed}
+use Rattle.vm_rule.specs.Layout.{bundles_of}
+use Rattle.vm_rule.specs.Fixed.{counts_of, bounds_of}
+
+-- the words that the blocks hold
+abbrev pub words_in : List Stored → List (List ℕ)
+words_in blocks = map (λ (b : Stored). b.words) blocks
+
+-- the words of the pages: those of their blocks, and zeros where the blocks do not tell theirs
+abbrev pub contents_of : Bool → List Stored → List (List ℕ)
+contents_of tells blocks = map (λ (b : Stored). if tells then b.words else replicate 64 0) blocks
+
+-- the table's words: those of the states, of the translations, of the faults, of the frames, of the bundles, the next word and the hand
+abbrev pub started_words : ℕ → ℕ → ℕ → ℕ → List ℕ → List ℕ
+started_words pages frames version next counts =
+    listed pages (λ p. word_of EVICTED version) ++ (listed pages (λ p. 0) ++ (counts ++ (listed (64 * frames) (λ i. 0) ++ (listed (bundles_of frames) (full_bundle frames) ++ (next ∷ (0 ∷ []))))))
+
+-- how the table began, with what its blocks hold
+abbrev pub started_origin : Bool → ℕ → ℕ → ℕ → List Stored → Origin
+started_origin tells version next frames blocks =
+    record { tells = tells; pages = length blocks; frames = frames; version = version; next = next; contents = contents_of tells blocks; bounds = bounds_of blocks }
+
+abbrev pub started_snapshot : ℕ → ℕ → ℕ → List Stored → Snapshot
+started_snapshot version next frames blocks = record { words = started_words (length blocks) frames version next (counts_of blocks); blocks = blocks }
+
+abbrev pub started_shape : Bool → ℕ → ℕ → ℕ → List Stored → Shape
+started_shape tells version next frames blocks =
+    record {
+      pages = length blocks;
+      frames = frames;
+      version = version;
+      next = next;
+      began = record { origin = started_origin tells version next frames blocks; snapshot = started_snapshot version next frames blocks };
+    }
+
+-- the numbers fit: there are pages and frames, at most 65536 of each; the next page is at most the number of pages; the version is a version
+pub record IsStarted (version next frames pages : ℕ) : Type 0 where
+  pub some_pages : 1 ≤ pages
+  pub few_pages : pages ≤ 65536
+  pub some_frames : 1 ≤ frames
+  pub few_frames : frames ≤ 65536
+  pub claimed : next ≤ pages
+  pub in_range : version ≤ MAX_VERSION

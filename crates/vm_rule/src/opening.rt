@@ -1,0 +1,104 @@
+//! What the makers of a table share: words that are pushed, the slots, and the first pass with its first step.
+
+ghost use Rattle.std.specs.Prelude.{◌≡◌, ◌<◌, ◌≤◌, ◌++◌, length, map, IfOk, Some, []};
+ghost use Rattle.atomic_table.specs.Table.{opening};
+ghost use Rattle.vm_rule.specs.Begun.{Stands, begun, unborn};
+ghost use Rattle.vm_rule.specs.Fixed.{counts_of};
+ghost use Rattle.vm_rule.specs.Layout.{width_of};
+ghost use Rattle.vm_rule.specs.Puts.{listed};
+ghost use Rattle.vm_rule.specs.Views.{view_of};
+
+use crate::view::{Shape, View};
+use crate::words::{Law, Pass, Words};
+use atomic_table::{Play, Seat, Table};
+use std::alloc::{AllocError, Global};
+use std::marker::PhantomData;
+use vm_block::Block;
+use vm_core::Memory;
+use vm_owner::Owner;
+
+/// The same word, `count` times.
+pub(crate) fn push_same(words: &mut Vec<u64>, count: usize, word: u64) -> Result<(), AllocError>
+    ensures { IfOk result (λ _. words.new.items ≡ words.old.items ++ listed count (λ _. word)) }
+{
+    for i in 0..count {
+        words.push(word)?;
+    }
+    Ok(())
+}
+
+/// What each block has counted of faults.
+pub(crate) fn push_faults<B: Block>(words: &mut Vec<u64>, blocks: &[B]) -> Result<(), AllocError>
+    ensures { IfOk result (λ _. words.new.items ≡ words.old.items ++ counts_of (map B.stored blocks.now)) }
+{
+    for block in blocks {
+        words.push(block.faults())?;
+    }
+    Ok(())
+}
+
+/// The slots with the blocks at home.
+pub(crate) fn slots_of<B: Drop>(alloc: Global, blocks: Vec<B>) -> Result<Vec<Option<B>>, AllocError>
+    ensures { IfOk result (λ slots. slots.items ≡ map Some blocks.items) }
+{
+    let mut slots = Vec::with_capacity(alloc, blocks.len())?;
+    for block in blocks {
+        slots.push(Some(block))?;
+    }
+    Ok(slots)
+}
+
+/// The table of these words and slots, which meet the rule, and its first pass after its first step. Where there is no memory the slots are
+/// dropped.
+pub(crate) fn opened<U: Owner, B: Block + Drop>(
+    alloc: Global,
+    words: &[u64],
+    slots: Vec<Option<B>>,
+    shape: &Shape,
+) -> Result<(Words<U, B>, Pass<U>), Memory>
+    requires stands { Stands B.stored U.keeps U.tied shape.now B.tells (opening words.now slots.items (unborn shape.now)) }
+    requires pages { (1 ≤ shape.now.pages) × (shape.now.pages ≤ 65536) }
+    requires frames { shape.now.frames ≤ 65536 }
+    requires wide { (length words.now ≡ width_of shape.now.pages shape.now.frames) × (length slots.items ≡ shape.now.pages) }
+    ensures key { IfOk result (λ made. made.0.table.shared.key ≡ shape.now) }
+    ensures pass { IfOk result (λ made. made.1.badge.table_id ≡ made.0.table.shared.table_id) }
+    ensures view { IfOk result (λ made. view_of made.1.badge.views ≡ begun (unborn shape.now)) }
+{
+    let Ok((table, mut seat)) = Table::new(alloc, words, slots, shape) else {
+        return Err(Memory);
+    };
+    first_step(&table, &mut seat);
+    let words = Words {
+        table,
+        pages: shape.pages as usize,
+        frames: shape.frames as usize,
+    };
+    let pass = Pass {
+        badge: seat.into_badge(),
+    };
+    Ok((words, pass))
+}
+
+/// What the load of the first state word tells.
+pub(crate) struct Begin<U> {
+    marker: PhantomData<U>,
+}
+
+impl<S, U: Owner> Play<S, View<U::Said>> for Begin<U> {
+    ghost use Rattle.vm_rule.specs.Begun.{begin_play};
+
+    ghost then = { begin_play };
+}
+
+/// The first step of the first pass.
+pub(crate) fn first_step<U: Owner, B: Block>(
+    table: &Table<Option<B>, View<U::Said>, Shape, Law<U, B>, Global>,
+    seat: &mut Seat<Option<B>, View<U::Said>>,
+)
+    requires table { (seat.old.table_id ≡ table.now.shared.table_id) × (0 < table.now.shared.table_id.words) × (1 ≤ table.now.shared.key.pages) }
+    requires seat { seat.old.me ≡ (unborn table.now.shared.key, []) }
+    ensures table { seat.new.table_id ≡ seat.old.table_id }
+    ensures seat { seat.new.me ≡ (begun (unborn table.now.shared.key), []) }
+{
+    table.shared.load::<Begin<U>>(seat, 0);
+}

@@ -1,0 +1,111 @@
+//! The maker of a pool's table: every page is evicted, its words in its block, and every frame is free.
+
+ghost use Rattle.std.specs.Prelude.{◌≡◌, ◌≤◌, ◌-◌, ◌^◌, ◌++◌, length, map, true, IfOk};
+ghost use Rattle.vm_core.specs.Start.{full_bundle};
+ghost use Rattle.vm_core.specs.Words.{MAX_VERSION};
+ghost use Rattle.vm_rule.specs.declared.began.Began.{Began};
+ghost use Rattle.vm_rule.specs.Begun.{begun, unborn};
+ghost use Rattle.vm_rule.specs.Fixed.{MayBegin, counts_of};
+ghost use Rattle.vm_rule.specs.Layout.{bundles_of};
+ghost use Rattle.vm_rule.specs.Puts.{listed};
+ghost use Rattle.vm_rule.specs.Started.{IsStarted, started_shape, started_words, words_in};
+ghost use Rattle.vm_rule.specs.Views.{view_of};
+
+use crate::began::Began;
+use crate::opening::{opened, push_faults, push_same, slots_of};
+use crate::view::Shape;
+use crate::words::{Pass, Words};
+use std::alloc::{AllocError, Global};
+use vm_block::Block;
+use vm_core::{Memory, StateWord, TransWord};
+use vm_owner::Owner;
+use vm_page::WORDS;
+
+impl<U: Owner, B: Block + Drop> Words<U, B> {
+    /// A table of as many pages as blocks and of this many frames, and its first pass, which has all parts.
+    ///
+    /// Takes 1 to 65536 pages, 1 to 65536 frames, and a version of at most 2^56 - 1. Every page is evicted at that version, with its words
+    /// in its block; every frame is zero and free. The pages from `next` on are zero, where the blocks tell, and not claimed yet. The pass
+    /// has made one step, a load of the first state word, and knows all words and blocks. Where there is no memory the blocks are dropped.
+    pub fn started(
+        alloc: Global,
+        frames: u32,
+        next: u32,
+        version: u64,
+        blocks: Vec<B>,
+    ) -> Result<(Words<U, B>, Pass<U>), Memory>
+        requires fits { IsStarted version next frames (length blocks.items) }
+        requires begins { B.tells ≡ true → MayBegin U.keeps next (words_in (map B.stored blocks.items)) }
+        ensures key { IfOk result (λ made. made.0.table.shared.key ≡ started_shape B.tells version next frames (map B.stored blocks.items)) }
+        ensures pass { IfOk result (λ made. made.1.badge.table_id ≡ made.0.table.shared.table_id) }
+        ensures view { IfOk result (λ made. view_of made.1.badge.views ≡ begun (unborn (started_shape B.tells version next frames (map B.stored blocks.items)))) }
+    {
+        let words = evicted_words(alloc, blocks.as_slice(), frames, next, version)?;
+        let shape = shape_of(blocks.as_slice(), frames, next, version);
+        let slots = slots_of(alloc, blocks)?;
+        opened(alloc, words.as_slice(), slots, &shape)
+    }
+}
+
+/// The shape of the table. What its proofs are told is picked by the caller's proof, which takes it from these arguments.
+pub(crate) fn shape_of<B: Block>(blocks: &[B], frames: u32, next: u32, version: u64) -> Shape
+    ghost told: { Began }
+    ensures { result ≡ record { pages = length blocks.now; frames = frames; version = version; next = next; began = told } }
+{
+    Shape {
+        pages: blocks.len() as u64,
+        frames: frames as u64,
+        version,
+        next: next as u64,
+        began: Began::new(),
+    }
+}
+
+/// The words of the table, by its layout.
+pub(crate) fn evicted_words<B: Block>(
+    alloc: Global,
+    blocks: &[B],
+    frames: u32,
+    next: u32,
+    version: u64,
+) -> Result<Vec<u64>, AllocError>
+    requires pages { length blocks.now ≤ 65536 }
+    requires frames { frames ≤ 65536 }
+    requires version { version ≤ MAX_VERSION }
+    ensures { IfOk result (λ words. words.items ≡ started_words (length blocks.now) frames version next (counts_of (map B.stored blocks.now))) }
+{
+    let pages = blocks.len();
+    let count = frames as usize;
+    let mut words = Vec::with_capacity(alloc, 3 * pages + (WORDS + 1) * count + 2)?;
+    push_same(
+        &mut words,
+        pages,
+        StateWord::of(StateWord::EVICTED, version),
+    )?;
+    push_same(&mut words, pages, TransWord::EMPTY)?;
+    push_faults(&mut words, blocks)?;
+    push_same(&mut words, WORDS * count, 0)?;
+    push_bundles(&mut words, count)?;
+    words.push(next as u64)?;
+    words.push(0)?;
+    Ok(words)
+}
+
+/// The bundles of the frames, all of them free.
+fn push_bundles(words: &mut Vec<u64>, frames: usize) -> Result<(), AllocError>
+    requires { frames ≤ 65536 }
+    ensures { IfOk result (λ _. words.new.items ≡ words.old.items ++ listed (bundles_of frames) (full_bundle frames)) }
+{
+    for g in 0..(frames + 63) / 64 {
+        words.push(low_bits((frames - 64 * g).min(64)))?;
+    }
+    Ok(())
+}
+
+/// The `n` lowest bits of a word.
+fn low_bits(n: usize) -> u64
+    requires { n ≤ 64 }
+    ensures { result ≡ 2 ^ n - 1 }
+{
+    if n == 64 { u64::MAX } else { (1 << n) - 1 }
+}

@@ -1,0 +1,124 @@
+-- One call of the device of a page that the pass has locked: its block is taken out, read or written, and brought home.
+use Rattle.std.proofs.Common.{ℕ, ◌≡◌, ◌≢◌, ◌+◌, ◌==◌, ◌||◌, ◌++◌, nat_lt, min, if◌then◌else◌, Bool, true, false, List, [], ◌∷◌, Option, Some, None, IsSome, Result, Ok, Err, refl, sym, ap, subst, ◌∙◌, ⊎_elim, arith}
+use Rattle.std.proofs.lemmas.Bool.{cases_lt, cond-true, eq-eqb, lt-ltb, or_left, or_right}
+use Rattle.vm_core.specs.Words.{count_more}
+use Rattle.vm_core.proofs.Upd.{upd-other, upd-same}
+use Rattle.vm_block.specs.Blocks.{Reads, Writes, one_more}
+use Rattle.vm_block.specs.declared.stored.Stored.{Stored}
+use Rattle.vm_rule.specs.declared.view.Did.{Did}
+use Rattle.vm_rule.specs.declared.view.Held.{Held}
+use Rattle.vm_rule.specs.declared.view.Out.{Out}
+use Rattle.vm_rule.specs.declared.view.Place.TheVariants as places
+use Rattle.vm_rule.specs.declared.view.View.{View}
+use Rattle.vm_rule.specs.Puts.{put, put_at}
+use Rattle.vm_rule.specs.Faults.{notes_of}
+use Rattle.vm_rule.specs.Rule.{MAX_COUNT, no_held}
+use Rattle.vm_rule.specs.Log.{did_load}
+use Rattle.vm_rule.specs.Mappings.{held_at}
+use Rattle.vm_rule.specs.Slots.{DeviceDid, HomeTold, MayBring, OutTold, ReturnTold, ShiftTold, SlotTold, failed, idle, out_at, words_held, wrote}
+use Rattle.vm_step.specs.Asides.{KeepsFrames}
+use Rattle.vm_step.specs.Works.{Works}
+use Rattle.vm_step.proofs.Leaves.{works-one, works-then}
+
+abbrev pub two-loads : ℕ → ℕ → ℕ → List Did
+two-loads p first second = did_load (places.Fault p) first ∷ did_load (places.Fault p) second ∷ []
+
+module _ {X : Type 0} (p : ℕ) where
+  -- the steps moved the block of page p: what the pass knows of the page, and the block that is out
+  pub record Moves (done : List Did) (h : Held) (o : Option Out) (v w : View X) : Type 0 where
+    pub works : Works p done v w
+    pub keeps : KeepsFrames v w
+    pub known : held_at w p ≡ h
+    pub away : w.out ≡ o
+
+  moves-then : (a b : List Did) (held held' : Held) (out out' : Option Out) (u v w : View X) → Moves a held out u v → Moves b held' out' v w → Moves (a ++ b) held' out' u w
+  moves-then a b held held' out out' u v w f g = record {
+    works = works-then p a b u v w f.works g.works;
+    keeps = record { frames = g.keeps.frames ∙ f.keeps.frames; contents = g.keeps.contents ∙ f.keeps.contents; notes = g.keeps.notes ∙ f.keeps.notes };
+    known = g.known;
+    away = g.away;
+  }
+
+  -- the slot moves, and the pass knows what it knew
+  shifts : (moving : Bool) (b : Stored) (found : ℕ) (v w : View X) → ShiftTold p moving b found v w → Moves (did_load (places.Fault p) found ∷ []) (held_at v p) (Some (out_at p moving b)) v w
+  shifts moving b found v w t = record {
+    works = works-one p (did_load (places.Fault p) found) None v v.held v.frames v.contents (Some (out_at p moving b)) v.notes w (λ q ne. refl) t.brings;
+    keeps = record { frames = ap (λ (x : View X). x.frames) t.brings.view; contents = ap (λ (x : View X). x.contents) t.brings.view; notes = ap (λ (x : View X). x.notes) t.brings.view };
+    known = ap (λ (x : View X). held_at x p) t.brings.view;
+    away = ap (λ (x : View X). x.out) t.brings.view;
+  }
+
+  pub goes-out : (b : Stored) (v w : View X) (t : OutTold p b v w) → Moves (two-loads p t.first t.second) (held_at v p) (Some (out_at p false b)) v w
+  goes-out b v w t =
+      let slot : ShiftTold p true b t.first v t.between = record { brings = t.slot.brings } in
+      let f : Moves (did_load (places.Fault p) t.first ∷ []) (held_at v p) (Some (out_at p true b)) v t.between = shifts true b t.first v t.between slot in
+      let g = shifts false b t.second t.between w t.shift in
+      moves-then (did_load (places.Fault p) t.first ∷ []) (did_load (places.Fault p) t.second ∷ []) (held_at v p) (held_at v p) (Some (out_at p true b)) (Some (out_at p false b)) v t.between w f
+      record { works = g.works; keeps = g.keeps; known = g.known ∙ f.known; away = g.away }
+
+  returns : (new : Stored) (found : ℕ) (v w : View X) → ReturnTold p new found v w → Moves (did_load (places.Fault p) found ∷ []) (record (held_at v p) { block = new }) None v w
+  returns new found v w t = record {
+    works = works-one p (did_load (places.Fault p) found) (Some (p, new)) v (put p (record (held_at v p) { block = new }) v.held) v.frames v.contents None v.notes w
+        (λ q ne. upd-other (put_at no_held v.held) p (record (held_at v p) { block = new }) q ne) t.brings;
+    keeps = record { frames = ap (λ (x : View X). x.frames) t.brings.view; contents = ap (λ (x : View X). x.contents) t.brings.view; notes = ap (λ (x : View X). x.notes) t.brings.view };
+    known = ap (λ (x : View X). held_at x p) t.brings.view ∙ upd-same (put_at no_held v.held) p (record (held_at v p) { block = new });
+    away = ap (λ (x : View X). x.out) t.brings.view;
+  }
+
+  pub comes-home : (old new : Stored) (v w : View X) (t : HomeTold p old new v w) → Moves (two-loads p t.first t.second) (record (held_at v p) { block = new }) None v w
+  comes-home old new v w t =
+      let f : Moves (did_load (places.Fault p) t.first ∷ []) (held_at v p) (Some (out_at p true old)) v t.between = shifts true old t.first v t.between t.shift in
+      let g = returns new t.second t.between w t.back in
+      moves-then (did_load (places.Fault p) t.first ∷ []) (did_load (places.Fault p) t.second ∷ []) (held_at v p) (record (held_at v p) { block = new }) (Some (out_at p true old)) None v t.between w f
+      record { works = g.works; keeps = g.keeps; known = g.known ∙ ap (λ (h : Held). record h { block = new }) f.known; away = g.away }
+
+  -- both: the pass has no block out then, and knows the block as it is now
+  abbrev pub call-did : (old new : Stored) (v u w : View X) → OutTold p old v u → HomeTold p old new u w → List Did
+  call-did old new v u w o m = two-loads p o.first o.second ++ two-loads p m.first m.second
+
+  pub called : (old new : Stored) (v u w : View X) (o : OutTold p old v u) (m : HomeTold p old new u w) → Moves (call-did old new v u w o m) (record (held_at v p) { block = new }) None v w
+  called old new v u w o m =
+      let f = goes-out old v u o in
+      let g = comes-home old new u w m in
+      moves-then (two-loads p o.first o.second) (two-loads p m.first m.second) (held_at v p) (record (held_at v p) { block = new }) (Some (out_at p false old)) None v u w f
+      record { works = g.works; keeps = g.keeps; known = g.known ∙ ap (λ (h : Held). record h { block = new }) f.known; away = g.away }
+
+-- ---- what a read does
+
+-- one fault more, in both spellings
+pub more-is : (count : ℕ) → one_more count ≡ count_more count
+unfolding count_more
+more-is count = refl
+
+-- a count that a fault raises is higher, or the last one
+higher : (n : ℕ) → (nat_lt n (count_more n) || count_more n == MAX_COUNT) ≡ true
+unfolding count_more
+higher n =
+    ⊎_elim
+    (λ l. or_left (nat_lt n (min (n + 1) MAX_COUNT)) (min (n + 1) MAX_COUNT == MAX_COUNT) (lt-ltb n (min (n + 1) MAX_COUNT) (omega (arith, l))))
+    (λ le. or_right (nat_lt n (min (n + 1) MAX_COUNT)) (min (n + 1) MAX_COUNT == MAX_COUNT) (eq-eqb (min (n + 1) MAX_COUNT) MAX_COUNT (omega (arith, le))))
+    (cases_lt n MAX_COUNT)
+
+-- the fault of a call is noted
+pub noted-more : (p count : ℕ) → notes_of p count (count_more count) ≡ record { page = p; count = count_more count } ∷ []
+noted-more p count = cond-true (nat_lt count (count_more count) || count_more count == MAX_COUNT) (record { page = p; count = count_more count } ∷ []) [] (higher count)
+
+module _ {X E : Type 0} (p : ℕ) (tells : Bool) (v : View X) (old new : Stored) (into : List ℕ) (telling : v.start.tells ≡ tells) where
+  -- a read leaves the words, and counts its fault
+  pub read-did : (result : Result (Unit {0}) E) → Reads tells old new into result → DeviceDid v p old new
+  read-did (Ok u) r = idle (λ t. r.held (sym telling ∙ t)) r.count
+  read-did (Err e) r = failed (λ t. r.held (sym telling ∙ t)) (r.count ∙ more-is old.count)
+
+  pub may-bring : (result : Result (Unit {0}) E) → Reads tells old new into result → v.out ≡ Some (out_at p false old) → MayBring v p old new
+  may-bring result r out = record { out = out; did = read-did result r; bound = r.bound }
+
+-- ---- what a write does
+
+module _ {X E : Type 0} (p : ℕ) (tells : Bool) (v : View X) (old new : Stored) (given : List ℕ) (telling : v.start.tells ≡ tells) where
+  -- a write of the words that stand in the page's frame leaves them in the block, or counts its fault
+  pub write-did : (result : Result (Unit {0}) E) → Writes tells old new given result → IsSome (held_at v p).mapping → (v.start.tells ≡ true → given ≡ words_held v p) → DeviceDid v p old new
+  write-did (Ok u) r stands same = wrote stands (λ t. r.held (sym telling ∙ t) ∙ same t) r.count
+  write-did (Err e) r stands same = failed (λ t. r.held (sym telling ∙ t)) (r.count ∙ more-is old.count)
+
+  pub may-bring-written : (result : Result (Unit {0}) E) → Writes tells old new given result → IsSome (held_at v p).mapping → (v.start.tells ≡ true → given ≡ words_held v p) → v.out ≡ Some (out_at p false old) → MayBring v p old new
+  may-bring-written result r stands same out = record { out = out; did = write-did result r stands same; bound = r.bound }

@@ -1,0 +1,18 @@
+use Rattle.std.proofs.Common.{rules, ◌≡◌, ◌<◌, true, length, subst, ap, arith, refl}
+use Rattle.vm_rule.specs.Views.{view_of}
+use Rattle.vm_rule.specs.Mappings.{IsWritten}
+use Rattle.vm_step.proofs.MappingAllows.{clean-allows}
+use Rattle.vm_step.proofs.mappings.set_clean_with.Goals as goal
+
+pub store-requires : goal.store-requires
+store-requires g c =
+    let is = ap view_of c.lift-seat.ensures.2 in
+    let pages = c.args.words.now.shape.0 in
+    let wide = c.args.words.now.wide.0 in
+    let page = c.requires.page in (
+      search rules,
+      omega (arith, pages, wide, page),
+      rw (c.requires.given.0, c.requires.given.1, c.requires.given.2, c.requires.given.3)
+          (clean-allows _ _ _ _ _ _ _ _ c.args.p _ _ (subst (λ v. v.live ≡ true) is c.args.pass.now.live) (subst (λ v. 0 < length v.used) is c.requires.pass.1) pages c.args.f
+          (subst (λ v. IsWritten v c.args.p c.args.f) is c.requires.legal) refl),
+    )
