@@ -21,6 +21,8 @@ use Rattle.vm_evict.specs.Evictions.{FramesCome, HasLost, IsDropped, IsEvicted, 
 use Rattle.vm_evict.specs.Stages.{IsFate}
 use Rattle.vm_evict.specs.declared.candidate.Fate.{Fate}
 use Rattle.vm_evict.specs.declared.candidate.Fate.TheVariants as fates
+use Rattle.vm_evict.specs.Writes.{LeavesMapping}
+use Rattle.vm_evict.proofs.Copying.{kept-both, kept-silent}
 use Rattle.vm_evict.proofs.Evidenced.{none-left, written-behind}
 
 lost-behind : (a b : List Did) (at : Place) (expects : ℕ) → Each (λ d. d.wrote ≡ None) a → HasLost b at expects → HasLost (a ++ b) at expects
@@ -69,7 +71,7 @@ module _ {X : Type 0} where
           notes = e.notes ∙ o.keeps.notes;
         }
 
-    unwritten-after : (version count : ℕ) → IsUnwritten p version count v w → IsUnwritten p version count u w
+    abbrev unwritten-after : (version count : ℕ) → IsUnwritten p version count v w → IsUnwritten p version count u w
     unwritten-after version count e = record {
       done = a ++ e.done;
       aside = aside-then (λ q. q ≡ p) a e.done u v w o.aside e.aside;
@@ -78,6 +80,9 @@ module _ {X : Type 0} where
       noted = e.noted ∙ ap (λ (l : List Note). l ++ record { page = p; count = count } ∷ []) o.keeps.notes;
       frames = (e.frames.0 ∙ o.keeps.frames, e.frames.1 ∙ o.keeps.contents);
     }
+
+    failed-after : (version count : ℕ) → ((e : IsUnwritten p version count v w) × LeavesMapping p e.done) → (e : IsUnwritten p version count u w) × LeavesMapping p e.done
+    failed-after version count e = (unwritten-after version count e.0, kept-both p a e.0.done (kept-silent p a silent) e.1)
 
     missed-after : (written : Bool) → IsMissed p word written v w → IsMissed p word written u w
     missed-after written e = record {
@@ -90,5 +95,5 @@ module _ {X : Type 0} where
 
     pub fate-after : (fate : Fate) → IsFate p word v w fate → IsFate p word u w fate
     fate-after (fates.Freed frame written) e = evicted-after frame written e
-    fate-after (fates.Failed count) e = unwritten-after (version_of word) count e
+    fate-after (fates.Failed count) e = failed-after (version_of word) count e
     fate-after (fates.Lost written) e = missed-after written e

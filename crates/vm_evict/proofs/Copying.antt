@@ -25,7 +25,7 @@ use Rattle.vm_step.specs.Works.{Works}
 use Rattle.vm_step.proofs.Alone.{runs-one}
 use Rattle.vm_step.proofs.Asides.{keeps-self, keeps-then}
 use Rattle.vm_step.proofs.Leaves.{last-quiet, leaves-quiet, works-none, works-then}
-use Rattle.vm_evict.specs.Writes.{IsCopied, LeavesState, WritesOwn}
+use Rattle.vm_evict.specs.Writes.{IsCopied, LeavesMapping, LeavesState, WritesOwn}
 
 abbrev pub is-state : Place → Bool
 is-state (places.State p) = true
@@ -42,6 +42,27 @@ no-state p at other e = false≢true (sym other ∙ ap is-state e)
 
 pub leaves-both : (p : ℕ) (a b : List Did) → LeavesState p a → LeavesState p b → LeavesState p (a ++ b)
 leaves-both p a b f g = each-both (λ (d : Did). d.at ≢ places.State p) a b f g
+
+abbrev pub is-mapping : Place → Bool
+is-mapping (places.State p) = false
+is-mapping (places.Translation p) = true
+is-mapping (places.Fault p) = false
+is-mapping (places.Content f i) = false
+is-mapping (places.Bundle g) = false
+is-mapping places.Next = false
+is-mapping places.Hand = false
+
+-- another kind of word is no translation word
+pub no-mapping : (p : ℕ) (d : Did) → is-mapping d.at ≡ false → d.at ≡ places.Translation p → d.wrote ≡ None
+no-mapping p d other e = absurd (false≢true (sym other ∙ ap is-mapping e))
+
+pub kept-both : (p : ℕ) (a b : List Did) → LeavesMapping p a → LeavesMapping p b → LeavesMapping p (a ++ b)
+kept-both p a b f g = each-both (λ (d : Did). d.at ≡ places.Translation p → d.wrote ≡ None) a b f g
+
+-- steps that wrote nothing wrote no translation word
+pub kept-silent : (p : ℕ) (a : List Did) → Each (λ d. d.wrote ≡ None) a → LeavesMapping p a
+kept-silent p [] e = tt
+kept-silent p (d ∷ ds) e = (λ here. e.0, kept-silent p ds e.1)
 
 -- the frame that is read, by the seat and by what is known of the page
 abbrev frame-by : Seat → Held → Option ℕ
@@ -91,6 +112,7 @@ module _ {X : Type 0} (p : ℕ) where
     pub works : Works p done v w
     pub state : LeavesState p done
     pub own : Each (WritesOwn p) done
+    pub kept : LeavesMapping p done
     pub long : length page ≡ 64
     pub front : v.start.tells ≡ true → (k : ℕ) → k < i → slice_index page k ≡ slice_index (last_of v p).words k
     pub held : held_at w p ≡ held_at v p
@@ -103,6 +125,7 @@ module _ {X : Type 0} (p : ℕ) where
     works = works-none p v;
     state = tt;
     own = tt;
+    kept = tt;
     long = long;
     front = λ tells k l. absurd (omega (arith, l));
     held = refl;
@@ -121,6 +144,7 @@ module _ {X : Type 0} (p : ℕ) where
         works = works-then p c.done (did ∷ []) u v w c.works (load-works f i found v w shut t);
         state = leaves-both p c.done (did ∷ []) c.state (no-state p (places.Content f i) refl, tt);
         own = each-both (WritesOwn p) c.done (did ∷ []) c.own (inl refl, tt);
+        kept = kept-both p c.done (did ∷ []) c.kept ((λ here. refl), tt);
         long = length-set page i found ∙ long;
         front = λ tells k l.
             let told : v.start.tells ≡ true = ap (λ (o : Origin). o.tells) c.works.leaves.start ∙ tells in
@@ -143,6 +167,7 @@ module _ {X : Type 0} (p : ℕ) where
     works = c.works;
     state = c.state;
     own = c.own;
+    kept = c.kept;
     same = λ tells. ext_get_or 0 page (last_of v p).words (c.long ∙ sym size) (λ k l. c.front tells k (let long : length page ≡ 64 = c.long in omega (arith, l, long, all)));
     held = c.held;
     keeps = c.keeps;

@@ -26,6 +26,7 @@ use Rattle.vm_step.proofs.Asides.{OnlyReads, alone-silent, lost-only}
 use Rattle.vm_step.proofs.Leaves.{leaves-quiet}
 use Rattle.vm_evict.specs.Evictions.{IsMissed}
 use Rattle.vm_evict.specs.Stages.{IsOwning, IsSeenClean, IsWriting, owning_seat, writing_seat}
+use Rattle.vm_evict.proofs.Copying.{no-mapping}
 use Rattle.vm_evict.proofs.Evidenced.{has-lost, same-number, taken-view, wrote-taken}
 
 -- a marked page is not evicted
@@ -104,6 +105,7 @@ module _ {X : Type 0} (tied : Start → ℕ → List ℕ → ℕ → List ℕ �
     keeps = record { frames = ap (λ (y : View X). y.frames) share-brings.view; contents = ap (λ (y : View X). y.contents) share-brings.view; notes = ap (λ (y : View X). y.notes) share-brings.view };
     shared = record { earlier = []; step = share-did; later = []; cut = refl; place = refl; wrote = wrote-taken word (word_of 1 (version_of word)) };
     foreign = λ found ne. ((λ here is. ne (same-number found (word_of 1 (version_of word)) (sym is ∙ wrote-taken word (word_of 1 (version_of word))))), tt);
+    kept = λ _. (no-mapping p share-did refl, tt);
     resident = subst (λ (k : Held). IsSome k.mapping) (sym share-held) (share-stands.resident (not-evicted word marked));
     stored = λ tells clean.
         ap (λ (k : Held). k.block.words) share-held

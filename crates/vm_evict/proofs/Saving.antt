@@ -26,8 +26,8 @@ use Rattle.vm_step.specs.Works.{Works}
 use Rattle.vm_step.proofs.Asides.{keeps-then}
 use Rattle.vm_evict.specs.Evictions.{IsUnwritten}
 use Rattle.vm_evict.specs.Stages.{IsCleanAt, IsTaken, IsWriting, writing_seat}
-use Rattle.vm_evict.specs.Writes.{IsCleaned, IsRefused, IsToWrite}
-use Rattle.vm_evict.proofs.Copying.{no-state}
+use Rattle.vm_evict.specs.Writes.{IsCleaned, IsRefused, IsToWrite, LeavesMapping}
+use Rattle.vm_evict.proofs.Copying.{kept-both, no-mapping, no-state}
 use Rattle.vm_evict.proofs.Evidenced.{none-there, written-behind, written-front}
 use Rattle.vm_evict.proofs.Taken.{given-aside, given-keeps, locks-now, said-frame, taken-works, tload-keeps, tload-works, unshare-did}
 
@@ -72,6 +72,9 @@ module _ {X : Type 0} (p word : ℕ) (v x : View X) (h : IsWriting p word false 
     shared-loaded : HasWritten (h.done ++ load-did ∷ []) (places.State p) (word_of 1 (version_of word))
     shared-loaded = written-front h.done (load-did ∷ []) (places.State p) (word_of 1 (version_of word)) h.shared
 
+    kept-loaded : LeavesMapping p (h.done ++ load-did ∷ [])
+    kept-loaded = kept-both p h.done (load-did ∷ []) (h.kept refl) ((λ here. refl), tt)
+
     resident-loaded : IsSome (held_at a p).mapping
     resident-loaded = subst (λ (k : Held). IsSome k.mapping) (sym held-loaded) h.resident
 
@@ -84,6 +87,7 @@ module _ {X : Type 0} (p word : ℕ) (v x : View X) (h : IsWriting p word false 
       keeps = keeps-loaded;
       shared = shared-loaded;
       foreign = foreign-loaded;
+      kept = λ _. kept-loaded;
       resident = resident-loaded;
       stored = λ tells clean.
           ap (λ (k : Held). k.block.words) held-loaded
@@ -128,6 +132,7 @@ module _ {X : Type 0} (p word : ℕ) (v x : View X) (h : IsWriting p word false 
           shared = written-front (h.done ++ load-did ∷ []) c.done (places.State p) (word_of 1 (version_of word)) shared-loaded;
           foreign = λ found ne.
               each-both (λ (d : Did). d.at ≡ places.State p → d.wrote ≢ Some found) (h.done ++ load-did ∷ []) c.done (foreign-loaded found ne) (none-there c.done (places.State p) found c.state);
+          kept = λ e. absurd (false≢true (sym e));
           resident = subst (λ (m : Option Mapping). IsSome m) (sym c.stands) refl;
           stored = λ tells _. c.stored (ap (λ (o : Origin). o.tells) (sym c.works.leaves.start) ∙ tells);
           cleaned = λ _. (f, c.stands, written-behind (h.done ++ load-did ∷ []) c.done (places.Translation p) (trans_word (Some (clean_in f))) c.cleaned);
@@ -147,18 +152,26 @@ module _ {X : Type 0} (p word : ℕ) (v x : View X) (h : IsWriting p word false 
           abbrev end-did : Did
           end-did = unshare-did p word tried v b held-on last w u
 
-          pub unwritten : IsUnwritten p (version_of word) count v w
-          unwritten =
-              let gone = given-keeps p word tried v b held-on last w u in
-              record {
-                done = tried ++ end-did ∷ [];
-                aside = given-aside p word tried v b held-on last w u;
-                shared =
-                    written-front tried (end-did ∷ []) (places.State p) (word_of 1 (version_of word))
-                    (written-front (h.done ++ load-did ∷ []) r.done (places.State p) (word_of 1 (version_of word)) shared-loaded);
-                raised =
-                    written-front tried (end-did ∷ []) (places.Fault p) count
-                    (written-behind (h.done ++ load-did ∷ []) r.done (places.Fault p) count r.raised);
-                noted = gone.notes ∙ r.noted ∙ ap (λ (l : List Note). l ++ record { page = p; count = count } ∷ []) keeps-loaded.notes;
-                frames = (gone.frames ∙ r.frames.0 ∙ keeps-loaded.frames, gone.contents ∙ r.frames.1 ∙ keeps-loaded.contents);
-              }
+          gone : KeepsFrames b w
+          gone = given-keeps p word tried v b held-on last w u
+
+          abbrev refused : IsUnwritten p (version_of word) count v w
+          refused = record {
+            done = tried ++ end-did ∷ [];
+            aside = given-aside p word tried v b held-on last w u;
+            shared =
+                written-front tried (end-did ∷ []) (places.State p) (word_of 1 (version_of word))
+                (written-front (h.done ++ load-did ∷ []) r.done (places.State p) (word_of 1 (version_of word)) shared-loaded);
+            raised =
+                written-front tried (end-did ∷ []) (places.Fault p) count
+                (written-behind (h.done ++ load-did ∷ []) r.done (places.Fault p) count r.raised);
+            noted = gone.notes ∙ r.noted ∙ ap (λ (l : List Note). l ++ record { page = p; count = count } ∷ []) keeps-loaded.notes;
+            frames = (gone.frames ∙ r.frames.0 ∙ keeps-loaded.frames, gone.contents ∙ r.frames.1 ∙ keeps-loaded.contents);
+          }
+
+          -- the page keeps its translation
+          pub unwritten : (e : IsUnwritten p (version_of word) count v w) × LeavesMapping p e.done
+          unwritten = (
+            refused,
+            kept-both p tried (end-did ∷ []) (kept-both p (h.done ++ load-did ∷ []) r.done kept-loaded r.kept) (no-mapping p end-did refl, tt),
+          )

@@ -155,13 +155,13 @@ module _ {X : Type 0} where
         let all : old.report.freed + (old.report.failed + old.report.lost) ≡ n = t.all in
         let below : old.report.written ≤ n = t.written in
         record {
-          each = (x, old.report, old.frames, c, there, t.each, failed count e added.0 added.1);
+          each = (x, old.report, old.frames, c, there, t.each, failed count e.0 e.1 added.0 added.1);
           all = ap (λ (r : Report). r.freed + (r.failed + r.lost)) added.0 ∙ omega (arith, all);
           count = ap length added.1 ∙ t.count ∙ ap (λ (r : Report). r.freed) (sym added.0);
           written = subst (λ (r : Report). r.written ≤ suc n) (sym added.0) (omega (arith, below));
-          done = t.done ++ e.done;
-          aside = more-aside e.done e.aside;
-          frames = subst (λ (l : List ℕ). FramesCome l v w) (sym added.1) (come-still old.frames v x w e.frames.0 e.frames.1 t.frames);
+          done = t.done ++ e.0.done;
+          aside = more-aside e.0.done e.0.aside;
+          frames = subst (λ (l : List ℕ). FramesCome l v w) (sym added.1) (come-still old.frames v x w e.0.frames.0 e.0.frames.1 t.frames);
         }
     tallies-more (fates.Lost was) e added =
         let all : old.report.freed + (old.report.failed + old.report.lost) ≡ n = t.all in

@@ -31,8 +31,8 @@ use Rattle.vm_step.specs.Works.{Works}
 use Rattle.vm_step.proofs.Asides.{keeps-then}
 use Rattle.vm_step.proofs.Device.{Moves, comes-home, goes-out, may-bring-written, more-is, noted-more, two-loads}
 use Rattle.vm_step.proofs.Leaves.{works-one, works-then}
-use Rattle.vm_evict.specs.Writes.{IsCleaned, IsCopied, IsRefused, IsToWrite, LeavesState, WritesOwn}
-use Rattle.vm_evict.proofs.Copying.{leaves-both, no-state, reads-same}
+use Rattle.vm_evict.specs.Writes.{IsCleaned, IsCopied, IsRefused, IsToWrite, LeavesMapping, LeavesState, WritesOwn}
+use Rattle.vm_evict.proofs.Copying.{kept-both, leaves-both, no-mapping, no-state, reads-same}
 
 -- the frame of a page that is shared and resident is read
 shared-frame : (e b s : Bool) (x y : Option ℕ) → b ≡ true → s ≡ true → (if (e || b) && s then x else y) ≡ x
@@ -123,6 +123,10 @@ module _ {X : Type 0} (p f : ℕ) (v : View X) (r : IsToWrite p f v) where
           state-called =
               let away = no-state p (places.Fault p) refl in
               leaves-both p copied-did home-did (leaves-both p out-did k.done (away, (away, tt)) k.state) (away, (away, tt))
+
+          kept-called : LeavesMapping p called-did
+          kept-called =
+              kept-both p copied-did home-did (kept-both p out-did k.done ((λ here. refl), ((λ here. refl), tt)) k.kept) ((λ here. refl), ((λ here. refl), tt))
 
           own-called : Each (WritesOwn p) called-did
           own-called =
@@ -229,6 +233,7 @@ module _ {X : Type 0} (p f : ℕ) (v : View X) (r : IsToWrite p f v) where
                 works = works-then p called-did (raise-did ∷ []) v d w work-called raise-work;
                 state = leaves-both p called-did (raise-did ∷ []) state-called (no-state p (places.Fault p) refl, tt);
                 own = each-both (WritesOwn p) called-did (raise-did ∷ []) own-called (inr (inr refl), tt);
+                kept = kept-both p called-did (raise-did ∷ []) kept-called (no-mapping p raise-did refl, tt);
                 raised = record { earlier = called-did; step = raise-did; later = []; cut = refl; place = refl; wrote = refl };
                 noted =
                     ap (λ (y : View X). y.notes) t.brings.view

@@ -19,6 +19,7 @@ use Rattle.vm_step.specs.Asides.{IsAside, IsAsideOf, KeepsFrames}
 use Rattle.vm_step.specs.Evidence.{HasWritten, IsLost}
 use Rattle.vm_clock.specs.Clock.{pages_of}
 use Rattle.vm_clock.specs.declared.Looks.{Looks}
+use Rattle.vm_evict.specs.Writes.{LeavesMapping}
 use Rattle.vm_evict.specs.declared.report.Report.{Report}
 
 -- an exchange of these steps expected this word, and found another, which none of the steps before had left there
@@ -87,10 +88,10 @@ module _ {X : Type 0} where
 
   -- ---- a list of candidates
 
-  -- what one more candidate adds to the frames and to the report
+  -- what one more candidate adds to the frames and to the report; where its write failed, it keeps its translation: its frame, and dirty
   pub data Adds (c : ℕ × ℕ) (v w : View X) (old new : Report) (frames batch : List ℕ) : Type 0 where
     freed : (frame : ℕ) (written : Bool) → IsEvicted c.0 c.1 frame written v w → new ≡ record old { freed = old.freed + 1; written = old.written + one_if written } → batch ≡ frames ++ frame ∷ [] → Adds c v w old new frames batch
-    failed : (count : ℕ) → IsUnwritten c.0 (version_of c.1) count v w → new ≡ record old { failed = old.failed + 1; first_failed = first_pair old.first_failed (c.0, count) } → batch ≡ frames → Adds c v w old new frames batch
+    failed : (count : ℕ) (u : IsUnwritten c.0 (version_of c.1) count v w) → LeavesMapping c.0 u.done → new ≡ record old { failed = old.failed + 1; first_failed = first_pair old.first_failed (c.0, count) } → batch ≡ frames → Adds c v w old new frames batch
     lost : (written : Bool) → IsMissed c.0 c.1 written v w → new ≡ record old { lost = old.lost + 1; written = old.written + one_if written } → batch ≡ frames → Adds c v w old new frames batch
 
   -- the first n candidates of the list, one after another

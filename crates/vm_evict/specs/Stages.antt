@@ -21,6 +21,7 @@ use Rattle.vm_step.specs.Evidence.{HasWritten}
 use Rattle.vm_step.specs.Works.{Leaves}
 use Rattle.vm_clock.specs.declared.Looks.{Looks}
 use Rattle.vm_evict.specs.Evictions.{IsEvicted, IsMissed, IsUnwritten, first_pair, one_if}
+use Rattle.vm_evict.specs.Writes.{LeavesMapping}
 use Rattle.vm_evict.specs.declared.report.Evicted.{Evicted}
 use Rattle.vm_evict.specs.declared.report.Report.{Report}
 use Rattle.vm_evict.specs.declared.candidate.Fate.{Fate}
@@ -74,6 +75,7 @@ module _ {X : Type 0} where
     pub keeps : KeepsFrames v x
     pub shared : HasWritten done (places.State p) (word_of 1 (version_of word))
     pub foreign : (found : ℕ) → found ≢ word_of 1 (version_of word) → Each (λ d. d.at ≡ places.State p → d.wrote ≢ Some found) done
+    pub kept : written ≡ false → LeavesMapping p done
     pub resident : IsSome (held_at x p).mapping
     pub stored : x.start.tells ≡ true → ((m : Mapping) → (held_at x p).mapping ≡ Some m → m.dirty ≡ false) → (held_at x p).block.words ≡ (last_of x p).words
     pub cleaned : written ≡ true → (frame : ℕ) × ((held_at x p).mapping ≡ Some (clean_in frame)) × HasWritten done (places.Translation p) (trans_word (Some (clean_in frame)))
@@ -95,10 +97,10 @@ module _ {X : Type 0} where
   -- a page under write-back is clean, and was written where it was dirty; or the write failed, and the share is given up
   abbrev pub IsSaved : ℕ → ℕ → View X → View X → Result Bool ℕ → Type 0
   IsSaved p word v x (Ok written) = IsWriting p word written v x × IsCleanAt p x
-  IsSaved p word v x (Err count) = IsUnwritten p (version_of word) count v x
+  IsSaved p word v x (Err count) = (u : IsUnwritten p (version_of word) count v x) × LeavesMapping p u.done
 
   -- what became of a candidate
   abbrev pub IsFate : ℕ → ℕ → View X → View X → Fate → Type 0
   IsFate p word v w (fates.Freed frame written) = IsEvicted p word frame written v w
-  IsFate p word v w (fates.Failed count) = IsUnwritten p (version_of word) count v w
+  IsFate p word v w (fates.Failed count) = (u : IsUnwritten p (version_of word) count v w) × LeavesMapping p u.done
   IsFate p word v w (fates.Lost written) = IsMissed p word written v w

@@ -17,6 +17,10 @@ use Rattle.vm_step.specs.Works.{Works}
 abbrev pub LeavesState : ℕ → List Did → Type 0
 LeavesState p done = Each (λ d. d.at ≢ places.State p) done
 
+-- none of the steps wrote the translation word of page p
+abbrev pub LeavesMapping : ℕ → List Did → Type 0
+LeavesMapping p done = Each (λ d. d.at ≡ places.Translation p → d.wrote ≡ None) done
+
 -- the step wrote no word, or the page's translation word or its fault word
 abbrev pub WritesOwn : ℕ → Did → Type 0
 WritesOwn p d = (d.wrote ≡ None) ⊎ ((d.at ≡ places.Translation p) ⊎ (d.at ≡ places.Fault p))
@@ -53,6 +57,7 @@ module _ {X : Type 0} where
     pub works : Works p done v w
     pub state : LeavesState p done
     pub own : Each (WritesOwn p) done
+    pub kept : LeavesMapping p done
     pub raised : HasWritten done (places.Fault p) count
     pub noted : w.notes ≡ v.notes ++ record { page = p; count = count } ∷ []
     pub stands : (held_at w p).mapping ≡ Some (dirty_in f)
@@ -71,6 +76,7 @@ module _ {X : Type 0} where
     pub works : Works p done v w
     pub state : LeavesState p done
     pub own : Each (WritesOwn p) done
+    pub kept : LeavesMapping p done
     pub same : v.start.tells ≡ true → words ≡ (last_of v p).words
     pub held : held_at w p ≡ held_at v p
     pub keeps : KeepsFrames v w

@@ -20,7 +20,7 @@ module _ {X : Type 0} where
 
   one-looks : (c : ℕ × ℕ) (v w : View X) (old new : Report) (frames batch : List ℕ) → Adds c v w old new frames batch → new.looks ≡ old.looks
   one-looks c v w old new frames batch (adds.freed frame written is e b) = ap (λ (r : Report). r.looks) e
-  one-looks c v w old new frames batch (adds.failed count is e b) = ap (λ (r : Report). r.looks) e
+  one-looks c v w old new frames batch (adds.failed count is kept e b) = ap (λ (r : Report). r.looks) e
   one-looks c v w old new frames batch (adds.lost written is e b) = ap (λ (r : Report). r.looks) e
 
   all-looks : (list : List (ℕ × ℕ)) (looks : Looks) (n : ℕ) (v w : View X) (report : Report) (batch : List ℕ) → Evicts list looks n v w report batch → report.looks ≡ looks
