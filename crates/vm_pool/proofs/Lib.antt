@@ -4,3 +4,4 @@ pub mod LastState
 pub mod AtOnce
 pub mod Sweeping
 pub mod Bringing
+pub mod Alone

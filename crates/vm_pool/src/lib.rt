@@ -7,6 +7,7 @@ mod bring_tests;
 mod closing;
 mod ended;
 mod pool;
+pub mod round_trip;
 #[cfg(test)]
 mod tests;
 mod told;
