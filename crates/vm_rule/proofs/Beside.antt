@@ -1,5 +1,5 @@
 -- Beside a pass with all parts every other has none, so it holds nothing: a page that such a pass has not locked is not locked.
-use Rattle.std.proofs.Common.{ℕ, Bool, true, false, true≢false, ◌≡◌, ◌≢◌, ◌⊎◌, ◌+◌, ◌<◌, ◌≤◌, Option, List, [], ◌∷◌, length, zero, suc, refl, sym, ap, subst, ◌∙◌, inl, inr, arith, ⊎_elim}
+use Rattle.std.proofs.Common.{ℕ, Bool, false, true≢false, ◌≡◌, ◌≢◌, ◌⊎◌, ◌+◌, ◌<◌, ◌≤◌, Option, List, [], ◌∷◌, length, zero, suc, refl, sym, ap, subst, ◌∙◌, inl, inr, arith, ⊎_elim}
 use Rattle.std.proofs.lemmas.Bool.{cases_Bool, cases_eq, cases_lt, eq-eqb, lt-ltb}
 use mathlib.Core.Option.{some}
 use lib.ListN.{get_elem?}

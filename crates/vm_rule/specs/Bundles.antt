@@ -1,6 +1,6 @@
 -- What the steps on a bundle word and on the hand tell. Frames that are taken come to the pass with their words; frames that are given back
 -- leave it.
-use Rattle.std.specs.Prelude.{ℕ, true, false, List, [], ◌∷◌, ◌++◌, ◌≡◌, ◌≢◌, ◌+◌, ◌*◌, ◌<◌, ◌==◌, length, zero, suc, bit_and, bit_or, bit_xor, if◌then◌else◌}
+use Rattle.std.specs.Prelude.{ℕ, true, false, List, [], ◌∷◌, ◌++◌, ◌≡◌, ◌+◌, ◌*◌, ◌<◌, ◌==◌, length, zero, suc, bit_and, bit_or, bit_xor, if◌then◌else◌}
 use Rattle.std.specs.Int.{bit_at}
 use Rattle.vm_core.specs.Words.{in_mask, hand_more}
 use Rattle.vm_owner.specs.Numbers.{has}

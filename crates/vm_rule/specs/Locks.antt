@@ -4,7 +4,7 @@ use Rattle.std.specs.Prelude.{ℕ, Bool, true, false, Some, None, List, [], ◌�
 use Rattle.vm_core.specs.declared.event.Mapping.{Mapping}
 use Rattle.vm_core.specs.declared.event.Open.{Open}
 use Rattle.vm_core.specs.declared.event.Seat.{Seat}
-use Rattle.vm_core.specs.Words.{state_of, version_of, word_of, UNLOCKED, LOCKED, MARKED, EVICTED, MAX_VERSION}
+use Rattle.vm_core.specs.Words.{state_of, version_of, word_of, LOCKED, EVICTED, MAX_VERSION}
 use Rattle.vm_core.specs.FrameActs.{mapping_of}
 use Rattle.vm_core.specs.StateActs.{unshared, one_more}
 use Rattle.vm_core.specs.Inv.{LoadsAre}

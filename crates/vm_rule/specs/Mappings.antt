@@ -1,5 +1,5 @@
 -- What the steps on a page's translation word tell: a page is put into a frame of the pass, or taken out of its frame; it is made dirty, or clean.
-use Rattle.std.specs.Prelude.{ℕ, Bool, true, false, Option, Some, None, List, [], ◌∷◌, ◌≡◌, ◌⊎◌, ◌<◌, length, IsSome}
+use Rattle.std.specs.Prelude.{ℕ, Bool, true, false, Option, Some, None, List, [], ◌∷◌, ◌≡◌, ◌<◌, length}
 use Rattle.vm_core.specs.declared.event.Mapping.{Mapping}
 use Rattle.vm_core.specs.FrameActs.{trans_word}
 use Rattle.vm_owner.specs.Numbers.{has, without}
@@ -8,7 +8,7 @@ use Rattle.vm_rule.specs.declared.view.Put.{Put}
 use Rattle.vm_rule.specs.declared.view.Place.TheVariants as places
 use Rattle.vm_rule.specs.declared.view.View.{View}
 use Rattle.vm_rule.specs.Puts.{put_at, put}
-use Rattle.vm_rule.specs.Views.{seat_of, may_call}
+use Rattle.vm_rule.specs.Views.{seat_of}
 use Rattle.vm_rule.specs.Reading.{last_of}
 use Rattle.vm_rule.specs.Rule.{no_held}
 use Rattle.vm_rule.specs.Brought.{Brings}

@@ -1,6 +1,6 @@
 -- What the moves of a page's block tell. Each is two loads of the page's fault word: at the first the slot goes to the pass, at the second
 -- it is back. A block that is taken out leaves its slot empty; one that comes home may have had one call of its device.
-use Rattle.std.specs.Prelude.{ℕ, Bool, true, false, Option, Some, None, List, [], ◌≡◌, ◌⊎◌, IsSome, if◌then◌else◌}
+use Rattle.std.specs.Prelude.{ℕ, Bool, true, false, Some, None, List, [], ◌≡◌, IsSome, if◌then◌else◌}
 use Rattle.vm_core.specs.Fn.{at}
 use Rattle.vm_core.specs.Words.{count_more}
 use Rattle.vm_block.specs.declared.stored.Stored.{Stored}
@@ -8,7 +8,7 @@ use Rattle.vm_rule.specs.declared.view.Out.{Out}
 use Rattle.vm_rule.specs.declared.view.Place.TheVariants as places
 use Rattle.vm_rule.specs.declared.view.View.{View}
 use Rattle.vm_rule.specs.Puts.{put}
-use Rattle.vm_rule.specs.Views.{seat_of, may_call, draft_of}
+use Rattle.vm_rule.specs.Views.{seat_of, draft_of}
 use Rattle.vm_rule.specs.Reading.{last_of}
 use Rattle.vm_rule.specs.Brought.{Brings, BringsWith}
 use Rattle.vm_rule.specs.Log.{did_load}

@@ -1,5 +1,5 @@
 -- Beside a pass with all parts every other pass has none, so it holds nothing; and what it has still to release, or owes, it would hold.
-use Rattle.std.proofs.Common.{ℕ, Bool, true, true≢false, ◌≡◌, ◌≢◌, ◌+◌, ◌≤◌, Option, List, [], ◌∷◌, refl, sym, ap, subst, ◌∙◌, arith, ⊎_elim}
+use Rattle.std.proofs.Common.{ℕ, Bool, true, false, true≢false, ◌≡◌, ◌≢◌, ◌≤◌, Option, List, [], ◌∷◌, refl, sym, ap, subst, ◌∙◌, arith, ⊎_elim}
 use Rattle.std.proofs.lemmas.Bool.{cases_Bool, eq-eqb}
 use mathlib.Core.Option.{some}
 use lib.ListN.{get_elem?}
@@ -9,7 +9,7 @@ use Rattle.vm_owner.specs.Numbers.{has}
 use Rattle.vm_block.specs.declared.stored.Stored.{Stored}
 use Rattle.vm_rule.specs.declared.view.Origin.{Origin}
 use Rattle.vm_rule.specs.declared.view.View.{View}
-use Rattle.vm_rule.specs.Views.{times, owns, spent}
+use Rattle.vm_rule.specs.Views.{times, seat_of, owns, spent}
 use Rattle.vm_rule.specs.Reading.{world_of}
 use Rattle.vm_rule.specs.Rule.{is_pending, HoldsNothing, KnowsPages, Ruled}
 use Rattle.vm_rule.proofs.Beside.{no-times, more-left, more-right}
@@ -23,19 +23,27 @@ no-number [] none = refl
 no-number (n ∷ ns) none = absurd (none n (rw (eq-eqb n n refl) refl))
 
 module _ {X B : Type 0} (stored : B → Stored) (keeps : Start → Kept X → Type 0) (tied : Start → ℕ → List ℕ → ℕ → List ℕ → Type 0) (start : Origin) (tells : Bool) (s : Table (Option B) (View X)) (r : Ruled stored keeps tied start tells s) where
+  -- a member still to be released is locked exclusively by its pass, and so is a page that is owed
+  pub without-locks : (j : ℕ) (u : View X) → get_elem? s.views j ≡ some u → u.live ≡ true → ((p : ℕ) → (seat_of u p).exclusive ≡ false) → (u.pending ≡ []) × (u.owed ≡ [])
+  without-locks j u there on free =
+      let knows : KnowsPages tied start (world_of stored start r.releases r.drafts s) (is_pending s.views) u = r.known j u there on in (
+        no-number u.pending (λ p x. true≢false (sym (knows.pending p x).0 ∙ free p)),
+        no-number u.owed (λ p x. true≢false (sym (knows.owed p x).0 ∙ free p)),
+      )
+
   -- a live pass without a part has nothing
   without-parts : (j : ℕ) (u : View X) → get_elem? s.views j ≡ some u → u.live ≡ true → ((k : ℕ) → 1 ≤ owns k u → ⊥) → HasNothing u
   without-parts j u there on none =
       let used : u.used ≡ [] = no-times u.used (λ n l. none n (more-left (times n u.used) (times n u.fresh) l)) in
       let fresh : u.fresh ≡ [] = no-times u.fresh (λ n l. none n (more-right (times n u.used) (times n u.fresh) l)) in
       let idle : HoldsNothing u = (r.heard j u there on).idle used fresh in
-      let knows : KnowsPages tied start (world_of stored start r.releases r.drafts s) (is_pending s.views) u = r.known j u there on in
+      let none-left : (u.pending ≡ []) × (u.owed ≡ []) = without-locks j u there on idle.exclusive in
       record {
         used = used;
         fresh = fresh;
         holds = idle;
-        pending = no-number u.pending (λ p x. true≢false (sym (knows.pending p x).0 ∙ idle.exclusive p));
-        owed = no-number u.owed (λ p x. true≢false (sym (knows.owed p x).0 ∙ idle.exclusive p));
+        pending = none-left.0;
+        owed = none-left.1;
       }
 
   spent-has-nothing : HasNothing {X = X} spent

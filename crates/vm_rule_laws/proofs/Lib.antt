@@ -4,3 +4,4 @@ pub mod Histories
 pub mod Knowing
 pub mod Standing
 pub mod Begun
+pub mod Noted

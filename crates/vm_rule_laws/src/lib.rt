@@ -2,7 +2,7 @@
 //! pass, such as one that closes it. A law is a function without a body whose contract is the law.
 #![tactic(auto)]
 
-ghost use Rattle.std.specs.Prelude.{◌≡◌, ◌≢◌, ◌<◌, ℕ, Option, [], true};
+ghost use Rattle.std.specs.Prelude.{◌≡◌, ◌≢◌, ◌<◌, ℕ, Option, [], false, true};
 ghost use mathlib.Core.Option.{some};
 ghost use lib.ListN.{get_elem?};
 ghost use Rattle.atomic_table.specs.Table.{State as Table};
@@ -14,6 +14,7 @@ ghost use Rattle.vm_rule.specs.Rule.{Ruled, began_of};
 ghost use Rattle.vm_rule.specs.Views.{seat_of};
 ghost use Rattle.vm_rule_laws.specs.Alone.{HasNothing};
 ghost use Rattle.vm_rule_laws.specs.Known.{HasStepped, IsWholePass, KnowsTable, kept_by};
+ghost use Rattle.vm_rule_laws.specs.Noted.{NotesStand};
 ghost use Rattle.vm_rule_laws.specs.Standing.{PageStands};
 
 use vm_block::Block;
@@ -61,6 +62,16 @@ pub fn a_whole_pass_knows_what_is_kept<U: Owner, B: Block>()
 /// Such a pass knows where each page's last words stand: in the frame or in the block that its snapshot shows.
 pub fn pages_stand_as_the_snapshot_shows<U: Owner, B: Block>()
     ensures { (start : Origin) (s : Table (Option B) (View U.Said)) → Ruled B.stored U.keeps U.tied start B.tells s → (id : ℕ) (v : View U.Said) → HasStepped s.views id v → (p : ℕ) → p < start.pages → PageStands start v.releases v.snapshot (seat_of v p) p }
+{}
+
+/// Such a pass has noted only faults that the blocks counted, each once below the last count, as its snapshot shows the blocks.
+pub fn notes_stand_as_the_snapshot_shows<U: Owner, B: Block>()
+    ensures { (start : Origin) (s : Table (Option B) (View U.Said)) → Ruled B.stored U.keeps U.tied start B.tells s → (id : ℕ) (v : View U.Said) → HasStepped s.views id v → NotesStand v.snapshot v.notes }
+{}
+
+/// A pass that has locked no page exclusively has no member of a group still to be released, and owes no page.
+pub fn a_pass_without_locks_owes_nothing<U: Owner, B: Block>()
+    ensures { (start : Origin) (s : Table (Option B) (View U.Said)) → Ruled B.stored U.keeps U.tied start B.tells s → (id : ℕ) (v : View U.Said) → get_elem? s.views id ≡ some v → v.live ≡ true → ((p : ℕ) → (seat_of v p).exclusive ≡ false) → (v.pending ≡ []) × (v.owed ≡ []) }
 {}
 
 /// A pass that owes no page knows that none is owed.

@@ -1,17 +1,19 @@
 -- The steps of a pass that is alone, one after another: each finds the word that the step before left.
-use Rattle.std.proofs.Common.{ℕ, true, Option, List, [], ◌∷◌, ◌++◌, ◌≡◌, refl, sym, ap, subst, ◌∙◌, append_assoc}
+use Rattle.std.proofs.Common.{ℕ, true, Option, Some, None, List, [], ◌∷◌, ◌++◌, ◌≡◌, ◌≢◌, ◌⊎◌, refl, sym, ap, subst, ◌∙◌, ⊎_elim, append_assoc, slice_index}
+use Rattle.std.proofs.lemmas.List.{get_or-set_other}
+use Rattle.std.proofs.lemmas.Option.{none-some}
 use Rattle.vm_block.specs.declared.stored.Stored.{Stored}
 use Rattle.vm_owner.specs.declared.Entry.{Entry}
 use Rattle.vm_rule.specs.declared.view.Did.{Did}
 use Rattle.vm_rule.specs.declared.view.Origin.{Origin}
+use Rattle.vm_rule.specs.declared.view.Place.{Place}
 use Rattle.vm_rule.specs.declared.view.Release.{Release}
 use Rattle.vm_rule.specs.declared.view.View.{View}
 use Rattle.vm_rule.specs.Layout.{index_of}
-use Rattle.vm_rule.specs.Views.{IsWhole}
-use Rattle.vm_rule.specs.Reading.{last_in, last_of}
-use Rattle.vm_rule.specs.Brought.{BringsWith, set_if}
+use Rattle.vm_rule.specs.Reading.{last_in}
+use Rattle.vm_rule.specs.Brought.{BringsWith, IsFoundAt, set_if}
 use Rattle.vm_rule.proofs.Entries.{append-none}
-use Rattle.vm_step.specs.Alone.{Follows, RunsAlone}
+use Rattle.vm_step.specs.Alone.{Follows, IsAlone, RunsAlone, word_at}
 use Rattle.vm_step.specs.Asides.{StaysAlone}
 use Rattle.vm_step.proofs.Asides.{whole-then}
 
@@ -19,7 +21,30 @@ pub follows-then : (start : Origin) (a b : List Did) (x y z : List ℕ) → Foll
 follows-then start [] b x y z f g = subst (λ (t : List ℕ). Follows start b t z) f g
 follows-then start (d ∷ ds) b x y z f g = (f.0, follows-then start ds b (set_if d.wrote (index_of start d.at) x) y z f.1 g)
 
+-- a place where no word was written
+pub set-else : (o : Option ℕ) (i j : ℕ) (ws : List ℕ) → (o ≡ None) ⊎ (j ≢ i) → slice_index (set_if o i ws) j ≡ slice_index ws j
+set-else None i j ws h = refl
+set-else (Some x) i j ws h = ⊎_elim (λ e. absurd (none-some x (sym e))) (λ ne. get_or-set_other ws i j x 0 ne) h
+
 module _ {X : Type 0} where
+  -- a pass that is alone is so after steps that leave its parts
+  pub still-alone : (v w : View X) → (w.used ≡ v.used) × (w.fresh ≡ v.fresh) → (v.current ≡ true → w.current ≡ true) → IsAlone v → IsAlone w
+  still-alone v w parts current a = (whole-then v w parts a.0, current a.1)
+
+  -- where two views show the same words, they show the same one at each place
+  pub same-word : (v w : View X) → w.start ≡ v.start → w.snapshot.words ≡ v.snapshot.words → (at : Place) → word_at w at ≡ word_at v at
+  same-word v w start words at = ap (λ (o : Origin). slice_index w.snapshot.words (index_of o at)) start ∙ ap (λ (t : List ℕ). slice_index t (index_of v.start at)) words
+
+  -- its step finds the word that it knew
+  pub found-known : (did : Did) (n : ℕ) (block : Option (ℕ × Stored)) (own : List Release) (entries : List (Entry X)) (v inner w : View X) → BringsWith did block own entries v inner w → did.found ≡ Some n → IsAlone v
+      → n ≡ word_at v did.at
+  found-known did n block own entries v inner w b found a = subst (λ (o : Option ℕ). IsFoundAt o (index_of v.start did.at) v.snapshot.words) found (b.alone a.0 a.1).2.found
+
+  -- and leaves all words where it wrote nothing
+  pub words-known : (did : Did) (block : Option (ℕ × Stored)) (own : List Release) (entries : List (Entry X)) (v inner w : View X) → BringsWith did block own entries v inner w → did.wrote ≡ None → IsAlone v → w.snapshot.words ≡ v.snapshot.words
+  words-known did block own entries v inner w b none a =
+      ap (λ (x : View X). x.snapshot.words) b.view ∙ (b.alone a.0 a.1).2.words ∙ ap (λ (o : Option ℕ). set_if o (index_of v.start did.at) v.snapshot.words) none
+
   pub runs-self : (v : View X) → RunsAlone [] [] v v
   runs-self v = record { current = λ e. e; releases = λ _ _. sym (append-none v.releases); words = λ _ _. refl }
 

@@ -1,5 +1,5 @@
 -- One call of the device of a page that the pass has locked: its block is taken out, read or written, and brought home.
-use Rattle.std.proofs.Common.{ℕ, ◌≡◌, ◌≢◌, ◌+◌, ◌==◌, ◌||◌, ◌++◌, nat_lt, min, if◌then◌else◌, Bool, true, false, List, [], ◌∷◌, Option, Some, None, IsSome, Result, Ok, Err, refl, sym, ap, subst, ◌∙◌, ⊎_elim, arith}
+use Rattle.std.proofs.Common.{ℕ, ◌≡◌, ◌≤◌, ◌+◌, ◌==◌, ◌||◌, ◌++◌, nat_lt, min, Bool, true, false, List, [], ◌∷◌, Option, Some, None, IsSome, Result, Ok, Err, refl, sym, ap, ◌∙◌, ⊎_elim, arith}
 use Rattle.std.proofs.lemmas.Bool.{cases_lt, cond-true, eq-eqb, lt-ltb, or_left, or_right}
 use Rattle.vm_core.specs.Words.{count_more}
 use Rattle.vm_core.proofs.Upd.{upd-other, upd-same}
@@ -15,7 +15,7 @@ use Rattle.vm_rule.specs.Faults.{notes_of}
 use Rattle.vm_rule.specs.Rule.{MAX_COUNT, no_held}
 use Rattle.vm_rule.specs.Log.{did_load}
 use Rattle.vm_rule.specs.Mappings.{held_at}
-use Rattle.vm_rule.specs.Slots.{DeviceDid, HomeTold, MayBring, OutTold, ReturnTold, ShiftTold, SlotTold, failed, idle, out_at, words_held, wrote}
+use Rattle.vm_rule.specs.Slots.{DeviceDid, HomeTold, MayBring, OutTold, ReturnTold, ShiftTold, failed, idle, out_at, words_held, wrote}
 use Rattle.vm_step.specs.Asides.{KeepsFrames}
 use Rattle.vm_step.specs.Works.{Works}
 use Rattle.vm_step.proofs.Leaves.{works-one, works-then}
@@ -98,6 +98,11 @@ higher n =
     (λ l. or_left (nat_lt n (min (n + 1) MAX_COUNT)) (min (n + 1) MAX_COUNT == MAX_COUNT) (lt-ltb n (min (n + 1) MAX_COUNT) (omega (arith, l))))
     (λ le. or_right (nat_lt n (min (n + 1) MAX_COUNT)) (min (n + 1) MAX_COUNT == MAX_COUNT) (eq-eqb (min (n + 1) MAX_COUNT) MAX_COUNT (omega (arith, le))))
     (cases_lt n MAX_COUNT)
+
+-- a fault counts at least one
+pub counts-one : (n : ℕ) → 1 ≤ count_more n
+unfolding count_more
+counts-one n = omega arith
 
 -- the fault of a call is noted
 pub noted-more : (p count : ℕ) → notes_of p count (count_more count) ≡ record { page = p; count = count_more count } ∷ []

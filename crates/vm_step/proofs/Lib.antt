@@ -74,3 +74,4 @@ pub mod Leaves
 pub mod Device
 pub mod Alone
 pub mod Saws
+pub mod Evidenced

@@ -28,7 +28,7 @@ use Rattle.vm_rule.specs.Log.{did_exchange}
 use Rattle.vm_rule.proofs.Found.{state-here, version-here}
 use Rattle.vm_rule.proofs.Adding.{became}
 use Rattle.vm_step.specs.Plays.{lock_play}
-use Rattle.vm_step.proofs.Here.{world, last}
+use Rattle.vm_step.proofs.Here.{world}
 use Rattle.vm_step.proofs.TakenShows.{opened}
 use Rattle.vm_step.proofs.Unlocked.{page_held, free-member, free-unheld, held-at}
 use Rattle.vm_step.proofs.Locking.{lockable, locked_inner, lock-is, lock-shows}

@@ -1,5 +1,5 @@
 -- A step on the translation word of a page that the pass has locked: the table allows it, and it tells where the page stands.
-use Rattle.std.proofs.Common.{ℕ, ◌≡◌, ◌+◌, ◌^◌, ◌<◌, Bool, true, Option, Some, None, List, [], length, refl, sym, ap, subst, ◌∙◌, arith, slice_set}
+use Rattle.std.proofs.Common.{ℕ, ◌≡◌, ◌+◌, ◌^◌, ◌<◌, Bool, true, Option, Some, None, List, [], length, refl, sym, subst, ◌∙◌, arith, slice_set}
 use mathlib.Core.Option as maybe
 use mathlib.Core.Option.{some}
 use lib.ListN.{get_elem?}

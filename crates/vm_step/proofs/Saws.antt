@@ -1,27 +1,29 @@
 -- The evidence of a call that looks at a page's word, and then loses an exchange on it.
-use Rattle.std.proofs.Common.{ℕ, ◌≡◌, ◌≢◌, [], ◌∷◌, refl, inr, eqb}
+use Rattle.std.proofs.Common.{ℕ, ◌≡◌, ◌≢◌, ◌⊎◌, [], ◌∷◌, Some, refl, ap, inr, eqb, ⊎_elim}
 use Rattle.std.proofs.lemmas.Bool.{ne_eqb, cond-false}
-use Rattle.vm_core.specs.Words.{version_of}
+use Rattle.std.proofs.lemmas.Option.{none-some}
 use Rattle.vm_rule.specs.declared.view.Place.TheVariants as places
 use Rattle.vm_rule.specs.Log.{did_load, did_exchange}
 use Rattle.vm_step.specs.declared.saw.At.TheVariants as ats
-use Rattle.vm_step.specs.Evidence.{HasGiven, IsSaw, NoWord, expected}
+use Rattle.vm_step.specs.Evidence.{HasGiven, IsSaw, NoWord, expected, read}
 
 -- the one step gave the word
 abbrev pub one-given : (p word : ℕ) → HasGiven (did_load (places.State p) word ∷ []) (places.State p) word
 one-given p word = record { earlier = []; step = did_load (places.State p) word; later = []; cut = refl; gives = (refl, refl) }
 
--- the word expected is of the version of the word seen, and another word was found
-pub lost-saw : (p word expects found new : ℕ) → version_of word ≡ version_of expects → found ≢ expects
-    → IsSaw NoWord (did_load (places.State p) word ∷ did_exchange (places.State p) expects found new ∷ []) (record { at = ats.Page p; first = expects; seen = found })
-lost-saw p word expects found new version ne = record {
+-- the word expected stands in the place of the word seen, and another word was found
+pub lost-saw : (instead : ℕ → ℕ → Type 0) (p word expects found new : ℕ) → (word ≡ expects) ⊎ instead word expects → found ≢ expects
+    → IsSaw NoWord instead (did_load (places.State p) word ∷ did_exchange (places.State p) expects found new ∷ []) (record { at = ats.Page p; first = expects; seen = found })
+lost-saw instead p word expects found new from ne = record {
   earlier = did_load (places.State p) word ∷ [];
   last = did_exchange (places.State p) expects found new;
   later = [];
   cut = refl;
   gives = (refl, refl);
   since = [];
-  begins = expected [] (did_load (places.State p) word) word refl (refl, refl) version refl;
+  begins =
+      ⊎_elim (λ (same : word ≡ expects). read [] (did_load (places.State p) word) refl (refl, ap (λ (n : ℕ). Some n) same)) (λ other. expected [] (did_load (places.State p) word) word refl (refl, refl) other refl) from;
   quiet = tt;
+  foreign = ((λ at e. none-some found e), tt);
   why = inr (inr record { gives = (refl, refl); expected = refl; other = ne; left = cond-false (eqb found expects) _ _ (ne_eqb found expects ne) });
 }

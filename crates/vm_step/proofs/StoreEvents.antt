@@ -1,5 +1,5 @@
 -- What a store tells is the event of that name.
-use Rattle.std.proofs.Common.{ℕ, Bool, true, Option, List, [], ◌≡◌, ◌<◌, refl, ap, slice_set}
+use Rattle.std.proofs.Common.{ℕ, Bool, true, Option, List, ◌≡◌, ◌<◌, refl, ap, slice_set}
 use Rattle.atomic_table.specs.Table.{State as Table}
 use Rattle.vm_core.specs.declared.event.Event.TheVariants.{Store}
 use Rattle.vm_core.specs.declared.event.Seen.TheVariants as sights

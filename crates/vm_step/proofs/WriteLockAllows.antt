@@ -31,7 +31,7 @@ use Rattle.vm_rule.specs.Log.{did_exchange}
 use Rattle.vm_rule.proofs.Found.{state-here}
 use Rattle.vm_rule.proofs.Adding.{became}
 use Rattle.vm_step.specs.Plays.{write_lock_play}
-use Rattle.vm_step.proofs.Here.{world, last}
+use Rattle.vm_step.proofs.Here.{world}
 use Rattle.vm_step.proofs.Quiet.{ShowsQuiet}
 use Rattle.vm_step.proofs.Exchanging.{IsExchange, lockw-exchange}
 use Rattle.vm_step.proofs.TakenShows.{sharer-shows}

@@ -1,7 +1,8 @@
 -- A pass that is alone knows the whole table: what a run of its steps leaves of the table as it knows it.
-use Rattle.std.specs.Prelude.{ℕ, true, List, [], ◌∷◌, ◌++◌, ◌≡◌}
+use Rattle.std.specs.Prelude.{ℕ, true, List, [], ◌∷◌, ◌++◌, ◌≡◌, slice_index}
 use Rattle.vm_rule.specs.declared.view.Did.{Did}
 use Rattle.vm_rule.specs.declared.view.Origin.{Origin}
+use Rattle.vm_rule.specs.declared.view.Place.{Place}
 use Rattle.vm_rule.specs.declared.view.Release.{Release}
 use Rattle.vm_rule.specs.declared.view.View.{View}
 use Rattle.vm_rule.specs.Layout.{index_of}
@@ -14,6 +15,14 @@ Follows start [] old new = new ≡ old
 Follows start (d ∷ ds) old new = IsFoundAt d.found (index_of start d.at) old × Follows start ds (set_if d.wrote (index_of start d.at) old) new
 
 module _ {X : Type 0} where
+  -- the pass has all parts, and knows the table
+  abbrev pub IsAlone : View X → Type 0
+  IsAlone v = IsWhole v × (v.current ≡ true)
+
+  -- the word at this place, as the pass knows the table
+  abbrev pub word_at : View X → Place → ℕ
+  word_at v at = slice_index v.snapshot.words (index_of v.start at)
+
   -- the call made these steps and these releases; where the pass was alone, nothing else happened to the table's words, and to its releases
   pub record RunsAlone (done : List Did) (own : List Release) (v w : View X) : Type 0 where
     pub current : v.current ≡ true → w.current ≡ true

@@ -1,6 +1,6 @@
 -- What a call leaves of a view that says nothing and gives up every lock that it took: the locks of all pages are those that the pass had, and
 -- at most the open read of one page is another. Frames and notes the call's own clauses tell.
-use Rattle.std.specs.Prelude.{ℕ, true, List, ◌++◌, ◌≡◌, ◌≢◌}
+use Rattle.std.specs.Prelude.{ℕ, true, List, ◌++◌, ◌≡◌}
 use Rattle.vm_rule.specs.declared.view.Did.{Did}
 use Rattle.vm_rule.specs.declared.view.Tie.{Tie}
 use Rattle.vm_rule.specs.declared.view.View.{View}

@@ -1,6 +1,6 @@
 -- What the steps of a call, as its pass's log has them, say of the words that the call answers with.
-use Rattle.std.specs.Prelude.{◌≡◌, ◌≢◌, ◌⊎◌, ℕ, List, [], ◌∷◌, ◌++◌, Some, None}
-use Rattle.vm_core.specs.Words.{state_of, version_of, LOCKED, EVICTED, MAX_VERSION}
+use Rattle.std.specs.Prelude.{◌≡◌, ◌≢◌, ◌⊎◌, ◌<◌, ◌≤◌, ℕ, List, [], ◌∷◌, ◌++◌, Some, None}
+use Rattle.vm_core.specs.Words.{state_of, version_of, word_of, UNLOCKED, LOCKED, EVICTED, MAX_VERSION}
 use Rattle.vm_rule.specs.declared.view.Place.{Place}
 use Rattle.vm_rule.specs.declared.view.Place.TheVariants as places
 use Rattle.vm_rule.specs.declared.view.Did.{Did}
@@ -41,13 +41,26 @@ NoWord word = ⊥
 abbrev pub AreQuiet : Place → ℕ → List Did → Type 0
 AreQuiet at seen done = Each (λ d. d.at ≡ at → (d.wrote ≢ Some seen) × (d.found ≡ None → d.wrote ≡ None)) done
 
--- where the first word is from, and the steps since: a guard kept it; this call read it; the exchange expects it, at the version that this
--- call read; or it is the last word itself
-pub data Begins (kept : ℕ → Type 0) (at : Place) (first seen : ℕ) (last : Did) (earlier since : List Did) : Type 0 where
-  guarded : kept first → earlier ≡ since → Begins kept at first seen last earlier since
-  read : (before : List Did) (d : Did) → earlier ≡ before ++ d ∷ since → Gives d at first → Begins kept at first seen last earlier since
-  expected : (before : List Did) (d : Did) (word : ℕ) → earlier ≡ before ++ d ∷ since → Gives d at word → version_of word ≡ version_of first → last.expects ≡ Some first → Begins kept at first seen last earlier since
-  same : first ≡ seen → since ≡ [] → Begins kept at first seen last earlier since
+-- no word is expected in the place of another
+abbrev pub NoneExpected : ℕ → ℕ → Type 0
+NoneExpected word first = ⊥
+
+-- a word with shares was read, and Unlocked at its version is expected
+abbrev pub UnlockedExpected : ℕ → ℕ → Type 0
+UnlockedExpected word first = (1 ≤ state_of word) × (state_of word < LOCKED) × (first ≡ word_of UNLOCKED (version_of word))
+
+-- a word that is not Evicted was read, and Evicted at its version is expected
+abbrev pub EvictedExpected : ℕ → ℕ → Type 0
+EvictedExpected word first = (state_of word ≢ EVICTED) × (first ≡ word_of EVICTED (version_of word))
+
+-- where the first word is from, and the steps since: a guard kept it; this call read it; the last step, an exchange, expects it in the place
+-- of a word that this call read, or that a guard kept; or it is the last word itself
+pub data Begins (kept : ℕ → Type 0) (expects : ℕ → ℕ → Type 0) (at : Place) (first seen : ℕ) (last : Did) (earlier since : List Did) : Type 0 where
+  guarded : kept first → earlier ≡ since → Begins kept expects at first seen last earlier since
+  read : (before : List Did) (d : Did) → earlier ≡ before ++ d ∷ since → Gives d at first → Begins kept expects at first seen last earlier since
+  expected : (before : List Did) (d : Did) (word : ℕ) → earlier ≡ before ++ d ∷ since → Gives d at word → expects word first → last.expects ≡ Some first → Begins kept expects at first seen last earlier since
+  asked : (word : ℕ) → kept word → earlier ≡ since → expects word first → last.expects ≡ Some first → Begins kept expects at first seen last earlier since
+  same : first ≡ seen → since ≡ [] → Begins kept expects at first seen last earlier since
 
 -- why the call may be tried again
 abbrev pub WhyAgain : At → ℕ → ℕ → Did → Type 0
@@ -55,36 +68,39 @@ WhyAgain (ats.Page p) first seen last = (version_of first ≢ version_of seen) �
 WhyAgain (ats.Bundle g) first seen last = IsLost last (places.Bundle g) first seen
 WhyAgain ats.Next first seen last = first ≢ seen
 
--- the words are the evidence of these steps
-pub record IsSaw (kept : ℕ → Type 0) (done : List Did) (saw : Saw) : Type 0 where
+-- the words are the evidence of these steps; none before the last left the word that it found
+pub record IsSaw (kept : ℕ → Type 0) (expects : ℕ → ℕ → Type 0) (done : List Did) (saw : Saw) : Type 0 where
   pub earlier : List Did
   pub last : Did
   pub later : List Did
   pub cut : done ≡ earlier ++ last ∷ later
   pub gives : Gives last (place_of saw.at) saw.seen
   pub since : List Did
-  pub begins : Begins kept (place_of saw.at) saw.first saw.seen last earlier since
+  pub begins : Begins kept expects (place_of saw.at) saw.first saw.seen last earlier since
   pub quiet : AreQuiet (place_of saw.at) saw.seen since
+  pub foreign : Each (λ d. d.at ≡ place_of saw.at → d.wrote ≢ Some saw.seen) earlier
   pub why : WhyAgain saw.at saw.first saw.seen last
 
--- the page was found evicted, and none of the steps before had evicted it
+-- the page was found evicted, and none of the steps before had left that word
 pub record NeedsPage (done : List Did) (p : ℕ) : Type 0 where
   pub word : ℕ
   pub given : HasGiven done (places.State p) word
   pub evicted : state_of word ≡ EVICTED
   pub foreign : Each (λ d. d.at ≡ places.State p → d.wrote ≢ Some word) given.earlier
 
--- the page was found with all shares taken
+-- the page was found with all shares taken, and none of the steps before had left that word
 pub record IsCrowded (done : List Did) (p : ℕ) : Type 0 where
   pub word : ℕ
   pub given : HasGiven done (places.State p) word
   pub full : state_of word ≡ 252
+  pub foreign : Each (λ d. d.at ≡ places.State p → d.wrote ≢ Some word) given.earlier
 
--- the page was found at the last version
+-- the page was found at the last version, and none of the steps before had left that word
 pub record IsWorn (done : List Did) (p : ℕ) : Type 0 where
   pub word : ℕ
   pub given : HasGiven done (places.State p) word
   pub last : version_of word ≡ MAX_VERSION
+  pub foreign : Each (λ d. d.at ≡ places.State p → d.wrote ≢ Some word) given.earlier
 
 -- one of the steps left this word there
 pub record HasWritten (done : List Did) (at : Place) (word : ℕ) : Type 0 where

@@ -8,3 +8,4 @@ pub mod Asides
 pub mod BlockMoves
 pub mod Works
 pub mod Alone
+pub mod Choices

@@ -2,10 +2,12 @@
 //! function of its view before and of the word found.
 #![tactic(auto)]
 
+mod batch;
 pub mod block_laws;
 mod blocks;
 pub mod bundle_laws;
 mod bundles;
+mod choice;
 mod frames;
 pub mod laws;
 pub mod mapping_laws;
@@ -19,8 +21,10 @@ mod seat;
 mod states;
 mod took;
 
+pub use batch::Batch;
 pub use blocks::{block_home, block_out, raise};
 pub use bundles::{bload, give, hand, take};
+pub use choice::{Candidates, Looks};
 pub use frames::{load, store, tload};
 pub use mappings::{clear, install, set_clean, set_dirty};
 pub use marks::{lock_write_back, mark, unmark, upgrade};

@@ -1,0 +1,55 @@
+-- Evidence in a longer list of steps, the view after an exchange, and what a look counts of a page.
+use Rattle.std.proofs.Common.{ℕ, ◌≡◌, ◌≢◌, ◌<◌, ◌==◌, ◌++◌, if◌then◌else◌, List, [], ◌∷◌, Option, Some, None, refl, sym, ap, subst, ◌∙◌, arith, eqb, append_assoc}
+use Rattle.std.proofs.lemmas.Bool.{cond-false, cond-true, eq-eqb, ne_eqb}
+use Rattle.std.specs.Option.{option_or}
+use Rattle.vm_core.specs.Words.{state_of}
+use Rattle.vm_rule.specs.declared.view.Did.{Did}
+use Rattle.vm_rule.specs.declared.view.Place.{Place}
+use Rattle.vm_rule.specs.declared.view.View.{View}
+use Rattle.vm_rule.specs.Brought.{Brings}
+use Rattle.vm_rule.specs.Releases.{next_after}
+use Rattle.vm_step.specs.Choices.{IsHeld, first_or}
+use Rattle.vm_step.specs.Evidence.{HasGiven, HasWritten}
+
+-- ---- evidence in a longer list of steps
+
+pub given-front : (a b : List Did) (at : Place) (word : ℕ) → HasGiven a at word → HasGiven (a ++ b) at word
+given-front a b at word h = record { earlier = h.earlier; step = h.step; later = h.later ++ b; cut = ap (λ (t : List Did). t ++ b) h.cut ∙ append_assoc h.earlier (h.step ∷ h.later) b; gives = h.gives }
+
+pub given-behind : (a b : List Did) (at : Place) (word : ℕ) → HasGiven b at word → HasGiven (a ++ b) at word
+given-behind a b at word h =
+    record { earlier = a ++ h.earlier; step = h.step; later = h.later; cut = ap (λ (t : List Did). a ++ t) h.cut ∙ sym (append_assoc a h.earlier (h.step ∷ h.later)); gives = h.gives }
+
+pub written-front : (a b : List Did) (at : Place) (word : ℕ) → HasWritten a at word → HasWritten (a ++ b) at word
+written-front a b at word h =
+    record { earlier = h.earlier; step = h.step; later = h.later ++ b; cut = ap (λ (t : List Did). t ++ b) h.cut ∙ append_assoc h.earlier (h.step ∷ h.later) b; place = h.place; wrote = h.wrote }
+
+pub written-behind : (a b : List Did) (at : Place) (word : ℕ) → HasWritten b at word → HasWritten (a ++ b) at word
+written-behind a b at word h =
+    record { earlier = a ++ h.earlier; step = h.step; later = h.later; cut = ap (λ (t : List Did). a ++ t) h.cut ∙ sym (append_assoc a h.earlier (h.step ∷ h.later)); place = h.place; wrote = h.wrote }
+
+-- ---- what a view holds after a step
+
+-- the next word is known on where it was another page
+pub next-stays : (p : ℕ) (o : Option ℕ) → o ≢ Some p → next_after p o ≡ o
+next-stays p None ne = refl
+next-stays p (Some x) ne = cond-false (eqb x p) None (Some x) (ne_eqb x p (λ e. ne (ap (λ (y : ℕ). Some y) e)))
+
+module _ {X : Type 0} where
+  -- the view after an exchange that was lost, and after one that took
+  pub lost-view : (did : Did) (expects found : ℕ) (v inner w : View X) → found ≢ expects → Brings did [] [] v (if found == expects then inner else v) w → Brings did [] [] v v w
+  lost-view did expects found v inner w ne b = subst (λ (x : View X). Brings did [] [] v x w) (cond-false (eqb found expects) inner v (ne_eqb found expects ne)) b
+
+  pub taken-view : (did : Did) (expects found : ℕ) (v inner w : View X) → found ≡ expects → Brings did [] [] v (if found == expects then inner else v) w → Brings did [] [] v inner w
+  taken-view did expects found v inner w e b = subst (λ (x : View X). Brings did [] [] v x w) (cond-true (eqb found expects) inner v (eq-eqb found expects e)) b
+
+-- ---- what a look counts of a page
+
+-- the first such page, or this one
+pub first-or : (first : Option ℕ) (p : ℕ) → option_or first (Some p) ≡ first_or first p
+first-or None p = refl
+first-or (Some q) p = refl
+
+-- a state of 8 bits that is none of three is that of a page that somebody has locked
+pub held-state : (word : ℕ) → state_of word < 256 → state_of word ≢ 255 → state_of word ≢ 0 → state_of word ≢ 254 → IsHeld word
+held-state word l a b c = (omega (arith, b), omega (arith, l, a, c))

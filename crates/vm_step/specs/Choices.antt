@@ -1,0 +1,30 @@
+-- Pages that are chosen for eviction, each with the word at which it was marked.
+use Rattle.std.specs.Prelude.{ℕ, Option, Some, None, List, [], ◌∷◌, ◌≡◌, ◌<◌, ◌≤◌}
+use Rattle.vm_core.specs.Words.{state_of, version_of, LOCKED, MARKED, MAX_VERSION}
+use Rattle.vm_owner.specs.Numbers.{AreApart}
+use Rattle.vm_rule.specs.Views.{Each}
+
+-- the pages of the candidates
+abbrev pub pages_of : List (ℕ × ℕ) → List ℕ
+pages_of [] = []
+pages_of (c ∷ cs) = c.0 ∷ pages_of cs
+
+-- the first of them, or this page
+abbrev pub first_or : Option ℕ → ℕ → Option ℕ
+first_or None p = Some p
+first_or (Some q) p = Some q
+
+-- somebody has the page locked: exclusively, or by shares
+abbrev pub IsHeld : ℕ → Type 0
+IsHeld word = ((1 ≤ state_of word) × (state_of word ≤ LOCKED))
+
+-- a candidate: a page of the table, with its word, which was marked below the last version
+pub record IsCandidate (pages : ℕ) (c : ℕ × ℕ) : Type 0 where
+  pub page : c.0 < pages
+  pub marked : state_of c.1 ≡ MARKED
+  pub below : version_of c.1 < MAX_VERSION
+
+-- candidates for eviction: each another page
+pub record AreCandidates (pages : ℕ) (list : List (ℕ × ℕ)) : Type 0 where
+  pub apart : AreApart (pages_of list)
+  pub each : Each (IsCandidate pages) list
