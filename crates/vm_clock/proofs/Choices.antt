@@ -5,7 +5,7 @@ use Rattle.std.proofs.lemmas.Bool.Decides.{nat_tests}
 use Rattle.vm_owner.specs.Numbers.{has, AreApart}
 use Rattle.vm_rule.proofs.Heard.{each-both}
 use Rattle.vm_step.proofs.Groups.{apart-end}
-use Rattle.vm_clock.specs.Clock.{IsCandidate, AreCandidates, pages_of}
+use Rattle.vm_step.specs.Choices.{AreCandidates, IsCandidate, pages_of}
 
 -- one place further in the list
 pub has-next : (p : ℕ) (l : List (ℕ × ℕ)) (i : ℕ) (d : ℕ × ℕ) → i < length l → (slice_index_or l i d).0 ≢ p → has p (pages_of (take i l)) ≡ false → has p (pages_of (take (suc i) l)) ≡ false

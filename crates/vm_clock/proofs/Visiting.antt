@@ -1,7 +1,6 @@
 -- What a visit comes to, by the word that its look found and by the exchange that would mark the page.
-use Rattle.std.proofs.Common.{ℕ, ◌≡◌, ◌≢◌, ◌<◌, ◌≤◌, Bool, false, Option, Some, None, List, [], ◌∷◌, ◌++◌, refl, sym, ap, ◌∙◌, arith}
-use Rattle.std.specs.Option.{option_or}
-use Rattle.vm_core.specs.Words.{state_of, version_of, word_of, MARKED, MAX_VERSION}
+use Rattle.std.proofs.Common.{ℕ, ◌≡◌, ◌≢◌, ◌<◌, ◌≤◌, Bool, false, None, List, [], ◌∷◌, ◌++◌, refl, sym, ap, ◌∙◌, arith}
+use Rattle.vm_core.specs.Words.{version_of, word_of, MARKED, MAX_VERSION}
 use Rattle.vm_rule.proofs.WordFacts.{version-within}
 use Rattle.vm_owner.specs.Kept.{Start}
 use Rattle.vm_owner.specs.Numbers.{has}
@@ -12,17 +11,9 @@ use Rattle.vm_rule.specs.Locks.{MarkTold}
 use Rattle.vm_rule.specs.Log.{did_load, did_exchange}
 use Rattle.vm_rule.specs.Looks.{LookTold}
 use Rattle.vm_step.proofs.Asides.{OnlyReads, only-then, look-only, mark-only}
-use Rattle.vm_clock.specs.declared.looks.Looks.{Looks}
-use Rattle.vm_clock.specs.Clock.{IsFresh, IsHeld, IsVisited, LooksAt, Visits, first_or, pages_of}
-
--- the first worn page, or this one
-pub first-or : (first : Option ℕ) (p : ℕ) → option_or first (Some p) ≡ first_or first p
-first-or None p = refl
-first-or (Some q) p = refl
-
--- a state of 8 bits that is none of three is that of a page that somebody has locked
-pub held-state : (word : ℕ) → state_of word < 256 → state_of word ≢ 255 → state_of word ≢ 0 → state_of word ≢ 254 → IsHeld word
-held-state word l a b c = (omega (arith, b), omega (arith, l, a, c))
+use Rattle.vm_step.specs.declared.choice.Looks.{Looks}
+use Rattle.vm_clock.specs.Clock.{IsFresh, IsVisited, LooksAt, Visits}
+use Rattle.vm_step.specs.Choices.{pages_of}
 
 -- a version of 56 bits that is not the last is below it
 pub fresh-word : (word : ℕ) → version_of word ≢ MAX_VERSION → IsFresh word

@@ -10,8 +10,9 @@ use Rattle.vm_rule.specs.declared.view.View.{View}
 use Rattle.vm_rule.specs.Bundles.{HandTold}
 use Rattle.vm_rule.specs.Log.{did_change}
 use Rattle.vm_step.proofs.Asides.{OnlyReads, aside-within, hand-only, only-then}
-use Rattle.vm_clock.specs.declared.looks.Looks.{Looks}
-use Rattle.vm_clock.specs.Clock.{AreCandidates, IsVisited, Visits, Visits as visits, Walks, no_looks, total}
+use Rattle.vm_step.specs.declared.choice.Looks.{Looks}
+use Rattle.vm_clock.specs.Clock.{IsVisited, Visits, Visits as visits, Walks, no_looks, total}
+use Rattle.vm_step.specs.Choices.{AreCandidates}
 use Rattle.vm_clock.proofs.Choices.{candidates-end, no-candidates}
 
 -- ---- one visit

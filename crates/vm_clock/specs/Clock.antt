@@ -1,21 +1,16 @@
 -- How the clock chooses candidates for eviction: from a place drawn from the hand it walks over the pages, round and round, looks at each, and
 -- counts what it sees by the first of these that fits: a page chosen before; an evicted one; one that somebody has locked; one at the last
 -- version; an unlocked one, which it marks; a marked one, which it chooses.
-use Rattle.std.specs.Prelude.{ℕ, true, false, Option, Some, None, List, [], ◌∷◌, ◌++◌, ◌≡◌, ◌≢◌, ◌⊎◌, ◌+◌, ◌*◌, ◌%◌, ◌<◌, ◌≤◌, zero, suc, length}
-use Rattle.vm_core.specs.Words.{state_of, version_of, word_of, hand_more, UNLOCKED, LOCKED, MARKED, EVICTED, MAX_VERSION}
-use Rattle.vm_owner.specs.Numbers.{has, AreApart}
+use Rattle.std.specs.Prelude.{ℕ, true, false, None, List, [], ◌∷◌, ◌++◌, ◌≡◌, ◌≢◌, ◌⊎◌, ◌+◌, ◌*◌, ◌%◌, ◌<◌, ◌≤◌, zero, suc, length}
+use Rattle.vm_core.specs.Words.{state_of, version_of, word_of, hand_more, UNLOCKED, MARKED, EVICTED, MAX_VERSION}
+use Rattle.vm_owner.specs.Numbers.{has}
 use Rattle.vm_rule.specs.declared.view.Did.{Did}
 use Rattle.vm_rule.specs.declared.view.Place.TheVariants as places
 use Rattle.vm_rule.specs.declared.view.View.{View}
-use Rattle.vm_rule.specs.Views.{Each}
 use Rattle.vm_rule.specs.Log.{did_load, did_exchange, did_change}
 use Rattle.vm_step.specs.Asides.{IsAsideOf, KeepsFrames}
-use Rattle.vm_clock.specs.declared.looks.Looks.{Looks}
-
--- the pages of the candidates
-abbrev pub pages_of : List (ℕ × ℕ) → List ℕ
-pages_of [] = []
-pages_of (c ∷ cs) = c.0 ∷ pages_of cs
+use Rattle.vm_step.specs.Choices.{IsHeld, first_or, pages_of}
+use Rattle.vm_step.specs.declared.choice.Looks.{Looks}
 
 abbrev pub no_looks : Looks
 no_looks = record { found = 0; again = 0; marked = 0; lost = 0; held = 0; gone = 0; worn = 0; first_worn = None }
@@ -23,15 +18,6 @@ no_looks = record { found = 0; again = 0; marked = 0; lost = 0; held = 0; gone =
 -- how many looks are counted
 abbrev pub total : Looks → ℕ
 total l = l.found + (l.again + (l.marked + (l.lost + (l.held + (l.gone + l.worn)))))
-
--- the first of them, or this page
-abbrev pub first_or : Option ℕ → ℕ → Option ℕ
-first_or None p = Some p
-first_or (Some q) p = Some q
-
--- somebody has the page locked: exclusively, or by shares
-abbrev pub IsHeld : ℕ → Type 0
-IsHeld word = ((1 ≤ state_of word) × (state_of word ≤ LOCKED))
 
 -- the word of a page that may be locked exclusively as far as its version goes
 abbrev pub IsFresh : ℕ → Type 0
@@ -59,17 +45,6 @@ Walks want pages drawn (suc k) done looks list =
     (before : List Did) × (steps : List Did) × (old : Looks) × (chosen : List (ℕ × ℕ))
     × (done ≡ before ++ steps) × Walks want pages drawn k before old chosen × (length chosen < want)
     × Visits chosen ((drawn + k) % pages) steps old looks list
-
--- a candidate: a page of the table, with its word, which was marked below the last version
-pub record IsCandidate (pages : ℕ) (c : ℕ × ℕ) : Type 0 where
-  pub page : c.0 < pages
-  pub marked : state_of c.1 ≡ MARKED
-  pub below : version_of c.1 < MAX_VERSION
-
--- candidates for eviction: each another page
-pub record AreCandidates (pages : ℕ) (list : List (ℕ × ℕ)) : Type 0 where
-  pub apart : AreApart (pages_of list)
-  pub each : Each (IsCandidate pages) list
 
 module _ {X : Type 0} where
   -- the walk that chose these candidates, and what it left of the view: no lock, no frame and no entry changed

@@ -3,24 +3,33 @@
 #![tactic(auto)]
 
 ghost use Rattle.std.specs.Prelude.{◌≡◌, ◌*◌, ◌<◌, ◌≤◌, length};
-ghost use Rattle.vm_clock.specs.Clock.{AreCandidates, IsChosen, IsVisited, pages_of, total};
+ghost use Rattle.vm_clock.specs.Clock.{IsChosen, IsVisited, total};
 ghost use Rattle.vm_owner.specs.Numbers.{has};
+ghost use Rattle.vm_step.specs.Choices.{AreCandidates, pages_of};
 ghost use Rattle.vm_step.specs.Passes.{IsSamePass, view};
 ghost use Rattle.vm_step.specs.Ready.{IsReady};
 
-mod looks;
-
 use arrayvec::ArrayVec;
-use looks::NO_LOOKS;
-pub use looks::{Candidates, Looks};
 use vm_block::Block;
 use vm_core::{MAX_VERSION, StateWord};
 use vm_owner::Owner;
 use vm_rule::words::{Pass, Words};
-use vm_step::{Took, hand, look_silently, mark};
+use vm_step::{Candidates, Looks, Took, hand, look_silently, mark};
 
 #[cfg(test)]
 mod tests;
+
+/// No look yet.
+const NO_LOOKS: Looks = Looks {
+    found: 0,
+    again: 0,
+    marked: 0,
+    lost: 0,
+    held: 0,
+    gone: 0,
+    worn: 0,
+    first_worn: None,
+};
 
 /// Chooses up to `want` (1 to 64) candidates, with at most two looks at each page of the table.
 pub fn candidates<U: Owner, B: Block>(

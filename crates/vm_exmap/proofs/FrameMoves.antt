@@ -1,5 +1,5 @@
 -- What steps leave of a view that move free frames alone: of one step, of several in a row, and that the pass may step on.
-use Rattle.std.proofs.Common.{ℕ, ◌≡◌, ◌<◌, ◌++◌, Bool, true, None, List, [], ◌∷◌, length, refl, sym, ap, subst, ◌∙◌, append_assoc}
+use Rattle.std.proofs.Common.{ℕ, ◌≡◌, ◌≢◌, ◌<◌, ◌++◌, Bool, true, None, List, [], ◌∷◌, length, refl, sym, ap, subst, ◌∙◌, inr, arith, append_assoc, slice_index}
 use Rattle.atomic_table.specs.Seated.{TableId}
 use Rattle.vm_core.specs.declared.event.Seat.{Seat}
 use Rattle.vm_core.specs.Start.{no_seat}
@@ -7,11 +7,13 @@ use Rattle.vm_owner.specs.Numbers.{has}
 use Rattle.vm_rule.specs.declared.view.Did.{Did}
 use Rattle.vm_rule.specs.declared.view.Held.{Held}
 use Rattle.vm_rule.specs.declared.view.Origin.{Origin}
+use Rattle.vm_rule.specs.declared.view.Place.TheVariants as places
 use Rattle.vm_rule.specs.declared.view.Put.{Put}
 use Rattle.vm_rule.specs.declared.view.Release.{Release}
 use Rattle.vm_rule.specs.declared.view.Shape.{Shape}
 use Rattle.vm_rule.specs.declared.view.View.{View}
 use Rattle.vm_rule.specs.declared.words.Pass.{Pass}
+use Rattle.vm_rule.specs.Layout.{index_of}
 use Rattle.vm_rule.specs.Puts.{put_at}
 use Rattle.vm_rule.specs.Views.{seat_of, IsLocking}
 use Rattle.vm_rule.specs.Rule.{no_held}
@@ -24,6 +26,7 @@ use Rattle.vm_exmap.specs.Frames.{MovesFrames}
 use Rattle.vm_step.specs.Asides.{IsAsideOf}
 use Rattle.vm_step.specs.Passes.{IsSamePass, view}
 use Rattle.vm_step.specs.Ready.{IsReady}
+use Rattle.vm_step.proofs.Alone.{set-else, still-alone}
 use Rattle.vm_step.proofs.Asides.{alone-self, alone-silent, alone-then, starts-then}
 
 module _ {X : Type 0} where
@@ -45,12 +48,13 @@ module _ {X : Type 0} where
     last = λ p l. refl;
     contents = λ f a b. refl;
     alone = alone-self v;
+    states = λ a p l. refl;
   }
 
   -- one step that changes the free frames and what is known of their words
-  pub moved-by : (did : Did) (frames : List ℕ) (contents : List (Put (List ℕ))) (v w : View X) → Brings did [] [] v (record v { frames = frames; contents = contents }) w
+  pub moved-by : (did : Did) (g : ℕ) (frames : List ℕ) (contents : List (Put (List ℕ))) (v w : View X) → did.at ≡ places.Bundle g → Brings did [] [] v (record v { frames = frames; contents = contents }) w
       → ((f : ℕ) → has f v.frames ≡ true → has f frames ≡ true → put_at [] contents f ≡ contents_at v f) → MovesFrames (did ∷ []) v w
-  moved-by did frames contents v w b same = record {
+  moved-by did g frames contents v w at b same = record {
     log = ap (λ (x : View X). x.log) b.view;
     live = ap (λ (x : View X). x.live) b.view;
     start = ap (λ (x : View X). x.start) b.view;
@@ -67,6 +71,12 @@ module _ {X : Type 0} where
         ap (λ (x : View X). last_in x.start x.releases p) b.view ∙ ap (λ (t : List Release). last_in v.start t p) (append-none (v.releases ++ b.between)) ∙ b.kept p l;
     contents = λ f h k. ap (λ (x : View X). contents_at x f) b.view ∙ same f h (sym (ap (λ (x : View X). has f x.frames) b.view) ∙ k);
     alone = alone-silent did None [] v (record v { frames = frames; contents = contents }) w b refl;
+    states = λ a p l.
+        let index : index_of v.start did.at ≡ index_of v.start (places.Bundle g) = ap (index_of v.start) at in
+        let other : p ≢ index_of v.start (places.Bundle g) = omega (arith, l) in
+        ap (λ (x : View X). slice_index x.snapshot.words p) b.view
+        ∙ ap (λ (ws : List ℕ). slice_index ws p) (b.alone a.0 a.1).2.words
+        ∙ set-else did.wrote (index_of v.start did.at) p v.snapshot.words (inr (λ e. other (e ∙ index)));
   }
 
   -- steps, and then more: a frame that the pass had and has it had in between
@@ -87,6 +97,7 @@ module _ {X : Type 0} where
     last = λ p l. g.last p (subst (λ (seats : List (Put Seat)). IsLocking (put_at no_seat seats p)) (sym f.pages.0) l) ∙ f.last p l;
     contents = λ n h k. let m = between n h k in g.contents n m k ∙ f.contents n h m;
     alone = alone-then u v w f.parts f.alone g.alone;
+    states = λ l p i. g.states (still-alone u v f.parts f.alone.current l) p (subst (λ (o : Origin). p < o.pages) (sym f.start) i) ∙ f.states l p i;
   }
 
   -- such steps are aside of all pages: no read of theirs is another either

@@ -79,7 +79,7 @@ module _ {X : Type 0} (frames : List ℕ) (g mask : ℕ) (u v : View X) (below :
       ap (λ (x : View X). has f x.frames) t.brings.view
       ∙ has-without_all f (frames_in g mask) v.frames
       ∙ ap (λ b. if b then false else has f v.frames) (has-frames_in g mask f ∙ bits f) in
-      let moves : MovesFrames (did ∷ []) v w = moved-by did (without_all (frames_in g mask) v.frames) v.contents v w t.brings (λ f a b. refl) in
+      let moves : MovesFrames (did ∷ []) v w = moved-by did g (without_all (frames_in g mask) v.frames) v.contents v w refl t.brings (λ f a b. refl) in
       let next : suc g ≡ g + 1 = omega arith in
       let done : List Did = below.done ++ did ∷ [] in
       record {

@@ -1,37 +1,58 @@
 -- A walk over the bundles, a visit at a time: each that was passed by adds its steps; where the bits of one were lost, they are the evidence.
-use Rattle.std.proofs.Common.{ℕ, ◌≡◌, ◌≢◌, ◌+◌, ◌<◌, ◌≤◌, ◌++◌, ◌%◌, ◌/◌, min, true, false, List, [], ◌∷◌, Option, Some, None, suc, length, refl, sym, ap, subst, ◌∙◌, ⊎_elim, arith, append_assoc, bit_xor, if◌then◌else◌}
-use Rattle.std.proofs.lemmas.Bool.{ne_eqb, eq-eqb, or_left, cases_Bool, true≢false}
+use Rattle.std.proofs.Common.{ℕ, ◌≡◌, ◌≢◌, ◌+◌, ◌-◌, ◌<◌, ◌≤◌, ◌++◌, ◌%◌, ◌/◌, min, true, false, List, [], ◌∷◌, Option, Some, None, zero, suc, length, refl, sym, ap, subst, ◌∙◌, ⊎_elim, arith, append_assoc, bit_xor, if◌then◌else◌}
+use Rattle.std.proofs.Math.Nat.{add-mod-mod, add-mod_right, mod-add-mod, mod-eq_of_lt, mod-lt}
+use Rattle.std.proofs.lemmas.Bool.{ne_eqb, eq-eqb, or_left, cases_Bool, cases_lt, true≢false}
+use Rattle.std.proofs.lemmas.Option.{none-some}
 use Rattle.vm_core.specs.Words.{AreLowest}
 use Rattle.vm_owner.specs.Numbers.{has}
 use Rattle.vm_rule.specs.declared.view.Did.{Did}
+use Rattle.vm_rule.specs.declared.view.Place.{Place}
 use Rattle.vm_rule.specs.declared.view.Place.TheVariants as places
 use Rattle.vm_rule.specs.declared.view.View.{View}
 use Rattle.vm_rule.specs.Layout.{bundles_of}
+use Rattle.vm_rule.specs.Views.{Each}
 use Rattle.vm_rule.specs.Log.{did_load, did_exchange}
 use Rattle.vm_rule.specs.Bundles.{frames_in, BundleTold, TakeTold, taken_view, with_contents}
 use Rattle.vm_rule.specs.Mappings.{contents_at}
 use Rattle.vm_rule.specs.Brought.{Brings}
 use Rattle.vm_rule.proofs.Bundled.{has-frames_in, frames_in-apart, with_contents-at}
 use Rattle.vm_rule.proofs.Facts.{has-both}
+use Rattle.vm_rule.proofs.Heard.{each-both}
 use Rattle.vm_step.specs.declared.saw.At.TheVariants as ats
 use Rattle.vm_step.specs.declared.saw.Saw.{Saw}
-use Rattle.vm_step.specs.Evidence.{IsSaw, NoWord, WhyAgain, place_of}
+use Rattle.vm_step.specs.Alone.{IsAlone, word_at}
+use Rattle.vm_step.specs.Evidence.{IsSaw, NoneExpected, NoWord, WhyAgain, place_of}
 use Rattle.vm_step.specs.Evidence.Begins.{read}
 use Rattle.vm_exmap.specs.Frames.{AreHeld, MovesFrames}
-use Rattle.vm_exmap.specs.Walks.{Asks, Walks, Dry, bundle_at}
+use Rattle.vm_exmap.specs.Walks.{Asks, PassesBy, Walks, Dry, IsDry, bundle_at}
 use Rattle.vm_exmap.specs.Walks.PassesBy.{empty, lost}
-use Rattle.vm_exmap.specs.Visits.{IsEmptyVisit, IsLostVisit, IsTakenVisit, IsFound}
-use Rattle.vm_exmap.proofs.FrameMoves.{moved-by, moved-then}
+use Rattle.vm_exmap.specs.Visits.{IsEmptyVisit, IsLostVisit, IsTakenVisit, IsFound, IsLostWalk}
+use Rattle.vm_step.proofs.Alone.{found-known, same-word, still-alone, words-known}
+use Rattle.vm_exmap.proofs.FrameMoves.{moved-by, moved-nothing, moved-then}
 use Rattle.vm_exmap.proofs.Handing.{each-has}
 
 -- ---- one bundle
 
 module _ {X : Type 0} (g word : ℕ) (u v : View X) (told : BundleTold g word u v) where
   loaded : MovesFrames (did_load (places.Bundle g) word ∷ []) u v
-  loaded = moved-by (did_load (places.Bundle g) word) u.frames u.contents u v told.brings (λ f a b. refl)
+  loaded = moved-by (did_load (places.Bundle g) word) g u.frames u.contents u v refl told.brings (λ f a b. refl)
+
+  -- a pass that is alone loads the word that it knew
+  load-known : IsAlone u → (word ≡ word_at u (places.Bundle g)) × (v.snapshot.words ≡ u.snapshot.words)
+  load-known a = (
+    found-known (did_load (places.Bundle g) word) word None [] [] u u v told.brings refl a,
+    words-known (did_load (places.Bundle g) word) None [] [] u u v told.brings refl a,
+  )
 
   same-frames : v.frames ≡ u.frames
   same-frames = ap (λ (x : View X). x.frames) told.brings.view
+
+  pub empty-visit : word ≡ 0 → IsEmptyVisit g u v
+  empty-visit none = record {
+    moves = subst (λ n. MovesFrames (did_load (places.Bundle g) n ∷ []) u v) none loaded;
+    frames = same-frames;
+    known = λ a. (sym (load-known a).0 ∙ none, (load-known a).1);
+  }
 
   module _ (most mask : ℕ) (some : word ≢ 0) (low : AreLowest word most mask) (w : View X) where
     exchange : ℕ → Did
@@ -44,7 +65,7 @@ module _ {X : Type 0} (g word : ℕ) (u v : View X) (told : BundleTold g word u 
     lost-visit seen t ne =
         let did : Did = did_exchange (places.Bundle g) word seen (bit_xor word mask) in
         let b : Brings did [] [] v v w = subst (λ hit. Brings did [] [] v (if hit then taken_view g mask t.words v else v) w) (ne_eqb seen word ne) t.brings in
-        let moves : MovesFrames (did ∷ []) v w = moved-by did v.frames v.contents v w b (λ f a c. refl) in
+        let moves : MovesFrames (did ∷ []) v w = moved-by did g v.frames v.contents v w refl b (λ f a c. refl) in
         record {
           mask = mask;
           load = did_load (places.Bundle g) word;
@@ -53,6 +74,9 @@ module _ {X : Type 0} (g word : ℕ) (u v : View X) (told : BundleTold g word u 
           other = ne;
           moves = moved-then (did_load (places.Bundle g) word ∷ []) (did ∷ []) u v w loaded moves (λ f a c. subst (λ (l : List ℕ). has f l ≡ true) (sym same-frames) a);
           frames = ap (λ (x : View X). x.frames) b.view ∙ same-frames;
+          others = λ a.
+              let now : IsAlone v = still-alone u v loaded.parts loaded.alone.current a in
+              ne (found-known did seen None [] [] v v w b refl now ∙ same-word u v loaded.start (load-known a).1 (places.Bundle g) ∙ sym (load-known a).0);
         }
 
     pub taken-visit : TakeTold g word mask word v w → 1 ≤ length (frames_in g mask) → IsTakenVisit most g mask u w
@@ -62,9 +86,10 @@ module _ {X : Type 0} (g word : ℕ) (u v : View X) (told : BundleTold g word u 
         let old : (f : ℕ) → has f v.frames ≡ true → has f (frames_in g mask) ≡ false = λ f had.
         ⊎_elim (λ (e : has f (frames_in g mask) ≡ true). absurd (true≢false (sym had ∙ t.new refl f (sym (has-frames_in g mask f) ∙ e)))) (λ e. e) (cases_Bool (has f (frames_in g mask))) in
         let moves : MovesFrames (did ∷ []) v w =
-        moved-by did (frames_in g mask ++ v.frames) (with_contents t.words (frames_in g mask) v.contents) v w b
+        moved-by did g (frames_in g mask ++ v.frames) (with_contents t.words (frames_in g mask) v.contents) v w refl b
         (λ f had _. with_contents-at t.words (frames_in g mask) v.contents f ∙ ap (λ hit. if hit then t.words f else contents_at v f) (old f had)) in
         let frames : w.frames ≡ frames_in g mask ++ v.frames = ap (λ (x : View X). x.frames) b.view in
+        let new : (f : ℕ) → has f (frames_in g mask) ≡ true → has f v.frames ≡ false = λ f e. t.new refl f (sym (has-frames_in g mask f) ∙ e) in
         let start : w.start ≡ v.start = moves.start in
         record {
           word = word;
@@ -72,6 +97,7 @@ module _ {X : Type 0} (g word : ℕ) (u v : View X) (told : BundleTold g word u 
           asks = asks;
           moves = moved-then (did_load (places.Bundle g) word ∷ []) (did ∷ []) u v w loaded moves (λ f a c. subst (λ (l : List ℕ). has f l ≡ true) (sym same-frames) a);
           frames = frames ∙ ap (λ (l : List ℕ). frames_in g mask ++ l) same-frames;
+          new = each-has (λ f. has f u.frames ≡ false) (frames_in g mask) (λ f e. subst (λ (l : List ℕ). has f l ≡ false) same-frames (new f e));
           held = record {
             apart = frames_in-apart g mask;
             inside = each-has (λ f. f < w.start.frames) (frames_in g mask) (λ f e. subst (λ s. f < s.frames) (sym start) (t.inside refl f (sym (has-frames_in g mask f) ∙ e)));
@@ -93,7 +119,7 @@ comes-to home k from n start is all i = (is i + k) % all i
 -- what was lost last of the first `count` bundles: nothing, and then each word was 0; or these bits
 abbrev pub IsLastLost : ℕ → ℕ → ℕ → Option Saw → List Did → Type 0
 IsLastLost home bundles count None done = Dry home bundles count done
-IsLastLost home bundles count (Some saw) done = (g : ℕ) × (saw.at ≡ ats.Bundle g) × IsSaw NoWord done saw
+IsLastLost home bundles count (Some saw) done = (g : ℕ) × (saw.at ≡ ats.Bundle g) × IsSaw NoWord NoneExpected done saw
 
 module _ {X : Type 0} where
   -- the first `count` bundles of the walk were passed by
@@ -103,10 +129,16 @@ module _ {X : Type 0} where
     pub frames : w.frames ≡ v.frames
     pub walk : Walks most home (bundles_of v.start.frames) count done
     pub last : IsLastLost home (bundles_of v.start.frames) count lost done
+    -- a pass that is alone lost none, and knew that each word was 0
+    pub known : IsAlone v → (lost ≡ None) × (w.snapshot.words ≡ v.snapshot.words) × ((j : ℕ) → j < count → word_at v (places.Bundle (bundle_at home (bundles_of v.start.frames) j)) ≡ 0)
+
+  -- no bundle was visited yet
+  pub sets-out : (most home : ℕ) (v : View X) → IsUnderWay most home 0 None v v
+  sets-out most home v = record { done = []; moves = moved-nothing v; frames = refl; walk = refl; last = refl; known = λ a. (refl, refl, λ j l. absurd (omega (arith, l))) }
 
 -- steps that came later leave the evidence
-saw-more : (kept : ℕ → Type 0) (done more : List Did) (saw : Saw) → IsSaw kept done saw → IsSaw kept (done ++ more) saw
-saw-more kept done more saw s = record {
+saw-more : (kept : ℕ → Type 0) (expects : ℕ → ℕ → Type 0) (done more : List Did) (saw : Saw) → IsSaw kept expects done saw → IsSaw kept expects (done ++ more) saw
+saw-more kept expects done more saw s = record {
   earlier = s.earlier;
   last = s.last;
   later = s.later ++ more;
@@ -115,13 +147,30 @@ saw-more kept done more saw s = record {
   since = s.since;
   begins = s.begins;
   quiet = s.quiet;
+  foreign = s.foreign;
   why = s.why;
 }
 
+-- a bundle that is passed by keeps its word
+passed-silent : (most g : ℕ) (steps : List Did) → PassesBy most g steps → Each (λ d. d.wrote ≡ None) steps
+passed-silent most g steps (empty is) = subst (Each (λ d. d.wrote ≡ None)) (sym is) (refl, tt)
+passed-silent most g steps (lost word mask other load asks ne is) =
+    subst (Each (λ d. d.wrote ≡ None)) (sym is) (ap (λ (d : Did). d.wrote) asks.is, (ap (λ hit. if hit then Some (bit_xor word mask) else None) (ne_eqb other word ne), tt))
+
+walked-silent : (most home bundles k : ℕ) (done : List Did) → Walks most home bundles k done → Each (λ d. d.wrote ≡ None) done
+walked-silent most home bundles zero done w = subst (Each (λ d. d.wrote ≡ None)) (sym w) tt
+walked-silent most home bundles (suc k) done w =
+    subst (Each (λ d. d.wrote ≡ None)) (sym w.2)
+    (each-both (λ d. d.wrote ≡ None) w.0 w.1 (walked-silent most home bundles k w.0 w.3) (passed-silent most (bundle_at home bundles k) w.1 w.4))
+
+silent-foreign : (at : Place) (word : ℕ) (done : List Did) → Each (λ d. d.wrote ≡ None) done → Each (λ d. d.at ≡ at → d.wrote ≢ Some word) done
+silent-foreign at word [] s = tt
+silent-foreign at word (d ∷ ds) s = ((λ here e. none-some word (sym s.0 ∙ e)), silent-foreign at word ds s.1)
+
 -- the load of a bundle's word and the exchange that was lost are evidence
-lost-shows : (most g mask : ℕ) (before : List Did) (load : Did) (saw : Saw) → Asks most g saw.first mask load → saw.at ≡ ats.Bundle g → saw.seen ≢ saw.first
-    → IsSaw NoWord (before ++ load ∷ did_exchange (places.Bundle g) saw.first saw.seen (bit_xor saw.first mask) ∷ []) saw
-lost-shows most g mask before load saw asks at ne =
+lost-shows : (most g mask : ℕ) (before : List Did) (load : Did) (saw : Saw) → Each (λ d. d.wrote ≡ None) before → Asks most g saw.first mask load → saw.at ≡ ats.Bundle g → saw.seen ≢ saw.first
+    → IsSaw NoWord NoneExpected (before ++ load ∷ did_exchange (places.Bundle g) saw.first saw.seen (bit_xor saw.first mask) ∷ []) saw
+lost-shows most g mask before load saw silent asks at ne =
     let did : Did = did_exchange (places.Bundle g) saw.first saw.seen (bit_xor saw.first mask) in
     let place : places.Bundle g ≡ place_of saw.at = sym (ap place_of at) in
     record {
@@ -133,6 +182,7 @@ lost-shows most g mask before load saw asks at ne =
       since = [];
       begins = read before load refl (ap (λ (d : Did). d.at) asks.is ∙ place, ap (λ (d : Did). d.found) asks.is);
       quiet = tt;
+      foreign = silent-foreign (place_of saw.at) saw.seen (before ++ load ∷ []) (each-both (λ d. d.wrote ≡ None) before (load ∷ []) silent (ap (λ (d : Did). d.wrote) asks.is, tt));
       why = subst (λ a. WhyAgain a saw.first saw.seen did) (sym at)
           (record { gives = (refl, refl); expected = refl; other = ne; left = ap (λ hit. if hit then Some (bit_xor saw.first mask) else None) (ne_eqb saw.seen saw.first ne) });
     }
@@ -141,7 +191,7 @@ lost-shows most g mask before load saw asks at ne =
 still-lost : (home bundles k : ℕ) (lost : Option Saw) (done : List Did) → IsLastLost home bundles k lost done
     → IsLastLost home bundles (suc k) lost (done ++ did_load (places.Bundle (bundle_at home bundles k)) 0 ∷ [])
 still-lost home bundles k None done l = (done, refl, l)
-still-lost home bundles k (Some saw) done l = (l.0, l.1, saw-more NoWord done (did_load (places.Bundle (bundle_at home bundles k)) 0 ∷ []) saw l.2)
+still-lost home bundles k (Some saw) done l = (l.0, l.1, saw-more NoWord NoneExpected done (did_load (places.Bundle (bundle_at home bundles k)) 0 ∷ []) saw l.2)
 
 module _ {X : Type 0} (most home k g : ℕ) (last : Option Saw) (u v w : View X) (way : IsUnderWay most home k last u v) (is : g ≡ bundle_at home (bundles_of u.start.frames) k) where
   abbrev bundles : ℕ
@@ -164,6 +214,19 @@ module _ {X : Type 0} (most home k g : ℕ) (last : Option Saw) (u v w : View X)
         frames = here.frames ∙ way.frames;
         walk = (way.done, did ∷ [], refl, way.walk, empty refl);
         last = still-lost home bundles k last way.done way.last;
+        known = λ a.
+            let before = way.known a in
+            let now = here.known (still-alone u v way.moves.parts way.moves.alone.current a) in
+            let zero-here : word_at u (places.Bundle (bundle_at home bundles k)) ≡ 0 = sym (same-word u v way.moves.start before.1 (places.Bundle (bundle_at home bundles k))) ∙ now.0 in (
+              before.0,
+              now.1 ∙ before.1,
+              λ j l.
+                  ⊎_elim (λ (low : j < k). before.2 j low)
+                  (λ (high : k ≤ j).
+                  let same : k ≡ j = omega (arith, l, high) in
+                  subst (λ n. word_at u (places.Bundle (bundle_at home bundles n)) ≡ 0) same zero-here)
+                  (cases_lt j k),
+            );
       })
 
   -- so is one whose bits were lost
@@ -178,7 +241,8 @@ module _ {X : Type 0} (most home k g : ℕ) (last : Option Saw) (u v w : View X)
         moves = moved-then way.done (here.load ∷ did ∷ []) u v w way.moves here.moves (λ f a b. had f a);
         frames = here.frames ∙ way.frames;
         walk = (way.done, here.load ∷ did ∷ [], refl, way.walk, lost saw.first here.mask saw.seen here.load here.asks here.other refl);
-        last = (bundle_at home bundles k, here.at, lost-shows most (bundle_at home bundles k) here.mask way.done here.load saw here.asks here.at here.other);
+        last = (bundle_at home bundles k, here.at, lost-shows most (bundle_at home bundles k) here.mask way.done here.load saw (walked-silent most home bundles k way.done way.walk) here.asks here.at here.other);
+        known = λ a. absurd (here.others (still-alone u v way.moves.parts way.moves.alone.current a));
       })
 
   -- the walk ends with the first bits that were taken
@@ -199,8 +263,45 @@ module _ {X : Type 0} (most home k g : ℕ) (last : Option Saw) (u v w : View X)
       asks = at.asks;
       cut = refl;
       frames = at.frames ∙ ap (λ (l : List ℕ). frames_in g mask ++ l) way.frames;
+      new = subst (λ (l : List ℕ). Each (λ f. has f l ≡ false) (frames_in g mask)) way.frames at.new;
     };
     are = are;
     held = subst (λ (l : List ℕ). AreHeld l w) (sym are) at.held;
     some = subst (λ (l : List ℕ). 1 ≤ length l) (sym are) at.some;
+  }
+
+-- the walk comes to each bundle
+reaches : (home n g : ℕ) → g < n → (j : ℕ) × (j < n) × (bundle_at home n j ≡ g)
+reaches home n g below =
+    let some : 0 < n = omega (arith, below) in
+    let rest : home % n < n = mod-lt home some in
+    let sum : home % n + (g + (n - home % n)) ≡ g + n = omega (arith, rest) in (
+      (g + (n - home % n)) % n,
+      mod-lt (g + (n - home % n)) some,
+      add-mod-mod home (g + (n - home % n)) n ∙ sym (mod-add-mod home n (g + (n - home % n))) ∙ ap (λ i. i % n) sum ∙ add-mod_right g n ∙ mod-eq_of_lt below,
+    )
+
+module _ {X : Type 0} (most home n : ℕ) (u v : View X) (all : n ≡ bundles_of u.start.frames) where
+  -- all bundles were passed by: each word was 0, or bits were lost
+  pub walked-dry : IsUnderWay most home n None u v → IsDry home [] [] u v
+  walked-dry way = record {
+    done = way.done;
+    refused = record { none = refl; same = refl; moves = way.moves; frames = way.frames };
+    walk = subst (λ i. Dry home (bundles_of u.start.frames) i way.done) all way.last;
+    known = λ a g below.
+        let r = reaches home (bundles_of u.start.frames) g below in
+        let low : r.0 < bundles_of u.start.frames = r.1 in
+        let here : r.0 < n = omega (arith, low, all) in
+        subst (λ i. word_at u (places.Bundle i) ≡ 0) r.2 ((way.known a).2 r.0 here);
+  }
+
+  pub walked-lost : (saw : Saw) → IsUnderWay most home n (Some saw) u v → IsLostWalk most home saw u v
+  walked-lost saw way = record {
+    done = way.done;
+    refused = record { none = refl; same = refl; moves = way.moves; frames = way.frames };
+    walk = subst (λ i. Walks most home (bundles_of u.start.frames) i way.done) all way.walk;
+    g = way.last.0;
+    at = way.last.1;
+    evidence = way.last.2;
+    others = λ a. none-some saw (sym (way.known a).0);
   }

@@ -1,11 +1,14 @@
--- Frames that a pass holds, and what a call leaves that moves free frames alone.
-use Rattle.std.specs.Prelude.{ℕ, true, List, ◌++◌, ◌≡◌, ◌<◌}
+-- Frames that a pass holds or knows to be free, and what a call leaves that moves free frames alone.
+use Rattle.std.specs.Prelude.{ℕ, true, List, [], ◌++◌, ◌≡◌, ◌≢◌, ◌⊎◌, ◌<◌}
 use Rattle.vm_owner.specs.Numbers.{has, AreApart}
 use Rattle.vm_rule.specs.declared.view.Did.{Did}
+use Rattle.vm_rule.specs.declared.view.Place.TheVariants as places
 use Rattle.vm_rule.specs.declared.view.View.{View}
+use Rattle.vm_rule.specs.Layout.{bundles_of}
 use Rattle.vm_rule.specs.Views.{Each, StartsWith, IsLocking, seat_of}
 use Rattle.vm_rule.specs.Reading.{last_of}
 use Rattle.vm_rule.specs.Mappings.{contents_at}
+use Rattle.vm_step.specs.Alone.{IsAlone, word_at}
 use Rattle.vm_step.specs.Asides.{StaysAlone}
 
 module _ {X : Type 0} where
@@ -14,6 +17,10 @@ module _ {X : Type 0} where
     pub apart : AreApart frames
     pub inside : Each (λ f. f < v.start.frames) frames
     pub held : Each (λ f. has f v.frames ≡ true) frames
+
+  -- the interface has a frame, or some bundle has one, as the pass knows the table
+  abbrev pub HasFree : List ℕ → View X → Type 0
+  HasFree frames v = (frames ≢ []) ⊎ ((g : ℕ) × (g < bundles_of v.start.frames) × (word_at v (places.Bundle g) ≢ 0))
 
   -- the call made these steps, and left all of the view but its free frames
   pub record MovesFrames (done : List Did) (v w : View X) : Type 0 where
@@ -33,3 +40,5 @@ module _ {X : Type 0} where
     -- the words of a frame that the pass had and has are as they were
     pub contents : (f : ℕ) → has f v.frames ≡ true → has f w.frames ≡ true → contents_at w f ≡ contents_at v f
     pub alone : StaysAlone v w
+    -- a pass that is alone knows the pages' state words as before
+    pub states : IsAlone v → (p : ℕ) → p < v.start.pages → word_at w (places.State p) ≡ word_at v (places.State p)

@@ -1,9 +1,11 @@
 -- What comes of a visit to one bundle on a walk, and of the walk: the parts of an allocation from an interface without a frame.
-use Rattle.std.specs.Prelude.{ℕ, List, [], ◌∷◌, ◌++◌, ◌≡◌, ◌≢◌, ◌≤◌, length, bit_xor}
+use Rattle.std.specs.Prelude.{ℕ, false, List, [], ◌∷◌, ◌++◌, ◌≡◌, ◌≢◌, ◌≤◌, length, bit_xor}
+use Rattle.vm_owner.specs.Numbers.{has}
 use Rattle.vm_rule.specs.declared.view.Did.{Did}
 use Rattle.vm_rule.specs.declared.view.Place.TheVariants as places
 use Rattle.vm_rule.specs.declared.view.View.{View}
 use Rattle.vm_rule.specs.Layout.{bundles_of}
+use Rattle.vm_rule.specs.Views.{Each}
 use Rattle.vm_rule.specs.Log.{did_load, did_exchange}
 use Rattle.vm_rule.specs.Bundles.{frames_in}
 use Rattle.vm_step.specs.declared.saw.At.TheVariants as ats
@@ -12,7 +14,8 @@ use Rattle.vm_exmap.specs.declared.interface.Alloc.{Alloc}
 use Rattle.vm_exmap.specs.declared.interface.Alloc.TheVariants as allocs
 use Rattle.vm_exmap.specs.declared.walk.Visited.{Visited}
 use Rattle.vm_exmap.specs.declared.walk.Visited.TheVariants as visits
-use Rattle.vm_step.specs.Evidence.{IsSaw, NoWord}
+use Rattle.vm_step.specs.Alone.{IsAlone, word_at}
+use Rattle.vm_step.specs.Evidence.{IsSaw, NoneExpected, NoWord}
 use Rattle.vm_exmap.specs.Frames.{AreHeld, MovesFrames}
 use Rattle.vm_exmap.specs.Walks.{Asks, Walks, TakesFrom, IsRefused, IsDry}
 
@@ -23,6 +26,8 @@ module _ {X : Type 0} where
   pub record IsEmptyVisit (g : ℕ) (v w : View X) : Type 0 where
     pub moves : MovesFrames (did_load (places.Bundle g) 0 ∷ []) v w
     pub frames : w.frames ≡ v.frames
+    -- so a pass that is alone knew
+    pub known : IsAlone v → (word_at v (places.Bundle g) ≡ 0) × (w.snapshot.words ≡ v.snapshot.words)
 
   -- the bits asked for were lost: another word stood there by then
   pub record IsLostVisit (most g : ℕ) (saw : Saw) (v w : View X) : Type 0 where
@@ -33,6 +38,8 @@ module _ {X : Type 0} where
     pub other : saw.seen ≢ saw.first
     pub moves : MovesFrames (load ∷ did_exchange (places.Bundle g) saw.first saw.seen (bit_xor saw.first mask) ∷ []) v w
     pub frames : w.frames ≡ v.frames
+    -- a pass that is alone loses none
+    pub others : IsAlone v → ⊥
 
   -- they were taken: their frames, which are not none, are the pass's now, and were not before
   pub record IsTakenVisit (most g mask : ℕ) (v w : View X) : Type 0 where
@@ -41,6 +48,7 @@ module _ {X : Type 0} where
     pub asks : Asks most g word mask load
     pub moves : MovesFrames (load ∷ did_exchange (places.Bundle g) word word (bit_xor word mask) ∷ []) v w
     pub frames : w.frames ≡ frames_in g mask ++ v.frames
+    pub new : Each (λ f. has f v.frames ≡ false) (frames_in g mask)
     pub held : AreHeld (frames_in g mask) w
     pub some : 1 ≤ length (frames_in g mask)
 
@@ -70,7 +78,8 @@ module _ {X : Type 0} where
     pub walk : Walks most home (bundles_of v.start.frames) (bundles_of v.start.frames) done
     pub g : ℕ
     pub at : saw.at ≡ ats.Bundle g
-    pub evidence : IsSaw NoWord done saw
+    pub evidence : IsSaw NoWord NoneExpected done saw
+    pub others : IsAlone v → ⊥
 
   -- what a walk over the bundles comes to
   abbrev pub IsWalk : ℕ → ℕ → View X → View X → Alloc → Type 0

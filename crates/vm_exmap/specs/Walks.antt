@@ -1,17 +1,20 @@
 -- How an interface comes to frames: from its own, or by a walk over the bundles, from its home bundle on and round.
-use Rattle.std.specs.Prelude.{ℕ, List, [], ◌∷◌, ◌++◌, ◌≡◌, ◌≢◌, ◌⊎◌, ◌+◌, ◌<◌, ◌%◌, zero, suc, length, min, max, bit_xor}
+use Rattle.std.specs.Prelude.{ℕ, false, List, [], ◌∷◌, ◌++◌, ◌≡◌, ◌≢◌, ◌⊎◌, ◌+◌, ◌<◌, ◌%◌, zero, suc, length, min, max, bit_xor}
 use Rattle.vm_core.specs.Words.{AreLowest}
+use Rattle.vm_owner.specs.Numbers.{has}
 use Rattle.vm_rule.specs.declared.view.Did.{Did}
 use Rattle.vm_rule.specs.declared.view.Place.TheVariants as places
 use Rattle.vm_rule.specs.declared.view.View.{View}
 use Rattle.vm_rule.specs.Layout.{bundles_of}
+use Rattle.vm_rule.specs.Views.{Each}
 use Rattle.vm_rule.specs.Log.{did_load, did_exchange}
 use Rattle.vm_rule.specs.Bundles.{frames_in}
 use Rattle.vm_step.specs.declared.saw.At.TheVariants as ats
 use Rattle.vm_step.specs.declared.saw.Saw.{Saw}
 use Rattle.vm_exmap.specs.declared.interface.Alloc.{Alloc}
 use Rattle.vm_exmap.specs.declared.interface.Alloc.TheVariants as allocs
-use Rattle.vm_step.specs.Evidence.{IsSaw, NoWord}
+use Rattle.vm_step.specs.Alone.{IsAlone, word_at}
+use Rattle.vm_step.specs.Evidence.{IsSaw, NoneExpected, NoWord}
 use Rattle.vm_exmap.specs.Frames.{MovesFrames}
 
 -- the k-th bundle of the walk
@@ -58,6 +61,7 @@ module _ {X : Type 0} where
     pub cut : done ≡ before ++ load ∷ did_exchange (places.Bundle g) word word (bit_xor word mask) ∷ []
     -- the frames come to the pass, which had none of them
     pub frames : w.frames ≡ frames_in g mask ++ v.frames
+    pub new : Each (λ f. has f v.frames ≡ false) (frames_in g mask)
 
   -- the interface had frames: the first of them are handed out, with no step
   pub record IsOwn (n : ℕ) (old batch new : List ℕ) (v w : View X) : Type 0 where
@@ -87,6 +91,8 @@ module _ {X : Type 0} where
     pub done : List Did
     pub refused : IsRefused done old new v w
     pub walk : Dry home (bundles_of v.start.frames) (bundles_of v.start.frames) done
+    -- so a pass that is alone knew
+    pub known : IsAlone v → (g : ℕ) → g < bundles_of v.start.frames → word_at v (places.Bundle g) ≡ 0
 
   -- each bundle was passed by, and the bits of one were lost: the evidence is that exchange
   pub record IsLostOut (home cap n : ℕ) (old new : List ℕ) (saw : Saw) (v w : View X) : Type 0 where
@@ -95,7 +101,9 @@ module _ {X : Type 0} where
     pub walk : Walks (max n cap) home (bundles_of v.start.frames) (bundles_of v.start.frames) done
     pub g : ℕ
     pub at : saw.at ≡ ats.Bundle g
-    pub evidence : IsSaw NoWord done saw
+    pub evidence : IsSaw NoWord NoneExpected done saw
+    -- a pass that is alone loses none
+    pub others : IsAlone v → ⊥
 
   -- what `alloc` of n frames answers, of an interface that had the frames `old` and has the frames `new`
   abbrev pub IsAlloc : ℕ → ℕ → ℕ → List ℕ → List ℕ → View X → View X → Alloc → Type 0

@@ -7,12 +7,12 @@ ghost use Rattle.vm_step.specs.Ready.{IsReady};
 ghost use Rattle.vm_exmap.specs.Returns.{AreGiven, IsFreed};
 ghost use Rattle.vm_exmap.specs.Walks.{HandsOut, IsAlloc};
 
-use crate::batch::{Batch, mask_of};
+use crate::bits::mask_of;
 use crate::walk::walk;
 use vm_block::Block;
 use vm_owner::Owner;
 use vm_rule::words::{Pass, Words};
-use vm_step::{Saw, give};
+use vm_step::{Batch, Saw, give};
 
 /// How many frames a bundle has.
 const FRAMES: usize = 64;

@@ -1,11 +1,10 @@
 //! A pass's own store of free frames over the bundles that all passes share: frames are taken and given back in batches.
 #![tactic(auto)]
 
-mod batch;
+mod bits;
 mod interface;
 mod walk;
 
-pub use batch::Batch;
 pub use interface::{Alloc, Interface};
 
 #[cfg(test)]

@@ -4,7 +4,7 @@ ghost use Rattle.vm_exmap.specs.Visits.{IsVisited, IsWalk};
 ghost use Rattle.vm_step.specs.Passes.{IsSamePass, view};
 ghost use Rattle.vm_step.specs.Ready.{IsReady};
 
-use crate::batch::Batch;
+use crate::bits::frames_of;
 use crate::interface::Alloc;
 use vm_block::Block;
 use vm_core::Bundle;
@@ -75,7 +75,7 @@ pub(crate) fn walk<U: Owner, B: Block>(
         match visit(words, pass, g, most) {
             Visited::Empty => {}
             Visited::Lost(saw) => lost = Some(saw),
-            Visited::Taken(mask) => return Alloc::Batch(Batch::of_bundle(g, mask)),
+            Visited::Taken(mask) => return Alloc::Batch(frames_of(g, mask)),
         }
     }
     match lost {

@@ -1,6 +1,6 @@
 -- The release of a page that was found evicted and locked: nothing but its version is another then, and the pass holds what it held.
-use Rattle.std.proofs.Common.{ℕ, ◌≡◌, ◌≢◌, ◌≤◌, ◌<◌, ◌+◌, ◌++◌, if◌then◌else◌, true, false, List, [], ◌∷◌, Option, Some, None, refl, sym, ap, ◌∙◌, inl, arith, ⊎_elim, eqb, append_assoc}
-use Rattle.std.proofs.lemmas.Bool.{false≢true, cond-false, ne_eqb}
+use Rattle.std.proofs.Common.{ℕ, ◌≡◌, ◌≢◌, ◌≤◌, ◌<◌, ◌+◌, ◌++◌, if◌then◌else◌, true, false, List, [], ◌∷◌, Option, Some, None, refl, sym, ap, ◌∙◌, inl, arith, ⊎_elim, append_assoc}
+use Rattle.std.proofs.lemmas.Bool.{false≢true, cond-false}
 use Rattle.vm_core.specs.declared.event.Seat.{Seat}
 use Rattle.vm_core.specs.Words.{word_of, UNLOCKED, EVICTED, MAX_VERSION}
 use Rattle.vm_core.specs.History.{History, Version}
@@ -11,7 +11,6 @@ use Rattle.vm_owner.specs.Numbers.{has, without}
 use Rattle.vm_owner.proofs.NumberLemmas.{without-none}
 use Rattle.vm_rule.specs.declared.view.Did.{Did}
 use Rattle.vm_rule.specs.declared.view.Origin.{Origin}
-use Rattle.vm_rule.specs.declared.view.Place.{Place}
 use Rattle.vm_rule.specs.declared.view.Place.TheVariants as places
 use Rattle.vm_rule.specs.declared.view.Release.{Release}
 use Rattle.vm_rule.specs.declared.view.View.{View}
@@ -24,28 +23,13 @@ use Rattle.vm_rule.specs.Releases.{EvictTold, ReleaseTold, next_after}
 use Rattle.vm_rule.proofs.Entries.{append-none}
 use Rattle.vm_rule.proofs.Worlds.{last-is, release-here}
 use Rattle.vm_step.specs.Asides.{IsAside}
-use Rattle.vm_step.specs.Evidence.{HasGiven, HasWritten}
+use Rattle.vm_step.specs.Works.{Leaves, Works}
+use Rattle.vm_step.proofs.Alone.{stays-alone}
+use Rattle.vm_step.proofs.Asides.{alone-release, alone-then}
+use Rattle.vm_step.proofs.Evidenced.{given-front, next-stays}
+use Rattle.vm_step.proofs.Leaves.{aside-of, leaves-released, leaves-then}
 use Rattle.vm_fault.specs.Fetches.{IsReleasedAs}
 use Rattle.vm_fault.proofs.Evicted.{IsHeldEmpty}
-use Rattle.vm_fault.proofs.Leaves.{Leaves, Works, aside-of, leaves-released, leaves-then}
-
--- ---- evidence in a longer list of steps
-
-pub given-front : (a b : List Did) (at : Place) (word : ℕ) → HasGiven a at word → HasGiven (a ++ b) at word
-given-front a b at word h = record { earlier = h.earlier; step = h.step; later = h.later ++ b; cut = ap (λ (t : List Did). t ++ b) h.cut ∙ append_assoc h.earlier (h.step ∷ h.later) b; gives = h.gives }
-
-pub written-front : (a b : List Did) (at : Place) (word : ℕ) → HasWritten a at word → HasWritten (a ++ b) at word
-written-front a b at word h =
-    record { earlier = h.earlier; step = h.step; later = h.later ++ b; cut = ap (λ (t : List Did). t ++ b) h.cut ∙ append_assoc h.earlier (h.step ∷ h.later) b; place = h.place; wrote = h.wrote }
-
-pub written-behind : (a b : List Did) (at : Place) (word : ℕ) → HasWritten b at word → HasWritten (a ++ b) at word
-written-behind a b at word h =
-    record { earlier = a ++ h.earlier; step = h.step; later = h.later; cut = ap (λ (t : List Did). a ++ t) h.cut ∙ sym (append_assoc a h.earlier (h.step ∷ h.later)); place = h.place; wrote = h.wrote }
-
--- the next word is known on where it was another page
-next-stays : (p : ℕ) (o : Option ℕ) → o ≢ Some p → next_after p o ≡ o
-next-stays p None ne = refl
-next-stays p (Some x) ne = cond-false (eqb x p) None (Some x) (ne_eqb x p (λ e. ne (ap (λ (y : ℕ). Some y) e)))
 
 -- an unlocked word is its version
 pub unlocked-is : (version : ℕ) → version ≡ word_of UNLOCKED version
@@ -104,7 +88,7 @@ module _ {X : Type 0} (p version : ℕ) (words : List ℕ) (before more : List D
       seat-now = ap (λ (y : View X). seat_of y p) b.view ∙ upd-same (put_at no_seat f.seats) p end-seat
 
       one : Leaves p (end-did ∷ []) f w
-      one = leaves-released p end-did (version + 1) (draft_of f p) [] f end-inner w b (still-draft ∙ ap (λ (y : Version). y.words) (sym still-last))
+      one = leaves-released p end-did end-release [] f end-inner w None b refl
           record {
             log = refl;
             live = refl;
@@ -129,6 +113,9 @@ module _ {X : Type 0} (p version : ℕ) (words : List ℕ) (before more : List D
       ends-aside out =
           aside-of p all v w (leaves-then p all-before (end-did ∷ []) v f w so-far one) (ap (λ (y : View X). y.out) b.view ∙ out)
           record { shares = shares-now; exclusive = ap (λ (s : Seat). s.exclusive) seat-now ∙ sym h.before.0; writing = writing-now } (λ l. absurd (not-before l))
+          (alone-then v x w h.leaves.parts h.alone
+          (alone-then x f w k.leaves.parts (stays-alone more x f k.leaves.start k.alone)
+          (alone-release end-did p (version + 1) (draft_of f p) [] f end-inner w b refl (still-draft ∙ ap (λ (y : Version). y.words) (sym still-last)))))
 
       abbrev since : List Release
       since = so-far.releases.0 ++ b.between

@@ -21,18 +21,21 @@ use Rattle.vm_rule.specs.Rule.{no_held}
 use Rattle.vm_rule.specs.Brought.{Brings}
 use Rattle.vm_rule.specs.Log.{did_load, did_exchange}
 use Rattle.vm_rule.specs.Locks.{IsHeldAt, IsUnheld, locked_view}
+use Rattle.vm_rule.specs.Looks.{looked_view}
 use Rattle.vm_rule.specs.Mappings.{held_at}
 use Rattle.vm_rule.proofs.WordFacts.{word-state, word-version}
-use Rattle.vm_step.specs.Asides.{KeepsFrames}
+use Rattle.vm_step.specs.Asides.{KeepsFrames, StaysAlone}
 use Rattle.vm_step.specs.Evidence.{HasGiven}
-use Rattle.vm_step.proofs.Asides.{OnlyReads, look-only}
+use Rattle.vm_step.specs.Works.{Leaves}
+use Rattle.vm_step.proofs.Asides.{OnlyReads, alone-silent, alone-then, look-only}
+use Rattle.vm_step.proofs.Leaves.{leaves-quiet, leaves-then}
 use Rattle.vm_fault.specs.Fetches.{IsFoundEvicted}
-use Rattle.vm_fault.proofs.Leaves.{Leaves, leaves-aside, leaves-quiet, leaves-then}
 
 module _ {X : Type 0} where
   -- the pass, which had none of page p at v, holds it exclusively at x: it is not resident, its draft is its last words, and its block has them
   pub record IsHeldEmpty (p version : ℕ) (words : List ℕ) (done : List Did) (v x : View X) : Type 0 where
     pub leaves : Leaves p done v x
+    pub alone : StaysAlone v x
     pub found : HasGiven done (places.State p) (word_of EVICTED version)
     pub before : ((seat_of v p).exclusive ≡ false) × ((seat_of v p).shares ≡ 0)
     pub shares : (seat_of x p).shares ≡ (seat_of v p).shares
@@ -71,6 +74,24 @@ module _ {X : Type 0} where
     looked : OnlyReads (λ q. q ≡ p) (look-did ∷ []) v f.between
     looked = look-only (λ q. q ≡ p) tied p f.word v f.between refl f.look
 
+    -- a look changes the open read of page p alone
+    looks : Leaves p (look-did ∷ []) v f.between
+    looks =
+        leaves-quiet p look-did None _ v (looked_view p None f.word (last_of f.between p).words v) f.between f.look.brings
+        record {
+          log = refl;
+          live = refl;
+          start = refl;
+          parts = (refl, refl);
+          mine = sym (ap (λ (y : View X). y.mine) f.look.brings.view) ∙ looked.aside.mine;
+          ties = (_, refl);
+          group = (refl, refl, refl);
+          seats = λ q ne. upd-other (put_at no_seat v.seats) p _ q ne;
+          loads = λ q ne. upd-other (put_at [] v.loads) p _ q ne;
+          held = λ q ne. refl;
+          drafts = λ q ne. refl;
+        }
+
     brings : Brings lock-did [] [] f.between lock-inner x
     brings = subst (λ (y : View X). Brings lock-did [] [] f.between y x) (cond-true (eqb expects expects) lock-inner f.between (eq-eqb expects expects refl)) f.lock.brings
 
@@ -97,7 +118,7 @@ module _ {X : Type 0} where
 
     pub held-empty : IsHeldEmpty p version words (look-did ∷ lock-did ∷ []) v x
     held-empty = record {
-      leaves = leaves-then p (look-did ∷ []) (lock-did ∷ []) v f.between x (leaves-aside p (look-did ∷ []) v f.between looked.aside)
+      leaves = leaves-then p (look-did ∷ []) (lock-did ∷ []) v f.between x looks
           (leaves-quiet p lock-did None [] f.between lock-inner x brings
           record {
             log = refl;
@@ -112,6 +133,7 @@ module _ {X : Type 0} where
             held = λ q ne. upd-other (put_at no_held f.between.held) p f.lock.held q ne;
             drafts = λ q ne. upd-other (put_at [] f.between.drafts) p words q ne;
           });
+      alone = alone-then v f.between x looked.aside.parts looked.aside.alone (alone-silent lock-did None [] f.between lock-inner x brings refl);
       found = record { earlier = look-did ∷ []; step = lock-did; later = []; cut = refl; gives = (refl, refl) };
       before = (sym (looked.aside.holds p).exclusive ∙ unheld.exclusive, sym (looked.aside.holds p).shares ∙ unheld.shares);
       shares = ap (λ (s : Seat). s.shares) seat-now ∙ (looked.aside.holds p).shares;

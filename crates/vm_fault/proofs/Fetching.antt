@@ -1,7 +1,8 @@
 -- The page was found evicted and locked, and its block was read: it is installed with the block's words and released, or released as evicted.
-use Rattle.std.proofs.Common.{ℕ, ◌≡◌, ◌<◌, ◌==◌, ◌||◌, ◌+◌, ◌++◌, true, false, nat_lt, List, [], ◌∷◌, Some, None, IsSome, length, refl, sym, ap, subst, ◌∙◌, inl, arith, ⊎_elim, slice_index, min, if◌then◌else◌, Bool, Result, Ok, Err, is_ok, OnOk}
-use Rattle.std.proofs.lemmas.Bool.{cond-true, eq-eqb, lt-ltb, or_left, or_right, cases_lt}
+use Rattle.std.proofs.Common.{ℕ, ◌≡◌, ◌<◌, ◌≤◌, ◌+◌, ◌++◌, true, false, List, [], ◌∷◌, Some, None, IsSome, length, refl, sym, ap, subst, ◌∙◌, inl, arith, slice_index, if◌then◌else◌, Bool, Result, Ok, Err, is_ok, OnOk}
+use Rattle.std.proofs.lemmas.Bool.{or_left}
 use Rattle.std.proofs.lemmas.Option.{none-some}
+use Rattle.vm_core.specs.Fn as fns
 use Rattle.vm_core.specs.Words.{count_more, MAX_VERSION, EVICTED, word_of}
 use Rattle.vm_core.specs.FrameActs.{trans_word}
 use Rattle.vm_core.specs.History.{Version}
@@ -18,7 +19,7 @@ use Rattle.vm_rule.specs.declared.view.Place.TheVariants as places
 use Rattle.vm_rule.specs.declared.view.View.{View}
 use Rattle.vm_rule.specs.Puts.{put, put_at}
 use Rattle.vm_rule.specs.Views.{seat_of}
-use Rattle.vm_rule.specs.Rule.{no_held, MAX_COUNT}
+use Rattle.vm_rule.specs.Rule.{no_held}
 use Rattle.vm_rule.specs.Faults.{RaiseTold, notes_of}
 use Rattle.vm_rule.specs.Log.{did_store}
 use Rattle.vm_rule.specs.Mappings.{InstallTold, MayPutInto, clean_in, held_at, mapped}
@@ -26,24 +27,14 @@ use Rattle.vm_rule.specs.Releases.{EvictTold, ReleaseTold}
 use Rattle.vm_rule.specs.Slots.{HomeTold, MayBring, OutTold, out_at}
 use Rattle.vm_step.specs.Conditions.{IsNotOut, MayEvict, MayGiveUp, MayRaise, MayTakeOut}
 use Rattle.vm_step.specs.Evidence.{HasWritten}
+use Rattle.vm_step.specs.Works.{Works}
+use Rattle.vm_step.proofs.Device.{Moves, call-did, called, counts-one, goes-out, may-bring, more-is, noted-more, two-loads}
+use Rattle.vm_step.proofs.Evidenced.{written-behind, written-front}
+use Rattle.vm_step.proofs.Leaves.{works-one, works-then}
 use Rattle.vm_fault.specs.Fetches.{IsBrought, IsFailed, Stores}
-use Rattle.vm_fault.proofs.Device.{Moves, call-did, called, goes-out, may-bring, more-is, two-loads}
-use Rattle.vm_fault.proofs.Ending.{evicted-aside, evicted-released, still-draft, still-free, still-last, still-owns, still-paid, unlocked-aside, unlocked-released, written-behind, written-front}
+use Rattle.vm_fault.proofs.Ending.{evicted-aside, evicted-released, still-draft, still-free, still-last, still-owns, still-paid, unlocked-aside, unlocked-released}
 use Rattle.vm_fault.proofs.Evicted.{IsHeldEmpty}
 use Rattle.vm_fault.proofs.Filling.{Fills, all-stored, filled, fills, stores-did}
-use Rattle.vm_fault.proofs.Leaves.{Works, works-one, works-then}
-
--- a count that a fault raises is higher, or the last one
-higher : (n : ℕ) → (nat_lt n (count_more n) || count_more n == MAX_COUNT) ≡ true
-unfolding count_more
-higher n =
-    ⊎_elim
-    (λ l. or_left (nat_lt n (min (n + 1) MAX_COUNT)) (min (n + 1) MAX_COUNT == MAX_COUNT) (lt-ltb n (min (n + 1) MAX_COUNT) (omega (arith, l))))
-    (λ le. or_right (nat_lt n (min (n + 1) MAX_COUNT)) (min (n + 1) MAX_COUNT == MAX_COUNT) (eq-eqb (min (n + 1) MAX_COUNT) MAX_COUNT (omega (arith, le))))
-    (cases_lt n MAX_COUNT)
-
-noted-more : (p count : ℕ) → notes_of p count (count_more count) ≡ record { page = p; count = count_more count } ∷ []
-noted-more p count = cond-true (nat_lt count (count_more count) || count_more count == MAX_COUNT) (record { page = p; count = count_more count } ∷ []) [] (higher count)
 
 module _ {X : Type 0} (p version : ℕ) (words : List ℕ) (before : List Did) (v x : View X) (h : IsHeldEmpty p version words before v x) where
   -- the block may be taken out
@@ -238,12 +229,20 @@ module _ {X : Type 0} (p version : ℕ) (words : List ℕ) (before : List Did) (
         paid = still-paid p version words before raised-did v x y h work-raised;
       }
 
-      module _ (u : E) (err : result ≡ Err u) (below : version < MAX_VERSION) (none : x.out ≡ None) (w : View X) (r : EvictTold p version y w) where
+      module _ (u : E) (err : result ≡ Err u) (bounded : new.count ≤ new.bound) (below : version < MAX_VERSION) (none : x.out ≡ None) (w : View X) (r : EvictTold p version y w) where
         abbrev evict-did : Did
         evict-did = did_store (places.State p) (word_of EVICTED (version + 1))
 
         count : new.count ≡ count_more old.count
         count = read.count ∙ ap (λ (z : Result (Unit {0}) E). if is_ok z then old.count else one_more old.count) err ∙ more-is old.count
+
+        -- the count is what the block's bound allows
+        allowed : (1 ≤ n) × (n ≤ fns.at 0 v.start.bounds p)
+        allowed =
+            let bound : new.bound ≡ fns.at 0 v.start.bounds p = read.bound ∙ o.slot.block.bound ∙ ap (λ (z : Origin). fns.at 0 z.bounds p) h.leaves.start in
+            let raised : 1 ≤ count_more old.count = counts-one old.count in
+            let counted : n ≡ count_more old.count = is ∙ count in
+            (omega (arith, raised, counted), omega (arith, is, bounded, bound))
 
         -- the fault word was the count before
         noted-once : notes_of p (held_at d p).fault n ≡ record { page = p; count = n } ∷ []
@@ -267,6 +266,7 @@ module _ {X : Type 0} (p version : ℕ) (words : List ℕ) (before : List Did) (
               ∙ ap (λ (z : View X). z.notes) t.brings.view
               ∙ ap (λ l. d.notes ++ l) noted-once
               ∙ ap (λ l. l ++ record { page = p; count = n } ∷ []) (moved.keeps.notes ∙ h.keeps.notes);
+          within = allowed;
           frames = (
             ap (λ (z : View X). z.frames) r.brings.view ∙ ap (λ (z : View X). z.frames) t.brings.view ∙ moved.keeps.frames ∙ h.keeps.frames,
             ap (λ (z : View X). z.contents) r.brings.view ∙ ap (λ (z : View X). z.contents) t.brings.view ∙ moved.keeps.contents ∙ h.keeps.contents,

@@ -11,8 +11,9 @@ use Rattle.vm_rule.specs.Log.{did_store}
 use Rattle.vm_rule.specs.Mappings.{contents_at}
 use Rattle.vm_rule.specs.Stores.{FillTold}
 use Rattle.vm_step.specs.Evidence.{HasWritten}
+use Rattle.vm_step.specs.Works.{Works}
+use Rattle.vm_step.proofs.Leaves.{works-none, works-one, works-then}
 use Rattle.vm_fault.specs.Fetches.{Stores}
-use Rattle.vm_fault.proofs.Leaves.{Works, works-none, works-one, works-then}
 
 -- ---- words written over others, from the i-th on
 

@@ -1,6 +1,7 @@
 -- What bringing a page into a frame answers. A page that was evicted is released at its next version with the words that it had: resident in
 -- the frame, or evicted again where its block could not be read.
-use Rattle.std.specs.Prelude.{ℕ, true, List, [], ◌∷◌, ◌++◌, ◌≡◌, ◌≢◌, ◌⊎◌, ◌+◌, ◌<◌, slice_index, Some, None}
+use Rattle.std.specs.Prelude.{ℕ, true, List, [], ◌∷◌, ◌++◌, ◌≡◌, ◌≢◌, ◌⊎◌, ◌+◌, ◌<◌, ◌≤◌, slice_index, Some, None}
+use Rattle.vm_core.specs.Fn as fns
 use Rattle.vm_core.specs.Words.{state_of, version_of, word_of, UNLOCKED, EVICTED, MAX_VERSION}
 use Rattle.vm_core.specs.FrameActs.{trans_word}
 use Rattle.vm_owner.specs.Kept.{Start}
@@ -9,6 +10,7 @@ use Rattle.vm_rule.specs.declared.view.Did.{Did}
 use Rattle.vm_rule.specs.declared.view.Place.TheVariants as places
 use Rattle.vm_rule.specs.declared.view.Release.{Release}
 use Rattle.vm_rule.specs.declared.view.View.{View}
+use Rattle.vm_rule.specs.Views.{Each}
 use Rattle.vm_rule.specs.Reading.{last_in, last_of}
 use Rattle.vm_rule.specs.Locks.{LockTold}
 use Rattle.vm_rule.specs.Looks.{LookTold}
@@ -18,15 +20,27 @@ use Rattle.vm_step.specs.declared.saw.At.TheVariants as ats
 use Rattle.vm_step.specs.declared.saw.Saw.{Saw}
 use Rattle.vm_fault.specs.declared.fault.Fetch.{Fetch}
 use Rattle.vm_fault.specs.declared.fault.Fetch.TheVariants as fetches
+use Rattle.vm_step.specs.Alone.{IsAlone, word_at}
 use Rattle.vm_step.specs.Asides.{IsAside, KeepsFrames}
-use Rattle.vm_step.specs.Evidence.{HasGiven, HasWritten, IsSaw, NoWord}
+use Rattle.vm_step.specs.Evidence.{EvictedExpected, HasGiven, HasWritten, IsLost, IsSaw, NoWord}
 
 -- the page was found at the last version, in a state other than evicted: no lock of it may be tried
 pub record IsWornIn (done : List Did) (p : ℕ) (saw : Saw) : Type 0 where
   pub given : HasGiven done (places.State p) saw.seen
+  pub foreign : Each (λ d. d.at ≡ places.State p → d.wrote ≢ Some saw.seen) given.earlier
   pub last : version_of saw.seen ≡ MAX_VERSION
   pub other : state_of saw.seen ≢ EVICTED
   pub first : saw.first ≡ word_of EVICTED MAX_VERSION
+
+-- the exchange that was to lock the page expected it evicted at the version seen, and found another word
+pub record IsLostTo (done : List Did) (p : ℕ) (saw : Saw) : Type 0 where
+  pub evidence : IsSaw NoWord EvictedExpected done saw
+  pub earlier : List Did
+  pub step : Did
+  pub later : List Did
+  pub cut : done ≡ earlier ++ step ∷ later
+  pub lost : IsLost step (places.State p) saw.first saw.seen
+  pub first : state_of saw.first ≡ EVICTED
 
 module _ {X : Type 0} where
   -- a look at page p led on from v, and then the lock of the page, which was evicted at this version, to w
@@ -40,6 +54,10 @@ module _ {X : Type 0} where
   abbrev pub Stores : ℕ → ℕ → List ℕ → View X → View X → Type 0
   Stores f i [] v w = w ≡ v
   Stores f i (x ∷ xs) v w = (between : View X) × FillTold f i x v between × Stores f (i + 1) xs between w
+
+  -- the pass knows that page p is evicted below the last version
+  abbrev pub IsKnownOut : ℕ → View X → Type 0
+  IsKnownOut p v = (state_of (word_at v (places.State p)) ≡ EVICTED) × (version_of (word_at v (places.State p)) < MAX_VERSION)
 
   -- page p was found evicted at this version, below the last, and was released with this word at the next one; its words are those that it had
   pub record IsReleasedAs (state p version : ℕ) (words : List ℕ) (done : List Did) (v w : View X) : Type 0 where
@@ -63,7 +81,8 @@ module _ {X : Type 0} where
     pub frames : w.frames ≡ without f v.frames
     pub notes : w.notes ≡ v.notes
 
-  -- its block could not be read: the fault was noted, with the count that the fault word was raised to, and the page is evicted again
+  -- its block could not be read: the fault was noted, with the count that the fault word was raised to, which the block's bound allows, and
+  -- the page is evicted again
   pub record IsFailed (p count : ℕ) (v w : View X) : Type 0 where
     pub done : List Did
     pub aside : IsAside p done v w
@@ -72,6 +91,7 @@ module _ {X : Type 0} where
     pub released : IsReleasedAs EVICTED p version words done v w
     pub raised : HasWritten done (places.Fault p) count
     pub noted : w.notes ≡ v.notes ++ record { page = p; count = count } ∷ []
+    pub within : (1 ≤ count) × (count ≤ fns.at 0 v.start.bounds p)
     pub frames : (w.frames ≡ v.frames) × (w.contents ≡ v.contents)
 
   -- it may be tried again
@@ -80,7 +100,9 @@ module _ {X : Type 0} where
     pub aside : IsAside p done v w
     pub keeps : KeepsFrames v w
     pub at : saw.at ≡ ats.Page p
-    pub why : IsSaw NoWord done saw ⊎ IsWornIn done p saw
+    pub why : IsLostTo done p saw ⊎ IsWornIn done p saw
+    -- a pass that is alone finds the word that it knew, which is not an evicted page's
+    pub known : IsAlone v → (saw.seen ≡ word_at v (places.State p)) × (state_of saw.seen ≢ EVICTED)
 
   -- it is evicted at the last version
   pub record IsWornOut (p : ℕ) (v w : View X) : Type 0 where
@@ -88,6 +110,9 @@ module _ {X : Type 0} where
     pub aside : IsAside p done v w
     pub keeps : KeepsFrames v w
     pub found : HasGiven done (places.State p) (word_of EVICTED MAX_VERSION)
+    pub foreign : Each (λ d. d.at ≡ places.State p → d.wrote ≢ Some (word_of EVICTED MAX_VERSION)) found.earlier
+    -- so a pass that is alone knew
+    pub known : IsAlone v → word_at v (places.State p) ≡ word_of EVICTED MAX_VERSION
 
   -- what `fault_in` of page p into frame f answers: on every answer but Brought the frame comes back
   abbrev pub IsFetched : ℕ → ℕ → View X → View X → Fetch → Type 0

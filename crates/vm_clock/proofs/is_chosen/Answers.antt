@@ -1,5 +1,5 @@
 use Rattle.std.proofs.Common.{◌≡◌, ◌+◌, false, suc, take, sym, subst, arith}
-use Rattle.vm_clock.specs.Clock.{pages_of}
+use Rattle.vm_step.specs.Choices.{pages_of}
 use Rattle.vm_owner.specs.Numbers.{has}
 use Rattle.vm_clock.proofs.Choices.{has-at, has-next}
 use Rattle.vm_clock.proofs.is_chosen.Goals as goal

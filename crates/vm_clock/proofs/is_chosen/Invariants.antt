@@ -1,5 +1,5 @@
 use Rattle.std.proofs.Common.{◌≡◌, false, take}
-use Rattle.vm_clock.specs.Clock.{pages_of}
+use Rattle.vm_step.specs.Choices.{pages_of}
 use Rattle.vm_owner.specs.Numbers.{has}
 use Rattle.vm_clock.proofs.is_chosen.Given as goal
 

@@ -3,10 +3,10 @@ use Rattle.vm_core.specs.Words.{MAX_VERSION}
 use Rattle.vm_owner.specs.Numbers.{has}
 use Rattle.vm_rule.specs.declared.view.View.{View}
 use Rattle.vm_rule.specs.declared.view.Origin.{Origin}
-use Rattle.vm_fault.proofs.Device.{goes-out, may-bring}
+use Rattle.vm_step.proofs.Device.{goes-out, may-bring}
+use Rattle.vm_step.proofs.Leaves.{ready-after, ready-on}
 use Rattle.vm_fault.proofs.Evicted.{held-empty}
 use Rattle.vm_fault.proofs.Fetching.{brought, failed, frames-called, may-evict, may-give_up, may-put, may-raise, may-take-out, work-called, work-raised}
-use Rattle.vm_fault.proofs.Leaves.{ready-after, ready-on}
 use Rattle.vm_fault.proofs.fault.bring_locked.Goals as goal
 
 within : (n : ℕ) → n < MAX_VERSION → n ≤ MAX_VERSION
@@ -65,4 +65,4 @@ returns-in-Err-clause-ready g c =
 
 pub returns-in-Err-clause-fetched : goal.returns-in-Err-clause-fetched
 returns-in-Err-clause-fetched g c first found =
-    (refl, refl, failed _ _ _ _ _ _ (held-empty g.U.Owner.tied c.args.pid c.args.version first _ (within _ c.requires.below) found) _ _ _ _ c.block_out-block.ensures.told g.B.Block.tells c.requires.ready.table.tells_is c.read-read.new.into c.read-read.result c.read-read.ensures c.block_home.ensures.told _ c.faults-count.ensures _ c.raise.ensures.told _ c.in-Err.is c.requires.below c.requires.home _ c.release_evicted.ensures.told)
+    (refl, refl, failed _ _ _ _ _ _ (held-empty g.U.Owner.tied c.args.pid c.args.version first _ (within _ c.requires.below) found) _ _ _ _ c.block_out-block.ensures.told g.B.Block.tells c.requires.ready.table.tells_is c.read-read.new.into c.read-read.result c.read-read.ensures c.block_home.ensures.told _ c.faults-count.ensures _ c.raise.ensures.told _ c.in-Err.is (g.met.B.Block.bounded c.read-read.new.self) c.requires.below c.requires.home _ c.release_evicted.ensures.told)

@@ -46,6 +46,5 @@ bring_locked-requires-clause-below g c = below c.look_silently-word.result _ c.v
 pub returns-in-Lost-clause-fetched : goal.returns-in-Lost-clause-fetched
 returns-in-Lost-clause-fetched g c =
     let n : c.version-version.result ≤ MAX_VERSION = within c.look_silently-word.result _ c.version-version.ensures in
-    let same = sym c.version-version.ensures ∙ sym (ap version_of c.of-first.ensures ∙ word-version EVICTED c.version-version.result n) in
     subst (IsFetched c.args.pid c.args.frame (view c.args.pass.now) (view c.lock_exclusive.new.pass)) (sym c.again-in-Lost.ensures)
-    (refl, lost g.U.Owner.tied c.args.pid c.look_silently-word.result _ _ c.look_silently-word.ensures.told c.of-first.result c.in-Lost.seen _ same (c.lock_exclusive.ensures.lost c.in-Lost.seen c.in-Lost.is) c.in-Lost.ensures.told)
+    (refl, lost g.U.Owner.tied c.args.pid c.look_silently-word.result _ _ c.look_silently-word.ensures.told c.of-first.result c.in-Lost.seen c.version-version.result _ c.of-first.ensures (sym c.version-version.ensures) (c.lock_exclusive.ensures.lost c.in-Lost.seen c.in-Lost.is) c.in-Lost.ensures.told)

@@ -4,8 +4,8 @@ use Rattle.std.proofs.lemmas.List.{length-take-le}
 use Rattle.vm_owner.specs.Numbers.{has}
 use Rattle.vm_rule.specs.Stores.{FillTold}
 use Rattle.vm_step.specs.Passes.{view}
+use Rattle.vm_step.proofs.Leaves.{ready-after}
 use Rattle.vm_fault.proofs.Filling.{fills, stores-more}
-use Rattle.vm_fault.proofs.Leaves.{ready-after}
 use Rattle.vm_fault.proofs.fault.fill.Goals as goal
 
 pub store-requires-clause-pass : goal.store-requires-clause-pass

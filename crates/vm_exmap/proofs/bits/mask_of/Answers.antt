@@ -4,8 +4,8 @@ use Rattle.std.proofs.lemmas.Nat.{one_shl}
 use Rattle.vm_core.specs.Words.{in_mask}
 use Rattle.vm_exmap.specs.Returns.{is_of}
 use Rattle.vm_exmap.proofs.BundleBits.{mask-none, mask-more, mask-same}
-use Rattle.vm_exmap.proofs.batch.mask_of.Goals as goal
-use Rattle.vm_exmap.proofs.batch.mask_of.Goals.{then-frame-g, else-frame-g}
+use Rattle.vm_exmap.proofs.bits.mask_of.Goals as goal
+use Rattle.vm_exmap.proofs.bits.mask_of.Goals.{then-frame-g, else-frame-g}
 
 pub loop-frame-init : goal.loop-frame-init
 loop-frame-init c f = mask-none c.args.g f

@@ -1,6 +1,6 @@
 use Rattle.std.proofs.Common.{◌≡◌, ◌≤◌, length}
 use Rattle.vm_rule.specs.Bundles.{frames_below}
-use Rattle.vm_exmap.proofs.batch.Batch.of_bundle.Given as goal
+use Rattle.vm_exmap.proofs.bits.frames_of.Given as goal
 
 -- the frames of the first i bits
 abbrev pub invariant-loop-i : goal.invariant-loop-i

@@ -1,7 +1,7 @@
 use Rattle.std.proofs.Common.{ℕ, ◌≡◌, take}
 use Rattle.vm_core.specs.Words.{in_mask}
 use Rattle.vm_exmap.specs.Returns.{is_of}
-use Rattle.vm_exmap.proofs.batch.mask_of.Given as goal
+use Rattle.vm_exmap.proofs.bits.mask_of.Given as goal
 
 -- the bits of the first frames
 abbrev pub invariant-loop-frame : goal.invariant-loop-frame

@@ -3,8 +3,8 @@ use Rattle.std.specs.Int.{bit_at}
 use Rattle.std.proofs.lemmas.Nat.Bits.{shr_and_one}
 use Rattle.vm_rule.specs.Bundles.{frames_below}
 use Rattle.vm_exmap.proofs.BundleBits.{below-set, below-clear, all-below}
-use Rattle.vm_exmap.proofs.batch.Batch.of_bundle.Goals as goal
-use Rattle.vm_exmap.proofs.batch.Batch.of_bundle.Goals.{then-mask-i-eq1, else-mask-i-eq1}
+use Rattle.vm_exmap.proofs.bits.frames_of.Goals as goal
+use Rattle.vm_exmap.proofs.bits.frames_of.Goals.{then-mask-i-eq1, else-mask-i-eq1}
 
 pub loop-i-preserved : goal.loop-i-preserved
 loop-i-preserved c =
