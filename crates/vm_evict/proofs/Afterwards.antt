@@ -17,15 +17,16 @@ use Rattle.vm_rule.specs.Mappings.{clean_in}
 use Rattle.vm_rule.proofs.Heard.{each-both}
 use Rattle.vm_step.specs.Asides.{KeepsFrames}
 use Rattle.vm_step.proofs.Asides.{OnlyReads, aside-then, keeps-then}
+use Rattle.vm_step.proofs.Evidenced.{given-behind, written-behind}
 use Rattle.vm_evict.specs.Evictions.{FramesCome, HasLost, IsDropped, IsEvicted, IsMissed, IsUnwritten}
 use Rattle.vm_evict.specs.Stages.{IsFate}
 use Rattle.vm_evict.specs.declared.candidate.Fate.{Fate}
 use Rattle.vm_evict.specs.declared.candidate.Fate.TheVariants as fates
-use Rattle.vm_evict.specs.Writes.{LeavesMapping}
+use Rattle.vm_evict.specs.Writes.{IsAllowed}
 use Rattle.vm_evict.proofs.Copying.{kept-both, kept-silent}
-use Rattle.vm_evict.proofs.Evidenced.{none-left, written-behind}
+use Rattle.vm_evict.proofs.Evidenced.{dirty-behind, none-left}
 
-lost-behind : (a b : List Did) (at : Place) (expects : ℕ) → Each (λ d. d.wrote ≡ None) a → HasLost b at expects → HasLost (a ++ b) at expects
+abbrev lost-behind : (a b : List Did) (at : Place) (expects : ℕ) → Each (λ d. d.wrote ≡ None) a → HasLost b at expects → HasLost (a ++ b) at expects
 lost-behind a b at expects silent h = record {
   earlier = a ++ h.earlier;
   step = h.step;
@@ -67,30 +68,34 @@ module _ {X : Type 0} where
             last = d.last;
           };
           cleaned = λ is. written-behind a e.done (places.Translation p) (trans_word (Some (clean_in frame))) (e.cleaned is);
+          stood = (e.stood.0, given-behind a e.done (places.Translation p) e.stood.0 e.stood.1, e.stood.2);
+          unwritten = λ is.
+              each-both (λ (d : Did). d.at ≡ places.Translation p → d.wrote ≢ Some (trans_word (Some (clean_in frame)))) a e.done (none-left a (places.Translation p) (trans_word (Some (clean_in frame))) silent) (e.unwritten is);
           frames = come-after (frame ∷ []) u v w o.aside.start o.keeps e.frames;
           notes = e.notes ∙ o.keeps.notes;
         }
 
-    abbrev unwritten-after : (version count : ℕ) → IsUnwritten p version count v w → IsUnwritten p version count u w
-    unwritten-after version count e = record {
+    failed-after : (version count : ℕ) → IsUnwritten p version count v w → IsUnwritten p version count u w
+    failed-after version count e = record {
       done = a ++ e.done;
       aside = aside-then (λ q. q ≡ p) a e.done u v w o.aside e.aside;
       shared = written-behind a e.done (places.State p) (word_of 1 version) e.shared;
+      dirty = (e.dirty.0, dirty-behind p e.dirty.0 a e.done e.dirty.1);
+      kept = kept-both p a e.done (kept-silent p a silent) e.kept;
       raised = written-behind a e.done (places.Fault p) count e.raised;
       noted = e.noted ∙ ap (λ (l : List Note). l ++ record { page = p; count = count } ∷ []) o.keeps.notes;
+      allowed = subst (λ (s : Origin). IsAllowed s p count) o.aside.start e.allowed;
       frames = (e.frames.0 ∙ o.keeps.frames, e.frames.1 ∙ o.keeps.contents);
     }
-
-    failed-after : (version count : ℕ) → ((e : IsUnwritten p version count v w) × LeavesMapping p e.done) → (e : IsUnwritten p version count u w) × LeavesMapping p e.done
-    failed-after version count e = (unwritten-after version count e.0, kept-both p a e.0.done (kept-silent p a silent) e.1)
 
     missed-after : (written : Bool) → IsMissed p word written v w → IsMissed p word written u w
     missed-after written e = record {
       done = a ++ e.done;
       aside = aside-then (λ q. q ≡ p) a e.done u v w o.aside e.aside;
       keeps = keeps-then u v w o.keeps e.keeps;
-      why = ⊎_elim (λ h. inl (lost-behind a e.done (places.State p) word silent h)) (λ h. inr (lost-behind a e.done (places.State p) (word_of 1 (version_of word)) silent h)) e.why;
+      why = ⊎_elim (λ h. inl (lost-behind a e.done (places.State p) word silent h)) (λ h. inr (lost-behind a e.done (places.State p) (word_of 1 (version_of word)) silent h.0, written-behind a h.0.earlier (places.State p) (word_of 1 (version_of word)) h.1)) e.why;
       cleaned = λ is. ((e.cleaned is).0, written-behind a e.done (places.Translation p) (trans_word (Some (clean_in (e.cleaned is).0))) (e.cleaned is).1);
+      unwritten = λ is. kept-both p a e.done (kept-silent p a silent) (e.unwritten is);
     }
 
     pub fate-after : (fate : Fate) → IsFate p word v w fate → IsFate p word u w fate

@@ -2,9 +2,10 @@
 -- frame is the pass's.
 use Rattle.std.proofs.Common.{ℕ, Bool, ◌≡◌, ◌≢◌, ◌<◌, ◌+◌, ◌==◌, ◌||◌, ◌++◌, true, false, List, [], ◌∷◌, Some, None, refl, sym, ap, subst, ◌∙◌, inl, append_assoc}
 use Rattle.std.proofs.lemmas.Bool.{false≢true, or_left}
+use Rattle.std.proofs.lemmas.Option.{none-some, same_Some}
 use Rattle.vm_core.specs.declared.event.Seat.{Seat}
 use Rattle.vm_core.specs.Words.{EVICTED, LOCKED, frame_in, version_of, word_of}
-use Rattle.vm_core.specs.FrameActs.{frame_of, trans_word}
+use Rattle.vm_core.specs.FrameActs.{frame_of, mapping_of, trans_word}
 use Rattle.vm_core.specs.History.{History, Version}
 use Rattle.vm_core.specs.Start.{no_seat}
 use Rattle.vm_core.proofs.Upd.{upd-other, upd-same}
@@ -23,6 +24,7 @@ use Rattle.vm_rule.specs.Loads.{TranslationTold}
 use Rattle.vm_rule.specs.Log.{did_load, did_store}
 use Rattle.vm_rule.specs.Mappings.{ClearTold, StandsClean, clean_in, contents_at, held_at, mapped}
 use Rattle.vm_rule.specs.Releases.{EvictTold, evicted_view}
+use Rattle.vm_rule.proofs.Heard.{each-both}
 use Rattle.vm_rule.proofs.Worlds.{last-is, release-here}
 use Rattle.vm_step.specs.Asides.{IsAside}
 use Rattle.vm_step.specs.Conditions.{MayEvict}
@@ -30,9 +32,11 @@ use Rattle.vm_step.specs.Works.{Leaves, Works}
 use Rattle.vm_step.proofs.Alone.{stays-alone}
 use Rattle.vm_step.proofs.Asides.{alone-release, alone-then}
 use Rattle.vm_step.proofs.Leaves.{aside-of, leaves-released, leaves-then, works-one, works-then}
+use Rattle.vm_step.proofs.Evidenced.{given-behind, given-front, next-stays, written-behind, written-front}
 use Rattle.vm_evict.specs.Evictions.{FramesCome, IsDropped, IsEvicted}
 use Rattle.vm_evict.specs.Stages.{IsOwning, owning_seat}
-use Rattle.vm_evict.proofs.Evidenced.{next-stays, not-locking, written-behind, written-front}
+use Rattle.vm_evict.proofs.Copying.{no-mapping}
+use Rattle.vm_evict.proofs.Evidenced.{none-kept, not-emptied, not-locking}
 use Rattle.vm_evict.proofs.Taken.{frame-said, locks-now, not-out, tload-works}
 
 -- one or more
@@ -54,10 +58,11 @@ module _ {X : Type 0} (p word frame : ℕ) (written : Bool) (v x : View X) (h : 
     loaded : Works p (load-did ∷ []) x a
     loaded = tload-works p t 0 true false x a h.taken.now l
 
+    said : mapping_of t ≡ Some (clean_in frame)
+    said = l.called (or_left (seat_of x p).exclusive (seat_of x p).writing (ap (λ (s : Seat). s.exclusive) h.taken.now)) ∙ h.stands
+
     pub names : frame_in t ≡ Some frame
-    names =
-        sym (frame-said t)
-        ∙ ap frame_of (l.called (or_left (seat_of x p).exclusive (seat_of x p).writing (ap (λ (s : Seat). s.exclusive) h.taken.now)) ∙ h.stands)
+    names = sym (frame-said t) ∙ ap frame_of said
 
     held-loaded : held_at a p ≡ held_at x p
     held-loaded = ap (λ (y : View X). held_at y p) l.brings.view
@@ -225,14 +230,29 @@ module _ {X : Type 0} (p word frame : ℕ) (written : Bool) (v x : View X) (h : 
               ∙ ap (λ k. put_at [] k f) contents-same;
         }
 
+        -- the step did not make it clean
+        abbrev leaves-it : Did → Type 0
+        leaves-it d = d.at ≡ places.Translation p → d.wrote ≢ Some (trans_word (Some (clean_in frame)))
+
         pub evicted : IsEvicted p word frame written v w
         evicted = record {
           done = all;
           aside = aside;
           dropped = dropped;
+          stood = (
+            t,
+            given-front all-before (end-did ∷ []) (places.Translation p) t
+                (given-behind h.done worked (places.Translation p) t record { earlier = []; step = load-did; later = clear-did ∷ []; cut = refl; gives = (refl, refl) }),
+            said,
+          );
           cleaned = λ is.
               written-front all-before (end-did ∷ []) (places.Translation p) (trans_word (Some (clean_in frame)))
               (written-front h.done worked (places.Translation p) (trans_word (Some (clean_in frame))) (h.cleaned is));
+          unwritten = λ is.
+              each-both leaves-it all-before (end-did ∷ [])
+              (each-both leaves-it h.done worked (none-kept h.done (places.Translation p) (trans_word (Some (clean_in frame))) (h.kept is))
+              ((λ here e. none-some (trans_word (Some (clean_in frame))) e), ((λ here e. not-emptied frame (same_Some (trans_word None) (trans_word (Some (clean_in frame))) e)), tt)))
+              (none-kept (end-did ∷ []) (places.Translation p) (trans_word (Some (clean_in frame))) (no-mapping p end-did refl, tt));
           frames = come;
           notes = ap (λ (y : View X). y.notes) e.brings.view ∙ ap (λ (y : View X). y.notes) c.brings.view ∙ ap (λ (y : View X). y.notes) l.brings.view ∙ h.keeps.notes;
         }

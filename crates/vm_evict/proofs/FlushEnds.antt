@@ -2,11 +2,12 @@
 use Rattle.std.proofs.Common.{ℕ, Bool, false, true, ◌≡◌, ◌≢◌, ◌+◌, ◌-◌, ◌%◌, ◌^◌, ◌<◌, ◌≤◌, ◌==◌, ◌||◌, ◌++◌, nat_lt, length, List, [], ◌∷◌, Option, Some, None, refl, sym, ap, subst, ◌∙◌, ⊎_elim, arith, slice_index, slice_set}
 use Rattle.std.proofs.lemmas.Bool.{cases_eq, cases_lt, cond-false, cond-true, eq-eqb, le-ltb, lt-ltb, ne_eqb, or_right}
 use Rattle.std.proofs.lemmas.List.{get_or-set_same}
-use Rattle.std.proofs.lemmas.Option.{none-some}
-use Rattle.vm_core.specs.Words.{frame_in, is_dirty}
-use Rattle.vm_core.specs.FrameActs.{frame_of, mapping_at, mapping_of, trans_word}
+use Rattle.std.proofs.lemmas.Option.{none-some, same_Some}
+use Rattle.vm_core.specs.Words.{frame_in}
+use Rattle.vm_core.specs.FrameActs.{frame_of, mapping_of, trans_word}
 use Rattle.vm_laws_others.specs.Leaves.{stands_dirty}
 use Rattle.vm_rule.specs.declared.view.Did.{Did}
+use Rattle.vm_rule.specs.declared.view.Origin.{Origin}
 use Rattle.vm_rule.specs.declared.view.Place.TheVariants as places
 use Rattle.vm_rule.specs.declared.view.View.{View}
 use Rattle.vm_rule.specs.Loads.{TranslationTold}
@@ -16,27 +17,17 @@ use Rattle.vm_rule.specs.Mappings.{clean_in, dirty_in}
 use Rattle.vm_rule.specs.declared.view.Place.{Place}
 use Rattle.vm_rule.proofs.Heard.{each-both}
 use Rattle.vm_rule.proofs.WordFacts.{mapping-clean}
-use Rattle.vm_step.specs.Alone.{Follows}
+use Rattle.vm_step.specs.Alone.{Follows, IsAlone}
 use Rattle.vm_step.proofs.Leaves.{works-then}
-use Rattle.vm_clock.specs.Clock.{first_or}
-use Rattle.vm_evict.specs.Writes.{IsCleaned, IsRefused, WritesOwn}
-use Rattle.vm_evict.specs.Flushes.{IsAlone, IsStillLocked, IsUnderWriteBack, KnowsClean, Writes, left_clean, made_clean, refused}
+use Rattle.vm_step.specs.Choices.{first_or}
+use Rattle.vm_step.proofs.Evidenced.{written-behind}
+use Rattle.vm_evict.specs.Writes.{IsAllowed, IsCleaned, IsFoundDirty, IsRefused, WritesOwn}
+use Rattle.vm_evict.specs.Flushes.{IsStillLocked, IsUnderWriteBack, KnowsClean, Writes, left_clean, made_clean, refused}
 use Rattle.vm_evict.specs.declared.flushing.Flushed.{Flushed}
-use Rattle.vm_evict.proofs.Evidenced.{written-behind}
+use Rattle.vm_evict.proofs.Copying.{kept-both}
 use Rattle.vm_evict.proofs.FlushSteps.{load-did, load-locked, load-notes}
 use Rattle.vm_evict.proofs.FlushWords.{IsLater, follows-end, later-on, later-self, mapping-shown, run-follows}
-
-value-of : ℕ → Option ℕ → ℕ
-value-of d None = d
-value-of d (Some x) = x
-
-pub some-same : (a b : ℕ) → Some a ≡ Some b → a ≡ b
-unfolding value-of
-some-same a b e = ap (value-of a) e
-
-mapping-frame : (o : Option ℕ) (d : Bool) → frame_of (mapping_at o d) ≡ o
-mapping-frame None d = refl
-mapping-frame (Some f) d = refl
+use Rattle.vm_evict.proofs.Taken.{frame-said}
 
 -- a frame that a word names has 32 bits
 frame-bound : (word f : ℕ) → frame_in word ≡ Some f → f < 2 ^ 32
@@ -51,13 +42,13 @@ frame-bound word f e =
     (λ (z : low ≡ 0). absurd (none (ap (λ (b : Bool). b || nat_lt (2 ^ 32) low) (eq-eqb low 0 z))))
     (λ (nz : low ≢ 0).
     let no : ((low == 0) || nat_lt (2 ^ 32) low) ≡ false = ap (λ (b : Bool). b || nat_lt (2 ^ 32) low) (ne_eqb low 0 nz) ∙ le-ltb (2 ^ 32) low ge in
-    let is : low - 1 ≡ f = some-same (low - 1) f (sym (cond-false ((low == 0) || nat_lt (2 ^ 32) low) None (Some (low - 1)) no) ∙ e) in
+    let is : low - 1 ≡ f = same_Some (low - 1) f (sym (cond-false ((low == 0) || nat_lt (2 ^ 32) low) None (Some (low - 1)) no) ∙ e) in
     omega (arith, ge, nz, is))
     (cases_eq low 0))
     (cases_lt (2 ^ 32) low)
 
 frame-small : (word f : ℕ) → mapping_of word ≡ Some (dirty_in f) → f < 2 ^ 32
-frame-small word f e = frame-bound word f (sym (mapping-frame (frame_in word) (is_dirty word)) ∙ ap frame_of e)
+frame-small word f e = frame-bound word f (sym (frame-said word) ∙ ap frame_of e)
 
 module _ {X : Type 0} (p found : ℕ) (v w : View X) (r : IsUnderWriteBack p v) (t : TranslationTold p found v w) (old : Flushed) where
   first : IsStillLocked p (load-did p found v w r t ∷ []) v w
@@ -81,7 +72,7 @@ module _ {X : Type 0} (p found : ℕ) (v w : View X) (r : IsUnderWriteBack p v) 
 
   pub ends-clean : stands_dirty (mapping_of found) ≡ false → Writes p v w old old
   ends-clean e =
-      left_clean (load-did p found v w r t ∷ []) found first
+      left_clean (load-did p found v w r t ∷ []) found first ((λ here. refl), tt)
       (record { earlier = []; step = load-did p found v w r t; later = []; cut = refl; gives = (refl, refl) })
       e (known-clean e) (load-notes p found v w r t) refl
 
@@ -106,6 +97,10 @@ module _ {X : Type 0} (p found : ℕ) (v w : View X) (r : IsUnderWriteBack p v) 
       ∙ mapping-clean f small
       )
 
+  -- the load found it dirty
+  found-dirty : (f : ℕ) (more : List Did) → mapping_of found ≡ Some (dirty_in f) → IsFoundDirty p f (load-did p found v w r t ∷ more)
+  found-dirty f more is = (found, record { earlier = []; step = load-did p found v w r t; later = more; cut = refl; gives = (refl, refl) }, is)
+
   pub ends-written : (f : ℕ) (x : View X) → mapping_of found ≡ Some (dirty_in f) → IsCleaned p f w x → Writes p v x old (record old { written = old.written + 1 })
   ends-written f x is c =
       made_clean (load-did p found v w r t ∷ c.done) f
@@ -116,14 +111,15 @@ module _ {X : Type 0} (p found : ℕ) (v w : View X) (r : IsUnderWriteBack p v) 
         home = c.home;
         frames = (c.keeps.frames ∙ first.frames.0, c.keeps.contents ∙ first.frames.1);
       }
+      (found-dirty f c.done is)
       (written-behind (load-did p found v w r t ∷ []) c.done (places.Translation p) (trans_word (Some (clean_in f))) c.cleaned)
       (known-written f x (frame-small found f is) c)
       (c.keeps.notes ∙ load-notes p found v w r t)
       refl
 
-  pub ends-failed : (f count : ℕ) (x : View X) (least : Option ℕ) → least ≡ first_or old.first p → IsRefused p f count w x → Writes p v x old (record old { failed = old.failed + 1; first = least })
-  ends-failed f count x least e c =
-      refused (load-did p found v w r t ∷ c.done) count
+  pub ends-failed : (f count : ℕ) (x : View X) (least : Option ℕ) → mapping_of found ≡ Some (dirty_in f) → least ≡ first_or old.first p → IsRefused p f count w x → Writes p v x old (record old { failed = old.failed + 1; first = least })
+  ends-failed f count x least is e c =
+      refused (load-did p found v w r t ∷ c.done) f count
       record {
         works = works-then p (load-did p found v w r t ∷ []) c.done v w x first.works c.works;
         own = each-both (WritesOwn p) (load-did p found v w r t ∷ []) c.done first.own c.own;
@@ -131,6 +127,9 @@ module _ {X : Type 0} (p found : ℕ) (v w : View X) (r : IsUnderWriteBack p v) 
         home = c.home;
         frames = (c.frames.0 ∙ first.frames.0, c.frames.1 ∙ first.frames.1);
       }
+      (found-dirty f c.done is)
+      (kept-both p (load-did p found v w r t ∷ []) c.done ((λ here. refl), tt) c.kept)
+      (subst (λ (o : Origin). IsAllowed o p count) first.works.leaves.start c.allowed)
       (written-behind (load-did p found v w r t ∷ []) c.done (places.Fault p) count c.raised)
       (c.noted ∙ ap (λ ns. ns ++ record { page = p; count = count } ∷ []) (load-notes p found v w r t))
       (ap (λ (o : Option ℕ). record old { failed = old.failed + 1; first = o }) e)

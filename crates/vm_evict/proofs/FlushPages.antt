@@ -13,10 +13,13 @@ use Rattle.vm_rule.specs.declared.view.Note.{Note}
 use Rattle.vm_rule.specs.declared.view.Origin.{Origin}
 use Rattle.vm_rule.specs.declared.view.View.{View}
 use Rattle.vm_rule.proofs.Entries.{append-none}
+use Rattle.vm_rule.proofs.Heard.{each-both}
 use Rattle.vm_step.specs.Asides.{IsAside, IsAsideOf, KeepsFrames}
 use Rattle.vm_step.proofs.Asides.{aside-self, aside-then, aside-within, whole-then}
-use Rattle.vm_clock.specs.Clock.{first_or}
-use Rattle.vm_evict.specs.Flushes.{HasNoLock, IsAlone, IsFlushedAlone, IsFlushedTo, IsNoted, IsSaved, IsSettled, RisesFrom, Settles, ShowsSame, Visits, clean, done_of, failed, first_noted, gone, held, lost, noted_pages, nothing_flushed, written}
+use Rattle.vm_step.specs.Choices.{first_or}
+use Rattle.vm_step.specs.Alone.{IsAlone}
+use Rattle.vm_evict.specs.Writes.{IsAllowed}
+use Rattle.vm_evict.specs.Flushes.{HasNoLock, IsFlushedAlone, IsFlushedTo, IsNoted, IsSaved, IsSettled, RisesFrom, Settles, ShowsSame, Visits, clean, done_of, failed, first_noted, gone, held, lost, noted_pages, nothing_flushed, written}
 use Rattle.vm_evict.specs.declared.flushing.Flushed.{Flushed}
 
 -- ---- notes by rising page
@@ -68,20 +71,20 @@ module _ {X : Type 0} where
   from-left p done v w a k = record { done = done; aside = a; frames = (k.frames, k.contents) }
 
   pub passed-by : (p : ℕ) (v w : View X) (old new : Flushed) → Visits p v w old new → IsPassedBy p v w
-  passed-by p v w old new (gone done x l g s e) = from-left p done v w l.aside l.keeps
-  passed-by p v w old new (clean done x l g s e) = from-left p done v w l.aside l.keeps
-  passed-by p v w old new (held done x l g s e) = from-left p done v w l.aside l.keeps
-  passed-by p v w old new (lost done x l g e) = from-left p done v w l.aside l.keeps
-  passed-by p v w old new (written done x l g e) = from-left p done v w l.aside l.keeps
+  passed-by p v w old new (gone done x l m g s e) = from-left p done v w l.aside l.keeps
+  passed-by p v w old new (clean done x l m g s seen shows none e) = from-left p done v w l.aside l.keeps
+  passed-by p v w old new (held done x l m g s e) = from-left p done v w l.aside l.keeps
+  passed-by p v w old new (lost done x l m g e) = from-left p done v w l.aside l.keeps
+  passed-by p v w old new (written done x l m g e) = from-left p done v w l.aside l.keeps
   passed-by p v w old new (failed version count u e) = record { done = u.done; aside = u.aside; frames = u.frames }
 
   -- one page more counts once at most
   counted : (p n : ℕ) (v w : View X) (old new : Flushed) → Visits p v w old new → done_of old ≤ n → done_of new ≤ suc n
-  counted p n v w old new (gone done x l g s e) c = subst (λ (f : Flushed). done_of f ≤ suc n) (sym e) (omega (arith, c))
-  counted p n v w old new (clean done x l g s e) c = subst (λ (f : Flushed). done_of f ≤ suc n) (sym e) (omega (arith, c))
-  counted p n v w old new (held done x l g s e) c = subst (λ (f : Flushed). done_of f ≤ suc n) (sym e) (omega (arith, c))
-  counted p n v w old new (lost done x l g e) c = subst (λ (f : Flushed). done_of f ≤ suc n) (sym e) (omega (arith, c))
-  counted p n v w old new (written done x l g e) c = subst (λ (f : Flushed). done_of f ≤ suc n) (sym e) (omega (arith, c))
+  counted p n v w old new (gone done x l m g s e) c = subst (λ (f : Flushed). done_of f ≤ suc n) (sym e) (omega (arith, c))
+  counted p n v w old new (clean done x l m g s seen shows none e) c = subst (λ (f : Flushed). done_of f ≤ suc n) (sym e) (omega (arith, c))
+  counted p n v w old new (held done x l m g s e) c = subst (λ (f : Flushed). done_of f ≤ suc n) (sym e) (omega (arith, c))
+  counted p n v w old new (lost done x l m g e) c = subst (λ (f : Flushed). done_of f ≤ suc n) (sym e) (omega (arith, c))
+  counted p n v w old new (written done x l m g e) c = subst (λ (f : Flushed). done_of f ≤ suc n) (sym e) (omega (arith, c))
   counted p n v w old new (failed version count u e) c = subst (λ (f : Flushed). done_of f ≤ suc n) (sym e) (omega (arith, c))
 
   -- a page that did not fail brings no note
@@ -92,15 +95,16 @@ module _ {X : Type 0} where
     each = k.each ∙ sym fails;
     rises = rises-more 0 n k.notes k.rises;
     first = least ∙ k.first;
+    allowed = k.allowed;
   }
 
-  noted-on : (n : ℕ) (u v w : View X) (old new : Flushed) → IsNoted n old u v → Visits n v w old new → IsNoted (suc n) new u w
-  noted-on n u v w old new k (gone done x l g s e) = noted-same n u v w old new k l.keeps.notes (ap (λ (f : Flushed). f.failed) e) (ap (λ (f : Flushed). f.first) e)
-  noted-on n u v w old new k (clean done x l g s e) = noted-same n u v w old new k l.keeps.notes (ap (λ (f : Flushed). f.failed) e) (ap (λ (f : Flushed). f.first) e)
-  noted-on n u v w old new k (held done x l g s e) = noted-same n u v w old new k l.keeps.notes (ap (λ (f : Flushed). f.failed) e) (ap (λ (f : Flushed). f.first) e)
-  noted-on n u v w old new k (lost done x l g e) = noted-same n u v w old new k l.keeps.notes (ap (λ (f : Flushed). f.failed) e) (ap (λ (f : Flushed). f.first) e)
-  noted-on n u v w old new k (written done x l g e) = noted-same n u v w old new k l.keeps.notes (ap (λ (f : Flushed). f.failed) e) (ap (λ (f : Flushed). f.first) e)
-  noted-on n u v w old new k (failed version count r e) =
+  noted-on : (n : ℕ) (u v w : View X) (old new : Flushed) → v.start ≡ u.start → IsNoted n old u v → Visits n v w old new → IsNoted (suc n) new u w
+  noted-on n u v w old new start k (gone done x l m g s e) = noted-same n u v w old new k l.keeps.notes (ap (λ (f : Flushed). f.failed) e) (ap (λ (f : Flushed). f.first) e)
+  noted-on n u v w old new start k (clean done x l m g s seen shows none e) = noted-same n u v w old new k l.keeps.notes (ap (λ (f : Flushed). f.failed) e) (ap (λ (f : Flushed). f.first) e)
+  noted-on n u v w old new start k (held done x l m g s e) = noted-same n u v w old new k l.keeps.notes (ap (λ (f : Flushed). f.failed) e) (ap (λ (f : Flushed). f.first) e)
+  noted-on n u v w old new start k (lost done x l m g e) = noted-same n u v w old new k l.keeps.notes (ap (λ (f : Flushed). f.failed) e) (ap (λ (f : Flushed). f.first) e)
+  noted-on n u v w old new start k (written done x l m g e) = noted-same n u v w old new k l.keeps.notes (ap (λ (f : Flushed). f.failed) e) (ap (λ (f : Flushed). f.first) e)
+  noted-on n u v w old new start k (failed version count r e) =
       let note : Note = record { page = n; count = count } in
       record {
         notes = k.notes ++ note ∷ [];
@@ -108,6 +112,7 @@ module _ {X : Type 0} where
         each = length-end k.notes note ∙ ap (λ (m : ℕ). m + 1) k.each ∙ sym (ap (λ (f : Flushed). f.failed) e);
         rises = rises-end 0 n count k.notes k.rises;
         first = ap (λ (f : Flushed). f.first) e ∙ ap (λ (o : Option ℕ). first_or o n) k.first ∙ first-end n count k.notes;
+        allowed = each-both (λ (m : Note). IsAllowed u.start m.page m.count) k.notes (note ∷ []) k.allowed (subst (λ (o : Origin). IsAllowed o n count) start r.allowed, tt);
       }
 
   -- ---- all pages below n
@@ -119,31 +124,31 @@ module _ {X : Type 0} where
     done = [];
     aside = aside-self (λ p. p < v.start.pages) v;
     frames = (refl, refl);
-    noted = record { notes = []; after = sym (append-none v.notes); each = refl; rises = omega arith; first = refl };
+    noted = record { notes = []; after = sym (append-none v.notes); each = refl; rises = omega arith; first = refl; allowed = tt };
     alone = λ a free. record { busy = refl; releases = refl; pages = λ p l. absurd (omega (arith, l)) };
   }
 
   -- ---- a pass that is alone
 
   -- a page whose write failed is noted
-  noted-failed : (n : ℕ) (u v w : View X) (old new : Flushed) (k : IsNoted n old u v) (x : Visits n v w old new) → new.failed ≡ old.failed + 1 → has n (noted_pages (noted-on n u v w old new k x).notes) ≡ true
+  noted-failed : (n : ℕ) (u v w : View X) (old new : Flushed) (start : v.start ≡ u.start) (k : IsNoted n old u v) (x : Visits n v w old new) → new.failed ≡ old.failed + 1 → has n (noted_pages (noted-on n u v w old new start k x).notes) ≡ true
   unfolding noted-on
-  noted-failed n u v w old new k (gone done y l g s e) more = absurd (not-more old new (ap (λ (f : Flushed). f.failed) e) more)
-  noted-failed n u v w old new k (clean done y l g s e) more = absurd (not-more old new (ap (λ (f : Flushed). f.failed) e) more)
-  noted-failed n u v w old new k (held done y l g s e) more = absurd (not-more old new (ap (λ (f : Flushed). f.failed) e) more)
-  noted-failed n u v w old new k (lost done y l g e) more = absurd (not-more old new (ap (λ (f : Flushed). f.failed) e) more)
-  noted-failed n u v w old new k (written done y l g e) more = absurd (not-more old new (ap (λ (f : Flushed). f.failed) e) more)
-  noted-failed n u v w old new k (failed version count r e) more = has-last n count k.notes
+  noted-failed n u v w old new start k (gone done y l m g s e) more = absurd (not-more old new (ap (λ (f : Flushed). f.failed) e) more)
+  noted-failed n u v w old new start k (clean done y l m g s seen shows none e) more = absurd (not-more old new (ap (λ (f : Flushed). f.failed) e) more)
+  noted-failed n u v w old new start k (held done y l m g s e) more = absurd (not-more old new (ap (λ (f : Flushed). f.failed) e) more)
+  noted-failed n u v w old new start k (lost done y l m g e) more = absurd (not-more old new (ap (λ (f : Flushed). f.failed) e) more)
+  noted-failed n u v w old new start k (written done y l m g e) more = absurd (not-more old new (ap (λ (f : Flushed). f.failed) e) more)
+  noted-failed n u v w old new start k (failed version count r e) more = has-last n count k.notes
 
   -- and stays noted
-  noted-still : (p n : ℕ) (u v w : View X) (old new : Flushed) (k : IsNoted n old u v) (x : Visits n v w old new) → has p (noted_pages k.notes) ≡ true → has p (noted_pages (noted-on n u v w old new k x).notes) ≡ true
+  noted-still : (p n : ℕ) (u v w : View X) (old new : Flushed) (start : v.start ≡ u.start) (k : IsNoted n old u v) (x : Visits n v w old new) → has p (noted_pages k.notes) ≡ true → has p (noted_pages (noted-on n u v w old new start k x).notes) ≡ true
   unfolding noted-on noted-same
-  noted-still p n u v w old new k (gone done y l g s e) h = h
-  noted-still p n u v w old new k (clean done y l g s e) h = h
-  noted-still p n u v w old new k (held done y l g s e) h = h
-  noted-still p n u v w old new k (lost done y l g e) h = h
-  noted-still p n u v w old new k (written done y l g e) h = h
-  noted-still p n u v w old new k (failed version count r e) h = has-kept p k.notes (record { page = n; count = count }) h
+  noted-still p n u v w old new start k (gone done y l m g s e) h = h
+  noted-still p n u v w old new start k (clean done y l m g s seen shows none e) h = h
+  noted-still p n u v w old new start k (held done y l m g s e) h = h
+  noted-still p n u v w old new start k (lost done y l m g e) h = h
+  noted-still p n u v w old new start k (written done y l m g e) h = h
+  noted-still p n u v w old new start k (failed version count r e) h = has-kept p k.notes (record { page = n; count = count }) h
 
   -- a page whose words are shown as before is saved as before
   saved-still : (p : ℕ) (v w : View X) → ShowsSame v w p → IsSaved v p → IsSaved w p
@@ -167,7 +172,7 @@ module _ {X : Type 0} where
       not-in state a b e is = ⊎_elim (λ u. a (sym is ∙ u)) (λ m. b (sym is ∙ m)) e
 
   alone-more : (n : ℕ) (u v w : View X) (old new : Flushed) → n < u.start.pages → (f : IsFlushedTo n old u v) (x : Visits n v w old new) → Settles n v w old new
-      → IsAlone u → ((p : ℕ) → p < u.start.pages → HasNoLock u p) → IsFlushedAlone (suc n) new (noted-on n u v w old new f.noted x).notes u w
+      → IsAlone u → ((p : ℕ) → p < u.start.pages → HasNoLock u p) → IsFlushedAlone (suc n) new (noted-on n u v w old new f.aside.start f.noted x).notes u w
   alone-more n u v w old new page f x s a free =
       let before : IsFlushedAlone n old f.noted.notes u v = f.alone a free in
       let mine : HasNoLock v n = ((f.aside.holds n).exclusive ∙ (free n page).0, (f.aside.holds n).shares ∙ (free n page).1) in
@@ -179,12 +184,12 @@ module _ {X : Type 0} where
         pages = λ p l.
             ⊎_elim
             (λ (e : p ≡ n).
-            subst (λ (q : ℕ). IsSaved w q ⊎ (has q (noted_pages (noted-on n u v w old new f.noted x).notes) ≡ true)) (sym e)
-            (⊎_elim (λ saved. inl saved) (λ more. inr (noted-failed n u v w old new f.noted x more)) now.saved))
+            subst (λ (q : ℕ). IsSaved w q ⊎ (has q (noted_pages (noted-on n u v w old new f.aside.start f.noted x).notes) ≡ true)) (sym e)
+            (⊎_elim (λ saved. inl saved) (λ more. inr (noted-failed n u v w old new f.aside.start f.noted x more)) now.saved))
             (λ (ne : p ≢ n).
             ⊎_elim
             (λ saved. inl (saved-still p v w (now.others p ne (omega (arith, l, ne, below))) saved))
-            (λ h. inr (noted-still p n u v w old new f.noted x h))
+            (λ h. inr (noted-still p n u v w old new f.aside.start f.noted x h))
             (before.pages p (omega (arith, l, ne))))
             (cases_eq p n);
       }
@@ -199,6 +204,6 @@ module _ {X : Type 0} where
         done = f.done ++ by.done;
         aside = aside-then (λ p. p < u.start.pages) f.done by.done u v w f.aside wide;
         frames = (by.frames.0 ∙ f.frames.0, by.frames.1 ∙ f.frames.1);
-        noted = noted-on n u v w old new f.noted x;
+        noted = noted-on n u v w old new f.aside.start f.noted x;
         alone = alone-more n u v w old new page f x s;
       }

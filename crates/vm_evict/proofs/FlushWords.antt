@@ -2,7 +2,6 @@
 use Rattle.std.proofs.Common.{ℕ, true, false, ◌≡◌, ◌≢◌, ◌<◌, ◌+◌, ◌*◌, ◌⊎◌, ◌++◌, length, List, [], ◌∷◌, Option, Some, None, refl, sym, ap, subst, ◌∙◌, inl, inr, ⊎_elim, arith, slice_index, slice_set}
 use Rattle.std.proofs.lemmas.Bool.{cases_lt}
 use Rattle.std.proofs.lemmas.List.{get_or-set_other, get_or-set_same, get_or_past, length-set}
-use Rattle.std.proofs.lemmas.Option.{none-some}
 use Rattle.vm_core.specs.Words.{state_of, UNLOCKED, MARKED, EVICTED}
 use Rattle.vm_core.specs.FrameActs.{mapping_of}
 use Rattle.vm_laws_others.specs.Leaves.{stands_dirty}
@@ -15,18 +14,14 @@ use Rattle.vm_rule.specs.Views.{Each, IsWhole}
 use Rattle.vm_rule.proofs.Entries.{append-none}
 use Rattle.vm_rule.proofs.Found.{part-found}
 use Rattle.vm_rule_laws.specs.Standing.{state_in, mapping_in}
-use Rattle.vm_step.specs.Alone.{Follows, RunsAlone}
+use Rattle.vm_step.specs.Alone.{Follows, IsAlone, RunsAlone}
+use Rattle.vm_step.proofs.Alone.{set-else}
 use Rattle.vm_step.proofs.Asides.{whole-then}
 use Rattle.vm_evict.specs.Writes.{WritesOwn}
-use Rattle.vm_evict.specs.Flushes.{IsAlone, IsSaved, IsSettled}
+use Rattle.vm_evict.specs.Flushes.{IsSaved, IsSettled}
 use Rattle.vm_evict.specs.declared.flushing.Flushed.{Flushed}
 
 -- ---- lists of words
-
--- a place where no word was written
-set-else : (o : Option ℕ) (i j : ℕ) (ws : List ℕ) → (o ≡ None) ⊎ (j ≢ i) → slice_index (set_if o i ws) j ≡ slice_index ws j
-set-else None i j ws h = refl
-set-else (Some x) i j ws h = ⊎_elim (λ e. absurd (none-some x (sym e))) (λ ne. get_or-set_other ws i j x 0 ne) h
 
 set-length : (o : Option ℕ) (i : ℕ) (ws : List ℕ) → length (set_if o i ws) ≡ length ws
 set-length None i ws = refl

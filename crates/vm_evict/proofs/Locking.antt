@@ -1,6 +1,7 @@
 -- The first lock of a candidate: for write-back, or exclusive where the page was seen to be clean; or the exchange was lost.
 use Rattle.std.proofs.Common.{ℕ, Bool, ◌≡◌, ◌≢◌, ◌==◌, if◌then◌else◌, true, false, List, [], ◌∷◌, Option, Some, None, IsSome, refl, sym, ap, subst, ◌∙◌, inl, arith}
 use Rattle.std.proofs.lemmas.Bool.{false≢true}
+use Rattle.std.proofs.lemmas.Option.{same_Some}
 use Rattle.vm_core.specs.declared.event.Mapping.{Mapping}
 use Rattle.vm_core.specs.declared.event.Seat.{Seat}
 use Rattle.vm_core.specs.Words.{EVICTED, LOCKED, MARKED, state_of, version_of, word_of}
@@ -24,10 +25,11 @@ use Rattle.vm_rule.specs.Log.{did_exchange}
 use Rattle.vm_rule.specs.Mappings.{clean_in, held_at}
 use Rattle.vm_step.proofs.Asides.{OnlyReads, alone-silent, lost-only}
 use Rattle.vm_step.proofs.Leaves.{leaves-quiet}
+use Rattle.vm_step.proofs.Evidenced.{taken-view}
 use Rattle.vm_evict.specs.Evictions.{IsMissed}
 use Rattle.vm_evict.specs.Stages.{IsOwning, IsSeenClean, IsWriting, owning_seat, writing_seat}
 use Rattle.vm_evict.proofs.Copying.{no-mapping}
-use Rattle.vm_evict.proofs.Evidenced.{has-lost, same-number, taken-view, wrote-taken}
+use Rattle.vm_evict.proofs.Evidenced.{has-lost, wrote-taken}
 
 -- a marked page is not evicted
 not-evicted : (word : ℕ) → state_of word ≡ MARKED → state_of word ≢ EVICTED
@@ -45,6 +47,7 @@ module _ {X : Type 0} (p word found new : ℕ) (v inner w : View X) (ne : found 
         keeps = one.keeps;
         why = inl (has-lost [] [] (places.State p) word found new ne tt);
         cleaned = λ e. absurd (false≢true e);
+        unwritten = λ _. (no-mapping p (did_exchange (places.State p) word found new) refl, tt);
       }
 
 -- ---- for write-back
@@ -104,7 +107,7 @@ module _ {X : Type 0} (tied : Start → ℕ → List ℕ → ℕ → List ℕ �
     };
     keeps = record { frames = ap (λ (y : View X). y.frames) share-brings.view; contents = ap (λ (y : View X). y.contents) share-brings.view; notes = ap (λ (y : View X). y.notes) share-brings.view };
     shared = record { earlier = []; step = share-did; later = []; cut = refl; place = refl; wrote = wrote-taken word (word_of 1 (version_of word)) };
-    foreign = λ found ne. ((λ here is. ne (same-number found (word_of 1 (version_of word)) (sym is ∙ wrote-taken word (word_of 1 (version_of word))))), tt);
+    foreign = λ found ne. ((λ here is. ne (same_Some found (word_of 1 (version_of word)) (sym is ∙ wrote-taken word (word_of 1 (version_of word))))), tt);
     kept = λ _. (no-mapping p share-did refl, tt);
     resident = subst (λ (k : Held). IsSome k.mapping) (sym share-held) (share-stands.resident (not-evicted word marked));
     stored = λ tells clean.
@@ -192,4 +195,5 @@ module _ {X : Type 0} (tied : Start → ℕ → List ℕ → ℕ → List ℕ �
     stands = ap (λ (k : Held). k.mapping) lock-held ∙ clean-frame.1;
     draft = ap (λ (y : View X). draft_of y p) lock-brings.view ∙ upd-same (put_at [] v.drafts) p (last_of x p).words;
     cleaned = λ e. absurd (false≢true e);
+    kept = λ _. (no-mapping p lock-did refl, tt);
   }

@@ -20,13 +20,15 @@ use Rattle.vm_rule.specs.Log.{did_exchange}
 use Rattle.vm_rule.specs.Mappings.{clean_in, held_at}
 use Rattle.vm_rule.proofs.WordFacts.{version-within, word-state, word-version}
 use Rattle.vm_step.specs.Asides.{KeepsFrames}
-use Rattle.vm_step.specs.Evidence.{HasWritten}
+use Rattle.vm_step.specs.Evidence.{HasWritten, IsLost}
 use Rattle.vm_step.specs.Works.{Leaves, Works}
 use Rattle.vm_step.proofs.Asides.{alone-silent, alone-then, keeps-then}
 use Rattle.vm_step.proofs.Leaves.{last-quiet, leaves-quiet, leaves-then, works-one}
+use Rattle.vm_step.proofs.Evidenced.{lost-view, taken-view, written-front}
 use Rattle.vm_evict.specs.Evictions.{HasLost, IsMissed}
 use Rattle.vm_evict.specs.Stages.{IsOwning, IsTaken, IsWriting, writing_seat}
-use Rattle.vm_evict.proofs.Evidenced.{frame-one, has-lost, lost-view, taken-view, wrote-taken, written-front}
+use Rattle.vm_evict.proofs.Copying.{kept-both, no-mapping}
+use Rattle.vm_evict.proofs.Evidenced.{frame-one, lost-one, wrote-taken}
 use Rattle.vm_evict.proofs.Taken.{given-aside, given-keeps, locks-now, taken-works, unshare-did}
 
 module _ {X : Type 0} (tied : Start → ℕ → List ℕ → ℕ → List ℕ → Type 0) (p word : ℕ) (written : Bool) (v x : View X) (h : IsWriting p word written v x) where
@@ -116,6 +118,7 @@ module _ {X : Type 0} (tied : Start → ℕ → List ℕ → ℕ → List ℕ �
           let same : there.0 ≡ frame = frame-one there.0 frame (sym there.1 ∙ stands) in
           written-front h.done (took ∷ []) (places.Translation p) (trans_word (Some (clean_in frame)))
           (subst (λ (n : ℕ). HasWritten h.done (places.Translation p) (trans_word (Some (clean_in n)))) same there.2);
+      kept = λ e. kept-both p h.done (took ∷ []) (h.kept e) (no-mapping p took refl, tt);
     }
 
   -- ---- it was lost
@@ -140,26 +143,35 @@ module _ {X : Type 0} (tied : Start → ℕ → List ℕ → ℕ → List ℕ �
         (ap (λ (z : View X). z.out) still.view ∙ h.taken.home)
 
     module _ (last : ℕ) (w : View X) (u : UnshareTold p last y w) where
-      abbrev all : List Did
-      all = (h.done ++ tried ∷ []) ++ unshare-did p word (h.done ++ tried ∷ []) v y held-on last w u ∷ []
+      abbrev end-did : Did
+      end-did = unshare-did p word (h.done ++ tried ∷ []) v y held-on last w u
 
-      flat : all ≡ h.done ++ tried ∷ (unshare-did p word (h.done ++ tried ∷ []) v y held-on last w u ∷ [])
-      flat = append_assoc h.done (tried ∷ []) (unshare-did p word (h.done ++ tried ∷ []) v y held-on last w u ∷ [])
+      abbrev all : List Did
+      all = (h.done ++ tried ∷ []) ++ end-did ∷ []
+
+      -- the exchange found another word than that of the pass's share alone, and no step before had left it there
+      abbrev lost : HasLost all (places.State p) (word_of 1 version)
+      lost = record {
+        earlier = h.done;
+        step = tried;
+        later = end-did ∷ [];
+        cut = append_assoc h.done (tried ∷ []) (end-did ∷ []);
+        found = found;
+        lost = subst (λ (n : ℕ). IsLost tried (places.State p) n found) is (lost-one (places.State p) expects found (word_of LOCKED (version_of expects)) ne);
+        foreign = h.foreign found (λ e. ne (e ∙ sym is));
+      }
 
       pub missed : IsMissed p word written v w
       missed = record {
         done = all;
         aside = given-aside p word (h.done ++ tried ∷ []) v y held-on last w u;
         keeps = keeps-then v y w (keeps-then v x y h.keeps keeps-still) (given-keeps p word (h.done ++ tried ∷ []) v y held-on last w u);
-        why = inr
-            (rw flat
-            (subst (λ (n : ℕ). HasLost (h.done ++ tried ∷ (unshare-did p word (h.done ++ tried ∷ []) v y held-on last w u ∷ [])) (places.State p) n) is
-            (has-lost h.done (unshare-did p word (h.done ++ tried ∷ []) v y held-on last w u ∷ []) (places.State p) expects found (word_of LOCKED (version_of expects)) ne
-            (h.foreign found (λ e. ne (e ∙ sym is))))));
+        why = inr (lost, h.shared);
         cleaned = λ e.
             let there = h.cleaned e in (
               there.0,
-              written-front (h.done ++ tried ∷ []) (unshare-did p word (h.done ++ tried ∷ []) v y held-on last w u ∷ []) (places.Translation p) (trans_word (Some (clean_in there.0)))
+              written-front (h.done ++ tried ∷ []) (end-did ∷ []) (places.Translation p) (trans_word (Some (clean_in there.0)))
                   (written-front h.done (tried ∷ []) (places.Translation p) (trans_word (Some (clean_in there.0))) there.2),
             );
+        unwritten = λ e. kept-both p (h.done ++ tried ∷ []) (end-did ∷ []) (kept-both p h.done (tried ∷ []) (h.kept e) (no-mapping p tried refl, tt)) (no-mapping p end-did refl, tt);
       }

@@ -24,11 +24,12 @@ use Rattle.vm_step.specs.Asides.{KeepsFrames}
 use Rattle.vm_step.specs.Evidence.{HasWritten}
 use Rattle.vm_step.specs.Works.{Works}
 use Rattle.vm_step.proofs.Asides.{keeps-then}
+use Rattle.vm_step.proofs.Evidenced.{written-behind, written-front}
 use Rattle.vm_evict.specs.Evictions.{IsUnwritten}
 use Rattle.vm_evict.specs.Stages.{IsCleanAt, IsTaken, IsWriting, writing_seat}
-use Rattle.vm_evict.specs.Writes.{IsCleaned, IsRefused, IsToWrite, LeavesMapping}
+use Rattle.vm_evict.specs.Writes.{IsAllowed, IsCleaned, IsFoundDirty, IsRefused, IsToWrite, LeavesMapping}
 use Rattle.vm_evict.proofs.Copying.{kept-both, no-mapping, no-state}
-use Rattle.vm_evict.proofs.Evidenced.{none-there, written-behind, written-front}
+use Rattle.vm_evict.proofs.Evidenced.{dirty-front, none-there}
 use Rattle.vm_evict.proofs.Taken.{given-aside, given-keeps, locks-now, said-frame, taken-works, tload-keeps, tload-works, unshare-did}
 
 -- a page that stands, and not dirty, stands clean
@@ -102,8 +103,14 @@ module _ {X : Type 0} (p word : ℕ) (v x : View X) (h : IsWriting p word false 
     -- ---- it was dirty
 
     module _ (f : ℕ) (names : frame_in t ≡ Some f) (dirty : is_dirty t ≡ true) where
+      said-dirty : mapping_of t ≡ Some (dirty_in f)
+      said-dirty = said-frame t f names ∙ ap (λ (b : Bool). Some (record { frame = f; dirty = b })) dirty
+
       stands-dirty : (held_at x p).mapping ≡ Some (dirty_in f)
-      stands-dirty = sym said ∙ said-frame t f names ∙ ap (λ (b : Bool). Some (record { frame = f; dirty = b })) dirty
+      stands-dirty = sym said ∙ said-dirty
+
+      found-dirty : IsFoundDirty p f (h.done ++ load-did ∷ [])
+      found-dirty = (t, record { earlier = h.done; step = load-did; later = []; cut = refl; gives = (refl, refl) }, said-dirty)
 
       pub inside : f < x.start.frames
       inside = l.inside (dirty_in f) (said ∙ stands-dirty)
@@ -155,23 +162,19 @@ module _ {X : Type 0} (p word : ℕ) (v x : View X) (h : IsWriting p word false 
           gone : KeepsFrames b w
           gone = given-keeps p word tried v b held-on last w u
 
-          abbrev refused : IsUnwritten p (version_of word) count v w
-          refused = record {
+          pub unwritten : IsUnwritten p (version_of word) count v w
+          unwritten = record {
             done = tried ++ end-did ∷ [];
             aside = given-aside p word tried v b held-on last w u;
             shared =
                 written-front tried (end-did ∷ []) (places.State p) (word_of 1 (version_of word))
                 (written-front (h.done ++ load-did ∷ []) r.done (places.State p) (word_of 1 (version_of word)) shared-loaded);
+            dirty = (f, dirty-front p f tried (end-did ∷ []) (dirty-front p f (h.done ++ load-did ∷ []) r.done found-dirty));
+            kept = kept-both p tried (end-did ∷ []) (kept-both p (h.done ++ load-did ∷ []) r.done kept-loaded r.kept) (no-mapping p end-did refl, tt);
             raised =
                 written-front tried (end-did ∷ []) (places.Fault p) count
                 (written-behind (h.done ++ load-did ∷ []) r.done (places.Fault p) count r.raised);
             noted = gone.notes ∙ r.noted ∙ ap (λ (l : List Note). l ++ record { page = p; count = count } ∷ []) keeps-loaded.notes;
+            allowed = subst (λ (o : Origin). IsAllowed o p count) taken-loaded.leaves.start r.allowed;
             frames = (gone.frames ∙ r.frames.0 ∙ keeps-loaded.frames, gone.contents ∙ r.frames.1 ∙ keeps-loaded.contents);
           }
-
-          -- the page keeps its translation
-          pub unwritten : (e : IsUnwritten p (version_of word) count v w) × LeavesMapping p e.done
-          unwritten = (
-            refused,
-            kept-both p tried (end-did ∷ []) (kept-both p (h.done ++ load-did ∷ []) r.done kept-loaded r.kept) (no-mapping p end-did refl, tt),
-          )

@@ -1,5 +1,5 @@
 -- The candidates one after another: what has become of the first of them, with the frames and the report.
-use Rattle.std.proofs.Common.{ℕ, Bool, ◌≡◌, ◌<◌, ◌≤◌, ◌==◌, ◌+◌, ◌||◌, ◌++◌, true, false, zero, suc, length, List, [], ◌∷◌, refl, sym, ap, subst, ◌∙◌, arith, slice_index_or}
+use Rattle.std.proofs.Common.{ℕ, Bool, ◌≡◌, ◌<◌, ◌≤◌, ◌==◌, ◌+◌, ◌||◌, ◌++◌, true, false, zero, suc, length, List, [], ◌∷◌, Option, refl, sym, ap, subst, ◌∙◌, append_assoc, append-nil, arith, slice_index_or}
 use Rattle.std.proofs.lemmas.Bool.{eq-eqb, false≢true, or_left, or_right}
 use Rattle.std.proofs.lemmas.List.{length-append}
 use lib.ListN.{get_elem?}
@@ -7,6 +7,7 @@ use mathlib.Core.Option as maybe
 use mathlib.Core.Option.{some}
 use Rattle.vm_owner.specs.Numbers.{has}
 use Rattle.vm_rule.specs.declared.view.Did.{Did}
+use Rattle.vm_rule.specs.declared.view.Note.{Note}
 use Rattle.vm_rule.specs.declared.view.Origin.{Origin}
 use Rattle.vm_rule.specs.declared.view.View.{View}
 use Rattle.vm_rule.specs.Puts.{put_at}
@@ -16,10 +17,11 @@ use Rattle.vm_rule.proofs.Heard.{each-both}
 use Rattle.vm_step.specs.Asides.{IsAside, IsAsideOf}
 use Rattle.vm_step.proofs.Asides.{aside-self, aside-then, aside-within}
 use Rattle.vm_step.proofs.Groups.{apart-end}
-use Rattle.vm_clock.specs.declared.Looks.{Looks}
-use Rattle.vm_clock.specs.Clock.{pages_of}
-use Rattle.vm_evict.specs.Evictions.{Evicts, FramesCome, IsBatch, freed, failed, lost, one_if}
+use Rattle.vm_step.specs.declared.choice.Looks.{Looks}
+use Rattle.vm_step.specs.Choices.{pages_of}
+use Rattle.vm_evict.specs.Evictions.{Evicts, FramesCome, IsBatch, first_of, first_pair, freed, failed, lost, one_if}
 use Rattle.vm_evict.specs.Stages.{IsAdded, IsFate, none_of}
+use Rattle.vm_evict.specs.Writes.{IsAllowed}
 use Rattle.vm_evict.specs.declared.candidate.Fate.{Fate}
 use Rattle.vm_evict.specs.declared.candidate.Fate.TheVariants as fates
 use Rattle.vm_evict.specs.declared.report.Evicted.{Evicted}
@@ -59,6 +61,13 @@ pub each-there : {A : Type 0} (P : A → Type 0) (list : List A) (n : ℕ) (c : 
 each-there P [] n c e all = not-there c e
 each-there P (x ∷ xs) zero c e all = subst P (some-one x c e) all.0
 each-there P (x ∷ xs) (suc n) c e all = each-there P xs n c e all.1
+
+-- ---- notes
+
+-- the first that failed stays the first
+first-more : (ns : List Note) (p count : ℕ) → first_pair (first_of ns) (p, count) ≡ first_of (ns ++ record { page = p; count = count } ∷ [])
+first-more [] p count = refl
+first-more (n ∷ ns) p count = refl
 
 -- ---- frames
 
@@ -116,6 +125,11 @@ module _ {X : Type 0} where
     pub done : List Did
     pub aside : IsAsideOf (λ p. has p (pages_of list) ≡ true) done v w
     pub frames : FramesCome e.frames v w
+    pub notes : List Note
+    pub after : w.notes ≡ v.notes ++ notes
+    pub each_noted : length notes ≡ e.report.failed
+    pub first : e.report.first_failed ≡ first_of notes
+    pub allowed : Each (λ n. IsAllowed v.start n.page n.count) notes
 
   pub tallies-none : (list : List (ℕ × ℕ)) (looks : Looks) (e : Evicted) (v : View X) → e.report ≡ none_of looks → e.frames ≡ [] → Tallies list looks 0 e v v
   tallies-none list looks e v report frames = record {
@@ -126,6 +140,11 @@ module _ {X : Type 0} where
     done = [];
     aside = aside-self (λ p. has p (pages_of list) ≡ true) v;
     frames = subst (λ (l : List ℕ). FramesCome l v v) (sym frames) (come-none v);
+    notes = [];
+    after = sym (append-nil v.notes);
+    each_noted = ap (λ (r : Report). r.failed) (sym report);
+    first = ap (λ (r : Report). r.first_failed) report;
+    allowed = tt;
   }
 
   module _ (list : List (ℕ × ℕ)) (looks : Looks) (n : ℕ) (c : ℕ × ℕ) (there : get_elem? list n ≡ some c) (old new : Evicted) (v x w : View X) (t : Tallies list looks n old v x) where
@@ -150,18 +169,29 @@ module _ {X : Type 0} where
           done = t.done ++ e.done;
           aside = more-aside e.done e.aside;
           frames = subst (λ (l : List ℕ). FramesCome l v w) (sym added.1) (come-one old.frames frame v x w t.aside.start t.frames e.frames);
+          notes = t.notes;
+          after = e.notes ∙ t.after;
+          each_noted = t.each_noted ∙ ap (λ (r : Report). r.failed) (sym added.0);
+          first = ap (λ (r : Report). r.first_failed) added.0 ∙ t.first;
+          allowed = t.allowed;
         }
     tallies-more (fates.Failed count) e added =
         let all : old.report.freed + (old.report.failed + old.report.lost) ≡ n = t.all in
         let below : old.report.written ≤ n = t.written in
+        let note : Note = record { page = c.0; count = count } in
         record {
-          each = (x, old.report, old.frames, c, there, t.each, failed count e.0 e.1 added.0 added.1);
+          each = (x, old.report, old.frames, c, there, t.each, failed count e added.0 added.1);
           all = ap (λ (r : Report). r.freed + (r.failed + r.lost)) added.0 ∙ omega (arith, all);
           count = ap length added.1 ∙ t.count ∙ ap (λ (r : Report). r.freed) (sym added.0);
           written = subst (λ (r : Report). r.written ≤ suc n) (sym added.0) (omega (arith, below));
-          done = t.done ++ e.0.done;
-          aside = more-aside e.0.done e.0.aside;
-          frames = subst (λ (l : List ℕ). FramesCome l v w) (sym added.1) (come-still old.frames v x w e.0.frames.0 e.0.frames.1 t.frames);
+          done = t.done ++ e.done;
+          aside = more-aside e.done e.aside;
+          frames = subst (λ (l : List ℕ). FramesCome l v w) (sym added.1) (come-still old.frames v x w e.frames.0 e.frames.1 t.frames);
+          notes = t.notes ++ note ∷ [];
+          after = e.noted ∙ ap (λ (l : List Note). l ++ note ∷ []) t.after ∙ append_assoc v.notes t.notes (note ∷ []);
+          each_noted = length-append t.notes (note ∷ []) ∙ ap (λ (k : ℕ). k + 1) t.each_noted ∙ ap (λ (r : Report). r.failed) (sym added.0);
+          first = ap (λ (r : Report). r.first_failed) added.0 ∙ ap (λ (o : Option (ℕ × ℕ)). first_pair o (c.0, count)) t.first ∙ first-more t.notes c.0 count;
+          allowed = each-both (λ (n : Note). IsAllowed v.start n.page n.count) t.notes (note ∷ []) t.allowed (subst (λ (o : Origin). IsAllowed o c.0 count) t.aside.start e.allowed, tt);
         }
     tallies-more (fates.Lost was) e added =
         let all : old.report.freed + (old.report.failed + old.report.lost) ≡ n = t.all in
@@ -175,6 +205,11 @@ module _ {X : Type 0} where
           done = t.done ++ e.done;
           aside = more-aside e.done e.aside;
           frames = subst (λ (l : List ℕ). FramesCome l v w) (sym added.1) (come-still old.frames v x w e.keeps.frames e.keeps.contents t.frames);
+          notes = t.notes;
+          after = e.keeps.notes ∙ t.after;
+          each_noted = t.each_noted ∙ ap (λ (r : Report). r.failed) (sym added.0);
+          first = ap (λ (r : Report). r.first_failed) added.0 ∙ t.first;
+          allowed = t.allowed;
         }
 
     pub tallies-next : (m : ℕ) → m ≡ n + 1 → (fate : Fate) → IsFate c.0 c.1 x w fate → IsAdded c.0 fate old new → Tallies list looks m new v w
@@ -189,6 +224,11 @@ module _ {X : Type 0} where
     done = t.done;
     aside = t.aside;
     frames = t.frames;
+    notes = t.notes;
+    after = t.after;
+    each_noted = t.each_noted;
+    first = t.first;
+    allowed = t.allowed;
   }
 
   -- there is room, and the counts fit

@@ -1,9 +1,10 @@
 -- The write-back of a dirty page: its block is taken out, the page's words are copied from its frame and written, and the block is brought home;
 -- then the page is made clean, or the fault is noted.
-use Rattle.std.proofs.Common.{ℕ, ◌≡◌, ◌≤◌, ◌&&◌, ◌||◌, ◌++◌, true, false, nat_lt, List, [], ◌∷◌, Option, Some, None, IsSome, is_some, length, refl, sym, ap, subst, ◌∙◌, inl, inr, if◌then◌else◌, Bool, Result, Ok, Err, is_ok}
+use Rattle.std.proofs.Common.{ℕ, ◌≡◌, ◌≤◌, ◌&&◌, ◌||◌, ◌++◌, true, false, nat_lt, List, [], ◌∷◌, Option, Some, None, IsSome, is_some, length, refl, sym, ap, subst, ◌∙◌, inl, inr, arith, if◌then◌else◌, Bool, Result, Ok, Err, is_ok}
 use Rattle.std.proofs.lemmas.Bool.{cond-true, cond-false, lt-ltb, or_right}
 use Rattle.vm_core.specs.declared.event.Mapping.{Mapping}
 use Rattle.vm_core.specs.declared.event.Seat.{Seat}
+use Rattle.vm_core.specs.Fn.{at}
 use Rattle.vm_core.specs.Words.{count_more}
 use Rattle.vm_core.specs.FrameActs.{frame_of, open_frame, trans_word}
 use Rattle.vm_core.specs.History.{Version}
@@ -29,9 +30,9 @@ use Rattle.vm_step.specs.Asides.{KeepsFrames}
 use Rattle.vm_step.specs.Conditions.{MayRaise, MayTakeOut}
 use Rattle.vm_step.specs.Works.{Works}
 use Rattle.vm_step.proofs.Asides.{keeps-then}
-use Rattle.vm_step.proofs.Device.{Moves, comes-home, goes-out, may-bring-written, more-is, noted-more, two-loads}
+use Rattle.vm_step.proofs.Device.{Moves, comes-home, counts-one, goes-out, may-bring-written, more-is, noted-more, two-loads}
 use Rattle.vm_step.proofs.Leaves.{works-one, works-then}
-use Rattle.vm_evict.specs.Writes.{IsCleaned, IsCopied, IsRefused, IsToWrite, LeavesMapping, LeavesState, WritesOwn}
+use Rattle.vm_evict.specs.Writes.{IsAllowed, IsCleaned, IsCopied, IsRefused, IsToWrite, LeavesMapping, LeavesState, WritesOwn}
 use Rattle.vm_evict.proofs.Copying.{kept-both, leaves-both, no-mapping, no-state, reads-same}
 
 -- the frame of a page that is shared and resident is read
@@ -204,7 +205,7 @@ module _ {X : Type 0} (p f : ℕ) (v : View X) (r : IsToWrite p f v) where
               is = is ∙ ap (λ (h : Held). h.block.count) (sym held-is);
             }
 
-            module _ (u : E) (err : result ≡ Err u) (w : View X) (t : RaiseTold p n d w) where
+            module _ (u : E) (err : result ≡ Err u) (bounded : new.count ≤ new.bound) (w : View X) (t : RaiseTold p n d w) where
               abbrev raise-did : Did
               raise-did = did_store (places.Fault p) n
 
@@ -219,6 +220,14 @@ module _ {X : Type 0} (p f : ℕ) (v : View X) (r : IsToWrite p f v) where
 
               count : new.count ≡ count_more old.count
               count = write.count ∙ ap (λ (y : Result (Unit {0}) E). if is_ok y then old.count else one_more old.count) err ∙ more-is old.count
+
+              -- the count is what the block's bound allows
+              allowed : IsAllowed v.start p n
+              allowed =
+                  let bound : new.bound ≡ at 0 v.start.bounds p = write.bound ∙ o.slot.block.bound in
+                  let raised : 1 ≤ count_more old.count = counts-one old.count in
+                  let counted : n ≡ count_more old.count = is ∙ count in
+                  (omega (arith, raised, counted), omega (arith, is, bounded, bound))
 
               -- the fault word was the count before
               noted-once : notes_of p (held_at d p).fault n ≡ record { page = p; count = n } ∷ []
@@ -239,6 +248,7 @@ module _ {X : Type 0} (p f : ℕ) (v : View X) (r : IsToWrite p f v) where
                     ap (λ (y : View X). y.notes) t.brings.view
                     ∙ ap (λ l. d.notes ++ l) noted-once
                     ∙ ap (λ l. l ++ record { page = p; count = n } ∷ []) keeps-called.notes;
+                allowed = allowed;
                 stands = ap (λ (h : Held). h.mapping) held-raised ∙ r.stands;
                 told = subst (λ (h : Held). h.fault ≡ h.block.count) (sym held-raised) is;
                 frames = (ap (λ (y : View X). y.frames) t.brings.view ∙ keeps-called.frames, ap (λ (y : View X). y.contents) t.brings.view ∙ keeps-called.contents);

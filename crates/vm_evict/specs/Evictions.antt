@@ -5,9 +5,10 @@ use Rattle.std.specs.Prelude.{ℕ, Bool, true, false, Option, Some, None, List, 
 use lib.ListN.{get_elem?}
 use mathlib.Core.Option.{some}
 use Rattle.vm_core.specs.Words.{version_of, word_of, LOCKED, EVICTED}
-use Rattle.vm_core.specs.FrameActs.{trans_word}
+use Rattle.vm_core.specs.FrameActs.{mapping_of, trans_word}
 use Rattle.vm_owner.specs.Numbers.{has, AreApart}
 use Rattle.vm_rule.specs.declared.view.Did.{Did}
+use Rattle.vm_rule.specs.declared.view.Note.{Note}
 use Rattle.vm_rule.specs.declared.view.Place.{Place}
 use Rattle.vm_rule.specs.declared.view.Place.TheVariants as places
 use Rattle.vm_rule.specs.declared.view.Release.{Release}
@@ -16,10 +17,10 @@ use Rattle.vm_rule.specs.Views.{Each}
 use Rattle.vm_rule.specs.Reading.{last_in, last_of}
 use Rattle.vm_rule.specs.Mappings.{clean_in, contents_at}
 use Rattle.vm_step.specs.Asides.{IsAside, IsAsideOf, KeepsFrames}
-use Rattle.vm_step.specs.Evidence.{HasWritten, IsLost}
-use Rattle.vm_clock.specs.Clock.{pages_of}
-use Rattle.vm_clock.specs.declared.Looks.{Looks}
-use Rattle.vm_evict.specs.Writes.{LeavesMapping}
+use Rattle.vm_step.specs.Evidence.{HasGiven, HasWritten, IsLost}
+use Rattle.vm_step.specs.Choices.{pages_of}
+use Rattle.vm_step.specs.declared.choice.Looks.{Looks}
+use Rattle.vm_evict.specs.Writes.{IsAllowed, IsFoundDirty, LeavesMapping}
 use Rattle.vm_evict.specs.declared.report.Report.{Report}
 
 -- an exchange of these steps expected this word, and found another, which none of the steps before had left there
@@ -39,6 +40,11 @@ one_if b = if b then 1 else 0
 abbrev pub first_pair : Option (ℕ × ℕ) → ℕ × ℕ → Option (ℕ × ℕ)
 first_pair None x = Some x
 first_pair (Some y) x = Some y
+
+-- page and count of the first of these notes
+abbrev pub first_of : List Note → Option (ℕ × ℕ)
+first_of [] = None
+first_of (n ∷ ns) = Some (n.page, n.count)
 
 module _ {X : Type 0} where
   -- these frames came to the pass, each another one and none of those that it had, whose words are as they were
@@ -65,33 +71,42 @@ module _ {X : Type 0} where
     pub done : List Did
     pub aside : IsAside p done v w
     pub dropped : IsDropped p word done v w
+    -- a step found that it stands in this frame, clean
+    pub stood : (found : ℕ) × HasGiven done (places.Translation p) found × (mapping_of found ≡ Some (clean_in frame))
     pub cleaned : written ≡ true → HasWritten done (places.Translation p) (trans_word (Some (clean_in frame)))
+    pub unwritten : written ≡ false → Each (λ d. d.at ≡ places.Translation p → d.wrote ≢ Some (trans_word (Some (clean_in frame)))) done
     pub frames : FramesCome (frame ∷ []) v w
     pub notes : w.notes ≡ v.notes
 
-  -- its write failed: the fault was noted, with the count that the fault word was raised to; the page was shared for it, and is no more
+  -- its write failed: it was found dirty, and shared for the write, and is no more; its translation word stays; the fault was noted, with the
+  -- count that the fault word was raised to
   pub record IsUnwritten (p version count : ℕ) (v w : View X) : Type 0 where
     pub done : List Did
     pub aside : IsAside p done v w
     pub shared : HasWritten done (places.State p) (word_of 1 version)
+    pub dirty : (frame : ℕ) × IsFoundDirty p frame done
+    pub kept : LeavesMapping p done
     pub raised : HasWritten done (places.Fault p) count
     pub noted : w.notes ≡ v.notes ++ record { page = p; count = count } ∷ []
+    pub allowed : IsAllowed v.start p count
     pub frames : (w.frames ≡ v.frames) × (w.contents ≡ v.contents)
 
-  -- an exchange on it was lost: one that expected the word, or one that expected the pass's share alone at its version
+  -- an exchange on it was lost: one that expected the word, or one that expected the pass's share alone at its version, which a step before had
+  -- left there
   pub record IsMissed (p word : ℕ) (written : Bool) (v w : View X) : Type 0 where
     pub done : List Did
     pub aside : IsAside p done v w
     pub keeps : KeepsFrames v w
-    pub why : HasLost done (places.State p) word ⊎ HasLost done (places.State p) (word_of 1 (version_of word))
+    pub why : HasLost done (places.State p) word ⊎ ((l : HasLost done (places.State p) (word_of 1 (version_of word))) × HasWritten l.earlier (places.State p) (word_of 1 (version_of word)))
     pub cleaned : written ≡ true → (frame : ℕ) × HasWritten done (places.Translation p) (trans_word (Some (clean_in frame)))
+    pub unwritten : written ≡ false → LeavesMapping p done
 
   -- ---- a list of candidates
 
-  -- what one more candidate adds to the frames and to the report; where its write failed, it keeps its translation: its frame, and dirty
+  -- what one more candidate adds to the frames and to the report
   pub data Adds (c : ℕ × ℕ) (v w : View X) (old new : Report) (frames batch : List ℕ) : Type 0 where
     freed : (frame : ℕ) (written : Bool) → IsEvicted c.0 c.1 frame written v w → new ≡ record old { freed = old.freed + 1; written = old.written + one_if written } → batch ≡ frames ++ frame ∷ [] → Adds c v w old new frames batch
-    failed : (count : ℕ) (u : IsUnwritten c.0 (version_of c.1) count v w) → LeavesMapping c.0 u.done → new ≡ record old { failed = old.failed + 1; first_failed = first_pair old.first_failed (c.0, count) } → batch ≡ frames → Adds c v w old new frames batch
+    failed : (count : ℕ) → IsUnwritten c.0 (version_of c.1) count v w → new ≡ record old { failed = old.failed + 1; first_failed = first_pair old.first_failed (c.0, count) } → batch ≡ frames → Adds c v w old new frames batch
     lost : (written : Bool) → IsMissed c.0 c.1 written v w → new ≡ record old { lost = old.lost + 1; written = old.written + one_if written } → batch ≡ frames → Adds c v w old new frames batch
 
   -- the first n candidates of the list, one after another
@@ -108,3 +123,9 @@ module _ {X : Type 0} where
     pub done : List Did
     pub aside : IsAsideOf (λ p. has p (pages_of list) ≡ true) done v w
     pub frames : FramesCome batch v w
+    -- the faults noted are those of the pages whose write failed, in their order; the first is reported
+    pub notes : List Note
+    pub after : w.notes ≡ v.notes ++ notes
+    pub each_noted : length notes ≡ report.failed
+    pub first : report.first_failed ≡ first_of notes
+    pub allowed : Each (λ n. IsAllowed v.start n.page n.count) notes

@@ -6,24 +6,25 @@ use Rattle.vm_core.specs.FrameActs.{mapping_of, trans_word}
 use Rattle.vm_laws_others.specs.Leaves.{stands_dirty}
 use Rattle.vm_rule.specs.declared.view.Did.{Did}
 use Rattle.vm_rule.specs.declared.view.Note.{Note}
+use Rattle.vm_rule.specs.declared.view.Place.{Place}
 use Rattle.vm_rule.specs.declared.view.Place.TheVariants as places
 use Rattle.vm_rule.specs.declared.view.View.{View}
 use Rattle.vm_owner.specs.Numbers.{has}
-use Rattle.vm_rule.specs.Views.{Each, IsWhole, seat_of}
+use Rattle.vm_rule.specs.Views.{Each, seat_of}
 use Rattle.vm_rule.specs.Reading.{last_of}
 use Rattle.vm_rule.specs.Mappings.{clean_in, dirty_in}
 use Rattle.vm_rule.specs.Log.{did_exchange}
 use Rattle.vm_rule_laws.specs.Standing.{state_in, mapping_in}
-use Rattle.vm_step.specs.Alone.{RunsAlone}
+use Rattle.vm_step.specs.Alone.{IsAlone, RunsAlone}
 use Rattle.vm_step.specs.Asides.{IsAside, IsAsideOf, KeepsFrames}
 use Rattle.vm_step.specs.Conditions.{IsToldOf}
 use Rattle.vm_step.specs.Evidence.{HasGiven, HasWritten}
 use Rattle.vm_step.specs.Works.{Works}
 use Rattle.vm_step.specs.declared.took.Took.{Took}
 use Rattle.vm_step.specs.declared.took.Took.TheVariants.{Taken, Lost}
-use Rattle.vm_clock.specs.Clock.{IsHeld, first_or}
+use Rattle.vm_step.specs.Choices.{IsHeld, first_or}
 use Rattle.vm_evict.specs.Evictions.{HasLost, IsUnwritten}
-use Rattle.vm_evict.specs.Writes.{WritesOwn}
+use Rattle.vm_evict.specs.Writes.{IsAllowed, IsFoundDirty, LeavesMapping, WritesOwn}
 use Rattle.vm_evict.specs.declared.flushing.Flushed.{Flushed}
 
 abbrev pub nothing_flushed : Flushed
@@ -37,6 +38,18 @@ done_of f = f.written + (f.failed + f.busy)
 abbrev pub IsDirtyFrame : ℕ → Option ℕ → Type 0
 IsDirtyFrame word None = stands_dirty (mapping_of word) ≡ false
 IsDirtyFrame word (Some f) = mapping_of word ≡ Some (dirty_in f)
+
+-- one of these steps found this word, which none of the steps before had left there
+pub record HasFound (done : List Did) (at : Place) (word : ℕ) : Type 0 where
+  pub given : HasGiven done at word
+  pub foreign : Each (λ d. d.at ≡ at → d.wrote ≢ Some word) given.earlier
+
+-- an exchange was lost that expected the word which a step before had found there, or the mark that a step had put in its place
+pub record LosesSeen (done : List Did) (at : Place) (expects : ℕ) : Type 0 where
+  pub lost : HasLost done at expects
+  pub seen : ℕ
+  pub given : HasGiven lost.earlier at seen
+  pub expected : (expects ≡ seen) ⊎ ((expects ≡ word_of MARKED (version_of seen)) × HasWritten lost.earlier at expects)
 
 -- the page of the first of these notes
 abbrev pub first_noted : List Note → Option ℕ
@@ -60,13 +73,13 @@ module _ {X : Type 0} where
     pub keeps : KeepsFrames v w
     pub alone : RunsAlone done [] v w
 
-  -- what the visit of page p comes to
+  -- what the visit of page p comes to; one that is left as clean was seen locked by nobody
   pub data Visits (p : ℕ) (v w : View X) (old new : Flushed) : Type 0 where
-    gone : (done : List Did) (word : ℕ) → IsLeft p done v w → HasGiven done (places.State p) word → state_of word ≡ EVICTED → new ≡ old → Visits p v w old new
-    clean : (done : List Did) (word : ℕ) → IsLeft p done v w → HasGiven done (places.Translation p) word → stands_dirty (mapping_of word) ≡ false → new ≡ old → Visits p v w old new
-    held : (done : List Did) (word : ℕ) → IsLeft p done v w → HasGiven done (places.State p) word → IsHeld word → new ≡ record old { busy = old.busy + 1 } → Visits p v w old new
-    lost : (done : List Did) (word : ℕ) → IsLeft p done v w → HasLost done (places.State p) word → new ≡ record old { busy = old.busy + 1 } → Visits p v w old new
-    written : (done : List Did) (frame : ℕ) → IsLeft p done v w → HasWritten done (places.Translation p) (trans_word (Some (clean_in frame))) → new ≡ record old { written = old.written + 1 } → Visits p v w old new
+    gone : (done : List Did) (word : ℕ) → IsLeft p done v w → LeavesMapping p done → HasGiven done (places.State p) word → state_of word ≡ EVICTED → new ≡ old → Visits p v w old new
+    clean : (done : List Did) (word : ℕ) → IsLeft p done v w → LeavesMapping p done → HasGiven done (places.Translation p) word → stands_dirty (mapping_of word) ≡ false → (seen : ℕ) → HasGiven done (places.State p) seen → (state_of seen ≡ UNLOCKED) ⊎ (state_of seen ≡ MARKED) → new ≡ old → Visits p v w old new
+    held : (done : List Did) (word : ℕ) → IsLeft p done v w → LeavesMapping p done → HasFound done (places.State p) word → IsHeld word → new ≡ record old { busy = old.busy + 1 } → Visits p v w old new
+    lost : (done : List Did) (word : ℕ) → IsLeft p done v w → LeavesMapping p done → LosesSeen done (places.State p) word → new ≡ record old { busy = old.busy + 1 } → Visits p v w old new
+    written : (done : List Did) (frame : ℕ) → IsLeft p done v w → IsFoundDirty p frame done → HasWritten done (places.Translation p) (trans_word (Some (clean_in frame))) → new ≡ record old { written = old.written + 1 } → Visits p v w old new
     failed : (version count : ℕ) → IsUnwritten p version count v w → new ≡ record old { failed = old.failed + 1; first = first_or old.first p } → Visits p v w old new
 
   -- the first n pages, one after another
@@ -81,10 +94,7 @@ module _ {X : Type 0} where
     pub each : length notes ≡ report.failed
     pub rises : RisesFrom 0 pages notes
     pub first : report.first ≡ first_noted notes
-
-  -- the pass has all parts, and knows the table
-  abbrev pub IsAlone : View X → Type 0
-  IsAlone v = IsWhole v × (v.current ≡ true)
+    pub allowed : Each (λ n. IsAllowed v.start n.page n.count) notes
 
   -- it has no share of page p, so no write-back either, and no exclusive lock
   abbrev pub HasNoLock : View X → ℕ → Type 0
@@ -162,6 +172,6 @@ module _ {X : Type 0} where
 
   -- how the write of a page under write-back ends: the page was clean; it was written; or its write failed
   pub data Writes (p : ℕ) (v w : View X) (old new : Flushed) : Type 0 where
-    left_clean : (done : List Did) (word : ℕ) → IsStillLocked p done v w → HasGiven done (places.Translation p) word → stands_dirty (mapping_of word) ≡ false → KnowsClean p v w → w.notes ≡ v.notes → new ≡ old → Writes p v w old new
-    made_clean : (done : List Did) (frame : ℕ) → IsStillLocked p done v w → HasWritten done (places.Translation p) (trans_word (Some (clean_in frame))) → KnowsClean p v w → w.notes ≡ v.notes → new ≡ record old { written = old.written + 1 } → Writes p v w old new
-    refused : (done : List Did) (count : ℕ) → IsStillLocked p done v w → HasWritten done (places.Fault p) count → w.notes ≡ v.notes ++ record { page = p; count = count } ∷ [] → new ≡ record old { failed = old.failed + 1; first = first_or old.first p } → Writes p v w old new
+    left_clean : (done : List Did) (word : ℕ) → IsStillLocked p done v w → LeavesMapping p done → HasGiven done (places.Translation p) word → stands_dirty (mapping_of word) ≡ false → KnowsClean p v w → w.notes ≡ v.notes → new ≡ old → Writes p v w old new
+    made_clean : (done : List Did) (frame : ℕ) → IsStillLocked p done v w → IsFoundDirty p frame done → HasWritten done (places.Translation p) (trans_word (Some (clean_in frame))) → KnowsClean p v w → w.notes ≡ v.notes → new ≡ record old { written = old.written + 1 } → Writes p v w old new
+    refused : (done : List Did) (frame count : ℕ) → IsStillLocked p done v w → IsFoundDirty p frame done → LeavesMapping p done → IsAllowed v.start p count → HasWritten done (places.Fault p) count → w.notes ≡ v.notes ++ record { page = p; count = count } ∷ [] → new ≡ record old { failed = old.failed + 1; first = first_or old.first p } → Writes p v w old new

@@ -19,7 +19,7 @@ use Rattle.vm_step.specs.Asides.{KeepsFrames, StaysAlone}
 use Rattle.vm_step.specs.Conditions.{IsToldOf}
 use Rattle.vm_step.specs.Evidence.{HasWritten}
 use Rattle.vm_step.specs.Works.{Leaves}
-use Rattle.vm_clock.specs.declared.Looks.{Looks}
+use Rattle.vm_step.specs.declared.choice.Looks.{Looks}
 use Rattle.vm_evict.specs.Evictions.{IsEvicted, IsMissed, IsUnwritten, first_pair, one_if}
 use Rattle.vm_evict.specs.Writes.{LeavesMapping}
 use Rattle.vm_evict.specs.declared.report.Evicted.{Evicted}
@@ -93,14 +93,15 @@ module _ {X : Type 0} where
     pub stands : (held_at x p).mapping ≡ Some (clean_in frame)
     pub draft : draft_of x p ≡ (last_of x p).words
     pub cleaned : written ≡ true → HasWritten done (places.Translation p) (trans_word (Some (clean_in frame)))
+    pub kept : written ≡ false → LeavesMapping p done
 
   -- a page under write-back is clean, and was written where it was dirty; or the write failed, and the share is given up
   abbrev pub IsSaved : ℕ → ℕ → View X → View X → Result Bool ℕ → Type 0
   IsSaved p word v x (Ok written) = IsWriting p word written v x × IsCleanAt p x
-  IsSaved p word v x (Err count) = (u : IsUnwritten p (version_of word) count v x) × LeavesMapping p u.done
+  IsSaved p word v x (Err count) = IsUnwritten p (version_of word) count v x
 
   -- what became of a candidate
   abbrev pub IsFate : ℕ → ℕ → View X → View X → Fate → Type 0
   IsFate p word v w (fates.Freed frame written) = IsEvicted p word frame written v w
-  IsFate p word v w (fates.Failed count) = (u : IsUnwritten p (version_of word) count v w) × LeavesMapping p u.done
+  IsFate p word v w (fates.Failed count) = IsUnwritten p (version_of word) count v w
   IsFate p word v w (fates.Lost written) = IsMissed p word written v w

@@ -1,8 +1,10 @@
 -- Writing a dirty page back, which the pass has locked for that: the page's last words go to its block, and the page becomes clean; or the write
 -- fails, and its fault is noted. The page stays locked, and in its frame.
 use Rattle.std.specs.Prelude.{ℕ, true, false, Some, None, List, [], ◌∷◌, ◌++◌, ◌≡◌, ◌≢◌, ◌≤◌, length, Result, Ok, Err, ◌⊎◌}
-use Rattle.vm_core.specs.FrameActs.{trans_word}
+use Rattle.vm_core.specs.Fn.{at}
+use Rattle.vm_core.specs.FrameActs.{mapping_of, trans_word}
 use Rattle.vm_rule.specs.declared.view.Did.{Did}
+use Rattle.vm_rule.specs.declared.view.Origin.{Origin}
 use Rattle.vm_rule.specs.declared.view.Place.TheVariants as places
 use Rattle.vm_rule.specs.declared.view.View.{View}
 use Rattle.vm_rule.specs.Views.{Each, seat_of}
@@ -10,8 +12,12 @@ use Rattle.vm_rule.specs.Reading.{last_of}
 use Rattle.vm_rule.specs.Mappings.{held_at, clean_in, dirty_in}
 use Rattle.vm_step.specs.Asides.{KeepsFrames}
 use Rattle.vm_step.specs.Conditions.{IsToldOf}
-use Rattle.vm_step.specs.Evidence.{HasWritten}
+use Rattle.vm_step.specs.Evidence.{HasGiven, HasWritten}
 use Rattle.vm_step.specs.Works.{Works}
+
+-- a count of faults of page p that the bound of its block allows
+abbrev pub IsAllowed : Origin → ℕ → ℕ → Type 0
+IsAllowed start p count = (1 ≤ count) × (count ≤ at 0 start.bounds p)
 
 -- none of the steps was one on the state word of page p
 abbrev pub LeavesState : ℕ → List Did → Type 0
@@ -20,6 +26,10 @@ LeavesState p done = Each (λ d. d.at ≢ places.State p) done
 -- none of the steps wrote the translation word of page p
 abbrev pub LeavesMapping : ℕ → List Did → Type 0
 LeavesMapping p done = Each (λ d. d.at ≡ places.Translation p → d.wrote ≡ None) done
+
+-- one of the steps found page p dirty in this frame
+abbrev pub IsFoundDirty : ℕ → ℕ → List Did → Type 0
+IsFoundDirty p frame done = (found : ℕ) × HasGiven done (places.Translation p) found × (mapping_of found ≡ Some (dirty_in frame))
 
 -- the step wrote no word, or the page's translation word or its fault word
 abbrev pub WritesOwn : ℕ → Did → Type 0
@@ -60,6 +70,7 @@ module _ {X : Type 0} where
     pub kept : LeavesMapping p done
     pub raised : HasWritten done (places.Fault p) count
     pub noted : w.notes ≡ v.notes ++ record { page = p; count = count } ∷ []
+    pub allowed : IsAllowed v.start p count
     pub stands : (held_at w p).mapping ≡ Some (dirty_in f)
     pub told : IsToldOf w p
     pub frames : (w.frames ≡ v.frames) × (w.contents ≡ v.contents)

@@ -1,6 +1,6 @@
 // One candidate for eviction: it is evicted, or could not be written, or changed before it could be locked.
 ghost use Rattle.std.specs.Prelude.{◌≡◌, ◌<◌, None, false};
-ghost use Rattle.vm_clock.specs.Clock.{IsCandidate};
+ghost use Rattle.vm_step.specs.Choices.{IsCandidate};
 ghost use Rattle.vm_core.specs.Words.{MAX_VERSION, version_of};
 ghost use Rattle.vm_evict.specs.Stages.{IsCleanAt, IsFate, IsOwning, IsSaved, IsSeenClean, IsWriting};
 ghost use Rattle.vm_evict.specs.Evictions.{IsEvicted};

@@ -3,7 +3,7 @@
 #![tactic(auto)]
 
 ghost use Rattle.std.specs.Prelude.{◌≡◌, None};
-ghost use Rattle.vm_clock.specs.Clock.{AreCandidates};
+ghost use Rattle.vm_step.specs.Choices.{AreCandidates};
 ghost use Rattle.vm_evict.specs.Evictions.{IsBatch};
 ghost use Rattle.vm_step.specs.Passes.{IsSamePass, view};
 ghost use Rattle.vm_step.specs.Ready.{IsReady};
@@ -21,9 +21,9 @@ use candidate::evict_page;
 pub use flushing::{Flushed, flush};
 use report::Evicted;
 use vm_block::Block;
-use vm_clock::Candidates;
 use vm_owner::Owner;
 use vm_rule::words::{Pass, Words};
+use vm_step::Candidates;
 pub use write::write_back;
 
 /// Evicts candidates: dirty ones are written under a share taken from their mark, and that lock becomes exclusive; clean ones are locked

@@ -3,8 +3,7 @@ ghost use Rattle.std.specs.Prelude.{◌≡◌, ◌<◌, [], length};
 ghost use Rattle.vm_evict.specs.Stages.{IsAdded, none_of};
 
 use crate::candidate::Fate;
-use vm_clock::Looks;
-use vm_exmap::Batch;
+use vm_step::{Batch, Looks};
 
 /// What became of the candidates of an eviction.
 #[derive(Clone, Copy, Debug, PartialEq, Eq)]

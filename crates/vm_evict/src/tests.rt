@@ -1,7 +1,7 @@
 //! Evictions over a table of one dirty page, whose last word is 5, with ample memory. The values are worked out by hand from the rules, and not
 //! taken from a run.
 ghost use Rattle.std.specs.Prelude.{◌≡◌, IfOk, None};
-ghost use Rattle.vm_clock.specs.Clock.{AreCandidates};
+ghost use Rattle.vm_step.specs.Choices.{AreCandidates};
 ghost use Rattle.vm_step.specs.Passes.{view};
 ghost use Rattle.vm_step.specs.Ready.{IsReady};
 
@@ -12,12 +12,10 @@ use std::alloc::Global;
 use std::process::Abort;
 use std::test::Fail;
 use vm_block::{Block, MemBlock};
-use vm_clock::{Candidates, Looks};
-use vm_exmap::Batch;
 use vm_owner::Bare;
 use vm_page::PageBuf;
 use vm_rule::words::{Pass, Words};
-use vm_step::{Took, block_out, lock_exclusive, mark};
+use vm_step::{Batch, Candidates, Looks, Took, block_out, lock_exclusive, mark};
 
 /// The word of a marked page at version 7.
 const MARKED_AT_7: u64 = 0xfe00_0000_0000_0007;

@@ -1,7 +1,7 @@
 use Rattle.std.proofs.Common.{◌≡◌, ◌<◌, ◌≤◌, ◌+◌, ℕ, List, length, refl, ap, subst, ◌∙◌, arith, slice_index_or}
 use lib.ListN.{get_elem?}
 use mathlib.Core.Option.{some}
-use Rattle.vm_clock.specs.Clock.{IsCandidate}
+use Rattle.vm_step.specs.Choices.{IsCandidate}
 use Rattle.vm_step.specs.Passes.{view}
 use Rattle.vm_evict.proofs.Tallies.{batch, counts-fit, each-there, tallies-next, tallies-none, there-at}
 use Rattle.vm_evict.proofs.evict.Goals as goal

@@ -1,10 +1,10 @@
 use Rattle.std.proofs.Common.{◌≡◌, ℕ, sym, ap, subst, ◌∙◌}
+use Rattle.std.proofs.lemmas.Option.{same_Some}
 use Rattle.vm_rule.specs.declared.view.View.{View}
 use Rattle.vm_rule.specs.Releases.{EvictTold}
 use Rattle.vm_step.specs.Passes.{view}
 use Rattle.vm_step.proofs.Leaves.{ready-on}
 use Rattle.vm_evict.specs.Evictions.{IsEvicted}
-use Rattle.vm_evict.proofs.Evidenced.{same-number}
 use Rattle.vm_evict.proofs.Dropping.{evicted, may-clear, may-evict, names}
 use Rattle.vm_evict.proofs.candidate.drop_page.Goals as goal
 
@@ -33,7 +33,7 @@ pub returns-clause-evicted : goal.returns-clause-evicted
 returns-clause-evicted g c v f written h =
     let told = c.tload-translation.ensures.told in
     let legal = may-clear c.args.p c.args.word f written v (view c.args.pass.now) h c.tload-translation.result (view c.tload-translation.new.pass) told in
-    let same : f ≡ c.in-Some.frame = same-number f c.in-Some.frame (sym (names c.args.p c.args.word f written v (view c.args.pass.now) h c.tload-translation.result (view c.tload-translation.new.pass) told) ∙ sym c.frame.ensures ∙ c.in-Some.is) in
+    let same : f ≡ c.in-Some.frame = same_Some f c.in-Some.frame (sym (names c.args.p c.args.word f written v (view c.args.pass.now) h c.tload-translation.result (view c.tload-translation.new.pass) told) ∙ sym c.frame.ensures ∙ c.in-Some.is) in
     subst (λ (n : ℕ). IsEvicted c.args.p c.args.word n written v (view c.release_evicted.new.pass)) same
     (evicted c.args.p c.args.word f written v (view c.args.pass.now) h c.tload-translation.result (view c.tload-translation.new.pass) told (view c.clear.new.pass) (c.clear.ensures.told f legal) (view c.release_evicted.new.pass)
     (subst (λ (n : ℕ). EvictTold c.args.p n (view c.clear.new.pass) (view c.release_evicted.new.pass)) c.version.ensures c.release_evicted.ensures.told))

@@ -2,9 +2,10 @@
 use Rattle.std.proofs.Common.{◌≡◌, ◌<◌, ◌⊎◌, refl, sym, subst, ◌∙◌, inl, inr, arith}
 use Rattle.vm_core.specs.Words.{state_of, MARKED, UNLOCKED}
 use Rattle.vm_rule.proofs.WordFacts.{version-within}
+use Rattle.vm_step.proofs.Evidenced.{held-state}
 use Rattle.vm_evict.proofs.FlushAlone.{dirty-word, settles-clean, settles-gone, settles-held, settles-lock-lost, settles-mark-lost, settles-write}
 use Rattle.vm_evict.proofs.FlushSteps.{may-unshare, under-write-back}
-use Rattle.vm_evict.proofs.FlushVisits.{by-load-clean, by-lock-lost, by-look-gone, by-look-held, by-mark-lost, by-write, held-state, home-front, marked-is, marked-state, none-there, not-dirty, still-locked}
+use Rattle.vm_evict.proofs.FlushVisits.{by-load-clean, by-lock-lost, by-look-gone, by-look-held, by-mark-lost, by-write, home-front, marked-is, marked-state, none-there, not-dirty, still-locked}
 use Rattle.vm_evict.proofs.flushing.visit.Goals.{else-state-ne-UNLOCKED-via-then-state-ne-UNLOCKED+else-state-2, else-state-ne-UNLOCKED-via-else-state-ne-UNLOCKED}
 use Rattle.vm_evict.proofs.flushing.visit.Goals as goal
 
@@ -19,8 +20,13 @@ returns-then-state-2-clause-visited g c =
 
 pub returns-then-is_none-clause-visited : goal.returns-then-is_none-clause-visited
 returns-then-is_none-clause-visited g c =
+    let standing : (state_of c.look_silently-word.result ≡ UNLOCKED) ⊎ (state_of c.look_silently-word.result ≡ MARKED) =
+    elim c.else-state-ne-UNLOCKED.branch [
+      | else-state-ne-UNLOCKED-via-then-state-ne-UNLOCKED+else-state-2 w ↦ inr (sym c.state-state.ensures ∙ w.if-state-2.false)
+      | else-state-ne-UNLOCKED-via-else-state-ne-UNLOCKED w ↦ inl (sym c.state-state.ensures ∙ w.if-state-ne-UNLOCKED.false)
+    ] in
     by-load-clean c.args.p g.U.Owner.tied _ _ _ c.look_silently-word.ensures.told c.args.flushed.now _ _ c.tload.ensures.told
-    (not-dirty _ _ (none-there _ c.if-is_none.ensures) c.dirty_frame.ensures)
+    standing (not-dirty _ _ (none-there _ c.if-is_none.ensures) c.dirty_frame.ensures)
 
 pub of-marked-requires : goal.of-marked-requires
 of-marked-requires g c =
@@ -61,10 +67,15 @@ returns-in-Lost-lock_write_back-clause-visited g c =
 
 pub returns-in-Taken-clause-visited : goal.returns-in-Taken-clause-visited
 returns-in-Taken-clause-visited g c =
+    let standing : (state_of c.look_silently-word.result ≡ UNLOCKED) ⊎ (state_of c.look_silently-word.result ≡ MARKED) =
+    elim c.else-state-ne-UNLOCKED.branch [
+      | else-state-ne-UNLOCKED-via-then-state-ne-UNLOCKED+else-state-2 w ↦ inr (sym c.state-state.ensures ∙ w.if-state-2.false)
+      | else-state-ne-UNLOCKED-via-else-state-ne-UNLOCKED w ↦ inl (sym c.state-state.ensures ∙ w.if-state-ne-UNLOCKED.false)
+    ] in
     let home = home-front c.args.p g.U.Owner.tied _ _ _ c.look_silently-word.ensures.told c.args.flushed.now _ _ c.tload.ensures.told _ c.in_default.ensures.marks c.requires.home in
     let under = under-write-back c.args.p g.U.Owner.tied _ _ _ c.in-Taken.ensures.told home in
     by-write c.args.p g.U.Owner.tied _ _ _ c.look_silently-word.ensures.told c.args.flushed.now _ _ c.tload.ensures.told _ c.in_default.ensures.marks
-    _ (marked-is _ _ _ c.of-marked.ensures c.version.ensures) home _ c.in-Taken.ensures.told under _ _ _ c.unlock_shared.ensures.told _ c.write_dirty.ensures.written
+    _ (marked-is _ _ _ c.of-marked.ensures c.version.ensures) home _ c.in-Taken.ensures.told under _ _ _ c.unlock_shared.ensures.told standing _ c.write_dirty.ensures.written
 
 -- ---- where the pass is alone
 

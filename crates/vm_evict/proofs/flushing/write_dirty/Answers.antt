@@ -1,8 +1,9 @@
 use Rattle.std.proofs.Common.{◌∙◌}
 use Rattle.vm_step.specs.Passes.{view}
+use Rattle.vm_step.proofs.Evidenced.{first-or}
 use Rattle.vm_evict.proofs.FlushEnds.{ends-clean, ends-failed, ends-written}
 use Rattle.vm_evict.proofs.FlushSteps.{to-write}
-use Rattle.vm_evict.proofs.FlushVisits.{first-or, not-dirty}
+use Rattle.vm_evict.proofs.FlushVisits.{not-dirty}
 use Rattle.vm_evict.proofs.flushing.write_dirty.Goals as goal
 
 pub write_back-requires-clause-legal : goal.write_back-requires-clause-legal
@@ -15,7 +16,7 @@ returns-in-Ok-clause-written g c =
 
 pub returns-in-Err-clause-written : goal.returns-in-Err-clause-written
 returns-in-Err-clause-written g c =
-    ends-failed c.args.p _ _ _ c.requires.legal c.tload-word.ensures.told c.args.flushed.now c.in-Some.frame c.in-Err.field-0 (view c.write_back.new.pass) _ (c.or-flushed.ensures ∙ first-or c.args.flushed.now.first c.args.p) c.in-Err.ensures.written
+    ends-failed c.args.p _ _ _ c.requires.legal c.tload-word.ensures.told c.args.flushed.now c.in-Some.frame c.in-Err.field-0 (view c.write_back.new.pass) _ c.in-Some.ensures (c.or-flushed.ensures ∙ first-or c.args.flushed.now.first c.args.p) c.in-Err.ensures.written
 
 pub returns-in_default-clause-written : goal.returns-in_default-clause-written
 returns-in_default-clause-written g c =

@@ -1,6 +1,6 @@
 use Rattle.std.proofs.Common.{◌≡◌, ◌<◌, ◌++◌, ◌∷◌, [], ℕ, List, refl, sym, ap, subst, ◌∙◌, arith}
 use Rattle.vm_core.specs.Words.{MARKED, MAX_VERSION, state_of, version_of}
-use Rattle.vm_clock.specs.Clock.{AreCandidates}
+use Rattle.vm_step.specs.Choices.{AreCandidates}
 use Rattle.vm_evict.proofs.tests.candidate.Goals as goal
 
 marked : state_of 18302628885633695751 ≡ MARKED

@@ -11,7 +11,7 @@ use Rattle.vm_rule.specs.Views.{seat_of}
 use Rattle.vm_rule.specs.Reading.{last_of}
 use Rattle.vm_rule.specs.Locks.{LockTold, locked_view}
 use Rattle.vm_step.specs.Conditions.{MayTakeOut}
-use Rattle.vm_evict.proofs.Evidenced.{taken-view}
+use Rattle.vm_step.proofs.Evidenced.{taken-view}
 use Rattle.vm_evict.proofs.tests.last_in_block.Goals as goal
 
 evicted : state_of 18374686479671623688 ≡ EVICTED

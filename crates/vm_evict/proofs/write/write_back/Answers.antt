@@ -46,7 +46,7 @@ raise-requires-clause-legal g c = may-raise c.args.p c.args.frame (view c.args.p
 
 pub returns-in-Err-clause-ready : goal.returns-in-Err-clause-ready
 returns-in-Err-clause-ready g c =
-    ready-after _ _ _ c.args.pass.now c.raise.new.pass c.args.p _ (c.raise.ensures.pass.0 ∙ c.block_home.ensures.pass.0 ∙ c.copy_page-page.ensures.pass.0 ∙ c.block_out-block.ensures.pass.0, c.raise.ensures.pass.1 ∙ c.block_home.ensures.pass.1 ∙ c.copy_page-page.ensures.pass.1 ∙ c.block_out-block.ensures.pass.1) ((refused c.args.p c.args.frame (view c.args.pass.now) c.requires.legal _ (view c.block_out-block.new.pass) c.block_out-block.ensures.told _ (view c.copy_page-page.new.pass) c.copy_page-page.ensures.copied g.B.Block.tells c.requires.ready.table.tells_is _ c.write-wrote.result c.write-wrote.ensures (view c.block_home.new.pass) c.block_home.ensures.told _ c.faults-count.ensures _ c.in-Err.is _ c.raise.ensures.told).works.leaves) c.requires.ready
+    ready-after _ _ _ c.args.pass.now c.raise.new.pass c.args.p _ (c.raise.ensures.pass.0 ∙ c.block_home.ensures.pass.0 ∙ c.copy_page-page.ensures.pass.0 ∙ c.block_out-block.ensures.pass.0, c.raise.ensures.pass.1 ∙ c.block_home.ensures.pass.1 ∙ c.copy_page-page.ensures.pass.1 ∙ c.block_out-block.ensures.pass.1) ((refused c.args.p c.args.frame (view c.args.pass.now) c.requires.legal _ (view c.block_out-block.new.pass) c.block_out-block.ensures.told _ (view c.copy_page-page.new.pass) c.copy_page-page.ensures.copied g.B.Block.tells c.requires.ready.table.tells_is _ c.write-wrote.result c.write-wrote.ensures (view c.block_home.new.pass) c.block_home.ensures.told _ c.faults-count.ensures _ c.in-Err.is (g.met.B.Block.bounded c.write-wrote.new.self) _ c.raise.ensures.told).works.leaves) c.requires.ready
 
 pub returns-in-Err-clause-written : goal.returns-in-Err-clause-written
-returns-in-Err-clause-written g c = refused c.args.p c.args.frame (view c.args.pass.now) c.requires.legal _ (view c.block_out-block.new.pass) c.block_out-block.ensures.told _ (view c.copy_page-page.new.pass) c.copy_page-page.ensures.copied g.B.Block.tells c.requires.ready.table.tells_is _ c.write-wrote.result c.write-wrote.ensures (view c.block_home.new.pass) c.block_home.ensures.told _ c.faults-count.ensures _ c.in-Err.is _ c.raise.ensures.told
+returns-in-Err-clause-written g c = refused c.args.p c.args.frame (view c.args.pass.now) c.requires.legal _ (view c.block_out-block.new.pass) c.block_out-block.ensures.told _ (view c.copy_page-page.new.pass) c.copy_page-page.ensures.copied g.B.Block.tells c.requires.ready.table.tells_is _ c.write-wrote.result c.write-wrote.ensures (view c.block_home.new.pass) c.block_home.ensures.told _ c.faults-count.ensures _ c.in-Err.is (g.met.B.Block.bounded c.write-wrote.new.self) _ c.raise.ensures.told
