@@ -1,6 +1,5 @@
 -- A call that looked at a page's word and was denied: at once, or by an exchange that was lost.
-use Rattle.std.proofs.Common.{ℕ, ◌≡◌, ◌≢◌, List, [], ◌∷◌, None, refl, sym, subst, inl, inr}
-use Rattle.vm_core.specs.Words.{version_of}
+use Rattle.std.proofs.Common.{ℕ, ◌≡◌, ◌≢◌, ◌⊎◌, List, [], ◌∷◌, None, refl, sym, subst, ◌∙◌, inl, inr}
 use Rattle.vm_owner.specs.Kept.{Start}
 use Rattle.vm_rule.specs.declared.view.Place.TheVariants as places
 use Rattle.vm_rule.specs.declared.view.View.{View}
@@ -16,10 +15,11 @@ use Rattle.vm_step.proofs.Saws.{lost-saw, one-given}
 use Rattle.vm_guard.specs.Quiet.{IsQuiet}
 use Rattle.vm_guard.specs.Takes.{SaysWhy}
 use Rattle.vm_guard.proofs.QuietSteps.{look-quiet, quiet-then}
+use Rattle.vm_guard.proofs.Sure.{alone-on, look-current, look-leaves, lost-leaves}
 
-word-shows : (p word : ℕ) (d : Deny) → SaysWhy p word d → IsEvidence NoWord (did_load (places.State p) word ∷ []) p d
-word-shows p word (denies.Again saw) why =
-    subst (λ (s : Saw). (s.at ≡ ats.Page p) × IsSaw NoWord (did_load (places.State p) word ∷ []) s) (sym why.0) (
+word-shows : (expects : ℕ → ℕ → Type 0) (p word : ℕ) (d : Deny) → SaysWhy p word d → IsEvidence NoWord expects (did_load (places.State p) word ∷ []) p d
+word-shows expects p word (denies.Again saw) why =
+    subst (λ (s : Saw). (s.at ≡ ats.Page p) × IsSaw NoWord expects (did_load (places.State p) word ∷ []) s) (sym why.0) (
       refl,
       record {
         earlier = [];
@@ -30,23 +30,26 @@ word-shows p word (denies.Again saw) why =
         since = [];
         begins = same refl refl;
         quiet = tt;
+        foreign = tt;
         why = inr (inl why.1);
       },
     )
-word-shows p word (denies.Need q) why = (why.0, record { word = word; given = one-given p word; evicted = why.1; foreign = tt })
-word-shows p word (denies.Crowded q) why = (why.0, record { word = word; given = one-given p word; full = why.1 })
-word-shows p word (denies.Worn q) why = (why.0, record { word = word; given = one-given p word; last = why.1 })
+word-shows expects p word (denies.Need q) why = (why.0, record { word = word; given = one-given p word; evicted = why.1; foreign = tt })
+word-shows expects p word (denies.Crowded q) why = (why.0, record { word = word; given = one-given p word; full = why.1; foreign = tt })
+word-shows expects p word (denies.Worn q) why = (why.0, record { word = word; given = one-given p word; last = why.1; foreign = tt })
 
-module _ {X : Type 0} (tied : Start → ℕ → List ℕ → ℕ → List ℕ → Type 0) (allowed : Deny → Type 0) where
-  pub denied-at-once : (p word : ℕ) (d : Deny) (v w : View X) → LookTold tied p None word v w → SaysWhy p word d → allowed d → IsDenied allowed NoWord p d v w
-  denied-at-once p word d v w t why kind = record { done = did_load (places.State p) word ∷ []; quiet = look-quiet tied p word v w t; evidence = word-shows p word d why; kind = kind }
+module _ {X : Type 0} (tied : Start → ℕ → List ℕ → ℕ → List ℕ → Type 0) (allowed : Deny → Type 0) (instead : ℕ → ℕ → Type 0) where
+  pub denied-at-once : (p word : ℕ) (d : Deny) (v w : View X) → LookTold tied p None word v w → SaysWhy p word d → allowed d → IsDenied allowed NoWord instead p d v w
+  denied-at-once p word d v w t why kind = record { done = did_load (places.State p) word ∷ []; quiet = look-quiet tied p word v w t; evidence = word-shows instead p word d why; kind = kind; table = look-leaves tied p None word v w t; current = look-current tied p None word v w t }
 
   pub denied-lost : (p word expects found new : ℕ) (v u w : View X) → LookTold tied p None word v u → IsQuiet p (did_exchange (places.State p) expects found new ∷ []) u w
-      → version_of word ≡ version_of expects → found ≢ expects → allowed (denies.Again (record { at = ats.Page p; first = expects; seen = found }))
-      → IsDenied allowed NoWord p (denies.Again (record { at = ats.Page p; first = expects; seen = found })) v w
-  denied-lost p word expects found new v u w t quiet version ne kind = record {
+      → (word ≡ expects) ⊎ instead word expects → found ≢ expects → allowed (denies.Again (record { at = ats.Page p; first = expects; seen = found }))
+      → IsDenied allowed NoWord instead p (denies.Again (record { at = ats.Page p; first = expects; seen = found })) v w
+  denied-lost p word expects found new v u w t quiet from ne kind = record {
     done = did_load (places.State p) word ∷ did_exchange (places.State p) expects found new ∷ [];
     quiet = quiet-then p (did_load (places.State p) word ∷ []) (did_exchange (places.State p) expects found new ∷ []) v u w (look-quiet tied p word v u t) quiet;
-    evidence = (refl, lost-saw p word expects found new version ne);
+    evidence = (refl, lost-saw instead p word expects found new from ne);
     kind = kind;
+    table = λ a. lost-leaves p expects found new u w quiet ne (alone-on tied p word v u t a) ∙ look-leaves tied p None word v u t a;
+    current = quiet.alone.current (look-current tied p None word v u t);
   }

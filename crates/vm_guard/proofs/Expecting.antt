@@ -1,5 +1,6 @@
 -- The word that a lock expects of a page: the word seen itself, or the unlocked one at its version.
-use Rattle.std.proofs.Common.{ℕ, ◌≡◌, ◌≢◌, ◌⊎◌, ◌<◌, ◌≤◌, sym, ap, refl, subst, ◌∙◌, arith, ⊎_elim, inl, inr}
+use Rattle.std.proofs.Common.{ℕ, ◌≡◌, ◌≢◌, ◌⊎◌, ◌<◌, ◌≤◌, true, sym, ap, refl, subst, ◌∙◌, arith, ⊎_elim, inl, inr}
+use Rattle.std.proofs.lemmas.Bool.Decides.{nat_tests}
 use Rattle.vm_core.specs.Words.{state_of, version_of, word_of, UNLOCKED, LOCKED, MARKED, EVICTED, MAX_VERSION}
 use Rattle.vm_core.specs.StateActs.{is_readable}
 use Rattle.vm_rule.proofs.WordFacts.{version-within, word-state, word-version}
@@ -8,6 +9,10 @@ use Rattle.vm_guard.proofs.OpenReads.{readable-state}
 
 below-last : (n : ℕ) → n ≤ MAX_VERSION → n ≢ MAX_VERSION → n < MAX_VERSION
 below-last n l ne = omega arith
+
+-- a word that can be read, and is neither Unlocked nor Marked, has shares
+pub has-shares : (state : ℕ) → is_readable state ≡ true → state ≢ UNLOCKED → state ≢ MARKED → (1 ≤ state) × (state < LOCKED)
+has-shares state readable bare unmarked = (grind (arith, nat_tests), grind (arith, nat_tests))
 
 pub expect-same : (word : ℕ) → (state_of word ≡ UNLOCKED) ⊎ (state_of word ≡ MARKED) → version_of word ≢ MAX_VERSION → IsToExpect word word
 expect-same word state ne = record {

@@ -1,5 +1,5 @@
 -- What the calls on a page that is locked already leave of the view: a word read, a word set, a share given up, a release.
-use Rattle.std.proofs.Common.{ℕ, ◌≡◌, ◌≤◌, ◌<◌, ◌+◌, ◌-◌, ◌^◌, ◌++◌, Bool, true, false, List, [], ◌∷◌, length, Option, Some, refl, sym, ap, subst, ◌∙◌, arith, inl, inr, slice_set, length-set, IsSome}
+use Rattle.std.proofs.Common.{ℕ, ◌≡◌, ◌≢◌, ◌≤◌, ◌<◌, ◌+◌, ◌-◌, ◌*◌, ◌^◌, ◌++◌, Bool, true, false, List, [], ◌∷◌, length, Option, Some, refl, sym, ap, subst, ◌∙◌, arith, inl, inr, get_or-set_other, get_or-set_same, slice_index, slice_set, length-set, IsSome}
 use Rattle.std.proofs.lemmas.Bool.{cond-false}
 use Rattle.vm_core.specs.declared.event.Mapping.{Mapping}
 use Rattle.vm_core.specs.History.{History, Version}
@@ -7,6 +7,7 @@ use Rattle.vm_core.specs.Start.{no_seat}
 use Rattle.vm_core.specs.StateActs.{unshared}
 use Rattle.vm_core.specs.FrameActs.{trans_word}
 use Rattle.vm_core.proofs.Upd.{upd-same}
+use Rattle.vm_core.specs.Words.{state_of, version_of, MAX_VERSION}
 use Rattle.vm_owner.specs.declared.Entry.{Entry}
 use Rattle.vm_owner.specs.Kept.{Start, Change}
 use Rattle.vm_owner.specs.Numbers.{has, without}
@@ -35,6 +36,12 @@ use Rattle.vm_step.specs.Asides.{HoldsPage}
 use Rattle.vm_step.proofs.Asides.{alone-self, alone-then}
 use Rattle.vm_guard.specs.Guards.{IsDirtied, IsHolding, IsReleased, IsSet, IsUnshared, dirty_steps}
 use Rattle.vm_step.specs.Plays.{IsOf}
+use Rattle.vm_step.specs.Alone.{IsAlone, RunsAlone}
+use Rattle.vm_step.proofs.Alone.{still-alone}
+use Rattle.vm_rule.specs.declared.view.Place.{Place}
+use Rattle.vm_rule.specs.Layout.{index_of}
+use Rattle.vm_guard.specs.Sure.{IsFree, known_word}
+use Rattle.vm_guard.proofs.Sure.{free-after, state-inside}
 use Rattle.vm_guard.specs.Quiet.{IsSteady}
 use Rattle.vm_guard.specs.Takes.{MayRelease}
 use Rattle.vm_guard.proofs.QuietSteps.{dirty-aside, elsewhere-then, holds-then, last-kept, loads-after, quiet-elsewhere, quiet-none, reads-then, release-elsewhere, release-last, seat-after, still-holds, still-reads, store-aside, unshare-aside}
@@ -45,7 +52,7 @@ module _ {X : Type 0} where
   still-of shape tells v w same is = record { is_shape = subst (HasShape shape) (sym same) is.is_shape; tells_is = ap (λ (o : Origin). o.tells) same ∙ is.tells_is }
 
   -- and the pass has a part
-  pub parts-on : (done : List Did) (v w : View X) → IsSteady done v w → 0 < length v.used → 0 < length w.used
+  pub parts-on : (done : List Did) {own : List Release} (v w : View X) → IsSteady done own v w → 0 < length v.used → 0 < length w.used
   parts-on done v w steady l = subst (λ (ns : List ℕ). 0 < length ns) (sym steady.parts.0) l
 
   pub gives-up : (p found : ℕ) (v w : View X) → 1 ≤ (seat_of v p).shares → UnshareTold p found v w → IsUnshared p v w
@@ -66,6 +73,15 @@ module _ {X : Type 0} where
           draft = ap (λ (x : View X). draft_of x p) b.view;
           last = last-kept did [] v (unshared_view p v) w b refl p (inr shares);
         };
+        table = λ a.
+            let steps = aside.elsewhere.steady.alone.words a.0 a.1 in
+            steps.1 ∙ ap (λ (n : ℕ). slice_set v.snapshot.words p (n - 2 ^ 56)) steps.0;
+        known = λ a.
+            let steps = aside.elsewhere.steady.alone.words a.0 a.1 in
+            ap (λ (l : List ℕ). slice_index l p) steps.1
+            ∙ get_or-set_same v.snapshot.words p (found - 2 ^ 56) 0 (state-inside p v.snapshot.words (subst (λ (n : ℕ). 1 ≤ state_of n) steps.0 t.shared))
+            ∙ ap (λ (n : ℕ). n - 2 ^ 56) steps.0;
+        current = ap (λ (x : View X). x.current) b.view;
       }
 
   -- ---- a word of the draft
@@ -105,7 +121,12 @@ module _ {X : Type 0} where
     held = (λ i. record (put_at no_held v.held p) { mapping = (h.stands ∙ ap (λ (b : Bool). Some (record { frame = f; dirty = b })) e) i });
     last = refl;
     draft = refl;
+    states = λ _ q l. refl;
   }
+
+  -- a store at another place leaves the state word that a pass knows
+  stored-else : (at : Place) (x q : ℕ) (v w : View X) → RunsAlone (did_store at x ∷ []) [] v w → IsAlone v → q ≢ index_of v.start at → known_word q w ≡ known_word q v
+  stored-else at x q v w r a ne = ap (λ (l : List ℕ). slice_index l q) (r.words a.0 a.1).1 ∙ get_or-set_other v.snapshot.words (index_of v.start at) q x 0 ne
 
   -- a clean one is made so
   pub dirties : (p f version : ℕ) (dirty : Bool) (v w : View X) → IsHolding p f version dirty v → dirty ≡ false → DirtyTold p f v w → IsDirtied p f dirty v w
@@ -125,6 +146,7 @@ module _ {X : Type 0} where
         held = ap (λ (y : View X). put_at no_held y.held p) b.view ∙ upd-same (put_at no_held v.held) p (record (put_at no_held v.held p) { mapping = Some (dirty_in f) });
         last = last-kept did [] v (dirty_view p f v) w b refl p (inl h.owns);
         draft = ap (λ (y : View X). draft_of y p) b.view;
+        states = λ a q l. stored-else (places.Translation p) (trans_word (Some (dirty_in f))) q v w aside.elsewhere.steady.alone a (λ (e : q ≡ v.start.pages + p). omega (arith, l, e));
       }
 
   pub holds-dirty : (p f version : ℕ) (dirty : Bool) (v w : View X) → IsHolding p f version dirty v → IsDirtied p f dirty v w → IsHolding p f version true w
@@ -153,6 +175,10 @@ module _ {X : Type 0} where
             ap (λ (y : View X). draft_of y p) b.view
             ∙ upd-same (put_at [] u.drafts) p (slice_set (draft_of u p) i x)
             ∙ ap (λ (l : List ℕ). slice_set l i x) d.draft;
+        states = λ a q l.
+            let below : q < u.start.pages = subst (λ (o : Origin). q < o.pages) (sym d.elsewhere.steady.start) l in
+            stored-else (places.Content f i) x q u w aside.elsewhere.steady.alone (still-alone v u d.elsewhere.steady.parts d.alone.current a) (λ (e : q ≡ 3 * u.start.pages + (64 * f + i)). omega (arith, below, e))
+            ∙ d.states a q l;
       }
 
   pub still-holding : (p f version : ℕ) (dirty : Bool) (i x : ℕ) (v w : View X) → IsHolding p f version dirty v → IsSet p f dirty i x v w → IsHolding p f version true w
@@ -200,4 +226,10 @@ module _ {X : Type 0} where
             ∙ ap (λ (x : Version). x.words) (release-last v (v.releases ++ []) r q ne)
             ∙ ap (λ (rs : List Release). (last_in v.start rs q).words) (append-none v.releases);
         wrote = record { earlier = []; step = did; later = []; cut = refl; place = refl; wrote = refl };
+        table = λ a. ((release-elsewhere p version [] said v w t).steady.alone.words a.0 a.1).1;
+        free = λ a.
+            let below : version < MAX_VERSION = h.below in
+            subst (λ (l : List ℕ). IsFree (slice_index l p) × (version_of (slice_index l p) ≤ version + 1)) (sym ((release-elsewhere p version [] said v w t).steady.alone.words a.0 a.1).1)
+            (free-after p (version + 1) v.snapshot.words (omega (arith, below)));
+        current = ap (λ (y : View X). y.current) b.view;
       }

@@ -5,6 +5,7 @@ use Rattle.vm_core.specs.declared.event.Open.{Open}
 use Rattle.vm_core.specs.Words.{version_of, word_of, LOCKED, MAX_VERSION}
 use Rattle.vm_owner.specs.Kept.{Start}
 use Rattle.vm_rule.specs.declared.view.Did.{Did}
+use Rattle.vm_rule.specs.declared.view.Release.{Release}
 use Rattle.vm_rule.specs.declared.view.View.{View}
 use Rattle.vm_rule.specs.Looks.{IsOlder}
 use Rattle.vm_rule.proofs.WordFacts.{word-state, word-version}
@@ -18,7 +19,7 @@ older-read found (Some y) older x e = let same : y ≡ x = cc in subst (λ (z : 
 
 module _ {X : Type 0} where
   -- what a read has left behind stays behind
-  pub has-left-on : (p word : ℕ) (done : List Did) (v w : View X) → HasLeft p word v → IsSteady done v w → HasLeft p word w
+  pub has-left-on : (p word : ℕ) (done : List Did) {own : List Release} (v w : View X) → HasLeft p word v → IsSteady done own v w → HasLeft p word w
   has-left-on p word done v w h steady = record {
     earlier = h.earlier;
     step = h.step;
@@ -26,6 +27,7 @@ module _ {X : Type 0} where
     cut = steady.log ∙ ap (λ (l : List Did). l ++ done) h.cut ∙ append_assoc h.earlier (h.step ∷ h.later) done;
     at = h.at;
     other = h.other;
+    open_word = h.open_word;
     was = h.was;
     gone = h.gone;
   }
@@ -43,6 +45,7 @@ module _ {X : Type 0} where
         cut = k.elsewhere.steady.log ∙ ap (λ (l : List Did). v.log ++ l) wr.cut ∙ sym (append_assoc v.log wr.earlier (wr.step ∷ wr.later));
         at = wr.place;
         other = word_of LOCKED version;
+        open_word = reads.open_word;
         was = inr wr.wrote;
         gone =
             ⊎_elim

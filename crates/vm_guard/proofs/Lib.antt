@@ -14,3 +14,4 @@ pub mod Lockings
 pub mod Upgrading
 pub mod Expecting
 pub mod Leaving
+pub mod Sure

@@ -1,10 +1,10 @@
 -- An exclusive lock that was taken: the look, the exchange, and the load of the translation word.
-use Rattle.std.proofs.Common.{ℕ, ◌≡◌, ◌≢◌, ◌<◌, true, List, [], ◌∷◌, length, Some, None, IsSome, refl, sym, ap, subst, ◌∙◌, inl, eqb}
+use Rattle.std.proofs.Common.{ℕ, ◌≡◌, ◌≢◌, ◌<◌, true, List, [], ◌∷◌, length, Option, Some, None, IsSome, refl, sym, ap, subst, ◌∙◌, inl, eqb}
 use Rattle.std.proofs.lemmas.Bool.{cond-true, eq-eqb, or_left}
 use Rattle.vm_core.specs.declared.event.Mapping.{Mapping}
 use Rattle.vm_core.specs.declared.event.Seat.{Seat}
 use Rattle.vm_core.specs.Words.{state_of, version_of, word_of, LOCKED, MAX_VERSION}
-use Rattle.vm_core.specs.FrameActs.{mapping_of}
+use Rattle.vm_core.specs.FrameActs.{framed, mapping_of}
 use Rattle.vm_core.specs.History.{Version}
 use Rattle.vm_core.specs.Start.{no_seat}
 use Rattle.vm_core.proofs.Upd.{upd-same}
@@ -19,19 +19,29 @@ use Rattle.vm_rule.specs.Puts.{put_at}
 use Rattle.vm_rule.specs.Views.{seat_of, draft_of}
 use Rattle.vm_rule.specs.Reading.{last_of}
 use Rattle.vm_rule.specs.Rule.{no_held}
-use Rattle.vm_rule.specs.Brought.{Brings}
+use Rattle.vm_rule.specs.Brought.{Brings, set_if}
 use Rattle.vm_rule.specs.Log.{did_load, did_exchange}
 use Rattle.vm_rule.specs.Looks.{LookTold}
 use Rattle.vm_rule.specs.Loads.{TranslationTold}
-use Rattle.vm_rule.specs.Locks.{LockTold, Validates, locked_view}
-use Rattle.vm_step.specs.Asides.{KnowsAsBefore}
+use Rattle.vm_rule.specs.Locks.{IsUnheld, LockTold, Validates, locked_view}
+use Rattle.vm_step.specs.Asides.{HoldsPage, KnowsAsBefore}
 use Rattle.vm_step.proofs.Asides.{alone-then}
 use Rattle.vm_guard.specs.Quiet.{IsQuiet}
-use Rattle.vm_guard.specs.Guards.{IsHolding, IsLocked}
+use Rattle.vm_guard.specs.Guards.{IsElsewhere, IsHolding, IsLocked}
 use Rattle.vm_guard.specs.Takes.{IsToExpect}
 use Rattle.vm_guard.proofs.Leaving.{older-read}
 use Rattle.vm_guard.proofs.QuietSteps.{IsAside, elsewhere-then, lock-taken, look-quiet, quiet-elsewhere, seat-after, taken-view, translation-quiet}
-use Rattle.vm_guard.proofs.Seats.{validates-before}
+use Rattle.vm_guard.proofs.Seats.{look-seat, translation-seat, validates-before}
+
+-- a page of which the pass has no lock after a call that left its locks was so before
+unheld-before : {X : Type 0} (p : ℕ) (v u : View X) → HoldsPage v u p → u.owed ≡ v.owed → u.next ≡ v.next → IsUnheld u p → IsUnheld v p
+unheld-before p v u h owed next un = record {
+  exclusive = sym h.exclusive ∙ un.exclusive;
+  shares = sym h.shares ∙ un.shares;
+  writing = sym h.writing ∙ un.writing;
+  paid = ap (has p) (sym owed) ∙ un.paid;
+  next = λ e. un.next (next ∙ e);
+}
 
 module _ {X : Type 0} (tied : Start → ℕ → List ℕ → ℕ → List ℕ → Type 0) where
   module _ (p expects : ℕ) (u x : View X) (t : LockTold tied p expects expects u x) where
@@ -44,11 +54,13 @@ module _ {X : Type 0} (tied : Start → ℕ → List ℕ → ℕ → List ℕ �
     lock-brings : Brings lock-did [] [] u lock-inner x
     lock-brings = taken-view lock-did expects expects u lock-inner x refl t.brings
 
+    lock-seat : seat_of x p ≡ record (seat_of u p) { exclusive = true; reading = None }
+    lock-seat =
+        seat-after lock-did [] [] u lock-inner x lock-brings p
+        ∙ upd-same (put_at no_seat u.seats) p (record (seat_of u p) { exclusive = true; reading = None })
+
     pub lock-owns : (seat_of x p).exclusive ≡ true
-    lock-owns =
-        ap (λ (s : Seat). s.exclusive)
-        (seat-after lock-did [] [] u lock-inner x lock-brings p
-        ∙ upd-same (put_at no_seat u.seats) p (record (seat_of u p) { exclusive = true; reading = None }))
+    lock-owns = ap (λ (s : Seat). s.exclusive) lock-seat
 
     lock-held : put_at no_held x.held p ≡ t.held
     lock-held = ap (λ (y : View X). put_at no_held y.held p) lock-brings.view ∙ upd-same (put_at no_held u.held) p t.held
@@ -63,6 +75,9 @@ module _ {X : Type 0} (tied : Start → ℕ → List ℕ → ℕ → List ℕ �
     module _ (word found : ℕ) (m : Mapping) (w : View X) (to : IsToExpect word expects) (load : TranslationTold p found x w) (named : mapping_of found ≡ Some m) (page : p < x.start.pages) where
       after-lock : IsQuiet p (did_load (places.Translation p) found ∷ []) x w
       after-lock = translation-quiet p found x w load
+
+      pub seat-then : seat_of w p ≡ record (seat_of u p) { exclusive = true; reading = None }
+      seat-then = translation-seat p found x w load ∙ ap (λ (s : Seat). record s { reading = framed s.reading (mapping_of found) }) lock-seat
 
       lock-known : KnowsAsBefore x w p
       lock-known = after-lock.knows p (inl lock-owns)
@@ -99,14 +114,21 @@ module _ {X : Type 0} (tied : Start → ℕ → List ℕ → ℕ → List ℕ �
       let aside : IsAside p (second ∷ []) u x = lock-taken tied p expects expects u x refl t in
       let after : IsQuiet p (third ∷ []) x w = translation-quiet p found x w load in
       let known : KnowsAsBefore x w p = lock-known p expects u x t word found m w to load named (subst (λ (o : Origin). p < o.pages) (sym (aside.elsewhere.steady.start ∙ before.steady.start)) page) in
+      let elsewhere : IsElsewhere p (first ∷ second ∷ third ∷ []) [] v w =
+      elsewhere-then p (first ∷ []) (second ∷ third ∷ []) v u w (quiet-elsewhere p (first ∷ []) v u before)
+      (elsewhere-then p (second ∷ []) (third ∷ []) u x w aside.elsewhere (quiet-elsewhere p (third ∷ []) x w after)) in
+      let written : second.wrote ≡ Some (word_of LOCKED (version_of word)) =
+      cond-true (eqb expects expects) (Some (word_of LOCKED (version_of expects))) None (eq-eqb expects expects refl) ∙ ap (λ (n : ℕ). Some (word_of LOCKED n)) (sym to.version) in
       record {
         done = first ∷ second ∷ third ∷ [];
-        elsewhere =
-            elsewhere-then p (first ∷ []) (second ∷ third ∷ []) v u w (quiet-elsewhere p (first ∷ []) v u before)
-            (elsewhere-then p (second ∷ []) (third ∷ []) u x w aside.elsewhere (quiet-elsewhere p (third ∷ []) x w after));
+        elsewhere = elsewhere;
         mine = after.mine ∙ aside.mine ∙ before.mine;
         group = (after.group.0 ∙ aside.group.0 ∙ before.group.0, after.group.1 ∙ aside.group.1 ∙ before.group.1, after.group.2 ∙ aside.group.2 ∙ before.group.2);
         alone = alone-then v u w before.steady.parts before.alone (alone-then u x w aside.elsewhere.steady.parts aside.alone after.alone);
+        before = unheld-before p v u (before.holds p) before.group.1 before.group.2 (t.unheld refl);
+        seat =
+            seat-then p expects u x t word found m w to load named (subst (λ (o : Origin). p < o.pages) (sym (aside.elsewhere.steady.start ∙ before.steady.start)) page)
+            ∙ ap (λ (s : Seat). record s { exclusive = true; reading = None }) (look-seat tied p word v u look);
         holding = holding p expects u x t word found m w to load named (subst (λ (o : Origin). p < o.pages) (sym (aside.elsewhere.steady.start ∙ before.steady.start)) page);
         draft = draft-then p expects u x t word found m w to load named (subst (λ (o : Origin). p < o.pages) (sym (aside.elsewhere.steady.start ∙ before.steady.start)) page);
         validates = λ tells.
@@ -120,6 +142,8 @@ module _ {X : Type 0} (tied : Start → ℕ → List ℕ → ℕ → List ℕ �
           later = third ∷ [];
           cut = refl;
           place = refl;
-          wrote = cond-true (eqb expects expects) (Some (word_of LOCKED (version_of expects))) None (eq-eqb expects expects refl) ∙ ap (λ (n : ℕ). Some (word_of LOCKED n)) (sym to.version);
+          wrote = written;
         };
+        table = λ a. (elsewhere.steady.alone.words a.0 a.1).1.1.1 ∙ ap (λ (o : Option ℕ). set_if o p v.snapshot.words) written;
+        current = ap (λ (y : View X). y.current) load.brings.view;
       }

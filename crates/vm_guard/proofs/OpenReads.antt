@@ -191,6 +191,10 @@ module _ {X : Type 0} where
       keeps None = refl
       keeps (Some k) = refl
 
+  -- and so do its loads
+  pub translated-loads : (p word : ℕ) (v w : View X) → TranslationTold p word v w → loads_at w p ≡ loads_at v p
+  translated-loads p word v w t = loads-after (did_load (places.Translation p) word) [] [] v (tloaded_view p word v) w t.brings p
+
   pub translated-list : (p word : ℕ) (v w : View X) (o : Open) → TranslationTold p word v w → (seat_of v p).reading ≡ Some o → w.translations ≡ record { page = p; version = o.version; word = word } ∷ v.translations
   translated-list p word v w o t e =
       ap (λ (x : View X). x.translations) t.brings.view ∙ ap (λ r. translation_of p word r ++ v.translations) e

@@ -36,6 +36,7 @@ use Rattle.vm_rule.specs.Stores.{StoreTold, drafted_view}
 use Rattle.vm_rule.proofs.Entries.{append-none}
 use Rattle.vm_rule.proofs.Worlds.{last-is, release-else}
 use Rattle.vm_step.specs.Asides.{HoldsPage, KnowsAsBefore, ReadsAsBefore, StaysAlone}
+use Rattle.vm_step.proofs.Alone.{runs-one, runs-self, runs-then}
 use Rattle.vm_step.proofs.Asides.{alone-self, alone-silent, alone-then}
 use Rattle.vm_guard.specs.Quiet.{IsSteady, IsQuiet}
 use Rattle.vm_guard.specs.Guards.{IsElsewhere}
@@ -61,8 +62,8 @@ where-other read.Closed x y ne = refl
 module _ {X : Type 0} where
   -- ---- one after the other
 
-  pub steady-then : (a b : List Did) (u v w : View X) → IsSteady a u v → IsSteady b v w → IsSteady (a ++ b) u w
-  steady-then a b u v w f g = record {
+  pub steady-then : (a b : List Did) (c d : List Release) (u v w : View X) → IsSteady a c u v → IsSteady b d v w → IsSteady (a ++ b) (c ++ d) u w
+  steady-then a b c d u v w f g = record {
     log = g.log ∙ ap (λ (t : List Did). t ++ b) f.log ∙ append_assoc u.log a b;
     live = g.live ∙ f.live;
     start = g.start ∙ f.start;
@@ -73,7 +74,7 @@ module _ {X : Type 0} where
     out = g.out ∙ f.out;
     notes = g.notes ∙ f.notes;
     ties = (g.ties.0 ++ f.ties.0, g.ties.1 ∙ ap (λ (t : List Tie). g.ties.0 ++ t) f.ties.1 ∙ sym (append_assoc g.ties.0 f.ties.0 u.ties));
-    current = λ e. g.current (f.current e);
+    alone = runs-then a b c d u v w f.start f.parts f.alone g.alone;
   }
 
   pub holds-then : (u v w : View X) (q : ℕ) → HoldsPage u v q → HoldsPage v w q → HoldsPage u w q
@@ -91,7 +92,7 @@ module _ {X : Type 0} where
 
   pub quiet-then : (p : ℕ) (a b : List Did) (u v w : View X) → IsQuiet p a u v → IsQuiet p b v w → IsQuiet p (a ++ b) u w
   quiet-then p a b u v w f g = record {
-    steady = steady-then a b u v w f.steady g.steady;
+    steady = steady-then a b [] [] u v w f.steady g.steady;
     mine = g.mine ∙ f.mine;
     group = (g.group.0 ∙ f.group.0, g.group.1 ∙ f.group.1, g.group.2 ∙ f.group.2);
     holds = λ q. holds-then u v w q (f.holds q) (g.holds q);
@@ -100,15 +101,15 @@ module _ {X : Type 0} where
     alone = alone-then u v w f.steady.parts f.alone g.alone;
   }
 
-  pub elsewhere-then : (p : ℕ) (a b : List Did) (u v w : View X) → IsElsewhere p a u v → IsElsewhere p b v w → IsElsewhere p (a ++ b) u w
-  elsewhere-then p a b u v w f g = record {
-    steady = steady-then a b u v w f.steady g.steady;
+  pub elsewhere-then : (p : ℕ) (a b : List Did) {c d : List Release} (u v w : View X) → IsElsewhere p a c u v → IsElsewhere p b d v w → IsElsewhere p (a ++ b) (c ++ d) u w
+  elsewhere-then p a b {c = c} {d = d} u v w f g = record {
+    steady = steady-then a b c d u v w f.steady g.steady;
     holds = λ q ne. holds-then u v w q (f.holds q ne) (g.holds q ne);
     knows = λ q ne l. knows-then u v w q (f.knows q ne l) (g.knows q ne (still-locking u v q (f.holds q ne) l));
     others = λ q ne. reads-then u v w q (f.others q ne) (g.others q ne);
   }
 
-  pub quiet-elsewhere : (p : ℕ) (done : List Did) (v w : View X) → IsQuiet p done v w → IsElsewhere p done v w
+  pub quiet-elsewhere : (p : ℕ) (done : List Did) (v w : View X) → IsQuiet p done v w → IsElsewhere p done [] v w
   quiet-elsewhere p done v w f = record { steady = f.steady; holds = λ q ne. f.holds q; knows = λ q ne. f.knows q; others = f.others }
 
   -- no step at all
@@ -125,7 +126,7 @@ module _ {X : Type 0} where
       out = refl;
       notes = refl;
       ties = ([], refl);
-      current = λ e. e;
+      alone = runs-self v;
     };
     mine = refl;
     group = (refl, refl, refl);
@@ -148,7 +149,7 @@ module _ {X : Type 0} where
     pub notes : inner.notes ≡ v.notes
     pub ties : (more : List Tie) × (inner.ties ≡ more ++ v.ties)
 
-  pub steady-from : (did : Did) (own : List Release) (entries : List (Entry X)) (v inner w : View X) → Brings did own entries v inner w → IsLevel v inner → IsSteady (did ∷ []) v w
+  pub steady-from : (did : Did) (own : List Release) (entries : List (Entry X)) (v inner w : View X) → Brings did own entries v inner w → IsLevel v inner → IsSteady (did ∷ []) own v w
   steady-from did own entries v inner w b l = record {
     log = ap (λ (x : View X). x.log) b.view ∙ ap (λ (t : List Did). t ++ did ∷ []) l.log;
     live = ap (λ (x : View X). x.live) b.view ∙ l.live;
@@ -160,7 +161,7 @@ module _ {X : Type 0} where
     out = ap (λ (x : View X). x.out) b.view ∙ l.out;
     notes = ap (λ (x : View X). x.notes) b.view ∙ l.notes;
     ties = (l.ties.0, ap (λ (x : View X). x.ties) b.view ∙ l.ties.1);
-    current = λ _. ap (λ (x : View X). x.current) b.view;
+    alone = runs-one did None own entries v inner w b;
   }
 
   -- a step that releases no page leaves the last version of each page that the pass has locked
@@ -229,7 +230,7 @@ module _ {X : Type 0} where
       → ((q : ℕ) → q ≢ p → loads_at inner q ≡ loads_at v q)
       → ((q : ℕ) → q ≢ p → put_at no_held inner.held q ≡ put_at no_held v.held q)
       → ((q : ℕ) → q ≢ p → draft_of inner q ≡ draft_of v q)
-      → IsElsewhere p (did ∷ []) v w
+      → IsElsewhere p (did ∷ []) own v w
   elsewhere-from p did own entries v inner w b level last seats loads held drafts = record {
     steady = steady-from did own entries v inner w b level;
     holds = λ q ne. let e = seat-after did own entries v inner w b q ∙ seats q ne in record {
@@ -280,7 +281,7 @@ module _ {X : Type 0} where
 
   -- a look, but for what is said
   pub record IsLooked (p : ℕ) (done : List Did) (v w : View X) : Type 0 where
-    pub steady : IsSteady done v w
+    pub steady : IsSteady done [] v w
     pub group : (w.pending ≡ v.pending) × (w.owed ≡ v.owed) × (w.next ≡ v.next)
     pub holds : (q : ℕ) → HoldsPage v w q
     pub knows : (q : ℕ) → IsLocking (seat_of v q) → KnowsAsBefore v w q
@@ -386,7 +387,7 @@ module _ {X : Type 0} where
   mark-quiet p expects found new v w t = still-quiet p (did_exchange (places.State p) expects found new) v w t.brings
 
   -- the view after an exchange that was lost, and after one that took
-  lost-view : (did : Did) (expects found : ℕ) (v inner w : View X) → found ≢ expects → Brings did [] [] v (if found == expects then inner else v) w → Brings did [] [] v v w
+  pub lost-view : (did : Did) (expects found : ℕ) (v inner w : View X) → found ≢ expects → Brings did [] [] v (if found == expects then inner else v) w → Brings did [] [] v v w
   lost-view did expects found v inner w ne b = subst (λ (x : View X). Brings did [] [] v x w) (cond-false (eqb found expects) inner v (ne_eqb found expects ne)) b
 
   pub taken-view : (did : Did) (expects found : ℕ) (v inner w : View X) → found ≡ expects → Brings did [] [] v (if found == expects then inner else v) w → Brings did [] [] v inner w
@@ -406,7 +407,7 @@ module _ {X : Type 0} where
 
   -- all that a step leaves that takes or gives up a lock of page p alone
   pub record IsAside (p : ℕ) (done : List Did) (v w : View X) : Type 0 where
-    pub elsewhere : IsElsewhere p done v w
+    pub elsewhere : IsElsewhere p done [] v w
     pub mine : w.mine ≡ v.mine
     pub group : (w.pending ≡ v.pending) × (w.owed ≡ v.owed) × (w.next ≡ v.next)
     pub alone : StaysAlone v w
@@ -511,7 +512,7 @@ module _ {X : Type 0} where
       ∙ sym (last-is v.start rs (λ k. []) q)
 
   -- a release of page p leaves all but that page and the group
-  pub release-elsewhere : (p version : ℕ) (rest : List ℕ) (said : Option X) (v w : View X) → ReleaseTold p version rest said v w → IsElsewhere p (did_store (places.State p) (version + 1) ∷ []) v w
+  pub release-elsewhere : (p version : ℕ) (rest : List ℕ) (said : Option X) (v w : View X) → ReleaseTold p version rest said v w → IsElsewhere p (did_store (places.State p) (version + 1) ∷ []) (record { page = p; version = version + 1; words = draft_of v p } ∷ []) v w
   release-elsewhere p version rest said v w t =
       let did : Did = did_store (places.State p) (version + 1) in
       let r : Release = record { page = p; version = version + 1; words = draft_of v p } in

@@ -1,9 +1,10 @@
 -- An open read stays as it is over steps that leave its page, and over loads of its words.
-use Rattle.std.proofs.Common.{ℕ, ◌≡◌, ◌≢◌, ◌<◌, ◌+◌, List, [], ◌∷◌, ◌++◌, length, take, suc, sym, ap, subst, ◌∙◌, append_assoc, slice_set, arith}
+use Rattle.std.proofs.Common.{ℕ, ◌≡◌, ◌≢◌, ◌<◌, ◌+◌, List, [], ◌∷◌, ◌++◌, length, take, suc, refl, sym, ap, subst, ◌∙◌, append_assoc, slice_set, arith}
 use Rattle.std.proofs.lemmas.List.{take_more_set, length-take-le}
 use Rattle.vm_core.specs.FrameActs.{open_frame}
 use Rattle.vm_rule.specs.declared.view.Did.{Did}
 use Rattle.vm_rule.specs.declared.view.Place.TheVariants as places
+use Rattle.vm_rule.specs.declared.view.Release.{Release}
 use Rattle.vm_rule.specs.declared.view.View.{View}
 use Rattle.vm_rule.specs.Puts.{put_at}
 use Rattle.vm_rule.specs.Views.{IsLocking, seat_of, loads_at}
@@ -12,6 +13,7 @@ use Rattle.vm_rule.specs.Log.{did_load}
 use Rattle.vm_rule.specs.Loads.{LoadTold}
 use Rattle.vm_rule.proofs.Entries.{append-none}
 use Rattle.vm_step.specs.Asides.{HoldsPage}
+use Rattle.vm_step.proofs.Alone.{still-alone}
 use Rattle.vm_guard.specs.Quiet.{IsQuiet}
 use Rattle.vm_guard.specs.Guards.{IsReading, Loads, IsElsewhere, placed}
 use Rattle.vm_guard.proofs.QuietSteps.{load-quiet, quiet-then, quiet-none}
@@ -44,7 +46,7 @@ module _ {X : Type 0} (p word frame : ℕ) where
   }
 
   -- calls that speak of another page leave it
-  pub reading-elsewhere : (q : ℕ) (done : List Did) (v w : View X) → p ≢ q → IsElsewhere q done v w → IsReading p word frame v → IsReading p word frame w
+  pub reading-elsewhere : (q : ℕ) (done : List Did) {own : List Release} (v w : View X) → p ≢ q → IsElsewhere q done own v w → IsReading p word frame v → IsReading p word frame w
   reading-elsewhere q done v w ne e r = reading-kept v w r e.steady.start (e.holds p ne) (λ l. (e.knows p ne l).held) (e.others p ne).reading
 
   -- a word was loaded
@@ -56,11 +58,12 @@ module _ {X : Type 0} (p word frame : ℕ) where
         quiet = quiet;
         reads = reading-kept v w r quiet.steady.start (quiet.holds p) (λ l. (quiet.knows p l).held) (loaded-reading p frame i found v w t);
         loads = loaded-loads p frame i found frame v w t (ap open_frame r.reading);
+        table = λ a. (quiet.steady.alone.words a.0 a.1).1;
       }
 
   -- no word was
   pub none-loaded : (v : View X) → IsReading p word frame v → Loads p word frame [] v v
-  none-loaded v r = record { done = []; quiet = quiet-none p v; reads = r; loads = sym (append-none (loads_at v p)) }
+  none-loaded v r = record { done = []; quiet = quiet-none p v; reads = r; loads = sym (append-none (loads_at v p)); table = λ _. refl }
 
   -- some words, and then others
   pub loaded-then : (a b : List (ℕ × ℕ)) (u v w : View X) → Loads p word frame a u v → Loads p word frame b v w → Loads p word frame (a ++ b) u w
@@ -69,4 +72,5 @@ module _ {X : Type 0} (p word frame : ℕ) where
     quiet = quiet-then p f.done g.done u v w f.quiet g.quiet;
     reads = g.reads;
     loads = g.loads ∙ ap (λ (l : List (ℕ × ℕ)). l ++ b) f.loads ∙ append_assoc (loads_at u p) a b;
+    table = λ alone. g.table (still-alone u v f.quiet.steady.parts f.quiet.alone.current alone) ∙ f.table alone;
   }

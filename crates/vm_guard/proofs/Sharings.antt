@@ -1,6 +1,6 @@
 -- A share that was taken: the look, the exchange, and the load of the translation word.
-use Rattle.std.proofs.Common.{ℕ, ◌≡◌, ◌≤◌, ◌<◌, ◌+◌, List, [], ◌∷◌, length, Some, None, refl, sym, ap, subst, ◌∙◌, arith, inr}
-use Rattle.std.proofs.lemmas.Bool.{cond-true}
+use Rattle.std.proofs.Common.{ℕ, ◌≡◌, ◌≤◌, ◌<◌, ◌+◌, List, [], ◌∷◌, length, Option, Some, None, eqb, refl, sym, ap, subst, ◌∙◌, arith, inr}
+use Rattle.std.proofs.lemmas.Bool.{cond-true, eq-eqb}
 use Rattle.vm_core.specs.declared.event.Mapping.{Mapping}
 use Rattle.vm_core.specs.declared.event.Seat.{Seat}
 use Rattle.vm_core.specs.Words.{state_of, version_of, word_of}
@@ -19,7 +19,7 @@ use Rattle.vm_rule.specs.Puts.{put_at, put}
 use Rattle.vm_rule.specs.Views.{IsLocking, seat_of, draft_of}
 use Rattle.vm_rule.specs.Reading.{last_of}
 use Rattle.vm_rule.specs.Rule.{no_held}
-use Rattle.vm_rule.specs.Brought.{Brings}
+use Rattle.vm_rule.specs.Brought.{Brings, set_if}
 use Rattle.vm_rule.specs.Log.{did_load, did_exchange}
 use Rattle.vm_rule.specs.Looks.{LookTold}
 use Rattle.vm_rule.specs.Loads.{TranslationTold}
@@ -70,7 +70,7 @@ module _ {X : Type 0} (tied : Start → ℕ → List ℕ → ℕ → List ℕ �
       let after : IsQuiet p (third ∷ []) x w = translation-quiet p found x w load in
       let locking : IsLocking (seat_of x p) = share-locking p word u x t in
       let known : KnowsAsBefore x w p = after.knows p locking in
-      let elsewhere : IsElsewhere p (first ∷ second ∷ third ∷ []) v w =
+      let elsewhere : IsElsewhere p (first ∷ second ∷ third ∷ []) [] v w =
       elsewhere-then p (first ∷ []) (second ∷ third ∷ []) v u w (quiet-elsewhere p (first ∷ []) v u before)
       (elsewhere-then p (second ∷ []) (third ∷ []) u x w aside.elsewhere (quiet-elsewhere p (third ∷ []) x w after)) in
       let seat-x : seat_of x p ≡ record (seat_of v p) { shares = (seat_of v p).shares + 1; reading = None } =
@@ -97,4 +97,10 @@ module _ {X : Type 0} (tied : Start → ℕ → List ℕ → ℕ → List ℕ �
             subst (λ (y : Version). Validates tied p y.version y.words v) (sym known.last)
             (subst (λ (n : ℕ). Validates tied p n (last_of x p).words v) (sym t.version)
             (validates-before tied p word v u look room.open_word (last_of x p).words (t.validates (ap (λ (o : Origin). o.tells) before.steady.start ∙ tells) refl)));
+        current = ap (λ (y : View X). y.current) load.brings.view;
+        table = λ a.
+            let steps = elsewhere.steady.alone.words a.0 a.1 in
+            steps.1.1.1
+            ∙ ap (λ (o : Option ℕ). set_if o p v.snapshot.words)
+            (cond-true (eqb word word) (Some (word_of (one_more (state_of word)) (version_of word))) None (eq-eqb word word refl) ∙ ap (λ (n : ℕ). Some (word_of (one_more (state_of n)) (version_of n))) steps.0);
       }

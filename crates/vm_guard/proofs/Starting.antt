@@ -2,31 +2,34 @@
 use Rattle.std.proofs.Common.{ℕ, ◌≡◌, ◌≢◌, ◌⊎◌, ◌<◌, ◌≤◌, true, Some, None, List, [], ◌∷◌, ◌++◌, append_assoc, refl, sym, ap, subst, ◌∙◌, ⊎_elim, arith, inl, inr}
 use Rattle.std.proofs.lemmas.Bool.{cases_eq}
 use Rattle.vm_core.specs.declared.event.Open.{Open}
+use Rattle.vm_core.specs.declared.event.ReadIs.TheVariants as opens
 use Rattle.vm_core.specs.Words.{state_of, version_of, frame_in, LOCKED, EVICTED}
 use Rattle.vm_core.specs.StateActs.{is_readable}
 use Rattle.vm_core.specs.FrameActs.{frame_of, open_frame}
+use Rattle.vm_core.specs.History.{kept_loads}
 use Rattle.vm_core.proofs.PageFacts.{some-same, none-some}
 use Rattle.vm_owner.specs.Kept.{Start}
 use Rattle.vm_rule.specs.declared.view.Did.{Did}
 use Rattle.vm_rule.specs.declared.view.Place.TheVariants as places
 use Rattle.vm_rule.specs.declared.view.View.{View}
 use Rattle.vm_rule.specs.Layout.{at_state}
-use Rattle.vm_rule.specs.Views.{Each, IsLocking, seat_of}
+use Rattle.vm_rule.specs.Views.{Each, IsLocking, seat_of, loads_at}
 use Rattle.vm_rule.specs.Log.{did_load}
 use Rattle.vm_rule.specs.Looks.{LookTold, IsSince, IsOlder, left_at}
 use Rattle.vm_rule.specs.Loads.{TranslationTold}
 use Rattle.vm_step.specs.declared.saw.At.TheVariants as ats
 use Rattle.vm_guard.specs.declared.deny.Deny.{Deny}
 use Rattle.vm_guard.specs.declared.deny.Deny.TheVariants as denies
-use Rattle.vm_step.specs.Evidence.{NoWord}
+use Rattle.vm_step.specs.Evidence.{AreQuiet, NoWord, NoneExpected}
 use Rattle.vm_step.specs.Evidence.Begins.{same, read}
 use Rattle.vm_guard.specs.Quiet.{IsQuiet}
 use Rattle.vm_guard.specs.Guards.{Begins, HasLeft, IsReading, IsUnmarked}
 use Rattle.vm_guard.specs.Denied.{AgainOrNeed, IsDenied}
 use Rattle.vm_guard.proofs.QuietSteps.{quiet-then, look-quiet, translation-quiet, still-locking}
 use Rattle.vm_guard.proofs.Reading.{reading-kept}
-use Rattle.vm_guard.proofs.Unmarking.{unmarking-quiet}
-use Rattle.vm_guard.proofs.OpenReads.{left-same, looked-open, looked-same, translated-keeps, named, mapped-frame, reads-by, holds-back}
+use Rattle.vm_guard.proofs.Sure.{look-current, look-leaves, moved-words, start-known, start-words}
+use Rattle.vm_guard.proofs.Unmarking.{quiet-foreign, unmarking-quiet}
+use Rattle.vm_guard.proofs.OpenReads.{left-same, looked-loads, looked-open, looked-same, translated-keeps, translated-loads, named, mapped-frame, reads-by, holds-back}
 
 -- a fact of a step in the middle
 pub each-at : {A : Type 0} (P : A → Type 0) (l : List A) (d : A) (m : List A) → Each P (l ++ d ∷ m) → P d
@@ -44,17 +47,19 @@ Agrees p seen d = at_state d.at (λ q. q ≡ p → IsSince seen d.found × IsSin
 
 module _ {X : Type 0} (tied : Start → ℕ → List ℕ → ℕ → List ℕ → Type 0) (p : ℕ) where
   -- the page was found Evicted by the first look
-  pub needed : (allowed : Deny → Type 0) (first : ℕ) (v w : View X) → allowed (denies.Need p) → LookTold tied p None first v w → state_of first ≡ EVICTED → IsDenied allowed NoWord p (denies.Need p) v w
+  pub needed : (allowed : Deny → Type 0) (first : ℕ) (v w : View X) → allowed (denies.Need p) → LookTold tied p None first v w → state_of first ≡ EVICTED → IsDenied allowed NoWord NoneExpected p (denies.Need p) v w
   needed allowed first v w may t e = record {
     done = did_load (places.State p) first ∷ [];
     quiet = look-quiet tied p first v w t;
     evidence = (refl, record { word = first; given = record { earlier = []; step = did_load (places.State p) first; later = []; cut = refl; gives = (refl, refl) }; evicted = e; foreign = tt });
     kind = may;
+    table = look-leaves tied p None first v w t;
+    current = look-current tied p None first v w t;
   }
 
   -- it was found Locked by the first look
   pub locked-first : (allowed : Deny → Type 0) (first : ℕ) (v w : View X) → allowed (denies.Again (record { at = ats.Page p; first = first; seen = first })) → LookTold tied p None first v w → state_of first ≡ LOCKED
-      → IsDenied allowed NoWord p (denies.Again (record { at = ats.Page p; first = first; seen = first })) v w
+      → IsDenied allowed NoWord NoneExpected p (denies.Again (record { at = ats.Page p; first = first; seen = first })) v w
   locked-first allowed first v w may t e = record {
     done = did_load (places.State p) first ∷ [];
     quiet = look-quiet tied p first v w t;
@@ -69,10 +74,13 @@ module _ {X : Type 0} (tied : Start → ℕ → List ℕ → ℕ → List ℕ �
         since = [];
         begins = same refl refl;
         quiet = tt;
+        foreign = tt;
         why = inr (inl e);
       },
     );
     kind = may;
+    table = look-leaves tied p None first v w t;
+    current = look-current tied p None first v w t;
   }
 
   module _ (first word seen : ℕ) (u v y x w : View X) (l : LookTold tied p None first u v) (c : IsUnmarked p first v y) (t : TranslationTold p word y x) (m : LookTold tied p None seen x w) where
@@ -86,26 +94,31 @@ module _ {X : Type 0} (tied : Start → ℕ → List ℕ → ℕ → List ℕ �
     all-quiet = quiet-then p (did_load (places.State p) first ∷ []) (c.done ++ later-steps) u v w (look-quiet tied p first u v l) (quiet-then p c.done later-steps v y w c.quiet later-quiet)
 
     -- another version came to the page between the looks, or the second one found it Locked
-    pub moved : (version_of first ≢ version_of seen) ⊎ (state_of seen ≡ LOCKED) → IsDenied AgainOrNeed NoWord p (denies.Again (record { at = ats.Page p; first = first; seen = seen })) u w
-    moved why = record {
-      done = did_load (places.State p) first ∷ c.done ++ later-steps;
-      quiet = all-quiet;
-      evidence = (
-        refl,
+    pub moved : (version_of first ≢ version_of seen) ⊎ (state_of seen ≡ LOCKED) → IsDenied AgainOrNeed NoWord NoneExpected p (denies.Again (record { at = ats.Page p; first = first; seen = seen })) u w
+    moved why =
+        let between-quiet : AreQuiet (places.State p) seen (c.done ++ did_load (places.Translation p) word ∷ []) = unmarking-quiet p first seen c.done (did_load (places.Translation p) word ∷ []) c.clears why (λ _. (none-some seen, λ _. refl), tt) in
         record {
-          earlier = did_load (places.State p) first ∷ c.done ++ did_load (places.Translation p) word ∷ [];
-          last = did_load (places.State p) seen;
-          later = [];
-          cut = ap (λ (k : List Did). did_load (places.State p) first ∷ k) (sym (append_assoc c.done (did_load (places.Translation p) word ∷ []) (did_load (places.State p) seen ∷ [])));
-          gives = (refl, refl);
-          since = c.done ++ did_load (places.Translation p) word ∷ [];
-          begins = read [] (did_load (places.State p) first) refl (refl, refl);
-          quiet = unmarking-quiet p first seen c.done (did_load (places.Translation p) word ∷ []) c.clears why (λ _. (none-some seen, λ _. refl), tt);
-          why = ⊎_elim (λ n. inl n) (λ e. inr (inl e)) why;
-        },
-      );
-      kind = tt;
-    }
+          done = did_load (places.State p) first ∷ c.done ++ later-steps;
+          quiet = all-quiet;
+          evidence = (
+            refl,
+            record {
+              earlier = did_load (places.State p) first ∷ c.done ++ did_load (places.Translation p) word ∷ [];
+              last = did_load (places.State p) seen;
+              later = [];
+              cut = ap (λ (k : List Did). did_load (places.State p) first ∷ k) (sym (append_assoc c.done (did_load (places.Translation p) word ∷ []) (did_load (places.State p) seen ∷ [])));
+              gives = (refl, refl);
+              since = c.done ++ did_load (places.Translation p) word ∷ [];
+              begins = read [] (did_load (places.State p) first) refl (refl, refl);
+              quiet = between-quiet;
+              foreign = ((λ _. none-some seen), quiet-foreign (places.State p) seen (c.done ++ did_load (places.Translation p) word ∷ []) between-quiet);
+              why = ⊎_elim (λ n. inl n) (λ e. inr (inl e)) why;
+            },
+          );
+          kind = tt;
+          table = λ a. moved-words tied p first word seen u v y x w l c t m a why;
+          current = look-current tied p None seen x w m;
+        }
 
     -- a page that was not Evicted is not at the same version later
     pub still-resident : state_of first ≢ EVICTED → version_of seen ≡ version_of first → state_of seen ≢ EVICTED
@@ -129,16 +142,23 @@ module _ {X : Type 0} (tied : Start → ℕ → List ℕ → ℕ → List ℕ �
       names-frame e = none-some names.0 (sym e ∙ names.1)
 
       -- an earlier guard of the page, at the version found, reads on; one at an earlier version was left
-      stays : (kept frame : ℕ) → IsReading p kept frame u → IsReading p kept frame w ⊎ HasLeft p kept w
+      stays : (kept frame : ℕ) → IsReading p kept frame u → (IsReading p kept frame w × (loads_at w p ≡ loads_at u p)) ⊎ HasLeft p kept w
       stays kept frame r =
           let o : Open = record { version = version_of kept; frame = Some frame } in
           let older : IsOlder first (Some o) = subst (IsOlder first) r.reading l.older in
           let low : version_of kept ≤ version_of first = older.0 in
           ⊎_elim
-          (λ e. let opened : (seat_of y p).reading ≡ Some o = c.reads.reading ∙ looked-same tied p None first u v l (ap (left_at first) r.reading ∙ left-same first o readable e) ∙ r.reading in
+          (λ e. let in-place : left_at first (seat_of u p).reading ≡ opens.Same = ap (left_at first) r.reading ∙ left-same first o readable e in
+          let opened : (seat_of y p).reading ≡ Some o = c.reads.reading ∙ looked-same tied p None first u v l in-place ∙ r.reading in
           let named : (seat_of x p).reading ≡ Some o = translated-keeps p word y x (version_of kept) frame t opened in
-          let seen-same : (seat_of w p).reading ≡ (seat_of x p).reading = looked-same tied p None seen x w m (ap (left_at seen) named ∙ left-same seen o still (e ∙ sym at)) in
-          inl (reading-kept p kept frame u w r all-quiet.steady.start (all-quiet.holds p) (λ k. (all-quiet.knows p k).held) (seen-same ∙ named ∙ sym r.reading)))
+          let still-there : left_at seen (seat_of x p).reading ≡ opens.Same = ap (left_at seen) named ∙ left-same seen o still (e ∙ sym at) in
+          let seen-same : (seat_of w p).reading ≡ (seat_of x p).reading = looked-same tied p None seen x w m still-there in
+          let before : loads_at v p ≡ loads_at u p = looked-loads tied p None first u v l ∙ ap (λ k. kept_loads k (loads_at u p)) in-place in
+          let after : loads_at w p ≡ loads_at x p = looked-loads tied p None seen x w m ∙ ap (λ k. kept_loads k (loads_at x p)) still-there in
+          inl (
+            reading-kept p kept frame u w r all-quiet.steady.start (all-quiet.holds p) (λ k. (all-quiet.knows p k).held) (seen-same ∙ named ∙ sym r.reading),
+            after ∙ translated-loads p word y x t ∙ c.reads.loads ∙ before,
+          ))
           (λ ne. inr record {
             earlier = u.log;
             step = did_load (places.State p) first;
@@ -146,6 +166,7 @@ module _ {X : Type 0} (tied : Start → ℕ → List ℕ → ℕ → List ℕ �
             cut = all-quiet.steady.log;
             at = refl;
             other = first;
+            open_word = r.open_word;
             was = inl refl;
             gone = inl (omega (arith, low, ne));
           })
@@ -171,5 +192,14 @@ module _ {X : Type 0} (tied : Start → ℕ → List ℕ → ℕ → List ℕ �
             };
             version = m.version;
             stays = stays;
-            clears = record { word = first; clearing = c.done; later = later-steps; cut = refl; clears = c.clears };
+            first = first;
+            translation = word;
+            clearing = c.done;
+            cut = refl;
+            clears = c.clears;
+            looks = sym at;
+            names = mapped-frame word ∙ e;
+            table = λ a. start-words tied p first word seen u v y x w l c t m a;
+            known = λ a. start-known tied p first word seen u v y x w l c t m a;
+            current = look-current tied p None seen x w m;
           }

@@ -5,8 +5,10 @@ use Rattle.std.proofs.lemmas.Bool.{cases_eq, cond-true, cond-false, eq-eqb, ne_e
 use Rattle.vm_core.specs.Words.{state_of, version_of, word_of, UNLOCKED, LOCKED, MARKED}
 use Rattle.vm_core.proofs.PageFacts.{some-same, none-some}
 use Rattle.vm_rule.specs.declared.view.Did.{Did}
+use Rattle.vm_rule.specs.declared.view.Place.{Place}
 use Rattle.vm_rule.specs.declared.view.Place.TheVariants as places
 use Rattle.vm_rule.specs.declared.view.View.{View}
+use Rattle.vm_rule.specs.Views.{Each}
 use Rattle.vm_rule.specs.Log.{did_exchange}
 use Rattle.vm_rule.specs.Locks.{MarkTold}
 use Rattle.vm_rule.proofs.WordFacts.{version-within, word-state, word-version}
@@ -42,6 +44,11 @@ unmarking-quiet p first seen done more steps why quiet =
     subst (λ (d : List Did). AreQuiet (places.State p) seen (d ++ more)) (sym y.1.1)
     (λ here. (exchange-leaves first found new seen (unlocked-other first seen why), λ none. absurd (none-some found (sym none))), quiet))
     steps
+
+-- steps that wrote no such word, and stored no next version, left no such word
+pub quiet-foreign : (at : Place) (seen : ℕ) (done : List Did) → AreQuiet at seen done → Each (λ (d : Did). d.at ≡ at → d.wrote ≢ Some seen) done
+quiet-foreign at seen [] quiet = tt
+quiet-foreign at seen (d ∷ ds) quiet = ((λ here. (quiet.0 here).0), quiet-foreign at seen ds quiet.1)
 
 module _ {X : Type 0} where
   -- the exchange, whatever it found

@@ -19,6 +19,7 @@ use Rattle.vm_rule.specs.Brought.{entries_of}
 use Rattle.vm_rule.specs.Log.{did_load}
 use Rattle.vm_rule.specs.Looks.{LookTold, IsSince, IsSinceAll, IsOlder, left_at, where_same, ties_below}
 use Rattle.vm_step.specs.declared.saw.At.TheVariants as ats
+use Rattle.vm_step.specs.Evidence.{NoneExpected}
 use Rattle.vm_step.specs.Evidence.Begins.{guarded}
 use Rattle.vm_guard.specs.declared.deny.Deny.TheVariants as denies
 use Rattle.vm_step.specs.Asides.{ReadsAsBefore}
@@ -28,6 +29,7 @@ use Rattle.vm_guard.proofs.QuietSteps.{IsLooked, looked, look-unsaid, same-both,
 use Rattle.vm_guard.proofs.OpenReads.{left-same, left-other, readable-state, locked-unreadable, looked-same, looked-loads}
 use Rattle.vm_guard.proofs.Reading.{reading-kept}
 use Rattle.vm_guard.proofs.Starting.{each-at}
+use Rattle.vm_guard.proofs.Sure.{look-current, look-leaves}
 
 -- the word found agrees with the one that a step of the pass found or left since the guard began
 pub left-since : {X : Type 0} (p word seen : ℕ) (v : View X) (h : HasLeft p word v) → IsSinceAll p seen v.log → IsSince seen (Some h.other)
@@ -51,7 +53,7 @@ module _ {X : Type 0} (tied : Start → ℕ → List ℕ → ℕ → List ℕ �
       (λ h. subst (λ s. where_same (left_at seen (seat_of v p).reading) (entries_of v s) [] ≡ []) (sym h.1) (same-both (left_at seen (seat_of v p).reading) []))
       may
 
-  pub refused : MayValidate → (version_of seen ≢ version_of word) ⊎ (state_of seen ≡ LOCKED) → IsDenied AgainOrNeed (KeptWord word) p (denies.Again (record { at = ats.Page p; first = word; seen = seen })) v w
+  pub refused : MayValidate → (version_of seen ≢ version_of word) ⊎ (state_of seen ≡ LOCKED) → IsDenied AgainOrNeed (KeptWord word) NoneExpected p (denies.Again (record { at = ats.Page p; first = word; seen = seen })) v w
   refused may why = record {
     done = did_load (places.State p) seen ∷ [];
     quiet = look-unsaid tied p said seen v w t (unsaid may (⊎_elim (λ ne. inl ne) (λ e. inr (locked-unreadable (state_of seen) e)) why));
@@ -66,10 +68,13 @@ module _ {X : Type 0} (tied : Start → ℕ → List ℕ → ℕ → List ℕ �
         since = [];
         begins = guarded refl refl;
         quiet = tt;
+        foreign = tt;
         why = ⊎_elim (λ ne. inl (λ e. ne (sym e))) (λ e. inr (inl e)) why;
       },
     );
     kind = tt;
+    table = look-leaves tied p said seen v w t;
+    current = look-current tied p said seen v w t;
   }
 
   module _ (at : version_of seen ≡ version_of word) (unlocked : state_of seen ≢ LOCKED) (small : state_of seen < 256) where
@@ -126,4 +131,6 @@ module _ {X : Type 0} (tied : Start → ℕ → List ℕ → ℕ → List ℕ �
             holds = subst (λ n. Each (λ (x : Tie). x.page ≡ p → x.version ≡ n → tied (began_of v.start) x.of x.words p (last_of w p).words) v.ties) at (t.holds tells same);
             itself = t.itself tells same;
           };
+          table = look-leaves tied p said seen v w t;
+          current = look-current tied p said seen v w t;
         }

@@ -1,14 +1,15 @@
 -- What guards are to the view of their pass, and what their calls answer.
-use Rattle.std.specs.Prelude.{ℕ, Bool, true, false, Option, Some, None, List, [], ◌∷◌, ◌++◌, ◌≡◌, ◌≢◌, ◌⊎◌, ◌+◌, ◌<◌, ◌≤◌, length, slice_set, suc}
+use Rattle.std.specs.Prelude.{ℕ, Bool, true, false, Option, Some, None, List, [], ◌∷◌, ◌++◌, ◌≡◌, ◌≢◌, ◌⊎◌, ◌+◌, ◌-◌, ◌^◌, ◌<◌, ◌≤◌, length, slice_set, suc}
 use Rattle.vm_core.specs.declared.event.Mapping.{Mapping}
 use Rattle.vm_core.specs.declared.event.Open.{Open}
 use Rattle.vm_core.specs.Words.{state_of, version_of, word_of, UNLOCKED, LOCKED, MARKED, MAX_VERSION}
-use Rattle.vm_core.specs.StateActs.{is_readable, unshared}
-use Rattle.vm_core.specs.FrameActs.{trans_word}
+use Rattle.vm_core.specs.StateActs.{is_readable, one_more, unshared}
+use Rattle.vm_core.specs.FrameActs.{frame_of, mapping_of, trans_word}
 use Rattle.vm_owner.specs.Kept.{Start}
 use Rattle.vm_owner.specs.Numbers.{has, without}
 use Rattle.vm_rule.specs.declared.view.Did.{Did}
 use Rattle.vm_rule.specs.declared.view.Place.TheVariants as places
+use Rattle.vm_rule.specs.declared.view.Release.{Release}
 use Rattle.vm_rule.specs.declared.view.View.{View}
 use Rattle.vm_rule.specs.Puts.{put_at}
 use Rattle.vm_rule.specs.Views.{IsLocking, IsWhole, seat_of, loads_at, draft_of}
@@ -18,12 +19,14 @@ use Rattle.vm_rule.specs.Brought.{entries_of}
 use Rattle.vm_rule.specs.Looks.{ties_below}
 use Rattle.vm_rule.specs.Releases.{next_after}
 use Rattle.vm_rule.specs.Loads.{frame_read_by}
-use Rattle.vm_rule.specs.Locks.{Validates}
+use Rattle.vm_rule.specs.Locks.{IsUnheld, Validates}
 use Rattle.vm_rule.specs.Log.{did_load, did_store, did_exchange}
 use Rattle.vm_rule.specs.Mappings.{dirty_in}
 use Rattle.vm_step.specs.Evidence.{HasWritten}
 use Rattle.vm_step.specs.Asides.{HoldsPage, KnowsAsBefore, ReadsAsBefore, StaysAlone}
+use Rattle.vm_step.specs.Alone.{IsAlone}
 use Rattle.vm_guard.specs.Quiet.{IsSteady, IsQuiet}
+use Rattle.vm_guard.specs.Sure.{IsKnownFree, KnowsBut, KnowsSame, KnowsStates, known_word, unmarked_word}
 
 -- the words of a page with their places, from i on
 abbrev pub placed : ℕ → List ℕ → List (ℕ × ℕ)
@@ -35,14 +38,6 @@ abbrev pub AreUnmarking : ℕ → ℕ → List Did → Type 0
 AreUnmarking p word done =
     ((state_of word ≢ MARKED) × (done ≡ []))
     ⊎ ((state_of word ≡ MARKED) × ((found : ℕ) × (done ≡ did_exchange (places.State p) word found (word_of UNLOCKED (version_of word)) ∷ [])))
-
--- the first step found the word of page p; where it was Marked, the second expected that word and was to make the page Unlocked
-pub record ClearsMark (p : ℕ) (done : List Did) : Type 0 where
-  pub word : ℕ
-  pub clearing : List Did
-  pub later : List Did
-  pub cut : done ≡ did_load (places.State p) word ∷ clearing ++ later
-  pub clears : AreUnmarking p word clearing
 
 -- the steps that make page p dirty in this frame: none where it is dirty, else its translation word is written so
 abbrev pub dirty_steps : ℕ → ℕ → Bool → List Did
@@ -69,19 +64,33 @@ module _ {X : Type 0} where
     pub cut : v.log ≡ earlier ++ step ∷ later
     pub at : step.at ≡ places.State p
     pub other : ℕ
+    -- the guard's word could be read
+    pub open_word : is_readable (state_of word) ≡ true
     pub was : (step.found ≡ Some other) ⊎ (step.wrote ≡ Some other)
     pub gone : (version_of word < version_of other) ⊎ ((state_of other ≡ LOCKED) × (version_of other ≡ version_of word))
 
-  -- a guard began
+  -- a guard began: the page's word was looked at, a mark that it had taken away, the translation word loaded, and the page looked at again
   pub record Begins (p word frame : ℕ) (v w : View X) : Type 0 where
     pub done : List Did
     pub quiet : IsQuiet p done v w
     pub reads : IsReading p word frame w
     pub version : (last_of w p).version ≡ version_of word
-    -- a guard of the page that the pass had before reads on, or its read was left
-    pub stays : (kept frame' : ℕ) → IsReading p kept frame' v → IsReading p kept frame' w ⊎ HasLeft p kept w
+    -- a guard of the page that the pass had before reads on, with the words that were loaded through it, or its read was left
+    pub stays : (kept frame' : ℕ) → IsReading p kept frame' v → (IsReading p kept frame' w × (loads_at w p ≡ loads_at v p)) ⊎ HasLeft p kept w
+    -- what the first look found, and the load of the translation word; the guard's word is what the second look found
+    pub first : ℕ
+    pub translation : ℕ
+    pub clearing : List Did
+    pub cut : done ≡ did_load (places.State p) first ∷ (clearing ++ did_load (places.Translation p) translation ∷ did_load (places.State p) word ∷ [])
     -- a mark that the first look found was to be taken away next
-    pub clears : ClearsMark p done
+    pub clears : AreUnmarking p first clearing
+    -- both looks found the same version, and the guard's frame is the one that the translation word names
+    pub looks : version_of first ≡ version_of word
+    pub names : frame_of (mapping_of translation) ≡ Some frame
+    -- a pass that was alone knows the guard's word for the page's, which is the one that it knew before, without a mark
+    pub table : KnowsBut p word v w
+    pub known : IsAlone v → (known_word p w ≡ word) × (word ≡ unmarked_word (known_word p v))
+    pub current : w.current ≡ true
 
   -- the mark of page p, where this word that was found of it has one, was taken away, unless the page had another word by then
   pub record IsUnmarked (p word : ℕ) (v w : View X) : Type 0 where
@@ -96,12 +105,13 @@ module _ {X : Type 0} where
     pub quiet : IsQuiet p done v w
     pub reads : IsReading p word frame w
     pub loads : loads_at w p ≡ loads_at v p ++ loaded
+    pub table : KnowsSame v w
 
   -- the read was validated: every word loaded through it is the last version's, what is said is an entry there, every other open read is
   -- tied to the page's words, and what earlier validations tied to the page holds
   pub record IsValid (tied : Start → ℕ → List ℕ → ℕ → List ℕ → Type 0) (p word frame : ℕ) (said : Option X) (v w : View X) : Type 0 where
     pub done : List Did
-    pub steady : IsSteady done v w
+    pub steady : IsSteady done [] v w
     pub mine : w.mine ≡ v.mine ++ entries_of v said
     pub entry : (others : List _) × (w.seen ≡ (v.seen ++ others) ++ entries_of v said)
     pub group : (w.pending ≡ v.pending) × (w.owed ≡ v.owed) × (w.next ≡ v.next)
@@ -114,6 +124,8 @@ module _ {X : Type 0} where
     pub size : length (last_of w p).words ≡ 64
     pub ties : w.ties ≡ ties_below v.start.pages v p (last_of w p).words ++ v.ties
     pub validates : v.start.tells ≡ true → Validates tied p (version_of word) (last_of w p).words v
+    pub table : KnowsSame v w
+    pub current : w.current ≡ true
 
   -- ---- exclusive guards
 
@@ -129,9 +141,9 @@ module _ {X : Type 0} where
     pub size : length (draft_of v p) ≡ 64
     pub free : has p v.pending ≡ false
 
-  -- all but page p is as it was
-  pub record IsElsewhere (p : ℕ) (done : List Did) (v w : View X) : Type 0 where
-    pub steady : IsSteady done v w
+  -- the call made these steps and these releases, and all but page p is as it was
+  pub record IsElsewhere (p : ℕ) (done : List Did) (own : List Release) (v w : View X) : Type 0 where
+    pub steady : IsSteady done own v w
     pub holds : (q : ℕ) → q ≢ p → HoldsPage v w q
     pub knows : (q : ℕ) → q ≢ p → IsLocking (seat_of v q) → KnowsAsBefore v w q
     pub others : (q : ℕ) → q ≢ p → ReadsAsBefore v w q
@@ -139,14 +151,19 @@ module _ {X : Type 0} where
   -- page p was locked exclusively: its draft is its last words; the open read of the page that was at this version saw those words
   pub record IsLocked (tied : Start → ℕ → List ℕ → ℕ → List ℕ → Type 0) (p frame version : ℕ) (dirty : Bool) (v w : View X) : Type 0 where
     pub done : List Did
-    pub elsewhere : IsElsewhere p done v w
+    pub elsewhere : IsElsewhere p done [] v w
     pub mine : w.mine ≡ v.mine
     pub group : (w.pending ≡ v.pending) × (w.owed ≡ v.owed) × (w.next ≡ v.next)
     pub alone : StaysAlone v w
+    -- the pass had no lock of the page, and has this one; its read of the page is closed
+    pub before : IsUnheld v p
+    pub seat : seat_of w p ≡ record (seat_of v p) { exclusive = true; reading = None }
     pub holding : IsHolding p frame version dirty w
     pub draft : draft_of w p ≡ (last_of w p).words
     pub validates : v.start.tells ≡ true → Validates tied p version (last_of w p).words v
     pub wrote : HasWritten done (places.State p) (word_of LOCKED version)
+    pub table : KnowsBut p (word_of LOCKED version) v w
+    pub current : w.current ≡ true
     -- the pass was reading the page at no later version
     pub older : (o : Open) → (seat_of v p).reading ≡ Some o → o.version ≤ version
 
@@ -154,7 +171,7 @@ module _ {X : Type 0} where
   pub record IsDirtied (p frame : ℕ) (dirty : Bool) (v w : View X) : Type 0 where
     pub done : List Did
     pub steps : done ≡ dirty_steps p frame dirty
-    pub elsewhere : IsElsewhere p done v w
+    pub elsewhere : IsElsewhere p done [] v w
     pub mine : w.mine ≡ v.mine
     pub group : (w.pending ≡ v.pending) × (w.owed ≡ v.owed) × (w.next ≡ v.next)
     pub alone : StaysAlone v w
@@ -163,12 +180,13 @@ module _ {X : Type 0} where
     pub held : put_at no_held w.held p ≡ record (put_at no_held v.held p) { mapping = Some (dirty_in frame) }
     pub last : last_of w p ≡ last_of v p
     pub draft : draft_of w p ≡ draft_of v p
+    pub states : KnowsStates v w
 
   -- word i of the draft of page p, which stood in this frame, is x now; the page was made dirty before, and nothing else has changed
   pub record IsSet (p frame : ℕ) (dirty : Bool) (i x : ℕ) (v w : View X) : Type 0 where
     pub done : List Did
     pub steps : done ≡ dirty_steps p frame dirty ++ did_store (places.Content frame i) x ∷ []
-    pub elsewhere : IsElsewhere p done v w
+    pub elsewhere : IsElsewhere p done [] v w
     pub mine : w.mine ≡ v.mine
     pub group : (w.pending ≡ v.pending) × (w.owed ≡ v.owed) × (w.next ≡ v.next)
     pub alone : StaysAlone v w
@@ -177,11 +195,12 @@ module _ {X : Type 0} where
     pub held : put_at no_held w.held p ≡ record (put_at no_held v.held p) { mapping = Some (dirty_in frame) }
     pub last : last_of w p ≡ last_of v p
     pub draft : draft_of w p ≡ slice_set (draft_of v p) i x
+    pub states : KnowsStates v w
 
   -- page p was released: its draft is its last version, the next one, and what is said is an entry there
   pub record IsReleased (p version : ℕ) (said : Option X) (v w : View X) : Type 0 where
     pub done : List Did
-    pub elsewhere : IsElsewhere p done v w
+    pub elsewhere : IsElsewhere p done (record { page = p; version = version + 1; words = draft_of v p } ∷ []) v w
     pub mine : w.mine ≡ v.mine ++ entries_of v said
     pub entry : (others : List _) × (w.seen ≡ (v.seen ++ others) ++ entries_of v said)
     pub group : (w.pending ≡ v.pending) × (w.owed ≡ without p v.owed) × (w.next ≡ next_after p v.next)
@@ -191,6 +210,10 @@ module _ {X : Type 0} where
     -- a pass that is alone finds the last words of each other page as they were
     pub alone : IsWhole v → v.current ≡ true → (q : ℕ) → q ≢ p → (last_of w q).words ≡ (last_of v q).words
     pub wrote : HasWritten done (places.State p) (version + 1)
+    pub table : KnowsBut p (version + 1) v w
+    -- a pass that was alone knows the page to be free then, at no later version
+    pub free : IsAlone v → IsKnownFree p w × (version_of (known_word p w) ≤ version + 1)
+    pub current : w.current ≡ true
 
   -- ---- shared guards
 
@@ -204,7 +227,7 @@ module _ {X : Type 0} where
   -- page p got one share more, and its open read is closed; that read, if it was at the page's version, saw its last words
   pub record IsShared (tied : Start → ℕ → List ℕ → ℕ → List ℕ → Type 0) (p frame : ℕ) (v w : View X) : Type 0 where
     pub done : List Did
-    pub elsewhere : IsElsewhere p done v w
+    pub elsewhere : IsElsewhere p done [] v w
     pub mine : w.mine ≡ v.mine
     pub group : (w.pending ≡ v.pending) × (w.owed ≡ v.owed) × (w.next ≡ v.next)
     pub alone : StaysAlone v w
@@ -213,14 +236,21 @@ module _ {X : Type 0} where
     pub sharing : IsSharing p frame w
     pub size : length (last_of w p).words ≡ 64
     pub validates : v.start.tells ≡ true → Validates tied p (last_of w p).version (last_of w p).words v
+    -- the page's word has one share more
+    pub table : KnowsBut p (word_of (one_more (state_of (known_word p v))) (version_of (known_word p v))) v w
+    pub current : w.current ≡ true
 
   -- one share of page p was given up
   pub record IsUnshared (p : ℕ) (v w : View X) : Type 0 where
     pub done : List Did
-    pub elsewhere : IsElsewhere p done v w
+    pub elsewhere : IsElsewhere p done [] v w
     pub mine : w.mine ≡ v.mine
     pub group : (w.pending ≡ v.pending) × (w.owed ≡ v.owed) × (w.next ≡ v.next)
     pub alone : StaysAlone v w
     pub seat : seat_of w p ≡ unshared (seat_of v p)
     pub loads : loads_at w p ≡ loads_at v p
     pub knows : KnowsAsBefore v w p
+    -- the page's word has one share less
+    pub table : KnowsBut p (known_word p v - 2 ^ 56) v w
+    pub known : IsAlone v → known_word p w ≡ known_word p v - 2 ^ 56
+    pub current : w.current ≡ true

@@ -3,3 +3,4 @@ pub mod Guards
 pub mod Denied
 pub mod Takes
 pub mod Shares
+pub mod Sure

@@ -1,15 +1,17 @@
 -- What a call leaves of a view that says nothing and changes no lock: the lists and the log go on, and at most the open read of one page is
 -- another.
-use Rattle.std.specs.Prelude.{ℕ, true, List, ◌++◌, ◌≡◌, ◌≢◌}
+use Rattle.std.specs.Prelude.{ℕ, List, [], ◌++◌, ◌≡◌, ◌≢◌}
 use Rattle.vm_rule.specs.declared.view.Did.{Did}
+use Rattle.vm_rule.specs.declared.view.Release.{Release}
 use Rattle.vm_rule.specs.declared.view.Tie.{Tie}
 use Rattle.vm_rule.specs.declared.view.View.{View}
 use Rattle.vm_rule.specs.Views.{StartsWith, IsLocking, seat_of}
+use Rattle.vm_step.specs.Alone.{RunsAlone}
 use Rattle.vm_step.specs.Asides.{HoldsPage, KnowsAsBefore, ReadsAsBefore, StaysAlone}
 
 module _ {X : Type 0} where
-  -- the parts of the view that only calls of other kinds change
-  pub record IsSteady (done : List Did) (v w : View X) : Type 0 where
+  -- the call made these steps and these releases, and leaves the parts of the view that only calls of other kinds change
+  pub record IsSteady (done : List Did) (own : List Release) (v w : View X) : Type 0 where
     pub log : w.log ≡ v.log ++ done
     pub live : w.live ≡ v.live
     pub start : w.start ≡ v.start
@@ -20,11 +22,12 @@ module _ {X : Type 0} where
     pub out : w.out ≡ v.out
     pub notes : w.notes ≡ v.notes
     pub ties : (more : List Tie) × (w.ties ≡ more ++ v.ties)
-    pub current : v.current ≡ true → w.current ≡ true
+    -- a pass that is alone knows the table, and the steps made all that happened to its words, and to its releases
+    pub alone : RunsAlone done own v w
 
   -- the call made these steps, says nothing, and leaves all but the open read of page p
   pub record IsQuiet (p : ℕ) (done : List Did) (v w : View X) : Type 0 where
-    pub steady : IsSteady done v w
+    pub steady : IsSteady done [] v w
     pub mine : w.mine ≡ v.mine
     pub group : (w.pending ≡ v.pending) × (w.owed ≡ v.owed) × (w.next ≡ v.next)
     pub holds : (q : ℕ) → HoldsPage v w q

@@ -1,15 +1,17 @@
 // Guards that hold a page exclusively: the page's words are the guard's draft until its release makes them the next version.
-ghost use Rattle.std.specs.Prelude.{◌≡◌, ◌<◌, ℕ, IfOk, IfErr, None, [], true, false, option_map, slice_index};
+ghost use Rattle.std.specs.Prelude.{◌≡◌, ◌<◌, ℕ, IfOk, IfErr, IsOk, None, [], true, false, option_map, slice_index};
 ghost use Rattle.vm_core.specs.Words.{MAX_VERSION, version_of};
 ghost use Rattle.vm_rule.specs.Views.{draft_of};
 ghost use Rattle.vm_step.specs.Conditions.{IsClaimed, IsNotOut};
-ghost use Rattle.vm_step.specs.Evidence.{NoWord};
-ghost use Rattle.vm_guard.specs.Denied.{IsDenied, NotCrowded};
+ghost use Rattle.vm_step.specs.Evidence.{NoWord, UnlockedExpected};
+ghost use Rattle.vm_guard.specs.Denied.{IsDenied, NotCrowded, SameOrUnlocked};
 ghost use Rattle.vm_guard.specs.Guards.{IsDirtied, IsHolding, IsLocked, IsReleased, IsSet};
 ghost use Rattle.vm_step.specs.Passes.{IsSamePass, MayStep, view};
 ghost use Rattle.vm_guard.specs.Quiet.{IsQuiet};
 ghost use Rattle.vm_step.specs.Ready.{IsReady};
+ghost use Rattle.vm_guard.specs.Sure.{IsKnownFree, KnowsSame, known_word};
 ghost use Rattle.vm_guard.specs.Takes.{IsToExpect, MayRelease, SaysWhy};
+ghost use Rattle.vm_step.specs.Alone.{IsAlone};
 
 use crate::deny::Deny;
 use crate::standing::{Lock, standing};
@@ -33,6 +35,7 @@ pub struct ExclusiveGuard {
 /// The word that a lock is to expect of a page whose word is this one: with shares, the unlocked word at its version.
 fn expected(word: u64, pid: u32) -> Result<u64, Deny>
     ensures ok { IfOk result (λ expects. IsToExpect word expects) }
+    ensures kept { IfOk result (λ expects. SameOrUnlocked word expects) }
     ensures denied { IfErr result (λ d. SaysWhy pid word d × NotCrowded d) }
 {
     let version = StateWord::version(word);
@@ -44,7 +47,8 @@ fn expected(word: u64, pid: u32) -> Result<u64, Deny>
             seen: word,
         })),
         _ if version == MAX_VERSION => Err(Deny::Worn(pid)),
-        StateWord::UNLOCKED | StateWord::MARKED => Ok(word),
+        StateWord::UNLOCKED => Ok(word),
+        StateWord::MARKED => Ok(word),
         _ => Ok(StateWord::of(StateWord::UNLOCKED, version)),
     }
 }
@@ -61,7 +65,8 @@ impl ExclusiveGuard {
         ensures pass { IsSamePass pass.old pass.new }
         ensures ready { IsReady words.now.table.shared.key B.tells words.now.table.shared.table_id pass.new }
         ensures taken { IfOk result (λ g. (g.pid ≡ pid) × IsLocked U.tied pid g.frame g.version g.dirty (view pass.old) (view pass.new)) }
-        ensures denied { IfErr result (λ d. IsDenied NotCrowded NoWord pid d (view pass.old) (view pass.new)) }
+        ensures denied { IfErr result (λ d. IsDenied NotCrowded NoWord UnlockedExpected pid d (view pass.old) (view pass.new)) }
+        ensures sure { IsAlone (view pass.old) → IsKnownFree pid (view pass.old) → version_of (known_word pid (view pass.old)) < MAX_VERSION → IsOk result }
     {
         let word = look_silently(words, pass, pid);
         let expects = expected(word, pid)?;
@@ -92,6 +97,7 @@ impl ExclusiveGuard {
         ensures pass { IsSamePass pass.old pass.new }
         ensures ready { IsReady words.now.table.shared.key B.tells words.now.table.shared.table_id pass.new }
         ensures quiet { (done : _) × IsQuiet self.now.pid done (view pass.old) (view pass.new) }
+        ensures table { KnowsSame (view pass.old) (view pass.new) }
         ensures value { (view pass.old).start.tells ≡ true → result ≡ slice_index (draft_of (view pass.old) self.now.pid) i }
     {
         load(words, pass, self.pid, self.frame, i)

@@ -1,11 +1,14 @@
 // Optimistic guards: a page is read without a lock, and a later look at its word tells whether all words read were of one version.
-ghost use Rattle.std.specs.Prelude.{◌≡◌, ◌<◌, ◌⊎◌, ℕ, IfOk, IfErr, None, [], ◌∷◌, length, option_map};
-ghost use Rattle.vm_core.specs.Words.{MAX_VERSION, version_of};
-ghost use Rattle.vm_guard.specs.Denied.{AgainOrNeed, AgainOrWorn, IsDenied, KeptOrUnlocked, KeptWord};
+ghost use Rattle.std.specs.Prelude.{◌≡◌, ◌<◌, ◌⊎◌, ℕ, IfOk, IfErr, IsOk, None, [], ◌∷◌, length, option_map, true};
+ghost use Rattle.vm_core.specs.Words.{MAX_VERSION, state_of, version_of};
+ghost use Rattle.vm_core.specs.StateActs.{is_readable};
+ghost use Rattle.vm_guard.specs.Denied.{AgainOrNeed, AgainOrWorn, IsDenied, KeptWord, SameOrUnlocked};
 ghost use Rattle.vm_guard.specs.Guards.{Begins, HasLeft, IsLocked, IsReading, IsUnmarked, IsValid, Loads, placed};
-ghost use Rattle.vm_step.specs.Evidence.{NoWord};
+ghost use Rattle.vm_step.specs.Evidence.{NoWord, NoneExpected, UnlockedExpected};
 ghost use Rattle.vm_step.specs.Ready.{IsReady};
+ghost use Rattle.vm_guard.specs.Sure.{IsKnownAt, IsKnownFree, known_word};
 ghost use Rattle.vm_guard.specs.Takes.{IsToExpect};
+ghost use Rattle.vm_step.specs.Alone.{IsAlone};
 ghost use Rattle.vm_step.specs.Conditions.{MayTell};
 ghost use Rattle.vm_step.specs.Passes.{IsSamePass, MayStep, view};
 
@@ -27,15 +30,17 @@ pub struct OptGuard {
     pub frame: u32,
 }
 
-/// The word that a lock is to expect of a page whose word was this one: Unlocked at its version, where it had shares.
+/// The word that a lock is to expect of a page whose word was this one, which could be read: Unlocked at its version, where it had shares.
 fn unlocked(word: u64) -> u64
-    requires { version_of word < MAX_VERSION }
+    requires below { version_of word < MAX_VERSION }
+    requires readable { is_readable (state_of word) ≡ true }
     ensures expects { IsToExpect result result }
     ensures version { version_of result ≡ version_of word }
-    ensures kept { KeptOrUnlocked word result }
+    ensures kept { SameOrUnlocked word result }
 {
     match StateWord::state(word) {
-        StateWord::UNLOCKED | StateWord::MARKED => word,
+        StateWord::UNLOCKED => word,
+        StateWord::MARKED => word,
         _ => StateWord::of(StateWord::UNLOCKED, StateWord::version(word)),
     }
 }
@@ -66,7 +71,8 @@ impl OptGuard {
         ensures pass { IsSamePass pass.old pass.new }
         ensures ready { IsReady words.now.table.shared.key B.tells words.now.table.shared.table_id pass.new }
         ensures ok { IfOk result (λ guard. (guard.pid ≡ pid) × Begins pid guard.word guard.frame (view pass.old) (view pass.new)) }
-        ensures err { IfErr result (λ deny. IsDenied AgainOrNeed NoWord pid deny (view pass.old) (view pass.new)) }
+        ensures err { IfErr result (λ deny. IsDenied AgainOrNeed NoWord NoneExpected pid deny (view pass.old) (view pass.new)) }
+        ensures sure { IsAlone (view pass.old) → is_readable (state_of (known_word pid (view pass.old))) ≡ true → IsOk result }
     {
         let first = look_silently(words, pass, pid);
         if StateWord::state(first) == StateWord::EVICTED {
@@ -147,7 +153,8 @@ impl OptGuard {
         ensures pass { IsSamePass pass.old pass.new }
         ensures ready { IsReady words.now.table.shared.key B.tells words.now.table.shared.table_id pass.new }
         ensures ok { IfOk result (λ _. IsValid U.tied self.now.pid self.now.word self.now.frame (option_map (λ b. b.now) said.entry) (view pass.old) (view pass.new)) }
-        ensures err { IfErr result (λ saw. IsDenied AgainOrNeed (KeptWord self.now.word) self.now.pid (Deny.Again saw) (view pass.old) (view pass.new)) }
+        ensures err { IfErr result (λ saw. IsDenied AgainOrNeed (KeptWord self.now.word) NoneExpected self.now.pid (Deny.Again saw) (view pass.old) (view pass.new)) }
+        ensures sure { IsAlone (view pass.old) → IsKnownAt self.now.pid self.now.word (view pass.old) → IsOk result }
     {
         let seen = look(words, pass, self.pid, said);
         if StateWord::version(seen) != StateWord::version(self.word) {
@@ -171,7 +178,8 @@ impl OptGuard {
         ensures pass { IsSamePass pass.old pass.new }
         ensures ready { IsReady words.now.table.shared.key B.tells words.now.table.shared.table_id pass.new }
         ensures ok { IfOk result (λ _. IsValid U.tied self.now.pid self.now.word self.now.frame None (view pass.old) (view pass.new)) }
-        ensures err { IfErr result (λ saw. IsDenied AgainOrNeed (KeptWord self.now.word) self.now.pid (Deny.Again saw) (view pass.old) (view pass.new)) }
+        ensures err { IfErr result (λ saw. IsDenied AgainOrNeed (KeptWord self.now.word) NoneExpected self.now.pid (Deny.Again saw) (view pass.old) (view pass.new)) }
+        ensures sure { IsAlone (view pass.old) → IsKnownAt self.now.pid self.now.word (view pass.old) → IsOk result }
     {
         let seen = look_silently(words, pass, self.pid);
         if StateWord::version(seen) != StateWord::version(self.word) {
@@ -196,7 +204,8 @@ impl OptGuard {
         ensures pass { IsSamePass pass.old pass.new }
         ensures ready { IsReady words.now.table.shared.key B.tells words.now.table.shared.table_id pass.new }
         ensures taken { IfOk result (λ guard. (guard.pid ≡ self.pid) × (guard.version ≡ version_of self.word) × IsLocked U.tied self.pid guard.frame guard.version guard.dirty (view pass.old) (view pass.new)) }
-        ensures denied { IfErr result (λ deny. IsDenied AgainOrWorn (KeptOrUnlocked self.word) self.pid deny (view pass.old) (view pass.new)) }
+        ensures denied { IfErr result (λ deny. IsDenied AgainOrWorn (KeptWord self.word) UnlockedExpected self.pid deny (view pass.old) (view pass.new)) }
+        ensures sure { IsAlone (view pass.old) → IsKnownFree self.pid (view pass.old) → SameOrUnlocked self.word (known_word self.pid (view pass.old)) → version_of self.word < MAX_VERSION → IsOk result }
     {
         let pid = self.pid;
         if StateWord::version(self.word) == MAX_VERSION {

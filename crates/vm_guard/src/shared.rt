@@ -1,14 +1,17 @@
 // Guards that hold a share of a page: its words stay what they are.
-ghost use Rattle.std.specs.Prelude.{◌≡◌, ◌<◌, ◌+◌, ℕ, IfOk, IfErr, None, true, slice_index};
+ghost use Rattle.std.specs.Prelude.{◌≡◌, ◌<◌, ◌+◌, ℕ, IfOk, IfErr, IsOk, None, true, slice_index};
+ghost use Rattle.vm_core.specs.StateActs.{MayShare};
 ghost use Rattle.vm_rule.specs.Reading.{last_of};
 ghost use Rattle.vm_step.specs.Conditions.{MayUnshare};
 ghost use Rattle.vm_guard.specs.Denied.{IsDenied, NotWorn};
-ghost use Rattle.vm_step.specs.Evidence.{NoWord};
+ghost use Rattle.vm_step.specs.Evidence.{NoWord, NoneExpected};
 ghost use Rattle.vm_guard.specs.Guards.{IsShared, IsSharing, IsUnshared};
 ghost use Rattle.vm_step.specs.Passes.{IsSamePass, MayStep, view};
 ghost use Rattle.vm_guard.specs.Quiet.{IsQuiet};
 ghost use Rattle.vm_step.specs.Ready.{IsReady};
+ghost use Rattle.vm_guard.specs.Sure.{KnowsSame, known_word};
 ghost use Rattle.vm_guard.specs.Takes.{HasRoom, SaysWhy};
+ghost use Rattle.vm_step.specs.Alone.{IsAlone};
 
 use crate::deny::Deny;
 use crate::standing::{Lock, standing};
@@ -56,7 +59,8 @@ impl SharedGuard {
         ensures pass { IsSamePass pass.old pass.new }
         ensures ready { IsReady words.now.table.shared.key B.tells words.now.table.shared.table_id pass.new }
         ensures taken { IfOk result (λ g. (g.pid ≡ pid) × IsShared U.tied pid g.frame (view pass.old) (view pass.new)) }
-        ensures denied { IfErr result (λ d. IsDenied NotWorn NoWord pid d (view pass.old) (view pass.new)) }
+        ensures denied { IfErr result (λ d. IsDenied NotWorn NoWord NoneExpected pid d (view pass.old) (view pass.new)) }
+        ensures sure { IsAlone (view pass.old) → MayShare (known_word pid (view pass.old)) → IsOk result }
     {
         let word = look_silently(words, pass, pid);
         room(word, pid)?;
@@ -82,6 +86,7 @@ impl SharedGuard {
         ensures pass { IsSamePass pass.old pass.new }
         ensures ready { IsReady words.now.table.shared.key B.tells words.now.table.shared.table_id pass.new }
         ensures quiet { (done : _) × IsQuiet self.now.pid done (view pass.old) (view pass.new) }
+        ensures table { KnowsSame (view pass.old) (view pass.new) }
         ensures value { (view pass.old).start.tells ≡ true → result ≡ slice_index (last_of (view pass.old) self.now.pid).words i }
     {
         load(words, pass, self.pid, self.frame, i)

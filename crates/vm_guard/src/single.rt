@@ -1,5 +1,9 @@
 // One word of a page, read optimistically: the least that a caller of the guards does. It stands on their contracts alone.
-ghost use Rattle.std.specs.Prelude.{◌≡◌, ◌<◌, IfSome, true, slice_index};
+ghost use Rattle.std.specs.Prelude.{◌≡◌, ◌<◌, IfSome, IsSome, true, slice_index};
+ghost use Rattle.vm_core.specs.StateActs.{is_readable};
+ghost use Rattle.vm_core.specs.Words.{state_of};
+ghost use Rattle.vm_guard.specs.Sure.{known_word};
+ghost use Rattle.vm_step.specs.Alone.{IsAlone};
 ghost use Rattle.vm_step.specs.Asides.{StaysAlone};
 ghost use Rattle.vm_step.specs.Ready.{IsReady};
 ghost use Rattle.vm_rule.specs.Reading.{last_of};
@@ -23,6 +27,7 @@ pub fn read_word<U: Owner, B: Block>(
     ensures pass { IsSamePass pass.old pass.new }
     ensures ready { IsReady words.now.table.shared.key B.tells words.now.table.shared.table_id pass.new }
     ensures alone { StaysAlone (view pass.old) (view pass.new) }
+    ensures sure { IsAlone (view pass.old) → is_readable (state_of (known_word pid (view pass.old))) ≡ true → IsSome result }
     ensures word { IfSome result (λ word. B.tells ≡ true → word ≡ slice_index (last_of (view pass.new) pid).words i) }
 {
     let Ok(guard) = OptGuard::start(words, pass, pid) else {

@@ -31,3 +31,6 @@ returns-clause-ready g c =
     let ready = c.requires.ready in
     let steady = (load-quiet _ _ _ _ _ _ c.load.ensures.told).steady in
     record { may = (c.load.ensures.pass.0 ∙ ready.may.0, parts-on _ _ _ steady ready.may.1); table = still-of _ _ _ _ steady.start ready.table }
+
+pub returns-clause-table : goal.returns-clause-table
+returns-clause-table g c a = ((load-quiet _ _ _ _ _ _ c.load.ensures.told).steady.alone.words a.0 a.1).1

@@ -1,20 +1,23 @@
 -- The look, the exchange and the load of the translation word give each answer.
-use Rattle.std.proofs.Common.{◌<◌, refl, sym, subst, inl}
+use Rattle.std.proofs.Common.{◌≡◌, ◌<◌, None, refl, sym, subst, ⊎_elim, inl, inr}
 use Rattle.std.proofs.lemmas.Result.{err_from_is_err_and}
-use Rattle.vm_core.specs.Words.{version_of, word_of, LOCKED}
+use Rattle.vm_core.specs.Words.{version_of, word_of, LOCKED, MAX_VERSION}
+use Rattle.vm_step.specs.Evidence.{UnlockedExpected}
 use Rattle.vm_step.specs.Passes.{view}
 use Rattle.vm_guard.specs.Denied.{NotCrowded}
 use Rattle.vm_guard.specs.Guards.{IsLocked}
 use Rattle.vm_guard.proofs.Denials.{denied-at-once, denied-lost}
 use Rattle.vm_guard.proofs.QuietSteps.{lock-lost}
 use Rattle.vm_guard.proofs.Lockings.{lock-owns, lock-resident, locked}
+use Rattle.vm_guard.proofs.Sure.{free-refused, lock-sure, look-finds}
+use Rattle.vm_guard.specs.Sure.{IsFree}
 use Rattle.vm_guard.proofs.exclusive.ExclusiveGuard.take.Goals as goal
 
 pub returns-in_err-expects-clause-denied : goal.returns-in_err-expects-clause-denied
 returns-in_err-expects-clause-denied g c =
     let p = err_from_is_err_and c.from_residual.result c.from_residual.ensures.1 in
     let why = c.in_err-expects.ensures.denied in
-    rw (p.1, p.2) (denied-at-once g.U.Owner.tied NotCrowded c.args.pid c.look_silently-word.result c.in_err-expects.field-0.0 _ _ c.look_silently-word.ensures.told why.0 why.1)
+    rw (p.1, p.2) (denied-at-once g.U.Owner.tied NotCrowded UnlockedExpected c.args.pid c.look_silently-word.result c.in_err-expects.field-0.0 _ _ c.look_silently-word.ensures.told why.0 why.1)
 
 pub standing-stands-requires-clause-locked : goal.standing-stands-requires-clause-locked
 standing-stands-requires-clause-locked g c = inl (lock-owns _ _ _ _ _ c.in-Taken.ensures.told)
@@ -26,8 +29,8 @@ pub returns-in-Lost-clause-denied : goal.returns-in-Lost-clause-denied
 returns-in-Lost-clause-denied g c =
     let lost = c.in-Lost.ensures in
     let other = lost.lost c.in-Lost.seen refl in
-    denied-lost g.U.Owner.tied NotCrowded c.args.pid c.look_silently-word.result c.in_ok-expects.expects c.in-Lost.seen (word_of LOCKED (version_of c.in_ok-expects.expects)) _ _ _ c.look_silently-word.ensures.told
-    (lock-lost _ _ _ _ _ _ other lost.told) c.in_ok-expects.ensures.ok.version other tt
+    denied-lost g.U.Owner.tied NotCrowded UnlockedExpected c.args.pid c.look_silently-word.result c.in_ok-expects.expects c.in-Lost.seen (word_of LOCKED (version_of c.in_ok-expects.expects)) _ _ _ c.look_silently-word.ensures.told
+    (lock-lost _ _ _ _ _ _ other lost.told) (⊎_elim (λ (e : c.in_ok-expects.expects ≡ c.look_silently-word.result). inl (sym e)) (λ h. inr h) c.in_ok-expects.ensures.kept) other tt
 
 pub returns-in-Taken-clause-taken : goal.returns-in-Taken-clause-taken
 returns-in-Taken-clause-taken g c = (
@@ -36,3 +39,15 @@ returns-in-Taken-clause-taken g c = (
       (locked _ _ _ _ _ _ _ _ _ _ c.look_silently-word.ensures.told c.in_ok-expects.ensures.ok c.in-Taken.ensures.told c.standing-stands.ensures.told.1 c.standing-stands.ensures.told.2
       (subst (λ n. c.args.pid < n) (sym c.look_silently-word.ensures.table.is_shape.pages) c.requires.page)),
 )
+
+pub returns-in_err-expects-clause-sure : goal.returns-in_err-expects-clause-sure
+returns-in_err-expects-clause-sure g c a free below =
+    let why = c.in_err-expects.ensures.denied in
+    let here : c.look_silently-word.result ≡ _ = look-finds g.U.Owner.tied c.args.pid None c.look_silently-word.result _ _ c.look_silently-word.ensures.told a in
+    absurd (free-refused c.args.pid c.look_silently-word.result _ why.0 why.1 (subst IsFree (sym here) free) (subst (λ n. version_of n < MAX_VERSION) (sym here) below))
+
+pub returns-in-Lost-clause-sure : goal.returns-in-Lost-clause-sure
+returns-in-Lost-clause-sure g c a free below =
+    let lost = c.in-Lost.ensures in
+    let here : c.look_silently-word.result ≡ _ = look-finds g.U.Owner.tied c.args.pid None c.look_silently-word.result _ _ c.look_silently-word.ensures.told a in
+    absurd (lock-sure g.U.Owner.tied c.args.pid c.look_silently-word.result _ _ c.look_silently-word.ensures.told a _ _ _ lost.told c.in_ok-expects.ensures.kept (lost.lost _ refl) (subst IsFree (sym here) free))

@@ -1,8 +1,10 @@
 -- The looks, the mark that is taken away and the load of the translation word give each answer.
-use Rattle.std.proofs.Common.{◌<◌, ◌≢◌, refl, sym, subst, ◌∙◌, inl, inr}
+use Rattle.std.proofs.Common.{◌≡◌, ◌<◌, ◌≢◌, None, true≢false, refl, sym, ap, subst, ◌∙◌, inl, inr}
 use Rattle.vm_core.specs.Words.{state_of, EVICTED}
+use Rattle.vm_core.specs.StateActs.{is_readable}
 use Rattle.vm_guard.specs.Denied.{AgainOrNeed}
-use Rattle.vm_guard.proofs.OpenReads.{readable-state}
+use Rattle.vm_guard.proofs.OpenReads.{locked-unreadable, readable-state}
+use Rattle.vm_guard.proofs.Sure.{look-finds, start-open, start-version}
 use Rattle.vm_guard.proofs.Starting.{needed, locked-first, moved, still-resident, names-frame, began}
 use Rattle.vm_guard.proofs.opt.OptGuard.start.Goals as goal
 
@@ -46,3 +48,27 @@ returns-clause-ok g c =
           (subst (λ n. c.args.pid < n) (sym c.look_silently-first.ensures.table.is_shape.pages) c.requires.page)
           (sym c.frame.ensures ∙ c.in-Some.is),
     )
+
+pub returns-then-state-clause-sure : goal.returns-then-state-clause-sure
+returns-then-state-clause-sure g c a open_word =
+    let here : c.look_silently-first.result ≡ _ = look-finds g.U.Owner.tied c.args.pid None c.look_silently-first.result _ _ c.look_silently-first.ensures.told a in
+    let gone : state_of c.look_silently-first.result ≡ EVICTED = sym c.state.ensures ∙ c.if-state.true in
+    absurd (true≢false (sym open_word ∙ ap (λ n. is_readable (state_of n)) (sym here) ∙ ap is_readable gone))
+
+pub returns-then-state-2-clause-sure : goal.returns-then-state-2-clause-sure
+returns-then-state-2-clause-sure g c a open_word =
+    let here : c.look_silently-first.result ≡ _ = look-finds g.U.Owner.tied c.args.pid None c.look_silently-first.result _ _ c.look_silently-first.ensures.told a in
+    absurd (true≢false (sym open_word ∙ ap (λ n. is_readable (state_of n)) (sym here) ∙ locked-unreadable _ (sym c.state-2.ensures ∙ c.if-state-2.true)))
+
+pub returns-then-version-clause-sure : goal.returns-then-version-clause-sure
+returns-then-version-clause-sure g c a open_word =
+    absurd (c.if-version.true (c.version.ensures
+    ∙ start-version g.U.Owner.tied c.args.pid _ _ _ _ _ _ _ _ c.look_silently-first.ensures.told c.clear_mark.ensures.clears c.tload-translation.ensures.told c.look_silently-seen.ensures.told a
+    ∙ sym c.version-2.ensures))
+
+pub returns-then-state-3-clause-sure : goal.returns-then-state-3-clause-sure
+returns-then-state-3-clause-sure g c a open_word =
+    let here : c.look_silently-first.result ≡ _ = look-finds g.U.Owner.tied c.args.pid None c.look_silently-first.result _ _ c.look_silently-first.ensures.told a in
+    absurd (start-open g.U.Owner.tied c.args.pid _ _ _ _ _ _ _ _ c.look_silently-first.ensures.told c.clear_mark.ensures.clears c.tload-translation.ensures.told c.look_silently-seen.ensures.told a
+    (ap (λ n. is_readable (state_of n)) here ∙ open_word)
+    (sym c.state-3.ensures ∙ c.if-state-3.true))

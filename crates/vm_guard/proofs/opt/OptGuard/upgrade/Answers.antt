@@ -1,7 +1,8 @@
-use Rattle.std.proofs.Common.{◌≢◌, ◌<◌, ◌≤◌, refl, sym, subst, ◌∙◌, inl, arith}
+use Rattle.std.proofs.Common.{◌≡◌, ◌≢◌, ◌<◌, ◌≤◌, refl, sym, subst, ◌∙◌, inl, arith}
 use Rattle.vm_core.specs.Words.{version_of}
 use Rattle.vm_rule.proofs.WordFacts.{version-within}
-use Rattle.vm_guard.proofs.Upgrading.{worn, lost, upgraded}
+use Rattle.vm_guard.proofs.Sure.{upgrade-sure}
+use Rattle.vm_guard.proofs.Upgrading.{worn, lost, upgraded, was-readable}
 use Rattle.vm_guard.proofs.Lockings.{lock-owns, lock-resident}
 use Rattle.vm_guard.proofs.opt.OptGuard.upgrade.Goals as goal
 
@@ -9,8 +10,11 @@ pub returns-then-version-eq-MAX_VERSION-clause-denied : goal.returns-then-versio
 returns-then-version-eq-MAX_VERSION-clause-denied g c =
     worn g.U.Owner.tied _ _ c.args.self.frame _ _ _ c.look_silently.ensures.told c.requires.reading (sym c.version.ensures ∙ c.if-version-eq-MAX_VERSION.true)
 
-pub unlocked-expects-requires : goal.unlocked-expects-requires
-unlocked-expects-requires g c =
+pub unlocked-expects-requires-clause-readable : goal.unlocked-expects-requires-clause-readable
+unlocked-expects-requires-clause-readable g c = was-readable g.U.Owner.tied c.args.self.pid c.args.self.word c.args.self.frame _ c.requires.reading
+
+pub unlocked-expects-requires-clause-below : goal.unlocked-expects-requires-clause-below
+unlocked-expects-requires-clause-below g c =
     let within : version_of c.args.self.word ≤ 72057594037927935 = version-within c.args.self.word in
     let other : version_of c.args.self.word ≢ 72057594037927935 = λ e. c.if-version-eq-MAX_VERSION.false (c.version.ensures ∙ e) in
     omega (arith, within, other)
@@ -33,3 +37,13 @@ returns-in-Taken-clause-taken g c =
           (upgraded g.U.Owner.tied _ _ stands.0 _ _ _ _ c.unlocked-expects.ensures.expects c.in-Taken.ensures.told stands.1 stands.2
           (subst (λ n. c.args.self.pid < n) (sym c.requires.ready.table.is_shape.pages) c.requires.page)),
     )
+
+pub returns-then-version-eq-MAX_VERSION-clause-sure : goal.returns-then-version-eq-MAX_VERSION-clause-sure
+returns-then-version-eq-MAX_VERSION-clause-sure g c a free known below =
+    let last : version_of c.args.self.word ≡ 72057594037927935 = sym c.version.ensures ∙ c.if-version-eq-MAX_VERSION.true in
+    absurd (omega (arith, below, last))
+
+pub returns-in-Lost-clause-sure : goal.returns-in-Lost-clause-sure
+returns-in-Lost-clause-sure g c a free known below =
+    let lost = c.in-Lost.ensures in
+    absurd (upgrade-sure g.U.Owner.tied c.args.self.pid c.args.self.word _ _ _ _ lost.told c.unlocked-expects.ensures.kept c.unlocked-expects.ensures.expects.may_lock (lost.lost _ refl) a free known)

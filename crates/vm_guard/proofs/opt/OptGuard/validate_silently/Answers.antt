@@ -1,4 +1,5 @@
 use Rattle.std.proofs.Common.{◌<◌, refl, sym, subst, ◌∙◌, inl, inr, ⊎_elim}
+use Rattle.vm_guard.proofs.Sure.{valid-sure}
 use Rattle.vm_guard.proofs.Validating.{refused, validated}
 use Rattle.vm_guard.proofs.opt.OptGuard.validate_silently.Goals as goal
 
@@ -19,3 +20,11 @@ returns-clause-ok g c =
     (λ e. c.if-state.false (c.state.ensures ∙ e))
     (subst (λ n. n < 256) c.state.ensures c.state.type_inv)
     (⊎_elim (λ r. inl r) (λ h. inr (h, refl)) c.requires.reading)
+
+pub returns-then-version-clause-sure : goal.returns-then-version-clause-sure
+returns-then-version-clause-sure g c a at =
+    absurd (valid-sure g.U.Owner.tied c.args.self.now.pid _ c.look_silently-seen.result c.args.self.now.word _ _ c.look_silently-seen.ensures.told a (inl (λ e. c.if-version.true (c.version.ensures ∙ e ∙ sym c.version-2.ensures))) at)
+
+pub returns-then-state-clause-sure : goal.returns-then-state-clause-sure
+returns-then-state-clause-sure g c a at =
+    absurd (valid-sure g.U.Owner.tied c.args.self.now.pid _ c.look_silently-seen.result c.args.self.now.word _ _ c.look_silently-seen.ensures.told a (inr (sym c.state.ensures ∙ c.if-state.true)) at)

@@ -1,0 +1,40 @@
+-- What a pass that is alone knows of a page, with which a call on the page is sure to succeed; and what it knows of the table afterwards.
+use Rattle.std.specs.Prelude.{ℕ, ◌≡◌, ◌≢◌, ◌⊎◌, ◌<◌, ◌==◌, if◌then◌else◌, slice_set}
+use Rattle.vm_core.specs.Words.{state_of, version_of, word_of, UNLOCKED, LOCKED, MARKED}
+use Rattle.vm_rule.specs.declared.view.Place.TheVariants as places
+use Rattle.vm_rule.specs.declared.view.View.{View}
+use Rattle.vm_rule.specs.Layout.{index_of}
+use Rattle.vm_step.specs.Alone.{IsAlone, word_at}
+
+-- the page with this word is resident, and locked by nobody
+abbrev pub IsFree : ℕ → Type 0
+IsFree word = (state_of word ≡ UNLOCKED) ⊎ (state_of word ≡ MARKED)
+
+-- the word without its mark
+abbrev pub unmarked_word : ℕ → ℕ
+unmarked_word word = if state_of word == MARKED then word_of UNLOCKED (version_of word) else word
+
+module _ {X : Type 0} where
+  -- the word of page p, as the pass knows the table
+  abbrev pub known_word : ℕ → View X → ℕ
+  known_word p v = word_at v (places.State p)
+
+  -- the pass knows page p to be resident, and locked by nobody
+  abbrev pub IsKnownFree : ℕ → View X → Type 0
+  IsKnownFree p v = IsFree (known_word p v)
+
+  -- the pass knows page p to be at the version of this word, and not locked exclusively
+  abbrev pub IsKnownAt : ℕ → ℕ → View X → Type 0
+  IsKnownAt p word v = (version_of (known_word p v) ≡ version_of word) × (state_of (known_word p v) ≢ LOCKED)
+
+  -- a pass that was alone knows the words of the table as they were
+  abbrev pub KnowsSame : View X → View X → Type 0
+  KnowsSame v w = IsAlone v → w.snapshot.words ≡ v.snapshot.words
+
+  -- it knows them as they were, but for the word of page p, which is this one
+  abbrev pub KnowsBut : ℕ → ℕ → View X → View X → Type 0
+  KnowsBut p word v w = IsAlone v → w.snapshot.words ≡ slice_set v.snapshot.words (index_of v.start (places.State p)) word
+
+  -- it knows the state words of all pages as they were
+  abbrev pub KnowsStates : View X → View X → Type 0
+  KnowsStates v w = IsAlone v → (q : ℕ) → q < v.start.pages → known_word q w ≡ known_word q v
