@@ -1,27 +1,26 @@
 -- A pass that is alone: it is so after a page was brought, locked, set and released; and a word that was set is the page's over calls that
 -- leave its last words.
-use Rattle.std.proofs.Common.{ℕ, ◌≡◌, ◌<◌, Bool, true, Option, List, length, sym, ap, ◌∙◌, slice_index, slice_set}
+use Rattle.std.proofs.Common.{ℕ, ◌≡◌, ◌<◌, Bool, true, Option, List, [], length, sym, ap, ◌∙◌, slice_index, slice_set}
 use Rattle.std.proofs.lemmas.List.{get_or-set_same}
 use Rattle.vm_core.specs.History.{Version}
 use Rattle.vm_rule.specs.declared.view.Did.{Did}
+use Rattle.vm_rule.specs.declared.view.Release.{Release}
 use Rattle.vm_rule.specs.declared.view.View.{View}
 use Rattle.vm_rule.specs.Views.{draft_of}
 use Rattle.vm_rule.specs.Reading.{last_of}
 use Rattle.vm_step.specs.Asides.{StaysAlone}
-use Rattle.vm_step.proofs.Asides.{alone-then, whole-then}
-use Rattle.vm_evict.specs.Flushes.{IsAlone}
+use Rattle.vm_step.specs.Alone.{IsAlone}
+use Rattle.vm_step.proofs.Alone.{still-alone}
+use Rattle.vm_step.proofs.Asides.{alone-then}
 use Rattle.vm_guard.specs.Quiet.{IsSteady}
 use Rattle.vm_guard.specs.Guards.{IsReleased, IsSet}
 use Rattle.vm_pool.specs.Brings.{KeepsLocks}
 
 module _ {X : Type 0} where
-  alone-on : (v w : View X) → (w.used ≡ v.used) × (w.fresh ≡ v.fresh) → (v.current ≡ true → w.current ≡ true) → IsAlone v → IsAlone w
-  alone-on v w parts current a = (whole-then v w parts a.0, current a.1)
-
   -- a page is brought, a guard takes it, sets a word and releases it
-  pub set-alone : (taking setting releasing : List Did) (v b l s r : View X) → IsAlone v → KeepsLocks v b → IsSteady taking b l → IsSteady setting l s → IsSteady releasing s r → IsAlone r
+  pub set-alone : {own : List Release} (taking setting releasing : List Did) (v b l s r : View X) → IsAlone v → KeepsLocks v b → IsSteady taking [] b l → IsSteady setting [] l s → IsSteady releasing own s r → IsAlone r
   set-alone taking setting releasing v b l s r a brought taken is released =
-      alone-on s r released.parts released.current (alone-on l s is.parts is.current (alone-on b l taken.parts taken.current (alone-on v b brought.parts brought.alone.current a)))
+      still-alone s r released.parts released.alone.current (still-alone l s is.parts is.alone.current (still-alone b l taken.parts taken.alone.current (still-alone v b brought.parts brought.alone.current a)))
 
   -- the guard's page is p: word i of its draft was set, and the page was released
   pub set-words : (p i x q n frame version : ℕ) (dirty : Bool) (said : Option X) (v w z : View X) → q ≡ p → n ≡ p → IsSet q frame dirty i x v w → IsReleased n version said w z

@@ -12,7 +12,7 @@ use Rattle.vm_exmap.specs.declared.interface.Alloc.{Alloc}
 use Rattle.vm_exmap.specs.declared.interface.Alloc.TheVariants as allocs
 use Rattle.vm_exmap.proofs.Handing.{each-has, each-of, held-on, held-swap}
 use Rattle.vm_step.specs.declared.saw.Saw.{Saw}
-use Rattle.vm_pool.specs.Brings.{Gets, Gets as gets, GetsNone, GetsNone as none, SaysDry}
+use Rattle.vm_pool.specs.Brings.{Gets, Gets as gets, GetsNone, GetsNone as none, SaysDry, counted}
 use Rattle.vm_pool.specs.Sweeps.{IsSwept}
 use Rattle.vm_pool.specs.declared.bring.Bring.{Bring}
 use Rattle.vm_pool.specs.declared.bring.Bring.TheVariants as brings
@@ -36,7 +36,7 @@ module _ {X : Type 0} (f : ℕ) (frames : List ℕ) (v w : View X) (h : AreHeld 
 
 -- an allocation that found no frame, then a sweep with the cap, and then an allocation again, while home and cap stay
 module _ {X : Type 0} (home cap home_dry cap_dry home_then cap_then : ℕ) (kept : (home_dry ≡ home) × (cap_dry ≡ cap)) (still : (home_then ≡ home_dry) × (cap_then ≡ cap_dry))
-    (old emptied filled new : List ℕ) (report : Report) (v dry clean w : View X) (first : IsAlloc home cap 1 old emptied v dry allocs.Dry) (sweeps : IsSwept cap_dry cap_dry emptied filled report dry clean) where
+    (old emptied filled new : List ℕ) (report : Report) (before after : ℕ) (counts : after ≡ counted before report) (v dry clean w : View X) (first : IsAlloc home cap 1 old emptied v dry allocs.Dry) (sweeps : IsSwept cap_dry cap_dry emptied filled report dry clean) where
   with_cap : IsSwept cap cap emptied filled report dry clean
   with_cap = subst (λ n. IsSwept n n emptied filled report dry clean) kept.1 sweeps
 
@@ -44,14 +44,14 @@ module _ {X : Type 0} (home cap home_dry cap_dry home_then cap_then : ℕ) (kept
   again_there answer a = subst (λ n. IsAlloc n cap 1 filled new clean w answer) (still.0 ∙ kept.0) (subst (λ n. IsAlloc home_then n 1 filled new clean w answer) (still.1 ∙ kept.1) a)
 
   -- it has a frame now
-  pub got-then : (f : ℕ) (batch : List ℕ) → batch ≡ f ∷ [] → IsAlloc home_then cap_then 1 filled new clean w (allocs.Batch batch) → Gets home cap f old new v w
+  pub got-then : (f : ℕ) (batch : List ℕ) → batch ≡ f ∷ [] → IsAlloc home_then cap_then 1 filled new clean w (allocs.Batch batch) → Gets home cap f old new before after v w
   got-then f batch one a =
-      gets.swept dry clean emptied filled report first with_cap (subst (λ (l : List ℕ). IsAlloc home cap 1 filled new clean w (allocs.Batch l)) one (again_there (allocs.Batch batch) a))
+      gets.swept dry clean emptied filled report first with_cap (subst (λ (l : List ℕ). IsAlloc home cap 1 filled new clean w (allocs.Batch l)) one (again_there (allocs.Batch batch) a)) counts
 
   -- the bits asked for were lost
-  pub lost-then : (saw : Saw) → IsAlloc home_then cap_then 1 filled new clean w (allocs.Again saw) → GetsNone home cap old new v w (brings.Again saw)
-  lost-then saw a = none.lost_then saw dry clean emptied filled report first with_cap (again_there (allocs.Again saw) a) refl
+  pub lost-then : (saw : Saw) → IsAlloc home_then cap_then 1 filled new clean w (allocs.Again saw) → GetsNone home cap old new before after v w (brings.Again saw)
+  lost-then saw a = none.lost_then saw dry clean emptied filled report first with_cap (again_there (allocs.Again saw) a) counts refl
 
   -- it has none still
-  pub dry-then : (answer : Bring) → SaysDry report answer → IsAlloc home_then cap_then 1 filled new clean w allocs.Dry → GetsNone home cap old new v w answer
-  dry-then answer says a = none.dry dry clean emptied filled report first with_cap (again_there allocs.Dry a) says
+  pub dry-then : (answer : Bring) → SaysDry report answer → IsAlloc home_then cap_then 1 filled new clean w allocs.Dry → GetsNone home cap old new before after v w answer
+  dry-then answer says a = none.dry dry clean emptied filled report first with_cap (again_there allocs.Dry a) counts says

@@ -1,6 +1,6 @@
 -- The last state of a table that was closed with a pass that has all parts and holds no page: every block is at home, and the words and
 -- blocks are those of the pass's snapshot.
-use Rattle.std.proofs.Common.{ℕ, Bool, true, false, true≢false, Option, Some, None, IsSome, ◌≡◌, ◌+◌, ◌*◌, ◌<◌, ◌≤◌, List, [], ◌∷◌, length, map, zero, suc, refl, sym, ap, subst, ◌∙◌, arith, ⊎_elim}
+use Rattle.std.proofs.Common.{ℕ, Bool, true, false, true≢false, Option, Some, None, IsSome, ◌≡◌, ◌≢◌, ◌+◌, ◌*◌, ◌<◌, ◌≤◌, List, [], ◌∷◌, length, map, zero, suc, refl, sym, ap, subst, ◌∙◌, arith, ⊎_elim}
 use Rattle.std.proofs.lemmas.Bool.{cases_eq}
 use mathlib.Core.Option as maybe
 use mathlib.Core.Option.{some, some-injective}
@@ -8,6 +8,8 @@ use lib.ListN.{get_elem?}
 use Rattle.atomic_table.specs.Table.{State as Table, Final, Seen}
 use Rattle.vm_core.specs.declared.event.Mapping.{Mapping}
 use Rattle.vm_core.specs.Fn.{at}
+use Rattle.vm_core.specs.Words.{LOCKED, EVICTED}
+use Rattle.vm_laws_others.specs.Leaves.{stands_dirty}
 use Rattle.vm_block.specs.declared.stored.Stored.{Stored}
 use Rattle.vm_owner.specs.Kept.{Start, Kept}
 use Rattle.vm_rule.specs.declared.view.Origin.{Origin}
@@ -19,20 +21,22 @@ use Rattle.vm_rule.specs.declared.view.View.{View}
 use Rattle.vm_rule.specs.Puts.{listed}
 use Rattle.vm_rule.specs.Layout.{bundles_of, index_of, words_of}
 use Rattle.vm_rule.specs.Views.{seat_of, IsWhole}
-use Rattle.vm_rule.specs.Reading.{no_block, at_home, out_of, out_or, known, block_of}
+use Rattle.vm_rule.specs.Reading.{no_block, at_home, out_of, out_or, known, block_of, last_of}
 use Rattle.vm_rule.specs.Rule.{began_of, snapshot_of, Ruled}
 use Rattle.vm_rule.specs.Begun.{HasShape, Stands}
 use Rattle.vm_rule.specs.Fixed.{bounds_of}
 use Rattle.vm_rule.proofs.ListFacts.{at-map, length-mapped, at-listed, length-listed, listed-long}
 use Rattle.vm_rule.proofs.Parts.{listed-same}
 use Rattle.vm_rule_laws.specs.Known.{HasStepped, kept_by}
-use Rattle.vm_rule_laws.specs.Standing.{mapping_in, PageStands}
-use Rattle.vm_rule_laws.proofs.Alone.{others-have-nothing}
+use Rattle.vm_rule_laws.specs.Noted.{NotesStand}
+use Rattle.vm_rule_laws.specs.Standing.{state_in, mapping_in, block_in, PageStands}
+use Rattle.vm_rule_laws.proofs.Alone.{without-locks, others-have-nothing}
 use Rattle.vm_rule_laws.proofs.Begun.{begun-ruled}
 use Rattle.vm_rule_laws.proofs.Knowing.{table-known, what-is-kept}
+use Rattle.vm_rule_laws.proofs.Noted.{notes-stand}
 use Rattle.vm_rule_laws.proofs.Standing.{stands-known}
 use Rattle.vm_pool.specs.Holding.{HoldsNoPage}
-use Rattle.vm_pool.specs.Closing.{IsClosed}
+use Rattle.vm_pool.specs.Closing.{IsStored, IsClosed}
 use Rattle.vm_pool.proofs.HomeBlocks.{all-home}
 
 -- ---- lists
@@ -59,6 +63,11 @@ home-some : {B : Type 0} (h : maybe.Option (Option B)) → IsSome (at_home h) �
 home-some maybe.none is = absurd (true≢false (sym is))
 home-some (maybe.some None) is = absurd (true≢false (sym is))
 home-some (maybe.some (Some b)) is = (b, refl, refl)
+
+-- a page that is resident and not dirty is in a frame and clean
+clean-there : (o : Option Mapping) → IsSome o → stands_dirty o ≡ false → (m : Mapping) × (o ≡ Some m) × (m.dirty ≡ false)
+clean-there None is clean = absurd (true≢false (sym is))
+clean-there (Some m) is clean = (m, refl, clean)
 
 -- ---- no block is out
 
@@ -166,6 +175,26 @@ module _ {X B : Type 0} (stored : B → Stored) (keeps : Start → Kept X → Ty
         let many : v.start.pages ≡ start.pages = ap (λ (o : Origin). o.pages) same-start in
         subst (λ (o : Origin). PageStands o v.releases v.snapshot (seat_of v p) p) (sym same-start) (stands-known stored keeps tied start tells s rule id v stepped p (omega arith))
 
+    -- the block of a page that is evicted, or not dirty, has its last words: nobody has locked the page
+    words-stored : v.start.tells ≡ true → (p : ℕ) → p < v.start.pages → IsStored v p → (block_in v.snapshot p).words ≡ (last_of v p).words
+    words-stored t p l is =
+        let page = page-stands p l in
+        let free : state_in v.start v.snapshot p ≢ LOCKED = page.unlocked (holds.exclusive p) in
+        ⊎_elim
+        (λ gone. page.device t gone)
+        (λ (clean : stands_dirty (mapping_in v.start v.snapshot p) ≡ false). ⊎_elim
+        (λ (gone : state_in v.start v.snapshot p ≡ EVICTED). page.device t gone)
+        (λ here. let in_frame = clean-there (mapping_in v.start v.snapshot p) (page.resident free here) clean in
+        page.clean t free in_frame.0 in_frame.1 in_frame.2)
+        (cases_eq (state_in v.start v.snapshot p) EVICTED))
+        is
+
+    notes : NotesStand v.snapshot v.notes
+    notes = notes-stand stored keeps tied start tells s rule id v stepped
+
+    none-left : (v.pending ≡ []) × (v.owed ≡ [])
+    none-left = without-locks stored keeps tied start tells s rule id v last.1.1 live holds.exclusive
+
     telling : tells ≡ true → v.start.tells ≡ true
     telling t = ap (λ (o : Origin). o.tells) same-start ∙ rule.telling ∙ t
 
@@ -176,10 +205,11 @@ module _ {X B : Type 0} (stored : B → Stored) (keeps : Start → Kept X → Ty
           shown = all-shown;
           bounds = all-bounds ∙ sym (ap (λ (o : Origin). o.bounds) same-start);
           faults = λ q l. ap (λ k. (at no_block k q).count) all-shown ∙ sym ((page-stands q l).fault (holds.exclusive q) (holds.writing q));
-          words = λ t q l is.
-              let page = page-stands q l in
-              ap (λ k. (at no_block k q).words) all-shown
-              ∙ ⊎_elim (λ gone. page.device (telling t) gone) (λ (in_frame : (m : Mapping) × (mapping_in v.start v.snapshot q ≡ Some m) × (m.dirty ≡ false)). page.clean (telling t) (page.unlocked (holds.exclusive q)) in_frame.0 in_frame.1 in_frame.2) is;
+          noted = λ q count some. subst (λ (k : List Stored). (1 ≤ count) × (count ≤ (at no_block k q).count)) (sym all-shown) (notes.noted q count some);
+          once = notes.once;
+          words = λ t q l is. ap (λ k. (at no_block k q).words) all-shown ∙ words-stored (telling t) q l is;
           next_is = n ∙ next-there pages frames p f ∙ (λ i. (words_of (sym same-start i) (sym (ap (λ (y : Snapshot). y.words) same-snapshot) i)).next);
-          kept = λ t none. subst (λ (o : Origin). keeps (began_of o) (kept_by v)) (sym same-start) (what-is-kept stored keeps tied start tells s rule id v stepped none (rule.telling ∙ t));
+          released = none-left.0;
+          paid = none-left.1;
+          kept = λ t. subst (λ (o : Origin). keeps (began_of o) (kept_by v)) (sym same-start) (what-is-kept stored keeps tied start tells s rule id v stepped none-left.0 (rule.telling ∙ t));
         }

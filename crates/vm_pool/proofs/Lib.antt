@@ -5,3 +5,5 @@ pub mod AtOnce
 pub mod Sweeping
 pub mod Bringing
 pub mod Alone
+pub mod Sure
+pub mod FirstPage

@@ -9,7 +9,7 @@ use Rattle.vm_rule.specs.Views.{Each}
 use Rattle.vm_exmap.specs.Frames.{AreHeld}
 use Rattle.vm_exmap.proofs.Handing.{apart-join, each-has, each-join, each-of}
 use Rattle.vm_clock.specs.Clock.{IsChosen}
-use Rattle.vm_clock.specs.declared.looks.Looks.{Looks}
+use Rattle.vm_step.specs.declared.choice.Looks.{Looks}
 use Rattle.vm_evict.specs.Evictions.{Adds, Adds as adds, Evicts, FramesCome, IsBatch}
 use Rattle.vm_pool.specs.Sweeps.{IsSwept}
 use Rattle.vm_evict.specs.declared.report.Report.{Report}
@@ -20,7 +20,7 @@ module _ {X : Type 0} where
 
   one-looks : (c : ℕ × ℕ) (v w : View X) (old new : Report) (frames batch : List ℕ) → Adds c v w old new frames batch → new.looks ≡ old.looks
   one-looks c v w old new frames batch (adds.freed frame written is e b) = ap (λ (r : Report). r.looks) e
-  one-looks c v w old new frames batch (adds.failed count is kept e b) = ap (λ (r : Report). r.looks) e
+  one-looks c v w old new frames batch (adds.failed count is e b) = ap (λ (r : Report). r.looks) e
   one-looks c v w old new frames batch (adds.lost written is e b) = ap (λ (r : Report). r.looks) e
 
   all-looks : (list : List (ℕ × ℕ)) (looks : Looks) (n : ℕ) (v w : View X) (report : Report) (batch : List ℕ) → Evicts list looks n v w report batch → report.looks ≡ looks

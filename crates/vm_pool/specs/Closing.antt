@@ -1,37 +1,43 @@
 -- What is left of a pool that was closed by a pass with all parts: the blocks, the next word, and sums of the blocks' counts.
-use Rattle.std.specs.Prelude.{ℕ, Bool, true, false, Some, List, [], ◌≡◌, ◌⊎◌, ◌-◌, ◌^◌, ◌<◌, ◌≤◌, length, min}
+use Rattle.std.specs.Prelude.{ℕ, Bool, true, false, List, [], ◌≡◌, ◌≢◌, ◌⊎◌, ◌-◌, ◌^◌, ◌<◌, ◌≤◌, length, min}
 use Rattle.std.specs.List.{sum_by}
-use Rattle.vm_core.specs.declared.event.Mapping.{Mapping}
 use Rattle.vm_core.specs.Fn.{at}
 use Rattle.vm_core.specs.Words.{EVICTED}
+use Rattle.vm_laws_others.specs.Leaves.{stands_dirty}
 use Rattle.vm_block.specs.declared.stored.Stored.{Stored}
 use Rattle.vm_owner.specs.Kept.{Start, Kept}
 use Rattle.vm_rule.specs.declared.view.View.{View}
 use Rattle.vm_rule.specs.Layout.{words_of}
 use Rattle.vm_rule.specs.Fixed.{bounds_of}
+use Rattle.vm_rule.specs.Views.{times_noted}
 use Rattle.vm_rule.specs.Reading.{no_block, last_of}
-use Rattle.vm_rule.specs.Rule.{began_of}
+use Rattle.vm_rule.specs.Rule.{MAX_COUNT, began_of}
 use Rattle.vm_pool.specs.declared.ended.Ended.{Ended}
 use Rattle.vm_rule_laws.specs.Known.{kept_by}
 use Rattle.vm_rule_laws.specs.Standing.{state_in, mapping_in, fault_in}
 
 module _ {X : Type 0} where
-  -- the view's snapshot shows page p evicted, or in a frame and clean
+  -- the view's snapshot shows page p evicted, or not dirty
   abbrev pub IsStored : View X → ℕ → Type 0
-  IsStored v p = (state_in v.start v.snapshot p ≡ EVICTED) ⊎ ((m : Mapping) × (mapping_in v.start v.snapshot p ≡ Some m) × (m.dirty ≡ false))
+  IsStored v p = (state_in v.start v.snapshot p ≡ EVICTED) ⊎ (stands_dirty (mapping_in v.start v.snapshot p) ≡ false)
 
   -- A pool was closed by a pass with this view: a block for each page, which is, whole, the one that the pass's snapshot shows; each has the
-  -- bound of the one handed in, and its count of faults is the page's fault word; the next word is the snapshot's. Where the blocks tell
-  -- their words, those of a page that is evicted, or clean, are its last ones; and where no group is released in part, the layer above keeps
-  -- its relation of the pages' last words
+  -- bound of the one handed in, and its count of faults is the page's fault word; the next word is the snapshot's. Each fault that the pass
+  -- noted is one that the page's block counted, and below the last count, where counting stops, it noted each once. It has no member of a
+  -- group still to be released, and owes no page. Where the blocks tell their words, those of a page that is evicted, or not dirty, are its
+  -- last ones, and the layer above keeps its relation of the pages' last words
   pub record IsClosed (tells : Bool) (keeps : Start → Kept X → Type 0) (v : View X) (blocks : List Stored) (next : ℕ) : Type 0 where
     pub count : length blocks ≡ v.start.pages
     pub shown : blocks ≡ v.snapshot.blocks
     pub bounds : bounds_of blocks ≡ v.start.bounds
     pub faults : (p : ℕ) → p < v.start.pages → (at no_block blocks p).count ≡ fault_in v.start v.snapshot p
+    pub noted : (p count : ℕ) → 1 ≤ times_noted p count v.notes → (1 ≤ count) × (count ≤ (at no_block blocks p).count)
+    pub once : (p count : ℕ) → count ≢ MAX_COUNT → times_noted p count v.notes ≤ 1
     pub words : tells ≡ true → (p : ℕ) → p < v.start.pages → IsStored v p → (at no_block blocks p).words ≡ (last_of v p).words
     pub next_is : next ≡ (words_of v.start v.snapshot.words).next
-    pub kept : tells ≡ true → v.pending ≡ [] → keeps (began_of v.start) (kept_by v)
+    pub released : v.pending ≡ []
+    pub paid : v.owed ≡ []
+    pub kept : tells ≡ true → keeps (began_of v.start) (kept_by v)
 
 -- a sum over the blocks that stops at 2^64 - 1
 abbrev pub sum_to_max : (Stored → ℕ) → List Stored → ℕ

@@ -9,11 +9,11 @@ use crate::{Bring, Pool, Shape};
 use std::alloc::Global;
 use std::test::Fail;
 use vm_block::{Block, MemBlock};
-use vm_clock::Looks;
 use vm_exmap::Interface;
 use vm_owner::Bare;
 use vm_page::PageBuf;
 use vm_rule::words::Pass;
+use vm_step::Looks;
 
 /// The place of the last word of the frame, behind two state words, two translation words and two fault words.
 const LAST: usize = 69;

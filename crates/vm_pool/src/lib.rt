@@ -6,8 +6,10 @@ mod bring;
 mod bring_tests;
 mod closing;
 mod ended;
+pub mod first_page;
 mod pool;
 pub mod round_trip;
+pub mod save;
 #[cfg(test)]
 mod tests;
 mod told;

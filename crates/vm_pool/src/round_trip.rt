@@ -1,7 +1,7 @@
 // A word that is written and read again, with a sweep in between: it stands on the contracts of the pool and of the guards alone, and so
 // shows that they are enough for a caller.
 ghost use Rattle.std.specs.Prelude.{◌≡◌, ◌<◌, IfSome, None, true, slice_index};
-ghost use Rattle.vm_evict.specs.Flushes.{IsAlone};
+ghost use Rattle.vm_step.specs.Alone.{IsAlone};
 ghost use Rattle.vm_exmap.specs.Frames.{AreHeld};
 ghost use Rattle.vm_rule.specs.Reading.{last_of};
 ghost use Rattle.vm_step.specs.Asides.{StaysAlone};

@@ -1,24 +1,27 @@
 //! Pools of a few pages, with ample memory. The values are worked out by hand from the rules, and not taken from a run.
 ghost use Rattle.std.specs.Prelude.{◌≡◌, ◌<◌, ◌≤◌, ℕ, IfOk, None, [], false, true, length};
 ghost use Rattle.vm_exmap.specs.Frames.{AreHeld};
+ghost use Rattle.vm_pool.specs.Holding.{HoldsNoPage};
 ghost use Rattle.vm_rule.specs.Views.{seat_of};
+ghost use Rattle.vm_step.specs.Alone.{IsAlone};
 ghost use Rattle.vm_step.specs.Passes.{view};
 ghost use Rattle.vm_step.specs.Ready.{IsReady};
 
-use crate::round_trip::word_in;
+use crate::round_trip::{round_trip, word_in};
+use crate::save::{Saved, flush_and_close};
 use crate::{Bring, Closed, Pool, Shape};
 use std::alloc::Global;
 use std::process::Abort;
 use std::test::Fail;
 use vm_block::{Block, MemBlock};
-use vm_clock::Looks;
 use vm_core::StateWord;
+use vm_evict::Flushed;
 use vm_exmap::Interface;
 use vm_guard::{ExclusiveGuard, OptGuard, SharedGuard, read_word};
 use vm_owner::Bare;
 use vm_page::PageBuf;
 use vm_rule::words::Pass;
-use vm_step::{At, Saw, look_silently};
+use vm_step::{At, Looks, Saw, look_silently};
 
 /// The word of an evicted page at version 2.
 const EVICTED_AT_2: u64 = 0xff00_0000_0000_0002;
@@ -35,6 +38,9 @@ fn pool_of(
     ensures ready { IfOk result (λ made. IsReady made.0.words.table.shared.key ⟦<MemBlock as Block>⟧.tells made.0.words.table.shared.table_id made.1) }
     ensures home { IfOk result (λ made. (view made.1).out ≡ None) }
     ensures idle { IfOk result (λ made. (p : ℕ) → (seat_of (view made.1) p).writing ≡ false) }
+    ensures alone { IfOk result (λ made. IsAlone (view made.1)) }
+    ensures holds { IfOk result (λ made. HoldsNoPage (view made.1)) }
+    ensures claimed { IfOk result (λ made. (view made.1).start.next ≡ length blocks.items) }
 {
     let pages = blocks.len() as u32;
     let shape = Shape {
@@ -89,6 +95,33 @@ fn put<B: Block>(rt: &impl Abort, pool: &Pool<Bare, B>, pass: &mut Pass<Bare>, p
     ensures home { (view pass.new).out ≡ None }
     ensures frames { ((view pass.new).start ≡ (view pass.old).start) × ((view pass.new).frames ≡ (view pass.old).frames) }
 {
+    let Ok(mut guard) = ExclusiveGuard::take(&pool.words, pass, p) else {
+        panic!(rt; "the page can be locked");
+    };
+    guard.set(&pool.words, pass, 5, w);
+    guard.release(&pool.words, pass, None);
+}
+
+/// Brings page `p`, which is evicted, and sets its word 5, by a pass that is alone and holds no page.
+fn bring_and_put<B: Block>(
+    rt: &impl Abort,
+    pool: &Pool<Bare, B>,
+    pass: &mut Pass<Bare>,
+    iface: &mut Interface,
+    p: u32,
+    w: u64,
+)
+    requires ready { IsReady pool.now.words.table.shared.key B.tells pool.now.words.table.shared.table_id pass.old }
+    requires held { AreHeld iface.old.frames (view pass.old) }
+    requires page { (p < pool.now.words.table.shared.key.pages) × (p < pool.now.words.table.shared.key.next) }
+    requires alone { IsAlone (view pass.old) }
+    requires holds { HoldsNoPage (view pass.old) }
+    ensures ready { IsReady pool.now.words.table.shared.key B.tells pool.now.words.table.shared.table_id pass.new }
+    ensures alone { IsAlone (view pass.new) }
+    ensures holds { HoldsNoPage (view pass.new) }
+{
+    let answer = pool.bring(pass, iface, p);
+    assert_eq!(rt; answer, Bring::Brought);
     let Ok(mut guard) = ExclusiveGuard::take(&pool.words, pass, p) else {
         panic!(rt; "the page can be locked");
     };
@@ -293,6 +326,17 @@ fn more_pages_than_frames_keep_their_words(rt: HostRuntime) -> Result<(), Fail> 
 }
 
 #[test]
+fn a_word_is_found_again_behind_a_sweep(rt: HostRuntime) -> Result<(), Fail> {
+    let blocks = zeros(rt.alloc(), 2)?;
+    let (pool, mut pass) = pool_of(rt.alloc(), 1, blocks)?;
+    let mut iface = Interface::new(0, 1);
+    let word = round_trip(&pool, &mut pass, &mut iface, 1, 63, 7);
+    assert_eq!(rt; word, Some(7));
+    assert_eq!(rt; iface.swept(), 1);
+    Ok(())
+}
+
+#[test]
 fn a_held_page_is_no_candidate(rt: HostRuntime) -> Result<(), Fail> {
     let blocks = zeros(rt.alloc(), 2)?;
     let (pool, mut pass) = pool_of(rt.alloc(), 1, blocks)?;
@@ -314,5 +358,82 @@ fn a_held_page_is_no_candidate(rt: HostRuntime) -> Result<(), Fail> {
     };
     assert_eq!(rt; answer, Bring::Dry { looks });
     guard.drop_with(&pool.words, &mut pass);
+    Ok(())
+}
+
+#[test]
+fn a_page_that_was_flushed_is_in_its_block(rt: HostRuntime) -> Result<(), Fail> {
+    let alloc = rt.alloc();
+    let blocks = zeros(alloc, 2)?;
+    let (pool, mut pass) = pool_of(alloc, 1, blocks)?;
+    let mut iface = Interface::new(0, 1);
+    bring_and_put(&rt, &pool, &mut pass, &mut iface, 1, 7);
+    let Ok(saved) = flush_and_close(pool, alloc, pass) else {
+        panic!(rt; "there is memory");
+    };
+    let Saved { report, closed } = saved;
+    let wrote = Flushed {
+        written: 1,
+        failed: 0,
+        busy: 0,
+        first: None,
+    };
+    assert_eq!(rt; report, wrote);
+    let Closed {
+        mut blocks,
+        next,
+        ended,
+    } = closed;
+    assert_eq!(rt; next, 2);
+    // The page was read once and written once.
+    let sums = [ended.reads(), ended.writes(), ended.faults()];
+    assert_eq!(rt; sums, [1, 1, 0]);
+    let (Some(mut second), Some(mut first)) = (blocks.pop(), blocks.pop()) else {
+        panic!(rt; "there are two blocks");
+    };
+    let mut read = PageBuf::zero();
+    let answered = second.read(&mut read).is_ok();
+    assert!(rt; answered);
+    assert_eq!(rt; read.get(5), 7);
+    let answered = first.read(&mut read).is_ok();
+    assert!(rt; answered);
+    assert_eq!(rt; read.get(5), 0);
+    Ok(())
+}
+
+#[test]
+fn a_page_whose_write_failed_is_not_in_its_block(rt: HostRuntime) -> Result<(), Fail> {
+    let alloc = rt.alloc();
+    let mut blocks = Vec::new(alloc);
+    // The block's first call is a read, and its second call a write.
+    blocks.push(MemBlock::new(alloc, PageBuf::zero(), &[2])?)?;
+    let (pool, mut pass) = pool_of(alloc, 1, blocks)?;
+    let mut iface = Interface::new(0, 1);
+    bring_and_put(&rt, &pool, &mut pass, &mut iface, 0, 7);
+    let Ok(saved) = flush_and_close(pool, alloc, pass) else {
+        panic!(rt; "there is memory");
+    };
+    let Saved { report, closed } = saved;
+    let failed = Flushed {
+        written: 0,
+        failed: 1,
+        busy: 0,
+        first: Some(0),
+    };
+    assert_eq!(rt; report, failed);
+    let Closed {
+        mut blocks,
+        next: _,
+        ended,
+    } = closed;
+    let sums = [ended.reads(), ended.writes(), ended.faults()];
+    assert_eq!(rt; sums, [1, 0, 1]);
+    let Some(mut block) = blocks.pop() else {
+        panic!(rt; "there is a block");
+    };
+    let mut read = PageBuf::zero();
+    let answered = block.read(&mut read).is_ok();
+    assert!(rt; answered);
+    assert_eq!(rt; read.get(5), 0);
     Ok(())
 }

@@ -5,7 +5,7 @@ use Rattle.vm_exmap.proofs.Handing.{held-on}
 use Rattle.vm_rule.specs.Reading.{last_of}
 use Rattle.vm_rule.specs.Views.{draft_of}
 use Rattle.vm_step.specs.Passes.{view}
-use Rattle.vm_evict.specs.Flushes.{IsAlone}
+use Rattle.vm_step.specs.Alone.{IsAlone}
 use Rattle.vm_pool.proofs.Alone.{set-alone, set-words, word-back}
 use Rattle.vm_pool.proofs.round_trip.round_trip.Goals as goal
 

@@ -1,0 +1,73 @@
+-- What the first pass of a pool knows: it is alone, each page is evicted at the first version, and the first bundle has frames.
+use Rattle.std.proofs.Common.{ℕ, Bool, ◌≡◌, ◌≢◌, ◌<◌, ◌≤◌, ◌+◌, ◌*◌, ◌-◌, ◌^◌, List, length, min, refl, sym, ap, subst, ◌∙◌, inl, inr, ⊎_elim, arith, slice_index}
+use Rattle.std.proofs.Math.Nat.{pow-le-pow_right}
+use Rattle.vm_core.specs.Fn.{at}
+use Rattle.vm_core.specs.Start.{full_bundle}
+use Rattle.vm_core.specs.Words.{EVICTED, MAX_VERSION, state_of, version_of, word_of}
+use Rattle.vm_block.specs.declared.stored.Stored.{Stored}
+use Rattle.vm_rule.specs.declared.view.Origin.{Origin}
+use Rattle.vm_rule.specs.declared.view.Place.TheVariants as places
+use Rattle.vm_rule.specs.declared.view.View.{View}
+use Rattle.vm_rule.specs.Begun.{begun, unborn}
+use Rattle.vm_rule.specs.Fixed.{bounds_of, counts_of}
+use Rattle.vm_rule.specs.Layout.{bundles_of, index_of}
+use Rattle.vm_rule.specs.Started.{IsStarted, started_origin, started_shape, started_words}
+use Rattle.vm_rule.proofs.Found.{part-found}
+use Rattle.vm_rule.proofs.StartedWords.{started-bundle, started-state}
+use Rattle.vm_rule.proofs.WordFacts.{word-state, word-version}
+use Rattle.vm_step.specs.Alone.{IsAlone, word_at}
+use Rattle.vm_exmap.specs.Frames.{HasFree}
+use Rattle.vm_fault.specs.Fetches.{IsKnownOut}
+use Rattle.vm_pool.specs.Brings.{IsBroughtOrFailed, IsSure}
+use Rattle.vm_pool.specs.declared.bring.Bring.{Bring}
+use Rattle.vm_pool.proofs.AtOnce.{first-has-all}
+
+-- the first bundle of a table with frames has some
+some-frames : (frames : ℕ) → 1 ≤ frames → full_bundle frames 0 ≢ 0
+unfolding full_bundle
+some-frames frames some =
+    let low : 1 ≤ min 64 (frames - 64 * 0) = omega (arith, some) in
+    let one : 2 ^ 1 ≤ 2 ^ min 64 (frames - 64 * 0) = pow-le-pow_right (omega arith) low in
+    omega (arith, one)
+
+module _ {X : Type 0} (tells : Bool) (version next frames : ℕ) (blocks : List Stored) (v : View X) (is : v ≡ begun (unborn (started_shape tells version next frames blocks))) where
+  abbrev words : List ℕ
+  words = started_words (length blocks) frames version next (counts_of blocks)
+
+  start-is : v.start ≡ started_origin tells version next frames blocks
+  start-is = ap (λ (x : View X). x.start) is
+
+  words-are : v.snapshot.words ≡ words
+  words-are = ap (λ (x : View X). x.snapshot.words) is
+
+  pub first-alone : IsAlone v
+  first-alone = (first-has-all _ _ v is, ap (λ (x : View X). x.current) is)
+
+  module _ (fits : IsStarted version next frames (length blocks)) where
+    state-there : (p : ℕ) → p < length blocks → word_at v (places.State p) ≡ word_of EVICTED version
+    state-there p l = ap (λ (t : List ℕ). slice_index t p) words-are ∙ sym (part-found 0 (length blocks) words p p l (omega arith)) ∙ started-state tells version next frames blocks p l
+
+    pub first-out : (p : ℕ) → p < length blocks → version < MAX_VERSION → IsKnownOut p v
+    first-out p l below =
+        let within : version ≤ MAX_VERSION = fits.in_range in (
+          ap state_of (state-there p l) ∙ word-state EVICTED version within,
+          subst (λ (n : ℕ). n < MAX_VERSION) (sym (ap version_of (state-there p l) ∙ word-version EVICTED version within)) below,
+        )
+
+    bundle-there : word_at v (places.Bundle 0) ≡ full_bundle frames 0
+    bundle-there =
+        let some : 1 ≤ frames = fits.some_frames in
+        let inside : 0 < bundles_of frames = omega (arith, some) in
+        ap (λ (s : Origin). slice_index v.snapshot.words (index_of s (places.Bundle 0))) start-is
+        ∙ ap (λ (t : List ℕ). slice_index t (3 * length blocks + 64 * frames + 0)) words-are
+        ∙ sym (part-found (3 * length blocks + 64 * frames) (bundles_of frames) words 0 (3 * length blocks + 64 * frames + 0) inside refl)
+        ∙ started-bundle tells version next frames blocks 0
+
+    pub first-free : (old : List ℕ) → HasFree old v
+    first-free old =
+        let some : 1 ≤ frames = fits.some_frames in
+        let inside : 0 < bundles_of frames = omega (arith, some) in
+        inr (0, subst (λ (s : Origin). 0 < bundles_of s.frames) (sym start-is) inside, λ none. some-frames frames some (sym bundle-there ∙ none))
+
+  pub sure-then : (p : ℕ) (w : View X) (answer : Bring) → IsSure p v w answer → IsBroughtOrFailed p (bounds_of blocks) answer
+  sure-then p w answer s = ⊎_elim (λ b. inl b) (λ d. inr (d.0, d.1, d.3, subst (λ (o : Origin). d.0 ≤ at 0 o.bounds p) start-is d.4)) s
