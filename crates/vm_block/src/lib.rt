@@ -5,8 +5,6 @@ mod block;
 mod memory;
 mod plan;
 mod stored;
-#[cfg(test)]
-mod tests;
 
 pub use block::{Block, Failed};
 pub use memory::MemBlock;

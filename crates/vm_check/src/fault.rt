@@ -3,7 +3,7 @@
 use thiserror::Error;
 
 /// The pages are no tree, or want of memory.
-#[derive(Debug, Drop, PartialEq, Error)]
+#[derive(Debug, Drop, Error)]
 pub enum CheckFault {
     /// The page at fault and the number of the first reason, 1 to 9.
     #[error("page {pid} is at fault, reason {why}")]

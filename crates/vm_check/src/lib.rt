@@ -6,8 +6,6 @@ mod fault;
 mod pairs;
 mod rows;
 mod slot;
-#[cfg(test)]
-mod tests;
 mod walk;
 
 pub use checker::check;

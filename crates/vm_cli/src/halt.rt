@@ -7,7 +7,7 @@ use crate::say::read_line;
 use std::alloc::{AllocError, Global};
 
 /// Why no event was played.
-#[derive(Clone, Copy, Debug, PartialEq, Eq)]
+#[derive(Clone, Copy)]
 pub enum Halt {
     /// The host could not read the event list.
     ReadEvents,

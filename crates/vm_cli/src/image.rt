@@ -18,7 +18,7 @@ use vm_io::loops::{ReadFault, read_whole};
 const MOST_IMAGE: usize = 33_554_432;
 
 /// Why an image gave no rows.
-#[derive(Clone, Copy, Debug, PartialEq, Eq)]
+#[derive(Clone, Copy)]
 pub enum ImageStop {
     /// The host could not read the image.
     Unread,

@@ -10,7 +10,7 @@ use std::alloc::{AllocError, Global};
 use vm_words::Run;
 
 /// Why no call was made.
-#[derive(Clone, Copy, Debug, PartialEq, Eq)]
+#[derive(Clone, Copy)]
 pub enum Stop {
     /// The number of workers is not 1 to 64.
     ShapeWorkers,

@@ -1,7 +1,7 @@
 //! Why a command was not done.
 
 /// A stop, which is told, or want of memory, which is not.
-#[derive(Clone, Copy, Debug, PartialEq, Eq)]
+#[derive(Clone, Copy)]
 pub enum Undone<S> {
     Stopped(S),
     Memory,

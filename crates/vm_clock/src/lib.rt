@@ -16,9 +16,6 @@ use vm_owner::Owner;
 use vm_rule::words::{Pass, Words};
 use vm_step::{Candidates, Looks, Took, hand, look_silently, mark};
 
-#[cfg(test)]
-mod tests;
-
 /// No look yet.
 const NO_LOOKS: Looks = Looks {
     found: 0,

@@ -4,7 +4,7 @@
 use thiserror::Error;
 
 /// How many pages, frames and actors a core has, and its first next word.
-#[derive(Clone, Copy, Debug, PartialEq)]
+#[derive(Clone, Copy)]
 pub struct CoreShape {
     pub pages: u32,
     pub frames: u32,
@@ -45,7 +45,7 @@ pub struct Seat {
 /// number, `n` a number of pages (1 or 2). `mask` is a set of frames of a bundle, by their bits. An event with `expects` is a
 /// compare-exchange: where the word is the expected one it is changed, and `Taken` is seen; else nothing changes, and `Lost` is seen with
 /// the word found.
-#[derive(Clone, Copy, Debug, PartialEq)]
+#[derive(Clone, Copy)]
 pub enum Event {
     /// Actor `a` loads the state word of page `p`. An open read of `p` stays at its version, moves to the one seen,
     /// or is closed where the page is locked or evicted.

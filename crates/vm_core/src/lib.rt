@@ -17,6 +17,3 @@ pub use event::{CoreShape, Event, Illegal, Mapping, Open, PageAct, ReadIs, Seat,
 pub use machine::{Core, Memory};
 pub use playing::{ReplayFault, replay};
 pub use words::{Bundle, MAX_VERSION, StateWord, TransWord};
-
-#[cfg(test)]
-mod tests;

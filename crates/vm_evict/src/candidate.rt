@@ -18,7 +18,7 @@ use vm_step::{
 };
 
 /// What became of a candidate.
-#[derive(Clone, Copy, Debug, PartialEq, Eq)]
+#[derive(Clone, Copy)]
 pub(crate) enum Fate {
     /// It was evicted from this frame; whether it was written.
     Freed { frame: u32, written: bool },

@@ -9,12 +9,8 @@ ghost use Rattle.vm_step.specs.Passes.{IsSamePass, view};
 ghost use Rattle.vm_step.specs.Ready.{IsReady};
 
 mod candidate;
-#[cfg(test)]
-mod flush_tests;
 mod flushing;
 pub mod report;
-#[cfg(test)]
-mod tests;
 mod write;
 
 use candidate::evict_page;

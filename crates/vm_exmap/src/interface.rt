@@ -18,7 +18,7 @@ use vm_step::{Batch, Saw, give};
 const FRAMES: usize = 64;
 
 /// What an allocation answers.
-#[derive(Debug, Drop, PartialEq)]
+#[derive(Drop)]
 pub enum Alloc {
     /// These frames.
     Batch(Batch),
@@ -29,7 +29,7 @@ pub enum Alloc {
 }
 
 /// A pass's own free frames, the bundle at which it begins to look for more, and how many it keeps at most when frames come back.
-#[derive(Debug, Drop)]
+#[derive(Drop)]
 pub struct Interface {
     pub home: u32,
     pub cap: u32,

@@ -6,6 +6,3 @@ mod interface;
 mod walk;
 
 pub use interface::{Alloc, Interface};
-
-#[cfg(test)]
-mod tests;

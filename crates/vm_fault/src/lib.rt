@@ -4,6 +4,3 @@
 mod fault;
 
 pub use fault::{Fetch, fault_in};
-
-#[cfg(test)]
-mod tests;

@@ -2,7 +2,6 @@ pub mod QuietSteps
 pub mod OpenReads
 pub mod Starting
 pub mod Unmarking
-pub mod Cleaning
 pub mod Reading
 pub mod Validating
 pub mod Singles

@@ -13,6 +13,3 @@ pub use exclusive::ExclusiveGuard;
 pub use opt::OptGuard;
 pub use shared::SharedGuard;
 pub use single::read_word;
-
-#[cfg(test)]
-mod tests;

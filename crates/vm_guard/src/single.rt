@@ -15,7 +15,7 @@ use vm_owner::Owner;
 use vm_rule::words::{Pass, Words};
 
 /// Word `i` (0 to 63) of the page's last version, or `None` where the page could not be read so: it was Locked or Evicted, or changed
-/// meanwhile.
+/// meanwhile. The pass keeps its frames.
 pub fn read_word<U: Owner, B: Block>(
     words: &Words<U, B>,
     pass: &mut Pass<U>,
@@ -26,6 +26,8 @@ pub fn read_word<U: Owner, B: Block>(
     requires page { (pid < words.now.table.shared.key.pages) × (i < 64) }
     ensures pass { IsSamePass pass.old pass.new }
     ensures ready { IsReady words.now.table.shared.key B.tells words.now.table.shared.table_id pass.new }
+    ensures frames { ((view pass.new).start ≡ (view pass.old).start) × ((view pass.new).frames ≡ (view pass.old).frames) }
+    ensures out { (view pass.new).out ≡ (view pass.old).out }
     ensures alone { StaysAlone (view pass.old) (view pass.new) }
     ensures sure { IsAlone (view pass.old) → is_readable (state_of (known_word pid (view pass.old))) ≡ true → IsSome result }
     ensures word { IfSome result (λ word. B.tells ≡ true → word ≡ slice_index (last_of (view pass.new) pid).words i) }

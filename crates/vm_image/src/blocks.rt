@@ -10,7 +10,7 @@ use vm_page::PageBuf;
 
 /// An entry of a plan of failures: the call with this number on this page's block fails. An entry for a page that the
 /// image lacks never acts.
-#[derive(Clone, Copy, Debug, PartialEq, Eq)]
+#[derive(Clone, Copy)]
 pub struct PlannedFault {
     pub page: u64,
     pub number: u64,

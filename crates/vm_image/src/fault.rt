@@ -3,7 +3,7 @@
 use thiserror::Error;
 
 /// The bytes are not 2 to 65,536 pages of 512 bytes, or want of memory.
-#[derive(Debug, Drop, PartialEq, Error)]
+#[derive(Debug, Drop, Error)]
 pub enum ImageFault {
     /// The number of bytes that were given.
     #[error("a page file of {len} bytes is not 2 to 65536 pages of 512 bytes")]

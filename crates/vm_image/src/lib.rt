@@ -4,8 +4,6 @@
 mod blocks;
 mod fault;
 mod image;
-#[cfg(test)]
-mod tests;
 mod zeros;
 
 pub use blocks::{PlannedFault, blocks_of, image_of};

@@ -6,8 +6,6 @@
 
 mod children;
 mod root;
-#[cfg(test)]
-mod tests;
 
 pub use children::{add, child, split_inner};
 pub use root::new_root;

@@ -8,5 +8,3 @@ pub mod loops;
 pub mod memory;
 mod store;
 pub mod system;
-#[cfg(test)]
-mod tests;

@@ -29,7 +29,7 @@ pub enum Reply {
 }
 
 /// A call with its reply.
-#[derive(Debug, Drop, PartialEq)]
+#[derive(Drop)]
 pub struct Said {
     pub call: Call,
     pub reply: Reply,

@@ -3,6 +3,4 @@
 
 pub mod call;
 pub mod plain;
-#[cfg(test)]
-mod tests;
 pub mod window;

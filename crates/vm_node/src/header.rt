@@ -6,7 +6,7 @@ use vm_page::PageBuf;
 
 /// The first six words of a node. A node without a high fence has `endless` 1 and `high` 0; one with a high fence has
 /// `endless` 0.
-#[derive(Clone, Copy, Debug, PartialEq)]
+#[derive(Clone, Copy)]
 pub struct Header {
     pub tag: u64,
     pub count: u64,

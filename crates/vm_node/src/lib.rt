@@ -21,8 +21,6 @@ pub mod header;
 mod leaf;
 pub mod pairs;
 mod shown;
-#[cfg(test)]
-mod tests;
 
 pub use full::Full;
 pub use halves::split;

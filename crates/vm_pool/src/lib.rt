@@ -2,16 +2,12 @@
 #![tactic(auto)]
 
 mod bring;
-#[cfg(test)]
-mod bring_tests;
 mod closing;
 mod ended;
 pub mod first_page;
 mod pool;
 pub mod round_trip;
 pub mod save;
-#[cfg(test)]
-mod tests;
 mod told;
 
 pub use bring::Bring;

@@ -18,7 +18,7 @@ use vm_rule::words::{Pass, Words};
 
 /// What a pool is started with, beside its blocks: 1 to 65536 pages, as many as blocks, and 1 to 65536 frames; the least page number that is
 /// not claimed; the first version of every page, at most 2^56 - 1.
-#[derive(Clone, Copy, Debug, PartialEq, Eq)]
+#[derive(Clone, Copy)]
 pub struct Shape {
     pub pages: u32,
     pub frames: u32,

@@ -8,7 +8,7 @@ use thiserror::Error;
 use vm_script::events::{EventsFault, read_events};
 
 /// Why nothing was played.
-#[derive(Clone, Copy, Debug, PartialEq, Eq, Error)]
+#[derive(Clone, Copy, Debug, Error)]
 pub enum ReplayStop {
     /// The file has more than 16,777,216 bytes.
     #[error("the event list is too long")]

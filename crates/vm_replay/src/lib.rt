@@ -9,6 +9,3 @@ mod playing;
 
 pub use file::{ReplayStop, replay_file};
 pub use playing::{Played, play};
-
-#[cfg(test)]
-mod tests;

@@ -18,8 +18,6 @@ pub mod began;
 mod fixed;
 mod opening;
 mod started;
-#[cfg(test)]
-mod tests;
 pub mod view;
 pub mod words;
 

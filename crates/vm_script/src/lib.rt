@@ -2,14 +2,10 @@
 #![tactic(auto)]
 
 pub mod event_line;
-#[cfg(test)]
-mod event_tests;
 mod event_words;
 pub mod events;
 pub mod laws;
 pub mod number;
 pub mod script;
 pub mod seen;
-#[cfg(test)]
-mod tests;
 pub mod text;

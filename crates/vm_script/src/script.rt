@@ -17,7 +17,7 @@ use thiserror::Error;
 use vm_map::call::Call;
 
 /// A line of a script: a call, and the worker that makes it.
-#[derive(Clone, Copy, Debug, PartialEq, Eq)]
+#[derive(Clone, Copy)]
 pub struct Order {
     pub worker: u32,
     pub call: Call,

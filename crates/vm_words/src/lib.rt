@@ -7,14 +7,12 @@ ghost use Rattle.vm_words.specs.Commands.{IsCommand, IsNoCommand, WhyRefused};
 mod app;
 pub mod laws;
 mod matched;
-#[cfg(test)]
-mod tests;
 
 use std::alloc::{AllocError, Global};
 use thiserror::Error;
 
 /// What the words ask for.
-#[derive(Clone, Copy, Debug, PartialEq, Eq)]
+#[derive(Clone, Copy, PartialEq, Eq)]
 pub enum Command<'a> {
     Run(Run<'a>),
     Check(Check<'a>),
@@ -22,7 +20,7 @@ pub enum Command<'a> {
 }
 
 /// `run IMAGE SCRIPT --workers W --frames F`
-#[derive(Clone, Copy, Debug, PartialEq, Eq)]
+#[derive(Clone, Copy, PartialEq, Eq)]
 pub struct Run<'a> {
     /// The name of the file with the image.
     pub image: &'a str,
@@ -35,14 +33,14 @@ pub struct Run<'a> {
 }
 
 /// `check FILE`
-#[derive(Clone, Copy, Debug, PartialEq, Eq)]
+#[derive(Clone, Copy, PartialEq, Eq)]
 pub struct Check<'a> {
     /// The name of the file with the image.
     pub file: &'a str,
 }
 
 /// `replay FILE`
-#[derive(Clone, Copy, Debug, PartialEq, Eq)]
+#[derive(Clone, Copy, PartialEq, Eq)]
 pub struct Replay<'a> {
     /// The name of the file with the events.
     pub file: &'a str,

@@ -20,10 +20,10 @@ returns-clause-word g c =
     set-words c.args.pid c.args.i c.args.w c.in-Ok.guard.pid c.set.new.self.pid _ _ _ _ (view c.take.new.pass) (view c.set.new.pass) (view c.release.new.pass) taken.0 same c.set.ensures.set c.release.ensures.released in
     let long : length draft ≡ 64 = taken.1.holding.size in
     let inside : c.args.i < 64 = c.requires.page.1 in
-    IfSome_then c.word_in.result c.word_in.ensures.word
+    IfSome_then c.read_word.result c.read_word.ensures.word
     (λ x is.
     is c.requires.tells
-    ∙ word-back c.args.pid c.args.i c.args.w draft (view c.release.new.pass) (view c.sweep.new.pass) (view c.bring-2.new.pass) (view c.word_in.new.pass) alone words (omega (arith, long, inside)) c.sweep.ensures.keeps c.bring-2.ensures.keeps c.word_in.ensures.alone)
+    ∙ word-back c.args.pid c.args.i c.args.w draft (view c.release.new.pass) (view c.sweep.new.pass) (view c.bring-2.new.pass) (view c.read_word.new.pass) alone words (omega (arith, long, inside)) c.sweep.ensures.keeps c.bring-2.ensures.keeps c.read_word.ensures.alone)
 
 pub returns-clause-held : goal.returns-clause-held
-returns-clause-held g c = held-on _ (view c.bring-2.new.pass) (view c.word_in.new.pass) c.bring-2.ensures.held c.word_in.ensures.frames.0 c.word_in.ensures.frames.1
+returns-clause-held g c = held-on _ (view c.bring-2.new.pass) (view c.read_word.new.pass) c.bring-2.ensures.held c.read_word.ensures.frames.0 c.read_word.ensures.frames.1

@@ -1,5 +1,0 @@
-use Rattle.vm_pool.proofs.tests.+put_round.Given as goal
-
--- the pages that are still to come
-abbrev pub decreases-put_round : goal.decreases-put_round
-decreases-put_round g l = l.n

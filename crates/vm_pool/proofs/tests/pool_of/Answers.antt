@@ -1,5 +1,0 @@
-use Rattle.vm_pool.proofs.FirstPage.{first-alone}
-use Rattle.vm_pool.proofs.tests.pool_of.Goals as goal
-
-pub returns-clause-alone : goal.returns-clause-alone
-returns-clause-alone c = first-alone _ _ _ _ _ _ c.in_ok-start.ensures.view

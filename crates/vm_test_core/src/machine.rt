@@ -1,0 +1,42 @@
+//! Tests of what the definitions mean. The values are worked out by hand from the rules, and not taken from a run.
+
+mod refusals;
+mod scripts;
+mod words;
+
+ghost use Rattle.std.specs.Prelude.{◌≤◌};
+
+use std::alloc::Global;
+use vm_core::{Core, CoreShape, Event, Memory};
+
+/// State words at version 0, to which a version is added; an unlocked word is the version alone. One shared lock:
+const SHARE: u64 = 0x0100_0000_0000_0000;
+/// Locked exclusively:
+const LOCKED: u64 = 0xfd00_0000_0000_0000;
+/// Marked by the clock:
+const MARKED: u64 = 0xfe00_0000_0000_0000;
+/// Evicted:
+const EVICTED: u64 = 0xff00_0000_0000_0000;
+/// The last version.
+const LAST: u64 = 0x00ff_ffff_ffff_ffff;
+
+/// The event of a name with these fields.
+macro_rules! event {
+    ($name:ident, $($field:ident = $value:expr),*) => { Event::$name { $($field: $value),* } };
+}
+
+use event;
+
+/// A core with as many actors as pages.
+fn core(alloc: Global, pages: u32, frames: u32, next: u32) -> Result<Core, Memory>
+    requires { next ≤ pages }
+{
+    let actors = pages;
+    let shape = CoreShape {
+        pages,
+        frames,
+        actors,
+        next,
+    };
+    Core::new(alloc, shape)
+}

@@ -1,0 +1,109 @@
+//! A replay, and a table of resident pages, with ample memory. The values are worked out by hand from the rules, and not taken from a run.
+
+use std::test::Fail;
+use vm_block::MemBlock;
+use vm_core::{Core, CoreShape, Event, ReadIs, ReplayFault, Seen};
+use vm_owner::Bare;
+use vm_page::PageBuf;
+use vm_rule::replay_kept;
+use vm_rule::words::Words;
+
+/// The state word of an evicted page at version 0.
+const EVICTED: u64 = 0xff00_0000_0000_0000;
+
+/// An exchange that expected another word, and a look at the page.
+const LOST: [Event; 2] = [
+    Event::LockX {
+        a: 0,
+        p: 0,
+        expects: EVICTED + 1,
+    },
+    Event::Look { a: 0, p: 0 },
+];
+
+const SEEN: [Seen; 2] = [
+    Seen::Lost(EVICTED),
+    Seen::Look {
+        word: EVICTED,
+        left: ReadIs::Closed,
+    },
+];
+
+/// A page is released that nobody holds.
+const ILLEGAL: [Event; 2] = [Event::Hand { a: 0 }, Event::Release { a: 0, p: 0 }];
+
+#[test]
+fn a_replay_sees_each_event_and_names_the_illegal_one(rt: HostRuntime) -> Result<(), Fail> {
+    let alloc = rt.alloc();
+    let mut core = Core::new(
+        alloc,
+        CoreShape {
+            pages: 1,
+            frames: 1,
+            actors: 1,
+            next: 1,
+        },
+    )?;
+    let seen = replay_kept(alloc, &mut core, &LOST)?;
+    assert_eq!(rt; seen.as_slice(), SEEN.as_slice());
+    let illegal = matches!(
+        replay_kept(alloc, &mut core, &ILLEGAL),
+        Err(ReplayFault::Illegal { index: 1 })
+    );
+    assert!(rt; illegal);
+    Ok(())
+}
+
+/// The dirty bit of a translation word.
+const DIRTY: u64 = 0x8000_0000_0000_0000;
+
+#[test]
+fn a_table_of_resident_pages_has_its_words_by_the_layout(rt: HostRuntime) -> Result<(), Fail> {
+    let alloc = rt.alloc();
+    let mut last = PageBuf::zero();
+    last.set(63, 9);
+    let pages = [PageBuf::zero(), last];
+    let mut blocks = Vec::new(alloc);
+    blocks.push(MemBlock::new(alloc, PageBuf::zero(), &[])?)?;
+    blocks.push(MemBlock::new(alloc, PageBuf::zero(), &[])?)?;
+    let (words, _pass) = Words::<Bare, MemBlock>::fixed(alloc, &pages, blocks, 2, 7)?;
+    let table = &words.table.shared;
+    // Two state words, two translations, two fault words, 128 words of frames, a bundle, the next word, the hand.
+    assert_eq!(rt; words.table.word_count(), 137);
+    assert_eq!(rt; table.peek(0), 7);
+    assert_eq!(rt; table.peek(1), 7);
+    assert_eq!(rt; table.peek(2), DIRTY + 1);
+    assert_eq!(rt; table.peek(3), DIRTY + 2);
+    assert_eq!(rt; table.peek(4), 0);
+    assert_eq!(rt; table.peek(132), 0);
+    assert_eq!(rt; table.peek(133), 9);
+    assert_eq!(rt; table.peek(134), 0);
+    assert_eq!(rt; table.peek(135), 2);
+    assert_eq!(rt; table.peek(136), 0);
+    Ok(())
+}
+
+/// The state word of an evicted page at version 7.
+const EVICTED_AT_7: u64 = 0xff00_0000_0000_0007;
+
+#[test]
+fn a_started_table_has_its_words_by_the_layout(rt: HostRuntime) -> Result<(), Fail> {
+    let alloc = rt.alloc();
+    let mut blocks = Vec::new(alloc);
+    blocks.push(MemBlock::new(alloc, PageBuf::zero(), &[])?)?;
+    blocks.push(MemBlock::new(alloc, PageBuf::zero(), &[])?)?;
+    let (words, _pass) = Words::<Bare, MemBlock>::started(alloc, 67, 1, 7, blocks)?;
+    let table = &words.table.shared;
+    // Two state words, two translations, two fault words, 4288 words of frames, two bundles, the next word, the hand.
+    assert_eq!(rt; words.table.word_count(), 4298);
+    assert_eq!(rt; table.peek(0), EVICTED_AT_7);
+    assert_eq!(rt; table.peek(1), EVICTED_AT_7);
+    assert_eq!(rt; table.peek(3), 0);
+    assert_eq!(rt; table.peek(5), 0);
+    assert_eq!(rt; table.peek(4293), 0);
+    assert_eq!(rt; table.peek(4294), u64::MAX);
+    assert_eq!(rt; table.peek(4295), 7);
+    assert_eq!(rt; table.peek(4296), 1);
+    assert_eq!(rt; table.peek(4297), 0);
+    Ok(())
+}

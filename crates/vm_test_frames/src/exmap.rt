@@ -1,0 +1,62 @@
+//! Interfaces over a table whose frames are all free, with ample memory. The values are worked out by hand from the rules, and not taken
+//! from a run.
+ghost use Rattle.std.specs.Prelude.{◌≡◌, ◌≤◌, IfOk, true};
+ghost use Rattle.vm_step.specs.Ready.{IsReady};
+
+use std::alloc::Global;
+use std::test::Fail;
+use vm_block::{Block, MemBlock};
+use vm_exmap::{Alloc, Interface};
+use vm_owner::Bare;
+use vm_page::PageBuf;
+use vm_rule::words::{Pass, Words};
+
+/// A table of one evicted page and so many free frames (1 to 65536), and its first pass.
+fn free_frames(alloc: Global, frames: u32) -> Result<(Words<Bare, MemBlock>, Pass<Bare>), Fail>
+    requires { (1 ≤ frames) × (frames ≤ 65536) }
+    ensures { IfOk result (λ made. IsReady made.0.table.shared.key true made.0.table.shared.table_id made.1) }
+{
+    let mut blocks = Vec::new(alloc);
+    blocks.push(MemBlock::new(alloc, PageBuf::zero(), &[])?)?;
+    Ok(Words::started(alloc, frames, 1, 0, blocks)?)
+}
+
+#[test]
+fn frames_that_one_interface_gives_back_another_takes(rt: HostRuntime) -> Result<(), Fail> {
+    let (words, mut pass) = free_frames(rt.alloc(), 64)?;
+    let mut first = Interface::new(0, 64);
+    let mut second = Interface::new(0, 64);
+    let Alloc::Batch(all) = first.alloc(&words, &mut pass, 64) else {
+        panic!(rt; "all frames are free");
+    };
+    let count = all.len();
+    assert_eq!(rt; count, 64);
+    let Alloc::Dry = second.alloc(&words, &mut pass, 1) else {
+        panic!(rt; "no frame is free");
+    };
+    first.free(&words, &mut pass, all);
+    first.give_all(&words, &mut pass);
+    let Alloc::Batch(again) = second.alloc(&words, &mut pass, 64) else {
+        panic!(rt; "all frames are free again");
+    };
+    let count = again.len();
+    assert_eq!(rt; count, 64);
+    Ok(())
+}
+
+#[test]
+fn a_walk_begins_at_its_home_and_takes_the_lowest_bits(rt: HostRuntime) -> Result<(), Fail> {
+    let (words, mut pass) = free_frames(rt.alloc(), 128)?;
+    let mut frames = Interface::new(3, 4);
+    let Alloc::Batch(two) = frames.alloc(&words, &mut pass, 2) else {
+        panic!(rt; "frames are free");
+    };
+    let lowest = two.as_slice() == [64, 65].as_slice();
+    assert!(rt; lowest);
+    let Alloc::Batch(others) = frames.alloc(&words, &mut pass, 8) else {
+        panic!(rt; "frames are left");
+    };
+    let next = others.as_slice() == [66, 67].as_slice();
+    assert!(rt; next);
+    Ok(())
+}

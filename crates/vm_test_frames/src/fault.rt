@@ -1,0 +1,96 @@
+//! Fault-in over a table of one evicted page and two frames, with ample memory. The values are worked out by hand from the rules, and not
+//! taken from a run.
+ghost use Rattle.std.specs.Prelude.{◌≡◌, ◌≤◌, IfOk, None, true};
+ghost use Rattle.vm_core.specs.Words.{MAX_VERSION};
+ghost use Rattle.vm_owner.specs.Numbers.{has};
+ghost use Rattle.vm_step.specs.Passes.{IsSamePass, MayStep, view};
+ghost use Rattle.vm_step.specs.Ready.{IsReady};
+
+use std::alloc::Global;
+use std::process::Abort;
+use std::test::Fail;
+use vm_block::{Block, MemBlock};
+use vm_fault::{Fetch, fault_in};
+use vm_owner::Bare;
+use vm_page::PageBuf;
+use vm_rule::words::{Pass, Words};
+use vm_step::{At, Saw, Took, take};
+
+/// The word of an evicted page at version 1.
+const EVICTED_AT_1: u64 = 0xff00_0000_0000_0001;
+
+/// A table of one evicted page at this version, whose last word is 5, with a block of this plan, and its first pass.
+fn one_page(
+    alloc: Global,
+    version: u64,
+    plan: &[u64],
+) -> Result<(Words<Bare, MemBlock>, Pass<Bare>), Fail>
+    requires { version ≤ MAX_VERSION }
+    ensures pages { IfOk result (λ made. made.0.table.shared.key.pages ≡ 1) }
+    ensures frames { IfOk result (λ made. made.0.table.shared.key.frames ≡ 2) }
+    ensures may { IfOk result (λ made. MayStep made.0.table.shared.table_id made.1) }
+    ensures out { IfOk result (λ made. (view made.1).out ≡ None) }
+{
+    let mut page = PageBuf::zero();
+    page.set(63, 5);
+    let mut blocks = Vec::new(alloc);
+    blocks.push(MemBlock::new(alloc, page, plan)?)?;
+    Ok(Words::started(alloc, 2, 1, version, blocks)?)
+}
+
+/// Takes both frames.
+fn take_both<B: Block>(rt: &impl Abort, words: &Words<Bare, B>, pass: &mut Pass<Bare>)
+    requires pass { MayStep words.now.table.shared.table_id pass.old }
+    requires frames { words.now.table.shared.key.frames ≡ 2 }
+    requires out { (view pass.old).out ≡ None }
+    ensures pass { IsSamePass pass.old pass.new }
+    ensures ready { IsReady words.now.table.shared.key B.tells words.now.table.shared.table_id pass.new }
+    ensures holds { (has 0 (view pass.new).frames ≡ true) × (has 1 (view pass.new).frames ≡ true) }
+    ensures out { (view pass.new).out ≡ None }
+{
+    match take(words, pass, 0, 3, 3) {
+        Took::Taken => {}
+        Took::Lost(_) => panic!(rt; "the frames are free"),
+    }
+}
+
+#[test]
+fn a_page_is_brought_once(rt: HostRuntime) -> Result<(), Fail> {
+    let (words, mut pass) = one_page(rt.alloc(), 0, &[])?;
+    take_both(&rt, &words, &mut pass);
+    let Fetch::Brought = fault_in(&words, &mut pass, 0, 0) else {
+        panic!(rt; "the page can be read");
+    };
+    // The last word of frame 0, behind a state word, a translation word and a fault word.
+    assert_eq!(rt; words.table.shared.peek(66), 5);
+    let again = fault_in(&words, &mut pass, 0, 1);
+    let saw = Saw {
+        at: At::Page(0),
+        first: EVICTED_AT_1,
+        seen: 1,
+    };
+    assert_eq!(rt; again, Fetch::Again { frame: 1, saw });
+    Ok(())
+}
+
+#[test]
+fn a_page_whose_block_failed_is_brought_later(rt: HostRuntime) -> Result<(), Fail> {
+    let (words, mut pass) = one_page(rt.alloc(), 0, &[1])?;
+    take_both(&rt, &words, &mut pass);
+    let Fetch::Device { frame, pid, count } = fault_in(&words, &mut pass, 0, 0) else {
+        panic!(rt; "the first read fails");
+    };
+    assert_eq!(rt; (frame, pid, count), (0, 0, 1));
+    assert_eq!(rt; fault_in(&words, &mut pass, 0, 0), Fetch::Brought);
+    assert_eq!(rt; words.table.shared.peek(66), 5);
+    Ok(())
+}
+
+#[test]
+fn a_page_at_the_last_version_is_worn(rt: HostRuntime) -> Result<(), Fail> {
+    let (words, mut pass) = one_page(rt.alloc(), 0xff_ffff_ffff_ffff, &[])?;
+    take_both(&rt, &words, &mut pass);
+    let worn = fault_in(&words, &mut pass, 0, 1);
+    assert_eq!(rt; worn, Fetch::Worn { frame: 1, pid: 0 });
+    Ok(())
+}

@@ -1,0 +1,230 @@
+//! Guards over a table of one resident page, with ample memory. The values are worked out by hand from the rules, and not taken from a run.
+ghost use Rattle.std.specs.Prelude.{◌≡◌, ◌≤◌, IfOk, None, [], false};
+ghost use Rattle.vm_core.specs.Words.{MAX_VERSION};
+ghost use Rattle.vm_step.specs.Ready.{IsReady};
+ghost use Rattle.vm_guard.specs.Shares.{KeepsShares};
+ghost use Rattle.vm_rule.specs.Views.{seat_of};
+ghost use Rattle.vm_step.specs.Passes.{MayStep, view};
+
+use std::alloc::Global;
+use std::process::Abort;
+use std::test::Fail;
+use vm_block::{Block, Failed, MemBlock};
+use vm_core::StateWord;
+use vm_evict::flush;
+use vm_guard::{Deny, ExclusiveGuard, OptGuard, SharedGuard};
+use vm_owner::Bare;
+use vm_page::PageBuf;
+use vm_rule::words::{Pass, Words};
+use vm_step::{At, Saw, Took, look_silently, mark};
+
+/// A table of one page of zeros, unlocked at this version, and its first pass.
+fn one_page(alloc: Global, version: u64) -> Result<(Words<Bare, MemBlock>, Pass<Bare>), Fail>
+    requires { version ≤ MAX_VERSION }
+    ensures pages { IfOk result (λ made. made.0.table.shared.key.pages ≡ 1) }
+    ensures may { IfOk result (λ made. MayStep made.0.table.shared.table_id made.1) }
+    ensures out { IfOk result (λ made. (view made.1).out ≡ None) }
+    ensures owed { IfOk result (λ made. (view made.1).owed ≡ []) }
+    ensures next { IfOk result (λ made. (view made.1).start.next ≡ 1) }
+    ensures writing { IfOk result (λ made. (seat_of (view made.1) 0).writing ≡ false) }
+{
+    let mut blocks = Vec::new(alloc);
+    blocks.push(MemBlock::new(alloc, PageBuf::zero(), &[])?)?;
+    let pages = [PageBuf::zero()];
+    Ok(Words::fixed(alloc, &pages, blocks, 1, version)?)
+}
+
+#[test]
+fn a_release_ends_an_older_read(rt: HostRuntime) -> Result<(), Fail> {
+    let (words, mut pass) = one_page(rt.alloc(), 7)?;
+    let Ok(guard) = OptGuard::start(&words, &mut pass, 0) else {
+        panic!(rt; "the page can be read");
+    };
+    let Ok(held) = ExclusiveGuard::take(&words, &mut pass, 0) else {
+        panic!(rt; "the page can be locked");
+    };
+    held.release(&words, &mut pass, None);
+    let answer = guard.validate_silently(&words, &mut pass);
+    let at = At::Page(0);
+    assert_eq!(rt;
+        answer,
+        Err(Saw {
+            at,
+            first: 7,
+            seen: 8
+        })
+    );
+    Ok(())
+}
+
+/// The page has all the shares that it can have.
+fn is_full<B: Block>(rt: &impl Abort, words: &Words<Bare, B>, pass: &mut Pass<Bare>)
+    requires pass { MayStep words.now.table.shared.table_id pass.old }
+    requires pages { words.now.table.shared.key.pages ≡ 1 }
+    ensures ready { IsReady words.now.table.shared.key B.tells words.now.table.shared.table_id pass.new }
+    ensures kept { KeepsShares 0 (view pass.old) (view pass.new) }
+{
+    match SharedGuard::take(words, pass, 0) {
+        Ok(_) => panic!(rt; "the page is full"),
+        Err(deny) => assert_eq!(rt; deny, Deny::Crowded(0)),
+    }
+}
+
+/// A share can be taken, and is given up again.
+fn has_room<B: Block>(rt: &impl Abort, words: &Words<Bare, B>, pass: &mut Pass<Bare>)
+    requires pass { MayStep words.now.table.shared.table_id pass.old }
+    requires pages { words.now.table.shared.key.pages ≡ 1 }
+    requires idle { (seat_of (view pass.old) 0).writing ≡ false }
+    requires out { (view pass.old).out ≡ None }
+    ensures ready { IsReady words.now.table.shared.key B.tells words.now.table.shared.table_id pass.new }
+    ensures kept { KeepsShares 0 (view pass.old) (view pass.new) }
+{
+    let Ok(guard) = SharedGuard::take(words, pass, 0) else {
+        panic!(rt; "the page has room");
+    };
+    guard.drop_with(words, pass);
+}
+
+/// Takes `more` shares; the page is full then, and has room again after each that is given up.
+fn crowd<B: Block>(rt: &impl Abort, words: &Words<Bare, B>, pass: &mut Pass<Bare>, more: u32)
+    requires pass { MayStep words.now.table.shared.table_id pass.old }
+    requires pages { words.now.table.shared.key.pages ≡ 1 }
+    requires idle { (seat_of (view pass.old) 0).writing ≡ false }
+    requires out { (view pass.old).out ≡ None }
+    ensures ready { IsReady words.now.table.shared.key B.tells words.now.table.shared.table_id pass.new }
+    ensures kept { KeepsShares 0 (view pass.old) (view pass.new) }
+{
+    if more == 0 {
+        is_full(rt, words, pass);
+        return;
+    }
+    let Ok(guard) = SharedGuard::take(words, pass, 0) else {
+        panic!(rt; "the page has room");
+    };
+    crowd(rt, words, pass, more - 1);
+    guard.drop_with(words, pass);
+    has_room(rt, words, pass);
+}
+
+#[test]
+fn a_page_has_at_most_252_shares(rt: HostRuntime) -> Result<(), Fail> {
+    let (words, mut pass) = one_page(rt.alloc(), 0)?;
+    crowd(&rt, &words, &mut pass, 252);
+    Ok(())
+}
+
+#[test]
+fn a_validated_read_has_the_word_that_was_set(rt: HostRuntime) -> Result<(), Fail> {
+    let (words, mut pass) = one_page(rt.alloc(), 0)?;
+    let Ok(mut held) = ExclusiveGuard::take(&words, &mut pass, 0) else {
+        panic!(rt; "the page can be locked");
+    };
+    let dirty = held.dirty;
+    assert!(rt; dirty);
+    held.set(&words, &mut pass, 63, 5);
+    let dirty = held.dirty;
+    assert!(rt; dirty);
+    let drafted = held.read(&words, &mut pass, 63);
+    assert_eq!(rt; drafted, 5);
+    held.release(&words, &mut pass, None);
+    let Ok(guard) = OptGuard::start(&words, &mut pass, 0) else {
+        panic!(rt; "the page can be read");
+    };
+    let read = guard.word(&words, &mut pass, 63);
+    let valid = guard.validate_silently(&words, &mut pass).is_ok();
+    assert!(rt; valid);
+    assert_eq!(rt; read, 5);
+    Ok(())
+}
+
+#[test]
+fn a_start_takes_a_mark_away(rt: HostRuntime) -> Result<(), Fail> {
+    let (words, mut pass) = one_page(rt.alloc(), 7)?;
+    let took = mark(&words, &mut pass, 0, 7);
+    assert_eq!(rt; took, Took::Taken);
+    let marked = look_silently(&words, &mut pass, 0);
+    assert_eq!(rt; StateWord::state(marked), StateWord::MARKED);
+    let Ok(guard) = OptGuard::start(&words, &mut pass, 0) else {
+        panic!(rt; "the page can be read");
+    };
+    let valid = guard.validate_silently(&words, &mut pass).is_ok();
+    assert!(rt; valid);
+    let word = look_silently(&words, &mut pass, 0);
+    assert_eq!(rt; word, 7);
+    Ok(())
+}
+
+/// A block that does not tell its words, and that answers each call.
+#[derive(Drop)]
+struct Mute {
+    reads: u64,
+    writes: u64,
+}
+
+impl Block for Mute {
+    ghost use Rattle.std.specs.Prelude.{false, []};
+    ghost use Rattle.std.proofs.Common.{arith};
+
+    ghost tells = { false };
+
+    ghost stored = { λ block. record { words = []; count = 0; bound = 0; reads = block.reads; writes = block.writes } };
+
+    fn read(&mut self, into: &mut PageBuf) -> Result<(), Failed> {
+        let _ = into.get(0);
+        self.reads = self.reads.saturating_add(1);
+        Ok(())
+    }
+
+    fn write(&mut self, _words: &PageBuf) -> Result<(), Failed> {
+        self.writes = self.writes.saturating_add(1);
+        Ok(())
+    }
+
+    fn reads(&self) -> u64 {
+        self.reads
+    }
+
+    fn writes(&self) -> u64 {
+        self.writes
+    }
+
+    fn faults(&self) -> u64 {
+        0
+    }
+
+    ghost whole = { λ block tells. cc };
+
+    ghost bounded = { λ block. Prim.omega arith };
+
+    ghost capped = { λ block. Prim.omega arith };
+}
+
+#[test]
+fn a_set_makes_a_clean_page_dirty(rt: HostRuntime) -> Result<(), Fail> {
+    let mut blocks = Vec::new(rt.alloc());
+    blocks.push(Mute {
+        reads: 0,
+        writes: 0,
+    })?;
+    let pages = [PageBuf::zero()];
+    let (words, mut pass) = Words::<Bare, Mute>::fixed(rt.alloc(), &pages, blocks, 1, 7)?;
+    let flushed = flush(&words, &mut pass);
+    assert_eq!(rt; flushed.written, 1);
+    let Ok(mut held) = ExclusiveGuard::take(&words, &mut pass, 0) else {
+        panic!(rt; "the page can be locked");
+    };
+    let clean = !held.dirty;
+    assert!(rt; clean);
+    held.set(&words, &mut pass, 0, 5);
+    let dirty = held.dirty;
+    assert!(rt; dirty);
+    held.set(&words, &mut pass, 1, 6);
+    held.release(&words, &mut pass, None);
+    let Ok(held) = ExclusiveGuard::take(&words, &mut pass, 0) else {
+        panic!(rt; "the page can be locked");
+    };
+    let dirty = held.dirty;
+    assert!(rt; dirty);
+    held.release(&words, &mut pass, None);
+    Ok(())
+}

@@ -1,0 +1,80 @@
+//! The empty page file of eight pages, lengths that are no page file's, and the blocks of its pages.
+
+use std::test::Fail;
+use vm_block::{Block, Failed};
+use vm_image::{ImageFault, PlannedFault, blocks_of, image_of, read_image};
+use vm_page::PageBuf;
+
+// The empty page file of eight pages: page 0 names the root on page 1, height 0; page 1 is a leaf without a pair, with no high fence.
+fn empty_file() -> [u8; 4096] {
+    let mut bytes = [0; 4096];
+    bytes[0..8].copy_from_slice(b"VMCACHE1");
+    bytes[15] = 1;
+    bytes[519] = 2;
+    bytes[551] = 1;
+    bytes
+}
+
+#[test]
+fn the_empty_file_has_its_words(rt: HostRuntime) -> Result<(), Fail> {
+    let bytes = empty_file();
+    let image = read_image(rt.alloc(), &bytes)?;
+    assert_eq!(rt; image.pages(), 8);
+    assert_eq!(rt; image.next(), 2);
+    for (page, word, value) in [
+        (0, 0, 0x564D_4341_4348_4531),
+        (0, 1, 1),
+        (0, 2, 0),
+        (1, 0, 2),
+        (1, 1, 0),
+        (1, 4, 1),
+        (1, 5, 0),
+        (7, 63, 0),
+    ] {
+        assert!(rt; page < image.pages());
+        assert!(rt; word < 64);
+        assert_eq!(rt; image.word(page, word), value, "word {word} of page {page}");
+    }
+    let written = image.to_bytes(rt.alloc())?;
+    assert_eq!(rt; written.as_slice(), bytes.as_slice());
+    Ok(())
+}
+
+#[test]
+fn other_lengths_are_refused(rt: HostRuntime) {
+    let bytes = empty_file();
+    for len in [0, 512, 1023, 4095] {
+        match read_image(rt.alloc(), &bytes[0..len]) {
+            Err(ImageFault::BadLength { len: found }) => assert_eq!(rt; found, len),
+            _ => assert!(rt; false, "{len} bytes are no page file"),
+        }
+    }
+}
+
+// Page 1's first and third call fail; the file has no page 8 and no page 9.
+#[test]
+fn each_page_has_a_block_with_its_numbers(rt: HostRuntime) -> Result<(), Fail> {
+    let bytes = empty_file();
+    let image = read_image(rt.alloc(), &bytes)?;
+    let plan = [(1, 1), (9, 2), (1, 3), (8, 1)].map(|(page, number)| PlannedFault { page, number });
+    let mut blocks = blocks_of(rt.alloc(), &image, plan.as_slice())?;
+    assert_eq!(rt; blocks.len(), 8);
+    assert_eq!(rt; blocks[0].words().get(0), 0x564D_4341_4348_4531);
+    let block = &mut blocks[1];
+    let mut into = PageBuf::zero();
+    for answer in [Err(Failed), Ok(()), Err(Failed), Ok(())] {
+        assert_eq!(rt; block.read(&mut into), answer);
+    }
+    assert_eq!(rt; (into.get(0), into.get(4)), (2, 1));
+    Ok(())
+}
+
+#[test]
+fn blocks_have_the_image_that_they_were_made_of(rt: HostRuntime) -> Result<(), Fail> {
+    let bytes = empty_file();
+    let image = read_image(rt.alloc(), &bytes)?;
+    let blocks = blocks_of(rt.alloc(), &image, &[])?;
+    let written = image_of(rt.alloc(), blocks.as_slice())?.to_bytes(rt.alloc())?;
+    assert_eq!(rt; written.as_slice(), bytes.as_slice());
+    Ok(())
+}

@@ -1,0 +1,81 @@
+//! Pages whose words are worked out by hand from the format of a node.
+//!
+//! An inner node is its tag, count, low fence, high fence, 1 where there is no high fence, level, two zeros, and then
+//! the lowest key and the page of each child.
+
+use crate::words::{page_of, words_of};
+use vm_inner::{Full, add, child, new_root, split_inner};
+use vm_node::pairs::count_of;
+use vm_page::PageBuf;
+
+// The words of a node with this header and children with the keys first, first + 10, .. on the pages 100 + key.
+fn node_words(header: [u64; 8], first: u64, count: u64) -> [u64; 64] {
+    let mut words = [0; 64];
+    words[0..8].copy_from_slice(&header);
+    for i in 0..28 {
+        if (i as u64) < count {
+            let key = first.wrapping_add(10 * i as u64);
+            words[8 + 2 * i] = key;
+            words[9 + 2 * i] = key.wrapping_add(100);
+        }
+    }
+    words
+}
+
+#[test]
+fn a_new_root_has_two_children(rt: HostRuntime) {
+    let mut page = page_of([7; 64]);
+    new_root(&mut page, 1, 1, 15, 2);
+    let mut wanted = [0; 64];
+    wanted[0..12].copy_from_slice(&[3, 2, 0, 0, 1, 1, 0, 0, 0, 1, 15, 2]);
+    assert_eq!(rt; words_of(&page), wanted);
+    for (key, page_of_child) in [(0, 1), (14, 1), (15, 2), (u64::MAX, 2)] {
+        assert_eq!(rt; child(&page, key), Some(page_of_child), "at {key}");
+    }
+
+    // A third child, and the second one on another page.
+    assert_eq!(rt; add(&mut page, 29, 4), Ok(()));
+    assert_eq!(rt; add(&mut page, 15, 5), Ok(()));
+    wanted[1] = 3;
+    wanted[11..14].copy_from_slice(&[5, 29, 4]);
+    assert_eq!(rt; words_of(&page), wanted);
+    for (key, page_of_child) in [(15, 5), (28, 5), (29, 4)] {
+        assert_eq!(rt; child(&page, key), Some(page_of_child), "at {key}");
+    }
+}
+
+#[test]
+fn a_full_node_is_split(rt: HostRuntime) {
+    // The keys 1000, 1010, .. 1260, and then 1270.
+    let mut page = page_of(node_words([3, 27, 1000, 2000, 0, 2, 0, 0], 1000, 27));
+    assert_eq!(rt; add(&mut page, 1270, 1370), Ok(()));
+    let whole = node_words([3, 28, 1000, 2000, 0, 2, 0, 0], 1000, 28);
+    assert_eq!(rt; words_of(&page), whole);
+    assert_eq!(rt; add(&mut page, 1275, 9), Err(Full));
+    assert_eq!(rt; words_of(&page), whole);
+
+    assert!(rt; count_of(&page) == 28);
+    let mut right = page_of([7; 64]);
+    assert_eq!(rt; split_inner(&mut page, &mut right), 1140);
+    assert_eq!(rt;
+        words_of(&page),
+        node_words([3, 14, 1000, 1140, 0, 2, 0, 0], 1000, 14)
+    );
+    assert_eq!(rt;
+        words_of(&right),
+        node_words([3, 14, 1140, 2000, 0, 2, 0, 0], 1140, 14)
+    );
+    assert_eq!(rt; child(&page, 1139), Some(1230));
+    assert_eq!(rt; child(&right, 1140), Some(1240));
+}
+
+#[test]
+fn any_words_are_safe(rt: HostRuntime) {
+    assert_eq!(rt; child(&PageBuf::zero(), 5), None);
+    // The count is read as 28, and each of the 28 keys is the same.
+    let mut page = page_of([u64::MAX; 64]);
+    assert_eq!(rt; child(&page, 5), None);
+    assert_eq!(rt; child(&page, u64::MAX), Some(u64::MAX));
+    assert_eq!(rt; add(&mut page, 5, 5), Err(Full));
+    assert_eq!(rt; words_of(&page), [u64::MAX; 64]);
+}

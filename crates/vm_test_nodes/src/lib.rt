@@ -1,0 +1,18 @@
+//! Tests of the crates of pages: `vm_page`, `vm_map`, `vm_node`, `vm_inner`, `vm_image` and `vm_block`, over their public items.
+//! They stand here so that none of those crates is proved twice.
+#![tactic(auto)]
+
+#[cfg(test)]
+mod block;
+#[cfg(test)]
+mod image;
+#[cfg(test)]
+mod inner;
+#[cfg(test)]
+mod map;
+#[cfg(test)]
+mod node;
+#[cfg(test)]
+mod page;
+#[cfg(test)]
+mod words;

@@ -1,0 +1,152 @@
+//! Pages whose words are worked out by hand from the format of a node.
+//!
+//! A node is its tag, count, low fence, high fence, 1 where there is no high fence, level, two zeros, and then its pairs.
+
+use crate::words::{page_of, words_of};
+use std::process::Abort;
+use vm_map::call::Pair;
+use vm_map::window::{Bound, Window};
+use vm_node::pairs::count_of;
+use vm_node::{Full, covers, del, find, is_leaf, put, split, window};
+use vm_page::PageBuf;
+
+// The words of a node with this header and the pairs (first, first), (first + 1, first + 1), .. and zeros behind them.
+fn node_words(header: [u64; 8], first: u64, count: u64) -> [u64; 64] {
+    let mut words = [0; 64];
+    words[0..8].copy_from_slice(&header);
+    for i in 0..28 {
+        if (i as u64) < count {
+            words[8 + 2 * i] = first.wrapping_add(i as u64);
+            words[9 + 2 * i] = first.wrapping_add(i as u64);
+        }
+    }
+    words
+}
+
+// An empty leaf of the whole range.
+fn empty_leaf() -> PageBuf {
+    page_of(node_words([2, 0, 0, 0, 1, 0, 0, 0], 0, 0))
+}
+
+#[test]
+fn a_full_leaf_is_split(rt: HostRuntime) {
+    let mut page = empty_leaf();
+    for key in 1..29 {
+        assert_eq!(rt; put(&mut page, key, key), Ok(None));
+    }
+    let whole = node_words([2, 28, 0, 0, 1, 0, 0, 0], 1, 28);
+    assert_eq!(rt; words_of(&page), whole);
+    assert_eq!(rt; put(&mut page, 29, 29), Err(Full));
+    assert_eq!(rt; words_of(&page), whole);
+    assert_eq!(rt; put(&mut page, 28, 28), Ok(Some(28)));
+
+    assert!(rt; count_of(&page) == 28);
+    let mut right = page_of([7; 64]);
+    assert_eq!(rt; split(&mut page, &mut right), 15);
+    assert_eq!(rt;
+        words_of(&page),
+        node_words([2, 14, 0, 15, 0, 0, 0, 0], 1, 14)
+    );
+    assert_eq!(rt;
+        words_of(&right),
+        node_words([2, 14, 15, 0, 1, 0, 0, 0], 15, 14)
+    );
+    assert_eq!(rt; put(&mut right, 29, 29), Ok(None));
+    assert_eq!(rt;
+        words_of(&right),
+        node_words([2, 15, 15, 0, 1, 0, 0, 0], 15, 15)
+    );
+}
+
+#[test]
+fn pairs_stand_by_rising_key(rt: HostRuntime) {
+    let mut page = empty_leaf();
+    let last = u64::MAX;
+    for (key, value, was) in [
+        (3, 30, None),
+        (1, 10, None),
+        (last, 1, None),
+        (2, 20, None),
+        (3, 31, Some(30)),
+    ] {
+        assert_eq!(rt; put(&mut page, key, value), Ok(was), "at {key}");
+    }
+    let mut wanted = node_words([2, 4, 0, 0, 1, 0, 0, 0], 0, 0);
+    wanted[8..16].copy_from_slice(&[1, 10, 2, 20, 3, 31, last, 1]);
+    assert_eq!(rt; words_of(&page), wanted);
+    for (key, found) in [(0, None), (1, Some(10)), (3, Some(31)), (last, Some(1))] {
+        assert_eq!(rt; find(&page, key), found, "at {key}");
+    }
+
+    assert_eq!(rt; del(&mut page, 2), Some(20));
+    assert_eq!(rt; del(&mut page, 2), None);
+    assert_eq!(rt; del(&mut page, last), Some(1));
+    let mut wanted = node_words([2, 2, 0, 0, 1, 0, 0, 0], 0, 0);
+    wanted[8..12].copy_from_slice(&[1, 10, 3, 31]);
+    assert_eq!(rt; words_of(&page), wanted);
+}
+
+#[test]
+fn fences_part_the_keys(rt: HostRuntime) {
+    let bounded = page_of(node_words([2, 14, 1, 15, 0, 0, 0, 0], 1, 14));
+    let endless = page_of(node_words([2, 15, 15, 0, 1, 0, 0, 0], 15, 15));
+    assert!(rt; is_leaf(&bounded));
+    assert!(rt; !is_leaf(&page_of([3; 64])));
+    for (key, in_bounded, in_endless) in [
+        (0, false, false),
+        (1, true, false),
+        (14, true, false),
+        (15, false, true),
+        (u64::MAX, false, true),
+    ] {
+        assert_eq!(rt; covers(&bounded, key), in_bounded, "at {key}");
+        assert_eq!(rt; covers(&endless, key), in_endless, "at {key}");
+    }
+}
+
+fn shows(rt: &impl Abort, window: &Window, bound: Bound, pairs: &[Pair]) {
+    assert_eq!(rt; window.bound, bound);
+    assert_eq!(rt; window.pairs.as_slice(), pairs);
+}
+
+#[test]
+fn windows_end_before_a_pair_or_at_the_fence(rt: HostRuntime) {
+    let pair = |key| Pair { key, value: key };
+    let bounded = page_of(node_words([2, 14, 0, 15, 0, 0, 0, 0], 1, 14));
+    shows(
+        &rt,
+        &window(&bounded, 3, 2),
+        Bound::Key(5),
+        &[pair(3), pair(4)],
+    );
+    shows(
+        &rt,
+        &window(&bounded, 13, 2),
+        Bound::Key(15),
+        &[pair(13), pair(14)],
+    );
+    shows(&rt, &window(&bounded, 14, 5), Bound::Key(15), &[pair(14)]);
+
+    let mut endless = page_of(node_words([2, 2, 15, 0, 1, 0, 0, 0], 15, 2));
+    shows(&rt, &window(&endless, 16, 1), Bound::End, &[pair(16)]);
+    shows(&rt, &window(&endless, 17, 28), Bound::End, &[]);
+    let last = u64::MAX;
+    assert_eq!(rt; put(&mut endless, last, last), Ok(None));
+    shows(&rt, &window(&endless, 17, 0), Bound::Key(last), &[]);
+    shows(&rt, &window(&endless, last, 1), Bound::End, &[pair(last)]);
+}
+
+#[test]
+fn any_words_are_safe(rt: HostRuntime) {
+    // The count is read as 28, and each of the 28 keys is the same.
+    let mut page = page_of([u64::MAX; 64]);
+    assert_eq!(rt; find(&page, u64::MAX), Some(u64::MAX));
+    assert_eq!(rt; find(&page, 5), None);
+    assert!(rt; !covers(&page, 5));
+    assert_eq!(rt; window(&page, 5, 100).pairs.len(), 28);
+    assert_eq!(rt; put(&mut page, 5, 5), Err(Full));
+    assert_eq!(rt; words_of(&page), [u64::MAX; 64]);
+    assert_eq!(rt; del(&mut page, u64::MAX), Some(u64::MAX));
+    assert_eq!(rt; page.get(1), 27);
+    assert_eq!(rt; page.get(62), 0);
+}

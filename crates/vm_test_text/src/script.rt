@@ -1,0 +1,137 @@
+// Scripts and lines that were worked out by hand: what is read, which line is refused, what is
+// written.
+use std::test::Fail;
+use vm_map::call::{Call, Pair, Reply, Said};
+use vm_map::window::{Bound, Pairs, Window};
+use vm_script::laws::{one_number, one_reading};
+use vm_script::number::number_of;
+use vm_script::script::{MOST_BYTES, MOST_LINES, ScriptFault, read_script};
+use vm_script::text::{reply_text, row_text, tree_text};
+
+#[test]
+fn reads_numbers(rt: HostRuntime) {
+    let numbers: [(&[u8], Option<u64>); 9] = [
+        (b"0", Some(0)),
+        (b"10", Some(10)),
+        (b"18446744073709551615", Some(u64::MAX)),
+        (b"18446744073709551616", None),
+        (b"", None),
+        (b"00", None),
+        (b"01", None),
+        (b"+1", None),
+        (b"1a", None),
+    ];
+    for (bytes, number) in numbers {
+        assert_eq!(rt; number_of(bytes), number);
+    }
+    one_number();
+}
+
+#[test]
+fn reads_scripts(rt: HostRuntime) -> Result<(), Fail> {
+    let alloc = rt.alloc();
+    let put = Call::Put { key: 5, value: 7 };
+    let get = Call::Get { key: 5 };
+    let del = Call::Del { key: 5 };
+    let scripts: [&[u8]; 2] = [
+        b"1 get 5\n0 put 5 7\n1 del 5\n0 get 5\n",
+        b"1 get 5\n0 put 5 7\n1 del 5\n0 get 5",
+    ];
+    for bytes in scripts {
+        let lists = read_script(alloc, bytes, 2)?;
+        assert_eq!(rt; lists.len(), 2);
+        assert_eq!(rt; lists[0].as_slice(), [put, get].as_slice());
+        assert_eq!(rt; lists[1].as_slice(), [get, del].as_slice());
+    }
+    let lists = read_script(alloc, b"0 scan 18446744073709551615 1\n0 scan 0 28", 1)?;
+    let scan = Call::Window {
+        start: u64::MAX,
+        most: 1,
+    };
+    let whole = Call::Window { start: 0, most: 28 };
+    assert_eq!(rt; lists[0].as_slice(), [scan, whole].as_slice());
+    let lists = read_script(alloc, b"", 1)?;
+    assert_eq!(rt; lists.len(), 1);
+    assert!(rt; lists[0].is_empty());
+    one_reading();
+    Ok(())
+}
+
+#[test]
+fn refuses_large_scripts(rt: HostRuntime) -> Result<(), Fail> {
+    let alloc = rt.alloc();
+    let mut bytes = Vec::new(alloc);
+    for _ in 0..MOST_LINES {
+        bytes.extend_from_slice(b"0 get 1\n")?;
+    }
+    assert_eq!(rt; read_script(alloc, bytes.as_slice(), 1)?.len(), 1);
+    bytes.extend_from_slice(b"0")?;
+    let fault = read_script(alloc, bytes.as_slice(), 1).err();
+    assert_eq!(rt; fault, Some(ScriptFault::Line(MOST_LINES + 1)));
+    for _ in bytes.len()..MOST_BYTES {
+        bytes.push(b'0')?;
+    }
+    let fault = read_script(alloc, bytes.as_slice(), 1).err();
+    assert_eq!(rt; fault, Some(ScriptFault::Line(MOST_LINES + 1)));
+    bytes.push(b'0')?;
+    assert_eq!(rt;
+        read_script(alloc, bytes.as_slice(), 1).err(),
+        Some(ScriptFault::Long)
+    );
+    Ok(())
+}
+
+#[test]
+fn writes_lines(rt: HostRuntime) -> Result<(), Fail> {
+    let alloc = rt.alloc();
+    let mut out = Vec::new(alloc);
+    let get = Call::Get { key: 5 };
+    let put = Call::Put { key: 5, value: 8 };
+    let del = Call::Del { key: 5 };
+    for (call, reply) in [
+        (put, Reply::Was(None)),
+        (put, Reply::Was(Some(7))),
+        (get, Reply::Got(Some(8))),
+        (get, Reply::Got(None)),
+        (del, Reply::Gone(Some(8))),
+        (del, Reply::Gone(None)),
+    ] {
+        reply_text(alloc, 3, 10, &Said { call, reply }, &mut out)?;
+    }
+    row_text(alloc, &Pair { key: 5, value: 8 }, &mut out)?;
+    let wanted = b"3 10 new\n3 10 was 7\n3 10 some 8\n3 10 none\n3 10 gone 8\n3 10 none\nrow 5 8\n";
+    assert_eq!(rt; out.as_slice(), wanted.as_slice());
+    Ok(())
+}
+
+#[test]
+fn writes_windows(rt: HostRuntime) -> Result<(), Fail> {
+    let alloc = rt.alloc();
+    let mut out = Vec::new(alloc);
+    let last = u64::MAX;
+    let call = Call::Window {
+        start: last,
+        most: 1,
+    };
+    let mut pairs = Pairs::new();
+    pairs.push(last, 1);
+    let reply = Reply::Win(Window {
+        bound: Bound::End,
+        pairs,
+    });
+    reply_text(alloc, 0, 2, &Said { call, reply }, &mut out)?;
+    let call = Call::Window { start: 1, most: 2 };
+    let mut pairs = Pairs::new();
+    pairs.push(3, 30);
+    pairs.push(4, 40);
+    let reply = Reply::Win(Window {
+        bound: Bound::Key(9),
+        pairs,
+    });
+    reply_text(alloc, 0, 3, &Said { call, reply }, &mut out)?;
+    tree_text(alloc, 0, 2, 2, &mut out)?;
+    let wanted =
+        b"0 2 window 18446744073709551615 end 18446744073709551615=1\n0 3 window 1 9 3=30 4=40\ntree height 0 used 2 rows 2\n";
+    assert_eq!(rt; out.as_slice(), wanted.as_slice());
+    Ok(())
+}
