@@ -1,5 +1,6 @@
 -- Lists of page numbers, read as sets.
-use Rattle.std.proofs.Common.{◌≡◌, ◌≢◌, ℕ, ◌+◌, eqb, Bool, true, false, List, [], ◌∷◌, length, if◌then◌else◌, refl, sym, ◌∙◌, arith}
+use Rattle.std.proofs.Common.{◌≡◌, ◌≢◌, ℕ, ◌+◌, ◌||◌, eqb, eq-eqb, Bool, true, false, List, [], ◌∷◌, ◌++◌, length, if◌then◌else◌, refl, ap, ◌∙◌, ⊎_elim, arith}
+use Rattle.std.proofs.lemmas.Bool.{cases_Bool, ne_eqb}
 use Rattle.std.proofs.lemmas.Bool.Decides.{nat_tests}
 use Rattle.vm_owner.specs.Numbers.{has, without, AreApart}
 
@@ -31,21 +32,35 @@ AreApart-without p (q ∷ qs) apart = go (eqb p q) refl (AreApart-without p qs a
     go true same rest = rest
     go false other rest = let ne : q ≢ p = grind (arith, nat_tests, other) in (has-without_other p q qs ne ∙ apart.0, rest)
 
--- lists with the same numbers have one length
-pub same_length : (a b : List ℕ) → AreApart a → AreApart b → ((p : ℕ) → has p a ≡ has p b) → length a ≡ length b
-same_length [] [] apart apart' same = refl
-same_length [] (y ∷ ys) apart apart' same = let none = same y in absurd (grind (arith, nat_tests, none))
-same_length (x ∷ xs) ys apart apart' same =
-    let there : has x ys ≡ true = sym (same x) ∙ has-first x xs in
-    let rest = same_length xs (without x ys) apart.1 (AreApart-without x ys apart') (λ p. each p (eqb p x) refl) in
-    omega (arith, rest, length-without x ys apart' there)
-  where
-    has-first : (x : ℕ) (xs : List ℕ) → has x (x ∷ xs) ≡ true
-    has-first x xs = grind (arith, nat_tests)
+-- of two lists, one behind the other
+pub has-both : (p : ℕ) (l m : List ℕ) → has p (l ++ m) ≡ (has p l || has p m)
+has-both p [] m = refl
+has-both p (q ∷ qs) m = ⊎_elim (λ t. rw t refl) (λ f. rw f (has-both p qs m)) (cases_Bool (eqb p q))
 
-    each : (p : ℕ) (b : Bool) → eqb p x ≡ b → has p xs ≡ has p (without x ys)
-    each p true test = let e : p ≡ x = grind (arith, nat_tests, test) in rw e (apart.0 ∙ sym (has-without_same x ys))
-    each p false test =
-        let other : p ≢ x = grind (arith, nat_tests, test) in
-        let tail : has p (x ∷ xs) ≡ has p xs = grind (arith, nat_tests, other) in
-        sym tail ∙ same p ∙ sym (has-without_other x p ys other)
+-- ---- a list with one more number at its end
+
+pub has-end : (l : List ℕ) (k p : ℕ) → p ≢ k → has p (l ++ k ∷ []) ≡ has p l
+has-end l k p ne = has-both p l (k ∷ []) ∙ rw (ne_eqb p k ne) (or-none (has p l))
+  where
+    or-none : (b : Bool) → (b || (false || false)) ≡ b
+    or-none true = refl
+    or-none false = refl
+
+pub has-last : (l : List ℕ) (k : ℕ) → has k (l ++ k ∷ []) ≡ true
+has-last l k = has-both k l (k ∷ []) ∙ rw (eq-eqb k k refl) (or-true (has k l))
+  where
+    or-true : (b : Bool) → (b || true) ≡ true
+    or-true true = refl
+    or-true false = refl
+
+pub apart-end : (l : List ℕ) (k : ℕ) → AreApart l → has k l ≡ false → AreApart (l ++ k ∷ [])
+apart-end [] k apart none = (refl, tt)
+apart-end (q ∷ qs) k apart none =
+    let ne : q ≢ k = grind (arith, nat_tests, none) in
+    let rest : has k qs ≡ false = grind (arith, nat_tests, none) in
+    (has-end qs k q ne ∙ apart.0, apart-end qs k apart.1 rest)
+
+-- two lists, one behind the other, without a number
+pub without-both : (p : ℕ) (l m : List ℕ) → without p (l ++ m) ≡ without p l ++ without p m
+without-both p [] m = refl
+without-both p (q ∷ qs) m = ⊎_elim (λ t. rw t (without-both p qs m)) (λ f. rw f (ap (λ (l : List ℕ). q ∷ l) (without-both p qs m))) (cases_Bool (eqb p q))

@@ -20,9 +20,8 @@ owed_after-same (c ∷ cs) due owed held same =
 
 -- of the pages that the pass holds, those in `due` alone are owed
 pub released_same : {S : Type 0} (kept : Kept S) (due : List ℕ) (cs : List Change) → Agrees kept.pages cs → ((p : ℕ) → has p (pages_of cs) ≡ true → has p due ≡ false → has p kept.owed ≡ false) → AreUnchanged due cs → released cs [] kept ≡ kept
-released_same kept due cs agrees held same = λ i. record {
+released_same kept due cs agrees held same = λ i. record kept {
   pages = changed-same cs due kept.pages agrees same i;
-  next = kept.next;
   owed = owed_after-same cs due kept.owed held same i;
   history = append-nil kept.history i;
 }

@@ -46,10 +46,10 @@ abbrev pub AreUnchanged : List ℕ → List Change → Type 0
 AreUnchanged due [] = Unit {0}
 AreUnchanged due (c ∷ cs) = (c.new ≡ c.old) × (has c.page due ≡ false) × AreUnchanged due cs
 
--- each page has 64 words, before and after
+-- each page has as many words after as before
 abbrev pub AreSized : List Change → Type 0
 AreSized [] = Unit {0}
-AreSized (c ∷ cs) = (length c.old ≡ 64) × (length c.new ≡ 64) × AreSized cs
+AreSized (c ∷ cs) = (length c.new ≡ length c.old) × AreSized cs
 
 -- how many entries a number has
 abbrev pub calls_of : {S : Type 0} → ℕ → List (Entry S) → ℕ
@@ -72,26 +72,21 @@ module _ {S : Type 0} where
 
   -- after pages were released together, at the group's first release
   abbrev pub released : List Change → List (Entry S) → Kept S → Kept S
-  released changes entries kept = record { pages = changed changes kept.pages; next = kept.next; owed = owed_after changes kept.owed; history = kept.history ++ entries }
+  released changes entries kept = record kept { pages = changed changes kept.pages; owed = owed_after changes kept.owed; history = kept.history ++ entries }
 
   -- after a validated read
   abbrev pub told : List (Entry S) → Kept S → Kept S
   told entries kept = record kept { history = kept.history ++ entries }
 
-  -- after a claim of n pages
+  -- after a claim of n pages, which are owed behind those that were
   abbrev pub claimed : ℕ → Kept S → Kept S
   claimed zero kept = kept
-  claimed (suc n) kept = claimed n (record kept { next = kept.next + 1; owed = kept.next ∷ kept.owed })
+  claimed (suc n) kept = claimed n (record kept { next = kept.next + 1; owed = kept.owed ++ kept.next ∷ [] })
 
   -- the next n pages are there, and all their words are 0
   pub record AreZero (kept : Kept S) (n : ℕ) : Type 0 where
     pub there : kept.next + n ≤ length kept.pages
     pub zero : (p i : ℕ) → kept.next ≤ p → p < kept.next + n → slice_index (page_at kept.pages p) i ≡ 0
-
-  -- the list has just the pages that are owed, each once
-  pub record IsOwedList (kept : Kept S) (owed : List ℕ) : Type 0 where
-    pub apart : AreApart owed
-    pub same : (p : ℕ) → has p owed ≡ has p kept.owed
 
   -- what stands at the start
   abbrev pub first_kept : Start → Kept S

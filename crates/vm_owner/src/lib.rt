@@ -18,7 +18,7 @@ pub trait Owner {
     ghost use Rattle.std.specs.Prelude.{ℕ, ◌<◌, List, length};
     ghost use Rattle.vm_page.specs.Pages.{page_at};
     ghost use Rattle.vm_owner.specs.declared.Entry.{Entry};
-    ghost use Rattle.vm_owner.specs.Kept.{Start, Kept, Change, Fits, IsTurn, released, told, claimed, AreZero, IsOwedList};
+    ghost use Rattle.vm_owner.specs.Kept.{Start, Kept, Change, Fits, IsTurn, released, told, claimed, AreZero};
 
     // What holds of the start and of what stands now.
     ghost keeps: { Start → Kept Self.Said → Type 0 };
@@ -37,9 +37,6 @@ pub trait Owner {
     ghost reads: { (start : Start) (kept : Kept Self.Said) (page : ℕ) (entries : List (Entry Self.Said)) → keeps start kept → page < length kept.pages → IsTurn kept.history entries → may_read start page (page_at kept.pages page) entries → keeps start (told entries kept) };
 
     ghost claims: { (start : Start) (kept : Kept Self.Said) (n : ℕ) → keeps start kept → AreZero kept n → keeps start (claimed n kept) };
-
-    // The order of the pages owed does not matter.
-    ghost reorders: { (start : Start) (kept : Kept Self.Said) (owed : List ℕ) → keeps start kept → IsOwedList kept owed → keeps start (record kept { owed = owed }) };
 
     ghost ties: { (start : Start) (kept : Kept Self.Said) (r p : ℕ) → keeps start kept → r < length kept.pages → p < length kept.pages → tied start r (page_at kept.pages r) p (page_at kept.pages p) };
 }
@@ -64,8 +61,6 @@ impl Owner for Bare {
     ghost reads = { λ _ _ _ _ _ _ _ _. tt };
 
     ghost claims = { λ _ _ _ _ _. tt };
-
-    ghost reorders = { λ _ _ _ _ _. tt };
 
     ghost ties = { λ _ _ _ _ _ _ _. tt };
 }

@@ -27,7 +27,7 @@ use Rattle.vm_rule.specs.Reading.{block_of, last_in, world_of}
 use Rattle.vm_rule.specs.Rule.{TranslationHolds, TieHolds, WereWords, began_of, is_pending, KnowsLists, KnowsPages, FaultsFit, ListsFit, PartsFit, snapshot_of, Ruled}
 use Rattle.vm_rule.proofs.Runs.{event_law}
 use Rattle.vm_rule.proofs.Views.{at-bound, at-there, block-same}
-use Rattle.vm_rule.proofs.Entries.{each-map, append-none, starts-self, entries-both, mine-in, not-whole, total-same}
+use Rattle.vm_rule.proofs.Entries.{each-map, append-none, starts-self, entries-both, entries-none, entries-within, mine-in, not-whole, total-same}
 use Rattle.vm_rule.proofs.Heard.{Added, added, each-both, starts-more, next-both}
 use Rattle.vm_rule.proofs.Were.{were-moves, were-did}
 use Rattle.vm_rule.proofs.Known.{histories-outside, translation-moves, tie-moves, any-gone, known-else}
@@ -101,7 +101,7 @@ module _ {X B : Type 0} (stored : B → Stored) (keeps : Start → Kept X → Ty
           same_start = sh.same_start ∙ g.same_start;
           saw = starts-self (r.releases ++ own);
           heard = ([], sym (append-none (r.history ++ entries)), refl);
-          told = ((r.releases ++ own, refl), (r.history ++ entries, refl));
+          told = ((r.releases ++ own, refl), (r.history ++ entries, refl, entries-none (r.history ++ entries)), λ k e. absurd (true≢false (sym e)));
           mine = sh.mine ∙ (λ i. mine-in v.used r.history v.seen v.mine g.mine g.heard i ++ sym new.own i) ∙ sym (entries-both v.used r.history entries) ∙ ap (λ ns. entries_by ns (r.history ++ entries)) (sym sh.used);
           fresh = λ k x. let old = ap (has k) (sym sh.fresh) ∙ x in entries-both (k ∷ []) r.history entries ∙ (λ i. g.fresh k old i ++ new.own_fresh k old i);
           idle = λ no_used _. absurd (let none : length v.used ≡ 0 = ap length (sym sh.used ∙ no_used) in omega arith);
@@ -116,7 +116,15 @@ module _ {X B : Type 0} (stored : B → Stored) (keeps : Start → Kept X → Ty
             ap (λ (l : List (Entry X)). l ++ entries) g.heard.1 ∙ append_assoc u.seen g.heard.0 entries,
             entries-both u.used g.heard.0 entries ∙ (λ i. g.heard.2 i ++ new.others j u t.0 t.1 i),
           );
-          told = (starts-more r.releases u.told_releases own g.told.0, starts-more r.history u.told entries g.told.1);
+          told = (
+            starts-more r.releases u.told_releases own g.told.0,
+            (
+              g.told.1.0 ++ entries,
+              ap (λ (l : List (Entry X)). l ++ entries) g.told.1.1 ∙ append_assoc u.told g.told.1.0 entries,
+              entries-both u.told_used g.told.1.0 entries ∙ (λ i. g.told.1.2 i ++ entries-within u.told_used u.used entries g.told.2 (new.others j u t.0 t.1) i),
+            ),
+            g.told.2,
+          );
           mine = g.mine;
           fresh = λ k x. entries-both (k ∷ []) r.history entries ∙ (λ i. g.fresh k x i ++ new.others_fresh j u t.0 t.1 k x i);
           idle = g.idle;

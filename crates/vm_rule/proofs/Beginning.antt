@@ -22,6 +22,8 @@ use Rattle.vm_rule.specs.Begun.{HasShape, unborn, begun, begin_play, Stands}
 use Rattle.vm_rule.proofs.Found.{same-word}
 use Rattle.vm_rule.proofs.Bringing.{rested}
 use Rattle.vm_rule.proofs.FirstRule.{only-view}
+use Rattle.vm_rule.proofs.Sound.{is-sound}
+use Rattle.vm_rule.specs.Sound.{Sound}
 
 only-place : {A : Type 0} (x : A) (j : ℕ) (y : A) → get_elem? (x ∷ []) j ≡ some y → j ≡ 0
 only-place x zero y e = refl
@@ -78,7 +80,7 @@ module _ {X B : Type 0} (stored : B → Stored) (keeps : Start → Kept X → Ty
   begins : (start : Origin) (s : Table (Option B) (View X)) (id : ℕ) (slots : ℕ) (m : Step (Option B)) → HasShape shape start
       → (s.views ≡ unborn shape ∷ []) × Ruled stored keeps tied start tells (record s { views = first_view start ∷ [] }) × (snapshot_of stored start s ≡ shape.began.snapshot)
       → 1 ≤ shape.pages → id ≡ 0
-      → (w : View X) × Stands stored keeps tied shape tells (stepped s 0 (slice_index s.words 0) id [] w stays) × (w ≡ begun (unborn shape))
+      → (w : View X) × Stands stored keeps tied shape tells (stepped s 0 (slice_index s.words 0) id [] w stays) × (w ≡ begun (unborn shape)) × Sound w
   begins start s id slots m is h page here =
       let w : View X = after start is s h.1 h.2 h.0 page in (
         w,
@@ -90,6 +92,7 @@ module _ {X B : Type 0} (stored : B → Stored) (keeps : Start → Kept X → Ty
               (begins-ruled start is s h.1 h.2 h.0 page));
         },
         after-is start is s h.1 h.2 h.0 page,
+        is-sound stored keeps tied start tells (record { words = s.words; homes = s.homes; views = w ∷ [] }) (begins-ruled start is s h.1 h.2 h.0 page) 0 w refl refl,
       )
 
   pub begin_allows : (id slots : ℕ) (m : Step (Option B)) → 1 ≤ shape.pages → Allows (Stands stored keeps tied shape tells) slots id (unborn shape, []) 0 (λ n. n) (begin_play m (unborn shape, []))
@@ -99,12 +102,9 @@ module _ {X B : Type 0} (stored : B → Stored) (keeps : Start → Kept X → Ty
       (λ t.
       let here : id ≡ 0 = only-place (unborn shape) id (unborn shape) (subst (λ l. get_elem? l id ≡ some (unborn shape)) t.0 there) in
       let b = begins h.start s id slots m h.is_shape t page here in
-      (b.0, stays, tt, b.1, (b.2, refl)))
+      (b.0, stays, tt, b.1, (b.2, b.3, refl)))
       h.rule
 
   -- the same, of a seat that has this view
   pub begin-allows-as : (id slots : ℕ) (me : Me (Option B) (View X)) → me ≡ (unborn shape, []) → 1 ≤ shape.pages → Allows (Stands stored keeps tied shape tells) slots id me 0 (λ n. n) (begin_play (step slots 0 0 0 maybe.none) me)
   begin-allows-as id slots me e page = subst (λ (y : Me (Option B) (View X)). Allows (Stands stored keeps tied shape tells) slots id y 0 (λ n. n) (begin_play (step slots 0 0 0 maybe.none) y)) (sym e) (begin_allows id slots (step slots 0 0 0 maybe.none) page)
-
-  pub begin-leaves : (me me' : Me (Option B) (View X)) → me ≡ (unborn shape, []) → (me'.0 ≡ begun me.0) × (me'.1 ≡ me.1) → me' ≡ (begun (unborn shape), [])
-  begin-leaves me me' e t = λ i. ((t.0 ∙ ap (λ (y : Me (Option B) (View X)). begun y.0) e) i, (t.1 ∙ ap (λ (y : Me (Option B) (View X)). y.1) e) i)

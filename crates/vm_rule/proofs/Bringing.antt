@@ -22,12 +22,15 @@ use Rattle.vm_rule.specs.declared.view.Snapshot.{Snapshot}
 use Rattle.vm_rule.specs.declared.view.View.{View}
 use Rattle.vm_rule.specs.Puts.{listed, put_at, chosen}
 use Rattle.vm_rule.specs.Layout.{Within, index_of}
-use Rattle.vm_rule.specs.Views.{StartsWith, seat_of}
+use Rattle.vm_rule.specs.Views.{StartsWith, seat_of, entries_by, Hears}
 use Rattle.vm_rule.specs.Reading.{block_of, core_of, world_of, histories_of, last_in}
 use Rattle.vm_rule.specs.Rule.{KnowsPage, no_held, is_pending, is_owed, logical, began_of, KnowsLists, KnowsPages, Ruled}
+use Rattle.vm_rule.specs.Sound.{Sound}
 use Rattle.vm_rule.specs.Brought.{set_if, set_block, IsFoundAt, IsStepOf, brought, BringsWith, Brings}
-use Rattle.vm_rule.proofs.Views.{any-same}
+use Rattle.vm_rule.proofs.Views.{any-same, at-bound}
 use Rattle.vm_rule.proofs.Entries.{append-none}
+use Rattle.atomic_table.proofs.Lists.{set_here}
+use Rattle.vm_rule.proofs.Sound.{is-sound}
 use Rattle.vm_rule.proofs.Worlds.{last-is, draft-is, core-still, world-still}
 use Rattle.vm_rule.proofs.Adding.{after_more, became_more, ShowsMore, became, after_step, Shows, adds, adds_more}
 
@@ -42,8 +45,9 @@ module _ {X B : Type 0} (stored : B → Stored) (keeps : Start → Kept X → Ty
       → get_elem? s.views id ≡ some v → v.live ≡ true
       → IsFoundAt did.found (index_of start did.at) s.words → words ≡ set_if did.wrote (index_of start did.at) s.words
       → blocks ≡ set_block block (listed start.pages (block_of stored s.homes s.views))
+      → Sound (brought inner (r.releases ++ own) (r.history ++ entries) (record { words = words; blocks = blocks }) did)
       → BringsWith did block own entries v inner (brought inner (r.releases ++ own) (r.history ++ entries) (record { words = words; blocks = blocks }) did)
-  brings_more s r id v words blocks block own entries did inner there live found left moved =
+  brings_more s r id v words blocks block own entries did inner there live found left moved sound =
       let g : KnowsLists start r.releases r.history v = r.heard id v there live in
       let k : KnowsPages tied start (world_of stored start r.releases r.drafts s) (is_pending s.views) v = r.known id v there live in
       let now : Snapshot = record { words = words; blocks = blocks } in
@@ -54,7 +58,8 @@ module _ {X B : Type 0} (stored : B → Stored) (keeps : Start → Kept X → Ty
         view = λ i. brought inner (g.saw.1 i ++ own) (g.heard.1 i ++ entries) now did;
         foreign = g.heard.2;
         kept = λ p locks. (λ i. last_in (g.same_start i) (sym g.saw.1 i) p) ∙ last-is start r.releases r.drafts p ∙ sym (k.latest p locks);
-        told = (subst (λ l. StartsWith l v.told_releases) g.saw.1 g.told.0, subst (λ l. StartsWith l v.told) g.heard.1 g.told.1);
+        told = (subst (λ l. StartsWith l v.told_releases) g.saw.1 g.told.0, subst (λ l. Hears l v.told_used v.told) g.heard.1 g.told.1);
+        sound = sound;
         alone = λ whole current.
             let same = r.parts.whole id v there live whole current in (
               none-behind v.releases g.saw.0 (same.0 ∙ g.saw.1),
@@ -68,9 +73,10 @@ module _ {X B : Type 0} (stored : B → Stored) (keeps : Start → Kept X → Ty
   pub brings : (s : Table (Option B) (View X)) (r : Ruled stored keeps tied start tells s) (id : ℕ) (v : View X) (words : List ℕ) (own : List Release) (entries : List (Entry X)) (did : Did) (inner : View X)
       → get_elem? s.views id ≡ some v → v.live ≡ true
       → IsFoundAt did.found (index_of start did.at) s.words → words ≡ set_if did.wrote (index_of start did.at) s.words
+      → Sound (after_step stored keeps tied start tells s r words own entries did inner)
       → Brings did own entries v inner (after_step stored keeps tied start tells s r words own entries did inner)
-  brings s r id v words own entries did inner there live found left =
-      brings_more s r id v words (listed start.pages (block_of stored s.homes s.views)) None own entries did inner there live found left refl
+  brings s r id v words own entries did inner there live found left sound =
+      brings_more s r id v words (listed start.pages (block_of stored s.homes s.views)) None own entries did inner there live found left refl sound
 
   -- a step that shows its own part keeps the rule and tells what it brings
   pub steps_more : (s : Table (Option B) (View X)) (r : Ruled stored keeps tied start tells s) (id : ℕ) (v : View X) (words : List ℕ) (homes : List (maybe.Option (Option B))) (blocks : List Stored) (block : Option (ℕ × Stored)) (drafts : ℕ → List ℕ) (own : List Release) (entries : List (Entry X)) (did : Did) (inner : View X)
@@ -80,10 +86,13 @@ module _ {X B : Type 0} (stored : B → Stored) (keeps : Start → Kept X → Ty
       → ShowsMore stored keeps tied start tells s r id v words homes blocks drafts own entries did inner
       → Ruled stored keeps tied start tells (became_more stored keeps tied start tells s r id v words homes blocks drafts own entries did inner)
       × BringsWith did block own entries v inner (after_more stored keeps tied start tells s r id v words homes blocks drafts own entries did inner)
-  steps_more s r id v words homes blocks block drafts own entries did inner there live number left moved sh = (
-    adds_more stored keeps tied start tells s r id v words homes blocks drafts own entries did inner there live number sh,
-    brings_more s r id v words blocks block own entries did inner there live sh.found left moved,
-  )
+  steps_more s r id v words homes blocks block drafts own entries did inner there live number left moved sh =
+      let ruled = adds_more stored keeps tied start tells s r id v words homes blocks drafts own entries did inner there live number sh in
+      let w : View X = after_more stored keeps tied start tells s r id v words homes blocks drafts own entries did inner in (
+        ruled,
+        brings_more s r id v words blocks block own entries did inner there live sh.found left moved
+            (is-sound stored keeps tied start tells (became_more stored keeps tied start tells s r id v words homes blocks drafts own entries did inner) ruled id w (set_here s.views id w (at-bound s.views id v there)) (sh.live ∙ live)),
+      )
 
   -- a step that is an event of its pass, and shows its own part, keeps the rule and tells what it brings
   pub steps : (s : Table (Option B) (View X)) (r : Ruled stored keeps tied start tells s) (id : ℕ) (v : View X) (words : List ℕ) (drafts : ℕ → List ℕ) (own : List Release) (entries : List (Entry X)) (did : Did) (inner : View X) (e : Event)
@@ -93,9 +102,12 @@ module _ {X B : Type 0} (stored : B → Stored) (keeps : Start → Kept X → Ty
       → Ruled stored keeps tied start tells (became stored keeps tied start tells s words id (after_step stored keeps tied start tells s r words own entries did inner))
       × Brings did own entries v inner (after_step stored keeps tied start tells s r words own entries did inner)
   steps s r id v words drafts own entries did inner e there live number actor left sh =
-      let old : World = world_of stored start r.releases r.drafts s in (
-        adds stored keeps tied start tells s r id v words drafts own entries did inner e there live number (subst (λ a. Leaves a old (world_after old e)) actor (leave_others old e r.inv sh.legal)) sh,
-        brings s r id v words own entries did inner there live sh.found left,
+      let old : World = world_of stored start r.releases r.drafts s in
+      let w : View X = after_step stored keeps tied start tells s r words own entries did inner in
+      let ruled = adds stored keeps tied start tells s r id v words drafts own entries did inner e there live number (subst (λ a. Leaves a old (world_after old e)) actor (leave_others old e r.inv sh.legal)) sh in (
+        ruled,
+        brings s r id v words own entries did inner there live sh.found left
+            (is-sound stored keeps tied start tells (became stored keeps tied start tells s words id w) ruled id w (set_here s.views id w (at-bound s.views id v there)) (sh.live ∙ live)),
       )
 
   -- a step that is an event which changes nothing, with a view that keeps all but what any step brings

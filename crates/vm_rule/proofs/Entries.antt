@@ -1,5 +1,5 @@
 -- The history, the numbers of the passes, and what is noted.
-use Rattle.std.proofs.Common.{ℕ, ◌≡◌, ◌≢◌, ◌+◌, ◌≤◌, List, [], ◌∷◌, ◌++◌, zero, suc, refl, sym, ap, ◌∙◌, arith, ⊎_elim, slice_set}
+use Rattle.std.proofs.Common.{ℕ, true, false, true≢false, ◌≡◌, ◌≢◌, ◌+◌, ◌≤◌, ◌||◌, eqb, if◌then◌else◌, List, [], ◌∷◌, ◌++◌, length, zero, suc, refl, sym, ap, ◌∙◌, arith, ⊎_elim, slice_set}
 use Rattle.std.proofs.lemmas.Bool.{cases_Bool, cases_lt, lt-ltb, le-ltb}
 use mathlib.Core.Option as maybe
 use mathlib.Core.Option.{some, some-injective}
@@ -21,11 +21,45 @@ append-none (x ∷ xs) = ap (λ (t : List _). x ∷ t) (append-none xs)
 pub starts-self : {A : Type 0} (l : List A) → StartsWith l l
 starts-self l = ([], sym (append-none l))
 
+pub has-joined : (n : ℕ) (l m : List ℕ) → has n (l ++ m) ≡ (has n l || has n m)
+has-joined n [] m = refl
+has-joined n (x ∷ xs) m = ⊎_elim (λ t. rw t refl) (λ f. rw f (has-joined n xs m)) (cases_Bool (eqb n x))
+
 module _ {X : Type 0} where
   pub entries-both : (ns : List ℕ) (a b : List (Entry X)) → entries_by ns (a ++ b) ≡ entries_by ns a ++ entries_by ns b
   entries-both ns [] b = refl
   entries-both ns (e ∷ es) b =
       ⊎_elim (λ t. rw t (ap (λ (l : List (Entry X)). e ∷ l) (entries-both ns es b))) (λ f. rw f (entries-both ns es b)) (cases_Bool (has e.number ns))
+
+  -- no number, no entry
+  pub entries-none : (l : List (Entry X)) → entries_by [] l ≡ []
+  entries-none [] = refl
+  entries-none (x ∷ xs) = entries-none xs
+
+  -- an entry with one of the numbers stands first, or none does
+  none-first : (ns : List ℕ) (x : Entry X) (xs : List (Entry X)) → entries_by ns (x ∷ xs) ≡ [] → (has x.number ns ≡ false) × (entries_by ns xs ≡ [])
+  none-first ns x xs e =
+      ⊎_elim
+      (λ t. absurd (let long : length (entries_by ns (x ∷ xs)) ≡ suc (length (entries_by ns xs)) = rw t refl in let none : length (entries_by ns (x ∷ xs)) ≡ 0 = ap length e in omega arith))
+      (λ f. (f, sym (ap (λ b. if b then x ∷ entries_by ns xs else entries_by ns xs) f) ∙ e))
+      (cases_Bool (has x.number ns))
+
+  -- where none of the numbers has an entry, none of some of them has
+  pub entries-within : (ns ms : List ℕ) (l : List (Entry X)) → ((k : ℕ) → has k ns ≡ true → has k ms ≡ true) → entries_by ms l ≡ [] → entries_by ns l ≡ []
+  entries-within ns ms [] within e = refl
+  entries-within ns ms (x ∷ xs) within e =
+      let k = none-first ms x xs e in
+      let out : has x.number ns ≡ false = ⊎_elim (λ t. absurd (true≢false (sym (within x.number t) ∙ k.0))) (λ f. f) (cases_Bool (has x.number ns)) in
+      rw out (entries-within ns ms xs within k.1)
+
+  -- where neither numbers have an entry, both together have none
+  pub entries-union : (ns ms : List ℕ) (l : List (Entry X)) → entries_by ns l ≡ [] → entries_by ms l ≡ [] → entries_by (ns ++ ms) l ≡ []
+  entries-union ns ms [] e f = refl
+  entries-union ns ms (x ∷ xs) e f =
+      let k = none-first ns x xs e in
+      let m = none-first ms x xs f in
+      let out : has x.number (ns ++ ms) ≡ false = has-joined x.number ns ms ∙ (λ i. k.0 i || m.0 i) in
+      rw out (entries-union ns ms xs k.1 m.1)
 
   -- the pass's own entries are those of the whole history
   pub mine-in : (ns : List ℕ) (history seen mine : List (Entry X)) → mine ≡ entries_by ns seen → (rest : List (Entry X)) × (history ≡ seen ++ rest) × (entries_by ns rest ≡ []) → mine ≡ entries_by ns history

@@ -15,6 +15,7 @@ use Rattle.vm_core.proofs.Upd.{upd-same, upd-other}
 use Rattle.vm_core.proofs.Locks.{locked-from_owner, sum_below-at, shared-state}
 use Rattle.vm_owner.specs.Kept.{Start, Kept}
 use Rattle.vm_owner.specs.Numbers.{has, without}
+pub use Rattle.vm_owner.proofs.NumberLemmas.{has-both}
 use Rattle.vm_owner.proofs.NumberLemmas.{has-without_same, has-without_other}
 use Rattle.vm_block.specs.declared.stored.Stored.{Stored}
 use Rattle.vm_rule.specs.declared.view.Origin.{Origin}
@@ -27,10 +28,6 @@ use Rattle.vm_rule.proofs.Views.{at-bound, out-same, block-same}
 use Rattle.vm_rule.proofs.Found.{seat-here}
 
 -- ---- lists of numbers
-
-pub has-both : (n : ℕ) (l m : List ℕ) → has n (l ++ m) ≡ (has n l || has n m)
-has-both n [] m = refl
-has-both n (x ∷ xs) m = ⊎_elim (λ t. rw t refl) (λ f. rw f (has-both n xs m)) (cases_Bool (eqb n x))
 
 -- the list without one number, as a function
 pub has-left : (f n : ℕ) (l : List ℕ) → has n (without f l) ≡ upd (λ k. has k l) f false n

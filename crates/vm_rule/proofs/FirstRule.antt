@@ -152,7 +152,7 @@ module _ (X : Type 0) {B : Type 0} (stored : B → Stored) (keeps : Start → Ke
       same_start = refl;
       saw = ([], refl);
       heard = ([], refl, refl);
-      told = (([], refl), ([], refl));
+      told = (([], refl), ([], refl, refl), λ k e. absurd (true≢false (sym e)));
       mine = refl;
       fresh = λ k _. refl;
       idle = λ none _. absurd (let e : 1 ≡ 0 = ap length none in omega arith);

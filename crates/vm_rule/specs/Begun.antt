@@ -12,6 +12,7 @@ use Rattle.vm_rule.specs.Views.{numbers, view_from, first_view}
 use Rattle.vm_rule.specs.Rule.{snapshot_of, Ruled}
 use Rattle.vm_rule.specs.Brought.{brought}
 use Rattle.vm_rule.specs.Log.{did_load}
+use Rattle.vm_rule.specs.Sound.{Sound}
 
 -- the shape of a table without pages
 abbrev pub no_shape : Shape
@@ -43,7 +44,7 @@ module _ {X : Type 0} where
 
   -- what that step tells
   abbrev pub begin_play : {S : Type 0} → Step S → Me S (View X) → ℕ → Me S (View X) → Type 0
-  begin_play step m found m' = (m'.0 ≡ begun m.0) × (m'.1 ≡ m.1)
+  begin_play step m found m' = (m'.0 ≡ begun m.0) × Sound m'.0 × (m'.1 ≡ m.1)
 
   module _ {B : Type 0} (stored : B → Stored) (keeps : Start → Kept X → Type 0) (tied : Start → ℕ → List ℕ → ℕ → List ℕ → Type 0) where
     -- the table meets the rule; or it has its first words and blocks, and would meet the rule with the first pass's view

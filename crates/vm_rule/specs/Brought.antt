@@ -9,8 +9,9 @@ use Rattle.vm_rule.specs.declared.view.Release.{Release}
 use Rattle.vm_rule.specs.declared.view.Snapshot.{Snapshot}
 use Rattle.vm_rule.specs.declared.view.View.{View}
 use Rattle.vm_rule.specs.Layout.{index_of}
-use Rattle.vm_rule.specs.Views.{StartsWith, IsLocking, seat_of, entries_by, IsWhole}
+use Rattle.vm_rule.specs.Views.{StartsWith, IsLocking, seat_of, entries_by, Hears, IsWhole}
 use Rattle.vm_rule.specs.Reading.{last_in, last_of}
+use Rattle.vm_rule.specs.Sound.{Sound}
 
 -- the number, if there is one, at this place of the list
 abbrev pub set_if : Option ℕ → ℕ → List ℕ → List ℕ
@@ -46,7 +47,7 @@ module _ {X : Type 0} where
   -- the view with both lists, the table and the step in it
   abbrev pub brought : View X → List Release → List (Entry X) → Snapshot → Did → View X
   brought v releases seen snapshot did =
-      record v { releases = releases; seen = seen; told_releases = []; told = []; current = true; snapshot = snapshot; log = v.log ++ did ∷ [] }
+      record v { releases = releases; seen = seen; told_releases = []; told = []; told_used = []; current = true; snapshot = snapshot; log = v.log ++ did ∷ [] }
 
   -- A step of the pass with the view v, which made the changes of `inner` and added these releases and entries, leaves the view w.
   -- Behind what the pass had seen of the two lists stands what others added, and then its own.
@@ -59,8 +60,10 @@ module _ {X : Type 0} where
     pub foreign : entries_by v.used others ≡ []
     -- a page that the pass has locked was released by nobody else
     pub kept : (p : ℕ) → IsLocking (seat_of v p) → last_in v.start (v.releases ++ between) p ≡ last_of v p
-    -- what was learned by a join is in the lists
-    pub told : StartsWith (v.releases ++ between) v.told_releases × StartsWith (v.seen ++ others) v.told
+    -- what was learned by a join is in the lists, and those from which it was learned have made no entry since
+    pub told : StartsWith (v.releases ++ between) v.told_releases × Hears (v.seen ++ others) v.told_used v.told
+    -- what the rule keeps of the view
+    pub sound : Sound w
     -- a pass that is alone sees its own steps only
     pub alone : IsWhole v → v.current ≡ true → (between ≡ []) × (others ≡ []) × IsStepOf v.start did block v.snapshot snapshot
 

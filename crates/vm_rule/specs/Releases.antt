@@ -53,3 +53,12 @@ module _ {X : Type 0} where
   pub record EvictTold (p version : ℕ) (v w : View X) : Type 0 where
     pub brings : Brings (did_store (places.State p) (word_of EVICTED (version + 1))) (record { page = p; version = version + 1; words = draft_of v p } ∷ []) [] v (evicted_view p v) w
     pub same : v.start.tells ≡ true → draft_of v p ≡ (last_of v p).words
+
+  -- p is released to a share of the pass
+  abbrev pub downgraded_view : ℕ → View X → View X
+  downgraded_view p v =
+      record v { seats = put p (record (seat_of v p) { shares = 1; exclusive = false }) v.seats; owed = without p v.owed; next = next_after p v.next }
+
+  -- its draft is its next version
+  pub record DowngradeTold (p version : ℕ) (v w : View X) : Type 0 where
+    pub brings : Brings (did_store (places.State p) (word_of 1 (version + 1))) (record { page = p; version = version + 1; words = draft_of v p } ∷ []) [] v (downgraded_view p v) w

@@ -27,7 +27,7 @@ use Rattle.vm_rule.specs.declared.view.Translation.{Translation}
 use Rattle.vm_rule.specs.declared.view.View.{View}
 use Rattle.vm_rule.specs.Puts.{put_at, listed, chosen}
 use Rattle.vm_rule.specs.Layout.{width, at_state, at_next, words_of}
-use Rattle.vm_rule.specs.Views.{StartsWith, Each, times_noted, PARTS, one_part, IsLocking, may_call, seat_of, draft_of, entries_by, total, any, owns, IsWhole, spent}
+use Rattle.vm_rule.specs.Views.{StartsWith, Each, times_noted, PARTS, one_part, IsLocking, may_call, seat_of, draft_of, entries_by, Hears, total, any, owns, IsWhole, spent}
 use Rattle.vm_rule.specs.Reading.{no_block, home, out_of, block_of, last_in, last_of, histories_of, world_of, core_of}
 
 -- the last count of a block
@@ -136,8 +136,9 @@ module _ {X : Type 0} where
     pub same_start : v.start ≡ start
     -- both lists begin with what the pass has seen of them, and what it has not seen of the history has none of its numbers
     pub saw : StartsWith releases v.releases
-    pub heard : (rest : List (Entry X)) × (history ≡ v.seen ++ rest) × (entries_by v.used rest ≡ [])
-    pub told : StartsWith releases v.told_releases × StartsWith history v.told
+    pub heard : Hears history v.used v.seen
+    -- so do they with what it learned by a join; the numbers from which it learned it are its own
+    pub told : StartsWith releases v.told_releases × Hears history v.told_used v.told × ((k : ℕ) → has k v.told_used ≡ true → has k v.used ≡ true)
     -- its own entries are those with one of its numbers, all, in order; a fresh part has none
     pub mine : v.mine ≡ entries_by v.used v.seen
     pub fresh : (k : ℕ) → has k v.fresh ≡ true → entries_by (k ∷ []) history ≡ []

@@ -67,6 +67,10 @@ module _ {X : Type 0} where
   entries_by ns [] = []
   entries_by ns (e ∷ es) = if has e.number ns then e ∷ entries_by ns es else entries_by ns es
 
+  -- the history goes on from what was seen, and none of these numbers has an entry behind it
+  abbrev pub Hears : List (Entry X) → List ℕ → List (Entry X) → Type 0
+  Hears history ns seen = (rest : List (Entry X)) × (history ≡ seen ++ rest) × (entries_by ns rest ≡ [])
+
   abbrev pub total : (View X → ℕ) → List (View X) → ℕ
   total f [] = 0
   total f (v ∷ vs) = f v + total f vs
@@ -109,6 +113,7 @@ module _ {X : Type 0} where
         fresh = fresh;
         told_releases = [];
         told = [];
+        told_used = [];
         current = false;
         snapshot = record { words = []; blocks = [] };
         log = [];

@@ -6,6 +6,7 @@ ghost use Rattle.vm_rule.specs.Begun.{Stands, begun, unborn};
 ghost use Rattle.vm_rule.specs.Fixed.{counts_of};
 ghost use Rattle.vm_rule.specs.Layout.{width_of};
 ghost use Rattle.vm_rule.specs.Puts.{listed};
+ghost use Rattle.vm_rule.specs.Sound.{Sound};
 ghost use Rattle.vm_rule.specs.Views.{view_of};
 
 use crate::view::{Shape, View};
@@ -99,6 +100,7 @@ pub(crate) fn first_step<U: Owner, B: Block>(
     requires seat { seat.old.me ≡ (unborn table.now.shared.key, []) }
     ensures table { seat.new.table_id ≡ seat.old.table_id }
     ensures seat { seat.new.me ≡ (begun (unborn table.now.shared.key), []) }
+    ensures sound { Sound seat.new.me.0 }
 {
     table.shared.load::<Begin<U>>(seat, 0);
 }

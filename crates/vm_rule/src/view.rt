@@ -130,7 +130,8 @@ pub struct View<X> {
     pub ties: LinkedList<Tie>,
     /// The members of a group that is released in part: those still to be released.
     pub pending: LinkedList<u64>,
-    /// The pages claimed for a group that is not released yet.
+    /// The pages claimed for a group that is not released yet. Only which they are counts: here the pages of a later claim stand in front, in what
+    /// the layer above keeps they stand behind.
     pub owed: LinkedList<u64>,
     /// The next word, where the pass loaded it while it held that very page.
     pub next: Option<u64>,
@@ -143,6 +144,8 @@ pub struct View<X> {
     /// Beginnings of the two lists that were learned from a pass that was joined, until the next step.
     pub told_releases: LinkedList<Release>,
     pub told: LinkedList<Entry<X>>,
+    /// The numbers of the pass from which `told` was learned: none of them has an entry behind it.
+    pub told_used: LinkedList<u64>,
     /// The pass made a step since it was split or joined, and the table was then `snapshot`.
     pub current: bool,
     pub snapshot: Snapshot,

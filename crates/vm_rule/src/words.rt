@@ -1,6 +1,9 @@
 // The shared table, and a caller's token for it.
 ghost use Rattle.std.specs.Prelude.{◌≡◌, ◌≤◌, length, true, []};
 ghost use Rattle.vm_rule.specs.Layout.{width_of};
+ghost use denote.Struct.Props.{props};
+ghost use Rattle.vm_rule.specs.Props.{AreApart-prop, AreCounted-prop, AreNext-prop, numbered-prop};
+ghost use Rattle.vm_rule.specs.Sound.{Sound};
 ghost use Rattle.vm_rule.specs.Views.{view_of};
 
 use crate::view::{Shape, View};
@@ -38,6 +41,7 @@ pub struct Pass<U: Owner> {
     pub ghost one: { length badge.views ≡ 1 },
     pub ghost live: { (view_of badge.views).live ≡ true },
     pub ghost settled: { ((view_of badge.views).told_releases ≡ []) × ((view_of badge.views).told ≡ []) },
+    pub ghost sound: { Sound (view_of badge.views) } by { Prim.hlevel (props, AreApart-prop, AreNext-prop, AreCounted-prop, numbered-prop) },
 }
 
 impl<U: Owner, B: Block> Words<U, B> {
@@ -61,7 +65,8 @@ impl<U: Owner, B: Block> Words<U, B> {
 }
 
 impl<U: Owner> Pass<U> {
-    fn into_badge(self) -> Badge<View<U::Said>>
+    /// The token without what is known of it.
+    pub fn into_badge(self) -> Badge<View<U::Said>>
         ensures { result ≡ self.badge }
     {
         let Pass { badge } = self;

@@ -48,7 +48,7 @@ module _ {X B : Type 0} (stored : B → Stored) (keeps : Start → Kept X → Ty
   history-begins : (r other : Ruled stored keeps tied start tells s) → StartsWith other.history r.history
   history-begins r other =
       begins-with r.history (λ v. v.seen) (λ v. v.told) other.history
-      (λ j v there on. let k = other.heard j v there on in ((k.heard.0, k.heard.1), k.told.1)) r.parts.spent refl refl r.lists.longest
+      (λ j v there on. let k = other.heard j v there on in ((k.heard.0, k.heard.1), (k.told.1.0, k.told.1.1))) r.parts.spent refl refl r.lists.longest
 
   pub lists-one : (r other : Ruled stored keeps tied start tells s) → (r.releases ≡ other.releases) × (r.history ≡ other.history)
   lists-one r other = (

@@ -6,6 +6,7 @@ use Rattle.vm_core.specs.Fn.{upd}
 use Rattle.vm_core.proofs.Upd.{upd-same, upd-other}
 use Rattle.vm_owner.specs.Numbers.{has, without, AreApart}
 use Rattle.vm_owner.specs.Kept.{Change, pages_of, Agrees, changed}
+pub use Rattle.vm_owner.proofs.NumberLemmas.{has-end, apart-end}
 use Rattle.vm_owner.proofs.NumberLemmas.{has-without, has-without_same, has-without_other}
 use Rattle.vm_rule.specs.Puts.{listed, chosen}
 use Rattle.vm_rule.specs.Views.{Each}
@@ -15,20 +16,6 @@ use Rattle.vm_rule.proofs.Parts.{listed-upd, listed-same}
 use Rattle.vm_step.proofs.Logical.{page-listed, length-listed}
 
 -- ---- lists of numbers
-
-pub has-end : (l : List ℕ) (k q : ℕ) → q ≢ k → has q (l ++ k ∷ []) ≡ has q l
-has-end l k q ne = has-both q l (k ∷ []) ∙ rw (ne_eqb q k ne) (or-none (has q l))
-  where
-    or-none : (b : Bool) → (b || (false || false)) ≡ b
-    or-none true = refl
-    or-none false = refl
-
-pub apart-end : (l : List ℕ) (k : ℕ) → AreApart l → has k l ≡ false → AreApart (l ++ k ∷ [])
-apart-end [] k apart none = (refl, tt)
-apart-end (q ∷ qs) k apart none =
-    let ne : q ≢ k = grind (arith, nat_tests, none) in
-    let rest : has k qs ≡ false = grind (arith, nat_tests, none) in
-    (has-end qs k q ne ∙ apart.0, apart-end qs k apart.1 rest)
 
 -- what the first of two lists has, both have
 pub has-left_of : (q : ℕ) (a b : List ℕ) → has q a ≡ true → has q (a ++ b) ≡ true
@@ -70,22 +57,6 @@ chosen-has (suc n) f q l =
     or-none : (b : Bool) → (b || false) ≡ b
     or-none true = refl
     or-none false = refl
-
-pub chosen-apart : (n : ℕ) (f : ℕ → Bool) → AreApart (chosen n f)
-unfolding chosen
-chosen-apart zero f = tt
-chosen-apart (suc n) f =
-    ⊎_elim
-    (λ t. rw t (apart-end (chosen n f) n (chosen-apart n f) (chosen-below n f n (omega arith))))
-    (λ x. rw x (append-none (chosen n f) (chosen-apart n f)))
-    (cases_Bool (f n))
-  where
-    append-none : (l : List ℕ) → AreApart l → AreApart (l ++ [])
-    append-none l apart = rw (nil l) apart
-      where
-        nil : (l : List ℕ) → l ++ [] ≡ l
-        nil [] = refl
-        nil (x ∷ xs) = ap (λ (t : List ℕ). x ∷ t) (nil xs)
 
 pub chosen-same : (n : ℕ) (f g : ℕ → Bool) → ((q : ℕ) → q < n → f q ≡ g q) → chosen n f ≡ chosen n g
 unfolding chosen

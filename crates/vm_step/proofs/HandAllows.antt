@@ -1,6 +1,5 @@
 -- The hand is moved on: what the step shows of itself, that it keeps the rule, and what it tells.
 use Rattle.std.proofs.Common.{ℕ, ◌≡◌, ◌+◌, ◌*◌, ◌%◌, ◌<◌, List, [], length, refl, sym, ap, subst, ◌∙◌, slice_set, slice_index, true, Bool, Option, arith}
-use Rattle.std.specs.Int.{div_ceil}
 use mathlib.Core.Option as maybe
 use mathlib.Core.Option.{some}
 use lib.ListN.{get_elem?}
@@ -14,7 +13,7 @@ use Rattle.vm_rule.specs.declared.view.Origin.{Origin}
 use Rattle.vm_rule.specs.declared.view.Place.TheVariants as places
 use Rattle.vm_rule.specs.declared.view.Shape.{Shape}
 use Rattle.vm_rule.specs.declared.view.View.{View}
-use Rattle.vm_rule.specs.Layout.{index_of, bundles_of}
+use Rattle.vm_rule.specs.Layout.{index_of}
 use Rattle.vm_rule.specs.Rule.{Ruled}
 use Rattle.vm_rule.specs.Begun.{HasShape, Stands}
 use Rattle.vm_rule.specs.Log.{did_change}
@@ -27,14 +26,6 @@ use Rattle.vm_rule.proofs.Views.{at-bound}
 use Rattle.vm_step.specs.Plays.{hand_play}
 use Rattle.vm_step.proofs.PlaysAt.{plays-at}
 use Rattle.vm_step.proofs.OtherWords.{other-shows}
-
--- the place of the hand, behind the words of the bundles and the next word
-abbrev pub hand-place : ℕ → ℕ → ℕ → ℕ
-hand-place pages frames bundles = 3 * pages + 64 * frames + bundles + 1
-
--- the bundles of so many frames
-bundles-are : (frames : ℕ) → div_ceil frames 64 ≡ bundles_of frames
-bundles-are frames = omega arith
 
 -- the hand as the machine adds to it
 hand-adds : (n : ℕ) → (n + 64) % 18446744073709551616 ≡ hand_more n
@@ -65,17 +56,12 @@ module _ {X B : Type 0} (stored : B → Stored) (keeps : Start → Kept X → Ty
       (_, k.0, record { brings = k.1 })
 
 module _ {X B : Type 0} (stored : B → Stored) (keeps : Start → Kept X → Type 0) (tied : Start → ℕ → List ℕ → ℕ → List ℕ → Type 0) (shape : Shape) (tells : Bool) where
-  hand-at : (start : Origin) → HasShape shape start → (pages frames bundles : ℕ) → pages ≡ shape.pages → frames ≡ shape.frames → bundles ≡ div_ceil frames 64 → index_of start places.Hand ≡ hand-place pages frames bundles
-  hand-at start has pages frames bundles p f b =
-      let same : start.frames ≡ frames = has.frames ∙ sym f in
-      (λ i. hand-place ((has.pages ∙ sym p) i) (same i) (bundles_of (same i))) ∙ ap (hand-place pages frames) (sym (b ∙ bundles-are frames))
-
   -- so it does of every table that stands
-  pub hand-allows : (slots id : ℕ) (me : Me (Option B) (View X)) (pages frames bundles : ℕ) → me.0.live ≡ true → 0 < length me.0.used → pages ≡ shape.pages → frames ≡ shape.frames → bundles ≡ div_ceil frames 64
-      → Allows (Stands stored keeps tied shape tells) slots id me (hand-place pages frames bundles) (λ n. (n + 64) % 18446744073709551616) (hand_play shape tells (step slots (hand-place pages frames bundles) 64 0 maybe.none) me)
-  hand-allows slots id me pages frames bundles live number p f b =
-      plays-at stored keeps tied shape tells slots id me (hand-place pages frames bundles) (λ start. index_of start places.Hand) (λ n. (n + 64) % 18446744073709551616) HandTold live
-      (λ start has. hand-at start has pages frames bundles p f b)
+  pub hand-allows : (slots id : ℕ) (me : Me (Option B) (View X)) (place : ℕ) → me.0.live ≡ true → 0 < length me.0.used → ((start : Origin) → HasShape shape start → index_of start places.Next ≡ place)
+      → Allows (Stands stored keeps tied shape tells) slots id me (place + 1) (λ n. (n + 64) % 18446744073709551616) (hand_play shape tells (step slots (place + 1) 64 0 maybe.none) me)
+  hand-allows slots id me place live number is =
+      plays-at stored keeps tied shape tells slots id me (place + 1) (λ start. index_of start places.Hand) (λ n. (n + 64) % 18446744073709551616) HandTold live
+      (λ start has. ap (λ n. n + 1) (is start has))
       (λ start has s r there _.
       let i : ℕ = index_of start places.Hand in
       subst (λ x. (w : View X) × Ruled stored keeps tied start tells (became stored keeps tied start tells s (slice_set s.words i x) id w) × HandTold (slice_index s.words i) me.0 w) (sym (hand-adds (slice_index s.words i)))

@@ -12,6 +12,8 @@ pub mod ReleaseWays
 pub mod ReleaseFacts
 pub mod ReleaseKnown
 pub mod ReleaseShows
+pub mod KeptReleases
+pub mod OwedPages
 pub mod ReleaseOwner
 pub mod ReleaseAllows
 pub mod Validated
@@ -19,6 +21,7 @@ pub mod Said
 pub mod NewTies
 pub mod LookShows
 pub mod LookTold
+pub mod KeptLooks
 pub mod LookAllows
 pub mod LookEvents
 pub mod StoreEvents
@@ -63,6 +66,12 @@ pub mod TakeShows
 pub mod TakeAllows
 pub mod GiveAllows
 pub mod HandAllows
+pub mod NextShows
+pub mod Numbers
+pub mod NextWord
+pub mod NLoadAllows
+pub mod ClaimAllows
+pub mod NextEvents
 pub mod MarkAllows
 pub mod WriteLockAllows
 pub mod UpgradeAllows
@@ -75,3 +84,15 @@ pub mod Device
 pub mod Alone
 pub mod Saws
 pub mod Evidenced
+pub mod Filling
+pub mod Traces
+pub mod KnowingAll
+pub mod CatchAllows
+pub mod JoinAllows
+pub mod SplitAllows
+pub mod Together
+pub mod NoEvents
+pub mod MeetAllows
+pub mod Still
+pub mod MetPasses
+pub mod HeldFrames

@@ -22,12 +22,13 @@ use Rattle.vm_step.proofs.Here.{is-of}
 use Rattle.vm_step.proofs.Standing.{allows-any}
 use Rattle.vm_step.proofs.LookShows.{look-entries, look-did, look-inner, look-after, look-shows}
 use Rattle.vm_step.proofs.LookTold.{look-told}
+use Rattle.vm_step.proofs.KeptLooks.{look-kept}
 
 module _ {X B : Type 0} (stored : B → Stored) (keeps : Start → Kept X → Type 0) (tied : Start → ℕ → List ℕ → ℕ → List ℕ → Type 0) (tells : Bool) (may_read : Start → ℕ → List ℕ → List (Entry X) → Type 0)
     (reads : (start : Start) (kept : Kept X) (q : ℕ) (entries : List (Entry X)) → keeps start kept → q < length kept.pages → IsTurn kept.history entries → may_read start q (page_at kept.pages q) entries → keeps start (told entries kept))
     (ties : (start : Start) (kept : Kept X) (q p : ℕ) → keeps start kept → q < length kept.pages → p < length kept.pages → tied start q (page_at kept.pages q) p (page_at kept.pages p)) where
-  look-ruled : (start : Origin) (slots id : ℕ) (me : Me (Option B) (View X)) (p : ℕ) (said : Option X) (shape : Shape) → me.0.live ≡ true → 0 < length me.0.used → p < start.pages → MayTell may_read p said me.0 → HasShape shape start
-      → Allows (Ruled stored keeps tied start tells) slots id me p (λ n. n) (look_play shape tells tied said (step slots p 0 0 none) me)
+  look-ruled : (start : Origin) (slots id : ℕ) (me : Me (Option B) (View X)) (p : ℕ) (said : Option X) (shape : Shape) → me.0.live ≡ true → 0 < length me.0.used → p < start.pages → MayTell tied may_read p said me.0 → HasShape shape start
+      → Allows (Ruled stored keeps tied start tells) slots id me p (λ n. n) (look_play shape tells keeps tied said (step slots p 0 0 none) me)
   look-ruled start slots id me p said shape live number l may shaped s r _ there _ =
       let v : View X = me.0 in
       let w : View X = look-after stored keeps tied start tells s r id v p said in
@@ -38,11 +39,11 @@ module _ {X B : Type 0} (stored : B → Stored) (keeps : Start → Kept X → Ty
         nothing,
         tt,
         subst (λ words. Ruled stored keeps tied start tells (became stored keeps tied start tells s words id w)) (sym (same-word s.words p)) k.0,
-        (is-of stored keeps tied start tells s r id v there live shape shaped, look-told stored keeps tied start tells s r id v p said there live l ties k.1, refl),
+        (is-of stored keeps tied start tells s r id v there live shape shaped, look-told stored keeps tied start tells s r id v p said there live l ties k.1, look-kept stored keeps tied start tells s r id v p said there live l may_read reads ties may number, refl),
       )
 
-  pub look_allows : (shape : Shape) (slots id : ℕ) (me : Me (Option B) (View X)) (p : ℕ) (said : Option X) → me.0.live ≡ true → 0 < length me.0.used → p < shape.pages → MayTell may_read p said me.0
-      → Allows (Stands stored keeps tied shape tells) slots id me p (λ n. n) (look_play shape tells tied said (step slots p 0 0 none) me)
+  pub look_allows : (shape : Shape) (slots id : ℕ) (me : Me (Option B) (View X)) (p : ℕ) (said : Option X) → me.0.live ≡ true → 0 < length me.0.used → p < shape.pages → MayTell tied may_read p said me.0
+      → Allows (Stands stored keeps tied shape tells) slots id me p (λ n. n) (look_play shape tells keeps tied said (step slots p 0 0 none) me)
   look_allows shape slots id me p said live number l may =
-      allows-any stored keeps tied shape tells slots id me p (λ n. n) (look_play shape tells tied said (step slots p 0 0 none) me) live
+      allows-any stored keeps tied shape tells slots id me p (λ n. n) (look_play shape tells keeps tied said (step slots p 0 0 none) me) live
       (λ start shaped. look-ruled start slots id me p said shape live number (subst (λ n. p < n) (sym shaped.pages) l) may shaped)

@@ -75,7 +75,7 @@ module _ {X B : Type 0} (stored : B → Stored) (keeps : Start → Kept X → Ty
     core-looked : core_of stored start (became stored keeps tied start tells s s.words id look-after) ≡ (world_after look-before (Look id p)).core
     core-looked = ap (λ (w : World). w.core) world-looked
 
-    pending-looked : is_pending (slice_set s.views id look-after) ≡ is_pending s.views
+    pub pending-looked : is_pending (slice_set s.views id look-after) ≡ is_pending s.views
     pending-looked = fun_ext (λ q. any-same (λ y. has q y.pending) s.views id v look-after there refl)
 
     owed-looked : is_owed (slice_set s.views id look-after) ≡ is_owed s.views
@@ -98,7 +98,7 @@ module _ {X B : Type 0} (stored : B → Stored) (keeps : Start → Kept X → Ty
         q)
 
     module _ (may_read : Start → ℕ → List ℕ → List (Entry X) → Type 0) (reads : (start : Start) (kept : Kept X) (q : ℕ) (entries : List (Entry X)) → keeps start kept → q < length kept.pages → IsTurn kept.history entries → may_read start q (page_at kept.pages q) entries → keeps start (told entries kept))
-        (ties : (start : Start) (kept : Kept X) (q p : ℕ) → keeps start kept → q < length kept.pages → p < length kept.pages → tied start q (page_at kept.pages q) p (page_at kept.pages p)) (may : MayTell may_read p said v) (number : 0 < length v.used) where
+        (ties : (start : Start) (kept : Kept X) (q p : ℕ) → keeps start kept → q < length kept.pages → p < length kept.pages → tied start q (page_at kept.pages q) p (page_at kept.pages p)) (may : MayTell tied may_read p said v) (number : 0 < length v.used) where
       pub look-shows : Shows stored keeps tied start tells s r id v s.words r.drafts [] look-entries look-did look-inner (Look id p)
       look-shows =
           let k : KnowsPages tied start look-before (is_pending s.views) v = r.known id v there live in
@@ -148,5 +148,5 @@ module _ {X B : Type 0} (stored : B → Stored) (keeps : Start → Kept X → Ty
               owed = chosen start.pages (sym owed-looked i);
               history = r.history ++ look-entries;
             })
-                (keeps-said stored keeps tied start tells s r id v there live p l said may_read reads may number t kept);
+                (keeps-said stored keeps tied start tells s r id v there live p l said may_read reads ties may number t kept);
           }

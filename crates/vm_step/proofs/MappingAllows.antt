@@ -23,6 +23,7 @@ use Rattle.vm_rule.specs.Layout.{index_of}
 use Rattle.vm_rule.specs.Reading.{core_of}
 use Rattle.vm_rule.specs.Rule.{Ruled}
 use Rattle.vm_rule.specs.Begun.{HasShape, Stands}
+use Rattle.vm_rule.specs.Sound.{Sound}
 use Rattle.vm_rule.specs.Brought.{Brings}
 use Rattle.vm_rule.specs.Log.{did_store}
 use Rattle.vm_rule.specs.Mappings.{clean_in, dirty_in, MayPutInto, installed_view, InstallTold, StandsClean, cleared_view, ClearTold, StandsIn, dirty_view, DirtyTold, IsWritten, clean_view, CleanTold}
@@ -34,11 +35,12 @@ use Rattle.vm_step.proofs.MappingShows.{words_with, view_then}
 use Rattle.vm_step.proofs.InstallShows.{install-shows, clear-shows, clear-told}
 use Rattle.vm_step.proofs.DirtyShows.{dirty-shows, clean-shows}
 
--- the view after a step lives as the step's own changes say, and what was learned by a join stands in its lists
+-- the view after a step lives as the step's own changes say, what was learned by a join stands in its lists, and it is as the rule keeps it
 pub settled : {X : Type 0} → {did : Did} → {own : List Release} → {entries : List (Entry X)} → {v inner w : View X} → (views : List (View X)) → Brings did own entries v inner w → view_of views ≡ w → inner.live ≡ true
-    → ((view_of views).live ≡ true) × ((view_of views).told_releases ≡ []) × ((view_of views).told ≡ [])
+    → ((view_of views).live ≡ true) × ((view_of views).told_releases ≡ []) × ((view_of views).told ≡ []) × Sound (view_of views)
 settled {X} views brings is live =
-    subst (λ (y : View X). (y.live ≡ true) × (y.told_releases ≡ []) × (y.told ≡ [])) (sym (is ∙ brings.view)) (live, refl, refl)
+    let k = subst (λ (y : View X). (y.live ≡ true) × (y.told_releases ≡ []) × (y.told ≡ [])) (sym (is ∙ brings.view)) (live, refl, refl) in
+    (k.0, k.1, k.2, subst Sound (sym is) brings.sound)
 
 module _ {X B : Type 0} (stored : B → Stored) (keeps : Start → Kept X → Type 0) (tied : Start → ℕ → List ℕ → ℕ → List ℕ → Type 0) (tells : Bool) where
   -- the table with a translation word written, meets the rule, and the step tells

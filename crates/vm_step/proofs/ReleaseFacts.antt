@@ -33,7 +33,8 @@ use Rattle.vm_rule.proofs.Found.{seat-here}
 use Rattle.vm_rule.proofs.Views.{at-bound}
 use Rattle.vm_rule.proofs.Worlds.{last-is, draft-is, release-here, release-else, release_of}
 use Rattle.vm_step.specs.Conditions.{IsClaimed, IsMember, IsFirst, IsLater, IsNotOut, IsToldOf}
-use Rattle.vm_step.proofs.ReleaseWays.{StandsFor, word_left, state_left, left-state, left-version, event_left, page_left, left-core, left-legal, left-step}
+use Rattle.vm_step.proofs.Traces.{found-below, written-below}
+use Rattle.vm_step.proofs.ReleaseWays.{Way, StandsFor, seat_left, left_view, word_left, state_left, left-state, left-version, event_left, page_left, left-core, left-legal, left-step}
 use Rattle.vm_step.proofs.ReleaseGroup.{Members, first-members, later-members, each-has}
 
 -- a release that a pass may make of a page, on a table that meets the rule
@@ -50,10 +51,10 @@ pub record Releasing {X B : Type 0} (stored : B → Stored) (keeps : Start → K
   pub said : Option X
   pub inside : p < start.pages
   pub below : version < MAX_VERSION
-  -- whether it becomes Evicted, and what the pass knows of it
-  pub evicts : Bool
+  -- how it is released, and what the pass knows of it
+  pub way : Way
   pub owns : (seat_of v p).exclusive ≡ true
-  pub stands : StandsFor evicts (put_at no_held v.held p).mapping
+  pub stands : StandsFor way (put_at no_held v.held p).mapping
   pub told : IsToldOf v p
   pub home : IsNotOut v p
   pub at_last : version ≡ (last_of v p).version
@@ -77,13 +78,17 @@ module _ {X B : Type 0} {stored : B → Stored} {keeps : Start → Kept X → Ty
   pub unclaimed : (q : ℕ) → q < start.pages → (seat_of rel.v q).exclusive ≡ true → IsClaimed rel.v q → start.tells ≡ true → old.core.next ≤ q → draft_of rel.v q ≡ (old.histories q).last.words
   unclaimed q l owns (inl same) t le = same ∙ last-known q owns
   unclaimed q l owns (inr (inl written)) t le = absurd (written (last-known q owns ∙ rel.r.zero t q le l))
-  unclaimed q l owns (inr (inr (inl early))) t le =
+  unclaimed q l owns (inr (inr (inl (inr known)))) t le =
+      let high : known.0 ≤ old.core.next = ⊎_elim (λ given. found-below old rel.v.log known.0 mine.words given) (λ written. written-below old rel.v.log known.0 mine.words written) known.1 in
+      let under = known.2 in
+      absurd (omega (arith, high, under, le))
+  unclaimed q l owns (inr (inr (inl (inl early)))) t le =
       absurd (let same = ap (λ (o : Origin). o.next) (rel.r.heard rel.id rel.v rel.there rel.live).same_start in let risen = rel.r.risen in omega (arith, early, same, risen, le))
   unclaimed q l owns (inr (inr (inr due))) t le = absurd (let under = (mine.owed q due).2 in omega (arith, under, le))
 
   -- the word that it leaves
   abbrev pub word : ℕ
-  word = word_left rel.evicts (rel.version + 1)
+  word = word_left rel.way (rel.version + 1)
 
   abbrev pub words : List ℕ
   words = slice_set rel.s.words (index_of start (places.State rel.p)) word
@@ -96,7 +101,7 @@ module _ {X B : Type 0} {stored : B → Stored} {keeps : Start → Kept X → Ty
   releases = rel.r.releases ++ own ∷ []
 
   abbrev pub inner : View X
-  inner = released_view rel.p rel.rest rel.said rel.v
+  inner = left_view rel.way rel.p rel.rest rel.said rel.v
 
   abbrev pub left : View X
   left = after_step stored keeps tied start tells rel.s rel.r words (own ∷ []) (entries_of rel.v rel.said) (did_store (places.State rel.p) word) inner
@@ -114,25 +119,25 @@ module _ {X B : Type 0} {stored : B → Stored} {keeps : Start → Kept X → Ty
   own-is i = record { page = rel.p; version = next-version i + 1; words = draft-known rel.p rel.owns i }
 
   abbrev pub event : Event
-  event = event_left rel.evicts rel.id rel.p
+  event = event_left rel.way rel.id rel.p
 
   -- the page after it
   abbrev pub page : Page
-  page = page_left rel.evicts (old.core.pages rel.p) rel.id
+  page = page_left rel.way (old.core.pages rel.p) rel.id
 
-  pub word-state : state_of word ≡ state_left rel.evicts
-  word-state = left-state rel.evicts (rel.version + 1) (omega (arith, rel.below))
+  pub word-state : state_of word ≡ state_left rel.way
+  word-state = left-state rel.way (rel.version + 1) (omega (arith, rel.below))
 
   pub word-version : version_of word ≡ (old.core.pages rel.p).version + 1
-  word-version = left-version rel.evicts (rel.version + 1) (omega (arith, rel.below)) ∙ ap (λ n. n + 1) version-is
+  word-version = left-version rel.way (rel.version + 1) (omega (arith, rel.below)) ∙ ap (λ n. n + 1) version-is
 
   pub world-is : world_of stored start releases rel.r.drafts new ≡ world_after old event
   world-is =
       ap (λ o. world_of stored start (rel.r.releases ++ o ∷ []) rel.r.drafts new) own-is
-      ∙ left-step stored start rel.evicts rel.s rel.r.releases rel.r.drafts rel.id rel.v left rel.p word rel.r.wide.0 rel.inside rel.there refl refl refl refl word-state word-version
+      ∙ left-step stored start rel.way rel.s rel.r.releases rel.r.drafts rel.id rel.v left rel.p word rel.r.wide.0 rel.inside rel.there refl refl refl refl word-state word-version
 
   core-is : core_of stored start new ≡ on_page old.core rel.p page
-  core-is = ap (λ (y : World). y.core) world-is ∙ left-core rel.evicts old rel.id rel.p
+  core-is = ap (λ (y : World). y.core) world-is ∙ left-core rel.way old rel.id rel.p
 
   pub next-is : (core_of stored start new).next ≡ old.core.next
   next-is = ap (λ (c : State). c.next) core-is
@@ -157,11 +162,11 @@ module _ {X B : Type 0} {stored : B → Stored} {keeps : Start → Kept X → Ty
   history-else q ne = release-else start rel.r.releases rel.r.drafts own q ne
 
   -- the seats after it
-  pub seat-p : seat_of inner rel.p ≡ record (seat_of rel.v rel.p) { exclusive = false }
-  seat-p = upd-same (seat_of rel.v) rel.p (record (seat_of rel.v rel.p) { exclusive = false })
+  pub seat-p : seat_of inner rel.p ≡ seat_left rel.way (seat_of rel.v rel.p)
+  seat-p = upd-same (seat_of rel.v) rel.p (seat_left rel.way (seat_of rel.v rel.p))
 
   pub seat-else : (q : ℕ) → q ≢ rel.p → seat_of inner q ≡ seat_of rel.v q
-  seat-else q ne = upd-other (seat_of rel.v) rel.p (record (seat_of rel.v rel.p) { exclusive = false }) q ne
+  seat-else q ne = upd-other (seat_of rel.v) rel.p (seat_left rel.way (seat_of rel.v rel.p)) q ne
 
   pub still-owns : (q : ℕ) → q ≢ rel.p → (seat_of rel.v q).exclusive ≡ true → (seat_of inner q).exclusive ≡ true
   still-owns q ne owns = ap (λ (y : Seat). y.exclusive) (seat-else q ne) ∙ owns
@@ -171,9 +176,9 @@ module _ {X B : Type 0} {stored : B → Stored} {keeps : Start → Kept X → Ty
 
   pub release-legal : Legal old.core event
   release-legal =
-      left-legal rel.evicts old.core rel.id rel.p (at-bound rel.s.views rel.id rel.v rel.there) rel.inside
+      left-legal rel.way old.core rel.id rel.p (at-bound rel.s.views rel.id rel.v rel.there) rel.inside
       (ap (λ (y : Seat). y.exclusive) (seat-here stored start rel.s rel.id rel.p rel.v rel.inside rel.there) ∙ rel.owns)
-      (subst (StandsFor rel.evicts) ((mine.knows rel.p).calls calls-p).0 rel.stands)
+      (subst (StandsFor rel.way) ((mine.knows rel.p).calls calls-p).0 rel.stands)
       (sym ((mine.knows rel.p).calls calls-p).1 ∙ rel.told ∙ ((mine.knows rel.p).calls calls-p).3)
 
   -- the group

@@ -17,10 +17,12 @@ use Rattle.vm_rule.specs.Puts.{put}
 use Rattle.vm_rule.specs.Views.{seat_of, draft_of, may_call}
 use Rattle.vm_rule.specs.Reading.{world_of, last_of}
 use Rattle.vm_rule.specs.Rule.{KnowsPages, is_pending, Ruled}
-use Rattle.vm_rule.specs.Releases.{next_after, released_view, evicted_view}
+use Rattle.vm_rule.specs.Releases.{next_after, released_view, evicted_view, downgraded_view}
 use Rattle.vm_rule.proofs.Entries.{append-none}
 use Rattle.vm_rule.proofs.Facts.{locked-here}
-use Rattle.vm_step.specs.Conditions.{IsFirst, MayGiveUp, MayEvict}
+use Rattle.vm_step.specs.Conditions.{IsFirst, MayGiveUp, MayEvict, MayDowngrade}
+use Rattle.vm_step.proofs.ReleaseWays.{left_view}
+use Rattle.vm_step.proofs.ReleaseWays.Way.{Unlocks, Evicts, Shares}
 use Rattle.vm_step.proofs.ReleaseFacts.{Releasing}
 
 -- its view after the second is that after the first, where the page is no member of a group and not owed
@@ -29,6 +31,16 @@ evicted-is v p version g i = record v {
   seats = put p (record (seat_of v p) { exclusive = false }) v.seats;
   pending = ap (λ (b : Bool). if b then without p v.pending else v.pending) g.free i;
   owed = without-none p v.owed g.paid i;
+  next = next_after p v.next;
+  mine = append-none v.mine i;
+}
+
+-- and so after a release to a share
+pub downgraded-is : {X : Type 0} {may_release : Start → List ℕ → List Change → List (Entry X) → Type 0} (v : View X) (p version : ℕ) → MayDowngrade may_release v p version → left_view Shares p [] None v ≡ downgraded_view p v
+downgraded-is v p version g i = record v {
+  seats = put p (record (seat_of v p) { shares = 1; exclusive = false }) v.seats;
+  pending = ap (λ (b : Bool). if b then without p v.pending else v.pending) g.first.members.0.free i;
+  owed = without p v.owed;
   next = next_after p v.next;
   mine = append-none v.mine i;
 }
@@ -50,7 +62,11 @@ module _ {X B : Type 0} {stored : B → Stored} {keeps : Start → Kept X → Ty
     -- a release as Unlocked, and one as Evicted
     abbrev pub giving-up : (rest : List ℕ) (said : Option X) → p < start.pages → version < MAX_VERSION → MayGiveUp may_release p version rest said v → Releasing stored keeps tied start tells may_release
     giving-up rest said inside below g =
-        record { s = s; r = r; id = id; v = v; there = there; live = live; p = p; version = version; rest = rest; said = said; inside = inside; below = below; evicts = false; owns = g.owns; stands = g.resident; told = g.told; home = g.home; at_last = g.at; group = g.group }
+        record { s = s; r = r; id = id; v = v; there = there; live = live; p = p; version = version; rest = rest; said = said; inside = inside; below = below; way = Unlocks; owns = g.owns; stands = g.resident; told = g.told; home = g.home; at_last = g.at; group = g.group }
+
+    abbrev pub downgrading : p < start.pages → version < MAX_VERSION → MayDowngrade may_release v p version → Releasing stored keeps tied start tells may_release
+    downgrading inside below g =
+        record { s = s; r = r; id = id; v = v; there = there; live = live; p = p; version = version; rest = []; said = None; inside = inside; below = below; way = Shares; owns = g.owns; stands = g.resident; told = g.told; home = g.home; at_last = g.at; group = inl g.first }
 
     abbrev pub evicting : p < start.pages → version < MAX_VERSION → MayEvict v p version → Releasing stored keeps tied start tells may_release
     evicting inside below g =
@@ -61,4 +77,4 @@ module _ {X B : Type 0} {stored : B → Stored} {keeps : Start → Kept X → Ty
           few = omega arith;
           owner = λ t. inl (refl, (evicted-same inside g t, g.paid, tt));
         } in
-        record { s = s; r = r; id = id; v = v; there = there; live = live; p = p; version = version; rest = []; said = None; inside = inside; below = below; evicts = true; owns = g.owns; stands = g.empty; told = g.told; home = g.home; at_last = g.at; group = inl group }
+        record { s = s; r = r; id = id; v = v; there = there; live = live; p = p; version = version; rest = []; said = None; inside = inside; below = below; way = Evicts; owns = g.owns; stands = g.empty; told = g.told; home = g.home; at_last = g.at; group = inl group }

@@ -1,15 +1,14 @@
 -- What the layer above keeps over a release: the first release of a group makes the drafts of all its members logical, and settles those of
 -- its pages that were owed; that of a later member changes nothing for the layer.
 use Rattle.std.proofs.Common.{ℕ, ◌≡◌, ◌≢◌, ◌<◌, List, [], ◌∷◌, ◌++◌, length, refl, sym, ap, subst, ◌∙◌, ⊎_elim, arith, slice_set, true, false, true≢false, Bool, None, eqb, ◌||◌, suc}
-use Rattle.std.proofs.lemmas.Bool.{cases_Bool, cases_eq, cases_lt, eq-eqb, ne_eqb}
+use Rattle.std.proofs.lemmas.Bool.{cases_Bool, cases_eq, eq-eqb, ne_eqb}
 use mathlib.Core.Path.{fun_ext}
 use Rattle.atomic_table.proofs.Lists.{set_here}
 use Rattle.vm_core.specs.History.{History}
 use Rattle.vm_owner.specs.declared.Entry.{Entry}
-use Rattle.vm_owner.specs.Kept.{Start, Kept, Change, Fits, IsTurn, IsOwedList, AreSized, AreUnchanged, Agrees, owed_after}
+use Rattle.vm_owner.specs.Kept.{Start, Kept, Change, Fits, IsTurn, AreSized, AreUnchanged, Agrees, owed_after}
 use Rattle.vm_owner.specs.Kept.{released as released_kept}
 use Rattle.vm_owner.specs.Numbers.{has, AreApart}
-use Rattle.vm_owner.proofs.ChangeLemmas.{has-owed_after, has-owed_after_other, not_owed_after}
 use Rattle.vm_owner.proofs.Unchanged.{released_same}
 use Rattle.vm_block.specs.declared.stored.Stored.{Stored}
 use Rattle.vm_rule.specs.declared.view.Origin.{Origin}
@@ -26,17 +25,18 @@ use Rattle.vm_rule.proofs.Parts.{listed-same}
 use Rattle.vm_rule.proofs.Views.{any-same, at-bound}
 use Rattle.vm_rule.proofs.Worlds.{draft-is}
 use Rattle.vm_step.specs.Conditions.{IsMember, IsFirst, IsLater}
-use Rattle.vm_step.proofs.Groups.{chosen-has, chosen-below, chosen-apart, has-without_all_other, has-without_all_same, listed-agrees, changed-listed}
+use Rattle.vm_step.proofs.Groups.{chosen-has, has-without_all_other, has-without_all_same, listed-agrees, changed-listed}
 use Rattle.vm_step.proofs.Logical.{logical-draft, logical-last, logical-same}
 use Rattle.vm_step.proofs.Mine.{member-mine, owed-mine, not-member, not-owed}
+use Rattle.vm_step.proofs.OwedPages.{owed_after-chosen}
 use Rattle.vm_step.proofs.Said.{is-turn}
 use Rattle.vm_step.proofs.ReleaseGroup.{Members, each-has, changes-pages, changes-each}
 use Rattle.vm_step.proofs.ReleaseFacts.{Releasing, old, mine, draft-known, last-known, releases, left, new, next-is, last-here, history-else, members-are, member-is, member-page}
 
--- the pages of changes, each of 64 words
-sized-each : (cs : List Change) → Each (λ c. (length c.old ≡ 64) × (length c.new ≡ 64)) cs → AreSized cs
+-- changes of pages that keep their length
+sized-each : (cs : List Change) → Each (λ c. length c.new ≡ length c.old) cs → AreSized cs
 sized-each [] e = tt
-sized-each (c ∷ cs) e = (e.0.0, e.0.1, sized-each cs e.1)
+sized-each (c ∷ cs) e = (e.0, sized-each cs e.1)
 
 changes-many : {X : Type 0} (v : View X) (qs : List ℕ) → length (changes_of v qs) ≡ length qs
 changes-many v [] = refl
@@ -122,10 +122,10 @@ module _ {X B : Type 0} {stored : B → Stored} {keeps : Start → Kept X → Ty
     fits = record {
       agrees = agrees;
       apart = subst AreApart (sym (changes-pages rel.v (rel.p ∷ rel.rest))) first.apart;
-      sized = sized-each (changes_of rel.v (rel.p ∷ rel.rest)) (changes-each rel.v (λ c. (length c.old ≡ 64) × (length c.new ≡ 64)) (rel.p ∷ rel.rest) (λ q e. (
-        ap length (last-known rel q (member q e).owns) ∙ (rel.r.inv.pages q).sizes.last,
-        ap length (draft q (member q e).owns ∙ sym (draft-is start rel.r.releases rel.r.drafts q)) ∙ (rel.r.inv.pages q).sizes.draft (locked-here stored start rel.s rel.id q rel.v (rel.r.inv.pages q).locks (page q e) rel.there (member q e).owns),
-      )));
+      sized = sized-each (changes_of rel.v (rel.p ∷ rel.rest)) (changes-each rel.v (λ c. length c.new ≡ length c.old) (rel.p ∷ rel.rest) (λ q e.
+          ap length (draft q (member q e).owns ∙ sym (draft-is start rel.r.releases rel.r.drafts q))
+          ∙ (rel.r.inv.pages q).sizes.draft (locked-here stored start rel.s rel.id q rel.v (rel.r.inv.pages q).locks (page q e) rel.there (member q e).owns)
+          ∙ sym (ap length (last-known rel q (member q e).owns) ∙ (rel.r.inv.pages q).sizes.last)));
       few = (let few = first.few in let many = changes-many rel.v rel.rest in omega (arith, few, many));
       owed = λ q e.
           let o = (mine rel).owed q e in
@@ -138,31 +138,19 @@ module _ {X B : Type 0} {stored : B → Stored} {keeps : Start → Kept X → Ty
     turn number = is-turn start rel.r.releases rel.r.history rel.v rel.said (rel.r.heard rel.id rel.v rel.there rel.live) number
 
     -- the pages that are owed after it
-    owed-list : IsOwedList (released_kept (changes_of rel.v (rel.p ∷ rel.rest)) (entries_of rel.v rel.said) before) (chosen start.pages (is_owed (slice_set rel.s.views rel.id w)))
-    owed-list = record {
-      apart = chosen-apart start.pages (is_owed (slice_set rel.s.views rel.id w));
-      same = λ q.
-          ⊎_elim
-          (λ l. ⊎_elim
-          (λ e. chosen-has start.pages (is_owed (slice_set rel.s.views rel.id w)) q l
-          ∙ not-owed stored keeps tied start tells rel.s rel.r rel.id rel.v rel.there rel.live q w l (member q e).owns (has-without_all_same (rel.p ∷ rel.rest) rel.v.owed q e)
-          ∙ sym (not_owed_after (changes_of rel.v (rel.p ∷ rel.rest)) before.owed q (ap (has q) (changes-pages rel.v (rel.p ∷ rel.rest)) ∙ e)))
-          (λ none. chosen-has start.pages (is_owed (slice_set rel.s.views rel.id w)) q l
-          ∙ any-same (λ (u : View X). has q u.owed) rel.s.views rel.id rel.v w rel.there (has-without_all_other (rel.p ∷ rel.rest) rel.v.owed q none)
-          ∙ sym (chosen-has start.pages (is_owed rel.s.views) q l)
-          ∙ sym (has-owed_after_other (changes_of rel.v (rel.p ∷ rel.rest)) before.owed q (ap (has q) (changes-pages rel.v (rel.p ∷ rel.rest)) ∙ none)))
-          (cases_Bool (has q (rel.p ∷ rel.rest))))
-          (λ le. chosen-below start.pages (is_owed (slice_set rel.s.views rel.id w)) q le
-          ∙ sym (⊎_elim (λ t. absurd (true≢false (sym (has-owed_after (changes_of rel.v (rel.p ∷ rel.rest)) before.owed q t) ∙ chosen-below start.pages (is_owed rel.s.views) q le))) (λ f. f) (cases_Bool (has q (owed_after (changes_of rel.v (rel.p ∷ rel.rest)) before.owed)))))
-          (cases_lt q start.pages);
-    }
+    owed-released : owed_after (changes_of rel.v (rel.p ∷ rel.rest)) before.owed ≡ chosen start.pages (is_owed (slice_set rel.s.views rel.id w))
+    owed-released =
+        let pages = changes-pages rel.v (rel.p ∷ rel.rest) in
+        owed_after-chosen (changes_of rel.v (rel.p ∷ rel.rest)) start.pages (is_owed rel.s.views) (is_owed (slice_set rel.s.views rel.id w))
+        (λ q l e. let e' : has q (rel.p ∷ rel.rest) ≡ true = sym (ap (has q) pages) ∙ e in not-owed stored keeps tied start tells rel.s rel.r rel.id rel.v rel.there rel.live q w l (member q e').owns (has-without_all_same (rel.p ∷ rel.rest) rel.v.owed q e'))
+        (λ q l e. any-same (λ (u : View X). has q u.owed) rel.s.views rel.id rel.v w rel.there (has-without_all_other (rel.p ∷ rel.rest) rel.v.owed q (sym (ap (has q) pages) ∙ e)))
 
-    after-is : record (released_kept (changes_of rel.v (rel.p ∷ rel.rest)) (entries_of rel.v rel.said) before) { owed = chosen start.pages (is_owed (slice_set rel.s.views rel.id w)) } ≡ after
+    after-is : released_kept (changes_of rel.v (rel.p ∷ rel.rest)) (entries_of rel.v rel.said) before ≡ after
     after-is i = record {
       pages = changed-listed start.pages (logical h (is_pending rel.s.views)) (logical h' m') (changes_of rel.v (rel.p ∷ rel.rest)) (changes-each rel.v (λ c. (c.page < start.pages) × (logical h' m' c.page ≡ c.new)) (rel.p ∷ rel.rest) (λ q e. (page q e, new-words q e)))
           (λ q l none. let k = apart-of q (sym (ap (has q) (changes-pages rel.v (rel.p ∷ rel.rest))) ∙ none) in logical-else q k.0 k.1) i;
       next = sym (next-is rel) i;
-      owed = chosen start.pages (is_owed (slice_set rel.s.views rel.id w));
+      owed = owed-released i;
       history = rel.r.history ++ entries_of rel.v rel.said;
     }
       where
@@ -184,18 +172,15 @@ module _ {X B : Type 0} {stored : B → Stored} {keeps : Start → Kept X → Ty
         same
 
     module _
-        (law : (start : Start) (kept : Kept X) (due : List ℕ) (changes : List Change) (entries : List (Entry X)) → keeps start kept → Fits kept due changes → IsTurn kept.history entries → may_release start due changes entries → keeps start (released_kept changes entries kept))
-        (reorders : (start : Start) (kept : Kept X) (owed : List ℕ) → keeps start kept → IsOwedList kept owed → keeps start (record kept { owed = owed })) where
+        (law : (start : Start) (kept : Kept X) (due : List ℕ) (changes : List Change) (entries : List (Entry X)) → keeps start kept → Fits kept due changes → IsTurn kept.history entries → may_release start due changes entries → keeps start (released_kept changes entries kept)) where
       pub first-keeps : 0 < length rel.v.used → start.tells ≡ true → keeps (began_of start) before → keeps (began_of start) after
       first-keeps number t kept =
           let same = (rel.r.heard rel.id rel.v rel.there rel.live).same_start in
           subst (keeps (began_of start)) after-is
-          (reorders (began_of start) (released_kept (changes_of rel.v (rel.p ∷ rel.rest)) (entries_of rel.v rel.said) before) (chosen start.pages (is_owed (slice_set rel.s.views rel.id w)))
           (⊎_elim
           (λ k. subst (keeps (began_of start)) (sym (unchanged k.0 k.1)) kept)
           (λ may. law (began_of start) before rel.v.owed (changes_of rel.v (rel.p ∷ rel.rest)) (entries_of rel.v rel.said) kept fits (turn number) (subst (λ (o : Origin). may_release (began_of o) rel.v.owed (changes_of rel.v (rel.p ∷ rel.rest)) (entries_of rel.v rel.said)) same may))
           (first.owner (ap (λ (o : Origin). o.tells) same ∙ t)))
-          owed-list)
 
   -- ---- a later member
 

@@ -3,6 +3,7 @@ use Rattle.std.proofs.Common.{ℕ, ◌≡◌, ◌≢◌, ◌+◌, ◌<◌, ◌�
 use Rattle.std.proofs.lemmas.Bool.{false≢true, cases_Bool, cases_eq, eq-eqb}
 use Rattle.vm_core.specs.declared.event.Seat.{Seat}
 use Rattle.vm_core.specs.State.{Page}
+use Rattle.vm_core.specs.FrameActs.{frame_of}
 use Rattle.vm_core.specs.History.{History}
 use Rattle.vm_owner.specs.declared.Entry.{Entry}
 use Rattle.vm_owner.specs.Kept.{Start, Kept, Change}
@@ -22,6 +23,7 @@ use Rattle.vm_rule.proofs.Worlds.{draft-is}
 use Rattle.vm_step.proofs.Groups.{has-without_all}
 use Rattle.vm_step.proofs.Written.{stands-there, spelled-still}
 use Rattle.vm_step.proofs.ReleaseGroup.{next-kept, entries-one}
+use Rattle.vm_step.proofs.ReleaseWays.{seat_left, left-exclusive}
 use Rattle.vm_step.proofs.ReleaseFacts.{Releasing, old, mine, draft-known, word, words, event, own, releases, inner, left, new, next-version, world-is, next-is, frames-are, page-here, page-else, last-here, history-else, seat-p, seat-else, still-owns, calls-p, release-legal, members-are, member-is, claimed, unwritten}
 
 or-true : (a b : Bool) → b ≡ true → (a || b) ≡ true
@@ -82,15 +84,15 @@ module _ {X B : Type 0} {stored : B → Stored} {keeps : Start → Kept X → Ty
         ⊎_elim
         (λ (e : q ≡ rel.p). subst (λ n. KnowsPage (seat_of (inner rel) n) (put_at no_held (inner rel).held n) ((core_of stored start (new rel)).pages n)) (sym e)
         (subst (λ y. KnowsPage y (put_at no_held rel.v.held rel.p) ((core_of stored start (new rel)).pages rel.p)) (sym (seat-p rel))
-        (subst (λ y. KnowsPage (record (seat_of rel.v rel.p) { exclusive = false }) (put_at no_held rel.v.held rel.p) y) (sym (page-here rel))
-        (record { calls = λ _. ((mine rel).knows rel.p).calls (calls-p rel); shares = λ some'. ((mine rel).knows rel.p).shares some' }))))
+        (subst (λ y. KnowsPage (seat_left rel.way (seat_of rel.v rel.p)) (put_at no_held rel.v.held rel.p) y) (sym (page-here rel))
+        (record { calls = λ _. ((mine rel).knows rel.p).calls (calls-p rel); shares = λ _. ap frame_of (((mine rel).knows rel.p).calls (calls-p rel)).0 }))))
         (λ ne. subst (λ y. KnowsPage y (put_at no_held rel.v.held q) ((core_of stored start (new rel)).pages q)) (sym (seat-else rel q ne))
         (subst (λ y. KnowsPage (seat_of rel.v q) (put_at no_held rel.v.held q) y) (sym (page-else rel q ne)) ((mine rel).knows q)))
         (cases_eq q rel.p);
     contents = λ f e. (mine rel).contents f e ∙ sym (frames-are rel f);
     drafted = λ q owns.
         ⊎_elim
-        (λ (e : q ≡ rel.p). absurd (false≢true (sym (ap (λ n. (seat_of (inner rel) n).exclusive) e ∙ ap (λ (y : Seat). y.exclusive) (seat-p rel)) ∙ owns)))
+        (λ (e : q ≡ rel.p). absurd (false≢true (sym (ap (λ n. (seat_of (inner rel) n).exclusive) e ∙ ap (λ (y : Seat). y.exclusive) (seat-p rel) ∙ left-exclusive rel.way (seat_of rel.v rel.p)) ∙ owns)))
         (λ ne. draft-known rel q (sym (ap (λ (y : Seat). y.exclusive) (seat-else rel q ne)) ∙ owns))
         (cases_eq q rel.p);
     pending = still-pending;

@@ -18,13 +18,13 @@ use Rattle.vm_rule.specs.Reading.{world_of}
 use Rattle.vm_rule.specs.Rule.{KnowsLists, began_of, kept_of, Ruled}
 use Rattle.vm_rule.specs.Brought.{entry_of, entries_of}
 use Rattle.vm_rule.specs.Looks.{left_at, where_same}
-use Rattle.vm_rule.proofs.Entries.{append-none, mine-in}
+use Rattle.vm_rule.proofs.Entries.{append-none, mine-in, each-map}
 use Rattle.vm_rule.proofs.Found.{version-here}
 use Rattle.vm_rule.proofs.Heard.{has-first, calls-by}
 use Rattle.vm_step.specs.Conditions.{MayTell}
 use Rattle.vm_step.proofs.Validated.{stays, free-here}
 use Rattle.vm_step.proofs.Logical.{not-pending, page-kept, pages-kept}
-use Rattle.vm_step.proofs.Here.{read-valid}
+use Rattle.vm_step.proofs.Here.{read-valid, ties-hold, tied-itself}
 
 -- what comes only where the read stays: it is so with nothing, and where the read stays with what comes
 where-same-keeps : {A : Type 0} (P : List A → Type 0) (left : ReadIs) (l : List A) → P [] → (left ≡ Same → P l) → P (where_same left l [])
@@ -52,7 +52,8 @@ module _ {X : Type 0} where
 
 module _ {X B : Type 0} (stored : B → Stored) (keeps : Start → Kept X → Type 0) (tied : Start → ℕ → List ℕ → ℕ → List ℕ → Type 0) (start : Origin) (tells : Bool) (s : Table (Option B) (View X)) (r : Ruled stored keeps tied start tells s) (id : ℕ) (v : View X) (there : get_elem? s.views id ≡ some v) (live : v.live ≡ true) (p : ℕ) (l : p < start.pages) (said : Option X)
     (may_read : Start → ℕ → List ℕ → List (Entry X) → Type 0) (reads : (start : Start) (kept : Kept X) (q : ℕ) (entries : List (Entry X)) → keeps start kept → q < length kept.pages → IsTurn kept.history entries → may_read start q (page_at kept.pages q) entries → keeps start (told entries kept))
-    (may : MayTell may_read p said v) (number : 0 < length v.used) where
+    (ties : (start : Start) (kept : Kept X) (q p : ℕ) → keeps start kept → q < length kept.pages → p < length kept.pages → tied start q (page_at kept.pages q) p (page_at kept.pages p))
+    (may : MayTell tied may_read p said v) (number : 0 < length v.used) where
   abbrev world : World
   world = world_of stored start r.releases r.drafts s
 
@@ -72,8 +73,10 @@ module _ {X B : Type 0} (stored : B → Stored) (keeps : Start → Kept X → Ty
       (λ proves. inl
       (subst (λ words. may_read (began_of start) p words (entries_of v said)) (sym (page-kept stored keeps tied start tells s r p l (not-pending stored keeps tied start tells s r p l free)))
       (subst (λ (o : Origin). may_read (began_of o) p (world.histories p).last.words (entries_of v said)) same_start
-      (proves (ap (λ (o : Origin). o.tells) same_start ∙ t) (world.histories p).last.words (r.inv.pages p).sizes.last
-      (read-valid stored keeps tied start tells s r id v there live p l t free k.0 k.1 (k.2 ∙ sym (version-here stored start s p l)))))))
+      (proves (ap (λ (o : Origin). o.tells) same_start ∙ t) k.0 k.1 (world.histories p).last.words (r.inv.pages p).sizes.last
+      (read-valid stored keeps tied start tells s r id v there live p l t free k.0 k.1 (k.2 ∙ sym (version-here stored start s p l)))
+      (tied-itself stored keeps tied start tells s r id v there live ties p l t free)
+      (each-map _ _ (λ d h e n. h e (n ∙ k.2 ∙ sym (version-here stored start s p l))) v.ties (ties-hold stored keeps tied start tells s r id v there live p l t free))))))
       may
 
   keeps-none : keeps (began_of start) kept → keeps (began_of start) (told [] kept)

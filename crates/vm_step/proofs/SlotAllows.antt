@@ -17,6 +17,7 @@ use Rattle.vm_rule.specs.Layout.{index_of}
 use Rattle.vm_rule.specs.Views.{seat_of, may_call}
 use Rattle.vm_rule.specs.Rule.{Ruled}
 use Rattle.vm_rule.specs.Begun.{HasShape, Stands}
+use Rattle.vm_rule.specs.Sound.{Sound}
 use Rattle.vm_rule.specs.Brought.{BringsWith}
 use Rattle.vm_rule.specs.Log.{did_load}
 use Rattle.vm_rule.specs.Slots.{out_at, out_view, SlotTold, ShiftTold, DeviceDid, home_view, ReturnTold}
@@ -41,17 +42,19 @@ one-slot j k x y l m e = ap (value x) e
     value d (z ∷ zs) = z.1
 
 module _ {X : Type 0} where
-  -- a step of a pass leaves it live, with its part, and with nothing more to learn from a join
+  -- a step of a pass leaves it live, with its part, with nothing more to learn from a join, and with what the rule keeps of its view
   pub record GoesOn (v w : View X) : Type 0 where
     pub live : w.live ≡ true
     pub number : 0 < length w.used
     pub settled : (w.told_releases ≡ []) × (w.told ≡ [])
+    pub sound : Sound w
 
   pub still-steady : (did : Did) (block : Option (ℕ × Stored)) (own : List Release) (entries : List (Entry X)) (v inner w : View X) → inner.live ≡ v.live → inner.used ≡ v.used → v.live ≡ true → 0 < length v.used → BringsWith did block own entries v inner w → GoesOn v w
   still-steady did block own entries v inner w live used was number b = record {
     live = ap (λ (y : View X). y.live) b.view ∙ live ∙ was;
     number = subst (λ l. 0 < length l) (sym (ap (λ (y : View X). y.used) b.view ∙ used)) number;
     settled = (ap (λ (y : View X). y.told_releases) b.view, ap (λ (y : View X). y.told) b.view);
+    sound = b.sound;
   }
 
 module _ {X : Type 0} where

@@ -16,7 +16,7 @@ use Rattle.vm_step.specs.Plays.{IsOf}
 use Rattle.vm_step.proofs.Here.{is-of}
 
 -- the one view of a table before its first step is not live
-born : {X : Type 0} (shape : Shape) (id : ℕ) (v : View X) → get_elem? (unborn shape ∷ []) id ≡ some v → v.live ≡ true → ⊥
+pub born : {X : Type 0} (shape : Shape) (id : ℕ) (v : View X) → get_elem? (unborn shape ∷ []) id ≡ some v → v.live ≡ true → ⊥
 born shape zero v e live = true≢false (sym live ∙ ap (λ (y : View _). y.live) (sym (some-injective (unborn shape) v e)))
 born shape (suc id) v e live = maybe.some-ne-none v (sym e)
 

@@ -1,13 +1,14 @@
 -- What each kind of step tells the call that makes it, as the table asks for it: of the step, the seat before, the number found, the seat after.
 use Rattle.std.specs.Prelude.{ℕ, Bool, true, false, Option, Some, None, List, [], ◌∷◌, ◌≡◌}
 use Rattle.atomic_table.specs.Table.{Me, Step}
-use Rattle.vm_owner.specs.Kept.{Start}
+use Rattle.vm_owner.specs.Kept.{Start, Kept}
 use Rattle.vm_rule.specs.declared.view.Shape.{Shape}
 use Rattle.vm_rule.specs.declared.view.View.{View}
 use Rattle.vm_rule.specs.Begun.{HasShape}
-use Rattle.vm_rule.specs.Looks.{LookTold}
+use Rattle.vm_rule.specs.Looks.{LookTold, left_at}
 use Rattle.vm_rule.specs.Locks.{LockTold, ShareTold, UnshareTold, MarkTold, WriteLockTold, UpgradeTold}
-use Rattle.vm_rule.specs.Releases.{ReleaseTold, EvictTold}
+use Rattle.vm_rule.specs.Releases.{ReleaseTold, EvictTold, DowngradeTold}
+use Rattle.vm_rule.specs.Nexts.{NextTold, ClaimTold}
 use Rattle.vm_rule.specs.Loads.{TranslationTold, LoadTold}
 use Rattle.vm_rule.specs.Stores.{StoresTold}
 use Rattle.vm_rule.specs.Mappings.{InstallTold, StandsClean, ClearTold, DirtyTold, CleanTold}
@@ -15,6 +16,10 @@ use Rattle.vm_rule.specs.Bundles.{BundleTold, TakeTold, GiveTold, HandTold}
 use Rattle.vm_rule.specs.Faults.{RaiseTold}
 use Rattle.vm_rule.specs.Slots.{SlotTold, ShiftTold, ReturnTold, out_at, DeviceDid}
 use Rattle.vm_block.specs.declared.stored.Stored.{Stored}
+use Rattle.vm_core.specs.declared.event.ReadIs.TheVariants.{Same}
+use Rattle.vm_rule.specs.Views.{seat_of}
+use Rattle.vm_step.specs.Keeping.{IsKeptNow}
+use Rattle.vm_step.specs.Whole.{CatchTold}
 
 module _ {X : Type 0} where
   -- the pass is one of a table of this shape, with blocks that tell their words or do not
@@ -23,8 +28,8 @@ module _ {X : Type 0} where
     pub tells_is : v.start.tells ≡ tells
 
   module _ {S : Type 0} (shape : Shape) (tells : Bool) where
-    abbrev pub look_play : (Start → ℕ → List ℕ → ℕ → List ℕ → Type 0) → Option X → Step S → Me S (View X) → ℕ → Me S (View X) → Type 0
-    look_play tied said st m found m' = IsOf shape tells m.0 × LookTold tied st.word said found m.0 m'.0 × (m'.1 ≡ m.1)
+    abbrev pub look_play : (Start → Kept X → Type 0) → (Start → ℕ → List ℕ → ℕ → List ℕ → Type 0) → Option X → Step S → Me S (View X) → ℕ → Me S (View X) → Type 0
+    look_play keeps tied said st m found m' = IsOf shape tells m.0 × LookTold tied st.word said found m.0 m'.0 × (tells ≡ true → IsKeptNow keeps st.word (left_at found (seat_of m.0 st.word).reading ≡ Same) m'.0) × (m'.1 ≡ m.1)
 
     abbrev pub lock_play : (Start → ℕ → List ℕ → ℕ → List ℕ → Type 0) → Step S → Me S (View X) → ℕ → Me S (View X) → Type 0
     lock_play tied st m found m' = IsOf shape tells m.0 × LockTold tied st.word st.first found m.0 m'.0 × (m'.1 ≡ m.1)
@@ -35,8 +40,8 @@ module _ {X : Type 0} where
     abbrev pub unshare_play : Step S → Me S (View X) → ℕ → Me S (View X) → Type 0
     unshare_play st m found m' = IsOf shape tells m.0 × UnshareTold st.word found m.0 m'.0 × (m'.1 ≡ m.1)
 
-    abbrev pub release_play : ℕ → List ℕ → Option X → Step S → Me S (View X) → ℕ → Me S (View X) → Type 0
-    release_play version rest said st m found m' = IsOf shape tells m.0 × ReleaseTold st.word version rest said m.0 m'.0 × (m'.1 ≡ m.1)
+    abbrev pub release_play : (Start → Kept X → Type 0) → ℕ → List ℕ → Option X → Step S → Me S (View X) → ℕ → Me S (View X) → Type 0
+    release_play keeps version rest said st m found m' = IsOf shape tells m.0 × ReleaseTold st.word version rest said m.0 m'.0 × (tells ≡ true → IsKeptNow keeps st.word (Unit {0}) m'.0) × (m'.1 ≡ m.1)
 
     abbrev pub translation_play : ℕ → Step S → Me S (View X) → ℕ → Me S (View X) → Type 0
     translation_play p st m found m' = IsOf shape tells m.0 × TranslationTold p found m.0 m'.0 × (m'.1 ≡ m.1)
@@ -48,8 +53,8 @@ module _ {X : Type 0} where
     abbrev pub store_play : ℕ → ℕ → Step S → Me S (View X) → ℕ → Me S (View X) → Type 0
     store_play f i st m stored m' = IsOf shape tells m.0 × StoresTold f i stored m.0 m'.0 × (m'.1 ≡ m.1)
 
-    abbrev pub evict_play : ℕ → Step S → Me S (View X) → ℕ → Me S (View X) → Type 0
-    evict_play version st m stored m' = IsOf shape tells m.0 × EvictTold st.word version m.0 m'.0 × (m'.1 ≡ m.1)
+    abbrev pub evict_play : (Start → Kept X → Type 0) → ℕ → Step S → Me S (View X) → ℕ → Me S (View X) → Type 0
+    evict_play keeps version st m stored m' = IsOf shape tells m.0 × EvictTold st.word version m.0 m'.0 × (tells ≡ true → IsKeptNow keeps st.word (Unit {0}) m'.0) × (m'.1 ≡ m.1)
 
     abbrev pub install_play : ℕ → ℕ → Step S → Me S (View X) → ℕ → Me S (View X) → Type 0
     install_play p f st m stored m' = IsOf shape tells m.0 × InstallTold p f m.0 m'.0 × (m'.1 ≡ m.1)
@@ -74,6 +79,19 @@ module _ {X : Type 0} where
 
     abbrev pub hand_play : Step S → Me S (View X) → ℕ → Me S (View X) → Type 0
     hand_play st m found m' = IsOf shape tells m.0 × HandTold found m.0 m'.0 × (m'.1 ≡ m.1)
+
+    abbrev pub next_play : Step S → Me S (View X) → ℕ → Me S (View X) → Type 0
+    next_play st m found m' = IsOf shape tells m.0 × NextTold found m.0 m'.0 × (m'.1 ≡ m.1)
+
+    -- the first operand is the page expected
+    abbrev pub claim_play : ℕ → Step S → Me S (View X) → ℕ → Me S (View X) → Type 0
+    claim_play n st m found m' = IsOf shape tells m.0 × ClaimTold st.first n found m.0 m'.0 × (m'.1 ≡ m.1)
+
+    abbrev pub downgrade_play : (Start → Kept X → Type 0) → ℕ → Step S → Me S (View X) → ℕ → Me S (View X) → Type 0
+    downgrade_play keeps version st m stored m' = IsOf shape tells m.0 × DowngradeTold st.word version m.0 m'.0 × (tells ≡ true → IsKeptNow keeps st.word (Unit {0}) m'.0) × (m'.1 ≡ m.1)
+
+    abbrev pub catch_play : (Start → Kept X → Type 0) → Step S → Me S (View X) → ℕ → Me S (View X) → Type 0
+    catch_play keeps st m found m' = IsOf shape tells m.0 × CatchTold tells keeps m.0 m'.0 × (m'.1 ≡ m.1)
 
     -- the first operand of an exchange is the word expected, the second the new one
     abbrev pub mark_play : Step S → Me S (View X) → ℕ → Me S (View X) → Type 0

@@ -1,5 +1,6 @@
 // Frames that go from hand to hand: at most 64, which lie in the value itself.
-ghost use Rattle.std.specs.Prelude.{◌≡◌, ◌==◌, ◌+◌, ◌<◌, ◌≤◌, [], ◌∷◌, ◌++◌, length};
+ghost use Rattle.std.specs.Prelude.{◌≡◌, ◌==◌, ◌+◌, ◌<◌, ◌≤◌, [], ◌∷◌, ◌++◌, length, IsSome, ◌↔◌};
+ghost use Rattle.std.specs.Option.{option_to_list};
 
 use arrayvec::ArrayVec;
 use std::marker::Model;
@@ -71,5 +72,13 @@ impl Batch {
         if self.items.try_extend_from_slice(frames).is_err() {
             unreachable!();
         }
+    }
+
+    /// Takes the frame that was appended last, if there is one.
+    pub fn pop(&mut self) -> Option<u32>
+        ensures frames { self.old ≡ self.new ++ option_to_list result }
+        ensures some { IsSome result ↔ (0 < length self.old) }
+    {
+        self.items.pop()
     }
 }

@@ -6,17 +6,19 @@ ghost use Rattle.vm_step.specs.Passes.{IsSamePass, MayStep, found_by, view};
 ghost use Rattle.vm_step.specs.Plays.{IsOf};
 ghost use Rattle.vm_step.specs.declared.took.Took.TheVariants.{Lost};
 
+use crate::layout::next_place;
 use crate::plays::{Give, Given, LoadBundle, MoveHand, Take};
 use crate::seat::lift;
 use crate::took::{Took, answer};
 use std::marker::Brand;
 use vm_block::Block;
 use vm_owner::Owner;
+use vm_page::WORDS;
 use vm_rule::view::View;
 use vm_rule::words::{Pass, Words};
 
-/// How many words a page has, and how many frames a bundle.
-const WORDS: usize = 64;
+/// How many places the hand is moved on at once.
+const STRIDE: u64 = 64;
 
 fn bload_with<U: Owner, B: Block, M: Given<U::Said>>(
     words: &Words<U, B>,
@@ -141,12 +143,12 @@ fn hand_with<U: Owner, B: Block, M: Given<U::Said>>(words: &Words<U, B>, pass: &
     ensures table { IsOf words.now.table.shared.key B.tells (view pass.old) }
     ensures told { HandTold result (view pass.old) (view pass.new) }
 {
-    let place = 3 * words.pages + WORDS * words.frames + words.frames.div_ceil(WORDS) + 1;
+    let place = next_place(words) + 1;
     let mut seat = lift::<View<U::Said>, Option<B>>(&mut pass.badge);
     let found = words
         .table
         .shared
-        .fetch_add::<MoveHand<U, M>>(&mut seat, place, WORDS as u64);
+        .fetch_add::<MoveHand<U, M>>(&mut seat, place, STRIDE);
     pass.badge = seat.into_badge();
     found
 }

@@ -10,11 +10,9 @@ use crate::seat::lift;
 use std::marker::Brand;
 use vm_block::Block;
 use vm_owner::Owner;
+use vm_page::WORDS;
 use vm_rule::view::View;
 use vm_rule::words::{Pass, Words};
-
-/// How many words a page has.
-const PAGE_WORDS: usize = 64;
 
 fn tload_with<U: Owner, B: Block, M: Given<U::Said>>(
     words: &Words<U, B>,
@@ -64,7 +62,7 @@ fn load_with<U: Owner, B: Block, M: Given<U::Said>>(
     ensures table { IsOf words.now.table.shared.key B.tells (view pass.old) }
     ensures told { LoadTold p f i result (view pass.old) (view pass.new) }
 {
-    let place = 3 * words.pages + (PAGE_WORDS * f as usize + i);
+    let place = 3 * words.pages + (WORDS * f as usize + i);
     let mut seat = lift::<View<U::Said>, Option<B>>(&mut pass.badge);
     let found = words.table.shared.load::<Load<U, M>>(&mut seat, place);
     pass.badge = seat.into_badge();
@@ -104,7 +102,7 @@ fn store_with<U: Owner, B: Block, M: Given<U::Said>>(
     ensures table { IsOf words.now.table.shared.key B.tells (view pass.old) }
     ensures told { StoresTold f i w (view pass.old) (view pass.new) }
 {
-    let place = 3 * words.pages + (PAGE_WORDS * f as usize + i);
+    let place = 3 * words.pages + (WORDS * f as usize + i);
     let mut seat = lift::<View<U::Said>, Option<B>>(&mut pass.badge);
     words.table.shared.store::<Store<U, M>>(&mut seat, place, w);
     pass.badge = seat.into_badge();

@@ -1,5 +1,5 @@
 // What each step tells. A call picks the values that its proof must know as a ghost member of `Given`.
-use atomic_table::Play;
+use atomic_table::{Join, Play, Split};
 use std::marker::{Brand, PhantomData};
 use vm_block::Block;
 use vm_owner::Owner;
@@ -51,7 +51,7 @@ pub(crate) struct Look<U, M> {
 impl<S, U: Owner, M: Given<U::Said>> Play<S, View<U::Said>> for Look<U, M> {
     ghost use Rattle.vm_step.specs.Plays.{look_play};
 
-    ghost then = { look_play M.shape M.tells U.tied M.said };
+    ghost then = { look_play M.shape M.tells U.keeps U.tied M.said };
 }
 
 pub(crate) struct LockExclusive<U, M> {
@@ -91,7 +91,7 @@ pub(crate) struct Release<U, M> {
 impl<S, U: Owner, M: Given<U::Said>> Play<S, View<U::Said>> for Release<U, M> {
     ghost use Rattle.vm_step.specs.Plays.{release_play};
 
-    ghost then = { release_play M.shape M.tells M.first M.rest M.said };
+    ghost then = { release_play M.shape M.tells U.keeps M.first M.rest M.said };
 }
 
 pub(crate) struct LoadTranslation<U, M> {
@@ -131,7 +131,7 @@ pub(crate) struct ReleaseEvicted<U, M> {
 impl<S, U: Owner, M: Given<U::Said>> Play<S, View<U::Said>> for ReleaseEvicted<U, M> {
     ghost use Rattle.vm_step.specs.Plays.{evict_play};
 
-    ghost then = { evict_play M.shape M.tells M.first };
+    ghost then = { evict_play M.shape M.tells U.keeps M.first };
 }
 
 pub(crate) struct Install<U, M> {
@@ -212,6 +212,82 @@ impl<S, U: Owner, M: Given<U::Said>> Play<S, View<U::Said>> for MoveHand<U, M> {
     ghost use Rattle.vm_step.specs.Plays.{hand_play};
 
     ghost then = { hand_play M.shape M.tells };
+}
+
+pub(crate) struct LoadNext<U, M> {
+    marker: PhantomData<(U, M)>,
+}
+
+impl<S, U: Owner, M: Given<U::Said>> Play<S, View<U::Said>> for LoadNext<U, M> {
+    ghost use Rattle.vm_step.specs.Plays.{next_play};
+
+    ghost then = { next_play M.shape M.tells };
+}
+
+pub(crate) struct Claim<U, M> {
+    marker: PhantomData<(U, M)>,
+}
+
+impl<S, U: Owner, M: Given<U::Said>> Play<S, View<U::Said>> for Claim<U, M> {
+    ghost use Rattle.vm_step.specs.Plays.{claim_play};
+
+    ghost then = { claim_play M.shape M.tells M.first };
+}
+
+pub(crate) struct Downgrade<U, M> {
+    marker: PhantomData<(U, M)>,
+}
+
+impl<S, U: Owner, M: Given<U::Said>> Play<S, View<U::Said>> for Downgrade<U, M> {
+    ghost use Rattle.vm_step.specs.Plays.{downgrade_play};
+
+    ghost then = { downgrade_play M.shape M.tells U.keeps M.first };
+}
+
+pub(crate) struct CatchUp<U, M> {
+    marker: PhantomData<(U, M)>,
+}
+
+impl<S, U: Owner, M: Given<U::Said>> Play<S, View<U::Said>> for CatchUp<U, M> {
+    ghost use Rattle.vm_step.specs.Plays.{catch_play};
+
+    ghost then = { catch_play M.shape M.tells U.keeps };
+}
+
+/// A pass is split, and a part goes over.
+pub(crate) struct CutPart;
+
+impl<X> Split<View<X>> for CutPart {
+    ghost use Rattle.std.specs.Prelude.{true};
+    ghost use Rattle.vm_rule.specs.Joins.{giver, newcomer};
+
+    ghost left = { giver true };
+
+    ghost right = { newcomer true };
+}
+
+/// A pass is split, and no part goes over.
+pub(crate) struct CutNone;
+
+impl<X> Split<View<X>> for CutNone {
+    ghost use Rattle.std.specs.Prelude.{false};
+    ghost use Rattle.vm_rule.specs.Joins.{giver, newcomer};
+
+    ghost left = { giver false };
+
+    ghost right = { newcomer false };
+}
+
+/// A pass takes in another.
+pub(crate) struct Glue;
+
+impl<X> Join<View<X>> for Glue {
+    ghost use Rattle.vm_rule.specs.Joins.{joined};
+    ghost use Rattle.vm_rule.specs.Views.{spent as gone};
+
+    ghost both = { joined };
+
+    ghost spent = { gone };
 }
 
 pub(crate) struct Mark<U, M> {

@@ -1,16 +1,21 @@
 // The steps on a page's state word that guards make: look, lock exclusively, lock shared, give a share up, release, release as evicted.
-ghost use Rattle.std.specs.Prelude.{◌≡◌, ◌≢◌, ◌<◌, ℕ, None, [], option_map};
+ghost use Rattle.std.specs.Prelude.{◌≡◌, ◌≢◌, ◌<◌, ℕ, None, [], option_map, true};
+ghost use Rattle.vm_core.specs.declared.event.ReadIs.TheVariants.{Same};
 ghost use Rattle.vm_core.specs.StateActs.{MayLock, MayShare, one_more};
 ghost use Rattle.vm_core.specs.Words.{LOCKED, MAX_VERSION, state_of, version_of, word_of};
 ghost use Rattle.vm_rule.specs.Locks.{LockTold, ShareTold, UnshareTold};
-ghost use Rattle.vm_rule.specs.Looks.{LookTold};
-ghost use Rattle.vm_rule.specs.Releases.{EvictTold, ReleaseTold};
-ghost use Rattle.vm_step.specs.Conditions.{MayEvict, MayGiveUp, MayTell, MayUnshare};
+ghost use Rattle.vm_rule.specs.Looks.{LookTold, left_at};
+ghost use Rattle.vm_rule.specs.Releases.{DowngradeTold, EvictTold, ReleaseTold};
+ghost use Rattle.vm_rule.specs.Views.{seat_of};
+ghost use Rattle.vm_step.specs.Conditions.{MayDowngrade, MayEvict, MayGiveUp, MayTell, MayUnshare};
+ghost use Rattle.vm_step.specs.Keeping.{IsKeptNow};
 ghost use Rattle.vm_step.specs.Passes.{IsSamePass, MayStep, found_by, view};
 ghost use Rattle.vm_step.specs.Plays.{IsOf};
 ghost use Rattle.vm_step.specs.declared.took.Took.TheVariants.{Lost};
 
-use crate::plays::{Given, LockExclusive, LockShared, Look, Release, ReleaseEvicted, UnlockShared};
+use crate::plays::{
+    Downgrade, Given, LockExclusive, LockShared, Look, Release, ReleaseEvicted, UnlockShared,
+};
 use crate::seat::lift;
 use crate::took::{Took, answer};
 use std::marker::Brand;
@@ -57,11 +62,12 @@ fn look_step<U: Owner, B: Block, M: Given<U::Said>>(
 ) -> u64
     requires pass { MayStep words.now.table.shared.table_id pass.old }
     requires page { p < words.now.table.shared.key.pages }
-    requires owner { MayTell U.may_read p M.said (view pass.old) }
+    requires owner { MayTell U.tied U.may_read p M.said (view pass.old) }
     requires given { (M.shape ≡ words.now.table.shared.key) × (M.tells ≡ B.tells) }
     ensures pass { IsSamePass pass.old pass.new }
     ensures table { IsOf words.now.table.shared.key B.tells (view pass.old) }
     ensures told { LookTold U.tied p M.said result (view pass.old) (view pass.new) }
+    ensures kept { B.tells ≡ true → IsKeptNow U.keeps p (left_at result (seat_of (view pass.old) p).reading ≡ Same) (view pass.new) }
 {
     let mut seat = lift::<View<U::Said>, Option<B>>(&mut pass.badge);
     let found = words.table.shared.load::<Look<U, M>>(&mut seat, p as usize);
@@ -77,11 +83,12 @@ fn look_with<U: Owner, B: Block, M: Given<U::Said>>(
 ) -> u64
     requires pass { MayStep words.now.table.shared.table_id pass.old }
     requires page { p < words.now.table.shared.key.pages }
-    requires owner { MayTell U.may_read p M.said (view pass.old) }
+    requires owner { MayTell U.tied U.may_read p M.said (view pass.old) }
     requires given { (M.shape ≡ words.now.table.shared.key) × (M.tells ≡ B.tells) }
     ensures pass { IsSamePass pass.old pass.new }
     ensures table { IsOf words.now.table.shared.key B.tells (view pass.old) }
     ensures told { LookTold U.tied p M.said result (view pass.old) (view pass.new) }
+    ensures kept { B.tells ≡ true → IsKeptNow U.keeps p (left_at result (seat_of (view pass.old) p).reading ≡ Same) (view pass.new) }
 {
     look_step::<U, B, M>(words, pass, p)
 }
@@ -96,10 +103,11 @@ pub fn look<U: Owner, B: Block>(
 ) -> u64
     requires pass { MayStep words.now.table.shared.table_id pass.old }
     requires page { p < words.now.table.shared.key.pages }
-    requires owner { MayTell U.may_read p (option_map (λ b. b.now) said) (view pass.old) }
+    requires owner { MayTell U.tied U.may_read p (option_map (λ b. b.now) said) (view pass.old) }
     ensures pass { IsSamePass pass.old pass.new }
     ensures table { IsOf words.now.table.shared.key B.tells (view pass.old) }
     ensures told { LookTold U.tied p (option_map (λ b. b.now) said.entry) result (view pass.old) (view pass.new) }
+    ensures kept { B.tells ≡ true → IsKeptNow U.keeps p (left_at result (seat_of (view pass.old) p).reading ≡ Same) (view pass.new) }
 {
     look_with::<U, B, Brand>(words, pass, p, said)
 }
@@ -111,6 +119,7 @@ pub fn look_silently<U: Owner, B: Block>(words: &Words<U, B>, pass: &mut Pass<U>
     ensures pass { IsSamePass pass.old pass.new }
     ensures table { IsOf words.now.table.shared.key B.tells (view pass.old) }
     ensures told { LookTold U.tied p None result (view pass.old) (view pass.new) }
+    ensures kept { B.tells ≡ true → IsKeptNow U.keeps p (left_at result (seat_of (view pass.old) p).reading ≡ Same) (view pass.new) }
 {
     look_step::<U, B, Brand>(words, pass, p)
 }
@@ -253,6 +262,7 @@ fn release_step<U: Owner, B: Block, M: Given<U::Said>>(
     ensures pass { IsSamePass pass.old pass.new }
     ensures table { IsOf words.now.table.shared.key B.tells (view pass.old) }
     ensures told { ReleaseTold p version M.rest M.said (view pass.old) (view pass.new) }
+    ensures kept { B.tells ≡ true → IsKeptNow U.keeps p (Unit {0}) (view pass.new) }
 {
     let mut seat = lift::<View<U::Said>, Option<B>>(&mut pass.badge);
     words
@@ -278,6 +288,7 @@ fn release_with<U: Owner, B: Block, M: Given<U::Said>>(
     ensures pass { IsSamePass pass.old pass.new }
     ensures table { IsOf words.now.table.shared.key B.tells (view pass.old) }
     ensures told { ReleaseTold p version M.rest M.said (view pass.old) (view pass.new) }
+    ensures kept { B.tells ≡ true → IsKeptNow U.keeps p (Unit {0}) (view pass.new) }
 {
     release_step::<U, B, M>(words, pass, p, version);
 }
@@ -299,6 +310,7 @@ pub fn release<U: Owner, B: Block>(
     ensures pass { IsSamePass pass.old pass.new }
     ensures table { IsOf words.now.table.shared.key B.tells (view pass.old) }
     ensures told { ReleaseTold p version rest.now (option_map (λ b. b.now) said.entry) (view pass.old) (view pass.new) }
+    ensures kept { B.tells ≡ true → IsKeptNow U.keeps p (Unit {0}) (view pass.new) }
 {
     release_with::<U, B, Brand>(words, pass, p, version, rest, said);
 }
@@ -317,6 +329,7 @@ pub fn release_silently<U: Owner, B: Block>(
     ensures pass { IsSamePass pass.old pass.new }
     ensures table { IsOf words.now.table.shared.key B.tells (view pass.old) }
     ensures told { ReleaseTold p version [] None (view pass.old) (view pass.new) }
+    ensures kept { B.tells ≡ true → IsKeptNow U.keeps p (Unit {0}) (view pass.new) }
 {
     release_step::<U, B, Brand>(words, pass, p, version);
 }
@@ -335,6 +348,7 @@ fn release_evicted_with<U: Owner, B: Block, M: Given<U::Said>>(
     ensures pass { IsSamePass pass.old pass.new }
     ensures table { IsOf words.now.table.shared.key B.tells (view pass.old) }
     ensures told { EvictTold p version (view pass.old) (view pass.new) }
+    ensures kept { B.tells ≡ true → IsKeptNow U.keeps p (Unit {0}) (view pass.new) }
 {
     let new = EVICTED * UNIT + (version + 1);
     let mut seat = lift::<View<U::Said>, Option<B>>(&mut pass.badge);
@@ -359,6 +373,46 @@ pub fn release_evicted<U: Owner, B: Block>(
     ensures pass { IsSamePass pass.old pass.new }
     ensures table { IsOf words.now.table.shared.key B.tells (view pass.old) }
     ensures told { EvictTold p version (view pass.old) (view pass.new) }
+    ensures kept { B.tells ≡ true → IsKeptNow U.keeps p (Unit {0}) (view pass.new) }
 {
     release_evicted_with::<U, B, Brand>(words, pass, p, version);
+}
+
+fn downgrade_with<U: Owner, B: Block, M: Given<U::Said>>(
+    words: &Words<U, B>,
+    pass: &mut Pass<U>,
+    p: u32,
+    version: u64,
+)
+    requires pass { MayStep words.now.table.shared.table_id pass.old }
+    requires page { p < words.now.table.shared.key.pages }
+    requires below { version < MAX_VERSION }
+    requires legal { MayDowngrade U.may_release (view pass.old) p version }
+    requires given { (M.shape ≡ words.now.table.shared.key) × (M.tells ≡ B.tells) × (M.first ≡ version) }
+    ensures pass { IsSamePass pass.old pass.new }
+    ensures table { IsOf words.now.table.shared.key B.tells (view pass.old) }
+    ensures told { DowngradeTold p version (view pass.old) (view pass.new) }
+    ensures kept { B.tells ≡ true → IsKeptNow U.keeps p (Unit {0}) (view pass.new) }
+{
+    let new = UNIT + (version + 1);
+    let mut seat = lift::<View<U::Said>, Option<B>>(&mut pass.badge);
+    words
+        .table
+        .shared
+        .store::<Downgrade<U, M>>(&mut seat, p as usize, new);
+    pass.badge = seat.into_badge();
+}
+
+/// Releases a page alone at its next version, which the pass has locked exclusively, to one share of the pass. Nothing is said.
+pub fn downgrade<U: Owner, B: Block>(words: &Words<U, B>, pass: &mut Pass<U>, p: u32, version: u64)
+    requires pass { MayStep words.now.table.shared.table_id pass.old }
+    requires page { p < words.now.table.shared.key.pages }
+    requires below { version < MAX_VERSION }
+    requires legal { MayDowngrade U.may_release (view pass.old) p version }
+    ensures pass { IsSamePass pass.old pass.new }
+    ensures table { IsOf words.now.table.shared.key B.tells (view pass.old) }
+    ensures told { DowngradeTold p version (view pass.old) (view pass.new) }
+    ensures kept { B.tells ≡ true → IsKeptNow U.keeps p (Unit {0}) (view pass.new) }
+{
+    downgrade_with::<U, B, Brand>(words, pass, p, version);
 }

@@ -1,12 +1,12 @@
 -- A claim of zero pages keeps what the tree keeps.
-use Rattle.std.proofs.Common.{◌≡◌, ◌⊎◌, inl, inr, ℕ, zero, suc, ◌+◌, ◌<◌, ◌≤◌, Bool, true, false, ◌∷◌, length, slice_index, refl, arith}
+use Rattle.std.proofs.Common.{◌≡◌, ◌⊎◌, inl, inr, ℕ, zero, suc, ◌+◌, ◌<◌, ◌≤◌, Bool, true, false, [], ◌∷◌, ◌++◌, length, slice_index, refl, sym, ap, ◌∙◌, arith, length-append}
 use Rattle.std.proofs.lemmas.Bool.{cases_eq}
-use Rattle.std.proofs.lemmas.Bool.Decides.{nat_tests}
 use Rattle.vm_tree_model.specs.Node.{IsNode}
 use Rattle.vm_tree_model.specs.Page.{IsFree}
 use Rattle.vm_tree_model.specs.Tree.{page_at, node_at}
 use Rattle.vm_owner.specs.Numbers.{has}
 use Rattle.vm_owner.specs.Kept.{Start, Kept, claimed, AreZero}
+use Rattle.vm_owner.proofs.NumberLemmas.{has-end, has-last, apart-end}
 use Rattle.vm_map.specs.declared.call.Said.{Said}
 use Rattle.vm_tree_laws.specs.Keeps.{Keeps}
 
@@ -19,10 +19,10 @@ module _ (start : Start) (kept : Kept Said) (keeps : Keeps start kept) where
       go false none = refl
 
   -- a page owed after the claim is the page claimed, or was owed
-  owed_before : (x : ℕ) → has x (kept.next ∷ kept.owed) ≡ true → (x ≡ kept.next) ⊎ (has x kept.owed ≡ true)
+  owed_before : (x : ℕ) → has x (kept.owed ++ kept.next ∷ []) ≡ true → (x ≡ kept.next) ⊎ (has x kept.owed ≡ true)
   owed_before x some = elim (cases_eq x kept.next) [
     | inl same ↦ inl same
-    | inr other ↦ inr (grind (arith, nat_tests, some, other))
+    | inr other ↦ inr (sym (has-end kept.owed kept.next x other) ∙ some)
   ]
 
   -- a page of zeros is free: in a tree each page has 64 words, and page 0 has its magic word
@@ -36,7 +36,7 @@ module _ (start : Start) (kept : Kept Said) (keeps : Keeps start kept) where
     ]
   ]
 
-  claim_keeps : kept.next < length kept.pages → IsFree (page_at kept.pages kept.next) → Keeps start (record kept { next = kept.next + 1; owed = kept.next ∷ kept.owed })
+  claim_keeps : kept.next < length kept.pages → IsFree (page_at kept.pages kept.next) → Keeps start (record kept { next = kept.next + 1; owed = kept.owed ++ kept.next ∷ [] })
   claim_keeps there free = record {
     same_count = keeps.same_count;
     tree = keeps.tree;
@@ -47,7 +47,7 @@ module _ (start : Start) (kept : Kept Said) (keeps : Keeps start kept) where
     bounded = omega arith;
     claimed = claimed_or_owed;
     owed = record {
-      apart = (next_not_owed, keeps.owed.apart);
+      apart = apart-end kept.owed kept.next keeps.owed.apart next_not_owed;
       range = λ x some. elim (owed_before x some) [
         | inl same ↦ (omega (arith, keeps.risen), omega arith)
         | inr before ↦ let range = keeps.owed.range x before in (range.0, omega (arith, range.1))
@@ -57,21 +57,21 @@ module _ (start : Start) (kept : Kept Said) (keeps : Keeps start kept) where
         | inr before ↦ keeps.owed.free x before
       ];
     };
-    count = omega (arith, keeps.count);
+    count = omega (arith, keeps.count, length-append kept.owed (kept.next ∷ []));
     room = keeps.room;
   }
     where
-      claimed_or_owed : (x : ℕ) → start.next ≤ x → x < kept.next + 1 → IsNode (node_at kept.pages x) ⊎ (has x (kept.next ∷ kept.owed) ≡ true)
+      claimed_or_owed : (x : ℕ) → start.next ≤ x → x < kept.next + 1 → IsNode (node_at kept.pages x) ⊎ (has x (kept.owed ++ kept.next ∷ []) ≡ true)
       claimed_or_owed x ge lt = elim (cases_eq x kept.next) [
-        | inl same ↦ inr (grind (arith, nat_tests, same))
+        | inl same ↦ inr (ap (λ y. has y (kept.owed ++ kept.next ∷ [])) same ∙ has-last kept.owed kept.next)
         | inr other ↦ elim (keeps.claimed x ge (omega arith)) [
           | inl is ↦ inl is
-          | inr some ↦ inr (grind (arith, nat_tests, some))
+          | inr some ↦ inr (has-end kept.owed kept.next x other ∙ some)
         ]
       ]
 
 pub claims_keep : (start : Start) (kept : Kept Said) (n : ℕ) → Keeps start kept → AreZero kept n → Keeps start (claimed n kept)
 claims_keep start kept zero keeps zeros = keeps
-claims_keep start kept (suc n) keeps zeros = claims_keep start (record kept { next = kept.next + 1; owed = kept.next ∷ kept.owed }) n
+claims_keep start kept (suc n) keeps zeros = claims_keep start (record kept { next = kept.next + 1; owed = kept.owed ++ kept.next ∷ [] }) n
     (claim_keeps start kept keeps (omega (arith, zeros.there)) (free_at start kept keeps kept.next (omega (arith, zeros.there)) (λ i. zeros.zero kept.next i (omega arith) (omega arith))))
     (record { there = omega (arith, zeros.there); zero = λ p i ge lt. zeros.zero p i (omega (arith, ge)) (omega (arith, lt)) })

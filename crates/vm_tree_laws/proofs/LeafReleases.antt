@@ -33,7 +33,7 @@ use Rattle.vm_tree_laws.proofs.Nodes.{not_owed}
 module _ (start : Start) (kept : Kept Said) (keeps : Keeps start kept) (p : ℕ) (words : List ℕ) (at : IsLeafAt kept.pages p) (e : Entry Said) (turn : e.count ≡ calls_of e.number kept.history + 1) where
   -- what stands after the release
   abbrev now : Kept Said
-  now = record { pages = set kept.pages p words; next = kept.next; owed = without p kept.owed; history = kept.history ++ e ∷ [] }
+  now = record kept { pages = set kept.pages p words; owed = without p kept.owed; history = kept.history ++ e ∷ [] }
 
   here : page_at (set kept.pages p words) p ≡ words
   here = get_or-set_same kept.pages p words [] at.1

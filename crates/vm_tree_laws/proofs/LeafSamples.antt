@@ -47,7 +47,7 @@ after_put = released (put_change ∷ []) (entry 0 1 (Put 5 7) (Was None)) (first
 
 pub put_keeps : Keeps least_start after_put
 put_keeps = releases_keep least_start (first_kept least_start) [] (put_change ∷ []) (entry 0 1 (Put 5 7) (Was None)) least_keeps
-    (record { agrees = (omega arith, refl, tt); apart = (refl, tt); sized = (refl, refl, tt); few = omega arith; owed = λ p some. absurd (cc) })
+    (record { agrees = (omega arith, refl, tt); apart = (refl, tt); sized = (refl, tt); few = omega arith; owed = λ p some. absurd (cc) })
     (refl, refl) put_may
 
 pub put_map : map_of after_put.pages ≡ (5, 7) ∷ []

@@ -14,7 +14,6 @@ pub mod Laws
 pub mod Descents
 pub mod Fullness
 pub mod Established
-pub mod OwedLists
 pub mod SamplePages
 pub mod LeafSamples
 pub mod SplitSamples

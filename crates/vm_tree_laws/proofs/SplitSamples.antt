@@ -45,7 +45,7 @@ root_changes = record { page = 0; old = meta_page 1 0; new = meta_page 3 1 }
     ∷ record { page = 3; old = replicate 64 0; new = page_from (3 ∷ 2 ∷ 0 ∷ 0 ∷ 1 ∷ 1 ∷ 0 ∷ 0 ∷ 0 ∷ 1 ∷ 15 ∷ 2 ∷ []) }
     ∷ []
 
-root_may : MayRelease full_start (3 ∷ 2 ∷ []) root_changes []
+root_may : MayRelease full_start (2 ∷ 3 ∷ []) root_changes []
 root_may = record {
   separator = 15;
   page_zero = refl;
@@ -68,11 +68,11 @@ abbrev pub after_root_split : Kept Said
 after_root_split = released root_changes [] (claimed 2 (first_kept full_start))
 
 pub root_split_keeps : Keeps full_start after_root_split
-root_split_keeps = releases_keep full_start (claimed 2 (first_kept full_start)) (3 ∷ 2 ∷ []) root_changes [] full_keeps
+root_split_keeps = releases_keep full_start (claimed 2 (first_kept full_start)) (2 ∷ 3 ∷ []) root_changes [] full_keeps
     (record {
       agrees = (omega arith, refl, (omega arith, refl, (omega arith, refl, (omega arith, refl, tt))));
       apart = (refl, (refl, (refl, (refl, tt))));
-      sized = (refl, refl, (refl, refl, (refl, refl, (refl, refl, tt))));
+      sized = (refl, (refl, (refl, (refl, tt))));
       few = omega arith;
       owed = λ p some. some;
     })
@@ -145,7 +145,7 @@ leaf_split_keeps = releases_keep high_start (claimed 1 (first_kept high_start)) 
     (record {
       agrees = (omega arith, refl, (omega arith, refl, (omega arith, refl, tt)));
       apart = (refl, (refl, (refl, tt)));
-      sized = (refl, refl, (refl, refl, (refl, refl, tt)));
+      sized = (refl, (refl, (refl, tt)));
       few = omega arith;
       owed = λ p some. some;
     })

@@ -3,6 +3,7 @@ use Rattle.std.proofs.Common.{◌≡◌, ◌⊎◌, inl, inr, ℕ, zero, suc, �
 use Rattle.vm_tree_model.specs.Node.{IsNode}
 use Rattle.vm_tree_model.specs.Page.{IsLeaf, IsInner}
 use Rattle.vm_tree_model.specs.Tree.{page_at, node_at, IsTree}
+use Rattle.vm_tree_model.proofs.Height.{height_fits}
 use Rattle.vm_tree_model.proofs.Laws.{in_range}
 use Rattle.vm_owner.specs.Kept.{Start, Kept}
 use Rattle.vm_map.specs.declared.call.Said.{Said}
@@ -19,6 +20,7 @@ module _ (pages : List (List ℕ)) (tree : IsTree pages) where
   sound_at : (r : ℕ) → r < length pages → IsSound (length pages) r (page_at pages r)
   sound_at r lt = record {
     meta = λ e. rw e tree.meta;
+    height = λ e. rw e (height_fits pages tree);
     kind = λ ge. tree.kind r ge lt;
     children = λ ge k c tag found. in_range pages tree c (tree.tree.child_is r k c (tag, found));
   }

@@ -14,6 +14,8 @@ pub record IsNodeAs (words : List ℕ) (level low high : ℕ) : Type 0 where
 -- these can be the words of page r in an image of so many pages
 pub record IsSound (pages r : ℕ) (words : List ℕ) : Type 0 where
   pub meta : r ≡ 0 → IsMeta pages words
+  -- the tree is lower than its pages are many
+  pub height : r ≡ 0 → slice_index words 2 + 2 ≤ pages
   pub kind : 1 ≤ r → IsFree words ⊎ IsLeaf words ⊎ IsInner words
   pub children : 1 ≤ r → (k c : ℕ) → (node_of words).tag ≡ 3 → lookup_at (node_of words).pairs k ≡ Some c → (1 ≤ c) × (c < pages)
 

@@ -1,9 +1,9 @@
-//! What keeps the tree's relation: the start has it, and a release, a read, a claim and another order of the pages owed keep it.
+//! What keeps the tree's relation: the start has it, and a release, a read and a claim keep it.
 //! Two things follow from it: what a page tells of the pages that it names, and what has become of the pages where they are used up.
 ghost use Rattle.std.specs.Prelude.{◌≡◌, ℕ, ◌+◌, ◌*◌, ◌<◌, ◌≤◌, List, [], length};
 ghost use Rattle.vm_map.specs.declared.call.Said.{Said};
 ghost use Rattle.vm_owner.specs.declared.Entry.{Entry};
-ghost use Rattle.vm_owner.specs.Kept.{Start, Kept, Change, Fits, IsTurn, released, told, claimed, AreZero, IsOwedList, first_kept};
+ghost use Rattle.vm_owner.specs.Kept.{Start, Kept, Change, Fits, IsTurn, released, told, claimed, AreZero, first_kept};
 ghost use Rattle.vm_page.specs.Pages.{page_at};
 ghost use Rattle.vm_tree_model.specs.Tree.{IsTree};
 ghost use Rattle.vm_tree_model.specs.Count.{node_count};
@@ -37,12 +37,6 @@ pub fn reads_keep()
 /// A claim of pages of zeros keeps the relation, and the pages claimed are owed.
 pub fn claims_keep()
     ensures { (start : Start) (kept : Kept Said) (n : ℕ) → Keeps start kept → AreZero kept n → Keeps start (claimed n kept) }
-{}
-
-/// The order in which the pages owed are listed does not matter.
-#[tactic(auto, using(crate::proofs::OwedLists::reorders_keep))]
-pub fn reorders_keep()
-    ensures { (start : Start) (kept : Kept Said) (owed : List ℕ) → Keeps start kept → IsOwedList kept owed → Keeps start (record kept { owed = owed }) }
 {}
 
 /// Any two pages are tied, and each page is tied with itself.

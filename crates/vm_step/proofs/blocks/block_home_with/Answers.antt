@@ -1,5 +1,6 @@
 use Rattle.std.proofs.Common.{rules, ◌≡◌, ◌<◌, ◌∷◌, length, subst, sym, ap, ◌∙◌, arith, true, Some, None}
 use Rattle.atomic_table.specs.Table.{rest}
+use Rattle.vm_rule.specs.Sound.{Sound}
 use Rattle.vm_rule.specs.Slots.{ReturnTold}
 use Rattle.vm_rule.specs.Views.{view_of}
 use Rattle.vm_rule.proofs.Views.{has-view}
@@ -65,6 +66,7 @@ invariant_of-pass g c =
       one = ap length one;
       live = ap (λ l. (view_of l).live) one ∙ steady.live;
       settled = (ap (λ l. (view_of l).told_releases) one ∙ steady.settled.0, ap (λ l. (view_of l).told) one ∙ steady.settled.1);
+      sound = subst Sound (sym (ap view_of one)) steady.sound;
     }
 
 pub returns-clause-told : goal.returns-clause-told

@@ -6,12 +6,10 @@ use Rattle.vm_step.proofs.bundles.hand_with.Goals as goal
 pub fetch_add-found-requires : goal.fetch_add-found-requires
 fetch_add-found-requires g c =
     let is = ap view_of c.lift-seat.ensures.2 in
-    let pages = c.args.words.now.shape.0 in
-    let frames = c.args.words.now.shape.1 in
     let wide = c.args.words.now.wide.0 in
-    let bundles = c.div_ceil.ensures in (
+    let inside = c.next_place-place.ensures.inside in (
       search rules,
-      omega (arith, pages, frames, wide, bundles),
+      omega (arith, wide, inside),
       rw (c.requires.given.0, c.requires.given.1)
-          (hand-allows _ _ _ _ _ _ _ _ _ _ _ (subst (λ v. v.live ≡ true) is c.args.pass.now.live) (subst (λ v. 0 < length v.used) is c.requires.pass.1) pages frames bundles),
+          (hand-allows _ _ _ _ _ _ _ _ _ (subst (λ v. v.live ≡ true) is c.args.pass.now.live) (subst (λ v. 0 < length v.used) is c.requires.pass.1) c.next_place-place.ensures.place),
     )

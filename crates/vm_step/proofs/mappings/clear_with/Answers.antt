@@ -24,4 +24,4 @@ invariant_of-pass g c =
     rw c.requires.given.2 (subst (λ v. StandsClean v c.args.p c.requires.legal.0) is c.requires.legal.1) in
     let told = (c.store.ensures.2.1 c.requires.legal.0 stands).brings in
     let left = settled c.into_badge.result.views told (ap view_of c.into_badge.ensures.2) (subst (λ v. v.live ≡ true) is c.args.pass.now.live) in
-    record { one = search rules; live = left.0; settled = (left.1, left.2) }
+    record { one = search rules; live = left.0; settled = (left.1, left.2); sound = left.3 }

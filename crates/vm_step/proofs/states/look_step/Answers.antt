@@ -13,5 +13,5 @@ load-found-requires g c =
       omega (arith, wide, page),
       rw (c.requires.given.0, c.requires.given.1)
           (look_allows _ _ _ _ g.U.Owner.may_read g.U.Owner.reads g.U.Owner.ties _ _ _ _ c.args.p g.M.Given.said (subst (λ v. v.live ≡ true) is c.args.pass.now.live) (subst (λ v. 0 < length v.used) is c.requires.pass.1)
-          page (subst (λ v. MayTell g.U.Owner.may_read c.args.p g.M.Given.said v) is c.requires.owner)),
+          page (subst (λ v. MayTell g.U.Owner.tied g.U.Owner.may_read c.args.p g.M.Given.said v) is c.requires.owner)),
     )

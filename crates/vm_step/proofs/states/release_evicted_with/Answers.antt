@@ -18,6 +18,6 @@ store-requires g c =
       search rules,
       omega (arith, wide, page),
       rw (c.requires.given.0, c.requires.given.1, c.requires.given.2)
-          (evict-stands _ _ _ g.U.Owner.may_release g.U.Owner.releases g.U.Owner.reorders _ _ _ _ _ _ _ (subst (λ v. v.live ≡ true) is c.args.pass.now.live) (subst (λ v. 0 < length v.used) is c.requires.pass.1) page c.requires.below
+          (evict-stands _ _ _ g.U.Owner.may_release g.U.Owner.releases _ _ _ _ _ _ _ (subst (λ v. v.live ≡ true) is c.args.pass.now.live) (subst (λ v. 0 < length v.used) is c.requires.pass.1) page c.requires.below
           (subst (λ v. MayEvict v c.args.p c.args.version) is c.requires.legal)),
     )

@@ -16,6 +16,6 @@ store-requires g c =
       search rules,
       omega (arith, wide, page),
       rw (c.requires.given.0, c.requires.given.1, c.requires.given.2)
-          (release-stands _ _ _ _ g.U.Owner.releases g.U.Owner.reorders _ _ _ _ _ _ _ _ _ (subst (λ v. v.live ≡ true) is c.args.pass.now.live) (subst (λ v. 0 < length v.used) is c.requires.pass.1) page c.requires.below
+          (release-stands _ _ _ _ g.U.Owner.releases _ _ _ _ _ _ _ _ _ (subst (λ v. v.live ≡ true) is c.args.pass.now.live) (subst (λ v. 0 < length v.used) is c.requires.pass.1) page c.requires.below
           (subst (λ v. MayGiveUp g.U.Owner.may_release c.args.p c.args.version g.M.Given.rest g.M.Given.said v) is c.requires.legal)),
     )

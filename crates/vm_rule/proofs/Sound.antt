@@ -1,0 +1,103 @@
+-- The rule keeps of each live view what is read off that view alone.
+use Rattle.std.proofs.Common.{ℕ, Bool, true, false, true≢false, Option, List, [], ◌∷◌, ◌++◌, ◌≡◌, ◌≢◌, ◌⊎◌, ◌+◌, ◌<◌, ◌≤◌, ◌==◌, ◌||◌, if◌then◌else◌, length, refl, sym, ap, subst, ◌∙◌, arith, ⊎_elim, append_assoc}
+use Rattle.std.proofs.lemmas.Bool.{cases_Bool, cases_eq, eq-eqb, ne_eqb}
+use mathlib.Core.Option.{some}
+use lib.ListN.{get_elem?}
+use Rattle.atomic_table.specs.Table.{State as Table}
+use Rattle.vm_core.specs.Words.{MAX_VERSION}
+use Rattle.vm_core.specs.History.{History, Version}
+use Rattle.vm_block.specs.declared.stored.Stored.{Stored}
+use Rattle.vm_owner.specs.declared.Entry.{Entry}
+use Rattle.vm_owner.specs.Kept.{Start, Kept}
+use Rattle.vm_owner.specs.Numbers.{has, AreApart}
+use Rattle.vm_rule.specs.declared.view.Origin.{Origin}
+use Rattle.vm_rule.specs.declared.view.Release.{Release}
+use Rattle.vm_rule.specs.declared.view.View.{View}
+use Rattle.vm_rule.specs.Views.{StartsWith, Each, PARTS, times, total, owns, one_part, entries_by}
+use Rattle.vm_rule.specs.Reading.{last_in, after_releases, first_history, pushed}
+use Rattle.vm_rule.specs.Rule.{AreNext, AreCounted, KnowsLists, Ruled}
+use Rattle.vm_rule.proofs.Entries.{entries-both, total-at, append-none}
+use Rattle.vm_rule.proofs.Heard.{one-most, times-has}
+use Rattle.vm_rule.proofs.Worlds.{last-is}
+use Rattle.vm_rule.specs.Sound.{Sound}
+
+after-append : (p : ℕ) (h : History) (l m : List Release) → after_releases p h (l ++ m) ≡ after_releases p (after_releases p h l) m
+after-append p h [] m = refl
+after-append p h (r ∷ rs) m = after-append p (if r.page == p then pushed h r else h) rs m
+
+last-one : (start : Origin) (before : List Release) (r : Release) (p : ℕ) → last_in start (before ++ r ∷ []) p ≡ (if r.page == p then pushed (after_releases p (first_history start p) before) r else after_releases p (first_history start p) before).last
+last-one start before r p = ap (λ (h : History). h.last) (after-append p (first_history start p) before (r ∷ []))
+
+-- the last version never falls
+pub never-falls : (start : Origin) (before more : List Release) (p : ℕ) → AreNext start before more → (last_in start before p).version ≤ (last_in start (before ++ more) p).version
+never-falls start before [] p a = let e : (last_in start (before ++ []) p).version ≡ (last_in start before p).version = ap (λ l. (last_in start l p).version) (append-none before) in omega (arith, e)
+never-falls start before (r ∷ rs) p a =
+    let later : (last_in start (before ++ r ∷ []) p).version ≤ (last_in start ((before ++ r ∷ []) ++ rs) p).version = never-falls start (before ++ r ∷ []) rs p a.1 in
+    let same : (last_in start ((before ++ r ∷ []) ++ rs) p).version ≡ (last_in start (before ++ r ∷ rs) p).version = ap (λ l. (last_in start l p).version) (append_assoc before (r ∷ []) rs) in
+    let now : (last_in start before p).version ≤ (last_in start (before ++ r ∷ []) p).version = ⊎_elim
+    (λ (t : r.page ≡ p).
+    let is : (last_in start (before ++ r ∷ []) p).version ≡ r.version = ap (λ (v : Version). v.version) (last-one start before r p) ∙ (rw (eq-eqb r.page p t) refl) in
+    let next : r.version ≡ (last_in start before p).version + 1 = a.0 ∙ ap (λ q. (last_in start before q).version + 1) t in
+    omega (arith, is, next))
+    (λ (ne : r.page ≢ p).
+    let is : (last_in start (before ++ r ∷ []) p).version ≡ (last_in start before p).version = ap (λ (v : Version). v.version) (last-one start before r p) ∙ (rw (ne_eqb r.page p ne) refl) in
+    omega (arith, is))
+    (cases_eq r.page p) in
+    omega (arith, later, same, now)
+
+times-append : (k : ℕ) (l m : List ℕ) → times k (l ++ m) ≡ times k l + times k m
+times-append k [] m = omega arith
+times-append k (x ∷ xs) m = let r : times k (xs ++ m) ≡ times k xs + times k m = times-append k xs m in omega (arith, r)
+
+-- numbers that stand once at most are apart
+once-apart : (l : List ℕ) → ((k : ℕ) → times k l ≤ 1) → AreApart l
+once-apart [] once = tt
+once-apart (q ∷ qs) once = (
+  ⊎_elim (λ t. absurd (let a : 1 ≤ times q qs = times-has q qs t in let b : times q (q ∷ qs) ≤ 1 = once q in let c : times q (q ∷ qs) ≡ 1 + times q qs = rw (eq-eqb q q refl) refl in omega arith)) (λ f. f) (cases_Bool (has q qs)),
+  once-apart qs (λ k. let a : times k (q ∷ qs) ≤ 1 = once k in omega (arith, a)),
+)
+
+each-front : {A : Type 0} (P : A → Type 0) (l m : List A) → Each P (l ++ m) → Each P l
+each-front P [] m e = tt
+each-front P (x ∷ xs) m e = (e.0, each-front P xs m e.1)
+
+next-front : (start : Origin) (before l m : List Release) → AreNext start before (l ++ m) → AreNext start before l × AreNext start (before ++ l) m
+next-front start before [] m a = (tt, subst (λ b. AreNext start b m) (sym (append-none before)) a)
+next-front start before (r ∷ rs) m a =
+    let k = next-front start (before ++ r ∷ []) rs m a.1 in
+    ((a.0, k.0), subst (λ b. AreNext start b m) (append_assoc before (r ∷ []) rs) k.1)
+
+module _ {X : Type 0} where
+  counted-front : (before : ℕ → ℕ) (l m : List (Entry X)) → AreCounted before (l ++ m) → AreCounted before l
+  counted-front before [] m a = tt
+  counted-front before (e ∷ es) m a = (a.0, counted-front (λ n. (if e.number == n then 1 else 0) + before n) es m a.1)
+
+  front-none : (a b : List (Entry X)) → a ++ b ≡ [] → a ≡ []
+  front-none [] b e = refl
+  front-none (x ∷ xs) b e = absurd (let n : length (x ∷ (xs ++ b)) ≡ 0 = ap length e in omega arith)
+
+module _ {X B : Type 0} (stored : B → Stored) (keeps : Start → Kept X → Type 0) (tied : Start → ℕ → List ℕ → ℕ → List ℕ → Type 0) (start : Origin) (tells : Bool) where
+  pub is-sound : (s : Table (Option B) (View X)) (r : Ruled stored keeps tied start tells s) (id : ℕ) (v : View X) → get_elem? s.views id ≡ some v → v.live ≡ true → Sound v
+  is-sound s r id v there live =
+      let g : KnowsLists start r.releases r.history v = r.heard id v there live in
+      let rises : AreNext start [] v.releases × AreNext start v.releases g.saw.0 = next-front start [] v.releases g.saw.0 (subst (AreNext start []) g.saw.1 r.lists.rises) in
+      record {
+        mine = g.mine;
+        fresh = λ k x. front-none (entries_by (k ∷ []) v.seen) (entries_by (k ∷ []) g.heard.0) (sym (entries-both (k ∷ []) v.seen g.heard.0) ∙ ap (entries_by (k ∷ [])) (sym g.heard.1) ∙ g.fresh k x);
+        apart = once-apart (v.used ++ v.fresh) (λ k.
+            let both : times k (v.used ++ v.fresh) ≡ times k v.used + times k v.fresh = times-append k v.used v.fresh in
+            let one : owns k v ≤ total (owns k) s.views = total-at (owns k) s.views id v there in
+            let all : total (owns k) s.views ≡ one_part k = r.parts.parts k in
+            let most : one_part k ≤ 1 = one-most k in
+            omega (arith, both, one, all, most));
+        numbered = each-front (λ e. e.number < PARTS) v.seen g.heard.0 (subst (Each (λ e. e.number < PARTS)) g.heard.1 r.lists.numbered);
+        counted = counted-front (λ _. 0) v.seen g.heard.0 (subst (AreCounted (λ _. 0)) g.heard.1 r.lists.counted);
+        rises = subst (λ (o : Origin). AreNext o [] v.releases) (sym g.same_start) rises.0;
+        capped = λ p.
+            let up : (last_in start v.releases p).version ≤ (last_in start (v.releases ++ g.saw.0) p).version = never-falls start v.releases g.saw.0 p rises.1 in
+            let whole : (last_in start (v.releases ++ g.saw.0) p).version ≡ (last_in start r.releases p).version = ap (λ l. (last_in start l p).version) (sym g.saw.1) in
+            let is = ap (λ (y : _). y.version) (last-is start r.releases r.drafts p) ∙ (r.inv.pages p).stands.last in
+            let most = (r.inv.pages p).locks.in_range in
+            let here : (last_in v.start v.releases p).version ≡ (last_in start v.releases p).version = ap (λ (o : Origin). (last_in o v.releases p).version) g.same_start in
+            omega (arith, up, whole, is, most, here);
+      }

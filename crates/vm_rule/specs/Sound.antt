@@ -1,0 +1,19 @@
+-- What the rule keeps of a live view, read off that view alone.
+use Rattle.std.specs.Prelude.{ℕ, true, List, [], ◌∷◌, ◌++◌, ◌≡◌, ◌<◌, ◌≤◌}
+use Rattle.vm_core.specs.Words.{MAX_VERSION}
+use Rattle.vm_owner.specs.Numbers.{has, AreApart}
+use Rattle.vm_rule.specs.declared.view.View.{View}
+use Rattle.vm_rule.specs.Views.{Each, PARTS, entries_by}
+use Rattle.vm_rule.specs.Reading.{last_of}
+use Rattle.vm_rule.specs.Rule.{AreNext, AreCounted}
+
+-- its own entries are those of its numbers; a fresh part has none; its parts are apart; entries have numbers of parts, counted for each; its
+-- releases have the next versions, and no page is past the last
+pub record Sound {X : Type 0} (v : View X) : Type 0 where
+  pub mine : v.mine ≡ entries_by v.used v.seen
+  pub fresh : (k : ℕ) → has k v.fresh ≡ true → entries_by (k ∷ []) v.seen ≡ []
+  pub apart : AreApart (v.used ++ v.fresh)
+  pub numbered : Each (λ e. e.number < PARTS) v.seen
+  pub counted : AreCounted (λ _. 0) v.seen
+  pub rises : AreNext v.start [] v.releases
+  pub capped : (p : ℕ) → (last_of v p).version ≤ MAX_VERSION

@@ -1,0 +1,214 @@
+-- A split, a join and a hearing are no events: what the table shows changes in its actors alone.
+use Rattle.std.proofs.Common.{ℕ, Bool, true, false, Option, None, ◌≡◌, ◌≢◌, ◌+◌, ◌<◌, ◌≤◌, ◌||◌, List, [], ◌∷◌, ◌++◌, length, refl, sym, ap, ◌∙◌, ⊎_elim, arith, slice_set, length-set}
+use Rattle.std.proofs.lemmas.Bool.{cases_eq, cases_lt}
+use mathlib.Core.Path.{fun_ext}
+use mathlib.Core.Option.{some}
+use lib.ListN.{get_elem?}
+use Rattle.atomic_table.specs.Table.{State as Table}
+use Rattle.vm_block.specs.declared.stored.Stored.{Stored}
+use Rattle.vm_core.specs.declared.event.Seat.{Seat}
+use Rattle.vm_core.specs.Fn.{at, upd}
+use Rattle.vm_core.specs.Start.{no_seat, outside_page}
+use Rattle.vm_core.specs.State.{Page}
+use Rattle.vm_core.specs.History.{World}
+use Rattle.vm_core.proofs.Upd.{upd-same, upd-other, upd-self}
+use Rattle.vm_owner.specs.Kept.{Start, Kept}
+use Rattle.vm_owner.specs.Numbers.{has}
+use Rattle.vm_owner.proofs.NumberLemmas.{has-both}
+use Rattle.vm_rule.specs.declared.view.Origin.{Origin}
+use Rattle.vm_rule.specs.declared.view.View.{View}
+use Rattle.vm_rule.specs.Hearing.{OnlyKnows, hearer}
+use Rattle.vm_rule.specs.Joins.{HoldsNoPage, joined}
+use Rattle.vm_rule.specs.Layout.{words_of}
+use Rattle.vm_rule.specs.Views.{spent, seat_of, loads_at}
+use Rattle.vm_rule.specs.Reading.{page_from, pages_from, seats_of, loads_of, held_of, block_of, core_of, histories_of, world_of}
+use Rattle.vm_rule.specs.Rule.{HoldsNothing, Ruled}
+use Rattle.vm_rule.proofs.Views.{at-there, block-same}
+use Rattle.vm_rule.proofs.Pages.{page-in, page-out}
+use Rattle.vm_rule.proofs.Resettling.{Resettles, at-past, settled-blocks}
+use Rattle.vm_rule.proofs.Splitting.{same-field, split-views, split-resettles, splits-ruled, splits-past}
+use Rattle.vm_rule.proofs.Joining.{twice, once-second, at-first, at-second, at-neither, joins-ruled, joins-past}
+use Rattle.vm_rule.proofs.Meeting.{hears-ruled, hears-past}
+use Rattle.vm_step.specs.Events.{IsPassOf}
+use Rattle.vm_step.specs.NoEvents.{with_actor, HasNone, taken_in, table_split, table_joined, table_heard, IsSplitOff, IsTakenIn}
+
+-- nothing changes where nothing was
+none-still : (b : ℕ) → upd (λ (_ : ℕ). no_seat) b no_seat ≡ (λ _. no_seat)
+none-still b = upd-self (λ (_ : ℕ). no_seat) b
+
+module _ {X B : Type 0} (stored : B → Stored) (keeps : Start → Kept X → Type 0) (tied : Start → ℕ → List ℕ → ℕ → List ℕ → Type 0) (start : Origin) (tells : Bool) (s : Table (Option B) (View X)) (id : ℕ) (v : View X) (is : IsPassOf stored start keeps tied tells s id v) where
+  abbrev r : Ruled stored keeps tied start tells s
+  r = is.rule
+
+  abbrev before : World
+  before = world_of stored start r.releases r.drafts s
+
+  -- ---- split
+
+  module _ (part : Bool) (number : 0 < length v.used) where
+    abbrev views' : List (View X)
+    views' = split-views s.views id part v is.there
+
+    abbrev late : Table (Option B) (View X)
+    late = table_split s id part v
+
+    parted : Resettles s.views views' 1 (length s.views) id
+    parted = split-resettles s.views id part v is.there
+
+    one-more : length views' ≡ length s.views + 1
+    one-more = let n = parted.count in omega (arith, n)
+
+    blocks-same : block_of stored s.homes views' ≡ block_of stored s.homes s.views
+    blocks-same = settled-blocks stored start r.releases r.drafts s views' 1 (length s.views) id parted
+
+    seats-same : seats_of views' ≡ seats_of s.views
+    seats-same = fun_ext (λ p. fun_ext (λ a. same-field s.views id part v is.there (λ y. seat_of y p) refl refl a))
+
+    held-same : held_of views' ≡ held_of s.views
+    held-same = fun_ext (λ a. fun_ext (λ f. same-field s.views id part v is.there (λ y. has f y.frames) refl refl a))
+
+    loads-same : loads_of views' ≡ loads_of s.views
+    loads-same = fun_ext (λ p. fun_ext (λ a. same-field s.views id part v is.there (λ y. loads_at y p) refl refl a))
+
+    split-world : world_of stored start r.releases r.drafts late ≡ with_actor before
+    split-world i = record {
+      core = record (core_of stored start s) {
+        shape = record { pages = start.pages; frames = start.frames; actors = one-more i; next = start.next };
+        pages = pages_from start.pages (words_of start s.words) (blocks-same i) (seats-same i);
+        held = held-same i;
+      };
+      histories = histories_of start r.releases r.drafts;
+      loads = loads-same i;
+    }
+
+    -- past the last actor nobody has anything
+    none-past : HasNone before (length s.views)
+    none-past = record {
+      seats = λ p. ⊎_elim
+          (λ l. ap (λ (y : Page). y.seats (length s.views)) (page-in start.pages (words_of start s.words) (block_of stored s.homes s.views) (seats_of s.views) p l) ∙ ap (λ (y : View X). seat_of y p) (at-past spent s.views (length s.views) (omega arith)))
+          (λ le. ap (λ (y : Page). y.seats (length s.views)) (page-out start.pages (words_of start s.words) (block_of stored s.homes s.views) (seats_of s.views) p le))
+          (cases_lt p start.pages);
+      held = λ f. ap (λ (y : View X). has f y.frames) (at-past spent s.views (length s.views) (omega arith));
+      loads = λ p. ap (λ (y : View X). loads_at y p) (at-past spent s.views (length s.views) (omega arith));
+    }
+
+    pub split-no-event : IsSplitOff stored keeps tied start tells s r late
+    split-no-event =
+        let past = splits-past stored keeps tied start tells s r id part v is.there is.live number in
+        record {
+          goes = record { rule = splits-ruled stored keeps tied start tells s r id part v is.there is.live number; releases = past.0; history = past.1; drafts = past.2 };
+          core = split-world;
+          new = record {
+            seats = λ p. ap (λ (y : World). (y.core.pages p).seats (length s.views)) split-world ∙ none-past.seats p;
+            held = λ f. ap (λ (y : World). y.core.held (length s.views) f) split-world ∙ none-past.held f;
+            loads = λ p. ap (λ (y : World). y.loads p (length s.views)) split-world ∙ none-past.loads p;
+          };
+        }
+
+  -- ---- the pass takes in another, and has the view `took` then
+
+  module _ (other : ℕ) (w took : View X) (apart : other ≢ id) (at-other : get_elem? s.views other ≡ some w) (goes : w.out ≡ None) (stays : took.out ≡ v.out)
+      (seats : (p : ℕ) → seat_of took p ≡ seat_of v p) (loads : (p : ℕ) → loads_at took p ≡ loads_at v p) (frames : (f : ℕ) → has f took.frames ≡ (has f w.frames || has f v.frames)) where
+    abbrev both' : List (View X)
+    both' = twice s.views id other v w took spent is.there apart at-other
+
+    here : at spent both' id ≡ took
+    here = at-first s.views id other v w took spent is.there apart at-other
+
+    gone : at spent both' other ≡ spent
+    gone = at-second s.views id other v w took spent is.there apart at-other
+
+    neither : (a : ℕ) → a ≢ id → a ≢ other → at spent both' a ≡ at spent s.views a
+    neither = at-neither s.views id other v w took spent is.there apart at-other
+
+    -- a field of the views, of which a spent one has this, and the one that takes in another has what it had
+    field-taken : {A : Type 0} (f : View X → A) (none : A) → f spent ≡ none → f took ≡ f v → (λ a. f (at spent both' a)) ≡ upd (λ a. f (at spent s.views a)) other none
+    field-taken f none nothing same =
+        fun_ext (λ a. ⊎_elim
+        (λ (e : a ≡ other). ap (λ n. f (at spent both' n)) e ∙ ap f gone ∙ nothing ∙ sym (ap (upd (λ n. f (at spent s.views n)) other none) e ∙ upd-same (λ n. f (at spent s.views n)) other none))
+        (λ (m : a ≢ other).
+        ⊎_elim
+        (λ (e : a ≡ id). ap (λ n. f (at spent both' n)) e ∙ ap f here ∙ same ∙ sym (ap (λ n. f (at spent s.views n)) e ∙ ap f (at-there spent s.views id v is.there)))
+        (λ (n : a ≢ id). ap f (neither a n m))
+        (cases_eq a id)
+        ∙ sym (upd-other (λ n. f (at spent s.views n)) other none a m))
+        (cases_eq a other))
+
+    blocks-stay : block_of stored s.homes both' ≡ block_of stored s.homes s.views
+    blocks-stay =
+        block-same stored s.homes (slice_set s.views id took) other w spent (once-second s.views id other v w took spent is.there apart at-other) (sym goes)
+        ∙ block-same stored s.homes s.views id v took is.there stays
+
+    pages-taken : pages_from start.pages (words_of start s.words) (block_of stored s.homes both') (seats_of both') ≡ (λ p. record (before.core.pages p) { seats = upd (before.core.pages p).seats other no_seat })
+    pages-taken = fun_ext (λ p. ⊎_elim
+        (λ l.
+        page-in start.pages (words_of start s.words) (block_of stored s.homes both') (seats_of both') p l
+        ∙ (λ i. record (page_from (words_of start s.words) (blocks-stay i) (seats_of s.views) p) { seats = field-taken (λ y. seat_of y p) no_seat refl (seats p) i })
+        ∙ sym (ap (λ (y : Page). record y { seats = upd y.seats other no_seat }) (page-in start.pages (words_of start s.words) (block_of stored s.homes s.views) (seats_of s.views) p l)))
+        (λ le.
+        page-out start.pages (words_of start s.words) (block_of stored s.homes both') (seats_of both') p le
+        ∙ sym (ap (λ (y : Page). record y { seats = upd y.seats other no_seat }) (page-out start.pages (words_of start s.words) (block_of stored s.homes s.views) (seats_of s.views) p le) ∙ (λ i. record outside_page { seats = none-still other i })))
+        (cases_lt p start.pages))
+
+    -- the frames of both, and none
+    abbrev two : ℕ → Bool
+    two f = held_of s.views other f || held_of s.views id f
+
+    abbrev none : ℕ → Bool
+    none f = false
+
+    held-taken : held_of both' ≡ upd (upd (held_of s.views) id (λ f. held_of s.views other f || held_of s.views id f)) other (λ f. false)
+    held-taken = fun_ext (λ a. ⊎_elim
+        (λ (e : a ≡ other).
+        ap (held_of both') e
+        ∙ ap (λ (y : View X). (λ f. has f y.frames)) gone
+        ∙ sym (ap (upd (upd (held_of s.views) id two) other none) e ∙ upd-same (upd (held_of s.views) id two) other none))
+        (λ (m : a ≢ other).
+        ⊎_elim
+        (λ (e : a ≡ id).
+        ap (held_of both') e
+        ∙ ap (λ (y : View X). (λ f. has f y.frames)) here
+        ∙ fun_ext (λ f. frames f ∙ (λ i. has f (sym (at-there spent s.views other w at-other) i).frames || has f (sym (at-there spent s.views id v is.there) i).frames))
+        ∙ sym (ap (upd (held_of s.views) id two) e ∙ upd-same (held_of s.views) id two))
+        (λ (n : a ≢ id).
+        ap (λ (y : View X). (λ f. has f y.frames)) (neither a n m)
+        ∙ sym (upd-other (held_of s.views) id two a n))
+        (cases_eq a id)
+        ∙ sym (upd-other (upd (held_of s.views) id two) other none a m))
+        (cases_eq a other))
+
+    loads-taken : loads_of both' ≡ (λ p. upd (loads_of s.views p) other [])
+    loads-taken = fun_ext (λ p. field-taken (λ y. loads_at y p) [] refl (loads p))
+
+    taken-world : world_of stored start r.releases r.drafts (record { words = s.words; homes = s.homes; views = both' }) ≡ taken_in id other before
+    taken-world i = record {
+      core = record (core_of stored start s) {
+        shape = record { pages = start.pages; frames = start.frames; actors = (length-set (slice_set s.views id took) other spent ∙ length-set s.views id took) i; next = start.next };
+        pages = pages-taken i;
+        held = held-taken i;
+      };
+      histories = histories_of start r.releases r.drafts;
+      loads = loads-taken i;
+    }
+
+  module _ (other : ℕ) (w : View X) (apart : other ≢ id) (at-other : get_elem? s.views other ≡ some w) (live' : w.live ≡ true) (settled-here : (v.told_releases ≡ []) × (v.told ≡ [])) (settled-other : (w.told_releases ≡ []) × (w.told ≡ [])) where
+    -- ---- join
+
+    pub join-no-event : HoldsNoPage w → IsTakenIn stored keeps tied start tells s r id other (table_joined s id other v w)
+    join-no-event nothing =
+        let past = joins-past stored keeps tied start tells s r id other v w is.there apart at-other is.live live' settled-here settled-other nothing in
+        record {
+          goes = record { rule = joins-ruled stored keeps tied start tells s r id other v w is.there apart at-other is.live live' settled-here settled-other nothing; releases = past.0; history = past.1; drafts = past.2 };
+          core = taken-world other w (joined v w) apart at-other nothing.out refl (λ p. refl) (λ p. refl) (λ f. has-both f w.frames v.frames);
+        }
+
+    -- ---- hearing
+
+    pub hearing-no-event : OnlyKnows w → IsTakenIn stored keeps tied start tells s r id other (table_heard s id other v w)
+    hearing-no-event only =
+        let nothing : HoldsNothing w = (r.heard other w at-other live').idle only.used only.fresh in
+        let past = hears-past stored keeps tied start tells s r id other v w is.there apart at-other is.live live' settled-here settled-other only in
+        record {
+          goes = record { rule = hears-ruled stored keeps tied start tells s r id other v w is.there apart at-other is.live live' settled-here settled-other only; releases = past.0; history = past.1; drafts = past.2 };
+          core = taken-world other w (hearer v w) apart at-other nothing.out refl (λ p. refl) (λ p. refl) (λ f. ap (λ l. has f l || has f v.frames) (sym nothing.frames));
+        }

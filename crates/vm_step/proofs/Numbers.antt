@@ -1,0 +1,39 @@
+-- The pages from a number on, and a claim of them.
+use Rattle.std.proofs.Common.{ℕ, zero, suc, ◌≡◌, ◌+◌, ◌<◌, ◌≤◌, ◌||◌, Bool, true, false, List, [], ◌∷◌, ◌++◌, refl, sym, ap, ◌∙◌, ⊎_elim, arith, replicate, slice_index, length, eqb}
+use Rattle.std.proofs.Math.ListN.{get_or-eq_default}
+use Rattle.std.proofs.lemmas.Bool.{false≢true, cases_eq, cases_lt, eq-eqb, ne_eqb}
+use Rattle.std.proofs.lemmas.List.{get_or-replicate, length-replicate}
+use Rattle.vm_owner.specs.Kept.{Kept, claimed}
+use Rattle.vm_owner.specs.Numbers.{has}
+use Rattle.vm_rule.specs.Views.{numbers}
+
+-- the list has the numbers from x on, n of them
+pub has-numbers : (n x p : ℕ) → has p (numbers x n) ≡ true → (x ≤ p) × (p < x + n)
+unfolding numbers
+has-numbers zero x p e = absurd (false≢true e)
+has-numbers (suc n) x p e =
+    ⊎_elim
+    (λ (s : p ≡ x). (omega (arith, s), omega (arith, s)))
+    (λ ne. let rest = has-numbers n (suc x) p (sym (ap (λ b. b || has p (numbers (suc x) n)) (ne_eqb p x ne)) ∙ e) in let low = rest.0 in let high = rest.1 in (omega (arith, low), omega (arith, high)))
+    (cases_eq p x)
+
+pub numbers-has : (n x p : ℕ) → x ≤ p → p < x + n → has p (numbers x n) ≡ true
+unfolding numbers
+numbers-has zero x p low high = absurd (omega (arith, low, high))
+numbers-has (suc n) x p low high =
+    ⊎_elim
+    (λ (s : p ≡ x). ap (λ b. b || has p (numbers (suc x) n)) (eq-eqb p x s))
+    (λ ne. ap (λ b. b || has p (numbers (suc x) n)) (ne_eqb p x ne) ∙ numbers-has n (suc x) p (omega (arith, low, ne)) (omega (arith, high)))
+    (cases_eq p x)
+
+-- a page of zeros has only zeros
+pub all-zeros : (n i : ℕ) → slice_index (replicate n 0) i ≡ 0
+all-zeros n i = ⊎_elim (λ lt. get_or-replicate n i 0 0 lt) (λ le. get_or-eq_default (replicate n 0) 0 (let long = length-replicate {A = ℕ} n 0 in omega (arith, long, le))) (cases_lt i n)
+
+module _ {S : Type 0} where
+  -- a claim changes the next page and the pages owed
+  pub claimed-is : (n : ℕ) (kept : Kept S) → claimed n kept ≡ record kept { next = kept.next + n; owed = (claimed n kept).owed }
+  claimed-is zero kept = (let same : kept.next ≡ kept.next + 0 = omega arith in λ i. record kept { next = same i })
+  claimed-is (suc n) kept =
+      claimed-is n (record kept { next = kept.next + 1; owed = kept.owed ++ kept.next ∷ [] })
+      ∙ (let same : kept.next + 1 + n ≡ kept.next + suc n = omega arith in λ i. record kept { next = same i; owed = (claimed (suc n) kept).owed })

@@ -1,0 +1,83 @@
+-- Steps after which a pass has what it had.
+use Rattle.std.proofs.Common.{ℕ, Bool, true, ◌≡◌, List, [], ◌∷◌, ◌++◌, refl, sym, ap, subst, ◌∙◌}
+use Rattle.vm_owner.specs.declared.Entry.{Entry}
+use Rattle.vm_rule.specs.declared.view.Did.{Did}
+use Rattle.vm_rule.specs.declared.view.Place.TheVariants as places
+use Rattle.vm_rule.specs.declared.view.Release.{Release}
+use Rattle.vm_rule.specs.declared.view.Snapshot.{Snapshot}
+use Rattle.vm_rule.specs.declared.view.View.{View}
+use Rattle.vm_rule.specs.Hearing.{hearer, TakesOver}
+use Rattle.vm_rule.specs.Joins.{CaughtUp, HoldsNoPage}
+use Rattle.vm_rule.specs.Log.{did_load}
+use Rattle.vm_rule.specs.Reading.{last_in, last_of}
+use Rattle.vm_rule.specs.Views.{StartsWith, IsLocking, seat_of}
+use Rattle.vm_rule.proofs.Entries.{append-none}
+use Rattle.vm_step.specs.Still.{HasStill}
+
+module _ {X : Type 0} where
+  -- the pass with other lists, another snapshot and more steps
+  abbrev relisted : View X → List Release → List (Entry X) → Bool → Snapshot → Did → View X
+  relisted v releases seen current snapshot did =
+      record v { releases = releases; seen = seen; told_releases = []; told = []; told_used = []; current = current; snapshot = snapshot; log = v.log ++ did ∷ [] }
+
+  still-with : (v x : View X) (releases : List Release) (seen : List (Entry X)) (current : Bool) (snapshot : Snapshot) (did : Did) → x ≡ relisted v releases seen current snapshot did
+      → ((p : ℕ) → IsLocking (seat_of v p) → last_in v.start releases p ≡ last_of v p) → HasStill v x
+  still-with v x releases seen current snapshot did is kept =
+      subst (HasStill v) (sym is)
+      (record {
+        live = refl;
+        start = refl;
+        used = refl;
+        mine = refl;
+        notes = refl;
+        frames = (refl, refl);
+        locks = (refl, refl, refl, refl);
+        reads = (refl, refl, refl);
+        group = (refl, refl, refl);
+        log = (did ∷ [], refl);
+        kept = kept;
+      })
+
+  -- a pass that was told, and then was brought up to date
+  pub heard-still : (v n x : View X) → CaughtUp (hearer v n) x → HasStill v x
+  heard-still v n x c =
+      let b = c.brings in
+      still-with v x ((v.releases ++ b.between) ++ []) ((v.seen ++ b.others) ++ []) true b.snapshot (did_load places.Next c.found) b.view
+      (λ p locks. ap (λ l. last_in v.start l p) (append-none (v.releases ++ b.between)) ∙ b.kept p locks)
+
+  -- one that was brought up to date
+  pub caught-still : (v x : View X) → CaughtUp v x → HasStill v x
+  caught-still v x c =
+      let b = c.brings in
+      still-with v x ((v.releases ++ b.between) ++ []) ((v.seen ++ b.others) ++ []) true b.snapshot (did_load places.Next c.found) b.view
+      (λ p locks. ap (λ l. last_in v.start l p) (append-none (v.releases ++ b.between)) ∙ b.kept p locks)
+
+  -- one that took over what it was told
+  pub followed-still : (v n x : View X) → TakesOver (hearer v n) x → HasStill v x
+  followed-still v n x f =
+      still-with v x n.releases n.seen v.current v.snapshot (did_load places.Next f.found) f.view
+      (λ p locks. ap (λ (u : View X). last_of u p) (sym f.view) ∙ f.kept p locks)
+
+  -- and one that gave fresh parts away then
+  pub still-fresh : (v x : View X) (fresh : List ℕ) → HasStill v x → HasStill v (record x { fresh = fresh })
+  still-fresh v x fresh h = record {
+    live = h.live;
+    start = h.start;
+    used = h.used;
+    mine = h.mine;
+    notes = h.notes;
+    frames = h.frames;
+    locks = h.locks;
+    reads = h.reads;
+    group = h.group;
+    log = h.log;
+    kept = h.kept;
+  }
+
+  pub still-nothing : (v x : View X) → HasStill v x → HoldsNoPage v → HoldsNoPage x
+  still-nothing v x h m = record {
+    shares = λ p. ap (λ l. (seat_of (record v { seats = l }) p).shares) h.locks.0 ∙ m.shares p;
+    exclusive = λ p. ap (λ l. (seat_of (record v { seats = l }) p).exclusive) h.locks.0 ∙ m.exclusive p;
+    writing = λ p. ap (λ l. (seat_of (record v { seats = l }) p).writing) h.locks.0 ∙ m.writing p;
+    out = h.locks.3 ∙ m.out;
+  }

@@ -1,0 +1,15 @@
+use Rattle.std.proofs.Common.{rules, ◌≡◌, ◌<◌, length, subst, ap, arith, true}
+use Rattle.vm_rule.specs.Views.{view_of}
+use Rattle.vm_step.proofs.NLoadAllows.{nload-allows}
+use Rattle.vm_step.proofs.nexts.nload_with.Goals as goal
+
+pub load-found-requires : goal.load-found-requires
+load-found-requires g c =
+    let is = ap view_of c.lift-seat.ensures.2 in
+    let wide = c.args.words.now.wide.0 in
+    let inside = c.next_place-place.ensures.inside in (
+      search rules,
+      omega (arith, wide, inside),
+      rw (c.requires.given.0, c.requires.given.1)
+          (nload-allows _ _ _ _ _ _ _ _ _ (subst (λ v. v.live ≡ true) is c.args.pass.now.live) (subst (λ v. 0 < length v.used) is c.requires.pass.1) c.next_place-place.ensures.place),
+    )

@@ -1,0 +1,20 @@
+-- What a step tells of the layer above: at the step it keeps its relation, and its history is the one that the pass has seen then.
+use Rattle.std.specs.Prelude.{ℕ, true, List, length, ◌≡◌, ◌<◌}
+use Rattle.vm_page.specs.Pages.{page_at}
+use Rattle.vm_owner.specs.Kept.{Start, Kept}
+use Rattle.vm_owner.specs.Numbers.{has}
+use Rattle.vm_rule.specs.declared.view.View.{View}
+use Rattle.vm_rule.specs.Views.{draft_of}
+use Rattle.vm_rule.specs.Reading.{last_of}
+use Rattle.vm_rule.specs.Rule.{began_of}
+
+module _ {X : Type 0} where
+  -- what the layer above keeps after a step of the pass: its history is all that the pass has seen now; it has page p with the last words, where
+  -- the page is free, and each member still to be released of a group of the pass with its draft
+  pub record IsKeptNow (keeps : Start → Kept X → Type 0) (p : ℕ) (free : Type 0) (w : View X) : Type 0 where
+    pub kept : Kept X
+    pub holds : keeps (began_of w.start) kept
+    pub history : kept.history ≡ w.seen
+    pub pages : length kept.pages ≡ w.start.pages
+    pub page : free → page_at kept.pages p ≡ (last_of w p).words
+    pub members : (q : ℕ) → q < w.start.pages → has q w.pending ≡ true → page_at kept.pages q ≡ draft_of w q
