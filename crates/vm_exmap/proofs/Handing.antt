@@ -5,6 +5,7 @@ use Rattle.vm_owner.specs.Numbers.{has, AreApart}
 use Rattle.vm_rule.specs.declared.view.View.{View}
 use Rattle.vm_rule.specs.Views.{Each}
 use Rattle.vm_rule.proofs.Facts.{has-both}
+pub use Rattle.vm_step.proofs.HeldFrames.{held-on}
 use Rattle.vm_exmap.specs.Frames.{AreHeld}
 use Rattle.vm_exmap.specs.Returns.{AreGiven}
 
@@ -83,12 +84,4 @@ module _ {X : Type 0} where
         (λ f e. ⊎_elim (λ (both : has f l ≡ true). absurd (true≢false (sym e ∙ apart-not l m f h.apart both))) (λ no. no) (cases_Bool (has f l)));
     inside = each-join (λ f. f < v.start.frames) m l (each-right (λ f. f < v.start.frames) l m h.inside) (each-left (λ f. f < v.start.frames) l m h.inside);
     held = each-join (λ f. has f v.frames ≡ true) m l (each-right (λ f. has f v.frames ≡ true) l m h.held) (each-left (λ f. has f v.frames ≡ true) l m h.held);
-  }
-
-  -- frames are held while the pass takes and gives none
-  pub held-on : (frames : List ℕ) (v w : View X) → AreHeld frames v → w.start ≡ v.start → w.frames ≡ v.frames → AreHeld frames w
-  held-on frames v w h start same = record {
-    apart = h.apart;
-    inside = subst (λ origin. Each (λ f. f < origin.frames) frames) (sym start) h.inside;
-    held = subst (λ (l : List ℕ). Each (λ f. has f l ≡ true) frames) (sym same) h.held;
   }

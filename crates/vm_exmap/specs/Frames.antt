@@ -1,23 +1,18 @@
 -- Frames that a pass holds or knows to be free, and what a call leaves that moves free frames alone.
 use Rattle.std.specs.Prelude.{ℕ, true, List, [], ◌++◌, ◌≡◌, ◌≢◌, ◌⊎◌, ◌<◌}
-use Rattle.vm_owner.specs.Numbers.{has, AreApart}
+use Rattle.vm_owner.specs.Numbers.{has}
 use Rattle.vm_rule.specs.declared.view.Did.{Did}
 use Rattle.vm_rule.specs.declared.view.Place.TheVariants as places
 use Rattle.vm_rule.specs.declared.view.View.{View}
 use Rattle.vm_rule.specs.Layout.{bundles_of}
-use Rattle.vm_rule.specs.Views.{Each, StartsWith, IsLocking, seat_of}
+use Rattle.vm_rule.specs.Views.{StartsWith, IsLocking, seat_of}
 use Rattle.vm_rule.specs.Reading.{last_of}
 use Rattle.vm_rule.specs.Mappings.{contents_at}
 use Rattle.vm_step.specs.Alone.{IsAlone, word_at}
 use Rattle.vm_step.specs.Asides.{StaysAlone}
+pub use Rattle.vm_step.specs.HeldFrames.{AreHeld}
 
 module _ {X : Type 0} where
-  -- these are frames of the table, each once, which the pass holds
-  pub record AreHeld (frames : List ℕ) (v : View X) : Type 0 where
-    pub apart : AreApart frames
-    pub inside : Each (λ f. f < v.start.frames) frames
-    pub held : Each (λ f. has f v.frames ≡ true) frames
-
   -- the interface has a frame, or some bundle has one, as the pass knows the table
   abbrev pub HasFree : List ℕ → View X → Type 0
   HasFree frames v = (frames ≢ []) ⊎ ((g : ℕ) × (g < bundles_of v.start.frames) × (word_at v (places.Bundle g) ≢ 0))

@@ -12,10 +12,7 @@ use crate::walk::walk;
 use vm_block::Block;
 use vm_owner::Owner;
 use vm_rule::words::{Pass, Words};
-use vm_step::{Batch, Saw, give};
-
-/// How many frames a bundle has.
-const FRAMES: usize = 64;
+use vm_step::{Batch, FRAMES, Saw, give};
 
 /// What an allocation answers.
 #[derive(Drop)]

@@ -10,10 +10,7 @@ use vm_block::Block;
 use vm_core::Bundle;
 use vm_owner::Owner;
 use vm_rule::words::{Pass, Words};
-use vm_step::{At, Saw, Took, bload, take};
-
-/// How many frames a bundle has.
-const FRAMES: usize = 64;
+use vm_step::{At, FRAMES, Saw, Took, bload, take};
 
 /// What came of a visit to a bundle.
 pub(crate) enum Visited {

@@ -27,14 +27,15 @@ use Rattle.vm_rule.specs.Releases.{EvictTold, ReleaseTold}
 use Rattle.vm_rule.specs.Slots.{HomeTold, MayBring, OutTold, out_at}
 use Rattle.vm_step.specs.Conditions.{IsNotOut, MayEvict, MayGiveUp, MayRaise, MayTakeOut}
 use Rattle.vm_step.specs.Evidence.{HasWritten}
+use Rattle.vm_step.specs.Fills.{Stores}
 use Rattle.vm_step.specs.Works.{Works}
 use Rattle.vm_step.proofs.Device.{Moves, call-did, called, counts-one, goes-out, may-bring, more-is, noted-more, two-loads}
 use Rattle.vm_step.proofs.Evidenced.{written-behind, written-front}
+use Rattle.vm_step.proofs.Filling.{Fills, all-stored, filled, fills, stores-did}
 use Rattle.vm_step.proofs.Leaves.{works-one, works-then}
-use Rattle.vm_fault.specs.Fetches.{IsBrought, IsFailed, Stores}
+use Rattle.vm_fault.specs.Fetches.{IsBrought, IsFailed}
 use Rattle.vm_fault.proofs.Ending.{evicted-aside, evicted-released, still-draft, still-free, still-last, still-owns, still-paid, unlocked-aside, unlocked-released}
 use Rattle.vm_fault.proofs.Evicted.{IsHeldEmpty}
-use Rattle.vm_fault.proofs.Filling.{Fills, all-stored, filled, fills, stores-did}
 
 module _ {X : Type 0} (p version : ℕ) (words : List ℕ) (before : List Did) (v x : View X) (h : IsHeldEmpty p version words before v x) where
   -- the block may be taken out

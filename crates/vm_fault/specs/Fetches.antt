@@ -15,7 +15,6 @@ use Rattle.vm_rule.specs.Reading.{last_in, last_of}
 use Rattle.vm_rule.specs.Locks.{LockTold}
 use Rattle.vm_rule.specs.Looks.{LookTold}
 use Rattle.vm_rule.specs.Mappings.{clean_in}
-use Rattle.vm_rule.specs.Stores.{FillTold}
 use Rattle.vm_step.specs.declared.saw.At.TheVariants as ats
 use Rattle.vm_step.specs.declared.saw.Saw.{Saw}
 use Rattle.vm_fault.specs.declared.fault.Fetch.{Fetch}
@@ -49,11 +48,6 @@ module _ {X : Type 0} where
     pub word : ℕ
     pub look : LookTold tied p None word v between
     pub lock : LockTold tied p (word_of EVICTED version) (word_of EVICTED version) between w
-
-  -- stores of these words into frame f, from word i on, led from v to w
-  abbrev pub Stores : ℕ → ℕ → List ℕ → View X → View X → Type 0
-  Stores f i [] v w = w ≡ v
-  Stores f i (x ∷ xs) v w = (between : View X) × FillTold f i x v between × Stores f (i + 1) xs between w
 
   -- the pass knows that page p is evicted below the last version
   abbrev pub IsKnownOut : ℕ → View X → Type 0

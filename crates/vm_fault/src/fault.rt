@@ -1,19 +1,19 @@
 // A page that is not in memory is brought from its block into a frame.
-ghost use Rattle.std.specs.Prelude.{◌≡◌, ◌<◌, None, length, true};
+ghost use Rattle.std.specs.Prelude.{◌≡◌, ◌<◌, None, true};
 ghost use Rattle.vm_owner.specs.Numbers.{has};
 ghost use Rattle.vm_core.specs.Words.{EVICTED, MAX_VERSION, version_of, word_of};
-ghost use Rattle.vm_fault.specs.Fetches.{IsFetched, IsFoundEvicted, Stores};
+ghost use Rattle.vm_fault.specs.Fetches.{IsFetched, IsFoundEvicted};
 ghost use Rattle.vm_step.specs.Passes.{IsSamePass, view};
 ghost use Rattle.vm_step.specs.Ready.{IsReady};
 
 use vm_block::Block;
 use vm_core::{MAX_VERSION, StateWord};
 use vm_owner::Owner;
-use vm_page::{PageBuf, WORDS};
+use vm_page::PageBuf;
 use vm_rule::words::{Pass, Words};
 use vm_step::{
-    At, Saw, Took, block_home, block_out, install, lock_exclusive, look_silently, raise,
-    release_evicted, release_silently, store,
+    At, Saw, Took, block_home, block_out, fill, install, lock_exclusive, look_silently, raise,
+    release_evicted, release_silently,
 };
 
 /// What bringing a page into a frame answers.
@@ -40,20 +40,6 @@ fn again(pid: u32, frame: u32, first: u64, seen: u64) -> Fetch
             first,
             seen,
         },
-    }
-}
-
-/// Stores the words of a page into a frame of the pass, from the first on.
-fn fill<U: Owner, B: Block>(words: &Words<U, B>, pass: &mut Pass<U>, frame: u32, page: &PageBuf)
-    requires ready { IsReady words.now.table.shared.key B.tells words.now.table.shared.table_id pass.old }
-    requires frame { (frame < words.now.table.shared.key.frames) × (has frame (view pass.old).frames ≡ true) }
-    requires size { length page.now ≡ 64 }
-    ensures pass { IsSamePass pass.old pass.new }
-    ensures ready { IsReady words.now.table.shared.key B.tells words.now.table.shared.table_id pass.new }
-    ensures stores { Stores frame 0 page.now (view pass.old) (view pass.new) }
-{
-    for i in 0..WORDS {
-        store(words, pass, frame, i, page.get(i));
     }
 }
 

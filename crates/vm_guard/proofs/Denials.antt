@@ -1,8 +1,10 @@
 -- A call that looked at a page's word and was denied: at once, or by an exchange that was lost.
 use Rattle.std.proofs.Common.{ℕ, ◌≡◌, ◌≢◌, ◌⊎◌, List, [], ◌∷◌, None, refl, sym, subst, ◌∙◌, inl, inr}
 use Rattle.vm_owner.specs.Kept.{Start}
+use Rattle.vm_rule.specs.declared.view.Did.{Did}
 use Rattle.vm_rule.specs.declared.view.Place.TheVariants as places
 use Rattle.vm_rule.specs.declared.view.View.{View}
+use Rattle.vm_rule.specs.Views.{Each}
 use Rattle.vm_rule.specs.Log.{did_load, did_exchange}
 use Rattle.vm_rule.specs.Looks.{LookTold}
 use Rattle.vm_guard.specs.declared.deny.Deny.{Deny}
@@ -53,3 +55,14 @@ module _ {X : Type 0} (tied : Start → ℕ → List ℕ → ℕ → List ℕ �
     table = λ a. lost-leaves p expects found new u w quiet ne (alone-on tied p word v u t a) ∙ look-leaves tied p None word v u t a;
     current = quiet.alone.current (look-current tied p None word v u t);
   }
+
+  -- the steps of such calls are on the page's word
+  pub at-once-places : (p word : ℕ) (d : Deny) (v w : View X) (t : LookTold tied p None word v w) (why : SaysWhy p word d) (kind : allowed d) → Each (λ (k : Did). k.at ≡ places.State p) (denied-at-once p word d v w t why kind).done
+  unfolding denied-at-once
+  at-once-places p word d v w t why kind = (refl, tt)
+
+  pub lost-places : (p word expects found new : ℕ) (v u w : View X) (t : LookTold tied p None word v u) (quiet : IsQuiet p (did_exchange (places.State p) expects found new ∷ []) u w)
+      (from : (word ≡ expects) ⊎ instead word expects) (ne : found ≢ expects) (kind : allowed (denies.Again (record { at = ats.Page p; first = expects; seen = found })))
+      → Each (λ (k : Did). k.at ≡ places.State p) (denied-lost p word expects found new v u w t quiet from ne kind).done
+  unfolding denied-lost
+  lost-places p word expects found new v u w t quiet from ne kind = (refl, (refl, tt))

@@ -48,7 +48,7 @@ room-refused p word (denies.Crowded q) why kind room =
 room-refused p word (denies.Worn q) why kind room = kind
 
 -- a word that the look found free is the one that the lock expects
-free-expected : (word expects : ℕ) → SameOrUnlocked word expects → IsFree word → expects ≡ word
+pub free-expected : (word expects : ℕ) → SameOrUnlocked word expects → IsFree word → expects ≡ word
 free-expected word expects kept free =
     ⊎_elim
     (λ (e : expects ≡ word). e)
@@ -192,10 +192,13 @@ module _ {X : Type 0} (tied : Start → ℕ → List ℕ → ℕ → List ℕ �
     finds-again : (found : ℕ) → found ≡ known_word p u → found ≡ word
     finds-again found e = e ∙ same-word v u after-look.steady.start (look-leaves None word v u look a) (places.State p) ∙ sym (look-finds None word v u look a)
 
+    -- a lock finds the word that the look found
+    pub lock-finds : (expects found : ℕ) (w : View X) → LockTold tied p expects found u w → found ≡ word
+    lock-finds expects found w t = finds-again found (found-known _ found None [] [] u _ w t.brings refl alone-on)
+
     -- a lock of a free page is not lost
     pub lock-sure : (expects found : ℕ) (w : View X) → LockTold tied p expects found u w → SameOrUnlocked word expects → found ≢ expects → IsFree word → ⊥
-    lock-sure expects found w t kept ne free =
-        ne (finds-again found (found-known _ found None [] [] u _ w t.brings refl alone-on) ∙ sym (free-expected word expects kept free))
+    lock-sure expects found w t kept ne free = ne (lock-finds expects found w t ∙ sym (free-expected word expects kept free))
 
     -- nor is a share
     pub share-sure : (found : ℕ) (w : View X) → ShareTold tied p word found u w → found ≢ word → ⊥

@@ -6,7 +6,7 @@ use Rattle.vm_core.specs.Words.{state_of, version_of, LOCKED, EVICTED}
 use Rattle.vm_core.specs.StateActs.{is_readable}
 use Rattle.vm_core.specs.History.{kept_loads}
 use Rattle.vm_owner.specs.declared.Entry.{Entry}
-use Rattle.vm_owner.specs.Kept.{Start}
+use Rattle.vm_owner.specs.Kept.{Start, Kept}
 use Rattle.vm_rule.specs.declared.view.Did.{Did}
 use Rattle.vm_rule.specs.declared.view.Place.TheVariants as places
 use Rattle.vm_rule.specs.declared.view.Tie.{Tie}
@@ -20,6 +20,7 @@ use Rattle.vm_rule.specs.Log.{did_load}
 use Rattle.vm_rule.specs.Looks.{LookTold, IsSince, IsSinceAll, IsOlder, left_at, where_same, ties_below}
 use Rattle.vm_step.specs.declared.saw.At.TheVariants as ats
 use Rattle.vm_step.specs.Evidence.{NoneExpected}
+use Rattle.vm_step.specs.Keeping.{IsKeptNow}
 use Rattle.vm_step.specs.Evidence.Begins.{guarded}
 use Rattle.vm_guard.specs.declared.deny.Deny.TheVariants as denies
 use Rattle.vm_step.specs.Asides.{ReadsAsBefore}
@@ -134,3 +135,14 @@ module _ {X : Type 0} (tied : Start → ℕ → List ℕ → ℕ → List ℕ �
           table = look-leaves tied p said seen v w t;
           current = look-current tied p said seen v w t;
         }
+
+    -- the look that validated the read left it open
+    pub stays-open : MayValidate → left_at seen (seat_of v p).reading ≡ opens.Same
+    stays-open may =
+        let r : IsReading p word frame v = in-place may in
+        let readable : is_readable (state_of seen) ≡ true = readable-state (state_of seen) small unlocked (reading-resident r) in
+        ap (left_at seen) r.reading ∙ left-same seen (record { version = version_of word; frame = Some frame }) readable (sym at)
+
+-- so what is told where the read stays open is told
+pub kept-valid : {X : Type 0} (keeps : Start → Kept X → Type 0) (p : ℕ) (free : Type 0) (w : View X) → free → IsKeptNow keeps p free w → IsKeptNow keeps p (Unit {0}) w
+kept-valid keeps p free w is k = record { kept = k.kept; holds = k.holds; history = k.history; pages = k.pages; page = λ _. k.page is; members = k.members }

@@ -1,5 +1,5 @@
 -- What a call answers that gives no guard, or ends without what it was asked for: the evidence of its steps, and that the pass holds what it held.
-use Rattle.std.specs.Prelude.{ℕ, true, List, ◌≡◌, ◌⊎◌, ◌<◌, ◌≤◌}
+use Rattle.std.specs.Prelude.{ℕ, true, List, ◌≡◌, ◌⊎◌}
 use Rattle.vm_rule.specs.declared.view.Did.{Did}
 use Rattle.vm_rule.specs.declared.view.View.{View}
 use Rattle.vm_step.specs.declared.saw.At.TheVariants as ats

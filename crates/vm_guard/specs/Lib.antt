@@ -4,3 +4,8 @@ pub mod Denied
 pub mod Takes
 pub mod Shares
 pub mod Sure
+pub mod Groups
+pub mod FreshPlaces
+pub mod Fresh
+pub mod Downgrades
+pub mod Pairs

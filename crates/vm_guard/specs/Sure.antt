@@ -1,6 +1,8 @@
 -- What a pass that is alone knows of a page, with which a call on the page is sure to succeed; and what it knows of the table afterwards.
-use Rattle.std.specs.Prelude.{ℕ, ◌≡◌, ◌≢◌, ◌⊎◌, ◌<◌, ◌==◌, if◌then◌else◌, slice_set}
-use Rattle.vm_core.specs.Words.{state_of, version_of, word_of, UNLOCKED, LOCKED, MARKED}
+use Rattle.std.specs.Prelude.{ℕ, List, [], ◌∷◌, ◌≡◌, ◌≢◌, ◌⊎◌, ◌+◌, ◌<◌, ◌≤◌, ◌==◌, if◌then◌else◌, length, slice_set}
+use Rattle.vm_core.specs.Words.{state_of, version_of, word_of, UNLOCKED, LOCKED, MARKED, EVICTED, MAX_VERSION}
+use Rattle.vm_rule.specs.declared.view.Origin.{Origin}
+use Rattle.vm_rule.specs.declared.view.Place.{Place}
 use Rattle.vm_rule.specs.declared.view.Place.TheVariants as places
 use Rattle.vm_rule.specs.declared.view.View.{View}
 use Rattle.vm_rule.specs.Layout.{index_of}
@@ -10,9 +12,18 @@ use Rattle.vm_step.specs.Alone.{IsAlone, word_at}
 abbrev pub IsFree : ℕ → Type 0
 IsFree word = (state_of word ≡ UNLOCKED) ⊎ (state_of word ≡ MARKED)
 
+-- a page with this word can be locked, resident or not
+abbrev pub MayBeSeized : ℕ → Type 0
+MayBeSeized word = (IsFree word ⊎ (state_of word ≡ EVICTED)) × (version_of word < MAX_VERSION)
+
 -- the word without its mark
 abbrev pub unmarked_word : ℕ → ℕ
 unmarked_word word = if state_of word == MARKED then word_of UNLOCKED (version_of word) else word
+
+-- the table's words, but those at these places, which are these
+abbrev pub words_with : Origin → List (Place × ℕ) → List ℕ → List ℕ
+words_with start [] words = words
+words_with start (d ∷ ds) words = words_with start ds (slice_set words (index_of start d.0) d.1)
 
 module _ {X : Type 0} where
   -- the word of page p, as the pass knows the table
@@ -26,6 +37,19 @@ module _ {X : Type 0} where
   -- the pass knows page p to be at the version of this word, and not locked exclusively
   abbrev pub IsKnownAt : ℕ → ℕ → View X → Type 0
   IsKnownAt p word v = (version_of (known_word p v) ≡ version_of word) × (state_of (known_word p v) ≢ LOCKED)
+
+  -- the pass knows this word to be at this place, where the table has the place
+  abbrev pub KnowsAt : Place → ℕ → View X → Type 0
+  KnowsAt place word v = index_of v.start place < length v.snapshot.words → word_at v place ≡ word
+
+  -- the next word, as the pass knows the table
+  abbrev pub known_next : View X → ℕ
+  known_next v = word_at v places.Next
+
+  -- the pass knows that there are n pages from the next one on, and that each can be locked
+  pub record MayBeGiven (n : ℕ) (v : View X) : Type 0 where
+    pub room : known_next v + n ≤ v.start.pages
+    pub each : (q : ℕ) → known_next v ≤ q → q < known_next v + n → MayBeSeized (known_word q v)
 
   -- a pass that was alone knows the words of the table as they were
   abbrev pub KnowsSame : View X → View X → Type 0

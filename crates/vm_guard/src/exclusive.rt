@@ -2,9 +2,13 @@
 ghost use Rattle.std.specs.Prelude.{◌≡◌, ◌<◌, ℕ, IfOk, IfErr, IsOk, None, [], true, false, option_map, slice_index};
 ghost use Rattle.vm_core.specs.Words.{MAX_VERSION, version_of};
 ghost use Rattle.vm_rule.specs.Views.{draft_of};
-ghost use Rattle.vm_step.specs.Conditions.{IsClaimed, IsNotOut};
+ghost use Rattle.vm_rule.specs.Releases.{ReleaseTold};
+ghost use Rattle.vm_step.specs.Conditions.{IsClaimed, IsFirst, IsNotOut};
 ghost use Rattle.vm_step.specs.Evidence.{NoWord, UnlockedExpected};
+ghost use Rattle.vm_step.specs.Keeping.{IsKeptNow};
+ghost use Rattle.vm_guard.specs.Downgrades.{IsDowngraded};
 ghost use Rattle.vm_guard.specs.Denied.{IsDenied, NotCrowded, SameOrUnlocked};
+ghost use Rattle.vm_guard.specs.Groups.{IsDue};
 ghost use Rattle.vm_guard.specs.Guards.{IsDirtied, IsHolding, IsLocked, IsReleased, IsSet};
 ghost use Rattle.vm_step.specs.Passes.{IsSamePass, MayStep, view};
 ghost use Rattle.vm_guard.specs.Quiet.{IsQuiet};
@@ -14,16 +18,20 @@ ghost use Rattle.vm_guard.specs.Takes.{IsToExpect, MayRelease, SaysWhy};
 ghost use Rattle.vm_step.specs.Alone.{IsAlone};
 
 use crate::deny::Deny;
+use crate::shared::SharedGuard;
 use crate::standing::{Lock, standing};
 use vm_block::Block;
 use vm_core::{MAX_VERSION, StateWord};
 use vm_owner::Owner;
 use vm_rule::words::{Pass, Words};
-use vm_step::{At, Saw, Took, load, lock_exclusive, look_silently, release, set_dirty, store};
+use vm_step::{
+    At, Saw, Took, downgrade, load, lock_exclusive, look_silently, release, release_silently,
+    set_dirty, store,
+};
 
 /// An exclusive lock of a page: the version that it was locked at, the frame that it stands in, and whether it is dirty there.
 ///
-/// It is spent by `release` alone.
+/// It is spent by `release`, `downgrade` and the release of a group alone.
 pub struct ExclusiveGuard {
     pub pid: u32,
     pub version: u64,
@@ -154,6 +162,7 @@ impl ExclusiveGuard {
         ensures pass { IsSamePass pass.old pass.new }
         ensures ready { IsReady words.now.table.shared.key B.tells words.now.table.shared.table_id pass.new }
         ensures released { IsReleased self.pid self.version (option_map (λ b. b.now) said.entry) (view pass.old) (view pass.new) }
+        ensures kept { B.tells ≡ true → IsKeptNow U.keeps self.pid (Unit {0}) (view pass.new) }
     {
         let ExclusiveGuard {
             pid,
@@ -163,5 +172,78 @@ impl ExclusiveGuard {
             lock: Lock,
         } = self;
         release(words, pass, pid, version, &[], said);
+    }
+
+    /// Releases the page, and keeps a share of it: the draft is its last version from then on, the next one. Nothing is said.
+    pub fn downgrade<U: Owner, B: Block>(
+        self,
+        words: &Words<U, B>,
+        pass: &mut Pass<U>,
+    ) -> SharedGuard
+        requires ready { IsReady words.now.table.shared.key B.tells words.now.table.shared.table_id pass.old }
+        requires holds { IsHolding self.pid self.frame self.version self.dirty (view pass.old) }
+        requires home { IsNotOut (view pass.old) self.pid }
+        requires claimed { (view pass.old).start.tells ≡ true → IsClaimed (view pass.old) self.pid }
+        requires owner { MayRelease U.may_release self.pid None (view pass.old) }
+        ensures pass { IsSamePass pass.old pass.new }
+        ensures ready { IsReady words.now.table.shared.key B.tells words.now.table.shared.table_id pass.new }
+        ensures guard { (result.pid ≡ self.pid) × (result.frame ≡ self.frame) }
+        ensures downgraded { IsDowngraded self.pid self.frame self.version (view pass.old) (view pass.new) }
+        ensures kept { B.tells ≡ true → IsKeptNow U.keeps self.pid (Unit {0}) (view pass.new) }
+    {
+        let ExclusiveGuard {
+            pid,
+            version,
+            frame,
+            dirty: _,
+            lock,
+        } = self;
+        downgrade(words, pass, pid, version);
+        SharedGuard { pid, frame, lock }
+    }
+
+    /// Releases the page first of a group, whose other members are `rest`: the drafts of all of them are logical from then on.
+    pub(crate) fn release_first<U: Owner, B: Block>(
+        self,
+        words: &Words<U, B>,
+        pass: &mut Pass<U>,
+        rest: &[u32],
+        said: Option<&U::Said>,
+    )
+        requires ready { IsReady words.now.table.shared.key B.tells words.now.table.shared.table_id pass.old }
+        requires holds { IsHolding self.pid self.frame self.version self.dirty (view pass.old) }
+        requires home { IsNotOut (view pass.old) self.pid }
+        requires first { IsFirst U.may_release self.pid rest.now (option_map (λ b. b.now) said) (view pass.old) }
+        ensures pass { IsSamePass pass.old pass.new }
+        ensures ready { IsReady words.now.table.shared.key B.tells words.now.table.shared.table_id pass.new }
+        ensures told { ReleaseTold self.pid self.version rest.now (option_map (λ b. b.now) said.entry) (view pass.old) (view pass.new) }
+        ensures kept { B.tells ≡ true → IsKeptNow U.keeps self.pid (Unit {0}) (view pass.new) }
+    {
+        let ExclusiveGuard {
+            pid,
+            version,
+            frame: _,
+            dirty: _,
+            lock: Lock,
+        } = self;
+        release(words, pass, pid, version, rest, said);
+    }
+
+    /// Releases a later member of a group that is released in part.
+    pub(crate) fn release_later<U: Owner, B: Block>(self, words: &Words<U, B>, pass: &mut Pass<U>)
+        requires ready { IsReady words.now.table.shared.key B.tells words.now.table.shared.table_id pass.old }
+        requires due { IsDue self.pid self.version (view pass.old) }
+        ensures pass { IsSamePass pass.old pass.new }
+        ensures ready { IsReady words.now.table.shared.key B.tells words.now.table.shared.table_id pass.new }
+        ensures told { ReleaseTold self.pid self.version [] None (view pass.old) (view pass.new) }
+    {
+        let ExclusiveGuard {
+            pid,
+            version,
+            frame: _,
+            dirty: _,
+            lock: Lock,
+        } = self;
+        release_silently(words, pass, pid, version);
     }
 }

@@ -3,13 +3,21 @@
 
 mod deny;
 mod exclusive;
+mod fresh_pages;
+mod given;
+mod group;
 mod opt;
+mod pair;
 mod shared;
 mod single;
 mod standing;
 
 pub use deny::Deny;
 pub use exclusive::ExclusiveGuard;
+pub use fresh_pages::fresh;
+pub use given::Fresh;
+pub use group::{Group, release_group};
 pub use opt::OptGuard;
+pub use pair::write_two;
 pub use shared::SharedGuard;
 pub use single::read_word;

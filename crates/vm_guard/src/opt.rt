@@ -10,6 +10,7 @@ ghost use Rattle.vm_guard.specs.Sure.{IsKnownAt, IsKnownFree, known_word};
 ghost use Rattle.vm_guard.specs.Takes.{IsToExpect};
 ghost use Rattle.vm_step.specs.Alone.{IsAlone};
 ghost use Rattle.vm_step.specs.Conditions.{MayTell};
+ghost use Rattle.vm_step.specs.Keeping.{IsKeptNow};
 ghost use Rattle.vm_step.specs.Passes.{IsSamePass, MayStep, view};
 
 use crate::deny::Deny;
@@ -149,10 +150,11 @@ impl OptGuard {
         requires ready { IsReady words.now.table.shared.key B.tells words.now.table.shared.table_id pass.old }
         requires page { self.now.pid < words.now.table.shared.key.pages }
         requires reading { IsReading self.now.pid self.now.word self.now.frame (view pass.old) ⊎ (HasLeft self.now.pid self.now.word (view pass.old) × (option_map (λ b. b.now) said ≡ None)) }
-        requires owner { MayTell U.may_read self.now.pid (option_map (λ b. b.now) said) (view pass.old) }
+        requires owner { MayTell U.tied U.may_read self.now.pid (option_map (λ b. b.now) said) (view pass.old) }
         ensures pass { IsSamePass pass.old pass.new }
         ensures ready { IsReady words.now.table.shared.key B.tells words.now.table.shared.table_id pass.new }
         ensures ok { IfOk result (λ _. IsValid U.tied self.now.pid self.now.word self.now.frame (option_map (λ b. b.now) said.entry) (view pass.old) (view pass.new)) }
+        ensures kept { B.tells ≡ true → IfOk result (λ _. IsKeptNow U.keeps self.now.pid (Unit {0}) (view pass.new)) }
         ensures err { IfErr result (λ saw. IsDenied AgainOrNeed (KeptWord self.now.word) NoneExpected self.now.pid (Deny.Again saw) (view pass.old) (view pass.new)) }
         ensures sure { IsAlone (view pass.old) → IsKnownAt self.now.pid self.now.word (view pass.old) → IsOk result }
     {
@@ -178,6 +180,7 @@ impl OptGuard {
         ensures pass { IsSamePass pass.old pass.new }
         ensures ready { IsReady words.now.table.shared.key B.tells words.now.table.shared.table_id pass.new }
         ensures ok { IfOk result (λ _. IsValid U.tied self.now.pid self.now.word self.now.frame None (view pass.old) (view pass.new)) }
+        ensures kept { B.tells ≡ true → IfOk result (λ _. IsKeptNow U.keeps self.now.pid (Unit {0}) (view pass.new)) }
         ensures err { IfErr result (λ saw. IsDenied AgainOrNeed (KeptWord self.now.word) NoneExpected self.now.pid (Deny.Again saw) (view pass.old) (view pass.new)) }
         ensures sure { IsAlone (view pass.old) → IsKnownAt self.now.pid self.now.word (view pass.old) → IsOk result }
     {

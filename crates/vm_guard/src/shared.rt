@@ -27,7 +27,7 @@ use vm_step::{At, Saw, Took, load, lock_shared, look_silently, unlock_shared};
 pub struct SharedGuard {
     pub pid: u32,
     pub frame: u32,
-    lock: Lock,
+    pub(crate) lock: Lock,
 }
 
 /// Whether a page whose word is this one has room for a share.

@@ -1,6 +1,6 @@
 use Rattle.std.proofs.Common.{◌<◌, sym, subst, ◌∙◌, inl, inr}
 use Rattle.vm_guard.proofs.Sure.{valid-sure}
-use Rattle.vm_guard.proofs.Validating.{refused, validated}
+use Rattle.vm_guard.proofs.Validating.{kept-valid, refused, stays-open, validated}
 use Rattle.vm_guard.proofs.opt.OptGuard.validate.Goals as goal
 
 pub returns-then-version-clause-err : goal.returns-then-version-clause-err
@@ -28,3 +28,13 @@ returns-then-version-clause-sure g c a at =
 pub returns-then-state-clause-sure : goal.returns-then-state-clause-sure
 returns-then-state-clause-sure g c a at =
     absurd (valid-sure g.U.Owner.tied c.args.self.now.pid _ c.look-seen.result c.args.self.now.word _ _ c.look-seen.ensures.told a (inr (sym c.state.ensures ∙ c.if-state.true)) at)
+
+pub returns-clause-kept : goal.returns-clause-kept
+returns-clause-kept g c = λ tells.
+    kept-valid g.U.Owner.keeps c.args.self.now.pid _ _
+    (stays-open g.U.Owner.tied _ _ c.args.self.now.frame _ _ _ _ c.look-seen.ensures.told
+    (sym c.version.ensures ∙ c.if-version.false ∙ c.version-2.ensures)
+    (λ e. c.if-state.false (c.state.ensures ∙ e))
+    (subst (λ n. n < 256) c.state.ensures c.state.type_inv)
+    c.requires.reading)
+    (c.look-seen.ensures.kept tells)

@@ -1,0 +1,187 @@
+-- A call for fresh pages that ends without them: a page that was locked and given up again leaves nothing, and the evidence of the call is that of
+-- its steps.
+use Rattle.std.proofs.Common.{ℕ, ◌≡◌, ◌≢◌, ◌⊎◌, ◌<◌, ◌≤◌, ◌||◌, true, false, true≢false, Bool, Option, None, List, [], ◌∷◌, ◌++◌, refl, sym, ap, subst, ◌∙◌, arith, inl, inr, ⊎_elim, append_assoc, length}
+use Rattle.std.proofs.lemmas.Bool.{cases_eq, ne_eqb}
+use Rattle.vm_core.specs.declared.event.Mapping.{Mapping}
+use Rattle.vm_core.specs.declared.event.Seat.{Seat}
+use Rattle.vm_core.specs.History.{Version}
+use Rattle.vm_owner.specs.Numbers.{has}
+use Rattle.vm_rule.specs.declared.view.Did.{Did}
+use Rattle.vm_rule.specs.declared.view.Held.{Held}
+use Rattle.vm_rule.specs.declared.view.Origin.{Origin}
+use Rattle.vm_rule.specs.declared.view.Place.{Place}
+use Rattle.vm_rule.specs.declared.view.Place.TheVariants as places
+use Rattle.vm_rule.specs.declared.view.View.{View}
+use Rattle.vm_rule.specs.Views.{Each, IsLocking, seat_of}
+use Rattle.vm_rule.specs.Log.{did_load}
+use Rattle.vm_rule.specs.Nexts.{NextTold}
+use Rattle.vm_rule.proofs.Entries.{each-map}
+use Rattle.vm_rule.proofs.Heard.{each-both}
+use Rattle.vm_step.specs.Asides.{HoldsPage}
+use Rattle.vm_step.specs.Evidence.{Begins, place_of, IsSaw, IsWorn, NoWord, UnlockedExpected, expected, read, same, guarded, asked}
+use Rattle.vm_step.specs.declared.saw.At.TheVariants as ats
+use Rattle.vm_step.specs.declared.saw.Saw.{Saw}
+use Rattle.vm_step.proofs.Asides.{holds-then, keeps-then, knows-then}
+use Rattle.vm_guard.specs.Fresh.{GivesBack, IsAmid, IsNil, IsSeized, Seizes}
+use Rattle.vm_guard.specs.Quiet.{IsQuiet}
+use Rattle.vm_guard.proofs.Amid.{other, amid-reads, amid-then, amid-within, nload-amid}
+
+-- ---- evidence in a longer list of steps
+
+between-cut : {A : Type 0} (pre earlier later post : List A) (d : A) (done : List A) → done ≡ earlier ++ d ∷ later → pre ++ (done ++ post) ≡ (pre ++ earlier) ++ d ∷ (later ++ post)
+between-cut pre earlier later post d done e =
+    ap (λ (t : List _). pre ++ (t ++ post)) e
+    ∙ ap (λ (t : List _). pre ++ t) (append_assoc earlier (d ∷ later) post)
+    ∙ sym (append_assoc pre earlier (d ∷ (later ++ post)))
+
+begins-behind : (instead : ℕ → ℕ → Type 0) (at : Place) (first seen : ℕ) (last : Did) (pre earlier since : List Did) → Begins NoWord instead at first seen last earlier since → Begins NoWord instead at first seen last (pre ++ earlier) since
+begins-behind instead at first seen last pre earlier since (guarded k e) = absurd k
+begins-behind instead at first seen last pre earlier since (read before d e g) = read (pre ++ before) d (ap (λ (t : List Did). pre ++ t) e ∙ sym (append_assoc pre before (d ∷ since))) g
+begins-behind instead at first seen last pre earlier since (expected before d word e g i x) = expected (pre ++ before) d word (ap (λ (t : List Did). pre ++ t) e ∙ sym (append_assoc pre before (d ∷ since))) g i x
+begins-behind instead at first seen last pre earlier since (asked word k e i x) = absurd k
+begins-behind instead at first seen last pre earlier since (same e n) = same e n
+
+-- behind steps on other places, and before any others
+pub saw-within : (p : ℕ) (saw : Saw) (pre done post : List Did) → saw.at ≡ ats.Page p → Each (λ (d : Did). d.at ≢ places.State p) pre → IsSaw NoWord UnlockedExpected done saw → IsSaw NoWord UnlockedExpected (pre ++ (done ++ post)) saw
+saw-within p saw pre done post at none s = record {
+  earlier = pre ++ s.earlier;
+  last = s.last;
+  later = s.later ++ post;
+  cut = between-cut pre s.earlier s.later post s.last done s.cut;
+  gives = s.gives;
+  since = s.since;
+  begins = begins-behind UnlockedExpected _ saw.first saw.seen s.last pre s.earlier s.since s.begins;
+  quiet = s.quiet;
+  foreign = each-both _ pre s.earlier (each-map _ _ (λ d ne here. absurd (ne (here ∙ ap place_of at))) pre none) s.foreign;
+  why = s.why;
+}
+
+pub worn-within : (p : ℕ) (pre done post : List Did) → Each (λ (d : Did). d.at ≢ places.State p) pre → IsWorn done p → IsWorn (pre ++ (done ++ post)) p
+worn-within p pre done post none s = record {
+  word = s.word;
+  given = record { earlier = pre ++ s.given.earlier; step = s.given.step; later = s.given.later ++ post; cut = between-cut pre s.given.earlier s.given.later post s.given.step done s.given.cut; gives = s.given.gives };
+  last = s.last;
+  foreign = each-both _ pre s.given.earlier (each-map _ _ (λ d ne here. absurd (ne here)) pre none) s.foreign;
+}
+
+-- the steps that lock a page are on its words
+pub not-next : (p : ℕ) (d : Did) → (d.at ≡ places.State p) ⊎ (d.at ≡ places.Translation p) → d.at ≢ places.Next
+not-next p d (inl a) e = absurd (let no : places.State p ≡ places.Next = sym a ∙ e in cc)
+not-next p d (inr a) e = absurd (let no : places.Translation p ≡ places.Next = sym a ∙ e in cc)
+
+pub not-state : (p q : ℕ) → p ≢ q → (d : Did) → (d.at ≡ places.State p) ⊎ (d.at ≡ places.Translation p) → d.at ≢ places.State q
+not-state p q ne d (inl a) e = ne (inside (sym a ∙ e))
+  where
+    inside : places.State p ≡ places.State q → p ≡ q
+    inside k = cc
+not-state p q ne d (inr a) e = absurd (let no : places.Translation p ≡ places.State q = sym a ∙ e in cc)
+
+-- so they leave the next word
+pub unmoved-at : (p : ℕ) (ds : List Did) → Each (λ (d : Did). (d.at ≡ places.State p) ⊎ (d.at ≡ places.Translation p)) ds → Each (λ (d : Did). d.at ≡ places.Next → d.wrote ≡ None) ds
+unmoved-at p [] e = tt
+unmoved-at p (d ∷ ds) e = ((λ next. absurd (not-next p d e.0 next)), unmoved-at p ds e.1)
+
+-- steps on state words too
+unmoved-state : (p : ℕ) (ds : List Did) → Each (λ (d : Did). d.at ≡ places.State p) ds → Each (λ (d : Did). d.at ≡ places.Next → d.wrote ≡ None) ds
+unmoved-state p [] e = tt
+unmoved-state p (d ∷ ds) e = ((λ next. absurd (not-next p d (inl e.0) next)), unmoved-state p ds e.1)
+
+-- ---- calls that leave nothing
+
+module _ {X : Type 0} where
+  pub nil-then : (pages : List ℕ) (a b : List Did) (u v w : View X) → IsNil pages a u v → IsNil pages b v w → IsNil pages (a ++ b) u w
+  nil-then pages a b u v w f g = record {
+    amid = amid-then pages a b u v w f.amid g.amid;
+    keeps = keeps-then u v w f.keeps g.keeps;
+    owed = g.owed ∙ f.owed;
+    holds = λ q. holds-then u v w q (f.holds q) (g.holds q);
+    knows = λ q l. knows-then u v w q (f.knows q l) (g.knows q (still (f.holds q) l));
+    unmoved = each-both _ a b f.unmoved g.unmoved;
+  }
+    where
+      still : {q : ℕ} → HoldsPage u v q → IsLocking (seat_of u q) → IsLocking (seat_of v q)
+      still h l = ⊎_elim (λ e. inl (h.exclusive ∙ e)) (λ s. inr (subst (λ n. 1 ≤ n) (sym h.shares) s)) l
+
+  -- a load of the next word
+  pub nload-nil : (pages : List ℕ) (found : ℕ) (v w : View X) → NextTold found v w → IsNil pages (did_load places.Next found ∷ []) v w
+  nload-nil pages found v w t =
+      let b = t.brings in
+      let f = nload-amid [] found v w t in
+      record {
+        amid = nload-amid pages found v w t;
+        keeps = record { frames = ap (λ (y : View X). y.frames) b.view; contents = ap (λ (y : View X). y.contents) b.view; notes = ap (λ (y : View X). y.notes) b.view };
+        owed = ap (λ (y : View X). y.owed) b.view;
+        holds = λ q. let e = f.seats q refl in record { shares = ap (λ (k : Seat). k.shares) e; exclusive = ap (λ (k : Seat). k.exclusive) e; writing = ap (λ (k : Seat). k.writing) e };
+        knows = λ q l. f.knows q refl l;
+        unmoved = ((λ _. refl), tt);
+      }
+
+  -- a page that could not be locked
+  pub denied-nil : (pages : List ℕ) (p : ℕ) (done : List Did) (v w : View X) → has p pages ≡ true → p < v.start.pages → Each (λ (d : Did). d.at ≡ places.State p) done → IsQuiet p done v w → IsNil pages done v w
+  denied-nil pages p done v w e l at f = record {
+    amid = amid-reads pages p done v w e l at f;
+    keeps = record { frames = f.steady.frames.0; contents = f.steady.frames.1; notes = f.steady.notes };
+    owed = f.group.1;
+    holds = f.holds;
+    knows = f.knows;
+    unmoved = unmoved-state p done at;
+  }
+
+  -- a page that was locked, and given up after steps on other pages
+  pub bracket : (pages less : List ℕ) (p version : ℕ) (stands : Option Mapping) (done : List Did) (v u z w : View X) → has p pages ≡ true → has p less ≡ false → ((q : ℕ) → has q pages ≡ false → has q less ≡ false)
+      → (s : Seizes p version stands v u) → IsNil less done u z → (g : GivesBack p z w) → IsNil pages (s.done ++ (done ++ g.done)) v w
+  bracket pages less p version stands done v u z w e apart within s f g =
+      let one : (q : ℕ) → has q pages ≡ false → has q (p ∷ []) ≡ false = λ q none. ap (λ (b : Bool). b || false) (ne_eqb q p (other p q pages e none)) in
+      let seat : seat_of z p ≡ record (seat_of v p) { exclusive = true; reading = None } = f.amid.seats p apart ∙ s.seat in
+      let last : seat_of w p ≡ record (seat_of v p) { exclusive = false; reading = None } = g.seat ∙ ap (λ (k : Seat). record k { exclusive = false }) seat in
+      record {
+        amid = amid-then pages s.done (done ++ g.done) v u w (amid-within pages (p ∷ []) s.done v u one s.amid)
+            (amid-then pages done g.done u z w (amid-within pages less done u z within f.amid) (amid-within pages (p ∷ []) g.done z w one g.amid));
+        keeps = keeps-then v u w s.keeps (keeps-then u z w f.keeps g.keeps);
+        owed = g.group.0 ∙ f.owed ∙ s.group.0;
+        holds = λ q.
+            ⊎_elim
+            (λ (h : q ≡ p). subst (λ n. HoldsPage v w n) (sym h) (record { shares = ap (λ (k : Seat). k.shares) last; exclusive = ap (λ (k : Seat). k.exclusive) last ∙ sym s.unheld.exclusive; writing = ap (λ (k : Seat). k.writing) last }))
+            (λ (ne : q ≢ p). let a = s.amid.seats q (alone q ne) in let b = g.amid.seats q (alone q ne) in let h = f.holds q in record {
+              shares = ap (λ (k : Seat). k.shares) b ∙ h.shares ∙ ap (λ (k : Seat). k.shares) a;
+              exclusive = ap (λ (k : Seat). k.exclusive) b ∙ h.exclusive ∙ ap (λ (k : Seat). k.exclusive) a;
+              writing = ap (λ (k : Seat). k.writing) b ∙ h.writing ∙ ap (λ (k : Seat). k.writing) a;
+            })
+            (cases_eq q p);
+        knows = λ q l.
+            ⊎_elim
+            (λ (h : q ≡ p). absurd (held-by (subst (λ n. IsLocking (seat_of v n)) h l)))
+            (λ (ne : q ≢ p).
+            let l1 : IsLocking (seat_of u q) = subst (λ (k : Seat). IsLocking k) (sym (s.amid.seats q (alone q ne))) l in
+            let h = f.holds q in
+            let l2 : IsLocking (seat_of z q) = ⊎_elim (λ e. inl (h.exclusive ∙ e)) (λ x. inr (subst (λ n. 1 ≤ n) (sym h.shares) x)) l1 in
+            knows-then v u w q (s.amid.knows q (alone q ne) l) (knows-then u z w q (f.knows q l1) (g.amid.knows q (alone q ne) l2)))
+            (cases_eq q p);
+        unmoved = each-both _ s.done (done ++ g.done) (unmoved-at p s.done s.places_are)
+            (each-both _ done g.done f.unmoved (unmoved-state p g.done g.places_are));
+      }
+    where
+      alone : (q : ℕ) → q ≢ p → has q (p ∷ []) ≡ false
+      alone q ne = ap (λ (b : Bool). b || false) (ne_eqb q p ne)
+
+      held-by : IsLocking (seat_of v p) → ⊥
+      held-by l = ⊎_elim (λ e. true≢false (sym e ∙ s.unheld.exclusive)) (λ x. let none = s.unheld.shares in absurd (omega (arith, x, none))) l
+
+  -- a page that was locked stays so while the call works on others
+  pub seized-on : (p version : ℕ) (stands : Option Mapping) (pages : List ℕ) (done : List Did) (v w : View X) → IsSeized p version stands v → IsAmid pages done v w → has p pages ≡ false → w.owed ≡ v.owed → IsSeized p version stands w
+  seized-on p version stands pages done v w s f none owed =
+      let k = f.knows p none (inl s.owns) in
+      record {
+        page = subst (λ (o : Origin). p < o.pages) (sym f.start) s.page;
+        below = s.below;
+        owns = ap (λ (x : Seat). x.exclusive) (f.seats p none) ∙ s.owns;
+        mapping = ap (λ (h : Held). h.mapping) k.held ∙ s.mapping;
+        inside = λ m e. subst (λ (o : Origin). m.frame < o.frames) (sym f.start) (s.inside m e);
+        told = ap (λ (h : Held). h.fault) k.held ∙ s.told ∙ ap (λ (h : Held). h.block.count) (sym k.held);
+        at = ap (λ (x : Version). x.version) k.last ∙ s.at;
+        draft = k.draft ∙ s.draft ∙ ap (λ (x : Version). x.words) (sym k.last);
+        size = ap (λ (x : Version). length x.words) k.last ∙ s.size;
+        device = λ t e. ap (λ (h : Held). h.block.words) k.held ∙ s.device (ap (λ (o : Origin). o.tells) (sym f.start) ∙ t) e ∙ ap (λ (x : Version). x.words) (sym k.last);
+        free = ap (has p) f.pending ∙ s.free;
+        paid = ap (has p) owed ∙ s.paid;
+      }

@@ -1,0 +1,95 @@
+-- A pass that is alone is given the fresh pages that it knows can be locked.
+use Rattle.std.proofs.Common.{ℕ, ◌≡◌, ◌≢◌, ◌+◌, ◌<◌, ◌≤◌, Option, None, List, [], ◌∷◌, refl, sym, subst, ◌∙◌, ⊎_elim, arith}
+use Rattle.vm_core.specs.declared.event.Mapping.{Mapping}
+use Rattle.vm_core.specs.Words.{state_of, version_of}
+use Rattle.vm_owner.specs.Kept.{Start}
+use Rattle.vm_rule.specs.declared.view.Origin.{Origin}
+use Rattle.vm_rule.specs.declared.view.Place.TheVariants as places
+use Rattle.vm_rule.specs.declared.view.View.{View}
+use Rattle.vm_rule.specs.Log.{did_load}
+use Rattle.vm_rule.specs.Locks.{LockTold}
+use Rattle.vm_rule.specs.Looks.{LookTold}
+use Rattle.vm_rule.specs.Nexts.{NextTold, next_view}
+use Rattle.vm_step.specs.Alone.{IsAlone}
+use Rattle.vm_step.proofs.Alone.{found-known, same-word, still-alone, words-known}
+use Rattle.vm_guard.specs.declared.deny.Deny.{Deny}
+use Rattle.vm_guard.specs.declared.deny.Deny.TheVariants as denies
+use Rattle.vm_guard.specs.Denied.{AgainOrWorn, SameOrUnlocked}
+use Rattle.vm_guard.specs.Fresh.{Seizes}
+use Rattle.vm_guard.specs.Sure.{IsFree, MayBeGiven, MayBeSeized, known_next, known_word}
+use Rattle.vm_guard.specs.Takes.{SaysWhy}
+use Rattle.vm_guard.proofs.Amid.{nload-amid}
+use Rattle.vm_guard.proofs.FreshKnown.{next-known, others-known}
+use Rattle.vm_guard.proofs.FreshNone.{unmoved-at}
+use Rattle.vm_guard.proofs.FreshNumbers.{apart-second}
+use Rattle.vm_guard.proofs.Sure.{free-expected, lock-finds, look-finds}
+
+-- a page that can be locked is not refused at once
+pub seize-refused : (p word : ℕ) (d : Deny) → SaysWhy p word d → AgainOrWorn d → MayBeSeized word → ⊥
+seize-refused p word (denies.Again saw) why kind may =
+    let full : state_of word ≡ 253 = why.1 in
+    ⊎_elim
+    (λ (free : IsFree word). ⊎_elim (λ (e : state_of word ≡ 0). omega (arith, e, full)) (λ (e : state_of word ≡ 254). omega (arith, e, full)) free)
+    (λ (e : state_of word ≡ 255). omega (arith, e, full))
+    may.0
+seize-refused p word (denies.Need q) why kind may = kind
+seize-refused p word (denies.Crowded q) why kind may = kind
+seize-refused p word (denies.Worn q) why kind may =
+    let last : version_of word ≡ 72057594037927935 = why.1 in
+    let below : version_of word < 72057594037927935 = may.1 in
+    omega (arith, below, last)
+
+-- and its word is the one that the lock expects
+seize-expected : (word expects : ℕ) → SameOrUnlocked word expects → MayBeSeized word → expects ≡ word
+seize-expected word expects kept may =
+    ⊎_elim
+    (λ (free : IsFree word). free-expected word expects kept free)
+    (λ (gone : state_of word ≡ 255). ⊎_elim (λ (e : expects ≡ word). e) (λ h. let few : state_of word < 253 = h.1 in absurd (omega (arith, gone, few))) kept)
+    may.0
+
+module _ {X : Type 0} where
+  -- so that lock is not lost
+  pub seize-sure : (tied : Start → ℕ → List ℕ → ℕ → List ℕ → Type 0) (p word expects found : ℕ) (v u w : View X) → LookTold tied p None word v u → LockTold tied p expects found u w → SameOrUnlocked word expects → found ≢ expects
+      → IsAlone v → MayBeSeized (known_word p v) → ⊥
+  seize-sure tied p word expects found v u w look lock kept ne a may =
+      let here : word ≡ known_word p v = look-finds tied p None word v u look a in
+      ne (lock-finds tied p word v u look a expects found w lock ∙ sym (seize-expected word expects kept (subst MayBeSeized (sym here) may)))
+
+  -- the next word that is loaded is the one that the pass knew
+  pub next-found : (found : ℕ) (v u : View X) → NextTold found v u → IsAlone v → found ≡ known_next v
+  next-found found v u t a = found-known (did_load places.Next found) found None [] [] v (next_view found v) u t.brings refl a
+
+  pub loaded-alone : (found : ℕ) (v u : View X) → NextTold found v u → IsAlone v → IsAlone u
+  loaded-alone found v u t a = let f = nload-amid [] found v u t in still-alone v u f.parts f.alone.current a
+
+  -- a load leaves what the pass knows of pages
+  loaded-word : (found q : ℕ) (v u : View X) → NextTold found v u → IsAlone v → known_word q u ≡ known_word q v
+  loaded-word found q v u t a = same-word v u (nload-amid [] found v u t).start (words-known (did_load places.Next found) None [] [] v (next_view found v) u t.brings refl a) (places.State q)
+
+  -- and the next word
+  pub loaded-next : (found : ℕ) (v u : View X) → NextTold found v u → IsAlone v → known_next u ≡ known_next v
+  loaded-next found v u t a = same-word v u (nload-amid [] found v u t).start (words-known (did_load places.Next found) None [] [] v (next_view found v) u t.brings refl a) places.Next
+
+  pub seized-alone : (p version : ℕ) (stands : Option Mapping) (v u : View X) → Seizes p version stands v u → IsAlone v → IsAlone u
+  seized-alone p version stands v u s a = still-alone v u s.amid.parts s.amid.alone.current a
+
+  -- a lock leaves the next word
+  pub seized-next : (p version : ℕ) (stands : Option Mapping) (v u : View X) → Seizes p version stands v u → IsAlone v → known_next u ≡ known_next v
+  seized-next p version stands v u s a = next-known (p ∷ []) s.done v u s.amid (unmoved-at p s.done s.places_are) a
+
+  -- the first page can be locked once the next word is loaded
+  pub first-sure : (n x : ℕ) (v u : View X) → NextTold x v u → IsAlone v → MayBeGiven n v → 1 ≤ n → MayBeSeized (known_word x u)
+  first-sure n x v u t a may some =
+      let here : x ≡ known_next v = next-found x v u t a in
+      subst MayBeSeized (sym (loaded-word x x v u t a)) (may.each x (omega (arith, here)) (omega (arith, here, some)))
+
+  -- and the second one once the first is locked
+  pub second-sure : (x version : ℕ) (stands : Option Mapping) (v u z : View X) → NextTold x v u → IsAlone v → MayBeGiven 2 v → Seizes x version stands u z → MayBeSeized (known_word (x + 1) z)
+  second-sure x version stands v u z t a may s =
+      let here : x ≡ known_next v = next-found x v u t a in
+      let room : known_next v + 2 ≤ v.start.pages = may.room in
+      let page : x + 1 < v.start.pages = omega (arith, here, room) in
+      subst MayBeSeized
+      (sym (others-known (x ∷ []) s.done u z s.amid (loaded-alone x v u t a) (places.State (x + 1)) (subst (λ (o : Origin). x + 1 < o.pages) (sym (nload-amid [] x v u t).start) page) (apart-second x)
+      ∙ loaded-word x (x + 1) v u t a))
+      (may.each (x + 1) (omega (arith, here)) (omega (arith, here)))

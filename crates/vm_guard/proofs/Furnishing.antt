@@ -1,0 +1,229 @@
+-- A page that was locked is put into a frame of zeros, where it stood in none.
+use Rattle.std.proofs.Common.{ℕ, ◌≡◌, ◌≢◌, ◌⊎◌, ◌+◌, ◌<◌, ◌≤◌, ◌||◌, true, false, true≢false, Bool, Option, Some, None, List, [], ◌∷◌, ◌++◌, length, refl, sym, ap, subst, ◌∙◌, inl, ⊎_elim, arith, replicate, eqb, suc, inr, slice_index, slice_set}
+use Rattle.std.proofs.lemmas.Bool.{cases_eq, eq-eqb, ne_eqb}
+use Rattle.std.proofs.lemmas.List.{length-replicate}
+use Rattle.vm_core.specs.declared.event.Mapping.{Mapping}
+use Rattle.vm_core.specs.declared.event.Seat.{Seat}
+use Rattle.vm_core.specs.FrameActs.{trans_word}
+use Rattle.vm_core.specs.History.{Version}
+use Rattle.vm_core.proofs.Upd.{upd-same, upd-other}
+use Rattle.vm_owner.specs.Numbers.{has, without, AreApart}
+use Rattle.vm_owner.proofs.NumberLemmas.{has-without_other}
+use Rattle.vm_rule.specs.declared.view.Did.{Did}
+use Rattle.vm_rule.specs.declared.view.Held.{Held}
+use Rattle.vm_rule.specs.declared.view.Origin.{Origin}
+use Rattle.vm_rule.specs.declared.view.Place.TheVariants as places
+use Rattle.vm_rule.specs.declared.view.View.{View}
+use Rattle.vm_rule.specs.Puts.{put_at}
+use Rattle.vm_rule.specs.Views.{Each, seat_of, draft_of}
+use Rattle.vm_rule.specs.Reading.{last_of}
+use Rattle.vm_rule.specs.Rule.{no_held}
+use Rattle.vm_rule.specs.Log.{did_store}
+use Rattle.vm_rule.specs.Mappings.{InstallTold, MayPutInto, clean_in, contents_at, held_at, installed_view}
+use Rattle.vm_rule.specs.Layout.{index_of}
+use Rattle.vm_rule.specs.Stores.{FillTold}
+use Rattle.vm_rule.proofs.Entries.{append-none, each-map}
+use Rattle.vm_rule.proofs.Heard.{each-both}
+use Rattle.vm_rule.proofs.Facts.{has-both}
+use Rattle.vm_step.specs.Fills.{Stores}
+use Rattle.vm_step.specs.HeldFrames.{AreHeld}
+use Rattle.vm_step.proofs.Filling.{Fills, fills, filled, stores-did}
+use Rattle.vm_step.proofs.Leaves.{last-quiet}
+use Rattle.vm_guard.specs.Fresh.{Furnishes, IsAmid, IsSeized}
+use Rattle.vm_guard.specs.FreshPlaces.{IsPlaceOf}
+use Rattle.vm_guard.specs.Sure.{KnowsStates}
+use Rattle.vm_guard.proofs.Amid.{IsSilent, other, leaves-silent, none-silent, quiet-silent, silent-then}
+use Rattle.vm_guard.proofs.FreshKnown.{apart-index, follows-kept}
+use Rattle.vm_guard.proofs.Seizing.{self-has}
+
+pub or-none : (a b : Bool) → (a || b) ≡ false → (a ≡ false) × (b ≡ false)
+or-none true b e = absurd (true≢false e)
+or-none false b e = (refl, e)
+
+-- a list of different numbers that ends with f: the others are different numbers, and f is none of them
+apart-front : (a : List ℕ) (f : ℕ) → AreApart (a ++ f ∷ []) → AreApart a × (has f a ≡ false)
+apart-front [] f apart = (tt, refl)
+apart-front (q ∷ qs) f apart =
+    let k = or-none (has q qs) (has q (f ∷ [])) (sym (has-both q qs (f ∷ [])) ∙ apart.0) in
+    let rest = apart-front qs f apart.1 in
+    let ne : f ≢ q = (λ e. true≢false (sym (ap (λ (b : Bool). b || false) (eq-eqb q f (sym e))) ∙ k.1)) in
+    ((k.0, rest.0), ap (λ b. b || has f qs) (ne_eqb f q ne) ∙ rest.1)
+
+-- a fact of each of a list, without its last one
+each-front : (P Q : ℕ → Type 0) (a : List ℕ) (f : ℕ) → ((g : ℕ) → g ≢ f → P g → Q g) → has f a ≡ false → Each P (a ++ f ∷ []) → Each Q a
+each-front P Q [] f step none e = tt
+each-front P Q (q ∷ qs) f step none e =
+    let k = or-none (eqb f q) (has f qs) none in
+    (step q (λ same. true≢false (sym (eq-eqb f q (sym same)) ∙ k.0)) e.0, each-front P Q qs f step k.1 e.1)
+
+last-of-each : (P : ℕ → Type 0) (a : List ℕ) (f : ℕ) → Each P (a ++ f ∷ []) → P f
+last-of-each P [] f e = e.0
+last-of-each P (q ∷ qs) f e = last-of-each P qs f e.1
+
+-- the stores are at the frame's words
+stores-places : (start : Origin) (pages : List ℕ) (f : ℕ) → f < start.frames → (i : ℕ) (xs : List ℕ) → i + length xs ≤ 64 → Each (λ (d : Did). IsPlaceOf start pages d.at) (stores-did f i xs)
+stores-places start pages f l i [] few = tt
+stores-places start pages f l i (x ∷ xs) few = ((l, (let many : i + suc (length xs) ≤ 64 = few in omega (arith, many))), stores-places start pages f l (i + 1) xs (let many : i + suc (length xs) ≤ 64 = few in omega (arith, many)))
+
+abbrev pub zeros : List ℕ
+zeros = replicate 64 0
+
+module _ {X : Type 0} where
+  -- stores into a frame leave the words of each other one
+  stores-elsewhere : (f i : ℕ) (xs : List ℕ) (v w : View X) → Stores f i xs v w → (g : ℕ) → g ≢ f → contents_at w g ≡ contents_at v g
+  stores-elsewhere f i [] v w s g ne = ap (λ (y : View X). contents_at y g) s
+  stores-elsewhere f i (x ∷ xs) v w s g ne =
+      let t : FillTold f i x v s.0 = s.1 in
+      stores-elsewhere f (i + 1) xs s.0 w s.2 g ne
+      ∙ ap (λ (y : View X). contents_at y g) t.brings.view
+      ∙ upd-other (put_at [] v.contents) f (slice_set (contents_at v f) i x) g ne
+
+  -- the page stands in a frame already
+  pub furnish-resident : (p version : ℕ) (m : Mapping) (frames : List ℕ) (v : View X) → IsSeized p version (Some m) v → AreHeld frames v → Furnishes p m.frame version m.dirty frames frames v v
+  furnish-resident p version m frames v s own = record {
+    done = [];
+    amid = (none-silent (p ∷ []) v).0;
+    group = (refl, refl);
+    seat = refl;
+    holding = record { page = s.page; frame_is = s.inside m refl; below = s.below; owns = s.owns; stands = s.mapping; told = s.told; at = s.at; size = ap length s.draft ∙ s.size; free = s.free };
+    draft = refl;
+    last = refl;
+    taken = [];
+    few = omega arith;
+    cut = sym (append-none frames);
+    frames = refl;
+    own = own;
+    contents = λ g none. refl;
+    silent = (none-silent (p ∷ []) v).1;
+    states = λ a q l. refl;
+  }
+
+  module _ (p version f : ℕ) (before after : List ℕ) (v : View X) (s : IsSeized p version None v) (zero : v.start.tells ≡ true → (last_of v p).words ≡ zeros) (own : AreHeld before v) (cut : before ≡ after ++ f ∷ []) where
+    apart : AreApart after × (has f after ≡ false)
+    apart = apart-front after f (subst AreApart cut own.apart)
+
+    each-inside : Each (λ g. g < v.start.frames) (after ++ f ∷ [])
+    each-inside = subst (λ (l : List ℕ). Each (λ g. g < v.start.frames) l) cut own.inside
+
+    each-held : Each (λ g. has g v.frames ≡ true) (after ++ f ∷ [])
+    each-held = subst (λ (l : List ℕ). Each (λ g. has g v.frames ≡ true) l) cut own.held
+
+    -- the frame to take is one of the pass's
+    pub frame-own : (f < v.start.frames) × (has f v.frames ≡ true)
+    frame-own = (last-of-each (λ g. g < v.start.frames) after f each-inside, last-of-each (λ g. has g v.frames ≡ true) after f each-held)
+
+    module _ (u : View X) (stores : Stores f 0 zeros v u) where
+      filling : Fills f p (stores-did f 0 zeros) v u
+      filling = fills f p 0 zeros v u stores
+
+      held-u : held_at u p ≡ held_at v p
+      held-u = ap (λ l. put_at no_held l p) filling.held
+
+      last-u : last_of u p ≡ last_of v p
+      last-u = filling.works.last (inl s.owns)
+
+      pub may-install : MayPutInto u p f
+      may-install = record {
+        owns = ap (λ (k : Seat). k.exclusive) filling.works.seat ∙ s.owns;
+        empty = ap (λ (h : Held). h.mapping) held-u ∙ s.mapping;
+        holds = ap (has f) filling.frames ∙ frame-own.1;
+        loaded = λ t.
+            let told : v.start.tells ≡ true = ap (λ (o : Origin). o.tells) (sym filling.works.leaves.start) ∙ t in
+            filled f zeros v u (length-replicate {A = ℕ} 64 0) stores ∙ sym (zero told) ∙ sym (s.device told refl) ∙ ap (λ (h : Held). h.block.words) (sym held-u);
+      }
+
+      module _ (w : View X) (t : InstallTold p f u w) where
+        abbrev did : Did
+        did = did_store (places.Translation p) (trans_word (Some (clean_in f)))
+
+        installing : IsSilent (p ∷ []) (did ∷ []) u w
+        installing = quiet-silent (p ∷ []) did [] u (installed_view p f u) w t.brings
+            (record {
+              log = refl;
+              live = refl;
+              start = refl;
+              parts = (refl, refl);
+              mine = refl;
+              out = refl;
+              notes = refl;
+              ties = ([], refl);
+              pending = refl;
+              seats = λ q none. refl;
+              loads = λ q none. refl;
+              knows = λ q none. (upd-other (put_at no_held u.held) p (record (held_at u p) { mapping = Some (clean_in f) }) q (other p q (p ∷ []) (self-has p) none), refl);
+            })
+            (subst (λ (o : Origin). p < o.pages) (sym filling.works.leaves.start) s.page, self-has p)
+
+        installs : IsAmid (p ∷ []) (did ∷ []) u w
+        installs = installing.0
+
+        steps : IsSilent (p ∷ []) (stores-did f 0 zeros ++ did ∷ []) v w
+        steps = silent-then (p ∷ []) (stores-did f 0 zeros) (did ∷ []) v u w
+            (leaves-silent (p ∷ []) p (stores-did f 0 zeros) v u (self-has p) filling.works.leaves filling.out filling.notes filling.works.alone (stores-places v.start (p ∷ []) f frame-own.0 0 zeros (omega arith)))
+            installing
+
+        held-w : held_at w p ≡ record (held_at v p) { mapping = Some (clean_in f) }
+        held-w =
+            ap (λ (y : View X). held_at y p) t.brings.view
+            ∙ upd-same (put_at no_held u.held) p (record (held_at u p) { mapping = Some (clean_in f) })
+            ∙ ap (λ (h : Held). record h { mapping = Some (clean_in f) }) held-u
+
+        start-w : w.start ≡ v.start
+        start-w = installs.start ∙ filling.works.leaves.start
+
+        -- no step is at a state word
+        states-w : KnowsStates v w
+        states-w a q l =
+            ap (λ (o : Origin). slice_index w.snapshot.words (index_of o (places.State q))) start-w
+            ∙ follows-kept v.start (places.State q) (stores-did f 0 zeros ++ did ∷ []) v.snapshot.words w.snapshot.words (steps.0.runs.words a.0 a.1)
+            (each-both (λ (d : Did). (d.wrote ≡ None) ⊎ (index_of v.start (places.State q) ≢ index_of v.start d.at)) (stores-did f 0 zeros) (did ∷ [])
+            (each-map (λ (d : Did). IsPlaceOf v.start [] d.at) (λ (d : Did). (d.wrote ≡ None) ⊎ (index_of v.start (places.State q) ≢ index_of v.start d.at)) (λ (d : Did) is. inr (apart-index v.start [] (places.State q) d.at l refl is)) (stores-did f 0 zeros) (stores-places v.start [] f frame-own.0 0 zeros (omega arith)))
+            (inr (λ e. absurd (let k : q ≡ v.start.pages + p = e in omega (arith, l, k))), tt))
+
+        seat-w : seat_of w p ≡ seat_of v p
+        seat-w = ap (λ (y : View X). seat_of y p) t.brings.view ∙ filling.works.seat
+
+        last-w : last_of w p ≡ last_of v p
+        last-w = last-quiet p did None [] u (installed_view p f u) w t.brings refl p (inl (ap (λ (k : Seat). k.exclusive) filling.works.seat ∙ s.owns)) ∙ last-u
+
+        draft-w : draft_of w p ≡ draft_of v p
+        draft-w = ap (λ (y : View X). draft_of y p) t.brings.view ∙ filling.works.draft
+
+        frames-w : w.frames ≡ without f v.frames
+        frames-w = ap (λ (y : View X). y.frames) t.brings.view ∙ ap (without f) filling.frames
+
+        pub furnish-empty : Furnishes p f version false before after v w
+        furnish-empty = record {
+          done = stores-did f 0 zeros ++ did ∷ [];
+          amid = steps.0;
+          group = (
+            ap (λ (y : View X). y.owed) t.brings.view ∙ filling.works.leaves.group.1,
+            ap (λ (y : View X). y.next) t.brings.view ∙ filling.works.leaves.group.2,
+          );
+          seat = seat-w;
+          holding = record {
+            page = subst (λ (o : Origin). p < o.pages) (sym start-w) s.page;
+            frame_is = subst (λ (o : Origin). f < o.frames) (sym start-w) frame-own.0;
+            below = s.below;
+            owns = ap (λ (k : Seat). k.exclusive) seat-w ∙ s.owns;
+            stands = ap (λ (h : Held). h.mapping) held-w;
+            told = ap (λ (h : Held). h.fault) held-w ∙ s.told ∙ ap (λ (h : Held). h.block.count) (sym held-w);
+            at = ap (λ (y : Version). y.version) last-w ∙ s.at;
+            size = ap (λ (l : List ℕ). length l) draft-w ∙ ap length s.draft ∙ s.size;
+            free = ap (has p) (installs.pending ∙ filling.works.leaves.group.0) ∙ s.free;
+          };
+          draft = draft-w;
+          last = last-w;
+          taken = f ∷ [];
+          few = omega arith;
+          cut = cut;
+          frames = frames-w;
+          own = record {
+            apart = apart.0;
+            inside = each-front (λ g. g < v.start.frames) (λ g. g < w.start.frames) after f (λ g ne k. subst (λ (o : Origin). g < o.frames) (sym start-w) k) apart.1 each-inside;
+            held = each-front (λ g. has g v.frames ≡ true) (λ g. has g w.frames ≡ true) after f (λ g ne k. ap (has g) frames-w ∙ has-without_other f g v.frames ne ∙ k) apart.1 each-held;
+          };
+          contents = λ g none. ap (λ (y : View X). contents_at y g) t.brings.view ∙ stores-elsewhere f 0 zeros v u stores g (other f g (f ∷ []) (self-has f) none);
+          silent = steps.1;
+          states = states-w;
+        }

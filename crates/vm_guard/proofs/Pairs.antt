@@ -1,0 +1,124 @@
+-- A caller of fresh pages and groups: which guards it got, that it may release them, and what the pages have then.
+use Rattle.std.proofs.Common.{ℕ, ◌≡◌, ◌≢◌, ◌+◌, ◌<◌, true, false, Bool, None, List, [], ◌∷◌, ◌++◌, refl, sym, ap, subst, ◌∙◌, arith, inl, inr, ◌||◌, suc, length, replicate, slice_set}
+use Rattle.std.proofs.lemmas.Bool.{ne_eqb}
+use Rattle.std.proofs.lemmas.List.{length-append}
+use Rattle.std.proofs.lemmas.Option.{none-some}
+use Rattle.vm_core.specs.History.{Version}
+use Rattle.vm_owner.specs.declared.Entry.{Entry}
+use Rattle.vm_owner.specs.Kept.{Start, Change}
+use Rattle.vm_owner.specs.Numbers.{has}
+use Rattle.vm_rule.specs.declared.view.Held.{Held}
+use Rattle.vm_rule.specs.declared.view.Origin.{Origin}
+use Rattle.vm_rule.specs.declared.view.View.{View}
+use Rattle.vm_rule.specs.Views.{draft_of, numbers}
+use Rattle.vm_rule.specs.Rule.{began_of}
+use Rattle.vm_rule.specs.Releases.{changes_of}
+use Rattle.vm_rule.proofs.Facts.{has-both}
+use Rattle.vm_step.specs.Alone.{IsAlone}
+use Rattle.vm_step.proofs.Alone.{still-alone}
+use Rattle.vm_step.proofs.Numbers.{numbers-has}
+use Rattle.vm_guard.specs.declared.exclusive.ExclusiveGuard.{ExclusiveGuard}
+use Rattle.vm_guard.specs.Fresh.{AreFresh}
+use Rattle.vm_guard.specs.Groups.{AreReleased, MayReleaseAll, pids_of}
+use Rattle.vm_guard.specs.Guards.{IsHolding, IsSet}
+use Rattle.vm_guard.specs.Pairs.{HasFirst}
+
+pids-many : (gs : List ExclusiveGuard) → length (pids_of gs) ≡ length gs
+pids-many [] = refl
+pids-many (g ∷ gs) = ap suc (pids-many gs)
+
+numbers-many : (x : ℕ) → length (numbers x 2) ≡ 2
+unfolding numbers
+numbers-many x = refl
+
+pub two-many : (x : ℕ) (gs : List ExclusiveGuard) → pids_of gs ≡ numbers x 2 → length gs ≡ 2
+two-many x gs e = sym (pids-many gs) ∙ ap length e ∙ numbers-many x
+
+-- the guards that were taken one after another are all
+pub taken-both : (x : ℕ) (gs gs1 gs2 : List ExclusiveGuard) (a b : ExclusiveGuard) → gs ≡ gs1 ++ b ∷ [] → gs1 ≡ gs2 ++ a ∷ [] → pids_of gs ≡ numbers x 2 → (gs2 ≡ []) × (gs ≡ a ∷ b ∷ [])
+taken-both x gs gs1 [] a b e e1 p = (refl, e ∙ ap (λ (l : List ExclusiveGuard). l ++ b ∷ []) e1)
+taken-both x gs gs1 (g ∷ rest) a b e e1 p =
+    absurd (let long = two-many x gs p in
+    let one : length gs ≡ length gs1 + 1 = ap length e ∙ length-append gs1 (b ∷ []) in
+    let two : length gs1 ≡ length (g ∷ rest) + 1 = ap length e1 ∙ length-append (g ∷ rest) (a ∷ []) in
+    omega (arith, long, one, two))
+
+-- and have these pages
+pub pids-both : (x : ℕ) (a b : ExclusiveGuard) → pids_of (a ∷ b ∷ []) ≡ numbers x 2 → (a.pid ≡ x) × (b.pid ≡ x + 1)
+unfolding numbers
+pids-both x a b e = (let first : a.pid ≡ x = cc in first, (let second : b.pid ≡ suc x = cc in second ∙ (omega arith)))
+
+pub apart-of : (x : ℕ) (a b : ExclusiveGuard) → pids_of (a ∷ b ∷ []) ≡ numbers x 2 → b.pid ≢ a.pid
+apart-of x a b e same = absurd (let p = (pids-both x a b e).0 in let q = (pids-both x a b e).1 in omega (arith, same, p, q))
+
+module _ {X : Type 0} where
+  -- a page that is held stays so while a word of another one is set
+  pub holding-beside : (p frame version : ℕ) (dirty : Bool) (q f2 : ℕ) (d2 : Bool) (i x : ℕ) (v w : View X) → IsHolding p frame version dirty v → p ≢ q → IsSet q f2 d2 i x v w → IsHolding p frame version dirty w
+  holding-beside p frame version dirty q f2 d2 i x v w h ne s =
+      let k = s.elsewhere.knows p ne (inl h.owns) in
+      record {
+        page = subst (λ (o : Origin). p < o.pages) (sym s.elsewhere.steady.start) h.page;
+        frame_is = subst (λ (o : Origin). frame < o.frames) (sym s.elsewhere.steady.start) h.frame_is;
+        below = h.below;
+        owns = (s.elsewhere.holds p ne).exclusive ∙ h.owns;
+        stands = ap (λ (y : Held). y.mapping) k.held ∙ h.stands;
+        told = ap (λ (y : Held). y.fault) k.held ∙ h.told ∙ ap (λ (y : Held). y.block.count) (sym k.held);
+        at = ap (λ (y : Version). y.version) k.last ∙ h.at;
+        size = ap length k.draft ∙ h.size;
+        free = ap (has p) s.group.0 ∙ h.free;
+      }
+
+  module _ (x a b : ℕ) (g1 g2 : ExclusiveGuard) (before after : List ℕ) (v w1 w2 w3 : View X) (f : AreFresh (numbers x 2) x 2 (g1 ∷ g2 ∷ []) before after v w1) (s1 : IsSet g1.pid g1.frame g1.dirty 0 a w1 w2) (s2 : IsSet g2.pid g2.frame g2.dirty 0 b w2 w3) where
+    pids : (g1.pid ≡ x) × (g2.pid ≡ x + 1)
+    pids = pids-both x g1 g2 f.guards
+
+    pub apart-pair : g1.pid ≢ g2.pid
+    apart-pair e = absurd (let p = pids.0 in let q = pids.1 in omega (arith, e, p, q))
+
+    in-first : has g1.pid (numbers x 2) ≡ true
+    in-first = numbers-has 2 x g1.pid (let p = pids.0 in omega (arith, p)) (let p = pids.0 in omega (arith, p))
+
+    in-second : has g2.pid (numbers x 2) ≡ true
+    in-second = numbers-has 2 x g2.pid (let q = pids.1 in omega (arith, q)) (let q = pids.1 in omega (arith, q))
+
+    owed-3 : (p : ℕ) → has p (numbers x 2) ≡ true → has p w3.owed ≡ true
+    owed-3 p e = ap (has p) (s2.group.1 ∙ s1.group.1 ∙ f.owed) ∙ has-both p (numbers x 2) v.owed ∙ ap (λ k. k || has p v.owed) e
+
+    pub out-3 : v.out ≡ None → w3.out ≡ None
+    out-3 none = s2.elsewhere.steady.out ∙ s1.elsewhere.steady.out ∙ f.amid.out ∙ none
+
+    pub may-pair : (may_release : Start → List ℕ → List Change → List (Entry X) → Type 0) → IsHolding g1.pid g1.frame g1.version true w2 → IsHolding g2.pid g2.frame g2.version true w3 → v.out ≡ None → may_release (began_of w3.start) w3.owed (changes_of w3 (g1.pid ∷ g2.pid ∷ [])) [] → MayReleaseAll may_release (record g1 { dirty = true } ∷ record g2 { dirty = true } ∷ []) None w3
+    may-pair may_release h1 h2 none owner = record {
+      held = (holding-beside g1.pid g1.frame g1.version true g2.pid g2.frame g2.dirty 0 b w2 w3 h1 apart-pair s2, (h2, tt));
+      apart = (ap (λ k. k || false) (ne_eqb g1.pid g2.pid apart-pair), (refl, tt));
+      home = ((λ o e. absurd (none-some o (sym (out-3 none) ∙ e))), ((λ o e. absurd (none-some o (sym (out-3 none) ∙ e))), tt));
+      claimed = λ t. (inr (inr (inr (owed-3 g1.pid in-first))), (inr (inr (inr (owed-3 g2.pid in-second))), tt));
+      owner = λ t. inr owner;
+    }
+
+    module _ (w : View X) (r : AreReleased (record g1 { dirty = true }) (record g2 { dirty = true } ∷ []) None w3 w) (tells : v.start.tells ≡ true) (alone : IsAlone v) where
+      alone-1 : IsAlone w1
+      alone-1 = still-alone v w1 f.amid.parts f.amid.alone.current alone
+
+      alone-2 : IsAlone w2
+      alone-2 = still-alone w1 w2 s1.elsewhere.steady.parts s1.elsewhere.steady.alone.current alone-1
+
+      alone-3 : IsAlone w3
+      alone-3 = still-alone w2 w3 s2.elsewhere.steady.parts s2.elsewhere.steady.alone.current alone-2
+
+      first-draft : draft_of w3 g1.pid ≡ slice_set (replicate 64 0) 0 a
+      first-draft =
+          (s2.elsewhere.knows g1.pid apart-pair (inl (s1.holds.exclusive ∙ f.held.0.owns))).draft
+          ∙ s1.draft
+          ∙ ap (λ (l : List ℕ). slice_set l 0 a) (f.zero tells g1.pid in-first).0
+
+      second-draft : draft_of w3 g2.pid ≡ slice_set (replicate 64 0) 0 b
+      second-draft =
+          s2.draft
+          ∙ ap (λ (l : List ℕ). slice_set l 0 b) ((s1.elsewhere.knows g2.pid (λ e. apart-pair (sym e)) (inl f.held.1.0.owns)).draft ∙ (f.zero tells g2.pid in-second).0)
+
+      pub written-pair : HasFirst g1.pid a w × HasFirst (g1.pid + 1) b w
+      written-pair = (
+        ap (λ (k : Version). k.words) (r.last alone-3).0 ∙ first-draft,
+        subst (λ n. HasFirst n b w) (let p = pids.0 in let q = pids.1 in omega (arith, p, q)) (ap (λ (k : Version). k.words) (r.last alone-3).1.0 ∙ second-draft),
+      )

@@ -1,0 +1,17 @@
+use Rattle.std.proofs.Common.{◌<◌, subst, ◌∙◌}
+use Rattle.vm_guard.proofs.GuardSteps.{parts-on, still-of}
+use Rattle.vm_guard.proofs.Groups.{first-may}
+use Rattle.vm_guard.proofs.QuietSteps.{release-elsewhere}
+use Rattle.vm_guard.proofs.exclusive.ExclusiveGuard.release_first.Goals as goal
+
+pub release-requires-clause-page : goal.release-requires-clause-page
+release-requires-clause-page g c = subst (λ n. c.args.self.pid < n) c.requires.ready.table.is_shape.pages c.requires.holds.page
+
+pub release-requires-clause-legal : goal.release-requires-clause-legal
+release-requires-clause-legal g c = first-may _ _ _ _ _ _ _ _ c.requires.holds c.requires.home c.requires.first
+
+pub returns-clause-ready : goal.returns-clause-ready
+returns-clause-ready g c =
+    let ready = c.requires.ready in
+    let steady = (release-elsewhere _ _ _ _ _ _ c.release.ensures.told).steady in
+    record { may = (c.release.ensures.pass.0 ∙ ready.may.0, parts-on _ _ _ steady ready.may.1); table = still-of _ _ _ _ steady.start ready.table }

@@ -1,0 +1,17 @@
+use Rattle.std.proofs.Common.{◌<◌, subst, ◌∙◌}
+use Rattle.vm_guard.proofs.GuardSteps.{parts-on, still-of}
+use Rattle.vm_guard.proofs.Groups.{later-may}
+use Rattle.vm_guard.proofs.QuietSteps.{release-elsewhere}
+use Rattle.vm_guard.proofs.exclusive.ExclusiveGuard.release_later.Goals as goal
+
+pub release_silently-requires-clause-page : goal.release_silently-requires-clause-page
+release_silently-requires-clause-page g c = subst (λ n. c.args.self.pid < n) c.requires.ready.table.is_shape.pages c.requires.due.page
+
+pub release_silently-requires-clause-legal : goal.release_silently-requires-clause-legal
+release_silently-requires-clause-legal g c = later-may _ _ _ _ c.requires.due
+
+pub returns-clause-ready : goal.returns-clause-ready
+returns-clause-ready g c =
+    let ready = c.requires.ready in
+    let steady = (release-elsewhere _ _ _ _ _ _ c.release_silently.ensures.told).steady in
+    record { may = (c.release_silently.ensures.pass.0 ∙ ready.may.0, parts-on _ _ _ steady ready.may.1); table = still-of _ _ _ _ steady.start ready.table }

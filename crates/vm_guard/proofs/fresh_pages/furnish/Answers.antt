@@ -1,0 +1,29 @@
+use Rattle.std.proofs.Common.{◌∙◌, ◌++◌, ℕ, List, ap, subst}
+use Rattle.std.specs.Option.{option_to_list}
+use Rattle.vm_step.specs.Fills.{Stores}
+use Rattle.vm_step.specs.Passes.{view}
+use Rattle.vm_guard.specs.Fresh.{IsSeized}
+use Rattle.vm_guard.proofs.Furnishing.{furnish-resident, furnish-empty, may-install}
+use Rattle.vm_guard.proofs.fresh_pages.furnish.Goals as goal
+
+pub install-requires-clause-legal : goal.install-requires-clause-legal
+install-requires-clause-legal g c =
+    may-install c.args.page.pid c.args.page.version c.in-Some-pop.frame c.args.frames.now c.pop.new.self (view c.args.pass.now)
+    (subst (λ o. IsSeized c.args.page.pid c.args.page.version o (view c.args.pass.now)) c.in-None.is c.requires.seized) c.requires.zero c.requires.frames.0
+    (c.pop.ensures.frames ∙ ap (λ o. c.pop.new.self ++ option_to_list o) c.in-Some-pop.is)
+    (view c.fill.new.pass)
+    (subst (λ (l : List ℕ). Stores c.in-Some-pop.frame 0 l (view c.args.pass.now) (view c.fill.new.pass)) c.zero.ensures c.fill.ensures.stores)
+
+pub returns-in-Some-clause-furnished : goal.returns-in-Some-clause-furnished
+returns-in-Some-clause-furnished g c =
+    furnish-resident c.args.page.pid c.args.page.version c.in-Some.m c.args.frames.now (view c.args.pass.now)
+    (subst (λ o. IsSeized c.args.page.pid c.args.page.version o (view c.args.pass.now)) c.in-Some.is c.requires.seized) c.requires.frames.0
+
+pub returns-in-Some-pop-clause-furnished : goal.returns-in-Some-pop-clause-furnished
+returns-in-Some-pop-clause-furnished g c =
+    furnish-empty c.args.page.pid c.args.page.version c.in-Some-pop.frame c.args.frames.now c.pop.new.self (view c.args.pass.now)
+    (subst (λ o. IsSeized c.args.page.pid c.args.page.version o (view c.args.pass.now)) c.in-None.is c.requires.seized) c.requires.zero c.requires.frames.0
+    (c.pop.ensures.frames ∙ ap (λ o. c.pop.new.self ++ option_to_list o) c.in-Some-pop.is)
+    (view c.fill.new.pass)
+    (subst (λ (l : List ℕ). Stores c.in-Some-pop.frame 0 l (view c.args.pass.now) (view c.fill.new.pass)) c.zero.ensures c.fill.ensures.stores)
+    (view c.install.new.pass) c.install.ensures.told

@@ -1,0 +1,220 @@
+-- Pages that were never claimed: what a call for some of them answers. Each page given has words of zeros, is held by the pass and owed to it; on
+-- every other answer nothing is claimed, no lock is kept and the frames are as they were.
+use Rattle.std.specs.Prelude.{ℕ, Bool, true, false, Option, Some, None, List, [], ◌∷◌, ◌++◌, ◌≡◌, ◌⊎◌, ◌+◌, ◌<◌, ◌≤◌, length, replicate, reverse}
+use Rattle.vm_core.specs.declared.event.Mapping.{Mapping}
+use Rattle.vm_core.specs.Words.{version_of, word_of, LOCKED, MAX_VERSION}
+use Rattle.vm_core.specs.StateActs.{MayLock}
+use Rattle.vm_owner.specs.Numbers.{has}
+use Rattle.vm_rule.specs.declared.view.Did.{Did}
+use Rattle.vm_rule.specs.declared.view.Place.TheVariants as places
+use Rattle.vm_rule.specs.declared.view.Release.{Release}
+use Rattle.vm_rule.specs.declared.view.Tie.{Tie}
+use Rattle.vm_rule.specs.declared.view.View.{View}
+use Rattle.vm_rule.specs.Views.{StartsWith, Each, IsLocking, numbers, seat_of, loads_at, draft_of}
+use Rattle.vm_rule.specs.Reading.{last_of}
+use Rattle.vm_rule.specs.Locks.{IsUnheld}
+use Rattle.vm_rule.specs.Log.{did_load}
+use Rattle.vm_rule.specs.Mappings.{contents_at, held_at}
+use Rattle.vm_rule.specs.Nexts.{NextTold}
+use Rattle.vm_rule.specs.Releases.{next_after, without_all}
+use Rattle.vm_step.specs.Alone.{IsAlone, RunsAlone}
+use Rattle.vm_step.specs.Asides.{HoldsPage, KeepsFrames, KnowsAsBefore, StaysAlone}
+use Rattle.vm_step.specs.Conditions.{IsToldOf}
+use Rattle.vm_step.specs.Evidence.{HasWritten, IsSaw, IsWorn, NoWord, UnlockedExpected}
+use Rattle.vm_step.specs.HeldFrames.{AreHeld}
+use Rattle.vm_step.specs.declared.saw.At.TheVariants as ats
+use Rattle.vm_step.specs.declared.saw.Saw.{Saw}
+use Rattle.vm_guard.specs.declared.deny.Deny.{Deny}
+use Rattle.vm_guard.specs.declared.exclusive.ExclusiveGuard.{ExclusiveGuard}
+use Rattle.vm_guard.specs.declared.given.Fresh.{Fresh}
+use Rattle.vm_guard.specs.declared.given.Fresh.TheVariants as answers
+use Rattle.vm_guard.specs.Guards.{IsHolding}
+use Rattle.vm_guard.specs.Denied.{AgainOrWorn, IsDenied}
+use Rattle.vm_guard.specs.FreshPlaces.{IsPlaceOf, KnowsOthers}
+use Rattle.vm_guard.specs.Groups.{GuardsHeld, guards_of, pids_of}
+use Rattle.vm_guard.specs.Sure.{KnowsAt, KnowsBut, KnowsSame, KnowsStates, known_next}
+
+-- the word to expect of a page that was seen so: it may be locked, at the version seen
+pub record IsToSeize (word expects : ℕ) : Type 0 where
+  pub may_lock : MayLock expects
+  pub version : version_of word ≡ version_of expects
+
+module _ {X : Type 0} where
+  -- The call made these steps, says nothing, and worked on these pages alone: what the pass has and knows of all others is as it was. What it knows
+  -- of frames, of pages owed and of the next page, the call's own clauses tell.
+  pub record IsAmid (pages : List ℕ) (done : List Did) (v w : View X) : Type 0 where
+    pub log : w.log ≡ v.log ++ done
+    pub live : w.live ≡ v.live
+    pub start : w.start ≡ v.start
+    pub parts : (w.used ≡ v.used) × (w.fresh ≡ v.fresh)
+    pub mine : w.mine ≡ v.mine
+    pub seen : StartsWith w.seen v.seen
+    pub releases : StartsWith w.releases v.releases
+    pub out : w.out ≡ v.out
+    pub notes : w.notes ≡ v.notes
+    pub ties : (more : List Tie) × (w.ties ≡ more ++ v.ties)
+    pub pending : w.pending ≡ v.pending
+    pub seats : (q : ℕ) → has q pages ≡ false → seat_of w q ≡ seat_of v q
+    pub loads : (q : ℕ) → has q pages ≡ false → loads_at w q ≡ loads_at v q
+    pub knows : (q : ℕ) → has q pages ≡ false → IsLocking (seat_of v q) → KnowsAsBefore v w q
+    pub alone : StaysAlone v w
+    -- where the steps are; and that a pass that is alone knows the table: they made all that happened to its words, and to its releases
+    pub places_are : Each (λ d. IsPlaceOf v.start pages d.at) done
+    pub own : List Release
+    pub runs : RunsAlone done own v w
+
+  -- page p is held exclusively at this version, below the last, and stands so, or is not resident; its draft is its last words
+  pub record IsSeized (p version : ℕ) (stands : Option Mapping) (v : View X) : Type 0 where
+    pub page : p < v.start.pages
+    pub below : version < MAX_VERSION
+    pub owns : (seat_of v p).exclusive ≡ true
+    pub mapping : (held_at v p).mapping ≡ stands
+    pub inside : (m : Mapping) → stands ≡ Some m → m.frame < v.start.frames
+    pub told : IsToldOf v p
+    pub at : (last_of v p).version ≡ version
+    pub draft : draft_of v p ≡ (last_of v p).words
+    pub size : length (last_of v p).words ≡ 64
+    pub device : v.start.tells ≡ true → stands ≡ None → (held_at v p).block.words ≡ (last_of v p).words
+    pub free : has p v.pending ≡ false
+    pub paid : has p v.owed ≡ false
+
+  -- page p was locked
+  pub record Seizes (p version : ℕ) (stands : Option Mapping) (v w : View X) : Type 0 where
+    pub done : List Did
+    pub amid : IsAmid (p ∷ []) done v w
+    pub places_are : Each (λ d. (d.at ≡ places.State p) ⊎ (d.at ≡ places.Translation p)) done
+    pub keeps : KeepsFrames v w
+    pub group : (w.owed ≡ v.owed) × (w.next ≡ v.next)
+    pub unheld : IsUnheld v p
+    pub seat : seat_of w p ≡ record (seat_of v p) { exclusive = true; reading = None }
+    pub seized : IsSeized p version stands w
+    -- no page was released; a pass that was alone knows the table as it was, but for the page's word
+    pub silent : amid.own ≡ []
+    pub table : KnowsBut p (word_of LOCKED version) v w
+
+  -- page p could not be locked
+  pub record IsNotSeized (p : ℕ) (deny : Deny) (v w : View X) : Type 0 where
+    pub page : p < v.start.pages
+    pub denied : IsDenied AgainOrWorn NoWord UnlockedExpected p deny v w
+    pub places_are : Each (λ d. d.at ≡ places.State p) denied.done
+
+  -- the next page x was loaded, and then it was locked
+  pub record IsBegun (x version : ℕ) (stands : Option Mapping) (v w : View X) : Type 0 where
+    pub none : v.next ≡ None
+    pub between : View X
+    pub loaded : NextTold x v between
+    pub seizes : Seizes x version stands between w
+
+  -- and is given up again
+  pub record GivesBack (p : ℕ) (v w : View X) : Type 0 where
+    pub done : List Did
+    pub amid : IsAmid (p ∷ []) done v w
+    pub places_are : Each (λ d. d.at ≡ places.State p) done
+    pub keeps : KeepsFrames v w
+    pub group : (w.owed ≡ v.owed) × (w.next ≡ next_after p v.next)
+    pub seat : seat_of w p ≡ record (seat_of v p) { exclusive = false }
+
+  -- it was put into a frame of zeros, the last of these, where it stood in none
+  pub record Furnishes (p frame version : ℕ) (dirty : Bool) (before after : List ℕ) (v w : View X) : Type 0 where
+    pub done : List Did
+    pub amid : IsAmid (p ∷ []) done v w
+    pub group : (w.owed ≡ v.owed) × (w.next ≡ v.next)
+    pub seat : seat_of w p ≡ seat_of v p
+    pub holding : IsHolding p frame version dirty w
+    pub draft : draft_of w p ≡ draft_of v p
+    pub last : last_of w p ≡ last_of v p
+    pub taken : List ℕ
+    pub few : length taken ≤ 1
+    pub cut : before ≡ after ++ reverse taken
+    pub frames : w.frames ≡ without_all taken v.frames
+    pub own : AreHeld after w
+    -- the words of each other frame are as they were
+    pub contents : (f : ℕ) → has f taken ≡ false → contents_at w f ≡ contents_at v f
+    -- no page was released; a pass that was alone knows the state words as they were
+    pub silent : amid.own ≡ []
+    pub states : KnowsStates v w
+
+  -- these pages, those from x on, n of them, were claimed: each was held by nobody of the pass, and has words of zeros
+  pub record AreFresh (pages : List ℕ) (x n : ℕ) (gs : List ExclusiveGuard) (before after : List ℕ) (v w : View X) : Type 0 where
+    pub done : List Did
+    pub amid : IsAmid pages done v w
+    pub guards : pids_of gs ≡ pages
+    pub inside : (v.start.next ≤ x) × (x + n ≤ v.start.pages)
+    pub unheld : (q : ℕ) → has q pages ≡ true → IsUnheld v q
+    pub seats : (q : ℕ) → has q pages ≡ true → seat_of w q ≡ record (seat_of v q) { exclusive = true; reading = None }
+    pub held : GuardsHeld w gs
+    pub zero : v.start.tells ≡ true → (q : ℕ) → has q pages ≡ true → (draft_of w q ≡ replicate 64 0) × ((last_of w q).words ≡ replicate 64 0)
+    pub owed : w.owed ≡ pages ++ v.owed
+    pub next : w.next ≡ None
+    pub taken : List ℕ
+    pub cut : before ≡ after ++ reverse taken
+    pub frames : w.frames ≡ without_all taken v.frames
+    pub own : AreHeld after w
+    -- the words of each other frame are as they were
+    pub contents : (f : ℕ) → has f taken ≡ false → contents_at w f ≡ contents_at v f
+    -- the first step loaded the next page x, and a later one claimed
+    pub loaded : (more : List Did) × (done ≡ did_load places.Next x ∷ more)
+    pub claimed : HasWritten done places.Next (x + n)
+    -- no page was released; a pass that was alone knows each page locked at its guard's version, the next word, and all others as they were
+    pub silent : amid.own ≡ []
+    pub locked : IsAlone v → Each (λ g. KnowsAt (places.State g.pid) (word_of LOCKED g.version) w) gs
+    pub moved : IsAlone v → KnowsAt places.Next (x + n) w
+    pub others : KnowsOthers pages v w
+    pub current : w.current ≡ true
+
+  -- the call claimed nothing, kept no lock, and left the frames as they were
+  pub record IsNil (pages : List ℕ) (done : List Did) (v w : View X) : Type 0 where
+    pub amid : IsAmid pages done v w
+    pub keeps : KeepsFrames v w
+    pub owed : w.owed ≡ v.owed
+    pub holds : (q : ℕ) → HoldsPage v w q
+    pub knows : (q : ℕ) → IsLocking (seat_of v q) → KnowsAsBefore v w q
+    -- no step left another next word
+    pub unmoved : Each (λ d. d.at ≡ places.Next → d.wrote ≡ None) done
+
+  -- its first step loaded the next page x, and it knows the next page at most where the pass held it before
+  pub record IsSpared (pages : List ℕ) (x : ℕ) (done : List Did) (v w : View X) : Type 0 where
+    pub nil : IsNil pages done v w
+    pub loaded : (more : List Did) × (done ≡ did_load places.Next x ∷ more)
+    pub next : (q : ℕ) → w.next ≡ Some q → (seat_of v q).exclusive ≡ true
+    -- a pass that was alone knows the next word, and all words but those of these pages, as they were
+    pub same_next : IsAlone v → known_next w ≡ known_next v
+    pub others : KnowsOthers pages v w
+    pub current : w.current ≡ true
+
+  -- a page that was to be given could not be locked, or the next word was another one at the second load
+  pub record IsToTry (pages : List ℕ) (x n : ℕ) (saw : Saw) (v w : View X) : Type 0 where
+    pub inside : x + n ≤ v.start.pages
+    pub done : List Did
+    pub spared : IsSpared pages x done v w
+    pub at : (saw.at ≡ ats.Next) ⊎ ((p : ℕ) × (saw.at ≡ ats.Page p) × (has p pages ≡ true))
+    pub saw_is : IsSaw NoWord UnlockedExpected done saw
+
+  pub record IsWornOut (pages : List ℕ) (x n p : ℕ) (v w : View X) : Type 0 where
+    pub inside : x + n ≤ v.start.pages
+    pub among : has p pages ≡ true
+    pub done : List Did
+    pub spared : IsSpared pages x done v w
+    pub worn : IsWorn done p
+
+  pub record IsFull (n pages next need : ℕ) (v w : View X) : Type 0 where
+    pub asked : need ≡ n
+    pub there : pages ≡ v.start.pages
+    pub full : pages < next + need
+    pub done : List Did
+    pub spared : IsSpared [] next done v w
+    pub table : KnowsSame v w
+
+  -- what a call for n fresh pages answers, with these frames before and after
+  abbrev pub IsFreshAnswer : ℕ → List ℕ → List ℕ → View X → View X → Fresh → Type 0
+  IsFreshAnswer n before after v w (answers.Pages group) = (x : ℕ) × AreFresh (numbers x n) x n (guards_of group) before after v w
+  IsFreshAnswer n before after v w (answers.Again saw) = (after ≡ before) × ((x : ℕ) × IsToTry (numbers x n) x n saw v w)
+  IsFreshAnswer n before after v w (answers.Worn p) = (after ≡ before) × ((x : ℕ) × IsWornOut (numbers x n) x n p v w)
+  IsFreshAnswer n before after v w (answers.Full pages next need) = (after ≡ before) × IsFull n pages next need v w
+
+-- pages were given
+abbrev pub IsPages : Fresh → Type 0
+IsPages (answers.Pages group) = Unit {0}
+IsPages (answers.Again saw) = ⊥
+IsPages (answers.Worn p) = ⊥
+IsPages (answers.Full pages next need) = ⊥

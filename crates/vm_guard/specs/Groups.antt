@@ -1,0 +1,123 @@
+-- Groups of guards: pages whose drafts become their last words at one point, the first release of the group.
+use Rattle.std.specs.Prelude.{ℕ, true, false, Option, None, List, [], ◌∷◌, ◌++◌, ◌≡◌, ◌⊎◌, ◌+◌, ◌<◌, ◌≤◌, IsSome}
+use Rattle.vm_core.specs.Words.{version_of, MAX_VERSION}
+use Rattle.vm_owner.specs.declared.Entry.{Entry}
+use Rattle.vm_owner.specs.Kept.{Start, Kept, Change, AreUnchanged}
+use Rattle.vm_owner.specs.Numbers.{has, AreApart}
+use Rattle.vm_rule.specs.declared.view.Did.{Did}
+use Rattle.vm_rule.specs.declared.view.Place.{Place}
+use Rattle.vm_rule.specs.declared.view.Place.TheVariants as places
+use Rattle.vm_rule.specs.declared.view.Release.{Release}
+use Rattle.vm_rule.specs.declared.view.View.{View}
+use Rattle.vm_rule.specs.Views.{Each, IsLocking, seat_of, loads_at, draft_of}
+use Rattle.vm_rule.specs.Reading.{last_of}
+use Rattle.vm_rule.specs.Rule.{began_of}
+use Rattle.vm_rule.specs.Brought.{entries_of}
+use Rattle.vm_rule.specs.Log.{did_store}
+use Rattle.vm_rule.specs.Mappings.{held_at}
+use Rattle.vm_rule.specs.Releases.{ReleaseTold, changes_of, next_after, without_all}
+use Rattle.vm_step.specs.Alone.{IsAlone}
+use Rattle.vm_step.specs.Asides.{HoldsPage, KnowsAsBefore, ReadsAsBefore}
+use Rattle.vm_step.specs.Conditions.{IsClaimed, IsNotOut, IsToldOf}
+use Rattle.vm_step.specs.Keeping.{IsKeptNow}
+use Rattle.vm_guard.specs.declared.exclusive.ExclusiveGuard.{ExclusiveGuard}
+use Rattle.vm_guard.specs.declared.group.Group.{Group}
+use Rattle.vm_guard.specs.declared.group.Group.TheVariants as groups
+use Rattle.vm_guard.specs.Guards.{IsHolding}
+use Rattle.vm_guard.specs.Quiet.{IsSteady}
+use Rattle.vm_guard.specs.Sure.{IsKnownFree, known_word, words_with}
+
+-- the guards of a group, in the order in which they were added
+abbrev pub guards_of : Group → List ExclusiveGuard
+guards_of groups.Empty = []
+guards_of (groups.One a) = a ∷ []
+guards_of (groups.Two a b) = a ∷ b ∷ []
+guards_of (groups.Three a b c) = a ∷ b ∷ c ∷ []
+guards_of (groups.Four a b c d) = a ∷ b ∷ c ∷ d ∷ []
+
+-- their pages
+abbrev pub pids_of : List ExclusiveGuard → List ℕ
+pids_of [] = []
+pids_of (g ∷ gs) = g.pid ∷ pids_of gs
+
+-- the steps that release them
+abbrev pub release_steps : List ExclusiveGuard → List Did
+release_steps [] = []
+release_steps (g ∷ gs) = did_store (places.State g.pid) (g.version + 1) ∷ release_steps gs
+
+-- the state words that they leave
+abbrev pub released_words : List ExclusiveGuard → List (Place × ℕ)
+released_words [] = []
+released_words (g ∷ gs) = (places.State g.pid, g.version + 1) ∷ released_words gs
+
+-- the loaded next word is no more known once one of these pages is given up
+abbrev pub next_after_all : List ℕ → Option ℕ → Option ℕ
+next_after_all [] o = o
+next_after_all (p ∷ ps) o = next_after_all ps (next_after p o)
+
+module _ {X : Type 0} where
+  -- their versions afterwards: each page's draft, at its next version
+  abbrev pub releases_of : View X → List ExclusiveGuard → List Release
+  releases_of v [] = []
+  releases_of v (g ∷ gs) = record { page = g.pid; version = g.version + 1; words = draft_of v g.pid } ∷ releases_of v gs
+
+  -- the pass holds the page of each guard
+  abbrev pub GuardsHeld : View X → List ExclusiveGuard → Type 0
+  GuardsHeld v gs = Each (λ g. IsHolding g.pid g.frame g.version g.dirty v) gs
+
+  -- the pass may release these pages together: it holds each, another page each, with its block at home and claimed as far as it can know; and
+  -- nothing is said, no word changes and no page is owed, or the layer above lets the changes be made
+  pub record MayReleaseAll (may_release : Start → List ℕ → List Change → List (Entry X) → Type 0) (gs : List ExclusiveGuard) (said : Option X) (v : View X) : Type 0 where
+    pub held : GuardsHeld v gs
+    pub apart : AreApart (pids_of gs)
+    pub home : Each (λ g. IsNotOut v g.pid) gs
+    pub claimed : v.start.tells ≡ true → Each (λ g. IsClaimed v g.pid) gs
+    pub owner : v.start.tells ≡ true → ((said ≡ None) × AreUnchanged v.owed (changes_of v (pids_of gs))) ⊎ may_release (began_of v.start) v.owed (changes_of v (pids_of gs)) (entries_of v said)
+
+  -- page p is a member of a group that was released in part, and is still to be released, at this version
+  pub record IsDue (p version : ℕ) (v : View X) : Type 0 where
+    pub page : p < v.start.pages
+    pub below : version < MAX_VERSION
+    pub owns : (seat_of v p).exclusive ≡ true
+    pub resident : IsSome (held_at v p).mapping
+    pub told : IsToldOf v p
+    pub home : IsNotOut v p
+    pub at : version ≡ (last_of v p).version
+    pub pending : has p v.pending ≡ true
+
+  -- the members were released one after another
+  abbrev pub AreGivenUp : List ExclusiveGuard → View X → View X → Type 0
+  AreGivenUp [] v w = v ≡ w
+  AreGivenUp (g ∷ gs) v w = (u : View X) × ReleaseTold g.pid g.version [] None v u × AreGivenUp gs u w
+
+  -- the call made these steps and these releases, and all but these pages is as it was
+  pub record IsBeside (pages : List ℕ) (done : List Did) (own : List Release) (v w : View X) : Type 0 where
+    pub steady : IsSteady done own v w
+    pub holds : (q : ℕ) → has q pages ≡ false → HoldsPage v w q
+    pub knows : (q : ℕ) → has q pages ≡ false → IsLocking (seat_of v q) → KnowsAsBefore v w q
+    pub others : (q : ℕ) → has q pages ≡ false → ReadsAsBefore v w q
+
+  -- A group was released. At its first release, which left the view `point`, all drafts became logical, and what is said became an entry, under
+  -- the condition of the layer above; the others were released one by one. Each page's draft is its next version.
+  pub record AreReleased (first : ExclusiveGuard) (rest : List ExclusiveGuard) (said : Option X) (v w : View X) : Type 0 where
+    pub point : View X
+    pub told : ReleaseTold first.pid first.version (pids_of rest) said v point
+    pub later : AreGivenUp rest point w
+    pub beside : IsBeside (pids_of (first ∷ rest)) (release_steps (first ∷ rest)) (releases_of v (first ∷ rest)) v w
+    pub mine : w.mine ≡ v.mine ++ entries_of v said
+    pub entry : (others more : List (Entry X)) × (w.seen ≡ ((v.seen ++ others) ++ entries_of v said) ++ more)
+    pub group : (w.pending ≡ v.pending) × (w.owed ≡ without_all (pids_of (first ∷ rest)) v.owed) × (w.next ≡ next_after_all (pids_of (first ∷ rest)) v.next)
+    pub seats : (q : ℕ) → has q (pids_of (first ∷ rest)) ≡ true → seat_of w q ≡ record (seat_of v q) { exclusive = false }
+    pub loads : (q : ℕ) → loads_at w q ≡ loads_at v q
+    pub current : w.current ≡ true
+    -- a pass that was alone knows the words of the table as they were, but for those of these pages, each of which is free, at no later version
+    pub table : IsAlone v → w.snapshot.words ≡ words_with v.start (released_words (first ∷ rest)) v.snapshot.words
+    pub free : IsAlone v → Each (λ g. IsKnownFree g.pid w × (version_of (known_word g.pid w) ≤ g.version + 1)) (first ∷ rest)
+    -- it finds each page's draft as the last words of the page, and the last words of each other page as they were
+    pub last : IsAlone v → Each (λ g. last_of w g.pid ≡ record { version = g.version + 1; words = draft_of v g.pid }) (first ∷ rest)
+    pub alone : IsAlone v → (q : ℕ) → has q (pids_of (first ∷ rest)) ≡ false → (last_of w q).words ≡ (last_of v q).words
+
+  -- the same, of the list of all guards; and what the layer above keeps at the first release
+  abbrev pub IsGroupReleased : (Start → Kept X → Type 0) → List ExclusiveGuard → Option X → View X → View X → Type 0
+  IsGroupReleased keeps [] said v w = v ≡ w
+  IsGroupReleased keeps (g ∷ gs) said v w = (r : AreReleased g gs said v w) × (v.start.tells ≡ true → IsKeptNow keeps g.pid (Unit {0}) r.point)

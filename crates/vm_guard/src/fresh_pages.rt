@@ -1,0 +1,295 @@
+// Pages that were never claimed: they are locked, given frames of zeros where they have none, and claimed for a group of the pass.
+ghost use Rattle.std.specs.Prelude.{◌≡◌, ◌⊎◌, ◌+◌, ◌<◌, ◌≤◌, ℕ, IfOk, IfErr, IsOk, None, Some, length, replicate, true};
+ghost use Rattle.vm_core.specs.FrameActs.{mapping_of};
+ghost use Rattle.vm_guard.specs.Denied.{AgainOrWorn, SameOrUnlocked};
+ghost use Rattle.vm_guard.specs.Fresh.{Furnishes, GivesBack, IsBegun, IsFreshAnswer, IsNotSeized, IsPages, IsSeized, IsToSeize, Seizes};
+ghost use Rattle.vm_guard.specs.Sure.{MayBeGiven, MayBeSeized, known_next, known_word};
+ghost use Rattle.vm_guard.specs.Takes.{SaysWhy};
+ghost use Rattle.vm_owner.specs.Numbers.{AreApart};
+ghost use Rattle.vm_rule.specs.Reading.{last_of};
+ghost use Rattle.vm_rule.specs.Views.{Each};
+ghost use Rattle.vm_step.specs.Alone.{IsAlone};
+ghost use Rattle.vm_step.specs.HeldFrames.{AreHeld};
+ghost use Rattle.vm_step.specs.Passes.{IsSamePass, MayStep, view};
+ghost use Rattle.vm_step.specs.Ready.{IsReady};
+
+use crate::deny::Deny;
+use crate::exclusive::ExclusiveGuard;
+use crate::given::Fresh;
+use crate::group::Group;
+use crate::standing::Lock;
+use vm_block::Block;
+use vm_core::{MAX_VERSION, Mapping, StateWord, TransWord};
+use vm_owner::Owner;
+use vm_page::PageBuf;
+use vm_rule::words::{Pass, Words};
+use vm_step::{
+    At, Batch, Saw, Took, claim, fill, install, lock_exclusive, look_silently, nload,
+    release_evicted, release_silently, tload,
+};
+
+/// A page that was locked exclusively, resident or not: its version, and where it stands.
+struct Seized {
+    pid: u32,
+    version: u64,
+    stands: Option<Mapping>,
+    lock: Lock,
+}
+
+/// The translation that the word says.
+fn mapping_said(word: u64) -> Option<Mapping>
+    ensures { result ≡ mapping_of word }
+{
+    let dirty = TransWord::dirty(word);
+    match TransWord::frame(word) {
+        Some(frame) => Some(Mapping { frame, dirty }),
+        None => None,
+    }
+}
+
+/// The word that a lock is to expect of a page whose word is this one, resident or not: with shares, the unlocked word at its version.
+fn expected(word: u64, pid: u32) -> Result<u64, Deny>
+    ensures ok { IfOk result (λ expects. IsToSeize word expects × SameOrUnlocked word expects) }
+    ensures denied { IfErr result (λ d. SaysWhy pid word d × AgainOrWorn d) }
+{
+    let version = StateWord::version(word);
+    match StateWord::state(word) {
+        StateWord::LOCKED => Err(Deny::Again(Saw {
+            at: At::Page(pid),
+            first: word,
+            seen: word,
+        })),
+        _ if version == MAX_VERSION => Err(Deny::Worn(pid)),
+        StateWord::UNLOCKED => Ok(word),
+        StateWord::MARKED => Ok(word),
+        StateWord::EVICTED => Ok(word),
+        _ => Ok(StateWord::of(StateWord::UNLOCKED, version)),
+    }
+}
+
+/// Locks the page exclusively, whether or not it is resident, and sees where it stands.
+fn seize<U: Owner, B: Block>(
+    words: &Words<U, B>,
+    pass: &mut Pass<U>,
+    pid: u32,
+) -> Result<Seized, Deny>
+    requires pass { MayStep words.now.table.shared.table_id pass.old }
+    requires page { pid < words.now.table.shared.key.pages }
+    ensures pass { IsSamePass pass.old pass.new }
+    ensures ready { IsReady words.now.table.shared.key B.tells words.now.table.shared.table_id pass.new }
+    ensures taken { IfOk result (λ s. (s.pid ≡ pid) × Seizes pid s.version s.stands (view pass.old) (view pass.new)) }
+    ensures denied { IfErr result (λ d. IsNotSeized pid d (view pass.old) (view pass.new)) }
+    ensures sure { IsAlone (view pass.old) → MayBeSeized (known_word pid (view pass.old)) → IsOk result }
+{
+    let word = look_silently(words, pass, pid);
+    let expects = expected(word, pid)?;
+    match lock_exclusive(words, pass, pid, expects) {
+        Took::Lost(seen) => Err(Deny::Again(Saw {
+            at: At::Page(pid),
+            first: expects,
+            seen,
+        })),
+        Took::Taken => {
+            let stands = mapping_said(tload(words, pass, pid));
+            Ok(Seized {
+                pid,
+                version: StateWord::version(word),
+                stands,
+                lock: Lock,
+            })
+        }
+    }
+}
+
+/// Gives the lock up, with the words that the page had: the page is resident or evicted as it was, at its next version.
+fn give_back<U: Owner, B: Block>(words: &Words<U, B>, pass: &mut Pass<U>, page: Seized)
+    requires ready { IsReady words.now.table.shared.key B.tells words.now.table.shared.table_id pass.old }
+    requires seized { IsSeized page.pid page.version page.stands (view pass.old) }
+    requires home { (view pass.old).out ≡ None }
+    ensures pass { IsSamePass pass.old pass.new }
+    ensures ready { IsReady words.now.table.shared.key B.tells words.now.table.shared.table_id pass.new }
+    ensures given { GivesBack page.pid (view pass.old) (view pass.new) }
+{
+    let Seized {
+        pid,
+        version,
+        stands,
+        lock: Lock,
+    } = page;
+    match stands {
+        Some(_) => release_silently(words, pass, pid, version),
+        None => release_evicted(words, pass, pid, version),
+    }
+}
+
+/// The page as a guard: in the frame in which it stands, or else in a frame of zeros, the last of these.
+fn furnish<U: Owner, B: Block>(
+    words: &Words<U, B>,
+    pass: &mut Pass<U>,
+    page: Seized,
+    frames: &mut Batch,
+) -> ExclusiveGuard
+    requires ready { IsReady words.now.table.shared.key B.tells words.now.table.shared.table_id pass.old }
+    requires seized { IsSeized page.pid page.version page.stands (view pass.old) }
+    requires zero { (view pass.old).start.tells ≡ true → (last_of (view pass.old) page.pid).words ≡ replicate 64 0 }
+    requires frames { AreHeld frames.old (view pass.old) × (0 < length frames.old) }
+    ensures pass { IsSamePass pass.old pass.new }
+    ensures ready { IsReady words.now.table.shared.key B.tells words.now.table.shared.table_id pass.new }
+    ensures guard { (result.pid ≡ page.pid) × (result.version ≡ page.version) }
+    ensures furnished { Furnishes page.pid result.frame result.version result.dirty frames.old frames.new (view pass.old) (view pass.new) }
+{
+    let Seized {
+        pid,
+        version,
+        stands,
+        lock: Lock,
+    } = page;
+    match stands {
+        Some(m) => ExclusiveGuard {
+            pid,
+            version,
+            frame: m.frame,
+            dirty: m.dirty,
+            lock: Lock,
+        },
+        None => {
+            let Some(frame) = frames.pop() else {
+                unreachable!();
+            };
+            fill(words, pass, frame, &PageBuf::zero());
+            install(words, pass, pid, frame);
+            ExclusiveGuard {
+                pid,
+                version,
+                frame,
+                dirty: false,
+                lock: Lock,
+            }
+        }
+    }
+}
+
+/// The answer of a call that could not lock a page.
+fn denied(deny: Deny) -> Fresh
+    requires { AgainOrWorn deny }
+    ensures again { (saw : _) → deny ≡ Deny.Again saw → result ≡ Fresh.Again saw }
+    ensures worn { (p : _) → deny ≡ Deny.Worn p → result ≡ Fresh.Worn p }
+{
+    match deny {
+        Deny::Again(saw) => Fresh::Again(saw),
+        Deny::Worn(pid) => Fresh::Worn(pid),
+        Deny::Need(_) => unreachable!(),
+        Deny::Crowded(_) => unreachable!(),
+    }
+}
+
+/// The page as a fresh one, claimed alone, where the next word is still what it was.
+fn give_one<U: Owner, B: Block>(
+    words: &Words<U, B>,
+    pass: &mut Pass<U>,
+    frames: &mut Batch,
+    one: Seized,
+) -> Fresh
+    requires ready { IsReady words.now.table.shared.key B.tells words.now.table.shared.table_id pass.old }
+    requires begun { (v : _) × IsBegun one.pid one.version one.stands v (view pass.old) }
+    requires home { (view pass.old).out ≡ None }
+    requires frames { AreHeld frames.old (view pass.old) × (1 ≤ length frames.old) }
+    ensures pass { IsSamePass pass.old pass.new }
+    ensures ready { IsReady words.now.table.shared.key B.tells words.now.table.shared.table_id pass.new }
+    ensures answer { (v : _) → IsBegun one.pid one.version one.stands v (view pass.old) → IsFreshAnswer 1 frames.old frames.new v (view pass.new) result }
+    ensures sure { IsAlone (view pass.old) → known_next (view pass.old) ≡ one.pid → IsPages result }
+{
+    let x = one.pid;
+    let again = nload(words, pass);
+    if again != x as u64 {
+        give_back(words, pass, one);
+        return Fresh::Again(Saw {
+            at: At::Next,
+            first: x as u64,
+            seen: again,
+        });
+    }
+    let first = furnish(words, pass, one, frames);
+    claim(words, pass, x, 1);
+    Fresh::Pages(Group::One(first))
+}
+
+/// The page and the one behind it as fresh ones, claimed together, where the next word is still what it was.
+fn give_two<U: Owner, B: Block>(
+    words: &Words<U, B>,
+    pass: &mut Pass<U>,
+    frames: &mut Batch,
+    one: Seized,
+) -> Fresh
+    requires ready { IsReady words.now.table.shared.key B.tells words.now.table.shared.table_id pass.old }
+    requires begun { (v : _) × IsBegun one.pid one.version one.stands v (view pass.old) }
+    requires room { one.pid + 2 ≤ words.now.table.shared.key.pages }
+    requires home { (view pass.old).out ≡ None }
+    requires frames { AreHeld frames.old (view pass.old) × (2 ≤ length frames.old) }
+    ensures pass { IsSamePass pass.old pass.new }
+    ensures ready { IsReady words.now.table.shared.key B.tells words.now.table.shared.table_id pass.new }
+    ensures answer { (v : _) → IsBegun one.pid one.version one.stands v (view pass.old) → IsFreshAnswer 2 frames.old frames.new v (view pass.new) result }
+    ensures sure { IsAlone (view pass.old) → known_next (view pass.old) ≡ one.pid → MayBeSeized (known_word (one.pid + 1) (view pass.old)) → IsPages result }
+{
+    let x = one.pid;
+    let two = match seize(words, pass, x + 1) {
+        Ok(page) => page,
+        Err(deny) => {
+            give_back(words, pass, one);
+            return denied(deny);
+        }
+    };
+    let again = nload(words, pass);
+    if again != x as u64 {
+        give_back(words, pass, two);
+        give_back(words, pass, one);
+        return Fresh::Again(Saw {
+            at: At::Next,
+            first: x as u64,
+            seen: again,
+        });
+    }
+    let first = furnish(words, pass, one, frames);
+    let second = furnish(words, pass, two, frames);
+    claim(words, pass, x, 2);
+    Fresh::Pages(Group::Two(first, second))
+}
+
+/// Claims `n` pages (1 or 2) from the next one on for a group of the pass, each with words of zeros. A page that is not resident takes the
+/// last frame of `frames`, of which there are at least `n`, without a read of its block. On every other answer nothing is claimed, no lock
+/// is kept, and the frames are as they were. A pass that is alone and knows that each of these pages can be locked is given them.
+pub fn fresh<U: Owner, B: Block>(
+    words: &Words<U, B>,
+    pass: &mut Pass<U>,
+    frames: &mut Batch,
+    n: u32,
+) -> Fresh
+    requires ready { IsReady words.now.table.shared.key B.tells words.now.table.shared.table_id pass.old }
+    requires few { (n ≡ 1) ⊎ (n ≡ 2) }
+    requires home { (view pass.old).out ≡ None }
+    requires frames { AreHeld frames.old (view pass.old) × (n ≤ length frames.old) }
+    ensures pass { IsSamePass pass.old pass.new }
+    ensures ready { IsReady words.now.table.shared.key B.tells words.now.table.shared.table_id pass.new }
+    ensures answer { IsFreshAnswer n frames.old frames.new (view pass.old) (view pass.new) result }
+    ensures sure { IsAlone (view pass.old) → MayBeGiven n (view pass.old) → IsPages result }
+{
+    let found = nload(words, pass);
+    let pages = words.pages as u32;
+    let next = found as u32;
+    if pages - next < n {
+        return Fresh::Full {
+            pages,
+            next,
+            need: n,
+        };
+    }
+    let one = match seize(words, pass, next) {
+        Ok(page) => page,
+        Err(deny) => return denied(deny),
+    };
+    if n == 1 {
+        give_one(words, pass, frames, one)
+    } else {
+        give_two(words, pass, frames, one)
+    }
+}

@@ -1,0 +1,15 @@
+// What a call for fresh pages answers.
+use crate::group::Group;
+use vm_step::Saw;
+
+/// What a call for fresh pages answers.
+pub enum Fresh {
+    /// The pages, in order, each with words of zeros, owed to the pass.
+    Pages(Group),
+    /// A page could not be locked, or the next page was another one meanwhile.
+    Again(Saw),
+    /// This page, which was to be given, is at its last version.
+    Worn(u32),
+    /// So many pages there are, this is the next one, and so many were asked for.
+    Full { pages: u32, next: u32, need: u32 },
+}

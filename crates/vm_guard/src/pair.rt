@@ -1,0 +1,57 @@
+// Two fresh pages that are written and released together: the least that a caller of fresh pages and groups does. It stands on their
+// contracts alone.
+ghost use Rattle.std.specs.Prelude.{◌≡◌, ◌≤◌, ◌+◌, IfSome, None, length, true};
+ghost use Rattle.vm_step.specs.HeldFrames.{AreHeld};
+ghost use Rattle.vm_guard.specs.Pairs.{HasFirst};
+ghost use Rattle.vm_step.specs.Alone.{IsAlone};
+ghost use Rattle.vm_step.specs.Passes.{IsSamePass, view};
+ghost use Rattle.vm_step.specs.Ready.{IsReady};
+
+use crate::fresh_pages::fresh;
+use crate::given::Fresh;
+use crate::group::{Group, release_group};
+use vm_block::Block;
+use vm_owner::Bare;
+use vm_rule::words::{Pass, Words};
+use vm_step::Batch;
+
+/// The first of two fresh pages, whose first words are `a` and `b`, all else zeros; or `None` where there are none, or others came before.
+pub fn write_two<B: Block>(
+    words: &Words<Bare, B>,
+    pass: &mut Pass<Bare>,
+    frames: &mut Batch,
+    a: u64,
+    b: u64,
+) -> Option<u32>
+    requires ready { IsReady words.now.table.shared.key B.tells words.now.table.shared.table_id pass.old }
+    requires home { (view pass.old).out ≡ None }
+    requires frames { AreHeld frames.old (view pass.old) × (2 ≤ length frames.old) }
+    ensures pass { IsSamePass pass.old pass.new }
+    ensures ready { IsReady words.now.table.shared.key B.tells words.now.table.shared.table_id pass.new }
+    ensures written { IfSome result (λ x. B.tells ≡ true → IsAlone (view pass.old) → HasFirst x a (view pass.new) × HasFirst (x + 1) b (view pass.new)) }
+{
+    match fresh(words, pass, frames, 2) {
+        Fresh::Pages(given) => {
+            let mut group = given;
+            let Some(mut second) = group.take_last() else {
+                unreachable!();
+            };
+            let Some(mut first) = group.take_last() else {
+                unreachable!();
+            };
+            group.end();
+            first.set(words, pass, 0, a);
+            second.set(words, pass, 0, b);
+            let x = first.pid;
+            release_group(words, pass, Group::Two(first, second), None);
+            Some(x)
+        }
+        Fresh::Again(_saw) => None,
+        Fresh::Worn(_pid) => None,
+        Fresh::Full {
+            pages: _pages,
+            next: _next,
+            need: _need,
+        } => None,
+    }
+}
