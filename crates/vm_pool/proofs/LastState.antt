@@ -8,7 +8,7 @@ use lib.ListN.{get_elem?}
 use Rattle.atomic_table.specs.Table.{State as Table, Final, Seen}
 use Rattle.vm_core.specs.declared.event.Mapping.{Mapping}
 use Rattle.vm_core.specs.Fn.{at}
-use Rattle.vm_core.specs.Words.{LOCKED, EVICTED}
+use Rattle.vm_core.specs.Words.{LOCKED, EVICTED, version_of}
 use Rattle.vm_laws_others.specs.Leaves.{stands_dirty}
 use Rattle.vm_block.specs.declared.stored.Stored.{Stored}
 use Rattle.vm_owner.specs.Kept.{Start, Kept}
@@ -21,7 +21,7 @@ use Rattle.vm_rule.specs.declared.view.View.{View}
 use Rattle.vm_rule.specs.Puts.{listed}
 use Rattle.vm_rule.specs.Layout.{bundles_of, index_of, words_of}
 use Rattle.vm_rule.specs.Views.{seat_of, IsWhole}
-use Rattle.vm_rule.specs.Reading.{no_block, at_home, out_of, out_or, known, block_of, last_of}
+use Rattle.vm_rule.specs.Reading.{no_block, at_home, out_of, out_or, known, block_of, last_of, world_of}
 use Rattle.vm_rule.specs.Rule.{began_of, snapshot_of, Ruled}
 use Rattle.vm_rule.specs.Begun.{HasShape, Stands}
 use Rattle.vm_rule.specs.Fixed.{bounds_of}
@@ -29,15 +29,18 @@ use Rattle.vm_rule.proofs.ListFacts.{at-map, length-mapped, at-listed, length-li
 use Rattle.vm_rule.proofs.Parts.{listed-same}
 use Rattle.vm_rule_laws.specs.Known.{HasStepped, kept_by}
 use Rattle.vm_rule_laws.specs.Noted.{NotesStand}
-use Rattle.vm_rule_laws.specs.Standing.{state_in, mapping_in, block_in, PageStands}
+use Rattle.vm_rule_laws.specs.Standing.{state_in, mapping_in, version_in, block_in, PageStands}
 use Rattle.vm_rule_laws.proofs.Alone.{without-locks, others-have-nothing}
 use Rattle.vm_rule_laws.proofs.Begun.{begun-ruled}
+use Rattle.vm_rule_laws.proofs.Histories.{all-seen}
 use Rattle.vm_rule_laws.proofs.Knowing.{table-known, what-is-kept}
 use Rattle.vm_rule_laws.proofs.Noted.{notes-stand}
 use Rattle.vm_rule_laws.proofs.Standing.{stands-known}
 use Rattle.vm_pool.specs.Holding.{HoldsNoPage}
 use Rattle.vm_pool.specs.Closing.{IsStored, IsClosed}
 use Rattle.vm_pool.proofs.HomeBlocks.{all-home}
+use Rattle.vm_step.proofs.Traces.{found-below, version-below}
+use Rattle.vm_pool.proofs.Traces.{version-there}
 
 -- ---- lists
 
@@ -212,4 +215,13 @@ module _ {X B : Type 0} (stored : B → Stored) (keeps : Start → Kept X → Ty
           released = none-left.0;
           paid = none-left.1;
           kept = λ t. subst (λ (o : Origin). keeps (began_of o) (kept_by v)) (sym same-start) (what-is-kept stored keeps tied start tells s rule id v stepped none-left.0 (rule.telling ∙ t));
+          own = (let h = all-seen stored keeps tied start tells s rule id v stepped.pass in h.1 ∙ sym h.0);
+          found = λ x h. let most : x ≤ (words_of start s.words).next = found-below (world_of stored start rule.releases rule.drafts s) v.log x (rule.known id v last.1.1 live).words h in subst (λ k. x ≤ k) (sym (n ∙ next-there pages frames p f)) most;
+          versions = λ q word l h.
+              let inside : q < start.pages = subst (λ (o : Origin). q < o.pages) same-start l in
+              let most : version_of word ≤ ((world_of stored start rule.releases rule.drafts s).core.pages q).version = version-below (world_of stored start rule.releases rule.drafts s) v.log q word (rule.known id v last.1.1 live).words h in
+              let there : ((world_of stored start rule.releases rule.drafts s).core.pages q).version ≡ version_of ((words_of start s.words).states q) = version-there stored start s q inside in
+              let stands : version_of ((words_of start s.words).states q) ≡ version_in v.start v.snapshot q = (λ i. version_of ((words_of (sym same-start i) (sym (ap (λ (y : Snapshot). y.words) same-snapshot) i)).states q)) in
+              let is : version_in v.start v.snapshot q ≡ (last_of v q).version = (page-stands q l).version in
+              omega arith;
         }

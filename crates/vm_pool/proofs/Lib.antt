@@ -1,5 +1,7 @@
 pub mod HomeBlocks
 pub mod Sums
+pub mod Traces
+pub mod Parting
 pub mod LastState
 pub mod AtOnce
 pub mod Sweeping
@@ -7,3 +9,4 @@ pub mod Bringing
 pub mod Alone
 pub mod Sure
 pub mod FirstPage
+pub mod Keeping

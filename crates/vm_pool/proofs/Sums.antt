@@ -4,6 +4,7 @@ use Rattle.std.specs.List.{sum_by}
 use Rattle.std.proofs.lemmas.List.{take_all}
 use Rattle.std.proofs.lemmas.List.Sums.{sum_by-cons, sum_by_more}
 use Rattle.vm_block.specs.declared.stored.Stored.{Stored}
+use Rattle.vm_rule.specs.Views.{Each}
 use Rattle.vm_pool.specs.Closing.{sum_to_max}
 
 module _ {B : Type 0} (stored : B → Stored) where
@@ -30,3 +31,7 @@ module _ {B : Type 0} (stored : B → Stored) where
       let rest : sum_by (λ (b : Stored). b.count) (map stored xs) ≤ sum_by (λ (b : Stored). b.bound) (map stored xs) = sum-bounded bounded xs in
       let here : (stored x).count ≤ (stored x).bound = bounded x in
       omega arith
+
+  pub each-bounded : ((b : B) → (stored b).count ≤ (stored b).bound) → (xs : List B) → Each (λ (b : Stored). b.count ≤ b.bound) (map stored xs)
+  each-bounded bounded [] = tt
+  each-bounded bounded (x ∷ xs) = (bounded x, each-bounded bounded xs)

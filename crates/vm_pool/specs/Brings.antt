@@ -3,6 +3,7 @@
 use Rattle.std.specs.Prelude.{ℕ, Option, Some, None, Result, Ok, Err, List, [], ◌∷◌, ◌++◌, ◌≡◌, ◌⊎◌, ◌≤◌, ◌+◌, ◌-◌, ◌^◌, min}
 use Rattle.vm_core.specs.Fn.{at}
 use Rattle.vm_rule.specs.declared.view.View.{View}
+use Rattle.vm_rule.specs.Views.{StartsWith}
 use Rattle.vm_step.specs.Asides.{HoldsPage, StaysAlone}
 use Rattle.vm_step.specs.declared.saw.Saw.{Saw}
 use Rattle.vm_step.specs.declared.choice.Looks.{Looks}
@@ -84,11 +85,16 @@ module _ {X : Type 0} where
       (answer ≡ brings.Brought)
       ⊎ ((count : ℕ) × (answer ≡ brings.Device p count) × (w.notes ≡ v.notes ++ record { page = p; count = count } ∷ []) × (1 ≤ count) × (count ≤ at 0 v.start.bounds p))
 
-  -- the pass holds just the locks that it held, made no entry, and has its block at home
+  -- the pass holds just the locks that it held, made no entry, and has its block at home; its group, the pages that it owes and the next page that
+  -- it knows are as they were; what it has seen, its notes and its steps go on
   pub record KeepsLocks (v w : View X) : Type 0 where
     pub holds : (q : ℕ) → HoldsPage v w q
     pub mine : w.mine ≡ v.mine
     pub out : w.out ≡ v.out
     pub start : w.start ≡ v.start
     pub parts : (w.used ≡ v.used) × (w.fresh ≡ v.fresh)
+    pub group : (w.pending ≡ v.pending) × (w.owed ≡ v.owed) × (w.next ≡ v.next)
+    pub seen : StartsWith w.seen v.seen
+    pub notes : StartsWith w.notes v.notes
+    pub log : StartsWith w.log v.log
     pub alone : StaysAlone v w

@@ -2,16 +2,18 @@
 use Rattle.std.specs.Prelude.{ℕ, Bool, true, false, List, [], ◌≡◌, ◌≢◌, ◌⊎◌, ◌-◌, ◌^◌, ◌<◌, ◌≤◌, length, min}
 use Rattle.std.specs.List.{sum_by}
 use Rattle.vm_core.specs.Fn.{at}
-use Rattle.vm_core.specs.Words.{EVICTED}
+use Rattle.vm_core.specs.Words.{EVICTED, version_of}
 use Rattle.vm_laws_others.specs.Leaves.{stands_dirty}
 use Rattle.vm_block.specs.declared.stored.Stored.{Stored}
 use Rattle.vm_owner.specs.Kept.{Start, Kept}
+use Rattle.vm_rule.specs.declared.view.Place.TheVariants as places
 use Rattle.vm_rule.specs.declared.view.View.{View}
 use Rattle.vm_rule.specs.Layout.{words_of}
 use Rattle.vm_rule.specs.Fixed.{bounds_of}
-use Rattle.vm_rule.specs.Views.{times_noted}
+use Rattle.vm_rule.specs.Views.{Each, times_noted}
 use Rattle.vm_rule.specs.Reading.{no_block, last_of}
 use Rattle.vm_rule.specs.Rule.{MAX_COUNT, began_of}
+use Rattle.vm_step.specs.Evidence.{HasGiven}
 use Rattle.vm_pool.specs.declared.ended.Ended.{Ended}
 use Rattle.vm_rule_laws.specs.Known.{kept_by}
 use Rattle.vm_rule_laws.specs.Standing.{state_in, mapping_in, fault_in}
@@ -38,6 +40,11 @@ module _ {X : Type 0} where
     pub released : v.pending ≡ []
     pub paid : v.owed ≡ []
     pub kept : tells ≡ true → keeps (began_of v.start) (kept_by v)
+    -- every entry is the pass's own; no next word that one of its steps found is above this one, and no state word of a page has a later
+    -- version than its last one
+    pub own : v.mine ≡ v.seen
+    pub found : (x : ℕ) → HasGiven v.log places.Next x → x ≤ next
+    pub versions : (p word : ℕ) → p < v.start.pages → HasGiven v.log (places.State p) word → version_of word ≤ (last_of v p).version
 
 -- a sum over the blocks that stops at 2^64 - 1
 abbrev pub sum_to_max : (Stored → ℕ) → List Stored → ℕ
@@ -48,9 +55,10 @@ module _ {U X : Type 0} where
   abbrev pub view_at_end : Ended U X → View X
   view_at_end end = end.knew.view
 
-  -- the sums of the blocks' reads, writes and faults; no more calls failed than the blocks' bounds say
+  -- the sums of the blocks' reads, writes and faults; no more calls failed than the blocks' bounds say, of each and together
   pub record AreSums (blocks : List Stored) (end : Ended U X) : Type 0 where
     pub reads_are : end.reads ≡ sum_to_max (λ b. b.reads) blocks
     pub writes_are : end.writes ≡ sum_to_max (λ b. b.writes) blocks
     pub faults_are : end.faults ≡ sum_to_max (λ b. b.count) blocks
     pub bounded : sum_by (λ (b : Stored). b.count) blocks ≤ sum_by (λ (b : Stored). b.bound) blocks
+    pub each : Each (λ (b : Stored). b.count ≤ b.bound) blocks

@@ -1,4 +1,5 @@
 pub mod Holding
+pub mod Parting
 pub mod Closing
 pub mod Sweeps
 pub mod Brings

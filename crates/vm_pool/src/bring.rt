@@ -49,7 +49,7 @@ fn only_worn(looks: &Looks) -> Option<u32>
 }
 
 /// Why no frame was free after a sweep with this report.
-fn dry_cause(report: &Report) -> Bring
+pub fn dry_cause(report: &Report) -> Bring
     ensures { SaysDry report.now result }
 {
     let dry = Bring::Dry {

@@ -5,12 +5,14 @@ mod bring;
 mod closing;
 mod ended;
 pub mod first_page;
+mod passes;
 mod pool;
 pub mod round_trip;
 pub mod save;
 mod told;
+pub mod whole_again;
 
-pub use bring::Bring;
+pub use bring::{Bring, dry_cause};
 pub use ended::{Closed, Ended};
 pub use pool::{Pool, Shape};
 pub use told::Told;

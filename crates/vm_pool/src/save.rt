@@ -2,7 +2,8 @@
 // enough for a caller: where no write failed, each block has the last words of its page.
 ghost use Rattle.std.specs.Prelude.{◌≡◌, ◌<◌, ℕ, IfErr, IfOk, None, length, map, true};
 ghost use Rattle.vm_core.specs.Fn.{at};
-ghost use Rattle.vm_pool.specs.Closing.{IsClosed, view_at_end};
+ghost use Rattle.vm_evict.specs.Flushes.{IsFlushed};
+ghost use Rattle.vm_pool.specs.Closing.{AreSums, IsClosed, view_at_end};
 ghost use Rattle.vm_pool.specs.Holding.{HoldsNoPage};
 ghost use Rattle.vm_rule.specs.Reading.{last_of, no_block};
 ghost use Rattle.vm_step.specs.Alone.{IsAlone};
@@ -38,6 +39,8 @@ pub fn flush_and_close<U: Owner, B: Block + Drop>(
     ensures count { IfOk result (λ saved. length saved.closed.blocks.items ≡ pool.words.table.shared.key.pages) }
     ensures busy { IfOk result (λ saved. saved.report.busy ≡ 0) }
     ensures first { IfOk result (λ saved. saved.report.failed ≡ 0 → saved.report.first ≡ None) }
+    ensures flushed { IfOk result (λ saved. IsFlushed saved.report (view pass) (view_at_end saved.closed.ended)) }
+    ensures sums { IfOk result (λ saved. AreSums (map B.stored saved.closed.blocks.items) saved.closed.ended) }
     ensures closed { IfOk result (λ saved. IsClosed B.tells U.keeps (view_at_end saved.closed.ended) (map B.stored saved.closed.blocks.items) saved.closed.next) }
     ensures pool { IfErr result (λ back. back.0 ≡ pool) }
     ensures ready { IfErr result (λ back. IsReady pool.words.table.shared.key B.tells pool.words.table.shared.table_id back.1) }

@@ -1,4 +1,4 @@
-use Rattle.vm_pool.proofs.Sums.{sum-whole, sum-bounded}
+use Rattle.vm_pool.proofs.Sums.{each-bounded, sum-whole, sum-bounded}
 use Rattle.vm_pool.proofs.ended.Ended.of.Goals as goal
 
 pub returns-clause-sums : goal.returns-clause-sums
@@ -9,4 +9,5 @@ returns-clause-sums g c =
       writes_are = sum-whole g.B.Block.stored (λ b. b.writes) c.args.blocks.now _ _ c.loop-block-test.false inv.1;
       faults_are = sum-whole g.B.Block.stored (λ b. b.count) c.args.blocks.now _ _ c.loop-block-test.false inv.2;
       bounded = sum-bounded g.B.Block.stored g.met.B.Block.bounded c.args.blocks.now;
+      each = each-bounded g.B.Block.stored g.met.B.Block.bounded c.args.blocks.now;
     }

@@ -1,6 +1,7 @@
 use Rattle.std.proofs.Common.{◌<◌, subst, sym}
 use Rattle.vm_step.specs.Passes.{view}
 use Rattle.vm_pool.specs.Brings.{Fetches, Gets, IsBring as is_bring}
+use Rattle.vm_pool.proofs.Keeping.{keeps-then}
 use Rattle.vm_pool.proofs.Sure.{sure}
 use Rattle.vm_pool.proofs.pool.Pool.bring.Goals as goal
 
@@ -19,3 +20,6 @@ returns-in-Ok-clause-sure g c alone known free =
 pub returns-in-Err-clause-sure : goal.returns-in-Err-clause-sure
 returns-in-Err-clause-sure g c alone known free =
     sure (view c.args.pass.now) alone c.args.pid (subst (λ n. c.args.pid < n) (sym c.requires.ready.table.is_shape.pages) c.requires.page) known c.args.iface.now.home c.args.iface.now.cap c.args.iface.now.frames free _ _ _ _ _ (returns-in-Err-clause-answer g c)
+
+pub returns-in-Ok-clause-keeps : goal.returns-in-Ok-clause-keeps
+returns-in-Ok-clause-keeps g c = keeps-then (view c.args.pass.now) (view c.frame_for.new.pass) (view c.bring_into.new.pass) c.frame_for.ensures.keeps c.bring_into.ensures.keeps

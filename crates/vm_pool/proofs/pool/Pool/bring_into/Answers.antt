@@ -5,6 +5,7 @@ use Rattle.vm_step.specs.Passes.{view}
 use Rattle.vm_pool.specs.Brings.{Fetches as fetched}
 use Rattle.vm_pool.specs.declared.bring.Bring.TheVariants as brings
 use Rattle.vm_pool.proofs.Bringing.{held-back, held-others}
+use Rattle.vm_pool.proofs.Keeping.{fetches-keeps}
 use Rattle.vm_pool.proofs.pool.Pool.bring_into.Goals as goal
 use Rattle.vm_pool.proofs.pool.Pool.bring_into.Goals.{in-Again, in-Worn, in-Device}
 
@@ -30,3 +31,10 @@ returns-clause-fetches g c =
       | in-Worn w ↦ fetched.worn _ (refl, refl, w.in-Worn.ensures.fetched.2) freed (w.answer-is ∙ ap brings.Worn w.in-Worn.ensures.fetched.1)
       | in-Device w ↦ fetched.device _ _ (refl, refl, w.in-Device.ensures.fetched.2) freed (w.answer-is ∙ ap (λ (n : ℕ). brings.Device n w.in-Device.count) w.in-Device.ensures.fetched.1)
     ]
+
+pub returns-in-Brought-clause-keeps : goal.returns-in-Brought-clause-keeps
+returns-in-Brought-clause-keeps g c =
+    fetches-keeps c.args.iface.now.cap c.args.pid c.args.frame c.args.iface.now.frames c.args.iface.now.frames (view c.args.pass.now) (view c.fault_in.new.pass) brings.Brought (fetched.brought c.in-Brought.ensures.fetched refl refl)
+
+pub returns-clause-keeps : goal.returns-clause-keeps
+returns-clause-keeps g c = fetches-keeps _ _ _ _ _ _ _ _ (returns-clause-fetches g c)

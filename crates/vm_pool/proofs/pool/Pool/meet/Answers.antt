@@ -1,0 +1,15 @@
+use Rattle.vm_step.specs.Passes.{view}
+use Rattle.vm_step.proofs.MetPasses.{meets-then}
+use Rattle.vm_pool.proofs.Parting.{have-met}
+use Rattle.vm_pool.proofs.pool.Pool.meet.Goals as goal
+
+pub returns-clause-met : goal.returns-clause-met
+returns-clause-met g c =
+    meets-then (view c.args.pass.now) (view c.args.other.now) _ _ (view c.hear_pass.new.pass) _ _ _
+    c.split_pass-theirs.ensures.kept c.split_pass-theirs.ensures.given c.hear_pass.ensures.told c.split_pass-mine.ensures.kept c.split_pass-mine.ensures.given c.follow_pass.ensures.told
+
+pub returns-clause-have : goal.returns-clause-have
+returns-clause-have g c =
+    have-met (view c.args.pass.now) (view c.args.other.now) _ _
+    (meets-then (view c.args.pass.now) (view c.args.other.now) _ _ (view c.hear_pass.new.pass) _ _ _
+    c.split_pass-theirs.ensures.kept c.split_pass-theirs.ensures.given c.hear_pass.ensures.told c.split_pass-mine.ensures.kept c.split_pass-mine.ensures.given c.follow_pass.ensures.told)

@@ -1,0 +1,10 @@
+use Rattle.std.proofs.Common.{map, subst, sym}
+use Rattle.vm_step.specs.Passes.{view}
+use Rattle.vm_step.specs.Together.{PassesSplit}
+use Rattle.vm_step.proofs.Together.{split-none}
+use Rattle.vm_pool.proofs.pool.Pool.split.Goals as goal
+
+pub returns-clause-split : goal.returns-clause-split
+returns-clause-split g c =
+    c.split_each.ensures.split (view c.args.pass.now)
+    (subst (λ l. PassesSplit (view c.args.pass.now) (map (λ p. view p) l) (view c.catch_up.new.pass)) (sym c.in_ok-room.ensures.items) (split-none _ _ c.catch_up.ensures.told))

@@ -1,0 +1,16 @@
+use Rattle.std.proofs.Common.{◌≡◌, List, [], ◌∷◌, map, subst, sym, ◌∙◌}
+use mathlib.Core.List.{map-append}
+use Rattle.vm_step.specs.Passes.{view}
+use Rattle.vm_step.specs.Together.{HasJoined}
+use Rattle.vm_step.proofs.Together.{joined-one}
+use Rattle.vm_pool.proofs.whole_again.join_each.Goals as goal
+
+pub loop-other-preserved : goal.loop-other-preserved
+loop-other-preserved g c =
+    let inv = c.loop-other.invariant in
+    let same = c.join.ensures.pass in
+    let told = c.join.ensures.told in (
+      (same.0 ∙ inv.0.0, same.1 ∙ inv.0.1),
+      c.join.ensures.may,
+      subst (λ l. HasJoined (view c.args.pass.now) l (view c.join.new.pass)) (sym (map-append (λ p. view p) c.loop-other.yielded (c.in-Some.other ∷ []))) (joined-one _ _ _ _ _ _ inv.2 told.caught told.joins),
+    )

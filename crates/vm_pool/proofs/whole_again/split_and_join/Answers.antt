@@ -1,0 +1,26 @@
+use Rattle.std.proofs.Common.{◌≡◌, ◌≤◌, length, refl, subst, sym, ap, ◌∙◌, arith}
+use Rattle.vm_rule.specs.Joins.{HoldsNoPage}
+use Rattle.vm_step.specs.Passes.{view}
+use Rattle.vm_step.proofs.Still.{still-nothing}
+use Rattle.vm_step.proofs.Together.{each-at, holds-none, new-nothing, numbers-length, split-current, split-still, whole-again}
+use Rattle.vm_pool.proofs.AtOnce.{first-has-all}
+use Rattle.vm_pool.proofs.whole_again.split_and_join.Goals as goal
+
+pub split-requires-clause-parts : goal.split-requires-clause-parts
+split-requires-clause-parts g c =
+    let many : length (view c.in_ok-pool.pass).fresh ≡ 4294967295 = ap (λ u. length u.fresh) c.in_ok-pool.ensures.view ∙ numbers-length 1 4294967295 in
+    let fits : c.args.n ≤ 4294967295 = c.requires.parts in
+    omega (arith, many, fits)
+
+pub join_each-requires-clause-nothing : goal.join_each-requires-clause-nothing
+join_each-requires-clause-nothing g c k d l = let new = each-at _ (λ p. view p) c.in_ok-given.given.items c.in_ok-given.ensures.split.each k d l in holds-none _ (new-nothing _ _ _ _ _ new.new)
+
+pub close-requires-clause-whole : goal.close-requires-clause-whole
+close-requires-clause-whole g c = whole-again _ _ _ _ _ c.in_ok-given.ensures.split c.join_each.ensures.joined (λ k. refl) (first-has-all _ _ _ c.in_ok-pool.ensures.view)
+
+pub close-requires-clause-holds : goal.close-requires-clause-holds
+close-requires-clause-holds g c =
+    c.join_each.ensures.joined.nothing (still-nothing _ _ (split-still _ _ _ c.in_ok-given.ensures.split) (subst HoldsNoPage (sym c.in_ok-pool.ensures.view) (record { shares = λ p. refl; exclusive = λ p. refl; writing = λ p. refl; out = refl })))
+
+pub close-requires-clause-current : goal.close-requires-clause-current
+close-requires-clause-current g c = c.join_each.ensures.joined.current (split-current _ _ _ c.in_ok-given.ensures.split)

@@ -1,0 +1,108 @@
+//! Passes of a pool: split off, joined, and told of one another.
+
+ghost use Rattle.std.specs.Prelude.{◌≡◌, ◌<◌, ◌≤◌, All, IfErr, IfOk, length, map};
+ghost use Rattle.std.specs.Vec.{vec_capacity, vec_len};
+ghost use Rattle.vm_rule.specs.Joins.{HoldsNoPage};
+ghost use Rattle.vm_rule.specs.declared.view.View.{View};
+ghost use Rattle.vm_step.specs.Passes.{IsSamePass, MayStep, view};
+ghost use Rattle.vm_step.specs.Ready.{IsReady};
+ghost use Rattle.vm_pool.specs.Parting.{HaveMet, Joins, Splits};
+ghost use Rattle.vm_step.specs.Meeting.{Meets};
+ghost use Rattle.vm_step.specs.Together.{HasJoined, PassesSplit, TakesIn};
+
+use crate::pool::Pool;
+use std::alloc::Global;
+use vm_block::Block;
+use vm_core::Memory;
+use vm_owner::Owner;
+use vm_rule::words::{Pass, Words};
+use vm_step::{catch_up, follow_pass, hear_pass, join_pass, split_pass};
+
+impl<U: Owner, B: Block + Drop> Pool<U, B> {
+    /// `n` new passes, each with one of this pass's fresh parts as its number. They know what this pass knows of the history, have no entry,
+    /// and hold nothing. Where there is no memory for them nothing has changed.
+    pub fn split(&self, alloc: Global, pass: &mut Pass<U>, n: usize) -> Result<Vec<Pass<U>>, Memory>
+        requires ready { IsReady self.now.words.table.shared.key B.tells self.now.words.table.shared.table_id pass.old }
+        requires parts { n ≤ length (view pass.old).fresh }
+        ensures pass { IsSamePass pass.old pass.new }
+        ensures ready { IsReady self.now.words.table.shared.key B.tells self.now.words.table.shared.table_id pass.new }
+        ensures split { IfOk result (λ given. PassesSplit (view pass.old) (map (λ p. view p) given.items) (view pass.new)) }
+        ensures each { IfOk result (λ given. All (λ p. IsReady self.now.words.table.shared.key B.tells self.now.words.table.shared.table_id p) given.items) }
+        ensures count { IfOk result (λ given. length given.items ≡ n) }
+        ensures refused { IfErr result (λ _. pass.new ≡ pass.old) }
+    {
+        let room = Vec::with_capacity(alloc, n)?;
+        catch_up(&self.words, pass);
+        Ok(split_each(&self.words, pass, n, room))
+    }
+}
+
+impl<U: Owner, B: Block> Pool<U, B> {
+    /// A new pass with the first of this pass's fresh parts as its number. It knows what this pass knows of the history, has no entry, and holds
+    /// nothing. It takes no memory.
+    pub fn split_one(&self, pass: &mut Pass<U>) -> Pass<U>
+        requires ready { IsReady self.now.words.table.shared.key B.tells self.now.words.table.shared.table_id pass.old }
+        requires fresh { 0 < length (view pass.old).fresh }
+        ensures pass { IsSamePass pass.old pass.new }
+        ensures ready { IsReady self.now.words.table.shared.key B.tells self.now.words.table.shared.table_id pass.new }
+        ensures new { IsReady self.now.words.table.shared.key B.tells self.now.words.table.shared.table_id result }
+        ensures splits { Splits (view pass.old) (view result) (view pass.new) }
+    {
+        catch_up(&self.words, pass);
+        split_pass(&self.words, pass, true)
+    }
+
+    /// Takes in another pass, which holds no page: its parts, frames and notes, and what it had seen. Its open reads are closed.
+    pub fn join(&self, pass: &mut Pass<U>, mut other: Pass<U>)
+        requires pass { MayStep self.now.words.table.shared.table_id pass.old }
+        requires other { MayStep self.now.words.table.shared.table_id other }
+        requires nothing { HoldsNoPage (view other) }
+        ensures pass { IsSamePass pass.old pass.new }
+        ensures may { MayStep self.now.words.table.shared.table_id pass.new }
+        ensures ready { IsReady self.now.words.table.shared.key B.tells self.now.words.table.shared.table_id pass.old → IsReady self.now.words.table.shared.key B.tells self.now.words.table.shared.table_id pass.new }
+        ensures told { TakesIn (view pass.old) (view other) (view pass.new) }
+        ensures joins { Joins B.tells U.keeps (view pass.old) (view other) (view pass.new) }
+    {
+        catch_up(&self.words, &mut other);
+        join_pass(&self.words, pass, other);
+    }
+
+    /// Lets both passes know one and the same history, which goes on from what each had seen. All else of both is as it was.
+    pub fn meet(&self, pass: &mut Pass<U>, other: &mut Pass<U>)
+        requires pass { MayStep self.now.words.table.shared.table_id pass.old }
+        requires other { MayStep self.now.words.table.shared.table_id other.old }
+        ensures pass { IsSamePass pass.old pass.new × IsSamePass other.old other.new }
+        ensures may { MayStep self.now.words.table.shared.table_id pass.new × MayStep self.now.words.table.shared.table_id other.new }
+        ensures met { Meets (view pass.old) (view other.old) (view pass.new) (view other.new) }
+        ensures have { HaveMet (view pass.old) (view other.old) (view pass.new) (view other.new) }
+    {
+        let theirs = split_pass(&self.words, other, false);
+        hear_pass(&self.words, pass, theirs);
+        let mine = split_pass(&self.words, pass, false);
+        follow_pass(&self.words, other, mine);
+    }
+}
+
+/// The passes that are split off a pass which was brought up to date. There is room for them.
+fn split_each<U: Owner, B: Block>(
+    words: &Words<U, B>,
+    pass: &mut Pass<U>,
+    n: usize,
+    mut given: Vec<Pass<U>>,
+) -> Vec<Pass<U>>
+    requires ready { IsReady words.now.table.shared.key B.tells words.now.table.shared.table_id pass.old }
+    requires parts { n ≤ length (view pass.old).fresh }
+    requires room { (length given.items ≡ 0) × (n ≤ vec_capacity given) × (vec_len given ≡ 0) }
+    ensures pass { IsSamePass pass.old pass.new }
+    ensures ready { IsReady words.now.table.shared.key B.tells words.now.table.shared.table_id pass.new }
+    ensures split { (v : View U.Said) → PassesSplit v (map (λ p. view p) given.items) (view pass.old) → PassesSplit v (map (λ p. view p) result.items) (view pass.new) }
+    ensures each { All (λ p. IsReady words.now.table.shared.key B.tells words.now.table.shared.table_id p) result.items }
+    ensures count { length result.items ≡ n }
+{
+    for i in 0..n {
+        if given.push(split_pass(words, pass, true)).is_err() {
+            unreachable!()
+        }
+    }
+    given
+}

@@ -1,0 +1,89 @@
+// A pass that makes three entries: they are its own, under its first number, with the counts 1, 2 and 3.
+ghost use Rattle.std.specs.Prelude.{◌≡◌, ◌<◌, IfOk, length, map, true};
+ghost use Rattle.vm_rule.specs.Fixed.{MayBegin};
+ghost use Rattle.vm_rule.specs.Started.{IsStarted, words_in};
+ghost use Rattle.vm_step.specs.Passes.{IsSamePass, view};
+ghost use Rattle.vm_step.specs.Ready.{IsReady};
+ghost use Rattle.vm_workers.specs.Entries.{HasThree, SaysThree};
+
+use crate::tally::Tally;
+use std::alloc::Global;
+use vm_block::Block;
+use vm_core::Memory;
+use vm_exmap::Interface;
+use vm_guard::{Deny, OptGuard};
+use vm_owner::Owner;
+use vm_pool::{Bring, Pool, Shape};
+use vm_rule::words::{Pass, Words};
+
+/// Why three entries were not made.
+#[derive(Clone, Copy, Debug, PartialEq, Eq)]
+pub enum Untold {
+    Memory,
+    /// The page was not brought, for this cause.
+    Out(Bring),
+    /// A read of the page was denied. The entries before it stand.
+    Denied(Deny),
+}
+
+impl From<Memory> for Untold {
+    fn from(_fault: Memory) -> Untold {
+        Untold::Memory
+    }
+}
+
+/// A pool, with the pass that made the entries.
+pub struct Told<B: Block> {
+    pub pool: Pool<Tally, B>,
+    pub pass: Pass<Tally>,
+}
+
+/// Reads the page, and validates the read three times; each time the page's number becomes an entry.
+pub fn say_three<B: Block>(
+    words: &Words<Tally, B>,
+    pass: &mut Pass<Tally>,
+    p: u32,
+) -> Result<(), Deny>
+    requires ready { IsReady words.now.table.shared.key B.tells words.now.table.shared.table_id pass.old }
+    requires page { p < words.now.table.shared.key.pages }
+    ensures pass { IsSamePass pass.old pass.new }
+    ensures ready { IsReady words.now.table.shared.key B.tells words.now.table.shared.table_id pass.new }
+    ensures said { IfOk result (λ _. SaysThree p (view pass.old) (view pass.new)) }
+{
+    let guard = OptGuard::start(words, pass, p)?;
+    if let Err(saw) = guard.validate(words, pass, Some(&p)) {
+        return Err(Deny::Again(saw));
+    }
+    if let Err(saw) = guard.validate(words, pass, Some(&p)) {
+        return Err(Deny::Again(saw));
+    }
+    if let Err(saw) = guard.validate(words, pass, Some(&p)) {
+        return Err(Deny::Again(saw));
+    }
+    Ok(())
+}
+
+/// Starts a pool, brings a page, and makes three entries by reads of it.
+pub fn three_entries<B: Block + Drop>(
+    alloc: Global,
+    shape: Shape,
+    blocks: Vec<B>,
+    p: u32,
+) -> Result<Told<B>, Untold>
+    requires pages { shape.pages ≡ length blocks.items }
+    requires fits { IsStarted shape.first_version shape.next shape.frames (length blocks.items) }
+    requires begins { B.tells ≡ true → MayBegin ⟦<Tally as Owner>⟧.keeps shape.next (words_in (map B.stored blocks.items)) }
+    requires page { p < shape.pages }
+    ensures told { IfOk result (λ told. HasThree p (view told.pass)) }
+{
+    let (pool, mut pass) = Pool::start(alloc, shape, blocks)?;
+    let mut iface = Interface::new(0, 1);
+    let answer = pool.bring(&mut pass, &mut iface, p);
+    if answer != Bring::Brought {
+        return Err(Untold::Out(answer));
+    }
+    match say_three(&pool.words, &mut pass, p) {
+        Ok(()) => Ok(Told { pool, pass }),
+        Err(deny) => Err(Untold::Denied(deny)),
+    }
+}
