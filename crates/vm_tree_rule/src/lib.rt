@@ -6,9 +6,17 @@ ghost use Rattle.vm_tree_laws.specs.May.{MayRelease, MayRead};
 ghost use Rattle.vm_tree_laws.specs.Tied.{Tied};
 ghost use Rattle.vm_tree_laws.proofs.Laws.{releases_keep, reads_keep};
 ghost use Rattle.vm_tree_laws.proofs.Claims.{claims_keep};
-ghost use Rattle.vm_tree_laws.proofs.OwedLists.{reorders_keep};
 ghost use Rattle.vm_tree_laws.proofs.Ties.{ties_hold};
 
+pub mod descent;
+mod fault;
+pub mod seek;
+mod turn;
+
+pub use descent::descend;
+pub use fault::TreeFault;
+pub use seek::{Met, seek_full};
+pub use turn::Turn;
 use vm_map::call::Said;
 use vm_owner::Owner;
 
@@ -32,8 +40,6 @@ impl Owner for Tree {
     ghost reads = { λ start kept page entries keeps there. reads_keep start kept page entries keeps };
 
     ghost claims = { claims_keep };
-
-    ghost reorders = { reorders_keep };
 
     ghost ties = { λ start kept r p keeps there other. ties_hold start kept r p keeps there };
 }

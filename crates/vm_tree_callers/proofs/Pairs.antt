@@ -1,0 +1,25 @@
+-- In a legal history a get that follows a put of the same key at once is answered the value that was put.
+use Rattle.std.proofs.Common.{ℕ, Option, Some, List, [], ◌∷◌, ◌++◌, ◌≡◌, ◌∙◌, ap, subst}
+use Rattle.vm_map.specs.Map.{put_pair, Pairs}
+use Rattle.vm_map.specs.History.{AreReplies, IsReply, after}
+use Rattle.vm_map.specs.declared.call.Call.{Call}
+use Rattle.vm_map.specs.declared.call.Call.TheVariants.{Get, Put}
+use Rattle.vm_map.specs.declared.call.Reply.{Reply}
+use Rattle.vm_map.specs.declared.call.Reply.TheVariants.{Got, Was, Gone, Win}
+use Rattle.vm_map.specs.declared.call.Said.{Said}
+use Rattle.vm_map.proofs.MapLemmas.{lookup-put_same}
+use Rattle.vm_owner.specs.declared.Entry.{Entry}
+use Rattle.vm_tree_laws.specs.History.{saids}
+
+-- what the get is answered on the map after the put
+got-is : (m : Pairs) (key value : ℕ) (reply : Reply) → IsReply (put_pair m key value) (Get key) reply → reply ≡ Got (Some value)
+got-is m key value (Got found) e = ap (λ (o : Option ℕ). Got o) (e ∙ lookup-put_same m key value)
+got-is m key value (Was old) e = absurd e
+got-is m key value (Gone old) e = absurd e
+got-is m key value (Win window) e = absurd e
+
+pub put-got : (m : Pairs) (h : List (Entry Said)) (p g : Entry Said) (key value : ℕ) (reply : Reply) → p.said.call ≡ Put key value → g.said ≡ record { call = Get key; reply = reply } → AreReplies m (saids (h ++ p ∷ g ∷ [])) → reply ≡ Got (Some value)
+put-got m [] p g key value reply pe ge legal =
+    got-is m key value reply
+    (subst (λ (s : Said). IsReply (put_pair m key value) s.call s.reply) ge (subst (λ (c : Call). IsReply (after m c) g.said.call g.said.reply) pe legal.1.0))
+put-got m (e ∷ h) p g key value reply pe ge legal = put-got (after m e.said.call) h p g key value reply pe ge legal.1

@@ -1,0 +1,37 @@
+// A put and then a get of the same key by one pass, over their contracts alone: both entries stand in the history in order, and where no other call
+// came between them the get is answered the value.
+ghost use Rattle.std.specs.Prelude.{◌≡◌, ◌≤◌, IfSome, None, true};
+ghost use Rattle.vm_step.specs.Passes.{IsSamePass, MayStep, view};
+ghost use Rattle.vm_step.specs.Ready.{IsReady};
+ghost use Rattle.vm_tree_callers.specs.Pairs.{AnswersPut};
+
+use vm_block::Block;
+use vm_map::call::Reply;
+use vm_rule::words::{Pass, Words};
+use vm_tree_read::{TryRead, try_get};
+use vm_tree_rule::Tree;
+use vm_tree_write::{TryWrite, try_put};
+
+/// The reply of the get, where both were answered at once.
+pub fn put_then_get<B: Block>(
+    words: &Words<Tree, B>,
+    pass: &mut Pass<Tree>,
+    key: u64,
+    value: u64,
+) -> Option<Reply>
+    requires pass { MayStep words.now.table.shared.table_id pass.old }
+    requires tells { B.tells ≡ true }
+    requires pages { 1 ≤ words.now.table.shared.key.pages }
+    requires home { (view pass.old).out ≡ None }
+    ensures pass { IsSamePass pass.old pass.new }
+    ensures ready { IsReady words.now.table.shared.key B.tells words.now.table.shared.table_id pass.new }
+    ensures answers { IfSome result (λ reply. AnswersPut key value reply (view pass.old) (view pass.new)) }
+{
+    let TryWrite::Done(_was) = try_put(words, pass, key, value) else {
+        return None;
+    };
+    let TryRead::Done(reply) = try_get(words, pass, key) else {
+        return None;
+    };
+    Some(reply)
+}

@@ -1,0 +1,72 @@
+-- Tries and pages brought, one after the other.
+use Rattle.std.proofs.Common.{List, [], ◌∷◌, ◌++◌, ◌≡◌, ◌+◌, refl, sym, ap, subst, ◌∙◌, append_assoc, slice_index}
+use Rattle.vm_map.specs.declared.call.Said.{Said}
+use Rattle.vm_owner.specs.declared.Entry.{Entry}
+use Rattle.vm_owner.specs.Kept.{calls_of}
+use Rattle.vm_rule.specs.declared.view.Origin.{Origin}
+use Rattle.vm_rule.specs.Brought.{entry_of}
+use Rattle.vm_tree_model.specs.Tree.{map_of}
+use Rattle.vm_tree_laws.specs.History.{IsLegal}
+use Rattle.vm_tree_read.specs.Reads.{IsAnswered}
+use Rattle.vm_rule.specs.declared.view.View.{View}
+use Rattle.vm_rule.proofs.Entries.{append-none}
+use Rattle.vm_step.proofs.Asides.{starts-then, alone-self, alone-then, holds-then}
+use Rattle.vm_pool.specs.Brings.{KeepsLocks}
+use Rattle.vm_tree_rule.specs.Leaves.{ReadsOn}
+use Rattle.vm_tree_read.specs.Waiting.{IsReplied, Waits}
+use Rattle.vm_tree_read.proofs.Seen.{GoesOn}
+
+module _ {X : Type 0} where
+  pub waits-self : (v : View X) → Waits v v
+  waits-self v = record {
+    holds = λ q. record { shares = refl; exclusive = refl; writing = refl };
+    mine = refl;
+    seen = ([], sym (append-none v.seen));
+    log = ([], sym (append-none v.log));
+    group = (refl, refl, refl);
+    out = refl;
+    start = refl;
+    parts = (refl, refl);
+    alone = alone-self v;
+  }
+
+  pub waits-then : (u v w : View X) → Waits u v → Waits v w → Waits u w
+  waits-then u v w f g = record {
+    holds = λ q. holds-then u v w q (f.holds q) (g.holds q);
+    mine = g.mine ∙ f.mine;
+    seen = starts-then u.seen v.seen w.seen f.seen g.seen;
+    log = starts-then u.log v.log w.log f.log g.log;
+    group = (g.group.0 ∙ f.group.0, g.group.1 ∙ f.group.1, g.group.2 ∙ f.group.2);
+    out = g.out ∙ f.out;
+    start = g.start ∙ f.start;
+    parts = (g.parts.0 ∙ f.parts.0, g.parts.1 ∙ f.parts.1);
+    alone = alone-then u v w f.parts f.alone g.alone;
+  }
+
+  pub reads-wait : (v w : View X) → ReadsOn v w → Waits v w
+  reads-wait v w r = record { holds = r.0.holds; mine = r.1; seen = r.0.seen; log = (r.0.done, r.0.log); group = r.0.group; out = r.0.out; start = r.0.start; parts = r.0.parts; alone = r.0.alone }
+
+  pub bring-waits : (v w : View X) → KeepsLocks v w → GoesOn v w → Waits v w
+  bring-waits v w k goes = record { holds = k.holds; mine = k.mine; seen = goes.seen; log = goes.log; group = goes.group; out = k.out; start = k.start; parts = k.parts; alone = k.alone }
+
+-- the entry is the next one of the pass as it was before it waited
+same-entry : (v x : View Said) (said : Said) → Waits v x → entry_of x said ≡ entry_of v said
+same-entry v x said k i = record { number = slice_index (k.parts.0 i) 0; count = calls_of (slice_index (k.parts.0 i) 0) (k.mine i) + 1; said = said }
+
+pub replied : (said : Said) (v x w : View Said) → Waits v x → IsAnswered said x w → IsReplied said v w
+replied said v x w k a = record {
+  tried = x;
+  waits = k;
+  answered = a;
+  mine = a.mine ∙ (λ i. k.mine i ++ same-entry v x said k i ∷ []);
+  entry = (
+    k.seen.0 ++ a.entry.0,
+    a.entry.1 ∙ (λ i. (k.seen.1 i ++ a.entry.0) ++ same-entry v x said k i ∷ []) ∙ ap (λ (l : List (Entry Said)). l ++ entry_of v said ∷ []) (append_assoc v.seen k.seen.0 a.entry.0),
+  );
+  legal = subst (λ (o : Origin). IsLegal (map_of o.contents) w.seen) k.start a.legal;
+  holds = λ q. holds-then v x w q (k.holds q) (a.reads.holds q);
+  out = a.reads.out ∙ k.out;
+  start = a.reads.start ∙ k.start;
+  parts = (a.reads.parts.0 ∙ k.parts.0, a.reads.parts.1 ∙ k.parts.1);
+  alone = alone-then v x w k.parts k.alone a.reads.alone;
+}

@@ -1,0 +1,10 @@
+use Rattle.std.proofs.Common.{subst}
+use Rattle.vm_tree_rule.specs.Turns.{IsTurn}
+use Rattle.vm_tree_read.proofs.Answering.{again-only, need-only}
+use Rattle.vm_tree_read.proofs.read.not_yet.Goals as goal
+
+pub returns-in-Again : goal.returns-in-Again
+returns-in-Again c = record { tried = λ call key v w a. again-only _ v w (subst (λ t. IsTurn v key t w) c.in-Again.is a) }
+
+pub returns-in-Need : goal.returns-in-Need
+returns-in-Need c = record { tried = λ call key v w a. need-only key _ v w (subst (λ t. IsTurn v key t w) c.in-Need.is a) }

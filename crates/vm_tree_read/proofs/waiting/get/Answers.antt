@@ -1,0 +1,51 @@
+use Rattle.std.proofs.Common.{◌≡◌, ◌∙◌}
+use Rattle.vm_step.specs.HeldFrames.{AreHeld}
+use Rattle.vm_exmap.proofs.Handing.{held-on}
+use Rattle.vm_step.specs.Passes.{view}
+use Rattle.vm_tree_read.proofs.Lasting.{reads-wait, replied, waits-then}
+use Rattle.vm_tree_read.proofs.waiting.get.Goals as goal
+
+pub loop-preserved-in-Again : goal.loop-preserved-in-Again
+loop-preserved-in-Again g c =
+    let i = c.loop.invariant in
+    let reads = c.in-Again.ensures.tried.0 in
+    record {
+      same = (c.try_get.ensures.pass.0 ∙ i.same.0, c.try_get.ensures.pass.1 ∙ i.same.1);
+      ready = c.try_get.ensures.ready;
+      held = held-on _ (view c.loop.pass) (view c.try_get.new.pass) i.held reads.0.start reads.0.frames.0;
+      iface = i.iface;
+      waits = waits-then _ _ _ i.waits (reads-wait _ _ reads);
+    }
+
+pub fetch-requires-clause-frames : goal.fetch-requires-clause-frames
+fetch-requires-clause-frames g c =
+    let reads = c.in-Need.ensures.tried.0 in held-on _ (view c.loop.pass) (view c.try_get.new.pass) c.loop.invariant.held reads.0.start reads.0.frames.0
+
+pub loop-preserved : goal.loop-preserved
+loop-preserved g c =
+    let i = c.loop.invariant in
+    let k = c.fetch.ensures in
+    record {
+      same = (k.pass.0 ∙ c.try_get.ensures.pass.0 ∙ i.same.0, k.pass.1 ∙ c.try_get.ensures.pass.1 ∙ i.same.1);
+      ready = k.ready;
+      held = k.held;
+      iface = (k.iface.0 ∙ i.iface.0, k.iface.1 ∙ i.iface.1);
+      waits = waits-then _ _ _ i.waits (waits-then _ _ _ (reads-wait _ _ c.in-Need.ensures.tried.0) k.waits);
+    }
+
+pub returns-in-Err-clause-err : goal.returns-in-Err-clause-err
+returns-in-Err-clause-err g c =
+    let i = c.loop.invariant in
+    let needed = c.in-Need.ensures.tried in
+    record {
+      tried = view c.loop.pass;
+      found = view c.try_get.new.pass;
+      waits = i.waits;
+      page = c.in-Need.pid;
+      needed = needed.1;
+      fault_is = c.in-Err.ensures.err;
+      leaves = waits-then _ _ _ i.waits (waits-then _ _ _ (reads-wait _ _ needed.0) c.fetch.ensures.waits);
+    }
+
+pub returns-in-Done-clause-ok : goal.returns-in-Done-clause-ok
+returns-in-Done-clause-ok g c = replied _ _ _ _ c.loop.invariant.waits c.in-Done.ensures.tried

@@ -1,0 +1,59 @@
+-- What a read leaves and answers that waits: tries, and pages brought in between, until a try is answered or a page can't be brought.
+use Rattle.std.specs.Prelude.{ℕ, List, [], ◌∷◌, ◌++◌, ◌≡◌}
+use Rattle.vm_map.specs.declared.call.Said.{Said}
+use Rattle.vm_owner.specs.declared.Entry.{Entry}
+use Rattle.vm_rule.specs.declared.view.View.{View}
+use Rattle.vm_rule.specs.Brought.{entry_of}
+use Rattle.vm_tree_model.specs.Tree.{map_of}
+use Rattle.vm_tree_laws.specs.History.{IsLegal}
+use Rattle.vm_rule.specs.Views.{StartsWith}
+use Rattle.vm_step.specs.Asides.{HoldsPage, StaysAlone}
+use Rattle.vm_pool.specs.declared.bring.Bring.TheVariants as brings
+use Rattle.vm_pool.specs.Brings.{IsBring}
+use Rattle.vm_tree_rule.specs.declared.fault.TreeFault.{TreeFault}
+use Rattle.vm_tree_rule.specs.declared.fault.TreeFault.TheVariants as faults
+use Rattle.vm_tree_rule.specs.Turns.{IsNeeded}
+use Rattle.vm_tree_read.specs.Reads.{IsAnswered}
+
+module _ {X : Type 0} where
+  -- the pass holds just the locks that it held, made no entry, and has its block at home
+  pub record Waits (v w : View X) : Type 0 where
+    pub holds : (q : ℕ) → HoldsPage v w q
+    pub mine : w.mine ≡ v.mine
+    pub seen : StartsWith w.seen v.seen
+    pub log : StartsWith w.log v.log
+    pub out : w.out ≡ v.out
+    pub group : (w.pending ≡ v.pending) × (w.owed ≡ v.owed) × (w.next ≡ v.next)
+    pub start : w.start ≡ v.start
+    pub parts : (w.used ≡ v.used) × (w.fresh ≡ v.fresh)
+    pub alone : StaysAlone v w
+
+  -- page p was to be brought, and a device failed, or a page was at the last version
+  pub data IsFaultOf (p : ℕ) (fault : TreeFault) (v w : View X) : Type 0 where
+    device : (home cap before after q count : ℕ) (old new : List ℕ) → IsBring home cap p old new before after v w (brings.Device q count) → fault ≡ faults.Device q count → IsFaultOf p fault v w
+    worn : (home cap before after q : ℕ) (old new : List ℕ) → IsBring home cap p old new before after v w (brings.Worn q) → fault ≡ faults.Worn q → IsFaultOf p fault v w
+
+-- the last try was answered; those before it, and the pages brought, made no entry. So the entry is the pass's next one, and stands behind all
+-- that the pass had seen; the pass holds what it held
+pub record IsReplied (said : Said) (v w : View Said) : Type 0 where
+  pub tried : View Said
+  pub waits : Waits v tried
+  pub answered : IsAnswered said tried w
+  pub mine : w.mine ≡ v.mine ++ entry_of v said ∷ []
+  pub entry : (others : List (Entry Said)) × (w.seen ≡ (v.seen ++ others) ++ entry_of v said ∷ [])
+  pub legal : IsLegal (map_of v.start.contents) w.seen
+  pub holds : (q : ℕ) → HoldsPage v w q
+  pub out : w.out ≡ v.out
+  pub start : w.start ≡ v.start
+  pub parts : (w.used ≡ v.used) × (w.fresh ≡ v.fresh)
+  pub alone : StaysAlone v w
+
+-- the last try needed a page, which could not be brought
+pub record IsFaulted (key : ℕ) (fault : TreeFault) (v w : View Said) : Type 0 where
+  pub tried : View Said
+  pub found : View Said
+  pub waits : Waits v tried
+  pub page : ℕ
+  pub needed : IsNeeded tried key page found
+  pub fault_is : IsFaultOf page fault found w
+  pub leaves : Waits v w

@@ -1,0 +1,89 @@
+// The leaf of a key, and the answer that its validation makes an entry of the history.
+ghost use Rattle.std.specs.Prelude.{◌≡◌, ◌++◌, ◌≤◌, ℕ, IfOk, IfErr, Some, length, true};
+ghost use Rattle.vm_guard.specs.Denied.{AgainOrNeed, IsDenied, KeptWord};
+ghost use Rattle.vm_guard.specs.Guards.{IsReading, placed};
+ghost use Rattle.vm_rule.specs.Views.{loads_at};
+ghost use Rattle.vm_step.specs.Evidence.{NoneExpected};
+ghost use Rattle.vm_step.specs.Passes.{IsSamePass, MayStep, view};
+ghost use Rattle.vm_step.specs.Ready.{IsReady};
+ghost use Rattle.vm_tree_laws.specs.May.{IsProved};
+ghost use Rattle.vm_tree_model.specs.Node.{Covers};
+ghost use Rattle.vm_tree_model.specs.Page.{node_of};
+ghost use Rattle.vm_tree_read.specs.Reads.{IsAnswered};
+ghost use Rattle.vm_tree_rule.specs.Leaves.{ReadsOn};
+ghost use Rattle.vm_tree_rule.specs.Standing.{Awaits, IsOpened};
+ghost use Rattle.vm_tree_rule.specs.Turns.{IsTurn};
+
+use vm_block::Block;
+use vm_guard::{Deny, OptGuard};
+use vm_map::call::{Reply, Said};
+use vm_node::{covers, is_leaf};
+use vm_page::PageBuf;
+use vm_rule::words::{Pass, Words};
+use vm_step::Saw;
+use vm_tree_rule::{Tree, Turn, descend};
+
+/// Descends to the leaf that covers the key, and reads its words into the page. They are a leaf's that covers the key, and its guard is still
+/// open: they have to be validated.
+pub fn leaf_of<B: Block>(
+    words: &Words<Tree, B>,
+    pass: &mut Pass<Tree>,
+    key: u64,
+    page: &mut PageBuf,
+) -> Result<OptGuard, Turn>
+    requires pass { MayStep words.now.table.shared.table_id pass.old }
+    requires tells { B.tells ≡ true }
+    requires pages { 1 ≤ words.now.table.shared.key.pages }
+    requires size { length page.old ≡ 64 }
+    ensures size { length page.new ≡ 64 }
+    ensures pass { IsSamePass pass.old pass.new }
+    ensures ready { IsReady words.now.table.shared.key B.tells words.now.table.shared.table_id pass.new }
+    ensures reads { IfOk result (λ guard. ReadsOn (view pass.old) (view pass.new) × IsOpened (view pass.old) guard.pid guard.word guard.frame (view pass.new)) }
+    ensures loads { IfOk result (λ guard. (before : _) × (loads_at (view pass.new) guard.pid ≡ before ++ placed 0 page.new)) }
+    ensures leaf { IfOk result (λ _. ((node_of page.new).tag ≡ 2) × Covers (node_of page.new) key) }
+    ensures awaits { IfOk result (λ guard. Awaits (view pass.new) guard.pid guard.word 0 key) }
+    ensures err { IfErr result (λ turn. IsTurn (view pass.old) key turn (view pass.new)) }
+{
+    let guard = match descend(words, pass, key, page) {
+        Ok(guard) => guard,
+        Err(turn) => return Err(turn),
+    };
+    if is_leaf(page) {
+        if covers(page, key) {
+            return Ok(guard);
+        }
+    }
+    match guard.validate_silently(words, pass) {
+        Ok(()) => unreachable!(),
+        Err(saw) => Err(Turn::Again(saw)),
+    }
+}
+
+/// Validates the leaf whose words stand in the page, and makes what they prove an entry of the history.
+pub fn answer<B: Block>(
+    words: &Words<Tree, B>,
+    pass: &mut Pass<Tree>,
+    guard: &OptGuard,
+    page: &PageBuf,
+    said: Said,
+) -> Result<Reply, Saw>
+    requires ready { IsReady words.now.table.shared.key B.tells words.now.table.shared.table_id pass.old }
+    requires tells { B.tells ≡ true }
+    requires reading { IsReading guard.now.pid guard.now.word guard.now.frame (view pass.old) }
+    requires size { length page.now ≡ 64 }
+    requires loads { (before : _) × (loads_at (view pass.old) guard.now.pid ≡ before ++ placed 0 page.now) }
+    requires proves { ((node_of page.now).tag ≡ 2) × IsProved page.now said.call said.reply }
+    ensures pass { IsSamePass pass.old pass.new }
+    ensures ready { IsReady words.now.table.shared.key B.tells words.now.table.shared.table_id pass.new }
+    ensures reply { IfOk result (λ reply. reply ≡ said.reply) }
+    ensures ok { IfOk result (λ _. IsAnswered said (view pass.old) (view pass.new)) }
+    ensures err { IfErr result (λ saw. IsDenied AgainOrNeed (KeptWord guard.now.word) NoneExpected guard.now.pid (Deny.Again saw) (view pass.old) (view pass.new)) }
+{
+    match guard.validate(words, pass, Some(&said)) {
+        Ok(()) => {
+            let Said { call: _, reply } = said;
+            Ok(reply)
+        }
+        Err(saw) => Err(saw),
+    }
+}

@@ -1,0 +1,121 @@
+// The reads that wait: they try again until they are answered, and bring the pages that they need.
+ghost use Rattle.std.specs.Prelude.{◌≡◌, ◌<◌, ◌≤◌, IfErr, IfOk, None, true};
+ghost use Rattle.vm_step.specs.HeldFrames.{AreHeld};
+ghost use Rattle.vm_map.specs.declared.call.Call.TheVariants.{Get, Window as ForWindow};
+ghost use Rattle.vm_step.specs.Passes.{IsSamePass, view};
+ghost use Rattle.vm_step.specs.Ready.{IsReady};
+ghost use Rattle.vm_tree_read.specs.Waiting.{IsFaultOf, IsFaulted, IsReplied, Waits};
+
+use crate::read::{TryRead, try_get, try_window};
+use crossbeam_utils::Backoff;
+use std::sync::Wait;
+use vm_block::Block;
+use vm_exmap::Interface;
+use vm_map::call::Reply;
+use vm_pool::{Bring, Pool};
+use vm_rule::words::Pass;
+use vm_tree_rule::{Tree, TreeFault};
+
+/// Brings the page that a try needs, or backs off.
+pub fn fetch<B: Block>(
+    pool: &Pool<Tree, B>,
+    pass: &mut Pass<Tree>,
+    iface: &mut Interface,
+    pid: u32,
+    backoff: &Backoff,
+) -> Result<(), TreeFault>
+    requires ready { IsReady pool.now.words.table.shared.key B.tells pool.now.words.table.shared.table_id pass.old }
+    requires home { (view pass.old).out ≡ None }
+    requires frames { AreHeld iface.old.frames (view pass.old) }
+    requires page { pid < pool.now.words.table.shared.key.pages }
+    ensures pass { IsSamePass pass.old pass.new }
+    ensures ready { IsReady pool.now.words.table.shared.key B.tells pool.now.words.table.shared.table_id pass.new }
+    ensures held { AreHeld iface.new.frames (view pass.new) }
+    ensures iface { (iface.new.home ≡ iface.old.home) × (iface.new.cap ≡ iface.old.cap) }
+    ensures waits { Waits (view pass.old) (view pass.new) }
+    ensures err { IfErr result (λ fault. IsFaultOf pid fault (view pass.old) (view pass.new)) }
+{
+    match pool.bring(pass, iface, pid) {
+        Bring::Brought => Ok(()),
+        Bring::Again(_) => {
+            backoff.snooze();
+            Ok(())
+        }
+        Bring::Dry { looks: _ } => {
+            backoff.snooze();
+            Ok(())
+        }
+        Bring::Worn(pid) => Err(TreeFault::Worn { pid }),
+        Bring::Device { pid, count } => Err(TreeFault::Device { pid, count }),
+    }
+}
+
+/// The value at the key.
+pub fn get<R: Wait, B: Block>(
+    rt: &R,
+    pool: &Pool<Tree, B>,
+    pass: &mut Pass<Tree>,
+    iface: &mut Interface,
+    key: u64,
+) -> Result<Reply, TreeFault>
+    requires ready { IsReady pool.now.words.table.shared.key B.tells pool.now.words.table.shared.table_id pass.old }
+    requires tells { B.tells ≡ true }
+    requires pages { 1 ≤ pool.now.words.table.shared.key.pages }
+    requires home { (view pass.old).out ≡ None }
+    requires frames { AreHeld iface.old.frames (view pass.old) }
+    ensures pass { IsSamePass pass.old pass.new }
+    ensures ready { IsReady pool.now.words.table.shared.key B.tells pool.now.words.table.shared.table_id pass.new }
+    ensures held { AreHeld iface.new.frames (view pass.new) }
+    ensures iface { (iface.new.home ≡ iface.old.home) × (iface.new.cap ≡ iface.old.cap) }
+    ensures ok { IfOk result (λ reply. IsReplied (record { call = Get key; reply = reply }) (view pass.old) (view pass.new)) }
+    ensures err { IfErr result (λ fault. IsFaulted key fault (view pass.old) (view pass.new)) }
+{
+    let backoff = Backoff::new();
+    for _ in rt.forever() {
+        match try_get(&pool.words, pass, key) {
+            TryRead::Done(reply) => return Ok(reply),
+            TryRead::Again(_) => backoff.snooze(),
+            TryRead::Need(pid) => match fetch(pool, pass, iface, pid, &backoff) {
+                Ok(()) => {}
+                Err(fault) => return Err(fault),
+            },
+        }
+    }
+    unreachable!()
+}
+
+/// The first pairs from the key `start` on, at most `most` (1 or more) of them and at most those of one leaf.
+pub fn window<R: Wait, B: Block>(
+    rt: &R,
+    pool: &Pool<Tree, B>,
+    pass: &mut Pass<Tree>,
+    iface: &mut Interface,
+    start: u64,
+    most: u32,
+) -> Result<Reply, TreeFault>
+    requires ready { IsReady pool.now.words.table.shared.key B.tells pool.now.words.table.shared.table_id pass.old }
+    requires tells { B.tells ≡ true }
+    requires pages { 1 ≤ pool.now.words.table.shared.key.pages }
+    requires most { 1 ≤ most }
+    requires home { (view pass.old).out ≡ None }
+    requires frames { AreHeld iface.old.frames (view pass.old) }
+    ensures pass { IsSamePass pass.old pass.new }
+    ensures ready { IsReady pool.now.words.table.shared.key B.tells pool.now.words.table.shared.table_id pass.new }
+    ensures held { AreHeld iface.new.frames (view pass.new) }
+    ensures iface { (iface.new.home ≡ iface.old.home) × (iface.new.cap ≡ iface.old.cap) }
+    ensures ok { IfOk result (λ reply. IsReplied (record { call = ForWindow start most; reply = reply }) (view pass.old) (view pass.new)) }
+    ensures err { IfErr result (λ fault. IsFaulted start fault (view pass.old) (view pass.new)) }
+{
+    let backoff = Backoff::new();
+    for _ in rt.forever() {
+        match try_window(&pool.words, pass, start, most) {
+            TryRead::Done(reply) => return Ok(reply),
+            TryRead::Again(_) => backoff.snooze(),
+            TryRead::Need(pid) => match fetch(pool, pass, iface, pid, &backoff) {
+                Ok(()) => {}
+                Err(fault) => return Err(fault),
+            },
+        }
+    }
+    unreachable!()
+}

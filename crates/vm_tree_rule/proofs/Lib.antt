@@ -1,0 +1,4 @@
+pub mod Readings
+pub mod Entering
+pub mod Downward
+pub mod Onward

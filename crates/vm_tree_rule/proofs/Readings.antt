@@ -1,0 +1,158 @@
+-- What reads of pages leave of the view, one after the other.
+use Rattle.std.proofs.Common.{ℕ, ◌≡◌, ◌≢◌, ◌<◌, ◌+◌, List, [], ◌∷◌, ◌++◌, Some, None, Option, length, zero, suc, refl, sym, ap, subst, ◌∙◌, append_assoc, slice_index, arith, get_or, Result, Ok, Err, IfOk, IfErr}
+use Rattle.std.proofs.lemmas.Grind.{same_number_lists}
+use Rattle.vm_core.specs.declared.event.Open.{Open}
+use Rattle.vm_core.specs.Inv.{LoadsAre}
+use Rattle.vm_core.specs.Words.{version_of}
+use Rattle.vm_owner.specs.Kept.{Start}
+use Rattle.vm_rule.specs.declared.view.Did.{Did}
+use Rattle.vm_rule.specs.declared.view.Tie.{Tie}
+use Rattle.vm_rule.specs.declared.view.Origin.{Origin}
+use Rattle.vm_rule.specs.declared.view.View.{View}
+use Rattle.vm_rule.specs.Views.{Each, IsLocking, seat_of, loads_at}
+use Rattle.vm_rule.specs.Rule.{began_of}
+use Rattle.vm_rule.specs.Locks.{Validates}
+use Rattle.vm_rule.proofs.Entries.{append-none}
+use Rattle.vm_step.specs.Asides.{HoldsPage, ReadsAsBefore}
+use Rattle.vm_step.proofs.Asides.{starts-then, alone-self, alone-then, holds-then, knows-then, still-locking}
+use Rattle.vm_guard.specs.Quiet.{IsQuiet}
+use Rattle.vm_guard.specs.Guards.{Begins, IsReading, IsValid, placed}
+use Rattle.vm_guard.proofs.Reading.{reading-kept}
+use Rattle.vm_tree_rule.specs.Leaves.{OnlyReads, ReadsOn}
+use Rattle.vm_tree_rule.specs.Standing.{IsOpened}
+
+-- the words of a page are those that were loaded from each place of it
+loaded-at : (words : List ℕ) (n : ℕ) (xs : List ℕ) → LoadsAre words (placed n xs) → (k : ℕ) → k < length xs → slice_index words (n + k) ≡ slice_index xs k
+loaded-at words n [] h k l = absurd (omega arith)
+loaded-at words n (x ∷ xs) h zero l = ap (slice_index words) (omega arith) ∙ h.0
+loaded-at words n (x ∷ xs) h (suc k) l = ap (slice_index words) (omega arith) ∙ loaded-at words (suc n) xs h.1 k (omega arith)
+
+pub placed-are : (words xs : List ℕ) → length words ≡ length xs → LoadsAre words (placed 0 xs) → words ≡ xs
+placed-are words xs long h = same_number_lists words xs long (λ k l. ap (slice_index words) (omega arith) ∙ loaded-at words 0 xs h k (omega (arith, l, long)))
+
+pub loads-behind : (words : List ℕ) (l m : List (ℕ × ℕ)) → LoadsAre words (l ++ m) → LoadsAre words m
+loads-behind words [] m h = h
+loads-behind words (x ∷ l) m h = loads-behind words l m h.1
+
+pub each-behind : {A : Type 0} (Q : A → Type 0) (l m : List A) → Each Q (l ++ m) → Each Q m
+each-behind Q [] m all = all
+each-behind Q (x ∷ l) m all = each-behind Q l m all.1
+
+pub ok-then : {T E : Type 0} (r : Result T E) {P Q : T → Type 0} → IfOk r P → ((x : T) → P x → Q x) → IfOk r Q
+ok-then (Ok x) h f = f x h
+ok-then (Err e) h f = tt
+
+pub err-then : {T E : Type 0} (r : Result T E) {P Q : E → Type 0} → IfErr r P → ((x : E) → P x → Q x) → IfErr r Q
+err-then (Ok x) h f = tt
+err-then (Err e) h f = f e h
+
+module _ {X : Type 0} where
+  pub reads-self : (v : View X) → ReadsOn v v
+  reads-self v = (
+    record {
+      done = [];
+      log = sym (append-none v.log);
+      live = refl;
+      start = refl;
+      parts = (refl, refl);
+      seen = ([], sym (append-none v.seen));
+      releases = ([], sym (append-none v.releases));
+      frames = (refl, refl);
+      out = refl;
+      notes = refl;
+      ties = ([], refl);
+      group = (refl, refl, refl);
+      holds = λ q. record { shares = refl; exclusive = refl; writing = refl };
+      knows = λ q l. record { held = refl; draft = refl; last = refl };
+      alone = alone-self v;
+    },
+    refl,
+  )
+
+  pub only-then : (u v w : View X) → OnlyReads u v → OnlyReads v w → OnlyReads u w
+  only-then u v w f g = record {
+    done = f.done ++ g.done;
+    log = g.log ∙ ap (λ (t : List Did). t ++ g.done) f.log ∙ append_assoc u.log f.done g.done;
+    live = g.live ∙ f.live;
+    start = g.start ∙ f.start;
+    parts = (g.parts.0 ∙ f.parts.0, g.parts.1 ∙ f.parts.1);
+    seen = starts-then u.seen v.seen w.seen f.seen g.seen;
+    releases = starts-then u.releases v.releases w.releases f.releases g.releases;
+    frames = (g.frames.0 ∙ f.frames.0, g.frames.1 ∙ f.frames.1);
+    out = g.out ∙ f.out;
+    notes = g.notes ∙ f.notes;
+    ties = (g.ties.0 ++ f.ties.0, g.ties.1 ∙ ap (λ (t : List Tie). g.ties.0 ++ t) f.ties.1 ∙ sym (append_assoc g.ties.0 f.ties.0 u.ties));
+    group = (g.group.0 ∙ f.group.0, g.group.1 ∙ f.group.1, g.group.2 ∙ f.group.2);
+    holds = λ q. holds-then u v w q (f.holds q) (g.holds q);
+    knows = λ q l. knows-then u v w q (f.knows q l) (g.knows q (still-locking u v q (f.holds q) l));
+    alone = alone-then u v w f.parts f.alone g.alone;
+  }
+
+  pub reads-then : (u v w : View X) → ReadsOn u v → ReadsOn v w → ReadsOn u w
+  reads-then u v w f g = (only-then u v w f.0 g.0, g.1 ∙ f.1)
+
+  pub quiet-reads : (p : ℕ) (done : List Did) (v w : View X) → IsQuiet p done v w → ReadsOn v w
+  quiet-reads p done v w q = (
+    record {
+      done = done;
+      log = q.steady.log;
+      live = q.steady.live;
+      start = q.steady.start;
+      parts = q.steady.parts;
+      seen = q.steady.seen;
+      releases = q.steady.releases;
+      frames = q.steady.frames;
+      out = q.steady.out;
+      notes = q.steady.notes;
+      ties = q.steady.ties;
+      group = q.group;
+      holds = q.holds;
+      knows = q.knows;
+      alone = q.alone;
+    },
+    q.mine,
+  )
+
+  module _ (tied : Start → ℕ → List ℕ → ℕ → List ℕ → Type 0) (p word frame : ℕ) where
+    pub valid-only : (said : Option X) (v w : View X) → IsValid tied p word frame said v w → OnlyReads v w
+    valid-only said v w k = record {
+      done = k.done;
+      log = k.steady.log;
+      live = k.steady.live;
+      start = k.steady.start;
+      parts = k.steady.parts;
+      seen = k.steady.seen;
+      releases = k.steady.releases;
+      frames = k.steady.frames;
+      out = k.steady.out;
+      notes = k.steady.notes;
+      ties = k.steady.ties;
+      group = k.group;
+      holds = k.holds;
+      knows = k.knows;
+      alone = k.alone;
+    }
+
+    pub valid-reads : (v w : View X) → IsValid tied p word frame None v w → ReadsOn v w
+    valid-reads v w k = (valid-only None v w k, k.mine ∙ append-none v.mine)
+
+    -- what a validation proves after steps that left the page's read as it was, it proves of the view before them
+    pub validates-back : (words : List ℕ) (v w : View X) → OnlyReads v w → ReadsAsBefore v w p → Validates tied p (version_of word) words w → Validates tied p (version_of word) words v
+    validates-back words v w reads same k = record {
+      valid = λ o e n. subst (LoadsAre words) same.loads (k.valid o (same.reading ∙ e) n);
+      holds =
+          subst (λ (s : Origin). Each (λ (t : Tie). t.page ≡ p → t.version ≡ version_of word → tied (began_of s) t.of t.words p words) v.ties) reads.start
+          (each-behind (λ (t : Tie). t.page ≡ p → t.version ≡ version_of word → tied (began_of w.start) t.of t.words p words) reads.ties.0 v.ties
+          (subst (λ (l : List Tie). Each (λ (t : Tie). t.page ≡ p → t.version ≡ version_of word → tied (began_of w.start) t.of t.words p words) l) reads.ties.1 k.holds));
+      itself = subst (λ (s : Origin). tied (began_of s) p words p words) reads.start k.itself;
+    }
+
+  -- the read of page p stays open over calls on another page
+  pub reading-beside : (p word frame q : ℕ) (done : List Did) (v w : View X) → p ≢ q → IsQuiet q done v w → IsReading p word frame v → IsReading p word frame w
+  reading-beside p word frame q done v w ne k r = reading-kept p word frame v w r k.steady.start (k.holds p) (λ l. (k.knows p l).held) (k.others p ne).reading
+
+  pub opened-later : (p word frame : ℕ) (v x y : View X) → IsOpened v p word frame x → ReadsOn x y → IsReading p word frame y → IsOpened v p word frame y
+  opened-later p word frame v x y o reads reading = record { before = o.before; after = o.after; earlier = o.earlier; begins = o.begins; since = reads-then o.after x y o.since reads; reading = reading }
+
+  pub opened-earlier : (p word frame : ℕ) (u v x : View X) → ReadsOn u v → IsOpened v p word frame x → IsOpened u p word frame x
+  opened-earlier p word frame u v x reads o = record { before = o.before; after = o.after; earlier = reads-then u v o.before reads o.earlier; begins = o.begins; since = o.since; reading = o.reading }

@@ -1,0 +1,62 @@
+use Rattle.std.proofs.Common.{ℕ, ◌≡◌, ◌∙◌, ◌+◌, ◌-◌, ◌<◌, ◌≤◌, suc, refl, sym, subst, arith}
+use Rattle.vm_step.specs.Passes.{view}
+use Rattle.vm_tree_rule.specs.Standing.{Awaits}
+use Rattle.vm_tree_rule.proofs.Readings.{opened-earlier, opened-later, quiet-reads, reads-then}
+use Rattle.vm_tree_rule.proofs.Downward.{awaits-later}
+use Rattle.vm_tree_rule.proofs.descent.descend.Goals as goal
+
+whole : (n : ℕ) → n ≡ n - 0
+whole n = omega arith
+
+one-less : (n i : ℕ) → i < n → n - i ≡ suc (n - (i + 1))
+one-less n i l = omega (arith, l)
+
+none-left : (n i : ℕ) → n ≤ i → n - i ≡ 0
+none-left n i l = omega (arith, l)
+
+pub loop-init : goal.loop-init
+loop-init g c = record {
+  same = c.in-Ok.ensures.pass;
+  ready = c.in-Ok.ensures.ready;
+  size = c.requires.size;
+  reads = c.in-Ok.ensures.reads;
+  opened = c.in-Ok.ensures.ok.0;
+  left = omega arith;
+  awaits = subst (λ n. Awaits (view c.enter_root.new.pass) c.in-Ok.top.guard.pid c.in-Ok.top.guard.word n c.args.key) (whole c.in-Ok.top.level) c.in-Ok.ensures.ok.1;
+}
+
+pub go_down-requires-clause-awaits : goal.go_down-requires-clause-awaits
+go_down-requires-clause-awaits g c = (
+  c.in-Ok.top.level - (c.loop.counter + 1),
+  subst (λ n. Awaits (view c.loop.pass) c.loop.guard.pid c.loop.guard.word n c.args.key) (one-less c.in-Ok.top.level c.loop.counter c.loop-test.true) c.loop.invariant.awaits,
+)
+
+pub loop-preserved : goal.loop-preserved
+loop-preserved g c =
+    let k = c.in-Ok-go_down.ensures in
+    let i = c.loop.invariant in
+    let less = c.loop-test.true in
+    record {
+      same = (k.pass.0 ∙ i.same.0, k.pass.1 ∙ i.same.1);
+      ready = k.ready;
+      size = k.size;
+      reads = reads-then _ _ _ i.reads k.reads.0;
+      opened = opened-earlier _ _ _ _ _ _ i.reads k.reads.1;
+      left = omega (arith, less);
+      awaits =
+          k.awaits (c.in-Ok.top.level - (c.loop.counter + 1))
+          (subst (λ n. Awaits (view c.loop.pass) c.loop.guard.pid c.loop.guard.word n c.args.key) (one-less c.in-Ok.top.level c.loop.counter less) i.awaits);
+    }
+
+pub returns-clause-reads : goal.returns-clause-reads
+returns-clause-reads g c =
+    let loads = c.read_all.ensures.loads in
+    let reads = quiet-reads _ _ _ _ loads.quiet in (
+      reads-then _ _ _ c.loop.invariant.reads reads,
+      opened-later _ _ _ _ _ _ c.loop.invariant.opened reads loads.reads,
+    )
+
+pub returns-clause-awaits : goal.returns-clause-awaits
+returns-clause-awaits g c =
+    awaits-later _ _ _ _ _ _ (quiet-reads _ _ _ _ c.read_all.ensures.loads.quiet).0
+    (subst (λ n. Awaits (view c.loop.pass) c.loop.guard.pid c.loop.guard.word n c.args.key) (none-left c.in-Ok.top.level c.loop.counter c.loop-test.false) c.loop.invariant.awaits)

@@ -1,0 +1,18 @@
+use Rattle.std.proofs.Common.{◌≡◌, ◌≤◌, ◌-◌, length}
+use Rattle.vm_step.specs.Passes.{IsSamePass, view}
+use Rattle.vm_step.specs.Ready.{IsReady}
+use Rattle.vm_tree_rule.specs.Leaves.{ReadsOn}
+use Rattle.vm_tree_rule.specs.Standing.{Awaits, IsOpened}
+use Rattle.vm_tree_rule.proofs.descent.descend.Given as goal
+
+-- the page on the way is read, and its level is the number of steps that are left
+abbrev pub invariant-loop : goal.invariant-loop
+invariant-loop g l = record {
+  same : IsSamePass l.fn.pass l.pass;
+  ready : IsReady l.words.table.shared.key g.B.Block.tells l.words.table.shared.table_id l.pass;
+  size : length l.page ≡ 64;
+  reads : ReadsOn (view l.fn.pass) (view l.pass);
+  opened : IsOpened (view l.fn.pass) l.guard.pid l.guard.word l.guard.frame (view l.pass);
+  left : l.counter ≤ l.end;
+  awaits : Awaits (view l.pass) l.guard.pid l.guard.word (l.end - l.counter) l.key;
+}

@@ -1,0 +1,23 @@
+use Rattle.std.proofs.Common.{ℕ, List, ◌≡◌, ◌≤◌, ◌<◌, ◌-◌, length}
+use Rattle.vm_step.specs.Passes.{IsSamePass, view}
+use Rattle.vm_step.specs.Ready.{IsReady}
+use Rattle.vm_tree_model.specs.Page.{pairs_of}
+use Rattle.vm_tree_rule.specs.Leaves.{ReadsOn}
+use Rattle.vm_tree_rule.specs.Seeks.{ArePassed, HasRead}
+use Rattle.vm_tree_rule.specs.Standing.{Awaits, IsOpened}
+use Rattle.vm_tree_rule.proofs.seek.seek_full.Given as goal
+
+-- the page on the way was read and is not full, and its level is the number of steps that are left
+abbrev pub invariant-loop : goal.invariant-loop
+invariant-loop g l = record {
+  same : IsSamePass l.fn.pass l.pass;
+  ready : IsReady l.words.table.shared.key g.B.Block.tells l.words.table.shared.table_id l.pass;
+  size : (length l.over ≡ 64) × (length l.page ≡ 64);
+  reads : ReadsOn (view l.fn.pass) (view l.pass);
+  opened : IsOpened (view l.fn.pass) l.guard.pid l.guard.word l.guard.frame (view l.pass);
+  read : HasRead (view l.pass) l.guard.pid l.page;
+  room : length (pairs_of l.page) < 28;
+  left : l.counter ≤ l.end;
+  way : (passed : List (ℕ × List ℕ)) × ArePassed (view l.fn.pass) l.key passed l.guard.pid;
+  awaits : Awaits (view l.pass) l.guard.pid l.guard.word (l.end - l.counter) l.key;
+}

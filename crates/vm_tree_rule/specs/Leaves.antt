@@ -1,0 +1,31 @@
+-- What calls leave of a view that read pages of the tree optimistically: the pass holds what it held. The entries of the pass stand beside it.
+use Rattle.std.specs.Prelude.{ℕ, List, ◌++◌, ◌≡◌}
+use Rattle.vm_rule.specs.declared.view.Did.{Did}
+use Rattle.vm_rule.specs.declared.view.Tie.{Tie}
+use Rattle.vm_rule.specs.declared.view.View.{View}
+use Rattle.vm_rule.specs.Views.{StartsWith, IsLocking, seat_of}
+use Rattle.vm_step.specs.Asides.{HoldsPage, KnowsAsBefore, StaysAlone}
+
+module _ {X : Type 0} where
+  -- the calls made these steps and no release; all of the view is as it was but open reads, ties, what the pass has seen of the two lists, and
+  -- its entries
+  pub record OnlyReads (v w : View X) : Type 0 where
+    pub done : List Did
+    pub log : w.log ≡ v.log ++ done
+    pub live : w.live ≡ v.live
+    pub start : w.start ≡ v.start
+    pub parts : (w.used ≡ v.used) × (w.fresh ≡ v.fresh)
+    pub seen : StartsWith w.seen v.seen
+    pub releases : StartsWith w.releases v.releases
+    pub frames : (w.frames ≡ v.frames) × (w.contents ≡ v.contents)
+    pub out : w.out ≡ v.out
+    pub notes : w.notes ≡ v.notes
+    pub ties : (more : List Tie) × (w.ties ≡ more ++ v.ties)
+    pub group : (w.pending ≡ v.pending) × (w.owed ≡ v.owed) × (w.next ≡ v.next)
+    pub holds : (q : ℕ) → HoldsPage v w q
+    pub knows : (q : ℕ) → IsLocking (seat_of v q) → KnowsAsBefore v w q
+    pub alone : StaysAlone v w
+
+  -- they said nothing
+  abbrev pub ReadsOn : View X → View X → Type 0
+  ReadsOn v w = OnlyReads v w × (w.mine ≡ v.mine)

@@ -1,0 +1,4 @@
+pub mod Leaves
+pub mod Seeks
+pub mod Standing
+pub mod Turns

@@ -1,0 +1,88 @@
+-- Words of a draft that are set one after the other.
+use Rattle.std.proofs.Common.{ℕ, Bool, true, false, ◌≡◌, ◌≢◌, ◌<◌, ◌≤◌, ◌+◌, List, [], ◌∷◌, ◌++◌, length, refl, sym, ap, subst, ◌∙◌, slice_index, slice_set, arith, append_assoc, ⊎_elim, get_or-set_other, get_or-set_same}
+use Rattle.std.proofs.lemmas.Bool.{cases_eq}
+use Rattle.vm_rule.specs.declared.view.Did.{Did}
+use Rattle.vm_rule.specs.declared.view.Place.TheVariants as places
+use Rattle.vm_rule.specs.declared.view.View.{View}
+use Rattle.vm_rule.specs.Log.{did_store}
+use Rattle.vm_rule.specs.Views.{Each}
+use Rattle.vm_rule.proofs.Entries.{append-none}
+use Rattle.vm_step.proofs.Asides.{alone-self, alone-then, holds-then, reads-then}
+use Rattle.vm_guard.specs.Guards.{IsSet, dirty_steps}
+use Rattle.vm_guard.proofs.QuietSteps.{elsewhere-then, quiet-elsewhere, quiet-none}
+use Rattle.vm_tree_write.specs.Drafts.{IsRedrafted, SetsDiffering}
+
+module _ {X : Type 0} (p : ℕ) where
+  pub redrafted-self : (v : View X) → IsRedrafted p v v
+  redrafted-self v = record {
+    done = [];
+    elsewhere = quiet-elsewhere p [] v v (quiet-none p v);
+    mine = refl;
+    group = (refl, refl, refl);
+    alone = alone-self v;
+    holds = record { shares = refl; exclusive = refl; writing = refl };
+    reads = record { reading = refl; loads = refl };
+    last = refl;
+  }
+
+  pub set-more : (frame : ℕ) (dirty : Bool) (i x : ℕ) (u v w : View X) → IsRedrafted p u v → IsSet p frame dirty i x v w → IsRedrafted p u w
+  set-more frame dirty i x u v w a s = record {
+    done = a.done ++ s.done;
+    elsewhere = elsewhere-then p a.done s.done u v w a.elsewhere s.elsewhere;
+    mine = s.mine ∙ a.mine;
+    group = (s.group.0 ∙ a.group.0, s.group.1 ∙ a.group.1, s.group.2 ∙ a.group.2);
+    alone = alone-then u v w a.elsewhere.steady.parts a.alone s.alone;
+    holds = holds-then u v w p a.holds s.holds;
+    reads = reads-then u v w p a.reads s.reads;
+    last = s.last ∙ a.last;
+  }
+
+each-append : {A : Type 0} (Q : A → Type 0) (l m : List A) → Each Q l → Each Q m → Each Q (l ++ m)
+each-append Q [] m a b = b
+each-append Q (x ∷ l) m a b = (a.0, each-append Q l m a.1 b)
+
+same-place : (f i g j : ℕ) → places.Content f i ≡ places.Content g j → i ≡ j
+same-place f i g j e = cc
+
+other-place : (p f i : ℕ) → places.Translation p ≡ places.Content f i → ⊥
+other-place p f i e = absurd (cc)
+
+-- the steps that set one word, in which the two pages differ
+set-differs : (p frame : ℕ) (dirty : Bool) (i x : ℕ) (before after : List ℕ) → slice_index before i ≢ slice_index after i
+    → Each (λ (d : Did). (f j : ℕ) → d.at ≡ places.Content f j → slice_index before j ≢ slice_index after j) (dirty_steps p frame dirty ++ did_store (places.Content frame i) x ∷ [])
+set-differs p frame true i x before after ne = ((λ f j e. subst (λ n. slice_index before n ≢ slice_index after n) (same-place frame i f j e) ne), tt)
+set-differs p frame false i x before after ne = ((λ f j e. absurd (other-place p f j e)), ((λ f j e. subst (λ n. slice_index before n ≢ slice_index after n) (same-place frame i f j e) ne), tt))
+
+module _ {X : Type 0} (before after : List ℕ) where
+  pub differs-self : (v : View X) → SetsDiffering before after v v
+  differs-self v = record { done = []; log = sym (append-none v.log); differ = tt }
+
+  pub differs-more : (p frame : ℕ) (dirty : Bool) (i x : ℕ) (u v w : View X) → SetsDiffering before after u v → IsSet p frame dirty i x v w → slice_index before i ≢ slice_index after i → SetsDiffering before after u w
+  differs-more p frame dirty i x u v w a s ne = record {
+    done = a.done ++ s.done;
+    log = s.elsewhere.steady.log ∙ ap (λ (t : List Did). t ++ s.done) a.log ∙ append_assoc u.log a.done s.done;
+    differ = each-append (λ (d : Did). (f j : ℕ) → d.at ≡ places.Content f j → slice_index before j ≢ slice_index after j) a.done s.done a.differ
+        (subst (Each (λ (d : Did). (f j : ℕ) → d.at ≡ places.Content f j → slice_index before j ≢ slice_index after j)) (sym s.steps) (set-differs p frame dirty i x before after ne));
+  }
+
+-- a word that was set
+pub set-below : (i x : ℕ) (draft draft' after : List ℕ) → length draft ≡ 64 → i < 64 → draft' ≡ slice_set draft i x → x ≡ slice_index after i → ((k : ℕ) → k < i → slice_index draft k ≡ slice_index after k)
+    → (k : ℕ) → k < i + 1 → slice_index draft' k ≡ slice_index after k
+set-below i x draft draft' after long inside is word below k l =
+    ap (λ (t : List ℕ). slice_index t k) is
+    ∙ ⊎_elim
+    (λ (e : k ≡ i). ap (λ (n : ℕ). slice_index (slice_set draft i x) n) e ∙ get_or-set_same draft i x 0 (omega (arith, long, inside)) ∙ word ∙ ap (λ (n : ℕ). slice_index after n) (sym e))
+    (λ ne. get_or-set_other draft i k x 0 ne ∙ below k (omega (arith, l, ne)))
+    (cases_eq k i)
+
+pub set-above : (i x : ℕ) (draft draft' before : List ℕ) → draft' ≡ slice_set draft i x → ((k : ℕ) → i ≤ k → slice_index draft k ≡ slice_index before k) → (k : ℕ) → i + 1 ≤ k → slice_index draft' k ≡ slice_index before k
+set-above i x draft draft' before is above k l = ap (λ (t : List ℕ). slice_index t k) is ∙ get_or-set_other draft i k x 0 (λ e. omega (arith, e, l)) ∙ above k (omega (arith, l))
+
+-- a word that was the same already
+pub same-below : (i : ℕ) (draft before after : List ℕ) → slice_index after i ≡ slice_index before i → ((k : ℕ) → k < i → slice_index draft k ≡ slice_index after k) → ((k : ℕ) → i ≤ k → slice_index draft k ≡ slice_index before k)
+    → (k : ℕ) → k < i + 1 → slice_index draft k ≡ slice_index after k
+same-below i draft before after same below above k l =
+    ⊎_elim
+    (λ (e : k ≡ i). above k (omega (arith, e)) ∙ ap (λ (n : ℕ). slice_index before n) e ∙ sym same ∙ ap (λ (n : ℕ). slice_index after n) (sym e))
+    (λ ne. below k (omega (arith, l, ne)))
+    (cases_eq k i)

@@ -1,0 +1,150 @@
+-- Frames for fresh pages: one allocation, and a second one for what is missing.
+use Rattle.std.proofs.Common.{ℕ, List, [], ◌∷◌, ◌++◌, ◌≡◌, ◌<◌, ◌||◌, true, false, refl, sym, ap, subst, ◌∙◌, inl, inr, append_assoc, eqb, reverse, if◌then◌else◌, ⊎_elim, true≢false}
+use Rattle.std.proofs.lemmas.Bool.{cases_Bool, cases_eq, eq-eqb, ne_eqb, or_left, or_right}
+use Rattle.std.proofs.lemmas.List.{reverse-append}
+use Rattle.vm_owner.specs.Numbers.{has}
+use Rattle.vm_map.specs.declared.call.Said.{Said}
+use Rattle.vm_rule.specs.declared.view.Did.{Did}
+use Rattle.vm_rule.specs.declared.view.View.{View}
+use Rattle.vm_rule.specs.Bundles.{frames_in}
+use Rattle.vm_rule.specs.Releases.{without_all}
+use Rattle.vm_rule.specs.Views.{Each}
+use Rattle.vm_rule.specs.Puts.{put_at}
+use Rattle.vm_core.specs.Start.{no_seat}
+use Rattle.vm_rule.proofs.Bundled.{has-without_all}
+use Rattle.vm_rule.proofs.Entries.{append-none}
+use Rattle.vm_rule.proofs.Facts.{has-both}
+use Rattle.vm_step.proofs.Asides.{starts-then, holds-then}
+use Rattle.vm_exmap.specs.declared.interface.Alloc.{Alloc}
+use Rattle.vm_exmap.specs.declared.interface.Alloc.TheVariants as allocs
+use Rattle.vm_exmap.specs.Frames.{MovesFrames}
+use Rattle.vm_step.specs.HeldFrames.{AreHeld}
+use Rattle.vm_exmap.specs.Returns.{IsFreed}
+use Rattle.vm_exmap.specs.Walks.{IsAlloc, IsRefused}
+use Rattle.vm_exmap.proofs.FrameMoves.{moved-nothing, moved-then}
+use Rattle.vm_exmap.proofs.Handing.{apart-join, apart-not, each-has, each-join, each-of, held-on, held-rest, held-swap}
+use Rattle.vm_tree_write.specs.Splits.{KeepsAll}
+
+pub keeps-self : (v : View Said) → KeepsAll v v
+keeps-self v = record {
+  start = refl;
+  parts = (refl, refl);
+  mine = refl;
+  seen = ([], sym (append-none v.seen));
+  log = ([], sym (append-none v.log));
+  out = refl;
+  pending = refl;
+  owed = refl;
+  holds = λ q. record { shares = refl; exclusive = refl; writing = refl };
+}
+
+pub keeps-then : (u v w : View Said) → KeepsAll u v → KeepsAll v w → KeepsAll u w
+keeps-then u v w f g = record {
+  start = g.start ∙ f.start;
+  parts = (g.parts.0 ∙ f.parts.0, g.parts.1 ∙ f.parts.1);
+  mine = g.mine ∙ f.mine;
+  seen = starts-then u.seen v.seen w.seen f.seen g.seen;
+  log = starts-then u.log v.log w.log f.log g.log;
+  out = g.out ∙ f.out;
+  pending = g.pending ∙ f.pending;
+  owed = g.owed ∙ f.owed;
+  holds = λ q. holds-then u v w q (f.holds q) (g.holds q);
+}
+
+pub moves-keep : (done : List Did) (v w : View Said) → MovesFrames done v w → KeepsAll v w
+moves-keep done v w m = record {
+  start = m.start;
+  parts = m.parts;
+  mine = m.mine;
+  seen = m.seen;
+  log = (done, m.log);
+  out = m.out;
+  pending = m.group.0;
+  owed = m.group.1;
+  holds = λ q. record { shares = ap (λ s. (put_at no_seat s q).shares) m.pages.0; exclusive = ap (λ s. (put_at no_seat s q).exclusive) m.pages.0; writing = ap (λ s. (put_at no_seat s q).writing) m.pages.0 };
+}
+
+pub alloc-keeps : (home cap n : ℕ) (old new : List ℕ) (v w : View Said) (a : Alloc) → IsAlloc home cap n old new v w a → KeepsAll v w
+alloc-keeps home cap n old new v w (allocs.Batch batch) (inl own) = subst (λ (y : View Said). KeepsAll v y) (sym own.same) (keeps-self v)
+alloc-keeps home cap n old new v w (allocs.Batch batch) (inr taken) = moves-keep _ v w taken.moves
+alloc-keeps home cap n old new v w allocs.Dry dry = moves-keep _ v w dry.refused.moves
+alloc-keeps home cap n old new v w (allocs.Again saw) lost = moves-keep _ v w lost.refused.moves
+
+pub freed-keeps : (cap : ℕ) (old frames new : List ℕ) (v w : View Said) → IsFreed cap old frames new v w → KeepsAll v w
+freed-keeps cap old frames new v w f = moves-keep f.back.done v w f.back.moves
+
+-- ---- frames that are taken
+
+-- frames were moved, and the pass has all that it had
+pub record HasMore (v w : View Said) : Type 0 where
+  pub done : List Did
+  pub moves : MovesFrames done v w
+  pub more : (f : ℕ) → has f v.frames ≡ true → has f w.frames ≡ true
+
+pub alloc-more : (home cap n : ℕ) (old new batch : List ℕ) (v w : View Said) → IsAlloc home cap n old new v w (allocs.Batch batch) → HasMore v w
+alloc-more home cap n old new batch v w (inl own) = record {
+  done = [];
+  moves = subst (λ (y : View Said). MovesFrames [] v y) (sym own.same) (moved-nothing v);
+  more = λ f h. ap (λ (y : View Said). has f y.frames) own.same ∙ h;
+}
+alloc-more home cap n old new batch v w (inr t) = record {
+  done = t.done;
+  moves = t.moves;
+  more = λ f h. ap (has f) t.takes.frames ∙ has-both f (frames_in t.g t.mask) v.frames ∙ or_right (has f (frames_in t.g t.mask)) (has f v.frames) h;
+}
+
+pub more-then : (v x w : View Said) → HasMore v x → (m : (done : List Did) × MovesFrames done x w) → (done : List Did) × MovesFrames done v w
+more-then v x w a m = (a.done ++ m.0, moved-then a.done m.0 v x w a.moves m.1 (λ f h k. a.more f h))
+
+-- frames that are held beside the interface's are held beside those that it hands out then
+pub alloc-beside : (home cap n : ℕ) (l old new batch : List ℕ) (v w : View Said) → AreHeld (l ++ old) v → AreHeld (batch ++ new) w → IsAlloc home cap n old new v w (allocs.Batch batch) → AreHeld ((l ++ batch) ++ new) w
+alloc-beside home cap n l old new batch v w h k (inl own) =
+    subst (λ (y : View Said). AreHeld ((l ++ batch) ++ new) y) (sym own.same)
+    (subst (λ (m : List ℕ). AreHeld m v) (ap (λ (m : List ℕ). l ++ m) own.hands.all ∙ sym (append_assoc l batch new)) h)
+alloc-beside home cap n l old new batch v w h k (inr t) =
+    let left : AreHeld l v = held-rest old l v (held-swap l old v h) in
+    let taken : List ℕ = frames_in t.g t.mask in
+    let more = alloc-more home cap n old new batch v w (inr t) in
+    let not : (f : ℕ) → has f l ≡ true → has f (batch ++ new) ≡ false = λ f e.
+    ⊎_elim (λ (there : has f (batch ++ new) ≡ true).
+    let free = each-of (λ q. has q v.frames ≡ false) taken f t.takes.new (ap (has f) t.hands.all ∙ there) in
+    absurd (true≢false (sym (each-of (λ q. has q v.frames ≡ true) l f left.held e) ∙ free)))
+    (λ no. no) (cases_Bool (has f (batch ++ new))) in
+    subst (λ (m : List ℕ). AreHeld m w) (sym (append_assoc l batch new))
+    (record {
+      apart = apart-join l (batch ++ new) left.apart k.apart not;
+      inside = each-join (λ f. f < w.start.frames) l (batch ++ new) (subst (λ o. Each (λ f. f < o.frames) l) (sym t.moves.start) left.inside) k.inside;
+      held = each-join (λ f. has f w.frames ≡ true) l (batch ++ new) (each-has (λ f. has f w.frames ≡ true) l (λ f e. more.more f (each-of (λ q. has q v.frames ≡ true) l f left.held e))) k.held;
+    })
+
+-- they stay so where nothing was handed out
+pub refused-beside : (l old new : List ℕ) (done : List Did) (v w : View Said) → AreHeld (l ++ old) v → IsRefused done old new v w → AreHeld (new ++ l) w
+refused-beside l old new done v w h r =
+    subst (λ (m : List ℕ). AreHeld (m ++ l) w) (sym r.same)
+    (held-on l v w (subst (λ (m : List ℕ). AreHeld m v) (ap (λ (m : List ℕ). l ++ m) r.none ∙ append-none l) h) r.moves.start r.frames)
+
+-- ---- frames that fresh pages took
+
+in-reverse : (f : ℕ) (l : List ℕ) → has f l ≡ true → has f (reverse l) ≡ true
+in-reverse f [] e = absurd (true≢false (sym e))
+in-reverse f (x ∷ xs) e =
+    ap (has f) (reverse-append (x ∷ []) xs) ∙ has-both f (reverse xs) (x ∷ [])
+    ∙ ⊎_elim
+    (λ (same : f ≡ x). or_right (has f (reverse xs)) (has f (x ∷ [])) (or_left (eqb f x) false (eq-eqb f x same)))
+    (λ ne. or_left (has f (reverse xs)) (has f (x ∷ [])) (in-reverse f xs (sym (ap (λ b. b || has f xs) (ne_eqb f x ne)) ∙ e)))
+    (cases_eq f x)
+
+-- the frames that are left, and those of the interface beside them
+pub fresh-beside : (l before after taken : List ℕ) (v w : View Said) → AreHeld (before ++ l) v → before ≡ after ++ reverse taken → w.frames ≡ without_all taken v.frames → w.start ≡ v.start → AreHeld (l ++ after) w
+fresh-beside l before after taken v w h cut frames start =
+    let whole : AreHeld (l ++ before) v = held-swap before l v h in
+    let parts : AreHeld ((l ++ after) ++ reverse taken) v = subst (λ (m : List ℕ). AreHeld m v) (ap (λ (m : List ℕ). l ++ m) cut ∙ sym (append_assoc l after (reverse taken))) whole in
+    let rest : AreHeld (l ++ after) v = held-rest (reverse taken) (l ++ after) v (held-swap (l ++ after) (reverse taken) v parts) in
+    let left : (f : ℕ) → has f (l ++ after) ≡ true → has f taken ≡ false = λ f e.
+    ⊎_elim (λ (there : has f taken ≡ true). absurd (true≢false (sym (in-reverse f taken there) ∙ apart-not (l ++ after) (reverse taken) f parts.apart e))) (λ no. no) (cases_Bool (has f taken)) in
+    record {
+      apart = rest.apart;
+      inside = subst (λ o. Each (λ f. f < o.frames) (l ++ after)) (sym start) rest.inside;
+      held = each-has (λ f. has f w.frames ≡ true) (l ++ after)
+          (λ f e. ap (has f) frames ∙ has-without_all f taken v.frames ∙ ap (λ b. if b then false else has f v.frames) (left f e) ∙ each-of (λ q. has q v.frames ≡ true) (l ++ after) f rest.held e);
+    }

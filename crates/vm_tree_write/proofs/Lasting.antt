@@ -1,0 +1,88 @@
+-- The answer of a write that waited.
+use Rattle.std.proofs.Common.{ℕ, List, [], ◌∷◌, ◌++◌, ◌≡◌, ◌⊎◌, ◌+◌, sym, ap, subst, ◌∙◌, append_assoc, ⊎_elim}
+use Rattle.vm_map.specs.declared.call.Said.{Said}
+use Rattle.vm_owner.specs.declared.Entry.{Entry}
+use Rattle.vm_rule.specs.declared.view.Origin.{Origin}
+use Rattle.vm_rule.specs.declared.view.View.{View}
+use Rattle.vm_rule.specs.Brought.{entry_of}
+use Rattle.vm_rule.specs.Views.{StartsWith}
+use Rattle.vm_tree_model.specs.Tree.{map_of}
+use Rattle.vm_tree_laws.specs.History.{IsLegal}
+use Rattle.vm_step.specs.Asides.{HoldsPage}
+use Rattle.vm_step.proofs.Asides.{holds-then}
+use Rattle.vm_tree_read.specs.Reads.{IsAnswered}
+use Rattle.vm_evict.specs.declared.report.Report.{Report}
+use Rattle.vm_pool.specs.Brings.{KeepsLocks}
+use Rattle.vm_pool.specs.Sweeps.{IsSwept}
+use Rattle.vm_tree_read.specs.Waiting.{Waits}
+use Rattle.vm_tree_read.proofs.Lasting.{bring-waits}
+use Rattle.vm_tree_read.proofs.Seen.{swept-goes}
+use Rattle.vm_tree_write.specs.Waiting.{IsReplied}
+use Rattle.vm_tree_write.specs.Splits.{KeepsAll}
+use Rattle.vm_tree_write.specs.Writes.{IsVain, IsWritten}
+use Rattle.vm_tree_write.proofs.Framing.{keeps-then}
+use Rattle.vm_tree_write.proofs.Writing.{entry-same}
+
+-- what both kinds of answers have
+record HasReply (said : Said) (x w : View Said) : Type 0 where
+  mine : w.mine ≡ x.mine ++ entry_of x said ∷ []
+  entry : (others : List (Entry Said)) × (w.seen ≡ (x.seen ++ others) ++ entry_of x said ∷ [])
+  legal : IsLegal (map_of x.start.contents) w.seen
+  holds : (q : ℕ) → HoldsPage x w q
+  out : w.out ≡ x.out
+  start : w.start ≡ x.start
+  frames : w.frames ≡ x.frames
+  parts : (w.used ≡ x.used) × (w.fresh ≡ x.fresh)
+
+has-reply : (said : Said) (x w : View Said) → (IsWritten said x w × ¬ (IsVain said)) ⊎ IsAnswered said x w → HasReply said x w
+has-reply said x w a =
+    ⊎_elim
+    (λ (both : IsWritten said x w × ¬ (IsVain said)). let k = both.0 in record { mine = k.mine; entry = k.entry; legal = k.legal; holds = k.writes.holds; out = k.writes.out; start = k.writes.start; frames = k.writes.frames.0; parts = k.writes.parts })
+    (λ (k : IsAnswered said x w). record { mine = k.mine; entry = k.entry; legal = k.legal; holds = k.reads.holds; out = k.reads.out; start = k.reads.start; frames = k.reads.frames.0; parts = k.reads.parts })
+    a
+
+pub del-frames : (said : Said) (x w : View Said) → (IsWritten said x w × ¬ (IsVain said)) ⊎ IsAnswered said x w → (w.start ≡ x.start) × (w.frames ≡ x.frames)
+del-frames said x w a = let k = has-reply said x w a in (k.start, k.frames)
+
+-- what is left of the pass by all that was done before the last try
+pub record Lasts (v x : View Said) : Type 0 where
+  pub start : x.start ≡ v.start
+  pub parts : (x.used ≡ v.used) × (x.fresh ≡ v.fresh)
+  pub mine : x.mine ≡ v.mine
+  pub seen : StartsWith x.seen v.seen
+  pub out : x.out ≡ v.out
+  pub holds : (q : ℕ) → HoldsPage v x q
+
+pub waits-last : (v x : View Said) → Waits v x → Lasts v x
+waits-last v x k = record { start = k.start; parts = k.parts; mine = k.mine; seen = k.seen; out = k.out; holds = k.holds }
+
+pub keeps-last : (v x : View Said) → KeepsAll v x → Lasts v x
+keeps-last v x k = record { start = k.start; parts = k.parts; mine = k.mine; seen = k.seen; out = k.out; holds = k.holds }
+
+pub waits-keep : (v x : View Said) → Waits v x → KeepsAll v x
+waits-keep v x k = record { start = k.start; parts = k.parts; mine = k.mine; seen = k.seen; log = k.log; out = k.out; pending = k.group.0; owed = k.group.1; holds = k.holds }
+
+pub replied : (keeps : View Said → View Said → Type 0) (said : Said) (v x w : View Said) → keeps v x → Lasts v x → (IsWritten said x w × ¬ (IsVain said)) ⊎ IsAnswered said x w → IsReplied keeps said v w
+replied keeps said v x w kept k answered =
+    let a = has-reply said x w answered in
+    let same : entry_of x said ≡ entry_of v said = entry-same v x said k.parts.0 k.mine in
+    record {
+      tried = x;
+      waits = kept;
+      answered = answered;
+      mine = a.mine ∙ (λ i. k.mine i ++ same i ∷ []);
+      entry = (
+        k.seen.0 ++ a.entry.0,
+        a.entry.1 ∙ (λ i. (k.seen.1 i ++ a.entry.0) ++ same i ∷ []) ∙ ap (λ (l : List (Entry Said)). l ++ entry_of v said ∷ []) (append_assoc v.seen k.seen.0 a.entry.0),
+      );
+      legal = subst (λ (o : Origin). IsLegal (map_of o.contents) w.seen) k.start a.legal;
+      holds = λ q. holds-then v x w q (k.holds q) (a.holds q);
+      out = a.out ∙ k.out;
+      start = a.start ∙ k.start;
+      parts = (a.parts.0 ∙ k.parts.0, a.parts.1 ∙ k.parts.1);
+    }
+
+-- a sweep after a try
+pub sweep-keeps : (want cap : ℕ) (old new : List ℕ) (report : Report) (v x w : View Said) → KeepsAll v x → KeepsLocks x w → IsSwept want cap old new report x w → KeepsAll v w
+sweep-keeps want cap old new report v x w k locks swept =
+    keeps-then v x w k (waits-keep x w (bring-waits x w locks (swept-goes want cap old new report x w swept)))

@@ -1,0 +1,14 @@
+pub mod Drafting
+pub mod Writing
+pub mod Telling
+pub mod Splitting
+pub mod Lasting
+pub mod Under
+pub mod Rooting
+pub mod Framing
+pub mod Refusing
+pub mod Preparing
+pub mod Ends
+pub mod GivingUp
+pub mod Trying
+pub mod Losing

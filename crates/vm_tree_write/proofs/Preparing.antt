@@ -1,0 +1,210 @@
+-- Two pages that are locked, and fresh pages beside them: what the search read is what the locks prove, and once all are released the pass holds
+-- what it held.
+use Rattle.std.proofs.Common.{ℕ, true, false, ◌≡◌, ◌≢◌, ◌+◌, ◌||◌, List, ◌∷◌, ◌++◌, length, suc, refl, sym, ap, subst, ◌∙◌, ◌⊎◌, replicate, ⊎_elim}
+use Rattle.std.proofs.lemmas.Option.{none-some}
+use Rattle.std.proofs.lemmas.Bool.{cases_Bool, cases_eq, eq-eqb, ne_eqb}
+use Rattle.vm_map.specs.declared.call.Said.{Said}
+use Rattle.vm_owner.specs.Numbers.{has, without, AreApart}
+use Rattle.vm_owner.proofs.NumberLemmas.{without-none}
+use Rattle.vm_rule.specs.declared.view.Did.{Did}
+use Rattle.vm_rule.specs.declared.view.Origin.{Origin}
+use Rattle.vm_rule.specs.declared.view.View.{View}
+use Rattle.vm_rule.specs.Views.{numbers, seat_of}
+use Rattle.vm_rule.specs.Releases.{without_all}
+use Rattle.vm_rule.proofs.Facts.{has-both}
+use Rattle.vm_step.specs.Asides.{HoldsPage}
+use Rattle.vm_step.proofs.Asides.{holds-then}
+use Rattle.vm_step.proofs.Together.{numbers-length}
+use Rattle.vm_guard.specs.declared.exclusive.ExclusiveGuard.{ExclusiveGuard}
+use Rattle.vm_guard.specs.declared.opt.OptGuard.{OptGuard}
+use Rattle.vm_guard.specs.Guards.{IsHolding, IsReading}
+use Rattle.vm_guard.proofs.Freshly.{holding-on}
+use Rattle.vm_guard.proofs.Groups.{lacks, without-front}
+use Rattle.vm_guard.proofs.Reading.{reading-elsewhere}
+use Rattle.vm_exmap.specs.Frames.{MovesFrames}
+use Rattle.vm_tree_model.specs.Node.{Covers}
+use Rattle.vm_tree_model.specs.Page.{node_of, IsInner}
+use Rattle.vm_tree_rule.specs.Seeks.{HasRead}
+use Rattle.vm_tree_rule.specs.Standing.{Awaits}
+use Rattle.vm_tree_write.specs.Prepares.{IsPrepared}
+use Rattle.vm_tree_write.specs.Splits.{HasDraft, IsSplitUp, KeepsAll}
+use Rattle.vm_tree_write.specs.Tries.{HasSplit}
+use Rattle.vm_tree_write.proofs.Under.{KeepsBut, amid-holds, awaits-moved, but-then, done-but, draft-amid, draft-else, fresh-but, holding-else, locked-but, locked-draft, locked-inner, moved-holds, moves-but, read-moved, reading-moved, true-false, was-before, was-done, was-fresh, was-locked, was-on}
+
+module _ (n : ℕ) (first second : OptGuard) (up low : ExclusiveGuard) (gs : List ExclusiveGuard) (v w : View Said) (all : IsPrepared n first second up low gs v w) (apart : second.pid ≢ first.pid) where
+  abbrev a : ℕ
+  a = first.pid
+
+  abbrev b : ℕ
+  b = second.pid
+
+  abbrev pages : List ℕ
+  pages = numbers all.x n
+
+  abbrev between : View Said
+  between = all.locks.between
+
+  first-owned : (seat_of all.locked a).exclusive ≡ true
+  first-owned = (all.locks.low_locked.elsewhere.holds a (λ e. apart (sym e))).exclusive ∙ all.locks.up_locked.holding.owns
+
+  -- neither of the two is a fresh page
+  owned-not : (q : ℕ) → (seat_of all.locked q).exclusive ≡ true → has q pages ≡ false
+  owned-not q owns = ⊎_elim (λ (t : has q pages ≡ true). absurd (true-false _ owns (all.fresh.unheld q t).exclusive)) (λ no. no) (cases_Bool (has q pages))
+
+  pub first-not : has a pages ≡ false
+  first-not = owned-not a first-owned
+
+  pub second-not : has b pages ≡ false
+  second-not = owned-not b all.locks.low_locked.holding.owns
+
+  pub home-is : w.out ≡ v.out
+  home-is = all.fresh.amid.out ∙ all.locks.low_locked.elsewhere.steady.out ∙ all.locks.up_locked.elsewhere.steady.out ∙ all.moves.out
+
+  start-is : all.locked.start ≡ v.start
+  start-is = all.locks.low_locked.elsewhere.steady.start ∙ all.locks.up_locked.elsewhere.steady.start ∙ all.moves.start
+
+  -- ---- both are held
+
+  pub first-held : IsHolding up.pid up.frame up.version up.dirty w
+  first-held =
+      let there = holding-else a up.frame up.version up.dirty b all.locks.low_locked.done between all.locked (λ e. apart (sym e)) all.locks.low_locked.group.0 all.locks.up_locked.holding all.locks.low_locked.elsewhere in
+      subst (λ p. IsHolding p up.frame up.version up.dirty w) (sym all.locks.up_page) (holding-on a up.frame up.version up.dirty pages all.fresh.done all.locked w there all.fresh.amid first-not)
+
+  pub second-held : IsHolding low.pid low.frame low.version low.dirty w
+  second-held = subst (λ p. IsHolding p low.frame low.version low.dirty w) (sym all.locks.low_page) (holding-on b low.frame low.version low.dirty pages all.fresh.done all.locked w all.locks.low_locked.holding all.fresh.amid second-not)
+
+  -- ---- and have the words that were read
+
+  pub first-stays : (page : List ℕ) → HasDraft a page page between → HasDraft up.pid page page w
+  first-stays page h =
+      subst (λ p. HasDraft p page page w) (sym all.locks.up_page)
+      (draft-amid a pages all.fresh.done page page all.locked w first-not first-owned
+      (draft-else a b all.locks.low_locked.done page page between all.locked (λ e. apart (sym e)) all.locks.up_locked.holding.owns h all.locks.low_locked.elsewhere) all.fresh.amid)
+
+  module _ (tells : v.start.tells ≡ true) where
+    tells-asked : all.asked.start.tells ≡ true
+    tells-asked = ap (λ (o : Origin). o.tells) all.moves.start ∙ tells
+
+    tells-between : between.start.tells ≡ true
+    tells-between = ap (λ (o : Origin). o.tells) all.locks.up_locked.elsewhere.steady.start ∙ tells-asked
+
+    pub fresh-zero : (q : ℕ) → has q pages ≡ true → HasDraft q (replicate 64 0) (replicate 64 0) w
+    fresh-zero q among = let k = all.fresh.zero (ap (λ (o : Origin). o.tells) start-is ∙ tells) q among in record { last = k.1; draft = k.0 }
+
+    pub first-words : (page : List ℕ) → IsReading a first.word first.frame v → HasRead v a page → length page ≡ 64 → HasDraft up.pid page page w
+    first-words page r read long =
+        first-stays page
+        (locked-draft a up.frame up.version first.word first.frame up.dirty page all.asked between (reading-moved all.done v all.asked all.moves a first.word first.frame r) long (read-moved all.done v all.asked all.moves a page read) tells-asked all.locks.up_version all.locks.up_locked)
+
+    pub first-inner : (page : List ℕ) (level key : ℕ) → IsReading a first.word first.frame v → HasRead v a page → length page ≡ 64 → Awaits v a first.word (suc level) key → IsInner page × Covers (node_of page) key
+    first-inner page level key r read long awaits =
+        locked-inner a up.frame up.version first.word first.frame up.dirty page all.asked between (reading-moved all.done v all.asked all.moves a first.word first.frame r) long (read-moved all.done v all.asked all.moves a page read) tells-asked all.locks.up_version all.locks.up_locked
+        level key (awaits-moved all.done v all.asked all.moves a first.word (suc level) key awaits)
+
+    pub second-words : (page : List ℕ) → IsReading b second.word second.frame v → HasRead v b page → length page ≡ 64 → HasDraft low.pid page page w
+    second-words page r read long =
+        let l = all.locks.up_locked in
+        let r1 = reading-moved all.done v all.asked all.moves b second.word second.frame r in
+        let read1 = read-moved all.done v all.asked all.moves b page read in
+        let r2 = reading-elsewhere b second.word second.frame a l.done all.asked between apart l.elsewhere r1 in
+        subst (λ p. HasDraft p page page w) (sym all.locks.low_page)
+        (draft-amid b pages all.fresh.done page page all.locked w second-not all.locks.low_locked.holding.owns
+        (locked-draft b low.frame low.version second.word second.frame low.dirty page between all.locked r2 long (read1.0, (l.elsewhere.others b apart).loads ∙ read1.1) tells-between all.locks.low_version all.locks.low_locked) all.fresh.amid)
+
+  -- ---- once all are released
+
+  module _ (d : List Did) (y z : View Said) (rises : AreApart pages) (su : IsSplitUp (a ∷ b ∷ pages) w y) (m : MovesFrames d y z) where
+    abbrev group : List ℕ
+    group = a ∷ b ∷ pages
+
+    in-first : has a group ≡ true
+    in-first i = eq-eqb a a refl i || has a (b ∷ pages)
+
+    in-second : has b group ≡ true
+    in-second i = ne_eqb b a apart i || (eq-eqb b b refl i || has b pages)
+
+    within : (q : ℕ) → has q group ≡ false → has q pages ≡ false
+    within q e = (lacks q b pages (lacks q a (b ∷ pages) e).1).1
+
+    in-fresh : (q : ℕ) → has q pages ≡ true → has q group ≡ true
+    in-fresh q e =
+        ⊎_elim (λ (t : has q group ≡ true). t) (λ no. absurd (true-false _ e (within q no))) (cases_Bool (has q group))
+
+    but : KeepsBut group v z
+    but =
+        but-then group v all.asked z (moves-but group all.done v all.asked all.moves)
+        (but-then group all.asked between z (locked-but group a up.frame up.version up.dirty all.asked between in-first all.locks.up_locked)
+        (but-then group between all.locked z (locked-but group b low.frame low.version low.dirty between all.locked in-second all.locks.low_locked)
+        (but-then group all.locked w z (fresh-but group pages all.x n gs all.before all.after all.locked w within all.fresh)
+        (but-then group w y z (done-but group w y su.done) (moves-but group d y z m)))))
+
+    until : KeepsBut group v w
+    until =
+        but-then group v all.asked w (moves-but group all.done v all.asked all.moves)
+        (but-then group all.asked between w (locked-but group a up.frame up.version up.dirty all.asked between in-first all.locks.up_locked)
+        (but-then group between all.locked w (locked-but group b low.frame low.version low.dirty between all.locked in-second all.locks.low_locked)
+        (fresh-but group pages all.x n gs all.before all.after all.locked w within all.fresh)))
+
+    moved : (q : ℕ) → HoldsPage v all.asked q
+    moved = moved-holds all.done v all.asked all.moves
+
+    later : (q : ℕ) → HoldsPage y z q
+    later = moved-holds d y z m
+
+    holds-first : HoldsPage v z a
+    holds-first =
+        holds-then v y z a
+        (was-done a group v w y in-first
+        (was-before a v all.asked w (moved a)
+        (was-on a all.asked all.locked w
+        (was-on a all.asked between all.locked (was-locked a up.frame up.version up.dirty all.asked between all.locks.up_locked) (all.locks.low_locked.elsewhere.holds a (λ e. apart (sym e))))
+        (amid-holds pages all.fresh.done all.locked w a first-not all.fresh.amid))) su.done) (later a)
+
+    holds-second : HoldsPage v z b
+    holds-second =
+        holds-then v y z b
+        (was-done b group v w y in-second
+        (was-before b v all.asked w (moved b)
+        (was-before b all.asked between w (all.locks.up_locked.elsewhere.holds b apart)
+        (was-on b between all.locked w (was-locked b low.frame low.version low.dirty between all.locked all.locks.low_locked) (amid-holds pages all.fresh.done all.locked w b second-not all.fresh.amid)))) su.done) (later b)
+
+    holds-fresh : (q : ℕ) → q ≢ a → q ≢ b → has q pages ≡ true → HoldsPage v z q
+    holds-fresh q na nb among =
+        holds-then v y z q
+        (was-done q group v w y (in-fresh q among)
+        (was-before q v all.asked w (moved q)
+        (was-before q all.asked between w (all.locks.up_locked.elsewhere.holds q na)
+        (was-before q between all.locked w (all.locks.low_locked.elsewhere.holds q nb) (was-fresh pages all.x n q gs all.before all.after all.locked w among all.fresh)))) su.done) (later q)
+
+    owed-back : (o : List ℕ) → has a o ≡ false → has b o ≡ false → ((q : ℕ) → has q pages ≡ true → has q o ≡ false) → without_all group (pages ++ o) ≡ o
+    owed-back o na nb none =
+        ap (λ l. without_all pages (without b l)) (without-none a (pages ++ o) (has-both a pages o ∙ (λ i. first-not i || na i)))
+        ∙ ap (without_all pages) (without-none b (pages ++ o) (has-both b pages o ∙ (λ i. second-not i || nb i)))
+        ∙ without-front pages o rises none
+
+    pub prepared-keeps : KeepsAll v z
+    prepared-keeps =
+        let lb = all.locks.low_locked in
+        let la = all.locks.up_locked in
+        let o3 : all.locked.owed ≡ all.asked.owed = lb.group.1 ∙ la.group.1 in
+        record {
+          start = but.start;
+          parts = but.parts;
+          mine = but.mine;
+          seen = but.seen;
+          log = but.log;
+          out = but.out;
+          pending = but.pending;
+          owed = m.group.1 ∙ su.done.owed ∙ ap (without_all group) all.fresh.owed
+              ∙ owed-back all.locked.owed (ap (has a) o3 ∙ la.before.paid) (ap (has b) lb.group.1 ∙ lb.before.paid) (λ q e. (all.fresh.unheld q e).paid)
+              ∙ o3 ∙ all.moves.group.1;
+          holds = λ q.
+              ⊎_elim (λ (e : q ≡ a). subst (HoldsPage v z) (sym e) holds-first)
+              (λ qa. ⊎_elim (λ (e : q ≡ b). subst (HoldsPage v z) (sym e) holds-second)
+              (λ qb. ⊎_elim (λ (t : has q pages ≡ true). holds-fresh q qa qb t)
+              (λ no. but.holds q (λ i. ne_eqb q a qa i || (ne_eqb q b qb i || no i)))
+              (cases_Bool (has q pages))) (cases_eq q b)) (cases_eq q a);
+        }
+
+    pub prepared-split : HasSplit n a b v z
+    prepared-split = record { fresh = pages; count = numbers-length all.x n; before = w; after = y; earlier = until.log; split = su; later = (d, m.log) }

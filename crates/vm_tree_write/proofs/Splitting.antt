@@ -1,0 +1,215 @@
+-- Three pages that are held get their new drafts one after the other, and are released together.
+use Rattle.std.proofs.Common.{ℕ, Bool, true, ◌≡◌, ◌≢◌, ◌<◌, List, [], ◌∷◌, Some, None, length, refl, sym, ap, subst, ◌∙◌, ◌⊎◌, inl, inr, arith, slice_index, replicate, ⊎_elim}
+use Rattle.std.proofs.lemmas.Bool.{cases_eq}
+use Rattle.vm_core.specs.declared.event.Seat.{Seat}
+use Rattle.vm_core.specs.History.{Version}
+use Rattle.vm_map.specs.declared.call.Said.{Said}
+use Rattle.vm_owner.specs.Numbers.{has, AreApart}
+use Rattle.vm_rule.specs.declared.view.Origin.{Origin}
+use Rattle.vm_rule.specs.declared.view.Held.{Held}
+use Rattle.vm_rule.specs.declared.view.View.{View}
+use Rattle.vm_rule.specs.Views.{draft_of, seat_of}
+use Rattle.vm_rule.specs.Rule.{began_of}
+use Rattle.vm_rule.specs.Releases.{change_of, changes_of, without_all}
+use Rattle.vm_rule.proofs.Entries.{append-none}
+use Rattle.vm_step.specs.Asides.{HoldsPage, KnowsAsBefore}
+use Rattle.vm_step.specs.Conditions.{IsClaimed}
+use Rattle.vm_step.proofs.Asides.{holds-then, starts-then}
+use Rattle.vm_guard.specs.declared.exclusive.ExclusiveGuard.{ExclusiveGuard}
+use Rattle.vm_guard.specs.Groups.{AreReleased, MayReleaseAll, next_after_all, pids_of}
+use Rattle.vm_guard.specs.Guards.{IsHolding}
+use Rattle.vm_guard.proofs.Groups.{lacks}
+use Rattle.vm_tree_model.specs.Edits.{AddsPair, IsSplit, child_of}
+use Rattle.vm_tree_model.specs.Node.{Covers}
+use Rattle.vm_tree_model.specs.Page.{node_of, pairs_of, IsInner}
+use Rattle.vm_tree_laws.specs.May.{MayRelease}
+use Rattle.vm_tree_laws.proofs.Established.{may_split}
+use Rattle.vm_tree_write.specs.Drafts.{IsRedrafted}
+use Rattle.vm_tree_write.specs.Splits.{HasDraft, IsGroupDone, IsSplitUp, Stays}
+
+-- pages that are apart
+pub first-apart : (a b c : ℕ) → AreApart (a ∷ b ∷ c ∷ []) → (a ≢ b) × (a ≢ c) × (b ≢ c)
+first-apart a b c k =
+    let ab = lacks a b (c ∷ []) k.0 in
+    let ac = lacks a c [] ab.1 in
+    let bc = lacks b c [] k.1.0 in
+    (ab.0, ac.0, bc.0)
+
+-- no next page is known after releases where none was known before
+none-after : (ps : List ℕ) → next_after_all ps None ≡ None
+none-after [] = refl
+none-after (p ∷ ps) = none-after ps
+
+module _ {X : Type 0} where
+  pub stays-then : (u v w : View X) → Stays u v → Stays v w → Stays u w
+  stays-then u v w f g = record {
+    start = g.start ∙ f.start;
+    parts = (g.parts.0 ∙ f.parts.0, g.parts.1 ∙ f.parts.1);
+    mine = g.mine ∙ f.mine;
+    seen = starts-then u.seen v.seen w.seen f.seen g.seen;
+    log = starts-then u.log v.log w.log f.log g.log;
+    frames = g.frames ∙ f.frames;
+    out = g.out ∙ f.out;
+    group = (g.group.0 ∙ f.group.0, g.group.1 ∙ f.group.1, g.group.2 ∙ f.group.2);
+    holds = λ q. holds-then u v w q (f.holds q) (g.holds q);
+  }
+
+  pub redrafted-stays : (p : ℕ) (v w : View X) → IsRedrafted p v w → Stays v w
+  redrafted-stays p v w d = record {
+    start = d.elsewhere.steady.start;
+    parts = d.elsewhere.steady.parts;
+    mine = d.mine;
+    seen = d.elsewhere.steady.seen;
+    log = (d.done, d.elsewhere.steady.log);
+    frames = d.elsewhere.steady.frames.0;
+    out = d.elsewhere.steady.out;
+    group = d.group;
+    holds = λ q. ⊎_elim (λ (e : q ≡ p). subst (HoldsPage v w) (sym e) d.holds) (λ ne. d.elsewhere.holds q ne) (cases_eq q p);
+  }
+
+  -- a page that is held stays so while another one gets a new draft
+  pub holding-past : (p frame version : ℕ) (dirty : Bool) (q : ℕ) (v w : View X) → p ≢ q → IsHolding p frame version dirty v → IsRedrafted q v w → IsHolding p frame version dirty w
+  holding-past p frame version dirty q v w ne h d =
+      let k : KnowsAsBefore v w p = d.elsewhere.knows p ne (inl h.owns) in
+      record {
+        page = subst (λ (o : Origin). p < o.pages) (sym d.elsewhere.steady.start) h.page;
+        frame_is = subst (λ (o : Origin). frame < o.frames) (sym d.elsewhere.steady.start) h.frame_is;
+        below = h.below;
+        owns = (d.elsewhere.holds p ne).exclusive ∙ h.owns;
+        stands = ap (λ (y : Held). y.mapping) k.held ∙ h.stands;
+        told = ap (λ (y : Held). y.fault) k.held ∙ h.told ∙ ap (λ (y : Held). y.block.count) (sym k.held);
+        at = ap (λ (y : Version). y.version) k.last ∙ h.at;
+        size = ap length k.draft ∙ h.size;
+        free = ap (has p) d.group.0 ∙ h.free;
+      }
+
+  -- and keeps its draft
+  pub draft-past : (p q : ℕ) (old new : List ℕ) (v w : View X) → p ≢ q → (seat_of v p).exclusive ≡ true → HasDraft p old new v → IsRedrafted q v w → HasDraft p old new w
+  draft-past p q old new v w ne owns h d =
+      let k : KnowsAsBefore v w p = d.elsewhere.knows p ne (inl owns) in
+      record { last = ap (λ (y : Version). y.words) k.last ∙ h.last; draft = k.draft ∙ h.draft }
+
+  -- the page itself has its new one
+  pub draft-new : (p : ℕ) (old new new' : List ℕ) (v w : View X) → HasDraft p old new v → IsRedrafted p v w → draft_of w p ≡ new' → HasDraft p old new' w
+  draft-new p old new new' v w h d is = record { last = ap (λ (y : Version). y.words) d.last ∙ h.last; draft = is }
+
+  -- a claimed page, told of its words
+  pub group-done : (first : ExclusiveGuard) (rest : List ExclusiveGuard) (pages : List ℕ) (v y w : View X) → pids_of (first ∷ rest) ≡ pages → Stays v y → AreReleased first rest None y w → IsGroupDone pages v w
+  group-done first rest pages v y w is s r = record {
+    start = r.beside.steady.start ∙ s.start;
+    parts = (r.beside.steady.parts.0 ∙ s.parts.0, r.beside.steady.parts.1 ∙ s.parts.1);
+    mine = r.mine ∙ append-none y.mine ∙ s.mine;
+    seen = starts-then v.seen y.seen w.seen s.seen r.beside.steady.seen;
+    log = starts-then v.log y.log w.log s.log (_, r.beside.steady.log);
+    frames = r.beside.steady.frames.0 ∙ s.frames;
+    out = r.beside.steady.out ∙ s.out;
+    pending = r.group.0 ∙ s.group.0;
+    owed = r.group.1 ∙ (λ i. without_all (is i) (s.group.1 i));
+    next = λ none. r.group.2 ∙ ap (next_after_all (pids_of (first ∷ rest))) (s.group.2 ∙ none) ∙ none-after (pids_of (first ∷ rest));
+    holds = λ q e. holds-then v y w q (s.holds q) (r.beside.holds q (ap (has q) is ∙ e));
+    released = λ q e.
+        let k = r.seats q (ap (has q) is ∙ e) in (
+          ap (λ (x : Seat). x.shares) k ∙ (s.holds q).shares,
+          ap (λ (x : Seat). x.exclusive) k,
+          ap (λ (x : Seat). x.writing) k ∙ (s.holds q).writing,
+        );
+  }
+
+-- words with pairs are not all zero
+pub full-not : (words : List ℕ) → length (pairs_of words) ≡ 28 → words ≢ replicate 64 0
+full-not words full is = let z : 0 ≡ 28 = ap (λ (l : List ℕ). length (pairs_of l)) (sym is) ∙ full in absurd (omega (arith, z))
+
+pub inner-not : (words : List ℕ) → IsInner words → words ≢ replicate 64 0
+inner-not words inner is = let t : 0 ≡ 3 = ap (λ (l : List ℕ). slice_index l 0) (sym is) ∙ inner.node.tag in absurd (omega (arith, t))
+
+pub none-not : {A : Type 0} (x : A) → None ≡ Some x → ⊥
+none-not x e = absurd (cc)
+
+pub may-three : (g1 g2 g3 : ExclusiveGuard) (a b c : ℕ) (y : View Said) → g1.pid ≡ a → g2.pid ≡ b → g3.pid ≡ c → IsHolding g1.pid g1.frame g1.version g1.dirty y → IsHolding g2.pid g2.frame g2.version g2.dirty y → IsHolding g3.pid g3.frame g3.version g3.dirty y
+    → AreApart (a ∷ b ∷ c ∷ []) → y.out ≡ None → IsClaimed y a → IsClaimed y b → IsClaimed y c → MayRelease (began_of y.start) y.owed (changes_of y (a ∷ b ∷ c ∷ [])) [] → MayReleaseAll MayRelease (g1 ∷ g2 ∷ g3 ∷ []) None y
+may-three g1 g2 g3 a b c y e1 e2 e3 h1 h2 h3 apart out c1 c2 c3 may =
+    let pids : pids_of (g1 ∷ g2 ∷ g3 ∷ []) ≡ a ∷ b ∷ c ∷ [] = (λ i. e1 i ∷ e2 i ∷ e3 i ∷ []) in
+    record {
+      held = (h1, (h2, (h3, tt)));
+      apart = subst AreApart (sym pids) apart;
+      home = ((λ o e. absurd (none-not o (sym out ∙ e))), ((λ o e. absurd (none-not o (sym out ∙ e))), ((λ o e. absurd (none-not o (sym out ∙ e))), tt)));
+      claimed = λ t. (subst (IsClaimed y) (sym e1) c1, (subst (IsClaimed y) (sym e2) c2, (subst (IsClaimed y) (sym e3) c3, tt)));
+      owner = λ t. inr (subst (λ (l : List ℕ). MayRelease (began_of y.start) y.owed (changes_of y l) []) (sym pids) may);
+    }
+
+-- the three changes are a split
+pub splits-three : (a b c key separator : ℕ) (over above page left old half : List ℕ) (y : View Said) → HasDraft a over above y → HasDraft b page left y → HasDraft c old half y → IsInner over → Covers (node_of over) key → child_of over key ≡ Some b
+    → length (pairs_of over) < 28 → length (pairs_of page) ≡ 28 → IsSplit page left half separator → AddsPair over above separator c → has c y.owed ≡ true → MayRelease (began_of y.start) y.owed (changes_of y (a ∷ b ∷ c ∷ [])) []
+splits-three a b c key separator over above page left old half y ha hb hc inner covers names room full split adds owed =
+    may_split (began_of y.start) y.owed (change_of y a) (change_of y b) (change_of y c) key separator
+    (subst IsInner (sym ha.last) inner)
+    (subst (λ (l : List ℕ). Covers (node_of l) key) (sym ha.last) covers)
+    (ap (λ (l : List ℕ). child_of l key) ha.last ∙ names)
+    (subst (λ (l : List ℕ). length (pairs_of l) < 28) (sym ha.last) room)
+    (ap (λ (l : List ℕ). length (pairs_of l)) hb.last ∙ full)
+    (subst (λ (l : List ℕ). IsSplit l (draft_of y b) (draft_of y c) separator) (sym hb.last)
+    (subst (λ (l : List ℕ). IsSplit page l (draft_of y c) separator) (sym hb.draft)
+    (subst (λ (l : List ℕ). IsSplit page left l separator) (sym hc.draft) split)))
+    (subst (λ (l : List ℕ). AddsPair l (draft_of y a) separator c) (sym ha.last)
+    (subst (λ (l : List ℕ). AddsPair over l separator c) (sym ha.draft) adds))
+    owed
+
+-- the words that were before
+pub words-claimed : (p : ℕ) (old new : List ℕ) (y : View Said) → HasDraft p old new y → old ≢ replicate 64 0 → IsClaimed y p
+words-claimed p old new y h ne = inr (inl (λ e. ne (sym h.last ∙ e)))
+
+-- three pages after their new drafts
+pub record AreThree (a b c : ℕ) (over above page left half : List ℕ) (v y : View Said) : Type 0 where
+  pub stays : Stays v y
+  pub first : HasDraft a over above y
+  pub second : HasDraft b page left y
+  pub third : HasDraft c (replicate 64 0) half y
+
+pub three-redrafted : (a b c : ℕ) (over above page left half : List ℕ) (v x1 x2 y : View Said) → AreApart (a ∷ b ∷ c ∷ []) → (seat_of v a).exclusive ≡ true → (seat_of v b).exclusive ≡ true → (seat_of v c).exclusive ≡ true
+    → HasDraft a over over v → HasDraft b page page v → HasDraft c (replicate 64 0) (replicate 64 0) v → IsRedrafted a v x1 → IsRedrafted b x1 x2 → IsRedrafted c x2 y
+    → draft_of x1 a ≡ above → draft_of x2 b ≡ left → draft_of y c ≡ half → AreThree a b c over above page left half v y
+three-redrafted a b c over above page left half v x1 x2 y apart oa ob oc ha hb hc d1 d2 d3 n1 n2 n3 =
+    let ne = first-apart a b c apart in
+    let s1 = redrafted-stays a v x1 d1 in
+    let s2 = redrafted-stays b x1 x2 d2 in
+    let s3 = redrafted-stays c x2 y d3 in
+    let a1 = draft-new a over over above v x1 ha d1 n1 in
+    let a2 = draft-past a b over above x1 x2 ne.0 ((s1.holds a).exclusive ∙ oa) a1 d2 in
+    let a3 = draft-past a c over above x2 y ne.1 ((s2.holds a).exclusive ∙ (s1.holds a).exclusive ∙ oa) a2 d3 in
+    let b1 = draft-past b a page page v x1 (λ e. ne.0 (sym e)) ob hb d1 in
+    let b2 = draft-new b page page left x1 x2 b1 d2 n2 in
+    let b3 = draft-past b c page left x2 y ne.2 ((s2.holds b).exclusive ∙ (s1.holds b).exclusive ∙ ob) b2 d3 in
+    let c1 = draft-past c a (replicate 64 0) (replicate 64 0) v x1 (λ e. ne.1 (sym e)) oc hc d1 in
+    let c2 = draft-past c b (replicate 64 0) (replicate 64 0) x1 x2 (λ e. ne.2 (sym e)) ((s1.holds c).exclusive ∙ oc) c1 d2 in
+    let c3 = draft-new c (replicate 64 0) (replicate 64 0) half x2 y c2 d3 n3 in
+    record { stays = stays-then v x1 y s1 (stays-then x1 x2 y s2 s3); first = a3; second = b3; third = c3 }
+
+module _ (a b c key separator : ℕ) (over above page left half : List ℕ) (v y : View Said) (three : AreThree a b c over above page left half v y) (inner : IsInner over) (covers : Covers (node_of over) key) (names : child_of over key ≡ Some b)
+    (room : length (pairs_of over) < 28) (full : length (pairs_of page) ≡ 28) (split : IsSplit page left half separator) (adds : AddsPair over above separator c) (owed : has c v.owed ≡ true) where
+  owed-then : has c y.owed ≡ true
+  owed-then = ap (has c) three.stays.group.1 ∙ owed
+
+  pub three-may : MayRelease (began_of y.start) y.owed (changes_of y (a ∷ b ∷ c ∷ [])) []
+  three-may = splits-three a b c key separator over above page left (replicate 64 0) half y three.first three.second three.third inner covers names room full split adds owed-then
+
+  pub three-all : (g1 g2 g3 : ExclusiveGuard) → g1.pid ≡ a → g2.pid ≡ b → g3.pid ≡ c → IsHolding g1.pid g1.frame g1.version g1.dirty y → IsHolding g2.pid g2.frame g2.version g2.dirty y → IsHolding g3.pid g3.frame g3.version g3.dirty y
+      → AreApart (a ∷ b ∷ c ∷ []) → v.out ≡ None → MayReleaseAll MayRelease (g1 ∷ g2 ∷ g3 ∷ []) None y
+  three-all g1 g2 g3 e1 e2 e3 h1 h2 h3 apart out =
+      may-three g1 g2 g3 a b c y e1 e2 e3 h1 h2 h3 apart (three.stays.out ∙ out)
+      (words-claimed a over above y three.first (inner-not over inner))
+      (words-claimed b page left y three.second (full-not page full))
+      (inr (inr (inr owed-then))) three-may
+
+  pub three-released : (g1 g2 g3 : ExclusiveGuard) (w : View Said) → g1.pid ≡ a → g2.pid ≡ b → g3.pid ≡ c → AreReleased g1 (g2 ∷ g3 ∷ []) None y w → IsSplitUp (a ∷ b ∷ c ∷ []) v w
+  three-released g1 g2 g3 w e1 e2 e3 r =
+      let pids : pids_of (g1 ∷ g2 ∷ g3 ∷ []) ≡ a ∷ b ∷ c ∷ [] = (λ i. e1 i ∷ e2 i ∷ e3 i ∷ []) in
+      record {
+        held = y;
+        first = g1;
+        rest = g2 ∷ g3 ∷ [];
+        pids = pids;
+        several = inl refl;
+        released = r;
+        may = three-may;
+        done = group-done g1 (g2 ∷ g3 ∷ []) (a ∷ b ∷ c ∷ []) v y w pids three.stays r;
+      }

@@ -1,0 +1,222 @@
+-- A full node below its parent: what the search read of both is what the locks prove of them, and a fresh page stands beside them.
+use Rattle.std.proofs.Common.{ℕ, Bool, true, false, ◌≡◌, ◌≢◌, ◌+◌, ◌<◌, List, [], ◌∷◌, ◌++◌, length, suc, refl, sym, ap, subst, ◌∙◌, inl, arith, slice_index}
+use Rattle.std.proofs.lemmas.List.{length-append}
+use Rattle.vm_core.specs.declared.event.Seat.{Seat}
+use Rattle.vm_core.specs.History.{Version}
+use Rattle.vm_core.specs.Start.{no_seat}
+use Rattle.vm_core.specs.Words.{version_of}
+use Rattle.vm_map.specs.declared.call.Said.{Said}
+use Rattle.vm_owner.specs.Numbers.{has}
+use Rattle.vm_rule.specs.declared.view.Did.{Did}
+use Rattle.vm_rule.specs.declared.view.Held.{Held}
+use Rattle.vm_rule.specs.declared.view.Origin.{Origin}
+use Rattle.vm_rule.specs.declared.view.Release.{Release}
+use Rattle.vm_rule.specs.declared.view.Tie.{Tie}
+use Rattle.vm_rule.specs.declared.view.View.{View}
+use Rattle.vm_rule.specs.Puts.{put_at}
+use Rattle.vm_rule.specs.Views.{Each, StartsWith, draft_of, numbers, seat_of}
+use Rattle.vm_rule.specs.Reading.{last_of}
+use Rattle.vm_rule.specs.Rule.{began_of, no_held}
+use Rattle.vm_step.specs.Asides.{HoldsPage, KnowsAsBefore}
+use Rattle.vm_step.proofs.Asides.{holds-then, starts-then}
+use Rattle.vm_guard.specs.declared.exclusive.ExclusiveGuard.{ExclusiveGuard}
+use Rattle.vm_guard.specs.Fresh.{AreFresh, IsAmid}
+use Rattle.vm_guard.specs.Groups.{pids_of}
+use Rattle.vm_guard.specs.Guards.{IsElsewhere, IsHolding, IsLocked, IsReading}
+use Rattle.vm_guard.proofs.Reading.{reading-kept}
+use Rattle.vm_exmap.specs.Frames.{MovesFrames}
+use Rattle.vm_tree_model.specs.Node.{Covers}
+use Rattle.vm_tree_model.specs.Page.{node_of, IsInner}
+use Rattle.vm_tree_laws.specs.Tied.{Tied}
+use Rattle.vm_tree_laws.specs.Descent.{IsReached}
+use Rattle.vm_tree_rule.specs.Seeks.{HasRead}
+use Rattle.vm_tree_rule.specs.Standing.{Awaits, tree_pages}
+use Rattle.vm_tree_rule.proofs.Downward.{inner-here}
+use Rattle.vm_tree_read.proofs.Answering.{words-are}
+use Rattle.vm_tree_write.specs.Splits.{HasDraft, IsGroupDone}
+
+-- ---- frames that move leave what was read
+
+module _ (done : List Did) (v w : View Said) (m : MovesFrames done v w) where
+  pub reading-moved : (p word frame : ℕ) → IsReading p word frame v → IsReading p word frame w
+  reading-moved p word frame r =
+      reading-kept p word frame v w r m.start
+      (record { shares = ap (λ s. (put_at no_seat s p).shares) m.pages.0; exclusive = ap (λ s. (put_at no_seat s p).exclusive) m.pages.0; writing = ap (λ s. (put_at no_seat s p).writing) m.pages.0 })
+      (λ l. ap (λ h. put_at no_held h p) m.pages.2)
+      (ap (λ s. (put_at no_seat s p).reading) m.pages.0)
+
+  pub moved-holds : (q : ℕ) → HoldsPage v w q
+  moved-holds q = record { shares = ap (λ s. (put_at no_seat s q).shares) m.pages.0; exclusive = ap (λ s. (put_at no_seat s q).exclusive) m.pages.0; writing = ap (λ s. (put_at no_seat s q).writing) m.pages.0 }
+
+  pub read-moved : (p : ℕ) (page : List ℕ) → HasRead v p page → HasRead w p page
+  read-moved p page k = (k.0, ap (λ l. put_at [] l p) m.pages.1 ∙ k.1)
+
+  pub awaits-moved : (p word level key : ℕ) → Awaits v p word level key → Awaits w p word level key
+  awaits-moved p word level key awaits words all =
+      subst (λ (o : Origin). IsReached (length o.contents) p words level key) (sym m.start)
+      (awaits words
+      (subst (λ (o : Origin). Each (λ (t : Tie). t.page ≡ p → t.version ≡ version_of word → Tied (began_of o) t.of t.words p words) v.ties) m.start
+      (subst (λ (l : List Tie). Each (λ (t : Tie). t.page ≡ p → t.version ≡ version_of word → Tied (began_of w.start) t.of t.words p words) l) m.reads.1 all)))
+
+-- ---- a lock proves what was read
+
+module _ (p f version word frame : ℕ) (dirty : Bool) (page : List ℕ) (v x : View Said) (r : IsReading p word frame v) (long : length page ≡ 64) (read : HasRead v p page) (tells : v.start.tells ≡ true) (at : version ≡ version_of word) (l : IsLocked Tied p f version dirty v x) where
+  pub locked-draft : HasDraft p page page x
+  locked-draft =
+      let draft : draft_of x p ≡ page = l.draft ∙ words-are p v read.0 page (last_of x p).words long read.1 (ap (λ (z : List ℕ). length z) (sym l.draft) ∙ l.holding.size) ((l.validates tells).valid _ r.reading (sym at)) in
+      record { last = sym l.draft ∙ draft; draft = draft }
+
+  pub locked-reached : (level key : ℕ) → Awaits v p word level key → IsReached (tree_pages v) p page level key
+  locked-reached level key awaits =
+      subst (λ (z : List ℕ). IsReached (tree_pages v) p z level key) locked-draft.last
+      (awaits (last_of x p).words (subst (λ (n : ℕ). Each (λ (t : Tie). t.page ≡ p → t.version ≡ n → Tied (began_of v.start) t.of t.words p (last_of x p).words) v.ties) at (l.validates tells).holds))
+
+  pub locked-inner : (level key : ℕ) → Awaits v p word (suc level) key → IsInner page × Covers (node_of page) key
+  locked-inner level key awaits = let k = locked-reached (suc level) key awaits in (inner-here (tree_pages v) p page level key k, k.covers)
+
+-- ---- what is held stays over steps on other pages
+
+pub holding-else : (p f version : ℕ) (dirty : Bool) (q : ℕ) (done : List Did) {own : List Release} (v w : View Said) → p ≢ q → w.pending ≡ v.pending → IsHolding p f version dirty v → IsElsewhere q done own v w → IsHolding p f version dirty w
+holding-else p f version dirty q done {own = own} v w ne pending h e =
+    let k : KnowsAsBefore v w p = e.knows p ne (inl h.owns) in
+    record {
+      page = subst (λ (o : Origin). p < o.pages) (sym e.steady.start) h.page;
+      frame_is = subst (λ (o : Origin). f < o.frames) (sym e.steady.start) h.frame_is;
+      below = h.below;
+      owns = (e.holds p ne).exclusive ∙ h.owns;
+      stands = ap (λ (y : Held). y.mapping) k.held ∙ h.stands;
+      told = ap (λ (y : Held). y.fault) k.held ∙ h.told ∙ ap (λ (y : Held). y.block.count) (sym k.held);
+      at = ap (λ (y : Version). y.version) k.last ∙ h.at;
+      size = ap length k.draft ∙ h.size;
+      free = ap (has p) pending ∙ h.free;
+    }
+
+pub draft-else : (p q : ℕ) (done : List Did) {own : List Release} (old new : List ℕ) (v w : View Said) → p ≢ q → (seat_of v p).exclusive ≡ true → HasDraft p old new v → IsElsewhere q done own v w → HasDraft p old new w
+draft-else p q done {own = own} old new v w ne owns h e =
+    let k : KnowsAsBefore v w p = e.knows p ne (inl owns) in record { last = ap (λ (y : Version). y.words) k.last ∙ h.last; draft = k.draft ∙ h.draft }
+
+pub draft-amid : (p : ℕ) (pages : List ℕ) (done : List Did) (old new : List ℕ) (v w : View Said) → has p pages ≡ false → (seat_of v p).exclusive ≡ true → HasDraft p old new v → IsAmid pages done v w → HasDraft p old new w
+draft-amid p pages done old new v w none owns h e =
+    let k : KnowsAsBefore v w p = e.knows p none (inl owns) in record { last = ap (λ (y : Version). y.words) k.last ∙ h.last; draft = k.draft ∙ h.draft }
+
+pub true-false : (b : Bool) → b ≡ true → b ≡ false → ⊥
+true-false b t f = absurd (cc)
+
+pub numbers-one : (x : ℕ) → numbers x 1 ≡ x ∷ []
+unfolding numbers
+numbers-one x = refl
+
+pub numbers-two : (x : ℕ) → numbers x 2 ≡ x ∷ suc x ∷ []
+unfolding numbers
+numbers-two x = refl
+
+-- ---- the one guard of a group of one
+
+pids-length : (gs : List ExclusiveGuard) → length (pids_of gs) ≡ length gs
+pids-length [] = refl
+pids-length (g ∷ gs) = ap suc (pids-length gs)
+
+pub taken-one : (x : ℕ) (gs rest : List ExclusiveGuard) (right : ExclusiveGuard) → pids_of gs ≡ numbers x 1 → gs ≡ rest ++ right ∷ [] → (rest ≡ []) × (gs ≡ right ∷ [])
+taken-one x gs [] right pids e = (refl, e)
+taken-one x gs (g ∷ rs) right pids e =
+    let one : length gs ≡ 1 = sym (pids-length gs) ∙ ap length (pids ∙ numbers-one x) in
+    let more : length gs ≡ suc (length (rs ++ right ∷ [])) = ap length e in
+    let tail : length (rs ++ right ∷ []) ≡ length rs + 1 = length-append rs (right ∷ []) in
+    absurd (omega (arith, one, more, tail))
+
+pub some-taken : (x : ℕ) (gs : List ExclusiveGuard) → pids_of gs ≡ numbers x 1 → gs ≡ [] → ⊥
+some-taken x gs pids e =
+    let one : length gs ≡ 1 = sym (pids-length gs) ∙ ap length (pids ∙ numbers-one x) in
+    let none : length gs ≡ 0 = ap length e in
+    absurd (omega (arith, one, none))
+
+-- ---- what is held of all other pages
+
+-- the pass keeps all but the locks of these pages, and the pages owed
+pub record KeepsBut (pages : List ℕ) (v w : View Said) : Type 0 where
+  pub start : w.start ≡ v.start
+  pub parts : (w.used ≡ v.used) × (w.fresh ≡ v.fresh)
+  pub mine : w.mine ≡ v.mine
+  pub seen : StartsWith w.seen v.seen
+  pub log : StartsWith w.log v.log
+  pub out : w.out ≡ v.out
+  pub pending : w.pending ≡ v.pending
+  pub holds : (q : ℕ) → has q pages ≡ false → HoldsPage v w q
+
+pub but-then : (pages : List ℕ) (u v w : View Said) → KeepsBut pages u v → KeepsBut pages v w → KeepsBut pages u w
+but-then pages u v w f g = record {
+  start = g.start ∙ f.start;
+  parts = (g.parts.0 ∙ f.parts.0, g.parts.1 ∙ f.parts.1);
+  mine = g.mine ∙ f.mine;
+  seen = starts-then u.seen v.seen w.seen f.seen g.seen;
+  log = starts-then u.log v.log w.log f.log g.log;
+  out = g.out ∙ f.out;
+  pending = g.pending ∙ f.pending;
+  holds = λ q e. holds-then u v w q (f.holds q e) (g.holds q e);
+}
+
+pub moves-but : (pages : List ℕ) (done : List Did) (v w : View Said) → MovesFrames done v w → KeepsBut pages v w
+moves-but pages done v w m = record {
+  start = m.start;
+  parts = m.parts;
+  mine = m.mine;
+  seen = m.seen;
+  log = (done, m.log);
+  out = m.out;
+  pending = m.group.0;
+  holds = λ q e. record { shares = ap (λ s. (put_at no_seat s q).shares) m.pages.0; exclusive = ap (λ s. (put_at no_seat s q).exclusive) m.pages.0; writing = ap (λ s. (put_at no_seat s q).writing) m.pages.0 };
+}
+
+pub locked-but : (pages : List ℕ) (p f version : ℕ) (dirty : Bool) (v w : View Said) → has p pages ≡ true → IsLocked Tied p f version dirty v w → KeepsBut pages v w
+locked-but pages p f version dirty v w among l = record {
+  start = l.elsewhere.steady.start;
+  parts = l.elsewhere.steady.parts;
+  mine = l.mine;
+  seen = l.elsewhere.steady.seen;
+  log = (l.done, l.elsewhere.steady.log);
+  out = l.elsewhere.steady.out;
+  pending = l.group.0;
+  holds = λ q e. l.elsewhere.holds q (λ s. true-false (has p pages) among (ap (λ n. has n pages) (sym s) ∙ e));
+}
+
+pub fresh-but : (pages fresh : List ℕ) (x n : ℕ) (gs : List ExclusiveGuard) (before after : List ℕ) (v w : View Said) → ((q : ℕ) → has q pages ≡ false → has q fresh ≡ false) → AreFresh fresh x n gs before after v w → KeepsBut pages v w
+fresh-but pages fresh x n gs before after v w within f = record {
+  start = f.amid.start;
+  parts = f.amid.parts;
+  mine = f.amid.mine;
+  seen = f.amid.seen;
+  log = (f.done, f.amid.log);
+  out = f.amid.out;
+  pending = f.amid.pending;
+  holds = λ q e. let k = f.amid.seats q (within q e) in record { shares = ap (λ (s : Seat). s.shares) k; exclusive = ap (λ (s : Seat). s.exclusive) k; writing = ap (λ (s : Seat). s.writing) k };
+}
+
+pub done-but : (pages : List ℕ) (v w : View Said) → IsGroupDone pages v w → KeepsBut pages v w
+done-but pages v w d = record { start = d.start; parts = d.parts; mine = d.mine; seen = d.seen; log = d.log; out = d.out; pending = d.pending; holds = d.holds }
+
+-- what the pass has of a page that it locked, but for that lock
+pub record Was (q : ℕ) (v z : View Said) : Type 0 where
+  pub shares : (seat_of z q).shares ≡ (seat_of v q).shares
+  pub writing : (seat_of z q).writing ≡ (seat_of v q).writing
+  pub free : (seat_of v q).exclusive ≡ false
+
+pub was-locked : (p f version : ℕ) (dirty : Bool) (v x : View Said) → IsLocked Tied p f version dirty v x → Was p v x
+was-locked p f version dirty v x l = record { shares = ap (λ (s : Seat). s.shares) l.seat; writing = ap (λ (s : Seat). s.writing) l.seat; free = l.before.exclusive }
+
+pub was-fresh : (fresh : List ℕ) (x n q : ℕ) (gs : List ExclusiveGuard) (before after : List ℕ) (v w : View Said) → has q fresh ≡ true → AreFresh fresh x n gs before after v w → Was q v w
+was-fresh fresh x n q gs before after v w among f = record { shares = ap (λ (s : Seat). s.shares) (f.seats q among); writing = ap (λ (s : Seat). s.writing) (f.seats q among); free = (f.unheld q among).exclusive }
+
+pub was-on : (q : ℕ) (v x z : View Said) → Was q v x → HoldsPage x z q → Was q v z
+was-on q v x z a h = record { shares = h.shares ∙ a.shares; writing = h.writing ∙ a.writing; free = a.free }
+
+pub was-before : (q : ℕ) (u v z : View Said) → HoldsPage u v q → Was q v z → Was q u z
+was-before q u v z h a = record { shares = a.shares ∙ h.shares; writing = a.writing ∙ h.writing; free = sym h.exclusive ∙ a.free }
+
+pub was-done : (q : ℕ) (pages : List ℕ) (v z y : View Said) → has q pages ≡ true → Was q v z → IsGroupDone pages z y → HoldsPage v y q
+was-done q pages v z y among a d = let k = d.released q among in record { shares = k.0 ∙ a.shares; exclusive = k.1 ∙ sym a.free; writing = k.2 ∙ a.writing }
+
+pub amid-holds : (fresh : List ℕ) (done : List Did) (v w : View Said) (q : ℕ) → has q fresh ≡ false → IsAmid fresh done v w → HoldsPage v w q
+amid-holds fresh done v w q none e = let k = e.seats q none in record { shares = ap (λ (s : Seat). s.shares) k; exclusive = ap (λ (s : Seat). s.exclusive) k; writing = ap (λ (s : Seat). s.writing) k }
+
+pub right-is : (x : ℕ) (gs : List ExclusiveGuard) (right : ExclusiveGuard) → pids_of gs ≡ numbers x 1 → gs ≡ right ∷ [] → right.pid ≡ x
+right-is x gs right pids e = ap (λ (l : List ℕ). slice_index l 0) (sym (ap pids_of e) ∙ pids ∙ numbers-one x)

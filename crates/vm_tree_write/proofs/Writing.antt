@@ -1,0 +1,235 @@
+-- A leaf is locked, written and released: the call is answered there.
+use Rattle.std.proofs.Common.{ℕ, Bool, true, ◌≡◌, ◌≢◌, ◌+◌, ◌≤◌, List, [], ◌∷◌, ◌++◌, Some, None, length, refl, sym, ap, subst, ◌∙◌, ◌⊎◌, inr, arith, slice_index, append_assoc, replicate, ⊎_elim}
+use Rattle.std.proofs.lemmas.Bool.{cases_eq}
+use Rattle.vm_core.specs.Words.{version_of, word_of, LOCKED}
+use Rattle.vm_map.specs.declared.call.Said.{Said}
+use Rattle.vm_owner.specs.declared.Entry.{Entry}
+use Rattle.vm_owner.specs.Kept.{AreUnchanged, calls_of}
+use Rattle.vm_owner.proofs.NumberLemmas.{without-none}
+use Rattle.vm_rule.specs.declared.view.Did.{Did}
+use Rattle.vm_rule.specs.declared.view.Origin.{Origin}
+use Rattle.vm_rule.specs.declared.view.Place.{Place}
+use Rattle.vm_rule.specs.declared.view.Place.TheVariants as places
+use Rattle.vm_core.specs.declared.event.Seat.{Seat}
+use Rattle.vm_rule.specs.declared.view.View.{View}
+use Rattle.vm_rule.specs.Views.{IsLocking, loads_at, draft_of, seat_of}
+use Rattle.vm_rule.specs.Reading.{last_of}
+use Rattle.vm_rule.specs.Rule.{began_of}
+use Rattle.vm_rule.specs.Brought.{entry_of}
+use Rattle.vm_rule.specs.Locks.{IsUnheld}
+use Rattle.vm_rule.specs.Releases.{change_of, next_after}
+use Rattle.vm_step.specs.Asides.{HoldsPage}
+use Rattle.vm_step.specs.Evidence.{HasWritten}
+use Rattle.vm_step.specs.Keeping.{IsKeptNow}
+use Rattle.vm_step.proofs.Asides.{starts-then, whole-then}
+use Rattle.vm_step.proofs.Evidenced.{next-stays}
+use Rattle.vm_tree_model.specs.Page.{node_of, IsLeaf, IsInner, IsFree}
+use Rattle.vm_tree_model.specs.Tree.{map_of}
+use Rattle.vm_tree_laws.specs.History.{IsLegal}
+use Rattle.vm_tree_laws.specs.Keeps.{Keeps}
+use Rattle.vm_tree_laws.specs.May.{IsEdit, MayRelease}
+use Rattle.vm_tree_laws.specs.Tied.{IsSound, Tied}
+use Rattle.vm_guard.specs.Guards.{IsElsewhere, IsLocked, IsReading, IsReleased, placed}
+use Rattle.vm_guard.proofs.QuietSteps.{elsewhere-then}
+use Rattle.vm_tree_rule.specs.Leaves.{ReadsOn}
+use Rattle.vm_tree_read.proofs.Answering.{words-are}
+use Rattle.vm_tree_write.specs.Drafts.{IsRedrafted}
+use Rattle.vm_tree_write.specs.Writes.{IsWritten, OnlyWrites}
+
+-- a page of the tree with a leaf's tag is a leaf
+pub leaf-is : (pages p : ℕ) (words : List ℕ) → IsSound pages p words → (node_of words).tag ≡ 2 → IsLeaf words
+leaf-is pages p words sound tag =
+    ⊎_elim
+    (λ (zero : p ≡ 0). let m = (sound.meta zero).magic in absurd (omega (arith, m, tag)))
+    (λ ne.
+    ⊎_elim
+    (λ (free : IsFree words). let z = free.zero 0 in absurd (omega (arith, z, tag)))
+    (λ other. ⊎_elim (λ (leaf : IsLeaf words). leaf) (λ (inner : IsInner words). let t = inner.node.tag in absurd (omega (arith, t, tag))) other)
+    (sound.kind (omega (arith, ne))))
+    (cases_eq p 0)
+
+written-front : (a b : List Did) (at : Place) (x : ℕ) → HasWritten a at x → HasWritten (a ++ b) at x
+written-front a b at x h = record {
+  earlier = h.earlier;
+  step = h.step;
+  later = h.later ++ b;
+  cut = ap (λ (t : List Did). t ++ b) h.cut ∙ append_assoc h.earlier (h.step ∷ h.later) b;
+  place = h.place;
+  wrote = h.wrote;
+}
+
+written-behind : (a b : List Did) (at : Place) (x : ℕ) → HasWritten b at x → HasWritten (a ++ b) at x
+written-behind a b at x h = record {
+  earlier = a ++ h.earlier;
+  step = h.step;
+  later = h.later;
+  cut = ap (λ (t : List Did). a ++ t) h.cut ∙ sym (append_assoc a h.earlier (h.step ∷ h.later));
+  place = h.place;
+  wrote = h.wrote;
+}
+
+-- the entry of a pass with the same numbers and entries
+pub entry-same : (v x : View Said) (said : Said) → x.used ≡ v.used → x.mine ≡ v.mine → entry_of x said ≡ entry_of v said
+entry-same v x said used mine i = record { number = slice_index (used i) 0; count = calls_of (slice_index (used i) 0) (mine i) + 1; said = said }
+
+module _ {X : Type 0} where
+  -- a page that the pass did not hold is not locked
+  unheld-not : (p : ℕ) (v : View X) → IsUnheld v p → IsLocking (seat_of v p) → ⊥
+  unheld-not p v u l = ⊎_elim (λ (e : (seat_of v p).exclusive ≡ true). let f = u.exclusive in cc) (λ (s : 1 ≤ (seat_of v p).shares). let z = u.shares in omega (arith, z, s)) l
+
+-- a leaf's words are not all zero
+pub not-zeros : (words : List ℕ) → (node_of words).tag ≡ 2 → words ≢ replicate 64 0
+not-zeros words tag is = let t : slice_index (replicate 64 0) 0 ≡ 2 = ap (λ (l : List ℕ). slice_index l 0) (sym is) ∙ tag in absurd (omega (arith, t))
+
+module _ (p f version word frame : ℕ) (dirty : Bool) (said : Said) (earlier : List (ℕ × ℕ)) (before after : List ℕ) (v x y w : View Said) (r : IsReading p word frame v) (long : length before ≡ 64) (loads : loads_at v p ≡ earlier ++ placed 0 before) (tells : v.start.tells ≡ true) (at : version ≡ version_of word) (l : IsLocked Tied p f version dirty v x) where
+  -- the draft of the leaf is what was read of it
+  pub draft-is : draft_of x p ≡ before
+  draft-is = l.draft ∙ words-are p v earlier before (last_of x p).words long loads (ap (λ (z : List ℕ). length z) (sym l.draft) ∙ l.holding.size) ((l.validates tells).valid _ r.reading (sym at))
+
+  pub last-is : (last_of x p).words ≡ before
+  last-is = sym l.draft ∙ draft-is
+
+  -- it is a leaf
+  pub leaf-before : (node_of before).tag ≡ 2 → IsLeaf before
+  leaf-before tag = leaf-is _ p before (subst (λ (z : List ℕ). IsSound (length v.start.contents) p z) last-is (l.validates tells).itself.sound) tag
+
+  module _ (d : IsRedrafted p x y) (drafted : draft_of y p ≡ after) where
+    -- its words before and after are those of the two pages
+    pub old-is : (last_of y p).words ≡ before
+    old-is = ap (λ (z : Rattle.vm_core.specs.History.Version). z.words) d.last ∙ last-is
+
+    pub edits : (node_of before).tag ≡ 2 → (IsLeaf before → IsEdit before after said.call said.reply) → ((node_of (last_of y p).words).tag ≡ 2) × IsEdit (last_of y p).words (draft_of y p) said.call said.reply
+    edits tag edit = (
+      subst (λ (z : List ℕ). (node_of z).tag ≡ 2) (sym old-is) tag,
+      subst (λ (z : List ℕ). IsEdit z (draft_of y p) said.call said.reply) (sym old-is) (subst (λ (z : List ℕ). IsEdit before z said.call said.reply) (sym drafted) (edit (leaf-before tag))),
+    )
+
+    pub owner : (n : ℕ) → n ≡ p → (node_of before).tag ≡ 2 → (IsLeaf before → IsEdit before after said.call said.reply)
+        → ((Some said ≡ None) × AreUnchanged y.owed (change_of y n ∷ [])) ⊎ MayRelease (began_of y.start) y.owed (change_of y n ∷ []) (entry_of y said ∷ [])
+    owner n same tag edit =
+        subst (λ (k : ℕ). ((Some said ≡ None) × AreUnchanged y.owed (change_of y k ∷ [])) ⊎ MayRelease (began_of y.start) y.owed (change_of y k ∷ []) (entry_of y said ∷ [])) (sym same) (inr (edits tag edit))
+
+    module _ (e : IsReleased p version (Some said) y w) where
+      abbrev all : List Did
+      all = l.done ++ (d.done ++ e.done)
+
+      rest : IsElsewhere p all (record { page = p; version = version + 1; words = draft_of y p } ∷ []) v w
+      rest = elsewhere-then p l.done (d.done ++ e.done) v x w l.elsewhere (elsewhere-then p d.done e.done x y w d.elsewhere e.elsewhere)
+
+      holds-here : HoldsPage v w p
+      holds-here = record {
+        shares = ap (λ (s : Seat). s.shares) e.seat ∙ d.holds.shares ∙ ap (λ (s : Seat). s.shares) l.seat;
+        exclusive = ap (λ (s : Seat). s.exclusive) e.seat ∙ sym l.before.exclusive;
+        writing = ap (λ (s : Seat). s.writing) e.seat ∙ d.holds.writing ∙ ap (λ (s : Seat). s.writing) l.seat;
+      }
+
+      pub only : OnlyWrites p v w
+      only = record {
+        done = all;
+        log = rest.steady.log;
+        live = rest.steady.live;
+        start = rest.steady.start;
+        parts = rest.steady.parts;
+        seen = rest.steady.seen;
+        releases = rest.steady.releases;
+        frames = rest.steady.frames;
+        out = rest.steady.out;
+        notes = rest.steady.notes;
+        ties = rest.steady.ties;
+        group = (
+          e.group.0 ∙ d.group.0 ∙ l.group.0,
+          e.group.1 ∙ ap (Rattle.vm_owner.specs.Numbers.without p) (d.group.1 ∙ l.group.1) ∙ without-none p v.owed l.before.paid,
+          e.group.2 ∙ ap (next_after p) (d.group.2 ∙ l.group.2) ∙ next-stays p v.next l.before.next,
+        );
+        holds = λ q. ⊎_elim (λ (s : q ≡ p). subst (HoldsPage v w) (sym s) holds-here) (λ ne. rest.holds q ne) (cases_eq q p);
+        knows = λ q lk. ⊎_elim (λ (s : q ≡ p). absurd (unheld-not p v l.before (subst (λ n. IsLocking (seat_of v n)) s lk))) (λ ne. rest.knows q ne lk) (cases_eq q p);
+        current = e.current;
+        alone = λ whole current q ne.
+            let wx = whole-then v x l.elsewhere.steady.parts whole in
+            let wy = whole-then x y d.elsewhere.steady.parts wx in
+            e.alone wy (d.alone.current l.current) q ne ∙ d.alone.words wx l.current q ∙ l.alone.words whole current q;
+      }
+
+      pub written : ((node_of before).tag ≡ 2) → (IsLeaf before → IsEdit before after said.call said.reply) → IsKeptNow Keeps p (Unit {0}) w → (a : IsWritten said v w) × (a.old ≡ before)
+      unfolding only
+      written tag edit kept =
+          let used : y.used ≡ v.used = d.elsewhere.steady.parts.0 ∙ l.elsewhere.steady.parts.0 in
+          let mine : y.mine ≡ v.mine = d.mine ∙ l.mine in
+          let same : entry_of y said ≡ entry_of v said = entry-same v y said used mine in
+          let seen = starts-then v.seen x.seen y.seen l.elsewhere.steady.seen d.elsewhere.steady.seen in
+          let last : last_of w p ≡ record { version = version + 1; words = after } = e.last ∙ ap (λ (z : List ℕ). record { version = version + 1; words = z }) drafted in
+          let keeps : Keeps (began_of v.start) kept.kept = subst (λ (o : Origin). Keeps (began_of o) kept.kept) rest.steady.start kept.holds in (
+            record {
+              page = p;
+              version = version;
+              old = before;
+              new = after;
+              writes = only;
+              locked = written-front l.done (d.done ++ e.done) (places.State p) (word_of LOCKED version) l.wrote;
+              released = written-behind l.done (d.done ++ e.done) (places.State p) (version + 1) (written-behind d.done e.done (places.State p) (version + 1) e.wrote);
+              mine = e.mine ∙ (λ i. mine i ++ same i ∷ []);
+              entry = (
+                seen.0 ++ e.entry.0,
+                e.entry.1 ∙ (λ i. (seen.1 i ++ e.entry.0) ++ same i ∷ []) ∙ ap (λ (t : List (Entry Said)). t ++ entry_of v said ∷ []) (append_assoc v.seen seen.0 e.entry.0),
+              );
+              legal = subst (IsLegal (map_of v.start.contents)) kept.history keeps.legal;
+              kept = kept.kept;
+              keeps = keeps;
+              history = kept.history;
+              logical = kept.page tt ∙ ap (λ (z : Rattle.vm_core.specs.History.Version). z.words) last;
+              last = last;
+              leaf = leaf-before tag;
+              edit = edit (leaf-before tag);
+            },
+            refl,
+          )
+
+-- reads before a write
+pub only-later : (p : ℕ) (v x w : View Said) → ReadsOn v x → OnlyWrites p x w → OnlyWrites p v w
+only-later p v x w r a = record {
+  done = r.0.done ++ a.done;
+  log = a.log ∙ ap (λ (t : List Did). t ++ a.done) r.0.log ∙ append_assoc v.log r.0.done a.done;
+  live = a.live ∙ r.0.live;
+  start = a.start ∙ r.0.start;
+  parts = (a.parts.0 ∙ r.0.parts.0, a.parts.1 ∙ r.0.parts.1);
+  seen = starts-then v.seen x.seen w.seen r.0.seen a.seen;
+  releases = starts-then v.releases x.releases w.releases r.0.releases a.releases;
+  frames = (a.frames.0 ∙ r.0.frames.0, a.frames.1 ∙ r.0.frames.1);
+  out = a.out ∙ r.0.out;
+  notes = a.notes ∙ r.0.notes;
+  ties = (a.ties.0 ++ r.0.ties.0, a.ties.1 ∙ ap (λ (t : List _). a.ties.0 ++ t) r.0.ties.1 ∙ sym (append_assoc a.ties.0 r.0.ties.0 v.ties));
+  group = (a.group.0 ∙ r.0.group.0, a.group.1 ∙ r.0.group.1, a.group.2 ∙ r.0.group.2);
+  holds = λ q. Rattle.vm_step.proofs.Asides.holds-then v x w q (r.0.holds q) (a.holds q);
+  knows = λ q l. Rattle.vm_step.proofs.Asides.knows-then v x w q (r.0.knows q l) (a.knows q (Rattle.vm_step.proofs.Asides.still-locking v x q (r.0.holds q) l));
+  current = a.current;
+  alone = λ whole current q ne. a.alone (whole-then v x r.0.parts whole) (r.0.alone.current current) q ne ∙ r.0.alone.words whole current q;
+}
+
+pub written-later : (said : Said) (v x w : View Said) → ReadsOn v x → (a : IsWritten said x w) → (b : IsWritten said v w) × (b.old ≡ a.old)
+unfolding only-later
+written-later said v x w r a =
+    let same : entry_of x said ≡ entry_of v said = entry-same v x said r.0.parts.0 r.1 in (
+      record {
+        page = a.page;
+        version = a.version;
+        old = a.old;
+        new = a.new;
+        writes = only-later a.page v x w r a.writes;
+        locked = written-behind r.0.done a.writes.done (places.State a.page) (word_of LOCKED a.version) a.locked;
+        released = written-behind r.0.done a.writes.done (places.State a.page) (a.version + 1) a.released;
+        mine = a.mine ∙ (λ i. r.1 i ++ same i ∷ []);
+        entry = (
+          r.0.seen.0 ++ a.entry.0,
+          a.entry.1 ∙ (λ i. (r.0.seen.1 i ++ a.entry.0) ++ same i ∷ []) ∙ ap (λ (t : List (Entry Said)). t ++ entry_of v said ∷ []) (append_assoc v.seen r.0.seen.0 a.entry.0),
+        );
+        legal = subst (λ (o : Origin). IsLegal (map_of o.contents) w.seen) r.0.start a.legal;
+        kept = a.kept;
+        keeps = subst (λ (o : Origin). Keeps (began_of o) a.kept) r.0.start a.keeps;
+        history = a.history;
+        logical = a.logical;
+        last = a.last;
+        leaf = a.leaf;
+        edit = a.edit;
+      },
+      refl,
+    )

@@ -1,0 +1,31 @@
+use Rattle.std.proofs.Common.{◌++◌, ◌∙◌, refl, sym, ap, inl}
+use Rattle.vm_core.specs.History.{Version}
+use Rattle.vm_exmap.proofs.Handing.{held-on}
+use Rattle.vm_owner.specs.Numbers.{has}
+use Rattle.vm_owner.proofs.NumberLemmas.{without-none}
+use Rattle.vm_step.specs.Passes.{view}
+use Rattle.vm_tree_write.proofs.Losing.{freed-loses, loses-same, loses-then}
+use Rattle.vm_tree_write.proofs.prepare.give_up.Goals as goal
+
+pub release-requires-2-clause-owner : goal.release-requires-2-clause-owner
+release-requires-2-clause-owner g c =
+    let r = c.release.ensures.released in
+    let v = view c.args.pass.now in
+    let k = r.elsewhere.knows c.args.up.pid (λ e. c.requires.apart (sym e)) (inl c.requires.held.0.owns) in
+    λ tells.
+    inl
+    (refl, (k.draft ∙ c.requires.same.0 ∙ sym (ap (λ (y : Version). y.words) k.last), ap (has c.args.up.pid) (r.group.1 ∙ without-none c.args.low.pid v.owed c.requires.unpaid.1) ∙ c.requires.unpaid.0, tt))
+
+pub free-requires-clause-frames : goal.free-requires-clause-frames
+free-requires-clause-frames g c =
+    let r = c.release.ensures.released.elsewhere.steady in
+    let s = c.release-2.ensures.released.elsewhere.steady in
+    held-on _ (view c.args.pass.now) (view c.release-2.new.pass) c.requires.frames (s.start ∙ r.start) (s.frames.0 ∙ r.frames.0)
+
+pub returns-clause-lost : goal.returns-clause-lost
+returns-clause-lost g c =
+    let r = c.release.ensures.released.elsewhere.steady in
+    let t = c.release-2.ensures.released.elsewhere.steady in
+    let all = c.args.iface.now.frames ++ c.args.frames in
+    loses-then all all c.free.new.self.frames (view c.args.pass.now) (view c.release-2.new.pass) (view c.free.new.pass)
+    (loses-same all all (view c.args.pass.now) (view c.release-2.new.pass) (t.frames.0 ∙ r.frames.0) (λ f e. e)) (freed-loses _ _ _ _ _ _ c.free.ensures.freed)

@@ -1,0 +1,219 @@
+use Rattle.std.proofs.Common.{◌∙◌, ◌++◌, ◌+◌, refl, arith}
+use Rattle.vm_guard.specs.declared.given.Fresh.TheVariants as freshes
+use Rattle.vm_step.specs.Passes.{view}
+use Rattle.vm_exmap.proofs.Handing.{held-on, held-rest, held-swap}
+use Rattle.vm_tree_write.specs.declared.tries.TrySplit.TheVariants as tries
+use Rattle.vm_tree_write.proofs.Framing.{freed-keeps, fresh-beside, keeps-then}
+use Rattle.vm_tree_write.proofs.GivingUp.{locks-frames, locks-out, locks-start, none-ended, none-frames, none-kept, none-lost, none-out}
+use Rattle.vm_tree_write.proofs.Losing.{fresh-loses, freed-loses, loses-same, loses-swap, loses-then}
+use Rattle.vm_tree_write.proofs.Refusing.{none-given, unsplit-within}
+use Rattle.vm_tree_write.proofs.Under.{reading-moved}
+use Rattle.vm_tree_write.proofs.prepare.prepare.Goals as goal
+
+pub lock_two-requires-clause-first : goal.lock_two-requires-clause-first
+lock_two-requires-clause-first g c =
+    let m = c.in-Ok.ensures.moves in reading-moved m.0 (view c.args.pass.now) (view c.frames_for.new.pass) m.1 c.args.first.pid c.args.first.word c.args.first.frame c.requires.first
+
+pub lock_two-requires-clause-second : goal.lock_two-requires-clause-second
+lock_two-requires-clause-second g c =
+    let m = c.in-Ok.ensures.moves in reading-moved m.0 (view c.args.pass.now) (view c.frames_for.new.pass) m.1 c.args.second.pid c.args.second.word c.args.second.frame c.requires.second
+
+pub free-requires-clause-frames : goal.free-requires-clause-frames
+free-requires-clause-frames g c =
+    let k = c.in-Err-lock_two.ensures.err in
+    held-on _ (view c.frames_for.new.pass) (view c.lock_two.new.pass) (held-swap c.in-Ok.frames c.frames_for.new.iface.frames (view c.frames_for.new.pass) c.in-Ok.ensures.ok.1) k.0.start k.1
+
+pub returns-in-Err-lock_two-clause-err : goal.returns-in-Err-lock_two-clause-err
+returns-in-Err-lock_two-clause-err g c =
+    let v = view c.args.pass.now in
+    let x = view c.frames_for.new.pass in
+    let y = view c.lock_two.new.pass in
+    let w = view c.free.new.pass in
+    let k = c.in-Err-lock_two.ensures.err in
+    let freed = freed-keeps _ _ _ _ y w c.free.ensures.freed in (
+      c.free.ensures.held,
+      keeps-then v y w (keeps-then v x y c.in-Ok.ensures.keeps k.0) freed,
+      unsplit-within c.args.n c.args.first c.args.second c.in-Err-lock_two.answer v x y w c.in-Ok.ensures.keeps.log freed.log (k.2 c.args.n),
+    )
+
+pub fresh-requires-clause-frames : goal.fresh-requires-clause-frames
+fresh-requires-clause-frames g c =
+    let x = view c.frames_for.new.pass in
+    let y = view c.lock_two.new.pass in
+    let l = c.in-Ok-lock_two.ensures.ok in
+    let here = held-on (c.in-Ok.frames ++ c.frames_for.new.iface.frames) x y c.in-Ok.ensures.ok.1 (locks-start c.args.first c.args.second c.in-Ok-lock_two.locks.up c.in-Ok-lock_two.locks.low x y l c.requires.apart) (locks-frames c.args.first c.args.second c.in-Ok-lock_two.locks.up c.in-Ok-lock_two.locks.low x y l c.requires.apart) in
+    let many = c.in-Ok.ensures.ok.0 in
+    (held-rest c.frames_for.new.iface.frames c.in-Ok.frames y (held-swap c.in-Ok.frames c.frames_for.new.iface.frames y here), omega (arith, many))
+
+pub fresh-requires-clause-home : goal.fresh-requires-clause-home
+fresh-requires-clause-home g c =
+    locks-out c.args.first c.args.second c.in-Ok-lock_two.locks.up c.in-Ok-lock_two.locks.low (view c.frames_for.new.pass) (view c.lock_two.new.pass) c.in-Ok-lock_two.ensures.ok c.requires.apart ∙ c.in-Ok.ensures.moves.1.out ∙ c.requires.home
+
+pub returns-in-Pages-clause-held : goal.returns-in-Pages-clause-held
+returns-in-Pages-clause-held g c =
+    let x = view c.frames_for.new.pass in
+    let y = view c.lock_two.new.pass in
+    let w = view c.fresh.new.pass in
+    let l = c.in-Ok-lock_two.ensures.ok in
+    let here = held-on (c.in-Ok.frames ++ c.frames_for.new.iface.frames) x y c.in-Ok.ensures.ok.1 (locks-start c.args.first c.args.second c.in-Ok-lock_two.locks.up c.in-Ok-lock_two.locks.low x y l c.requires.apart) (locks-frames c.args.first c.args.second c.in-Ok-lock_two.locks.up c.in-Ok-lock_two.locks.low x y l c.requires.apart) in
+    let f = c.in-Pages.ensures.answer.1 in
+    fresh-beside c.frames_for.new.iface.frames c.in-Ok.frames c.fresh.new.frames f.taken y w here f.cut f.frames f.amid.start
+
+pub returns-in-Pages-clause-ok : goal.returns-in-Pages-clause-ok
+returns-in-Pages-clause-ok g c =
+    let m = c.in-Ok.ensures.moves in
+    let a = c.in-Pages.ensures.answer in
+    record {
+      asked = view c.frames_for.new.pass;
+      done = m.0;
+      moves = m.1;
+      locked = view c.lock_two.new.pass;
+      locks = c.in-Ok-lock_two.ensures.ok;
+      x = a.0;
+      before = c.in-Ok.frames;
+      after = c.fresh.new.frames;
+      fresh = a.1;
+    }
+
+pub give_up-requires-clause-held : goal.give_up-requires-clause-held
+give_up-requires-clause-held g c =
+    let none = none-given c.args.n c.in-Ok.frames c.fresh.new.frames (freshes.Again c.in-Again.saw) (tries.Again c.in-Again.saw) (view c.lock_two.new.pass) (view c.fresh.new.pass) c.in-Again.ensures.answer refl in
+    (none-kept c.args.first c.args.second c.in-Ok-lock_two.locks.up c.in-Ok-lock_two.locks.low (view c.frames_for.new.pass) (view c.lock_two.new.pass) c.in-Ok-lock_two.ensures.ok c.requires.apart c.args.n c.in-Ok.frames c.fresh.new.frames (tries.Again c.in-Again.saw) (view c.fresh.new.pass) none).held
+
+pub give_up-requires-clause-same : goal.give_up-requires-clause-same
+give_up-requires-clause-same g c =
+    let none = none-given c.args.n c.in-Ok.frames c.fresh.new.frames (freshes.Again c.in-Again.saw) (tries.Again c.in-Again.saw) (view c.lock_two.new.pass) (view c.fresh.new.pass) c.in-Again.ensures.answer refl in
+    (none-kept c.args.first c.args.second c.in-Ok-lock_two.locks.up c.in-Ok-lock_two.locks.low (view c.frames_for.new.pass) (view c.lock_two.new.pass) c.in-Ok-lock_two.ensures.ok c.requires.apart c.args.n c.in-Ok.frames c.fresh.new.frames (tries.Again c.in-Again.saw) (view c.fresh.new.pass) none).same
+
+pub give_up-requires-clause-unpaid : goal.give_up-requires-clause-unpaid
+give_up-requires-clause-unpaid g c =
+    let none = none-given c.args.n c.in-Ok.frames c.fresh.new.frames (freshes.Again c.in-Again.saw) (tries.Again c.in-Again.saw) (view c.lock_two.new.pass) (view c.fresh.new.pass) c.in-Again.ensures.answer refl in
+    (none-kept c.args.first c.args.second c.in-Ok-lock_two.locks.up c.in-Ok-lock_two.locks.low (view c.frames_for.new.pass) (view c.lock_two.new.pass) c.in-Ok-lock_two.ensures.ok c.requires.apart c.args.n c.in-Ok.frames c.fresh.new.frames (tries.Again c.in-Again.saw) (view c.fresh.new.pass) none).unpaid
+
+pub give_up-requires-clause-home : goal.give_up-requires-clause-home
+give_up-requires-clause-home g c =
+    let none = none-given c.args.n c.in-Ok.frames c.fresh.new.frames (freshes.Again c.in-Again.saw) (tries.Again c.in-Again.saw) (view c.lock_two.new.pass) (view c.fresh.new.pass) c.in-Again.ensures.answer refl in
+    none-out c.args.first c.args.second c.in-Ok-lock_two.locks.up c.in-Ok-lock_two.locks.low (view c.frames_for.new.pass) (view c.lock_two.new.pass) c.in-Ok-lock_two.ensures.ok c.requires.apart c.args.n c.in-Ok.frames c.fresh.new.frames (tries.Again c.in-Again.saw) (view c.fresh.new.pass) none ∙ c.in-Ok.ensures.moves.1.out ∙ c.requires.home
+
+pub give_up-requires-clause-frames : goal.give_up-requires-clause-frames
+give_up-requires-clause-frames g c =
+    let none = none-given c.args.n c.in-Ok.frames c.fresh.new.frames (freshes.Again c.in-Again.saw) (tries.Again c.in-Again.saw) (view c.lock_two.new.pass) (view c.fresh.new.pass) c.in-Again.ensures.answer refl in
+    none-frames c.args.first c.args.second c.in-Ok-lock_two.locks.up c.in-Ok-lock_two.locks.low (view c.frames_for.new.pass) (view c.lock_two.new.pass) c.in-Ok-lock_two.ensures.ok c.requires.apart c.args.n c.in-Ok.frames c.fresh.new.frames (tries.Again c.in-Again.saw) (view c.fresh.new.pass) none c.frames_for.new.iface.frames c.in-Ok.ensures.ok.1
+
+pub returns-in-Again-clause-err : goal.returns-in-Again-clause-err
+returns-in-Again-clause-err g c =
+    let none = none-given c.args.n c.in-Ok.frames c.fresh.new.frames (freshes.Again c.in-Again.saw) (tries.Again c.in-Again.saw) (view c.lock_two.new.pass) (view c.fresh.new.pass) c.in-Again.ensures.answer refl in
+    let k = none-ended c.args.first c.args.second c.in-Ok-lock_two.locks.up c.in-Ok-lock_two.locks.low (view c.frames_for.new.pass) (view c.lock_two.new.pass) c.in-Ok-lock_two.ensures.ok c.requires.apart c.args.n c.in-Ok.frames c.fresh.new.frames (tries.Again c.in-Again.saw) (view c.fresh.new.pass) none (view c.args.pass.now) (view c.give_up.new.pass) c.in-Ok.ensures.keeps c.give_up.ensures.done in
+    (c.give_up.ensures.held, k.0, k.1)
+
+pub give_up-requires-in-Worn-clause-held : goal.give_up-requires-in-Worn-clause-held
+give_up-requires-in-Worn-clause-held g c =
+    let none = none-given c.args.n c.in-Ok.frames c.fresh.new.frames (freshes.Worn c.in-Worn.pid) (tries.Worn c.in-Worn.pid) (view c.lock_two.new.pass) (view c.fresh.new.pass) c.in-Worn.ensures.answer refl in
+    (none-kept c.args.first c.args.second c.in-Ok-lock_two.locks.up c.in-Ok-lock_two.locks.low (view c.frames_for.new.pass) (view c.lock_two.new.pass) c.in-Ok-lock_two.ensures.ok c.requires.apart c.args.n c.in-Ok.frames c.fresh.new.frames (tries.Worn c.in-Worn.pid) (view c.fresh.new.pass) none).held
+
+pub give_up-requires-in-Worn-clause-same : goal.give_up-requires-in-Worn-clause-same
+give_up-requires-in-Worn-clause-same g c =
+    let none = none-given c.args.n c.in-Ok.frames c.fresh.new.frames (freshes.Worn c.in-Worn.pid) (tries.Worn c.in-Worn.pid) (view c.lock_two.new.pass) (view c.fresh.new.pass) c.in-Worn.ensures.answer refl in
+    (none-kept c.args.first c.args.second c.in-Ok-lock_two.locks.up c.in-Ok-lock_two.locks.low (view c.frames_for.new.pass) (view c.lock_two.new.pass) c.in-Ok-lock_two.ensures.ok c.requires.apart c.args.n c.in-Ok.frames c.fresh.new.frames (tries.Worn c.in-Worn.pid) (view c.fresh.new.pass) none).same
+
+pub give_up-requires-in-Worn-clause-unpaid : goal.give_up-requires-in-Worn-clause-unpaid
+give_up-requires-in-Worn-clause-unpaid g c =
+    let none = none-given c.args.n c.in-Ok.frames c.fresh.new.frames (freshes.Worn c.in-Worn.pid) (tries.Worn c.in-Worn.pid) (view c.lock_two.new.pass) (view c.fresh.new.pass) c.in-Worn.ensures.answer refl in
+    (none-kept c.args.first c.args.second c.in-Ok-lock_two.locks.up c.in-Ok-lock_two.locks.low (view c.frames_for.new.pass) (view c.lock_two.new.pass) c.in-Ok-lock_two.ensures.ok c.requires.apart c.args.n c.in-Ok.frames c.fresh.new.frames (tries.Worn c.in-Worn.pid) (view c.fresh.new.pass) none).unpaid
+
+pub give_up-requires-in-Worn-clause-home : goal.give_up-requires-in-Worn-clause-home
+give_up-requires-in-Worn-clause-home g c =
+    let none = none-given c.args.n c.in-Ok.frames c.fresh.new.frames (freshes.Worn c.in-Worn.pid) (tries.Worn c.in-Worn.pid) (view c.lock_two.new.pass) (view c.fresh.new.pass) c.in-Worn.ensures.answer refl in
+    none-out c.args.first c.args.second c.in-Ok-lock_two.locks.up c.in-Ok-lock_two.locks.low (view c.frames_for.new.pass) (view c.lock_two.new.pass) c.in-Ok-lock_two.ensures.ok c.requires.apart c.args.n c.in-Ok.frames c.fresh.new.frames (tries.Worn c.in-Worn.pid) (view c.fresh.new.pass) none ∙ c.in-Ok.ensures.moves.1.out ∙ c.requires.home
+
+pub give_up-requires-in-Worn-clause-frames : goal.give_up-requires-in-Worn-clause-frames
+give_up-requires-in-Worn-clause-frames g c =
+    let none = none-given c.args.n c.in-Ok.frames c.fresh.new.frames (freshes.Worn c.in-Worn.pid) (tries.Worn c.in-Worn.pid) (view c.lock_two.new.pass) (view c.fresh.new.pass) c.in-Worn.ensures.answer refl in
+    none-frames c.args.first c.args.second c.in-Ok-lock_two.locks.up c.in-Ok-lock_two.locks.low (view c.frames_for.new.pass) (view c.lock_two.new.pass) c.in-Ok-lock_two.ensures.ok c.requires.apart c.args.n c.in-Ok.frames c.fresh.new.frames (tries.Worn c.in-Worn.pid) (view c.fresh.new.pass) none c.frames_for.new.iface.frames c.in-Ok.ensures.ok.1
+
+pub returns-in-Worn-clause-err : goal.returns-in-Worn-clause-err
+returns-in-Worn-clause-err g c =
+    let none = none-given c.args.n c.in-Ok.frames c.fresh.new.frames (freshes.Worn c.in-Worn.pid) (tries.Worn c.in-Worn.pid) (view c.lock_two.new.pass) (view c.fresh.new.pass) c.in-Worn.ensures.answer refl in
+    let k = none-ended c.args.first c.args.second c.in-Ok-lock_two.locks.up c.in-Ok-lock_two.locks.low (view c.frames_for.new.pass) (view c.lock_two.new.pass) c.in-Ok-lock_two.ensures.ok c.requires.apart c.args.n c.in-Ok.frames c.fresh.new.frames (tries.Worn c.in-Worn.pid) (view c.fresh.new.pass) none (view c.args.pass.now) (view c.give_up-in-Worn.new.pass) c.in-Ok.ensures.keeps c.give_up-in-Worn.ensures.done in
+    (c.give_up-in-Worn.ensures.held, k.0, k.1)
+
+pub give_up-requires-in-Full-clause-held : goal.give_up-requires-in-Full-clause-held
+give_up-requires-in-Full-clause-held g c =
+    let none = none-given c.args.n c.in-Ok.frames c.fresh.new.frames (freshes.Full c.in-Full.pages c.in-Full.next c.in-Full.need) (tries.Full c.in-Full.pages c.in-Full.next c.in-Full.need) (view c.lock_two.new.pass) (view c.fresh.new.pass) c.in-Full.ensures.answer refl in
+    (none-kept c.args.first c.args.second c.in-Ok-lock_two.locks.up c.in-Ok-lock_two.locks.low (view c.frames_for.new.pass) (view c.lock_two.new.pass) c.in-Ok-lock_two.ensures.ok c.requires.apart c.args.n c.in-Ok.frames c.fresh.new.frames (tries.Full c.in-Full.pages c.in-Full.next c.in-Full.need) (view c.fresh.new.pass) none).held
+
+pub give_up-requires-in-Full-clause-same : goal.give_up-requires-in-Full-clause-same
+give_up-requires-in-Full-clause-same g c =
+    let none = none-given c.args.n c.in-Ok.frames c.fresh.new.frames (freshes.Full c.in-Full.pages c.in-Full.next c.in-Full.need) (tries.Full c.in-Full.pages c.in-Full.next c.in-Full.need) (view c.lock_two.new.pass) (view c.fresh.new.pass) c.in-Full.ensures.answer refl in
+    (none-kept c.args.first c.args.second c.in-Ok-lock_two.locks.up c.in-Ok-lock_two.locks.low (view c.frames_for.new.pass) (view c.lock_two.new.pass) c.in-Ok-lock_two.ensures.ok c.requires.apart c.args.n c.in-Ok.frames c.fresh.new.frames (tries.Full c.in-Full.pages c.in-Full.next c.in-Full.need) (view c.fresh.new.pass) none).same
+
+pub give_up-requires-in-Full-clause-unpaid : goal.give_up-requires-in-Full-clause-unpaid
+give_up-requires-in-Full-clause-unpaid g c =
+    let none = none-given c.args.n c.in-Ok.frames c.fresh.new.frames (freshes.Full c.in-Full.pages c.in-Full.next c.in-Full.need) (tries.Full c.in-Full.pages c.in-Full.next c.in-Full.need) (view c.lock_two.new.pass) (view c.fresh.new.pass) c.in-Full.ensures.answer refl in
+    (none-kept c.args.first c.args.second c.in-Ok-lock_two.locks.up c.in-Ok-lock_two.locks.low (view c.frames_for.new.pass) (view c.lock_two.new.pass) c.in-Ok-lock_two.ensures.ok c.requires.apart c.args.n c.in-Ok.frames c.fresh.new.frames (tries.Full c.in-Full.pages c.in-Full.next c.in-Full.need) (view c.fresh.new.pass) none).unpaid
+
+pub give_up-requires-in-Full-clause-home : goal.give_up-requires-in-Full-clause-home
+give_up-requires-in-Full-clause-home g c =
+    let none = none-given c.args.n c.in-Ok.frames c.fresh.new.frames (freshes.Full c.in-Full.pages c.in-Full.next c.in-Full.need) (tries.Full c.in-Full.pages c.in-Full.next c.in-Full.need) (view c.lock_two.new.pass) (view c.fresh.new.pass) c.in-Full.ensures.answer refl in
+    none-out c.args.first c.args.second c.in-Ok-lock_two.locks.up c.in-Ok-lock_two.locks.low (view c.frames_for.new.pass) (view c.lock_two.new.pass) c.in-Ok-lock_two.ensures.ok c.requires.apart c.args.n c.in-Ok.frames c.fresh.new.frames (tries.Full c.in-Full.pages c.in-Full.next c.in-Full.need) (view c.fresh.new.pass) none ∙ c.in-Ok.ensures.moves.1.out ∙ c.requires.home
+
+pub give_up-requires-in-Full-clause-frames : goal.give_up-requires-in-Full-clause-frames
+give_up-requires-in-Full-clause-frames g c =
+    let none = none-given c.args.n c.in-Ok.frames c.fresh.new.frames (freshes.Full c.in-Full.pages c.in-Full.next c.in-Full.need) (tries.Full c.in-Full.pages c.in-Full.next c.in-Full.need) (view c.lock_two.new.pass) (view c.fresh.new.pass) c.in-Full.ensures.answer refl in
+    none-frames c.args.first c.args.second c.in-Ok-lock_two.locks.up c.in-Ok-lock_two.locks.low (view c.frames_for.new.pass) (view c.lock_two.new.pass) c.in-Ok-lock_two.ensures.ok c.requires.apart c.args.n c.in-Ok.frames c.fresh.new.frames (tries.Full c.in-Full.pages c.in-Full.next c.in-Full.need) (view c.fresh.new.pass) none c.frames_for.new.iface.frames c.in-Ok.ensures.ok.1
+
+pub returns-in-Full-clause-err : goal.returns-in-Full-clause-err
+returns-in-Full-clause-err g c =
+    let none = none-given c.args.n c.in-Ok.frames c.fresh.new.frames (freshes.Full c.in-Full.pages c.in-Full.next c.in-Full.need) (tries.Full c.in-Full.pages c.in-Full.next c.in-Full.need) (view c.lock_two.new.pass) (view c.fresh.new.pass) c.in-Full.ensures.answer refl in
+    let k = none-ended c.args.first c.args.second c.in-Ok-lock_two.locks.up c.in-Ok-lock_two.locks.low (view c.frames_for.new.pass) (view c.lock_two.new.pass) c.in-Ok-lock_two.ensures.ok c.requires.apart c.args.n c.in-Ok.frames c.fresh.new.frames (tries.Full c.in-Full.pages c.in-Full.next c.in-Full.need) (view c.fresh.new.pass) none (view c.args.pass.now) (view c.give_up-in-Full.new.pass) c.in-Ok.ensures.keeps c.give_up-in-Full.ensures.done in
+    (c.give_up-in-Full.ensures.held, k.0, k.1)
+
+pub returns-in-Err-clause-err : goal.returns-in-Err-clause-err
+returns-in-Err-clause-err g c = (c.in-Err.ensures.err.0, c.in-Err.ensures.keeps, c.in-Err.ensures.err.1 c.args.n c.args.first c.args.second)
+
+pub returns-in-Err-clause-lost_none : goal.returns-in-Err-clause-lost_none
+returns-in-Err-clause-lost_none g c = c.in-Err.ensures.lost_none
+
+pub returns-in-Err-lock_two-clause-lost_none : goal.returns-in-Err-lock_two-clause-lost_none
+returns-in-Err-lock_two-clause-lost_none g c =
+    let own = c.frames_for.new.iface.frames in
+    let x = view c.frames_for.new.pass in
+    let y = view c.lock_two.new.pass in
+    loses-then c.args.iface.now.frames (c.in-Ok.frames ++ own) c.free.new.self.frames (view c.args.pass.now) x (view c.free.new.pass) c.in-Ok.ensures.lost
+    (loses-then (c.in-Ok.frames ++ own) (own ++ c.in-Ok.frames) c.free.new.self.frames x y (view c.free.new.pass) (loses-swap c.in-Ok.frames own x y c.in-Err-lock_two.ensures.err.1) (freed-loses _ _ _ _ _ _ c.free.ensures.freed))
+
+pub returns-in-Pages-clause-lost : goal.returns-in-Pages-clause-lost
+returns-in-Pages-clause-lost g c =
+    let own = c.frames_for.new.iface.frames in
+    let all = c.in-Ok.frames ++ own in
+    let x = view c.frames_for.new.pass in
+    let y = view c.lock_two.new.pass in
+    let w = view c.fresh.new.pass in
+    let f = c.in-Pages.ensures.answer.1 in
+    let same = locks-frames c.args.first c.args.second c.in-Ok-lock_two.locks.up c.in-Ok-lock_two.locks.low x y c.in-Ok-lock_two.ensures.ok c.requires.apart in
+    loses-then c.args.iface.now.frames all (own ++ c.fresh.new.frames) (view c.args.pass.now) x w c.in-Ok.ensures.lost
+    (loses-then all all (own ++ c.fresh.new.frames) x y w (loses-same all all x y same (λ n e. e)) (fresh-loses own c.in-Ok.frames c.fresh.new.frames f.taken y w f.cut f.frames))
+
+pub returns-in-Again-clause-lost_none : goal.returns-in-Again-clause-lost_none
+returns-in-Again-clause-lost_none g c =
+    let none = none-given c.args.n c.in-Ok.frames c.fresh.new.frames (freshes.Again c.in-Again.saw) (tries.Again c.in-Again.saw) (view c.lock_two.new.pass) (view c.fresh.new.pass) c.in-Again.ensures.answer refl in
+    let own = c.frames_for.new.iface.frames in
+    let end = c.give_up.new.iface.frames in
+    loses-then c.args.iface.now.frames (c.in-Ok.frames ++ own) end (view c.args.pass.now) (view c.frames_for.new.pass) (view c.give_up.new.pass) c.in-Ok.ensures.lost
+    (loses-then (c.in-Ok.frames ++ own) (own ++ c.fresh.new.frames) end (view c.frames_for.new.pass) (view c.fresh.new.pass) (view c.give_up.new.pass) (none-lost c.args.first c.args.second c.in-Ok-lock_two.locks.up c.in-Ok-lock_two.locks.low (view c.frames_for.new.pass) (view c.lock_two.new.pass) c.in-Ok-lock_two.ensures.ok c.requires.apart c.args.n c.in-Ok.frames c.fresh.new.frames (tries.Again c.in-Again.saw) (view c.fresh.new.pass) none own) c.give_up.ensures.lost)
+
+pub returns-in-Worn-clause-lost_none : goal.returns-in-Worn-clause-lost_none
+returns-in-Worn-clause-lost_none g c =
+    let none = none-given c.args.n c.in-Ok.frames c.fresh.new.frames (freshes.Worn c.in-Worn.pid) (tries.Worn c.in-Worn.pid) (view c.lock_two.new.pass) (view c.fresh.new.pass) c.in-Worn.ensures.answer refl in
+    let own = c.frames_for.new.iface.frames in
+    let end = c.give_up-in-Worn.new.iface.frames in
+    loses-then c.args.iface.now.frames (c.in-Ok.frames ++ own) end (view c.args.pass.now) (view c.frames_for.new.pass) (view c.give_up-in-Worn.new.pass) c.in-Ok.ensures.lost
+    (loses-then (c.in-Ok.frames ++ own) (own ++ c.fresh.new.frames) end (view c.frames_for.new.pass) (view c.fresh.new.pass) (view c.give_up-in-Worn.new.pass) (none-lost c.args.first c.args.second c.in-Ok-lock_two.locks.up c.in-Ok-lock_two.locks.low (view c.frames_for.new.pass) (view c.lock_two.new.pass) c.in-Ok-lock_two.ensures.ok c.requires.apart c.args.n c.in-Ok.frames c.fresh.new.frames (tries.Worn c.in-Worn.pid) (view c.fresh.new.pass) none own) c.give_up-in-Worn.ensures.lost)
+
+pub returns-in-Full-clause-lost_none : goal.returns-in-Full-clause-lost_none
+returns-in-Full-clause-lost_none g c =
+    let none = none-given c.args.n c.in-Ok.frames c.fresh.new.frames (freshes.Full c.in-Full.pages c.in-Full.next c.in-Full.need) (tries.Full c.in-Full.pages c.in-Full.next c.in-Full.need) (view c.lock_two.new.pass) (view c.fresh.new.pass) c.in-Full.ensures.answer refl in
+    let own = c.frames_for.new.iface.frames in
+    let end = c.give_up-in-Full.new.iface.frames in
+    loses-then c.args.iface.now.frames (c.in-Ok.frames ++ own) end (view c.args.pass.now) (view c.frames_for.new.pass) (view c.give_up-in-Full.new.pass) c.in-Ok.ensures.lost
+    (loses-then (c.in-Ok.frames ++ own) (own ++ c.fresh.new.frames) end (view c.frames_for.new.pass) (view c.fresh.new.pass) (view c.give_up-in-Full.new.pass) (none-lost c.args.first c.args.second c.in-Ok-lock_two.locks.up c.in-Ok-lock_two.locks.low (view c.frames_for.new.pass) (view c.lock_two.new.pass) c.in-Ok-lock_two.ensures.ok c.requires.apart c.args.n c.in-Ok.frames c.fresh.new.frames (tries.Full c.in-Full.pages c.in-Full.next c.in-Full.need) (view c.fresh.new.pass) none own) c.give_up-in-Full.ensures.lost)

@@ -1,0 +1,10 @@
+use Rattle.std.proofs.Common.{subst}
+use Rattle.vm_tree_rule.specs.Turns.{IsTurn}
+use Rattle.vm_tree_write.proofs.Trying.{turn-again, turn-need}
+use Rattle.vm_tree_write.proofs.tries.not_found.Goals as goal
+
+pub returns-in-Again : goal.returns-in-Again
+returns-in-Again c = λ key v w a. turn-again key _ v w (subst (λ t. IsTurn v key t w) c.in-Again.is a)
+
+pub returns-in-Need : goal.returns-in-Need
+returns-in-Need c = λ key v w a. turn-need key _ v w (subst (λ t. IsTurn v key t w) c.in-Need.is a)

@@ -1,0 +1,83 @@
+use Rattle.std.proofs.Common.{◌++◌, ◌∙◌, ◌∷◌, [], length, refl, ap, arith, inl, inr}
+use Rattle.std.proofs.lemmas.List.{length-append}
+use Rattle.vm_step.specs.Passes.{view}
+use Rattle.vm_guard.specs.Groups.{guards_of}
+use Rattle.vm_guard.proofs.Pairs.{taken-both, two-many}
+use Rattle.vm_exmap.proofs.Handing.{held-on}
+use Rattle.vm_tree_write.proofs.Losing.{freed-loses, loses-same, loses-then}
+use Rattle.vm_tree_write.proofs.Ends.{can-split-root, root-ended}
+use Rattle.vm_tree_write.proofs.tries.split_root.Goals as goal
+
+pub unreachable-requires : goal.unreachable-requires
+unreachable-requires g c =
+    let p = c.in-Ok.ensures.ok in
+    let long = two-many p.x (guards_of c.in-Ok.all.pages) p.fresh.guards in
+    let none = ap length (c.take_last.ensures.none c.in_default.is).0 in
+    absurd (omega (arith, long, none))
+
+pub unreachable-requires-in_default-take_last : goal.unreachable-requires-in_default-take_last
+unreachable-requires-in_default-take_last g c =
+    let p = c.in-Ok.ensures.ok in
+    let long = two-many p.x (guards_of c.in-Ok.all.pages) p.fresh.guards in
+    let one = ap length c.in-Some.ensures.some ∙ length-append (guards_of c.take_last.new.self) (c.in-Some.top ∷ []) in
+    let none = ap length (c.take_last-2.ensures.none c.in_default-take_last.is).0 in
+    absurd (omega (arith, long, one, none))
+
+pub end-requires : goal.end-requires
+end-requires g c =
+    let p = c.in-Ok.ensures.ok in
+    (taken-both p.x (guards_of c.in-Ok.all.pages) (guards_of c.take_last.new.self) (guards_of c.take_last-2.new.self) c.in-Some-take_last.right c.in-Some.top c.in-Some.ensures.some c.in-Some-take_last.ensures.some p.fresh.guards).0
+
+pub write_root-requires-clause-can : goal.write_root-requires-clause-can
+write_root-requires-clause-can g c =
+    let p = c.in-Ok.ensures.ok in
+    let two = (taken-both p.x (guards_of c.in-Ok.all.pages) (guards_of c.take_last.new.self) (guards_of c.take_last-2.new.self) c.in-Some-take_last.right c.in-Some.top c.in-Some.ensures.some c.in-Some-take_last.ensures.some p.fresh.guards).1 in
+    let met = c.requires.met in
+    can-split-root c.args.meta c.args.root c.in-Ok.all.up c.in-Ok.all.low c.in-Some-take_last.right c.in-Some.top (guards_of c.in-Ok.all.pages) (view c.args.pass.now) (view c.prepare.new.pass) p two met.0 met.1 c.args.height c.args.page.now met.2 c.requires.size
+    (c.requires.ready.table.tells_is ∙ c.requires.tells) c.requires.home
+
+pub write_root-requires-clause-room : goal.write_root-requires-clause-room
+write_root-requires-clause-room g c =
+    let low = c.requires.met.2.named.height in
+    let pages = c.requires.ready.table.is_shape.pages in
+    let shape = c.args.words.now.shape in
+    omega (arith, low, pages, shape.0, shape.2)
+
+pub free-requires-clause-frames : goal.free-requires-clause-frames
+free-requires-clause-frames g c =
+    let d = c.write_root.ensures.split.done in
+    held-on _ (view c.prepare.new.pass) (view c.write_root.new.pass) c.in-Ok.ensures.held d.start d.frames
+
+pub returns-clause-keeps : goal.returns-clause-keeps
+returns-clause-keeps g c =
+    let p = c.in-Ok.ensures.ok in
+    let two = (taken-both p.x (guards_of c.in-Ok.all.pages) (guards_of c.take_last.new.self) (guards_of c.take_last-2.new.self) c.in-Some-take_last.right c.in-Some.top c.in-Some.ensures.some c.in-Some-take_last.ensures.some p.fresh.guards).1 in
+    let met = c.requires.met in
+    let back = c.free.ensures.freed.back in
+    (root-ended c.args.meta c.args.root c.in-Ok.all.up c.in-Ok.all.low c.in-Some-take_last.right c.in-Some.top (guards_of c.in-Ok.all.pages) (view c.args.pass.now) (view c.prepare.new.pass) p two met.0 met.1 c.args.height c.args.page.now met.2 c.requires.size
+    (c.requires.ready.table.tells_is ∙ c.requires.tells) c.requires.home back.done (view c.write_root.new.pass) (view c.free.new.pass) c.write_root.ensures.split back.moves).0
+
+pub returns-clause-cause : goal.returns-clause-cause
+returns-clause-cause g c =
+    let p = c.in-Ok.ensures.ok in
+    let two = (taken-both p.x (guards_of c.in-Ok.all.pages) (guards_of c.take_last.new.self) (guards_of c.take_last-2.new.self) c.in-Some-take_last.right c.in-Some.top c.in-Some.ensures.some c.in-Some-take_last.ensures.some p.fresh.guards).1 in
+    let met = c.requires.met in
+    let back = c.free.ensures.freed.back in
+    inl (
+      refl,
+      (root-ended c.args.meta c.args.root c.in-Ok.all.up c.in-Ok.all.low c.in-Some-take_last.right c.in-Some.top (guards_of c.in-Ok.all.pages) (view c.args.pass.now) (view c.prepare.new.pass) p two met.0 met.1 c.args.height c.args.page.now met.2 c.requires.size
+          (c.requires.ready.table.tells_is ∙ c.requires.tells) c.requires.home back.done (view c.write_root.new.pass) (view c.free.new.pass) c.write_root.ensures.split back.moves).1,
+    )
+
+pub returns-in-Err-clause-cause : goal.returns-in-Err-clause-cause
+returns-in-Err-clause-cause g c = inr c.in-Err.ensures.err.2
+
+pub returns-in-Err-clause-lost : goal.returns-in-Err-clause-lost
+returns-in-Err-clause-lost g c = c.in-Err.ensures.lost_none
+
+pub returns-clause-lost : goal.returns-clause-lost
+returns-clause-lost g c =
+    let all = c.prepare.new.iface.frames ++ c.in-Ok.all.frames in
+    loses-then c.args.iface.now.frames all c.free.new.self.frames (view c.args.pass.now) (view c.prepare.new.pass) (view c.free.new.pass) c.in-Ok.ensures.lost
+    (loses-then all all c.free.new.self.frames (view c.prepare.new.pass) (view c.write_root.new.pass) (view c.free.new.pass)
+    (loses-same all all (view c.prepare.new.pass) (view c.write_root.new.pass) c.write_root.ensures.split.done.frames (λ n e. e)) (freed-loses _ _ _ _ _ _ c.free.ensures.freed))

@@ -1,0 +1,77 @@
+use Rattle.std.proofs.Common.{◌∙◌, subst}
+use Rattle.vm_exmap.proofs.Handing.{held-on}
+use Rattle.vm_step.specs.Passes.{view}
+use Rattle.vm_tree_rule.specs.Seeks.{IsMet}
+use Rattle.vm_tree_write.proofs.Losing.{loses-same, loses-then}
+use Rattle.vm_tree_write.proofs.Trying.{reads-keep, reads-lose, roomy-lost, roomy-valid, tried-below, tried-root, turn-reads}
+use Rattle.vm_tree_write.proofs.tries.try_split.Goals as goal
+
+pub returns-in-Err-clause-tried : goal.returns-in-Err-clause-tried
+returns-in-Err-clause-tried g c = c.not_found.ensures c.args.key (view c.args.pass.now) (view c.seek_full.new.pass) c.in-Err.ensures.err
+
+pub returns-in-Ok-validate_silently-clause-tried : goal.returns-in-Ok-validate_silently-clause-tried
+returns-in-Ok-validate_silently-clause-tried g c =
+    let met = subst (λ m. IsMet (view c.args.pass.now) c.args.key m c.seek_full.new.over c.seek_full.new.page (view c.seek_full.new.pass)) c.in-Roomy.is c.in-Ok.ensures.met in
+    roomy-valid c.args.key _ c.seek_full.new.page (view c.args.pass.now) (view c.seek_full.new.pass) (view c.validate_silently.new.pass) c.in-Ok.ensures.reads met c.in-Ok-validate_silently.ensures.ok
+
+pub returns-in-Err-validate_silently-clause-tried : goal.returns-in-Err-validate_silently-clause-tried
+returns-in-Err-validate_silently-clause-tried g c =
+    let met = subst (λ m. IsMet (view c.args.pass.now) c.args.key m c.seek_full.new.over c.seek_full.new.page (view c.seek_full.new.pass)) c.in-Roomy.is c.in-Ok.ensures.met in
+    roomy-lost c.args.key _ c.seek_full.new.page c.in-Err-validate_silently.saw (view c.args.pass.now) (view c.seek_full.new.pass) (view c.validate_silently.new.pass) met c.in-Err-validate_silently.ensures.err
+
+pub split_below-requires-clause-home : goal.split_below-requires-clause-home
+split_below-requires-clause-home g c = c.in-Ok.ensures.reads.0.out ∙ c.requires.home
+
+pub split_below-requires-clause-frames : goal.split_below-requires-clause-frames
+split_below-requires-clause-frames g c = let r = c.in-Ok.ensures.reads.0 in held-on _ (view c.args.pass.now) (view c.seek_full.new.pass) c.requires.frames r.start r.frames.0
+
+pub split_below-requires-clause-met : goal.split_below-requires-clause-met
+split_below-requires-clause-met g c = (
+  view c.args.pass.now,
+  c.args.key,
+  subst (λ m. IsMet (view c.args.pass.now) c.args.key m c.seek_full.new.over c.seek_full.new.page (view c.seek_full.new.pass)) c.in-Below.is c.in-Ok.ensures.met,
+)
+
+pub returns-in-Below-clause-tried : goal.returns-in-Below-clause-tried
+returns-in-Below-clause-tried g c =
+    let met = subst (λ m. IsMet (view c.args.pass.now) c.args.key m c.seek_full.new.over c.seek_full.new.page (view c.seek_full.new.pass)) c.in-Below.is c.in-Ok.ensures.met in
+    tried-below c.args.key c.in-Below.parent c.in-Below.node c.seek_full.new.over c.seek_full.new.page c.split_below.result (view c.args.pass.now) (view c.seek_full.new.pass) (view c.split_below.new.pass) c.in-Ok.ensures.reads met c.split_below.ensures.keeps c.split_below.ensures.cause
+
+pub split_root-requires-clause-home : goal.split_root-requires-clause-home
+split_root-requires-clause-home g c = c.in-Ok.ensures.reads.0.out ∙ c.requires.home
+
+pub split_root-requires-clause-frames : goal.split_root-requires-clause-frames
+split_root-requires-clause-frames g c = let r = c.in-Ok.ensures.reads.0 in held-on _ (view c.args.pass.now) (view c.seek_full.new.pass) c.requires.frames r.start r.frames.0
+
+pub split_root-requires-clause-met : goal.split_root-requires-clause-met
+split_root-requires-clause-met g c = (
+  view c.args.pass.now,
+  c.args.key,
+  subst (λ m. IsMet (view c.args.pass.now) c.args.key m c.seek_full.new.over c.seek_full.new.page (view c.seek_full.new.pass)) c.in-Root.is c.in-Ok.ensures.met,
+)
+
+pub returns-in-Root-clause-tried : goal.returns-in-Root-clause-tried
+returns-in-Root-clause-tried g c =
+    let met = subst (λ m. IsMet (view c.args.pass.now) c.args.key m c.seek_full.new.over c.seek_full.new.page (view c.seek_full.new.pass)) c.in-Root.is c.in-Ok.ensures.met in
+    tried-root c.args.key c.in-Root.meta c.in-Root.root c.in-Root.height c.seek_full.new.page c.split_root.result (view c.args.pass.now) (view c.seek_full.new.pass) (view c.split_root.new.pass) c.in-Ok.ensures.reads met c.split_root.ensures.keeps c.split_root.ensures.cause
+
+pub returns-in-Err-clause-lost : goal.returns-in-Err-clause-lost
+returns-in-Err-clause-lost g c = reads-lose c.args.iface.now.frames (view c.args.pass.now) (view c.seek_full.new.pass) (turn-reads c.args.key c.in-Err.turn (view c.args.pass.now) (view c.seek_full.new.pass) c.in-Err.ensures.err)
+
+pub returns-in-Ok-validate_silently-clause-lost : goal.returns-in-Ok-validate_silently-clause-lost
+returns-in-Ok-validate_silently-clause-lost g c =
+    let k = c.in-Ok-validate_silently.ensures.ok in
+    loses-same c.args.iface.now.frames c.args.iface.now.frames (view c.args.pass.now) (view c.validate_silently.new.pass) (k.steady.frames.0 ∙ c.in-Ok.ensures.reads.0.frames.0) (λ n e. e)
+
+pub returns-in-Err-validate_silently-clause-lost : goal.returns-in-Err-validate_silently-clause-lost
+returns-in-Err-validate_silently-clause-lost g c =
+    let k = c.in-Err-validate_silently.ensures.err in
+    loses-same c.args.iface.now.frames c.args.iface.now.frames (view c.args.pass.now) (view c.validate_silently.new.pass) (k.quiet.steady.frames.0 ∙ c.in-Ok.ensures.reads.0.frames.0) (λ n e. e)
+
+pub returns-in-Below-clause-lost : goal.returns-in-Below-clause-lost
+returns-in-Below-clause-lost g c =
+    loses-then c.args.iface.now.frames c.args.iface.now.frames c.split_below.new.iface.frames (view c.args.pass.now) (view c.seek_full.new.pass) (view c.split_below.new.pass) (reads-lose c.args.iface.now.frames (view c.args.pass.now) (view c.seek_full.new.pass) c.in-Ok.ensures.reads) c.split_below.ensures.lost
+
+pub returns-in-Root-clause-lost : goal.returns-in-Root-clause-lost
+returns-in-Root-clause-lost g c =
+    loses-then c.args.iface.now.frames c.args.iface.now.frames c.split_root.new.iface.frames (view c.args.pass.now) (view c.seek_full.new.pass) (view c.split_root.new.pass) (reads-lose c.args.iface.now.frames (view c.args.pass.now) (view c.seek_full.new.pass) c.in-Ok.ensures.reads) c.split_root.ensures.lost

@@ -1,0 +1,36 @@
+use Rattle.std.proofs.Common.{ℕ, List, Some, ◌∙◌, sym, subst, ap, refl}
+use Rattle.vm_map.specs.Map.{lookup_at, del_pair}
+use Rattle.vm_tree_model.specs.Edits.{IsLeafWith}
+use Rattle.vm_tree_model.specs.Page.{pairs_of, IsLeaf}
+use Rattle.vm_step.specs.Passes.{view}
+use Rattle.vm_tree_write.proofs.Telling.{del-done, del-edit, del-missed, not-valid}
+use Rattle.vm_tree_write.proofs.write.try_del.Goals as goal
+
+pub returns-in-Err-clause-tried : goal.returns-in-Err-clause-tried
+returns-in-Err-clause-tried g c = c.not_yet.ensures.del _ _ _ c.in-Err.ensures.err
+
+pub answer-requires-clause-proves : goal.answer-requires-clause-proves
+answer-requires-clause-proves g c =
+    (c.in-Ok.ensures.leaf.0, (c.in-Ok.ensures.leaf.1, refl, ap (λ (l : List ℕ). lookup_at (pairs_of l) c.args.key) (sym c.copy_from.ensures.words) ∙ sym c.del.ensures.was ∙ c.in-None.is))
+
+pub returns-in-Ok-answer-clause-tried : goal.returns-in-Ok-answer-clause-tried
+returns-in-Ok-answer-clause-tried g c = del-missed c.args.key c.in-Ok-answer.reply _ _ _ c.in-Ok-answer.ensures.reply c.in-Ok.ensures.reads.0 c.in-Ok-answer.ensures.ok
+
+pub returns-in-Err-answer-clause-tried : goal.returns-in-Err-answer-clause-tried
+returns-in-Err-answer-clause-tried g c = not-valid _ _ _ _ _ _ _ c.in-Ok.ensures.reads.1 c.in-Err-answer.ensures.err
+
+pub write_leaf-requires-clause-home : goal.write_leaf-requires-clause-home
+write_leaf-requires-clause-home g c = c.in-Ok.ensures.reads.0.0.out ∙ c.requires.home
+
+pub write_leaf-requires-clause-edit : goal.write_leaf-requires-clause-edit
+write_leaf-requires-clause-edit g c =
+    del-edit c.args.key (Some c.in-Some.was) c.leaf_of.new.page c.del.new.page c.in-Ok.ensures.leaf.1 (sym c.in-Some.is ∙ c.del.ensures.was ∙ ap (λ (l : List ℕ). lookup_at (pairs_of l) c.args.key) c.copy_from.ensures.words)
+    (subst (λ (l : List ℕ). IsLeaf l → IsLeafWith l c.del.new.page (del_pair (pairs_of l) c.args.key)) c.copy_from.ensures.words c.del.ensures.leaf)
+
+pub returns-in-Ok-write_leaf-clause-tried : goal.returns-in-Ok-write_leaf-clause-tried
+returns-in-Ok-write_leaf-clause-tried g c =
+    del-done c.args.key c.in-Ok-write_leaf.reply c.in-Some.was c.leaf_of.new.page _ _ _ c.in-Ok-write_leaf.ensures.reply c.in-Ok.ensures.reads.0 c.in-Ok-write_leaf.ensures.ok
+
+pub returns-in-Err-write_leaf-clause-tried : goal.returns-in-Err-write_leaf-clause-tried
+returns-in-Err-write_leaf-clause-tried g c =
+    c.unwritten.ensures.del c.args.key _ _ _ (view c.args.pass.now) (view c.leaf_of.new.pass) (view c.write_leaf.new.pass) c.in-Ok.ensures.reads.1 c.in-Ok.ensures.awaits c.in-Err-write_leaf.ensures.err

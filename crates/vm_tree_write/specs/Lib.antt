@@ -1,0 +1,6 @@
+pub mod Drafts
+pub mod Writes
+pub mod Splits
+pub mod Tries
+pub mod Waiting
+pub mod Prepares

@@ -1,0 +1,127 @@
+-- What a write of the tree answers: the reply at the release of the leaf, or why it is to be tried again.
+use Rattle.std.specs.Prelude.{ℕ, true, None, List, [], ◌∷◌, ◌++◌, ◌≡◌, ◌≢◌, ◌+◌, ◌⊎◌}
+use Rattle.vm_core.specs.Words.{word_of, LOCKED}
+use Rattle.vm_map.specs.declared.call.Call.TheVariants.{Put, Del}
+use Rattle.vm_map.specs.declared.call.Reply.TheVariants.{Gone}
+use Rattle.vm_map.specs.declared.call.Said.{Said}
+use Rattle.vm_owner.specs.declared.Entry.{Entry}
+use Rattle.vm_owner.specs.Kept.{Kept}
+use Rattle.vm_page.specs.Pages.{page_at}
+use Rattle.vm_rule.specs.declared.view.Did.{Did}
+use Rattle.vm_rule.specs.declared.view.Place.TheVariants as places
+use Rattle.vm_rule.specs.declared.view.Tie.{Tie}
+use Rattle.vm_rule.specs.declared.view.View.{View}
+use Rattle.vm_rule.specs.Views.{StartsWith, IsLocking, IsWhole, seat_of}
+use Rattle.vm_rule.specs.Reading.{last_of}
+use Rattle.vm_rule.specs.Rule.{began_of}
+use Rattle.vm_rule.specs.Brought.{entry_of}
+use Rattle.vm_step.specs.Asides.{HoldsPage, KnowsAsBefore}
+use Rattle.vm_step.specs.declared.saw.Saw.{Saw}
+use Rattle.vm_step.specs.Evidence.{HasWritten, UnlockedExpected}
+use Rattle.vm_guard.specs.declared.deny.Deny.TheVariants as denies
+use Rattle.vm_guard.specs.Denied.{AgainOrWorn, IsDenied, KeptWord}
+use Rattle.vm_guard.specs.Guards.{IsValid}
+use Rattle.vm_tree_model.specs.Edits.{IsFullFor}
+use Rattle.vm_tree_model.specs.Node.{Covers}
+use Rattle.vm_tree_model.specs.Page.{node_of, IsLeaf}
+use Rattle.vm_tree_model.specs.Tree.{map_of}
+use Rattle.vm_tree_laws.specs.History.{IsLegal}
+use Rattle.vm_tree_laws.specs.Keeps.{Keeps}
+use Rattle.vm_tree_laws.specs.May.{IsEdit}
+use Rattle.vm_tree_laws.specs.Tied.{Tied}
+use Rattle.vm_tree_rule.specs.Leaves.{ReadsOn}
+use Rattle.vm_tree_rule.specs.Standing.{Awaits, IsOpened}
+use Rattle.vm_tree_rule.specs.Turns.{IsAgain, IsNeeded}
+use Rattle.vm_tree_read.specs.Reads.{IsAnswered}
+use Rattle.vm_tree_write.specs.declared.write.TryWrite.{TryWrite}
+use Rattle.vm_tree_write.specs.declared.write.TryWrite.TheVariants as tries
+
+module _ {X : Type 0} where
+  -- the calls read pages, and locked page p, wrote it and released it; all of the view is as it was but open reads, ties, what the pass has seen
+  -- of the two lists, and its entries
+  pub record OnlyWrites (p : ℕ) (v w : View X) : Type 0 where
+    pub done : List Did
+    pub log : w.log ≡ v.log ++ done
+    pub live : w.live ≡ v.live
+    pub start : w.start ≡ v.start
+    pub parts : (w.used ≡ v.used) × (w.fresh ≡ v.fresh)
+    pub seen : StartsWith w.seen v.seen
+    pub releases : StartsWith w.releases v.releases
+    pub frames : (w.frames ≡ v.frames) × (w.contents ≡ v.contents)
+    pub out : w.out ≡ v.out
+    pub notes : w.notes ≡ v.notes
+    pub ties : (more : List Tie) × (w.ties ≡ more ++ v.ties)
+    pub group : (w.pending ≡ v.pending) × (w.owed ≡ v.owed) × (w.next ≡ v.next)
+    pub holds : (q : ℕ) → HoldsPage v w q
+    pub knows : (q : ℕ) → IsLocking (seat_of v q) → KnowsAsBefore v w q
+    -- a pass that is alone finds the last words of each other page as they were; and it still knows the table
+    pub current : w.current ≡ true
+    pub alone : IsWhole v → v.current ≡ true → (q : ℕ) → q ≢ p → (last_of w q).words ≡ (last_of v q).words
+
+-- The call with its reply became the last entry, under the pass's first number and its next count, at the release of a leaf that the call had
+-- locked. The leaf's words before and after are as the call and its reply ask. At that step the pages of the tree, of which the leaf is one, were
+-- such that their map is the start's map after the whole history, and the history is legal for the start's map
+pub record IsWritten (said : Said) (v w : View Said) : Type 0 where
+  pub page : ℕ
+  pub version : ℕ
+  pub old : List ℕ
+  pub new : List ℕ
+  pub writes : OnlyWrites page v w
+  pub locked : HasWritten writes.done (places.State page) (word_of LOCKED version)
+  pub released : HasWritten writes.done (places.State page) (version + 1)
+  pub mine : w.mine ≡ v.mine ++ entry_of v said ∷ []
+  pub entry : (others : List (Entry Said)) × (w.seen ≡ (v.seen ++ others) ++ entry_of v said ∷ [])
+  pub legal : IsLegal (map_of v.start.contents) w.seen
+  pub kept : Kept Said
+  pub keeps : Keeps (began_of v.start) kept
+  pub history : kept.history ≡ w.seen
+  pub logical : page_at kept.pages page ≡ new
+  pub last : last_of w page ≡ record { version = version + 1; words = new }
+  pub leaf : IsLeaf old
+  pub edit : IsEdit old new said.call said.reply
+
+-- a del of a key that its leaf has not: it writes nothing
+abbrev pub IsVain : Said → Type 0
+IsVain said = (key : ℕ) × (said ≡ record { call = Del key; reply = Gone None })
+
+-- the leaf could not be read, or not be locked at the version that was read
+pub data IsUnwritten (v : View Said) (saw : Saw) (w : View Said) : Type 0 where
+  reading : IsAgain v saw w → IsUnwritten v saw w
+  locking : (p word frame : ℕ) (x : View Said) → IsOpened v p word frame x → IsDenied AgainOrWorn (KeptWord word) UnlockedExpected p (denies.Again saw) x w → IsUnwritten v saw w
+
+-- the leaf that the descent reached, page p, is at the last version
+pub record IsWornLeaf (v : View Said) (key p : ℕ) (w : View Said) : Type 0 where
+  pub word : ℕ
+  pub frame : ℕ
+  pub found : View Said
+  pub opened : IsOpened v p word frame found
+  pub awaits : Awaits found p word 0 key
+  pub denied : IsDenied AgainOrWorn (KeptWord word) UnlockedExpected p (denies.Worn p) found w
+
+-- page p is the leaf that covers the key, has 28 pairs and not the key: so it was validated
+pub record IsTight (v : View Said) (key p : ℕ) (w : View Said) : Type 0 where
+  pub word : ℕ
+  pub frame : ℕ
+  pub found : View Said
+  pub opened : IsOpened v p word frame found
+  pub valid : IsValid Tied p word frame None found w
+  pub leaf : IsLeaf (last_of w p).words
+  pub covers : Covers (node_of (last_of w p).words) key
+  pub full : IsFullFor (last_of w p).words key
+
+-- a try of a put: made in a leaf that had the key or room; or the leaf is full; or to be tried again; or for a page that is needed, or worn.
+-- Without a reply the pass has no further entry, and locked nothing
+abbrev pub IsPut : ℕ → ℕ → TryWrite → View Said → View Said → Type 0
+IsPut key value (tries.Done reply) v w = (a : IsWritten (record { call = Put key value; reply = reply }) v w) × ¬ (IsFullFor a.old key)
+IsPut key value (tries.Again saw) v w = ReadsOn v w × IsUnwritten v saw w
+IsPut key value (tries.Need p) v w = ReadsOn v w × IsNeeded v key p w
+IsPut key value (tries.Worn p) v w = ReadsOn v w × IsWornLeaf v key p w
+IsPut key value (tries.Tight p) v w = ReadsOn v w × IsTight v key p w
+
+-- a try of a del: made in a leaf that has the key, or answered by a validation of a leaf that has it not, which locks nothing
+abbrev pub IsDel : ℕ → TryWrite → View Said → View Said → Type 0
+IsDel key (tries.Done reply) v w = (IsWritten (record { call = Del key; reply = reply }) v w × ¬ (IsVain (record { call = Del key; reply = reply }))) ⊎ IsAnswered (record { call = Del key; reply = reply }) v w
+IsDel key (tries.Again saw) v w = ReadsOn v w × IsUnwritten v saw w
+IsDel key (tries.Need p) v w = ReadsOn v w × IsNeeded v key p w
+IsDel key (tries.Worn p) v w = ReadsOn v w × IsWornLeaf v key p w
+IsDel key (tries.Tight p) v w = ⊥

@@ -1,0 +1,52 @@
+// The leaf is locked at the version at which it was read, written, and released with what is said.
+ghost use Rattle.std.specs.Prelude.{◌≡◌, ◌++◌, ◌≤◌, IfOk, IfErr, None, length, true};
+ghost use Rattle.vm_guard.specs.Denied.{AgainOrWorn, IsDenied, KeptWord};
+ghost use Rattle.vm_guard.specs.Guards.{IsReading, placed};
+ghost use Rattle.vm_rule.specs.Views.{loads_at};
+ghost use Rattle.vm_step.specs.Evidence.{UnlockedExpected};
+ghost use Rattle.vm_step.specs.Passes.{IsSamePass, view};
+ghost use Rattle.vm_step.specs.Ready.{IsReady};
+ghost use Rattle.vm_tree_laws.specs.May.{IsEdit};
+ghost use Rattle.vm_tree_model.specs.Page.{node_of, IsLeaf};
+ghost use Rattle.vm_tree_write.specs.Writes.{IsWritten};
+
+use crate::draft::redraft;
+use vm_block::Block;
+use vm_guard::{Deny, OptGuard};
+use vm_map::call::{Reply, Said};
+use vm_page::PageBuf;
+use vm_rule::words::{Pass, Words};
+use vm_tree_rule::Tree;
+
+/// Locks the leaf whose words stand in `before`, makes them those of `after`, and releases it: what is said becomes an entry there.
+pub fn write_leaf<B: Block>(
+    words: &Words<Tree, B>,
+    pass: &mut Pass<Tree>,
+    guard: OptGuard,
+    before: &PageBuf,
+    after: &PageBuf,
+    said: Said,
+) -> Result<Reply, Deny>
+    requires ready { IsReady words.now.table.shared.key B.tells words.now.table.shared.table_id pass.old }
+    requires tells { B.tells ≡ true }
+    requires reading { IsReading guard.pid guard.word guard.frame (view pass.old) }
+    requires home { (view pass.old).out ≡ None }
+    requires size { length before.now ≡ 64 }
+    requires loads { (earlier : _) × (loads_at (view pass.old) guard.pid ≡ earlier ++ placed 0 before.now) }
+    requires leaf { (node_of before.now).tag ≡ 2 }
+    requires edit { IsLeaf before.now → IsEdit before.now after.now said.call said.reply }
+    ensures pass { IsSamePass pass.old pass.new }
+    ensures ready { IsReady words.now.table.shared.key B.tells words.now.table.shared.table_id pass.new }
+    ensures reply { IfOk result (λ reply. reply ≡ said.reply) }
+    ensures ok { IfOk result (λ _. (a : IsWritten said (view pass.old) (view pass.new)) × (a.old ≡ before.now)) }
+    ensures err { IfErr result (λ deny. IsDenied AgainOrWorn (KeptWord guard.word) UnlockedExpected guard.pid deny (view pass.old) (view pass.new)) }
+{
+    let mut held = match guard.upgrade(words, pass) {
+        Ok(held) => held,
+        Err(deny) => return Err(deny),
+    };
+    redraft(words, pass, &mut held, before, after);
+    held.release(words, pass, Some(&said));
+    let Said { call: _, reply } = said;
+    Ok(reply)
+}

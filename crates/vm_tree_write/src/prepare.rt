@@ -1,0 +1,237 @@
+// What a split takes before it writes: frames, the locks of two pages at the versions read, and fresh pages. Where one of them is refused the
+// others are given back.
+ghost use Rattle.std.specs.Prelude.{◌≡◌, ◌≢◌, ◌⊎◌, ◌++◌, IfOk, IfErr, None, false, length};
+ghost use Rattle.vm_exmap.specs.Frames.{MovesFrames};
+ghost use Rattle.vm_step.specs.HeldFrames.{AreHeld};
+ghost use Rattle.vm_guard.specs.Denied.{AgainOrWorn};
+ghost use Rattle.vm_guard.specs.Groups.{guards_of};
+ghost use Rattle.vm_guard.specs.Guards.{IsHolding, IsReading};
+ghost use Rattle.vm_owner.specs.Numbers.{has};
+ghost use Rattle.vm_rule.specs.Reading.{last_of};
+ghost use Rattle.vm_rule.specs.Views.{draft_of};
+ghost use Rattle.vm_step.specs.Passes.{IsSamePass, view};
+ghost use Rattle.vm_step.specs.Ready.{IsReady};
+ghost use Rattle.vm_tree_write.specs.Prepares.{AreLocked, GivesUp, IsPrepared};
+ghost use Rattle.vm_tree_write.specs.Splits.{KeepsAll, LosesNone};
+ghost use Rattle.vm_tree_write.specs.Tries.{IsUnsplit};
+
+use crate::tries::TrySplit;
+use vm_block::Block;
+use vm_exmap::{Alloc, Interface};
+use vm_guard::{Deny, ExclusiveGuard, Fresh, Group, OptGuard, fresh};
+use vm_rule::words::{Pass, Words};
+use vm_step::Batch;
+use vm_tree_rule::Tree;
+
+/// Two pages that are locked.
+pub struct Locks {
+    pub up: ExclusiveGuard,
+    pub low: ExclusiveGuard,
+}
+
+/// Two pages that are locked, the fresh pages beside them, and the frames that are left.
+pub struct Prepared {
+    pub up: ExclusiveGuard,
+    pub low: ExclusiveGuard,
+    pub pages: Group,
+    pub frames: Batch,
+}
+
+/// Why a page was not locked.
+fn denied(deny: Deny) -> TrySplit
+    requires kind { AgainOrWorn deny }
+    ensures again { (saw : _) → deny ≡ Deny.Again saw → result ≡ TrySplit.Again saw }
+    ensures worn { (p : _) → deny ≡ Deny.Worn p → result ≡ TrySplit.Worn p }
+{
+    match deny {
+        Deny::Again(saw) => TrySplit::Again(saw),
+        Deny::Worn(pid) => TrySplit::Worn(pid),
+        Deny::Need(_) => unreachable!(),
+        Deny::Crowded(_) => unreachable!(),
+    }
+}
+
+/// One frame more than the one that there is, or why there is none: then the interface has that one too.
+fn second_frame<B: Block>(
+    words: &Words<Tree, B>,
+    pass: &mut Pass<Tree>,
+    iface: &mut Interface,
+    frames: Batch,
+) -> Result<Batch, TrySplit>
+    requires ready { IsReady words.now.table.shared.key B.tells words.now.table.shared.table_id pass.old }
+    requires frames { AreHeld (frames ++ iface.old.frames) (view pass.old) }
+    requires one { length frames ≡ 1 }
+    ensures pass { IsSamePass pass.old pass.new }
+    ensures ready { IsReady words.now.table.shared.key B.tells words.now.table.shared.table_id pass.new }
+    ensures iface { (iface.new.home ≡ iface.old.home) × (iface.new.cap ≡ iface.old.cap) }
+    ensures keeps { KeepsAll (view pass.old) (view pass.new) }
+    ensures moves { IfOk result (λ _. (done : _) × MovesFrames done (view pass.old) (view pass.new)) }
+    ensures ok { IfOk result (λ both. (length both ≡ 2) × AreHeld (both ++ iface.new.frames) (view pass.new)) }
+    ensures lost { IfOk result (λ both. LosesNone (frames ++ iface.old.frames) (view pass.old) (both ++ iface.new.frames) (view pass.new)) }
+    ensures lost_none { IfErr result (λ _. LosesNone (frames ++ iface.old.frames) (view pass.old) iface.new.frames (view pass.new)) }
+    ensures err { IfErr result (λ answer. AreHeld iface.new.frames (view pass.new) × ((n : _) (first second : _) → IsUnsplit n first second (view pass.old) (view pass.new) answer)) }
+{
+    match iface.alloc(words, pass, 1) {
+        Alloc::Batch(more) => {
+            let mut both = frames;
+            both.append(more.as_slice());
+            Ok(both)
+        }
+        Alloc::Dry => {
+            iface.free(words, pass, frames);
+            Err(TrySplit::Dry)
+        }
+        Alloc::Again(saw) => {
+            iface.free(words, pass, frames);
+            Err(TrySplit::Again(saw))
+        }
+    }
+}
+
+/// `n` frames (1 or 2) for fresh pages, or why there are not so many: then the interface has what it had, or more.
+fn frames_for<B: Block>(
+    words: &Words<Tree, B>,
+    pass: &mut Pass<Tree>,
+    iface: &mut Interface,
+    n: u32,
+) -> Result<Batch, TrySplit>
+    requires ready { IsReady words.now.table.shared.key B.tells words.now.table.shared.table_id pass.old }
+    requires frames { AreHeld iface.old.frames (view pass.old) }
+    requires count { (n ≡ 1) ⊎ (n ≡ 2) }
+    ensures pass { IsSamePass pass.old pass.new }
+    ensures ready { IsReady words.now.table.shared.key B.tells words.now.table.shared.table_id pass.new }
+    ensures iface { (iface.new.home ≡ iface.old.home) × (iface.new.cap ≡ iface.old.cap) }
+    ensures keeps { KeepsAll (view pass.old) (view pass.new) }
+    ensures moves { IfOk result (λ _. (done : _) × MovesFrames done (view pass.old) (view pass.new)) }
+    ensures ok { IfOk result (λ frames. (length frames ≡ n) × AreHeld (frames ++ iface.new.frames) (view pass.new)) }
+    ensures lost { IfOk result (λ frames. LosesNone iface.old.frames (view pass.old) (frames ++ iface.new.frames) (view pass.new)) }
+    ensures lost_none { IfErr result (λ _. LosesNone iface.old.frames (view pass.old) iface.new.frames (view pass.new)) }
+    ensures err { IfErr result (λ answer. AreHeld iface.new.frames (view pass.new) × ((m : _) (first second : _) → IsUnsplit m first second (view pass.old) (view pass.new) answer)) }
+{
+    let frames = match iface.alloc(words, pass, n) {
+        Alloc::Batch(batch) => batch,
+        Alloc::Dry => return Err(TrySplit::Dry),
+        Alloc::Again(saw) => return Err(TrySplit::Again(saw)),
+    };
+    if frames.len() as u32 == n {
+        return Ok(frames);
+    }
+    second_frame(words, pass, iface, frames)
+}
+
+/// Locks two pages at the versions read, or none of them.
+fn lock_two<B: Block>(
+    words: &Words<Tree, B>,
+    pass: &mut Pass<Tree>,
+    first: OptGuard,
+    second: OptGuard,
+) -> Result<Locks, TrySplit>
+    requires ready { IsReady words.now.table.shared.key B.tells words.now.table.shared.table_id pass.old }
+    requires home { (view pass.old).out ≡ None }
+    requires apart { second.pid ≢ first.pid }
+    requires first { IsReading first.pid first.word first.frame (view pass.old) }
+    requires second { IsReading second.pid second.word second.frame (view pass.old) }
+    ensures pass { IsSamePass pass.old pass.new }
+    ensures ready { IsReady words.now.table.shared.key B.tells words.now.table.shared.table_id pass.new }
+    ensures ok { IfOk result (λ locks. AreLocked first second locks.up locks.low (view pass.old) (view pass.new)) }
+    ensures err { IfErr result (λ answer. KeepsAll (view pass.old) (view pass.new) × ((view pass.new).frames ≡ (view pass.old).frames) × ((n : _) → IsUnsplit n first second (view pass.old) (view pass.new) answer)) }
+{
+    let up = match first.upgrade(words, pass) {
+        Ok(up) => up,
+        Err(deny) => return Err(denied(deny)),
+    };
+    match second.upgrade(words, pass) {
+        Ok(low) => Ok(Locks { up, low }),
+        Err(deny) => {
+            up.release(words, pass, None);
+            Err(denied(deny))
+        }
+    }
+}
+
+/// Gives up two pages that were locked, with the words that they had, and the frames.
+fn give_up<B: Block>(
+    words: &Words<Tree, B>,
+    pass: &mut Pass<Tree>,
+    iface: &mut Interface,
+    up: ExclusiveGuard,
+    low: ExclusiveGuard,
+    frames: Batch,
+)
+    requires ready { IsReady words.now.table.shared.key B.tells words.now.table.shared.table_id pass.old }
+    requires home { (view pass.old).out ≡ None }
+    requires held { IsHolding up.pid up.frame up.version up.dirty (view pass.old) × IsHolding low.pid low.frame low.version low.dirty (view pass.old) }
+    requires apart { low.pid ≢ up.pid }
+    requires same { (draft_of (view pass.old) up.pid ≡ (last_of (view pass.old) up.pid).words) × (draft_of (view pass.old) low.pid ≡ (last_of (view pass.old) low.pid).words) }
+    requires unpaid { (has up.pid (view pass.old).owed ≡ false) × (has low.pid (view pass.old).owed ≡ false) }
+    requires frames { AreHeld (iface.old.frames ++ frames) (view pass.old) }
+    ensures pass { IsSamePass pass.old pass.new }
+    ensures ready { IsReady words.now.table.shared.key B.tells words.now.table.shared.table_id pass.new }
+    ensures iface { (iface.new.home ≡ iface.old.home) × (iface.new.cap ≡ iface.old.cap) }
+    ensures held { AreHeld iface.new.frames (view pass.new) }
+    ensures lost { LosesNone (iface.old.frames ++ frames) (view pass.old) iface.new.frames (view pass.new) }
+    ensures done { GivesUp up low (view pass.old) (view pass.new) }
+{
+    low.release(words, pass, None);
+    up.release(words, pass, None);
+    iface.free(words, pass, frames);
+}
+
+/// Takes `n` frames (1 or 2), locks two pages at the versions read, and claims `n` fresh pages; or gives back what it took.
+pub fn prepare<B: Block>(
+    words: &Words<Tree, B>,
+    pass: &mut Pass<Tree>,
+    iface: &mut Interface,
+    first: OptGuard,
+    second: OptGuard,
+    n: u32,
+) -> Result<Prepared, TrySplit>
+    requires ready { IsReady words.now.table.shared.key B.tells words.now.table.shared.table_id pass.old }
+    requires home { (view pass.old).out ≡ None }
+    requires frames { AreHeld iface.old.frames (view pass.old) }
+    requires count { (n ≡ 1) ⊎ (n ≡ 2) }
+    requires apart { second.pid ≢ first.pid }
+    requires first { IsReading first.pid first.word first.frame (view pass.old) }
+    requires second { IsReading second.pid second.word second.frame (view pass.old) }
+    ensures pass { IsSamePass pass.old pass.new }
+    ensures ready { IsReady words.now.table.shared.key B.tells words.now.table.shared.table_id pass.new }
+    ensures iface { (iface.new.home ≡ iface.old.home) × (iface.new.cap ≡ iface.old.cap) }
+    ensures held { IfOk result (λ all. AreHeld (iface.new.frames ++ all.frames) (view pass.new)) }
+    ensures ok { IfOk result (λ all. IsPrepared n first second all.up all.low (guards_of all.pages) (view pass.old) (view pass.new)) }
+    ensures lost { IfOk result (λ all. LosesNone iface.old.frames (view pass.old) (iface.new.frames ++ all.frames) (view pass.new)) }
+    ensures lost_none { IfErr result (λ _. LosesNone iface.old.frames (view pass.old) iface.new.frames (view pass.new)) }
+    ensures err { IfErr result (λ answer. AreHeld iface.new.frames (view pass.new) × KeepsAll (view pass.old) (view pass.new) × IsUnsplit n first second (view pass.old) (view pass.new) answer) }
+{
+    let mut frames = match frames_for(words, pass, iface, n) {
+        Ok(frames) => frames,
+        Err(answer) => return Err(answer),
+    };
+    let locks = match lock_two(words, pass, first, second) {
+        Ok(locks) => locks,
+        Err(answer) => {
+            iface.free(words, pass, frames);
+            return Err(answer);
+        }
+    };
+    let Locks { up, low } = locks;
+    match fresh(words, pass, &mut frames, n) {
+        Fresh::Pages(pages) => Ok(Prepared {
+            up,
+            low,
+            pages,
+            frames,
+        }),
+        Fresh::Again(saw) => {
+            give_up(words, pass, iface, up, low, frames);
+            Err(TrySplit::Again(saw))
+        }
+        Fresh::Worn(pid) => {
+            give_up(words, pass, iface, up, low, frames);
+            Err(TrySplit::Worn(pid))
+        }
+        Fresh::Full { pages, next, need } => {
+            give_up(words, pass, iface, up, low, frames);
+            Err(TrySplit::Full { pages, next, need })
+        }
+    }
+}

@@ -1,0 +1,96 @@
+// A full node is split: the pages concerned are locked, written and released together.
+ghost use Rattle.std.specs.Prelude.{◌≡◌, ◌<◌, ◌∷◌, ◌+◌, ◌^◌, [], true};
+ghost use Rattle.vm_step.specs.Passes.{IsSamePass, view};
+ghost use Rattle.vm_step.specs.Ready.{IsReady};
+ghost use Rattle.vm_tree_write.specs.Splits.{CanSplit, CanSplitRoot, IsSplitUp};
+
+use crate::draft::redraft;
+use vm_block::Block;
+use vm_guard::{ExclusiveGuard, Group, release_group};
+use vm_inner::{add, new_root};
+use vm_node::split;
+use vm_page::PageBuf;
+use vm_rule::words::{Pass, Words};
+use vm_tree_rule::Tree;
+
+/// Splits the full node `low` below the node `up`, which has room, into itself and the fresh page `right`, and releases the three together.
+pub fn write_split<B: Block>(
+    words: &Words<Tree, B>,
+    pass: &mut Pass<Tree>,
+    up: ExclusiveGuard,
+    low: ExclusiveGuard,
+    right: ExclusiveGuard,
+    over: &PageBuf,
+    page: &PageBuf,
+)
+    requires ready { IsReady words.now.table.shared.key B.tells words.now.table.shared.table_id pass.old }
+    requires tells { B.tells ≡ true }
+    requires can { CanSplit up low right over.now page.now (view pass.old) }
+    ensures pass { IsSamePass pass.old pass.new }
+    ensures ready { IsReady words.now.table.shared.key B.tells words.now.table.shared.table_id pass.new }
+    ensures split { IsSplitUp (up.pid ∷ low.pid ∷ right.pid ∷ []) (view pass.old) (view pass.new) }
+{
+    let mut left = PageBuf::zero();
+    left.copy_from(page);
+    let mut half = PageBuf::zero();
+    let separator = split(&mut left, &mut half);
+    let mut above = PageBuf::zero();
+    above.copy_from(over);
+    match add(&mut above, separator, right.pid as u64) {
+        Ok(()) => {}
+        Err(_) => unreachable!(),
+    }
+    let zero = PageBuf::zero();
+    let mut first = up;
+    let mut second = low;
+    let mut third = right;
+    redraft(words, pass, &mut first, over, &above);
+    redraft(words, pass, &mut second, page, &left);
+    redraft(words, pass, &mut third, &zero, &half);
+    release_group(words, pass, Group::Three(first, second, third), None);
+}
+
+/// Splits the full root `low`, which page 0 names at this height, into itself and the fresh page `right` below the fresh page `top`, and releases
+/// the four together.
+pub fn write_root<B: Block>(
+    words: &Words<Tree, B>,
+    pass: &mut Pass<Tree>,
+    meta: ExclusiveGuard,
+    low: ExclusiveGuard,
+    right: ExclusiveGuard,
+    top: ExclusiveGuard,
+    height: u64,
+    page: &PageBuf,
+)
+    requires ready { IsReady words.now.table.shared.key B.tells words.now.table.shared.table_id pass.old }
+    requires tells { B.tells ≡ true }
+    requires can { CanSplitRoot meta low right top height page.now (view pass.old) }
+    requires room { height + 1 < 2 ^ 64 }
+    ensures pass { IsSamePass pass.old pass.new }
+    ensures ready { IsReady words.now.table.shared.key B.tells words.now.table.shared.table_id pass.new }
+    ensures split { IsSplitUp (meta.pid ∷ low.pid ∷ right.pid ∷ top.pid ∷ []) (view pass.old) (view pass.new) }
+{
+    let mut left = PageBuf::zero();
+    left.copy_from(page);
+    let mut half = PageBuf::zero();
+    let separator = split(&mut left, &mut half);
+    let mut crown = PageBuf::zero();
+    new_root(
+        &mut crown,
+        height + 1,
+        low.pid as u64,
+        separator,
+        right.pid as u64,
+    );
+    let zero = PageBuf::zero();
+    let mut first = meta;
+    let mut second = low;
+    let mut third = right;
+    let mut fourth = top;
+    first.set(words, pass, 1, fourth.pid as u64);
+    first.set(words, pass, 2, height + 1);
+    redraft(words, pass, &mut second, page, &left);
+    redraft(words, pass, &mut third, &zero, &half);
+    redraft(words, pass, &mut fourth, &zero, &crown);
+    release_group(words, pass, Group::Four(first, second, third, fourth), None);
+}

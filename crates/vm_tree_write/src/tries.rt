@@ -1,0 +1,178 @@
+// The try of a split: the first full node on the way of a key is split, or the answer tells why not.
+ghost use Rattle.std.specs.Prelude.{◌≡◌, ◌≤◌, ℕ, None, length, true};
+ghost use Rattle.vm_step.specs.HeldFrames.{AreHeld};
+ghost use Rattle.vm_step.specs.Passes.{IsSamePass, MayStep, view};
+ghost use Rattle.vm_step.specs.Ready.{IsReady};
+ghost use Rattle.vm_tree_rule.specs.Seeks.{IsFullBelow, IsRootFull};
+ghost use Rattle.vm_tree_rule.specs.Turns.{IsTurn};
+ghost use Rattle.vm_tree_write.specs.Splits.{KeepsAll, LosesNone};
+ghost use Rattle.vm_tree_write.specs.Tries.{IsEndOf, IsTrySplit};
+
+use crate::prepare::{Prepared, prepare};
+use crate::split::{write_root, write_split};
+use vm_block::Block;
+use vm_exmap::Interface;
+use vm_guard::OptGuard;
+use vm_page::PageBuf;
+use vm_rule::words::{Pass, Words};
+use vm_step::Saw;
+use vm_tree_rule::{Met, Tree, Turn, seek_full};
+
+/// What a try of a split answers.
+#[derive(Debug, Drop)]
+pub enum TrySplit {
+    /// The first full node on the way of the key was split.
+    Split,
+    /// No node on the way of the key is full.
+    Roomy,
+    /// A page's word had changed, or the page was Locked or had shares, or frames were lost to others: the call may be tried again.
+    Again(Saw),
+    /// This page is Evicted: it has to be brought in first. It is page 0, or a page on the way names it.
+    Need(u32),
+    /// Page 0, the full node, its parent or a page that was to be given is at the last version.
+    Worn(u32),
+    /// No frame was free.
+    Dry,
+    /// So many pages there are, this is the next one, and so many were needed.
+    Full { pages: u32, next: u32, need: u32 },
+}
+
+/// Why no full node was looked for to the end.
+fn not_found(turn: Turn) -> TrySplit
+    ensures { (key : _) (v w : _) → IsTurn v key turn w → IsTrySplit key result v w }
+{
+    match turn {
+        Turn::Again(saw) => TrySplit::Again(saw),
+        Turn::Need(pid) => TrySplit::Need(pid),
+    }
+}
+
+/// Splits a full node below its parent: one fresh page is released with both.
+fn split_below<B: Block>(
+    words: &Words<Tree, B>,
+    pass: &mut Pass<Tree>,
+    iface: &mut Interface,
+    parent: OptGuard,
+    node: OptGuard,
+    over: &PageBuf,
+    page: &PageBuf,
+) -> TrySplit
+    requires ready { IsReady words.now.table.shared.key B.tells words.now.table.shared.table_id pass.old }
+    requires tells { B.tells ≡ true }
+    requires home { (view pass.old).out ≡ None }
+    requires frames { AreHeld iface.old.frames (view pass.old) }
+    requires size { (length over.now ≡ 64) × (length page.now ≡ 64) }
+    requires met { (v : _) × (key : ℕ) × IsFullBelow v key parent node over.now page.now (view pass.old) }
+    ensures pass { IsSamePass pass.old pass.new }
+    ensures ready { IsReady words.now.table.shared.key B.tells words.now.table.shared.table_id pass.new }
+    ensures iface { (iface.new.home ≡ iface.old.home) × (iface.new.cap ≡ iface.old.cap) }
+    ensures held { AreHeld iface.new.frames (view pass.new) }
+    ensures keeps { KeepsAll (view pass.old) (view pass.new) }
+    ensures lost { LosesNone iface.old.frames (view pass.old) iface.new.frames (view pass.new) }
+    ensures cause { IsEndOf 1 parent node (view pass.old) (view pass.new) result }
+{
+    let all = match prepare(words, pass, iface, parent, node, 1) {
+        Ok(all) => all,
+        Err(answer) => return answer,
+    };
+    let Prepared {
+        up,
+        low,
+        pages,
+        frames,
+    } = all;
+    let mut group = pages;
+    let Some(right) = group.take_last() else {
+        unreachable!();
+    };
+    group.end();
+    write_split(words, pass, up, low, right, over, page);
+    iface.free(words, pass, frames);
+    TrySplit::Split
+}
+
+/// Splits the full root: two fresh pages, the right half and the new root, are released with page 0 and the old root.
+fn split_root<B: Block>(
+    words: &Words<Tree, B>,
+    pass: &mut Pass<Tree>,
+    iface: &mut Interface,
+    meta: OptGuard,
+    root: OptGuard,
+    height: u64,
+    page: &PageBuf,
+) -> TrySplit
+    requires ready { IsReady words.now.table.shared.key B.tells words.now.table.shared.table_id pass.old }
+    requires tells { B.tells ≡ true }
+    requires home { (view pass.old).out ≡ None }
+    requires frames { AreHeld iface.old.frames (view pass.old) }
+    requires size { length page.now ≡ 64 }
+    requires met { (v : _) × (key : ℕ) × IsRootFull v key meta root height page.now (view pass.old) }
+    ensures pass { IsSamePass pass.old pass.new }
+    ensures ready { IsReady words.now.table.shared.key B.tells words.now.table.shared.table_id pass.new }
+    ensures iface { (iface.new.home ≡ iface.old.home) × (iface.new.cap ≡ iface.old.cap) }
+    ensures held { AreHeld iface.new.frames (view pass.new) }
+    ensures keeps { KeepsAll (view pass.old) (view pass.new) }
+    ensures lost { LosesNone iface.old.frames (view pass.old) iface.new.frames (view pass.new) }
+    ensures cause { IsEndOf 2 meta root (view pass.old) (view pass.new) result }
+{
+    let all = match prepare(words, pass, iface, meta, root, 2) {
+        Ok(all) => all,
+        Err(answer) => return answer,
+    };
+    let Prepared {
+        up,
+        low,
+        pages,
+        frames,
+    } = all;
+    let mut group = pages;
+    let Some(top) = group.take_last() else {
+        unreachable!();
+    };
+    let Some(right) = group.take_last() else {
+        unreachable!();
+    };
+    group.end();
+    write_root(words, pass, up, low, right, top, height, page);
+    iface.free(words, pass, frames);
+    TrySplit::Split
+}
+
+/// Splits the first full node that is met from the root to the leaf of the key. The map stays as it is.
+pub fn try_split<B: Block>(
+    words: &Words<Tree, B>,
+    pass: &mut Pass<Tree>,
+    iface: &mut Interface,
+    key: u64,
+) -> TrySplit
+    requires pass { MayStep words.now.table.shared.table_id pass.old }
+    requires tells { B.tells ≡ true }
+    requires pages { 1 ≤ words.now.table.shared.key.pages }
+    requires home { (view pass.old).out ≡ None }
+    requires frames { AreHeld iface.old.frames (view pass.old) }
+    ensures pass { IsSamePass pass.old pass.new }
+    ensures ready { IsReady words.now.table.shared.key B.tells words.now.table.shared.table_id pass.new }
+    ensures iface { (iface.new.home ≡ iface.old.home) × (iface.new.cap ≡ iface.old.cap) }
+    ensures held { AreHeld iface.new.frames (view pass.new) }
+    ensures lost { LosesNone iface.old.frames (view pass.old) iface.new.frames (view pass.new) }
+    ensures tried { IsTrySplit key result (view pass.old) (view pass.new) }
+{
+    let mut over = PageBuf::zero();
+    let mut page = PageBuf::zero();
+    let met = match seek_full(words, pass, key, &mut over, &mut page) {
+        Ok(met) => met,
+        Err(turn) => return not_found(turn),
+    };
+    match met {
+        Met::Roomy(leaf) => match leaf.validate_silently(words, pass) {
+            Ok(()) => TrySplit::Roomy,
+            Err(saw) => TrySplit::Again(saw),
+        },
+        Met::Below { parent, node } => {
+            split_below(words, pass, iface, parent, node, &over, &page)
+        }
+        Met::Root { meta, root, height } => {
+            split_root(words, pass, iface, meta, root, height, &page)
+        }
+    }
+}

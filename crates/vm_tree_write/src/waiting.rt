@@ -1,0 +1,145 @@
+// The writes that wait: they try again until they are answered, and bring the pages that they need.
+ghost use Rattle.std.specs.Prelude.{◌≡◌, ◌<◌, ◌≤◌, IfErr, IfOk, None, true};
+ghost use Rattle.vm_step.specs.HeldFrames.{AreHeld};
+ghost use Rattle.vm_map.specs.declared.call.Call.TheVariants.{Del, Put};
+ghost use Rattle.vm_step.specs.Passes.{IsSamePass, view};
+ghost use Rattle.vm_step.specs.Ready.{IsReady};
+ghost use Rattle.vm_tree_read.specs.Waiting.{Waits};
+ghost use Rattle.vm_tree_write.specs.Splits.{KeepsAll};
+ghost use Rattle.vm_tree_write.specs.Waiting.{IsFaulted, IsPutFaulted, IsReplied, IsRoomFault};
+
+use crate::tries::{TrySplit, try_split};
+use crate::write::{TryWrite, try_del, try_put};
+use crossbeam_utils::Backoff;
+use std::sync::Wait;
+use vm_block::Block;
+use vm_exmap::Interface;
+use vm_map::call::Reply;
+use vm_pool::{Bring, Pool, dry_cause};
+use vm_rule::words::Pass;
+use vm_tree_read::waiting::fetch;
+use vm_tree_rule::{Tree, TreeFault};
+
+/// Takes the pair of the key out.
+pub fn del<R: Wait, B: Block>(
+    rt: &R,
+    pool: &Pool<Tree, B>,
+    pass: &mut Pass<Tree>,
+    iface: &mut Interface,
+    key: u64,
+) -> Result<Reply, TreeFault>
+    requires ready { IsReady pool.now.words.table.shared.key B.tells pool.now.words.table.shared.table_id pass.old }
+    requires tells { B.tells ≡ true }
+    requires pages { 1 ≤ pool.now.words.table.shared.key.pages }
+    requires home { (view pass.old).out ≡ None }
+    requires frames { AreHeld iface.old.frames (view pass.old) }
+    ensures pass { IsSamePass pass.old pass.new }
+    ensures ready { IsReady pool.now.words.table.shared.key B.tells pool.now.words.table.shared.table_id pass.new }
+    ensures held { AreHeld iface.new.frames (view pass.new) }
+    ensures iface { (iface.new.home ≡ iface.old.home) × (iface.new.cap ≡ iface.old.cap) }
+    ensures ok { IfOk result (λ reply. IsReplied Waits (record { call = Del key; reply = reply }) (view pass.old) (view pass.new)) }
+    ensures err { IfErr result (λ fault. IsFaulted Waits key fault (view pass.old) (view pass.new)) }
+{
+    let backoff = Backoff::new();
+    for _ in rt.forever() {
+        match try_del(&pool.words, pass, key) {
+            TryWrite::Done(reply) => return Ok(reply),
+            TryWrite::Again(_) => backoff.snooze(),
+            TryWrite::Need(pid) => match fetch(pool, pass, iface, pid, &backoff) {
+                Ok(()) => {}
+                Err(fault) => return Err(fault),
+            },
+            TryWrite::Worn(pid) => return Err(TreeFault::Worn { pid }),
+            TryWrite::Tight(_) => unreachable!(),
+        }
+    }
+    unreachable!()
+}
+
+/// Makes room for the key: splits the first full node on its way, or does what has to be done before.
+fn make_room<B: Block>(
+    pool: &Pool<Tree, B>,
+    pass: &mut Pass<Tree>,
+    iface: &mut Interface,
+    key: u64,
+    backoff: &Backoff,
+) -> Result<(), TreeFault>
+    requires ready { IsReady pool.now.words.table.shared.key B.tells pool.now.words.table.shared.table_id pass.old }
+    requires tells { B.tells ≡ true }
+    requires pages { 1 ≤ pool.now.words.table.shared.key.pages }
+    requires home { (view pass.old).out ≡ None }
+    requires frames { AreHeld iface.old.frames (view pass.old) }
+    ensures pass { IsSamePass pass.old pass.new }
+    ensures ready { IsReady pool.now.words.table.shared.key B.tells pool.now.words.table.shared.table_id pass.new }
+    ensures held { AreHeld iface.new.frames (view pass.new) }
+    ensures iface { (iface.new.home ≡ iface.old.home) × (iface.new.cap ≡ iface.old.cap) }
+    ensures keeps { KeepsAll (view pass.old) (view pass.new) }
+    ensures err { IfErr result (λ fault. IsRoomFault key fault (view pass.old) (view pass.new)) }
+{
+    match try_split(&pool.words, pass, iface, key) {
+        TrySplit::Split => Ok(()),
+        TrySplit::Roomy => Ok(()),
+        TrySplit::Again(_) => {
+            backoff.snooze();
+            Ok(())
+        }
+        TrySplit::Need(pid) => fetch(pool, pass, iface, pid, backoff),
+        TrySplit::Worn(pid) => Err(TreeFault::Worn { pid }),
+        TrySplit::Full {
+            pages,
+            next: _,
+            need: _,
+        } => Err(TreeFault::Full { pages }),
+        TrySplit::Dry => {
+            let report = pool.sweep(pass, iface, iface.cap);
+            match dry_cause(&report) {
+                Bring::Device { pid, count } => Err(TreeFault::Device { pid, count }),
+                Bring::Worn(pid) => Err(TreeFault::Worn { pid }),
+                _ => {
+                    backoff.snooze();
+                    Ok(())
+                }
+            }
+        }
+    }
+}
+
+/// Puts a value at the key.
+pub fn put<R: Wait, B: Block>(
+    rt: &R,
+    pool: &Pool<Tree, B>,
+    pass: &mut Pass<Tree>,
+    iface: &mut Interface,
+    key: u64,
+    value: u64,
+) -> Result<Reply, TreeFault>
+    requires ready { IsReady pool.now.words.table.shared.key B.tells pool.now.words.table.shared.table_id pass.old }
+    requires tells { B.tells ≡ true }
+    requires pages { 1 ≤ pool.now.words.table.shared.key.pages }
+    requires home { (view pass.old).out ≡ None }
+    requires frames { AreHeld iface.old.frames (view pass.old) }
+    ensures pass { IsSamePass pass.old pass.new }
+    ensures ready { IsReady pool.now.words.table.shared.key B.tells pool.now.words.table.shared.table_id pass.new }
+    ensures held { AreHeld iface.new.frames (view pass.new) }
+    ensures iface { (iface.new.home ≡ iface.old.home) × (iface.new.cap ≡ iface.old.cap) }
+    ensures ok { IfOk result (λ reply. IsReplied KeepsAll (record { call = Put key value; reply = reply }) (view pass.old) (view pass.new)) }
+    ensures err { IfErr result (λ fault. IsPutFaulted key fault (view pass.old) (view pass.new)) }
+{
+    let backoff = Backoff::new();
+    for _ in rt.forever() {
+        match try_put(&pool.words, pass, key, value) {
+            TryWrite::Done(reply) => return Ok(reply),
+            TryWrite::Again(_) => backoff.snooze(),
+            TryWrite::Need(pid) => match fetch(pool, pass, iface, pid, &backoff) {
+                Ok(()) => {}
+                Err(fault) => return Err(fault),
+            },
+            TryWrite::Worn(pid) => return Err(TreeFault::Worn { pid }),
+            TryWrite::Tight(_) => match make_room(pool, pass, iface, key, &backoff) {
+                Ok(()) => {}
+                Err(fault) => return Err(fault),
+            },
+        }
+    }
+    unreachable!()
+}

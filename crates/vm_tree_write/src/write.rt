@@ -1,0 +1,144 @@
+// The writes that never wait: each answers, or says why it is to be tried again.
+ghost use Rattle.std.specs.Prelude.{◌≡◌, ◌≤◌, ◌<◌, None, true};
+ghost use Rattle.vm_guard.specs.Denied.{AgainOrWorn, IsDenied, KeptWord};
+ghost use Rattle.vm_step.specs.Evidence.{UnlockedExpected};
+ghost use Rattle.vm_step.specs.Passes.{IsSamePass, MayStep, view};
+ghost use Rattle.vm_step.specs.Ready.{IsReady};
+ghost use Rattle.vm_tree_rule.specs.Standing.{Awaits, IsOpened};
+ghost use Rattle.vm_tree_rule.specs.Turns.{IsTurn};
+ghost use Rattle.vm_tree_write.specs.Writes.{IsDel, IsPut};
+
+use crate::leaf::write_leaf;
+use vm_block::Block;
+use vm_guard::Deny;
+use vm_map::call::{Call, Reply, Said};
+use vm_node::{del, put};
+use vm_page::PageBuf;
+use vm_rule::words::{Pass, Words};
+use vm_step::Saw;
+use vm_tree_read::answer::{answer, leaf_of};
+use vm_tree_rule::{Tree, Turn};
+
+/// What a try of a write answers.
+#[derive(Debug, Drop)]
+pub enum TryWrite {
+    /// The reply, at the step that released the leaf, or that validated a leaf without the key of a del.
+    Done(Reply),
+    /// A page's word had changed, or the page was Locked, or the leaf had shares: the call may be tried again.
+    Again(Saw),
+    /// This page is Evicted: it has to be brought in first. It is page 0, or a page on the way names it.
+    Need(u32),
+    /// The leaf, this page, is at the last version.
+    Worn(u32),
+    /// The leaf, this page, has 28 pairs and not the key: it has to be split first.
+    Tight(u32),
+}
+
+/// Why there is no answer yet.
+fn not_yet(turn: Turn) -> TryWrite
+    ensures put { (key value : _) (v w : _) → IsTurn v key turn w → IsPut key value result v w }
+    ensures del { (key : _) (v w : _) → IsTurn v key turn w → IsDel key result v w }
+{
+    match turn {
+        Turn::Again(saw) => TryWrite::Again(saw),
+        Turn::Need(pid) => TryWrite::Need(pid),
+    }
+}
+
+/// Why the leaf was not written.
+fn unwritten(deny: Deny) -> TryWrite
+    requires kind { AgainOrWorn deny }
+    ensures put { (key value p word frame : _) (v x w : _) → IsOpened v p word frame x → Awaits x p word 0 key → IsDenied AgainOrWorn (KeptWord word) UnlockedExpected p deny x w → IsPut key value result v w }
+    ensures del { (key p word frame : _) (v x w : _) → IsOpened v p word frame x → Awaits x p word 0 key → IsDenied AgainOrWorn (KeptWord word) UnlockedExpected p deny x w → IsDel key result v w }
+{
+    match deny {
+        Deny::Again(saw) => TryWrite::Again(saw),
+        Deny::Worn(pid) => TryWrite::Worn(pid),
+        Deny::Need(_) => unreachable!(),
+        Deny::Crowded(_) => unreachable!(),
+    }
+}
+
+/// Puts a value at the key.
+pub fn try_put<B: Block>(
+    words: &Words<Tree, B>,
+    pass: &mut Pass<Tree>,
+    key: u64,
+    value: u64,
+) -> TryWrite
+    requires pass { MayStep words.now.table.shared.table_id pass.old }
+    requires tells { B.tells ≡ true }
+    requires pages { 1 ≤ words.now.table.shared.key.pages }
+    requires home { (view pass.old).out ≡ None }
+    ensures pass { IsSamePass pass.old pass.new }
+    ensures ready { IsReady words.now.table.shared.key B.tells words.now.table.shared.table_id pass.new }
+    ensures tried { IsPut key value result (view pass.old) (view pass.new) }
+{
+    let mut page = PageBuf::zero();
+    let guard = match leaf_of(words, pass, key, &mut page) {
+        Ok(guard) => guard,
+        Err(turn) => return not_yet(turn),
+    };
+    let mut after = PageBuf::zero();
+    after.copy_from(&page);
+    match put(&mut after, key, value) {
+        Err(_) => {
+            let pid = guard.pid;
+            match guard.validate_silently(words, pass) {
+                Ok(()) => TryWrite::Tight(pid),
+                Err(saw) => TryWrite::Again(saw),
+            }
+        }
+        Ok(was) => {
+            let said = Said {
+                call: Call::Put { key, value },
+                reply: Reply::Was(was),
+            };
+            match write_leaf(words, pass, guard, &page, &after, said) {
+                Ok(reply) => TryWrite::Done(reply),
+                Err(deny) => unwritten(deny),
+            }
+        }
+    }
+}
+
+/// Takes the pair of the key out. Where the leaf has none nothing is locked.
+pub fn try_del<B: Block>(words: &Words<Tree, B>, pass: &mut Pass<Tree>, key: u64) -> TryWrite
+    requires pass { MayStep words.now.table.shared.table_id pass.old }
+    requires tells { B.tells ≡ true }
+    requires pages { 1 ≤ words.now.table.shared.key.pages }
+    requires home { (view pass.old).out ≡ None }
+    ensures pass { IsSamePass pass.old pass.new }
+    ensures ready { IsReady words.now.table.shared.key B.tells words.now.table.shared.table_id pass.new }
+    ensures tried { IsDel key result (view pass.old) (view pass.new) }
+{
+    let mut page = PageBuf::zero();
+    let guard = match leaf_of(words, pass, key, &mut page) {
+        Ok(guard) => guard,
+        Err(turn) => return not_yet(turn),
+    };
+    let mut after = PageBuf::zero();
+    after.copy_from(&page);
+    match del(&mut after, key) {
+        None => {
+            let said = Said {
+                call: Call::Del { key },
+                reply: Reply::Gone(None),
+            };
+            match answer(words, pass, &guard, &page, said) {
+                Ok(reply) => TryWrite::Done(reply),
+                Err(saw) => TryWrite::Again(saw),
+            }
+        }
+        Some(was) => {
+            let said = Said {
+                call: Call::Del { key },
+                reply: Reply::Gone(Some(was)),
+            };
+            match write_leaf(words, pass, guard, &page, &after, said) {
+                Ok(reply) => TryWrite::Done(reply),
+                Err(deny) => unwritten(deny),
+            }
+        }
+    }
+}
