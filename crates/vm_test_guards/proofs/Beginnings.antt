@@ -1,0 +1,33 @@
+-- A pool may begin with blocks of zeros, whatever its next page is.
+use Rattle.std.proofs.Common.{ℕ, zero, suc, ◌≡◌, ◌<◌, List, [], ◌∷◌, ◌++◌, length, map, replicate, refl, sym, ap, subst, ◌∙◌, arith}
+use Rattle.vm_block.specs.declared.memory.MemBlock.{MemBlock}
+use Rattle.vm_block.specs.Memory.{stored_of, words_of}
+use Rattle.vm_owner.specs.Kept.{Start, Kept}
+use Rattle.vm_page.specs.Pages.{page_at}
+use Rattle.vm_rule.specs.Fixed.{MayBegin}
+use Rattle.vm_rule.specs.Started.{words_in}
+
+abbrev AllZero : List (List ℕ) → Type 0
+AllZero pages = (p : ℕ) → p < length pages → page_at pages p ≡ replicate 64 0
+
+zero-more : (pages : List (List ℕ)) (words : List ℕ) → AllZero pages → words ≡ replicate 64 0 → AllZero (pages ++ words ∷ [])
+zero-more [] words z e zero l = e
+zero-more [] words z e (suc p) l = absurd (omega (arith, l))
+zero-more (x ∷ pages) words z e zero l = z zero (omega arith)
+zero-more (x ∷ pages) words z e (suc p) l =
+    zero-more pages words (λ q m. z (suc q) (omega (arith, m))) e p (omega (arith, l))
+
+words-more : (blocks : List MemBlock) (b : MemBlock) → words_in (map stored_of (blocks ++ b ∷ [])) ≡ words_in (map stored_of blocks) ++ words_of b ∷ []
+words-more [] b = refl
+words-more (x ∷ blocks) b = ap (λ (l : List (List ℕ)). words_of x ∷ l) (words-more blocks b)
+
+module _ {X : Type 0} (keeps : Start → Kept X → Type 0) (all : (start : Start) (kept : Kept X) → keeps start kept) where
+  -- a block of zeros more
+  pub more-begins : (blocks after : List MemBlock) (b : MemBlock) → after ≡ blocks ++ b ∷ [] → words_of b ≡ replicate 64 0 → ((next : ℕ) → MayBegin keeps next (words_in (map stored_of blocks)))
+      → (next : ℕ) → MayBegin keeps next (words_in (map stored_of after))
+  more-begins blocks after b is e begins next =
+      subst (MayBegin keeps next) (sym (ap (λ (l : List MemBlock). words_in (map stored_of l)) is ∙ words-more blocks b))
+      (record {
+        zero = λ p l m. zero-more (words_in (map stored_of blocks)) (words_of b) (λ q h. (begins 0).zero q (omega arith) h) e p m;
+        kept = all _ _;
+      })

@@ -1,0 +1,7 @@
+use Rattle.std.proofs.Common.{refl, ◌∙◌}
+use Rattle.vm_test_guards.proofs.Released.{may-three}
+use Rattle.vm_test_guards.proofs.groups.released.Goals as goal
+
+pub release_group-requires-clause-may : goal.release_group-requires-clause-may
+release_group-requires-clause-may g c =
+    may-three _ _ _ _ _ c.requires.pages (c.requires.ready.table.is_shape.next ∙ c.requires.next) c.requires.first c.requires.second c.requires.third c.requires.home refl

@@ -1,0 +1,12 @@
+//! Tests of the guards of `vm_guard` over pools with more than one pass, over their public items. They stand here so that no crate of the
+//! layers below is proved twice.
+#![tactic(auto)]
+
+#[cfg(test)]
+mod fresh;
+#[cfg(test)]
+mod groups;
+#[cfg(test)]
+mod reads;
+#[cfg(test)]
+mod table;

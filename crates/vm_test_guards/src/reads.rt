@@ -1,0 +1,85 @@
+//! A page that is read optimistically while a second pass evicts it, and brings another page into its frame. The values are worked out by
+//! hand from the rules.
+ghost use Rattle.std.specs.Prelude.{◌≡◌, ◌<◌, IfOk, None, length, map};
+ghost use Rattle.vm_block.specs.Memory.{stored_of};
+ghost use Rattle.vm_rule.specs.Fixed.{MayBegin};
+ghost use Rattle.vm_rule.specs.Started.{words_in};
+ghost use Rattle.vm_step.specs.Passes.{view};
+ghost use Rattle.vm_step.specs.Ready.{IsReady};
+
+use crate::table::two_passes;
+use std::alloc::Global;
+use std::process::Abort;
+use std::test::Fail;
+use vm_block::{Block, MemBlock};
+use vm_core::StateWord;
+use vm_exmap::Interface;
+use vm_guard::OptGuard;
+use vm_owner::{Bare, Owner};
+use vm_page::PageBuf;
+use vm_pool::{Bring, Pool};
+use vm_rule::words::Pass;
+use vm_step::{At, Saw};
+
+/// The blocks of two pages, which have 64 times the word 5, and 64 times the word 6.
+fn two_blocks(alloc: Global) -> Result<Vec<MemBlock>, Fail>
+    ensures count { IfOk result (λ blocks. length blocks.items ≡ 2) }
+    ensures begins { IfOk result (λ blocks. MayBegin ⟦<Bare as Owner>⟧.keeps 2 (words_in (map stored_of blocks.items))) }
+{
+    let mut first = PageBuf::zero();
+    let mut second = PageBuf::zero();
+    for i in 0..64usize {
+        first.set(i, 5);
+        second.set(i, 6);
+    }
+    let mut blocks = Vec::new(alloc);
+    blocks.push(MemBlock::new(alloc, first, &[])?)?;
+    blocks.push(MemBlock::new(alloc, second, &[])?)?;
+    Ok(blocks)
+}
+
+/// The page, which is evicted, is brought in, by a pass without a frame of its own.
+fn brought<B: Block>(rt: &impl Abort, pool: &Pool<Bare, B>, pass: &mut Pass<Bare>, pid: u32)
+    requires ready { IsReady pool.now.words.table.shared.key B.tells pool.now.words.table.shared.table_id pass.old }
+    requires home { (view pass.old).out ≡ None }
+    requires page { pid < pool.now.words.table.shared.key.pages }
+    ensures ready { IsReady pool.now.words.table.shared.key B.tells pool.now.words.table.shared.table_id pass.new }
+    ensures home { (view pass.new).out ≡ None }
+{
+    let mut iface = Interface::new(0, 1);
+    let answer = pool.bring(pass, &mut iface, pid);
+    assert_eq!(rt; answer, Bring::Brought);
+}
+
+/// Each of the 64 words is this one.
+fn is_all(rt: &impl Abort, page: &PageBuf, word: u64)
+    requires { length page.now ≡ 64 }
+{
+    for i in 0..64usize {
+        let there = page.get(i);
+        assert_eq!(rt; there, word);
+    }
+}
+
+#[test]
+fn a_read_of_an_evicted_page_is_refused(rt: HostRuntime) -> Result<(), Fail> {
+    let blocks = two_blocks(rt.alloc())?;
+    let (pool, mut pass, mut other) = two_passes(rt.alloc(), 1, 2, blocks)?;
+    brought(&rt, &pool, &mut pass, 0);
+    let Ok(guard) = OptGuard::start(&pool.words, &mut pass, 0) else {
+        panic!(rt; "the page can be read");
+    };
+    let mut page = PageBuf::zero();
+    guard.read_all(&pool.words, &mut pass, &mut page);
+    is_all(&rt, &page, 5);
+    // the only frame is the page's
+    brought(&rt, &pool, &mut other, 1);
+    // the frame has the other page's words, and the read of the first page is refused
+    guard.read_all(&pool.words, &mut pass, &mut page);
+    is_all(&rt, &page, 6);
+    let answer = guard.validate_silently(&pool.words, &mut pass);
+    let at = At::Page(0);
+    let seen = StateWord::of(StateWord::EVICTED, 9);
+    assert_eq!(rt; answer, Err(Saw { at, first: 8, seen }));
+    Ok(())
+}

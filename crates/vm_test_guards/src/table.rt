@@ -1,0 +1,83 @@
+// A pool of a few evicted pages with two passes, and frames for the pages that they claim.
+ghost use Rattle.std.specs.Prelude.{◌≡◌, ◌≤◌, ℕ, IfOk, None, length, map};
+ghost use Rattle.vm_block.specs.Memory.{stored_of};
+ghost use Rattle.vm_rule.specs.Fixed.{MayBegin};
+ghost use Rattle.vm_rule.specs.Started.{words_in};
+ghost use Rattle.vm_step.specs.HeldFrames.{AreHeld};
+ghost use Rattle.vm_step.specs.Passes.{view};
+ghost use Rattle.vm_step.specs.Ready.{IsReady};
+
+use std::alloc::Global;
+use std::process::Abort;
+use std::test::Fail;
+use vm_block::{Block, MemBlock};
+use vm_exmap::{Alloc, Interface};
+use vm_owner::{Bare, Owner};
+use vm_page::PageBuf;
+use vm_pool::{Pool, Shape};
+use vm_rule::words::{Pass, Words};
+use vm_step::Batch;
+
+/// Blocks of so many pages (0 to 65536) of zeros, which answer every call.
+pub(crate) fn zeros(alloc: Global, pages: u32) -> Result<Vec<MemBlock>, Fail>
+    requires { pages ≤ 65536 }
+    ensures count { IfOk result (λ blocks. length blocks.items ≡ pages) }
+    ensures begins { IfOk result (λ blocks. (next : ℕ) → MayBegin ⟦<Bare as Owner>⟧.keeps next (words_in (map stored_of blocks.items))) }
+{
+    if pages == 0 {
+        return Ok(Vec::new(alloc));
+    }
+    let mut blocks = zeros(alloc, pages - 1)?;
+    blocks.push(MemBlock::new(alloc, PageBuf::zero(), &[])?)?;
+    Ok(blocks)
+}
+
+/// A pool of these blocks, whose pages are evicted at version 7, with so many frames (1 to 65536), whose next page is `next`, and two passes.
+pub(crate) fn two_passes(
+    alloc: Global,
+    frames: u32,
+    next: u32,
+    blocks: Vec<MemBlock>,
+) -> Result<(Pool<Bare, MemBlock>, Pass<Bare>, Pass<Bare>), Fail>
+    requires pages { (1 ≤ length blocks.items) × (length blocks.items ≤ 65536) }
+    requires frames { (1 ≤ frames) × (frames ≤ 65536) }
+    requires next { next ≤ length blocks.items }
+    requires begins { MayBegin ⟦<Bare as Owner>⟧.keeps next (words_in (map stored_of blocks.items)) }
+    ensures pages { IfOk result (λ made. (made.0.words.table.shared.key.pages ≡ length blocks.items) × (made.0.words.table.shared.key.next ≡ next)) }
+    ensures first { IfOk result (λ made. IsReady made.0.words.table.shared.key ⟦<MemBlock as Block>⟧.tells made.0.words.table.shared.table_id made.1) }
+    ensures second { IfOk result (λ made. IsReady made.0.words.table.shared.key ⟦<MemBlock as Block>⟧.tells made.0.words.table.shared.table_id made.2) }
+    ensures home { IfOk result (λ made. ((view made.1).out ≡ None) × ((view made.2).out ≡ None)) }
+{
+    let pages = blocks.len() as u32;
+    let shape = Shape {
+        pages,
+        frames,
+        next,
+        first_version: 7,
+    };
+    let (pool, mut pass) = Pool::start(alloc, shape, blocks)?;
+    let other = pool.split_one(&mut pass);
+    Ok((pool, pass, other))
+}
+
+/// So many free frames (1 to 64), the lowest of the first bundle.
+pub(crate) fn free_frames<B: Block>(
+    rt: &impl Abort,
+    words: &Words<Bare, B>,
+    pass: &mut Pass<Bare>,
+    n: u32,
+) -> Batch
+    requires ready { IsReady words.now.table.shared.key B.tells words.now.table.shared.table_id pass.old }
+    requires home { (view pass.old).out ≡ None }
+    requires count { (1 ≤ n) × (n ≤ 64) }
+    ensures ready { IsReady words.now.table.shared.key B.tells words.now.table.shared.table_id pass.new }
+    ensures home { (view pass.new).out ≡ None }
+    ensures own { AreHeld result (view pass.new) }
+{
+    let mut iface = Interface::new(0, 1);
+    match iface.alloc(words, pass, n) {
+        Alloc::Batch(batch) => batch,
+        Alloc::Dry => panic!(rt; "there are free frames"),
+        Alloc::Again(_) => panic!(rt; "nobody else is there"),
+    }
+}

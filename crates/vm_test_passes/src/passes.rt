@@ -1,0 +1,94 @@
+//! Passes of one thread over a pool of two pages, with ample memory. The values are worked out by hand from the rules, and not taken from a run.
+ghost use Rattle.std.specs.Prelude.{◌≡◌, ◌≤◌, IfOk, length};
+ghost use Rattle.vm_step.specs.Passes.{view};
+ghost use Rattle.vm_step.specs.Ready.{IsReady};
+
+use std::alloc::Global;
+use std::test::Fail;
+use vm_block::{Block, MemBlock};
+use vm_owner::Bare;
+use vm_page::PageBuf;
+use vm_pool::first_page::{Opened, open_page};
+use vm_pool::whole_again::{meet_and_join, split_and_join};
+use vm_pool::{Bring, Closed, Pool, Shape};
+use vm_rule::words::Pass;
+use vm_workers::entries::{Told, three_entries};
+
+/// Blocks of two pages of zeros, which answer every call.
+fn two_blocks(alloc: Global) -> Result<Vec<MemBlock>, Fail>
+    ensures { IfOk result (λ blocks. length blocks.items ≡ 2) }
+{
+    let mut blocks = Vec::new(alloc);
+    blocks.push(MemBlock::new(alloc, PageBuf::zero(), &[])?)?;
+    blocks.push(MemBlock::new(alloc, PageBuf::zero(), &[])?)?;
+    Ok(blocks)
+}
+
+/// Two pages, both claimed, at version 0, and one frame.
+fn two_pages() -> Shape
+    ensures { (result.pages ≡ 2) × (result.frames ≡ 1) × (result.next ≡ 2) × (result.first_version ≡ 0) }
+{
+    Shape {
+        pages: 2,
+        frames: 1,
+        next: 2,
+        first_version: 0,
+    }
+}
+
+#[test]
+fn a_pool_whose_pass_was_split_and_joined_is_closed(rt: HostRuntime) -> Result<(), Fail> {
+    let blocks = two_blocks(rt.alloc())?;
+    let end = split_and_join::<Bare, MemBlock>(rt.alloc(), two_pages(), blocks, 3)?;
+    let Closed {
+        blocks,
+        next,
+        ended,
+    } = end;
+    assert_eq!(rt; blocks.len(), 2);
+    assert_eq!(rt; next, 2);
+    let sums = [ended.reads(), ended.writes(), ended.faults()];
+    assert_eq!(rt; sums, [0, 0, 0]);
+    Ok(())
+}
+
+/// A pool of these blocks, and its first pass.
+fn pool_of_two(alloc: Global) -> Result<(Pool<Bare, MemBlock>, Pass<Bare>), Fail>
+    ensures ready { IfOk result (λ made. IsReady made.0.words.table.shared.key ⟦<MemBlock as Block>⟧.tells made.0.words.table.shared.table_id made.1) }
+    ensures parts { IfOk result (λ made. 2 ≤ length (view made.1).fresh) }
+{
+    let blocks = two_blocks(alloc)?;
+    Ok(Pool::start(alloc, two_pages(), blocks)?)
+}
+
+#[test]
+fn passes_that_met_are_joined(rt: HostRuntime) -> Result<(), Fail> {
+    let (pool, mut pass) = pool_of_two(rt.alloc())?;
+    meet_and_join(&pool, &mut pass);
+    assert_eq!(rt; pool.words.pages, 2);
+    Ok(())
+}
+
+#[test]
+fn the_first_page_of_a_pool_is_brought(rt: HostRuntime) -> Result<(), Fail> {
+    let blocks = two_blocks(rt.alloc())?;
+    let opened = open_page::<Bare, MemBlock>(rt.alloc(), two_pages(), blocks, 1)?;
+    let Opened {
+        pool: _,
+        pass: _,
+        iface: _,
+        answer,
+    } = opened;
+    assert_eq!(rt; answer, Bring::Brought);
+    Ok(())
+}
+
+#[test]
+fn a_pass_makes_three_entries(rt: HostRuntime) -> Result<(), Fail> {
+    let blocks = two_blocks(rt.alloc())?;
+    let Ok(told) = three_entries(rt.alloc(), two_pages(), blocks, 1) else {
+        panic!(rt; "the page is brought and read");
+    };
+    let Told { pool: _, pass: _ } = told;
+    Ok(())
+}

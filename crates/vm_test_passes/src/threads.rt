@@ -1,0 +1,80 @@
+//! Four workers in threads over a pool of eight pages and six frames, with ample memory. What stands in the end is the same whatever the schedule.
+ghost use Rattle.std.specs.Prelude.{◌≡◌, ◌≤◌, IfOk, length};
+ghost use Rattle.vm_pool.specs.Holding.{HoldsNoPage};
+ghost use Rattle.vm_step.specs.Alone.{IsAlone};
+ghost use Rattle.vm_step.specs.Passes.{view};
+ghost use Rattle.vm_step.specs.Ready.{IsReady};
+ghost use Rattle.vm_workers.specs.Puts.{HasPages};
+
+use std::alloc::Global;
+use std::test::Fail;
+use vm_block::{Block, MemBlock};
+use vm_owner::Bare;
+use vm_page::PageBuf;
+use vm_pool::save::{Saved, flush_and_close};
+use vm_pool::{Closed, Pool, Shape};
+use vm_rule::words::Pass;
+use vm_workers::puts::put_and_join;
+
+/// A pool of eight pages of zeros, all claimed, and six frames, and its first pass.
+fn eight_pages(alloc: Global) -> Result<(Pool<Bare, MemBlock>, Pass<Bare>), Fail>
+    ensures ready { IfOk result (λ made. IsReady made.0.words.table.shared.key ⟦<MemBlock as Block>⟧.tells made.0.words.table.shared.table_id made.1) }
+    ensures alone { IfOk result (λ made. IsAlone (view made.1)) }
+    ensures holds { IfOk result (λ made. HoldsNoPage (view made.1)) }
+    ensures pages { IfOk result (λ made. HasPages made.0.words.table.shared.key) }
+    ensures parts { IfOk result (λ made. 4 ≤ length (view made.1).fresh) }
+{
+    let mut blocks = Vec::new(alloc);
+    blocks.push(MemBlock::new(alloc, PageBuf::zero(), &[])?)?;
+    blocks.push(MemBlock::new(alloc, PageBuf::zero(), &[])?)?;
+    blocks.push(MemBlock::new(alloc, PageBuf::zero(), &[])?)?;
+    blocks.push(MemBlock::new(alloc, PageBuf::zero(), &[])?)?;
+    blocks.push(MemBlock::new(alloc, PageBuf::zero(), &[])?)?;
+    blocks.push(MemBlock::new(alloc, PageBuf::zero(), &[])?)?;
+    blocks.push(MemBlock::new(alloc, PageBuf::zero(), &[])?)?;
+    blocks.push(MemBlock::new(alloc, PageBuf::zero(), &[])?)?;
+    let shape = Shape {
+        pages: 8,
+        frames: 6,
+        next: 8,
+        first_version: 0,
+    };
+    Ok(Pool::start(alloc, shape, blocks)?)
+}
+
+/// Worker number 2 sets word 2 of page 5 to 205, and so on.
+#[test]
+fn four_workers_set_their_words_of_all_pages(rt: HostRuntime) -> Result<(), Fail> {
+    let alloc = rt.alloc();
+    let (pool, mut pass) = eight_pages(alloc)?;
+    put_and_join(&rt, alloc, &pool, &mut pass, 4)?;
+    let Ok(saved) = flush_and_close(pool, alloc, pass) else {
+        panic!(rt; "there is memory");
+    };
+    let Saved { report, closed } = saved;
+    assert_eq!(rt; report.failed, 0);
+    let Closed {
+        blocks,
+        next: _,
+        ended: _,
+    } = closed;
+    let mut p: u64 = 0;
+    for mut block in blocks {
+        assert!(rt; p < 8);
+        let mut read = PageBuf::zero();
+        let answered = block.read(&mut read).is_ok();
+        assert!(rt; answered);
+        let words = [
+            read.get(0),
+            read.get(1),
+            read.get(2),
+            read.get(3),
+            read.get(4),
+        ];
+        let due = [p, 100 + p, 200 + p, 300 + p, 0];
+        assert_eq!(rt; words, due);
+        p += 1;
+    }
+    assert_eq!(rt; p, 8);
+    Ok(())
+}

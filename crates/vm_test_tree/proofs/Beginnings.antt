@@ -1,0 +1,31 @@
+-- A pool may begin with the blocks of an image that is a tree.
+use Rattle.std.proofs.Common.{ℕ, zero, suc, ◌≡◌, List, [], ◌∷◌, length, map, replicate, slice_index, refl, sym, ap, subst, ◌∙◌, arith}
+use Rattle.vm_block.specs.declared.memory.MemBlock.{MemBlock}
+use Rattle.vm_block.specs.Memory.{stored_of, words_of}
+use Rattle.vm_image.specs.Blocks.{AreBlocksOf, pages_of_blocks}
+use Rattle.vm_image.specs.File.{IsNextPage}
+use Rattle.vm_image.specs.declared.blocks.PlannedFault.{PlannedFault}
+use Rattle.vm_page.specs.Pages.{page_at}
+use Rattle.vm_tree_model.specs.Tree.{IsTree}
+use Rattle.vm_tree_laws.specs.Keeps.{Keeps}
+use Rattle.vm_tree_laws.proofs.Starts.{start_keeps}
+use Rattle.vm_rule.specs.Fixed.{MayBegin}
+use Rattle.vm_rule.specs.Started.{words_in}
+
+words-held : (blocks : List MemBlock) → words_in (map stored_of blocks) ≡ pages_of_blocks blocks
+words-held [] = refl
+words-held (b ∷ bs) = ap (λ (l : List (List ℕ)). words_of b ∷ l) (words-held bs)
+
+all-zero : (n : ℕ) (ws : List ℕ) → length ws ≡ n → ((i : ℕ) → slice_index ws i ≡ 0) → ws ≡ replicate n 0
+all-zero zero [] e z = refl
+all-zero zero (x ∷ xs) e z = absurd (omega arith)
+all-zero (suc n) [] e z = absurd (omega arith)
+all-zero (suc n) (x ∷ xs) e z = let first : x ≡ 0 = z 0 in let rest : xs ≡ replicate n 0 = all-zero n xs (omega arith) (λ i. z (suc i)) in cc
+
+pub begins : (pages : List (List ℕ)) (plan : List PlannedFault) (next : ℕ) (blocks : List MemBlock) → IsTree pages → IsNextPage pages next → AreBlocksOf pages plan blocks → MayBegin Keeps next (words_in (map stored_of blocks))
+begins pages plan next blocks tree free held =
+    subst (λ (l : List (List ℕ)). MayBegin Keeps next l) (sym (words-held blocks ∙ held.held))
+    (record {
+      zero = λ p l m. let f = free.free p l m in all-zero 64 (page_at pages p) f.length f.zero;
+      kept = start_keeps (record { pages = pages; next = next }) tree free.within;
+    })

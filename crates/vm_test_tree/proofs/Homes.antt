@@ -1,0 +1,74 @@
+-- Whatever a read of the tree answers, the pass has its block at home as before; and a call that asks for no frame leaves it those that it had.
+use Rattle.std.proofs.Common.{ℕ, Bool, false, ◌≡◌, ◌<◌, List, length, Result, Ok, Err, IfOk, IfErr, inl, sym, ap, subst, ◌∙◌}
+use Rattle.vm_core.specs.History.{Version}
+use Rattle.vm_map.specs.declared.call.Call.{Call}
+use Rattle.vm_map.specs.declared.call.Reply.{Reply}
+use Rattle.vm_map.specs.declared.call.Said.{Said}
+use Rattle.vm_owner.specs.Numbers.{has}
+use Rattle.vm_rule.specs.declared.view.Held.{Held}
+use Rattle.vm_rule.specs.declared.view.Origin.{Origin}
+use Rattle.vm_rule.specs.declared.view.View.{View}
+use Rattle.vm_rule.specs.Reading.{last_of}
+use Rattle.vm_rule.specs.Views.{draft_of}
+use Rattle.vm_step.specs.Asides.{KnowsAsBefore}
+use Rattle.vm_guard.specs.Guards.{IsHolding}
+use Rattle.vm_step.specs.HeldFrames.{AreHeld}
+use Rattle.vm_exmap.proofs.Handing.{held-on}
+use Rattle.vm_tree_rule.specs.Leaves.{OnlyReads}
+use Rattle.vm_tree_rule.specs.declared.fault.TreeFault.{TreeFault}
+use Rattle.vm_tree_read.specs.Reads.{IsTried}
+use Rattle.vm_tree_read.specs.Waiting.{IsFaulted, IsReplied}
+use Rattle.vm_tree_read.specs.declared.read.TryRead.{TryRead}
+use Rattle.vm_tree_read.specs.declared.read.TryRead.TheVariants as reads
+
+-- what a call leaves that asks for no frame and moves no block
+pub record Rests (v w : View Said) : Type 0 where
+  pub out : w.out ≡ v.out
+  pub start : w.start ≡ v.start
+  pub frames : w.frames ≡ v.frames
+
+pub of-reads : (v w : View Said) → OnlyReads v w → Rests v w
+of-reads v w r = record { out = r.out; start = r.start; frames = r.frames.0 }
+
+pub read-rests : (call : Call) (key : ℕ) (t : TryRead) (v w : View Said) → IsTried call key t v w → Rests v w
+read-rests call key (reads.Done reply) v w a = of-reads v w a.reads
+read-rests call key (reads.Again saw) v w a = of-reads v w a.0.0
+read-rests call key (reads.Need p) v w a = of-reads v w a.0.0
+
+pub rests-held : (frames : List ℕ) (v w : View Said) → AreHeld frames v → Rests v w → AreHeld frames w
+rests-held frames v w h r = held-on frames v w h r.start r.frames
+
+pub got-home : (call : Call) (key : ℕ) (r : Result Reply TreeFault) (v w : View Said) → IfOk r (λ reply. IsReplied (record { call = call; reply = reply }) v w) → IfErr r (λ fault. IsFaulted key fault v w) → w.out ≡ v.out
+got-home call key (Ok reply) v w a b = a.out
+got-home call key (Err fault) v w a b = b.leaves.out
+
+-- a page that the pass holds and has not written is so after a read of the tree
+pub record IsBeside (p frame version : ℕ) (dirty : Bool) (w : View Said) : Type 0 where
+  pub held : IsHolding p frame version dirty w
+  pub same : draft_of w p ≡ (last_of w p).words
+  pub unpaid : has p w.owed ≡ false
+
+reads-beside : (p f version : ℕ) (dirty : Bool) (v w : View Said) → IsBeside p f version dirty v → OnlyReads v w → IsBeside p f version dirty w
+reads-beside p f version dirty v w b r =
+    let h = b.held in
+    let k : KnowsAsBefore v w p = r.knows p (inl h.owns) in
+    record {
+      held = record {
+        page = subst (λ (o : Origin). p < o.pages) (sym r.start) h.page;
+        frame_is = subst (λ (o : Origin). f < o.frames) (sym r.start) h.frame_is;
+        below = h.below;
+        owns = (r.holds p).exclusive ∙ h.owns;
+        stands = ap (λ (y : Held). y.mapping) k.held ∙ h.stands;
+        told = ap (λ (y : Held). y.fault) k.held ∙ h.told ∙ ap (λ (y : Held). y.block.count) (sym k.held);
+        at = ap (λ (y : Version). y.version) k.last ∙ h.at;
+        size = ap length k.draft ∙ h.size;
+        free = ap (has p) r.group.0 ∙ h.free;
+      };
+      same = k.draft ∙ b.same ∙ sym (ap (λ (y : Version). y.words) k.last);
+      unpaid = ap (has p) r.group.1 ∙ b.unpaid;
+    }
+
+pub tried-beside : (call : Call) (key : ℕ) (t : TryRead) (p f version : ℕ) (dirty : Bool) (v w : View Said) → IsTried call key t v w → IsBeside p f version dirty v → IsBeside p f version dirty w
+tried-beside call key (reads.Done reply) p f version dirty v w a b = reads-beside p f version dirty v w b a.reads
+tried-beside call key (reads.Again saw) p f version dirty v w a b = reads-beside p f version dirty v w b a.0.0
+tried-beside call key (reads.Need q) p f version dirty v w a b = reads-beside p f version dirty v w b a.0.0

@@ -1,0 +1,45 @@
+-- Whatever a write of the tree answers, the pass has its block at home as before; and a try asks for no frame.
+use Rattle.std.proofs.Common.{ℕ, ◌≡◌, Result, Ok, Err, IfOk, IfErr, ⊎_elim}
+use Rattle.vm_map.specs.declared.call.Call.{Call}
+use Rattle.vm_map.specs.declared.call.Reply.{Reply}
+use Rattle.vm_map.specs.declared.call.Said.{Said}
+use Rattle.vm_rule.specs.declared.view.View.{View}
+use Rattle.vm_tree_rule.specs.declared.fault.TreeFault.{TreeFault}
+use Rattle.vm_tree_read.specs.Waiting.{Waits}
+use Rattle.vm_tree_write.specs.Splits.{KeepsAll}
+use Rattle.vm_tree_write.specs.Writes.{IsDel, IsPut, OnlyWrites}
+use Rattle.vm_tree_write.specs.Waiting.{IsFaulted as IsWriteFaulted, IsPutFaulted, IsReplied as IsWriteReplied, faulted, missing, tight, worn}
+use Rattle.vm_tree_write.specs.declared.write.TryWrite.{TryWrite}
+use Rattle.vm_tree_write.specs.declared.write.TryWrite.TheVariants as writes
+use Rattle.vm_test_tree.proofs.Homes.{Rests, of-reads}
+
+of-writes : (p : ℕ) (v w : View Said) → OnlyWrites p v w → Rests v w
+of-writes p v w r = record { out = r.out; start = r.start; frames = r.frames.0 }
+
+pub put-rests : (key value : ℕ) (t : TryWrite) (v w : View Said) → IsPut key value t v w → Rests v w
+put-rests key value (writes.Done reply) v w a = of-writes a.0.page v w a.0.writes
+put-rests key value (writes.Again saw) v w a = of-reads v w a.0.0
+put-rests key value (writes.Need p) v w a = of-reads v w a.0.0
+put-rests key value (writes.Worn p) v w a = of-reads v w a.0.0
+put-rests key value (writes.Tight p) v w a = of-reads v w a.0.0
+
+pub del-rests : (key : ℕ) (t : TryWrite) (v w : View Said) → IsDel key t v w → Rests v w
+del-rests key (writes.Done reply) v w a = ⊎_elim (λ b. of-writes b.0.page v w b.0.writes) (λ b. of-reads v w b.reads) a
+del-rests key (writes.Again saw) v w a = of-reads v w a.0.0
+del-rests key (writes.Need p) v w a = of-reads v w a.0.0
+del-rests key (writes.Worn p) v w a = of-reads v w a.0.0
+del-rests key (writes.Tight p) v w a = absurd a
+
+fault-home : (key : ℕ) (fault : TreeFault) (v w : View Said) → IsPutFaulted key fault v w → w.out ≡ v.out
+fault-home key fault v w (faulted (missing tried found page k n f all)) = all.out
+fault-home key fault v w (faulted (worn tried page k n f all)) = all.out
+fault-home key fault v w (tight tried found page k t f all) = all.out
+
+pub put-home : (call : Call) (key : ℕ) (r : Result Reply TreeFault) (v w : View Said) → IfOk r (λ reply. IsWriteReplied KeepsAll (record { call = call; reply = reply }) v w) → IfErr r (λ fault. IsPutFaulted key fault v w) → w.out ≡ v.out
+put-home call key (Ok reply) v w a b = a.out
+put-home call key (Err fault) v w a b = fault-home key fault v w b
+
+pub del-home : (call : Call) (key : ℕ) (r : Result Reply TreeFault) (v w : View Said) → IfOk r (λ reply. IsWriteReplied Waits (record { call = call; reply = reply }) v w) → IfErr r (λ fault. IsWriteFaulted Waits key fault v w) → w.out ≡ v.out
+del-home call key (Ok reply) v w a b = a.out
+del-home call key (Err fault) v w a (missing tried found page k n f all) = all.out
+del-home call key (Err fault) v w a (worn tried page k n f all) = all.out

@@ -1,0 +1,11 @@
+use Rattle.std.proofs.Common.{◌∙◌}
+use Rattle.vm_map.specs.declared.call.Call.TheVariants.{Get}
+use Rattle.vm_step.specs.Passes.{view}
+use Rattle.vm_test_tree.proofs.Homes.{read-rests, rests-held}
+use Rattle.vm_test_tree.proofs.calls.get_once.Goals as goal
+
+pub returns-clause-home : goal.returns-clause-home
+returns-clause-home c = (read-rests (Get c.args.key) c.args.key c.try_get.result (view c.args.pass.now) (view c.try_get.new.pass) c.try_get.ensures.tried).out ∙ c.requires.home
+
+pub returns-clause-held : goal.returns-clause-held
+returns-clause-held c = rests-held _ (view c.args.pass.now) (view c.try_get.new.pass) c.requires.held (read-rests (Get c.args.key) c.args.key c.try_get.result (view c.args.pass.now) (view c.try_get.new.pass) c.try_get.ensures.tried)

@@ -1,0 +1,11 @@
+use Rattle.std.proofs.Common.{◌∙◌}
+use Rattle.vm_step.specs.Passes.{view}
+use Rattle.vm_test_tree.proofs.Homes.{rests-held}
+use Rattle.vm_test_tree.proofs.WriteHomes.{del-rests}
+use Rattle.vm_test_tree.proofs.write_calls.del_once.Goals as goal
+
+pub returns-clause-home : goal.returns-clause-home
+returns-clause-home c = (del-rests c.args.key c.try_del.result (view c.args.pass.now) (view c.try_del.new.pass) c.try_del.ensures.tried).out ∙ c.requires.home
+
+pub returns-clause-held : goal.returns-clause-held
+returns-clause-held c = rests-held _ (view c.args.pass.now) (view c.try_del.new.pass) c.requires.held (del-rests c.args.key c.try_del.result (view c.args.pass.now) (view c.try_del.new.pass) c.try_del.ensures.tried)

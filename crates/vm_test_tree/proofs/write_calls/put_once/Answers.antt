@@ -1,0 +1,11 @@
+use Rattle.std.proofs.Common.{◌∙◌}
+use Rattle.vm_step.specs.Passes.{view}
+use Rattle.vm_test_tree.proofs.Homes.{rests-held}
+use Rattle.vm_test_tree.proofs.WriteHomes.{put-rests}
+use Rattle.vm_test_tree.proofs.write_calls.put_once.Goals as goal
+
+pub returns-clause-home : goal.returns-clause-home
+returns-clause-home c = (put-rests c.args.key c.args.value c.try_put.result (view c.args.pass.now) (view c.try_put.new.pass) c.try_put.ensures.tried).out ∙ c.requires.home
+
+pub returns-clause-held : goal.returns-clause-held
+returns-clause-held c = rests-held _ (view c.args.pass.now) (view c.try_put.new.pass) c.requires.held (put-rests c.args.key c.args.value c.try_put.result (view c.args.pass.now) (view c.try_put.new.pass) c.try_put.ensures.tried)

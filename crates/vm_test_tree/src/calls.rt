@@ -1,0 +1,172 @@
+//! A pool over a small tree, and the tree's reads by a pass whose block is at home: it is at home again after each of them.
+ghost use Rattle.std.specs.Prelude.{◌≡◌, ◌≤◌, IfOk, None, false, length};
+ghost use Rattle.vm_step.specs.HeldFrames.{AreHeld};
+ghost use Rattle.vm_guard.specs.Guards.{IsHolding};
+ghost use Rattle.vm_owner.specs.Numbers.{has};
+ghost use Rattle.vm_rule.specs.Reading.{last_of};
+ghost use Rattle.vm_rule.specs.Views.{draft_of};
+ghost use Rattle.vm_step.specs.Passes.{view};
+ghost use Rattle.vm_step.specs.Ready.{IsReady};
+
+use std::alloc::Global;
+use std::sync::Wait;
+use std::test::Fail;
+use vm_block::{Block, MemBlock};
+use vm_check::check;
+use vm_exmap::Interface;
+use vm_guard::ExclusiveGuard;
+use vm_image::{blocks_of, read_image};
+use vm_map::call::Reply;
+use vm_page::PageBuf;
+use vm_pool::{Pool, Shape};
+use vm_rule::words::Pass;
+use vm_tree_read::{TryRead, get, try_get, try_window, window};
+use vm_tree_rule::{Tree, TreeFault};
+
+pub(crate) const MAGIC: u64 = 0x564D_4341_4348_4531;
+
+/// A page with these words from word 0 on, behind the bytes of others.
+pub(crate) fn put_page(bytes: &mut Vec<u8>, words: &[u64]) -> Result<(), Fail>
+    requires { length words.now ≤ 64 }
+{
+    let mut page = PageBuf::zero();
+    for i in 0..words.len() {
+        page.set(i, words[i]);
+    }
+    for byte in page.to_bytes() {
+        bytes.push(byte)?;
+    }
+    Ok(())
+}
+
+/// So many pages (2 or more) of an empty tree: page 0 names page 1, a leaf of all keys.
+pub(crate) fn empty(alloc: Global, pages: usize) -> Result<Vec<u8>, Fail> {
+    let mut bytes = Vec::new(alloc);
+    put_page(&mut bytes, &[MAGIC, 1, 0])?;
+    put_page(&mut bytes, &[2, 0, 0, 0, 1, 0])?;
+    for _ in 2..pages {
+        put_page(&mut bytes, &[])?;
+    }
+    Ok(bytes)
+}
+
+/// A pool over the tree of these bytes, with 64 frames, and its first pass.
+pub(crate) fn open(alloc: Global, bytes: &[u8]) -> Result<(Pool<Tree, MemBlock>, Pass<Tree>), Fail>
+    ensures pages { IfOk result (λ made. 2 ≤ made.0.words.table.shared.key.pages) }
+    ensures ready { IfOk result (λ made. IsReady made.0.words.table.shared.key ⟦<MemBlock as Block>⟧.tells made.0.words.table.shared.table_id made.1) }
+    ensures home { IfOk result (λ made. (view made.1).out ≡ None) }
+{
+    let image = read_image(alloc, bytes)?;
+    check(alloc, &image)?;
+    let blocks = blocks_of(alloc, &image, &[])?;
+    let shape = Shape {
+        pages: image.pages(),
+        frames: 64,
+        next: image.next(),
+        first_version: 0,
+    };
+    Ok(Pool::start(alloc, shape, blocks)?)
+}
+
+/// `get`.
+pub(crate) fn got<R: Wait>(
+    rt: &R,
+    pool: &Pool<Tree, MemBlock>,
+    pass: &mut Pass<Tree>,
+    iface: &mut Interface,
+    key: u64,
+) -> Result<Reply, TreeFault>
+    requires pages { 1 ≤ pool.now.words.table.shared.key.pages }
+    requires ready { IsReady pool.now.words.table.shared.key ⟦<MemBlock as Block>⟧.tells pool.now.words.table.shared.table_id pass.old }
+    requires home { (view pass.old).out ≡ None }
+    requires held { AreHeld iface.old.frames (view pass.old) }
+    ensures ready { IsReady pool.now.words.table.shared.key ⟦<MemBlock as Block>⟧.tells pool.now.words.table.shared.table_id pass.new }
+    ensures home { (view pass.new).out ≡ None }
+    ensures held { AreHeld iface.new.frames (view pass.new) }
+{
+    get(rt, pool, pass, iface, key)
+}
+
+/// `window`, of at most so many pairs.
+pub(crate) fn window_from<R: Wait>(
+    rt: &R,
+    pool: &Pool<Tree, MemBlock>,
+    pass: &mut Pass<Tree>,
+    iface: &mut Interface,
+    start: u64,
+    most: u32,
+) -> Result<Reply, TreeFault>
+    requires pages { 1 ≤ pool.now.words.table.shared.key.pages }
+    requires most { 1 ≤ most }
+    requires ready { IsReady pool.now.words.table.shared.key ⟦<MemBlock as Block>⟧.tells pool.now.words.table.shared.table_id pass.old }
+    requires home { (view pass.old).out ≡ None }
+    requires held { AreHeld iface.old.frames (view pass.old) }
+    ensures ready { IsReady pool.now.words.table.shared.key ⟦<MemBlock as Block>⟧.tells pool.now.words.table.shared.table_id pass.new }
+    ensures home { (view pass.new).out ≡ None }
+    ensures held { AreHeld iface.new.frames (view pass.new) }
+{
+    window(rt, pool, pass, iface, start, most)
+}
+
+/// `try_get`, by a pass that keeps its frames.
+pub(crate) fn get_once(
+    pool: &Pool<Tree, MemBlock>,
+    pass: &mut Pass<Tree>,
+    iface: &Interface,
+    key: u64,
+) -> TryRead
+    requires pages { 1 ≤ pool.now.words.table.shared.key.pages }
+    requires ready { IsReady pool.now.words.table.shared.key ⟦<MemBlock as Block>⟧.tells pool.now.words.table.shared.table_id pass.old }
+    requires home { (view pass.old).out ≡ None }
+    requires held { AreHeld iface.now.frames (view pass.old) }
+    ensures ready { IsReady pool.now.words.table.shared.key ⟦<MemBlock as Block>⟧.tells pool.now.words.table.shared.table_id pass.new }
+    ensures home { (view pass.new).out ≡ None }
+    ensures held { AreHeld iface.now.frames (view pass.new) }
+{
+    let _ = iface;
+    try_get(pool.words(), pass, key)
+}
+
+/// `try_window`, by a pass that keeps its frames.
+pub(crate) fn window_once(
+    pool: &Pool<Tree, MemBlock>,
+    pass: &mut Pass<Tree>,
+    iface: &Interface,
+    start: u64,
+    most: u32,
+) -> TryRead
+    requires pages { 1 ≤ pool.now.words.table.shared.key.pages }
+    requires most { 1 ≤ most }
+    requires ready { IsReady pool.now.words.table.shared.key ⟦<MemBlock as Block>⟧.tells pool.now.words.table.shared.table_id pass.old }
+    requires home { (view pass.old).out ≡ None }
+    requires held { AreHeld iface.now.frames (view pass.old) }
+    ensures ready { IsReady pool.now.words.table.shared.key ⟦<MemBlock as Block>⟧.tells pool.now.words.table.shared.table_id pass.new }
+    ensures home { (view pass.new).out ≡ None }
+    ensures held { AreHeld iface.now.frames (view pass.new) }
+{
+    let _ = iface;
+    try_window(pool.words(), pass, start, most)
+}
+
+/// `try_get`, by a pass that holds a page that it has not written: it holds it still, as it was.
+pub(crate) fn get_beside(
+    pool: &Pool<Tree, MemBlock>,
+    pass: &mut Pass<Tree>,
+    guard: &ExclusiveGuard,
+    key: u64,
+) -> TryRead
+    requires pages { 1 ≤ pool.now.words.table.shared.key.pages }
+    requires ready { IsReady pool.now.words.table.shared.key ⟦<MemBlock as Block>⟧.tells pool.now.words.table.shared.table_id pass.old }
+    requires home { (view pass.old).out ≡ None }
+    requires held { IsHolding guard.now.pid guard.now.frame guard.now.version guard.now.dirty (view pass.old) }
+    requires same { draft_of (view pass.old) guard.now.pid ≡ (last_of (view pass.old) guard.now.pid).words }
+    requires unpaid { has guard.now.pid (view pass.old).owed ≡ false }
+    ensures ready { IsReady pool.now.words.table.shared.key ⟦<MemBlock as Block>⟧.tells pool.now.words.table.shared.table_id pass.new }
+    ensures home { (view pass.new).out ≡ None }
+    ensures held { IsHolding guard.now.pid guard.now.frame guard.now.version guard.now.dirty (view pass.new) }
+    ensures same { draft_of (view pass.new) guard.now.pid ≡ (last_of (view pass.new) guard.now.pid).words }
+    ensures unpaid { has guard.now.pid (view pass.new).owed ≡ false }
+{
+    let _ = guard;
+    try_get(pool.words(), pass, key)
+}

@@ -1,0 +1,11 @@
+//! Tests of the tree's reads and writes over a pool of blocks in memory, by their public items.
+#![tactic(auto)]
+
+#[cfg(test)]
+mod calls;
+#[cfg(test)]
+mod reads;
+#[cfg(test)]
+mod write_calls;
+#[cfg(test)]
+mod writes;

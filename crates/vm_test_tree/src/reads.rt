@@ -1,0 +1,96 @@
+//! Reads of small trees, with ample memory. The pages are worked out by hand from the formats.
+use crate::calls::{
+    MAGIC, empty, get_beside, get_once, got, open, put_page, window_from, window_once,
+};
+use std::alloc::Global;
+use std::test::Fail;
+use vm_core::StateWord;
+use vm_exmap::Interface;
+use vm_guard::ExclusiveGuard;
+use vm_map::call::Reply;
+use vm_map::window::Bound;
+use vm_step::At;
+use vm_tree_read::TryRead;
+
+/// Four pages of a tree of height 1: the root on page 1, leaves on pages 2 (below key 100) and 3.
+fn two_leaves(alloc: Global) -> Result<Vec<u8>, Fail> {
+    let mut bytes = Vec::new(alloc);
+    put_page(&mut bytes, &[MAGIC, 1, 1])?;
+    put_page(&mut bytes, &[3, 2, 0, 0, 1, 1, 0, 0, 0, 2, 100, 3])?;
+    put_page(&mut bytes, &[2, 2, 0, 100, 0, 0, 0, 0, 5, 50, 7, 70])?;
+    put_page(&mut bytes, &[2, 1, 100, 0, 1, 0, 0, 0, 150, 15])?;
+    Ok(bytes)
+}
+
+#[test]
+fn a_key_that_is_not_there_has_no_value(rt: HostRuntime) -> Result<(), Fail> {
+    let bytes = empty(rt.alloc(), 8)?;
+    let (pool, mut pass) = open(rt.alloc(), bytes.as_slice())?;
+    let mut iface = Interface::new(0, 16);
+    // Page 0 is evicted, and then the root.
+    let first = get_once(&pool, &mut pass, &iface, 5);
+    assert!(rt; matches!(&first, TryRead::Need(0)));
+    let reply = got(&rt, &pool, &mut pass, &mut iface, 5);
+    assert_eq!(rt; reply, Ok(Reply::Got(None)));
+    let again = get_once(&pool, &mut pass, &iface, 5);
+    assert!(rt; matches!(&again, TryRead::Done(Reply::Got(None))));
+    Ok(())
+}
+
+#[test]
+fn a_descent_reaches_each_leaf(rt: HostRuntime) -> Result<(), Fail> {
+    let bytes = two_leaves(rt.alloc())?;
+    let (pool, mut pass) = open(rt.alloc(), bytes.as_slice())?;
+    let mut iface = Interface::new(0, 16);
+    let reply = got(&rt, &pool, &mut pass, &mut iface, 5);
+    assert_eq!(rt; reply, Ok(Reply::Got(Some(50))));
+    let reply = got(&rt, &pool, &mut pass, &mut iface, 6);
+    assert_eq!(rt; reply, Ok(Reply::Got(None)));
+    let reply = got(&rt, &pool, &mut pass, &mut iface, 7);
+    assert_eq!(rt; reply, Ok(Reply::Got(Some(70))));
+    let reply = got(&rt, &pool, &mut pass, &mut iface, 99);
+    assert_eq!(rt; reply, Ok(Reply::Got(None)));
+    let reply = got(&rt, &pool, &mut pass, &mut iface, 100);
+    assert_eq!(rt; reply, Ok(Reply::Got(None)));
+    let reply = got(&rt, &pool, &mut pass, &mut iface, 150);
+    assert_eq!(rt; reply, Ok(Reply::Got(Some(15))));
+    let reply = got(&rt, &pool, &mut pass, &mut iface, u64::MAX);
+    assert_eq!(rt; reply, Ok(Reply::Got(None)));
+    let Ok(Reply::Win(all)) = window_from(&rt, &pool, &mut pass, &mut iface, 6, 28) else {
+        return Err(Fail::from("no window"));
+    };
+    assert_eq!(rt; all.bound, Bound::Key(100));
+    assert_eq!(rt; all.pairs.len(), 1);
+    let TryRead::Done(Reply::Win(first)) = window_once(&pool, &mut pass, &iface, 0, 1) else {
+        return Err(Fail::from("no window"));
+    };
+    assert_eq!(rt; first.bound, Bound::Key(7));
+    let TryRead::Done(Reply::Win(last)) = window_once(&pool, &mut pass, &iface, u64::MAX, 1) else {
+        return Err(Fail::from("no window"));
+    };
+    assert_eq!(rt; last.bound, Bound::End);
+    Ok(())
+}
+
+#[test]
+fn a_locked_page_is_tried_again(rt: HostRuntime) -> Result<(), Fail> {
+    let bytes = empty(rt.alloc(), 8)?;
+    let (pool, mut pass) = open(rt.alloc(), bytes.as_slice())?;
+    let mut iface = Interface::new(0, 16);
+    let reply = got(&rt, &pool, &mut pass, &mut iface, 5);
+    assert_eq!(rt; reply, Ok(Reply::Got(None)));
+    let Ok(guard) = ExclusiveGuard::take(pool.words(), &mut pass, 1) else {
+        return Err(Fail::from("no lock"));
+    };
+    let tried = get_beside(&pool, &mut pass, &guard, 5);
+    guard.release(pool.words(), &mut pass, None);
+    let TryRead::Again(saw) = tried else {
+        return Err(Fail::from("not tried again"));
+    };
+    assert_eq!(rt; saw.at, At::Page(1));
+    assert_eq!(rt; StateWord::state(saw.seen), 253);
+    let empty_handed = Interface::new(0, 16);
+    let again = get_once(&pool, &mut pass, &empty_handed, 5);
+    assert!(rt; matches!(&again, TryRead::Done(Reply::Got(None))));
+    Ok(())
+}

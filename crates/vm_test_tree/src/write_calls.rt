@@ -1,0 +1,110 @@
+//! The tree's writes by a pass whose block is at home: it is at home again after each of them.
+ghost use Rattle.std.specs.Prelude.{◌≡◌, ◌≤◌, None};
+ghost use Rattle.vm_step.specs.HeldFrames.{AreHeld};
+ghost use Rattle.vm_step.specs.Passes.{view};
+ghost use Rattle.vm_step.specs.Ready.{IsReady};
+
+use std::sync::Wait;
+use vm_block::{Block, MemBlock};
+use vm_exmap::Interface;
+use vm_map::call::Reply;
+use vm_pool::Pool;
+use vm_rule::words::Pass;
+use vm_tree_rule::{Tree, TreeFault};
+use vm_tree_write::{TrySplit, TryWrite, del, put, try_del, try_put, try_split};
+
+/// `put`.
+pub(crate) fn put_at<R: Wait>(
+    rt: &R,
+    pool: &Pool<Tree, MemBlock>,
+    pass: &mut Pass<Tree>,
+    iface: &mut Interface,
+    key: u64,
+    value: u64,
+) -> Result<Reply, TreeFault>
+    requires pages { 1 ≤ pool.now.words.table.shared.key.pages }
+    requires ready { IsReady pool.now.words.table.shared.key ⟦<MemBlock as Block>⟧.tells pool.now.words.table.shared.table_id pass.old }
+    requires home { (view pass.old).out ≡ None }
+    requires held { AreHeld iface.old.frames (view pass.old) }
+    ensures ready { IsReady pool.now.words.table.shared.key ⟦<MemBlock as Block>⟧.tells pool.now.words.table.shared.table_id pass.new }
+    ensures home { (view pass.new).out ≡ None }
+    ensures held { AreHeld iface.new.frames (view pass.new) }
+{
+    put(rt, pool, pass, iface, key, value)
+}
+
+/// `del`.
+pub(crate) fn del_at<R: Wait>(
+    rt: &R,
+    pool: &Pool<Tree, MemBlock>,
+    pass: &mut Pass<Tree>,
+    iface: &mut Interface,
+    key: u64,
+) -> Result<Reply, TreeFault>
+    requires pages { 1 ≤ pool.now.words.table.shared.key.pages }
+    requires ready { IsReady pool.now.words.table.shared.key ⟦<MemBlock as Block>⟧.tells pool.now.words.table.shared.table_id pass.old }
+    requires home { (view pass.old).out ≡ None }
+    requires held { AreHeld iface.old.frames (view pass.old) }
+    ensures ready { IsReady pool.now.words.table.shared.key ⟦<MemBlock as Block>⟧.tells pool.now.words.table.shared.table_id pass.new }
+    ensures home { (view pass.new).out ≡ None }
+    ensures held { AreHeld iface.new.frames (view pass.new) }
+{
+    del(rt, pool, pass, iface, key)
+}
+
+/// `try_put`, by a pass that keeps its frames.
+pub(crate) fn put_once(
+    pool: &Pool<Tree, MemBlock>,
+    pass: &mut Pass<Tree>,
+    iface: &Interface,
+    key: u64,
+    value: u64,
+) -> TryWrite
+    requires pages { 1 ≤ pool.now.words.table.shared.key.pages }
+    requires ready { IsReady pool.now.words.table.shared.key ⟦<MemBlock as Block>⟧.tells pool.now.words.table.shared.table_id pass.old }
+    requires home { (view pass.old).out ≡ None }
+    requires held { AreHeld iface.now.frames (view pass.old) }
+    ensures ready { IsReady pool.now.words.table.shared.key ⟦<MemBlock as Block>⟧.tells pool.now.words.table.shared.table_id pass.new }
+    ensures home { (view pass.new).out ≡ None }
+    ensures held { AreHeld iface.now.frames (view pass.new) }
+{
+    let _ = iface;
+    try_put(pool.words(), pass, key, value)
+}
+
+/// `try_del`, by a pass that keeps its frames.
+pub(crate) fn del_once(
+    pool: &Pool<Tree, MemBlock>,
+    pass: &mut Pass<Tree>,
+    iface: &Interface,
+    key: u64,
+) -> TryWrite
+    requires pages { 1 ≤ pool.now.words.table.shared.key.pages }
+    requires ready { IsReady pool.now.words.table.shared.key ⟦<MemBlock as Block>⟧.tells pool.now.words.table.shared.table_id pass.old }
+    requires home { (view pass.old).out ≡ None }
+    requires held { AreHeld iface.now.frames (view pass.old) }
+    ensures ready { IsReady pool.now.words.table.shared.key ⟦<MemBlock as Block>⟧.tells pool.now.words.table.shared.table_id pass.new }
+    ensures home { (view pass.new).out ≡ None }
+    ensures held { AreHeld iface.now.frames (view pass.new) }
+{
+    let _ = iface;
+    try_del(pool.words(), pass, key)
+}
+
+/// `try_split`.
+pub(crate) fn split_once(
+    pool: &Pool<Tree, MemBlock>,
+    pass: &mut Pass<Tree>,
+    iface: &mut Interface,
+    key: u64,
+) -> TrySplit
+    requires pages { 1 ≤ pool.now.words.table.shared.key.pages }
+    requires ready { IsReady pool.now.words.table.shared.key ⟦<MemBlock as Block>⟧.tells pool.now.words.table.shared.table_id pass.old }
+    requires home { (view pass.old).out ≡ None }
+    requires held { AreHeld iface.old.frames (view pass.old) }
+    ensures ready { IsReady pool.now.words.table.shared.key ⟦<MemBlock as Block>⟧.tells pool.now.words.table.shared.table_id pass.new }
+    ensures home { (view pass.new).out ≡ None }
+    ensures held { AreHeld iface.new.frames (view pass.new) }
+{
+    try_split(pool.words(), pass, iface, key)
+}

@@ -1,0 +1,170 @@
+//! Writes of small trees, with ample memory: puts that split leaves and the root, and dels.
+ghost use Rattle.std.specs.Prelude.{◌≡◌, ◌≤◌, None};
+ghost use Rattle.vm_step.specs.HeldFrames.{AreHeld};
+ghost use Rattle.vm_step.specs.Passes.{view};
+ghost use Rattle.vm_step.specs.Ready.{IsReady};
+
+use crate::calls::{empty, got, open};
+use crate::write_calls::{del_at, del_once, put_at, put_once, split_once};
+use std::process::Abort;
+use std::sync::Wait;
+use std::test::Fail;
+use vm_block::{Block, MemBlock};
+use vm_exmap::Interface;
+use vm_map::call::Reply;
+use vm_pool::Pool;
+use vm_rule::words::Pass;
+use vm_tree_callers::put_then_get;
+use vm_tree_rule::Tree;
+use vm_tree_write::{TrySplit, TryWrite};
+
+/// 800 keys in a mixed order get the number behind them. None of them was there.
+fn put_many<R: Wait + Abort>(
+    rt: &R,
+    pool: &Pool<Tree, MemBlock>,
+    pass: &mut Pass<Tree>,
+    iface: &mut Interface,
+)
+    requires pages { 1 ≤ pool.now.words.table.shared.key.pages }
+    requires ready { IsReady pool.now.words.table.shared.key ⟦<MemBlock as Block>⟧.tells pool.now.words.table.shared.table_id pass.old }
+    requires home { (view pass.old).out ≡ None }
+    requires held { AreHeld iface.old.frames (view pass.old) }
+    ensures ready { IsReady pool.now.words.table.shared.key ⟦<MemBlock as Block>⟧.tells pool.now.words.table.shared.table_id pass.new }
+    ensures home { (view pass.new).out ≡ None }
+    ensures held { AreHeld iface.new.frames (view pass.new) }
+{
+    for i in 0..800 {
+        let key = i * 377 % 1009;
+        let reply = put_at(rt, pool, pass, iface, key, key + 1);
+        assert_eq!(rt; reply, Ok(Reply::Was(None)), "put of {key}");
+    }
+}
+
+/// Each of these keys has the number behind it.
+fn get_many<R: Wait + Abort>(
+    rt: &R,
+    pool: &Pool<Tree, MemBlock>,
+    pass: &mut Pass<Tree>,
+    iface: &mut Interface,
+)
+    requires pages { 1 ≤ pool.now.words.table.shared.key.pages }
+    requires ready { IsReady pool.now.words.table.shared.key ⟦<MemBlock as Block>⟧.tells pool.now.words.table.shared.table_id pass.old }
+    requires home { (view pass.old).out ≡ None }
+    requires held { AreHeld iface.old.frames (view pass.old) }
+    ensures ready { IsReady pool.now.words.table.shared.key ⟦<MemBlock as Block>⟧.tells pool.now.words.table.shared.table_id pass.new }
+    ensures home { (view pass.new).out ≡ None }
+    ensures held { AreHeld iface.new.frames (view pass.new) }
+{
+    for i in 0..800 {
+        let key = i * 377 % 1009;
+        let reply = got(rt, pool, pass, iface, key);
+        assert_eq!(rt; reply, Ok(Reply::Got(Some(key + 1))), "get of {key}");
+    }
+}
+
+/// The first 400 of these keys are taken out, and are not there afterwards. One of them, 377, has the value 5.
+fn del_half<R: Wait + Abort>(
+    rt: &R,
+    pool: &Pool<Tree, MemBlock>,
+    pass: &mut Pass<Tree>,
+    iface: &mut Interface,
+)
+    requires pages { 1 ≤ pool.now.words.table.shared.key.pages }
+    requires ready { IsReady pool.now.words.table.shared.key ⟦<MemBlock as Block>⟧.tells pool.now.words.table.shared.table_id pass.old }
+    requires home { (view pass.old).out ≡ None }
+    requires held { AreHeld iface.old.frames (view pass.old) }
+    ensures ready { IsReady pool.now.words.table.shared.key ⟦<MemBlock as Block>⟧.tells pool.now.words.table.shared.table_id pass.new }
+    ensures home { (view pass.new).out ≡ None }
+    ensures held { AreHeld iface.new.frames (view pass.new) }
+{
+    for i in 0..400 {
+        let key = i * 377 % 1009;
+        let reply = del_at(rt, pool, pass, iface, key);
+        let was = if key == 377 { 5 } else { key + 1 };
+        assert_eq!(rt; reply, Ok(Reply::Gone(Some(was))), "del of {key}");
+        let again = del_once(pool, pass, iface, key);
+        assert!(rt; matches!(&again, TryWrite::Done(Reply::Gone(None))));
+    }
+}
+
+/// A leaf is filled: the keys below 28 get the value 1.
+fn fill<R: Wait + Abort>(
+    rt: &R,
+    pool: &Pool<Tree, MemBlock>,
+    pass: &mut Pass<Tree>,
+    iface: &mut Interface,
+)
+    requires pages { 1 ≤ pool.now.words.table.shared.key.pages }
+    requires ready { IsReady pool.now.words.table.shared.key ⟦<MemBlock as Block>⟧.tells pool.now.words.table.shared.table_id pass.old }
+    requires home { (view pass.old).out ≡ None }
+    requires held { AreHeld iface.old.frames (view pass.old) }
+    ensures ready { IsReady pool.now.words.table.shared.key ⟦<MemBlock as Block>⟧.tells pool.now.words.table.shared.table_id pass.new }
+    ensures home { (view pass.new).out ≡ None }
+    ensures held { AreHeld iface.new.frames (view pass.new) }
+{
+    for key in 0..28 {
+        let reply = put_at(rt, pool, pass, iface, key, 1);
+        assert_eq!(rt; reply, Ok(Reply::Was(None)));
+    }
+}
+
+#[test]
+fn puts_split_leaves_and_roots(rt: HostRuntime) -> Result<(), Fail> {
+    let bytes = empty(rt.alloc(), 128)?;
+    let (pool, mut pass) = open(rt.alloc(), bytes.as_slice())?;
+    let mut iface = Interface::new(0, 16);
+    // The tree gets inner nodes of two levels.
+    put_many(&rt, &pool, &mut pass, &mut iface);
+    get_many(&rt, &pool, &mut pass, &mut iface);
+    let reply = put_at(&rt, &pool, &mut pass, &mut iface, 377, 5);
+    assert_eq!(rt; reply, Ok(Reply::Was(Some(378))));
+    del_half(&rt, &pool, &mut pass, &mut iface);
+    let reply = got(&rt, &pool, &mut pass, &mut iface, 377);
+    assert_eq!(rt; reply, Ok(Reply::Got(None)));
+    Ok(())
+}
+
+#[test]
+fn a_full_leaf_is_tight_and_then_split(rt: HostRuntime) -> Result<(), Fail> {
+    let bytes = empty(rt.alloc(), 8)?;
+    let (pool, mut pass) = open(rt.alloc(), bytes.as_slice())?;
+    let mut iface = Interface::new(0, 16);
+    fill(&rt, &pool, &mut pass, &mut iface);
+    // The 28 keys that there are can be put, others not.
+    let same = put_once(&pool, &mut pass, &iface, 27, 2);
+    assert!(rt; matches!(&same, TryWrite::Done(Reply::Was(Some(1)))));
+    let tight = put_once(&pool, &mut pass, &iface, 28, 1);
+    assert!(rt; matches!(&tight, TryWrite::Tight(1)));
+    let split = split_once(&pool, &mut pass, &mut iface, 28);
+    assert!(rt; matches!(&split, TrySplit::Split));
+    let roomy = split_once(&pool, &mut pass, &mut iface, 28);
+    assert!(rt; matches!(&roomy, TrySplit::Roomy));
+    let put_now = put_once(&pool, &mut pass, &iface, 28, 1);
+    assert!(rt; matches!(&put_now, TryWrite::Done(Reply::Was(None))));
+    let got = put_then_get(pool.words(), &mut pass, 29, 30);
+    assert_eq!(rt; got, Some(Reply::Got(Some(30))));
+    Ok(())
+}
+
+#[test]
+fn a_full_image_has_no_page_for_a_split(rt: HostRuntime) -> Result<(), Fail> {
+    let bytes = empty(rt.alloc(), 3)?;
+    let (pool, mut pass) = open(rt.alloc(), bytes.as_slice())?;
+    let mut iface = Interface::new(0, 16);
+    fill(&rt, &pool, &mut pass, &mut iface);
+    let full = split_once(&pool, &mut pass, &mut iface, 28);
+    assert!(rt;
+        matches!(
+            &full,
+            TrySplit::Full {
+                pages: 3,
+                next: 2,
+                need: 2
+            }
+        )
+    );
+    // The locks that it took are given up.
+    let put_still = put_once(&pool, &mut pass, &iface, 3, 9);
+    assert!(rt; matches!(&put_still, TryWrite::Done(Reply::Was(Some(1)))));
+    Ok(())
+}
