@@ -1,5 +1,6 @@
 -- What a call on a block answers and changes: the words held, the counts, and the bound of the count of faults.
 use Rattle.std.specs.Prelude.{ℕ, ◌+◌, ◌-◌, ◌^◌, ◌≡◌, min, List, length, Bool, true, Result, is_ok, OnOk, if◌then◌else◌}
+use Rattle.vm_page.specs.declared.buf.TheConstants.{WORDS}
 use Rattle.vm_block.specs.declared.stored.Stored.{Stored}
 
 -- a count after one more, which stands still at the last value
@@ -9,7 +10,7 @@ one_more count = min (count + 1) (2 ^ 64 - 1)
 -- a read: where it answers, the buffer has the words held, and where it fails, the count of faults is raised
 pub record Reads {E : Type 0} (tells : Bool) (old new : Stored) (into : List ℕ) (result : Result (Unit {0}) E) : Type 0 where
   pub given : tells ≡ true → OnOk result (into ≡ old.words)
-  pub whole : OnOk result (length into ≡ 64)
+  pub whole : OnOk result (length into ≡ WORDS)
   pub held : tells ≡ true → new.words ≡ old.words
   pub count : new.count ≡ (if is_ok result then old.count else one_more old.count)
   pub reads : new.reads ≡ (if is_ok result then one_more old.reads else old.reads)

@@ -14,6 +14,7 @@ pub struct Failed;
 /// The storage of one page.
 pub trait Block {
     ghost use Rattle.std.specs.Prelude.{Bool};
+    ghost use Rattle.vm_page.specs.declared.buf.TheConstants.{WORDS};
     ghost use Rattle.vm_block.specs.declared.stored.Stored.{Stored};
 
     /// Whether this kind of block tells its words.
@@ -43,7 +44,7 @@ pub trait Block {
         ensures { result ≡ (stored self.now).count };
 
     /// The words held are a page's.
-    ghost whole: { (b : Self) → tells ≡ true → length (stored b).words ≡ 64 };
+    ghost whole: { (b : Self) → tells ≡ true → length (stored b).words ≡ WORDS };
 
     /// No more calls fail than the bound says.
     ghost bounded: { (b : Self) → (stored b).count ≤ (stored b).bound };

@@ -1,6 +1,7 @@
 //! A block in memory. What its calls do stands in `calls`.
 
 ghost use Rattle.std.specs.Prelude.{◌≡◌, length};
+ghost use Rattle.vm_page.specs.declared.buf.TheConstants.{WORDS};
 
 mod calls;
 
@@ -14,5 +15,5 @@ pub struct MemBlock {
     plan: Plan,
     reads: u64,
     writes: u64,
-    ghost whole: { length words ≡ 64 },
+    ghost whole: { length words ≡ WORDS },
 }

@@ -1,5 +1,6 @@
 -- What the checker answers.
-use Rattle.std.specs.Prelude.{◌≡◌, ◌^◌, slice_index, List, ℕ, Some}
+use Rattle.vm_map.specs.Keys.{KEY_END}
+use Rattle.std.specs.Prelude.{◌≡◌, slice_index, List, ℕ, Some}
 use Rattle.vm_map.specs.Map.{Rises}
 use Rattle.vm_page.specs.Pages.{page_at}
 use Rattle.vm_tree_model.specs.Tree.{IsTree, map_of}
@@ -12,7 +13,7 @@ use Rattle.vm_check.specs.declared.fault.CheckFault.TheVariants.{BadPage, Memory
 pub record AreRows (pages : List (List ℕ)) (rows : Rows) : Type 0 where
   pub tree : IsTree pages
   pub pairs : rows.pairs.items ≡ map_of pages
-  pub rise : Rises 0 (2 ^ 64) rows.pairs.items
+  pub rise : Rises 0 KEY_END rows.pairs.items
   pub height : rows.height ≡ slice_index (page_at pages 0) 2
   pub used : rows.used ≡ used_pages pages
 

@@ -3,7 +3,6 @@
 
 mod checker;
 mod fault;
-mod pairs;
 mod rows;
 mod slot;
 mod walk;

@@ -1,12 +1,14 @@
 //! A place in the tree, and the tests of the page that is named for it.
 
-ghost use Rattle.std.specs.Prelude.{◌≡◌, ℕ, ◌+◌, ◌-◌, ◌*◌, ◌^◌, ◌<◌, ◌≤◌, ◌++◌, length, drop, reverse, nat_lt, unwrap_or, true, OnOk, slice_index, option_map};
+ghost use Rattle.vm_map.specs.Keys.{KEY_END};
+ghost use Rattle.std.specs.Prelude.{◌≡◌, ℕ, ◌+◌, ◌-◌, ◌*◌, ◌<◌, ◌≤◌, ◌++◌, length, drop, reverse, nat_lt, unwrap_or, true, OnOk, slice_index, option_map};
 ghost use Rattle.vm_tree_model.specs.Page.{pairs_of};
 ghost use Rattle.vm_tree_model.specs.Walk.{all_zero, rises, has_tag, has_fences, has_form, has_keys, names_pages, has_children, slot_fault, children};
 
-use crate::pairs::{count_of, key_at, value_at};
 use std::marker::Model;
 use vm_image::is_zero_from;
+use vm_map::window::MOST_PAIRS;
+use vm_node::pairs::{count_of, key_at, value_at};
 use vm_page::PageBuf;
 
 /// A place in the tree and the page that is named for it. `high` is exclusive, and `None` where there is no high fence.
@@ -19,17 +21,18 @@ pub(crate) struct Slot {
 }
 
 impl Model for Slot {
-    ghost use Rattle.std.specs.Prelude.{◌^◌, unwrap_or};
+    ghost use Rattle.std.specs.Prelude.{unwrap_or};
+    ghost use Rattle.vm_map.specs.Keys.{KEY_END};
     ghost use Rattle.vm_tree_model.specs.Walk.{Slot as Place};
 
     ghost Value = { Place };
 
-    ghost view = { λ s. record { page = s.page; level = s.level; low = s.low; high = unwrap_or s.high (2 ^ 64) } };
+    ghost view = { λ s. record { page = s.page; level = s.level; low = s.low; high = unwrap_or s.high KEY_END } };
 }
 
 // The key is below the fence, or there is none.
 fn is_below(key: u64, fence: Option<u64>) -> bool
-    ensures { result ≡ nat_lt key (unwrap_or fence (2 ^ 64)) }
+    ensures { result ≡ nat_lt key (unwrap_or fence KEY_END) }
 {
     match fence {
         Some(fence) => key < fence,
@@ -39,14 +42,14 @@ fn is_below(key: u64, fence: Option<u64>) -> bool
 
 // The key after it, and none after the last.
 fn after(key: u64) -> Option<u64>
-    ensures { unwrap_or result (2 ^ 64) ≡ key + 1 }
+    ensures { unwrap_or result KEY_END ≡ key + 1 }
 {
     key.checked_add(1)
 }
 
 // The keys rise, from low on and below high.
 fn keys_rise(page: &PageBuf, low: u64, high: Option<u64>) -> bool
-    ensures { result ≡ rises low (unwrap_or high (2 ^ 64)) (pairs_of page.now) }
+    ensures { result ≡ rises low (unwrap_or high KEY_END) (pairs_of page.now) }
 {
     let mut least = Some(low);
     for i in 0..count_of(page) {
@@ -104,7 +107,7 @@ impl Slot {
         if self.level > 0 && count == 0 {
             return false;
         }
-        if count > 28 {
+        if count > MOST_PAIRS as u64 {
             return false;
         }
         if page.get(5) != self.level {

@@ -1,6 +1,7 @@
 //! The walk over the pages of an image: the places still to be filled, the pages visited, the rows met.
 
-ghost use Rattle.std.specs.Prelude.{◌≡◌, ℕ, ◌+◌, ◌-◌, ◌<◌, ◌≤◌, ◌^◌, unwrap_or, [], ◌∷◌, ◌++◌, length, take, drop, slice_index, reverse, replicate, None, true, false, OnOk, IfOk, MatchOption, MatchResult};
+ghost use Rattle.vm_map.specs.Keys.{KEY_END};
+ghost use Rattle.std.specs.Prelude.{◌≡◌, ℕ, ◌+◌, ◌-◌, ◌<◌, ◌≤◌, unwrap_or, [], ◌∷◌, ◌++◌, length, take, drop, slice_index, reverse, replicate, None, true, false, OnOk, IfOk, MatchOption, MatchResult};
 ghost use Rattle.vm_tree_model.specs.Page.{pairs_of};
 ghost use Rattle.vm_tree_model.specs.Tree.{page_at};
 ghost use Rattle.vm_tree_model.specs.Walk.{all_zero, names_pages, children};
@@ -8,11 +9,11 @@ ghost use Rattle.vm_tree_model.specs.Reason.{first_lost, first_outcome, used_pag
 ghost use Rattle.vm_check.specs.Progress.{IsGoing, IsNext, IsFaultOf, IsLost, outcome, outcome_at};
 
 use crate::fault::CheckFault;
-use crate::pairs::{count_of, key_at, value_at};
 use crate::slot::Slot;
 use std::alloc::{AllocError, Global};
 use vm_image::{Image, is_free};
 use vm_map::call::Pair;
+use vm_node::pairs::{count_of, key_at, value_at};
 use vm_page::PageBuf;
 
 /// A walk: the places on the stack are to be filled next, the last one first.
@@ -132,7 +133,7 @@ fn push_children(
     pages: u32,
 ) -> Result<(), AllocError>
     requires names { names_pages pages (pairs_of page.now) ≡ true }
-    ensures { OnOk result (reverse slots.new.items ≡ children level (pairs_of page.now) (unwrap_or high (2 ^ 64)) ++ reverse slots.old.items) }
+    ensures { OnOk result (reverse slots.new.items ≡ children level (pairs_of page.now) (unwrap_or high KEY_END) ++ reverse slots.old.items) }
 {
     let mut high = high;
     for i in (0..count_of(page)).rev() {

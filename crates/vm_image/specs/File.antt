@@ -2,6 +2,7 @@
 use Rattle.std.specs.Prelude.{◌≡◌, ℕ, zero, suc, ◌+◌, ◌*◌, ◌/◌, ◌<◌, ◌≤◌, List, [], ◌∷◌, ◌++◌, length, take, drop}
 use Rattle.vm_page.specs.Bytes.{bytes_of_words, words_of_bytes}
 use Rattle.vm_page.specs.Pages.{page_at}
+use Rattle.vm_page.specs.declared.buf.TheConstants.{WORDS}
 use Rattle.vm_tree_model.specs.Page.{IsFree}
 
 -- 2 to 65,536 pages of 512 bytes
@@ -28,7 +29,7 @@ bytes_of_pages (w ∷ ws) = bytes_of_words w ++ bytes_of_pages ws
 
 -- each page has 64 words
 abbrev pub HaveWords : List (List ℕ) → Type 0
-HaveWords pages = (p : ℕ) → p < length pages → length (page_at pages p) ≡ 64
+HaveWords pages = (p : ℕ) → p < length pages → length (page_at pages p) ≡ WORDS
 
 -- one more than the greatest page that is not all zero, and 0 where all are
 pub record IsNextPage (pages : List (List ℕ)) (next : ℕ) : Type 0 where

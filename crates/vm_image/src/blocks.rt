@@ -4,6 +4,7 @@ ghost use Rattle.std.specs.Prelude.{◌≡◌, ℕ, ◌<◌, ◌≤◌, length, 
 ghost use Rattle.vm_image.specs.Blocks.{AreBlocksOf, numbers_for, pages_of_blocks};
 
 use crate::image::Image;
+use crate::memory::Memory;
 use std::alloc::{AllocError, Global};
 use vm_block::MemBlock;
 use vm_page::PageBuf;
@@ -22,7 +23,7 @@ pub fn blocks_of(
     alloc: Global,
     image: &Image,
     plan: &[PlannedFault],
-) -> Result<Vec<MemBlock>, AllocError>
+) -> Result<Vec<MemBlock>, Memory>
     ensures blocks { IfOk result (λ blocks. AreBlocksOf image.now plan.now blocks.items) }
     ensures count { IfOk result (λ blocks. length blocks.items ≡ length image.now) }
 {
@@ -50,7 +51,7 @@ fn numbers_for(alloc: Global, plan: &[PlannedFault], page: u32) -> Result<Vec<u6
 }
 
 /// The image of 2 to 65,536 blocks: a page for each, with the words that it holds.
-pub fn image_of(alloc: Global, blocks: &[MemBlock]) -> Result<Image, AllocError>
+pub fn image_of(alloc: Global, blocks: &[MemBlock]) -> Result<Image, Memory>
     requires some { 2 ≤ length blocks.now }
     requires most { length blocks.now ≤ 65536 }
     ensures { IfOk result (λ image. image ≡ pages_of_blocks blocks.now) }

@@ -6,10 +6,11 @@ ghost use Rattle.vm_image.specs.File.{IsPageFile, pages_of_bytes, bytes_of_pages
 ghost use Rattle.vm_image.specs.Faults.{IsRefused};
 
 use crate::fault::ImageFault;
+use crate::memory::Memory;
 use crate::zeros::is_free;
 use std::alloc::{AllocError, Global};
 use std::marker::Model;
-use vm_page::PageBuf;
+use vm_page::{PageBuf, WORDS};
 
 /// 2 to 65,536 pages of 64 words: contracts see the list of their words.
 #[derive(Drop)]
@@ -68,6 +69,16 @@ fn read_pages(alloc: Global, bytes: &[u8], count: usize) -> Result<Vec<PageBuf>,
 }
 
 impl Image {
+    /// The image of 2 to 65,536 pages. Each has 64 words, as any call on it tells.
+    pub fn of_pages(pages: Vec<PageBuf>) -> Image
+        requires some { 2 ≤ length pages.items }
+        requires most { length pages.items ≤ 65536 }
+        requires words { HaveWords pages.items }
+        ensures { result ≡ pages.items }
+    {
+        Image { pages }
+    }
+
     /// How many pages there are, 2 to 65,536.
     pub fn pages(&self) -> u32
         ensures pages { result ≡ length self.now }
@@ -82,7 +93,7 @@ impl Image {
     pub fn page(&self, p: u32) -> &PageBuf
         requires { p < length self.now }
         ensures page { result.now ≡ page_at self.now p }
-        ensures length { length result.now ≡ 64 }
+        ensures length { length result.now ≡ WORDS }
     {
         &self.pages[p as usize]
     }
@@ -90,7 +101,7 @@ impl Image {
     /// Word `i` of page `p`, for `i` from 0 to 63 and `p` below the number of pages.
     pub fn word(&self, p: u32, i: u32) -> u64
         requires page { p < length self.now }
-        requires word { i < 64 }
+        requires word { i < WORDS }
         ensures { result ≡ slice_index (page_at self.now p) i }
     {
         self.page(p).get(i as usize)
@@ -111,7 +122,7 @@ impl Image {
     }
 
     /// The bytes of the pages; read back they are the same pages.
-    pub fn to_bytes(&self, alloc: Global) -> Result<Vec<u8>, AllocError>
+    pub fn to_bytes(&self, alloc: Global) -> Result<Vec<u8>, Memory>
         ensures bytes { IfOk result (λ bytes. bytes.items ≡ bytes_of_pages self.now) }
         ensures back { IfOk result (λ bytes. IsPageFile bytes.items × (pages_of_bytes bytes.items ≡ self.now)) }
     {

@@ -3,7 +3,7 @@
 ghost use Rattle.std.specs.Prelude.{◌≡◌, drop, length};
 ghost use Rattle.vm_tree_model.specs.Walk.{all_zero, is_free};
 
-use vm_page::PageBuf;
+use vm_page::{PageBuf, WORDS};
 
 /// All words from word `from` on are 0.
 pub fn is_zero_from(page: &PageBuf, from: usize) -> bool
@@ -11,7 +11,7 @@ pub fn is_zero_from(page: &PageBuf, from: usize) -> bool
 {
     // A page has 64 words.
     let _ = page.get(0);
-    for i in from..64 {
+    for i in from..WORDS {
         if page.get(i) != 0 {
             return false;
         }
@@ -24,7 +24,7 @@ pub fn is_zero_from(page: &PageBuf, from: usize) -> bool
 pub fn is_free(page: &PageBuf) -> bool
     ensures free { result ≡ is_free page.now }
     ensures zero { result ≡ all_zero page.now }
-    ensures length { length page.now ≡ 64 }
+    ensures length { length page.now ≡ WORDS }
 {
     if page.get(0) != 0 {
         return false;

@@ -1,4 +1,5 @@
 -- What a call on a map is answered, which map it leaves, and when a history of calls is right.
+use Rattle.vm_map.specs.Keys.{KEY_END}
 use Rattle.std.specs.Prelude.{◌≡◌, ℕ, ◌^◌, ◌<◌, ◌≤◌, List, [], ◌∷◌, length, filter, nat_lt, nat_le, ◌&&◌, None}
 use Rattle.vm_map.specs.Map.{Pairs, lookup_at, put_pair, del_pair}
 use Rattle.vm_map.specs.declared.call.Call.{Call}
@@ -12,7 +13,7 @@ use Rattle.vm_map.specs.declared.window.Bound.TheVariants.{Key, End}
 -- a bound as a number: no key reaches 2 ^ 64
 abbrev pub bound_of : Bound → ℕ
 bound_of (Key key) = key
-bound_of End = 2 ^ 64
+bound_of End = KEY_END
 
 -- the pairs of the map from a key on and below a bound
 abbrev pub between : Pairs → ℕ → ℕ → Pairs

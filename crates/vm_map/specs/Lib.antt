@@ -1,3 +1,4 @@
+pub mod Keys
 pub mod Map
 pub mod History
 pub mod Windows

@@ -1,5 +1,6 @@
 -- The window of the first pairs from a key on, and where the next pair stands.
-use Rattle.std.specs.Prelude.{◌≡◌, ℕ, zero, suc, ◌^◌, [], ◌∷◌, take, filter, min, nat_le}
+use Rattle.vm_map.specs.Keys.{KEY_END}
+use Rattle.std.specs.Prelude.{◌≡◌, ℕ, zero, suc, [], ◌∷◌, take, filter, min, nat_le}
 use Rattle.vm_map.specs.Map.{Pairs}
 use Rattle.vm_map.specs.History.{bound_of}
 use Rattle.vm_map.specs.declared.call.Call.{Call}
@@ -7,6 +8,7 @@ use Rattle.vm_map.specs.declared.call.Call.TheVariants.{Window as Asked}
 use Rattle.vm_map.specs.declared.call.Reply.{Reply}
 use Rattle.vm_map.specs.declared.call.Reply.TheVariants.{Win}
 use Rattle.vm_map.specs.declared.window.Window.{Window}
+use Rattle.vm_map.specs.declared.window.TheConstants.{MOST_PAIRS}
 
 -- the pairs from a key on
 abbrev pub from_key : ℕ → Pairs → Pairs
@@ -25,5 +27,5 @@ pub record IsWindow (pairs : Pairs) (high start most : ℕ) (window : Window) : 
 
 -- a window that is asked for is that of the first pairs of the map, with what is above 28 read as 28
 abbrev pub IsFirstWindow : Pairs → Call → Reply → Type 0
-IsFirstWindow m (Asked start most) (Win window) = IsWindow m (2 ^ 64) start (min most 28) window
+IsFirstWindow m (Asked start most) (Win window) = IsWindow m KEY_END start (min most MOST_PAIRS) window
 IsFirstWindow _ _ _ = Unit {0}

@@ -1,11 +1,12 @@
 // A map in memory that answers calls at once, one after another.
-ghost use Rattle.std.specs.Prelude.{◌≡◌, ◌^◌, ◌≤◌, [], min, OnOk, OnErr, IfOk};
+ghost use Rattle.vm_map.specs.Keys.{KEY_END};
+ghost use Rattle.std.specs.Prelude.{◌≡◌, ◌≤◌, [], min, OnOk, OnErr, IfOk};
 ghost use Rattle.vm_map.specs.Map.{Rises};
 ghost use Rattle.vm_map.specs.History.{IsAskable, IsReply, after, AddsKey};
 ghost use Rattle.vm_map.specs.Windows.{IsWindow, IsFirstWindow};
 
 use crate::call::{Call, Pair, Reply};
-use crate::window::{Bound, Pairs, Window};
+use crate::window::{Bound, MOST_PAIRS, Pairs, Window};
 use std::alloc::{AllocError, Global};
 use std::collections::BTreeMap;
 use std::marker::Model;
@@ -17,14 +18,15 @@ pub struct PlainMap {
 }
 
 impl Model for PlainMap {
-    ghost use Rattle.std.specs.Prelude.{List, ℕ, ◌^◌};
+    ghost use Rattle.std.specs.Prelude.{List, ℕ};
+    ghost use Rattle.vm_map.specs.Keys.{KEY_END};
     ghost use Rattle.vm_map.specs.Map.{Rises};
 
     ghost Value = { List (ℕ × ℕ) };
 
     ghost view = { λ m. m.entries.entries };
 
-    ghost invariant = { λ m. Rises 0 (2 ^ 64) m.entries.entries };
+    ghost invariant = { λ m. Rises 0 KEY_END m.entries.entries };
 }
 
 impl PlainMap {
@@ -39,7 +41,7 @@ impl PlainMap {
 
     /// A map of these pairs, whose keys rise.
     pub fn from_pairs(alloc: Global, pairs: &[Pair]) -> Result<Self, AllocError>
-        requires { Rises 0 (2 ^ 64) pairs.now }
+        requires { Rises 0 KEY_END pairs.now }
         ensures { IfOk result (λ m. m ≡ pairs.now) }
     {
         let mut entries = BTreeMap::new(alloc);
@@ -58,7 +60,7 @@ impl PlainMap {
         ensures after { OnOk result (self.new ≡ after self.old call.now) }
         ensures err { OnErr result (self.new ≡ self.old) }
         ensures only_new_key { OnErr result (AddsKey self.old call.now) }
-        ensures rises { Rises 0 (2 ^ 64) self.new }
+        ensures rises { Rises 0 KEY_END self.new }
     {
         match *call {
             Call::Get { key } => Ok(Reply::Got(self.entries.get(&key).copied())),
@@ -71,7 +73,7 @@ impl PlainMap {
     /// The pairs, by rising key.
     pub fn pairs(&self, alloc: Global) -> Result<Vec<Pair>, AllocError>
         ensures pairs { IfOk result (λ v. v.items ≡ self.now) }
-        ensures rises { Rises 0 (2 ^ 64) self.now }
+        ensures rises { Rises 0 KEY_END self.now }
     {
         pairs_of(alloc, &self.entries)
     }
@@ -79,9 +81,9 @@ impl PlainMap {
 
 // The first pairs of a map in memory from a key on, `most` of them and at most 28, up to the first that is left.
 fn window_of(entries: &BTreeMap<u64, u64>, start: u64, most: u32) -> Window
-    ensures { IsWindow entries.now.entries (2 ^ 64) start (min most 28) result }
+    ensures { IsWindow entries.now.entries KEY_END start (min most MOST_PAIRS) result }
 {
-    let most = most.min(28) as usize;
+    let most = most.min(MOST_PAIRS as u32) as usize;
     let mut pairs = Pairs::new();
     'pairs: for (key, value) in entries.range(start..) {
         if pairs.len() >= most {

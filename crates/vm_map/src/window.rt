@@ -5,14 +5,18 @@ use crate::call::Pair;
 use arrayvec::ArrayVec;
 use std::marker::Model;
 
+/// How many pairs a window has at most: as many as a node of a tree.
+pub const MOST_PAIRS: usize = 28;
+
 /// At most 28 pairs, which lie in the value itself: contracts see the list of the pairs.
 #[derive(Debug, Drop, PartialEq)]
 pub struct Pairs {
-    items: ArrayVec<Pair, 28>,
+    items: ArrayVec<Pair, MOST_PAIRS>,
 }
 
 impl Model for Pairs {
     ghost use Rattle.std.specs.Prelude.{List, ℕ, ◌≤◌, length};
+    ghost use Rattle.vm_map.specs.declared.window.TheConstants.{MOST_PAIRS};
 
     ghost Value = { List (ℕ × ℕ) };
 
@@ -20,7 +24,7 @@ impl Model for Pairs {
 
     ghost inverse = { λ xs. record { items = record { items = xs } } };
 
-    ghost invariant = { λ p. length p.items.items ≤ 28 };
+    ghost invariant = { λ p. length p.items.items ≤ MOST_PAIRS };
 }
 
 impl Pairs {
@@ -36,22 +40,22 @@ impl Pairs {
     /// How many pairs there are.
     pub fn len(&self) -> usize
         ensures value { result ≡ length self.now }
-        ensures fits { length self.now ≤ 28 }
+        ensures fits { length self.now ≤ MOST_PAIRS }
     {
         self.items.len()
     }
 
     /// Whether there is no room for a further pair.
     pub fn is_full(&self) -> bool
-        ensures value { result ≡ (length self.now == 28) }
-        ensures fits { length self.now ≤ 28 }
+        ensures value { result ≡ (length self.now == MOST_PAIRS) }
+        ensures fits { length self.now ≤ MOST_PAIRS }
     {
         self.items.is_full()
     }
 
     /// Appends a pair. There must be room.
     pub fn push(&mut self, key: u64, value: u64)
-        requires { length self.old < 28 }
+        requires { length self.old < MOST_PAIRS }
         ensures { self.new ≡ self.old ++ (key, value) ∷ [] }
     {
         self.items.push(Pair { key, value });
@@ -60,7 +64,7 @@ impl Pairs {
     /// The pairs.
     pub fn as_slice(&self) -> &[Pair]
         ensures value { result.now ≡ self.now }
-        ensures fits { length self.now ≤ 28 }
+        ensures fits { length self.now ≤ MOST_PAIRS }
     {
         self.items.as_slice()
     }

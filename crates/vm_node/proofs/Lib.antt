@@ -1,6 +1,7 @@
 pub mod PlaceLemmas
 pub mod Shifts
 pub mod Indexes
+pub mod Bounds
 pub mod Puts
 pub mod Dels
 pub mod CutPairs

@@ -1,8 +1,7 @@
 -- Where a key stands among pairs, and what an edit there does.
-use Rattle.std.proofs.Common.{◌≡◌, ℕ, zero, suc, ◌+◌, ◌<◌, ◌≤◌, ◌≢◌, [], ◌∷◌, length, get_or, set, take, drop, Some, None, refl, ap, arith, ltb, eqb, true, false, inl, inr}
+use Rattle.std.proofs.Common.{◌≡◌, ℕ, zero, suc, ◌+◌, ◌<◌, ◌≤◌, ◌≢◌, [], ◌∷◌, length, get_or, set, take, Some, None, refl, ap, arith, ltb, eqb, true, false, inl, inr}
 use Rattle.std.proofs.lemmas.Bool.{cases_lt}
 use Rattle.std.proofs.lemmas.Bool.Decides.{nat_tests}
-use Rattle.std.proofs.lemmas.List.{at_drop_more, drop_all}
 use Rattle.std.specs.List.{insert}
 use Rattle.vm_map.specs.Map.{Pairs, lookup_at, put_pair, Rises}
 use Rattle.vm_map.proofs.MapLemmas.{lookup-below}
@@ -52,13 +51,6 @@ pub lookup-no_place : (m : Pairs) (low high k : ℕ) → Rises low high m → (p
 lookup-no_place [] low high k r other = refl
 lookup-no_place (e ∷ es) low high k r other = grind (arith, nat_tests, other, lookup-below es (e.0 + 1) high k r.2, lookup-no_place es (e.0 + 1) high k r.2)
 
--- a step of the search for the place
-pub place_more : (m : Pairs) (i k : ℕ) → i < length m → (get_or m i (0, 0)).0 < k → place_of (drop i m) k ≡ suc (place_of (drop (i + 1) m) k)
-place_more m i k lt below = let more = at_drop_more (λ (l : Pairs). place_of l k) m i (0, 0) lt in grind (arith, nat_tests, more)
-
-pub place_here : (m : Pairs) (i k : ℕ) → i < length m → k ≤ (get_or m i (0, 0)).0 → place_of (drop i m) k ≡ 0
-place_here m i k lt le = let more = at_drop_more (λ (l : Pairs). place_of l k) m i (0, 0) lt in grind (arith, nat_tests, more)
-
 -- one step of a shift: the pair that stood at j is carried on
 pub insert_carry : (m : Pairs) (j : ℕ) (x : ℕ × ℕ) → j < length m → insert (set m j x) (suc j) (get_or m j (0, 0)) ≡ insert m j x
 insert_carry [] j x lt = absurd (omega arith)
@@ -70,6 +62,3 @@ take-insert m n zero x le len = refl
 take-insert [] n (suc j) x le len = absurd (omega arith)
 take-insert (e ∷ es) zero (suc j) x le len = absurd (omega arith)
 take-insert (e ∷ es) (suc n) (suc j) x le len = ap (λ (l : Pairs). e ∷ l) (take-insert es n j x (omega arith) (omega arith))
-
-pub place_end : (m : Pairs) (i k : ℕ) → length m ≤ i → place_of (drop i m) k ≡ 0
-place_end m i k le = rw (drop_all i m le) refl

@@ -1,5 +1,5 @@
 -- Where a key stands, or belongs, among the pairs of a node.
-use Rattle.std.specs.Prelude.{◌≡◌, ℕ, suc, ◌<◌, [], ◌∷◌, length, if◌then◌else◌, nat_lt, ◌==◌}
+use Rattle.std.specs.Prelude.{◌≡◌, ℕ, suc, ◌+◌, ◌<◌, ◌≤◌, [], ◌∷◌, length, if◌then◌else◌, nat_lt, ◌==◌, slice_index_or}
 use Rattle.vm_map.specs.Map.{Pairs}
 
 -- how many pairs, from the first on, have a lower key
@@ -16,3 +16,14 @@ index_at (e ∷ es) k = if e.0 == k then 0 else suc (index_at es k)
 pub record IsIndexOf (pairs : Pairs) (key at : ℕ) : Type 0 where
   pub place : at ≡ index_at pairs key
   pub there : at < length pairs
+
+-- the pair before the place has a lower key, and the one at the place has none
+pub record IsBound (pairs : Pairs) (key at : ℕ) : Type 0 where
+  pub inside : at ≤ length pairs
+  pub before : (i : ℕ) → i + 1 ≡ at → (slice_index_or pairs i (0, 0)).0 < key
+  pub here : at < length pairs → key ≤ (slice_index_or pairs at (0, 0)).0
+
+-- the pair at the place has the key
+pub record HasKeyAt (pairs : Pairs) (key at : ℕ) : Type 0 where
+  pub there : at < length pairs
+  pub has : (slice_index_or pairs at (0, 0)).0 ≡ key

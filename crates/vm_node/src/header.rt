@@ -2,7 +2,7 @@
 
 ghost use Rattle.std.specs.Prelude.{◌≡◌, ℕ, ◌≤◌, length, slice_index};
 
-use vm_page::PageBuf;
+use vm_page::{PageBuf, WORDS};
 
 /// The first six words of a node. A node without a high fence has `endless` 1 and `high` 0; one with a high fence has
 /// `endless` 0.
@@ -25,7 +25,7 @@ pub fn write_header(page: &mut PageBuf, header: Header)
     ensures endless { slice_index page.new 4 ≡ header.endless }
     ensures level { slice_index page.new 5 ≡ header.level }
     ensures rest { (i : ℕ) → 6 ≤ i → slice_index page.new i ≡ slice_index page.old i }
-    ensures words { length page.new ≡ 64 }
+    ensures words { length page.new ≡ WORDS }
 {
     page.set(0, header.tag);
     page.set(1, header.count);

@@ -1,14 +1,15 @@
 //! The calls on a leaf: which keys it answers for, and look-ups and edits of its pairs.
 
-ghost use Rattle.std.specs.Prelude.{◌≡◌, ◌≢◌, true, false, OnOk, OnErr, IfOk, MatchResult, IfNone};
-ghost use Rattle.vm_map.specs.Map.{lookup_at, del_pair};
+ghost use Rattle.std.specs.Prelude.{◌≡◌, ◌≢◌, ℕ, true, false, OnOk, OnErr, IfOk, MatchResult, IfNone};
+ghost use Rattle.vm_map.specs.Map.{Rises, lookup_at, del_pair};
 ghost use Rattle.vm_tree_model.specs.Node.{Covers};
 ghost use Rattle.vm_tree_model.specs.Page.{pairs_of, node_of, IsLeaf};
 ghost use Rattle.vm_tree_model.specs.Edits.{IsFullFor, AddsPair, IsRefused, PutsInLeaf, IsLeafWith};
 ghost use Rattle.vm_node.specs.Takes.{TakesPair};
 
 use crate::full::Full;
-use crate::pairs::{count_of, index_of, key_at, place_of, shift_in, shift_out, value_at};
+use crate::pairs::{count_of, index_of, key_at, lower_bound, shift_in, shift_out, value_at};
+use vm_map::window::MOST_PAIRS;
 use vm_page::PageBuf;
 
 /// Whether the page has a leaf's tag.
@@ -27,30 +28,34 @@ pub fn covers(page: &PageBuf, key: u64) -> bool
     page.get(2) <= key && (page.get(4) != 0 || key < page.get(3))
 }
 
-/// The value at the key.
+/// The value at the key, of any page whose keys rise. Of other pages it is the value of a pair with the key, or none.
 pub fn find(page: &PageBuf, key: u64) -> Option<u64>
-    ensures { result ≡ lookup_at (pairs_of page.now) key }
+    ensures { (low high : ℕ) → Rises low high (pairs_of page.now) → result ≡ lookup_at (pairs_of page.now) key }
 {
-    let at = index_of(page, key)?;
+    let Some(at) = index_of(page, key) else {
+        return None;
+    };
     Some(value_at(page, at))
 }
 
-/// Puts a value at the key, and gives the old value. `Full` comes exactly where the leaf has 28 pairs and not the key;
-/// the page is then unchanged.
+/// Puts a value at the key of any page whose keys rise, and gives the old value. `Full` comes exactly where the leaf has 28
+/// pairs and not the key; the page is then unchanged.
 pub fn put(page: &mut PageBuf, key: u64, value: u64) -> Result<Option<u64>, Full>
-    ensures node { OnOk result (AddsPair page.old page.new key value) }
+    ensures was { (low high : ℕ) → Rises low high (pairs_of page.old) → IfOk result (λ was. was ≡ lookup_at (pairs_of page.old) key) }
+    ensures node { (low high : ℕ) → Rises low high (pairs_of page.old) → OnOk result (AddsPair page.old page.new key value) }
+    ensures room { IfOk result (λ _. ¬ (IsFullFor page.old key)) }
     ensures refused { OnErr result (IsRefused page.old page.new key) }
     ensures full { IsLeaf page.old → MatchResult result (λ _. ¬ (IsFullFor page.old key)) (λ _. IsFullFor page.old key) }
     ensures leaf { IsLeaf page.old → Covers (node_of page.old) key → IfOk result (PutsInLeaf page.old page.new key value) }
 {
     let count = count_of(page);
-    let at = place_of(page, key);
+    let at = lower_bound(page, key);
     if at < count && key_at(page, at) == key {
         let was = value_at(page, at);
         page.set(9 + 2 * at, value);
         return Ok(Some(was));
     }
-    if count == 28 {
+    if count == MOST_PAIRS {
         return Err(Full);
     }
     shift_in(page, at, count, key, value);
@@ -58,14 +63,16 @@ pub fn put(page: &mut PageBuf, key: u64, value: u64) -> Result<Option<u64>, Full
     Ok(None)
 }
 
-/// Takes the pair of the key out, and gives its value.
+/// Takes the pair of the key out of any page whose keys rise, and gives its value. Where none is found the page is unchanged.
 pub fn del(page: &mut PageBuf, key: u64) -> Option<u64>
-    ensures was { result ≡ lookup_at (pairs_of page.old) key }
-    ensures node { TakesPair page.old page.new key }
+    ensures was { (low high : ℕ) → Rises low high (pairs_of page.old) → result ≡ lookup_at (pairs_of page.old) key }
+    ensures node { (low high : ℕ) → Rises low high (pairs_of page.old) → TakesPair page.old page.new key }
     ensures none { IfNone result (page.new ≡ page.old) }
     ensures leaf { IsLeaf page.old → IsLeafWith page.old page.new (del_pair (pairs_of page.old) key) }
 {
-    let at = index_of(page, key)?;
+    let Some(at) = index_of(page, key) else {
+        return None;
+    };
     let count = count_of(page);
     let was = value_at(page, at);
     shift_out(page, at, count);

@@ -11,7 +11,8 @@
 //! | 8 + 2i, 9 + 2i | pair i by rising key: a key and its value; in an inner node the lowest key of a child and its page |
 //! | the rest | 0 |
 //!
-//! Every call works on any 64 words, also on words that no one validated: a count above 28 is read as 28. None takes
+//! Every call works on any 64 words, also on words that no one validated: a count above 28 is read as 28. Searches go by
+//! halves, so what is found is told of pages whose keys rise. None takes
 //! memory.
 #![tactic(auto)]
 

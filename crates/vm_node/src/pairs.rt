@@ -2,19 +2,20 @@
 
 ghost use Rattle.std.specs.Prelude.{◌≡◌, ℕ, ◌+◌, ◌*◌, ◌<◌, ◌≤◌, length, min, take, slice_index, slice_index_or, MatchOption, None};
 ghost use Rattle.std.specs.List.{insert};
-ghost use Rattle.vm_map.specs.Map.{lookup_at};
+ghost use Rattle.vm_map.specs.Map.{Rises, lookup_at};
 ghost use Rattle.vm_tree_model.specs.Page.{places, pairs_of};
-ghost use Rattle.vm_node.specs.Places.{place_of, IsIndexOf};
+ghost use Rattle.vm_node.specs.Places.{HasKeyAt, IsBound, IsIndexOf, place_of};
 
-use vm_page::PageBuf;
+use vm_map::window::MOST_PAIRS;
+use vm_page::{PageBuf, WORDS};
 
 /// How many pairs the page has, at most 28.
 pub fn count_of(page: &PageBuf) -> usize
-    ensures count { result ≡ min (slice_index page.now 1) 28 }
+    ensures count { result ≡ min (slice_index page.now 1) MOST_PAIRS }
     ensures pairs { result ≡ length (pairs_of page.now) }
-    ensures words { length page.now ≡ 64 }
+    ensures words { length page.now ≡ WORDS }
 {
-    page.get(1).min(28) as usize
+    page.get(1).min(MOST_PAIRS as u64) as usize
 }
 
 /// The key of the pair at place `i`, which is below the count.
@@ -35,42 +36,47 @@ pub fn value_at(page: &PageBuf, i: usize) -> u64
     page.get(9 + 2 * i)
 }
 
-/// The place of the first pair that has the key.
-pub(crate) fn index_of(page: &PageBuf, key: u64) -> Option<usize>
-    ensures { MatchOption result (lookup_at (pairs_of page.now) key ≡ None) (IsIndexOf (pairs_of page.now) key) }
+/// Where the keys stop being lower than this one, found by halves: the pair before the place has a lower key, and the one at
+/// the place has none. Among keys that rise that is the number of pairs with a lower key.
+pub fn lower_bound(page: &PageBuf, key: u64) -> usize
+    ensures bound { IsBound (pairs_of page.now) key result }
+    ensures place { (low high : ℕ) → Rises low high (pairs_of page.now) → result ≡ place_of (pairs_of page.now) key }
 {
-    let count = count_of(page);
-    for i in 0..count {
-        if key_at(page, i) == key {
-            return Some(i);
+    let mut from = 0;
+    let mut upto = count_of(page);
+    'halves: while from < upto {
+        let middle = from + (upto - from) / 2;
+        if key_at(page, middle) < key {
+            from = middle + 1;
+        } else {
+            upto = middle;
         }
     }
-    None
+    from
 }
 
-/// Where a pair with the key belongs: behind the pairs, from the first on, that have a lower key.
-pub(crate) fn place_of(page: &PageBuf, key: u64) -> usize
-    ensures in_range { result ≤ length (pairs_of page.now) }
-    ensures place { result ≡ place_of (pairs_of page.now) key }
+/// The place of a pair that has the key, found by halves: among keys that rise, where there is one.
+pub(crate) fn index_of(page: &PageBuf, key: u64) -> Option<usize>
+    ensures some { MatchOption result (Unit {0}) (HasKeyAt (pairs_of page.now) key) }
+    ensures rising { (low high : ℕ) → Rises low high (pairs_of page.now) → MatchOption result (lookup_at (pairs_of page.now) key ≡ None) (IsIndexOf (pairs_of page.now) key) }
 {
-    let count = count_of(page);
-    for i in 0..count {
-        if key_at(page, i) >= key {
-            return i;
-        }
+    let at = lower_bound(page, key);
+    if at < count_of(page) && key_at(page, at) == key {
+        Some(at)
+    } else {
+        None
     }
-    count
 }
 
 /// Puts a pair at its place among the first `count`, and moves those from there on up by one.
 pub(crate) fn shift_in(page: &mut PageBuf, at: usize, count: usize, key: u64, value: u64)
-    requires words { length page.old ≡ 64 }
+    requires words { length page.old ≡ WORDS }
     requires place { at ≤ count }
-    requires room { count < 28 }
+    requires room { count < MOST_PAIRS }
     ensures places { take (count + 1) (places page.new) ≡ insert (take count (places page.old)) at (key, value) }
     ensures header { (i : ℕ) → i < 8 → slice_index page.new i ≡ slice_index page.old i }
     ensures rest { (i : ℕ) → 10 + 2 * count ≤ i → slice_index page.new i ≡ slice_index page.old i }
-    ensures words { length page.new ≡ 64 }
+    ensures words { length page.new ≡ WORDS }
 {
     let mut carried_key = key;
     let mut carried_value = value;
@@ -88,14 +94,14 @@ pub(crate) fn shift_in(page: &mut PageBuf, at: usize, count: usize, key: u64, va
 
 /// Moves the pairs behind a place down by one, over the pair there, and leaves zeros where the last one was.
 pub(crate) fn shift_out(page: &mut PageBuf, at: usize, count: usize)
-    requires words { length page.old ≡ 64 }
+    requires words { length page.old ≡ WORDS }
     requires place { at < count }
-    requires room { count ≤ 28 }
+    requires room { count ≤ MOST_PAIRS }
     ensures below { (k : ℕ) → k < 8 + 2 * at → slice_index page.new k ≡ slice_index page.old k }
     ensures moved { (k : ℕ) → 8 + 2 * at ≤ k → k < 6 + 2 * count → slice_index page.new k ≡ slice_index page.old (k + 2) }
     ensures zero { (k : ℕ) → 6 + 2 * count ≤ k → k < 8 + 2 * count → slice_index page.new k ≡ 0 }
     ensures rest { (k : ℕ) → 8 + 2 * count ≤ k → slice_index page.new k ≡ slice_index page.old k }
-    ensures words { length page.new ≡ 64 }
+    ensures words { length page.new ≡ WORDS }
 {
     for j in at + 1..count {
         let key = page.get(8 + 2 * j);

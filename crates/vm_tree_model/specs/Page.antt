@@ -1,6 +1,9 @@
 -- A page as its 64 words.
+use Rattle.vm_map.specs.Keys.{KEY_END}
 use Rattle.std.specs.Prelude.{◌≡◌, ℕ, ◌+◌, ◌*◌, ◌^◌, ◌<◌, ◌≤◌, ◌==◌, List, [], ◌∷◌, length, take, drop, min, slice_index, if◌then◌else◌, ◌⊎◌}
+use Rattle.vm_page.specs.declared.buf.TheConstants.{WORDS}
 use Rattle.vm_map.specs.Map.{Pairs}
+use Rattle.vm_map.specs.declared.window.TheConstants.{MOST_PAIRS}
 use Rattle.vm_tree_model.specs.Node.{Node, IsLeafNode, IsInnerNode}
 
 -- two words after each other, as pairs
@@ -15,11 +18,11 @@ places words = pairs_in (drop 8 words)
 
 -- the pairs that the page holds: a count above 28 is read as 28
 abbrev pub pairs_of : List ℕ → Pairs
-pairs_of words = take (min (slice_index words 1) 28) (places words)
+pairs_of words = take (min (slice_index words 1) MOST_PAIRS) (places words)
 
 -- the high fence, and 2 ^ 64 where there is none
 abbrev pub high_of : List ℕ → ℕ
-high_of words = if slice_index words 4 == 0 then slice_index words 3 else 2 ^ 64
+high_of words = if slice_index words 4 == 0 then slice_index words 3 else KEY_END
 
 -- what the page means as a node
 abbrev pub node_of : List ℕ → Node
@@ -27,14 +30,14 @@ node_of words = record { tag = slice_index words 0; level = slice_index words 5;
 
 -- all 64 words are 0
 pub record IsFree (words : List ℕ) : Type 0 where
-  pub length : length words ≡ 64
+  pub length : length words ≡ WORDS
   pub zero : (i : ℕ) → slice_index words i ≡ 0
 
 -- the words that carry no meaning stand as the format has them
 pub record IsClean (words : List ℕ) : Type 0 where
-  pub length : length words ≡ 64
-  pub count : slice_index words 1 ≤ 28
-  pub fence : ((slice_index words 4 ≡ 0) × (slice_index words 3 < 2 ^ 64)) ⊎ ((slice_index words 4 ≡ 1) × (slice_index words 3 ≡ 0))
+  pub length : length words ≡ WORDS
+  pub count : slice_index words 1 ≤ MOST_PAIRS
+  pub fence : ((slice_index words 4 ≡ 0) × (slice_index words 3 < KEY_END)) ⊎ ((slice_index words 4 ≡ 1) × (slice_index words 3 ≡ 0))
   pub sixth : slice_index words 6 ≡ 0
   pub seventh : slice_index words 7 ≡ 0
   pub rest : (i : ℕ) → 8 + 2 * slice_index words 1 ≤ i → slice_index words i ≡ 0
@@ -49,7 +52,7 @@ pub record IsInner (words : List ℕ) : Type 0 where
 
 -- page 0 of an image of so many pages
 pub record IsMeta (pages : ℕ) (words : List ℕ) : Type 0 where
-  pub length : length words ≡ 64
+  pub length : length words ≡ WORDS
   pub magic : slice_index words 0 ≡ 0x564D434143484531
   pub root_low : 1 ≤ slice_index words 1
   pub root_high : slice_index words 1 < pages

@@ -1,5 +1,6 @@
 -- The walk over the pages of an image, and the first reason why they are no tree.
-use Rattle.std.specs.Prelude.{ℕ, zero, suc, ◌+◌, ◌^◌, List, [], ◌∷◌, ◌++◌, length, drop, set, replicate, slice_index, slice_index_or, Option, Some, None, Result, Ok, Err, Bool, true, false, not, ◌&&◌, if◌then◌else◌}
+use Rattle.vm_map.specs.Keys.{KEY_END}
+use Rattle.std.specs.Prelude.{ℕ, zero, suc, ◌+◌, List, [], ◌∷◌, ◌++◌, length, drop, set, replicate, slice_index, slice_index_or, Option, Some, None, Result, Ok, Err, Bool, true, false, not, ◌&&◌, if◌then◌else◌}
 use Rattle.vm_map.specs.Map.{Pairs}
 use Rattle.vm_tree_model.specs.Tree.{page_at, leaf_part}
 use Rattle.vm_tree_model.specs.Walk.{Slot, slots_below, all_zero, is_free, slot_fault, meta_fault}
@@ -32,7 +33,7 @@ walk pages (suc left) (slot ∷ slots) visited rows =
 
 -- the root's slot, by page 0
 abbrev pub root_slot : List ℕ → Slot
-root_slot words = record { page = slice_index words 1; level = slice_index words 2; low = 0; high = 2 ^ 64 }
+root_slot words = record { page = slice_index words 1; level = slice_index words 2; low = 0; high = KEY_END }
 
 -- how many pages were not visited
 abbrev pub unseen_pages : List Bool → ℕ

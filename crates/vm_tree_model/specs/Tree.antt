@@ -1,5 +1,6 @@
 -- What the pages of an image mean together.
-use Rattle.std.specs.Prelude.{◌≡◌, ℕ, ◌^◌, ◌<◌, ◌≤◌, ◌==◌, List, [], ◌∷◌, ◌++◌, length, drop, slice_index, if◌then◌else◌, ◌⊎◌}
+use Rattle.vm_map.specs.Keys.{KEY_END}
+use Rattle.std.specs.Prelude.{◌≡◌, ℕ, ◌<◌, ◌≤◌, ◌==◌, List, [], ◌∷◌, ◌++◌, length, drop, slice_index, if◌then◌else◌, ◌⊎◌}
 use Rattle.vm_map.specs.Map.{Pairs, gather}
 use Rattle.vm_tree_model.specs.Node.{Node, Covers, IsTreeOf}
 pub use Rattle.vm_page.specs.Pages.{page_at}
@@ -20,7 +21,7 @@ IsLeafAt pages p = (1 ≤ p) × (p < length pages) × (slice_index (page_at page
 
 -- each number of 64 bits lies in the fences of exactly one leaf
 pub record IsParted (pages : List (List ℕ)) : Type 0 where
-  pub some : (key : ℕ) → key < 2 ^ 64 → (p : ℕ) × IsLeafAt pages p × Covers (node_at pages p) key
+  pub some : (key : ℕ) → key < KEY_END → (p : ℕ) × IsLeafAt pages p × Covers (node_at pages p) key
   pub one : (key p q : ℕ) → IsLeafAt pages p → Covers (node_at pages p) key → IsLeafAt pages q → Covers (node_at pages q) key → p ≡ q
 
 -- the page's pairs, if it is a leaf

@@ -1,6 +1,9 @@
 -- What the walk asks of one page.
+use Rattle.vm_map.specs.Keys.{KEY_END}
 use Rattle.std.specs.Prelude.{ℕ, ◌+◌, ◌-◌, ◌*◌, ◌^◌, List, [], ◌∷◌, length, drop, slice_index, Option, Some, None, Bool, true, false, not, ◌&&◌, ◌||◌, ◌==◌, nat_le, nat_lt, if◌then◌else◌}
+use Rattle.vm_page.specs.declared.buf.TheConstants.{WORDS}
 use Rattle.vm_map.specs.Map.{Pairs}
+use Rattle.vm_map.specs.declared.window.TheConstants.{MOST_PAIRS}
 use Rattle.vm_tree_model.specs.Page.{pairs_of}
 
 -- A place in the tree and the page that is named for it. `high` is exclusive, and 2 ^ 64 where there is no high fence
@@ -30,18 +33,18 @@ all_zero (w ∷ ws) = w == 0 && all_zero ws
 
 -- the page is free: its 64 words are 0
 abbrev pub is_free : List ℕ → Bool
-is_free words = length words == 64 && all_zero words
+is_free words = length words == WORDS && all_zero words
 
 -- a leaf at level 0, an inner node above
 abbrev pub has_tag : Slot → List ℕ → Bool
 has_tag slot words = slice_index words 0 == (if slot.level == 0 then 2 else 3)
 
 abbrev pub has_fences : Slot → List ℕ → Bool
-has_fences slot words = slice_index words 2 == slot.low && (if slot.high == 2 ^ 64 then slice_index words 3 == 0 && slice_index words 4 == 1 else slice_index words 3 == slot.high && slice_index words 4 == 0)
+has_fences slot words = slice_index words 2 == slot.low && (if slot.high == KEY_END then slice_index words 3 == 0 && slice_index words 4 == 1 else slice_index words 3 == slot.high && slice_index words 4 == 0)
 
 -- the page has 64 words, the number of pairs is in its range, the level is the slot's, and the words without a meaning are 0
 abbrev pub has_form : Slot → List ℕ → Bool
-has_form slot words = length words == 64 && (slot.level == 0 || nat_le 1 (slice_index words 1)) && nat_le (slice_index words 1) 28 && slice_index words 5 == slot.level && slice_index words 6 == 0 && slice_index words 7 == 0 && all_zero (drop (8 + 2 * slice_index words 1) words)
+has_form slot words = length words == WORDS && (slot.level == 0 || nat_le 1 (slice_index words 1)) && nat_le (slice_index words 1) MOST_PAIRS && slice_index words 5 == slot.level && slice_index words 6 == 0 && slice_index words 7 == 0 && all_zero (drop (8 + 2 * slice_index words 1) words)
 
 -- the keys rise, from low on and below high
 abbrev pub rises : ℕ → ℕ → Pairs → Bool
@@ -79,4 +82,4 @@ slot_fault pages visited slot words =
 abbrev pub meta_fault : ℕ → List ℕ → Option ℕ
 meta_fault pages words =
     if not (slice_index words 0 == 0x564D434143484531) then Some 1 else
-    (if not (length words == 64 && nat_le 1 (slice_index words 1) && nat_lt (slice_index words 1) pages && nat_le (slice_index words 2 + 2) pages && all_zero (drop 3 words)) then Some 2 else None)
+    (if not (length words == WORDS && nat_le 1 (slice_index words 1) && nat_lt (slice_index words 1) pages && nat_le (slice_index words 2 + 2) pages && all_zero (drop 3 words)) then Some 2 else None)

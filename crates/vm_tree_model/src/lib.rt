@@ -3,11 +3,17 @@
 //! that a contract names stand on functions without a body, and the others in proofs/.
 #![tactic(auto)]
 
-ghost use Rattle.std.specs.Prelude.{◌≡◌, ◌↔◌, ℕ, ◌+◌, ◌^◌, ◌≤◌, List, length, slice_index, None, Ok};
+ghost use Rattle.vm_map.specs.Keys.{KEY_END};
+ghost use Rattle.std.specs.Prelude.{◌≡◌, ◌↔◌, ℕ, ◌+◌, ◌≤◌, List, length, slice_index, None, Ok};
 ghost use Rattle.vm_map.specs.Map.{Rises};
 ghost use Rattle.vm_page.specs.Pages.{page_at};
 ghost use Rattle.vm_tree_model.specs.Tree.{IsTree, IsParted, map_of};
 ghost use Rattle.vm_tree_model.specs.Reason.{reason, walked};
+
+use vm_map::window::MOST_PAIRS;
+
+/// How many pairs each of the two nodes has that a full node is split into.
+pub const HALF: usize = MOST_PAIRS / 2;
 
 /// The walk meets no reason exactly where the pages are a tree, and its rows are then the map that the pages hold.
 #[tactic(auto, using(crate::proofs::Theorem::no_reason, crate::proofs::Theorem::walk_from_tree))]
@@ -24,7 +30,7 @@ pub fn tree_is_parted()
 
 /// The map of a tree is listed by rising keys of 64 bits.
 pub fn map_rises()
-    ensures { (pages : List (List ℕ)) → IsTree pages → Rises 0 (2 ^ 64) (map_of pages) }
+    ensures { (pages : List (List ℕ)) → IsTree pages → Rises 0 KEY_END (map_of pages) }
 {}
 
 /// A tree is lower than its pages are many: each level has a node, and page 0 is none.

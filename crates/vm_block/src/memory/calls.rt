@@ -8,7 +8,7 @@ use crate::block::{Block, Failed};
 use crate::memory::MemBlock;
 use crate::plan::Plan;
 use std::alloc::{AllocError, Global};
-use vm_page::PageBuf;
+use vm_page::{PageBuf, WORDS};
 
 impl MemBlock {
     /// A block that holds the words and fails exactly the calls whose numbers are in the plan. Reads and writes are numbered together,
@@ -29,7 +29,7 @@ impl MemBlock {
     /// The words held.
     pub fn words(&self) -> &PageBuf
         ensures words { result.now ≡ words_of self.now }
-        ensures length { length result.now ≡ 64 }
+        ensures length { length result.now ≡ WORDS }
     {
         &self.words
     }

@@ -3,4 +3,4 @@ use Rattle.vm_inner.proofs.InnerNodes.{adds_inner}
 use Rattle.vm_inner.proofs.children.add.Goals as goal
 
 pub returns-clause-inner : goal.returns-clause-inner
-returns-clause-inner c = adds_inner _ _ _ _ c.in_ok-put.ensures.node
+returns-clause-inner c inner covers = adds_inner _ _ _ _ (c.in_ok-put.ensures.node _ _ inner.node.rises) inner covers

@@ -1,0 +1,18 @@
+-- What the search for a key's child finds in the words of a page, also in words whose keys do not rise.
+use Rattle.std.specs.Prelude.{◌≡◌, ℕ, ◌<◌, ◌≤◌, List, length, slice_index_or, Some, None}
+use Rattle.vm_map.specs.Map.{Rises}
+use Rattle.vm_tree_model.specs.Page.{pairs_of}
+use Rattle.vm_tree_model.specs.Edits.{child_of}
+
+-- a pair whose key is not above this one has this page as its value; where the keys rise it is the child whose range has the key
+pub record FindsChild (words : List ℕ) (key found : ℕ) : Type 0 where
+  pub at : ℕ
+  pub there : at < length (pairs_of words)
+  pub lowest : (slice_index_or (pairs_of words) at (0, 0)).0 ≤ key
+  pub page : (slice_index_or (pairs_of words) at (0, 0)).1 ≡ found
+  pub child : (low high : ℕ) → Rises low high (pairs_of words) → child_of words key ≡ Some found
+
+-- there is no pair, or the key of the first one is above; where the keys rise no child has the key in its range
+pub record FindsNoChild (words : List ℕ) (key : ℕ) : Type 0 where
+  pub first : 0 < length (pairs_of words) → key < (slice_index_or (pairs_of words) 0 (0, 0)).0
+  pub child : (low high : ℕ) → Rises low high (pairs_of words) → child_of words key ≡ None
