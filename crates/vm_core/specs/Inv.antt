@@ -4,6 +4,7 @@
 -- place. Over the words: each frame, block, version and draft has 64.
 use Rattle.std.specs.Prelude.{ℕ, Bool, true, false, Option, Some, None, List, [], ◌∷◌, ◌≡◌, ◌≢◌, ◌<◌, ◌≤◌, ◌==◌, if◌then◌else◌, IsSome, nat_lt, slice_index, length}
 use Rattle.std.specs.List.{AllByRecursion}
+use Rattle.vm_page.specs.declared.buf.TheConstants.{WORDS}
 use Rattle.vm_core.specs.declared.event.Event.{Event}
 use Rattle.vm_core.specs.declared.event.Mapping.{Mapping}
 use Rattle.vm_core.specs.declared.event.Open.{Open}
@@ -48,9 +49,9 @@ pub record StandsInv (state version : ℕ) (trans : Option Mapping) (h : History
 
 -- each version of the page has 64 words, and so has the draft of a locked one
 pub record SizesInv (state : ℕ) (h : History) : Type 0 where
-  pub older : AllByRecursion (λ v. length v.words ≡ 64) h.older
-  pub last : length h.last.words ≡ 64
-  pub draft : state ≡ LOCKED → length h.draft ≡ 64
+  pub older : AllByRecursion (λ v. length v.words ≡ WORDS) h.older
+  pub last : length h.last.words ≡ WORDS
+  pub draft : state ≡ LOCKED → length h.draft ≡ WORDS
 
 -- where the page's words stand: a clean page has its block's words in its frame; a page that is not locked has its last version there, a
 -- locked one its draft; a locked page without a frame, or clean, has its last version in its draft and in its block; so has an evicted
@@ -61,7 +62,7 @@ pub record WordsInv (words : ℕ → List ℕ) (state : ℕ) (trans : Option Map
   pub draft : state ≡ LOCKED → (m : Mapping) → trans ≡ Some m → words m.frame ≡ h.draft
   pub unwritten : state ≡ LOCKED → ((m : Mapping) → trans ≡ Some m → m.dirty ≡ false) → (h.draft ≡ h.last.words) × (block ≡ h.last.words)
   pub device : state ≡ EVICTED → block ≡ h.last.words
-  pub size : length block ≡ 64
+  pub size : length block ≡ WORDS
 
 -- the fault word is the block's count where nobody may call the device
 abbrev pub FaultInv : ℕ → ℕ → ℕ → (ℕ → Seat) → Type 0
@@ -144,7 +145,7 @@ FrameIsAt c f x =
 pub record Inv (w : World) : Type 0 where
   pub place : ℕ → Place
   pub frames : (f : ℕ) → FrameIsAt w.core f (place f)
-  pub words : (f : ℕ) → length (w.core.words f) ≡ 64
+  pub words : (f : ℕ) → length (w.core.words f) ≡ WORDS
   pub next : w.core.next ≤ w.core.shape.pages
   pub pages : (p : ℕ) → PageInv w.core.shape.actors w.core.tells w.core.words (w.core.pages p) (w.histories p) (w.loads p)
 

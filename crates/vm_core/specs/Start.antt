@@ -1,11 +1,13 @@
 -- The core at the start: every page evicted at the first version, every frame free.
 use Rattle.std.specs.Prelude.{ℕ, Bool, true, false, None, List, [], ◌+◌, ◌-◌, ◌*◌, ◌^◌, ◌≡◌, ◌≤◌, nat_lt, if◌then◌else◌, replicate, min, map, length}
 use Rattle.std.specs.List.{range_with_len}
+use Rattle.vm_page.specs.declared.buf.TheConstants.{WORDS}
 use Rattle.vm_core.specs.declared.event.CoreShape.{CoreShape}
 use Rattle.vm_core.specs.declared.event.Seat.{Seat}
 use Rattle.vm_core.specs.Words.{EVICTED, MAX_VERSION}
 use Rattle.vm_core.specs.State.{Page, State}
 use Rattle.vm_core.specs.History.{World}
+use Rattle.vm_core.specs.declared.words.TheConstants.{FRAMES}
 
 -- what a core starts from: its shape with the next word, the first version of its pages, and the blocks handed in by their words and
 -- counts of faults, and whether they tell their words
@@ -26,13 +28,13 @@ evicted_page version block count =
 
 -- the bits of the frames of bundle g
 unfoldable pub full_bundle : ℕ → ℕ → ℕ
-full_bundle frames g = 2 ^ min 64 (frames - 64 * g) - 1
+full_bundle frames g = 2 ^ min FRAMES (frames - FRAMES * g) - 1
 
 -- the next word is at most the number of pages, the first version is a version, and each block has 64 words
 pub record IsStart (s : Start) : Type 0 where
   pub next : s.shape.next ≤ s.shape.pages
   pub first : s.first ≤ MAX_VERSION
-  pub blocks : (p : ℕ) → length (s.blocks p) ≡ 64
+  pub blocks : (p : ℕ) → length (s.blocks p) ≡ WORDS
 
 abbrev pub start : Start → State
 start s =
@@ -40,7 +42,7 @@ start s =
       shape = s.shape;
       tells = s.tells;
       pages = λ p. evicted_page s.first (s.blocks p) (s.counts p);
-      words = λ f. replicate 64 0;
+      words = λ f. replicate WORDS 0;
       bundles = full_bundle s.shape.frames;
       held = λ a f. false;
       next = s.shape.next;
@@ -60,11 +62,11 @@ begin s =
 
 -- block p below the next word has word i = 64 * p + i, and zeros from there on
 unfoldable pub core_block : ℕ → ℕ → List ℕ
-core_block next p = if nat_lt p next then map (λ i. 64 * p + i) (range_with_len 0 64) else replicate 64 0
+core_block next p = if nat_lt p next then map (λ i. WORDS * p + i) (range_with_len 0 WORDS) else replicate WORDS 0
 
 abbrev pub core_start : CoreShape → Start
 core_start shape = record { shape = shape; first = 0; tells = true; blocks = core_block shape.next; counts = λ p. 0 }
 
 -- what stands past the last page
 abbrev pub outside_page : Page
-outside_page = evicted_page 0 (replicate 64 0) 0
+outside_page = evicted_page 0 (replicate WORDS 0) 0

@@ -2,6 +2,7 @@
 use Rattle.std.specs.Prelude.{ℕ, ◌≡◌, ◌<◌, ◌+◌, ◌-◌, ◌*◌, ◌/◌, ◌%◌, ◌^◌, ◌==◌, ◌&&◌, ◌||◌, Bool, Option, Some, None, min, nat_lt, if◌then◌else◌, bit_and}
 use Rattle.std.specs.Int.{bit_at}
 use Rattle.vm_core.specs.Fn.{sum_below}
+use Rattle.vm_core.specs.declared.words.TheConstants.{FRAMES, STRIDE}
 
 -- a state word has its state in the top 8 bits, and its version below
 unfoldable pub word_of : ℕ → ℕ → ℕ
@@ -29,21 +30,25 @@ EVICTED = 255
 abbrev pub MAX_VERSION : ℕ
 MAX_VERSION = 72057594037927935
 
+-- the last value of a count of faults: a word of 64 bits
+abbrev pub MAX_COUNT : ℕ
+MAX_COUNT = 18446744073709551615
+
 -- one fault more; a count stays at its last value
 unfoldable pub count_more : ℕ → ℕ
-count_more count = min (count + 1) 18446744073709551615
+count_more count = min (count + 1) MAX_COUNT
 
 -- the clock's next place: 64 further, wrapping
 unfoldable pub hand_more : ℕ → ℕ
-hand_more hand = (hand + 64) % 2 ^ 64
+hand_more hand = (hand + STRIDE) % 2 ^ 64
 
 -- the bit of frame f is set in the mask over bundle g
 unfoldable pub in_mask : ℕ → ℕ → ℕ → Bool
-in_mask g mask f = (f / 64 == g) && (bit_at mask (f % 64) == 1)
+in_mask g mask f = (f / FRAMES == g) && (bit_at mask (f % FRAMES) == 1)
 
 -- the bit of frame f is set in its bundle
 unfoldable pub is_free : (ℕ → ℕ) → ℕ → Bool
-is_free bundles f = bit_at (bundles (f / 64)) (f % 64) == 1
+is_free bundles f = bit_at (bundles (f / FRAMES)) (f % FRAMES) == 1
 
 -- the frame that a translation word names: the number in its low 63 bits less 1, where that number is not 0 and the frame has 32 bits
 unfoldable pub frame_in : ℕ → Option ℕ

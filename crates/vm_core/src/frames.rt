@@ -5,8 +5,10 @@ ghost use Rattle.vm_core.specs.Fn.{at, upd};
 ghost use Rattle.vm_core.specs.PageOf.{words_of};
 ghost use Rattle.vm_core.specs.Words.{in_mask, is_free};
 
+use crate::words::FRAMES;
 use std::alloc::{AllocError, Global};
 use std::marker::Model;
+use vm_page::WORDS;
 
 /// The frames that an actor holds, as a mask for each bundle.
 #[derive(Drop)]
@@ -32,10 +34,10 @@ impl FrameSet {
 
     /// Whether the frame is in the set.
     pub fn has(&self, f: u32) -> bool
-        requires { f / 64 < length self.now }
+        requires { f / FRAMES < length self.now }
         ensures { result ≡ is_free (at 0 self.now) f }
     {
-        (self.masks[(f / 64) as usize] >> (f % 64)) & 1 == 1
+        (self.masks[f as usize / FRAMES] >> (f as usize % FRAMES)) & 1 == 1
     }
 
     /// The frames of the mask come in.
@@ -49,20 +51,20 @@ impl FrameSet {
 
     /// The frame goes out.
     pub fn remove(&mut self, f: u32)
-        requires { f / 64 < length self.old }
+        requires { f / FRAMES < length self.old }
         ensures words { is_free (at 0 self.new) ≡ upd (is_free (at 0 self.old)) f false }
         ensures len { length self.new ≡ length self.old }
     {
-        self.masks[(f / 64) as usize] &= !(1 << (f % 64));
+        self.masks[f as usize / FRAMES] &= !(1 << (f as usize % FRAMES));
     }
 
     /// The frame comes in.
     pub fn insert(&mut self, f: u32)
-        requires { f / 64 < length self.old }
+        requires { f / FRAMES < length self.old }
         ensures words { is_free (at 0 self.new) ≡ upd (is_free (at 0 self.old)) f true }
         ensures len { length self.new ≡ length self.old }
     {
-        self.masks[(f / 64) as usize] |= 1 << (f % 64);
+        self.masks[f as usize / FRAMES] |= 1 << (f as usize % FRAMES);
     }
 
     /// Whether all frames of the mask are in the set.
@@ -84,11 +86,11 @@ impl FrameSet {
 }
 
 /// The words of a frame; a frame past the last has zeros.
-pub fn frame_words(frames: &[[u64; 64]], f: u32) -> [u64; 64]
+pub fn frame_words(frames: &[[u64; WORDS]], f: u32) -> [u64; WORDS]
     ensures { result ≡ words_of frames.now f }
 {
     match frames.get(f as usize) {
         Some(words) => *words,
-        None => [0; 64],
+        None => [0; WORDS],
     }
 }

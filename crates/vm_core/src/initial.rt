@@ -1,22 +1,24 @@
 //! The lists of a machine at the start.
 
-ghost use Rattle.std.specs.Prelude.{◌≡◌, ◌<◌, ◌+◌, ◌*◌, ◌/◌, replicate, IfOk};
+ghost use Rattle.std.specs.Prelude.{◌≡◌, ◌<◌, ◌+◌, ◌-◌, ◌*◌, ◌/◌, replicate, IfOk};
 ghost use Rattle.vm_core.specs.Making.{StartBundles, StartPages};
 ghost use Rattle.vm_core.specs.Start.{core_block, full_bundle};
 
 use crate::event::CoreShape;
 use crate::frames::FrameSet;
 use crate::page::PageCell;
+use crate::words::FRAMES;
 use std::alloc::{AllocError, Global};
+use vm_page::WORDS;
 
 /// The words of a page's block at the start.
-pub fn core_block(next: u32, p: u32) -> [u64; 64]
+pub fn core_block(next: u32, p: u32) -> [u64; WORDS]
     ensures { result ≡ core_block next p }
 {
-    let mut words = [0; 64];
+    let mut words = [0; WORDS];
     if p < next {
-        let base = 64 * u64::from(p);
-        for i in 0..64 {
+        let base = WORDS as u64 * u64::from(p);
+        for i in 0..WORDS {
             words[i] = base + i as u64;
         }
     }
@@ -25,11 +27,11 @@ pub fn core_block(next: u32, p: u32) -> [u64; 64]
 
 /// The bundle word of all frames of a bundle.
 pub fn full_bundle(frames: u32, g: u32) -> u64
-    requires { g * 64 < frames }
+    requires { g * FRAMES < frames }
     ensures { result ≡ full_bundle frames g }
 {
-    let left = frames - g * 64;
-    if left >= 64 {
+    let left = frames - g * FRAMES as u32;
+    if left >= FRAMES as u32 {
         u64::MAX
     } else {
         (1 << left) - 1
@@ -38,13 +40,9 @@ pub fn full_bundle(frames: u32, g: u32) -> u64
 
 /// How many bundles the frames have.
 pub fn bundle_count(frames: u32) -> u32
-    ensures { result ≡ (frames + 63) / 64 }
+    ensures { result ≡ (frames + (FRAMES - 1)) / FRAMES }
 {
-    if frames % 64 == 0 {
-        frames / 64
-    } else {
-        frames / 64 + 1
-    }
+    frames.div_ceil(FRAMES as u32)
 }
 
 /// The pages at the start.
@@ -60,19 +58,19 @@ pub fn start_pages(alloc: Global, shape: CoreShape) -> Result<Vec<PageCell>, All
 }
 
 /// The frames at the start.
-pub fn start_frames(alloc: Global, count: u32) -> Result<Vec<[u64; 64]>, AllocError>
-    ensures { IfOk result (λ v. v.items ≡ replicate count (replicate 64 0)) }
+pub fn start_frames(alloc: Global, count: u32) -> Result<Vec<[u64; WORDS]>, AllocError>
+    ensures { IfOk result (λ v. v.items ≡ replicate count (replicate WORDS 0)) }
 {
     let mut frames = Vec::new(alloc);
     for f in 0..count {
-        frames.push([0; 64])?;
+        frames.push([0; WORDS])?;
     }
     Ok(frames)
 }
 
 /// The bundle words at the start.
 pub fn start_bundles(alloc: Global, frames: u32, count: u32) -> Result<Vec<u64>, AllocError>
-    requires { count ≡ (frames + 63) / 64 }
+    requires { count ≡ (frames + (FRAMES - 1)) / FRAMES }
     ensures { IfOk result (λ v. StartBundles frames count v.items) }
 {
     let mut bundles = Vec::new(alloc);

@@ -20,6 +20,7 @@ use crate::page::PageCell;
 use std::alloc::{AllocError, Global};
 use std::marker::Model;
 use thiserror::Error;
+use vm_page::WORDS;
 
 /// There was not enough memory.
 #[derive(Clone, Copy, Debug, Error, PartialEq)]
@@ -38,7 +39,7 @@ impl From<AllocError> for Memory {
 pub struct Core {
     shape: CoreShape,
     pages: Vec<PageCell>,
-    frames: Vec<[u64; 64]>,
+    frames: Vec<[u64; WORDS]>,
     bundles: Vec<u64>,
     held: Vec<FrameSet>,
     next: u64,
@@ -86,7 +87,7 @@ impl Core {
     /// Word `i` of the block of page `p`.
     pub fn block_word(&self, p: u32, i: u32) -> u64
         requires page { p < (core_of self.now).shape.pages }
-        requires place { i < 64 }
+        requires place { i < WORDS }
         ensures { result ≡ slice_index ((core_of self.now).pages p).block i }
     {
         self.pages[p as usize].block_word(i)

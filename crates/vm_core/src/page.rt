@@ -23,6 +23,7 @@ use crate::initial::core_block;
 use crate::words::{StateWord, TransWord};
 use std::alloc::{AllocError, Global};
 use std::marker::Model;
+use vm_page::WORDS;
 
 /// One page: its state word in its two parts, its translation, its fault word, its block's count of faults and words, and a seat for each
 /// actor.
@@ -33,7 +34,7 @@ pub struct PageCell {
     trans: Option<Mapping>,
     fault: u64,
     count: u64,
-    block: [u64; 64],
+    block: [u64; WORDS],
     seats: Vec<Seat>,
 }
 
@@ -72,14 +73,14 @@ impl PageCell {
 
     /// Word `i` of the block.
     pub fn block_word(&self, i: u32) -> u64
-        requires { i < 64 }
+        requires { i < WORDS }
         ensures { result ≡ slice_index self.now.block i }
     {
         self.block[i as usize]
     }
 
     /// An act of an actor on the page, beside the words of all frames: exactly as its row says, and unchanged where it is illegal.
-    pub fn act(&mut self, a: usize, act: PageAct, frames: &[[u64; 64]]) -> Result<Seen, Illegal>
+    pub fn act(&mut self, a: usize, act: PageAct, frames: &[[u64; WORDS]]) -> Result<Seen, Illegal>
         requires { a < length self.old.seats }
         ensures step { PageSteps frames.now self.old a act result self.new }
         ensures seats { length self.new.seats ≡ length self.old.seats }

@@ -94,6 +94,12 @@ impl TransWord {
     }
 }
 
+/// How many frames a bundle has: one for each bit of its word.
+pub const FRAMES: usize = 64;
+
+/// How many places the clock's hand is moved on at once.
+pub const STRIDE: u64 = 64;
+
 /// The word of bundle `g`: bit `i` is set where frame `64 * g + i` is free.
 pub struct Bundle;
 

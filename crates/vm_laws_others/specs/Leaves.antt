@@ -4,7 +4,7 @@ use Rattle.vm_core.specs.declared.event.Event.{Event}
 use Rattle.vm_core.specs.declared.event.Event.TheVariants.{Look, LockX, LockS, UnlockS, Mark, Unmark, LockW, Upgrade, Release, ReleaseE, Downgrade, TLoad, Install, Clear, Dirty, Clean, Load, Store, BLoad, Take, Give, Read, RFail, Write, WFail, Raise, NLoad, Claim, Hand}
 use Rattle.vm_core.specs.declared.event.Mapping.{Mapping}
 use Rattle.vm_core.specs.declared.event.Seat.{Seat}
-use Rattle.vm_core.specs.Words.{LOCKED, EVICTED}
+use Rattle.vm_core.specs.Words.{LOCKED, EVICTED, MAX_COUNT}
 use Rattle.vm_core.specs.FrameActs.{frame_of}
 use Rattle.vm_core.specs.State.{Page}
 use Rattle.vm_core.specs.History.{World, world_after}
@@ -55,10 +55,6 @@ pub record PageMoves (r r' : Page) : Type 0 where
   pub still : r'.version ≡ r.version → r'.state ≢ LOCKED → r'.state ≢ EVICTED → (r.state ≢ LOCKED) × (r.state ≢ EVICTED) × (frame_of r'.trans ≡ frame_of r.trans)
   pub cleaner : r'.version ≡ r.version → r'.state ≢ LOCKED → r'.state ≢ EVICTED → stands_dirty r'.trans ≡ true → stands_dirty r.trans ≡ true
   pub gone : r'.version ≡ r.version → r'.state ≡ EVICTED → r.state ≡ EVICTED
-
--- the last value of a count of faults: a word of 64 bits
-abbrev pub MAX_COUNT : ℕ
-MAX_COUNT = 18446744073709551615
 
 -- the page's device and its counts move on: the fault word never falls; a count that is a word stays one and never falls, and the fault
 -- word stays within it

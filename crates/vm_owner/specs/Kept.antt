@@ -56,6 +56,11 @@ abbrev pub calls_of : {S : Type 0} → ℕ → List (Entry S) → ℕ
 calls_of number [] = 0
 calls_of number (e ∷ h) = (if e.number == number then 1 else 0) + calls_of number h
 
+-- each entry's count is one more than its number has entries before it, where `before` is how many it has before the list
+abbrev pub AreCounted : {S : Type 0} → (ℕ → ℕ) → List (Entry S) → Type 0
+AreCounted before [] = Unit {0}
+AreCounted before (e ∷ h) = (e.count ≡ before e.number + 1) × AreCounted (λ n. (if e.number == n then 1 else 0) + before n) h
+
 -- there is no entry, or one, which is its number's next
 abbrev pub IsTurn : {S : Type 0} → List (Entry S) → List (Entry S) → Type 0
 IsTurn history [] = Unit {0}

@@ -11,6 +11,7 @@ use Rattle.vm_core.specs.History.{World}
 use Rattle.vm_core.specs.Inv.{Inv}
 use Rattle.vm_core.specs.State.{Page}
 use Rattle.vm_block.specs.declared.stored.Stored.{Stored}
+use Rattle.vm_core.specs.Words.{MAX_COUNT}
 use Rattle.vm_owner.specs.Kept.{Start, Kept, first_kept}
 use Rattle.vm_rule.specs.declared.view.Origin.{Origin}
 use Rattle.vm_rule.specs.declared.view.Shape.{Shape}
@@ -19,7 +20,7 @@ use Rattle.vm_rule.specs.Puts.{chosen}
 use Rattle.vm_rule.specs.Layout.{width_of, width, words_of}
 use Rattle.vm_rule.specs.Views.{times_noted, first_view}
 use Rattle.vm_rule.specs.Reading.{no_block, block_of, seats_of, histories_of, core_of, world_of}
-use Rattle.vm_rule.specs.Rule.{MAX_COUNT, ArePlain, began_of, logical, is_pending, is_owed, kept_of, KnowsLists, KnowsPages, FaultsFit, ListsFit, PartsFit, BlocksFit, snapshot_of, Ruled}
+use Rattle.vm_rule.specs.Rule.{ArePlain, began_of, logical, is_pending, is_owed, kept_of, KnowsLists, KnowsPages, FaultsFit, ListsFit, PartsFit, BlocksFit, snapshot_of, Ruled}
 use Rattle.vm_rule.specs.Begun.{unborn, Stands}
 use Rattle.vm_rule.specs.Fixed.{MayBegin, bounds_of}
 use Rattle.vm_rule.proofs.Pages.{page-in, page-out}

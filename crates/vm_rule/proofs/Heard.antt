@@ -5,13 +5,14 @@ use Rattle.std.proofs.lemmas.Bool.{cases_Bool, cases_eq, cases_lt, eq-eqb, ne_eq
 use mathlib.Core.Option.{some}
 use lib.ListN.{get_elem?}
 use Rattle.vm_owner.specs.declared.Entry.{Entry}
-use Rattle.vm_owner.specs.Kept.{calls_of}
+use Rattle.vm_owner.specs.Kept.{calls_of, AreCounted}
 use Rattle.vm_owner.specs.Numbers.{has}
+use Rattle.vm_owner.proofs.Counts.{counted-more}
 use Rattle.vm_rule.specs.declared.view.Origin.{Origin}
 use Rattle.vm_rule.specs.declared.view.Release.{Release}
 use Rattle.vm_rule.specs.declared.view.View.{View}
 use Rattle.vm_rule.specs.Views.{StartsWith, Each, times, PARTS, one_part, entries_by, total, owns}
-use Rattle.vm_rule.specs.Rule.{AreNext, AreCounted}
+use Rattle.vm_rule.specs.Rule.{AreNext}
 use Rattle.vm_rule.specs.Brought.{entry_of}
 use Rattle.vm_rule.proofs.Entries.{append-none, total-at, total-two}
 
@@ -63,15 +64,6 @@ module _ {X : Type 0} where
       (λ t. rw t (ap (λ k. (if x.number == n then 1 else 0) + k) (calls-by n ns xs e)))
       (λ f. let rest : calls_of n (entries_by ns xs) ≡ calls_of n xs = calls-by n ns xs e in rw f (rw (ne_eqb x.number n (λ q. true≢false (sym e ∙ ap (λ k. has k ns) (sym q) ∙ f))) (omega arith)))
       (cases_Bool (has x.number ns))
-
-  -- one entry more, with its number's next count
-  counted-more : (before : ℕ → ℕ) (h : List (Entry X)) (x : Entry X) → AreCounted before h → x.count ≡ (calls_of x.number h + before x.number) + 1 → AreCounted before (h ++ x ∷ [])
-  counted-more before [] x a e = (omega arith, tt)
-  counted-more before (y ∷ ys) x a e = (
-    a.0,
-    counted-more (λ n. (if y.number == n then 1 else 0) + before n) ys x a.1
-        (e ∙ omega (arith)),
-  )
 
   -- what the entries es, which the pass id adds, mean to the passes
   pub record Added (views : List (View X)) (id : ℕ) (v : View X) (history es : List (Entry X)) : Type 0 where

@@ -8,14 +8,14 @@ use Rattle.vm_core.specs.Words.{MAX_VERSION}
 use Rattle.vm_core.specs.History.{History, Version}
 use Rattle.vm_block.specs.declared.stored.Stored.{Stored}
 use Rattle.vm_owner.specs.declared.Entry.{Entry}
-use Rattle.vm_owner.specs.Kept.{Start, Kept}
+use Rattle.vm_owner.specs.Kept.{Start, Kept, AreCounted}
 use Rattle.vm_owner.specs.Numbers.{has, AreApart}
 use Rattle.vm_rule.specs.declared.view.Origin.{Origin}
 use Rattle.vm_rule.specs.declared.view.Release.{Release}
 use Rattle.vm_rule.specs.declared.view.View.{View}
 use Rattle.vm_rule.specs.Views.{StartsWith, Each, PARTS, times, total, owns, one_part, entries_by}
 use Rattle.vm_rule.specs.Reading.{last_in, after_releases, first_history, pushed}
-use Rattle.vm_rule.specs.Rule.{AreNext, AreCounted, KnowsLists, Ruled}
+use Rattle.vm_rule.specs.Rule.{AreNext, KnowsLists, Ruled}
 use Rattle.vm_rule.proofs.Entries.{entries-both, total-at, append-none}
 use Rattle.vm_rule.proofs.Heard.{one-most, times-has}
 use Rattle.vm_rule.proofs.Worlds.{last-is}

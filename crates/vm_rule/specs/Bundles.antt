@@ -2,7 +2,9 @@
 -- leave it.
 use Rattle.std.specs.Prelude.{ℕ, true, false, List, [], ◌∷◌, ◌++◌, ◌≡◌, ◌+◌, ◌*◌, ◌<◌, ◌==◌, length, zero, suc, bit_and, bit_or, bit_xor, if◌then◌else◌}
 use Rattle.std.specs.Int.{bit_at}
+use Rattle.vm_page.specs.declared.buf.TheConstants.{WORDS}
 use Rattle.vm_core.specs.Words.{in_mask, hand_more}
+use Rattle.vm_core.specs.declared.words.TheConstants.{FRAMES}
 use Rattle.vm_owner.specs.Numbers.{has}
 use Rattle.vm_rule.specs.declared.view.Put.{Put}
 use Rattle.vm_rule.specs.declared.view.Place.TheVariants as places
@@ -15,11 +17,11 @@ use Rattle.vm_rule.specs.Releases.{without_all}
 -- the frames of bundle g whose bits are set among the first n, by rising number
 abbrev pub frames_below : ℕ → ℕ → ℕ → List ℕ
 frames_below zero g mask = []
-frames_below (suc n) g mask = frames_below n g mask ++ (if bit_at mask n == 1 then (64 * g + n) ∷ [] else [])
+frames_below (suc n) g mask = frames_below n g mask ++ (if bit_at mask n == 1 then (FRAMES * g + n) ∷ [] else [])
 
 -- the frames of bundle g whose bits are set
 unfoldable pub frames_in : ℕ → ℕ → List ℕ
-frames_in g mask = frames_below 64 g mask
+frames_in g mask = frames_below FRAMES g mask
 
 -- the words of these frames are known
 abbrev pub with_contents : (ℕ → List ℕ) → List ℕ → List (Put (List ℕ)) → List (Put (List ℕ))
@@ -37,7 +39,7 @@ module _ {X : Type 0} where
   pub record TakeTold (g expects mask found : ℕ) (v w : View X) : Type 0 where
     pub words : ℕ → List ℕ
     pub brings : Brings (did_exchange (places.Bundle g) expects found (bit_xor expects mask)) [] [] v (if found == expects then taken_view g mask words v else v) w
-    pub size : (f : ℕ) → length (words f) ≡ 64
+    pub size : (f : ℕ) → length (words f) ≡ WORDS
     pub inside : found ≡ expects → (f : ℕ) → in_mask g mask f ≡ true → f < v.start.frames
     pub new : found ≡ expects → (f : ℕ) → in_mask g mask f ≡ true → has f v.frames ≡ false
 

@@ -1,10 +1,10 @@
 -- What a raise of a fault word tells: it becomes the count of the page's block, and a count that it rises to is noted.
 use Rattle.std.specs.Prelude.{ℕ, List, [], ◌∷◌, ◌++◌, ◌==◌, ◌||◌, nat_lt, if◌then◌else◌}
+use Rattle.vm_core.specs.Words.{MAX_COUNT}
 use Rattle.vm_rule.specs.declared.view.Note.{Note}
 use Rattle.vm_rule.specs.declared.view.Place.TheVariants as places
 use Rattle.vm_rule.specs.declared.view.View.{View}
 use Rattle.vm_rule.specs.Puts.{put}
-use Rattle.vm_rule.specs.Rule.{MAX_COUNT}
 use Rattle.vm_rule.specs.Brought.{Brings}
 use Rattle.vm_rule.specs.Log.{did_store}
 use Rattle.vm_rule.specs.Mappings.{held_at}

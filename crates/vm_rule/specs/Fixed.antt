@@ -3,6 +3,7 @@
 use Rattle.std.specs.Prelude.{ℕ, Bool, List, [], ◌∷◌, ◌++◌, ◌≡◌, ◌+◌, ◌^◌, ◌<◌, ◌≤◌, length, map, replicate}
 use Rattle.vm_core.specs.Words.{MAX_VERSION}
 use Rattle.vm_page.specs.Pages.{page_at}
+use Rattle.vm_page.specs.declared.buf.TheConstants.{WORDS}
 use Rattle.vm_block.specs.declared.stored.Stored.{Stored}
 use Rattle.vm_owner.specs.Kept.{Start, Kept, first_kept}
 use Rattle.vm_rule.specs.declared.view.Origin.{Origin}
@@ -60,5 +61,5 @@ pub record IsFixed (version next count : ℕ) (pages : List (List ℕ)) : Type 0
 module _ {X : Type 0} where
   -- the pages from the next one on are zero, and the layer above may begin with all of them
   pub record MayBegin (keeps : Start → Kept X → Type 0) (next : ℕ) (pages : List (List ℕ)) : Type 0 where
-    pub zero : (p : ℕ) → next ≤ p → p < length pages → page_at pages p ≡ replicate 64 0
+    pub zero : (p : ℕ) → next ≤ p → p < length pages → page_at pages p ≡ replicate WORDS 0
     pub kept : keeps (record { pages = pages; next = next }) (first_kept (record { pages = pages; next = next }))

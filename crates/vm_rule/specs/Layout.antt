@@ -1,14 +1,16 @@
 -- Where each word of the table stands: P state words, P translation words, P fault words, 64 words for each frame, a word for each
 -- bundle of 64 frames, the next word, the hand word.
-use Rattle.std.specs.Prelude.{ℕ, List, ◌+◌, ◌*◌, ◌/◌, ◌<◌, nat_lt, if◌then◌else◌}
+use Rattle.std.specs.Prelude.{ℕ, List, ◌+◌, ◌*◌, ◌-◌, ◌/◌, ◌<◌, nat_lt, if◌then◌else◌}
+use Rattle.vm_page.specs.declared.buf.TheConstants.{WORDS}
 use Rattle.vm_core.specs.Fn.{upd, at}
+use Rattle.vm_core.specs.declared.words.TheConstants.{FRAMES}
 use Rattle.vm_rule.specs.declared.view.Origin.{Origin}
 use Rattle.vm_rule.specs.declared.view.Place.{Place}
 use Rattle.vm_rule.specs.declared.view.Place.TheVariants.{State, Translation, Fault, Content, Bundle, Next, Hand}
 
 -- the bundles of 64 frames
 abbrev pub bundles_of : ℕ → ℕ
-bundles_of frames = (frames + 63) / 64
+bundles_of frames = (frames + (FRAMES - 1)) / FRAMES
 
 abbrev pub bundle_count : Origin → ℕ
 bundle_count start = bundles_of start.frames
@@ -18,10 +20,10 @@ abbrev pub index_of : Origin → Place → ℕ
 index_of start (State p) = p
 index_of start (Translation p) = start.pages + p
 index_of start (Fault p) = 2 * start.pages + p
-index_of start (Content f i) = 3 * start.pages + (64 * f + i)
-index_of start (Bundle g) = 3 * start.pages + 64 * start.frames + g
-index_of start Next = 3 * start.pages + 64 * start.frames + bundle_count start
-index_of start Hand = 3 * start.pages + 64 * start.frames + bundle_count start + 1
+index_of start (Content f i) = 3 * start.pages + (WORDS * f + i)
+index_of start (Bundle g) = 3 * start.pages + WORDS * start.frames + g
+index_of start Next = 3 * start.pages + WORDS * start.frames + bundle_count start
+index_of start Hand = 3 * start.pages + WORDS * start.frames + bundle_count start + 1
 
 -- what is said of page p, if the place is its state word
 abbrev pub at_state : Place → (ℕ → Type 0) → Type 0
@@ -45,7 +47,7 @@ at_next Hand P = Unit {0}
 
 -- how many words the table has
 abbrev pub width_of : ℕ → ℕ → ℕ
-width_of pages frames = 3 * pages + 64 * frames + bundles_of frames + 2
+width_of pages frames = 3 * pages + WORDS * frames + bundles_of frames + 2
 
 abbrev pub width : Origin → ℕ
 width start = width_of start.pages start.frames
@@ -55,7 +57,7 @@ abbrev pub Within : Origin → Place → Type 0
 Within start (State p) = p < start.pages
 Within start (Translation p) = p < start.pages
 Within start (Fault p) = p < start.pages
-Within start (Content f i) = (f < start.frames) × (i < 64)
+Within start (Content f i) = (f < start.frames) × (i < WORDS)
 Within start (Bundle g) = g < bundle_count start
 Within start Next = Unit {0}
 Within start Hand = Unit {0}
@@ -80,8 +82,8 @@ words_of start words =
       states = part 0 start.pages words;
       translations = part start.pages start.pages words;
       faults = part (2 * start.pages) start.pages words;
-      contents = part (3 * start.pages) (64 * start.frames) words;
-      bundles = part (3 * start.pages + 64 * start.frames) (bundle_count start) words;
+      contents = part (3 * start.pages) (WORDS * start.frames) words;
+      bundles = part (3 * start.pages + WORDS * start.frames) (bundle_count start) words;
       next = at 0 words (index_of start Next);
       hand = at 0 words (index_of start Hand);
     }
@@ -91,7 +93,7 @@ abbrev pub written : Words → Place → ℕ → Words
 written r (State p) x = record r { states = upd r.states p x }
 written r (Translation p) x = record r { translations = upd r.translations p x }
 written r (Fault p) x = record r { faults = upd r.faults p x }
-written r (Content f i) x = record r { contents = upd r.contents (64 * f + i) x }
+written r (Content f i) x = record r { contents = upd r.contents (WORDS * f + i) x }
 written r (Bundle g) x = record r { bundles = upd r.bundles g x }
 written r Next x = record r { next = x }
 written r Hand x = record r { hand = x }

@@ -1,6 +1,7 @@
 -- What the steps on locks tell: an exclusive lock, a share or a lock for write-back that is tried, a share that is given up, and a lock for
 -- write-back that becomes exclusive. So do the steps on marks. A step that expects a word changes the view only where it found that word.
 use Rattle.std.specs.Prelude.{ℕ, Bool, true, false, Some, None, List, [], ◌≡◌, ◌≢◌, ◌+◌, ◌-◌, ◌^◌, ◌<◌, ◌≤◌, ◌==◌, ◌||◌, nat_lt, length, if◌then◌else◌, IsSome}
+use Rattle.vm_page.specs.declared.buf.TheConstants.{WORDS}
 use Rattle.vm_core.specs.declared.event.Mapping.{Mapping}
 use Rattle.vm_core.specs.declared.event.Open.{Open}
 use Rattle.vm_core.specs.declared.event.Seat.{Seat}
@@ -66,7 +67,7 @@ module _ {X : Type 0} where
     pub version : (last_of w p).version ≡ version_of found
     pub since : IsSinceAll p found v.log
     pub older : IsOlder found (seat_of v p).reading
-    pub size : length (last_of w p).words ≡ 64
+    pub size : length (last_of w p).words ≡ WORDS
     pub stands : found ≡ expects → IsHeldAt expects v.start.frames v.start.tells (last_of w p).words held
     -- a page that was not locked is no member still to be released
     pub free : found ≡ expects → has p v.pending ≡ false
@@ -90,7 +91,7 @@ module _ {X : Type 0} where
     pub version : (last_of w p).version ≡ version_of found
     pub since : IsSinceAll p found v.log
     pub older : IsOlder found (seat_of v p).reading
-    pub size : length (last_of w p).words ≡ 64
+    pub size : length (last_of w p).words ≡ WORDS
     pub resident : found ≡ expects → IsSome (put_at no_held w.held p).mapping
     pub inside : found ≡ expects → (m : Mapping) → (put_at no_held w.held p).mapping ≡ Some m → m.frame < v.start.frames
     pub validates : v.start.tells ≡ true → found ≡ expects → Validates tied p (version_of expects) (last_of w p).words v
@@ -130,7 +131,7 @@ module _ {X : Type 0} where
     pub version : (last_of w p).version ≡ version_of found
     pub since : IsSinceAll p found v.log
     pub older : IsOlder found (seat_of v p).reading
-    pub size : length (last_of w p).words ≡ 64
+    pub size : length (last_of w p).words ≡ WORDS
     pub stands : found ≡ expects → IsHeldAt expects v.start.frames v.start.tells (last_of w p).words held
     -- nobody had the page locked
     pub free : found ≡ expects → has p v.pending ≡ false
@@ -158,7 +159,7 @@ module _ {X : Type 0} where
     pub version : (last_of w p).version ≡ version_of found
     pub since : IsSinceAll p found v.log
     pub older : IsOlder found (seat_of v p).reading
-    pub size : length (last_of w p).words ≡ 64
+    pub size : length (last_of w p).words ≡ WORDS
     pub free : found ≡ expects → has p v.pending ≡ false
     pub paid : found ≡ expects → has p v.owed ≡ false
     pub validates : v.start.tells ≡ true → found ≡ expects → Validates tied p (version_of expects) (last_of w p).words v

@@ -1,5 +1,6 @@
 -- What a look tells: the view after it, and what a validated read saw.
 use Rattle.std.specs.Prelude.{ℕ, true, false, ◌⊎◌, ◌<◌, ◌≤◌, Option, Some, None, List, [], ◌∷◌, ◌++◌, ◌≡◌, ◌==◌, zero, suc, length, if◌then◌else◌}
+use Rattle.vm_page.specs.declared.buf.TheConstants.{WORDS}
 use Rattle.vm_core.specs.declared.event.Open.{Open}
 use Rattle.vm_core.specs.declared.event.ReadIs.{ReadIs}
 use Rattle.vm_core.specs.declared.event.ReadIs.TheVariants.{Opened, Same, Moved, Closed}
@@ -85,7 +86,7 @@ module _ {X : Type 0} where
   pub record LookTold (tied : Start → ℕ → List ℕ → ℕ → List ℕ → Type 0) (p : ℕ) (said : Option X) (found : ℕ) (v w : View X) : Type 0 where
     pub brings : Brings (did_load (places.State p) found) [] (where_same (left_at found (seat_of v p).reading) (entries_of v said) []) v (looked_view p said found (last_of w p).words v) w
     pub version : (last_of w p).version ≡ version_of found
-    pub size : length (last_of w p).words ≡ 64
+    pub size : length (last_of w p).words ≡ WORDS
     pub valid : v.start.tells ≡ true → left_at found (seat_of v p).reading ≡ Same → LoadsAre (last_of w p).words (loads_at v p)
     pub holds : v.start.tells ≡ true → left_at found (seat_of v p).reading ≡ Same → Each (λ t. t.page ≡ p → t.version ≡ version_of found → tied (began_of v.start) t.of t.words p (last_of w p).words) v.ties
     pub itself : v.start.tells ≡ true → left_at found (seat_of v p).reading ≡ Same → tied (began_of v.start) p (last_of w p).words p (last_of w p).words

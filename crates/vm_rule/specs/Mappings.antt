@@ -1,5 +1,6 @@
 -- What the steps on a page's translation word tell: a page is put into a frame of the pass, or taken out of its frame; it is made dirty, or clean.
 use Rattle.std.specs.Prelude.{ℕ, Bool, true, false, Option, Some, None, List, [], ◌∷◌, ◌≡◌, ◌<◌, length}
+use Rattle.vm_page.specs.declared.buf.TheConstants.{WORDS}
 use Rattle.vm_core.specs.declared.event.Mapping.{Mapping}
 use Rattle.vm_core.specs.FrameActs.{trans_word}
 use Rattle.vm_owner.specs.Numbers.{has, without}
@@ -62,7 +63,7 @@ module _ {X : Type 0} where
   pub record ClearTold (p f : ℕ) (v w : View X) : Type 0 where
     pub words : List ℕ
     pub brings : Brings (did_store (places.Translation p) (trans_word None)) [] [] v (cleared_view p f words v) w
-    pub size : length words ≡ 64
+    pub size : length words ≡ WORDS
     pub stood : v.start.tells ≡ true → words ≡ (held_at v p).block.words
     pub inside : f < v.start.frames
     pub new : has f v.frames ≡ false

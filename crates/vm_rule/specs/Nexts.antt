@@ -1,6 +1,7 @@
 -- What the steps on the next word tell: it is loaded, or the pages from it on are claimed for a group. A claim of pages that begin with the next
 -- word which the pass knows can't be lost.
 use Rattle.std.specs.Prelude.{ℕ, true, Some, None, List, [], ◌++◌, ◌≡◌, ◌+◌, ◌<◌, ◌≤◌, ◌==◌, if◌then◌else◌, replicate}
+use Rattle.vm_page.specs.declared.buf.TheConstants.{WORDS}
 use Rattle.vm_rule.specs.declared.view.Did.{Did}
 use Rattle.vm_rule.specs.declared.view.Place.TheVariants as places
 use Rattle.vm_rule.specs.declared.view.View.{View}
@@ -24,7 +25,7 @@ module _ {X : Type 0} where
     pub holds : (x : ℕ) → v.next ≡ Some x → (seat_of v x).exclusive ≡ true
     pub risen : v.start.next ≤ found
     pub inside : found ≤ v.start.pages
-    pub zero : v.start.tells ≡ true → (p : ℕ) → found ≤ p → p < v.start.pages → (last_of w p).words ≡ replicate 64 0
+    pub zero : v.start.tells ≡ true → (p : ℕ) → found ≤ p → p < v.start.pages → (last_of w p).words ≡ replicate WORDS 0
     pub since : IsLatest found v.log
 
   -- a load: who holds the next page knows that it stays the next page

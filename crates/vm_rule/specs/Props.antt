@@ -2,11 +2,12 @@
 use denote.Struct.Props.{props}
 use Rattle.std.specs.Prelude.{ℕ, ◌+◌, ◌==◌, if◌then◌else◌, ◌<◌, List, [], ◌∷◌, ◌++◌}
 use Rattle.vm_owner.specs.declared.Entry.{Entry}
+use Rattle.vm_owner.specs.Kept.{AreCounted}
 use Rattle.vm_owner.specs.Numbers.{AreApart}
 use Rattle.vm_rule.specs.declared.view.Origin.{Origin}
 use Rattle.vm_rule.specs.declared.view.Release.{Release}
 use Rattle.vm_rule.specs.Views.{Each, PARTS}
-use Rattle.vm_rule.specs.Rule.{AreNext, AreCounted}
+use Rattle.vm_rule.specs.Rule.{AreNext}
 
 pub AreApart-prop : (l : List ℕ) → IsProp (AreApart l)
 AreApart-prop [] = hlevel props

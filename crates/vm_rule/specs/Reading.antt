@@ -2,6 +2,7 @@
 use Rattle.std.specs.Prelude.{ℕ, Bool, Option, Some, None, List, [], ◌∷◌, ◌++◌, ◌+◌, ◌*◌, ◌==◌, nat_lt, replicate, length, if◌then◌else◌}
 use mathlib.Core.Option as maybe
 use Rattle.atomic_table.specs.Table.{State as Table}
+use Rattle.vm_page.specs.declared.buf.TheConstants.{WORDS}
 use Rattle.vm_core.specs.declared.event.Seat.{Seat}
 use Rattle.vm_core.specs.Fn.{at}
 use Rattle.vm_core.specs.Words.{state_of, version_of}
@@ -23,7 +24,7 @@ use Rattle.vm_rule.specs.Views.{spent, seat_of, loads_at}
 
 -- the words of frame f
 unfoldable pub frame_words : (ℕ → ℕ) → ℕ → List ℕ
-frame_words contents f = listed 64 (λ i. contents (64 * f + i))
+frame_words contents f = listed WORDS (λ i. contents (WORDS * f + i))
 
 -- page p from its words, its block and the seats
 abbrev pub page_from : Words → (ℕ → Stored) → (ℕ → ℕ → Seat) → ℕ → Page
@@ -62,7 +63,7 @@ abbrev pub first_history : Origin → ℕ → History
 first_history start p =
     record {
       older = [];
-      last = record { version = if nat_lt p start.pages then start.version else 0; words = if nat_lt p start.pages then at (replicate 64 0) start.contents p else replicate 64 0 };
+      last = record { version = if nat_lt p start.pages then start.version else 0; words = if nat_lt p start.pages then at (replicate WORDS 0) start.contents p else replicate WORDS 0 };
       draft = [];
     }
 
@@ -85,7 +86,7 @@ last_in start releases p = (after_releases p (first_history start p) releases).l
 -- ---- blocks
 
 abbrev pub no_block : Stored
-no_block = record { words = replicate 64 0; count = 0; bound = 0; reads = 0; writes = 0 }
+no_block = record { words = replicate WORDS 0; count = 0; bound = 0; reads = 0; writes = 0 }
 
 -- the block at home
 abbrev pub at_home : {B : Type 0} → maybe.Option (Option B) → Option B

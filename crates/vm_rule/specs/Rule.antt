@@ -3,9 +3,10 @@ use Rattle.std.specs.Prelude.{ℕ, Bool, true, false, Option, Some, None, List, 
 use mathlib.Core.Option as maybe
 use lib.ListN.{get_elem?}
 use Rattle.atomic_table.specs.Table.{State as Table}
+use Rattle.vm_page.specs.declared.buf.TheConstants.{WORDS}
 use Rattle.vm_core.specs.declared.event.Seat.{Seat}
 use Rattle.vm_core.specs.Fn.{at}
-use Rattle.vm_core.specs.Words.{state_of, version_of, LOCKED, EVICTED}
+use Rattle.vm_core.specs.Words.{state_of, version_of, LOCKED, EVICTED, MAX_COUNT}
 use Rattle.vm_core.specs.StateActs.{is_readable}
 use Rattle.vm_core.specs.State.{Page}
 use Rattle.vm_core.specs.FrameActs.{frame_of, mapping_of, trans_word}
@@ -13,7 +14,7 @@ use Rattle.vm_core.specs.History.{History, World}
 use Rattle.vm_core.specs.Inv.{Inv}
 use Rattle.vm_laws_others.specs.Leaves.{stands_dirty}
 use Rattle.vm_owner.specs.declared.Entry.{Entry}
-use Rattle.vm_owner.specs.Kept.{Start, Kept}
+use Rattle.vm_owner.specs.Kept.{Start, Kept, AreCounted}
 use Rattle.vm_owner.specs.Numbers.{has}
 use Rattle.vm_block.specs.declared.stored.Stored.{Stored}
 use Rattle.vm_rule.specs.declared.view.Origin.{Origin}
@@ -29,10 +30,6 @@ use Rattle.vm_rule.specs.Puts.{put_at, listed, chosen}
 use Rattle.vm_rule.specs.Layout.{width, at_state, at_next, words_of}
 use Rattle.vm_rule.specs.Views.{StartsWith, Each, times_noted, PARTS, one_part, IsLocking, may_call, seat_of, draft_of, entries_by, Hears, total, any, owns, IsWhole, spent}
 use Rattle.vm_rule.specs.Reading.{no_block, home, out_of, block_of, last_in, last_of, histories_of, world_of, core_of}
-
--- the last count of a block
-abbrev pub MAX_COUNT : ℕ
-MAX_COUNT = 18446744073709551615
 
 -- the slot of a block that is out: empty at home, or with the pass that moves it
 abbrev pub slot_of : {B : Type 0} → Out → maybe.Option (Option B)
@@ -172,11 +169,6 @@ module _ {X : Type 0} where
     pub noted : (j : ℕ) (v : View X) → get_elem? views j ≡ maybe.some v → (p count : ℕ) → 1 ≤ times_noted p count v.notes → (1 ≤ count) × (count ≤ (pages p).fault)
     pub once : (p count : ℕ) → count ≢ MAX_COUNT → total (λ v. times_noted p count v.notes) views ≤ 1
 
-  -- the entries' counts: each number's are 1, 2, 3, and so on
-  abbrev pub AreCounted : (ℕ → ℕ) → List (Entry X) → Type 0
-  AreCounted before [] = Unit {0}
-  AreCounted before (e ∷ h) = (e.count ≡ before e.number + 1) × AreCounted (λ n. (if e.number == n then 1 else 0) + before n) h
-
   -- the lists: they are the longest that a live pass has seen; entries have numbers of parts, counted for each; releases have the next versions
   pub record ListsFit (start : Origin) (releases : List Release) (history : List (Entry X)) (views : List (View X)) : Type 0 where
     pub longest_releases : (j : ℕ) × (v : View X) × (get_elem? views j ≡ maybe.some v) × ((v.releases ≡ releases) ⊎ (v.told_releases ≡ releases))
@@ -223,7 +215,7 @@ module _ {X : Type 0} where
         pub inv : Inv (world_of stored start releases drafts s)
         pub risen : start.next ≤ (core_of stored start s).next
         -- pages that were never claimed have zero words
-        pub zero : start.tells ≡ true → (p : ℕ) → (core_of stored start s).next ≤ p → p < start.pages → (histories_of start releases drafts p).last.words ≡ replicate 64 0
+        pub zero : start.tells ≡ true → (p : ℕ) → (core_of stored start s).next ≤ p → p < start.pages → (histories_of start releases drafts p).last.words ≡ replicate WORDS 0
         pub blocks : BlocksFit start s.homes s.views
         pub faults : FaultsFit (core_of stored start s).pages s.views
         pub lists : ListsFit start releases history s.views

@@ -1,5 +1,6 @@
 -- The opening of a pool's table: every page is evicted, with its words in its block; every frame is free; every block is at home.
 use Rattle.std.specs.Prelude.{ℕ, Bool, List, [], ◌∷◌, ◌++◌, ◌*◌, ◌≤◌, length, map, replicate, if◌then◌else◌}
+use Rattle.vm_page.specs.declared.buf.TheConstants.{WORDS}
 use Rattle.vm_core.specs.Start.{full_bundle}
 use Rattle.vm_core.specs.Words.{word_of, EVICTED, MAX_VERSION}
 use Rattle.vm_block.specs.declared.stored.Stored.{Stored}
@@ -16,12 +17,12 @@ words_in blocks = map (λ (b : Stored). b.words) blocks
 
 -- the words of the pages: those of their blocks, and zeros where the blocks do not tell theirs
 abbrev pub contents_of : Bool → List Stored → List (List ℕ)
-contents_of tells blocks = map (λ (b : Stored). if tells then b.words else replicate 64 0) blocks
+contents_of tells blocks = map (λ (b : Stored). if tells then b.words else replicate WORDS 0) blocks
 
 -- the table's words: those of the states, of the translations, of the faults, of the frames, of the bundles, the next word and the hand
 abbrev pub started_words : ℕ → ℕ → ℕ → ℕ → List ℕ → List ℕ
 started_words pages frames version next counts =
-    listed pages (λ p. word_of EVICTED version) ++ (listed pages (λ p. 0) ++ (counts ++ (listed (64 * frames) (λ i. 0) ++ (listed (bundles_of frames) (full_bundle frames) ++ (next ∷ (0 ∷ []))))))
+    listed pages (λ p. word_of EVICTED version) ++ (listed pages (λ p. 0) ++ (counts ++ (listed (WORDS * frames) (λ i. 0) ++ (listed (bundles_of frames) (full_bundle frames) ++ (next ∷ (0 ∷ []))))))
 
 -- how the table began, with what its blocks hold
 abbrev pub started_origin : Bool → ℕ → ℕ → ℕ → List Stored → Origin

@@ -1,5 +1,6 @@
 -- What a store tells: into the frame of a page that the pass holds exclusively, or into a frame of its own.
 use Rattle.std.specs.Prelude.{ℕ, true, false, Some, [], ◌≡◌, ◌⊎◌, length, slice_set}
+use Rattle.vm_page.specs.declared.buf.TheConstants.{WORDS}
 use Rattle.vm_owner.specs.Numbers.{has}
 use Rattle.vm_rule.specs.declared.view.Place.TheVariants as places
 use Rattle.vm_rule.specs.declared.view.View.{View}
@@ -29,7 +30,7 @@ module _ {X : Type 0} where
 
   pub record FillTold (f i x : ℕ) (v w : View X) : Type 0 where
     pub brings : Brings (did_store (places.Content f i) x) [] [] v (filled_view f i x v) w
-    pub size : length (put_at [] v.contents f) ≡ 64
+    pub size : length (put_at [] v.contents f) ≡ WORDS
 
   -- the frame is the pass's own, or a page's whose draft stands in it
   abbrev pub MayStore : View X → ℕ → Type 0

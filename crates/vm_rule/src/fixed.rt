@@ -13,7 +13,7 @@ use crate::view::Shape;
 use crate::words::{Pass, Words};
 use std::alloc::{AllocError, Global};
 use vm_block::Block;
-use vm_core::Memory;
+use vm_core::{FRAMES, Memory};
 use vm_owner::Owner;
 use vm_page::{PageBuf, WORDS};
 
@@ -71,10 +71,10 @@ pub(crate) fn opening_words<B: Block>(
     requires few { length pages.now ≤ 65536 }
     requires blocks { length blocks.now ≤ 65536 }
     ensures words { IfOk result (λ words. words.items ≡ fixed_words version next pages.now (counts_of (map B.stored blocks.now))) }
-    ensures long { IfOk result (λ _. Each (λ words. length words ≡ 64) pages.now) }
+    ensures long { IfOk result (λ _. Each (λ words. length words ≡ WORDS) pages.now) }
 {
     let count = pages.len();
-    let bundles = (count + 63) / 64;
+    let bundles = (count + (FRAMES - 1)) / FRAMES;
     let mut words = Vec::with_capacity(alloc, (3 + WORDS) * count + bundles + 2)?;
     push_same(&mut words, count, version)?;
     push_translations(&mut words, count)?;
@@ -100,7 +100,7 @@ fn push_translations(words: &mut Vec<u64>, count: usize) -> Result<(), AllocErro
 /// The words of the pages, one page after another.
 fn push_pages(words: &mut Vec<u64>, pages: &[PageBuf]) -> Result<(), AllocError>
     ensures words { IfOk result (λ _. words.new.items ≡ words.old.items ++ flat pages.now) }
-    ensures long { IfOk result (λ _. Each (λ page. length page ≡ 64) pages.now) }
+    ensures long { IfOk result (λ _. Each (λ page. length page ≡ WORDS) pages.now) }
 {
     for page in pages {
         push_page(words, page)?;
@@ -110,7 +110,7 @@ fn push_pages(words: &mut Vec<u64>, pages: &[PageBuf]) -> Result<(), AllocError>
 
 fn push_page(words: &mut Vec<u64>, page: &PageBuf) -> Result<(), AllocError>
     ensures words { IfOk result (λ _. words.new.items ≡ words.old.items ++ page.now) }
-    ensures long { length page.now ≡ 64 }
+    ensures long { length page.now ≡ WORDS }
 {
     // A page has 64 words.
     let _ = page.get(0);

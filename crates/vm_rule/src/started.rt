@@ -17,7 +17,7 @@ use crate::view::Shape;
 use crate::words::{Pass, Words};
 use std::alloc::{AllocError, Global};
 use vm_block::Block;
-use vm_core::{Memory, StateWord, TransWord};
+use vm_core::{FRAMES, Memory, StateWord, TransWord};
 use vm_owner::Owner;
 use vm_page::WORDS;
 
@@ -96,8 +96,8 @@ fn push_bundles(words: &mut Vec<u64>, frames: usize) -> Result<(), AllocError>
     requires { frames ≤ 65536 }
     ensures { IfOk result (λ _. words.new.items ≡ words.old.items ++ listed (bundles_of frames) (full_bundle frames)) }
 {
-    for g in 0..(frames + 63) / 64 {
-        words.push(low_bits((frames - 64 * g).min(64)))?;
+    for g in 0..frames.div_ceil(FRAMES) {
+        words.push(low_bits((frames - FRAMES * g).min(FRAMES)))?;
     }
     Ok(())
 }

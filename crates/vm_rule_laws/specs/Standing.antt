@@ -1,5 +1,6 @@
 -- Where the last words of a page stand: in the page's frame, or in its block, as a snapshot of the table shows both.
 use Rattle.std.specs.Prelude.{ℕ, true, false, Option, Some, None, List, IsSome, length, ◌≡◌, ◌≢◌}
+use Rattle.vm_page.specs.declared.buf.TheConstants.{WORDS}
 use Rattle.vm_block.specs.declared.stored.Stored.{Stored}
 use Rattle.vm_core.specs.declared.event.Mapping.{Mapping}
 use Rattle.vm_core.specs.declared.event.Seat.{Seat}
@@ -36,7 +37,7 @@ frame_in start snapshot f = frame_words (words_of start snapshot.words).contents
 -- word is the block's count where the pass may not call the page's device
 pub record PageStands (start : Origin) (releases : List Release) (snapshot : Snapshot) (seat : Seat) (p : ℕ) : Type 0 where
   pub version : version_in start snapshot p ≡ (last_in start releases p).version
-  pub sized : length (last_in start releases p).words ≡ 64
+  pub sized : length (last_in start releases p).words ≡ WORDS
   pub unlocked : seat.exclusive ≡ false → state_in start snapshot p ≢ LOCKED
   pub resident : state_in start snapshot p ≢ LOCKED → state_in start snapshot p ≢ EVICTED → IsSome (mapping_in start snapshot p)
   pub evicted : state_in start snapshot p ≡ EVICTED → mapping_in start snapshot p ≡ None

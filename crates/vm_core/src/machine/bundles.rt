@@ -7,18 +7,19 @@ ghost use Rattle.vm_core.specs.Step.{given, MayGive, MayTake, NamesBundle, taken
 
 use crate::event::{Event, Illegal, Seen};
 use crate::machine::Core;
+use crate::words::FRAMES;
 
 impl Core {
     /// Whether the numbers name an actor and a bundle.
     fn names_bundle(&self, a: u32, g: u32) -> bool
         ensures { IsTrue result ↔ NamesBundle (core_of self.now) a g }
     {
-        a < self.shape.actors && u64::from(g) * 64 < u64::from(self.shape.frames)
+        a < self.shape.actors && (u64::from(g) * FRAMES as u64) < u64::from(self.shape.frames)
     }
 
     /// A bundle word.
     fn bundle(&self, g: u32) -> u64
-        requires { g * 64 < self.now.shape.frames }
+        requires { g * FRAMES < self.now.shape.frames }
         ensures { result ≡ (core_of self.now).bundles g }
     {
         self.bundles[g as usize]

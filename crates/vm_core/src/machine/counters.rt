@@ -9,6 +9,7 @@ ghost use Rattle.vm_core.specs.Words.{hand_more};
 
 use crate::event::{Event, Illegal, Seen};
 use crate::machine::Core;
+use crate::words::STRIDE;
 
 impl Core {
     /// A load of the next word.
@@ -72,5 +73,5 @@ impl Core {
 fn hand_more(hand: u64) -> u64
     ensures { result ≡ hand_more hand }
 {
-    hand.wrapping_add(64)
+    hand.wrapping_add(STRIDE)
 }

@@ -9,6 +9,7 @@ ghost use Rattle.vm_core.specs.Step.{MayPut, MayStore, Names, put_under, stored_
 use crate::event::{Event, Illegal, Seen};
 use crate::frames::frame_words;
 use crate::machine::Core;
+use vm_page::WORDS;
 
 impl Core {
     /// Whether the actor holds the frame.
@@ -97,7 +98,7 @@ impl Core {
 
     /// A word of a frame. A frame past the last reads as zeros.
     fn frame_word(&self, f: u32, i: u32) -> u64
-        requires { i < 64 }
+        requires { i < WORDS }
         ensures { result ≡ slice_index ((core_of self.now).words f) i }
     {
         frame_words(&self.frames, f)[i as usize]
@@ -107,7 +108,7 @@ impl Core {
     pub(super) fn load(&mut self, a: u32, p: u32, i: u32) -> Result<Seen, Illegal>
         ensures { Steps self.old (Event.Load a p i) result self.new }
     {
-        if !self.names(a, p) || i >= 64 {
+        if !self.names(a, p) || i as usize >= WORDS {
             return Err(Illegal);
         }
         let Some(f) = self.load_frame(a, p) else {
@@ -135,14 +136,14 @@ impl Core {
     {
         a < self.shape.actors
             && f < self.shape.frames
-            && i < 64
+            && (i as usize) < WORDS
             && (self.holds(a, f) || self.writes_to(a, f))
     }
 
     /// A word of a frame is written.
     fn put_word(&mut self, f: u32, i: u32, w: u64)
         requires frame { f < self.old.shape.frames }
-        requires place { i < 64 }
+        requires place { i < WORDS }
         ensures { core_of self.new ≡ stored_at (core_of self.old) f i w }
     {
         let words = &mut self.frames[f as usize];

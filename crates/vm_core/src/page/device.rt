@@ -9,6 +9,7 @@ ghost use Rattle.vm_core.specs.Words.{count_more};
 use crate::event::{Illegal, Mapping, PageAct, Seen};
 use crate::frames::frame_words;
 use crate::page::PageCell;
+use vm_page::WORDS;
 
 #[tactic(auto, using(crate::proofs::At::at_set, crate::proofs::At::seat_here))]
 impl PageCell {
@@ -37,7 +38,7 @@ impl PageCell {
     }
 
     /// A write of the frame to the block that went well.
-    pub(super) fn try_write(&mut self, a: usize, frames: &[[u64; 64]]) -> Result<Seen, Illegal>
+    pub(super) fn try_write(&mut self, a: usize, frames: &[[u64; WORDS]]) -> Result<Seen, Illegal>
         requires { a < length self.old.seats }
         ensures step { PageSteps frames.now self.old a PageAct.Write result self.new }
         ensures seats { length self.new.seats ≡ length self.old.seats }
@@ -111,7 +112,7 @@ fn count_more(count: u64) -> u64
 }
 
 /// The words of the block after a write.
-fn block_after(frames: &[[u64; 64]], trans: Option<Mapping>, block: [u64; 64]) -> [u64; 64]
+fn block_after(frames: &[[u64; WORDS]], trans: Option<Mapping>, block: [u64; WORDS]) -> [u64; WORDS]
     ensures { result ≡ block_after (words_of frames.now) trans block }
 {
     match trans {

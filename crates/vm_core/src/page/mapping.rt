@@ -8,11 +8,12 @@ ghost use Rattle.vm_core.specs.PageOf.{page_of, words_of};
 use crate::event::{Illegal, Mapping, PageAct, Seen};
 use crate::frames::frame_words;
 use crate::page::PageCell;
+use vm_page::WORDS;
 
 #[tactic(auto, using(crate::proofs::At::at_set, crate::proofs::At::seat_here))]
 impl PageCell {
     /// Whether the actor may put a frame with these words under the page.
-    pub fn may_install(&self, a: usize, words: &[u64; 64]) -> bool
+    pub fn may_install(&self, a: usize, words: &[u64; WORDS]) -> bool
         requires { a < length self.now.seats }
         ensures { IsTrue result ↔ MayInstall true (page_of self.now) a words.now }
     {
@@ -85,7 +86,7 @@ impl PageCell {
     }
 
     /// Whether the actor writes the page back, and the block has the words of its frame.
-    fn may_clean(&self, a: usize, frames: &[[u64; 64]]) -> bool
+    fn may_clean(&self, a: usize, frames: &[[u64; WORDS]]) -> bool
         requires { a < length self.now.seats }
         ensures { IsTrue result ↔ MayClean true (words_of frames.now) (page_of self.now) a }
     {
@@ -102,7 +103,7 @@ impl PageCell {
     }
 
     /// The page is made clean.
-    pub(super) fn try_clean(&mut self, a: usize, frames: &[[u64; 64]]) -> Result<Seen, Illegal>
+    pub(super) fn try_clean(&mut self, a: usize, frames: &[[u64; WORDS]]) -> Result<Seen, Illegal>
         requires { a < length self.old.seats }
         ensures step { PageSteps frames.now self.old a PageAct.Clean result self.new }
         ensures seats { length self.new.seats ≡ length self.old.seats }
