@@ -11,7 +11,7 @@ ghost use Rattle.vm_step.specs.Ready.{IsReady};
 
 use arrayvec::ArrayVec;
 use vm_block::Block;
-use vm_core::{MAX_VERSION, StateWord};
+use vm_core::{FRAMES, MAX_VERSION, StateWord};
 use vm_owner::Owner;
 use vm_rule::words::{Pass, Words};
 use vm_step::{Candidates, Looks, Took, hand, look_silently, mark};
@@ -35,7 +35,7 @@ pub fn candidates<U: Owner, B: Block>(
     want: u32,
 ) -> Candidates
     requires ready { IsReady words.now.table.shared.key B.tells words.now.table.shared.table_id pass.old }
-    requires want { (1 ≤ want) × (want ≤ 64) }
+    requires want { (1 ≤ want) × (want ≤ FRAMES) }
     ensures pass { IsSamePass pass.old pass.new }
     ensures ready { IsReady words.now.table.shared.key B.tells words.now.table.shared.table_id pass.new }
     ensures chosen { IsChosen want result.looks result.list.items (view pass.old) (view pass.new) }
@@ -79,7 +79,7 @@ fn visit<U: Owner, B: Block>(
 )
     requires ready { IsReady words.now.table.shared.key B.tells words.now.table.shared.table_id pass.old }
     requires page { p < words.now.table.shared.key.pages }
-    requires room { length chosen.old.list.items < 64 }
+    requires room { length chosen.old.list.items < FRAMES }
     requires counts { total chosen.old.looks < 4294967295 }
     ensures pass { IsSamePass pass.old pass.new }
     ensures ready { IsReady words.now.table.shared.key B.tells words.now.table.shared.table_id pass.new }

@@ -1,6 +1,7 @@
 -- What a flush does with each page, by rising number. A page that is evicted or clean it leaves; one that somebody has locked, or that changed
 -- before it could be locked, is busy; any other is written under a share, and is clean then, or its write failed and it stays dirty.
 use Rattle.std.specs.Prelude.{ℕ, true, false, Option, Some, None, List, [], ◌∷◌, ◌++◌, ◌≡◌, ◌≢◌, ◌⊎◌, ◌+◌, ◌<◌, ◌≤◌, zero, suc, length}
+use Rattle.vm_page.specs.declared.buf.TheConstants.{WORDS}
 use Rattle.vm_core.specs.Words.{state_of, version_of, word_of, UNLOCKED, MARKED, EVICTED}
 use Rattle.vm_core.specs.FrameActs.{mapping_of, trans_word}
 use Rattle.vm_laws_others.specs.Leaves.{stands_dirty}
@@ -155,7 +156,7 @@ module _ {X : Type 0} where
   pub record IsUnderWriteBack (p : ℕ) (v : View X) : Type 0 where
     pub seat : seat_of v p ≡ record { shares = 1; exclusive = false; writing = true; reading = None }
     pub told : IsToldOf v p
-    pub size : length (last_of v p).words ≡ 64
+    pub size : length (last_of v p).words ≡ WORDS
     pub home : v.out ≡ None
 
   -- the pass still has page p under write-back, and may give it up

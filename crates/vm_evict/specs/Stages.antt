@@ -1,6 +1,7 @@
 -- The stages of a candidate's eviction: the page was seen to be clean; since a view at which the pass had not locked it, it is under write-back, or
 -- held exclusively and clean.
 use Rattle.std.specs.Prelude.{ℕ, Bool, true, false, Some, None, List, [], ◌∷◌, ◌++◌, ◌≡◌, ◌≢◌, ◌+◌, length, Result, Ok, Err, IsSome}
+use Rattle.vm_page.specs.declared.buf.TheConstants.{WORDS}
 use Rattle.vm_core.specs.declared.event.Mapping.{Mapping}
 use Rattle.vm_core.specs.declared.event.Seat.{Seat}
 use Rattle.vm_core.specs.Words.{version_of, word_of, LOCKED}
@@ -63,7 +64,7 @@ module _ {X : Type 0} where
     pub free : has p v.pending ≡ false
     pub now : seat_of x p ≡ seat
     pub at : (last_of x p).version ≡ version_of word
-    pub size : length (last_of x p).words ≡ 64
+    pub size : length (last_of x p).words ≡ WORDS
     pub told : IsToldOf x p
     pub none : v.out ≡ None
     pub home : x.out ≡ None

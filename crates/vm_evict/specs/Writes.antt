@@ -1,6 +1,7 @@
 -- Writing a dirty page back, which the pass has locked for that: the page's last words go to its block, and the page becomes clean; or the write
 -- fails, and its fault is noted. The page stays locked, and in its frame.
 use Rattle.std.specs.Prelude.{ℕ, true, false, Some, None, List, [], ◌∷◌, ◌++◌, ◌≡◌, ◌≢◌, ◌≤◌, length, Result, Ok, Err, ◌⊎◌}
+use Rattle.vm_page.specs.declared.buf.TheConstants.{WORDS}
 use Rattle.vm_core.specs.Fn.{at}
 use Rattle.vm_core.specs.FrameActs.{mapping_of, trans_word}
 use Rattle.vm_rule.specs.declared.view.Did.{Did}
@@ -44,7 +45,7 @@ module _ {X : Type 0} where
     pub closed : (seat_of v p).reading ≡ None
     pub stands : (held_at v p).mapping ≡ Some (dirty_in f)
     pub told : IsToldOf v p
-    pub size : length (last_of v p).words ≡ 64
+    pub size : length (last_of v p).words ≡ WORDS
     pub home : v.out ≡ None
 
   -- the page was written and made clean: its block has its last words

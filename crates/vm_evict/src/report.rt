@@ -3,6 +3,7 @@ ghost use Rattle.std.specs.Prelude.{◌≡◌, ◌<◌, [], length};
 ghost use Rattle.vm_evict.specs.Stages.{IsAdded, none_of};
 
 use crate::candidate::Fate;
+use vm_core::FRAMES;
 use vm_step::{Batch, Looks};
 
 /// What became of the candidates of an eviction.
@@ -50,8 +51,8 @@ impl Evicted {
 
     /// Counts what became of candidate `p`, and takes its frame.
     pub(crate) fn add(&mut self, p: u32, fate: Fate)
-        requires room { length self.old.frames < 64 }
-        requires counts { (self.old.report.freed < 64) × (self.old.report.written < 64) × (self.old.report.failed < 64) × (self.old.report.lost < 64) }
+        requires room { length self.old.frames < FRAMES }
+        requires counts { (self.old.report.freed < FRAMES) × (self.old.report.written < FRAMES) × (self.old.report.failed < FRAMES) × (self.old.report.lost < FRAMES) }
         ensures added { IsAdded p fate self.old self.new }
     {
         let report = &mut self.report;

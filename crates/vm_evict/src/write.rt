@@ -24,7 +24,7 @@ fn copy_page<U: Owner, B: Block>(
     requires page { (p < words.now.table.shared.key.pages) × (frame < words.now.table.shared.key.frames) }
     requires frame { frame_read_by (view pass.old) p ≡ Some frame }
     requires shared { (1 ≤ (seat_of (view pass.old) p).shares) × ((seat_of (view pass.old) p).reading ≡ None) }
-    requires size { length (last_of (view pass.old) p).words ≡ 64 }
+    requires size { length (last_of (view pass.old) p).words ≡ WORDS }
     ensures pass { IsSamePass pass.old pass.new }
     ensures ready { IsReady words.now.table.shared.key B.tells words.now.table.shared.table_id pass.new }
     ensures copied { IsCopied p result (view pass.old) (view pass.new) }

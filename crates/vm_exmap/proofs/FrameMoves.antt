@@ -13,7 +13,7 @@ use Rattle.vm_rule.specs.declared.view.Release.{Release}
 use Rattle.vm_rule.specs.declared.view.Shape.{Shape}
 use Rattle.vm_rule.specs.declared.view.View.{View}
 use Rattle.vm_rule.specs.declared.words.Pass.{Pass}
-use Rattle.vm_rule.specs.Layout.{index_of}
+use Rattle.vm_rule.specs.Layout.{bundles_of, index_of}
 use Rattle.vm_rule.specs.Puts.{put_at}
 use Rattle.vm_rule.specs.Views.{seat_of, IsLocking}
 use Rattle.vm_rule.specs.Rule.{no_held}
@@ -22,12 +22,17 @@ use Rattle.vm_rule.specs.Mappings.{contents_at}
 use Rattle.vm_rule.specs.Begun.{HasShape}
 use Rattle.vm_rule.specs.Brought.{Brings}
 use Rattle.vm_rule.proofs.Entries.{append-none, starts-self}
+use Rattle.vm_rule.proofs.Heard.{each-both}
 use Rattle.vm_exmap.specs.Frames.{MovesFrames}
 use Rattle.vm_step.specs.Asides.{IsAsideOf}
 use Rattle.vm_step.specs.Passes.{IsSamePass, view}
 use Rattle.vm_step.specs.Ready.{IsReady}
 use Rattle.vm_step.proofs.Alone.{set-else, still-alone}
 use Rattle.vm_step.proofs.Asides.{alone-self, alone-silent, alone-then, starts-then}
+
+-- a bundle's place is no page's
+bundle-state : (g p : ℕ) → places.Bundle g ≢ places.State p
+bundle-state g p e = cc
 
 module _ {X : Type 0} where
   -- no step at all
@@ -49,12 +54,14 @@ module _ {X : Type 0} where
     contents = λ f a b. refl;
     alone = alone-self v;
     states = λ a p l. refl;
+    next = λ a. refl;
+    leaves = tt;
   }
 
   -- one step that changes the free frames and what is known of their words
-  pub moved-by : (did : Did) (g : ℕ) (frames : List ℕ) (contents : List (Put (List ℕ))) (v w : View X) → did.at ≡ places.Bundle g → Brings did [] [] v (record v { frames = frames; contents = contents }) w
+  pub moved-by : (did : Did) (g : ℕ) (frames : List ℕ) (contents : List (Put (List ℕ))) (v w : View X) → did.at ≡ places.Bundle g → g < bundles_of v.start.frames → Brings did [] [] v (record v { frames = frames; contents = contents }) w
       → ((f : ℕ) → has f v.frames ≡ true → has f frames ≡ true → put_at [] contents f ≡ contents_at v f) → MovesFrames (did ∷ []) v w
-  moved-by did g frames contents v w at b same = record {
+  moved-by did g frames contents v w at inside b same = record {
     log = ap (λ (x : View X). x.log) b.view;
     live = ap (λ (x : View X). x.live) b.view;
     start = ap (λ (x : View X). x.start) b.view;
@@ -77,6 +84,13 @@ module _ {X : Type 0} where
         ap (λ (x : View X). slice_index x.snapshot.words p) b.view
         ∙ ap (λ (ws : List ℕ). slice_index ws p) (b.alone a.0 a.1).2.words
         ∙ set-else did.wrote (index_of v.start did.at) p v.snapshot.words (inr (λ e. other (e ∙ index)));
+    next = λ a.
+        let index : index_of v.start did.at ≡ index_of v.start (places.Bundle g) = ap (index_of v.start) at in
+        let other : index_of v.start places.Next ≢ index_of v.start (places.Bundle g) = omega (arith, inside) in
+        ap (λ (x : View X). slice_index x.snapshot.words (index_of x.start places.Next)) b.view
+        ∙ ap (λ (ws : List ℕ). slice_index ws (index_of v.start places.Next)) (b.alone a.0 a.1).2.words
+        ∙ set-else did.wrote (index_of v.start did.at) (index_of v.start places.Next) v.snapshot.words (inr (λ e. other (e ∙ index)));
+    leaves = ((λ p e. bundle-state g p (sym at ∙ e)), tt);
   }
 
   -- steps, and then more: a frame that the pass had and has it had in between
@@ -98,6 +112,8 @@ module _ {X : Type 0} where
     contents = λ n h k. let m = between n h k in g.contents n m k ∙ f.contents n h m;
     alone = alone-then u v w f.parts f.alone g.alone;
     states = λ l p i. g.states (still-alone u v f.parts f.alone.current l) p (subst (λ (o : Origin). p < o.pages) (sym f.start) i) ∙ f.states l p i;
+    next = λ l. g.next (still-alone u v f.parts f.alone.current l) ∙ f.next l;
+    leaves = each-both (λ (d : Did). (p : ℕ) → d.at ≢ places.State p) a b f.leaves g.leaves;
   }
 
   -- such steps are aside of all pages: no read of theirs is another either

@@ -6,6 +6,7 @@ use Rattle.std.specs.Int.{bit_at}
 use Rattle.vm_core.specs.Words.{in_mask}
 use Rattle.vm_owner.specs.Numbers.{has}
 use Rattle.vm_rule.specs.declared.view.Did.{Did}
+use Rattle.vm_rule.specs.declared.view.Origin.{Origin}
 use Rattle.vm_rule.specs.declared.view.Place.TheVariants as places
 use Rattle.vm_rule.specs.declared.view.View.{View}
 use Rattle.vm_rule.specs.Layout.{bundles_of}
@@ -72,14 +73,14 @@ module _ {X : Type 0} (frames : List ℕ) (g mask : ℕ) (u v : View X) (below :
           below.left f ∙ ap (λ b. if b then false else has f u.frames) here ∙ each-of (λ n. has n u.frames ≡ true) frames f held.held of.1
 
   -- they go back by one step
-  pub given-more : (found : ℕ) (w : View X) → GiveTold g mask found v w → AreGivenBelow frames (g + 1) u w
-  given-more found w t =
+  pub given-more : (found : ℕ) (w : View X) → g < bundles_of u.start.frames → GiveTold g mask found v w → AreGivenBelow frames (g + 1) u w
+  given-more found w inside t =
       let did : Did = did_change (places.Bundle g) found (bit_or found mask) in
       let left : (f : ℕ) → has f w.frames ≡ (if is_of g frames f then false else has f v.frames) = λ f.
       ap (λ (x : View X). has f x.frames) t.brings.view
       ∙ has-without_all f (frames_in g mask) v.frames
       ∙ ap (λ b. if b then false else has f v.frames) (has-frames_in g mask f ∙ bits f) in
-      let moves : MovesFrames (did ∷ []) v w = moved-by did g (without_all (frames_in g mask) v.frames) v.contents v w refl t.brings (λ f a b. refl) in
+      let moves : MovesFrames (did ∷ []) v w = moved-by did g (without_all (frames_in g mask) v.frames) v.contents v w refl (subst (λ (o : Origin). g < bundles_of o.frames) (sym below.moves.start) inside) t.brings (λ f a b. refl) in
       let next : suc g ≡ g + 1 = omega arith in
       let done : List Did = below.done ++ did ∷ [] in
       record {

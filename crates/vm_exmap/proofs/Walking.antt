@@ -1,5 +1,5 @@
 -- A walk over the bundles, a visit at a time: each that was passed by adds its steps; where the bits of one were lost, they are the evidence.
-use Rattle.std.proofs.Common.{ℕ, ◌≡◌, ◌≢◌, ◌+◌, ◌-◌, ◌<◌, ◌≤◌, ◌++◌, ◌%◌, ◌/◌, min, true, false, List, [], ◌∷◌, Option, Some, None, zero, suc, length, refl, sym, ap, subst, ◌∙◌, ⊎_elim, arith, append_assoc, bit_xor, if◌then◌else◌}
+use Rattle.std.proofs.Common.{ℕ, ◌≡◌, ◌≢◌, ◌+◌, ◌-◌, ◌*◌, ◌<◌, ◌≤◌, ◌++◌, ◌%◌, ◌/◌, min, true, false, List, [], ◌∷◌, Option, Some, None, zero, suc, length, refl, sym, ap, subst, ◌∙◌, ⊎_elim, arith, append_assoc, bit_xor, if◌then◌else◌}
 use Rattle.std.proofs.Math.Nat.{add-mod-mod, add-mod_right, mod-add-mod, mod-eq_of_lt, mod-lt}
 use Rattle.std.proofs.lemmas.Bool.{ne_eqb, eq-eqb, or_left, cases_Bool, cases_lt, true≢false}
 use Rattle.std.proofs.lemmas.Option.{none-some}
@@ -7,6 +7,7 @@ use Rattle.vm_core.specs.Words.{AreLowest}
 use Rattle.vm_owner.specs.Numbers.{has}
 use Rattle.vm_rule.specs.declared.view.Did.{Did}
 use Rattle.vm_rule.specs.declared.view.Place.{Place}
+use Rattle.vm_rule.specs.declared.view.Origin.{Origin}
 use Rattle.vm_rule.specs.declared.view.Place.TheVariants as places
 use Rattle.vm_rule.specs.declared.view.View.{View}
 use Rattle.vm_rule.specs.Layout.{bundles_of}
@@ -31,11 +32,18 @@ use Rattle.vm_step.proofs.Alone.{found-known, same-word, still-alone, words-know
 use Rattle.vm_exmap.proofs.FrameMoves.{moved-by, moved-nothing, moved-then}
 use Rattle.vm_exmap.proofs.Handing.{each-has}
 
+-- the number of a bundle of frames that there are
+pub bundle-inside : (g table start : ℕ) → g * 64 < table → start ≡ table → g < bundles_of start
+bundle-inside g table start some same = omega (arith, some, same)
+
 -- ---- one bundle
 
-module _ {X : Type 0} (g word : ℕ) (u v : View X) (told : BundleTold g word u v) where
+module _ {X : Type 0} (g word : ℕ) (u v : View X) (told : BundleTold g word u v) (inside : g < bundles_of u.start.frames) where
   loaded : MovesFrames (did_load (places.Bundle g) word ∷ []) u v
-  loaded = moved-by (did_load (places.Bundle g) word) g u.frames u.contents u v refl told.brings (λ f a b. refl)
+  loaded = moved-by (did_load (places.Bundle g) word) g u.frames u.contents u v refl inside told.brings (λ f a b. refl)
+
+  still-inside : g < bundles_of v.start.frames
+  still-inside = subst (λ (o : Origin). g < bundles_of o.frames) (sym loaded.start) inside
 
   -- a pass that is alone loads the word that it knew
   load-known : IsAlone u → (word ≡ word_at u (places.Bundle g)) × (v.snapshot.words ≡ u.snapshot.words)
@@ -65,7 +73,7 @@ module _ {X : Type 0} (g word : ℕ) (u v : View X) (told : BundleTold g word u 
     lost-visit seen t ne =
         let did : Did = did_exchange (places.Bundle g) word seen (bit_xor word mask) in
         let b : Brings did [] [] v v w = subst (λ hit. Brings did [] [] v (if hit then taken_view g mask t.words v else v) w) (ne_eqb seen word ne) t.brings in
-        let moves : MovesFrames (did ∷ []) v w = moved-by did g v.frames v.contents v w refl b (λ f a c. refl) in
+        let moves : MovesFrames (did ∷ []) v w = moved-by did g v.frames v.contents v w refl still-inside b (λ f a c. refl) in
         record {
           mask = mask;
           load = did_load (places.Bundle g) word;
@@ -86,7 +94,7 @@ module _ {X : Type 0} (g word : ℕ) (u v : View X) (told : BundleTold g word u 
         let old : (f : ℕ) → has f v.frames ≡ true → has f (frames_in g mask) ≡ false = λ f had.
         ⊎_elim (λ (e : has f (frames_in g mask) ≡ true). absurd (true≢false (sym had ∙ t.new refl f (sym (has-frames_in g mask f) ∙ e)))) (λ e. e) (cases_Bool (has f (frames_in g mask))) in
         let moves : MovesFrames (did ∷ []) v w =
-        moved-by did g (frames_in g mask ++ v.frames) (with_contents t.words (frames_in g mask) v.contents) v w refl b
+        moved-by did g (frames_in g mask ++ v.frames) (with_contents t.words (frames_in g mask) v.contents) v w refl still-inside b
         (λ f had _. with_contents-at t.words (frames_in g mask) v.contents f ∙ ap (λ hit. if hit then t.words f else contents_at v f) (old f had)) in
         let frames : w.frames ≡ frames_in g mask ++ v.frames = ap (λ (x : View X). x.frames) b.view in
         let new : (f : ℕ) → has f (frames_in g mask) ≡ true → has f v.frames ≡ false = λ f e. t.new refl f (sym (has-frames_in g mask f) ∙ e) in

@@ -5,7 +5,7 @@ use Rattle.vm_rule.specs.declared.view.Did.{Did}
 use Rattle.vm_rule.specs.declared.view.Place.TheVariants as places
 use Rattle.vm_rule.specs.declared.view.View.{View}
 use Rattle.vm_rule.specs.Layout.{bundles_of}
-use Rattle.vm_rule.specs.Views.{StartsWith, IsLocking, seat_of}
+use Rattle.vm_rule.specs.Views.{StartsWith, Each, IsLocking, seat_of}
 use Rattle.vm_rule.specs.Reading.{last_of}
 use Rattle.vm_rule.specs.Mappings.{contents_at}
 use Rattle.vm_step.specs.Alone.{IsAlone, word_at}
@@ -37,3 +37,7 @@ module _ {X : Type 0} where
     pub alone : StaysAlone v w
     -- a pass that is alone knows the pages' state words as before
     pub states : IsAlone v → (p : ℕ) → p < v.start.pages → word_at w (places.State p) ≡ word_at v (places.State p)
+    -- and the next word
+    pub next : IsAlone v → word_at w places.Next ≡ word_at v places.Next
+    -- no step is on a page's state word
+    pub leaves : Each (λ d. (p : ℕ) → d.at ≢ places.State p) done

@@ -1,6 +1,7 @@
 -- How frames go back to the bundles: for each bundle that has some of them, by rising number, one step that sets their bits.
 use Rattle.std.specs.Prelude.{ℕ, Bool, false, List, [], ◌∷◌, ◌++◌, ◌≡◌, ◌-◌, ◌/◌, ◌==◌, ◌&&◌, zero, suc, length, bit_or, min, if◌then◌else◌}
 use Rattle.vm_core.specs.Words.{in_mask}
+use Rattle.vm_core.specs.declared.words.TheConstants.{FRAMES}
 use Rattle.vm_owner.specs.Numbers.{has}
 use Rattle.vm_rule.specs.declared.view.Did.{Did}
 use Rattle.vm_rule.specs.declared.view.Place.TheVariants as places
@@ -11,7 +12,7 @@ use Rattle.vm_exmap.specs.Frames.{MovesFrames}
 
 -- the frame is one of these, and of bundle g
 abbrev pub is_of : ℕ → List ℕ → ℕ → Bool
-is_of g frames f = (f / 64 == g) && has f frames
+is_of g frames f = (f / FRAMES == g) && has f frames
 
 -- the bits of the frames that are of bundle g were set, by one step; or there are none, and no step was made
 pub data GivesTo (frames : List ℕ) (g : ℕ) (steps : List Did) : Type 0 where

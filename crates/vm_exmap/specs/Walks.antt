@@ -47,6 +47,12 @@ pub record HandsOut (n : ℕ) (frames batch new : List ℕ) : Type 0 where
   pub all : frames ≡ batch ++ new
   pub count : length batch ≡ min n (length frames)
 
+-- the answer is a batch, or that there is none
+abbrev pub NotLost : Alloc → Type 0
+NotLost (allocs.Batch batch) = Unit {0}
+NotLost allocs.Dry = Unit {0}
+NotLost (allocs.Again saw) = ⊥
+
 module _ {X : Type 0} where
   -- the walk ended at this bundle, after those before it, with the bits asked for
   pub record TakesFrom (most home g mask : ℕ) (done : List Did) (v w : View X) : Type 0 where

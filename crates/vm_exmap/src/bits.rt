@@ -4,17 +4,18 @@ ghost use Rattle.vm_core.specs.Words.{in_mask};
 ghost use Rattle.vm_rule.specs.Bundles.{frames_in};
 ghost use Rattle.vm_exmap.specs.Returns.{is_of};
 
+use vm_core::FRAMES;
 use vm_step::Batch;
 
 /// The frames of bundle `g` whose bits are set, by rising number.
 pub(crate) fn frames_of(g: u32, mask: u64) -> Batch
-    requires { g * 64 < 2 ^ 32 }
+    requires { g * FRAMES < 2 ^ 32 }
     ensures { result ≡ frames_in g mask }
 {
     let mut frames = Batch::new();
     for i in 0..u64::BITS {
         if mask >> i & 1 == 1 {
-            frames.push(64 * g + i);
+            frames.push(FRAMES as u32 * g + i);
         }
     }
     frames
@@ -26,8 +27,8 @@ pub(crate) fn mask_of(frames: &[u32], g: u32) -> u64
 {
     let mut mask = 0;
     for frame in frames {
-        if *frame / 64 == g {
-            mask |= 1 << (*frame % 64);
+        if *frame / FRAMES as u32 == g {
+            mask |= 1 << (*frame % FRAMES as u32);
         }
     }
     mask

@@ -1,18 +1,21 @@
 // A pass's own store of free frames over the bundles that all passes share: frames are taken from a bundle and given back in batches, each
 // by one step on the bundle's word.
 ghost use Rattle.std.specs.Prelude.{◌≡◌, ◌≤◌, ◌+◌, ◌-◌, ◌^◌, ◌++◌, ℕ, [], length, min};
+ghost use Rattle.vm_core.specs.declared.words.TheConstants.{FRAMES};
 ghost use Rattle.vm_exmap.specs.Frames.{AreHeld};
+ghost use Rattle.vm_step.specs.Alone.{IsAlone};
 ghost use Rattle.vm_step.specs.Passes.{IsSamePass, view};
 ghost use Rattle.vm_step.specs.Ready.{IsReady};
 ghost use Rattle.vm_exmap.specs.Returns.{AreGiven, IsFreed};
-ghost use Rattle.vm_exmap.specs.Walks.{HandsOut, IsAlloc};
+ghost use Rattle.vm_exmap.specs.Walks.{HandsOut, IsAlloc, NotLost};
 
 use crate::bits::mask_of;
 use crate::walk::walk;
 use vm_block::Block;
+use vm_core::FRAMES;
 use vm_owner::Owner;
 use vm_rule::words::{Pass, Words};
-use vm_step::{Batch, FRAMES, Saw, give};
+use vm_step::{Batch, Saw, give};
 
 /// What an allocation answers.
 #[derive(Drop)]
@@ -32,13 +35,13 @@ pub struct Interface {
     pub cap: u32,
     pub frames: Batch,
     pub swept: u64,
-    pub ghost fits: { (1 ≤ cap) × (cap ≤ 64) },
+    pub ghost fits: { (1 ≤ cap) × (cap ≤ FRAMES) },
 }
 
 impl Interface {
     /// An interface without a frame. Its home is taken modulo the number of bundles; `cap` is 1 to 64.
     pub fn new(home: u32, cap: u32) -> Interface
-        requires { (1 ≤ cap) × (cap ≤ 64) }
+        requires { (1 ≤ cap) × (cap ≤ FRAMES) }
         ensures { (result.home ≡ home) × (result.cap ≡ cap) × (result.frames ≡ []) × (result.swept ≡ 0) }
     {
         Interface {
@@ -59,7 +62,7 @@ impl Interface {
     ) -> Alloc
         requires ready { IsReady words.now.table.shared.key B.tells words.now.table.shared.table_id pass.old }
         requires frames { AreHeld self.old.frames (view pass.old) }
-        requires count { (1 ≤ n) × (n ≤ 64) }
+        requires count { (1 ≤ n) × (n ≤ FRAMES) }
         ensures pass { IsSamePass pass.old pass.new }
         ensures ready { IsReady words.now.table.shared.key B.tells words.now.table.shared.table_id pass.new }
         ensures same { (self.new.home ≡ self.old.home) × (self.new.cap ≡ self.old.cap) × (self.new.swept ≡ self.old.swept) }
@@ -67,6 +70,7 @@ impl Interface {
         ensures some { (batch : _) → result ≡ Alloc.Batch batch → (1 ≤ length batch) × (length batch ≤ n) }
         ensures batch { (batch : _) → result ≡ Alloc.Batch batch → AreHeld (batch ++ self.new.frames) (view pass.new) }
         ensures held { AreHeld self.new.frames (view pass.new) }
+        ensures sure { IsAlone (view pass.old) → NotLost result }
     {
         if !self.frames.is_empty() {
             return Alloc::Batch(self.hand_out(n));

@@ -7,10 +7,10 @@ ghost use Rattle.vm_step.specs.Ready.{IsReady};
 use crate::bits::frames_of;
 use crate::interface::Alloc;
 use vm_block::Block;
-use vm_core::Bundle;
+use vm_core::{Bundle, FRAMES};
 use vm_owner::Owner;
 use vm_rule::words::{Pass, Words};
-use vm_step::{At, FRAMES, Saw, Took, bload, take};
+use vm_step::{At, Saw, Took, bload, take};
 
 /// What came of a visit to a bundle.
 pub(crate) enum Visited {
@@ -30,7 +30,7 @@ pub(crate) fn visit<U: Owner, B: Block>(
     most: u32,
 ) -> Visited
     requires ready { IsReady words.now.table.shared.key B.tells words.now.table.shared.table_id pass.old }
-    requires bundle { g * 64 < words.now.table.shared.key.frames }
+    requires bundle { g * FRAMES < words.now.table.shared.key.frames }
     requires some { 1 ≤ most }
     ensures pass { IsSamePass pass.old pass.new }
     ensures ready { IsReady words.now.table.shared.key B.tells words.now.table.shared.table_id pass.new }

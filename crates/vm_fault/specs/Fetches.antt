@@ -1,6 +1,7 @@
 -- What bringing a page into a frame answers. A page that was evicted is released at its next version with the words that it had: resident in
 -- the frame, or evicted again where its block could not be read.
 use Rattle.std.specs.Prelude.{ℕ, true, List, [], ◌∷◌, ◌++◌, ◌≡◌, ◌≢◌, ◌⊎◌, ◌+◌, ◌<◌, ◌≤◌, slice_index, Some, None}
+use Rattle.vm_page.specs.declared.buf.TheConstants.{WORDS}
 use Rattle.vm_core.specs.Fn as fns
 use Rattle.vm_core.specs.Words.{state_of, version_of, word_of, UNLOCKED, EVICTED, MAX_VERSION}
 use Rattle.vm_core.specs.FrameActs.{trans_word}
@@ -71,7 +72,7 @@ module _ {X : Type 0} where
     pub words : List ℕ
     pub released : IsReleasedAs UNLOCKED p version words done v w
     pub mapped : HasWritten done (places.Translation p) (trans_word (Some (clean_in f)))
-    pub stored : v.start.tells ≡ true → (i : ℕ) → i < 64 → HasWritten done (places.Content f i) (slice_index words i)
+    pub stored : v.start.tells ≡ true → (i : ℕ) → i < WORDS → HasWritten done (places.Content f i) (slice_index words i)
     pub frames : w.frames ≡ without f v.frames
     pub notes : w.notes ≡ v.notes
 

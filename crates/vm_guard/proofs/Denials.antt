@@ -18,6 +18,7 @@ use Rattle.vm_guard.specs.Quiet.{IsQuiet}
 use Rattle.vm_guard.specs.Takes.{SaysWhy}
 use Rattle.vm_guard.proofs.QuietSteps.{look-quiet, quiet-then}
 use Rattle.vm_guard.proofs.Sure.{alone-on, look-current, look-leaves, lost-leaves}
+use Rattle.vm_guard.proofs.Unmarking.{load-unmarks, lost-unmarks}
 
 word-shows : (expects : ℕ → ℕ → Type 0) (p word : ℕ) (d : Deny) → SaysWhy p word d → IsEvidence NoWord expects (did_load (places.State p) word ∷ []) p d
 word-shows expects p word (denies.Again saw) why =
@@ -42,7 +43,7 @@ word-shows expects p word (denies.Worn q) why = (why.0, record { word = word; gi
 
 module _ {X : Type 0} (tied : Start → ℕ → List ℕ → ℕ → List ℕ → Type 0) (allowed : Deny → Type 0) (instead : ℕ → ℕ → Type 0) where
   pub denied-at-once : (p word : ℕ) (d : Deny) (v w : View X) → LookTold tied p None word v w → SaysWhy p word d → allowed d → IsDenied allowed NoWord instead p d v w
-  denied-at-once p word d v w t why kind = record { done = did_load (places.State p) word ∷ []; quiet = look-quiet tied p word v w t; evidence = word-shows instead p word d why; kind = kind; table = look-leaves tied p None word v w t; current = look-current tied p None word v w t }
+  denied-at-once p word d v w t why kind = record { done = did_load (places.State p) word ∷ []; quiet = look-quiet tied p word v w t; evidence = word-shows instead p word d why; kind = kind; table = look-leaves tied p None word v w t; leaves = (load-unmarks p (places.State p) word, tt); current = look-current tied p None word v w t }
 
   pub denied-lost : (p word expects found new : ℕ) (v u w : View X) → LookTold tied p None word v u → IsQuiet p (did_exchange (places.State p) expects found new ∷ []) u w
       → (word ≡ expects) ⊎ instead word expects → found ≢ expects → allowed (denies.Again (record { at = ats.Page p; first = expects; seen = found }))
@@ -53,6 +54,7 @@ module _ {X : Type 0} (tied : Start → ℕ → List ℕ → ℕ → List ℕ �
     evidence = (refl, lost-saw instead p word expects found new from ne);
     kind = kind;
     table = λ a. lost-leaves p expects found new u w quiet ne (alone-on tied p word v u t a) ∙ look-leaves tied p None word v u t a;
+    leaves = (load-unmarks p (places.State p) word, lost-unmarks p expects found new ne);
     current = quiet.alone.current (look-current tied p None word v u t);
   }
 

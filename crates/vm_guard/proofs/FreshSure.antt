@@ -1,5 +1,5 @@
 -- A pass that is alone is given the fresh pages that it knows can be locked.
-use Rattle.std.proofs.Common.{ℕ, ◌≡◌, ◌≢◌, ◌+◌, ◌<◌, ◌≤◌, Option, None, List, [], ◌∷◌, refl, sym, subst, ◌∙◌, ⊎_elim, arith}
+use Rattle.std.proofs.Common.{ℕ, ◌≡◌, ◌≢◌, ◌+◌, ◌<◌, ◌≤◌, Option, None, List, [], ◌∷◌, refl, sym, subst, ◌∙◌, ⊎_elim, inl, inr, arith}
 use Rattle.vm_core.specs.declared.event.Mapping.{Mapping}
 use Rattle.vm_core.specs.Words.{state_of, version_of}
 use Rattle.vm_owner.specs.Kept.{Start}
@@ -10,13 +10,15 @@ use Rattle.vm_rule.specs.Log.{did_load}
 use Rattle.vm_rule.specs.Locks.{LockTold}
 use Rattle.vm_rule.specs.Looks.{LookTold}
 use Rattle.vm_rule.specs.Nexts.{NextTold, next_view}
-use Rattle.vm_step.specs.Alone.{IsAlone}
+use Rattle.vm_step.specs.Alone.{IsAlone, LocksNone}
 use Rattle.vm_step.proofs.Alone.{found-known, same-word, still-alone, words-known}
 use Rattle.vm_guard.specs.declared.deny.Deny.{Deny}
 use Rattle.vm_guard.specs.declared.deny.Deny.TheVariants as denies
-use Rattle.vm_guard.specs.Denied.{AgainOrWorn, SameOrUnlocked}
-use Rattle.vm_guard.specs.Fresh.{Seizes}
-use Rattle.vm_guard.specs.Sure.{IsFree, MayBeGiven, MayBeSeized, known_next, known_word}
+use Rattle.vm_guard.specs.declared.given.Fresh.{Fresh}
+use Rattle.vm_guard.specs.declared.given.Fresh.TheVariants as answers
+use Rattle.vm_guard.specs.Denied.{AgainOrWorn, OnlyWorn, SameOrUnlocked}
+use Rattle.vm_guard.specs.Fresh.{IsPages, IsPagesOrWorn, Seizes}
+use Rattle.vm_guard.specs.Sure.{IsFree, MayBeGiven, MayBeSeized, MayBeTried, known_next, known_word}
 use Rattle.vm_guard.specs.Takes.{SaysWhy}
 use Rattle.vm_guard.proofs.Amid.{nload-amid}
 use Rattle.vm_guard.proofs.FreshKnown.{next-known, others-known}
@@ -39,21 +41,47 @@ seize-refused p word (denies.Worn q) why kind may =
     let below : version_of word < 72057594037927935 = may.1 in
     omega (arith, below, last)
 
--- and its word is the one that the lock expects
-seize-expected : (word expects : ℕ) → SameOrUnlocked word expects → MayBeSeized word → expects ≡ word
-seize-expected word expects kept may =
+-- one that is locked by nobody is refused at once where it is worn alone
+pub refused-worn : (p word : ℕ) (d : Deny) → SaysWhy p word d → AgainOrWorn d → LocksNone word → OnlyWorn d
+refused-worn p word (denies.Again saw) why kind none =
+    let full : state_of word ≡ 253 = why.1 in
     ⊎_elim
-    (λ (free : IsFree word). free-expected word expects kept free)
-    (λ (gone : state_of word ≡ 255). ⊎_elim (λ (e : expects ≡ word). e) (λ h. let few : state_of word < 253 = h.1 in absurd (omega (arith, gone, few))) kept)
-    may.0
+    (λ (e : state_of word ≡ 0). omega (arith, e, full))
+    (λ h. ⊎_elim (λ (e : state_of word ≡ 254). omega (arith, e, full)) (λ (e : state_of word ≡ 255). omega (arith, e, full)) h)
+    none
+refused-worn p word (denies.Need q) why kind none = kind
+refused-worn p word (denies.Crowded q) why kind none = kind
+refused-worn p word (denies.Worn q) why kind none = tt
+
+-- a page that can be locked is locked by nobody
+pub seized-none : (word : ℕ) → MayBeSeized word → LocksNone word
+seized-none word may = ⊎_elim (λ (free : IsFree word). ⊎_elim (λ e. inl e) (λ e. inr (inl e)) free) (λ e. inr (inr e)) may.0
+
+-- and the word of one that is locked by nobody is the one that the lock expects
+seize-expected : (word expects : ℕ) → SameOrUnlocked word expects → LocksNone word → expects ≡ word
+seize-expected word expects kept none =
+    ⊎_elim
+    (λ e. free-expected word expects kept (inl e))
+    (λ h. ⊎_elim
+    (λ e. free-expected word expects kept (inr e))
+    (λ (gone : state_of word ≡ 255). ⊎_elim (λ (e : expects ≡ word). e) (λ k. let few : state_of word < 253 = k.1 in absurd (omega (arith, gone, few))) kept)
+    h)
+    none
+
+-- pages that were given are an answer of pages, or that one is worn
+pub pages-settle : (f : Fresh) → IsPages f → IsPagesOrWorn f
+pages-settle (answers.Pages group) given = tt
+pages-settle (answers.Again saw) given = given
+pages-settle (answers.Worn p) given = tt
+pages-settle (answers.Full pages next need) given = given
 
 module _ {X : Type 0} where
   -- so that lock is not lost
   pub seize-sure : (tied : Start → ℕ → List ℕ → ℕ → List ℕ → Type 0) (p word expects found : ℕ) (v u w : View X) → LookTold tied p None word v u → LockTold tied p expects found u w → SameOrUnlocked word expects → found ≢ expects
-      → IsAlone v → MayBeSeized (known_word p v) → ⊥
-  seize-sure tied p word expects found v u w look lock kept ne a may =
+      → IsAlone v → LocksNone (known_word p v) → ⊥
+  seize-sure tied p word expects found v u w look lock kept ne a none =
       let here : word ≡ known_word p v = look-finds tied p None word v u look a in
-      ne (lock-finds tied p word v u look a expects found w lock ∙ sym (seize-expected word expects kept (subst MayBeSeized (sym here) may)))
+      ne (lock-finds tied p word v u look a expects found w lock ∙ sym (seize-expected word expects kept (subst LocksNone (sym here) none)))
 
   -- the next word that is loaded is the one that the pass knew
   pub next-found : (found : ℕ) (v u : View X) → NextTold found v u → IsAlone v → found ≡ known_next v
@@ -77,19 +105,33 @@ module _ {X : Type 0} where
   pub seized-next : (p version : ℕ) (stands : Option Mapping) (v u : View X) → Seizes p version stands v u → IsAlone v → known_next u ≡ known_next v
   seized-next p version stands v u s a = next-known (p ∷ []) s.done v u s.amid (unmoved-at p s.done s.places_are) a
 
-  -- the first page can be locked once the next word is loaded
-  pub first-sure : (n x : ℕ) (v u : View X) → NextTold x v u → IsAlone v → MayBeGiven n v → 1 ≤ n → MayBeSeized (known_word x u)
-  first-sure n x v u t a may some =
+  -- what the pass knows of the word of each page from the next one on, it knows of the first page once the next word is loaded
+  first-word : (P : ℕ → Type 0) (n x : ℕ) (v u : View X) → NextTold x v u → IsAlone v → ((q : ℕ) → known_next v ≤ q → q < known_next v + n → P (known_word q v)) → 1 ≤ n → P (known_word x u)
+  first-word P n x v u t a each some =
       let here : x ≡ known_next v = next-found x v u t a in
-      subst MayBeSeized (sym (loaded-word x x v u t a)) (may.each x (omega (arith, here)) (omega (arith, here, some)))
+      subst P (sym (loaded-word x x v u t a)) (each x (omega (arith, here)) (omega (arith, here, some)))
 
-  -- and the second one once the first is locked
-  pub second-sure : (x version : ℕ) (stands : Option Mapping) (v u z : View X) → NextTold x v u → IsAlone v → MayBeGiven 2 v → Seizes x version stands u z → MayBeSeized (known_word (x + 1) z)
-  second-sure x version stands v u z t a may s =
+  -- and of the second one once the first is locked
+  second-word : (P : ℕ → Type 0) (x version : ℕ) (stands : Option Mapping) (v u z : View X) → NextTold x v u → IsAlone v → known_next v + 2 ≤ v.start.pages
+      → ((q : ℕ) → known_next v ≤ q → q < known_next v + 2 → P (known_word q v)) → Seizes x version stands u z → P (known_word (x + 1) z)
+  second-word P x version stands v u z t a room each s =
       let here : x ≡ known_next v = next-found x v u t a in
-      let room : known_next v + 2 ≤ v.start.pages = may.room in
       let page : x + 1 < v.start.pages = omega (arith, here, room) in
-      subst MayBeSeized
+      subst P
       (sym (others-known (x ∷ []) s.done u z s.amid (loaded-alone x v u t a) (places.State (x + 1)) (subst (λ (o : Origin). x + 1 < o.pages) (sym (nload-amid [] x v u t).start) page) (apart-second x)
       ∙ loaded-word x (x + 1) v u t a))
-      (may.each (x + 1) (omega (arith, here)) (omega (arith, here)))
+      (each (x + 1) (omega (arith, here)) (omega (arith, here)))
+
+  -- so these pages can be locked
+  pub first-sure : (n x : ℕ) (v u : View X) → NextTold x v u → IsAlone v → MayBeGiven n v → 1 ≤ n → MayBeSeized (known_word x u)
+  first-sure n x v u t a may some = first-word MayBeSeized n x v u t a may.each some
+
+  pub second-sure : (x version : ℕ) (stands : Option Mapping) (v u z : View X) → NextTold x v u → IsAlone v → MayBeGiven 2 v → Seizes x version stands u z → MayBeSeized (known_word (x + 1) z)
+  second-sure x version stands v u z t a may s = second-word MayBeSeized x version stands v u z t a may.room may.each s
+
+  -- or are locked by nobody
+  pub first-none : (n x : ℕ) (v u : View X) → NextTold x v u → IsAlone v → MayBeTried n v → 1 ≤ n → LocksNone (known_word x u)
+  first-none n x v u t a may some = first-word LocksNone n x v u t a may.each some
+
+  pub second-none : (x version : ℕ) (stands : Option Mapping) (v u z : View X) → NextTold x v u → IsAlone v → MayBeTried 2 v → Seizes x version stands u z → LocksNone (known_word (x + 1) z)
+  second-none x version stands v u z t a may s = second-word LocksNone x version stands v u z t a may.room may.each s

@@ -226,6 +226,7 @@ module _ {X : Type 0} where
             ∙ ap (λ (x : Version). x.words) (release-last v (v.releases ++ []) r q ne)
             ∙ ap (λ (rs : List Release). (last_in v.start rs q).words) (append-none v.releases);
         wrote = record { earlier = []; step = did; later = []; cut = refl; place = refl; wrote = refl };
+        places_are = (refl, tt);
         table = λ a. ((release-elsewhere p version [] said v w t).steady.alone.words a.0 a.1).1;
         free = λ a.
             let below : version < MAX_VERSION = h.below in

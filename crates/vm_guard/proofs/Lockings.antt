@@ -1,5 +1,5 @@
 -- An exclusive lock that was taken: the look, the exchange, and the load of the translation word.
-use Rattle.std.proofs.Common.{ℕ, ◌≡◌, ◌≢◌, ◌<◌, true, List, [], ◌∷◌, length, Option, Some, None, IsSome, refl, sym, ap, subst, ◌∙◌, inl, eqb}
+use Rattle.std.proofs.Common.{ℕ, ◌≡◌, ◌≢◌, ◌<◌, true, List, [], ◌∷◌, length, Option, Some, None, IsSome, refl, sym, ap, subst, ◌∙◌, inl, inr, eqb}
 use Rattle.std.proofs.lemmas.Bool.{cond-true, eq-eqb, or_left}
 use Rattle.vm_core.specs.declared.event.Mapping.{Mapping}
 use Rattle.vm_core.specs.declared.event.Seat.{Seat}
@@ -146,4 +146,5 @@ module _ {X : Type 0} (tied : Start → ℕ → List ℕ → ℕ → List ℕ �
         };
         table = λ a. (elsewhere.steady.alone.words a.0 a.1).1.1.1 ∙ ap (λ (o : Option ℕ). set_if o p v.snapshot.words) written;
         current = ap (λ (y : View X). y.current) load.brings.view;
+        places_are = (inl refl, (inl refl, (inr refl, tt)));
       }

@@ -1,5 +1,5 @@
 -- An open read stays as it is over steps that leave its page, and over loads of its words.
-use Rattle.std.proofs.Common.{ℕ, ◌≡◌, ◌≢◌, ◌<◌, ◌+◌, List, [], ◌∷◌, ◌++◌, length, take, suc, refl, sym, ap, subst, ◌∙◌, append_assoc, slice_set, arith}
+use Rattle.std.proofs.Common.{ℕ, ◌≡◌, ◌≢◌, ◌<◌, ◌+◌, None, List, [], ◌∷◌, ◌++◌, length, take, suc, refl, sym, ap, subst, ◌∙◌, append_assoc, slice_set, arith}
 use Rattle.std.proofs.lemmas.List.{take_more_set, length-take-le}
 use Rattle.vm_core.specs.FrameActs.{open_frame}
 use Rattle.vm_rule.specs.declared.view.Did.{Did}
@@ -12,6 +12,7 @@ use Rattle.vm_rule.specs.Rule.{no_held}
 use Rattle.vm_rule.specs.Log.{did_load}
 use Rattle.vm_rule.specs.Loads.{LoadTold}
 use Rattle.vm_rule.proofs.Entries.{append-none}
+use Rattle.vm_rule.proofs.Heard.{each-both}
 use Rattle.vm_step.specs.Asides.{HoldsPage}
 use Rattle.vm_step.proofs.Alone.{still-alone}
 use Rattle.vm_guard.specs.Quiet.{IsQuiet}
@@ -59,11 +60,12 @@ module _ {X : Type 0} (p word frame : ℕ) where
         reads = reading-kept v w r quiet.steady.start (quiet.holds p) (λ l. (quiet.knows p l).held) (loaded-reading p frame i found v w t);
         loads = loaded-loads p frame i found frame v w t (ap open_frame r.reading);
         table = λ a. (quiet.steady.alone.words a.0 a.1).1;
+        leaves = (refl, tt);
       }
 
   -- no word was
   pub none-loaded : (v : View X) → IsReading p word frame v → Loads p word frame [] v v
-  none-loaded v r = record { done = []; quiet = quiet-none p v; reads = r; loads = sym (append-none (loads_at v p)); table = λ _. refl }
+  none-loaded v r = record { done = []; quiet = quiet-none p v; reads = r; loads = sym (append-none (loads_at v p)); table = λ _. refl; leaves = tt }
 
   -- some words, and then others
   pub loaded-then : (a b : List (ℕ × ℕ)) (u v w : View X) → Loads p word frame a u v → Loads p word frame b v w → Loads p word frame (a ++ b) u w
@@ -73,4 +75,5 @@ module _ {X : Type 0} (p word frame : ℕ) where
     reads = g.reads;
     loads = g.loads ∙ ap (λ (l : List (ℕ × ℕ)). l ++ b) f.loads ∙ append_assoc (loads_at u p) a b;
     table = λ alone. g.table (still-alone u v f.quiet.steady.parts f.quiet.alone.current alone) ∙ f.table alone;
+    leaves = each-both (λ (d : Did). d.wrote ≡ None) f.done g.done f.leaves g.leaves;
   }

@@ -28,8 +28,8 @@ use Rattle.vm_guard.specs.Denied.{AgainOrNeed, IsDenied}
 use Rattle.vm_guard.proofs.QuietSteps.{quiet-then, look-quiet, translation-quiet, still-locking}
 use Rattle.vm_guard.proofs.Reading.{reading-kept}
 use Rattle.vm_guard.proofs.Sure.{look-current, look-leaves, moved-words, start-known, start-words}
-use Rattle.vm_guard.proofs.Unmarking.{quiet-foreign, unmarking-quiet}
-use Rattle.vm_guard.proofs.OpenReads.{left-same, looked-loads, looked-open, looked-same, translated-keeps, translated-loads, named, mapped-frame, reads-by, holds-back}
+use Rattle.vm_guard.proofs.Unmarking.{load-unmarks, quiet-foreign, unmarking-quiet, unmarking-unmarks, unmarks-both}
+use Rattle.vm_guard.proofs.OpenReads.{left-same, looked-loads, looked-open, looked-same, translated-keeps, translated-loads, translated-reading, named, mapped-frame, reads-by, holds-back}
 
 -- a fact of a step in the middle
 pub each-at : {A : Type 0} (P : A → Type 0) (l : List A) (d : A) (m : List A) → Each P (l ++ d ∷ m) → P d
@@ -54,6 +54,7 @@ module _ {X : Type 0} (tied : Start → ℕ → List ℕ → ℕ → List ℕ �
     evidence = (refl, record { word = first; given = record { earlier = []; step = did_load (places.State p) first; later = []; cut = refl; gives = (refl, refl) }; evicted = e; foreign = tt });
     kind = may;
     table = look-leaves tied p None first v w t;
+    leaves = (load-unmarks p (places.State p) first, tt);
     current = look-current tied p None first v w t;
   }
 
@@ -80,6 +81,7 @@ module _ {X : Type 0} (tied : Start → ℕ → List ℕ → ℕ → List ℕ �
     );
     kind = may;
     table = look-leaves tied p None first v w t;
+    leaves = (load-unmarks p (places.State p) first, tt);
     current = look-current tied p None first v w t;
   }
 
@@ -117,6 +119,10 @@ module _ {X : Type 0} (tied : Start → ℕ → List ℕ → ℕ → List ℕ �
           );
           kind = tt;
           table = λ a. moved-words tied p first word seen u v y x w l c t m a why;
+          leaves = (
+            load-unmarks p (places.State p) first,
+            unmarks-both p c.done later-steps (unmarking-unmarks p first c.done c.clears) (load-unmarks p (places.Translation p) word, (load-unmarks p (places.State p) seen, tt)),
+          );
           current = look-current tied p None seen x w m;
         }
 
@@ -140,6 +146,13 @@ module _ {X : Type 0} (tied : Start → ℕ → List ℕ → ℕ → List ℕ �
       -- the translation word names a frame
       pub names-frame : frame_in word ≡ None → ⊥
       names-frame e = none-some names.0 (sym e ∙ names.1)
+
+      -- the second look finds the read that the first one opened
+      pub looks-same : left_at seen (seat_of x p).reading ≡ opens.Same
+      looks-same =
+          let o = looked-open tied p None first u v l readable in
+          let k = translated-reading p word y x o.0 t (c.reads.reading ∙ o.1) in
+          ap (left_at seen) k.1 ∙ left-same seen k.0 still (k.2 ∙ o.2 ∙ sym at)
 
       -- an earlier guard of the page, at the version found, reads on; one at an earlier version was left
       stays : (kept frame : ℕ) → IsReading p kept frame u → (IsReading p kept frame w × (loads_at w p ≡ loads_at u p)) ⊎ HasLeft p kept w

@@ -1,5 +1,5 @@
 -- The mark of a page is taken away, or was not there: one exchange, or no step. It leaves the view, and the word that it leaves is none that
--- a later look denies a call by.
+-- a later look denies a call by; and which steps leave at most an Unlocked word on the page.
 use Rattle.std.proofs.Common.{ℕ, ◌≡◌, ◌≢◌, ◌⊎◌, Some, None, List, [], ◌∷◌, ◌++◌, refl, sym, ap, subst, ◌∙◌, ⊎_elim, arith, eqb, inl, inr}
 use Rattle.std.proofs.lemmas.Bool.{cases_eq, cond-true, cond-false, eq-eqb, ne_eqb}
 use Rattle.vm_core.specs.Words.{state_of, version_of, word_of, UNLOCKED, LOCKED, MARKED}
@@ -9,11 +9,12 @@ use Rattle.vm_rule.specs.declared.view.Place.{Place}
 use Rattle.vm_rule.specs.declared.view.Place.TheVariants as places
 use Rattle.vm_rule.specs.declared.view.View.{View}
 use Rattle.vm_rule.specs.Views.{Each}
-use Rattle.vm_rule.specs.Log.{did_exchange}
+use Rattle.vm_rule.specs.Log.{did_exchange, did_load}
 use Rattle.vm_rule.specs.Locks.{MarkTold}
 use Rattle.vm_rule.proofs.WordFacts.{version-within, word-state, word-version}
 use Rattle.vm_step.specs.Evidence.{AreQuiet}
-use Rattle.vm_guard.specs.Guards.{AreUnmarking, IsUnmarked}
+use Rattle.vm_guard.specs.Guards.{AreUnmarking, Begins, IsUnmarked}
+use Rattle.vm_guard.specs.Quiet.{LeavesNone, OnlyUnmarks}
 use Rattle.vm_guard.proofs.QuietSteps.{mark-quiet, quiet-none, still-reads}
 
 -- an exchange leaves no word but the new one
@@ -49,6 +50,52 @@ unmarking-quiet p first seen done more steps why quiet =
 pub quiet-foreign : (at : Place) (seen : ℕ) (done : List Did) → AreQuiet at seen done → Each (λ (d : Did). d.at ≡ at → d.wrote ≢ Some seen) done
 quiet-foreign at seen [] quiet = tt
 quiet-foreign at seen (d ∷ ds) quiet = ((λ here. (quiet.0 here).0), quiet-foreign at seen ds quiet.1)
+
+-- ---- steps that leave at most an Unlocked word
+
+-- a load leaves none
+pub load-unmarks : (p : ℕ) (at : Place) (found x : ℕ) → (did_load at found).wrote ≡ Some x → ((did_load at found).at ≡ places.State p) × (state_of x ≡ UNLOCKED)
+load-unmarks p at found x e = absurd (none-some x e)
+
+-- nor does an exchange that was lost
+pub lost-unmarks : (p expects found new : ℕ) → found ≢ expects → OnlyUnmarks p (did_exchange (places.State p) expects found new ∷ [])
+lost-unmarks p expects found new ne = ((λ x e. absurd (none-some x (sym (cond-false (eqb found expects) (Some new) None (ne_eqb found expects ne)) ∙ e))), tt)
+
+pub unmarks-both : (p : ℕ) (a b : List Did) → OnlyUnmarks p a → OnlyUnmarks p b → OnlyUnmarks p (a ++ b)
+unmarks-both p [] b f g = g
+unmarks-both p (d ∷ a) b f g = (f.0, unmarks-both p a b f.1 g)
+
+-- steps that leave no word
+pub none-unmarks : (p : ℕ) (done : List Did) → LeavesNone done → OnlyUnmarks p done
+none-unmarks p [] f = tt
+none-unmarks p (d ∷ ds) f = ((λ x e. absurd (none-some x (sym f.0 ∙ e))), none-unmarks p ds f.1)
+
+-- the steps that take a mark away
+pub unmarking-unmarks : (p first : ℕ) (done : List Did) → AreUnmarking p first done → OnlyUnmarks p done
+unmarking-unmarks p first done steps =
+    ⊎_elim
+    (λ n. subst (λ (d : List Did). OnlyUnmarks p d) (sym n.1) tt)
+    (λ y. subst (λ (d : List Did). OnlyUnmarks p d) (sym y.1.1) ((λ x e. (refl, exchanged y.1.0 x e)), tt))
+    steps
+  where
+    new : ℕ
+    new = word_of UNLOCKED (version_of first)
+
+    exchanged : (found x : ℕ) → (did_exchange (places.State p) first found new).wrote ≡ Some x → state_of x ≡ UNLOCKED
+    exchanged found x e =
+        ⊎_elim
+        (λ same. ap state_of (sym (some-same new x (sym (cond-true (eqb found first) (Some new) None (eq-eqb found first same)) ∙ e))) ∙ word-state UNLOCKED (version_of first) (version-within first))
+        (λ apart. absurd (none-some x (sym (cond-false (eqb found first) (Some new) None (ne_eqb found first apart)) ∙ e)))
+        (cases_eq found first)
+
+-- so the steps of an optimistic guard that begins
+pub begun-unmarks : {X : Type 0} (p word frame : ℕ) (v w : View X) (b : Begins p word frame v w) → OnlyUnmarks p b.done
+begun-unmarks p word frame v w b =
+    let later : List Did = did_load (places.Translation p) b.translation ∷ did_load (places.State p) word ∷ [] in
+    subst (λ (d : List Did). OnlyUnmarks p d) (sym b.cut) (
+      load-unmarks p (places.State p) b.first,
+      unmarks-both p b.clearing later (unmarking-unmarks p b.first b.clearing b.clears) (load-unmarks p (places.Translation p) b.translation, (load-unmarks p (places.State p) word, tt)),
+    )
 
 module _ {X : Type 0} where
   -- the exchange, whatever it found

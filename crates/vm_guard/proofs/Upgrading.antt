@@ -30,6 +30,7 @@ use Rattle.vm_guard.specs.Denied.{AgainOrWorn, IsDenied, KeptWord, SameOrUnlocke
 use Rattle.vm_guard.specs.Takes.{IsToExpect}
 use Rattle.vm_guard.proofs.QuietSteps.{IsAside, elsewhere-then, lock-lost, lock-taken, look-quiet, lost-view, quiet-elsewhere, translation-quiet}
 use Rattle.vm_guard.proofs.Sure.{look-current, look-leaves, lost-leaves}
+use Rattle.vm_guard.proofs.Unmarking.{load-unmarks, lost-unmarks}
 use Rattle.vm_guard.proofs.Validating.{left-since}
 use Rattle.vm_guard.proofs.Expecting.{expect-same}
 use Rattle.vm_guard.proofs.Leaving.{older-read}
@@ -67,6 +68,7 @@ module _ {X : Type 0} (tied : Start → ℕ → List ℕ → ℕ → List ℕ �
         evidence = (refl, record { word = found; given = record { earlier = []; step = did_load (places.State p) found; later = []; cut = refl; gives = (refl, refl) }; last = omega (arith, low, high, last); foreign = tt });
         kind = tt;
         table = look-leaves tied p None found v w t;
+        leaves = (load-unmarks p (places.State p) found, tt);
         current = look-current tied p None found v w t;
       }
 
@@ -95,6 +97,7 @@ module _ {X : Type 0} (tied : Start → ℕ → List ℕ → ℕ → List ℕ �
         );
         kind = tt;
         table = lost-leaves p expects found (word_of LOCKED (version_of expects)) v w (lock-lost tied p expects found v w ne t) ne;
+        leaves = lost-unmarks p expects found (word_of LOCKED (version_of expects)) ne;
         current = ap (λ (x : View X). x.current) (lost-view did expects found v (locked_view p t.held (last_of w p).words v) w ne t.brings).view;
       }
 
@@ -132,4 +135,5 @@ module _ {X : Type 0} (tied : Start → ℕ → List ℕ → ℕ → List ℕ �
         };
         table = λ a. (elsewhere.steady.alone.words a.0 a.1).1.1 ∙ ap (λ (o : Option ℕ). set_if o p v.snapshot.words) written;
         current = ap (λ (y : View X). y.current) load.brings.view;
+        places_are = (inl refl, (inr refl, tt));
       }

@@ -31,6 +31,7 @@ use Rattle.vm_guard.proofs.OpenReads.{left-same, left-other, readable-state, loc
 use Rattle.vm_guard.proofs.Reading.{reading-kept}
 use Rattle.vm_guard.proofs.Starting.{each-at}
 use Rattle.vm_guard.proofs.Sure.{look-current, look-leaves}
+use Rattle.vm_guard.proofs.Unmarking.{load-unmarks}
 
 -- the word found agrees with the one that a step of the pass found or left since the guard began
 pub left-since : {X : Type 0} (p word seen : ℕ) (v : View X) (h : HasLeft p word v) → IsSinceAll p seen v.log → IsSince seen (Some h.other)
@@ -75,6 +76,7 @@ module _ {X : Type 0} (tied : Start → ℕ → List ℕ → ℕ → List ℕ �
     );
     kind = tt;
     table = look-leaves tied p said seen v w t;
+    leaves = (load-unmarks p (places.State p) seen, tt);
     current = look-current tied p said seen v w t;
   }
 
@@ -133,6 +135,7 @@ module _ {X : Type 0} (tied : Start → ℕ → List ℕ → ℕ → List ℕ �
             itself = t.itself tells same;
           };
           table = look-leaves tied p said seen v w t;
+          leaves = (refl, tt);
           current = look-current tied p said seen v w t;
         }
 
@@ -143,6 +146,10 @@ module _ {X : Type 0} (tied : Start → ℕ → List ℕ → ℕ → List ℕ �
         let readable : is_readable (state_of seen) ≡ true = readable-state (state_of seen) small unlocked (reading-resident r) in
         ap (left_at seen) r.reading ∙ left-same seen (record { version = version_of word; frame = Some frame }) readable (sym at)
 
--- so what is told where the read stays open is told
+-- what is told where the read stays open is told on a condition by which it does
+pub kept-as : {X : Type 0} (keeps : Start → Kept X → Type 0) (p : ℕ) (free when : Type 0) (w : View X) → (when → free) → IsKeptNow keeps p free w → IsKeptNow keeps p when w
+kept-as keeps p free when w so k = record { kept = k.kept; holds = k.holds; history = k.history; pages = k.pages; page = λ x. k.page (so x); members = k.members; zero = k.zero; next = k.next }
+
+-- so it is told where the read did stay open
 pub kept-valid : {X : Type 0} (keeps : Start → Kept X → Type 0) (p : ℕ) (free : Type 0) (w : View X) → free → IsKeptNow keeps p free w → IsKeptNow keeps p (Unit {0}) w
-kept-valid keeps p free w is k = record { kept = k.kept; holds = k.holds; history = k.history; pages = k.pages; page = λ _. k.page is; members = k.members }
+kept-valid keeps p free w is k = kept-as keeps p free (Unit {0}) w (λ _. is) k

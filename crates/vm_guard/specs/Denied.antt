@@ -6,7 +6,7 @@ use Rattle.vm_step.specs.declared.saw.At.TheVariants as ats
 use Rattle.vm_guard.specs.declared.deny.Deny.{Deny}
 use Rattle.vm_guard.specs.declared.deny.Deny.TheVariants as denies
 use Rattle.vm_step.specs.Evidence.{IsSaw, NeedsPage, IsCrowded, IsWorn, UnlockedExpected}
-use Rattle.vm_guard.specs.Quiet.{IsQuiet}
+use Rattle.vm_guard.specs.Quiet.{IsQuiet, OnlyUnmarks}
 use Rattle.vm_guard.specs.Sure.{KnowsSame}
 
 -- the steps of the call show why; `kept` tells the words that the call had before its first step, and `expects` which word an exchange of it
@@ -50,6 +50,13 @@ AgainOrWorn (denies.Need q) = ⊥
 AgainOrWorn (denies.Crowded q) = ⊥
 AgainOrWorn (denies.Worn q) = Unit {0}
 
+-- nothing but that the page is worn
+abbrev pub OnlyWorn : Deny → Type 0
+OnlyWorn (denies.Again saw) = ⊥
+OnlyWorn (denies.Need q) = ⊥
+OnlyWorn (denies.Crowded q) = ⊥
+OnlyWorn (denies.Worn q) = Unit {0}
+
 module _ {X : Type 0} where
   -- the call of page p was denied, with evidence, by an answer of an allowed kind
   pub record IsDenied (allowed : Deny → Type 0) (kept : ℕ → Type 0) (expects : ℕ → ℕ → Type 0) (p : ℕ) (deny : Deny) (v w : View X) : Type 0 where
@@ -58,4 +65,6 @@ module _ {X : Type 0} where
     pub evidence : IsEvidence kept expects done p deny
     pub kind : allowed deny
     pub table : KnowsSame v w
+    -- the call left at most an Unlocked word on the page's state word
+    pub leaves : OnlyUnmarks p done
     pub current : w.current ≡ true

@@ -1,6 +1,7 @@
 -- Pages that were never claimed: what a call for some of them answers. Each page given has words of zeros, is held by the pass and owed to it; on
 -- every other answer nothing is claimed, no lock is kept and the frames are as they were.
 use Rattle.std.specs.Prelude.{ℕ, Bool, true, false, Option, Some, None, List, [], ◌∷◌, ◌++◌, ◌≡◌, ◌⊎◌, ◌+◌, ◌<◌, ◌≤◌, length, replicate, reverse}
+use Rattle.vm_page.specs.declared.buf.TheConstants.{WORDS}
 use Rattle.vm_core.specs.declared.event.Mapping.{Mapping}
 use Rattle.vm_core.specs.Words.{version_of, word_of, LOCKED, MAX_VERSION}
 use Rattle.vm_core.specs.StateActs.{MayLock}
@@ -73,7 +74,7 @@ module _ {X : Type 0} where
     pub told : IsToldOf v p
     pub at : (last_of v p).version ≡ version
     pub draft : draft_of v p ≡ (last_of v p).words
-    pub size : length (last_of v p).words ≡ 64
+    pub size : length (last_of v p).words ≡ WORDS
     pub device : v.start.tells ≡ true → stands ≡ None → (held_at v p).block.words ≡ (last_of v p).words
     pub free : has p v.pending ≡ false
     pub paid : has p v.owed ≡ false
@@ -143,7 +144,7 @@ module _ {X : Type 0} where
     pub unheld : (q : ℕ) → has q pages ≡ true → IsUnheld v q
     pub seats : (q : ℕ) → has q pages ≡ true → seat_of w q ≡ record (seat_of v q) { exclusive = true; reading = None }
     pub held : GuardsHeld w gs
-    pub zero : v.start.tells ≡ true → (q : ℕ) → has q pages ≡ true → (draft_of w q ≡ replicate 64 0) × ((last_of w q).words ≡ replicate 64 0)
+    pub zero : v.start.tells ≡ true → (q : ℕ) → has q pages ≡ true → (draft_of w q ≡ replicate WORDS 0) × ((last_of w q).words ≡ replicate WORDS 0)
     pub owed : w.owed ≡ pages ++ v.owed
     pub next : w.next ≡ None
     pub taken : List ℕ
@@ -218,3 +219,17 @@ IsPages (answers.Pages group) = Unit {0}
 IsPages (answers.Again saw) = ⊥
 IsPages (answers.Worn p) = ⊥
 IsPages (answers.Full pages next need) = ⊥
+
+-- pages were given, or one is worn
+abbrev pub IsPagesOrWorn : Fresh → Type 0
+IsPagesOrWorn (answers.Pages group) = Unit {0}
+IsPagesOrWorn (answers.Again saw) = ⊥
+IsPagesOrWorn (answers.Worn p) = Unit {0}
+IsPagesOrWorn (answers.Full pages next need) = ⊥
+
+-- fewer pages were left
+abbrev pub IsFullAnswer : Fresh → Type 0
+IsFullAnswer (answers.Pages group) = ⊥
+IsFullAnswer (answers.Again saw) = ⊥
+IsFullAnswer (answers.Worn p) = ⊥
+IsFullAnswer (answers.Full pages next need) = Unit {0}

@@ -1,5 +1,6 @@
 -- The places where a call for fresh pages makes its steps, and what a pass that was alone knows of all others.
 use Rattle.std.specs.Prelude.{ℕ, true, false, List, ◌≡◌, ◌<◌}
+use Rattle.vm_page.specs.declared.buf.TheConstants.{WORDS}
 use Rattle.vm_owner.specs.Numbers.{has}
 use Rattle.vm_rule.specs.declared.view.Origin.{Origin}
 use Rattle.vm_rule.specs.declared.view.Place.{Place}
@@ -14,7 +15,7 @@ abbrev pub IsPlaceOf : Origin → List ℕ → Place → Type 0
 IsPlaceOf start pages (State p) = (p < start.pages) × (has p pages ≡ true)
 IsPlaceOf start pages (Translation p) = (p < start.pages) × (has p pages ≡ true)
 IsPlaceOf start pages (Fault p) = ⊥
-IsPlaceOf start pages (Content f i) = (f < start.frames) × (i < 64)
+IsPlaceOf start pages (Content f i) = (f < start.frames) × (i < WORDS)
 IsPlaceOf start pages (Bundle g) = ⊥
 IsPlaceOf start pages Next = Unit {0}
 IsPlaceOf start pages Hand = ⊥

@@ -1,5 +1,6 @@
 -- What guards are to the view of their pass, and what their calls answer.
 use Rattle.std.specs.Prelude.{ℕ, Bool, true, false, Option, Some, None, List, [], ◌∷◌, ◌++◌, ◌≡◌, ◌≢◌, ◌⊎◌, ◌+◌, ◌-◌, ◌^◌, ◌<◌, ◌≤◌, length, slice_set, suc}
+use Rattle.vm_page.specs.declared.buf.TheConstants.{WORDS}
 use Rattle.vm_core.specs.declared.event.Mapping.{Mapping}
 use Rattle.vm_core.specs.declared.event.Open.{Open}
 use Rattle.vm_core.specs.Words.{state_of, version_of, word_of, UNLOCKED, LOCKED, MARKED, MAX_VERSION}
@@ -12,7 +13,7 @@ use Rattle.vm_rule.specs.declared.view.Place.TheVariants as places
 use Rattle.vm_rule.specs.declared.view.Release.{Release}
 use Rattle.vm_rule.specs.declared.view.View.{View}
 use Rattle.vm_rule.specs.Puts.{put_at}
-use Rattle.vm_rule.specs.Views.{IsLocking, IsWhole, seat_of, loads_at, draft_of}
+use Rattle.vm_rule.specs.Views.{Each, IsLocking, IsWhole, seat_of, loads_at, draft_of}
 use Rattle.vm_rule.specs.Reading.{last_of}
 use Rattle.vm_rule.specs.Rule.{no_held}
 use Rattle.vm_rule.specs.Brought.{entries_of}
@@ -25,7 +26,7 @@ use Rattle.vm_rule.specs.Mappings.{dirty_in}
 use Rattle.vm_step.specs.Evidence.{HasWritten}
 use Rattle.vm_step.specs.Asides.{HoldsPage, KnowsAsBefore, ReadsAsBefore, StaysAlone}
 use Rattle.vm_step.specs.Alone.{IsAlone}
-use Rattle.vm_guard.specs.Quiet.{IsSteady, IsQuiet}
+use Rattle.vm_guard.specs.Quiet.{IsSteady, IsQuiet, LeavesNone}
 use Rattle.vm_guard.specs.Sure.{IsKnownFree, KnowsBut, KnowsSame, KnowsStates, known_word, unmarked_word}
 
 -- the words of a page with their places, from i on
@@ -106,6 +107,7 @@ module _ {X : Type 0} where
     pub reads : IsReading p word frame w
     pub loads : loads_at w p ≡ loads_at v p ++ loaded
     pub table : KnowsSame v w
+    pub leaves : LeavesNone done
 
   -- the read was validated: every word loaded through it is the last version's, what is said is an entry there, every other open read is
   -- tied to the page's words, and what earlier validations tied to the page holds
@@ -121,10 +123,11 @@ module _ {X : Type 0} where
     pub same_reads : (q : ℕ) → ReadsAsBefore v w q
     pub alone : StaysAlone v w
     pub version : (last_of w p).version ≡ version_of word
-    pub size : length (last_of w p).words ≡ 64
+    pub size : length (last_of w p).words ≡ WORDS
     pub ties : w.ties ≡ ties_below v.start.pages v p (last_of w p).words ++ v.ties
     pub validates : v.start.tells ≡ true → Validates tied p (version_of word) (last_of w p).words v
     pub table : KnowsSame v w
+    pub leaves : LeavesNone done
     pub current : w.current ≡ true
 
   -- ---- exclusive guards
@@ -138,7 +141,7 @@ module _ {X : Type 0} where
     pub stands : (put_at no_held v.held p).mapping ≡ Some (record { frame = frame; dirty = dirty })
     pub told : (put_at no_held v.held p).fault ≡ (put_at no_held v.held p).block.count
     pub at : (last_of v p).version ≡ version
-    pub size : length (draft_of v p) ≡ 64
+    pub size : length (draft_of v p) ≡ WORDS
     pub free : has p v.pending ≡ false
 
   -- the call made these steps and these releases, and all but page p is as it was
@@ -166,6 +169,8 @@ module _ {X : Type 0} where
     pub current : w.current ≡ true
     -- the pass was reading the page at no later version
     pub older : (o : Open) → (seat_of v p).reading ≡ Some o → o.version ≤ version
+    -- the steps are at the page's state word, and at its translation word
+    pub places_are : Each (λ d. (d.at ≡ places.State p) ⊎ (d.at ≡ places.Translation p)) done
 
   -- page p, which the pass holds and which stood in this frame, is dirty there; nothing else has changed
   pub record IsDirtied (p frame : ℕ) (dirty : Bool) (v w : View X) : Type 0 where
@@ -210,6 +215,8 @@ module _ {X : Type 0} where
     -- a pass that is alone finds the last words of each other page as they were
     pub alone : IsWhole v → v.current ≡ true → (q : ℕ) → q ≢ p → (last_of w q).words ≡ (last_of v q).words
     pub wrote : HasWritten done (places.State p) (version + 1)
+    -- the steps are at the page's state word
+    pub places_are : Each (λ d. d.at ≡ places.State p) done
     pub table : KnowsBut p (version + 1) v w
     -- a pass that was alone knows the page to be free then, at no later version
     pub free : IsAlone v → IsKnownFree p w × (version_of (known_word p w) ≤ version + 1)
@@ -234,7 +241,7 @@ module _ {X : Type 0} where
     pub seat : seat_of w p ≡ record (seat_of v p) { shares = (seat_of v p).shares + 1; reading = None }
     pub knows : IsLocking (seat_of v p) → KnowsAsBefore v w p
     pub sharing : IsSharing p frame w
-    pub size : length (last_of w p).words ≡ 64
+    pub size : length (last_of w p).words ≡ WORDS
     pub validates : v.start.tells ≡ true → Validates tied p (last_of w p).version (last_of w p).words v
     -- the page's word has one share more
     pub table : KnowsBut p (word_of (one_more (state_of (known_word p v))) (version_of (known_word p v))) v w

@@ -1,13 +1,23 @@
 -- What a call leaves of a view that says nothing and changes no lock: the lists and the log go on, and at most the open read of one page is
 -- another.
-use Rattle.std.specs.Prelude.{ℕ, List, [], ◌++◌, ◌≡◌, ◌≢◌}
+use Rattle.std.specs.Prelude.{ℕ, Some, None, List, [], ◌++◌, ◌≡◌, ◌≢◌}
+use Rattle.vm_core.specs.Words.{state_of, UNLOCKED}
 use Rattle.vm_rule.specs.declared.view.Did.{Did}
+use Rattle.vm_rule.specs.declared.view.Place.TheVariants as places
 use Rattle.vm_rule.specs.declared.view.Release.{Release}
 use Rattle.vm_rule.specs.declared.view.Tie.{Tie}
 use Rattle.vm_rule.specs.declared.view.View.{View}
-use Rattle.vm_rule.specs.Views.{StartsWith, IsLocking, seat_of}
+use Rattle.vm_rule.specs.Views.{StartsWith, Each, IsLocking, seat_of}
 use Rattle.vm_step.specs.Alone.{RunsAlone}
 use Rattle.vm_step.specs.Asides.{HoldsPage, KnowsAsBefore, ReadsAsBefore, StaysAlone}
+
+-- the steps leave no word
+abbrev pub LeavesNone : List Did → Type 0
+LeavesNone done = Each (λ d. d.wrote ≡ None) done
+
+-- the steps leave no word but on the state word of page p, and there an Unlocked one
+abbrev pub OnlyUnmarks : ℕ → List Did → Type 0
+OnlyUnmarks p done = Each (λ d. (x : ℕ) → d.wrote ≡ Some x → (d.at ≡ places.State p) × (state_of x ≡ UNLOCKED)) done
 
 module _ {X : Type 0} where
   -- the call made these steps and these releases, and leaves the parts of the view that only calls of other kinds change

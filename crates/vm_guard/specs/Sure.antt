@@ -6,7 +6,7 @@ use Rattle.vm_rule.specs.declared.view.Place.{Place}
 use Rattle.vm_rule.specs.declared.view.Place.TheVariants as places
 use Rattle.vm_rule.specs.declared.view.View.{View}
 use Rattle.vm_rule.specs.Layout.{index_of}
-use Rattle.vm_step.specs.Alone.{IsAlone, word_at}
+use Rattle.vm_step.specs.Alone.{IsAlone, LocksNone, word_at}
 
 -- the page with this word is resident, and locked by nobody
 abbrev pub IsFree : ℕ → Type 0
@@ -50,6 +50,11 @@ module _ {X : Type 0} where
   pub record MayBeGiven (n : ℕ) (v : View X) : Type 0 where
     pub room : known_next v + n ≤ v.start.pages
     pub each : (q : ℕ) → known_next v ≤ q → q < known_next v + n → MayBeSeized (known_word q v)
+
+  -- the pass knows that there are n pages from the next one on, and that each is locked by nobody
+  pub record MayBeTried (n : ℕ) (v : View X) : Type 0 where
+    pub room : known_next v + n ≤ v.start.pages
+    pub each : (q : ℕ) → known_next v ≤ q → q < known_next v + n → LocksNone (known_word q v)
 
   -- a pass that was alone knows the words of the table as they were
   abbrev pub KnowsSame : View X → View X → Type 0

@@ -23,6 +23,7 @@ use crate::standing::{Lock, standing};
 use vm_block::Block;
 use vm_core::{MAX_VERSION, StateWord};
 use vm_owner::Owner;
+use vm_page::WORDS;
 use vm_rule::words::{Pass, Words};
 use vm_step::{
     At, Saw, Took, downgrade, load, lock_exclusive, look_silently, release, release_silently,
@@ -101,7 +102,7 @@ impl ExclusiveGuard {
     pub fn read<U: Owner, B: Block>(&self, words: &Words<U, B>, pass: &mut Pass<U>, i: usize) -> u64
         requires ready { IsReady words.now.table.shared.key B.tells words.now.table.shared.table_id pass.old }
         requires holds { IsHolding self.now.pid self.now.frame self.now.version self.now.dirty (view pass.old) }
-        requires word { i < 64 }
+        requires word { i < WORDS }
         ensures pass { IsSamePass pass.old pass.new }
         ensures ready { IsReady words.now.table.shared.key B.tells words.now.table.shared.table_id pass.new }
         ensures quiet { (done : _) × IsQuiet self.now.pid done (view pass.old) (view pass.new) }
@@ -136,7 +137,7 @@ impl ExclusiveGuard {
     )
         requires ready { IsReady words.now.table.shared.key B.tells words.now.table.shared.table_id pass.old }
         requires holds { IsHolding self.old.pid self.old.frame self.old.version self.old.dirty (view pass.old) }
-        requires word { i < 64 }
+        requires word { i < WORDS }
         ensures pass { IsSamePass pass.old pass.new }
         ensures ready { IsReady words.now.table.shared.key B.tells words.now.table.shared.table_id pass.new }
         ensures set { IsSet self.old.pid self.old.frame self.old.dirty i w (view pass.old) (view pass.new) }

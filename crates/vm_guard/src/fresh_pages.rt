@@ -1,14 +1,14 @@
 // Pages that were never claimed: they are locked, given frames of zeros where they have none, and claimed for a group of the pass.
 ghost use Rattle.std.specs.Prelude.{◌≡◌, ◌⊎◌, ◌+◌, ◌<◌, ◌≤◌, ℕ, IfOk, IfErr, IsOk, None, Some, length, replicate, true};
 ghost use Rattle.vm_core.specs.FrameActs.{mapping_of};
-ghost use Rattle.vm_guard.specs.Denied.{AgainOrWorn, SameOrUnlocked};
-ghost use Rattle.vm_guard.specs.Fresh.{Furnishes, GivesBack, IsBegun, IsFreshAnswer, IsNotSeized, IsPages, IsSeized, IsToSeize, Seizes};
-ghost use Rattle.vm_guard.specs.Sure.{MayBeGiven, MayBeSeized, known_next, known_word};
+ghost use Rattle.vm_guard.specs.Denied.{AgainOrWorn, OnlyWorn, SameOrUnlocked};
+ghost use Rattle.vm_guard.specs.Fresh.{Furnishes, GivesBack, IsBegun, IsFreshAnswer, IsFullAnswer, IsNotSeized, IsPages, IsPagesOrWorn, IsSeized, IsToSeize, Seizes};
+ghost use Rattle.vm_guard.specs.Sure.{MayBeGiven, MayBeSeized, MayBeTried, known_next, known_word};
 ghost use Rattle.vm_guard.specs.Takes.{SaysWhy};
 ghost use Rattle.vm_owner.specs.Numbers.{AreApart};
 ghost use Rattle.vm_rule.specs.Reading.{last_of};
 ghost use Rattle.vm_rule.specs.Views.{Each};
-ghost use Rattle.vm_step.specs.Alone.{IsAlone};
+ghost use Rattle.vm_step.specs.Alone.{IsAlone, LocksNone};
 ghost use Rattle.vm_step.specs.HeldFrames.{AreHeld};
 ghost use Rattle.vm_step.specs.Passes.{IsSamePass, MayStep, view};
 ghost use Rattle.vm_step.specs.Ready.{IsReady};
@@ -21,7 +21,7 @@ use crate::standing::Lock;
 use vm_block::Block;
 use vm_core::{MAX_VERSION, Mapping, StateWord, TransWord};
 use vm_owner::Owner;
-use vm_page::PageBuf;
+use vm_page::{PageBuf, WORDS};
 use vm_rule::words::{Pass, Words};
 use vm_step::{
     At, Batch, Saw, Took, claim, fill, install, lock_exclusive, look_silently, nload,
@@ -80,6 +80,7 @@ fn seize<U: Owner, B: Block>(
     ensures taken { IfOk result (λ s. (s.pid ≡ pid) × Seizes pid s.version s.stands (view pass.old) (view pass.new)) }
     ensures denied { IfErr result (λ d. IsNotSeized pid d (view pass.old) (view pass.new)) }
     ensures sure { IsAlone (view pass.old) → MayBeSeized (known_word pid (view pass.old)) → IsOk result }
+    ensures settled { IsAlone (view pass.old) → LocksNone (known_word pid (view pass.old)) → IfErr result OnlyWorn }
 {
     let word = look_silently(words, pass, pid);
     let expects = expected(word, pid)?;
@@ -131,7 +132,7 @@ fn furnish<U: Owner, B: Block>(
 ) -> ExclusiveGuard
     requires ready { IsReady words.now.table.shared.key B.tells words.now.table.shared.table_id pass.old }
     requires seized { IsSeized page.pid page.version page.stands (view pass.old) }
-    requires zero { (view pass.old).start.tells ≡ true → (last_of (view pass.old) page.pid).words ≡ replicate 64 0 }
+    requires zero { (view pass.old).start.tells ≡ true → (last_of (view pass.old) page.pid).words ≡ replicate WORDS 0 }
     requires frames { AreHeld frames.old (view pass.old) × (0 < length frames.old) }
     ensures pass { IsSamePass pass.old pass.new }
     ensures ready { IsReady words.now.table.shared.key B.tells words.now.table.shared.table_id pass.new }
@@ -174,6 +175,7 @@ fn denied(deny: Deny) -> Fresh
     requires { AgainOrWorn deny }
     ensures again { (saw : _) → deny ≡ Deny.Again saw → result ≡ Fresh.Again saw }
     ensures worn { (p : _) → deny ≡ Deny.Worn p → result ≡ Fresh.Worn p }
+    ensures settled { OnlyWorn deny → IsPagesOrWorn result }
 {
     match deny {
         Deny::Again(saw) => Fresh::Again(saw),
@@ -230,6 +232,7 @@ fn give_two<U: Owner, B: Block>(
     ensures ready { IsReady words.now.table.shared.key B.tells words.now.table.shared.table_id pass.new }
     ensures answer { (v : _) → IsBegun one.pid one.version one.stands v (view pass.old) → IsFreshAnswer 2 frames.old frames.new v (view pass.new) result }
     ensures sure { IsAlone (view pass.old) → known_next (view pass.old) ≡ one.pid → MayBeSeized (known_word (one.pid + 1) (view pass.old)) → IsPages result }
+    ensures settled { IsAlone (view pass.old) → known_next (view pass.old) ≡ one.pid → LocksNone (known_word (one.pid + 1) (view pass.old)) → IsPagesOrWorn result }
 {
     let x = one.pid;
     let two = match seize(words, pass, x + 1) {
@@ -272,6 +275,8 @@ pub fn fresh<U: Owner, B: Block>(
     ensures ready { IsReady words.now.table.shared.key B.tells words.now.table.shared.table_id pass.new }
     ensures answer { IsFreshAnswer n frames.old frames.new (view pass.old) (view pass.new) result }
     ensures sure { IsAlone (view pass.old) → MayBeGiven n (view pass.old) → IsPages result }
+    ensures settled { IsAlone (view pass.old) → MayBeTried n (view pass.old) → IsPagesOrWorn result }
+    ensures full { IsAlone (view pass.old) → words.now.table.shared.key.pages < known_next (view pass.old) + n → IsFullAnswer result }
 {
     let found = nload(words, pass);
     let pages = words.pages as u32;

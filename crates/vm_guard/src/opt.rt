@@ -8,7 +8,7 @@ ghost use Rattle.vm_step.specs.Evidence.{NoWord, NoneExpected, UnlockedExpected}
 ghost use Rattle.vm_step.specs.Ready.{IsReady};
 ghost use Rattle.vm_guard.specs.Sure.{IsKnownAt, IsKnownFree, known_word};
 ghost use Rattle.vm_guard.specs.Takes.{IsToExpect};
-ghost use Rattle.vm_step.specs.Alone.{IsAlone};
+ghost use Rattle.vm_step.specs.Alone.{IsAlone, KnowsUnheld};
 ghost use Rattle.vm_step.specs.Conditions.{MayTell};
 ghost use Rattle.vm_step.specs.Keeping.{IsKeptNow};
 ghost use Rattle.vm_step.specs.Passes.{IsSamePass, MayStep, view};
@@ -74,6 +74,8 @@ impl OptGuard {
         ensures ok { IfOk result (λ guard. (guard.pid ≡ pid) × Begins pid guard.word guard.frame (view pass.old) (view pass.new)) }
         ensures err { IfErr result (λ deny. IsDenied AgainOrNeed NoWord NoneExpected pid deny (view pass.old) (view pass.new)) }
         ensures sure { IsAlone (view pass.old) → is_readable (state_of (known_word pid (view pass.old))) ≡ true → IsOk result }
+        ensures kept { B.tells ≡ true → IsKeptNow U.keeps pid (IsOk result) (view pass.new) }
+        ensures unheld { KnowsUnheld (view pass.new) }
     {
         let first = look_silently(words, pass, pid);
         if StateWord::state(first) == StateWord::EVICTED {
@@ -110,7 +112,7 @@ impl OptGuard {
     pub fn word<U: Owner, B: Block>(&self, words: &Words<U, B>, pass: &mut Pass<U>, i: usize) -> u64
         requires ready { IsReady words.now.table.shared.key B.tells words.now.table.shared.table_id pass.old }
         requires reading { IsReading self.now.pid self.now.word self.now.frame (view pass.old) }
-        requires place { i < 64 }
+        requires place { i < WORDS }
         ensures pass { IsSamePass pass.old pass.new }
         ensures ready { IsReady words.now.table.shared.key B.tells words.now.table.shared.table_id pass.new }
         ensures loads { Loads self.now.pid self.now.word self.now.frame ((i, result) ∷ []) (view pass.old) (view pass.new) }
@@ -127,10 +129,10 @@ impl OptGuard {
     )
         requires ready { IsReady words.now.table.shared.key B.tells words.now.table.shared.table_id pass.old }
         requires reading { IsReading self.now.pid self.now.word self.now.frame (view pass.old) }
-        requires size { length into.old ≡ 64 }
+        requires size { length into.old ≡ WORDS }
         ensures pass { IsSamePass pass.old pass.new }
         ensures ready { IsReady words.now.table.shared.key B.tells words.now.table.shared.table_id pass.new }
-        ensures size { length into.new ≡ 64 }
+        ensures size { length into.new ≡ WORDS }
         ensures loads { Loads self.now.pid self.now.word self.now.frame (placed 0 into.new) (view pass.old) (view pass.new) }
     {
         for i in 0..WORDS {
@@ -208,6 +210,7 @@ impl OptGuard {
         ensures ready { IsReady words.now.table.shared.key B.tells words.now.table.shared.table_id pass.new }
         ensures taken { IfOk result (λ guard. (guard.pid ≡ self.pid) × (guard.version ≡ version_of self.word) × IsLocked U.tied self.pid guard.frame guard.version guard.dirty (view pass.old) (view pass.new)) }
         ensures denied { IfErr result (λ deny. IsDenied AgainOrWorn (KeptWord self.word) UnlockedExpected self.pid deny (view pass.old) (view pass.new)) }
+        ensures worn { version_of self.word ≡ MAX_VERSION → result ≡ Err (Deny.Worn self.pid) }
         ensures sure { IsAlone (view pass.old) → IsKnownFree self.pid (view pass.old) → SameOrUnlocked self.word (known_word self.pid (view pass.old)) → version_of self.word < MAX_VERSION → IsOk result }
     {
         let pid = self.pid;

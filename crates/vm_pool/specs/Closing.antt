@@ -2,7 +2,7 @@
 use Rattle.std.specs.Prelude.{ℕ, Bool, true, false, List, [], ◌≡◌, ◌≢◌, ◌⊎◌, ◌-◌, ◌^◌, ◌<◌, ◌≤◌, length, min}
 use Rattle.std.specs.List.{sum_by}
 use Rattle.vm_core.specs.Fn.{at}
-use Rattle.vm_core.specs.Words.{EVICTED, version_of}
+use Rattle.vm_core.specs.Words.{EVICTED, version_of, MAX_COUNT}
 use Rattle.vm_laws_others.specs.Leaves.{stands_dirty}
 use Rattle.vm_block.specs.declared.stored.Stored.{Stored}
 use Rattle.vm_owner.specs.Kept.{Start, Kept}
@@ -12,7 +12,7 @@ use Rattle.vm_rule.specs.Layout.{words_of}
 use Rattle.vm_rule.specs.Fixed.{bounds_of}
 use Rattle.vm_rule.specs.Views.{Each, times_noted}
 use Rattle.vm_rule.specs.Reading.{no_block, last_of}
-use Rattle.vm_rule.specs.Rule.{MAX_COUNT, began_of}
+use Rattle.vm_rule.specs.Rule.{began_of}
 use Rattle.vm_step.specs.Evidence.{HasGiven}
 use Rattle.vm_pool.specs.declared.ended.Ended.{Ended}
 use Rattle.vm_rule_laws.specs.Known.{kept_by}

@@ -11,6 +11,7 @@ ghost use Rattle.vm_step.specs.Ready.{IsReady};
 use crate::pool::Pool;
 use vm_block::Block;
 use vm_clock::candidates;
+use vm_core::FRAMES;
 use vm_evict::evict;
 use vm_evict::report::Report;
 use vm_exmap::{Alloc, Interface};
@@ -84,7 +85,7 @@ impl<U: Owner, B: Block> Pool<U, B> {
         requires ready { IsReady self.now.words.table.shared.key B.tells self.now.words.table.shared.table_id pass.old }
         requires home { (view pass.old).out ≡ None }
         requires frames { AreHeld iface.old.frames (view pass.old) }
-        requires want { (1 ≤ want) × (want ≤ 64) }
+        requires want { (1 ≤ want) × (want ≤ FRAMES) }
         ensures pass { IsSamePass pass.old pass.new }
         ensures ready { IsReady self.now.words.table.shared.key B.tells self.now.words.table.shared.table_id pass.new }
         ensures swept { IsSwept want iface.old.cap iface.old.frames iface.new.frames result (view pass.old) (view pass.new) }

@@ -15,6 +15,7 @@ use crate::told::Told;
 use atomic_table::Closed as ClosedTable;
 use std::alloc::Global;
 use vm_block::Block;
+use vm_core::FRAMES;
 use vm_owner::Owner;
 use vm_page::WORDS;
 use vm_rule::words::{Pass, Words};
@@ -60,10 +61,10 @@ fn told_of<U: Owner>(_pass: &Pass<U>) -> Told<U::Said>
 fn next_of<B>(table: &ClosedTable<Option<B>, Global>, pages: usize, frames: usize) -> u32
     requires numbers { (pages ≤ 65536) × (frames ≤ 65536) }
     requires full { (slots_len table.now.words ≡ width_of pages frames) × IsFull table.now.words }
-    requires small { at 0 (slots_items table.now.words) (3 * pages + 64 * frames + bundles_of frames) ≤ 65536 }
-    ensures { result ≡ at 0 (slots_items table.now.words) (3 * pages + 64 * frames + bundles_of frames) }
+    requires small { at 0 (slots_items table.now.words) (3 * pages + WORDS * frames + bundles_of frames) ≤ 65536 }
+    ensures { result ≡ at 0 (slots_items table.now.words) (3 * pages + WORDS * frames + bundles_of frames) }
 {
-    table.word(3 * pages + WORDS * frames + (frames + 63) / 64) as u32
+    table.word(3 * pages + WORDS * frames + (frames + (FRAMES - 1)) / FRAMES) as u32
 }
 
 /// The blocks of a table that was closed, in the order of their pages. All are at home, and there is room for them.

@@ -8,9 +8,11 @@ ghost use Rattle.vm_step.specs.Ready.{IsReady};
 
 use crate::pool::Pool;
 use vm_block::Block;
+use vm_core::FRAMES;
 use vm_exmap::Interface;
 use vm_guard::{ExclusiveGuard, read_word};
 use vm_owner::Bare;
+use vm_page::WORDS;
 use vm_rule::words::Pass;
 
 /// Brings the page, sets its word `i` (0 to 63) to `w`, sweeps as many pages as a sweep can, brings the page again and reads that word: it is
@@ -29,7 +31,7 @@ pub fn round_trip<B: Block>(
     requires ready { IsReady pool.now.words.table.shared.key B.tells pool.now.words.table.shared.table_id pass.old }
     requires home { (view pass.old).out ≡ None }
     requires frames { AreHeld iface.old.frames (view pass.old) }
-    requires page { (pid < pool.now.words.table.shared.key.pages) × (i < 64) }
+    requires page { (pid < pool.now.words.table.shared.key.pages) × (i < WORDS) }
     requires claimed { pid < (view pass.old).start.next }
     requires tells { B.tells ≡ true }
     requires alone { IsAlone (view pass.old) }
@@ -44,7 +46,7 @@ pub fn round_trip<B: Block>(
     };
     guard.set(&pool.words, pass, i, w);
     guard.release(&pool.words, pass, None);
-    pool.sweep(pass, iface, 64);
+    pool.sweep(pass, iface, FRAMES as u32);
     pool.bring(pass, iface, pid);
     read_word(&pool.words, pass, pid, i)
 }

@@ -1,7 +1,7 @@
 -- One call of the device of a page that the pass has locked: its block is taken out, read or written, and brought home.
 use Rattle.std.proofs.Common.{ℕ, ◌≡◌, ◌≤◌, ◌+◌, ◌==◌, ◌||◌, ◌++◌, nat_lt, min, Bool, true, false, List, [], ◌∷◌, Option, Some, None, IsSome, Result, Ok, Err, refl, sym, ap, ◌∙◌, ⊎_elim, arith}
 use Rattle.std.proofs.lemmas.Bool.{cases_lt, cond-true, eq-eqb, lt-ltb, or_left, or_right}
-use Rattle.vm_core.specs.Words.{count_more}
+use Rattle.vm_core.specs.Words.{count_more, MAX_COUNT}
 use Rattle.vm_core.proofs.Upd.{upd-other, upd-same}
 use Rattle.vm_block.specs.Blocks.{Reads, Writes, one_more}
 use Rattle.vm_block.specs.declared.stored.Stored.{Stored}
@@ -12,7 +12,7 @@ use Rattle.vm_rule.specs.declared.view.Place.TheVariants as places
 use Rattle.vm_rule.specs.declared.view.View.{View}
 use Rattle.vm_rule.specs.Puts.{put, put_at}
 use Rattle.vm_rule.specs.Faults.{notes_of}
-use Rattle.vm_rule.specs.Rule.{MAX_COUNT, no_held}
+use Rattle.vm_rule.specs.Rule.{no_held}
 use Rattle.vm_rule.specs.Log.{did_load}
 use Rattle.vm_rule.specs.Mappings.{held_at}
 use Rattle.vm_rule.specs.Slots.{DeviceDid, HomeTold, MayBring, OutTold, ReturnTold, ShiftTold, failed, idle, out_at, words_held, wrote}

@@ -12,10 +12,14 @@ use Rattle.vm_owner.specs.Kept.{Start, Kept, IsTurn, told}
 use Rattle.vm_owner.specs.Numbers.{has}
 use Rattle.vm_block.specs.declared.stored.Stored.{Stored}
 use Rattle.vm_rule.specs.declared.view.Origin.{Origin}
+use Rattle.vm_rule.specs.declared.view.Place.TheVariants as places
 use Rattle.vm_rule.specs.declared.view.View.{View}
+use Rattle.vm_rule.specs.Layout.{index_of}
 use Rattle.vm_rule.specs.Views.{seat_of}
-use Rattle.vm_rule.specs.Reading.{last_in, world_of}
-use Rattle.vm_rule.specs.Rule.{is_pending, began_of, kept_of, Ruled}
+use Rattle.vm_rule.specs.Reading.{histories_of, last_in, world_of}
+use Rattle.vm_rule.specs.Rule.{logical, is_pending, began_of, kept_of, Ruled}
+use Rattle.vm_rule.proofs.Entries.{append-none}
+use Rattle.vm_rule.proofs.Found.{next-here}
 use Rattle.vm_rule.proofs.Facts.{any-here}
 use Rattle.vm_rule.proofs.Views.{at-bound}
 use Rattle.vm_rule.proofs.Worlds.{last-is, draft-is}
@@ -23,6 +27,7 @@ use Rattle.vm_rule.proofs.Adding.{became}
 use Rattle.vm_step.specs.Conditions.{MayTell}
 use Rattle.vm_step.specs.Keeping.{IsKeptNow}
 use Rattle.vm_step.proofs.Logical.{page-listed, length-listed, logical-draft, logical-last, not-pending}
+use Rattle.vm_step.proofs.Unclaimed.{logical-zero}
 use Rattle.vm_step.proofs.Validated.{free-here}
 use Rattle.vm_step.proofs.LookShows.{look-left, look-entries, look-after, pending-looked, look-shows}
 
@@ -55,4 +60,10 @@ module _ {X B : Type 0} (stored : B → Stored) (keeps : Start → Kept X → Ty
             ∙ draft-is start (r.releases ++ []) r.drafts q
             ∙ sym (draft-is start r.releases r.drafts q)
             ∙ sym ((r.known id v there live).drafts q (((r.known id v there live).pending q e).0));
+        zero = λ q le inside.
+            let l' : q < start.pages = subst (λ (o : Origin). q < o.pages) same inside in
+            page-listed start.pages _ q l'
+            ∙ (λ i. logical (histories_of start (append-none r.releases i) r.drafts) (pending-looked stored keeps tied start tells s r id v p said there live l i) q)
+            ∙ logical-zero stored keeps tied start tells s r telling q le l';
+        next = λ _. ap (λ (o : Origin). slice_index s.words (index_of o places.Next)) same ∙ sym (next-here stored start s);
       }

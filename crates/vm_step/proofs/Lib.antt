@@ -12,6 +12,7 @@ pub mod ReleaseWays
 pub mod ReleaseFacts
 pub mod ReleaseKnown
 pub mod ReleaseShows
+pub mod Unclaimed
 pub mod KeptReleases
 pub mod OwedPages
 pub mod ReleaseOwner
@@ -22,6 +23,7 @@ pub mod NewTies
 pub mod LookShows
 pub mod LookTold
 pub mod KeptLooks
+pub mod LookUnheld
 pub mod LookAllows
 pub mod LookEvents
 pub mod StoreEvents

@@ -23,6 +23,7 @@ use Rattle.vm_step.proofs.Standing.{allows-any}
 use Rattle.vm_step.proofs.LookShows.{look-entries, look-did, look-inner, look-after, look-shows}
 use Rattle.vm_step.proofs.LookTold.{look-told}
 use Rattle.vm_step.proofs.KeptLooks.{look-kept}
+use Rattle.vm_step.proofs.LookUnheld.{look-unheld}
 
 module _ {X B : Type 0} (stored : B → Stored) (keeps : Start → Kept X → Type 0) (tied : Start → ℕ → List ℕ → ℕ → List ℕ → Type 0) (tells : Bool) (may_read : Start → ℕ → List ℕ → List (Entry X) → Type 0)
     (reads : (start : Start) (kept : Kept X) (q : ℕ) (entries : List (Entry X)) → keeps start kept → q < length kept.pages → IsTurn kept.history entries → may_read start q (page_at kept.pages q) entries → keeps start (told entries kept))
@@ -39,7 +40,7 @@ module _ {X B : Type 0} (stored : B → Stored) (keeps : Start → Kept X → Ty
         nothing,
         tt,
         subst (λ words. Ruled stored keeps tied start tells (became stored keeps tied start tells s words id w)) (sym (same-word s.words p)) k.0,
-        (is-of stored keeps tied start tells s r id v there live shape shaped, look-told stored keeps tied start tells s r id v p said there live l ties k.1, look-kept stored keeps tied start tells s r id v p said there live l may_read reads ties may number, refl),
+        (is-of stored keeps tied start tells s r id v there live shape shaped, look-told stored keeps tied start tells s r id v p said there live l ties k.1, look-kept stored keeps tied start tells s r id v p said there live l may_read reads ties may number, look-unheld stored keeps tied start tells s r id v p said there live l, refl),
       )
 
   pub look_allows : (shape : Shape) (slots id : ℕ) (me : Me (Option B) (View X)) (p : ℕ) (said : Option X) → me.0.live ≡ true → 0 < length me.0.used → p < shape.pages → MayTell tied may_read p said me.0

@@ -82,8 +82,11 @@ module _ {X B : Type 0} (stored : B → Stored) (keeps : Start → Kept X → Ty
     owed-looked = fun_ext (λ q. any-same (λ y. has q y.owed) s.views id v look-after there refl)
 
     -- the pass has of each page what it had, but for its open read
-    same-exclusive : (q : ℕ) → (seat_of look-inner q).exclusive ≡ (seat_of v q).exclusive
+    pub same-exclusive : (q : ℕ) → (seat_of look-inner q).exclusive ≡ (seat_of v q).exclusive
     same-exclusive q = upd-keeps (λ y. y.exclusive) (put_at no_seat v.seats) p (record (seat_of v p) { reading = open_after look-left (seat_of v p).reading (version_of (slice_index s.words p)) }) refl q
+
+    pub same-shares : (q : ℕ) → (seat_of look-inner q).shares ≡ (seat_of v q).shares
+    same-shares q = upd-keeps (λ y. y.shares) (put_at no_seat v.seats) p (record (seat_of v p) { reading = open_after look-left (seat_of v p).reading (version_of (slice_index s.words p)) }) refl q
 
     same-calls : (q : ℕ) → may_call (seat_of look-inner q) ≡ may_call (seat_of v q)
     same-calls q = upd-keeps may_call (put_at no_seat v.seats) p (record (seat_of v p) { reading = open_after look-left (seat_of v p).reading (version_of (slice_index s.words p)) }) refl q

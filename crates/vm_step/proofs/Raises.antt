@@ -17,6 +17,7 @@ use Rattle.vm_laws_others.specs.Leaves.{Leaves}
 use Rattle.vm_laws_others.proofs.Laws.{leave_others}
 use Rattle.vm_owner.specs.Kept.{Start, Kept}
 use Rattle.vm_block.specs.declared.stored.Stored.{Stored}
+use Rattle.vm_core.specs.Words.{MAX_COUNT}
 use Rattle.vm_rule.specs.declared.view.Did.{Did}
 use Rattle.vm_rule.specs.declared.view.Held.{Held}
 use Rattle.vm_rule.specs.declared.view.Note.{Note}
@@ -28,7 +29,7 @@ use Rattle.vm_rule.specs.Puts.{put, put_at, listed}
 use Rattle.vm_rule.specs.Layout.{index_of}
 use Rattle.vm_rule.specs.Views.{seat_of, may_call, times_noted, total}
 use Rattle.vm_rule.specs.Reading.{block_of, core_of, world_of}
-use Rattle.vm_rule.specs.Rule.{KnowsPage, KnowsPages, no_held, is_pending, MAX_COUNT, FaultsFit, Ruled}
+use Rattle.vm_rule.specs.Rule.{KnowsPage, KnowsPages, no_held, is_pending, FaultsFit, Ruled}
 use Rattle.vm_rule.specs.Begun.{HasShape, Stands}
 use Rattle.vm_rule.specs.Log.{did_store}
 use Rattle.vm_rule.specs.Mappings.{held_at}

@@ -1,18 +1,24 @@
 -- A pass that is alone knows the whole table: what a run of its steps leaves of the table as it knows it.
-use Rattle.std.specs.Prelude.{ℕ, true, List, [], ◌∷◌, ◌++◌, ◌≡◌, slice_index}
+use Rattle.std.specs.Prelude.{ℕ, true, false, List, [], ◌∷◌, ◌++◌, ◌≡◌, ◌⊎◌, ◌<◌, slice_index}
+use Rattle.vm_core.specs.Words.{state_of, UNLOCKED, MARKED, EVICTED}
 use Rattle.vm_rule.specs.declared.view.Did.{Did}
 use Rattle.vm_rule.specs.declared.view.Origin.{Origin}
 use Rattle.vm_rule.specs.declared.view.Place.{Place}
+use Rattle.vm_rule.specs.declared.view.Place.TheVariants as places
 use Rattle.vm_rule.specs.declared.view.Release.{Release}
 use Rattle.vm_rule.specs.declared.view.View.{View}
 use Rattle.vm_rule.specs.Layout.{index_of}
-use Rattle.vm_rule.specs.Views.{IsWhole}
+use Rattle.vm_rule.specs.Views.{IsWhole, seat_of}
 use Rattle.vm_rule.specs.Brought.{IsFoundAt, set_if}
 
 -- the words before and after these steps: each found the word that stood there, and left the one that it wrote
 abbrev pub Follows : Origin → List Did → List ℕ → List ℕ → Type 0
 Follows start [] old new = new ≡ old
 Follows start (d ∷ ds) old new = IsFoundAt d.found (index_of start d.at) old × Follows start ds (set_if d.wrote (index_of start d.at) old) new
+
+-- a page with this word is locked by nobody, resident or not
+abbrev pub LocksNone : ℕ → Type 0
+LocksNone word = (state_of word ≡ UNLOCKED) ⊎ ((state_of word ≡ MARKED) ⊎ (state_of word ≡ EVICTED))
 
 module _ {X : Type 0} where
   -- the pass has all parts, and knows the table
@@ -22,6 +28,10 @@ module _ {X : Type 0} where
   -- the word at this place, as the pass knows the table
   abbrev pub word_at : View X → Place → ℕ
   word_at v at = slice_index v.snapshot.words (index_of v.start at)
+
+  -- a pass that is alone: a page that it neither holds nor shares is locked by nobody
+  abbrev pub KnowsUnheld : View X → Type 0
+  KnowsUnheld w = IsAlone w → (q : ℕ) → q < w.start.pages → (seat_of w q).exclusive ≡ false → (seat_of w q).shares ≡ 0 → LocksNone (word_at w (places.State q))
 
   -- the call made these steps and these releases; where the pass was alone, nothing else happened to the table's words, and to its releases
   pub record RunsAlone (done : List Did) (own : List Release) (v w : View X) : Type 0 where

@@ -1,5 +1,6 @@
 -- What a pass must know before a step: conditions over its own view alone.
 use Rattle.std.specs.Prelude.{ℕ, true, false, Option, Some, None, List, [], ◌∷◌, ◌≡◌, ◌≢◌, ◌⊎◌, ◌+◌, ◌<◌, ◌≤◌, length, replicate, IsSome, bit_and}
+use Rattle.vm_page.specs.declared.buf.TheConstants.{WORDS}
 use Rattle.vm_core.specs.declared.event.Open.{Open}
 use Rattle.vm_core.specs.Words.{in_mask}
 use Rattle.vm_core.specs.Inv.{LoadsAre}
@@ -28,7 +29,7 @@ module _ {X : Type 0} where
   abbrev pub MayTell : (Start → ℕ → List ℕ → ℕ → List ℕ → Type 0) → (Start → ℕ → List ℕ → List (Entry X) → Type 0) → ℕ → Option X → View X → Type 0
   MayTell tied may_read p said v =
       (said ≡ None)
-      ⊎ (v.start.tells ≡ true → (o : Open) → (seat_of v p).reading ≡ Some o → (words : List ℕ) → length words ≡ 64 → LoadsAre words (loads_at v p)
+      ⊎ (v.start.tells ≡ true → (o : Open) → (seat_of v p).reading ≡ Some o → (words : List ℕ) → length words ≡ WORDS → LoadsAre words (loads_at v p)
       → tied (began_of v.start) p words p words
       → Each (λ t. t.page ≡ p → t.version ≡ o.version → tied (began_of v.start) t.of t.words p words) v.ties
       → may_read (began_of v.start) p words (entries_of v said))
@@ -52,7 +53,7 @@ module _ {X : Type 0} where
 
   -- the page was claimed, as far as the pass can know, where its words are not those that it had
   abbrev pub IsClaimed : View X → ℕ → Type 0
-  IsClaimed v q = (draft_of v q ≡ (last_of v q).words) ⊎ (((last_of v q).words ≢ replicate 64 0) ⊎ (IsBelowNext v q ⊎ (has q v.owed ≡ true)))
+  IsClaimed v q = (draft_of v q ≡ (last_of v q).words) ⊎ (((last_of v q).words ≢ replicate WORDS 0) ⊎ (IsBelowNext v q ⊎ (has q v.owed ≡ true)))
 
   -- a member of a group that is not released yet in part
   pub record IsMember (v : View X) (q : ℕ) : Type 0 where

@@ -1,12 +1,15 @@
 -- What a step tells of the layer above: at the step it keeps its relation, and its history is the one that the pass has seen then.
-use Rattle.std.specs.Prelude.{ℕ, true, List, length, ◌≡◌, ◌<◌}
+use Rattle.std.specs.Prelude.{ℕ, true, List, length, replicate, ◌≡◌, ◌<◌, ◌≤◌}
+use Rattle.vm_page.specs.declared.buf.TheConstants.{WORDS}
 use Rattle.vm_page.specs.Pages.{page_at}
 use Rattle.vm_owner.specs.Kept.{Start, Kept}
 use Rattle.vm_owner.specs.Numbers.{has}
+use Rattle.vm_rule.specs.declared.view.Place.TheVariants as places
 use Rattle.vm_rule.specs.declared.view.View.{View}
 use Rattle.vm_rule.specs.Views.{draft_of}
 use Rattle.vm_rule.specs.Reading.{last_of}
 use Rattle.vm_rule.specs.Rule.{began_of}
+use Rattle.vm_step.specs.Alone.{IsAlone, word_at}
 
 module _ {X : Type 0} where
   -- what the layer above keeps after a step of the pass: its history is all that the pass has seen now; it has page p with the last words, where
@@ -18,3 +21,6 @@ module _ {X : Type 0} where
     pub pages : length kept.pages ≡ w.start.pages
     pub page : free → page_at kept.pages p ≡ (last_of w p).words
     pub members : (q : ℕ) → q < w.start.pages → has q w.pending ≡ true → page_at kept.pages q ≡ draft_of w q
+    -- pages that were never claimed have words of zeros; a pass that is alone knows the next one
+    pub zero : (q : ℕ) → kept.next ≤ q → q < w.start.pages → page_at kept.pages q ≡ replicate WORDS 0
+    pub next : IsAlone w → word_at w places.Next ≡ kept.next

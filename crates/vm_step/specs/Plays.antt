@@ -18,6 +18,7 @@ use Rattle.vm_rule.specs.Slots.{SlotTold, ShiftTold, ReturnTold, out_at, DeviceD
 use Rattle.vm_block.specs.declared.stored.Stored.{Stored}
 use Rattle.vm_core.specs.declared.event.ReadIs.TheVariants.{Same}
 use Rattle.vm_rule.specs.Views.{seat_of}
+use Rattle.vm_step.specs.Alone.{KnowsUnheld}
 use Rattle.vm_step.specs.Keeping.{IsKeptNow}
 use Rattle.vm_step.specs.Whole.{CatchTold}
 
@@ -29,7 +30,7 @@ module _ {X : Type 0} where
 
   module _ {S : Type 0} (shape : Shape) (tells : Bool) where
     abbrev pub look_play : (Start → Kept X → Type 0) → (Start → ℕ → List ℕ → ℕ → List ℕ → Type 0) → Option X → Step S → Me S (View X) → ℕ → Me S (View X) → Type 0
-    look_play keeps tied said st m found m' = IsOf shape tells m.0 × LookTold tied st.word said found m.0 m'.0 × (tells ≡ true → IsKeptNow keeps st.word (left_at found (seat_of m.0 st.word).reading ≡ Same) m'.0) × (m'.1 ≡ m.1)
+    look_play keeps tied said st m found m' = IsOf shape tells m.0 × LookTold tied st.word said found m.0 m'.0 × (tells ≡ true → IsKeptNow keeps st.word (left_at found (seat_of m.0 st.word).reading ≡ Same) m'.0) × KnowsUnheld m'.0 × (m'.1 ≡ m.1)
 
     abbrev pub lock_play : (Start → ℕ → List ℕ → ℕ → List ℕ → Type 0) → Step S → Me S (View X) → ℕ → Me S (View X) → Type 0
     lock_play tied st m found m' = IsOf shape tells m.0 × LockTold tied st.word st.first found m.0 m'.0 × (m'.1 ≡ m.1)

@@ -4,15 +4,17 @@ ghost use Rattle.std.specs.Option.{option_to_list};
 
 use arrayvec::ArrayVec;
 use std::marker::Model;
+use vm_core::FRAMES;
 
 /// At most 64 frames: contracts see the list of their numbers.
 #[derive(Debug, Drop, PartialEq)]
 pub struct Batch {
-    items: ArrayVec<u32, 64>,
+    items: ArrayVec<u32, FRAMES>,
 }
 
 impl Model for Batch {
     ghost use Rattle.std.specs.Prelude.{List, ℕ, ◌≤◌, length};
+    ghost use Rattle.vm_core.specs.declared.words.TheConstants.{FRAMES};
 
     ghost Value = { List ℕ };
 
@@ -20,7 +22,7 @@ impl Model for Batch {
 
     ghost inverse = { λ xs. record { items = record { items = xs } } };
 
-    ghost invariant = { λ p. length p.items.items ≤ 64 };
+    ghost invariant = { λ p. length p.items.items ≤ FRAMES };
 }
 
 impl Batch {
@@ -36,7 +38,7 @@ impl Batch {
     /// How many frames there are.
     pub fn len(&self) -> usize
         ensures value { result ≡ length self.now }
-        ensures fits { length self.now ≤ 64 }
+        ensures fits { length self.now ≤ FRAMES }
     {
         self.items.len()
     }
@@ -50,7 +52,7 @@ impl Batch {
 
     /// Appends a frame. There must be room.
     pub fn push(&mut self, frame: u32)
-        requires { length self.old < 64 }
+        requires { length self.old < FRAMES }
         ensures { self.new ≡ self.old ++ frame ∷ [] }
     {
         self.items.push(frame);
@@ -59,14 +61,14 @@ impl Batch {
     /// The frames.
     pub fn as_slice(&self) -> &[u32]
         ensures value { result.now ≡ self.now }
-        ensures fits { length self.now ≤ 64 }
+        ensures fits { length self.now ≤ FRAMES }
     {
         self.items.as_slice()
     }
 
     /// Appends these frames, in order. There must be room.
     pub fn append(&mut self, frames: &[u32])
-        requires { length self.old + length frames.now ≤ 64 }
+        requires { length self.old + length frames.now ≤ FRAMES }
         ensures { self.new ≡ self.old ++ frames.now }
     {
         if self.items.try_extend_from_slice(frames).is_err() {

@@ -12,13 +12,11 @@ use crate::seat::lift;
 use crate::took::{Took, answer};
 use std::marker::Brand;
 use vm_block::Block;
+use vm_core::{FRAMES, STRIDE};
 use vm_owner::Owner;
 use vm_page::WORDS;
 use vm_rule::view::View;
 use vm_rule::words::{Pass, Words};
-
-/// How many places the hand is moved on at once.
-const STRIDE: u64 = 64;
 
 fn bload_with<U: Owner, B: Block, M: Given<U::Said>>(
     words: &Words<U, B>,
@@ -26,7 +24,7 @@ fn bload_with<U: Owner, B: Block, M: Given<U::Said>>(
     g: u32,
 ) -> u64
     requires pass { MayStep words.now.table.shared.table_id pass.old }
-    requires bundle { g * 64 < words.now.table.shared.key.frames }
+    requires bundle { g * FRAMES < words.now.table.shared.key.frames }
     requires given { (M.shape ≡ words.now.table.shared.key) × (M.tells ≡ B.tells) × (M.first ≡ g) }
     ensures pass { IsSamePass pass.old pass.new }
     ensures table { IsOf words.now.table.shared.key B.tells (view pass.old) }
@@ -45,7 +43,7 @@ fn bload_with<U: Owner, B: Block, M: Given<U::Said>>(
 /// The bundle's word: the bits of its free frames.
 pub fn bload<U: Owner, B: Block>(words: &Words<U, B>, pass: &mut Pass<U>, g: u32) -> u64
     requires pass { MayStep words.now.table.shared.table_id pass.old }
-    requires bundle { g * 64 < words.now.table.shared.key.frames }
+    requires bundle { g * FRAMES < words.now.table.shared.key.frames }
     ensures pass { IsSamePass pass.old pass.new }
     ensures table { IsOf words.now.table.shared.key B.tells (view pass.old) }
     ensures told { BundleTold g result (view pass.old) (view pass.new) }
@@ -61,7 +59,7 @@ fn take_with<U: Owner, B: Block, M: Given<U::Said>>(
     mask: u64,
 ) -> u64
     requires pass { MayStep words.now.table.shared.table_id pass.old }
-    requires bundle { g * 64 < words.now.table.shared.key.frames }
+    requires bundle { g * FRAMES < words.now.table.shared.key.frames }
     requires legal { MayTake expects mask }
     requires given { (M.shape ≡ words.now.table.shared.key) × (M.tells ≡ B.tells) × (M.first ≡ g) × (M.second ≡ mask) }
     ensures pass { IsSamePass pass.old pass.new }
@@ -87,7 +85,7 @@ pub fn take<U: Owner, B: Block>(
     mask: u64,
 ) -> Took
     requires pass { MayStep words.now.table.shared.table_id pass.old }
-    requires bundle { g * 64 < words.now.table.shared.key.frames }
+    requires bundle { g * FRAMES < words.now.table.shared.key.frames }
     requires legal { MayTake expects mask }
     ensures pass { IsSamePass pass.old pass.new }
     ensures table { IsOf words.now.table.shared.key B.tells (view pass.old) }
@@ -107,7 +105,7 @@ fn give_with<U: Owner, B: Block, M: Given<U::Said>>(
     mask: u64,
 ) -> u64
     requires pass { MayStep words.now.table.shared.table_id pass.old }
-    requires bundle { g * 64 < words.now.table.shared.key.frames }
+    requires bundle { g * FRAMES < words.now.table.shared.key.frames }
     requires legal { MayGive (view pass.old) g mask }
     requires given { (M.shape ≡ words.now.table.shared.key) × (M.tells ≡ B.tells) × (M.first ≡ g) × (M.second ≡ mask) }
     ensures pass { IsSamePass pass.old pass.new }
@@ -127,7 +125,7 @@ fn give_with<U: Owner, B: Block, M: Given<U::Said>>(
 /// Gives the frames of the bits in `mask` back, which the pass holds, and answers the word before.
 pub fn give<U: Owner, B: Block>(words: &Words<U, B>, pass: &mut Pass<U>, g: u32, mask: u64) -> u64
     requires pass { MayStep words.now.table.shared.table_id pass.old }
-    requires bundle { g * 64 < words.now.table.shared.key.frames }
+    requires bundle { g * FRAMES < words.now.table.shared.key.frames }
     requires legal { MayGive (view pass.old) g mask }
     ensures pass { IsSamePass pass.old pass.new }
     ensures table { IsOf words.now.table.shared.key B.tells (view pass.old) }

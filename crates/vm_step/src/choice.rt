@@ -1,5 +1,6 @@
 // The pages that a clock chose for eviction, and what the looks that found them came to.
 use arrayvec::ArrayVec;
+use vm_core::FRAMES;
 
 /// What the looks of a walk came to.
 #[derive(Clone, Copy, Debug, PartialEq, Eq)]
@@ -25,6 +26,6 @@ pub struct Looks {
 /// Pages to evict, each with the word at which it was marked, and the looks that found them.
 #[derive(Debug, Drop, PartialEq)]
 pub struct Candidates {
-    pub list: ArrayVec<(u32, u64), 64>,
+    pub list: ArrayVec<(u32, u64), FRAMES>,
     pub looks: Looks,
 }

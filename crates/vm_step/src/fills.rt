@@ -15,7 +15,7 @@ use vm_rule::words::{Pass, Words};
 pub fn fill<U: Owner, B: Block>(words: &Words<U, B>, pass: &mut Pass<U>, frame: u32, page: &PageBuf)
     requires ready { IsReady words.now.table.shared.key B.tells words.now.table.shared.table_id pass.old }
     requires frame { (frame < words.now.table.shared.key.frames) × (has frame (view pass.old).frames ≡ true) }
-    requires size { length page.now ≡ 64 }
+    requires size { length page.now ≡ WORDS }
     ensures pass { IsSamePass pass.old pass.new }
     ensures ready { IsReady words.now.table.shared.key B.tells words.now.table.shared.table_id pass.new }
     ensures stores { Stores frame 0 page.now (view pass.old) (view pass.new) }

@@ -55,7 +55,7 @@ fn load_with<U: Owner, B: Block, M: Given<U::Said>>(
     i: usize,
 ) -> u64
     requires pass { MayStep words.now.table.shared.table_id pass.old }
-    requires page { (p < words.now.table.shared.key.pages) × (f < words.now.table.shared.key.frames) × (i < 64) }
+    requires page { (p < words.now.table.shared.key.pages) × (f < words.now.table.shared.key.frames) × (i < WORDS) }
     requires frame { frame_read_by (view pass.old) p ≡ Some f }
     requires given { (M.shape ≡ words.now.table.shared.key) × (M.tells ≡ B.tells) × (M.first ≡ p) × (M.second ≡ f) × (M.third ≡ i) }
     ensures pass { IsSamePass pass.old pass.new }
@@ -78,7 +78,7 @@ pub fn load<U: Owner, B: Block>(
     i: usize,
 ) -> u64
     requires pass { MayStep words.now.table.shared.table_id pass.old }
-    requires page { (p < words.now.table.shared.key.pages) × (f < words.now.table.shared.key.frames) × (i < 64) }
+    requires page { (p < words.now.table.shared.key.pages) × (f < words.now.table.shared.key.frames) × (i < WORDS) }
     requires frame { frame_read_by (view pass.old) p ≡ Some f }
     ensures pass { IsSamePass pass.old pass.new }
     ensures table { IsOf words.now.table.shared.key B.tells (view pass.old) }
@@ -95,7 +95,7 @@ fn store_with<U: Owner, B: Block, M: Given<U::Said>>(
     w: u64,
 )
     requires pass { MayStep words.now.table.shared.table_id pass.old }
-    requires frame { (f < words.now.table.shared.key.frames) × (i < 64) }
+    requires frame { (f < words.now.table.shared.key.frames) × (i < WORDS) }
     requires legal { MayStore (view pass.old) f }
     requires given { (M.shape ≡ words.now.table.shared.key) × (M.tells ≡ B.tells) × (M.first ≡ f) × (M.second ≡ i) }
     ensures pass { IsSamePass pass.old pass.new }
@@ -112,7 +112,7 @@ fn store_with<U: Owner, B: Block, M: Given<U::Said>>(
 /// is a word of the page's draft.
 pub fn store<U: Owner, B: Block>(words: &Words<U, B>, pass: &mut Pass<U>, f: u32, i: usize, w: u64)
     requires pass { MayStep words.now.table.shared.table_id pass.old }
-    requires frame { (f < words.now.table.shared.key.frames) × (i < 64) }
+    requires frame { (f < words.now.table.shared.key.frames) × (i < WORDS) }
     requires legal { MayStore (view pass.old) f }
     ensures pass { IsSamePass pass.old pass.new }
     ensures table { IsOf words.now.table.shared.key B.tells (view pass.old) }

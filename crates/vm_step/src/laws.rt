@@ -21,6 +21,7 @@ ghost use Rattle.vm_step.specs.Events.{FindsAt, IsEvent, IsPassOf, exchange_sees
 
 use vm_block::Block;
 use vm_owner::Owner;
+use vm_page::WORDS;
 
 /// A look sees the word, and what it leaves of the pass's open read.
 pub fn look_is_its_event<U: Owner, B: Block>()
@@ -59,5 +60,5 @@ pub fn release_is_its_event<U: Owner, B: Block>()
 
 /// A store into the frame of a page that the pass holds exclusively sees nothing: that word of the frame is the one stored.
 pub fn store_is_its_event<U: Owner, B: Block>()
-    ensures { (start : Origin) (s : Table (Option B) (View U.Said)) (id p f i x : ℕ) (v w : View U.Said) → IsPassOf B.stored start U.keeps U.tied B.tells s id v → f < start.frames → i < 64 → Drafts v p f → StoreTold p f i x v w → IsEvent B.stored start s (table_after s (slice_set s.words (index_of start (places.Content f i)) x) id w) (Store id f i x) sights.Done }
+    ensures { (start : Origin) (s : Table (Option B) (View U.Said)) (id p f i x : ℕ) (v w : View U.Said) → IsPassOf B.stored start U.keeps U.tied B.tells s id v → f < start.frames → i < WORDS → Drafts v p f → StoreTold p f i x v w → IsEvent B.stored start s (table_after s (slice_set s.words (index_of start (places.Content f i)) x) id w) (Store id f i x) sights.Done }
 {}

@@ -6,12 +6,10 @@ ghost use Rattle.vm_rule.specs.declared.view.Origin.{Origin};
 ghost use Rattle.vm_rule.specs.declared.view.Place.TheVariants as places;
 
 use vm_block::Block;
+use vm_core::FRAMES;
 use vm_owner::Owner;
 use vm_page::WORDS;
 use vm_rule::words::Words;
-
-/// How many frames a bundle has.
-pub const FRAMES: usize = 64;
 
 /// The place of the next word. The hand's word stands behind it.
 pub(crate) fn next_place<U: Owner, B: Block>(words: &Words<U, B>) -> usize

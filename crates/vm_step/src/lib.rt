@@ -34,7 +34,6 @@ pub use bundles::{bload, give, hand, take};
 pub use choice::{Candidates, Looks};
 pub use fills::fill;
 pub use frames::{load, store, tload};
-pub use layout::FRAMES;
 pub use mappings::{clear, install, set_clean, set_dirty};
 pub use marks::{lock_write_back, mark, unmark, upgrade};
 pub use meeting::{follow_pass, hear_pass};

@@ -16,6 +16,7 @@ ghost use Rattle.vm_step.specs.Events.{IsEvent, IsPassOf, table_after};
 
 use vm_block::Block;
 use vm_owner::Owner;
+use vm_page::WORDS;
 
 /// A release of a page that is not resident sees nothing: the page is Evicted at its next version.
 pub fn release_evicted_is_its_event<U: Owner, B: Block>()
@@ -24,5 +25,5 @@ pub fn release_evicted_is_its_event<U: Owner, B: Block>()
 
 /// A store into a frame that the pass holds sees nothing: that word of the frame is the one stored.
 pub fn fill_is_its_event<U: Owner, B: Block>()
-    ensures { (start : Origin) (s : Table (Option B) (View U.Said)) (id f i x : ℕ) (v w : View U.Said) → IsPassOf B.stored start U.keeps U.tied B.tells s id v → f < start.frames → i < 64 → has f v.frames ≡ true → FillTold f i x v w → IsEvent B.stored start s (table_after s (slice_set s.words (index_of start (places.Content f i)) x) id w) (Store id f i x) sights.Done }
+    ensures { (start : Origin) (s : Table (Option B) (View U.Said)) (id f i x : ℕ) (v w : View U.Said) → IsPassOf B.stored start U.keeps U.tied B.tells s id v → f < start.frames → i < WORDS → has f v.frames ≡ true → FillTold f i x v w → IsEvent B.stored start s (table_after s (slice_set s.words (index_of start (places.Content f i)) x) id w) (Store id f i x) sights.Done }
 {}

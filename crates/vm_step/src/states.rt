@@ -7,6 +7,7 @@ ghost use Rattle.vm_rule.specs.Locks.{LockTold, ShareTold, UnshareTold};
 ghost use Rattle.vm_rule.specs.Looks.{LookTold, left_at};
 ghost use Rattle.vm_rule.specs.Releases.{DowngradeTold, EvictTold, ReleaseTold};
 ghost use Rattle.vm_rule.specs.Views.{seat_of};
+ghost use Rattle.vm_step.specs.Alone.{KnowsUnheld};
 ghost use Rattle.vm_step.specs.Conditions.{MayDowngrade, MayEvict, MayGiveUp, MayTell, MayUnshare};
 ghost use Rattle.vm_step.specs.Keeping.{IsKeptNow};
 ghost use Rattle.vm_step.specs.Passes.{IsSamePass, MayStep, found_by, view};
@@ -68,6 +69,7 @@ fn look_step<U: Owner, B: Block, M: Given<U::Said>>(
     ensures table { IsOf words.now.table.shared.key B.tells (view pass.old) }
     ensures told { LookTold U.tied p M.said result (view pass.old) (view pass.new) }
     ensures kept { B.tells ≡ true → IsKeptNow U.keeps p (left_at result (seat_of (view pass.old) p).reading ≡ Same) (view pass.new) }
+    ensures unheld { KnowsUnheld (view pass.new) }
 {
     let mut seat = lift::<View<U::Said>, Option<B>>(&mut pass.badge);
     let found = words.table.shared.load::<Look<U, M>>(&mut seat, p as usize);
@@ -89,6 +91,7 @@ fn look_with<U: Owner, B: Block, M: Given<U::Said>>(
     ensures table { IsOf words.now.table.shared.key B.tells (view pass.old) }
     ensures told { LookTold U.tied p M.said result (view pass.old) (view pass.new) }
     ensures kept { B.tells ≡ true → IsKeptNow U.keeps p (left_at result (seat_of (view pass.old) p).reading ≡ Same) (view pass.new) }
+    ensures unheld { KnowsUnheld (view pass.new) }
 {
     look_step::<U, B, M>(words, pass, p)
 }
@@ -108,6 +111,7 @@ pub fn look<U: Owner, B: Block>(
     ensures table { IsOf words.now.table.shared.key B.tells (view pass.old) }
     ensures told { LookTold U.tied p (option_map (λ b. b.now) said.entry) result (view pass.old) (view pass.new) }
     ensures kept { B.tells ≡ true → IsKeptNow U.keeps p (left_at result (seat_of (view pass.old) p).reading ≡ Same) (view pass.new) }
+    ensures unheld { KnowsUnheld (view pass.new) }
 {
     look_with::<U, B, Brand>(words, pass, p, said)
 }
@@ -120,6 +124,7 @@ pub fn look_silently<U: Owner, B: Block>(words: &Words<U, B>, pass: &mut Pass<U>
     ensures table { IsOf words.now.table.shared.key B.tells (view pass.old) }
     ensures told { LookTold U.tied p None result (view pass.old) (view pass.new) }
     ensures kept { B.tells ≡ true → IsKeptNow U.keeps p (left_at result (seat_of (view pass.old) p).reading ≡ Same) (view pass.new) }
+    ensures unheld { KnowsUnheld (view pass.new) }
 {
     look_step::<U, B, Brand>(words, pass, p)
 }

@@ -15,6 +15,7 @@ use vm_core::Memory;
 use vm_exmap::Interface;
 use vm_guard::ExclusiveGuard;
 use vm_owner::Bare;
+use vm_page::WORDS;
 use vm_pool::Pool;
 use vm_pool::whole_again::join_each;
 use vm_rule::words::Pass;
@@ -36,7 +37,7 @@ fn try_put<B: Block>(
 ) -> bool
     requires may { MayPut pool.now.words.table.shared.key B.tells pool.now.words.table.shared.table_id iface.old.frames pass.old }
     requires page { (p < pool.now.words.table.shared.key.pages) × (p < pool.now.words.table.shared.key.next) }
-    requires place { i < 64 }
+    requires place { i < WORDS }
     ensures pass { IsSamePass pass.old pass.new }
     ensures may { MayPut pool.now.words.table.shared.key B.tells pool.now.words.table.shared.table_id iface.new.frames pass.new }
     ensures parts { KeepsParts (view pass.old) (view pass.new) }
@@ -65,7 +66,7 @@ fn put<B: Block>(
 )
     requires may { MayPut pool.now.words.table.shared.key B.tells pool.now.words.table.shared.table_id iface.old.frames pass.old }
     requires page { (p < pool.now.words.table.shared.key.pages) × (p < pool.now.words.table.shared.key.next) }
-    requires place { i < 64 }
+    requires place { i < WORDS }
     ensures pass { IsSamePass pass.old pass.new }
     ensures may { MayPut pool.now.words.table.shared.key B.tells pool.now.words.table.shared.table_id iface.new.frames pass.new }
     ensures parts { KeepsParts (view pass.old) (view pass.new) }
@@ -83,7 +84,7 @@ fn work<B: Block>(pool: &Pool<Bare, B>, number: usize, pass: &mut Pass<Bare>)
     requires pages { HasPages pool.now.words.table.shared.key }
     ensures done { HasPut pool.now.words.table.shared.key B.tells pool.now.words.table.shared.table_id pass.old pass.new }
 {
-    let i = number % 64;
+    let i = number % WORDS;
     let mut iface = Interface::new(0, 1);
     for k in 0..PAGES {
         let p = (2 * (i as u32) + k) % PAGES;

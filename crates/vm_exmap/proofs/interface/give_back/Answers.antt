@@ -1,5 +1,5 @@
 -- The bits of each bundle are those of the frames that are left there.
-use Rattle.std.proofs.Common.{◌≡◌, ◌∙◌, arith}
+use Rattle.std.proofs.Common.{◌≡◌, ◌<◌, ◌∙◌, subst, arith}
 use Rattle.vm_step.specs.Passes.{IsSamePass, view}
 use Rattle.vm_exmap.proofs.FrameMoves.{ready-after}
 use Rattle.vm_exmap.proofs.Returning.{may-give, given-more, given-none, all-given}
@@ -16,7 +16,9 @@ loop-g-preserved g c =
     elim c.if-mask-ne0.branch [
       | then-mask-ne0 w ↦
           let same : IsSamePass c.args.pass.now w.give.new.pass = (w.give.ensures.pass.0 ∙ c.loop-g.invariant.same.0, w.give.ensures.pass.1 ∙ c.loop-g.invariant.same.1) in
-          let given = given-more c.args.frames.now c.loop-g.g c.mask_of-mask.result (view c.args.pass.now) (view c.loop-g.pass) c.loop-g.invariant.given c.mask_of-mask.ensures w.give.result (view w.give.new.pass) w.give.ensures.told in
+          let given = given-more c.args.frames.now c.loop-g.g c.mask_of-mask.result (view c.args.pass.now) (view c.loop-g.pass) c.loop-g.invariant.given c.mask_of-mask.ensures w.give.result (view w.give.new.pass)
+          (subst (λ n. c.loop-g.g < n) (bundle-count c.div_ceil-bundles.result c.args.words.now.frames _ _ c.div_ceil-bundles.ensures c.args.words.now.shape.1 c.requires.ready.table.is_shape.frames) c.loop-g-test.true)
+          w.give.ensures.told in
           rw w.pass-is (record { same = same; ready = ready-after _ _ _ given.done c.args.pass.now w.give.new.pass c.requires.ready same given.moves; given = given })
       | else-mask-ne0 w ↦
           rw w.pass-is

@@ -3,9 +3,10 @@ use Rattle.std.proofs.lemmas.Bool.{false≢true}
 use Rattle.vm_step.specs.Passes.{view}
 use Rattle.vm_step.proofs.HeldFrames.{held-on}
 use Rattle.vm_guard.proofs.FreshAnswers.{answered, first-denied, is-full, held-after}
-use Rattle.vm_guard.proofs.FreshSure.{first-sure, loaded-alone, loaded-next, next-found, second-sure, seized-alone, seized-next}
+use Rattle.vm_guard.proofs.FreshSure.{first-none, first-sure, loaded-alone, loaded-next, next-found, pages-settle, second-none, second-sure, seized-alone, seized-next}
 use Rattle.vm_guard.specs.Fresh.{IsFull}
-use Rattle.vm_guard.specs.Sure.{MayBeGiven, MayBeSeized, known_next, known_word}
+use Rattle.vm_step.specs.Alone.{LocksNone}
+use Rattle.vm_guard.specs.Sure.{MayBeGiven, MayBeSeized, MayBeTried, known_next, known_word}
 use Rattle.vm_guard.proofs.fresh_pages.fresh.Goals as goal
 
 pub returns-in-Err-clause-answer : goal.returns-in-Err-clause-answer
@@ -78,3 +79,50 @@ returns-then-pages-next-clause-answer g c =
     let there : v.start.pages ≡ c.args.words.now.pages = omega (arith, pages, same) in
     let past : v.start.pages < x + c.args.n = omega (arith, full, inside, there) in
     (refl, subst (λ (n : ℕ). IsFull c.args.n n x c.args.n v (view c.nload-found.new.pass)) there (is-full c.args.n x v (view c.nload-found.new.pass) told past))
+
+pub returns-then-pages-next-clause-settled : goal.returns-then-pages-next-clause-settled
+returns-then-pages-next-clause-settled g c a may =
+    let x : ℕ = c.nload-found.result in
+    let here : x ≡ known_next (view c.args.pass.now) = next-found x _ _ c.nload-found.ensures.told a in
+    let full = c.if-pages-next.true in
+    let room = may.room in
+    let pages = c.args.words.now.shape.0 in
+    let same = c.requires.ready.table.is_shape.pages in
+    absurd (omega (arith, here, full, room, pages, same))
+
+pub returns-in-Err-clause-settled : goal.returns-in-Err-clause-settled
+returns-in-Err-clause-settled g c a may =
+    let some : 1 ≤ c.args.n = ⊎_elim (λ (e : c.args.n ≡ 1). omega (arith, e)) (λ (e : c.args.n ≡ 2). omega (arith, e)) c.requires.few in
+    let told = c.nload-found.ensures.told in
+    c.denied.ensures.settled (c.in-Err.ensures.settled (loaded-alone c.nload-found.result _ _ told a) (first-none c.args.n c.nload-found.result _ _ told a may some))
+
+pub returns-then-n-eq1-clause-settled : goal.returns-then-n-eq1-clause-settled
+returns-then-n-eq1-clause-settled g c a may =
+    let told = c.nload-found.ensures.told in
+    let taken = c.in-Ok.ensures.taken in
+    let on = loaded-alone c.nload-found.result _ _ told a in
+    pages-settle c.give_one.result (c.give_one.ensures.sure (seized-alone _ _ _ _ _ taken.1 on) (seized-next _ _ _ _ _ taken.1 on ∙ loaded-next _ _ _ told a ∙ sym (next-found _ _ _ told a) ∙ sym taken.0))
+
+pub returns-else-n-eq1-clause-settled : goal.returns-else-n-eq1-clause-settled
+returns-else-n-eq1-clause-settled g c a may =
+    let x = c.nload-found.result in
+    let told = c.nload-found.ensures.told in
+    let taken = c.in-Ok.ensures.taken in
+    let on = loaded-alone x _ _ told a in
+    c.give_two.ensures.settled (seized-alone _ _ _ _ _ taken.1 on) (seized-next _ _ _ _ _ taken.1 on ∙ loaded-next _ _ _ told a ∙ sym (next-found _ _ _ told a) ∙ sym taken.0)
+    (subst (λ n. LocksNone (known_word (n + 1) (view c.seize.new.pass))) (sym taken.0) (second-none x _ _ _ _ _ told a (⊎_elim (λ e. absurd (c.if-n-eq1.false e)) (λ (e : c.args.n ≡ 2). subst (λ n. MayBeTried n (view c.args.pass.now)) e may) c.requires.few) taken.1))
+
+pub returns-in-Err-clause-full : goal.returns-in-Err-clause-full
+returns-in-Err-clause-full g c a past =
+    let here : c.nload-found.result ≡ known_next (view c.args.pass.now) = next-found c.nload-found.result _ _ c.nload-found.ensures.told a in
+    absurd (omega (arith, here, past, c.if-pages-next.false, c.nload-found.ensures.told.inside, c.args.words.now.shape.0, c.requires.ready.table.is_shape.pages))
+
+pub returns-then-n-eq1-clause-full : goal.returns-then-n-eq1-clause-full
+returns-then-n-eq1-clause-full g c a past =
+    let here : c.nload-found.result ≡ known_next (view c.args.pass.now) = next-found c.nload-found.result _ _ c.nload-found.ensures.told a in
+    absurd (omega (arith, here, past, c.if-pages-next.false, c.nload-found.ensures.told.inside, c.args.words.now.shape.0, c.requires.ready.table.is_shape.pages))
+
+pub returns-else-n-eq1-clause-full : goal.returns-else-n-eq1-clause-full
+returns-else-n-eq1-clause-full g c a past =
+    let here : c.nload-found.result ≡ known_next (view c.args.pass.now) = next-found c.nload-found.result _ _ c.nload-found.ensures.told a in
+    absurd (omega (arith, here, past, c.if-pages-next.false, c.nload-found.ensures.told.inside, c.args.words.now.shape.0, c.requires.ready.table.is_shape.pages))

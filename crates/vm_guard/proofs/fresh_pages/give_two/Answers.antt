@@ -90,6 +90,14 @@ returns-then-again-x-clause-sure g c a is may =
     let taken = c.in-Ok.ensures.taken in
     absurd (c.if-again-x.true (next-found c.nload-again.result _ _ c.nload-again.ensures.told (seized-alone _ _ _ _ _ taken.1 a) ∙ seized-next _ _ _ _ _ taken.1 a ∙ is))
 
+pub returns-in-Err-clause-settled : goal.returns-in-Err-clause-settled
+returns-in-Err-clause-settled g c a is none = c.denied.ensures.settled (c.in-Err.ensures.settled a none)
+
+pub returns-then-again-x-clause-settled : goal.returns-then-again-x-clause-settled
+returns-then-again-x-clause-settled g c a is none =
+    let taken = c.in-Ok.ensures.taken in
+    absurd (c.if-again-x.true (next-found c.nload-again.result _ _ c.nload-again.ensures.told (seized-alone _ _ _ _ _ taken.1 a) ∙ seized-next _ _ _ _ _ taken.1 a ∙ is))
+
 pub returns-clause-ready : goal.returns-clause-ready
 returns-clause-ready g c =
     let ready = c.furnish-second.ensures.ready in

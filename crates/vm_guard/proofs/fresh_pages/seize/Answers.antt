@@ -3,12 +3,13 @@ use Rattle.std.proofs.Common.{ℕ, ◌≡◌, ◌<◌, ◌∙◌, None, refl, sy
 use Rattle.std.proofs.lemmas.Result.{err_from_is_err_and}
 use Rattle.vm_core.specs.FrameActs.{mapping_of}
 use Rattle.vm_core.specs.Words.{version_of, word_of, LOCKED}
+use Rattle.vm_step.specs.Alone.{LocksNone}
 use Rattle.vm_step.specs.Evidence.{UnlockedExpected}
 use Rattle.vm_step.specs.Passes.{view}
 use Rattle.vm_guard.specs.Fresh.{Seizes}
 use Rattle.vm_guard.specs.Denied.{AgainOrWorn}
 use Rattle.vm_guard.proofs.Denials.{at-once-places, denied-at-once, denied-lost, lost-places}
-use Rattle.vm_guard.proofs.FreshSure.{seize-refused, seize-sure}
+use Rattle.vm_guard.proofs.FreshSure.{refused-worn, seize-refused, seize-sure, seized-none}
 use Rattle.vm_guard.proofs.Sure.{look-finds}
 use Rattle.vm_guard.specs.Sure.{MayBeSeized}
 use Rattle.vm_guard.proofs.GuardSteps.{parts-on, still-of}
@@ -49,7 +50,19 @@ returns-in-Lost-clause-denied g c =
 pub returns-in-Lost-clause-sure : goal.returns-in-Lost-clause-sure
 returns-in-Lost-clause-sure g c a may =
     let lost = c.in-Lost.ensures in
-    absurd (seize-sure g.U.Owner.tied c.args.pid c.look_silently-word.result c.in_ok-expects.expects c.in-Lost.seen _ _ _ c.look_silently-word.ensures.told lost.told c.in_ok-expects.ensures.ok.1 (lost.lost _ refl) a may)
+    absurd (seize-sure g.U.Owner.tied c.args.pid c.look_silently-word.result c.in_ok-expects.expects c.in-Lost.seen _ _ _ c.look_silently-word.ensures.told lost.told c.in_ok-expects.ensures.ok.1 (lost.lost _ refl) a (seized-none _ may))
+
+pub returns-in_err-expects-clause-settled : goal.returns-in_err-expects-clause-settled
+returns-in_err-expects-clause-settled g c a none =
+    let p = err_from_is_err_and c.from_residual.result c.from_residual.ensures.1 in
+    let why = c.in_err-expects.ensures.denied in
+    let here : c.look_silently-word.result ≡ _ = look-finds g.U.Owner.tied c.args.pid None c.look_silently-word.result _ _ c.look_silently-word.ensures.told a in
+    rw (p.1, p.2) (refused-worn c.args.pid c.look_silently-word.result _ why.0 why.1 (subst LocksNone (sym here) none))
+
+pub returns-in-Lost-clause-settled : goal.returns-in-Lost-clause-settled
+returns-in-Lost-clause-settled g c a none =
+    let lost = c.in-Lost.ensures in
+    absurd (seize-sure g.U.Owner.tied c.args.pid c.look_silently-word.result c.in_ok-expects.expects c.in-Lost.seen _ _ _ c.look_silently-word.ensures.told lost.told c.in_ok-expects.ensures.ok.1 (lost.lost _ refl) a none)
 
 pub returns-in-Lost-clause-ready : goal.returns-in-Lost-clause-ready
 returns-in-Lost-clause-ready g c =

@@ -12,3 +12,6 @@ returns-then-not-is_empty-clause-held g c =
 pub returns-in-Batch-clause-held : goal.returns-in-Batch-clause-held
 returns-in-Batch-clause-held g c =
     held-rest c.hand_out-in-Batch.result c.hand_out-in-Batch.new.self.frames (view c.walk.new.pass) (subst (λ (l : List ℕ). AreHeld l (view c.walk.new.pass)) c.hand_out-in-Batch.ensures.hands.all c.in-Batch.ensures.walk.held)
+
+pub returns-in-Again-clause-sure : goal.returns-in-Again-clause-sure
+returns-in-Again-clause-sure g c a = c.in-Again.ensures.walk.others a

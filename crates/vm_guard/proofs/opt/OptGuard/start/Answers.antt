@@ -1,11 +1,13 @@
 -- The looks, the mark that is taken away and the load of the translation word give each answer.
 use Rattle.std.proofs.Common.{◌≡◌, ◌<◌, ◌≢◌, None, true≢false, refl, sym, ap, subst, ◌∙◌, inl, inr}
+use Rattle.std.proofs.lemmas.Bool.{false≢true}
 use Rattle.vm_core.specs.Words.{state_of, EVICTED}
 use Rattle.vm_core.specs.StateActs.{is_readable}
 use Rattle.vm_guard.specs.Denied.{AgainOrNeed}
 use Rattle.vm_guard.proofs.OpenReads.{locked-unreadable, readable-state}
 use Rattle.vm_guard.proofs.Sure.{look-finds, start-open, start-version}
-use Rattle.vm_guard.proofs.Starting.{needed, locked-first, moved, still-resident, names-frame, began}
+use Rattle.vm_guard.proofs.Starting.{needed, locked-first, looks-same, moved, still-resident, names-frame, began}
+use Rattle.vm_guard.proofs.Validating.{kept-as}
 use Rattle.vm_guard.proofs.opt.OptGuard.start.Goals as goal
 
 pub returns-then-state-clause-err : goal.returns-then-state-clause-err
@@ -72,3 +74,27 @@ returns-then-state-3-clause-sure g c a open_word =
     absurd (start-open g.U.Owner.tied c.args.pid _ _ _ _ _ _ _ _ c.look_silently-first.ensures.told c.clear_mark.ensures.clears c.tload-translation.ensures.told c.look_silently-seen.ensures.told a
     (ap (λ n. is_readable (state_of n)) here ∙ open_word)
     (sym c.state-3.ensures ∙ c.if-state-3.true))
+
+pub returns-then-state-clause-kept : goal.returns-then-state-clause-kept
+returns-then-state-clause-kept g c tells = kept-as g.U.Owner.keeps c.args.pid _ _ _ (λ e. absurd (false≢true e)) (c.look_silently-first.ensures.kept tells)
+
+pub returns-then-state-2-clause-kept : goal.returns-then-state-2-clause-kept
+returns-then-state-2-clause-kept g c tells = kept-as g.U.Owner.keeps c.args.pid _ _ _ (λ e. absurd (false≢true e)) (c.look_silently-first.ensures.kept tells)
+
+pub returns-then-version-clause-kept : goal.returns-then-version-clause-kept
+returns-then-version-clause-kept g c tells = kept-as g.U.Owner.keeps c.args.pid _ _ _ (λ e. absurd (false≢true e)) (c.look_silently-seen.ensures.kept tells)
+
+pub returns-then-state-3-clause-kept : goal.returns-then-state-3-clause-kept
+returns-then-state-3-clause-kept g c tells = kept-as g.U.Owner.keeps c.args.pid _ _ _ (λ e. absurd (false≢true e)) (c.look_silently-seen.ensures.kept tells)
+
+pub returns-clause-kept : goal.returns-clause-kept
+returns-clause-kept g c tells =
+    let at = sym c.version.ensures ∙ c.if-version.false ∙ c.version-2.ensures in
+    let resident : state_of c.look_silently-first.result ≢ EVICTED = λ e. c.if-state.false (c.state.ensures ∙ e) in
+    kept-as g.U.Owner.keeps c.args.pid _ _ _
+    (λ _. looks-same _ _ _ _ _ _ _ _ _ _ c.look_silently-first.ensures.told c.clear_mark.ensures.clears c.tload-translation.ensures.told c.look_silently-seen.ensures.told
+    (readable-state _ (subst (λ n. n < 256) c.state.ensures c.state.type_inv) (λ e. c.if-state-2.false (c.state-2.ensures ∙ e)) resident)
+    (readable-state _ (subst (λ n. n < 256) c.state-3.ensures c.state-3.type_inv) (λ e. c.if-state-3.false (c.state-3.ensures ∙ e))
+    (still-resident _ _ _ _ _ _ _ _ _ _ c.look_silently-first.ensures.told c.clear_mark.ensures.clears c.tload-translation.ensures.told c.look_silently-seen.ensures.told resident at))
+    at)
+    (c.look_silently-seen.ensures.kept tells)
