@@ -1,5 +1,5 @@
 -- What the evidence of a try tells of its call.
-use Rattle.std.proofs.Common.{ℕ, List, ◌++◌, ◌≡◌, ◌≢◌, ◌⊎◌, inl, inr, ⊎_elim, sym, ap, subst, ◌∙◌, append_assoc}
+use Rattle.std.proofs.Common.{ℕ, List, false, ◌++◌, ◌≡◌, ◌≢◌, ◌⊎◌, inl, inr, ⊎_elim, sym, ap, subst}
 use Rattle.vm_core.specs.Words.{LOCKED, state_of, version_of}
 use Rattle.vm_map.specs.declared.call.Said.{Said}
 use Rattle.vm_rule.specs.declared.view.Did.{Did}
@@ -7,14 +7,10 @@ use Rattle.vm_rule.specs.declared.view.View.{View}
 use Rattle.vm_step.specs.declared.saw.Saw.{Saw}
 use Rattle.vm_step.specs.declared.saw.At.{At}
 use Rattle.vm_step.specs.declared.saw.At.TheVariants as ats
-use Rattle.vm_step.specs.Evidence.{HasGiven, IsSaw, WhyAgain, place_of}
-use Rattle.vm_step.proofs.Evidenced.{given-behind}
-use Rattle.vm_tree_rule.specs.Leaves.{ReadsOn}
-use Rattle.vm_tree_rule.specs.Turns.{IsAgain, IsAgain as agains}
-use Rattle.vm_tree_rule.proofs.Entering.{opened-reads}
-
-saw-given : (kept : ℕ → Type 0) (expects : ℕ → ℕ → Type 0) (done : List Did) (saw : Saw) → IsSaw kept expects done saw → HasGiven done (place_of saw.at) saw.seen
-saw-given kept expects done saw s = record { earlier = s.earlier; step = s.last; later = s.later; cut = s.cut; gives = s.gives }
+use Rattle.vm_step.specs.Evidence.{HasGiven, WhyAgain, place_of}
+use Rattle.vm_tree_rule.specs.Shown.{IsAgain}
+use Rattle.vm_tree_rule.specs.Turns.{IsAstray}
+use Rattle.vm_tree_rule.proofs.Entering.{astray-given}
 
 other-words : (p : ℕ) (at : At) (first seen : ℕ) (last : Did) → at ≡ ats.Page p → WhyAgain at first seen last → (first ≢ seen) ⊎ (state_of seen ≡ LOCKED)
 other-words p at first seen last is why =
@@ -23,16 +19,13 @@ other-words p at first seen last is why =
     (λ rest. ⊎_elim (λ locked. inr locked) (λ lost. inl (λ e. lost.other (sym e))) rest)
     (subst (λ a. WhyAgain a first seen last) is why)
 
-log-then : (a b : List Did) (u v w : View Said) → v.log ≡ u.log ++ a → w.log ≡ v.log ++ b → w.log ≡ u.log ++ (a ++ b)
-log-then a b u v w f g = g ∙ ap (λ (l : List Did). l ++ b) f ∙ append_assoc u.log a b
+pub again-seen : (key : ℕ) (saw : Saw) (v w : View Said) → IsAgain v saw w ⊎ IsAstray v key saw w → (done : List Did) × (w.log ≡ v.log ++ done) × HasGiven done (place_of saw.at) saw.seen
+again-seen key saw v w (inl a) =
+    let s = a.seen in
+    (a.done, a.log, record { earlier = s.earlier; step = s.last; later = s.later; cut = s.cut; gives = s.gives })
+again-seen key saw v w (inr a) =
+    let given = astray-given key saw v w a in (given.0, given.1, subst (λ (at : At). HasGiven given.0 (place_of at) saw.seen) (sym a.at) given.2)
 
-pub again-seen : (saw : Saw) (v w : View Said) → IsAgain v saw w → (done : List Did) × (w.log ≡ v.log ++ done) × HasGiven done (place_of saw.at) saw.seen
-again-seen saw v w (agains.at_start p x reads d) =
-    (reads.0.done ++ d.done, log-then reads.0.done d.done v x w reads.0.log d.quiet.steady.log, given-behind reads.0.done d.done (place_of saw.at) saw.seen (saw-given _ _ d.done saw d.evidence.1))
-again-seen saw v w (agains.at_end p word frame x o d) =
-    let reads : ReadsOn v x = opened-reads p word frame v x o in
-    (reads.0.done ++ d.done, log-then reads.0.done d.done v x w reads.0.log d.quiet.steady.log, given-behind reads.0.done d.done (place_of saw.at) saw.seen (saw-given _ _ d.done saw d.evidence.1))
-
-pub again-other : (saw : Saw) (v w : View Said) → IsAgain v saw w → (saw.first ≢ saw.seen) ⊎ (state_of saw.seen ≡ LOCKED)
-again-other saw v w (agains.at_start p x reads d) = other-words p saw.at saw.first saw.seen d.evidence.1.last d.evidence.0 d.evidence.1.why
-again-other saw v w (agains.at_end p word frame x o d) = other-words p saw.at saw.first saw.seen d.evidence.1.last d.evidence.0 d.evidence.1.why
+pub again-other : (key : ℕ) (saw : Saw) (v w : View Said) → (v.start.tells ≡ false → ⊥) → IsAgain v saw w ⊎ IsAstray v key saw w → (saw.first ≢ saw.seen) ⊎ (state_of saw.seen ≡ LOCKED)
+again-other key saw v w told (inl a) = other-words a.page saw.at saw.first saw.seen a.seen.last a.at a.seen.why
+again-other key saw v w told (inr a) = absurd (told a.untold)

@@ -1,5 +1,5 @@
 -- What a put and then a get of the same key by one pass are answered.
-use Rattle.std.specs.Prelude.{ℕ, Some, List, [], ◌∷◌, ◌++◌, ◌≡◌}
+use Rattle.std.specs.Prelude.{ℕ, Some, true, List, [], ◌∷◌, ◌++◌, ◌≡◌}
 use Rattle.vm_map.specs.declared.call.Call.TheVariants.{Get, Put}
 use Rattle.vm_map.specs.declared.call.Reply.{Reply}
 use Rattle.vm_map.specs.declared.call.Reply.TheVariants.{Got}
@@ -7,7 +7,8 @@ use Rattle.vm_map.specs.declared.call.Said.{Said}
 use Rattle.vm_owner.specs.declared.Entry.{Entry}
 use Rattle.vm_rule.specs.declared.view.View.{View}
 
--- Both calls are entries of the history, in this order; and where no entry stands between them the get is answered the value that was put
+-- Both calls are entries of the history, in this order; and where no entry stands between them, and blocks tell their words, the get is answered
+-- the value that was put
 pub record AnswersPut (key value : ℕ) (reply : Reply) (v w : View Said) : Type 0 where
   pub before : List (Entry Said)
   pub put : Entry Said
@@ -16,4 +17,4 @@ pub record AnswersPut (key value : ℕ) (reply : Reply) (v w : View Said) : Type
   pub seen : w.seen ≡ ((before ++ put ∷ []) ++ between) ++ get ∷ []
   pub put_is : put.said.call ≡ Put key value
   pub get_is : get.said ≡ record { call = Get key; reply = reply }
-  pub answer : between ≡ [] → reply ≡ Got (Some value)
+  pub answer : v.start.tells ≡ true → between ≡ [] → reply ≡ Got (Some value)

@@ -1,6 +1,6 @@
 // A put and then a get of the same key by one pass, over their contracts alone: both entries stand in the history in order, and where no other call
-// came between them the get is answered the value.
-ghost use Rattle.std.specs.Prelude.{◌≡◌, ◌≤◌, IfSome, None, true};
+// came between them the get is answered the value, where blocks tell their words.
+ghost use Rattle.std.specs.Prelude.{◌≡◌, ◌≤◌, IfSome, None};
 ghost use Rattle.vm_step.specs.Passes.{IsSamePass, MayStep, view};
 ghost use Rattle.vm_step.specs.Ready.{IsReady};
 ghost use Rattle.vm_tree_callers.specs.Pairs.{AnswersPut};
@@ -20,7 +20,6 @@ pub fn put_then_get<B: Block>(
     value: u64,
 ) -> Option<Reply>
     requires pass { MayStep words.now.table.shared.table_id pass.old }
-    requires tells { B.tells ≡ true }
     requires pages { 1 ≤ words.now.table.shared.key.pages }
     requires home { (view pass.old).out ≡ None }
     ensures pass { IsSamePass pass.old pass.new }

@@ -1,5 +1,5 @@
 // Why a get is to be tried again, over its contract alone: the word seen was found by a step of the call, and it is another word than the first
-// one, or a Locked page's. So no get answers so with words that it never loaded, or with equal words of a page that is not locked.
+// one, or a Locked page's, where blocks tell their words. So no get answers so with words that it never loaded, or with equal words of a page that is not locked.
 ghost use Rattle.std.specs.Prelude.{◌≡◌, ◌≢◌, ◌⊎◌, ◌≤◌, ◌++◌, IfSome, true};
 ghost use Rattle.vm_core.specs.Words.{LOCKED, state_of};
 ghost use Rattle.vm_step.specs.Evidence.{HasGiven, place_of};
@@ -14,12 +14,11 @@ use vm_tree_rule::Tree;
 /// The evidence of a get that is to be tried again.
 pub fn why_again<B: Block>(words: &Words<Tree, B>, pass: &mut Pass<Tree>, key: u64) -> Option<Saw>
     requires pass { MayStep words.now.table.shared.table_id pass.old }
-    requires tells { B.tells ≡ true }
     requires pages { 1 ≤ words.now.table.shared.key.pages }
     ensures pass { IsSamePass pass.old pass.new }
     ensures mine { IfSome result (λ _. (view pass.new).mine ≡ (view pass.old).mine) }
     ensures seen { IfSome result (λ saw. (done : _) × ((view pass.new).log ≡ (view pass.old).log ++ done) × HasGiven done (place_of saw.at) saw.seen) }
-    ensures other { IfSome result (λ saw. (saw.first ≢ saw.seen) ⊎ (state_of saw.seen ≡ LOCKED)) }
+    ensures other { B.tells ≡ true → IfSome result (λ saw. (saw.first ≢ saw.seen) ⊎ (state_of saw.seen ≡ LOCKED)) }
 {
     match try_get(words, pass, key) {
         TryRead::Again(saw) => Some(saw),

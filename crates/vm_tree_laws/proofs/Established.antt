@@ -1,7 +1,7 @@
 -- What the node calls say of their pages is what the laws ask of a release and of a read.
 use Rattle.std.proofs.Common.{◌≡◌, ℕ, ◌+◌, ◌<◌, ◌≤◌, List, [], ◌∷◌, length, min, slice_index, slice_set, true, Option, Some, None, refl, ap, ◌∙◌, arith, option_map}
 use Rattle.std.proofs.lemmas.Bool.Decides.{nat_tests}
-use Rattle.vm_map.specs.Map.{lookup_at, del_pair, floor_pair}
+use Rattle.vm_map.specs.Map.{Rises, lookup_at, del_pair, floor_pair}
 use Rattle.vm_tree_model.specs.Node.{Covers}
 use Rattle.vm_tree_model.specs.Page.{pairs_of, node_of, IsInner}
 use Rattle.vm_map.proofs.MapLemmas.{floor_is}
@@ -22,15 +22,15 @@ module _ (start : Start) (due : List ℕ) (leaf : Change) (number count k : ℕ)
   may_del was was_is after = (tag, (covers, was_is, after))
 
 module _ (start : Start) (p number count : ℕ) (words : List ℕ) (tag : (node_of words).tag ≡ 2) (k : ℕ) (covers : Covers (node_of words) k) where
-  pub may_get : (found : Option ℕ) → found ≡ lookup_at (pairs_of words) k → MayRead start p words (entry number count (Get k) (Got found))
-  may_get found found_is = (tag, (covers, found_is))
+  pub may_get : (found : Option ℕ) → ((low high : ℕ) → Rises low high (pairs_of words) → found ≡ lookup_at (pairs_of words) k) → MayRead start p words (entry number count (Get k) (Got found))
+  may_get found found_is = (tag, λ low high rises. (covers, found_is low high rises))
 
   -- a del of a key that the leaf lacks
-  pub may_miss : lookup_at (pairs_of words) k ≡ None → MayRead start p words (entry number count (Del k) (Gone None))
-  may_miss none = (tag, (covers, refl, none))
+  pub may_miss : ((low high : ℕ) → Rises low high (pairs_of words) → lookup_at (pairs_of words) k ≡ None) → MayRead start p words (entry number count (Del k) (Gone None))
+  may_miss none = (tag, λ low high rises. (covers, refl, none low high rises))
 
-  pub may_window : (most : ℕ) (window : Window) → 1 ≤ most → IsWindow (pairs_of words) (node_of words).high k (min most 28) window → MayRead start p words (entry number count (AWindow k most) (Win window))
-  may_window most window some is_window = (tag, (covers, some, is_window))
+  pub may_window : (most : ℕ) (window : Window) → 1 ≤ most → ((low high : ℕ) → Rises low high (pairs_of words) → IsWindow (pairs_of words) (node_of words).high k (min most 28) window) → MayRead start p words (entry number count (AWindow k most) (Win window))
+  may_window most window some is_window = (tag, λ low high rises. (covers, some, is_window low high rises))
 
 -- the parent that the descent of a key reached, and its child for that key
 pub may_split : (start : Start) (due : List ℕ) (parent node sibling : Change) (key separator : ℕ) → IsInner parent.old → Covers (node_of parent.old) key → child_of parent.old key ≡ Some node.page

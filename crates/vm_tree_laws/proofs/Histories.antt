@@ -8,7 +8,8 @@ use Rattle.vm_map.specs.declared.call.Reply.{Reply}
 use Rattle.vm_tree_model.specs.Tree.{map_of}
 use Rattle.vm_owner.specs.declared.Entry.{Entry}
 use Rattle.vm_owner.specs.Kept.{Start, Kept, calls_of}
-use Rattle.vm_tree_laws.specs.History.{saids, AreCounted, IsLegal, is_new, news}
+use Rattle.vm_owner.proofs.Counts.{counted-more}
+use Rattle.vm_tree_laws.specs.History.{saids, IsLegal, is_new, news}
 use Rattle.vm_tree_laws.specs.Keeps.{Keeps}
 
 after_all-push : (m : Pairs) (h : List (Entry Said)) (e : Entry Said) → after_all m (saids (h ++ e ∷ [])) ≡ after (after_all m (saids h)) e.said.call
@@ -19,12 +20,8 @@ AreReplies-push : (m : Pairs) (h : List (Entry Said)) (e : Entry Said) → AreRe
 AreReplies-push m [] e all now = (now, tt)
 AreReplies-push m (f ∷ h) e all now = (all.0, AreReplies-push (after m f.said.call) h e all.1 now)
 
-AreCounted-push : (h before : List (Entry Said)) (e : Entry Said) → AreCounted before h → e.count ≡ calls_of e.number before + calls_of e.number h + 1 → AreCounted before (h ++ e ∷ [])
-AreCounted-push [] before e all now = (omega arith, tt)
-AreCounted-push (f ∷ h) before e all now = (all.0, AreCounted-push h (f ∷ before) e all.1 (omega arith))
-
 legal_push : (m : Pairs) (h : List (Entry Said)) (e : Entry Said) → IsLegal m h → IsReply (after_all m (saids h)) e.said.call e.said.reply → e.count ≡ calls_of e.number h + 1 → IsLegal m (h ++ e ∷ [])
-legal_push m h e legal reply count = record { replies = AreReplies-push m h e legal.replies reply; counted = AreCounted-push h [] e legal.counted (omega arith) }
+legal_push m h e legal reply count = record { replies = AreReplies-push m h e legal.replies reply; counted = counted-more (λ _. 0) h e legal.counted (omega arith) }
 
 news-push : (h : List (Entry Said)) (e : Entry Said) → news (h ++ e ∷ []) ≡ news h + is_new e.said.call e.said.reply
 news-push [] e = omega arith

@@ -65,4 +65,6 @@ releases_keep start kept due _ _ keeps fits turn may = absurd may
 pub reads_keep : (start : Start) (kept : Kept Said) (page : ℕ) (entries : List (Entry Said))
     → Keeps start kept → IsTurn kept.history entries → MayRead start page (page_at kept.pages page) entries → Keeps start (told entries kept)
 reads_keep start kept page [] keeps turn may = rw (append-nil kept.history) keeps
-reads_keep start kept page (e ∷ es) keeps turn may = rw turn.1 (read_keeps start kept keeps page (leaf_by_tag start kept keeps page may.0) e turn.0 e.said.call e.said.reply refl may.1)
+reads_keep start kept page (e ∷ es) keeps turn may =
+    let at = leaf_by_tag start kept keeps page may.0 in
+    rw turn.1 (read_keeps start kept keeps page at e turn.0 e.said.call e.said.reply refl (may.1 _ _ (keeps.tree.tree.leaf page at.2).rises))

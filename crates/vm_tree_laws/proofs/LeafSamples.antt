@@ -58,7 +58,7 @@ abbrev pub window_entry : List (Entry Said)
 window_entry = entry 0 2 (Window 0 1) (Win (record { bound = End; pairs = (5, 7) ∷ [] }))
 
 window_may : MayRead least_start 1 (page_at after_put.pages 1) window_entry
-window_may = (refl, ((omega arith, omega arith), omega arith, record { shows = refl; ends = refl }))
+window_may = (refl, λ low high rises. ((omega arith, omega arith), omega arith, record { shows = refl; ends = refl }))
 
 pub window_keeps : Keeps least_start (told window_entry after_put)
 window_keeps = reads_keep least_start after_put 1 window_entry put_keeps (refl, refl) window_may

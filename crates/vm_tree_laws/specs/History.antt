@@ -8,21 +8,16 @@ use Rattle.vm_map.specs.declared.call.Call.TheVariants.{Put}
 use Rattle.vm_map.specs.declared.call.Reply.{Reply}
 use Rattle.vm_map.specs.declared.call.Reply.TheVariants.{Was}
 use Rattle.vm_owner.specs.declared.Entry.{Entry}
-use Rattle.vm_owner.specs.Kept.{calls_of}
+use Rattle.vm_owner.specs.Kept.{AreCounted}
 
 -- the calls with their replies, in order
 abbrev pub saids : List (Entry Said) → List Said
 saids h = map (λ (e : Entry Said). e.said) h
 
--- each entry's count is one more than its number has entries before it, which stand here with the last one first
-abbrev pub AreCounted : List (Entry Said) → List (Entry Said) → Type 0
-AreCounted before [] = Unit {0}
-AreCounted before (e ∷ h) = (e.count ≡ calls_of e.number before + 1) × AreCounted (e ∷ before) h
-
 -- each reply is right for the map after the calls before it, and each number's counts are 1, 2, 3 and so on
 pub record IsLegal (m : Pairs) (h : List (Entry Said)) : Type 0 where
   pub replies : AreReplies m (saids h)
-  pub counted : AreCounted [] h
+  pub counted : AreCounted (λ _. 0) h
 
 -- 1 for a put that found no pair of its key
 abbrev pub is_new : Call → Reply → ℕ

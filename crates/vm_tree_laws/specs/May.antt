@@ -1,6 +1,6 @@
 -- When pages of the tree may be released together, and what a leaf that was read whole proves.
 use Rattle.std.specs.Prelude.{◌≡◌, ℕ, ◌+◌, ◌<◌, ◌≤◌, true, List, [], ◌∷◌, length, min, slice_index, slice_set, Some, None}
-use Rattle.vm_map.specs.Map.{lookup_at, put_pair, del_pair}
+use Rattle.vm_map.specs.Map.{Rises, lookup_at, put_pair, del_pair}
 use Rattle.vm_tree_model.specs.Node.{Covers}
 use Rattle.vm_tree_model.specs.Page.{pairs_of, node_of}
 use Rattle.vm_tree_model.specs.Edits.{IsLeafWith, AddsPair, IsSplit, IsNewRoot}
@@ -13,6 +13,7 @@ use Rattle.vm_map.specs.declared.call.Call.TheVariants.{Get, Put, Del, Window}
 use Rattle.vm_map.specs.declared.call.Reply.{Reply}
 use Rattle.vm_map.specs.declared.call.Reply.TheVariants.{Got, Was, Gone, Win}
 use Rattle.vm_map.specs.Windows.{IsWindow}
+use Rattle.vm_map.specs.declared.window.TheConstants.{MOST_PAIRS}
 
 -- the one entry of a call with its reply
 abbrev pub entry : ℕ → ℕ → Call → Reply → List (Entry Said)
@@ -31,9 +32,9 @@ pub record MaySplit (due : List ℕ) (parent node sibling : Change) : Type 0 whe
   -- the first key of the sibling
   pub separator : ℕ
   pub inner : (node_of parent.old).tag ≡ 3
-  pub room : length (pairs_of parent.old) < 28
+  pub room : length (pairs_of parent.old) < MOST_PAIRS
   pub names : lookup_at (pairs_of parent.old) key ≡ Some node.page
-  pub full : length (pairs_of node.old) ≡ 28
+  pub full : length (pairs_of node.old) ≡ MOST_PAIRS
   pub split : IsSplit node.old node.new sibling.new separator
   pub adds : AddsPair parent.old parent.new separator sibling.page
   pub owed : has sibling.page due ≡ true
@@ -43,7 +44,7 @@ pub record MaySplitRoot (due : List ℕ) (meta root sibling top : Change) : Type
   pub separator : ℕ
   pub page_zero : meta.page ≡ 0
   pub root_page : slice_index meta.old 1 ≡ root.page
-  pub full : length (pairs_of root.old) ≡ 28
+  pub full : length (pairs_of root.old) ≡ MOST_PAIRS
   pub split : IsSplit root.old root.new sibling.new separator
   pub grows : IsNewRoot top.new (slice_index meta.old 2 + 1) root.page separator sibling.page
   pub meta_new : meta.new ≡ slice_set (slice_set meta.old 1 top.page) 2 (slice_index meta.old 2 + 1)
@@ -61,10 +62,10 @@ MayRelease _ _ _ _ = ⊥
 abbrev pub IsProved : List ℕ → Call → Reply → Type 0
 IsProved leaf (Get k) (Got found) = Covers (node_of leaf) k × (found ≡ lookup_at (pairs_of leaf) k)
 IsProved leaf (Del k) (Gone was) = Covers (node_of leaf) k × (was ≡ None) × (lookup_at (pairs_of leaf) k ≡ None)
-IsProved leaf (Window start most) (Win window) = Covers (node_of leaf) start × (1 ≤ most) × IsWindow (pairs_of leaf) (node_of leaf).high start (min most 28) window
+IsProved leaf (Window start most) (Win window) = Covers (node_of leaf) start × (1 ≤ most) × IsWindow (pairs_of leaf) (node_of leaf).high start (min most MOST_PAIRS) window
 IsProved _ _ _ = ⊥
 
--- the words of a page, read whole at one moment, prove the entry
+-- the words of a page, read whole at one moment, prove the entry, as a leaf's do whose keys rise
 abbrev pub MayRead : Start → ℕ → List ℕ → List (Entry Said) → Type 0
 MayRead start page words [] = Unit {0}
-MayRead start page words (e ∷ es) = ((node_of words).tag ≡ 2) × IsProved words e.said.call e.said.reply
+MayRead start page words (e ∷ es) = ((node_of words).tag ≡ 2) × ((low high : ℕ) → Rises low high (pairs_of words) → IsProved words e.said.call e.said.reply)

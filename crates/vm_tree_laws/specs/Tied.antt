@@ -1,5 +1,6 @@
 -- What a validated page tells of a page that it names.
-use Rattle.std.specs.Prelude.{◌≡◌, ℕ, ◌+◌, ◌^◌, ◌<◌, ◌≤◌, ◌⊎◌, List, length, slice_index, Some}
+use Rattle.vm_map.specs.Keys.{KEY_END}
+use Rattle.std.specs.Prelude.{◌≡◌, ℕ, ◌+◌, ◌<◌, ◌≤◌, ◌⊎◌, List, length, slice_index, Some}
 use Rattle.vm_map.specs.Map.{lookup_at, next_key}
 use Rattle.vm_tree_model.specs.Page.{node_of, IsFree, IsLeaf, IsInner, IsMeta}
 use Rattle.vm_owner.specs.Kept.{Start}
@@ -22,7 +23,7 @@ pub record IsSound (pages r : ℕ) (words : List ℕ) : Type 0 where
 -- page r had these words; if they name page p, then p's words have the form that this asks of them
 pub record IsTied (pages r : ℕ) (words : List ℕ) (p : ℕ) (named : List ℕ) : Type 0 where
   pub sound : IsSound pages r words
-  pub root : r ≡ 0 → slice_index words 1 ≡ p → IsNodeAs named (slice_index words 2) 0 (2 ^ 64)
+  pub root : r ≡ 0 → slice_index words 1 ≡ p → IsNodeAs named (slice_index words 2) 0 KEY_END
   pub child : 1 ≤ r → (node_of words).tag ≡ 3 → (k level : ℕ) → lookup_at (node_of words).pairs k ≡ Some p → level + 1 ≡ (node_of words).level
       → IsNodeAs named level k (next_key (node_of words).pairs (node_of words).high k)
 

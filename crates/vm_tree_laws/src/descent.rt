@@ -1,6 +1,7 @@
 //! The steps of a coupled descent: the version of a child's page is seen before its parent is validated, so a child validated at that
 //! version is tied to its parent. Each step reaches the node of its level that covers the key, and the level falls by one.
-ghost use Rattle.std.specs.Prelude.{◌≡◌, ◌⊎◌, ℕ, ◌+◌, ◌^◌, ◌<◌, ◌≤◌, List, length, slice_index, Some};
+ghost use Rattle.vm_map.specs.Keys.{KEY_END};
+ghost use Rattle.std.specs.Prelude.{◌≡◌, ◌⊎◌, ℕ, ◌+◌, ◌<◌, ◌≤◌, List, length, slice_index, Some};
 ghost use Rattle.vm_tree_model.specs.Node.{Covers};
 ghost use Rattle.vm_tree_model.specs.Page.{node_of, IsLeaf, IsInner};
 ghost use Rattle.vm_tree_model.specs.Edits.{child_of};
@@ -10,7 +11,7 @@ ghost use Rattle.vm_tree_laws.specs.Descent.{IsReached, IsWay, last_words};
 /// The page that page 0 names is the root: it is reached for every key of 64 bits, at the level that page 0 has as its height.
 #[tactic(auto, using(crate::proofs::Descents::reached_root))]
 pub fn root_is_reached()
-    ensures { (pages p key : ℕ) (meta words : List ℕ) → IsTied pages 0 meta p words → slice_index meta 1 ≡ p → key < 2 ^ 64 → IsReached pages p words (slice_index meta 2) key }
+    ensures { (pages p key : ℕ) (meta words : List ℕ) → IsTied pages 0 meta p words → slice_index meta 1 ≡ p → key < KEY_END → IsReached pages p words (slice_index meta 2) key }
 {}
 
 /// A page reached is a leaf at level 0 and an inner node above it, and its tag says which.

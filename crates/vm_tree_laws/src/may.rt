@@ -1,7 +1,7 @@
 //! What the calls on nodes say of their pages is what a release and a read ask. The premises are those calls' clauses, and what was
 //! seen in the words themselves: a leaf's tag, and that its fences cover the key. So a read can show them before it is validated.
 ghost use Rattle.std.specs.Prelude.{◌≡◌, ℕ, ◌+◌, ◌<◌, ◌≤◌, List, [], ◌∷◌, length, min, slice_index, slice_set, true, Option, Some, None};
-ghost use Rattle.vm_map.specs.Map.{lookup_at, del_pair};
+ghost use Rattle.vm_map.specs.Map.{Rises, lookup_at, del_pair};
 ghost use Rattle.vm_map.specs.declared.call.Call.TheVariants.{Get, Put, Del, Window as ForWindow};
 ghost use Rattle.vm_map.specs.declared.call.Reply.TheVariants.{Got, Was, Gone, Win};
 ghost use Rattle.vm_map.specs.declared.window.Window.{Window};
@@ -12,6 +12,8 @@ ghost use Rattle.vm_tree_model.specs.Edits.{child_of, PutsInLeaf, IsLeafWith, Ad
 ghost use Rattle.vm_owner.specs.Numbers.{has};
 ghost use Rattle.vm_owner.specs.Kept.{Start, Change};
 ghost use Rattle.vm_tree_laws.specs.May.{entry, MayRelease, MayRead};
+
+use vm_map::window::MOST_PAIRS;
 
 /// A leaf may be released after a put at a key that it covers, whether or not it had the key.
 #[tactic(auto, using(crate::proofs::Established::may_put))]
@@ -34,7 +36,7 @@ pub fn may_del()
 pub fn may_split()
     ensures { (start : Start) (due : List ℕ) (parent node sibling : Change) (key separator : ℕ)
         → IsInner parent.old → Covers (node_of parent.old) key → child_of parent.old key ≡ Some node.page
-        → length (pairs_of parent.old) < 28 → length (pairs_of node.old) ≡ 28
+        → length (pairs_of parent.old) < MOST_PAIRS → length (pairs_of node.old) ≡ MOST_PAIRS
         → IsSplit node.old node.new sibling.new separator → AddsPair parent.old parent.new separator sibling.page
         → has sibling.page due ≡ true
         → MayRelease start due (parent ∷ node ∷ sibling ∷ []) [] }
@@ -45,7 +47,7 @@ pub fn may_split()
 #[tactic(auto, using(crate::proofs::Established::may_split_root))]
 pub fn may_split_root()
     ensures { (start : Start) (due : List ℕ) (meta root sibling top : Change) (height separator : ℕ)
-        → meta.page ≡ 0 → slice_index meta.old 1 ≡ root.page → slice_index meta.old 2 ≡ height → length (pairs_of root.old) ≡ 28
+        → meta.page ≡ 0 → slice_index meta.old 1 ≡ root.page → slice_index meta.old 2 ≡ height → length (pairs_of root.old) ≡ MOST_PAIRS
         → IsSplit root.old root.new sibling.new separator → IsNewRoot top.new (height + 1) root.page separator sibling.page
         → meta.new ≡ slice_set (slice_set meta.old 1 top.page) 2 (height + 1)
         → has sibling.page due ≡ true → has top.page due ≡ true
@@ -56,7 +58,7 @@ pub fn may_split_root()
 #[tactic(auto, using(crate::proofs::Established::may_get))]
 pub fn may_get()
     ensures { (start : Start) (p number count : ℕ) (words : List ℕ) → (node_of words).tag ≡ 2 → (key : ℕ) → Covers (node_of words) key
-        → (found : Option ℕ) → found ≡ lookup_at (pairs_of words) key
+        → (found : Option ℕ) → ((low high : ℕ) → Rises low high (pairs_of words) → found ≡ lookup_at (pairs_of words) key)
         → MayRead start p words (entry number count (Get key) (Got found)) }
 {}
 
@@ -64,7 +66,7 @@ pub fn may_get()
 #[tactic(auto, using(crate::proofs::Established::may_miss))]
 pub fn may_miss()
     ensures { (start : Start) (p number count : ℕ) (words : List ℕ) → (node_of words).tag ≡ 2 → (key : ℕ) → Covers (node_of words) key
-        → lookup_at (pairs_of words) key ≡ None
+        → ((low high : ℕ) → Rises low high (pairs_of words) → lookup_at (pairs_of words) key ≡ None)
         → MayRead start p words (entry number count (Del key) (Gone None)) }
 {}
 
@@ -73,6 +75,6 @@ pub fn may_miss()
 #[tactic(auto, using(crate::proofs::Established::may_window))]
 pub fn may_window()
     ensures { (start : Start) (p number count : ℕ) (words : List ℕ) → (node_of words).tag ≡ 2 → (key : ℕ) → Covers (node_of words) key
-        → (most : ℕ) (window : Window) → 1 ≤ most → IsWindow (pairs_of words) (node_of words).high key (min most 28) window
+        → (most : ℕ) (window : Window) → 1 ≤ most → ((low high : ℕ) → Rises low high (pairs_of words) → IsWindow (pairs_of words) (node_of words).high key (min most MOST_PAIRS) window)
         → MayRead start p words (entry number count (ForWindow key most) (Win window)) }
 {}

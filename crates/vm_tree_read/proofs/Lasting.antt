@@ -22,6 +22,7 @@ module _ {X : Type 0} where
     holds = λ q. record { shares = refl; exclusive = refl; writing = refl };
     mine = refl;
     seen = ([], sym (append-none v.seen));
+    notes = ([], sym (append-none v.notes));
     log = ([], sym (append-none v.log));
     group = (refl, refl, refl);
     out = refl;
@@ -35,6 +36,7 @@ module _ {X : Type 0} where
     holds = λ q. holds-then u v w q (f.holds q) (g.holds q);
     mine = g.mine ∙ f.mine;
     seen = starts-then u.seen v.seen w.seen f.seen g.seen;
+    notes = starts-then u.notes v.notes w.notes f.notes g.notes;
     log = starts-then u.log v.log w.log f.log g.log;
     group = (g.group.0 ∙ f.group.0, g.group.1 ∙ f.group.1, g.group.2 ∙ f.group.2);
     out = g.out ∙ f.out;
@@ -44,10 +46,10 @@ module _ {X : Type 0} where
   }
 
   pub reads-wait : (v w : View X) → ReadsOn v w → Waits v w
-  reads-wait v w r = record { holds = r.0.holds; mine = r.1; seen = r.0.seen; log = (r.0.done, r.0.log); group = r.0.group; out = r.0.out; start = r.0.start; parts = r.0.parts; alone = r.0.alone }
+  reads-wait v w r = record { holds = r.0.holds; mine = r.1; seen = r.0.seen; notes = ([], r.0.notes ∙ sym (append-none v.notes)); log = (r.0.done, r.0.log); group = r.0.group; out = r.0.out; start = r.0.start; parts = r.0.parts; alone = r.0.alone }
 
   pub bring-waits : (v w : View X) → KeepsLocks v w → GoesOn v w → Waits v w
-  bring-waits v w k goes = record { holds = k.holds; mine = k.mine; seen = goes.seen; log = goes.log; group = goes.group; out = k.out; start = k.start; parts = k.parts; alone = k.alone }
+  bring-waits v w k goes = record { holds = k.holds; mine = k.mine; seen = goes.seen; notes = k.notes; log = goes.log; group = goes.group; out = k.out; start = k.start; parts = k.parts; alone = k.alone }
 
 -- the entry is the next one of the pass as it was before it waited
 same-entry : (v x : View Said) (said : Said) → Waits v x → entry_of x said ≡ entry_of v said
@@ -63,7 +65,7 @@ replied said v x w k a = record {
     k.seen.0 ++ a.entry.0,
     a.entry.1 ∙ (λ i. (k.seen.1 i ++ a.entry.0) ++ same-entry v x said k i ∷ []) ∙ ap (λ (l : List (Entry Said)). l ++ entry_of v said ∷ []) (append_assoc v.seen k.seen.0 a.entry.0),
   );
-  legal = subst (λ (o : Origin). IsLegal (map_of o.contents) w.seen) k.start a.legal;
+  legal = λ tells. subst (λ (o : Origin). IsLegal (map_of o.contents) w.seen) k.start (a.told (ap (λ (o : Origin). o.tells) k.start ∙ tells)).legal;
   holds = λ q. holds-then v x w q (k.holds q) (a.reads.holds q);
   out = a.reads.out ∙ k.out;
   start = a.reads.start ∙ k.start;

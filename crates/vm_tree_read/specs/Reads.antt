@@ -1,42 +1,73 @@
 -- What a read of the tree answers: the reply at one step of the history, or why it is to be tried again.
-use Rattle.std.specs.Prelude.{ℕ, List, [], ◌∷◌, ◌++◌, ◌≡◌}
+use Rattle.std.specs.Prelude.{ℕ, List, [], true, ◌∷◌, ◌++◌, ◌≡◌, ◌⊎◌}
+use Rattle.vm_map.specs.Map.{Rises}
 use Rattle.vm_map.specs.declared.call.Call.{Call}
-use Rattle.vm_map.specs.declared.call.Reply.{Reply}
+use Rattle.vm_map.specs.declared.call.Call.TheVariants.{Get, Put, Del, Window}
 use Rattle.vm_map.specs.declared.call.Said.{Said}
 use Rattle.vm_owner.specs.declared.Entry.{Entry}
 use Rattle.vm_owner.specs.Kept.{Kept}
 use Rattle.vm_page.specs.Pages.{page_at}
 use Rattle.vm_rule.specs.declared.view.View.{View}
+use Rattle.vm_rule.specs.Reading.{last_of}
 use Rattle.vm_rule.specs.Rule.{began_of}
 use Rattle.vm_rule.specs.Brought.{entry_of}
-use Rattle.vm_tree_model.specs.Page.{node_of}
+use Rattle.vm_tree_model.specs.Node.{Covers}
+use Rattle.vm_tree_model.specs.Page.{node_of, pairs_of}
 use Rattle.vm_tree_model.specs.Tree.{map_of}
 use Rattle.vm_tree_laws.specs.History.{IsLegal}
 use Rattle.vm_tree_laws.specs.Keeps.{Keeps}
 use Rattle.vm_tree_laws.specs.May.{IsProved}
 use Rattle.vm_tree_rule.specs.Leaves.{OnlyReads, ReadsOn}
-use Rattle.vm_tree_rule.specs.Turns.{IsAgain, IsNeeded}
+use Rattle.vm_tree_rule.specs.Seeks.{HasRead}
+use Rattle.vm_tree_rule.specs.Shown.{IsAgain}
+use Rattle.vm_tree_rule.specs.Turns.{IsAstray, IsNeeded}
 use Rattle.vm_tree_read.specs.declared.read.TryRead.{TryRead}
 use Rattle.vm_tree_read.specs.declared.read.TryRead.TheVariants as tries
 
--- the call with its reply became the last entry, under the pass's first number and its next count. At that step the pages of the tree were
--- such that their map is the start's map after the whole history; the history is legal for the start's map; and one of the pages, a leaf
--- that covers the call's key, proves the reply
-pub record IsAnswered (said : Said) (v w : View Said) : Type 0 where
-  pub reads : OnlyReads v w
-  pub mine : w.mine ≡ v.mine ++ entry_of v said ∷ []
-  pub entry : (others : List (Entry Said)) × (w.seen ≡ (v.seen ++ others) ++ entry_of v said ∷ [])
+-- the key whose leaf proves the reply of a call
+abbrev pub key_of : Call → ℕ
+key_of (Get key) = key
+key_of (Put key value) = key
+key_of (Del key) = key
+key_of (Window start most) = start
+
+-- the words are a leaf's that covers the call's key; and they prove the reply where their keys rise, as those of a tree's leaf do
+pub record ProvesReply (words : List ℕ) (said : Said) : Type 0 where
+  pub leaf : (node_of words).tag ≡ 2
+  pub covers : Covers (node_of words) (key_of said.call)
+  pub reply : (low high : ℕ) → Rises low high (pairs_of words) → IsProved words said.call said.reply
+
+-- At the step that made the entry the pages of the tree were such that their map is the start's map after the whole history; the history is legal
+-- for the start's map; and the tree's page has these words, which are the last ones of the table's page
+pub record IsBorneOut (page : ℕ) (words : List ℕ) (v w : View Said) : Type 0 where
   pub legal : IsLegal (map_of v.start.contents) w.seen
   pub kept : Kept Said
   pub keeps : Keeps (began_of v.start) kept
   pub history : kept.history ≡ w.seen
+  pub here : page_at kept.pages page ≡ words
+  pub last : (last_of w page).words ≡ words
+
+-- The call with its reply became the last entry, under the pass's first number and its next count. A page was read whole whose words are a leaf's that
+-- covers the call's key, and prove the reply if their keys rise; where blocks tell their words they do, and the words are borne out
+pub record IsAnswered (said : Said) (v w : View Said) : Type 0 where
+  pub reads : OnlyReads v w
+  pub mine : w.mine ≡ v.mine ++ entry_of v said ∷ []
+  pub entry : (others : List (Entry Said)) × (w.seen ≡ (v.seen ++ others) ++ entry_of v said ∷ [])
   pub page : ℕ
-  pub leaf : (node_of (page_at kept.pages page)).tag ≡ 2
-  pub proved : IsProved (page_at kept.pages page) said.call said.reply
+  pub words : List ℕ
+  pub read : HasRead w page words
+  pub proves : ProvesReply words said
+  pub proved : v.start.tells ≡ true → IsProved words said.call said.reply
+  pub told : v.start.tells ≡ true → IsBorneOut page words v w
 
 -- a try of this call, whose key this is: answered; or to be tried again; or for a page that is needed. Without an answer the pass has no
 -- further entry
 abbrev pub IsTried : Call → ℕ → TryRead → View Said → View Said → Type 0
 IsTried call key (tries.Done reply) v w = IsAnswered (record { call = call; reply = reply }) v w
-IsTried call key (tries.Again saw) v w = ReadsOn v w × IsAgain v saw w
+IsTried call key (tries.Again saw) v w = ReadsOn v w × (IsAgain v saw w ⊎ IsAstray v key saw w)
 IsTried call key (tries.Need p) v w = ReadsOn v w × IsNeeded v key p w
+
+abbrev pub IsDone : TryRead → Type 0
+IsDone (tries.Done reply) = Unit {0}
+IsDone (tries.Again saw) = ⊥
+IsDone (tries.Need p) = ⊥

@@ -1,7 +1,8 @@
 -- What a read leaves and answers that waits: tries, and pages brought in between, until a try is answered or a page can't be brought.
-use Rattle.std.specs.Prelude.{ℕ, List, [], ◌∷◌, ◌++◌, ◌≡◌}
+use Rattle.std.specs.Prelude.{ℕ, List, [], true, false, ◌∷◌, ◌++◌, ◌≡◌, ◌⊎◌}
 use Rattle.vm_map.specs.declared.call.Said.{Said}
 use Rattle.vm_owner.specs.declared.Entry.{Entry}
+use Rattle.vm_owner.specs.Numbers.{has}
 use Rattle.vm_rule.specs.declared.view.View.{View}
 use Rattle.vm_rule.specs.Brought.{entry_of}
 use Rattle.vm_tree_model.specs.Tree.{map_of}
@@ -12,21 +13,27 @@ use Rattle.vm_pool.specs.declared.bring.Bring.TheVariants as brings
 use Rattle.vm_pool.specs.Brings.{IsBring}
 use Rattle.vm_tree_rule.specs.declared.fault.TreeFault.{TreeFault}
 use Rattle.vm_tree_rule.specs.declared.fault.TreeFault.TheVariants as faults
+use Rattle.vm_tree_rule.specs.Leaves.{ReadsOn}
 use Rattle.vm_tree_rule.specs.Turns.{IsNeeded}
 use Rattle.vm_tree_read.specs.Reads.{IsAnswered}
 
 module _ {X : Type 0} where
-  -- the pass holds just the locks that it held, made no entry, and has its block at home
+  -- the pass holds just the locks that it held, made no entry, and has its block at home; what it has seen, its notes and its steps go on
   pub record Waits (v w : View X) : Type 0 where
     pub holds : (q : ℕ) → HoldsPage v w q
     pub mine : w.mine ≡ v.mine
     pub seen : StartsWith w.seen v.seen
+    pub notes : StartsWith w.notes v.notes
     pub log : StartsWith w.log v.log
     pub out : w.out ≡ v.out
     pub group : (w.pending ≡ v.pending) × (w.owed ≡ v.owed) × (w.next ≡ v.next)
     pub start : w.start ≡ v.start
     pub parts : (w.used ≡ v.used) × (w.fresh ≡ v.fresh)
     pub alone : StaysAlone v w
+
+  -- no frame is lost: each one that the pass has is among the new ones, or it had it before, and not among the old ones
+  abbrev pub LosesNone : List ℕ → View X → List ℕ → View X → Type 0
+  LosesNone old v new w = (f : ℕ) → has f w.frames ≡ true → (has f new ≡ true) ⊎ ((has f v.frames ≡ true) × (has f old ≡ false))
 
   -- page p was to be brought, and a device failed, or a page was at the last version
   pub data IsFaultOf (p : ℕ) (fault : TreeFault) (v w : View X) : Type 0 where
@@ -41,7 +48,7 @@ pub record IsReplied (said : Said) (v w : View Said) : Type 0 where
   pub answered : IsAnswered said tried w
   pub mine : w.mine ≡ v.mine ++ entry_of v said ∷ []
   pub entry : (others : List (Entry Said)) × (w.seen ≡ (v.seen ++ others) ++ entry_of v said ∷ [])
-  pub legal : IsLegal (map_of v.start.contents) w.seen
+  pub legal : v.start.tells ≡ true → IsLegal (map_of v.start.contents) w.seen
   pub holds : (q : ℕ) → HoldsPage v w q
   pub out : w.out ≡ v.out
   pub start : w.start ≡ v.start
@@ -54,6 +61,7 @@ pub record IsFaulted (key : ℕ) (fault : TreeFault) (v w : View Said) : Type 0 
   pub found : View Said
   pub waits : Waits v tried
   pub page : ℕ
+  pub reads : ReadsOn tried found
   pub needed : IsNeeded tried key page found
   pub fault_is : IsFaultOf page fault found w
   pub leaves : Waits v w

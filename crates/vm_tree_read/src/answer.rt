@@ -1,16 +1,16 @@
 // The leaf of a key, and the answer that its validation makes an entry of the history.
-ghost use Rattle.std.specs.Prelude.{◌≡◌, ◌++◌, ◌≤◌, ℕ, IfOk, IfErr, Some, length, true};
+ghost use Rattle.std.specs.Prelude.{◌≡◌, ◌++◌, ◌≤◌, ℕ, IfOk, IfErr, IsOk, Some, length, true};
 ghost use Rattle.vm_guard.specs.Denied.{AgainOrNeed, IsDenied, KeptWord};
 ghost use Rattle.vm_guard.specs.Guards.{IsReading, placed};
 ghost use Rattle.vm_rule.specs.Views.{loads_at};
 ghost use Rattle.vm_step.specs.Evidence.{NoneExpected};
 ghost use Rattle.vm_step.specs.Passes.{IsSamePass, MayStep, view};
 ghost use Rattle.vm_step.specs.Ready.{IsReady};
-ghost use Rattle.vm_tree_laws.specs.May.{IsProved};
 ghost use Rattle.vm_tree_model.specs.Node.{Covers};
 ghost use Rattle.vm_tree_model.specs.Page.{node_of};
-ghost use Rattle.vm_tree_read.specs.Reads.{IsAnswered};
+ghost use Rattle.vm_tree_read.specs.Reads.{IsAnswered, ProvesReply};
 ghost use Rattle.vm_tree_rule.specs.Leaves.{ReadsOn};
+ghost use Rattle.vm_tree_rule.specs.Resident.{IsKnownNow, KnowsResident};
 ghost use Rattle.vm_tree_rule.specs.Standing.{Awaits, IsOpened};
 ghost use Rattle.vm_tree_rule.specs.Turns.{IsTurn};
 
@@ -18,7 +18,7 @@ use vm_block::Block;
 use vm_guard::{Deny, OptGuard};
 use vm_map::call::{Reply, Said};
 use vm_node::{covers, is_leaf};
-use vm_page::PageBuf;
+use vm_page::{PageBuf, WORDS};
 use vm_rule::words::{Pass, Words};
 use vm_step::Saw;
 use vm_tree_rule::{Tree, Turn, descend};
@@ -32,10 +32,9 @@ pub fn leaf_of<B: Block>(
     page: &mut PageBuf,
 ) -> Result<OptGuard, Turn>
     requires pass { MayStep words.now.table.shared.table_id pass.old }
-    requires tells { B.tells ≡ true }
     requires pages { 1 ≤ words.now.table.shared.key.pages }
-    requires size { length page.old ≡ 64 }
-    ensures size { length page.new ≡ 64 }
+    requires size { length page.old ≡ WORDS }
+    ensures size { length page.new ≡ WORDS }
     ensures pass { IsSamePass pass.old pass.new }
     ensures ready { IsReady words.now.table.shared.key B.tells words.now.table.shared.table_id pass.new }
     ensures reads { IfOk result (λ guard. ReadsOn (view pass.old) (view pass.new) × IsOpened (view pass.old) guard.pid guard.word guard.frame (view pass.new)) }
@@ -43,6 +42,8 @@ pub fn leaf_of<B: Block>(
     ensures leaf { IfOk result (λ _. ((node_of page.new).tag ≡ 2) × Covers (node_of page.new) key) }
     ensures awaits { IfOk result (λ guard. Awaits (view pass.new) guard.pid guard.word 0 key) }
     ensures err { IfErr result (λ turn. IsTurn (view pass.old) key turn (view pass.new)) }
+    ensures sure { B.tells ≡ true → KnowsResident (view pass.old) → IsOk result }
+    ensures known { B.tells ≡ true → KnowsResident (view pass.old) → IfOk result (λ guard. IsKnownNow guard.pid guard.word (view pass.new)) }
 {
     let guard = match descend(words, pass, key, page) {
         Ok(guard) => guard,
@@ -54,7 +55,7 @@ pub fn leaf_of<B: Block>(
         }
     }
     match guard.validate_silently(words, pass) {
-        Ok(()) => unreachable!(),
+        Ok(()) => Err(Turn::astray_at(&guard)),
         Err(saw) => Err(Turn::Again(saw)),
     }
 }
@@ -68,16 +69,17 @@ pub fn answer<B: Block>(
     said: Said,
 ) -> Result<Reply, Saw>
     requires ready { IsReady words.now.table.shared.key B.tells words.now.table.shared.table_id pass.old }
-    requires tells { B.tells ≡ true }
     requires reading { IsReading guard.now.pid guard.now.word guard.now.frame (view pass.old) }
-    requires size { length page.now ≡ 64 }
+    requires size { length page.now ≡ WORDS }
     requires loads { (before : _) × (loads_at (view pass.old) guard.now.pid ≡ before ++ placed 0 page.now) }
-    requires proves { ((node_of page.now).tag ≡ 2) × IsProved page.now said.call said.reply }
+    requires proves { ProvesReply page.now said }
     ensures pass { IsSamePass pass.old pass.new }
     ensures ready { IsReady words.now.table.shared.key B.tells words.now.table.shared.table_id pass.new }
     ensures reply { IfOk result (λ reply. reply ≡ said.reply) }
     ensures ok { IfOk result (λ _. IsAnswered said (view pass.old) (view pass.new)) }
     ensures err { IfErr result (λ saw. IsDenied AgainOrNeed (KeptWord guard.now.word) NoneExpected guard.now.pid (Deny.Again saw) (view pass.old) (view pass.new)) }
+    ensures sure { IsKnownNow guard.now.pid guard.now.word (view pass.old) → IsOk result }
+    ensures known { IsKnownNow guard.now.pid guard.now.word (view pass.old) → KnowsResident (view pass.new) }
 {
     match guard.validate(words, pass, Some(&said)) {
         Ok(()) => {

@@ -3,7 +3,8 @@ ghost use Rattle.std.specs.Prelude.{◌≡◌, ◌≤◌, ◌<◌, true};
 ghost use Rattle.vm_map.specs.declared.call.Call.TheVariants.{Get, Window as ForWindow};
 ghost use Rattle.vm_step.specs.Passes.{IsSamePass, MayStep, view};
 ghost use Rattle.vm_step.specs.Ready.{IsReady};
-ghost use Rattle.vm_tree_read.specs.Reads.{IsTried};
+ghost use Rattle.vm_tree_read.specs.Reads.{IsDone, IsTried};
+ghost use Rattle.vm_tree_rule.specs.Resident.{KnowsResident};
 ghost use Rattle.vm_tree_rule.specs.Turns.{IsTurn};
 
 use crate::answer::{answer, leaf_of};
@@ -20,7 +21,8 @@ use vm_tree_rule::{Tree, Turn};
 pub enum TryRead {
     /// The reply, at the step that validated the leaf.
     Done(Reply),
-    /// A page's word had changed, or the page was Locked: the call may be tried again.
+    /// A page's word had changed, or the page was Locked: the call may be tried again. Where blocks do not tell their words, also: the words of a page
+    /// are no tree's; then both words are the one that the page was read at.
     Again(Saw),
     /// This page is Evicted: it has to be brought in first. It is page 0, or a page on the way names it.
     Need(u32),
@@ -33,17 +35,19 @@ fn not_yet(turn: Turn) -> TryRead
     match turn {
         Turn::Again(saw) => TryRead::Again(saw),
         Turn::Need(pid) => TryRead::Need(pid),
+        Turn::Astray(saw) => TryRead::Again(saw),
     }
 }
 
 /// The value at the key.
 pub fn try_get<B: Block>(words: &Words<Tree, B>, pass: &mut Pass<Tree>, key: u64) -> TryRead
     requires pass { MayStep words.now.table.shared.table_id pass.old }
-    requires tells { B.tells ≡ true }
     requires pages { 1 ≤ words.now.table.shared.key.pages }
     ensures pass { IsSamePass pass.old pass.new }
     ensures ready { IsReady words.now.table.shared.key B.tells words.now.table.shared.table_id pass.new }
     ensures tried { IsTried (Get key) key result (view pass.old) (view pass.new) }
+    ensures sure { B.tells ≡ true → KnowsResident (view pass.old) → IsDone result }
+    ensures known { B.tells ≡ true → KnowsResident (view pass.old) → KnowsResident (view pass.new) }
 {
     let mut page = PageBuf::zero();
     let guard = match leaf_of(words, pass, key, &mut page) {
@@ -68,12 +72,13 @@ pub fn try_window<B: Block>(
     most: u32,
 ) -> TryRead
     requires pass { MayStep words.now.table.shared.table_id pass.old }
-    requires tells { B.tells ≡ true }
     requires pages { 1 ≤ words.now.table.shared.key.pages }
     requires most { 1 ≤ most }
     ensures pass { IsSamePass pass.old pass.new }
     ensures ready { IsReady words.now.table.shared.key B.tells words.now.table.shared.table_id pass.new }
     ensures tried { IsTried (ForWindow start most) start result (view pass.old) (view pass.new) }
+    ensures sure { B.tells ≡ true → KnowsResident (view pass.old) → IsDone result }
+    ensures known { B.tells ≡ true → KnowsResident (view pass.old) → KnowsResident (view pass.new) }
 {
     let mut page = PageBuf::zero();
     let guard = match leaf_of(words, pass, start, &mut page) {

@@ -4,7 +4,7 @@ ghost use Rattle.vm_step.specs.HeldFrames.{AreHeld};
 ghost use Rattle.vm_map.specs.declared.call.Call.TheVariants.{Get, Window as ForWindow};
 ghost use Rattle.vm_step.specs.Passes.{IsSamePass, view};
 ghost use Rattle.vm_step.specs.Ready.{IsReady};
-ghost use Rattle.vm_tree_read.specs.Waiting.{IsFaultOf, IsFaulted, IsReplied, Waits};
+ghost use Rattle.vm_tree_read.specs.Waiting.{IsFaultOf, IsFaulted, IsReplied, LosesNone, Waits};
 
 use crate::read::{TryRead, try_get, try_window};
 use crossbeam_utils::Backoff;
@@ -32,6 +32,7 @@ pub fn fetch<B: Block>(
     ensures ready { IsReady pool.now.words.table.shared.key B.tells pool.now.words.table.shared.table_id pass.new }
     ensures held { AreHeld iface.new.frames (view pass.new) }
     ensures iface { (iface.new.home ≡ iface.old.home) × (iface.new.cap ≡ iface.old.cap) }
+    ensures lost { LosesNone iface.old.frames (view pass.old) iface.new.frames (view pass.new) }
     ensures waits { Waits (view pass.old) (view pass.new) }
     ensures err { IfErr result (λ fault. IsFaultOf pid fault (view pass.old) (view pass.new)) }
 {
@@ -59,7 +60,6 @@ pub fn get<R: Wait, B: Block>(
     key: u64,
 ) -> Result<Reply, TreeFault>
     requires ready { IsReady pool.now.words.table.shared.key B.tells pool.now.words.table.shared.table_id pass.old }
-    requires tells { B.tells ≡ true }
     requires pages { 1 ≤ pool.now.words.table.shared.key.pages }
     requires home { (view pass.old).out ≡ None }
     requires frames { AreHeld iface.old.frames (view pass.old) }
@@ -67,6 +67,7 @@ pub fn get<R: Wait, B: Block>(
     ensures ready { IsReady pool.now.words.table.shared.key B.tells pool.now.words.table.shared.table_id pass.new }
     ensures held { AreHeld iface.new.frames (view pass.new) }
     ensures iface { (iface.new.home ≡ iface.old.home) × (iface.new.cap ≡ iface.old.cap) }
+    ensures lost { LosesNone iface.old.frames (view pass.old) iface.new.frames (view pass.new) }
     ensures ok { IfOk result (λ reply. IsReplied (record { call = Get key; reply = reply }) (view pass.old) (view pass.new)) }
     ensures err { IfErr result (λ fault. IsFaulted key fault (view pass.old) (view pass.new)) }
 {
@@ -94,7 +95,6 @@ pub fn window<R: Wait, B: Block>(
     most: u32,
 ) -> Result<Reply, TreeFault>
     requires ready { IsReady pool.now.words.table.shared.key B.tells pool.now.words.table.shared.table_id pass.old }
-    requires tells { B.tells ≡ true }
     requires pages { 1 ≤ pool.now.words.table.shared.key.pages }
     requires most { 1 ≤ most }
     requires home { (view pass.old).out ≡ None }
@@ -103,6 +103,7 @@ pub fn window<R: Wait, B: Block>(
     ensures ready { IsReady pool.now.words.table.shared.key B.tells pool.now.words.table.shared.table_id pass.new }
     ensures held { AreHeld iface.new.frames (view pass.new) }
     ensures iface { (iface.new.home ≡ iface.old.home) × (iface.new.cap ≡ iface.old.cap) }
+    ensures lost { LosesNone iface.old.frames (view pass.old) iface.new.frames (view pass.new) }
     ensures ok { IfOk result (λ reply. IsReplied (record { call = ForWindow start most; reply = reply }) (view pass.old) (view pass.new)) }
     ensures err { IfErr result (λ fault. IsFaulted start fault (view pass.old) (view pass.new)) }
 {

@@ -1,35 +1,44 @@
 -- A step from a page to the page that it names: the named page is looked at, and then the first one validated.
-use Rattle.std.proofs.Common.{ℕ, ◌≡◌, ◌≢◌, ◌<◌, ◌≤◌, ◌⊎◌, inl, inr, ⊎_elim, Bool, true, List, [], ◌∷◌, ◌++◌, Some, None, Option, length, zero, suc, refl, sym, ap, subst, ◌∙◌, append_assoc, arith, if◌then◌else◌}
-use Rattle.std.proofs.lemmas.Bool.{cases_eq, eq-eqb, ne_eqb}
+use Rattle.std.proofs.Common.{ℕ, ◌≡◌, ◌≢◌, ◌<◌, inl, inr, ⊎_elim, Bool, true, false, List, [], ◌∷◌, ◌++◌, Some, None, length, zero, suc, refl, sym, ap, subst, ◌∙◌, append_assoc, arith}
+use Rattle.std.proofs.lemmas.Bool.{cases_eq, ne_eqb}
 use Rattle.vm_core.specs.declared.event.Open.{Open}
 use Rattle.vm_core.specs.Words.{version_of}
 use Rattle.vm_map.specs.declared.call.Said.{Said}
-use Rattle.vm_guard.specs.Quiet.{IsQuiet}
 use Rattle.vm_rule.specs.declared.view.Did.{Did}
+use Rattle.vm_rule.specs.declared.view.Place.TheVariants as places
 use Rattle.vm_rule.specs.declared.view.Tie.{Tie}
 use Rattle.vm_rule.specs.declared.view.Origin.{Origin}
 use Rattle.vm_rule.specs.declared.view.View.{View}
-use Rattle.vm_rule.specs.Views.{Each, seat_of}
+use Rattle.vm_rule.specs.Views.{loads_at, seat_of}
 use Rattle.vm_rule.specs.Reading.{last_of}
 use Rattle.vm_rule.specs.Looks.{tie_of, ties_below}
+use Rattle.vm_step.specs.declared.saw.At.TheVariants as ats
 use Rattle.vm_step.specs.declared.saw.Saw.{Saw}
-use Rattle.vm_step.specs.Evidence.{NoWord, NoneExpected}
+use Rattle.vm_step.specs.Asides.{ReadsAsBefore}
+use Rattle.vm_step.specs.Evidence.{HasGiven, NoWord, NoneExpected}
 use Rattle.vm_step.specs.Keeping.{IsKeptNow}
 use Rattle.vm_tree_laws.specs.Tied.{Tied}
 use Rattle.vm_tree_laws.specs.Keeps.{Keeps}
+use Rattle.vm_guard.specs.declared.deny.Deny.{Deny}
 use Rattle.vm_guard.specs.declared.deny.Deny.TheVariants as denies
 use Rattle.vm_guard.specs.Denied.{AgainOrNeed, IsDenied, KeptWord}
 use Rattle.vm_guard.specs.Guards.{Begins, IsReading, IsValid}
 use Rattle.vm_guard.proofs.Reading.{reading-kept}
 use Rattle.vm_tree_rule.specs.declared.turn.Turn.{Turn}
 use Rattle.vm_tree_rule.specs.declared.turn.Turn.TheVariants as turns
-use Rattle.vm_tree_rule.specs.Leaves.{ReadsOn}
-use Rattle.vm_tree_rule.specs.Standing.{HasStepped, IsOpened, Names, NamesPage, Sees, tree_pages}
-use Rattle.vm_tree_rule.specs.Turns.{IsStopped, IsTurn}
-use Rattle.vm_tree_rule.specs.Turns.{IsAgain as agains}
-use Rattle.vm_tree_rule.specs.Turns.{IsNeeded as needs}
+use Rattle.vm_tree_rule.specs.Leaves.{LeavesWord, ReadsOn}
+use Rattle.vm_tree_rule.specs.Standing.{HasStepped, IsOpened, Names, Sees, tree_pages}
+use Rattle.vm_tree_rule.specs.Turns.{IsAstray, IsNoChild, IsNoTree, IsStopped, IsTurn, IsTurnOf, LoadsName}
+use Rattle.vm_tree_rule.specs.Turns.{IsNoTree as no_tree}
 use Rattle.vm_tree_rule.specs.Turns.{IsStopped as stops}
-use Rattle.vm_tree_rule.proofs.Readings.{reads-self, reads-then, quiet-reads, valid-reads, validates-back, reading-beside, opened-later}
+use Rattle.vm_tree_rule.proofs.Logged.{given-since, read-since, shown-kept, shown-later, shown-start}
+use Rattle.vm_tree_rule.proofs.Readings.{begins-leave, begins-reads, denied-reads, leaves-self, log-then, reading-beside, reads-self, reads-then, valid-leave, valid-reads, validates-back}
+use Rattle.vm_tree_rule.proofs.Showing.{needs-behind, needs-front}
+
+-- what is not true is false
+pub untold : (b : Bool) → (b ≡ true → ⊥) → b ≡ false
+untold true never = absurd (never refl)
+untold false never = refl
 
 -- a list that goes on in front
 more-in-front : {A : Type 0} (a : A) (more l : List A) → (newer : List A) × (older : List A) × (l ≡ newer ++ a ∷ older) → (newer : List A) × (older : List A) × (more ++ l ≡ newer ++ a ∷ older)
@@ -60,21 +69,31 @@ module _ {X : Type 0} (p word frame : ℕ) where
   pub need-same : (named q : ℕ) (v w : View X) → IsDenied AgainOrNeed NoWord NoneExpected named (denies.Need q) v w → IsDenied AgainOrNeed NoWord NoneExpected named (denies.Need named) v w
   need-same named q v w d = subst (λ n. IsDenied AgainOrNeed NoWord NoneExpected named (denies.Need n) v w) d.evidence.0 d
 
-  pub missed : (named q : ℕ) (v x w : View X) → named < v.start.pages → named ≢ p → v.start.tells ≡ true → IsDenied AgainOrNeed NoWord NoneExpected named (denies.Need q) v x → IsValid Tied p word frame None x w → IsStopped p word frame named (turns.Need q) v w
-  missed named q v x w inside ne tells d k =
-      let reads : ReadsOn v x = quiet-reads named d.done v x d.quiet in
-      stops.missing x (ap turns.Need d.evidence.0) (need-same named q v x d) k
-      (validates-back Tied p word frame (last_of w p).words v x reads.0 (d.quiet.others p (λ e. ne (sym e))) (k.validates (ap (λ (o : Origin). o.tells) reads.0.start ∙ tells))) inside
+  -- what the validation proves of the page's words, it proves of the view before the other page was looked at
+  pub sees-back : (v x w : View X) → ReadsOn v x → ReadsAsBefore v x p → IsValid Tied p word frame None x w → v.start.tells ≡ true → Sees v p word (last_of w p).words
+  sees-back v x w reads same k tells = validates-back Tied p word frame (last_of w p).words v x reads.0 same (k.validates (ap (λ (o : Origin). o.tells) reads.0.start ∙ tells))
 
-  pub lost : (named : ℕ) (done : List Did) (saw : Saw) (v x w : View X) → named ≢ p → IsReading p word frame v → IsQuiet named done v x → IsDenied AgainOrNeed (KeptWord word) NoneExpected p (denies.Again saw) x w → IsStopped p word frame named (turns.Again saw) v w
-  lost named done saw v x w ne r quiet d = stops.refused saw x refl (quiet-reads named done v x quiet) (reading-beside p word frame named done v x (λ e. ne (sym e)) quiet r) d
+  pub missed : (named q : ℕ) (v x w : View X) → named < v.start.pages → named ≢ p → IsDenied AgainOrNeed NoWord NoneExpected named (denies.Need q) v x → IsValid Tied p word frame None x w → IsStopped p word frame named (turns.Need named) v w
+  missed named q v x w inside ne d k =
+      stops.missing x refl (need-same named q v x d) k (sees-back v x w (denied-reads AgainOrNeed NoWord NoneExpected named (denies.Need q) v x d) (d.quiet.others p (λ e. ne (sym e))) k) inside ne
 
-  pub stepped : (q started frame' : ℕ) (v x w : View X) → q ≢ p → v.start.tells ≡ true → Begins q started frame' v x → IsValid Tied p word frame None x w → HasStepped p word q started frame' v w
-  stepped q started frame' v x w ne tells b k =
-      let earlier : ReadsOn v x = quiet-reads q b.done v x b.quiet in
+  -- the named page could not be read, though the page that names it was validated
+  pub ended : (named : ℕ) (deny : Deny) (turn : Turn) (v x w : View X) → IsTurnOf deny turn → named < v.start.pages → named ≢ p → IsDenied AgainOrNeed NoWord NoneExpected named deny v x → IsValid Tied p word frame None x w → IsStopped p word frame named turn v w
+  ended named (denies.Again saw) turn v x w is inside ne d k = stops.denied saw x is d k
+  ended named (denies.Need q) turn v x w is inside ne d k = subst (λ (t : Turn). IsStopped p word frame named t v w) (sym (is ∙ ap turns.Need d.evidence.0)) (missed named q v x w inside ne d k)
+  ended named (denies.Crowded q) turn v x w is inside ne d k = absurd is
+  ended named (denies.Worn q) turn v x w is inside ne d k = absurd is
+
+  pub lost : (named : ℕ) (saw : Saw) (v x w : View X) → ReadsOn v x → LeavesWord p v x → IsDenied AgainOrNeed (KeptWord word) NoneExpected p (denies.Again saw) x w → IsStopped p word frame named (turns.Again saw) v w
+  lost named saw v x w reads leaves d = stops.refused saw x refl reads leaves d
+
+  pub stepped : (q started frame' : ℕ) (v x w : View X) → q ≢ p → IsReading p word frame v → Begins q started frame' v x → IsValid Tied p word frame None x w → HasStepped p word frame q started frame' v w
+  stepped q started frame' v x w ne reading b k =
+      let apart : p ≢ q = (λ e. ne (sym e)) in
+      let earlier : ReadsOn v x = begins-reads q started frame' v x b in
       let since : ReadsOn x w = valid-reads Tied p word frame x w k in
       let words : List ℕ = (last_of w p).words in
-      let tie = ties-have x.start.pages x p words q (record { version = version_of started; frame = Some frame' }) b.reads.page (λ e. ne (sym e)) b.reads.reading in
+      let tie = ties-have x.start.pages x p words q (record { version = version_of started; frame = Some frame' }) b.reads.page apart b.reads.reading in
       record {
         opened = record {
           before = v;
@@ -82,21 +101,99 @@ module _ {X : Type 0} (p word frame : ℕ) where
           earlier = reads-self v;
           begins = b;
           since = since;
+          same = valid-leave Tied q p word frame None x w k;
           reading = reading-kept q started frame' x w b.reads k.steady.start (k.holds q) (λ l. (k.knows q l).held) (k.same_reads q).reading;
         };
+        checked = x;
+        looked = earlier;
+        stays = record {
+          apart = ne;
+          reading = reading-beside p word frame q b.done v x apart b.quiet reading;
+          loads = (b.quiet.others p apart).loads;
+          same = begins-leave p q started frame' v x apart b;
+        };
+        valid = k;
         reads = reads-then v x w earlier since;
-        words = words;
-        size = k.size;
-        sees = validates-back Tied p word frame words v x earlier.0 (b.quiet.others p (λ e. ne (sym e))) (k.validates (ap (λ (o : Origin). o.tells) earlier.0.start ∙ tells));
+        sees = sees-back v x w earlier (b.quiet.others p apart) k;
         tied = subst (λ (l : List Tie). (newer : List Tie) × (older : List Tie) × (l ≡ newer ++ record { page = q; version = version_of started; of = p; words = words } ∷ older)) (sym k.ties) (more-behind _ (ties_below x.start.pages x p words) x.ties tie);
       }
 
   -- so far the call only read
   pub opened-reads : (v w : View X) → IsOpened v p word frame w → ReadsOn v w
-  opened-reads v w o = reads-then v o.before w o.earlier (reads-then o.before o.after w (quiet-reads p o.begins.done o.before o.after o.begins.quiet) o.since)
+  opened-reads v w o = reads-then v o.before w o.earlier (reads-then o.before o.after w (begins-reads p word frame o.before o.after o.begins) o.since)
+
+  -- a guard was refused, whose page the call had begun to read
+  pub refused-turn : (key : ℕ) (saw : Saw) (u v x w : View X) → IsOpened u p word frame v → ReadsOn v x → LeavesWord p v x → IsDenied AgainOrNeed (KeptWord word) NoneExpected p (denies.Again saw) x w → IsTurn u key (turns.Again saw) w
+  refused-turn key saw u v x w o reads leaves d = (
+    reads-then u v w (opened-reads u v o) (reads-then v x w reads (denied-reads AgainOrNeed (KeptWord word) NoneExpected p (denies.Again saw) x w d)),
+    shown-kept AgainOrNeed NoneExpected p word frame saw u v x w o leaves d,
+  )
+
+  -- a page was read and validated that is not what it is to be
+  pub astray-turn : (key : ℕ) (u v w : View X) → IsOpened u p word frame v → u.start.tells ≡ false → IsValid Tied p word frame None v w → IsNoTree key p w → IsTurn u key (turns.Astray (record { at = ats.Page p; first = word; seen = word })) w
+  astray-turn key u v w o untold k why = (
+    reads-then u v w (opened-reads u v o) (valid-reads Tied p word frame v w k),
+    record { untold = untold; same = refl; page = p; at = refl; frame = frame; found = v; opened = o; valid = k; why = why },
+  )
+
+  -- what was loaded of the page names the same one on, as long as nothing more is loaded of it
+  loads-name : (key named : ℕ) (v w : View X) → loads_at w p ≡ loads_at v p → LoadsName v p key named → LoadsName w p key named
+  loads-name key named v w same (inl k) = inl (k.0, (k.1.0, k.1.1, same ∙ k.1.2))
+  loads-name key named v w same (inr k) = inr (k.0, (k.1.0, same ∙ k.1.1), k.2)
 
   -- where the step ended without its page, so did the descent
-  pub turned : (key named : ℕ) (turn : Turn) (u v w : View X) → IsOpened u p word frame v → ((words : List ℕ) → length words ≡ 64 → Sees v p word words → Names p words key named) → IsStopped p word frame named turn v w → IsTurn u key turn w
-  turned key named turn u v w o names (stops.denied saw is d) = subst (λ t. IsTurn u key t w) (sym is) (agains.at_start named v (opened-reads u v o) d)
-  turned key named turn u v w o names (stops.refused saw x is reads r d) = subst (λ t. IsTurn u key t w) (sym is) (agains.at_end p word frame x (opened-later p word frame u v x o reads r) d)
-  turned key named turn u v w o names (stops.missing x is d k s inside) = subst (λ t. IsTurn u key t w) (sym is) (needs.named p word frame v x (opened-reads u v o) d k (names (last_of w p).words k.size s) (subst (λ (y : Origin). named < y.pages) (opened-reads u v o).0.start inside))
+  pub turned : (key named : ℕ) (turn : Turn) (u v w : View X) → IsOpened u p word frame v → (v.start.tells ≡ true → (words : List ℕ) → length words ≡ 64 → Sees v p word words → Names p words key named) → LoadsName v p key named → IsStopped p word frame named turn v w → IsTurn u key turn w
+  turned key named turn u v w o names loads (stops.denied saw x is d k) =
+      let reads : ReadsOn u v = opened-reads u v o in
+      let denied : ReadsOn v x = denied-reads AgainOrNeed NoWord NoneExpected named (denies.Again saw) v x d in
+      let valid : ReadsOn x w = valid-reads Tied p word frame x w k in
+      subst (λ t. IsTurn u key t w) (sym is)
+      (reads-then u v w reads (reads-then v x w denied valid), shown-later NoneExpected saw k.done u x w k.steady.log (shown-start AgainOrNeed NoneExpected named saw reads.0.done u v x reads.0.log d))
+  turned key named turn u v w o names loads (stops.refused saw x is reads leaves d) = subst (λ t. IsTurn u key t w) (sym is) (refused-turn key saw u v x w o reads leaves d)
+  turned key named turn u v w o names loads (stops.missing x is d k sees inside ne) =
+      let reads : ReadsOn u v = opened-reads u v o in
+      let denied : ReadsOn v x = denied-reads AgainOrNeed NoWord NoneExpected named (denies.Need named) v x d in
+      let valid : ReadsOn x w = valid-reads Tied p word frame x w k in
+      let before : ReadsOn u x = reads-then u v x reads denied in
+      subst (λ t. IsTurn u key t w) (sym is) (
+        reads-then u x w before valid,
+        record {
+          done = (reads.0.done ++ d.done) ++ k.done;
+          log = log-then (reads.0.done ++ d.done) k.done u x w (log-then reads.0.done d.done u v x reads.0.log d.quiet.steady.log) k.steady.log;
+          needs = needs-front named (reads.0.done ++ d.done) k.done (needs-behind named reads.0.done d.done reads.0.clears d.evidence.1);
+          inside = subst (λ (y : Origin). named < y.pages) reads.0.start inside;
+          named = inr (record {
+            parent = p;
+            word = word;
+            frame = frame;
+            before = x;
+            reads = before;
+            valid = k;
+            loads = loads-name key named v w ((k.same_reads p).loads ∙ (d.quiet.others p (λ e. ne (sym e))).loads) loads;
+            names = λ tells. let told : v.start.tells ≡ true = ap (λ (y : Origin). y.tells) reads.0.start ∙ tells in names told (last_of w p).words k.size (sees told);
+          });
+        },
+      )
+  turned key named turn u v w o names loads (stops.astray is untold k none) =
+      let reads : ReadsOn u v = opened-reads u v o in
+      subst (λ t. IsTurn u key t w) (sym is)
+      (astray-turn key u v w o (ap (λ (y : Origin). y.tells) (sym reads.0.start) ∙ untold) k
+      (no_tree.nowhere named (loads-name key named v w (k.same_reads p).loads loads) (subst (λ (y : Origin). IsNoChild y.pages p named) (sym k.steady.start) none)))
+
+module _ {X : Type 0} where
+  -- page 0 was found evicted as the call began
+  first-needed : (key q : ℕ) (v w : View X) → 0 < v.start.pages → IsDenied AgainOrNeed NoWord NoneExpected 0 (denies.Need q) v w → IsTurn v key (turns.Need 0) w
+  first-needed key q v w inside d = (denied-reads AgainOrNeed NoWord NoneExpected 0 (denies.Need q) v w d, record { done = d.done; log = d.quiet.steady.log; needs = d.evidence.1; inside = inside; named = inl refl })
+
+  -- so it could not be read
+  pub first-ended : (key : ℕ) (deny : Deny) (turn : Turn) (v w : View X) → IsTurnOf deny turn → 0 < v.start.pages → IsDenied AgainOrNeed NoWord NoneExpected 0 deny v w → IsTurn v key turn w
+  first-ended key (denies.Again saw) turn v w is inside d =
+      let self = reads-self v in
+      subst (λ (t : Turn). IsTurn v key t w) (sym is) (denied-reads AgainOrNeed NoWord NoneExpected 0 (denies.Again saw) v w d, shown-start AgainOrNeed NoneExpected 0 saw self.0.done v v w self.0.log d)
+  first-ended key (denies.Need q) turn v w is inside d = subst (λ (t : Turn). IsTurn v key t w) (sym (is ∙ ap turns.Need d.evidence.0)) (first-needed key q v w inside d)
+  first-ended key (denies.Crowded q) turn v w is inside d = absurd is
+  first-ended key (denies.Worn q) turn v w is inside d = absurd is
+
+  -- the word that stands for both is one that the call read
+  pub astray-given : (key : ℕ) (saw : Saw) (v w : View X) (a : IsAstray v key saw w) → (done : List Did) × (w.log ≡ v.log ++ done) × HasGiven done (places.State a.page) saw.seen
+  astray-given key saw v w a = given-since a.page saw.seen a.valid.done v a.found w (read-since a.page saw.seen a.frame v a.found a.found a.opened (leaves-self a.page a.found)) a.valid.steady.log

@@ -1,25 +1,29 @@
 -- What reads of pages leave of the view, one after the other.
-use Rattle.std.proofs.Common.{ℕ, ◌≡◌, ◌≢◌, ◌<◌, ◌+◌, List, [], ◌∷◌, ◌++◌, Some, None, Option, length, zero, suc, refl, sym, ap, subst, ◌∙◌, append_assoc, slice_index, arith, get_or, Result, Ok, Err, IfOk, IfErr}
+use Rattle.std.proofs.Common.{ℕ, ◌≡◌, ◌≢◌, ◌<◌, ◌+◌, List, [], ◌∷◌, ◌++◌, Some, None, Option, length, zero, suc, refl, sym, ap, subst, ◌∙◌, append_assoc, slice_index, arith, Result, Ok, Err, IfOk, IfErr}
 use Rattle.std.proofs.lemmas.Grind.{same_number_lists}
-use Rattle.vm_core.specs.declared.event.Open.{Open}
 use Rattle.vm_core.specs.Inv.{LoadsAre}
-use Rattle.vm_core.specs.Words.{version_of}
+use Rattle.vm_core.specs.Words.{state_of, version_of, UNLOCKED}
 use Rattle.vm_owner.specs.Kept.{Start}
 use Rattle.vm_rule.specs.declared.view.Did.{Did}
+use Rattle.vm_rule.specs.declared.view.Place.TheVariants as places
 use Rattle.vm_rule.specs.declared.view.Tie.{Tie}
 use Rattle.vm_rule.specs.declared.view.Origin.{Origin}
 use Rattle.vm_rule.specs.declared.view.View.{View}
-use Rattle.vm_rule.specs.Views.{Each, IsLocking, seat_of, loads_at}
+use Rattle.vm_rule.specs.Views.{Each}
 use Rattle.vm_rule.specs.Rule.{began_of}
 use Rattle.vm_rule.specs.Locks.{Validates}
 use Rattle.vm_rule.proofs.Entries.{append-none}
-use Rattle.vm_step.specs.Asides.{HoldsPage, ReadsAsBefore}
+use Rattle.vm_rule.proofs.Heard.{each-both}
+use Rattle.vm_step.specs.Asides.{ReadsAsBefore}
 use Rattle.vm_step.proofs.Asides.{starts-then, alone-self, alone-then, holds-then, knows-then, still-locking}
 use Rattle.vm_guard.specs.Quiet.{IsQuiet}
-use Rattle.vm_guard.specs.Guards.{Begins, IsReading, IsValid, placed}
+use Rattle.vm_guard.specs.declared.deny.Deny.{Deny}
+use Rattle.vm_guard.specs.Denied.{IsDenied}
+use Rattle.vm_guard.specs.Guards.{Begins, IsReading, IsValid, Loads, placed}
 use Rattle.vm_guard.proofs.Reading.{reading-kept}
-use Rattle.vm_tree_rule.specs.Leaves.{OnlyReads, ReadsOn}
+use Rattle.vm_tree_rule.specs.Leaves.{LeavesWord, OnlyClears, OnlyReads, ReadsOn}
 use Rattle.vm_tree_rule.specs.Standing.{IsOpened}
+use Rattle.vm_tree_rule.proofs.Showing.{nones-clear, nones-there, start-unmarks, unmarks-clear, unmarks-elsewhere}
 
 -- the words of a page are those that were loaded from each place of it
 loaded-at : (words : List ℕ) (n : ℕ) (xs : List ℕ) → LoadsAre words (placed n xs) → (k : ℕ) → k < length xs → slice_index words (n + k) ≡ slice_index xs k
@@ -52,6 +56,7 @@ module _ {X : Type 0} where
     record {
       done = [];
       log = sym (append-none v.log);
+      clears = tt;
       live = refl;
       start = refl;
       parts = (refl, refl);
@@ -69,10 +74,15 @@ module _ {X : Type 0} where
     refl,
   )
 
+  -- the log of two runs of steps
+  pub log-then : (a b : List Did) (u v w : View X) → v.log ≡ u.log ++ a → w.log ≡ v.log ++ b → w.log ≡ u.log ++ (a ++ b)
+  log-then a b u v w f g = g ∙ ap (λ (l : List Did). l ++ b) f ∙ append_assoc u.log a b
+
   pub only-then : (u v w : View X) → OnlyReads u v → OnlyReads v w → OnlyReads u w
   only-then u v w f g = record {
     done = f.done ++ g.done;
-    log = g.log ∙ ap (λ (t : List Did). t ++ g.done) f.log ∙ append_assoc u.log f.done g.done;
+    log = log-then f.done g.done u v w f.log g.log;
+    clears = each-both (λ (d : Did). (x : ℕ) → d.wrote ≡ Some x → ((p : ℕ) × (d.at ≡ places.State p)) × (state_of x ≡ UNLOCKED)) f.done g.done f.clears g.clears;
     live = g.live ∙ f.live;
     start = g.start ∙ f.start;
     parts = (g.parts.0 ∙ f.parts.0, g.parts.1 ∙ f.parts.1);
@@ -91,11 +101,12 @@ module _ {X : Type 0} where
   pub reads-then : (u v w : View X) → ReadsOn u v → ReadsOn v w → ReadsOn u w
   reads-then u v w f g = (only-then u v w f.0 g.0, g.1 ∙ f.1)
 
-  pub quiet-reads : (p : ℕ) (done : List Did) (v w : View X) → IsQuiet p done v w → ReadsOn v w
-  quiet-reads p done v w q = (
+  pub quiet-reads : (p : ℕ) (done : List Did) (v w : View X) → IsQuiet p done v w → OnlyClears done → ReadsOn v w
+  quiet-reads p done v w q clears = (
     record {
       done = done;
       log = q.steady.log;
+      clears = clears;
       live = q.steady.live;
       start = q.steady.start;
       parts = q.steady.parts;
@@ -113,11 +124,21 @@ module _ {X : Type 0} where
     q.mine,
   )
 
+  pub begins-reads : (p word frame : ℕ) (v w : View X) → Begins p word frame v w → ReadsOn v w
+  begins-reads p word frame v w b = quiet-reads p b.done v w b.quiet (unmarks-clear p b.done (start-unmarks p b.first b.translation word b.clearing b.done b.cut b.clears))
+
+  pub denied-reads : (allowed : Deny → Type 0) (kept : ℕ → Type 0) (expects : ℕ → ℕ → Type 0) (p : ℕ) (deny : Deny) (v w : View X) → IsDenied allowed kept expects p deny v w → ReadsOn v w
+  denied-reads allowed kept expects p deny v w d = quiet-reads p d.done v w d.quiet (unmarks-clear p d.done d.leaves)
+
+  pub loads-reads : (p word frame : ℕ) (loaded : List (ℕ × ℕ)) (v w : View X) → Loads p word frame loaded v w → ReadsOn v w
+  loads-reads p word frame loaded v w l = quiet-reads p l.done v w l.quiet (nones-clear l.done l.leaves)
+
   module _ (tied : Start → ℕ → List ℕ → ℕ → List ℕ → Type 0) (p word frame : ℕ) where
     pub valid-only : (said : Option X) (v w : View X) → IsValid tied p word frame said v w → OnlyReads v w
     valid-only said v w k = record {
       done = k.done;
       log = k.steady.log;
+      clears = nones-clear k.done k.leaves;
       live = k.steady.live;
       start = k.steady.start;
       parts = k.steady.parts;
@@ -151,8 +172,35 @@ module _ {X : Type 0} where
   pub reading-beside : (p word frame q : ℕ) (done : List Did) (v w : View X) → p ≢ q → IsQuiet q done v w → IsReading p word frame v → IsReading p word frame w
   reading-beside p word frame q done v w ne k r = reading-kept p word frame v w r k.steady.start (k.holds p) (λ l. (k.knows p l).held) (k.others p ne).reading
 
-  pub opened-later : (p word frame : ℕ) (v x y : View X) → IsOpened v p word frame x → ReadsOn x y → IsReading p word frame y → IsOpened v p word frame y
-  opened-later p word frame v x y o reads reading = record { before = o.before; after = o.after; earlier = o.earlier; begins = o.begins; since = reads-then o.after x y o.since reads; reading = reading }
+  pub leaves-self : (p : ℕ) (v : View X) → LeavesWord p v v
+  leaves-self p v = record { done = []; log = sym (append-none v.log); none = tt }
+
+  pub leaves-then : (p : ℕ) (u v w : View X) → LeavesWord p u v → LeavesWord p v w → LeavesWord p u w
+  leaves-then p u v w f g = record {
+    done = f.done ++ g.done;
+    log = log-then f.done g.done u v w f.log g.log;
+    none = each-both (λ (d : Did). d.at ≡ places.State p → d.wrote ≡ None) f.done g.done f.none g.none;
+  }
+
+  pub loads-leave : (q p word frame : ℕ) (loaded : List (ℕ × ℕ)) (v w : View X) → Loads p word frame loaded v w → LeavesWord q v w
+  loads-leave q p word frame loaded v w l = record { done = l.done; log = l.quiet.steady.log; none = nones-there q l.done l.leaves }
+
+  pub begins-leave : (q p word frame : ℕ) (v w : View X) → q ≢ p → Begins p word frame v w → LeavesWord q v w
+  begins-leave q p word frame v w ne b = record { done = b.done; log = b.quiet.steady.log; none = unmarks-elsewhere p q b.done ne (start-unmarks p b.first b.translation word b.clearing b.done b.cut b.clears) }
+
+  pub denied-leave : (allowed : Deny → Type 0) (kept : ℕ → Type 0) (expects : ℕ → ℕ → Type 0) (q p : ℕ) (deny : Deny) (v w : View X) → q ≢ p → IsDenied allowed kept expects p deny v w → LeavesWord q v w
+  denied-leave allowed kept expects q p deny v w ne d = record { done = d.done; log = d.quiet.steady.log; none = unmarks-elsewhere p q d.done ne d.leaves }
+
+  pub valid-leave : (tied : Start → ℕ → List ℕ → ℕ → List ℕ → Type 0) (q p word frame : ℕ) (said : Option X) (v w : View X) → IsValid tied p word frame said v w → LeavesWord q v w
+  valid-leave tied q p word frame said v w k = record { done = k.done; log = k.steady.log; none = nones-there q k.done k.leaves }
+
+  pub opened-later : (p word frame : ℕ) (v x y : View X) → IsOpened v p word frame x → ReadsOn x y → LeavesWord p x y → IsReading p word frame y → IsOpened v p word frame y
+  opened-later p word frame v x y o reads leaves reading =
+      record { before = o.before; after = o.after; earlier = o.earlier; begins = o.begins; since = reads-then o.after x y o.since reads; same = leaves-then p o.after x y o.same leaves; reading = reading }
+
+  -- words of the page were loaded
+  pub opened-loads : (p word frame : ℕ) (loaded : List (ℕ × ℕ)) (v x y : View X) → IsOpened v p word frame x → Loads p word frame loaded x y → IsOpened v p word frame y
+  opened-loads p word frame loaded v x y o l = opened-later p word frame v x y o (loads-reads p word frame loaded x y l) (loads-leave p p word frame loaded x y l) l.reads
 
   pub opened-earlier : (p word frame : ℕ) (u v x : View X) → ReadsOn u v → IsOpened v p word frame x → IsOpened u p word frame x
-  opened-earlier p word frame u v x reads o = record { before = o.before; after = o.after; earlier = reads-then u v o.before reads o.earlier; begins = o.begins; since = o.since; reading = o.reading }
+  opened-earlier p word frame u v x reads o = record { before = o.before; after = o.after; earlier = reads-then u v o.before reads o.earlier; begins = o.begins; since = o.since; same = o.same; reading = o.reading }

@@ -1,10 +1,16 @@
 -- What calls leave of a view that read pages of the tree optimistically: the pass holds what it held. The entries of the pass stand beside it.
-use Rattle.std.specs.Prelude.{ℕ, List, ◌++◌, ◌≡◌}
+use Rattle.std.specs.Prelude.{ℕ, List, Some, None, ◌++◌, ◌≡◌}
+use Rattle.vm_core.specs.Words.{state_of, UNLOCKED}
 use Rattle.vm_rule.specs.declared.view.Did.{Did}
+use Rattle.vm_rule.specs.declared.view.Place.TheVariants as places
 use Rattle.vm_rule.specs.declared.view.Tie.{Tie}
 use Rattle.vm_rule.specs.declared.view.View.{View}
-use Rattle.vm_rule.specs.Views.{StartsWith, IsLocking, seat_of}
+use Rattle.vm_rule.specs.Views.{StartsWith, Each, IsLocking, seat_of}
 use Rattle.vm_step.specs.Asides.{HoldsPage, KnowsAsBefore, StaysAlone}
+
+-- each word that the steps leave is an Unlocked one, on the state word of a page: a mark was taken away
+abbrev pub OnlyClears : List Did → Type 0
+OnlyClears done = Each (λ d. (x : ℕ) → d.wrote ≡ Some x → ((p : ℕ) × (d.at ≡ places.State p)) × (state_of x ≡ UNLOCKED)) done
 
 module _ {X : Type 0} where
   -- the calls made these steps and no release; all of the view is as it was but open reads, ties, what the pass has seen of the two lists, and
@@ -12,6 +18,7 @@ module _ {X : Type 0} where
   pub record OnlyReads (v w : View X) : Type 0 where
     pub done : List Did
     pub log : w.log ≡ v.log ++ done
+    pub clears : OnlyClears done
     pub live : w.live ≡ v.live
     pub start : w.start ≡ v.start
     pub parts : (w.used ≡ v.used) × (w.fresh ≡ v.fresh)
@@ -25,6 +32,12 @@ module _ {X : Type 0} where
     pub holds : (q : ℕ) → HoldsPage v w q
     pub knows : (q : ℕ) → IsLocking (seat_of v q) → KnowsAsBefore v w q
     pub alone : StaysAlone v w
+
+  -- these steps, which the pass made from v to w, left no word on the state word of page p
+  pub record LeavesWord (p : ℕ) (v w : View X) : Type 0 where
+    pub done : List Did
+    pub log : w.log ≡ v.log ++ done
+    pub none : Each (λ d. d.at ≡ places.State p → d.wrote ≡ None) done
 
   -- they said nothing
   abbrev pub ReadsOn : View X → View X → Type 0

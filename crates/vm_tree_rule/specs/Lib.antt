@@ -1,4 +1,6 @@
 pub mod Leaves
+pub mod Resident
 pub mod Seeks
+pub mod Shown
 pub mod Standing
 pub mod Turns

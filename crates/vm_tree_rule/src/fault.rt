@@ -1,7 +1,7 @@
 // Why a call on the tree ended without a reply.
 
 /// A call that ends so has no entry in the history, and has left the map as it was.
-#[derive(Clone, Copy, Debug, PartialEq, Eq)]
+#[derive(Clone, Copy, Debug, Drop, PartialEq, Eq)]
 pub enum TreeFault {
     /// The device of this page failed.
     Device { pid: u32, count: u64 },

@@ -1,12 +1,13 @@
 // The search for the first full node on the way of a key, from the root on.
-ghost use Rattle.std.specs.Prelude.{◌≡◌, ◌<◌, ◌≤◌, ℕ, IfOk, IfErr, Some, length, suc, true};
+ghost use Rattle.std.specs.Prelude.{◌≡◌, ◌<◌, ◌≤◌, ℕ, IfOk, IfErr, IsOk, length, suc, true};
 ghost use Rattle.vm_guard.specs.Guards.{IsReading};
 ghost use Rattle.vm_step.specs.Passes.{IsSamePass, MayStep, view};
 ghost use Rattle.vm_step.specs.Ready.{IsReady};
-ghost use Rattle.vm_tree_model.specs.Edits.{child_of};
+ghost use Rattle.vm_tree_model.specs.Page.{pairs_of};
 ghost use Rattle.vm_tree_rule.specs.Leaves.{ReadsOn};
-ghost use Rattle.vm_tree_rule.specs.Seeks.{HasRead, IsMet, StaysOpen};
-ghost use Rattle.vm_tree_rule.specs.Standing.{Awaits, IsOpened, Sees};
+ghost use Rattle.vm_tree_rule.specs.Resident.{IsKnownNow, KnowsLocks, KnowsResident};
+ghost use Rattle.vm_tree_rule.specs.Seeks.{HasRead, IsMet, IsPassed, KnowsMet, LeadsTo};
+ghost use Rattle.vm_tree_rule.specs.Standing.{Awaits, IsOpened, StaysOpen};
 ghost use Rattle.vm_tree_rule.specs.Turns.{IsTurn};
 
 use crate::Tree;
@@ -15,8 +16,9 @@ use crate::turn::Turn;
 use vm_block::Block;
 use vm_guard::OptGuard;
 use vm_inner::child;
+use vm_map::window::MOST_PAIRS;
 use vm_node::pairs::count_of;
-use vm_page::PageBuf;
+use vm_page::{PageBuf, WORDS};
 use vm_rule::words::{Pass, Words};
 
 /// What the search met first.
@@ -46,24 +48,26 @@ fn go_on<B: Block>(
     page: &PageBuf,
 ) -> Result<OptGuard, Turn>
     requires ready { IsReady words.now.table.shared.key B.tells words.now.table.shared.table_id pass.old }
-    requires tells { B.tells ≡ true }
     requires reading { IsReading guard.now.pid guard.now.word guard.now.frame (view pass.old) }
     requires awaits { (level : ℕ) × Awaits (view pass.old) guard.now.pid guard.now.word (suc level) key }
-    requires size { length page.now ≡ 64 }
+    requires size { length page.now ≡ WORDS }
     requires read { HasRead (view pass.old) guard.now.pid page.now }
     ensures pass { IsSamePass pass.old pass.new }
     ensures ready { IsReady words.now.table.shared.key B.tells words.now.table.shared.table_id pass.new }
     ensures reads { IfOk result (λ below. ReadsOn (view pass.old) (view pass.new) × IsOpened (view pass.old) below.pid below.word below.frame (view pass.new)) }
     ensures parent { IfOk result (λ below. StaysOpen guard.now.pid guard.now.word guard.now.frame below.pid (view pass.old) (view pass.new)) }
-    ensures names { IfOk result (λ below. child_of page.now key ≡ Some below.pid) }
-    ensures sees { IfOk result (λ _. Sees (view pass.old) guard.now.pid guard.now.word page.now) }
+    ensures names { IfOk result (λ below. LeadsTo (view pass.old) page.now key below.pid) }
+    ensures passed { IfOk result (λ below. (v : _) → IsOpened v guard.now.pid guard.now.word guard.now.frame (view pass.old) → length (pairs_of page.now) < MOST_PAIRS → IsPassed v key guard.now.pid page.now below.pid (view pass.new)) }
     ensures awaits { IfOk result (λ below. (level : ℕ) → Awaits (view pass.old) guard.now.pid guard.now.word (suc level) key → Awaits (view pass.new) below.pid below.word level key) }
     ensures err { IfErr result (λ turn. (v : _) → IsOpened v guard.now.pid guard.now.word guard.now.frame (view pass.old) → IsTurn v key turn (view pass.new)) }
+    ensures sure { B.tells ≡ true → IsKnownNow guard.now.pid guard.now.word (view pass.old) → IsOk result }
+    ensures known { B.tells ≡ true → IsKnownNow guard.now.pid guard.now.word (view pass.old) → IfOk result (λ below. IsKnownNow below.pid below.word (view pass.new) × IsKnownNow guard.now.pid guard.now.word (view pass.new)) }
+    ensures locks { IfOk result (λ _. KnowsLocks (view pass.new)) }
 {
     match child(page, key) {
         Some(named) => enter(words, pass, guard, named),
         None => match guard.validate_silently(words, pass) {
-            Ok(()) => unreachable!(),
+            Ok(()) => Err(Turn::astray_at(guard)),
             Err(saw) => Err(Turn::Again(saw)),
         },
     }
@@ -79,22 +83,24 @@ pub fn seek_full<B: Block>(
     page: &mut PageBuf,
 ) -> Result<Met, Turn>
     requires pass { MayStep words.now.table.shared.table_id pass.old }
-    requires tells { B.tells ≡ true }
     requires pages { 1 ≤ words.now.table.shared.key.pages }
-    requires size { (length over.old ≡ 64) × (length page.old ≡ 64) }
-    ensures size { (length over.new ≡ 64) × (length page.new ≡ 64) }
+    requires size { (length over.old ≡ WORDS) × (length page.old ≡ WORDS) }
+    ensures size { (length over.new ≡ WORDS) × (length page.new ≡ WORDS) }
     ensures pass { IsSamePass pass.old pass.new }
     ensures ready { IsReady words.now.table.shared.key B.tells words.now.table.shared.table_id pass.new }
     ensures reads { IfOk result (λ _. ReadsOn (view pass.old) (view pass.new)) }
     ensures met { IfOk result (λ m. IsMet (view pass.old) key m over.new page.new (view pass.new)) }
     ensures err { IfErr result (λ turn. IsTurn (view pass.old) key turn (view pass.new)) }
+    ensures sure { B.tells ≡ true → KnowsResident (view pass.old) → IsOk result }
+    ensures known { B.tells ≡ true → KnowsResident (view pass.old) → IfOk result (λ m. KnowsMet m (view pass.new)) }
+    ensures locks { IfOk result (λ _. KnowsLocks (view pass.new)) }
 {
     let top = match enter_root(words, pass, key) {
         Ok(top) => top,
         Err(turn) => return Err(turn),
     };
     top.guard.read_all(words, pass, page);
-    if count_of(page) == 28 {
+    if count_of(page) == MOST_PAIRS {
         return Ok(Met::Root {
             meta: top.meta,
             root: top.guard,
@@ -109,7 +115,7 @@ pub fn seek_full<B: Block>(
         };
         over.copy_from(page);
         below.read_all(words, pass, page);
-        if count_of(page) == 28 {
+        if count_of(page) == MOST_PAIRS {
             return Ok(Met::Below {
                 parent: guard,
                 node: below,

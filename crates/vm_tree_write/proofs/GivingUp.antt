@@ -1,24 +1,22 @@
--- Two pages that were locked are given up, since no fresh pages were given: the pass holds what it held, and the answer tells why.
+-- Two pages that were locked are given up, since no fresh pages were given: the pass holds what it held.
 use Rattle.std.proofs.Common.{ℕ, false, ◌≡◌, ◌≢◌, List, ◌++◌, None, refl, sym, ap, subst, ◌∙◌, inl}
 use Rattle.vm_core.specs.History.{Version}
 use Rattle.vm_map.specs.declared.call.Said.{Said}
 use Rattle.vm_owner.specs.Numbers.{has}
 use Rattle.vm_rule.specs.declared.view.View.{View}
 use Rattle.vm_rule.specs.Reading.{last_of}
-use Rattle.vm_rule.specs.Views.{StartsWith, draft_of}
-use Rattle.vm_step.proofs.Asides.{starts-then}
+use Rattle.vm_rule.specs.Views.{draft_of}
 use Rattle.vm_step.specs.HeldFrames.{AreHeld}
 use Rattle.vm_exmap.proofs.Handing.{held-on, held-swap}
 use Rattle.vm_guard.specs.declared.exclusive.ExclusiveGuard.{ExclusiveGuard}
 use Rattle.vm_guard.specs.declared.opt.OptGuard.{OptGuard}
 use Rattle.vm_guard.specs.Guards.{IsHolding, IsReleased}
 use Rattle.vm_tree_write.specs.Prepares.{AreLocked, GivesUp}
-use Rattle.vm_tree_write.specs.Splits.{HasDraft, KeepsAll, LosesNone}
-use Rattle.vm_tree_write.specs.Tries.{IsUnsplit}
-use Rattle.vm_tree_write.specs.declared.tries.TrySplit.{TrySplit}
+use Rattle.vm_tree_read.specs.Waiting.{LosesNone}
+use Rattle.vm_tree_write.specs.Splits.{HasDraft, KeepsAll}
 use Rattle.vm_tree_write.proofs.Framing.{keeps-then, moves-keep}
-use Rattle.vm_tree_write.proofs.Losing.{loses-swap}
-use Rattle.vm_tree_write.proofs.Refusing.{IsNone, back-keeps, holding-nil, nil-keeps, unsplit-within}
+use Rattle.vm_tree_read.proofs.Losing.{loses-swap}
+use Rattle.vm_tree_write.proofs.Refusing.{IsNone, back-keeps, holding-nil, nil-keeps}
 use Rattle.vm_tree_write.proofs.Under.{draft-else, holding-else}
 
 -- the pass keeps both, each with its last words as its draft
@@ -58,10 +56,7 @@ module _ (a b : OptGuard) (up low : ExclusiveGuard) (v w : View Said) (l : AreLo
   pub locks-out : w.out ≡ v.out
   locks-out = l.low_locked.elsewhere.steady.out ∙ l.up_locked.elsewhere.steady.out
 
-  locks-log : StartsWith w.log v.log
-  locks-log = starts-then v.log l.between.log w.log (l.up_locked.done, l.up_locked.elsewhere.steady.log) (l.low_locked.done, l.low_locked.elsewhere.steady.log)
-
-  module _ (n : ℕ) (before after : List ℕ) (answer : TrySplit) (y : View Said) (none : IsNone n before after answer w y) where
+  module _ (before after : List ℕ) (y : View Said) (none : IsNone before after w y) where
     pub none-kept : AreKept up low y
     none-kept =
         let k = locks-kept in
@@ -84,7 +79,7 @@ module _ (a b : OptGuard) (up low : ExclusiveGuard) (v w : View Said) (l : AreLo
     pub none-lost : (own : List ℕ) → LosesNone (before ++ own) v (own ++ after) y
     none-lost own = subst (λ (m : List ℕ). LosesNone (before ++ own) v (own ++ m) y) (sym none.same) (loses-swap before own v y (none.nil.keeps.frames ∙ locks-frames))
 
-    pub none-ended : (u z : View Said) → KeepsAll u v → GivesUp up low y z → KeepsAll u z × IsUnsplit n a b u z answer
+    pub none-ended : (u z : View Said) → KeepsAll u v → GivesUp up low y z → KeepsAll u z
     none-ended u z k g =
         let nil = nil-keeps none.pages none.done w y none.nil in
         let low-back = subst (λ p. IsReleased p low.version None y g.between) l.low_page g.low_back in
@@ -92,5 +87,4 @@ module _ (a b : OptGuard) (up low : ExclusiveGuard) (v w : View Said) (l : AreLo
         let one = back-keeps b.pid low.frame low.version low.dirty l.between w y g.between l.low_locked nil low-back in
         let two = back-keeps a.pid up.frame up.version up.dirty v l.between g.between g.released l.up_locked one up-back in
         let moved = moves-keep g.done g.released z g.moves in
-        let back = starts-then y.log g.between.log z.log (g.low_back.done, g.low_back.elsewhere.steady.log) (starts-then g.between.log g.released.log z.log (g.up_back.done, g.up_back.elsewhere.steady.log) moved.log) in
-        (keeps-then u v z k (keeps-then v g.released z two moved), unsplit-within n a b answer u w y z (starts-then u.log v.log w.log k.log locks-log) back (none.why a b))
+        keeps-then u v z k (keeps-then v g.released z two moved)

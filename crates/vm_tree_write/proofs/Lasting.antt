@@ -1,5 +1,5 @@
 -- The answer of a write that waited.
-use Rattle.std.proofs.Common.{ℕ, List, [], ◌∷◌, ◌++◌, ◌≡◌, ◌⊎◌, ◌+◌, sym, ap, subst, ◌∙◌, append_assoc, ⊎_elim}
+use Rattle.std.proofs.Common.{ℕ, true, List, [], ◌∷◌, ◌++◌, ◌≡◌, ◌⊎◌, ◌+◌, ap, subst, ◌∙◌, append_assoc, ⊎_elim}
 use Rattle.vm_map.specs.declared.call.Said.{Said}
 use Rattle.vm_owner.specs.declared.Entry.{Entry}
 use Rattle.vm_rule.specs.declared.view.Origin.{Origin}
@@ -27,21 +27,22 @@ use Rattle.vm_tree_write.proofs.Writing.{entry-same}
 record HasReply (said : Said) (x w : View Said) : Type 0 where
   mine : w.mine ≡ x.mine ++ entry_of x said ∷ []
   entry : (others : List (Entry Said)) × (w.seen ≡ (x.seen ++ others) ++ entry_of x said ∷ [])
-  legal : IsLegal (map_of x.start.contents) w.seen
+  legal : x.start.tells ≡ true → IsLegal (map_of x.start.contents) w.seen
   holds : (q : ℕ) → HoldsPage x w q
   out : w.out ≡ x.out
   start : w.start ≡ x.start
   frames : w.frames ≡ x.frames
+  notes : w.notes ≡ x.notes
   parts : (w.used ≡ x.used) × (w.fresh ≡ x.fresh)
 
-has-reply : (said : Said) (x w : View Said) → (IsWritten said x w × ¬ (IsVain said)) ⊎ IsAnswered said x w → HasReply said x w
+has-reply : (said : Said) (x w : View Said) → (IsWritten said x w × ¬ (IsVain said)) ⊎ (IsAnswered said x w × IsVain said) → HasReply said x w
 has-reply said x w a =
     ⊎_elim
-    (λ (both : IsWritten said x w × ¬ (IsVain said)). let k = both.0 in record { mine = k.mine; entry = k.entry; legal = k.legal; holds = k.writes.holds; out = k.writes.out; start = k.writes.start; frames = k.writes.frames.0; parts = k.writes.parts })
-    (λ (k : IsAnswered said x w). record { mine = k.mine; entry = k.entry; legal = k.legal; holds = k.reads.holds; out = k.reads.out; start = k.reads.start; frames = k.reads.frames.0; parts = k.reads.parts })
+    (λ (both : IsWritten said x w × ¬ (IsVain said)). let k = both.0 in record { mine = k.mine; entry = k.entry; legal = λ tells. (k.told tells).legal; holds = k.writes.holds; out = k.writes.out; start = k.writes.start; frames = k.writes.frames.0; notes = k.writes.notes; parts = k.writes.parts })
+    (λ (both : IsAnswered said x w × IsVain said). let k = both.0 in record { mine = k.mine; entry = k.entry; legal = λ tells. (k.told tells).legal; holds = k.reads.holds; out = k.reads.out; start = k.reads.start; frames = k.reads.frames.0; notes = k.reads.notes; parts = k.reads.parts })
     a
 
-pub del-frames : (said : Said) (x w : View Said) → (IsWritten said x w × ¬ (IsVain said)) ⊎ IsAnswered said x w → (w.start ≡ x.start) × (w.frames ≡ x.frames)
+pub del-frames : (said : Said) (x w : View Said) → (IsWritten said x w × ¬ (IsVain said)) ⊎ (IsAnswered said x w × IsVain said) → (w.start ≡ x.start) × (w.frames ≡ x.frames)
 del-frames said x w a = let k = has-reply said x w a in (k.start, k.frames)
 
 -- what is left of the pass by all that was done before the last try
@@ -51,18 +52,19 @@ pub record Lasts (v x : View Said) : Type 0 where
   pub mine : x.mine ≡ v.mine
   pub seen : StartsWith x.seen v.seen
   pub out : x.out ≡ v.out
+  pub notes : StartsWith x.notes v.notes
   pub holds : (q : ℕ) → HoldsPage v x q
 
 pub waits-last : (v x : View Said) → Waits v x → Lasts v x
-waits-last v x k = record { start = k.start; parts = k.parts; mine = k.mine; seen = k.seen; out = k.out; holds = k.holds }
+waits-last v x k = record { start = k.start; parts = k.parts; mine = k.mine; seen = k.seen; out = k.out; notes = k.notes; holds = k.holds }
 
 pub keeps-last : (v x : View Said) → KeepsAll v x → Lasts v x
-keeps-last v x k = record { start = k.start; parts = k.parts; mine = k.mine; seen = k.seen; out = k.out; holds = k.holds }
+keeps-last v x k = record { start = k.start; parts = k.parts; mine = k.mine; seen = k.seen; out = k.out; notes = k.notes; holds = k.holds }
 
 pub waits-keep : (v x : View Said) → Waits v x → KeepsAll v x
-waits-keep v x k = record { start = k.start; parts = k.parts; mine = k.mine; seen = k.seen; log = k.log; out = k.out; pending = k.group.0; owed = k.group.1; holds = k.holds }
+waits-keep v x k = record { start = k.start; parts = k.parts; mine = k.mine; seen = k.seen; notes = k.notes; log = k.log; out = k.out; pending = k.group.0; owed = k.group.1; holds = k.holds }
 
-pub replied : (keeps : View Said → View Said → Type 0) (said : Said) (v x w : View Said) → keeps v x → Lasts v x → (IsWritten said x w × ¬ (IsVain said)) ⊎ IsAnswered said x w → IsReplied keeps said v w
+pub replied : (keeps : View Said → View Said → Type 0) (said : Said) (v x w : View Said) → keeps v x → Lasts v x → (IsWritten said x w × ¬ (IsVain said)) ⊎ (IsAnswered said x w × IsVain said) → IsReplied keeps said v w
 replied keeps said v x w kept k answered =
     let a = has-reply said x w answered in
     let same : entry_of x said ≡ entry_of v said = entry-same v x said k.parts.0 k.mine in
@@ -75,9 +77,10 @@ replied keeps said v x w kept k answered =
         k.seen.0 ++ a.entry.0,
         a.entry.1 ∙ (λ i. (k.seen.1 i ++ a.entry.0) ++ same i ∷ []) ∙ ap (λ (l : List (Entry Said)). l ++ entry_of v said ∷ []) (append_assoc v.seen k.seen.0 a.entry.0),
       );
-      legal = subst (λ (o : Origin). IsLegal (map_of o.contents) w.seen) k.start a.legal;
+      legal = λ tells. subst (λ (o : Origin). IsLegal (map_of o.contents) w.seen) k.start (a.legal (ap (λ (o : Origin). o.tells) k.start ∙ tells));
       holds = λ q. holds-then v x w q (k.holds q) (a.holds q);
       out = a.out ∙ k.out;
+      notes = (k.notes.0, a.notes ∙ k.notes.1);
       start = a.start ∙ k.start;
       parts = (a.parts.0 ∙ k.parts.0, a.parts.1 ∙ k.parts.1);
     }

@@ -12,3 +12,6 @@ pub mod Ends
 pub mod GivingUp
 pub mod Trying
 pub mod Losing
+pub mod Backing
+pub mod Settling
+pub mod Knowing

@@ -1,7 +1,6 @@
 -- Two pages that are locked, and fresh pages beside them: what the search read is what the locks prove, and once all are released the pass holds
 -- what it held.
 use Rattle.std.proofs.Common.{ℕ, true, false, ◌≡◌, ◌≢◌, ◌+◌, ◌||◌, List, ◌∷◌, ◌++◌, length, suc, refl, sym, ap, subst, ◌∙◌, ◌⊎◌, replicate, ⊎_elim}
-use Rattle.std.proofs.lemmas.Option.{none-some}
 use Rattle.std.proofs.lemmas.Bool.{cases_Bool, cases_eq, eq-eqb, ne_eqb}
 use Rattle.vm_map.specs.declared.call.Said.{Said}
 use Rattle.vm_owner.specs.Numbers.{has, without, AreApart}
@@ -14,7 +13,6 @@ use Rattle.vm_rule.specs.Releases.{without_all}
 use Rattle.vm_rule.proofs.Facts.{has-both}
 use Rattle.vm_step.specs.Asides.{HoldsPage}
 use Rattle.vm_step.proofs.Asides.{holds-then}
-use Rattle.vm_step.proofs.Together.{numbers-length}
 use Rattle.vm_guard.specs.declared.exclusive.ExclusiveGuard.{ExclusiveGuard}
 use Rattle.vm_guard.specs.declared.opt.OptGuard.{OptGuard}
 use Rattle.vm_guard.specs.Guards.{IsHolding, IsReading}
@@ -28,7 +26,6 @@ use Rattle.vm_tree_rule.specs.Seeks.{HasRead}
 use Rattle.vm_tree_rule.specs.Standing.{Awaits}
 use Rattle.vm_tree_write.specs.Prepares.{IsPrepared}
 use Rattle.vm_tree_write.specs.Splits.{HasDraft, IsSplitUp, KeepsAll}
-use Rattle.vm_tree_write.specs.Tries.{HasSplit}
 use Rattle.vm_tree_write.proofs.Under.{KeepsBut, amid-holds, awaits-moved, but-then, done-but, draft-amid, draft-else, fresh-but, holding-else, locked-but, locked-draft, locked-inner, moved-holds, moves-but, read-moved, reading-moved, true-false, was-before, was-done, was-fresh, was-locked, was-on}
 
 module _ (n : ℕ) (first second : OptGuard) (up low : ExclusiveGuard) (gs : List ExclusiveGuard) (v w : View Said) (all : IsPrepared n first second up low gs v w) (apart : second.pid ≢ first.pid) where
@@ -62,6 +59,9 @@ module _ (n : ℕ) (first second : OptGuard) (up low : ExclusiveGuard) (gs : Lis
 
   start-is : all.locked.start ≡ v.start
   start-is = all.locks.low_locked.elsewhere.steady.start ∙ all.locks.up_locked.elsewhere.steady.start ∙ all.moves.start
+
+  pub start-then : w.start ≡ v.start
+  start-then = all.fresh.amid.start ∙ start-is
 
   -- ---- both are held
 
@@ -192,6 +192,7 @@ module _ (n : ℕ) (first second : OptGuard) (up low : ExclusiveGuard) (gs : Lis
           parts = but.parts;
           mine = but.mine;
           seen = but.seen;
+          notes = but.notes;
           log = but.log;
           out = but.out;
           pending = but.pending;
@@ -205,6 +206,3 @@ module _ (n : ℕ) (first second : OptGuard) (up low : ExclusiveGuard) (gs : Lis
               (λ no. but.holds q (λ i. ne_eqb q a qa i || (ne_eqb q b qb i || no i)))
               (cases_Bool (has q pages))) (cases_eq q b)) (cases_eq q a);
         }
-
-    pub prepared-split : HasSplit n a b v z
-    prepared-split = record { fresh = pages; count = numbers-length all.x n; before = w; after = y; earlier = until.log; split = su; later = (d, m.log) }

@@ -3,6 +3,7 @@ use Rattle.std.proofs.Common.{ℕ, Bool, true, ◌≡◌, ◌≢◌, ◌+◌, Li
 use Rattle.vm_core.specs.History.{Version}
 use Rattle.vm_map.specs.declared.call.Said.{Said}
 use Rattle.vm_owner.specs.Numbers.{has, AreApart}
+use Rattle.vm_rule.specs.declared.view.Origin.{Origin}
 use Rattle.vm_rule.specs.declared.view.View.{View}
 use Rattle.vm_rule.specs.Views.{draft_of, seat_of}
 use Rattle.vm_rule.specs.Reading.{last_of}
@@ -18,9 +19,9 @@ use Rattle.vm_tree_model.specs.Page.{pairs_of}
 use Rattle.vm_tree_laws.specs.May.{MayRelease}
 use Rattle.vm_tree_laws.proofs.Established.{may_split_root}
 use Rattle.vm_tree_write.specs.Drafts.{IsRedrafted}
-use Rattle.vm_tree_write.specs.Splits.{HasDraft, IsSplitUp, Stays}
+use Rattle.vm_tree_write.specs.Splits.{HasDraft, IsRootToSplit, IsSplitUp, Stays}
 use Rattle.vm_tree_write.proofs.Drafting.{redrafted-self, set-more}
-use Rattle.vm_tree_write.proofs.Splitting.{draft-new, draft-past, full-not, group-done, none-not, redrafted-stays, stays-then, words-claimed}
+use Rattle.vm_tree_write.proofs.Splitting.{draft-new, draft-past, full-not, group-done, none-not, redrafted-stays, stays-then, told-before, words-claimed}
 
 -- pages that are apart
 pub record AreFour (a b c d : ℕ) : Type 0 where
@@ -52,74 +53,88 @@ set-two p f1 f2 d1 d2 i j x y old v u w s t last draft = (
 )
 
 -- four pages after their new drafts
-pub record AreDrafted (a b c d : ℕ) (meta meta' page left half crown : List ℕ) (v y : View Said) : Type 0 where
-  pub stays : Stays v y
+pub record AreDrafted (a b c d : ℕ) (meta meta' page left half crown : List ℕ) (y : View Said) : Type 0 where
   pub first : HasDraft a meta meta' y
   pub second : HasDraft b page left y
   pub third : HasDraft c (replicate 64 0) half y
   pub fourth : HasDraft d (replicate 64 0) crown y
 
 pub four-redrafted : (a b c d : ℕ) (meta meta' page left half crown : List ℕ) (v x1 x2 x3 y : View Said) → AreFour a b c d → (seat_of v a).exclusive ≡ true → (seat_of v b).exclusive ≡ true → (seat_of v c).exclusive ≡ true → (seat_of v d).exclusive ≡ true
-    → HasDraft b page page v → HasDraft c (replicate 64 0) (replicate 64 0) v → HasDraft d (replicate 64 0) (replicate 64 0) v → IsRedrafted a v x1 → HasDraft a meta meta' x1 → IsRedrafted b x1 x2 → IsRedrafted c x2 x3 → IsRedrafted d x3 y
-    → draft_of x2 b ≡ left → draft_of x3 c ≡ half → draft_of y d ≡ crown → AreDrafted a b c d meta meta' page left half crown v y
-four-redrafted a b c d meta meta' page left half crown v x1 x2 x3 y ne oa ob oc od hb hc hd d1 a1 d2 d3 d4 n2 n3 n4 =
+    → (height : ℕ) → (v.start.tells ≡ true → IsRootToSplit a b c d height page v) → IsRedrafted a v x1 → HasDraft a meta meta' x1 → IsRedrafted b x1 x2 → IsRedrafted c x2 x3 → IsRedrafted d x3 y
+    → (x1.start.tells ≡ true → draft_of x2 b ≡ left) → (x2.start.tells ≡ true → draft_of x3 c ≡ half) → (x3.start.tells ≡ true → draft_of y d ≡ crown) → y.start.tells ≡ true → AreDrafted a b c d meta meta' page left half crown y
+four-redrafted a b c d meta meta' page left half crown v x1 x2 x3 y ne oa ob oc od height told d1 a1 d2 d3 d4 n2 n3 n4 tells =
     let zero = replicate 64 0 in
+    let t3 = told-before d x3 y d4 tells in
+    let t2 = told-before c x2 x3 d3 t3 in
+    let t1 = told-before b x1 x2 d2 t2 in
+    let to = told (told-before a v x1 d1 t1) in
+    let hb = to.node in
+    let hc = to.fresh.0 in
+    let hd = to.fresh.1 in
     let s1 = redrafted-stays a v x1 d1 in
     let s2 = redrafted-stays b x1 x2 d2 in
     let s3 = redrafted-stays c x2 x3 d3 in
-    let s4 = redrafted-stays d x3 y d4 in
-    let t2 = stays-then v x1 x2 s1 s2 in
-    let t3 = stays-then v x2 x3 t2 s3 in
+    let u2 = stays-then v x1 x2 s1 s2 in
+    let u3 = stays-then v x2 x3 u2 s3 in
     let a2 = draft-past a b meta meta' x1 x2 ne.ab ((s1.holds a).exclusive ∙ oa) a1 d2 in
-    let a3 = draft-past a c meta meta' x2 x3 ne.ac ((t2.holds a).exclusive ∙ oa) a2 d3 in
-    let a4 = draft-past a d meta meta' x3 y ne.ad ((t3.holds a).exclusive ∙ oa) a3 d4 in
+    let a3 = draft-past a c meta meta' x2 x3 ne.ac ((u2.holds a).exclusive ∙ oa) a2 d3 in
+    let a4 = draft-past a d meta meta' x3 y ne.ad ((u3.holds a).exclusive ∙ oa) a3 d4 in
     let b1 = draft-past b a page page v x1 (λ e. ne.ab (sym e)) ob hb d1 in
-    let b2 = draft-new b page page left x1 x2 b1 d2 n2 in
-    let b3 = draft-past b c page left x2 x3 ne.bc ((t2.holds b).exclusive ∙ ob) b2 d3 in
-    let b4 = draft-past b d page left x3 y ne.bd ((t3.holds b).exclusive ∙ ob) b3 d4 in
+    let b2 = draft-new b page page left x1 x2 b1 d2 (n2 t1) in
+    let b3 = draft-past b c page left x2 x3 ne.bc ((u2.holds b).exclusive ∙ ob) b2 d3 in
+    let b4 = draft-past b d page left x3 y ne.bd ((u3.holds b).exclusive ∙ ob) b3 d4 in
     let c1 = draft-past c a zero zero v x1 (λ e. ne.ac (sym e)) oc hc d1 in
     let c2 = draft-past c b zero zero x1 x2 (λ e. ne.bc (sym e)) ((s1.holds c).exclusive ∙ oc) c1 d2 in
-    let c3 = draft-new c zero zero half x2 x3 c2 d3 n3 in
-    let c4 = draft-past c d zero half x3 y ne.cd ((t3.holds c).exclusive ∙ oc) c3 d4 in
+    let c3 = draft-new c zero zero half x2 x3 c2 d3 (n3 t2) in
+    let c4 = draft-past c d zero half x3 y ne.cd ((u3.holds c).exclusive ∙ oc) c3 d4 in
     let e1 = draft-past d a zero zero v x1 (λ e. ne.ad (sym e)) od hd d1 in
     let e2 = draft-past d b zero zero x1 x2 (λ e. ne.bd (sym e)) ((s1.holds d).exclusive ∙ od) e1 d2 in
-    let e3 = draft-past d c zero zero x2 x3 (λ e. ne.cd (sym e)) ((t2.holds d).exclusive ∙ od) e2 d3 in
-    let e4 = draft-new d zero zero crown x3 y e3 d4 n4 in
-    record { stays = stays-then v x3 y t3 s4; first = a4; second = b4; third = c4; fourth = e4 }
+    let e3 = draft-past d c zero zero x2 x3 (λ e. ne.cd (sym e)) ((u2.holds d).exclusive ∙ od) e2 d3 in
+    let e4 = draft-new d zero zero crown x3 y e3 d4 (n4 t3) in
+    record { first = a4; second = b4; third = c4; fourth = e4 }
 
-module _ (a b c d height separator : ℕ) (meta page left half crown : List ℕ) (v y : View Said) (four : AreDrafted a b c d meta (slice_set (slice_set meta 1 d) 2 (height + 1)) page left half crown v y) (zero : a ≡ 0) (names : (slice_index meta 1 ≡ b) × (slice_index meta 2 ≡ height))
-    (claimed : meta ≢ replicate 64 0) (full : length (pairs_of page) ≡ 28) (split : IsSplit page left half separator) (grows : IsNewRoot crown (height + 1) b separator c) (owed : (has c v.owed ≡ true) × (has d v.owed ≡ true)) where
+pub four-stay : (a b c d : ℕ) (v x1 x2 x3 y : View Said) → IsRedrafted a v x1 → IsRedrafted b x1 x2 → IsRedrafted c x2 x3 → IsRedrafted d x3 y → Stays v y
+four-stay a b c d v x1 x2 x3 y d1 d2 d3 d4 =
+    stays-then v x3 y (stays-then v x2 x3 (stays-then v x1 x2 (redrafted-stays a v x1 d1) (redrafted-stays b x1 x2 d2)) (redrafted-stays c x2 x3 d3)) (redrafted-stays d x3 y d4)
+
+module _ (a b c d height separator : ℕ) (page left half crown : List ℕ) (v y : View Said) (stays : Stays v y) (four : y.start.tells ≡ true → AreDrafted a b c d (last_of v a).words (slice_set (slice_set (last_of v a).words 1 d) 2 (height + 1)) page left half crown y) (zero : a ≡ 0)
+    (told : v.start.tells ≡ true → IsRootToSplit a b c d height page v) (full : length (pairs_of page) ≡ 28) (split : IsSplit page left half separator) (grows : IsNewRoot crown (height + 1) b separator c) (owed : (has c v.owed ≡ true) × (has d v.owed ≡ true)) where
   owed-c : has c y.owed ≡ true
-  owed-c = ap (has c) four.stays.group.1 ∙ owed.0
+  owed-c = ap (has c) stays.group.1 ∙ owed.0
 
   owed-d : has d y.owed ≡ true
-  owed-d = ap (has d) four.stays.group.1 ∙ owed.1
+  owed-d = ap (has d) stays.group.1 ∙ owed.1
 
-  pub four-may : MayRelease (began_of y.start) y.owed (changes_of y (a ∷ b ∷ c ∷ d ∷ [])) []
-  four-may =
+  to-split : y.start.tells ≡ true → IsRootToSplit a b c d height page v
+  to-split tells = told (ap (λ (o : Origin). o.tells) (sym stays.start) ∙ tells)
+
+  pub four-may : y.start.tells ≡ true → MayRelease (began_of y.start) y.owed (changes_of y (a ∷ b ∷ c ∷ d ∷ [])) []
+  four-may tells =
+      let f = four tells in
+      let to = to-split tells in
       may_split_root (began_of y.start) y.owed (change_of y a) (change_of y b) (change_of y c) (change_of y d) height separator zero
-      (ap (λ (l : List ℕ). slice_index l 1) four.first.last ∙ names.0)
-      (ap (λ (l : List ℕ). slice_index l 2) four.first.last ∙ names.1)
-      (ap (λ (l : List ℕ). length (pairs_of l)) four.second.last ∙ full)
-      (subst (λ (l : List ℕ). IsSplit l (draft_of y b) (draft_of y c) separator) (sym four.second.last)
-      (subst (λ (l : List ℕ). IsSplit page l (draft_of y c) separator) (sym four.second.draft)
-      (subst (λ (l : List ℕ). IsSplit page left l separator) (sym four.third.draft) split)))
-      (subst (λ (l : List ℕ). IsNewRoot l (height + 1) b separator c) (sym four.fourth.draft) grows)
-      (four.first.draft ∙ ap (λ (l : List ℕ). slice_set (slice_set l 1 d) 2 (height + 1)) (sym four.first.last))
+      (ap (λ (l : List ℕ). slice_index l 1) f.first.last ∙ to.names.0)
+      (ap (λ (l : List ℕ). slice_index l 2) f.first.last ∙ to.names.1)
+      (ap (λ (l : List ℕ). length (pairs_of l)) f.second.last ∙ full)
+      (subst (λ (l : List ℕ). IsSplit l (draft_of y b) (draft_of y c) separator) (sym f.second.last)
+      (subst (λ (l : List ℕ). IsSplit page l (draft_of y c) separator) (sym f.second.draft)
+      (subst (λ (l : List ℕ). IsSplit page left l separator) (sym f.third.draft) split)))
+      (subst (λ (l : List ℕ). IsNewRoot l (height + 1) b separator c) (sym f.fourth.draft) grows)
+      (f.first.draft ∙ ap (λ (l : List ℕ). slice_set (slice_set l 1 d) 2 (height + 1)) (sym f.first.last))
       owed-c owed-d
 
   pub four-all : (g1 g2 g3 g4 : ExclusiveGuard) → g1.pid ≡ a → g2.pid ≡ b → g3.pid ≡ c → g4.pid ≡ d → IsHolding g1.pid g1.frame g1.version g1.dirty y → IsHolding g2.pid g2.frame g2.version g2.dirty y → IsHolding g3.pid g3.frame g3.version g3.dirty y → IsHolding g4.pid g4.frame g4.version g4.dirty y
       → AreApart (a ∷ b ∷ c ∷ d ∷ []) → v.out ≡ None → MayReleaseAll MayRelease (g1 ∷ g2 ∷ g3 ∷ g4 ∷ []) None y
   four-all g1 g2 g3 g4 i1 i2 i3 i4 h1 h2 h3 h4 apart out =
       let pids : pids_of (g1 ∷ g2 ∷ g3 ∷ g4 ∷ []) ≡ a ∷ b ∷ c ∷ d ∷ [] = (λ i. i1 i ∷ i2 i ∷ i3 i ∷ i4 i ∷ []) in
-      let none = four.stays.out ∙ out in
+      let none = stays.out ∙ out in
       record {
         held = (h1, (h2, (h3, (h4, tt))));
         apart = subst AreApart (sym pids) apart;
         home = ((λ o e. absurd (none-not o (sym none ∙ e))), ((λ o e. absurd (none-not o (sym none ∙ e))), ((λ o e. absurd (none-not o (sym none ∙ e))), ((λ o e. absurd (none-not o (sym none ∙ e))), tt))));
         claimed = λ t.
-            (subst (IsClaimed y) (sym i1) (words-claimed a meta _ y four.first claimed), (subst (IsClaimed y) (sym i2) (words-claimed b page left y four.second (full-not page full)), (subst (IsClaimed y) (sym i3) (inr (inr (inr owed-c))), (subst (IsClaimed y) (sym i4) (inr (inr (inr owed-d))), tt))));
-        owner = λ t. inr (subst (λ (l : List ℕ). MayRelease (began_of y.start) y.owed (changes_of y l) []) (sym pids) four-may);
+            (subst (IsClaimed y) (sym i1) (words-claimed a (last_of v a).words _ y (four t).first (to-split t).claimed), (subst (IsClaimed y) (sym i2) (words-claimed b page left y (four t).second (full-not page full)), (subst (IsClaimed y) (sym i3) (inr (inr (inr owed-c))), (subst (IsClaimed y) (sym i4) (inr (inr (inr owed-d))), tt))));
+        owner = λ t. inr (subst (λ (l : List ℕ). MayRelease (began_of y.start) y.owed (changes_of y l) []) (sym pids) (four-may t));
       }
 
   pub four-released : (g1 g2 g3 g4 : ExclusiveGuard) (w : View Said) → g1.pid ≡ a → g2.pid ≡ b → g3.pid ≡ c → g4.pid ≡ d → AreReleased g1 (g2 ∷ g3 ∷ g4 ∷ []) None y w → IsSplitUp (a ∷ b ∷ c ∷ d ∷ []) v w
@@ -127,11 +142,12 @@ module _ (a b c d height separator : ℕ) (meta page left half crown : List ℕ)
       let pids : pids_of (g1 ∷ g2 ∷ g3 ∷ g4 ∷ []) ≡ a ∷ b ∷ c ∷ d ∷ [] = (λ i. i1 i ∷ i2 i ∷ i3 i ∷ i4 i ∷ []) in
       record {
         held = y;
+        stays = stays;
         first = g1;
         rest = g2 ∷ g3 ∷ g4 ∷ [];
         pids = pids;
         several = inr refl;
         released = r;
         may = four-may;
-        done = group-done g1 (g2 ∷ g3 ∷ g4 ∷ []) (a ∷ b ∷ c ∷ d ∷ []) v y w pids four.stays r;
+        done = group-done g1 (g2 ∷ g3 ∷ g4 ∷ []) (a ∷ b ∷ c ∷ d ∷ []) v y w pids stays r;
       }

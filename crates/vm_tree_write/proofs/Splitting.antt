@@ -9,6 +9,7 @@ use Rattle.vm_rule.specs.declared.view.Origin.{Origin}
 use Rattle.vm_rule.specs.declared.view.Held.{Held}
 use Rattle.vm_rule.specs.declared.view.View.{View}
 use Rattle.vm_rule.specs.Views.{draft_of, seat_of}
+use Rattle.vm_rule.specs.Reading.{last_of}
 use Rattle.vm_rule.specs.Rule.{began_of}
 use Rattle.vm_rule.specs.Releases.{change_of, changes_of, without_all}
 use Rattle.vm_rule.proofs.Entries.{append-none}
@@ -25,7 +26,7 @@ use Rattle.vm_tree_model.specs.Page.{node_of, pairs_of, IsInner}
 use Rattle.vm_tree_laws.specs.May.{MayRelease}
 use Rattle.vm_tree_laws.proofs.Established.{may_split}
 use Rattle.vm_tree_write.specs.Drafts.{IsRedrafted}
-use Rattle.vm_tree_write.specs.Splits.{HasDraft, IsGroupDone, IsSplitUp, Stays}
+use Rattle.vm_tree_write.specs.Splits.{AreToSplit, HasDraft, IsGroupDone, IsSplitUp, Stays}
 
 -- pages that are apart
 pub first-apart : (a b c : ℕ) → AreApart (a ∷ b ∷ c ∷ []) → (a ≢ b) × (a ≢ c) × (b ≢ c)
@@ -48,10 +49,12 @@ module _ {X : Type 0} where
     mine = g.mine ∙ f.mine;
     seen = starts-then u.seen v.seen w.seen f.seen g.seen;
     log = starts-then u.log v.log w.log f.log g.log;
+    notes = g.notes ∙ f.notes;
     frames = g.frames ∙ f.frames;
     out = g.out ∙ f.out;
     group = (g.group.0 ∙ f.group.0, g.group.1 ∙ f.group.1, g.group.2 ∙ f.group.2);
     holds = λ q. holds-then u v w q (f.holds q) (g.holds q);
+    last = λ q e. g.last q ((f.holds q).exclusive ∙ e) ∙ f.last q e;
   }
 
   pub redrafted-stays : (p : ℕ) (v w : View X) → IsRedrafted p v w → Stays v w
@@ -60,12 +63,18 @@ module _ {X : Type 0} where
     parts = d.elsewhere.steady.parts;
     mine = d.mine;
     seen = d.elsewhere.steady.seen;
+    notes = d.elsewhere.steady.notes;
     log = (d.done, d.elsewhere.steady.log);
     frames = d.elsewhere.steady.frames.0;
     out = d.elsewhere.steady.out;
     group = d.group;
     holds = λ q. ⊎_elim (λ (e : q ≡ p). subst (HoldsPage v w) (sym e) d.holds) (λ ne. d.elsewhere.holds q ne) (cases_eq q p);
+    last = λ q e. ⊎_elim (λ (s : q ≡ p). subst (λ n. last_of w n ≡ last_of v n) (sym s) d.last) (λ ne. (d.elsewhere.knows q ne (inl e)).last) (cases_eq q p);
   }
+
+  -- blocks told their words before
+  pub told-before : (p : ℕ) (v w : View X) → IsRedrafted p v w → w.start.tells ≡ true → v.start.tells ≡ true
+  told-before p v w d tells = ap (λ (o : Origin). o.tells) (sym d.elsewhere.steady.start) ∙ tells
 
   -- a page that is held stays so while another one gets a new draft
   pub holding-past : (p frame version : ℕ) (dirty : Bool) (q : ℕ) (v w : View X) → p ≢ q → IsHolding p frame version dirty v → IsRedrafted q v w → IsHolding p frame version dirty w
@@ -101,6 +110,7 @@ module _ {X : Type 0} where
     mine = r.mine ∙ append-none y.mine ∙ s.mine;
     seen = starts-then v.seen y.seen w.seen s.seen r.beside.steady.seen;
     log = starts-then v.log y.log w.log s.log (_, r.beside.steady.log);
+    notes = r.beside.steady.notes ∙ s.notes;
     frames = r.beside.steady.frames.0 ∙ s.frames;
     out = r.beside.steady.out ∙ s.out;
     pending = r.group.0 ∙ s.group.0;
@@ -126,20 +136,20 @@ pub none-not : {A : Type 0} (x : A) → None ≡ Some x → ⊥
 none-not x e = absurd (cc)
 
 pub may-three : (g1 g2 g3 : ExclusiveGuard) (a b c : ℕ) (y : View Said) → g1.pid ≡ a → g2.pid ≡ b → g3.pid ≡ c → IsHolding g1.pid g1.frame g1.version g1.dirty y → IsHolding g2.pid g2.frame g2.version g2.dirty y → IsHolding g3.pid g3.frame g3.version g3.dirty y
-    → AreApart (a ∷ b ∷ c ∷ []) → y.out ≡ None → IsClaimed y a → IsClaimed y b → IsClaimed y c → MayRelease (began_of y.start) y.owed (changes_of y (a ∷ b ∷ c ∷ [])) [] → MayReleaseAll MayRelease (g1 ∷ g2 ∷ g3 ∷ []) None y
+    → AreApart (a ∷ b ∷ c ∷ []) → y.out ≡ None → (y.start.tells ≡ true → IsClaimed y a) → (y.start.tells ≡ true → IsClaimed y b) → IsClaimed y c → (y.start.tells ≡ true → MayRelease (began_of y.start) y.owed (changes_of y (a ∷ b ∷ c ∷ [])) []) → MayReleaseAll MayRelease (g1 ∷ g2 ∷ g3 ∷ []) None y
 may-three g1 g2 g3 a b c y e1 e2 e3 h1 h2 h3 apart out c1 c2 c3 may =
     let pids : pids_of (g1 ∷ g2 ∷ g3 ∷ []) ≡ a ∷ b ∷ c ∷ [] = (λ i. e1 i ∷ e2 i ∷ e3 i ∷ []) in
     record {
       held = (h1, (h2, (h3, tt)));
       apart = subst AreApart (sym pids) apart;
       home = ((λ o e. absurd (none-not o (sym out ∙ e))), ((λ o e. absurd (none-not o (sym out ∙ e))), ((λ o e. absurd (none-not o (sym out ∙ e))), tt)));
-      claimed = λ t. (subst (IsClaimed y) (sym e1) c1, (subst (IsClaimed y) (sym e2) c2, (subst (IsClaimed y) (sym e3) c3, tt)));
-      owner = λ t. inr (subst (λ (l : List ℕ). MayRelease (began_of y.start) y.owed (changes_of y l) []) (sym pids) may);
+      claimed = λ t. (subst (IsClaimed y) (sym e1) (c1 t), (subst (IsClaimed y) (sym e2) (c2 t), (subst (IsClaimed y) (sym e3) c3, tt)));
+      owner = λ t. inr (subst (λ (l : List ℕ). MayRelease (began_of y.start) y.owed (changes_of y l) []) (sym pids) (may t));
     }
 
 -- the three changes are a split
 pub splits-three : (a b c key separator : ℕ) (over above page left old half : List ℕ) (y : View Said) → HasDraft a over above y → HasDraft b page left y → HasDraft c old half y → IsInner over → Covers (node_of over) key → child_of over key ≡ Some b
-    → length (pairs_of over) < 28 → length (pairs_of page) ≡ 28 → IsSplit page left half separator → AddsPair over above separator c → has c y.owed ≡ true → MayRelease (began_of y.start) y.owed (changes_of y (a ∷ b ∷ c ∷ [])) []
+    → length (pairs_of over) < 28 → length (pairs_of page) ≡ 28 → IsSplit page left half separator → (IsInner over → AddsPair over above separator c) → has c y.owed ≡ true → MayRelease (began_of y.start) y.owed (changes_of y (a ∷ b ∷ c ∷ [])) []
 splits-three a b c key separator over above page left old half y ha hb hc inner covers names room full split adds owed =
     may_split (began_of y.start) y.owed (change_of y a) (change_of y b) (change_of y c) key separator
     (subst IsInner (sym ha.last) inner)
@@ -151,7 +161,7 @@ splits-three a b c key separator over above page left old half y ha hb hc inner 
     (subst (λ (l : List ℕ). IsSplit page l (draft_of y c) separator) (sym hb.draft)
     (subst (λ (l : List ℕ). IsSplit page left l separator) (sym hc.draft) split)))
     (subst (λ (l : List ℕ). AddsPair l (draft_of y a) separator c) (sym ha.last)
-    (subst (λ (l : List ℕ). AddsPair over l separator c) (sym ha.draft) adds))
+    (subst (λ (l : List ℕ). AddsPair over l separator c) (sym ha.draft) (adds inner)))
     owed
 
 -- the words that were before
@@ -159,45 +169,59 @@ pub words-claimed : (p : ℕ) (old new : List ℕ) (y : View Said) → HasDraft 
 words-claimed p old new y h ne = inr (inl (λ e. ne (sym h.last ∙ e)))
 
 -- three pages after their new drafts
-pub record AreThree (a b c : ℕ) (over above page left half : List ℕ) (v y : View Said) : Type 0 where
-  pub stays : Stays v y
+pub record AreThree (a b c : ℕ) (over above page left half : List ℕ) (y : View Said) : Type 0 where
   pub first : HasDraft a over above y
   pub second : HasDraft b page left y
   pub third : HasDraft c (replicate 64 0) half y
 
 pub three-redrafted : (a b c : ℕ) (over above page left half : List ℕ) (v x1 x2 y : View Said) → AreApart (a ∷ b ∷ c ∷ []) → (seat_of v a).exclusive ≡ true → (seat_of v b).exclusive ≡ true → (seat_of v c).exclusive ≡ true
-    → HasDraft a over over v → HasDraft b page page v → HasDraft c (replicate 64 0) (replicate 64 0) v → IsRedrafted a v x1 → IsRedrafted b x1 x2 → IsRedrafted c x2 y
-    → draft_of x1 a ≡ above → draft_of x2 b ≡ left → draft_of y c ≡ half → AreThree a b c over above page left half v y
-three-redrafted a b c over above page left half v x1 x2 y apart oa ob oc ha hb hc d1 d2 d3 n1 n2 n3 =
+    → (v.start.tells ≡ true → AreToSplit a b c over page v) → IsRedrafted a v x1 → IsRedrafted b x1 x2 → IsRedrafted c x2 y
+    → (v.start.tells ≡ true → draft_of x1 a ≡ above) → (x1.start.tells ≡ true → draft_of x2 b ≡ left) → (x2.start.tells ≡ true → draft_of y c ≡ half) → y.start.tells ≡ true → AreThree a b c over above page left half y
+three-redrafted a b c over above page left half v x1 x2 y apart oa ob oc told d1 d2 d3 n1 n2 n3 tells =
+    let t2 = told-before c x2 y d3 tells in
+    let t1 = told-before b x1 x2 d2 t2 in
+    let t0 = told-before a v x1 d1 t1 in
+    let to = told t0 in
+    let ha = to.above in
+    let hb = to.node in
+    let hc = to.fresh in
     let ne = first-apart a b c apart in
     let s1 = redrafted-stays a v x1 d1 in
     let s2 = redrafted-stays b x1 x2 d2 in
-    let s3 = redrafted-stays c x2 y d3 in
-    let a1 = draft-new a over over above v x1 ha d1 n1 in
+    let a1 = draft-new a over over above v x1 ha d1 (n1 t0) in
     let a2 = draft-past a b over above x1 x2 ne.0 ((s1.holds a).exclusive ∙ oa) a1 d2 in
     let a3 = draft-past a c over above x2 y ne.1 ((s2.holds a).exclusive ∙ (s1.holds a).exclusive ∙ oa) a2 d3 in
     let b1 = draft-past b a page page v x1 (λ e. ne.0 (sym e)) ob hb d1 in
-    let b2 = draft-new b page page left x1 x2 b1 d2 n2 in
+    let b2 = draft-new b page page left x1 x2 b1 d2 (n2 t1) in
     let b3 = draft-past b c page left x2 y ne.2 ((s2.holds b).exclusive ∙ (s1.holds b).exclusive ∙ ob) b2 d3 in
     let c1 = draft-past c a (replicate 64 0) (replicate 64 0) v x1 (λ e. ne.1 (sym e)) oc hc d1 in
     let c2 = draft-past c b (replicate 64 0) (replicate 64 0) x1 x2 (λ e. ne.2 (sym e)) ((s1.holds c).exclusive ∙ oc) c1 d2 in
-    let c3 = draft-new c (replicate 64 0) (replicate 64 0) half x2 y c2 d3 n3 in
-    record { stays = stays-then v x1 y s1 (stays-then x1 x2 y s2 s3); first = a3; second = b3; third = c3 }
+    let c3 = draft-new c (replicate 64 0) (replicate 64 0) half x2 y c2 d3 (n3 t2) in
+    record { first = a3; second = b3; third = c3 }
 
-module _ (a b c key separator : ℕ) (over above page left half : List ℕ) (v y : View Said) (three : AreThree a b c over above page left half v y) (inner : IsInner over) (covers : Covers (node_of over) key) (names : child_of over key ≡ Some b)
-    (room : length (pairs_of over) < 28) (full : length (pairs_of page) ≡ 28) (split : IsSplit page left half separator) (adds : AddsPair over above separator c) (owed : has c v.owed ≡ true) where
+pub three-stay : (a b c : ℕ) (v x1 x2 y : View Said) → IsRedrafted a v x1 → IsRedrafted b x1 x2 → IsRedrafted c x2 y → Stays v y
+three-stay a b c v x1 x2 y d1 d2 d3 = stays-then v x1 y (redrafted-stays a v x1 d1) (stays-then x1 x2 y (redrafted-stays b x1 x2 d2) (redrafted-stays c x2 y d3))
+
+module _ (a b c separator : ℕ) (over above page left half : List ℕ) (v y : View Said) (stays : Stays v y) (three : y.start.tells ≡ true → AreThree a b c over above page left half y) (told : v.start.tells ≡ true → AreToSplit a b c over page v)
+    (room : length (pairs_of over) < 28) (full : length (pairs_of page) ≡ 28) (split : IsSplit page left half separator) (adds : IsInner over → AddsPair over above separator c) (owed : has c v.owed ≡ true) where
   owed-then : has c y.owed ≡ true
-  owed-then = ap (has c) three.stays.group.1 ∙ owed
+  owed-then = ap (has c) stays.group.1 ∙ owed
 
-  pub three-may : MayRelease (began_of y.start) y.owed (changes_of y (a ∷ b ∷ c ∷ [])) []
-  three-may = splits-three a b c key separator over above page left (replicate 64 0) half y three.first three.second three.third inner covers names room full split adds owed-then
+  to-split : y.start.tells ≡ true → AreToSplit a b c over page v
+  to-split tells = told (ap (λ (o : Origin). o.tells) (sym stays.start) ∙ tells)
+
+  pub three-may : y.start.tells ≡ true → MayRelease (began_of y.start) y.owed (changes_of y (a ∷ b ∷ c ∷ [])) []
+  three-may tells =
+      let t = three tells in
+      let to = to-split tells in
+      splits-three a b c to.names.0 separator over above page left (replicate 64 0) half y t.first t.second t.third to.inner to.names.1 to.names.2 room full split adds owed-then
 
   pub three-all : (g1 g2 g3 : ExclusiveGuard) → g1.pid ≡ a → g2.pid ≡ b → g3.pid ≡ c → IsHolding g1.pid g1.frame g1.version g1.dirty y → IsHolding g2.pid g2.frame g2.version g2.dirty y → IsHolding g3.pid g3.frame g3.version g3.dirty y
       → AreApart (a ∷ b ∷ c ∷ []) → v.out ≡ None → MayReleaseAll MayRelease (g1 ∷ g2 ∷ g3 ∷ []) None y
   three-all g1 g2 g3 e1 e2 e3 h1 h2 h3 apart out =
-      may-three g1 g2 g3 a b c y e1 e2 e3 h1 h2 h3 apart (three.stays.out ∙ out)
-      (words-claimed a over above y three.first (inner-not over inner))
-      (words-claimed b page left y three.second (full-not page full))
+      may-three g1 g2 g3 a b c y e1 e2 e3 h1 h2 h3 apart (stays.out ∙ out)
+      (λ tells. words-claimed a over above y (three tells).first (inner-not over (to-split tells).inner))
+      (λ tells. words-claimed b page left y (three tells).second (full-not page full))
       (inr (inr (inr owed-then))) three-may
 
   pub three-released : (g1 g2 g3 : ExclusiveGuard) (w : View Said) → g1.pid ≡ a → g2.pid ≡ b → g3.pid ≡ c → AreReleased g1 (g2 ∷ g3 ∷ []) None y w → IsSplitUp (a ∷ b ∷ c ∷ []) v w
@@ -205,11 +229,12 @@ module _ (a b c key separator : ℕ) (over above page left half : List ℕ) (v y
       let pids : pids_of (g1 ∷ g2 ∷ g3 ∷ []) ≡ a ∷ b ∷ c ∷ [] = (λ i. e1 i ∷ e2 i ∷ e3 i ∷ []) in
       record {
         held = y;
+        stays = stays;
         first = g1;
         rest = g2 ∷ g3 ∷ [];
         pids = pids;
         several = inl refl;
         released = r;
         may = three-may;
-        done = group-done g1 (g2 ∷ g3 ∷ []) (a ∷ b ∷ c ∷ []) v y w pids three.stays r;
+        done = group-done g1 (g2 ∷ g3 ∷ []) (a ∷ b ∷ c ∷ []) v y w pids stays r;
       }

@@ -1,10 +1,17 @@
 -- The answer of a try of a split has its cause.
-use Rattle.std.proofs.Common.{ℕ, ◌≡◌, List, None, sym, subst, ◌∙◌, ◌⊎◌, inl, inr, ⊎_elim}
+use Rattle.std.proofs.Common.{ℕ, ◌≡◌, ◌≢◌, List, [], None, sym, ap, subst, ◌∙◌, ◌⊎◌, inl, inr, ⊎_elim}
 use Rattle.vm_map.specs.declared.call.Said.{Said}
 use Rattle.vm_rule.specs.declared.view.View.{View}
+use Rattle.vm_rule.specs.Views.{StartsWith}
+use Rattle.vm_rule.proofs.Entries.{append-none}
 use Rattle.vm_step.specs.declared.saw.Saw.{Saw}
 use Rattle.vm_step.specs.Evidence.{NoneExpected}
+use Rattle.vm_exmap.specs.declared.interface.Alloc.{Alloc}
+use Rattle.vm_exmap.specs.declared.interface.Alloc.TheVariants as allocs
+use Rattle.vm_guard.specs.declared.deny.Deny.{Deny}
 use Rattle.vm_guard.specs.declared.deny.Deny.TheVariants as denies
+use Rattle.vm_guard.specs.declared.given.Fresh.{Fresh}
+use Rattle.vm_guard.specs.declared.given.Fresh.TheVariants as freshes
 use Rattle.vm_guard.specs.declared.opt.OptGuard.{OptGuard}
 use Rattle.vm_guard.specs.Denied.{AgainOrNeed, IsDenied, KeptWord}
 use Rattle.vm_guard.specs.Guards.{IsValid}
@@ -13,14 +20,16 @@ use Rattle.vm_tree_rule.specs.declared.turn.Turn.{Turn}
 use Rattle.vm_tree_rule.specs.declared.turn.Turn.TheVariants as turns
 use Rattle.vm_tree_rule.specs.Leaves.{ReadsOn}
 use Rattle.vm_tree_rule.specs.Seeks.{IsFullBelow, IsRootFull, IsRoomy}
+use Rattle.vm_tree_rule.specs.Standing.{IsOpened}
 use Rattle.vm_tree_rule.specs.Turns.{IsTurn}
-use Rattle.vm_tree_rule.proofs.Readings.{reads-then, valid-reads}
-use Rattle.vm_tree_read.proofs.Answering.{again-only, need-only, refused}
-use Rattle.vm_tree_write.specs.Splits.{KeepsAll, LosesNone}
-use Rattle.vm_tree_write.proofs.Losing.{loses-same}
-use Rattle.vm_tree_write.specs.Tries.{IsCause, IsEnded, IsEndOf, IsTrySplit, IsUnsplit}
+use Rattle.vm_tree_rule.proofs.Entering.{opened-reads}
+use Rattle.vm_tree_rule.proofs.Readings.{denied-reads, reads-then, valid-reads}
+use Rattle.vm_tree_write.proofs.Backing.{backed-lock, backed-pages, backed-short, backed-shown, shown-refused, shown-wider}
+use Rattle.vm_tree_write.specs.Prepares.{IsNotLocked, IsRefusedPages, IsShort, SaysDenied, SaysRefused, SaysShort}
+use Rattle.vm_tree_write.specs.Splits.{KeepsAll}
+use Rattle.vm_tree_write.specs.Tries.{IsBackedBy, IsCause, IsEnded, IsEndOf, IsTrySplit, IsUnsplit}
 use Rattle.vm_tree_write.specs.Tries.IsEnded.{root, below}
-use Rattle.vm_tree_write.specs.Tries.IsUnsplit.{unlocked, worn, lost, dry, unclaimed, worn_page, full}
+use Rattle.vm_tree_write.specs.Tries.IsUnsplit.{short, unclaimed, unlocked}
 use Rattle.vm_tree_write.specs.declared.tries.TrySplit.{TrySplit}
 use Rattle.vm_tree_write.specs.declared.tries.TrySplit.TheVariants as tries
 use Rattle.vm_tree_write.proofs.Framing.{keeps-then}
@@ -31,6 +40,7 @@ reads-keep v w r = record {
   parts = r.0.parts;
   mine = r.1;
   seen = r.0.seen;
+  notes = ([], r.0.notes ∙ sym (append-none v.notes));
   log = (r.0.done, r.0.log);
   out = r.0.out;
   pending = r.0.group.0;
@@ -38,18 +48,19 @@ reads-keep v w r = record {
   holds = r.0.holds;
 }
 
-pub reads-lose : (own : List ℕ) (v w : View Said) → ReadsOn v w → LosesNone own v own w
-reads-lose own v w r = loses-same own own v w r.0.frames.0 (λ f e. e)
-
 pub turn-reads : (key : ℕ) (turn : Turn) (v w : View Said) → IsTurn v key turn w → ReadsOn v w
-turn-reads key (turns.Again saw) v w a = (again-only saw v w a).0
-turn-reads key (turns.Need p) v w a = (need-only key p v w a).0
+turn-reads key (turns.Again saw) v w a = a.0
+turn-reads key (turns.Need p) v w a = a.0
+turn-reads key (turns.Astray saw) v w a = a.0
 
 pub turn-again : (key : ℕ) (saw : Saw) (v w : View Said) → IsTurn v key (turns.Again saw) w → IsTrySplit key (tries.Again saw) v w
-turn-again key saw v w a = (reads-keep v w (again-only saw v w a).0, inl a)
+turn-again key saw v w a = (reads-keep v w a.0, inl (backed-shown saw v w (shown-wider saw v w a.1), inl a))
+
+pub turn-astray : (key : ℕ) (saw : Saw) (v w : View Said) → IsTurn v key (turns.Astray saw) w → IsTrySplit key (tries.Again saw) v w
+turn-astray key saw v w a = (reads-keep v w a.0, inr a)
 
 pub turn-need : (key p : ℕ) (v w : View Said) → IsTurn v key (turns.Need p) w → IsTrySplit key (tries.Need p) v w
-turn-need key p v w a = let k = need-only key p v w a in (reads-keep v w k.0, k.1)
+turn-need key p v w a = (reads-keep v w a.0, a)
 
 -- ---- nothing is full
 
@@ -58,7 +69,9 @@ roomy-valid key leaf page v x w r room valid =
     (reads-keep v w (reads-then v x w r (valid-reads Tied leaf.pid leaf.word leaf.frame x w valid)), record { leaf = leaf; page = page; found = x; roomy = room; valid = valid })
 
 pub roomy-lost : (key : ℕ) (leaf : OptGuard) (page : List ℕ) (saw : Saw) (v x w : View Said) → IsRoomy v key leaf page x → IsDenied AgainOrNeed (KeptWord leaf.word) NoneExpected leaf.pid (denies.Again saw) x w → IsTrySplit key (tries.Again saw) v w
-roomy-lost key leaf page saw v x w room d = turn-again key saw v w (refused leaf.pid leaf.word leaf.frame saw v x w room.opened d).1
+roomy-lost key leaf page saw v x w room d =
+    turn-again key saw v w
+    (reads-then v x w (opened-reads leaf.pid leaf.word leaf.frame v x room.opened) (denied-reads AgainOrNeed (KeptWord leaf.word) NoneExpected leaf.pid (denies.Again saw) x w d), shown-refused leaf.pid leaf.word leaf.frame saw v x w room.opened d)
 
 -- ---- a node is full
 
@@ -70,14 +83,27 @@ data OfFull (answer : TrySplit) : Type 0 where
   was_dry : answer ≡ tries.Dry → OfFull answer
   was_full : (pages next need : ℕ) → answer ≡ tries.Full pages next need → OfFull answer
 
+of-short : (refused : Alloc) (answer : TrySplit) → SaysShort refused answer → OfFull answer
+of-short (allocs.Batch batch) answer is = absurd is
+of-short allocs.Dry answer is = OfFull.was_dry is
+of-short (allocs.Again saw) answer is = OfFull.was_again saw is
+
+of-denied : (deny : Deny) (answer : TrySplit) → SaysDenied deny answer → OfFull answer
+of-denied (denies.Again saw) answer is = OfFull.was_again saw is
+of-denied (denies.Need p) answer is = absurd is
+of-denied (denies.Crowded p) answer is = absurd is
+of-denied (denies.Worn p) answer is = OfFull.was_worn p is
+
+of-refused : (refused : Fresh) (answer : TrySplit) → SaysRefused refused answer → OfFull answer
+of-refused (freshes.Pages group) answer is = absurd is
+of-refused (freshes.Again saw) answer is = OfFull.was_again saw is
+of-refused (freshes.Worn p) answer is = OfFull.was_worn p is
+of-refused (freshes.Full pages next need) answer is = OfFull.was_full pages next need is
+
 of-unsplit : (n : ℕ) (a b : OptGuard) (v w : View Said) (answer : TrySplit) → IsUnsplit n a b v w answer → OfFull answer
-of-unsplit n a b v w answer (unlocked saw h is) = OfFull.was_again saw is
-of-unsplit n a b v w answer (worn p h is) = OfFull.was_worn p is
-of-unsplit n a b v w answer (lost saw h is) = OfFull.was_again saw is
-of-unsplit n a b v w answer (dry h is) = OfFull.was_dry is
-of-unsplit n a b v w answer (unclaimed saw h is) = OfFull.was_again saw is
-of-unsplit n a b v w answer (worn_page p h is) = OfFull.was_worn p is
-of-unsplit n a b v w answer (full pages next need h is) = OfFull.was_full pages next need is
+of-unsplit n a b v w answer (short refused h is) = of-short refused answer is
+of-unsplit n a b v w answer (unlocked deny h is) = of-denied deny answer is
+of-unsplit n a b v w answer (unclaimed refused h is) = of-refused refused answer is
 
 of-end : (n : ℕ) (a b : OptGuard) (v w : View Said) (answer : TrySplit) → IsEndOf n a b v w answer → OfFull answer
 of-end n a b v w answer e = ⊎_elim (λ s. OfFull.was_split s.0) (λ u. of-unsplit n a b v w answer u) e
@@ -86,9 +112,44 @@ of-ended : (v : View Said) (key : ℕ) (w : View Said) (answer : TrySplit) → I
 of-ended v key w answer (root meta low height page x r met e) = of-end 2 meta low x w answer e
 of-ended v key w answer (below parent node over page x r met e) = of-end 1 parent node x w answer e
 
+-- ---- the evidence that it may be tried again
+
+again-same : (s t : Saw) → tries.Again s ≡ tries.Again t → s ≡ t
+again-same s t e = cc
+
+short-again : (refused : Alloc) (saw : Saw) → SaysShort refused (tries.Again saw) → refused ≡ allocs.Again saw
+short-again (allocs.Batch batch) saw is = absurd is
+short-again allocs.Dry saw is = absurd (cc)
+short-again (allocs.Again s) saw is = ap (λ (t : Saw). allocs.Again t) (again-same s saw (sym is))
+
+denied-again : (deny : Deny) (saw : Saw) → SaysDenied deny (tries.Again saw) → deny ≡ denies.Again saw
+denied-again (denies.Again s) saw is = ap (λ (t : Saw). denies.Again t) (again-same s saw (sym is))
+denied-again (denies.Need p) saw is = absurd is
+denied-again (denies.Crowded p) saw is = absurd is
+denied-again (denies.Worn p) saw is = absurd (cc)
+
+refused-again : (refused : Fresh) (saw : Saw) → SaysRefused refused (tries.Again saw) → refused ≡ freshes.Again saw
+refused-again (freshes.Pages group) saw is = absurd is
+refused-again (freshes.Again s) saw is = ap (λ (t : Saw). freshes.Again t) (again-same s saw (sym is))
+refused-again (freshes.Worn p) saw is = absurd (cc)
+refused-again (freshes.Full pages next need) saw is = absurd (cc)
+
+backed-unsplit : (n : ℕ) (a b : OptGuard) (saw : Saw) (u v w : View Said) → StartsWith v.log u.log → IsOpened u a.pid a.word a.frame v → IsOpened u b.pid b.word b.frame v → b.pid ≢ a.pid → IsUnsplit n a b v w (tries.Again saw) → IsBackedBy u saw w
+backed-unsplit n a b saw u v w log oa ob apart (short refused h is) = backed-short n saw u v w log (subst (λ (r : Alloc). IsShort n r v w) (short-again refused saw is) h)
+backed-unsplit n a b saw u v w log oa ob apart (unlocked deny h is) = backed-lock a b saw u v w oa ob apart (subst (λ (d : Deny). IsNotLocked a b d v w) (denied-again deny saw is) h)
+backed-unsplit n a b saw u v w log oa ob apart (unclaimed refused h is) = backed-pages n a b saw u v w log (subst (λ (r : Fresh). IsRefusedPages n a b r v w) (refused-again refused saw is) h)
+
+backed-end : (n : ℕ) (a b : OptGuard) (saw : Saw) (u v w : View Said) → ReadsOn u v → IsOpened u a.pid a.word a.frame v → IsOpened u b.pid b.word b.frame v → b.pid ≢ a.pid → IsEndOf n a b v w (tries.Again saw) → IsBackedBy u saw w
+backed-end n a b saw u v w r oa ob apart e =
+    ⊎_elim (λ s. let no : tries.Again saw ≡ tries.Split = s.0 in absurd (cc)) (λ x. backed-unsplit n a b saw u v w (r.0.done, r.0.log) oa ob apart x) e
+
+backed-ended : (v : View Said) (key : ℕ) (saw : Saw) (w : View Said) → IsEnded v key w (tries.Again saw) → IsBackedBy v saw w
+backed-ended v key saw w (root meta low height page x r met e) = backed-end 2 meta low saw v x w r met.named.opened met.opened (λ is. met.named.apart (is ∙ met.named.zero)) e
+backed-ended v key saw w (below parent node over page x r met e) = backed-end 1 parent node saw v x w r met.parent_opened met.opened met.apart e
+
 caused : (v : View Said) (key : ℕ) (w : View Said) (answer : TrySplit) → IsEnded v key w answer → OfFull answer → IsCause key answer v w
 caused v key w answer e (OfFull.was_split is) = subst (λ a. IsCause key a v w) (sym is) (subst (IsEnded v key w) is e)
-caused v key w answer e (OfFull.was_again saw is) = subst (λ a. IsCause key a v w) (sym is) (inr (subst (IsEnded v key w) is e))
+caused v key w answer e (OfFull.was_again saw is) = let ended = subst (IsEnded v key w) is e in subst (λ a. IsCause key a v w) (sym is) (inl (backed-ended v key saw w ended, inr ended))
 caused v key w answer e (OfFull.was_worn p is) = subst (λ a. IsCause key a v w) (sym is) (subst (IsEnded v key w) is e)
 caused v key w answer e (OfFull.was_dry is) = subst (λ a. IsCause key a v w) (sym is) (subst (IsEnded v key w) is e)
 caused v key w answer e (OfFull.was_full pages next need is) = subst (λ a. IsCause key a v w) (sym is) (subst (IsEnded v key w) is e)

@@ -17,6 +17,7 @@ use Rattle.vm_rule.specs.Puts.{put_at}
 use Rattle.vm_rule.specs.Views.{Each, StartsWith, draft_of, numbers, seat_of}
 use Rattle.vm_rule.specs.Reading.{last_of}
 use Rattle.vm_rule.specs.Rule.{began_of, no_held}
+use Rattle.vm_rule.proofs.Entries.{append-none}
 use Rattle.vm_step.specs.Asides.{HoldsPage, KnowsAsBefore}
 use Rattle.vm_step.proofs.Asides.{holds-then, starts-then}
 use Rattle.vm_guard.specs.declared.exclusive.ExclusiveGuard.{ExclusiveGuard}
@@ -52,9 +53,9 @@ module _ (done : List Did) (v w : View Said) (m : MovesFrames done v w) where
   read-moved p page k = (k.0, ap (λ l. put_at [] l p) m.pages.1 ∙ k.1)
 
   pub awaits-moved : (p word level key : ℕ) → Awaits v p word level key → Awaits w p word level key
-  awaits-moved p word level key awaits words all =
+  awaits-moved p word level key awaits tells words all =
       subst (λ (o : Origin). IsReached (length o.contents) p words level key) (sym m.start)
-      (awaits words
+      (awaits (ap (λ (o : Origin). o.tells) (sym m.start) ∙ tells) words
       (subst (λ (o : Origin). Each (λ (t : Tie). t.page ≡ p → t.version ≡ version_of word → Tied (began_of o) t.of t.words p words) v.ties) m.start
       (subst (λ (l : List Tie). Each (λ (t : Tie). t.page ≡ p → t.version ≡ version_of word → Tied (began_of w.start) t.of t.words p words) l) m.reads.1 all)))
 
@@ -69,7 +70,7 @@ module _ (p f version word frame : ℕ) (dirty : Bool) (page : List ℕ) (v x : 
   pub locked-reached : (level key : ℕ) → Awaits v p word level key → IsReached (tree_pages v) p page level key
   locked-reached level key awaits =
       subst (λ (z : List ℕ). IsReached (tree_pages v) p z level key) locked-draft.last
-      (awaits (last_of x p).words (subst (λ (n : ℕ). Each (λ (t : Tie). t.page ≡ p → t.version ≡ n → Tied (began_of v.start) t.of t.words p (last_of x p).words) v.ties) at (l.validates tells).holds))
+      (awaits tells (last_of x p).words (subst (λ (n : ℕ). Each (λ (t : Tie). t.page ≡ p → t.version ≡ n → Tied (began_of v.start) t.of t.words p (last_of x p).words) v.ties) at (l.validates tells).holds))
 
   pub locked-inner : (level key : ℕ) → Awaits v p word (suc level) key → IsInner page × Covers (node_of page) key
   locked-inner level key awaits = let k = locked-reached (suc level) key awaits in (inner-here (tree_pages v) p page level key k, k.covers)
@@ -138,6 +139,7 @@ pub record KeepsBut (pages : List ℕ) (v w : View Said) : Type 0 where
   pub parts : (w.used ≡ v.used) × (w.fresh ≡ v.fresh)
   pub mine : w.mine ≡ v.mine
   pub seen : StartsWith w.seen v.seen
+  pub notes : StartsWith w.notes v.notes
   pub log : StartsWith w.log v.log
   pub out : w.out ≡ v.out
   pub pending : w.pending ≡ v.pending
@@ -149,6 +151,7 @@ but-then pages u v w f g = record {
   parts = (g.parts.0 ∙ f.parts.0, g.parts.1 ∙ f.parts.1);
   mine = g.mine ∙ f.mine;
   seen = starts-then u.seen v.seen w.seen f.seen g.seen;
+  notes = starts-then u.notes v.notes w.notes f.notes g.notes;
   log = starts-then u.log v.log w.log f.log g.log;
   out = g.out ∙ f.out;
   pending = g.pending ∙ f.pending;
@@ -161,6 +164,7 @@ moves-but pages done v w m = record {
   parts = m.parts;
   mine = m.mine;
   seen = m.seen;
+  notes = ([], m.notes ∙ sym (append-none v.notes));
   log = (done, m.log);
   out = m.out;
   pending = m.group.0;
@@ -173,6 +177,7 @@ locked-but pages p f version dirty v w among l = record {
   parts = l.elsewhere.steady.parts;
   mine = l.mine;
   seen = l.elsewhere.steady.seen;
+  notes = ([], l.elsewhere.steady.notes ∙ sym (append-none v.notes));
   log = (l.done, l.elsewhere.steady.log);
   out = l.elsewhere.steady.out;
   pending = l.group.0;
@@ -185,6 +190,7 @@ fresh-but pages fresh x n gs before after v w within f = record {
   parts = f.amid.parts;
   mine = f.amid.mine;
   seen = f.amid.seen;
+  notes = ([], f.amid.notes ∙ sym (append-none v.notes));
   log = (f.done, f.amid.log);
   out = f.amid.out;
   pending = f.amid.pending;
@@ -192,7 +198,7 @@ fresh-but pages fresh x n gs before after v w within f = record {
 }
 
 pub done-but : (pages : List ℕ) (v w : View Said) → IsGroupDone pages v w → KeepsBut pages v w
-done-but pages v w d = record { start = d.start; parts = d.parts; mine = d.mine; seen = d.seen; log = d.log; out = d.out; pending = d.pending; holds = d.holds }
+done-but pages v w d = record { start = d.start; parts = d.parts; mine = d.mine; seen = d.seen; notes = ([], d.notes ∙ sym (append-none v.notes)); log = d.log; out = d.out; pending = d.pending; holds = d.holds }
 
 -- what the pass has of a page that it locked, but for that lock
 pub record Was (q : ℕ) (v z : View Said) : Type 0 where

@@ -1,7 +1,8 @@
 -- A leaf is locked, written and released: the call is answered there.
-use Rattle.std.proofs.Common.{ℕ, Bool, true, ◌≡◌, ◌≢◌, ◌+◌, ◌≤◌, List, [], ◌∷◌, ◌++◌, Some, None, length, refl, sym, ap, subst, ◌∙◌, ◌⊎◌, inr, arith, slice_index, append_assoc, replicate, ⊎_elim}
+use Rattle.std.proofs.Common.{ℕ, Bool, true, ◌≡◌, ◌≢◌, ◌+◌, ◌≤◌, List, [], ◌∷◌, ◌++◌, Some, None, length, refl, sym, ap, subst, ◌∙◌, ◌⊎◌, inl, inr, arith, slice_index, append_assoc, replicate, ⊎_elim}
 use Rattle.std.proofs.lemmas.Bool.{cases_eq}
-use Rattle.vm_core.specs.Words.{version_of, word_of, LOCKED}
+use Rattle.std.proofs.lemmas.List.{append_cancel_left}
+use Rattle.vm_core.specs.Words.{state_of, version_of, word_of, LOCKED, UNLOCKED}
 use Rattle.vm_map.specs.declared.call.Said.{Said}
 use Rattle.vm_owner.specs.declared.Entry.{Entry}
 use Rattle.vm_owner.specs.Kept.{AreUnchanged, calls_of}
@@ -12,7 +13,9 @@ use Rattle.vm_rule.specs.declared.view.Place.{Place}
 use Rattle.vm_rule.specs.declared.view.Place.TheVariants as places
 use Rattle.vm_core.specs.declared.event.Seat.{Seat}
 use Rattle.vm_rule.specs.declared.view.View.{View}
-use Rattle.vm_rule.specs.Views.{IsLocking, loads_at, draft_of, seat_of}
+use Rattle.vm_rule.specs.Views.{Each, IsLocking, loads_at, draft_of, seat_of}
+use Rattle.vm_rule.proofs.Entries.{each-map}
+use Rattle.vm_rule.proofs.Heard.{each-both}
 use Rattle.vm_rule.specs.Reading.{last_of}
 use Rattle.vm_rule.specs.Rule.{began_of}
 use Rattle.vm_rule.specs.Brought.{entry_of}
@@ -32,9 +35,11 @@ use Rattle.vm_tree_laws.specs.Tied.{IsSound, Tied}
 use Rattle.vm_guard.specs.Guards.{IsElsewhere, IsLocked, IsReading, IsReleased, placed}
 use Rattle.vm_guard.proofs.QuietSteps.{elsewhere-then}
 use Rattle.vm_tree_rule.specs.Leaves.{ReadsOn}
+use Rattle.vm_tree_rule.proofs.Readings.{reads-self, reads-then}
 use Rattle.vm_tree_read.proofs.Answering.{words-are}
-use Rattle.vm_tree_write.specs.Drafts.{IsRedrafted}
-use Rattle.vm_tree_write.specs.Writes.{IsWritten, OnlyWrites}
+use Rattle.vm_tree_write.proofs.Drafting.{Stores}
+use Rattle.vm_tree_write.specs.Drafts.{IsRedrafted, SetsDiffering}
+use Rattle.vm_tree_write.specs.Writes.{IsBorneOutBy, IsWritten, OnlyWrites}
 
 -- a page of the tree with a leaf's tag is a leaf
 pub leaf-is : (pages p : ℕ) (words : List ℕ) → IsSound pages p words → (node_of words).tag ≡ 2 → IsLeaf words
@@ -77,37 +82,44 @@ module _ {X : Type 0} where
   unheld-not : (p : ℕ) (v : View X) → IsUnheld v p → IsLocking (seat_of v p) → ⊥
   unheld-not p v u l = ⊎_elim (λ (e : (seat_of v p).exclusive ≡ true). let f = u.exclusive in cc) (λ (s : 1 ≤ (seat_of v p).shares). let z = u.shares in omega (arith, z, s)) l
 
+no-content-near : (before after : List ℕ) (p : ℕ) (d : Did) → (d.at ≡ places.State p) ⊎ (d.at ≡ places.Translation p) → Stores before after d
+no-content-near before after p d here n i is k wrote =
+    ⊎_elim (λ (s : d.at ≡ places.State p). let no : places.State p ≡ places.Content n i = sym s ∙ is in absurd (cc)) (λ (t : d.at ≡ places.Translation p). let no : places.Translation p ≡ places.Content n i = sym t ∙ is in absurd (cc)) here
+
+cleared-none : (before after : List ℕ) (d : Did) → ((x : ℕ) → d.wrote ≡ Some x → ((p : ℕ) × (d.at ≡ places.State p)) × (state_of x ≡ UNLOCKED)) → Stores before after d
+cleared-none before after d clears n i is k wrote = let there = (clears k wrote).0 in let no : places.State there.0 ≡ places.Content n i = sym there.1 ∙ is in absurd (cc)
+
 -- a leaf's words are not all zero
 pub not-zeros : (words : List ℕ) → (node_of words).tag ≡ 2 → words ≢ replicate 64 0
 not-zeros words tag is = let t : slice_index (replicate 64 0) 0 ≡ 2 = ap (λ (l : List ℕ). slice_index l 0) (sym is) ∙ tag in absurd (omega (arith, t))
 
-module _ (p f version word frame : ℕ) (dirty : Bool) (said : Said) (earlier : List (ℕ × ℕ)) (before after : List ℕ) (v x y w : View Said) (r : IsReading p word frame v) (long : length before ≡ 64) (loads : loads_at v p ≡ earlier ++ placed 0 before) (tells : v.start.tells ≡ true) (at : version ≡ version_of word) (l : IsLocked Tied p f version dirty v x) where
+module _ (p f version word frame : ℕ) (dirty : Bool) (said : Said) (earlier : List (ℕ × ℕ)) (before after : List ℕ) (v x y w : View Said) (r : IsReading p word frame v) (long : length before ≡ 64) (loads : loads_at v p ≡ earlier ++ placed 0 before) (at : version ≡ version_of word) (l : IsLocked Tied p f version dirty v x) where
   -- the draft of the leaf is what was read of it
-  pub draft-is : draft_of x p ≡ before
-  draft-is = l.draft ∙ words-are p v earlier before (last_of x p).words long loads (ap (λ (z : List ℕ). length z) (sym l.draft) ∙ l.holding.size) ((l.validates tells).valid _ r.reading (sym at))
+  pub draft-is : v.start.tells ≡ true → draft_of x p ≡ before
+  draft-is tells = l.draft ∙ words-are p v earlier before (last_of x p).words long loads (ap (λ (z : List ℕ). length z) (sym l.draft) ∙ l.holding.size) ((l.validates tells).valid _ r.reading (sym at))
 
-  pub last-is : (last_of x p).words ≡ before
-  last-is = sym l.draft ∙ draft-is
+  pub last-is : v.start.tells ≡ true → (last_of x p).words ≡ before
+  last-is tells = sym l.draft ∙ draft-is tells
 
   -- it is a leaf
-  pub leaf-before : (node_of before).tag ≡ 2 → IsLeaf before
-  leaf-before tag = leaf-is _ p before (subst (λ (z : List ℕ). IsSound (length v.start.contents) p z) last-is (l.validates tells).itself.sound) tag
+  pub leaf-before : v.start.tells ≡ true → (node_of before).tag ≡ 2 → IsLeaf before
+  leaf-before tells tag = leaf-is _ p before (subst (λ (z : List ℕ). IsSound (length v.start.contents) p z) (last-is tells) (l.validates tells).itself.sound) tag
 
-  module _ (d : IsRedrafted p x y) (drafted : draft_of y p ≡ after) where
+  module _ (d : IsRedrafted p x y) (drafted : v.start.tells ≡ true → draft_of y p ≡ after) where
     -- its words before and after are those of the two pages
-    pub old-is : (last_of y p).words ≡ before
-    old-is = ap (λ (z : Rattle.vm_core.specs.History.Version). z.words) d.last ∙ last-is
+    pub old-is : v.start.tells ≡ true → (last_of y p).words ≡ before
+    old-is tells = ap (λ (z : Rattle.vm_core.specs.History.Version). z.words) d.last ∙ last-is tells
 
-    pub edits : (node_of before).tag ≡ 2 → (IsLeaf before → IsEdit before after said.call said.reply) → ((node_of (last_of y p).words).tag ≡ 2) × IsEdit (last_of y p).words (draft_of y p) said.call said.reply
-    edits tag edit = (
-      subst (λ (z : List ℕ). (node_of z).tag ≡ 2) (sym old-is) tag,
-      subst (λ (z : List ℕ). IsEdit z (draft_of y p) said.call said.reply) (sym old-is) (subst (λ (z : List ℕ). IsEdit before z said.call said.reply) (sym drafted) (edit (leaf-before tag))),
+    pub edits : v.start.tells ≡ true → (node_of before).tag ≡ 2 → (IsLeaf before → IsEdit before after said.call said.reply) → ((node_of (last_of y p).words).tag ≡ 2) × IsEdit (last_of y p).words (draft_of y p) said.call said.reply
+    edits tells tag edit = (
+      subst (λ (z : List ℕ). (node_of z).tag ≡ 2) (sym (old-is tells)) tag,
+      subst (λ (z : List ℕ). IsEdit z (draft_of y p) said.call said.reply) (sym (old-is tells)) (subst (λ (z : List ℕ). IsEdit before z said.call said.reply) (sym (drafted tells)) (edit (leaf-before tells tag))),
     )
 
-    pub owner : (n : ℕ) → n ≡ p → (node_of before).tag ≡ 2 → (IsLeaf before → IsEdit before after said.call said.reply)
+    pub owner : v.start.tells ≡ true → (n : ℕ) → n ≡ p → (node_of before).tag ≡ 2 → (IsLeaf before → IsEdit before after said.call said.reply)
         → ((Some said ≡ None) × AreUnchanged y.owed (change_of y n ∷ [])) ⊎ MayRelease (began_of y.start) y.owed (change_of y n ∷ []) (entry_of y said ∷ [])
-    owner n same tag edit =
-        subst (λ (k : ℕ). ((Some said ≡ None) × AreUnchanged y.owed (change_of y k ∷ [])) ⊎ MayRelease (began_of y.start) y.owed (change_of y k ∷ []) (entry_of y said ∷ [])) (sym same) (inr (edits tag edit))
+    owner tells n same tag edit =
+        subst (λ (k : ℕ). ((Some said ≡ None) × AreUnchanged y.owed (change_of y k ∷ [])) ⊎ MayRelease (began_of y.start) y.owed (change_of y k ∷ []) (entry_of y said ∷ [])) (sym same) (inr (edits tells tag edit))
 
     module _ (e : IsReleased p version (Some said) y w) where
       abbrev all : List Did
@@ -150,20 +162,52 @@ module _ (p f version word frame : ℕ) (dirty : Bool) (said : Said) (earlier : 
             e.alone wy (d.alone.current l.current) q ne ∙ d.alone.words wx l.current q ∙ l.alone.words whole current q;
       }
 
-      pub written : ((node_of before).tag ≡ 2) → (IsLeaf before → IsEdit before after said.call said.reply) → IsKeptNow Keeps p (Unit {0}) w → (a : IsWritten said v w) × (a.old ≡ before)
+      -- the steps of the lock and of the release store no word of a frame, and those between store only what differs
+      stores : SetsDiffering before after x y → Each (Stores before after) all
+      stores s =
+          let same : s.done ≡ d.done = append_cancel_left x.log s.done d.done (sym s.log ∙ d.elsewhere.steady.log) in
+          each-both (Stores before after) l.done (d.done ++ e.done) (each-map _ (Stores before after) (λ t here. no-content-near before after p t here) l.done l.places_are)
+          (each-both (Stores before after) d.done e.done
+          (subst (Each (Stores before after)) same s.differ)
+          (each-map _ (Stores before after) (λ t here. no-content-near before after p t (inl here)) e.done e.places_are))
+
+      borne-out : (node_of before).tag ≡ 2 → (IsLeaf before → IsEdit before after said.call said.reply) → (v.start.tells ≡ true → IsKeptNow Keeps p (Unit {0}) w) → v.start.tells ≡ true → IsBorneOutBy p before after said v w
+      borne-out tag edit kept-if tells =
+          let kept = kept-if tells in
+          let last : (last_of w p).words ≡ after = ap (λ (z : Rattle.vm_core.specs.History.Version). z.words) e.last ∙ drafted tells in
+          let keeps : Keeps (began_of v.start) kept.kept = subst (λ (o : Origin). Keeps (began_of o) kept.kept) rest.steady.start kept.holds in
+          record {
+            legal = subst (IsLegal (map_of v.start.contents)) kept.history keeps.legal;
+            kept = kept.kept;
+            keeps = keeps;
+            history = kept.history;
+            logical = kept.page tt ∙ last;
+            last = last;
+            leaf = leaf-before tells tag;
+            edit = edit (leaf-before tells tag);
+          }
+
+      pub written : ((node_of before).tag ≡ 2) → (IsLeaf before → IsEdit before after said.call said.reply) → SetsDiffering before after x y → (v.start.tells ≡ true → IsKeptNow Keeps p (Unit {0}) w) → (a : IsWritten said v w) × (a.old ≡ before)
       unfolding only
-      written tag edit kept =
+      written tag edit sets kept =
           let used : y.used ≡ v.used = d.elsewhere.steady.parts.0 ∙ l.elsewhere.steady.parts.0 in
           let mine : y.mine ≡ v.mine = d.mine ∙ l.mine in
           let same : entry_of y said ≡ entry_of v said = entry-same v y said used mine in
-          let seen = starts-then v.seen x.seen y.seen l.elsewhere.steady.seen d.elsewhere.steady.seen in
-          let last : last_of w p ≡ record { version = version + 1; words = after } = e.last ∙ ap (λ (z : List ℕ). record { version = version + 1; words = z }) drafted in
-          let keeps : Keeps (began_of v.start) kept.kept = subst (λ (o : Origin). Keeps (began_of o) kept.kept) rest.steady.start kept.holds in (
+          let seen = starts-then v.seen x.seen y.seen l.elsewhere.steady.seen d.elsewhere.steady.seen in (
             record {
               page = p;
               version = version;
+              word = word;
+              frame = frame;
+              found = v;
+              earlier = reads-self v;
+              reading = r;
+              at = at;
               old = before;
+              read = (earlier, loads);
+              tag = tag;
               new = after;
+              edit = edit;
               writes = only;
               locked = written-front l.done (d.done ++ e.done) (places.State p) (word_of LOCKED version) l.wrote;
               released = written-behind l.done (d.done ++ e.done) (places.State p) (version + 1) (written-behind d.done e.done (places.State p) (version + 1) e.wrote);
@@ -172,17 +216,24 @@ module _ (p f version word frame : ℕ) (dirty : Bool) (said : Said) (earlier : 
                 seen.0 ++ e.entry.0,
                 e.entry.1 ∙ (λ i. (seen.1 i ++ e.entry.0) ++ same i ∷ []) ∙ ap (λ (t : List (Entry Said)). t ++ entry_of v said ∷ []) (append_assoc v.seen seen.0 e.entry.0),
               );
-              legal = subst (IsLegal (map_of v.start.contents)) kept.history keeps.legal;
-              kept = kept.kept;
-              keeps = keeps;
-              history = kept.history;
-              logical = kept.page tt ∙ ap (λ (z : Rattle.vm_core.specs.History.Version). z.words) last;
-              last = last;
-              leaf = leaf-before tag;
-              edit = edit (leaf-before tag);
+              stores = stores sets;
+              last = ap (λ (z : Rattle.vm_core.specs.History.Version). z.version) e.last;
+              told = borne-out tag edit kept;
             },
             refl,
           )
+
+borne-later : (p : ℕ) (old new : List ℕ) (said : Said) (v x w : View Said) → x.start ≡ v.start → IsBorneOutBy p old new said x w → IsBorneOutBy p old new said v w
+borne-later p old new said v x w start a = record {
+  legal = subst (λ (o : Origin). IsLegal (map_of o.contents) w.seen) start a.legal;
+  kept = a.kept;
+  keeps = subst (λ (o : Origin). Keeps (began_of o) a.kept) start a.keeps;
+  history = a.history;
+  logical = a.logical;
+  last = a.last;
+  leaf = a.leaf;
+  edit = a.edit;
+}
 
 -- reads before a write
 pub only-later : (p : ℕ) (v x w : View Said) → ReadsOn v x → OnlyWrites p x w → OnlyWrites p v w
@@ -212,8 +263,17 @@ written-later said v x w r a =
       record {
         page = a.page;
         version = a.version;
+        word = a.word;
+        frame = a.frame;
+        found = a.found;
+        earlier = reads-then v x a.found r a.earlier;
+        reading = a.reading;
+        at = a.at;
         old = a.old;
+        read = a.read;
+        tag = a.tag;
         new = a.new;
+        edit = a.edit;
         writes = only-later a.page v x w r a.writes;
         locked = written-behind r.0.done a.writes.done (places.State a.page) (word_of LOCKED a.version) a.locked;
         released = written-behind r.0.done a.writes.done (places.State a.page) (a.version + 1) a.released;
@@ -222,14 +282,9 @@ written-later said v x w r a =
           r.0.seen.0 ++ a.entry.0,
           a.entry.1 ∙ (λ i. (r.0.seen.1 i ++ a.entry.0) ++ same i ∷ []) ∙ ap (λ (t : List (Entry Said)). t ++ entry_of v said ∷ []) (append_assoc v.seen r.0.seen.0 a.entry.0),
         );
-        legal = subst (λ (o : Origin). IsLegal (map_of o.contents) w.seen) r.0.start a.legal;
-        kept = a.kept;
-        keeps = subst (λ (o : Origin). Keeps (began_of o) a.kept) r.0.start a.keeps;
-        history = a.history;
-        logical = a.logical;
+        stores = each-both (Stores a.old a.new) r.0.done a.writes.done (each-map _ (Stores a.old a.new) (λ t clears. cleared-none a.old a.new t clears) r.0.done r.0.clears) a.stores;
         last = a.last;
-        leaf = a.leaf;
-        edit = a.edit;
+        told = λ tells. borne-later a.page a.old a.new said v x w r.0.start (a.told (ap (λ (o : Origin). o.tells) r.0.start ∙ tells));
       },
       refl,
     )

@@ -1,12 +1,14 @@
 -- What setting words of a draft leaves of the view.
-use Rattle.std.specs.Prelude.{ℕ, List, [], ◌++◌, ◌≡◌, ◌≢◌, slice_index}
+use Rattle.std.specs.Prelude.{ℕ, List, [], Some, ◌++◌, ◌≡◌, ◌≢◌, slice_index}
 use Rattle.vm_rule.specs.declared.view.Did.{Did}
 use Rattle.vm_rule.specs.declared.view.Place.TheVariants as places
 use Rattle.vm_rule.specs.declared.view.View.{View}
 use Rattle.vm_rule.specs.Views.{Each}
 use Rattle.vm_rule.specs.Reading.{last_of}
 use Rattle.vm_step.specs.Asides.{HoldsPage, ReadsAsBefore, StaysAlone}
+use Rattle.vm_step.specs.Alone.{IsAlone}
 use Rattle.vm_guard.specs.Guards.{IsElsewhere}
+use Rattle.vm_guard.specs.Sure.{KnowsStates, known_next}
 
 module _ {X : Type 0} where
   -- words of the draft of page p, which the pass holds, were set; its last words are as they were
@@ -20,8 +22,13 @@ module _ {X : Type 0} where
     pub reads : ReadsAsBefore v w p
     pub last : last_of w p ≡ last_of v p
 
-  -- the steps since then store into words of frames only where the two pages differ
+  -- a pass that is alone knows all pages' state words, and the next word, as before
+  pub record KnowsPages (v w : View X) : Type 0 where
+    pub states : KnowsStates v w
+    pub next : IsAlone v → known_next w ≡ known_next v
+
+  -- the steps since then store into words of frames only where the two pages differ, and there the words of the second one
   pub record SetsDiffering (before after : List ℕ) (v w : View X) : Type 0 where
     pub done : List Did
     pub log : w.log ≡ v.log ++ done
-    pub differ : Each (λ d. (f i : ℕ) → d.at ≡ places.Content f i → slice_index before i ≢ slice_index after i) done
+    pub differ : Each (λ d. (f i : ℕ) → d.at ≡ places.Content f i → (x : ℕ) → d.wrote ≡ Some x → (x ≡ slice_index after i) × (slice_index before i ≢ slice_index after i)) done

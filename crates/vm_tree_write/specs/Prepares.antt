@@ -1,16 +1,32 @@
--- What a split has taken before it writes: frames, two pages that are locked at the versions read, and fresh pages.
-use Rattle.std.specs.Prelude.{ℕ, List, None, ◌≡◌}
+-- What a split has taken before it writes: frames, two pages that are locked at the versions read, and fresh pages; and what is left where one of
+-- these is refused.
+use Rattle.std.specs.Prelude.{ℕ, Bool, List, None, ◌≡◌, ◌<◌, length}
 use Rattle.vm_core.specs.Words.{version_of}
 use Rattle.vm_map.specs.declared.call.Said.{Said}
 use Rattle.vm_rule.specs.declared.view.Did.{Did}
 use Rattle.vm_rule.specs.declared.view.View.{View}
 use Rattle.vm_rule.specs.Views.{numbers}
+use Rattle.vm_rule.specs.Joins.{HoldsNoPage}
+use Rattle.vm_step.specs.Alone.{IsAlone, KnowsUnheld}
+use Rattle.vm_step.specs.Evidence.{UnlockedExpected}
+use Rattle.vm_exmap.specs.declared.interface.Alloc.{Alloc}
+use Rattle.vm_exmap.specs.declared.interface.Alloc.TheVariants as allocs
 use Rattle.vm_exmap.specs.Frames.{MovesFrames}
+use Rattle.vm_exmap.specs.Returns.{IsFreed}
+use Rattle.vm_exmap.specs.Walks.{IsAlloc}
+use Rattle.vm_guard.specs.declared.deny.Deny.{Deny}
+use Rattle.vm_guard.specs.declared.deny.Deny.TheVariants as denies
 use Rattle.vm_guard.specs.declared.exclusive.ExclusiveGuard.{ExclusiveGuard}
 use Rattle.vm_guard.specs.declared.opt.OptGuard.{OptGuard}
-use Rattle.vm_guard.specs.Fresh.{AreFresh}
+use Rattle.vm_guard.specs.declared.given.Fresh.{Fresh}
+use Rattle.vm_guard.specs.declared.given.Fresh.TheVariants as freshes
+use Rattle.vm_guard.specs.Denied.{AgainOrWorn, IsDenied, KeptWord}
+use Rattle.vm_guard.specs.Fresh.{AreFresh, IsFreshAnswer}
 use Rattle.vm_guard.specs.Guards.{IsLocked, IsReleased}
+use Rattle.vm_guard.specs.Sure.{IsFree, known_next, known_word}
 use Rattle.vm_tree_laws.specs.Tied.{Tied}
+use Rattle.vm_tree_write.specs.declared.tries.TrySplit.{TrySplit}
+use Rattle.vm_tree_write.specs.declared.tries.TrySplit.TheVariants as tries
 
 -- the first page was locked at its guard's version, and then the second
 pub record AreLocked (first second : OptGuard) (up low : ExclusiveGuard) (v w : View Said) : Type 0 where
@@ -34,6 +50,19 @@ pub record IsPrepared (n : ℕ) (first second : OptGuard) (up low : ExclusiveGua
   pub after : List ℕ
   pub fresh : AreFresh (numbers x n) x n pages before after locked w
 
+-- a pass that is alone knows that both pages are free, at the words of their guards
+pub record KnowsBoth (first second : OptGuard) (v : View Said) : Type 0 where
+  pub alone : IsAlone v
+  pub free : IsFree first.word × IsFree second.word
+  pub words : (known_word first.pid v ≡ first.word) × (known_word second.pid v ≡ second.word)
+
+-- and that they are below the next page; it holds nothing, and knows that nobody else does
+pub record KnowsToSplit (first second : OptGuard) (v : View Said) : Type 0 where
+  pub both : KnowsBoth first second v
+  pub below : (first.pid < known_next v) × (second.pid < known_next v)
+  pub holds : HoldsNoPage v
+  pub unheld : KnowsUnheld v
+
 -- two pages that the pass held were released, the second one first, and then frames were moved
 pub record GivesUp (up low : ExclusiveGuard) (v w : View Said) : Type 0 where
   pub between : View Said
@@ -42,3 +71,86 @@ pub record GivesUp (up low : ExclusiveGuard) (v w : View Said) : Type 0 where
   pub up_back : IsReleased up.pid up.version None between released
   pub done : List Did
   pub moves : MovesFrames done released w
+
+-- ---- what was refused
+
+-- one frame more was asked for beside these, and the answer was this one; then these went back
+pub record IsSecondRefused (frames : List ℕ) (answer : Alloc) (v w : View Said) : Type 0 where
+  pub home : ℕ
+  pub cap : ℕ
+  pub old : List ℕ
+  pub empty : List ℕ
+  pub new : List ℕ
+  pub between : View Said
+  pub alloc : IsAlloc home cap 1 old empty v between answer
+  pub freed : IsFreed cap empty frames new between w
+
+-- n frames were asked for, and this was the answer; or two were, one was given, and this was the answer when one more was asked for
+pub data IsShort (n : ℕ) (answer : Alloc) (v w : View Said) : Type 0 where
+  at_once : (home cap : ℕ) (old new : List ℕ) → IsAlloc home cap n old new v w answer → IsShort n answer v w
+  after_one : (home cap : ℕ) (old new frames : List ℕ) (x : View Said) → n ≡ 2 → length frames ≡ 1 → IsAlloc home cap 2 old new v x (allocs.Batch frames) → IsSecondRefused frames answer x w → IsShort n answer v w
+
+-- one of two pages could not be locked at its guard's version: the first one; or the second one, and the first one was locked before, and released
+-- again with the words that it had
+pub data IsLockDenied (first second : OptGuard) (deny : Deny) (v w : View Said) : Type 0 where
+  first_denied : IsDenied AgainOrWorn (KeptWord first.word) UnlockedExpected first.pid deny v w → IsLockDenied first second deny v w
+  second_denied : (frame version : ℕ) (dirty : Bool) (x y : View Said) → version ≡ version_of first.word → IsLocked Tied first.pid frame version dirty v x → IsDenied AgainOrWorn (KeptWord second.word) UnlockedExpected second.pid deny x y → IsReleased first.pid version None y w → IsLockDenied first second deny v w
+
+-- frames were taken, one of the two pages could not be locked, and frames went back
+pub record IsNotLocked (first second : OptGuard) (deny : Deny) (v w : View Said) : Type 0 where
+  pub asked : View Said
+  pub done : List Did
+  pub moves : MovesFrames done v asked
+  pub back : View Said
+  pub denied : IsLockDenied first second deny asked back
+  pub freed : List Did
+  pub frees : MovesFrames freed back w
+
+-- frames were taken, both pages were locked, n fresh pages were asked for, and the answer was this one; then all was given up
+pub record IsRefusedPages (n : ℕ) (first second : OptGuard) (answer : Fresh) (v w : View Said) : Type 0 where
+  pub asked : View Said
+  pub done : List Did
+  pub moves : MovesFrames done v asked
+  pub up : ExclusiveGuard
+  pub low : ExclusiveGuard
+  pub locked : View Said
+  pub locks : AreLocked first second up low asked locked
+  pub before : List ℕ
+  pub after : List ℕ
+  pub refused : View Said
+  pub fresh : IsFreshAnswer n before after locked refused answer
+  pub back : GivesUp up low refused w
+
+-- what a try of a split answers where frames were refused so
+abbrev pub SaysShort : Alloc → TrySplit → Type 0
+SaysShort (allocs.Batch batch) answer = ⊥
+SaysShort allocs.Dry answer = answer ≡ tries.Dry
+SaysShort (allocs.Again saw) answer = answer ≡ tries.Again saw
+
+-- where a lock was denied so
+abbrev pub SaysDenied : Deny → TrySplit → Type 0
+SaysDenied (denies.Again saw) answer = answer ≡ tries.Again saw
+SaysDenied (denies.Need p) answer = ⊥
+SaysDenied (denies.Crowded p) answer = ⊥
+SaysDenied (denies.Worn p) answer = answer ≡ tries.Worn p
+
+-- where fresh pages were refused so
+abbrev pub SaysRefused : Fresh → TrySplit → Type 0
+SaysRefused (freshes.Pages group) answer = ⊥
+SaysRefused (freshes.Again saw) answer = answer ≡ tries.Again saw
+SaysRefused (freshes.Worn p) answer = answer ≡ tries.Worn p
+SaysRefused (freshes.Full pages next need) answer = answer ≡ tries.Full pages next need
+
+-- ---- what a part of the preparation answers where it was refused
+
+-- one frame more was refused
+abbrev pub LacksSecond : List ℕ → TrySplit → View Said → View Said → Type 0
+LacksSecond frames answer v w = (refused : Alloc) × IsSecondRefused frames refused v w × SaysShort refused answer
+
+-- n frames were not to be had
+abbrev pub LacksFrames : ℕ → TrySplit → View Said → View Said → Type 0
+LacksFrames n answer v w = (refused : Alloc) × IsShort n refused v w × SaysShort refused answer
+
+-- the two pages were not both locked
+abbrev pub LacksLocks : OptGuard → OptGuard → TrySplit → View Said → View Said → Type 0
+LacksLocks first second answer v w = (deny : Deny) × IsLockDenied first second deny v w × SaysDenied deny answer

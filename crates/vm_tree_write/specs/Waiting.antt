@@ -1,14 +1,16 @@
 -- What a write answers that waits: tries, pages brought and nodes split in between, until a try is answered or can't be.
-use Rattle.std.specs.Prelude.{ℕ, List, [], ◌∷◌, ◌++◌, ◌≡◌, ◌⊎◌}
+use Rattle.std.specs.Prelude.{ℕ, true, List, [], ◌∷◌, ◌++◌, ◌≡◌, ◌⊎◌}
 use Rattle.vm_map.specs.declared.call.Said.{Said}
 use Rattle.vm_owner.specs.declared.Entry.{Entry}
 use Rattle.vm_rule.specs.declared.view.View.{View}
 use Rattle.vm_rule.specs.Brought.{entry_of}
+use Rattle.vm_rule.specs.Views.{StartsWith}
 use Rattle.vm_tree_model.specs.Tree.{map_of}
 use Rattle.vm_tree_laws.specs.History.{IsLegal}
 use Rattle.vm_step.specs.Asides.{HoldsPage}
 use Rattle.vm_tree_rule.specs.declared.fault.TreeFault.{TreeFault}
 use Rattle.vm_tree_rule.specs.declared.fault.TreeFault.TheVariants as faults
+use Rattle.vm_tree_rule.specs.Leaves.{ReadsOn}
 use Rattle.vm_tree_rule.specs.Turns.{IsNeeded}
 use Rattle.vm_tree_read.specs.Reads.{IsAnswered}
 use Rattle.vm_tree_read.specs.Waiting.{IsFaultOf}
@@ -35,29 +37,30 @@ NamesFault (brings.Dry looks) fault = ⊥
 pub record IsReplied (keeps : View Said → View Said → Type 0) (said : Said) (v w : View Said) : Type 0 where
   pub tried : View Said
   pub waits : keeps v tried
-  pub answered : (IsWritten said tried w × ¬ (IsVain said)) ⊎ IsAnswered said tried w
+  pub answered : (IsWritten said tried w × ¬ (IsVain said)) ⊎ (IsAnswered said tried w × IsVain said)
   pub mine : w.mine ≡ v.mine ++ entry_of v said ∷ []
   pub entry : (others : List (Entry Said)) × (w.seen ≡ (v.seen ++ others) ++ entry_of v said ∷ [])
-  pub legal : IsLegal (map_of v.start.contents) w.seen
+  pub legal : v.start.tells ≡ true → IsLegal (map_of v.start.contents) w.seen
   pub holds : (q : ℕ) → HoldsPage v w q
   pub out : w.out ≡ v.out
+  pub notes : StartsWith w.notes v.notes
   pub start : w.start ≡ v.start
   pub parts : (w.used ≡ v.used) × (w.fresh ≡ v.fresh)
 
 -- the last try needed a page that could not be brought, or reached a leaf at the last version
 pub data IsFaulted (keeps : View Said → View Said → Type 0) (key : ℕ) (fault : TreeFault) (v w : View Said) : Type 0 where
-  missing : (tried found : View Said) (page : ℕ) → keeps v tried → IsNeeded tried key page found → IsFaultOf page fault found w → keeps v w → IsFaulted keeps key fault v w
-  worn : (tried : View Said) (page : ℕ) → keeps v tried → IsWornLeaf tried key page w → fault ≡ faults.Worn page → keeps v w → IsFaulted keeps key fault v w
+  missing : (tried found : View Said) (page : ℕ) → keeps v tried → ReadsOn tried found → IsNeeded tried key page found → IsFaultOf page fault found w → keeps v w → IsFaulted keeps key fault v w
+  worn : (tried : View Said) (page : ℕ) → keeps v tried → ReadsOn tried w → IsWornLeaf tried key page w → fault ≡ faults.Worn page → keeps v w → IsFaulted keeps key fault v w
 
 -- why no room could be made for a key: a device failed; a page was at the last version; or the image has no page left
 pub data IsRoomFault (key : ℕ) (fault : TreeFault) (v w : View Said) : Type 0 where
-  missing : (found : View Said) (page : ℕ) → IsNeeded v key page found → IsFaultOf page fault found w → IsRoomFault key fault v w
+  missing : (found : View Said) (page : ℕ) → ReadsOn v found → IsNeeded v key page found → IsFaultOf page fault found w → IsRoomFault key fault v w
   worn : (p : ℕ) → IsEnded v key w (splits.Worn p) → fault ≡ faults.Worn p → IsRoomFault key fault v w
   full : (pages next need : ℕ) → IsEnded v key w (splits.Full pages next need) → fault ≡ faults.Full pages → IsRoomFault key fault v w
-  swept : (dry : View Said) (want cap : ℕ) (old new : List ℕ) (report : Report) (answer : Bring) → IsEnded v key dry splits.Dry → IsSwept want cap old new report dry w → SaysDry report answer → NamesFault answer fault → IsRoomFault key fault v w
+  swept : (dry : View Said) (want cap : ℕ) (old new : List ℕ) (report : Report) (answer : Bring) → IsEnded v key dry splits.Dry → KeepsAll v dry → IsSwept want cap old new report dry w → SaysDry report answer → NamesFault answer fault → IsRoomFault key fault v w
 
 -- the last try of a put needed a page that could not be brought, or reached a leaf at the last version, or met a full leaf for which no room
 -- could be made
 pub data IsPutFaulted (key : ℕ) (fault : TreeFault) (v w : View Said) : Type 0 where
   faulted : IsFaulted KeepsAll key fault v w → IsPutFaulted key fault v w
-  tight : (tried found : View Said) (page : ℕ) → KeepsAll v tried → IsTight tried key page found → IsRoomFault key fault found w → KeepsAll v w → IsPutFaulted key fault v w
+  tight : (tried found : View Said) (page : ℕ) → KeepsAll v tried → ReadsOn tried found → IsTight tried key page found → IsRoomFault key fault found w → KeepsAll v w → IsPutFaulted key fault v w

@@ -1,9 +1,10 @@
 -- What a write of the tree answers: the reply at the release of the leaf, or why it is to be tried again.
-use Rattle.std.specs.Prelude.{ℕ, true, None, List, [], ◌∷◌, ◌++◌, ◌≡◌, ◌≢◌, ◌+◌, ◌⊎◌}
-use Rattle.vm_core.specs.Words.{word_of, LOCKED}
+use Rattle.std.specs.Prelude.{ℕ, true, Some, None, List, [], ◌∷◌, ◌++◌, ◌≡◌, ◌≢◌, ◌+◌, ◌⊎◌, length, slice_index}
+use Rattle.vm_core.specs.Words.{version_of, word_of, LOCKED}
 use Rattle.vm_map.specs.declared.call.Call.TheVariants.{Put, Del}
 use Rattle.vm_map.specs.declared.call.Reply.TheVariants.{Gone}
 use Rattle.vm_map.specs.declared.call.Said.{Said}
+use Rattle.vm_map.specs.declared.window.TheConstants.{MOST_PAIRS}
 use Rattle.vm_owner.specs.declared.Entry.{Entry}
 use Rattle.vm_owner.specs.Kept.{Kept}
 use Rattle.vm_page.specs.Pages.{page_at}
@@ -11,19 +12,20 @@ use Rattle.vm_rule.specs.declared.view.Did.{Did}
 use Rattle.vm_rule.specs.declared.view.Place.TheVariants as places
 use Rattle.vm_rule.specs.declared.view.Tie.{Tie}
 use Rattle.vm_rule.specs.declared.view.View.{View}
-use Rattle.vm_rule.specs.Views.{StartsWith, IsLocking, IsWhole, seat_of}
+use Rattle.vm_rule.specs.Views.{StartsWith, Each, IsLocking, IsWhole, seat_of}
 use Rattle.vm_rule.specs.Reading.{last_of}
 use Rattle.vm_rule.specs.Rule.{began_of}
 use Rattle.vm_rule.specs.Brought.{entry_of}
 use Rattle.vm_step.specs.Asides.{HoldsPage, KnowsAsBefore}
 use Rattle.vm_step.specs.declared.saw.Saw.{Saw}
 use Rattle.vm_step.specs.Evidence.{HasWritten, UnlockedExpected}
+use Rattle.vm_guard.specs.declared.deny.Deny.{Deny}
 use Rattle.vm_guard.specs.declared.deny.Deny.TheVariants as denies
 use Rattle.vm_guard.specs.Denied.{AgainOrWorn, IsDenied, KeptWord}
-use Rattle.vm_guard.specs.Guards.{IsValid}
+use Rattle.vm_guard.specs.Guards.{IsReading, IsValid}
 use Rattle.vm_tree_model.specs.Edits.{IsFullFor}
 use Rattle.vm_tree_model.specs.Node.{Covers}
-use Rattle.vm_tree_model.specs.Page.{node_of, IsLeaf}
+use Rattle.vm_tree_model.specs.Page.{node_of, pairs_of, IsLeaf}
 use Rattle.vm_tree_model.specs.Tree.{map_of}
 use Rattle.vm_tree_laws.specs.History.{IsLegal}
 use Rattle.vm_tree_laws.specs.Keeps.{Keeps}
@@ -31,7 +33,9 @@ use Rattle.vm_tree_laws.specs.May.{IsEdit}
 use Rattle.vm_tree_laws.specs.Tied.{Tied}
 use Rattle.vm_tree_rule.specs.Leaves.{ReadsOn}
 use Rattle.vm_tree_rule.specs.Standing.{Awaits, IsOpened}
-use Rattle.vm_tree_rule.specs.Turns.{IsAgain, IsNeeded}
+use Rattle.vm_tree_rule.specs.Seeks.{HasRead}
+use Rattle.vm_tree_rule.specs.Shown.{IsShown}
+use Rattle.vm_tree_rule.specs.Turns.{IsAstray, IsNeeded}
 use Rattle.vm_tree_read.specs.Reads.{IsAnswered}
 use Rattle.vm_tree_write.specs.declared.write.TryWrite.{TryWrite}
 use Rattle.vm_tree_write.specs.declared.write.TryWrite.TheVariants as tries
@@ -58,70 +62,115 @@ module _ {X : Type 0} where
     pub current : w.current ≡ true
     pub alone : IsWhole v → v.current ≡ true → (q : ℕ) → q ≢ p → (last_of w q).words ≡ (last_of v q).words
 
--- The call with its reply became the last entry, under the pass's first number and its next count, at the release of a leaf that the call had
--- locked. The leaf's words before and after are as the call and its reply ask. At that step the pages of the tree, of which the leaf is one, were
--- such that their map is the start's map after the whole history, and the history is legal for the start's map
-pub record IsWritten (said : Said) (v w : View Said) : Type 0 where
-  pub page : ℕ
-  pub version : ℕ
-  pub old : List ℕ
-  pub new : List ℕ
-  pub writes : OnlyWrites page v w
-  pub locked : HasWritten writes.done (places.State page) (word_of LOCKED version)
-  pub released : HasWritten writes.done (places.State page) (version + 1)
-  pub mine : w.mine ≡ v.mine ++ entry_of v said ∷ []
-  pub entry : (others : List (Entry Said)) × (w.seen ≡ (v.seen ++ others) ++ entry_of v said ∷ [])
+-- The leaf's words before and after are as the call and its reply ask. At the step that made the entry the pages of the tree, of which the leaf is
+-- one, were such that their map is the start's map after the whole history, and the history is legal for the start's map
+pub record IsBorneOutBy (page : ℕ) (old new : List ℕ) (said : Said) (v w : View Said) : Type 0 where
   pub legal : IsLegal (map_of v.start.contents) w.seen
   pub kept : Kept Said
   pub keeps : Keeps (began_of v.start) kept
   pub history : kept.history ≡ w.seen
   pub logical : page_at kept.pages page ≡ new
-  pub last : last_of w page ≡ record { version = version + 1; words = new }
+  pub last : (last_of w page).words ≡ new
   pub leaf : IsLeaf old
   pub edit : IsEdit old new said.call said.reply
+
+-- The call with its reply became the last entry, under the pass's first number and its next count, at the release of a leaf that the call had
+-- locked at the version at which it had read it. Of the words that were read only those were stored that the call changes, each as it is afterwards;
+-- and where blocks tell their words the entry is borne out
+pub record IsWritten (said : Said) (v w : View Said) : Type 0 where
+  pub page : ℕ
+  pub version : ℕ
+  pub word : ℕ
+  pub frame : ℕ
+  pub found : View Said
+  pub earlier : ReadsOn v found
+  pub reading : IsReading page word frame found
+  pub at : version ≡ version_of word
+  pub old : List ℕ
+  pub read : HasRead found page old
+  pub tag : (node_of old).tag ≡ 2
+  pub new : List ℕ
+  pub edit : IsLeaf old → IsEdit old new said.call said.reply
+  pub writes : OnlyWrites page v w
+  pub locked : HasWritten writes.done (places.State page) (word_of LOCKED version)
+  pub released : HasWritten writes.done (places.State page) (version + 1)
+  pub mine : w.mine ≡ v.mine ++ entry_of v said ∷ []
+  pub entry : (others : List (Entry Said)) × (w.seen ≡ (v.seen ++ others) ++ entry_of v said ∷ [])
+  pub stores : Each (λ d. (f i : ℕ) → d.at ≡ places.Content f i → (x : ℕ) → d.wrote ≡ Some x → (x ≡ slice_index new i) × (slice_index old i ≢ slice_index new i)) writes.done
+  pub last : (last_of w page).version ≡ version + 1
+  pub told : v.start.tells ≡ true → IsBorneOutBy page old new said v w
 
 -- a del of a key that its leaf has not: it writes nothing
 abbrev pub IsVain : Said → Type 0
 IsVain said = (key : ℕ) × (said ≡ record { call = Del key; reply = Gone None })
 
--- the leaf could not be read, or not be locked at the version that was read
-pub data IsUnwritten (v : View Said) (saw : Saw) (w : View Said) : Type 0 where
-  reading : IsAgain v saw w → IsUnwritten v saw w
-  locking : (p word frame : ℕ) (x : View Said) → IsOpened v p word frame x → IsDenied AgainOrWorn (KeptWord word) UnlockedExpected p (denies.Again saw) x w → IsUnwritten v saw w
+-- a page could not be read, or the leaf not be locked at the version that was read, as the steps of the call show; or blocks do not tell their
+-- words, and those of a page are not what the way to it says
+abbrev pub IsUnwritten : View Said → ℕ → Saw → View Said → Type 0
+IsUnwritten v key saw w = IsShown UnlockedExpected v saw w ⊎ IsAstray v key saw w
 
--- the leaf that the descent reached, page p, is at the last version
+-- the leaf that the descent reached, page p, with the words that were read of it, is at the last version
 pub record IsWornLeaf (v : View Said) (key p : ℕ) (w : View Said) : Type 0 where
   pub word : ℕ
   pub frame : ℕ
   pub found : View Said
   pub opened : IsOpened v p word frame found
   pub awaits : Awaits found p word 0 key
+  pub words : List ℕ
+  pub read : HasRead found p words
+  pub tag : (node_of words).tag ≡ 2
+  pub covers : Covers (node_of words) key
   pub denied : IsDenied AgainOrWorn (KeptWord word) UnlockedExpected p (denies.Worn p) found w
 
--- page p is the leaf that covers the key, has 28 pairs and not the key: so it was validated
+-- words of a leaf that covers the key, has 28 pairs and not the key
+pub record IsFullLeaf (words : List ℕ) (key : ℕ) : Type 0 where
+  pub leaf : IsLeaf words
+  pub covers : Covers (node_of words) key
+  pub full : IsFullFor words key
+
+-- page p was read and validated: its words have a leaf's tag, cover the key and have 28 pairs; and where blocks tell their words they are the page's,
+-- a leaf's, which has not the key
 pub record IsTight (v : View Said) (key p : ℕ) (w : View Said) : Type 0 where
   pub word : ℕ
   pub frame : ℕ
   pub found : View Said
   pub opened : IsOpened v p word frame found
   pub valid : IsValid Tied p word frame None found w
-  pub leaf : IsLeaf (last_of w p).words
-  pub covers : Covers (node_of (last_of w p).words) key
-  pub full : IsFullFor (last_of w p).words key
+  pub words : List ℕ
+  pub read : HasRead w p words
+  pub tag : (node_of words).tag ≡ 2
+  pub covers : Covers (node_of words) key
+  pub count : length (pairs_of words) ≡ MOST_PAIRS
+  pub told : v.start.tells ≡ true → ((last_of w p).words ≡ words) × IsFullLeaf words key
 
 -- a try of a put: made in a leaf that had the key or room; or the leaf is full; or to be tried again; or for a page that is needed, or worn.
 -- Without a reply the pass has no further entry, and locked nothing
 abbrev pub IsPut : ℕ → ℕ → TryWrite → View Said → View Said → Type 0
 IsPut key value (tries.Done reply) v w = (a : IsWritten (record { call = Put key value; reply = reply }) v w) × ¬ (IsFullFor a.old key)
-IsPut key value (tries.Again saw) v w = ReadsOn v w × IsUnwritten v saw w
+IsPut key value (tries.Again saw) v w = ReadsOn v w × IsUnwritten v key saw w
 IsPut key value (tries.Need p) v w = ReadsOn v w × IsNeeded v key p w
 IsPut key value (tries.Worn p) v w = ReadsOn v w × IsWornLeaf v key p w
 IsPut key value (tries.Tight p) v w = ReadsOn v w × IsTight v key p w
 
 -- a try of a del: made in a leaf that has the key, or answered by a validation of a leaf that has it not, which locks nothing
 abbrev pub IsDel : ℕ → TryWrite → View Said → View Said → Type 0
-IsDel key (tries.Done reply) v w = (IsWritten (record { call = Del key; reply = reply }) v w × ¬ (IsVain (record { call = Del key; reply = reply }))) ⊎ IsAnswered (record { call = Del key; reply = reply }) v w
-IsDel key (tries.Again saw) v w = ReadsOn v w × IsUnwritten v saw w
+IsDel key (tries.Done reply) v w = (IsWritten (record { call = Del key; reply = reply }) v w × ¬ (IsVain (record { call = Del key; reply = reply }))) ⊎ (IsAnswered (record { call = Del key; reply = reply }) v w × IsVain (record { call = Del key; reply = reply }))
+IsDel key (tries.Again saw) v w = ReadsOn v w × IsUnwritten v key saw w
 IsDel key (tries.Need p) v w = ReadsOn v w × IsNeeded v key p w
 IsDel key (tries.Worn p) v w = ReadsOn v w × IsWornLeaf v key p w
 IsDel key (tries.Tight p) v w = ⊥
+
+-- the call was answered, or no try can answer it before a split, or ever
+abbrev pub IsFinal : TryWrite → Type 0
+IsFinal (tries.Done reply) = Unit {0}
+IsFinal (tries.Again saw) = ⊥
+IsFinal (tries.Need p) = ⊥
+IsFinal (tries.Worn p) = Unit {0}
+IsFinal (tries.Tight p) = Unit {0}
+
+-- a lock was denied since the page is at the last version
+abbrev pub SaysWorn : Deny → Type 0
+SaysWorn (denies.Again saw) = ⊥
+SaysWorn (denies.Need p) = ⊥
+SaysWorn (denies.Crowded p) = ⊥
+SaysWorn (denies.Worn p) = Unit {0}

@@ -1,10 +1,10 @@
 // The draft of a locked page becomes a page's words.
-ghost use Rattle.std.specs.Prelude.{◌≡◌};
+ghost use Rattle.std.specs.Prelude.{◌≡◌, true};
 ghost use Rattle.vm_guard.specs.Guards.{IsHolding};
 ghost use Rattle.vm_rule.specs.Views.{draft_of};
 ghost use Rattle.vm_step.specs.Passes.{IsSamePass, view};
 ghost use Rattle.vm_step.specs.Ready.{IsReady};
-ghost use Rattle.vm_tree_write.specs.Drafts.{IsRedrafted, SetsDiffering};
+ghost use Rattle.vm_tree_write.specs.Drafts.{IsRedrafted, KnowsPages, SetsDiffering};
 
 use vm_block::Block;
 use vm_guard::ExclusiveGuard;
@@ -12,7 +12,8 @@ use vm_owner::Owner;
 use vm_page::{PageBuf, WORDS};
 use vm_rule::words::{Pass, Words};
 
-/// Sets those words of the draft, which has the words of `before`, in which `after` is another page.
+/// Sets those words of the draft in which `after` is another page than `before`. The draft has the words of `before`, where blocks tell theirs, and
+/// then those of `after`.
 pub fn redraft<U: Owner, B: Block>(
     words: &Words<U, B>,
     pass: &mut Pass<U>,
@@ -22,13 +23,14 @@ pub fn redraft<U: Owner, B: Block>(
 )
     requires ready { IsReady words.now.table.shared.key B.tells words.now.table.shared.table_id pass.old }
     requires holds { IsHolding guard.old.pid guard.old.frame guard.old.version guard.old.dirty (view pass.old) }
-    requires draft { draft_of (view pass.old) guard.old.pid ≡ before.now }
+    requires draft { (view pass.old).start.tells ≡ true → draft_of (view pass.old) guard.old.pid ≡ before.now }
     ensures pass { IsSamePass pass.old pass.new }
     ensures ready { IsReady words.now.table.shared.key B.tells words.now.table.shared.table_id pass.new }
     ensures holds { IsHolding guard.new.pid guard.new.frame guard.new.version guard.new.dirty (view pass.new) }
     ensures guard { (guard.new.pid ≡ guard.old.pid) × (guard.new.version ≡ guard.old.version) }
-    ensures draft { draft_of (view pass.new) guard.old.pid ≡ after.now }
+    ensures draft { (view pass.old).start.tells ≡ true → draft_of (view pass.new) guard.old.pid ≡ after.now }
     ensures redrafted { IsRedrafted guard.old.pid (view pass.old) (view pass.new) }
+    ensures known { KnowsPages (view pass.old) (view pass.new) }
     ensures differ { SetsDiffering before.now after.now (view pass.old) (view pass.new) }
 {
     for i in 0..WORDS {

@@ -1,5 +1,5 @@
 // The leaf is locked at the version at which it was read, written, and released with what is said.
-ghost use Rattle.std.specs.Prelude.{◌≡◌, ◌++◌, ◌≤◌, IfOk, IfErr, None, length, true};
+ghost use Rattle.std.specs.Prelude.{◌≡◌, ◌++◌, ◌≤◌, IfOk, IfErr, None, length};
 ghost use Rattle.vm_guard.specs.Denied.{AgainOrWorn, IsDenied, KeptWord};
 ghost use Rattle.vm_guard.specs.Guards.{IsReading, placed};
 ghost use Rattle.vm_rule.specs.Views.{loads_at};
@@ -8,13 +8,14 @@ ghost use Rattle.vm_step.specs.Passes.{IsSamePass, view};
 ghost use Rattle.vm_step.specs.Ready.{IsReady};
 ghost use Rattle.vm_tree_laws.specs.May.{IsEdit};
 ghost use Rattle.vm_tree_model.specs.Page.{node_of, IsLeaf};
-ghost use Rattle.vm_tree_write.specs.Writes.{IsWritten};
+ghost use Rattle.vm_tree_rule.specs.Resident.{IsKnownNow, KnowsResident};
+ghost use Rattle.vm_tree_write.specs.Writes.{IsWritten, SaysWorn};
 
 use crate::draft::redraft;
 use vm_block::Block;
 use vm_guard::{Deny, OptGuard};
 use vm_map::call::{Reply, Said};
-use vm_page::PageBuf;
+use vm_page::{PageBuf, WORDS};
 use vm_rule::words::{Pass, Words};
 use vm_tree_rule::Tree;
 
@@ -28,10 +29,9 @@ pub fn write_leaf<B: Block>(
     said: Said,
 ) -> Result<Reply, Deny>
     requires ready { IsReady words.now.table.shared.key B.tells words.now.table.shared.table_id pass.old }
-    requires tells { B.tells ≡ true }
     requires reading { IsReading guard.pid guard.word guard.frame (view pass.old) }
     requires home { (view pass.old).out ≡ None }
-    requires size { length before.now ≡ 64 }
+    requires size { length before.now ≡ WORDS }
     requires loads { (earlier : _) × (loads_at (view pass.old) guard.pid ≡ earlier ++ placed 0 before.now) }
     requires leaf { (node_of before.now).tag ≡ 2 }
     requires edit { IsLeaf before.now → IsEdit before.now after.now said.call said.reply }
@@ -40,6 +40,8 @@ pub fn write_leaf<B: Block>(
     ensures reply { IfOk result (λ reply. reply ≡ said.reply) }
     ensures ok { IfOk result (λ _. (a : IsWritten said (view pass.old) (view pass.new)) × (a.old ≡ before.now)) }
     ensures err { IfErr result (λ deny. IsDenied AgainOrWorn (KeptWord guard.word) UnlockedExpected guard.pid deny (view pass.old) (view pass.new)) }
+    ensures sure { IsKnownNow guard.pid guard.word (view pass.old) → IfErr result SaysWorn }
+    ensures known { IsKnownNow guard.pid guard.word (view pass.old) → KnowsResident (view pass.new) }
 {
     let mut held = match guard.upgrade(words, pass) {
         Ok(held) => held,

@@ -2,6 +2,7 @@
 // others are given back.
 ghost use Rattle.std.specs.Prelude.{◌≡◌, ◌≢◌, ◌⊎◌, ◌++◌, IfOk, IfErr, None, false, length};
 ghost use Rattle.vm_exmap.specs.Frames.{MovesFrames};
+ghost use Rattle.vm_step.specs.Alone.{IsAlone};
 ghost use Rattle.vm_step.specs.HeldFrames.{AreHeld};
 ghost use Rattle.vm_guard.specs.Denied.{AgainOrWorn};
 ghost use Rattle.vm_guard.specs.Groups.{guards_of};
@@ -11,9 +12,11 @@ ghost use Rattle.vm_rule.specs.Reading.{last_of};
 ghost use Rattle.vm_rule.specs.Views.{draft_of};
 ghost use Rattle.vm_step.specs.Passes.{IsSamePass, view};
 ghost use Rattle.vm_step.specs.Ready.{IsReady};
-ghost use Rattle.vm_tree_write.specs.Prepares.{AreLocked, GivesUp, IsPrepared};
-ghost use Rattle.vm_tree_write.specs.Splits.{KeepsAll, LosesNone};
-ghost use Rattle.vm_tree_write.specs.Tries.{IsUnsplit};
+ghost use Rattle.vm_tree_write.specs.Prepares.{AreLocked, GivesUp, IsPrepared, KnowsBoth, KnowsToSplit, LacksFrames, LacksLocks, LacksSecond};
+ghost use Rattle.vm_tree_read.specs.Waiting.{LosesNone};
+ghost use Rattle.vm_tree_write.specs.Splits.{KeepsAll};
+ghost use Rattle.vm_tree_write.specs.Tries.{IsFinalSplit, IsUnsplit};
+ghost use Rattle.vm_tree_write.specs.Writes.{SaysWorn};
 
 use crate::tries::TrySplit;
 use vm_block::Block;
@@ -42,6 +45,7 @@ fn denied(deny: Deny) -> TrySplit
     requires kind { AgainOrWorn deny }
     ensures again { (saw : _) → deny ≡ Deny.Again saw → result ≡ TrySplit.Again saw }
     ensures worn { (p : _) → deny ≡ Deny.Worn p → result ≡ TrySplit.Worn p }
+    ensures settled { SaysWorn deny → IsFinalSplit result }
 {
     match deny {
         Deny::Again(saw) => TrySplit::Again(saw),
@@ -69,7 +73,8 @@ fn second_frame<B: Block>(
     ensures ok { IfOk result (λ both. (length both ≡ 2) × AreHeld (both ++ iface.new.frames) (view pass.new)) }
     ensures lost { IfOk result (λ both. LosesNone (frames ++ iface.old.frames) (view pass.old) (both ++ iface.new.frames) (view pass.new)) }
     ensures lost_none { IfErr result (λ _. LosesNone (frames ++ iface.old.frames) (view pass.old) iface.new.frames (view pass.new)) }
-    ensures err { IfErr result (λ answer. AreHeld iface.new.frames (view pass.new) × ((n : _) (first second : _) → IsUnsplit n first second (view pass.old) (view pass.new) answer)) }
+    ensures err { IfErr result (λ answer. AreHeld iface.new.frames (view pass.new) × LacksSecond frames answer (view pass.old) (view pass.new)) }
+    ensures sure { IsAlone (view pass.old) → IfErr result IsFinalSplit }
 {
     match iface.alloc(words, pass, 1) {
         Alloc::Batch(more) => {
@@ -106,7 +111,8 @@ fn frames_for<B: Block>(
     ensures ok { IfOk result (λ frames. (length frames ≡ n) × AreHeld (frames ++ iface.new.frames) (view pass.new)) }
     ensures lost { IfOk result (λ frames. LosesNone iface.old.frames (view pass.old) (frames ++ iface.new.frames) (view pass.new)) }
     ensures lost_none { IfErr result (λ _. LosesNone iface.old.frames (view pass.old) iface.new.frames (view pass.new)) }
-    ensures err { IfErr result (λ answer. AreHeld iface.new.frames (view pass.new) × ((m : _) (first second : _) → IsUnsplit m first second (view pass.old) (view pass.new) answer)) }
+    ensures err { IfErr result (λ answer. AreHeld iface.new.frames (view pass.new) × LacksFrames n answer (view pass.old) (view pass.new)) }
+    ensures sure { IsAlone (view pass.old) → IfErr result IsFinalSplit }
 {
     let frames = match iface.alloc(words, pass, n) {
         Alloc::Batch(batch) => batch,
@@ -134,7 +140,8 @@ fn lock_two<B: Block>(
     ensures pass { IsSamePass pass.old pass.new }
     ensures ready { IsReady words.now.table.shared.key B.tells words.now.table.shared.table_id pass.new }
     ensures ok { IfOk result (λ locks. AreLocked first second locks.up locks.low (view pass.old) (view pass.new)) }
-    ensures err { IfErr result (λ answer. KeepsAll (view pass.old) (view pass.new) × ((view pass.new).frames ≡ (view pass.old).frames) × ((n : _) → IsUnsplit n first second (view pass.old) (view pass.new) answer)) }
+    ensures err { IfErr result (λ answer. KeepsAll (view pass.old) (view pass.new) × ((view pass.new).frames ≡ (view pass.old).frames) × LacksLocks first second answer (view pass.old) (view pass.new)) }
+    ensures sure { KnowsBoth first second (view pass.old) → IfErr result IsFinalSplit }
 {
     let up = match first.upgrade(words, pass) {
         Ok(up) => up,
@@ -201,6 +208,7 @@ pub fn prepare<B: Block>(
     ensures lost { IfOk result (λ all. LosesNone iface.old.frames (view pass.old) (iface.new.frames ++ all.frames) (view pass.new)) }
     ensures lost_none { IfErr result (λ _. LosesNone iface.old.frames (view pass.old) iface.new.frames (view pass.new)) }
     ensures err { IfErr result (λ answer. AreHeld iface.new.frames (view pass.new) × KeepsAll (view pass.old) (view pass.new) × IsUnsplit n first second (view pass.old) (view pass.new) answer) }
+    ensures sure { KnowsToSplit first second (view pass.old) → IfErr result IsFinalSplit }
 {
     let mut frames = match frames_for(words, pass, iface, n) {
         Ok(frames) => frames,

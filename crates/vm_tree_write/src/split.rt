@@ -1,5 +1,5 @@
 // A full node is split: the pages concerned are locked, written and released together.
-ghost use Rattle.std.specs.Prelude.{◌≡◌, ◌<◌, ◌∷◌, ◌+◌, ◌^◌, [], true};
+ghost use Rattle.std.specs.Prelude.{◌≡◌, ◌<◌, ◌∷◌, ◌+◌, ◌^◌, []};
 ghost use Rattle.vm_step.specs.Passes.{IsSamePass, view};
 ghost use Rattle.vm_step.specs.Ready.{IsReady};
 ghost use Rattle.vm_tree_write.specs.Splits.{CanSplit, CanSplitRoot, IsSplitUp};
@@ -24,7 +24,6 @@ pub fn write_split<B: Block>(
     page: &PageBuf,
 )
     requires ready { IsReady words.now.table.shared.key B.tells words.now.table.shared.table_id pass.old }
-    requires tells { B.tells ≡ true }
     requires can { CanSplit up low right over.now page.now (view pass.old) }
     ensures pass { IsSamePass pass.old pass.new }
     ensures ready { IsReady words.now.table.shared.key B.tells words.now.table.shared.table_id pass.new }
@@ -63,7 +62,6 @@ pub fn write_root<B: Block>(
     page: &PageBuf,
 )
     requires ready { IsReady words.now.table.shared.key B.tells words.now.table.shared.table_id pass.old }
-    requires tells { B.tells ≡ true }
     requires can { CanSplitRoot meta low right top height page.now (view pass.old) }
     requires room { height + 1 < 2 ^ 64 }
     ensures pass { IsSamePass pass.old pass.new }

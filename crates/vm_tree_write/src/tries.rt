@@ -3,17 +3,21 @@ ghost use Rattle.std.specs.Prelude.{◌≡◌, ◌≤◌, ℕ, None, length, tru
 ghost use Rattle.vm_step.specs.HeldFrames.{AreHeld};
 ghost use Rattle.vm_step.specs.Passes.{IsSamePass, MayStep, view};
 ghost use Rattle.vm_step.specs.Ready.{IsReady};
+ghost use Rattle.vm_rule.specs.Joins.{HoldsNoPage};
+ghost use Rattle.vm_tree_rule.specs.Resident.{KnowsResident};
 ghost use Rattle.vm_tree_rule.specs.Seeks.{IsFullBelow, IsRootFull};
 ghost use Rattle.vm_tree_rule.specs.Turns.{IsTurn};
-ghost use Rattle.vm_tree_write.specs.Splits.{KeepsAll, LosesNone};
-ghost use Rattle.vm_tree_write.specs.Tries.{IsEndOf, IsTrySplit};
+ghost use Rattle.vm_tree_read.specs.Waiting.{LosesNone};
+ghost use Rattle.vm_tree_write.specs.Splits.{KeepsAll};
+ghost use Rattle.vm_tree_write.specs.Prepares.{KnowsToSplit};
+ghost use Rattle.vm_tree_write.specs.Tries.{IsEndOf, IsFinalSplit, IsTrySplit};
 
 use crate::prepare::{Prepared, prepare};
 use crate::split::{write_root, write_split};
 use vm_block::Block;
 use vm_exmap::Interface;
 use vm_guard::OptGuard;
-use vm_page::PageBuf;
+use vm_page::{PageBuf, WORDS};
 use vm_rule::words::{Pass, Words};
 use vm_step::Saw;
 use vm_tree_rule::{Met, Tree, Turn, seek_full};
@@ -25,7 +29,8 @@ pub enum TrySplit {
     Split,
     /// No node on the way of the key is full.
     Roomy,
-    /// A page's word had changed, or the page was Locked or had shares, or frames were lost to others: the call may be tried again.
+    /// A page's word had changed, or the page was Locked or had shares, or frames were lost to others: the call may be tried again. So it may where
+    /// blocks do not tell their words and a page has not those that the way to it asks for: both words are the one that the page was read at.
     Again(Saw),
     /// This page is Evicted: it has to be brought in first. It is page 0, or a page on the way names it.
     Need(u32),
@@ -44,6 +49,7 @@ fn not_found(turn: Turn) -> TrySplit
     match turn {
         Turn::Again(saw) => TrySplit::Again(saw),
         Turn::Need(pid) => TrySplit::Need(pid),
+        Turn::Astray(saw) => TrySplit::Again(saw),
     }
 }
 
@@ -58,10 +64,9 @@ fn split_below<B: Block>(
     page: &PageBuf,
 ) -> TrySplit
     requires ready { IsReady words.now.table.shared.key B.tells words.now.table.shared.table_id pass.old }
-    requires tells { B.tells ≡ true }
     requires home { (view pass.old).out ≡ None }
     requires frames { AreHeld iface.old.frames (view pass.old) }
-    requires size { (length over.now ≡ 64) × (length page.now ≡ 64) }
+    requires size { (length over.now ≡ WORDS) × (length page.now ≡ WORDS) }
     requires met { (v : _) × (key : ℕ) × IsFullBelow v key parent node over.now page.now (view pass.old) }
     ensures pass { IsSamePass pass.old pass.new }
     ensures ready { IsReady words.now.table.shared.key B.tells words.now.table.shared.table_id pass.new }
@@ -70,6 +75,7 @@ fn split_below<B: Block>(
     ensures keeps { KeepsAll (view pass.old) (view pass.new) }
     ensures lost { LosesNone iface.old.frames (view pass.old) iface.new.frames (view pass.new) }
     ensures cause { IsEndOf 1 parent node (view pass.old) (view pass.new) result }
+    ensures sure { KnowsToSplit parent node (view pass.old) → IsFinalSplit result }
 {
     let all = match prepare(words, pass, iface, parent, node, 1) {
         Ok(all) => all,
@@ -102,10 +108,9 @@ fn split_root<B: Block>(
     page: &PageBuf,
 ) -> TrySplit
     requires ready { IsReady words.now.table.shared.key B.tells words.now.table.shared.table_id pass.old }
-    requires tells { B.tells ≡ true }
     requires home { (view pass.old).out ≡ None }
     requires frames { AreHeld iface.old.frames (view pass.old) }
-    requires size { length page.now ≡ 64 }
+    requires size { length page.now ≡ WORDS }
     requires met { (v : _) × (key : ℕ) × IsRootFull v key meta root height page.now (view pass.old) }
     ensures pass { IsSamePass pass.old pass.new }
     ensures ready { IsReady words.now.table.shared.key B.tells words.now.table.shared.table_id pass.new }
@@ -114,6 +119,7 @@ fn split_root<B: Block>(
     ensures keeps { KeepsAll (view pass.old) (view pass.new) }
     ensures lost { LosesNone iface.old.frames (view pass.old) iface.new.frames (view pass.new) }
     ensures cause { IsEndOf 2 meta root (view pass.old) (view pass.new) result }
+    ensures sure { KnowsToSplit meta root (view pass.old) → IsFinalSplit result }
 {
     let all = match prepare(words, pass, iface, meta, root, 2) {
         Ok(all) => all,
@@ -146,7 +152,6 @@ pub fn try_split<B: Block>(
     key: u64,
 ) -> TrySplit
     requires pass { MayStep words.now.table.shared.table_id pass.old }
-    requires tells { B.tells ≡ true }
     requires pages { 1 ≤ words.now.table.shared.key.pages }
     requires home { (view pass.old).out ≡ None }
     requires frames { AreHeld iface.old.frames (view pass.old) }
@@ -156,6 +161,7 @@ pub fn try_split<B: Block>(
     ensures held { AreHeld iface.new.frames (view pass.new) }
     ensures lost { LosesNone iface.old.frames (view pass.old) iface.new.frames (view pass.new) }
     ensures tried { IsTrySplit key result (view pass.old) (view pass.new) }
+    ensures sure { B.tells ≡ true → KnowsResident (view pass.old) → HoldsNoPage (view pass.old) → IsFinalSplit result }
 {
     let mut over = PageBuf::zero();
     let mut page = PageBuf::zero();

@@ -1,10 +1,10 @@
 // The writes that wait: they try again until they are answered, and bring the pages that they need.
-ghost use Rattle.std.specs.Prelude.{◌≡◌, ◌<◌, ◌≤◌, IfErr, IfOk, None, true};
+ghost use Rattle.std.specs.Prelude.{◌≡◌, ◌<◌, ◌≤◌, IfErr, IfOk, None};
 ghost use Rattle.vm_step.specs.HeldFrames.{AreHeld};
 ghost use Rattle.vm_map.specs.declared.call.Call.TheVariants.{Del, Put};
 ghost use Rattle.vm_step.specs.Passes.{IsSamePass, view};
 ghost use Rattle.vm_step.specs.Ready.{IsReady};
-ghost use Rattle.vm_tree_read.specs.Waiting.{Waits};
+ghost use Rattle.vm_tree_read.specs.Waiting.{LosesNone, Waits};
 ghost use Rattle.vm_tree_write.specs.Splits.{KeepsAll};
 ghost use Rattle.vm_tree_write.specs.Waiting.{IsFaulted, IsPutFaulted, IsReplied, IsRoomFault};
 
@@ -29,7 +29,6 @@ pub fn del<R: Wait, B: Block>(
     key: u64,
 ) -> Result<Reply, TreeFault>
     requires ready { IsReady pool.now.words.table.shared.key B.tells pool.now.words.table.shared.table_id pass.old }
-    requires tells { B.tells ≡ true }
     requires pages { 1 ≤ pool.now.words.table.shared.key.pages }
     requires home { (view pass.old).out ≡ None }
     requires frames { AreHeld iface.old.frames (view pass.old) }
@@ -37,6 +36,7 @@ pub fn del<R: Wait, B: Block>(
     ensures ready { IsReady pool.now.words.table.shared.key B.tells pool.now.words.table.shared.table_id pass.new }
     ensures held { AreHeld iface.new.frames (view pass.new) }
     ensures iface { (iface.new.home ≡ iface.old.home) × (iface.new.cap ≡ iface.old.cap) }
+    ensures lost { LosesNone iface.old.frames (view pass.old) iface.new.frames (view pass.new) }
     ensures ok { IfOk result (λ reply. IsReplied Waits (record { call = Del key; reply = reply }) (view pass.old) (view pass.new)) }
     ensures err { IfErr result (λ fault. IsFaulted Waits key fault (view pass.old) (view pass.new)) }
 {
@@ -65,7 +65,6 @@ fn make_room<B: Block>(
     backoff: &Backoff,
 ) -> Result<(), TreeFault>
     requires ready { IsReady pool.now.words.table.shared.key B.tells pool.now.words.table.shared.table_id pass.old }
-    requires tells { B.tells ≡ true }
     requires pages { 1 ≤ pool.now.words.table.shared.key.pages }
     requires home { (view pass.old).out ≡ None }
     requires frames { AreHeld iface.old.frames (view pass.old) }
@@ -73,6 +72,7 @@ fn make_room<B: Block>(
     ensures ready { IsReady pool.now.words.table.shared.key B.tells pool.now.words.table.shared.table_id pass.new }
     ensures held { AreHeld iface.new.frames (view pass.new) }
     ensures iface { (iface.new.home ≡ iface.old.home) × (iface.new.cap ≡ iface.old.cap) }
+    ensures lost { LosesNone iface.old.frames (view pass.old) iface.new.frames (view pass.new) }
     ensures keeps { KeepsAll (view pass.old) (view pass.new) }
     ensures err { IfErr result (λ fault. IsRoomFault key fault (view pass.old) (view pass.new)) }
 {
@@ -114,7 +114,6 @@ pub fn put<R: Wait, B: Block>(
     value: u64,
 ) -> Result<Reply, TreeFault>
     requires ready { IsReady pool.now.words.table.shared.key B.tells pool.now.words.table.shared.table_id pass.old }
-    requires tells { B.tells ≡ true }
     requires pages { 1 ≤ pool.now.words.table.shared.key.pages }
     requires home { (view pass.old).out ≡ None }
     requires frames { AreHeld iface.old.frames (view pass.old) }
@@ -122,6 +121,7 @@ pub fn put<R: Wait, B: Block>(
     ensures ready { IsReady pool.now.words.table.shared.key B.tells pool.now.words.table.shared.table_id pass.new }
     ensures held { AreHeld iface.new.frames (view pass.new) }
     ensures iface { (iface.new.home ≡ iface.old.home) × (iface.new.cap ≡ iface.old.cap) }
+    ensures lost { LosesNone iface.old.frames (view pass.old) iface.new.frames (view pass.new) }
     ensures ok { IfOk result (λ reply. IsReplied KeepsAll (record { call = Put key value; reply = reply }) (view pass.old) (view pass.new)) }
     ensures err { IfErr result (λ fault. IsPutFaulted key fault (view pass.old) (view pass.new)) }
 {

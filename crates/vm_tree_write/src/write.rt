@@ -4,9 +4,13 @@ ghost use Rattle.vm_guard.specs.Denied.{AgainOrWorn, IsDenied, KeptWord};
 ghost use Rattle.vm_step.specs.Evidence.{UnlockedExpected};
 ghost use Rattle.vm_step.specs.Passes.{IsSamePass, MayStep, view};
 ghost use Rattle.vm_step.specs.Ready.{IsReady};
+ghost use Rattle.vm_tree_model.specs.Node.{Covers};
+ghost use Rattle.vm_tree_model.specs.Page.{node_of};
+ghost use Rattle.vm_tree_rule.specs.Resident.{KnowsResident};
+ghost use Rattle.vm_tree_rule.specs.Seeks.{HasRead};
 ghost use Rattle.vm_tree_rule.specs.Standing.{Awaits, IsOpened};
 ghost use Rattle.vm_tree_rule.specs.Turns.{IsTurn};
-ghost use Rattle.vm_tree_write.specs.Writes.{IsDel, IsPut};
+ghost use Rattle.vm_tree_write.specs.Writes.{IsDel, IsPut, IsFinal, SaysWorn};
 
 use crate::leaf::write_leaf;
 use vm_block::Block;
@@ -24,7 +28,8 @@ use vm_tree_rule::{Tree, Turn};
 pub enum TryWrite {
     /// The reply, at the step that released the leaf, or that validated a leaf without the key of a del.
     Done(Reply),
-    /// A page's word had changed, or the page was Locked, or the leaf had shares: the call may be tried again.
+    /// A page's word had changed, or the page was Locked, or the leaf had shares: the call may be tried again. So it may where blocks do not tell
+    /// their words and a page has not those that the way to it asks for: both words are the one that the page was read at.
     Again(Saw),
     /// This page is Evicted: it has to be brought in first. It is page 0, or a page on the way names it.
     Need(u32),
@@ -42,14 +47,16 @@ fn not_yet(turn: Turn) -> TryWrite
     match turn {
         Turn::Again(saw) => TryWrite::Again(saw),
         Turn::Need(pid) => TryWrite::Need(pid),
+        Turn::Astray(saw) => TryWrite::Again(saw),
     }
 }
 
 /// Why the leaf was not written.
 fn unwritten(deny: Deny) -> TryWrite
     requires kind { AgainOrWorn deny }
-    ensures put { (key value p word frame : _) (v x w : _) → IsOpened v p word frame x → Awaits x p word 0 key → IsDenied AgainOrWorn (KeptWord word) UnlockedExpected p deny x w → IsPut key value result v w }
-    ensures del { (key p word frame : _) (v x w : _) → IsOpened v p word frame x → Awaits x p word 0 key → IsDenied AgainOrWorn (KeptWord word) UnlockedExpected p deny x w → IsDel key result v w }
+    ensures put { (key value p word frame : _) (page : _) (v x w : _) → IsOpened v p word frame x → Awaits x p word 0 key → HasRead x p page → ((node_of page).tag ≡ 2) × Covers (node_of page) key → IsDenied AgainOrWorn (KeptWord word) UnlockedExpected p deny x w → IsPut key value result v w }
+    ensures del { (key p word frame : _) (page : _) (v x w : _) → IsOpened v p word frame x → Awaits x p word 0 key → HasRead x p page → ((node_of page).tag ≡ 2) × Covers (node_of page) key → IsDenied AgainOrWorn (KeptWord word) UnlockedExpected p deny x w → IsDel key result v w }
+    ensures settled { SaysWorn deny → IsFinal result }
 {
     match deny {
         Deny::Again(saw) => TryWrite::Again(saw),
@@ -67,12 +74,13 @@ pub fn try_put<B: Block>(
     value: u64,
 ) -> TryWrite
     requires pass { MayStep words.now.table.shared.table_id pass.old }
-    requires tells { B.tells ≡ true }
     requires pages { 1 ≤ words.now.table.shared.key.pages }
     requires home { (view pass.old).out ≡ None }
     ensures pass { IsSamePass pass.old pass.new }
     ensures ready { IsReady words.now.table.shared.key B.tells words.now.table.shared.table_id pass.new }
     ensures tried { IsPut key value result (view pass.old) (view pass.new) }
+    ensures sure { B.tells ≡ true → KnowsResident (view pass.old) → IsFinal result }
+    ensures known { B.tells ≡ true → KnowsResident (view pass.old) → KnowsResident (view pass.new) }
 {
     let mut page = PageBuf::zero();
     let guard = match leaf_of(words, pass, key, &mut page) {
@@ -105,12 +113,13 @@ pub fn try_put<B: Block>(
 /// Takes the pair of the key out. Where the leaf has none nothing is locked.
 pub fn try_del<B: Block>(words: &Words<Tree, B>, pass: &mut Pass<Tree>, key: u64) -> TryWrite
     requires pass { MayStep words.now.table.shared.table_id pass.old }
-    requires tells { B.tells ≡ true }
     requires pages { 1 ≤ words.now.table.shared.key.pages }
     requires home { (view pass.old).out ≡ None }
     ensures pass { IsSamePass pass.old pass.new }
     ensures ready { IsReady words.now.table.shared.key B.tells words.now.table.shared.table_id pass.new }
     ensures tried { IsDel key result (view pass.old) (view pass.new) }
+    ensures sure { B.tells ≡ true → KnowsResident (view pass.old) → IsFinal result }
+    ensures known { B.tells ≡ true → KnowsResident (view pass.old) → KnowsResident (view pass.new) }
 {
     let mut page = PageBuf::zero();
     let guard = match leaf_of(words, pass, key, &mut page) {

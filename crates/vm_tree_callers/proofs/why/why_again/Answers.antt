@@ -1,8 +1,13 @@
+use Rattle.std.proofs.Common.{◌∙◌, true≢false, ap, sym}
+use Rattle.vm_rule.specs.declared.view.Origin.{Origin}
 use Rattle.vm_tree_callers.proofs.Evidence.{again-other, again-seen}
 use Rattle.vm_tree_callers.proofs.why.why_again.Goals as goal
 
 pub returns-in-Again-clause-seen : goal.returns-in-Again-clause-seen
-returns-in-Again-clause-seen g c = again-seen _ _ _ c.in-Again.ensures.tried.1
+returns-in-Again-clause-seen g c = again-seen c.args.key _ _ _ c.in-Again.ensures.tried.1
 
 pub returns-in-Again-clause-other : goal.returns-in-Again-clause-other
-returns-in-Again-clause-other g c = again-other _ _ _ c.in-Again.ensures.tried.1
+returns-in-Again-clause-other g c tells =
+    let tried = c.in-Again.ensures.tried in
+    let told = sym (ap (λ (o : Origin). o.tells) tried.0.0.start) ∙ c.in-Again.ensures.ready.table.tells_is ∙ tells in
+    again-other c.args.key _ _ _ (λ no. true≢false (sym told ∙ no)) tried.1

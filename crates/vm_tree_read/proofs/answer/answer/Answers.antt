@@ -1,5 +1,7 @@
-use Rattle.std.proofs.Common.{◌∙◌}
+use Rattle.std.proofs.Common.{◌∙◌, sym, true≢false}
 use Rattle.vm_step.specs.Passes.{view}
+use Rattle.vm_tree_rule.proofs.Readings.{valid-only}
+use Rattle.vm_tree_rule.proofs.Surely.{known-at, resident-same}
 use Rattle.vm_tree_read.proofs.Answering.{answered, may-tell}
 use Rattle.vm_tree_read.proofs.answer.answer.Goals as goal
 
@@ -8,5 +10,14 @@ validate-requires-clause-owner g c = may-tell c.args.guard.now.pid (view c.args.
 
 pub returns-in-Ok-clause-ok : goal.returns-in-Ok-clause-ok
 returns-in-Ok-clause-ok g c =
-    answered _ _ _ c.args.said c.requires.loads.0 c.args.page.now _ _ c.requires.reading c.requires.size c.requires.loads.1 c.requires.proves (c.requires.ready.table.tells_is ∙ c.requires.tells)
-    c.in-Ok.ensures.ok (c.in-Ok.ensures.kept c.requires.tells)
+    answered _ _ _ c.args.said c.requires.loads.0 c.args.page.now _ _ c.requires.reading c.requires.size c.requires.loads.1 c.requires.proves c.in-Ok.ensures.ok
+    (λ tells. c.in-Ok.ensures.kept (sym c.requires.ready.table.tells_is ∙ tells))
+
+pub returns-in-Ok-clause-known : goal.returns-in-Ok-clause-known
+returns-in-Ok-clause-known g c known = resident-same _ _ (valid-only _ _ _ _ _ _ _ c.in-Ok.ensures.ok) c.in-Ok.ensures.ok.table known.resident
+
+pub returns-in-Err-clause-sure : goal.returns-in-Err-clause-sure
+returns-in-Err-clause-sure g c known = c.in-Err.ensures.sure known.resident.alone (known-at _ _ _ known)
+
+pub returns-in-Err-clause-known : goal.returns-in-Err-clause-known
+returns-in-Err-clause-known g c known = absurd (true≢false (sym (c.in-Err.ensures.sure known.resident.alone (known-at _ _ _ known))))

@@ -1,10 +1,12 @@
-use Rattle.std.proofs.Common.{subst}
+use Rattle.std.proofs.Common.{inl, inr, subst}
 use Rattle.vm_tree_rule.specs.Turns.{IsTurn}
-use Rattle.vm_tree_read.proofs.Answering.{again-only, need-only}
 use Rattle.vm_tree_read.proofs.read.not_yet.Goals as goal
 
 pub returns-in-Again : goal.returns-in-Again
-returns-in-Again c = record { tried = λ call key v w a. again-only _ v w (subst (λ t. IsTurn v key t w) c.in-Again.is a) }
+returns-in-Again c = record { tried = λ call key v w a. let t = subst (λ t. IsTurn v key t w) c.in-Again.is a in (t.0, inl t.1) }
 
 pub returns-in-Need : goal.returns-in-Need
-returns-in-Need c = record { tried = λ call key v w a. need-only key _ v w (subst (λ t. IsTurn v key t w) c.in-Need.is a) }
+returns-in-Need c = record { tried = λ call key v w a. subst (λ t. IsTurn v key t w) c.in-Need.is a }
+
+pub returns-in-Astray : goal.returns-in-Astray
+returns-in-Astray c = record { tried = λ call key v w a. let t = subst (λ t. IsTurn v key t w) c.in-Astray.is a in (t.0, inr t.1) }

@@ -2,6 +2,7 @@ use Rattle.std.proofs.Common.{refl}
 use Rattle.vm_tree_read.specs.Waiting.{IsFaultOf as fault_of}
 use Rattle.vm_tree_read.proofs.Seen.{bring-goes}
 use Rattle.vm_tree_read.proofs.Lasting.{bring-waits}
+use Rattle.vm_tree_read.proofs.Losing.{bring-loses}
 use Rattle.vm_tree_read.proofs.waiting.fetch.Goals as goal
 
 pub returns-in-Brought-clause-waits : goal.returns-in-Brought-clause-waits
@@ -24,3 +25,18 @@ returns-in-Device-clause-waits g c = bring-waits _ _ c.bring.ensures.keeps (brin
 
 pub returns-in-Device-clause-err : goal.returns-in-Device-clause-err
 returns-in-Device-clause-err g c = fault_of.device _ _ _ _ _ _ _ _ c.in-Device.ensures.answer refl
+
+pub returns-in-Brought-clause-lost : goal.returns-in-Brought-clause-lost
+returns-in-Brought-clause-lost g c = bring-loses _ _ _ _ _ _ _ _ _ _ c.bring.ensures.answer
+
+pub returns-in-Again-clause-lost : goal.returns-in-Again-clause-lost
+returns-in-Again-clause-lost g c = bring-loses _ _ _ _ _ _ _ _ _ _ c.bring.ensures.answer
+
+pub returns-in-Dry-clause-lost : goal.returns-in-Dry-clause-lost
+returns-in-Dry-clause-lost g c = bring-loses _ _ _ _ _ _ _ _ _ _ c.bring.ensures.answer
+
+pub returns-in-Worn-clause-lost : goal.returns-in-Worn-clause-lost
+returns-in-Worn-clause-lost g c = bring-loses _ _ _ _ _ _ _ _ _ _ c.bring.ensures.answer
+
+pub returns-in-Device-clause-lost : goal.returns-in-Device-clause-lost
+returns-in-Device-clause-lost g c = bring-loses _ _ _ _ _ _ _ _ _ _ c.bring.ensures.answer

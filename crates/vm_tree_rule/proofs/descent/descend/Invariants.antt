@@ -1,7 +1,8 @@
-use Rattle.std.proofs.Common.{◌≡◌, ◌≤◌, ◌-◌, length}
+use Rattle.std.proofs.Common.{◌≡◌, ◌≤◌, ◌-◌, length, true}
 use Rattle.vm_step.specs.Passes.{IsSamePass, view}
 use Rattle.vm_step.specs.Ready.{IsReady}
 use Rattle.vm_tree_rule.specs.Leaves.{ReadsOn}
+use Rattle.vm_tree_rule.specs.Resident.{IsKnownNow, KnowsResident}
 use Rattle.vm_tree_rule.specs.Standing.{Awaits, IsOpened}
 use Rattle.vm_tree_rule.proofs.descent.descend.Given as goal
 
@@ -14,5 +15,6 @@ invariant-loop g l = record {
   reads : ReadsOn (view l.fn.pass) (view l.pass);
   opened : IsOpened (view l.fn.pass) l.guard.pid l.guard.word l.guard.frame (view l.pass);
   left : l.counter ≤ l.end;
+  known : g.B.Block.tells ≡ true → KnowsResident (view l.fn.pass) → IsKnownNow l.guard.pid l.guard.word (view l.pass);
   awaits : Awaits (view l.pass) l.guard.pid l.guard.word (l.end - l.counter) l.key;
 }

@@ -1,48 +1,90 @@
-use Rattle.std.proofs.Common.{◌≡◌, ◌∙◌, true, refl, sym, subst, ap, arith, ◌<◌}
+use Rattle.std.proofs.Common.{ℕ, ◌≡◌, ◌∙◌, Result, Err, IfOk, IfErr, IsOk, inl, sym, subst, arith}
+use Rattle.vm_map.specs.declared.call.Said.{Said}
+use Rattle.vm_rule.specs.declared.view.View.{View}
 use Rattle.vm_step.specs.Evidence.{NoWord, NoneExpected}
 use Rattle.vm_step.specs.Passes.{view}
+use Rattle.vm_guard.specs.declared.deny.Deny.{Deny}
+use Rattle.vm_guard.specs.declared.opt.OptGuard.{OptGuard}
 use Rattle.vm_guard.specs.Denied.{AgainOrNeed, IsDenied}
-use Rattle.vm_tree_rule.specs.Seeks.{StaysOpen}
-use Rattle.vm_tree_rule.specs.Standing.{HasStepped}
+use Rattle.vm_guard.specs.Guards.{Begins}
+use Rattle.vm_tree_rule.specs.Resident.{IsKnownNow}
+use Rattle.vm_tree_rule.specs.Standing.{HasStepped, StaysOpen}
 use Rattle.vm_tree_rule.proofs.Onward.{stays}
-use Rattle.vm_tree_rule.specs.Turns.{IsStopped as stops}
-use Rattle.vm_tree_rule.proofs.Readings.{reads-self}
-use Rattle.vm_tree_rule.proofs.Entering.{lost, missed, stepped}
+use Rattle.vm_tree_rule.proofs.Readings.{leaves-self, reads-self, valid-reads}
+use Rattle.vm_tree_rule.proofs.Entering.{ended, lost, stepped}
+use Rattle.vm_tree_rule.proofs.Surely.{free-below, known-at, known-begun, known-same, locks-same, looked, looked-known, looked-reading, named-below}
 use Rattle.vm_tree_rule.proofs.descent.enter.Goals as goal
 
 pub returns-in-Err-clause-err : goal.returns-in-Err-clause-err
-returns-in-Err-clause-err g c = stops.refused c.in-Err.saw (view c.args.pass.now) refl (reads-self _) c.requires.reading c.in-Err.ensures.err
+returns-in-Err-clause-err g c = lost _ _ _ c.args.named c.in-Err.saw (view c.args.pass.now) (view c.args.pass.now) _ (reads-self _) (leaves-self _ _) c.in-Err.ensures.err
 
-pub returns-in-Err-Again-clause-err : goal.returns-in-Err-Again-clause-err
-returns-in-Err-Again-clause-err g c =
-    stops.denied c.in-Err-Again.saw refl
-    (subst (λ d. IsDenied AgainOrNeed NoWord NoneExpected c.args.named d (view c.args.pass.now) (view c.start.new.pass)) c.in-Err-Again.field-0-is c.in-Err-Again.ensures.err)
-
-pub returns-in-Ok-validate_silently-clause-err : goal.returns-in-Ok-validate_silently-clause-err
-returns-in-Ok-validate_silently-clause-err g c =
-    missed _ _ _ c.args.named c.in-Err-Need.needed _ _ _ (let below = c.if-named-pages.false in let same = c.args.words.now.shape.0 in let pages = c.requires.ready.table.is_shape.pages in omega (arith, below, same, pages)) c.if-named-parent.false (c.requires.ready.table.tells_is ∙ c.requires.tells)
-    (subst (λ d. IsDenied AgainOrNeed NoWord NoneExpected c.args.named d (view c.args.pass.now) (view c.start.new.pass)) c.in-Err-Need.field-0-is c.in-Err-Need.ensures.err)
-    c.in-Ok-validate_silently.ensures.ok
+pub validate_silently-requires-2-clause-reading : goal.validate_silently-requires-2-clause-reading
+validate_silently-requires-2-clause-reading g c =
+    inl (looked-reading _ _ _ (view c.args.pass.now) (view c.start-started.new.pass) (looked c.args.named c.args.parent.now.pid c.start-started.result (view c.args.pass.now) (view c.start-started.new.pass) c.if-named-parent.false c.start-started.ensures.ok c.start-started.ensures.err) c.requires.reading)
 
 pub returns-in-Err-validate_silently-clause-err : goal.returns-in-Err-validate_silently-clause-err
-returns-in-Err-validate_silently-clause-err g c = lost _ _ _ c.args.named _ _ _ _ _ c.if-named-parent.false c.requires.reading c.in-Err-Need.ensures.err.quiet c.in-Err-validate_silently.ensures.err
+returns-in-Err-validate_silently-clause-err g c =
+    let l = looked c.args.named c.args.parent.now.pid c.start-started.result (view c.args.pass.now) (view c.start-started.new.pass) c.if-named-parent.false c.start-started.ensures.ok c.start-started.ensures.err in
+    lost _ _ _ c.args.named c.in-Err-validate_silently.saw (view c.args.pass.now) (view c.start-started.new.pass) _ l.reads l.leaves c.in-Err-validate_silently.ensures.err
 
-pub returns-in-Ok-validate_silently-2-clause-ok : goal.returns-in-Ok-validate_silently-2-clause-ok
-returns-in-Ok-validate_silently-2-clause-ok g c =
-    let same = c.in-Ok-start.ensures.ok.0 in (
+pub returns-in-Err-validate_silently-clause-sure : goal.returns-in-Err-validate_silently-clause-sure
+returns-in-Err-validate_silently-clause-sure g c tells k =
+    let n = looked-known c.args.named c.args.parent.now.pid c.args.parent.now.word c.start-started.result (view c.args.pass.now) (view c.start-started.new.pass) c.if-named-parent.false c.start-started.ensures.ok c.start-started.ensures.err k in
+    c.in-Err-validate_silently.ensures.sure n.resident.alone (known-at _ _ _ n)
+
+pub returns-in-Ok-started-clause-ok : goal.returns-in-Ok-started-clause-ok
+returns-in-Ok-started-clause-ok g c =
+    let begun = subst (λ r. IfOk r (λ guard. (guard.pid ≡ c.args.named) × Begins c.args.named guard.word guard.frame (view c.args.pass.now) (view c.start-started.new.pass))) c.in-Ok-started.is c.start-started.ensures.ok in
+    let same = begun.0 in (
       same,
-      subst (λ n. HasStepped c.args.parent.now.pid c.args.parent.now.word n c.in-Ok-start.guard.word c.in-Ok-start.guard.frame (view c.args.pass.now) (view c.validate_silently-2.new.pass)) (sym same)
-          (stepped _ _ _ c.args.named _ _ _ _ _ c.if-named-parent.false (c.requires.ready.table.tells_is ∙ c.requires.tells) c.in-Ok-start.ensures.ok.1 c.in-Ok-validate_silently-2.ensures.ok),
+      subst (λ n. HasStepped c.args.parent.now.pid c.args.parent.now.word c.args.parent.now.frame n c.in-Ok-started.guard.word c.in-Ok-started.guard.frame (view c.args.pass.now) (view c.validate_silently-2.new.pass)) (sym same)
+          (stepped _ _ _ c.args.named _ _ _ _ _ c.if-named-parent.false c.requires.reading begun.1 c.in-Ok-validate_silently.ensures.ok),
     )
 
-pub returns-in-Ok-validate_silently-2-clause-pages : goal.returns-in-Ok-validate_silently-2-clause-pages
-returns-in-Ok-validate_silently-2-clause-pages g c = let k = c.in-Ok-validate_silently-2.ensures.kept c.requires.tells in sym k.holds.same_count ∙ k.pages
+pub returns-in-Ok-started-clause-parent : goal.returns-in-Ok-started-clause-parent
+returns-in-Ok-started-clause-parent g c =
+    let begun = subst (λ r. IfOk r (λ guard. (guard.pid ≡ c.args.named) × Begins c.args.named guard.word guard.frame (view c.args.pass.now) (view c.start-started.new.pass))) c.in-Ok-started.is c.start-started.ensures.ok in
+    subst (λ n. StaysOpen c.args.parent.now.pid c.args.parent.now.word c.args.parent.now.frame n (view c.args.pass.now) (view c.validate_silently-2.new.pass)) (sym begun.0)
+    (stays _ _ _ c.args.named _ _ _ _ _ c.if-named-parent.false begun.1 c.in-Ok-validate_silently.ensures.ok)
 
-pub returns-in-Err-validate_silently-2-clause-err : goal.returns-in-Err-validate_silently-2-clause-err
-returns-in-Err-validate_silently-2-clause-err g c = lost _ _ _ c.args.named _ _ _ _ _ c.if-named-parent.false c.requires.reading c.in-Ok-start.ensures.ok.1.quiet c.in-Err-validate_silently-2.ensures.err
+pub returns-in-Ok-started-clause-known : goal.returns-in-Ok-started-clause-known
+returns-in-Ok-started-clause-known g c tells k =
+    let begun = subst (λ r. IfOk r (λ guard. (guard.pid ≡ c.args.named) × Begins c.args.named guard.word guard.frame (view c.args.pass.now) (view c.start-started.new.pass))) c.in-Ok-started.is c.start-started.ensures.ok in
+    let l = looked c.args.named c.args.parent.now.pid c.start-started.result (view c.args.pass.now) (view c.start-started.new.pass) c.if-named-parent.false c.start-started.ensures.ok c.start-started.ensures.err in
+    let n = looked-known c.args.named c.args.parent.now.pid c.args.parent.now.word c.start-started.result (view c.args.pass.now) (view c.start-started.new.pass) c.if-named-parent.false c.start-started.ensures.ok c.start-started.ensures.err k in
+    let valid = c.in-Ok-validate_silently.ensures.ok in
+    let reads = (valid-reads _ _ _ _ _ _ valid).0 in
+    let below = named-below _ _ _ c.args.named (view c.args.pass.now) (view c.start-started.new.pass) (view c.validate_silently-2.new.pass) l.reads l.same (l.next k.resident.alone) valid (c.in-Ok-validate_silently.ensures.kept tells) c.requires.names (c.requires.ready.table.tells_is ∙ tells) k.resident.alone in (
+      subst (λ p. IsKnownNow p c.in-Ok-started.guard.word (view c.validate_silently-2.new.pass)) (sym begun.0) (known-same _ _ _ _ reads valid.table (known-begun c.args.named _ _ (view c.args.pass.now) (view c.start-started.new.pass) begun.1 below k.resident)),
+      known-same _ _ _ _ reads valid.table n,
+    )
 
-pub returns-in-Ok-validate_silently-2-clause-parent : goal.returns-in-Ok-validate_silently-2-clause-parent
-returns-in-Ok-validate_silently-2-clause-parent g c =
-    let same = c.in-Ok-start.ensures.ok.0 in
-    subst (λ n. StaysOpen c.args.parent.now.pid c.args.parent.now.word c.args.parent.now.frame n (view c.args.pass.now) (view c.validate_silently-2.new.pass)) (sym same)
-    (stays _ _ _ c.args.named _ _ _ _ _ c.if-named-parent.false c.in-Ok-start.ensures.ok.1 c.in-Ok-validate_silently-2.ensures.ok)
+pub returns-in-Ok-started-clause-locks : goal.returns-in-Ok-started-clause-locks
+returns-in-Ok-started-clause-locks g c =
+    let begun = subst (λ r. IfOk r (λ guard. (guard.pid ≡ c.args.named) × Begins c.args.named guard.word guard.frame (view c.args.pass.now) (view c.start-started.new.pass))) c.in-Ok-started.is c.start-started.ensures.ok in
+    let valid = c.in-Ok-validate_silently.ensures.ok in
+    locks-same (view c.start-started.new.pass) (view c.validate_silently-2.new.pass) (valid-reads _ _ _ _ _ _ valid).0 valid.table (record { current = begun.1.current; unheld = c.start-started.ensures.unheld })
+
+denied-is : (r : Result OptGuard Deny) (named : ℕ) (d : Deny) (v x : View Said) → r ≡ Err d → IfErr r (λ e. IsDenied AgainOrNeed NoWord NoneExpected named e v x) → IsDenied AgainOrNeed NoWord NoneExpected named d v x
+denied-is r named d v x is err = subst (λ (y : Result OptGuard Deny). IfErr y (λ e. IsDenied AgainOrNeed NoWord NoneExpected named e v x)) is err
+
+pub of_denied-requires : goal.of_denied-requires
+of_denied-requires g c = (denied-is c.start-started.result c.args.named c.in-Err-started.deny (view c.args.pass.now) (view c.start-started.new.pass) c.in-Err-started.is c.start-started.ensures.err).kind
+
+pub returns-in-Err-started-clause-err : goal.returns-in-Err-started-clause-err
+returns-in-Err-started-clause-err g c =
+    let below = c.if-named-pages.false in
+    let same = c.args.words.now.shape.0 in
+    let pages = c.requires.ready.table.is_shape.pages in
+    ended _ _ _ c.args.named c.in-Err-started.deny c.of_denied.result (view c.args.pass.now) (view c.start-started.new.pass) (view c.validate_silently-2.new.pass) c.of_denied.ensures (omega (arith, below, same, pages)) c.if-named-parent.false
+    (denied-is c.start-started.result c.args.named c.in-Err-started.deny (view c.args.pass.now) (view c.start-started.new.pass) c.in-Err-started.is c.start-started.ensures.err) c.in-Ok-validate_silently.ensures.ok
+
+pub returns-in-Err-started-clause-sure : goal.returns-in-Err-started-clause-sure
+returns-in-Err-started-clause-sure g c tells k =
+    let l = looked c.args.named c.args.parent.now.pid c.start-started.result (view c.args.pass.now) (view c.start-started.new.pass) c.if-named-parent.false c.start-started.ensures.ok c.start-started.ensures.err in
+    let a = k.resident.alone in
+    let high = c.if-named-pages.false in
+    let same = c.args.words.now.shape.0 in
+    let pages = c.requires.ready.table.is_shape.pages in
+    let below = named-below _ _ _ c.args.named (view c.args.pass.now) (view c.start-started.new.pass) (view c.validate_silently-2.new.pass) l.reads l.same (l.next a) c.in-Ok-validate_silently.ensures.ok (c.in-Ok-validate_silently.ensures.kept tells) c.requires.names (c.requires.ready.table.tells_is ∙ tells) a in
+    subst (λ r. IsOk r) c.in-Err-started.is (c.start-started.ensures.sure a (free-below c.args.named (view c.args.pass.now) k.resident below (omega (arith, high, same, pages))))

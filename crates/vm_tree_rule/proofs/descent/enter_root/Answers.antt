@@ -1,45 +1,108 @@
-use Rattle.std.proofs.Common.{ℕ, ◌≡◌, ◌∙◌, ◌+◌, ◌≤◌, true, refl, sym, subst, ap, length}
+use Rattle.std.proofs.Common.{ℕ, ◌≡◌, ◌∙◌, ◌<◌, ◌≤◌, ◌+◌, sym, subst, ap, length, arith}
 use Rattle.vm_rule.specs.declared.view.Origin.{Origin}
-use Rattle.vm_step.specs.Evidence.{NoWord, NoneExpected}
+use Rattle.vm_rule.specs.Reading.{last_of}
 use Rattle.vm_step.specs.Passes.{view}
-use Rattle.vm_guard.specs.Denied.{AgainOrNeed, IsDenied}
-use Rattle.vm_tree_rule.specs.Turns.{IsAgain as agains}
-use Rattle.vm_tree_rule.proofs.Readings.{opened-earlier, reads-self, reads-then}
-use Rattle.vm_tree_rule.proofs.Entering.{opened-reads, turned}
-use Rattle.vm_tree_rule.proofs.Downward.{awaits-root, names-root, root-height, root-named, root-opened}
-use Rattle.vm_tree_rule.proofs.Onward.{meta-read}
+use Rattle.vm_tree_rule.specs.Turns.{IsTurn}
+use Rattle.vm_tree_rule.specs.Turns.{IsNoTree as no_tree}
+use Rattle.vm_tree_rule.proofs.Readings.{opened-earlier, opened-later, reads-then}
+use Rattle.vm_tree_rule.proofs.Entering.{astray-turn, first-ended, opened-reads, turned, untold}
+use Rattle.vm_tree_rule.proofs.Downward.{awaits-root, meta-loads, meta-words, names-root, root-height, root-loaded, root-named, root-opened}
+use Rattle.vm_tree_rule.proofs.Onward.{meta-read, root-passes}
+use Rattle.vm_tree_rule.proofs.Surely.{first-known, first-readable}
 use Rattle.vm_tree_rule.proofs.descent.enter_root.Goals as goal
 
-pub returns-in-Err-Again-clause-err : goal.returns-in-Err-Again-clause-err
-returns-in-Err-Again-clause-err g c =
-    agains.at_start 0 _ (reads-self _) (subst (λ d. IsDenied AgainOrNeed NoWord NoneExpected 0 d (view c.args.pass.now) (view c.start.new.pass)) c.in-Err-Again.field-0-is c.in-Err-Again.ensures.err)
+some-pages : (n pages start : ℕ) → 1 ≤ n → start ≡ n → 0 < start
+some-pages n pages start some is = omega (arith, some, is)
+
+-- the root's level is below the number of pages
+low-enough : (level tree pages : ℕ) → level + 2 ≤ tree → tree ≡ pages → level < pages
+low-enough level tree pages low is = omega (arith, low, is)
+
+pub returns-in-Err-clause-err : goal.returns-in-Err-clause-err
+returns-in-Err-clause-err g c =
+    let d = c.in-Err.ensures.err in
+    first-ended c.args.key c.in-Err.deny c.of_denied.result (view c.args.pass.now) (view c.start.new.pass) c.of_denied.ensures (subst (λ (o : Origin). 0 < o.pages) d.quiet.steady.start (some-pages _ 0 _ c.requires.pages c.in-Err.ensures.ready.table.is_shape.pages)) d
+
+pub returns-in-Err-clause-sure : goal.returns-in-Err-clause-sure
+returns-in-Err-clause-sure g c tells k =
+    let d = c.in-Err.ensures.err in
+    c.in-Err.ensures.sure k.alone (first-readable _ _ (view c.args.pass.now) (view c.start.new.pass) d (c.in-Err.ensures.kept tells) (subst (λ (o : Origin). 0 < o.pages) d.quiet.steady.start (some-pages _ 0 _ c.requires.pages c.in-Err.ensures.ready.table.is_shape.pages)) k)
 
 pub enter-requires-clause-names : goal.enter-requires-clause-names
 enter-requires-clause-names g c = names-root _ _ _ _ _ c.args.key _ _ _ _ c.in-Ok.ensures.ok.0 c.in-Ok.ensures.ok.1 c.word-root.ensures.loads c.word-level.ensures.loads
 
-pub returns-in-Ok-enter-clause-ok : goal.returns-in-Ok-enter-clause-ok
-returns-in-Ok-enter-clause-ok g c =
+pub returns-in-Err-enter-clause-err : goal.returns-in-Err-enter-clause-err
+returns-in-Err-enter-clause-err g c =
+    turned _ _ _ _ _ _ _ _ _ (root-opened _ _ _ _ _ c.args.key _ _ _ _ c.in-Ok.ensures.ok.0 c.in-Ok.ensures.ok.1 c.word-root.ensures.loads c.word-level.ensures.loads)
+    (root-named _ _ _ _ _ c.args.key _ _ _ _ c.in-Ok.ensures.ok.0 c.in-Ok.ensures.ok.1 c.word-root.ensures.loads c.word-level.ensures.loads)
+    (root-loaded _ _ _ _ _ c.args.key _ _ _ _ c.in-Ok.ensures.ok.0 c.in-Ok.ensures.ok.1 c.word-root.ensures.loads c.word-level.ensures.loads) c.in-Err-enter.ensures.err
+
+pub returns-in-Err-enter-clause-sure : goal.returns-in-Err-enter-clause-sure
+returns-in-Err-enter-clause-sure g c tells k =
+    c.in-Err-enter.ensures.sure tells (first-known _ _ _ _ _ _ (view c.args.pass.now) (view c.start.new.pass) (view c.word-root.new.pass) (view c.word-level.new.pass) c.in-Ok.ensures.ok.0 c.in-Ok.ensures.ok.1 (c.in-Ok.ensures.kept tells) c.word-root.ensures.loads c.word-level.ensures.loads k)
+
+pub returns-then-level-words-clause-err : goal.returns-then-level-words-clause-err
+returns-then-level-words-clause-err g c =
+    let s = c.in-Ok-enter.ensures in
+    let opened = root-opened _ _ _ _ _ c.args.key _ _ _ _ c.in-Ok.ensures.ok.0 c.in-Ok.ensures.ok.1 c.word-root.ensures.loads c.word-level.ensures.loads in
+    let step = s.ok.1 in
+    let loads = meta-loads _ _ _ _ _ c.args.key _ _ _ _ c.in-Ok.ensures.ok.0 c.in-Ok.ensures.ok.1 c.word-root.ensures.loads c.word-level.ensures.loads in
+    let reads = step.reads in
+    let start = reads.0.start ∙ (opened-reads _ _ _ _ _ opened).0.start in
+    subst (λ t. IsTurn (view c.args.pass.now) c.args.key t (view c.enter.new.pass)) (sym c.astray_at.ensures)
+    (astray-turn _ _ _ c.args.key (view c.args.pass.now) step.checked (view c.enter.new.pass) (opened-later _ _ _ _ _ _ opened step.looked step.stays.same step.stays.reading)
+    (untold _ (λ tells.
+    let below : c.word-level.result < (view c.enter.new.pass).start.pages = low-enough _ _ _ (root-height _ _ _ _ _ c.args.key _ _ _ _ c.in-Ok.ensures.ok.0 c.in-Ok.ensures.ok.1 c.word-root.ensures.loads c.word-level.ensures.loads (last_of (view c.enter.new.pass) c.in-Ok.guard.pid).words (s.ok.1.sees (ap (λ (o : Origin). o.tells) (opened-reads _ _ _ _ _ opened).0.start ∙ tells))) (ap (λ (o : Origin). length o.contents) (sym reads.0.start) ∙ s.pages (sym s.ready.table.tells_is ∙ ap (λ (o : Origin). o.tells) start ∙ tells)) in
+    let same = c.args.words.now.shape.0 in
+    let pages = s.ready.table.is_shape.pages in
+    let high = c.if-level-words.true in
+    omega (arith, below, same, pages, high)))
+    step.valid
+    (no_tree.high loads.0 c.word-root.result c.word-level.result c.in-Ok.ensures.ok.0 ((step.valid.same_reads _).loads ∙ step.stays.loads ∙ loads.1) (let same = c.args.words.now.shape.0 in let pages = s.ready.table.is_shape.pages in let high = c.if-level-words.true in omega (arith, same, pages, high))))
+
+pub returns-then-level-words-clause-sure : goal.returns-then-level-words-clause-sure
+returns-then-level-words-clause-sure g c tells k =
+    let s = c.in-Ok-enter.ensures in
+    let reads = s.ok.1.reads in
+    let below : c.word-level.result < (view c.enter.new.pass).start.pages = low-enough _ _ _ (root-height _ _ _ _ _ c.args.key _ _ _ _ c.in-Ok.ensures.ok.0 c.in-Ok.ensures.ok.1 c.word-root.ensures.loads c.word-level.ensures.loads (last_of (view c.enter.new.pass) c.in-Ok.guard.pid).words (s.ok.1.sees (ap (λ (o : Origin). o.tells) (sym reads.0.start) ∙ s.ready.table.tells_is ∙ tells))) (ap (λ (o : Origin). length o.contents) (sym reads.0.start) ∙ s.pages tells) in
+    let same = c.args.words.now.shape.0 in
+    let pages = s.ready.table.is_shape.pages in
+    let high = c.if-level-words.true in
+    absurd (omega (arith, below, same, pages, high))
+
+pub returns-clause-ok : goal.returns-clause-ok
+returns-clause-ok g c =
     let s = c.in-Ok-enter.ensures.ok in
     let opened = root-opened _ _ _ _ _ c.args.key _ _ _ _ c.in-Ok.ensures.ok.0 c.in-Ok.ensures.ok.1 c.word-root.ensures.loads c.word-level.ensures.loads in (
       opened-earlier _ _ _ _ _ _ (opened-reads _ _ _ _ _ opened) s.1.opened,
       awaits-root _ _ _ _ _ c.args.key _ _ _ _ c.in-Ok.ensures.ok.0 c.in-Ok.ensures.ok.1 c.word-root.ensures.loads c.word-level.ensures.loads _ _ _ _ s.0 c.ranges.key.fits s.1,
     )
 
-pub returns-in-Ok-enter-clause-reads : goal.returns-in-Ok-enter-clause-reads
-returns-in-Ok-enter-clause-reads g c =
+pub returns-clause-reads : goal.returns-clause-reads
+returns-clause-reads g c =
     let opened = root-opened _ _ _ _ _ c.args.key _ _ _ _ c.in-Ok.ensures.ok.0 c.in-Ok.ensures.ok.1 c.word-root.ensures.loads c.word-level.ensures.loads in
     reads-then _ _ _ (opened-reads _ _ _ _ _ opened) c.in-Ok-enter.ensures.ok.1.reads
 
-pub returns-in-Err-clause-err : goal.returns-in-Err-clause-err
-returns-in-Err-clause-err g c =
-    turned _ _ _ _ _ _ _ _ _ (root-opened _ _ _ _ _ c.args.key _ _ _ _ c.in-Ok.ensures.ok.0 c.in-Ok.ensures.ok.1 c.word-root.ensures.loads c.word-level.ensures.loads)
-    (root-named _ _ _ _ _ c.args.key _ _ _ _ c.in-Ok.ensures.ok.0 c.in-Ok.ensures.ok.1 c.word-root.ensures.loads c.word-level.ensures.loads) c.in-Err.ensures.err
+pub returns-clause-known : goal.returns-clause-known
+returns-clause-known g c tells k =
+    c.in-Ok-enter.ensures.known tells (first-known _ _ _ _ _ _ (view c.args.pass.now) (view c.start.new.pass) (view c.word-root.new.pass) (view c.word-level.new.pass) c.in-Ok.ensures.ok.0 c.in-Ok.ensures.ok.1 (c.in-Ok.ensures.kept tells) c.word-root.ensures.loads c.word-level.ensures.loads k)
 
-pub returns-in-Ok-enter-clause-meta : goal.returns-in-Ok-enter-clause-meta
-returns-in-Ok-enter-clause-meta g c =
+pub returns-clause-locks : goal.returns-clause-locks
+returns-clause-locks g c = c.in-Ok-enter.ensures.locks
+
+pub returns-clause-meta : goal.returns-clause-meta
+returns-clause-meta g c =
     let s = c.in-Ok-enter.ensures in
     let opened = root-opened _ _ _ _ _ c.args.key _ _ _ _ c.in-Ok.ensures.ok.0 c.in-Ok.ensures.ok.1 c.word-root.ensures.loads c.word-level.ensures.loads in
-    let low = root-height _ _ _ _ _ c.args.key _ _ _ _ c.in-Ok.ensures.ok.0 c.in-Ok.ensures.ok.1 c.word-root.ensures.loads c.word-level.ensures.loads s.ok.1.words s.ok.1.sees in
-    let start = s.ok.1.reads.0.start in
-    let height = subst (λ (n : ℕ). c.word-level.result + 2 ≤ n) s.pages (subst (λ (o : Origin). c.word-level.result + 2 ≤ length o.contents) (sym start) low) in
-    meta-read _ _ _ _ _ _ (view c.args.pass.now) (view c.start.new.pass) (view c.word-root.new.pass) (view c.word-level.new.pass) (view c.enter.new.pass) c.in-Ok.ensures.ok.0 opened s.ok.1.reads s.parent s.ok.0 c.word-root.ensures.loads.loads c.word-level.ensures.loads.loads height
+    let low = c.if-level-words.false in
+    let same = c.args.words.now.shape.0 in
+    let pages = s.ready.table.is_shape.pages in
+    meta-read _ _ _ _ _ _ (view c.args.pass.now) (view c.start.new.pass) (view c.word-root.new.pass) (view c.word-level.new.pass) (view c.enter.new.pass) c.in-Ok.ensures.ok.0 opened s.ok.1.reads s.parent s.ok.0 c.word-root.ensures.loads.loads c.word-level.ensures.loads.loads (omega (arith, low, same, pages))
+
+pub returns-clause-named : goal.returns-clause-named
+returns-clause-named g c =
+    let s = c.in-Ok-enter.ensures.ok in
+    root-passes c.in-Ok.guard c.word-root.result c.word-level.result c.in-Ok-enter.guard.pid c.in-Ok-enter.guard.word c.in-Ok-enter.guard.frame (view c.args.pass.now) (view c.word-level.new.pass) (view c.enter.new.pass) c.in-Ok.ensures.ok.0
+    (root-opened _ _ _ _ _ c.args.key _ _ _ _ c.in-Ok.ensures.ok.0 c.in-Ok.ensures.ok.1 c.word-root.ensures.loads c.word-level.ensures.loads)
+    (meta-loads _ _ _ _ _ c.args.key _ _ _ _ c.in-Ok.ensures.ok.0 c.in-Ok.ensures.ok.1 c.word-root.ensures.loads c.word-level.ensures.loads) s.0 s.1
+    (λ tells. (meta-words _ _ _ _ _ c.args.key _ _ _ _ c.in-Ok.ensures.ok.0 c.in-Ok.ensures.ok.1 c.word-root.ensures.loads c.word-level.ensures.loads (last_of (view c.enter.new.pass) c.in-Ok.guard.pid).words (s.1.sees tells)).0)

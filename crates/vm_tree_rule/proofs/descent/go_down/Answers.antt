@@ -1,41 +1,77 @@
-use Rattle.std.proofs.Common.{◌≡◌, ◌∙◌, true, refl, sym, subst, ap}
+use Rattle.std.proofs.Common.{◌∙◌, sym, subst, ap}
+use Rattle.vm_rule.specs.declared.view.Origin.{Origin}
 use Rattle.vm_rule.specs.Reading.{last_of}
 use Rattle.vm_step.specs.Passes.{view}
-use Rattle.vm_tree_rule.specs.Turns.{IsAgain as agains}
-use Rattle.vm_tree_rule.proofs.Readings.{err-then, ok-then, opened-earlier, opened-later, quiet-reads, reads-then}
-use Rattle.vm_tree_rule.proofs.Entering.{turned}
-use Rattle.vm_tree_rule.proofs.Downward.{awaits-child, child-missing, child-named, names-child}
+use Rattle.vm_tree_rule.specs.Turns.{IsTurn}
+use Rattle.vm_tree_rule.specs.Turns.{IsNoTree as no_tree}
+use Rattle.vm_tree_rule.proofs.Readings.{err-then, loads-reads, ok-then, opened-earlier, opened-loads, reads-self, reads-then, leaves-self}
+use Rattle.vm_tree_rule.proofs.Entering.{astray-turn, opened-reads, refused-turn, turned, untold}
+use Rattle.vm_tree_rule.proofs.Downward.{awaits-child, child-loaded, child-missing, child-named, names-child}
+use Rattle.vm_tree_rule.proofs.Surely.{known-at, known-same}
 use Rattle.vm_tree_rule.proofs.descent.go_down.Goals as goal
 
 pub enter-requires-clause-names : goal.enter-requires-clause-names
 enter-requires-clause-names g c =
-    names-child _ _ _ c.requires.awaits.0 _ _ _ _ c.read_all.ensures.size c.read_all.ensures.loads c.requires.awaits.1 c.in-Some.named (sym c.child.ensures.child ∙ c.in-Some.is)
+    names-child _ _ _ c.requires.awaits.0 _ _ _ _ c.read_all.ensures.size c.read_all.ensures.loads c.requires.awaits.1 c.in-Some.named c.in-Some.ensures.child
 
-pub unreachable-requires : goal.unreachable-requires
-unreachable-requires g c =
+pub returns-in-Ok-clause-err : goal.returns-in-Ok-clause-err
+returns-in-Ok-clause-err g c =
+    let loads = c.read_all.ensures.loads in
     let valid = c.in-Ok.ensures.ok in
-    child-missing _ _ _ c.requires.awaits.0 _ _ _ _ c.read_all.ensures.size c.read_all.ensures.loads c.requires.awaits.1 (sym c.child.ensures.child ∙ c.in-None.is) (last_of (view c.validate_silently.new.pass) c.args.guard.now.pid).words
-    valid.size (valid.validates (c.read_all.ensures.ready.table.tells_is ∙ c.requires.tells))
+    λ u o.
+    let opened = opened-loads _ _ _ _ u _ _ o loads in
+    let start = (opened-reads _ _ _ u _ opened).0.start in
+    subst (λ t. IsTurn u c.args.key t (view c.validate_silently.new.pass)) (sym c.astray_at.ensures)
+    (astray-turn _ _ _ c.args.key u _ _ opened
+    (untold _ (λ tells. child-missing _ _ _ c.requires.awaits.0 _ _ _ _ c.read_all.ensures.size loads c.requires.awaits.1 c.in-None.ensures.child (ap (λ (y : Origin). y.tells) start ∙ tells) (last_of (view c.validate_silently.new.pass) c.args.guard.now.pid).words
+    valid.size (valid.validates (ap (λ (y : Origin). y.tells) start ∙ tells))))
+    valid
+    (no_tree.childless c.read_all.new.into (_, (valid.same_reads _).loads ∙ loads.loads) c.in-None.ensures.child))
+
+pub returns-in-Ok-clause-sure : goal.returns-in-Ok-clause-sure
+returns-in-Ok-clause-sure g c tells known =
+    let valid = c.in-Ok.ensures.ok in
+    let told = c.read_all.ensures.ready.table.tells_is ∙ tells in
+    absurd
+    (child-missing _ _ _ c.requires.awaits.0 _ _ _ _ c.read_all.ensures.size c.read_all.ensures.loads c.requires.awaits.1 c.in-None.ensures.child told (last_of (view c.validate_silently.new.pass) c.args.guard.now.pid).words
+    valid.size (valid.validates told))
 
 pub returns-in-Some-clause-reads : goal.returns-in-Some-clause-reads
 returns-in-Some-clause-reads g c =
-    let reads = quiet-reads _ _ _ _ c.read_all.ensures.loads.quiet in
+    let reads = loads-reads _ _ _ _ _ _ c.read_all.ensures.loads in
     ok-then c.enter.result c.enter.ensures.ok (λ below s. (reads-then _ _ _ reads s.1.reads, opened-earlier _ _ _ _ _ _ reads s.1.opened))
 
 pub returns-in-Some-clause-awaits : goal.returns-in-Some-clause-awaits
 returns-in-Some-clause-awaits g c =
     ok-then c.enter.result c.enter.ensures.ok
-    (λ below s level awaits. awaits-child _ _ _ level _ _ _ _ c.read_all.ensures.size c.read_all.ensures.loads awaits c.in-Some.named _ _ _ _ (sym c.child.ensures.child ∙ c.in-Some.is) s.0 s.1)
+    (λ below s level awaits. awaits-child _ _ _ level _ _ _ _ c.read_all.ensures.size c.read_all.ensures.loads awaits c.in-Some.named _ _ _ _ c.in-Some.ensures.child s.0 s.1)
 
 pub returns-in-Some-clause-err : goal.returns-in-Some-clause-err
 returns-in-Some-clause-err g c =
     let loads = c.read_all.ensures.loads in
     err-then c.enter.result c.enter.ensures.err
     (λ turn s u o.
-    turned _ _ _ _ _ turn u _ _ (opened-later _ _ _ _ _ _ o (quiet-reads _ _ _ _ loads.quiet) loads.reads)
-    (child-named _ _ _ c.requires.awaits.0 _ _ _ _ c.read_all.ensures.size loads c.requires.awaits.1 c.in-Some.named (sym c.child.ensures.child ∙ c.in-Some.is)) s)
+    turned _ _ _ _ _ turn u _ _ (opened-loads _ _ _ _ _ _ _ o loads)
+    (child-named _ _ _ c.requires.awaits.0 _ _ _ _ c.read_all.ensures.size loads c.requires.awaits.1 c.in-Some.named c.in-Some.ensures.child)
+    (child-loaded _ _ _ c.requires.awaits.0 _ _ _ _ c.read_all.ensures.size loads c.requires.awaits.1 c.in-Some.named c.in-Some.ensures.child) s)
+
+pub returns-in-Some-clause-sure : goal.returns-in-Some-clause-sure
+returns-in-Some-clause-sure g c tells known =
+    let loads = c.read_all.ensures.loads in
+    c.enter.ensures.sure tells (known-same _ _ _ _ (loads-reads _ _ _ _ _ _ loads).0 loads.table known)
+
+pub returns-in-Some-clause-known : goal.returns-in-Some-clause-known
+returns-in-Some-clause-known g c tells known =
+    let loads = c.read_all.ensures.loads in
+    ok-then c.enter.result (c.enter.ensures.known tells (known-same _ _ _ _ (loads-reads _ _ _ _ _ _ loads).0 loads.table known)) (λ below k. k.0)
 
 pub returns-in-Err-clause-err : goal.returns-in-Err-clause-err
 returns-in-Err-clause-err g c =
     let loads = c.read_all.ensures.loads in
-    λ u o. agains.at_end _ _ _ _ (opened-later _ _ _ _ _ _ o (quiet-reads _ _ _ _ loads.quiet) loads.reads) c.in-Err.ensures.err
+    λ u o. refused-turn _ _ _ c.args.key _ u _ _ _ (opened-loads _ _ _ _ _ _ _ o loads) (reads-self _) (leaves-self _ _) c.in-Err.ensures.err
+
+pub returns-in-Err-clause-sure : goal.returns-in-Err-clause-sure
+returns-in-Err-clause-sure g c tells known =
+    let loads = c.read_all.ensures.loads in
+    let k = known-same _ _ _ _ (loads-reads _ _ _ _ _ _ loads).0 loads.table known in
+    c.in-Err.ensures.sure k.resident.alone (known-at _ _ _ k)

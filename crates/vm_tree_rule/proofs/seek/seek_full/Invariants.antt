@@ -1,8 +1,9 @@
-use Rattle.std.proofs.Common.{ℕ, List, ◌≡◌, ◌≤◌, ◌<◌, ◌-◌, length}
+use Rattle.std.proofs.Common.{ℕ, List, ◌≡◌, ◌≤◌, ◌<◌, ◌-◌, length, true}
 use Rattle.vm_step.specs.Passes.{IsSamePass, view}
 use Rattle.vm_step.specs.Ready.{IsReady}
 use Rattle.vm_tree_model.specs.Page.{pairs_of}
 use Rattle.vm_tree_rule.specs.Leaves.{ReadsOn}
+use Rattle.vm_tree_rule.specs.Resident.{IsKnownNow, KnowsLocks, KnowsResident}
 use Rattle.vm_tree_rule.specs.Seeks.{ArePassed, HasRead}
 use Rattle.vm_tree_rule.specs.Standing.{Awaits, IsOpened}
 use Rattle.vm_tree_rule.proofs.seek.seek_full.Given as goal
@@ -18,6 +19,8 @@ invariant-loop g l = record {
   read : HasRead (view l.pass) l.guard.pid l.page;
   room : length (pairs_of l.page) < 28;
   left : l.counter ≤ l.end;
-  way : (passed : List (ℕ × List ℕ)) × ArePassed (view l.fn.pass) l.key passed l.guard.pid;
+  way : (passed : List (ℕ × List ℕ)) × ArePassed (view l.fn.pass) l.key passed l.guard.pid (view l.pass);
+  known : g.B.Block.tells ≡ true → KnowsResident (view l.fn.pass) → IsKnownNow l.guard.pid l.guard.word (view l.pass);
+  locks : KnowsLocks (view l.pass);
   awaits : Awaits (view l.pass) l.guard.pid l.guard.word (l.end - l.counter) l.key;
 }

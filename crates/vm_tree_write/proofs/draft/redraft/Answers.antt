@@ -1,9 +1,9 @@
-use Rattle.std.proofs.Common.{ℕ, List, ◌≡◌, ◌∙◌, length, refl, sym, ap, subst, arith, slice_index}
+use Rattle.std.proofs.Common.{ℕ, List, ◌≡◌, ◌<◌, ◌∙◌, length, refl, sym, ap, subst, arith, slice_index}
 use Rattle.std.proofs.lemmas.Grind.{same_number_lists}
 use Rattle.vm_rule.specs.Views.{draft_of}
 use Rattle.vm_step.specs.Passes.{view}
 use Rattle.vm_guard.specs.Guards.{IsSet}
-use Rattle.vm_tree_write.proofs.Drafting.{differs-more, differs-self, redrafted-self, same-below, set-above, set-below, set-more}
+use Rattle.vm_tree_write.proofs.Drafting.{differs-more, differs-self, pages-more, pages-self, redrafted-self, same-below, set-above, set-below, set-more}
 use Rattle.vm_tree_write.proofs.draft.redraft.Goals as goal
 use Rattle.vm_tree_write.proofs.draft.redraft.Goals.{then-word-get, else-word-get}
 
@@ -14,10 +14,11 @@ loop-i-init g c = record {
   holds = c.requires.holds;
   guard = (refl, refl);
   redrafted = redrafted-self _ _;
+  known = pages-self c.args.guard.now.pid _;
   differ = differs-self _ _ _;
   size = λ l. absurd (omega (arith, l));
-  below = λ k l. absurd (omega (arith, l));
-  above = λ k l. ap (λ (t : List ℕ). slice_index t k) c.requires.draft;
+  below = λ tells k l. absurd (omega (arith, l));
+  above = λ tells k l. ap (λ (t : List ℕ). slice_index t k) (c.requires.draft tells);
 }
 
 pub loop-i-preserved : goal.loop-i-preserved
@@ -34,10 +35,11 @@ loop-i-preserved g c =
             holds = rw w.set.ensures.guard w.set.ensures.holds;
             guard = rw w.set.ensures.guard i.guard;
             redrafted = set-more _ _ _ _ _ _ _ _ i.redrafted s;
-            differ = differs-more c.args.before.now c.args.after.now _ _ _ c.loop-i.i c.get-word.result _ _ _ i.differ s (λ e. w.if-word-get.true (word ∙ sym e ∙ sym c.get.ensures.word));
+            known = pages-more _ _ _ _ _ (view c.args.pass.now) (view c.loop-i.pass) _ (subst (λ (n : ℕ). n < (view c.loop-i.pass).start.pages) i.guard.0 i.holds.page) i.holds.frame_is c.loop-i-test.true i.redrafted i.known s;
+            differ = differs-more c.args.before.now c.args.after.now _ _ _ c.loop-i.i c.get-word.result _ _ _ i.differ s word (λ e. w.if-word-get.true (word ∙ sym e ∙ sym c.get.ensures.word));
             size = λ _. c.get-word.ensures.length;
-            below = set-below c.loop-i.i c.get-word.result (draft_of (view c.loop-i.pass) c.args.guard.now.pid) (draft_of (view w.set.new.pass) c.args.guard.now.pid) c.args.after.now (ap (λ (n : ℕ). length (draft_of (view c.loop-i.pass) n)) (sym i.guard.0) ∙ i.holds.size) c.loop-i-test.true s.draft word i.below;
-            above = set-above c.loop-i.i c.get-word.result (draft_of (view c.loop-i.pass) c.args.guard.now.pid) (draft_of (view w.set.new.pass) c.args.guard.now.pid) c.args.before.now s.draft i.above;
+            below = λ tells. set-below c.loop-i.i c.get-word.result (draft_of (view c.loop-i.pass) c.args.guard.now.pid) (draft_of (view w.set.new.pass) c.args.guard.now.pid) c.args.after.now (ap (λ (n : ℕ). length (draft_of (view c.loop-i.pass) n)) (sym i.guard.0) ∙ i.holds.size) c.loop-i-test.true s.draft word (i.below tells);
+            above = λ tells. set-above c.loop-i.i c.get-word.result (draft_of (view c.loop-i.pass) c.args.guard.now.pid) (draft_of (view w.set.new.pass) c.args.guard.now.pid) c.args.before.now s.draft (i.above tells);
           })
       | else-word-get w ↦ rw (w.pass-is, w.guard-is) record {
         same = i.same;
@@ -45,16 +47,17 @@ loop-i-preserved g c =
         holds = i.holds;
         guard = i.guard;
         redrafted = i.redrafted;
+        known = i.known;
         differ = i.differ;
         size = λ _. c.get-word.ensures.length;
-        below = same-below c.loop-i.i (draft_of (view c.loop-i.pass) c.args.guard.now.pid) c.args.before.now c.args.after.now (sym word ∙ w.if-word-get.false ∙ c.get.ensures.word) i.below i.above;
-        above = λ k l. i.above k (omega (arith, l));
+        below = λ tells. same-below c.loop-i.i (draft_of (view c.loop-i.pass) c.args.guard.now.pid) c.args.before.now c.args.after.now (sym word ∙ w.if-word-get.false ∙ c.get.ensures.word) (i.below tells) (i.above tells);
+        above = λ tells k l. i.above tells k (omega (arith, l));
       }
     ]
 
 pub returns-clause-draft : goal.returns-clause-draft
-returns-clause-draft g c =
+returns-clause-draft g c tells =
     let i = c.loop-i.invariant in
     let done = c.loop-i-test.false in
     let long : length (draft_of (view c.loop-i.pass) c.args.guard.now.pid) ≡ 64 = ap (λ (n : ℕ). length (draft_of (view c.loop-i.pass) n)) (sym i.guard.0) ∙ i.holds.size in
-    same_number_lists _ _ (long ∙ sym (i.size (omega (arith, done)))) (λ k l. i.below k (omega (arith, done, l, long)))
+    same_number_lists _ _ (long ∙ sym (i.size (omega (arith, done)))) (λ k l. i.below tells k (omega (arith, done, l, long)))

@@ -1,12 +1,12 @@
-use Rattle.std.proofs.Common.{ℕ, ◌≡◌, ◌<◌, ◌≤◌, length, slice_index}
+use Rattle.std.proofs.Common.{ℕ, true, ◌≡◌, ◌<◌, ◌≤◌, length, slice_index}
 use Rattle.vm_rule.specs.Views.{draft_of}
 use Rattle.vm_step.specs.Passes.{IsSamePass, view}
 use Rattle.vm_step.specs.Ready.{IsReady}
 use Rattle.vm_guard.specs.Guards.{IsHolding}
-use Rattle.vm_tree_write.specs.Drafts.{IsRedrafted, SetsDiffering}
+use Rattle.vm_tree_write.specs.Drafts.{IsRedrafted, KnowsPages, SetsDiffering}
 use Rattle.vm_tree_write.proofs.draft.redraft.Given as goal
 
--- the words below i are the new page's, the others still the old one's
+-- the words below i are the new page's, the others still the old one's, where blocks tell their words
 abbrev pub invariant-loop-i : goal.invariant-loop-i
 invariant-loop-i g l = record {
   same : IsSamePass l.fn.pass l.pass;
@@ -14,8 +14,9 @@ invariant-loop-i g l = record {
   holds : IsHolding l.guard.pid l.guard.frame l.guard.version l.guard.dirty (view l.pass);
   guard : (l.guard.pid ≡ l.fn.guard.pid) × (l.guard.version ≡ l.fn.guard.version);
   redrafted : IsRedrafted l.fn.guard.pid (view l.fn.pass) (view l.pass);
+  known : KnowsPages (view l.fn.pass) (view l.pass);
   differ : SetsDiffering l.before l.after (view l.fn.pass) (view l.pass);
   size : 0 < l.i → length l.after ≡ 64;
-  below : (k : ℕ) → k < l.i → slice_index (draft_of (view l.pass) l.fn.guard.pid) k ≡ slice_index l.after k;
-  above : (k : ℕ) → l.i ≤ k → slice_index (draft_of (view l.pass) l.fn.guard.pid) k ≡ slice_index l.before k;
+  below : (view l.fn.pass).start.tells ≡ true → (k : ℕ) → k < l.i → slice_index (draft_of (view l.pass) l.fn.guard.pid) k ≡ slice_index l.after k;
+  above : (view l.fn.pass).start.tells ≡ true → (k : ℕ) → l.i ≤ k → slice_index (draft_of (view l.pass) l.fn.guard.pid) k ≡ slice_index l.before k;
 }

@@ -1,5 +1,6 @@
-use Rattle.std.proofs.Common.{◌≡◌, ◌≢◌, ◌∙◌, ℕ, List, None, Some, sym, ap, subst, inl, inr, replicate}
+use Rattle.std.proofs.Common.{true, ◌≡◌, ◌≢◌, ◌∙◌, ℕ, List, None, Some, sym, ap, subst, inl, inr, replicate}
 use Rattle.vm_map.specs.declared.call.Said.{Said}
+use Rattle.vm_rule.specs.declared.view.Origin.{Origin}
 use Rattle.vm_rule.specs.declared.view.View.{View}
 use Rattle.vm_rule.specs.Views.{draft_of}
 use Rattle.vm_step.specs.Conditions.{IsClaimed}
@@ -8,6 +9,12 @@ use Rattle.vm_step.specs.Passes.{view}
 use Rattle.vm_guard.specs.Guards.{IsReleased}
 use Rattle.vm_tree_laws.specs.Keeps.{Keeps}
 use Rattle.vm_tree_write.specs.Drafts.{IsRedrafted}
+use Rattle.vm_step.specs.Evidence.{UnlockedExpected}
+use Rattle.vm_guard.specs.Denied.{AgainOrWorn, KeptWord}
+use Rattle.vm_tree_rule.proofs.Readings.{denied-reads}
+use Rattle.vm_tree_rule.proofs.Surely.{resident-same}
+use Rattle.vm_tree_write.proofs.Knowing.{resident-written}
+use Rattle.vm_tree_write.proofs.Settling.{only-worn}
 use Rattle.vm_tree_write.proofs.Writing.{draft-is, not-zeros, old-is, owner, written}
 use Rattle.vm_tree_write.proofs.leaf.write_leaf.Goals as goal
 
@@ -17,14 +24,19 @@ redrafted-at p q x y e d = subst (λ (n : ℕ). IsRedrafted n x y) e d
 draft-at : (p q : ℕ) (y : View Said) (after : List ℕ) → q ≡ p → draft_of y q ≡ after → draft_of y p ≡ after
 draft-at p q y after e d = ap (λ (n : ℕ). draft_of y n) (sym e) ∙ d
 
+-- the draft that the pass has afterwards
+drafted-at : (p q : ℕ) (v x y : View Said) (after : List ℕ) → q ≡ p → x.start ≡ v.start → (x.start.tells ≡ true → draft_of y q ≡ after) → v.start.tells ≡ true → draft_of y p ≡ after
+drafted-at p q v x y after e start d tells = draft-at p q y after e (d (ap (λ (o : Origin). o.tells) start ∙ tells))
+
 none-not : (x : Rattle.vm_rule.specs.declared.view.Out.Out) → None ≡ Some x → ⊥
 none-not x e = absurd (cc)
 
 pub redraft-requires-clause-draft : goal.redraft-requires-clause-draft
-redraft-requires-clause-draft g c =
+redraft-requires-clause-draft g c tells =
     let k = c.in-Ok.ensures.taken in
     draft-at _ _ (view c.upgrade.new.pass) _ (sym k.0)
-    (draft-is c.args.guard.pid _ _ c.args.guard.word c.args.guard.frame _ c.args.said c.requires.loads.0 c.args.before.now c.args.after.now (view c.args.pass.now) (view c.upgrade.new.pass) (view c.upgrade.new.pass) (view c.upgrade.new.pass) c.requires.reading c.requires.size c.requires.loads.1 (c.requires.ready.table.tells_is ∙ c.requires.tells) k.1 k.2)
+    (draft-is c.args.guard.pid _ _ c.args.guard.word c.args.guard.frame _ c.args.said c.requires.loads.0 c.args.before.now c.args.after.now (view c.args.pass.now) (view c.upgrade.new.pass) (view c.upgrade.new.pass) (view c.upgrade.new.pass) c.requires.reading c.requires.size c.requires.loads.1 k.1 k.2
+    (ap (λ (o : Origin). o.tells) (sym k.2.elsewhere.steady.start) ∙ tells))
 
 pub release-requires-clause-home : goal.release-requires-clause-home
 release-requires-clause-home g c o is =
@@ -33,22 +45,45 @@ release-requires-clause-home g c o is =
 pub release-requires-clause-claimed : goal.release-requires-clause-claimed
 release-requires-clause-claimed g c tells =
     let k = c.in-Ok.ensures.taken in
+    let before = ap (λ (o : Origin). o.tells) (sym k.2.elsewhere.steady.start) ∙ ap (λ (o : Origin). o.tells) (sym c.redraft.ensures.redrafted.elsewhere.steady.start) ∙ tells in
     subst (λ (n : ℕ). IsClaimed (view c.redraft.new.pass) n) (sym (c.redraft.ensures.guard.0 ∙ k.0))
-    (inr (inl (subst (λ (l : List ℕ). l ≢ replicate 64 0) (sym (old-is c.args.guard.pid _ _ c.args.guard.word c.args.guard.frame _ c.args.said c.requires.loads.0 c.args.before.now c.args.after.now (view c.args.pass.now) (view c.upgrade.new.pass) (view c.redraft.new.pass) (view c.redraft.new.pass) c.requires.reading c.requires.size c.requires.loads.1 (c.requires.ready.table.tells_is ∙ c.requires.tells) k.1 k.2
-    (redrafted-at _ _ (view c.upgrade.new.pass) (view c.redraft.new.pass) k.0 c.redraft.ensures.redrafted) (draft-at _ _ (view c.redraft.new.pass) _ k.0 c.redraft.ensures.draft))) (not-zeros c.args.before.now c.requires.leaf))))
+    (inr (inl (subst (λ (l : List ℕ). l ≢ replicate 64 0) (sym (old-is c.args.guard.pid _ _ c.args.guard.word c.args.guard.frame _ c.args.said c.requires.loads.0 c.args.before.now c.args.after.now (view c.args.pass.now) (view c.upgrade.new.pass) (view c.redraft.new.pass) (view c.redraft.new.pass) c.requires.reading c.requires.size c.requires.loads.1 k.1 k.2
+    (redrafted-at _ _ (view c.upgrade.new.pass) (view c.redraft.new.pass) k.0 c.redraft.ensures.redrafted) (drafted-at _ _ (view c.args.pass.now) (view c.upgrade.new.pass) (view c.redraft.new.pass) _ k.0 k.2.elsewhere.steady.start c.redraft.ensures.draft) before)) (not-zeros c.args.before.now c.requires.leaf))))
 
 pub release-requires-clause-owner : goal.release-requires-clause-owner
 release-requires-clause-owner g c tells =
     let k = c.in-Ok.ensures.taken in
-    owner c.args.guard.pid _ _ c.args.guard.word c.args.guard.frame _ c.args.said c.requires.loads.0 c.args.before.now c.args.after.now (view c.args.pass.now) (view c.upgrade.new.pass) (view c.redraft.new.pass) (view c.redraft.new.pass) c.requires.reading c.requires.size c.requires.loads.1 (c.requires.ready.table.tells_is ∙ c.requires.tells) k.1 k.2
-    (redrafted-at _ _ (view c.upgrade.new.pass) (view c.redraft.new.pass) k.0 c.redraft.ensures.redrafted) (draft-at _ _ (view c.redraft.new.pass) _ k.0 c.redraft.ensures.draft) _ (c.redraft.ensures.guard.0 ∙ k.0) c.requires.leaf c.requires.edit
+    let before = ap (λ (o : Origin). o.tells) (sym k.2.elsewhere.steady.start) ∙ ap (λ (o : Origin). o.tells) (sym c.redraft.ensures.redrafted.elsewhere.steady.start) ∙ tells in
+    owner c.args.guard.pid _ _ c.args.guard.word c.args.guard.frame _ c.args.said c.requires.loads.0 c.args.before.now c.args.after.now (view c.args.pass.now) (view c.upgrade.new.pass) (view c.redraft.new.pass) (view c.redraft.new.pass) c.requires.reading c.requires.size c.requires.loads.1 k.1 k.2
+    (redrafted-at _ _ (view c.upgrade.new.pass) (view c.redraft.new.pass) k.0 c.redraft.ensures.redrafted) (drafted-at _ _ (view c.args.pass.now) (view c.upgrade.new.pass) (view c.redraft.new.pass) _ k.0 k.2.elsewhere.steady.start c.redraft.ensures.draft) before _ (c.redraft.ensures.guard.0 ∙ k.0) c.requires.leaf c.requires.edit
 
 pub returns-clause-ok : goal.returns-clause-ok
 returns-clause-ok g c =
     let k = c.in-Ok.ensures.taken in
     let same = c.redraft.ensures.guard.0 ∙ k.0 in
-    written c.args.guard.pid _ _ c.args.guard.word c.args.guard.frame _ c.args.said c.requires.loads.0 c.args.before.now c.args.after.now (view c.args.pass.now) (view c.upgrade.new.pass) (view c.redraft.new.pass) (view c.release.new.pass) c.requires.reading c.requires.size c.requires.loads.1 (c.requires.ready.table.tells_is ∙ c.requires.tells) k.1 k.2
-    (redrafted-at _ _ (view c.upgrade.new.pass) (view c.redraft.new.pass) k.0 c.redraft.ensures.redrafted) (draft-at _ _ (view c.redraft.new.pass) _ k.0 c.redraft.ensures.draft)
+    written c.args.guard.pid _ _ c.args.guard.word c.args.guard.frame _ c.args.said c.requires.loads.0 c.args.before.now c.args.after.now (view c.args.pass.now) (view c.upgrade.new.pass) (view c.redraft.new.pass) (view c.release.new.pass) c.requires.reading c.requires.size c.requires.loads.1 k.1 k.2
+    (redrafted-at _ _ (view c.upgrade.new.pass) (view c.redraft.new.pass) k.0 c.redraft.ensures.redrafted) (drafted-at _ _ (view c.args.pass.now) (view c.upgrade.new.pass) (view c.redraft.new.pass) _ k.0 k.2.elsewhere.steady.start c.redraft.ensures.draft)
     (subst (λ (n : ℕ). IsReleased c.args.guard.pid n (Some c.args.said) (view c.redraft.new.pass) (view c.release.new.pass)) c.redraft.ensures.guard.1
-    (subst (λ (n : ℕ). IsReleased n c.redraft.new.guard.version (Some c.args.said) (view c.redraft.new.pass) (view c.release.new.pass)) same c.release.ensures.released)) c.requires.leaf c.requires.edit
-    (subst (λ (n : ℕ). IsKeptNow Keeps n (Unit {0}) (view c.release.new.pass)) same (c.release.ensures.kept c.requires.tells))
+    (subst (λ (n : ℕ). IsReleased n c.redraft.new.guard.version (Some c.args.said) (view c.redraft.new.pass) (view c.release.new.pass)) same c.release.ensures.released)) c.requires.leaf c.requires.edit c.redraft.ensures.differ
+    (λ tells. subst (λ (n : ℕ). IsKeptNow Keeps n (Unit {0}) (view c.release.new.pass)) same (c.release.ensures.kept (sym c.requires.ready.table.tells_is ∙ tells)))
+
+pub returns-in-Err-clause-sure : goal.returns-in-Err-clause-sure
+returns-in-Err-clause-sure g c known =
+    let d = c.in-Err.ensures in
+    only-worn c.args.guard.pid c.args.guard.word c.in-Err.deny (view c.args.pass.now) d.denied.kind known.resident.alone known.free known.known d.worn d.sure
+
+-- ---- what a pass that is alone knows afterwards
+
+pub returns-in-Err-clause-known : goal.returns-in-Err-clause-known
+returns-in-Err-clause-known g c known =
+    let d = c.in-Err.ensures.denied in
+    resident-same (view c.args.pass.now) (view c.upgrade.new.pass) (denied-reads AgainOrWorn (KeptWord c.args.guard.word) UnlockedExpected c.args.guard.pid c.in-Err.deny (view c.args.pass.now) (view c.upgrade.new.pass) d).0 d.table known.resident
+
+pub returns-clause-known : goal.returns-clause-known
+returns-clause-known g c known =
+    let k = c.in-Ok.ensures.taken in
+    let same = c.redraft.ensures.guard.0 ∙ k.0 in
+    let back = subst (λ (n : ℕ). IsReleased c.args.guard.pid n (Some c.args.said) (view c.redraft.new.pass) (view c.release.new.pass)) c.redraft.ensures.guard.1
+    (subst (λ (n : ℕ). IsReleased n c.redraft.new.guard.version (Some c.args.said) (view c.redraft.new.pass) (view c.release.new.pass)) same c.release.ensures.released) in
+    resident-written c.args.guard.pid _ _ _ (Some c.args.said) (view c.args.pass.now) (view c.upgrade.new.pass) (view c.redraft.new.pass) (view c.release.new.pass) k.2
+    (redrafted-at _ _ (view c.upgrade.new.pass) (view c.redraft.new.pass) k.0 c.redraft.ensures.redrafted) c.redraft.ensures.known back known.resident

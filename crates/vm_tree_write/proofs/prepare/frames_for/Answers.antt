@@ -1,34 +1,24 @@
-use Rattle.std.proofs.Common.{ℕ, List, [], ◌++◌, refl}
+use Rattle.std.proofs.Common.{ℕ, List, [], ◌≡◌, ◌≢◌, ◌∙◌, ◌++◌, length, refl, subst, arith, ⊎_elim}
 use Rattle.std.proofs.lemmas.Result.{IfErr-weaker, IfOk-weaker}
 use Rattle.vm_exmap.specs.Frames.{MovesFrames}
+use Rattle.vm_exmap.specs.Walks.{IsAlloc}
 use Rattle.vm_step.specs.HeldFrames.{AreHeld}
 use Rattle.vm_exmap.specs.declared.interface.Alloc.TheVariants as allocs
-use Rattle.vm_guard.specs.declared.opt.OptGuard.{OptGuard}
 use Rattle.vm_rule.specs.declared.view.Did.{Did}
-use Rattle.vm_rule.proofs.Entries.{starts-self}
 use Rattle.vm_step.specs.Passes.{view}
-use Rattle.vm_tree_write.specs.Tries.{IsUnsplit}
-use Rattle.vm_tree_write.specs.Tries.IsUnsplit.{dry, lost}
+use Rattle.vm_tree_write.specs.Prepares.{LacksFrames, LacksSecond}
+use Rattle.vm_tree_write.specs.Prepares.IsShort.{after_one, at_once}
 use Rattle.vm_tree_write.proofs.Framing.{alloc-keeps, alloc-more, keeps-then, more-then}
-use Rattle.vm_tree_write.specs.Splits.{LosesNone}
-use Rattle.vm_tree_write.proofs.Losing.{alloc-loses, loses-then, refused-alone}
-use Rattle.vm_tree_write.proofs.Refusing.{asked-alloc, unsplit-within}
+use Rattle.vm_tree_read.specs.Waiting.{LosesNone}
+use Rattle.vm_tree_read.proofs.Losing.{alloc-loses, loses-then, refused-alone}
+use Rattle.vm_step.proofs.Alone.{still-alone}
 use Rattle.vm_tree_write.proofs.prepare.frames_for.Goals as goal
 
 pub returns-in-Dry-clause-err : goal.returns-in-Dry-clause-err
-returns-in-Dry-clause-err g c = (
-  c.in-Dry.ensures.held,
-  λ n a b.
-      dry (asked-alloc c.args.iface.now.home c.args.iface.now.cap c.args.n c.args.iface.now.frames c.alloc.new.self.frames (view c.args.pass.now) (view c.alloc.new.pass) (view c.alloc.new.pass) allocs.Dry c.in-Dry.ensures.answer (starts-self _)) refl,
-)
+returns-in-Dry-clause-err g c = (c.in-Dry.ensures.held, (allocs.Dry, at_once c.args.iface.now.home c.args.iface.now.cap c.args.iface.now.frames c.alloc.new.self.frames c.in-Dry.ensures.answer, refl))
 
 pub returns-in-Again-clause-err : goal.returns-in-Again-clause-err
-returns-in-Again-clause-err g c = (
-  c.in-Again.ensures.held,
-  λ n a b.
-      lost c.in-Again.saw
-      (asked-alloc c.args.iface.now.home c.args.iface.now.cap c.args.n c.args.iface.now.frames c.alloc.new.self.frames (view c.args.pass.now) (view c.alloc.new.pass) (view c.alloc.new.pass) (allocs.Again c.in-Again.saw) c.in-Again.ensures.answer (starts-self _)) refl,
-)
+returns-in-Again-clause-err g c = (c.in-Again.ensures.held, (allocs.Again c.in-Again.saw, at_once c.args.iface.now.home c.args.iface.now.cap c.args.iface.now.frames c.alloc.new.self.frames c.in-Again.ensures.answer, refl))
 
 pub returns-then-len-n-clause-keeps : goal.returns-then-len-n-clause-keeps
 returns-then-len-n-clause-keeps g c = alloc-keeps c.args.iface.now.home c.args.iface.now.cap c.args.n c.args.iface.now.frames c.alloc.new.self.frames (view c.args.pass.now) (view c.alloc.new.pass) (allocs.Batch c.in-Batch.batch) c.in-Batch.ensures.answer
@@ -52,11 +42,22 @@ returns-clause-moves g c =
 
 pub returns-clause-err : goal.returns-clause-err
 returns-clause-err g c =
-    let m = alloc-more c.args.iface.now.home c.args.iface.now.cap c.args.n c.args.iface.now.frames c.alloc.new.self.frames c.in-Batch.batch (view c.args.pass.now) (view c.alloc.new.pass) c.in-Batch.ensures.answer in
+    let many = c.in-Batch.ensures.some c.in-Batch.batch refl in
+    let not : length c.in-Batch.batch ≢ c.args.n = λ e. c.if-len-n.false (c.len.ensures.value ∙ e) in
+    let two : c.args.n ≡ 2 = ⊎_elim (λ (a : c.args.n ≡ 1). absurd (not (omega (arith, a, many.0, many.1)))) (λ b. b) c.requires.count in
+    let one : length c.in-Batch.batch ≡ 1 = omega (arith, two, many.0, many.1, not) in
     IfErr-weaker c.second_frame.result
-    (λ answer. AreHeld c.second_frame.new.iface.frames (view c.second_frame.new.pass) × ((n : ℕ) (first second : OptGuard) → IsUnsplit n first second (view c.alloc.new.pass) (view c.second_frame.new.pass) answer))
-    (λ answer. AreHeld c.second_frame.new.iface.frames (view c.second_frame.new.pass) × ((n : ℕ) (first second : OptGuard) → IsUnsplit n first second (view c.args.pass.now) (view c.second_frame.new.pass) answer))
-    (λ answer k. (k.0, λ n a b. unsplit-within n a b answer (view c.args.pass.now) (view c.alloc.new.pass) (view c.second_frame.new.pass) (view c.second_frame.new.pass) (m.done, m.moves.log) (starts-self _) (k.1 n a b))) c.second_frame.ensures.err
+    (λ answer. AreHeld c.second_frame.new.iface.frames (view c.second_frame.new.pass) × LacksSecond c.in-Batch.batch answer (view c.alloc.new.pass) (view c.second_frame.new.pass))
+    (λ answer. AreHeld c.second_frame.new.iface.frames (view c.second_frame.new.pass) × LacksFrames c.args.n answer (view c.args.pass.now) (view c.second_frame.new.pass))
+    (λ answer k. (
+      k.0,
+      (
+        k.1.0,
+        after_one c.args.iface.now.home c.args.iface.now.cap c.args.iface.now.frames c.alloc.new.self.frames c.in-Batch.batch (view c.alloc.new.pass) two one
+            (subst (λ (m : ℕ). IsAlloc c.args.iface.now.home c.args.iface.now.cap m c.args.iface.now.frames c.alloc.new.self.frames (view c.args.pass.now) (view c.alloc.new.pass) (allocs.Batch c.in-Batch.batch)) two c.in-Batch.ensures.answer) k.1.1,
+        k.1.2,
+      ),
+    )) c.second_frame.ensures.err
 
 pub returns-in-Dry-clause-lost_none : goal.returns-in-Dry-clause-lost_none
 returns-in-Dry-clause-lost_none g c = refused-alone c.args.iface.now.frames c.alloc.new.self.frames _ (view c.args.pass.now) (view c.alloc.new.pass) c.in-Dry.ensures.answer.refused
@@ -82,3 +83,11 @@ returns-clause-lost_none g c =
     (λ answer. LosesNone (c.in-Batch.batch ++ c.alloc.new.self.frames) (view c.alloc.new.pass) c.second_frame.new.iface.frames (view c.second_frame.new.pass))
     (λ answer. LosesNone c.args.iface.now.frames (view c.args.pass.now) c.second_frame.new.iface.frames (view c.second_frame.new.pass))
     (λ answer k. loses-then c.args.iface.now.frames (c.in-Batch.batch ++ c.alloc.new.self.frames) c.second_frame.new.iface.frames (view c.args.pass.now) (view c.alloc.new.pass) (view c.second_frame.new.pass) first k) c.second_frame.ensures.lost_none
+
+pub returns-in-Again-clause-sure : goal.returns-in-Again-clause-sure
+returns-in-Again-clause-sure g c alone = c.in-Again.ensures.sure alone
+
+pub returns-clause-sure : goal.returns-clause-sure
+returns-clause-sure g c alone =
+    let m = alloc-more c.args.iface.now.home c.args.iface.now.cap c.args.n c.args.iface.now.frames c.alloc.new.self.frames c.in-Batch.batch (view c.args.pass.now) (view c.alloc.new.pass) c.in-Batch.ensures.answer in
+    c.second_frame.ensures.sure (still-alone (view c.args.pass.now) (view c.alloc.new.pass) m.moves.parts m.moves.alone.current alone)

@@ -4,7 +4,7 @@ use Rattle.vm_exmap.proofs.Handing.{held-on}
 use Rattle.vm_owner.specs.Numbers.{has}
 use Rattle.vm_owner.proofs.NumberLemmas.{without-none}
 use Rattle.vm_step.specs.Passes.{view}
-use Rattle.vm_tree_write.proofs.Losing.{freed-loses, loses-same, loses-then}
+use Rattle.vm_tree_read.proofs.Losing.{freed-loses, loses-same, loses-then}
 use Rattle.vm_tree_write.proofs.prepare.give_up.Goals as goal
 
 pub release-requires-2-clause-owner : goal.release-requires-2-clause-owner

@@ -1,9 +1,10 @@
-use Rattle.std.proofs.Common.{◌∙◌, None, refl, subst, inl, inr}
-use Rattle.vm_rule.proofs.Entries.{starts-self}
+use Rattle.std.proofs.Common.{◌∙◌, None, subst, inl}
 use Rattle.vm_step.specs.Passes.{view}
 use Rattle.vm_guard.specs.Guards.{IsReleased}
 use Rattle.vm_guard.proofs.Reading.{reading-elsewhere}
-use Rattle.vm_tree_write.proofs.Refusing.{back-keeps, denied-unsplit, quiet-keeps}
+use Rattle.vm_tree_write.proofs.Refusing.{back-keeps, quiet-keeps, says-denied}
+use Rattle.vm_tree_write.proofs.Settling.{locked-alone, locked-word, only-worn}
+use Rattle.vm_tree_write.specs.Prepares.IsLockDenied.{first_denied, second_denied}
 use Rattle.vm_tree_write.proofs.prepare.lock_two.Goals as goal
 
 pub returns-in-Err-clause-err : goal.returns-in-Err-clause-err
@@ -11,8 +12,7 @@ returns-in-Err-clause-err g c =
     let d = c.in-Err.ensures.denied in (
       quiet-keeps c.args.first.pid d.done (view c.args.pass.now) (view c.upgrade.new.pass) d.quiet,
       d.quiet.steady.frames.0,
-      λ n.
-          denied-unsplit n c.args.first c.args.second c.args.first c.in-Err.deny c.denied.result (view c.args.pass.now) (view c.args.pass.now) (view c.upgrade.new.pass) (view c.upgrade.new.pass) (inl refl) (starts-self _) c.requires.first d (starts-self _) d.kind c.denied.ensures.again c.denied.ensures.worn,
+      (c.in-Err.deny, first_denied d, says-denied c.in-Err.deny c.denied.result d.kind c.denied.ensures.again c.denied.ensures.worn),
     )
 
 pub upgrade-requires-2-clause-reading : goal.upgrade-requires-2-clause-reading
@@ -34,8 +34,23 @@ returns-in-Err-upgrade-clause-err g c =
     let back = subst (λ p. IsReleased p up.version None y w) k.0 r in (
       back-keeps c.args.first.pid up.frame up.version up.dirty v x y w l (quiet-keeps c.args.second.pid d.done x y d.quiet) back,
       r.elsewhere.steady.frames.0 ∙ d.quiet.steady.frames.0 ∙ l.elsewhere.steady.frames.0,
-      λ n.
-          denied-unsplit n c.args.first c.args.second c.args.second c.in-Err-upgrade.deny c.denied-in-Err-upgrade.result v x y w (inr refl) (l.done, l.elsewhere.steady.log)
-          (reading-elsewhere c.args.second.pid c.args.second.word c.args.second.frame c.args.first.pid l.done v x c.requires.apart l.elsewhere c.requires.second)
-          d (r.done, r.elsewhere.steady.log) d.kind c.denied-in-Err-upgrade.ensures.again c.denied-in-Err-upgrade.ensures.worn,
+      (c.in-Err-upgrade.deny, second_denied up.frame up.version up.dirty x y k.1 l d back, says-denied c.in-Err-upgrade.deny c.denied-in-Err-upgrade.result d.kind c.denied-in-Err-upgrade.ensures.again c.denied-in-Err-upgrade.ensures.worn),
     )
+
+-- ---- a pass that knows both pages to be free
+
+pub returns-in-Err-clause-sure : goal.returns-in-Err-clause-sure
+returns-in-Err-clause-sure g c k =
+    let d = c.in-Err.ensures in
+    c.denied.ensures.settled (only-worn c.args.first.pid c.args.first.word c.in-Err.deny (view c.args.pass.now) d.denied.kind k.alone k.free.0 k.words.0 d.worn d.sure)
+
+pub returns-in-Err-upgrade-clause-sure : goal.returns-in-Err-upgrade-clause-sure
+returns-in-Err-upgrade-clause-sure g c k =
+    let d = c.in-Err-upgrade.ensures in
+    let l = c.in-Ok.ensures.taken.2 in
+    let up = c.in-Ok.up in
+    let v = view c.args.pass.now in
+    let x = view c.upgrade.new.pass in
+    c.denied-in-Err-upgrade.ensures.settled
+    (only-worn c.args.second.pid c.args.second.word c.in-Err-upgrade.deny x d.denied.kind (locked-alone c.args.first.pid up.frame up.version up.dirty v x l k.alone) k.free.1
+    (locked-word c.args.first.pid up.frame up.version up.dirty v x l k.alone c.args.second.pid c.requires.apart ∙ k.words.1) d.worn d.sure)

@@ -1,13 +1,17 @@
-use Rattle.std.proofs.Common.{◌∙◌, ◌++◌, ◌+◌, refl, arith}
+use Rattle.std.proofs.Common.{◌<◌, ◌≤◌, ◌∙◌, ◌++◌, ◌+◌, refl, arith, ⊎_elim}
 use Rattle.vm_guard.specs.declared.given.Fresh.TheVariants as freshes
 use Rattle.vm_step.specs.Passes.{view}
 use Rattle.vm_exmap.proofs.Handing.{held-on, held-rest, held-swap}
-use Rattle.vm_tree_write.specs.declared.tries.TrySplit.TheVariants as tries
+use Rattle.vm_tree_write.specs.Tries.IsUnsplit.{short, unclaimed, unlocked}
 use Rattle.vm_tree_write.proofs.Framing.{freed-keeps, fresh-beside, keeps-then}
 use Rattle.vm_tree_write.proofs.GivingUp.{locks-frames, locks-out, locks-start, none-ended, none-frames, none-kept, none-lost, none-out}
-use Rattle.vm_tree_write.proofs.Losing.{fresh-loses, freed-loses, loses-same, loses-swap, loses-then}
-use Rattle.vm_tree_write.proofs.Refusing.{none-given, unsplit-within}
+use Rattle.vm_tree_read.proofs.Losing.{freed-loses, loses-same, loses-swap, loses-then}
+use Rattle.vm_tree_write.proofs.Losing.{fresh-loses}
+use Rattle.vm_tree_write.proofs.Refusing.{none-given}
 use Rattle.vm_tree_write.proofs.Under.{reading-moved}
+use Rattle.std.proofs.lemmas.Bool.{cases_lt}
+use Rattle.vm_guard.specs.Sure.{known_next}
+use Rattle.vm_tree_write.proofs.Settling.{both-alone, both-moved, may-be-tried}
 use Rattle.vm_tree_write.proofs.prepare.prepare.Goals as goal
 
 pub lock_two-requires-clause-first : goal.lock_two-requires-clause-first
@@ -33,7 +37,8 @@ returns-in-Err-lock_two-clause-err g c =
     let freed = freed-keeps _ _ _ _ y w c.free.ensures.freed in (
       c.free.ensures.held,
       keeps-then v y w (keeps-then v x y c.in-Ok.ensures.keeps k.0) freed,
-      unsplit-within c.args.n c.args.first c.args.second c.in-Err-lock_two.answer v x y w c.in-Ok.ensures.keeps.log freed.log (k.2 c.args.n),
+      unlocked k.2.0
+          (record { asked = x; done = c.in-Ok.ensures.moves.0; moves = c.in-Ok.ensures.moves.1; back = y; denied = k.2.1; freed = c.free.ensures.freed.back.done; frees = c.free.ensures.freed.back.moves }) k.2.2,
     )
 
 pub fresh-requires-clause-frames : goal.fresh-requires-clause-frames
@@ -77,99 +82,150 @@ returns-in-Pages-clause-ok g c =
 
 pub give_up-requires-clause-held : goal.give_up-requires-clause-held
 give_up-requires-clause-held g c =
-    let none = none-given c.args.n c.in-Ok.frames c.fresh.new.frames (freshes.Again c.in-Again.saw) (tries.Again c.in-Again.saw) (view c.lock_two.new.pass) (view c.fresh.new.pass) c.in-Again.ensures.answer refl in
-    (none-kept c.args.first c.args.second c.in-Ok-lock_two.locks.up c.in-Ok-lock_two.locks.low (view c.frames_for.new.pass) (view c.lock_two.new.pass) c.in-Ok-lock_two.ensures.ok c.requires.apart c.args.n c.in-Ok.frames c.fresh.new.frames (tries.Again c.in-Again.saw) (view c.fresh.new.pass) none).held
+    let none = none-given c.args.n c.in-Ok.frames c.fresh.new.frames (freshes.Again c.in-Again.saw) (view c.lock_two.new.pass) (view c.fresh.new.pass) c.in-Again.ensures.answer tt in
+    (none-kept c.args.first c.args.second c.in-Ok-lock_two.locks.up c.in-Ok-lock_two.locks.low (view c.frames_for.new.pass) (view c.lock_two.new.pass) c.in-Ok-lock_two.ensures.ok c.requires.apart c.in-Ok.frames c.fresh.new.frames (view c.fresh.new.pass) none).held
 
 pub give_up-requires-clause-same : goal.give_up-requires-clause-same
 give_up-requires-clause-same g c =
-    let none = none-given c.args.n c.in-Ok.frames c.fresh.new.frames (freshes.Again c.in-Again.saw) (tries.Again c.in-Again.saw) (view c.lock_two.new.pass) (view c.fresh.new.pass) c.in-Again.ensures.answer refl in
-    (none-kept c.args.first c.args.second c.in-Ok-lock_two.locks.up c.in-Ok-lock_two.locks.low (view c.frames_for.new.pass) (view c.lock_two.new.pass) c.in-Ok-lock_two.ensures.ok c.requires.apart c.args.n c.in-Ok.frames c.fresh.new.frames (tries.Again c.in-Again.saw) (view c.fresh.new.pass) none).same
+    let none = none-given c.args.n c.in-Ok.frames c.fresh.new.frames (freshes.Again c.in-Again.saw) (view c.lock_two.new.pass) (view c.fresh.new.pass) c.in-Again.ensures.answer tt in
+    (none-kept c.args.first c.args.second c.in-Ok-lock_two.locks.up c.in-Ok-lock_two.locks.low (view c.frames_for.new.pass) (view c.lock_two.new.pass) c.in-Ok-lock_two.ensures.ok c.requires.apart c.in-Ok.frames c.fresh.new.frames (view c.fresh.new.pass) none).same
 
 pub give_up-requires-clause-unpaid : goal.give_up-requires-clause-unpaid
 give_up-requires-clause-unpaid g c =
-    let none = none-given c.args.n c.in-Ok.frames c.fresh.new.frames (freshes.Again c.in-Again.saw) (tries.Again c.in-Again.saw) (view c.lock_two.new.pass) (view c.fresh.new.pass) c.in-Again.ensures.answer refl in
-    (none-kept c.args.first c.args.second c.in-Ok-lock_two.locks.up c.in-Ok-lock_two.locks.low (view c.frames_for.new.pass) (view c.lock_two.new.pass) c.in-Ok-lock_two.ensures.ok c.requires.apart c.args.n c.in-Ok.frames c.fresh.new.frames (tries.Again c.in-Again.saw) (view c.fresh.new.pass) none).unpaid
+    let none = none-given c.args.n c.in-Ok.frames c.fresh.new.frames (freshes.Again c.in-Again.saw) (view c.lock_two.new.pass) (view c.fresh.new.pass) c.in-Again.ensures.answer tt in
+    (none-kept c.args.first c.args.second c.in-Ok-lock_two.locks.up c.in-Ok-lock_two.locks.low (view c.frames_for.new.pass) (view c.lock_two.new.pass) c.in-Ok-lock_two.ensures.ok c.requires.apart c.in-Ok.frames c.fresh.new.frames (view c.fresh.new.pass) none).unpaid
 
 pub give_up-requires-clause-home : goal.give_up-requires-clause-home
 give_up-requires-clause-home g c =
-    let none = none-given c.args.n c.in-Ok.frames c.fresh.new.frames (freshes.Again c.in-Again.saw) (tries.Again c.in-Again.saw) (view c.lock_two.new.pass) (view c.fresh.new.pass) c.in-Again.ensures.answer refl in
-    none-out c.args.first c.args.second c.in-Ok-lock_two.locks.up c.in-Ok-lock_two.locks.low (view c.frames_for.new.pass) (view c.lock_two.new.pass) c.in-Ok-lock_two.ensures.ok c.requires.apart c.args.n c.in-Ok.frames c.fresh.new.frames (tries.Again c.in-Again.saw) (view c.fresh.new.pass) none ∙ c.in-Ok.ensures.moves.1.out ∙ c.requires.home
+    let none = none-given c.args.n c.in-Ok.frames c.fresh.new.frames (freshes.Again c.in-Again.saw) (view c.lock_two.new.pass) (view c.fresh.new.pass) c.in-Again.ensures.answer tt in
+    none-out c.args.first c.args.second c.in-Ok-lock_two.locks.up c.in-Ok-lock_two.locks.low (view c.frames_for.new.pass) (view c.lock_two.new.pass) c.in-Ok-lock_two.ensures.ok c.requires.apart c.in-Ok.frames c.fresh.new.frames (view c.fresh.new.pass) none ∙ c.in-Ok.ensures.moves.1.out ∙ c.requires.home
 
 pub give_up-requires-clause-frames : goal.give_up-requires-clause-frames
 give_up-requires-clause-frames g c =
-    let none = none-given c.args.n c.in-Ok.frames c.fresh.new.frames (freshes.Again c.in-Again.saw) (tries.Again c.in-Again.saw) (view c.lock_two.new.pass) (view c.fresh.new.pass) c.in-Again.ensures.answer refl in
-    none-frames c.args.first c.args.second c.in-Ok-lock_two.locks.up c.in-Ok-lock_two.locks.low (view c.frames_for.new.pass) (view c.lock_two.new.pass) c.in-Ok-lock_two.ensures.ok c.requires.apart c.args.n c.in-Ok.frames c.fresh.new.frames (tries.Again c.in-Again.saw) (view c.fresh.new.pass) none c.frames_for.new.iface.frames c.in-Ok.ensures.ok.1
+    let none = none-given c.args.n c.in-Ok.frames c.fresh.new.frames (freshes.Again c.in-Again.saw) (view c.lock_two.new.pass) (view c.fresh.new.pass) c.in-Again.ensures.answer tt in
+    none-frames c.args.first c.args.second c.in-Ok-lock_two.locks.up c.in-Ok-lock_two.locks.low (view c.frames_for.new.pass) (view c.lock_two.new.pass) c.in-Ok-lock_two.ensures.ok c.requires.apart c.in-Ok.frames c.fresh.new.frames (view c.fresh.new.pass) none c.frames_for.new.iface.frames c.in-Ok.ensures.ok.1
 
 pub returns-in-Again-clause-err : goal.returns-in-Again-clause-err
 returns-in-Again-clause-err g c =
-    let none = none-given c.args.n c.in-Ok.frames c.fresh.new.frames (freshes.Again c.in-Again.saw) (tries.Again c.in-Again.saw) (view c.lock_two.new.pass) (view c.fresh.new.pass) c.in-Again.ensures.answer refl in
-    let k = none-ended c.args.first c.args.second c.in-Ok-lock_two.locks.up c.in-Ok-lock_two.locks.low (view c.frames_for.new.pass) (view c.lock_two.new.pass) c.in-Ok-lock_two.ensures.ok c.requires.apart c.args.n c.in-Ok.frames c.fresh.new.frames (tries.Again c.in-Again.saw) (view c.fresh.new.pass) none (view c.args.pass.now) (view c.give_up.new.pass) c.in-Ok.ensures.keeps c.give_up.ensures.done in
-    (c.give_up.ensures.held, k.0, k.1)
+    let none = none-given c.args.n c.in-Ok.frames c.fresh.new.frames (freshes.Again c.in-Again.saw) (view c.lock_two.new.pass) (view c.fresh.new.pass) c.in-Again.ensures.answer tt in
+    let k = none-ended c.args.first c.args.second c.in-Ok-lock_two.locks.up c.in-Ok-lock_two.locks.low (view c.frames_for.new.pass) (view c.lock_two.new.pass) c.in-Ok-lock_two.ensures.ok c.requires.apart c.in-Ok.frames c.fresh.new.frames (view c.fresh.new.pass) none (view c.args.pass.now) (view c.give_up.new.pass) c.in-Ok.ensures.keeps c.give_up.ensures.done in (
+      c.give_up.ensures.held,
+      k,
+      unclaimed (freshes.Again c.in-Again.saw)
+          (record {
+            asked = view c.frames_for.new.pass;
+            done = c.in-Ok.ensures.moves.0;
+            moves = c.in-Ok.ensures.moves.1;
+            up = c.in-Ok-lock_two.locks.up;
+            low = c.in-Ok-lock_two.locks.low;
+            locked = view c.lock_two.new.pass;
+            locks = c.in-Ok-lock_two.ensures.ok;
+            before = c.in-Ok.frames;
+            after = c.fresh.new.frames;
+            refused = view c.fresh.new.pass;
+            fresh = c.in-Again.ensures.answer;
+            back = c.give_up.ensures.done;
+          }) refl,
+    )
 
 pub give_up-requires-in-Worn-clause-held : goal.give_up-requires-in-Worn-clause-held
 give_up-requires-in-Worn-clause-held g c =
-    let none = none-given c.args.n c.in-Ok.frames c.fresh.new.frames (freshes.Worn c.in-Worn.pid) (tries.Worn c.in-Worn.pid) (view c.lock_two.new.pass) (view c.fresh.new.pass) c.in-Worn.ensures.answer refl in
-    (none-kept c.args.first c.args.second c.in-Ok-lock_two.locks.up c.in-Ok-lock_two.locks.low (view c.frames_for.new.pass) (view c.lock_two.new.pass) c.in-Ok-lock_two.ensures.ok c.requires.apart c.args.n c.in-Ok.frames c.fresh.new.frames (tries.Worn c.in-Worn.pid) (view c.fresh.new.pass) none).held
+    let none = none-given c.args.n c.in-Ok.frames c.fresh.new.frames (freshes.Worn c.in-Worn.pid) (view c.lock_two.new.pass) (view c.fresh.new.pass) c.in-Worn.ensures.answer tt in
+    (none-kept c.args.first c.args.second c.in-Ok-lock_two.locks.up c.in-Ok-lock_two.locks.low (view c.frames_for.new.pass) (view c.lock_two.new.pass) c.in-Ok-lock_two.ensures.ok c.requires.apart c.in-Ok.frames c.fresh.new.frames (view c.fresh.new.pass) none).held
 
 pub give_up-requires-in-Worn-clause-same : goal.give_up-requires-in-Worn-clause-same
 give_up-requires-in-Worn-clause-same g c =
-    let none = none-given c.args.n c.in-Ok.frames c.fresh.new.frames (freshes.Worn c.in-Worn.pid) (tries.Worn c.in-Worn.pid) (view c.lock_two.new.pass) (view c.fresh.new.pass) c.in-Worn.ensures.answer refl in
-    (none-kept c.args.first c.args.second c.in-Ok-lock_two.locks.up c.in-Ok-lock_two.locks.low (view c.frames_for.new.pass) (view c.lock_two.new.pass) c.in-Ok-lock_two.ensures.ok c.requires.apart c.args.n c.in-Ok.frames c.fresh.new.frames (tries.Worn c.in-Worn.pid) (view c.fresh.new.pass) none).same
+    let none = none-given c.args.n c.in-Ok.frames c.fresh.new.frames (freshes.Worn c.in-Worn.pid) (view c.lock_two.new.pass) (view c.fresh.new.pass) c.in-Worn.ensures.answer tt in
+    (none-kept c.args.first c.args.second c.in-Ok-lock_two.locks.up c.in-Ok-lock_two.locks.low (view c.frames_for.new.pass) (view c.lock_two.new.pass) c.in-Ok-lock_two.ensures.ok c.requires.apart c.in-Ok.frames c.fresh.new.frames (view c.fresh.new.pass) none).same
 
 pub give_up-requires-in-Worn-clause-unpaid : goal.give_up-requires-in-Worn-clause-unpaid
 give_up-requires-in-Worn-clause-unpaid g c =
-    let none = none-given c.args.n c.in-Ok.frames c.fresh.new.frames (freshes.Worn c.in-Worn.pid) (tries.Worn c.in-Worn.pid) (view c.lock_two.new.pass) (view c.fresh.new.pass) c.in-Worn.ensures.answer refl in
-    (none-kept c.args.first c.args.second c.in-Ok-lock_two.locks.up c.in-Ok-lock_two.locks.low (view c.frames_for.new.pass) (view c.lock_two.new.pass) c.in-Ok-lock_two.ensures.ok c.requires.apart c.args.n c.in-Ok.frames c.fresh.new.frames (tries.Worn c.in-Worn.pid) (view c.fresh.new.pass) none).unpaid
+    let none = none-given c.args.n c.in-Ok.frames c.fresh.new.frames (freshes.Worn c.in-Worn.pid) (view c.lock_two.new.pass) (view c.fresh.new.pass) c.in-Worn.ensures.answer tt in
+    (none-kept c.args.first c.args.second c.in-Ok-lock_two.locks.up c.in-Ok-lock_two.locks.low (view c.frames_for.new.pass) (view c.lock_two.new.pass) c.in-Ok-lock_two.ensures.ok c.requires.apart c.in-Ok.frames c.fresh.new.frames (view c.fresh.new.pass) none).unpaid
 
 pub give_up-requires-in-Worn-clause-home : goal.give_up-requires-in-Worn-clause-home
 give_up-requires-in-Worn-clause-home g c =
-    let none = none-given c.args.n c.in-Ok.frames c.fresh.new.frames (freshes.Worn c.in-Worn.pid) (tries.Worn c.in-Worn.pid) (view c.lock_two.new.pass) (view c.fresh.new.pass) c.in-Worn.ensures.answer refl in
-    none-out c.args.first c.args.second c.in-Ok-lock_two.locks.up c.in-Ok-lock_two.locks.low (view c.frames_for.new.pass) (view c.lock_two.new.pass) c.in-Ok-lock_two.ensures.ok c.requires.apart c.args.n c.in-Ok.frames c.fresh.new.frames (tries.Worn c.in-Worn.pid) (view c.fresh.new.pass) none ∙ c.in-Ok.ensures.moves.1.out ∙ c.requires.home
+    let none = none-given c.args.n c.in-Ok.frames c.fresh.new.frames (freshes.Worn c.in-Worn.pid) (view c.lock_two.new.pass) (view c.fresh.new.pass) c.in-Worn.ensures.answer tt in
+    none-out c.args.first c.args.second c.in-Ok-lock_two.locks.up c.in-Ok-lock_two.locks.low (view c.frames_for.new.pass) (view c.lock_two.new.pass) c.in-Ok-lock_two.ensures.ok c.requires.apart c.in-Ok.frames c.fresh.new.frames (view c.fresh.new.pass) none ∙ c.in-Ok.ensures.moves.1.out ∙ c.requires.home
 
 pub give_up-requires-in-Worn-clause-frames : goal.give_up-requires-in-Worn-clause-frames
 give_up-requires-in-Worn-clause-frames g c =
-    let none = none-given c.args.n c.in-Ok.frames c.fresh.new.frames (freshes.Worn c.in-Worn.pid) (tries.Worn c.in-Worn.pid) (view c.lock_two.new.pass) (view c.fresh.new.pass) c.in-Worn.ensures.answer refl in
-    none-frames c.args.first c.args.second c.in-Ok-lock_two.locks.up c.in-Ok-lock_two.locks.low (view c.frames_for.new.pass) (view c.lock_two.new.pass) c.in-Ok-lock_two.ensures.ok c.requires.apart c.args.n c.in-Ok.frames c.fresh.new.frames (tries.Worn c.in-Worn.pid) (view c.fresh.new.pass) none c.frames_for.new.iface.frames c.in-Ok.ensures.ok.1
+    let none = none-given c.args.n c.in-Ok.frames c.fresh.new.frames (freshes.Worn c.in-Worn.pid) (view c.lock_two.new.pass) (view c.fresh.new.pass) c.in-Worn.ensures.answer tt in
+    none-frames c.args.first c.args.second c.in-Ok-lock_two.locks.up c.in-Ok-lock_two.locks.low (view c.frames_for.new.pass) (view c.lock_two.new.pass) c.in-Ok-lock_two.ensures.ok c.requires.apart c.in-Ok.frames c.fresh.new.frames (view c.fresh.new.pass) none c.frames_for.new.iface.frames c.in-Ok.ensures.ok.1
 
 pub returns-in-Worn-clause-err : goal.returns-in-Worn-clause-err
 returns-in-Worn-clause-err g c =
-    let none = none-given c.args.n c.in-Ok.frames c.fresh.new.frames (freshes.Worn c.in-Worn.pid) (tries.Worn c.in-Worn.pid) (view c.lock_two.new.pass) (view c.fresh.new.pass) c.in-Worn.ensures.answer refl in
-    let k = none-ended c.args.first c.args.second c.in-Ok-lock_two.locks.up c.in-Ok-lock_two.locks.low (view c.frames_for.new.pass) (view c.lock_two.new.pass) c.in-Ok-lock_two.ensures.ok c.requires.apart c.args.n c.in-Ok.frames c.fresh.new.frames (tries.Worn c.in-Worn.pid) (view c.fresh.new.pass) none (view c.args.pass.now) (view c.give_up-in-Worn.new.pass) c.in-Ok.ensures.keeps c.give_up-in-Worn.ensures.done in
-    (c.give_up-in-Worn.ensures.held, k.0, k.1)
+    let none = none-given c.args.n c.in-Ok.frames c.fresh.new.frames (freshes.Worn c.in-Worn.pid) (view c.lock_two.new.pass) (view c.fresh.new.pass) c.in-Worn.ensures.answer tt in
+    let k = none-ended c.args.first c.args.second c.in-Ok-lock_two.locks.up c.in-Ok-lock_two.locks.low (view c.frames_for.new.pass) (view c.lock_two.new.pass) c.in-Ok-lock_two.ensures.ok c.requires.apart c.in-Ok.frames c.fresh.new.frames (view c.fresh.new.pass) none (view c.args.pass.now) (view c.give_up-in-Worn.new.pass) c.in-Ok.ensures.keeps c.give_up-in-Worn.ensures.done in (
+      c.give_up-in-Worn.ensures.held,
+      k,
+      unclaimed (freshes.Worn c.in-Worn.pid)
+          (record {
+            asked = view c.frames_for.new.pass;
+            done = c.in-Ok.ensures.moves.0;
+            moves = c.in-Ok.ensures.moves.1;
+            up = c.in-Ok-lock_two.locks.up;
+            low = c.in-Ok-lock_two.locks.low;
+            locked = view c.lock_two.new.pass;
+            locks = c.in-Ok-lock_two.ensures.ok;
+            before = c.in-Ok.frames;
+            after = c.fresh.new.frames;
+            refused = view c.fresh.new.pass;
+            fresh = c.in-Worn.ensures.answer;
+            back = c.give_up-in-Worn.ensures.done;
+          }) refl,
+    )
 
 pub give_up-requires-in-Full-clause-held : goal.give_up-requires-in-Full-clause-held
 give_up-requires-in-Full-clause-held g c =
-    let none = none-given c.args.n c.in-Ok.frames c.fresh.new.frames (freshes.Full c.in-Full.pages c.in-Full.next c.in-Full.need) (tries.Full c.in-Full.pages c.in-Full.next c.in-Full.need) (view c.lock_two.new.pass) (view c.fresh.new.pass) c.in-Full.ensures.answer refl in
-    (none-kept c.args.first c.args.second c.in-Ok-lock_two.locks.up c.in-Ok-lock_two.locks.low (view c.frames_for.new.pass) (view c.lock_two.new.pass) c.in-Ok-lock_two.ensures.ok c.requires.apart c.args.n c.in-Ok.frames c.fresh.new.frames (tries.Full c.in-Full.pages c.in-Full.next c.in-Full.need) (view c.fresh.new.pass) none).held
+    let none = none-given c.args.n c.in-Ok.frames c.fresh.new.frames (freshes.Full c.in-Full.pages c.in-Full.next c.in-Full.need) (view c.lock_two.new.pass) (view c.fresh.new.pass) c.in-Full.ensures.answer tt in
+    (none-kept c.args.first c.args.second c.in-Ok-lock_two.locks.up c.in-Ok-lock_two.locks.low (view c.frames_for.new.pass) (view c.lock_two.new.pass) c.in-Ok-lock_two.ensures.ok c.requires.apart c.in-Ok.frames c.fresh.new.frames (view c.fresh.new.pass) none).held
 
 pub give_up-requires-in-Full-clause-same : goal.give_up-requires-in-Full-clause-same
 give_up-requires-in-Full-clause-same g c =
-    let none = none-given c.args.n c.in-Ok.frames c.fresh.new.frames (freshes.Full c.in-Full.pages c.in-Full.next c.in-Full.need) (tries.Full c.in-Full.pages c.in-Full.next c.in-Full.need) (view c.lock_two.new.pass) (view c.fresh.new.pass) c.in-Full.ensures.answer refl in
-    (none-kept c.args.first c.args.second c.in-Ok-lock_two.locks.up c.in-Ok-lock_two.locks.low (view c.frames_for.new.pass) (view c.lock_two.new.pass) c.in-Ok-lock_two.ensures.ok c.requires.apart c.args.n c.in-Ok.frames c.fresh.new.frames (tries.Full c.in-Full.pages c.in-Full.next c.in-Full.need) (view c.fresh.new.pass) none).same
+    let none = none-given c.args.n c.in-Ok.frames c.fresh.new.frames (freshes.Full c.in-Full.pages c.in-Full.next c.in-Full.need) (view c.lock_two.new.pass) (view c.fresh.new.pass) c.in-Full.ensures.answer tt in
+    (none-kept c.args.first c.args.second c.in-Ok-lock_two.locks.up c.in-Ok-lock_two.locks.low (view c.frames_for.new.pass) (view c.lock_two.new.pass) c.in-Ok-lock_two.ensures.ok c.requires.apart c.in-Ok.frames c.fresh.new.frames (view c.fresh.new.pass) none).same
 
 pub give_up-requires-in-Full-clause-unpaid : goal.give_up-requires-in-Full-clause-unpaid
 give_up-requires-in-Full-clause-unpaid g c =
-    let none = none-given c.args.n c.in-Ok.frames c.fresh.new.frames (freshes.Full c.in-Full.pages c.in-Full.next c.in-Full.need) (tries.Full c.in-Full.pages c.in-Full.next c.in-Full.need) (view c.lock_two.new.pass) (view c.fresh.new.pass) c.in-Full.ensures.answer refl in
-    (none-kept c.args.first c.args.second c.in-Ok-lock_two.locks.up c.in-Ok-lock_two.locks.low (view c.frames_for.new.pass) (view c.lock_two.new.pass) c.in-Ok-lock_two.ensures.ok c.requires.apart c.args.n c.in-Ok.frames c.fresh.new.frames (tries.Full c.in-Full.pages c.in-Full.next c.in-Full.need) (view c.fresh.new.pass) none).unpaid
+    let none = none-given c.args.n c.in-Ok.frames c.fresh.new.frames (freshes.Full c.in-Full.pages c.in-Full.next c.in-Full.need) (view c.lock_two.new.pass) (view c.fresh.new.pass) c.in-Full.ensures.answer tt in
+    (none-kept c.args.first c.args.second c.in-Ok-lock_two.locks.up c.in-Ok-lock_two.locks.low (view c.frames_for.new.pass) (view c.lock_two.new.pass) c.in-Ok-lock_two.ensures.ok c.requires.apart c.in-Ok.frames c.fresh.new.frames (view c.fresh.new.pass) none).unpaid
 
 pub give_up-requires-in-Full-clause-home : goal.give_up-requires-in-Full-clause-home
 give_up-requires-in-Full-clause-home g c =
-    let none = none-given c.args.n c.in-Ok.frames c.fresh.new.frames (freshes.Full c.in-Full.pages c.in-Full.next c.in-Full.need) (tries.Full c.in-Full.pages c.in-Full.next c.in-Full.need) (view c.lock_two.new.pass) (view c.fresh.new.pass) c.in-Full.ensures.answer refl in
-    none-out c.args.first c.args.second c.in-Ok-lock_two.locks.up c.in-Ok-lock_two.locks.low (view c.frames_for.new.pass) (view c.lock_two.new.pass) c.in-Ok-lock_two.ensures.ok c.requires.apart c.args.n c.in-Ok.frames c.fresh.new.frames (tries.Full c.in-Full.pages c.in-Full.next c.in-Full.need) (view c.fresh.new.pass) none ∙ c.in-Ok.ensures.moves.1.out ∙ c.requires.home
+    let none = none-given c.args.n c.in-Ok.frames c.fresh.new.frames (freshes.Full c.in-Full.pages c.in-Full.next c.in-Full.need) (view c.lock_two.new.pass) (view c.fresh.new.pass) c.in-Full.ensures.answer tt in
+    none-out c.args.first c.args.second c.in-Ok-lock_two.locks.up c.in-Ok-lock_two.locks.low (view c.frames_for.new.pass) (view c.lock_two.new.pass) c.in-Ok-lock_two.ensures.ok c.requires.apart c.in-Ok.frames c.fresh.new.frames (view c.fresh.new.pass) none ∙ c.in-Ok.ensures.moves.1.out ∙ c.requires.home
 
 pub give_up-requires-in-Full-clause-frames : goal.give_up-requires-in-Full-clause-frames
 give_up-requires-in-Full-clause-frames g c =
-    let none = none-given c.args.n c.in-Ok.frames c.fresh.new.frames (freshes.Full c.in-Full.pages c.in-Full.next c.in-Full.need) (tries.Full c.in-Full.pages c.in-Full.next c.in-Full.need) (view c.lock_two.new.pass) (view c.fresh.new.pass) c.in-Full.ensures.answer refl in
-    none-frames c.args.first c.args.second c.in-Ok-lock_two.locks.up c.in-Ok-lock_two.locks.low (view c.frames_for.new.pass) (view c.lock_two.new.pass) c.in-Ok-lock_two.ensures.ok c.requires.apart c.args.n c.in-Ok.frames c.fresh.new.frames (tries.Full c.in-Full.pages c.in-Full.next c.in-Full.need) (view c.fresh.new.pass) none c.frames_for.new.iface.frames c.in-Ok.ensures.ok.1
+    let none = none-given c.args.n c.in-Ok.frames c.fresh.new.frames (freshes.Full c.in-Full.pages c.in-Full.next c.in-Full.need) (view c.lock_two.new.pass) (view c.fresh.new.pass) c.in-Full.ensures.answer tt in
+    none-frames c.args.first c.args.second c.in-Ok-lock_two.locks.up c.in-Ok-lock_two.locks.low (view c.frames_for.new.pass) (view c.lock_two.new.pass) c.in-Ok-lock_two.ensures.ok c.requires.apart c.in-Ok.frames c.fresh.new.frames (view c.fresh.new.pass) none c.frames_for.new.iface.frames c.in-Ok.ensures.ok.1
 
 pub returns-in-Full-clause-err : goal.returns-in-Full-clause-err
 returns-in-Full-clause-err g c =
-    let none = none-given c.args.n c.in-Ok.frames c.fresh.new.frames (freshes.Full c.in-Full.pages c.in-Full.next c.in-Full.need) (tries.Full c.in-Full.pages c.in-Full.next c.in-Full.need) (view c.lock_two.new.pass) (view c.fresh.new.pass) c.in-Full.ensures.answer refl in
-    let k = none-ended c.args.first c.args.second c.in-Ok-lock_two.locks.up c.in-Ok-lock_two.locks.low (view c.frames_for.new.pass) (view c.lock_two.new.pass) c.in-Ok-lock_two.ensures.ok c.requires.apart c.args.n c.in-Ok.frames c.fresh.new.frames (tries.Full c.in-Full.pages c.in-Full.next c.in-Full.need) (view c.fresh.new.pass) none (view c.args.pass.now) (view c.give_up-in-Full.new.pass) c.in-Ok.ensures.keeps c.give_up-in-Full.ensures.done in
-    (c.give_up-in-Full.ensures.held, k.0, k.1)
+    let none = none-given c.args.n c.in-Ok.frames c.fresh.new.frames (freshes.Full c.in-Full.pages c.in-Full.next c.in-Full.need) (view c.lock_two.new.pass) (view c.fresh.new.pass) c.in-Full.ensures.answer tt in
+    let k = none-ended c.args.first c.args.second c.in-Ok-lock_two.locks.up c.in-Ok-lock_two.locks.low (view c.frames_for.new.pass) (view c.lock_two.new.pass) c.in-Ok-lock_two.ensures.ok c.requires.apart c.in-Ok.frames c.fresh.new.frames (view c.fresh.new.pass) none (view c.args.pass.now) (view c.give_up-in-Full.new.pass) c.in-Ok.ensures.keeps c.give_up-in-Full.ensures.done in (
+      c.give_up-in-Full.ensures.held,
+      k,
+      unclaimed (freshes.Full c.in-Full.pages c.in-Full.next c.in-Full.need)
+          (record {
+            asked = view c.frames_for.new.pass;
+            done = c.in-Ok.ensures.moves.0;
+            moves = c.in-Ok.ensures.moves.1;
+            up = c.in-Ok-lock_two.locks.up;
+            low = c.in-Ok-lock_two.locks.low;
+            locked = view c.lock_two.new.pass;
+            locks = c.in-Ok-lock_two.ensures.ok;
+            before = c.in-Ok.frames;
+            after = c.fresh.new.frames;
+            refused = view c.fresh.new.pass;
+            fresh = c.in-Full.ensures.answer;
+            back = c.give_up-in-Full.ensures.done;
+          }) refl,
+    )
 
 pub returns-in-Err-clause-err : goal.returns-in-Err-clause-err
-returns-in-Err-clause-err g c = (c.in-Err.ensures.err.0, c.in-Err.ensures.keeps, c.in-Err.ensures.err.1 c.args.n c.args.first c.args.second)
+returns-in-Err-clause-err g c = let k = c.in-Err.ensures.err.1 in (c.in-Err.ensures.err.0, c.in-Err.ensures.keeps, short k.0 k.1 k.2)
 
 pub returns-in-Err-clause-lost_none : goal.returns-in-Err-clause-lost_none
 returns-in-Err-clause-lost_none g c = c.in-Err.ensures.lost_none
@@ -196,24 +252,49 @@ returns-in-Pages-clause-lost g c =
 
 pub returns-in-Again-clause-lost_none : goal.returns-in-Again-clause-lost_none
 returns-in-Again-clause-lost_none g c =
-    let none = none-given c.args.n c.in-Ok.frames c.fresh.new.frames (freshes.Again c.in-Again.saw) (tries.Again c.in-Again.saw) (view c.lock_two.new.pass) (view c.fresh.new.pass) c.in-Again.ensures.answer refl in
+    let none = none-given c.args.n c.in-Ok.frames c.fresh.new.frames (freshes.Again c.in-Again.saw) (view c.lock_two.new.pass) (view c.fresh.new.pass) c.in-Again.ensures.answer tt in
     let own = c.frames_for.new.iface.frames in
     let end = c.give_up.new.iface.frames in
     loses-then c.args.iface.now.frames (c.in-Ok.frames ++ own) end (view c.args.pass.now) (view c.frames_for.new.pass) (view c.give_up.new.pass) c.in-Ok.ensures.lost
-    (loses-then (c.in-Ok.frames ++ own) (own ++ c.fresh.new.frames) end (view c.frames_for.new.pass) (view c.fresh.new.pass) (view c.give_up.new.pass) (none-lost c.args.first c.args.second c.in-Ok-lock_two.locks.up c.in-Ok-lock_two.locks.low (view c.frames_for.new.pass) (view c.lock_two.new.pass) c.in-Ok-lock_two.ensures.ok c.requires.apart c.args.n c.in-Ok.frames c.fresh.new.frames (tries.Again c.in-Again.saw) (view c.fresh.new.pass) none own) c.give_up.ensures.lost)
+    (loses-then (c.in-Ok.frames ++ own) (own ++ c.fresh.new.frames) end (view c.frames_for.new.pass) (view c.fresh.new.pass) (view c.give_up.new.pass) (none-lost c.args.first c.args.second c.in-Ok-lock_two.locks.up c.in-Ok-lock_two.locks.low (view c.frames_for.new.pass) (view c.lock_two.new.pass) c.in-Ok-lock_two.ensures.ok c.requires.apart c.in-Ok.frames c.fresh.new.frames (view c.fresh.new.pass) none own) c.give_up.ensures.lost)
 
 pub returns-in-Worn-clause-lost_none : goal.returns-in-Worn-clause-lost_none
 returns-in-Worn-clause-lost_none g c =
-    let none = none-given c.args.n c.in-Ok.frames c.fresh.new.frames (freshes.Worn c.in-Worn.pid) (tries.Worn c.in-Worn.pid) (view c.lock_two.new.pass) (view c.fresh.new.pass) c.in-Worn.ensures.answer refl in
+    let none = none-given c.args.n c.in-Ok.frames c.fresh.new.frames (freshes.Worn c.in-Worn.pid) (view c.lock_two.new.pass) (view c.fresh.new.pass) c.in-Worn.ensures.answer tt in
     let own = c.frames_for.new.iface.frames in
     let end = c.give_up-in-Worn.new.iface.frames in
     loses-then c.args.iface.now.frames (c.in-Ok.frames ++ own) end (view c.args.pass.now) (view c.frames_for.new.pass) (view c.give_up-in-Worn.new.pass) c.in-Ok.ensures.lost
-    (loses-then (c.in-Ok.frames ++ own) (own ++ c.fresh.new.frames) end (view c.frames_for.new.pass) (view c.fresh.new.pass) (view c.give_up-in-Worn.new.pass) (none-lost c.args.first c.args.second c.in-Ok-lock_two.locks.up c.in-Ok-lock_two.locks.low (view c.frames_for.new.pass) (view c.lock_two.new.pass) c.in-Ok-lock_two.ensures.ok c.requires.apart c.args.n c.in-Ok.frames c.fresh.new.frames (tries.Worn c.in-Worn.pid) (view c.fresh.new.pass) none own) c.give_up-in-Worn.ensures.lost)
+    (loses-then (c.in-Ok.frames ++ own) (own ++ c.fresh.new.frames) end (view c.frames_for.new.pass) (view c.fresh.new.pass) (view c.give_up-in-Worn.new.pass) (none-lost c.args.first c.args.second c.in-Ok-lock_two.locks.up c.in-Ok-lock_two.locks.low (view c.frames_for.new.pass) (view c.lock_two.new.pass) c.in-Ok-lock_two.ensures.ok c.requires.apart c.in-Ok.frames c.fresh.new.frames (view c.fresh.new.pass) none own) c.give_up-in-Worn.ensures.lost)
 
 pub returns-in-Full-clause-lost_none : goal.returns-in-Full-clause-lost_none
 returns-in-Full-clause-lost_none g c =
-    let none = none-given c.args.n c.in-Ok.frames c.fresh.new.frames (freshes.Full c.in-Full.pages c.in-Full.next c.in-Full.need) (tries.Full c.in-Full.pages c.in-Full.next c.in-Full.need) (view c.lock_two.new.pass) (view c.fresh.new.pass) c.in-Full.ensures.answer refl in
+    let none = none-given c.args.n c.in-Ok.frames c.fresh.new.frames (freshes.Full c.in-Full.pages c.in-Full.next c.in-Full.need) (view c.lock_two.new.pass) (view c.fresh.new.pass) c.in-Full.ensures.answer tt in
     let own = c.frames_for.new.iface.frames in
     let end = c.give_up-in-Full.new.iface.frames in
     loses-then c.args.iface.now.frames (c.in-Ok.frames ++ own) end (view c.args.pass.now) (view c.frames_for.new.pass) (view c.give_up-in-Full.new.pass) c.in-Ok.ensures.lost
-    (loses-then (c.in-Ok.frames ++ own) (own ++ c.fresh.new.frames) end (view c.frames_for.new.pass) (view c.fresh.new.pass) (view c.give_up-in-Full.new.pass) (none-lost c.args.first c.args.second c.in-Ok-lock_two.locks.up c.in-Ok-lock_two.locks.low (view c.frames_for.new.pass) (view c.lock_two.new.pass) c.in-Ok-lock_two.ensures.ok c.requires.apart c.args.n c.in-Ok.frames c.fresh.new.frames (tries.Full c.in-Full.pages c.in-Full.next c.in-Full.need) (view c.fresh.new.pass) none own) c.give_up-in-Full.ensures.lost)
+    (loses-then (c.in-Ok.frames ++ own) (own ++ c.fresh.new.frames) end (view c.frames_for.new.pass) (view c.fresh.new.pass) (view c.give_up-in-Full.new.pass) (none-lost c.args.first c.args.second c.in-Ok-lock_two.locks.up c.in-Ok-lock_two.locks.low (view c.frames_for.new.pass) (view c.lock_two.new.pass) c.in-Ok-lock_two.ensures.ok c.requires.apart c.in-Ok.frames c.fresh.new.frames (view c.fresh.new.pass) none own) c.give_up-in-Full.ensures.lost)
+
+-- ---- a pass that knows both pages to be free, and holds nothing
+
+pub returns-in-Err-clause-sure : goal.returns-in-Err-clause-sure
+returns-in-Err-clause-sure g c k = c.in-Err.ensures.sure k.both.alone
+
+pub returns-in-Err-lock_two-clause-sure : goal.returns-in-Err-lock_two-clause-sure
+returns-in-Err-lock_two-clause-sure g c k =
+    let m = c.in-Ok.ensures.moves in
+    c.in-Err-lock_two.ensures.sure (both-moved c.args.first c.args.second m.0 (view c.args.pass.now) (view c.frames_for.new.pass) m.1 c.requires.first.page c.requires.second.page k.both)
+
+pub returns-in-Again-clause-sure : goal.returns-in-Again-clause-sure
+returns-in-Again-clause-sure g c k =
+    let m = c.in-Ok.ensures.moves in
+    let locks = c.in-Ok-lock_two.locks in
+    let v = view c.args.pass.now in
+    let x = view c.frames_for.new.pass in
+    let y = view c.lock_two.new.pass in
+    let l = c.in-Ok-lock_two.ensures.ok in
+    let alone = both-alone c.args.n c.args.first c.args.second locks.up locks.low m.0 v x y m.1 l k in
+    let shape = c.in-Ok-lock_two.ensures.ready.table.is_shape.pages in
+    ⊎_elim
+    (λ (few : y.start.pages < known_next y + c.args.n). c.in-Again.ensures.full alone (omega (arith, few, shape)))
+    (λ (room : known_next y + c.args.n ≤ y.start.pages). c.in-Again.ensures.settled alone (may-be-tried c.args.n c.args.first c.args.second locks.up locks.low m.0 v x y m.1 l k room))
+    (cases_lt y.start.pages (known_next y + c.args.n))

@@ -2,12 +2,12 @@ use Rattle.std.proofs.Common.{ℕ, List, ◌≡◌, ◌∙◌, ◌++◌, ◌+◌
 use Rattle.std.proofs.lemmas.List.{length-append}
 use Rattle.vm_step.specs.HeldFrames.{AreHeld}
 use Rattle.vm_exmap.specs.declared.interface.Alloc.TheVariants as allocs
+use Rattle.vm_exmap.specs.Returns.{IsFreed}
 use Rattle.vm_step.specs.Passes.{view}
-use Rattle.vm_tree_write.specs.Tries.IsUnsplit.{dry, lost}
 use Rattle.vm_tree_write.proofs.Framing.{alloc-beside, alloc-more}
-use Rattle.vm_tree_write.specs.Splits.{LosesNone}
-use Rattle.vm_tree_write.proofs.Losing.{alloc-loses, freed-loses, loses-then, refused-loses}
-use Rattle.vm_tree_write.proofs.Refusing.{asked-alloc}
+use Rattle.vm_tree_read.specs.Waiting.{LosesNone}
+use Rattle.vm_tree_read.proofs.Losing.{alloc-loses, freed-loses, loses-then}
+use Rattle.vm_tree_write.proofs.Losing.{refused-loses}
 use Rattle.vm_tree_write.proofs.prepare.second_frame.Goals as goal
 
 pub returns-in-Batch-clause-moves : goal.returns-in-Batch-clause-moves
@@ -27,20 +27,16 @@ returns-in-Batch-clause-ok g c =
     )
 
 pub returns-in-Dry-clause-err : goal.returns-in-Dry-clause-err
-returns-in-Dry-clause-err g c =
-    let back = c.free.ensures.freed.back in (
-      c.free.ensures.held,
-      λ n a b. dry (asked-alloc c.args.iface.now.home c.args.iface.now.cap 1 c.args.iface.now.frames c.alloc.new.self.frames (view c.args.pass.now) (view c.alloc.new.pass) (view c.free.new.pass) allocs.Dry c.in-Dry.ensures.answer (back.done, back.moves.log)) refl,
-    )
+returns-in-Dry-clause-err g c = (
+  c.free.ensures.held,
+  (allocs.Dry, record { home = c.args.iface.now.home; cap = c.args.iface.now.cap; old = c.args.iface.now.frames; empty = c.alloc.new.self.frames; new = c.free.new.self.frames; between = view c.alloc.new.pass; alloc = c.in-Dry.ensures.answer; freed = subst (λ (n : ℕ). IsFreed n c.alloc.new.self.frames c.args.frames c.free.new.self.frames (view c.alloc.new.pass) (view c.free.new.pass)) c.alloc.ensures.same.1 c.free.ensures.freed }, refl),
+)
 
 pub returns-in-Again-clause-err : goal.returns-in-Again-clause-err
-returns-in-Again-clause-err g c =
-    let back = c.free-in-Again.ensures.freed.back in (
-      c.free-in-Again.ensures.held,
-      λ n a b.
-          lost c.in-Again.saw
-          (asked-alloc c.args.iface.now.home c.args.iface.now.cap 1 c.args.iface.now.frames c.alloc.new.self.frames (view c.args.pass.now) (view c.alloc.new.pass) (view c.free-in-Again.new.pass) (allocs.Again c.in-Again.saw) c.in-Again.ensures.answer (back.done, back.moves.log)) refl,
-    )
+returns-in-Again-clause-err g c = (
+  c.free-in-Again.ensures.held,
+  (allocs.Again c.in-Again.saw, record { home = c.args.iface.now.home; cap = c.args.iface.now.cap; old = c.args.iface.now.frames; empty = c.alloc.new.self.frames; new = c.free-in-Again.new.self.frames; between = view c.alloc.new.pass; alloc = c.in-Again.ensures.answer; freed = subst (λ (n : ℕ). IsFreed n c.alloc.new.self.frames c.args.frames c.free-in-Again.new.self.frames (view c.alloc.new.pass) (view c.free-in-Again.new.pass)) c.alloc.ensures.same.1 c.free-in-Again.ensures.freed }, refl),
+)
 
 pub returns-in-Batch-clause-lost : goal.returns-in-Batch-clause-lost
 returns-in-Batch-clause-lost g c =
@@ -57,3 +53,6 @@ pub returns-in-Again-clause-lost_none : goal.returns-in-Again-clause-lost_none
 returns-in-Again-clause-lost_none g c =
     loses-then (c.args.frames ++ c.args.iface.now.frames) (c.alloc.new.self.frames ++ c.args.frames) c.free-in-Again.new.self.frames (view c.args.pass.now) (view c.alloc.new.pass) (view c.free-in-Again.new.pass)
     (refused-loses c.args.frames c.args.iface.now.frames c.alloc.new.self.frames _ (view c.args.pass.now) (view c.alloc.new.pass) c.in-Again.ensures.answer.refused) (freed-loses _ _ _ _ _ _ c.free-in-Again.ensures.freed)
+
+pub returns-in-Again-clause-sure : goal.returns-in-Again-clause-sure
+returns-in-Again-clause-sure g c alone = c.in-Again.ensures.sure alone

@@ -9,8 +9,8 @@ use Rattle.vm_guard.specs.Guards.{IsHolding, IsSet}
 use Rattle.vm_tree_model.specs.Edits.{IsSplit}
 use Rattle.vm_tree_write.specs.Drafts.{IsRedrafted}
 use Rattle.vm_tree_write.specs.Splits.{HasDraft}
-use Rattle.vm_tree_write.proofs.Splitting.{draft-past, holding-past}
-use Rattle.vm_tree_write.proofs.Rooting.{four-all, four-apart, four-redrafted, four-released, set-two}
+use Rattle.vm_tree_write.proofs.Splitting.{draft-past, holding-past, told-before}
+use Rattle.vm_tree_write.proofs.Rooting.{four-all, four-apart, four-redrafted, four-released, four-stay, set-two}
 use Rattle.vm_tree_write.proofs.split.write_root.Goals as goal
 
 -- page 0 after both words
@@ -36,10 +36,11 @@ redraft-requires-clause-holds g c =
     holding-past _ _ _ _ _ _ _ (λ e. ne.ab (sym e)) c.requires.can.held.1.0 t.0
 
 pub redraft-requires-clause-draft : goal.redraft-requires-clause-draft
-redraft-requires-clause-draft g c =
+redraft-requires-clause-draft g c tells =
     let ne = four-apart _ _ _ _ c.requires.can.apart in
     let t = two c.args.meta c.set.new.self c.args.top.pid (c.args.height + 1) (view c.args.pass.now) (view c.set.new.pass) (view c.set-2.new.pass) c.set.ensures.set c.set.ensures.guard c.set-2.ensures.set c.requires.can.same in
-    (draft-past _ _ _ _ _ _ (λ e. ne.ab (sym e)) c.requires.can.held.1.0.owns c.requires.can.node t.0).draft
+    let to = c.requires.can.told (told-before _ _ _ t.0 tells) in
+    (draft-past _ _ _ _ _ _ (λ e. ne.ab (sym e)) c.requires.can.held.1.0.owns to.node t.0).draft
 
 pub redraft-requires-2-clause-holds : goal.redraft-requires-2-clause-holds
 redraft-requires-2-clause-holds g c =
@@ -48,11 +49,12 @@ redraft-requires-2-clause-holds g c =
     holding-past _ _ _ _ _ _ _ (λ e. ne.bc (sym e)) (holding-past _ _ _ _ _ _ _ (λ e. ne.ac (sym e)) c.requires.can.held.1.1.0 t.0) c.redraft.ensures.redrafted
 
 pub redraft-requires-2-clause-draft : goal.redraft-requires-2-clause-draft
-redraft-requires-2-clause-draft g c =
+redraft-requires-2-clause-draft g c tells =
     let ne = four-apart _ _ _ _ c.requires.can.apart in
     let t = two c.args.meta c.set.new.self c.args.top.pid (c.args.height + 1) (view c.args.pass.now) (view c.set.new.pass) (view c.set-2.new.pass) c.set.ensures.set c.set.ensures.guard c.set-2.ensures.set c.requires.can.same in
     let h = holding-past _ _ _ _ _ _ _ (λ e. ne.ac (sym e)) c.requires.can.held.1.1.0 t.0 in
-    (draft-past _ _ _ _ _ _ (λ e. ne.bc (sym e)) h.owns (draft-past _ _ _ _ _ _ (λ e. ne.ac (sym e)) c.requires.can.held.1.1.0.owns c.requires.can.fresh.0 t.0) c.redraft.ensures.redrafted).draft ∙ sym c.zero-zero.ensures
+    let to = c.requires.can.told (told-before _ _ _ t.0 (told-before _ _ _ c.redraft.ensures.redrafted tells)) in
+    (draft-past _ _ _ _ _ _ (λ e. ne.bc (sym e)) h.owns (draft-past _ _ _ _ _ _ (λ e. ne.ac (sym e)) c.requires.can.held.1.1.0.owns to.fresh.0 t.0) c.redraft.ensures.redrafted).draft ∙ sym c.zero-zero.ensures
 
 pub redraft-requires-3-clause-holds : goal.redraft-requires-3-clause-holds
 redraft-requires-3-clause-holds g c =
@@ -61,12 +63,13 @@ redraft-requires-3-clause-holds g c =
     holding-past _ _ _ _ _ _ _ (λ e. ne.cd (sym e)) (holding-past _ _ _ _ _ _ _ (λ e. ne.bd (sym e)) (holding-past _ _ _ _ _ _ _ (λ e. ne.ad (sym e)) c.requires.can.held.1.1.1.0 t.0) c.redraft.ensures.redrafted) c.redraft-2.ensures.redrafted
 
 pub redraft-requires-3-clause-draft : goal.redraft-requires-3-clause-draft
-redraft-requires-3-clause-draft g c =
+redraft-requires-3-clause-draft g c tells =
     let ne = four-apart _ _ _ _ c.requires.can.apart in
     let t = two c.args.meta c.set.new.self c.args.top.pid (c.args.height + 1) (view c.args.pass.now) (view c.set.new.pass) (view c.set-2.new.pass) c.set.ensures.set c.set.ensures.guard c.set-2.ensures.set c.requires.can.same in
     let h1 = holding-past _ _ _ _ _ _ _ (λ e. ne.ad (sym e)) c.requires.can.held.1.1.1.0 t.0 in
     let h2 = holding-past _ _ _ _ _ _ _ (λ e. ne.bd (sym e)) h1 c.redraft.ensures.redrafted in
-    (draft-past _ _ _ _ _ _ (λ e. ne.cd (sym e)) h2.owns (draft-past _ _ _ _ _ _ (λ e. ne.bd (sym e)) h1.owns (draft-past _ _ _ _ _ _ (λ e. ne.ad (sym e)) c.requires.can.held.1.1.1.0.owns c.requires.can.fresh.1 t.0) c.redraft.ensures.redrafted) c.redraft-2.ensures.redrafted).draft ∙ sym c.zero-zero.ensures
+    let to = c.requires.can.told (told-before _ _ _ t.0 (told-before _ _ _ c.redraft.ensures.redrafted (told-before _ _ _ c.redraft-2.ensures.redrafted tells))) in
+    (draft-past _ _ _ _ _ _ (λ e. ne.cd (sym e)) h2.owns (draft-past _ _ _ _ _ _ (λ e. ne.bd (sym e)) h1.owns (draft-past _ _ _ _ _ _ (λ e. ne.ad (sym e)) c.requires.can.held.1.1.1.0.owns to.fresh.1 t.0) c.redraft.ensures.redrafted) c.redraft-2.ensures.redrafted).draft ∙ sym c.zero-zero.ensures
 
 pub release_group-requires-clause-may : goal.release_group-requires-clause-may
 release_group-requires-clause-may g c =
@@ -77,14 +80,15 @@ release_group-requires-clause-may g c =
     let d3 = c.redraft-2.ensures in
     let d4 = c.redraft-3.ensures in
     let four = four-redrafted c.args.meta.pid c.args.low.pid c.args.right.pid c.args.top.pid (last_of (view c.args.pass.now) c.args.meta.pid).words _ c.args.page.now c.split-separator.new.page c.split-separator.new.right c.new_root.new.page (view c.args.pass.now) (view c.set-2.new.pass) (view c.redraft.new.pass) (view c.redraft-2.new.pass) (view c.redraft-3.new.pass)
-    ne r.held.0.owns r.held.1.0.owns r.held.1.1.0.owns r.held.1.1.1.0.owns r.node r.fresh.0 r.fresh.1 t.0 t.1 d2.redrafted d3.redrafted d4.redrafted d2.draft d3.draft d4.draft in
+    ne r.held.0.owns r.held.1.0.owns r.held.1.1.0.owns r.held.1.1.1.0.owns c.args.height r.told t.0 t.1 d2.redrafted d3.redrafted d4.redrafted d2.draft d3.draft d4.draft in
+    let stays = four-stay c.args.meta.pid c.args.low.pid c.args.right.pid c.args.top.pid (view c.args.pass.now) (view c.set-2.new.pass) (view c.redraft.new.pass) (view c.redraft-2.new.pass) (view c.redraft-3.new.pass) t.0 d2.redrafted d3.redrafted d4.redrafted in
     let split : IsSplit c.args.page.now c.split-separator.new.page c.split-separator.new.right c.split-separator.result = subst (λ (l : List ℕ). IsSplit l c.split-separator.new.page c.split-separator.new.right c.split-separator.result) c.copy_from.ensures.words c.split-separator.ensures.halves in
     let first = pid-of c.args.meta c.set.new.self c.set-2.new.self c.set.ensures.guard c.set-2.ensures.guard in
     let h0 : IsHolding c.set-2.new.self.pid c.set-2.new.self.frame c.set-2.new.self.version c.set-2.new.self.dirty (view c.set-2.new.pass) = held-of c.set.new.self c.set-2.new.self (view c.set-2.new.pass) c.set-2.ensures.guard c.set-2.ensures.holds in
     let h1 = holding-past _ _ _ _ _ _ _ (λ e. ne.ad (sym first ∙ e)) (holding-past _ _ _ _ _ _ _ (λ e. ne.ac (sym first ∙ e)) (holding-past _ _ _ _ _ _ _ (λ e. ne.ab (sym first ∙ e)) h0 d2.redrafted) d3.redrafted) d4.redrafted in
     let h2 = holding-past _ _ _ _ _ _ _ (λ e. ne.bd (sym d2.guard.0 ∙ e)) (holding-past _ _ _ _ _ _ _ (λ e. ne.bc (sym d2.guard.0 ∙ e)) d2.holds d3.redrafted) d4.redrafted in
     let h3 = holding-past _ _ _ _ _ _ _ (λ e. ne.cd (sym d3.guard.0 ∙ e)) d3.holds d4.redrafted in
-    four-all _ _ _ _ c.args.height c.split-separator.result _ _ _ _ _ _ _ four r.zero r.names r.claimed r.full split c.new_root.ensures.root r.owed c.set-2.new.self c.redraft.new.guard c.redraft-2.new.guard c.redraft-3.new.guard first d2.guard.0 d3.guard.0 d4.guard.0 h1 h2 h3 d4.holds r.apart r.home
+    four-all c.args.meta.pid c.args.low.pid c.args.right.pid c.args.top.pid c.args.height c.split-separator.result c.args.page.now c.split-separator.new.page c.split-separator.new.right c.new_root.new.page (view c.args.pass.now) (view c.redraft-3.new.pass) stays four r.zero r.told r.full split c.new_root.ensures.root r.owed c.set-2.new.self c.redraft.new.guard c.redraft-2.new.guard c.redraft-3.new.guard first d2.guard.0 d3.guard.0 d4.guard.0 h1 h2 h3 d4.holds r.apart r.home
 
 pub returns-clause-split : goal.returns-clause-split
 returns-clause-split g c =
@@ -95,7 +99,8 @@ returns-clause-split g c =
     let d3 = c.redraft-2.ensures in
     let d4 = c.redraft-3.ensures in
     let four = four-redrafted c.args.meta.pid c.args.low.pid c.args.right.pid c.args.top.pid (last_of (view c.args.pass.now) c.args.meta.pid).words _ c.args.page.now c.split-separator.new.page c.split-separator.new.right c.new_root.new.page (view c.args.pass.now) (view c.set-2.new.pass) (view c.redraft.new.pass) (view c.redraft-2.new.pass) (view c.redraft-3.new.pass)
-    ne r.held.0.owns r.held.1.0.owns r.held.1.1.0.owns r.held.1.1.1.0.owns r.node r.fresh.0 r.fresh.1 t.0 t.1 d2.redrafted d3.redrafted d4.redrafted d2.draft d3.draft d4.draft in
+    ne r.held.0.owns r.held.1.0.owns r.held.1.1.0.owns r.held.1.1.1.0.owns c.args.height r.told t.0 t.1 d2.redrafted d3.redrafted d4.redrafted d2.draft d3.draft d4.draft in
+    let stays = four-stay c.args.meta.pid c.args.low.pid c.args.right.pid c.args.top.pid (view c.args.pass.now) (view c.set-2.new.pass) (view c.redraft.new.pass) (view c.redraft-2.new.pass) (view c.redraft-3.new.pass) t.0 d2.redrafted d3.redrafted d4.redrafted in
     let split : IsSplit c.args.page.now c.split-separator.new.page c.split-separator.new.right c.split-separator.result = subst (λ (l : List ℕ). IsSplit l c.split-separator.new.page c.split-separator.new.right c.split-separator.result) c.copy_from.ensures.words c.split-separator.ensures.halves in
     let first = pid-of c.args.meta c.set.new.self c.set-2.new.self c.set.ensures.guard c.set-2.ensures.guard in
-    four-released _ _ _ _ c.args.height c.split-separator.result _ _ _ _ _ _ _ four r.zero r.names r.claimed r.full split c.new_root.ensures.root r.owed c.set-2.new.self c.redraft.new.guard c.redraft-2.new.guard c.redraft-3.new.guard _ first d2.guard.0 d3.guard.0 d4.guard.0 c.release_group.ensures.released.0
+    four-released c.args.meta.pid c.args.low.pid c.args.right.pid c.args.top.pid c.args.height c.split-separator.result c.args.page.now c.split-separator.new.page c.split-separator.new.right c.new_root.new.page (view c.args.pass.now) (view c.redraft-3.new.pass) stays four r.zero r.told r.full split c.new_root.ensures.root r.owed c.set-2.new.self c.redraft.new.guard c.redraft-2.new.guard c.redraft-3.new.guard _ first d2.guard.0 d3.guard.0 d4.guard.0 c.release_group.ensures.released.0

@@ -1,8 +1,9 @@
 use Rattle.std.proofs.Common.{ℕ, List, ◌∙◌, length, sym, ap, subst, arith}
 use Rattle.vm_step.specs.Passes.{view}
+use Rattle.vm_map.specs.Map.{Rises}
 use Rattle.vm_tree_model.specs.Edits.{AddsPair, IsSplit}
-use Rattle.vm_tree_model.specs.Page.{pairs_of}
-use Rattle.vm_tree_write.proofs.Splitting.{draft-past, first-apart, holding-past, three-all, three-redrafted, three-released}
+use Rattle.vm_tree_model.specs.Page.{node_of, pairs_of, IsInner}
+use Rattle.vm_tree_write.proofs.Splitting.{draft-past, first-apart, holding-past, told-before, three-all, three-redrafted, three-released, three-stay}
 use Rattle.vm_tree_write.proofs.split.write_split.Goals as goal
 
 pub unreachable-requires : goal.unreachable-requires
@@ -13,7 +14,7 @@ unreachable-requires g c =
     absurd (omega (arith, full, same, room))
 
 pub redraft-requires-clause-draft : goal.redraft-requires-clause-draft
-redraft-requires-clause-draft g c = c.requires.can.above.draft
+redraft-requires-clause-draft g c tells = (c.requires.can.told tells).above.draft
 
 pub redraft-requires-2-clause-holds : goal.redraft-requires-2-clause-holds
 redraft-requires-2-clause-holds g c =
@@ -21,9 +22,10 @@ redraft-requires-2-clause-holds g c =
     holding-past _ _ _ _ _ _ _ (λ e. ne.0 (sym e)) c.requires.can.held.1.0 c.redraft.ensures.redrafted
 
 pub redraft-requires-2-clause-draft : goal.redraft-requires-2-clause-draft
-redraft-requires-2-clause-draft g c =
+redraft-requires-2-clause-draft g c tells =
     let ne = first-apart _ _ _ c.requires.can.apart in
-    (draft-past _ _ _ _ _ _ (λ e. ne.0 (sym e)) c.requires.can.held.1.0.owns c.requires.can.node c.redraft.ensures.redrafted).draft
+    let to = c.requires.can.told (told-before _ _ _ c.redraft.ensures.redrafted tells) in
+    (draft-past _ _ _ _ _ _ (λ e. ne.0 (sym e)) c.requires.can.held.1.0.owns to.node c.redraft.ensures.redrafted).draft
 
 pub redraft-requires-3-clause-holds : goal.redraft-requires-3-clause-holds
 redraft-requires-3-clause-holds g c =
@@ -31,10 +33,11 @@ redraft-requires-3-clause-holds g c =
     holding-past _ _ _ _ _ _ _ (λ e. ne.2 (sym e)) (holding-past _ _ _ _ _ _ _ (λ e. ne.1 (sym e)) c.requires.can.held.1.1.0 c.redraft.ensures.redrafted) c.redraft-2.ensures.redrafted
 
 pub redraft-requires-3-clause-draft : goal.redraft-requires-3-clause-draft
-redraft-requires-3-clause-draft g c =
+redraft-requires-3-clause-draft g c tells =
     let ne = first-apart _ _ _ c.requires.can.apart in
+    let to = c.requires.can.told (told-before _ _ _ c.redraft.ensures.redrafted (told-before _ _ _ c.redraft-2.ensures.redrafted tells)) in
     let h = holding-past _ _ _ _ _ _ _ (λ e. ne.1 (sym e)) c.requires.can.held.1.1.0 c.redraft.ensures.redrafted in
-    (draft-past _ _ _ _ _ _ (λ e. ne.2 (sym e)) h.owns (draft-past _ _ _ _ _ _ (λ e. ne.1 (sym e)) c.requires.can.held.1.1.0.owns c.requires.can.fresh c.redraft.ensures.redrafted) c.redraft-2.ensures.redrafted).draft ∙ sym c.zero-zero.ensures
+    (draft-past _ _ _ _ _ _ (λ e. ne.2 (sym e)) h.owns (draft-past _ _ _ _ _ _ (λ e. ne.1 (sym e)) c.requires.can.held.1.1.0.owns to.fresh c.redraft.ensures.redrafted) c.redraft-2.ensures.redrafted).draft ∙ sym c.zero-zero.ensures
 
 pub release_group-requires-clause-may : goal.release_group-requires-clause-may
 release_group-requires-clause-may g c =
@@ -44,12 +47,15 @@ release_group-requires-clause-may g c =
     let d2 = c.redraft-2.ensures in
     let d3 = c.redraft-3.ensures in
     let three = three-redrafted c.args.up.pid c.args.low.pid c.args.right.pid c.args.over.now c.add.new.page c.args.page.now c.split-separator.new.page c.split-separator.new.right (view c.args.pass.now) (view c.redraft.new.pass) (view c.redraft-2.new.pass) (view c.redraft-3.new.pass)
-    r.apart r.held.0.owns r.held.1.0.owns r.held.1.1.0.owns r.above r.node r.fresh d1.redrafted d2.redrafted d3.redrafted d1.draft d2.draft d3.draft in
+    r.apart r.held.0.owns r.held.1.0.owns r.held.1.1.0.owns r.told d1.redrafted d2.redrafted d3.redrafted d1.draft d2.draft d3.draft in
+    let stays = three-stay c.args.up.pid c.args.low.pid c.args.right.pid (view c.args.pass.now) (view c.redraft.new.pass) (view c.redraft-2.new.pass) (view c.redraft-3.new.pass) d1.redrafted d2.redrafted d3.redrafted in
     let split : IsSplit c.args.page.now c.split-separator.new.page c.split-separator.new.right c.split-separator.result = subst (λ (l : List ℕ). IsSplit l c.split-separator.new.page c.split-separator.new.right c.split-separator.result) c.copy_from.ensures.words c.split-separator.ensures.halves in
-    let adds : AddsPair c.args.over.now c.add.new.page c.split-separator.result c.args.right.pid = subst (λ (l : List ℕ). AddsPair l c.add.new.page c.split-separator.result c.args.right.pid) c.copy_from-2.ensures.words c.in-Ok.ensures.node in
+    let adds : IsInner c.args.over.now → AddsPair c.args.over.now c.add.new.page c.split-separator.result c.args.right.pid = (λ inner.
+    subst (λ (l : List ℕ). AddsPair l c.add.new.page c.split-separator.result c.args.right.pid) c.copy_from-2.ensures.words
+    (c.in-Ok.ensures.node _ _ (subst (λ (l : List ℕ). Rises (node_of l).low (node_of l).high (pairs_of l)) (sym c.copy_from-2.ensures.words) inner.node.rises))) in
     let h1 = holding-past _ _ _ _ _ _ _ (λ e. ne.1 (sym d1.guard.0 ∙ e)) (holding-past _ _ _ _ _ _ _ (λ e. ne.0 (sym d1.guard.0 ∙ e)) d1.holds d2.redrafted) d3.redrafted in
     let h2 = holding-past _ _ _ _ _ _ _ (λ e. ne.2 (sym d2.guard.0 ∙ e)) d2.holds d3.redrafted in
-    three-all _ _ _ r.names.0 c.split-separator.result _ _ _ _ _ _ _ three r.inner r.names.1 r.names.2 r.room r.full split adds r.owed c.redraft.new.guard c.redraft-2.new.guard c.redraft-3.new.guard d1.guard.0 d2.guard.0 d3.guard.0 h1 h2 d3.holds r.apart r.home
+    three-all _ _ _ c.split-separator.result _ c.add.new.page _ c.split-separator.new.page c.split-separator.new.right (view c.args.pass.now) (view c.redraft-3.new.pass) stays three r.told r.room r.full split adds r.owed c.redraft.new.guard c.redraft-2.new.guard c.redraft-3.new.guard d1.guard.0 d2.guard.0 d3.guard.0 h1 h2 d3.holds r.apart r.home
 
 pub returns-clause-split : goal.returns-clause-split
 returns-clause-split g c =
@@ -58,10 +64,13 @@ returns-clause-split g c =
     let d2 = c.redraft-2.ensures in
     let d3 = c.redraft-3.ensures in
     let three = three-redrafted c.args.up.pid c.args.low.pid c.args.right.pid c.args.over.now c.add.new.page c.args.page.now c.split-separator.new.page c.split-separator.new.right (view c.args.pass.now) (view c.redraft.new.pass) (view c.redraft-2.new.pass) (view c.redraft-3.new.pass)
-    r.apart r.held.0.owns r.held.1.0.owns r.held.1.1.0.owns r.above r.node r.fresh d1.redrafted d2.redrafted d3.redrafted d1.draft d2.draft d3.draft in
+    r.apart r.held.0.owns r.held.1.0.owns r.held.1.1.0.owns r.told d1.redrafted d2.redrafted d3.redrafted d1.draft d2.draft d3.draft in
+    let stays = three-stay c.args.up.pid c.args.low.pid c.args.right.pid (view c.args.pass.now) (view c.redraft.new.pass) (view c.redraft-2.new.pass) (view c.redraft-3.new.pass) d1.redrafted d2.redrafted d3.redrafted in
     let split : IsSplit c.args.page.now c.split-separator.new.page c.split-separator.new.right c.split-separator.result = subst (λ (l : List ℕ). IsSplit l c.split-separator.new.page c.split-separator.new.right c.split-separator.result) c.copy_from.ensures.words c.split-separator.ensures.halves in
-    let adds : AddsPair c.args.over.now c.add.new.page c.split-separator.result c.args.right.pid = subst (λ (l : List ℕ). AddsPair l c.add.new.page c.split-separator.result c.args.right.pid) c.copy_from-2.ensures.words c.in-Ok.ensures.node in
-    three-released _ _ _ r.names.0 c.split-separator.result _ _ _ _ _ _ _ three r.inner r.names.1 r.names.2 r.room r.full split adds r.owed c.redraft.new.guard c.redraft-2.new.guard c.redraft-3.new.guard _ d1.guard.0 d2.guard.0 d3.guard.0 c.release_group.ensures.released.0
+    let adds : IsInner c.args.over.now → AddsPair c.args.over.now c.add.new.page c.split-separator.result c.args.right.pid = (λ inner.
+    subst (λ (l : List ℕ). AddsPair l c.add.new.page c.split-separator.result c.args.right.pid) c.copy_from-2.ensures.words
+    (c.in-Ok.ensures.node _ _ (subst (λ (l : List ℕ). Rises (node_of l).low (node_of l).high (pairs_of l)) (sym c.copy_from-2.ensures.words) inner.node.rises))) in
+    three-released _ _ _ c.split-separator.result _ c.add.new.page _ c.split-separator.new.page c.split-separator.new.right (view c.args.pass.now) (view c.redraft-3.new.pass) stays three r.told r.room r.full split adds r.owed c.redraft.new.guard c.redraft-2.new.guard c.redraft-3.new.guard _ d1.guard.0 d2.guard.0 d3.guard.0 c.release_group.ensures.released.0
 
 pub redraft-requires-clause-holds : goal.redraft-requires-clause-holds
 redraft-requires-clause-holds g c = c.requires.can.held.0

@@ -1,8 +1,8 @@
-use Rattle.std.proofs.Common.{◌++◌, ◌∙◌, refl, inl, inr}
+use Rattle.std.proofs.Common.{◌++◌, refl, inl, inr}
 use Rattle.vm_step.specs.Passes.{view}
 use Rattle.vm_guard.specs.Groups.{guards_of}
 use Rattle.vm_exmap.proofs.Handing.{held-on}
-use Rattle.vm_tree_write.proofs.Losing.{freed-loses, loses-same, loses-then}
+use Rattle.vm_tree_read.proofs.Losing.{freed-loses, loses-same, loses-then}
 use Rattle.vm_tree_write.proofs.Ends.{below-ended, can-split}
 use Rattle.vm_tree_write.proofs.Under.{some-taken, taken-one}
 use Rattle.vm_tree_write.proofs.tries.split_below.Goals as goal
@@ -23,7 +23,7 @@ write_split-requires-clause-can g c =
     let one = (taken-one p.x (guards_of c.in-Ok.all.pages) (guards_of c.take_last.new.self) c.in-Some.right p.fresh.guards c.in-Some.ensures.some).1 in
     let met = c.requires.met in
     can-split c.args.parent c.args.node c.in-Ok.all.up c.in-Ok.all.low c.in-Some.right (guards_of c.in-Ok.all.pages) (view c.args.pass.now) (view c.prepare.new.pass) p one met.0 met.1 c.args.over.now c.args.page.now met.2 c.requires.size
-    (c.requires.ready.table.tells_is ∙ c.requires.tells) c.requires.home
+    c.requires.home
 
 pub free-requires-clause-frames : goal.free-requires-clause-frames
 free-requires-clause-frames g c =
@@ -37,7 +37,7 @@ returns-clause-keeps g c =
     let met = c.requires.met in
     let back = c.free.ensures.freed.back in
     (below-ended c.args.parent c.args.node c.in-Ok.all.up c.in-Ok.all.low c.in-Some.right (guards_of c.in-Ok.all.pages) (view c.args.pass.now) (view c.prepare.new.pass) p one met.0 met.1 c.args.over.now c.args.page.now met.2 c.requires.size
-    (c.requires.ready.table.tells_is ∙ c.requires.tells) c.requires.home back.done (view c.write_split.new.pass) (view c.free.new.pass) c.write_split.ensures.split back.moves).0
+    c.requires.home back.done (view c.write_split.new.pass) (view c.free.new.pass) c.write_split.ensures.split back.moves).0
 
 pub returns-clause-cause : goal.returns-clause-cause
 returns-clause-cause g c =
@@ -48,7 +48,7 @@ returns-clause-cause g c =
     inl (
       refl,
       (below-ended c.args.parent c.args.node c.in-Ok.all.up c.in-Ok.all.low c.in-Some.right (guards_of c.in-Ok.all.pages) (view c.args.pass.now) (view c.prepare.new.pass) p one met.0 met.1 c.args.over.now c.args.page.now met.2 c.requires.size
-          (c.requires.ready.table.tells_is ∙ c.requires.tells) c.requires.home back.done (view c.write_split.new.pass) (view c.free.new.pass) c.write_split.ensures.split back.moves).1,
+          c.requires.home back.done (view c.write_split.new.pass) (view c.free.new.pass) c.write_split.ensures.split back.moves).1,
     )
 
 pub returns-in-Err-clause-cause : goal.returns-in-Err-clause-cause
@@ -63,3 +63,6 @@ returns-clause-lost g c =
     loses-then c.args.iface.now.frames all c.free.new.self.frames (view c.args.pass.now) (view c.prepare.new.pass) (view c.free.new.pass) c.in-Ok.ensures.lost
     (loses-then all all c.free.new.self.frames (view c.prepare.new.pass) (view c.write_split.new.pass) (view c.free.new.pass)
     (loses-same all all (view c.prepare.new.pass) (view c.write_split.new.pass) c.write_split.ensures.split.done.frames (λ n e. e)) (freed-loses _ _ _ _ _ _ c.free.ensures.freed))
+
+pub returns-in-Err-clause-sure : goal.returns-in-Err-clause-sure
+returns-in-Err-clause-sure g c k = c.in-Err.ensures.sure k

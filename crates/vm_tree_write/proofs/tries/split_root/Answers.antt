@@ -4,7 +4,7 @@ use Rattle.vm_step.specs.Passes.{view}
 use Rattle.vm_guard.specs.Groups.{guards_of}
 use Rattle.vm_guard.proofs.Pairs.{taken-both, two-many}
 use Rattle.vm_exmap.proofs.Handing.{held-on}
-use Rattle.vm_tree_write.proofs.Losing.{freed-loses, loses-same, loses-then}
+use Rattle.vm_tree_read.proofs.Losing.{freed-loses, loses-same, loses-then}
 use Rattle.vm_tree_write.proofs.Ends.{can-split-root, root-ended}
 use Rattle.vm_tree_write.proofs.tries.split_root.Goals as goal
 
@@ -34,7 +34,7 @@ write_root-requires-clause-can g c =
     let two = (taken-both p.x (guards_of c.in-Ok.all.pages) (guards_of c.take_last.new.self) (guards_of c.take_last-2.new.self) c.in-Some-take_last.right c.in-Some.top c.in-Some.ensures.some c.in-Some-take_last.ensures.some p.fresh.guards).1 in
     let met = c.requires.met in
     can-split-root c.args.meta c.args.root c.in-Ok.all.up c.in-Ok.all.low c.in-Some-take_last.right c.in-Some.top (guards_of c.in-Ok.all.pages) (view c.args.pass.now) (view c.prepare.new.pass) p two met.0 met.1 c.args.height c.args.page.now met.2 c.requires.size
-    (c.requires.ready.table.tells_is ∙ c.requires.tells) c.requires.home
+    c.requires.home
 
 pub write_root-requires-clause-room : goal.write_root-requires-clause-room
 write_root-requires-clause-room g c =
@@ -55,7 +55,7 @@ returns-clause-keeps g c =
     let met = c.requires.met in
     let back = c.free.ensures.freed.back in
     (root-ended c.args.meta c.args.root c.in-Ok.all.up c.in-Ok.all.low c.in-Some-take_last.right c.in-Some.top (guards_of c.in-Ok.all.pages) (view c.args.pass.now) (view c.prepare.new.pass) p two met.0 met.1 c.args.height c.args.page.now met.2 c.requires.size
-    (c.requires.ready.table.tells_is ∙ c.requires.tells) c.requires.home back.done (view c.write_root.new.pass) (view c.free.new.pass) c.write_root.ensures.split back.moves).0
+    c.requires.home back.done (view c.write_root.new.pass) (view c.free.new.pass) c.write_root.ensures.split back.moves).0
 
 pub returns-clause-cause : goal.returns-clause-cause
 returns-clause-cause g c =
@@ -66,7 +66,7 @@ returns-clause-cause g c =
     inl (
       refl,
       (root-ended c.args.meta c.args.root c.in-Ok.all.up c.in-Ok.all.low c.in-Some-take_last.right c.in-Some.top (guards_of c.in-Ok.all.pages) (view c.args.pass.now) (view c.prepare.new.pass) p two met.0 met.1 c.args.height c.args.page.now met.2 c.requires.size
-          (c.requires.ready.table.tells_is ∙ c.requires.tells) c.requires.home back.done (view c.write_root.new.pass) (view c.free.new.pass) c.write_root.ensures.split back.moves).1,
+          c.requires.home back.done (view c.write_root.new.pass) (view c.free.new.pass) c.write_root.ensures.split back.moves).1,
     )
 
 pub returns-in-Err-clause-cause : goal.returns-in-Err-clause-cause
@@ -81,3 +81,6 @@ returns-clause-lost g c =
     loses-then c.args.iface.now.frames all c.free.new.self.frames (view c.args.pass.now) (view c.prepare.new.pass) (view c.free.new.pass) c.in-Ok.ensures.lost
     (loses-then all all c.free.new.self.frames (view c.prepare.new.pass) (view c.write_root.new.pass) (view c.free.new.pass)
     (loses-same all all (view c.prepare.new.pass) (view c.write_root.new.pass) c.write_root.ensures.split.done.frames (λ n e. e)) (freed-loses _ _ _ _ _ _ c.free.ensures.freed))
+
+pub returns-in-Err-clause-sure : goal.returns-in-Err-clause-sure
+returns-in-Err-clause-sure g c k = c.in-Err.ensures.sure k

@@ -1,9 +1,13 @@
 use Rattle.std.proofs.Common.{◌∙◌, subst}
+use Rattle.std.proofs.lemmas.Bool.{false≢true}
 use Rattle.vm_exmap.proofs.Handing.{held-on}
 use Rattle.vm_step.specs.Passes.{view}
 use Rattle.vm_tree_rule.specs.Seeks.{IsMet}
-use Rattle.vm_tree_write.proofs.Losing.{loses-same, loses-then}
-use Rattle.vm_tree_write.proofs.Trying.{reads-keep, reads-lose, roomy-lost, roomy-valid, tried-below, tried-root, turn-reads}
+use Rattle.vm_tree_read.proofs.Losing.{loses-same, loses-then, reads-lose}
+use Rattle.vm_tree_write.proofs.Trying.{roomy-lost, roomy-valid, tried-below, tried-root, turn-reads}
+use Rattle.vm_tree_rule.specs.Seeks.{KnowsMet}
+use Rattle.vm_tree_rule.proofs.Surely.{known-at}
+use Rattle.vm_tree_write.proofs.Settling.{knows-to-split}
 use Rattle.vm_tree_write.proofs.tries.try_split.Goals as goal
 
 pub returns-in-Err-clause-tried : goal.returns-in-Err-clause-tried
@@ -75,3 +79,23 @@ returns-in-Below-clause-lost g c =
 pub returns-in-Root-clause-lost : goal.returns-in-Root-clause-lost
 returns-in-Root-clause-lost g c =
     loses-then c.args.iface.now.frames c.args.iface.now.frames c.split_root.new.iface.frames (view c.args.pass.now) (view c.seek_full.new.pass) (view c.split_root.new.pass) (reads-lose c.args.iface.now.frames (view c.args.pass.now) (view c.seek_full.new.pass) c.in-Ok.ensures.reads) c.split_root.ensures.lost
+
+-- ---- a pass that knows its pages to be resident, and holds nothing
+
+pub returns-in-Err-clause-sure : goal.returns-in-Err-clause-sure
+returns-in-Err-clause-sure g c tells resident holds = absurd (false≢true (c.in-Err.ensures.sure tells resident))
+
+pub returns-in-Err-validate_silently-clause-sure : goal.returns-in-Err-validate_silently-clause-sure
+returns-in-Err-validate_silently-clause-sure g c tells resident holds =
+    let known = subst (λ m. KnowsMet m (view c.seek_full.new.pass)) c.in-Roomy.is (c.in-Ok.ensures.known tells resident) in
+    absurd (false≢true (c.in-Err-validate_silently.ensures.sure known.resident.alone (known-at _ _ (view c.seek_full.new.pass) known)))
+
+pub returns-in-Below-clause-sure : goal.returns-in-Below-clause-sure
+returns-in-Below-clause-sure g c tells resident holds =
+    let known = subst (λ m. KnowsMet m (view c.seek_full.new.pass)) c.in-Below.is (c.in-Ok.ensures.known tells resident) in
+    c.split_below.ensures.sure (knows-to-split c.in-Below.parent c.in-Below.node (view c.args.pass.now) (view c.seek_full.new.pass) c.in-Ok.ensures.reads holds c.in-Ok.ensures.locks.unheld known.0 known.1)
+
+pub returns-in-Root-clause-sure : goal.returns-in-Root-clause-sure
+returns-in-Root-clause-sure g c tells resident holds =
+    let known = subst (λ m. KnowsMet m (view c.seek_full.new.pass)) c.in-Root.is (c.in-Ok.ensures.known tells resident) in
+    c.split_root.ensures.sure (knows-to-split c.in-Root.meta c.in-Root.root (view c.args.pass.now) (view c.seek_full.new.pass) c.in-Ok.ensures.reads holds c.in-Ok.ensures.locks.unheld known.0 known.1)

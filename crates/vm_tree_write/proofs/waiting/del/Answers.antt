@@ -2,10 +2,21 @@ use Rattle.std.proofs.Common.{◌∙◌, refl}
 use Rattle.vm_exmap.proofs.Handing.{held-on}
 use Rattle.vm_step.specs.Passes.{view}
 use Rattle.vm_tree_read.specs.Waiting.{Waits}
-use Rattle.vm_tree_read.proofs.Lasting.{reads-wait, waits-then}
+use Rattle.vm_tree_read.proofs.Lasting.{reads-wait, waits-self, waits-then}
 use Rattle.vm_tree_write.specs.Waiting.{IsFaulted as faulted}
 use Rattle.vm_tree_write.proofs.Lasting.{del-frames, replied, waits-last}
+use Rattle.vm_tree_read.proofs.Losing.{lost-on, loses-same, loses-then, reads-lose}
 use Rattle.vm_tree_write.proofs.waiting.del.Goals as goal
+
+pub loop-init : goal.loop-init
+loop-init g c = record {
+  same = (refl, refl);
+  ready = c.requires.ready;
+  held = c.requires.frames;
+  lost = loses-same c.args.iface.now.frames c.args.iface.now.frames (view c.args.pass.now) (view c.args.pass.now) refl (λ f e. e);
+  iface = (refl, refl);
+  waits = waits-self _;
+}
 
 pub try_del-requires-clause-home : goal.try_del-requires-clause-home
 try_del-requires-clause-home g c = c.loop.invariant.waits.out ∙ c.requires.home
@@ -18,6 +29,7 @@ loop-preserved-in-Again g c =
       same = (c.try_del.ensures.pass.0 ∙ i.same.0, c.try_del.ensures.pass.1 ∙ i.same.1);
       ready = c.try_del.ensures.ready;
       held = held-on _ (view c.loop.pass) (view c.try_del.new.pass) i.held reads.0.start reads.0.frames.0;
+      lost = loses-then c.args.iface.now.frames c.loop.iface.frames c.loop.iface.frames (view c.args.pass.now) (view c.loop.pass) (view c.try_del.new.pass) i.lost (reads-lose c.loop.iface.frames (view c.loop.pass) (view c.try_del.new.pass) reads);
       iface = i.iface;
       waits = waits-then _ _ _ i.waits (reads-wait _ _ reads);
     }
@@ -34,6 +46,7 @@ loop-preserved g c =
       same = (k.pass.0 ∙ c.try_del.ensures.pass.0 ∙ i.same.0, k.pass.1 ∙ c.try_del.ensures.pass.1 ∙ i.same.1);
       ready = k.ready;
       held = k.held;
+      lost = lost-on c.args.iface.now.frames c.loop.iface.frames c.fetch.new.iface.frames (view c.args.pass.now) (view c.loop.pass) (view c.try_del.new.pass) (view c.fetch.new.pass) i.lost c.in-Need.ensures.tried.0 k.lost;
       iface = (k.iface.0 ∙ i.iface.0, k.iface.1 ∙ i.iface.1);
       waits = waits-then _ _ _ i.waits (waits-then _ _ _ (reads-wait _ _ c.in-Need.ensures.tried.0) k.waits);
     }
@@ -42,7 +55,7 @@ pub returns-in-Err-clause-err : goal.returns-in-Err-clause-err
 returns-in-Err-clause-err g c =
     let i = c.loop.invariant in
     let needed = c.in-Need.ensures.tried in
-    faulted.missing (view c.loop.pass) (view c.try_del.new.pass) c.in-Need.pid i.waits needed.1 c.in-Err.ensures.err
+    faulted.missing (view c.loop.pass) (view c.try_del.new.pass) c.in-Need.pid i.waits needed.0 needed.1 c.in-Err.ensures.err
     (waits-then _ _ _ i.waits (waits-then _ _ _ (reads-wait _ _ needed.0) c.fetch.ensures.waits))
 
 pub returns-in-Worn-clause-held : goal.returns-in-Worn-clause-held
@@ -53,7 +66,7 @@ pub returns-in-Worn-clause-err : goal.returns-in-Worn-clause-err
 returns-in-Worn-clause-err g c =
     let i = c.loop.invariant in
     let worn = c.in-Worn.ensures.tried in
-    faulted.worn (view c.loop.pass) c.in-Worn.pid i.waits worn.1 refl (waits-then _ _ _ i.waits (reads-wait _ _ worn.0))
+    faulted.worn (view c.loop.pass) c.in-Worn.pid i.waits worn.0 worn.1 refl (waits-then _ _ _ i.waits (reads-wait _ _ worn.0))
 
 pub returns-in-Done-clause-held : goal.returns-in-Done-clause-held
 returns-in-Done-clause-held g c =
@@ -61,3 +74,18 @@ returns-in-Done-clause-held g c =
 
 pub returns-in-Done-clause-ok : goal.returns-in-Done-clause-ok
 returns-in-Done-clause-ok g c = let waits = c.loop.invariant.waits in replied Waits _ _ _ _ waits (waits-last _ _ waits) c.in-Done.ensures.tried
+
+-- ---- no frame is lost
+
+pub returns-in-Err-clause-lost : goal.returns-in-Err-clause-lost
+returns-in-Err-clause-lost g c =
+    lost-on c.args.iface.now.frames c.loop.iface.frames c.fetch.new.iface.frames (view c.args.pass.now) (view c.loop.pass) (view c.try_del.new.pass) (view c.fetch.new.pass) c.loop.invariant.lost c.in-Need.ensures.tried.0 c.fetch.ensures.lost
+
+pub returns-in-Worn-clause-lost : goal.returns-in-Worn-clause-lost
+returns-in-Worn-clause-lost g c =
+    loses-then c.args.iface.now.frames c.loop.iface.frames c.loop.iface.frames (view c.args.pass.now) (view c.loop.pass) (view c.try_del.new.pass) c.loop.invariant.lost (reads-lose c.loop.iface.frames (view c.loop.pass) (view c.try_del.new.pass) c.in-Worn.ensures.tried.0)
+
+pub returns-in-Done-clause-lost : goal.returns-in-Done-clause-lost
+returns-in-Done-clause-lost g c =
+    let k = del-frames _ _ _ c.in-Done.ensures.tried in
+    loses-then c.args.iface.now.frames c.loop.iface.frames c.loop.iface.frames (view c.args.pass.now) (view c.loop.pass) (view c.try_del.new.pass) c.loop.invariant.lost (loses-same c.loop.iface.frames c.loop.iface.frames (view c.loop.pass) (view c.try_del.new.pass) k.1 (λ f e. e))

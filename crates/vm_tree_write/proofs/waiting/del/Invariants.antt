@@ -2,7 +2,7 @@ use Rattle.std.proofs.Common.{◌≡◌}
 use Rattle.vm_step.specs.HeldFrames.{AreHeld}
 use Rattle.vm_step.specs.Passes.{IsSamePass, view}
 use Rattle.vm_step.specs.Ready.{IsReady}
-use Rattle.vm_tree_read.specs.Waiting.{Waits}
+use Rattle.vm_tree_read.specs.Waiting.{LosesNone, Waits}
 use Rattle.vm_tree_write.proofs.waiting.del.Given as goal
 
 -- no try was answered yet
@@ -11,6 +11,7 @@ invariant-loop g l = record {
   same : IsSamePass l.fn.pass l.pass;
   ready : IsReady l.pool.words.table.shared.key g.B.Block.tells l.pool.words.table.shared.table_id l.pass;
   held : AreHeld l.iface.frames (view l.pass);
+  lost : LosesNone l.fn.iface.frames (view l.fn.pass) l.iface.frames (view l.pass);
   iface : (l.iface.home ≡ l.fn.iface.home) × (l.iface.cap ≡ l.fn.iface.cap);
   waits : Waits (view l.fn.pass) (view l.pass);
 }

@@ -1,12 +1,12 @@
 use Rattle.std.proofs.Common.{◌∙◌, refl, arith}
 use Rattle.std.proofs.lemmas.Result.{IfErr-weaker}
 use Rattle.vm_step.specs.Passes.{view}
-use Rattle.vm_tree_read.proofs.Answering.{need-inside}
 use Rattle.vm_tree_read.specs.Waiting.{IsFaultOf}
 use Rattle.vm_pool.specs.declared.bring.Bring.TheVariants as brings
 use Rattle.vm_tree_write.specs.Waiting.{IsRoomFault, IsRoomFault as room_faults}
 use Rattle.vm_tree_write.proofs.Framing.{keeps-then}
 use Rattle.vm_tree_write.proofs.Lasting.{sweep-keeps, waits-keep}
+use Rattle.vm_tree_read.proofs.Losing.{loses-then, swept-loses}
 use Rattle.vm_tree_write.proofs.waiting.make_room.Goals as goal
 
 pub fetch-requires-clause-home : goal.fetch-requires-clause-home
@@ -15,8 +15,7 @@ fetch-requires-clause-home g c = c.in-Need.ensures.tried.0.out ∙ c.requires.ho
 pub fetch-requires-clause-page : goal.fetch-requires-clause-page
 fetch-requires-clause-page g c =
     let shape = c.requires.ready.table.is_shape.pages in
-    let some = c.requires.pages in
-    let inside = need-inside c.args.key c.in-Need.pid (view c.args.pass.now) (view c.try_split.new.pass) (omega (arith, some, shape)) c.in-Need.ensures.tried.1 in
+    let inside = c.in-Need.ensures.tried.1.1.inside in
     omega (arith, inside, shape)
 
 pub returns-in-Need-clause-keeps : goal.returns-in-Need-clause-keeps
@@ -25,7 +24,7 @@ returns-in-Need-clause-keeps g c = keeps-then _ _ _ c.in-Need.ensures.tried.0 (w
 pub returns-in-Need-clause-err : goal.returns-in-Need-clause-err
 returns-in-Need-clause-err g c =
     IfErr-weaker c.fetch.result (λ fault. IsFaultOf c.in-Need.pid fault (view c.try_split.new.pass) (view c.fetch.new.pass)) (λ fault. IsRoomFault c.args.key fault (view c.args.pass.now) (view c.fetch.new.pass))
-    (λ fault k. room_faults.missing (view c.try_split.new.pass) c.in-Need.pid c.in-Need.ensures.tried.1 k) c.fetch.ensures.err
+    (λ fault k. room_faults.missing (view c.try_split.new.pass) c.in-Need.pid c.in-Need.ensures.tried.1.0 c.in-Need.ensures.tried.1.1 k) c.fetch.ensures.err
 
 pub returns-in-Worn-clause-err : goal.returns-in-Worn-clause-err
 returns-in-Worn-clause-err g c = room_faults.worn c.in-Worn.pid c.in-Worn.ensures.tried.1 refl
@@ -38,14 +37,32 @@ returns-in-Device-clause-keeps g c = sweep-keeps _ _ _ _ _ _ _ _ c.in-Dry.ensure
 
 pub returns-in-Device-clause-err : goal.returns-in-Device-clause-err
 returns-in-Device-clause-err g c =
-    room_faults.swept (view c.try_split.new.pass) _ _ _ _ _ (brings.Device c.in-Device.pid c.in-Device.count) c.in-Dry.ensures.tried.1 c.sweep-report.ensures.swept c.in-Device.ensures refl
+    room_faults.swept (view c.try_split.new.pass) _ _ _ _ _ (brings.Device c.in-Device.pid c.in-Device.count) c.in-Dry.ensures.tried.1 c.in-Dry.ensures.tried.0 c.sweep-report.ensures.swept c.in-Device.ensures refl
 
 pub returns-in-Worn-dry_cause-clause-keeps : goal.returns-in-Worn-dry_cause-clause-keeps
 returns-in-Worn-dry_cause-clause-keeps g c = sweep-keeps _ _ _ _ _ _ _ _ c.in-Dry.ensures.tried.0 c.sweep-report.ensures.keeps c.sweep-report.ensures.swept
 
 pub returns-in-Worn-dry_cause-clause-err : goal.returns-in-Worn-dry_cause-clause-err
 returns-in-Worn-dry_cause-clause-err g c =
-    room_faults.swept (view c.try_split.new.pass) _ _ _ _ _ (brings.Worn c.in-Worn-dry_cause.pid) c.in-Dry.ensures.tried.1 c.sweep-report.ensures.swept c.in-Worn-dry_cause.ensures refl
+    room_faults.swept (view c.try_split.new.pass) _ _ _ _ _ (brings.Worn c.in-Worn-dry_cause.pid) c.in-Dry.ensures.tried.1 c.in-Dry.ensures.tried.0 c.sweep-report.ensures.swept c.in-Worn-dry_cause.ensures refl
 
 pub returns-in_default-clause-keeps : goal.returns-in_default-clause-keeps
 returns-in_default-clause-keeps g c = sweep-keeps _ _ _ _ _ _ _ _ c.in-Dry.ensures.tried.0 c.sweep-report.ensures.keeps c.sweep-report.ensures.swept
+
+-- ---- no frame is lost
+
+pub returns-in-Need-clause-lost : goal.returns-in-Need-clause-lost
+returns-in-Need-clause-lost g c =
+    loses-then c.args.iface.now.frames c.try_split.new.iface.frames c.fetch.new.iface.frames (view c.args.pass.now) (view c.try_split.new.pass) (view c.fetch.new.pass) c.in-Need.ensures.lost c.fetch.ensures.lost
+
+pub returns-in-Device-clause-lost : goal.returns-in-Device-clause-lost
+returns-in-Device-clause-lost g c =
+    loses-then c.args.iface.now.frames c.try_split.new.iface.frames c.sweep-report.new.iface.frames (view c.args.pass.now) (view c.try_split.new.pass) (view c.sweep-report.new.pass) c.in-Dry.ensures.lost (swept-loses _ _ _ _ _ _ _ c.sweep-report.ensures.swept)
+
+pub returns-in-Worn-dry_cause-clause-lost : goal.returns-in-Worn-dry_cause-clause-lost
+returns-in-Worn-dry_cause-clause-lost g c =
+    loses-then c.args.iface.now.frames c.try_split.new.iface.frames c.sweep-report.new.iface.frames (view c.args.pass.now) (view c.try_split.new.pass) (view c.sweep-report.new.pass) c.in-Dry.ensures.lost (swept-loses _ _ _ _ _ _ _ c.sweep-report.ensures.swept)
+
+pub returns-in_default-clause-lost : goal.returns-in_default-clause-lost
+returns-in_default-clause-lost g c =
+    loses-then c.args.iface.now.frames c.try_split.new.iface.frames c.sweep-report.new.iface.frames (view c.args.pass.now) (view c.try_split.new.pass) (view c.sweep-report.new.pass) c.in-Dry.ensures.lost (swept-loses _ _ _ _ _ _ _ c.sweep-report.ensures.swept)

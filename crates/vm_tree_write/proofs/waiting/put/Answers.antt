@@ -7,10 +7,11 @@ use Rattle.vm_tree_write.proofs.Framing.{keeps-self, keeps-then}
 use Rattle.vm_tree_write.proofs.Lasting.{keeps-last, replied, waits-keep}
 use Rattle.vm_tree_write.proofs.Telling.{put-not}
 use Rattle.vm_tree_write.proofs.Trying.{reads-keep}
+use Rattle.vm_tree_read.proofs.Losing.{lost-on, loses-same, loses-then, reads-lose}
 use Rattle.vm_tree_write.proofs.waiting.put.Goals as goal
 
 pub loop-init : goal.loop-init
-loop-init g c = record { same = (refl, refl); ready = c.requires.ready; held = c.requires.frames; iface = (refl, refl); keeps = keeps-self _ }
+loop-init g c = record { same = (refl, refl); ready = c.requires.ready; held = c.requires.frames; lost = loses-same c.args.iface.now.frames c.args.iface.now.frames (view c.args.pass.now) (view c.args.pass.now) refl (λ f e. e); iface = (refl, refl); keeps = keeps-self _ }
 
 pub try_put-requires-clause-home : goal.try_put-requires-clause-home
 try_put-requires-clause-home g c = c.loop.invariant.keeps.out ∙ c.requires.home
@@ -23,6 +24,7 @@ loop-preserved-in-Again g c =
       same = (c.try_put.ensures.pass.0 ∙ i.same.0, c.try_put.ensures.pass.1 ∙ i.same.1);
       ready = c.try_put.ensures.ready;
       held = held-on _ (view c.loop.pass) (view c.try_put.new.pass) i.held reads.0.start reads.0.frames.0;
+      lost = loses-then c.args.iface.now.frames c.loop.iface.frames c.loop.iface.frames (view c.args.pass.now) (view c.loop.pass) (view c.try_put.new.pass) i.lost (reads-lose c.loop.iface.frames (view c.loop.pass) (view c.try_put.new.pass) reads);
       iface = i.iface;
       keeps = keeps-then _ _ _ i.keeps (reads-keep _ _ reads);
     }
@@ -42,6 +44,7 @@ loop-preserved-in-Ok g c =
       same = (k.pass.0 ∙ c.try_put.ensures.pass.0 ∙ i.same.0, k.pass.1 ∙ c.try_put.ensures.pass.1 ∙ i.same.1);
       ready = k.ready;
       held = k.held;
+      lost = lost-on c.args.iface.now.frames c.loop.iface.frames c.fetch.new.iface.frames (view c.args.pass.now) (view c.loop.pass) (view c.try_put.new.pass) (view c.fetch.new.pass) i.lost c.in-Need.ensures.tried.0 k.lost;
       iface = (k.iface.0 ∙ i.iface.0, k.iface.1 ∙ i.iface.1);
       keeps = keeps-then _ _ _ i.keeps (keeps-then _ _ _ (reads-keep _ _ c.in-Need.ensures.tried.0) (waits-keep _ _ k.waits));
     }
@@ -51,7 +54,7 @@ returns-in-Err-clause-err g c =
     let i = c.loop.invariant in
     let needed = c.in-Need.ensures.tried in
     put_faulted.faulted
-    (faulted.missing (view c.loop.pass) (view c.try_put.new.pass) c.in-Need.pid i.keeps needed.1 c.in-Err.ensures.err
+    (faulted.missing (view c.loop.pass) (view c.try_put.new.pass) c.in-Need.pid i.keeps needed.0 needed.1 c.in-Err.ensures.err
     (keeps-then _ _ _ i.keeps (keeps-then _ _ _ (reads-keep _ _ needed.0) (waits-keep _ _ c.fetch.ensures.waits))))
 
 pub returns-in-Worn-clause-held : goal.returns-in-Worn-clause-held
@@ -62,7 +65,7 @@ pub returns-in-Worn-clause-err : goal.returns-in-Worn-clause-err
 returns-in-Worn-clause-err g c =
     let i = c.loop.invariant in
     let worn = c.in-Worn.ensures.tried in
-    put_faulted.faulted (faulted.worn (view c.loop.pass) c.in-Worn.pid i.keeps worn.1 refl (keeps-then _ _ _ i.keeps (reads-keep _ _ worn.0)))
+    put_faulted.faulted (faulted.worn (view c.loop.pass) c.in-Worn.pid i.keeps worn.0 worn.1 refl (keeps-then _ _ _ i.keeps (reads-keep _ _ worn.0)))
 
 pub make_room-requires-clause-home : goal.make_room-requires-clause-home
 make_room-requires-clause-home g c = c.in-Tight.ensures.tried.0.0.out ∙ c.loop.invariant.keeps.out ∙ c.requires.home
@@ -79,6 +82,7 @@ loop-preserved g c =
       same = (k.pass.0 ∙ c.try_put.ensures.pass.0 ∙ i.same.0, k.pass.1 ∙ c.try_put.ensures.pass.1 ∙ i.same.1);
       ready = k.ready;
       held = k.held;
+      lost = lost-on c.args.iface.now.frames c.loop.iface.frames c.make_room.new.iface.frames (view c.args.pass.now) (view c.loop.pass) (view c.try_put.new.pass) (view c.make_room.new.pass) i.lost c.in-Tight.ensures.tried.0 k.lost;
       iface = (k.iface.0 ∙ i.iface.0, k.iface.1 ∙ i.iface.1);
       keeps = keeps-then _ _ _ i.keeps (keeps-then _ _ _ (reads-keep _ _ c.in-Tight.ensures.tried.0) k.keeps);
     }
@@ -87,7 +91,7 @@ pub returns-in-Err-make_room-clause-err : goal.returns-in-Err-make_room-clause-e
 returns-in-Err-make_room-clause-err g c =
     let i = c.loop.invariant in
     let tight = c.in-Tight.ensures.tried in
-    put_faulted.tight (view c.loop.pass) (view c.try_put.new.pass) _ i.keeps tight.1 c.in-Err-make_room.ensures.err
+    put_faulted.tight (view c.loop.pass) (view c.try_put.new.pass) _ i.keeps tight.0 tight.1 c.in-Err-make_room.ensures.err
     (keeps-then _ _ _ i.keeps (keeps-then _ _ _ (reads-keep _ _ tight.0) c.make_room.ensures.keeps))
 
 pub returns-in-Done-clause-held : goal.returns-in-Done-clause-held
@@ -98,3 +102,22 @@ pub returns-in-Done-clause-ok : goal.returns-in-Done-clause-ok
 returns-in-Done-clause-ok g c =
     let i = c.loop.invariant in
     replied KeepsAll _ _ _ _ i.keeps (keeps-last _ _ i.keeps) (inl (c.in-Done.ensures.tried.0, put-not c.args.key c.args.value c.in-Done.reply))
+
+-- ---- no frame is lost
+
+pub returns-in-Err-clause-lost : goal.returns-in-Err-clause-lost
+returns-in-Err-clause-lost g c =
+    lost-on c.args.iface.now.frames c.loop.iface.frames c.fetch.new.iface.frames (view c.args.pass.now) (view c.loop.pass) (view c.try_put.new.pass) (view c.fetch.new.pass) c.loop.invariant.lost c.in-Need.ensures.tried.0 c.fetch.ensures.lost
+
+pub returns-in-Worn-clause-lost : goal.returns-in-Worn-clause-lost
+returns-in-Worn-clause-lost g c =
+    loses-then c.args.iface.now.frames c.loop.iface.frames c.loop.iface.frames (view c.args.pass.now) (view c.loop.pass) (view c.try_put.new.pass) c.loop.invariant.lost (reads-lose c.loop.iface.frames (view c.loop.pass) (view c.try_put.new.pass) c.in-Worn.ensures.tried.0)
+
+pub returns-in-Err-make_room-clause-lost : goal.returns-in-Err-make_room-clause-lost
+returns-in-Err-make_room-clause-lost g c =
+    lost-on c.args.iface.now.frames c.loop.iface.frames c.make_room.new.iface.frames (view c.args.pass.now) (view c.loop.pass) (view c.try_put.new.pass) (view c.make_room.new.pass) c.loop.invariant.lost c.in-Tight.ensures.tried.0 c.make_room.ensures.lost
+
+pub returns-in-Done-clause-lost : goal.returns-in-Done-clause-lost
+returns-in-Done-clause-lost g c =
+    let k = c.in-Done.ensures.tried.0.writes in
+    loses-then c.args.iface.now.frames c.loop.iface.frames c.loop.iface.frames (view c.args.pass.now) (view c.loop.pass) (view c.try_put.new.pass) c.loop.invariant.lost (loses-same c.loop.iface.frames c.loop.iface.frames (view c.loop.pass) (view c.try_put.new.pass) k.frames.0 (λ f e. e))

@@ -3,6 +3,7 @@ use Rattle.vm_step.specs.HeldFrames.{AreHeld}
 use Rattle.vm_step.specs.Passes.{IsSamePass, view}
 use Rattle.vm_step.specs.Ready.{IsReady}
 use Rattle.vm_tree_write.specs.Splits.{KeepsAll}
+use Rattle.vm_tree_read.specs.Waiting.{LosesNone}
 use Rattle.vm_tree_write.proofs.waiting.put.Given as goal
 
 -- no try was answered yet
@@ -11,6 +12,7 @@ invariant-loop g l = record {
   same : IsSamePass l.fn.pass l.pass;
   ready : IsReady l.pool.words.table.shared.key g.B.Block.tells l.pool.words.table.shared.table_id l.pass;
   held : AreHeld l.iface.frames (view l.pass);
+  lost : LosesNone l.fn.iface.frames (view l.fn.pass) l.iface.frames (view l.pass);
   iface : (l.iface.home ≡ l.fn.iface.home) × (l.iface.cap ≡ l.fn.iface.cap);
   keeps : KeepsAll (view l.fn.pass) (view l.pass);
 }

@@ -1,0 +1,184 @@
+-- The evidence of one step of a call, in the log of the whole call.
+use Rattle.std.proofs.Common.{ℕ, ◌≡◌, ◌≢◌, Bool, true, false, if◌then◌else◌, Option, Some, None, List, [], ◌∷◌, ◌++◌, refl, sym, ap, subst, ◌∙◌, append_assoc, arith, ⊎_elim}
+use Rattle.vm_core.specs.Words.{state_of, version_of, word_of, UNLOCKED}
+use Rattle.vm_rule.specs.declared.view.Did.{Did}
+use Rattle.vm_rule.specs.declared.view.Place.{Place}
+use Rattle.vm_rule.specs.declared.view.Place.TheVariants as places
+use Rattle.vm_rule.specs.Log.{did_load}
+use Rattle.vm_rule.specs.Views.{Each}
+use Rattle.vm_rule.proofs.Entries.{each-map}
+use Rattle.vm_rule.proofs.Heard.{each-both}
+use Rattle.vm_rule.proofs.WordFacts.{version-within, word-state}
+use Rattle.vm_step.specs.declared.saw.At.TheVariants as ats
+use Rattle.vm_step.specs.declared.saw.Saw.{Saw}
+use Rattle.vm_step.specs.Evidence.{AreQuiet, Begins, Begins as begun, Gives, IsSaw, NeedsPage, NoWord, place_of}
+use Rattle.vm_guard.specs.Denied.{KeptWord}
+use Rattle.vm_guard.specs.Guards.{AreUnmarking}
+use Rattle.vm_guard.specs.Quiet.{LeavesNone, OnlyUnmarks}
+use Rattle.vm_tree_rule.specs.Leaves.{OnlyClears}
+use Rattle.vm_tree_rule.specs.Shown.{IsSeen}
+
+-- ---- which words steps leave
+
+pub none-some : (o : Option ℕ) (x : ℕ) → o ≡ None → o ≡ Some x → ⊥
+none-some o x none is = let no : Some x ≡ None = sym is ∙ none in cc
+
+state-same : (p q : ℕ) → places.State p ≡ places.State q → p ≡ q
+state-same p q e = ap number e
+  where
+    number : Place → ℕ
+    number (places.State n) = n
+    number _ = 0
+
+pub nones-clear : (done : List Did) → LeavesNone done → OnlyClears done
+nones-clear = each-map (λ (d : Did). d.wrote ≡ None) (λ (d : Did). (x : ℕ) → d.wrote ≡ Some x → ((p : ℕ) × (d.at ≡ places.State p)) × (state_of x ≡ UNLOCKED)) (λ d none x is. absurd (none-some d.wrote x none is))
+
+pub unmarks-clear : (p : ℕ) (done : List Did) → OnlyUnmarks p done → OnlyClears done
+unmarks-clear p =
+    each-map (λ (d : Did). (x : ℕ) → d.wrote ≡ Some x → (d.at ≡ places.State p) × (state_of x ≡ UNLOCKED)) (λ (d : Did). (x : ℕ) → d.wrote ≡ Some x → ((q : ℕ) × (d.at ≡ places.State q)) × (state_of x ≡ UNLOCKED))
+    (λ d h x is. let k = h x is in ((p, k.0), k.1))
+
+pub nones-there : (q : ℕ) (done : List Did) → LeavesNone done → Each (λ (d : Did). d.at ≡ places.State q → d.wrote ≡ None) done
+nones-there q = each-map (λ (d : Did). d.wrote ≡ None) (λ (d : Did). d.at ≡ places.State q → d.wrote ≡ None) (λ d none at. none)
+
+wrote-elsewhere : (p q : ℕ) (at : Place) (wrote : Option ℕ) → q ≢ p → ((x : ℕ) → wrote ≡ Some x → (at ≡ places.State p) × (state_of x ≡ UNLOCKED)) → at ≡ places.State q → wrote ≡ None
+wrote-elsewhere p q at None ne h is = refl
+wrote-elsewhere p q at (Some x) ne h is = absurd (ne (state-same q p (sym is ∙ (h x refl).0)))
+
+-- a word of another page is left by none of them
+pub unmarks-elsewhere : (p q : ℕ) (done : List Did) → q ≢ p → OnlyUnmarks p done → Each (λ (d : Did). d.at ≡ places.State q → d.wrote ≡ None) done
+unmarks-elsewhere p q done ne =
+    each-map (λ (d : Did). (x : ℕ) → d.wrote ≡ Some x → (d.at ≡ places.State p) × (state_of x ≡ UNLOCKED)) (λ (d : Did). d.at ≡ places.State q → d.wrote ≡ None) (λ d h. wrote-elsewhere p q d.at d.wrote ne h) done
+
+some-is : (b : Bool) (new x : ℕ) → (if b then Some new else None) ≡ Some x → x ≡ new
+some-is true new x e = cc
+some-is false new x e = absurd (cc)
+
+load-unmarks : (p : ℕ) (at : Place) (found x : ℕ) → (did_load at found).wrote ≡ Some x → (at ≡ places.State p) × (state_of x ≡ UNLOCKED)
+load-unmarks p at found x is = absurd (cc)
+
+clearing-unmarks : (p word : ℕ) (clearing : List Did) → AreUnmarking p word clearing → OnlyUnmarks p clearing
+clearing-unmarks p word clearing k =
+    ⊎_elim
+    (λ none. subst (OnlyUnmarks p) (sym none.1) tt)
+    (λ one. let found : ℕ = one.1.0 in
+    let new : ℕ = word_of UNLOCKED (version_of word) in
+    subst (OnlyUnmarks p) (sym one.1.1) ((λ x is. (refl, ap state_of (some-is _ new x is) ∙ word-state UNLOCKED (version_of word) (version-within word))), tt))
+    k
+
+-- the start of a guard leaves at most an Unlocked word on its page's state word
+pub start-unmarks : (p first translation word : ℕ) (clearing done : List Did) → done ≡ did_load (places.State p) first ∷ (clearing ++ did_load (places.Translation p) translation ∷ did_load (places.State p) word ∷ []) → AreUnmarking p first clearing → OnlyUnmarks p done
+start-unmarks p first translation word clearing done cut clears =
+    subst (OnlyUnmarks p) (sym cut) (
+      load-unmarks p (places.State p) first,
+      each-both (λ (d : Did). (x : ℕ) → d.wrote ≡ Some x → (d.at ≡ places.State p) × (state_of x ≡ UNLOCKED)) clearing (did_load (places.Translation p) translation ∷ did_load (places.State p) word ∷ [])
+          (clearing-unmarks p first clearing clears)
+          (load-unmarks p (places.Translation p) translation, (load-unmarks p (places.State p) word, tt)),
+    )
+
+-- ---- a longer log
+
+module _ (expects : ℕ → ℕ → Type 0) where
+  begun-behind : (at : Place) (first seen : ℕ) (last : Did) (front earlier since : List Did) → Begins NoWord expects at first seen last earlier since → Begins NoWord expects at first seen last (front ++ earlier) since
+  begun-behind at first seen last front earlier since (begun.guarded k e) = absurd k
+  begun-behind at first seen last front earlier since (begun.read before d e g) = begun.read (front ++ before) d (ap (λ (l : List Did). front ++ l) e ∙ sym (append_assoc front before (d ∷ since))) g
+  begun-behind at first seen last front earlier since (begun.expected before d word e g x l) = begun.expected (front ++ before) d word (ap (λ (l : List Did). front ++ l) e ∙ sym (append_assoc front before (d ∷ since))) g x l
+  begun-behind at first seen last front earlier since (begun.asked word k e x l) = absurd k
+  begun-behind at first seen last front earlier since (begun.same a b) = begun.same a b
+
+  pub saw-behind : (front done : List Did) (saw : Saw) → IsSaw NoWord expects done saw → IsSeen expects (front ++ done) saw
+  saw-behind front done saw s = record {
+    earlier = front ++ s.earlier;
+    last = s.last;
+    later = s.later;
+    cut = ap (λ (l : List Did). front ++ l) s.cut ∙ sym (append_assoc front s.earlier (s.last ∷ s.later));
+    gives = s.gives;
+    since = s.since;
+    begins = begun-behind (place_of saw.at) saw.first saw.seen s.last front s.earlier s.since s.begins;
+    quiet = s.quiet;
+    why = s.why;
+  }
+
+  -- a call that saw it before may have done more since
+  pub seen-front : (done more : List Did) (saw : Saw) → IsSeen expects done saw → IsSeen expects (done ++ more) saw
+  seen-front done more saw s = record {
+    earlier = s.earlier;
+    last = s.last;
+    later = s.later ++ more;
+    cut = ap (λ (l : List Did). l ++ more) s.cut ∙ append_assoc s.earlier (s.last ∷ s.later) more;
+    gives = s.gives;
+    since = s.since;
+    begins = s.begins;
+    quiet = s.quiet;
+    why = s.why;
+  }
+
+  -- the word that a guard kept was read by the call, which left no word there since
+  module _ (p word : ℕ) (a b : List Did) (none : Each (λ (d : Did). d.at ≡ places.State p → d.wrote ≡ None) b) where
+    abbrev pub front : List Did
+    front = a ++ did_load (places.State p) word ∷ b
+
+    since-read : (earlier : List Did) → front ++ earlier ≡ a ++ did_load (places.State p) word ∷ (b ++ earlier)
+    since-read earlier = append_assoc a (did_load (places.State p) word ∷ b) earlier
+
+    gives-it : (at : Place) (first : ℕ) → at ≡ places.State p → word ≡ first → Gives (did_load (places.State p) word) at first
+    gives-it at first is same = (sym is, ap (λ (n : ℕ). Some n) same)
+
+    quiet-since : (at : Place) (seen : ℕ) (since : List Did) → at ≡ places.State p → AreQuiet at seen since → AreQuiet at seen (b ++ since)
+    quiet-since at seen since is quiet =
+        each-both (λ (d : Did). d.at ≡ at → (d.wrote ≢ Some seen) × (d.found ≡ None → d.wrote ≡ None)) b since
+        (each-map (λ (d : Did). d.at ≡ places.State p → d.wrote ≡ None) (λ (d : Did). d.at ≡ at → (d.wrote ≢ Some seen) × (d.found ≡ None → d.wrote ≡ None)) (λ d h e. let w = h (e ∙ is) in ((λ k. none-some d.wrote seen w k), (λ _. w))) b none)
+        quiet
+
+    begun-kept : (at : Place) (first seen : ℕ) (last : Did) (earlier since : List Did) → at ≡ places.State p → Begins (KeptWord word) expects at first seen last earlier since → AreQuiet at seen since
+        → (wide : List Did) × Begins NoWord expects at first seen last (front ++ earlier) wide × AreQuiet at seen wide
+    begun-kept at first seen last earlier since is (begun.guarded k e) quiet =
+        (b ++ since, begun.read a (did_load (places.State p) word) (since-read earlier ∙ ap (λ (l : List Did). a ++ did_load (places.State p) word ∷ (b ++ l)) e) (gives-it at first is (sym k)), quiet-since at seen since is quiet)
+    begun-kept at first seen last earlier since is (begun.read before d e g) quiet =
+        (since, begun.read (front ++ before) d (ap (λ (l : List Did). front ++ l) e ∙ sym (append_assoc front before (d ∷ since))) g, quiet)
+    begun-kept at first seen last earlier since is (begun.expected before d found e g x l) quiet =
+        (since, begun.expected (front ++ before) d found (ap (λ (t : List Did). front ++ t) e ∙ sym (append_assoc front before (d ∷ since))) g x l, quiet)
+    begun-kept at first seen last earlier since is (begun.asked found k e x l) quiet =
+        (b ++ since, begun.expected a (did_load (places.State p) word) found (since-read earlier ∙ ap (λ (t : List Did). a ++ did_load (places.State p) word ∷ (b ++ t)) e) (gives-it at found is (sym k)) x l, quiet-since at seen since is quiet)
+    begun-kept at first seen last earlier since is (begun.same x y) quiet = (since, begun.same x y, quiet)
+
+    pub saw-kept : (done : List Did) (saw : Saw) → saw.at ≡ ats.Page p → IsSaw (KeptWord word) expects done saw → IsSeen expects (front ++ done) saw
+    saw-kept done saw is s =
+        let k = begun-kept (place_of saw.at) saw.first saw.seen s.last s.earlier s.since (ap place_of is) s.begins s.quiet in
+        record {
+          earlier = front ++ s.earlier;
+          last = s.last;
+          later = s.later;
+          cut = ap (λ (l : List Did). front ++ l) s.cut ∙ sym (append_assoc front s.earlier (s.last ∷ s.later));
+          gives = s.gives;
+          since = k.0;
+          begins = k.1;
+          quiet = k.2;
+          why = s.why;
+        }
+
+-- steps that leave Unlocked words alone leave no Evicted one
+clears-foreign : (p word : ℕ) (done : List Did) → state_of word ≡ 255 → OnlyClears done → Each (λ (d : Did). d.at ≡ places.State p → d.wrote ≢ Some word) done
+clears-foreign p word done evicted =
+    each-map (λ (d : Did). (x : ℕ) → d.wrote ≡ Some x → ((q : ℕ) × (d.at ≡ places.State q)) × (state_of x ≡ UNLOCKED)) (λ (d : Did). d.at ≡ places.State p → d.wrote ≢ Some word)
+    (λ d h at is. let bare : state_of word ≡ 0 = (h word is).1 in omega (arith, bare, evicted)) done
+
+pub needs-behind : (p : ℕ) (before done : List Did) → OnlyClears before → NeedsPage done p → NeedsPage (before ++ done) p
+needs-behind p before done clears n =
+    let g = n.given in
+    record {
+      word = n.word;
+      given = record { earlier = before ++ g.earlier; step = g.step; later = g.later; cut = ap (λ (l : List Did). before ++ l) g.cut ∙ sym (append_assoc before g.earlier (g.step ∷ g.later)); gives = g.gives };
+      evicted = n.evicted;
+      foreign = each-both (λ (d : Did). d.at ≡ places.State p → d.wrote ≢ Some n.word) before g.earlier (clears-foreign p n.word before n.evicted clears) n.foreign;
+    }
+
+pub needs-front : (p : ℕ) (done more : List Did) → NeedsPage done p → NeedsPage (done ++ more) p
+needs-front p done more n =
+    let g = n.given in
+    record {
+      word = n.word;
+      given = record { earlier = g.earlier; step = g.step; later = g.later ++ more; cut = ap (λ (l : List Did). l ++ more) g.cut ∙ append_assoc g.earlier (g.step ∷ g.later) more; gives = g.gives };
+      evicted = n.evicted;
+      foreign = n.foreign;
+    }

@@ -1,0 +1,223 @@
+-- A pass that is alone and knows the pages below the next one to be resident: its reads leave it so, and none of them is denied.
+use Rattle.std.proofs.Common.{ℕ, Result, Ok, Err, IfOk, IfErr, ◌≡◌, ◌≢◌, ◌<◌, ◌≤◌, ◌==◌, ◌⊎◌, inl, ⊎_elim, Bool, true, false, if◌then◌else◌, None, List, length, slice_index, replicate, sym, ap, subst, ◌∙◌, arith}
+use Rattle.std.proofs.lemmas.Bool.{cases_eq, cases_lt}
+use Rattle.std.proofs.lemmas.List.{get_or-set_other}
+use Rattle.vm_core.specs.Words.{state_of, version_of, word_of, UNLOCKED, LOCKED, MARKED}
+use Rattle.vm_core.specs.StateActs.{is_readable}
+use Rattle.vm_map.specs.declared.call.Said.{Said}
+use Rattle.vm_page.specs.Pages.{page_at}
+use Rattle.vm_rule.specs.declared.view.Origin.{Origin}
+use Rattle.vm_rule.specs.declared.view.Place.TheVariants as places
+use Rattle.vm_rule.specs.declared.view.View.{View}
+use Rattle.vm_rule.specs.Layout.{bundle_count, index_of}
+use Rattle.vm_rule.specs.Reading.{last_of}
+use Rattle.vm_rule.specs.Rule.{began_of}
+use Rattle.vm_rule.proofs.WordFacts.{version-within, word-state}
+use Rattle.vm_step.specs.Alone.{IsAlone, LocksNone}
+use Rattle.vm_step.specs.Asides.{ReadsAsBefore}
+use Rattle.vm_step.specs.Evidence.{NoWord, NoneExpected}
+use Rattle.vm_step.specs.Keeping.{IsKeptNow}
+use Rattle.vm_step.proofs.Asides.{whole-then}
+use Rattle.vm_step.proofs.Alone.{same-word, still-alone}
+use Rattle.vm_tree_model.specs.Page.{IsInner, IsLeaf}
+use Rattle.vm_tree_laws.specs.Keeps.{Keeps}
+use Rattle.vm_tree_laws.specs.Tied.{IsTied, Tied}
+use Rattle.vm_tree_laws.proofs.Ties.{ties_hold}
+use Rattle.vm_guard.specs.declared.deny.Deny.{Deny}
+use Rattle.vm_guard.specs.declared.opt.OptGuard.{OptGuard}
+use Rattle.vm_guard.specs.Denied.{AgainOrNeed, IsDenied}
+use Rattle.vm_guard.specs.Guards.{Begins, IsReading, IsValid, Loads}
+use Rattle.vm_guard.specs.Sure.{IsFree, IsKnownAt, KnowsSame, known_next, known_word, unmarked_word}
+use Rattle.vm_guard.proofs.Reading.{reading-kept}
+use Rattle.vm_tree_rule.specs.Leaves.{LeavesWord, OnlyReads, ReadsOn}
+use Rattle.vm_tree_rule.specs.Resident.{IsKnownNow, KnowsLocks, KnowsResident}
+use Rattle.vm_tree_rule.specs.Standing.{IsNameIn, NamesPage, tree_pages}
+use Rattle.vm_tree_rule.proofs.Entering.{pages-are, sees-back}
+use Rattle.vm_tree_rule.proofs.Readings.{begins-leave, begins-reads, denied-leave, denied-reads, loads-reads, valid-reads}
+
+-- a free page's word is free without its mark
+unmarked-free : (word : ℕ) → IsFree word → IsFree (unmarked_word word)
+unmarked-free word free = go (state_of word == MARKED)
+  where
+    go : (b : Bool) → IsFree (if b then word_of UNLOCKED (version_of word) else word)
+    go true = inl (word-state UNLOCKED (version_of word) (version-within word))
+    go false = free
+
+free-unlocked : (word : ℕ) → IsFree word → state_of word ≢ LOCKED
+free-unlocked word free locked =
+    let full : state_of word ≡ 253 = locked in
+    ⊎_elim (λ (e : state_of word ≡ 0). omega (arith, e, full)) (λ (e : state_of word ≡ 254). omega (arith, e, full)) free
+
+pub free-readable : (word : ℕ) → IsFree word → is_readable (state_of word) ≡ true
+free-readable word free = ⊎_elim (λ (e : state_of word ≡ UNLOCKED). ap is_readable e) (λ (e : state_of word ≡ MARKED). ap is_readable e) free
+
+module _ {X : Type 0} where
+  pub resident-same : (v w : View X) → OnlyReads v w → KnowsSame v w → KnowsResident v → KnowsResident w
+  resident-same v w reads table k =
+      let words = table k.alone in
+      record {
+        alone = still-alone v w reads.parts reads.alone.current k.alone;
+        each = λ q l m.
+            subst IsFree (sym (same-word v w reads.start words (places.State q)))
+            (k.each q (subst (λ (n : ℕ). q < n) (same-word v w reads.start words places.Next) l) (subst (λ (o : Origin). q < o.pages) reads.start m));
+      }
+
+  -- the next word is known on
+  pub same-next : (v w : View X) → OnlyReads v w → KnowsSame v w → IsAlone v → known_next w ≡ known_next v
+  same-next v w reads table a = same-word v w reads.start (table a) places.Next
+
+  pub known-same : (p word : ℕ) (v w : View X) → OnlyReads v w → KnowsSame v w → IsKnownNow p word v → IsKnownNow p word w
+  known-same p word v w reads table k = record {
+    resident = resident-same v w reads table k.resident;
+    known = same-word v w reads.start (table k.resident.alone) (places.State p) ∙ k.known;
+    free = k.free;
+    below = subst (λ (n : ℕ). p < n) (sym (same-next v w reads table k.resident.alone)) k.below;
+  }
+
+  -- a pass that knew the locks knows them on
+  pub locks-same : (v w : View X) → OnlyReads v w → KnowsSame v w → KnowsLocks v → KnowsLocks w
+  locks-same v w reads table k = record {
+    current = reads.alone.current k.current;
+    unheld = λ a q inside exclusive shares.
+        let alone : IsAlone v = (whole-then w v (sym reads.parts.0, sym reads.parts.1) a.0, k.current) in
+        subst LocksNone (sym (same-word v w reads.start (table alone) (places.State q)))
+        (k.unheld alone q (subst (λ (o : Origin). q < o.pages) reads.start inside) (sym (reads.holds q).exclusive ∙ exclusive) (sym (reads.holds q).shares ∙ shares));
+  }
+
+  pub known-at : (p word : ℕ) (v : View X) → IsKnownNow p word v → IsKnownAt p word v
+  known-at p word v k = (ap version_of k.known, λ l. free-unlocked word k.free (ap state_of (sym k.known) ∙ l))
+
+  module _ (p word frame : ℕ) (v w : View X) (b : Begins p word frame v w) (a : IsAlone v) where
+    begun-word : (q : ℕ) → q ≢ p → known_word q w ≡ known_word q v
+    begun-word q ne = ap (λ (l : List ℕ). slice_index l q) (b.table a) ∙ get_or-set_other v.snapshot.words p q word 0 ne
+
+    pub begun-next : known_next w ≡ known_next v
+    begun-next =
+        let start : w.start ≡ v.start = b.quiet.steady.start in
+        let inside : p < v.start.pages = subst (λ (o : Origin). p < o.pages) start b.reads.page in
+        ap (λ (o : Origin). slice_index w.snapshot.words (index_of o places.Next)) start
+        ∙ ap (λ (l : List ℕ). slice_index l (index_of v.start places.Next)) (b.table a)
+        ∙ get_or-set_other v.snapshot.words p (index_of v.start places.Next) word 0 (λ e. let more = bundle_count v.start in omega (arith, inside, e))
+
+  -- a page that the pass begins to read is read, and free
+  pub resident-begun : (p word frame : ℕ) (v w : View X) → Begins p word frame v w → KnowsResident v → KnowsResident w
+  resident-begun p word frame v w b k =
+      let reads : OnlyReads v w = (begins-reads p word frame v w b).0 in
+      let known = b.known k.alone in
+      record {
+        alone = still-alone v w reads.parts reads.alone.current k.alone;
+        each = λ q l m.
+            let below : q < known_next v = subst (λ (n : ℕ). q < n) (begun-next p word frame v w b k.alone) l in
+            let inside : q < v.start.pages = subst (λ (o : Origin). q < o.pages) reads.start m in
+            ⊎_elim
+            (λ (e : q ≡ p). subst IsFree (sym (ap (λ (n : ℕ). known_word n w) e ∙ known.0 ∙ known.1 ∙ ap (λ (n : ℕ). unmarked_word (known_word n v)) (sym e))) (unmarked-free (known_word q v) (k.each q below inside)))
+            (λ ne. subst IsFree (sym (begun-word p word frame v w b k.alone q ne)) (k.each q below inside))
+            (cases_eq q p);
+      }
+
+  pub known-begun : (p word frame : ℕ) (v w : View X) → Begins p word frame v w → p < known_next v → KnowsResident v → IsKnownNow p word w
+  known-begun p word frame v w b below k =
+      let known = b.known k.alone in
+      let inside : p < v.start.pages = subst (λ (o : Origin). p < o.pages) b.quiet.steady.start b.reads.page in
+      record {
+        resident = resident-begun p word frame v w b k;
+        known = known.0;
+        free = subst IsFree (sym known.1) (unmarked-free (known_word p v) (k.each p below inside));
+        below = subst (λ (n : ℕ). p < n) (sym (begun-next p word frame v w b k.alone)) below;
+      }
+
+  pub known-beside : (q x p word frame : ℕ) (v w : View X) → q ≢ p → Begins p word frame v w → IsKnownNow q x v → IsKnownNow q x w
+  known-beside q x p word frame v w ne b k = record {
+    resident = resident-begun p word frame v w b k.resident;
+    known = begun-word p word frame v w b k.resident.alone q ne ∙ k.known;
+    free = k.free;
+    below = subst (λ (n : ℕ). q < n) (sym (begun-next p word frame v w b k.resident.alone)) k.below;
+  }
+
+-- page q was looked at, with whatever answer: page p, another one, is as it was
+pub record HasLooked {X : Type 0} (p : ℕ) (v x : View X) : Type 0 where
+  pub reads : ReadsOn v x
+  pub leaves : LeavesWord p v x
+  pub same : ReadsAsBefore v x p
+  pub next : IsAlone v → known_next x ≡ known_next v
+
+pub looked : {X : Type 0} (q p : ℕ) (r : Result OptGuard Deny) (v x : View X) → q ≢ p → IfOk r (λ g. (g.pid ≡ q) × Begins q g.word g.frame v x) → IfErr r (λ d. IsDenied AgainOrNeed NoWord NoneExpected q d v x) → HasLooked p v x
+looked q p (Ok g) v x ne ok err =
+    record {
+      reads = begins-reads q g.word g.frame v x ok.1;
+      leaves = begins-leave p q g.word g.frame v x (λ e. ne (sym e)) ok.1;
+      same = ok.1.quiet.others p (λ e. ne (sym e));
+      next = begun-next q g.word g.frame v x ok.1;
+    }
+looked q p (Err d) v x ne ok err =
+    let reads : ReadsOn v x = denied-reads AgainOrNeed NoWord NoneExpected q d v x err in
+    record { reads = reads; leaves = denied-leave AgainOrNeed NoWord NoneExpected p q d v x (λ e. ne (sym e)) err; same = err.quiet.others p (λ e. ne (sym e)); next = same-next v x reads.0 err.table }
+
+-- its read stays open
+pub looked-reading : {X : Type 0} (p word frame : ℕ) (v x : View X) → HasLooked p v x → IsReading p word frame v → IsReading p word frame x
+looked-reading p word frame v x l r = reading-kept p word frame v x r l.reads.0.start (l.reads.0.holds p) (λ k. (l.reads.0.knows p k).held) l.same.reading
+
+-- and what is known of it too
+pub looked-known : {X : Type 0} (q p word : ℕ) (r : Result OptGuard Deny) (v x : View X) → q ≢ p → IfOk r (λ g. (g.pid ≡ q) × Begins q g.word g.frame v x) → IfErr r (λ d. IsDenied AgainOrNeed NoWord NoneExpected q d v x) → IsKnownNow p word v → IsKnownNow p word x
+looked-known q p word (Ok g) v x ne ok err k = known-beside p word q g.word g.frame v x (λ e. ne (sym e)) ok.1 k
+looked-known q p word (Err d) v x ne ok err k = known-same p word v x (denied-reads AgainOrNeed NoWord NoneExpected q d v x err).0 err.table k
+
+-- a page of zeros is no node
+no-node : (words : List ℕ) → words ≡ replicate 64 0 → IsLeaf words ⊎ IsInner words → ⊥
+no-node words zeros kind =
+    let tag : slice_index words 0 ≡ slice_index (replicate 64 0) 0 = ap (λ (l : List ℕ). slice_index l 0) zeros in
+    ⊎_elim (λ (leaf : IsLeaf words). let two : slice_index words 0 ≡ 2 = leaf.node.tag in omega (arith, tag, two)) (λ (inner : IsInner words). let three : slice_index words 0 ≡ 3 = inner.node.tag in omega (arith, tag, three)) kind
+
+-- page r, which was validated, names a page that was claimed
+pub named-claimed : (r named : ℕ) (w : View Said) (k : IsKeptNow Keeps r (Unit {0}) w) → r < w.start.pages → IsNameIn (tree_pages w) r (last_of w r).words named → named < k.kept.next
+named-claimed r named w k inside name =
+    ⊎_elim
+    (λ (l : named < k.kept.next). l)
+    (λ (le : k.kept.next ≤ named).
+    let below : named < w.start.pages = subst (λ (n : ℕ). named < n) (pages-are r (Unit {0}) w k) name.high in
+    let tied : IsTied (tree_pages w) r (page_at k.kept.pages r) named (page_at k.kept.pages named) = ties_hold (began_of w.start) k.kept r named k.holds (subst (λ (n : ℕ). r < n) (sym k.pages) inside) in
+    absurd (no-node (page_at k.kept.pages named) (k.zero named le below) (name.node (page_at k.kept.pages named) (subst (λ (l : List ℕ). IsTied (tree_pages w) r l named (page_at k.kept.pages named)) (k.page tt) tied))))
+    (cases_lt named k.kept.next)
+
+-- so was page 0
+pub first-claimed : (free : Type 0) (w : View Said) (k : IsKeptNow Keeps 0 free w) → 0 < w.start.pages → 0 < k.kept.next
+first-claimed free w k some =
+    ⊎_elim
+    (λ (l : 0 < k.kept.next). l)
+    (λ (le : k.kept.next ≤ 0).
+    let zero : slice_index (page_at k.kept.pages 0) 0 ≡ slice_index (replicate 64 0) 0 = ap (λ (l : List ℕ). slice_index l 0) (k.zero 0 le some) in
+    let magic : slice_index (page_at k.kept.pages 0) 0 ≡ 0x564D434143484531 = k.holds.tree.meta.magic in
+    absurd (omega (arith, zero, magic)))
+    (cases_lt 0 k.kept.next)
+
+-- the page that a validated page names is below the next one, as the pass knew that before it looked at the page
+pub named-below : (r word frame named : ℕ) (v x w : View Said) → ReadsOn v x → ReadsAsBefore v x r → known_next x ≡ known_next v → IsValid Tied r word frame None x w → IsKeptNow Keeps r (Unit {0}) w → NamesPage v r word named → v.start.tells ≡ true → IsAlone v → named < known_next v
+named-below r word frame named v x w reads same next k kept names tells a =
+    let valid : ReadsOn x w = valid-reads Tied r word frame x w k in
+    let start : w.start ≡ v.start = valid.0.start ∙ reads.0.start in
+    let there : IsAlone x = still-alone v x reads.0.parts reads.0.alone.current a in
+    let here : IsAlone w = still-alone x w valid.0.parts valid.0.alone.current there in
+    let name : IsNameIn (tree_pages v) r (last_of w r).words named = names tells (last_of w r).words k.size (sees-back r word frame v x w reads same k tells) in
+    let claimed : named < kept.kept.next = named-claimed r named w kept k.reads.page (subst (λ (o : Origin). IsNameIn (length o.contents) r (last_of w r).words named) (sym start) name) in
+    subst (λ (n : ℕ). named < n) (sym (kept.next here) ∙ same-next x w valid.0 k.table there ∙ next) claimed
+
+-- a page that is below the next one is free, as the pass knows it
+pub free-below : (p : ℕ) (v : View Said) → KnowsResident v → p < known_next v → p < v.start.pages → is_readable (state_of (known_word p v)) ≡ true
+free-below p v k below inside = free-readable (known_word p v) (k.each p below inside)
+
+-- page 0 is not denied
+pub first-readable : (free : Type 0) (deny : Deny) (v x : View Said) → IsDenied AgainOrNeed NoWord NoneExpected 0 deny v x → IsKeptNow Keeps 0 free x → 0 < v.start.pages → KnowsResident v → is_readable (state_of (known_word 0 v)) ≡ true
+first-readable free deny v x d kept some k =
+    let reads : OnlyReads v x = (denied-reads AgainOrNeed NoWord NoneExpected 0 deny v x d).0 in
+    let there : IsAlone x = still-alone v x reads.parts reads.alone.current k.alone in
+    let claimed : 0 < kept.kept.next = first-claimed free x kept (subst (λ (o : Origin). 0 < o.pages) (sym reads.start) some) in
+    free-below 0 v k (subst (λ (n : ℕ). 0 < n) (sym (kept.next there) ∙ same-next v x reads d.table k.alone) claimed) some
+
+-- page 0 is read, and two words of it
+pub first-known : (free : Type 0) (p word frame : ℕ) (one two : List (ℕ × ℕ)) (v a b y : View Said) → p ≡ 0 → Begins 0 word frame v a → IsKeptNow Keeps 0 free a → Loads p word frame one a b → Loads p word frame two b y → KnowsResident v → IsKnownNow p word y
+first-known free p word frame one two v a b y zero begins kept first second k =
+    let reads : OnlyReads v a = (begins-reads 0 word frame v a begins).0 in
+    let there : IsAlone a = still-alone v a reads.parts reads.alone.current k.alone in
+    let claimed : 0 < kept.kept.next = first-claimed free a kept begins.reads.page in
+    let known : IsKnownNow 0 word a = known-begun 0 word frame v a begins (subst (λ (n : ℕ). 0 < n) (sym (kept.next there) ∙ begun-next 0 word frame v a begins k.alone) claimed) k in
+    known-same p word b y (loads-reads p word frame two b y second).0 second.table (known-same p word a b (loads-reads p word frame one a b first).0 first.table (subst (λ (n : ℕ). IsKnownNow n word a) (sym zero) known))

@@ -1,0 +1,122 @@
+-- A pass that is alone: what a call on a page answers that the pass knows to be free.
+use Rattle.std.proofs.Common.{ℕ, Bool, ◌≡◌, ◌≢◌, ◌<◌, ◌≤◌, ◌+◌, ◌∙◌, List, Err, IsOk, Result, ap, arith, inl, slice_index, subst, sym, ⊎_elim}
+use Rattle.std.proofs.lemmas.Bool.{cases_lt, false≢true}
+use Rattle.std.proofs.lemmas.List.{get_or-set_other}
+use Rattle.vm_core.specs.Words.{version_of, word_of, LOCKED, MAX_VERSION}
+use Rattle.vm_rule.specs.declared.view.Did.{Did}
+use Rattle.vm_rule.specs.declared.view.Origin.{Origin}
+use Rattle.vm_rule.specs.declared.view.Place.TheVariants as places
+use Rattle.vm_rule.specs.declared.view.View.{View}
+use Rattle.vm_rule.specs.Layout.{bundle_count, index_of}
+use Rattle.vm_rule.proofs.WordFacts.{version-within}
+use Rattle.vm_map.specs.declared.call.Said.{Said}
+use Rattle.vm_rule.specs.Joins.{HoldsNoPage}
+use Rattle.vm_step.specs.Alone.{IsAlone, KnowsUnheld, LocksNone}
+use Rattle.vm_tree_rule.specs.Leaves.{ReadsOn}
+use Rattle.vm_tree_rule.specs.Resident.{IsKnownNow}
+use Rattle.vm_step.proofs.Alone.{still-alone}
+use Rattle.vm_exmap.specs.Frames.{MovesFrames}
+use Rattle.vm_tree_laws.specs.Tied.{Tied}
+use Rattle.vm_guard.specs.declared.deny.Deny.{Deny}
+use Rattle.vm_guard.specs.declared.deny.Deny.TheVariants as denies
+use Rattle.vm_guard.specs.declared.exclusive.ExclusiveGuard.{ExclusiveGuard}
+use Rattle.vm_guard.specs.declared.opt.OptGuard.{OptGuard}
+use Rattle.vm_guard.specs.Guards.{IsLocked}
+use Rattle.vm_guard.specs.Denied.{AgainOrWorn, SameOrUnlocked}
+use Rattle.vm_guard.specs.Sure.{IsFree, IsKnownFree, MayBeTried, known_next, known_word}
+use Rattle.vm_tree_write.specs.Prepares.{AreLocked, KnowsBoth, KnowsToSplit}
+use Rattle.vm_tree_write.specs.Writes.{SaysWorn}
+
+abbrev pub denied : Deny → Result ExclusiveGuard Deny
+denied deny = Err deny
+
+-- an upgrade is denied only where the page is at the last version
+pub only-worn : (p word : ℕ) (deny : Deny) (v : View Said) → AgainOrWorn deny → IsAlone v → IsFree word → known_word p v ≡ word → (version_of word ≡ MAX_VERSION → denied deny ≡ denied (denies.Worn p))
+    → (IsAlone v → IsKnownFree p v → SameOrUnlocked word (known_word p v) → version_of word < MAX_VERSION → IsOk (denied deny)) → SaysWorn deny
+only-worn p word (denies.Again saw) v kind alone free known worn sure =
+    ⊎_elim
+    (λ (below : version_of word < MAX_VERSION). absurd (false≢true (sure alone (subst IsFree (sym known) free) (inl known) below)))
+    (λ (last : MAX_VERSION ≤ version_of word). let within = version-within word in let no = worn (omega (arith, last, within)) in absurd (cc))
+    (cases_lt (version_of word) MAX_VERSION)
+only-worn p word (denies.Worn q) v kind alone free known worn sure = tt
+only-worn p word (denies.Need q) v kind alone free known worn sure = absurd kind
+only-worn p word (denies.Crowded q) v kind alone free known worn sure = absurd kind
+
+-- ---- what it knows of pages while frames are moved and pages are locked
+
+module _ (p f version : ℕ) (dirty : Bool) (v x : View Said) (l : IsLocked Tied p f version dirty v x) (alone : IsAlone v) where
+  pub locked-alone : IsAlone x
+  locked-alone = still-alone v x l.elsewhere.steady.parts l.alone.current alone
+
+  pub locked-word : (q : ℕ) → q ≢ p → known_word q x ≡ known_word q v
+  locked-word q ne = ap (λ (t : List ℕ). slice_index t q) (l.table alone) ∙ get_or-set_other v.snapshot.words p q (word_of LOCKED version) 0 ne
+
+  pub locked-next : known_next x ≡ known_next v
+  locked-next =
+      let start : x.start ≡ v.start = l.elsewhere.steady.start in
+      let inside : p < v.start.pages = subst (λ (o : Origin). p < o.pages) start l.holding.page in
+      ap (λ (o : Origin). slice_index x.snapshot.words (index_of o places.Next)) start
+      ∙ ap (λ (t : List ℕ). slice_index t (index_of v.start places.Next)) (l.table alone)
+      ∙ get_or-set_other v.snapshot.words p (index_of v.start places.Next) (word_of LOCKED version) 0 (λ e. let more = bundle_count v.start in omega (arith, inside, e))
+
+-- frames were moved
+pub both-moved : (first second : OptGuard) (done : List Did) (v x : View Said) → MovesFrames done v x → first.pid < v.start.pages → second.pid < v.start.pages → KnowsBoth first second v → KnowsBoth first second x
+both-moved first second done v x m a b k = record {
+  alone = still-alone v x m.parts m.alone.current k.alone;
+  free = k.free;
+  words = (m.states k.alone first.pid a ∙ k.words.0, m.states k.alone second.pid b ∙ k.words.1);
+}
+
+-- ---- the fresh pages that it asks for
+
+module _ (n : ℕ) (first second : OptGuard) (up low : ExclusiveGuard) (done : List Did) (v x y : View Said) (m : MovesFrames done v x) (l : AreLocked first second up low x y) (k : KnowsToSplit first second v) where
+  moved-alone : IsAlone x
+  moved-alone = still-alone v x m.parts m.alone.current k.both.alone
+
+  between-alone : IsAlone l.between
+  between-alone = locked-alone first.pid up.frame up.version up.dirty x l.between l.up_locked moved-alone
+
+  pub both-alone : IsAlone y
+  both-alone = locked-alone second.pid low.frame low.version low.dirty l.between y l.low_locked between-alone
+
+  next-then : known_next y ≡ known_next v
+  next-then =
+      locked-next second.pid low.frame low.version low.dirty l.between y l.low_locked between-alone
+      ∙ locked-next first.pid up.frame up.version up.dirty x l.between l.up_locked moved-alone
+      ∙ m.next k.both.alone
+
+  start-there : y.start ≡ v.start
+  start-there = l.low_locked.elsewhere.steady.start ∙ l.up_locked.elsewhere.steady.start ∙ m.start
+
+  word-then : (q : ℕ) → q < v.start.pages → q ≢ first.pid → q ≢ second.pid → known_word q y ≡ known_word q v
+  word-then q inside a b =
+      locked-word second.pid low.frame low.version low.dirty l.between y l.low_locked between-alone q b
+      ∙ locked-word first.pid up.frame up.version up.dirty x l.between l.up_locked moved-alone q a
+      ∙ m.states k.both.alone q inside
+
+  -- each of them is locked by nobody
+  pub may-be-tried : known_next y + n ≤ y.start.pages → MayBeTried n y
+  may-be-tried room = record {
+    room = room;
+    each = λ q from below.
+        let inside : q < v.start.pages = subst (λ (o : Origin). q < o.pages) start-there (omega (arith, below, room)) in
+        let past : known_next v ≤ q = subst (λ (t : ℕ). t ≤ q) next-then from in
+        let a : first.pid < known_next v = k.below.0 in
+        let b : second.pid < known_next v = k.below.1 in
+        subst LocksNone (sym (word-then q inside (λ e. omega (arith, e, a, past)) (λ e. omega (arith, e, b, past)))) (k.unheld k.both.alone q inside (k.holds.exclusive q) (k.holds.shares q));
+  }
+
+-- ---- the search met a full node
+
+pub knows-to-split : (a b : OptGuard) (v w : View Said) → ReadsOn v w → HoldsNoPage v → KnowsUnheld w → IsKnownNow a.pid a.word w → IsKnownNow b.pid b.word w → KnowsToSplit a b w
+knows-to-split a b v w r holds unheld ka kb = record {
+  both = record { alone = ka.resident.alone; free = (ka.free, kb.free); words = (ka.known, kb.known) };
+  below = (ka.below, kb.below);
+  holds = record {
+    shares = λ q. (r.0.holds q).shares ∙ holds.shares q;
+    exclusive = λ q. (r.0.holds q).exclusive ∙ holds.exclusive q;
+    writing = λ q. (r.0.holds q).writing ∙ holds.writing q;
+    out = r.0.out ∙ holds.out;
+  };
+  unheld = unheld;
+}
