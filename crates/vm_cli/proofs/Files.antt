@@ -20,12 +20,12 @@ whole_bytes bytes found limit e h = e ∙ take_all (limit + 1) bytes (omega (ari
 
 -- a file that was read to its end is what was read
 pub short_file : (told : Option Shown) (name found : List ℕ) (limit : ℕ) (P : List ℕ → Type 0) → ReadsWhole told name limit found → length found ≤ limit → P found → HasFile told name P
-short_file None name found limit P w h p = tt
+short_file None name found limit P w h p = (found, p)
 short_file (Some shown) name found limit P w h p = (w.bytes, w.file, subst P (whole_bytes w.bytes found limit w.front h) p)
 
 -- a file of which more than the limit was read is longer than it
 pub long_file : (told : Option Shown) (name found : List ℕ) (limit : ℕ) → ReadsWhole told name limit found → limit < length found → HasFile told name (λ bytes. limit < length bytes)
-long_file None name found limit w h = tt
+long_file None name found limit w h = (found, h)
 long_file (Some shown) name found limit w h = (w.bytes, w.file, omega (arith, ap length w.front, length-take (limit + 1) w.bytes))
 
 -- a page file that was read is the file
@@ -44,7 +44,7 @@ short_length bytes found told e t none (inl long) = record {
 
 -- where what was read is no page file, the file is none, and its length is told up to one past a page file's most
 pub wrong_length : (told : Option Shown) (name found : List ℕ) (len : ℕ) → ReadsWhole told name most_image found → len ≡ length found → ¬ (IsPageFile found) → HasFile told name (λ bytes. IsWrongLength bytes len)
-wrong_length None name found len w e none = tt
+wrong_length None name found len w e none = (w.0, short_length w.0 found len w.1 e none (cases_lt most_image (length found)))
 wrong_length (Some shown) name found len w e none = (w.bytes, w.file, short_length w.bytes found len w.front e none (cases_lt most_image (length found)))
 
 length_filter : {X : Type 0} (p : X → Bool) (xs : List X) → length (filter p xs) ≤ length xs
@@ -104,5 +104,5 @@ lists_script workers bytes lists s = ap length s.each ∙ length_lists workers s
 
 -- what holds of a file's bytes may be said weaker
 pub has_file : (told : Option Shown) (name : List ℕ) (P Q : List ℕ → Type 0) → ((bytes : List ℕ) → P bytes → Q bytes) → HasFile told name P → HasFile told name Q
-has_file None name P Q h f = tt
+has_file None name P Q h f = (f.0, h f.0 f.1)
 has_file (Some shown) name P Q h f = (f.0, f.1, h f.0 f.2)

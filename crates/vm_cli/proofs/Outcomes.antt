@@ -79,7 +79,12 @@ calls_stop view text told failed asked Memory good r = tt
 calls_stop view text told failed asked (Stopped stop) good r = r asked refl refl good
 
 pub run_serves : (told : Option Shown) (asked : Asked) (rows : Rows) (lists : List (List Call)) (text : List ℕ) → HasShape asked → HasFile told asked.image (λ bytes. HasRows bytes rows) → HasFile told asked.script (λ bytes. IsGoodScript asked.workers bytes lists) → IsAnswered rows.pairs.items lists text → IsServed told asked text
-run_serves None asked rows lists text shape image script a = record { shape = shape; answers = tt }
+run_serves None asked rows lists text shape image script a = record {
+  shape = shape;
+  answers =
+      let rows_are : rows.pairs.items ≡ file_map image.0 = image.1.are.pairs in
+      (image.0, (tree_file image.0 rows image.1, (script.0, (lists, script.1, subst (λ m. IsAnswered m lists text) rows_are a))));
+}
 run_serves (Some shown) asked rows lists text shape image script a = record {
   shape = shape;
   answers =

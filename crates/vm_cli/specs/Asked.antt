@@ -1,6 +1,8 @@
 -- What the words ask of the command `run`, and the limits of its numbers.
-use Rattle.std.specs.Prelude.{ℕ, ◌*◌, ◌≤◌, List}
+use Rattle.std.specs.Prelude.{ℕ, Bool, false, not, ◌*◌, ◌≤◌, ◌==◌, ◌||◌, List, is_some, vec_len}
 use Rattle.vm_words.specs.declared.Run.{Run}
+use Rattle.vm_words.specs.declared.Command.{Command}
+use Rattle.vm_words.specs.declared.Command.TheVariants as commands
 
 pub record Asked : Type 0 where
   pub image : List ℕ
@@ -11,6 +13,12 @@ pub record Asked : Type 0 where
 -- what a command of the program asks
 abbrev pub asked_of : Run → Asked
 asked_of run = record { image = run.image.now; script = run.script.now; workers = run.workers; frames = run.frames }
+
+-- the command has an option, of which none is served
+abbrev pub has_option : Command → Bool
+has_option (commands.Run run) = is_some run.options.keep || (not (vec_len run.options.fail == 0) || is_some run.options.first_version)
+has_option (commands.Check check) = false
+has_option (commands.Replay replay) = false
 
 -- 1 to 64 workers
 abbrev pub AreWorkers : ℕ → Type 0

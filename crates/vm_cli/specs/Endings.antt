@@ -1,11 +1,11 @@
 -- How a run ends: each status with its cause, and what is said.
-use Rattle.std.specs.Prelude.{ℕ, ◌≡◌, List, [], ◌∷◌, ◌++◌, codes, Bool, true, Option}
+use Rattle.std.specs.Prelude.{ℕ, ◌≡◌, List, [], ◌∷◌, ◌++◌, codes, Bool, true, false, Option}
 use Rattle.vm_io.specs.Shown.{Shown}
 use Rattle.vm_cli.specs.declared.stop.Stop.{Stop}
 use Rattle.vm_words.specs.declared.Command.{Command}
 use Rattle.vm_words.specs.declared.Command.TheVariants.{Run, Check, Replay}
 use Rattle.vm_words.specs.Commands.{IsCommand, IsNoCommand, WhyRefused}
-use Rattle.vm_cli.specs.Asked.{Asked, asked_of}
+use Rattle.vm_cli.specs.Asked.{Asked, asked_of, has_option}
 use Rattle.vm_replay.specs.Told.{PlayedFile}
 use Rattle.vm_cli.specs.declared.halt.Halt.{Halt}
 use Rattle.vm_cli.specs.Checks.{CheckEnds, IsToldCheck}
@@ -39,7 +39,8 @@ CommandEnds (Replay replay) failed old new status = ReplayEnds replay.file.now f
 -- How the program may end on these words
 pub data RunEnds (words : List (List ℕ)) (failed : List ℕ) (old new : Option Shown) (status : ℕ) : Type 0 where
   usage : IsNoCommand words → WhyRefused words → IsSaid old new usage_text 1 status → RunEnds words failed old new status
-  command : (command : Command) → IsCommand words command → CommandEnds command failed old new status → RunEnds words failed old new status
+  unserved : (command : Command) → IsCommand words command → has_option command ≡ true → IsSaid old new usage_text 1 status → RunEnds words failed old new status
+  command : (command : Command) → IsCommand words command → has_option command ≡ false → CommandEnds command failed old new status → RunEnds words failed old new status
   exhausted : new ≡ old → status ≡ 6 → RunEnds words failed old new status
 
 -- the script's calls are answered from the image's map on, and what was said is the text of that

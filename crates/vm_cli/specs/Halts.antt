@@ -2,7 +2,6 @@
 use Rattle.std.specs.Prelude.{ℕ, ◌<◌, ◌≤◌, ◌≡◌, Bool, true, false, List, [], ◌∷◌, ◌++◌, length, codes, Option, Result, Ok, Err}
 use Rattle.std.specs.Fmt.{decimal}
 use Rattle.vm_io.specs.Shown.{Shown}
-use Rattle.vm_io.specs.Causes.{name_front}
 use Rattle.vm_script.specs.Scripts.{most_bytes}
 use Rattle.vm_script.specs.Events.{IsFirstBadEvent}
 use Rattle.vm_replay.specs.Told.{PlayedFile}
@@ -17,9 +16,9 @@ pub record IsBadEvent (n : ℕ) (bytes : List ℕ) : Type 0 where
   pub short : length bytes ≤ most_bytes
   pub first : IsFirstBadEvent bytes n
 
--- why it halted; `failed` is the front of the name of the file that the host could not read last
+-- why it halted; `failed` is the name of the file that the host could not read last
 abbrev pub IsHalted : Option Shown → List ℕ → List ℕ → Halt → Type 0
-IsHalted shown failed file ReadEvents = failed ≡ name_front file
+IsHalted shown failed file ReadEvents = failed ≡ file
 IsHalted shown failed file EventsLong = HasFile shown file (λ bytes. most_bytes < length bytes)
 IsHalted shown failed file (EventsLine n) = HasFile shown file (IsBadEvent n)
 

@@ -2,7 +2,6 @@
 use Rattle.std.specs.Prelude.{ℕ, ◌<◌, ◌≤◌, ◌≡◌, List, [], ◌∷◌, ◌++◌, length, codes, Option, Result, Ok, Err}
 use Rattle.std.specs.Fmt.{decimal}
 use Rattle.vm_io.specs.Shown.{Shown}
-use Rattle.vm_io.specs.Causes.{name_front}
 use Rattle.vm_map.specs.declared.call.Call.{Call}
 use Rattle.vm_script.specs.Scripts.{IsFirstBad, most_bytes}
 use Rattle.vm_cli.specs.declared.stop.Stop.{Stop}
@@ -25,12 +24,12 @@ pub record HasGoodImage (shown : Option Shown) (asked : Asked) : Type 0 where
   pub image : HasFile shown asked.image IsTreeFile
 
 -- Why it stopped: each cause says that the earlier ones do not hold.
--- `failed` is the front of the name of the file that the host could not read last.
+-- `failed` is the name of the file that the host could not read last.
 abbrev pub IsStopped : Option Shown → List ℕ → Asked → Stop → Type 0
 IsStopped shown failed asked ShapeWorkers = ¬ (AreWorkers asked.workers)
 IsStopped shown failed asked ShapeFrames = AreWorkers asked.workers × ¬ (AreFrames asked.workers asked.frames)
 IsStopped shown failed asked (Image stop) = HasShape asked × IsImageStopped shown failed asked.image stop
-IsStopped shown failed asked ReadScript = HasGoodImage shown asked × (failed ≡ name_front asked.script)
+IsStopped shown failed asked ReadScript = HasGoodImage shown asked × (failed ≡ asked.script)
 IsStopped shown failed asked ScriptLong = HasGoodImage shown asked × HasFile shown asked.script (λ bytes. most_bytes < length bytes)
 IsStopped shown failed asked (ScriptLine n) = HasGoodImage shown asked × HasFile shown asked.script (IsBadLine asked.workers n)
 

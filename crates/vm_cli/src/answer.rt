@@ -4,14 +4,14 @@ ghost use Rattle.std.specs.Prelude.{◌≡◌, ◌+◌, ◌≤◌, ◌<◌, ◌^
 ghost use Rattle.std.specs.List.{AllByRecursion};
 ghost use Rattle.vm_map.specs.Map.{Rises};
 ghost use Rattle.vm_map.specs.History.{AreReplies, IsAskable, after_all};
-ghost use Rattle.vm_script.specs.Texts.{replies_text, rows_text, worker_replies};
-ghost use Rattle.vm_cli.specs.Served.{calls_in, items_of, joined, AreAskable, AreFew, IsAnswered};
+ghost use Rattle.vm_script.specs.Texts.{all_said, replies_text, rows_text, worker_replies};
+ghost use Rattle.vm_cli.specs.Served.{calls_in, items_of, joined, AreAskable, AreFew, AreFirstWindows, IsAnswered};
 
 use crate::gate::Gate;
 use std::alloc::{AllocError, Global};
 use vm_map::call::{Call, Pair, Said};
 use vm_map::plain::PlainMap;
-use vm_script::text::{reply_text, row_text};
+use vm_script::text::{row_text, said_text};
 
 // One worker's calls, in order. The room for its replies is taken before its first call.
 fn answer_worker<G: Gate>(
@@ -23,6 +23,7 @@ fn answer_worker<G: Gate>(
 ) -> Result<Vec<Said>, AllocError>
     requires { AllByRecursion IsAskable calls.now }
     ensures legal { IfOk result (λ v. AreReplies store.old v.items) }
+    ensures windows { IfOk result (λ v. AreFirstWindows store.old v.items) }
     ensures holds { IfOk result (λ v. calls_in v.items ≡ calls.now) }
     ensures after { IfOk result (λ v. store.new ≡ after_all store.old v.items) }
 {
@@ -47,6 +48,7 @@ fn answer_all<G: Gate>(
 ) -> Result<Vec<Vec<Said>>, AllocError>
     requires { AreAskable (items_of lists.now) }
     ensures legal { IfOk result (λ v. AreReplies store.old (joined (items_of v.items))) }
+    ensures windows { IfOk result (λ v. AreFirstWindows store.old (joined (items_of v.items))) }
     ensures holds { IfOk result (λ v. map calls_in (items_of v.items) ≡ items_of lists.now) }
     ensures after { IfOk result (λ v. store.new ≡ after_all store.old (joined (items_of v.items))) }
 {
@@ -67,12 +69,12 @@ fn add_replies(
     out: &mut Vec<u8>,
 ) -> Result<(), AllocError>
     requires { length history.now ≤ 1000000 }
-    ensures { OnOk result (out.new.items ≡ out.old.items ++ replies_text worker 1 history.now) }
+    ensures { OnOk result (out.new.items ≡ out.old.items ++ replies_text worker 1 (all_said history.now)) }
 {
     let mut number = 0u32;
     'replies: for said in history {
         number += 1;
-        reply_text(alloc, worker, number, said, out)?;
+        said_text(alloc, worker, number, said, out)?;
     }
     Ok(())
 }
@@ -85,7 +87,7 @@ fn add_all_replies(
 ) -> Result<(), AllocError>
     requires few { AreFew (items_of histories.now) }
     requires workers { length histories.now ≤ 64 }
-    ensures { OnOk result (out.new.items ≡ out.old.items ++ worker_replies 0 (items_of histories.now)) }
+    ensures { OnOk result (out.new.items ≡ out.old.items ++ worker_replies 0 (map all_said (items_of histories.now))) }
 {
     let mut worker = 0u32;
     'workers: for history in histories {
@@ -100,7 +102,8 @@ pub fn add_rows(alloc: Global, rows: &[Pair], out: &mut Vec<u8>) -> Result<(), A
     ensures { OnOk result (out.new.items ≡ out.old.items ++ rows_text rows.now) }
 {
     'rows: for row in rows {
-        row_text(alloc, row, out)?;
+        let Pair { key, value } = *row;
+        row_text(alloc, key, value, out)?;
     }
     Ok(())
 }
@@ -109,7 +112,7 @@ pub fn add_rows(alloc: Global, rows: &[Pair], out: &mut Vec<u8>) -> Result<(), A
 fn text_of(alloc: Global, histories: &[Vec<Said>], store: &PlainMap) -> Result<Vec<u8>, AllocError>
     requires few { AreFew (items_of histories.now) }
     requires workers { length histories.now ≤ 64 }
-    ensures { IfOk result (λ v. v.items ≡ worker_replies 0 (items_of histories.now) ++ rows_text store.now) }
+    ensures { IfOk result (λ v. v.items ≡ worker_replies 0 (map all_said (items_of histories.now)) ++ rows_text store.now) }
 {
     let mut out = Vec::new(alloc);
     add_all_replies(alloc, histories, &mut out)?;

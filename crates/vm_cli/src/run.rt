@@ -2,6 +2,7 @@
 
 ghost use Rattle.std.specs.Prelude.{◌≡◌, map, string_bytes};
 ghost use Rattle.vm_io.specs.Causes.{Rose};
+ghost use Rattle.vm_cli.specs.Asked.{has_option};
 ghost use Rattle.vm_cli.specs.Endings.{CommandEnds, CommandTold, IsHeadline, RunEnds};
 
 use crate::gate::Gate;
@@ -22,7 +23,7 @@ const USAGE: &[u8] = b"usage: vmcache run, make, check, churn, replay\n";
 /// | status | comes |
 /// |---|---|
 /// | 0 | `run`: the calls were answered; the replies and the rows were said. `check`: the rows and the size were said. `replay`: what each event saw was said |
-/// | 1 | exactly where the words are no command; the usage line was said |
+/// | 1 | exactly where the words are no command, or one with an option, since none is served yet; the usage line was said |
 /// | 2 | only where a `take` of the host failed; the line names the file |
 /// | 3 | only where a `put` or `say` failed, or took nothing of a piece; a prefix of the text was said |
 /// | 4 | exactly where the image is refused |
@@ -42,23 +43,40 @@ pub fn run<R: Threads + Wait + Sync, H: Host, G: Gate + Sync>(
     ensures read { result ≡ 2 → Rose (H.takes host.old) (H.takes host.new) }
     ensures write { result ≡ 3 → Rose (H.gives host.old) (H.gives host.new) }
 {
-    match command_of(alloc, words) {
-        Ok(command) => perform(alloc, host, command, gate),
-        Err(WordsFault::Refused) => say(host, USAGE, 1),
-        Err(WordsFault::Memory) => 6,
+    let command = match command_of(alloc, words) {
+        Ok(command) => command,
+        Err(WordsFault::Refused) => return say(host, USAGE, 1),
+        Err(WordsFault::Memory) => return 6,
+    };
+    if asks_option(&command) {
+        return say(host, USAGE, 1);
+    }
+    perform(alloc, host, &command, gate)
+}
+
+// Whether the command has an option.
+fn asks_option(command: &Command<'_>) -> bool
+    ensures { result ≡ has_option command.now }
+{
+    match command {
+        Command::Run(run) => {
+            let options = &run.options;
+            options.keep.is_some() || !options.fail.is_empty() || options.first_version.is_some()
+        }
+        Command::Check(_) | Command::Replay(_) => false,
     }
 }
 
 // Performs a command and gives the exit status.
-fn perform<H: Host, G: Gate>(alloc: Global, host: &mut H, command: Command<'_>, gate: &G) -> u8
-    ensures headline { result ≡ 0 → CommandTold command.entry (H.shown host.old) (H.shown host.new) }
-    ensures ends { CommandEnds command.entry (H.last host.new) (H.shown host.old) (H.shown host.new) result }
+fn perform<H: Host, G: Gate>(alloc: Global, host: &mut H, command: &Command<'_>, gate: &G) -> u8
+    ensures headline { result ≡ 0 → CommandTold command.now (H.shown host.old) (H.shown host.new) }
+    ensures ends { CommandEnds command.now (H.last host.new) (H.shown host.old) (H.shown host.new) result }
     ensures read { result ≡ 2 → Rose (H.takes host.old) (H.takes host.new) }
     ensures write { result ≡ 3 → Rose (H.gives host.old) (H.gives host.new) }
 {
     match command {
-        Command::Run(run) => run_script(alloc, host, &run, gate),
-        Command::Check(check) => run_check(alloc, host, &check),
-        Command::Replay(replay) => run_replay(alloc, host, &replay),
+        Command::Run(run) => run_script(alloc, host, run, gate),
+        Command::Check(check) => run_check(alloc, host, check),
+        Command::Replay(replay) => run_replay(alloc, host, replay),
     }
 }

@@ -1,7 +1,7 @@
 -- Steps of the loops over a host.
-use Rattle.std.proofs.Common.{◌≡◌, ℕ, min, ◌+◌, ◌-◌, ◌≤◌, ◌<◌, ◌⊎◌, inl, inr, List, ◌++◌, length, take, drop, Option, Some, None, true, false, refl, sym, ap, subst, ◌∙◌, arith, length-take, append_assoc}
-use Rattle.std.proofs.lemmas.List.{take_all, take_min, length-take-le, append-nil}
-use Rattle.std.proofs.Math.Seq.{take-add, take-append_seam}
+use Rattle.std.proofs.Common.{◌≡◌, ℕ, ◌+◌, ◌-◌, ◌≤◌, ◌<◌, ◌⊎◌, inl, inr, List, ◌++◌, length, take, drop, Option, Some, None, true, false, refl, sym, ap, subst, ◌∙◌, arith, length-take, append_assoc}
+use Rattle.std.proofs.lemmas.List.{take_all, length-take-le, append-nil}
+use Rattle.std.proofs.Math.Seq.{take-add}
 use Rattle.vm_io.specs.Shown.{Shown, say_more, SaidFront, PutFront, Holds, IsHeld, kept}
 use Rattle.vm_io.specs.Loops.{ReadsMore, ReadsWhole, IsFront}
 
@@ -22,7 +22,7 @@ front_more (Some s) name old new n f m = λ bytes file.
     subst (λ v. v ≡ take (length v) bytes) (sym e) (join_front bytes old n (f bytes file) h)
 
 pub whole_end : (shown : Option Shown) (name : List ℕ) (limit : ℕ) (old new : List ℕ) (n : ℕ) → IsFront shown name old → ReadsMore shown name old new n → length old ≤ limit → length new ≤ limit + 1 → (n ≡ 0) ⊎ (limit < length new) → ReadsWhole shown name limit new
-whole_end None name limit old new n f m low high done = tt
+whole_end None name limit old new n f m low high done = (new, sym (take_all (limit + 1) new (omega arith)))
 whole_end (Some s) name limit old new n f m low high done = record {
   bytes = m.bytes;
   file = m.file;
@@ -70,10 +70,3 @@ put_more None mid new name bytes at n h p = subst (λ m. PutFront m new name fal
 put_more (Some old) mid new name bytes at n (between, is, h) p =
     let q : PutFront (Some between) new name false (drop at bytes) n = subst (λ m. PutFront m new name false (drop at bytes) n) is p in
     (q.0, q.1, held_on old between q.0 name bytes at n h q.2)
-
--- what is copied over the front of a buffer is all that is kept of it
-pub kept_front : (copied rest name : List ℕ) (n : ℕ) → n ≡ min (length name) 255 → copied ≡ take n name → take n (copied ++ rest) ≡ take 255 name
-kept_front copied rest name n least same =
-    let len : length copied ≡ n = ap length same ∙ length-take-le n name (omega (arith, least)) in
-    let least' : n ≡ min 255 (length name) = omega (arith, least) in
-    ap (λ k. take k (copied ++ rest)) (sym len) ∙ take-append_seam copied rest ∙ same ∙ ap (λ k. take k name) least' ∙ take_min 255 name

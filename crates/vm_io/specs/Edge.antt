@@ -6,4 +6,4 @@ use Rattle.vm_io.specs.declared.system.StdHost.{StdHost}
 pub record CountsNone {R S T : Type 0} (host : StdHost R S T) : Type 0 where
   pub takes : host.faults.takes ≡ 0
   pub gives : host.faults.gives ≡ 0
-  pub last : host.faults.last ≡ []
+  pub last : host.faults.last.bytes ≡ []

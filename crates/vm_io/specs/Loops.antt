@@ -20,8 +20,9 @@ pub record IsWhole (shown : Shown) (name : List ℕ) (limit : ℕ) (found : List
   pub file : shown.files name ≡ Some bytes
   pub front : found ≡ take (limit + 1) bytes
 
+-- where the host tells nothing, the bytes are those that it gave
 abbrev pub ReadsWhole : Option Shown → List ℕ → ℕ → List ℕ → Type 0
-ReadsWhole None name limit found = Unit {0}
+ReadsWhole None name limit found = (bytes : List ℕ) × (found ≡ take (limit + 1) bytes)
 ReadsWhole (Some shown) name limit found = IsWhole shown name limit found
 
 -- all that is known of the file begins with these bytes

@@ -28,7 +28,7 @@ abbrev pub failed_gives : MemHost → ℕ
 failed_gives host = host.faults.gives
 
 abbrev pub last_failed : MemHost → List ℕ
-last_failed host = host.faults.last
+last_failed host = host.faults.last.bytes
 
 -- the number of the next call
 abbrev pub next_call : MemHost → ℕ

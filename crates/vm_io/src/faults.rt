@@ -1,28 +1,28 @@
 // What each host keeps of its failures: takes and gives are counted apart, each up to the greatest `u64`.
-ghost use Rattle.std.specs.Prelude.{◌≡◌, ℕ, ◌+◌, ◌-◌, ◌^◌, ◌≤◌, ◌<◌, min, [], take};
-ghost use Rattle.vm_io.specs.Causes.{SameTakes, name_front, one_more};
+ghost use Rattle.std.specs.Prelude.{◌≡◌, ℕ, ◌+◌, ◌-◌, ◌^◌, ◌≤◌, ◌<◌, min, []};
+ghost use Rattle.vm_io.specs.Causes.{SameTakes, one_more};
 
-use crate::failed_name::FailedName;
 use crate::host::Failed;
+use crate::last_name::LastName;
 
 /// Counts of failed takes and gives, and the name of the file whose take failed last.
 #[derive(Drop)]
 pub struct Faults {
     pub takes: u64,
     pub gives: u64,
-    pub last: FailedName,
+    pub last: LastName,
 }
 
 impl Faults {
     pub fn new() -> Self
         ensures takes { result.takes ≡ 0 }
         ensures gives { result.gives ≡ 0 }
-        ensures last { result.last ≡ [] }
+        ensures last { result.last.bytes ≡ [] }
     {
         Faults {
             takes: 0,
             gives: 0,
-            last: FailedName::new(),
+            last: LastName::new(),
         }
     }
 
@@ -30,11 +30,11 @@ impl Faults {
     pub fn fail_take(&mut self, name: &str) -> Failed
         ensures counted { self.new.takes ≡ one_more self.old.takes }
         ensures later { self.old.takes ≤ self.new.takes }
-        ensures named { self.new.last ≡ name_front name.now }
+        ensures named { self.new.last.bytes ≡ name.now }
         ensures apart { self.new.gives ≡ self.old.gives }
     {
         self.takes = self.takes.saturating_add(1);
-        self.last.set(name);
+        self.last = LastName::of(name.as_bytes());
         Failed
     }
 
@@ -42,7 +42,7 @@ impl Faults {
     pub fn fail_give(&mut self) -> Failed
         ensures counted { self.new.gives ≡ one_more self.old.gives }
         ensures later { self.old.gives ≤ self.new.gives }
-        ensures apart { SameTakes self.old.takes self.new.takes self.old.last self.new.last }
+        ensures apart { SameTakes self.old.takes self.new.takes self.old.last.bytes self.new.last.bytes }
     {
         self.gives = self.gives.saturating_add(1);
         Failed

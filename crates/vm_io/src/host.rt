@@ -1,5 +1,5 @@
 // The trait of hosts: named files and standard output, with counts of what failed.
-// Takes and gives are counted apart, and the name of the last failed take is kept, so that a caller can be held to which of them failed.
+// Takes and gives are counted apart, and the name of the last failed take is told to proofs, so that a caller can be held to which of them failed.
 ghost use Rattle.std.specs.Prelude.{◌≡◌, ℕ, ◌+◌, ◌-◌, ◌^◌, ◌≤◌, ◌<◌, min, length, Option, IfOk, List};
 ghost use Rattle.vm_io.specs.Causes.{HasCause, HasStuckCause, HasTakeCause, SameTakes};
 ghost use Rattle.vm_io.specs.Shown.{Shown, Takes, Puts, Says};
@@ -22,7 +22,7 @@ pub trait Host {
     /// How many calls of `put` and `say` failed, or took nothing of a piece that is not empty.
     ghost gives: { Self → ℕ };
 
-    /// The first 255 bytes of the name of the file whose `take` failed last.
+    /// The name of the file whose `take` failed last.
     ghost last: { Self → List ℕ };
 
     /// Copies bytes of a file from an offset on, and answers how many. 0 means the end of the file, or an empty buffer.

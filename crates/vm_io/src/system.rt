@@ -3,7 +3,6 @@ ghost use Rattle.std.specs.Prelude.{◌≡◌, ℕ, ◌+◌, ◌-◌, ◌^◌, �
 ghost use Rattle.vm_io.specs.Edge.{CountsNone};
 ghost use Rattle.vm_io.specs.Causes.{Rose, HasCause, HasStuckCause, SameTakes};
 
-use crate::failed_name::FailedName;
 use crate::faults::Faults;
 use crate::host::{Failed, Host};
 use std::fs::{File, OpenOptions};
@@ -56,7 +55,7 @@ impl<R: Files + Print + Drop> StdHost<R> {
         ensures bound { IfOk result (λ n. n ≤ len) }
         ensures cause { HasCause self.old.faults.gives self.new.faults.gives result }
         ensures stuck { HasStuckCause self.old.faults.gives self.new.faults.gives len result }
-        ensures apart { SameTakes self.old.faults.takes self.new.faults.takes self.old.faults.last self.new.faults.last }
+        ensures apart { SameTakes self.old.faults.takes self.new.faults.takes self.old.faults.last.bytes self.new.faults.last.bytes }
     {
         match count {
             Ok(0) if len > 0 => {
@@ -76,7 +75,7 @@ impl<R: Files + Print + Drop> Host for StdHost<R> {
 
     ghost gives = { λ h. h.faults.gives };
 
-    ghost last = { λ h. h.faults.last };
+    ghost last = { λ h. h.faults.last.bytes };
 
     fn take(&mut self, name: &str, at: u64, into: &mut [u8]) -> Result<usize, Failed> {
         match read_at(&self.rt, name, at, into) {

@@ -2,6 +2,7 @@
 use Rattle.std.specs.Prelude.{ℕ, Bool, true, false, ◌+◌, ◌≡◌, ◌⊎◌, List, [], ◌∷◌, ◌++◌, length, map, slice_index, codes}
 use Rattle.std.specs.Fmt.{decimal}
 use Rattle.std.specs.List.{range_with_len}
+use Rattle.vm_page.specs.declared.buf.TheConstants.{WORDS}
 use Rattle.vm_core.specs.declared.event.CoreShape.{CoreShape}
 use Rattle.vm_core.specs.declared.event.Event.{Event}
 use Rattle.vm_core.specs.declared.event.Event.TheVariants.{Load, Store}
@@ -14,11 +15,11 @@ use Rattle.vm_script.specs.SeenTexts.{seen_line}
 
 -- the 64 stores of these words
 abbrev pub stores : ℕ → ℕ → List ℕ → List Event
-stores a f words = map (λ i. Store a f i (slice_index words i)) (range_with_len 0 64)
+stores a f words = map (λ i. Store a f i (slice_index words i)) (range_with_len 0 WORDS)
 
 -- the 64 loads of a page's words
 abbrev pub loads : ℕ → ℕ → List Event
-loads a p = map (λ i. Load a p i) (range_with_len 0 64)
+loads a p = map (λ i. Load a p i) (range_with_len 0 WORDS)
 
 -- the events of a line where the core is in this state: `fill` stores the words that the page's block has then
 abbrev pub events_of : State → EventLine → List Event

@@ -1,5 +1,6 @@
 -- The turn of one line.
 use Rattle.std.specs.Prelude.{ℕ, ◌≡◌, ◌≤◌, List, ◌++◌, length}
+use Rattle.vm_page.specs.declared.buf.TheConstants.{WORDS}
 use Rattle.vm_core.specs.State.{State}
 use Rattle.vm_core.specs.Step.{AllLegal, run, sees}
 use Rattle.vm_script.specs.declared.event_line.EventLine.{EventLine}
@@ -14,7 +15,7 @@ pub record IsDone (old : State) (number : ℕ) (line : EventLine) (before : List
   pub state : new ≡ run old (events_of old line)
   pub told : text ≡ before ++ seen_line number line (sees old (events_of old line))
   pub counted : count ≡ length (events_of old line)
-  pub few : count ≤ 64
+  pub few : count ≤ WORDS
 
 -- how the turn of the line ended
 abbrev pub Turned : State → ℕ → EventLine → List ℕ → Turn → State → List ℕ → Type 0

@@ -8,6 +8,7 @@ ghost use Rattle.vm_script.specs.EventLines.{IsEventLine};
 
 use std::alloc::{AllocError, Global};
 use vm_core::{Core, Event, Memory, ReplayFault};
+use vm_page::WORDS;
 use vm_rule::replay_kept;
 use vm_script::event_line::EventLine;
 use vm_script::seen::seen_text;
@@ -27,7 +28,7 @@ fn stores_of(alloc: Global, core: &Core, a: u32, p: u32, f: u32) -> Result<Vec<E
     ensures { IfOk result (λ events. events.items ≡ stores a f ((core_of core.now).pages p).block) }
 {
     let mut events = Vec::new(alloc);
-    for i in 0..64 {
+    for i in 0..WORDS as u32 {
         let w = core.block_word(p, i);
         events.push(Event::Store { a, f, i, w })?;
     }
@@ -39,7 +40,7 @@ fn loads_of(alloc: Global, a: u32, p: u32) -> Result<Vec<Event>, AllocError>
     ensures { IfOk result (λ events. events.items ≡ loads a p) }
 {
     let mut events = Vec::new(alloc);
-    for i in 0..64 {
+    for i in 0..WORDS as u32 {
         events.push(Event::Load { a, p, i })?;
     }
     Ok(events)

@@ -1,6 +1,7 @@
 pub mod Decimals
 pub mod Words
 pub mod Lines
+pub mod LineLists
 pub mod Readings
 pub mod Lists
 pub mod StateWords
@@ -8,3 +9,6 @@ pub mod FieldLists
 pub mod VerbNames
 pub mod EventTexts
 pub mod EventRuns
+pub mod Plans
+pub mod EventForms
+pub mod EventReadings

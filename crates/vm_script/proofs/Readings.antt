@@ -1,5 +1,5 @@
 -- Bytes have one reading as lines of orders.
-use Rattle.std.proofs.Common.{◌≡◌, ◌⊎◌, inl, inr, ℕ, ◌≤◌, ◌<◌, ◌^◌, lit<, get_or, List, [], ◌∷◌, ◌++◌, length, refl, sym, ap, ◌∙◌, arith, append_assoc, length-append}
+use Rattle.std.proofs.Common.{◌≡◌, ◌⊎◌, inl, inr, ℕ, ◌≤◌, ◌<◌, ◌^◌, lit<, get_or, List, [], ◌∷◌, ◌++◌, length, sym, ap, ◌∙◌, arith, append_assoc, length-append}
 use Rattle.std.specs.Fmt.{decimal}
 use Rattle.std.specs.List.{AllByRecursion}
 use Rattle.std.proofs.lemmas.Fmt.{decimal_injective}
@@ -9,6 +9,7 @@ use Rattle.vm_map.specs.declared.call.Call.TheVariants.{Get, Put, Del, Window}
 use Rattle.vm_script.specs.declared.script.Order.{Order}
 use Rattle.vm_script.specs.Scripts.{call_text, order_text, lines_text, lists_of, IsCall, IsOrder, Spells, IsScript, IsFirstBad, BeginsWith, most_lines}
 use Rattle.vm_script.proofs.Words.{lacks_decimal, one_cut, one_pair}
+use Rattle.vm_script.proofs.LineLists.{Compared, same, first_stopped, second_stopped, HasLine, begins_of, compared as compared_lines}
 use Rattle.vm_script.proofs.Lines.{lacks_order}
 
 -- a text is that of one call
@@ -45,40 +46,16 @@ one_order workers a b w is_a is_b e =
     let call = one_call a.call b.call is_a.call is_b.call parts.1 in
     ap (λ w. record a { worker = w }) worker ∙ ap (λ c. record b { call = c }) call
 
--- the line of an order stands at the head of these bytes
-record HasLine (workers : ℕ) (bytes : List ℕ) : Type 0 where
-  pub order : Order
-  pub is : IsOrder workers order
-  pub behind : List ℕ
-  pub line : bytes ≡ order_text order ++ 10 ∷ behind
-
--- of two ways to read lines, both are one, or one of them stopped before a line
-data Compared (workers : ℕ) (a b : List Order) (rest rest' : List ℕ) : Type 0 where
-  same : a ≡ b → rest ≡ rest' → Compared workers a b rest rest'
-  first_stopped : length a < length b → HasLine workers rest → Compared workers a b rest rest'
-  second_stopped : length b < length a → HasLine workers rest' → Compared workers a b rest rest'
-
-lines_more : (order : Order) (orders : List Order) (rest : List ℕ) → lines_text (order ∷ orders) ++ rest ≡ order_text order ++ 10 ∷ (lines_text orders ++ rest)
-lines_more order orders rest = append_assoc (order_text order ++ 10 ∷ []) (lines_text orders) rest ∙ append_assoc (order_text order) (10 ∷ []) (lines_text orders ++ rest)
-
-compared : (workers : ℕ) (a b : List Order) (rest rest' : List ℕ) → workers < 2 ^ 32 → AllByRecursion (IsOrder workers) a → AllByRecursion (IsOrder workers) b → lines_text a ++ rest ≡ lines_text b ++ rest' → Compared workers a b rest rest'
-compared workers [] [] rest rest' w is is' e = same refl e
-compared workers [] (y ∷ ys) rest rest' w is is' e = first_stopped (omega arith) (record { order = y; is = is'.0; behind = lines_text ys ++ rest'; line = e ∙ lines_more y ys rest' })
-compared workers (x ∷ xs) [] rest rest' w is is' e = second_stopped (omega arith) (record { order = x; is = is.0; behind = lines_text xs ++ rest; line = sym e ∙ lines_more x xs rest })
-compared workers (x ∷ xs) (y ∷ ys) rest rest' w is is' e =
-    let parts = one_cut 10 (order_text x) (lines_text xs ++ rest) (order_text y) (lines_text ys ++ rest') (lacks_order workers x w is.0) (lacks_order workers y w is'.0) (sym (lines_more x xs rest) ∙ e ∙ lines_more y ys rest') in
-    let first = one_order workers x y w is.0 is'.0 parts.0 in
-    elim (compared workers xs ys rest rest' w is.1 is'.1 parts.1) [
-      | same all rests ↦ same (cc (first, all)) rests
-      | first_stopped fewer line ↦ first_stopped (omega (arith, fewer)) line
-      | second_stopped fewer line ↦ second_stopped (omega (arith, fewer)) line
-    ]
+-- two ways to read orders
+compared : (workers : ℕ) (a b : List Order) (rest rest' : List ℕ) → workers < 2 ^ 32 → AllByRecursion (IsOrder workers) a → AllByRecursion (IsOrder workers) b → lines_text a ++ rest ≡ lines_text b ++ rest'
+    → Compared (IsOrder workers) order_text a b rest rest'
+compared workers a b rest rest' w is is' e = compared_lines (IsOrder workers) order_text (λ order ok. lacks_order workers order w ok) (λ x y ok ok'. one_order workers x y w ok ok') a b rest rest' is is' e
 
 -- the line of an order is longer than a line feed
-no_line : (workers : ℕ) (rest : List ℕ) → length rest ≤ 1 → HasLine workers rest → ⊥
+no_line : (workers : ℕ) (rest : List ℕ) → length rest ≤ 1 → HasLine (IsOrder workers) order_text rest → ⊥
 no_line workers rest few line =
-    let long = ap length line.line ∙ length-append (order_text line.order) (10 ∷ line.behind) in
-    let text = length-append (decimal line.order.worker) (32 ∷ call_text line.order.call) in
+    let long = ap length line.whole ∙ length-append (order_text line.line) (10 ∷ line.behind) in
+    let text = length-append (decimal line.line.worker) (32 ∷ call_text line.line.call) in
     omega (arith, long, text)
 
 -- what the lines of a script leave, once its last line has its line feed
@@ -115,30 +92,20 @@ stops workers bytes n bad m fewer most order is begins = elim bad.bad [ inl full
 pub one_bad_line : (workers : ℕ) (bytes : List ℕ) (m n : ℕ) → workers < 2 ^ 32 → IsFirstBad workers bytes m → IsFirstBad workers bytes n → m ≡ n
 one_bad_line workers bytes m n w a b = elim (compared workers a.good b.good a.rest b.rest w a.each b.each (sym a.front ∙ b.front)) [
   | same all rests ↦ omega (arith, ap length all, a.count, b.count)
-  | first_stopped fewer line ↦ absurd (stops workers bytes m a (length b.good) fewer b.few line.order line.is (inr (line.behind, line.line)))
-  | second_stopped fewer line ↦ absurd (stops workers bytes n b (length a.good) fewer a.few line.order line.is (inr (line.behind, line.line)))
+  | first_stopped fewer line ↦ absurd (stops workers bytes m a (length b.good) fewer b.few line.line line.is (inr (line.behind, line.whole)))
+  | second_stopped fewer line ↦ absurd (stops workers bytes n b (length a.good) fewer a.few line.line line.is (inr (line.behind, line.whole)))
 ]
-
--- bytes that a line feed makes begin with a whole line begin with that line
-begins_of : (rest line behind : List ℕ) → rest ++ 10 ∷ [] ≡ line ++ 10 ∷ behind → BeginsWith rest line
-begins_of [] [] behind e = inl refl
-begins_of [] (y ∷ line) behind e = absurd (omega (arith, ap length e, length-append line (10 ∷ behind)))
-begins_of (x ∷ rest) [] behind e = let first : x ≡ 10 = cc in inr (rest, ap (λ b. b ∷ rest) first)
-begins_of (x ∷ rest) (y ∷ line) behind e =
-    let first : x ≡ y = cc in
-    let others : rest ++ 10 ∷ [] ≡ line ++ 10 ∷ behind = cc in
-    elim (begins_of rest line behind others) [ inl all ↦ inl (cc (first, all)) | inr more ↦ inr (more.0, cc (first, more.1)) ]
 
 pub not_both : (workers : ℕ) (bytes : List ℕ) (orders : List Order) (n : ℕ) → workers < 2 ^ 32 → Spells workers bytes orders → IsFirstBad workers bytes n → ⊥
 not_both workers bytes orders n w s bad = elim (spelled workers bytes orders s) [
   | inl e ↦ elim (compared workers bad.good orders bad.rest [] w bad.each s.each (sym bad.front ∙ e)) [
     | same all rests ↦ omega (arith, ap length rests, bad.more)
-    | first_stopped fewer line ↦ stops workers bytes n bad (length orders) fewer s.few line.order line.is (inr (line.behind, line.line))
+    | first_stopped fewer line ↦ stops workers bytes n bad (length orders) fewer s.few line.line line.is (inr (line.behind, line.whole))
     | second_stopped fewer line ↦ no_line workers [] (omega arith) line
   ]
   | inr e ↦ elim (compared workers bad.good orders (bad.rest ++ 10 ∷ []) [] w bad.each s.each (sym (append_assoc (lines_text bad.good) bad.rest (10 ∷ [])) ∙ ap (λ l. l ++ 10 ∷ []) (sym bad.front) ∙ e)) [
     | same all rests ↦ omega (arith, ap length rests, length-append bad.rest (10 ∷ []))
-    | first_stopped fewer line ↦ stops workers bytes n bad (length orders) fewer s.few line.order line.is (begins_of bad.rest (order_text line.order) line.behind line.line)
+    | first_stopped fewer line ↦ stops workers bytes n bad (length orders) fewer s.few line.line line.is (begins_of bad.rest (order_text line.line) line.behind line.whole)
     | second_stopped fewer line ↦ no_line workers [] (omega arith) line
   ]
 ]

@@ -1,10 +1,12 @@
 -- Event lines: a verb and its numbers, with single spaces between them.
 use Rattle.std.specs.Prelude.{ℕ, ◌+◌, ◌*◌, ◌/◌, ◌%◌, ◌<◌, ◌≤◌, ◌^◌, ◌≡◌, ◌==◌, if◌then◌else◌, List, [], ◌∷◌, ◌++◌, codes}
 use Rattle.std.specs.Fmt.{decimal}
+use Rattle.vm_page.specs.declared.buf.TheConstants.{WORDS}
 use Rattle.vm_core.specs.Words.{state_of, version_of}
 use Rattle.vm_core.specs.declared.event.CoreShape.{CoreShape}
 use Rattle.vm_core.specs.declared.event.Event.{Event}
 use Rattle.vm_core.specs.declared.event.Event.TheVariants.{Look, LockX, LockS, UnlockS, Mark, Unmark, LockW, Upgrade, Release, ReleaseE, Downgrade, TLoad, Install, Clear, Dirty, Clean, Load, Store, BLoad, Take, Give, Read, RFail, Write, WFail, Raise, NLoad, Claim, Hand}
+use Rattle.vm_core.specs.declared.words.TheConstants.{FRAMES}
 use Rattle.vm_script.specs.declared.event_line.EventLine.{EventLine}
 use Rattle.vm_script.specs.declared.event_line.EventLine.TheVariants.{One, Fill, Loads}
 use Rattle.vm_script.specs.declared.event_line.Kind.{Kind}
@@ -34,8 +36,8 @@ abbrev pub IsField : CoreShape → Kind → ℕ → Type 0
 IsField shape Actor a = a < shape.actors
 IsField shape Page p = p < shape.pages
 IsField shape Frame f = f < shape.frames
-IsField shape Place i = i < 64
-IsField shape Bundle g = g * 64 < shape.frames
+IsField shape Place i = i < WORDS
+IsField shape Bundle g = g * FRAMES < shape.frames
 IsField shape Word w = w < 2 ^ 64
 IsField shape State w = w < 2 ^ 64
 IsField shape Count n = n < 2 ^ 32
@@ -43,7 +45,13 @@ IsField shape Count n = n < 2 ^ 32
 -- a state word as `S:V`, all else in decimal
 abbrev pub field_text : Kind → ℕ → List ℕ
 field_text State w = state_text w
-field_text _ n = decimal n
+field_text Actor a = decimal a
+field_text Page p = decimal p
+field_text Frame f = decimal f
+field_text Place i = decimal i
+field_text Bundle g = decimal g
+field_text Word w = decimal w
+field_text Count n = decimal n
 
 -- as many numbers as kinds, each what its kind may be
 abbrev pub AreFields : CoreShape → List Kind → List ℕ → Type 0

@@ -1,6 +1,5 @@
 -- What the readers of parts of an event line answer.
 use Rattle.std.specs.Prelude.{ℕ, ◌<◌, ◌≤◌, ◌^◌, ◌≡◌, ◌≢◌, List, [], ◌∷◌, Option, Some, None, length, take}
-use Rattle.std.specs.List.{AllByRecursion}
 use Rattle.vm_script.specs.declared.event_line.Kind.{Kind}
 use Rattle.vm_script.specs.declared.event_line.Kind.TheVariants.{Actor, Page, Frame, Place, Bundle, Word, State, Count}
 
@@ -24,7 +23,12 @@ used_of kinds None = None
 abbrev pub IsNarrow : Kind → ℕ → Type 0
 IsNarrow Word n = Unit {0}
 IsNarrow State n = Unit {0}
-IsNarrow _ n = n < 2 ^ 32
+IsNarrow Actor n = n < 2 ^ 32
+IsNarrow Page n = n < 2 ^ 32
+IsNarrow Frame n = n < 2 ^ 32
+IsNarrow Place n = n < 2 ^ 32
+IsNarrow Bundle n = n < 2 ^ 32
+IsNarrow Count n = n < 2 ^ 32
 
 abbrev pub AreNarrow : List Kind → List ℕ → Type 0
 AreNarrow (kind ∷ kinds) (value ∷ values) = IsNarrow kind value × AreNarrow kinds values

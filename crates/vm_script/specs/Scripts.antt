@@ -4,6 +4,7 @@ use Rattle.std.specs.Fmt.{decimal}
 use Rattle.std.specs.List.{AllByRecursion, flat_map}
 use Rattle.vm_map.specs.declared.call.Call.{Call}
 use Rattle.vm_map.specs.declared.call.Call.TheVariants.{Get, Put, Del, Window}
+use Rattle.vm_map.specs.declared.window.TheConstants.{MOST_PAIRS}
 use Rattle.vm_script.specs.declared.script.Order.{Order}
 use Rattle.vm_script.specs.declared.script.ScriptFault.{ScriptFault}
 use Rattle.vm_script.specs.declared.script.ScriptFault.TheVariants.{Long, Line, Memory}
@@ -23,7 +24,7 @@ abbrev pub IsCall : Call → Type 0
 IsCall (Get key) = key < 2 ^ 64
 IsCall (Put key value) = (key < 2 ^ 64) × (value < 2 ^ 64)
 IsCall (Del key) = key < 2 ^ 64
-IsCall (Window start most) = (start < 2 ^ 64) × (1 ≤ most) × (most ≤ 28)
+IsCall (Window start most) = (start < 2 ^ 64) × (1 ≤ most) × (most ≤ MOST_PAIRS)
 
 -- an order that a script for so many workers may have
 pub record IsOrder (workers : ℕ) (order : Order) : Type 0 where

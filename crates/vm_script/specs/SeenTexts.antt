@@ -1,11 +1,10 @@
 -- The text of what the events of a line saw.
-use Rattle.std.specs.Prelude.{ℕ, ◌-◌, ◌%◌, ◌<◌, ◌^◌, ◌≡◌, ◌==◌, nat_lt, if◌then◌else◌, List, [], ◌∷◌, ◌++◌, length, get_or, codes}
+use Rattle.std.specs.Prelude.{◌-◌, ℕ, ◌≡◌, List, [], ◌∷◌, ◌++◌, length, get_or, codes}
 use Rattle.std.specs.Fmt.{decimal}
 use Rattle.std.specs.List.{AllByRecursion}
+use Rattle.vm_page.specs.declared.buf.TheConstants.{WORDS}
 use Rattle.vm_core.specs.declared.event.Event.{Event}
 use Rattle.vm_core.specs.declared.event.Event.TheVariants.{Look, LockX, LockS, UnlockS, Mark, Unmark, LockW, Upgrade, Release, ReleaseE, Downgrade, TLoad, Install, Clear, Dirty, Clean, Load, Store, BLoad, Take, Give, Read, RFail, Write, WFail, Raise, NLoad, Claim, Hand}
-use Rattle.vm_core.specs.declared.event.ReadIs.{ReadIs}
-use Rattle.vm_core.specs.declared.event.ReadIs.TheVariants.{Opened, Same, Moved, Closed}
 use Rattle.vm_core.specs.declared.event.Seen.{Seen}
 use Rattle.vm_script.specs.declared.event_line.EventLine.{EventLine}
 use Rattle.vm_script.specs.declared.event_line.EventLine.TheVariants.{One, Fill, Loads}
@@ -54,7 +53,8 @@ line_sight (Loads a p) = sights.Loaded
 -- how many events a line is
 abbrev pub events_in : EventLine → ℕ
 events_in (One event) = 1
-events_in _ = 64
+events_in (Fill a p f) = WORDS
+events_in (Loads a p) = WORDS
 
 -- each event of the line saw something, of the kind that it gives
 pub record FitsLine (line : EventLine) (seen : List Seen) : Type 0 where
@@ -65,7 +65,7 @@ pub record FitsLine (line : EventLine) (seen : List Seen) : Type 0 where
 abbrev pub told_text : EventLine → List Seen → List ℕ
 told_text (One event) seen = sight_text (sight_of event) (get_or seen 0 no_sight)
 told_text (Fill a p f) seen = codes "done"
-told_text (Loads a p) seen = codes "words " ++ decimal (word_in (get_or seen 0 no_sight)) ++ 32 ∷ decimal (word_in (get_or seen 63 no_sight))
+told_text (Loads a p) seen = codes "words " ++ decimal (word_in (get_or seen 0 no_sight)) ++ 32 ∷ decimal (word_in (get_or seen (WORDS - 1) no_sight))
 
 -- `NUMBER WHAT WAS SEEN`
 abbrev pub seen_line : ℕ → EventLine → List Seen → List ℕ

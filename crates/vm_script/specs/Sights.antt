@@ -1,5 +1,5 @@
 -- The text of one thing seen.
-use Rattle.std.specs.Prelude.{ℕ, ◌-◌, ◌%◌, ◌<◌, ◌^◌, ◌==◌, nat_lt, if◌then◌else◌, List, [], ◌∷◌, ◌++◌, codes}
+use Rattle.std.specs.Prelude.{ℕ, ◌-◌, ◌^◌, ◌==◌, nat_lt, if◌then◌else◌, List, ◌∷◌, ◌++◌, codes}
 use Rattle.std.specs.Fmt.{decimal}
 use Rattle.vm_core.specs.declared.event.ReadIs.{ReadIs}
 use Rattle.vm_core.specs.declared.event.ReadIs.TheVariants.{Opened, Same, Moved, Closed}
@@ -30,12 +30,24 @@ word_text Next word = codes "next " ++ decimal word
 word_text Place word = codes "place " ++ decimal word
 word_text State word = state_text word
 word_text Failed word = codes "failed " ++ decimal word
-word_text _ word = decimal word
+word_text Look word = decimal word
+word_text Exchange word = decimal word
+word_text NumberExchange word = decimal word
+word_text Done word = decimal word
 
 -- the word that an exchange found in place of the one that it expected
 abbrev pub found_text : Sight → ℕ → List ℕ
 found_text Exchange word = state_text word
-found_text _ word = decimal word
+found_text NumberExchange word = decimal word
+found_text Look word = decimal word
+found_text Translation word = decimal word
+found_text Loaded word = decimal word
+found_text Bits word = decimal word
+found_text Next word = decimal word
+found_text Place word = decimal word
+found_text State word = decimal word
+found_text Failed word = decimal word
+found_text Done word = decimal word
 
 abbrev pub sight_text : Sight → Seen → List ℕ
 sight_text sight seens.Done = codes "done"
@@ -44,26 +56,59 @@ sight_text sight (seens.Look word left) = state_text word ++ 32 ∷ left_name le
 sight_text sight seens.Taken = codes "taken"
 sight_text sight (seens.Lost word) = codes "lost " ++ found_text sight word
 
+-- a word is seen
+abbrev pub IsWord : Seen → Type 0
+IsWord seens.Done = ⊥
+IsWord (seens.Word word) = Unit {0}
+IsWord (seens.Look word left) = ⊥
+IsWord seens.Taken = ⊥
+IsWord (seens.Lost word) = ⊥
+
+-- an exchange was taken or lost
+abbrev pub IsExchanged : Seen → Type 0
+IsExchanged seens.Done = ⊥
+IsExchanged (seens.Word word) = ⊥
+IsExchanged (seens.Look word left) = ⊥
+IsExchanged seens.Taken = Unit {0}
+IsExchanged (seens.Lost word) = Unit {0}
+
+-- a state word is seen, and what became of the open read
+abbrev pub IsLook : Seen → Type 0
+IsLook seens.Done = ⊥
+IsLook (seens.Word word) = ⊥
+IsLook (seens.Look word left) = Unit {0}
+IsLook seens.Taken = ⊥
+IsLook (seens.Lost word) = ⊥
+
+-- nothing is seen
+abbrev pub IsDone : Seen → Type 0
+IsDone seens.Done = Unit {0}
+IsDone (seens.Word word) = ⊥
+IsDone (seens.Look word left) = ⊥
+IsDone seens.Taken = ⊥
+IsDone (seens.Lost word) = ⊥
+
 -- what was seen is of the kind that is told in this way
 abbrev pub FitsSight : Sight → Seen → Type 0
-FitsSight Look (seens.Look word left) = Unit {0}
-FitsSight Exchange seens.Taken = Unit {0}
-FitsSight Exchange (seens.Lost word) = Unit {0}
-FitsSight NumberExchange seens.Taken = Unit {0}
-FitsSight NumberExchange (seens.Lost word) = Unit {0}
-FitsSight Done seens.Done = Unit {0}
-FitsSight Translation (seens.Word word) = Unit {0}
-FitsSight Loaded (seens.Word word) = Unit {0}
-FitsSight Bits (seens.Word word) = Unit {0}
-FitsSight Next (seens.Word word) = Unit {0}
-FitsSight Place (seens.Word word) = Unit {0}
-FitsSight State (seens.Word word) = Unit {0}
-FitsSight Failed (seens.Word word) = Unit {0}
-FitsSight _ _ = ⊥
+FitsSight Look seen = IsLook seen
+FitsSight Exchange seen = IsExchanged seen
+FitsSight NumberExchange seen = IsExchanged seen
+FitsSight Done seen = IsDone seen
+FitsSight Translation seen = IsWord seen
+FitsSight Loaded seen = IsWord seen
+FitsSight Bits seen = IsWord seen
+FitsSight Next seen = IsWord seen
+FitsSight Place seen = IsWord seen
+FitsSight State seen = IsWord seen
+FitsSight Failed seen = IsWord seen
 
+-- the word that is seen, and 0 where none is
 abbrev pub word_in : Seen → ℕ
 word_in (seens.Word word) = word
-word_in _ = 0
+word_in seens.Done = 0
+word_in (seens.Look word left) = 0
+word_in seens.Taken = 0
+word_in (seens.Lost word) = 0
 
 abbrev pub no_sight : Seen
 no_sight = seens.Done

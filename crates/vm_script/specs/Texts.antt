@@ -1,22 +1,18 @@
--- The text of replies, of rows and of a tree's size.
-use Rattle.std.specs.Prelude.{ℕ, ◌+◌, List, [], ◌∷◌, ◌++◌, length, Some, None, codes}
+-- The lines of what calls were answered, of rows, of counters and of a tree's size.
+use Rattle.std.specs.Prelude.{ℕ, ◌+◌, List, [], ◌∷◌, ◌++◌, length, map, Option, Some, None, codes}
 use Rattle.std.specs.Fmt.{decimal}
 use Rattle.std.specs.List.{flat_map}
 use Rattle.vm_map.specs.declared.call.Call.{Call}
-use Rattle.vm_map.specs.declared.call.Call.TheVariants.{Get, Put, Del, Window}
+use Rattle.vm_map.specs.declared.call.Call.TheVariants.{Get, Put, Del, Window as Asked}
 use Rattle.vm_map.specs.declared.call.Reply.{Reply}
 use Rattle.vm_map.specs.declared.call.Reply.TheVariants.{Got, Was, Gone, Win}
 use Rattle.vm_map.specs.declared.call.Said.{Said}
 use Rattle.vm_map.specs.declared.window.Bound.{Bound}
 use Rattle.vm_map.specs.declared.window.Bound.TheVariants.{Key, End}
+use Rattle.vm_map.specs.declared.window.Window.{Window}
 use Rattle.vm_map.specs.Map.{Pairs}
-
--- the key that a call names; a window's is its start
-abbrev pub key_of : Call → ℕ
-key_of (Get key) = key
-key_of (Put key value) = key
-key_of (Del key) = key
-key_of (Window start most) = start
+use Rattle.vm_script.specs.declared.text.Line.{Line}
+use Rattle.vm_script.specs.declared.text.Line.TheVariants as lines
 
 -- the key of a window's bound, or `end`
 abbrev pub bound_text : Bound → List ℕ
@@ -27,37 +23,67 @@ bound_text End = codes "end"
 abbrev pub shown_text : Pairs → List ℕ
 shown_text = flat_map (λ pair. 32 ∷ decimal pair.0 ++ 61 ∷ decimal pair.1)
 
--- of a call that names this key: `some V` or `none`, `new` or `was V`, `gone V` or `none`, `window K B` and the pairs
-abbrev pub answer_text : ℕ → Reply → List ℕ
-answer_text key (Got None) = codes "none"
-answer_text key (Got (Some value)) = codes "some " ++ decimal value
-answer_text key (Was None) = codes "new"
-answer_text key (Was (Some value)) = codes "was " ++ decimal value
-answer_text key (Gone None) = codes "none"
-answer_text key (Gone (Some value)) = codes "gone " ++ decimal value
-answer_text key (Win window) = codes "window " ++ decimal key ++ 32 ∷ bound_text window.bound ++ shown_text window.pairs
+-- `window K B` and the pairs, of a window from K on
+abbrev pub window_text : ℕ → Window → List ℕ
+window_text start window = codes "window " ++ decimal start ++ 32 ∷ bound_text window.bound ++ shown_text window.pairs
+
+-- a value behind its word, or the word for none
+abbrev pub value_text : List ℕ → List ℕ → Option ℕ → List ℕ
+value_text word none (Some value) = word ++ 32 ∷ decimal value
+value_text word none None = none
+
+-- to a get `some V` or `none`, to a put `was V` or `new`, to a del `gone V` or `none`, to a window `window K B` and the pairs; a reply that is not of the call's kind has no text
+abbrev pub answer_text : Call → Reply → List ℕ
+answer_text (Get key) (Got found) = value_text (codes "some") (codes "none") found
+answer_text (Get key) _ = []
+answer_text (Put key value) (Was old) = value_text (codes "was") (codes "new") old
+answer_text (Put key value) _ = []
+answer_text (Del key) (Gone old) = value_text (codes "gone") (codes "none") old
+answer_text (Del key) _ = []
+answer_text (Asked start most) (Win window) = window_text start window
+answer_text (Asked start most) _ = []
+
+-- the reply, or why there is none
+abbrev pub outcome_text : Line → List ℕ
+outcome_text (lines.Said said) = answer_text said.call said.reply
+outcome_text (lines.Fault page) = codes "fault " ++ decimal page
+outcome_text lines.Full = codes "full"
+outcome_text (lines.Worn page) = codes "worn " ++ decimal page
 
 -- `WORKER NUMBER REPLY`
-abbrev pub reply_line : ℕ → ℕ → Said → List ℕ
-reply_line worker number said = decimal worker ++ 32 ∷ decimal number ++ 32 ∷ answer_text (key_of said.call) said.reply ++ 10 ∷ []
+abbrev pub reply_line : ℕ → ℕ → Line → List ℕ
+reply_line worker number line = decimal worker ++ 32 ∷ decimal number ++ 32 ∷ outcome_text line ++ 10 ∷ []
 
 -- `row K V`
 abbrev pub row_line : ℕ × ℕ → List ℕ
 row_line row = codes "row " ++ decimal row.0 ++ 32 ∷ decimal row.1 ++ 10 ∷ []
 
--- the lines of a worker's replies, numbered on from `number`
-abbrev pub replies_text : ℕ → ℕ → List Said → List ℕ
+-- a worker's lines, numbered on from `number`
+abbrev pub replies_text : ℕ → ℕ → List Line → List ℕ
 replies_text worker number [] = []
-replies_text worker number (said ∷ history) = reply_line worker number said ++ replies_text worker (number + 1) history
+replies_text worker number (line ∷ more) = reply_line worker number line ++ replies_text worker (number + 1) more
 
--- the replies of workers, worker after worker from `worker` on, each worker's numbered from 1
-abbrev pub worker_replies : ℕ → List (List Said) → List ℕ
+-- the lines of workers, worker after worker from `worker` on, each worker's numbered from 1
+abbrev pub worker_replies : ℕ → List (List Line) → List ℕ
 worker_replies worker [] = []
-worker_replies worker (history ∷ histories) = replies_text worker 1 history ++ worker_replies (worker + 1) histories
+worker_replies worker (told ∷ more) = replies_text worker 1 told ++ worker_replies (worker + 1) more
+
+-- what calls are told that are all answered
+abbrev pub all_said : List Said → List Line
+all_said history = map (λ said. lines.Said said) history
 
 -- the lines of a map's pairs
 abbrev pub rows_text : Pairs → List ℕ
 rows_text = flat_map row_line
+
+-- `counters reads R writes X faults N evicted E`
+abbrev pub counters_line : ℕ → ℕ → ℕ → ℕ → List ℕ
+counters_line reads writes faults evicted =
+    codes "counters reads " ++ decimal reads ++ codes " writes " ++ decimal writes ++ codes " faults " ++ decimal faults ++ codes " evicted " ++ decimal evicted ++ 10 ∷ []
+
+-- `unflushed P`
+abbrev pub unflushed_line : ℕ → List ℕ
+unflushed_line page = codes "unflushed " ++ decimal page ++ 10 ∷ []
 
 -- `tree height H used U rows N`
 abbrev pub tree_line : ℕ → ℕ → ℕ → List ℕ

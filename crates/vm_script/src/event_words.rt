@@ -9,7 +9,8 @@ ghost use Rattle.vm_script.specs.Verbs.{verb_name};
 use crate::event_line::{EventLine, Kind, VERBS, Verb, kinds_of, line_with, name_of};
 use crate::number::number_of;
 use crate::script::cut;
-use vm_core::{CoreShape, StateWord};
+use vm_core::{CoreShape, FRAMES, StateWord};
+use vm_page::WORDS;
 
 // The verb that a word names.
 fn verb_of(word: &[u8]) -> Option<Verb>
@@ -84,8 +85,8 @@ fn is_field(kind: Kind, shape: &CoreShape, value: u64) -> bool
         Kind::Actor => value < u64::from(shape.actors),
         Kind::Page => value < u64::from(shape.pages),
         Kind::Frame => value < u64::from(shape.frames),
-        Kind::Place => value < 64,
-        Kind::Bundle => value <= u64::from((shape.frames - 1) / 64),
+        Kind::Place => value < WORDS as u64,
+        Kind::Bundle => value <= u64::from((shape.frames - 1) / FRAMES as u32),
         Kind::Word | Kind::State => true,
         Kind::Count => value < 0x1_0000_0000,
     }

@@ -1,8 +1,13 @@
-// Laws on scripts and numbers that hold of their definitions, for whoever reads or writes them.
+// Laws on scripts, event lists, plans and numbers that hold of their definitions, for whoever reads or writes them.
 ghost use Rattle.std.specs.Prelude.{◌≡◌, ℕ, ◌<◌, ◌^◌, List};
 ghost use Rattle.std.specs.Fmt.{decimal};
+ghost use Rattle.vm_core.specs.declared.event.CoreShape.{CoreShape};
+ghost use Rattle.vm_image.specs.declared.blocks.PlannedFault.{PlannedFault};
 ghost use Rattle.vm_map.specs.declared.call.Call.{Call};
+ghost use Rattle.vm_script.specs.declared.event_line.EventLine.{EventLine};
 ghost use Rattle.vm_script.specs.declared.script.Order.{Order};
+ghost use Rattle.vm_script.specs.Events.{IsFirstBadEvent, SpellsEvents};
+ghost use Rattle.vm_script.specs.Faults.{IsPlan, plan_text};
 ghost use Rattle.vm_script.specs.Scripts.{Spells, IsScript, IsFirstBad};
 
 /// A script has one reading: its bytes spell one list of orders, and so one list of calls for each
@@ -16,6 +21,21 @@ pub fn one_reading()
         → IsFirstBad workers bytes m → IsFirstBad workers bytes n → m ≡ n }
     ensures not_both { (workers : ℕ) (bytes : List ℕ) (orders : List Order) (n : ℕ) → workers < 2 ^ 32
         → Spells workers bytes orders → IsFirstBad workers bytes n → ⊥ }
+{}
+
+/// An event list has one reading: its bytes spell one shape with one list of event lines, or they have one first bad
+/// line, and never both.
+pub fn one_event_reading()
+    ensures one_list { (bytes : List ℕ) (shape other : CoreShape) (a b : List EventLine)
+        → SpellsEvents bytes shape a → SpellsEvents bytes other b → (shape ≡ other) × (a ≡ b) }
+    ensures one_bad_line { (bytes : List ℕ) (m n : ℕ) → IsFirstBadEvent bytes m → IsFirstBadEvent bytes n → m ≡ n }
+    ensures not_both { (bytes : List ℕ) (shape : CoreShape) (lines : List EventLine) (n : ℕ)
+        → SpellsEvents bytes shape lines → IsFirstBadEvent bytes n → ⊥ }
+{}
+
+/// A word spells one plan.
+pub fn one_plan()
+    ensures { (a b : List PlannedFault) → IsPlan a → IsPlan b → plan_text a ≡ plan_text b → a ≡ b }
 {}
 
 /// Two numbers with one text are one.

@@ -4,6 +4,7 @@
 pub mod event_line;
 mod event_words;
 pub mod events;
+pub mod faults;
 pub mod laws;
 pub mod number;
 pub mod script;

@@ -15,6 +15,7 @@ use crate::number::number_of;
 use std::alloc::{AllocError, AllocFailed, Global};
 use thiserror::Error;
 use vm_map::call::Call;
+use vm_map::window::MOST_PAIRS;
 
 /// A line of a script: a call, and the worker that makes it.
 #[derive(Clone, Copy)]
@@ -54,9 +55,6 @@ impl<T: Drop> From<AllocFailed<T>> for ScriptFault {
 
 /// How many bytes a script may have.
 pub const MOST_BYTES: usize = 16_777_216;
-
-/// How many pairs a window may be asked for.
-pub const MOST_PAIRS: u64 = 28;
 
 /// How many lines a script may have.
 pub const MOST_LINES: u32 = 1_000_000;
@@ -118,7 +116,7 @@ fn call_of(bytes: &[u8]) -> Option<Call>
         let Some((start, most)) = pair_of(rest) else {
             return None;
         };
-        if 1 <= most && most <= MOST_PAIRS {
+        if 1 <= most && most <= MOST_PAIRS as u64 {
             return Some(Call::Window {
                 start,
                 most: most as u32,

@@ -8,6 +8,7 @@ ghost use Rattle.vm_script.specs.Sights.{found_text, left_name, sight_text, tran
 use crate::event_line::EventLine;
 use std::alloc::{AllocError, Global};
 use vm_core::{Event, ReadIs, Seen, StateWord};
+use vm_page::WORDS;
 
 // How what an event sees is told.
 #[derive(Clone, Copy)]
@@ -113,7 +114,9 @@ fn word_string(alloc: Global, sight: Sight, word: u64) -> Result<String, AllocEr
         Sight::Place => format!(in alloc; "place {word}"),
         Sight::State => state_string(alloc, word),
         Sight::Failed => format!(in alloc; "failed {word}"),
-        _ => format!(in alloc; "{word}"),
+        Sight::Look | Sight::Exchange | Sight::NumberExchange | Sight::Done => {
+            format!(in alloc; "{word}")
+        }
     }
 }
 
@@ -123,7 +126,16 @@ fn found_string(alloc: Global, sight: Sight, word: u64) -> Result<String, AllocE
 {
     match sight {
         Sight::Exchange => state_string(alloc, word),
-        _ => format!(in alloc; "{word}"),
+        Sight::NumberExchange
+        | Sight::Look
+        | Sight::Translation
+        | Sight::Loaded
+        | Sight::Bits
+        | Sight::Next
+        | Sight::Place
+        | Sight::State
+        | Sight::Failed
+        | Sight::Done => format!(in alloc; "{word}"),
     }
 }
 
@@ -147,13 +159,13 @@ fn sight_string(alloc: Global, sight: Sight, seen: &Seen) -> Result<String, Allo
     }
 }
 
-// The word that a load saw.
+// The word that is seen, and 0 where none is.
 fn word_of(seen: &Seen) -> u64
     ensures { result ≡ word_in seen.now }
 {
     match *seen {
         Seen::Word(word) => word,
-        _ => 0,
+        Seen::Done | Seen::Look { .. } | Seen::Taken | Seen::Lost(_) => 0,
     }
 }
 
@@ -167,7 +179,7 @@ fn told_string(alloc: Global, line: &EventLine, seen: &[Seen]) -> Result<String,
         EventLine::Fill { .. } => String::from_str(alloc, "done"),
         EventLine::Loads { .. } => {
             let first = word_of(&seen[0]);
-            let last = word_of(&seen[63]);
+            let last = word_of(&seen[WORDS - 1]);
             format!(in alloc; "words {first} {last}")
         }
     }

@@ -1,22 +1,24 @@
-// Writes the lines of replies, of rows and of a tree's size.
+//! Writes the lines of what calls were answered, of rows, of counters and of a tree's size.
+
 ghost use Rattle.std.specs.Prelude.{◌≡◌, ◌++◌, IfOk, string_bytes, is_ok, if◌then◌else◌};
-ghost use Rattle.vm_map.specs.declared.call.Reply.TheVariants.{Win};
-ghost use Rattle.vm_script.specs.Texts.{answer_text, bound_text, key_of, reply_line, row_line, shown_text, tree_line};
+ghost use Rattle.vm_script.specs.declared.text.Line.TheVariants as lines;
+ghost use Rattle.vm_script.specs.Texts.{answer_text, bound_text, counters_line, outcome_text, reply_line, row_line, shown_text, tree_line, unflushed_line, window_text};
 
 use std::alloc::{AllocError, Global};
 use vm_map::call::{Call, Pair, Reply, Said};
 use vm_map::window::{Bound, Window};
 
-// The key that a call names; a window's is its start.
-fn key(call: &Call) -> u64
-    ensures { result ≡ key_of call.now }
-{
-    match *call {
-        Call::Get { key } => key,
-        Call::Put { key, .. } => key,
-        Call::Del { key } => key,
-        Call::Window { start, .. } => start,
-    }
+/// What a worker is told of one call: its reply, or why there is none.
+#[derive(Drop)]
+pub enum Line {
+    /// The call with its reply.
+    Said(Said),
+    /// A call on the block of this page failed.
+    Fault(u32),
+    /// A node has to be split, and no page is left.
+    Full,
+    /// The word of this page stands at the last version.
+    Worn(u32),
 }
 
 // The key of a window's bound, or `end`.
@@ -44,7 +46,7 @@ fn shown(alloc: Global, pairs: &[Pair]) -> Result<String, AllocError>
 
 // The text `window K B` and the pairs, of a window from K on.
 fn window_text(alloc: Global, start: u64, window: &Window) -> Result<String, AllocError>
-    ensures { IfOk result (λ text. string_bytes text ≡ answer_text start (Win window.now)) }
+    ensures { IfOk result (λ text. string_bytes text ≡ window_text start window.now) }
 {
     let bound = bound(alloc, window.bound)?;
     let shown = shown(alloc, window.pairs.as_slice())?;
@@ -52,49 +54,137 @@ fn window_text(alloc: Global, start: u64, window: &Window) -> Result<String, All
     Ok(text)
 }
 
-// The text of a reply to a call that names this key.
-fn answer(alloc: Global, key: u64, reply: &Reply) -> Result<String, AllocError>
-    ensures { IfOk result (λ text. string_bytes text ≡ answer_text key reply.now) }
+// The text of a reply to a call; none for a reply that is not of the call's kind.
+fn answer(alloc: Global, call: &Call, reply: &Reply) -> Result<String, AllocError>
+    ensures { IfOk result (λ text. string_bytes text ≡ answer_text call.now reply.now) }
 {
-    match reply {
-        Reply::Got(None) => String::from_str(alloc, "none"),
-        Reply::Got(Some(value)) => format!(in alloc; "some {value}"),
-        Reply::Was(None) => String::from_str(alloc, "new"),
-        Reply::Was(Some(value)) => format!(in alloc; "was {value}"),
-        Reply::Gone(None) => String::from_str(alloc, "none"),
-        Reply::Gone(Some(value)) => format!(in alloc; "gone {value}"),
-        Reply::Win(window) => window_text(alloc, key, window),
+    match *call {
+        Call::Get { .. } => match reply {
+            Reply::Got(None) => String::from_str(alloc, "none"),
+            Reply::Got(Some(value)) => format!(in alloc; "some {value}"),
+            Reply::Was(_) | Reply::Gone(_) | Reply::Win(_) => Ok(String::new(alloc)),
+        },
+        Call::Put { .. } => match reply {
+            Reply::Was(None) => String::from_str(alloc, "new"),
+            Reply::Was(Some(value)) => format!(in alloc; "was {value}"),
+            Reply::Got(_) | Reply::Gone(_) | Reply::Win(_) => Ok(String::new(alloc)),
+        },
+        Call::Del { .. } => match reply {
+            Reply::Gone(None) => String::from_str(alloc, "none"),
+            Reply::Gone(Some(value)) => format!(in alloc; "gone {value}"),
+            Reply::Got(_) | Reply::Was(_) | Reply::Win(_) => Ok(String::new(alloc)),
+        },
+        Call::Window { start, .. } => match reply {
+            Reply::Win(window) => window_text(alloc, start, window),
+            Reply::Got(_) | Reply::Was(_) | Reply::Gone(_) => Ok(String::new(alloc)),
+        },
     }
 }
 
-/// Appends the line `WORKER NUMBER REPLY` of a worker's reply: `some V` or `none` to a get, `new` or
-/// `was V` to a put, `gone V` or `none` to a del, and `window K B` with ` k=v` for each pair to a window from K
-/// on, B being the key of its bound or `end`. An `Err` leaves `out` as it was.
+// The reply, or why there is none.
+fn outcome(alloc: Global, line: &Line) -> Result<String, AllocError>
+    ensures { IfOk result (λ text. string_bytes text ≡ outcome_text line.now) }
+{
+    match line {
+        Line::Said(said) => answer(alloc, &said.call, &said.reply),
+        Line::Fault(page) => format!(in alloc; "fault {page}"),
+        Line::Full => String::from_str(alloc, "full"),
+        Line::Worn(page) => format!(in alloc; "worn {page}"),
+    }
+}
+
+/// Appends the line `WORKER NUMBER REPLY` of a worker's call: `some V` or `none` to a get, `new` or `was V` to a put,
+/// `gone V` or `none` to a del, `window K B` with ` k=v` for each pair to a window from K on, B being the key of its bound or
+/// `end`; and `fault P`, `full` or `worn P` where there is no reply. A reply that is not of its call's kind has no text.
+///
+/// # Errors
+///
+/// `AllocError` where memory was refused; `out` is then as before.
 pub fn reply_text(
+    alloc: Global,
+    worker: u32,
+    number: u32,
+    line: &Line,
+    out: &mut Vec<u8>,
+) -> Result<(), AllocError>
+    ensures { out.new.items ≡ (if is_ok result then out.old.items ++ reply_line worker number line.now else out.old.items) }
+{
+    let told = outcome(alloc, line)?;
+    let line = format!(in alloc; "{worker} {number} {told}\n")?;
+    out.extend_from_slice(line.as_bytes())
+}
+
+/// Appends the line of a call that was answered, as `reply_text` does.
+///
+/// # Errors
+///
+/// `AllocError` where memory was refused; `out` is then as before.
+pub fn said_text(
     alloc: Global,
     worker: u32,
     number: u32,
     said: &Said,
     out: &mut Vec<u8>,
 ) -> Result<(), AllocError>
-    ensures { out.new.items ≡ (if is_ok result then out.old.items ++ reply_line worker number said.now else out.old.items) }
+    ensures { out.new.items ≡ (if is_ok result then out.old.items ++ reply_line worker number (lines.Said said.now) else out.old.items) }
 {
-    let answer = answer(alloc, key(&said.call), &said.reply)?;
-    let line = format!(in alloc; "{worker} {number} {answer}\n")?;
+    let told = answer(alloc, &said.call, &said.reply)?;
+    let line = format!(in alloc; "{worker} {number} {told}\n")?;
     out.extend_from_slice(line.as_bytes())
 }
 
-/// Appends the line `row K V` of a pair. An `Err` leaves `out` as it was.
-pub fn row_text(alloc: Global, row: &Pair, out: &mut Vec<u8>) -> Result<(), AllocError>
-    ensures { out.new.items ≡ (if is_ok result then out.old.items ++ row_line row.now else out.old.items) }
+/// Appends the line `row K V` of a pair.
+///
+/// # Errors
+///
+/// `AllocError` where memory was refused; `out` is then as before.
+pub fn row_text(alloc: Global, key: u64, value: u64, out: &mut Vec<u8>) -> Result<(), AllocError>
+    ensures { out.new.items ≡ (if is_ok result then out.old.items ++ row_line (key, value) else out.old.items) }
 {
-    let Pair { key, value } = *row;
     let line = format!(in alloc; "row {key} {value}\n")?;
     out.extend_from_slice(line.as_bytes())
 }
 
+/// Appends the line `counters reads R writes X faults N evicted E`: device calls that answered and that failed, and pages
+/// that were evicted.
+///
+/// # Errors
+///
+/// `AllocError` where memory was refused; `out` is then as before.
+pub fn counters_text(
+    alloc: Global,
+    reads: u64,
+    writes: u64,
+    faults: u64,
+    evicted: u64,
+    out: &mut Vec<u8>,
+) -> Result<(), AllocError>
+    ensures { out.new.items ≡ (if is_ok result then out.old.items ++ counters_line reads writes faults evicted else out.old.items) }
+{
+    let line = format!(in alloc;
+        "counters reads {reads} writes {writes} faults {faults} evicted {evicted}\n"
+    )?;
+    out.extend_from_slice(line.as_bytes())
+}
+
+/// Appends the line `unflushed P` of a page whose last write failed.
+///
+/// # Errors
+///
+/// `AllocError` where memory was refused; `out` is then as before.
+pub fn unflushed_text(alloc: Global, page: u32, out: &mut Vec<u8>) -> Result<(), AllocError>
+    ensures { out.new.items ≡ (if is_ok result then out.old.items ++ unflushed_line page else out.old.items) }
+{
+    let line = format!(in alloc; "unflushed {page}\n")?;
+    out.extend_from_slice(line.as_bytes())
+}
+
 /// Appends the line `tree height H used U rows N` of a tree: the level of its root, its pages that are not all
-/// zero, and its pairs. An `Err` leaves `out` as it was.
+/// zero, and its pairs.
+///
+/// # Errors
+///
+/// `AllocError` where memory was refused; `out` is then as before.
 pub fn tree_text(
     alloc: Global,
     height: u64,

@@ -20,7 +20,7 @@ use Rattle.clap.specs.declared.error.kind.ErrorKind.{ErrorKind}
 use Rattle.clap.specs.declared.error.kind.ErrorKind.TheVariants as kind
 use Rattle.clap.proofs.WalkLemmas.{both}
 use Rattle.vm_words.specs.Apps.{vmcache_app}
-use Rattle.vm_words.proofs.Options.{each_passes, joined}
+use Rattle.vm_words.proofs.Passing.{each_passes, joined}
 
 -- ---- lists of kinds
 

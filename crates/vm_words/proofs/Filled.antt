@@ -16,7 +16,7 @@ use Rattle.clap.specs.declared.builder.action.ArgAction.TheVariants as action
 use Rattle.clap.specs.declared.parser.matches.ValueSource.{ValueSource}
 use Rattle.clap.specs.declared.builder.value_parser.Reading.{Reading}
 use Rattle.clap.proofs.WalkLemmas.{both}
-use Rattle.vm_words.proofs.Options.{each_passes, joined}
+use Rattle.vm_words.proofs.Passing.{each_passes, joined}
 
 -- ---- rows with values
 

@@ -1,4 +1,6 @@
-mod Options
+mod Passing
 mod Faultless
 mod Filled
+mod Meanings
+mod Table
 mod Lines

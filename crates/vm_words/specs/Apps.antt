@@ -1,30 +1,35 @@
--- What clap is told of the command line, in clap's own terms.
-use Rattle.std.specs.Prelude.{◌≡◌, true, false, Some, codes}
+-- What clap is told of the command line, in clap's own terms, made from the table of forms.
+use Rattle.std.specs.Prelude.{◌≡◌, true, false, List, [], ◌∷◌, Some, codes}
 use Rattle.clap.specs.Words.{App, Rule, Text, app_of, new_app, new_rule, with_rule, with_subcommand}
 use Rattle.clap.specs.declared.builder.command.Command.{Command}
 use Rattle.clap.specs.declared.builder.command.Command.TheViews.{out-Command}
+use Rattle.vm_words.specs.declared.form.Verb.{Verb}
+use Rattle.vm_words.specs.declared.form.Slot.{Slot}
+use Rattle.vm_words.specs.declared.form.Place.{Place}
+use Rattle.vm_words.specs.declared.form.Place.TheVariants.{Placed, Asked, Optional}
+use Rattle.vm_words.specs.Forms.{place_in, slot_text, slots_in, title, verbs}
 
--- a word that has to be there, by its place
-abbrev pub placed : Text → Rule
-placed id = record (new_rule id) { required = true }
+-- the argument of a slot that stands there
+abbrev pub rule_at : Place → Text → Rule
+rule_at Placed id = record (new_rule id) { required = true }
+rule_at Asked id = record (new_rule id) { required = true; long = Some id }
+rule_at Optional id = record (new_rule id) { long = Some id }
 
--- an option that has to be there, with its value: `--id VALUE`
-abbrev pub named : Text → Rule
-named id = record (new_rule id) { required = true; long = Some id }
+abbrev pub rule_in : Slot → Rule
+rule_in slot = rule_at (place_in slot) (slot_text slot)
 
--- `run IMAGE SCRIPT --workers W --frames F`
-abbrev pub run_app : App
-run_app = with_rule (with_rule (with_rule (with_rule (new_app (codes "run")) (placed (codes "image"))) (placed (codes "script"))) (named (codes "workers"))) (named (codes "frames"))
+-- with an argument for each of the slots
+abbrev pub with_slots : App → List Slot → App
+with_slots app [] = app
+with_slots app (slot ∷ slots) = with_slots (with_rule app (rule_in slot)) slots
 
--- a command of this name with one file: `NAME FILE`
-abbrev pub file_app : Text → App
-file_app name = with_rule (new_app name) (placed (codes "file"))
+abbrev pub app_in : Verb → App
+app_in verb = with_slots (new_app (title verb)) (slots_in verb)
 
-abbrev pub check_app : App
-check_app = file_app (codes "check")
-
-abbrev pub replay_app : App
-replay_app = file_app (codes "replay")
+-- with each of the commands
+abbrev pub with_verbs : App → List Verb → App
+with_verbs app [] = app
+with_verbs app (verb ∷ verbs) = with_verbs (with_subcommand app (app_in verb).top) verbs
 
 -- a command has to be named by the first word, and clap adds no command `help` of its own
 abbrev pub bare_app : App
@@ -32,7 +37,7 @@ bare_app = let a = new_app (codes "vmcache") in record a { top = record a.top { 
 
 -- the whole command line: one of the commands, with its words
 abbrev pub vmcache_app : App
-vmcache_app = with_subcommand (with_subcommand (with_subcommand bare_app run_app.top) check_app.top) replay_app.top
+vmcache_app = with_verbs bare_app verbs
 
 abbrev pub IsApp : App → Command → Type 0
 IsApp app command = app_of command ≡ app

@@ -1,62 +1,88 @@
--- Which words are which command, by clap's own definitions.
-use Rattle.std.specs.Prelude.{◌≡◌, ◌⊎◌, ℕ, List, true, false, codes}
-use Rattle.clap.specs.Words.{Text, subcommand_of, takes}
+-- Which words are which command, by clap's own definitions and the table of forms.
+use Rattle.std.specs.Prelude.{◌≡◌, ℕ, Bool, true, false, List, [], ◌∷◌, Option, Some, None}
+use Rattle.std.specs.List.{AllByRecursion, Contains}
+use Rattle.std.specs.Borrow.{Bor}
+use Rattle.clap.specs.Words.{Row, Text, first_of, subcommand_of, takes}
+use Rattle.vm_image.specs.declared.blocks.PlannedFault.{PlannedFault}
 use Rattle.vm_words.specs.Apps.{vmcache_app}
-use Rattle.vm_words.specs.Found.{EntersFile, EntersRun, EntersRunOf, IsNoNumber}
+use Rattle.vm_words.specs.Forms.{is_needed, kind_in, place_in, slot_text, slots_in, title}
+use Rattle.vm_words.specs.Values.{AreFilled, HasUnfilled, IsOdd, Meaning, named, counted, planned, absent}
+use Rattle.vm_words.specs.declared.form.Slot.{Slot}
+use Rattle.vm_words.specs.declared.form.Verb.{Verb}
+use Rattle.vm_words.specs.declared.form.Verb.TheVariants as verbs
 use Rattle.vm_words.specs.declared.Command.{Command}
 use Rattle.vm_words.specs.declared.Command.TheVariants.{Run, Check, Replay}
 
--- clap takes the words, and reads them as `run` with these names and with canonical decimals of
--- these numbers
-pub record IsRun (words : List Text) (image script : Text) (workers frames : ℕ) : Type 0 where
+-- the command that was entered, with what clap found for it
+abbrev pub Entered : Type 0
+Entered = Option (Text × List Row)
+
+-- the command that was entered is this one, and its words say this
+pub record Enters (entered : Entered) (verb : Verb) (meanings : List Meaning) : Type 0 where
+  pub rows : List Row
+  pub named_so : entered ≡ Some (title verb, rows)
+  pub filled : AreFilled (slots_in verb) rows meanings
+
+-- clap takes the words, and reads them as a line of this command that says this
+pub record IsLine (words : List Text) (verb : Verb) (meanings : List Meaning) : Type 0 where
   pub taken : takes vmcache_app words ≡ true
-  pub line : EntersRunOf (subcommand_of vmcache_app words) image script workers frames
+  pub line : Enters (subcommand_of vmcache_app words) verb meanings
 
--- clap takes the words, and reads them as the command of this name with this file
-pub record NamesFile (words : List Text) (name file : Text) : Type 0 where
-  pub taken : takes vmcache_app words ≡ true
-  pub line : EntersFile (subcommand_of vmcache_app words) name file
+-- of words that may be left out: what they say
+abbrev pub name_or : Option (Bor Text) → Meaning
+name_or None = absent
+name_or (Some name) = named name.now
 
--- `check` of a file
-abbrev pub IsCheck : List Text → Text → Type 0
-IsCheck words file = NamesFile words (codes "check") file
+abbrev pub number_or : Option ℕ → Meaning
+number_or None = absent
+number_or (Some n) = counted n
 
--- `replay` of a file
-abbrev pub IsReplay : List Text → Text → Type 0
-IsReplay words file = NamesFile words (codes "replay") file
+-- a plan that a word spells has an entry
+abbrev pub plan_or : List PlannedFault → Meaning
+plan_or [] = absent
+plan_or (fault ∷ plan) = planned (fault ∷ plan)
+
+-- the line of a command: what its slots say, in order
+abbrev pub line_of : Command → Verb × List Meaning
+line_of (Run run) = (verbs.Run, named run.image.now ∷ named run.script.now ∷ counted run.workers ∷ counted run.frames ∷ name_or run.options.keep ∷ plan_or run.options.fail.items ∷ number_or run.options.first_version ∷ [])
+line_of (Check check) = (verbs.Check, named check.file.now ∷ [])
+line_of (Replay replay) = (verbs.Replay, named replay.file.now ∷ [])
 
 abbrev pub IsCommand : List Text → Command → Type 0
-IsCommand words (Run run) = IsRun words run.image.now run.script.now run.workers run.frames
-IsCommand words (Check check) = IsCheck words check.file.now
-IsCommand words (Replay replay) = IsReplay words replay.file.now
+IsCommand words command = IsLine words (line_of command).0 (line_of command).1
 
 -- the words are no command
-pub record IsNoCommand (words : List Text) : Type 0 where
-  pub no_run : (image script : Text) (workers frames : ℕ) → IsRun words image script workers frames → ⊥
-  pub no_check : (file : Text) → IsCheck words file → ⊥
-  pub no_replay : (file : Text) → IsReplay words file → ⊥
+abbrev pub IsNoCommand : List Text → Type 0
+IsNoCommand words = (command : Command) → IsCommand words command → ⊥
 
--- clap takes the words, and reads them as `run` with these four texts
-pub record IsRunLine (words : List Text) (image script workers frames : Text) : Type 0 where
+-- clap found a word for each slot that has to have one
+abbrev pub HasWords : List Slot → List Row → Type 0
+HasWords slots rows = AllByRecursion (λ (slot : Slot). is_needed (place_in slot) ≡ true → (text : Text) × (first_of (slot_text slot) rows ≡ Some text)) slots
+
+-- the words are a line of some command, with a word for each slot that has to have one
+pub record HasLine (words : List Text) : Type 0 where
+  pub verb : Verb
+  pub rows : List Row
+  pub named_so : subcommand_of vmcache_app words ≡ Some (title verb, rows)
+  pub whole_so : HasWords (slots_in verb) rows
+
+-- clap takes the words, and reads them as a line of this command, of which a word is none of its slot's kind
+pub record HasOddWord (words : List Text) (verb : Verb) : Type 0 where
   pub taken : takes vmcache_app words ≡ true
-  pub line : EntersRun (subcommand_of vmcache_app words) image script workers frames
+  pub rows : List Row
+  pub named_so : subcommand_of vmcache_app words ≡ Some (title verb, rows)
+  pub slot : Slot
+  pub among : Contains (slots_in verb) slot
+  pub text : Text
+  pub found : first_of (slot_text slot) rows ≡ Some text
+  pub odd : IsOdd (kind_in slot) text
 
--- the words have all that one of the commands asks for
-pub data HasLine (words : List Text) : Type 0 where
-  run_line : (image script workers frames : Text) → IsRunLine words image script workers frames → HasLine words
-  check_line : (file : Text) → IsCheck words file → HasLine words
-  replay_line : (file : Text) → IsReplay words file → HasLine words
-
--- two readings of `run` are one
-pub record SameRun (image script : Text) (workers frames : ℕ) (i s : Text) (w f : ℕ) : Type 0 where
-  pub image_same : image ≡ i
-  pub script_same : script ≡ s
-  pub workers_same : workers ≡ w
-  pub frames_same : frames ≡ f
-
--- why words are no command: clap does not take them, or a number word is no canonical decimal of
--- 64 bits
+-- why words are no command: clap does not take them, or one of them is none of its slot's kind
 pub data WhyRefused (words : List Text) : Type 0 where
   untaken : takes vmcache_app words ≡ false → WhyRefused words
-  odd_number : (image script workers frames : Text) → IsRunLine words image script workers frames
-      → IsNoNumber workers ⊎ IsNoNumber frames → WhyRefused words
+  odd_word : (verb : Verb) → HasOddWord words verb → WhyRefused words
+
+-- what the reader of what was entered answers
+abbrev pub ReadsEntered : Entered → Option Command → Type 0
+ReadsEntered entered (Some command) = Enters entered (line_of command).0 (line_of command).1
+ReadsEntered entered None = (verb : Verb) (rows : List Row) → entered ≡ Some (title verb, rows) → HasUnfilled (slots_in verb) rows

@@ -1,3 +1,4 @@
+pub mod Forms
 pub mod Apps
+pub mod Values
 pub mod Commands
-pub mod Found

@@ -1,45 +1,36 @@
-//! What clap is told of the commands: a function for each kind of argument and for each command, so
-//! that each says what clap's definitions make of it.
+//! What clap is told of the commands, by the table of forms.
 ghost use Rattle.std.specs.Prelude.{◌≡◌, IfOk, false};
 ghost use Rattle.clap.specs.Words.{app_of, rule_of};
-ghost use Rattle.vm_words.specs.Apps.{IsApp, IsLocal, bare_app, file_app, named as named_rule, placed as placed_rule, run_app, vmcache_app};
+ghost use Rattle.vm_words.specs.Apps.{IsApp, IsLocal, app_in, bare_app, rule_in, vmcache_app};
 
+use crate::form::{Place, Slot, VERBS, Verb, name_of, place_of, slots_of, title_of};
 use clap::{Arg, Command};
 use std::alloc::{AllocError, Global};
 
-// A word that has to be there, by its place.
-fn placed<'a>(alloc: Global, id: &'a str) -> Arg<'a>
-    ensures rule { rule_of result ≡ placed_rule id.entry.now }
+// The argument of a slot.
+fn arg_of<'a>(alloc: Global, slot: Slot) -> Arg<'a>
+    ensures rule { rule_of result ≡ rule_in slot }
     ensures local { result.global ≡ false }
 {
-    Arg::new(alloc, id).required(true)
+    let name = name_of(slot);
+    let arg = Arg::new(alloc, name);
+    match place_of(slot) {
+        Place::Placed => arg.required(true),
+        Place::Asked => arg.long(name).required(true),
+        Place::Optional => arg.long(name),
+    }
 }
 
-// An option that has to be there, with its value.
-fn named<'a>(alloc: Global, id: &'a str) -> Arg<'a>
-    ensures rule { rule_of result ≡ named_rule id.entry.now }
-    ensures local { result.global ≡ false }
-{
-    Arg::new(alloc, id).long(id).required(true)
-}
-
-fn run<'a>(alloc: Global) -> Result<Command<'a>, AllocError>
-    ensures app { IfOk result (IsApp run_app) }
+// A command with its slots.
+fn command_of<'a>(alloc: Global, verb: Verb) -> Result<Command<'a>, AllocError>
+    ensures app { IfOk result (IsApp (app_in verb)) }
     ensures local { IfOk result IsLocal }
 {
-    Command::new(alloc, "run")
-        .arg(placed(alloc, "image"))?
-        .arg(placed(alloc, "script"))?
-        .arg(named(alloc, "workers"))?
-        .arg(named(alloc, "frames"))
-}
-
-// A command with one file.
-fn with_file<'a>(alloc: Global, name: &'a str) -> Result<Command<'a>, AllocError>
-    ensures app { IfOk result (IsApp (file_app name.entry.now)) }
-    ensures local { IfOk result IsLocal }
-{
-    Command::new(alloc, name).arg(placed(alloc, "file"))
+    let mut command = Command::new(alloc, title_of(verb));
+    'slots: for slot in slots_of(verb) {
+        command = command.arg(arg_of(alloc, *slot))?;
+    }
+    Ok(command)
 }
 
 // The program, with no command yet.
@@ -57,11 +48,9 @@ fn bare<'a>(alloc: Global) -> Command<'a>
 pub fn vmcache<'a>(alloc: Global) -> Result<Command<'a>, AllocError>
     ensures { IfOk result (IsApp vmcache_app) }
 {
-    let run = run(alloc)?;
-    let check = with_file(alloc, "check")?;
-    let replay = with_file(alloc, "replay")?;
-    bare(alloc)
-        .subcommand(run)?
-        .subcommand(check)?
-        .subcommand(replay)
+    let mut vmcache = bare(alloc);
+    'verbs: for verb in VERBS.iter() {
+        vmcache = vmcache.subcommand(command_of(alloc, *verb)?)?;
+    }
+    Ok(vmcache)
 }

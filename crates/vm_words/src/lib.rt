@@ -5,22 +5,26 @@ ghost use Rattle.std.specs.Prelude.{◌≡◌, IfOk, Err, map, string_bytes};
 ghost use Rattle.vm_words.specs.Commands.{IsCommand, IsNoCommand, WhyRefused};
 
 mod app;
+mod form;
 pub mod laws;
 mod matched;
+mod reader;
+mod value;
 
 use std::alloc::{AllocError, Global};
 use thiserror::Error;
+use vm_image::PlannedFault;
 
 /// What the words ask for.
-#[derive(Clone, Copy, PartialEq, Eq)]
+#[derive(Drop)]
 pub enum Command<'a> {
     Run(Run<'a>),
     Check(Check<'a>),
     Replay(Replay<'a>),
 }
 
-/// `run IMAGE SCRIPT --workers W --frames F`
-#[derive(Clone, Copy, PartialEq, Eq)]
+/// `run IMAGE SCRIPT --workers W --frames F [--keep FILE] [--fail P:N,..] [--first-version V]`
+#[derive(Drop)]
 pub struct Run<'a> {
     /// The name of the file with the image.
     pub image: &'a str,
@@ -30,17 +34,31 @@ pub struct Run<'a> {
     pub workers: u64,
     /// How many frames.
     pub frames: u64,
+    /// What may be left out.
+    pub options: Options<'a>,
+}
+
+/// The options of a run, each of which may be left out.
+#[derive(Drop)]
+pub struct Options<'a> {
+    /// `--keep FILE`: the name of the file that the pages go to at the end.
+    pub keep: Option<&'a str>,
+    /// `--fail P:N,..`: the calls of blocks that fail. There is no entry where the option is left out, and one at least
+    /// where it is not.
+    pub fail: Vec<PlannedFault>,
+    /// `--first-version V`: the version at which each page begins.
+    pub first_version: Option<u64>,
 }
 
 /// `check FILE`
-#[derive(Clone, Copy, PartialEq, Eq)]
+#[derive(Clone, Copy)]
 pub struct Check<'a> {
     /// The name of the file with the image.
     pub file: &'a str,
 }
 
 /// `replay FILE`
-#[derive(Clone, Copy, PartialEq, Eq)]
+#[derive(Clone, Copy)]
 pub struct Replay<'a> {
     /// The name of the file with the events.
     pub file: &'a str,
@@ -49,8 +67,8 @@ pub struct Replay<'a> {
 /// Why the words gave no command.
 #[derive(Clone, Copy, Debug, PartialEq, Eq, Error)]
 pub enum WordsFault {
-    /// They are none of the commands, or a number word is no canonical decimal below 2^64. A wish
-    /// for help is refused too.
+    /// They are none of the commands, a number word is no canonical decimal below 2^64, or the word of `--fail` is no list of
+    /// entries `P:N`. A wish for help is refused too.
     #[error("the words are no command")]
     Refused,
     #[error("out of memory")]
@@ -58,11 +76,11 @@ pub enum WordsFault {
 }
 
 /// Reads the words after the program's name. A number word has digits alone, no leading zero but in
-/// `0`, and is at most 2^64 - 1.
+/// `0`, and is at most 2^64 - 1; the word of `--fail` is entries `P:N` of two numbers each, with commas between them.
 ///
 /// # Errors
 ///
-/// `Refused` where clap does not take the words, else where a number word is refused; `Memory` for
+/// `Refused` where clap does not take the words, else where one of them is none of its slot's kind; `Memory` for
 /// want of memory alone.
 pub fn command_of<'a>(alloc: Global, words: &'a [String]) -> Result<Command<'a>, WordsFault>
     ensures command { IfOk result (IsCommand (map string_bytes words.entry.now)) }
@@ -76,8 +94,9 @@ pub fn command_of<'a>(alloc: Global, words: &'a [String]) -> Result<Command<'a>,
         Err(AllocError) => return Err(WordsFault::Memory),
     };
     let matches = matched::matches_of(vmcache, words)?;
-    match matched::command_in(&matches) {
-        Some(command) => Ok(command),
-        None => Err(WordsFault::Refused),
+    match reader::command_in(alloc, &matches) {
+        Ok(Some(command)) => Ok(command),
+        Ok(None) => Err(WordsFault::Refused),
+        Err(AllocError) => Err(WordsFault::Memory),
     }
 }

@@ -1,8 +1,8 @@
 use Rattle.std.proofs.Common.{◌∙◌}
 use Rattle.clap.specs.Words.{found_of}
 use Rattle.clap.proofs.WalkLemmas.{first_value-rows}
-use Rattle.vm_words.proofs.Options.{text_read}
-use Rattle.vm_words.proofs.matched.text_at.Goals as goal
+use Rattle.vm_words.proofs.Passing.{text_read}
+use Rattle.vm_words.proofs.reader.text_at.Goals as goal
 
 pub returns : goal.returns
 returns c = text_read _ _ (c.get_str.ensures ∙ first_value-rows (found_of c.args.matches.now) c.args.id.now)

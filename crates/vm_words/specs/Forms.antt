@@ -1,0 +1,67 @@
+-- The commands as a table of forms: the name of each, the slots of the words behind it, and of each slot its name, its place and its kind.
+use Rattle.std.specs.Prelude.{Bool, true, false, List, [], ◌∷◌, Option, codes, find}
+use Rattle.std.specs.Str.{bytes_eq}
+use Rattle.clap.specs.Words.{Text}
+use Rattle.vm_words.specs.declared.form.Verb.{Verb}
+use Rattle.vm_words.specs.declared.form.Verb.TheVariants.{Run, Check, Replay}
+use Rattle.vm_words.specs.declared.form.Slot.{Slot}
+use Rattle.vm_words.specs.declared.form.Slot.TheVariants.{Image, Script, Workers, Frames, Keep, Fail, FirstVersion, File}
+use Rattle.vm_words.specs.declared.form.Place.{Place}
+use Rattle.vm_words.specs.declared.form.Place.TheVariants.{Placed, Asked, Optional}
+use Rattle.vm_words.specs.declared.form.Kind.{Kind}
+use Rattle.vm_words.specs.declared.form.Kind.TheVariants.{Name, Number, Faults}
+
+-- every command
+abbrev pub verbs : List Verb
+verbs = Run ∷ Check ∷ Replay ∷ []
+
+abbrev pub title : Verb → Text
+title Run = codes "run"
+title Check = codes "check"
+title Replay = codes "replay"
+
+-- the command with this name
+abbrev pub verb_at : Text → Option Verb
+verb_at word = find (λ verb. bytes_eq (title verb) word) verbs
+
+-- the slots of a command, in order
+abbrev pub slots_in : Verb → List Slot
+slots_in Run = Image ∷ Script ∷ Workers ∷ Frames ∷ Keep ∷ Fail ∷ FirstVersion ∷ []
+slots_in Check = File ∷ []
+slots_in Replay = File ∷ []
+
+abbrev pub slot_text : Slot → Text
+slot_text Image = codes "image"
+slot_text Script = codes "script"
+slot_text Workers = codes "workers"
+slot_text Frames = codes "frames"
+slot_text Keep = codes "keep"
+slot_text Fail = codes "fail"
+slot_text FirstVersion = codes "first-version"
+slot_text File = codes "file"
+
+abbrev pub place_in : Slot → Place
+place_in Image = Placed
+place_in Script = Placed
+place_in Workers = Asked
+place_in Frames = Asked
+place_in Keep = Optional
+place_in Fail = Optional
+place_in FirstVersion = Optional
+place_in File = Placed
+
+abbrev pub kind_in : Slot → Kind
+kind_in Image = Name
+kind_in Script = Name
+kind_in Workers = Number
+kind_in Frames = Number
+kind_in Keep = Name
+kind_in Fail = Faults
+kind_in FirstVersion = Number
+kind_in File = Name
+
+-- the word has to be there
+abbrev pub is_needed : Place → Bool
+is_needed Placed = true
+is_needed Asked = true
+is_needed Optional = false
