@@ -16,7 +16,7 @@ use vm_core::StateWord;
 use vm_exmap::Interface;
 use vm_guard::OptGuard;
 use vm_owner::{Bare, Owner};
-use vm_page::PageBuf;
+use vm_page::{PageBuf, WORDS};
 use vm_pool::{Bring, Pool};
 use vm_rule::words::Pass;
 use vm_step::{At, Saw};
@@ -53,7 +53,7 @@ fn brought<B: Block>(rt: &impl Abort, pool: &Pool<Bare, B>, pass: &mut Pass<Bare
 
 /// Each of the 64 words is this one.
 fn is_all(rt: &impl Abort, page: &PageBuf, word: u64)
-    requires { length page.now ≡ 64 }
+    requires { length page.now ≡ WORDS }
 {
     for i in 0..64usize {
         let there = page.get(i);

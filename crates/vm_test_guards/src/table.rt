@@ -11,6 +11,7 @@ use std::alloc::Global;
 use std::process::Abort;
 use std::test::Fail;
 use vm_block::{Block, MemBlock};
+use vm_core::FRAMES;
 use vm_exmap::{Alloc, Interface};
 use vm_owner::{Bare, Owner};
 use vm_page::PageBuf;
@@ -69,7 +70,7 @@ pub(crate) fn free_frames<B: Block>(
 ) -> Batch
     requires ready { IsReady words.now.table.shared.key B.tells words.now.table.shared.table_id pass.old }
     requires home { (view pass.old).out ≡ None }
-    requires count { (1 ≤ n) × (n ≤ 64) }
+    requires count { (1 ≤ n) × (n ≤ FRAMES) }
     ensures ready { IsReady words.now.table.shared.key B.tells words.now.table.shared.table_id pass.new }
     ensures home { (view pass.new).out ≡ None }
     ensures own { AreHeld result (view pass.new) }

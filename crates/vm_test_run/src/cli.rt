@@ -3,9 +3,10 @@
 use std::alloc::{AllocError, Global};
 use std::process::Abort;
 use std::sync::Wait;
+use std::sync::atomic::{AtomicU64, Ordering};
 use std::test::Fail;
 use std::thread::Threads;
-use vm_cli::gate::Open;
+use vm_cli::gate::{Gate, Open};
 use vm_cli::run::run;
 use vm_io::memory::MemHost;
 
@@ -233,6 +234,106 @@ fn words_that_are_refused(rt: HostRuntime) -> Result<(), Fail> {
         let host = host(alloc, empty_image(alloc, 4096)?, b"", &[])?;
         expect(&rt, alloc, host, line, 1, USAGE)?;
     }
+    Ok(())
+}
+
+// No option of `run` is served yet.
+#[test]
+fn options_that_are_refused(rt: HostRuntime) -> Result<(), Fail> {
+    let alloc = rt.alloc();
+    for (option, value) in [("--keep", "K"), ("--fail", "1:1"), ("--first-version", "0")] {
+        let host = host(alloc, empty_image(alloc, 4096)?, b"", &[])?;
+        let line = [
+            "run",
+            "I0",
+            "S",
+            "--workers",
+            "1",
+            "--frames",
+            "64",
+            option,
+            value,
+        ];
+        expect(&rt, alloc, host, &line, 1, USAGE)?;
+    }
+    Ok(())
+}
+
+// How many calls of a worker came to a gate, and how many left it.
+#[derive(Drop)]
+struct Turns {
+    begun: AtomicU64,
+    ended: AtomicU64,
+}
+
+impl Turns {
+    fn new() -> Turns {
+        Turns {
+            begun: AtomicU64::new(0),
+            ended: AtomicU64::new(0),
+        }
+    }
+}
+
+// A gate for two workers, which counts their calls, and those that come or leave out of turn.
+#[derive(Drop)]
+struct Counts {
+    first: Turns,
+    second: Turns,
+    odd: AtomicU64,
+}
+
+impl Counts {
+    // Where a worker's calls are counted.
+    fn turns(&self, worker: u32) -> &Turns {
+        if worker == 0 {
+            &self.first
+        } else {
+            &self.second
+        }
+    }
+
+    fn note(&self, is_in_turn: bool) {
+        if !is_in_turn {
+            self.odd.fetch_add(1, Ordering::SeqCst);
+        }
+    }
+}
+
+impl Gate for Counts {
+    fn before(&self, worker: u32, call: u32) {
+        let turns = self.turns(worker);
+        let begun = turns.begun.fetch_add(1, Ordering::SeqCst);
+        let ended = turns.ended.load(Ordering::SeqCst);
+        self.note(worker < 2 && ended == begun && u64::from(call) == begun.wrapping_add(1));
+    }
+
+    fn after(&self, worker: u32, call: u32) {
+        let turns = self.turns(worker);
+        let ended = turns.ended.fetch_add(1, Ordering::SeqCst);
+        let begun = turns.begun.load(Ordering::SeqCst);
+        self.note(worker < 2 && begun == u64::from(call) && begun == ended.wrapping_add(1));
+    }
+}
+
+// Each call of a worker comes to the gate under its number, and leaves it before the worker's next one comes.
+#[test]
+fn the_gate_is_called_round_each_call(rt: HostRuntime) -> Result<(), Fail> {
+    let alloc = rt.alloc();
+    let script = b"0 get 1\n1 get 1\n0 put 2 2\n1 del 3\n0 scan 1 1\n";
+    let mut host = host(alloc, empty_image(alloc, 4096)?, script, &[])?;
+    let gate = Counts {
+        first: Turns::new(),
+        second: Turns::new(),
+        odd: AtomicU64::new(0),
+    };
+    let words = words(alloc, &RUN_BY_TWO)?;
+    assert_eq!(rt; run(&rt, alloc, words.as_slice(), &mut host, &gate), 0);
+    for (turns, calls) in [(&gate.first, 3), (&gate.second, 2)] {
+        assert_eq!(rt; turns.begun.load(Ordering::SeqCst), calls);
+        assert_eq!(rt; turns.ended.load(Ordering::SeqCst), calls);
+    }
+    assert_eq!(rt; gate.odd.load(Ordering::SeqCst), 0);
     Ok(())
 }
 

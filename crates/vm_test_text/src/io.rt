@@ -109,9 +109,12 @@ fn names_and_room_are_kept_to(rt: HostRuntime) -> Result<(), Fail> {
 fn real_files_are_put_and_taken(rt: HostRuntime) -> Result<(), Fail> {
     let name = "vm_io_test_file";
     let mut host = StdHost::new(&rt);
-    assert_eq!(rt; host.put(name, true, b"one "), Ok(4));
-    assert_eq!(rt; host.put(name, false, b"two"), Ok(3));
     let mut bytes = [0; 16];
+    // A first piece leaves nothing of a longer file.
+    assert_eq!(rt; host.put(name, true, b"a longer"), Ok(8));
+    assert_eq!(rt; host.put(name, true, b"one "), Ok(4));
+    assert_eq!(rt; host.take(name, 0, &mut bytes), Ok(4));
+    assert_eq!(rt; host.put(name, false, b"two"), Ok(3));
     assert_eq!(rt; host.take(name, 2, &mut bytes), Ok(5));
     assert!(rt; bytes[..5] == b"e two"[..]);
     assert_eq!(rt; host.faults(), 0);

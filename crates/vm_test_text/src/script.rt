@@ -6,7 +6,9 @@ use vm_map::window::{Bound, Pairs, Window};
 use vm_script::laws::{one_number, one_reading};
 use vm_script::number::number_of;
 use vm_script::script::{MOST_BYTES, MOST_LINES, ScriptFault, read_script};
-use vm_script::text::{reply_text, row_text, tree_text};
+use vm_script::text::{
+    Line, counters_text, reply_text, row_text, said_text, tree_text, unflushed_text,
+};
 
 #[test]
 fn reads_numbers(rt: HostRuntime) {
@@ -96,9 +98,9 @@ fn writes_lines(rt: HostRuntime) -> Result<(), Fail> {
         (del, Reply::Gone(Some(8))),
         (del, Reply::Gone(None)),
     ] {
-        reply_text(alloc, 3, 10, &Said { call, reply }, &mut out)?;
+        said_text(alloc, 3, 10, &Said { call, reply }, &mut out)?;
     }
-    row_text(alloc, &Pair { key: 5, value: 8 }, &mut out)?;
+    row_text(alloc, 5, 8, &mut out)?;
     let wanted = b"3 10 new\n3 10 was 7\n3 10 some 8\n3 10 none\n3 10 gone 8\n3 10 none\nrow 5 8\n";
     assert_eq!(rt; out.as_slice(), wanted.as_slice());
     Ok(())
@@ -119,7 +121,8 @@ fn writes_windows(rt: HostRuntime) -> Result<(), Fail> {
         bound: Bound::End,
         pairs,
     });
-    reply_text(alloc, 0, 2, &Said { call, reply }, &mut out)?;
+    let line = Line::Said(Said { call, reply });
+    reply_text(alloc, 0, 2, &line, &mut out)?;
     let call = Call::Window { start: 1, most: 2 };
     let mut pairs = Pairs::new();
     pairs.push(3, 30);
@@ -128,10 +131,26 @@ fn writes_windows(rt: HostRuntime) -> Result<(), Fail> {
         bound: Bound::Key(9),
         pairs,
     });
-    reply_text(alloc, 0, 3, &Said { call, reply }, &mut out)?;
+    let line = Line::Said(Said { call, reply });
+    reply_text(alloc, 0, 3, &line, &mut out)?;
     tree_text(alloc, 0, 2, 2, &mut out)?;
     let wanted =
         b"0 2 window 18446744073709551615 end 18446744073709551615=1\n0 3 window 1 9 3=30 4=40\ntree height 0 used 2 rows 2\n";
+    assert_eq!(rt; out.as_slice(), wanted.as_slice());
+    Ok(())
+}
+
+#[test]
+fn writes_why_there_is_no_reply(rt: HostRuntime) -> Result<(), Fail> {
+    let alloc = rt.alloc();
+    let mut out = Vec::new(alloc);
+    reply_text(alloc, 0, 1, &Line::Fault(1), &mut out)?;
+    reply_text(alloc, 0, 29, &Line::Full, &mut out)?;
+    reply_text(alloc, 0, 2, &Line::Worn(1), &mut out)?;
+    unflushed_text(alloc, 1, &mut out)?;
+    counters_text(alloc, 2, 0, 1, 0, &mut out)?;
+    let wanted =
+        b"0 1 fault 1\n0 29 full\n0 2 worn 1\nunflushed 1\ncounters reads 2 writes 0 faults 1 evicted 0\n";
     assert_eq!(rt; out.as_slice(), wanted.as_slice());
     Ok(())
 }

@@ -1,6 +1,6 @@
 //! The words of a few lines, and what they have to give.
 use std::alloc::{AllocError, Global};
-use vm_words::{Check, Command, Replay, Run, WordsFault, command_of};
+use vm_words::{Command, WordsFault, command_of};
 
 // The words of a line, cut at its spaces.
 fn words_of(alloc: Global, line: &str) -> Result<Vec<String>, AllocError> {
@@ -17,26 +17,52 @@ fn reads_run(rt: HostRuntime) {
     let most = "run --frames=18446744073709551615 I0 --workers 0 S0";
     for (line, workers, frames) in [(least, 2, 64), (most, 0, u64::MAX)] {
         let words = words_of(rt.alloc(), line).expect(&rt, "words");
-        let run = Run {
-            image: "I0",
-            script: "S0",
-            workers,
-            frames,
+        let Ok(Command::Run(run)) = command_of(rt.alloc(), words.as_slice()) else {
+            panic!(rt; "at {line}");
         };
-        let command = command_of(rt.alloc(), words.as_slice());
-        assert!(rt; command == Ok(Command::Run(run)), "at {line}");
+        assert!(rt; run.image == "I0" && run.script == "S0", "at {line}");
+        assert!(rt; run.workers == workers && run.frames == frames, "at {line}");
+        assert!(rt;
+            run.options.keep.is_none() && run.options.fail.is_empty(),
+            "at {line}"
+        );
+        assert!(rt; run.options.first_version.is_none(), "at {line}");
     }
 }
 
 #[test]
-fn reads_a_file(rt: HostRuntime) {
-    let check = Command::Check(Check { file: "I0" });
-    let replay = Command::Replay(Replay { file: "E0" });
-    for (line, wanted) in [("check I0", check), ("replay E0", replay)] {
-        let words = words_of(rt.alloc(), line).expect(&rt, "words");
-        let command = command_of(rt.alloc(), words.as_slice());
-        assert!(rt; command == Ok(wanted), "at {line}");
+fn reads_the_options_of_run(rt: HostRuntime) {
+    let line =
+        "run --keep K0 I0 S0 --fail 1:2,0:18446744073709551615 --workers 2 --first-version 72057594037927934 --frames 64";
+    let words = words_of(rt.alloc(), line).expect(&rt, "words");
+    let Ok(Command::Run(run)) = command_of(rt.alloc(), words.as_slice()) else {
+        panic!(rt; "at {line}");
+    };
+    assert!(rt; run.image == "I0" && run.script == "S0");
+    assert!(rt; run.options.keep == Some("K0"));
+    assert!(rt; run.options.first_version == Some(72_057_594_037_927_934));
+    assert_eq!(rt; run.options.fail.len(), 2);
+    for (fault, wanted) in run.options.fail.iter().zip([(1, 2), (0, u64::MAX)]) {
+        assert!(rt; fault.page == wanted.0 && fault.number == wanted.1);
     }
+}
+
+#[test]
+fn reads_check(rt: HostRuntime) {
+    let words = words_of(rt.alloc(), "check I0").expect(&rt, "words");
+    let Ok(Command::Check(check)) = command_of(rt.alloc(), words.as_slice()) else {
+        panic!(rt; "no check");
+    };
+    assert!(rt; check.file == "I0");
+}
+
+#[test]
+fn reads_replay(rt: HostRuntime) {
+    let words = words_of(rt.alloc(), "replay E0").expect(&rt, "words");
+    let Ok(Command::Replay(replay)) = command_of(rt.alloc(), words.as_slice()) else {
+        panic!(rt; "no replay");
+    };
+    assert!(rt; replay.file == "E0");
 }
 
 #[test]
@@ -54,6 +80,14 @@ fn refuses_other_words(rt: HostRuntime) {
         "run I0 S0 S1 --workers 1 --frames 64",
         "run I0 S0 --workers 1 --workers 1 --frames 64",
         "run I0 S0 --workers 1 --frames 64 --other",
+        "run I0 S0 --workers 1 --frames 64 --keep",
+        "run I0 S0 --workers 1 --frames 64 --keep K0 --keep K0",
+        "run I0 S0 --workers 1 --frames 64 --fail 1",
+        "run I0 S0 --workers 1 --frames 64 --fail 1:2,",
+        "run I0 S0 --workers 1 --frames 64 --fail 1:02",
+        "run I0 S0 --workers 1 --frames 64 --fail 1:2:3",
+        "run I0 S0 --workers 1 --frames 64 --first-version 00",
+        "check I0 --keep K0",
         "check",
         "check I0 I1",
         "check --file I0",
@@ -67,6 +101,6 @@ fn refuses_other_words(rt: HostRuntime) {
     ] {
         let words = words_of(rt.alloc(), line).expect(&rt, "words");
         let command = command_of(rt.alloc(), words.as_slice());
-        assert!(rt; command == Err(WordsFault::Refused), "at {line}");
+        assert!(rt; matches!(command, Err(WordsFault::Refused)), "at {line}");
     }
 }

@@ -1,7 +1,9 @@
--- A pool may begin with the blocks of an image that is a tree.
-use Rattle.std.proofs.Common.{ℕ, zero, suc, ◌≡◌, List, [], ◌∷◌, length, map, replicate, slice_index, refl, sym, ap, subst, ◌∙◌, arith}
+-- A pool may begin with the blocks of an image that is a tree; its first pass has fresh parts.
+use Rattle.std.proofs.Common.{ℕ, Bool, zero, suc, ◌≡◌, ◌<◌, List, [], ◌∷◌, length, map, replicate, slice_index, refl, sym, ap, subst, ◌∙◌, arith}
 use Rattle.vm_block.specs.declared.memory.MemBlock.{MemBlock}
 use Rattle.vm_block.specs.Memory.{stored_of, words_of}
+use Rattle.vm_block.specs.declared.stored.Stored.{Stored}
+use Rattle.vm_map.specs.declared.call.Said.{Said}
 use Rattle.vm_image.specs.Blocks.{AreBlocksOf, pages_of_blocks}
 use Rattle.vm_image.specs.File.{IsNextPage}
 use Rattle.vm_image.specs.declared.blocks.PlannedFault.{PlannedFault}
@@ -10,7 +12,10 @@ use Rattle.vm_tree_model.specs.Tree.{IsTree}
 use Rattle.vm_tree_laws.specs.Keeps.{Keeps}
 use Rattle.vm_tree_laws.proofs.Starts.{start_keeps}
 use Rattle.vm_rule.specs.Fixed.{MayBegin}
-use Rattle.vm_rule.specs.Started.{words_in}
+use Rattle.vm_rule.specs.Begun.{begun, unborn}
+use Rattle.vm_rule.specs.Started.{started_shape, words_in}
+use Rattle.vm_rule.specs.Views.{numbers}
+use Rattle.vm_rule.specs.declared.view.View.{View}
 
 words-held : (blocks : List MemBlock) → words_in (map stored_of blocks) ≡ pages_of_blocks blocks
 words-held [] = refl
@@ -29,3 +34,12 @@ begins pages plan next blocks tree free held =
       zero = λ p l m. let f = free.free p l m in all-zero 64 (page_at pages p) f.length f.zero;
       kept = start_keeps (record { pages = pages; next = next }) tree free.within;
     })
+
+numbers-long : (a n : ℕ) → length (numbers a n) ≡ n
+unfolding numbers
+numbers-long a zero = refl
+numbers-long a (suc n) = ap suc (numbers-long (suc a) n)
+
+-- the first pass of a pool has fresh parts
+pub has-fresh : (tells : Bool) (version next frames : ℕ) (blocks : List Stored) (v : View Said) → v ≡ begun (unborn (started_shape tells version next frames blocks)) → 0 < length v.fresh
+has-fresh tells version next frames blocks v is = let long : length v.fresh ≡ 4294967295 = ap (λ (x : View Said). length x.fresh) is ∙ numbers-long 1 4294967295 in omega arith

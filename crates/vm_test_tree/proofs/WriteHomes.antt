@@ -24,16 +24,16 @@ put-rests key value (writes.Worn p) v w a = of-reads v w a.0.0
 put-rests key value (writes.Tight p) v w a = of-reads v w a.0.0
 
 pub del-rests : (key : ℕ) (t : TryWrite) (v w : View Said) → IsDel key t v w → Rests v w
-del-rests key (writes.Done reply) v w a = ⊎_elim (λ b. of-writes b.0.page v w b.0.writes) (λ b. of-reads v w b.reads) a
+del-rests key (writes.Done reply) v w a = ⊎_elim (λ b. of-writes b.0.page v w b.0.writes) (λ b. of-reads v w b.0.reads) a
 del-rests key (writes.Again saw) v w a = of-reads v w a.0.0
 del-rests key (writes.Need p) v w a = of-reads v w a.0.0
 del-rests key (writes.Worn p) v w a = of-reads v w a.0.0
 del-rests key (writes.Tight p) v w a = absurd a
 
 fault-home : (key : ℕ) (fault : TreeFault) (v w : View Said) → IsPutFaulted key fault v w → w.out ≡ v.out
-fault-home key fault v w (faulted (missing tried found page k n f all)) = all.out
-fault-home key fault v w (faulted (worn tried page k n f all)) = all.out
-fault-home key fault v w (tight tried found page k t f all) = all.out
+fault-home key fault v w (faulted (missing tried found page k r n f all)) = all.out
+fault-home key fault v w (faulted (worn tried page k r n f all)) = all.out
+fault-home key fault v w (tight tried found page k r t f all) = all.out
 
 pub put-home : (call : Call) (key : ℕ) (r : Result Reply TreeFault) (v w : View Said) → IfOk r (λ reply. IsWriteReplied KeepsAll (record { call = call; reply = reply }) v w) → IfErr r (λ fault. IsPutFaulted key fault v w) → w.out ≡ v.out
 put-home call key (Ok reply) v w a b = a.out
@@ -41,5 +41,5 @@ put-home call key (Err fault) v w a b = fault-home key fault v w b
 
 pub del-home : (call : Call) (key : ℕ) (r : Result Reply TreeFault) (v w : View Said) → IfOk r (λ reply. IsWriteReplied Waits (record { call = call; reply = reply }) v w) → IfErr r (λ fault. IsWriteFaulted Waits key fault v w) → w.out ≡ v.out
 del-home call key (Ok reply) v w a b = a.out
-del-home call key (Err fault) v w a (missing tried found page k n f all) = all.out
-del-home call key (Err fault) v w a (worn tried page k n f all) = all.out
+del-home call key (Err fault) v w a (missing tried found page k r n f all) = all.out
+del-home call key (Err fault) v w a (worn tried page k r n f all) = all.out

@@ -1,5 +1,6 @@
 //! A pool over a small tree, and the tree's reads by a pass whose block is at home: it is at home again after each of them.
-ghost use Rattle.std.specs.Prelude.{◌≡◌, ◌≤◌, IfOk, None, false, length};
+ghost use Rattle.std.specs.Prelude.{◌≡◌, ◌<◌, ◌≤◌, IfOk, None, false, length};
+ghost use Rattle.vm_core.specs.Words.{MAX_VERSION};
 ghost use Rattle.vm_step.specs.HeldFrames.{AreHeld};
 ghost use Rattle.vm_guard.specs.Guards.{IsHolding};
 ghost use Rattle.vm_owner.specs.Numbers.{has};
@@ -15,7 +16,7 @@ use vm_block::{Block, MemBlock};
 use vm_check::check;
 use vm_exmap::Interface;
 use vm_guard::ExclusiveGuard;
-use vm_image::{blocks_of, read_image};
+use vm_image::{PlannedFault, blocks_of, read_image};
 use vm_map::call::Reply;
 use vm_page::PageBuf;
 use vm_pool::{Pool, Shape};
@@ -23,10 +24,10 @@ use vm_rule::words::Pass;
 use vm_tree_read::{TryRead, get, try_get, try_window, window};
 use vm_tree_rule::{Tree, TreeFault};
 
-pub(crate) const MAGIC: u64 = 0x564D_4341_4348_4531;
+const MAGIC: u64 = 0x564D_4341_4348_4531;
 
 /// A page with these words from word 0 on, behind the bytes of others.
-pub(crate) fn put_page(bytes: &mut Vec<u8>, words: &[u64]) -> Result<(), Fail>
+fn put_page(bytes: &mut Vec<u8>, words: &[u64]) -> Result<(), Fail>
     requires { length words.now ≤ 64 }
 {
     let mut page = PageBuf::zero();
@@ -50,20 +51,47 @@ pub(crate) fn empty(alloc: Global, pages: usize) -> Result<Vec<u8>, Fail> {
     Ok(bytes)
 }
 
+/// Four pages of a tree of height 1: the root on page 1, leaves on pages 2 (below key 100) and 3.
+pub(crate) fn two_leaves(alloc: Global) -> Result<Vec<u8>, Fail> {
+    let mut bytes = Vec::new(alloc);
+    put_page(&mut bytes, &[MAGIC, 1, 1])?;
+    put_page(&mut bytes, &[3, 2, 0, 0, 1, 1, 0, 0, 0, 2, 100, 3])?;
+    put_page(&mut bytes, &[2, 2, 0, 100, 0, 0, 0, 0, 5, 50, 7, 70])?;
+    put_page(&mut bytes, &[2, 1, 100, 0, 1, 0, 0, 0, 150, 15])?;
+    Ok(bytes)
+}
+
 /// A pool over the tree of these bytes, with 64 frames, and its first pass.
 pub(crate) fn open(alloc: Global, bytes: &[u8]) -> Result<(Pool<Tree, MemBlock>, Pass<Tree>), Fail>
     ensures pages { IfOk result (λ made. 2 ≤ made.0.words.table.shared.key.pages) }
     ensures ready { IfOk result (λ made. IsReady made.0.words.table.shared.key ⟦<MemBlock as Block>⟧.tells made.0.words.table.shared.table_id made.1) }
     ensures home { IfOk result (λ made. (view made.1).out ≡ None) }
+    ensures fresh { IfOk result (λ made. 0 < length (view made.1).fresh) }
+{
+    open_with(alloc, bytes, &[], 0)
+}
+
+/// The same; the calls of this plan fail, and every page begins at this version.
+pub(crate) fn open_with(
+    alloc: Global,
+    bytes: &[u8],
+    plan: &[PlannedFault],
+    first_version: u64,
+) -> Result<(Pool<Tree, MemBlock>, Pass<Tree>), Fail>
+    requires version { first_version ≤ MAX_VERSION }
+    ensures pages { IfOk result (λ made. 2 ≤ made.0.words.table.shared.key.pages) }
+    ensures ready { IfOk result (λ made. IsReady made.0.words.table.shared.key ⟦<MemBlock as Block>⟧.tells made.0.words.table.shared.table_id made.1) }
+    ensures home { IfOk result (λ made. (view made.1).out ≡ None) }
+    ensures fresh { IfOk result (λ made. 0 < length (view made.1).fresh) }
 {
     let image = read_image(alloc, bytes)?;
     check(alloc, &image)?;
-    let blocks = blocks_of(alloc, &image, &[])?;
+    let blocks = blocks_of(alloc, &image, plan)?;
     let shape = Shape {
         pages: image.pages(),
         frames: 64,
         next: image.next(),
-        first_version: 0,
+        first_version,
     };
     Ok(Pool::start(alloc, shape, blocks)?)
 }

@@ -1,8 +1,5 @@
 //! Reads of small trees, with ample memory. The pages are worked out by hand from the formats.
-use crate::calls::{
-    MAGIC, empty, get_beside, get_once, got, open, put_page, window_from, window_once,
-};
-use std::alloc::Global;
+use crate::calls::{empty, get_beside, get_once, got, open, two_leaves, window_from, window_once};
 use std::test::Fail;
 use vm_core::StateWord;
 use vm_exmap::Interface;
@@ -11,16 +8,6 @@ use vm_map::call::Reply;
 use vm_map::window::Bound;
 use vm_step::At;
 use vm_tree_read::TryRead;
-
-/// Four pages of a tree of height 1: the root on page 1, leaves on pages 2 (below key 100) and 3.
-fn two_leaves(alloc: Global) -> Result<Vec<u8>, Fail> {
-    let mut bytes = Vec::new(alloc);
-    put_page(&mut bytes, &[MAGIC, 1, 1])?;
-    put_page(&mut bytes, &[3, 2, 0, 0, 1, 1, 0, 0, 0, 2, 100, 3])?;
-    put_page(&mut bytes, &[2, 2, 0, 100, 0, 0, 0, 0, 5, 50, 7, 70])?;
-    put_page(&mut bytes, &[2, 1, 100, 0, 1, 0, 0, 0, 150, 15])?;
-    Ok(bytes)
-}
 
 #[test]
 fn a_key_that_is_not_there_has_no_value(rt: HostRuntime) -> Result<(), Fail> {

@@ -14,7 +14,7 @@ use vm_exmap::Interface;
 use vm_map::call::Reply;
 use vm_pool::Pool;
 use vm_rule::words::Pass;
-use vm_tree_callers::put_then_get;
+use vm_tree_callers::{put_meet_get, put_then_get};
 use vm_tree_rule::Tree;
 use vm_tree_write::{TrySplit, TryWrite};
 
@@ -88,7 +88,7 @@ fn del_half<R: Wait + Abort>(
 }
 
 /// A leaf is filled: the keys below 28 get the value 1.
-fn fill<R: Wait + Abort>(
+pub(crate) fn fill<R: Wait + Abort>(
     rt: &R,
     pool: &Pool<Tree, MemBlock>,
     pass: &mut Pass<Tree>,
@@ -166,5 +166,18 @@ fn a_full_image_has_no_page_for_a_split(rt: HostRuntime) -> Result<(), Fail> {
     // The locks that it took are given up.
     let put_still = put_once(&pool, &mut pass, &iface, 3, 9);
     assert!(rt; matches!(&put_still, TryWrite::Done(Reply::Was(Some(1)))));
+    Ok(())
+}
+
+#[test]
+fn a_pass_reads_what_another_put_that_it_met(rt: HostRuntime) -> Result<(), Fail> {
+    let bytes = empty(rt.alloc(), 8)?;
+    let (pool, mut first) = open(rt.alloc(), bytes.as_slice())?;
+    let mut second = pool.split_one(&mut first);
+    let mut iface = Interface::new(0, 16);
+    let reply = got(&rt, &pool, &mut first, &mut iface, 5);
+    assert_eq!(rt; reply, Ok(Reply::Got(None)));
+    let reply = put_meet_get(&pool, &mut first, &mut second, 5, 7);
+    assert_eq!(rt; reply, Some(Reply::Got(Some(7))));
     Ok(())
 }

@@ -1,5 +1,0 @@
-use Rattle.vm_test_tree.proofs.Beginnings.{begins}
-use Rattle.vm_test_tree.proofs.calls.open.Goals as goal
-
-pub start-requires-clause-begins : goal.start-requires-clause-begins
-start-requires-clause-begins c tells = begins _ _ _ _ c.in_ok-check.ensures.tree c.next.ensures c.in_ok-blocks.ensures.blocks

@@ -1,0 +1,143 @@
+//! Devices that fail and pages at the last version, with ample memory: each fault names its page, leaves the map as it was, and holds nothing up that can go on.
+use crate::calls::{empty, get_once, got, open_with, two_leaves, window_from};
+use crate::write_calls::{del_at, del_once, put_at, put_once, split_once};
+use crate::writes::fill;
+use std::test::Fail;
+use vm_core::MAX_VERSION;
+use vm_exmap::Interface;
+use vm_image::PlannedFault;
+use vm_map::call::Reply;
+use vm_map::window::Bound;
+use vm_tree_read::TryRead;
+use vm_tree_rule::TreeFault;
+use vm_tree_write::{TrySplit, TryWrite};
+
+#[test]
+fn a_failed_read_of_page_0_is_a_fault_once(rt: HostRuntime) -> Result<(), Fail> {
+    let bytes = empty(rt.alloc(), 8)?;
+    let plan = [PlannedFault { page: 0, number: 1 }];
+    let (pool, mut pass) = open_with(rt.alloc(), bytes.as_slice(), &plan, 0)?;
+    let mut iface = Interface::new(0, 16);
+    let failed = put_at(&rt, &pool, &mut pass, &mut iface, 5, 7);
+    assert_eq!(rt; failed, Err(TreeFault::Device { pid: 0, count: 1 }));
+    let reply = put_at(&rt, &pool, &mut pass, &mut iface, 5, 7);
+    assert_eq!(rt; reply, Ok(Reply::Was(None)));
+    let reply = got(&rt, &pool, &mut pass, &mut iface, 5);
+    assert_eq!(rt; reply, Ok(Reply::Got(Some(7))));
+    Ok(())
+}
+
+#[test]
+fn a_failed_read_of_the_leaf_leaves_the_map(rt: HostRuntime) -> Result<(), Fail> {
+    let bytes = empty(rt.alloc(), 8)?;
+    let plan = [
+        PlannedFault { page: 1, number: 1 },
+        PlannedFault { page: 1, number: 2 },
+    ];
+    let (pool, mut pass) = open_with(rt.alloc(), bytes.as_slice(), &plan, 0)?;
+    let mut iface = Interface::new(0, 16);
+    let failed = put_at(&rt, &pool, &mut pass, &mut iface, 5, 7);
+    assert_eq!(rt; failed, Err(TreeFault::Device { pid: 1, count: 1 }));
+    let failed = del_at(&rt, &pool, &mut pass, &mut iface, 5);
+    assert_eq!(rt; failed, Err(TreeFault::Device { pid: 1, count: 2 }));
+    let reply = got(&rt, &pool, &mut pass, &mut iface, 5);
+    assert_eq!(rt; reply, Ok(Reply::Got(None)));
+    Ok(())
+}
+
+#[test]
+fn a_failed_read_of_a_leaf_leaves_its_sibling(rt: HostRuntime) -> Result<(), Fail> {
+    let bytes = two_leaves(rt.alloc())?;
+    let plan = [PlannedFault { page: 3, number: 1 }];
+    let (pool, mut pass) = open_with(rt.alloc(), bytes.as_slice(), &plan, 0)?;
+    let mut iface = Interface::new(0, 16);
+    let reply = got(&rt, &pool, &mut pass, &mut iface, 5);
+    assert_eq!(rt; reply, Ok(Reply::Got(Some(50))));
+    let needed = get_once(&pool, &mut pass, &iface, 150);
+    assert!(rt; matches!(&needed, TryRead::Need(3)));
+    let failed = got(&rt, &pool, &mut pass, &mut iface, 150);
+    assert_eq!(rt; failed, Err(TreeFault::Device { pid: 3, count: 1 }));
+    let Ok(Reply::Win(all)) = window_from(&rt, &pool, &mut pass, &mut iface, 6, 28) else {
+        return Err(Fail::from("no window"));
+    };
+    assert_eq!(rt; all.bound, Bound::Key(100));
+    let reply = got(&rt, &pool, &mut pass, &mut iface, 150);
+    assert_eq!(rt; reply, Ok(Reply::Got(Some(15))));
+    Ok(())
+}
+
+/// The leaf comes to the last version as it is brought in: it is read, but not written.
+#[test]
+fn a_worn_leaf_is_read_and_not_written(rt: HostRuntime) -> Result<(), Fail> {
+    let bytes = empty(rt.alloc(), 8)?;
+    let (pool, mut pass) = open_with(rt.alloc(), bytes.as_slice(), &[], MAX_VERSION - 1)?;
+    let mut iface = Interface::new(0, 16);
+    let reply = got(&rt, &pool, &mut pass, &mut iface, 5);
+    assert_eq!(rt; reply, Ok(Reply::Got(None)));
+    let worn = put_once(&pool, &mut pass, &iface, 5, 7);
+    assert!(rt; matches!(&worn, TryWrite::Worn(1)));
+    let failed = put_at(&rt, &pool, &mut pass, &mut iface, 5, 7);
+    assert_eq!(rt; failed, Err(TreeFault::Worn { pid: 1 }));
+    // A del of a key that is not there locks nothing.
+    let reply = del_once(&pool, &mut pass, &iface, 5);
+    assert!(rt; matches!(&reply, TryWrite::Done(Reply::Gone(None))));
+    let reply = got(&rt, &pool, &mut pass, &mut iface, 5);
+    assert_eq!(rt; reply, Ok(Reply::Got(None)));
+    Ok(())
+}
+
+/// No page can be brought in at the last version.
+#[test]
+fn a_page_0_that_is_worn_is_not_brought(rt: HostRuntime) -> Result<(), Fail> {
+    let bytes = empty(rt.alloc(), 8)?;
+    let (pool, mut pass) = open_with(rt.alloc(), bytes.as_slice(), &[], MAX_VERSION)?;
+    let mut iface = Interface::new(0, 16);
+    let failed = got(&rt, &pool, &mut pass, &mut iface, 5);
+    assert_eq!(rt; failed, Err(TreeFault::Worn { pid: 0 }));
+    Ok(())
+}
+
+/// The leaf is brought at one version and filled by 28 releases, the last of which is the last version: it can't be split.
+#[test]
+fn a_worn_root_is_not_split(rt: HostRuntime) -> Result<(), Fail> {
+    let bytes = empty(rt.alloc(), 8)?;
+    let (pool, mut pass) = open_with(rt.alloc(), bytes.as_slice(), &[], MAX_VERSION - 29)?;
+    let mut iface = Interface::new(0, 16);
+    fill(&rt, &pool, &mut pass, &mut iface);
+    let tight = put_once(&pool, &mut pass, &iface, 28, 1);
+    assert!(rt; matches!(&tight, TryWrite::Tight(1)));
+    let worn = split_once(&pool, &mut pass, &mut iface, 28);
+    assert!(rt; matches!(&worn, TrySplit::Worn(1)));
+    let failed = put_at(&rt, &pool, &mut pass, &mut iface, 28, 1);
+    assert_eq!(rt; failed, Err(TreeFault::Worn { pid: 1 }));
+    let reply = got(&rt, &pool, &mut pass, &mut iface, 27);
+    assert_eq!(rt; reply, Ok(Reply::Got(Some(1))));
+    Ok(())
+}
+
+#[test]
+fn windows_reach_both_ends_of_the_keys(rt: HostRuntime) -> Result<(), Fail> {
+    let bytes = empty(rt.alloc(), 8)?;
+    let (pool, mut pass) = open_with(rt.alloc(), bytes.as_slice(), &[], 0)?;
+    let mut iface = Interface::new(0, 16);
+    let reply = put_at(&rt, &pool, &mut pass, &mut iface, u64::MAX, 1);
+    assert_eq!(rt; reply, Ok(Reply::Was(None)));
+    let reply = put_at(&rt, &pool, &mut pass, &mut iface, 0, 2);
+    assert_eq!(rt; reply, Ok(Reply::Was(None)));
+    let Ok(Reply::Win(last)) = window_from(&rt, &pool, &mut pass, &mut iface, u64::MAX, 1) else {
+        return Err(Fail::from("no window"));
+    };
+    assert_eq!(rt; last.bound, Bound::End);
+    assert_eq!(rt; last.pairs.len(), 1);
+    let Ok(Reply::Win(first)) = window_from(&rt, &pool, &mut pass, &mut iface, 0, 1) else {
+        return Err(Fail::from("no window"));
+    };
+    assert_eq!(rt; first.bound, Bound::Key(u64::MAX));
+    assert_eq!(rt; first.pairs.len(), 1);
+    let Ok(Reply::Win(all)) = window_from(&rt, &pool, &mut pass, &mut iface, 0, 28) else {
+        return Err(Fail::from("no window"));
+    };
+    assert_eq!(rt; all.bound, Bound::End);
+    assert_eq!(rt; all.pairs.len(), 2);
+    Ok(())
+}
