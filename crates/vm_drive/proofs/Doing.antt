@@ -1,0 +1,207 @@
+-- What a worker has done grows by a call.
+use Rattle.std.proofs.Common.{ℕ, ◌≡◌, ◌+◌, ◌<◌, ◌≤◌, ◌==◌, if◌then◌else◌, List, [], ◌∷◌, ◌++◌, length, Result, Ok, Err, refl, sym, ap, subst, ◌∙◌, arith, append_assoc}
+use Rattle.std.proofs.lemmas.List.{length-append, map-append}
+use Rattle.vm_core.specs.declared.event.Seat.{Seat}
+use Rattle.vm_core.specs.Start.{no_seat}
+use Rattle.vm_map.specs.declared.call.Call.{Call}
+use Rattle.vm_map.specs.declared.call.Reply.{Reply}
+use Rattle.vm_map.specs.declared.call.Said.{Said}
+use Rattle.vm_owner.specs.declared.Entry.{Entry}
+use Rattle.vm_rule.specs.declared.view.Did.{Did}
+use Rattle.vm_rule.specs.declared.view.Note.{Note}
+use Rattle.vm_rule.specs.declared.view.Place.{Place}
+use Rattle.vm_rule.specs.declared.view.Put.{Put}
+use Rattle.vm_rule.specs.declared.view.View.{View}
+use Rattle.vm_rule.specs.Puts.{put_at}
+use Rattle.vm_rule.specs.Views.{StartsWith, seat_of}
+use Rattle.vm_rule.specs.Brought.{entry_of}
+use Rattle.vm_rule.proofs.Entries.{append-none, starts-self}
+use Rattle.vm_step.specs.Evidence.{HasGiven}
+use Rattle.vm_exmap.specs.Frames.{MovesFrames}
+use Rattle.vm_tree_laws.specs.History.{saids}
+use Rattle.vm_tree_rule.specs.declared.fault.TreeFault.{TreeFault}
+use Rattle.vm_tree_rule.specs.declared.fault.TreeFault.TheVariants.{Device, Full, Worn}
+use Rattle.vm_drive.specs.Calls.{HasNoted, IsCalled, KeepsPass}
+use Rattle.vm_drive.specs.Causes.{notes_of, is_fault, faults_of, CausedBy, AreCausedBy, FoundWorn, FoundFull}
+use Rattle.vm_drive.specs.Holds.{answered}
+use Rattle.vm_drive.specs.Workers.{HasDone}
+use Rattle.vm_drive.specs.Shows.{AreShown}
+use Rattle.vm_drive.proofs.Lists.{starts-then}
+use Rattle.vm_drive.proofs.Showing.{are-shown-more, shown-snoc}
+
+-- ---- notes
+
+pub notes-both : (p : ℕ) (a b : List Note) → notes_of p (a ++ b) ≡ notes_of p a + notes_of p b
+notes-both p [] b = omega arith
+notes-both p (n ∷ ns) b = let h : notes_of p (ns ++ b) ≡ notes_of p ns + notes_of p b = notes-both p ns b in omega arith
+
+pub notes-rise : (p : ℕ) (l m : List Note) → StartsWith l m → notes_of p m ≤ notes_of p l
+notes-rise p l m s = let h : notes_of p l ≡ notes_of p m + notes_of p s.0 = ap (notes_of p) s.1 ∙ notes-both p m s.0 in omega arith
+
+pub faults-both : (p : ℕ) (a b : List (Result Reply TreeFault)) → faults_of p (a ++ b) ≡ faults_of p a + faults_of p b
+faults-both p [] b = omega arith
+faults-both p (r ∷ rs) b = let h : faults_of p (rs ++ b) ≡ faults_of p rs + faults_of p b = faults-both p rs b in omega arith
+
+-- what was found stays found
+pub given-more : (l m : List Did) (at : Place) (word : ℕ) → StartsWith l m → HasGiven m at word → HasGiven l at word
+given-more l m at word s h = record {
+  earlier = h.earlier;
+  step = h.step;
+  later = h.later ++ s.0;
+  cut = s.1 ∙ ap (λ (y : List Did). y ++ s.0) h.cut ∙ append_assoc h.earlier (h.step ∷ h.later) s.0;
+  gives = h.gives;
+}
+
+module _ {X : Type 0} where
+  -- a new note of a page is one more
+  pub noted-more : (p q count : ℕ) (v w : View X) → HasNoted q count v w → notes_of p v.notes + (if q == p then 1 else 0) ≤ notes_of p w.notes
+  noted-more p q count v w n =
+      let one : Note = record { page = q; count = count } in
+      let all : notes_of p w.notes ≡ notes_of p v.notes + notes_of p (n.before ++ one ∷ n.after) = ap (notes_of p) n.grew ∙ notes-both p v.notes (n.before ++ one ∷ n.after) in
+      let new : notes_of p (n.before ++ one ∷ n.after) ≡ notes_of p n.before + ((if q == p then 1 else 0) + notes_of p n.after) = notes-both p n.before (one ∷ n.after) in
+      omega arith
+
+  -- ---- what was found stays found
+
+  pub found-more : (pages : ℕ) (v w : View X) → KeepsPass v w → FoundFull v pages → FoundFull w pages
+  found-more pages v w k f = (
+    f.0 ∙ ap (λ s. s.pages) (sym k.start),
+    record { found = f.1.found; given = given-more w.log v.log _ f.1.found k.log f.1.given; high = f.1.high },
+  )
+
+  pub max-more : (p : ℕ) (v w : View X) → KeepsPass v w → FoundWorn v p → FoundWorn w p
+  max-more p v w k m = record { inside = subst (λ s. p < s.pages) (sym k.start) m.inside; word = m.word; given = given-more w.log v.log _ m.word k.log m.given; last = m.last }
+
+  -- ---- passes
+
+  pub keeps-self : (v : View X) → KeepsPass v v
+  keeps-self v = record {
+    holds = λ q. record { shares = refl; exclusive = refl; writing = refl };
+    out = refl;
+    start = refl;
+    parts = (refl, refl);
+    seen = starts-self v.seen;
+    notes = starts-self v.notes;
+    log = starts-self v.log;
+  }
+
+  pub keeps-then : (v w x : View X) → KeepsPass v w → KeepsPass w x → KeepsPass v x
+  keeps-then v w x a b = record {
+    holds = λ q. record { shares = (b.holds q).shares ∙ (a.holds q).shares; exclusive = (b.holds q).exclusive ∙ (a.holds q).exclusive; writing = (b.holds q).writing ∙ (a.holds q).writing };
+    out = b.out ∙ a.out;
+    start = b.start ∙ a.start;
+    parts = (b.parts.0 ∙ a.parts.0, b.parts.1 ∙ a.parts.1);
+    seen = starts-then x.seen w.seen v.seen b.seen a.seen;
+    notes = starts-then x.notes w.notes v.notes b.notes a.notes;
+    log = starts-then x.log w.log v.log b.log a.log;
+  }
+
+  -- frames that move leave the rest
+  pub moves-keep : (done : List Did) (v w : View X) → MovesFrames done v w → KeepsPass v w
+  moves-keep done v w m = record {
+    holds = λ q. let s : seat_of w q ≡ seat_of v q = ap (λ (l : List (Put Seat)). put_at no_seat l q) m.pages.0 in record { shares = ap (λ t. t.shares) s; exclusive = ap (λ t. t.exclusive) s; writing = ap (λ t. t.writing) s };
+    out = m.out;
+    start = m.start;
+    parts = m.parts;
+    seen = m.seen;
+    notes = subst (λ (l : List Note). StartsWith l v.notes) (sym m.notes) (starts-self v.notes);
+    log = (done, m.log);
+  }
+
+-- ---- lists of calls with their answers
+
+pub caused-by : (full worn full' worn' : ℕ → Type 0) → ((n : ℕ) → full n → full' n) → ((n : ℕ) → worn n → worn' n) → (c : Call) (r : Result Reply TreeFault) → CausedBy full worn c r → CausedBy full' worn' c r
+caused-by full worn full' worn' f g c (Ok reply) h = tt
+caused-by full worn full' worn' f g c (Err (Device p count)) h = tt
+caused-by full worn full' worn' f g c (Err (Full pages)) h = (h.0, f pages h.1)
+caused-by full worn full' worn' f g c (Err (Worn p)) h = g p h
+
+pub all-caused : (full worn full' worn' : ℕ → Type 0) → ((n : ℕ) → full n → full' n) → ((n : ℕ) → worn n → worn' n) → (cs : List Call) (rs : List (Result Reply TreeFault)) → AreCausedBy full worn cs rs → AreCausedBy full' worn' cs rs
+all-caused full worn full' worn' f g [] rs h = tt
+all-caused full worn full' worn' f g (c ∷ cs) [] h = tt
+all-caused full worn full' worn' f g (c ∷ cs) (r ∷ rs) h = (caused-by full worn full' worn' f g c r h.0, all-caused full worn full' worn' f g cs rs h.1)
+
+caused-snoc : (full worn : ℕ → Type 0) (cs : List Call) (rs : List (Result Reply TreeFault)) (c : Call) (r : Result Reply TreeFault) → length rs ≡ length cs → AreCausedBy full worn cs rs → CausedBy full worn c r → AreCausedBy full worn (cs ++ c ∷ []) (rs ++ r ∷ [])
+caused-snoc full worn [] [] c r e h k = (k, tt)
+caused-snoc full worn [] (r' ∷ rs) c r e h k = absurd (omega arith)
+caused-snoc full worn (c' ∷ cs) [] c r e h k = absurd (omega arith)
+caused-snoc full worn (c' ∷ cs) (r' ∷ rs) c r e h k = (h.0, caused-snoc full worn cs rs c r (omega arith) h.1 k)
+
+answered-snoc : (cs : List Call) (rs : List (Result Reply TreeFault)) (c : Call) (r : Result Reply TreeFault) → length rs ≡ length cs → answered (cs ++ c ∷ []) (rs ++ r ∷ []) ≡ answered cs rs ++ answered (c ∷ []) (r ∷ [])
+answered-snoc [] [] c r e = refl
+answered-snoc [] (r' ∷ rs) c r e = absurd (omega arith)
+answered-snoc (c' ∷ cs) [] c r e = absurd (omega arith)
+answered-snoc (c' ∷ cs) (Ok reply ∷ rs) c r e = ap (λ (l : List Said). record { call = c'; reply = reply } ∷ l) (answered-snoc cs rs c r (omega arith))
+answered-snoc (c' ∷ cs) (Err fault ∷ rs) c r e = answered-snoc cs rs c r (omega arith)
+
+-- ---- what was done
+
+pub done-none : (v : View Said) → HasDone [] [] v v
+done-none v = record { keeps = keeps-self v; long = refl; mine = sym (append-none (saids v.mine)); faults = λ p. omega arith; caused = tt; shown = tt }
+
+-- what one call adds: its entry, its note, its cause
+pub record AddsCall (c : Call) (r : Result Reply TreeFault) (v w : View Said) : Type 0 where
+  pub mine : saids w.mine ≡ saids v.mine ++ answered (c ∷ []) (r ∷ [])
+  pub faults : (p : ℕ) → notes_of p v.notes + is_fault p r ≤ notes_of p w.notes
+  pub caused : CausedBy (FoundFull w) (FoundWorn w) c r
+  pub shown : AreShown w (c ∷ []) (r ∷ [])
+
+same-mine : (v w : View Said) → w.mine ≡ v.mine → saids w.mine ≡ saids v.mine ++ []
+same-mine v w e = ap (λ (l : List (Entry Said)). saids l) e ∙ sym (append-none (saids v.mine))
+
+pub adds-call : (c : Call) (r : Result Reply TreeFault) (v w : View Said) → KeepsPass v w → IsCalled c r v w → AddsCall c r v w
+adds-call c (Ok reply) v w k a =
+    let said : Said = record { call = c; reply = reply } in
+    record {
+      mine = ap (λ (l : List (Entry Said)). saids l) a.0 ∙ map-append (λ (e : Entry Said). e.said) v.mine (entry_of v said ∷ []);
+      faults = λ p. let h : notes_of p v.notes ≤ notes_of p w.notes = notes-rise p w.notes v.notes k.notes in omega arith;
+      caused = tt;
+      shown = (a.1, tt);
+    }
+adds-call c (Err (Device q count)) v w k a = record {
+  mine = same-mine v w a.0;
+  faults = λ p. noted-more p q count v w a.1;
+  caused = tt;
+  shown = tt;
+}
+adds-call c (Err (Full pages)) v w k a = record {
+  mine = same-mine v w a.0;
+  faults = λ p. let h : notes_of p v.notes ≤ notes_of p w.notes = notes-rise p w.notes v.notes k.notes in omega arith;
+  caused = (a.1, (a.2 ∙ ap (λ s. s.pages) (sym k.start), a.3));
+  shown = tt;
+}
+adds-call c (Err (Worn q)) v w k a = record {
+  mine = same-mine v w a.0;
+  faults = λ p. let h : notes_of p v.notes ≤ notes_of p w.notes = notes-rise p w.notes v.notes k.notes in omega arith;
+  caused = a.1;
+  shown = tt;
+}
+
+pub done-more : (cs : List Call) (rs : List (Result Reply TreeFault)) (c : Call) (r : Result Reply TreeFault) (v w x : View Said) → HasDone cs rs v w → KeepsPass w x → IsCalled c r w x → HasDone (cs ++ c ∷ []) (rs ++ r ∷ []) v x
+done-more cs rs c r v w x d k a =
+    let one : AddsCall c r w x = adds-call c r w x k a in
+    record {
+      keeps = keeps-then v w x d.keeps k;
+      long = length-append rs (r ∷ []) ∙ ap (λ n. n + 1) d.long ∙ sym (length-append cs (c ∷ []));
+      mine = one.mine ∙ ap (λ (l : List Said). l ++ answered (c ∷ []) (r ∷ [])) d.mine ∙ append_assoc (saids v.mine) (answered cs rs) (answered (c ∷ []) (r ∷ [])) ∙ ap (λ (l : List Said). saids v.mine ++ l) (sym (answered-snoc cs rs c r d.long));
+      faults = λ p.
+          let before : notes_of p v.notes + faults_of p rs ≤ notes_of p w.notes = d.faults p in
+          let new : notes_of p w.notes + is_fault p r ≤ notes_of p x.notes = one.faults p in
+          let all : faults_of p (rs ++ r ∷ []) ≡ faults_of p rs + (is_fault p r + 0) = faults-both p rs (r ∷ []) in
+          omega arith;
+      caused = caused-snoc (FoundFull x) (FoundWorn x) cs rs c r d.long (all-caused (FoundFull w) (FoundWorn w) (FoundFull x) (FoundWorn x) (λ n. found-more n w x k) (λ p. max-more p w x k) cs rs d.caused) one.caused;
+      shown = shown-snoc x cs rs c r d.long (are-shown-more w x k.start k.seen cs rs d.shown) one.shown;
+    }
+
+-- frames that move afterwards leave it
+pub done-moved : (cs : List Call) (rs : List (Result Reply TreeFault)) (v w x : View Said) (steps : List Did) → HasDone cs rs v w → MovesFrames steps w x → HasDone cs rs v x
+done-moved cs rs v w x steps d m =
+    let k : KeepsPass w x = moves-keep steps w x m in
+    record {
+      keeps = keeps-then v w x d.keeps k;
+      long = d.long;
+      mine = ap (λ (l : List (Entry Said)). saids l) m.mine ∙ d.mine;
+      faults = λ p. let h : notes_of p v.notes + faults_of p rs ≤ notes_of p w.notes = d.faults p in let s : notes_of p x.notes ≡ notes_of p w.notes = ap (notes_of p) m.notes in omega arith;
+      caused = all-caused (FoundFull w) (FoundWorn w) (FoundFull x) (FoundWorn x) (λ n. found-more n w x k) (λ p. max-more p w x k) cs rs d.caused;
+      shown = are-shown-more w x k.start k.seen cs rs d.shown;
+    }

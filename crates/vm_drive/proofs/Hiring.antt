@@ -1,0 +1,139 @@
+-- One worker more is hired.
+use Rattle.std.proofs.Common.{ℕ, Bool, true, false, true≢false, ◌≡◌, ◌+◌, ◌==◌, ◌≤◌, if◌then◌else◌, inl, inr, List, [], ◌∷◌, ◌++◌, Vec, length, Result, slice_index, refl, sym, ap, subst, ◌∙◌, arith, ⊎_elim}
+use Rattle.std.proofs.lemmas.Bool.{cases_eq, eq-eqb, ne_eqb}
+use Rattle.std.proofs.lemmas.List.{length-append, map-append}
+use Rattle.std.specs.declared.alloc.Global.{Global}
+use Rattle.atomic_table.specs.Seated.{TableId}
+use Rattle.vm_map.specs.declared.call.Reply.{Reply}
+use Rattle.vm_map.specs.declared.call.Said.{Said}
+use Rattle.vm_owner.specs.Numbers.{has}
+use Rattle.vm_rule.specs.Joins.{HoldsNoPage, other_parts}
+use Rattle.vm_rule.specs.declared.view.Shape.{Shape}
+use Rattle.vm_rule.specs.declared.view.View.{View}
+use Rattle.vm_rule.specs.Rule.{HoldsNothing}
+use Rattle.vm_rule.specs.Views.{Each, IsWhole, entries_by, owns, times}
+use Rattle.vm_rule.proofs.Entries.{each-map, starts-self}
+use Rattle.vm_step.specs.HeldFrames.{AreHeld}
+use Rattle.vm_step.specs.Passes.{view}
+use Rattle.vm_step.specs.Ready.{IsReady}
+use Rattle.vm_step.specs.Still.{HasStill}
+use Rattle.vm_step.proofs.Still.{caught-still, still-fresh}
+use Rattle.vm_step.proofs.Together.{holds-none as nothing-holds, new-nothing}
+use Rattle.vm_tree_rule.specs.declared.fault.TreeFault.{TreeFault}
+use Rattle.vm_pool.specs.Parting.{KeepsAll, Splits}
+use Rattle.vm_drive.specs.declared.worker.Worker.{Worker}
+use Rattle.vm_drive.specs.Crews.{AreHired, IsNew, number_of, numbers_of}
+use Rattle.vm_drive.proofs.Lists.{starts-then, each-snoc, apart-snoc, times-both, front-none}
+
+module _ {X : Type 0} where
+  pub all-self : (v : View X) → KeepsAll v v
+  all-self v = record {
+    holds = λ q. record { shares = refl; exclusive = refl; writing = refl };
+    out = refl;
+    start = refl;
+    seen = starts-self v.seen;
+  }
+
+  pub all-then : (v w x : View X) → KeepsAll v w → KeepsAll w x → KeepsAll v x
+  all-then v w x a b = record {
+    holds = λ q. record { shares = (b.holds q).shares ∙ (a.holds q).shares; exclusive = (b.holds q).exclusive ∙ (a.holds q).exclusive; writing = (b.holds q).writing ∙ (a.holds q).writing };
+    out = b.out ∙ a.out;
+    start = b.start ∙ a.start;
+    seen = starts-then x.seen w.seen v.seen b.seen a.seen;
+  }
+
+  pub holds-none : (v w : View X) → HoldsNoPage v → KeepsAll v w → HoldsNoPage w
+  holds-none v w h k = record {
+    shares = λ p. (k.holds p).shares ∙ h.shares p;
+    exclusive = λ p. (k.holds p).exclusive ∙ h.exclusive p;
+    writing = λ p. (k.holds p).writing ∙ h.writing p;
+    out = k.out ∙ h.out;
+  }
+
+  -- a pass that gave a part away has what it had
+  pub split-keeps : (v u w : View X) → Splits v u w → HasStill v w
+  split-keeps v u w s = subst (λ (y : View X). HasStill v y) (sym s.left) (still-fresh v s.middle (other_parts s.middle.fresh) (caught-still v s.middle s.caught))
+
+-- a number that the fresh ones begin with is another than one that is not among them
+tail-false : (n m : ℕ) (ms : List ℕ) → has n (m ∷ ms) ≡ false → has n ms ≡ false
+tail-false n m ms f =
+    ⊎_elim
+    (λ here. absurd (true≢false (let t : has n (m ∷ ms) ≡ true = rw (eq-eqb n m here) refl in sym t ∙ f)))
+    (λ ne. let d : has n (m ∷ ms) ≡ has n ms = rw (ne_eqb n m ne) refl in sym d ∙ f)
+    (cases_eq n m)
+
+not-among : (m : ℕ) (rest ns : List ℕ) → Each (λ n. has n (m ∷ rest) ≡ false) ns → has m ns ≡ false
+not-among m rest [] e = refl
+not-among m rest (n ∷ ns) e =
+    ⊎_elim
+    (λ here. absurd (true≢false (let t : has n (m ∷ rest) ≡ true = rw (eq-eqb n m (sym here)) refl in sym t ∙ e.0)))
+    (λ ne. rw (ne_eqb m n ne) (not-among m rest ns e.1))
+    (cases_eq m n)
+
+module _ (shape : Shape) (tells : Bool) (t : TableId) where
+  pub hired-none : (v : View Said) → AreHired shape tells t [] v [] v
+  hired-none v = record {
+    kept = all-self v;
+    mine = refl;
+    notes = refl;
+    log = starts-self v.log;
+    used = refl;
+    count = omega arith;
+    parts = λ k. omega arith;
+    apart = tt;
+    foreign = tt;
+    unused = tt;
+    each = tt;
+    answers = refl;
+    all = inl (refl, refl);
+  }
+
+  -- the worker with a pass that was just split off
+  pub is-new : 1 ≤ shape.pages → (v w x : View Said) (d : Worker) → KeepsAll v w → Splits w (view d.pass) x → IsReady shape tells t d.pass → d.iface.frames ≡ [] → IsNew shape tells t v d
+  is-new pages v w x d kept s ready none =
+      let is = s.new in
+      let used : (view d.pass).used ≡ s.number ∷ [] = ap (λ (y : View Said). y.used) is in
+      let one : number_of d ≡ s.number = ap (λ l. slice_index l 0) used in
+      let nothing : HoldsNothing (view d.pass) = new-nothing w.start (s.number ∷ []) x.releases x.seen (view d.pass) is in
+      record {
+        work = record { ready = ready; pages = pages; home = nothing.out; frames = subst (λ (l : List ℕ). AreHeld l (view d.pass)) (sym none) (record { apart = tt; inside = tt; held = tt }) };
+        holds = nothing-holds (view d.pass) nothing;
+        parts = (used ∙ ap (λ n. n ∷ []) (sym one), ap (λ (y : View Said). y.fresh) is);
+        start = ap (λ (y : View Said). y.start) is ∙ kept.start;
+        said = ap (λ (y : View Said). y.mine) is;
+        noted = ap (λ (y : View Said). y.notes) is;
+      }
+
+  pub hired-more : 1 ≤ shape.pages → (rooms : List (Vec (Result Reply TreeFault) Global)) (v : View Said) (ds : List Worker) (w x : View Said) (d : Worker)
+      → AreHired shape tells t rooms v ds w → Splits w (view d.pass) x → IsReady shape tells t d.pass → d.iface.frames ≡ []
+      → AreHired shape tells t (rooms ++ d.answers ∷ []) v (ds ++ d ∷ []) x
+  hired-more pages rooms v ds w x d h s ready none =
+      let still : HasStill w x = split-keeps w (view d.pass) x s in
+      let one : number_of d ≡ s.number = ap (λ (y : View Said). slice_index y.used 0) s.new in
+      let numbers : numbers_of (ds ++ d ∷ []) ≡ numbers_of ds ++ number_of d ∷ [] = map-append number_of ds (d ∷ []) in
+      let fresh : w.fresh ≡ number_of d ∷ x.fresh = s.given ∙ ap (λ n. n ∷ x.fresh) (sym one) in
+      let others : Each (λ n. has n (number_of d ∷ x.fresh) ≡ false) (numbers_of ds) = each-map (λ n. (has n v.used ≡ false) × (has n w.fresh ≡ false)) (λ n. has n (number_of d ∷ x.fresh) ≡ false) (λ n e. subst (λ l. has n l ≡ false) fresh e.1) (numbers_of ds) h.foreign in
+      let kept : KeepsAll v x = all-then v w x h.kept s.kept in
+      record {
+        kept = kept;
+        mine = still.mine ∙ h.mine;
+        notes = still.notes ∙ h.notes;
+        log = starts-then x.log w.log v.log still.log h.log;
+        used = still.used ∙ h.used;
+        count = (let before = h.count in let fewer : length w.fresh ≡ length (number_of d ∷ x.fresh) = ap length fresh in let more : length (ds ++ d ∷ []) ≡ length ds + 1 = length-append ds (d ∷ []) in omega arith);
+        parts = λ k.
+            let before : owns k v ≡ owns k w + times k (numbers_of ds) = h.parts k in
+            let more : times k (numbers_of (ds ++ d ∷ [])) ≡ times k (numbers_of ds) + (((if number_of d == k then 1 else 0) + 0)) = ap (times k) numbers ∙ times-both k (numbers_of ds) (number_of d ∷ []) in
+            let old : times k w.fresh ≡ (if number_of d == k then 1 else 0) + times k x.fresh = ap (times k) fresh in
+            let same : times k x.used ≡ times k w.used = ap (times k) still.used in
+            omega arith;
+        apart = rw numbers (apart-snoc (numbers_of ds) (number_of d) h.apart (not-among (number_of d) x.fresh (numbers_of ds) others));
+        foreign = rw numbers (each-snoc (λ n. (has n v.used ≡ false) × (has n x.fresh ≡ false)) (numbers_of ds) (number_of d)
+            (each-map (λ n. (has n v.used ≡ false) × (has n w.fresh ≡ false)) (λ n. (has n v.used ≡ false) × (has n x.fresh ≡ false)) (λ n e. (e.0, tail-false n (number_of d) x.fresh (subst (λ l. has n l ≡ false) fresh e.1))) (numbers_of ds) h.foreign)
+            (ap (λ n. has n v.used) one ∙ ap (λ l. has s.number l) (sym h.used) ∙ s.foreign.0, ap (λ n. has n x.fresh) one ∙ s.foreign.1));
+        unused = rw numbers (each-snoc (λ n. entries_by (n ∷ []) v.seen ≡ []) (numbers_of ds) (number_of d) h.unused
+            (front-none (number_of d ∷ []) v.seen kept.seen.0 (ap (λ l. entries_by (number_of d ∷ []) l) (sym kept.seen.1) ∙ ap (λ n. entries_by (n ∷ []) x.seen) one ∙ s.unused)));
+        each = each-snoc (IsNew shape tells t v) ds d h.each (is-new pages v w x d h.kept s ready none);
+        answers = map-append (λ (worker : Worker). worker.answers) ds (d ∷ []) ∙ ap (λ l. l ++ d.answers ∷ []) h.answers;
+        all = inr (⊎_elim (λ empty. subst (λ (y : View Said). IsWhole y → y.mine ≡ y.seen) empty.1 s.all) (λ known. known) h.all);
+      }

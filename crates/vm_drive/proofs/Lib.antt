@@ -1,0 +1,9 @@
+pub mod Lists
+pub mod Showing
+pub mod Doing
+pub mod Tracing
+pub mod Answering
+pub mod Hiring
+pub mod Joining
+pub mod Crews
+pub mod Finishing

@@ -1,0 +1,42 @@
+-- From what steps found to what is so at the end.
+use Rattle.std.proofs.Common.{ℕ, ◌≡◌, ◌+◌, ◌<◌, ◌≤◌, List, [], ◌∷◌, Result, sym, ap, subst, ◌∙◌, arith}
+use Rattle.vm_core.specs.Words.{MAX_VERSION, version_of}
+use Rattle.vm_map.specs.declared.call.Call.{Call}
+use Rattle.vm_map.specs.declared.call.Reply.{Reply}
+use Rattle.vm_rule.specs.declared.view.Place.TheVariants as places
+use Rattle.vm_rule.specs.declared.view.View.{View}
+use Rattle.vm_rule.specs.Reading.{last_of}
+use Rattle.vm_rule.specs.Views.{StartsWith}
+use Rattle.vm_step.specs.Evidence.{HasGiven}
+use Rattle.vm_tree_rule.specs.declared.fault.TreeFault.{TreeFault}
+use Rattle.vm_drive.specs.Causes.{AllCausedBy, FoundFull, FoundWorn}
+use Rattle.vm_drive.proofs.Doing.{all-caused, given-more}
+
+pub lists-caused : (full worn full' worn' : ℕ → Type 0) → ((n : ℕ) → full n → full' n) → ((n : ℕ) → worn n → worn' n) → (lists : List (List Call)) (answers : List (List (Result Reply TreeFault))) → AllCausedBy full worn lists answers → AllCausedBy full' worn' lists answers
+lists-caused full worn full' worn' f g [] answers h = tt
+lists-caused full worn full' worn' f g (cs ∷ lists) [] h = tt
+lists-caused full worn full' worn' f g (cs ∷ lists) (rs ∷ answers) h = (all-caused full worn full' worn' f g cs rs h.0, lists-caused full worn full' worn' f g lists answers h.1)
+
+module _ {X : Type 0} where
+  -- no next word that the pass found is above this one
+  pub used-up : (w : View X) (n next : ℕ) → ((x : ℕ) → HasGiven w.log places.Next x → x ≤ next) → FoundFull w n → (n ≡ w.start.pages) × (n ≤ next + 1)
+  used-up w n next most f =
+      let found : f.1.found ≤ next = most f.1.found f.1.given in
+      let high : n ≤ f.1.found + 1 = f.1.high in
+      (f.0, omega arith)
+
+  -- no state word that it found has a later version than the page's last one
+  pub worn-out : (w : View X) (p : ℕ) → ((p word : ℕ) → p < w.start.pages → HasGiven w.log (places.State p) word → version_of word ≤ (last_of w p).version) → FoundWorn w p → MAX_VERSION ≤ (last_of w p).version
+  worn-out w p most m =
+      let last : version_of m.word ≤ (last_of w p).version = most p m.word m.inside m.given in
+      subst (λ n. n ≤ (last_of w p).version) m.last last
+
+  -- steps that come later leave both
+  pub found-later : (v w : View X) (n : ℕ) → w.start ≡ v.start → StartsWith w.log v.log → FoundFull v n → FoundFull w n
+  found-later v w n start log f = (
+    f.0 ∙ ap (λ s. s.pages) (sym start),
+    record { found = f.1.found; given = given-more w.log v.log places.Next f.1.found log f.1.given; high = f.1.high },
+  )
+
+  pub max-later : (v w : View X) (p : ℕ) → w.start ≡ v.start → StartsWith w.log v.log → FoundWorn v p → FoundWorn w p
+  max-later v w p start log m = record { inside = subst (λ s. p < s.pages) (sym start) m.inside; word = m.word; given = given-more w.log v.log (places.State p) m.word log m.given; last = m.last }

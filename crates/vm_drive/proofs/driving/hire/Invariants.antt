@@ -1,0 +1,18 @@
+use Rattle.std.proofs.Common.{◌≡◌, ◌≤◌, ◌++◌, length, vec_len}
+use Rattle.std.specs.Vec.{vec_capacity}
+use Rattle.std.specs.Vec.Iter.{into_iter_items, into_iter_len}
+use Rattle.vm_step.specs.Passes.{IsSamePass, view}
+use Rattle.vm_step.specs.Ready.{IsReady}
+use Rattle.vm_drive.specs.Crews.{AreHired}
+use Rattle.vm_drive.proofs.driving.hire.Given as goal
+
+abbrev pub invariant-rooms : goal.invariant-rooms
+invariant-rooms g l = record {
+  rest : l.yielded ++ into_iter_items l.answers-iterator ≡ into_iter_items l.initial.answers-iterator;
+  len : into_iter_len l.answers-iterator ≡ length (into_iter_items l.answers-iterator);
+  same : IsSamePass l.fn.pass l.pass;
+  ready : IsReady l.pool.words.table.shared.key g.B.Block.tells l.pool.words.table.shared.table_id l.pass;
+  hired : AreHired l.pool.words.table.shared.key g.B.Block.tells l.pool.words.table.shared.table_id l.yielded (view l.fn.pass) l.workers.items (view l.pass);
+  count : vec_len l.workers ≡ length l.yielded;
+  room : length (into_iter_items l.initial.answers-iterator) ≤ vec_capacity l.workers;
+}

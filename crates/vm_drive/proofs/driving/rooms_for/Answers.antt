@@ -1,0 +1,15 @@
+use Rattle.std.proofs.Common.{◌≡◌, ◌<◌, ◌≤◌, true, is_ok, if◌then◌else◌, ◌∷◌, [], ◌++◌, length, map, take, sym, ap, subst, ◌∙◌, ◌+◌, rules}
+use Rattle.std.proofs.lemmas.List.{take_more, map-append}
+use Rattle.vm_drive.specs.Crews.{HaveRoom}
+use Rattle.vm_drive.specs.Drives.{items_of}
+use Rattle.vm_drive.proofs.Crews.{room-snoc}
+use Rattle.vm_drive.proofs.driving.rooms_for.Goals as goal
+
+pub lists-preserved : goal.lists-preserved
+lists-preserved c =
+    let xs = c.args.lists.now in
+    let inside : c.lists.calls-index < length xs = c.lists-test.true in
+    let one : take (c.lists.calls-index + 1) xs ≡ take c.lists.calls-index xs ++ c.calls-item.result ∷ [] = take_more xs c.lists.calls-index c.calls-item.result inside ∙ ap (λ l. take c.lists.calls-index xs ++ l ∷ []) (sym c.calls-item.is) in
+    let more : items_of (take (c.lists.calls-index + 1) xs) ≡ items_of (take c.lists.calls-index xs) ++ c.calls-item.result.items ∷ [] = ap (λ l. items_of l) one ∙ map-append (λ v. v.items) (take c.lists.calls-index xs) (c.calls-item.result ∷ []) in
+    rw (c.in_ok-push.ensures.items, more)
+    (room-snoc _ _ _ _ c.lists.invariant c.in_ok-with_capacity.ensures.items (let cap = c.in_ok-with_capacity.ensures.capacity in let len = c.len.ensures in search rules))

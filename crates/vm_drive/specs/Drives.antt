@@ -1,0 +1,62 @@
+-- What driving the workers leaves.
+use Rattle.std.specs.Prelude.{ℕ, Bool, true, List, Vec, ◌++◌, ◌≡◌, ◌≤◌, ◌+◌, map, length, Result}
+use Rattle.std.specs.declared.alloc.Global.{Global}
+use Rattle.std.specs.List.{AllByRecursion}
+use Rattle.vm_core.specs.Words.{MAX_VERSION}
+use Rattle.vm_map.specs.declared.call.Call.{Call}
+use Rattle.vm_map.specs.declared.call.Reply.{Reply}
+use Rattle.vm_map.specs.declared.call.Said.{Said}
+use Rattle.vm_map.specs.History.{IsAskable}
+use Rattle.vm_owner.specs.declared.Entry.{Entry}
+use Rattle.vm_rule.specs.Joins.{HoldsNoPage}
+use Rattle.vm_rule.specs.declared.view.View.{View}
+use Rattle.vm_rule.specs.Reading.{last_of}
+use Rattle.vm_rule.specs.Views.{StartsWith}
+use Rattle.vm_rule_laws.specs.Known.{kept_by}
+use Rattle.vm_step.specs.Alone.{IsAlone}
+use Rattle.vm_tree_model.specs.Tree.{map_of}
+use Rattle.vm_tree_laws.specs.History.{IsLegal}
+use Rattle.vm_tree_rule.specs.declared.fault.TreeFault.{TreeFault}
+use Rattle.vm_drive.specs.Holds.{HoldsCalls}
+use Rattle.vm_drive.specs.Shows.{AllShown}
+use Rattle.vm_drive.specs.Causes.{notes_of, all_faults_of, AllCausedBy, FoundFull, FoundWorn}
+
+-- the lists in the vectors
+abbrev pub items_of : {X : Type 0} → List (Vec X Global) → List (List X)
+items_of vectors = map (λ v. v.items) vectors
+
+-- no list has more than a script's most lines
+abbrev pub AreFew : {X : Type 0} → List (List X) → Type 0
+AreFew lists = AllByRecursion (λ list. length list ≤ 1000000) lists
+
+-- every window of the lists is asked for at least one pair
+abbrev pub AreAskable : List (List Call) → Type 0
+AreAskable lists = AllByRecursion (λ calls. AllByRecursion IsAskable calls) lists
+
+-- the next word leaves no room for a split of the image of so many pages
+abbrev pub IsUsedUp : View Said → ℕ → Type 0
+IsUsedUp w pages = (pages ≡ w.start.pages) × (pages ≤ (kept_by w).next + 1)
+
+-- the page is at the last version that there can be
+abbrev pub IsWornOut : View Said → ℕ → Type 0
+IsWornOut w p = MAX_VERSION ≤ (last_of w p).version
+
+-- The workers have made the calls of their lists, with these answers, and their passes went into the one that had the view v and has the
+-- view w: it is whole again and holds no page. What it has seen begins with what it had seen, is legal, and is all its own. Its own entries
+-- grew by just the lists' calls that had a reply, each list in order under a number of its own. Each fault of a device has its own new note
+-- of the page; each other fault has its cause, and each window is a leaf's
+pub record IsDriven (tells : Bool) (lists : List (List Call)) (answers : List (List (Result Reply TreeFault))) (v w : View Said) : Type 0 where
+  pub alone : IsAlone w
+  pub holds : HoldsNoPage w
+  pub start : w.start ≡ v.start
+  pub seen : StartsWith w.seen v.seen
+  pub legal : tells ≡ true → IsLegal (map_of w.start.contents) w.seen
+  pub all : w.mine ≡ w.seen
+  pub grew : List (Entry Said)
+  pub mine : w.mine ≡ v.mine ++ grew
+  pub calls : HoldsCalls grew lists answers
+  pub faults : (p : ℕ) → notes_of p v.notes + all_faults_of p answers ≤ notes_of p w.notes
+  pub caused : AllCausedBy (IsUsedUp w) (IsWornOut w) lists answers
+  -- the same, by what the pass's steps found: so it is of the pass later on, too
+  pub traces : AllCausedBy (FoundFull w) (FoundWorn w) lists answers
+  pub shown : AllShown w lists answers

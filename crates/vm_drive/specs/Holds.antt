@@ -1,0 +1,33 @@
+-- The history holds each worker's calls once, in order, with their replies.
+use Rattle.std.specs.Prelude.{◌≡◌, ℕ, ◌<◌, List, [], ◌∷◌, length, slice_index_or, Result, Ok, Err}
+use Rattle.vm_map.specs.declared.call.Call.{Call}
+use Rattle.vm_map.specs.declared.call.Reply.{Reply}
+use Rattle.vm_map.specs.declared.call.Said.{Said}
+use Rattle.vm_owner.specs.declared.Entry.{Entry}
+use Rattle.vm_rule.specs.Views.{Each, entries_by}
+use Rattle.vm_tree_laws.specs.History.{saids}
+use Rattle.vm_tree_rule.specs.declared.fault.TreeFault.{TreeFault}
+
+-- what the entries of a number say, in order
+abbrev pub said_by : ℕ → List (Entry Said) → List Said
+said_by number h = saids (entries_by (number ∷ []) h)
+
+-- one worker's list
+abbrev pub list_at : {A : Type 0} → List (List A) → ℕ → List A
+list_at lists w = slice_index_or lists w []
+
+-- the calls with their replies, but those that a fault answered
+abbrev pub answered : List Call → List (Result Reply TreeFault) → List Said
+answered [] rs = []
+answered (c ∷ cs) [] = []
+answered (c ∷ cs) (Ok r ∷ rs) = record { call = c; reply = r } ∷ answered cs rs
+answered (c ∷ cs) (Err f ∷ rs) = answered cs rs
+
+-- the entries are those of the workers, each under a number of its own
+pub record HoldsCalls (h : List (Entry Said)) (lists : List (List Call)) (answers : List (List (Result Reply TreeFault))) : Type 0 where
+  pub numbers : ℕ → ℕ
+  pub apart : (v w : ℕ) → v < length lists → w < length lists → numbers v ≡ numbers w → v ≡ w
+  pub lists_long : length answers ≡ length lists
+  pub each_long : (w : ℕ) → w < length lists → length (list_at answers w) ≡ length (list_at lists w)
+  pub each : (w : ℕ) → w < length lists → said_by (numbers w) h ≡ answered (list_at lists w) (list_at answers w)
+  pub only : Each (λ e. (w : ℕ) × (w < length lists) × (e.number ≡ numbers w)) h

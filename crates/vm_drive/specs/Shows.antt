@@ -1,0 +1,44 @@
+-- The windows among workers' answers: each shows what the leaf that covers its start does.
+use Rattle.std.specs.Prelude.{ℕ, true, List, [], ◌∷◌, ◌≡◌, Result, Ok, Err}
+use Rattle.vm_map.specs.declared.call.Call.{Call}
+use Rattle.vm_map.specs.declared.call.Call.TheVariants.{Get, Put, Del, Window}
+use Rattle.vm_map.specs.declared.call.Reply.{Reply}
+use Rattle.vm_map.specs.declared.call.Said.{Said}
+use Rattle.vm_owner.specs.Kept.{Kept}
+use Rattle.vm_page.specs.Pages.{page_at}
+use Rattle.vm_rule.specs.declared.view.View.{View}
+use Rattle.vm_rule.specs.Rule.{began_of}
+use Rattle.vm_rule.specs.Views.{StartsWith}
+use Rattle.vm_tree_model.specs.Page.{node_of}
+use Rattle.vm_tree_laws.specs.Keeps.{Keeps}
+use Rattle.vm_tree_laws.specs.May.{IsProved}
+use Rattle.vm_tree_rule.specs.declared.fault.TreeFault.{TreeFault}
+
+-- the reply is what a leaf shows: one of the tree's pages at a step of the history, which the pass knows
+pub record IsOfLeaf (said : Said) (v : View Said) : Type 0 where
+  pub kept : Kept Said
+  pub keeps : Keeps (began_of v.start) kept
+  pub history : StartsWith v.seen kept.history
+  pub page : ℕ
+  pub leaf : (node_of (page_at kept.pages page)).tag ≡ 2
+  pub proved : IsProved (page_at kept.pages page) said.call said.reply
+
+-- a window shows what the leaf that covers its start does, where blocks tell their words
+abbrev pub IsShown : View Said → Call → Reply → Type 0
+IsShown v (Get key) reply = Unit {0}
+IsShown v (Put key value) reply = Unit {0}
+IsShown v (Del key) reply = Unit {0}
+IsShown v (Window start most) reply = v.start.tells ≡ true → IsOfLeaf (record { call = Window start most; reply = reply }) v
+
+-- so does each window of a list that was answered
+abbrev pub AreShown : View Said → List Call → List (Result Reply TreeFault) → Type 0
+AreShown v [] rs = Unit {0}
+AreShown v (c ∷ cs) [] = Unit {0}
+AreShown v (c ∷ cs) (Ok r ∷ rs) = IsShown v c r × AreShown v cs rs
+AreShown v (c ∷ cs) (Err f ∷ rs) = AreShown v cs rs
+
+-- and of all lists
+abbrev pub AllShown : View Said → List (List Call) → List (List (Result Reply TreeFault)) → Type 0
+AllShown v [] answers = Unit {0}
+AllShown v (cs ∷ lists) [] = Unit {0}
+AllShown v (cs ∷ lists) (rs ∷ answers) = AreShown v cs rs × AllShown v lists answers

@@ -1,0 +1,191 @@
+//! All workers, side by side.
+
+ghost use Rattle.std.specs.Prelude.{◌≡◌, ◌<◌, ◌≤◌, ◌*◌, [], None, IfErr, IfOk, length};
+ghost use Rattle.std.specs.Vec.{vec_capacity};
+ghost use Rattle.vm_rule.specs.Joins.{HoldsNoPage};
+ghost use Rattle.vm_rule.specs.Views.{Each, IsWhole};
+ghost use Rattle.vm_step.specs.Passes.{IsSamePass, view};
+ghost use Rattle.vm_step.specs.Ready.{IsReady};
+ghost use Rattle.vm_drive.specs.Crews.{AllWorked, AreHired, AreIdle, AreJoined, HasWorked, HaveRoom, IsBack, IsIdle, answers_of};
+ghost use Rattle.vm_drive.specs.Holds.{list_at};
+ghost use Rattle.vm_drive.specs.Drives.{AreAskable, AreFew, IsDriven, items_of};
+
+use crate::gate::Gate;
+use crate::worker::{Answer, Worker, work};
+use std::alloc::{AllocError, Global};
+use std::sync::Wait;
+use std::thread;
+use std::thread::Threads;
+use vm_block::Block;
+use vm_core::Memory;
+use vm_exmap::Interface;
+use vm_map::call::Call;
+use vm_pool::Pool;
+use vm_rule::words::Pass;
+use vm_tree_rule::Tree;
+
+/// What the workers were answered, and how many pages their sweeps evicted.
+#[derive(Drop)]
+pub struct Driven {
+    /// For each list an answer for each of its calls, in order.
+    pub replies: Vec<Vec<Answer>>,
+    /// Up to the greatest `u64`.
+    pub evicted: u64,
+}
+
+/// Makes the lists' calls, one worker for each list, side by side: 1 to 64 lists of at most 1,000,000 calls each, eight frames for each. The
+/// pass has all parts and holds no page, and has a fresh part for each list. Afterwards it has all parts again, and knows what the workers did.
+/// Where there is no memory, no call was made, and the pass is as it was.
+pub fn drive<R: Threads + Wait + Sync, B: Block + Send + Sync, G: Gate + Sync>(
+    rt: &R,
+    alloc: Global,
+    pool: &Pool<Tree, B>,
+    pass: &mut Pass<Tree>,
+    lists: &[Vec<Call>],
+    gate: &G,
+) -> Result<Driven, Memory>
+    requires ready { IsReady pool.now.words.table.shared.key B.tells pool.now.words.table.shared.table_id pass.old }
+    requires whole { IsWhole (view pass.old) }
+    requires holds { HoldsNoPage (view pass.old) }
+    requires fresh { length lists.now ≤ length (view pass.old).fresh }
+    requires lists { (1 ≤ length lists.now) × (length lists.now ≤ 64) }
+    requires few { AreFew (items_of lists.now) }
+    requires askable { AreAskable (items_of lists.now) }
+    requires frames { 8 * length lists.now ≤ pool.now.words.frames }
+    requires pages { 1 ≤ pool.now.words.table.shared.key.pages }
+    ensures pass { IsSamePass pass.old pass.new }
+    ensures ready { IsReady pool.now.words.table.shared.key B.tells pool.now.words.table.shared.table_id pass.new }
+    ensures driven { IfOk result (λ driven. IsDriven B.tells (items_of lists.now) (items_of driven.replies.items) (view pass.old) (view pass.new)) }
+    ensures memory { IfErr result (λ _. pass.new ≡ pass.old) }
+{
+    let (rooms, workers, replies) = match rooms_for(alloc, lists) {
+        Ok(rooms) => rooms,
+        Err(AllocError) => return Err(Memory),
+    };
+    let cap = cap_for(pool.words.frames, lists.len());
+    let mut workers = hire(pool, pass, cap, rooms, workers);
+    work_all(rt, pool, gate, lists, workers.as_mut_slice());
+    Ok(gather(pool, pass, workers, replies))
+}
+
+// The memory that all workers need: room for each list's answers, for the workers, and for the lists of answers.
+fn rooms_for(
+    alloc: Global,
+    lists: &[Vec<Call>],
+) -> Result<(Vec<Vec<Answer>>, Vec<Worker>, Vec<Vec<Answer>>), AllocError>
+    ensures rooms { IfOk result (λ v. HaveRoom v.0.items (items_of lists.now)) }
+    ensures workers { IfOk result (λ v. (v.1.items ≡ []) × (length lists.now ≤ vec_capacity v.1)) }
+    ensures replies { IfOk result (λ v. (v.2.items ≡ []) × (length lists.now ≤ vec_capacity v.2)) }
+{
+    let workers = Vec::with_capacity(alloc, lists.len())?;
+    let replies = Vec::with_capacity(alloc, lists.len())?;
+    let mut rooms = Vec::with_capacity(alloc, lists.len())?;
+    'lists: for calls in lists {
+        rooms.push(Vec::with_capacity(alloc, calls.len())?)?;
+    }
+    Ok((rooms, workers, replies))
+}
+
+// How many frames an interface keeps: a quarter of the worker's share, at most 64.
+fn cap_for(frames: usize, workers: usize) -> u32
+    requires some { 1 ≤ workers }
+    requires few { workers ≤ 64 }
+    requires share { 8 * workers ≤ frames }
+    ensures { (1 ≤ result) × (result ≤ 64) }
+{
+    (frames / (4 * workers)).min(64) as u32
+}
+
+// Splits off a pass for each room.
+fn hire<B: Block>(
+    pool: &Pool<Tree, B>,
+    pass: &mut Pass<Tree>,
+    cap: u32,
+    rooms: Vec<Vec<Answer>>,
+    mut workers: Vec<Worker>,
+) -> Vec<Worker>
+    requires ready { IsReady pool.now.words.table.shared.key B.tells pool.now.words.table.shared.table_id pass.old }
+    requires holds { HoldsNoPage (view pass.old) }
+    requires fresh { length rooms.items ≤ length (view pass.old).fresh }
+    requires pages { 1 ≤ pool.now.words.table.shared.key.pages }
+    requires cap { (1 ≤ cap) × (cap ≤ 64) }
+    requires room { (workers.items ≡ []) × (length rooms.items ≤ vec_capacity workers) }
+    ensures pass { IsSamePass pass.old pass.new }
+    ensures ready { IsReady pool.now.words.table.shared.key B.tells pool.now.words.table.shared.table_id pass.new }
+    ensures hired { AreHired pool.now.words.table.shared.key B.tells pool.now.words.table.shared.table_id rooms.items (view pass.old) result.items (view pass.new) }
+{
+    let mut home = 0u32;
+    'rooms: for answers in rooms {
+        let own = pool.split_one(pass);
+        let iface = Interface::new(home, cap);
+        home = home.saturating_add(1);
+        let worker = Worker {
+            pass: own,
+            iface,
+            answers,
+        };
+        if workers.push(worker).is_err() {
+            unreachable!()
+        }
+    }
+    workers
+}
+
+// Makes each worker's calls, in as many threads as there are workers.
+fn work_all<R: Threads + Wait + Sync, B: Block + Send + Sync, G: Gate + Sync>(
+    rt: &R,
+    pool: &Pool<Tree, B>,
+    gate: &G,
+    lists: &[Vec<Call>],
+    workers: &mut [Worker],
+)
+    requires lists { (1 ≤ length lists.now) × (length lists.now ≤ 64) }
+    requires askable { AreAskable (items_of lists.now) }
+    requires idle { AreIdle pool.now.words.table.shared.key B.tells pool.now.words.table.shared.table_id (items_of lists.now) workers.old }
+    ensures { AllWorked pool.now.words.table.shared.key B.tells pool.now.words.table.shared.table_id (items_of lists.now) workers.old workers.new }
+{
+    thread::for_each_mut(
+        rt,
+        workers,
+        lists.len(),
+        &|i: usize, worker: &mut Worker|
+            requires inside { (i < length lists.now) × (length lists.now ≤ 64) }
+            requires askable { AreAskable (items_of lists.now) }
+            requires idle { IsIdle pool.now.words.table.shared.key B.tells pool.now.words.table.shared.table_id (list_at (items_of lists.now) i) worker.old }
+            ensures { HasWorked pool.entry.now.words.table.shared.key B.tells pool.entry.now.words.table.shared.table_id (list_at (items_of lists.entry.now) i) worker.old worker.new }
+        { work(rt, pool, gate, i as u32, lists[i].as_slice(), worker) },
+    );
+}
+
+// Joins the workers' passes, and collects their answers.
+fn gather<B: Block>(
+    pool: &Pool<Tree, B>,
+    pass: &mut Pass<Tree>,
+    workers: Vec<Worker>,
+    mut replies: Vec<Vec<Answer>>,
+) -> Driven
+    requires ready { IsReady pool.now.words.table.shared.key B.tells pool.now.words.table.shared.table_id pass.old }
+    requires home { (view pass.old).out ≡ None }
+    requires room { (replies.items ≡ []) × (length workers.items ≤ vec_capacity replies) }
+    requires some { 1 ≤ length workers.items }
+    requires back { Each (IsBack pool.now.words.table.shared.key B.tells pool.now.words.table.shared.table_id (view pass.old)) workers.items }
+    ensures pass { IsSamePass pass.old pass.new }
+    ensures ready { IsReady pool.now.words.table.shared.key B.tells pool.now.words.table.shared.table_id pass.new }
+    ensures joined { AreJoined B.tells (view pass.old) workers.items (view pass.new) }
+    ensures replies { result.replies.items ≡ answers_of workers.items }
+{
+    let mut evicted = 0u64;
+    'workers: for worker in workers {
+        let Worker {
+            pass: own,
+            iface,
+            answers,
+        } = worker;
+        evicted = evicted.saturating_add(iface.swept());
+        pool.join(pass, own);
+        if replies.push(answers).is_err() {
+            unreachable!()
+        }
+    }
+    Driven { replies, evicted }
+}

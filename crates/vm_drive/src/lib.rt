@@ -1,0 +1,8 @@
+//! The workers: each makes a list of calls with a pass of its own, side by side.
+#![tactic(auto)]
+
+mod driving;
+pub mod gate;
+pub mod worker;
+
+pub use driving::{Driven, drive};

@@ -1,0 +1,235 @@
+-- What serving comes to, from what was driven, what was flushed and what was closed.
+use Rattle.std.proofs.Common.{ℕ, zero, suc, Bool, true, ◌≡◌, ◌+◌, ◌<◌, ◌≤◌, None, List, [], ◌∷◌, ◌++◌, length, map, Result, replicate, slice_index, slice_index_or, refl, sym, ap, subst, ◌∙◌, arith, ⊎_elim}
+use Rattle.std.proofs.lemmas.Bool.{cases_lt}
+use Rattle.vm_core.specs.Fn.{at}
+use Rattle.vm_block.specs.declared.memory.MemBlock.{MemBlock}
+use Rattle.vm_block.specs.declared.stored.Stored.{Stored}
+use Rattle.vm_block.specs.Memory.{plan_of, stored_of, words_of}
+use Rattle.vm_block.specs.Plans.{most_faults}
+use Rattle.vm_image.specs.Blocks.{AreBlocksOf, numbers_for, pages_of_blocks}
+use Rattle.vm_image.specs.File.{IsNextPage}
+use Rattle.vm_image.specs.declared.blocks.PlannedFault.{PlannedFault}
+use Rattle.vm_map.specs.History.{after_all}
+use Rattle.vm_map.specs.declared.call.Call.{Call}
+use Rattle.vm_map.specs.declared.call.Reply.{Reply}
+use Rattle.vm_map.specs.declared.call.Said.{Said}
+use Rattle.vm_owner.specs.declared.Entry.{Entry}
+use Rattle.vm_tree_model.specs.Count.{node_count}
+use Rattle.vm_page.specs.Pages.{page_at}
+use Rattle.vm_page.specs.declared.buf.TheConstants.{WORDS}
+use Rattle.vm_tree_model.specs.Tree.{IsTree, map_of}
+use Rattle.vm_tree_laws.specs.History.{IsLegal, saids}
+use Rattle.vm_tree_laws.specs.Keeps.{Keeps}
+use Rattle.vm_tree_laws.proofs.Fullness.{room_used}
+use Rattle.vm_tree_laws.proofs.Starts.{start_keeps}
+use Rattle.vm_rule.specs.declared.view.Note.{Note}
+use Rattle.vm_rule.specs.declared.view.Origin.{Origin}
+use Rattle.vm_rule.specs.declared.view.View.{View}
+use Rattle.vm_rule.specs.Begun.{begun, unborn}
+use Rattle.vm_rule.specs.Puts.{listed}
+use Rattle.vm_rule.specs.Reading.{no_block, last_of}
+use Rattle.vm_core.specs.Words.{MAX_COUNT}
+use Rattle.vm_rule.specs.Rule.{began_of}
+use Rattle.vm_rule.specs.Fixed.{MayBegin, bounds_of}
+use Rattle.vm_rule.specs.Started.{contents_of, started_origin, started_shape, words_in}
+use Rattle.vm_rule.specs.Views.{Each, numbers}
+use Rattle.vm_rule.proofs.ListFacts.{at-map, length-mapped, listed-long}
+use Rattle.vm_rule.proofs.Parts.{listed-same}
+use Rattle.vm_rule_laws.specs.Known.{kept_by}
+use Rattle.vm_rule_laws.proofs.Knowing.{owes-nothing}
+use Rattle.vm_evict.specs.Flushes.{IsFlushed, first_noted}
+use Rattle.vm_evict.specs.declared.flushing.Flushed.{Flushed}
+use Rattle.vm_pool.specs.Closing.{AreSums, IsClosed, view_at_end}
+use Rattle.vm_tree_rule.specs.declared.fault.TreeFault.{TreeFault}
+use Rattle.vm_drive.specs.Causes.{notes_of, all_faults_of, FoundFull, FoundWorn}
+use Rattle.vm_drive.specs.Drives.{IsDriven, IsWornOut}
+use Rattle.vm_drive.specs.Holds.{HoldsCalls}
+use Rattle.vm_drive.proofs.Showing.{all-shown-more}
+use Rattle.vm_drive.proofs.Doing.{notes-both}
+use Rattle.vm_drive.proofs.Tracing.{found-later, lists-caused, max-later, used-up, worn-out}
+use Rattle.vm_serve.proofs.Counting.{few-notes, small-plan}
+use Rattle.vm_serve.specs.Served.{IsFilled, IsServed, TreeEnd, is_first}
+
+-- the words of the blocks are the start's
+contents-held : (blocks : List MemBlock) → contents_of true (map stored_of blocks) ≡ pages_of_blocks blocks
+contents-held [] = refl
+contents-held (b ∷ bs) = ap (λ (l : List (List ℕ)). words_of b ∷ l) (contents-held bs)
+
+words-held : (blocks : List MemBlock) → words_in (map stored_of blocks) ≡ pages_of_blocks blocks
+words-held [] = refl
+words-held (b ∷ bs) = ap (λ (l : List (List ℕ)). words_of b ∷ l) (words-held bs)
+
+all-zero : (n : ℕ) (ws : List ℕ) → length ws ≡ n → ((i : ℕ) → slice_index ws i ≡ 0) → ws ≡ replicate n 0
+all-zero zero [] e z = refl
+all-zero zero (x ∷ xs) e z = absurd (omega arith)
+all-zero (suc n) [] e z = absurd (omega arith)
+all-zero (suc n) (x ∷ xs) e z = let first : x ≡ 0 = z 0 in let rest : xs ≡ replicate n 0 = all-zero n xs (omega arith) (λ i. z (suc i)) in cc
+
+-- the tree may begin with the pages of an image that is one
+pub begins : (pages : List (List ℕ)) (plan : List PlannedFault) (next : ℕ) (blocks : List MemBlock) → IsTree pages → IsNextPage pages next → AreBlocksOf pages plan blocks → MayBegin Keeps next (words_in (map stored_of blocks))
+begins pages plan next blocks tree free held =
+    subst (λ (l : List (List ℕ)). MayBegin Keeps next l) (sym (words-held blocks ∙ held.held))
+    (record {
+      zero = λ p l m. let f = free.free p l m in all-zero WORDS (page_at pages p) f.length f.zero;
+      kept = start_keeps (record { pages = pages; next = next }) tree free.within;
+    })
+
+numbers-long : (a n : ℕ) → length (numbers a n) ≡ n
+unfolding numbers
+numbers-long a zero = refl
+numbers-long a (suc n) = ap suc (numbers-long (suc a) n)
+
+-- the first pass has fresh parts enough
+pub fresh-enough : (tells : Bool) (version next frames count : ℕ) (blocks : List Stored) (v : View Said) → v ≡ begun (unborn (started_shape tells version next frames blocks)) → count ≤ 64 → count ≤ length v.fresh
+fresh-enough tells version next frames count blocks v is few =
+    let long : length v.fresh ≡ 4294967295 = ap (λ (x : View Said). length x.fresh) is ∙ numbers-long 1 4294967295 in
+    omega arith
+
+-- a fresh block's bound is that of its plan
+planned-bound : (blocks : List MemBlock) (p : ℕ) (numbers : List ℕ) → p < length blocks → ((d : MemBlock) → plan_of (slice_index_or blocks p d) ≡ numbers) → (at no_block (map stored_of blocks) p).bound ≡ most_faults numbers
+unfolding at
+planned-bound [] p numbers l f = absurd (omega arith)
+planned-bound (b ∷ bs) zero numbers l f = ap most_faults (f b)
+planned-bound (b ∷ bs) (suc p) numbers l f = planned-bound bs p numbers (omega arith) f
+
+each-at : {A : Type 0} (P : A → Type 0) (d : A) (xs : List A) (p : ℕ) → p < length xs → Each P xs → P (at d xs p)
+unfolding at
+each-at P d [] p l e = absurd (omega arith)
+each-at P d (x ∷ xs) zero l e = e.0
+each-at P d (x ∷ xs) (suc p) l e = each-at P d xs p (omega arith) e.1
+
+at-past : {A : Type 0} (d : A) (xs : List A) (p : ℕ) → length xs ≤ p → at d xs p ≡ d
+unfolding at
+at-past d [] p l = refl
+at-past d (x ∷ xs) zero l = absurd (omega arith)
+at-past d (x ∷ xs) (suc p) l = at-past d xs p (omega arith)
+
+-- the page of the first note has one
+first-noted : (p : ℕ) (notes : List Note) → is_first (first_noted notes) p ≤ notes_of p notes
+first-noted p [] = omega arith
+first-noted p (n ∷ ns) = omega arith
+
+none-noted : (notes : List Note) → length notes ≡ 0 → first_noted notes ≡ None
+none-noted [] e = refl
+none-noted (n ∷ ns) e = absurd (omega arith)
+
+same-words : (blocks : List MemBlock) (p : ℕ) → p < length blocks → at [] (pages_of_blocks blocks) p ≡ (at no_block (map stored_of blocks) p).words
+unfolding at
+same-words [] p l = absurd (omega arith)
+same-words (b ∷ bs) zero l = refl
+same-words (b ∷ bs) (suc p) l = same-words bs p (omega arith)
+
+none-first : (notes : List Note) → first_noted notes ≡ None → length notes ≡ 0
+none-first [] e = refl
+none-first (n ∷ ns) e = absurd cc
+
+-- the blocks hold the pages that these words are
+blocks-hold : (blocks : List MemBlock) (n : ℕ) (words : ℕ → List ℕ) → length blocks ≡ n → ((p : ℕ) → p < n → (at no_block (map stored_of blocks) p).words ≡ words p) → pages_of_blocks blocks ≡ listed n words
+blocks-hold blocks n words long each =
+    sym (listed-long [] n (pages_of_blocks blocks) (length-mapped words_of blocks ∙ long))
+    ∙ listed-same n (at [] (pages_of_blocks blocks)) words (λ p l. same-words blocks p (subst (λ k. p < k) (sym long) l) ∙ each p l)
+
+module _ (pages : List (List ℕ)) (plan : List PlannedFault) (version next frames : ℕ) (before after : List MemBlock) (lists : List (List Call)) (replies : List (List (Result Reply TreeFault))) (report : Flushed) (end : TreeEnd) (v w : View Said)
+    (held : AreBlocksOf pages plan before) (count : length before ≡ length pages) (is : v ≡ begun (unborn (started_shape true version next frames (map stored_of before)))) (next_page : IsNextPage pages next)
+    (driven : IsDriven true lists replies v w) (flushed : IsFlushed report w (view_at_end end)) (last : ℕ) (closed : IsClosed true Keeps (view_at_end end) (map stored_of after) last) where
+  abbrev e : View Said
+  e = view_at_end end
+
+  start-is : e.start ≡ started_origin true version next frames (map stored_of before)
+  start-is = flushed.aside.start ∙ driven.start ∙ ap (λ (x : View Said). x.start) is
+
+  began : e.start.contents ≡ pages
+  began = ap (λ (o : Origin). o.contents) start-is ∙ contents-held before ∙ held.held
+
+  many : e.start.pages ≡ length pages
+  many = ap (λ (o : Origin). o.pages) start-is ∙ length-mapped stored_of before ∙ count
+
+  -- the history of the end is what the workers added
+  grew-all : e.seen ≡ driven.grew
+  grew-all = sym closed.own ∙ flushed.aside.mine ∙ driven.mine ∙ ap (λ (x : View Said). x.mine ++ driven.grew) is
+
+  keeps : Keeps (began_of e.start) (kept_by e)
+  keeps = closed.kept refl
+
+  legal : IsLegal (map_of pages) e.seen
+  legal = subst (λ (l : List (List ℕ)). IsLegal (map_of l) e.seen) began keeps.legal
+
+  filled : (n : ℕ) → FoundFull w n → IsFilled pages end n
+  filled n f =
+      let here : FoundFull e n = found-later w e n flushed.aside.start (flushed.done, flushed.aside.log) f in
+      let up = used-up e n last closed.found here in
+      let high : n ≤ last + 1 = up.1 in
+      let is-next : last ≡ (kept_by e).next = closed.next_is in
+      let all : n ≡ length pages = up.0 ∙ many in
+      let starts : length e.start.contents ≡ length pages = ap (λ (l : List (List ℕ)). length l) began in
+      let cause = room_used (began_of e.start) (kept_by e) keeps (owes-nothing e closed.paid) (omega arith) in
+      record {
+        all = all;
+        high = (omega arith);
+        next = next;
+        first = next_page;
+        cause = (let nodes : node_count e.start.contents ≡ node_count pages = ap (λ (l : List (List ℕ)). node_count l) began in let first : e.start.next ≡ next = ap (λ (o : Origin). o.next) start-is in omega (arith, cause));
+      }
+
+  saved : report.failed ≡ 0 → length after ≡ e.start.pages → ((p : ℕ) → p < e.start.pages → (at no_block (map stored_of after) p).words ≡ (last_of w p).words) → IsTree (pages_of_blocks after) × (map_of (pages_of_blocks after) ≡ after_all (map_of pages) (saids e.seen))
+  saved none long words =
+      let same : (p : ℕ) → (last_of e p).words ≡ (last_of w p).words = flushed.aside.alone.words driven.alone.0 driven.alone.1 in
+      let hold : pages_of_blocks after ≡ (kept_by e).pages = blocks-hold after e.start.pages (λ p. (last_of e p).words) long (λ p l. words p l ∙ sym (same p)) in (
+        subst (λ (l : List (List ℕ)). IsTree l) (sym hold) keeps.tree,
+        ap (λ (l : List (List ℕ)). map_of l) hold ∙ keeps.contents ∙ ap (λ (l : List (List ℕ)). after_all (map_of l) (saids e.seen)) began,
+      )
+
+  noted : (p : ℕ) → all_faults_of p replies + is_first report.first p ≤ notes_of p e.notes
+  noted p =
+      let first : is_first report.first p ≤ notes_of p flushed.noted.notes = subst (λ o. is_first o p ≤ notes_of p flushed.noted.notes) (sym flushed.noted.first) (first-noted p flushed.noted.notes) in
+      let all : notes_of p e.notes ≡ notes_of p w.notes + notes_of p flushed.noted.notes = ap (notes_of p) flushed.noted.after ∙ notes-both p w.notes flushed.noted.notes in
+      let calls : notes_of p v.notes + all_faults_of p replies ≤ notes_of p w.notes = driven.faults p in
+      omega arith
+
+  bound-is : (p : ℕ) → p < length pages → (at no_block (map stored_of after) p).bound ≡ most_faults (numbers_for plan p)
+  bound-is p l =
+      let many-after : length (map stored_of after) ≡ length pages = closed.count ∙ many in
+      let many-before : length (map stored_of before) ≡ length pages = length-mapped stored_of before ∙ count in
+      let same : bounds_of (map stored_of after) ≡ bounds_of (map stored_of before) = closed.bounds ∙ ap (λ (o : Origin). o.bounds) start-is in
+      sym (at-map (λ (b : Stored). b.bound) 0 no_block (map stored_of after) p (subst (λ n. p < n) (sym many-after) l))
+      ∙ ap (λ (k : List ℕ). at 0 k p) same
+      ∙ at-map (λ (b : Stored). b.bound) 0 no_block (map stored_of before) p (subst (λ n. p < n) (sym many-before) l)
+      ∙ planned-bound before p (numbers_for plan p) (subst (λ n. p < n) (sym count) l) (λ d. (held.fresh p d l).planned)
+
+  planned : length plan ≤ 64 → Each (λ (b : Stored). b.count ≤ b.bound) (map stored_of after) → (p : ℕ) → notes_of p e.notes ≤ most_faults (numbers_for plan p)
+  planned few bounded p =
+      ⊎_elim
+      (λ (l : p < length pages).
+      let b = (at no_block (map stored_of after) p).count in
+      let inside : p < length (map stored_of after) = subst (λ n. p < n) (sym (closed.count ∙ many)) l in
+      let most : (at no_block (map stored_of after) p).count ≤ (at no_block (map stored_of after) p).bound = each-at (λ (b : Stored). b.count ≤ b.bound) no_block (map stored_of after) p inside bounded in
+      let is : (at no_block (map stored_of after) p).bound ≡ most_faults (numbers_for plan p) = bound-is p l in
+      let small : most_faults (numbers_for plan p) < MAX_COUNT = small-plan p plan few in
+      let notes : notes_of p e.notes ≤ (at no_block (map stored_of after) p).count = few-notes p (at no_block (map stored_of after) p).count e.notes (omega arith) (λ c some. closed.noted p c some) (λ c ne. closed.once p c ne) in
+      omega arith)
+      (λ (le : length pages ≤ p).
+      let none : (at no_block (map stored_of after) p).count ≡ 0 = ap (λ (b : Stored). b.count) (at-past no_block (map stored_of after) p (subst (λ n. n ≤ p) (sym (closed.count ∙ many)) le)) in
+      let notes : notes_of p e.notes ≤ (at no_block (map stored_of after) p).count = few-notes p (at no_block (map stored_of after) p).count e.notes (omega arith) (λ c some. closed.noted p c some) (λ c ne. closed.once p c ne) in
+      omega arith)
+      (cases_lt p (length pages))
+
+  -- and the pages began at the version asked for
+  pub versioned : e.start.version ≡ version
+  versioned = ap (λ (o : Origin). o.version) start-is
+
+  pub served : length plan ≤ 64 → AreSums (map stored_of after) end → (report.failed ≡ 0 → (p : ℕ) → p < length pages → (at no_block (map stored_of after) p).words ≡ (last_of w p).words) → IsServed pages plan lists replies report after end
+  served few sums words = record {
+    count = sym (length-mapped stored_of after) ∙ closed.count ∙ many;
+    began = began;
+    bounds = bound-is;
+    legal = legal;
+    calls = subst (λ (l : List (Entry Said)). HoldsCalls l lists replies) (sym grew-all) driven.calls;
+    noted = noted;
+    planned = planned few sums.each;
+    caused = lists-caused (FoundFull w) (FoundWorn w) (IsFilled pages end) (IsWornOut e) filled (λ p m. worn-out e p closed.versions (max-later w e p flushed.aside.start (flushed.done, flushed.aside.log) m)) lists replies driven.traces;
+    shown = all-shown-more w e flushed.aside.start flushed.aside.seen lists replies driven.shown;
+    unflushed = λ none. flushed.noted.first ∙ none-noted flushed.noted.notes (flushed.noted.each ∙ none);
+    flushed = λ none. sym flushed.noted.each ∙ none-first flushed.noted.notes (sym flushed.noted.first ∙ none);
+    saved = λ none. saved none (sym (length-mapped stored_of after) ∙ closed.count) (λ p l. words none p (subst (λ n. p < n) many l));
+    sums = sums;
+  }

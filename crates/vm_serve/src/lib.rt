@@ -1,0 +1,6 @@
+//! Workers' calls on the tree of a page file: a pool over the image's blocks, the workers, the flush, the end.
+#![tactic(auto)]
+
+mod serving;
+
+pub use serving::{Served, serve};
