@@ -26,7 +26,7 @@ has-at p (x ∷ xs) (suc i) d lt e = rw (has-at p xs i d (omega (arith, lt)) e) 
     either-true true = refl
     either-true false = refl
 
-pages-end : (l : List (ℕ × ℕ)) (c : ℕ × ℕ) → pages_of (l ++ c ∷ []) ≡ pages_of l ++ c.0 ∷ []
+pub pages-end : (l : List (ℕ × ℕ)) (c : ℕ × ℕ) → pages_of (l ++ c ∷ []) ≡ pages_of l ++ c.0 ∷ []
 pages-end [] c = refl
 pages-end (x ∷ xs) c = ap (λ (t : List ℕ). x.0 ∷ t) (pages-end xs c)
 

@@ -1,3 +1,4 @@
 mod Choices
+mod Passing
 mod Visiting
 mod Walking

@@ -1,19 +1,21 @@
 -- A walk: the next visit makes it longer; each of its looks is counted; its candidates are pages of the table, each another.
-use Rattle.std.proofs.Common.{ℕ, ◌≡◌, ◌<◌, ◌≤◌, ◌+◌, ◌*◌, ◌%◌, List, [], ◌∷◌, ◌++◌, length, zero, suc, refl, sym, ap, subst, ◌∙◌, arith}
+use Rattle.std.proofs.Common.{ℕ, ◌≡◌, ◌<◌, ◌≤◌, ◌⊎◌, ◌+◌, ◌*◌, ◌%◌, List, [], ◌∷◌, ◌++◌, length, zero, suc, refl, sym, ap, subst, ◌∙◌, arith}
 use Rattle.std.proofs.lemmas.List.{length-append}
 use Rattle.std.proofs.Math.Nat.{mod-lt, mod-add-mod}
 use Rattle.vm_core.specs.Words.{hand_more}
 use Rattle.vm_rule.specs.declared.view.Did.{Did}
-use Rattle.vm_rule.specs.declared.view.Origin.{Origin}
 use Rattle.vm_rule.specs.declared.view.Place.TheVariants as places
 use Rattle.vm_rule.specs.declared.view.View.{View}
 use Rattle.vm_rule.specs.Bundles.{HandTold}
 use Rattle.vm_rule.specs.Log.{did_change}
+use Rattle.vm_step.specs.Alone.{RunsAlone}
+use Rattle.vm_step.proofs.Alone.{runs-one, runs-then}
 use Rattle.vm_step.proofs.Asides.{OnlyReads, aside-within, hand-only, only-then}
 use Rattle.vm_step.specs.declared.choice.Looks.{Looks}
-use Rattle.vm_clock.specs.Clock.{IsVisited, Visits, Visits as visits, Walks, no_looks, total}
+use Rattle.vm_clock.specs.Clock.{IsChosen, IsPassed, IsVisited, Visits, Visits as visits, Walks, no_looks, total}
 use Rattle.vm_step.specs.Choices.{AreCandidates}
 use Rattle.vm_clock.proofs.Choices.{candidates-end, no-candidates}
+use Rattle.vm_clock.proofs.Passing.{passed-more, walked-knows}
 
 -- ---- one visit
 
@@ -73,23 +75,31 @@ module _ {X : Type 0} (want drawn : ℕ) where
   pub record IsWalking (k : ℕ) (looks : Looks) (list : List (ℕ × ℕ)) (v w : View X) : Type 0 where
     pub steps : List Did
     pub walk : Walks want v.start.pages drawn k steps looks list
-    pub only : OnlyReads (λ q. q < v.start.pages) (did_change places.Hand drawn (hand_more drawn) ∷ steps) v w
+    pub only : OnlyReads (IsPassed v.start.pages drawn k) (did_change places.Hand drawn (hand_more drawn) ∷ steps) v w
+    pub alone : RunsAlone (did_change places.Hand drawn (hand_more drawn) ∷ steps) [] v w
 
   pub walking-none : (v w : View X) → HandTold drawn v w → IsWalking 0 no_looks [] v w
-  walking-none v w t = record { steps = []; walk = (refl, refl, refl); only = hand-only (λ q. q < v.start.pages) drawn v w t }
+  walking-none v w t = record {
+    steps = [];
+    walk = (refl, refl, refl);
+    only = hand-only (IsPassed v.start.pages drawn 0) drawn v w t;
+    alone = runs-one (did_change places.Hand drawn (hand_more drawn)) _ [] [] v v w t.brings;
+  }
 
   -- one visit more
   pub walking-on : (k p : ℕ) (old new : Looks) (chosen list : List (ℕ × ℕ)) (v w x : View X) → IsWalking k old chosen v w → length chosen < want → p ≡ (drawn % v.start.pages + k) % v.start.pages
       → IsVisited p old chosen new list w x → IsWalking (suc k) new list v x
   walking-on k p old new chosen list v w x so-far room at visited =
-      let touched : ℕ → Type 0 = λ q. q < v.start.pages in
+      let more : ℕ → Type 0 = IsPassed v.start.pages drawn (suc k) in
+      let all-steps : List Did = did_change places.Hand drawn (hand_more drawn) ∷ so-far.steps in
       let place : p ≡ (drawn + k) % v.start.pages = at ∙ mod-add-mod drawn v.start.pages k in
-      let start : w.start ≡ v.start = so-far.only.aside.start in
       record {
         steps = so-far.steps ++ visited.steps;
         walk = (so-far.steps, visited.steps, old, chosen, refl, so-far.walk, room, subst (λ q. Visits chosen q visited.steps old new list) place visited.visits);
-        only = only-then touched (did_change places.Hand drawn (hand_more drawn) ∷ so-far.steps) visited.steps v w x so-far.only
-            record { aside = aside-within (λ q. q < w.start.pages) touched visited.steps w x (λ q l. subst (λ (o : Origin). q < o.pages) start l) visited.aside; keeps = visited.keeps };
+        only = only-then more all-steps visited.steps v w x
+            record { aside = aside-within (IsPassed v.start.pages drawn k) more all-steps v w (passed-more v.start.pages drawn k) so-far.only.aside; keeps = so-far.only.keeps }
+            record { aside = aside-within (λ q. q ≡ p) more visited.steps w x (λ q e. (k, omega arith, e ∙ place)) visited.aside; keeps = visited.keeps };
+        alone = runs-then all-steps visited.steps [] [] v w x so-far.only.aside.start so-far.only.aside.parts so-far.alone visited.alone;
       }
 
   -- what the looks and the candidates of a walk are, in a table of so many pages
@@ -103,3 +113,19 @@ module _ {X : Type 0} (want drawn : ℕ) where
 
     pub walked-few : length list ≤ want
     walked-few = few-chosen want v.start.pages drawn k walking.steps looks list walking.walk
+
+    -- the walk ends, since enough are chosen or since it has been round twice
+    pub walked-chosen : k ≤ 2 * v.start.pages → (length list ≡ want) ⊎ (k ≡ 2 * v.start.pages) → IsChosen want looks list v w
+    walked-chosen most ends = record {
+      drawn = drawn;
+      count = k;
+      steps = walking.steps;
+      walk = walking.walk;
+      most = most;
+      ends = ends;
+      counted = walked-looks;
+      aside = walking.only.aside;
+      keeps = walking.only.keeps;
+      alone = walking.alone;
+      table = λ a. walked-knows want drawn k walking.steps looks list v w walking.only.aside.start walking.walk most walking.alone a;
+    }

@@ -1,15 +1,18 @@
 -- How the clock chooses candidates for eviction: from a place drawn from the hand it walks over the pages, round and round, looks at each, and
 -- counts what it sees by the first of these that fits: a page chosen before; an evicted one; one that somebody has locked; one at the last
 -- version; an unlocked one, which it marks; a marked one, which it chooses.
-use Rattle.std.specs.Prelude.{ℕ, true, false, None, List, [], ◌∷◌, ◌++◌, ◌≡◌, ◌≢◌, ◌⊎◌, ◌+◌, ◌*◌, ◌%◌, ◌<◌, ◌≤◌, zero, suc, length}
+use Rattle.std.specs.Prelude.{ℕ, true, false, None, List, [], ◌∷◌, ◌++◌, ◌≡◌, ◌≢◌, ◌⊎◌, ◌+◌, ◌*◌, ◌%◌, ◌<◌, ◌≤◌, ◌==◌, ◌&&◌, nat_lt, if◌then◌else◌, zero, suc, length}
 use Rattle.vm_core.specs.Words.{state_of, version_of, word_of, hand_more, UNLOCKED, MARKED, EVICTED, MAX_VERSION}
 use Rattle.vm_owner.specs.Numbers.{has}
 use Rattle.vm_rule.specs.declared.view.Did.{Did}
+use Rattle.vm_rule.specs.declared.view.Place.{Place}
 use Rattle.vm_rule.specs.declared.view.Place.TheVariants as places
 use Rattle.vm_rule.specs.declared.view.View.{View}
 use Rattle.vm_rule.specs.Log.{did_load, did_exchange, did_change}
-use Rattle.vm_step.specs.Asides.{IsAsideOf, KeepsFrames}
+use Rattle.vm_step.specs.Alone.{IsAlone, RunsAlone, word_at}
+use Rattle.vm_step.specs.Asides.{IsAside, IsAsideOf, KeepsFrames}
 use Rattle.vm_step.specs.Choices.{IsHeld, first_or, pages_of}
+use Rattle.vm_step.specs.Tables.{KnowsAt, KnowsElse}
 use Rattle.vm_step.specs.declared.choice.Looks.{Looks}
 
 abbrev pub no_looks : Looks
@@ -46,8 +49,29 @@ Walks want pages drawn (suc k) done looks list =
     × (done ≡ before ++ steps) × Walks want pages drawn k before old chosen × (length chosen < want)
     × Visits chosen ((drawn + k) % pages) steps old looks list
 
+-- page p is at one of the first `count` places of a walk from the place drawn
+abbrev pub IsPassed : ℕ → ℕ → ℕ → ℕ → Type 0
+IsPassed pages drawn count p = (k : ℕ) × (k < count) × (p ≡ (drawn + k) % pages)
+
+-- the word of a page once the clock has passed it, where nobody else changes it: an unlocked page below the last version is marked
+abbrev pub passed_word : ℕ → ℕ
+passed_word word = if (state_of word == UNLOCKED) && nat_lt (version_of word) MAX_VERSION then word_of MARKED (version_of word) else word
+
+-- the places that a walk writes: the hand, and the state words of the pages that it passed
+abbrev pub IsWalked : ℕ → ℕ → ℕ → Place → Type 0
+IsWalked pages drawn count at = (at ≡ places.Hand) ⊎ ((p : ℕ) × (at ≡ places.State p) × IsPassed pages drawn count p)
+
 module _ {X : Type 0} where
-  -- the walk that chose these candidates, and what it left of the view: no lock, no frame and no entry changed
+  -- what a pass that was alone knows after a walk: the hand went on once from the place drawn, the pages passed have their words (`passed_word`),
+  -- and all other words are as before
+  pub record KnowsWalked (drawn count : ℕ) (v w : View X) : Type 0 where
+    pub drawn_is : drawn ≡ word_at v places.Hand
+    pub hand : KnowsAt places.Hand (hand_more drawn) w
+    pub passed : (p : ℕ) → p < v.start.pages → IsPassed v.start.pages drawn count p → KnowsAt (places.State p) (passed_word (word_at v (places.State p))) w
+    pub others : KnowsElse (IsWalked v.start.pages drawn count) v w
+
+  -- the walk that chose these candidates, and what it left of the view: no lock, no frame and no entry changed; nor did an open read but of
+  -- the pages that it passed
   pub record IsChosen (want : ℕ) (looks : Looks) (list : List (ℕ × ℕ)) (v w : View X) : Type 0 where
     pub drawn : ℕ
     pub count : ℕ
@@ -55,12 +79,17 @@ module _ {X : Type 0} where
     pub walk : Walks want v.start.pages drawn count steps looks list
     pub most : count ≤ 2 * v.start.pages
     pub ends : (length list ≡ want) ⊎ (count ≡ 2 * v.start.pages)
-    pub aside : IsAsideOf (λ p. p < v.start.pages) (did_change places.Hand drawn (hand_more drawn) ∷ steps) v w
+    pub counted : total looks ≡ count
+    pub aside : IsAsideOf (IsPassed v.start.pages drawn count) (did_change places.Hand drawn (hand_more drawn) ∷ steps) v w
     pub keeps : KeepsFrames v w
+    -- nothing was released; of a pass that is alone the steps made all that happened to the table's words
+    pub alone : RunsAlone (did_change places.Hand drawn (hand_more drawn) ∷ steps) [] v w
+    pub table : IsAlone v → KnowsWalked drawn count v w
 
   -- page p was visited: what the look came to, and what it left of the view
   pub record IsVisited (p : ℕ) (old : Looks) (chosen : List (ℕ × ℕ)) (new : Looks) (list : List (ℕ × ℕ)) (v w : View X) : Type 0 where
     pub steps : List Did
     pub visits : Visits chosen p steps old new list
-    pub aside : IsAsideOf (λ q. q < v.start.pages) steps v w
+    pub aside : IsAside p steps v w
     pub keeps : KeepsFrames v w
+    pub alone : RunsAlone steps [] v w

@@ -1,5 +1,5 @@
 -- What steps leave of a view that move free frames alone: of one step, of several in a row, and that the pass may step on.
-use Rattle.std.proofs.Common.{ℕ, ◌≡◌, ◌≢◌, ◌<◌, ◌++◌, Bool, true, None, List, [], ◌∷◌, length, refl, sym, ap, subst, ◌∙◌, inr, arith, append_assoc, slice_index}
+use Rattle.std.proofs.Common.{ℕ, ◌≡◌, ◌≢◌, ◌<◌, ◌++◌, Bool, true, None, List, [], ◌∷◌, length, refl, sym, ap, subst, ◌∙◌, inr, append_assoc}
 use Rattle.atomic_table.specs.Seated.{TableId}
 use Rattle.vm_core.specs.declared.event.Seat.{Seat}
 use Rattle.vm_core.specs.Start.{no_seat}
@@ -13,26 +13,24 @@ use Rattle.vm_rule.specs.declared.view.Release.{Release}
 use Rattle.vm_rule.specs.declared.view.Shape.{Shape}
 use Rattle.vm_rule.specs.declared.view.View.{View}
 use Rattle.vm_rule.specs.declared.words.Pass.{Pass}
-use Rattle.vm_rule.specs.Layout.{bundles_of, index_of}
+use Rattle.vm_rule.specs.Layout.{Within, bundles_of}
 use Rattle.vm_rule.specs.Puts.{put_at}
-use Rattle.vm_rule.specs.Views.{seat_of, IsLocking}
+use Rattle.vm_rule.specs.Views.{Each, seat_of, IsLocking}
 use Rattle.vm_rule.specs.Rule.{no_held}
 use Rattle.vm_rule.specs.Reading.{last_in}
 use Rattle.vm_rule.specs.Mappings.{contents_at}
 use Rattle.vm_rule.specs.Begun.{HasShape}
 use Rattle.vm_rule.specs.Brought.{Brings}
-use Rattle.vm_rule.proofs.Entries.{append-none, starts-self}
+use Rattle.vm_rule.proofs.Entries.{append-none, each-map, starts-self}
 use Rattle.vm_rule.proofs.Heard.{each-both}
-use Rattle.vm_exmap.specs.Frames.{MovesFrames}
+use Rattle.vm_exmap.specs.Frames.{IsBundleOf, MovesFrames}
 use Rattle.vm_step.specs.Asides.{IsAsideOf}
 use Rattle.vm_step.specs.Passes.{IsSamePass, view}
 use Rattle.vm_step.specs.Ready.{IsReady}
-use Rattle.vm_step.proofs.Alone.{set-else, still-alone}
+use Rattle.vm_step.specs.Tables.{KnowsElse}
+use Rattle.vm_step.proofs.Alone.{runs-one, runs-self, runs-then, still-alone}
 use Rattle.vm_step.proofs.Asides.{alone-self, alone-silent, alone-then, starts-then}
-
--- a bundle's place is no page's
-bundle-state : (g p : ℕ) → places.Bundle g ≢ places.State p
-bundle-state g p e = cc
+use Rattle.vm_step.proofs.Tables.{else-knows, else-self, else-then}
 
 module _ {X : Type 0} where
   -- no step at all
@@ -53,9 +51,9 @@ module _ {X : Type 0} where
     last = λ p l. refl;
     contents = λ f a b. refl;
     alone = alone-self v;
-    states = λ a p l. refl;
-    next = λ a. refl;
-    leaves = tt;
+    runs = runs-self v;
+    steps = tt;
+    table = λ a. else-self (IsBundleOf v.start) v;
   }
 
   -- one step that changes the free frames and what is known of their words
@@ -78,20 +76,13 @@ module _ {X : Type 0} where
         ap (λ (x : View X). last_in x.start x.releases p) b.view ∙ ap (λ (t : List Release). last_in v.start t p) (append-none (v.releases ++ b.between)) ∙ b.kept p l;
     contents = λ f h k. ap (λ (x : View X). contents_at x f) b.view ∙ same f h (sym (ap (λ (x : View X). has f x.frames) b.view) ∙ k);
     alone = alone-silent did None [] v (record v { frames = frames; contents = contents }) w b refl;
-    states = λ a p l.
-        let index : index_of v.start did.at ≡ index_of v.start (places.Bundle g) = ap (index_of v.start) at in
-        let other : p ≢ index_of v.start (places.Bundle g) = omega (arith, l) in
-        ap (λ (x : View X). slice_index x.snapshot.words p) b.view
-        ∙ ap (λ (ws : List ℕ). slice_index ws p) (b.alone a.0 a.1).2.words
-        ∙ set-else did.wrote (index_of v.start did.at) p v.snapshot.words (inr (λ e. other (e ∙ index)));
-    next = λ a.
-        let index : index_of v.start did.at ≡ index_of v.start (places.Bundle g) = ap (index_of v.start) at in
-        let other : index_of v.start places.Next ≢ index_of v.start (places.Bundle g) = omega (arith, inside) in
-        ap (λ (x : View X). slice_index x.snapshot.words (index_of x.start places.Next)) b.view
-        ∙ ap (λ (ws : List ℕ). slice_index ws (index_of v.start places.Next)) (b.alone a.0 a.1).2.words
-        ∙ set-else did.wrote (index_of v.start did.at) (index_of v.start places.Next) v.snapshot.words (inr (λ e. other (e ∙ index)));
-    leaves = ((λ p e. bundle-state g p (sym at ∙ e)), tt);
+    runs = runs-one did None [] [] v (record v { frames = frames; contents = contents }) w b;
+    steps = (here, tt);
+    table = else-knows (IsBundleOf v.start) (did ∷ []) [] v w (ap (λ (x : View X). x.start) b.view) (runs-one did None [] [] v (record v { frames = frames; contents = contents }) w b) ((subst (Within v.start) (sym at) inside, inr here), tt);
   }
+    where
+      here : IsBundleOf v.start did.at
+      here = subst (IsBundleOf v.start) (sym at) inside
 
   -- steps, and then more: a frame that the pass had and has it had in between
   pub moved-then : (a b : List Did) (u v w : View X) → MovesFrames a u v → MovesFrames b v w → ((f : ℕ) → has f u.frames ≡ true → has f w.frames ≡ true → has f v.frames ≡ true) → MovesFrames (a ++ b) u w
@@ -111,10 +102,15 @@ module _ {X : Type 0} where
     last = λ p l. g.last p (subst (λ (seats : List (Put Seat)). IsLocking (put_at no_seat seats p)) (sym f.pages.0) l) ∙ f.last p l;
     contents = λ n h k. let m = between n h k in g.contents n m k ∙ f.contents n h m;
     alone = alone-then u v w f.parts f.alone g.alone;
-    states = λ l p i. g.states (still-alone u v f.parts f.alone.current l) p (subst (λ (o : Origin). p < o.pages) (sym f.start) i) ∙ f.states l p i;
-    next = λ l. g.next (still-alone u v f.parts f.alone.current l) ∙ f.next l;
-    leaves = each-both (λ (d : Did). (p : ℕ) → d.at ≢ places.State p) a b f.leaves g.leaves;
+    runs = runs-then a b [] [] u v w f.start f.parts f.runs g.runs;
+    steps = each-both (λ (d : Did). IsBundleOf u.start d.at) a b f.steps (subst (λ (o : Origin). Each (λ (d : Did). IsBundleOf o d.at) b) f.start g.steps);
+    table = λ l.
+        else-then (IsBundleOf u.start) u v w f.start (f.table l) (subst (λ (o : Origin). KnowsElse (IsBundleOf o) v w) f.start (g.table (still-alone u v f.parts f.alone.current l)));
   }
+
+  -- none of the steps is on a page's state word
+  pub leaves-states : (done : List Did) (v w : View X) → MovesFrames done v w → Each (λ (d : Did). (p : ℕ) → d.at ≢ places.State p) done
+  leaves-states done v w f = each-map _ _ (λ (d : Did) h. λ p e. subst (IsBundleOf v.start) e h) done f.steps
 
   -- such steps are aside of all pages: no read of theirs is another either
   pub moved-aside : (touched : ℕ → Type 0) (done : List Did) (v w : View X) → MovesFrames done v w → IsAsideOf touched done v w

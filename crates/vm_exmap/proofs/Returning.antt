@@ -1,5 +1,5 @@
 -- Frames that go back to their bundles, a bundle at a time: those of the first bundles are given, the others are still held.
-use Rattle.std.proofs.Common.{ℕ, ◌≡◌, ◌≢◌, ◌+◌, ◌/◌, ◌%◌, ◌<◌, ◌≤◌, ◌++◌, ◌&&◌, true, false, Bool, List, [], ◌∷◌, suc, refl, sym, ap, subst, ◌∙◌, ⊎_elim, arith, bit_or, eqb, ltb, if◌then◌else◌}
+use Rattle.std.proofs.Common.{ℕ, ◌≡◌, ◌≢◌, ◌+◌, ◌/◌, ◌%◌, ◌<◌, ◌≤◌, ◌++◌, ◌&&◌, true, false, Bool, None, List, [], ◌∷◌, suc, refl, sym, ap, subst, ◌∙◌, inl, inr, ⊎_elim, arith, bit_or, eqb, ltb, if◌then◌else◌}
 use Rattle.std.proofs.lemmas.Bool.{cases_Bool, cases_eq, cases_lt, eq-eqb, ne_eqb, and_left, and_right, and_parts, lt-ltb, le-ltb, eqb-true, true≢false}
 use Rattle.std.proofs.lemmas.Nat.Bits.{bit_at-zero}
 use Rattle.std.specs.Int.{bit_at}
@@ -17,7 +17,11 @@ use Rattle.vm_rule.proofs.Bundled.{has-frames_in, has-without_all}
 use Rattle.vm_rule.proofs.Entries.{append-none}
 use Rattle.vm_step.specs.Conditions.{MayGive}
 use Rattle.vm_exmap.specs.Frames.{AreHeld, MovesFrames}
-use Rattle.vm_exmap.specs.Returns.{is_of, Gives, AreGiven}
+use Rattle.vm_step.specs.Alone.{IsAlone, word_at}
+use Rattle.vm_step.specs.Tables.{KnowsElse}
+use Rattle.vm_step.proofs.Alone.{found-known, still-alone}
+use Rattle.vm_step.proofs.Tables.{at-then, else-knows, last-known}
+use Rattle.vm_exmap.specs.Returns.{is_of, Gives, AreGiven, KnowsGiven}
 use Rattle.vm_exmap.specs.Returns.GivesTo.{none, some}
 use Rattle.vm_exmap.proofs.FrameMoves.{moved-by, moved-then}
 use Rattle.vm_exmap.proofs.Handing.{each-of}
@@ -60,6 +64,18 @@ module _ {X : Type 0} where
     pub moves : MovesFrames done v w
     pub gives : Gives frames count done
     pub left : (f : ℕ) → has f w.frames ≡ (if is_below count frames f then false else has f v.frames)
+    pub table : IsAlone v → (g : ℕ) → g < count → g < bundles_of v.start.frames → KnowsGiven frames g v w
+    pub rest : IsAlone v → (g : ℕ) → count ≤ g → g < bundles_of v.start.frames → word_at w (places.Bundle g) ≡ word_at v (places.Bundle g)
+
+  -- a bundle that the next step is not on
+  given-on : (frames : List ℕ) (g j : ℕ) (u v w : View X) → w.start ≡ v.start → v.start ≡ u.start → KnowsElse (λ at. at ≡ places.Bundle g) v w → j < g → j < bundles_of u.start.frames → KnowsGiven frames j u v → KnowsGiven frames j u w
+  given-on frames g j u v w start before others low inside k =
+      let ne : places.Bundle j ≡ places.Bundle g → ⊥ = λ e. (let same : j ≡ g = cc in omega (arith, low, same)) in
+      let there : j < bundles_of v.start.frames = subst (λ (o : Origin). j < bundles_of o.frames) (sym before) inside in
+      ⊎_elim
+      (λ none. inl (none.0, others.words (places.Bundle j) there ne ∙ none.1))
+      (λ some. inr (some.0, some.1, at-then (λ at. at ≡ places.Bundle g) (places.Bundle j) _ v w start others there ne some.2))
+      k
 
 module _ {X : Type 0} (frames : List ℕ) (g mask : ℕ) (u v : View X) (below : AreGivenBelow frames g u v) (bits : (f : ℕ) → in_mask g mask f ≡ is_of g frames f) where
   -- those of the next bundle are still held
@@ -83,11 +99,26 @@ module _ {X : Type 0} (frames : List ℕ) (g mask : ℕ) (u v : View X) (below :
       let moves : MovesFrames (did ∷ []) v w = moved-by did g (without_all (frames_in g mask) v.frames) v.contents v w refl (subst (λ (o : Origin). g < bundles_of o.frames) (sym below.moves.start) inside) t.brings (λ f a b. refl) in
       let next : suc g ≡ g + 1 = omega arith in
       let done : List Did = below.done ++ did ∷ [] in
+      let others : IsAlone v → KnowsElse (λ at. at ≡ places.Bundle g) v w =
+      λ a. else-knows (λ at. at ≡ places.Bundle g) (did ∷ []) [] v w moves.start moves.runs ((subst (λ (o : Origin). g < bundles_of o.frames) (sym below.moves.start) inside, inr refl), tt) a in
+      let now : IsAlone u → IsAlone v = still-alone u v below.moves.parts below.moves.alone.current in
       record {
         done = done;
         moves = moved-then below.done (did ∷ []) u v w below.moves moves (λ f a b. had (is_of g frames f) (has f v.frames) (sym (left f) ∙ b));
         gives = subst (λ n. Gives frames n done) next (below.done, did ∷ [], refl, below.gives, some mask found bits refl);
         left = λ f. left f ∙ ap (λ b. if is_of g frames f then false else b) (below.left f) ∙ below-more g frames f (has f u.frames);
+        table = λ a j low in'.
+            ⊎_elim
+            (λ (l : j < g). given-on frames g j u v w moves.start below.moves.start (others (now a)) l in' (below.table a j l in'))
+            (λ (h : g ≤ j).
+            let same : g ≡ j = omega (arith, low, h) in
+            let found-is : found ≡ word_at u (places.Bundle g) = found-known did found None [] [] v _ w t.brings refl (now a) ∙ below.rest a g (omega arith) inside in
+            subst (λ n. KnowsGiven frames n u w) same
+            (inr (mask, bits, (λ inside-w. last-known [] did (bit_or found mask) [] v w moves.start moves.runs refl (now a) inside-w ∙ ap (λ n. bit_or n mask) found-is))))
+            (cases_lt j g);
+        rest = λ a j high in'.
+            let ne : places.Bundle j ≡ places.Bundle g → ⊥ = λ e. (let same : j ≡ g = cc in omega (arith, high, same)) in
+            (others (now a)).words (places.Bundle j) (subst (λ (o : Origin). j < bundles_of o.frames) (sym below.moves.start) in') ne ∙ below.rest a j (omega (arith, high)) in';
       }
     where
       had : (gone old : Bool) → (if gone then false else old) ≡ true → old ≡ true
@@ -105,6 +136,14 @@ module _ {X : Type 0} (frames : List ℕ) (g mask : ℕ) (u v : View X) (below :
         gives = subst (λ n. Gives frames n below.done) next (below.done, [], sym (append-none below.done), below.gives, none clear refl);
         left = λ f.
             ap (λ b. if b then false else has f v.frames) (sym (clear f)) ∙ ap (λ b. if is_of g frames f then false else b) (below.left f) ∙ below-more g frames f (has f u.frames);
+        table = λ a j low in'.
+            ⊎_elim
+            (λ (l : j < g). below.table a j l in')
+            (λ (h : g ≤ j).
+            let same : g ≡ j = omega (arith, low, h) in
+            subst (λ n. KnowsGiven frames n u v) same (inl (clear, below.rest a g (omega arith) (subst (λ n. n < bundles_of u.start.frames) (sym same) in'))))
+            (cases_lt j g);
+        rest = λ a j high in'. below.rest a j (omega (arith, high)) in';
       }
 
 module _ {X : Type 0} (frames : List ℕ) (n : ℕ) (u w : View X) (all : n ≡ bundles_of u.start.frames) where
@@ -114,6 +153,7 @@ module _ {X : Type 0} (frames : List ℕ) (n : ℕ) (u w : View X) (all : n ≡ 
     done = below.done;
     moves = below.moves;
     gives = subst (λ k. Gives frames k below.done) all below.gives;
+    table = λ a g low. below.table a g (subst (λ k. g < k) (sym all) low) low;
     left = λ f. below.left f ∙ ap (λ b. if b then false else has f u.frames) (same f);
   }
     where

@@ -1,5 +1,5 @@
 -- A walk over the bundles, a visit at a time: each that was passed by adds its steps; where the bits of one were lost, they are the evidence.
-use Rattle.std.proofs.Common.{ℕ, ◌≡◌, ◌≢◌, ◌+◌, ◌-◌, ◌*◌, ◌<◌, ◌≤◌, ◌++◌, ◌%◌, ◌/◌, min, true, false, List, [], ◌∷◌, Option, Some, None, zero, suc, length, refl, sym, ap, subst, ◌∙◌, ⊎_elim, arith, append_assoc, bit_xor, if◌then◌else◌}
+use Rattle.std.proofs.Common.{ℕ, ◌≡◌, ◌≢◌, ◌+◌, ◌-◌, ◌*◌, ◌<◌, ◌≤◌, ◌++◌, ◌%◌, ◌/◌, min, true, false, List, [], ◌∷◌, Option, Some, None, zero, suc, length, refl, sym, ap, subst, ◌∙◌, inl, inr, ⊎_elim, arith, append_assoc, bit_xor, if◌then◌else◌}
 use Rattle.std.proofs.Math.Nat.{add-mod-mod, add-mod_right, mod-add-mod, mod-eq_of_lt, mod-lt}
 use Rattle.std.proofs.lemmas.Bool.{ne_eqb, eq-eqb, or_left, cases_Bool, cases_lt, true≢false}
 use Rattle.std.proofs.lemmas.Option.{none-some}
@@ -10,7 +10,7 @@ use Rattle.vm_rule.specs.declared.view.Place.{Place}
 use Rattle.vm_rule.specs.declared.view.Origin.{Origin}
 use Rattle.vm_rule.specs.declared.view.Place.TheVariants as places
 use Rattle.vm_rule.specs.declared.view.View.{View}
-use Rattle.vm_rule.specs.Layout.{bundles_of}
+use Rattle.vm_rule.specs.Layout.{bundles_of, index_of}
 use Rattle.vm_rule.specs.Views.{Each}
 use Rattle.vm_rule.specs.Log.{did_load, did_exchange}
 use Rattle.vm_rule.specs.Bundles.{frames_in, BundleTold, TakeTold, taken_view, with_contents}
@@ -25,10 +25,12 @@ use Rattle.vm_step.specs.Alone.{IsAlone, word_at}
 use Rattle.vm_step.specs.Evidence.{IsSaw, NoneExpected, NoWord, WhyAgain, place_of}
 use Rattle.vm_step.specs.Evidence.Begins.{read}
 use Rattle.vm_exmap.specs.Frames.{AreHeld, MovesFrames}
-use Rattle.vm_exmap.specs.Walks.{Asks, PassesBy, Walks, Dry, IsDry, bundle_at}
+use Rattle.vm_exmap.specs.Walks.{Asks, PassesBy, TakesBits, Walks, Dry, IsDry, bundle_at}
 use Rattle.vm_exmap.specs.Walks.PassesBy.{empty, lost}
 use Rattle.vm_exmap.specs.Visits.{IsEmptyVisit, IsLostVisit, IsTakenVisit, IsFound, IsLostWalk}
 use Rattle.vm_step.proofs.Alone.{found-known, same-word, still-alone, words-known}
+use Rattle.vm_step.specs.Tables.{KnowsElse}
+use Rattle.vm_step.proofs.Tables.{else-knows, else-same, else-then, follows-inside, last-known}
 use Rattle.vm_exmap.proofs.FrameMoves.{moved-by, moved-nothing, moved-then}
 use Rattle.vm_exmap.proofs.Handing.{each-has}
 
@@ -112,6 +114,23 @@ module _ {X : Type 0} (g word : ℕ) (u v : View X) (told : BundleTold g word u 
             held = each-has (λ f. has f w.frames ≡ true) (frames_in g mask) (λ f e. ap (has f) frames ∙ has-both f (frames_in g mask) v.frames ∙ or_left (has f (frames_in g mask)) (has f v.frames) e);
           };
           some = frames_there;
+          table = λ a.
+              let known : word ≡ word_at u (places.Bundle g) = (load-known a).0 in
+              let done : List Did = did_load (places.Bundle g) word ∷ did ∷ [] in
+              let both : MovesFrames done u w = moved-then (did_load (places.Bundle g) word ∷ []) (did ∷ []) u v w loaded moves (λ f a c. subst (λ (l : List ℕ). has f l ≡ true) (sym same-frames) a) in
+              let there : index_of u.start (places.Bundle g) < length u.snapshot.words =
+              follows-inside u.start done u.snapshot.words w.snapshot.words (places.Bundle g) word (both.runs.words a.0 a.1)
+              (record { earlier = []; step = did_load (places.Bundle g) word; later = did ∷ []; cut = refl; gives = (refl, refl) }) some in
+              let others : KnowsElse (λ at. at ≡ places.Bundle g) u w =
+              else-knows (λ at. at ≡ places.Bundle g) done [] u w both.start both.runs ((inside, inl refl), ((inside, inr refl), tt)) a in
+              let wrote : did.wrote ≡ Some (bit_xor word mask) = ap (λ hit. if hit then Some (bit_xor word mask) else None) (eq-eqb word word refl) in
+              let still : index_of w.start (places.Bundle g) < length w.snapshot.words =
+              subst (λ (o : Origin). index_of o (places.Bundle g) < length w.snapshot.words) (sym both.start) (subst (λ (n : ℕ). index_of u.start (places.Bundle g) < n) (sym others.count) there) in
+              record {
+                lowest = subst (λ (n : ℕ). AreLowest n most mask) known low;
+                left = last-known (did_load (places.Bundle g) word ∷ []) did (bit_xor word mask) [] u w both.start both.runs wrote a still ∙ ap (λ (n : ℕ). bit_xor n mask) known;
+                others = others;
+              };
         }
 
 -- ---- the walk
@@ -273,6 +292,15 @@ module _ {X : Type 0} (most home k g : ℕ) (last : Option Saw) (u v w : View X)
       frames = at.frames ∙ ap (λ (l : List ℕ). frames_in g mask ++ l) way.frames;
       new = subst (λ (l : List ℕ). Each (λ f. has f l ≡ false) (frames_in g mask)) way.frames at.new;
     };
+    table = λ a.
+        let same : v.snapshot.words ≡ u.snapshot.words = (way.known a).1 in
+        let bits : TakesBits most g mask v w = at.table (still-alone u v way.moves.parts way.moves.alone.current a) in
+        let before : word_at v (places.Bundle g) ≡ word_at u (places.Bundle g) = same-word u v way.moves.start same (places.Bundle g) in
+        record {
+          lowest = subst (λ (n : ℕ). AreLowest n most mask) before bits.lowest;
+          left = bits.left ∙ ap (λ (n : ℕ). bit_xor n mask) before;
+          others = else-then (λ at. at ≡ places.Bundle g) u v w way.moves.start (else-same (λ at. at ≡ places.Bundle g) u v way.moves.start same) bits.others;
+        };
     are = are;
     held = subst (λ (l : List ℕ). AreHeld l w) (sym are) at.held;
     some = subst (λ (l : List ℕ). 1 ≤ length l) (sym are) at.some;
@@ -294,7 +322,7 @@ module _ {X : Type 0} (most home n : ℕ) (u v : View X) (all : n ≡ bundles_of
   pub walked-dry : IsUnderWay most home n None u v → IsDry home [] [] u v
   walked-dry way = record {
     done = way.done;
-    refused = record { none = refl; same = refl; moves = way.moves; frames = way.frames };
+    refused = record { none = refl; same = refl; moves = way.moves; frames = way.frames; table = λ a. (way.known a).1 };
     walk = subst (λ i. Dry home (bundles_of u.start.frames) i way.done) all way.last;
     known = λ a g below.
         let r = reaches home (bundles_of u.start.frames) g below in
@@ -306,7 +334,7 @@ module _ {X : Type 0} (most home n : ℕ) (u v : View X) (all : n ≡ bundles_of
   pub walked-lost : (saw : Saw) → IsUnderWay most home n (Some saw) u v → IsLostWalk most home saw u v
   walked-lost saw way = record {
     done = way.done;
-    refused = record { none = refl; same = refl; moves = way.moves; frames = way.frames };
+    refused = record { none = refl; same = refl; moves = way.moves; frames = way.frames; table = λ a. (way.known a).1 };
     walk = subst (λ i. Walks most home (bundles_of u.start.frames) i way.done) all way.walk;
     g = way.last.0;
     at = way.last.1;

@@ -2,15 +2,28 @@
 use Rattle.std.specs.Prelude.{ℕ, true, List, [], ◌++◌, ◌≡◌, ◌≢◌, ◌⊎◌, ◌<◌}
 use Rattle.vm_owner.specs.Numbers.{has}
 use Rattle.vm_rule.specs.declared.view.Did.{Did}
+use Rattle.vm_rule.specs.declared.view.Origin.{Origin}
+use Rattle.vm_rule.specs.declared.view.Place.{Place}
 use Rattle.vm_rule.specs.declared.view.Place.TheVariants as places
 use Rattle.vm_rule.specs.declared.view.View.{View}
 use Rattle.vm_rule.specs.Layout.{bundles_of}
 use Rattle.vm_rule.specs.Views.{StartsWith, Each, IsLocking, seat_of}
 use Rattle.vm_rule.specs.Reading.{last_of}
 use Rattle.vm_rule.specs.Mappings.{contents_at}
-use Rattle.vm_step.specs.Alone.{IsAlone, word_at}
+use Rattle.vm_step.specs.Alone.{IsAlone, RunsAlone, word_at}
 use Rattle.vm_step.specs.Asides.{StaysAlone}
+use Rattle.vm_step.specs.Tables.{KnowsElse}
 pub use Rattle.vm_step.specs.HeldFrames.{AreHeld}
+
+-- the place is a bundle's word
+abbrev pub IsBundleOf : Origin → Place → Type 0
+IsBundleOf start (places.State p) = ⊥
+IsBundleOf start (places.Translation p) = ⊥
+IsBundleOf start (places.Fault p) = ⊥
+IsBundleOf start (places.Content f i) = ⊥
+IsBundleOf start (places.Bundle g) = g < bundles_of start.frames
+IsBundleOf start places.Next = ⊥
+IsBundleOf start places.Hand = ⊥
 
 module _ {X : Type 0} where
   -- the interface has a frame, or some bundle has one, as the pass knows the table
@@ -35,9 +48,9 @@ module _ {X : Type 0} where
     -- the words of a frame that the pass had and has are as they were
     pub contents : (f : ℕ) → has f v.frames ≡ true → has f w.frames ≡ true → contents_at w f ≡ contents_at v f
     pub alone : StaysAlone v w
-    -- a pass that is alone knows the pages' state words as before
-    pub states : IsAlone v → (p : ℕ) → p < v.start.pages → word_at w (places.State p) ≡ word_at v (places.State p)
-    -- and the next word
-    pub next : IsAlone v → word_at w places.Next ≡ word_at v places.Next
-    -- no step is on a page's state word
-    pub leaves : Each (λ d. (p : ℕ) → d.at ≢ places.State p) done
+    -- nothing was released; of a pass that is alone the steps made all that happened to the table's words
+    pub runs : RunsAlone done [] v w
+    -- each step is on a bundle's word
+    pub steps : Each (λ d. IsBundleOf v.start d.at) done
+    -- so a pass that was alone knows all words but the bundles' as before
+    pub table : IsAlone v → KnowsElse (IsBundleOf v.start) v w

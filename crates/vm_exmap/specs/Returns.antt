@@ -1,5 +1,5 @@
 -- How frames go back to the bundles: for each bundle that has some of them, by rising number, one step that sets their bits.
-use Rattle.std.specs.Prelude.{ℕ, Bool, false, List, [], ◌∷◌, ◌++◌, ◌≡◌, ◌-◌, ◌/◌, ◌==◌, ◌&&◌, zero, suc, length, bit_or, min, if◌then◌else◌}
+use Rattle.std.specs.Prelude.{ℕ, Bool, false, List, [], ◌∷◌, ◌++◌, ◌≡◌, ◌⊎◌, ◌-◌, ◌/◌, ◌<◌, ◌==◌, ◌&&◌, zero, suc, length, bit_or, min, if◌then◌else◌}
 use Rattle.vm_core.specs.Words.{in_mask}
 use Rattle.vm_core.specs.declared.words.TheConstants.{FRAMES}
 use Rattle.vm_owner.specs.Numbers.{has}
@@ -8,6 +8,8 @@ use Rattle.vm_rule.specs.declared.view.Place.TheVariants as places
 use Rattle.vm_rule.specs.declared.view.View.{View}
 use Rattle.vm_rule.specs.Layout.{bundles_of}
 use Rattle.vm_rule.specs.Log.{did_change}
+use Rattle.vm_step.specs.Alone.{IsAlone, word_at}
+use Rattle.vm_step.specs.Tables.{KnowsAt}
 use Rattle.vm_exmap.specs.Frames.{MovesFrames}
 
 -- the frame is one of these, and of bundle g
@@ -25,12 +27,21 @@ Gives frames zero done = done ≡ []
 Gives frames (suc g) done = (before : List Did) × (steps : List Did) × (done ≡ before ++ steps) × Gives frames g before × GivesTo frames g steps
 
 module _ {X : Type 0} where
+  -- what the pass knows of the word of bundle g: it is as before, where none of these frames is of the bundle; else it has their bits too, where
+  -- the table has the bundle
+  abbrev pub KnowsGiven : List ℕ → ℕ → View X → View X → Type 0
+  KnowsGiven frames g v w =
+      (((f : ℕ) → is_of g frames f ≡ false) × (word_at w (places.Bundle g) ≡ word_at v (places.Bundle g)))
+      ⊎ ((mask : ℕ) × ((f : ℕ) → in_mask g mask f ≡ is_of g frames f) × KnowsAt (places.Bundle g) (bit_or (word_at v (places.Bundle g)) mask) w)
+
   -- these frames went back to the bundles, and no others
   pub record AreGiven (frames : List ℕ) (v w : View X) : Type 0 where
     pub done : List Did
     pub moves : MovesFrames done v w
     pub gives : Gives frames (bundles_of v.start.frames) done
     pub left : (f : ℕ) → has f w.frames ≡ (if has f frames then false else has f v.frames)
+    -- what a pass that was alone knows of the bundles' words; all others are as before (`moves`)
+    pub table : IsAlone v → (g : ℕ) → g < bundles_of v.start.frames → KnowsGiven frames g v w
 
   -- an interface with the frames `old` was handed these frames: it keeps the first ones up to its cap, and the others went back
   pub record IsFreed (cap : ℕ) (old frames new : List ℕ) (v w : View X) : Type 0 where

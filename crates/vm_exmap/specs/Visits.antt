@@ -17,7 +17,7 @@ use Rattle.vm_exmap.specs.declared.walk.Visited.TheVariants as visits
 use Rattle.vm_step.specs.Alone.{IsAlone, word_at}
 use Rattle.vm_step.specs.Evidence.{IsSaw, NoneExpected, NoWord}
 use Rattle.vm_exmap.specs.Frames.{AreHeld, MovesFrames}
-use Rattle.vm_exmap.specs.Walks.{Asks, Walks, TakesFrom, IsRefused, IsDry}
+use Rattle.vm_exmap.specs.Walks.{Asks, Walks, TakesBits, TakesFrom, IsRefused, IsDry}
 
 module _ {X : Type 0} where
   -- ---- one bundle
@@ -51,6 +51,7 @@ module _ {X : Type 0} where
     pub new : Each (λ f. has f v.frames ≡ false) (frames_in g mask)
     pub held : AreHeld (frames_in g mask) w
     pub some : 1 ≤ length (frames_in g mask)
+    pub table : IsAlone v → TakesBits most g mask v w
 
   -- what came of a visit to bundle g
   abbrev pub IsVisited : ℕ → ℕ → View X → View X → Visited → Type 0
@@ -67,6 +68,7 @@ module _ {X : Type 0} where
     pub g : ℕ
     pub mask : ℕ
     pub takes : TakesFrom most home g mask done v w
+    pub table : IsAlone v → TakesBits most g mask v w
     pub are : frames ≡ frames_in g mask
     pub held : AreHeld frames w
     pub some : 1 ≤ length frames

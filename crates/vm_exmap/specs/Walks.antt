@@ -15,6 +15,7 @@ use Rattle.vm_exmap.specs.declared.interface.Alloc.{Alloc}
 use Rattle.vm_exmap.specs.declared.interface.Alloc.TheVariants as allocs
 use Rattle.vm_step.specs.Alone.{IsAlone, word_at}
 use Rattle.vm_step.specs.Evidence.{IsSaw, NoneExpected, NoWord}
+use Rattle.vm_step.specs.Tables.{KnowsElse, KnowsSame}
 use Rattle.vm_exmap.specs.Frames.{MovesFrames}
 
 -- the k-th bundle of the walk
@@ -69,6 +70,13 @@ module _ {X : Type 0} where
     pub frames : w.frames ≡ frames_in g mask ++ v.frames
     pub new : Each (λ f. has f v.frames ≡ false) (frames_in g mask)
 
+  -- what a pass that was alone knows of the words: in that of bundle g the lowest bits asked for were set, and are not any more; all others are
+  -- as before
+  pub record TakesBits (most g mask : ℕ) (v w : View X) : Type 0 where
+    pub lowest : AreLowest (word_at v (places.Bundle g)) most mask
+    pub left : word_at w (places.Bundle g) ≡ bit_xor (word_at v (places.Bundle g)) mask
+    pub others : KnowsElse (λ at. at ≡ places.Bundle g) v w
+
   -- the interface had frames: the first of them are handed out, with no step
   pub record IsOwn (n : ℕ) (old batch new : List ℕ) (v w : View X) : Type 0 where
     pub some : old ≢ []
@@ -83,6 +91,7 @@ module _ {X : Type 0} where
     pub g : ℕ
     pub mask : ℕ
     pub takes : TakesFrom (max n cap) home g mask done v w
+    pub table : IsAlone v → TakesBits (max n cap) g mask v w
     pub hands : HandsOut n (frames_in g mask) batch new
 
   -- nothing was taken
@@ -91,6 +100,7 @@ module _ {X : Type 0} where
     pub same : new ≡ []
     pub moves : MovesFrames done v w
     pub frames : w.frames ≡ v.frames
+    pub table : KnowsSame v w
 
   -- each bundle's word was 0 when it was loaded
   pub record IsDry (home : ℕ) (old new : List ℕ) (v w : View X) : Type 0 where

@@ -1,5 +1,5 @@
 -- The release of a page that was found evicted and locked: nothing but its version is another then, and the pass holds what it held.
-use Rattle.std.proofs.Common.{ℕ, ◌≡◌, ◌≢◌, ◌≤◌, ◌<◌, ◌+◌, ◌++◌, if◌then◌else◌, true, false, List, [], ◌∷◌, Option, Some, None, refl, sym, ap, ◌∙◌, inl, arith, ⊎_elim, append_assoc}
+use Rattle.std.proofs.Common.{ℕ, ◌≡◌, ◌≢◌, ◌≤◌, ◌<◌, ◌+◌, ◌++◌, if◌then◌else◌, true, false, List, [], ◌∷◌, Option, Some, None, length, refl, sym, ap, subst, ◌∙◌, inl, inr, arith, ⊎_elim, append_assoc}
 use Rattle.std.proofs.lemmas.Bool.{false≢true, cond-false}
 use Rattle.vm_core.specs.declared.event.Seat.{Seat}
 use Rattle.vm_core.specs.Words.{word_of, UNLOCKED, EVICTED, MAX_VERSION}
@@ -11,30 +11,41 @@ use Rattle.vm_owner.specs.Numbers.{has, without}
 use Rattle.vm_owner.proofs.NumberLemmas.{without-none}
 use Rattle.vm_rule.specs.declared.view.Did.{Did}
 use Rattle.vm_rule.specs.declared.view.Origin.{Origin}
+use Rattle.vm_rule.specs.declared.view.Place.{Place}
 use Rattle.vm_rule.specs.declared.view.Place.TheVariants as places
 use Rattle.vm_rule.specs.declared.view.Release.{Release}
 use Rattle.vm_rule.specs.declared.view.View.{View}
 use Rattle.vm_rule.specs.Puts.{put, put_at}
-use Rattle.vm_rule.specs.Views.{IsLocking, seat_of, draft_of}
+use Rattle.vm_rule.specs.Layout.{Within}
+use Rattle.vm_rule.specs.Views.{Each, IsLocking, seat_of, draft_of}
 use Rattle.vm_rule.specs.Reading.{last_in, last_of}
 use Rattle.vm_rule.specs.Brought.{Brings}
 use Rattle.vm_rule.specs.Log.{did_store}
 use Rattle.vm_rule.specs.Releases.{EvictTold, ReleaseTold, next_after}
-use Rattle.vm_rule.proofs.Entries.{append-none}
+use Rattle.vm_rule.proofs.Entries.{append-none, each-map}
 use Rattle.vm_rule.proofs.Worlds.{last-is, release-here}
+use Rattle.vm_step.specs.Alone.{IsAlone, RunsAlone}
 use Rattle.vm_step.specs.Asides.{IsAside}
+use Rattle.vm_step.specs.Evidence.{HasGiven}
+use Rattle.vm_step.specs.Tables.{KnowsElse}
 use Rattle.vm_step.specs.Works.{Leaves, Works}
-use Rattle.vm_step.proofs.Alone.{stays-alone}
+use Rattle.vm_step.proofs.Alone.{runs-one, runs-then, stays-alone}
 use Rattle.vm_step.proofs.Asides.{alone-release, alone-then}
 use Rattle.vm_step.proofs.Evidenced.{given-front, next-stays}
 use Rattle.vm_step.proofs.Leaves.{aside-of, leaves-released, leaves-then}
-use Rattle.vm_fault.specs.Fetches.{IsReleasedAs}
+use Rattle.vm_step.proofs.Tables.{else-knows, follows-inside, last-known}
+use Rattle.vm_fault.specs.Fetches.{IsReleasedAs, KnowsReleased}
 use Rattle.vm_fault.proofs.Evicted.{IsHeldEmpty}
 
 -- an unlocked word is its version
 pub unlocked-is : (version : ℕ) → version ≡ word_of UNLOCKED version
 unfolding word_of
 unlocked-is version = omega arith
+
+-- an evicted page's word is not 0
+evicted-some : (version : ℕ) → word_of EVICTED version ≢ 0
+unfolding word_of
+evicted-some version e = omega (arith, e)
 
 module _ {X : Type 0} (p version : ℕ) (words : List ℕ) (before more : List Did) (v x f : View X) (h : IsHeldEmpty p version words before v x) (k : Works p more x f) where
   pub still-owns : (seat_of f p).exclusive ≡ true
@@ -113,9 +124,32 @@ module _ {X : Type 0} (p version : ℕ) (words : List ℕ) (before more : List D
       ends-aside out =
           aside-of p all v w (leaves-then p all-before (end-did ∷ []) v f w so-far one) (ap (λ (y : View X). y.out) b.view ∙ out)
           record { shares = shares-now; exclusive = ap (λ (s : Seat). s.exclusive) seat-now ∙ sym h.before.0; writing = writing-now } (λ l. absurd (not-before l))
-          (alone-then v x w h.leaves.parts h.alone
+          (alone-then v x w h.leaves.parts (stays-alone before v x h.leaves.start h.runs)
           (alone-then x f w k.leaves.parts (stays-alone more x f k.leaves.start k.alone)
           (alone-release end-did p (version + 1) (draft_of f p) [] f end-inner w b refl (still-draft ∙ ap (λ (y : Version). y.words) (sym still-last)))))
+
+      -- the page is released once
+      pub ends-runs : RunsAlone all (record { page = p; version = version + 1; words = words } ∷ []) v w
+      ends-runs =
+          subst (λ (l : List ℕ). RunsAlone all (record { page = p; version = version + 1; words = l } ∷ []) v w) still-draft
+          (runs-then all-before (end-did ∷ []) [] (end-release ∷ []) v f w so-far.start so-far.parts (runs-then before more [] [] v x f h.leaves.start h.leaves.parts h.runs k.alone)
+          (runs-one end-did None (end-release ∷ []) [] f end-inner w b))
+
+      start-now : w.start ≡ v.start
+      start-now = ap (λ (y : View X). y.start) b.view ∙ so-far.start
+
+      -- a pass that was alone knows the page's word, and all words but those at the places of the steps
+      pub ends-knows : (touched : Place → Type 0) → ((at : Place) → touched at → Within v.start at) → Each (λ (d : Did). touched d.at) all → IsAlone v → KnowsReleased touched state p version v w
+      ends-knows touched inside steps a =
+          let others : KnowsElse touched v w =
+          else-knows touched all (record { page = p; version = version + 1; words = words } ∷ []) v w start-now ends-runs (each-map _ _ (λ (d : Did) t. (inside d.at t, inr t)) all steps) a in
+          let found : HasGiven all (places.State p) (word_of EVICTED version) = given-front all-before (end-did ∷ []) (places.State p) (word_of EVICTED version) (given-front before more (places.State p) (word_of EVICTED version) h.found) in
+          let there : p < length v.snapshot.words = follows-inside v.start all v.snapshot.words w.snapshot.words (places.State p) (word_of EVICTED version) (ends-runs.words a.0 a.1) found (evicted-some version) in
+          record {
+            before = h.known a;
+            now = last-known all-before end-did wrote (record { page = p; version = version + 1; words = words } ∷ []) v w start-now ends-runs refl a (subst (λ (n : ℕ). p < n) (sym others.count) there) ∙ spelled;
+            others = others;
+          }
 
       abbrev since : List Release
       since = so-far.releases.0 ++ b.between
@@ -164,9 +198,21 @@ module _ {X : Type 0} (p version : ℕ) (words : List ℕ) (before more : List D
       pub unlocked-released : IsReleasedAs UNLOCKED p version words (all-before ++ did_store (places.State p) (version + 1) ∷ []) v w
       unlocked-released = ends-released UNLOCKED (version + 1) (unlocked-is (version + 1)) below same-group (without p f.owed) (next_after p f.next) (f.mine ++ []) w t.brings group-stays (append-none f.mine)
 
+      pub unlocked-runs : RunsAlone (all-before ++ did_store (places.State p) (version + 1) ∷ []) (record { page = p; version = version + 1; words = words } ∷ []) v w
+      unlocked-runs = ends-runs UNLOCKED (version + 1) (unlocked-is (version + 1)) below same-group (without p f.owed) (next_after p f.next) (f.mine ++ []) w t.brings group-stays (append-none f.mine)
+
+      pub unlocked-knows : (touched : Place → Type 0) → ((at : Place) → touched at → Within v.start at) → Each (λ (d : Did). touched d.at) (all-before ++ did_store (places.State p) (version + 1) ∷ []) → IsAlone v → KnowsReleased touched UNLOCKED p version v w
+      unlocked-knows = ends-knows UNLOCKED (version + 1) (unlocked-is (version + 1)) below same-group (without p f.owed) (next_after p f.next) (f.mine ++ []) w t.brings group-stays (append-none f.mine)
+
     module _ (t : EvictTold p version f w) where
       pub evicted-aside : f.out ≡ v.out → IsAside p (all-before ++ did_store (places.State p) (word_of EVICTED (version + 1)) ∷ []) v w
       evicted-aside = ends-aside EVICTED (word_of EVICTED (version + 1)) refl below f.pending f.owed (next_after p f.next) f.mine w t.brings (refl, refl, next-stays p f.next still-next) refl
 
       pub evicted-released : IsReleasedAs EVICTED p version words (all-before ++ did_store (places.State p) (word_of EVICTED (version + 1)) ∷ []) v w
       evicted-released = ends-released EVICTED (word_of EVICTED (version + 1)) refl below f.pending f.owed (next_after p f.next) f.mine w t.brings (refl, refl, next-stays p f.next still-next) refl
+
+      pub evicted-runs : RunsAlone (all-before ++ did_store (places.State p) (word_of EVICTED (version + 1)) ∷ []) (record { page = p; version = version + 1; words = words } ∷ []) v w
+      evicted-runs = ends-runs EVICTED (word_of EVICTED (version + 1)) refl below f.pending f.owed (next_after p f.next) f.mine w t.brings (refl, refl, next-stays p f.next still-next) refl
+
+      pub evicted-knows : (touched : Place → Type 0) → ((at : Place) → touched at → Within v.start at) → Each (λ (d : Did). touched d.at) (all-before ++ did_store (places.State p) (word_of EVICTED (version + 1)) ∷ []) → IsAlone v → KnowsReleased touched EVICTED p version v w
+      evicted-knows = ends-knows EVICTED (word_of EVICTED (version + 1)) refl below f.pending f.owed (next_after p f.next) f.mine w t.brings (refl, refl, next-stays p f.next still-next) refl

@@ -15,7 +15,7 @@ use Rattle.vm_rule.specs.declared.view.Origin.{Origin}
 use Rattle.vm_rule.specs.declared.view.Place.TheVariants as places
 use Rattle.vm_rule.specs.declared.view.View.{View}
 use Rattle.vm_rule.specs.Puts.{put_at}
-use Rattle.vm_rule.specs.Views.{seat_of, draft_of}
+use Rattle.vm_rule.specs.Views.{Each, seat_of, draft_of}
 use Rattle.vm_rule.specs.Reading.{last_of}
 use Rattle.vm_rule.specs.Rule.{no_held}
 use Rattle.vm_rule.specs.Brought.{Brings}
@@ -24,10 +24,12 @@ use Rattle.vm_rule.specs.Locks.{IsHeldAt, IsUnheld, locked_view}
 use Rattle.vm_rule.specs.Looks.{looked_view}
 use Rattle.vm_rule.specs.Mappings.{held_at}
 use Rattle.vm_rule.proofs.WordFacts.{word-state, word-version}
-use Rattle.vm_step.specs.Asides.{KeepsFrames, StaysAlone}
+use Rattle.vm_step.specs.Alone.{IsAlone, RunsAlone, word_at}
+use Rattle.vm_step.specs.Asides.{KeepsFrames}
 use Rattle.vm_step.specs.Evidence.{HasGiven}
 use Rattle.vm_step.specs.Works.{Leaves}
-use Rattle.vm_step.proofs.Asides.{OnlyReads, alone-silent, alone-then, look-only}
+use Rattle.vm_step.proofs.Alone.{found-known, runs-one, runs-then, same-word, still-alone, words-known}
+use Rattle.vm_step.proofs.Asides.{OnlyReads, look-only}
 use Rattle.vm_step.proofs.Leaves.{leaves-quiet, leaves-then}
 use Rattle.vm_fault.specs.Fetches.{IsFoundEvicted}
 
@@ -35,7 +37,9 @@ module _ {X : Type 0} where
   -- the pass, which had none of page p at v, holds it exclusively at x: it is not resident, its draft is its last words, and its block has them
   pub record IsHeldEmpty (p version : ℕ) (words : List ℕ) (done : List Did) (v x : View X) : Type 0 where
     pub leaves : Leaves p done v x
-    pub alone : StaysAlone v x
+    pub runs : RunsAlone done [] v x
+    pub steps : Each (λ d. d.at ≡ places.State p) done
+    pub known : IsAlone v → word_at v (places.State p) ≡ word_of EVICTED version
     pub found : HasGiven done (places.State p) (word_of EVICTED version)
     pub before : ((seat_of v p).exclusive ≡ false) × ((seat_of v p).shares ≡ 0)
     pub shares : (seat_of x p).shares ≡ (seat_of v p).shares
@@ -133,7 +137,13 @@ module _ {X : Type 0} where
             held = λ q ne. upd-other (put_at no_held f.between.held) p f.lock.held q ne;
             drafts = λ q ne. upd-other (put_at [] f.between.drafts) p words q ne;
           });
-      alone = alone-then v f.between x looked.aside.parts looked.aside.alone (alone-silent lock-did None [] f.between lock-inner x brings refl);
+      runs = runs-then (look-did ∷ []) (lock-did ∷ []) [] [] v f.between x looked.aside.start looked.aside.parts
+          (runs-one look-did None [] _ v _ f.between f.look.brings) (runs-one lock-did None [] [] f.between lock-inner x brings);
+      steps = (refl, (refl, tt));
+      known = λ a.
+          let now : IsAlone f.between = still-alone v f.between looked.aside.parts looked.aside.alone.current a in
+          let there : expects ≡ word_at f.between (places.State p) = found-known lock-did expects None [] [] f.between lock-inner x brings refl now in
+          sym (there ∙ same-word v f.between looked.aside.start (words-known look-did None [] _ v _ f.between f.look.brings refl a) (places.State p));
       found = record { earlier = look-did ∷ []; step = lock-did; later = []; cut = refl; gives = (refl, refl) };
       before = (sym (looked.aside.holds p).exclusive ∙ unheld.exclusive, sym (looked.aside.holds p).shares ∙ unheld.shares);
       shares = ap (λ (s : Seat). s.shares) seat-now ∙ (looked.aside.holds p).shares;

@@ -2,6 +2,7 @@
 use Rattle.std.proofs.Common.{ℕ, ◌≡◌, ◌<◌, ◌≤◌, ◌+◌, ◌++◌, true, false, List, [], ◌∷◌, Some, None, IsSome, length, refl, sym, ap, subst, ◌∙◌, inl, arith, slice_index, if◌then◌else◌, Bool, Result, Ok, Err, is_ok, OnOk}
 use Rattle.std.proofs.lemmas.Bool.{or_left}
 use Rattle.std.proofs.lemmas.Option.{none-some}
+use Rattle.vm_core.specs.declared.event.Seat.{Seat}
 use Rattle.vm_core.specs.Fn as fns
 use Rattle.vm_core.specs.Words.{count_more, MAX_VERSION, EVICTED, word_of}
 use Rattle.vm_core.specs.FrameActs.{trans_word}
@@ -18,7 +19,7 @@ use Rattle.vm_rule.specs.declared.view.Origin.{Origin}
 use Rattle.vm_rule.specs.declared.view.Place.TheVariants as places
 use Rattle.vm_rule.specs.declared.view.View.{View}
 use Rattle.vm_rule.specs.Puts.{put, put_at}
-use Rattle.vm_rule.specs.Views.{seat_of}
+use Rattle.vm_rule.specs.Views.{Each, seat_of}
 use Rattle.vm_rule.specs.Rule.{no_held}
 use Rattle.vm_rule.specs.Faults.{RaiseTold, notes_of}
 use Rattle.vm_rule.specs.Log.{did_store}
@@ -33,9 +34,10 @@ use Rattle.vm_step.proofs.Device.{Moves, call-did, called, counts-one, goes-out,
 use Rattle.vm_step.proofs.Evidenced.{written-behind, written-front}
 use Rattle.vm_step.proofs.Filling.{Fills, all-stored, filled, fills, stores-did}
 use Rattle.vm_step.proofs.Leaves.{works-one, works-then}
-use Rattle.vm_fault.specs.Fetches.{IsBrought, IsFailed}
-use Rattle.vm_fault.proofs.Ending.{evicted-aside, evicted-released, still-draft, still-free, still-last, still-owns, still-paid, unlocked-aside, unlocked-released}
+use Rattle.vm_fault.specs.Fetches.{IsBrought, IsFailed, IsOfBoth, IsOfPage}
+use Rattle.vm_fault.proofs.Ending.{evicted-aside, evicted-knows, evicted-released, evicted-runs, still-draft, still-free, still-last, still-owns, still-paid, unlocked-aside, unlocked-knows, unlocked-released, unlocked-runs}
 use Rattle.vm_fault.proofs.Evicted.{IsHeldEmpty}
+use Rattle.vm_fault.proofs.StepPlaces.{both-within, brought-at, brought-once, failed-at, failed-once, page-within}
 
 module _ {X : Type 0} (p version : ℕ) (words : List ℕ) (before : List Did) (v x : View X) (h : IsHeldEmpty p version words before v x) where
   -- the block may be taken out
@@ -48,7 +50,7 @@ module _ {X : Type 0} (p version : ℕ) (words : List ℕ) (before : List Did) (
     gone = goes-out p old x a o
 
     pub may-come-home : MayBring a p old new
-    may-come-home = may-bring p tells a old new page (ap (λ (y : Origin). y.tells) gone.works.leaves.start ∙ telling) result read gone.away
+    may-come-home = may-bring p tells a old new page (ap (λ (y : Origin). y.tells) gone.works.leaves.start ∙ telling) (ap (λ (s : Seat). s.exclusive) gone.works.seat ∙ h.owns) result read gone.away
 
     pub m : HomeTold p old new a d
     m = home old may-come-home
@@ -162,9 +164,12 @@ module _ {X : Type 0} (p version : ℕ) (words : List ℕ) (before : List Did) (
               };
             }
 
-        module _ (below : version < MAX_VERSION) (none : x.out ≡ None) (w : View X) (r : ReleaseTold p version [] None i w) where
+        module _ (below : version < MAX_VERSION) (none : x.out ≡ None) (w : View X) (r : ReleaseTold p version [] None i w) (inside : p < x.start.pages) (frame : f < x.start.frames) where
           abbrev end-did : Did
           end-did = did_store (places.State p) (version + 1)
+
+          steps-are : Each (λ (d : Did). IsOfBoth p f d.at) ((before ++ worked-did) ++ end-did ∷ [])
+          steps-are = brought-at p before h.steps o.first o.second m.first m.second f (trans_word (Some (clean_in f))) (version + 1) page (long u ok)
 
           pub brought : IsBrought p f v w
           brought = record {
@@ -173,6 +178,11 @@ module _ {X : Type 0} (p version : ℕ) (words : List ℕ) (before : List Did) (
             version = version;
             words = words;
             released = unlocked-released p version words before worked-did v x i h work-installed below w r;
+            steps = steps-are;
+            block = brought-once p before h.steps o.first o.second m.first m.second f (trans_word (Some (clean_in f))) (version + 1) page (long u ok);
+            alone = unlocked-runs p version words before worked-did v x i h work-installed below w r;
+            table = unlocked-knows p version words before worked-did v x i h work-installed below w r (IsOfBoth p f)
+                (both-within v.start p f (subst (λ (y : Origin). p < y.pages) h.leaves.start inside) (subst (λ (y : Origin). f < y.frames) h.leaves.start frame)) steps-are;
             mapped =
                 written-front (before ++ worked-did) (end-did ∷ []) (places.Translation p) (trans_word (Some (clean_in f)))
                 (written-behind before worked-did (places.Translation p) (trans_word (Some (clean_in f)))
@@ -230,7 +240,7 @@ module _ {X : Type 0} (p version : ℕ) (words : List ℕ) (before : List Did) (
         paid = still-paid p version words before raised-did v x y h work-raised;
       }
 
-      module _ (u : E) (err : result ≡ Err u) (bounded : new.count ≤ new.bound) (below : version < MAX_VERSION) (none : x.out ≡ None) (w : View X) (r : EvictTold p version y w) where
+      module _ (u : E) (err : result ≡ Err u) (bounded : new.count ≤ new.bound) (below : version < MAX_VERSION) (none : x.out ≡ None) (w : View X) (r : EvictTold p version y w) (inside : p < x.start.pages) where
         abbrev evict-did : Did
         evict-did = did_store (places.State p) (word_of EVICTED (version + 1))
 
@@ -252,6 +262,9 @@ module _ {X : Type 0} (p version : ℕ) (words : List ℕ) (before : List Did) (
             subst (λ (k : ℕ). notes_of p k n ≡ record { page = p; count = n } ∷ []) (sym fault)
             (subst (λ (k : ℕ). notes_of p old.count k ≡ record { page = p; count = k } ∷ []) (sym (is ∙ count)) (noted-more p old.count))
 
+        steps-of : Each (λ (d : Did). IsOfPage p d.at) ((before ++ raised-did) ++ evict-did ∷ [])
+        steps-of = failed-at p before h.steps o.first o.second m.first m.second n (word_of EVICTED (version + 1))
+
         pub failed : IsFailed p n v w
         failed = record {
           done = (before ++ raised-did) ++ evict-did ∷ [];
@@ -259,6 +272,10 @@ module _ {X : Type 0} (p version : ℕ) (words : List ℕ) (before : List Did) (
           version = version;
           words = words;
           released = evicted-released p version words before raised-did v x y h work-raised below w r;
+          steps = steps-of;
+          block = failed-once p before h.steps o.first o.second m.first m.second n (word_of EVICTED (version + 1));
+          alone = evicted-runs p version words before raised-did v x y h work-raised below w r;
+          table = evicted-knows p version words before raised-did v x y h work-raised below w r (IsOfPage p) (page-within v.start p (subst (λ (y : Origin). p < y.pages) h.leaves.start inside)) steps-of;
           raised =
               written-front (before ++ raised-did) (evict-did ∷ []) (places.Fault p) n
               (written-behind before raised-did (places.Fault p) n record { earlier = called-did; step = raise-did; later = []; cut = refl; place = refl; wrote = refl });

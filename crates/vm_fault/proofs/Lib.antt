@@ -1,4 +1,5 @@
 pub mod Evicted
 pub mod Ending
+pub mod StepPlaces
 pub mod Fetching
 pub mod Tries

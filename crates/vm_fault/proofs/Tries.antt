@@ -13,8 +13,8 @@ use Rattle.vm_rule.specs.Locks.{LockTold, locked_view}
 use Rattle.vm_rule.proofs.WordFacts.{version-within, word-made, word-state}
 use Rattle.vm_step.specs.declared.saw.At.TheVariants as ats
 use Rattle.vm_step.specs.Evidence.{EvictedExpected, HasGiven}
-use Rattle.vm_step.specs.Alone.{IsAlone, word_at}
-use Rattle.vm_step.proofs.Alone.{found-known, same-word, still-alone, words-known}
+use Rattle.vm_step.specs.Alone.{IsAlone, RunsAlone, word_at}
+use Rattle.vm_step.proofs.Alone.{found-known, runs-one, runs-then, same-word, still-alone, words-known}
 use Rattle.vm_step.proofs.Asides.{OnlyReads, look-only, lost-only, only-then}
 use Rattle.vm_step.proofs.Saws.{lost-saw}
 use Rattle.vm_fault.specs.Fetches.{IsToTry, IsWornOut}
@@ -34,11 +34,17 @@ module _ {X : Type 0} (tied : Start → ℕ → List ℕ → ℕ → List ℕ �
   look-known : IsAlone v → (word ≡ word_at v (places.State p)) × (u.snapshot.words ≡ v.snapshot.words)
   look-known a = (found-known look-did word None [] _ v _ u look.brings refl a, words-known look-did None [] _ v _ u look.brings refl a)
 
+  look-runs : RunsAlone (look-did ∷ []) [] v u
+  look-runs = runs-one look-did None [] _ v _ u look.brings
+
   pub worn-out : word ≡ word_of EVICTED MAX_VERSION → IsWornOut p v u
   worn-out e = record {
     done = look-did ∷ [];
     aside = looked.aside;
     keeps = looked.keeps;
+    steps = (refl, tt);
+    alone = look-runs;
+    table = λ a. (look-known a).1;
     found = record { earlier = []; step = look-did; later = []; cut = refl; gives = (refl, ap (λ (n : ℕ). Some n) e) };
     foreign = tt;
     known = λ a. sym (look-known a).0 ∙ e;
@@ -49,6 +55,9 @@ module _ {X : Type 0} (tied : Start → ℕ → List ℕ → ℕ → List ℕ �
     done = look-did ∷ [];
     aside = looked.aside;
     keeps = looked.keeps;
+    steps = (refl, tt);
+    alone = look-runs;
+    table = λ a. (look-known a).1;
     at = refl;
     why = inr record { given = record { earlier = []; step = look-did; later = []; cut = refl; gives = (refl, refl) }; foreign = tt; last = last; other = other-state word MAX_VERSION last (λ e. ne (e ∙ sym is)); first = is };
     known = λ a. ((look-known a).0, other-state word MAX_VERSION last (λ e. ne (e ∙ sym is)));
@@ -66,6 +75,10 @@ module _ {X : Type 0} (tied : Start → ℕ → List ℕ → ℕ → List ℕ �
         done = look-did ∷ did ∷ [];
         aside = k.aside;
         keeps = k.keeps;
+        steps = (refl, (refl, tt));
+        alone = runs-then (look-did ∷ []) (did ∷ []) [] [] v u w looked.aside.start looked.aside.parts look-runs (runs-one did None [] [] u _ w lock.brings);
+        table = λ a.
+            words-known did None [] [] u _ w lock.brings (cond-false (eqb found first) _ _ (ne_eqb found first ne)) (still-alone v u looked.aside.parts looked.aside.alone.current a) ∙ (look-known a).1;
         at = refl;
         why = inl record {
           evidence = lost-saw EvictedExpected p word first found (word_of LOCKED (version_of first)) from ne;

@@ -8,21 +8,24 @@ use Rattle.vm_core.specs.FrameActs.{trans_word}
 use Rattle.vm_owner.specs.Kept.{Start}
 use Rattle.vm_owner.specs.Numbers.{without}
 use Rattle.vm_rule.specs.declared.view.Did.{Did}
+use Rattle.vm_rule.specs.declared.view.Place.{Place}
 use Rattle.vm_rule.specs.declared.view.Place.TheVariants as places
 use Rattle.vm_rule.specs.declared.view.Release.{Release}
 use Rattle.vm_rule.specs.declared.view.View.{View}
 use Rattle.vm_rule.specs.Views.{Each}
 use Rattle.vm_rule.specs.Reading.{last_in, last_of}
 use Rattle.vm_rule.specs.Locks.{LockTold}
+use Rattle.vm_rule.specs.Log.{did_load}
 use Rattle.vm_rule.specs.Looks.{LookTold}
 use Rattle.vm_rule.specs.Mappings.{clean_in}
 use Rattle.vm_step.specs.declared.saw.At.TheVariants as ats
 use Rattle.vm_step.specs.declared.saw.Saw.{Saw}
 use Rattle.vm_fault.specs.declared.fault.Fetch.{Fetch}
 use Rattle.vm_fault.specs.declared.fault.Fetch.TheVariants as fetches
-use Rattle.vm_step.specs.Alone.{IsAlone, word_at}
+use Rattle.vm_step.specs.Alone.{IsAlone, RunsAlone, word_at}
 use Rattle.vm_step.specs.Asides.{IsAside, KeepsFrames}
 use Rattle.vm_step.specs.Evidence.{EvictedExpected, HasGiven, HasWritten, IsLost, IsSaw, NoWord}
+use Rattle.vm_step.specs.Tables.{KnowsElse, KnowsSame}
 
 -- the page was found at the last version, in a state other than evicted: no lock of it may be tried
 pub record IsWornIn (done : List Did) (p : ℕ) (saw : Saw) : Type 0 where
@@ -42,7 +45,42 @@ pub record IsLostTo (done : List Did) (p : ℕ) (saw : Saw) : Type 0 where
   pub lost : IsLost step (places.State p) saw.first saw.seen
   pub first : state_of saw.first ≡ EVICTED
 
+-- a place of page p: its state word, its translation word or its fault word
+abbrev pub IsOfPage : ℕ → Place → Type 0
+IsOfPage p (places.State q) = q ≡ p
+IsOfPage p (places.Translation q) = q ≡ p
+IsOfPage p (places.Fault q) = q ≡ p
+IsOfPage p (places.Content f i) = ⊥
+IsOfPage p (places.Bundle g) = ⊥
+IsOfPage p places.Next = ⊥
+IsOfPage p places.Hand = ⊥
+
+-- or one of frame f
+abbrev pub IsOfBoth : ℕ → ℕ → Place → Type 0
+IsOfBoth p f at = IsOfPage p at ⊎ ((i : ℕ) × (i < WORDS) × (at ≡ places.Content f i))
+
+-- no step found a word there
+abbrev pub FindsNone : Place → List Did → Type 0
+FindsNone at done = Each (λ d. d.at ≡ at → d.found ≡ None) done
+
+-- the block of page p went out of its slot once and came home once: each of these moves is two loads of the page's fault word, and there are no
+-- others
+pub record GoesOnce (p : ℕ) (done : List Did) : Type 0 where
+  pub earlier : List Did
+  pub out : ℕ × ℕ
+  pub home : ℕ × ℕ
+  pub later : List Did
+  pub cut : done ≡ earlier ++ did_load (places.Fault p) out.0 ∷ did_load (places.Fault p) out.1 ∷ did_load (places.Fault p) home.0 ∷ did_load (places.Fault p) home.1 ∷ later
+  pub none : FindsNone (places.Fault p) earlier × FindsNone (places.Fault p) later
+
 module _ {X : Type 0} where
+  -- what a pass that was alone knows then: the page was evicted at this version, its word is this one at the next, and all words but those at
+  -- the places touched are as before
+  pub record KnowsReleased (touched : Place → Type 0) (state p version : ℕ) (v w : View X) : Type 0 where
+    pub before : word_at v (places.State p) ≡ word_of EVICTED version
+    pub now : word_at w (places.State p) ≡ word_of state (version + 1)
+    pub others : KnowsElse touched v w
+
   -- a look at page p led on from v, and then the lock of the page, which was evicted at this version, to w
   pub record IsFoundEvicted (tied : Start → ℕ → List ℕ → ℕ → List ℕ → Type 0) (p version : ℕ) (v w : View X) : Type 0 where
     pub between : View X
@@ -71,6 +109,11 @@ module _ {X : Type 0} where
     pub version : ℕ
     pub words : List ℕ
     pub released : IsReleasedAs UNLOCKED p version words done v w
+    -- no step is elsewhere; the page is released once, and of a pass that is alone nothing else happened to the table's words
+    pub steps : Each (λ d. IsOfBoth p f d.at) done
+    pub block : GoesOnce p done
+    pub alone : RunsAlone done (record { page = p; version = version + 1; words = words } ∷ []) v w
+    pub table : IsAlone v → KnowsReleased (IsOfBoth p f) UNLOCKED p version v w
     pub mapped : HasWritten done (places.Translation p) (trans_word (Some (clean_in f)))
     pub stored : v.start.tells ≡ true → (i : ℕ) → i < WORDS → HasWritten done (places.Content f i) (slice_index words i)
     pub frames : w.frames ≡ without f v.frames
@@ -84,6 +127,10 @@ module _ {X : Type 0} where
     pub version : ℕ
     pub words : List ℕ
     pub released : IsReleasedAs EVICTED p version words done v w
+    pub steps : Each (λ d. IsOfPage p d.at) done
+    pub block : GoesOnce p done
+    pub alone : RunsAlone done (record { page = p; version = version + 1; words = words } ∷ []) v w
+    pub table : IsAlone v → KnowsReleased (IsOfPage p) EVICTED p version v w
     pub raised : HasWritten done (places.Fault p) count
     pub noted : w.notes ≡ v.notes ++ record { page = p; count = count } ∷ []
     pub within : (1 ≤ count) × (count ≤ fns.at 0 v.start.bounds p)
@@ -94,6 +141,9 @@ module _ {X : Type 0} where
     pub done : List Did
     pub aside : IsAside p done v w
     pub keeps : KeepsFrames v w
+    pub steps : Each (λ d. d.at ≡ places.State p) done
+    pub alone : RunsAlone done [] v w
+    pub table : KnowsSame v w
     pub at : saw.at ≡ ats.Page p
     pub why : IsLostTo done p saw ⊎ IsWornIn done p saw
     -- a pass that is alone finds the word that it knew, which is not an evicted page's
@@ -104,6 +154,9 @@ module _ {X : Type 0} where
     pub done : List Did
     pub aside : IsAside p done v w
     pub keeps : KeepsFrames v w
+    pub steps : Each (λ d. d.at ≡ places.State p) done
+    pub alone : RunsAlone done [] v w
+    pub table : KnowsSame v w
     pub found : HasGiven done (places.State p) (word_of EVICTED MAX_VERSION)
     pub foreign : Each (λ d. d.at ≡ places.State p → d.wrote ≢ Some (word_of EVICTED MAX_VERSION)) found.earlier
     -- so a pass that is alone knew

@@ -37,9 +37,9 @@ word-shows expects p word (denies.Again saw) why =
         why = inr (inl why.1);
       },
     )
-word-shows expects p word (denies.Need q) why = (why.0, record { word = word; given = one-given p word; evicted = why.1; foreign = tt })
-word-shows expects p word (denies.Crowded q) why = (why.0, record { word = word; given = one-given p word; full = why.1; foreign = tt })
-word-shows expects p word (denies.Worn q) why = (why.0, record { word = word; given = one-given p word; last = why.1; foreign = tt })
+word-shows expects p word (denies.Need q) why = (why.0, record { word = word; given = one-given p word; load = (refl, refl); evicted = why.1; foreign = tt })
+word-shows expects p word (denies.Crowded q) why = (why.0, record { word = word; given = one-given p word; load = (refl, refl); full = why.1; foreign = tt })
+word-shows expects p word (denies.Worn q) why = (why.0, record { word = word; given = one-given p word; load = (refl, refl); last = why.1; foreign = tt })
 
 module _ {X : Type 0} (tied : Start → ℕ → List ℕ → ℕ → List ℕ → Type 0) (allowed : Deny → Type 0) (instead : ℕ → ℕ → Type 0) where
   pub denied-at-once : (p word : ℕ) (d : Deny) (v w : View X) → LookTold tied p None word v w → SaysWhy p word d → allowed d → IsDenied allowed NoWord instead p d v w

@@ -60,6 +60,7 @@ pub worn-within : (p : ℕ) (pre done post : List Did) → Each (λ (d : Did). d
 worn-within p pre done post none s = record {
   word = s.word;
   given = record { earlier = pre ++ s.given.earlier; step = s.given.step; later = s.given.later ++ post; cut = between-cut pre s.given.earlier s.given.later post s.given.step done s.given.cut; gives = s.given.gives };
+  load = s.load;
   last = s.last;
   foreign = each-both _ pre s.given.earlier (each-map _ _ (λ d ne here. absurd (ne here)) pre none) s.foreign;
 }

@@ -9,13 +9,14 @@ use Rattle.std.proofs.lemmas.List.{reverse-append}
 use Rattle.vm_owner.specs.Numbers.{has, without}
 use Rattle.vm_rule.specs.declared.view.Did.{Did}
 use Rattle.vm_rule.specs.declared.view.Origin.{Origin}
+use Rattle.vm_rule.specs.declared.view.Place.{Place}
 use Rattle.vm_rule.specs.declared.view.Place.TheVariants as places
 use Rattle.vm_rule.specs.declared.view.View.{View}
 use Rattle.vm_rule.specs.Puts.{put_at}
 use Rattle.vm_rule.specs.Views.{numbers, seat_of, draft_of}
 use Rattle.vm_rule.specs.Reading.{last_of}
 use Rattle.vm_rule.specs.Brought.{Brings, set_if}
-use Rattle.vm_rule.specs.Layout.{index_of}
+use Rattle.vm_rule.specs.Layout.{Within, index_of}
 use Rattle.vm_rule.specs.Log.{did_load, did_exchange}
 use Rattle.vm_rule.specs.Locks.{IsUnheld}
 use Rattle.vm_rule.specs.Mappings.{contents_at, held_at}
@@ -28,12 +29,12 @@ use Rattle.vm_step.proofs.Evidenced.{taken-view, written-behind}
 use Rattle.vm_guard.specs.Fresh.{AreFresh, Furnishes, IsAmid, IsSeized, Seizes}
 use Rattle.vm_guard.specs.declared.exclusive.ExclusiveGuard.{ExclusiveGuard}
 use Rattle.vm_guard.specs.Guards.{IsHolding}
-use Rattle.vm_guard.specs.Sure.{KnowsAt}
-use Rattle.vm_step.specs.Alone.{IsAlone}
+use Rattle.vm_step.specs.Alone.{IsAlone, word_at}
 use Rattle.vm_step.proofs.Alone.{still-alone}
 use Rattle.vm_step.proofs.HeldFrames.{held-on}
 use Rattle.vm_guard.proofs.Amid.{IsSilent, claim-amid, claim-silent, nload-amid, nload-silent, silent-then, silent-within}
-use Rattle.vm_guard.proofs.FreshKnown.{known-on, known-states, others-known, put-known}
+use Rattle.vm_step.specs.Tables.{KnowsAt}
+use Rattle.vm_guard.proofs.FreshKnown.{known-on, known-states, known-there, others-known, put-known}
 use Rattle.vm_guard.proofs.FreshNone.{seized-on}
 use Rattle.vm_guard.proofs.FreshNumbers.{numbers-two, two-pages, apart-first, apart-second, within-first, within-second}
 use Rattle.vm_guard.proofs.Furnishing.{or-none}
@@ -228,6 +229,12 @@ module _ {X : Type 0} where
     known-second : IsAlone v → KnowsAt (places.State (x + 1)) (word_of LOCKED e2) w
     known-second k = known-last k (x + 1) (word_of LOCKED e2) b.seized.page (put-known (places.State (x + 1)) (word_of LOCKED e2) u1 u2 b.amid.start (b.table (alone-u1 k)))
 
+    page-w : (q : ℕ) → q < x + 2 → q < w.start.pages
+    page-w q l = subst (λ (o : Origin). q < o.pages) (sym steps-two.0.start) (let most = inside in omega (arith, most, l))
+
+    now : IsAlone v → (place : Place) (word : ℕ) → Within w.start place → KnowsAt place word w → word_at w place ≡ word
+    now k place word l at = known-there two (did_load places.Next x) rest-1 v w place word steps-two.0 k l at
+
     pub fresh-two : AreFresh (numbers x 2) x 2 (g1 ∷ g2 ∷ []) before after v w
     fresh-two = subst (λ (l : List ℕ). AreFresh l x 2 (g1 ∷ g2 ∷ []) before after v w) (sym (numbers-two x)) (record {
       done = did_load places.Next x ∷ rest-1;
@@ -272,12 +279,12 @@ module _ {X : Type 0} where
           (written-behind (did_load places.Next x ∷ []) rest-4 places.Next (x + 2) (written-behind f.done rest-5 places.Next (x + 2) (written-behind h.done (did ∷ []) places.Next (x + 2) wrote-2)))));
       silent = steps-two.1;
       locked = λ a. (
-        subst (λ n. KnowsAt (places.State n) (word_of LOCKED g1.version) w) (sym pid1) (subst (λ n. KnowsAt (places.State x) (word_of LOCKED n) w) (sym version-one) (known-first a)),
-        (subst (λ n. KnowsAt (places.State n) (word_of LOCKED g2.version) w) (sym pid2) (subst (λ n. KnowsAt (places.State (x + 1)) (word_of LOCKED n) w) (sym version-two) (known-second a)), tt),
+        ap (λ n. word_at w (places.State n)) pid1 ∙ now a (places.State x) (word_of LOCKED e1) (page-w x (omega arith)) (known-first a) ∙ ap (word_of LOCKED) (sym version-one),
+        (ap (λ n. word_at w (places.State n)) pid2 ∙ now a (places.State (x + 1)) (word_of LOCKED e2) (page-w (x + 1) (omega arith)) (known-second a) ∙ ap (word_of LOCKED) (sym version-two), tt),
       );
-      moved = λ a. put-known places.Next (x + 2) y w last-step.start
+      moved = λ a. now a places.Next (x + 2) tt (put-known places.Next (x + 2) y w last-step.start
           ((last-step.runs.words (alone-y2 a).0 (alone-y2 a).1).1
-          ∙ ap (λ (o : Option ℕ). set_if o (index_of y.start places.Next) y.snapshot.words) (cond-true (eqb c x) (Some (x + 2)) None (eq-eqb c x is-next-2)));
+          ∙ ap (λ (o : Option ℕ). set_if o (index_of y.start places.Next) y.snapshot.words) (cond-true (eqb c x) (Some (x + 2)) None (eq-eqb c x is-next-2))));
       others = others-known two (did_load places.Next x ∷ rest-1) v w steps-two.0;
       current = ap (λ (k : View X). k.current) claims-2.view;
     })

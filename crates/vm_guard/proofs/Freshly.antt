@@ -28,12 +28,12 @@ use Rattle.vm_step.proofs.Evidenced.{taken-view, written-behind}
 use Rattle.vm_guard.specs.Fresh.{AreFresh, Furnishes, IsAmid, IsSeized, Seizes}
 use Rattle.vm_guard.specs.declared.exclusive.ExclusiveGuard.{ExclusiveGuard}
 use Rattle.vm_guard.specs.Guards.{IsHolding}
-use Rattle.vm_guard.specs.Sure.{KnowsAt}
-use Rattle.vm_step.specs.Alone.{IsAlone}
+use Rattle.vm_step.specs.Alone.{IsAlone, word_at}
 use Rattle.vm_step.proofs.Alone.{still-alone}
 use Rattle.vm_step.proofs.HeldFrames.{held-on}
 use Rattle.vm_guard.proofs.Amid.{IsSilent, claim-amid, claim-silent, nload-amid, nload-silent, silent-then}
-use Rattle.vm_guard.proofs.FreshKnown.{known-on, known-states, others-known, put-known}
+use Rattle.vm_step.specs.Tables.{KnowsAt}
+use Rattle.vm_guard.proofs.FreshKnown.{known-on, known-states, known-there, others-known, put-known}
 use Rattle.vm_guard.proofs.FreshNone.{seized-on}
 use Rattle.vm_guard.proofs.FreshNumbers.{one-page, numbers-one}
 
@@ -99,8 +99,11 @@ module _ {X : Type 0} where
     at-claim : IsAmid [] (did_exchange places.Next x c (x + 1) ∷ []) y w
     at-claim = claim-amid [] x 1 c y w is-next claim
 
+    abbrev rest-done : List Did
+    rest-done = s.done ++ (did_load places.Next x ∷ (f.done ++ did_exchange places.Next x c (x + 1) ∷ []))
+
     abbrev all-done : List Did
-    all-done = did_load places.Next x ∷ (s.done ++ (did_load places.Next x ∷ (f.done ++ did_exchange places.Next x c (x + 1) ∷ [])))
+    all-done = did_load places.Next x ∷ rest-done
 
     seized : IsSeized x version stands z
     seized = seized-on x version stands [] (did_load places.Next x ∷ []) u z s.seized at-second refl (ap (λ (k : View X). k.owed) second.brings.view)
@@ -156,6 +159,9 @@ module _ {X : Type 0} where
         (silent-then (x ∷ []) (did_load places.Next x ∷ []) (f.done ++ did_exchange places.Next x c (x + 1) ∷ []) u z w (nload-silent (x ∷ []) x u z second)
         (silent-then (x ∷ []) f.done (did_exchange places.Next x c (x + 1) ∷ []) z y w (f.amid, f.silent) (claim-silent (x ∷ []) x 1 c y w is-next claim))))
 
+    page-w : x < w.start.pages
+    page-w = subst (λ (o : Origin). x < o.pages) (sym steps-one.0.start) (let l = inside in omega (arith, l))
+
     pub fresh-one : AreFresh (numbers x 1) x 1 (g ∷ []) before after v w
     fresh-one = subst (λ (l : List ℕ). AreFresh l x 1 (g ∷ []) before after v w) (sym (numbers-one x)) (record {
       done = all-done;
@@ -185,10 +191,15 @@ module _ {X : Type 0} where
       loaded = (s.done ++ (did_load places.Next x ∷ (f.done ++ did_exchange places.Next x c (x + 1) ∷ [])), refl);
       claimed = written-behind (did_load places.Next x ∷ []) _ places.Next (x + 1) (written-behind s.done _ places.Next (x + 1) (written-behind (did_load places.Next x ∷ []) _ places.Next (x + 1) (written-behind f.done _ places.Next (x + 1) wrote-it)));
       silent = steps-one.1;
-      locked = λ a. (subst (λ n. KnowsAt (places.State n) (word_of LOCKED g.version) w) (sym pid) (subst (λ n. KnowsAt (places.State x) (word_of LOCKED n) w) (sym same-version) (known-one a)), tt);
-      moved = λ a. put-known places.Next (x + 1) y w at-claim.start
+      locked = λ a. (
+        ap (λ n. word_at w (places.State n)) pid
+            ∙ known-there (x ∷ []) (did_load places.Next x) rest-done v w (places.State x) (word_of LOCKED version) steps-one.0 a page-w (known-one a)
+            ∙ ap (word_of LOCKED) (sym same-version),
+        tt,
+      );
+      moved = λ a. known-there (x ∷ []) (did_load places.Next x) rest-done v w places.Next (x + 1) steps-one.0 a tt (put-known places.Next (x + 1) y w at-claim.start
           ((at-claim.runs.words (alone-y a).0 (alone-y a).1).1
-          ∙ ap (λ (o : Option ℕ). set_if o (index_of y.start places.Next) y.snapshot.words) (cond-true (eqb c x) (Some (x + 1)) None (eq-eqb c x is-next)));
+          ∙ ap (λ (o : Option ℕ). set_if o (index_of y.start places.Next) y.snapshot.words) (cond-true (eqb c x) (Some (x + 1)) None (eq-eqb c x is-next))));
       others = others-known (x ∷ []) all-done v w steps-one.0;
       current = ap (λ (k : View X). k.current) claims.view;
     })

@@ -20,20 +20,20 @@ use Rattle.vm_rule.specs.Reading.{last_of}
 use Rattle.vm_rule.specs.Rule.{no_held}
 use Rattle.vm_rule.specs.Log.{did_store}
 use Rattle.vm_rule.specs.Mappings.{InstallTold, MayPutInto, clean_in, contents_at, held_at, installed_view}
-use Rattle.vm_rule.specs.Layout.{index_of}
 use Rattle.vm_rule.specs.Stores.{FillTold}
 use Rattle.vm_rule.proofs.Entries.{append-none, each-map}
 use Rattle.vm_rule.proofs.Heard.{each-both}
 use Rattle.vm_rule.proofs.Facts.{has-both}
 use Rattle.vm_step.specs.Fills.{Stores}
 use Rattle.vm_step.specs.HeldFrames.{AreHeld}
+use Rattle.vm_step.proofs.After.{knows-after}
 use Rattle.vm_step.proofs.Filling.{Fills, fills, filled, stores-did}
 use Rattle.vm_step.proofs.Leaves.{last-quiet}
 use Rattle.vm_guard.specs.Fresh.{Furnishes, IsAmid, IsSeized}
 use Rattle.vm_guard.specs.FreshPlaces.{IsPlaceOf}
 use Rattle.vm_guard.specs.Sure.{KnowsStates}
 use Rattle.vm_guard.proofs.Amid.{IsSilent, other, leaves-silent, none-silent, quiet-silent, silent-then}
-use Rattle.vm_guard.proofs.FreshKnown.{apart-index, follows-kept}
+use Rattle.vm_guard.proofs.FreshKnown.{untouched-else}
 use Rattle.vm_guard.proofs.Seizing.{self-has}
 
 pub or-none : (a b : Bool) → (a || b) ≡ false → (a ≡ false) × (b ≡ false)
@@ -174,11 +174,10 @@ module _ {X : Type 0} where
         -- no step is at a state word
         states-w : KnowsStates v w
         states-w a q l =
-            ap (λ (o : Origin). slice_index w.snapshot.words (index_of o (places.State q))) start-w
-            ∙ follows-kept v.start (places.State q) (stores-did f 0 zeros ++ did ∷ []) v.snapshot.words w.snapshot.words (steps.0.runs.words a.0 a.1)
-            (each-both (λ (d : Did). (d.wrote ≡ None) ⊎ (index_of v.start (places.State q) ≢ index_of v.start d.at)) (stores-did f 0 zeros) (did ∷ [])
-            (each-map (λ (d : Did). IsPlaceOf v.start [] d.at) (λ (d : Did). (d.wrote ≡ None) ⊎ (index_of v.start (places.State q) ≢ index_of v.start d.at)) (λ (d : Did) is. inr (apart-index v.start [] (places.State q) d.at l refl is)) (stores-did f 0 zeros) (stores-places v.start [] f frame-own.0 0 zeros (omega arith)))
-            (inr (λ e. absurd (let k : q ≡ v.start.pages + p = e in omega (arith, l, k))), tt))
+            (knows-after (stores-did f 0 zeros ++ did ∷ []) steps.0.own v w start-w steps.0.runs).kept a (places.State q) l
+            (each-both (λ (d : Did). d.at ≡ places.State q → d.wrote ≡ None) (stores-did f 0 zeros) (did ∷ [])
+            (each-map (λ (d : Did). IsPlaceOf v.start [] d.at) (λ (d : Did). d.at ≡ places.State q → d.wrote ≡ None) (λ (d : Did) is at. absurd (untouched-else v.start [] (places.State q) d.at refl is at)) (stores-did f 0 zeros) (stores-places v.start [] f frame-own.0 0 zeros (omega arith)))
+            ((λ e. absurd (let no : places.Translation p ≡ places.State q = e in cc)), tt))
 
         seat-w : seat_of w p ≡ seat_of v p
         seat-w = ap (λ (y : View X). seat_of y p) t.brings.view ∙ filling.works.seat

@@ -51,7 +51,7 @@ module _ {X : Type 0} (tied : Start → ℕ → List ℕ → ℕ → List ℕ �
   needed allowed first v w may t e = record {
     done = did_load (places.State p) first ∷ [];
     quiet = look-quiet tied p first v w t;
-    evidence = (refl, record { word = first; given = record { earlier = []; step = did_load (places.State p) first; later = []; cut = refl; gives = (refl, refl) }; evicted = e; foreign = tt });
+    evidence = (refl, record { word = first; given = record { earlier = []; step = did_load (places.State p) first; later = []; cut = refl; gives = (refl, refl) }; load = (refl, refl); evicted = e; foreign = tt });
     kind = may;
     table = look-leaves tied p None first v w t;
     leaves = (load-unmarks p (places.State p) first, tt);

@@ -65,7 +65,7 @@ module _ {X : Type 0} (tied : Start → ℕ → List ℕ → ℕ → List ℕ �
       record {
         done = did_load (places.State p) found ∷ [];
         quiet = look-quiet tied p found v w t;
-        evidence = (refl, record { word = found; given = record { earlier = []; step = did_load (places.State p) found; later = []; cut = refl; gives = (refl, refl) }; last = omega (arith, low, high, last); foreign = tt });
+        evidence = (refl, record { word = found; given = record { earlier = []; step = did_load (places.State p) found; later = []; cut = refl; gives = (refl, refl) }; load = (refl, refl); last = omega (arith, low, high, last); foreign = tt });
         kind = tt;
         table = look-leaves tied p None found v w t;
         leaves = (load-unmarks p (places.State p) found, tt);

@@ -33,7 +33,7 @@ use Rattle.vm_guard.specs.Guards.{IsHolding}
 use Rattle.vm_guard.specs.Denied.{AgainOrWorn, IsDenied}
 use Rattle.vm_guard.specs.FreshPlaces.{IsPlaceOf, KnowsOthers}
 use Rattle.vm_guard.specs.Groups.{GuardsHeld, guards_of, pids_of}
-use Rattle.vm_guard.specs.Sure.{KnowsAt, KnowsBut, KnowsSame, KnowsStates, known_next}
+use Rattle.vm_guard.specs.Sure.{KnowsBut, KnowsSame, KnowsStates, known_next, known_word}
 
 -- the word to expect of a page that was seen so: it may be locked, at the version seen
 pub record IsToSeize (word expects : ℕ) : Type 0 where
@@ -158,8 +158,8 @@ module _ {X : Type 0} where
     pub claimed : HasWritten done places.Next (x + n)
     -- no page was released; a pass that was alone knows each page locked at its guard's version, the next word, and all others as they were
     pub silent : amid.own ≡ []
-    pub locked : IsAlone v → Each (λ g. KnowsAt (places.State g.pid) (word_of LOCKED g.version) w) gs
-    pub moved : IsAlone v → KnowsAt places.Next (x + n) w
+    pub locked : IsAlone v → Each (λ g. known_word g.pid w ≡ word_of LOCKED g.version) gs
+    pub moved : IsAlone v → known_next w ≡ x + n
     pub others : KnowsOthers pages v w
     pub current : w.current ≡ true
 

@@ -1,5 +1,5 @@
 -- What a pass that is alone knows of a page, with which a call on the page is sure to succeed; and what it knows of the table afterwards.
-use Rattle.std.specs.Prelude.{ℕ, List, [], ◌∷◌, ◌≡◌, ◌≢◌, ◌⊎◌, ◌+◌, ◌<◌, ◌≤◌, ◌==◌, if◌then◌else◌, length, slice_set}
+use Rattle.std.specs.Prelude.{ℕ, List, [], ◌∷◌, ◌≡◌, ◌≢◌, ◌⊎◌, ◌+◌, ◌<◌, ◌≤◌, ◌==◌, if◌then◌else◌, slice_set}
 use Rattle.vm_core.specs.Words.{state_of, version_of, word_of, UNLOCKED, LOCKED, MARKED, EVICTED, MAX_VERSION}
 use Rattle.vm_rule.specs.declared.view.Origin.{Origin}
 use Rattle.vm_rule.specs.declared.view.Place.{Place}
@@ -7,6 +7,7 @@ use Rattle.vm_rule.specs.declared.view.Place.TheVariants as places
 use Rattle.vm_rule.specs.declared.view.View.{View}
 use Rattle.vm_rule.specs.Layout.{index_of}
 use Rattle.vm_step.specs.Alone.{IsAlone, LocksNone, word_at}
+pub use Rattle.vm_step.specs.Tables.{KnowsAt, KnowsSame}
 
 -- the page with this word is resident, and locked by nobody
 abbrev pub IsFree : ℕ → Type 0
@@ -38,10 +39,6 @@ module _ {X : Type 0} where
   abbrev pub IsKnownAt : ℕ → ℕ → View X → Type 0
   IsKnownAt p word v = (version_of (known_word p v) ≡ version_of word) × (state_of (known_word p v) ≢ LOCKED)
 
-  -- the pass knows this word to be at this place, where the table has the place
-  abbrev pub KnowsAt : Place → ℕ → View X → Type 0
-  KnowsAt place word v = index_of v.start place < length v.snapshot.words → word_at v place ≡ word
-
   -- the next word, as the pass knows the table
   abbrev pub known_next : View X → ℕ
   known_next v = word_at v places.Next
@@ -55,10 +52,6 @@ module _ {X : Type 0} where
   pub record MayBeTried (n : ℕ) (v : View X) : Type 0 where
     pub room : known_next v + n ≤ v.start.pages
     pub each : (q : ℕ) → known_next v ≤ q → q < known_next v + n → LocksNone (known_word q v)
-
-  -- a pass that was alone knows the words of the table as they were
-  abbrev pub KnowsSame : View X → View X → Type 0
-  KnowsSame v w = IsAlone v → w.snapshot.words ≡ v.snapshot.words
 
   -- it knows them as they were, but for the word of page p, which is this one
   abbrev pub KnowsBut : ℕ → ℕ → View X → View X → Type 0

@@ -43,11 +43,11 @@ module _ {X B : Type 0} (stored : B → Stored) (keeps : Start → Kept X → Ty
   -- what any step tells: it found the word that stands there, and left these words and blocks
   pub brings_more : (s : Table (Option B) (View X)) (r : Ruled stored keeps tied start tells s) (id : ℕ) (v : View X) (words : List ℕ) (blocks : List Stored) (block : Option (ℕ × Stored)) (own : List Release) (entries : List (Entry X)) (did : Did) (inner : View X)
       → get_elem? s.views id ≡ some v → v.live ≡ true
-      → IsFoundAt did.found (index_of start did.at) s.words → words ≡ set_if did.wrote (index_of start did.at) s.words
+      → Within start did.at → IsFoundAt did.found (index_of start did.at) s.words → words ≡ set_if did.wrote (index_of start did.at) s.words
       → blocks ≡ set_block block (listed start.pages (block_of stored s.homes s.views))
       → Sound (brought inner (r.releases ++ own) (r.history ++ entries) (record { words = words; blocks = blocks }) did)
       → BringsWith did block own entries v inner (brought inner (r.releases ++ own) (r.history ++ entries) (record { words = words; blocks = blocks }) did)
-  brings_more s r id v words blocks block own entries did inner there live found left moved sound =
+  brings_more s r id v words blocks block own entries did inner there live at found left moved sound =
       let g : KnowsLists start r.releases r.history v = r.heard id v there live in
       let k : KnowsPages tied start (world_of stored start r.releases r.drafts s) (is_pending s.views) v = r.known id v there live in
       let now : Snapshot = record { words = words; blocks = blocks } in
@@ -55,6 +55,7 @@ module _ {X B : Type 0} (stored : B → Stored) (keeps : Start → Kept X → Ty
         between = g.saw.0;
         others = g.heard.0;
         snapshot = now;
+        inside = subst (λ (o : Origin). Within o did.at) (sym g.same_start) at;
         view = λ i. brought inner (g.saw.1 i ++ own) (g.heard.1 i ++ entries) now did;
         foreign = g.heard.2;
         kept = λ p locks. (λ i. last_in (g.same_start i) (sym g.saw.1 i) p) ∙ last-is start r.releases r.drafts p ∙ sym (k.latest p locks);
@@ -65,18 +66,18 @@ module _ {X B : Type 0} (stored : B → Stored) (keeps : Start → Kept X → Ty
               none-behind v.releases g.saw.0 (same.0 ∙ g.saw.1),
               none-behind v.seen g.heard.0 (same.1 ∙ g.heard.1),
               subst (λ (o : Origin). IsStepOf o did block v.snapshot now) (sym g.same_start)
-                  (subst (λ (y : Snapshot). IsStepOf start did block y now) (sym same.2) (record { found = found; words = left; blocks = moved })),
+                  (subst (λ (y : Snapshot). IsStepOf start did block y now) (sym same.2) (record { wide = r.wide.0; found = found; words = left; blocks = moved })),
             );
       }
 
   -- a step that moves no block
   pub brings : (s : Table (Option B) (View X)) (r : Ruled stored keeps tied start tells s) (id : ℕ) (v : View X) (words : List ℕ) (own : List Release) (entries : List (Entry X)) (did : Did) (inner : View X)
       → get_elem? s.views id ≡ some v → v.live ≡ true
-      → IsFoundAt did.found (index_of start did.at) s.words → words ≡ set_if did.wrote (index_of start did.at) s.words
+      → Within start did.at → IsFoundAt did.found (index_of start did.at) s.words → words ≡ set_if did.wrote (index_of start did.at) s.words
       → Sound (after_step stored keeps tied start tells s r words own entries did inner)
       → Brings did own entries v inner (after_step stored keeps tied start tells s r words own entries did inner)
-  brings s r id v words own entries did inner there live found left sound =
-      brings_more s r id v words (listed start.pages (block_of stored s.homes s.views)) None own entries did inner there live found left refl sound
+  brings s r id v words own entries did inner there live at found left sound =
+      brings_more s r id v words (listed start.pages (block_of stored s.homes s.views)) None own entries did inner there live at found left refl sound
 
   -- a step that shows its own part keeps the rule and tells what it brings
   pub steps_more : (s : Table (Option B) (View X)) (r : Ruled stored keeps tied start tells s) (id : ℕ) (v : View X) (words : List ℕ) (homes : List (maybe.Option (Option B))) (blocks : List Stored) (block : Option (ℕ × Stored)) (drafts : ℕ → List ℕ) (own : List Release) (entries : List (Entry X)) (did : Did) (inner : View X)
@@ -90,7 +91,7 @@ module _ {X B : Type 0} (stored : B → Stored) (keeps : Start → Kept X → Ty
       let ruled = adds_more stored keeps tied start tells s r id v words homes blocks drafts own entries did inner there live number sh in
       let w : View X = after_more stored keeps tied start tells s r id v words homes blocks drafts own entries did inner in (
         ruled,
-        brings_more s r id v words blocks block own entries did inner there live sh.found left moved
+        brings_more s r id v words blocks block own entries did inner there live sh.at sh.found left moved
             (is-sound stored keeps tied start tells (became_more stored keeps tied start tells s r id v words homes blocks drafts own entries did inner) ruled id w (set_here s.views id w (at-bound s.views id v there)) (sh.live ∙ live)),
       )
 
@@ -106,7 +107,7 @@ module _ {X B : Type 0} (stored : B → Stored) (keeps : Start → Kept X → Ty
       let w : View X = after_step stored keeps tied start tells s r words own entries did inner in
       let ruled = adds stored keeps tied start tells s r id v words drafts own entries did inner e there live number (subst (λ a. Leaves a old (world_after old e)) actor (leave_others old e r.inv sh.legal)) sh in (
         ruled,
-        brings s r id v words own entries did inner there live sh.found left
+        brings s r id v words own entries did inner there live sh.at sh.found left
             (is-sound stored keeps tied start tells (became stored keeps tied start tells s words id w) ruled id w (set_here s.views id w (at-bound s.views id v there)) (sh.live ∙ live)),
       )
 

@@ -22,7 +22,7 @@ use Rattle.vm_rule.specs.Views.{times_noted, first_view}
 use Rattle.vm_rule.specs.Reading.{no_block, block_of, seats_of, histories_of, core_of, world_of}
 use Rattle.vm_rule.specs.Rule.{ArePlain, began_of, logical, is_pending, is_owed, kept_of, KnowsLists, KnowsPages, FaultsFit, ListsFit, PartsFit, BlocksFit, snapshot_of, Ruled}
 use Rattle.vm_rule.specs.Begun.{unborn, Stands}
-use Rattle.vm_rule.specs.Fixed.{MayBegin, bounds_of}
+use Rattle.vm_rule.specs.Started.{MayBegin, bounds_of}
 use Rattle.vm_rule.proofs.Pages.{page-in, page-out}
 use Rattle.vm_rule.proofs.Parts.{listed-same}
 use Rattle.vm_rule.proofs.Parted.{opened}

@@ -1,11 +1,9 @@
--- Lists read as functions: one behind another, the values of a function, and pages of 64 words one after another.
-use Rattle.std.proofs.Common.{ℕ, ◌≡◌, ◌+◌, ◌*◌, ◌<◌, ◌≤◌, List, [], ◌∷◌, ◌++◌, length, map, replicate, take, get_or, zero, suc, refl, sym, ap, subst, append_assoc, ◌∙◌, arith, ⊎_elim}
+-- Lists read as functions: one behind another, and the values of a function.
+use Rattle.std.proofs.Common.{ℕ, ◌≡◌, ◌+◌, ◌<◌, ◌≤◌, List, [], ◌∷◌, ◌++◌, length, map, replicate, zero, suc, refl, sym, ap, append_assoc, ◌∙◌, arith, ⊎_elim}
 use Rattle.std.proofs.lemmas.Bool.{cases_lt}
-use Rattle.std.proofs.lemmas.List.{append-nil, take_more}
+use Rattle.std.proofs.lemmas.List.{append-nil}
 use Rattle.vm_core.specs.Fn.{at}
 use Rattle.vm_rule.specs.Puts.{listed}
-use Rattle.vm_rule.specs.Views.{Each}
-use Rattle.vm_rule.specs.Fixed.{flat}
 
 at-skip : {A : Type 0} (d : A) (xs ys : List A) (k : ℕ) → at d (xs ++ ys) (length xs + k) ≡ at d ys k
 unfolding at
@@ -97,50 +95,6 @@ pub zeros : listed {A = ℕ} 64 (λ i. 0) ≡ replicate 64 0
 unfolding listed
 zeros = refl
 
--- ---- pages of 64 words, one after another
-
-pub each-at : (pages : List (List ℕ)) → Each (λ w. length w ≡ 64) pages → (d : List ℕ) (p : ℕ) → p < length pages → length (at d pages p) ≡ 64
-unfolding at
-each-at [] e d p l = absurd (omega arith)
-each-at (x ∷ xs) e d zero l = e.0
-each-at (x ∷ xs) e d (suc p) l = each-at xs e.1 d p (omega arith)
-
-flat-both : (xs ys : List (List ℕ)) → flat (xs ++ ys) ≡ flat xs ++ flat ys
-flat-both [] ys = refl
-flat-both (x ∷ xs) ys = ap (λ l. x ++ l) (flat-both xs ys) ∙ sym (append_assoc x (flat xs) (flat ys))
-
-each-more : (xs : List (List ℕ)) (y : List ℕ) → Each (λ w. length w ≡ 64) xs → length y ≡ 64 → Each (λ w. length w ≡ 64) (xs ++ y ∷ [])
-each-more [] y e l = (l, tt)
-each-more (x ∷ xs) y e l = (e.0, each-more xs y e.1 l)
-
--- one page more
-pub pushed-page : (before items after : List ℕ) (pages : List (List ℕ)) (n : ℕ) (page : List ℕ) → n < length pages → page ≡ get_or pages n page → (items ≡ before ++ flat (take n pages)) × Each (λ w. length w ≡ 64) (take n pages)
-    → after ≡ items ++ page → length page ≡ 64 → (after ≡ before ++ flat (take (n + 1) pages)) × Each (λ w. length w ≡ 64) (take (n + 1) pages)
-pushed-page before items after pages n page l is was grown long =
-    let more : take (n + 1) pages ≡ take n pages ++ page ∷ [] = take_more pages n page l ∙ ap (λ (y : List ℕ). take n pages ++ y ∷ []) (sym is) in (
-      grown
-          ∙ ap (λ k. k ++ page) was.0
-          ∙ append_assoc before (flat (take n pages)) page
-          ∙ ap (λ k. before ++ (flat (take n pages) ++ k)) (sym (append-nil page))
-          ∙ ap (λ k. before ++ k) (sym (flat-both (take n pages) (page ∷ [])))
-          ∙ ap (λ (k : List (List ℕ)). before ++ flat k) (sym more),
-      subst (Each (λ w. length w ≡ 64)) (sym more) (each-more (take n pages) page was.1 long),
-    )
-
 pub length-both : {A : Type 0} (xs ys : List A) → length (xs ++ ys) ≡ length xs + length ys
 length-both [] ys = omega arith
 length-both (x ∷ xs) ys = let e : length (xs ++ ys) ≡ length xs + length ys = length-both xs ys in omega arith
-
-pub length-flat : (pages : List (List ℕ)) → Each (λ w. length w ≡ 64) pages → length (flat pages) ≡ 64 * length pages
-length-flat [] e = refl
-length-flat (x ∷ xs) e =
-    let both : length (x ++ flat xs) ≡ length x + length (flat xs) = length-both x (flat xs) in
-    let rest : length (flat xs) ≡ 64 * length xs = length-flat xs e.1 in
-    let here : length x ≡ 64 = e.0 in
-    omega arith
-
-pub flat-at : (pages : List (List ℕ)) → Each (λ w. length w ≡ 64) pages → (d : List ℕ) (p i : ℕ) → p < length pages → i < 64 → at 0 (flat pages) (64 * p + i) ≡ at 0 (at d pages p) i
-unfolding at
-flat-at [] e d p i l l' = absurd (omega arith)
-flat-at (x ∷ xs) e d zero i l l' = let here : length x ≡ 64 = e.0 in let same : 64 * 0 + i ≡ i = omega arith in ap (at 0 (x ++ flat xs)) same ∙ at-left 0 x (flat xs) i (omega arith)
-flat-at (x ∷ xs) e d (suc p) i l l' = let here : length x ≡ 64 = e.0 in at-right 0 x (flat xs) (64 * suc p + i) (64 * p + i) (omega arith) ∙ flat-at xs e.1 d p i (omega arith) l'

@@ -15,8 +15,7 @@ use Rattle.vm_rule.specs.declared.view.Origin.{Origin}
 use Rattle.vm_rule.specs.declared.view.Shape.{Shape}
 use Rattle.vm_rule.specs.Layout.{words_of}
 use Rattle.vm_rule.specs.Reading.{no_block, page_from, world_of}
-use Rattle.vm_rule.specs.Fixed.{MayBegin, counts_of}
-use Rattle.vm_rule.specs.Started.{IsStarted, contents_of, words_in, started_words, started_origin, started_shape}
+use Rattle.vm_rule.specs.Started.{IsStarted, MayBegin, counts_of, contents_of, words_in, started_words, started_origin, started_shape}
 use Rattle.vm_rule.proofs.WordFacts.{word-state, word-version, mapping-none}
 use Rattle.vm_rule.proofs.ListFacts.{at-map, length-mapped}
 use Rattle.vm_rule.proofs.Starts.{start-frames, evicted-inv}

@@ -9,8 +9,7 @@ use Rattle.vm_rule.specs.declared.view.Origin.{Origin}
 use Rattle.vm_rule.specs.Puts.{listed}
 use Rattle.vm_rule.specs.Layout.{bundles_of, width, words_of}
 use Rattle.vm_rule.specs.Reading.{frame_words}
-use Rattle.vm_rule.specs.Fixed.{counts_of}
-use Rattle.vm_rule.specs.Started.{started_words, started_origin}
+use Rattle.vm_rule.specs.Started.{counts_of, started_words, started_origin}
 use Rattle.vm_rule.proofs.ListFacts.{at-past, at-map, length-mapped, length-listed, at-listed, at-same, at-zeros}
 use Rattle.vm_rule.proofs.LaidWords.{AreParts, laid-wide, laid-state, laid-translation, laid-fault, laid-content, laid-bundle, laid-next, laid-hand, frame-zero}
 

@@ -1,5 +1,5 @@
 -- What any step of a pass leaves of its view: the lists are brought up to date, the step stands in the log, and the step's own changes are made.
-use Rattle.std.specs.Prelude.{ℕ, true, Option, Some, None, List, [], ◌∷◌, ◌++◌, ◌≡◌, ◌+◌, slice_index, slice_set}
+use Rattle.std.specs.Prelude.{ℕ, true, Option, Some, None, List, [], ◌∷◌, ◌++◌, ◌≡◌, ◌+◌, length, slice_index, slice_set}
 use Rattle.vm_block.specs.declared.stored.Stored.{Stored}
 use Rattle.vm_owner.specs.declared.Entry.{Entry}
 use Rattle.vm_owner.specs.Kept.{calls_of}
@@ -8,7 +8,7 @@ use Rattle.vm_rule.specs.declared.view.Origin.{Origin}
 use Rattle.vm_rule.specs.declared.view.Release.{Release}
 use Rattle.vm_rule.specs.declared.view.Snapshot.{Snapshot}
 use Rattle.vm_rule.specs.declared.view.View.{View}
-use Rattle.vm_rule.specs.Layout.{index_of}
+use Rattle.vm_rule.specs.Layout.{Within, index_of, width}
 use Rattle.vm_rule.specs.Views.{StartsWith, IsLocking, seat_of, entries_by, Hears, IsWhole}
 use Rattle.vm_rule.specs.Reading.{last_in, last_of}
 use Rattle.vm_rule.specs.Sound.{Sound}
@@ -28,8 +28,10 @@ abbrev pub set_block : Option (ℕ × Stored) → List Stored → List Stored
 set_block None blocks = blocks
 set_block (Some b) blocks = slice_set blocks b.0 b.1
 
--- the table as it was known, after this step: it found the word that was known there, and left the one that it wrote, and this block
+-- the table as it was known, every word of it, after this step: it found the word that was known there, and left the one that it wrote, and this
+-- block
 pub record IsStepOf (start : Origin) (did : Did) (block : Option (ℕ × Stored)) (old new : Snapshot) : Type 0 where
+  pub wide : length old.words ≡ width start
   pub found : IsFoundAt did.found (index_of start did.at) old.words
   pub words : new.words ≡ set_if did.wrote (index_of start did.at) old.words
   pub blocks : new.blocks ≡ set_block block old.blocks
@@ -55,6 +57,8 @@ module _ {X : Type 0} where
     pub between : List Release
     pub others : List (Entry X)
     pub snapshot : Snapshot
+    -- the step was on a word of the table
+    pub inside : Within v.start did.at
     pub view : w ≡ brought inner ((v.releases ++ between) ++ own) ((v.seen ++ others) ++ entries) snapshot did
     -- the entries of others have none of its numbers
     pub foreign : entries_by v.used others ≡ []

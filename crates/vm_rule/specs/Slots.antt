@@ -2,7 +2,7 @@
 -- it is back. A block that is taken out leaves its slot empty; one that comes home may have had one call of its device.
 use Rattle.std.specs.Prelude.{ℕ, Bool, true, false, Some, None, List, [], ◌≡◌, IsSome, if◌then◌else◌}
 use Rattle.vm_core.specs.Fn.{at}
-use Rattle.vm_core.specs.Words.{count_more}
+use Rattle.vm_block.specs.Blocks.{one_more}
 use Rattle.vm_block.specs.declared.stored.Stored.{Stored}
 use Rattle.vm_rule.specs.declared.view.Out.{Out}
 use Rattle.vm_rule.specs.declared.view.Place.TheVariants as places
@@ -51,11 +51,13 @@ module _ {X : Type 0} where
   abbrev pub words_held : View X → ℕ → List ℕ
   words_held v p = if (seat_of v p).exclusive then draft_of v p else (last_of v p).words
 
-  -- what was done to the block: nothing, or a read; a write of the page's words; or a call that failed
+  -- what was done to the block while it was out: no call of its device, or one: a read by who holds the page exclusively, a write of the page's
+  -- words, or a call that failed
   pub data DeviceDid (v : View X) (p : ℕ) (old new : Stored) : Type 0 where
-    idle : (v.start.tells ≡ true → new.words ≡ old.words) → new.count ≡ old.count → DeviceDid v p old new
-    wrote : IsSome (held_at v p).mapping → (v.start.tells ≡ true → new.words ≡ words_held v p) → new.count ≡ old.count → DeviceDid v p old new
-    failed : (v.start.tells ≡ true → new.words ≡ old.words) → new.count ≡ count_more old.count → DeviceDid v p old new
+    idle : new ≡ old → DeviceDid v p old new
+    read : (seat_of v p).exclusive ≡ true → (v.start.tells ≡ true → new.words ≡ old.words) → new.count ≡ old.count → new.reads ≡ one_more old.reads → new.writes ≡ old.writes → DeviceDid v p old new
+    wrote : IsSome (held_at v p).mapping → (v.start.tells ≡ true → new.words ≡ words_held v p) → new.count ≡ old.count → new.reads ≡ old.reads → new.writes ≡ one_more old.writes → DeviceDid v p old new
+    failed : (v.start.tells ≡ true → new.words ≡ old.words) → new.count ≡ one_more old.count → new.reads ≡ old.reads → new.writes ≡ old.writes → DeviceDid v p old new
 
   -- the pass has the page locked so that it may call its device, and has its block out
   pub record MayBring (v : View X) (p : ℕ) (old new : Stored) : Type 0 where

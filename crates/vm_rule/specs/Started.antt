@@ -1,15 +1,23 @@
 -- The opening of a pool's table: every page is evicted, with its words in its block; every frame is free; every block is at home.
-use Rattle.std.specs.Prelude.{ℕ, Bool, List, [], ◌∷◌, ◌++◌, ◌*◌, ◌≤◌, length, map, replicate, if◌then◌else◌}
+use Rattle.std.specs.Prelude.{ℕ, Bool, List, [], ◌∷◌, ◌++◌, ◌≡◌, ◌*◌, ◌<◌, ◌≤◌, length, map, replicate, if◌then◌else◌}
+use Rattle.vm_page.specs.Pages.{page_at}
 use Rattle.vm_page.specs.declared.buf.TheConstants.{WORDS}
 use Rattle.vm_core.specs.Start.{full_bundle}
 use Rattle.vm_core.specs.Words.{word_of, EVICTED, MAX_VERSION}
 use Rattle.vm_block.specs.declared.stored.Stored.{Stored}
+use Rattle.vm_owner.specs.Kept.{Start, Kept, first_kept}
 use Rattle.vm_rule.specs.declared.view.Origin.{Origin}
 use Rattle.vm_rule.specs.declared.view.Shape.{Shape}
 use Rattle.vm_rule.specs.declared.view.Snapshot.{Snapshot}
 use Rattle.vm_rule.specs.Puts.{listed}
 use Rattle.vm_rule.specs.Layout.{bundles_of}
-use Rattle.vm_rule.specs.Fixed.{counts_of, bounds_of}
+
+-- what the blocks count of faults, and the bounds of these counts
+abbrev pub counts_of : List Stored → List ℕ
+counts_of blocks = map (λ (b : Stored). b.count) blocks
+
+abbrev pub bounds_of : List Stored → List ℕ
+bounds_of blocks = map (λ (b : Stored). b.bound) blocks
 
 -- the words that the blocks hold
 abbrev pub words_in : List Stored → List (List ℕ)
@@ -50,3 +58,9 @@ pub record IsStarted (version next frames pages : ℕ) : Type 0 where
   pub few_frames : frames ≤ 65536
   pub claimed : next ≤ pages
   pub in_range : version ≤ MAX_VERSION
+
+module _ {X : Type 0} where
+  -- the pages from the next one on are zero, and the layer above may begin with all of them
+  pub record MayBegin (keeps : Start → Kept X → Type 0) (next : ℕ) (pages : List (List ℕ)) : Type 0 where
+    pub zero : (p : ℕ) → next ≤ p → p < length pages → page_at pages p ≡ replicate WORDS 0
+    pub kept : keeps (record { pages = pages; next = next }) (first_kept (record { pages = pages; next = next }))

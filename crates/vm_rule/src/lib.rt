@@ -15,7 +15,6 @@ ghost use Rattle.vm_core.specs.Told.{Told};
 ghost use Rattle.vm_rule.specs.Kept.{Kept, KeptFault, KeptFrom};
 
 pub mod began;
-mod fixed;
 mod opening;
 mod started;
 pub mod view;

@@ -1,12 +1,12 @@
-//! What the makers of a table share: words that are pushed, the slots, and the first pass with its first step.
+//! What a table is made of: words that are pushed, the slots, and the first pass with its first step.
 
 ghost use Rattle.std.specs.Prelude.{◌≡◌, ◌<◌, ◌≤◌, ◌++◌, length, map, IfOk, Some, []};
 ghost use Rattle.atomic_table.specs.Table.{opening};
 ghost use Rattle.vm_rule.specs.Begun.{Stands, begun, unborn};
-ghost use Rattle.vm_rule.specs.Fixed.{counts_of};
 ghost use Rattle.vm_rule.specs.Layout.{width_of};
 ghost use Rattle.vm_rule.specs.Puts.{listed};
 ghost use Rattle.vm_rule.specs.Sound.{Sound};
+ghost use Rattle.vm_rule.specs.Started.{counts_of};
 ghost use Rattle.vm_rule.specs.Views.{view_of};
 
 use crate::view::{Shape, View};

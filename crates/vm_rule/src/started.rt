@@ -1,14 +1,13 @@
-//! The maker of a pool's table: every page is evicted, its words in its block, and every frame is free.
+//! The maker of a table: every page is evicted, its words in its block, and every frame is free.
 
 ghost use Rattle.std.specs.Prelude.{◌≡◌, ◌≤◌, ◌-◌, ◌^◌, ◌++◌, length, map, true, IfOk};
 ghost use Rattle.vm_core.specs.Start.{full_bundle};
 ghost use Rattle.vm_core.specs.Words.{MAX_VERSION};
 ghost use Rattle.vm_rule.specs.declared.began.Began.{Began};
 ghost use Rattle.vm_rule.specs.Begun.{begun, unborn};
-ghost use Rattle.vm_rule.specs.Fixed.{MayBegin, counts_of};
 ghost use Rattle.vm_rule.specs.Layout.{bundles_of};
 ghost use Rattle.vm_rule.specs.Puts.{listed};
-ghost use Rattle.vm_rule.specs.Started.{IsStarted, started_shape, started_words, words_in};
+ghost use Rattle.vm_rule.specs.Started.{IsStarted, MayBegin, counts_of, started_shape, started_words, words_in};
 ghost use Rattle.vm_rule.specs.Views.{view_of};
 
 use crate::began::Began;

@@ -1,5 +1,5 @@
 -- The steps of a pass that is alone, one after another: each finds the word that the step before left.
-use Rattle.std.proofs.Common.{ℕ, true, Option, Some, None, List, [], ◌∷◌, ◌++◌, ◌≡◌, ◌≢◌, ◌⊎◌, refl, sym, ap, subst, ◌∙◌, ⊎_elim, append_assoc, slice_index}
+use Rattle.std.proofs.Common.{ℕ, true, Option, Some, None, List, [], ◌∷◌, ◌++◌, ◌≡◌, ◌≢◌, ◌⊎◌, length, refl, sym, ap, subst, ◌∙◌, inl, inr, arith, ⊎_elim, append_assoc, slice_index}
 use Rattle.std.proofs.lemmas.List.{get_or-set_other}
 use Rattle.std.proofs.lemmas.Option.{none-some}
 use Rattle.vm_block.specs.declared.stored.Stored.{Stored}
@@ -9,10 +9,12 @@ use Rattle.vm_rule.specs.declared.view.Origin.{Origin}
 use Rattle.vm_rule.specs.declared.view.Place.{Place}
 use Rattle.vm_rule.specs.declared.view.Release.{Release}
 use Rattle.vm_rule.specs.declared.view.View.{View}
-use Rattle.vm_rule.specs.Layout.{index_of}
+use Rattle.vm_rule.specs.Layout.{Within, index_of, width}
+use Rattle.vm_rule.specs.Views.{Each}
 use Rattle.vm_rule.specs.Reading.{last_in}
 use Rattle.vm_rule.specs.Brought.{BringsWith, IsFoundAt, set_if}
 use Rattle.vm_rule.proofs.Entries.{append-none}
+use Rattle.vm_rule.proofs.Heard.{each-both}
 use Rattle.vm_step.specs.Alone.{Follows, IsAlone, RunsAlone, word_at}
 use Rattle.vm_step.specs.Asides.{StaysAlone}
 use Rattle.vm_step.proofs.Asides.{whole-then}
@@ -25,6 +27,11 @@ follows-then start (d ∷ ds) b x y z f g = (f.0, follows-then start ds b (set_i
 pub set-else : (o : Option ℕ) (i j : ℕ) (ws : List ℕ) → (o ≡ None) ⊎ (j ≢ i) → slice_index (set_if o i ws) j ≡ slice_index ws j
 set-else None i j ws h = refl
 set-else (Some x) i j ws h = ⊎_elim (λ e. absurd (none-some x (sym e))) (λ ne. get_or-set_other ws i j x 0 ne) h
+
+-- steps, and then more: a table that is known whole before the first of them is known so before all
+wide-then : (a b : List Did) (start : Origin) (x y : List ℕ) → Follows start a x y → (a ≡ []) ⊎ (length x ≡ width start) → (b ≡ []) ⊎ (length y ≡ width start) → (a ++ b ≡ []) ⊎ (length x ≡ width start)
+wide-then [] b start x y f g h = ⊎_elim (λ e. inl e) (λ long. inr (ap length (sym f) ∙ long)) h
+wide-then (d ∷ ds) b start x y f g h = ⊎_elim (λ (e : d ∷ ds ≡ []). absurd (let n : length (d ∷ ds) ≡ 0 = ap length e in omega arith)) (λ long. inr long) g
 
 module _ {X : Type 0} where
   -- a pass that is alone is so after steps that leave its parts
@@ -46,26 +53,31 @@ module _ {X : Type 0} where
       ap (λ (x : View X). x.snapshot.words) b.view ∙ (b.alone a.0 a.1).2.words ∙ ap (λ (o : Option ℕ). set_if o (index_of v.start did.at) v.snapshot.words) none
 
   pub runs-self : (v : View X) → RunsAlone [] [] v v
-  runs-self v = record { current = λ e. e; releases = λ _ _. sym (append-none v.releases); words = λ _ _. refl }
+  runs-self v = record { inside = tt; current = λ e. e; releases = λ _ _. sym (append-none v.releases); words = λ _ _. refl; wide = λ _ _. inl refl }
 
   pub runs-then : (a b : List Did) (c d : List Release) (u v w : View X) → v.start ≡ u.start → (v.used ≡ u.used) × (v.fresh ≡ u.fresh) → RunsAlone a c u v → RunsAlone b d v w → RunsAlone (a ++ b) (c ++ d) u w
   runs-then a b c d u v w same parts f g = record {
+    inside = each-both (λ (d : Did). Within u.start d.at) a b f.inside (subst (λ (s : Origin). Each (λ (d : Did). Within s d.at) b) same g.inside);
     current = λ e. g.current (f.current e);
     releases = λ all e. g.releases (whole-then u v parts all) (f.current e) ∙ ap (λ (t : List Release). t ++ d) (f.releases all e) ∙ append_assoc u.releases c d;
     words = λ all e.
         let last : Follows u.start b v.snapshot.words w.snapshot.words = subst (λ (s : Origin). Follows s b v.snapshot.words w.snapshot.words) same (g.words (whole-then u v parts all) (f.current e)) in
         follows-then u.start a b u.snapshot.words v.snapshot.words w.snapshot.words (f.words all e) last;
+    wide = λ all e. wide-then a b u.start u.snapshot.words v.snapshot.words (f.words all e) (f.wide all e)
+        (subst (λ (s : Origin). (b ≡ []) ⊎ (length v.snapshot.words ≡ width s)) same (g.wide (whole-then u v parts all) (f.current e)));
   }
 
   -- one step
   pub runs-one : (did : Did) (block : Option (ℕ × Stored)) (own : List Release) (entries : List (Entry X)) (v inner w : View X) → BringsWith did block own entries v inner w → RunsAlone (did ∷ []) own v w
   runs-one did block own entries v inner w b = record {
+    inside = (b.inside, tt);
     current = λ _. ap (λ (x : View X). x.current) b.view;
     releases = λ all e.
         ap (λ (x : View X). x.releases) b.view
         ∙ ap (λ (t : List Release). (v.releases ++ t) ++ own) (b.alone all e).0
         ∙ ap (λ (t : List Release). t ++ own) (append-none v.releases);
     words = λ all e. ((b.alone all e).2.found, ap (λ (x : View X). x.snapshot.words) b.view ∙ (b.alone all e).2.words);
+    wide = λ all e. inr (b.alone all e).2.wide;
   }
 
   -- a run without a release leaves the last words of every page

@@ -12,10 +12,11 @@ use Rattle.vm_rule.specs.declared.view.Place.TheVariants as places
 use Rattle.vm_rule.specs.declared.view.View.{View}
 use Rattle.vm_rule.specs.Puts.{put, put_at}
 use Rattle.vm_rule.specs.Faults.{notes_of}
+use Rattle.vm_rule.specs.Views.{seat_of}
 use Rattle.vm_rule.specs.Rule.{no_held}
 use Rattle.vm_rule.specs.Log.{did_load}
 use Rattle.vm_rule.specs.Mappings.{held_at}
-use Rattle.vm_rule.specs.Slots.{DeviceDid, HomeTold, MayBring, OutTold, ReturnTold, ShiftTold, failed, idle, out_at, words_held, wrote}
+use Rattle.vm_rule.specs.Slots.{DeviceDid, HomeTold, MayBring, OutTold, ReturnTold, ShiftTold, failed, out_at, read, words_held, wrote}
 use Rattle.vm_step.specs.Asides.{KeepsFrames}
 use Rattle.vm_step.specs.Works.{Works}
 use Rattle.vm_step.proofs.Leaves.{works-one, works-then}
@@ -108,11 +109,11 @@ counts-one n = omega arith
 pub noted-more : (p count : ℕ) → notes_of p count (count_more count) ≡ record { page = p; count = count_more count } ∷ []
 noted-more p count = cond-true (nat_lt count (count_more count) || count_more count == MAX_COUNT) (record { page = p; count = count_more count } ∷ []) [] (higher count)
 
-module _ {X E : Type 0} (p : ℕ) (tells : Bool) (v : View X) (old new : Stored) (into : List ℕ) (telling : v.start.tells ≡ tells) where
-  -- a read leaves the words, and counts its fault
+module _ {X E : Type 0} (p : ℕ) (tells : Bool) (v : View X) (old new : Stored) (into : List ℕ) (telling : v.start.tells ≡ tells) (owns : (seat_of v p).exclusive ≡ true) where
+  -- a read leaves the words, and is counted, or its fault
   pub read-did : (result : Result (Unit {0}) E) → Reads tells old new into result → DeviceDid v p old new
-  read-did (Ok u) r = idle (λ t. r.held (sym telling ∙ t)) r.count
-  read-did (Err e) r = failed (λ t. r.held (sym telling ∙ t)) (r.count ∙ more-is old.count)
+  read-did (Ok u) r = read owns (λ t. r.held (sym telling ∙ t)) r.count r.reads r.writes
+  read-did (Err e) r = failed (λ t. r.held (sym telling ∙ t)) r.count r.reads r.writes
 
   pub may-bring : (result : Result (Unit {0}) E) → Reads tells old new into result → v.out ≡ Some (out_at p false old) → MayBring v p old new
   may-bring result r out = record { out = out; did = read-did result r; bound = r.bound }
@@ -120,10 +121,10 @@ module _ {X E : Type 0} (p : ℕ) (tells : Bool) (v : View X) (old new : Stored)
 -- ---- what a write does
 
 module _ {X E : Type 0} (p : ℕ) (tells : Bool) (v : View X) (old new : Stored) (given : List ℕ) (telling : v.start.tells ≡ tells) where
-  -- a write of the words that stand in the page's frame leaves them in the block, or counts its fault
+  -- a write of the words that stand in the page's frame leaves them in the block and is counted, or its fault
   pub write-did : (result : Result (Unit {0}) E) → Writes tells old new given result → IsSome (held_at v p).mapping → (v.start.tells ≡ true → given ≡ words_held v p) → DeviceDid v p old new
-  write-did (Ok u) r stands same = wrote stands (λ t. r.held (sym telling ∙ t) ∙ same t) r.count
-  write-did (Err e) r stands same = failed (λ t. r.held (sym telling ∙ t)) (r.count ∙ more-is old.count)
+  write-did (Ok u) r stands same = wrote stands (λ t. r.held (sym telling ∙ t) ∙ same t) r.count r.reads r.writes
+  write-did (Err e) r stands same = failed (λ t. r.held (sym telling ∙ t)) r.count r.reads r.writes
 
   pub may-bring-written : (result : Result (Unit {0}) E) → Writes tells old new given result → IsSome (held_at v p).mapping → (v.start.tells ≡ true → given ≡ words_held v p) → v.out ≡ Some (out_at p false old) → MayBring v p old new
   may-bring-written result r stands same out = record { out = out; did = write-did result r stands same; bound = r.bound }

@@ -84,6 +84,8 @@ pub mod Asides
 pub mod Leaves
 pub mod Device
 pub mod Alone
+pub mod After
+pub mod Tables
 pub mod Saws
 pub mod Evidenced
 pub mod Filling

@@ -32,7 +32,7 @@ use Rattle.vm_rule.specs.Rule.{KnowsPage, KnowsPages, no_held, BlocksFit, is_pen
 use Rattle.vm_rule.specs.Log.{did_load}
 use Rattle.vm_rule.specs.Mappings.{held_at}
 use Rattle.vm_rule.specs.Slots.{words_held, DeviceDid, home_view, ReturnTold}
-use Rattle.vm_rule.specs.Slots.DeviceDid.{idle, wrote, failed}
+use Rattle.vm_rule.specs.Slots.DeviceDid.{idle, read, wrote, failed}
 use Rattle.vm_rule.proofs.Adding.{after_more, became_more, faults-still}
 use Rattle.vm_rule.proofs.Bringing.{steps_more}
 use Rattle.vm_rule.proofs.Cores.{core-block}
@@ -40,6 +40,7 @@ use Rattle.vm_rule.proofs.Facts.{locked-here, shared-here}
 use Rattle.vm_rule.proofs.Found.{seat-here, block-here}
 use Rattle.vm_rule.proofs.Parts.{upd-is, listed-upd}
 use Rattle.vm_rule.proofs.Calls.{called, IsCalled, called-inv, called-left}
+use Rattle.vm_step.proofs.Device.{more-is}
 use Rattle.vm_step.proofs.DeviceSteps.{device-shows}
 use Rattle.vm_step.proofs.Homes.{slot-here, slot-else, out-of_page, out-else, out-is}
 use Rattle.vm_step.proofs.Slots.{slot-empty, core-slots, has-share, others-out}
@@ -104,11 +105,12 @@ module _ {X B : Type 0} (stored : B → Stored) (keeps : Start → Kept X → Ty
           → ((held_at v p).mapping ≡ (page p).trans) × ((held_at v p).fault ≡ (page p).fault) × ((held_at v p).block.words ≡ (page p).block) × ((held_at v p).block.count ≡ (page p).count)
           → (start.tells ≡ true → v.start.tells ≡ true) → p < start.pages → may_call (seat_of v p) ≡ true
           → IsCalled start.tells world.core.words (page p) b.count b.words
-      cases (idle w c) words count knows t' l calls = record { contents = λ t. inl (w (t' t) ∙ sym words); counts = inl (c ∙ sym count) }
-      cases {p} (wrote m w c) words count knows t' l calls =
+      cases (idle same) words count knows t' l calls = record { contents = λ t. inl (ap (λ (y : Stored). y.words) same ∙ sym words); counts = inl (ap (λ (y : Stored). y.count) same ∙ sym count) }
+      cases (read _ w c _ _) words count knows t' l calls = record { contents = λ t. inl (w (t' t) ∙ sym words); counts = inl (c ∙ sym count) }
+      cases {p} (wrote m w c _ _) words count knows t' l calls =
           let resident : IsSome (page p).trans = subst IsSome knows.0 m in
           record { contents = λ t. inr (resident, w (t' t) ∙ written-held p l calls t resident); counts = inl (c ∙ sym count) }
-      cases (failed w c) words count knows t' l calls = record { contents = λ t. inl (w (t' t) ∙ sym words); counts = inr (c ∙ ap count_more (sym count)) }
+      cases {p} {old} (failed w c _ _) words count knows t' l calls = record { contents = λ t. inl (w (t' t) ∙ sym words); counts = inr (c ∙ more-is old.count ∙ ap count_more (sym count)) }
 
   -- ---- the block comes home
 

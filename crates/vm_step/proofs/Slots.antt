@@ -30,7 +30,7 @@ use Rattle.vm_rule.specs.Rule.{slot_of, BlocksFit, KnowsPages, is_pending, Ruled
 use Rattle.vm_rule.specs.Brought.{Brings}
 use Rattle.vm_rule.specs.Log.{did_load}
 use Rattle.vm_rule.specs.Slots.{out_at, out_view, IsBlockOf, SlotTold, ShiftTold, words_held, DeviceDid}
-use Rattle.vm_rule.specs.Slots.DeviceDid.{idle, wrote, failed}
+use Rattle.vm_rule.specs.Slots.DeviceDid.{idle, read, wrote, failed}
 use Rattle.vm_rule.proofs.Adding.{after_more, became_more, faults-still}
 use Rattle.vm_rule.proofs.Bringing.{steps_more}
 use Rattle.vm_rule.proofs.Cores.{seats-still, held-still}
@@ -107,14 +107,15 @@ module _ {X B : Type 0} (stored : B → Stored) (keeps : Start → Kept X → Ty
 
   -- what was done to its block is so of the view after a move of a slot
   pub did-stays : (homes : List (maybe.Option (Option B))) (p : ℕ) (moving : Bool) (b old new : Stored) → p < start.pages → may_call (seat_of v p) ≡ true → DeviceDid v p old new → DeviceDid (slot-view homes p moving b) p old new
-  did-stays homes p moving b old new l calls (idle w c) = idle w c
-  did-stays homes p moving b old new l calls (failed w c) = failed w c
-  did-stays homes p moving b old new l calls (wrote m w c) =
+  did-stays homes p moving b old new l calls (idle same) = idle same
+  did-stays homes p moving b old new l calls (read owns w c reads writes) = read owns w c reads writes
+  did-stays homes p moving b old new l calls (failed w c reads writes) = failed w c reads writes
+  did-stays homes p moving b old new l calls (wrote m w c reads writes) =
       let same : words_held v p ≡ words_held (slot-view homes p moving b) p = ⊎_elim
       (λ owns. rw owns refl)
       (λ free. rw free (ap (λ (y : Version). y.words) ((r.known id v there live).latest p (inr (has-share p l calls free)) ∙ sym (last-told stored keeps tied start tells s r id v there live p))))
       (cases_Bool (seat_of v p).exclusive) in
-      wrote m (λ t. w t ∙ same) c
+      wrote m (λ t. w t ∙ same) c reads writes
 
   -- ---- the slot is taken with the block in it
 

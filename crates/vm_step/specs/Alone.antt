@@ -1,5 +1,5 @@
 -- A pass that is alone knows the whole table: what a run of its steps leaves of the table as it knows it.
-use Rattle.std.specs.Prelude.{ℕ, true, false, List, [], ◌∷◌, ◌++◌, ◌≡◌, ◌⊎◌, ◌<◌, slice_index}
+use Rattle.std.specs.Prelude.{ℕ, true, false, None, List, [], ◌∷◌, ◌++◌, ◌≡◌, ◌⊎◌, ◌<◌, length, slice_index}
 use Rattle.vm_core.specs.Words.{state_of, UNLOCKED, MARKED, EVICTED}
 use Rattle.vm_rule.specs.declared.view.Did.{Did}
 use Rattle.vm_rule.specs.declared.view.Origin.{Origin}
@@ -7,14 +7,24 @@ use Rattle.vm_rule.specs.declared.view.Place.{Place}
 use Rattle.vm_rule.specs.declared.view.Place.TheVariants as places
 use Rattle.vm_rule.specs.declared.view.Release.{Release}
 use Rattle.vm_rule.specs.declared.view.View.{View}
-use Rattle.vm_rule.specs.Layout.{index_of}
-use Rattle.vm_rule.specs.Views.{IsWhole, seat_of}
+use Rattle.vm_rule.specs.Layout.{Within, index_of, width}
+use Rattle.vm_rule.specs.Views.{Each, IsWhole, seat_of}
 use Rattle.vm_rule.specs.Brought.{IsFoundAt, set_if}
+use Rattle.vm_step.specs.Evidence.{HasWritten}
 
 -- the words before and after these steps: each found the word that stood there, and left the one that it wrote
 abbrev pub Follows : Origin → List Did → List ℕ → List ℕ → Type 0
 Follows start [] old new = new ≡ old
 Follows start (d ∷ ds) old new = IsFoundAt d.found (index_of start d.at) old × Follows start ds (set_if d.wrote (index_of start d.at) old) new
+
+-- none of these steps leaves a word at this place
+abbrev pub WritesNone : Place → List Did → Type 0
+WritesNone at done = Each (λ d. d.at ≡ at → d.wrote ≡ None) done
+
+-- one of these steps leaves this word at this place, and none after it leaves one there
+pub record LeavesLast (done : List Did) (at : Place) (word : ℕ) : Type 0 where
+  pub written : HasWritten done at word
+  pub none_after : WritesNone at written.later
 
 -- a page with this word is locked by nobody, resident or not
 abbrev pub LocksNone : ℕ → Type 0
@@ -33,8 +43,17 @@ module _ {X : Type 0} where
   abbrev pub KnowsUnheld : View X → Type 0
   KnowsUnheld w = IsAlone w → (q : ℕ) → q < w.start.pages → (seat_of w q).exclusive ≡ false → (seat_of w q).shares ≡ 0 → LocksNone (word_at w (places.State q))
 
-  -- the call made these steps and these releases; where the pass was alone, nothing else happened to the table's words, and to its releases
+  -- the call made these steps, each on a word of the table, and these releases; where the pass was alone, nothing else happened to the table's
+  -- words, of which it knows all, and to its releases
   pub record RunsAlone (done : List Did) (own : List Release) (v w : View X) : Type 0 where
+    pub inside : Each (λ d. Within v.start d.at) done
     pub current : v.current ≡ true → w.current ≡ true
     pub releases : IsWhole v → v.current ≡ true → w.releases ≡ v.releases ++ own
     pub words : IsWhole v → v.current ≡ true → Follows v.start done v.snapshot.words w.snapshot.words
+    pub wide : IsWhole v → v.current ≡ true → (done ≡ []) ⊎ (length v.snapshot.words ≡ width v.start)
+
+  -- after these steps a pass that was alone knows the word at each place: where a step left one, the last one left there, and elsewhere the word
+  -- that it knew
+  pub record KnowsAfter (done : List Did) (v w : View X) : Type 0 where
+    pub kept : IsAlone v → (at : Place) → Within v.start at → WritesNone at done → word_at w at ≡ word_at v at
+    pub left : IsAlone v → (at : Place) (word : ℕ) → LeavesLast done at word → word_at w at ≡ word

@@ -26,6 +26,10 @@ pub record HasGiven (done : List Did) (at : Place) (word : ℕ) : Type 0 where
   pub cut : done ≡ earlier ++ step ∷ later
   pub gives : Gives step at word
 
+-- the step is a load
+abbrev pub IsLoad : Did → Type 0
+IsLoad d = (d.expects ≡ None) × (d.wrote ≡ None)
+
 -- an exchange that expected one word found the other, and left it
 pub record IsLost (d : Did) (at : Place) (expects found : ℕ) : Type 0 where
   pub gives : Gives d at found
@@ -81,24 +85,27 @@ pub record IsSaw (kept : ℕ → Type 0) (expects : ℕ → ℕ → Type 0) (don
   pub foreign : Each (λ d. d.at ≡ place_of saw.at → d.wrote ≢ Some saw.seen) earlier
   pub why : WhyAgain saw.at saw.first saw.seen last
 
--- the page was found evicted, and none of the steps before had left that word
+-- the page was found evicted by a load, and none of the steps before had left that word
 pub record NeedsPage (done : List Did) (p : ℕ) : Type 0 where
   pub word : ℕ
   pub given : HasGiven done (places.State p) word
+  pub load : IsLoad given.step
   pub evicted : state_of word ≡ EVICTED
   pub foreign : Each (λ d. d.at ≡ places.State p → d.wrote ≢ Some word) given.earlier
 
--- the page was found with all shares taken, and none of the steps before had left that word
+-- the page was found with all shares taken by a load, and none of the steps before had left that word
 pub record IsCrowded (done : List Did) (p : ℕ) : Type 0 where
   pub word : ℕ
   pub given : HasGiven done (places.State p) word
+  pub load : IsLoad given.step
   pub full : state_of word ≡ 252
   pub foreign : Each (λ d. d.at ≡ places.State p → d.wrote ≢ Some word) given.earlier
 
--- the page was found at the last version, and none of the steps before had left that word
+-- the page was found at the last version by a load, and none of the steps before had left that word
 pub record IsWorn (done : List Did) (p : ℕ) : Type 0 where
   pub word : ℕ
   pub given : HasGiven done (places.State p) word
+  pub load : IsLoad given.step
   pub last : version_of word ≡ MAX_VERSION
   pub foreign : Each (λ d. d.at ≡ places.State p → d.wrote ≢ Some word) given.earlier
 

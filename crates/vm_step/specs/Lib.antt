@@ -11,6 +11,7 @@ pub mod Asides
 pub mod BlockMoves
 pub mod Works
 pub mod Alone
+pub mod Tables
 pub mod Choices
 pub mod Fills
 pub mod Together

@@ -1,8 +1,8 @@
 -- The walk so far gives each clause.
-use Rattle.std.proofs.Common.{◌≡◌, ◌<◌, ◌≤◌, ◌+◌, ◌*◌, ◌%◌, length, suc, sym, ap, subst, ◌∙◌, arith}
+use Rattle.std.proofs.Common.{◌≡◌, ◌<◌, ◌≤◌, ◌+◌, ◌*◌, ◌%◌, length, suc, sym, ap, subst, ◌∙◌, inl, inr, arith}
 use Rattle.vm_step.specs.Passes.{view}
 use Rattle.vm_clock.specs.Clock.{total}
-use Rattle.vm_clock.proofs.Walking.{IsWalking, walked-few, walked-list, walked-looks, walking-on}
+use Rattle.vm_clock.proofs.Walking.{IsWalking, walked-chosen, walked-few, walked-list, walked-looks, walking-on}
 use Rattle.vm_clock.proofs.candidates.Goals as goal
 
 pub returns-then-len-want-clause-list : goal.returns-then-len-want-clause-list
@@ -57,3 +57,15 @@ returns-clause-looks g c =
 
 pub returns-clause-few : goal.returns-clause-few
 returns-clause-few g c = walked-few _ _ _ _ _ _ _ c.loop-k.invariant.walking
+
+pub returns-then-len-want-clause-chosen : goal.returns-then-len-want-clause-chosen
+returns-then-len-want-clause-chosen g c =
+    let pages : c.args.words.now.pages ≡ (view c.args.pass.now).start.pages = c.args.words.now.shape.0 ∙ sym c.requires.ready.table.is_shape.pages in
+    let enough : length c.loop-k.chosen.list.items ≡ c.args.want = omega (arith, c.len.ensures.value, c.if-len-want.true) in
+    walked-chosen _ _ _ _ _ _ _ c.loop-k.invariant.walking (subst (λ n. c.loop-k.k ≤ 2 * n) pages c.loop-k.auto.k-end) (inl enough)
+
+pub returns-clause-chosen : goal.returns-clause-chosen
+returns-clause-chosen g c =
+    let pages : c.args.words.now.pages ≡ (view c.args.pass.now).start.pages = c.args.words.now.shape.0 ∙ sym c.requires.ready.table.is_shape.pages in
+    let all : c.loop-k.k ≡ 2 * c.args.words.now.pages = omega (arith, c.loop-k.auto.k-end, c.loop-k-test.false) in
+    walked-chosen _ _ _ _ _ _ _ c.loop-k.invariant.walking (subst (λ n. c.loop-k.k ≤ 2 * n) pages c.loop-k.auto.k-end) (inr (all ∙ ap (λ n. 2 * n) pages))

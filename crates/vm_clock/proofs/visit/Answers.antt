@@ -9,46 +9,40 @@ use Rattle.vm_clock.proofs.visit.Goals as goal
 
 pub returns-then-is_chosen-clause-visited : goal.returns-then-is_chosen-clause-visited
 returns-then-is_chosen-clause-visited g c =
-    let page = subst (λ n. c.args.p < n) (sym c.look_silently-word.ensures.table.is_shape.pages) c.requires.page in
     let chosen = told-of c.args.p c.args.chosen.now.list.items c.as_slice.result.now c.is_chosen.result true c.as_slice.ensures.value c.is_chosen.ensures c.if-is_chosen.true in
-    by-look _ _ _ _ _ page c.look_silently-word.ensures.told _ _ _ _ (visits.again _ chosen refl refl refl)
+    by-look _ _ _ _ _ c.look_silently-word.ensures.told _ _ _ _ (visits.again _ chosen refl refl refl)
 
 pub returns-then-state-clause-visited : goal.returns-then-state-clause-visited
 returns-then-state-clause-visited g c =
-    let page = subst (λ n. c.args.p < n) (sym c.look_silently-word.ensures.table.is_shape.pages) c.requires.page in
     let new = told-of c.args.p c.args.chosen.now.list.items c.as_slice.result.now c.is_chosen.result false c.as_slice.ensures.value c.is_chosen.ensures c.if-is_chosen.false in
-    by-look _ _ _ _ _ page c.look_silently-word.ensures.told _ _ _ _ (visits.gone _ (looks-at _ _ _ [] new) (sym c.state-state.ensures ∙ c.if-state.true) refl refl)
+    by-look _ _ _ _ _ c.look_silently-word.ensures.told _ _ _ _ (visits.gone _ (looks-at _ _ _ [] new) (sym c.state-state.ensures ∙ c.if-state.true) refl refl)
 
 pub returns-then-state-2-clause-visited : goal.returns-then-state-2-clause-visited
 returns-then-state-2-clause-visited g c =
-    let page = subst (λ n. c.args.p < n) (sym c.look_silently-word.ensures.table.is_shape.pages) c.requires.page in
     let new = told-of c.args.p c.args.chosen.now.list.items c.as_slice.result.now c.is_chosen.result false c.as_slice.ensures.value c.is_chosen.ensures c.if-is_chosen.false in
     let held = held-state _ (subst (λ n. n < 256) c.state-state.ensures c.state-state.type_inv) (λ e. c.if-state.false (c.state-state.ensures ∙ e)) (λ e. c.if-state-ne-UNLOCKED.true (c.state-state.ensures ∙ e)) (λ e. c.if-state-2.true (c.state-state.ensures ∙ e)) in
-    by-look _ _ _ _ _ page c.look_silently-word.ensures.told _ _ _ _ (visits.held _ (looks-at _ _ _ [] new) held refl refl)
+    by-look _ _ _ _ _ c.look_silently-word.ensures.told _ _ _ _ (visits.held _ (looks-at _ _ _ [] new) held refl refl)
 
 pub returns-then-version-eq-MAX_VERSION-clause-visited :
     goal.returns-then-version-eq-MAX_VERSION-clause-visited
 returns-then-version-eq-MAX_VERSION-clause-visited g c =
-    let page = subst (λ n. c.args.p < n) (sym c.look_silently-word.ensures.table.is_shape.pages) c.requires.page in
     let new = told-of c.args.p c.args.chosen.now.list.items c.as_slice.result.now c.is_chosen.result false c.as_slice.ensures.value c.is_chosen.ensures c.if-is_chosen.false in
     let free : (state_of c.look_silently-word.result ≡ UNLOCKED) ⊎ (state_of c.look_silently-word.result ≡ MARKED) =
     elim c.else-state-ne-UNLOCKED.branch [
       | else-state-ne-UNLOCKED-via-then-state-ne-UNLOCKED+else-state-2 w ↦ inr (sym c.state-state.ensures ∙ w.if-state-2.false)
       | else-state-ne-UNLOCKED-via-else-state-ne-UNLOCKED w ↦ inl (sym c.state-state.ensures ∙ w.if-state-ne-UNLOCKED.false)
     ] in
-    by-look _ _ _ _ _ page c.look_silently-word.ensures.told _ _ _ _
+    by-look _ _ _ _ _ c.look_silently-word.ensures.told _ _ _ _
     (visits.worn _ (looks-at _ _ _ [] new) free (sym c.version.ensures ∙ c.if-version-eq-MAX_VERSION.true) (ap (λ f. record c.args.chosen.now.looks { worn = c.args.chosen.now.looks.worn + 1; first_worn = f }) (c.or-chosen.ensures ∙ first-or c.args.chosen.now.looks.first_worn c.args.p)) refl)
 
 pub returns-then-state-3-clause-visited : goal.returns-then-state-3-clause-visited
 returns-then-state-3-clause-visited g c =
-    let page = subst (λ n. c.args.p < n) (sym c.look_silently-word.ensures.table.is_shape.pages) c.requires.page in
     let new = told-of c.args.p c.args.chosen.now.list.items c.as_slice.result.now c.is_chosen.result false c.as_slice.ensures.value c.is_chosen.ensures c.if-is_chosen.false in
     let fresh = fresh-word _ (λ e. c.if-version-eq-MAX_VERSION.false (c.version.ensures ∙ e)) in
-    by-look _ _ _ _ _ page c.look_silently-word.ensures.told _ _ _ _ (visits.found _ (looks-at _ _ _ [] new) (sym c.state-state.ensures ∙ c.if-state-3.true) fresh refl c.push.ensures.items)
+    by-look _ _ _ _ _ c.look_silently-word.ensures.told _ _ _ _ (visits.found _ (looks-at _ _ _ [] new) (sym c.state-state.ensures ∙ c.if-state-3.true) fresh refl c.push.ensures.items)
 
 pub returns-in-Taken-clause-visited : goal.returns-in-Taken-clause-visited
 returns-in-Taken-clause-visited g c =
-    let page = subst (λ n. c.args.p < n) (sym c.look_silently-word.ensures.table.is_shape.pages) c.requires.page in
     let new = told-of c.args.p c.args.chosen.now.list.items c.as_slice.result.now c.is_chosen.result false c.as_slice.ensures.value c.is_chosen.ensures c.if-is_chosen.false in
     let fresh = fresh-word _ (λ e. c.if-version-eq-MAX_VERSION.false (c.version.ensures ∙ e)) in
     let unlocked : state_of c.look_silently-word.result ≡ UNLOCKED =
@@ -56,11 +50,10 @@ returns-in-Taken-clause-visited g c =
       | else-state-ne-UNLOCKED-via-then-state-ne-UNLOCKED+else-state-2 w ↦ absurd (c.if-state-3.false w.if-state-2.false)
       | else-state-ne-UNLOCKED-via-else-state-ne-UNLOCKED w ↦ sym c.state-state.ensures ∙ w.if-state-ne-UNLOCKED.false
     ] in
-    by-mark _ _ _ _ _ page c.look_silently-word.ensures.told _ _ _ _ c.in-Taken.ensures.told _ _ (visits.marked _ (looks-at _ _ _ _ new) unlocked fresh refl refl)
+    by-mark _ _ _ _ _ c.look_silently-word.ensures.told _ _ _ _ c.in-Taken.ensures.told _ _ (visits.marked _ (looks-at _ _ _ _ new) unlocked fresh refl refl)
 
 pub returns-in-Lost-clause-visited : goal.returns-in-Lost-clause-visited
 returns-in-Lost-clause-visited g c =
-    let page = subst (λ n. c.args.p < n) (sym c.look_silently-word.ensures.table.is_shape.pages) c.requires.page in
     let new = told-of c.args.p c.args.chosen.now.list.items c.as_slice.result.now c.is_chosen.result false c.as_slice.ensures.value c.is_chosen.ensures c.if-is_chosen.false in
     let fresh = fresh-word _ (λ e. c.if-version-eq-MAX_VERSION.false (c.version.ensures ∙ e)) in
     let unlocked : state_of c.look_silently-word.result ≡ UNLOCKED =
@@ -69,4 +62,4 @@ returns-in-Lost-clause-visited g c =
       | else-state-ne-UNLOCKED-via-else-state-ne-UNLOCKED w ↦ sym c.state-state.ensures ∙ w.if-state-ne-UNLOCKED.false
     ] in
     let lost = c.in-Lost.ensures in
-    by-mark _ _ _ _ _ page c.look_silently-word.ensures.told _ _ _ _ lost.told _ _ (visits.lost _ c.in-Lost.field-0 (lost.lost c.in-Lost.field-0 refl) (looks-at _ _ _ _ new) unlocked fresh refl refl)
+    by-mark _ _ _ _ _ c.look_silently-word.ensures.told _ _ _ _ lost.told _ _ (visits.lost _ c.in-Lost.field-0 (lost.lost c.in-Lost.field-0 refl) (looks-at _ _ _ _ new) unlocked fresh refl refl)

@@ -1,5 +1,6 @@
 use Rattle.std.proofs.Common.{◌<◌, ◌≤◌, ℕ, refl, sym, ap, subst, ◌∙◌, arith}
 use Rattle.vm_core.specs.Words.{MAX_VERSION}
+use Rattle.vm_core.specs.declared.event.Seat.{Seat}
 use Rattle.vm_owner.specs.Numbers.{has}
 use Rattle.vm_rule.specs.declared.view.View.{View}
 use Rattle.vm_rule.specs.declared.view.Origin.{Origin}
@@ -19,7 +20,11 @@ block_out-block-requires-clause-legal g c =
 pub block_home-requires-clause-legal : goal.block_home-requires-clause-legal
 block_home-requires-clause-legal g c =
     let out = goes-out c.args.pid _ _ _ c.block_out-block.ensures.told in
-    (_, may-bring c.args.pid g.B.Block.tells _ _ _ c.read-read.new.into (ap (λ (o : Origin). o.tells) out.works.leaves.start ∙ c.requires.ready.table.tells_is) c.read-read.result c.read-read.ensures out.away)
+    let empty = held-empty g.U.Owner.tied c.args.pid c.args.version c.requires.locked.0 _ (within _ c.requires.below) c.requires.locked.1 in (
+      _,
+      may-bring c.args.pid g.B.Block.tells _ _ _ c.read-read.new.into (ap (λ (o : Origin). o.tells) out.works.leaves.start ∙ c.requires.ready.table.tells_is)
+          (ap (λ (s : Seat). s.exclusive) out.works.seat ∙ empty.owns) c.read-read.result c.read-read.ensures out.away,
+    )
 
 pub fill-requires-clause-ready : goal.fill-requires-clause-ready
 fill-requires-clause-ready g c =
@@ -55,7 +60,7 @@ release_evicted-requires-clause-legal g c =
 
 pub returns-in-Ok-clause-fetched : goal.returns-in-Ok-clause-fetched
 returns-in-Ok-clause-fetched g c first found =
-    brought _ _ _ _ _ _ (held-empty g.U.Owner.tied c.args.pid c.args.version first _ (within _ c.requires.below) found) _ _ _ _ c.block_out-block.ensures.told g.B.Block.tells c.requires.ready.table.tells_is c.read-read.new.into c.read-read.result c.read-read.ensures c.block_home.ensures.told _ c.in-Ok.is c.args.frame c.requires.frame.1 _ c.fill.ensures.stores _ c.install.ensures.told c.requires.below c.requires.home _ c.release_silently.ensures.told
+    brought _ _ _ _ _ _ (held-empty g.U.Owner.tied c.args.pid c.args.version first _ (within _ c.requires.below) found) _ _ _ _ c.block_out-block.ensures.told g.B.Block.tells c.requires.ready.table.tells_is c.read-read.new.into c.read-read.result c.read-read.ensures c.block_home.ensures.told _ c.in-Ok.is c.args.frame c.requires.frame.1 _ c.fill.ensures.stores _ c.install.ensures.told c.requires.below c.requires.home _ c.release_silently.ensures.told (subst (λ n. c.args.pid < n) (sym c.requires.ready.table.is_shape.pages) c.requires.page) (subst (λ n. c.args.frame < n) (sym c.requires.ready.table.is_shape.frames) c.requires.frame.0)
 
 pub returns-in-Err-clause-ready : goal.returns-in-Err-clause-ready
 returns-in-Err-clause-ready g c =
@@ -65,4 +70,4 @@ returns-in-Err-clause-ready g c =
 
 pub returns-in-Err-clause-fetched : goal.returns-in-Err-clause-fetched
 returns-in-Err-clause-fetched g c first found =
-    (refl, refl, failed _ _ _ _ _ _ (held-empty g.U.Owner.tied c.args.pid c.args.version first _ (within _ c.requires.below) found) _ _ _ _ c.block_out-block.ensures.told g.B.Block.tells c.requires.ready.table.tells_is c.read-read.new.into c.read-read.result c.read-read.ensures c.block_home.ensures.told _ c.faults-count.ensures _ c.raise.ensures.told _ c.in-Err.is (g.met.B.Block.bounded c.read-read.new.self) c.requires.below c.requires.home _ c.release_evicted.ensures.told)
+    (refl, refl, failed _ _ _ _ _ _ (held-empty g.U.Owner.tied c.args.pid c.args.version first _ (within _ c.requires.below) found) _ _ _ _ c.block_out-block.ensures.told g.B.Block.tells c.requires.ready.table.tells_is c.read-read.new.into c.read-read.result c.read-read.ensures c.block_home.ensures.told _ c.faults-count.ensures _ c.raise.ensures.told _ c.in-Err.is (g.met.B.Block.bounded c.read-read.new.self) c.requires.below c.requires.home _ c.release_evicted.ensures.told (subst (λ n. c.args.pid < n) (sym c.requires.ready.table.is_shape.pages) c.requires.page))

@@ -1,5 +1,6 @@
 use Rattle.std.proofs.Common.{◌≡◌, ◌≢◌, ◌<◌, ◌≤◌, ℕ, refl, sym, ap, subst, ◌∙◌, inr, arith}
 use Rattle.vm_core.specs.Words.{EVICTED, MAX_VERSION, state_of, version_of, word_of}
+use Rattle.vm_rule.specs.Locks.{LockTold}
 use Rattle.vm_rule.proofs.WordFacts.{version-within, word-state, word-version}
 use Rattle.vm_fault.specs.Fetches.{IsFetched}
 use Rattle.vm_step.specs.Passes.{view}
@@ -48,3 +49,13 @@ returns-in-Lost-clause-fetched g c =
     let n : c.version-version.result ≤ MAX_VERSION = within c.look_silently-word.result _ c.version-version.ensures in
     subst (IsFetched c.args.pid c.args.frame (view c.args.pass.now) (view c.lock_exclusive.new.pass)) (sym c.again-in-Lost.ensures)
     (refl, lost g.U.Owner.tied c.args.pid c.look_silently-word.result _ _ c.look_silently-word.ensures.told c.of-first.result c.in-Lost.seen c.version-version.result _ c.of-first.ensures (sym c.version-version.ensures) (c.lock_exclusive.ensures.lost c.in-Lost.seen c.in-Lost.is) c.in-Lost.ensures.told)
+
+pub returns-in-Taken-clause-fetched : goal.returns-in-Taken-clause-fetched
+returns-in-Taken-clause-fetched g c =
+    c.bring_locked.ensures.fetched (view c.args.pass.now)
+    (record {
+      between = view c.look_silently-word.new.pass;
+      word = c.look_silently-word.result;
+      look = c.look_silently-word.ensures.told;
+      lock = subst (λ (n : ℕ). LockTold g.U.Owner.tied c.args.pid n n (view c.look_silently-word.new.pass) (view c.lock_exclusive.new.pass)) c.of-first.ensures c.in-Taken.ensures.told;
+    })

@@ -1,6 +1,8 @@
-use Rattle.std.proofs.Common.{refl, subst, ◌∙◌}
+use Rattle.std.proofs.Common.{ℕ, ◌<◌, List, length, refl, sym, subst, ◌∙◌}
 use Rattle.vm_rule.specs.Nexts.{NextTold}
 use Rattle.vm_step.specs.Passes.{view, found_by}
+use Rattle.vm_guard.proofs.GuardSteps.{still-of}
+use Rattle.vm_guard.proofs.FreshTwo.{claim-keeps}
 use Rattle.vm_guard.proofs.FreshAnswers.{again-one, held-after, room-one}
 use Rattle.vm_guard.proofs.Freshly.{fresh-one}
 use Rattle.vm_guard.proofs.FreshSure.{next-found}
@@ -12,6 +14,12 @@ returns-then-again-x-clause-answer g c v b =
 
 pub furnish-first-requires-clause-frames : goal.furnish-first-requires-clause-frames
 furnish-first-requires-clause-frames g c = (held-after _ c.nload-again.result _ _ c.nload-again.ensures.told c.requires.frames.0, c.requires.frames.1)
+
+pub returns-clause-ready : goal.returns-clause-ready
+returns-clause-ready g c =
+    let ready = c.furnish-first.ensures.ready in
+    let kept = claim-keeps c.args.one.pid 1 _ _ _ c.claim.ensures.told in
+    record { may = (c.claim.ensures.pass.0 ∙ ready.may.0, subst (λ (ns : List ℕ). 0 < length ns) (sym kept.1) ready.may.1); table = still-of _ _ _ _ kept.0 ready.table }
 
 pub returns-clause-answer : goal.returns-clause-answer
 returns-clause-answer g c v b = (

@@ -1,7 +1,7 @@
 use Rattle.std.proofs.Common.{ℕ, ◌*◌, ◌++◌, ◌∙◌, ap, length, map}
 use Rattle.vm_core.specs.Start.{full_bundle}
 use Rattle.vm_core.specs.Words.{word_of, EVICTED}
-use Rattle.vm_rule.specs.Fixed.{counts_of}
+use Rattle.vm_rule.specs.Started.{counts_of}
 use Rattle.vm_rule.specs.Layout.{bundles_of}
 use Rattle.vm_rule.specs.Puts.{listed}
 use Rattle.vm_rule.proofs.LaidWords.{pushed-parts}

@@ -1,0 +1,234 @@
+-- What a walk leaves of the words of a table that nobody else changes: each page passed has its word as the clock leaves it, by the first visit.
+use Rattle.std.proofs.Common.{ℕ, ◌≡◌, ◌≢◌, ◌⊎◌, ◌<◌, ◌≤◌, ◌+◌, ◌*◌, ◌%◌, ◌&&◌, ◌||◌, Bool, true, false, Some, None, List, [], ◌∷◌, length, zero, suc, refl, sym, ap, subst, ◌∙◌, inl, inr, ⊎_elim, arith, eqb, if◌then◌else◌, slice_index, slice_set}
+use Rattle.std.proofs.Math.Nat.{mod-lt}
+use Rattle.std.proofs.lemmas.Bool.{and_left, and_right, cases_eq, cases_lt, cond-false, cond-true, eq-eqb, le-ltb, lt-ltb, ne_eqb, true≢false}
+use Rattle.std.proofs.lemmas.List.{get_or-set_other, get_or-set_same, length-set}
+use Rattle.vm_core.specs.Words.{state_of, version_of, word_of, hand_more, UNLOCKED, MARKED, MAX_VERSION}
+use Rattle.vm_owner.specs.Numbers.{has}
+use Rattle.vm_rule.specs.declared.view.Did.{Did}
+use Rattle.vm_rule.specs.declared.view.Origin.{Origin}
+use Rattle.vm_rule.specs.declared.view.Place.TheVariants as places
+use Rattle.vm_rule.specs.declared.view.View.{View}
+use Rattle.vm_rule.specs.Brought.{set_if}
+use Rattle.vm_rule.specs.Layout.{Within, index_of}
+use Rattle.vm_rule.specs.Log.{did_change}
+use Rattle.vm_rule.specs.Views.{Each}
+use Rattle.vm_rule.proofs.Entries.{each-map}
+use Rattle.vm_rule.proofs.Facts.{has-both}
+use Rattle.vm_rule.proofs.Heard.{each-both}
+use Rattle.vm_rule.proofs.WordFacts.{version-within, word-state}
+use Rattle.vm_step.specs.Alone.{Follows, IsAlone, RunsAlone}
+use Rattle.vm_step.specs.Choices.{IsHeld, pages_of}
+use Rattle.vm_step.specs.declared.choice.Looks.{Looks}
+use Rattle.vm_step.proofs.Tables.{else-knows, follows-between, follows-kept, follows-length}
+use Rattle.vm_clock.specs.Clock.{IsPassed, IsWalked, KnowsWalked, Visits, Visits as visits, Walks, passed_word}
+use Rattle.vm_clock.proofs.Choices.{pages-end}
+
+-- ---- the word of one page
+
+marks-it : (word : ℕ) → state_of word ≡ UNLOCKED → version_of word < MAX_VERSION → passed_word word ≡ word_of MARKED (version_of word)
+marks-it word free low = cond-true _ _ _ ((λ i. eq-eqb (state_of word) UNLOCKED free i && lt-ltb (version_of word) MAX_VERSION low i))
+
+leaves-state : (word : ℕ) → state_of word ≢ UNLOCKED → passed_word word ≡ word
+leaves-state word ne = cond-false _ _ _ (and_left _ _ (ne_eqb (state_of word) UNLOCKED ne))
+
+leaves-last : (word : ℕ) → version_of word ≡ MAX_VERSION → passed_word word ≡ word
+leaves-last word e = cond-false _ _ _ (and_right _ _ (le-ltb (version_of word) MAX_VERSION (omega (arith, e))))
+
+-- a page that was passed is as it would be left
+pass-twice : (word : ℕ) → passed_word (passed_word word) ≡ passed_word word
+pass-twice word =
+    ⊎_elim
+    (λ (free : state_of word ≡ UNLOCKED).
+    ⊎_elim
+    (λ (low : version_of word < MAX_VERSION).
+    let is : passed_word word ≡ word_of MARKED (version_of word) = marks-it word free low in
+    let state : state_of (passed_word word) ≡ MARKED = ap state_of is ∙ word-state MARKED (version_of word) (version-within word) in
+    leaves-state (passed_word word) (λ e. (let no : MARKED ≡ UNLOCKED = sym state ∙ e in omega (arith, no))))
+    (λ high. let within : version_of word ≤ MAX_VERSION = version-within word in ap passed_word (leaves-last word (omega (arith, high, within))))
+    (cases_lt (version_of word) MAX_VERSION))
+    (λ ne. ap passed_word (leaves-state word ne))
+    (cases_eq (state_of word) UNLOCKED)
+
+-- ---- one visit
+
+-- the words before and after a visit of page p
+data Passes (chosen : List (ℕ × ℕ)) (p : ℕ) (a b : List ℕ) : Type 0 where
+  again : has p (pages_of chosen) ≡ true → b ≡ a → Passes chosen p a b
+  stays : passed_word (slice_index a p) ≡ slice_index a p → b ≡ a → Passes chosen p a b
+  marks : b ≡ slice_set a p (passed_word (slice_index a p)) → Passes chosen p a b
+
+held-other : (word : ℕ) → IsHeld word → state_of word ≢ UNLOCKED
+held-other word h e = (let some : 1 ≤ state_of word = h.0 in omega (arith, some, e))
+
+module _ (start : Origin) where
+  -- the look found the word, and left it
+  looked : (p word : ℕ) (chosen : List (ℕ × ℕ)) (a b : List ℕ) → passed_word word ≡ word → (word ≡ slice_index a p) × (b ≡ a) → Passes chosen p a b
+  looked p word chosen a b e f = stays (subst (λ n. passed_word n ≡ n) f.0 e) f.1
+
+  visit-words : (p : ℕ) (steps : List Did) (chosen list : List (ℕ × ℕ)) (old new : Looks) (a b : List ℕ) → Visits chosen p steps old new list → Follows start steps a b → Passes chosen p a b
+  visit-words p steps chosen list old new a b (visits.again word is steps_are e l) f =
+      again is (subst (λ ds. Follows start ds a b) steps_are f).1
+  visit-words p steps chosen list old new a b (visits.gone word look state e l) f =
+      looked p word chosen a b (leaves-state word (λ x. (let no : 255 ≡ 0 = sym state ∙ x in omega (arith, no)))) (subst (λ ds. Follows start ds a b) look.steps_are f)
+  visit-words p steps chosen list old new a b (visits.held word look held e l) f = looked p word chosen a b (leaves-state word (held-other word held)) (subst (λ ds. Follows start ds a b) look.steps_are f)
+  visit-words p steps chosen list old new a b (visits.worn word look state last e l) f = looked p word chosen a b (leaves-last word last) (subst (λ ds. Follows start ds a b) look.steps_are f)
+  visit-words p steps chosen list old new a b (visits.found word look state fresh e l) f =
+      looked p word chosen a b (leaves-state word (λ x. (let no : 254 ≡ 0 = sym state ∙ x in omega (arith, no)))) (subst (λ ds. Follows start ds a b) look.steps_are f)
+  visit-words p steps chosen list old new a b (visits.lost word other ne look state fresh e l) f =
+      let g = subst (λ ds. Follows start ds a b) look.steps_are f in
+      absurd (ne (g.1.0 ∙ sym g.0))
+  visit-words p steps chosen list old new a b (visits.marked word look state fresh e l) f =
+      let g = subst (λ ds. Follows start ds a b) look.steps_are f in
+      let wrote : b ≡ set_if (Some (word_of MARKED (version_of word))) p a = g.1.1 ∙ ap (λ o. set_if o p a) (cond-true (eqb word word) (Some (word_of MARKED (version_of word))) None (eq-eqb word word refl)) in
+      marks (wrote ∙ ap (λ n. slice_set a p n) (sym (marks-it word state fresh) ∙ ap passed_word g.0))
+
+  passed-length : (p : ℕ) (chosen : List (ℕ × ℕ)) (a b : List ℕ) → Passes chosen p a b → length b ≡ length a
+  passed-length p chosen a b (again is e) = ap (λ (l : List ℕ). length l) e
+  passed-length p chosen a b (stays is e) = ap (λ (l : List ℕ). length l) e
+  passed-length p chosen a b (marks e) = ap (λ (l : List ℕ). length l) e ∙ length-set a p _
+
+  passed-other : (p q : ℕ) (chosen : List (ℕ × ℕ)) (a b : List ℕ) → q ≢ p → Passes chosen p a b → slice_index b q ≡ slice_index a q
+  passed-other p q chosen a b ne (again is e) = ap (λ (l : List ℕ). slice_index l q) e
+  passed-other p q chosen a b ne (stays is e) = ap (λ (l : List ℕ). slice_index l q) e
+  passed-other p q chosen a b ne (marks e) = ap (λ (l : List ℕ). slice_index l q) e ∙ get_or-set_other a p q _ 0 ne
+
+  -- the word of the page before all visits: it has been left as it is, or passed, and that where the page was chosen
+  passed-here : (p word : ℕ) (chosen : List (ℕ × ℕ)) (a b : List ℕ) → p < length a → (slice_index a p ≡ word) ⊎ (slice_index a p ≡ passed_word word) → (has p (pages_of chosen) ≡ true → slice_index a p ≡ passed_word word) → Passes chosen p a b
+      → slice_index b p ≡ passed_word word
+  passed-here p word chosen a b inside before known (again is e) = ap (λ (l : List ℕ). slice_index l p) e ∙ known is
+  passed-here p word chosen a b inside before known (stays is e) =
+      ap (λ (l : List ℕ). slice_index l p) e ∙ sym is ∙ ⊎_elim (λ same. ap passed_word same) (λ done. ap passed_word done ∙ pass-twice word) before
+  passed-here p word chosen a b inside before known (marks e) =
+      ap (λ (l : List ℕ). slice_index l p) e ∙ get_or-set_same a p _ 0 inside ∙ ⊎_elim (λ same. ap passed_word same) (λ done. ap passed_word done ∙ pass-twice word) before
+
+-- ---- the walk
+
+pub passed-more : (pages drawn k q : ℕ) → IsPassed pages drawn k q → IsPassed pages drawn (suc k) q
+passed-more pages drawn k q (j, low, is) = (j, omega (arith, low), is)
+
+visit-at : (p : ℕ) (steps : List Did) (chosen list : List (ℕ × ℕ)) (old new : Looks) → Visits chosen p steps old new list → Each (λ (d : Did). d.at ≡ places.State p) steps
+visit-at p steps chosen list old new (visits.again word is steps_are e l) = subst (Each (λ (d : Did). d.at ≡ places.State p)) (sym steps_are) (refl, tt)
+visit-at p steps chosen list old new (visits.gone word look state e l) = subst (Each (λ (d : Did). d.at ≡ places.State p)) (sym look.steps_are) (refl, tt)
+visit-at p steps chosen list old new (visits.held word look held e l) = subst (Each (λ (d : Did). d.at ≡ places.State p)) (sym look.steps_are) (refl, tt)
+visit-at p steps chosen list old new (visits.worn word look state last e l) = subst (Each (λ (d : Did). d.at ≡ places.State p)) (sym look.steps_are) (refl, tt)
+visit-at p steps chosen list old new (visits.found word look state fresh e l) = subst (Each (λ (d : Did). d.at ≡ places.State p)) (sym look.steps_are) (refl, tt)
+visit-at p steps chosen list old new (visits.lost word other ne look state fresh e l) = subst (Each (λ (d : Did). d.at ≡ places.State p)) (sym look.steps_are) (refl, (refl, tt))
+visit-at p steps chosen list old new (visits.marked word look state fresh e l) = subst (Each (λ (d : Did). d.at ≡ places.State p)) (sym look.steps_are) (refl, (refl, tt))
+
+chosen-more : (p q : ℕ) (steps : List Did) (chosen list : List (ℕ × ℕ)) (old new : Looks) → Visits chosen p steps old new list → has q (pages_of list) ≡ true → (has q (pages_of chosen) ≡ true) ⊎ (q ≡ p)
+chosen-more p q steps chosen list old new (visits.again word is steps_are e l) h = inl (ap (λ c. has q (pages_of c)) (sym l) ∙ h)
+chosen-more p q steps chosen list old new (visits.gone word look state e l) h = inl (ap (λ c. has q (pages_of c)) (sym l) ∙ h)
+chosen-more p q steps chosen list old new (visits.held word look held e l) h = inl (ap (λ c. has q (pages_of c)) (sym l) ∙ h)
+chosen-more p q steps chosen list old new (visits.worn word look state last e l) h = inl (ap (λ c. has q (pages_of c)) (sym l) ∙ h)
+chosen-more p q steps chosen list old new (visits.lost word other ne look state fresh e l) h = inl (ap (λ c. has q (pages_of c)) (sym l) ∙ h)
+chosen-more p q steps chosen list old new (visits.marked word look state fresh e l) h = inl (ap (λ c. has q (pages_of c)) (sym l) ∙ h)
+chosen-more p q steps chosen list old new (visits.found word look state fresh e l) h =
+    let both : (has q (pages_of chosen) || (eqb q p || false)) ≡ true = sym (has-both q (pages_of chosen) (p ∷ [])) ∙ ap (has q) (sym (pages-end chosen (p, word))) ∙ ap (λ c. has q (pages_of c)) (sym l) ∙ h in
+    ⊎_elim
+    (λ (e : q ≡ p). inr e)
+    (λ ne. inl (sym (or-none (has q (pages_of chosen))) ∙ ap (λ b. has q (pages_of chosen) || (b || false)) (sym (ne_eqb q p ne)) ∙ both))
+    (cases_eq q p)
+  where
+    or-none : (b : Bool) → (b || false) ≡ b
+    or-none true = refl
+    or-none false = refl
+
+module _ (want pages drawn : ℕ) where
+  -- each step is at the state word of a page passed
+  pub walk-at : (k : ℕ) (done : List Did) (looks : Looks) (list : List (ℕ × ℕ)) → Walks want pages drawn k done looks list → Each (λ (d : Did). (q : ℕ) × (d.at ≡ places.State q) × IsPassed pages drawn k q) done
+  walk-at zero done looks list w = subst (Each (λ (d : Did). (q : ℕ) × (d.at ≡ places.State q) × IsPassed pages drawn 0 q)) (sym w.0) tt
+  walk-at (suc k) done looks list (before, steps, old, chosen, cut, walk, room, visit) =
+      let P : Did → Type 0 = λ d. (q : ℕ) × (d.at ≡ places.State q) × IsPassed pages drawn (suc k) q in
+      subst (Each P) (sym cut)
+      (each-both P before steps (each-map _ P (λ (d : Did) h. (h.0, h.1, passed-more pages drawn k h.0 h.2)) before (walk-at k before old chosen walk))
+      (each-map _ P (λ (d : Did) h. ((drawn + k) % pages, h, (k, omega arith, refl))) steps (visit-at _ steps chosen list old looks visit)))
+
+  -- the candidates are pages that were passed
+  chosen-passed : (k q : ℕ) (done : List Did) (looks : Looks) (list : List (ℕ × ℕ)) → Walks want pages drawn k done looks list → has q (pages_of list) ≡ true → IsPassed pages drawn k q
+  chosen-passed zero q done looks list w h = absurd (true≢false (sym h ∙ ap (λ c. has q (pages_of c)) w.2))
+  chosen-passed (suc k) q done looks list (before, steps, old, chosen, cut, walk, room, visit) h =
+      ⊎_elim
+      (λ c. passed-more pages drawn k q (chosen-passed k q before old chosen walk c))
+      (λ e. (k, omega arith, e))
+      (chosen-more _ q steps chosen list old looks visit h)
+
+  -- a page that was passed has its word as the clock leaves it, and any page has that or its word
+  pub record IsLeftBy (k q : ℕ) (a b : List ℕ) : Type 0 where
+    pub passed : IsPassed pages drawn k q → slice_index b q ≡ passed_word (slice_index a q)
+    pub either : (slice_index b q ≡ slice_index a q) ⊎ (slice_index b q ≡ passed_word (slice_index a q))
+
+  pub walk-words : (start : Origin) (k q : ℕ) (done : List Did) (looks : Looks) (list : List (ℕ × ℕ)) (a b : List ℕ) → q < length a → Walks want pages drawn k done looks list → Follows start done a b → IsLeftBy k q a b
+  walk-words start zero q done looks list a b inside w f =
+      let same : b ≡ a = subst (λ ds. Follows start ds a b) w.0 f in
+      record { passed = λ p. absurd (let low : p.0 < 0 = p.1 in omega (arith, low)); either = inl (ap (λ (l : List ℕ). slice_index l q) same) }
+  walk-words start (suc k) q done looks list a b inside (before, steps, old, chosen, cut, walk, room, visit) f =
+      let g = follows-between start before steps a b (subst (λ ds. Follows start ds a b) cut f) in
+      let mid : List ℕ = g.0 in
+      let so-far : IsLeftBy k q a mid = walk-words start k q before old chosen a mid inside walk g.1 in
+      let p : ℕ = (drawn + k) % pages in
+      let passes : Passes chosen p mid b = visit-words start p steps chosen list old looks mid b visit g.2 in
+      ⊎_elim
+      (λ (here : q ≡ p).
+      let there : q < length mid = subst (λ n. q < n) (sym (follows-length start before a mid g.1)) inside in
+      let now : slice_index b q ≡ passed_word (slice_index a q) =
+      passed-here start q (slice_index a q) chosen mid b there so-far.either (λ c. so-far.passed (chosen-passed k q before old chosen walk c)) (subst (λ n. Passes chosen n mid b) (sym here) passes) in
+      record { passed = λ _. now; either = inr now })
+      (λ (ne : q ≢ p).
+      let same : slice_index b q ≡ slice_index mid q = passed-other start p q chosen mid b ne passes in
+      record {
+        passed = λ (h : IsPassed pages drawn (suc k) q). same ∙ so-far.passed (earlier h ne);
+        either = ⊎_elim (λ e. inl (same ∙ e)) (λ e. inr (same ∙ e)) so-far.either;
+      })
+      (cases_eq q p)
+    where
+      earlier : IsPassed pages drawn (suc k) q → q ≢ (drawn + k) % pages → IsPassed pages drawn k q
+      earlier (j, low, is) ne =
+          ⊎_elim (λ (l : j < k). (j, l, is)) (λ (h : k ≤ j). let same : j ≡ k = omega (arith, low, h) in absurd (ne (is ∙ ap (λ n. (drawn + n) % pages) same))) (cases_lt j k)
+
+-- ---- the table
+
+module _ {X : Type 0} (want drawn count : ℕ) (steps : List Did) (looks : Looks) (list : List (ℕ × ℕ)) (v w : View X) (same : w.start ≡ v.start) (walk : Walks want v.start.pages drawn count steps looks list) (most : count ≤ 2 * v.start.pages)
+    (runs : RunsAlone (did_change places.Hand drawn (hand_more drawn) ∷ steps) [] v w) (alone : IsAlone v) where
+  abbrev hand-did : Did
+  hand-did = did_change places.Hand drawn (hand_more drawn)
+
+  -- the words once the hand was moved
+  abbrev moved : List ℕ
+  moved = slice_set v.snapshot.words (index_of v.start places.Hand) (hand_more drawn)
+
+  abbrev pages : ℕ
+  pages = v.start.pages
+
+  page-of : (q : ℕ) → IsPassed pages drawn count q → q < pages
+  page-of q (k, low, is) = subst (λ n. n < pages) (sym is) (mod-lt (drawn + k) (omega (arith, low, most)))
+
+  walked : Each (λ (d : Did). (q : ℕ) × (d.at ≡ places.State q) × IsPassed pages drawn count q) steps
+  walked = walk-at want pages drawn count steps looks list walk
+
+  follows : Follows v.start (hand-did ∷ steps) v.snapshot.words w.snapshot.words
+  follows = runs.words alone.0 alone.1
+
+  long : length w.snapshot.words ≡ length v.snapshot.words
+  long = follows-length v.start (hand-did ∷ steps) v.snapshot.words w.snapshot.words follows
+
+  hand-stays : slice_index w.snapshot.words (index_of v.start places.Hand) ≡ slice_index moved (index_of v.start places.Hand)
+  hand-stays =
+      follows-kept v.start places.Hand steps moved w.snapshot.words follows.1
+      (each-map _ _ (λ (d : Did) h. inr (λ e. (let at : index_of v.start places.Hand ≡ h.0 = e ∙ ap (index_of v.start) h.1 in let low : h.0 < pages = page-of h.0 h.2 in omega (arith, at, low)))) steps walked)
+
+  pub walked-knows : KnowsWalked drawn count v w
+  walked-knows = record {
+    drawn_is = follows.0;
+    hand = λ inside.
+        let there : index_of v.start places.Hand < length v.snapshot.words = subst (λ n. index_of v.start places.Hand < n) long (subst (λ (o : Origin). index_of o places.Hand < length w.snapshot.words) same inside) in
+        ap (λ (o : Origin). slice_index w.snapshot.words (index_of o places.Hand)) same ∙ hand-stays ∙ get_or-set_same v.snapshot.words (index_of v.start places.Hand) (hand_more drawn) 0 there;
+    passed = λ p page is inside.
+        let there : p < length v.snapshot.words = subst (λ n. p < n) long inside in
+        let other : p ≢ index_of v.start places.Hand = omega (arith, page) in
+        (walk-words want pages drawn v.start count p steps looks list moved w.snapshot.words (subst (λ n. p < n) (sym (length-set v.snapshot.words (index_of v.start places.Hand) (hand_more drawn))) there) walk follows.1).passed is
+        ∙ ap passed_word (get_or-set_other v.snapshot.words (index_of v.start places.Hand) p (hand_more drawn) 0 other);
+    others =
+        else-knows (IsWalked pages drawn count) (hand-did ∷ steps) [] v w same runs
+        ((tt, inr (inl refl)), each-map _ _ (λ (d : Did) h. (subst (Within v.start) (sym h.1) (page-of h.0 h.2), inr (inr (h.0, h.1, h.2)))) steps walked) alone;
+  }

@@ -1,0 +1,173 @@
+-- The words of the table over the steps of a pass that is alone: a place is told by its index, and the words where no step wrote stay.
+use Rattle.std.proofs.Common.{ℕ, ◌≡◌, ◌≢◌, ◌⊎◌, ◌<◌, ◌≤◌, ◌+◌, ◌-◌, ◌*◌, ◌/◌, ◌%◌, ◌++◌, nat_lt, ◌==◌, if◌then◌else◌, Option, Some, None, List, [], ◌∷◌, length, refl, sym, ap, subst, ◌∙◌, inl, inr, ⊎_elim, arith, slice_index, slice_set}
+use Rattle.std.proofs.lemmas.Bool.{cases_lt, cond-false, cond-true, eq-eqb, le-ltb, lt-ltb, ne_eqb}
+use Rattle.std.proofs.lemmas.List.{get_or-set_same, get_or_past, length-set}
+use Rattle.vm_rule.specs.declared.view.Did.{Did}
+use Rattle.vm_rule.specs.declared.view.Origin.{Origin}
+use Rattle.vm_rule.specs.declared.view.Place.{Place}
+use Rattle.vm_rule.specs.declared.view.Place.TheVariants as places
+use Rattle.vm_rule.specs.declared.view.Release.{Release}
+use Rattle.vm_rule.specs.declared.view.View.{View}
+use Rattle.vm_rule.specs.Brought.{IsFoundAt, set_if}
+use Rattle.vm_rule.specs.Layout.{Within, bundle_count, index_of}
+use Rattle.vm_rule.specs.Views.{Each}
+use Rattle.vm_rule.proofs.Entries.{each-map}
+use Rattle.vm_step.specs.Alone.{Follows, IsAlone, RunsAlone}
+use Rattle.vm_step.specs.Evidence.{HasGiven}
+use Rattle.vm_step.specs.Tables.{KnowsAt, KnowsElse}
+use Rattle.vm_step.proofs.Alone.{set-else}
+
+-- ---- a place and its index
+
+-- the place with this index, from the bundles on; and from the first word on
+unfoldable late_place : Origin → ℕ → Place
+late_place start i =
+    if nat_lt i (3 * start.pages + 64 * start.frames + bundle_count start) then places.Bundle (i - (3 * start.pages + 64 * start.frames))
+    else if i == 3 * start.pages + 64 * start.frames + bundle_count start then places.Next else places.Hand
+
+unfoldable place_at : Origin → ℕ → Place
+place_at start i =
+    if nat_lt i start.pages then places.State i
+    else if nat_lt i (2 * start.pages) then places.Translation (i - start.pages)
+    else if nat_lt i (3 * start.pages) then places.Fault (i - 2 * start.pages)
+    else if nat_lt i (3 * start.pages + 64 * start.frames) then places.Content ((i - 3 * start.pages) / 64) ((i - 3 * start.pages) % 64)
+    else late_place start i
+
+before-bundles : (start : Origin) (i : ℕ) → 3 * start.pages + 64 * start.frames ≤ i → place_at start i ≡ late_place start i
+unfolding place_at
+before-bundles start i l =
+    cond-false _ _ _ (le-ltb i start.pages (omega (arith, l)))
+    ∙ cond-false _ _ _ (le-ltb i (2 * start.pages) (omega (arith, l)))
+    ∙ cond-false _ _ _ (le-ltb i (3 * start.pages) (omega (arith, l)))
+    ∙ cond-false _ _ _ (le-ltb i (3 * start.pages + 64 * start.frames) l)
+
+place-at : (start : Origin) (at : Place) → Within start at → place_at start (index_of start at) ≡ at
+unfolding place_at late_place
+place-at start (places.State p) l = cond-true _ _ _ (lt-ltb p start.pages l)
+place-at start (places.Translation p) l =
+    cond-false _ _ _ (le-ltb (start.pages + p) start.pages (omega arith)) ∙ cond-true _ _ _ (lt-ltb (start.pages + p) (2 * start.pages) (omega (arith, l))) ∙ ap (λ (n : ℕ). places.Translation n) (let e : start.pages + p - start.pages ≡ p = omega arith in e)
+place-at start (places.Fault p) l =
+    let i : ℕ = 2 * start.pages + p in
+    cond-false _ _ _ (le-ltb i start.pages (omega arith))
+    ∙ cond-false _ _ _ (le-ltb i (2 * start.pages) (omega arith))
+    ∙ cond-true _ _ _ (lt-ltb i (3 * start.pages) (omega (arith, l)))
+    ∙ ap (λ (n : ℕ). places.Fault n) (let e : 2 * start.pages + p - 2 * start.pages ≡ p = omega arith in e)
+place-at start (places.Content f i) l =
+    let j : ℕ = 3 * start.pages + (64 * f + i) in
+    let frame : f < start.frames = l.0 in
+    let small : i < 64 = l.1 in
+    let high : (j - 3 * start.pages) / 64 ≡ f = omega (arith, small) in
+    let low : (j - 3 * start.pages) % 64 ≡ i = omega (arith, small) in
+    cond-false _ _ _ (le-ltb j start.pages (omega arith))
+    ∙ cond-false _ _ _ (le-ltb j (2 * start.pages) (omega arith))
+    ∙ cond-false _ _ _ (le-ltb j (3 * start.pages) (omega arith))
+    ∙ cond-true _ _ _ (lt-ltb j (3 * start.pages + 64 * start.frames) (omega (arith, frame, small)))
+    ∙ (λ k. places.Content (high k) (low k))
+place-at start (places.Bundle g) l =
+    let i : ℕ = 3 * start.pages + 64 * start.frames + g in
+    let bundle : g < bundle_count start = l in
+    before-bundles start i (omega arith)
+    ∙ cond-true _ _ _ (lt-ltb i (3 * start.pages + 64 * start.frames + bundle_count start) (omega (arith, bundle)))
+    ∙ ap (λ (n : ℕ). places.Bundle n) (let e : i - (3 * start.pages + 64 * start.frames) ≡ g = omega arith in e)
+place-at start places.Next l =
+    let i : ℕ = 3 * start.pages + 64 * start.frames + bundle_count start in
+    before-bundles start i (omega arith) ∙ cond-false _ _ _ (le-ltb i i (omega arith)) ∙ cond-true _ _ _ (eq-eqb i i refl)
+place-at start places.Hand l =
+    let n : ℕ = 3 * start.pages + 64 * start.frames + bundle_count start in
+    before-bundles start (n + 1) (omega arith) ∙ cond-false _ _ _ (le-ltb (n + 1) n (omega arith)) ∙ cond-false _ _ _ (ne_eqb (n + 1) n (λ e. omega (arith, e)))
+
+-- two places of the table with one index are one
+pub index-same : (start : Origin) (a b : Place) → Within start a → Within start b → index_of start a ≡ index_of start b → a ≡ b
+index-same start a b in-a in-b e = sym (place-at start a in-a) ∙ ap (place_at start) e ∙ place-at start b in-b
+
+-- ---- lists of words
+
+set-length : (o : Option ℕ) (i : ℕ) (words : List ℕ) → length (set_if o i words) ≡ length words
+set-length None i words = refl
+set-length (Some x) i words = length-set words i x
+
+-- the table has as many words after steps as before
+pub follows-length : (start : Origin) (ds : List Did) (old new : List ℕ) → Follows start ds old new → length new ≡ length old
+follows-length start [] old new f = ap (λ (t : List ℕ). length t) f
+follows-length start (d ∷ ds) old new f = follows-length start ds (set_if d.wrote (index_of start d.at) old) new f.1 ∙ set-length d.wrote (index_of start d.at) old
+
+-- a place where no step left another word has the word that it had
+pub follows-kept : (start : Origin) (place : Place) (ds : List Did) (old new : List ℕ) → Follows start ds old new → Each (λ (d : Did). (d.wrote ≡ None) ⊎ (index_of start place ≢ index_of start d.at)) ds
+    → slice_index new (index_of start place) ≡ slice_index old (index_of start place)
+follows-kept start place [] old new f e = ap (λ (l : List ℕ). slice_index l (index_of start place)) f
+follows-kept start place (d ∷ ds) old new f e = follows-kept start place ds (set_if d.wrote (index_of start d.at) old) new f.1 e.1 ∙ set-else d.wrote (index_of start d.at) (index_of start place) old e.0
+
+-- steps, and then more: the words in between
+pub follows-between : (start : Origin) (a b : List Did) (old new : List ℕ) → Follows start (a ++ b) old new → (mid : List ℕ) × Follows start a old mid × Follows start b mid new
+follows-between start [] b old new f = (old, refl, f)
+follows-between start (d ∷ ds) b old new f =
+    let r = follows-between start ds b (set_if d.wrote (index_of start d.at) old) new f.1 in
+    (r.0, (f.0, r.1), r.2)
+
+-- steps that left no word
+pub follows-silent : (start : Origin) (ds : List Did) (old new : List ℕ) → Follows start ds old new → Each (λ (d : Did). d.wrote ≡ None) ds → new ≡ old
+follows-silent start [] old new f s = f
+follows-silent start (d ∷ ds) old new f s =
+    follows-silent start ds (set_if d.wrote (index_of start d.at) old) new f.1 s.1 ∙ ap (λ (o : Option ℕ). set_if o (index_of start d.at) old) s.0
+
+-- a word that is not 0 stands in the list
+word-inside : (ws : List ℕ) (i x : ℕ) → x ≡ slice_index ws i → x ≢ 0 → i < length ws
+word-inside ws i x e ne = ⊎_elim (λ l. l) (λ past. absurd (ne (e ∙ get_or_past ws i 0 past))) (cases_lt i (length ws))
+
+-- where a step found a word that is not 0, the table has the place
+pub follows-inside : (start : Origin) (ds : List Did) (old new : List ℕ) (at : Place) (x : ℕ) → Follows start ds old new → HasGiven ds at x → x ≢ 0 → index_of start at < length old
+follows-inside start ds old new at x f h ne =
+    let r = follows-between start h.earlier (h.step ∷ h.later) old new (subst (λ (l : List Did). Follows start l old new) h.cut f) in
+    let found : x ≡ slice_index r.0 (index_of start at) =
+    subst (λ (p : Place). x ≡ slice_index r.0 (index_of start p)) h.gives.0 (subst (λ (o : Option ℕ). IsFoundAt o (index_of start h.step.at) r.0) h.gives.1 r.2.0) in
+    subst (λ (n : ℕ). index_of start at < n) (follows-length start h.earlier old r.0 r.1) (word-inside r.0 (index_of start at) x found ne)
+
+-- ---- what a pass knows
+
+module _ {X : Type 0} where
+  -- each step is at a place of the table, and left no word but at a place touched
+  pub else-knows : (touched : Place → Type 0) (done : List Did) (own : List Release) (v w : View X) → w.start ≡ v.start → RunsAlone done own v w → Each (λ (d : Did). Within v.start d.at × ((d.wrote ≡ None) ⊎ touched d.at)) done → IsAlone v → KnowsElse touched v w
+  else-knows touched done own v w same r each a =
+      let f = r.words a.0 a.1 in
+      record {
+        count = follows-length v.start done v.snapshot.words w.snapshot.words f;
+        words = λ at within un.
+            ap (λ (o : Origin). slice_index w.snapshot.words (index_of o at)) same
+            ∙ follows-kept v.start at done v.snapshot.words w.snapshot.words f
+            (each-map _ _ (λ (d : Did) h. ⊎_elim (λ none. inl none) (λ (t : touched d.at). inr (λ e. un (subst touched (sym (index-same v.start at d.at within h.0 e)) t))) h.1) done each);
+      }
+
+  pub else-self : (touched : Place → Type 0) (v : View X) → KnowsElse touched v v
+  else-self touched v = record { count = refl; words = λ at l un. refl }
+
+  pub else-then : (touched : Place → Type 0) (u v w : View X) → v.start ≡ u.start → KnowsElse touched u v → KnowsElse touched v w → KnowsElse touched u w
+  else-then touched u v w same f g = record {
+    count = g.count ∙ f.count;
+    words = λ at l un. g.words at (subst (λ (o : Origin). Within o at) (sym same) l) un ∙ f.words at l un;
+  }
+
+  pub else-within : (touched more : Place → Type 0) (v w : View X) → ((at : Place) → touched at → more at) → KnowsElse touched v w → KnowsElse more v w
+  else-within touched more v w within f = record { count = f.count; words = λ at l un. f.words at l (λ t. un (within at t)) }
+
+  -- no word is another
+  pub else-same : (touched : Place → Type 0) (v w : View X) → w.start ≡ v.start → w.snapshot.words ≡ v.snapshot.words → KnowsElse touched v w
+  else-same touched v w same words = record {
+    count = ap (λ (t : List ℕ). length t) words;
+    words = λ at l un. ap (λ (o : Origin). slice_index w.snapshot.words (index_of o at)) same ∙ ap (λ (t : List ℕ). slice_index t (index_of v.start at)) words;
+  }
+
+  -- what is known of a place that is not touched is known on
+  pub at-then : (touched : Place → Type 0) (at : Place) (x : ℕ) (v w : View X) → w.start ≡ v.start → KnowsElse touched v w → Within v.start at → (touched at → ⊥) → KnowsAt at x v → KnowsAt at x w
+  at-then touched at x v w same f within un k inside =
+      f.words at within un
+      ∙ k (subst (λ (n : ℕ). index_of v.start at < n) f.count (subst (λ (o : Origin). index_of o at < length w.snapshot.words) same inside))
+
+  -- the last step left this word
+  pub last-known : (done : List Did) (d : Did) (x : ℕ) (own : List Release) (v w : View X) → w.start ≡ v.start → RunsAlone (done ++ d ∷ []) own v w → d.wrote ≡ Some x → IsAlone v → KnowsAt d.at x w
+  last-known done d x own v w same r wrote a inside =
+      let f = follows-between v.start done (d ∷ []) v.snapshot.words w.snapshot.words (r.words a.0 a.1) in
+      let left : w.snapshot.words ≡ slice_set f.0 (index_of v.start d.at) x = f.2.1 ∙ ap (λ (o : Option ℕ). set_if o (index_of v.start d.at) f.0) wrote in
+      let long : index_of v.start d.at < length f.0 =
+      subst (λ (n : ℕ). index_of v.start d.at < n) (ap (λ (t : List ℕ). length t) left ∙ length-set f.0 (index_of v.start d.at) x)
+      (subst (λ (o : Origin). index_of o d.at < length w.snapshot.words) same inside) in
+      ap (λ (o : Origin). slice_index w.snapshot.words (index_of o d.at)) same ∙ ap (λ (t : List ℕ). slice_index t (index_of v.start d.at)) left ∙ get_or-set_same f.0 (index_of v.start d.at) x 0 long
