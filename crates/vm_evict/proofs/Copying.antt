@@ -25,7 +25,7 @@ use Rattle.vm_step.specs.Works.{Works}
 use Rattle.vm_step.proofs.Alone.{runs-one}
 use Rattle.vm_step.proofs.Asides.{keeps-self, keeps-then}
 use Rattle.vm_step.proofs.Leaves.{last-quiet, leaves-quiet, works-none, works-then}
-use Rattle.vm_evict.specs.Writes.{IsCopied, LeavesMapping, LeavesState, WritesOwn}
+use Rattle.vm_evict.specs.Writes.{IsCopied, IsOwnPlace, LeavesMapping, LeavesState, StaysOn, WritesOwn, WritesPage, cleans, raises, reads}
 
 abbrev pub is-state : Place → Bool
 is-state (places.State p) = true
@@ -35,6 +35,11 @@ is-state (places.Content f i) = false
 is-state (places.Bundle g) = false
 is-state places.Next = false
 is-state places.Hand = false
+
+pub written-own : (p : ℕ) (d : Did) → WritesPage p d → IsOwnPlace p d.at
+written-own p d (reads own none quiet) = own
+written-own p d (cleans frame is) = inr (inl (ap (λ (e : Did). e.at) is))
+written-own p d (raises count is) = inr (inr (inl (ap (λ (e : Did). e.at) is)))
 
 -- another kind of word is no state word
 pub no-state : (p : ℕ) (at : Place) → is-state at ≡ false → at ≢ places.State p
@@ -58,6 +63,11 @@ no-mapping p d other e = absurd (false≢true (sym other ∙ ap is-mapping e))
 
 pub kept-both : (p : ℕ) (a b : List Did) → LeavesMapping p a → LeavesMapping p b → LeavesMapping p (a ++ b)
 kept-both p a b f g = each-both (λ (d : Did). d.at ≡ places.Translation p → d.wrote ≡ None) a b f g
+
+-- the steps of a write-back are on words of the page
+pub stays-on : (p : ℕ) (done : List Did) → Each (WritesPage p) done → StaysOn p done
+stays-on p [] e = tt
+stays-on p (d ∷ ds) e = (written-own p d e.0, stays-on p ds e.1)
 
 -- steps that wrote nothing wrote no translation word
 pub kept-silent : (p : ℕ) (a : List Did) → Each (λ d. d.wrote ≡ None) a → LeavesMapping p a
@@ -112,6 +122,8 @@ module _ {X : Type 0} (p : ℕ) where
     pub works : Works p done v w
     pub state : LeavesState p done
     pub own : Each (WritesOwn p) done
+    pub does : Each (WritesPage p) done
+    pub reads : w.translations ≡ v.translations
     pub kept : LeavesMapping p done
     pub long : length page ≡ 64
     pub front : v.start.tells ≡ true → (k : ℕ) → k < i → slice_index page k ≡ slice_index (last_of v p).words k
@@ -125,6 +137,8 @@ module _ {X : Type 0} (p : ℕ) where
     works = works-none p v;
     state = tt;
     own = tt;
+    does = tt;
+    reads = refl;
     kept = tt;
     long = long;
     front = λ tells k l. absurd (omega (arith, l));
@@ -144,6 +158,8 @@ module _ {X : Type 0} (p : ℕ) where
         works = works-then p c.done (did ∷ []) u v w c.works (load-works f i found v w shut t);
         state = leaves-both p c.done (did ∷ []) c.state (no-state p (places.Content f i) refl, tt);
         own = each-both (WritesOwn p) c.done (did ∷ []) c.own (inl refl, tt);
+        does = each-both (WritesPage p) c.done (did ∷ []) c.does (reads (inr (inr (inr (f, i, refl)))) refl refl, tt);
+        reads = ap (λ (x : View X). x.translations) t.brings.view ∙ c.reads;
         kept = kept-both p c.done (did ∷ []) c.kept ((λ here. refl), tt);
         long = length-set page i found ∙ long;
         front = λ tells k l.
@@ -167,6 +183,8 @@ module _ {X : Type 0} (p : ℕ) where
     works = c.works;
     state = c.state;
     own = c.own;
+    does = c.does;
+    reads = c.reads;
     kept = c.kept;
     same = λ tells. ext_get_or 0 page (last_of v p).words (c.long ∙ sym size) (λ k l. c.front tells k (let long : length page ≡ 64 = c.long in omega (arith, l, long, all)));
     held = c.held;

@@ -1,12 +1,12 @@
--- A clean page that the pass holds exclusively is taken out of its frame and released as evicted: nothing but its version is another then, and the
--- frame is the pass's.
-use Rattle.std.proofs.Common.{ℕ, Bool, ◌≡◌, ◌≢◌, ◌<◌, ◌+◌, ◌==◌, ◌||◌, ◌++◌, true, false, List, [], ◌∷◌, Some, None, refl, sym, ap, subst, ◌∙◌, inl, append_assoc}
+-- A clean page that the pass holds exclusively is taken out of its frame, which is the pass's then; and is released as evicted: nothing but its version
+-- is another then.
+use Rattle.std.proofs.Common.{ℕ, Bool, ◌≡◌, ◌≢◌, ◌<◌, ◌≤◌, ◌+◌, ◌==◌, ◌||◌, ◌++◌, true, false, List, [], ◌∷◌, Some, None, refl, sym, ap, subst, ◌∙◌, inl, inr, append_assoc, arith}
 use Rattle.std.proofs.lemmas.Bool.{false≢true, or_left}
 use Rattle.std.proofs.lemmas.Option.{none-some, same_Some}
 use Rattle.vm_core.specs.declared.event.Seat.{Seat}
-use Rattle.vm_core.specs.Words.{EVICTED, LOCKED, frame_in, version_of, word_of}
+use Rattle.vm_core.specs.Words.{EVICTED, MARKED, MAX_VERSION, frame_in, state_of, version_of, word_of}
 use Rattle.vm_core.specs.FrameActs.{frame_of, mapping_of, trans_word}
-use Rattle.vm_core.specs.History.{History, Version}
+use Rattle.vm_core.specs.History.{Version}
 use Rattle.vm_core.specs.Start.{no_seat}
 use Rattle.vm_core.proofs.Upd.{upd-other, upd-same}
 use Rattle.vm_owner.specs.Numbers.{has}
@@ -20,33 +20,37 @@ use Rattle.vm_rule.specs.Puts.{put, put_at}
 use Rattle.vm_rule.specs.Views.{IsLocking, seat_of, draft_of}
 use Rattle.vm_rule.specs.Reading.{last_in, last_of}
 use Rattle.vm_rule.specs.Rule.{no_held}
-use Rattle.vm_rule.specs.Loads.{TranslationTold}
+use Rattle.vm_rule.specs.Loads.{TranslationTold, translation_of}
 use Rattle.vm_rule.specs.Log.{did_load, did_store}
 use Rattle.vm_rule.specs.Mappings.{ClearTold, StandsClean, clean_in, contents_at, held_at, mapped}
 use Rattle.vm_rule.specs.Releases.{EvictTold, evicted_view}
+use Rattle.vm_rule.proofs.Entries.{append-none}
 use Rattle.vm_rule.proofs.Heard.{each-both}
-use Rattle.vm_rule.proofs.Worlds.{last-is, release-here}
-use Rattle.vm_step.specs.Asides.{IsAside}
+use Rattle.vm_rule.proofs.WordFacts.{word-state}
 use Rattle.vm_step.specs.Conditions.{MayEvict}
 use Rattle.vm_step.specs.Works.{Leaves, Works}
-use Rattle.vm_step.proofs.Alone.{stays-alone}
-use Rattle.vm_step.proofs.Asides.{alone-release, alone-then}
-use Rattle.vm_step.proofs.Leaves.{aside-of, leaves-released, leaves-then, works-one, works-then}
-use Rattle.vm_step.proofs.Evidenced.{given-behind, given-front, next-stays, written-behind, written-front}
-use Rattle.vm_evict.specs.Evictions.{FramesCome, IsDropped, IsEvicted}
-use Rattle.vm_evict.specs.Stages.{IsOwning, owning_seat}
-use Rattle.vm_evict.proofs.Copying.{no-mapping}
-use Rattle.vm_evict.proofs.Evidenced.{none-kept, not-emptied, not-locking}
-use Rattle.vm_evict.proofs.Taken.{frame-said, locks-now, not-out, tload-works}
+use Rattle.vm_step.proofs.Alone.{runs-one, stays-alone}
+use Rattle.vm_step.proofs.Asides.{alone-release}
+use Rattle.vm_step.proofs.Leaves.{leaves-released, works-one, works-then}
+use Rattle.vm_step.proofs.Evidenced.{given-front, next-stays, written-front}
+use Rattle.vm_evict.specs.Evictions.{FramesCome, HasReleased, IsFreed}
+use Rattle.vm_evict.specs.Stages.{Advances, IsEmptied, IsOwning, one, owning_seat, still}
+use Rattle.vm_evict.specs.declared.candidate.Phase.TheVariants as phases
+use Rattle.vm_evict.specs.declared.candidate.Stage.TheVariants as stages
+use Rattle.vm_evict.proofs.Copying.{no-mapping, no-state}
+use Rattle.vm_evict.proofs.Evidenced.{locks-front, none-kept, not-emptied, saved-front}
+use Rattle.vm_evict.proofs.Taken.{frame-said, free-rests, locks-now, moves-by, not-out, taken-works, tload-works}
 
 -- one or more
 or-none : (a b : Bool) → (a || b) ≡ ((a || false) || b)
 or-none true b = refl
 or-none false b = refl
 
-module _ {X : Type 0} (p word frame : ℕ) (written : Bool) (v x : View X) (h : IsOwning p word frame written v x) where
+-- ---- it is taken out of its frame
+
+module _ {X : Type 0} (p word frame : ℕ) (written : Bool) (done : List Did) (v x : View X) (h : IsOwning p word frame written done v x) where
   locks : IsLocking (seat_of x p)
-  locks = locks-now p word owning_seat (inl refl) h.done v x h.taken
+  locks = locks-now p word owning_seat (inl refl) v x h.taken
 
   owns-then : (more : List Did) (y : View X) → Works p more x y → (seat_of y p).exclusive ≡ true
   owns-then more y k = ap (λ (s : Seat). s.exclusive) (k.seat ∙ h.taken.now)
@@ -89,170 +93,187 @@ module _ {X : Type 0} (p word frame : ℕ) (written : Bool) (v x : View X) (h : 
           ∙ upd-same (put_at no_held a.held) p (record (held_at a p) { mapping = None })
           ∙ ap (λ (k : Held). record k { mapping = None }) held-loaded
 
-      out-cleared : b.out ≡ None
-      out-cleared = ap (λ (y : View X). y.out) c.brings.view ∙ ap (λ (y : View X). y.out) l.brings.view ∙ h.taken.home
+      abbrev all : List Did
+      all = done ++ worked
 
-      abbrev all-before : List Did
-      all-before = h.done ++ worked
+      -- the steps did not make it clean
+      abbrev leaves-it : Did → Type 0
+      leaves-it d = d.at ≡ places.Translation p → d.wrote ≢ Some (trans_word (Some (clean_in frame)))
 
-      so-far : Leaves p all-before v b
-      so-far = leaves-then p h.done worked v x b h.taken.leaves work.leaves
-
-      abbrev words : List ℕ
-      words = (last_of x p).words
-
-      draft-is : draft_of b p ≡ words
-      draft-is = work.draft ∙ h.draft
-
-      last-is-so : last_of b p ≡ record { version = version_of word; words = words }
-      last-is-so = work.last locks ∙ ap (λ (n : ℕ). record { version = n; words = words }) {x = (last_of x p).version} {y = version_of word} h.taken.at
-
-      pub may-evict : (version : ℕ) → version ≡ version_of word → MayEvict b p version
-      may-evict version is = record {
-        owns = owns-then worked b work;
+      emptied : IsEmptied p word frame written all v b
+      emptied = record {
+        taken = taken-works p word owning_seat (inl refl) v x h.taken worked b work (subst (λ (k : Held). k.fault ≡ k.block.count) (sym held-cleared) h.taken.told);
+        locked = locks-front p word done worked h.locked;
+        foreign =
+            each-both (λ (d : Did). d.at ≡ places.State p → d.wrote ≢ Some word) done worked h.foreign
+            ((λ here. absurd (no-state p (places.Translation p) refl here)), ((λ here. absurd (no-state p (places.Translation p) refl here)), tt));
         empty = ap (λ (k : Held). k.mapping) held-cleared;
-        told = subst (λ (k : Held). k.fault ≡ k.block.count) (sym held-cleared) h.taken.told;
-        home = not-out p b out-cleared;
-        at = is ∙ ap (λ (r : Version). r.version) (sym last-is-so);
-        free = ap (has p) so-far.group.0 ∙ h.taken.free;
-        paid = ap (has p) so-far.group.1 ∙ h.taken.before.paid;
+        draft = work.draft ∙ h.draft ∙ ap (λ (r : Version). r.words) (sym (work.last locks));
+        stood = (t, record { earlier = done; step = load-did; later = clear-did ∷ []; cut = refl; gives = (refl, refl) }, said);
+        cleaned = λ e. saved-front p frame done worked (h.cleaned e);
+        unwritten = λ e.
+            each-both leaves-it done worked (none-kept done (places.Translation p) (trans_word (Some (clean_in frame))) (h.kept e))
+            ((λ here is. none-some (trans_word (Some (clean_in frame))) is), ((λ here is. not-emptied frame (same_Some (trans_word None) (trans_word (Some (clean_in frame))) is)), tt));
+        emptied = record { earlier = done ++ load-did ∷ []; step = clear-did; later = []; cut = sym (append_assoc done (load-did ∷ []) (clear-did ∷ [])); place = refl; wrote = refl };
       }
 
-      module _ (w : View X) (e : EvictTold p (version_of word) b w) where
-        abbrev end-did : Did
-        end-did = did_store (places.State p) (word_of EVICTED (version_of word + 1))
+      frames-now : b.frames ≡ frame ∷ x.frames
+      frames-now = ap (λ (y : View X). y.frames) c.brings.view ∙ ap (λ (k : List ℕ). frame ∷ k) (ap (λ (y : View X). y.frames) l.brings.view)
 
-        abbrev end-seat : Seat
-        end-seat = record (seat_of b p) { exclusive = false }
+      was-none : has frame x.frames ≡ false
+      was-none = ap (has frame) (sym (ap (λ (y : View X). y.frames) l.brings.view)) ∙ c.new
 
-        abbrev end-release : Release
-        end-release = record { page = p; version = version_of word + 1; words = draft_of b p }
+      come : FramesCome (frame ∷ []) x b
+      come = record {
+        apart = (refl, tt);
+        inside = (subst (λ (o : Origin). frame < o.frames) loaded.leaves.start c.inside, tt);
+        new = (was-none, tt);
+        all = λ f. ap (has f) frames-now ∙ or-none (f == frame) (has f x.frames);
+        words = λ f here.
+            let ne : f ≢ frame = λ is. false≢true (sym was-none ∙ subst (λ (n : ℕ). has n x.frames ≡ true) is here) in
+            ap (λ (y : View X). contents_at y f) c.brings.view
+            ∙ upd-other (put_at [] a.contents) frame c.words f ne
+            ∙ ap (λ (y : View X). contents_at y f) l.brings.view;
+      }
 
-        abbrev all : List Did
-        all = all-before ++ end-did ∷ []
+      pub emptied-so : Advances phases.Empty (p, word) (stages.Owned written) (stages.Emptied frame written) done v x b
+      emptied-so = record {
+        more = worked;
+        moves = record {
+          leaves = work.leaves;
+          does = (inl (t, refl), (inr refl, tt));
+          home = λ e. ap (λ (y : View X). y.out) c.brings.view ∙ ap (λ (y : View X). y.out) l.brings.view ∙ e;
+          newer = translation_of p t (seat_of x p).reading;
+          reads = ap (λ (y : View X). y.translations) c.brings.view ∙ ap (λ (y : View X). y.translations) l.brings.view;
+        };
+        at = emptied;
+        ends = tt;
+        own = [];
+        runs = work.alone;
+        alone = stays-alone worked x b work.leaves.start work.alone;
+        releases = record { is = refl; when = inl refl };
+        notes = [];
+        noted = ap (λ (y : View X). y.notes) c.brings.view ∙ ap (λ (y : View X). y.notes) l.brings.view ∙ sym (append-none x.notes);
+        notes_are = record { is = refl; when = inl refl };
+        frames = frame ∷ [];
+        come = one frame refl come;
+        frames_are = record { is = refl; when = inr refl };
+      }
 
-        seat-now : seat_of w p ≡ record { shares = 0; exclusive = false; writing = false; reading = None }
-        seat-now =
-            ap (λ (y : View X). seat_of y p) e.brings.view
-            ∙ upd-same (put_at no_seat b.seats) p end-seat
-            ∙ ap (λ (s : Seat). record s { exclusive = false }) (work.seat ∙ h.taken.now)
+-- ---- it is released
 
-        one : Leaves p (end-did ∷ []) b w
-        one = leaves-released p end-did end-release [] b (evicted_view p b) w _ e.brings refl
-            record {
-              log = refl;
-              live = refl;
-              start = refl;
-              parts = (refl, refl);
-              mine = refl;
-              ties = ([], refl);
-              group = (refl, refl, next-stays p b.next (λ is. h.taken.before.next (sym so-far.group.2 ∙ is)));
-              seats = λ q ne. upd-other (put_at no_seat b.seats) p end-seat q ne;
-              loads = λ q ne. refl;
-              held = λ q ne. refl;
-              drafts = λ q ne. refl;
-            }
+module _ {X : Type 0} (p word frame : ℕ) (written : Bool) (marked : state_of word ≡ MARKED) (below : version_of word < MAX_VERSION) (done : List Did) (v b : View X) (h : IsEmptied p word frame written done v b) where
+  locked-now : IsLocking (seat_of b p)
+  locked-now = locks-now p word owning_seat (inl refl) v b h.taken
 
-        aside : IsAside p all v w
-        aside =
-            aside-of p all v w (leaves-then p all-before (end-did ∷ []) v b w so-far one)
-            (ap (λ (y : View X). y.out) e.brings.view ∙ out-cleared ∙ sym h.taken.none)
-            record {
-              shares = ap (λ (s : Seat). s.shares) seat-now ∙ sym h.taken.before.shares;
-              exclusive = ap (λ (s : Seat). s.exclusive) seat-now ∙ sym h.taken.before.exclusive;
-              writing = ap (λ (s : Seat). s.writing) seat-now ∙ sym h.taken.before.writing;
-            }
-            (λ k. absurd (not-locking v p h.taken.before k))
-            (alone-then v b w so-far.parts
-            (alone-then v x b h.taken.leaves.parts h.taken.alone (stays-alone worked x b work.leaves.start work.alone))
-            (alone-release end-did p (version_of word + 1) (draft_of b p) [] b (evicted_view p b) w e.brings refl (draft-is ∙ ap (λ (r : Version). r.words) (sym last-is-so))))
+  owns : (seat_of b p).exclusive ≡ true
+  owns = ap (λ (s : Seat). s.exclusive) h.taken.now
 
-        abbrev since : List Release
-        since = so-far.releases.0 ++ e.brings.between
+  pub may-evict : (version : ℕ) → version ≡ version_of word → b.out ≡ None → MayEvict b p version
+  may-evict version is home = record {
+    owns = owns;
+    empty = h.empty;
+    told = h.taken.told;
+    home = not-out p b home;
+    at = is ∙ sym h.taken.at;
+    free = h.taken.free;
+    paid = h.taken.paid;
+  }
 
-        known : b.releases ++ e.brings.between ≡ v.releases ++ since
-        known = ap (λ (r : List Release). r ++ e.brings.between) so-far.releases.1 ∙ append_assoc v.releases so-far.releases.0 e.brings.between
+  evicted-else : word_of EVICTED (version_of word + 1) ≢ word
+  evicted-else e =
+      let within : version_of word + 1 ≤ MAX_VERSION = omega (arith, below) in
+      let same : EVICTED ≡ MARKED = sym (word-state EVICTED (version_of word + 1) within) ∙ ap state_of e ∙ marked in
+      absurd (omega (arith, same))
 
-        last-now : last_of w p ≡ record { version = version_of word + 1; words = words }
-        last-now =
-            ap (λ (y : View X). last_in y.start y.releases p) e.brings.view
-            ∙ last-is b.start ((b.releases ++ e.brings.between) ++ end-release ∷ []) (λ n. []) p
-            ∙ ap (λ (y : History). y.last) (release-here b.start (b.releases ++ e.brings.between) (λ n. []) end-release)
-            ∙ ap (λ (k : List ℕ). record { version = version_of word + 1; words = k }) draft-is
+  module _ (w : View X) (e : EvictTold p (version_of word) b w) where
+    abbrev end-did : Did
+    end-did = did_store (places.State p) (word_of EVICTED (version_of word + 1))
 
-        dropped : IsDropped p word all v w
-        dropped = record {
-          locked =
-              written-front all-before (end-did ∷ []) (places.State p) (word_of LOCKED (version_of word))
-              (written-front h.done worked (places.State p) (word_of LOCKED (version_of word)) h.locked);
-          emptied =
-              written-front all-before (end-did ∷ []) (places.Translation p) (trans_word None)
-              (written-behind h.done worked (places.Translation p) (trans_word None)
-              record { earlier = load-did ∷ []; step = clear-did; later = []; cut = refl; place = refl; wrote = refl });
-          left = record { earlier = all-before; step = end-did; later = []; cut = refl; place = refl; wrote = refl };
-          words = words;
-          between = since;
-          releases =
-              ap (λ (y : View X). y.releases) e.brings.view
-              ∙ ap (λ (r : List Release). r ++ end-release ∷ []) known
-              ∙ ap (λ (k : List ℕ). (v.releases ++ since) ++ record { page = p; version = version_of word + 1; words = k } ∷ []) draft-is;
-          same =
-              ap (λ (r : List Release). last_in v.start r p) (sym known)
-              ∙ ap (λ (o : Origin). last_in o (b.releases ++ e.brings.between) p) (sym so-far.start)
-              ∙ e.brings.kept p (inl (owns-then worked b work))
-              ∙ last-is-so;
-          last = last-now;
+    abbrev end-seat : Seat
+    end-seat = record (seat_of b p) { exclusive = false }
+
+    abbrev end-release : Release
+    end-release = record { page = p; version = version_of word + 1; words = draft_of b p }
+
+    abbrev end-all : List Did
+    end-all = done ++ end-did ∷ []
+
+    seat-now : seat_of w p ≡ record { shares = 0; exclusive = false; writing = false; reading = None }
+    seat-now =
+        ap (λ (y : View X). seat_of y p) e.brings.view
+        ∙ upd-same (put_at no_seat b.seats) p end-seat
+        ∙ ap (λ (s : Seat). record s { exclusive = false }) h.taken.now
+
+    changes : Leaves p (end-did ∷ []) b w
+    changes = leaves-released p end-did end-release [] b (evicted_view p b) w _ e.brings refl
+        record {
+          log = refl;
+          live = refl;
+          start = refl;
+          parts = (refl, refl);
+          mine = refl;
+          ties = ([], refl);
+          group = (refl, refl, next-stays p b.next h.taken.next);
+          seats = λ q ne. upd-other (put_at no_seat b.seats) p end-seat q ne;
+          loads = λ q ne. refl;
+          held = λ q ne. refl;
+          drafts = λ q ne. refl;
         }
 
-        frames-same : a.frames ≡ v.frames
-        frames-same = ap (λ (y : View X). y.frames) l.brings.view ∙ h.keeps.frames
+    abbrev since : List Release
+    since = h.taken.since.0 ++ e.brings.between
 
-        contents-same : a.contents ≡ v.contents
-        contents-same = ap (λ (y : View X). y.contents) l.brings.view ∙ h.keeps.contents
+    known : b.releases ++ e.brings.between ≡ v.releases ++ since
+    known = ap (λ (r : List Release). r ++ e.brings.between) h.taken.since.1 ∙ append_assoc v.releases h.taken.since.0 e.brings.between
 
-        frames-now : w.frames ≡ frame ∷ v.frames
-        frames-now = ap (λ (y : View X). y.frames) e.brings.view ∙ ap (λ (y : View X). y.frames) c.brings.view ∙ ap (λ (k : List ℕ). frame ∷ k) frames-same
+    released : HasReleased p word v w
+    released = record {
+      words = (last_of b p).words;
+      before = since;
+      after = [];
+      releases =
+          ap (λ (y : View X). y.releases) e.brings.view
+          ∙ ap (λ (r : List Release). r ++ end-release ∷ []) known
+          ∙ ap (λ (k : List ℕ). (v.releases ++ since) ++ record { page = p; version = version_of word + 1; words = k } ∷ []) h.draft
+          ∙ sym (append-none ((v.releases ++ since) ++ record { page = p; version = version_of word + 1; words = (last_of b p).words } ∷ []));
+      same =
+          ap (λ (r : List Release). last_in v.start r p) (sym known)
+          ∙ ap (λ (o : Origin). last_in o (b.releases ++ e.brings.between) p) (sym h.taken.start)
+          ∙ e.brings.kept p locked-now
+          ∙ ap (λ (n : ℕ). record { version = n; words = (last_of b p).words }) {x = (last_of b p).version} {y = version_of word} h.taken.at;
+    }
 
-        was-none : has frame v.frames ≡ false
-        was-none = ap (has frame) (sym frames-same) ∙ c.new
+    freed : IsFreed p word frame written end-all v w
+    freed = record {
+      locked = locks-front p word done (end-did ∷ []) h.locked;
+      foreign =
+          each-both (λ (d : Did). d.at ≡ places.State p → d.wrote ≢ Some word) done (end-did ∷ []) h.foreign
+          ((λ here is. evicted-else (same_Some (word_of EVICTED (version_of word + 1)) word is)), tt);
+      stood = (h.stood.0, given-front done (end-did ∷ []) (places.Translation p) h.stood.0 h.stood.1, h.stood.2);
+      cleaned = λ e. saved-front p frame done (end-did ∷ []) (h.cleaned e);
+      unwritten = λ e.
+          each-both (λ (d : Did). d.at ≡ places.Translation p → d.wrote ≢ Some (trans_word (Some (clean_in frame)))) done (end-did ∷ []) (h.unwritten e)
+          (none-kept (end-did ∷ []) (places.Translation p) (trans_word (Some (clean_in frame))) (no-mapping p end-did refl, tt));
+      emptied = written-front done (end-did ∷ []) (places.Translation p) (trans_word None) h.emptied;
+      left = record { earlier = done; step = end-did; later = []; cut = refl; place = refl; wrote = refl };
+      released = released;
+    }
 
-        come : FramesCome (frame ∷ []) v w
-        come = record {
-          apart = (refl, tt);
-          inside = (subst (λ (o : Origin). frame < o.frames) (loaded.leaves.start ∙ h.taken.leaves.start) c.inside, tt);
-          new = (was-none, tt);
-          all = λ f. ap (has f) frames-now ∙ or-none (f == frame) (has f v.frames);
-          words = λ f here.
-              let ne : f ≢ frame = λ is. false≢true (sym was-none ∙ subst (λ (n : ℕ). has n v.frames ≡ true) is here) in
-              ap (λ (y : View X). contents_at y f) e.brings.view
-              ∙ ap (λ (y : View X). contents_at y f) c.brings.view
-              ∙ upd-other (put_at [] a.contents) frame c.words f ne
-              ∙ ap (λ k. put_at [] k f) contents-same;
-        }
-
-        -- the step did not make it clean
-        abbrev leaves-it : Did → Type 0
-        leaves-it d = d.at ≡ places.Translation p → d.wrote ≢ Some (trans_word (Some (clean_in frame)))
-
-        pub evicted : IsEvicted p word frame written v w
-        evicted = record {
-          done = all;
-          aside = aside;
-          dropped = dropped;
-          stood = (
-            t,
-            given-front all-before (end-did ∷ []) (places.Translation p) t
-                (given-behind h.done worked (places.Translation p) t record { earlier = []; step = load-did; later = clear-did ∷ []; cut = refl; gives = (refl, refl) }),
-            said,
-          );
-          cleaned = λ is.
-              written-front all-before (end-did ∷ []) (places.Translation p) (trans_word (Some (clean_in frame)))
-              (written-front h.done worked (places.Translation p) (trans_word (Some (clean_in frame))) (h.cleaned is));
-          unwritten = λ is.
-              each-both leaves-it all-before (end-did ∷ [])
-              (each-both leaves-it h.done worked (none-kept h.done (places.Translation p) (trans_word (Some (clean_in frame))) (h.kept is))
-              ((λ here e. none-some (trans_word (Some (clean_in frame))) e), ((λ here e. not-emptied frame (same_Some (trans_word None) (trans_word (Some (clean_in frame))) e)), tt)))
-              (none-kept (end-did ∷ []) (places.Translation p) (trans_word (Some (clean_in frame))) (no-mapping p end-did refl, tt));
-          frames = come;
-          notes = ap (λ (y : View X). y.notes) e.brings.view ∙ ap (λ (y : View X). y.notes) c.brings.view ∙ ap (λ (y : View X). y.notes) l.brings.view ∙ h.keeps.notes;
-        }
+    pub freed-so : Advances phases.Leave (p, word) (stages.Emptied frame written) (stages.Freed frame written) done v b w
+    freed-so = record {
+      more = end-did ∷ [];
+      moves = moves-by p phases.Leave word end-did b w changes refl (ap (λ (y : View X). y.out) e.brings.view) (ap (λ (y : View X). y.translations) e.brings.view);
+      at = (freed, free-rests p v w h.taken.before seat-now);
+      ends = tt;
+      own = end-release ∷ [];
+      runs = runs-one end-did _ (end-release ∷ []) [] b (evicted_view p b) w e.brings;
+      alone = alone-release end-did p (version_of word + 1) (draft_of b p) [] b (evicted_view p b) w e.brings refl h.draft;
+      releases = record { is = ap (λ (k : List ℕ). record { page = p; version = version_of word + 1; words = k } ∷ []) (sym h.draft); when = inr refl };
+      notes = [];
+      noted = ap (λ (y : View X). y.notes) e.brings.view ∙ sym (append-none b.notes);
+      notes_are = record { is = refl; when = inl refl };
+      frames = [];
+      come = still refl (ap (λ (y : View X). y.frames) e.brings.view) (ap (λ (y : View X). y.contents) e.brings.view);
+      frames_are = record { is = refl; when = inl refl };
+    }

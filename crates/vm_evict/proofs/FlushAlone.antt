@@ -24,7 +24,8 @@ use Rattle.vm_step.specs.Choices.{IsHeld}
 use Rattle.vm_evict.specs.Flushes.{IsDirtyFrame, IsStillLocked, IsUnderWriteBack, KnowsClean, Marks, Settles, Writes, left_clean, made_clean, refused}
 use Rattle.vm_evict.specs.declared.flushing.Flushed.{Flushed}
 use Rattle.vm_evict.proofs.FlushSteps.{lock-did, lock-leaves, lock-runs, unlock-did, unlock-leaves, unlock-runs}
-use Rattle.vm_evict.proofs.FlushVisits.{load-runs, look-did, looked, looked-runs, mark-did}
+use Rattle.vm_evict.proofs.FlushMarks.{mark-did}
+use Rattle.vm_evict.proofs.FlushVisits.{load-runs, look-did, looked, looked-runs}
 use Rattle.vm_evict.proofs.FlushWords.{AreSaved, IsLater, Shows, later-on, later-self, mapping-shown, run-follows, settled, shows-own, shows-same, shows-self, shows-state, word-inside}
 use Rattle.vm_step.proofs.Asides.{translation-only}
 
@@ -186,7 +187,7 @@ module _ {X : Type 0} (p : ℕ) (tied : Start → ℕ → List ℕ → ℕ → L
           pub settles-write : (new : Flushed) → Writes p v4 v5 old new → Settles p v v6 old new
           settles-write new (left_clean done x k kept given un known notes e) a h =
               settled v p page (found - 2 ^ 56) (tr5 a done k) v6 old new a (shows6 a done k) (ap (λ (f : Flushed). f.busy) e) (inl (saved-clean a done k known))
-          settles-write new (made_clean done f k dirty wrote known notes e) a h =
+          settles-write new (made_clean done f k saved known notes e) a h =
               settled v p page (found - 2 ^ 56) (tr5 a done k) v6 old new a (shows6 a done k) (ap (λ (y : Flushed). y.busy) e) (inl (saved-clean a done k known))
           settles-write new (refused done f count k dirty kept allowed raised notes e) a h =
               settled v p page (found - 2 ^ 56) (tr5 a done k) v6 old new a (shows6 a done k) (ap (λ (y : Flushed). y.busy) e) (inr (ap (λ (y : Flushed). y.failed) e))

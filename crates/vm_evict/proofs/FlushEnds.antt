@@ -21,10 +21,10 @@ use Rattle.vm_step.specs.Alone.{Follows, IsAlone}
 use Rattle.vm_step.proofs.Leaves.{works-then}
 use Rattle.vm_step.specs.Choices.{first_or}
 use Rattle.vm_step.proofs.Evidenced.{written-behind}
-use Rattle.vm_evict.specs.Writes.{IsAllowed, IsCleaned, IsFoundDirty, IsRefused, WritesOwn}
+use Rattle.vm_evict.specs.Writes.{IsAllowed, IsCleaned, IsFoundDirty, IsOwnPlace, IsRefused, WritesOwn}
 use Rattle.vm_evict.specs.Flushes.{IsStillLocked, IsUnderWriteBack, KnowsClean, Writes, left_clean, made_clean, refused}
 use Rattle.vm_evict.specs.declared.flushing.Flushed.{Flushed}
-use Rattle.vm_evict.proofs.Copying.{kept-both}
+use Rattle.vm_evict.proofs.Copying.{kept-both, stays-on}
 use Rattle.vm_evict.proofs.FlushSteps.{load-did, load-locked, load-notes}
 use Rattle.vm_evict.proofs.FlushWords.{IsLater, follows-end, later-on, later-self, mapping-shown, run-follows}
 use Rattle.vm_evict.proofs.Taken.{frame-said}
@@ -107,12 +107,22 @@ module _ {X : Type 0} (p found : ℕ) (v w : View X) (r : IsUnderWriteBack p v) 
       record {
         works = works-then p (load-did p found v w r t ∷ []) c.done v w x first.works c.works;
         own = each-both (WritesOwn p) (load-did p found v w r t ∷ []) c.done first.own c.own;
+        stays = each-both (λ (d : Did). IsOwnPlace p d.at) (load-did p found v w r t ∷ []) c.done first.stays (stays-on p c.done c.does);
         told = c.told;
         home = c.home;
         frames = (c.keeps.frames ∙ first.frames.0, c.keeps.contents ∙ first.frames.1);
       }
-      (found-dirty f c.done is)
-      (written-behind (load-did p found v w r t ∷ []) c.done (places.Translation p) (trans_word (Some (clean_in f))) c.cleaned)
+      record {
+        cleaned = record {
+          earlier = load-did p found v w r t ∷ c.cleaned.earlier;
+          step = c.cleaned.step;
+          later = c.cleaned.later;
+          cut = ap (λ (ds : List Did). load-did p found v w r t ∷ ds) c.cleaned.cut;
+          place = c.cleaned.place;
+          wrote = c.cleaned.wrote;
+        };
+        dirty = found-dirty f c.cleaned.earlier is;
+      }
       (known-written f x (frame-small found f is) c)
       (c.keeps.notes ∙ load-notes p found v w r t)
       refl
@@ -123,6 +133,7 @@ module _ {X : Type 0} (p found : ℕ) (v w : View X) (r : IsUnderWriteBack p v) 
       record {
         works = works-then p (load-did p found v w r t ∷ []) c.done v w x first.works c.works;
         own = each-both (WritesOwn p) (load-did p found v w r t ∷ []) c.done first.own c.own;
+        stays = each-both (λ (d : Did). IsOwnPlace p d.at) (load-did p found v w r t ∷ []) c.done first.stays (stays-on p c.done c.does);
         told = c.told;
         home = c.home;
         frames = (c.frames.0 ∙ first.frames.0, c.frames.1 ∙ first.frames.1);

@@ -5,7 +5,7 @@ use Rattle.vm_core.specs.declared.event.Mapping.{Mapping}
 use Rattle.vm_core.specs.Words.{UNLOCKED, LOCKED, MARKED, EVICTED}
 use Rattle.vm_core.proofs.PageFacts.{some-is}
 use Rattle.vm_laws_others.specs.Leaves.{stands_dirty}
-use Rattle.vm_rule.specs.Views.{seat_of}
+use Rattle.vm_rule.specs.Views.{Each, seat_of}
 use Rattle.vm_rule_laws.specs.Standing.{PageStands, state_in, mapping_in}
 use Rattle.vm_owner.specs.Numbers.{has}
 use Rattle.vm_rule.specs.declared.view.Did.{Did}
@@ -14,12 +14,12 @@ use Rattle.vm_rule.specs.declared.view.Origin.{Origin}
 use Rattle.vm_rule.specs.declared.view.View.{View}
 use Rattle.vm_rule.proofs.Entries.{append-none}
 use Rattle.vm_rule.proofs.Heard.{each-both}
-use Rattle.vm_step.specs.Asides.{IsAside, IsAsideOf, KeepsFrames}
+use Rattle.vm_step.specs.Asides.{IsAside, IsAsideOf}
 use Rattle.vm_step.proofs.Asides.{aside-self, aside-then, aside-within, whole-then}
 use Rattle.vm_step.specs.Choices.{first_or}
 use Rattle.vm_step.specs.Alone.{IsAlone}
-use Rattle.vm_evict.specs.Writes.{IsAllowed}
-use Rattle.vm_evict.specs.Flushes.{HasNoLock, IsFlushedAlone, IsFlushedTo, IsNoted, IsSaved, IsSettled, RisesFrom, Settles, ShowsSame, Visits, clean, done_of, failed, first_noted, gone, held, lost, noted_pages, nothing_flushed, written}
+use Rattle.vm_evict.specs.Writes.{IsAllowed, IsOwnPlace, StaysOn}
+use Rattle.vm_evict.specs.Flushes.{HasNoLock, IsFlushedAlone, IsFlushedTo, IsLeft, IsNoted, IsSaved, IsSettled, RisesFrom, Settles, ShowsSame, Visits, clean, done_of, failed, first_noted, gone, held, lost, noted_pages, nothing_flushed, written}
 use Rattle.vm_evict.specs.declared.flushing.Flushed.{Flushed}
 
 -- ---- notes by rising page
@@ -60,23 +60,29 @@ has-last p count (n ∷ ns) = ⊎_elim (λ t. rw t refl) (λ f. rw f (has-last p
 not-more : (old new : Flushed) → new.failed ≡ old.failed → new.failed ≡ old.failed + 1 → ⊥
 not-more old new same more = omega (arith, same, more)
 
+-- steps on one page's words are on some page's words
+on-some : (p : ℕ) (done : List Did) → StaysOn p done → Each (λ d. (q : ℕ) × IsOwnPlace q d.at) done
+on-some p [] e = tt
+on-some p (d ∷ ds) e = ((p, e.0), on-some p ds e.1)
+
 module _ {X : Type 0} where
   -- what every visit leaves of the view
   pub record IsPassedBy (p : ℕ) (v w : View X) : Type 0 where
     pub done : List Did
+    pub own : StaysOn p done
     pub aside : IsAside p done v w
     pub frames : (w.frames ≡ v.frames) × (w.contents ≡ v.contents)
 
-  from-left : (p : ℕ) (done : List Did) (v w : View X) → IsAside p done v w → KeepsFrames v w → IsPassedBy p v w
-  from-left p done v w a k = record { done = done; aside = a; frames = (k.frames, k.contents) }
+  from-left : (p : ℕ) (done : List Did) (v w : View X) → IsLeft p done v w → IsPassedBy p v w
+  from-left p done v w l = record { done = done; own = l.own; aside = l.aside; frames = (l.keeps.frames, l.keeps.contents) }
 
   pub passed-by : (p : ℕ) (v w : View X) (old new : Flushed) → Visits p v w old new → IsPassedBy p v w
-  passed-by p v w old new (gone done x l m g s e) = from-left p done v w l.aside l.keeps
-  passed-by p v w old new (clean done x l m g s seen shows none e) = from-left p done v w l.aside l.keeps
-  passed-by p v w old new (held done x l m g s e) = from-left p done v w l.aside l.keeps
-  passed-by p v w old new (lost done x l m g e) = from-left p done v w l.aside l.keeps
-  passed-by p v w old new (written done x l m g e) = from-left p done v w l.aside l.keeps
-  passed-by p v w old new (failed version count u e) = record { done = u.done; aside = u.aside; frames = u.frames }
+  passed-by p v w old new (gone done x l m g s e) = from-left p done v w l
+  passed-by p v w old new (clean done x l m g s seen shows none e) = from-left p done v w l
+  passed-by p v w old new (held done x l m g s e) = from-left p done v w l
+  passed-by p v w old new (lost done x l m g e) = from-left p done v w l
+  passed-by p v w old new (written done x l m e) = from-left p done v w l
+  passed-by p v w old new (failed word count u e) = record { done = u.done; own = u.own; aside = u.aside; frames = u.frames }
 
   -- one page more counts once at most
   counted : (p n : ℕ) (v w : View X) (old new : Flushed) → Visits p v w old new → done_of old ≤ n → done_of new ≤ suc n
@@ -84,8 +90,8 @@ module _ {X : Type 0} where
   counted p n v w old new (clean done x l m g s seen shows none e) c = subst (λ (f : Flushed). done_of f ≤ suc n) (sym e) (omega (arith, c))
   counted p n v w old new (held done x l m g s e) c = subst (λ (f : Flushed). done_of f ≤ suc n) (sym e) (omega (arith, c))
   counted p n v w old new (lost done x l m g e) c = subst (λ (f : Flushed). done_of f ≤ suc n) (sym e) (omega (arith, c))
-  counted p n v w old new (written done x l m g e) c = subst (λ (f : Flushed). done_of f ≤ suc n) (sym e) (omega (arith, c))
-  counted p n v w old new (failed version count u e) c = subst (λ (f : Flushed). done_of f ≤ suc n) (sym e) (omega (arith, c))
+  counted p n v w old new (written done x l m e) c = subst (λ (f : Flushed). done_of f ≤ suc n) (sym e) (omega (arith, c))
+  counted p n v w old new (failed word count u e) c = subst (λ (f : Flushed). done_of f ≤ suc n) (sym e) (omega (arith, c))
 
   -- a page that did not fail brings no note
   noted-same : (n : ℕ) (u v w : View X) (old new : Flushed) → IsNoted n old u v → w.notes ≡ v.notes → new.failed ≡ old.failed → new.first ≡ old.first → IsNoted (suc n) new u w
@@ -103,8 +109,8 @@ module _ {X : Type 0} where
   noted-on n u v w old new start k (clean done x l m g s seen shows none e) = noted-same n u v w old new k l.keeps.notes (ap (λ (f : Flushed). f.failed) e) (ap (λ (f : Flushed). f.first) e)
   noted-on n u v w old new start k (held done x l m g s e) = noted-same n u v w old new k l.keeps.notes (ap (λ (f : Flushed). f.failed) e) (ap (λ (f : Flushed). f.first) e)
   noted-on n u v w old new start k (lost done x l m g e) = noted-same n u v w old new k l.keeps.notes (ap (λ (f : Flushed). f.failed) e) (ap (λ (f : Flushed). f.first) e)
-  noted-on n u v w old new start k (written done x l m g e) = noted-same n u v w old new k l.keeps.notes (ap (λ (f : Flushed). f.failed) e) (ap (λ (f : Flushed). f.first) e)
-  noted-on n u v w old new start k (failed version count r e) =
+  noted-on n u v w old new start k (written done x l m e) = noted-same n u v w old new k l.keeps.notes (ap (λ (f : Flushed). f.failed) e) (ap (λ (f : Flushed). f.first) e)
+  noted-on n u v w old new start k (failed word count r e) =
       let note : Note = record { page = n; count = count } in
       record {
         notes = k.notes ++ note ∷ [];
@@ -122,6 +128,7 @@ module _ {X : Type 0} where
     each = (refl, refl);
     all = omega arith;
     done = [];
+    own = tt;
     aside = aside-self (λ p. p < v.start.pages) v;
     frames = (refl, refl);
     noted = record { notes = []; after = sym (append-none v.notes); each = refl; rises = omega arith; first = refl; allowed = tt };
@@ -137,8 +144,8 @@ module _ {X : Type 0} where
   noted-failed n u v w old new start k (clean done y l m g s seen shows none e) more = absurd (not-more old new (ap (λ (f : Flushed). f.failed) e) more)
   noted-failed n u v w old new start k (held done y l m g s e) more = absurd (not-more old new (ap (λ (f : Flushed). f.failed) e) more)
   noted-failed n u v w old new start k (lost done y l m g e) more = absurd (not-more old new (ap (λ (f : Flushed). f.failed) e) more)
-  noted-failed n u v w old new start k (written done y l m g e) more = absurd (not-more old new (ap (λ (f : Flushed). f.failed) e) more)
-  noted-failed n u v w old new start k (failed version count r e) more = has-last n count k.notes
+  noted-failed n u v w old new start k (written done y l m e) more = absurd (not-more old new (ap (λ (f : Flushed). f.failed) e) more)
+  noted-failed n u v w old new start k (failed word count r e) more = has-last n count k.notes
 
   -- and stays noted
   noted-still : (p n : ℕ) (u v w : View X) (old new : Flushed) (start : v.start ≡ u.start) (k : IsNoted n old u v) (x : Visits n v w old new) → has p (noted_pages k.notes) ≡ true → has p (noted_pages (noted-on n u v w old new start k x).notes) ≡ true
@@ -147,8 +154,8 @@ module _ {X : Type 0} where
   noted-still p n u v w old new start k (clean done y l m g s seen shows none e) h = h
   noted-still p n u v w old new start k (held done y l m g s e) h = h
   noted-still p n u v w old new start k (lost done y l m g e) h = h
-  noted-still p n u v w old new start k (written done y l m g e) h = h
-  noted-still p n u v w old new start k (failed version count r e) h = has-kept p k.notes (record { page = n; count = count }) h
+  noted-still p n u v w old new start k (written done y l m e) h = h
+  noted-still p n u v w old new start k (failed word count r e) h = has-kept p k.notes (record { page = n; count = count }) h
 
   -- a page whose words are shown as before is saved as before
   saved-still : (p : ℕ) (v w : View X) → ShowsSame v w p → IsSaved v p → IsSaved w p
@@ -202,6 +209,7 @@ module _ {X : Type 0} where
         each = (v, old, f.each, x);
         all = counted n n v w old new x f.all;
         done = f.done ++ by.done;
+        own = each-both (λ (d : Did). (p : ℕ) × IsOwnPlace p d.at) f.done by.done f.own (on-some n by.done by.own);
         aside = aside-then (λ p. p < u.start.pages) f.done by.done u v w f.aside wide;
         frames = (by.frames.0 ∙ f.frames.0, by.frames.1 ∙ f.frames.1);
         noted = noted-on n u v w old new f.aside.start f.noted x;

@@ -1,13 +1,12 @@
 -- The steps of a page's write-back in a flush: the lock that is taken, the load of the translation word under it, and the share given up.
-use Rattle.std.proofs.Common.{ℕ, Bool, true, false, ◌≡◌, ◌<◌, ◌≤◌, ◌-◌, ◌^◌, ◌==◌, ◌++◌, length, List, [], ◌∷◌, Option, Some, None, refl, sym, ap, subst, ◌∙◌, inl, inr, ⊎_elim, arith}
+use Rattle.std.proofs.Common.{ℕ, Bool, true, false, ◌≡◌, ◌<◌, ◌≤◌, ◌-◌, ◌^◌, ◌==◌, ◌++◌, length, List, [], ◌∷◌, Some, None, refl, sym, ap, subst, ◌∙◌, inl, inr, ⊎_elim, arith}
 use Rattle.std.proofs.lemmas.Bool.{cond-true, eq-eqb, false≢true}
 use Rattle.std.proofs.lemmas.Option.{none-some}
-use Rattle.vm_core.specs.declared.event.Open.{Open}
 use Rattle.vm_core.specs.declared.event.Seat.{Seat}
 use Rattle.vm_core.specs.Start.{no_seat}
 use Rattle.vm_core.specs.StateActs.{unshared}
 use Rattle.vm_core.specs.Words.{version_of, word_of}
-use Rattle.vm_core.specs.FrameActs.{framed, mapping_of}
+use Rattle.vm_core.specs.FrameActs.{mapping_of}
 use Rattle.vm_core.specs.History.{Version}
 use Rattle.vm_core.proofs.Upd.{upd-other, upd-same}
 use Rattle.vm_owner.specs.Kept.{Start}
@@ -19,7 +18,7 @@ use Rattle.vm_rule.specs.Puts.{put_at}
 use Rattle.vm_rule.specs.Views.{seat_of, may_call}
 use Rattle.vm_rule.specs.Rule.{no_held}
 use Rattle.vm_rule.specs.Brought.{Brings}
-use Rattle.vm_rule.specs.Loads.{TranslationTold, tloaded_view}
+use Rattle.vm_rule.specs.Loads.{TranslationTold}
 use Rattle.vm_rule.specs.Locks.{IsUnheld, UnshareTold, WriteLockTold, unshared_view, write_locked_view}
 use Rattle.vm_rule.specs.Log.{did_change, did_exchange, did_load}
 use Rattle.vm_rule.specs.Mappings.{dirty_in, held_at}
@@ -28,9 +27,10 @@ use Rattle.vm_step.specs.Asides.{IsAside, KeepsFrames}
 use Rattle.vm_step.specs.Conditions.{IsToldOf, MayUnshare}
 use Rattle.vm_step.specs.Works.{Leaves, Works}
 use Rattle.vm_step.proofs.Alone.{runs-one, runs-then, stays-alone}
-use Rattle.vm_step.proofs.Leaves.{aside-of, last-quiet, leaves-quiet, leaves-then}
+use Rattle.vm_step.proofs.Leaves.{aside-of, leaves-quiet, leaves-then}
 use Rattle.vm_evict.specs.Writes.{IsToWrite}
 use Rattle.vm_evict.specs.Flushes.{IsStillLocked, IsUnderWriteBack}
+use Rattle.vm_evict.proofs.Taken.{tload-works}
 
 -- the seat of a page under write-back, and the one after
 abbrev pub writing-seat : Seat
@@ -104,44 +104,8 @@ module _ {X : Type 0} (p : ℕ) where
     abbrev pub load-did : Did
     load-did = did_load (places.Translation p) found
 
-    closed : (seat_of v p).reading ≡ None
-    closed = ap (λ (s : Seat). s.reading) r.seat
-
-    -- a page that is not read by an open read
-    not-read : (s : Seat) → s.reading ≡ None → record s { reading = framed s.reading (mapping_of found) } ≡ s
-    not-read s e = subst (λ (o : Option Open). record s { reading = framed o (mapping_of found) } ≡ record s { reading = o }) (sym e) refl
-
-    seat-same : seat_of w p ≡ seat_of v p
-    seat-same =
-        ap (λ (x : View X). seat_of x p) t.brings.view
-        ∙ upd-same (put_at no_seat v.seats) p (record (seat_of v p) { reading = framed (seat_of v p).reading (mapping_of found) })
-        ∙ not-read (seat_of v p) closed
-
     load-works : Works p (load-did ∷ []) v w
-    load-works =
-        let inner : View X = tloaded_view p found v in
-        let seat : Seat = record (seat_of v p) { reading = framed (seat_of v p).reading (mapping_of found) } in
-        record {
-          leaves = leaves-quiet p load-did _ [] v inner w t.brings
-              record {
-                log = refl;
-                live = refl;
-                start = refl;
-                parts = (refl, refl);
-                mine = refl;
-                ties = ([], refl);
-                group = (refl, refl, refl);
-                seats = λ q ne. upd-other (put_at no_seat v.seats) p seat q ne;
-                loads = λ q ne. refl;
-                held = λ q ne. refl;
-                drafts = λ q ne. refl;
-              };
-          seat = seat-same;
-          loads = ap (λ (x : View X). put_at [] x.loads p) t.brings.view;
-          draft = ap (λ (x : View X). put_at [] x.drafts p) t.brings.view;
-          last = last-quiet p load-did _ [] v inner w t.brings refl p;
-          alone = runs-one load-did _ [] [] v inner w t.brings;
-        }
+    load-works = tload-works p found 1 false true v w r.seat t
 
     held-same : held_at w p ≡ held_at v p
     held-same = ap (λ (x : View X). held_at x p) t.brings.view
@@ -153,6 +117,7 @@ module _ {X : Type 0} (p : ℕ) where
     load-locked = record {
       works = load-works;
       own = (inl refl, tt);
+      stays = (inr (inl refl), tt);
       told = told-same;
       home = ap (λ (x : View X). x.out) t.brings.view ∙ r.home;
       frames = (ap (λ (x : View X). x.frames) t.brings.view, ap (λ (x : View X). x.contents) t.brings.view);
@@ -164,7 +129,7 @@ module _ {X : Type 0} (p : ℕ) where
     -- the word is exact
     pub to-write : (f : ℕ) → mapping_of found ≡ Some (dirty_in f) → IsToWrite p f w
     to-write f e =
-        let s : seat_of w p ≡ writing-seat = seat-same ∙ r.seat in
+        let s : seat_of w p ≡ writing-seat = load-works.seat ∙ r.seat in
         record {
           writes = ap (λ (x : Seat). x.writing) s;
           shared = subst (λ (x : Seat). 1 ≤ x.shares) (sym s) (omega arith);

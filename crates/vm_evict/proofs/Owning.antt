@@ -1,12 +1,13 @@
 -- A page under write-back, which is clean, becomes held exclusively; or the exchange is lost, and the share is given up.
-use Rattle.std.proofs.Common.{ℕ, Bool, ◌≡◌, ◌≢◌, ◌<◌, ◌++◌, true, false, List, [], ◌∷◌, Some, None, refl, sym, ap, subst, ◌∙◌, inr, append_assoc, arith}
+use Rattle.std.proofs.Common.{ℕ, Bool, ◌≡◌, ◌≢◌, ◌<◌, ◌-◌, ◌^◌, ◌++◌, true, false, List, [], ◌∷◌, Some, None, refl, sym, ap, subst, ◌∙◌, inl, inr, arith}
+use Rattle.std.proofs.lemmas.Option.{none-some, same_Some}
 use Rattle.vm_core.specs.declared.event.Seat.{Seat}
-use Rattle.vm_core.specs.Words.{LOCKED, MAX_VERSION, version_of, word_of, state_of}
-use Rattle.vm_core.specs.FrameActs.{trans_word}
+use Rattle.vm_core.specs.Words.{LOCKED, MARKED, MAX_VERSION, version_of, word_of, state_of}
 use Rattle.vm_core.specs.History.{Version}
 use Rattle.vm_core.specs.Start.{no_seat}
 use Rattle.vm_core.proofs.Upd.{upd-other, upd-same}
 use Rattle.vm_owner.specs.Kept.{Start}
+use Rattle.vm_owner.specs.Numbers.{has}
 use Rattle.vm_rule.specs.declared.view.Did.{Did}
 use Rattle.vm_rule.specs.declared.view.Held.{Held}
 use Rattle.vm_rule.specs.declared.view.Place.TheVariants as places
@@ -16,27 +17,34 @@ use Rattle.vm_rule.specs.Views.{IsLocking, seat_of, draft_of}
 use Rattle.vm_rule.specs.Reading.{last_of}
 use Rattle.vm_rule.specs.Brought.{Brings}
 use Rattle.vm_rule.specs.Locks.{MayRaiseLock, UnshareTold, UpgradeTold, upgraded_view}
-use Rattle.vm_rule.specs.Log.{did_exchange}
+use Rattle.vm_rule.specs.Log.{did_change, did_exchange}
 use Rattle.vm_rule.specs.Mappings.{clean_in, held_at}
+use Rattle.vm_rule.proofs.Heard.{each-both}
 use Rattle.vm_rule.proofs.WordFacts.{version-within, word-state, word-version}
-use Rattle.vm_step.specs.Asides.{KeepsFrames}
-use Rattle.vm_step.specs.Evidence.{HasWritten, IsLost}
+use Rattle.vm_step.specs.Conditions.{MayUnshare}
+use Rattle.vm_step.specs.Evidence.{IsLost}
 use Rattle.vm_step.specs.Works.{Leaves, Works}
-use Rattle.vm_step.proofs.Asides.{alone-silent, alone-then, keeps-then}
-use Rattle.vm_step.proofs.Leaves.{last-quiet, leaves-quiet, leaves-then, works-one}
-use Rattle.vm_step.proofs.Evidenced.{lost-view, taken-view, written-front}
-use Rattle.vm_evict.specs.Evictions.{HasLost, IsMissed}
-use Rattle.vm_evict.specs.Stages.{IsOwning, IsTaken, IsWriting, writing_seat}
+use Rattle.vm_step.proofs.Alone.{runs-one}
+use Rattle.vm_step.proofs.Asides.{starts-then}
+use Rattle.vm_step.proofs.Leaves.{last-quiet, leaves-quiet, works-one}
+use Rattle.vm_step.proofs.Evidenced.{lost-view, taken-view}
+use Rattle.vm_evict.specs.Evictions.{HasLost, HasSaved, IsMissed, LocksFrom, by_share}
+use Rattle.vm_evict.specs.Phases.{Raises}
+use Rattle.vm_evict.specs.Stages.{Advances, IsOwning, IsTaken, IsWriting, writing_seat}
+use Rattle.vm_evict.specs.declared.candidate.Phase.TheVariants as phases
+use Rattle.vm_evict.specs.declared.candidate.Stage.TheVariants as stages
 use Rattle.vm_evict.proofs.Copying.{kept-both, no-mapping}
-use Rattle.vm_evict.proofs.Evidenced.{frame-one, lost-one, wrote-taken}
-use Rattle.vm_evict.proofs.Taken.{given-aside, given-keeps, locks-now, taken-works, unshare-did}
+use Rattle.vm_evict.proofs.Evidenced.{frame-one, lost-one, saved-front, wrote-taken}
+use Rattle.vm_evict.proofs.Locking.{not-marked}
+use Rattle.vm_evict.proofs.Moving.{Quietly, quietly-then, quietly-to}
+use Rattle.vm_evict.proofs.Taken.{given-quiet, given-rests, locks-now, may-unshare, moves-by, taken-works}
 
-module _ {X : Type 0} (tied : Start → ℕ → List ℕ → ℕ → List ℕ → Type 0) (p word : ℕ) (written : Bool) (v x : View X) (h : IsWriting p word written v x) where
+module _ {X : Type 0} (tied : Start → ℕ → List ℕ → ℕ → List ℕ → Type 0) (p word : ℕ) (written : Bool) (done : List Did) (v x : View X) (h : IsWriting p word written done v x) where
   abbrev version : ℕ
   version = version_of word
 
   locks : IsLocking (seat_of x p)
-  locks = locks-now p word writing_seat (inr (omega arith)) h.done v x h.taken
+  locks = locks-now p word writing_seat (inr (omega arith)) v x h.taken
 
   pub may-raise : (expects : ℕ) → expects ≡ word_of 1 version → version < MAX_VERSION → MayRaiseLock x p expects
   may-raise expects is below = record {
@@ -46,9 +54,20 @@ module _ {X : Type 0} (tied : Start → ℕ → List ℕ → ℕ → List ℕ �
     one = ap (λ (s : Seat). s.shares) h.taken.now;
   }
 
+  same-version : (expects : ℕ) → expects ≡ word_of 1 version → version_of expects ≡ version
+  same-version expects is = ap version_of is ∙ word-version 1 version (version-within word)
+
+  -- the exchange is one of the phase
+  raises-so : (expects found : ℕ) → expects ≡ word_of 1 version → Raises (p, word) (did_exchange (places.State p) expects found (word_of LOCKED (version_of expects)))
+  raises-so expects found is =
+      inl (
+        found,
+        ap (λ (n : ℕ). did_exchange (places.State p) expects found (word_of LOCKED n)) (same-version expects is) ∙ ap (λ (e : ℕ). did_exchange (places.State p) e found (word_of LOCKED version)) is,
+      )
+
   -- ---- it was taken
 
-  module _ (frame : ℕ) (stands : (held_at x p).mapping ≡ Some (clean_in frame)) (expects : ℕ) (is : expects ≡ word_of 1 version) (y : View X) (t : UpgradeTold tied p expects expects x y) where
+  module _ (marked : state_of word ≡ MARKED) (frame : ℕ) (stands : (held_at x p).mapping ≡ Some (clean_in frame)) (expects : ℕ) (is : expects ≡ word_of 1 version) (y : View X) (t : UpgradeTold tied p expects expects x y) where
     abbrev took : Did
     took = did_exchange (places.State p) expects expects (word_of LOCKED (version_of expects))
 
@@ -70,8 +89,8 @@ module _ {X : Type 0} (tied : Start → ℕ → List ℕ → ℕ → List ℕ �
     last-now : last_of y p ≡ last_of x p
     last-now = last-quiet p took _ [] x inner y brings refl p locks
 
-    one : Leaves p (took ∷ []) x y
-    one = leaves-quiet p took _ [] x inner y brings
+    changes : Leaves p (took ∷ []) x y
+    changes = leaves-quiet p took _ [] x inner y brings
         record {
           log = refl;
           live = refl;
@@ -86,40 +105,57 @@ module _ {X : Type 0} (tied : Start → ℕ → List ℕ → ℕ → List ℕ �
           drafts = λ q ne. upd-other (put_at [] x.drafts) p (last_of y p).words q ne;
         }
 
-    same-version : version_of expects ≡ version
-    same-version = ap version_of is ∙ word-version 1 version (version-within word)
+    quiet : Quietly phases.Raise (p, word) (took ∷ []) x y
+    quiet = record {
+      moves = moves-by p phases.Raise word took x y changes (raises-so expects expects is) (ap (λ (z : View X). z.out) brings.view) (ap (λ (z : View X). z.translations) brings.view);
+      runs = runs-one took _ [] [] x inner y brings;
+      keeps = record { frames = ap (λ (z : View X). z.frames) brings.view; contents = ap (λ (z : View X). z.contents) brings.view; notes = ap (λ (z : View X). z.notes) brings.view };
+    }
 
-    keeps-now : KeepsFrames x y
-    keeps-now = record { frames = ap (λ (z : View X). z.frames) brings.view; contents = ap (λ (z : View X). z.contents) brings.view; notes = ap (λ (z : View X). z.notes) brings.view }
+    locked : LocksFrom p word (done ++ took ∷ [])
+    locked =
+        by_share
+        record {
+          earlier = done;
+          step = took;
+          later = [];
+          cut = refl;
+          place = refl;
+          expected = ap (λ (n : ℕ). Some n) is;
+          found = ap (λ (n : ℕ). Some n) is;
+          wrote = wrote-taken expects (word_of LOCKED (version_of expects)) ∙ ap (λ (n : ℕ). Some (word_of LOCKED n)) (same-version expects is);
+        }
+        h.shared
 
-    pub owning : IsOwning p word frame written v y
+    owning : IsOwning p word frame written (done ++ took ∷ []) v y
     owning = record {
-      done = h.done ++ took ∷ [];
       taken = record {
-        leaves = leaves-then p h.done (took ∷ []) v x y h.taken.leaves one;
-        alone = alone-then v x y h.taken.leaves.parts h.taken.alone (alone-silent took _ [] x inner y brings refl);
         before = h.taken.before;
-        free = h.taken.free;
+        start = changes.start ∙ h.taken.start;
+        since = starts-then v.releases x.releases y.releases h.taken.since changes.releases;
+        free = ap (has p) changes.group.0 ∙ h.taken.free;
+        paid = ap (has p) changes.group.1 ∙ h.taken.paid;
+        next = λ e. h.taken.next (sym changes.group.2 ∙ e);
         now = seat-now;
         at = ap (λ (r : Version). r.version) last-now ∙ h.taken.at;
         size = t.size;
         told = subst (λ (k : Held). k.fault ≡ k.block.count) (sym held-now) h.taken.told;
-        none = h.taken.none;
-        home = ap (λ (z : View X). z.out) brings.view ∙ h.taken.home;
       };
-      keeps = keeps-then v x y h.keeps keeps-now;
-      locked =
-          subst (λ (n : ℕ). HasWritten (h.done ++ took ∷ []) (places.State p) (word_of LOCKED n)) same-version
-          record { earlier = h.done; step = took; later = []; cut = refl; place = refl; wrote = wrote-taken expects (word_of LOCKED (version_of expects)) };
+      locked = locked;
+      foreign =
+          each-both (λ (d : Did). d.at ≡ places.State p → d.wrote ≢ Some word) done (took ∷ []) (h.foreign word (not-marked word 1 version marked (omega arith) (version-within word)))
+          ((λ here e. not-marked word LOCKED (version_of expects) marked (omega arith) (version-within expects) (same_Some word (word_of LOCKED (version_of expects)) (sym e ∙ wrote-taken expects (word_of LOCKED (version_of expects))))), tt);
       stands = ap (λ (k : Held). k.mapping) held-now ∙ stands;
       draft = ap (λ (z : View X). draft_of z p) brings.view ∙ upd-same (put_at [] x.drafts) p (last_of y p).words;
       cleaned = λ e.
           let there = h.cleaned e in
           let same : there.0 ≡ frame = frame-one there.0 frame (sym there.1 ∙ stands) in
-          written-front h.done (took ∷ []) (places.Translation p) (trans_word (Some (clean_in frame)))
-          (subst (λ (n : ℕ). HasWritten h.done (places.Translation p) (trans_word (Some (clean_in n)))) same there.2);
-      kept = λ e. kept-both p h.done (took ∷ []) (h.kept e) (no-mapping p took refl, tt);
+          saved-front p frame done (took ∷ []) (subst (λ (n : ℕ). HasSaved p n done) same there.2);
+      kept = λ e. kept-both p done (took ∷ []) (h.kept e) (no-mapping p took refl, tt);
     }
+
+    pub raised-so : Advances phases.Raise (p, word) (stages.Shared written) (stages.Owned written) done v x y
+    raised-so = quietly-to phases.Raise (p, word) (stages.Shared written) (stages.Owned written) done (took ∷ []) v x y quiet (frame, owning) tt record { is = refl; when = inl refl } record { is = refl; when = inl refl } record { is = refl; when = inl refl }
 
   -- ---- it was lost
 
@@ -127,51 +163,62 @@ module _ {X : Type 0} (tied : Start → ℕ → List ℕ → ℕ → List ℕ �
     abbrev tried : Did
     tried = did_exchange (places.State p) expects found (word_of LOCKED (version_of expects))
 
-    still : Brings tried [] [] x x y
-    still = lost-view tried expects found x (upgraded_view p (last_of y p).words x) y ne t.brings
+    still-brings : Brings tried [] [] x x y
+    still-brings = lost-view tried expects found x (upgraded_view p (last_of y p).words x) y ne t.brings
 
     work : Works p (tried ∷ []) x y
-    work = works-one p tried _ x x.held x.frames x.contents x.out x.notes y (λ q ne. refl) still
+    work = works-one p tried _ x x.held x.frames x.contents x.out x.notes y (λ q e. refl) still-brings
 
-    keeps-still : KeepsFrames x y
-    keeps-still = record { frames = ap (λ (z : View X). z.frames) still.view; contents = ap (λ (z : View X). z.contents) still.view; notes = ap (λ (z : View X). z.notes) still.view }
+    tried-quiet : Quietly phases.Raise (p, word) (tried ∷ []) x y
+    tried-quiet = record {
+      moves = moves-by p phases.Raise word tried x y work.leaves (raises-so expects found is) (ap (λ (z : View X). z.out) still-brings.view) (ap (λ (z : View X). z.translations) still-brings.view);
+      runs = work.alone;
+      keeps = record { frames = ap (λ (z : View X). z.frames) still-brings.view; contents = ap (λ (z : View X). z.contents) still-brings.view; notes = ap (λ (z : View X). z.notes) still-brings.view };
+    }
 
-    pub held-on : IsTaken p word writing_seat (h.done ++ tried ∷ []) v y
+    held-on : IsTaken p word writing_seat v y
     held-on =
-        taken-works p word writing_seat (inr (omega arith)) h.done v x h.taken (tried ∷ []) y work
-        (subst (λ (k : Held). k.fault ≡ k.block.count) (sym (ap (λ (z : View X). held_at z p) still.view)) h.taken.told)
-        (ap (λ (z : View X). z.out) still.view ∙ h.taken.home)
+        taken-works p word writing_seat (inr (omega arith)) v x h.taken (tried ∷ []) y work
+        (subst (λ (k : Held). k.fault ≡ k.block.count) (sym (ap (λ (z : View X). held_at z p) still-brings.view)) h.taken.told)
+
+    pub may-give : x.out ≡ None → MayUnshare y p
+    may-give home = may-unshare p word v y held-on (tried-quiet.moves.home home)
 
     module _ (last : ℕ) (w : View X) (u : UnshareTold p last y w) where
       abbrev end-did : Did
-      end-did = unshare-did p word (h.done ++ tried ∷ []) v y held-on last w u
+      end-did = did_change (places.State p) last (last - 2 ^ 56)
 
-      abbrev all : List Did
-      all = (h.done ++ tried ∷ []) ++ end-did ∷ []
+      abbrev both : List Did
+      both = tried ∷ end-did ∷ []
+
+      gone : Quietly phases.Raise (p, word) (end-did ∷ []) y w
+      gone = given-quiet p word v y held-on phases.Raise last w u (inr (last, refl))
 
       -- the exchange found another word than that of the pass's share alone, and no step before had left it there
-      abbrev lost : HasLost all (places.State p) (word_of 1 version)
+      abbrev lost : HasLost (done ++ both) (places.State p) (word_of 1 version)
       lost = record {
-        earlier = h.done;
+        earlier = done;
         step = tried;
         later = end-did ∷ [];
-        cut = append_assoc h.done (tried ∷ []) (end-did ∷ []);
+        cut = refl;
         found = found;
         lost = subst (λ (n : ℕ). IsLost tried (places.State p) n found) is (lost-one (places.State p) expects found (word_of LOCKED (version_of expects)) ne);
         foreign = h.foreign found (λ e. ne (e ∙ sym is));
       }
 
-      pub missed : IsMissed p word written v w
+      missed : IsMissed p word written (done ++ both)
       missed = record {
-        done = all;
-        aside = given-aside p word (h.done ++ tried ∷ []) v y held-on last w u;
-        keeps = keeps-then v y w (keeps-then v x y h.keeps keeps-still) (given-keeps p word (h.done ++ tried ∷ []) v y held-on last w u);
         why = inr (lost, h.shared);
-        cleaned = λ e.
-            let there = h.cleaned e in (
-              there.0,
-              written-front (h.done ++ tried ∷ []) (end-did ∷ []) (places.Translation p) (trans_word (Some (clean_in there.0)))
-                  (written-front h.done (tried ∷ []) (places.Translation p) (trans_word (Some (clean_in there.0))) there.2),
-            );
-        unwritten = λ e. kept-both p (h.done ++ tried ∷ []) (end-did ∷ []) (kept-both p h.done (tried ∷ []) (h.kept e) (no-mapping p tried refl, tt)) (no-mapping p end-did refl, tt);
+        cleaned = λ e. let there = h.cleaned e in (there.0, saved-front p there.0 done both there.2);
+        unwritten = λ e. kept-both p done both (h.kept e) (no-mapping p tried refl, (no-mapping p end-did refl, tt));
+        unreleased =
+            each-both (λ (d : Did). d.at ≡ places.State p → d.found ≡ None → d.wrote ≡ None) done both h.unreleased
+            ((λ here none. absurd (none-some found (sym none))), ((λ here none. absurd (none-some last (sym none))), tt));
       }
+
+      pub lost-so : Advances phases.Raise (p, word) (stages.Shared written) (stages.Lost written) done v x w
+      lost-so =
+          quietly-to phases.Raise (p, word) (stages.Shared written) (stages.Lost written) done both v x w
+          (quietly-then phases.Raise (p, word) (tried ∷ []) (end-did ∷ []) x y w tried-quiet gone)
+          (missed, given-rests p word v y held-on phases.Raise last w u (inr (last, refl)))
+          tt record { is = refl; when = inl refl } record { is = refl; when = inl refl } record { is = refl; when = inl refl }

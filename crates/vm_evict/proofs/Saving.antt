@@ -1,36 +1,38 @@
 -- A page under write-back is written where it is dirty; where the write fails the share is given up.
-use Rattle.std.proofs.Common.{ℕ, Bool, ◌≡◌, ◌≢◌, ◌<◌, ◌≤◌, ◌++◌, true, false, List, [], ◌∷◌, Option, Some, None, IsSome, refl, sym, ap, subst, ◌∙◌, inr, arith}
+use Rattle.std.proofs.Common.{ℕ, Bool, ◌≡◌, ◌≢◌, ◌<◌, ◌≤◌, ◌-◌, ◌^◌, ◌++◌, true, false, List, [], ◌∷◌, Option, Some, None, IsSome, refl, sym, ap, subst, ◌∙◌, inl, inr, arith, append_assoc}
 use Rattle.std.proofs.lemmas.Bool.{false≢true, or_right}
 use Rattle.std.proofs.lemmas.Option.{none-some}
 use Rattle.vm_core.specs.declared.event.Mapping.{Mapping}
 use Rattle.vm_core.specs.declared.event.Seat.{Seat}
 use Rattle.vm_core.specs.Words.{frame_in, is_dirty, version_of, word_of}
-use Rattle.vm_core.specs.FrameActs.{mapping_at, mapping_of, trans_word}
-use Rattle.vm_core.specs.History.{Version}
+use Rattle.vm_core.specs.FrameActs.{mapping_at, mapping_of}
 use Rattle.vm_laws_others.specs.Leaves.{stands_dirty}
 use Rattle.vm_rule.specs.declared.view.Did.{Did}
 use Rattle.vm_rule.specs.declared.view.Held.{Held}
-use Rattle.vm_rule.specs.declared.view.Note.{Note}
 use Rattle.vm_rule.specs.declared.view.Origin.{Origin}
 use Rattle.vm_rule.specs.declared.view.Place.TheVariants as places
 use Rattle.vm_rule.specs.declared.view.View.{View}
 use Rattle.vm_rule.specs.Views.{Each, IsLocking, seat_of}
-use Rattle.vm_rule.specs.Loads.{TranslationTold}
+use Rattle.vm_rule.specs.Loads.{TranslationTold, translation_of}
 use Rattle.vm_rule.specs.Locks.{UnshareTold}
-use Rattle.vm_rule.specs.Log.{did_load}
+use Rattle.vm_rule.specs.Log.{did_change, did_load}
 use Rattle.vm_rule.specs.Mappings.{clean_in, dirty_in, held_at}
 use Rattle.vm_rule.proofs.Heard.{each-both}
-use Rattle.vm_step.specs.Asides.{KeepsFrames}
-use Rattle.vm_step.specs.Evidence.{HasWritten}
+use Rattle.vm_step.specs.Conditions.{MayUnshare}
 use Rattle.vm_step.specs.Works.{Works}
-use Rattle.vm_step.proofs.Asides.{keeps-then}
+use Rattle.vm_step.proofs.Alone.{runs-then, stays-alone}
+use Rattle.vm_step.proofs.Asides.{alone-then}
 use Rattle.vm_step.proofs.Evidenced.{written-behind, written-front}
-use Rattle.vm_evict.specs.Evictions.{IsUnwritten}
-use Rattle.vm_evict.specs.Stages.{IsCleanAt, IsTaken, IsWriting, writing_seat}
-use Rattle.vm_evict.specs.Writes.{IsAllowed, IsCleaned, IsFoundDirty, IsRefused, IsToWrite, LeavesMapping}
+use Rattle.vm_evict.specs.Evictions.{HasSaved, HasTaken, IsFailed, Unreleased}
+use Rattle.vm_evict.specs.Phases.{gives_up, writes}
+use Rattle.vm_evict.specs.Stages.{Advances, IsCleanAt, IsTaken, IsWriting, still, writing_seat}
+use Rattle.vm_evict.specs.Writes.{IsAllowed, IsCleaned, IsFoundDirty, IsRefused, IsToWrite, LeavesMapping, reads}
+use Rattle.vm_evict.specs.declared.candidate.Phase.TheVariants as phases
+use Rattle.vm_evict.specs.declared.candidate.Stage.TheVariants as stages
 use Rattle.vm_evict.proofs.Copying.{kept-both, no-mapping, no-state}
-use Rattle.vm_evict.proofs.Evidenced.{dirty-front, none-there}
-use Rattle.vm_evict.proofs.Taken.{given-aside, given-keeps, locks-now, said-frame, taken-works, tload-keeps, tload-works, unshare-did}
+use Rattle.vm_evict.proofs.Evidenced.{dirty-front, each-else, taken-front}
+use Rattle.vm_evict.proofs.Moving.{Quietly, advances-after, moves-then, quietly-to, saves-all}
+use Rattle.vm_evict.proofs.Taken.{given-quiet, given-rests, locks-now, may-unshare, said-frame, taken-works, tload-keeps, tload-works}
 
 -- a page that stands, and not dirty, stands clean
 same-dirty : (o : Option ℕ) (dirty : Bool) (m : Mapping) → mapping_at o dirty ≡ Some m → dirty ≡ m.dirty
@@ -41,13 +43,16 @@ clean-of : (m : Option Mapping) (word : ℕ) → IsSome m → mapping_of word �
 clean-of None word some said clean = absurd (false≢true some)
 clean-of (Some m) word some said clean = (m.frame, ap (λ (b : Bool). Some (record { frame = m.frame; dirty = b })) (sym (same-dirty (frame_in word) (is_dirty word) m said) ∙ clean))
 
-module _ {X : Type 0} (p word : ℕ) (v x : View X) (h : IsWriting p word false v x) where
+module _ {X : Type 0} (p word : ℕ) (done : List Did) (v x : View X) (h : IsWriting p word false done v x) where
   locks : IsLocking (seat_of x p)
-  locks = locks-now p word writing_seat (inr (omega arith)) h.done v x h.taken
+  locks = locks-now p word writing_seat (inr (omega arith)) v x h.taken
 
   module _ (t : ℕ) (a : View X) (l : TranslationTold p t x a) where
     abbrev load-did : Did
     load-did = did_load (places.Translation p) t
+
+    abbrev so-far : List Did
+    so-far = done ++ load-did ∷ []
 
     loaded : Works p (load-did ∷ []) x a
     loaded = tload-works p t 1 false true x a h.taken.now l
@@ -58,47 +63,51 @@ module _ {X : Type 0} (p word : ℕ) (v x : View X) (h : IsWriting p word false 
     said : mapping_of t ≡ (held_at x p).mapping
     said = l.called (or_right (seat_of x p).exclusive (seat_of x p).writing (ap (λ (s : Seat). s.writing) h.taken.now))
 
-    taken-loaded : IsTaken p word writing_seat (h.done ++ load-did ∷ []) v a
-    taken-loaded =
-        taken-works p word writing_seat (inr (omega arith)) h.done v x h.taken (load-did ∷ []) a loaded
-        (subst (λ (k : Held). k.fault ≡ k.block.count) (sym held-loaded) h.taken.told)
-        (ap (λ (y : View X). y.out) l.brings.view ∙ h.taken.home)
+    load-quiet : Quietly phases.Save (p, word) (load-did ∷ []) x a
+    load-quiet = record {
+      moves = record {
+        leaves = loaded.leaves;
+        does = (writes (reads (inr (inl refl)) refl refl), tt);
+        home = λ e. ap (λ (y : View X). y.out) l.brings.view ∙ e;
+        newer = translation_of p t (seat_of x p).reading;
+        reads = ap (λ (y : View X). y.translations) l.brings.view;
+      };
+      runs = loaded.alone;
+      keeps = tload-keeps p t x a l;
+    }
 
-    keeps-loaded : KeepsFrames v a
-    keeps-loaded = keeps-then v x a h.keeps (tload-keeps p t x a l)
+    taken-loaded : IsTaken p word writing_seat v a
+    taken-loaded = taken-works p word writing_seat (inr (omega arith)) v x h.taken (load-did ∷ []) a loaded (subst (λ (k : Held). k.fault ≡ k.block.count) (sym held-loaded) h.taken.told)
 
-    foreign-loaded : (found : ℕ) → found ≢ word_of 1 (version_of word) → Each (λ d. d.at ≡ places.State p → d.wrote ≢ Some found) (h.done ++ load-did ∷ [])
-    foreign-loaded found ne = each-both (λ (d : Did). d.at ≡ places.State p → d.wrote ≢ Some found) h.done (load-did ∷ []) (h.foreign found ne) ((λ here. absurd (no-state p (places.Translation p) refl here)), tt)
+    foreign-loaded : (found : ℕ) → found ≢ word_of 1 (version_of word) → Each (λ d. d.at ≡ places.State p → d.wrote ≢ Some found) so-far
+    foreign-loaded found ne = each-both (λ (d : Did). d.at ≡ places.State p → d.wrote ≢ Some found) done (load-did ∷ []) (h.foreign found ne) ((λ here. absurd (no-state p (places.Translation p) refl here)), tt)
 
-    shared-loaded : HasWritten (h.done ++ load-did ∷ []) (places.State p) (word_of 1 (version_of word))
-    shared-loaded = written-front h.done (load-did ∷ []) (places.State p) (word_of 1 (version_of word)) h.shared
+    shared-loaded : HasTaken so-far (places.State p) word (word_of 1 (version_of word))
+    shared-loaded = taken-front done (load-did ∷ []) (places.State p) word (word_of 1 (version_of word)) h.shared
 
-    kept-loaded : LeavesMapping p (h.done ++ load-did ∷ [])
-    kept-loaded = kept-both p h.done (load-did ∷ []) (h.kept refl) ((λ here. refl), tt)
+    unreleased-loaded : Unreleased p so-far
+    unreleased-loaded = each-both (λ (d : Did). d.at ≡ places.State p → d.found ≡ None → d.wrote ≡ None) done (load-did ∷ []) h.unreleased ((λ here none. refl), tt)
 
-    resident-loaded : IsSome (held_at a p).mapping
-    resident-loaded = subst (λ (k : Held). IsSome k.mapping) (sym held-loaded) h.resident
+    kept-loaded : LeavesMapping p so-far
+    kept-loaded = kept-both p done (load-did ∷ []) (h.kept refl) ((λ here. refl), tt)
 
     -- ---- it was clean
 
-    pub kept : IsWriting p word false v a
+    kept : IsWriting p word false so-far v a
     kept = record {
-      done = h.done ++ load-did ∷ [];
       taken = taken-loaded;
-      keeps = keeps-loaded;
       shared = shared-loaded;
       foreign = foreign-loaded;
+      unreleased = unreleased-loaded;
       kept = λ _. kept-loaded;
-      resident = resident-loaded;
-      stored = λ tells clean.
-          ap (λ (k : Held). k.block.words) held-loaded
-          ∙ h.stored (ap (λ (o : Origin). o.tells) (sym loaded.leaves.start) ∙ tells) (λ m e. clean m (ap (λ (k : Held). k.mapping) held-loaded ∙ e))
-          ∙ ap (λ (r : Version). r.words) (sym (loaded.last locks));
+      resident = subst (λ (k : Held). IsSome k.mapping) (sym held-loaded) h.resident;
       cleaned = λ e. absurd (false≢true e);
     }
 
-    pub kept-clean : is_dirty t ≡ false → IsCleanAt p a
-    kept-clean clean = subst (λ (k : Held). (frame : ℕ) × (k.mapping ≡ Some (clean_in frame))) (sym held-loaded) (clean-of (held_at x p).mapping t h.resident said clean)
+    pub kept-so : is_dirty t ≡ false → Advances phases.Save (p, word) stages.Waiting (stages.Shared false) done v x a
+    kept-so clean =
+        let stands : IsCleanAt p a = subst (λ (k : Held). (frame : ℕ) × (k.mapping ≡ Some (clean_in frame))) (sym held-loaded) (clean-of (held_at x p).mapping t h.resident said clean) in
+        quietly-to phases.Save (p, word) stages.Waiting (stages.Shared false) done (load-did ∷ []) v x a load-quiet (kept, stands) tt record { is = refl; when = inl refl } record { is = refl; when = inl refl } record { is = refl; when = inl refl }
 
     -- ---- it was dirty
 
@@ -109,14 +118,14 @@ module _ {X : Type 0} (p word : ℕ) (v x : View X) (h : IsWriting p word false 
       stands-dirty : (held_at x p).mapping ≡ Some (dirty_in f)
       stands-dirty = sym said ∙ said-dirty
 
-      found-dirty : IsFoundDirty p f (h.done ++ load-did ∷ [])
-      found-dirty = (t, record { earlier = h.done; step = load-did; later = []; cut = refl; gives = (refl, refl) }, said-dirty)
+      found-dirty : IsFoundDirty p f so-far
+      found-dirty = (t, record { earlier = done; step = load-did; later = []; cut = refl; gives = (refl, refl) }, said-dirty)
 
       pub inside : f < x.start.frames
       inside = l.inside (dirty_in f) (said ∙ stands-dirty)
 
-      pub to-write : IsToWrite p f a
-      to-write = record {
+      pub to-write : x.out ≡ None → IsToWrite p f a
+      to-write home = record {
         writes = ap (λ (s : Seat). s.writing) taken-loaded.now;
         shared = subst (λ (s : Seat). 1 ≤ s.shares) (sym taken-loaded.now) (omega arith);
         owns = ap (λ (s : Seat). s.exclusive) taken-loaded.now;
@@ -124,57 +133,104 @@ module _ {X : Type 0} (p word : ℕ) (v x : View X) (h : IsWriting p word false 
         stands = ap (λ (k : Held). k.mapping) held-loaded ∙ stands-dirty;
         told = taken-loaded.told;
         size = taken-loaded.size;
-        home = taken-loaded.home;
+        home = load-quiet.moves.home home;
       }
 
       module _ (b : View X) (c : IsCleaned p f a b) where
-        abbrev all : List Did
-        all = (h.done ++ load-did ∷ []) ++ c.done
-
-        pub saved : IsWriting p word true v b
-        saved = record {
-          done = all;
-          taken = taken-works p word writing_seat (inr (omega arith)) (h.done ++ load-did ∷ []) v a taken-loaded c.done b c.works c.told c.home;
-          keeps = keeps-then v a b keeps-loaded c.keeps;
-          shared = written-front (h.done ++ load-did ∷ []) c.done (places.State p) (word_of 1 (version_of word)) shared-loaded;
-          foreign = λ found ne.
-              each-both (λ (d : Did). d.at ≡ places.State p → d.wrote ≢ Some found) (h.done ++ load-did ∷ []) c.done (foreign-loaded found ne) (none-there c.done (places.State p) found c.state);
-          kept = λ e. absurd (false≢true (sym e));
-          resident = subst (λ (m : Option Mapping). IsSome m) (sym c.stands) refl;
-          stored = λ tells _. c.stored (ap (λ (o : Origin). o.tells) (sym c.works.leaves.start) ∙ tells);
-          cleaned = λ _. (f, c.stands, written-behind (h.done ++ load-did ∷ []) c.done (places.Translation p) (trans_word (Some (clean_in f))) c.cleaned);
+        write-quiet : Quietly phases.Save (p, word) c.done a b
+        write-quiet = record {
+          moves = record { leaves = c.works.leaves; does = saves-all (p, word) c.done c.does; home = λ e. c.home; newer = []; reads = c.reads };
+          runs = c.works.alone;
+          keeps = c.keeps;
         }
 
-        pub saved-clean : IsCleanAt p b
-        saved-clean = (f, c.stands)
+        abbrev all : List Did
+        all = so-far ++ c.done
+
+        has-saved : HasSaved p f all
+        has-saved = record {
+          cleaned = record {
+            earlier = so-far ++ c.cleaned.earlier;
+            step = c.cleaned.step;
+            later = c.cleaned.later;
+            cut = ap (λ (l : List Did). so-far ++ l) c.cleaned.cut ∙ sym (append_assoc so-far c.cleaned.earlier (c.cleaned.step ∷ c.cleaned.later));
+            place = c.cleaned.place;
+            wrote = c.cleaned.wrote;
+          };
+          dirty = dirty-front p f so-far c.cleaned.earlier found-dirty;
+        }
+
+        saved : IsWriting p word true all v b
+        saved = record {
+          taken = taken-works p word writing_seat (inr (omega arith)) v a taken-loaded c.done b c.works c.told;
+          shared = taken-front so-far c.done (places.State p) word (word_of 1 (version_of word)) shared-loaded;
+          foreign = λ found ne. each-else (places.State p) (λ d. d.wrote ≢ Some found) so-far c.done c.state (foreign-loaded found ne);
+          unreleased = each-else (places.State p) (λ d. d.found ≡ None → d.wrote ≡ None) so-far c.done c.state unreleased-loaded;
+          kept = λ e. absurd (false≢true (sym e));
+          resident = subst (λ (m : Option Mapping). IsSome m) (sym c.stands) refl;
+          cleaned = λ _. (f, c.stands, has-saved);
+        }
+
+        pub saved-so : Advances phases.Save (p, word) stages.Waiting (stages.Shared true) done v x b
+        saved-so =
+            advances-after (p, word) (stages.Shared true) done (load-did ∷ []) v x a b load-quiet
+            (quietly-to phases.Save (p, word) stages.Waiting (stages.Shared true) so-far c.done v a b write-quiet (saved, (f, c.stands)) tt record { is = refl; when = inl refl } record { is = refl; when = inl refl } record { is = refl; when = inl refl })
 
       module _ (count : ℕ) (b : View X) (r : IsRefused p f count a b) where
         abbrev tried : List Did
-        tried = (h.done ++ load-did ∷ []) ++ r.done
+        tried = so-far ++ r.done
 
-        pub held-on : IsTaken p word writing_seat tried v b
-        held-on = taken-works p word writing_seat (inr (omega arith)) (h.done ++ load-did ∷ []) v a taken-loaded r.done b r.works r.told r.home
+        held-on : IsTaken p word writing_seat v b
+        held-on = taken-works p word writing_seat (inr (omega arith)) v a taken-loaded r.done b r.works r.told
+
+        pub may-give : MayUnshare b p
+        may-give = may-unshare p word v b held-on r.home
 
         module _ (last : ℕ) (w : View X) (u : UnshareTold p last b w) where
           abbrev end-did : Did
-          end-did = unshare-did p word tried v b held-on last w u
+          end-did = did_change (places.State p) last (last - 2 ^ 56)
 
-          gone : KeepsFrames b w
-          gone = given-keeps p word tried v b held-on last w u
+          gone : Quietly phases.Save (p, word) (end-did ∷ []) b w
+          gone = given-quiet p word v b held-on phases.Save last w u (gives_up (last, refl))
 
-          pub unwritten : IsUnwritten p (version_of word) count v w
-          unwritten = record {
-            done = tried ++ end-did ∷ [];
-            aside = given-aside p word tried v b held-on last w u;
+          abbrev both : List Did
+          both = r.done ++ end-did ∷ []
+
+          failed : IsFailed p word count (tried ++ end-did ∷ []) v
+          failed = record {
             shared =
-                written-front tried (end-did ∷ []) (places.State p) (word_of 1 (version_of word))
-                (written-front (h.done ++ load-did ∷ []) r.done (places.State p) (word_of 1 (version_of word)) shared-loaded);
-            dirty = (f, dirty-front p f tried (end-did ∷ []) (dirty-front p f (h.done ++ load-did ∷ []) r.done found-dirty));
-            kept = kept-both p tried (end-did ∷ []) (kept-both p (h.done ++ load-did ∷ []) r.done kept-loaded r.kept) (no-mapping p end-did refl, tt);
+                taken-front tried (end-did ∷ []) (places.State p) word (word_of 1 (version_of word))
+                (taken-front so-far r.done (places.State p) word (word_of 1 (version_of word)) shared-loaded);
+            dirty = (f, dirty-front p f tried (end-did ∷ []) (dirty-front p f so-far r.done found-dirty));
+            kept = kept-both p tried (end-did ∷ []) (kept-both p so-far r.done kept-loaded r.kept) (no-mapping p end-did refl, tt);
             raised =
                 written-front tried (end-did ∷ []) (places.Fault p) count
-                (written-behind (h.done ++ load-did ∷ []) r.done (places.Fault p) count r.raised);
-            noted = gone.notes ∙ r.noted ∙ ap (λ (l : List Note). l ++ record { page = p; count = count } ∷ []) keeps-loaded.notes;
-            allowed = subst (λ (o : Origin). IsAllowed o p count) taken-loaded.leaves.start r.allowed;
-            frames = (gone.frames ∙ r.frames.0 ∙ keeps-loaded.frames, gone.contents ∙ r.frames.1 ∙ keeps-loaded.contents);
+                (written-behind so-far r.done (places.Fault p) count r.raised);
+            allowed = subst (λ (o : Origin). IsAllowed o p count) (loaded.leaves.start ∙ h.taken.start) r.allowed;
+            unreleased =
+                each-both (λ (d : Did). d.at ≡ places.State p → d.found ≡ None → d.wrote ≡ None) tried (end-did ∷ [])
+                (each-else (places.State p) (λ d. d.found ≡ None → d.wrote ≡ None) so-far r.done r.state unreleased-loaded) ((λ here none. absurd (none-some last (sym none))), tt);
           }
+
+          pub failed-so : Advances phases.Save (p, word) stages.Waiting (stages.Failed count) done v x w
+          failed-so =
+              advances-after (p, word) (stages.Failed count) done (load-did ∷ []) v x a w load-quiet
+              record {
+                more = both;
+                moves =
+                    moves-then phases.Save (p, word) r.done (end-did ∷ []) a b w
+                    record { leaves = r.works.leaves; does = saves-all (p, word) r.done r.does; home = λ e. r.home; newer = []; reads = r.reads }
+                    gone.moves;
+                at = (subst (λ (l : List Did). IsFailed p word count l v) (append_assoc so-far r.done (end-did ∷ [])) failed, given-rests p word v b held-on phases.Save last w u (gives_up (last, refl)));
+                ends = tt;
+                own = [];
+                runs = runs-then r.done (end-did ∷ []) [] [] a b w r.works.leaves.start r.works.leaves.parts r.works.alone gone.runs;
+                alone = alone-then a b w r.works.leaves.parts (stays-alone r.done a b r.works.leaves.start r.works.alone) (stays-alone (end-did ∷ []) b w gone.moves.leaves.start gone.runs);
+                releases = record { is = refl; when = inl refl };
+                notes = record { page = p; count = count } ∷ [];
+                noted = gone.keeps.notes ∙ r.noted;
+                notes_are = record { is = refl; when = inr refl };
+                frames = [];
+                come = still refl (gone.keeps.frames ∙ r.frames.0) (gone.keeps.contents ∙ r.frames.1);
+                frames_are = record { is = refl; when = inl refl };
+              }

@@ -32,7 +32,7 @@ use Rattle.vm_step.specs.Works.{Works}
 use Rattle.vm_step.proofs.Asides.{keeps-then}
 use Rattle.vm_step.proofs.Device.{Moves, comes-home, counts-one, goes-out, may-bring-written, more-is, noted-more, two-loads}
 use Rattle.vm_step.proofs.Leaves.{works-one, works-then}
-use Rattle.vm_evict.specs.Writes.{IsAllowed, IsCleaned, IsCopied, IsRefused, IsToWrite, LeavesMapping, LeavesState, WritesOwn}
+use Rattle.vm_evict.specs.Writes.{IsAllowed, IsCleaned, IsCopied, IsRefused, IsToWrite, LeavesMapping, LeavesState, WritesOwn, WritesPage, reads, cleans, raises}
 use Rattle.vm_evict.proofs.Copying.{kept-both, leaves-both, no-mapping, no-state, reads-same}
 
 -- the frame of a page that is shared and resident is read
@@ -133,6 +133,19 @@ module _ {X : Type 0} (p f : ℕ) (v : View X) (r : IsToWrite p f v) where
           own-called =
               each-both (WritesOwn p) copied-did home-did (each-both (WritesOwn p) out-did k.done (inl refl, (inl refl, tt)) k.own) (inl refl, (inl refl, tt))
 
+          does-called : Each (WritesPage p) called-did
+          does-called =
+              each-both (WritesPage p) copied-did home-did (each-both (WritesPage p) out-did k.done (reads (inr (inr (inl refl))) refl refl, (reads (inr (inr (inl refl))) refl refl, tt)) k.does)
+              (reads (inr (inr (inl refl))) refl refl, (reads (inr (inr (inl refl))) refl refl, tt))
+
+          reads-called : d.translations ≡ v.translations
+          reads-called =
+              ap (λ (y : View X). y.translations) m.back.brings.view
+              ∙ ap (λ (y : View X). y.translations) m.shift.brings.view
+              ∙ k.reads
+              ∙ ap (λ (y : View X). y.translations) o.shift.brings.view
+              ∙ ap (λ (y : View X). y.translations) o.slot.brings.view
+
           keeps-called : KeepsFrames v d
           keeps-called = keeps-then v b d (keeps-then v a b gone.keeps k.keeps) back.keeps
 
@@ -186,6 +199,8 @@ module _ {X : Type 0} (p f : ℕ) (v : View X) (r : IsToWrite p f v) where
                 works = work-cleaned;
                 state = leaves-both p called-did (clean-did ∷ []) state-called (no-state p (places.Translation p) refl, tt);
                 own = each-both (WritesOwn p) called-did (clean-did ∷ []) own-called (inr (inl refl), tt);
+                does = each-both (WritesPage p) called-did (clean-did ∷ []) does-called (cleans f refl, tt);
+                reads = ap (λ (y : View X). y.translations) t.brings.view ∙ reads-called;
                 cleaned = record { earlier = called-did; step = clean-did; later = []; cut = refl; place = refl; wrote = refl };
                 ends = refl;
                 stands = ap (λ (h : Held). h.mapping) held-cleaned;
@@ -242,6 +257,8 @@ module _ {X : Type 0} (p f : ℕ) (v : View X) (r : IsToWrite p f v) where
                 works = works-then p called-did (raise-did ∷ []) v d w work-called raise-work;
                 state = leaves-both p called-did (raise-did ∷ []) state-called (no-state p (places.Fault p) refl, tt);
                 own = each-both (WritesOwn p) called-did (raise-did ∷ []) own-called (inr (inr refl), tt);
+                does = each-both (WritesPage p) called-did (raise-did ∷ []) does-called (raises n refl, tt);
+                reads = ap (λ (y : View X). y.translations) t.brings.view ∙ reads-called;
                 kept = kept-both p called-did (raise-did ∷ []) kept-called (no-mapping p raise-did refl, tt);
                 raised = record { earlier = called-did; step = raise-did; later = []; cut = refl; place = refl; wrote = refl };
                 noted =

@@ -1,9 +1,7 @@
--- What becomes of a candidate for eviction. It is evicted: locked at the version at which it was marked, written before if it was dirty, taken
--- out of its frame, and released as evicted at its next version with the words that it had. Or its write failed, and it stays resident and
--- dirty. Or it changed before it could be locked.
-use Rattle.std.specs.Prelude.{ℕ, Bool, true, false, Option, Some, None, List, [], ◌∷◌, ◌++◌, ◌≡◌, ◌≢◌, ◌⊎◌, ◌+◌, ◌<◌, ◌||◌, zero, suc, length, if◌then◌else◌}
-use lib.ListN.{get_elem?}
-use mathlib.Core.Option.{some}
+-- What becomes of the candidates for eviction. A candidate is freed: locked from the very word at which it was marked, written before if it was
+-- dirty, taken out of its frame, and released as evicted at its next version with the words that it had. Or its write failed, and it stays
+-- resident and dirty, at its version. Or it changed before it could be locked.
+use Rattle.std.specs.Prelude.{ℕ, Bool, true, false, Option, Some, None, List, [], ◌∷◌, ◌++◌, ◌≡◌, ◌≢◌, ◌⊎◌, ◌+◌, ◌<◌, ◌||◌, zero, suc, length, slice_index_or, if◌then◌else◌}
 use Rattle.vm_core.specs.Words.{version_of, word_of, LOCKED, EVICTED}
 use Rattle.vm_core.specs.FrameActs.{mapping_of, trans_word}
 use Rattle.vm_owner.specs.Numbers.{has, AreApart}
@@ -16,11 +14,15 @@ use Rattle.vm_rule.specs.declared.view.View.{View}
 use Rattle.vm_rule.specs.Views.{Each}
 use Rattle.vm_rule.specs.Reading.{last_in, last_of}
 use Rattle.vm_rule.specs.Mappings.{clean_in, contents_at}
-use Rattle.vm_step.specs.Asides.{IsAside, IsAsideOf, KeepsFrames}
+use Rattle.vm_step.specs.Alone.{RunsAlone}
+use Rattle.vm_step.specs.Asides.{IsAsideOf}
 use Rattle.vm_step.specs.Evidence.{HasGiven, HasWritten, IsLost}
 use Rattle.vm_step.specs.Choices.{pages_of}
 use Rattle.vm_step.specs.declared.choice.Looks.{Looks}
+use Rattle.vm_evict.specs.Phases.{InPhases}
 use Rattle.vm_evict.specs.Writes.{IsAllowed, IsFoundDirty, LeavesMapping}
+use Rattle.vm_evict.specs.declared.candidate.Stage.{Stage}
+use Rattle.vm_evict.specs.declared.candidate.Stage.TheVariants as stages
 use Rattle.vm_evict.specs.declared.report.Report.{Report}
 
 -- an exchange of these steps expected this word, and found another, which none of the steps before had left there
@@ -32,6 +34,31 @@ pub record HasLost (done : List Did) (at : Place) (expects : ℕ) : Type 0 where
   pub found : ℕ
   pub lost : IsLost step at expects found
   pub foreign : Each (λ d. d.at ≡ at → d.wrote ≢ Some found) earlier
+
+-- an exchange of these steps found the word that it expected, and put another in its place
+pub record HasTaken (done : List Did) (at : Place) (expects new : ℕ) : Type 0 where
+  pub earlier : List Did
+  pub step : Did
+  pub later : List Did
+  pub cut : done ≡ earlier ++ step ∷ later
+  pub place : step.at ≡ at
+  pub expected : step.expects ≡ Some expects
+  pub found : step.found ≡ Some expects
+  pub wrote : step.wrote ≡ Some new
+
+-- page p went from this word to Locked at its version: by one exchange, or by way of one share, which was taken from the word
+pub data LocksFrom (p word : ℕ) (done : List Did) : Type 0 where
+  once : HasTaken done (places.State p) word (word_of LOCKED (version_of word)) → LocksFrom p word done
+  by_share : (l : HasTaken done (places.State p) (word_of 1 (version_of word)) (word_of LOCKED (version_of word))) → HasTaken l.earlier (places.State p) word (word_of 1 (version_of word)) → LocksFrom p word done
+
+-- page p was found dirty in this frame, and made clean there afterwards
+pub record HasSaved (p frame : ℕ) (done : List Did) : Type 0 where
+  pub cleaned : HasWritten done (places.Translation p) (trans_word (Some (clean_in frame)))
+  pub dirty : IsFoundDirty p frame cleaned.earlier
+
+-- no step stored the state word of page p: none released it, so its version stands
+abbrev pub Unreleased : ℕ → List Did → Type 0
+Unreleased p done = Each (λ d. d.at ≡ places.State p → d.found ≡ None → d.wrote ≡ None) done
 
 abbrev pub one_if : Bool → ℕ
 one_if b = if b then 1 else 0
@@ -46,7 +73,64 @@ abbrev pub first_of : List Note → Option (ℕ × ℕ)
 first_of [] = None
 first_of (n ∷ ns) = Some (n.page, n.count)
 
+-- ---- the candidates, each with the stage at which it ended
+
+-- the candidate, and the stage, at a place
+abbrev pub candidate_at : List (ℕ × ℕ) → ℕ → ℕ × ℕ
+candidate_at list n = slice_index_or list n (0, 0)
+
+abbrev pub stage_at : List Stage → ℕ → Stage
+stage_at ends n = slice_index_or ends n stages.Waiting
+
+-- what the first n of them give, in the list's order
+abbrev pub gathered : {A : Type 0} → (ℕ × ℕ → Stage → List A) → ℕ → List (ℕ × ℕ) → List Stage → List A
+gathered give zero list ends = []
+gathered give (suc n) list ends = gathered give n list ends ++ give (candidate_at list n) (stage_at ends n)
+
+-- the frame that a page was taken out of
+abbrev pub frame_at : ℕ × ℕ → Stage → List ℕ
+frame_at c (stages.Emptied frame written) = frame ∷ []
+frame_at c (stages.Freed frame written) = frame ∷ []
+frame_at c s = []
+
+-- the note of a fault
+abbrev pub note_at : ℕ × ℕ → Stage → List Note
+note_at c (stages.Failed count) = record { page = c.0; count = count } ∷ []
+note_at c s = []
+
+-- the page, if it was lost; and if it was written
+abbrev pub lost_at : ℕ × ℕ → Stage → List ℕ
+lost_at c (stages.Lost written) = c.0 ∷ []
+lost_at c s = []
+
+abbrev pub written_at : ℕ × ℕ → Stage → List ℕ
+written_at c (stages.Lost written) = if written then c.0 ∷ [] else []
+written_at c (stages.Freed frame written) = if written then c.0 ∷ [] else []
+written_at c s = []
+
+-- the report has the counts of the first n, and the looks that found them
+pub record Counts (n : ℕ) (list : List (ℕ × ℕ)) (looks : Looks) (ends : List Stage) (report : Report) : Type 0 where
+  pub freed : report.freed ≡ length (gathered frame_at n list ends)
+  pub written : report.written ≡ length (gathered written_at n list ends)
+  pub failed : report.failed ≡ length (gathered note_at n list ends)
+  pub lost : report.lost ≡ length (gathered lost_at n list ends)
+  pub first : report.first_failed ≡ first_of (gathered note_at n list ends)
+  pub looks_are : report.looks ≡ looks
+
+-- an exchange on it was lost: one that expected the word, or one that expected the pass's share alone at its version, which a step before had
+-- taken from the word; where it was written it had been dirty
+pub record IsMissed (p word : ℕ) (written : Bool) (done : List Did) : Type 0 where
+  pub why : HasLost done (places.State p) word ⊎ ((l : HasLost done (places.State p) (word_of 1 (version_of word))) × HasTaken l.earlier (places.State p) word (word_of 1 (version_of word)))
+  pub cleaned : written ≡ true → (frame : ℕ) × HasSaved p frame done
+  pub unwritten : written ≡ false → LeavesMapping p done
+  pub unreleased : Unreleased p done
+
 module _ {X : Type 0} where
+  -- the release of a page that was freed, with the words that it had at v
+  abbrev pub release_at : View X → ℕ × ℕ → Stage → List Release
+  release_at v c (stages.Freed frame written) = record { page = c.0; version = version_of c.1 + 1; words = (last_of v c.0).words } ∷ []
+  release_at v c s = []
+
   -- these frames came to the pass, each another one and none of those that it had, whose words are as they were
   pub record FramesCome (batch : List ℕ) (v w : View X) : Type 0 where
     pub apart : AreApart batch
@@ -55,77 +139,64 @@ module _ {X : Type 0} where
     pub all : (f : ℕ) → has f w.frames ≡ (has f batch || has f v.frames)
     pub words : (f : ℕ) → has f v.frames ≡ true → contents_at w f ≡ contents_at v f
 
-  -- page p was locked at the version of this word, and released as evicted at the next one, with the words that it had
-  pub record IsDropped (p word : ℕ) (done : List Did) (v w : View X) : Type 0 where
-    pub locked : HasWritten done (places.State p) (word_of LOCKED (version_of word))
-    pub emptied : HasWritten done (places.Translation p) (trans_word None)
-    pub left : HasWritten done (places.State p) (word_of EVICTED (version_of word + 1))
+  -- page p was released at the next version with the words that it had
+  pub record HasReleased (p word : ℕ) (v w : View X) : Type 0 where
     pub words : List ℕ
-    pub between : List Release
-    pub releases : w.releases ≡ (v.releases ++ between) ++ record { page = p; version = version_of word + 1; words = words } ∷ []
-    pub same : last_in v.start (v.releases ++ between) p ≡ record { version = version_of word; words = words }
-    pub last : last_of w p ≡ record { version = version_of word + 1; words = words }
+    pub before : List Release
+    pub after : List Release
+    pub releases : w.releases ≡ ((v.releases ++ before) ++ record { page = p; version = version_of word + 1; words = words } ∷ []) ++ after
+    pub same : last_in v.start (v.releases ++ before) p ≡ record { version = version_of word; words = words }
 
-  -- it went evicted, and its frame came to the pass; where it was written, it was made clean
-  pub record IsEvicted (p word frame : ℕ) (written : Bool) (v w : View X) : Type 0 where
-    pub done : List Did
-    pub aside : IsAside p done v w
-    pub dropped : IsDropped p word done v w
+  -- ---- one candidate, by the steps of the call
+
+  -- it went evicted, and its frame came to the pass; where it was written it had been dirty
+  pub record IsFreed (p word frame : ℕ) (written : Bool) (done : List Did) (v w : View X) : Type 0 where
+    pub locked : LocksFrom p word done
+    -- no step marked it anew
+    pub foreign : Each (λ d. d.at ≡ places.State p → d.wrote ≢ Some word) done
     -- a step found that it stands in this frame, clean
     pub stood : (found : ℕ) × HasGiven done (places.Translation p) found × (mapping_of found ≡ Some (clean_in frame))
-    pub cleaned : written ≡ true → HasWritten done (places.Translation p) (trans_word (Some (clean_in frame)))
+    pub cleaned : written ≡ true → HasSaved p frame done
     pub unwritten : written ≡ false → Each (λ d. d.at ≡ places.Translation p → d.wrote ≢ Some (trans_word (Some (clean_in frame)))) done
-    pub frames : FramesCome (frame ∷ []) v w
-    pub notes : w.notes ≡ v.notes
+    pub emptied : HasWritten done (places.Translation p) (trans_word None)
+    pub left : HasWritten done (places.State p) (word_of EVICTED (version_of word + 1))
+    pub released : HasReleased p word v w
 
-  -- its write failed: it was found dirty, and shared for the write, and is no more; its translation word stays; the fault was noted, with the
-  -- count that the fault word was raised to
-  pub record IsUnwritten (p version count : ℕ) (v w : View X) : Type 0 where
-    pub done : List Did
-    pub aside : IsAside p done v w
-    pub shared : HasWritten done (places.State p) (word_of 1 version)
+  -- its write failed: it was shared from its word and found dirty; its translation word stays, and it was not released; the fault word was raised
+  pub record IsFailed (p word count : ℕ) (done : List Did) (v : View X) : Type 0 where
+    pub shared : HasTaken done (places.State p) word (word_of 1 (version_of word))
     pub dirty : (frame : ℕ) × IsFoundDirty p frame done
     pub kept : LeavesMapping p done
     pub raised : HasWritten done (places.Fault p) count
-    pub noted : w.notes ≡ v.notes ++ record { page = p; count = count } ∷ []
     pub allowed : IsAllowed v.start p count
-    pub frames : (w.frames ≡ v.frames) × (w.contents ≡ v.contents)
+    pub unreleased : Unreleased p done
 
-  -- an exchange on it was lost: one that expected the word, or one that expected the pass's share alone at its version, which a step before had
-  -- left there
-  pub record IsMissed (p word : ℕ) (written : Bool) (v w : View X) : Type 0 where
-    pub done : List Did
-    pub aside : IsAside p done v w
-    pub keeps : KeepsFrames v w
-    pub why : HasLost done (places.State p) word ⊎ ((l : HasLost done (places.State p) (word_of 1 (version_of word))) × HasWritten l.earlier (places.State p) (word_of 1 (version_of word)))
-    pub cleaned : written ≡ true → (frame : ℕ) × HasWritten done (places.Translation p) (trans_word (Some (clean_in frame)))
-    pub unwritten : written ≡ false → LeavesMapping p done
+  -- what became of a candidate
+  abbrev pub IsEnd : ℕ × ℕ → Stage → List Did → View X → View X → Type 0
+  IsEnd c (stages.Freed frame written) done v w = IsFreed c.0 c.1 frame written done v w
+  IsEnd c (stages.Failed count) done v w = IsFailed c.0 c.1 count done v
+  IsEnd c (stages.Lost written) done v w = IsMissed c.0 c.1 written done
+  IsEnd c s done v w = ⊥
 
   -- ---- a list of candidates
 
-  -- what one more candidate adds to the frames and to the report
-  pub data Adds (c : ℕ × ℕ) (v w : View X) (old new : Report) (frames batch : List ℕ) : Type 0 where
-    freed : (frame : ℕ) (written : Bool) → IsEvicted c.0 c.1 frame written v w → new ≡ record old { freed = old.freed + 1; written = old.written + one_if written } → batch ≡ frames ++ frame ∷ [] → Adds c v w old new frames batch
-    failed : (count : ℕ) → IsUnwritten c.0 (version_of c.1) count v w → new ≡ record old { failed = old.failed + 1; first_failed = first_pair old.first_failed (c.0, count) } → batch ≡ frames → Adds c v w old new frames batch
-    lost : (written : Bool) → IsMissed c.0 c.1 written v w → new ≡ record old { lost = old.lost + 1; written = old.written + one_if written } → batch ≡ frames → Adds c v w old new frames batch
-
-  -- the first n candidates of the list, one after another
-  abbrev pub Evicts : List (ℕ × ℕ) → Looks → ℕ → View X → View X → Report → List ℕ → Type 0
-  Evicts list looks zero v w report batch = (w ≡ v) × (report ≡ record { freed = 0; written = 0; failed = 0; lost = 0; first_failed = None; looks = looks }) × (batch ≡ [])
-  Evicts list looks (suc n) v w report batch =
-      (x : View X) × (old : Report) × (frames : List ℕ) × (c : ℕ × ℕ) × (get_elem? list n ≡ some c) × Evicts list looks n v x old frames × Adds c x w old report frames batch
-
-  -- what `evict` of these candidates does: each is evicted, or could not be written, or was lost; their frames are in the batch
+  -- what `evict` of these candidates does, in its phases: each is evicted, or could not be written, or was lost; their frames are in the batch
   pub record IsBatch (list : List (ℕ × ℕ)) (looks : Looks) (v w : View X) (report : Report) (batch : List ℕ) : Type 0 where
-    pub each : Evicts list looks (length list) v w report batch
+    pub done : List Did
+    pub phases : InPhases list done
+    pub ends : List Stage
+    pub each : (n : ℕ) → n < length list → IsEnd (candidate_at list n) (stage_at ends n) done v w
+    pub counts : Counts (length list) list looks ends report
     pub all : report.freed + (report.failed + report.lost) ≡ length list
     pub count : length batch ≡ report.freed
-    pub done : List Did
+    pub batched : batch ≡ gathered frame_at (length list) list ends
     pub aside : IsAsideOf (λ p. has p (pages_of list) ≡ true) done v w
     pub frames : FramesCome batch v w
     -- the faults noted are those of the pages whose write failed, in their order; the first is reported
     pub notes : List Note
+    pub noted : notes ≡ gathered note_at (length list) list ends
     pub after : w.notes ≡ v.notes ++ notes
-    pub each_noted : length notes ≡ report.failed
     pub first : report.first_failed ≡ first_of notes
     pub allowed : Each (λ n. IsAllowed v.start n.page n.count) notes
+    -- where the pass is alone, no page was released but those freed
+    pub alone : RunsAlone done (gathered (release_at v) (length list) list ends) v w

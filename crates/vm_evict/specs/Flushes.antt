@@ -3,7 +3,7 @@
 use Rattle.std.specs.Prelude.{ℕ, true, false, Option, Some, None, List, [], ◌∷◌, ◌++◌, ◌≡◌, ◌≢◌, ◌⊎◌, ◌+◌, ◌<◌, ◌≤◌, zero, suc, length}
 use Rattle.vm_page.specs.declared.buf.TheConstants.{WORDS}
 use Rattle.vm_core.specs.Words.{state_of, version_of, word_of, UNLOCKED, MARKED, EVICTED}
-use Rattle.vm_core.specs.FrameActs.{mapping_of, trans_word}
+use Rattle.vm_core.specs.FrameActs.{mapping_of}
 use Rattle.vm_laws_others.specs.Leaves.{stands_dirty}
 use Rattle.vm_rule.specs.declared.view.Did.{Did}
 use Rattle.vm_rule.specs.declared.view.Note.{Note}
@@ -13,7 +13,7 @@ use Rattle.vm_rule.specs.declared.view.View.{View}
 use Rattle.vm_owner.specs.Numbers.{has}
 use Rattle.vm_rule.specs.Views.{Each, seat_of}
 use Rattle.vm_rule.specs.Reading.{last_of}
-use Rattle.vm_rule.specs.Mappings.{clean_in, dirty_in}
+use Rattle.vm_rule.specs.Mappings.{dirty_in}
 use Rattle.vm_rule.specs.Log.{did_exchange}
 use Rattle.vm_rule_laws.specs.Standing.{state_in, mapping_in}
 use Rattle.vm_step.specs.Alone.{IsAlone, RunsAlone}
@@ -24,8 +24,8 @@ use Rattle.vm_step.specs.Works.{Works}
 use Rattle.vm_step.specs.declared.took.Took.{Took}
 use Rattle.vm_step.specs.declared.took.Took.TheVariants.{Taken, Lost}
 use Rattle.vm_step.specs.Choices.{IsHeld, first_or}
-use Rattle.vm_evict.specs.Evictions.{HasLost, IsUnwritten}
-use Rattle.vm_evict.specs.Writes.{IsAllowed, IsFoundDirty, LeavesMapping, WritesOwn}
+use Rattle.vm_evict.specs.Evictions.{HasLost, HasSaved}
+use Rattle.vm_evict.specs.Writes.{IsAllowed, IsFoundDirty, IsOwnPlace, LeavesMapping, StaysOn, WritesOwn}
 use Rattle.vm_evict.specs.declared.flushing.Flushed.{Flushed}
 
 abbrev pub nothing_flushed : Flushed
@@ -68,8 +68,25 @@ noted_pages [] = []
 noted_pages (n ∷ ns) = n.page ∷ noted_pages ns
 
 module _ {X : Type 0} where
+  -- its write failed: it was looked at, found dirty, and shared at the version of that look for the write, and is no more; its translation word
+  -- stays, and it was not released; the fault was noted, with the count that the fault word was raised to
+  pub record IsUnwritten (p word count : ℕ) (v w : View X) : Type 0 where
+    pub done : List Did
+    pub own : StaysOn p done
+    pub aside : IsAside p done v w
+    pub alone : RunsAlone done [] v w
+    pub looked : HasGiven done (places.State p) word
+    pub shared : HasWritten done (places.State p) (word_of 1 (version_of word))
+    pub dirty : (frame : ℕ) × IsFoundDirty p frame done
+    pub kept : LeavesMapping p done
+    pub raised : HasWritten done (places.Fault p) count
+    pub noted : w.notes ≡ v.notes ++ record { page = p; count = count } ∷ []
+    pub allowed : IsAllowed v.start p count
+    pub frames : (w.frames ≡ v.frames) × (w.contents ≡ v.contents)
+
   -- nothing of page p changed but its open read
   pub record IsLeft (p : ℕ) (done : List Did) (v w : View X) : Type 0 where
+    pub own : StaysOn p done
     pub aside : IsAside p done v w
     pub keeps : KeepsFrames v w
     pub alone : RunsAlone done [] v w
@@ -80,8 +97,8 @@ module _ {X : Type 0} where
     clean : (done : List Did) (word : ℕ) → IsLeft p done v w → LeavesMapping p done → HasGiven done (places.Translation p) word → stands_dirty (mapping_of word) ≡ false → (seen : ℕ) → HasGiven done (places.State p) seen → (state_of seen ≡ UNLOCKED) ⊎ (state_of seen ≡ MARKED) → new ≡ old → Visits p v w old new
     held : (done : List Did) (word : ℕ) → IsLeft p done v w → LeavesMapping p done → HasFound done (places.State p) word → IsHeld word → new ≡ record old { busy = old.busy + 1 } → Visits p v w old new
     lost : (done : List Did) (word : ℕ) → IsLeft p done v w → LeavesMapping p done → LosesSeen done (places.State p) word → new ≡ record old { busy = old.busy + 1 } → Visits p v w old new
-    written : (done : List Did) (frame : ℕ) → IsLeft p done v w → IsFoundDirty p frame done → HasWritten done (places.Translation p) (trans_word (Some (clean_in frame))) → new ≡ record old { written = old.written + 1 } → Visits p v w old new
-    failed : (version count : ℕ) → IsUnwritten p version count v w → new ≡ record old { failed = old.failed + 1; first = first_or old.first p } → Visits p v w old new
+    written : (done : List Did) (frame : ℕ) → IsLeft p done v w → HasSaved p frame done → new ≡ record old { written = old.written + 1 } → Visits p v w old new
+    failed : (word count : ℕ) → IsUnwritten p word count v w → new ≡ record old { failed = old.failed + 1; first = first_or old.first p } → Visits p v w old new
 
   -- the first n pages, one after another
   abbrev pub Flushes : ℕ → View X → View X → Flushed → Type 0
@@ -118,6 +135,8 @@ module _ {X : Type 0} where
     pub each : Flushes n v w report
     pub all : done_of report ≤ n
     pub done : List Did
+    -- each step was on the words of a page, so none at the hand
+    pub own : Each (λ d. (p : ℕ) × IsOwnPlace p d.at) done
     pub aside : IsAsideOf (λ p. p < v.start.pages) done v w
     pub frames : (w.frames ≡ v.frames) × (w.contents ≡ v.contents)
     pub noted : IsNoted n report v w
@@ -163,6 +182,7 @@ module _ {X : Type 0} where
   pub record IsStillLocked (p : ℕ) (done : List Did) (v w : View X) : Type 0 where
     pub works : Works p done v w
     pub own : Each (WritesOwn p) done
+    pub stays : StaysOn p done
     pub told : IsToldOf w p
     pub home : w.out ≡ None
     pub frames : (w.frames ≡ v.frames) × (w.contents ≡ v.contents)
@@ -174,5 +194,5 @@ module _ {X : Type 0} where
   -- how the write of a page under write-back ends: the page was clean; it was written; or its write failed
   pub data Writes (p : ℕ) (v w : View X) (old new : Flushed) : Type 0 where
     left_clean : (done : List Did) (word : ℕ) → IsStillLocked p done v w → LeavesMapping p done → HasGiven done (places.Translation p) word → stands_dirty (mapping_of word) ≡ false → KnowsClean p v w → w.notes ≡ v.notes → new ≡ old → Writes p v w old new
-    made_clean : (done : List Did) (frame : ℕ) → IsStillLocked p done v w → IsFoundDirty p frame done → HasWritten done (places.Translation p) (trans_word (Some (clean_in frame))) → KnowsClean p v w → w.notes ≡ v.notes → new ≡ record old { written = old.written + 1 } → Writes p v w old new
+    made_clean : (done : List Did) (frame : ℕ) → IsStillLocked p done v w → HasSaved p frame done → KnowsClean p v w → w.notes ≡ v.notes → new ≡ record old { written = old.written + 1 } → Writes p v w old new
     refused : (done : List Did) (frame count : ℕ) → IsStillLocked p done v w → IsFoundDirty p frame done → LeavesMapping p done → IsAllowed v.start p count → HasWritten done (places.Fault p) count → w.notes ≡ v.notes ++ record { page = p; count = count } ∷ [] → new ≡ record old { failed = old.failed + 1; first = first_or old.first p } → Writes p v w old new

@@ -1,3 +1,4 @@
+pub mod Phases
 pub mod Evictions
 pub mod Writes
 pub mod Flushes

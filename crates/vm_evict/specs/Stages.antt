@@ -1,32 +1,38 @@
--- The stages of a candidate's eviction: the page was seen to be clean; since a view at which the pass had not locked it, it is under write-back, or
--- held exclusively and clean.
-use Rattle.std.specs.Prelude.{ℕ, Bool, true, false, Some, None, List, [], ◌∷◌, ◌++◌, ◌≡◌, ◌≢◌, ◌+◌, length, Result, Ok, Err, IsSome}
+-- How far an eviction is with a candidate: what is known of it at each stage, by the steps of the call so far and the pass's view now; and what the
+-- steps of a phase on one candidate come to.
+use Rattle.std.specs.Prelude.{ℕ, Bool, true, false, Some, None, List, [], ◌∷◌, ◌++◌, ◌≡◌, ◌≢◌, ◌⊎◌, ◌+◌, ◌<◌, length, IsSome}
 use Rattle.vm_page.specs.declared.buf.TheConstants.{WORDS}
-use Rattle.vm_core.specs.declared.event.Mapping.{Mapping}
 use Rattle.vm_core.specs.declared.event.Seat.{Seat}
-use Rattle.vm_core.specs.Words.{version_of, word_of, LOCKED}
+use Rattle.vm_core.specs.Words.{version_of, word_of}
 use Rattle.vm_core.specs.FrameActs.{mapping_of, trans_word}
 use Rattle.vm_laws_others.specs.Leaves.{stands_dirty}
 use Rattle.vm_owner.specs.Numbers.{has}
 use Rattle.vm_rule.specs.declared.view.Did.{Did}
+use Rattle.vm_rule.specs.declared.view.Note.{Note}
 use Rattle.vm_rule.specs.declared.view.Place.TheVariants as places
+use Rattle.vm_rule.specs.declared.view.Release.{Release}
+use Rattle.vm_rule.specs.declared.view.Tie.{Tie}
 use Rattle.vm_rule.specs.declared.view.Translation.{Translation}
 use Rattle.vm_rule.specs.declared.view.View.{View}
-use Rattle.vm_rule.specs.Views.{Each, seat_of, draft_of}
+use Rattle.vm_rule.specs.Views.{Each, IsLocking, StartsWith, seat_of, draft_of}
 use Rattle.vm_rule.specs.Reading.{last_of}
-use Rattle.vm_rule.specs.Locks.{IsUnheld}
 use Rattle.vm_rule.specs.Mappings.{held_at, clean_in}
-use Rattle.vm_step.specs.Asides.{KeepsFrames, StaysAlone}
+use Rattle.vm_step.specs.Alone.{RunsAlone}
+use Rattle.vm_step.specs.Asides.{HoldsPage, KnowsAsBefore, ReadsAsBefore, StaysAlone}
+use Rattle.vm_step.specs.Choices.{pages_of}
 use Rattle.vm_step.specs.Conditions.{IsToldOf}
-use Rattle.vm_step.specs.Evidence.{HasWritten}
+use Rattle.vm_step.specs.Evidence.{HasGiven, HasWritten}
 use Rattle.vm_step.specs.Works.{Leaves}
 use Rattle.vm_step.specs.declared.choice.Looks.{Looks}
-use Rattle.vm_evict.specs.Evictions.{IsEvicted, IsMissed, IsUnwritten, first_pair, one_if}
+use Rattle.vm_evict.specs.Evictions.{FramesCome, HasSaved, HasTaken, IsFailed, IsFreed, IsMissed, LocksFrom, Unreleased, candidate_at, first_pair, frame_at, gathered, note_at, one_if, release_at, stage_at}
+use Rattle.vm_evict.specs.Phases.{Does, DoesOne}
 use Rattle.vm_evict.specs.Writes.{LeavesMapping}
 use Rattle.vm_evict.specs.declared.report.Evicted.{Evicted}
 use Rattle.vm_evict.specs.declared.report.Report.{Report}
-use Rattle.vm_evict.specs.declared.candidate.Fate.{Fate}
-use Rattle.vm_evict.specs.declared.candidate.Fate.TheVariants as fates
+use Rattle.vm_evict.specs.declared.candidate.Phase.{Phase}
+use Rattle.vm_evict.specs.declared.candidate.Phase.TheVariants as phases
+use Rattle.vm_evict.specs.declared.candidate.Stage.{Stage}
+use Rattle.vm_evict.specs.declared.candidate.Stage.TheVariants as stages
 
 -- the pass's locks of a page under write-back, and of one held exclusively
 abbrev pub writing_seat : Seat
@@ -41,68 +47,198 @@ abbrev pub none_of : Looks → Report
 none_of looks = record { freed = 0; written = 0; failed = 0; lost = 0; first_failed = None; looks = looks }
 
 -- what became of candidate p was counted, and its frame was taken
-abbrev pub IsAdded : ℕ → Fate → Evicted → Evicted → Type 0
-IsAdded p (fates.Freed frame written) old new = (new.report ≡ record (old.report) { freed = old.report.freed + 1; written = old.report.written + one_if written }) × (new.frames ≡ old.frames ++ frame ∷ [])
-IsAdded p (fates.Failed count) old new = (new.report ≡ record (old.report) { failed = old.report.failed + 1; first_failed = first_pair old.report.first_failed (p, count) }) × (new.frames ≡ old.frames)
-IsAdded p (fates.Lost written) old new = (new.report ≡ record (old.report) { lost = old.report.lost + 1; written = old.report.written + one_if written }) × (new.frames ≡ old.frames)
+abbrev pub IsAdded : ℕ → Stage → Evicted → Evicted → Type 0
+IsAdded p (stages.Freed frame written) old new = (new.report ≡ record (old.report) { freed = old.report.freed + 1; written = old.report.written + one_if written }) × (new.frames ≡ old.frames ++ frame ∷ [])
+IsAdded p (stages.Failed count) old new = (new.report ≡ record (old.report) { failed = old.report.failed + 1; first_failed = first_pair old.report.first_failed (p, count) }) × (new.frames ≡ old.frames)
+IsAdded p (stages.Lost written) old new = (new.report ≡ record (old.report) { lost = old.report.lost + 1; written = old.report.written + one_if written }) × (new.frames ≡ old.frames)
+IsAdded p s old new = ⊥
 
--- ---- the stages
+-- ---- the order of the stages
+
+-- the stages before a phase, and at the end
+abbrev pub MayBegin : Phase → Stage → Type 0
+MayBegin phases.Save stages.Waiting = Unit {0}
+MayBegin phases.Lock stages.Clean = Unit {0}
+MayBegin phases.Lock (stages.Shared written) = Unit {0}
+MayBegin phases.Raise (stages.Shared written) = Unit {0}
+MayBegin phases.Raise (stages.Owned written) = Unit {0}
+MayBegin phases.Empty (stages.Owned written) = Unit {0}
+MayBegin phases.Leave (stages.Emptied frame written) = Unit {0}
+MayBegin phases.Save s = ⊥
+MayBegin phase (stages.Failed count) = Unit {0}
+MayBegin phase (stages.Lost written) = Unit {0}
+MayBegin phase s = ⊥
+
+abbrev pub IsOver : Stage → Type 0
+IsOver (stages.Freed frame written) = Unit {0}
+IsOver (stages.Failed count) = Unit {0}
+IsOver (stages.Lost written) = Unit {0}
+IsOver s = ⊥
+
+-- the stages after a phase
+abbrev pub MayEnd : Phase → Stage → Type 0
+MayEnd phases.Save s = MayBegin phases.Lock s
+MayEnd phases.Lock s = MayBegin phases.Raise s
+MayEnd phases.Raise s = MayBegin phases.Empty s
+MayEnd phases.Empty s = MayBegin phases.Leave s
+MayEnd phases.Leave s = IsOver s
+
+-- what the stage gives more, which it does in one phase alone
+pub record Adds {A : Type 0} (give : Stage → List A) (phase only : Phase) (old new : Stage) (more : List A) : Type 0 where
+  pub is : give new ≡ give old ++ more
+  pub when : (more ≡ []) ⊎ (phase ≡ only)
+
+-- ---- one candidate
 
 module _ {X : Type 0} where
-  -- page p was read at this word's version, and its translation word says that it is clean
-  pub record IsSeenClean (p word : ℕ) (x : View X) : Type 0 where
+  -- the pass has the locks of page p that it had, and knows of it what it knew
+  pub record Rests (p : ℕ) (v x : View X) : Type 0 where
+    pub holds : HoldsPage v x p
+    pub knows : IsLocking (seat_of v p) → KnowsAsBefore v x p
+
+  -- none of the steps wrote its state word or its translation word
+  pub record IsWaiting (p : ℕ) (done : List Did) (v x : View X) : Type 0 where
+    pub quiet : Each (λ d. d.at ≡ places.State p → d.wrote ≡ None) done
+    pub kept : LeavesMapping p done
+    pub rests : Rests p v x
+    pub start : x.start ≡ v.start
+    pub since : StartsWith x.releases v.releases
+
+  -- so it was read at this word's version, and its translation word says that it is clean
+  pub record IsSeenClean (p word : ℕ) (done : List Did) (v x : View X) : Type 0 where
+    pub waits : IsWaiting p done v x
     pub translation : ℕ
-    pub before : List Translation
-    pub loaded : x.translations ≡ record { page = p; version = version_of word; word = translation } ∷ before
+    pub newer : List Translation
+    pub older : List Translation
+    pub loaded : x.translations ≡ newer ++ record { page = p; version = version_of word; word = translation } ∷ older
     pub clean : stands_dirty (mapping_of translation) ≡ false
 
+  -- the pass has no lock of page p
+  pub record IsFree (v : View X) (p : ℕ) : Type 0 where
+    pub shares : (seat_of v p).shares ≡ 0
+    pub exclusive : (seat_of v p).exclusive ≡ false
+    pub writing : (seat_of v p).writing ≡ false
+
   -- page p, which the pass had not locked at v, was locked at this word's version, and is locked so that the pass has this seat
-  pub record IsTaken (p word : ℕ) (seat : Seat) (done : List Did) (v x : View X) : Type 0 where
-    pub leaves : Leaves p done v x
-    pub alone : StaysAlone v x
-    pub before : IsUnheld v p
-    pub free : has p v.pending ≡ false
+  pub record IsTaken (p word : ℕ) (seat : Seat) (v x : View X) : Type 0 where
+    pub before : IsFree v p
+    pub start : x.start ≡ v.start
+    pub since : StartsWith x.releases v.releases
+    pub free : has p x.pending ≡ false
+    pub paid : has p x.owed ≡ false
+    pub next : x.next ≢ Some p
     pub now : seat_of x p ≡ seat
     pub at : (last_of x p).version ≡ version_of word
     pub size : length (last_of x p).words ≡ WORDS
     pub told : IsToldOf x p
-    pub none : v.out ≡ None
-    pub home : x.out ≡ None
 
-  -- it is under write-back; where it is clean its block has its last words; it was made clean, if it was written
-  pub record IsWriting (p word : ℕ) (written : Bool) (v x : View X) : Type 0 where
-    pub done : List Did
-    pub taken : IsTaken p word writing_seat done v x
-    pub keeps : KeepsFrames v x
-    pub shared : HasWritten done (places.State p) (word_of 1 (version_of word))
+  -- it is under write-back; it was made clean, if it was written
+  pub record IsWriting (p word : ℕ) (written : Bool) (done : List Did) (v x : View X) : Type 0 where
+    pub taken : IsTaken p word writing_seat v x
+    pub shared : HasTaken done (places.State p) word (word_of 1 (version_of word))
     pub foreign : (found : ℕ) → found ≢ word_of 1 (version_of word) → Each (λ d. d.at ≡ places.State p → d.wrote ≢ Some found) done
+    pub unreleased : Unreleased p done
     pub kept : written ≡ false → LeavesMapping p done
     pub resident : IsSome (held_at x p).mapping
-    pub stored : x.start.tells ≡ true → ((m : Mapping) → (held_at x p).mapping ≡ Some m → m.dirty ≡ false) → (held_at x p).block.words ≡ (last_of x p).words
-    pub cleaned : written ≡ true → (frame : ℕ) × ((held_at x p).mapping ≡ Some (clean_in frame)) × HasWritten done (places.Translation p) (trans_word (Some (clean_in frame)))
+    pub cleaned : written ≡ true → (frame : ℕ) × ((held_at x p).mapping ≡ Some (clean_in frame)) × HasSaved p frame done
 
   -- page p stands clean
   abbrev pub IsCleanAt : ℕ → View X → Type 0
   IsCleanAt p x = (frame : ℕ) × ((held_at x p).mapping ≡ Some (clean_in frame))
 
   -- it is held exclusively, and stands clean in this frame
-  pub record IsOwning (p word frame : ℕ) (written : Bool) (v x : View X) : Type 0 where
-    pub done : List Did
-    pub taken : IsTaken p word owning_seat done v x
-    pub keeps : KeepsFrames v x
-    pub locked : HasWritten done (places.State p) (word_of LOCKED (version_of word))
+  pub record IsOwning (p word frame : ℕ) (written : Bool) (done : List Did) (v x : View X) : Type 0 where
+    pub taken : IsTaken p word owning_seat v x
+    pub locked : LocksFrom p word done
+    pub foreign : Each (λ d. d.at ≡ places.State p → d.wrote ≢ Some word) done
     pub stands : (held_at x p).mapping ≡ Some (clean_in frame)
     pub draft : draft_of x p ≡ (last_of x p).words
-    pub cleaned : written ≡ true → HasWritten done (places.Translation p) (trans_word (Some (clean_in frame)))
+    pub cleaned : written ≡ true → HasSaved p frame done
     pub kept : written ≡ false → LeavesMapping p done
 
-  -- a page under write-back is clean, and was written where it was dirty; or the write failed, and the share is given up
-  abbrev pub IsSaved : ℕ → ℕ → View X → View X → Result Bool ℕ → Type 0
-  IsSaved p word v x (Ok written) = IsWriting p word written v x × IsCleanAt p x
-  IsSaved p word v x (Err count) = IsUnwritten p (version_of word) count v x
+  -- it is held exclusively, and was taken out of this frame
+  pub record IsEmptied (p word frame : ℕ) (written : Bool) (done : List Did) (v x : View X) : Type 0 where
+    pub taken : IsTaken p word owning_seat v x
+    pub locked : LocksFrom p word done
+    pub foreign : Each (λ d. d.at ≡ places.State p → d.wrote ≢ Some word) done
+    pub empty : (held_at x p).mapping ≡ None
+    pub draft : draft_of x p ≡ (last_of x p).words
+    pub stood : (found : ℕ) × HasGiven done (places.Translation p) found × (mapping_of found ≡ Some (clean_in frame))
+    pub cleaned : written ≡ true → HasSaved p frame done
+    pub unwritten : written ≡ false → Each (λ d. d.at ≡ places.Translation p → d.wrote ≢ Some (trans_word (Some (clean_in frame)))) done
+    pub emptied : HasWritten done (places.Translation p) (trans_word None)
 
-  -- what became of a candidate
-  abbrev pub IsFate : ℕ → ℕ → View X → View X → Fate → Type 0
-  IsFate p word v w (fates.Freed frame written) = IsEvicted p word frame written v w
-  IsFate p word v w (fates.Failed count) = IsUnwritten p (version_of word) count v w
-  IsFate p word v w (fates.Lost written) = IsMissed p word written v w
+  -- what is known of a candidate at its stage, after these steps since v
+  abbrev pub IsAt : ℕ × ℕ → Stage → List Did → View X → View X → Type 0
+  IsAt c stages.Waiting done v x = IsWaiting c.0 done v x
+  IsAt c stages.Clean done v x = IsSeenClean c.0 c.1 done v x
+  IsAt c (stages.Shared written) done v x = IsWriting c.0 c.1 written done v x × IsCleanAt c.0 x
+  IsAt c (stages.Owned written) done v x = (frame : ℕ) × IsOwning c.0 c.1 frame written done v x
+  IsAt c (stages.Emptied frame written) done v x = IsEmptied c.0 c.1 frame written done v x
+  IsAt c (stages.Freed frame written) done v x = IsFreed c.0 c.1 frame written done v x × Rests c.0 v x
+  IsAt c (stages.Failed count) done v x = IsFailed c.0 c.1 count done v × Rests c.0 v x
+  IsAt c (stages.Lost written) done v x = IsMissed c.0 c.1 written done × Rests c.0 v x
+
+  -- ---- the steps of a phase on one candidate
+
+  -- steps on its own words, with no block out afterwards
+  pub record Moves (phase : Phase) (c : ℕ × ℕ) (more : List Did) (x y : View X) : Type 0 where
+    pub leaves : Leaves c.0 more x y
+    pub does : Each (Does phase c) more
+    pub home : x.out ≡ None → y.out ≡ None
+    pub newer : List Translation
+    pub reads : y.translations ≡ newer ++ x.translations
+
+  -- no frame came, or one
+  pub data Comes (frames : List ℕ) (x y : View X) : Type 0 where
+    still : frames ≡ [] → y.frames ≡ x.frames → y.contents ≡ x.contents → Comes frames x y
+    one : (f : ℕ) → frames ≡ f ∷ [] → FramesCome (f ∷ []) x y → Comes frames x y
+
+  -- the candidate comes from one stage to another
+  pub record Advances (phase : Phase) (c : ℕ × ℕ) (old new : Stage) (done : List Did) (v x y : View X) : Type 0 where
+    pub more : List Did
+    pub moves : Moves phase c more x y
+    pub at : IsAt c new (done ++ more) v y
+    pub ends : MayEnd phase new
+    pub own : List Release
+    pub runs : RunsAlone more own x y
+    pub alone : StaysAlone x y
+    pub releases : Adds (release_at x c) phase phases.Leave old new own
+    pub notes : List Note
+    pub noted : y.notes ≡ x.notes ++ notes
+    pub notes_are : Adds (note_at c) phase phases.Save old new notes
+    pub frames : List ℕ
+    pub come : Comes frames x y
+    pub frames_are : Adds (frame_at c) phase phases.Empty old new frames
+
+  -- ---- all candidates
+
+  -- the call made these steps, all on the candidates' words: other pages are as they were
+  pub record LeavesAll (list : List (ℕ × ℕ)) (done : List Did) (v x : View X) : Type 0 where
+    pub log : x.log ≡ v.log ++ done
+    pub live : x.live ≡ v.live
+    pub start : x.start ≡ v.start
+    pub parts : (x.used ≡ v.used) × (x.fresh ≡ v.fresh)
+    pub mine : x.mine ≡ v.mine
+    pub seen : StartsWith x.seen v.seen
+    pub releases : StartsWith x.releases v.releases
+    pub ties : (more : List Tie) × (x.ties ≡ more ++ v.ties)
+    pub group : (x.pending ≡ v.pending) × (x.owed ≡ v.owed) × (x.next ≡ v.next)
+    pub others : (q : ℕ) → has q (pages_of list) ≡ false → Rests q v x × ReadsAsBefore v x q
+
+  -- how far the eviction is
+  pub record IsUnderWay (list : List (ℕ × ℕ)) (ends : List Stage) (done : List Did) (v x : View X) : Type 0 where
+    pub leaves : LeavesAll list done v x
+    pub none : v.out ≡ None
+    pub home : x.out ≡ None
+    pub each : (n : ℕ) → n < length list → IsAt (candidate_at list n) (stage_at ends n) done v x
+    pub runs : RunsAlone done (gathered (release_at v) (length list) list ends) v x
+    pub alone : StaysAlone v x
+    pub noted : x.notes ≡ v.notes ++ gathered note_at (length list) list ends
+    pub frames : FramesCome (gathered frame_at (length list) list ends) v x
+
+  -- a phase was made: from these stages to those
+  pub record IsPassed (phase : Phase) (list : List (ℕ × ℕ)) (new : List Stage) (done : List Did) (v w : View X) : Type 0 where
+    pub more : List Did
+    pub does : Each (DoesOne phase list) more
+    pub after : IsUnderWay list new (done ++ more) v w

@@ -6,10 +6,12 @@ use Rattle.vm_core.specs.Fn.{at}
 use Rattle.vm_core.specs.FrameActs.{mapping_of, trans_word}
 use Rattle.vm_rule.specs.declared.view.Did.{Did}
 use Rattle.vm_rule.specs.declared.view.Origin.{Origin}
+use Rattle.vm_rule.specs.declared.view.Place.{Place}
 use Rattle.vm_rule.specs.declared.view.Place.TheVariants as places
 use Rattle.vm_rule.specs.declared.view.View.{View}
 use Rattle.vm_rule.specs.Views.{Each, seat_of}
 use Rattle.vm_rule.specs.Reading.{last_of}
+use Rattle.vm_rule.specs.Log.{did_store}
 use Rattle.vm_rule.specs.Mappings.{held_at, clean_in, dirty_in}
 use Rattle.vm_step.specs.Asides.{KeepsFrames}
 use Rattle.vm_step.specs.Conditions.{IsToldOf}
@@ -36,6 +38,20 @@ IsFoundDirty p frame done = (found : ℕ) × HasGiven done (places.Translation p
 abbrev pub WritesOwn : ℕ → Did → Type 0
 WritesOwn p d = (d.wrote ≡ None) ⊎ ((d.at ≡ places.Translation p) ⊎ (d.at ≡ places.Fault p))
 
+-- a page's own words: its state, translation and fault word, and the words of frames
+abbrev pub IsOwnPlace : ℕ → Place → Type 0
+IsOwnPlace p at = (at ≡ places.State p) ⊎ ((at ≡ places.Translation p) ⊎ ((at ≡ places.Fault p) ⊎ ((f : ℕ) × (i : ℕ) × (at ≡ places.Content f i))))
+
+-- all steps are on words of page p alone
+abbrev pub StaysOn : ℕ → List Did → Type 0
+StaysOn p done = Each (λ d. IsOwnPlace p d.at) done
+
+-- a step of a write-back of page p: a load of a word of its own, the store of the word of a clean page, or of a fault word
+pub data WritesPage (p : ℕ) (d : Did) : Type 0 where
+  reads : IsOwnPlace p d.at → d.expects ≡ None → d.wrote ≡ None → WritesPage p d
+  cleans : (frame : ℕ) → d ≡ did_store (places.Translation p) (trans_word (Some (clean_in frame))) → WritesPage p d
+  raises : (count : ℕ) → d ≡ did_store (places.Fault p) count → WritesPage p d
+
 module _ {X : Type 0} where
   -- the pass has page p under write-back and reads it by no open read; p stands dirty in frame f; no block is out
   pub record IsToWrite (p f : ℕ) (v : View X) : Type 0 where
@@ -54,6 +70,8 @@ module _ {X : Type 0} where
     pub works : Works p done v w
     pub state : LeavesState p done
     pub own : Each (WritesOwn p) done
+    pub does : Each (WritesPage p) done
+    pub reads : w.translations ≡ v.translations
     pub cleaned : HasWritten done (places.Translation p) (trans_word (Some (clean_in f)))
     pub ends : cleaned.later ≡ []
     pub stands : (held_at w p).mapping ≡ Some (clean_in f)
@@ -68,6 +86,8 @@ module _ {X : Type 0} where
     pub works : Works p done v w
     pub state : LeavesState p done
     pub own : Each (WritesOwn p) done
+    pub does : Each (WritesPage p) done
+    pub reads : w.translations ≡ v.translations
     pub kept : LeavesMapping p done
     pub raised : HasWritten done (places.Fault p) count
     pub noted : w.notes ≡ v.notes ++ record { page = p; count = count } ∷ []
@@ -88,6 +108,8 @@ module _ {X : Type 0} where
     pub works : Works p done v w
     pub state : LeavesState p done
     pub own : Each (WritesOwn p) done
+    pub does : Each (WritesPage p) done
+    pub reads : w.translations ≡ v.translations
     pub kept : LeavesMapping p done
     pub same : v.start.tells ≡ true → words ≡ (last_of v p).words
     pub held : held_at w p ≡ held_at v p

@@ -1,9 +1,10 @@
-// One candidate for eviction: it is evicted, or could not be written, or changed before it could be locked.
-ghost use Rattle.std.specs.Prelude.{◌≡◌, ◌<◌, None, false};
-ghost use Rattle.vm_step.specs.Choices.{IsCandidate};
+// One candidate for eviction: what each phase does with it.
+ghost use Rattle.std.specs.Prelude.{◌≡◌, ◌<◌, None, false, List};
 ghost use Rattle.vm_core.specs.Words.{MAX_VERSION, version_of};
-ghost use Rattle.vm_evict.specs.Stages.{IsCleanAt, IsFate, IsOwning, IsSaved, IsSeenClean, IsWriting};
-ghost use Rattle.vm_evict.specs.Evictions.{IsEvicted};
+ghost use Rattle.vm_evict.specs.Stages.{Advances, IsAt, IsWriting, MayBegin};
+ghost use Rattle.vm_evict.specs.declared.candidate.Phase.TheVariants as phases;
+ghost use Rattle.vm_evict.specs.declared.candidate.Stage.TheVariants as stages;
+ghost use Rattle.vm_step.specs.Choices.{IsCandidate};
 ghost use Rattle.vm_step.specs.Passes.{IsSamePass, view};
 ghost use Rattle.vm_step.specs.Ready.{IsReady};
 
@@ -17,9 +18,34 @@ use vm_step::{
     unlock_shared, upgrade,
 };
 
-/// What became of a candidate.
+/// The phases of an eviction, in their order.
 #[derive(Clone, Copy)]
-pub(crate) enum Fate {
+pub(crate) enum Phase {
+    /// Dirty candidates are shared, and written.
+    Save,
+    /// Clean candidates are locked exclusively.
+    Lock,
+    /// The locks of those that were shared become exclusive.
+    Raise,
+    /// All that are held are taken out of their frames.
+    Empty,
+    /// All that are held are released as evicted.
+    Leave,
+}
+
+/// How far an eviction is with a candidate.
+#[derive(Clone, Copy)]
+pub(crate) enum Stage {
+    /// Nothing was done yet.
+    Waiting,
+    /// It was seen clean, with the candidate's word.
+    Clean,
+    /// It is clean, under a share of the pass; whether it was written.
+    Shared { written: bool },
+    /// It is clean, and held exclusively; whether it was written.
+    Owned { written: bool },
+    /// It is held exclusively, and was taken out of this frame; whether it was written.
+    Emptied { frame: u32, written: bool },
     /// It was evicted from this frame; whether it was written.
     Freed { frame: u32, written: bool },
     /// Its write failed; the fault has this count.
@@ -28,151 +54,204 @@ pub(crate) enum Fate {
     Lost { written: bool },
 }
 
-/// Takes a clean page, which is held exclusively, out of its frame and releases it as evicted. The frame comes to the pass.
-fn drop_page<U: Owner, B: Block>(words: &Words<U, B>, pass: &mut Pass<U>, p: u32, word: u64) -> u32
+/// Writes a page under write-back, where it is dirty. Where the write fails, gives the share up.
+fn save<U: Owner, B: Block>(words: &Words<U, B>, pass: &mut Pass<U>, p: u32, word: u64) -> Stage
     requires ready { IsReady words.now.table.shared.key B.tells words.now.table.shared.table_id pass.old }
     requires page { p < words.now.table.shared.key.pages }
-    requires below { version_of word < MAX_VERSION }
-    requires owned { (v : _) × (frame : _) × (written : _) × IsOwning p word frame written v (view pass.old) }
+    requires home { (view pass.old).out ≡ None }
+    requires shared { (v : _) × (done : _) × IsWriting p word false done v (view pass.old) }
     ensures pass { IsSamePass pass.old pass.new }
     ensures ready { IsReady words.now.table.shared.key B.tells words.now.table.shared.table_id pass.new }
-    ensures evicted { (v : _) (frame : _) (written : _) → IsOwning p word frame written v (view pass.old) → IsEvicted p word result written v (view pass.new) }
+    ensures saved { (v : _) (done : _) → IsWriting p word false done v (view pass.old) → Advances phases.Save (p, word) stages.Waiting result done v (view pass.old) (view pass.new) }
+{
+    let translation = tload(words, pass, p);
+    if !TransWord::dirty(translation) {
+        return Stage::Shared { written: false };
+    }
+    let Some(frame) = TransWord::frame(translation) else {
+        unreachable!()
+    };
+    match write_back(words, pass, p, frame) {
+        Ok(()) => Stage::Shared { written: true },
+        Err(count) => {
+            unlock_shared(words, pass, p);
+            Stage::Failed { count }
+        }
+    }
+}
+
+/// Shares a page from its mark, and writes it where it is dirty.
+fn save_marked<U: Owner, B: Block>(
+    words: &Words<U, B>,
+    pass: &mut Pass<U>,
+    p: u32,
+    word: u64,
+) -> Stage
+    requires ready { IsReady words.now.table.shared.key B.tells words.now.table.shared.table_id pass.old }
+    requires candidate { IsCandidate words.now.table.shared.key.pages (p, word) }
+    requires home { (view pass.old).out ≡ None }
+    requires at { (v : _) × (done : _) × IsAt (p, word) stages.Waiting done v (view pass.old) }
+    ensures pass { IsSamePass pass.old pass.new }
+    ensures ready { IsReady words.now.table.shared.key B.tells words.now.table.shared.table_id pass.new }
+    ensures moved { (v : _) (done : _) → IsAt (p, word) stages.Waiting done v (view pass.old) → Advances phases.Save (p, word) stages.Waiting result done v (view pass.old) (view pass.new) }
+{
+    match lock_write_back(words, pass, p, word) {
+        Took::Lost(_) => Stage::Lost { written: false },
+        Took::Taken => save(words, pass, p, word),
+    }
+}
+
+/// Looks at a candidate: where it is as it was marked, and clean, it is left to be locked; else it is shared and written.
+fn save_page<U: Owner, B: Block>(
+    words: &Words<U, B>,
+    pass: &mut Pass<U>,
+    p: u32,
+    word: u64,
+) -> Stage
+    requires ready { IsReady words.now.table.shared.key B.tells words.now.table.shared.table_id pass.old }
+    requires candidate { IsCandidate words.now.table.shared.key.pages (p, word) }
+    requires home { (view pass.old).out ≡ None }
+    requires at { (v : _) × (done : _) × IsAt (p, word) stages.Waiting done v (view pass.old) }
+    ensures pass { IsSamePass pass.old pass.new }
+    ensures ready { IsReady words.now.table.shared.key B.tells words.now.table.shared.table_id pass.new }
+    ensures moved { (v : _) (done : _) → IsAt (p, word) stages.Waiting done v (view pass.old) → Advances phases.Save (p, word) stages.Waiting result done v (view pass.old) (view pass.new) }
+{
+    let seen = look_silently(words, pass, p);
+    let translation = tload(words, pass, p);
+    if seen == word && !TransWord::dirty(translation) {
+        Stage::Clean
+    } else {
+        save_marked(words, pass, p, word)
+    }
+}
+
+/// Locks a page exclusively that was seen clean, from its mark.
+fn lock_clean<U: Owner, B: Block>(
+    words: &Words<U, B>,
+    pass: &mut Pass<U>,
+    p: u32,
+    word: u64,
+) -> Stage
+    requires ready { IsReady words.now.table.shared.key B.tells words.now.table.shared.table_id pass.old }
+    requires candidate { IsCandidate words.now.table.shared.key.pages (p, word) }
+    requires at { (v : _) × (done : _) × IsAt (p, word) stages.Clean done v (view pass.old) }
+    ensures pass { IsSamePass pass.old pass.new }
+    ensures ready { IsReady words.now.table.shared.key B.tells words.now.table.shared.table_id pass.new }
+    ensures moved { (v : _) (done : _) → IsAt (p, word) stages.Clean done v (view pass.old) → Advances phases.Lock (p, word) stages.Clean result done v (view pass.old) (view pass.new) }
+{
+    match lock_exclusive(words, pass, p, word) {
+        Took::Lost(_) => Stage::Lost { written: false },
+        Took::Taken => Stage::Owned { written: false },
+    }
+}
+
+/// Makes the lock of a clean page under write-back exclusive, from the pass's share alone; or gives the share up.
+fn raise_shared<U: Owner, B: Block>(
+    words: &Words<U, B>,
+    pass: &mut Pass<U>,
+    p: u32,
+    word: u64,
+    written: bool,
+) -> Stage
+    requires ready { IsReady words.now.table.shared.key B.tells words.now.table.shared.table_id pass.old }
+    requires candidate { IsCandidate words.now.table.shared.key.pages (p, word) }
+    requires home { (view pass.old).out ≡ None }
+    requires at { (v : _) × (done : _) × IsAt (p, word) (stages.Shared written) done v (view pass.old) }
+    ensures pass { IsSamePass pass.old pass.new }
+    ensures ready { IsReady words.now.table.shared.key B.tells words.now.table.shared.table_id pass.new }
+    ensures moved { (v : _) (done : _) → IsAt (p, word) (stages.Shared written) done v (view pass.old) → Advances phases.Raise (p, word) (stages.Shared written) result done v (view pass.old) (view pass.new) }
+{
+    let shared = StateWord::of(1, StateWord::version(word));
+    match upgrade(words, pass, p, shared) {
+        Took::Taken => Stage::Owned { written },
+        Took::Lost(_) => {
+            unlock_shared(words, pass, p);
+            Stage::Lost { written }
+        }
+    }
+}
+
+/// Takes a clean page, which is held exclusively, out of its frame. The frame comes to the pass.
+fn empty_page<U: Owner, B: Block>(
+    words: &Words<U, B>,
+    pass: &mut Pass<U>,
+    p: u32,
+    word: u64,
+    written: bool,
+) -> Stage
+    requires ready { IsReady words.now.table.shared.key B.tells words.now.table.shared.table_id pass.old }
+    requires candidate { IsCandidate words.now.table.shared.key.pages (p, word) }
+    requires at { (v : _) × (done : _) × IsAt (p, word) (stages.Owned written) done v (view pass.old) }
+    ensures pass { IsSamePass pass.old pass.new }
+    ensures ready { IsReady words.now.table.shared.key B.tells words.now.table.shared.table_id pass.new }
+    ensures moved { (v : _) (done : _) → IsAt (p, word) (stages.Owned written) done v (view pass.old) → Advances phases.Empty (p, word) (stages.Owned written) result done v (view pass.old) (view pass.new) }
 {
     let translation = tload(words, pass, p);
     let Some(frame) = TransWord::frame(translation) else {
         unreachable!()
     };
     clear(words, pass, p);
-    release_evicted(words, pass, p, StateWord::version(word));
-    frame
+    Stage::Emptied { frame, written }
 }
 
-/// Makes the lock of a clean page under write-back exclusive, and evicts the page.
-fn evict_shared<U: Owner, B: Block>(
+/// Releases a page that was taken out of its frame, as evicted.
+fn leave_page<U: Owner, B: Block>(
     words: &Words<U, B>,
     pass: &mut Pass<U>,
     p: u32,
     word: u64,
+    frame: u32,
     written: bool,
-) -> Fate
-    requires ready { IsReady words.now.table.shared.key B.tells words.now.table.shared.table_id pass.old }
-    requires page { p < words.now.table.shared.key.pages }
-    requires below { version_of word < MAX_VERSION }
-    requires shared { (v : _) × IsWriting p word written v (view pass.old) }
-    requires clean { IsCleanAt p (view pass.old) }
-    ensures pass { IsSamePass pass.old pass.new }
-    ensures ready { IsReady words.now.table.shared.key B.tells words.now.table.shared.table_id pass.new }
-    ensures fate { (v : _) → IsWriting p word written v (view pass.old) → IsFate p word v (view pass.new) result }
-{
-    let shared = StateWord::of(1, StateWord::version(word));
-    match upgrade(words, pass, p, shared) {
-        Took::Taken => Fate::Freed {
-            frame: drop_page(words, pass, p, word),
-            written,
-        },
-        Took::Lost(_) => {
-            unlock_shared(words, pass, p);
-            Fate::Lost { written }
-        }
-    }
-}
-
-/// Writes a page under write-back, where it is dirty, and says whether it was. Where the write fails, gives the share up.
-fn save<U: Owner, B: Block>(
-    words: &Words<U, B>,
-    pass: &mut Pass<U>,
-    p: u32,
-    word: u64,
-) -> Result<bool, u64>
-    requires ready { IsReady words.now.table.shared.key B.tells words.now.table.shared.table_id pass.old }
-    requires page { p < words.now.table.shared.key.pages }
-    requires shared { (v : _) × IsWriting p word false v (view pass.old) }
-    ensures pass { IsSamePass pass.old pass.new }
-    ensures ready { IsReady words.now.table.shared.key B.tells words.now.table.shared.table_id pass.new }
-    ensures saved { (v : _) → IsWriting p word false v (view pass.old) → IsSaved p word v (view pass.new) result }
-{
-    let translation = tload(words, pass, p);
-    if !TransWord::dirty(translation) {
-        return Ok(false);
-    }
-    let Some(frame) = TransWord::frame(translation) else {
-        unreachable!()
-    };
-    match write_back(words, pass, p, frame) {
-        Ok(()) => Ok(true),
-        Err(count) => {
-            unlock_shared(words, pass, p);
-            Err(count)
-        }
-    }
-}
-
-/// Evicts a marked page by way of a share, under which it is written where it is dirty.
-fn evict_marked<U: Owner, B: Block>(
-    words: &Words<U, B>,
-    pass: &mut Pass<U>,
-    p: u32,
-    word: u64,
-) -> Fate
+) -> Stage
     requires ready { IsReady words.now.table.shared.key B.tells words.now.table.shared.table_id pass.old }
     requires candidate { IsCandidate words.now.table.shared.key.pages (p, word) }
     requires home { (view pass.old).out ≡ None }
+    requires at { (v : _) × (done : _) × IsAt (p, word) (stages.Emptied frame written) done v (view pass.old) }
     ensures pass { IsSamePass pass.old pass.new }
     ensures ready { IsReady words.now.table.shared.key B.tells words.now.table.shared.table_id pass.new }
-    ensures fate { IsFate p word (view pass.old) (view pass.new) result }
+    ensures moved { (v : _) (done : _) → IsAt (p, word) (stages.Emptied frame written) done v (view pass.old) → Advances phases.Leave (p, word) (stages.Emptied frame written) result done v (view pass.old) (view pass.new) }
 {
-    match lock_write_back(words, pass, p, word) {
-        Took::Lost(_) => Fate::Lost { written: false },
-        Took::Taken => match save(words, pass, p, word) {
-            Ok(written) => evict_shared(words, pass, p, word, written),
-            Err(count) => Fate::Failed { count },
-        },
-    }
+    release_evicted(words, pass, p, StateWord::version(word));
+    Stage::Freed { frame, written }
 }
 
-/// Evicts a marked page that was seen to be clean.
-fn evict_clean<U: Owner, B: Block>(
+/// What the phase does with a candidate at this stage. It answers the next one.
+pub(crate) fn advance<U: Owner, B: Block>(
     words: &Words<U, B>,
     pass: &mut Pass<U>,
-    p: u32,
-    word: u64,
-) -> Fate
+    phase: Phase,
+    c: (u32, u64),
+    stage: Stage,
+) -> Stage
     requires ready { IsReady words.now.table.shared.key B.tells words.now.table.shared.table_id pass.old }
-    requires candidate { IsCandidate words.now.table.shared.key.pages (p, word) }
-    requires seen { IsSeenClean p word (view pass.old) }
+    requires candidate { IsCandidate words.now.table.shared.key.pages c }
     requires home { (view pass.old).out ≡ None }
+    requires begins { MayBegin phase stage }
+    requires at { (v : _) × (done : _) × IsAt c stage done v (view pass.old) }
     ensures pass { IsSamePass pass.old pass.new }
     ensures ready { IsReady words.now.table.shared.key B.tells words.now.table.shared.table_id pass.new }
-    ensures fate { IsFate p word (view pass.old) (view pass.new) result }
+    ensures moved { (v : _) (done : _) → IsAt c stage done v (view pass.old) → Advances phase c stage result done v (view pass.old) (view pass.new) }
 {
-    match lock_exclusive(words, pass, p, word) {
-        Took::Lost(_) => Fate::Lost { written: false },
-        Took::Taken => Fate::Freed {
-            frame: drop_page(words, pass, p, word),
-            written: false,
+    let (p, word) = c;
+    match phase {
+        Phase::Save => save_page(words, pass, p, word),
+        Phase::Lock => match stage {
+            Stage::Clean => lock_clean(words, pass, p, word),
+            other => other,
         },
-    }
-}
-
-/// Evicts one candidate, which was marked at this word.
-pub(crate) fn evict_page<U: Owner, B: Block>(
-    words: &Words<U, B>,
-    pass: &mut Pass<U>,
-    p: u32,
-    word: u64,
-) -> Fate
-    requires ready { IsReady words.now.table.shared.key B.tells words.now.table.shared.table_id pass.old }
-    requires candidate { IsCandidate words.now.table.shared.key.pages (p, word) }
-    requires home { (view pass.old).out ≡ None }
-    ensures pass { IsSamePass pass.old pass.new }
-    ensures ready { IsReady words.now.table.shared.key B.tells words.now.table.shared.table_id pass.new }
-    ensures fate { IsFate p word (view pass.old) (view pass.new) result }
-{
-    let seen = look_silently(words, pass, p);
-    let translation = tload(words, pass, p);
-    if seen == word && !TransWord::dirty(translation) {
-        evict_clean(words, pass, p, word)
-    } else {
-        evict_marked(words, pass, p, word)
+        Phase::Raise => match stage {
+            Stage::Shared { written } => raise_shared(words, pass, p, word, written),
+            other => other,
+        },
+        Phase::Empty => match stage {
+            Stage::Owned { written } => empty_page(words, pass, p, word, written),
+            other => other,
+        },
+        Phase::Leave => match stage {
+            Stage::Emptied { frame, written } => {
+                leave_page(words, pass, p, word, frame, written)
+            }
+            other => other,
+        },
     }
 }

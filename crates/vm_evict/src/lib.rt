@@ -1,5 +1,5 @@
-//! Eviction and write-back: candidates are written where they are dirty, taken out of their frames and released as evicted, so that their
-//! frames come free in a batch; and all dirty pages can be written while they stay resident.
+//! Eviction and write-back: candidates are written where they are dirty, taken out of their frames and released as evicted, in phases, so that
+//! their frames come free in a batch; and all dirty pages can be written while they stay resident.
 #![tactic(auto)]
 
 ghost use Rattle.std.specs.Prelude.{◌≡◌, None};
@@ -8,22 +8,25 @@ ghost use Rattle.vm_evict.specs.Evictions.{IsBatch};
 ghost use Rattle.vm_step.specs.Passes.{IsSamePass, view};
 ghost use Rattle.vm_step.specs.Ready.{IsReady};
 
+mod batch;
 mod candidate;
 mod flushing;
 pub mod report;
 mod write;
 
-use candidate::evict_page;
+use batch::{pass_over, report_of};
+use candidate::{Phase, Stage};
 pub use flushing::{Flushed, flush};
 use report::Evicted;
 use vm_block::Block;
+use vm_core::FRAMES;
 use vm_owner::Owner;
 use vm_rule::words::{Pass, Words};
 use vm_step::Candidates;
-pub use write::write_back;
 
-/// Evicts candidates: dirty ones are written under a share taken from their mark, and that lock becomes exclusive; clean ones are locked
-/// exclusively. A page whose write fails stays resident and dirty. The frames are those of the evicted pages, in their order.
+/// Evicts candidates, in phases: dirty ones are shared from their mark and written; clean ones are locked exclusively; the written ones become
+/// exclusive from one share; all are taken out of their frames; all are released as evicted. A page whose write fails stays resident and dirty.
+/// The frames are those of the evicted pages, in their order.
 pub fn evict<U: Owner, B: Block>(
     words: &Words<U, B>,
     pass: &mut Pass<U>,
@@ -37,11 +40,11 @@ pub fn evict<U: Owner, B: Block>(
     ensures evicted { IsBatch candidates.now.list.items candidates.now.looks (view pass.old) (view pass.new) result.report result.frames }
 {
     let list = candidates.list.as_slice();
-    let mut evicted = Evicted::none(candidates.looks);
-    for i in 0..list.len() {
-        let (p, word) = list[i];
-        let fate = evict_page(words, pass, p, word);
-        evicted.add(p, fate);
-    }
-    evicted
+    let mut stages = [Stage::Waiting; FRAMES];
+    pass_over(words, pass, Phase::Save, list, &mut stages);
+    pass_over(words, pass, Phase::Lock, list, &mut stages);
+    pass_over(words, pass, Phase::Raise, list, &mut stages);
+    pass_over(words, pass, Phase::Empty, list, &mut stages);
+    pass_over(words, pass, Phase::Leave, list, &mut stages);
+    report_of(list, &stages, candidates.looks)
 }

@@ -1,8 +1,8 @@
 // What evictions report.
 ghost use Rattle.std.specs.Prelude.{◌≡◌, ◌<◌, [], length};
-ghost use Rattle.vm_evict.specs.Stages.{IsAdded, none_of};
+ghost use Rattle.vm_evict.specs.Stages.{IsAdded, IsOver, none_of};
 
-use crate::candidate::Fate;
+use crate::candidate::Stage;
 use vm_core::FRAMES;
 use vm_step::{Batch, Looks};
 
@@ -50,26 +50,28 @@ impl Evicted {
     }
 
     /// Counts what became of candidate `p`, and takes its frame.
-    pub(crate) fn add(&mut self, p: u32, fate: Fate)
+    pub(crate) fn add(&mut self, p: u32, stage: Stage)
+        requires over { IsOver stage }
         requires room { length self.old.frames < FRAMES }
         requires counts { (self.old.report.freed < FRAMES) × (self.old.report.written < FRAMES) × (self.old.report.failed < FRAMES) × (self.old.report.lost < FRAMES) }
-        ensures added { IsAdded p fate self.old self.new }
+        ensures added { IsAdded p stage self.old self.new }
     {
         let report = &mut self.report;
-        match fate {
-            Fate::Freed { frame, written } => {
+        match stage {
+            Stage::Freed { frame, written } => {
                 report.freed += 1;
                 report.written += u32::from(written);
                 self.frames.push(frame);
             }
-            Fate::Failed { count } => {
+            Stage::Failed { count } => {
                 report.failed += 1;
                 report.first_failed = report.first_failed.or(Some((p, count)));
             }
-            Fate::Lost { written } => {
+            Stage::Lost { written } => {
                 report.lost += 1;
                 report.written += u32::from(written);
             }
+            _ => unreachable!(),
         }
     }
 }

@@ -38,7 +38,7 @@ fn copy_page<U: Owner, B: Block>(
 
 /// Writes a dirty page to its block and makes it clean: the pass has it under write-back, and it stands in this frame. Where the write
 /// fails, the page stays as it is, and the answer is the count of the fault, which the fault word is raised to.
-pub fn write_back<U: Owner, B: Block>(
+pub(crate) fn write_back<U: Owner, B: Block>(
     words: &Words<U, B>,
     pass: &mut Pass<U>,
     p: u32,

@@ -9,9 +9,8 @@ use Rattle.vm_rule.specs.declared.view.Origin.{Origin}
 use Rattle.vm_rule.specs.declared.view.Place.TheVariants as places
 use Rattle.vm_rule.specs.declared.view.View.{View}
 use Rattle.vm_rule.specs.Begun.{begun, unborn}
-use Rattle.vm_rule.specs.Fixed.{bounds_of, counts_of}
 use Rattle.vm_rule.specs.Layout.{bundles_of, index_of}
-use Rattle.vm_rule.specs.Started.{IsStarted, started_origin, started_shape, started_words}
+use Rattle.vm_rule.specs.Started.{IsStarted, bounds_of, counts_of, started_origin, started_shape, started_words}
 use Rattle.vm_rule.proofs.Found.{part-found}
 use Rattle.vm_rule.proofs.StartedWords.{started-bundle, started-state}
 use Rattle.vm_rule.proofs.WordFacts.{word-state, word-version}
@@ -23,7 +22,7 @@ use Rattle.vm_pool.specs.declared.bring.Bring.{Bring}
 use Rattle.vm_pool.proofs.AtOnce.{first-has-all}
 
 -- the first bundle of a table with frames has some
-some-frames : (frames : ℕ) → 1 ≤ frames → full_bundle frames 0 ≢ 0
+pub some-frames : (frames : ℕ) → 1 ≤ frames → full_bundle frames 0 ≢ 0
 unfolding full_bundle
 some-frames frames some =
     let low : 1 ≤ min 64 (frames - 64 * 0) = omega (arith, some) in
@@ -34,7 +33,7 @@ module _ {X : Type 0} (tells : Bool) (version next frames : ℕ) (blocks : List 
   abbrev words : List ℕ
   words = started_words (length blocks) frames version next (counts_of blocks)
 
-  start-is : v.start ≡ started_origin tells version next frames blocks
+  pub start-is : v.start ≡ started_origin tells version next frames blocks
   start-is = ap (λ (x : View X). x.start) is
 
   words-are : v.snapshot.words ≡ words
@@ -54,7 +53,7 @@ module _ {X : Type 0} (tells : Bool) (version next frames : ℕ) (blocks : List 
           subst (λ (n : ℕ). n < MAX_VERSION) (sym (ap version_of (state-there p l) ∙ word-version EVICTED version within)) below,
         )
 
-    bundle-there : word_at v (places.Bundle 0) ≡ full_bundle frames 0
+    pub bundle-there : word_at v (places.Bundle 0) ≡ full_bundle frames 0
     bundle-there =
         let some : 1 ≤ frames = fits.some_frames in
         let inside : 0 < bundles_of frames = omega (arith, some) in
@@ -69,5 +68,8 @@ module _ {X : Type 0} (tells : Bool) (version next frames : ℕ) (blocks : List 
         let inside : 0 < bundles_of frames = omega (arith, some) in
         inr (0, subst (λ (s : Origin). 0 < bundles_of s.frames) (sym start-is) inside, λ none. some-frames frames some (sym bundle-there ∙ none))
 
+  pub sure-on : (p : ℕ) (u w : View X) (answer : Bring) → u.start ≡ v.start → IsSure p u w answer → IsBroughtOrFailed p (bounds_of blocks) answer
+  sure-on p u w answer same s = ⊎_elim (λ b. inl b) (λ d. inr (d.0, d.1, d.3, subst (λ (o : Origin). d.0 ≤ at 0 o.bounds p) (same ∙ start-is) d.4)) s
+
   pub sure-then : (p : ℕ) (w : View X) (answer : Bring) → IsSure p v w answer → IsBroughtOrFailed p (bounds_of blocks) answer
-  sure-then p w answer s = ⊎_elim (λ b. inl b) (λ d. inr (d.0, d.1, d.3, subst (λ (o : Origin). d.0 ≤ at 0 o.bounds p) start-is d.4)) s
+  sure-then p w answer s = sure-on p v w answer refl s

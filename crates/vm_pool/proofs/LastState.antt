@@ -24,7 +24,7 @@ use Rattle.vm_rule.specs.Views.{seat_of, IsWhole}
 use Rattle.vm_rule.specs.Reading.{no_block, at_home, out_of, out_or, known, block_of, last_of, world_of}
 use Rattle.vm_rule.specs.Rule.{began_of, snapshot_of, Ruled}
 use Rattle.vm_rule.specs.Begun.{HasShape, Stands}
-use Rattle.vm_rule.specs.Fixed.{bounds_of}
+use Rattle.vm_rule.specs.Started.{bounds_of}
 use Rattle.vm_rule.proofs.ListFacts.{at-map, length-mapped, at-listed, length-listed, listed-long}
 use Rattle.vm_rule.proofs.Parts.{listed-same}
 use Rattle.vm_rule_laws.specs.Known.{HasStepped, kept_by}

@@ -10,3 +10,5 @@ pub mod Alone
 pub mod Sure
 pub mod FirstPage
 pub mod Keeping
+pub mod Knowing
+pub mod TwoPages

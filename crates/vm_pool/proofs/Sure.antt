@@ -1,5 +1,5 @@
 -- A pass that is alone, and knows that a page is evicted and that a frame is free, brings the page unless its device fails.
-use Rattle.std.proofs.Common.{ℕ, ◌≡◌, ◌≢◌, ◌<◌, ◌≤◌, ◌⊎◌, ◌++◌, ◌∷◌, [], List, sym, ap, subst, ◌∙◌, refl, inl, inr, ⊎_elim, arith}
+use Rattle.std.proofs.Common.{ℕ, ◌≡◌, ◌<◌, ◌≤◌, ◌++◌, ◌∷◌, [], List, sym, ap, subst, ◌∙◌, refl, inl, inr, ⊎_elim, arith}
 use Rattle.vm_core.specs.Fn.{at}
 use Rattle.vm_core.specs.Words.{EVICTED, MAX_VERSION, state_of, version_of}
 use Rattle.vm_rule.specs.declared.view.Note.{Note}
@@ -9,7 +9,7 @@ use Rattle.vm_rule.specs.declared.view.View.{View}
 use Rattle.vm_rule.proofs.WordFacts.{word-version}
 use Rattle.vm_step.specs.Alone.{IsAlone, word_at}
 use Rattle.vm_step.proofs.Alone.{still-alone}
-use Rattle.vm_exmap.specs.Frames.{HasFree, MovesFrames}
+use Rattle.vm_exmap.specs.Frames.{HasFree}
 use Rattle.vm_exmap.specs.Walks.{IsAlloc, IsDry}
 use Rattle.vm_exmap.specs.declared.interface.Alloc.TheVariants as allocs
 use Rattle.vm_fault.specs.Fetches.{IsKnownOut, IsToTry, IsWornOut}
@@ -18,8 +18,14 @@ use Rattle.vm_pool.specs.declared.bring.Bring.{Bring}
 
 module _ {X : Type 0} (v : View X) (alone : IsAlone v) where
   -- a free frame is not overlooked
-  not-dry : (home : ℕ) (old new : List ℕ) (w : View X) → HasFree old v → IsDry home old new v w → ⊥
+  pub not-dry : (home : ℕ) (old new : List ℕ) (w : View X) → HasFree old v → IsDry home old new v w → ⊥
   not-dry home old new w free d = ⊎_elim (λ some. some d.refused.none) (λ b. b.2 (d.known alone b.0 b.1)) free
+
+  -- so the pass gets one
+  pub got-none : (home cap : ℕ) (old : List ℕ) → HasFree old v → (before after : ℕ) (new : List ℕ) (w : View X) (answer : Bring) → GetsNone home cap old new before after v w answer → ⊥
+  got-none home cap old free before after new w answer (none.lost saw a same is) = a.others alone
+  got-none home cap old free before after new w answer (none.lost_then saw dry clean emptied filled report a s b n is) = not-dry home old emptied dry free a
+  got-none home cap old free before after new w answer (none.dry dry clean emptied filled report a s b n is) = not-dry home old emptied dry free a
 
   module _ (p : ℕ) (page : p < v.start.pages) (known : IsKnownOut p v) where
     -- a frame was had: the pass is alone then, and knows the page as before
@@ -33,7 +39,7 @@ module _ {X : Type 0} (v : View X) (alone : IsAlone v) where
     had home cap n old batch new x a =
         ⊎_elim
         (λ own. subst IsReadyFor (sym own.same) (record { now = alone; start = refl; same = refl; notes = refl }))
-        (λ taken. record { now = still-alone v x taken.moves.parts taken.moves.alone.current alone; start = taken.moves.start; same = taken.moves.states alone p page; notes = taken.moves.notes })
+        (λ taken. record { now = still-alone v x taken.moves.parts taken.moves.alone.current alone; start = taken.moves.start; same = (taken.moves.table alone).words (places.State p) page (λ e. e); notes = taken.moves.notes })
         a
 
     module _ (x w : View X) (r : IsReadyFor x) where
@@ -57,11 +63,6 @@ module _ {X : Type 0} (v : View X) (alone : IsAlone v) where
       got f before after kept x (gets.once a same) = had home cap 1 old _ kept x a
       got f before after kept x (gets.swept dry clean emptied filled report a s b n) = absurd (not-dry home old emptied dry free a)
 
-      got-none : (before after : ℕ) (new : List ℕ) (w : View X) (answer : Bring) → GetsNone home cap old new before after v w answer → ⊥
-      got-none before after new w answer (none.lost saw a same is) = a.others alone
-      got-none before after new w answer (none.lost_then saw dry clean emptied filled report a s b n is) = not-dry home old emptied dry free a
-      got-none before after new w answer (none.dry dry clean emptied filled report a s b n is) = not-dry home old emptied dry free a
-
       pub sure : (before after : ℕ) (new : List ℕ) (w : View X) (answer : Bring) → IsBring home cap p old new before after v w answer → IsSure p v w answer
       sure before after new w answer (is_bring.framed f kept x g t) = fetched cap f kept new x w answer (got f before after kept x g) t
-      sure before after new w answer (is_bring.frameless g) = absurd (got-none before after new w answer g)
+      sure before after new w answer (is_bring.frameless g) = absurd (got-none home cap old free before after new w answer g)

@@ -9,7 +9,7 @@ use Rattle.vm_owner.specs.Kept.{Start, Kept}
 use Rattle.vm_rule.specs.declared.view.Place.TheVariants as places
 use Rattle.vm_rule.specs.declared.view.View.{View}
 use Rattle.vm_rule.specs.Layout.{words_of}
-use Rattle.vm_rule.specs.Fixed.{bounds_of}
+use Rattle.vm_rule.specs.Started.{bounds_of}
 use Rattle.vm_rule.specs.Views.{Each, times_noted}
 use Rattle.vm_rule.specs.Reading.{no_block, last_of}
 use Rattle.vm_rule.specs.Rule.{began_of}

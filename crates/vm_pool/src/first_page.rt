@@ -3,8 +3,7 @@
 ghost use Rattle.std.specs.Prelude.{◌≡◌, ◌<◌, IfOk, length, map, true};
 ghost use Rattle.vm_core.specs.Words.{MAX_VERSION};
 ghost use Rattle.vm_pool.specs.Brings.{IsBroughtOrFailed};
-ghost use Rattle.vm_rule.specs.Fixed.{MayBegin, bounds_of};
-ghost use Rattle.vm_rule.specs.Started.{IsStarted, words_in};
+ghost use Rattle.vm_rule.specs.Started.{IsStarted, MayBegin, bounds_of, words_in};
 
 use crate::bring::Bring;
 use crate::pool::{Pool, Shape};

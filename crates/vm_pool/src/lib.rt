@@ -10,6 +10,7 @@ mod pool;
 pub mod round_trip;
 pub mod save;
 mod told;
+pub mod two_pages;
 pub mod whole_again;
 
 pub use bring::{Bring, dry_cause};

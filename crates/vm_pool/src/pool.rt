@@ -4,8 +4,7 @@ ghost use Rattle.std.specs.Prelude.{◌≡◌, length, map, true, IfErr, IfOk};
 ghost use Rattle.vm_pool.specs.Closing.{AreSums, IsClosed, view_at_end};
 ghost use Rattle.vm_pool.specs.Holding.{HoldsNoPage};
 ghost use Rattle.vm_rule.specs.Begun.{begun, unborn};
-ghost use Rattle.vm_rule.specs.Fixed.{MayBegin};
-ghost use Rattle.vm_rule.specs.Started.{IsStarted, started_shape, words_in};
+ghost use Rattle.vm_rule.specs.Started.{IsStarted, MayBegin, started_shape, words_in};
 ghost use Rattle.vm_rule.specs.Views.{IsWhole, view_of};
 
 use crate::closing::closed;

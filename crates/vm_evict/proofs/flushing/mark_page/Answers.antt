@@ -1,6 +1,6 @@
 use Rattle.std.proofs.Common.{sym, ◌∙◌}
 use Rattle.vm_step.specs.Passes.{view}
-use Rattle.vm_evict.proofs.FlushVisits.{marked-before, marked-now}
+use Rattle.vm_evict.proofs.FlushMarks.{marked-before, marked-now}
 use Rattle.vm_evict.proofs.flushing.mark_page.Goals as goal
 
 pub returns-then-state-eq-MARKED-clause-marks : goal.returns-then-state-eq-MARKED-clause-marks

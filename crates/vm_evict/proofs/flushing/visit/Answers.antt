@@ -5,7 +5,8 @@ use Rattle.vm_rule.proofs.WordFacts.{version-within}
 use Rattle.vm_step.proofs.Evidenced.{held-state}
 use Rattle.vm_evict.proofs.FlushAlone.{dirty-word, settles-clean, settles-gone, settles-held, settles-lock-lost, settles-mark-lost, settles-write}
 use Rattle.vm_evict.proofs.FlushSteps.{may-unshare, under-write-back}
-use Rattle.vm_evict.proofs.FlushVisits.{by-load-clean, by-lock-lost, by-look-gone, by-look-held, by-mark-lost, by-write, home-front, marked-is, marked-state, none-there, not-dirty, still-locked}
+use Rattle.vm_evict.proofs.FlushMarks.{marked-is, marked-state, none-there, not-dirty, still-locked}
+use Rattle.vm_evict.proofs.FlushVisits.{by-load-clean, by-lock-lost, by-look-gone, by-look-held, by-mark-lost, by-write, home-front}
 use Rattle.vm_evict.proofs.flushing.visit.Goals.{else-state-ne-UNLOCKED-via-then-state-ne-UNLOCKED+else-state-2, else-state-ne-UNLOCKED-via-else-state-ne-UNLOCKED}
 use Rattle.vm_evict.proofs.flushing.visit.Goals as goal
 

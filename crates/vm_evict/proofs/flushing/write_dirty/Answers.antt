@@ -3,7 +3,7 @@ use Rattle.vm_step.specs.Passes.{view}
 use Rattle.vm_step.proofs.Evidenced.{first-or}
 use Rattle.vm_evict.proofs.FlushEnds.{ends-clean, ends-failed, ends-written}
 use Rattle.vm_evict.proofs.FlushSteps.{to-write}
-use Rattle.vm_evict.proofs.FlushVisits.{not-dirty}
+use Rattle.vm_evict.proofs.FlushMarks.{not-dirty}
 use Rattle.vm_evict.proofs.flushing.write_dirty.Goals as goal
 
 pub write_back-requires-clause-legal : goal.write_back-requires-clause-legal

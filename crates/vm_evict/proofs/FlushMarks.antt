@@ -1,0 +1,78 @@
+-- The parts of a visit of a flush that come before its words are told: a mark, or its loss, and how a page under write-back stays locked.
+use Rattle.std.proofs.Common.{ℕ, false, ◌≡◌, ◌≢◌, ◌⊎◌, ◌++◌, List, [], ◌∷◌, Option, Some, None, refl, ap, subst, ◌∙◌, inl, inr, is_some, true≢false}
+use Rattle.vm_core.specs.Words.{state_of, version_of, word_of, MARKED}
+use Rattle.vm_core.specs.FrameActs.{mapping_of}
+use Rattle.vm_laws_others.specs.Leaves.{stands_dirty}
+use Rattle.vm_rule.specs.declared.view.Did.{Did}
+use Rattle.vm_rule.specs.declared.view.Place.{Place}
+use Rattle.vm_rule.specs.declared.view.Place.TheVariants as places
+use Rattle.vm_rule.specs.declared.view.View.{View}
+use Rattle.vm_rule.specs.Views.{Each}
+use Rattle.vm_rule.specs.Locks.{MarkTold}
+use Rattle.vm_rule.specs.Log.{did_exchange}
+use Rattle.vm_rule.proofs.WordFacts.{version-within, word-state}
+use Rattle.vm_step.specs.Evidence.{HasGiven, HasWritten}
+use Rattle.vm_step.specs.Passes.{found_by}
+use Rattle.vm_step.specs.declared.took.Took.{Took}
+use Rattle.vm_step.specs.declared.took.Took.TheVariants.{Taken, Lost}
+use Rattle.vm_step.specs.Alone.{RunsAlone}
+use Rattle.vm_step.proofs.Alone.{runs-one, runs-self}
+use Rattle.vm_step.proofs.Asides.{OnlyReads, keeps-self, aside-self, mark-only}
+use Rattle.vm_evict.specs.Writes.{StaysOn}
+use Rattle.vm_evict.specs.Flushes.{IsDirtyFrame, IsLeft, IsStillLocked, LosesSeen, Marks, Writes, left_clean, made_clean, refused}
+use Rattle.vm_evict.specs.declared.flushing.Flushed.{Flushed}
+use Rattle.vm_evict.proofs.Evidenced.{lost-one}
+
+-- an exchange that expected a word found there before, or the mark put in its place, and found another
+pub loses-seen : (a : List Did) (at : Place) (seen expects found new : ℕ) → found ≢ expects → Each (λ d. d.at ≡ at → d.wrote ≢ Some found) a → HasGiven a at seen → (expects ≡ seen) ⊎ ((expects ≡ word_of MARKED (version_of seen)) × HasWritten a at expects) → LosesSeen (a ++ did_exchange at expects found new ∷ []) at expects
+loses-seen a at seen expects found new ne foreign given expected = record {
+  lost = record {
+    earlier = a;
+    step = did_exchange at expects found new;
+    later = [];
+    cut = refl;
+    found = found;
+    lost = lost-one at expects found new ne;
+    foreign = foreign;
+  };
+  seen = seen;
+  given = given;
+  expected = expected;
+}
+
+pub none-there : (o : Option ℕ) → is_some o ≡ false → o ≡ None
+none-there None e = refl
+none-there (Some x) e = absurd (true≢false e)
+
+-- a page without a dirty frame is not dirty
+pub not-dirty : (word : ℕ) (o : Option ℕ) → o ≡ None → IsDirtyFrame word o → stands_dirty (mapping_of word) ≡ false
+not-dirty word o e d = subst (λ (x : Option ℕ). IsDirtyFrame word x) e d
+
+-- the word that marks a page at the version of another word
+pub marked-is : (marked version word : ℕ) → marked ≡ word_of MARKED version → version ≡ version_of word → marked ≡ word_of MARKED (version_of word)
+marked-is marked version word a b = a ∙ ap (λ (n : ℕ). word_of MARKED n) b
+
+pub marked-state : (marked version word : ℕ) → marked ≡ word_of MARKED version → version ≡ version_of word → state_of marked ≡ MARKED
+marked-state marked version word a b = ap state_of (marked-is marked version word a b) ∙ word-state MARKED (version_of word) (version-within word)
+
+abbrev pub mark-did : ℕ → ℕ → ℕ → Did
+mark-did p word found = did_exchange (places.State p) word found (word_of MARKED (version_of word))
+
+module _ {X : Type 0} (p : ℕ) where
+  -- however the write ended, the page is locked as it was
+  pub still-locked : (v w : View X) (old new : Flushed) → Writes p v w old new → (done : List Did) × IsStillLocked p done v w
+  still-locked v w old new (left_clean done x k kept given un known notes e) = (done, k)
+  still-locked v w old new (made_clean done f k saved known notes e) = (done, k)
+  still-locked v w old new (refused done f count k dirty kept allowed raised notes e) = (done, k)
+
+  pub left-of : (done : List Did) (v w : View X) → OnlyReads (λ q. q ≡ p) done v w → RunsAlone done [] v w → StaysOn p done → IsLeft p done v w
+  left-of done v w r alone own = record { own = own; aside = r.aside; keeps = r.keeps; alone = alone }
+
+  -- ---- the mark
+
+  pub marked-before : (word : ℕ) (v : View X) → state_of word ≡ MARKED → Marks p word v v Taken
+  marked-before word v e = ([], record { own = tt; aside = aside-self (λ q. q ≡ p) v; keeps = keeps-self v; alone = runs-self v }, inl (refl, e))
+
+  pub marked-now : (word : ℕ) (v w : View X) (took : Took) → MarkTold p word (found_by word took) (word_of MARKED (version_of word)) v w → ((x : ℕ) → took ≡ Lost x → x ≢ word) → Marks p word v w took
+  marked-now word v w Taken t other = (mark-did p word word ∷ [], left-of (mark-did p word word ∷ []) v w (mark-only (λ q. q ≡ p) p word word (word_of MARKED (version_of word)) v w t) (runs-one (mark-did p word word) _ [] [] v v w t.brings) (inl refl, tt), inr refl)
+  marked-now word v w (Lost x) t other = (other x refl, left-of (mark-did p word x ∷ []) v w (mark-only (λ q. q ≡ p) p word x (word_of MARKED (version_of word)) v w t) (runs-one (mark-did p word x) _ [] [] v v w t.brings) (inl refl, tt))

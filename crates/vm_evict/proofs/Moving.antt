@@ -1,0 +1,265 @@
+-- The steps of a phase on one candidate: they are on the candidate's own words, and one run of them behind another is one run.
+use Rattle.std.proofs.Common.{ℕ, Bool, ◌≡◌, ◌≢◌, ◌++◌, ◌<◌, ◌||◌, false, arith, List, [], ◌∷◌, refl, sym, ap, subst, ◌∙◌, ⊎_elim, inl, inr, append_assoc}
+use Rattle.vm_owner.specs.Numbers.{has}
+use Rattle.vm_rule.specs.declared.view.Did.{Did}
+use Rattle.vm_rule.specs.declared.view.Note.{Note}
+use Rattle.vm_rule.specs.declared.view.Origin.{Origin}
+use Rattle.vm_rule.specs.declared.view.Place.{Place}
+use Rattle.vm_rule.specs.declared.view.Place.TheVariants as places
+use Rattle.vm_rule.specs.declared.view.Translation.{Translation}
+use Rattle.vm_rule.specs.declared.view.View.{View}
+use Rattle.vm_rule.specs.Puts.{put_at}
+use Rattle.vm_rule.specs.Views.{Each}
+use Rattle.vm_rule.proofs.Entries.{append-none}
+use Rattle.vm_rule.proofs.Heard.{each-both}
+use Rattle.vm_step.specs.Alone.{RunsAlone}
+use Rattle.vm_step.specs.Asides.{KeepsFrames}
+use Rattle.vm_step.proofs.Alone.{runs-self, runs-then, stays-alone}
+use Rattle.vm_step.proofs.Asides.{alone-then, keeps-self, keeps-then}
+use Rattle.vm_step.proofs.Leaves.{leaves-then, works-none}
+use Rattle.vm_evict.specs.Evictions.{FramesCome, frame_at, note_at, release_at}
+use Rattle.vm_evict.specs.Phases.{Does, GivesUp, Saves, writes, shares, gives_up}
+use Rattle.vm_evict.specs.Stages.{Adds, Advances, Comes, IsAt, MayBegin, MayEnd, Moves, one, still}
+use Rattle.vm_evict.specs.Writes.{IsOwnPlace, WritesPage}
+use Rattle.vm_evict.specs.declared.candidate.Phase.{Phase}
+use Rattle.vm_evict.specs.declared.candidate.Phase.TheVariants as phases
+use Rattle.vm_evict.specs.declared.candidate.Stage.{Stage}
+use Rattle.vm_evict.specs.declared.candidate.Stage.TheVariants as stages
+use Rattle.vm_evict.proofs.Copying.{written-own}
+
+-- ---- the words that a phase steps on
+
+given-own : (p : ℕ) (d : Did) → GivesUp p d → IsOwnPlace p d.at
+given-own p d g = inl (ap (λ (e : Did). e.at) g.1)
+
+saved-own : (c : ℕ × ℕ) (d : Did) → Saves c d → IsOwnPlace c.0 d.at
+saved-own c d (writes w) = written-own c.0 d w
+saved-own c d (shares found is) = inl (ap (λ (e : Did). e.at) is)
+saved-own c d (gives_up g) = given-own c.0 d g
+
+does-own : (phase : Phase) (c : ℕ × ℕ) (d : Did) → Does phase c d → IsOwnPlace c.0 d.at
+does-own phases.Save c d s = saved-own c d s
+does-own phases.Lock c d s = inl (ap (λ (e : Did). e.at) s.1)
+does-own phases.Raise c d s = ⊎_elim (λ t. inl (ap (λ (e : Did). e.at) t.1)) (λ g. given-own c.0 d g) s
+does-own phases.Empty c d s = ⊎_elim (λ t. inr (inl (ap (λ (e : Did). e.at) t.1))) (λ e. inr (inl (ap (λ (f : Did). f.at) e))) s
+does-own phases.Leave c d s = inl (ap (λ (e : Did). e.at) s)
+
+-- the page of a state, translation or fault word, and the kind of a word
+abbrev page-of : Place → ℕ
+page-of (places.State p) = p
+page-of (places.Translation p) = p
+page-of (places.Fault p) = p
+page-of at = 0
+
+abbrev kind-of : Place → ℕ
+kind-of (places.State p) = 0
+kind-of (places.Translation p) = 1
+kind-of (places.Fault p) = 2
+kind-of at = 3
+
+abbrev number : ℕ → ℕ
+number n = n
+
+-- a word of page p is none of the three words of another page
+own-else : (p q : ℕ) (at : Place) → p ≢ q → IsOwnPlace p at → (at ≢ places.State q) × (at ≢ places.Translation q) × (at ≢ places.Fault q)
+own-else p q at ne own =
+    let page : (b : Place) → (kind-of b ≡ 3 → ⊥) → page-of b ≡ q → at ≡ b → ⊥
+    = λ b low is e.
+    ⊎_elim
+    (λ (h : at ≡ places.State p). ne (ap page-of (sym h ∙ e) ∙ is))
+    (λ r. ⊎_elim
+    (λ (h : at ≡ places.Translation p). ne (ap page-of (sym h ∙ e) ∙ is))
+    (λ s. ⊎_elim
+    (λ (h : at ≡ places.Fault p). ne (ap page-of (sym h ∙ e) ∙ is))
+    (λ f. low (ap kind-of (sym e ∙ f.2))) s) r)
+    own in
+    (page (places.State q) (λ e. let n : 0 ≡ 3 = e in absurd (omega (arith, n))) refl, page (places.Translation q) (λ e. let n : 1 ≡ 3 = e in absurd (omega (arith, n))) refl, page (places.Fault q) (λ e. let n : 2 ≡ 3 = e in absurd (omega (arith, n))) refl)
+
+module _ (phase : Phase) (c : ℕ × ℕ) (q : ℕ) (ne : q ≢ c.0) where
+  else-of : (d : Did) → Does phase c d → (d.at ≢ places.State q) × (d.at ≢ places.Translation q) × (d.at ≢ places.Fault q)
+  else-of d s = own-else c.0 q d.at (λ e. ne (sym e)) (does-own phase c d s)
+
+  pub no-state-of : (more : List Did) → Each (Does phase c) more → Each (λ d. d.at ≢ places.State q) more
+  no-state-of [] s = tt
+  no-state-of (d ∷ ds) s = ((else-of d s.0).0, no-state-of ds s.1)
+
+  pub no-translation-of : (more : List Did) → Each (Does phase c) more → Each (λ d. d.at ≢ places.Translation q) more
+  no-translation-of [] s = tt
+  no-translation-of (d ∷ ds) s = ((else-of d s.0).1, no-translation-of ds s.1)
+
+-- steps of a write-back are steps of the first phase
+pub saves-all : (c : ℕ × ℕ) (done : List Did) → Each (WritesPage c.0) done → Each (Does phases.Save c) done
+saves-all c [] e = tt
+saves-all c (d ∷ ds) e = (writes e.0, saves-all c ds e.1)
+
+-- what a stage gives, told of two views
+pub adds-none : {A : Type 0} (give : Stage → List A) (phase only : Phase) (s : Stage) → Adds give phase only s s []
+adds-none give phase only s = record { is = sym (append-none (give s)); when = inl refl }
+
+module _ {X : Type 0} where
+  pub moves-none : (phase : Phase) (c : ℕ × ℕ) (x : View X) → Moves phase c [] x x
+  moves-none phase c x = record { leaves = (works-none c.0 x).leaves; does = tt; home = λ e. e; newer = []; reads = refl }
+
+  pub moves-then : (phase : Phase) (c : ℕ × ℕ) (a b : List Did) (x y z : View X) → Moves phase c a x y → Moves phase c b y z → Moves phase c (a ++ b) x z
+  moves-then phase c a b x y z f g = record {
+    leaves = leaves-then c.0 a b x y z f.leaves g.leaves;
+    does = each-both (Does phase c) a b f.does g.does;
+    home = λ e. g.home (f.home e);
+    newer = g.newer ++ f.newer;
+    reads = g.reads ∙ ap (λ (t : List Translation). g.newer ++ t) f.reads ∙ sym (append_assoc g.newer f.newer x.translations);
+  }
+
+  -- steps that release nothing, and leave frames and notes
+  pub record Quietly (phase : Phase) (c : ℕ × ℕ) (more : List Did) (x y : View X) : Type 0 where
+    pub moves : Moves phase c more x y
+    pub runs : RunsAlone more [] x y
+    pub keeps : KeepsFrames x y
+
+  pub quietly-then : (phase : Phase) (c : ℕ × ℕ) (a b : List Did) (x y z : View X) → Quietly phase c a x y → Quietly phase c b y z → Quietly phase c (a ++ b) x z
+  quietly-then phase c a b x y z f g = record {
+    moves = moves-then phase c a b x y z f.moves g.moves;
+    runs = runs-then a b [] [] x y z f.moves.leaves.start f.moves.leaves.parts f.runs g.runs;
+    keeps = keeps-then x y z f.keeps g.keeps;
+  }
+
+  -- a candidate that such steps bring to another stage, which gives nothing
+  pub quietly-to : (phase : Phase) (c : ℕ × ℕ) (old new : Stage) (done more : List Did) (v x y : View X) → Quietly phase c more x y → IsAt c new (done ++ more) v y → MayEnd phase new → Adds (release_at x c) phase phases.Leave old new [] → Adds (note_at c) phase phases.Save old new [] → Adds (frame_at c) phase phases.Empty old new [] → Advances phase c old new done v x y
+  quietly-to phase c old new done more v x y q at ends releases notes frames = record {
+    more = more;
+    moves = q.moves;
+    at = at;
+    ends = ends;
+    own = [];
+    runs = q.runs;
+    alone = stays-alone more x y q.moves.leaves.start q.runs;
+    releases = releases;
+    notes = [];
+    noted = q.keeps.notes ∙ sym (append-none x.notes);
+    notes_are = notes;
+    frames = [];
+    come = still refl q.keeps.frames q.keeps.contents;
+    frames_are = frames;
+  }
+
+  -- no step: the stage stays
+  pub stays-so : (phase : Phase) (c : ℕ × ℕ) (s : Stage) (done : List Did) (v x : View X) → IsAt c s done v x → MayEnd phase s → Advances phase c s s done v x x
+  stays-so phase c s done v x at ends =
+      quietly-to phase c s s done [] v x x
+      record { moves = moves-none phase c x; runs = runs-self x; keeps = keeps-self x }
+      (subst (λ (t : List Did). IsAt c s t v x) (sym (append-none done)) at)
+      ends
+      (adds-none (release_at x c) phase phases.Leave s)
+      (adds-none (note_at c) phase phases.Save s)
+      (adds-none (frame_at c) phase phases.Empty s)
+
+  -- after the first phase no page was released
+  none-given : (x : View X) (c : ℕ × ℕ) (s : Stage) → MayEnd phases.Save s → release_at x c s ≡ []
+  none-given x c (stages.Freed frame written) e = absurd e
+  none-given x c s e = refl
+
+  -- frames that came to a pass whose frames were as they were before
+  come-after : (batch : List ℕ) (u v w : View X) → v.start ≡ u.start → KeepsFrames u v → FramesCome batch v w → FramesCome batch u w
+  come-after batch u v w start k f = record {
+    apart = f.apart;
+    inside = subst (λ (s : Origin). Each (λ n. n < s.frames) batch) start f.inside;
+    new = subst (λ (l : List ℕ). Each (λ n. has n l ≡ false) batch) k.frames f.new;
+    all = λ n. f.all n ∙ ap (λ (l : List ℕ). has n batch || has n l) k.frames;
+    words = λ n here. f.words n (ap (has n) k.frames ∙ here) ∙ ap (λ l. put_at [] l n) k.contents;
+  }
+
+  comes-after : (frames : List ℕ) (u v w : View X) → v.start ≡ u.start → KeepsFrames u v → Comes frames v w → Comes frames u w
+  comes-after frames u v w start k (still none f c) = still none (f ∙ k.frames) (c ∙ k.contents)
+  comes-after frames u v w start k (one f is come) = one f is (come-after (f ∷ []) u v w start k come)
+
+  -- quiet steps in front, in the first phase
+  pub advances-after : (c : ℕ × ℕ) (new : Stage) (done a : List Did) (v x y z : View X) → Quietly phases.Save c a x y → Advances phases.Save c stages.Waiting new (done ++ a) v y z → Advances phases.Save c stages.Waiting new done v x z
+  advances-after c new done a v x y z q t = record {
+    more = a ++ t.more;
+    moves = moves-then phases.Save c a t.more x y z q.moves t.moves;
+    at = subst (λ (l : List Did). IsAt c new l v z) (append_assoc done a t.more) t.at;
+    ends = t.ends;
+    own = t.own;
+    runs = runs-then a t.more [] t.own x y z q.moves.leaves.start q.moves.leaves.parts q.runs t.runs;
+    alone = alone-then x y z q.moves.leaves.parts (stays-alone a x y q.moves.leaves.start q.runs) t.alone;
+    releases = record { is = none-given x c new t.ends ∙ sym (none-given y c new t.ends) ∙ t.releases.is; when = t.releases.when };
+    notes = t.notes;
+    noted = t.noted ∙ ap (λ (l : List Note). l ++ t.notes) q.keeps.notes;
+    notes_are = t.notes_are;
+    frames = t.frames;
+    come = comes-after t.frames x y z q.moves.leaves.start q.keeps t.come;
+    frames_are = t.frames_are;
+  }
+
+  -- a step from a stage is one from the stage that it equals
+  pub comes-from : (phase k : Phase) (c : ℕ × ℕ) (s t new : Stage) (done : List Did) (v x y : View X) → phase ≡ k → s ≡ t → (IsAt c t done v x → Advances k c t new done v x y) → IsAt c s done v x → Advances phase c s new done v x y
+  comes-from phase k c s t new done v x y is e f h =
+      subst (λ (j : Phase). Advances j c s new done v x y) (sym is)
+      (subst (λ (u : Stage). Advances k c u new done v x y) (sym e) (f (subst (λ (u : Stage). IsAt c u done v x) e h)))
+
+-- ---- the stages that a phase leaves
+
+pub begins-waiting : (s : Stage) → MayBegin phases.Save s → s ≡ stages.Waiting
+begins-waiting stages.Waiting b = refl
+begins-waiting stages.Clean b = absurd b
+begins-waiting (stages.Shared written) b = absurd b
+begins-waiting (stages.Owned written) b = absurd b
+begins-waiting (stages.Emptied frame written) b = absurd b
+begins-waiting (stages.Freed frame written) b = absurd b
+begins-waiting (stages.Failed count) b = absurd b
+begins-waiting (stages.Lost written) b = absurd b
+
+lock-leaves : (s : Stage) → (s ≡ stages.Clean → ⊥) → MayBegin phases.Lock s → MayEnd phases.Lock s
+lock-leaves stages.Waiting ne b = absurd b
+lock-leaves stages.Clean ne b = absurd (ne refl)
+lock-leaves (stages.Shared written) ne b = tt
+lock-leaves (stages.Owned written) ne b = absurd b
+lock-leaves (stages.Emptied frame written) ne b = absurd b
+lock-leaves (stages.Freed frame written) ne b = absurd b
+lock-leaves (stages.Failed count) ne b = tt
+lock-leaves (stages.Lost written) ne b = tt
+
+raise-leaves : (s : Stage) → ((written : Bool) → s ≡ stages.Shared written → ⊥) → MayBegin phases.Raise s → MayEnd phases.Raise s
+raise-leaves stages.Waiting ne b = absurd b
+raise-leaves stages.Clean ne b = absurd b
+raise-leaves (stages.Shared written) ne b = absurd (ne written refl)
+raise-leaves (stages.Owned written) ne b = tt
+raise-leaves (stages.Emptied frame written) ne b = absurd b
+raise-leaves (stages.Freed frame written) ne b = absurd b
+raise-leaves (stages.Failed count) ne b = tt
+raise-leaves (stages.Lost written) ne b = tt
+
+empty-leaves : (s : Stage) → ((written : Bool) → s ≡ stages.Owned written → ⊥) → MayBegin phases.Empty s → MayEnd phases.Empty s
+empty-leaves stages.Waiting ne b = absurd b
+empty-leaves stages.Clean ne b = absurd b
+empty-leaves (stages.Shared written) ne b = absurd b
+empty-leaves (stages.Owned written) ne b = absurd (ne written refl)
+empty-leaves (stages.Emptied frame written) ne b = absurd b
+empty-leaves (stages.Freed frame written) ne b = absurd b
+empty-leaves (stages.Failed count) ne b = tt
+empty-leaves (stages.Lost written) ne b = tt
+
+leave-leaves : (s : Stage) → ((frame : ℕ) (written : Bool) → s ≡ stages.Emptied frame written → ⊥) → MayBegin phases.Leave s → MayEnd phases.Leave s
+leave-leaves stages.Waiting ne b = absurd b
+leave-leaves stages.Clean ne b = absurd b
+leave-leaves (stages.Shared written) ne b = absurd b
+leave-leaves (stages.Owned written) ne b = absurd b
+leave-leaves (stages.Emptied frame written) ne b = absurd (ne frame written refl)
+leave-leaves (stages.Freed frame written) ne b = absurd b
+leave-leaves (stages.Failed count) ne b = tt
+leave-leaves (stages.Lost written) ne b = tt
+
+module _ {X : Type 0} (phase : Phase) (c : ℕ × ℕ) (s : Stage) (done : List Did) (v x : View X) (b : MayBegin phase s) (h : IsAt c s done v x) where
+  left-by : (k : Phase) → phase ≡ k → (MayBegin k s → MayEnd k s) → Advances phase c s s done v x x
+  left-by k is f = stays-so phase c s done v x h (subst (λ (j : Phase). MayEnd j s) (sym is) (f (subst (λ (j : Phase). MayBegin j s) is b)))
+
+  pub lock-skips : phase ≡ phases.Lock → (s ≡ stages.Clean → ⊥) → Advances phase c s s done v x x
+  lock-skips is ne = left-by phases.Lock is (lock-leaves s ne)
+
+  pub raise-skips : phase ≡ phases.Raise → ((written : Bool) → s ≡ stages.Shared written → ⊥) → Advances phase c s s done v x x
+  raise-skips is ne = left-by phases.Raise is (raise-leaves s ne)
+
+  pub empty-skips : phase ≡ phases.Empty → ((written : Bool) → s ≡ stages.Owned written → ⊥) → Advances phase c s s done v x x
+  empty-skips is ne = left-by phases.Empty is (empty-leaves s ne)
+
+  pub leave-skips : phase ≡ phases.Leave → ((frame : ℕ) (written : Bool) → s ≡ stages.Emptied frame written → ⊥) → Advances phase c s s done v x x
+  leave-skips is ne = left-by phases.Leave is (leave-leaves s ne)

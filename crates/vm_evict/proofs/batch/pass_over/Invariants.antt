@@ -1,0 +1,18 @@
+use Rattle.std.proofs.Common.{◌≡◌, ◌<◌, ◌≤◌, ℕ, length}
+use Rattle.vm_evict.specs.Evictions.{stage_at}
+use Rattle.vm_evict.specs.Stages.{MayBegin, MayEnd}
+use Rattle.vm_step.specs.Passes.{IsSamePass, view}
+use Rattle.vm_step.specs.Ready.{IsReady}
+use Rattle.vm_evict.proofs.Passing.{Passes}
+use Rattle.vm_evict.proofs.batch.pass_over.Given as goal
+
+-- the candidates below i have passed the phase
+abbrev pub invariant-loop-i : goal.invariant-loop-i
+invariant-loop-i g l = record {
+  same : IsSamePass l.fn.pass l.pass;
+  ready : IsReady l.words.table.shared.key g.B.Block.tells l.words.table.shared.table_id l.pass;
+  passed : Passes l.phase l.list l.fn.stages l.stages (view l.fn.pass) (view l.pass);
+  long : length l.stages ≡ 64;
+  front : (j : ℕ) → j < l.i → MayEnd l.phase (stage_at l.stages j);
+  back : (j : ℕ) → l.i ≤ j → j < length l.list → MayBegin l.phase (stage_at l.stages j);
+}

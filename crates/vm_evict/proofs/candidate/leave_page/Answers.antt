@@ -1,0 +1,13 @@
+use Rattle.std.proofs.Common.{ℕ, subst}
+use Rattle.vm_rule.specs.Releases.{EvictTold}
+use Rattle.vm_step.specs.Passes.{view}
+use Rattle.vm_evict.proofs.Dropping.{freed-so, may-evict}
+use Rattle.vm_evict.proofs.candidate.leave_page.Goals as goal
+
+pub release_evicted-requires-clause-legal : goal.release_evicted-requires-clause-legal
+release_evicted-requires-clause-legal g c = may-evict c.args.p c.args.word c.args.frame c.args.written c.requires.candidate.marked c.requires.candidate.below c.requires.at.1 c.requires.at.0 (view c.args.pass.now) c.requires.at.2 c.version.result c.version.ensures c.requires.home
+
+pub returns-clause-moved : goal.returns-clause-moved
+returns-clause-moved g c v done h =
+    freed-so c.args.p c.args.word c.args.frame c.args.written c.requires.candidate.marked c.requires.candidate.below done v (view c.args.pass.now) h (view c.release_evicted.new.pass)
+    (subst (λ (n : ℕ). EvictTold c.args.p n (view c.args.pass.now) (view c.release_evicted.new.pass)) c.version.ensures c.release_evicted.ensures.told)

@@ -1,0 +1,65 @@
+-- The phases of an eviction, by the steps of the call: all dirty candidates are shared from their word and written; then the clean ones are locked
+-- exclusively; then the written ones become exclusive from one share; then all are taken out of their frames; then all are released as evicted.
+-- No step is on another word than those of the candidates.
+use Rattle.std.specs.Prelude.{ℕ, None, List, ◌++◌, ◌≡◌, ◌⊎◌, ◌+◌, ◌-◌, ◌^◌, ◌<◌, length, slice_index_or}
+use Rattle.vm_core.specs.Words.{version_of, word_of, LOCKED, EVICTED}
+use Rattle.vm_core.specs.FrameActs.{trans_word}
+use Rattle.vm_rule.specs.declared.view.Did.{Did}
+use Rattle.vm_rule.specs.declared.view.Place.TheVariants as places
+use Rattle.vm_rule.specs.Views.{Each}
+use Rattle.vm_rule.specs.Log.{did_load, did_store, did_exchange, did_change}
+use Rattle.vm_evict.specs.Writes.{WritesPage}
+use Rattle.vm_evict.specs.declared.candidate.Phase.{Phase}
+use Rattle.vm_evict.specs.declared.candidate.Phase.TheVariants as phases
+
+-- a step that gives up a share of page p
+abbrev pub GivesUp : ℕ → Did → Type 0
+GivesUp p d = (found : ℕ) × (d ≡ did_change (places.State p) found (found - 2 ^ 56))
+
+-- a dirty page is shared from its word, written, and made clean; or the share is given up
+pub data Saves (c : ℕ × ℕ) (d : Did) : Type 0 where
+  writes : WritesPage c.0 d → Saves c d
+  shares : (found : ℕ) → d ≡ did_exchange (places.State c.0) c.1 found (word_of 1 (version_of c.1)) → Saves c d
+  gives_up : GivesUp c.0 d → Saves c d
+
+-- a clean page is locked exclusively from its word, or the exchange is lost
+abbrev pub Locks : ℕ × ℕ → Did → Type 0
+Locks c d = (found : ℕ) × (d ≡ did_exchange (places.State c.0) c.1 found (word_of LOCKED (version_of c.1)))
+
+-- one share at the word's version becomes exclusive; or the exchange is lost, and the share is given up
+abbrev pub Raises : ℕ × ℕ → Did → Type 0
+Raises c d = ((found : ℕ) × (d ≡ did_exchange (places.State c.0) (word_of 1 (version_of c.1)) found (word_of LOCKED (version_of c.1)))) ⊎ GivesUp c.0 d
+
+-- a page is taken out of its frame
+abbrev pub Empties : ℕ × ℕ → Did → Type 0
+Empties c d = ((found : ℕ) × (d ≡ did_load (places.Translation c.0) found)) ⊎ (d ≡ did_store (places.Translation c.0) (trans_word None))
+
+-- a page is released as evicted, at its next version
+abbrev pub Leaves : ℕ × ℕ → Did → Type 0
+Leaves c d = d ≡ did_store (places.State c.0) (word_of EVICTED (version_of c.1 + 1))
+
+-- a step of the phase on this candidate
+abbrev pub Does : Phase → ℕ × ℕ → Did → Type 0
+Does phases.Save c d = Saves c d
+Does phases.Lock c d = Locks c d
+Does phases.Raise c d = Raises c d
+Does phases.Empty c d = Empties c d
+Does phases.Leave c d = Leaves c d
+
+-- a step of the phase on one of the candidates
+abbrev pub DoesOne : Phase → List (ℕ × ℕ) → Did → Type 0
+DoesOne phase list d = (n : ℕ) × (n < length list) × Does phase (slice_index_or list n (0, 0)) d
+
+-- the steps are those of the phases, one phase after another
+pub record InPhases (list : List (ℕ × ℕ)) (done : List Did) : Type 0 where
+  pub saves : List Did
+  pub locks : List Did
+  pub raises : List Did
+  pub empties : List Did
+  pub leaves : List Did
+  pub cut : done ≡ saves ++ (locks ++ (raises ++ (empties ++ leaves)))
+  pub saving : Each (DoesOne phases.Save list) saves
+  pub locking : Each (DoesOne phases.Lock list) locks
+  pub raising : Each (DoesOne phases.Raise list) raises
+  pub emptying : Each (DoesOne phases.Empty list) empties
+  pub leaving : Each (DoesOne phases.Leave list) leaves

@@ -1,0 +1,56 @@
+// All candidates of an eviction: a phase goes over the whole list before the next one begins.
+ghost use Rattle.std.specs.Prelude.{◌≡◌, ◌<◌, ◌≤◌, ℕ, None, List, length};
+ghost use Rattle.vm_evict.specs.Evictions.{Counts, candidate_at, frame_at, gathered, stage_at};
+ghost use Rattle.vm_evict.specs.Stages.{IsOver, IsPassed, IsUnderWay, MayBegin, MayEnd};
+ghost use Rattle.vm_step.specs.Choices.{AreCandidates};
+ghost use Rattle.vm_step.specs.Passes.{IsSamePass, view};
+ghost use Rattle.vm_step.specs.Ready.{IsReady};
+
+use crate::candidate::{Phase, Stage, advance};
+use crate::report::Evicted;
+use vm_block::Block;
+use vm_core::FRAMES;
+use vm_owner::Owner;
+use vm_rule::words::{Pass, Words};
+use vm_step::Looks;
+
+/// How far the eviction is with each candidate, by its place in the list.
+pub(crate) type Stages = [Stage; FRAMES];
+
+/// One phase, over the whole list.
+pub(crate) fn pass_over<U: Owner, B: Block>(
+    words: &Words<U, B>,
+    pass: &mut Pass<U>,
+    phase: Phase,
+    list: &[(u32, u64)],
+    stages: &mut Stages,
+)
+    requires ready { IsReady words.now.table.shared.key B.tells words.now.table.shared.table_id pass.old }
+    requires list { AreCandidates words.now.table.shared.key.pages list.now }
+    requires few { length list.now ≤ FRAMES }
+    requires way { (v : _) × (done : _) × IsUnderWay list.now stages.old done v (view pass.old) }
+    requires begins { (n : ℕ) → n < length list.now → MayBegin phase (stage_at stages.old n) }
+    ensures pass { IsSamePass pass.old pass.new }
+    ensures ready { IsReady words.now.table.shared.key B.tells words.now.table.shared.table_id pass.new }
+    ensures passed { (v : _) (done : _) → IsUnderWay list.now stages.old done v (view pass.old) → IsPassed phase list.now stages.new done v (view pass.new) }
+    ensures ends { (n : ℕ) → n < length list.now → MayEnd phase (stage_at stages.new n) }
+{
+    for i in 0..list.len() {
+        stages[i] = advance(words, pass, phase, list[i], stages[i]);
+    }
+}
+
+/// The frames of the pages evicted, in the list's order, and the report.
+pub(crate) fn report_of(list: &[(u32, u64)], stages: &Stages, looks: Looks) -> Evicted
+    requires few { length list.now ≤ FRAMES }
+    requires over { (n : ℕ) → n < length list.now → IsOver (stage_at stages.now n) }
+    ensures counts { Counts (length list.now) list.now looks stages.now result.report }
+    ensures frames { result.frames ≡ gathered frame_at (length list.now) list.now stages.now }
+{
+    let mut evicted = Evicted::none(looks);
+    for i in 0..list.len() {
+        let (p, _) = list[i];
+        evicted.add(p, stages[i]);
+    }
+    evicted
+}

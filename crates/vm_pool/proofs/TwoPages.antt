@@ -1,0 +1,152 @@
+-- What the first pass of a pool with two frames knows after it asked for a page: another page has its word, a frame is free still, and a page
+-- that was brought can be read.
+use Rattle.std.proofs.Common.{ℕ, Bool, true, ◌≡◌, ◌≢◌, ◌<◌, ◌≤◌, ◌+◌, ◌*◌, ◌-◌, ◌%◌, ◌^◌, ◌∷◌, [], List, length, min, zero, suc, bit_xor, refl, sym, ap, subst, ◌∙◌, inl, inr, ⊎_elim, arith}
+use Rattle.std.proofs.lemmas.Bool.{cases_eq, cases_lt}
+use Rattle.std.proofs.lemmas.Nat.Bits.{bit_at-lt, bit_at-zero, bit_at_ones, bit_at_xor}
+use Rattle.std.specs.Int.{bit_at}
+use Rattle.vm_core.specs.Fn.{sum_below}
+use Rattle.vm_core.specs.Start.{full_bundle}
+use Rattle.vm_core.specs.StateActs.{is_readable}
+use Rattle.vm_core.specs.Words.{AreLowest, MAX_VERSION, UNLOCKED, bit_count, state_of, version_of, word_of}
+use Rattle.vm_core.proofs.Upd.{sum_below-past}
+use Rattle.vm_block.specs.declared.stored.Stored.{Stored}
+use Rattle.vm_rule.specs.declared.view.Origin.{Origin}
+use Rattle.vm_rule.specs.declared.view.Place.TheVariants as places
+use Rattle.vm_rule.specs.declared.view.View.{View}
+use Rattle.vm_rule.specs.Begun.{begun, unborn}
+use Rattle.vm_rule.specs.Layout.{bundles_of, index_of}
+use Rattle.vm_rule.specs.Started.{IsStarted, started_shape}
+use Rattle.vm_rule.proofs.WordFacts.{word-state}
+use Rattle.vm_step.specs.Alone.{IsAlone, word_at}
+use Rattle.vm_step.proofs.Alone.{still-alone}
+use Rattle.vm_exmap.specs.Frames.{HasFree, IsBundleOf}
+use Rattle.vm_fault.specs.Fetches.{IsKnownOut, IsOfBoth, IsOfPage}
+use Rattle.vm_pool.specs.Brings.{KeepsLocks}
+use Rattle.vm_pool.specs.Known.{KnowsBring, KnowsBrought, KnowsBrought as brought, known_version}
+use Rattle.vm_pool.specs.declared.bring.Bring.{Bring}
+use Rattle.vm_pool.specs.declared.bring.Bring.TheVariants as brings
+use Rattle.vm_pool.proofs.FirstPage.{bundle-there, first-alone, first-out, some-frames, start-is}
+
+-- ---- two bits of a word
+
+-- so many bits are set where the first ones are
+at-least : (n k : ℕ) (f : ℕ → ℕ) → k ≤ n → ((i : ℕ) → i < k → f i ≡ 1) → k ≤ sum_below n f
+unfolding sum_below
+at-least zero k f le each = le
+at-least (suc n) k f le each =
+    ⊎_elim
+    (λ (l : k < suc n). let r : k ≤ sum_below n f = at-least n k f (omega (arith, l)) each in omega (arith, r))
+    (λ (past : suc n ≤ k).
+    let r : n ≤ sum_below n f = at-least n n f (omega arith) (λ i l. each i (omega (arith, l, past))) in
+    let one : f n ≡ 1 = each n (omega (arith, past)) in
+    omega (arith, r, one, le))
+    (cases_lt k (suc n))
+
+-- the first bundle of a table with two frames has two
+two-frames : (frames : ℕ) → 2 ≤ frames → 2 ≤ bit_count (full_bundle frames 0)
+unfolding full_bundle
+two-frames frames two =
+    let k : ℕ = min 64 (frames - 64 * 0) in
+    let some : 2 ≤ k = omega (arith, two) in
+    at-least 64 2 (bit_at (2 ^ k - 1)) (omega arith) (λ i l. bit_at_ones k i (omega (arith, l, some)))
+
+-- one of them is left where one is taken
+one-left : (word mask : ℕ) → 2 ≤ bit_count word → AreLowest word 1 mask → bit_xor word mask ≢ 0
+one-left word mask two low none =
+    let same : bit_count word ≡ bit_count mask =
+    sum_below-past 64 (bit_at word) (bit_at mask)
+    (λ i l.
+    let a : bit_at word i < 2 = bit_at-lt word i in
+    let b : bit_at mask i < 2 = bit_at-lt mask i in
+    let zero-sum : (bit_at word i + bit_at mask i) % 2 ≡ 0 = sym (bit_at_xor word mask i) ∙ ap (λ n. bit_at n i) none ∙ bit_at-zero i in
+    omega (arith, a, b, zero-sum)) in
+    let count : bit_count mask ≡ min 1 (bit_count word) = low.count in
+    omega (arith, same, count, two)
+
+-- the state word of another page is no place of the page or of its frame
+not-of-other : (p q f : ℕ) → q ≢ p → IsOfBoth p f (places.State q) → ⊥
+not-of-other p q f ne (inl e) = ne e
+not-of-other p q f ne (inr c) = subst (IsOfPage q) c.2 refl
+
+module _ {X : Type 0} where
+  -- ---- after a page was asked for
+
+  -- another page has its word
+  pub other-page : (most p q : ℕ) (old new : List ℕ) (v w : View X) (answer : Bring) → q ≢ p → q < v.start.pages → KnowsBring most p old new v w answer → word_at w (places.State q) ≡ word_at v (places.State q)
+  other-page most p q old new v w brings.Brought ne l (brought.own f is k) = k.others.words (places.State q) l (not-of-other p q f ne)
+  other-page most p q old new v w brings.Brought ne l (brought.taken f g mask none are inside low left k) = k.others.words (places.State q) l (λ t. ⊎_elim (not-of-other p q f ne) (λ (e : places.State q ≡ places.Bundle g). subst (IsOfPage q) e refl) t)
+  other-page most p q old new v w (brings.Device r count) ne l k = k.1.others.words (places.State q) l (λ t. ⊎_elim ne (λ (b : IsBundleOf v.start (places.State q)). b) t)
+  other-page most p q old new v w (brings.Again saw) ne l k = k.1.words (places.State q) l (λ e. e)
+  other-page most p q old new v w (brings.Worn r) ne l k = k.1.words (places.State q) l (λ e. e)
+  other-page most p q old new v w (brings.Dry looks) ne l k = absurd k
+
+  pub still-out : (cap p q : ℕ) (old new : List ℕ) (v w : View X) (answer : Bring) → q ≢ p → q < v.start.pages → IsKnownOut q v → KnowsBring cap p old new v w answer → IsKnownOut q w
+  still-out cap p q old new v w answer ne l out k =
+      let same : word_at w (places.State q) ≡ word_at v (places.State q) = other-page cap p q old new v w answer ne l k in
+      (ap state_of same ∙ out.0, subst (λ n. version_of n < MAX_VERSION) (sym same) out.1)
+
+  -- a page that was brought can be read
+  pub can-be-read : (cap p : ℕ) (old new : List ℕ) (v w : View X) → IsKnownOut p v → KnowsBrought cap p old new v w → is_readable (state_of (word_at w (places.State p))) ≡ true
+  can-be-read cap p old new v w out k =
+      let below : known_version v p < MAX_VERSION = out.1 in
+      ap is_readable (ap state_of (now k) ∙ word-state UNLOCKED (known_version v p + 1) (omega (arith, below)))
+    where
+      now : KnowsBrought cap p old new v w → word_at w (places.State p) ≡ word_of UNLOCKED (known_version v p + 1)
+      now (brought.own f is r) = r.now
+      now (brought.taken f g mask none are inside low left r) = r.now
+
+  -- with an interface that had no frame, and two in the first bundle, a frame is free still
+  module _ (p : ℕ) (new : List ℕ) (v w : View X) (start : w.start ≡ v.start) (some : 0 < bundles_of v.start.frames) (two : 2 ≤ bit_count (word_at v (places.Bundle 0))) (any : word_at v (places.Bundle 0) ≢ 0) where
+    in-first : word_at w (places.Bundle 0) ≢ 0 → HasFree new w
+    in-first ne = inr (0, subst (λ (o : Origin). 0 < bundles_of o.frames) (sym start) some, ne)
+
+    -- the first bundle is no other one
+    other-bundle : (g : ℕ) → g ≢ 0 → places.Bundle 0 ≡ places.Bundle g → ⊥
+    other-bundle g ne e = let i : index_of v.start (places.Bundle 0) ≡ index_of v.start (places.Bundle g) = ap (index_of v.start) e in ne (omega (arith, i))
+
+    -- nor a place of the page or of the frame
+    not-of-first : (f : ℕ) → IsOfBoth p f (places.Bundle 0) → ⊥
+    not-of-first f (inl page-is) = page-is
+    not-of-first f (inr c) = subst (IsBundleOf v.start) c.2 some
+
+    one-is-left : KnowsBrought 1 p [] new v w → HasFree new w
+    one-is-left (brought.own f is r) = let n : 0 ≡ length (f ∷ new) = ap length is in absurd (omega (arith, n))
+    one-is-left (brought.taken f g mask none are inside low left r) =
+        ⊎_elim
+        (λ (e : g ≡ 0).
+        let lowest : AreLowest (word_at v (places.Bundle 0)) 1 mask = subst (λ n. AreLowest (word_at v (places.Bundle n)) 1 mask) e low in
+        let now : word_at w (places.Bundle 0) ≡ bit_xor (word_at v (places.Bundle 0)) mask = subst (λ n. word_at w (places.Bundle n) ≡ bit_xor (word_at v (places.Bundle n)) mask) e left in
+        in-first (λ none-left. one-left (word_at v (places.Bundle 0)) mask two lowest (sym now ∙ none-left)))
+        (λ (ne : g ≢ 0).
+        let same : word_at w (places.Bundle 0) ≡ word_at v (places.Bundle 0) =
+        r.others.words (places.Bundle 0) some (λ t. ⊎_elim (not-of-first f) (other-bundle g ne) t) in
+        in-first (λ none-left. any (sym same ∙ none-left)))
+        (cases_eq g 0)
+
+    pub still-free : (answer : Bring) → KnowsBring 1 p [] new v w answer → HasFree new w
+    still-free brings.Brought k = one-is-left k
+    still-free (brings.Device q count) k = inl k.0
+    still-free (brings.Again saw) k = inl k.0
+    still-free (brings.Worn q) k = inl k.0
+    still-free (brings.Dry looks) k = absurd k
+
+  -- what the first pass of a pool with two frames knows after it asked for one page: it is alone, the other page is evicted, and a frame is free
+  pub record IsReadyAgain (b : ℕ) (new : List ℕ) (w : View X) : Type 0 where
+    pub alone : IsAlone w
+    pub out : IsKnownOut b w
+    pub free : HasFree new w
+
+  module _ (tells : Bool) (version next frames : ℕ) (blocks : List Stored) (v : View X) (is : v ≡ begun (unborn (started_shape tells version next frames blocks))) (fits : IsStarted version next frames (length blocks)) (below : version < MAX_VERSION) where
+    pub has-page : (p : ℕ) → p < length blocks → p < v.start.pages
+    has-page p l = subst (λ (o : Origin). p < o.pages) (sym (start-is tells version next frames blocks v is)) l
+
+    pub ready-again : (a b : ℕ) (new : List ℕ) (w : View X) (answer : Bring) → 2 ≤ frames → b ≢ a → b < length blocks → KeepsLocks v w → KnowsBring 1 a [] new v w answer → IsReadyAgain b new w
+    ready-again a b new w answer two ne l keeps k =
+        let there : word_at v (places.Bundle 0) ≡ full_bundle frames 0 = bundle-there tells version next frames blocks v is fits in
+        let some : 0 < bundles_of frames = omega (arith, two) in
+        record {
+          alone = still-alone v w keeps.parts keeps.alone.current (first-alone tells version next frames blocks v is);
+          out = still-out 1 a b [] new v w answer ne (has-page b l) (first-out tells version next frames blocks v is fits b l below) k;
+          free = still-free a new v w keeps.start (subst (λ (o : Origin). 0 < bundles_of o.frames) (sym (start-is tells version next frames blocks v is)) some)
+              (subst (λ n. 2 ≤ bit_count n) (sym there) (two-frames frames two)) (λ none. some-frames frames (omega (arith, two)) (sym there ∙ none)) answer k;
+        }

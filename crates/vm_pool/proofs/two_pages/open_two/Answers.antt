@@ -1,0 +1,47 @@
+-- The second call and the read meet the premises of what is promised a pass that is alone, by what the call before them told.
+use Rattle.std.proofs.Common.{ℕ, ◌≡◌, ◌≢◌, ◌<◌, [], List, length, map, sym, ap, subst, ◌∙◌}
+use Rattle.vm_block.specs.declared.stored.Stored.{Stored}
+use Rattle.vm_core.specs.StateActs.{is_readable}
+use Rattle.vm_core.specs.Words.{state_of}
+use Rattle.vm_rule.specs.declared.view.Origin.{Origin}
+use Rattle.vm_rule.specs.Started.{IsStarted}
+use Rattle.vm_rule.proofs.ListFacts.{length-mapped}
+use Rattle.vm_step.specs.Passes.{view}
+use Rattle.vm_step.proofs.Alone.{still-alone}
+use Rattle.vm_pool.specs.Known.{KnowsBring}
+use Rattle.vm_pool.proofs.FirstPage.{first-alone, first-free, first-out, sure-on, sure-then}
+use Rattle.vm_pool.proofs.TwoPages.{IsReadyAgain, can-be-read, has-page, other-page, ready-again}
+use Rattle.vm_pool.proofs.two_pages.open_two.Goals as goal
+
+pub returns : goal.returns
+returns g c =
+    let blocks : List Stored = map g.B.Block.stored c.args.blocks.items in
+    let mapped : length blocks ≡ length c.args.blocks.items = length-mapped g.B.Block.stored c.args.blocks.items in
+    let inside : (p : ℕ) → p < c.args.shape.pages → p < length blocks = (λ p l. subst (λ (n : ℕ). p < n) (c.requires.pages ∙ sym mapped) l) in
+    let fits : IsStarted c.args.shape.first_version c.args.shape.next c.args.shape.frames (length blocks) = subst (λ (n : ℕ). IsStarted c.args.shape.first_version c.args.shape.next c.args.shape.frames n) (sym mapped) c.requires.fits in
+    let is = c.in_ok-pool.ensures.view in
+    let in-a = inside c.args.a c.requires.page.0 in
+    let in-b = inside c.args.b c.requires.page.1 in
+    let other : c.args.b ≢ c.args.a = (λ e. c.requires.page.2 (sym e)) in
+    let v0 = view c.in_ok-pool.pass in
+    let v1 = view c.bring-first.new.pass in
+    let v2 = view c.bring-second.new.pass in
+    let alone = first-alone _ _ _ _ blocks _ is in
+    let out-a = first-out _ _ _ _ blocks _ is fits c.args.a in-a c.requires.below in
+    let free = first-free _ _ _ _ blocks _ is fits c.new-iface.result.frames in
+    let knows : KnowsBring 1 c.args.a [] c.bring-first.new.iface.frames v0 v1 c.bring-first.result =
+    subst (λ (n : ℕ). KnowsBring n c.args.a [] c.bring-first.new.iface.frames v0 v1 c.bring-first.result) c.new-iface.ensures.1
+    (subst (λ (l : List ℕ). KnowsBring c.new-iface.result.cap c.args.a l c.bring-first.new.iface.frames v0 v1 c.bring-first.result) c.new-iface.ensures.2 (c.bring-first.ensures.table alone free)) in
+    let again : IsReadyAgain c.args.b c.bring-first.new.iface.frames v1 =
+    ready-again _ _ _ _ blocks _ is fits c.requires.below c.args.a c.args.b c.bring-first.new.iface.frames v1 c.bring-first.result c.requires.frames other in-b c.bring-first.ensures.keeps knows in
+    record {
+      first = sure-then _ _ _ _ blocks _ is c.args.a v1 c.bring-first.result (c.bring-first.ensures.sure alone out-a free);
+      second = sure-on _ _ _ _ blocks _ is c.args.b v1 v2 c.bring-second.result c.bring-first.ensures.keeps.start (c.bring-second.ensures.sure again.alone again.out again.free);
+      word = λ brought.
+          c.read_word-word.ensures.sure (still-alone v1 v2 c.bring-second.ensures.keeps.parts c.bring-second.ensures.keeps.alone.current again.alone)
+          (ap (λ (n : ℕ). is_readable (state_of n))
+          (other-page _ c.args.b c.args.a _ _ v1 v2 c.bring-second.result c.requires.page.2
+          (subst (λ (o : Origin). c.args.a < o.pages) (sym c.bring-first.ensures.keeps.start) (has-page _ _ _ _ blocks _ is fits c.requires.below c.args.a in-a))
+          (c.bring-second.ensures.table again.alone again.free))
+          ∙ can-be-read 1 c.args.a [] c.bring-first.new.iface.frames v0 v1 out-a (subst (KnowsBring 1 c.args.a [] c.bring-first.new.iface.frames v0 v1) brought knows));
+    }
