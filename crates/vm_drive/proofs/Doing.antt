@@ -1,5 +1,5 @@
 -- What a worker has done grows by a call.
-use Rattle.std.proofs.Common.{ℕ, ◌≡◌, ◌+◌, ◌<◌, ◌≤◌, ◌==◌, if◌then◌else◌, List, [], ◌∷◌, ◌++◌, length, Result, Ok, Err, refl, sym, ap, subst, ◌∙◌, arith, append_assoc}
+use Rattle.std.proofs.Common.{ℕ, ◌≡◌, ◌+◌, ◌≤◌, ◌==◌, if◌then◌else◌, List, [], ◌∷◌, ◌++◌, length, Result, Ok, Err, refl, sym, ap, subst, ◌∙◌, arith, append_assoc}
 use Rattle.std.proofs.lemmas.List.{length-append, map-append}
 use Rattle.vm_core.specs.declared.event.Seat.{Seat}
 use Rattle.vm_core.specs.Start.{no_seat}
@@ -9,14 +9,12 @@ use Rattle.vm_map.specs.declared.call.Said.{Said}
 use Rattle.vm_owner.specs.declared.Entry.{Entry}
 use Rattle.vm_rule.specs.declared.view.Did.{Did}
 use Rattle.vm_rule.specs.declared.view.Note.{Note}
-use Rattle.vm_rule.specs.declared.view.Place.{Place}
 use Rattle.vm_rule.specs.declared.view.Put.{Put}
 use Rattle.vm_rule.specs.declared.view.View.{View}
 use Rattle.vm_rule.specs.Puts.{put_at}
 use Rattle.vm_rule.specs.Views.{StartsWith, seat_of}
 use Rattle.vm_rule.specs.Brought.{entry_of}
 use Rattle.vm_rule.proofs.Entries.{append-none, starts-self}
-use Rattle.vm_step.specs.Evidence.{HasGiven}
 use Rattle.vm_exmap.specs.Frames.{MovesFrames}
 use Rattle.vm_tree_laws.specs.History.{saids}
 use Rattle.vm_tree_rule.specs.declared.fault.TreeFault.{TreeFault}
@@ -27,6 +25,7 @@ use Rattle.vm_drive.specs.Holds.{answered}
 use Rattle.vm_drive.specs.Workers.{HasDone}
 use Rattle.vm_drive.specs.Shows.{AreShown}
 use Rattle.vm_drive.proofs.Lists.{starts-then}
+use Rattle.vm_drive.proofs.Tracing.{all-caused, found-later, max-later}
 use Rattle.vm_drive.proofs.Showing.{are-shown-more, shown-snoc}
 
 -- ---- notes
@@ -42,16 +41,6 @@ pub faults-both : (p : ℕ) (a b : List (Result Reply TreeFault)) → faults_of 
 faults-both p [] b = omega arith
 faults-both p (r ∷ rs) b = let h : faults_of p (rs ++ b) ≡ faults_of p rs + faults_of p b = faults-both p rs b in omega arith
 
--- what was found stays found
-pub given-more : (l m : List Did) (at : Place) (word : ℕ) → StartsWith l m → HasGiven m at word → HasGiven l at word
-given-more l m at word s h = record {
-  earlier = h.earlier;
-  step = h.step;
-  later = h.later ++ s.0;
-  cut = s.1 ∙ ap (λ (y : List Did). y ++ s.0) h.cut ∙ append_assoc h.earlier (h.step ∷ h.later) s.0;
-  gives = h.gives;
-}
-
 module _ {X : Type 0} where
   -- a new note of a page is one more
   pub noted-more : (p q count : ℕ) (v w : View X) → HasNoted q count v w → notes_of p v.notes + (if q == p then 1 else 0) ≤ notes_of p w.notes
@@ -60,17 +49,6 @@ module _ {X : Type 0} where
       let all : notes_of p w.notes ≡ notes_of p v.notes + notes_of p (n.before ++ one ∷ n.after) = ap (notes_of p) n.grew ∙ notes-both p v.notes (n.before ++ one ∷ n.after) in
       let new : notes_of p (n.before ++ one ∷ n.after) ≡ notes_of p n.before + ((if q == p then 1 else 0) + notes_of p n.after) = notes-both p n.before (one ∷ n.after) in
       omega arith
-
-  -- ---- what was found stays found
-
-  pub found-more : (pages : ℕ) (v w : View X) → KeepsPass v w → FoundFull v pages → FoundFull w pages
-  found-more pages v w k f = (
-    f.0 ∙ ap (λ s. s.pages) (sym k.start),
-    record { found = f.1.found; given = given-more w.log v.log _ f.1.found k.log f.1.given; high = f.1.high },
-  )
-
-  pub max-more : (p : ℕ) (v w : View X) → KeepsPass v w → FoundWorn v p → FoundWorn w p
-  max-more p v w k m = record { inside = subst (λ s. p < s.pages) (sym k.start) m.inside; word = m.word; given = given-more w.log v.log _ m.word k.log m.given; last = m.last }
 
   -- ---- passes
 
@@ -109,17 +87,6 @@ module _ {X : Type 0} where
   }
 
 -- ---- lists of calls with their answers
-
-pub caused-by : (full worn full' worn' : ℕ → Type 0) → ((n : ℕ) → full n → full' n) → ((n : ℕ) → worn n → worn' n) → (c : Call) (r : Result Reply TreeFault) → CausedBy full worn c r → CausedBy full' worn' c r
-caused-by full worn full' worn' f g c (Ok reply) h = tt
-caused-by full worn full' worn' f g c (Err (Device p count)) h = tt
-caused-by full worn full' worn' f g c (Err (Full pages)) h = (h.0, f pages h.1)
-caused-by full worn full' worn' f g c (Err (Worn p)) h = g p h
-
-pub all-caused : (full worn full' worn' : ℕ → Type 0) → ((n : ℕ) → full n → full' n) → ((n : ℕ) → worn n → worn' n) → (cs : List Call) (rs : List (Result Reply TreeFault)) → AreCausedBy full worn cs rs → AreCausedBy full' worn' cs rs
-all-caused full worn full' worn' f g [] rs h = tt
-all-caused full worn full' worn' f g (c ∷ cs) [] h = tt
-all-caused full worn full' worn' f g (c ∷ cs) (r ∷ rs) h = (caused-by full worn full' worn' f g c r h.0, all-caused full worn full' worn' f g cs rs h.1)
 
 caused-snoc : (full worn : ℕ → Type 0) (cs : List Call) (rs : List (Result Reply TreeFault)) (c : Call) (r : Result Reply TreeFault) → length rs ≡ length cs → AreCausedBy full worn cs rs → CausedBy full worn c r → AreCausedBy full worn (cs ++ c ∷ []) (rs ++ r ∷ [])
 caused-snoc full worn [] [] c r e h k = (k, tt)
@@ -189,7 +156,7 @@ done-more cs rs c r v w x d k a =
           let new : notes_of p w.notes + is_fault p r ≤ notes_of p x.notes = one.faults p in
           let all : faults_of p (rs ++ r ∷ []) ≡ faults_of p rs + (is_fault p r + 0) = faults-both p rs (r ∷ []) in
           omega arith;
-      caused = caused-snoc (FoundFull x) (FoundWorn x) cs rs c r d.long (all-caused (FoundFull w) (FoundWorn w) (FoundFull x) (FoundWorn x) (λ n. found-more n w x k) (λ p. max-more p w x k) cs rs d.caused) one.caused;
+      caused = caused-snoc (FoundFull x) (FoundWorn x) cs rs c r d.long (all-caused (FoundFull w) (FoundWorn w) (FoundFull x) (FoundWorn x) (λ n. found-later w x n k.start k.log) (λ p. max-later w x p k.start k.log) cs rs d.caused) one.caused;
       shown = shown-snoc x cs rs c r d.long (are-shown-more w x k.start k.seen cs rs d.shown) one.shown;
     }
 
@@ -202,6 +169,6 @@ done-moved cs rs v w x steps d m =
       long = d.long;
       mine = ap (λ (l : List (Entry Said)). saids l) m.mine ∙ d.mine;
       faults = λ p. let h : notes_of p v.notes + faults_of p rs ≤ notes_of p w.notes = d.faults p in let s : notes_of p x.notes ≡ notes_of p w.notes = ap (notes_of p) m.notes in omega arith;
-      caused = all-caused (FoundFull w) (FoundWorn w) (FoundFull x) (FoundWorn x) (λ n. found-more n w x k) (λ p. max-more p w x k) cs rs d.caused;
+      caused = all-caused (FoundFull w) (FoundWorn w) (FoundFull x) (FoundWorn x) (λ n. found-later w x n k.start k.log) (λ p. max-later w x p k.start k.log) cs rs d.caused;
       shown = are-shown-more w x k.start k.seen cs rs d.shown;
     }

@@ -27,8 +27,8 @@ use Rattle.vm_drive.proofs.Lists.{all-in, behind, each-both-of, each-right, has-
 use Rattle.vm_drive.proofs.Crews.{room-long}
 use Rattle.vm_drive.specs.Shows.{AllShown, AreShown}
 use Rattle.vm_drive.proofs.Showing.{are-shown-more}
-use Rattle.vm_drive.proofs.Doing.{all-caused}
-use Rattle.vm_drive.proofs.Tracing.{lists-caused, used-up, worn-out}
+use Rattle.vm_drive.proofs.Tracing.{all-caused, lists-caused, used-up, worn-out}
+use Rattle.vm_drive.proofs.Framing.{none-left}
 use Rattle.vm_drive.proofs.Hiring.{all-then, holds-none}
 
 -- the number and the causes of one worker, in the terms of the joined pass
@@ -203,6 +203,7 @@ module _ (shape : Shape) (tells : Bool) (t : TableId) where
       record {
         alone = (alone, j.current);
         holds = none;
+        frames = λ f. j.frames f ∙ ap (λ l. has f l) h.frames;
         start = kept.start;
         seen = kept.seen;
         legal = λ told. (j.knows.stands told alone none).legal;
@@ -254,6 +255,7 @@ module _ (shape : Shape) (tells : Bool) (t : TableId) where
     record {
       ready = a.0.ready;
       holds = a.0.holds;
+      frames = none-left o.iface.frames (view o.pass) (view n.pass) new.0.frames a.0.lost;
       parts = (a.0.done.keeps.parts.0 ∙ new.0.parts.0 ∙ ap (λ k. k ∷ []) (sym (same-number c o n a.0)), a.0.done.keeps.parts.1 ∙ new.0.parts.1);
       start = a.0.done.keeps.start ∙ new.0.start ∙ sym start;
     },

@@ -78,6 +78,7 @@ module _ (shape : Shape) (tells : Bool) (t : TableId) where
     notes = refl;
     log = starts-self v.log;
     used = refl;
+    frames = refl;
     count = omega arith;
     parts = λ k. omega arith;
     apart = tt;
@@ -102,6 +103,7 @@ module _ (shape : Shape) (tells : Bool) (t : TableId) where
         start = ap (λ (y : View Said). y.start) is ∙ kept.start;
         said = ap (λ (y : View Said). y.mine) is;
         noted = ap (λ (y : View Said). y.notes) is;
+        frames = ap (λ (y : View Said). y.frames) is;
       }
 
   pub hired-more : 1 ≤ shape.pages → (rooms : List (Vec (Result Reply TreeFault) Global)) (v : View Said) (ds : List Worker) (w x : View Said) (d : Worker)
@@ -120,6 +122,7 @@ module _ (shape : Shape) (tells : Bool) (t : TableId) where
         notes = still.notes ∙ h.notes;
         log = starts-then x.log w.log v.log still.log h.log;
         used = still.used ∙ h.used;
+        frames = still.frames.0 ∙ h.frames;
         count = (let before = h.count in let fewer : length w.fresh ≡ length (number_of d ∷ x.fresh) = ap length fresh in let more : length (ds ++ d ∷ []) ≡ length ds + 1 = length-append ds (d ∷ []) in omega arith);
         parts = λ k.
             let before : owns k v ≡ owns k w + times k (numbers_of ds) = h.parts k in

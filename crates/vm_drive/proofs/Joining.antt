@@ -1,5 +1,5 @@
 -- One worker's pass more is joined.
-use Rattle.std.proofs.Common.{ℕ, Bool, ◌≡◌, ◌⊎◌, ◌+◌, ◌≤◌, List, [], ◌∷◌, ◌++◌, length, sym, ap, subst, ◌∙◌, arith, ⊎_elim, append_assoc}
+use Rattle.std.proofs.Common.{ℕ, Bool, false, ◌≡◌, ◌⊎◌, ◌+◌, ◌≤◌, List, [], ◌∷◌, ◌++◌, length, sym, ap, subst, ◌∙◌, arith, ⊎_elim, append_assoc}
 use Rattle.std.proofs.lemmas.List.{map-append}
 use Rattle.vm_map.specs.declared.call.Said.{Said}
 use Rattle.vm_owner.specs.declared.Entry.{Entry}
@@ -16,6 +16,7 @@ use Rattle.vm_drive.specs.Causes.{notes_of}
 use Rattle.vm_drive.specs.Crews.{AreJoined, IsIn, all_notes_of, number_of, numbers_of}
 use Rattle.vm_drive.proofs.Lists.{starts-then, each-snoc, has-left, has-last, nested, nested-one, times-both}
 use Rattle.vm_drive.proofs.Doing.{notes-both}
+use Rattle.vm_drive.proofs.Framing.{none-added}
 use Rattle.vm_drive.proofs.Hiring.{all-then}
 
 all-notes-snoc : (p : ℕ) (ds : List Worker) (d : Worker) → all_notes_of p (ds ++ d ∷ []) ≡ all_notes_of p ds + notes_of p (view d.pass).notes
@@ -55,8 +56,8 @@ module _ (tells : Bool) (x : View Said) where
   abbrev pub JoinedSoFar : List Worker → View Said → Type 0
   JoinedSoFar ds w = ((ds ≡ []) × (w ≡ x)) ⊎ AreJoined tells x ds w
 
-  first-joined : (w : View Said) (d : Worker) → Joins tells Keeps x (view d.pass) w → (view d.pass).used ≡ number_of d ∷ [] → (view d.pass).fresh ≡ [] → (view d.pass).start ≡ x.start → AreJoined tells x (d ∷ []) w
-  first-joined w d j one none start = record {
+  first-joined : (w : View Said) (d : Worker) → Joins tells Keeps x (view d.pass) w → (view d.pass).used ≡ number_of d ∷ [] → (view d.pass).fresh ≡ [] → (view d.pass).start ≡ x.start → ((f : ℕ) → has f (view d.pass).frames ≡ false) → AreJoined tells x (d ∷ []) w
+  first-joined w d j one none start bare = record {
     kept = j.kept;
     current = j.current;
     used = j.used ∙ ap (λ (l : List ℕ). x.used ++ l) one;
@@ -66,14 +67,15 @@ module _ (tells : Bool) (x : View Said) where
         let no : times k (view d.pass).fresh ≡ 0 = ap (times k) none in
         omega arith;
     notes = λ p. let h : notes_of p w.notes ≡ notes_of p x.notes + notes_of p (view d.pass).notes = ap (notes_of p) j.notes ∙ notes-both p x.notes (view d.pass).notes in omega arith;
+    frames = none-added x (view d.pass) w j.frames bare;
     mine = j.mine;
     ours = j.ours;
     each = (comes-in tells x w d j one start, tt);
     knows = j.knows;
   }
 
-  next-joined : (ds : List Worker) (v w : View Said) (d : Worker) → AreJoined tells x ds v → Joins tells Keeps v (view d.pass) w → (view d.pass).used ≡ number_of d ∷ [] → (view d.pass).fresh ≡ [] → (view d.pass).start ≡ x.start → AreJoined tells x (ds ++ d ∷ []) w
-  next-joined ds v w d a j one none start =
+  next-joined : (ds : List Worker) (v w : View Said) (d : Worker) → AreJoined tells x ds v → Joins tells Keeps v (view d.pass) w → (view d.pass).used ≡ number_of d ∷ [] → (view d.pass).fresh ≡ [] → (view d.pass).start ≡ x.start → ((f : ℕ) → has f (view d.pass).frames ≡ false) → AreJoined tells x (ds ++ d ∷ []) w
+  next-joined ds v w d a j one none start bare =
       let numbers : numbers_of (ds ++ d ∷ []) ≡ numbers_of ds ++ number_of d ∷ [] = map-append number_of ds (d ∷ []) in
       record {
         kept = all-then x v w a.kept j.kept;
@@ -91,6 +93,7 @@ module _ (tells : Bool) (x : View Said) where
             let before : notes_of p v.notes ≡ notes_of p x.notes + all_notes_of p ds = a.notes p in
             let more : all_notes_of p (ds ++ d ∷ []) ≡ all_notes_of p ds + notes_of p (view d.pass).notes = all-notes-snoc p ds d in
             omega arith;
+        frames = λ f. none-added v (view d.pass) w j.frames bare f ∙ a.frames f;
         mine = j.mine;
         ours =
             sym (nested x.used v.used w.seen (λ k t. ap (λ (l : List ℕ). has k l) a.used ∙ has-left k x.used (numbers_of ds) t))
@@ -101,11 +104,11 @@ module _ (tells : Bool) (x : View Said) where
         knows = j.knows;
       }
 
-  pub joined-more : (ds : List Worker) (v w : View Said) (d : Worker) → JoinedSoFar ds v → Joins tells Keeps v (view d.pass) w → (view d.pass).used ≡ number_of d ∷ [] → (view d.pass).fresh ≡ [] → (view d.pass).start ≡ x.start → AreJoined tells x (ds ++ d ∷ []) w
-  joined-more ds v w d so j one none start =
+  pub joined-more : (ds : List Worker) (v w : View Said) (d : Worker) → JoinedSoFar ds v → Joins tells Keeps v (view d.pass) w → (view d.pass).used ≡ number_of d ∷ [] → (view d.pass).fresh ≡ [] → (view d.pass).start ≡ x.start → ((f : ℕ) → has f (view d.pass).frames ≡ false) → AreJoined tells x (ds ++ d ∷ []) w
+  joined-more ds v w d so j one none start bare =
       ⊎_elim
-      (λ n. subst (λ (l : List Worker). AreJoined tells x (l ++ d ∷ []) w) (sym n.0) (first-joined w d (subst (λ (y : View Said). Joins tells Keeps y (view d.pass) w) n.1 j) one none start))
-      (λ a. next-joined ds v w d a j one none start)
+      (λ n. subst (λ (l : List Worker). AreJoined tells x (l ++ d ∷ []) w) (sym n.0) (first-joined w d (subst (λ (y : View Said). Joins tells Keeps y (view d.pass) w) n.1 j) one none start bare))
+      (λ a. next-joined ds v w d a j one none start bare)
       so
 
   -- some were joined, so these

@@ -1,7 +1,13 @@
 pub mod Lists
 pub mod Showing
-pub mod Doing
 pub mod Tracing
+pub mod Doing
+pub mod Framing
+pub mod Keeping
+pub mod Finding
+pub mod Sweeping
+pub mod Bringing
+pub mod Rooms
 pub mod Answering
 pub mod Hiring
 pub mod Joining

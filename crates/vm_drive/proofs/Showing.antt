@@ -1,5 +1,5 @@
 -- What a window shows it shows in each later view of the pass, and of the pass that took it in.
-use Rattle.std.proofs.Common.{◌≡◌, ◌+◌, List, [], ◌∷◌, ◌++◌, length, Result, Ok, Err, sym, ap, subst, ◌∙◌, arith}
+use Rattle.std.proofs.Common.{◌≡◌, List, [], ◌∷◌, ◌++◌, length, Result, Ok, Err, sym, ap, subst, ◌∙◌, arith}
 use Rattle.vm_map.specs.declared.call.Call.{Call}
 use Rattle.vm_map.specs.declared.call.Call.TheVariants.{Get, Put, Del, Window}
 use Rattle.vm_map.specs.declared.call.Reply.{Reply}
@@ -18,6 +18,10 @@ of-leaf-more said v w start seen l = record {
   kept = l.kept;
   keeps = subst (λ (o : Origin). Keeps (began_of o) l.kept) (sym start) l.keeps;
   history = starts-then w.seen v.seen l.kept.history seen l.history;
+  earlier = l.earlier;
+  entry = l.entry;
+  step = l.step;
+  says = l.says;
   page = l.page;
   leaf = l.leaf;
   proved = l.proved;

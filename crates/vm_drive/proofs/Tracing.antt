@@ -1,16 +1,39 @@
 -- From what steps found to what is so at the end.
-use Rattle.std.proofs.Common.{ℕ, ◌≡◌, ◌+◌, ◌<◌, ◌≤◌, List, [], ◌∷◌, Result, sym, ap, subst, ◌∙◌, arith}
+use Rattle.std.proofs.Common.{ℕ, ◌≡◌, ◌+◌, ◌<◌, ◌≤◌, List, [], ◌∷◌, ◌++◌, Result, sym, ap, subst, ◌∙◌, arith, append_assoc, Ok, Err}
 use Rattle.vm_core.specs.Words.{MAX_VERSION, version_of}
+use Rattle.vm_drive.specs.Causes.{AllCausedBy, FoundFull, FoundWorn, AreCausedBy, CausedBy}
 use Rattle.vm_map.specs.declared.call.Call.{Call}
 use Rattle.vm_map.specs.declared.call.Reply.{Reply}
-use Rattle.vm_rule.specs.declared.view.Place.TheVariants as places
-use Rattle.vm_rule.specs.declared.view.View.{View}
 use Rattle.vm_rule.specs.Reading.{last_of}
 use Rattle.vm_rule.specs.Views.{StartsWith}
+use Rattle.vm_rule.specs.declared.view.Did.{Did}
+use Rattle.vm_rule.specs.declared.view.Place.TheVariants as places
+use Rattle.vm_rule.specs.declared.view.Place.{Place}
+use Rattle.vm_rule.specs.declared.view.View.{View}
 use Rattle.vm_step.specs.Evidence.{HasGiven}
+use Rattle.vm_tree_rule.specs.declared.fault.TreeFault.TheVariants.{Device, Full, Worn}
 use Rattle.vm_tree_rule.specs.declared.fault.TreeFault.{TreeFault}
-use Rattle.vm_drive.specs.Causes.{AllCausedBy, FoundFull, FoundWorn}
-use Rattle.vm_drive.proofs.Doing.{all-caused, given-more}
+
+-- what was found stays found
+pub given-more : (l m : List Did) (at : Place) (word : ℕ) → StartsWith l m → HasGiven m at word → HasGiven l at word
+given-more l m at word s h = record {
+  earlier = h.earlier;
+  step = h.step;
+  later = h.later ++ s.0;
+  cut = s.1 ∙ ap (λ (y : List Did). y ++ s.0) h.cut ∙ append_assoc h.earlier (h.step ∷ h.later) s.0;
+  gives = h.gives;
+}
+
+pub caused-by : (full worn full' worn' : ℕ → Type 0) → ((n : ℕ) → full n → full' n) → ((n : ℕ) → worn n → worn' n) → (c : Call) (r : Result Reply TreeFault) → CausedBy full worn c r → CausedBy full' worn' c r
+caused-by full worn full' worn' f g c (Ok reply) h = tt
+caused-by full worn full' worn' f g c (Err (Device p count)) h = tt
+caused-by full worn full' worn' f g c (Err (Full pages)) h = (h.0, f pages h.1)
+caused-by full worn full' worn' f g c (Err (Worn p)) h = g p h
+
+pub all-caused : (full worn full' worn' : ℕ → Type 0) → ((n : ℕ) → full n → full' n) → ((n : ℕ) → worn n → worn' n) → (cs : List Call) (rs : List (Result Reply TreeFault)) → AreCausedBy full worn cs rs → AreCausedBy full' worn' cs rs
+all-caused full worn full' worn' f g [] rs h = tt
+all-caused full worn full' worn' f g (c ∷ cs) [] h = tt
+all-caused full worn full' worn' f g (c ∷ cs) (r ∷ rs) h = (caused-by full worn full' worn' f g c r h.0, all-caused full worn full' worn' f g cs rs h.1)
 
 pub lists-caused : (full worn full' worn' : ℕ → Type 0) → ((n : ℕ) → full n → full' n) → ((n : ℕ) → worn n → worn' n) → (lists : List (List Call)) (answers : List (List (Result Reply TreeFault))) → AllCausedBy full worn lists answers → AllCausedBy full' worn' lists answers
 lists-caused full worn full' worn' f g [] answers h = tt

@@ -18,6 +18,7 @@ use Rattle.vm_step.specs.Ready.{IsReady}
 use Rattle.vm_step.specs.Whole.{KnowsAll}
 use Rattle.vm_tree_rule.specs.declared.fault.TreeFault.{TreeFault}
 use Rattle.vm_pool.specs.Parting.{KeepsAll}
+use Rattle.vm_tree_read.specs.Waiting.{LosesNone}
 use Rattle.vm_drive.specs.declared.worker.Worker.{Worker}
 use Rattle.vm_drive.specs.Causes.{notes_of}
 use Rattle.vm_drive.specs.Workers.{IsAtWork, HasDone}
@@ -37,7 +38,7 @@ abbrev pub numbers_of : List Worker → List ℕ
 numbers_of workers = map number_of workers
 
 module _ (shape : Shape) (tells : Bool) (t : TableId) where
-  -- the worker has a part of its own, and has done nothing
+  -- the worker has a part of its own, no frame, and has done nothing
   pub record IsNew (v : View Said) (worker : Worker) : Type 0 where
     pub work : IsAtWork shape tells t worker
     pub holds : HoldsNoPage (view worker.pass)
@@ -45,6 +46,7 @@ module _ (shape : Shape) (tells : Bool) (t : TableId) where
     pub start : (view worker.pass).start ≡ v.start
     pub said : (view worker.pass).mine ≡ []
     pub noted : (view worker.pass).notes ≡ []
+    pub frames : (view worker.pass).frames ≡ []
 
   -- The pass with the view v, which then has the view w, gave a part to each of these workers, who have these rooms for answers
   pub record AreHired (rooms : List (Vec (Result Reply TreeFault) Global)) (v : View Said) (workers : List Worker) (w : View Said) : Type 0 where
@@ -53,6 +55,7 @@ module _ (shape : Shape) (tells : Bool) (t : TableId) where
     pub notes : w.notes ≡ v.notes
     pub log : StartsWith w.log v.log
     pub used : w.used ≡ v.used
+    pub frames : w.frames ≡ v.frames
     pub count : length v.fresh ≡ length workers + length w.fresh
     pub parts : (k : ℕ) → owns k v ≡ owns k w + times k (numbers_of workers)
     pub apart : AreApart (numbers_of workers)
@@ -76,11 +79,12 @@ module _ (shape : Shape) (tells : Bool) (t : TableId) where
   AreIdle (calls ∷ lists) [] = ⊥
   AreIdle (calls ∷ lists) (worker ∷ workers) = IsIdle calls worker × AreIdle lists workers
 
-  -- the worker has made the calls and holds no page
+  -- the worker has made the calls, holds no page, and has no frame but those that it had and its interface did not
   pub record HasWorked (calls : List Call) (old new : Worker) : Type 0 where
     pub ready : IsReady shape tells t new.pass
     pub holds : HoldsNoPage (view new.pass)
     pub done : HasDone calls new.answers.items (view old.pass) (view new.pass)
+    pub lost : LosesNone old.iface.frames (view old.pass) [] (view new.pass)
 
   -- so has each worker
   abbrev pub AllWorked : List (List Call) → List Worker → List Worker → Type 0
@@ -108,22 +112,24 @@ pub record IsIn (w : View Said) (worker : Worker) : Type 0 where
   pub start : (view worker.pass).start ≡ w.start
   pub heard : StartsWith w.seen (view worker.pass).seen
 
--- The passes of the workers went into the pass that had the view x and has the view w
+-- The passes of the workers, which had no frame, went into the pass that had the view x and has the view w
 pub record AreJoined (tells : Bool) (x : View Said) (workers : List Worker) (w : View Said) : Type 0 where
   pub kept : KeepsAll x w
   pub current : w.current ≡ true
   pub used : w.used ≡ x.used ++ numbers_of workers
   pub parts : (k : ℕ) → owns k w ≡ owns k x + times k (numbers_of workers)
   pub notes : (p : ℕ) → notes_of p w.notes ≡ notes_of p x.notes + all_notes_of p workers
+  pub frames : (f : ℕ) → has f w.frames ≡ has f x.frames
   pub mine : w.mine ≡ entries_by w.used w.seen
   pub ours : entries_by x.used w.seen ≡ x.mine
   pub each : Each (IsIn w) workers
   pub knows : KnowsAll tells Keeps w
 
 module _ (shape : Shape) (tells : Bool) (t : TableId) where
-  -- the worker is back: its pass holds no page, and has one part, its number
+  -- the worker is back: its pass holds no page and no frame, and has one part, its number
   pub record IsBack (x : View Said) (worker : Worker) : Type 0 where
     pub ready : IsReady shape tells t worker.pass
     pub holds : HoldsNoPage (view worker.pass)
+    pub frames : (f : ℕ) → has f (view worker.pass).frames ≡ false
     pub parts : ((view worker.pass).used ≡ number_of worker ∷ []) × ((view worker.pass).fresh ≡ [])
     pub start : (view worker.pass).start ≡ x.start

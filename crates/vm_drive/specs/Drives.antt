@@ -8,6 +8,7 @@ use Rattle.vm_map.specs.declared.call.Reply.{Reply}
 use Rattle.vm_map.specs.declared.call.Said.{Said}
 use Rattle.vm_map.specs.History.{IsAskable}
 use Rattle.vm_owner.specs.declared.Entry.{Entry}
+use Rattle.vm_owner.specs.Numbers.{has}
 use Rattle.vm_rule.specs.Joins.{HoldsNoPage}
 use Rattle.vm_rule.specs.declared.view.View.{View}
 use Rattle.vm_rule.specs.Reading.{last_of}
@@ -42,12 +43,14 @@ abbrev pub IsWornOut : View Said → ℕ → Type 0
 IsWornOut w p = MAX_VERSION ≤ (last_of w p).version
 
 -- The workers have made the calls of their lists, with these answers, and their passes went into the one that had the view v and has the
--- view w: it is whole again and holds no page. What it has seen begins with what it had seen, is legal, and is all its own. Its own entries
+-- view w: it is whole again, holds no page, and has just the frames that it had. What it has seen begins with what it had seen, is legal, and is all its own. Its own entries
 -- grew by just the lists' calls that had a reply, each list in order under a number of its own. Each fault of a device has its own new note
 -- of the page; each other fault has its cause, and each window is a leaf's
 pub record IsDriven (tells : Bool) (lists : List (List Call)) (answers : List (List (Result Reply TreeFault))) (v w : View Said) : Type 0 where
   pub alone : IsAlone w
   pub holds : HoldsNoPage w
+  -- so no frame is lost: each worker's went back to the bundles
+  pub frames : (f : ℕ) → has f w.frames ≡ has f v.frames
   pub start : w.start ≡ v.start
   pub seen : StartsWith w.seen v.seen
   pub legal : tells ≡ true → IsLegal (map_of w.start.contents) w.seen

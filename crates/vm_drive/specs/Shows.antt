@@ -1,9 +1,10 @@
 -- The windows among workers' answers: each shows what the leaf that covers its start does.
-use Rattle.std.specs.Prelude.{ℕ, true, List, [], ◌∷◌, ◌≡◌, Result, Ok, Err}
+use Rattle.std.specs.Prelude.{ℕ, true, List, [], ◌∷◌, ◌++◌, ◌≡◌, Result, Ok, Err}
 use Rattle.vm_map.specs.declared.call.Call.{Call}
 use Rattle.vm_map.specs.declared.call.Call.TheVariants.{Get, Put, Del, Window}
 use Rattle.vm_map.specs.declared.call.Reply.{Reply}
 use Rattle.vm_map.specs.declared.call.Said.{Said}
+use Rattle.vm_owner.specs.declared.Entry.{Entry}
 use Rattle.vm_owner.specs.Kept.{Kept}
 use Rattle.vm_page.specs.Pages.{page_at}
 use Rattle.vm_rule.specs.declared.view.View.{View}
@@ -14,11 +15,16 @@ use Rattle.vm_tree_laws.specs.Keeps.{Keeps}
 use Rattle.vm_tree_laws.specs.May.{IsProved}
 use Rattle.vm_tree_rule.specs.declared.fault.TreeFault.{TreeFault}
 
--- the reply is what a leaf shows: one of the tree's pages at a step of the history, which the pass knows
+-- the reply is what a leaf shows: one of the tree's pages at the step that made the call with this reply an entry of the history, which the pass
+-- knows
 pub record IsOfLeaf (said : Said) (v : View Said) : Type 0 where
   pub kept : Kept Said
   pub keeps : Keeps (began_of v.start) kept
   pub history : StartsWith v.seen kept.history
+  pub earlier : List (Entry Said)
+  pub entry : Entry Said
+  pub step : kept.history ≡ earlier ++ entry ∷ []
+  pub says : entry.said ≡ said
   pub page : ℕ
   pub leaf : (node_of (page_at kept.pages page)).tag ≡ 2
   pub proved : IsProved (page_at kept.pages page) said.call said.reply

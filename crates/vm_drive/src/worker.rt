@@ -8,6 +8,7 @@ ghost use Rattle.vm_map.specs.History.{IsAskable};
 ghost use Rattle.vm_rule.specs.Joins.{HoldsNoPage};
 ghost use Rattle.vm_step.specs.Passes.{view};
 ghost use Rattle.vm_step.specs.Ready.{IsReady};
+ghost use Rattle.vm_tree_read.specs.Waiting.{LosesNone};
 ghost use Rattle.vm_drive.specs.Calls.{IsCalled, KeepsPass};
 ghost use Rattle.vm_drive.specs.Workers.{HasDone, IsAtWork};
 
@@ -50,6 +51,7 @@ fn answer<R: Wait, B: Block>(
     ensures keeps { KeepsPass (view pass.old) (view pass.new) }
     ensures call { IsCalled call.now result (view pass.old) (view pass.new) }
     ensures held { AreHeld iface.new.frames (view pass.new) }
+    ensures lost { LosesNone iface.old.frames (view pass.old) iface.new.frames (view pass.new) }
 {
     match *call {
         Call::Get { key } => get(rt, pool, pass, iface, key),
@@ -74,6 +76,7 @@ fn call_all<R: Wait, B: Block, G: Gate>(
     requires askable { AllByRecursion IsAskable calls.now }
     ensures work { IsAtWork pool.now.words.table.shared.key B.tells pool.now.words.table.shared.table_id worker.new }
     ensures done { HasDone calls.now worker.new.answers.items (view worker.old.pass) (view worker.new.pass) }
+    ensures lost { LosesNone worker.old.iface.frames (view worker.old.pass) worker.new.iface.frames (view worker.new.pass) }
 {
     let mut count = 0u32;
     'calls: for call in calls {
@@ -104,6 +107,7 @@ pub fn work<R: Wait, B: Block, G: Gate>(
     ensures ready { IsReady pool.now.words.table.shared.key B.tells pool.now.words.table.shared.table_id worker.new.pass }
     ensures holds { HoldsNoPage (view worker.new.pass) }
     ensures done { HasDone calls.now worker.new.answers.items (view worker.old.pass) (view worker.new.pass) }
+    ensures lost { LosesNone worker.old.iface.frames (view worker.old.pass) [] (view worker.new.pass) }
 {
     call_all(rt, pool, gate, number, calls, worker);
     worker.iface.give_all(&pool.words, &mut worker.pass);

@@ -1,15 +1,22 @@
--- As many notes of a page as its block can have faults: each has another count.
-use Rattle.std.proofs.Common.{ℕ, zero, suc, true, false, ◌≡◌, ◌≢◌, ◌+◌, ◌<◌, ◌≤◌, ◌==◌, List, [], ◌∷◌, length, refl, arith, ⊎_elim, nat_eq}
+-- As many notes of a page as its block can have faults: each has another count. No more faults than different entries of the plan.
+use Rattle.std.proofs.Common.{ℕ, zero, suc, true, false, ◌≡◌, ◌≢◌, ◌+◌, ◌<◌, ◌≤◌, ◌==◌, ◌||◌, Bool, cond, List, [], ◌∷◌, length, refl, sym, ap, ◌∙◌, arith, ⊎_elim, nat_eq}
 use Rattle.std.proofs.lemmas.Bool.{cases_eq, cases_Bool, eq-eqb, ne_eqb}
 use Rattle.std.proofs.lemmas.Map.Made.{distinct_count-le}
-use Rattle.std.specs.Set.{distinct_count}
+use Rattle.std.proofs.lemmas.List.Sums.{sum_by-cons}
+use Rattle.std.specs.List.{sum_by}
+use Rattle.std.specs.Set.{distinct_count, is_member, unique_keys}
+use Rattle.vm_block.specs.declared.stored.Stored.{Stored}
 use Rattle.vm_block.specs.Plans.{most_faults}
 use Rattle.vm_image.specs.Blocks.{numbers_for}
 use Rattle.vm_image.specs.declared.blocks.PlannedFault.{PlannedFault}
 use Rattle.vm_rule.specs.declared.view.Note.{Note}
+use Rattle.vm_core.specs.Fn.{at}
 use Rattle.vm_core.specs.Words.{MAX_COUNT}
+use Rattle.vm_pool.specs.Closing.{AreSums}
+use Rattle.vm_rule.specs.Reading.{no_block}
 use Rattle.vm_rule.specs.Views.{times_noted}
 use Rattle.vm_drive.specs.Causes.{notes_of}
+use Rattle.vm_serve.specs.Served.{TreeEnd, distinct_entries, same_entry}
 
 -- how many notes of page p have one of the counts up to b
 sum_times : ℕ → ℕ → List Note → ℕ
@@ -83,3 +90,81 @@ small-plan p plan few =
     let a : length (numbers_for plan p) ≤ length plan = fewer-of p plan in
     let d : distinct_count nat_eq (numbers_for plan p) ≤ length (numbers_for plan p) = distinct_count-le nat_eq (numbers_for plan p) in
     omega arith
+
+-- ---- the plan's different entries, page by page
+
+-- the sum of g 0 to g (n - 1)
+abbrev sum_of : ℕ → (ℕ → ℕ) → ℕ
+sum_of zero g = 0
+sum_of (suc n) g = g 0 + sum_of n (λ p. g (suc p))
+
+sum-zero : (n : ℕ) → sum_of n (λ p. 0) ≤ 0
+sum-zero zero = omega arith
+sum-zero (suc n) = let rest : sum_of n (λ p. 0) ≤ 0 = sum-zero n in omega arith
+
+sum-le : (n : ℕ) (g h : ℕ → ℕ) → ((p : ℕ) → h p ≤ g p) → sum_of n h ≤ sum_of n g
+sum-le zero g h f = omega arith
+sum-le (suc n) g h f =
+    let first : h 0 ≤ g 0 = f 0 in
+    let rest : sum_of n (λ p. h (suc p)) ≤ sum_of n (λ p. g (suc p)) = sum-le n (λ p. g (suc p)) (λ p. h (suc p)) (λ p. f (suc p)) in
+    omega arith
+
+-- a sum grows by no more than its only term that grows
+sum-more : (n q more : ℕ) (g h : ℕ → ℕ) → ((p : ℕ) → p ≢ q → h p ≤ g p) → h q ≤ g q + more → sum_of n h ≤ sum_of n g + more
+sum-more zero q more g h f l = omega arith
+sum-more (suc n) zero more g h f l =
+    let rest : sum_of n (λ p. h (suc p)) ≤ sum_of n (λ p. g (suc p)) = sum-le n (λ p. g (suc p)) (λ p. h (suc p)) (λ p. f (suc p) (λ e. absurd (omega arith))) in
+    omega arith
+sum-more (suc n) (suc q) more g h f l =
+    let first : h 0 ≤ g 0 = f 0 (λ e. absurd (omega arith)) in
+    let rest : sum_of n (λ p. h (suc p)) ≤ sum_of n (λ p. g (suc p)) + more = sum-more n q more (λ p. g (suc p)) (λ p. h (suc p)) (λ p ne. f (suc p) (λ e. ne (omega arith))) l in
+    omega arith
+
+-- an entry stands in a plan where its number stands among those of its page
+same-entries : (x : PlannedFault) (plan : List PlannedFault) → is_member nat_eq (numbers_for plan x.page) x.number ≡ is_member same_entry plan x
+same-entries x [] = refl
+same-entries x (y ∷ ys) =
+    let rest : is_member nat_eq (numbers_for ys x.page) x.number ≡ is_member same_entry ys x = same-entries x ys in
+    ⊎_elim
+    (λ (here : y.page ≡ x.page). rw (eq-eqb y.page x.page here, eq-eqb x.page y.page (sym here)) (ap (λ b. (x.number == y.number) || b) rest))
+    (λ (ne : y.page ≢ x.page). rw (ne_eqb y.page x.page ne, ne_eqb x.page y.page (λ e. ne (sym e))) rest)
+    (cases_eq y.page x.page)
+
+-- one key more is one more of the different keys, where it did not stand there
+once-more : {K : Type 0} (stands : Bool) (k : K) (keys : List K) → length (cond stands keys (k ∷ keys)) ≡ length keys + cond stands 0 1
+once-more true k keys = omega arith
+once-more false k keys = omega arith
+
+entry-more : (x : PlannedFault) (plan : List PlannedFault) → distinct_count nat_eq (numbers_for (x ∷ plan) x.page) ≡ distinct_count nat_eq (numbers_for plan x.page) + cond (is_member same_entry plan x) 0 1
+entry-more x plan =
+    rw (eq-eqb x.page x.page refl) (once-more (is_member nat_eq (numbers_for plan x.page) x.number) x.number (unique_keys nat_eq (numbers_for plan x.page)) ∙ ap (λ b. distinct_count nat_eq (numbers_for plan x.page) + cond b 0 1) (same-entries x plan))
+
+other-page : (x : PlannedFault) (plan : List PlannedFault) (p : ℕ) → p ≢ x.page → distinct_count nat_eq (numbers_for (x ∷ plan) p) ≤ distinct_count nat_eq (numbers_for plan p)
+other-page x plan p ne = rw (ne_eqb x.page p (λ e. ne (sym e))) (omega arith)
+
+-- the different numbers of each page are together no more than the different entries
+entries-shared : (n : ℕ) (plan : List PlannedFault) → sum_of n (λ p. distinct_count nat_eq (numbers_for plan p)) ≤ distinct_entries plan
+entries-shared n [] = sum-zero n
+entries-shared n (x ∷ xs) =
+    let more : ℕ = cond (is_member same_entry xs x) 0 1 in
+    let rest : sum_of n (λ p. distinct_count nat_eq (numbers_for xs p)) ≤ distinct_entries xs = entries-shared n xs in
+    let own : distinct_count nat_eq (numbers_for (x ∷ xs) x.page) ≤ distinct_count nat_eq (numbers_for xs x.page) + more = omega (arith, entry-more x xs) in
+    let pages : sum_of n (λ p. distinct_count nat_eq (numbers_for (x ∷ xs) p)) ≤ sum_of n (λ p. distinct_count nat_eq (numbers_for xs p)) + more = sum-more n x.page more (λ p. distinct_count nat_eq (numbers_for xs p)) (λ p. distinct_count nat_eq (numbers_for (x ∷ xs) p)) (other-page x xs) own in
+    let all : distinct_entries (x ∷ xs) ≡ distinct_entries xs + more = once-more (is_member same_entry xs x) x (unique_keys same_entry xs) in
+    omega (arith, pages, rest, all)
+
+sum-bounds : (blocks : List Stored) (g : ℕ → ℕ) → ((p : ℕ) → p < length blocks → (at no_block blocks p).bound ≤ g p) → sum_by (λ (b : Stored). b.bound) blocks ≤ sum_of (length blocks) g
+unfolding at
+sum-bounds [] g f = omega arith
+sum-bounds (b ∷ bs) g f =
+    let first : b.bound ≤ g 0 = f 0 (omega arith) in
+    let rest : sum_by (λ (s : Stored). s.bound) bs ≤ sum_of (length bs) (λ p. g (suc p)) = sum-bounds bs (λ p. g (suc p)) (λ p l. f (suc p) (omega arith)) in
+    omega (arith, sum_by-cons (λ (s : Stored). s.bound) b bs)
+
+-- no more calls of the blocks failed than the plan has different entries
+pub few-faults : (blocks : List Stored) (plan : List PlannedFault) (end : TreeEnd) → AreSums blocks end → ((p : ℕ) → p < length blocks → (at no_block blocks p).bound ≡ most_faults (numbers_for plan p)) → end.faults ≤ distinct_entries plan
+few-faults blocks plan end sums bounds =
+    let numbers : ℕ → ℕ = λ p. distinct_count nat_eq (numbers_for plan p) in
+    let each : (p : ℕ) → p < length blocks → (at no_block blocks p).bound ≤ numbers p = λ p l. omega (arith, bounds p l) in
+    let most : sum_by (λ (b : Stored). b.bound) blocks ≤ sum_of (length blocks) numbers = sum-bounds blocks numbers each in
+    omega (arith, sums.faults_are, sums.bounded, most, entries-shared (length blocks) plan)

@@ -1,6 +1,6 @@
 -- What serving comes to, from what was driven, what was flushed and what was closed.
-use Rattle.std.proofs.Common.{ℕ, zero, suc, Bool, true, ◌≡◌, ◌+◌, ◌<◌, ◌≤◌, None, List, [], ◌∷◌, ◌++◌, length, map, Result, replicate, slice_index, slice_index_or, refl, sym, ap, subst, ◌∙◌, arith, ⊎_elim}
-use Rattle.std.proofs.lemmas.Bool.{cases_lt}
+use Rattle.std.proofs.Common.{ℕ, zero, suc, Bool, true, false, ◌≡◌, ◌+◌, ◌<◌, ◌≤◌, Some, None, List, [], ◌∷◌, ◌++◌, length, map, Result, replicate, slice_index, slice_index_or, refl, sym, ap, subst, ◌∙◌, arith, ⊎_elim, inl, inr, true≢false}
+use Rattle.std.proofs.lemmas.Bool.{cases_lt, ne_eqb}
 use Rattle.vm_core.specs.Fn.{at}
 use Rattle.vm_block.specs.declared.memory.MemBlock.{MemBlock}
 use Rattle.vm_block.specs.declared.stored.Stored.{Stored}
@@ -13,6 +13,7 @@ use Rattle.vm_map.specs.History.{after_all}
 use Rattle.vm_map.specs.declared.call.Call.{Call}
 use Rattle.vm_map.specs.declared.call.Reply.{Reply}
 use Rattle.vm_map.specs.declared.call.Said.{Said}
+use Rattle.vm_owner.specs.Numbers.{has}
 use Rattle.vm_owner.specs.declared.Entry.{Entry}
 use Rattle.vm_tree_model.specs.Count.{node_count}
 use Rattle.vm_page.specs.Pages.{page_at}
@@ -30,16 +31,15 @@ use Rattle.vm_rule.specs.Puts.{listed}
 use Rattle.vm_rule.specs.Reading.{no_block, last_of}
 use Rattle.vm_core.specs.Words.{MAX_COUNT}
 use Rattle.vm_rule.specs.Rule.{began_of}
-use Rattle.vm_rule.specs.Fixed.{MayBegin, bounds_of}
-use Rattle.vm_rule.specs.Started.{contents_of, started_origin, started_shape, words_in}
+use Rattle.vm_rule.specs.Started.{MayBegin, bounds_of, contents_of, started_origin, started_shape, words_in}
 use Rattle.vm_rule.specs.Views.{Each, numbers}
 use Rattle.vm_rule.proofs.ListFacts.{at-map, length-mapped, listed-long}
 use Rattle.vm_rule.proofs.Parts.{listed-same}
 use Rattle.vm_rule_laws.specs.Known.{kept_by}
 use Rattle.vm_rule_laws.proofs.Knowing.{owes-nothing}
-use Rattle.vm_evict.specs.Flushes.{IsFlushed, first_noted}
+use Rattle.vm_evict.specs.Flushes.{HasNoLock, IsFlushed, RisesFrom, first_noted, noted_pages}
 use Rattle.vm_evict.specs.declared.flushing.Flushed.{Flushed}
-use Rattle.vm_pool.specs.Closing.{AreSums, IsClosed, view_at_end}
+use Rattle.vm_pool.specs.Closing.{AreSums, IsClosed, IsStored, view_at_end}
 use Rattle.vm_tree_rule.specs.declared.fault.TreeFault.{TreeFault}
 use Rattle.vm_drive.specs.Causes.{notes_of, all_faults_of, FoundFull, FoundWorn}
 use Rattle.vm_drive.specs.Drives.{IsDriven, IsWornOut}
@@ -47,7 +47,7 @@ use Rattle.vm_drive.specs.Holds.{HoldsCalls}
 use Rattle.vm_drive.proofs.Showing.{all-shown-more}
 use Rattle.vm_drive.proofs.Doing.{notes-both}
 use Rattle.vm_drive.proofs.Tracing.{found-later, lists-caused, max-later, used-up, worn-out}
-use Rattle.vm_serve.proofs.Counting.{few-notes, small-plan}
+use Rattle.vm_serve.proofs.Counting.{few-faults, few-notes, small-plan}
 use Rattle.vm_serve.specs.Served.{IsFilled, IsServed, TreeEnd, is_first}
 
 -- the words of the blocks are the start's
@@ -123,6 +123,22 @@ none-first : (notes : List Note) → first_noted notes ≡ None → length notes
 none-first [] e = refl
 none-first (n ∷ ns) e = absurd cc
 
+-- no note is of a page below the first one
+none-below : (q low high : ℕ) (notes : List Note) → RisesFrom low high notes → q < low → has q (noted_pages notes) ≡ false
+none-below q low high [] rises l = refl
+none-below q low high (n ∷ ns) rises l =
+    let first : low ≤ n.page = rises.0 in
+    let rest : has q (noted_pages ns) ≡ false = none-below q (n.page + 1) high ns rises.2 (omega arith) in
+    rw (ne_eqb q n.page (λ e. absurd (omega arith))) rest
+
+first-least : (p q high : ℕ) (notes : List Note) → RisesFrom 0 high notes → first_noted notes ≡ Some p → q < p → (p < high) × (has q (noted_pages notes) ≡ false)
+first-least p q high [] rises e l = absurd cc
+first-least p q high (n ∷ ns) rises e l =
+    let is : n.page ≡ p = cc in
+    let rest : has q (noted_pages ns) ≡ false = none-below q (n.page + 1) high ns rises.2 (omega arith) in
+    let below : n.page < high = rises.1 in
+    (omega arith, rw (ne_eqb q n.page (λ e. absurd (omega arith))) rest)
+
 -- the blocks hold the pages that these words are
 blocks-hold : (blocks : List MemBlock) (n : ℕ) (words : ℕ → List ℕ) → length blocks ≡ n → ((p : ℕ) → p < n → (at no_block (map stored_of blocks) p).words ≡ words p) → pages_of_blocks blocks ≡ listed n words
 blocks-hold blocks n words long each =
@@ -166,9 +182,7 @@ module _ (pages : List (List ℕ)) (plan : List PlannedFault) (version next fram
       record {
         all = all;
         high = (omega arith);
-        next = next;
-        first = next_page;
-        cause = (let nodes : node_count e.start.contents ≡ node_count pages = ap (λ (l : List (List ℕ)). node_count l) began in let first : e.start.next ≡ next = ap (λ (o : Origin). o.next) start-is in omega (arith, cause));
+        cause = (let nodes : node_count e.start.contents ≡ node_count pages = ap (λ (l : List (List ℕ)). node_count l) began in omega (arith, cause));
       }
 
   saved : report.failed ≡ 0 → length after ≡ e.start.pages → ((p : ℕ) → p < e.start.pages → (at no_block (map stored_of after) p).words ≡ (last_of w p).words) → IsTree (pages_of_blocks after) × (map_of (pages_of_blocks after) ≡ after_all (map_of pages) (saids e.seen))
@@ -178,6 +192,19 @@ module _ (pages : List (List ℕ)) (plan : List PlannedFault) (version next fram
         subst (λ (l : List (List ℕ)). IsTree l) (sym hold) keeps.tree,
         ap (λ (l : List (List ℕ)). map_of l) hold ∙ keeps.contents ∙ ap (λ (l : List (List ℕ)). after_all (map_of l) (saids e.seen)) began,
       )
+
+  -- each lesser page than the first whose write failed is saved, so its block has its last words
+  least : (p q : ℕ) → report.first ≡ Some p → q < p → IsStored e q × (page_at (pages_of_blocks after) q ≡ (last_of e q).words)
+  unfolding at
+  least p q first l =
+      let inside = first-least p q w.start.pages flushed.noted.notes flushed.noted.rises (sym flushed.noted.first ∙ first) l in
+      let free : (k : ℕ) → k < w.start.pages → HasNoLock w k = λ k m. (driven.holds.exclusive k, driven.holds.shares k) in
+      let page : q < w.start.pages = omega (arith, inside.0) in
+      let here : q < e.start.pages = subst (λ (o : Origin). q < o.pages) (sym flushed.aside.start) page in
+      let stored : IsStored e q =
+      ⊎_elim (λ saved. ⊎_elim (λ gone. inl gone) (λ clean. inr clean.1) saved) (λ noted. absurd (true≢false (sym noted ∙ inside.1)))
+      ((flushed.alone driven.alone free).pages q page) in
+      (stored, same-words after q (subst (λ n. q < n) (sym (sym (length-mapped stored_of after) ∙ closed.count)) here) ∙ closed.words refl q here stored)
 
   noted : (p : ℕ) → all_faults_of p replies + is_first report.first p ≤ notes_of p e.notes
   noted p =
@@ -213,14 +240,12 @@ module _ (pages : List (List ℕ)) (plan : List PlannedFault) (version next fram
       omega arith)
       (cases_lt p (length pages))
 
-  -- and the pages began at the version asked for
-  pub versioned : e.start.version ≡ version
-  versioned = ap (λ (o : Origin). o.version) start-is
-
   pub served : length plan ≤ 64 → AreSums (map stored_of after) end → (report.failed ≡ 0 → (p : ℕ) → p < length pages → (at no_block (map stored_of after) p).words ≡ (last_of w p).words) → IsServed pages plan lists replies report after end
   served few sums words = record {
     count = sym (length-mapped stored_of after) ∙ closed.count ∙ many;
+    tells = ap (λ (o : Origin). o.tells) start-is;
     began = began;
+    next = subst (λ n. IsNextPage pages n) (sym (ap (λ (o : Origin). o.next) start-is)) next_page;
     bounds = bound-is;
     legal = legal;
     calls = subst (λ (l : List (Entry Said)). HoldsCalls l lists replies) (sym grew-all) driven.calls;
@@ -230,6 +255,8 @@ module _ (pages : List (List ℕ)) (plan : List PlannedFault) (version next fram
     shown = all-shown-more w e flushed.aside.start flushed.aside.seen lists replies driven.shown;
     unflushed = λ none. flushed.noted.first ∙ none-noted flushed.noted.notes (flushed.noted.each ∙ none);
     flushed = λ none. sym flushed.noted.each ∙ none-first flushed.noted.notes (sym flushed.noted.first ∙ none);
+    least = least;
     saved = λ none. saved none (sym (length-mapped stored_of after) ∙ closed.count) (λ p l. words none p (subst (λ n. p < n) many l));
     sums = sums;
+    few = few-faults (map stored_of after) plan end sums (λ p l. bound-is p (subst (λ n. p < n) (closed.count ∙ many) l));
   }

@@ -1,5 +1,6 @@
 -- What serving workers' calls on an image comes to: the headline, read from what the pool's end keeps.
-use Rattle.std.specs.Prelude.{ℕ, ◌≡◌, ◌<◌, ◌≤◌, ◌+◌, ◌*◌, ◌==◌, if◌then◌else◌, List, length, map, Option, Some, None, Result}
+use Rattle.std.specs.Prelude.{ℕ, Bool, ◌≡◌, ◌<◌, ◌≤◌, ◌+◌, ◌*◌, ◌==◌, ◌&&◌, true, if◌then◌else◌, List, length, map, Option, Some, None, Result}
+use Rattle.std.specs.Set.{distinct_count}
 use Rattle.vm_map.specs.History.{after_all}
 use Rattle.vm_map.specs.declared.call.Call.{Call}
 use Rattle.vm_map.specs.declared.call.Reply.{Reply}
@@ -8,17 +9,18 @@ use Rattle.vm_core.specs.Fn.{at}
 use Rattle.vm_block.specs.Memory.{stored_of}
 use Rattle.vm_block.specs.Plans.{most_faults}
 use Rattle.vm_block.specs.declared.memory.MemBlock.{MemBlock}
+use Rattle.vm_page.specs.Pages.{page_at}
 use Rattle.vm_image.specs.Blocks.{numbers_for, pages_of_blocks}
 use Rattle.vm_image.specs.File.{IsNextPage}
 use Rattle.vm_image.specs.declared.blocks.PlannedFault.{PlannedFault}
 use Rattle.vm_tree_model.specs.Tree.{IsTree, map_of}
 use Rattle.vm_tree_model.specs.Count.{node_count}
 use Rattle.vm_tree_laws.specs.History.{IsLegal, news, saids}
-use Rattle.vm_rule.specs.Reading.{no_block}
+use Rattle.vm_rule.specs.Reading.{last_of, no_block}
 use Rattle.vm_rule_laws.specs.Known.{kept_by}
 use Rattle.vm_evict.specs.declared.flushing.Flushed.{Flushed}
 use Rattle.vm_pool.specs.declared.ended.Ended.{Ended}
-use Rattle.vm_pool.specs.Closing.{AreSums, view_at_end}
+use Rattle.vm_pool.specs.Closing.{AreSums, IsStored, view_at_end}
 use Rattle.vm_tree_rule.specs.declared.Tree.{Tree}
 use Rattle.vm_tree_rule.specs.declared.fault.TreeFault.{TreeFault}
 use Rattle.vm_drive.specs.Causes.{notes_of, all_faults_of, AllCausedBy}
@@ -30,26 +32,37 @@ use Rattle.vm_drive.specs.Holds.{HoldsCalls}
 abbrev pub TreeEnd : Type 0
 TreeEnd = Ended Tree Said
 
--- an image that was used up: the next word that the end keeps leaves no room for a split, and the puts of new keys account for it
+-- an image that was used up: the next word that the end keeps leaves no room for a split, and the puts of new keys account for it, from the
+-- next word at the start on
 pub record IsFilled (pages : List (List ℕ)) (end : TreeEnd) (count : ℕ) : Type 0 where
   pub all : count ≡ length pages
   pub high : count ≤ (kept_by (view_at_end end)).next + 1
-  pub next : ℕ
-  pub first : IsNextPage pages next
-  pub cause : 13 * length pages ≤ 28 * node_count pages + 2 * news (view_at_end end).seen + 13 * (next + 1)
+  pub cause : 13 * length pages ≤ 28 * node_count pages + 2 * news (view_at_end end).seen + 13 * ((view_at_end end).start.next + 1)
+
+-- whether two entries of a plan name the same call of the same page's block
+abbrev pub same_entry : PlannedFault → PlannedFault → Bool
+same_entry a b = a.page == b.page && a.number == b.number
+
+-- how many different entries a plan has
+abbrev pub distinct_entries : List PlannedFault → ℕ
+distinct_entries plan = distinct_count same_entry plan
 
 -- 1 for the page whose write failed first
 abbrev pub is_first : Option ℕ → ℕ → ℕ
 is_first None p = 0
 is_first (Some q) p = if q == p then 1 else 0
 
--- The calls of the lists were made on the image's tree, over blocks that may fail as often as the plan says. The history is the one that `end` keeps, which the end of the pool alone makes: it is
--- legal from the image's map on, and holds each worker's calls once, in order, with these replies. Each fault of a device, and the first
--- write of the last flush that failed, has its own note, and there are no more notes of a page than entries for it in the plan. Each other
--- fault has its cause, and each window is a leaf's. Where no write of the flush failed, the blocks hold a tree whose map is the history's last one.
+-- The calls of the lists were made on the image's tree, over blocks that tell their words and may fail as often as the plan says; which of
+-- their calls fail is not said. The history is the one that `end` keeps, which the end of the pool alone makes: it is legal from the image's
+-- map on, and holds each worker's calls once, in order, with these replies. Each fault of a device, and the first write of the last flush
+-- that failed, has its own note, and there are no more notes of a page than entries for it in the plan. Each other fault has its cause, and
+-- each window is a leaf's. Where no write of the flush failed, the blocks hold a tree whose map is the history's last one; each page below
+-- the first whose write failed is stored, so its block has its last words. No more faults are counted than the plan has different entries.
 pub record IsServed (pages : List (List ℕ)) (plan : List PlannedFault) (lists : List (List Call)) (replies : List (List (Result Reply TreeFault))) (report : Flushed) (blocks : List MemBlock) (end : TreeEnd) : Type 0 where
   pub count : length blocks ≡ length pages
+  pub tells : (view_at_end end).start.tells ≡ true
   pub began : (view_at_end end).start.contents ≡ pages
+  pub next : IsNextPage pages (view_at_end end).start.next
   pub bounds : (p : ℕ) → p < length pages → (at no_block (map stored_of blocks) p).bound ≡ most_faults (numbers_for plan p)
   pub legal : IsLegal (map_of pages) (view_at_end end).seen
   pub calls : HoldsCalls (view_at_end end).seen lists replies
@@ -59,5 +72,7 @@ pub record IsServed (pages : List (List ℕ)) (plan : List PlannedFault) (lists 
   pub shown : AllShown (view_at_end end) lists replies
   pub unflushed : report.failed ≡ 0 → report.first ≡ None
   pub flushed : report.first ≡ None → report.failed ≡ 0
+  pub least : (p q : ℕ) → report.first ≡ Some p → q < p → IsStored (view_at_end end) q × (page_at (pages_of_blocks blocks) q ≡ (last_of (view_at_end end) q).words)
   pub saved : report.failed ≡ 0 → IsTree (pages_of_blocks blocks) × (map_of (pages_of_blocks blocks) ≡ after_all (map_of pages) (saids (view_at_end end).seen))
   pub sums : AreSums (map stored_of blocks) end
+  pub few : end.faults ≤ distinct_entries plan

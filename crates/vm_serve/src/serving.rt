@@ -58,6 +58,7 @@ pub fn serve<R: Threads + Wait + Sync, G: Gate + Sync>(
     requires askable { AreAskable (items_of lists.now) }
     ensures served { IfOk result (λ s. IsServed image.now plan.now (items_of lists.now) (items_of s.replies.items) s.report s.blocks.items s.ended) }
     ensures version { IfOk result (λ s. (view_at_end s.ended).start.version ≡ first_version) }
+    ensures frames { IfOk result (λ s. (view_at_end s.ended).start.frames ≡ frames) }
 {
     let Ok(blocks) = blocks_of(alloc, image, plan) else {
         return Err(Memory);

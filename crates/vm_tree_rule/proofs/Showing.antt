@@ -169,6 +169,7 @@ needs-behind p before done clears n =
     record {
       word = n.word;
       given = record { earlier = before ++ g.earlier; step = g.step; later = g.later; cut = ap (λ (l : List Did). before ++ l) g.cut ∙ sym (append_assoc before g.earlier (g.step ∷ g.later)); gives = g.gives };
+      load = n.load;
       evicted = n.evicted;
       foreign = each-both (λ (d : Did). d.at ≡ places.State p → d.wrote ≢ Some n.word) before g.earlier (clears-foreign p n.word before n.evicted clears) n.foreign;
     }
@@ -179,6 +180,7 @@ needs-front p done more n =
     record {
       word = n.word;
       given = record { earlier = g.earlier; step = g.step; later = g.later ++ more; cut = ap (λ (l : List Did). l ++ more) g.cut ∙ append_assoc g.earlier (g.step ∷ g.later) more; gives = g.gives };
+      load = n.load;
       evicted = n.evicted;
       foreign = n.foreign;
     }

@@ -25,6 +25,7 @@ use Rattle.vm_guard.specs.Fresh.{IsFreshAnswer, IsNil}
 use Rattle.vm_guard.specs.Guards.{IsHolding, IsLocked, IsReleased}
 use Rattle.vm_guard.specs.Quiet.{IsQuiet}
 use Rattle.vm_exmap.specs.Frames.{MovesFrames}
+use Rattle.vm_exmap.proofs.FrameMoves.{leaves-states}
 use Rattle.vm_tree_laws.specs.Tied.{Tied}
 use Rattle.vm_tree_rule.specs.Leaves.{LeavesWord}
 use Rattle.vm_tree_write.specs.Prepares.{SaysDenied}
@@ -39,7 +40,7 @@ pub moves-leave : (done : List Did) (v w : View Said) → MovesFrames done v w �
 moves-leave done v w m p = record {
   done = done;
   log = m.log;
-  none = each-map (λ (d : Did). (q : ℕ) → d.at ≢ places.State q) (λ (d : Did). d.at ≡ places.State p → d.wrote ≡ None) (λ d other at. absurd (other p at)) done m.leaves;
+  none = each-map (λ (d : Did). (q : ℕ) → d.at ≢ places.State q) (λ (d : Did). d.at ≡ places.State p → d.wrote ≡ None) (λ d other at. absurd (other p at)) done (leaves-states done v w m);
 }
 
 state-same : (p q : ℕ) → places.State p ≡ places.State q → p ≡ q

@@ -64,7 +64,7 @@ pub both-moved : (first second : OptGuard) (done : List Did) (v x : View Said) �
 both-moved first second done v x m a b k = record {
   alone = still-alone v x m.parts m.alone.current k.alone;
   free = k.free;
-  words = (m.states k.alone first.pid a ∙ k.words.0, m.states k.alone second.pid b ∙ k.words.1);
+  words = ((m.table k.alone).words (places.State first.pid) a (λ e. e) ∙ k.words.0, (m.table k.alone).words (places.State second.pid) b (λ e. e) ∙ k.words.1);
 }
 
 -- ---- the fresh pages that it asks for
@@ -83,7 +83,7 @@ module _ (n : ℕ) (first second : OptGuard) (up low : ExclusiveGuard) (done : L
   next-then =
       locked-next second.pid low.frame low.version low.dirty l.between y l.low_locked between-alone
       ∙ locked-next first.pid up.frame up.version up.dirty x l.between l.up_locked moved-alone
-      ∙ m.next k.both.alone
+      ∙ (m.table k.both.alone).words places.Next tt (λ e. e)
 
   start-there : y.start ≡ v.start
   start-there = l.low_locked.elsewhere.steady.start ∙ l.up_locked.elsewhere.steady.start ∙ m.start
@@ -92,7 +92,7 @@ module _ (n : ℕ) (first second : OptGuard) (up low : ExclusiveGuard) (done : L
   word-then q inside a b =
       locked-word second.pid low.frame low.version low.dirty l.between y l.low_locked between-alone q b
       ∙ locked-word first.pid up.frame up.version up.dirty x l.between l.up_locked moved-alone q a
-      ∙ m.states k.both.alone q inside
+      ∙ (m.table k.both.alone).words (places.State q) inside (λ e. e)
 
   -- each of them is locked by nobody
   pub may-be-tried : known_next y + n ≤ y.start.pages → MayBeTried n y

@@ -1,6 +1,5 @@
-use Rattle.std.proofs.Common.{◌≡◌, ◌<◌, ◌≤◌, true, is_ok, if◌then◌else◌, ◌∷◌, [], ◌++◌, length, map, take, sym, ap, subst, ◌∙◌, ◌+◌, rules}
+use Rattle.std.proofs.Common.{◌≡◌, ◌<◌, ◌∷◌, [], ◌++◌, length, take, sym, ap, ◌∙◌, ◌+◌, rules}
 use Rattle.std.proofs.lemmas.List.{take_more, map-append}
-use Rattle.vm_drive.specs.Crews.{HaveRoom}
 use Rattle.vm_drive.specs.Drives.{items_of}
 use Rattle.vm_drive.proofs.Crews.{room-snoc}
 use Rattle.vm_drive.proofs.driving.rooms_for.Goals as goal

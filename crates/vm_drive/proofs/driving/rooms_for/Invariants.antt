@@ -1,5 +1,4 @@
-use Rattle.std.proofs.Common.{◌≡◌, ◌≤◌, [], length, take}
-use Rattle.std.specs.Vec.{vec_capacity}
+use Rattle.std.proofs.Common.{take}
 use Rattle.vm_drive.specs.Crews.{HaveRoom}
 use Rattle.vm_drive.specs.Drives.{items_of}
 use Rattle.vm_drive.proofs.driving.rooms_for.Given as goal

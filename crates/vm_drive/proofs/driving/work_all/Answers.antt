@@ -1,4 +1,4 @@
-use Rattle.std.proofs.Common.{ℕ, ◌≡◌, ◌<◌, length, get_or, sym, subst, ◌∙◌, arith, rules}
+use Rattle.std.proofs.Common.{ℕ, ◌≡◌, ◌<◌, length, get_or, sym, subst, ◌∙◌, rules}
 use Rattle.vm_drive.specs.declared.worker.Worker.{Worker}
 use Rattle.vm_drive.specs.Crews.{HasWorked}
 use Rattle.vm_drive.specs.Drives.{items_of}

@@ -1,0 +1,31 @@
+-- What the tree's calls leave of a worker's pass.
+use Rattle.std.proofs.Common.{ℕ, ◌≡◌, List, [], sym, ◌∙◌}
+use Rattle.vm_drive.specs.Calls.{KeepsPass}
+use Rattle.vm_map.specs.declared.call.Said.{Said}
+use Rattle.vm_pool.specs.Brings.{KeepsLocks}
+use Rattle.vm_rule.proofs.Entries.{append-none}
+use Rattle.vm_rule.specs.Views.{StartsWith}
+use Rattle.vm_rule.specs.declared.view.View.{View}
+use Rattle.vm_tree_read.specs.Waiting.{Waits}
+use Rattle.vm_tree_rule.specs.Leaves.{OnlyReads}
+use Rattle.vm_tree_write.specs.Splits.{KeepsAll}
+use Rattle.vm_tree_write.specs.Writes.{OnlyWrites}
+
+pub same-front : {A : Type 0} (l m : List A) → l ≡ m → StartsWith l m
+same-front l m e = ([], e ∙ sym (append-none m))
+
+module _ {X : Type 0} where
+  pub waits-pass : (v w : View X) → Waits v w → KeepsPass v w
+  waits-pass v w k = record { holds = k.holds; out = k.out; start = k.start; parts = k.parts; seen = k.seen; notes = k.notes; log = k.log }
+
+  pub locks-pass : (v w : View X) → KeepsLocks v w → KeepsPass v w
+  locks-pass v w k = record { holds = k.holds; out = k.out; start = k.start; parts = k.parts; seen = k.seen; notes = k.notes; log = k.log }
+
+  pub reads-pass : (v w : View X) → OnlyReads v w → KeepsPass v w
+  reads-pass v w r = record { holds = r.holds; out = r.out; start = r.start; parts = r.parts; seen = r.seen; notes = same-front w.notes v.notes r.notes; log = (r.done, r.log) }
+
+  pub writes-pass : (p : ℕ) (v w : View X) → OnlyWrites p v w → KeepsPass v w
+  writes-pass p v w r = record { holds = r.holds; out = r.out; start = r.start; parts = r.parts; seen = r.seen; notes = same-front w.notes v.notes r.notes; log = (r.done, r.log) }
+
+pub all-pass : (v w : View Said) → KeepsAll v w → KeepsPass v w
+all-pass v w k = record { holds = k.holds; out = k.out; start = k.start; parts = k.parts; seen = k.seen; notes = k.notes; log = k.log }
