@@ -12,7 +12,7 @@ use Rattle.vm_script.specs.declared.script.Order.{Order}
 use Rattle.vm_script.specs.Scripts.{IsCall, IsOrder, IsScript, calls_of, lists_of, most_lines}
 use Rattle.vm_cli.specs.Files.{HasFile}
 use Rattle.vm_image.specs.File.{IsPageFile}
-use Rattle.vm_cli.specs.Served.{AreAskable, AreFew}
+use Rattle.vm_drive.specs.Drives.{AreAskable, AreFew}
 use Rattle.vm_cli.specs.Images.{most_image, IsWrongLength}
 
 whole_bytes : (bytes found : List ℕ) (limit : ℕ) → found ≡ take (limit + 1) bytes → length found ≤ limit → found ≡ bytes

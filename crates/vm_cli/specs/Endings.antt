@@ -1,68 +1,55 @@
--- How a run ends: each status with its cause, and what is said.
-use Rattle.std.specs.Prelude.{ℕ, ◌≡◌, List, [], ◌∷◌, ◌++◌, codes, Bool, true, false, Option}
+-- How the program ends: each way with its cause, with what goes out, with what is kept, and with its status.
+use Rattle.std.specs.Prelude.{ℕ, ◌≡◌, List, [], ◌∷◌, ◌++◌, codes, Option, Result, Ok, Err}
+use Rattle.vm_io.specs.Causes.{Rose}
 use Rattle.vm_io.specs.Shown.{Shown}
-use Rattle.vm_cli.specs.declared.stop.Stop.{Stop}
 use Rattle.vm_words.specs.declared.Command.{Command}
-use Rattle.vm_words.specs.declared.Command.TheVariants.{Run, Check, Replay}
 use Rattle.vm_words.specs.Commands.{IsCommand, IsNoCommand, WhyRefused}
-use Rattle.vm_cli.specs.Asked.{Asked, asked_of, has_option}
-use Rattle.vm_replay.specs.Told.{PlayedFile}
-use Rattle.vm_cli.specs.declared.halt.Halt.{Halt}
-use Rattle.vm_cli.specs.Checks.{CheckEnds, IsToldCheck}
-use Rattle.vm_cli.specs.Files.{HasFile}
-use Rattle.vm_cli.specs.Halts.{IsHalted, halt_text, played_status, status_of as halt_status}
-use Rattle.vm_cli.specs.Said.{IsSaid, SaidAll}
-use Rattle.vm_cli.specs.Served.{IsServed}
-use Rattle.vm_cli.specs.Stops.{IsStopped, status_of, stop_text}
+use Rattle.vm_cli.specs.declared.ends.Ends.{Ends}
+use Rattle.vm_cli.specs.declared.stop.Stop.{Stop}
+use Rattle.vm_cli.specs.declared.undone.Undone.{Undone}
+use Rattle.vm_cli.specs.declared.undone.Undone.TheVariants.{Stopped, Memory}
+use Rattle.vm_cli.specs.Commands.{Cut, Told, order_of}
+use Rattle.vm_cli.specs.Deliveries.{Content, IsDelivered, WentOut, line}
+use Rattle.vm_cli.specs.Stops.{status_of, stop_line}
+use Rattle.vm_cli.specs.Tests.{AllPass, StopsAt}
 
 abbrev pub usage_text : List ℕ
 usage_text = codes "usage: vmcache run, make, check, churn, replay" ++ 10 ∷ []
 
--- How a script's run may end. The causes of two endings with different statuses exclude each other, but for want of memory.
-pub data ScriptEnds (asked : Asked) (failed : List ℕ) (old new : Option Shown) (status : ℕ) : Type 0 where
-  served : (text : List ℕ) → IsServed old asked text → IsSaid old new text 0 status → ScriptEnds asked failed old new status
-  stopped : (stop : Stop) → IsStopped old failed asked stop → IsSaid old new (stop_text asked stop) (status_of stop) status → ScriptEnds asked failed old new status
-  unable : new ≡ old → status ≡ 6 → ScriptEnds asked failed old new status
+-- what a command did that nothing stopped
+pub data Does (command : Command) (shown : Option Shown) (content : Content) (before after : Ends) : Type 0 where
+  told : Told command shown content before after → content.status ≡ 0 → Does command shown content before after
+  cut : Cut command shown content before after → Does command shown content before after
 
--- How a replay of an event list may end
-pub data ReplayEnds (file failed : List ℕ) (old new : Option Shown) (status : ℕ) : Type 0 where
-  played : (text : List ℕ) (is_legal : Bool) → HasFile old file (λ bytes. PlayedFile bytes text is_legal) → IsSaid old new text (played_status is_legal) status → ReplayEnds file failed old new status
-  halted : (halt : Halt) → IsHalted old failed file halt → IsSaid old new (halt_text file halt) (halt_status halt) status → ReplayEnds file failed old new status
-  untold : new ≡ old → status ≡ 6 → ReplayEnds file failed old new status
-
--- how a command may end
-abbrev pub CommandEnds : Command → List ℕ → Option Shown → Option Shown → ℕ → Type 0
-CommandEnds (Run run) failed old new status = ScriptEnds (asked_of run) failed old new status
-CommandEnds (Check check) failed old new status = CheckEnds check.file.now failed old new status
-CommandEnds (Replay replay) failed old new status = ReplayEnds replay.file.now failed old new status
+-- How a command may end: all its tests passed, and what it gives went out, whole or in part; the first of its tests that failed stopped it; or
+-- memory was wanting, and nothing changed. `failed` is the name of the file that the host could not read last
+pub data CommandEnds (command : Command) (failed : List ℕ) (old new : Option Shown) (before after : Ends) (status : ℕ) : Type 0 where
+  done : (content : Content) → AllPass old (order_of command) → Does command old content before after → IsDelivered content old new status → CommandEnds command failed old new before after status
+  stopped : (stop : Stop) → StopsAt old failed (order_of command) stop → after ≡ before → IsDelivered (line (stop_line stop) (status_of stop)) old new status → CommandEnds command failed old new before after status
+  unable : new ≡ old → after ≡ before → status ≡ 6 → CommandEnds command failed old new before after status
 
 -- How the program may end on these words
-pub data RunEnds (words : List (List ℕ)) (failed : List ℕ) (old new : Option Shown) (status : ℕ) : Type 0 where
-  usage : IsNoCommand words → WhyRefused words → IsSaid old new usage_text 1 status → RunEnds words failed old new status
-  unserved : (command : Command) → IsCommand words command → has_option command ≡ true → IsSaid old new usage_text 1 status → RunEnds words failed old new status
-  command : (command : Command) → IsCommand words command → has_option command ≡ false → CommandEnds command failed old new status → RunEnds words failed old new status
-  exhausted : new ≡ old → status ≡ 6 → RunEnds words failed old new status
+pub data ProgramEnds (words : List (List ℕ)) (failed : List ℕ) (old new : Option Shown) (before after : Ends) (status : ℕ) : Type 0 where
+  usage : IsNoCommand words → WhyRefused words → after ≡ before → IsDelivered (line usage_text 1) old new status → ProgramEnds words failed old new before after status
+  command : (command : Command) → IsCommand words command → CommandEnds command failed old new before after status → ProgramEnds words failed old new before after status
+  exhausted : new ≡ old → after ≡ before → status ≡ 6 → ProgramEnds words failed old new before after status
 
--- the script's calls are answered from the image's map on, and what was said is the text of that
-pub record IsToldScript (asked : Asked) (old new : Option Shown) : Type 0 where
-  pub text : List ℕ
-  pub answered : IsServed old asked text
-  pub told : SaidAll old new text
-
--- the event list was played, every event legal, and what was said is the text of that
-pub record IsToldReplay (file : List ℕ) (old new : Option Shown) : Type 0 where
-  pub text : List ℕ
-  pub played : HasFile old file (λ bytes. PlayedFile bytes text true)
-  pub told : SaidAll old new text
-
--- what status 0 says of a command
-abbrev pub CommandTold : Command → Option Shown → Option Shown → Type 0
-CommandTold (Run run) old new = IsToldScript (asked_of run) old new
-CommandTold (Check check) old new = IsToldCheck check.file.now old new
-CommandTold (Replay replay) old new = IsToldReplay replay.file.now old new
-
--- What status 0 says of the words
-pub record IsHeadline (words : List (List ℕ)) (old new : Option Shown) : Type 0 where
+-- What status 0 says of the words: what they ask for was done, and all that it gives went out
+pub record IsHeadline (words : List (List ℕ)) (old new : Option Shown) (before after : Ends) : Type 0 where
   pub command : Command
   pub named : IsCommand words command
-  pub told : CommandTold command old new
+  pub content : Content
+  pub told : Told command old content before after
+  pub out : WentOut content old new
+
+-- what a command answers before anything goes out: what it gives, or why it stopped
+abbrev pub Gives : {V : Type 0} → (V → Content) → Command → List ℕ → Option Shown → Ends → Ends → Result V (Undone Stop) → Type 0
+Gives view asked failed shown before after (Ok given) = AllPass shown (order_of asked) × Does asked shown (view given) before after
+Gives view asked failed shown before after (Err Memory) = after ≡ before
+Gives view asked failed shown before after (Err (Stopped stop)) = StopsAt shown failed (order_of asked) stop × (after ≡ before)
+
+-- a stop with status 2 comes only where a `take` of the host failed
+abbrev pub HasReadCause : {V : Type 0} → ℕ → ℕ → Result V (Undone Stop) → Type 0
+HasReadCause before now (Ok given) = Unit {0}
+HasReadCause before now (Err Memory) = Unit {0}
+HasReadCause before now (Err (Stopped stop)) = status_of stop ≡ 2 → Rose before now

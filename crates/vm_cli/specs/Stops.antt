@@ -1,73 +1,36 @@
--- Why a run stopped before a call was made, its status and its line.
-use Rattle.std.specs.Prelude.{ℕ, ◌<◌, ◌≤◌, ◌≡◌, List, [], ◌∷◌, ◌++◌, length, codes, Option, Result, Ok, Err}
+-- What stops a command before it does anything: the status and the line that tell it.
+use Rattle.std.specs.Prelude.{ℕ, List, [], ◌∷◌, ◌++◌, codes}
 use Rattle.std.specs.Fmt.{decimal}
-use Rattle.vm_io.specs.Shown.{Shown}
-use Rattle.vm_map.specs.declared.call.Call.{Call}
-use Rattle.vm_script.specs.Scripts.{IsFirstBad, most_bytes}
+use Rattle.vm_cli.specs.declared.stop.Quantity.{Quantity}
+use Rattle.vm_cli.specs.declared.stop.Quantity.TheVariants.{Workers, Frames, FirstVersion, Fail}
+use Rattle.vm_cli.specs.declared.stop.Lines.{Lines}
+use Rattle.vm_cli.specs.declared.stop.Lines.TheVariants.{Script, Events}
 use Rattle.vm_cli.specs.declared.stop.Stop.{Stop}
-use Rattle.vm_cli.specs.declared.stop.Stop.TheVariants.{ShapeWorkers, ShapeFrames, Image, ReadScript, ScriptLong, ScriptLine}
-use Rattle.vm_cli.specs.declared.undone.Undone.{Undone}
-use Rattle.vm_cli.specs.declared.undone.Undone.TheVariants.{Stopped, Memory}
-use Rattle.vm_cli.specs.Asked.{Asked, AreWorkers, AreFrames, HasShape}
-use Rattle.vm_cli.specs.Files.{HasFile}
-use Rattle.vm_cli.specs.Images.{IsTreeFile, IsImageStopped, image_status, image_text}
-use Rattle.vm_cli.specs.Served.{IsServed, IsGoodScript}
-
--- so many bytes are a script's most, and line n is the first refused, or one too many
-pub record IsBadLine (workers n : ℕ) (bytes : List ℕ) : Type 0 where
-  pub short : length bytes ≤ most_bytes
-  pub first : IsFirstBad workers bytes n
-
--- numbers and image are accepted
-pub record HasGoodImage (shown : Option Shown) (asked : Asked) : Type 0 where
-  pub shape : HasShape asked
-  pub image : HasFile shown asked.image IsTreeFile
-
--- Why it stopped: each cause says that the earlier ones do not hold.
--- `failed` is the name of the file that the host could not read last.
-abbrev pub IsStopped : Option Shown → List ℕ → Asked → Stop → Type 0
-IsStopped shown failed asked ShapeWorkers = ¬ (AreWorkers asked.workers)
-IsStopped shown failed asked ShapeFrames = AreWorkers asked.workers × ¬ (AreFrames asked.workers asked.frames)
-IsStopped shown failed asked (Image stop) = HasShape asked × IsImageStopped shown failed asked.image stop
-IsStopped shown failed asked ReadScript = HasGoodImage shown asked × (failed ≡ asked.script)
-IsStopped shown failed asked ScriptLong = HasGoodImage shown asked × HasFile shown asked.script (λ bytes. most_bytes < length bytes)
-IsStopped shown failed asked (ScriptLine n) = HasGoodImage shown asked × HasFile shown asked.script (IsBadLine asked.workers n)
+use Rattle.vm_cli.specs.declared.stop.Stop.TheVariants.{Shape, Unread, Length, Page, Long, Line}
 
 abbrev pub status_of : Stop → ℕ
-status_of ShapeWorkers = 5
-status_of ShapeFrames = 5
-status_of (Image stop) = image_status stop
-status_of ReadScript = 2
-status_of ScriptLong = 5
-status_of (ScriptLine n) = 5
+status_of (Shape quantity) = 5
+status_of (Unread name) = 2
+status_of (Length len) = 4
+status_of (Page page why) = 4
+status_of (Long lines) = 5
+status_of (Line lines n) = 5
+
+abbrev pub quantity_text : Quantity → List ℕ
+quantity_text Workers = codes "workers"
+quantity_text Frames = codes "frames"
+quantity_text FirstVersion = codes "first-version"
+quantity_text Fail = codes "fail"
+
+abbrev pub lines_text : Lines → List ℕ
+lines_text Script = codes "script"
+lines_text Events = codes "events"
 
 -- the line that tells it
-abbrev pub stop_text : Asked → Stop → List ℕ
-stop_text asked ShapeWorkers = codes "shape workers" ++ 10 ∷ []
-stop_text asked ShapeFrames = codes "shape frames" ++ 10 ∷ []
-stop_text asked (Image stop) = image_text asked.image stop
-stop_text asked ReadScript = codes "read " ++ asked.script ++ 10 ∷ []
-stop_text asked ScriptLong = codes "script long" ++ 10 ∷ []
-stop_text asked (ScriptLine n) = codes "script line " ++ decimal n ++ 10 ∷ []
-
--- what the test of the numbers answers
-abbrev pub TellsShape : {V : Type 0} → Asked → Result V Stop → Type 0
-TellsShape asked (Ok v) = HasShape asked
-TellsShape asked (Err ShapeWorkers) = ¬ (AreWorkers asked.workers)
-TellsShape asked (Err ShapeFrames) = AreWorkers asked.workers × ¬ (AreFrames asked.workers asked.frames)
-TellsShape asked (Err (Image stop)) = ⊥
-TellsShape asked (Err ReadScript) = ⊥
-TellsShape asked (Err ScriptLong) = ⊥
-TellsShape asked (Err (ScriptLine n)) = ⊥
-
--- what the reader of the script answers, behind a good image
-abbrev pub ReadsCalls : {V : Type 0} → (V → List (List Call)) → Option Shown → List ℕ → List ℕ → ℕ → Result V (Undone Stop) → Type 0
-ReadsCalls view shown failed script workers (Ok v) = HasFile shown script (λ bytes. IsGoodScript workers bytes (view v))
-ReadsCalls view shown failed script workers (Err Memory) = Unit {0}
-ReadsCalls view shown failed script workers (Err (Stopped stop)) = (asked : Asked) → asked.script ≡ script → asked.workers ≡ workers → HasGoodImage shown asked → IsStopped shown failed asked stop
-
--- what is served, or why not
-abbrev pub Serves : {V : Type 0} → (V → List ℕ) → Option Shown → List ℕ → Asked → Result V (Undone Stop) → Type 0
-Serves view shown failed asked (Ok v) = IsServed shown asked (view v)
-Serves view shown failed asked (Err Memory) = Unit {0}
-Serves view shown failed asked (Err (Stopped stop)) = IsStopped shown failed asked stop
+abbrev pub stop_line : Stop → List ℕ
+stop_line (Shape quantity) = codes "shape " ++ quantity_text quantity ++ 10 ∷ []
+stop_line (Unread name) = codes "read " ++ name.now ++ 10 ∷ []
+stop_line (Length len) = codes "image length " ++ decimal len ++ 10 ∷ []
+stop_line (Page page why) = codes "image page " ++ decimal page ++ codes " why " ++ decimal why ++ 10 ∷ []
+stop_line (Long lines) = lines_text lines ++ codes " long" ++ 10 ∷ []
+stop_line (Line lines n) = lines_text lines ++ codes " line " ++ decimal n ++ 10 ∷ []

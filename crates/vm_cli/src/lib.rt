@@ -1,17 +1,18 @@
-//! The commands of the program `vmcache`, over any host: scripts of calls are run on a page file's map, and the replies and the rows are
-//! said; page files are checked; lists of events are replayed.
+//! The commands of the program `vmcache`, over any host: scripts of calls are made by workers on the tree of a page file, through the buffer
+//! manager, and what they were answered is said; page files are checked; lists of events are replayed.
 #![tactic(auto)]
 
-mod answer;
-pub mod gate;
-mod halt;
-mod image;
+mod check;
+mod command;
+mod delivery;
+pub mod ends;
+pub mod laws;
+mod limits;
+mod outcome;
+mod reading;
+mod replay;
+mod replies;
 pub mod run;
-mod run_check;
-mod run_replay;
-mod run_script;
-mod say;
-mod serve;
-mod shape;
+mod script;
 mod stop;
 mod undone;

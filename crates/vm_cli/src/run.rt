@@ -2,81 +2,75 @@
 
 ghost use Rattle.std.specs.Prelude.{◌≡◌, map, string_bytes};
 ghost use Rattle.vm_io.specs.Causes.{Rose};
-ghost use Rattle.vm_cli.specs.Asked.{has_option};
-ghost use Rattle.vm_cli.specs.Endings.{CommandEnds, CommandTold, IsHeadline, RunEnds};
+ghost use Rattle.vm_cli.specs.Agreement.{AgreesWithOthers, IsComplete};
+ghost use Rattle.vm_cli.specs.Endings.{CommandEnds, IsHeadline, ProgramEnds};
 
-use crate::gate::Gate;
-use crate::run_check::run_check;
-use crate::run_replay::run_replay;
-use crate::run_script::run_script;
-use crate::say::say;
+use crate::command::give;
+use crate::delivery::{deliver, refuse, say};
+use crate::ends::Ends;
+use crate::undone::Undone;
 use std::alloc::Global;
 use std::sync::Wait;
 use std::thread::Threads;
+use vm_drive::gate::Gate;
 use vm_io::host::Host;
 use vm_words::{Command, WordsFault, command_of};
 
 const USAGE: &[u8] = b"usage: vmcache run, make, check, churn, replay\n";
 
-/// Runs the command of the words after the program's name, and gives the exit status.
+/// Performs the command of the words after the program's name, and gives the exit status.
 ///
 /// | status | comes |
 /// |---|---|
-/// | 0 | `run`: the calls were answered; the replies and the rows were said. `check`: the rows and the size were said. `replay`: what each event saw was said |
-/// | 1 | exactly where the words are no command, or one with an option, since none is served yet; the usage line was said |
+/// | 0 | `run`: the calls were made, every page was flushed, and the kept file was written; the replies, the rows and the counters were said. `check`: the rows and the size were said. `replay`: what each event saw was said |
+/// | 1 | exactly where the words are no command; the usage line was said |
 /// | 2 | only where a `take` of the host failed; the line names the file |
-/// | 3 | only where a `put` or `say` failed, or took nothing of a piece; a prefix of the text was said |
+/// | 3 | only where a `put` or `say` failed, or took nothing of a piece; the kept file holds a front of its bytes, or a front of the text was said |
 /// | 4 | exactly where the image is refused |
-/// | 5 | exactly where a number or the script is refused; where the event list is refused, or an event is illegal |
-/// | 6 | want of memory; nothing was said |
+/// | 5 | exactly where a number, the script or the event list is refused, or an event is illegal |
+/// | 6 | want of memory; nothing was written or said |
+/// | 7 | `run`: a write of the last flush failed; the replies, the least such page and the counters were said |
 pub fn run<R: Threads + Wait + Sync, H: Host, G: Gate + Sync>(
-    _rt: &R,
+    rt: &R,
     alloc: Global,
     words: &[String],
     host: &mut H,
     gate: &G,
+    ends: &mut Ends,
 ) -> u8
-    // The script's calls are answered from the image's map on, and what was said is the replies and the last map's rows.
-    ensures headline { result ≡ 0 → IsHeadline (map string_bytes words.now) (H.shown host.old) (H.shown host.new) }
-    // Every status with its cause, and what was said.
-    ensures ends { RunEnds (map string_bytes words.now) (H.last host.new) (H.shown host.old) (H.shown host.new) result }
+    // Of a run: the history that `ends` keeps is legal from the image's map on, and holds each worker's calls once, in the script's order, with
+    // the replies that were said; the rows that were said, and the kept file, are its last map.
+    ensures headline { result ≡ 0 → IsHeadline (map string_bytes words.now) (H.shown host.old) (H.shown host.new) ends.old ends.new }
+    // Every status with its cause, what was written and said, and what is kept.
+    ensures ends { ProgramEnds (map string_bytes words.now) (H.last host.new) (H.shown host.old) (H.shown host.new) ends.old ends.new result }
     ensures read { result ≡ 2 → Rose (H.takes host.old) (H.takes host.new) }
     ensures write { result ≡ 3 → Rose (H.gives host.old) (H.gives host.new) }
+    ensures agrees { AgreesWithOthers (map string_bytes words.now) (H.shown host.old) result }
+    ensures complete { IsComplete (map string_bytes words.now) (H.shown host.old) (H.takes host.old) (H.takes host.new) (H.gives host.old) (H.gives host.new) result }
 {
-    let command = match command_of(alloc, words) {
-        Ok(command) => command,
-        Err(WordsFault::Refused) => return say(host, USAGE, 1),
-        Err(WordsFault::Memory) => return 6,
-    };
-    if asks_option(&command) {
-        return say(host, USAGE, 1);
-    }
-    perform(alloc, host, &command, gate)
-}
-
-// Whether the command has an option.
-fn asks_option(command: &Command<'_>) -> bool
-    ensures { result ≡ has_option command.now }
-{
-    match command {
-        Command::Run(run) => {
-            let options = &run.options;
-            options.keep.is_some() || !options.fail.is_empty() || options.first_version.is_some()
-        }
-        Command::Check(_) | Command::Replay(_) => false,
+    match command_of(alloc, words) {
+        Ok(command) => perform(rt, alloc, host, command, gate, ends),
+        Err(WordsFault::Refused) => say(host, USAGE, 1),
+        Err(WordsFault::Memory) => 6,
     }
 }
 
 // Performs a command and gives the exit status.
-fn perform<H: Host, G: Gate>(alloc: Global, host: &mut H, command: &Command<'_>, gate: &G) -> u8
-    ensures headline { result ≡ 0 → CommandTold command.now (H.shown host.old) (H.shown host.new) }
-    ensures ends { CommandEnds command.now (H.last host.new) (H.shown host.old) (H.shown host.new) result }
+fn perform<R: Threads + Wait + Sync, H: Host, G: Gate + Sync>(
+    rt: &R,
+    alloc: Global,
+    host: &mut H,
+    command: Command<'_>,
+    gate: &G,
+    ends: &mut Ends,
+) -> u8
+    ensures ends { CommandEnds command.entry (H.last host.new) (H.shown host.old) (H.shown host.new) ends.old ends.new result }
     ensures read { result ≡ 2 → Rose (H.takes host.old) (H.takes host.new) }
     ensures write { result ≡ 3 → Rose (H.gives host.old) (H.gives host.new) }
 {
-    match command {
-        Command::Run(run) => run_script(alloc, host, run, gate),
-        Command::Check(check) => run_check(alloc, host, check),
-        Command::Replay(replay) => run_replay(alloc, host, replay),
+    match give(rt, alloc, host, &command, gate, ends) {
+        Ok(delivery) => deliver(host, &delivery),
+        Err(Undone::Stopped(stop)) => refuse(alloc, host, stop),
+        Err(Undone::Memory) => 6,
     }
 }

@@ -1,52 +1,105 @@
-//! Why a run stopped before a call was made, with the status and the line that tell it.
+//! What stops a command before it does anything, with the status and the line that tell it.
 
 ghost use Rattle.std.specs.Prelude.{◌≡◌, ◌∷◌, ◌++◌, [], codes, IfOk, string_bytes};
-ghost use Rattle.vm_cli.specs.Asked.{asked_of};
-ghost use Rattle.vm_cli.specs.Stops.{status_of as status_for, stop_text};
+ghost use Rattle.std.specs.Fmt.{decimal};
+ghost use Rattle.vm_cli.specs.Stops.{lines_text, quantity_text, status_of as status_for, stop_line};
 
-use crate::image::{ImageStop, image_line, image_status};
-use crate::say::read_line;
 use std::alloc::{AllocError, Global};
-use vm_words::Run;
 
-/// Why no call was made.
+/// A number of the command line that has limits.
 #[derive(Clone, Copy)]
-pub enum Stop {
-    /// The number of workers is not 1 to 64.
-    ShapeWorkers,
-    /// The number of frames is not 64 to 65,536, or less than eight for each worker.
-    ShapeFrames,
-    /// The image gave no rows.
-    Image(ImageStop),
-    /// The host could not read the script.
-    ReadScript,
-    /// The script has more bytes than a script may have.
-    ScriptLong,
-    /// This line of the script is the first that is refused, or one too many.
-    ScriptLine(u32),
+pub enum Quantity {
+    Workers,
+    Frames,
+    FirstVersion,
+    /// How many entries of planned failures.
+    Fail,
+}
+
+/// A file of lines.
+#[derive(Clone, Copy)]
+pub enum Lines {
+    Script,
+    Events,
+}
+
+/// Why nothing was done.
+#[derive(Clone, Copy)]
+pub enum Stop<'a> {
+    /// The number is outside its limits.
+    Shape(Quantity),
+    /// The host could not read the file with this name.
+    Unread(&'a str),
+    /// The image has no page file's length; so many bytes were read of it.
+    Length(usize),
+    /// The image's pages are no tree: the page at fault, and the first reason.
+    Page { page: u32, why: u8 },
+    /// The file has more bytes than a script or an event list may have.
+    Long(Lines),
+    /// This line is the first that is refused, or one too many.
+    Line(Lines, u32),
 }
 
 /// The exit status of a stop.
-pub fn status_of(stop: Stop) -> u8
-    ensures { result ≡ status_for stop }
+pub fn status_of(stop: Stop<'_>) -> u8
+    ensures { result ≡ status_for stop.entry }
 {
     match stop {
-        Stop::Image(stop) => image_status(stop),
-        Stop::ReadScript => 2,
-        Stop::ShapeWorkers | Stop::ShapeFrames | Stop::ScriptLong | Stop::ScriptLine(_) => 5,
+        Stop::Unread(_) => 2,
+        Stop::Length(_) | Stop::Page { .. } => 4,
+        Stop::Shape(_) | Stop::Long(_) | Stop::Line(..) => 5,
     }
 }
 
+// The name of a number.
+fn name_of<'a>(quantity: Quantity) -> &'a str
+    ensures { result.now ≡ quantity_text quantity }
+{
+    match quantity {
+        Quantity::Workers => "workers",
+        Quantity::Frames => "frames",
+        Quantity::FirstVersion => "first-version",
+        Quantity::Fail => "fail",
+    }
+}
+
+// What a file of lines is called.
+fn kind_of<'a>(lines: Lines) -> &'a str
+    ensures { result.now ≡ lines_text lines }
+{
+    match lines {
+        Lines::Script => "script",
+        Lines::Events => "events",
+    }
+}
+
+// The line that names the page at fault and the reason's number.
+fn page_line(alloc: Global, page: u32, why: u8) -> Result<String, AllocError>
+    ensures { IfOk result (λ line. string_bytes line ≡ codes "image page " ++ decimal page ++ codes " why " ++ decimal why ++ 10 ∷ []) }
+{
+    let line = format!(in alloc; "image page {page} why {why}\n")?;
+    Ok(line)
+}
+
 /// The line that tells a stop.
-pub fn line_of(alloc: Global, run: &Run<'_>, stop: Stop) -> Result<String, AllocError>
-    ensures { IfOk result (λ line. string_bytes line ≡ stop_text (asked_of run.now) stop) }
+pub fn line_of(alloc: Global, stop: Stop<'_>) -> Result<String, AllocError>
+    ensures { IfOk result (λ line. string_bytes line ≡ stop_line stop.entry) }
 {
     match stop {
-        Stop::ShapeWorkers => String::from_str(alloc, "shape workers\n"),
-        Stop::ShapeFrames => String::from_str(alloc, "shape frames\n"),
-        Stop::Image(stop) => image_line(alloc, run.image, stop),
-        Stop::ReadScript => read_line(alloc, run.script),
-        Stop::ScriptLong => String::from_str(alloc, "script long\n"),
-        Stop::ScriptLine(line) => format!(in alloc; "script line {line}\n"),
+        Stop::Shape(quantity) => {
+            let name = name_of(quantity);
+            format!(in alloc; "shape {name}\n")
+        }
+        Stop::Unread(name) => format!(in alloc; "read {name}\n"),
+        Stop::Length(len) => format!(in alloc; "image length {len}\n"),
+        Stop::Page { page, why } => page_line(alloc, page, why),
+        Stop::Long(lines) => {
+            let kind = kind_of(lines);
+            format!(in alloc; "{kind} long\n")
+        }
+        Stop::Line(lines, line) => {
+            let kind = kind_of(lines);
+            format!(in alloc; "{kind} line {line}\n")
+        }
     }
 }

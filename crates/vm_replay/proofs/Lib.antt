@@ -2,3 +2,4 @@ mod Lines
 mod Seeing
 mod Shapes
 mod Stopping
+pub mod OnePlay

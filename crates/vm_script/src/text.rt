@@ -123,12 +123,13 @@ pub fn said_text(
     alloc: Global,
     worker: u32,
     number: u32,
-    said: &Said,
+    call: &Call,
+    reply: &Reply,
     out: &mut Vec<u8>,
 ) -> Result<(), AllocError>
-    ensures { out.new.items ≡ (if is_ok result then out.old.items ++ reply_line worker number (lines.Said said.now) else out.old.items) }
+    ensures { out.new.items ≡ (if is_ok result then out.old.items ++ reply_line worker number (lines.Said (record { call = call.now; reply = reply.now })) else out.old.items) }
 {
-    let told = answer(alloc, &said.call, &said.reply)?;
+    let told = answer(alloc, call, reply)?;
     let line = format!(in alloc; "{worker} {number} {told}\n")?;
     out.extend_from_slice(line.as_bytes())
 }

@@ -3,4 +3,4 @@ mod Faultless
 mod Filled
 mod Meanings
 mod Table
-mod Lines
+pub mod Lines

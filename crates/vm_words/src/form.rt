@@ -6,7 +6,7 @@ ghost use Rattle.vm_words.specs.Forms.{kind_in, place_in, slot_text, slots_in, t
 
 /// A command.
 #[derive(Clone, Copy)]
-pub(crate) enum Verb {
+pub enum Verb {
     Run,
     Check,
     Replay,
@@ -14,7 +14,7 @@ pub(crate) enum Verb {
 
 /// A word behind a command's name.
 #[derive(Clone, Copy)]
-pub(crate) enum Slot {
+pub enum Slot {
     Image,
     Script,
     Workers,
@@ -27,7 +27,7 @@ pub(crate) enum Slot {
 
 /// Where a slot's word stands.
 #[derive(Clone, Copy)]
-pub(crate) enum Place {
+pub enum Place {
     /// In its turn among the words.
     Placed,
     /// Behind `--NAME`.
@@ -38,7 +38,7 @@ pub(crate) enum Place {
 
 /// What a slot's word is read as.
 #[derive(Clone, Copy)]
-pub(crate) enum Kind {
+pub enum Kind {
     /// The name of a file.
     Name,
     /// A canonical decimal.

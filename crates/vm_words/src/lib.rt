@@ -5,7 +5,7 @@ ghost use Rattle.std.specs.Prelude.{◌≡◌, IfOk, Err, map, string_bytes};
 ghost use Rattle.vm_words.specs.Commands.{IsCommand, IsNoCommand, WhyRefused};
 
 mod app;
-mod form;
+pub mod form;
 pub mod laws;
 mod matched;
 mod reader;

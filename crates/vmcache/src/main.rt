@@ -1,21 +1,30 @@
-//! Runs scripts of calls on a page file's map, and prints the replies and the rows; checks page files; replays lists of events.
+//! Runs scripts of calls by several workers on the tree of a page file, and prints what they were answered and the rows; checks page files;
+//! replays lists of events.
 #![tactic(auto)]
 
 use std::env;
+use std::io::ErrorKind;
 use std::process::ExitCode;
-use vm_cli::gate::Open;
+use vm_cli::ends::Ends;
 use vm_cli::run::run;
+use vm_drive::gate::Open;
 use vm_io::system::StdHost;
 
 fn main(rt: HostRuntime) -> ExitCode {
     let alloc = rt.alloc();
-    // A list of words that is no text is no command.
     let words = match words_of(&rt) {
         Ok(words) => words,
-        Err(_) => Vec::new(alloc),
+        Err(fault) => {
+            if fault.kind() == ErrorKind::OutOfMemory {
+                return ExitCode::from(6);
+            }
+            // A list of words that is no text is no command.
+            Vec::new(alloc)
+        }
     };
     let mut host = StdHost::new(&rt);
-    ExitCode::from(run(&rt, alloc, words.as_slice(), &mut host, &Open))
+    let mut ends = Ends::Nothing;
+    ExitCode::from(run(&rt, alloc, words.as_slice(), &mut host, &Open, &mut ends))
 }
 
 // The words after the program's name.

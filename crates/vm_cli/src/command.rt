@@ -1,0 +1,41 @@
+//! The commands: of each the function that does it, up to what goes out.
+
+ghost use Rattle.std.specs.Prelude.{◌≡◌, ◌≤◌};
+ghost use Rattle.vm_cli.specs.Deliveries.{content_of};
+ghost use Rattle.vm_cli.specs.Endings.{Gives, HasReadCause};
+
+use crate::check::run_check;
+use crate::delivery::Delivery;
+use crate::ends::Ends;
+use crate::replay::run_replay;
+use crate::script::run_script;
+use crate::stop::Stop;
+use crate::undone::Undone;
+use std::alloc::Global;
+use std::sync::Wait;
+use std::thread::Threads;
+use vm_drive::gate::Gate;
+use vm_io::host::Host;
+use vm_words::Command;
+
+/// Does what the command asks for, and gives what is to go out, or why it stopped.
+pub fn give<'a, R: Threads + Wait + Sync, H: Host, G: Gate + Sync>(
+    rt: &R,
+    alloc: Global,
+    host: &mut H,
+    command: &Command<'a>,
+    gate: &G,
+    ends: &mut Ends,
+) -> Result<Delivery<'a>, Undone<Stop<'a>>>
+    ensures gives { Gives content_of command.now (H.last host.new) (H.shown host.old) ends.old ends.new result }
+    ensures shown { H.shown host.new ≡ H.shown host.old }
+    ensures puts { H.gives host.new ≡ H.gives host.old }
+    ensures later { H.takes host.old ≤ H.takes host.new }
+    ensures cause { HasReadCause (H.takes host.old) (H.takes host.new) result }
+{
+    match command {
+        Command::Run(run) => run_script(rt, alloc, host, run, gate, ends),
+        Command::Check(check) => run_check(alloc, host, check),
+        Command::Replay(replay) => run_replay(alloc, host, replay),
+    }
+}

@@ -1,0 +1,37 @@
+//! The limits of the numbers of a command line.
+
+ghost use Rattle.std.specs.Prelude.{◌≡◌};
+ghost use Rattle.vm_cli.specs.Limits.{are_entries, are_frames, are_workers, is_version};
+
+use vm_image::PlannedFault;
+
+// The last version that a page can have.
+const LAST_VERSION: u64 = 0xFF_FFFF_FFFF_FFFF;
+
+/// Whether there are 1 to 64 workers.
+pub fn are_workers(workers: u64) -> bool
+    ensures { result ≡ are_workers workers }
+{
+    1 <= workers && workers <= 64
+}
+
+/// Whether there are 64 to 65,536 frames, and eight for each worker.
+pub fn are_frames(workers: u64, frames: u64) -> bool
+    ensures { result ≡ are_frames workers frames }
+{
+    64 <= frames && (frames <= 65_536 && workers <= frames / 8)
+}
+
+/// Whether a page can have this version.
+pub fn is_version(version: u64) -> bool
+    ensures { result ≡ is_version version }
+{
+    version <= LAST_VERSION
+}
+
+/// Whether there are at most 64 entries of planned failures.
+pub fn are_entries(plan: &[PlannedFault]) -> bool
+    ensures { result ≡ are_entries plan.now }
+{
+    plan.len() <= 64
+}

@@ -1,0 +1,5 @@
+use Rattle.vm_replay.proofs.OnePlay.{one_played}
+use Rattle.vm_replay.proofs.laws.one_replay.Goals as goal
+
+pub returns : goal.returns
+returns c = one_played
