@@ -12,8 +12,9 @@ use std::alloc::Global;
 use std::process::ExitCode;
 use std::sync::Wait;
 use std::thread::Threads;
-use vm_cli::gate::Open;
+use vm_cli::ends::Ends;
 use vm_cli::run::run;
+use vm_drive::gate::Open;
 use vm_io::host::Host;
 use vm_io::loops::{read_whole, say_all};
 use vm_io::memory::MemHost;
@@ -88,7 +89,8 @@ fn command<R: Threads + Wait + Sync, H: Host>(
     let Ok(mut own) = MemHost::new(alloc, files, MOST, &[]) else {
         return Err(Unplayed);
     };
-    let status = run(rt, alloc, words.as_slice(), &mut own, &Open);
+    let mut ends = Ends::Nothing;
+    let status = run(rt, alloc, words.as_slice(), &mut own, &Open, &mut ends);
     say(host, own.said())?;
     let Ok(told) = format!(in alloc; "status {status}\n") else {
         return Err(Unplayed);

@@ -1,4 +1,4 @@
-//! A replay, and a table of resident pages, with ample memory. The values are worked out by hand from the rules, and not taken from a run.
+//! A replay, and the words that a table begins with, with ample memory. The values are worked out by hand from the rules, and not taken from a run.
 
 use std::test::Fail;
 use vm_block::MemBlock;
@@ -51,35 +51,6 @@ fn a_replay_sees_each_event_and_names_the_illegal_one(rt: HostRuntime) -> Result
         Err(ReplayFault::Illegal { index: 1 })
     );
     assert!(rt; illegal);
-    Ok(())
-}
-
-/// The dirty bit of a translation word.
-const DIRTY: u64 = 0x8000_0000_0000_0000;
-
-#[test]
-fn a_table_of_resident_pages_has_its_words_by_the_layout(rt: HostRuntime) -> Result<(), Fail> {
-    let alloc = rt.alloc();
-    let mut last = PageBuf::zero();
-    last.set(63, 9);
-    let pages = [PageBuf::zero(), last];
-    let mut blocks = Vec::new(alloc);
-    blocks.push(MemBlock::new(alloc, PageBuf::zero(), &[])?)?;
-    blocks.push(MemBlock::new(alloc, PageBuf::zero(), &[])?)?;
-    let (words, _pass) = Words::<Bare, MemBlock>::fixed(alloc, &pages, blocks, 2, 7)?;
-    let table = &words.table.shared;
-    // Two state words, two translations, two fault words, 128 words of frames, a bundle, the next word, the hand.
-    assert_eq!(rt; words.table.word_count(), 137);
-    assert_eq!(rt; table.peek(0), 7);
-    assert_eq!(rt; table.peek(1), 7);
-    assert_eq!(rt; table.peek(2), DIRTY + 1);
-    assert_eq!(rt; table.peek(3), DIRTY + 2);
-    assert_eq!(rt; table.peek(4), 0);
-    assert_eq!(rt; table.peek(132), 0);
-    assert_eq!(rt; table.peek(133), 9);
-    assert_eq!(rt; table.peek(134), 0);
-    assert_eq!(rt; table.peek(135), 2);
-    assert_eq!(rt; table.peek(136), 0);
     Ok(())
 }
 

@@ -1,8 +1,8 @@
 //! Walks over small tables, with ample memory. The values are worked out by hand from the rules, and not taken from a run.
-ghost use Rattle.std.specs.Prelude.{◌≡◌, ◌≤◌, IfOk, length};
-ghost use Rattle.vm_core.specs.Words.{MAX_VERSION};
+ghost use Rattle.std.specs.Prelude.{IfOk};
 ghost use Rattle.vm_step.specs.Ready.{IsReady};
 
+use crate::resident::zero_pages;
 use arrayvec::ArrayVec;
 use std::alloc::Global;
 use std::test::Fail;
@@ -29,32 +29,6 @@ const NONE: Looks = Looks {
     first_worn: None,
 };
 
-/// A table of two pages of zeros, unlocked at this version, and its first pass.
-fn two_pages(alloc: Global, version: u64) -> Result<(Words<Bare, MemBlock>, Pass<Bare>), Fail>
-    requires { version ≤ MAX_VERSION }
-    ensures pages { IfOk result (λ made. made.0.table.shared.key.pages ≡ 2) }
-    ensures ready { IfOk result (λ made. IsReady made.0.table.shared.key ⟦<MemBlock as Block>⟧.tells made.0.table.shared.table_id made.1) }
-{
-    let mut blocks = Vec::new(alloc);
-    blocks.push(MemBlock::new(alloc, PageBuf::zero(), &[])?)?;
-    blocks.push(MemBlock::new(alloc, PageBuf::zero(), &[])?)?;
-    let pages = [PageBuf::zero(), PageBuf::zero()];
-    Ok(Words::fixed(alloc, &pages, blocks, 2, version)?)
-}
-
-/// The same of three pages at version 7.
-fn three_pages(alloc: Global) -> Result<(Words<Bare, MemBlock>, Pass<Bare>), Fail>
-    ensures pages { IfOk result (λ made. made.0.table.shared.key.pages ≡ 3) }
-    ensures ready { IfOk result (λ made. IsReady made.0.table.shared.key ⟦<MemBlock as Block>⟧.tells made.0.table.shared.table_id made.1) }
-{
-    let mut blocks = Vec::new(alloc);
-    blocks.push(MemBlock::new(alloc, PageBuf::zero(), &[])?)?;
-    blocks.push(MemBlock::new(alloc, PageBuf::zero(), &[])?)?;
-    blocks.push(MemBlock::new(alloc, PageBuf::zero(), &[])?)?;
-    let pages = [PageBuf::zero(), PageBuf::zero(), PageBuf::zero()];
-    Ok(Words::fixed(alloc, &pages, blocks, 3, 7)?)
-}
-
 /// A table of one page that is evicted, and its first pass.
 fn evicted_page(alloc: Global) -> Result<(Words<Bare, MemBlock>, Pass<Bare>), Fail>
     ensures ready { IfOk result (λ made. IsReady made.0.table.shared.key ⟦<MemBlock as Block>⟧.tells made.0.table.shared.table_id made.1) }
@@ -66,7 +40,7 @@ fn evicted_page(alloc: Global) -> Result<(Words<Bare, MemBlock>, Pass<Bare>), Fa
 
 #[test]
 fn both_pages_are_marked_and_the_first_is_chosen(rt: HostRuntime) -> Result<(), Fail> {
-    let (words, mut pass) = two_pages(rt.alloc(), 7)?;
+    let (words, mut pass) = zero_pages(&rt, rt.alloc(), 2, 7)?;
     let chosen = candidates(&words, &mut pass, 1);
     let mut list = ArrayVec::new();
     list.push((0, MARKED_7));
@@ -81,7 +55,7 @@ fn both_pages_are_marked_and_the_first_is_chosen(rt: HostRuntime) -> Result<(), 
 
 #[test]
 fn a_shared_page_counts_as_held(rt: HostRuntime) -> Result<(), Fail> {
-    let (words, mut pass) = two_pages(rt.alloc(), 7)?;
+    let (words, mut pass) = zero_pages(&rt, rt.alloc(), 2, 7)?;
     let taken = matches!(lock_shared(&words, &mut pass, 0, 7), Took::Taken);
     assert!(rt; taken);
     let chosen = candidates(&words, &mut pass, 1);
@@ -100,7 +74,7 @@ fn a_shared_page_counts_as_held(rt: HostRuntime) -> Result<(), Fail> {
 /// The hand was moved by 64 in between, and 64 is 1 beyond a multiple of 3.
 #[test]
 fn a_walk_makes_two_looks_at_each_page(rt: HostRuntime) -> Result<(), Fail> {
-    let (words, mut pass) = three_pages(rt.alloc())?;
+    let (words, mut pass) = zero_pages(&rt, rt.alloc(), 3, 7)?;
     let first = candidates(&words, &mut pass, 64);
     let mut list = ArrayVec::new();
     list.push((0, MARKED_7));
@@ -128,7 +102,7 @@ fn a_walk_makes_two_looks_at_each_page(rt: HostRuntime) -> Result<(), Fail> {
 
 #[test]
 fn pages_at_the_last_version_are_not_chosen(rt: HostRuntime) -> Result<(), Fail> {
-    let (words, mut pass) = two_pages(rt.alloc(), MAX_VERSION)?;
+    let (words, mut pass) = zero_pages(&rt, rt.alloc(), 2, MAX_VERSION)?;
     let chosen = candidates(&words, &mut pass, 1);
     let list = ArrayVec::new();
     let looks = Looks {

@@ -1,4 +1,4 @@
-//! Fault-in over a table of one evicted page and two frames, with ample memory. The values are worked out by hand from the rules, and not
+//! Fault-in over small tables of evicted pages, with ample memory. The values are worked out by hand from the rules, and not
 //! taken from a run.
 ghost use Rattle.std.specs.Prelude.{◌≡◌, ◌≤◌, IfOk, None, true};
 ghost use Rattle.vm_core.specs.Words.{MAX_VERSION};
@@ -6,6 +6,7 @@ ghost use Rattle.vm_owner.specs.Numbers.{has};
 ghost use Rattle.vm_step.specs.Passes.{IsSamePass, MayStep, view};
 ghost use Rattle.vm_step.specs.Ready.{IsReady};
 
+use crate::resident::resident;
 use std::alloc::Global;
 use std::process::Abort;
 use std::test::Fail;
@@ -92,5 +93,30 @@ fn a_page_at_the_last_version_is_worn(rt: HostRuntime) -> Result<(), Fail> {
     take_both(&rt, &words, &mut pass);
     let worn = fault_in(&words, &mut pass, 0, 1);
     assert_eq!(rt; worn, Fetch::Worn { frame: 1, pid: 0 });
+    Ok(())
+}
+
+#[test]
+fn a_table_of_resident_pages_has_its_words_by_the_layout(rt: HostRuntime) -> Result<(), Fail> {
+    let alloc = rt.alloc();
+    let mut last = PageBuf::zero();
+    last.set(63, 9);
+    let mut blocks = Vec::new(alloc);
+    blocks.push(MemBlock::new(alloc, PageBuf::zero(), &[])?)?;
+    blocks.push(MemBlock::new(alloc, last, &[])?)?;
+    let (words, _pass) = resident(&rt, alloc, blocks, 7)?;
+    let table = &words.table.shared;
+    // Two state words, two translations, two fault words, 128 words of frames, a bundle, the next word, the hand.
+    assert_eq!(rt; words.table.word_count(), 137);
+    assert_eq!(rt; table.peek(0), 7);
+    assert_eq!(rt; table.peek(1), 7);
+    assert_eq!(rt; table.peek(2), 1);
+    assert_eq!(rt; table.peek(3), 2);
+    assert_eq!(rt; table.peek(4), 0);
+    assert_eq!(rt; table.peek(132), 0);
+    assert_eq!(rt; table.peek(133), 9);
+    assert_eq!(rt; table.peek(134), 0);
+    assert_eq!(rt; table.peek(135), 2);
+    assert_eq!(rt; table.peek(136), 0);
     Ok(())
 }

@@ -1,15 +1,14 @@
 //! Guards over a table of one resident page, with ample memory. The values are worked out by hand from the rules, and not taken from a run.
-ghost use Rattle.std.specs.Prelude.{◌≡◌, ◌≤◌, IfOk, None, [], false};
-ghost use Rattle.vm_core.specs.Words.{MAX_VERSION};
+ghost use Rattle.std.specs.Prelude.{◌≡◌, None, false};
 ghost use Rattle.vm_step.specs.Ready.{IsReady};
 ghost use Rattle.vm_guard.specs.Shares.{KeepsShares};
 ghost use Rattle.vm_rule.specs.Views.{seat_of};
 ghost use Rattle.vm_step.specs.Passes.{MayStep, view};
 
-use std::alloc::Global;
+use crate::resident::{resident, zero_pages};
 use std::process::Abort;
 use std::test::Fail;
-use vm_block::{Block, Failed, MemBlock};
+use vm_block::{Block, Failed};
 use vm_core::StateWord;
 use vm_evict::flush;
 use vm_guard::{Deny, ExclusiveGuard, OptGuard, SharedGuard};
@@ -18,25 +17,9 @@ use vm_page::PageBuf;
 use vm_rule::words::{Pass, Words};
 use vm_step::{At, Saw, Took, look_silently, mark};
 
-/// A table of one page of zeros, unlocked at this version, and its first pass.
-fn one_page(alloc: Global, version: u64) -> Result<(Words<Bare, MemBlock>, Pass<Bare>), Fail>
-    requires { version ≤ MAX_VERSION }
-    ensures pages { IfOk result (λ made. made.0.table.shared.key.pages ≡ 1) }
-    ensures may { IfOk result (λ made. MayStep made.0.table.shared.table_id made.1) }
-    ensures out { IfOk result (λ made. (view made.1).out ≡ None) }
-    ensures owed { IfOk result (λ made. (view made.1).owed ≡ []) }
-    ensures next { IfOk result (λ made. (view made.1).start.next ≡ 1) }
-    ensures writing { IfOk result (λ made. (seat_of (view made.1) 0).writing ≡ false) }
-{
-    let mut blocks = Vec::new(alloc);
-    blocks.push(MemBlock::new(alloc, PageBuf::zero(), &[])?)?;
-    let pages = [PageBuf::zero()];
-    Ok(Words::fixed(alloc, &pages, blocks, 1, version)?)
-}
-
 #[test]
 fn a_release_ends_an_older_read(rt: HostRuntime) -> Result<(), Fail> {
-    let (words, mut pass) = one_page(rt.alloc(), 7)?;
+    let (words, mut pass) = zero_pages(&rt, rt.alloc(), 1, 7)?;
     let Ok(guard) = OptGuard::start(&words, &mut pass, 0) else {
         panic!(rt; "the page can be read");
     };
@@ -108,19 +91,20 @@ fn crowd<B: Block>(rt: &impl Abort, words: &Words<Bare, B>, pass: &mut Pass<Bare
 
 #[test]
 fn a_page_has_at_most_252_shares(rt: HostRuntime) -> Result<(), Fail> {
-    let (words, mut pass) = one_page(rt.alloc(), 0)?;
+    let (words, mut pass) = zero_pages(&rt, rt.alloc(), 1, 1)?;
     crowd(&rt, &words, &mut pass, 252);
     Ok(())
 }
 
 #[test]
 fn a_validated_read_has_the_word_that_was_set(rt: HostRuntime) -> Result<(), Fail> {
-    let (words, mut pass) = one_page(rt.alloc(), 0)?;
+    let (words, mut pass) = zero_pages(&rt, rt.alloc(), 1, 1)?;
     let Ok(mut held) = ExclusiveGuard::take(&words, &mut pass, 0) else {
         panic!(rt; "the page can be locked");
     };
-    let dirty = held.dirty;
-    assert!(rt; dirty);
+    // A page that was brought in is clean.
+    let clean = !held.dirty;
+    assert!(rt; clean);
     held.set(&words, &mut pass, 63, 5);
     let dirty = held.dirty;
     assert!(rt; dirty);
@@ -139,7 +123,7 @@ fn a_validated_read_has_the_word_that_was_set(rt: HostRuntime) -> Result<(), Fai
 
 #[test]
 fn a_start_takes_a_mark_away(rt: HostRuntime) -> Result<(), Fail> {
-    let (words, mut pass) = one_page(rt.alloc(), 7)?;
+    let (words, mut pass) = zero_pages(&rt, rt.alloc(), 1, 7)?;
     let took = mark(&words, &mut pass, 0, 7);
     assert_eq!(rt; took, Took::Taken);
     let marked = look_silently(&words, &mut pass, 0);
@@ -200,16 +184,13 @@ impl Block for Mute {
 }
 
 #[test]
-fn a_set_makes_a_clean_page_dirty(rt: HostRuntime) -> Result<(), Fail> {
+fn a_set_makes_a_clean_page_dirty_and_a_flush_makes_it_clean(rt: HostRuntime) -> Result<(), Fail> {
     let mut blocks = Vec::new(rt.alloc());
     blocks.push(Mute {
         reads: 0,
         writes: 0,
     })?;
-    let pages = [PageBuf::zero()];
-    let (words, mut pass) = Words::<Bare, Mute>::fixed(rt.alloc(), &pages, blocks, 1, 7)?;
-    let flushed = flush(&words, &mut pass);
-    assert_eq!(rt; flushed.written, 1);
+    let (words, mut pass) = resident(&rt, rt.alloc(), blocks, 7)?;
     let Ok(mut held) = ExclusiveGuard::take(&words, &mut pass, 0) else {
         panic!(rt; "the page can be locked");
     };
@@ -225,6 +206,14 @@ fn a_set_makes_a_clean_page_dirty(rt: HostRuntime) -> Result<(), Fail> {
     };
     let dirty = held.dirty;
     assert!(rt; dirty);
+    held.release(&words, &mut pass, None);
+    let flushed = flush(&words, &mut pass);
+    assert_eq!(rt; flushed.written, 1);
+    let Ok(held) = ExclusiveGuard::take(&words, &mut pass, 0) else {
+        panic!(rt; "the page can be locked");
+    };
+    let clean = !held.dirty;
+    assert!(rt; clean);
     held.release(&words, &mut pass, None);
     Ok(())
 }

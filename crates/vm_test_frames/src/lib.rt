@@ -10,3 +10,5 @@ mod exmap;
 mod fault;
 #[cfg(test)]
 mod guard;
+#[cfg(test)]
+mod resident;

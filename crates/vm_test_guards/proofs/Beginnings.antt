@@ -4,8 +4,7 @@ use Rattle.vm_block.specs.declared.memory.MemBlock.{MemBlock}
 use Rattle.vm_block.specs.Memory.{stored_of, words_of}
 use Rattle.vm_owner.specs.Kept.{Start, Kept}
 use Rattle.vm_page.specs.Pages.{page_at}
-use Rattle.vm_rule.specs.Fixed.{MayBegin}
-use Rattle.vm_rule.specs.Started.{words_in}
+use Rattle.vm_rule.specs.Started.{MayBegin, words_in}
 
 abbrev AllZero : List (List ℕ) → Type 0
 AllZero pages = (p : ℕ) → p < length pages → page_at pages p ≡ replicate 64 0

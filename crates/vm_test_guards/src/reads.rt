@@ -2,8 +2,7 @@
 //! hand from the rules.
 ghost use Rattle.std.specs.Prelude.{◌≡◌, ◌<◌, IfOk, None, length, map};
 ghost use Rattle.vm_block.specs.Memory.{stored_of};
-ghost use Rattle.vm_rule.specs.Fixed.{MayBegin};
-ghost use Rattle.vm_rule.specs.Started.{words_in};
+ghost use Rattle.vm_rule.specs.Started.{MayBegin, words_in};
 ghost use Rattle.vm_step.specs.Passes.{view};
 ghost use Rattle.vm_step.specs.Ready.{IsReady};
 

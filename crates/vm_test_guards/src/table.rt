@@ -1,8 +1,7 @@
 // A pool of a few evicted pages with two passes, and frames for the pages that they claim.
 ghost use Rattle.std.specs.Prelude.{◌≡◌, ◌≤◌, ℕ, IfOk, None, length, map};
 ghost use Rattle.vm_block.specs.Memory.{stored_of};
-ghost use Rattle.vm_rule.specs.Fixed.{MayBegin};
-ghost use Rattle.vm_rule.specs.Started.{words_in};
+ghost use Rattle.vm_rule.specs.Started.{MayBegin, words_in};
 ghost use Rattle.vm_step.specs.HeldFrames.{AreHeld};
 ghost use Rattle.vm_step.specs.Passes.{view};
 ghost use Rattle.vm_step.specs.Ready.{IsReady};

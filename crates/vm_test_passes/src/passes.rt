@@ -9,6 +9,7 @@ use vm_block::{Block, MemBlock};
 use vm_owner::Bare;
 use vm_page::PageBuf;
 use vm_pool::first_page::{Opened, open_page};
+use vm_pool::two_pages::{TwoPages, open_two};
 use vm_pool::whole_again::{meet_and_join, split_and_join};
 use vm_pool::{Bring, Closed, Pool, Shape};
 use vm_rule::words::Pass;
@@ -80,6 +81,34 @@ fn the_first_page_of_a_pool_is_brought(rt: HostRuntime) -> Result<(), Fail> {
         answer,
     } = opened;
     assert_eq!(rt; answer, Bring::Brought);
+    Ok(())
+}
+
+#[test]
+fn two_pages_of_a_pool_are_brought_and_one_is_read(rt: HostRuntime) -> Result<(), Fail> {
+    let mut page = PageBuf::zero();
+    page.set(63, 5);
+    let mut blocks = Vec::new(rt.alloc());
+    blocks.push(MemBlock::new(rt.alloc(), page, &[])?)?;
+    blocks.push(MemBlock::new(rt.alloc(), PageBuf::zero(), &[])?)?;
+    let shape = Shape {
+        pages: 2,
+        frames: 2,
+        next: 2,
+        first_version: 0,
+    };
+    let opened = open_two::<Bare, MemBlock>(rt.alloc(), shape, blocks, 0, 1, 63)?;
+    let TwoPages {
+        pool: _,
+        pass: _,
+        iface: _,
+        first,
+        second,
+        word,
+    } = opened;
+    assert_eq!(rt; first, Bring::Brought);
+    assert_eq!(rt; second, Bring::Brought);
+    assert_eq!(rt; word, Some(5));
     Ok(())
 }
 

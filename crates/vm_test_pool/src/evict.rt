@@ -5,6 +5,7 @@ ghost use Rattle.vm_step.specs.Choices.{AreCandidates};
 ghost use Rattle.vm_step.specs.Passes.{view};
 ghost use Rattle.vm_step.specs.Ready.{IsReady};
 
+use crate::flush::flush_all;
 use arrayvec::ArrayVec;
 use std::alloc::Global;
 use std::process::Abort;
@@ -12,6 +13,9 @@ use std::test::Fail;
 use vm_block::{Block, MemBlock};
 use vm_evict::evict;
 use vm_evict::report::{Evicted, Report};
+use vm_exmap::{Alloc, Interface};
+use vm_fault::{Fetch, fault_in};
+use vm_guard::ExclusiveGuard;
 use vm_owner::Bare;
 use vm_page::PageBuf;
 use vm_rule::words::{Pass, Words};
@@ -45,8 +49,29 @@ const NOTHING: Report = Report {
     },
 };
 
-/// A table of one page, unlocked at version 7, whose block has zeros and this plan, and its first pass.
+/// Brings page 0, which is evicted, into frame 0, the only one.
+fn bring_first<B: Block>(rt: &impl Abort, words: &Words<Bare, B>, pass: &mut Pass<Bare>)
+    requires ready { IsReady words.now.table.shared.key B.tells words.now.table.shared.table_id pass.old }
+    requires pages { words.now.table.shared.key.pages ≡ 1 }
+    requires out { (view pass.old).out ≡ None }
+    ensures ready { IsReady words.now.table.shared.key B.tells words.now.table.shared.table_id pass.new }
+    ensures start { (view pass.new).start ≡ (view pass.old).start }
+    ensures out { (view pass.new).out ≡ None }
+    ensures owed { (view pass.new).owed ≡ (view pass.old).owed }
+{
+    let mut iface = Interface::new(0, 1);
+    let Alloc::Batch(batch) = iface.alloc(words, pass, 1) else {
+        panic!(rt; "the frame is free");
+    };
+    let Fetch::Brought = fault_in(words, pass, 0, batch.as_slice()[0]) else {
+        panic!(rt; "the page can be read");
+    };
+}
+
+/// A table of one page, unlocked at version 7 and dirty in its frame, and its first pass. The page was evicted at version 5, was brought in by the
+/// first call of its block, and then had its last word set. The block has zeros and this plan.
 pub(crate) fn one_page(
+    rt: &impl Abort,
     alloc: Global,
     plan: &[u64],
 ) -> Result<(Words<Bare, MemBlock>, Pass<Bare>), Fail>
@@ -57,10 +82,14 @@ pub(crate) fn one_page(
 {
     let mut blocks = Vec::new(alloc);
     blocks.push(MemBlock::new(alloc, PageBuf::zero(), plan)?)?;
-    let mut page = PageBuf::zero();
-    page.set(63, 5);
-    let pages = [page];
-    Ok(Words::fixed(alloc, &pages, blocks, 1, 7)?)
+    let (words, mut pass) = Words::started(alloc, 1, 1, 5, blocks)?;
+    bring_first(rt, &words, &mut pass);
+    let Ok(mut held) = ExclusiveGuard::take(&words, &mut pass, 0) else {
+        panic!(rt; "the page can be locked");
+    };
+    held.set(&words, &mut pass, 63, 5);
+    held.release(&words, &mut pass, None);
+    Ok((words, pass))
 }
 
 /// Page 0, marked at version 7.
@@ -119,7 +148,7 @@ fn last_in_block(rt: &impl Abort, words: &Words<Bare, MemBlock>, pass: &mut Pass
 
 #[test]
 fn a_page_whose_write_failed_is_evicted_later(rt: HostRuntime) -> Result<(), Fail> {
-    let (words, mut pass) = one_page(rt.alloc(), &[1])?;
+    let (words, mut pass) = one_page(&rt, rt.alloc(), &[2])?;
     mark_first(&rt, &words, &mut pass);
     let failed = Report {
         failed: 1,
@@ -163,7 +192,7 @@ fn a_page_whose_write_failed_is_evicted_later(rt: HostRuntime) -> Result<(), Fai
 
 #[test]
 fn a_page_that_is_marked_no_more_is_lost(rt: HostRuntime) -> Result<(), Fail> {
-    let (words, mut pass) = one_page(rt.alloc(), &[])?;
+    let (words, mut pass) = one_page(&rt, rt.alloc(), &[])?;
     let evicted = evict_first(&words, &mut pass);
     let lost = Report { lost: 1, ..NOTHING };
     assert_eq!(rt;
@@ -174,5 +203,45 @@ fn a_page_that_is_marked_no_more_is_lost(rt: HostRuntime) -> Result<(), Fail> {
         }
     );
     assert_eq!(rt; words.table.shared.peek(0), 7);
+    Ok(())
+}
+
+#[test]
+fn a_clean_page_that_is_marked_no_more_is_lost(rt: HostRuntime) -> Result<(), Fail> {
+    let (words, mut pass) = one_page(&rt, rt.alloc(), &[])?;
+    flush_all(&words, &mut pass);
+    let evicted = evict_first(&words, &mut pass);
+    let lost = Report { lost: 1, ..NOTHING };
+    assert_eq!(rt;
+        evicted,
+        Evicted {
+            frames: Batch::new(),
+            report: lost
+        }
+    );
+    assert_eq!(rt; words.table.shared.peek(0), 7);
+    Ok(())
+}
+
+#[test]
+fn a_clean_page_is_evicted_unwritten(rt: HostRuntime) -> Result<(), Fail> {
+    let (words, mut pass) = one_page(&rt, rt.alloc(), &[])?;
+    flush_all(&words, &mut pass);
+    mark_first(&rt, &words, &mut pass);
+    let mut frames = Batch::new();
+    frames.push(0);
+    let freed = Report {
+        freed: 1,
+        ..NOTHING
+    };
+    let evicted = evict_first(&words, &mut pass);
+    assert_eq!(rt;
+        evicted,
+        Evicted {
+            frames,
+            report: freed
+        }
+    );
+    assert_eq!(rt; words.table.shared.peek(0), EVICTED_AT_8);
     Ok(())
 }

@@ -24,7 +24,7 @@ const NOTHING: Flushed = Flushed {
 };
 
 /// Flushes the table.
-fn flush_all<B: Block>(words: &Words<Bare, B>, pass: &mut Pass<Bare>) -> Flushed
+pub(crate) fn flush_all<B: Block>(words: &Words<Bare, B>, pass: &mut Pass<Bare>) -> Flushed
     requires ready { IsReady words.now.table.shared.key B.tells words.now.table.shared.table_id pass.old }
     requires out { (view pass.old).out ≡ None }
     ensures ready { IsReady words.now.table.shared.key B.tells words.now.table.shared.table_id pass.new }
@@ -49,7 +49,7 @@ fn lock_first<B: Block>(rt: &impl Abort, words: &Words<Bare, B>, pass: &mut Pass
 
 #[test]
 fn a_page_whose_write_failed_is_written_by_the_next_flush(rt: HostRuntime) -> Result<(), Fail> {
-    let (words, mut pass) = one_page(rt.alloc(), &[1])?;
+    let (words, mut pass) = one_page(&rt, rt.alloc(), &[2])?;
     let flushed = flush_all(&words, &mut pass);
     let failed = Flushed {
         failed: 1,
@@ -78,7 +78,7 @@ fn a_page_whose_write_failed_is_written_by_the_next_flush(rt: HostRuntime) -> Re
 
 #[test]
 fn a_page_that_is_locked_is_busy(rt: HostRuntime) -> Result<(), Fail> {
-    let (words, mut pass) = one_page(rt.alloc(), &[])?;
+    let (words, mut pass) = one_page(&rt, rt.alloc(), &[])?;
     lock_first(&rt, &words, &mut pass);
     let flushed = flush_all(&words, &mut pass);
     assert_eq!(rt; flushed, Flushed { busy: 1, ..NOTHING });

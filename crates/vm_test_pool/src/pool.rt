@@ -102,6 +102,23 @@ fn put<B: Block>(rt: &impl Abort, pool: &Pool<Bare, B>, pass: &mut Pass<Bare>, p
     guard.release(&pool.words, pass, None);
 }
 
+/// Sets word 5 of page `p`, which is resident, by a pass that is alone and holds no page.
+fn put_alone<B: Block>(rt: &impl Abort, pool: &Pool<Bare, B>, pass: &mut Pass<Bare>, p: u32, w: u64)
+    requires ready { IsReady pool.now.words.table.shared.key B.tells pool.now.words.table.shared.table_id pass.old }
+    requires page { (p < pool.now.words.table.shared.key.pages) × (p < pool.now.words.table.shared.key.next) }
+    requires alone { IsAlone (view pass.old) }
+    requires holds { HoldsNoPage (view pass.old) }
+    ensures ready { IsReady pool.now.words.table.shared.key B.tells pool.now.words.table.shared.table_id pass.new }
+    ensures alone { IsAlone (view pass.new) }
+    ensures holds { HoldsNoPage (view pass.new) }
+{
+    let Ok(mut guard) = ExclusiveGuard::take(&pool.words, pass, p) else {
+        panic!(rt; "the page can be locked");
+    };
+    guard.set(&pool.words, pass, 5, w);
+    guard.release(&pool.words, pass, None);
+}
+
 /// Brings page `p`, which is evicted, and sets its word 5, by a pass that is alone and holds no page.
 fn bring_and_put<B: Block>(
     rt: &impl Abort,
@@ -122,11 +139,7 @@ fn bring_and_put<B: Block>(
 {
     let answer = pool.bring(pass, iface, p);
     assert_eq!(rt; answer, Bring::Brought);
-    let Ok(mut guard) = ExclusiveGuard::take(&pool.words, pass, p) else {
-        panic!(rt; "the page can be locked");
-    };
-    guard.set(&pool.words, pass, 5, w);
-    guard.release(&pool.words, pass, None);
+    put_alone(rt, pool, pass, p, w);
 }
 
 /// Whether page `p` is dirty, which is resident, and not locked by anyone.

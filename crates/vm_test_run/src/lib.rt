@@ -1,5 +1,28 @@
-//! Tests of the program's commands (`vm_cli`), over its public items. They stand here so that none of its crates is proved twice.
+//! Tests of the program's commands (`vm_cli`), over its public items. They stand here so that none of its crates is proved twice. The expected
+//! texts are worked out by hand from the rules, and not taken from a run.
 #![tactic(auto)]
 
 #[cfg(test)]
-mod cli;
+mod evictions;
+#[cfg(test)]
+mod expect;
+#[cfg(test)]
+mod faults;
+#[cfg(test)]
+mod files;
+#[cfg(test)]
+mod gates;
+#[cfg(test)]
+mod hosts;
+#[cfg(test)]
+mod kept;
+#[cfg(test)]
+mod memory;
+#[cfg(test)]
+mod pages;
+#[cfg(test)]
+mod refusals;
+#[cfg(test)]
+mod scripts;
+#[cfg(test)]
+mod workers;

@@ -98,7 +98,7 @@ fn writes_lines(rt: HostRuntime) -> Result<(), Fail> {
         (del, Reply::Gone(Some(8))),
         (del, Reply::Gone(None)),
     ] {
-        said_text(alloc, 3, 10, &Said { call, reply }, &mut out)?;
+        said_text(alloc, 3, 10, &call, &reply, &mut out)?;
     }
     row_text(alloc, 5, 8, &mut out)?;
     let wanted = b"3 10 new\n3 10 was 7\n3 10 some 8\n3 10 none\n3 10 gone 8\n3 10 none\nrow 5 8\n";

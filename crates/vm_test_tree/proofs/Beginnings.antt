@@ -11,9 +11,8 @@ use Rattle.vm_page.specs.Pages.{page_at}
 use Rattle.vm_tree_model.specs.Tree.{IsTree}
 use Rattle.vm_tree_laws.specs.Keeps.{Keeps}
 use Rattle.vm_tree_laws.proofs.Starts.{start_keeps}
-use Rattle.vm_rule.specs.Fixed.{MayBegin}
 use Rattle.vm_rule.specs.Begun.{begun, unborn}
-use Rattle.vm_rule.specs.Started.{started_shape, words_in}
+use Rattle.vm_rule.specs.Started.{MayBegin, started_shape, words_in}
 use Rattle.vm_rule.specs.Views.{numbers}
 use Rattle.vm_rule.specs.declared.view.View.{View}
 

@@ -1,0 +1,11 @@
+use Rattle.std.proofs.Common.{◌≡◌, ◌≤◌, length}
+use Rattle.std.specs.List.{AllByRecursion}
+use Rattle.vm_map.specs.History.{IsAskable}
+use Rattle.vm_test_drive.proofs.calls.puts.Given as goal
+
+abbrev pub invariant-loop-i : goal.invariant-loop-i
+invariant-loop-i l = record {
+  within : l.i ≤ l.count;
+  long : length l.calls.items ≡ l.i;
+  askable : AllByRecursion IsAskable l.calls.items;
+}

@@ -1,0 +1,192 @@
+//! Lists of calls for workers, and what the pass knows once their passes are joined into it.
+ghost use Rattle.std.specs.Prelude.{◌≡◌, ◌≤◌, IfOk, None, length};
+ghost use Rattle.std.specs.List.{AllByRecursion};
+ghost use Rattle.vm_drive.specs.Drives.{AreAskable, AreFew, items_of};
+ghost use Rattle.vm_map.specs.History.{IsAskable};
+ghost use Rattle.vm_step.specs.HeldFrames.{AreHeld};
+ghost use Rattle.vm_step.specs.Passes.{view};
+ghost use Rattle.vm_step.specs.Ready.{IsReady};
+
+use std::alloc::{AllocError, Global};
+use std::process::Abort;
+use std::sync::Wait;
+use vm_block::Block;
+use vm_drive::worker::Answer;
+use vm_exmap::Interface;
+use vm_map::call::{Call, Reply};
+use vm_pool::Pool;
+use vm_rule::words::Pass;
+use vm_tree_read::get;
+use vm_tree_rule::{Tree, TreeFault};
+
+/// Puts of so many keys, from the first one on by this step; each key gets the number behind it.
+fn puts(alloc: Global, first: u64, step: u64, count: u64) -> Result<Vec<Call>, AllocError>
+    requires { count ≤ 1000000 }
+    ensures few { IfOk result (λ calls. length calls.items ≤ 1000000) }
+    ensures askable { IfOk result (λ calls. AllByRecursion IsAskable calls.items) }
+{
+    let mut calls = Vec::new(alloc);
+    for i in 0..count {
+        let key = step.wrapping_mul(i).wrapping_add(first);
+        let value = key.wrapping_add(1);
+        calls.push(Call::Put { key, value })?;
+    }
+    Ok(calls)
+}
+
+/// A list for each worker, of so many puts; no two workers have a key in common.
+pub(crate) fn shares(alloc: Global, workers: u64, count: u64) -> Result<Vec<Vec<Call>>, AllocError>
+    requires { count ≤ 1000000 }
+    ensures workers { IfOk result (λ lists. length lists.items ≡ workers) }
+    ensures few { IfOk result (λ lists. AreFew (items_of lists.items)) }
+    ensures askable { IfOk result (λ lists. AreAskable (items_of lists.items)) }
+{
+    let mut lists = Vec::new(alloc);
+    for worker in 0..workers {
+        lists.push(puts(alloc, worker, workers, count)?)?;
+    }
+    Ok(lists)
+}
+
+/// A list for each of two workers.
+pub(crate) fn two_lists(
+    alloc: Global,
+    first: &[Call],
+    second: &[Call],
+) -> Result<Vec<Vec<Call>>, AllocError>
+    requires few { (length first.now ≤ 1000000) × (length second.now ≤ 1000000) }
+    requires first { AllByRecursion IsAskable first.now }
+    requires second { AllByRecursion IsAskable second.now }
+    ensures workers { IfOk result (λ lists. length lists.items ≡ 2) }
+    ensures few { IfOk result (λ lists. AreFew (items_of lists.items)) }
+    ensures askable { IfOk result (λ lists. AreAskable (items_of lists.items)) }
+{
+    let mut lists = Vec::new(alloc);
+    lists.push(Vec::from_slice(alloc, first)?)?;
+    lists.push(Vec::from_slice(alloc, second)?)?;
+    Ok(lists)
+}
+
+/// `get`, by a pass whose block is at home: it is at home again.
+fn got<R: Wait, B: Block>(
+    rt: &R,
+    pool: &Pool<Tree, B>,
+    pass: &mut Pass<Tree>,
+    iface: &mut Interface,
+    key: u64,
+) -> Result<Reply, TreeFault>
+    requires pages { 1 ≤ pool.now.words.table.shared.key.pages }
+    requires ready { IsReady pool.now.words.table.shared.key B.tells pool.now.words.table.shared.table_id pass.old }
+    requires home { (view pass.old).out ≡ None }
+    requires held { AreHeld iface.old.frames (view pass.old) }
+    ensures ready { IsReady pool.now.words.table.shared.key B.tells pool.now.words.table.shared.table_id pass.new }
+    ensures home { (view pass.new).out ≡ None }
+    ensures held { AreHeld iface.new.frames (view pass.new) }
+{
+    get(rt, pool, pass, iface, key)
+}
+
+/// The same, once more where the device failed.
+fn got_again<R: Wait, B: Block>(
+    rt: &R,
+    pool: &Pool<Tree, B>,
+    pass: &mut Pass<Tree>,
+    iface: &mut Interface,
+    key: u64,
+) -> Result<Reply, TreeFault>
+    requires pages { 1 ≤ pool.now.words.table.shared.key.pages }
+    requires ready { IsReady pool.now.words.table.shared.key B.tells pool.now.words.table.shared.table_id pass.old }
+    requires home { (view pass.old).out ≡ None }
+    requires held { AreHeld iface.old.frames (view pass.old) }
+    ensures ready { IsReady pool.now.words.table.shared.key B.tells pool.now.words.table.shared.table_id pass.new }
+    ensures home { (view pass.new).out ≡ None }
+    ensures held { AreHeld iface.new.frames (view pass.new) }
+{
+    match got(rt, pool, pass, iface, key) {
+        Ok(reply) => Ok(reply),
+        Err(_) => got(rt, pool, pass, iface, key),
+    }
+}
+
+/// Each put of a key that was not there was answered so, or by a fault; a key of the first kind has its value, one of the second none.
+fn expect_list<R: Abort + Wait, B: Block>(
+    rt: &R,
+    pool: &Pool<Tree, B>,
+    pass: &mut Pass<Tree>,
+    iface: &mut Interface,
+    calls: &[Call],
+    answers: &[Answer],
+)
+    requires pages { 1 ≤ pool.now.words.table.shared.key.pages }
+    requires ready { IsReady pool.now.words.table.shared.key B.tells pool.now.words.table.shared.table_id pass.old }
+    requires home { (view pass.old).out ≡ None }
+    requires held { AreHeld iface.old.frames (view pass.old) }
+    ensures ready { IsReady pool.now.words.table.shared.key B.tells pool.now.words.table.shared.table_id pass.new }
+    ensures home { (view pass.new).out ≡ None }
+    ensures held { AreHeld iface.new.frames (view pass.new) }
+{
+    assert_eq!(rt; answers.len(), calls.len());
+    for (call, answer) in calls.iter().zip(answers) {
+        if let Call::Put { key, value } = *call {
+            let want = match answer {
+                Ok(reply) => {
+                    assert_eq!(rt; *reply, Reply::Was(None), "put of {key}");
+                    Some(value)
+                }
+                Err(_) => None,
+            };
+            let reply = got_again(rt, pool, pass, iface, key);
+            assert_eq!(rt; reply, Ok(Reply::Got(want)), "get of {key}");
+        }
+    }
+}
+
+/// The same of all lists: the pass knows what each worker did.
+pub(crate) fn expect_lists<R: Abort + Wait, B: Block>(
+    rt: &R,
+    pool: &Pool<Tree, B>,
+    pass: &mut Pass<Tree>,
+    lists: &[Vec<Call>],
+    replies: &[Vec<Answer>],
+)
+    requires pages { 1 ≤ pool.now.words.table.shared.key.pages }
+    requires ready { IsReady pool.now.words.table.shared.key B.tells pool.now.words.table.shared.table_id pass.old }
+    requires home { (view pass.old).out ≡ None }
+{
+    assert_eq!(rt; replies.len(), lists.len());
+    let mut iface = Interface::new(0, 16);
+    for (calls, answers) in lists.iter().zip(replies) {
+        expect_list(
+            rt,
+            pool,
+            pass,
+            &mut iface,
+            calls.as_slice(),
+            answers.as_slice(),
+        );
+    }
+}
+
+/// How many answers are faults.
+pub(crate) fn faults_in(replies: &[Vec<Answer>]) -> usize {
+    let mut count = 0usize;
+    for answers in replies {
+        for answer in answers.as_slice() {
+            if answer.is_err() {
+                count = count.saturating_add(1);
+            }
+        }
+    }
+    count
+}
+
+/// Each answer that is a fault is this one.
+pub(crate) fn expect_fault<R: Abort>(rt: &R, replies: &[Vec<Answer>], want: TreeFault) {
+    for answers in replies {
+        for answer in answers.as_slice() {
+            if let Err(fault) = answer {
+                assert_eq!(rt; *fault, want);
+            }
+        }
+    }
+}

@@ -1,0 +1,106 @@
+//! Workers over devices that fail, pages at the last version, and an image that is full.
+use crate::calls::{expect_fault, expect_lists, faults_in, shares, two_lists};
+use crate::trees::{empty, open};
+use std::alloc::Global;
+use std::process::Abort;
+use std::sync::Wait;
+use std::test::Fail;
+use std::thread::Threads;
+use vm_core::MAX_VERSION;
+use vm_drive::drive;
+use vm_drive::gate::Open;
+use vm_image::PlannedFault;
+use vm_map::call::{Call, Reply};
+use vm_tree_rule::TreeFault;
+
+/// One call of a page's block fails, while two workers put 150 keys each with so few frames that pages are evicted and brought again: at most
+/// one put is answered so, and its key is not there.
+fn one_failure<R: Abort + Threads + Wait + Sync>(
+    rt: &R,
+    alloc: Global,
+    page: u32,
+    number: u64,
+) -> Result<(), Fail> {
+    let image = empty(alloc, 62)?;
+    let plan = [PlannedFault {
+        page: u64::from(page),
+        number,
+    }];
+    let (pool, mut pass) = open(alloc, &image, &plan, 0, 16)?;
+    let lists = shares(alloc, 2, 150)?;
+    let driven = drive(rt, alloc, &pool, &mut pass, lists.as_slice(), &Open)?;
+    let replies = driven.replies.as_slice();
+    let few = faults_in(replies) <= 1;
+    assert!(rt; few);
+    expect_fault(
+        rt,
+        replies,
+        TreeFault::Device {
+            pid: page,
+            count: 1,
+        },
+    );
+    expect_lists(rt, &pool, &mut pass, lists.as_slice(), replies);
+    Ok(())
+}
+
+#[test]
+fn each_call_of_a_device_may_fail(rt: HostRuntime) -> Result<(), Fail> {
+    for page in 0..6 {
+        for number in 1..6 {
+            one_failure(&rt, rt.alloc(), page, number)?;
+        }
+    }
+    Ok(())
+}
+
+/// The first read of page 0 fails: it is the first call of either worker that is answered so, and all others are made.
+#[test]
+fn a_failed_first_read_is_one_fault(rt: HostRuntime) -> Result<(), Fail> {
+    let alloc = rt.alloc();
+    let image = empty(alloc, 6)?;
+    let plan = [PlannedFault { page: 0, number: 1 }];
+    let (pool, mut pass) = open(alloc, &image, &plan, 0, 64)?;
+    let lists = shares(alloc, 2, 10)?;
+    let driven = drive(&rt, alloc, &pool, &mut pass, lists.as_slice(), &Open)?;
+    let replies = driven.replies.as_slice();
+    assert_eq!(rt; faults_in(replies), 1);
+    expect_fault(&rt, replies, TreeFault::Device { pid: 0, count: 1 });
+    expect_lists(&rt, &pool, &mut pass, lists.as_slice(), replies);
+    Ok(())
+}
+
+/// The leaf comes to the last version as it is brought in: each worker reads it, and neither writes it.
+#[test]
+fn a_worn_leaf_is_read_by_all(rt: HostRuntime) -> Result<(), Fail> {
+    let alloc = rt.alloc();
+    let image = empty(alloc, 6)?;
+    let (pool, mut pass) = open(alloc, &image, &[], MAX_VERSION - 1, 64)?;
+    let calls = [Call::Get { key: 5 }, Call::Put { key: 5, value: 7 }];
+    let lists = two_lists(alloc, &calls, &calls)?;
+    let driven = drive(&rt, alloc, &pool, &mut pass, lists.as_slice(), &Open)?;
+    assert_eq!(rt; driven.replies.len(), 2);
+    for answers in driven.replies.as_slice() {
+        let [read, written] = answers.as_slice() else {
+            return Err(Fail::from("an answer to each call"));
+        };
+        assert_eq!(rt; *read, Ok(Reply::Got(None)));
+        assert_eq!(rt; *written, Err(TreeFault::Worn { pid: 1 }));
+    }
+    Ok(())
+}
+
+/// Two pages have room for 28 pairs and for no split: of 40 puts 28 are made.
+#[test]
+fn a_full_image_takes_28_pairs(rt: HostRuntime) -> Result<(), Fail> {
+    let alloc = rt.alloc();
+    let image = empty(alloc, 0)?;
+    let (pool, mut pass) = open(alloc, &image, &[], 0, 64)?;
+    let lists = shares(alloc, 2, 20)?;
+    let driven = drive(&rt, alloc, &pool, &mut pass, lists.as_slice(), &Open)?;
+    let replies = driven.replies.as_slice();
+    assert_eq!(rt; faults_in(replies), 12);
+    expect_fault(&rt, replies, TreeFault::Full { pages: 2 });
+    expect_lists(&rt, &pool, &mut pass, lists.as_slice(), replies);
+    Ok(())
+}

@@ -1,0 +1,16 @@
+//! Tests of workers over the tree (`vm_drive`, `vm_serve`), by their public items. They stand here so that no crate of the layers below is proved
+//! twice. The expected replies are worked out by hand from the rules, and not taken from a run.
+#![tactic(auto)]
+
+#[cfg(test)]
+mod calls;
+#[cfg(test)]
+mod faults;
+#[cfg(test)]
+mod overlap;
+#[cfg(test)]
+mod rounds;
+#[cfg(test)]
+mod served;
+#[cfg(test)]
+mod trees;

@@ -1,0 +1,114 @@
+//! An image that is served: a pool over its pages, the workers, the flush and the end.
+ghost use Rattle.std.specs.Prelude.{IfOk};
+ghost use Rattle.vm_tree_model.specs.Tree.{IsTree};
+
+use crate::calls::two_lists;
+use crate::trees::{MAGIC, page};
+use std::alloc::Global;
+use std::test::Fail;
+use vm_check::check;
+use vm_drive::gate::Open;
+use vm_image::{Image, PlannedFault, image_of};
+use vm_map::call::{Call, Pair, Reply};
+use vm_serve::serve;
+
+/// Three pages whose one leaf has the pair 9 4.
+fn one_pair(alloc: Global) -> Result<Image, Fail>
+    ensures { IfOk result (λ image. IsTree image) }
+{
+    let mut pages = Vec::new(alloc);
+    pages.push(page(&[MAGIC, 1, 0]))?;
+    pages.push(page(&[2, 1, 0, 0, 1, 0, 0, 0, 9, 4]))?;
+    pages.push(page(&[]))?;
+    let image = Image::of_pages(pages);
+    check(alloc, &image)?;
+    Ok(image)
+}
+
+/// Five pages: below the root on page 3, leaves with the pair 9 4 on page 1, and 20 5 on page 2.
+fn two_leaves(alloc: Global) -> Result<Image, Fail>
+    ensures { IfOk result (λ image. IsTree image) }
+{
+    let mut pages = Vec::new(alloc);
+    pages.push(page(&[MAGIC, 3, 1]))?;
+    pages.push(page(&[2, 1, 0, 15, 0, 0, 0, 0, 9, 4]))?;
+    pages.push(page(&[2, 1, 15, 0, 1, 0, 0, 0, 20, 5]))?;
+    pages.push(page(&[3, 2, 0, 0, 1, 1, 0, 0, 0, 1, 15, 2]))?;
+    pages.push(page(&[]))?;
+    let image = Image::of_pages(pages);
+    check(alloc, &image)?;
+    Ok(image)
+}
+
+/// The blocks that come back hold a tree with what the workers did.
+#[test]
+fn a_tree_is_served(rt: HostRuntime) -> Result<(), Fail> {
+    let alloc = rt.alloc();
+    let image = one_pair(alloc)?;
+    let put = Call::Put { key: 3, value: 1 };
+    let lists = two_lists(alloc, &[put], &[Call::Get { key: 9 }])?;
+    let served = serve(&rt, alloc, &image, &[], 0, 64, lists.as_slice(), &Open)?;
+    let after = image_of(alloc, served.blocks.as_slice())?;
+    let rows = check(alloc, &after)?;
+    let want = [Pair { key: 3, value: 1 }, Pair { key: 9, value: 4 }];
+    assert!(rt; rows.pairs.as_slice() == want.as_slice());
+    let [put, read] = served.replies.as_slice() else {
+        return Err(Fail::from("two lists of replies"));
+    };
+    assert!(rt; put.as_slice() == [Ok(Reply::Was(None))].as_slice());
+    assert!(rt; read.as_slice() == [Ok(Reply::Got(Some(4)))].as_slice());
+    assert_eq!(rt; served.evicted, 0);
+    assert_eq!(rt; served.report.first, None);
+    assert_eq!(rt; served.report.written, 1);
+    let sums = [
+        served.ended.reads(),
+        served.ended.writes(),
+        served.ended.faults(),
+    ];
+    assert_eq!(rt; sums, [2, 1, 0]);
+    Ok(())
+}
+
+/// Call 2 of page 1's block is the write of the last flush.
+#[test]
+fn a_failed_write_of_the_last_flush_is_told(rt: HostRuntime) -> Result<(), Fail> {
+    let alloc = rt.alloc();
+    let image = one_pair(alloc)?;
+    let plan = [PlannedFault { page: 1, number: 2 }];
+    let put = Call::Put { key: 3, value: 1 };
+    let lists = two_lists(alloc, &[put], &[Call::Get { key: 9 }])?;
+    let served = serve(&rt, alloc, &image, &plan, 0, 64, lists.as_slice(), &Open)?;
+    assert_eq!(rt; served.report.first, Some(1));
+    assert_eq!(rt; served.report.failed, 1);
+    let sums = [
+        served.ended.reads(),
+        served.ended.writes(),
+        served.ended.faults(),
+    ];
+    assert_eq!(rt; sums, [2, 0, 1]);
+    Ok(())
+}
+
+/// Both leaves' second calls are the writes of the last flush: the lesser page is told.
+#[test]
+fn the_least_page_that_is_not_written_is_told(rt: HostRuntime) -> Result<(), Fail> {
+    let alloc = rt.alloc();
+    let image = two_leaves(alloc)?;
+    let plan = [
+        PlannedFault { page: 2, number: 2 },
+        PlannedFault { page: 1, number: 2 },
+    ];
+    let high = Call::Put { key: 20, value: 1 };
+    let low = Call::Put { key: 9, value: 1 };
+    let lists = two_lists(alloc, &[high], &[low])?;
+    let served = serve(&rt, alloc, &image, &plan, 0, 64, lists.as_slice(), &Open)?;
+    assert_eq!(rt; served.report.first, Some(1));
+    assert_eq!(rt; served.report.failed, 2);
+    let sums = [
+        served.ended.reads(),
+        served.ended.writes(),
+        served.ended.faults(),
+    ];
+    assert_eq!(rt; sums, [4, 0, 2]);
+    Ok(())
+}
