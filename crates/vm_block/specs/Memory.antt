@@ -10,30 +10,31 @@ abbrev pub words_of : MemBlock → List ℕ
 words_of block = block.words
 
 -- the numbers of the calls that fail
-abbrev pub plan_of : MemBlock → List ℕ
-plan_of block = block.plan.numbers.items
+abbrev pub planned_calls : MemBlock → List ℕ
+planned_calls block = block.plan.numbers.items
 
 -- how many reads and writes were made together, up to the last value
-abbrev pub calls_of : MemBlock → ℕ
-calls_of block = block.plan.calls
+abbrev pub calls_made : MemBlock → ℕ
+calls_made block = block.plan.calls
 
+-- what contracts see of a block in memory: its bound is how many different numbers its plan has
 abbrev pub stored_of : MemBlock → Stored
 stored_of block = record { words = block.words; count = block.plan.faults; bound = most_faults block.plan.numbers.items; reads = block.reads; writes = block.writes }
 
 -- whether the next call is to fail
-abbrev pub is_planned : MemBlock → Bool
-is_planned block = plans.is_planned (plan_of block) (calls_of block)
+abbrev pub fails_next : MemBlock → Bool
+fails_next block = plans.plans_failure (planned_calls block) (calls_made block)
 
 -- one more call was made, and the plan is the same
-pub record IsNext (old new : MemBlock) : Type 0 where
-  pub calls : calls_of new ≡ plans.next_call (calls_of old)
-  pub plan : plan_of new ≡ plan_of old
+pub record IsNextCall (old new : MemBlock) : Type 0 where
+  pub calls : calls_made new ≡ plans.calls_after (calls_made old)
+  pub plan : planned_calls new ≡ planned_calls old
 
 -- a block that holds these words, fails the calls of this plan, and has counted nothing
-pub record IsFresh (block : MemBlock) (words plan : List ℕ) : Type 0 where
+pub record IsNewBlock (block : MemBlock) (words plan : List ℕ) : Type 0 where
   pub held : words_of block ≡ words
-  pub planned : plan_of block ≡ plan
-  pub calls : calls_of block ≡ 0
+  pub planned : planned_calls block ≡ plan
+  pub calls : calls_made block ≡ 0
   pub count : (stored_of block).count ≡ 0
   pub reads : (stored_of block).reads ≡ 0
   pub writes : (stored_of block).writes ≡ 0

@@ -4,12 +4,12 @@ use Rattle.std.specs.List.{count_by}
 use Rattle.std.specs.Set.{unique_keys, is_member, distinct_count}
 
 -- whether the call after so many is to fail: its number is in the plan. A call past number 2^64 - 1 has no number, and does not fail.
-abbrev pub is_planned : List ℕ → ℕ → Bool
-is_planned numbers calls = nat_lt calls (2 ^ 64 - 1) && is_member nat_eq numbers (calls + 1)
+abbrev pub plans_failure : List ℕ → ℕ → Bool
+plans_failure numbers calls = nat_lt calls (2 ^ 64 - 1) && is_member nat_eq numbers (calls + 1)
 
 -- how many calls were made, after one more: they are counted up to 2^64 - 1
-abbrev pub next_call : ℕ → ℕ
-next_call calls = min (calls + 1) (2 ^ 64 - 1)
+abbrev pub calls_after : ℕ → ℕ
+calls_after calls = min (calls + 1) (2 ^ 64 - 1)
 
 -- how many different numbers of the plan are at most this
 abbrev pub up_to : List ℕ → ℕ → ℕ

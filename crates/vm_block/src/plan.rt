@@ -1,8 +1,8 @@
 //! Which calls of a block in memory fail.
 
 ghost use Rattle.std.specs.Prelude.{◌≡◌, ℕ, ◌+◌, ◌-◌, ◌^◌, ◌≤◌, ◌<◌, IfOk, if◌then◌else◌};
-ghost use Rattle.vm_block.specs.Blocks.{one_more};
-ghost use Rattle.vm_block.specs.Plans.{is_planned, most_faults, next_call, up_to};
+ghost use Rattle.vm_block.specs.Blocks.{one_call_more};
+ghost use Rattle.vm_block.specs.Plans.{plans_failure, most_faults, calls_after, up_to};
 
 use std::alloc::{AllocError, Global};
 
@@ -33,10 +33,10 @@ impl Plan {
 
     /// Counts a call, and says whether it fails. A failure is counted too.
     pub fn fails(&mut self) -> bool
-        ensures planned { result ≡ is_planned self.old.numbers.items self.old.calls }
-        ensures calls { self.new.calls ≡ next_call self.old.calls }
+        ensures planned { result ≡ plans_failure self.old.numbers.items self.old.calls }
+        ensures calls { self.new.calls ≡ calls_after self.old.calls }
         ensures numbers { self.new.numbers.items ≡ self.old.numbers.items }
-        ensures faults { self.new.faults ≡ (if result then one_more self.old.faults else self.old.faults) }
+        ensures faults { self.new.faults ≡ (if result then one_call_more self.old.faults else self.old.faults) }
     {
         if self.calls == u64::MAX {
             return false;

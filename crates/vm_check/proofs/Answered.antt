@@ -3,8 +3,8 @@ use Rattle.std.proofs.Common.{◌≡◌, ℕ, ◌∷◌, List, [], length, rever
 use Rattle.vm_tree_model.specs.Tree.{page_at}
 use Rattle.vm_tree_model.specs.Walk.{Slot, meta_fault}
 use Rattle.vm_tree_model.specs.Reason.{Walked, lost_or, first_lost, walk, walked, first_outcome, fault_of}
-use Rattle.vm_check.specs.Progress.{outcome, outcome_at, IsFaultOf, IsLost}
-use Rattle.vm_check.specs.Rows.{IsRefused}
+use Rattle.vm_check.specs.Progress.{outcome, outcome_at, IsFaultOf, IsOrphan}
+use Rattle.vm_check.specs.Rows.{IsRefusedImage}
 use Rattle.vm_check.specs.declared.walk.Walk.{Walk}
 use Rattle.vm_check.specs.declared.fault.CheckFault.{CheckFault}
 use Rattle.vm_check.specs.declared.fault.CheckFault.TheVariants.{BadPage, Memory}
@@ -12,11 +12,11 @@ use Rattle.vm_tree_model.proofs.Complete.{fault_or-None}
 use Rattle.vm_tree_model.proofs.Theorem.{walk_from_tree}
 
 -- a fault of the walk refuses the image
-pub refused : (pages : List (List ℕ)) (fault : CheckFault) → IsFaultOf (walked pages) fault → IsRefused pages fault
+pub refused : (pages : List (List ℕ)) (fault : CheckFault) → IsFaultOf (walked pages) fault → IsRefusedImage pages fault
 refused pages (BadPage page why) is = (ap fault_of is, λ tree. (let rows = walk_from_tree pages tree in cc))
 refused pages Memory is = tt
 
-pub refused_at : (pages : List (List ℕ)) (fault : CheckFault) (w : Walked) → w ≡ walked pages → IsFaultOf w fault → IsRefused pages fault
+pub refused_at : (pages : List (List ℕ)) (fault : CheckFault) (w : Walked) → w ≡ walked pages → IsFaultOf w fault → IsRefusedImage pages fault
 refused_at pages fault w same is = refused pages fault (rw same at is)
 
 pub meta_refused : (pages : List (List ℕ)) (why : ℕ) → meta_fault (length pages) (page_at pages 0) ≡ Some why → walked pages ≡ Err (0, why)
@@ -34,7 +34,7 @@ pub ended : (pages : List (List ℕ)) (w : Walk) → reverse w.slots.items ≡ [
 unfolding walk
 ended pages w none = rw none refl
 
-pub lost_refused : (pages : List (List ℕ)) (fault : CheckFault) (lost : Option ℕ) (rest : Walked) → lost_or lost rest ≡ walked pages → IsLost lost fault → IsRefused pages fault
+pub lost_refused : (pages : List (List ℕ)) (fault : CheckFault) (lost : Option ℕ) (rest : Walked) → lost_or lost rest ≡ walked pages → IsOrphan lost fault → IsRefusedImage pages fault
 lost_refused pages (BadPage page why) lost rest same is =
     refused pages (BadPage page why) (sym same ∙ (rw (is.0, is.1) refl))
 lost_refused pages Memory lost rest same is = absurd is

@@ -8,7 +8,7 @@ use Rattle.vm_tree_model.specs.Page.{pairs_of}
 use Rattle.vm_tree_model.specs.Tree.{page_at, leaf_part}
 use Rattle.vm_tree_model.specs.Walk.{Slot, children, slots_below, slot_fault, names_pages}
 use Rattle.vm_tree_model.specs.Reason.{walk, comes_to, unseen_pages}
-use Rattle.vm_check.specs.Progress.{AllInside, IsGoing, IsNext}
+use Rattle.vm_check.specs.Progress.{AllInside, IsGoing, IsNextVisit}
 use Rattle.vm_check.specs.declared.walk.Walk.{Walk}
 use Rattle.vm_tree_model.proofs.Tests.{tests_tell, unseen_tells}
 use Rattle.vm_tree_model.proofs.Complete.{unseen-less, fault_or-None}
@@ -75,7 +75,7 @@ pub next_visit : (pages : List (List ℕ)) (s : Slot) (old new : Walk) → IsGoi
     → reverse new.slots.items ≡ slots_below s (page_at pages s.page) ++ reverse old.slots.items
     → new.rows.items ≡ old.rows.items ++ leaf_part (page_at pages s.page)
     → AllInside (length pages) (slots_below s (page_at pages s.page) ++ reverse old.slots.items)
-    → IsNext pages s old new
+    → IsNextVisit pages s old new
 next_visit pages s old new going within none visited slots rows all =
     let inside : s.page < length old.visited.items = rw going.flags within in
     let unseen = (unseen_tells (length pages) s (page_at pages s.page) (get_or old.visited.items s.page false) none).0 in

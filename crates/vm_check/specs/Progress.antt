@@ -25,7 +25,7 @@ abbrev pub outcome_at : List (List ℕ) → Slot → Walk → Walked
 outcome_at pages slot walk = comes_to pages (slot ∷ reverse walk.slots.items) walk.visited.items walk.rows.items
 
 -- one visit further: the outcome is the same, and one page fewer is unvisited
-pub record IsNext (pages : List (List ℕ)) (slot : Slot) (old new : Walk) : Type 0 where
+pub record IsNextVisit (pages : List (List ℕ)) (slot : Slot) (old new : Walk) : Type 0 where
   pub going : IsGoing pages new
   pub same : outcome_at pages slot old ≡ outcome pages new
   pub fewer : unseen_pages new.visited.items < unseen_pages old.visited.items
@@ -36,6 +36,6 @@ IsFaultOf walked (BadPage page why) = walked ≡ Err (page, why)
 IsFaultOf walked Memory = Unit {0}
 
 -- the fault is that of the page that was lost
-abbrev pub IsLost : Option ℕ → CheckFault → Type 0
-IsLost lost (BadPage page why) = (lost ≡ Some page) × (why ≡ 9)
-IsLost lost Memory = ⊥
+abbrev pub IsOrphan : Option ℕ → CheckFault → Type 0
+IsOrphan lost (BadPage page why) = (lost ≡ Some page) × (why ≡ 9)
+IsOrphan lost Memory = ⊥

@@ -18,6 +18,6 @@ pub record AreRows (pages : List (List ℕ)) (rows : Rows) : Type 0 where
   pub used : rows.used ≡ used_pages pages
 
 -- the pages are no tree, and this is the first reason; or memory is wanting
-abbrev pub IsRefused : List (List ℕ) → CheckFault → Type 0
-IsRefused pages (BadPage page why) = (reason pages ≡ Some (page, why)) × ¬ (IsTree pages)
-IsRefused pages Memory = Unit {0}
+abbrev pub IsRefusedImage : List (List ℕ) → CheckFault → Type 0
+IsRefusedImage pages (BadPage page why) = (reason pages ≡ Some (page, why)) × ¬ (IsTree pages)
+IsRefusedImage pages Memory = Unit {0}

@@ -4,7 +4,7 @@ ghost use Rattle.std.specs.Prelude.{◌≡◌, length, slice_index, MatchOption,
 ghost use Rattle.vm_page.specs.Pages.{page_at};
 ghost use Rattle.vm_tree_model.specs.Walk.{meta_fault};
 ghost use Rattle.vm_tree_model.specs.Reason.{walked};
-ghost use Rattle.vm_check.specs.Rows.{AreRows, IsRefused};
+ghost use Rattle.vm_check.specs.Rows.{AreRows, IsRefusedImage};
 ghost use Rattle.vm_check.specs.Progress.{outcome, IsGoing};
 
 use crate::fault::CheckFault;
@@ -19,7 +19,7 @@ const MAGIC: u64 = 0x564D_4341_4348_4531;
 /// The rows of the tree that the pages are, by rising key; or the first reason why they are none: the page at fault and
 /// the reason's number, as the walk over page 0, the tree and the other pages meets them.
 pub fn check(alloc: Global, image: &Image) -> Result<Rows, CheckFault>
-    ensures { MatchResult result (λ rows. AreRows image.now rows) (λ fault. IsRefused image.now fault) }
+    ensures { MatchResult result (λ rows. AreRows image.now rows) (λ fault. IsRefusedImage image.now fault) }
 {
     match meta_fault(image) {
         Some(why) => return Err(CheckFault::BadPage { pid: 0, why }),

@@ -6,7 +6,7 @@ ghost use Rattle.vm_tree_model.specs.Page.{pairs_of};
 ghost use Rattle.vm_tree_model.specs.Tree.{page_at};
 ghost use Rattle.vm_tree_model.specs.Walk.{all_zero, names_pages, children};
 ghost use Rattle.vm_tree_model.specs.Reason.{first_lost, first_outcome, used_pages};
-ghost use Rattle.vm_check.specs.Progress.{IsGoing, IsNext, IsFaultOf, IsLost, outcome, outcome_at};
+ghost use Rattle.vm_check.specs.Progress.{IsGoing, IsNextVisit, IsFaultOf, IsOrphan, outcome, outcome_at};
 
 use crate::fault::CheckFault;
 use crate::slot::Slot;
@@ -50,7 +50,7 @@ impl Walk {
     pub(crate) fn used_pages(&self, image: &Image) -> Result<u32, CheckFault>
         requires flags { length self.now.visited.items ≡ length image.now }
         requires meta { all_zero (page_at image.now 0) ≡ false }
-        ensures { MatchResult result (λ used. (used ≡ used_pages image.now) × (first_lost (drop 1 image.now) self.now.visited.items 1 ≡ None)) (λ fault. IsLost (first_lost (drop 1 image.now) self.now.visited.items 1) fault) }
+        ensures { MatchResult result (λ used. (used ≡ used_pages image.now) × (first_lost (drop 1 image.now) self.now.visited.items 1 ≡ None)) (λ fault. IsOrphan (first_lost (drop 1 image.now) self.now.visited.items 1) fault) }
     {
         let mut used = 1;
         for p in 1..image.pages() {
@@ -78,7 +78,7 @@ impl Walk {
     pub(crate) fn visit(&mut self, image: &Image, slot: Slot) -> Result<(), CheckFault>
         requires going { IsGoing image.now self.old }
         requires inside { slot.page < length image.now }
-        ensures { MatchResult result (λ _. IsNext image.now slot self.old self.new) (λ fault. IsFaultOf (outcome_at image.now slot self.old) fault) }
+        ensures { MatchResult result (λ _. IsNextVisit image.now slot self.old self.new) (λ fault. IsFaultOf (outcome_at image.now slot self.old) fault) }
     {
         let page = image.page(slot.page);
         let was_visited = self.visited[slot.page as usize];

@@ -5,7 +5,7 @@ use Rattle.std.proofs.lemmas.Bool.Decides.{nat_tests}
 use Rattle.vm_core.specs.declared.event.Seat.{Seat}
 use Rattle.vm_core.specs.Fn.{upd, sum_below}
 use Rattle.vm_core.specs.Words.{UNLOCKED, LOCKED, MARKED, EVICTED, MAX_VERSION}
-use Rattle.vm_core.specs.StateActs.{one_more, unshared}
+use Rattle.vm_core.specs.StateActs.{one_share_more, unshared}
 use Rattle.vm_core.specs.Inv.{LocksInv, OneHolder, share_count}
 use Rattle.vm_core.proofs.Upd.{upd-tells, sum_below-change}
 
@@ -45,10 +45,10 @@ locks-lock actors state version seats a lt s below i =
     }
 
 -- a shared lock
-pub locks-share : (actors state version : ℕ) (seats : ℕ → Seat) (a : ℕ) → a < actors → (state ≤ 251) ⊎ (state ≡ MARKED) → LocksInv actors state version seats → LocksInv actors (one_more state) version (upd seats a (record (seats a) { shares = (seats a).shares + 1; reading = None }))
+pub locks-share : (actors state version : ℕ) (seats : ℕ → Seat) (a : ℕ) → a < actors → (state ≤ 251) ⊎ (state ≡ MARKED) → LocksInv actors state version seats → LocksInv actors (one_share_more state) version (upd seats a (record (seats a) { shares = (seats a).shares + 1; reading = None }))
 locks-share actors state version seats a lt s i =
     let free : state ≢ LOCKED = grind (arith, s) in
-    let after : one_more state < LOCKED = grind (arith, s, nat_tests) in
+    let after : one_share_more state < LOCKED = grind (arith, s, nat_tests) in
     let seats' : ℕ → Seat = upd seats a (record (seats a) { shares = (seats a).shares + 1; reading = None }) in
     let change : sum_below actors (λ b. (seats' b).shares) + (seats a).shares ≡ sum_below actors (λ b. (seats b).shares) + (seats' a).shares = sum_below-change actors (λ b. (seats' b).shares) (λ b. (seats b).shares) a lt (grind (arith, upd-tells)) in
     record {

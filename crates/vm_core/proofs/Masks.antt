@@ -7,7 +7,7 @@ use Rattle.std.proofs.lemmas.Nat.Bits.{bit_at_clear_same, bit_at_clear_other, bi
 use Rattle.std.specs.List.{All}
 use mathlib.Core.Path.{fun_ext}
 use Rattle.vm_core.specs.Fn.{at, upd}
-use Rattle.vm_core.specs.Words.{is_free, in_mask}
+use Rattle.vm_core.specs.Words.{has_free_bit, in_mask}
 use Rattle.vm_core.specs.State.{State}
 use Rattle.vm_core.specs.PageOf.{CoreData, PageData, core_of, page_of, pages_of, held_of}
 use Rattle.vm_core.specs.FrameActs.{installed, cleared, gains}
@@ -30,8 +30,8 @@ max-bit x m bx bm =
     (cases_eq m 1)
 
 -- one bit is cleared
-pub cleared-free : (words : ℕ → ℕ) (f x : ℕ) → words (f / 64) ≡ x → is_free (upd words (f / 64) (bit_and x (bit_not w64 (1 * 2 ^ (f % 64) % 2 ^ 64)))) ≡ upd (is_free words) f false
-unfolding is_free
+pub cleared-free : (words : ℕ → ℕ) (f x : ℕ) → words (f / 64) ≡ x → has_free_bit (upd words (f / 64) (bit_and x (bit_not w64 (1 * 2 ^ (f % 64) % 2 ^ 64)))) ≡ upd (has_free_bit words) f false
+unfolding has_free_bit
 cleared-free words f x e =
     fun_ext (λ j. ⊎_elim
     (λ s. ⊎_elim
@@ -48,8 +48,8 @@ cleared-free words f x e =
     y = bit_and x (bit_not w64 (1 * 2 ^ (f % 64) % 2 ^ 64))
 
 -- one bit is set
-pub inserted-free : (words : ℕ → ℕ) (f x : ℕ) → words (f / 64) ≡ x → is_free (upd words (f / 64) (bit_or x (1 * 2 ^ (f % 64) % 2 ^ 64))) ≡ upd (is_free words) f true
-unfolding is_free
+pub inserted-free : (words : ℕ → ℕ) (f x : ℕ) → words (f / 64) ≡ x → has_free_bit (upd words (f / 64) (bit_or x (1 * 2 ^ (f % 64) % 2 ^ 64))) ≡ upd (has_free_bit words) f true
+unfolding has_free_bit
 inserted-free words f x e =
     fun_ext (λ j. ⊎_elim
     (λ s. ⊎_elim
@@ -66,8 +66,8 @@ inserted-free words f x e =
     y = bit_or x (1 * 2 ^ (f % 64) % 2 ^ 64)
 
 -- the bits of a mask are set
-pub added-free : (words : ℕ → ℕ) (g m f : ℕ) → is_free (upd words g (bit_or (words g) m)) f ≡ cond (in_mask g m f) true (is_free words f)
-unfolding is_free in_mask
+pub added-free : (words : ℕ → ℕ) (g m f : ℕ) → has_free_bit (upd words g (bit_or (words g) m)) f ≡ cond (in_mask g m f) true (has_free_bit words f)
+unfolding has_free_bit in_mask
 added-free words g m f =
     ⊎_elim
     (λ s. let new : upd words g (bit_or (words g) m) (f / 64) ≡ bit_or (words g) m = ap (upd words g (bit_or (words g) m)) s ∙ upd-same words g (bit_or (words g) m) in
@@ -87,8 +87,8 @@ min-bit x m bx bm =
     (cases_eq m 1)
 
 -- the bits of a mask are cleared
-pub removed-free : (words : ℕ → ℕ) (g x m f : ℕ) → words g ≡ x → m < 2 ^ 64 → is_free (upd words g (bit_and x (bit_not w64 m))) f ≡ cond (in_mask g m f) false (is_free words f)
-unfolding is_free in_mask
+pub removed-free : (words : ℕ → ℕ) (g x m f : ℕ) → words g ≡ x → m < 2 ^ 64 → has_free_bit (upd words g (bit_and x (bit_not w64 m))) f ≡ cond (in_mask g m f) false (has_free_bit words f)
+unfolding has_free_bit in_mask
 removed-free words g x m f e lt =
     ⊎_elim
     (λ s. let new : upd words g y (f / 64) ≡ y = ap (upd words g y) s ∙ upd-same words g y in
@@ -105,8 +105,8 @@ removed-free words g x m f e lt =
     y = bit_and x (bit_not w64 m)
 
 -- the mask is among the bits of a word exactly where each of its frames is in the set
-pub all-held : (words : ℕ → ℕ) (g x m : ℕ) → words g ≡ x → m < 2 ^ 64 → (bit_and m x ≡ m → (f : ℕ) → in_mask g m f ≡ true → is_free words f ≡ true) × (((f : ℕ) → in_mask g m f ≡ true → is_free words f ≡ true) → bit_and m x ≡ m)
-unfolding is_free in_mask
+pub all-held : (words : ℕ → ℕ) (g x m : ℕ) → words g ≡ x → m < 2 ^ 64 → (bit_and m x ≡ m → (f : ℕ) → in_mask g m f ≡ true → has_free_bit words f ≡ true) × (((f : ℕ) → in_mask g m f ≡ true → has_free_bit words f ≡ true) → bit_and m x ≡ m)
+unfolding has_free_bit in_mask
 all-held words g x m e lt = (
   (λ among f q. let parts : (eqb (f / 64) g ≡ true) × (eqb (bit_at m (f % 64)) 1 ≡ true) = and_parts _ _ q in
       let one : bit_at m (f % 64) ≡ 1 = eqb-true _ _ parts.1 in
@@ -145,13 +145,13 @@ core-taken c a g w m row row' la lg e n =
     ap (λ bs. record (core_of c) { bundles = bs; held = held_of (slice_set c.held a row') }) (at_set 0 c.bundles g (bit_xor w m) lg)
     ∙ ap (λ hs. record (core_of c) { bundles = upd (at 0 c.bundles) g (bit_xor w m); held = hs })
     (fun_ext (λ b. fun_ext (λ f.
-    ap (λ rows. is_free (at 0 (rows b)) f) (at_set [] c.held a row' la)
+    ap (λ rows. has_free_bit (at 0 (rows b)) f) (at_set [] c.held a row' la)
     ∙ ⊎_elim
-    (λ s. ap (λ y. is_free (at 0 (upd (at [] c.held) a row' y)) f) s ∙ ap (λ y. is_free (at 0 y) f) (upd-same (at [] c.held) a row')
-    ∙ ap (λ y. is_free y f) n ∙ added-free (at 0 row) g m f
-    ∙ ap (λ y. cond (in_mask g m f) true (is_free (at 0 y) f)) (sym (ap (at [] c.held) s ∙ at-value [] c.held a row la e))
+    (λ s. ap (λ y. has_free_bit (at 0 (upd (at [] c.held) a row' y)) f) s ∙ ap (λ y. has_free_bit (at 0 y) f) (upd-same (at [] c.held) a row')
+    ∙ ap (λ y. has_free_bit y f) n ∙ added-free (at 0 row) g m f
+    ∙ ap (λ y. cond (in_mask g m f) true (has_free_bit (at 0 y) f)) (sym (ap (at [] c.held) s ∙ at-value [] c.held a row la e))
     ∙ sym (ap (λ v. cond (v && in_mask g m f) true (held_of c.held b f)) (eq-eqb b a s)))
-    (λ ne. ap (λ y. is_free (at 0 y) f) (upd-other (at [] c.held) a row' b ne)
+    (λ ne. ap (λ y. has_free_bit (at 0 y) f) (upd-other (at [] c.held) a row' b ne)
     ∙ sym (ap (λ v. cond (v && in_mask g m f) true (held_of c.held b f)) (ne_eqb b a ne)))
     (cases_eq b a))))
 
@@ -159,40 +159,40 @@ core-taken c a g w m row row' la lg e n =
 pub row-length : (rows : List (List ℕ)) (a n : ℕ) (row : List ℕ) → a < length rows → row ≡ get_or rows a row → All (λ r. length r ≡ n) rows → length row ≡ n
 row-length rows a n row lt e all = ap length e ∙ all a row lt
 
-pub held-row : (rows : List (List ℕ)) (a f : ℕ) (row : List ℕ) → a < length rows → row ≡ get_or rows a row → is_free (at 0 row) f ≡ held_of rows a f
-held-row rows a f row lt e = ap (λ y. is_free (at 0 y) f) (sym (at-value [] rows a row lt e))
+pub held-row : (rows : List (List ℕ)) (a f : ℕ) (row : List ℕ) → a < length rows → row ≡ get_or rows a row → has_free_bit (at 0 row) f ≡ held_of rows a f
+held-row rows a f row lt e = ap (λ y. has_free_bit (at 0 y) f) (sym (at-value [] rows a row lt e))
 
 -- a held frame is put under a page
-pub core-installed : (c : CoreData) (a p f : ℕ) (r r' : PageData) (row row' : List ℕ) → p < length c.pages → a < length c.held → r ≡ get_or c.pages p r → page_of r' ≡ installed (page_of r) f → row ≡ get_or c.held a row → is_free (at 0 row') ≡ upd (is_free (at 0 row)) f false → core_of (record c { pages = slice_set c.pages p r'; held = slice_set c.held a row' }) ≡ put_under (core_of c) a p f
+pub core-installed : (c : CoreData) (a p f : ℕ) (r r' : PageData) (row row' : List ℕ) → p < length c.pages → a < length c.held → r ≡ get_or c.pages p r → page_of r' ≡ installed (page_of r) f → row ≡ get_or c.held a row → has_free_bit (at 0 row') ≡ upd (has_free_bit (at 0 row)) f false → core_of (record c { pages = slice_set c.pages p r'; held = slice_set c.held a row' }) ≡ put_under (core_of c) a p f
 core-installed c a p f r r' row row' lp la er is ew n =
     ap (λ (y : State). record y { held = held_of (slice_set c.held a row') }) (core-page c p r' lp)
     ∙ ap (λ pg. record (core_of c) { pages = upd (core_of c).pages p pg; held = held_of (slice_set c.held a row') }) (is ∙ ap (λ y. installed y f) (sym (core-page_at c p r lp er)))
     ∙ ap (λ hs. record (core_of c) { pages = upd (core_of c).pages p (installed ((core_of c).pages p) f); held = hs })
-    (fun_ext (λ b. ap (λ rows. is_free (at 0 (rows b))) (at_set [] c.held a row' la) ∙ upd-map (λ y. is_free (at 0 y)) (at [] c.held) a row' b
-    ∙ ap (λ v. upd (held_of c.held) a v b) (n ∙ ap (λ y. upd (is_free (at 0 y)) f false) (sym (at-value [] c.held a row la ew)))))
+    (fun_ext (λ b. ap (λ rows. has_free_bit (at 0 (rows b))) (at_set [] c.held a row' la) ∙ upd-map (λ y. has_free_bit (at 0 y)) (at [] c.held) a row' b
+    ∙ ap (λ v. upd (held_of c.held) a v b) (n ∙ ap (λ y. upd (has_free_bit (at 0 y)) f false) (sym (at-value [] c.held a row la ew)))))
 
 -- the frame of a page goes to an actor
-pub core-cleared : (c : CoreData) (a p f : ℕ) (r r' : PageData) (row row' : List ℕ) → p < length c.pages → a < length c.held → r ≡ get_or c.pages p r → (pages_of c.pages p).trans ≡ Some (record { frame = f; dirty = false }) → page_of r' ≡ cleared (page_of r) → row ≡ get_or c.held a row → is_free (at 0 row') ≡ upd (is_free (at 0 row)) f true → core_of (record c { pages = slice_set c.pages p r'; held = slice_set c.held a row' }) ≡ taken_out (core_of c) a p
+pub core-cleared : (c : CoreData) (a p f : ℕ) (r r' : PageData) (row row' : List ℕ) → p < length c.pages → a < length c.held → r ≡ get_or c.pages p r → (pages_of c.pages p).trans ≡ Some (record { frame = f; dirty = false }) → page_of r' ≡ cleared (page_of r) → row ≡ get_or c.held a row → has_free_bit (at 0 row') ≡ upd (has_free_bit (at 0 row)) f true → core_of (record c { pages = slice_set c.pages p r'; held = slice_set c.held a row' }) ≡ taken_out (core_of c) a p
 core-cleared c a p f r r' row row' lp la er st is ew n =
     ap (λ (y : State). record y { held = held_of (slice_set c.held a row') }) (core-page c p r' lp)
     ∙ ap (λ pg. record (core_of c) { pages = upd (core_of c).pages p pg; held = held_of (slice_set c.held a row') }) (is ∙ ap cleared (sym (core-page_at c p r lp er)))
     ∙ ap (λ hs. record (core_of c) { pages = upd (core_of c).pages p (cleared ((core_of c).pages p)); held = hs })
-    (fun_ext (λ b. ap (λ rows. is_free (at 0 (rows b))) (at_set [] c.held a row' la) ∙ upd-map (λ y. is_free (at 0 y)) (at [] c.held) a row' b
-    ∙ ap (λ v. upd (held_of c.held) a v b) (n ∙ ap (λ y. upd (is_free (at 0 y)) f true) (sym (at-value [] c.held a row la ew)) ∙ sym (ap (gains (held_of c.held a)) st))))
+    (fun_ext (λ b. ap (λ rows. has_free_bit (at 0 (rows b))) (at_set [] c.held a row' la) ∙ upd-map (λ y. has_free_bit (at 0 y)) (at [] c.held) a row' b
+    ∙ ap (λ v. upd (held_of c.held) a v b) (n ∙ ap (λ y. upd (has_free_bit (at 0 y)) f true) (sym (at-value [] c.held a row la ew)) ∙ sym (ap (gains (held_of c.held a)) st))))
 
 -- the frames of a mask go to their bundle
-pub core-given : (c : CoreData) (a g w m : ℕ) (row row' : List ℕ) → a < length c.held → g < length c.bundles → w ≡ get_or c.bundles g w → row ≡ get_or c.held a row → ((f : ℕ) → is_free (at 0 row') f ≡ cond (in_mask g m f) false (is_free (at 0 row) f)) → core_of (record c { bundles = slice_set c.bundles g (bit_or w m); held = slice_set c.held a row' }) ≡ given (core_of c) a g m
+pub core-given : (c : CoreData) (a g w m : ℕ) (row row' : List ℕ) → a < length c.held → g < length c.bundles → w ≡ get_or c.bundles g w → row ≡ get_or c.held a row → ((f : ℕ) → has_free_bit (at 0 row') f ≡ cond (in_mask g m f) false (has_free_bit (at 0 row) f)) → core_of (record c { bundles = slice_set c.bundles g (bit_or w m); held = slice_set c.held a row' }) ≡ given (core_of c) a g m
 core-given c a g w m row row' la lg ew e n =
     ap (λ bs. record (core_of c) { bundles = bs; held = held_of (slice_set c.held a row') })
     (at_set 0 c.bundles g (bit_or w m) lg ∙ ap (λ y. upd (at 0 c.bundles) g (bit_or y m)) (sym (at-value 0 c.bundles g w lg ew)))
     ∙ ap (λ hs. record (core_of c) { bundles = upd (at 0 c.bundles) g (bit_or (at 0 c.bundles g) m); held = hs })
     (fun_ext (λ b. fun_ext (λ f.
-    ap (λ rows. is_free (at 0 (rows b)) f) (at_set [] c.held a row' la)
+    ap (λ rows. has_free_bit (at 0 (rows b)) f) (at_set [] c.held a row' la)
     ∙ ⊎_elim
-    (λ s. ap (λ y. is_free (at 0 (upd (at [] c.held) a row' y)) f) s ∙ ap (λ y. is_free (at 0 y) f) (upd-same (at [] c.held) a row')
+    (λ s. ap (λ y. has_free_bit (at 0 (upd (at [] c.held) a row' y)) f) s ∙ ap (λ y. has_free_bit (at 0 y) f) (upd-same (at [] c.held) a row')
     ∙ n f
-    ∙ ap (λ y. cond (in_mask g m f) false (is_free (at 0 y) f)) (sym (ap (at [] c.held) s ∙ at-value [] c.held a row la e))
+    ∙ ap (λ y. cond (in_mask g m f) false (has_free_bit (at 0 y) f)) (sym (ap (at [] c.held) s ∙ at-value [] c.held a row la e))
     ∙ sym (ap (λ v. cond (v && in_mask g m f) false (held_of c.held b f)) (eq-eqb b a s)))
-    (λ ne. ap (λ y. is_free (at 0 y) f) (upd-other (at [] c.held) a row' b ne)
+    (λ ne. ap (λ y. has_free_bit (at 0 y) f) (upd-other (at [] c.held) a row' b ne)
     ∙ sym (ap (λ v. cond (v && in_mask g m f) false (held_of c.held b f)) (ne_eqb b a ne)))
     (cases_eq b a))))

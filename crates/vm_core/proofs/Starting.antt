@@ -11,9 +11,9 @@ use Rattle.vm_core.specs.CoreOf.{CoreFits, InFrames}
 use Rattle.vm_core.specs.Fn.{at, sum_below}
 use Rattle.vm_core.specs.Inv.{LocksInv}
 use Rattle.vm_core.specs.Making.{IsStartPage, StartPages, StartBundles}
-use Rattle.vm_core.specs.PageOf.{PageData, page_of, pages_of, words_of, held_of, core_of}
+use Rattle.vm_core.specs.PageOf.{PageData, page_of, pages_of, words_of_frames, held_of, core_of}
 use Rattle.vm_core.specs.Start.{core_block, core_start, evicted_page, full_bundle, no_seat, outside_page, start}
-use Rattle.vm_core.specs.Words.{is_free, EVICTED, MAX_VERSION}
+use Rattle.vm_core.specs.Words.{has_free_bit, EVICTED, MAX_VERSION}
 use Rattle.vm_core.proofs.At.{at-get, page-here}
 
 -- one page more
@@ -116,8 +116,8 @@ start-bundles frames bundles i =
     (λ le. get_or-eq_default bundles 0 (omega (arith, i.len, le)) ∙ sym (full-past frames g (omega arith)))
     (cases_lt g ((frames + 63) / 64)))
 
-none-free : (n f : ℕ) → is_free (at 0 (replicate n 0)) f ≡ false
-unfolding is_free
+none-free : (n f : ℕ) → has_free_bit (at 0 (replicate n 0)) f ≡ false
+unfolding has_free_bit
 none-free n f = ne_eqb (bit_at (at 0 (replicate n 0) (f / 64)) (f % 64)) 1
     (λ q. let z : bit_at (at 0 (replicate n 0) (f / 64)) (f % 64) ≡ 0 = ap (λ v. bit_at v (f % 64)) (all-same n (f / 64) 0) ∙ bit_at-zero (f % 64) in omega arith)
 
@@ -126,14 +126,14 @@ start-held actors n =
     let none : List ℕ = replicate n 0 in
     let rows : List (List ℕ) = replicate actors none in
     fun_ext (λ a. fun_ext (λ f. ⊎_elim
-    (λ lt. ap (λ row. is_free (at 0 row) f) (at-get [] rows a ∙ get_or-replicate actors a none [] lt) ∙ none-free n f)
-    (λ le. ap (λ row. is_free (at 0 row) f) (at-get [] rows a ∙ get_or-eq_default rows [] (omega (arith, length-replicate actors none, le))) ∙ none-free 0 f)
+    (λ lt. ap (λ row. has_free_bit (at 0 row) f) (at-get [] rows a ∙ get_or-replicate actors a none [] lt) ∙ none-free n f)
+    (λ le. ap (λ row. has_free_bit (at 0 row) f) (at-get [] rows a ∙ get_or-eq_default rows [] (omega (arith, length-replicate actors none, le))) ∙ none-free 0 f)
     (cases_lt a actors)))
 
 pub start-is : (shape : CoreShape) (pages : List PageData) (frames : List (List ℕ)) (bundles : List ℕ) (held : List (List ℕ)) → shape.next ≤ shape.pages → StartLists shape pages frames bundles held → core_of (record { shape = shape; pages = pages; frames = frames; bundles = bundles; held = held; next = shape.next; hand = 0 }) ≡ start (core_start shape)
 start-is shape pages frames bundles held le i =
     let ps : pages_of pages ≡ (λ p. evicted_page 0 (core_block shape.next p) 0) = start-pages shape pages le i.pages_are in
-    let ws : words_of frames ≡ (λ f. replicate 64 0) = ap words_of i.frames_are ∙ fun_ext (λ f. all-same shape.frames f (replicate 64 0)) in
+    let ws : words_of_frames frames ≡ (λ f. replicate 64 0) = ap words_of_frames i.frames_are ∙ fun_ext (λ f. all-same shape.frames f (replicate 64 0)) in
     let bs : at 0 bundles ≡ full_bundle shape.frames = start-bundles shape.frames bundles i.bundles_are in
     let hs : held_of held ≡ (λ a f. false) = ap held_of i.held_are ∙ start-held shape.actors ((shape.frames + 63) / 64) in
     λ k. record { shape = shape; tells = true; pages = ps k; words = ws k; bundles = bs k; held = hs k; next = shape.next; hand = 0 }

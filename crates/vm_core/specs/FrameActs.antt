@@ -19,6 +19,7 @@ pub record HoldsAt (r : Page) (a f : ℕ) (dirty : Bool) : Type 0 where
 
 -- ---- tload
 
+-- the word of a translation: the frame's number and one more, with the dirty bit on top, or 0
 abbrev pub trans_word : Option Mapping → ℕ
 trans_word None = 0
 trans_word (Some m) = m.frame + 1 + (if m.dirty then 2 ^ 63 else 0)

@@ -10,7 +10,7 @@ use Rattle.vm_core.specs.declared.event.Mapping.{Mapping}
 use Rattle.vm_core.specs.declared.event.Open.{Open}
 use Rattle.vm_core.specs.declared.event.Seat.{Seat}
 use Rattle.vm_core.specs.Fn.{sum_below}
-use Rattle.vm_core.specs.Words.{is_free, LOCKED, EVICTED, MAX_VERSION}
+use Rattle.vm_core.specs.Words.{has_free_bit, LOCKED, EVICTED, MAX_VERSION}
 use Rattle.vm_core.specs.State.{Page, State}
 use Rattle.vm_core.specs.FrameActs.{stands_in}
 use Rattle.vm_core.specs.History.{History, World, world_after}
@@ -122,15 +122,15 @@ at_page Free p = false
 at_page (Held a) p = false
 
 -- the place names an actor or a page of the core, and is not nowhere
-abbrev pub IsPlace : ℕ → ℕ → Place → Type 0
-IsPlace actors pages Nowhere = ⊥
-IsPlace actors pages Free = Unit {0}
-IsPlace actors pages (Held a) = a < actors
-IsPlace actors pages (Mapped p) = p < pages
+abbrev pub IsFramePlace : ℕ → ℕ → Place → Type 0
+IsFramePlace actors pages Nowhere = ⊥
+IsFramePlace actors pages Free = Unit {0}
+IsFramePlace actors pages (Held a) = a < actors
+IsFramePlace actors pages (Mapped p) = p < pages
 
 -- frame f stands in one place: its set bit, an actor's held frames, or a page's translation
 pub record FrameInv (actors pages frames f : ℕ) (bit : Bool) (holders standers : ℕ → Bool) (x : Place) : Type 0 where
-  pub inside : f < frames → IsPlace actors pages x
+  pub inside : f < frames → IsFramePlace actors pages x
   pub outside : frames ≤ f → x ≡ Nowhere
   pub free : bit ≡ at_free x
   pub holds : (a : ℕ) → holders a ≡ at_actor x a
@@ -139,7 +139,7 @@ pub record FrameInv (actors pages frames f : ℕ) (bit : Bool) (holders standers
 -- what holds of frame f of the core, at this place
 abbrev pub FrameIsAt : State → ℕ → Place → Type 0
 FrameIsAt c f x =
-    FrameInv c.shape.actors c.shape.pages c.shape.frames f (is_free c.bundles f) (λ a. c.held a f) (λ p. stands_in (c.pages p).trans f) x
+    FrameInv c.shape.actors c.shape.pages c.shape.frames f (has_free_bit c.bundles f) (λ a. c.held a f) (λ p. stands_in (c.pages p).trans f) x
 
 -- the invariant: each frame stands in one place and has 64 words, the next word is no more than the pages, and each page is in order
 pub record Inv (w : World) : Type 0 where

@@ -11,7 +11,7 @@ use Rattle.vm_core.specs.declared.words.TheConstants.{FRAMES}
 
 -- what a core starts from: its shape with the next word, the first version of its pages, and the blocks handed in by their words and
 -- counts of faults, and whether they tell their words
-pub record Start : Type 0 where
+pub record CoreStart : Type 0 where
   pub shape : CoreShape
   pub first : ℕ
   pub tells : Bool
@@ -31,12 +31,13 @@ unfoldable pub full_bundle : ℕ → ℕ → ℕ
 full_bundle frames g = 2 ^ min FRAMES (frames - FRAMES * g) - 1
 
 -- the next word is at most the number of pages, the first version is a version, and each block has 64 words
-pub record IsStart (s : Start) : Type 0 where
+pub record IsStart (s : CoreStart) : Type 0 where
   pub next : s.shape.next ≤ s.shape.pages
   pub first : s.first ≤ MAX_VERSION
   pub blocks : (p : ℕ) → length (s.blocks p) ≡ WORDS
 
-abbrev pub start : Start → State
+-- the state at the start: every page evicted, every frame free
+abbrev pub start : CoreStart → State
 start s =
     record {
       shape = s.shape;
@@ -50,7 +51,7 @@ start s =
     }
 
 -- with its histories: the first version of each page has its block's words
-abbrev pub begin : Start → World
+abbrev pub begin : CoreStart → World
 begin s =
     record {
       core = start s;
@@ -64,7 +65,8 @@ begin s =
 unfoldable pub core_block : ℕ → ℕ → List ℕ
 core_block next p = if nat_lt p next then map (λ i. WORDS * p + i) (range_with_len 0 WORDS) else replicate WORDS 0
 
-abbrev pub core_start : CoreShape → Start
+-- what `Core::new` starts from
+abbrev pub core_start : CoreShape → CoreStart
 core_start shape = record { shape = shape; first = 0; tells = true; blocks = core_block shape.next; counts = λ p. 0 }
 
 -- what stands past the last page

@@ -1,7 +1,7 @@
 -- What the invariant tells, said in full: each frame stands in one place, the device holds what is not in a frame alone, the fault words.
 use Rattle.std.specs.Prelude.{ℕ, true, false, Some, ◌≡◌, ◌≢◌, ◌<◌, ◌≤◌}
 use Rattle.vm_core.specs.declared.event.Mapping.{Mapping}
-use Rattle.vm_core.specs.Words.{is_free, LOCKED, EVICTED}
+use Rattle.vm_core.specs.Words.{has_free_bit, LOCKED, EVICTED}
 use Rattle.vm_core.specs.State.{Page, State}
 use Rattle.vm_core.specs.FrameActs.{stands_in}
 use Rattle.vm_core.specs.History.{History, World}
@@ -11,7 +11,7 @@ use Rattle.vm_core.specs.Inv.Place.{Nowhere, Free, Held, Mapped}
 -- the frame stands in this place
 abbrev pub StandsAt : State → ℕ → Place → Type 0
 StandsAt c f Nowhere = ⊥
-StandsAt c f Free = is_free c.bundles f ≡ true
+StandsAt c f Free = has_free_bit c.bundles f ≡ true
 StandsAt c f (Held a) = (a < c.shape.actors) × (c.held a f ≡ true)
 StandsAt c f (Mapped p) = (p < c.shape.pages) × (stands_in (c.pages p).trans f ≡ true)
 
@@ -30,6 +30,7 @@ pub record DeviceHas (r : Page) (h : History) : Type 0 where
   pub evicted : r.state ≡ EVICTED → r.block ≡ h.last.words
   pub clean : (m : Mapping) → r.trans ≡ Some m → m.dirty ≡ false → r.state ≢ LOCKED → r.block ≡ h.last.words
 
+-- so it is with each page
 abbrev pub DeviceHolds : World → Type 0
 DeviceHolds w = (p : ℕ) → DeviceHas (w.core.pages p) (w.histories p)
 

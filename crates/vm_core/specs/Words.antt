@@ -47,8 +47,8 @@ unfoldable pub in_mask : ℕ → ℕ → ℕ → Bool
 in_mask g mask f = (f / FRAMES == g) && (bit_at mask (f % FRAMES) == 1)
 
 -- the bit of frame f is set in its bundle
-unfoldable pub is_free : (ℕ → ℕ) → ℕ → Bool
-is_free bundles f = bit_at (bundles (f / FRAMES)) (f % FRAMES) == 1
+unfoldable pub has_free_bit : (ℕ → ℕ) → ℕ → Bool
+has_free_bit bundles f = bit_at (bundles (f / FRAMES)) (f % FRAMES) == 1
 
 -- the frame that a translation word names: the number in its low 63 bits less 1, where that number is not 0 and the frame has 32 bits
 unfoldable pub frame_in : ℕ → Option ℕ

@@ -2,8 +2,8 @@
 
 ghost use Rattle.std.specs.Prelude.{ℕ, ◌≡◌, ◌<◌, ◌/◌, List, length, bit_or, true, false, if◌then◌else◌, IsTrue, ◌↔◌, IfOk, replicate};
 ghost use Rattle.vm_core.specs.Fn.{at, upd};
-ghost use Rattle.vm_core.specs.PageOf.{words_of};
-ghost use Rattle.vm_core.specs.Words.{in_mask, is_free};
+ghost use Rattle.vm_core.specs.PageOf.{words_of_frames};
+ghost use Rattle.vm_core.specs.Words.{in_mask, has_free_bit};
 
 use crate::words::FRAMES;
 use std::alloc::{AllocError, Global};
@@ -35,7 +35,7 @@ impl FrameSet {
     /// Whether the frame is in the set.
     pub fn has(&self, f: u32) -> bool
         requires { f / FRAMES < length self.now }
-        ensures { result ≡ is_free (at 0 self.now) f }
+        ensures { result ≡ has_free_bit (at 0 self.now) f }
     {
         (self.masks[f as usize / FRAMES] >> (f as usize % FRAMES)) & 1 == 1
     }
@@ -52,7 +52,7 @@ impl FrameSet {
     /// The frame goes out.
     pub fn remove(&mut self, f: u32)
         requires { f / FRAMES < length self.old }
-        ensures words { is_free (at 0 self.new) ≡ upd (is_free (at 0 self.old)) f false }
+        ensures words { has_free_bit (at 0 self.new) ≡ upd (has_free_bit (at 0 self.old)) f false }
         ensures len { length self.new ≡ length self.old }
     {
         self.masks[f as usize / FRAMES] &= !(1 << (f as usize % FRAMES));
@@ -61,7 +61,7 @@ impl FrameSet {
     /// The frame comes in.
     pub fn insert(&mut self, f: u32)
         requires { f / FRAMES < length self.old }
-        ensures words { is_free (at 0 self.new) ≡ upd (is_free (at 0 self.old)) f true }
+        ensures words { has_free_bit (at 0 self.new) ≡ upd (has_free_bit (at 0 self.old)) f true }
         ensures len { length self.new ≡ length self.old }
     {
         self.masks[f as usize / FRAMES] |= 1 << (f as usize % FRAMES);
@@ -70,7 +70,7 @@ impl FrameSet {
     /// Whether all frames of the mask are in the set.
     pub fn has_all(&self, g: usize, mask: u64) -> bool
         requires { g < length self.now }
-        ensures { IsTrue result ↔ ((f : ℕ) → in_mask g mask f ≡ true → is_free (at 0 self.now) f ≡ true) }
+        ensures { IsTrue result ↔ ((f : ℕ) → in_mask g mask f ≡ true → has_free_bit (at 0 self.now) f ≡ true) }
     {
         mask & self.masks[g] == mask
     }
@@ -78,7 +78,7 @@ impl FrameSet {
     /// The frames of the mask go out.
     pub fn remove_all(&mut self, g: usize, mask: u64)
         requires { g < length self.old }
-        ensures words { (f : ℕ) → is_free (at 0 self.new) f ≡ (if in_mask g mask f then false else is_free (at 0 self.old) f) }
+        ensures words { (f : ℕ) → has_free_bit (at 0 self.new) f ≡ (if in_mask g mask f then false else has_free_bit (at 0 self.old) f) }
         ensures len { length self.new ≡ length self.old }
     {
         self.masks[g] &= !mask;
@@ -87,7 +87,7 @@ impl FrameSet {
 
 /// The words of a frame; a frame past the last has zeros.
 pub fn frame_words(frames: &[[u64; WORDS]], f: u32) -> [u64; WORDS]
-    ensures { result ≡ words_of frames.now f }
+    ensures { result ≡ words_of_frames frames.now f }
 {
     match frames.get(f as usize) {
         Some(words) => *words,

@@ -7,7 +7,7 @@ ghost use Rattle.std.specs.Prelude.{slice_index, ◌≡◌, ◌<◌, ◌≤◌, 
 ghost use Rattle.vm_core.specs.CoreOf.{ActSteps, CoreFits, Steps};
 ghost use Rattle.vm_core.specs.PageOf.{CoreData, core_of};
 ghost use Rattle.vm_core.specs.Start.{core_start, start};
-ghost use Rattle.vm_core.specs.Step.{Names};
+ghost use Rattle.vm_core.specs.Step.{NamesActorAndPage};
 
 mod bundles;
 mod counters;
@@ -138,7 +138,7 @@ impl Core {
 
     /// Whether the numbers name an actor and a page.
     fn names(&self, a: u32, p: u32) -> bool
-        ensures { IsTrue result ↔ Names (core_of self.now) a p }
+        ensures { IsTrue result ↔ NamesActorAndPage (core_of self.now) a p }
     {
         a < self.shape.actors && p < self.shape.pages
     }

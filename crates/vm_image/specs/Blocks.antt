@@ -2,7 +2,7 @@
 use Rattle.std.specs.Prelude.{◌≡◌, ℕ, ◌<◌, ◌==◌, List, length, map, slice_index_or}
 use Rattle.std.specs.List.{filter}
 use Rattle.vm_page.specs.Pages.{page_at}
-use Rattle.vm_block.specs.Memory.{words_of, IsFresh}
+use Rattle.vm_block.specs.Memory.{words_of, IsNewBlock}
 use Rattle.vm_block.specs.declared.memory.MemBlock.{MemBlock}
 use Rattle.vm_image.specs.declared.blocks.PlannedFault.{PlannedFault}
 
@@ -17,4 +17,4 @@ pages_of_blocks blocks = map words_of blocks
 -- a block for each page, with the page's words and just its numbers of the plan, and with nothing counted
 pub record AreBlocksOf (pages : List (List ℕ)) (plan : List PlannedFault) (blocks : List MemBlock) : Type 0 where
   pub held : pages_of_blocks blocks ≡ pages
-  pub fresh : (p : ℕ) (d : MemBlock) → p < length pages → IsFresh (slice_index_or blocks p d) (page_at pages p) (numbers_for plan p)
+  pub fresh : (p : ℕ) (d : MemBlock) → p < length pages → IsNewBlock (slice_index_or blocks p d) (page_at pages p) (numbers_for plan p)

@@ -3,7 +3,7 @@
 ghost use Rattle.std.specs.Prelude.{◌≡◌, ℕ, ◌+◌, ◌*◌, ◌<◌, ◌≤◌, length, slice_index, MatchResult, IfOk};
 ghost use Rattle.vm_page.specs.Pages.{page_at};
 ghost use Rattle.vm_image.specs.File.{IsPageFile, pages_of_bytes, bytes_of_pages, HaveWords, IsNextPage};
-ghost use Rattle.vm_image.specs.Faults.{IsRefused};
+ghost use Rattle.vm_image.specs.Faults.{IsRefusedFile};
 
 use crate::fault::ImageFault;
 use crate::memory::Memory;
@@ -32,7 +32,7 @@ impl Model for Image {
 /// The image that the bytes of a page file stand for: its pages' words, and written again it is the same bytes.
 /// `BadLength` exactly where they are not 2 to 65,536 pages of 512 bytes.
 pub fn read_image(alloc: Global, bytes: &[u8]) -> Result<Image, ImageFault>
-    ensures answer { MatchResult result (λ image. IsPageFile bytes.now × (image ≡ pages_of_bytes bytes.now)) (λ fault. IsRefused bytes.now fault) }
+    ensures answer { MatchResult result (λ image. IsPageFile bytes.now × (image ≡ pages_of_bytes bytes.now)) (λ fault. IsRefusedFile bytes.now fault) }
     ensures back { IfOk result (λ image. bytes_of_pages image ≡ bytes.now) }
 {
     let count = bytes.len() / 512;

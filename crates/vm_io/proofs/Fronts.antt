@@ -2,7 +2,7 @@
 use Rattle.std.proofs.Common.{◌≡◌, ℕ, ◌+◌, ◌-◌, ◌≤◌, ◌<◌, ◌⊎◌, inl, inr, List, ◌++◌, length, take, drop, Option, Some, None, true, false, refl, sym, ap, subst, ◌∙◌, arith, length-take, append_assoc}
 use Rattle.std.proofs.lemmas.List.{take_all, length-take-le, append-nil}
 use Rattle.std.proofs.Math.Seq.{take-add}
-use Rattle.vm_io.specs.Shown.{Shown, say_more, SaidFront, PutFront, Holds, IsHeld, kept}
+use Rattle.vm_io.specs.Shown.{Shown, say_more, SaidFront, PutFront, Holds, HoldsJust, kept}
 use Rattle.vm_io.specs.Loops.{ReadsMore, ReadsWhole, IsFront}
 
 -- a front and the bytes behind it are a front
@@ -55,7 +55,7 @@ pub put_first : (old new : Option Shown) (name bytes : List ℕ) (n : ℕ) → P
 put_first None new name bytes n p = p
 put_first (Some old) new name bytes n p = p
 
-held_on : (old mid new : Shown) (name bytes : List ℕ) (at n : ℕ) → IsHeld old mid name (take at bytes) → IsHeld mid new name (kept false (mid.files name) ++ take n (drop at bytes)) → IsHeld old new name (take (at + n) bytes)
+held_on : (old mid new : Shown) (name bytes : List ℕ) (at n : ℕ) → HoldsJust old mid name (take at bytes) → HoldsJust mid new name (kept false (mid.files name) ++ take n (drop at bytes)) → HoldsJust old new name (take (at + n) bytes)
 held_on old mid new name bytes at n h p =
     let whole : kept false (mid.files name) ++ take n (drop at bytes) ≡ take (at + n) bytes = ap (λ f. kept false f ++ take n (drop at bytes)) h.file ∙ sym (take-add at n bytes) in
     record {

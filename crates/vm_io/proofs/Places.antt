@@ -3,7 +3,7 @@ use Rattle.std.proofs.Common.{◌≡◌, ℕ, zero, suc, ◌<◌, ◌++◌, List
 use Rattle.std.specs.Prelude.{◌≢◌}
 use Rattle.std.specs.Str.{bytes_eq}
 use Rattle.std.proofs.lemmas.Slice.Eq.{bytes_eq-Decides}
-use Rattle.vm_io.specs.Shown.{kept, IsHeld}
+use Rattle.vm_io.specs.Shown.{kept, HoldsJust}
 use Rattle.vm_io.specs.InMemory.{bytes_at, shown_in, IsPlace}
 use Rattle.vm_io.specs.declared.store.MemFile.{MemFile}
 
@@ -56,7 +56,7 @@ pub found_bytes : (files : List MemFile) (name : List ℕ) (i : ℕ) (file : Mem
 found_bytes files name i file p e = there files name i file p ∙ ap (λ f. Some f.bytes.items) (sym e)
 
 -- a write to the file that was found
-pub found_put : (files : List MemFile) (said name : List ℕ) (i : ℕ) (first : Bool) (piece : List ℕ) (file new : MemFile) → IsPlace files name i → file ≡ slice_index_or files i file → string_bytes new.name ≡ string_bytes file.name → new.bytes.items ≡ kept first (Some file.bytes.items) ++ piece → IsHeld (shown_in files said) (shown_in (slice_set files i new) said) name (kept first (bytes_at files name) ++ piece)
+pub found_put : (files : List MemFile) (said name : List ℕ) (i : ℕ) (first : Bool) (piece : List ℕ) (file new : MemFile) → IsPlace files name i → file ≡ slice_index_or files i file → string_bytes new.name ≡ string_bytes file.name → new.bytes.items ≡ kept first (Some file.bytes.items) ++ piece → HoldsJust (shown_in files said) (shown_in (slice_set files i new) said) name (kept first (bytes_at files name) ++ piece)
 found_put files said name i first piece file new p e same written =
     let named : string_bytes new.name ≡ string_bytes (slice_index_or files i file).name = same ∙ ap (λ f. string_bytes f.name) e in
     record {

@@ -15,7 +15,7 @@ ReadsMore None name old new n = Unit {0}
 ReadsMore (Some shown) name old new n = IsMore shown name old new n
 
 -- the file's bytes, but no more than one past the limit
-pub record IsWhole (shown : Shown) (name : List ℕ) (limit : ℕ) (found : List ℕ) : Type 0 where
+pub record IsWholeFile (shown : Shown) (name : List ℕ) (limit : ℕ) (found : List ℕ) : Type 0 where
   pub bytes : List ℕ
   pub file : shown.files name ≡ Some bytes
   pub front : found ≡ take (limit + 1) bytes
@@ -23,7 +23,7 @@ pub record IsWhole (shown : Shown) (name : List ℕ) (limit : ℕ) (found : List
 -- where the host tells nothing, the bytes are those that it gave
 abbrev pub ReadsWhole : Option Shown → List ℕ → ℕ → List ℕ → Type 0
 ReadsWhole None name limit found = (bytes : List ℕ) × (found ≡ take (limit + 1) bytes)
-ReadsWhole (Some shown) name limit found = IsWhole shown name limit found
+ReadsWhole (Some shown) name limit found = IsWholeFile shown name limit found
 
 -- all that is known of the file begins with these bytes
 abbrev pub IsFront : Option Shown → List ℕ → List ℕ → Type 0

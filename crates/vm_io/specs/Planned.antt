@@ -21,6 +21,7 @@ calls_of host = host.calls
 abbrev pub room_of : MemHost → ℕ
 room_of host = host.store.room
 
+-- how many takes failed; how many puts and says did; the file whose take failed last
 abbrev pub failed_takes : MemHost → ℕ
 failed_takes host = host.faults.takes
 
@@ -44,6 +45,7 @@ pub record IsNext (old new : MemHost) : Type 0 where
   pub plan : plan_of new ≡ plan_of old
   pub room : room_of new ≡ room_of old
 
+-- which calls go through: not planned to fail; the file is there; what is kept and the piece are within the room
 abbrev pub can_take : MemHost → List ℕ → Bool
 can_take host name = not (is_planned host) && is_some ((shown_of host).files name)
 

@@ -15,20 +15,22 @@ pub record IsTaken (shown : Shown) (name : List ℕ) (at : ℕ) (before after : 
   pub copied : after ≡ take n (drop at bytes) ++ drop n before
   pub end : n ≡ 0 → (length before ≡ 0) ⊎ (length bytes ≤ at)
 
+-- what a take that answers has put into the buffer, where the host tells
 abbrev pub Takes : {E : Type 0} → Option Shown → List ℕ → ℕ → List ℕ → List ℕ → Result ℕ E → Type 0
 Takes None name at before after result = Unit {0}
 Takes (Some shown) name at before after (Ok n) = IsTaken shown name at before after n
 Takes (Some shown) name at before after (Err e) = Unit {0}
 
 -- the file has just these bytes, and nothing else changed
-pub record IsHeld (old new : Shown) (name bytes : List ℕ) : Type 0 where
+pub record HoldsJust (old new : Shown) (name bytes : List ℕ) : Type 0 where
   pub file : new.files name ≡ Some bytes
   pub others : (other : List ℕ) → other ≢ name → new.files other ≡ old.files other
   pub said : new.said ≡ old.said
 
+-- the same of what a host shows, where it tells
 abbrev pub Holds : Option Shown → Option Shown → List ℕ → List ℕ → Type 0
 Holds None new name bytes = new ≡ None
-Holds (Some old) new name bytes = (after : Shown) × (new ≡ Some after) × IsHeld old after name bytes
+Holds (Some old) new name bytes = (after : Shown) × (new ≡ Some after) × HoldsJust old after name bytes
 
 -- what stands before the piece: nothing, or the file as it is
 abbrev pub kept : Bool → Option (List ℕ) → List ℕ
@@ -41,6 +43,7 @@ abbrev pub PutFront : Option Shown → Option Shown → List ℕ → Bool → Li
 PutFront None new name first piece n = new ≡ None
 PutFront (Some old) new name first piece n = Holds (Some old) new name (kept first (old.files name) ++ take n piece)
 
+-- a put appends a front of the piece, to nothing where it is the first; one that fails changes nothing
 abbrev pub Puts : {E : Type 0} → Option Shown → Option Shown → List ℕ → Bool → List ℕ → Result ℕ E → Type 0
 Puts old new name first piece (Ok n) = PutFront old new name first piece n
 Puts old new name first piece (Err e) = new ≡ old
@@ -54,6 +57,7 @@ abbrev pub SaidFront : Option Shown → Option Shown → List ℕ → ℕ → Ty
 SaidFront None new piece n = new ≡ None
 SaidFront (Some old) new piece n = new ≡ Some (say_more old (take n piece))
 
+-- a say adds a front of the piece to what was said; one that fails changes nothing
 abbrev pub Says : {E : Type 0} → Option Shown → Option Shown → List ℕ → Result ℕ E → Type 0
 Says old new piece (Ok n) = SaidFront old new piece n
 Says old new piece (Err e) = new ≡ old

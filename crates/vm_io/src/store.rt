@@ -1,7 +1,7 @@
 // Files and what was said, in memory that is taken when they are made: no later call takes more.
 ghost use Rattle.std.specs.Prelude.{◌≡◌, ◌≢◌, ◌⊎◌, ℕ, ◌+◌, ◌-◌, ◌≤◌, ◌<◌, ◌^◌, ◌++◌, [], true, false, take, drop, map, length, All, vec_len, vec_capacity, Some, None, IfOk, IsTrue, MatchOption, option_map, string_bytes};
 ghost use Rattle.vm_io.specs.InMemory.{bytes_at, named, shown_in, is_within, can_hold, IsPlace};
-ghost use Rattle.vm_io.specs.Shown.{kept, IsHeld, say_more};
+ghost use Rattle.vm_io.specs.Shown.{kept, HoldsJust, say_more};
 
 use std::alloc::{AllocError, Global};
 
@@ -118,7 +118,7 @@ impl Store {
     /// Puts a whole piece where the file is there and has room, and answers whether it did.
     pub fn put(&mut self, name: &str, first: bool, piece: &[u8]) -> bool
         ensures exact { result ≡ can_hold (bytes_at self.old.files.items name.now) first piece.now self.old.room }
-        ensures held { IsTrue result → IsHeld (shown_in self.old.files.items self.old.said.items) (shown_in self.new.files.items self.new.said.items) name.now (kept first (bytes_at self.old.files.items name.now) ++ piece.now) }
+        ensures held { IsTrue result → HoldsJust (shown_in self.old.files.items self.old.said.items) (shown_in self.new.files.items self.new.said.items) name.now (kept first (bytes_at self.old.files.items name.now) ++ piece.now) }
         ensures refused { result ≡ false → self.new ≡ self.old }
         ensures room { self.new.room ≡ self.old.room }
     {

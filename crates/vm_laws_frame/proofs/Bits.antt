@@ -5,7 +5,7 @@ use Rattle.std.specs.Int.{bit_at}
 use Rattle.std.proofs.lemmas.Bool.{cases_eq, eq-eqb, ne_eqb, and_left, and_right, and_from}
 use Rattle.std.proofs.lemmas.Nat.Bits.{bit_at_and, bit_at_or, bit_at_xor, bit_at-lt}
 use Rattle.vm_core.specs.Fn.{upd}
-use Rattle.vm_core.specs.Words.{is_free, in_mask}
+use Rattle.vm_core.specs.Words.{has_free_bit, in_mask}
 use Rattle.vm_core.proofs.Masks.{apart}
 use Rattle.vm_core.proofs.Upd.{upd-same, upd-other}
 
@@ -23,9 +23,9 @@ taken-bit x m i e =
 
 -- a bundle after a take: the frames of the mask were free, and are not; the others stay
 pub taken-free : (bundles : ℕ → ℕ) (g w m f : ℕ) → bundles g ≡ w → bit_and m w ≡ m →
-    ((in_mask g m f ≡ true) × (is_free bundles f ≡ true) × (is_free (upd bundles g (bit_xor w m)) f ≡ false))
-    ⊎ ((in_mask g m f ≡ false) × (is_free (upd bundles g (bit_xor w m)) f ≡ is_free bundles f))
-unfolding is_free in_mask
+    ((in_mask g m f ≡ true) × (has_free_bit bundles f ≡ true) × (has_free_bit (upd bundles g (bit_xor w m)) f ≡ false))
+    ⊎ ((in_mask g m f ≡ false) × (has_free_bit (upd bundles g (bit_xor w m)) f ≡ has_free_bit bundles f))
+unfolding has_free_bit in_mask
 taken-free bundles g w m f e among =
     ⊎_elim
     (λ s. let new : upd bundles g (bit_xor w m) (f / 64) ≡ bit_xor w m = ap (upd bundles g (bit_xor w m)) s ∙ upd-same bundles g (bit_xor w m) in
@@ -47,9 +47,9 @@ given-bit x m i =
 
 -- a bundle after a give: the frames of the mask are free; the others stay
 pub given-free : (bundles : ℕ → ℕ) (g m f : ℕ) →
-    ((in_mask g m f ≡ true) × (is_free (upd bundles g (bit_or (bundles g) m)) f ≡ true))
-    ⊎ ((in_mask g m f ≡ false) × (is_free (upd bundles g (bit_or (bundles g) m)) f ≡ is_free bundles f))
-unfolding is_free in_mask
+    ((in_mask g m f ≡ true) × (has_free_bit (upd bundles g (bit_or (bundles g) m)) f ≡ true))
+    ⊎ ((in_mask g m f ≡ false) × (has_free_bit (upd bundles g (bit_or (bundles g) m)) f ≡ has_free_bit bundles f))
+unfolding has_free_bit in_mask
 given-free bundles g m f =
     ⊎_elim
     (λ s. let new : upd bundles g (bit_or (bundles g) m) (f / 64) ≡ bit_or (bundles g) m = ap (upd bundles g (bit_or (bundles g) m)) s ∙ upd-same bundles g (bit_or (bundles g) m) in

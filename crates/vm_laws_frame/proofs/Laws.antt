@@ -4,7 +4,7 @@ use Rattle.std.proofs.lemmas.List.{length-set}
 use Rattle.std.proofs.lemmas.Bool.{cases_Bool, true≢false, eqb-true, eq-eqb, ne_eqb, and_from, and_right}
 use Rattle.vm_core.specs.declared.event.Event.TheVariants.{TLoad, Install, Clear, Dirty, Clean, Load, Store, BLoad, Take, Give}
 use Rattle.vm_core.specs.Fn.{upd}
-use Rattle.vm_core.specs.Words.{is_free, in_mask}
+use Rattle.vm_core.specs.Words.{has_free_bit, in_mask}
 use Rattle.vm_core.specs.State.{Page, State}
 use Rattle.vm_core.specs.FrameActs.{HoldsAt, stands_in, installed, cleared, gains}
 use Rattle.vm_core.specs.History.{World}
@@ -57,7 +57,7 @@ install_law w a p f i m =
     let r : Page = installed (c.pages p) f in
     record {
       place = upd i.place f (Mapped p);
-      frames = each-upd (λ g x. FrameInv c.shape.actors c.shape.pages c.shape.frames g (is_free c.bundles g) (λ b. upd c.held a row b g) (λ q. stands_in (upd c.pages p r q).trans g) x) i.place f (Mapped p)
+      frames = each-upd (λ g x. FrameInv c.shape.actors c.shape.pages c.shape.frames g (has_free_bit c.bundles g) (λ b. upd c.held a row b g) (λ q. stands_in (upd c.pages p r q).trans g) x) i.place f (Mapped p)
           (frame-same refl (row-at c.held a f row false (upd-same (c.held a) f false)) (stands-at c.pages p f r true (eq-eqb f f refl))
           (frame-install a p m.names.page m.frame m.holds (i.frames f)))
           (λ g ne. frame-same refl
@@ -79,7 +79,7 @@ clear_law w a p i m =
     let r : Page = cleared (c.pages p) in
     record {
       place = upd i.place f (Held a);
-      frames = each-upd (λ g x. FrameInv c.shape.actors c.shape.pages c.shape.frames g (is_free c.bundles g) (λ b. upd c.held a row b g) (λ q. stands_in (upd c.pages p r q).trans g) x) i.place f (Held a)
+      frames = each-upd (λ g x. FrameInv c.shape.actors c.shape.pages c.shape.frames g (has_free_bit c.bundles g) (λ b. upd c.held a row b g) (λ q. stands_in (upd c.pages p r q).trans g) x) i.place f (Held a)
           (frame-same refl (row-at c.held a f row true (ap (λ y. y f) row-is ∙ upd-same (c.held a) f true)) (stands-at c.pages p f r false refl)
           (frame-clear a p m.0.actor (ap (λ t. stands_in t f) at.stands ∙ eq-eqb f f refl) (i.frames f)))
           (λ g ne. frame-same refl

@@ -4,7 +4,7 @@ use Rattle.vm_core.specs.declared.event.Seat.{Seat}
 use Rattle.vm_core.specs.Fn.{upd, sum_below}
 use Rattle.vm_core.specs.Words.{UNLOCKED, LOCKED, MARKED, EVICTED, state_of, version_of}
 use Rattle.vm_core.specs.State.{Page}
-use Rattle.vm_core.specs.StateActs.{finds, one_more, MayLock, MayShare, MayUnlock, MayUpgrade, locked, shared, unlocked, marked, unmarked, write_locked, upgraded}
+use Rattle.vm_core.specs.StateActs.{finds, one_share_more, MayLock, MayShare, MayUnlock, MayUpgrade, locked, shared, unlocked, marked, unmarked, write_locked, upgraded}
 use Rattle.vm_core.specs.History.{History, drafted, appended}
 use Rattle.vm_core.specs.Inv.{LocksInv}
 use Rattle.vm_core.proofs.Locks.{locked-from_owner, sum_below-at, shared-state}
@@ -66,7 +66,7 @@ shared-leaves actors a expects r h m e =
     let f : (r.state ≡ state_of expects) × (r.version ≡ version_of expects) = found r expects e in
     let sl : r.state ≢ LOCKED = grind (arith, m, f) in
     let se : r.state ≢ EVICTED = grind (arith, m, f) in
-    state-leaves actors a r h h (one_more r.state) _ (upd-other r.seats a _) (λ _ _. (sl, se)) (λ q. absurd (grind (arith, m, f, q))) refl (λ b e'. refl)
+    state-leaves actors a r h h (one_share_more r.state) _ (upd-other r.seats a _) (λ _ _. (sl, se)) (λ q. absurd (grind (arith, m, f, q))) refl (λ b e'. refl)
 
 pub unlocked-leaves : (actors a : ℕ) (r : Page) (h : History) → a < actors → LocksInv actors r.state r.version r.seats → MayUnlock r a → PageLeaves actors a r (unlocked r a) h h
 unlocked-leaves actors a r h lt i m =

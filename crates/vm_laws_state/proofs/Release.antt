@@ -2,14 +2,14 @@
 use Rattle.std.proofs.Common.{ℕ, ◌≡◌, ◌+◌, ◌<◌, refl, sym, ap, ◌∙◌, arith, Bool, List}
 use Rattle.vm_core.specs.Words.{UNLOCKED, LOCKED, EVICTED}
 use Rattle.vm_core.specs.State.{Page}
-use Rattle.vm_core.specs.StateActs.{MayRelease, released, MayEmpty, emptied, downgraded}
+use Rattle.vm_core.specs.StateActs.{MayReleaseLock, released, MayEmpty, emptied, downgraded}
 use Rattle.vm_core.specs.History.{History, appended}
 use Rattle.vm_core.specs.Inv.{PageInv, WordsInv}
 use Rattle.vm_core.proofs.Locks.{locked-from_owner, locks-release, locks-empty, locks-downgrade}
 use Rattle.vm_core.proofs.PageFacts.{none-some, reads-keep}
 use Rattle.vm_core.proofs.PageMoves.{stands-release, sizes-release, contents-release, read-release}
 
-pub released-keeps : {actors : ℕ} → {tells : Bool} → {words : ℕ → List ℕ} → {r : Page} → {h : History} → {l : ℕ → List (ℕ × ℕ)} → (a : ℕ) → PageInv actors tells words r h l → MayRelease r a → PageInv actors tells words (released r a) (appended h) l
+pub released-keeps : {actors : ℕ} → {tells : Bool} → {words : ℕ → List ℕ} → {r : Page} → {h : History} → {l : ℕ → List (ℕ × ℕ)} → (a : ℕ) → PageInv actors tells words r h l → MayReleaseLock r a → PageInv actors tells words (released r a) (appended h) l
 released-keeps {actors} {tells} {words} {r} {h} {l} a i m =
     let locked : r.state ≡ LOCKED = locked-from_owner i.locks a m.owns in
     record {
@@ -21,7 +21,7 @@ released-keeps {actors} {tells} {words} {r} {h} {l} a i m =
       reads = reads-keep words UNLOCKED (r.version + 1) r.trans r.seats l a _ refl (λ b. read-release UNLOCKED (i.reads b));
     }
 
-pub downgraded-keeps : {actors : ℕ} → {tells : Bool} → {words : ℕ → List ℕ} → {r : Page} → {h : History} → {l : ℕ → List (ℕ × ℕ)} → (a : ℕ) → a < actors → PageInv actors tells words r h l → MayRelease r a → PageInv actors tells words (downgraded r a) (appended h) l
+pub downgraded-keeps : {actors : ℕ} → {tells : Bool} → {words : ℕ → List ℕ} → {r : Page} → {h : History} → {l : ℕ → List (ℕ × ℕ)} → (a : ℕ) → a < actors → PageInv actors tells words r h l → MayReleaseLock r a → PageInv actors tells words (downgraded r a) (appended h) l
 downgraded-keeps {actors} {tells} {words} {r} {h} {l} a lt i m =
     let locked : r.state ≡ LOCKED = locked-from_owner i.locks a m.owns in
     record {

@@ -9,7 +9,7 @@ pub record Start : Type 0 where
   pub pages : List (List ℕ)
   pub next : ℕ
 
--- The logical pages, the next page, the pages that were claimed for a group still to be released, and the history
+-- The logical pages, the next page, the pages that were claimed for a group still to be after_release, and the history
 pub record Kept (S : Type 0) : Type 0 where
   pub pages : List (List ℕ)
   pub next : ℕ
@@ -22,9 +22,9 @@ pub record Change : Type 0 where
   pub old : List ℕ
   pub new : List ℕ
 
-abbrev pub pages_of : List Change → List ℕ
-pages_of [] = []
-pages_of (c ∷ cs) = c.page ∷ pages_of cs
+abbrev pub changed_pages : List Change → List ℕ
+changed_pages [] = []
+changed_pages (c ∷ cs) = c.page ∷ changed_pages cs
 
 -- each change has the page's words before
 abbrev pub Agrees : List (List ℕ) → List Change → Type 0
@@ -52,9 +52,9 @@ AreSized [] = Unit {0}
 AreSized (c ∷ cs) = (length c.new ≡ length c.old) × AreSized cs
 
 -- how many entries a number has
-abbrev pub calls_of : {S : Type 0} → ℕ → List (Entry S) → ℕ
-calls_of number [] = 0
-calls_of number (e ∷ h) = (if e.number == number then 1 else 0) + calls_of number h
+abbrev pub entries_under : {S : Type 0} → ℕ → List (Entry S) → ℕ
+entries_under number [] = 0
+entries_under number (e ∷ h) = (if e.number == number then 1 else 0) + entries_under number h
 
 -- each entry's count is one more than its number has entries before it, where `before` is how many it has before the list
 abbrev pub AreCounted : {S : Type 0} → (ℕ → ℕ) → List (Entry S) → Type 0
@@ -64,20 +64,20 @@ AreCounted before (e ∷ h) = (e.count ≡ before e.number + 1) × AreCounted (�
 -- there is no entry, or one, which is its number's next
 abbrev pub IsTurn : {S : Type 0} → List (Entry S) → List (Entry S) → Type 0
 IsTurn history [] = Unit {0}
-IsTurn history (e ∷ es) = (e.count ≡ calls_of e.number history + 1) × (es ≡ [])
+IsTurn history (e ∷ es) = (e.count ≡ entries_under e.number history + 1) × (es ≡ [])
 
 module _ {S : Type 0} where
   -- The changes of a pass to which the pages `due` are owed fit what stands: one to four pages, each another one
   pub record Fits (kept : Kept S) (due : List ℕ) (changes : List Change) : Type 0 where
     pub agrees : Agrees kept.pages changes
-    pub apart : AreApart (pages_of changes)
+    pub apart : AreApart (changed_pages changes)
     pub sized : AreSized changes
     pub few : length changes ≤ 4
     pub owed : (p : ℕ) → has p due ≡ true → has p kept.owed ≡ true
 
-  -- after pages were released together, at the group's first release
-  abbrev pub released : List Change → List (Entry S) → Kept S → Kept S
-  released changes entries kept = record kept { pages = changed changes kept.pages; owed = owed_after changes kept.owed; history = kept.history ++ entries }
+  -- after pages were after_release together, at the group's first release
+  abbrev pub after_release : List Change → List (Entry S) → Kept S → Kept S
+  after_release changes entries kept = record kept { pages = changed changes kept.pages; owed = owed_after changes kept.owed; history = kept.history ++ entries }
 
   -- after a validated read
   abbrev pub told : List (Entry S) → Kept S → Kept S

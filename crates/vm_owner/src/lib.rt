@@ -18,7 +18,7 @@ pub trait Owner {
     ghost use Rattle.std.specs.Prelude.{ℕ, ◌<◌, List, length};
     ghost use Rattle.vm_page.specs.Pages.{page_at};
     ghost use Rattle.vm_owner.specs.declared.Entry.{Entry};
-    ghost use Rattle.vm_owner.specs.Kept.{Start, Kept, Change, Fits, IsTurn, released, told, claimed, AreZero};
+    ghost use Rattle.vm_owner.specs.Kept.{Start, Kept, Change, Fits, IsTurn, after_release, told, claimed, AreZero};
 
     // What holds of the start and of what stands now.
     ghost keeps: { Start → Kept Self.Said → Type 0 };
@@ -32,7 +32,7 @@ pub trait Owner {
     // What a page's words say of another page's words.
     ghost tied: { Start → ℕ → List ℕ → ℕ → List ℕ → Type 0 };
 
-    ghost releases: { (start : Start) (kept : Kept Self.Said) (due : List ℕ) (changes : List Change) (entries : List (Entry Self.Said)) → keeps start kept → Fits kept due changes → IsTurn kept.history entries → may_release start due changes entries → keeps start (released changes entries kept) };
+    ghost releases: { (start : Start) (kept : Kept Self.Said) (due : List ℕ) (changes : List Change) (entries : List (Entry Self.Said)) → keeps start kept → Fits kept due changes → IsTurn kept.history entries → may_release start due changes entries → keeps start (after_release changes entries kept) };
 
     ghost reads: { (start : Start) (kept : Kept Self.Said) (page : ℕ) (entries : List (Entry Self.Said)) → keeps start kept → page < length kept.pages → IsTurn kept.history entries → may_read start page (page_at kept.pages page) entries → keeps start (told entries kept) };
 

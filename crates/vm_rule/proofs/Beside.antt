@@ -15,7 +15,7 @@ use Rattle.vm_block.specs.declared.stored.Stored.{Stored}
 use Rattle.vm_rule.specs.declared.view.Origin.{Origin}
 use Rattle.vm_rule.specs.declared.view.View.{View}
 use Rattle.vm_rule.specs.Views.{IsWhole, times, owns, seat_of, spent}
-use Rattle.vm_rule.specs.Reading.{core_of}
+use Rattle.vm_rule.specs.Reading.{core_shown}
 use Rattle.vm_rule.specs.Rule.{HoldsNothing, Ruled}
 use Rattle.vm_rule.proofs.Entries.{not-whole}
 use Rattle.vm_rule.proofs.Found.{seat-here}
@@ -62,22 +62,22 @@ module _ {X B : Type 0} (stored : B → Stored) (keeps : Start → Kept X → Ty
 
   module _ (p : ℕ) (l : p < start.pages) (alone : (seat_of v p).exclusive ≡ false) (none : (seat_of v p).shares ≡ 0) where
     -- what any pass has of the page
-    seats-open : (a : ℕ) → a < length s.views → ((((core_of stored start s).pages p).seats a).exclusive ≡ false) × ((((core_of stored start s).pages p).seats a).shares ≡ 0)
+    seats-open : (a : ℕ) → a < length s.views → ((((core_shown stored start s).pages p).seats a).exclusive ≡ false) × ((((core_shown stored start s).pages p).seats a).shares ≡ 0)
     seats-open a la =
         let u = some-there s.views a la in
-        let here : ((core_of stored start s).pages p).seats a ≡ seat_of u.0 p = seat-here stored start s a p u.0 l u.1 in
+        let here : ((core_shown stored start s).pages p).seats a ≡ seat_of u.0 p = seat-here stored start s a p u.0 l u.1 in
         ⊎_elim
         (λ e.
-        let mine : ((core_of stored start s).pages p).seats id ≡ seat_of v p = seat-here stored start s id p v l there in
-        let same : ((core_of stored start s).pages p).seats a ≡ seat_of v p = ap ((core_of stored start s).pages p).seats e ∙ mine in
+        let mine : ((core_shown stored start s).pages p).seats id ≡ seat_of v p = seat-here stored start s id p v l there in
+        let same : ((core_shown stored start s).pages p).seats a ≡ seat_of v p = ap ((core_shown stored start s).pages p).seats e ∙ mine in
         (ap (λ (k : Seat). k.exclusive) same ∙ alone, ap (λ (k : Seat). k.shares) same ∙ none))
         (λ ne. let h = others-hold-nothing a u.0 ne u.1 in (ap (λ (k : Seat). k.exclusive) here ∙ h.exclusive p, ap (λ (k : Seat). k.shares) here ∙ h.shares p))
         (cases_eq a id)
 
     -- so it is unlocked, marked or evicted
-    pub page-open : (((core_of stored start s).pages p).state ≡ UNLOCKED) ⊎ ((((core_of stored start s).pages p).state ≡ MARKED) ⊎ (((core_of stored start s).pages p).state ≡ EVICTED))
+    pub page-open : (((core_shown stored start s).pages p).state ≡ UNLOCKED) ⊎ ((((core_shown stored start s).pages p).state ≡ MARKED) ⊎ (((core_shown stored start s).pages p).state ≡ EVICTED))
     page-open =
-        let y : Page = (core_of stored start s).pages p in
+        let y : Page = (core_shown stored start s).pages p in
         let locks = (r.inv.pages p).locks in
         let free : y.state ≢ LOCKED = (λ e. let h = locks.held e in true≢false (sym h.owns ∙ (seats-open h.holder h.named).0)) in
         let sum : sum_below (length s.views) (λ b. (y.seats b).shares) ≡ 0 = sum_below-past (length s.views) (λ b. (y.seats b).shares) (λ k. 0) (λ j lj. (seats-open j lj).1) ∙ no-sum (length s.views) in

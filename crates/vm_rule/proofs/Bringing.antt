@@ -23,7 +23,7 @@ use Rattle.vm_rule.specs.declared.view.View.{View}
 use Rattle.vm_rule.specs.Puts.{listed, put_at, chosen}
 use Rattle.vm_rule.specs.Layout.{Within, index_of}
 use Rattle.vm_rule.specs.Views.{StartsWith, seat_of, entries_by, Hears}
-use Rattle.vm_rule.specs.Reading.{block_of, core_of, world_of, histories_of, last_in}
+use Rattle.vm_rule.specs.Reading.{block_of, core_shown, world_of, histories_of, last_in}
 use Rattle.vm_rule.specs.Rule.{KnowsPage, no_held, is_pending, is_owed, logical, began_of, KnowsLists, KnowsPages, Ruled}
 use Rattle.vm_rule.specs.Sound.{Sound}
 use Rattle.vm_rule.specs.Brought.{set_if, set_block, IsFoundAt, IsStepOf, brought, BringsWith, Brings}
@@ -113,7 +113,7 @@ module _ {X B : Type 0} (stored : B → Stored) (keeps : Start → Kept X → Ty
 
   -- a step that is an event which changes nothing, with a view that keeps all but what any step brings
   pub rests : (s : Table (Option B) (View X)) (r : Ruled stored keeps tied start tells s) (id : ℕ) (v : View X) (did : Did) (e : Event) → get_elem? s.views id ≡ some v → v.live ≡ true
-      → Legal (core_of stored start s) e
+      → Legal (core_shown stored start s) e
       → world_after (world_of stored start r.releases r.drafts s) e ≡ world_of stored start r.releases r.drafts s
       → Within start did.at → IsFoundAt did.found (index_of start did.at) s.words → did.wrote ≡ None
       → Shows stored keeps tied start tells s r id v s.words r.drafts [] [] did v e
@@ -123,7 +123,7 @@ module _ {X B : Type 0} (stored : B → Stored) (keeps : Start → Kept X → Ty
       let k : KnowsPages tied start (world_of stored start r.releases r.drafts s) (is_pending s.views) v = r.known id v there live in
       let releases : r.releases ++ [] ≡ r.releases = append-none r.releases in
       let history : r.history ++ [] ≡ r.history = append-none r.history in
-      let core : core_of stored start new ≡ core_of stored start s = core-still stored start s id v w there refl refl refl in
+      let core : core_shown stored start new ≡ core_shown stored start s = core-still stored start s id v w there refl refl refl in
       let still : world_of stored start r.releases r.drafts new ≡ world_of stored start r.releases r.drafts s = world-still stored start s r.releases r.drafts id v w there refl refl refl refl in
       let world : world_of stored start (r.releases ++ []) r.drafts new ≡ world_of stored start r.releases r.drafts s = ap (λ l. world_of stored start l r.drafts new) releases ∙ still in
       let pending : is_pending (slice_set s.views id w) ≡ is_pending s.views = fun_ext (λ p. any-same (λ y. has p y.pending) s.views id v w there refl) in
@@ -167,7 +167,7 @@ module _ {X B : Type 0} (stored : B → Stored) (keeps : Start → Kept X → Ty
 
   -- so it keeps the rule and tells this much: an exchange that is lost, or a load that no read is open for
   pub rested : (s : Table (Option B) (View X)) (r : Ruled stored keeps tied start tells s) (id : ℕ) (v : View X) (did : Did) (e : Event) → get_elem? s.views id ≡ some v → v.live ≡ true → 0 < length v.used → actor_of e ≡ id
-      → Legal (core_of stored start s) e
+      → Legal (core_shown stored start s) e
       → world_after (world_of stored start r.releases r.drafts s) e ≡ world_of stored start r.releases r.drafts s
       → Within start did.at → IsFoundAt did.found (index_of start did.at) s.words → did.wrote ≡ None
       → Ruled stored keeps tied start tells (became stored keeps tied start tells s s.words id (after_step stored keeps tied start tells s r s.words [] [] did v))

@@ -4,7 +4,7 @@ use Rattle.std.proofs.Common.{ℕ, ◌≡◌, ◌≢◌, ◌+◌, ◌*◌, ◌/�
 use Rattle.std.proofs.lemmas.Bool.{cases_eq, cases_lt, eq-eqb, ne_eqb, and_left, and_from}
 use Rattle.std.proofs.lemmas.Nat.Bits.{bit_at_and, bit_at-lt, bit_at-zero, bit_at_above, same_from_bits}
 use Rattle.std.specs.Int.{bit_at}
-use Rattle.vm_core.specs.Words.{in_mask, is_free}
+use Rattle.vm_core.specs.Words.{in_mask, has_free_bit}
 use Rattle.vm_core.specs.History.{World}
 use Rattle.vm_core.specs.Inv.{Inv, at_free, at_actor}
 use Rattle.vm_core.specs.Inv.Place.{Free}
@@ -136,7 +136,7 @@ with_contents-at words (q ∷ qs) contents f =
 
 module _ (w : World) (f : ℕ) (inv : Inv w) where
   -- a free frame is one of the core's, and no actor has it
-  pub free-frame : is_free w.core.bundles f ≡ true → (f < w.core.shape.frames) × ((a : ℕ) → w.core.held a f ≡ false)
+  pub free-frame : has_free_bit w.core.bundles f ≡ true → (f < w.core.shape.frames) × ((a : ℕ) → w.core.held a f ≡ false)
   free-frame e =
       let is : inv.place f ≡ Free = free-place (inv.place f) (sym (inv.frames f).free ∙ e) in (
         ⊎_elim (λ l. l) (λ past. absurd (true≢false (ap at_free (sym is ∙ (inv.frames f).outside past)))) (cases_lt f w.core.shape.frames),
@@ -144,7 +144,7 @@ module _ (w : World) (f : ℕ) (inv : Inv w) where
       )
 
   -- a frame that an actor has is not free
-  pub held-frame : (a : ℕ) → w.core.held a f ≡ true → is_free w.core.bundles f ≡ false
+  pub held-frame : (a : ℕ) → w.core.held a f ≡ true → has_free_bit w.core.bundles f ≡ false
   held-frame a e = (inv.frames f).free ∙ ap at_free (held-place (inv.place f) a (sym ((inv.frames f).holds a) ∙ e))
 
 module _ (w : World) (g mask : ℕ) (inv : Inv w) where
@@ -158,7 +158,7 @@ module _ (w : World) (g mask : ℕ) (inv : Inv w) where
 
   -- the bits of frames that an actor has are not set
   pub given-bits : (a : ℕ) → mask < 2 ^ 64 → ((f : ℕ) → in_mask g mask f ≡ true → w.core.held a f ≡ true) → bit_and (w.core.bundles g) mask ≡ 0
-  unfolding in_mask is_free
+  unfolding in_mask has_free_bit
   given-bits a small holds =
       same_from_bits (bit_and (w.core.bundles g) mask) 0
       (λ i. bit_at_and (w.core.bundles g) mask i ∙ ⊎_elim (λ low. inside i low) (λ high. past i high) (cases_lt i 64) ∙ sym (bit_at-zero i))

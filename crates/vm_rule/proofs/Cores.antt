@@ -19,9 +19,9 @@ use Rattle.vm_rule.specs.declared.view.View.{View}
 use Rattle.vm_rule.specs.Puts.{put, put_at}
 use Rattle.vm_owner.specs.Numbers.{has}
 use Rattle.vm_core.specs.FrameActs.{mapping_of}
-use Rattle.vm_rule.specs.Layout.{Words, Within, index_of, width, words_of, written}
+use Rattle.vm_rule.specs.Layout.{Words, Within, index_of, width, table_words, with_word}
 use Rattle.vm_rule.specs.Views.{spent}
-use Rattle.vm_rule.specs.Reading.{page_from, pages_from, core_from, seats_of, loads_of, held_of, block_of, core_of}
+use Rattle.vm_rule.specs.Reading.{page_from, pages_from, core_from, seats_of, loads_of, frames_held, block_of, core_shown}
 use Rattle.vm_rule.proofs.Parts.{words-written, frame-written}
 use Rattle.vm_rule.proofs.Pages.{put-column, put-still, page-in, page-changed}
 use Rattle.vm_rule.proofs.Views.{at-there, views-set, block-same}
@@ -49,11 +49,11 @@ module _ {X : Type 0} where
       ∙ put-still [] (λ (y : View X). y.loads) (at spent views) id w (e ∙ ap (λ (y : View X). y.loads) (sym (at-there spent views id v there)))
 
   -- the frames that the passes hold
-  pub held-put : (views : List (View X)) (id : ℕ) (v w : View X) → get_elem? views id ≡ some v → held_of (slice_set views id w) ≡ upd (held_of views) id (λ f. has f w.frames)
+  pub held-put : (views : List (View X)) (id : ℕ) (v w : View X) → get_elem? views id ≡ some v → frames_held (slice_set views id w) ≡ upd (frames_held views) id (λ f. has f w.frames)
   held-put views id v w there =
       fun_ext (λ b. ap (λ (f : ℕ → View X). λ n. has n (f b).frames) (views-set views id v w there) ∙ upd-map (λ (y : View X). λ n. has n y.frames) (at spent views) id w b)
 
-  pub held-still : (views : List (View X)) (id : ℕ) (v w : View X) → get_elem? views id ≡ some v → w.frames ≡ v.frames → held_of (slice_set views id w) ≡ held_of views
+  pub held-still : (views : List (View X)) (id : ℕ) (v w : View X) → get_elem? views id ≡ some v → w.frames ≡ v.frames → frames_held (slice_set views id w) ≡ frames_held views
   held-still views id v w there e =
       fun_ext (λ b. ap (λ (f : ℕ → View X). λ n. has n (f b).frames) (views-set views id v w there)
       ∙ upd-keeps (λ (y : View X). λ n. has n y.frames) (at spent views) id w (ap (λ l n. has n l) (e ∙ ap (λ (y : View X). y.frames) (sym (at-there spent views id v there)))) b)
@@ -63,23 +63,23 @@ module _ (start : Origin) (actors : ℕ) (r : Words) (blocks : ℕ → Stored) (
   core = core_from start actors r blocks seats held
 
   -- a state word, and one row of seats
-  pub core-state : (p x : ℕ) (row : ℕ → Seat) → p < start.pages → core_from start actors (written r (places.State p) x) blocks (upd seats p row) held ≡ on_page core p (record (core.pages p) { state = state_of x; version = version_of x; seats = row })
+  pub core-state : (p x : ℕ) (row : ℕ → Seat) → p < start.pages → core_from start actors (with_word r (places.State p) x) blocks (upd seats p row) held ≡ on_page core p (record (core.pages p) { state = state_of x; version = version_of x; seats = row })
   core-state p x row l =
-      ap (λ pages. record core { pages = pages }) (page-changed start.pages r (written r (places.State p) x) blocks blocks seats (upd seats p row) p (record (core.pages p) { state = state_of x; version = version_of x; seats = row }) l
+      ap (λ pages. record core { pages = pages }) (page-changed start.pages r (with_word r (places.State p) x) blocks blocks seats (upd seats p row) p (record (core.pages p) { state = state_of x; version = version_of x; seats = row }) l
       (rw (page-in start.pages r blocks seats p l) (λ i. record (page_from r blocks seats p) { state = state_of (upd-same r.states p x i); version = version_of (upd-same r.states p x i); seats = upd-same seats p row i }))
       (λ q ne i. record (page_from r blocks seats q) { state = state_of (upd-other r.states p x q ne i); version = version_of (upd-other r.states p x q ne i); seats = upd-other seats p row q ne i }))
 
   -- a translation word
-  pub core-translation : (p x : ℕ) → p < start.pages → core_from start actors (written r (places.Translation p) x) blocks seats held ≡ on_page core p (record (core.pages p) { trans = mapping_of x })
+  pub core-translation : (p x : ℕ) → p < start.pages → core_from start actors (with_word r (places.Translation p) x) blocks seats held ≡ on_page core p (record (core.pages p) { trans = mapping_of x })
   core-translation p x l =
-      ap (λ pages. record core { pages = pages }) (page-changed start.pages r (written r (places.Translation p) x) blocks blocks seats seats p (record (core.pages p) { trans = mapping_of x }) l
+      ap (λ pages. record core { pages = pages }) (page-changed start.pages r (with_word r (places.Translation p) x) blocks blocks seats seats p (record (core.pages p) { trans = mapping_of x }) l
       (rw (page-in start.pages r blocks seats p l) (λ i. record (page_from r blocks seats p) { trans = mapping_of (upd-same r.translations p x i) }))
       (λ q ne i. record (page_from r blocks seats q) { trans = mapping_of (upd-other r.translations p x q ne i) }))
 
   -- a fault word
-  pub core-fault : (p x : ℕ) → p < start.pages → core_from start actors (written r (places.Fault p) x) blocks seats held ≡ on_page core p (record (core.pages p) { fault = x })
+  pub core-fault : (p x : ℕ) → p < start.pages → core_from start actors (with_word r (places.Fault p) x) blocks seats held ≡ on_page core p (record (core.pages p) { fault = x })
   core-fault p x l =
-      ap (λ pages. record core { pages = pages }) (page-changed start.pages r (written r (places.Fault p) x) blocks blocks seats seats p (record (core.pages p) { fault = x }) l
+      ap (λ pages. record core { pages = pages }) (page-changed start.pages r (with_word r (places.Fault p) x) blocks blocks seats seats p (record (core.pages p) { fault = x }) l
       (rw (page-in start.pages r blocks seats p l) (λ i. record (page_from r blocks seats p) { fault = upd-same r.faults p x i }))
       (λ q ne i. record (page_from r blocks seats q) { fault = upd-other r.faults p x q ne i }))
 
@@ -98,29 +98,29 @@ module _ (start : Origin) (actors : ℕ) (r : Words) (blocks : ℕ → Stored) (
       (λ q ne i. record (page_from r blocks seats q) { count = (upd-other blocks p b q ne i).count; block = (upd-other blocks p b q ne i).words }))
 
   -- a word of a frame
-  pub core-word : (f i x : ℕ) → i < 64 → core_from start actors (written r (places.Content f i) x) blocks seats held ≡ stored_at core f i x
+  pub core-word : (f i x : ℕ) → i < 64 → core_from start actors (with_word r (places.Content f i) x) blocks seats held ≡ stored_at core f i x
   unfolding pages_from
   core-word f i x l = ap (λ words. record core { words = words }) (frame-written r.contents f i x l)
 
   -- a bundle word, and the frames held
-  pub core-bundle : (g x : ℕ) (held' : ℕ → ℕ → Bool) → core_from start actors (written r (places.Bundle g) x) blocks seats held' ≡ record core { bundles = upd r.bundles g x; held = held' }
+  pub core-bundle : (g x : ℕ) (held' : ℕ → ℕ → Bool) → core_from start actors (with_word r (places.Bundle g) x) blocks seats held' ≡ record core { bundles = upd r.bundles g x; held = held' }
   unfolding pages_from
   core-bundle g x held' = refl
 
   -- the next word, the hand
-  pub core-next : (x : ℕ) → core_from start actors (written r places.Next x) blocks seats held ≡ record core { next = x }
+  pub core-next : (x : ℕ) → core_from start actors (with_word r places.Next x) blocks seats held ≡ record core { next = x }
   unfolding pages_from
   core-next x = refl
 
-  pub core-hand : (x : ℕ) → core_from start actors (written r places.Hand x) blocks seats held ≡ record core { hand = x }
+  pub core-hand : (x : ℕ) → core_from start actors (with_word r places.Hand x) blocks seats held ≡ record core { hand = x }
   unfolding pages_from
   core-hand x = refl
 
 module _ {X B : Type 0} (stored : B → Stored) (start : Origin) where
   -- the one word that a step writes, and the one view that it changes
   pub core-step : (s : Table (Option B) (View X)) (id : ℕ) (v w : View X) (word : Place) (x : ℕ) → length s.words ≡ width start → Within start word → get_elem? s.views id ≡ some v → w.out ≡ v.out
-      → (seats : ℕ → ℕ → Seat) (held : ℕ → ℕ → Bool) → seats_of (slice_set s.views id w) ≡ seats → held_of (slice_set s.views id w) ≡ held
-      → core_of stored start (record { words = slice_set s.words (index_of start word) x; homes = s.homes; views = slice_set s.views id w })
-      ≡ core_from start (length s.views) (written (words_of start s.words) word x) (block_of stored s.homes s.views) seats held
+      → (seats : ℕ → ℕ → Seat) (held : ℕ → ℕ → Bool) → seats_of (slice_set s.views id w) ≡ seats → frames_held (slice_set s.views id w) ≡ held
+      → core_shown stored start (record { words = slice_set s.words (index_of start word) x; homes = s.homes; views = slice_set s.views id w })
+      ≡ core_from start (length s.views) (with_word (table_words start s.words) word x) (block_of stored s.homes s.views) seats held
   core-step s id v w word x wide within there out seats held es eh i =
       core_from start (length-set s.views id w i) (words-written start s.words word x wide within i) (block-same stored s.homes s.views id v w there out i) (es i) (eh i)

@@ -22,7 +22,7 @@ use Rattle.vm_rule.specs.declared.view.Origin.{Origin}
 use Rattle.vm_rule.specs.declared.view.Out.{Out}
 use Rattle.vm_rule.specs.declared.view.View.{View}
 use Rattle.vm_rule.specs.Views.{any, owns, times, seat_of, may_call}
-use Rattle.vm_rule.specs.Reading.{core_of}
+use Rattle.vm_rule.specs.Reading.{core_shown}
 use Rattle.vm_rule.specs.Rule.{is_pending, BlocksFit, Ruled}
 use Rattle.vm_rule.proofs.Views.{at-bound, out-same, block-same}
 use Rattle.vm_rule.proofs.Found.{seat-here}
@@ -95,17 +95,17 @@ one-caller actors state version seats a b i la lb ma mb =
 module _ {X B : Type 0} (stored : B → Stored) (start : Origin) where
   -- what the invariant says of the locks of page p
   abbrev pub LocksHere : Table (Option B) (View X) → ℕ → Type 0
-  LocksHere s p = LocksInv (length s.views) ((core_of stored start s).pages p).state ((core_of stored start s).pages p).version ((core_of stored start s).pages p).seats
+  LocksHere s p = LocksInv (length s.views) ((core_shown stored start s).pages p).state ((core_shown stored start s).pages p).version ((core_shown stored start s).pages p).seats
 
   -- a page that a pass holds exclusively is locked
-  pub locked-here : (s : Table (Option B) (View X)) (id p : ℕ) (v : View X) → LocksHere s p → p < start.pages → get_elem? s.views id ≡ some v → (seat_of v p).exclusive ≡ true → ((core_of stored start s).pages p).state ≡ LOCKED
+  pub locked-here : (s : Table (Option B) (View X)) (id p : ℕ) (v : View X) → LocksHere s p → p < start.pages → get_elem? s.views id ≡ some v → (seat_of v p).exclusive ≡ true → ((core_shown stored start s).pages p).state ≡ LOCKED
   locked-here s id p v i l there owns = locked-from_owner i id (ap (λ y. y.exclusive) (seat-here stored start s id p v l there) ∙ owns)
 
   -- a page of which a pass has a share has one, and is not locked
   pub shared-here : (s : Table (Option B) (View X)) (id p : ℕ) (v : View X) → LocksHere s p → p < start.pages → get_elem? s.views id ≡ some v → 1 ≤ (seat_of v p).shares
-      → (1 ≤ ((core_of stored start s).pages p).state) × (((core_of stored start s).pages p).state < LOCKED)
+      → (1 ≤ ((core_shown stored start s).pages p).state) × (((core_shown stored start s).pages p).state < LOCKED)
   shared-here s id p v i l there some' =
-      let c : Page = (core_of stored start s).pages p in
+      let c : Page = (core_shown stored start s).pages p in
       let same : (c.seats id).shares ≡ (seat_of v p).shares = ap (λ y. y.shares) (seat-here stored start s id p v l there) in
       let below : (c.seats id).shares ≤ sum_below (length s.views) (λ a. (c.seats a).shares) = sum_below-at (length s.views) (λ a. (c.seats a).shares) id (at-bound s.views id v there) in
       shared-state c.state (sum_below (length s.views) (λ a. (c.seats a).shares)) (omega (arith, some', same, below)) i.shares
@@ -113,17 +113,17 @@ module _ {X B : Type 0} (stored : B → Stored) (start : Origin) where
   -- a view that may call the device is the one
   pub caller-here : (s : Table (Option B) (View X)) (id j p : ℕ) (v u : View X) → LocksHere s p → p < start.pages → get_elem? s.views id ≡ some v → may_call (seat_of v p) ≡ true → get_elem? s.views j ≡ some u → may_call (seat_of u p) ≡ true → j ≡ id
   caller-here s id j p v u i l there mine at theirs =
-      one-caller (length s.views) _ _ ((core_of stored start s).pages p).seats id j i (at-bound s.views id v there) (at-bound s.views j u at) (ap may_call (seat-here stored start s id p v l there) ∙ mine) (ap may_call (seat-here stored start s j p u l at) ∙ theirs)
+      one-caller (length s.views) _ _ ((core_shown stored start s).pages p).seats id j i (at-bound s.views id v there) (at-bound s.views j u at) (ap may_call (seat-here stored start s id p v l there) ∙ mine) (ap may_call (seat-here stored start s j p u l at) ∙ theirs)
 
   -- the other passes have nothing of a page that a pass holds exclusively
   pub alone-here : (s : Table (Option B) (View X)) (id j p : ℕ) (v u : View X) → LocksHere s p → p < start.pages → get_elem? s.views id ≡ some v → (seat_of v p).exclusive ≡ true → get_elem? s.views j ≡ some u → j ≢ id
       → (may_call (seat_of u p) ≡ false) × ((seat_of u p).shares ≡ 0)
   alone-here s id j p v u i l there owns at ne =
-      let k = alone (length s.views) _ _ ((core_of stored start s).pages p).seats id j i (ap (λ y. y.exclusive) (seat-here stored start s id p v l there) ∙ owns) (at-bound s.views j u at) ne in
+      let k = alone (length s.views) _ _ ((core_shown stored start s).pages p).seats id j i (ap (λ y. y.exclusive) (seat-here stored start s id p v l there) ∙ owns) (at-bound s.views j u at) ne in
       subst (λ y. (may_call y ≡ false) × (y.shares ≡ 0)) (seat-here stored start s j p u l at) k
 
   -- nobody holds a page that is not locked
-  pub unheld : (s : Table (Option B) (View X)) (j p : ℕ) (u : View X) → LocksHere s p → ((core_of stored start s).pages p).state ≢ LOCKED → p < start.pages → get_elem? s.views j ≡ some u → (seat_of u p).exclusive ≡ false
+  pub unheld : (s : Table (Option B) (View X)) (j p : ℕ) (u : View X) → LocksHere s p → ((core_shown stored start s).pages p).state ≢ LOCKED → p < start.pages → get_elem? s.views j ≡ some u → (seat_of u p).exclusive ≡ false
   unheld s j p u i free l there = sym (ap (λ y. y.exclusive) (seat-here stored start s j p u l there)) ∙ i.unheld free j
 
   -- the blocks, after a view that keeps what it has out, and may still call its device

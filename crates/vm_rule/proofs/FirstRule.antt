@@ -17,9 +17,9 @@ use Rattle.vm_rule.specs.declared.view.Origin.{Origin}
 use Rattle.vm_rule.specs.declared.view.Shape.{Shape}
 use Rattle.vm_rule.specs.declared.view.View.{View}
 use Rattle.vm_rule.specs.Puts.{chosen}
-use Rattle.vm_rule.specs.Layout.{width_of, width, words_of}
+use Rattle.vm_rule.specs.Layout.{width_of, width, table_words}
 use Rattle.vm_rule.specs.Views.{times_noted, first_view}
-use Rattle.vm_rule.specs.Reading.{no_block, block_of, seats_of, histories_of, core_of, world_of}
+use Rattle.vm_rule.specs.Reading.{no_block, block_of, seats_of, histories_of, core_shown, world_of}
 use Rattle.vm_rule.specs.Rule.{ArePlain, began_of, logical, is_pending, is_owed, kept_of, KnowsLists, KnowsPages, FaultsFit, ListsFit, PartsFit, BlocksFit, snapshot_of, Ruled}
 use Rattle.vm_rule.specs.Begun.{unborn, Stands}
 use Rattle.vm_rule.specs.Started.{MayBegin, bounds_of}
@@ -67,8 +67,8 @@ module _ (X : Type 0) {B : Type 0} (stored : B → Stored) (keeps : Start → Ke
     pub pages : length start.contents ≡ start.pages
     pub bounds : start.bounds ≡ bounds_of (map stored items)
     pub spelled : ArePlain start words
-    pub next : (words_of start words).next ≡ start.next
-    pub faults : (p : ℕ) → p < start.pages → (words_of start words).faults p ≡ (at no_block (map stored items) p).count
+    pub next : (table_words start words).next ≡ start.next
+    pub faults : (p : ℕ) → p < start.pages → (table_words start words).faults p ≡ (at no_block (map stored items) p).count
     pub inv : Inv (world_of stored start [] (λ p. []) (table X stored start words items many))
     pub may : start.tells ≡ true → MayBegin keeps start.next start.contents
 
@@ -87,10 +87,10 @@ module _ (X : Type 0) {B : Type 0} (stored : B → Stored) (keeps : Start → Ke
     unfolding histories_of
     last-words p l = rw (lt-ltb p start.pages l) refl
 
-    starts-zero : start.tells ≡ true → (p : ℕ) → (core_of stored start made).next ≤ p → p < start.pages → (histories_of start [] (λ p. []) p).last.words ≡ replicate 64 0
+    starts-zero : start.tells ≡ true → (p : ℕ) → (core_shown stored start made).next ≤ p → p < start.pages → (histories_of start [] (λ p. []) p).last.words ≡ replicate 64 0
     unfolding at
     starts-zero t p le l =
-        let n : (words_of start words).next ≡ start.next = ok.next in
+        let n : (table_words start words).next ≡ start.next = ok.next in
         let many : length start.contents ≡ start.pages = ok.pages in
         last-words p l ∙ at-any (replicate 64 0) [] start.contents p (omega arith) ∙ (ok.may t).zero p (omega arith) (omega arith)
 
@@ -105,24 +105,24 @@ module _ (X : Type 0) {B : Type 0} (stored : B → Stored) (keeps : Start → Ke
         }
 
     -- a page's fault word is its block's count, which is within its bound
-    counted : (p : ℕ) → ((core_of stored start made).pages p).fault ≤ ((core_of stored start made).pages p).count × ((core_of stored start made).pages p).count ≤ MAX_COUNT
+    counted : (p : ℕ) → ((core_shown stored start made).pages p).fault ≤ ((core_shown stored start made).pages p).count × ((core_shown stored start made).pages p).count ≤ MAX_COUNT
     counted p =
         ⊎_elim
         (λ l.
-        let here : (core_of stored start made).pages p ≡ _ = page-in start.pages (words_of start words) (block_of stored made.homes made.views) (seats_of made.views) p l in
+        let here : (core_shown stored start made).pages p ≡ _ = page-in start.pages (table_words start words) (block_of stored made.homes made.views) (seats_of made.views) p l in
         let block : block_of stored made.homes made.views p ≡ at no_block stands p = first-block X stored start words items ok.many p l in
-        let fault : ((core_of stored start made).pages p).fault ≡ (at no_block stands p).count = ap (λ (r : Page). r.fault) here ∙ ok.faults p l in
-        let count : ((core_of stored start made).pages p).count ≡ (at no_block stands p).count = ap (λ (r : Page). r.count) here ∙ ap (λ (b : Stored). b.count) block in
+        let fault : ((core_shown stored start made).pages p).fault ≡ (at no_block stands p).count = ap (λ (r : Page). r.fault) here ∙ ok.faults p l in
+        let count : ((core_shown stored start made).pages p).count ≡ (at no_block stands p).count = ap (λ (r : Page). r.count) here ∙ ap (λ (b : Stored). b.count) block in
         let cap : (at no_block stands p).count ≤ MAX_COUNT = counts-capped stored bounded capped items p in
         (omega arith, omega arith))
         (λ le.
-        let out : (core_of stored start made).pages p ≡ _ = page-out start.pages (words_of start words) (block_of stored made.homes made.views) (seats_of made.views) p le in
-        let fault : ((core_of stored start made).pages p).fault ≡ 0 = ap (λ (r : Page). r.fault) out in
-        let count : ((core_of stored start made).pages p).count ≡ 0 = ap (λ (r : Page). r.count) out in
+        let out : (core_shown stored start made).pages p ≡ _ = page-out start.pages (table_words start words) (block_of stored made.homes made.views) (seats_of made.views) p le in
+        let fault : ((core_shown stored start made).pages p).fault ≡ 0 = ap (λ (r : Page). r.fault) out in
+        let count : ((core_shown stored start made).pages p).count ≡ 0 = ap (λ (r : Page). r.count) out in
         (omega arith, omega arith))
         (cases_lt p start.pages)
 
-    starts-faults : FaultsFit (core_of stored start made).pages made.views
+    starts-faults : FaultsFit (core_shown stored start made).pages made.views
     starts-faults =
         record {
           below = λ p. (counted p).0;
@@ -193,7 +193,7 @@ module _ (X : Type 0) {B : Type 0} (stored : B → Stored) (keeps : Start → Ke
           sized = (ok.pages, ap length ok.bounds ∙ length-mapped (λ (b : Stored). b.bound) stands ∙ many);
           spelled = ok.spelled;
           inv = ok.inv;
-          risen = let n : (words_of start words).next ≡ start.next = ok.next in omega arith;
+          risen = let n : (table_words start words).next ≡ start.next = ok.next in omega arith;
           zero = starts-zero;
           blocks = starts-blocks;
           faults = starts-faults;

@@ -13,9 +13,9 @@ use Rattle.vm_core.specs.Inv.{Inv, PageInv, FrameIsAt, Place}
 use Rattle.vm_block.specs.declared.stored.Stored.{Stored}
 use Rattle.vm_rule.specs.declared.view.Origin.{Origin}
 use Rattle.vm_rule.specs.declared.view.View.{View}
-use Rattle.vm_rule.specs.Layout.{words_of}
+use Rattle.vm_rule.specs.Layout.{table_words}
 use Rattle.vm_rule.specs.Views.{first_view}
-use Rattle.vm_rule.specs.Reading.{no_block, home, known, frame_words, page_from, pages_from, first_history, histories_of, block_of, seats_of, loads_of, held_of, world_of}
+use Rattle.vm_rule.specs.Reading.{no_block, home, known, frame_words, page_from, pages_from, first_history, histories_of, block_of, seats_of, loads_of, frames_held, world_of}
 use Rattle.vm_rule.proofs.Starts.{evicted-inv}
 
 -- one version, with these words
@@ -33,7 +33,7 @@ module _ (X : Type 0) (start : Origin) where
   lone-load p zero = refl
   lone-load p (suc a) = refl
 
-  lone-held : (a f : ℕ) → held_of {X = X} (first_view start ∷ []) a f ≡ false
+  lone-held : (a f : ℕ) → frames_held {X = X} (first_view start ∷ []) a f ≡ false
   unfolding at
   lone-held zero f = refl
   lone-held (suc a) f = refl
@@ -85,13 +85,13 @@ module _ (X : Type 0) {B : Type 0} (stored : B → Stored) (start : Origin) (wor
   unfolding block_of
   first-block p l = home-block stored items p (omega arith)
 
-  module _ (stands : ℕ → Page) (read : (p : ℕ) → p < start.pages → page_from (words_of start words) (at no_block (map stored items)) (λ q a. no_seat) p ≡ stands p) where
-    shown-page : (p : ℕ) → pages_from start.pages (words_of start words) (block_of stored table.homes table.views) (seats_of table.views) p ≡ first_pages start stands p
+  module _ (stands : ℕ → Page) (read : (p : ℕ) → p < start.pages → page_from (table_words start words) (at no_block (map stored items)) (λ q a. no_seat) p ≡ stands p) where
+    shown-page : (p : ℕ) → pages_from start.pages (table_words start words) (block_of stored table.homes table.views) (seats_of table.views) p ≡ first_pages start stands p
     unfolding pages_from first_pages
     shown-page p =
         ⊎_elim
         (λ l. rw (lt-ltb p start.pages l)
-        ((λ i. record (page_from (words_of start words) (at no_block (map stored items)) (λ q a. no_seat) p) {
+        ((λ i. record (page_from (table_words start words) (at no_block (map stored items)) (λ q a. no_seat) p) {
           count = (first-block p l i).count;
           block = (first-block p l i).words;
           seats = λ a. lone-seat X start p a i;
@@ -103,8 +103,8 @@ module _ (X : Type 0) {B : Type 0} (stored : B → Stored) (start : Origin) (wor
     unfolding histories_of
     first-histories p = refl
 
-    pub shown : (frames : ℕ → List ℕ) (bundles : ℕ → ℕ) (next hand : ℕ) → ((f : ℕ) → frame_words (words_of start words).contents f ≡ frames f) → ((g : ℕ) → (words_of start words).bundles g ≡ bundles g)
-        → (words_of start words).next ≡ next → (words_of start words).hand ≡ hand → world_of stored start [] (λ p. []) table ≡ first_world start stands frames bundles next hand
+    pub shown : (frames : ℕ → List ℕ) (bundles : ℕ → ℕ) (next hand : ℕ) → ((f : ℕ) → frame_words (table_words start words).contents f ≡ frames f) → ((g : ℕ) → (table_words start words).bundles g ≡ bundles g)
+        → (table_words start words).next ≡ next → (table_words start words).hand ≡ hand → world_of stored start [] (λ p. []) table ≡ first_world start stands frames bundles next hand
     shown frames bundles next hand f g n h = λ i. record {
       core = record {
         shape = record { pages = start.pages; frames = start.frames; actors = 1; next = start.next };

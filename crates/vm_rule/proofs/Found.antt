@@ -16,9 +16,9 @@ use Rattle.vm_rule.specs.declared.view.Origin.{Origin}
 use Rattle.vm_rule.specs.declared.view.Place.TheVariants as places
 use Rattle.vm_rule.specs.declared.view.View.{View}
 use Rattle.vm_rule.specs.Puts.{listed}
-use Rattle.vm_rule.specs.Layout.{index_of, bundle_count, words_of, part}
+use Rattle.vm_rule.specs.Layout.{index_of, bundle_count, table_words, part}
 use Rattle.vm_rule.specs.Views.{spent, seat_of, loads_at}
-use Rattle.vm_rule.specs.Reading.{frame_words, page_from, block_of, seats_of, loads_of, core_of}
+use Rattle.vm_rule.specs.Reading.{frame_words, page_from, block_of, seats_of, loads_of, core_shown}
 use Rattle.vm_rule.proofs.Parts.{part-at}
 use Rattle.vm_rule.proofs.Pages.{page-in, page-out}
 use Rattle.vm_rule.proofs.Views.{at-there}
@@ -45,58 +45,58 @@ frame-at contents f i l = listed-at 64 (λ k. contents (64 * f + k)) i l
 
 module _ {X B : Type 0} (stored : B → Stored) (start : Origin) where
   -- a page of the table
-  pub page-here : (s : Table (Option B) (View X)) (p : ℕ) → p < start.pages → (core_of stored start s).pages p ≡ page_from (words_of start s.words) (block_of stored s.homes s.views) (seats_of s.views) p
-  page-here s p l = page-in start.pages (words_of start s.words) (block_of stored s.homes s.views) (seats_of s.views) p l
+  pub page-here : (s : Table (Option B) (View X)) (p : ℕ) → p < start.pages → (core_shown stored start s).pages p ≡ page_from (table_words start s.words) (block_of stored s.homes s.views) (seats_of s.views) p
+  page-here s p l = page-in start.pages (table_words start s.words) (block_of stored s.homes s.views) (seats_of s.views) p l
 
   -- a page past the last one
-  pub outside-here : (s : Table (Option B) (View X)) (p : ℕ) → start.pages ≤ p → (core_of stored start s).pages p ≡ outside_page
-  outside-here s p le = page-out start.pages (words_of start s.words) (block_of stored s.homes s.views) (seats_of s.views) p le
+  pub outside-here : (s : Table (Option B) (View X)) (p : ℕ) → start.pages ≤ p → (core_shown stored start s).pages p ≡ outside_page
+  outside-here s p le = page-out start.pages (table_words start s.words) (block_of stored s.homes s.views) (seats_of s.views) p le
 
   -- what the core has of a page of the pass
-  pub seat-here : (s : Table (Option B) (View X)) (id p : ℕ) (v : View X) → p < start.pages → get_elem? s.views id ≡ some v → ((core_of stored start s).pages p).seats id ≡ seat_of v p
+  pub seat-here : (s : Table (Option B) (View X)) (id p : ℕ) (v : View X) → p < start.pages → get_elem? s.views id ≡ some v → ((core_shown stored start s).pages p).seats id ≡ seat_of v p
   seat-here s id p v l there = ap (λ (r : Page). r.seats id) (page-here s p l) ∙ ap (λ (y : View X). seat_of y p) (at-there spent s.views id v there)
 
-  pub seats-here : (s : Table (Option B) (View X)) (p : ℕ) → p < start.pages → ((core_of stored start s).pages p).seats ≡ seats_of s.views p
+  pub seats-here : (s : Table (Option B) (View X)) (p : ℕ) → p < start.pages → ((core_shown stored start s).pages p).seats ≡ seats_of s.views p
   seats-here s p l = ap (λ (r : Page). r.seats) (page-here s p l)
 
   -- what the pass loaded through its open read, and the frames that it holds
   pub loads-here : (s : Table (Option B) (View X)) (id p : ℕ) (v : View X) → get_elem? s.views id ≡ some v → loads_of s.views p id ≡ loads_at v p
   loads-here s id p v there = ap (λ (y : View X). loads_at y p) (at-there spent s.views id v there)
 
-  pub held-here : (s : Table (Option B) (View X)) (id f : ℕ) (v : View X) → get_elem? s.views id ≡ some v → (core_of stored start s).held id f ≡ has f v.frames
+  pub held-here : (s : Table (Option B) (View X)) (id f : ℕ) (v : View X) → get_elem? s.views id ≡ some v → (core_shown stored start s).held id f ≡ has f v.frames
   held-here s id f v there = ap (λ (y : View X). has f y.frames) (at-there spent s.views id v there)
 
   -- the state word of a page
-  pub state-here : (s : Table (Option B) (View X)) (p : ℕ) → p < start.pages → ((core_of stored start s).pages p).state ≡ state_of (slice_index s.words (index_of start (places.State p)))
+  pub state-here : (s : Table (Option B) (View X)) (p : ℕ) → p < start.pages → ((core_shown stored start s).pages p).state ≡ state_of (slice_index s.words (index_of start (places.State p)))
   state-here s p l = ap (λ (r : Page). r.state) (page-here s p l) ∙ ap state_of (part-found 0 start.pages s.words p p l (omega arith))
 
-  pub version-here : (s : Table (Option B) (View X)) (p : ℕ) → p < start.pages → ((core_of stored start s).pages p).version ≡ version_of (slice_index s.words (index_of start (places.State p)))
+  pub version-here : (s : Table (Option B) (View X)) (p : ℕ) → p < start.pages → ((core_shown stored start s).pages p).version ≡ version_of (slice_index s.words (index_of start (places.State p)))
   version-here s p l = ap (λ (r : Page). r.version) (page-here s p l) ∙ ap version_of (part-found 0 start.pages s.words p p l (omega arith))
 
-  pub word-here : (s : Table (Option B) (View X)) (p : ℕ) → p < start.pages → page_word ((core_of stored start s).pages p) ≡ slice_index s.words (index_of start (places.State p))
-  word-here s p l = ap (λ (r : Page). page_word r) (page-here s p l) ∙ word-made ((words_of start s.words).states p) ∙ part-found 0 start.pages s.words p p l (omega arith)
+  pub word-here : (s : Table (Option B) (View X)) (p : ℕ) → p < start.pages → page_word ((core_shown stored start s).pages p) ≡ slice_index s.words (index_of start (places.State p))
+  word-here s p l = ap (λ (r : Page). page_word r) (page-here s p l) ∙ word-made ((table_words start s.words).states p) ∙ part-found 0 start.pages s.words p p l (omega arith)
 
   -- its translation word, its fault word
-  pub translation-here : (s : Table (Option B) (View X)) (p : ℕ) → p < start.pages → ((core_of stored start s).pages p).trans ≡ mapping_of (slice_index s.words (index_of start (places.Translation p)))
+  pub translation-here : (s : Table (Option B) (View X)) (p : ℕ) → p < start.pages → ((core_shown stored start s).pages p).trans ≡ mapping_of (slice_index s.words (index_of start (places.Translation p)))
   translation-here s p l = ap (λ (r : Page). r.trans) (page-here s p l) ∙ ap mapping_of (part-found start.pages start.pages s.words p (start.pages + p) l refl)
 
-  pub fault-here : (s : Table (Option B) (View X)) (p : ℕ) → p < start.pages → ((core_of stored start s).pages p).fault ≡ slice_index s.words (index_of start (places.Fault p))
+  pub fault-here : (s : Table (Option B) (View X)) (p : ℕ) → p < start.pages → ((core_shown stored start s).pages p).fault ≡ slice_index s.words (index_of start (places.Fault p))
   fault-here s p l = ap (λ (r : Page). r.fault) (page-here s p l) ∙ part-found (2 * start.pages) start.pages s.words p (2 * start.pages + p) l refl
 
   -- its block
-  pub block-here : (s : Table (Option B) (View X)) (p : ℕ) → p < start.pages → (((core_of stored start s).pages p).block ≡ (block_of stored s.homes s.views p).words) × (((core_of stored start s).pages p).count ≡ (block_of stored s.homes s.views p).count)
+  pub block-here : (s : Table (Option B) (View X)) (p : ℕ) → p < start.pages → (((core_shown stored start s).pages p).block ≡ (block_of stored s.homes s.views p).words) × (((core_shown stored start s).pages p).count ≡ (block_of stored s.homes s.views p).count)
   block-here s p l = (ap (λ (r : Page). r.block) (page-here s p l), ap (λ (r : Page). r.count) (page-here s p l))
 
   -- a word of a frame
-  pub content-here : (s : Table (Option B) (View X)) (f i : ℕ) → f < start.frames → i < 64 → slice_index ((core_of stored start s).words f) i ≡ slice_index s.words (index_of start (places.Content f i))
-  content-here s f i lf li = frame-at (words_of start s.words).contents f i li ∙ part-found (3 * start.pages) (64 * start.frames) s.words (64 * f + i) (3 * start.pages + (64 * f + i)) (omega arith) refl
+  pub content-here : (s : Table (Option B) (View X)) (f i : ℕ) → f < start.frames → i < 64 → slice_index ((core_shown stored start s).words f) i ≡ slice_index s.words (index_of start (places.Content f i))
+  content-here s f i lf li = frame-at (table_words start s.words).contents f i li ∙ part-found (3 * start.pages) (64 * start.frames) s.words (64 * f + i) (3 * start.pages + (64 * f + i)) (omega arith) refl
 
   -- a bundle word, the next word, the hand
-  pub bundle-here : (s : Table (Option B) (View X)) (g : ℕ) → g < bundle_count start → (core_of stored start s).bundles g ≡ slice_index s.words (index_of start (places.Bundle g))
+  pub bundle-here : (s : Table (Option B) (View X)) (g : ℕ) → g < bundle_count start → (core_shown stored start s).bundles g ≡ slice_index s.words (index_of start (places.Bundle g))
   bundle-here s g l = part-found (3 * start.pages + 64 * start.frames) (bundle_count start) s.words g (3 * start.pages + 64 * start.frames + g) l refl
 
-  pub next-here : (s : Table (Option B) (View X)) → (core_of stored start s).next ≡ slice_index s.words (index_of start places.Next)
+  pub next-here : (s : Table (Option B) (View X)) → (core_shown stored start s).next ≡ slice_index s.words (index_of start places.Next)
   next-here s = at-get 0 s.words (index_of start places.Next)
 
-  pub hand-here : (s : Table (Option B) (View X)) → (core_of stored start s).hand ≡ slice_index s.words (index_of start places.Hand)
+  pub hand-here : (s : Table (Option B) (View X)) → (core_shown stored start s).hand ≡ slice_index s.words (index_of start places.Hand)
   hand-here s = at-get 0 s.words (index_of start places.Hand)

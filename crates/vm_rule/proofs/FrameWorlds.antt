@@ -23,8 +23,8 @@ use Rattle.vm_rule.specs.declared.view.Origin.{Origin}
 use Rattle.vm_rule.specs.declared.view.Place.TheVariants as places
 use Rattle.vm_rule.specs.declared.view.Release.{Release as Released}
 use Rattle.vm_rule.specs.declared.view.View.{View}
-use Rattle.vm_rule.specs.Layout.{Within, width, words_of}
-use Rattle.vm_rule.specs.Reading.{seats_of, held_of, block_of, core_of, world_of, histories_of}
+use Rattle.vm_rule.specs.Layout.{Within, width, table_words}
+use Rattle.vm_rule.specs.Reading.{seats_of, frames_held, block_of, core_shown, world_of, histories_of}
 use Rattle.vm_rule.proofs.Parts.{upd-is}
 use Rattle.vm_rule.proofs.Cores.{seats-still, loads-still, held-put, held-still, core-translation, core-fault, core-bundle, core-next, core-hand, core-step}
 use Rattle.vm_rule.proofs.Found.{held-here}
@@ -55,36 +55,36 @@ module _ {X B : Type 0} (stored : B → Stored) (start : Origin) where
   translated : (s : Table (Option B) (View X)) (releases : List Released) (drafts : ℕ → List ℕ) (id : ℕ) (v w : View X) (p x : ℕ) (t : Option Mapping) → length s.words ≡ width start → p < start.pages → get_elem? s.views id ≡ some v
       → w.out ≡ v.out → w.frames ≡ v.frames → w.seats ≡ v.seats → w.loads ≡ v.loads → mapping_of x ≡ t
       → world_of stored start releases drafts (wrote stored start s id (places.Translation p) x w)
-      ≡ record (world_of stored start releases drafts s) { core = on_page (core_of stored start s) p (record ((core_of stored start s).pages p) { trans = t }) }
+      ≡ record (world_of stored start releases drafts s) { core = on_page (core_shown stored start s) p (record ((core_shown stored start s).pages p) { trans = t }) }
   translated s releases drafts id v w p x t wide l there out frames seats loads maps i =
       record {
         core = (core-step stored start s id v w (places.Translation p) x wide l there out _ _ (seats-still s.views id v w there seats) (held-still s.views id v w there frames)
-            ∙ core-translation start (length s.views) (words_of start s.words) (block_of stored s.homes s.views) (seats_of s.views) (held_of s.views) p x l
-            ∙ (λ j. on_page (core_of stored start s) p (record ((core_of stored start s).pages p) { trans = maps j }))) i;
+            ∙ core-translation start (length s.views) (table_words start s.words) (block_of stored s.homes s.views) (seats_of s.views) (frames_held s.views) p x l
+            ∙ (λ j. on_page (core_shown stored start s) p (record ((core_shown stored start s).pages p) { trans = maps j }))) i;
         histories = histories_of start releases drafts;
         loads = loads-still s.views id v w there loads i;
       }
 
   -- a page is made dirty; its frame is clean again
   pub dirty-step : (s : Table (Option B) (View X)) (releases : List Released) (drafts : ℕ → List ℕ) (id : ℕ) (v w : View X) (p x : ℕ) → length s.words ≡ width start → p < start.pages → get_elem? s.views id ≡ some v
-      → w.out ≡ v.out → w.frames ≡ v.frames → w.seats ≡ v.seats → w.loads ≡ v.loads → mapping_of x ≡ with_dirty true ((core_of stored start s).pages p).trans
+      → w.out ≡ v.out → w.frames ≡ v.frames → w.seats ≡ v.seats → w.loads ≡ v.loads → mapping_of x ≡ with_dirty true ((core_shown stored start s).pages p).trans
       → world_of stored start releases drafts (wrote stored start s id (places.Translation p) x w) ≡ world_after (world_of stored start releases drafts s) (Dirty id p)
-  dirty-step s releases drafts id v w p x wide l there out frames seats loads maps = translated s releases drafts id v w p x (with_dirty true ((core_of stored start s).pages p).trans) wide l there out frames seats loads maps
+  dirty-step s releases drafts id v w p x wide l there out frames seats loads maps = translated s releases drafts id v w p x (with_dirty true ((core_shown stored start s).pages p).trans) wide l there out frames seats loads maps
 
   pub clean-step : (s : Table (Option B) (View X)) (releases : List Released) (drafts : ℕ → List ℕ) (id : ℕ) (v w : View X) (p x : ℕ) → length s.words ≡ width start → p < start.pages → get_elem? s.views id ≡ some v
-      → w.out ≡ v.out → w.frames ≡ v.frames → w.seats ≡ v.seats → w.loads ≡ v.loads → mapping_of x ≡ with_dirty false ((core_of stored start s).pages p).trans
+      → w.out ≡ v.out → w.frames ≡ v.frames → w.seats ≡ v.seats → w.loads ≡ v.loads → mapping_of x ≡ with_dirty false ((core_shown stored start s).pages p).trans
       → world_of stored start releases drafts (wrote stored start s id (places.Translation p) x w) ≡ world_after (world_of stored start releases drafts s) (Clean id p)
-  clean-step s releases drafts id v w p x wide l there out frames seats loads maps = translated s releases drafts id v w p x (with_dirty false ((core_of stored start s).pages p).trans) wide l there out frames seats loads maps
+  clean-step s releases drafts id v w p x wide l there out frames seats loads maps = translated s releases drafts id v w p x (with_dirty false ((core_shown stored start s).pages p).trans) wide l there out frames seats loads maps
 
   -- a fault word is raised to the count
   pub raise-step : (s : Table (Option B) (View X)) (releases : List Released) (drafts : ℕ → List ℕ) (id : ℕ) (v w : View X) (p x : ℕ) → length s.words ≡ width start → p < start.pages → get_elem? s.views id ≡ some v
-      → w.out ≡ v.out → w.frames ≡ v.frames → w.seats ≡ v.seats → w.loads ≡ v.loads → x ≡ ((core_of stored start s).pages p).count
+      → w.out ≡ v.out → w.frames ≡ v.frames → w.seats ≡ v.seats → w.loads ≡ v.loads → x ≡ ((core_shown stored start s).pages p).count
       → world_of stored start releases drafts (wrote stored start s id (places.Fault p) x w) ≡ world_after (world_of stored start releases drafts s) (Raise id p)
   raise-step s releases drafts id v w p x wide l there out frames seats loads is i =
       record {
         core = (core-step stored start s id v w (places.Fault p) x wide l there out _ _ (seats-still s.views id v w there seats) (held-still s.views id v w there frames)
-            ∙ core-fault start (length s.views) (words_of start s.words) (block_of stored s.homes s.views) (seats_of s.views) (held_of s.views) p x l
-            ∙ (λ j. on_page (core_of stored start s) p (record ((core_of stored start s).pages p) { fault = is j }))) i;
+            ∙ core-fault start (length s.views) (table_words start s.words) (block_of stored s.homes s.views) (seats_of s.views) (frames_held s.views) p x l
+            ∙ (λ j. on_page (core_shown stored start s) p (record ((core_shown stored start s).pages p) { fault = is j }))) i;
         histories = histories_of start releases drafts;
         loads = loads-still s.views id v w there loads i;
       }
@@ -93,23 +93,23 @@ module _ {X B : Type 0} (stored : B → Stored) (start : Origin) where
 
   -- the frames held, after a view whose frames are f of what they were
   held-now : (s : Table (Option B) (View X)) (id : ℕ) (v w : View X) (f : (ℕ → Bool) → ℕ → Bool) → get_elem? s.views id ≡ some v → ((h : ℕ) → has h w.frames ≡ f (λ k. has k v.frames) h)
-      → held_of (slice_set s.views id w) ≡ upd (held_of s.views) id (f (held_of s.views id))
+      → frames_held (slice_set s.views id w) ≡ upd (frames_held s.views) id (f (frames_held s.views id))
   held-now s id v w f there frames =
-      held-put s.views id v w there ∙ ap (upd (held_of s.views) id) (fun_ext frames ∙ ap f (fun_ext (λ k. sym (held-here stored start s id k v there))))
+      held-put s.views id v w there ∙ ap (upd (frames_held s.views) id) (fun_ext frames ∙ ap f (fun_ext (λ k. sym (held-here stored start s id k v there))))
 
   -- a translation word, and the frames of the pass
   moved-frame : (s : Table (Option B) (View X)) (releases : List Released) (drafts : ℕ → List ℕ) (id : ℕ) (v w : View X) (p x : ℕ) (t : Option Mapping) (f : (ℕ → Bool) → ℕ → Bool) → length s.words ≡ width start → p < start.pages → get_elem? s.views id ≡ some v
       → w.out ≡ v.out → w.seats ≡ v.seats → w.loads ≡ v.loads → mapping_of x ≡ t → ((h : ℕ) → has h w.frames ≡ f (λ k. has k v.frames) h)
       → world_of stored start releases drafts (wrote stored start s id (places.Translation p) x w)
       ≡ record (world_of stored start releases drafts s) {
-        core = record (core_of stored start s) { pages = upd (core_of stored start s).pages p (record ((core_of stored start s).pages p) { trans = t }); held = upd (held_of s.views) id (f (held_of s.views id)) };
+        core = record (core_shown stored start s) { pages = upd (core_shown stored start s).pages p (record ((core_shown stored start s).pages p) { trans = t }); held = upd (frames_held s.views) id (f (frames_held s.views id)) };
       }
   moved-frame s releases drafts id v w p x t f wide l there out seats loads maps frames i =
-      let c : State = core_of stored start s in
-      let held' : ℕ → ℕ → Bool = upd (held_of s.views) id (f (held_of s.views id)) in
+      let c : State = core_shown stored start s in
+      let held' : ℕ → ℕ → Bool = upd (frames_held s.views) id (f (frames_held s.views id)) in
       record {
         core = (core-step stored start s id v w (places.Translation p) x wide l there out _ _ (seats-still s.views id v w there seats) (held-now s id v w f there frames)
-            ∙ core-translation start (length s.views) (words_of start s.words) (block_of stored s.homes s.views) (seats_of s.views) held' p x l
+            ∙ core-translation start (length s.views) (table_words start s.words) (block_of stored s.homes s.views) (seats_of s.views) held' p x l
             ∙ (λ j. record c { pages = upd c.pages p (record (c.pages p) { trans = maps j }); held = held' })) i;
         histories = histories_of start releases drafts;
         loads = loads-still s.views id v w there loads i;
@@ -124,20 +124,20 @@ module _ {X B : Type 0} (stored : B → Stored) (start : Origin) where
 
   -- a page is taken out of its frame, which comes to the pass
   pub clear-step : (s : Table (Option B) (View X)) (releases : List Released) (drafts : ℕ → List ℕ) (id : ℕ) (v w : View X) (p x : ℕ) → length s.words ≡ width start → p < start.pages → get_elem? s.views id ≡ some v
-      → w.out ≡ v.out → w.seats ≡ v.seats → w.loads ≡ v.loads → mapping_of x ≡ None → ((h : ℕ) → has h w.frames ≡ gains (λ k. has k v.frames) ((core_of stored start s).pages p).trans h)
+      → w.out ≡ v.out → w.seats ≡ v.seats → w.loads ≡ v.loads → mapping_of x ≡ None → ((h : ℕ) → has h w.frames ≡ gains (λ k. has k v.frames) ((core_shown stored start s).pages p).trans h)
       → world_of stored start releases drafts (wrote stored start s id (places.Translation p) x w) ≡ world_after (world_of stored start releases drafts s) (Clear id p)
   clear-step s releases drafts id v w p x wide l there out seats loads maps frames =
-      moved-frame s releases drafts id v w p x None (λ row. gains row ((core_of stored start s).pages p).trans) wide l there out seats loads maps frames
+      moved-frame s releases drafts id v w p x None (λ row. gains row ((core_shown stored start s).pages p).trans) wide l there out seats loads maps frames
 
   -- a bundle word, and the frames of the pass
   moved-bundle : (s : Table (Option B) (View X)) (releases : List Released) (drafts : ℕ → List ℕ) (id : ℕ) (v w : View X) (g x : ℕ) (f : (ℕ → Bool) → ℕ → Bool) → length s.words ≡ width start → Within start (places.Bundle g) → get_elem? s.views id ≡ some v
       → w.out ≡ v.out → w.seats ≡ v.seats → w.loads ≡ v.loads → ((h : ℕ) → has h w.frames ≡ f (λ k. has k v.frames) h)
       → world_of stored start releases drafts (wrote stored start s id (places.Bundle g) x w)
-      ≡ record (world_of stored start releases drafts s) { core = record (core_of stored start s) { bundles = upd (core_of stored start s).bundles g x; held = upd (held_of s.views) id (f (held_of s.views id)) } }
+      ≡ record (world_of stored start releases drafts s) { core = record (core_shown stored start s) { bundles = upd (core_shown stored start s).bundles g x; held = upd (frames_held s.views) id (f (frames_held s.views id)) } }
   moved-bundle s releases drafts id v w g x f wide l there out seats loads frames i =
       record {
         core = (core-step stored start s id v w (places.Bundle g) x wide l there out _ _ (seats-still s.views id v w there seats) (held-now s id v w f there frames)
-            ∙ core-bundle start (length s.views) (words_of start s.words) (block_of stored s.homes s.views) (seats_of s.views) (held_of s.views) g x (upd (held_of s.views) id (f (held_of s.views id)))) i;
+            ∙ core-bundle start (length s.views) (table_words start s.words) (block_of stored s.homes s.views) (seats_of s.views) (frames_held s.views) g x (upd (frames_held s.views) id (f (frames_held s.views id)))) i;
         histories = histories_of start releases drafts;
         loads = loads-still s.views id v w there loads i;
       }
@@ -145,10 +145,10 @@ module _ {X B : Type 0} (stored : B → Stored) (start : Origin) where
   -- frames are taken from a bundle
   pub take-step : (s : Table (Option B) (View X)) (releases : List Released) (drafts : ℕ → List ℕ) (id : ℕ) (v w : View X) (g expects mask : ℕ) → length s.words ≡ width start → Within start (places.Bundle g) → get_elem? s.views id ≡ some v
       → w.out ≡ v.out → w.seats ≡ v.seats → w.loads ≡ v.loads → ((h : ℕ) → has h w.frames ≡ (if in_mask g mask h then true else has h v.frames))
-      → (core_of stored start s).bundles g ≡ expects
+      → (core_shown stored start s).bundles g ≡ expects
       → world_of stored start releases drafts (wrote stored start s id (places.Bundle g) (bit_xor expects mask) w) ≡ world_after (world_of stored start releases drafts s) (Take id g expects mask)
   take-step s releases drafts id v w g expects mask wide l there out seats loads frames finding =
-      let c : State = core_of stored start s in
+      let c : State = core_shown stored start s in
       let held : upd c.held id (λ h. if in_mask g mask h then true else c.held id h) ≡ taken_by c.held id g mask =
       sym (upd-is c.held (taken_by c.held id g mask) id (λ h. if in_mask g mask h then true else c.held id h) (fun_ext (λ h. rw (eq-eqb id id refl) refl)) (λ b ne. fun_ext (λ h. rw (ne_eqb b id ne) refl))) in
       let moved : _ = moved-bundle s releases drafts id v w g (bit_xor expects mask) (λ row h. if in_mask g mask h then true else row h) wide l there out seats loads frames in
@@ -158,10 +158,10 @@ module _ {X B : Type 0} (stored : B → Stored) (start : Origin) where
   -- and given back
   pub give-step : (s : Table (Option B) (View X)) (releases : List Released) (drafts : ℕ → List ℕ) (id : ℕ) (v w : View X) (g mask x : ℕ) → length s.words ≡ width start → Within start (places.Bundle g) → get_elem? s.views id ≡ some v
       → w.out ≡ v.out → w.seats ≡ v.seats → w.loads ≡ v.loads → ((h : ℕ) → has h w.frames ≡ (if in_mask g mask h then false else has h v.frames))
-      → x ≡ bit_or ((core_of stored start s).bundles g) mask
+      → x ≡ bit_or ((core_shown stored start s).bundles g) mask
       → world_of stored start releases drafts (wrote stored start s id (places.Bundle g) x w) ≡ world_after (world_of stored start releases drafts s) (Give id g mask)
   give-step s releases drafts id v w g mask x wide l there out seats loads frames is =
-      let c : State = core_of stored start s in
+      let c : State = core_shown stored start s in
       let held : upd c.held id (λ h. if in_mask g mask h then false else c.held id h) ≡ given_by c.held id g mask =
       sym (upd-is c.held (given_by c.held id g mask) id (λ h. if in_mask g mask h then false else c.held id h) (fun_ext (λ h. rw (eq-eqb id id refl) refl)) (λ b ne. fun_ext (λ h. rw (ne_eqb b id ne) refl))) in
       moved-bundle s releases drafts id v w g x (λ row h. if in_mask g mask h then false else row h) wide l there out seats loads frames
@@ -173,7 +173,7 @@ module _ {X B : Type 0} (stored : B → Stored) (start : Origin) where
       → w.out ≡ v.out → w.frames ≡ v.frames → w.seats ≡ v.seats → w.loads ≡ v.loads → has f v.frames ≡ true
       → world_of stored start releases drafts (wrote stored start s id (places.Content f i) x w) ≡ world_after (world_of stored start releases drafts s) (Store id f i x)
   fill-step s releases drafts id v w f i x inv wide lf li there out frames seats loads owns =
-      let c : State = core_of stored start s in
+      let c : State = core_shown stored start s in
       let h : ℕ → History = histories_of start releases drafts in
       let mine : c.held id f ≡ true = held-here stored start s id f v there ∙ owns in
       λ k. record {
@@ -185,25 +185,25 @@ module _ {X B : Type 0} (stored : B → Stored) (start : Origin) where
   -- ---- the next word, and the hand
 
   pub claim-step : (s : Table (Option B) (View X)) (releases : List Released) (drafts : ℕ → List ℕ) (id : ℕ) (v w : View X) (x n y : ℕ) → length s.words ≡ width start → get_elem? s.views id ≡ some v
-      → w.out ≡ v.out → w.frames ≡ v.frames → w.seats ≡ v.seats → w.loads ≡ v.loads → (core_of stored start s).next ≡ x → y ≡ x + n
+      → w.out ≡ v.out → w.frames ≡ v.frames → w.seats ≡ v.seats → w.loads ≡ v.loads → (core_shown stored start s).next ≡ x → y ≡ x + n
       → world_of stored start releases drafts (wrote stored start s id places.Next y w) ≡ world_after (world_of stored start releases drafts s) (Claim id x n)
   claim-step s releases drafts id v w x n y wide there out frames seats loads finding is =
-      rw (eq-eqb (core_of stored start s).next x finding) (λ i. record {
+      rw (eq-eqb (core_shown stored start s).next x finding) (λ i. record {
         core = (core-step stored start s id v w places.Next y wide tt there out _ _ (seats-still s.views id v w there seats) (held-still s.views id v w there frames)
-            ∙ core-next start (length s.views) (words_of start s.words) (block_of stored s.homes s.views) (seats_of s.views) (held_of s.views) y
-            ∙ (λ j. record (core_of stored start s) { next = is j })) i;
+            ∙ core-next start (length s.views) (table_words start s.words) (block_of stored s.homes s.views) (seats_of s.views) (frames_held s.views) y
+            ∙ (λ j. record (core_shown stored start s) { next = is j })) i;
         histories = histories_of start releases drafts;
         loads = loads-still s.views id v w there loads i;
       })
 
   pub hand-step : (s : Table (Option B) (View X)) (releases : List Released) (drafts : ℕ → List ℕ) (id : ℕ) (v w : View X) (y : ℕ) → length s.words ≡ width start → get_elem? s.views id ≡ some v
-      → w.out ≡ v.out → w.frames ≡ v.frames → w.seats ≡ v.seats → w.loads ≡ v.loads → y ≡ hand_more (core_of stored start s).hand
+      → w.out ≡ v.out → w.frames ≡ v.frames → w.seats ≡ v.seats → w.loads ≡ v.loads → y ≡ hand_more (core_shown stored start s).hand
       → world_of stored start releases drafts (wrote stored start s id places.Hand y w) ≡ world_after (world_of stored start releases drafts s) (Hand id)
   hand-step s releases drafts id v w y wide there out frames seats loads is i =
       record {
         core = (core-step stored start s id v w places.Hand y wide tt there out _ _ (seats-still s.views id v w there seats) (held-still s.views id v w there frames)
-            ∙ core-hand start (length s.views) (words_of start s.words) (block_of stored s.homes s.views) (seats_of s.views) (held_of s.views) y
-            ∙ (λ j. record (core_of stored start s) { hand = is j })) i;
+            ∙ core-hand start (length s.views) (table_words start s.words) (block_of stored s.homes s.views) (seats_of s.views) (frames_held s.views) y
+            ∙ (λ j. record (core_shown stored start s) { hand = is j })) i;
         histories = histories_of start releases drafts;
         loads = loads-still s.views id v w there loads i;
       }

@@ -8,7 +8,7 @@ use Rattle.vm_core.specs.declared.event.Seat.{Seat}
 use Rattle.vm_core.specs.Fn.{sum_below}
 use Rattle.vm_core.specs.State.{Page, State}
 use Rattle.vm_core.specs.History.{History, World}
-use Rattle.vm_core.specs.Inv.{LocksInv, FaultInv, ReadInv, PageInv, FrameInv, OneHolder, Place, IsPlace, at_free, at_actor, at_page, Inv}
+use Rattle.vm_core.specs.Inv.{LocksInv, FaultInv, ReadInv, PageInv, FrameInv, OneHolder, Place, IsFramePlace, at_free, at_actor, at_page, Inv}
 use Rattle.vm_core.specs.Inv.Place.{Nowhere, Free, Held, Mapped}
 use Rattle.vm_core.proofs.Upd.{sum_below-past}
 
@@ -97,11 +97,11 @@ held-place false x y = refl
 moved-held : (from to a : ℕ) → moved from to (Held a) ≡ Held (if eqb a from then to else a)
 moved-held from to a = held-place (eqb a from) to a
 
-moved-inside : (actors k pages from to : ℕ) (x : Place) → to < actors → IsPlace actors pages x → IsPlace (k + actors) pages (moved from to x)
+moved-inside : (actors k pages from to : ℕ) (x : Place) → to < actors → IsFramePlace actors pages x → IsFramePlace (k + actors) pages (moved from to x)
 moved-inside actors k pages from to Nowhere l i = i
 moved-inside actors k pages from to Free l i = i
 moved-inside actors k pages from to (Held a) l i =
-    subst (IsPlace (k + actors) pages) (sym (moved-held from to a))
+    subst (IsFramePlace (k + actors) pages) (sym (moved-held from to a))
     (⊎_elim (λ t. rw t (let l' : to < actors = l in omega arith)) (λ f. rw f (let l' : a < actors = i in omega arith)) (cases_Bool (eqb a from)))
 moved-inside actors k pages from to (Mapped p) l i = i
 

@@ -5,7 +5,7 @@ use Rattle.std.proofs.lemmas.Bool.{cases_Bool, cases_eq, cases_lt, eq-eqb, ne_eq
 use mathlib.Core.Option.{some}
 use lib.ListN.{get_elem?}
 use Rattle.vm_owner.specs.declared.Entry.{Entry}
-use Rattle.vm_owner.specs.Kept.{calls_of, AreCounted}
+use Rattle.vm_owner.specs.Kept.{entries_under, AreCounted}
 use Rattle.vm_owner.specs.Numbers.{has}
 use Rattle.vm_owner.proofs.Counts.{counted-more}
 use Rattle.vm_rule.specs.declared.view.Origin.{Origin}
@@ -57,12 +57,12 @@ module _ {X : Type 0} where
       omega arith
 
   -- the entries of a number are counted among those of a pass that has it
-  pub calls-by : (n : ℕ) (ns : List ℕ) (h : List (Entry X)) → has n ns ≡ true → calls_of n (entries_by ns h) ≡ calls_of n h
+  pub calls-by : (n : ℕ) (ns : List ℕ) (h : List (Entry X)) → has n ns ≡ true → entries_under n (entries_by ns h) ≡ entries_under n h
   calls-by n ns [] e = refl
   calls-by n ns (x ∷ xs) e =
       ⊎_elim
       (λ t. rw t (ap (λ k. (if x.number == n then 1 else 0) + k) (calls-by n ns xs e)))
-      (λ f. let rest : calls_of n (entries_by ns xs) ≡ calls_of n xs = calls-by n ns xs e in rw f (rw (ne_eqb x.number n (λ q. true≢false (sym e ∙ ap (λ k. has k ns) (sym q) ∙ f))) (omega arith)))
+      (λ f. let rest : entries_under n (entries_by ns xs) ≡ entries_under n xs = calls-by n ns xs e in rw f (rw (ne_eqb x.number n (λ q. true≢false (sym e ∙ ap (λ k. has k ns) (sym q) ∙ f))) (omega arith)))
       (cases_Bool (has x.number ns))
 
   -- what the entries es, which the pass id adds, mean to the passes
@@ -99,7 +99,7 @@ module _ {X : Type 0} where
         others = λ j u ne e. rw (not-true (has n u.used) (λ t. let theirs : 1 ≤ times n u.used = times-has n u.used t in one-owner views j id u v n all ne e there (omega arith) (omega arith))) refl;
         others_fresh = λ j u ne e k t. rw (single k (λ i. let theirs : 1 ≤ times n u.fresh = times-has n u.fresh (ap (λ m. has m u.fresh) (sym i) ∙ t) in one-owner views j id u v n all ne e there (omega arith) (omega arith))) refl;
         numbered = (⊎_elim (λ l. l) (λ le. let none : one_part n ≡ 0 = rw (le-ltb n PARTS le) refl in absurd (omega arith)) (cases_lt n PARTS), tt);
-        counted = λ c. counted-more (λ _. 0) history (entry_of v x) c (let same : calls_of n v.mine ≡ calls_of n history = ap (calls_of n) mine ∙ calls-by n v.used history in_used in omega arith);
+        counted = λ c. counted-more (λ _. 0) history (entry_of v x) c (let same : entries_under n v.mine ≡ entries_under n history = ap (entries_under n) mine ∙ calls-by n v.used history in_used in omega arith);
       }
 
   -- a step adds no entry, or one

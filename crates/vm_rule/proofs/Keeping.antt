@@ -1,24 +1,24 @@
--- Runs one after another.
+-- Runs one after_event another.
 use Rattle.std.proofs.Common.{◌≡◌, true, List, [], ◌∷◌, ◌++◌, refl, sym, ap, subst, ◌∙◌}
 use Rattle.vm_core.specs.declared.event.Event.{Event}
 use Rattle.vm_core.specs.State.{State}
-use Rattle.vm_core.specs.Step.{after, AllLegal, run, RunsTo}
+use Rattle.vm_core.specs.Step.{after_event, AllLegal, run, RunsTo}
 use Rattle.vm_core.specs.History.{world_run}
 use Rattle.vm_core.specs.Inv.{Inv}
 use Rattle.vm_core.specs.Told.{FrameOnce, FaultsTold, Told}
-use Rattle.vm_core.specs.Start.{Start, IsStart, start, begin, core_start}
-use Rattle.vm_rule.specs.Kept.{KeptFrom, Kept}
+use Rattle.vm_core.specs.Start.{CoreStart, IsStart, start, begin, core_start}
+use Rattle.vm_rule.specs.Kept.{KeptFrom, IsRunKept}
 use Rattle.vm_rule.proofs.Runs.{run_law, run-one, run-tells, run-core}
 use Rattle.vm_rule.proofs.Starts.{start_law, core-start}
 use Rattle.vm_rule.proofs.Tells.{told_law}
 
 run-both : (c : State) (xs ys : List Event) → run c (xs ++ ys) ≡ run (run c xs) ys
 run-both c [] ys = refl
-run-both c (x ∷ xs) ys = run-both (after c x) xs ys
+run-both c (x ∷ xs) ys = run-both (after_event c x) xs ys
 
 legal-both : (c : State) (xs ys : List Event) → AllLegal c xs → AllLegal (run c xs) ys → AllLegal c (xs ++ ys)
 legal-both c [] ys m n = n
-legal-both c (x ∷ xs) ys m n = (m.0, legal-both (after c x) xs ys m.1 n)
+legal-both c (x ∷ xs) ys m n = (m.0, legal-both (after_event c x) xs ys m.1 n)
 
 runs-both : (c c' c'' : State) (xs ys : List Event) → RunsTo c xs c' → RunsTo c' ys c'' → RunsTo c (xs ++ ys) c''
 runs-both c c' c'' xs ys r s =
@@ -28,7 +28,7 @@ runs-both c c' c'' xs ys r s =
     }
 
 -- legal events from a start whose blocks tell their words are kept
-pub kept-run : (s : Start) (events : List Event) (new : State) → IsStart s → s.tells ≡ true → RunsTo (start s) events new → KeptFrom s events new
+pub kept-run : (s : CoreStart) (events : List Event) (new : State) → IsStart s → s.tells ≡ true → RunsTo (start s) events new → KeptFrom s events new
 kept-run s events new ok t r =
     let i : Inv (world_run (begin s) events) = run_law (begin s) events (start_law s ok) r.legal in
     let told : Told (world_run (begin s) events) = told_law (world_run (begin s) events) i in
@@ -43,6 +43,6 @@ kept-run s events new ok t r =
       reads = run-one (begin s) events t (start_law s ok) r.legal;
     }
 
-pub kept-more : (old new : State) (done : List Event) → RunsTo old done new → Kept old done new
+pub kept-more : (old new : State) (done : List Event) → RunsTo old done new → IsRunKept old done new
 kept-more old new done r shape before le b =
     kept-run (core_start shape) (before ++ done) new (core-start shape le) refl (runs-both (start (core_start shape)) old new before done b r)

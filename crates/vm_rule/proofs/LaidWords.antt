@@ -4,7 +4,7 @@ use Rattle.std.proofs.Common.{ℕ, ◌≡◌, ◌+◌, ◌*◌, ◌<◌, List, [
 use Rattle.std.proofs.lemmas.Bool.{cases_lt, lt-ltb, le-ltb}
 use Rattle.vm_core.specs.Fn.{at}
 use Rattle.vm_rule.specs.declared.view.Origin.{Origin}
-use Rattle.vm_rule.specs.Layout.{bundle_count, part, width, words_of}
+use Rattle.vm_rule.specs.Layout.{bundle_count, part, width, table_words}
 use Rattle.vm_rule.specs.Reading.{frame_words}
 use Rattle.vm_rule.proofs.Parts.{part-at, listed-same}
 use Rattle.vm_rule.proofs.ListFacts.{at-right, at-left, at-past, length-both, zeros}
@@ -69,19 +69,19 @@ module _ (start : Origin) (states translations faults contents bundles : List �
       let b5 : length tail4 ≡ length bundles + 2 = length-both bundles tail5 in
       omega arith
 
-  pub laid-state : (p : ℕ) → p < start.pages → (words_of start words).states p ≡ at 0 states p
+  pub laid-state : (p : ℕ) → p < start.pages → (table_words start words).states p ≡ at 0 states p
   laid-state p l =
       let n : length states ≡ start.pages = are.n1 in
       let same : 0 + p ≡ p = omega arith in
       part-at 0 start.pages words p l ∙ ap (at 0 words) same ∙ at-left 0 states tail1 p (omega arith)
 
-  pub laid-translation : (p : ℕ) → p < start.pages → (words_of start words).translations p ≡ at 0 translations p
+  pub laid-translation : (p : ℕ) → p < start.pages → (table_words start words).translations p ≡ at 0 translations p
   laid-translation p l = let n : length translations ≡ start.pages = are.n2 in part-at start.pages start.pages words p l ∙ from1 (start.pages + p) p refl ∙ at-left 0 translations tail2 p (omega arith)
 
-  pub laid-fault : (p : ℕ) → p < start.pages → (words_of start words).faults p ≡ at 0 faults p
+  pub laid-fault : (p : ℕ) → p < start.pages → (table_words start words).faults p ≡ at 0 faults p
   laid-fault p l = let n : length faults ≡ start.pages = are.n3 in part-at (2 * start.pages) start.pages words p l ∙ from2 (2 * start.pages + p) p refl ∙ at-left 0 faults tail3 p (omega arith)
 
-  pub laid-content : (k : ℕ) → (words_of start words).contents k ≡ at 0 contents k
+  pub laid-content : (k : ℕ) → (table_words start words).contents k ≡ at 0 contents k
   unfolding part
   laid-content k =
       let n : length contents ≡ 64 * start.frames = are.n4 in
@@ -90,7 +90,7 @@ module _ (start : Origin) (states translations faults contents bundles : List �
       (λ le. rw (le-ltb k (64 * start.frames) le) (sym (at-past 0 contents k (omega arith))))
       (cases_lt k (64 * start.frames))
 
-  pub laid-bundle : (g : ℕ) → (words_of start words).bundles g ≡ at 0 bundles g
+  pub laid-bundle : (g : ℕ) → (table_words start words).bundles g ≡ at 0 bundles g
   unfolding part
   laid-bundle g =
       let n : length bundles ≡ bundle_count start = are.n5 in
@@ -99,11 +99,11 @@ module _ (start : Origin) (states translations faults contents bundles : List �
       (λ le. rw (le-ltb g (bundle_count start) le) (sym (at-past 0 bundles g (omega arith))))
       (cases_lt g (bundle_count start))
 
-  pub laid-next : (words_of start words).next ≡ next
+  pub laid-next : (table_words start words).next ≡ next
   unfolding at
   laid-next = from5 (3 * start.pages + 64 * start.frames + bundle_count start) 0 (omega arith)
 
-  pub laid-hand : (words_of start words).hand ≡ hand
+  pub laid-hand : (table_words start words).hand ≡ hand
   unfolding at
   laid-hand = from5 (3 * start.pages + 64 * start.frames + bundle_count start + 1) 1 refl
 

@@ -18,7 +18,7 @@ use Rattle.vm_rule.specs.declared.view.View.{View}
 use Rattle.vm_rule.specs.Layout.{index_of}
 use Rattle.vm_rule.specs.Log.{did_load}
 use Rattle.vm_rule.specs.Views.{StartsWith, IsLocking, Hears, IsWhole, entries_by, seat_of, loads_at, spent}
-use Rattle.vm_rule.specs.Reading.{core_of, histories_of, world_of, last_in, last_of}
+use Rattle.vm_rule.specs.Reading.{core_shown, histories_of, world_of, last_in, last_of}
 use Rattle.vm_rule.specs.Rule.{AreNext, HoldsNothing, is_pending, KnowsLists, KnowsPages, ListsFit, WereWords, snapshot_of, Ruled}
 use Rattle.vm_rule.specs.Hearing.{OnlyKnows, hearer, follower, TakesOver}
 use Rattle.vm_rule.proofs.Views.{at-bound}
@@ -312,8 +312,8 @@ module _ {X B : Type 0} (stored : B → Stored) (keeps : Start → Kept X → Ty
         between-same start v.releases r.releases v.told_releases p r.lists.rises own-lists.told.0 on-releases
         (ap (λ (o : Origin). last_in o v.releases p) (sym own-lists.same_start) ∙ own-pages.latest p locks ∙ sym (last-is start r.releases r.drafts p))
 
-    found-below : found ≤ (core_of stored start s).next
-    found-below = (let is : (core_of stored start s).next ≡ found = next-here stored start s in omega (arith, is))
+    found-below : found ≤ (core_shown stored start s).next
+    found-below = (let is : (core_shown stored start s).next ≡ found = next-here stored start s in omega (arith, is))
 
     follower-fits : Fits stored keeps tied start tells s r id v after there follower-holds
     follower-fits = record {

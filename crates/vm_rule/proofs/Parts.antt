@@ -1,4 +1,4 @@
--- A word of the table is written: the words of its kind change at one place, and all others stay.
+-- A word of the table is with_word: the words of its kind change at one place, and all others stay.
 use Rattle.std.proofs.Common.{ℕ, ◌≡◌, ◌≢◌, ◌⊎◌, ◌+◌, ◌*◌, ◌<◌, ◌≤◌, List, ◌∷◌, length, zero, suc, refl, sym, ap, ◌∙◌, inl, inr, ⊎_elim, arith, slice_set}
 use Rattle.std.proofs.lemmas.Bool.{cases_eq, cases_lt, lt-ltb, le-ltb}
 use mathlib.Core.Path.{fun_ext}
@@ -9,7 +9,7 @@ use Rattle.vm_rule.specs.declared.view.Origin.{Origin}
 use Rattle.vm_rule.specs.declared.view.Place.{Place}
 use Rattle.vm_rule.specs.declared.view.Place.TheVariants as places
 use Rattle.vm_rule.specs.Puts.{listed}
-use Rattle.vm_rule.specs.Layout.{Within, bundle_count, part, index_of, width, words_of, written}
+use Rattle.vm_rule.specs.Layout.{Within, bundle_count, part, index_of, width, table_words, with_word}
 use Rattle.vm_rule.specs.Reading.{frame_words}
 
 -- a function that differs from f at k alone
@@ -48,8 +48,8 @@ pub part-at : (base n : ℕ) (words : List ℕ) (k : ℕ) → k < n → part bas
 unfolding part
 part-at base n words k l = rw (lt-ltb k n l) refl
 
--- one word is written
-pub words-written : (start : Origin) (words : List ℕ) (w : Place) (x : ℕ) → length words ≡ width start → Within start w → words_of start (slice_set words (index_of start w) x) ≡ written (words_of start words) w x
+-- one word is with_word
+pub words-written : (start : Origin) (words : List ℕ) (w : Place) (x : ℕ) → length words ≡ width start → Within start w → table_words start (slice_set words (index_of start w) x) ≡ with_word (table_words start words) w x
 words-written start words (places.State p) x wide l =
     let lt : p < length words = omega arith in
     λ i. record {
@@ -151,7 +151,7 @@ listed-upd (suc n) f (suc k) x l =
     (ap (listed n) (upd-is (λ j. f (suc j)) (λ j. upd f (suc k) x (suc j)) k x (upd-same f (suc k) x) (λ j ne. upd-other f (suc k) x (suc j) (λ e. ne (omega arith))))
     ∙ listed-upd n (λ j. f (suc j)) k x (omega arith))
 
--- a word of frame f is written
+-- a word of frame f is with_word
 pub frame-written : (contents : ℕ → ℕ) (f i x : ℕ) → i < 64 → frame_words (upd contents (64 * f + i) x) ≡ upd (frame_words contents) f (slice_set (frame_words contents f) i x)
 unfolding frame_words
 frame-written contents f i x l =

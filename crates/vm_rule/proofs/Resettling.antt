@@ -20,9 +20,9 @@ use Rattle.vm_rule.specs.declared.view.Origin.{Origin}
 use Rattle.vm_rule.specs.declared.view.Release.{Release}
 use Rattle.vm_rule.specs.declared.view.View.{View}
 use Rattle.vm_rule.specs.Puts.{listed, chosen}
-use Rattle.vm_rule.specs.Layout.{Words, words_of}
+use Rattle.vm_rule.specs.Layout.{Words, table_words}
 use Rattle.vm_rule.specs.Views.{spent, seat_of, loads_at}
-use Rattle.vm_rule.specs.Reading.{pages_from, core_from, seats_of, loads_of, held_of, out_of, known, home, block_of, core_of, histories_of, world_of}
+use Rattle.vm_rule.specs.Reading.{pages_from, core_from, seats_of, loads_of, frames_held, out_of, known, home, block_of, core_shown, histories_of, world_of}
 use Rattle.vm_rule.specs.Rule.{is_pending, is_owed, logical, kept_of, FaultsFit, KnowsPages, snapshot_of}
 use Rattle.vm_rule.proofs.Pages.{page-in, page-out}
 use Rattle.vm_rule.proofs.Gathering.{ReadsLess, Regathers, regathered, regathered-inv}
@@ -73,35 +73,35 @@ module _ {X B : Type 0} (stored : B → Stored) (start : Origin) (releases : Lis
   settled-snapshot i = record { words = s.words; blocks = listed start.pages (settled-blocks i) }
 
   abbrev rows : ℕ → ℕ → Seat
-  rows p = (pages_from start.pages (words_of start s.words) (block_of stored s.homes s.views) (seats_of views') p).seats
+  rows p = (pages_from start.pages (table_words start s.words) (block_of stored s.homes s.views) (seats_of views') p).seats
 
-  pub settled-world : world_of stored start releases drafts settled ≡ regathered old k rows (held_of views') (loads_of views')
+  pub settled-world : world_of stored start releases drafts settled ≡ regathered old k rows (frames_held views') (loads_of views')
   settled-world i = record {
-    core = record (core_of stored start s) {
+    core = record (core_shown stored start s) {
       shape = record { pages = start.pages; frames = start.frames; actors = g.count i; next = start.next };
-      pages = (ap (λ b. pages_from start.pages (words_of start s.words) b (seats_of views')) settled-blocks ∙ reseated start.pages (words_of start s.words) (block_of stored s.homes s.views) (seats_of s.views) (seats_of views')) i;
-      held = held_of views';
+      pages = (ap (λ b. pages_from start.pages (table_words start s.words) b (seats_of views')) settled-blocks ∙ reseated start.pages (table_words start s.words) (block_of stored s.homes s.views) (seats_of s.views) (seats_of views')) i;
+      held = frames_held views';
     };
     histories = histories_of start releases drafts;
     loads = loads_of views';
   }
 
-  regathers : Regathers old k from to rows (held_of views') (loads_of views')
+  regathers : Regathers old k from to rows (frames_held views') (loads_of views')
   regathers = record {
     apart = g.apart;
     named = g.named;
     less = λ p a. ⊎_elim
         (λ l.
-        subst (λ (y : Page). ReadsLess (y.seats a) (rows p a) (loads_of s.views p a) (loads_of views' p a)) (sym (page-in start.pages (words_of start s.words) (block_of stored s.homes s.views) (seats_of s.views) p l))
-        (subst (λ (y : Page). ReadsLess (seats_of s.views p a) (y.seats a) (loads_of s.views p a) (loads_of views' p a)) (sym (page-in start.pages (words_of start s.words) (block_of stored s.homes s.views) (seats_of views') p l)) (g.less p a)))
+        subst (λ (y : Page). ReadsLess (y.seats a) (rows p a) (loads_of s.views p a) (loads_of views' p a)) (sym (page-in start.pages (table_words start s.words) (block_of stored s.homes s.views) (seats_of s.views) p l))
+        (subst (λ (y : Page). ReadsLess (seats_of s.views p a) (y.seats a) (loads_of s.views p a) (loads_of views' p a)) (sym (page-in start.pages (table_words start s.words) (block_of stored s.homes s.views) (seats_of views') p l)) (g.less p a)))
         (λ le.
-        subst (λ (y : Page). ReadsLess (y.seats a) (rows p a) (loads_of s.views p a) (loads_of views' p a)) (sym (page-out start.pages (words_of start s.words) (block_of stored s.homes s.views) (seats_of s.views) p le))
-        (subst (λ (y : Page). ReadsLess no_seat (y.seats a) (loads_of s.views p a) (loads_of views' p a)) (sym (page-out start.pages (words_of start s.words) (block_of stored s.homes s.views) (seats_of views') p le))
+        subst (λ (y : Page). ReadsLess (y.seats a) (rows p a) (loads_of s.views p a) (loads_of views' p a)) (sym (page-out start.pages (table_words start s.words) (block_of stored s.homes s.views) (seats_of s.views) p le))
+        (subst (λ (y : Page). ReadsLess no_seat (y.seats a) (loads_of s.views p a) (loads_of views' p a)) (sym (page-out start.pages (table_words start s.words) (block_of stored s.homes s.views) (seats_of views') p le))
         (record { shares = refl; exclusive = refl; writing = refl; reading = inl refl })))
         (cases_lt p start.pages);
     past = λ p a le. ⊎_elim
-        (λ l. ap (λ (y : Page). (y.seats a).shares) (page-in start.pages (words_of start s.words) (block_of stored s.homes s.views) (seats_of s.views) p l) ∙ ap (λ (y : View X). (seat_of y p).shares) (at-past spent s.views a le))
-        (λ ge. ap (λ (y : Page). (y.seats a).shares) (page-out start.pages (words_of start s.words) (block_of stored s.homes s.views) (seats_of s.views) p ge))
+        (λ l. ap (λ (y : Page). (y.seats a).shares) (page-in start.pages (table_words start s.words) (block_of stored s.homes s.views) (seats_of s.views) p l) ∙ ap (λ (y : View X). (seat_of y p).shares) (at-past spent s.views a le))
+        (λ ge. ap (λ (y : Page). (y.seats a).shares) (page-out start.pages (table_words start s.words) (block_of stored s.homes s.views) (seats_of s.views) p ge))
         (cases_lt p start.pages);
     gets = g.gets;
     gives = g.gives;
@@ -109,10 +109,10 @@ module _ {X B : Type 0} (stored : B → Stored) (start : Origin) (releases : Lis
   }
 
   pub settled-inv : Inv old → Inv (world_of stored start releases drafts settled)
-  settled-inv i = subst Inv (sym settled-world) (regathered-inv old k from to rows (held_of views') (loads_of views') regathers i)
+  settled-inv i = subst Inv (sym settled-world) (regathered-inv old k from to rows (frames_held views') (loads_of views') regathers i)
 
   -- the fault words and counts
-  pub settled-faults : FaultsFit old.core.pages views' → FaultsFit (core_of stored start settled).pages views'
+  pub settled-faults : FaultsFit old.core.pages views' → FaultsFit (core_shown stored start settled).pages views'
   settled-faults q = subst (λ (y : World). FaultsFit y.core.pages views') (sym settled-world) (record { below = q.below; capped = q.capped; noted = q.noted; once = q.once })
 
   -- what a pass knows of pages
@@ -137,7 +137,7 @@ module _ {X B : Type 0} (stored : B → Stored) (start : Origin) (releases : Lis
   pub settled-kept : (history : List (Entry X)) → kept_of (world_of stored start releases drafts settled) history views' ≡ kept_of old history s.views
   settled-kept history i = record {
     pages = listed start.pages (logical (histories_of start releases drafts) (λ p. g.pending p i));
-    next = (core_of stored start s).next;
+    next = (core_shown stored start s).next;
     owed = chosen start.pages (λ p. g.owed p i);
     history = history;
   }

@@ -4,7 +4,7 @@ use Rattle.std.proofs.lemmas.Bool.{cases_Bool}
 use Rattle.vm_core.specs.declared.event.Event.{Event}
 use Rattle.vm_core.specs.declared.event.Event.TheVariants.{Look, LockX, LockS, UnlockS, Mark, Unmark, LockW, Upgrade, Release, ReleaseE, Downgrade, TLoad, Install, Clear, Dirty, Clean, Load, Store, BLoad, Take, Give, Read, RFail, Write, WFail, Raise, NLoad, Claim, Hand}
 use Rattle.vm_core.specs.State.{State}
-use Rattle.vm_core.specs.Step.{AllLegal, after, run}
+use Rattle.vm_core.specs.Step.{AllLegal, after_event, run}
 use Rattle.vm_core.specs.History.{World, world_after, world_run}
 use Rattle.vm_core.specs.Inv.{Inv, Keeps}
 use Rattle.vm_core.specs.OneVersion.{Validates, AllReadOne}
@@ -53,7 +53,7 @@ event-one w (Upgrade a p expects) t i m = upgrade_validates w a p expects t i m
 event-one w e t i m = tt
 
 -- whether the blocks tell their words is settled at the start
-same-tells : (c : State) (e : Event) → (after c e).tells ≡ c.tells
+same-tells : (c : State) (e : Event) → (after_event c e).tells ≡ c.tells
 same-tells c (Take a g expects mask) = ⊎_elim (λ e. rw e refl) (λ e. rw e refl) (cases_Bool (eqb (c.bundles g) expects))
 same-tells c e = refl
 

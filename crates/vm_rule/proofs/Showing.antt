@@ -22,7 +22,7 @@ use Rattle.vm_rule.specs.declared.view.View.{View}
 use Rattle.vm_rule.specs.Puts.{put_at, listed}
 use Rattle.vm_rule.specs.Layout.{Within, index_of, width}
 use Rattle.vm_rule.specs.Views.{Each, seat_of, draft_of, may_call}
-use Rattle.vm_rule.specs.Reading.{block_of, core_of, world_of, histories_of}
+use Rattle.vm_rule.specs.Reading.{block_of, core_shown, world_of, histories_of}
 use Rattle.vm_rule.specs.Rule.{KnowsPage, no_held, TranslationHolds, TieHolds, began_of, is_pending, kept_of, AreNext, ArePlain, BlocksFit, FaultsFit, Ruled}
 use Rattle.vm_rule.specs.Brought.{IsFoundAt, entry_of, brought}
 
@@ -98,7 +98,7 @@ module _ {X B : Type 0} (stored : B → Stored) (keeps : Start → Kept X → Ty
     -- it is this event of the core
     pub wide : length words ≡ width start
     pub spelled : ArePlain start words
-    pub legal : Legal (core_of stored start s) e
+    pub legal : Legal (core_shown stored start s) e
     pub world : world_of stored start (r.releases ++ own) drafts (became s words id (after_step s r words own entries did inner)) ≡ world_after (world_of stored start r.releases r.drafts s) e
     -- the step's place in the log: the word found there before, and the word left there
     pub at : Within start did.at
@@ -117,22 +117,22 @@ module _ {X B : Type 0} (stored : B → Stored) (keeps : Start → Kept X → Ty
     pub entry : (entries ≡ []) ⊎ ((x : X) × (entries ≡ entry_of v x ∷ []))
     pub mine : inner.mine ≡ v.mine ++ entries
     pub next_versions : AreNext start r.releases own
-    pub zero : start.tells ≡ true → (p : ℕ) → (core_of stored start (became s words id (after_step s r words own entries did inner))).next ≤ p → p < start.pages → (histories_of start (r.releases ++ own) drafts p).last.words ≡ replicate 64 0
+    pub zero : start.tells ≡ true → (p : ℕ) → (core_shown stored start (became s words id (after_step s r words own entries did inner))).next ≤ p → p < start.pages → (histories_of start (r.releases ++ own) drafts p).last.words ≡ replicate 64 0
     -- what it knows of what it holds
-    pub knows : (p : ℕ) → KnowsPage (seat_of inner p) (put_at no_held inner.held p) ((core_of stored start (became s words id (after_step s r words own entries did inner))).pages p)
-    pub contents : (f : ℕ) → has f inner.frames ≡ true → put_at [] inner.contents f ≡ (core_of stored start (became s words id (after_step s r words own entries did inner))).words f
+    pub knows : (p : ℕ) → KnowsPage (seat_of inner p) (put_at no_held inner.held p) ((core_shown stored start (became s words id (after_step s r words own entries did inner))).pages p)
+    pub contents : (f : ℕ) → has f inner.frames ≡ true → put_at [] inner.contents f ≡ (core_shown stored start (became s words id (after_step s r words own entries did inner))).words f
     pub drafted : (p : ℕ) → (seat_of inner p).exclusive ≡ true → draft_of inner p ≡ drafts p
     pub pending : (p : ℕ) → has p inner.pending ≡ true → ((seat_of inner p).exclusive ≡ true)
-        × (start.tells ≡ true → (core_of stored start (became s words id (after_step s r words own entries did inner))).next ≤ p → drafts p ≡ (histories_of start (r.releases ++ own) drafts p).last.words)
-    pub owed : (p : ℕ) → has p inner.owed ≡ true → ((seat_of inner p).exclusive ≡ true) × (start.next ≤ p) × (p < (core_of stored start (became s words id (after_step s r words own entries did inner))).next) × (has p inner.pending ≡ false)
-    pub next : (x : ℕ) → inner.next ≡ Some x → ((seat_of inner x).exclusive ≡ true) × ((core_of stored start (became s words id (after_step s r words own entries did inner))).next ≡ x)
+        × (start.tells ≡ true → (core_shown stored start (became s words id (after_step s r words own entries did inner))).next ≤ p → drafts p ≡ (histories_of start (r.releases ++ own) drafts p).last.words)
+    pub owed : (p : ℕ) → has p inner.owed ≡ true → ((seat_of inner p).exclusive ≡ true) × (start.next ≤ p) × (p < (core_shown stored start (became s words id (after_step s r words own entries did inner))).next) × (has p inner.pending ≡ false)
+    pub next : (x : ℕ) → inner.next ≡ Some x → ((seat_of inner x).exclusive ≡ true) × ((core_shown stored start (became s words id (after_step s r words own entries did inner))).next ≡ x)
     -- the translations and the ties that came to it
-    pub loaded : (l : List Translation) × (inner.translations ≡ l ++ v.translations) × Each (TranslationHolds (core_of stored start (became s words id (after_step s r words own entries did inner))).pages) l
+    pub loaded : (l : List Translation) × (inner.translations ≡ l ++ v.translations) × Each (TranslationHolds (core_shown stored start (became s words id (after_step s r words own entries did inner))).pages) l
     pub tying : (l : List Tie) × (inner.ties ≡ l ++ v.ties)
         × (start.tells ≡ true → Each (TieHolds tied (began_of start) (world_of stored start (r.releases ++ own) drafts (became s words id (after_step s r words own entries did inner))) (is_pending (slice_set s.views id (after_step s r words own entries did inner)))) l)
     -- a page that is no member any more has another version
     pub members : (p : ℕ) → has p v.pending ≡ true → has p inner.pending ≡ false
-        → ((core_of stored start (became s words id (after_step s r words own entries did inner))).pages p).version ≢ ((core_of stored start s).pages p).version
+        → ((core_shown stored start (became s words id (after_step s r words own entries did inner))).pages p).version ≢ ((core_shown stored start s).pages p).version
     -- the layer above keeps its relation
     pub owner : start.tells ≡ true → keeps (began_of start) (kept_of (world_of stored start r.releases r.drafts s) r.history s.views)
         → keeps (began_of start) (kept_of (world_of stored start (r.releases ++ own) drafts (became s words id (after_step s r words own entries did inner))) (r.history ++ entries) (slice_set s.views id (after_step s r words own entries did inner)))

@@ -13,9 +13,9 @@ use Rattle.vm_block.specs.declared.stored.Stored.{Stored}
 use Rattle.vm_owner.specs.Kept.{Start, Kept}
 use Rattle.vm_rule.specs.declared.view.Origin.{Origin}
 use Rattle.vm_rule.specs.declared.view.Shape.{Shape}
-use Rattle.vm_rule.specs.Layout.{words_of}
+use Rattle.vm_rule.specs.Layout.{table_words}
 use Rattle.vm_rule.specs.Reading.{no_block, page_from, world_of}
-use Rattle.vm_rule.specs.Started.{IsStarted, MayBegin, counts_of, contents_of, words_in, started_words, started_origin, started_shape}
+use Rattle.vm_rule.specs.Started.{IsStarted, MayBegin, counts_of, contents_of, block_words, started_words, started_origin, started_shape}
 use Rattle.vm_rule.proofs.WordFacts.{word-state, word-version, mapping-none}
 use Rattle.vm_rule.proofs.ListFacts.{at-map, length-mapped}
 use Rattle.vm_rule.proofs.Starts.{start-frames, evicted-inv}
@@ -24,7 +24,7 @@ use Rattle.vm_rule.proofs.FirstWorld.{first_pages, first_core, first_world, tabl
 use Rattle.vm_rule.proofs.FirstRule.{blocks-whole, Opens}
 
 -- where blocks tell, the pages' words are theirs
-told-contents : (tells : Bool) (blocks : List Stored) → tells ≡ true → contents_of tells blocks ≡ words_in blocks
+told-contents : (tells : Bool) (blocks : List Stored) → tells ≡ true → contents_of tells blocks ≡ block_words blocks
 told-contents tells blocks t = ap (λ y. contents_of y blocks) t
 
 module _ {X B : Type 0} (stored : B → Stored) (keeps : Start → Kept X → Type 0) (tells : Bool) (whole : (b : B) → tells ≡ true → length (stored b).words ≡ 64)
@@ -46,7 +46,7 @@ module _ {X B : Type 0} (stored : B → Stored) (keeps : Start → Kept X → Ty
 
   -- ---- what it shows
 
-  page-evicted : (p : ℕ) → p < length blocks → page_from (words_of start words) (at no_block blocks) (λ q a. no_seat) p ≡ evicted p
+  page-evicted : (p : ℕ) → p < length blocks → page_from (table_words start words) (at no_block blocks) (λ q a. no_seat) p ≡ evicted p
   page-evicted p l = λ i. record {
     state = (ap state_of (started-state tells version next frames blocks p l) ∙ word-state EVICTED version ok.in_range) i;
     version = (ap version_of (started-state tells version next frames blocks p l) ∙ word-version EVICTED version ok.in_range) i;
@@ -105,14 +105,14 @@ module _ {X B : Type 0} (stored : B → Stored) (keeps : Start → Kept X → Ty
       (λ f. length-replicate {A = ℕ} 64 0)
       (let n : length items ≡ length blocks = many in let le : next ≤ length items = ok.claimed in omega arith)
 
-  pub started-opens : (tells ≡ true → MayBegin keeps next (words_in blocks)) → Opens X stored keeps start words items
+  pub started-opens : (tells ≡ true → MayBegin keeps next (block_words blocks)) → Opens X stored keeps start words items
   started-opens may =
       record {
         many = many;
         wide = started-wide tells version next frames blocks;
         pages = length-mapped (λ (b : Stored). if tells then b.words else replicate 64 0) blocks;
         bounds = refl;
-        spelled = λ p l. let is : (words_of start words).translations p ≡ 0 = started-translation tells version next frames blocks p l in is ∙ sym (ap (λ w. trans_word (mapping_of w)) is ∙ ap trans_word mapping-none);
+        spelled = λ p l. let is : (table_words start words).translations p ≡ 0 = started-translation tells version next frames blocks p l in is ∙ sym (ap (λ w. trans_word (mapping_of w)) is ∙ ap trans_word mapping-none);
         next = started-next tells version next frames blocks;
         faults = started-fault tells version next frames blocks no_block;
         inv = subst Inv (sym started-shown) started-inv;

@@ -7,7 +7,7 @@ use Rattle.vm_core.specs.Words.{word_of, EVICTED}
 use Rattle.vm_block.specs.declared.stored.Stored.{Stored}
 use Rattle.vm_rule.specs.declared.view.Origin.{Origin}
 use Rattle.vm_rule.specs.Puts.{listed}
-use Rattle.vm_rule.specs.Layout.{bundles_of, width, words_of}
+use Rattle.vm_rule.specs.Layout.{bundles_of, width, table_words}
 use Rattle.vm_rule.specs.Reading.{frame_words}
 use Rattle.vm_rule.specs.Started.{counts_of, started_words, started_origin}
 use Rattle.vm_rule.proofs.ListFacts.{at-past, at-map, length-mapped, length-listed, at-listed, at-same, at-zeros}
@@ -49,26 +49,26 @@ module _ (tells : Bool) (version next frames : ℕ) (blocks : List Stored) where
   pub started-wide : length words ≡ width start
   started-wide = laid-wide start states translations (counts_of blocks) contents bundles next 0 are-parts
 
-  pub started-state : (p : ℕ) → p < length blocks → (words_of start words).states p ≡ word_of EVICTED version
+  pub started-state : (p : ℕ) → p < length blocks → (table_words start words).states p ≡ word_of EVICTED version
   started-state p l = laid-state start states translations (counts_of blocks) contents bundles next 0 are-parts p l ∙ at-same (length blocks) (word_of EVICTED version) p l
 
-  pub started-translation : (p : ℕ) → p < length blocks → (words_of start words).translations p ≡ 0
+  pub started-translation : (p : ℕ) → p < length blocks → (table_words start words).translations p ≡ 0
   started-translation p l = laid-translation start states translations (counts_of blocks) contents bundles next 0 are-parts p l ∙ at-zeros (length blocks) p
 
-  pub started-fault : (b : Stored) (p : ℕ) → p < length blocks → (words_of start words).faults p ≡ (at b blocks p).count
+  pub started-fault : (b : Stored) (p : ℕ) → p < length blocks → (table_words start words).faults p ≡ (at b blocks p).count
   started-fault b p l = laid-fault start states translations (counts_of blocks) contents bundles next 0 are-parts p l ∙ at-map (λ (b : Stored). b.count) 0 b blocks p l
 
-  pub started-bundle : (g : ℕ) → (words_of start words).bundles g ≡ full_bundle frames g
+  pub started-bundle : (g : ℕ) → (table_words start words).bundles g ≡ full_bundle frames g
   started-bundle g =
       let n : length bundles ≡ bundles_of frames = length-listed (bundles_of frames) (full_bundle frames) in
       laid-bundle start states translations (counts_of blocks) contents bundles next 0 are-parts g
       ∙ ⊎_elim (λ l. at-listed 0 (bundles_of frames) (full_bundle frames) g l) (λ le. at-past 0 bundles g (omega arith) ∙ sym (empty-bundle frames g le)) (cases_lt g (bundles_of frames))
 
-  pub started-next : (words_of start words).next ≡ next
+  pub started-next : (table_words start words).next ≡ next
   started-next = laid-next start states translations (counts_of blocks) contents bundles next 0 are-parts
 
-  pub started-hand : (words_of start words).hand ≡ 0
+  pub started-hand : (table_words start words).hand ≡ 0
   started-hand = laid-hand start states translations (counts_of blocks) contents bundles next 0 are-parts
 
-  pub started-frame : (f : ℕ) → frame_words (words_of start words).contents f ≡ replicate 64 0
-  started-frame f = frame-zero (words_of start words).contents f (λ i l. laid-content start states translations (counts_of blocks) contents bundles next 0 are-parts (64 * f + i) ∙ at-zeros (64 * frames) (64 * f + i))
+  pub started-frame : (f : ℕ) → frame_words (table_words start words).contents f ≡ replicate 64 0
+  started-frame f = frame-zero (table_words start words).contents f (λ i l. laid-content start states translations (counts_of blocks) contents bundles next 0 are-parts (64 * f + i) ∙ at-zeros (64 * frames) (64 * f + i))

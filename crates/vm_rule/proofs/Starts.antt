@@ -6,21 +6,21 @@ use Rattle.std.proofs.lemmas.Nat.Bits.{bit_at_ones, bit_at_ones_above}
 use Rattle.std.proofs.lemmas.List.{length-replicate}
 use Rattle.std.proofs.lemmas.List.FromFn.{length-map-range_with_len}
 use Rattle.vm_core.specs.declared.event.CoreShape.{CoreShape}
-use Rattle.vm_core.specs.Words.{is_free, MAX_VERSION}
+use Rattle.vm_core.specs.Words.{has_free_bit, MAX_VERSION}
 use Rattle.vm_core.specs.Inv.{Inv, PageInv, FrameIsAt, at_free}
 use Rattle.vm_core.specs.Inv.Place.{Nowhere, Free}
 use Rattle.vm_core.proofs.Starting.{locks-none}
-use Rattle.vm_core.specs.Start.{Start, IsStart, start, begin, evicted_page, full_bundle, core_block, core_start}
+use Rattle.vm_core.specs.Start.{CoreStart, IsStart, start, begin, evicted_page, full_bundle, core_block, core_start}
 
-start-free : (frames f : ℕ) → is_free (full_bundle frames) f ≡ at_free (cond (ltb f frames) Free Nowhere)
-unfolding is_free full_bundle
+start-free : (frames f : ℕ) → has_free_bit (full_bundle frames) f ≡ at_free (cond (ltb f frames) Free Nowhere)
+unfolding has_free_bit full_bundle
 start-free frames f =
     ⊎_elim
     (λ lt. rw (lt-ltb f frames lt) (eq-eqb _ _ (bit_at_ones (min 64 (frames - 64 * (f / 64))) (f % 64) (omega arith))))
     (λ le. rw (le-ltb f frames le) (ne_eqb (bit_at (2 ^ min 64 (frames - 64 * (f / 64)) - 1) (f % 64)) 1 (λ q. let z : bit_at (2 ^ min 64 (frames - 64 * (f / 64)) - 1) (f % 64) ≡ 0 = bit_at_ones_above (min 64 (frames - 64 * (f / 64))) (f % 64) (omega arith) in omega arith)))
     (cases_lt f frames)
 
-pub start-frames : (s : Start) (f : ℕ) → FrameIsAt (start s) f (cond (ltb f s.shape.frames) Free Nowhere)
+pub start-frames : (s : CoreStart) (f : ℕ) → FrameIsAt (start s) f (cond (ltb f s.shape.frames) Free Nowhere)
 start-frames s f =
     record {
       inside = λ lt. rw (lt-ltb f s.shape.frames lt) tt;
@@ -54,7 +54,7 @@ evicted-inv actors tells words version block w count le long same =
       reads = λ a. record { old = λ o e. cc; evicted = λ _ o e. cc; current = λ _ ne. absurd (ne refl) };
     }
 
-pub start_law : (s : Start) → IsStart s → Inv (begin s)
+pub start_law : (s : CoreStart) → IsStart s → Inv (begin s)
 start_law s ok =
     record {
       place = λ f. cond (ltb f s.shape.frames) Free Nowhere;

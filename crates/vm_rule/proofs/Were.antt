@@ -15,7 +15,7 @@ use Rattle.vm_rule.specs.declared.view.Place.{Place}
 use Rattle.vm_rule.specs.declared.view.Place.TheVariants.{State, Translation, Fault, Content, Bundle, Next, Hand}
 use Rattle.vm_rule.specs.declared.view.View.{View}
 use Rattle.vm_rule.specs.Layout.{Within, index_of, at_state, at_next}
-use Rattle.vm_rule.specs.Reading.{core_of}
+use Rattle.vm_rule.specs.Reading.{core_shown}
 use Rattle.vm_rule.specs.Rule.{WasWord, WasNext, WereWords}
 use Rattle.vm_rule.specs.Brought.{IsFoundAt}
 use Rattle.vm_rule.proofs.Found.{state-here, version-here, next-here}
@@ -77,26 +77,26 @@ were-moves w w' moves known up d x = (
 
 module _ {X B : Type 0} (stored : B → Stored) (start : Origin) where
   -- the word that stands at a page's place
-  was-word : (s : Table (Option B) (View X)) (p : ℕ) → p < start.pages → (word : Option ℕ) → IsFoundAt word (index_of start (State p)) s.words → WasWord ((core_of stored start s).pages p) word
+  was-word : (s : Table (Option B) (View X)) (p : ℕ) → p < start.pages → (word : Option ℕ) → IsFoundAt word (index_of start (State p)) s.words → WasWord ((core_shown stored start s).pages p) word
   was-word s p l None e = tt
   was-word s p l (Some word) e =
-      let version : version_of word ≡ ((core_of stored start s).pages p).version = ap version_of e ∙ sym (version-here stored start s p l) in
-      let state : ((core_of stored start s).pages p).state ≡ state_of word = state-here stored start s p l ∙ ap state_of (sym e) in
+      let version : version_of word ≡ ((core_shown stored start s).pages p).version = ap version_of e ∙ sym (version-here stored start s p l) in
+      let state : ((core_shown stored start s).pages p).state ≡ state_of word = state-here stored start s p l ∙ ap state_of (sym e) in
       (omega arith, λ closed _. ap is_readable state ∙ closed, λ gone _. sym state ∙ gone)
 
-  was-next : (s : Table (Option B) (View X)) (word : Option ℕ) → IsFoundAt word (index_of start Next) s.words → WasNext (core_of stored start s).next word
+  was-next : (s : Table (Option B) (View X)) (word : Option ℕ) → IsFoundAt word (index_of start Next) s.words → WasNext (core_shown stored start s).next word
   was-next s None e = tt
-  was-next s (Some word) e = let is : word ≡ (core_of stored start s).next = e ∙ sym (next-here stored start s) in omega arith
+  was-next s (Some word) e = let is : word ≡ (core_shown stored start s).next = e ∙ sym (next-here stored start s) in omega arith
 
   -- what a step found before the event, and what it left after it
-  pub were-did : (s s' : Table (Option B) (View X)) → ((p : ℕ) → PageMoves ((core_of stored start s).pages p) ((core_of stored start s').pages p)) → ((p : ℕ) → ((core_of stored start s).pages p).state ≤ EVICTED) → (core_of stored start s).next ≤ (core_of stored start s').next
+  pub were-did : (s s' : Table (Option B) (View X)) → ((p : ℕ) → PageMoves ((core_shown stored start s).pages p) ((core_shown stored start s').pages p)) → ((p : ℕ) → ((core_shown stored start s).pages p).state ≤ EVICTED) → (core_shown stored start s).next ≤ (core_shown stored start s').next
       → (at : Place) (found wrote : Option ℕ) → Within start at → IsFoundAt found (index_of start at) s.words → IsFoundAt wrote (index_of start at) s'.words
-      → at_state at (λ p. WasWord ((core_of stored start s').pages p) found × WasWord ((core_of stored start s').pages p) wrote) × at_next at (WasNext (core_of stored start s').next found × WasNext (core_of stored start s').next wrote)
+      → at_state at (λ p. WasWord ((core_shown stored start s').pages p) found × WasWord ((core_shown stored start s').pages p) wrote) × at_next at (WasNext (core_shown stored start s').next found × WasNext (core_shown stored start s').next wrote)
   were-did s s' moves known up (State p) found wrote l e e' =
-      ((word-moves ((core_of stored start s).pages p) ((core_of stored start s').pages p) (moves p) (known p) found (was-word s p l found e), was-word s' p l wrote e'), tt)
+      ((word-moves ((core_shown stored start s).pages p) ((core_shown stored start s').pages p) (moves p) (known p) found (was-word s p l found e), was-word s' p l wrote e'), tt)
   were-did s s' moves known up (Translation p) found wrote l e e' = (tt, tt)
   were-did s s' moves known up (Fault p) found wrote l e e' = (tt, tt)
   were-did s s' moves known up (Content f i) found wrote l e e' = (tt, tt)
   were-did s s' moves known up (Bundle g) found wrote l e e' = (tt, tt)
-  were-did s s' moves known up Next found wrote l e e' = (tt, (next-moves (core_of stored start s).next (core_of stored start s').next up found (was-next s found e), was-next s' wrote e'))
+  were-did s s' moves known up Next found wrote l e e' = (tt, (next-moves (core_shown stored start s).next (core_shown stored start s').next up found (was-next s found e), was-next s' wrote e'))
   were-did s s' moves known up Hand found wrote l e e' = (tt, tt)

@@ -10,7 +10,7 @@ use Rattle.vm_core.specs.declared.event.Seat.{Seat}
 use Rattle.vm_core.specs.Fn.{upd}
 use Rattle.vm_core.specs.Words.{state_of, version_of, UNLOCKED, LOCKED, MARKED, EVICTED}
 use Rattle.vm_core.specs.State.{Page, State}
-use Rattle.vm_core.specs.StateActs.{finds, left_of, open_after, one_more, unshared, seated}
+use Rattle.vm_core.specs.StateActs.{finds, left_of, open_after, one_share_more, unshared, seated}
 use Rattle.vm_core.specs.FrameActs.{framed, load_frame, open_frame, stands_in}
 use Rattle.vm_core.specs.Step.{on_page, word_at, stored_at}
 use Rattle.vm_core.specs.History.{History, World, drafted, appended, kept_loads, loads_more, world_after}
@@ -27,9 +27,9 @@ use Rattle.vm_rule.specs.declared.view.Place.TheVariants as places
 use Rattle.vm_rule.specs.declared.view.Release.{Release as Released}
 use Rattle.vm_rule.specs.declared.view.View.{View}
 use Rattle.vm_rule.specs.Puts.{put}
-use Rattle.vm_rule.specs.Layout.{index_of, width, words_of}
+use Rattle.vm_rule.specs.Layout.{index_of, width, table_words}
 use Rattle.vm_rule.specs.Views.{seat_of, loads_at}
-use Rattle.vm_rule.specs.Reading.{core_from, seats_of, loads_of, held_of, block_of, core_of, world_of, pushed, after_releases, first_history, last_in, histories_of}
+use Rattle.vm_rule.specs.Reading.{core_from, seats_of, loads_of, frames_held, block_of, core_shown, world_of, pushed, after_releases, first_history, last_in, histories_of}
 use Rattle.vm_rule.proofs.Parts.{upd-is}
 use Rattle.vm_rule.proofs.Views.{block-same}
 use Rattle.vm_rule.proofs.Cores.{seats-put, seats-still, loads-put, loads-still, held-still, core-state, core-seat, core-word, core-step}
@@ -155,36 +155,36 @@ module _ {X B : Type 0} (stored : B → Stored) (start : Origin) where
   -- a state word, and what the pass has of the page
   pub state-step : (s : Table (Option B) (View X)) (id : ℕ) (v w : View X) (p x state version : ℕ) (g : Seat → Seat) → length s.words ≡ width start → p < start.pages → get_elem? s.views id ≡ some v
       → w.out ≡ v.out → w.frames ≡ v.frames → w.seats ≡ put p (g (seat_of v p)) v.seats → state_of x ≡ state → version_of x ≡ version
-      → core_of stored start (wrote s id (places.State p) x w)
-      ≡ on_page (core_of stored start s) p (record ((core_of stored start s).pages p) { state = state; version = version; seats = upd ((core_of stored start s).pages p).seats id (g (((core_of stored start s).pages p).seats id)) })
+      → core_shown stored start (wrote s id (places.State p) x w)
+      ≡ on_page (core_shown stored start s) p (record ((core_shown stored start s).pages p) { state = state; version = version; seats = upd ((core_shown stored start s).pages p).seats id (g (((core_shown stored start s).pages p).seats id)) })
   state-step s id v w p x state version g wide l there out frames seats is keeps =
       core-step stored start s id v w (places.State p) x wide l there out _ _ (seats-put s.views id p v w (g (seat_of v p)) there seats) (held-still s.views id v w there frames)
-      ∙ core-state start (length s.views) (words_of start s.words) (block_of stored s.homes s.views) (seats_of s.views) (held_of s.views) p x (upd (seats_of s.views p) id (g (seat_of v p))) l
-      ∙ (λ i. on_page (core_of stored start s) p (record ((core_of stored start s).pages p) { state = is i; version = keeps i; seats = upd (sym (seats-here stored start s p l) i) id (g (sym (seat-here stored start s id p v l there) i)) }))
+      ∙ core-state start (length s.views) (table_words start s.words) (block_of stored s.homes s.views) (seats_of s.views) (frames_held s.views) p x (upd (seats_of s.views p) id (g (seat_of v p))) l
+      ∙ (λ i. on_page (core_shown stored start s) p (record ((core_shown stored start s).pages p) { state = is i; version = keeps i; seats = upd (sym (seats-here stored start s p l) i) id (g (sym (seat-here stored start s id p v l there) i)) }))
 
   -- a state word alone
   pub state-alone : (s : Table (Option B) (View X)) (id : ℕ) (v w : View X) (p x state version : ℕ) → length s.words ≡ width start → p < start.pages → get_elem? s.views id ≡ some v
       → w.out ≡ v.out → w.frames ≡ v.frames → w.seats ≡ v.seats → state_of x ≡ state → version_of x ≡ version
-      → core_of stored start (wrote s id (places.State p) x w) ≡ on_page (core_of stored start s) p (record ((core_of stored start s).pages p) { state = state; version = version })
+      → core_shown stored start (wrote s id (places.State p) x w) ≡ on_page (core_shown stored start s) p (record ((core_shown stored start s).pages p) { state = state; version = version })
   state-alone s id v w p x state version wide l there out frames seats is keeps =
       core-step stored start s id v w (places.State p) x wide l there out _ _ (seats-still s.views id v w there seats ∙ sym (upd-self (seats_of s.views) p)) (held-still s.views id v w there frames)
-      ∙ core-state start (length s.views) (words_of start s.words) (block_of stored s.homes s.views) (seats_of s.views) (held_of s.views) p x (seats_of s.views p) l
-      ∙ (λ i. on_page (core_of stored start s) p (record ((core_of stored start s).pages p) { state = is i; version = keeps i; seats = sym (seats-here stored start s p l) i }))
+      ∙ core-state start (length s.views) (table_words start s.words) (block_of stored s.homes s.views) (seats_of s.views) (frames_held s.views) p x (seats_of s.views p) l
+      ∙ (λ i. on_page (core_shown stored start s) p (record ((core_shown stored start s).pages p) { state = is i; version = keeps i; seats = sym (seats-here stored start s p l) i }))
 
   -- what the pass has of the page, and no word
   pub seat-step : (s : Table (Option B) (View X)) (id : ℕ) (v w : View X) (p : ℕ) (g : Seat → Seat) → p < start.pages → get_elem? s.views id ≡ some v
       → w.out ≡ v.out → w.frames ≡ v.frames → w.seats ≡ put p (g (seat_of v p)) v.seats
-      → core_of stored start (stayed s id w) ≡ on_page (core_of stored start s) p (seated ((core_of stored start s).pages p) id (g (((core_of stored start s).pages p).seats id)))
+      → core_shown stored start (stayed s id w) ≡ on_page (core_shown stored start s) p (seated ((core_shown stored start s).pages p) id (g (((core_shown stored start s).pages p).seats id)))
   seat-step s id v w p g l there out frames seats =
-      (λ i. core_from start (length-set s.views id w i) (words_of start s.words) (block-same stored s.homes s.views id v w there out i) (seats-put s.views id p v w (g (seat_of v p)) there seats i) (held-still s.views id v w there frames i))
-      ∙ core-seat start (length s.views) (words_of start s.words) (block_of stored s.homes s.views) (seats_of s.views) (held_of s.views) p (upd (seats_of s.views p) id (g (seat_of v p))) l
-      ∙ (λ i. on_page (core_of stored start s) p (record ((core_of stored start s).pages p) { seats = upd (sym (seats-here stored start s p l) i) id (g (sym (seat-here stored start s id p v l there) i)) }))
+      (λ i. core_from start (length-set s.views id w i) (table_words start s.words) (block-same stored s.homes s.views id v w there out i) (seats-put s.views id p v w (g (seat_of v p)) there seats i) (held-still s.views id v w there frames i))
+      ∙ core-seat start (length s.views) (table_words start s.words) (block_of stored s.homes s.views) (seats_of s.views) (frames_held s.views) p (upd (seats_of s.views p) id (g (seat_of v p))) l
+      ∙ (λ i. on_page (core_shown stored start s) p (record ((core_shown stored start s).pages p) { seats = upd (sym (seats-here stored start s p l) i) id (g (sym (seat-here stored start s id p v l there) i)) }))
 
   -- a view that tells the same, and no word
   pub core-still : (s : Table (Option B) (View X)) (id : ℕ) (v w : View X) → get_elem? s.views id ≡ some v → w.out ≡ v.out → w.frames ≡ v.frames → w.seats ≡ v.seats
-      → core_of stored start (stayed s id w) ≡ core_of stored start s
+      → core_shown stored start (stayed s id w) ≡ core_shown stored start s
   core-still s id v w there out frames seats i =
-      core_from start (length-set s.views id w i) (words_of start s.words) (block-same stored s.homes s.views id v w there out i) (seats-still s.views id v w there seats i) (held-still s.views id v w there frames i)
+      core_from start (length-set s.views id w i) (table_words start s.words) (block-same stored s.homes s.views id v w there out i) (seats-still s.views id v w there seats i) (held-still s.views id v w there frames i)
 
   pub world-still : (s : Table (Option B) (View X)) (releases : List Released) (drafts : ℕ → List ℕ) (id : ℕ) (v w : View X) → get_elem? s.views id ≡ some v → w.out ≡ v.out → w.frames ≡ v.frames → w.seats ≡ v.seats → w.loads ≡ v.loads
       → world_of stored start releases drafts (stayed s id w) ≡ world_of stored start releases drafts s
@@ -196,12 +196,12 @@ module _ {X B : Type 0} (stored : B → Stored) (start : Origin) where
   -- a look; y is any page with the state and the version of the page
   pub look-step : (s : Table (Option B) (View X)) (releases : List Released) (drafts : ℕ → List ℕ) (id : ℕ) (v w : View X) (p : ℕ) (y : Page) → p < start.pages → get_elem? s.views id ≡ some v
       → w.out ≡ v.out → w.frames ≡ v.frames
-      → y.state ≡ ((core_of stored start s).pages p).state → y.version ≡ ((core_of stored start s).pages p).version
+      → y.state ≡ ((core_shown stored start s).pages p).state → y.version ≡ ((core_shown stored start s).pages p).version
       → w.seats ≡ put p (record (seat_of v p) { reading = open_after (left_of y (seat_of v p).reading) (seat_of v p).reading y.version }) v.seats
       → w.loads ≡ put p (kept_loads (left_of y (seat_of v p).reading) (loads_at v p)) v.loads
       → world_of stored start releases drafts (stayed s id w) ≡ world_after (world_of stored start releases drafts s) (Look id p)
   look-step s releases drafts id v w p y l there out frames state version seats loads =
-      let c : State = core_of stored start s in
+      let c : State = core_shown stored start s in
       let r : Page = c.pages p in
       let here : seat_of v p ≡ r.seats id = sym (seat-here stored start s id p v l there) in
       let mine : loads_at v p ≡ loads_of s.views p id = sym (loads-here stored start s id p v there) in
@@ -215,11 +215,11 @@ module _ {X B : Type 0} (stored : B → Stored) (start : Origin) where
 
   -- a translation word is loaded
   pub tload-step : (s : Table (Option B) (View X)) (releases : List Released) (drafts : ℕ → List ℕ) (id : ℕ) (v w : View X) (p : ℕ) (t : Option Mapping) → p < start.pages → get_elem? s.views id ≡ some v
-      → w.out ≡ v.out → w.frames ≡ v.frames → w.loads ≡ v.loads → ((core_of stored start s).pages p).trans ≡ t
+      → w.out ≡ v.out → w.frames ≡ v.frames → w.loads ≡ v.loads → ((core_shown stored start s).pages p).trans ≡ t
       → w.seats ≡ put p (record (seat_of v p) { reading = framed (seat_of v p).reading t }) v.seats
       → world_of stored start releases drafts (stayed s id w) ≡ world_after (world_of stored start releases drafts s) (TLoad id p)
   tload-step s releases drafts id v w p t l there out frames loads trans seats =
-      let c : State = core_of stored start s in
+      let c : State = core_shown stored start s in
       let r : Page = c.pages p in
       λ i. record {
         core = (seat-step s id v w p (λ k. record k { reading = framed k.reading t }) l there out frames seats
@@ -230,11 +230,11 @@ module _ {X B : Type 0} (stored : B → Stored) (start : Origin) where
 
   -- a word of a frame is loaded
   pub load-step : (s : Table (Option B) (View X)) (releases : List Released) (drafts : ℕ → List ℕ) (id : ℕ) (v w : View X) (p i f n : ℕ) → p < start.pages → f < start.frames → i < 64 → get_elem? s.views id ≡ some v
-      → w.out ≡ v.out → w.frames ≡ v.frames → w.seats ≡ v.seats → load_frame ((core_of stored start s).pages p) id ≡ Some f → n ≡ slice_index s.words (index_of start (places.Content f i))
+      → w.out ≡ v.out → w.frames ≡ v.frames → w.seats ≡ v.seats → load_frame ((core_shown stored start s).pages p) id ≡ Some f → n ≡ slice_index s.words (index_of start (places.Content f i))
       → w.loads ≡ put p (loads_more (open_frame (seat_of v p).reading) (loads_at v p) i n) v.loads
       → world_of stored start releases drafts (stayed s id w) ≡ world_after (world_of stored start releases drafts s) (Load id p i)
   load-step s releases drafts id v w p i f n l lf li there out frames seats reads is loads =
-      let c : State = core_of stored start s in
+      let c : State = core_shown stored start s in
       let here : seat_of v p ≡ (c.pages p).seats id = sym (seat-here stored start s id p v l there) in
       let mine : loads_at v p ≡ loads_of s.views p id = sym (loads-here stored start s id p v there) in
       let word : n ≡ word_at c.words (load_frame (c.pages p) id) i = is ∙ sym (content-here stored start s f i lf li) ∙ sym (ap (λ o. word_at c.words o i) reads) in
@@ -250,16 +250,16 @@ module _ {X B : Type 0} (stored : B → Stored) (start : Origin) where
   -- an exchange that took a lock, which gives the pass g of what it had
   taken-step : (s : Table (Option B) (View X)) (releases : List Released) (drafts : ℕ → List ℕ) (id : ℕ) (v w : View X) (p expects x state : ℕ) (g : Seat → Seat) → length s.words ≡ width start → p < start.pages → get_elem? s.views id ≡ some v
       → w.out ≡ v.out → w.frames ≡ v.frames → w.seats ≡ put p (g (seat_of v p)) v.seats → w.loads ≡ put p [] v.loads
-      → state_of x ≡ state → version_of x ≡ version_of expects → finds ((core_of stored start s).pages p) expects ≡ true
+      → state_of x ≡ state → version_of x ≡ version_of expects → finds ((core_shown stored start s).pages p) expects ≡ true
       → world_of stored start releases drafts (wrote s id (places.State p) x w)
       ≡ record {
-        core = on_page (core_of stored start s) p (record ((core_of stored start s).pages p) { state = state; seats = upd ((core_of stored start s).pages p).seats id (g (((core_of stored start s).pages p).seats id)) });
+        core = on_page (core_shown stored start s) p (record ((core_shown stored start s).pages p) { state = state; seats = upd ((core_shown stored start s).pages p).seats id (g (((core_shown stored start s).pages p).seats id)) });
         histories = histories_of start releases drafts;
         loads = upd (loads_of s.views) p (upd (loads_of s.views p) id []);
       }
   taken-step s releases drafts id v w p expects x state g wide l there out frames seats loads is keeps finding i =
       record {
-        core = state-step s id v w p x state ((core_of stored start s).pages p).version g wide l there out frames seats is (keeps ∙ sym (found ((core_of stored start s).pages p) expects finding).1) i;
+        core = state-step s id v w p x state ((core_shown stored start s).pages p).version g wide l there out frames seats is (keeps ∙ sym (found ((core_shown stored start s).pages p) expects finding).1) i;
         histories = histories_of start releases drafts;
         loads = loads-put s.views id p v w [] there loads i;
       }
@@ -268,7 +268,7 @@ module _ {X B : Type 0} (stored : B → Stored) (start : Origin) where
   pub lockx-step : (s : Table (Option B) (View X)) (releases : List Released) (drafts : ℕ → List ℕ) (id : ℕ) (v w : View X) (p expects x : ℕ) → length s.words ≡ width start → p < start.pages → get_elem? s.views id ≡ some v
       → w.out ≡ v.out → w.frames ≡ v.frames
       → w.seats ≡ put p (record (seat_of v p) { exclusive = true; reading = None }) v.seats → w.loads ≡ put p [] v.loads
-      → state_of x ≡ LOCKED → version_of x ≡ version_of expects → finds ((core_of stored start s).pages p) expects ≡ true
+      → state_of x ≡ LOCKED → version_of x ≡ version_of expects → finds ((core_shown stored start s).pages p) expects ≡ true
       → world_of stored start releases (upd drafts p (last_in start releases p).words) (wrote s id (places.State p) x w) ≡ world_after (world_of stored start releases drafts s) (LockX id p expects)
   lockx-step s releases drafts id v w p expects x wide l there out frames seats loads is keeps finding =
       let core : _ = taken-step s releases (upd drafts p (last_in start releases p).words) id v w p expects x LOCKED (λ k. record k { exclusive = true; reading = None }) wide l there out frames seats loads is keeps finding in
@@ -278,16 +278,16 @@ module _ {X B : Type 0} (stored : B → Stored) (start : Origin) where
   pub locks-step : (s : Table (Option B) (View X)) (releases : List Released) (drafts : ℕ → List ℕ) (id : ℕ) (v w : View X) (p expects x : ℕ) → length s.words ≡ width start → p < start.pages → get_elem? s.views id ≡ some v
       → w.out ≡ v.out → w.frames ≡ v.frames
       → w.seats ≡ put p (record (seat_of v p) { shares = (seat_of v p).shares + 1; reading = None }) v.seats → w.loads ≡ put p [] v.loads
-      → state_of x ≡ one_more (state_of expects) → version_of x ≡ version_of expects → finds ((core_of stored start s).pages p) expects ≡ true
+      → state_of x ≡ one_share_more (state_of expects) → version_of x ≡ version_of expects → finds ((core_shown stored start s).pages p) expects ≡ true
       → world_of stored start releases drafts (wrote s id (places.State p) x w) ≡ world_after (world_of stored start releases drafts s) (LockS id p expects)
   locks-step s releases drafts id v w p expects x wide l there out frames seats loads is keeps finding =
-      rw finding (taken-step s releases drafts id v w p expects x (one_more ((core_of stored start s).pages p).state) (λ k. record k { shares = k.shares + 1; reading = None }) wide l there out frames seats loads (is ∙ ap one_more (sym (found ((core_of stored start s).pages p) expects finding).0)) keeps finding)
+      rw finding (taken-step s releases drafts id v w p expects x (one_share_more ((core_shown stored start s).pages p).state) (λ k. record k { shares = k.shares + 1; reading = None }) wide l there out frames seats loads (is ∙ ap one_share_more (sym (found ((core_shown stored start s).pages p) expects finding).0)) keeps finding)
 
   -- a marked page, for its write-back
   pub lockw-step : (s : Table (Option B) (View X)) (releases : List Released) (drafts : ℕ → List ℕ) (id : ℕ) (v w : View X) (p expects x : ℕ) → length s.words ≡ width start → p < start.pages → get_elem? s.views id ≡ some v
       → w.out ≡ v.out → w.frames ≡ v.frames
       → w.seats ≡ put p (record (seat_of v p) { shares = 1; writing = true; reading = None }) v.seats → w.loads ≡ put p [] v.loads
-      → state_of x ≡ 1 → version_of x ≡ version_of expects → finds ((core_of stored start s).pages p) expects ≡ true
+      → state_of x ≡ 1 → version_of x ≡ version_of expects → finds ((core_shown stored start s).pages p) expects ≡ true
       → world_of stored start releases drafts (wrote s id (places.State p) x w) ≡ world_after (world_of stored start releases drafts s) (LockW id p expects)
   lockw-step s releases drafts id v w p expects x wide l there out frames seats loads is keeps finding =
       rw finding (taken-step s releases drafts id v w p expects x 1 (λ k. record k { shares = 1; writing = true; reading = None }) wide l there out frames seats loads is keeps finding)
@@ -296,7 +296,7 @@ module _ {X B : Type 0} (stored : B → Stored) (start : Origin) where
   pub upgrade-step : (s : Table (Option B) (View X)) (releases : List Released) (drafts : ℕ → List ℕ) (id : ℕ) (v w : View X) (p expects x : ℕ) → length s.words ≡ width start → p < start.pages → get_elem? s.views id ≡ some v
       → w.out ≡ v.out → w.frames ≡ v.frames
       → w.seats ≡ put p (record { shares = 0; exclusive = true; writing = false; reading = None }) v.seats → w.loads ≡ put p [] v.loads
-      → state_of x ≡ LOCKED → version_of x ≡ version_of expects → finds ((core_of stored start s).pages p) expects ≡ true
+      → state_of x ≡ LOCKED → version_of x ≡ version_of expects → finds ((core_shown stored start s).pages p) expects ≡ true
       → world_of stored start releases (upd drafts p (last_in start releases p).words) (wrote s id (places.State p) x w) ≡ world_after (world_of stored start releases drafts s) (Upgrade id p expects)
   upgrade-step s releases drafts id v w p expects x wide l there out frames seats loads is keeps finding =
       let core : _ = taken-step s releases (upd drafts p (last_in start releases p).words) id v w p expects x LOCKED (λ k. record { shares = 0; exclusive = true; writing = false; reading = None }) wide l there out frames seats loads is keeps finding in
@@ -305,12 +305,12 @@ module _ {X B : Type 0} (stored : B → Stored) (start : Origin) where
   -- an exchange of the state alone
   remarked : (s : Table (Option B) (View X)) (releases : List Released) (drafts : ℕ → List ℕ) (id : ℕ) (v w : View X) (p expects x state : ℕ) → length s.words ≡ width start → p < start.pages → get_elem? s.views id ≡ some v
       → w.out ≡ v.out → w.frames ≡ v.frames → w.seats ≡ v.seats → w.loads ≡ v.loads
-      → state_of x ≡ state → version_of x ≡ version_of expects → finds ((core_of stored start s).pages p) expects ≡ true
+      → state_of x ≡ state → version_of x ≡ version_of expects → finds ((core_shown stored start s).pages p) expects ≡ true
       → world_of stored start releases drafts (wrote s id (places.State p) x w)
-      ≡ record { core = on_page (core_of stored start s) p (record ((core_of stored start s).pages p) { state = state }); histories = histories_of start releases drafts; loads = loads_of s.views }
+      ≡ record { core = on_page (core_shown stored start s) p (record ((core_shown stored start s).pages p) { state = state }); histories = histories_of start releases drafts; loads = loads_of s.views }
   remarked s releases drafts id v w p expects x state wide l there out frames seats loads is keeps finding i =
       record {
-        core = state-alone s id v w p x state ((core_of stored start s).pages p).version wide l there out frames seats is (keeps ∙ sym (found ((core_of stored start s).pages p) expects finding).1) i;
+        core = state-alone s id v w p x state ((core_shown stored start s).pages p).version wide l there out frames seats is (keeps ∙ sym (found ((core_shown stored start s).pages p) expects finding).1) i;
         histories = histories_of start releases drafts;
         loads = loads-still s.views id v w there loads i;
       }
@@ -319,7 +319,7 @@ module _ {X B : Type 0} (stored : B → Stored) (start : Origin) where
   pub mark-step : (s : Table (Option B) (View X)) (releases : List Released) (drafts : ℕ → List ℕ) (id : ℕ) (v w : View X) (p expects x : ℕ) → length s.words ≡ width start → p < start.pages → get_elem? s.views id ≡ some v
       → w.out ≡ v.out → w.frames ≡ v.frames
       → w.seats ≡ v.seats → w.loads ≡ v.loads
-      → state_of x ≡ MARKED → version_of x ≡ version_of expects → finds ((core_of stored start s).pages p) expects ≡ true
+      → state_of x ≡ MARKED → version_of x ≡ version_of expects → finds ((core_shown stored start s).pages p) expects ≡ true
       → world_of stored start releases drafts (wrote s id (places.State p) x w) ≡ world_after (world_of stored start releases drafts s) (Mark id p expects)
   mark-step s releases drafts id v w p expects x wide l there out frames seats loads is keeps finding =
       rw finding (remarked s releases drafts id v w p expects x MARKED wide l there out frames seats loads is keeps finding)
@@ -328,7 +328,7 @@ module _ {X B : Type 0} (stored : B → Stored) (start : Origin) where
   pub unmark-step : (s : Table (Option B) (View X)) (releases : List Released) (drafts : ℕ → List ℕ) (id : ℕ) (v w : View X) (p expects x : ℕ) → length s.words ≡ width start → p < start.pages → get_elem? s.views id ≡ some v
       → w.out ≡ v.out → w.frames ≡ v.frames
       → w.seats ≡ v.seats → w.loads ≡ v.loads
-      → state_of x ≡ UNLOCKED → version_of x ≡ version_of expects → finds ((core_of stored start s).pages p) expects ≡ true
+      → state_of x ≡ UNLOCKED → version_of x ≡ version_of expects → finds ((core_shown stored start s).pages p) expects ≡ true
       → world_of stored start releases drafts (wrote s id (places.State p) x w) ≡ world_after (world_of stored start releases drafts s) (Unmark id p expects)
   unmark-step s releases drafts id v w p expects x wide l there out frames seats loads is keeps finding =
       rw finding (remarked s releases drafts id v w p expects x UNLOCKED wide l there out frames seats loads is keeps finding)
@@ -338,11 +338,11 @@ module _ {X B : Type 0} (stored : B → Stored) (start : Origin) where
   -- a share
   pub unlocks-step : (s : Table (Option B) (View X)) (releases : List Released) (drafts : ℕ → List ℕ) (id : ℕ) (v w : View X) (p x : ℕ) → length s.words ≡ width start → p < start.pages → get_elem? s.views id ≡ some v
       → w.out ≡ v.out → w.frames ≡ v.frames → w.loads ≡ v.loads → w.seats ≡ put p (unshared (seat_of v p)) v.seats
-      → state_of x ≡ ((core_of stored start s).pages p).state - 1 → version_of x ≡ ((core_of stored start s).pages p).version
+      → state_of x ≡ ((core_shown stored start s).pages p).state - 1 → version_of x ≡ ((core_shown stored start s).pages p).version
       → world_of stored start releases drafts (wrote s id (places.State p) x w) ≡ world_after (world_of stored start releases drafts s) (UnlockS id p)
   unlocks-step s releases drafts id v w p x wide l there out frames loads seats is keeps i =
       record {
-        core = state-step s id v w p x (((core_of stored start s).pages p).state - 1) ((core_of stored start s).pages p).version unshared wide l there out frames seats is keeps i;
+        core = state-step s id v w p x (((core_shown stored start s).pages p).state - 1) ((core_shown stored start s).pages p).version unshared wide l there out frames seats is keeps i;
         histories = histories_of start releases drafts;
         loads = loads-still s.views id v w there loads i;
       }
@@ -350,16 +350,16 @@ module _ {X B : Type 0} (stored : B → Stored) (start : Origin) where
   -- an exclusive lock, at the next version: the draft is the release
   released-step : (s : Table (Option B) (View X)) (releases : List Released) (drafts : ℕ → List ℕ) (id : ℕ) (v w : View X) (p x state : ℕ) (g : Seat → Seat) → length s.words ≡ width start → p < start.pages → get_elem? s.views id ≡ some v
       → w.out ≡ v.out → w.frames ≡ v.frames → w.loads ≡ v.loads → w.seats ≡ put p (g (seat_of v p)) v.seats
-      → state_of x ≡ state → version_of x ≡ ((core_of stored start s).pages p).version + 1
+      → state_of x ≡ state → version_of x ≡ ((core_shown stored start s).pages p).version + 1
       → world_of stored start (releases ++ release_of start releases drafts p ∷ []) drafts (wrote s id (places.State p) x w)
       ≡ record {
-        core = on_page (core_of stored start s) p (record ((core_of stored start s).pages p) { state = state; version = ((core_of stored start s).pages p).version + 1; seats = upd ((core_of stored start s).pages p).seats id (g (((core_of stored start s).pages p).seats id)) });
+        core = on_page (core_shown stored start s) p (record ((core_shown stored start s).pages p) { state = state; version = ((core_shown stored start s).pages p).version + 1; seats = upd ((core_shown stored start s).pages p).seats id (g (((core_shown stored start s).pages p).seats id)) });
         histories = upd (histories_of start releases drafts) p (appended (histories_of start releases drafts p));
         loads = loads_of s.views;
       }
   released-step s releases drafts id v w p x state g wide l there out frames loads seats is next i =
       record {
-        core = state-step s id v w p x state (((core_of stored start s).pages p).version + 1) g wide l there out frames seats is next i;
+        core = state-step s id v w p x state (((core_shown stored start s).pages p).version + 1) g wide l there out frames seats is next i;
         histories = release-appends start releases drafts p i;
         loads = loads-still s.views id v w there loads i;
       }
@@ -367,7 +367,7 @@ module _ {X B : Type 0} (stored : B → Stored) (start : Origin) where
   -- the page stays in its frame
   pub release-step : (s : Table (Option B) (View X)) (releases : List Released) (drafts : ℕ → List ℕ) (id : ℕ) (v w : View X) (p x : ℕ) → length s.words ≡ width start → p < start.pages → get_elem? s.views id ≡ some v
       → w.out ≡ v.out → w.frames ≡ v.frames → w.loads ≡ v.loads → w.seats ≡ put p (record (seat_of v p) { exclusive = false }) v.seats
-      → state_of x ≡ UNLOCKED → version_of x ≡ ((core_of stored start s).pages p).version + 1
+      → state_of x ≡ UNLOCKED → version_of x ≡ ((core_shown stored start s).pages p).version + 1
       → world_of stored start (releases ++ release_of start releases drafts p ∷ []) drafts (wrote s id (places.State p) x w) ≡ world_after (world_of stored start releases drafts s) (Release id p)
   release-step s releases drafts id v w p x wide l there out frames loads seats is next =
       released-step s releases drafts id v w p x UNLOCKED (λ k. record k { exclusive = false }) wide l there out frames loads seats is next
@@ -375,7 +375,7 @@ module _ {X B : Type 0} (stored : B → Stored) (start : Origin) where
   -- the page is evicted
   pub releasee-step : (s : Table (Option B) (View X)) (releases : List Released) (drafts : ℕ → List ℕ) (id : ℕ) (v w : View X) (p x : ℕ) → length s.words ≡ width start → p < start.pages → get_elem? s.views id ≡ some v
       → w.out ≡ v.out → w.frames ≡ v.frames → w.loads ≡ v.loads → w.seats ≡ put p (record (seat_of v p) { exclusive = false }) v.seats
-      → state_of x ≡ EVICTED → version_of x ≡ ((core_of stored start s).pages p).version + 1
+      → state_of x ≡ EVICTED → version_of x ≡ ((core_shown stored start s).pages p).version + 1
       → world_of stored start (releases ++ release_of start releases drafts p ∷ []) drafts (wrote s id (places.State p) x w) ≡ world_after (world_of stored start releases drafts s) (ReleaseE id p)
   releasee-step s releases drafts id v w p x wide l there out frames loads seats is next =
       released-step s releases drafts id v w p x EVICTED (λ k. record k { exclusive = false }) wide l there out frames loads seats is next
@@ -383,7 +383,7 @@ module _ {X B : Type 0} (stored : B → Stored) (start : Origin) where
   -- the pass keeps a share
   pub downgrade-step : (s : Table (Option B) (View X)) (releases : List Released) (drafts : ℕ → List ℕ) (id : ℕ) (v w : View X) (p x : ℕ) → length s.words ≡ width start → p < start.pages → get_elem? s.views id ≡ some v
       → w.out ≡ v.out → w.frames ≡ v.frames → w.loads ≡ v.loads → w.seats ≡ put p (record (seat_of v p) { shares = 1; exclusive = false }) v.seats
-      → state_of x ≡ 1 → version_of x ≡ ((core_of stored start s).pages p).version + 1
+      → state_of x ≡ 1 → version_of x ≡ ((core_shown stored start s).pages p).version + 1
       → world_of stored start (releases ++ release_of start releases drafts p ∷ []) drafts (wrote s id (places.State p) x w) ≡ world_after (world_of stored start releases drafts s) (Downgrade id p)
   downgrade-step s releases drafts id v w p x wide l there out frames loads seats is next =
       released-step s releases drafts id v w p x 1 (λ k. record k { shares = 1; exclusive = false }) wide l there out frames loads seats is next
@@ -393,19 +393,19 @@ module _ {X B : Type 0} (stored : B → Stored) (start : Origin) where
   -- a word is stored into a frame; which drafts it changes is the event's
   pub store-core : (s : Table (Option B) (View X)) (id : ℕ) (v w : View X) (f i x : ℕ) → length s.words ≡ width start → f < start.frames → i < 64 → get_elem? s.views id ≡ some v
       → w.out ≡ v.out → w.frames ≡ v.frames → w.seats ≡ v.seats
-      → core_of stored start (wrote s id (places.Content f i) x w) ≡ stored_at (core_of stored start s) f i x
+      → core_shown stored start (wrote s id (places.Content f i) x w) ≡ stored_at (core_shown stored start s) f i x
   store-core s id v w f i x wide lf li there out frames seats =
       core-step stored start s id v w (places.Content f i) x wide (lf, li) there out _ _ (seats-still s.views id v w there seats) (held-still s.views id v w there frames)
-      ∙ core-word start (length s.views) (words_of start s.words) (block_of stored s.homes s.views) (seats_of s.views) (held_of s.views) f i x li
+      ∙ core-word start (length s.views) (table_words start s.words) (block_of stored s.homes s.views) (seats_of s.views) (frames_held s.views) f i x li
 
   -- into the frame of a page that the pass holds exclusively
   pub store-step : (s : Table (Option B) (View X)) (releases : List Released) (drafts : ℕ → List ℕ) (id : ℕ) (v w : View X) (p f i x : ℕ) (dirty : Bool) → Inv (world_of stored start releases drafts s) → length s.words ≡ width start
       → p < start.pages → f < start.frames → i < 64 → get_elem? s.views id ≡ some v
       → w.out ≡ v.out → w.frames ≡ v.frames → w.seats ≡ v.seats → w.loads ≡ v.loads
-      → (seat_of v p).exclusive ≡ true → ((core_of stored start s).pages p).trans ≡ Some (record { frame = f; dirty = dirty })
+      → (seat_of v p).exclusive ≡ true → ((core_shown stored start s).pages p).trans ≡ Some (record { frame = f; dirty = dirty })
       → world_of stored start releases (upd drafts p (slice_set (drafts p) i x)) (wrote s id (places.Content f i) x w) ≡ world_after (world_of stored start releases drafts s) (Store id f i x)
   store-step s releases drafts id v w p f i x dirty inv wide l lf li there out frames seats loads owns stands =
-      let c : State = core_of stored start s in
+      let c : State = core_shown stored start s in
       let h : ℕ → History = histories_of start releases drafts in
       let holds : ((c.pages p).seats id).exclusive ≡ true = ap (λ (y : Seat). y.exclusive) (seat-here stored start s id p v l there) ∙ owns in
       let at-p : stands_in (c.pages p).trans f ≡ true = ap (λ t. stands_in t f) stands ∙ eq-eqb f f refl in

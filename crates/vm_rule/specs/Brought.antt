@@ -2,7 +2,7 @@
 use Rattle.std.specs.Prelude.{ℕ, true, Option, Some, None, List, [], ◌∷◌, ◌++◌, ◌≡◌, ◌+◌, length, slice_index, slice_set}
 use Rattle.vm_block.specs.declared.stored.Stored.{Stored}
 use Rattle.vm_owner.specs.declared.Entry.{Entry}
-use Rattle.vm_owner.specs.Kept.{calls_of}
+use Rattle.vm_owner.specs.Kept.{entries_under}
 use Rattle.vm_rule.specs.declared.view.Did.{Did}
 use Rattle.vm_rule.specs.declared.view.Origin.{Origin}
 use Rattle.vm_rule.specs.declared.view.Release.{Release}
@@ -39,7 +39,7 @@ pub record IsStepOf (start : Origin) (did : Did) (block : Option (ℕ × Stored)
 module _ {X : Type 0} where
   -- the next entry under the pass's first number, with its next count
   abbrev pub entry_of : View X → X → Entry X
-  entry_of v x = record { number = slice_index v.used 0; count = calls_of (slice_index v.used 0) v.mine + 1; said = x }
+  entry_of v x = record { number = slice_index v.used 0; count = entries_under (slice_index v.used 0) v.mine + 1; said = x }
 
   -- the entries that come with what is said, if something is said
   abbrev pub entries_of : View X → Option X → List (Entry X)

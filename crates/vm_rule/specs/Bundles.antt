@@ -29,6 +29,7 @@ with_contents words [] l = l
 with_contents words (f ∷ fs) l = put f (words f) (with_contents words fs l)
 
 module _ {X : Type 0} where
+  -- a load of a bundle's word
   pub record BundleTold (g found : ℕ) (v w : View X) : Type 0 where
     pub brings : Brings (did_load (places.Bundle g) found) [] [] v v w
 
@@ -51,5 +52,6 @@ module _ {X : Type 0} where
     pub brings : Brings (did_change (places.Bundle g) found (bit_or found mask)) [] [] v (given_view g mask v) w
     pub unset : bit_and found mask ≡ 0
 
+  -- the hand was moved on
   pub record HandTold (found : ℕ) (v w : View X) : Type 0 where
     pub brings : Brings (did_change places.Hand found (hand_more found)) [] [] v v w

@@ -18,5 +18,6 @@ module _ {X : Type 0} where
   raised_view p count v =
       record v { held = put p (record (held_at v p) { fault = count }) v.held; notes = v.notes ++ notes_of p (held_at v p).fault count }
 
+  -- the fault word was raised to the count of the page's block
   pub record RaiseTold (p count : ℕ) (v w : View X) : Type 0 where
     pub brings : Brings (did_store (places.Fault p) count) [] [] v (raised_view p count v) w

@@ -7,13 +7,13 @@ use Rattle.vm_core.specs.declared.playing.ReplayFault.TheVariants as faults
 use Rattle.vm_core.specs.State.{State}
 use Rattle.vm_core.specs.Step.{RunsTo}
 use Rattle.vm_core.specs.History.{world_run}
-use Rattle.vm_core.specs.Start.{Start, start, begin, core_start}
+use Rattle.vm_core.specs.Start.{CoreStart, start, begin, core_start}
 use Rattle.vm_core.specs.Inv.{Inv}
 use Rattle.vm_core.specs.Told.{FrameOnce, DeviceHolds, FaultsTold}
 use Rattle.vm_core.specs.OneVersion.{AllReadOne}
 
 -- the events lead from the start to the state, meet the invariant and what it tells, and each validated read saw one version
-pub record KeptFrom (s : Start) (events : List Event) (new : State) : Type 0 where
+pub record KeptFrom (s : CoreStart) (events : List Event) (new : State) : Type 0 where
   pub runs : RunsTo (start s) events new
   pub core : (world_run (begin s) events).core ≡ new
   pub invariant : Inv (world_run (begin s) events)
@@ -23,11 +23,11 @@ pub record KeptFrom (s : Start) (events : List Event) (new : State) : Type 0 whe
   pub reads : AllReadOne (begin s) events
 
 -- whatever legal events led from the start of a core to the old state, they and the ones done are kept
-abbrev pub Kept : State → List Event → State → Type 0
-Kept old done new =
+abbrev pub IsRunKept : State → List Event → State → Type 0
+IsRunKept old done new =
     (shape : CoreShape) (before : List Event) → shape.next ≤ shape.pages → RunsTo (start (core_start shape)) before old → KeptFrom (core_start shape) (before ++ done) new
 
 -- the same for the events before an illegal one; want of memory did none
 abbrev pub KeptFault : State → List Event → ReplayFault → State → Type 0
-KeptFault old events (faults.Illegal index) new = Kept old (take index events) new
+KeptFault old events (faults.Illegal index) new = IsRunKept old (take index events) new
 KeptFault old events faults.Memory new = new ≡ old

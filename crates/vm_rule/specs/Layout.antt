@@ -49,6 +49,7 @@ at_next Hand P = Unit {0}
 abbrev pub width_of : ℕ → ℕ → ℕ
 width_of pages frames = 3 * pages + WORDS * frames + bundles_of frames + 2
 
+-- how many words a table has
 abbrev pub width : Origin → ℕ
 width start = width_of start.pages start.frames
 
@@ -76,8 +77,9 @@ pub record Words : Type 0 where
   pub next : ℕ
   pub hand : ℕ
 
-abbrev pub words_of : Origin → List ℕ → Words
-words_of start words =
+-- the words of a table, by what they are
+abbrev pub table_words : Origin → List ℕ → Words
+table_words start words =
     record {
       states = part 0 start.pages words;
       translations = part start.pages start.pages words;
@@ -88,12 +90,12 @@ words_of start words =
       hand = at 0 words (index_of start Hand);
     }
 
--- one word is written
-abbrev pub written : Words → Place → ℕ → Words
-written r (State p) x = record r { states = upd r.states p x }
-written r (Translation p) x = record r { translations = upd r.translations p x }
-written r (Fault p) x = record r { faults = upd r.faults p x }
-written r (Content f i) x = record r { contents = upd r.contents (WORDS * f + i) x }
-written r (Bundle g) x = record r { bundles = upd r.bundles g x }
-written r Next x = record r { next = x }
-written r Hand x = record r { hand = x }
+-- one word is with_word
+abbrev pub with_word : Words → Place → ℕ → Words
+with_word r (State p) x = record r { states = upd r.states p x }
+with_word r (Translation p) x = record r { translations = upd r.translations p x }
+with_word r (Fault p) x = record r { faults = upd r.faults p x }
+with_word r (Content f i) x = record r { contents = upd r.contents (WORDS * f + i) x }
+with_word r (Bundle g) x = record r { bundles = upd r.bundles g x }
+with_word r Next x = record r { next = x }
+with_word r Hand x = record r { hand = x }

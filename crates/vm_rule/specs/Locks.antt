@@ -7,7 +7,7 @@ use Rattle.vm_core.specs.declared.event.Open.{Open}
 use Rattle.vm_core.specs.declared.event.Seat.{Seat}
 use Rattle.vm_core.specs.Words.{state_of, version_of, word_of, LOCKED, EVICTED, MAX_VERSION}
 use Rattle.vm_core.specs.FrameActs.{mapping_of}
-use Rattle.vm_core.specs.StateActs.{unshared, one_more}
+use Rattle.vm_core.specs.StateActs.{unshared, one_share_more}
 use Rattle.vm_core.specs.Inv.{LoadsAre}
 use Rattle.vm_laws_others.specs.Leaves.{stands_dirty}
 use Rattle.vm_owner.specs.Kept.{Start}
@@ -38,7 +38,7 @@ has_lock s = s.exclusive || (s.writing || nat_lt 0 s.shares)
 
 module _ {X : Type 0} where
   -- what a lock of p validates that was taken at a word of this version, while p had these last words: the pass's open read, and the ties
-  pub record Validates (tied : Start → ℕ → List ℕ → ℕ → List ℕ → Type 0) (p version : ℕ) (words : List ℕ) (v : View X) : Type 0 where
+  pub record LockValidates (tied : Start → ℕ → List ℕ → ℕ → List ℕ → Type 0) (p version : ℕ) (words : List ℕ) (v : View X) : Type 0 where
     pub valid : (o : Open) → (seat_of v p).reading ≡ Some o → o.version ≡ version → LoadsAre words (loads_at v p)
     pub holds : Each (λ t. t.page ≡ p → t.version ≡ version → tied (began_of v.start) t.of t.words p words) v.ties
     pub itself : tied (began_of v.start) p words p words
@@ -61,6 +61,7 @@ module _ {X : Type 0} where
     pub paid : has p v.owed ≡ false
     pub next : v.next ≢ Some p
 
+  -- a lock was tried: taken where the word is the one expected, with what it validates and what the pass knows of the page then; else lost
   pub record LockTold (tied : Start → ℕ → List ℕ → ℕ → List ℕ → Type 0) (p expects found : ℕ) (v w : View X) : Type 0 where
     pub held : Held
     pub brings : Brings (did_exchange (places.State p) expects found (word_of LOCKED (version_of expects))) [] [] v (if found == expects then locked_view p held (last_of w p).words v else v) w
@@ -74,7 +75,7 @@ module _ {X : Type 0} where
     pub unheld : found ≡ expects → IsUnheld v p
     -- a page whose translation was loaded as clean while the pass read it at this version is clean
     pub clean : found ≡ expects → state_of expects ≢ EVICTED → Each (λ t. t.page ≡ p → t.version ≡ version_of expects → stands_dirty held.mapping ≡ true → stands_dirty (mapping_of t.word) ≡ true) v.translations
-    pub validates : v.start.tells ≡ true → found ≡ expects → Validates tied p (version_of expects) (last_of w p).words v
+    pub validates : v.start.tells ≡ true → found ≡ expects → LockValidates tied p (version_of expects) (last_of w p).words v
 
   -- the pass has one share of p more: the open read is closed, and it knows the page, if it did not yet
   abbrev pub shared_view : ℕ → Held → View X → View X
@@ -85,21 +86,23 @@ module _ {X : Type 0} where
         held = if has_lock (seat_of v p) then v.held else put p h v.held;
       }
 
+  -- the same of a share
   pub record ShareTold (tied : Start → ℕ → List ℕ → ℕ → List ℕ → Type 0) (p expects found : ℕ) (v w : View X) : Type 0 where
     pub held : Held
-    pub brings : Brings (did_exchange (places.State p) expects found (word_of (one_more (state_of expects)) (version_of expects))) [] [] v (if found == expects then shared_view p held v else v) w
+    pub brings : Brings (did_exchange (places.State p) expects found (word_of (one_share_more (state_of expects)) (version_of expects))) [] [] v (if found == expects then shared_view p held v else v) w
     pub version : (last_of w p).version ≡ version_of found
     pub since : IsSinceAll p found v.log
     pub older : IsOlder found (seat_of v p).reading
     pub size : length (last_of w p).words ≡ WORDS
     pub resident : found ≡ expects → IsSome (put_at no_held w.held p).mapping
     pub inside : found ≡ expects → (m : Mapping) → (put_at no_held w.held p).mapping ≡ Some m → m.frame < v.start.frames
-    pub validates : v.start.tells ≡ true → found ≡ expects → Validates tied p (version_of expects) (last_of w p).words v
+    pub validates : v.start.tells ≡ true → found ≡ expects → LockValidates tied p (version_of expects) (last_of w p).words v
 
   -- one share of p is given up
   abbrev pub unshared_view : ℕ → View X → View X
   unshared_view p v = record v { seats = put p (unshared (seat_of v p)) v.seats }
 
+  -- a share was given up, of a word that counted it
   pub record UnshareTold (p found : ℕ) (v w : View X) : Type 0 where
     pub brings : Brings (did_change (places.State p) found (found - 2 ^ 56)) [] [] v (unshared_view p v) w
     pub version : (last_of w p).version ≡ version_of found
@@ -125,6 +128,7 @@ module _ {X : Type 0} where
         held = put p h v.held;
       }
 
+  -- the same of a lock for write-back, which is the page's one share
   pub record WriteLockTold (tied : Start → ℕ → List ℕ → ℕ → List ℕ → Type 0) (p expects found : ℕ) (v w : View X) : Type 0 where
     pub held : Held
     pub brings : Brings (did_exchange (places.State p) expects found (word_of 1 (version_of expects))) [] [] v (if found == expects then write_locked_view p held v else v) w
@@ -136,7 +140,7 @@ module _ {X : Type 0} where
     -- nobody had the page locked
     pub free : found ≡ expects → has p v.pending ≡ false
     pub unheld : found ≡ expects → IsUnheld v p
-    pub validates : v.start.tells ≡ true → found ≡ expects → Validates tied p (version_of expects) (last_of w p).words v
+    pub validates : v.start.tells ≡ true → found ≡ expects → LockValidates tied p (version_of expects) (last_of w p).words v
 
   -- the pass has p under write-back, with one share, which is the page's only one where it has the word expected
   pub record MayRaiseLock (v : View X) (p expects : ℕ) : Type 0 where
@@ -154,6 +158,7 @@ module _ {X : Type 0} where
         drafts = put p words v.drafts;
       }
 
+  -- a lock for write-back became exclusive, where it was the page's one share
   pub record UpgradeTold (tied : Start → ℕ → List ℕ → ℕ → List ℕ → Type 0) (p expects found : ℕ) (v w : View X) : Type 0 where
     pub brings : Brings (did_exchange (places.State p) expects found (word_of LOCKED (version_of expects))) [] [] v (if found == expects then upgraded_view p (last_of w p).words v else v) w
     pub version : (last_of w p).version ≡ version_of found
@@ -162,4 +167,4 @@ module _ {X : Type 0} where
     pub size : length (last_of w p).words ≡ WORDS
     pub free : found ≡ expects → has p v.pending ≡ false
     pub paid : found ≡ expects → has p v.owed ≡ false
-    pub validates : v.start.tells ≡ true → found ≡ expects → Validates tied p (version_of expects) (last_of w p).words v
+    pub validates : v.start.tells ≡ true → found ≡ expects → LockValidates tied p (version_of expects) (last_of w p).words v

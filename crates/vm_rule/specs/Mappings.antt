@@ -46,6 +46,7 @@ module _ {X : Type 0} where
   abbrev pub installed_view : ℕ → ℕ → View X → View X
   installed_view p f v = record v { held = mapped p (Some (clean_in f)) v; frames = without f v.frames }
 
+  -- the page was put into the frame, clean; the frame is the pass's no more
   pub record InstallTold (p f : ℕ) (v w : View X) : Type 0 where
     pub brings : Brings (did_store (places.Translation p) (trans_word (Some (clean_in f)))) [] [] v (installed_view p f v) w
 
@@ -79,6 +80,7 @@ module _ {X : Type 0} where
   abbrev pub dirty_view : ℕ → ℕ → View X → View X
   dirty_view p f v = record v { held = mapped p (Some (dirty_in f)) v }
 
+  -- the page was made dirty in its frame
   pub record DirtyTold (p f : ℕ) (v w : View X) : Type 0 where
     pub brings : Brings (did_store (places.Translation p) (trans_word (Some (dirty_in f)))) [] [] v (dirty_view p f v) w
 
@@ -92,5 +94,6 @@ module _ {X : Type 0} where
   abbrev pub clean_view : ℕ → ℕ → View X → View X
   clean_view p f v = record v { held = mapped p (Some (clean_in f)) v }
 
+  -- the page was made clean in its frame
   pub record CleanTold (p f : ℕ) (v w : View X) : Type 0 where
     pub brings : Brings (did_store (places.Translation p) (trans_word (Some (clean_in f)))) [] [] v (clean_view p f v) w

@@ -32,6 +32,7 @@ module _ {X : Type 0} where
   abbrev pub next_view : ℕ → View X → View X
   next_view found v = record v { next = if (seat_of v found).exclusive then Some found else v.next }
 
+  -- the next word was loaded; a pass that holds that page knows it from then on
   abbrev pub NextTold : ℕ → View X → View X → Type 0
   NextTold found v w = NextStepTold (did_load places.Next found) (next_view found v) found v w
 
@@ -39,5 +40,6 @@ module _ {X : Type 0} where
   abbrev pub claimed_view : ℕ → ℕ → View X → View X
   claimed_view x n v = record v { owed = numbers x n ++ v.owed; next = None }
 
+  -- pages were claimed from the next one on, where the word is the one expected: they are owed to the pass
   abbrev pub ClaimTold : ℕ → ℕ → ℕ → View X → View X → Type 0
   ClaimTold x n found v w = NextStepTold (did_exchange places.Next x found (x + n)) (if found == x then claimed_view x n v else v) found v w

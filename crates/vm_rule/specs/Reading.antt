@@ -17,7 +17,7 @@ use Rattle.vm_rule.specs.declared.view.Out.{Out}
 use Rattle.vm_rule.specs.declared.view.Release.{Release}
 use Rattle.vm_rule.specs.declared.view.View.{View}
 use Rattle.vm_rule.specs.Puts.{listed}
-use Rattle.vm_rule.specs.Layout.{Words, words_of}
+use Rattle.vm_rule.specs.Layout.{Words, table_words}
 use Rattle.vm_rule.specs.Views.{spent, seat_of, loads_at}
 
 -- ---- pages and frames
@@ -93,6 +93,7 @@ abbrev pub at_home : {B : Type 0} → maybe.Option (Option B) → Option B
 at_home maybe.none = None
 at_home (maybe.some b) = b
 
+-- the block at home of a page, where its slot has one
 abbrev pub home : {B : Type 0} → List (maybe.Option (Option B)) → ℕ → Option B
 home homes p = at_home (at maybe.none homes p)
 
@@ -117,8 +118,8 @@ module _ {X : Type 0} where
   abbrev pub loads_of : List (View X) → ℕ → ℕ → List (ℕ × ℕ)
   loads_of views p a = loads_at (at spent views a) p
 
-  abbrev pub held_of : List (View X) → ℕ → ℕ → Bool
-  held_of views a = λ f. has f (at spent views a).frames
+  abbrev pub frames_held : List (View X) → ℕ → ℕ → Bool
+  frames_held views a = λ f. has f (at spent views a).frames
 
   -- the block of page p that a pass has out
   abbrev pub out_of : List (View X) → ℕ → Option Stored
@@ -135,10 +136,10 @@ module _ {X : Type 0} where
     block_of homes views p = known stored (home homes p) (out_of views p)
 
     -- the core state that the table shows
-    abbrev pub core_of : Origin → Table (Option B) (View X) → State
-    core_of start s = core_from start (length s.views) (words_of start s.words) (block_of s.homes s.views) (seats_of s.views) (held_of s.views)
+    abbrev pub core_shown : Origin → Table (Option B) (View X) → State
+    core_shown start s = core_from start (length s.views) (table_words start s.words) (block_of s.homes s.views) (seats_of s.views) (frames_held s.views)
 
     -- with the versions of its pages and the loads of the open reads
     abbrev pub world_of : Origin → List Release → (ℕ → List ℕ) → Table (Option B) (View X) → World
     world_of start releases drafts s =
-        record { core = core_of start s; histories = histories_of start releases drafts; loads = loads_of s.views }
+        record { core = core_shown start s; histories = histories_of start releases drafts; loads = loads_of s.views }

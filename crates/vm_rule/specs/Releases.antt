@@ -42,6 +42,7 @@ module _ {X : Type 0} where
         mine = v.mine ++ entries_of v said;
       }
 
+  -- a release: the draft is the next version; as the first of a group it makes the others' drafts logical, and they are pending
   pub record ReleaseTold (p version : ℕ) (rest : List ℕ) (said : Option X) (v w : View X) : Type 0 where
     pub brings : Brings (did_store (places.State p) (version + 1)) (record { page = p; version = version + 1; words = draft_of v p } ∷ []) (entries_of v said) v (released_view p rest said v) w
 

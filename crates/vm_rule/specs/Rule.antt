@@ -27,9 +27,9 @@ use Rattle.vm_rule.specs.declared.view.Tie.{Tie}
 use Rattle.vm_rule.specs.declared.view.Translation.{Translation}
 use Rattle.vm_rule.specs.declared.view.View.{View}
 use Rattle.vm_rule.specs.Puts.{put_at, listed, chosen}
-use Rattle.vm_rule.specs.Layout.{width, at_state, at_next, words_of}
+use Rattle.vm_rule.specs.Layout.{width, at_state, at_next, table_words}
 use Rattle.vm_rule.specs.Views.{StartsWith, Each, times_noted, PARTS, one_part, IsLocking, may_call, seat_of, draft_of, entries_by, Hears, total, any, owns, IsWhole, spent}
-use Rattle.vm_rule.specs.Reading.{no_block, home, out_of, block_of, last_in, last_of, histories_of, world_of, core_of}
+use Rattle.vm_rule.specs.Reading.{no_block, home, out_of, block_of, last_in, last_of, histories_of, world_of, core_shown}
 
 -- the slot of a block that is out: empty at home, or with the pass that moves it
 abbrev pub slot_of : {B : Type 0} → Out → maybe.Option (Option B)
@@ -87,7 +87,7 @@ TieHolds tied began w pending t =
 
 -- a translation word is 0, or names a frame
 abbrev pub ArePlain : Origin → List ℕ → Type 0
-ArePlain start words = (p : ℕ) → p < start.pages → (words_of start words).translations p ≡ trans_word (mapping_of ((words_of start words).translations p))
+ArePlain start words = (p : ℕ) → p < start.pages → (table_words start words).translations p ≡ trans_word (mapping_of ((table_words start words).translations p))
 
 -- ---- what the layer above keeps
 
@@ -213,11 +213,11 @@ module _ {X : Type 0} where
         pub spelled : ArePlain start s.words
         -- the core that the table shows meets its invariant
         pub inv : Inv (world_of stored start releases drafts s)
-        pub risen : start.next ≤ (core_of stored start s).next
+        pub risen : start.next ≤ (core_shown stored start s).next
         -- pages that were never claimed have zero words
-        pub zero : start.tells ≡ true → (p : ℕ) → (core_of stored start s).next ≤ p → p < start.pages → (histories_of start releases drafts p).last.words ≡ replicate WORDS 0
+        pub zero : start.tells ≡ true → (p : ℕ) → (core_shown stored start s).next ≤ p → p < start.pages → (histories_of start releases drafts p).last.words ≡ replicate WORDS 0
         pub blocks : BlocksFit start s.homes s.views
-        pub faults : FaultsFit (core_of stored start s).pages s.views
+        pub faults : FaultsFit (core_shown stored start s).pages s.views
         pub lists : ListsFit start releases history s.views
         pub parts : PartsFit releases history (snapshot_of start s) s.views
         pub heard : (j : ℕ) (v : View X) → get_elem? s.views j ≡ maybe.some v → v.live ≡ true → KnowsLists start releases history v

@@ -2,7 +2,7 @@
 -- it is back. A block that is taken out leaves its slot empty; one that comes home may have had one call of its device.
 use Rattle.std.specs.Prelude.{ℕ, Bool, true, false, Some, None, List, [], ◌≡◌, IsSome, if◌then◌else◌}
 use Rattle.vm_core.specs.Fn.{at}
-use Rattle.vm_block.specs.Blocks.{one_more}
+use Rattle.vm_block.specs.Blocks.{one_call_more}
 use Rattle.vm_block.specs.declared.stored.Stored.{Stored}
 use Rattle.vm_rule.specs.declared.view.Out.{Out}
 use Rattle.vm_rule.specs.declared.view.Place.TheVariants as places
@@ -38,6 +38,7 @@ module _ {X : Type 0} where
   pub record ShiftTold (p : ℕ) (moving : Bool) (b : Stored) (found : ℕ) (v w : View X) : Type 0 where
     pub brings : Brings (did_load (places.Fault p) found) [] [] v (out_view p moving b v) w
 
+  -- a block was taken out, by two loads: its slot went to the pass with it, and home empty
   pub record OutTold (p : ℕ) (b : Stored) (v w : View X) : Type 0 where
     pub between : View X
     pub first : ℕ
@@ -55,9 +56,9 @@ module _ {X : Type 0} where
   -- words, or a call that failed
   pub data DeviceDid (v : View X) (p : ℕ) (old new : Stored) : Type 0 where
     idle : new ≡ old → DeviceDid v p old new
-    read : (seat_of v p).exclusive ≡ true → (v.start.tells ≡ true → new.words ≡ old.words) → new.count ≡ old.count → new.reads ≡ one_more old.reads → new.writes ≡ old.writes → DeviceDid v p old new
-    wrote : IsSome (held_at v p).mapping → (v.start.tells ≡ true → new.words ≡ words_held v p) → new.count ≡ old.count → new.reads ≡ old.reads → new.writes ≡ one_more old.writes → DeviceDid v p old new
-    failed : (v.start.tells ≡ true → new.words ≡ old.words) → new.count ≡ one_more old.count → new.reads ≡ old.reads → new.writes ≡ old.writes → DeviceDid v p old new
+    read : (seat_of v p).exclusive ≡ true → (v.start.tells ≡ true → new.words ≡ old.words) → new.count ≡ old.count → new.reads ≡ one_call_more old.reads → new.writes ≡ old.writes → DeviceDid v p old new
+    wrote : IsSome (held_at v p).mapping → (v.start.tells ≡ true → new.words ≡ words_held v p) → new.count ≡ old.count → new.reads ≡ old.reads → new.writes ≡ one_call_more old.writes → DeviceDid v p old new
+    failed : (v.start.tells ≡ true → new.words ≡ old.words) → new.count ≡ one_call_more old.count → new.reads ≡ old.reads → new.writes ≡ old.writes → DeviceDid v p old new
 
   -- the pass has the page locked so that it may call its device, and has its block out
   pub record MayBring (v : View X) (p : ℕ) (old new : Stored) : Type 0 where
@@ -71,6 +72,7 @@ module _ {X : Type 0} where
   pub record ReturnTold (p : ℕ) (new : Stored) (found : ℕ) (v w : View X) : Type 0 where
     pub brings : BringsWith (did_load (places.Fault p) found) (Some (p, new)) [] [] v (home_view p new v) w
 
+  -- a block came home, by two loads; the pass knows what it holds and counts
   pub record HomeTold (p : ℕ) (old new : Stored) (v w : View X) : Type 0 where
     pub between : View X
     pub first : ℕ

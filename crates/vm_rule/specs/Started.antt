@@ -16,12 +16,13 @@ use Rattle.vm_rule.specs.Layout.{bundles_of}
 abbrev pub counts_of : List Stored → List ℕ
 counts_of blocks = map (λ (b : Stored). b.count) blocks
 
+-- the bounds of these counts
 abbrev pub bounds_of : List Stored → List ℕ
 bounds_of blocks = map (λ (b : Stored). b.bound) blocks
 
 -- the words that the blocks hold
-abbrev pub words_in : List Stored → List (List ℕ)
-words_in blocks = map (λ (b : Stored). b.words) blocks
+abbrev pub block_words : List Stored → List (List ℕ)
+block_words blocks = map (λ (b : Stored). b.words) blocks
 
 -- the words of the pages: those of their blocks, and zeros where the blocks do not tell theirs
 abbrev pub contents_of : Bool → List Stored → List (List ℕ)
@@ -37,6 +38,7 @@ abbrev pub started_origin : Bool → ℕ → ℕ → ℕ → List Stored → Ori
 started_origin tells version next frames blocks =
     record { tells = tells; pages = length blocks; frames = frames; version = version; next = next; contents = contents_of tells blocks; bounds = bounds_of blocks }
 
+-- its first words and blocks; its shape with both
 abbrev pub started_snapshot : ℕ → ℕ → ℕ → List Stored → Snapshot
 started_snapshot version next frames blocks = record { words = started_words (length blocks) frames version next (counts_of blocks); blocks = blocks }
 

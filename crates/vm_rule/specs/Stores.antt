@@ -21,6 +21,7 @@ module _ {X : Type 0} where
   abbrev pub drafted_view : ℕ → ℕ → ℕ → View X → View X
   drafted_view p i x v = record v { drafts = put p (slice_set (draft_of v p) i x) v.drafts }
 
+  -- a store into a dirty page's frame changes one word of its draft
   pub record StoreTold (p f i x : ℕ) (v w : View X) : Type 0 where
     pub brings : Brings (did_store (places.Content f i) x) [] [] v (drafted_view p i x v) w
 
@@ -28,14 +29,16 @@ module _ {X : Type 0} where
   abbrev pub filled_view : ℕ → ℕ → ℕ → View X → View X
   filled_view f i x v = record v { contents = put f (slice_set (put_at [] v.contents f) i x) v.contents }
 
+  -- a store into a free frame of the pass changes one of its words
   pub record FillTold (f i x : ℕ) (v w : View X) : Type 0 where
     pub brings : Brings (did_store (places.Content f i) x) [] [] v (filled_view f i x v) w
     pub size : length (put_at [] v.contents f) ≡ WORDS
 
   -- the frame is the pass's own, or a page's whose draft stands in it
-  abbrev pub MayStore : View X → ℕ → Type 0
-  MayStore v f = (has f v.frames ≡ true) ⊎ ((p : ℕ) × Drafts v p f)
+  abbrev pub PassMayStore : View X → ℕ → Type 0
+  PassMayStore v f = (has f v.frames ≡ true) ⊎ ((p : ℕ) × Drafts v p f)
 
+  -- a store: the one or the other, as the frame is
   pub record StoresTold (f i x : ℕ) (v w : View X) : Type 0 where
     pub own : has f v.frames ≡ true → FillTold f i x v w
     pub page : (p : ℕ) → Drafts v p f → StoreTold p f i x v w

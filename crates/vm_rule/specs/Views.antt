@@ -71,6 +71,7 @@ module _ {X : Type 0} where
   abbrev pub Hears : List (Entry X) → List ℕ → List (Entry X) → Type 0
   Hears history ns seen = (rest : List (Entry X)) × (history ≡ seen ++ rest) × (entries_by ns rest ≡ [])
 
+  -- the sum over all views
   abbrev pub total : (View X → ℕ) → List (View X) → ℕ
   total f [] = 0
   total f (v ∷ vs) = f v + total f vs

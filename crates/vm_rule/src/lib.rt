@@ -8,11 +8,11 @@ ghost use Rattle.vm_core.specs.Inv.{Inv};
 ghost use Rattle.vm_core.specs.History.{World, world_run};
 ghost use Rattle.vm_core.specs.PageOf.{core_of};
 ghost use Rattle.vm_core.specs.Replay.{Replayed};
-ghost use Rattle.vm_core.specs.Start.{IsStart, Start, begin, start};
+ghost use Rattle.vm_core.specs.Start.{IsStart, CoreStart, begin, start};
 ghost use Rattle.vm_core.specs.State.{State};
 ghost use Rattle.vm_core.specs.Step.{AllLegal, RunsTo};
 ghost use Rattle.vm_core.specs.Told.{Told};
-ghost use Rattle.vm_rule.specs.Kept.{Kept, KeptFault, KeptFrom};
+ghost use Rattle.vm_rule.specs.Kept.{IsRunKept, KeptFault, KeptFrom};
 
 pub mod began;
 mod opening;
@@ -26,7 +26,7 @@ use vm_core::{Core, Event, ReplayFault, Seen, replay};
 /// Every start meets the invariant, whatever the number of frames in its last bundle.
 #[tactic(auto, using(crate::proofs::Starts::start_law))]
 pub fn start_keeps()
-    ensures { (s : Start) → IsStart s → Inv (begin s) }
+    ensures { (s : CoreStart) → IsStart s → Inv (begin s) }
 {}
 
 /// The invariant tells where each frame stands, what the device holds and what the fault words say.
@@ -36,12 +36,12 @@ pub fn invariant_tells()
 
 /// Every list of legal events from a start keeps the invariant, whether or not the blocks tell their words.
 pub fn runs_keep()
-    ensures { (s : Start) (events : List Event) → IsStart s → AllLegal (start s) events → Inv (world_run (begin s) events) }
+    ensures { (s : CoreStart) (events : List Event) → IsStart s → AllLegal (start s) events → Inv (world_run (begin s) events) }
 {}
 
 /// Where the blocks tell their words, all that the invariant tells holds too, and each validated read saw one version.
 pub fn runs_tell()
-    ensures { (s : Start) (events : List Event) (new : State) → IsStart s → s.tells ≡ true → RunsTo (start s) events new → KeptFrom s events new }
+    ensures { (s : CoreStart) (events : List Event) (new : State) → IsStart s → s.tells ≡ true → RunsTo (start s) events new → KeptFrom s events new }
 {}
 
 /// Does the events in order, up to the first illegal one, and answers what each saw.
@@ -56,7 +56,7 @@ pub fn replay_kept(
 ) -> Result<Vec<Seen>, ReplayFault>
     ensures ok { IfOk result (λ seen. Replayed (core_of core.old) events.now (Ok seen.items) (core_of core.new)) }
     ensures err { IfErr result (λ fault. Replayed (core_of core.old) events.now (Err fault) (core_of core.new)) }
-    ensures kept { IfOk result (λ _. Kept (core_of core.old) events.now (core_of core.new)) }
+    ensures kept { IfOk result (λ _. IsRunKept (core_of core.old) events.now (core_of core.new)) }
     ensures kept_before { IfErr result (λ fault. KeptFault (core_of core.old) events.now fault (core_of core.new)) }
 {
     replay(alloc, core, events)

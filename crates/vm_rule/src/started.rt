@@ -7,7 +7,7 @@ ghost use Rattle.vm_rule.specs.declared.began.Began.{Began};
 ghost use Rattle.vm_rule.specs.Begun.{begun, unborn};
 ghost use Rattle.vm_rule.specs.Layout.{bundles_of};
 ghost use Rattle.vm_rule.specs.Puts.{listed};
-ghost use Rattle.vm_rule.specs.Started.{IsStarted, MayBegin, counts_of, started_shape, started_words, words_in};
+ghost use Rattle.vm_rule.specs.Started.{IsStarted, MayBegin, counts_of, started_shape, started_words, block_words};
 ghost use Rattle.vm_rule.specs.Views.{view_of};
 
 use crate::began::Began;
@@ -34,7 +34,7 @@ impl<U: Owner, B: Block + Drop> Words<U, B> {
         blocks: Vec<B>,
     ) -> Result<(Words<U, B>, Pass<U>), Memory>
         requires fits { IsStarted version next frames (length blocks.items) }
-        requires begins { B.tells ≡ true → MayBegin U.keeps next (words_in (map B.stored blocks.items)) }
+        requires begins { B.tells ≡ true → MayBegin U.keeps next (block_words (map B.stored blocks.items)) }
         ensures key { IfOk result (λ made. made.0.table.shared.key ≡ started_shape B.tells version next frames (map B.stored blocks.items)) }
         ensures pass { IfOk result (λ made. made.1.badge.table_id ≡ made.0.table.shared.table_id) }
         ensures view { IfOk result (λ made. view_of made.1.badge.views ≡ begun (unborn (started_shape B.tells version next frames (map B.stored blocks.items)))) }

@@ -14,10 +14,10 @@ use Rattle.vm_block.specs.declared.stored.Stored.{Stored}
 use Rattle.vm_rule.specs.declared.view.Origin.{Origin}
 use Rattle.vm_rule.specs.declared.view.Snapshot.{Snapshot}
 use Rattle.vm_rule.specs.declared.view.View.{View}
-use Rattle.vm_rule.specs.Layout.{Words, words_of}
+use Rattle.vm_rule.specs.Layout.{Words, table_words}
 use Rattle.vm_rule.specs.Puts.{listed, chosen}
 use Rattle.vm_rule.specs.Views.{any}
-use Rattle.vm_rule.specs.Reading.{no_block, page_from, pages_from, block_of, seats_of, last_in, histories_of, core_of, world_of}
+use Rattle.vm_rule.specs.Reading.{no_block, page_from, pages_from, block_of, seats_of, last_in, histories_of, core_shown, world_of}
 use Rattle.vm_rule.specs.Rule.{logical, is_pending, is_owed, began_of, kept_of, snapshot_of, Ruled}
 use Rattle.vm_rule.proofs.Facts.{any-true, any-here}
 use Rattle.vm_rule.proofs.ListFacts.{at-listed}
@@ -63,9 +63,9 @@ module _ {X : Type 0} where
       (cases_Bool (any f views))
 
 module _ {X B : Type 0} (stored : B → Stored) (keeps : Start → Kept X → Type 0) (tied : Start → ℕ → List ℕ → ℕ → List ℕ → Type 0) (start : Origin) (tells : Bool) (s : Table (Option B) (View X)) (r : Ruled stored keeps tied start tells s) where
-  core-snapshot : core_of stored start s ≡ core_in start (snapshot_of stored start s) s.views
-  core-snapshot i = record (core_of stored start s) {
-    pages = pages-same start.pages (words_of start s.words) (block_of stored s.homes s.views) (at no_block (listed start.pages (block_of stored s.homes s.views))) (seats_of s.views)
+  core-snapshot : core_shown stored start s ≡ core_in start (snapshot_of stored start s) s.views
+  core-snapshot i = record (core_shown stored start s) {
+    pages = pages-same start.pages (table_words start s.words) (block_of stored s.homes s.views) (at no_block (listed start.pages (block_of stored s.homes s.views))) (seats_of s.views)
         (λ p l. sym (at-listed no_block start.pages (block_of stored s.homes s.views) p l)) i;
   }
 
@@ -98,7 +98,7 @@ module _ {X B : Type 0} (stored : B → Stored) (keeps : Start → Kept X → Ty
       ap (chosen start.pages) (fun_ext owes) ∙ (λ i. chosen (sym known.start_known i).pages (λ p. has p v.owed)) in
       λ i. record {
         pages = pages i;
-        next = (words_of (sym known.start_known i) (sym known.words_known i)).next;
+        next = (table_words (sym known.start_known i) (sym known.words_known i)).next;
         owed = owed i;
         history = sym known.history_known i;
       }

@@ -10,7 +10,7 @@ use Rattle.vm_rule.specs.declared.view.Snapshot.{Snapshot}
 use Rattle.vm_rule.specs.declared.view.View.{View}
 use Rattle.vm_rule.specs.Puts.{listed}
 use Rattle.vm_rule.specs.Views.{times_noted, total}
-use Rattle.vm_rule.specs.Reading.{no_block, block_of, core_of}
+use Rattle.vm_rule.specs.Reading.{no_block, block_of, core_shown}
 use Rattle.vm_rule.specs.Rule.{snapshot_of, Ruled}
 use Rattle.vm_rule.proofs.Entries.{total-at}
 use Rattle.vm_rule.proofs.Found.{block-here, outside-here}
@@ -22,7 +22,7 @@ use Rattle.vm_rule_laws.proofs.Alone.{whole-lives}
 
 module _ {X B : Type 0} (stored : B → Stored) (keeps : Start → Kept X → Type 0) (tied : Start → ℕ → List ℕ → ℕ → List ℕ → Type 0) (start : Origin) (tells : Bool) (s : Table (Option B) (View X)) (r : Ruled stored keeps tied start tells s) where
   -- the count of a page's block is the one that the snapshot shows; past the last page both are 0
-  count-shown : (p : ℕ) → ((core_of stored start s).pages p).count ≡ (block_in (snapshot_of stored start s) p).count
+  count-shown : (p : ℕ) → ((core_shown stored start s).pages p).count ≡ (block_in (snapshot_of stored start s) p).count
   count-shown p =
       ⊎_elim
       (λ l. (block-here stored start s p l).1 ∙ ap (λ (b : Stored). b.count) (sym (at-listed no_block start.pages (block_of stored s.homes s.views) p l)))
@@ -38,9 +38,9 @@ module _ {X B : Type 0} (stored : B → Stored) (keeps : Start → Kept X → Ty
       record {
         noted = λ p count some.
             let found = r.faults.noted id v stepped.pass.there p count some in
-            let word : count ≤ ((core_of stored start s).pages p).fault = found.1 in
-            let below : ((core_of stored start s).pages p).fault ≤ ((core_of stored start s).pages p).count = r.faults.below p in
-            let counted : ((core_of stored start s).pages p).count ≡ (block_in v.snapshot p).count = count-shown p ∙ ap (λ (n : Snapshot). (block_in n p).count) (sym shown) in
+            let word : count ≤ ((core_shown stored start s).pages p).fault = found.1 in
+            let below : ((core_shown stored start s).pages p).fault ≤ ((core_shown stored start s).pages p).count = r.faults.below p in
+            let counted : ((core_shown stored start s).pages p).count ≡ (block_in v.snapshot p).count = count-shown p ∙ ap (λ (n : Snapshot). (block_in n p).count) (sym shown) in
             (found.0, omega (arith, word, below, counted));
         once = λ p count below.
             let all : total (λ (y : View X). times_noted p count y.notes) s.views ≤ 1 = r.faults.once p count below in

@@ -15,7 +15,7 @@ use Rattle.vm_rule.specs.declared.view.Origin.{Origin}
 use Rattle.vm_rule.specs.declared.view.Release.{Release}
 use Rattle.vm_rule.specs.declared.view.Snapshot.{Snapshot}
 use Rattle.vm_rule.specs.declared.view.View.{View}
-use Rattle.vm_rule.specs.Layout.{words_of}
+use Rattle.vm_rule.specs.Layout.{table_words}
 use Rattle.vm_rule.specs.Views.{spent, seat_of}
 use Rattle.vm_rule.specs.Reading.{no_block, frame_words, page_from, block_of, seats_of, loads_of, last_in, histories_of}
 use Rattle.vm_rule.specs.Rule.{HoldsNothing, snapshot_of, Ruled}
@@ -44,13 +44,13 @@ module _ {X B : Type 0} (stored : B → Stored) (keeps : Start → Kept X → Ty
 
   pub page-stands : (id : ℕ) (v : View X) → IsWholePass s.views id v → (p : ℕ) → p < start.pages → PageStands start r.releases (snapshot_of stored start s) (seat_of v p) p
   page-stands id v pass p l =
-      let inv : PageInv (length s.views) start.tells (frame_words (words_of start s.words).contents) (page_from (words_of start s.words) (block_of stored s.homes s.views) (seats_of s.views) p) (histories_of start r.releases r.drafts p) (loads_of s.views p) =
-      subst (λ (y : Page). PageInv (length s.views) start.tells (frame_words (words_of start s.words).contents) y (histories_of start r.releases r.drafts p) (loads_of s.views p)) (page-here stored start s p l) (r.inv.pages p) in
+      let inv : PageInv (length s.views) start.tells (frame_words (table_words start s.words).contents) (page_from (table_words start s.words) (block_of stored s.homes s.views) (seats_of s.views) p) (histories_of start r.releases r.drafts p) (loads_of s.views p) =
+      subst (λ (y : Page). PageInv (length s.views) start.tells (frame_words (table_words start s.words).contents) y (histories_of start r.releases r.drafts p) (loads_of s.views p)) (page-here stored start s p l) (r.inv.pages p) in
       let last : (histories_of start r.releases r.drafts p).last ≡ last_in start r.releases p = sym (last-is start r.releases r.drafts p) in
       let words : (histories_of start r.releases r.drafts p).last.words ≡ (last_in start r.releases p).words = ap (λ (y : Version). y.words) last in
       let block : block_in (snapshot_of stored start s) p ≡ block_of stored s.homes s.views p = at-listed no_block start.pages (block_of stored s.homes s.views) p l in
       let here : at spent s.views id ≡ v = at-there spent s.views id v pass.there in
-      let free : (seat_of v p).exclusive ≡ false → state_of ((words_of start s.words).states p) ≢ LOCKED =
+      let free : (seat_of v p).exclusive ≡ false → state_of ((table_words start s.words).states p) ≢ LOCKED =
       λ none locked.
       let one : OneHolder (length s.views) (seats_of s.views p) = inv.locks.held locked in
       ⊎_elim

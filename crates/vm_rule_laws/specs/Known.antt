@@ -13,10 +13,10 @@ use Rattle.vm_rule.specs.declared.view.Origin.{Origin}
 use Rattle.vm_rule.specs.declared.view.Release.{Release}
 use Rattle.vm_rule.specs.declared.view.Snapshot.{Snapshot}
 use Rattle.vm_rule.specs.declared.view.View.{View}
-use Rattle.vm_rule.specs.Layout.{words_of}
+use Rattle.vm_rule.specs.Layout.{table_words}
 use Rattle.vm_rule.specs.Puts.{listed, chosen}
 use Rattle.vm_rule.specs.Views.{IsWhole}
-use Rattle.vm_rule.specs.Reading.{no_block, seats_of, held_of, last_of, core_from, core_of}
+use Rattle.vm_rule.specs.Reading.{no_block, seats_of, frames_held, last_of, core_from, core_shown}
 
 module _ {X : Type 0} where
   -- the pass id of these has this view, with all parts
@@ -31,7 +31,7 @@ module _ {X : Type 0} where
 
   -- the core, from the words and blocks of a snapshot
   abbrev pub core_in : Origin → Snapshot → List (View X) → State
-  core_in start snapshot views = core_from start (length views) (words_of start snapshot.words) (at no_block snapshot.blocks) (seats_of views) (held_of views)
+  core_in start snapshot views = core_from start (length views) (table_words start snapshot.words) (at no_block snapshot.blocks) (seats_of views) (frames_held views)
 
   -- what the layer above keeps, as the pass knows it: the pages with their last words, the next word, the pages that the pass owes, and
   -- the history that it has seen
@@ -39,7 +39,7 @@ module _ {X : Type 0} where
   kept_by v =
       record {
         pages = listed v.start.pages (λ p. (last_of v p).words);
-        next = (words_of v.start v.snapshot.words).next;
+        next = (table_words v.start v.snapshot.words).next;
         owed = chosen v.start.pages (λ p. has p v.owed);
         history = v.seen;
       }
@@ -50,4 +50,4 @@ module _ {X : Type 0} where
     pub releases_known : v.releases ≡ releases
     pub history_known : v.seen ≡ history
     pub words_known : v.snapshot.words ≡ s.words
-    pub core_known : core_of stored start s ≡ core_in v.start v.snapshot s.views
+    pub core_known : core_shown stored start s ≡ core_in v.start v.snapshot s.views

@@ -10,27 +10,28 @@ use Rattle.vm_core.specs.Words.{state_of, version_of, LOCKED, EVICTED}
 use Rattle.vm_rule.specs.declared.view.Origin.{Origin}
 use Rattle.vm_rule.specs.declared.view.Release.{Release}
 use Rattle.vm_rule.specs.declared.view.Snapshot.{Snapshot}
-use Rattle.vm_rule.specs.Layout.{words_of}
+use Rattle.vm_rule.specs.Layout.{table_words}
 use Rattle.vm_rule.specs.Reading.{no_block, frame_words, last_in}
 
 -- what the snapshot shows of page p, and of a frame
 abbrev pub state_in : Origin → Snapshot → ℕ → ℕ
-state_in start snapshot p = state_of ((words_of start snapshot.words).states p)
+state_in start snapshot p = state_of ((table_words start snapshot.words).states p)
 
+-- its version, mapping, fault word and block, and the words of a frame
 abbrev pub version_in : Origin → Snapshot → ℕ → ℕ
-version_in start snapshot p = version_of ((words_of start snapshot.words).states p)
+version_in start snapshot p = version_of ((table_words start snapshot.words).states p)
 
 abbrev pub mapping_in : Origin → Snapshot → ℕ → Option Mapping
-mapping_in start snapshot p = mapping_of ((words_of start snapshot.words).translations p)
+mapping_in start snapshot p = mapping_of ((table_words start snapshot.words).translations p)
 
 abbrev pub fault_in : Origin → Snapshot → ℕ → ℕ
-fault_in start snapshot p = (words_of start snapshot.words).faults p
+fault_in start snapshot p = (table_words start snapshot.words).faults p
 
 abbrev pub block_in : Snapshot → ℕ → Stored
 block_in snapshot p = at no_block snapshot.blocks p
 
-abbrev pub frame_in : Origin → Snapshot → ℕ → List ℕ
-frame_in start snapshot f = frame_words (words_of start snapshot.words).contents f
+abbrev pub contents_in : Origin → Snapshot → ℕ → List ℕ
+contents_in start snapshot f = frame_words (table_words start snapshot.words).contents f
 
 -- the page is at its last version. It is locked at most by the pass itself, whose seat this is. Where it is not locked, it is resident unless
 -- it is evicted, its frame has its last words, and so has its block if the page is clean; of an evicted page the block has them. The fault
@@ -41,7 +42,7 @@ pub record PageStands (start : Origin) (releases : List Release) (snapshot : Sna
   pub unlocked : seat.exclusive ≡ false → state_in start snapshot p ≢ LOCKED
   pub resident : state_in start snapshot p ≢ LOCKED → state_in start snapshot p ≢ EVICTED → IsSome (mapping_in start snapshot p)
   pub evicted : state_in start snapshot p ≡ EVICTED → mapping_in start snapshot p ≡ None
-  pub frame : start.tells ≡ true → state_in start snapshot p ≢ LOCKED → (m : Mapping) → mapping_in start snapshot p ≡ Some m → frame_in start snapshot m.frame ≡ (last_in start releases p).words
+  pub frame : start.tells ≡ true → state_in start snapshot p ≢ LOCKED → (m : Mapping) → mapping_in start snapshot p ≡ Some m → contents_in start snapshot m.frame ≡ (last_in start releases p).words
   pub clean : start.tells ≡ true → state_in start snapshot p ≢ LOCKED → (m : Mapping) → mapping_in start snapshot p ≡ Some m → m.dirty ≡ false → (block_in snapshot p).words ≡ (last_in start releases p).words
   pub device : start.tells ≡ true → state_in start snapshot p ≡ EVICTED → (block_in snapshot p).words ≡ (last_in start releases p).words
   pub fault : seat.exclusive ≡ false → seat.writing ≡ false → fault_in start snapshot p ≡ (block_in snapshot p).count

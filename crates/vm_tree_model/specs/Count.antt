@@ -7,6 +7,7 @@ use Rattle.vm_tree_model.specs.declared.TheConstants.{HALF}
 abbrev pub is_node : List ℕ → Bool
 is_node words = slice_index words 0 == 2 || slice_index words 0 == 3
 
+-- how many pages are leaves or inner nodes
 abbrev pub node_count : List (List ℕ) → ℕ
 node_count pages = sum_by (λ w. if is_node w then 1 else 0) pages
 

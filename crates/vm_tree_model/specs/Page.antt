@@ -42,10 +42,12 @@ pub record IsClean (words : List ℕ) : Type 0 where
   pub seventh : slice_index words 7 ≡ 0
   pub rest : (i : ℕ) → 8 + 2 * slice_index words 1 ≤ i → slice_index words i ≡ 0
 
+-- a leaf
 pub record IsLeaf (words : List ℕ) : Type 0 where
   pub clean : IsClean words
   pub node : IsLeafNode (node_of words)
 
+-- an inner node
 pub record IsInner (words : List ℕ) : Type 0 where
   pub clean : IsClean words
   pub node : IsInnerNode (node_of words)

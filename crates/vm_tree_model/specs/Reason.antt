@@ -58,6 +58,7 @@ abbrev pub fault_of : Walked → Option (ℕ × ℕ)
 fault_of (Ok rows) = None
 fault_of (Err fault) = Some fault
 
+-- the page at fault and its first reason, where the walk meets one
 abbrev pub reason : List (List ℕ) → Option (ℕ × ℕ)
 reason pages = fault_of (walked pages)
 

@@ -2,7 +2,7 @@
 
 ghost use Rattle.std.specs.Prelude.{◌≡◌, ℕ, ◌-◌, ◌^◌, ◌≤◌, length, true, IfOk, is_ok, not};
 ghost use Rattle.vm_block.specs.Blocks.{Reads, Writes};
-ghost use Rattle.vm_block.specs.Memory.{stored_of, words_of, is_planned, IsFresh, IsNext};
+ghost use Rattle.vm_block.specs.Memory.{stored_of, words_of, fails_next, IsNewBlock, IsNextCall};
 
 use crate::block::{Block, Failed};
 use crate::memory::MemBlock;
@@ -14,7 +14,7 @@ impl MemBlock {
     /// A block that holds the words and fails exactly the calls whose numbers are in the plan. Reads and writes are numbered together,
     /// from 1; a call past number 2^64 - 1 has no number, and does not fail.
     pub fn new(alloc: Global, words: PageBuf, plan: &[u64]) -> Result<MemBlock, AllocError>
-        ensures { IfOk result (λ block. IsFresh block words plan.now) }
+        ensures { IfOk result (λ block. IsNewBlock block words plan.now) }
     {
         // A page has 64 words.
         let _ = words.get(0);
@@ -46,8 +46,8 @@ impl Block for MemBlock {
 
     fn read(&mut self, into: &mut PageBuf) -> Result<(), Failed>
         ensures stored { Reads true (stored_of self.old) (stored_of self.new) into.new result }
-        ensures exact { is_ok result ≡ not (is_planned self.old) }
-        ensures next { IsNext self.old self.new }
+        ensures exact { is_ok result ≡ not (fails_next self.old) }
+        ensures next { IsNextCall self.old self.new }
     {
         if self.plan.fails() {
             return Err(Failed);
@@ -59,8 +59,8 @@ impl Block for MemBlock {
 
     fn write(&mut self, words: &PageBuf) -> Result<(), Failed>
         ensures stored { Writes true (stored_of self.old) (stored_of self.new) words.now result }
-        ensures exact { is_ok result ≡ not (is_planned self.old) }
-        ensures next { IsNext self.old self.new }
+        ensures exact { is_ok result ≡ not (fails_next self.old) }
+        ensures next { IsNextCall self.old self.new }
     {
         // The words are taken over only once the plan lets the call through.
         if self.plan.fails() {

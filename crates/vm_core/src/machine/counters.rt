@@ -4,7 +4,7 @@ ghost use Rattle.std.specs.Prelude.{◌≡◌, IsTrue, ◌↔◌};
 ghost use Rattle.vm_core.specs.CoreOf.{Steps};
 ghost use Rattle.vm_core.specs.FrameActs.{MayDirty};
 ghost use Rattle.vm_core.specs.PageOf.{core_of};
-ghost use Rattle.vm_core.specs.Step.{MayClaim, Names};
+ghost use Rattle.vm_core.specs.Step.{MayClaim, NamesActorAndPage};
 ghost use Rattle.vm_core.specs.Words.{hand_more};
 
 use crate::event::{Event, Illegal, Seen};
@@ -24,7 +24,7 @@ impl Core {
 
     /// Whether the actor holds the page exclusively, and it is resident.
     fn may_dirty(&self, a: u32, p: u64) -> bool
-        requires { Names (core_of self.now) a p }
+        requires { NamesActorAndPage (core_of self.now) a p }
         ensures { IsTrue result ↔ MayDirty ((core_of self.now).pages p) a }
     {
         self.pages[p as usize].may_dirty(a as usize)

@@ -4,7 +4,7 @@ ghost use Rattle.std.specs.Prelude.{ℕ, slice_index, ◌≡◌, ◌<◌, IsTrue
 ghost use Rattle.vm_core.specs.CoreOf.{ClearFrame, Steps};
 ghost use Rattle.vm_core.specs.FrameActs.{HoldsAt, load_frame};
 ghost use Rattle.vm_core.specs.PageOf.{core_of};
-ghost use Rattle.vm_core.specs.Step.{MayPut, MayStore, Names, put_under, stored_at, taken_out};
+ghost use Rattle.vm_core.specs.Step.{MayPut, MayStore, NamesActorAndPage, put_under, stored_at, taken_out};
 
 use crate::event::{Event, Illegal, Seen};
 use crate::frames::frame_words;
@@ -56,7 +56,7 @@ impl Core {
 
     /// The frame of a page that the actor may clear.
     fn clear_frame(&self, a: u32, p: u32) -> Option<u32>
-        requires { Names (core_of self.now) a p }
+        requires { NamesActorAndPage (core_of self.now) a p }
         ensures { ClearFrame ((core_of self.now).pages p) a result }
     {
         self.pages[p as usize].clear_frame(a as usize)
@@ -64,7 +64,7 @@ impl Core {
 
     /// The page's frame goes to the actor.
     fn unmap_frame(&mut self, a: u32, p: u32, f: u32)
-        requires names { Names (core_of self.old) a p }
+        requires names { NamesActorAndPage (core_of self.old) a p }
         requires holds { HoldsAt ((core_of self.old).pages p) a f false }
         ensures { core_of self.new ≡ taken_out (core_of self.old) a p }
     {
@@ -90,7 +90,7 @@ impl Core {
 
     /// The frame that a load of the actor reads.
     fn load_frame(&self, a: u32, p: u32) -> Option<u32>
-        requires { Names (core_of self.now) a p }
+        requires { NamesActorAndPage (core_of self.now) a p }
         ensures { result ≡ load_frame ((core_of self.now).pages p) a }
     {
         self.pages[p as usize].load_frame(a as usize)

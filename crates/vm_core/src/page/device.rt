@@ -3,7 +3,7 @@
 ghost use Rattle.std.specs.Prelude.{◌≡◌, ◌<◌, IsTrue, [], length, ◌↔◌};
 ghost use Rattle.vm_core.specs.CoreOf.{PageSteps};
 ghost use Rattle.vm_core.specs.DeviceActs.{MayCall, MayWrite, block_after, failed};
-ghost use Rattle.vm_core.specs.PageOf.{page_of, words_of};
+ghost use Rattle.vm_core.specs.PageOf.{page_of, words_of_frames};
 ghost use Rattle.vm_core.specs.Words.{count_more};
 
 use crate::event::{Illegal, Mapping, PageAct, Seen};
@@ -113,7 +113,7 @@ fn count_more(count: u64) -> u64
 
 /// The words of the block after a write.
 fn block_after(frames: &[[u64; WORDS]], trans: Option<Mapping>, block: [u64; WORDS]) -> [u64; WORDS]
-    ensures { result ≡ block_after (words_of frames.now) trans block }
+    ensures { result ≡ block_after (words_of_frames frames.now) trans block }
 {
     match trans {
         None => block,

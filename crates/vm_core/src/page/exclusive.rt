@@ -3,7 +3,7 @@
 ghost use Rattle.std.specs.Prelude.{◌≡◌, ◌<◌, ◌⊎◌, IsTrue, [], length, ◌↔◌};
 ghost use Rattle.vm_core.specs.CoreOf.{PageSteps};
 ghost use Rattle.vm_core.specs.PageOf.{page_of};
-ghost use Rattle.vm_core.specs.StateActs.{MayEmpty, MayRelease, MayUpgrade, downgraded, emptied, locked, released, upgraded};
+ghost use Rattle.vm_core.specs.StateActs.{MayEmpty, MayReleaseLock, MayUpgrade, downgraded, emptied, locked, released, upgraded};
 ghost use Rattle.vm_core.specs.Words.{UNLOCKED, MARKED, EVICTED, state_of, version_of};
 
 use crate::event::{Illegal, PageAct, Seat, Seen};
@@ -96,7 +96,7 @@ impl PageCell {
     /// Whether the actor holds the page exclusively, it is resident, and the faults of its block are told.
     fn may_release(&self, a: usize) -> bool
         requires { a < length self.now.seats }
-        ensures { IsTrue result ↔ MayRelease (page_of self.now) a }
+        ensures { IsTrue result ↔ MayReleaseLock (page_of self.now) a }
     {
         self.seats[a].exclusive && self.trans.is_some() && self.fault == self.count
     }
@@ -117,7 +117,7 @@ impl PageCell {
     /// The release of the exclusive lock, at the next version.
     fn release(&mut self, a: usize)
         requires seat { a < length self.old.seats }
-        requires may { MayRelease (page_of self.old) a }
+        requires may { MayReleaseLock (page_of self.old) a }
         ensures page { page_of self.new ≡ released (page_of self.old) a }
         ensures seats { length self.new.seats ≡ length self.old.seats }
     {
@@ -167,7 +167,7 @@ impl PageCell {
     /// The exclusive lock becomes a share, at the next version.
     fn downgrade(&mut self, a: usize)
         requires seat { a < length self.old.seats }
-        requires may { MayRelease (page_of self.old) a }
+        requires may { MayReleaseLock (page_of self.old) a }
         ensures page { page_of self.new ≡ downgraded (page_of self.old) a }
         ensures seats { length self.new.seats ≡ length self.old.seats }
     {

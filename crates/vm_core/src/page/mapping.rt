@@ -3,7 +3,7 @@
 ghost use Rattle.std.specs.Prelude.{◌≡◌, ◌<◌, IsTrue, true, [], length, ◌↔◌};
 ghost use Rattle.vm_core.specs.CoreOf.{ClearFrame, PageSteps};
 ghost use Rattle.vm_core.specs.FrameActs.{HoldsAt, MayClean, MayDirty, MayInstall, cleared, installed, with_dirty};
-ghost use Rattle.vm_core.specs.PageOf.{page_of, words_of};
+ghost use Rattle.vm_core.specs.PageOf.{page_of, words_of_frames};
 
 use crate::event::{Illegal, Mapping, PageAct, Seen};
 use crate::frames::frame_words;
@@ -88,7 +88,7 @@ impl PageCell {
     /// Whether the actor writes the page back, and the block has the words of its frame.
     fn may_clean(&self, a: usize, frames: &[[u64; WORDS]]) -> bool
         requires { a < length self.now.seats }
-        ensures { IsTrue result ↔ MayClean true (words_of frames.now) (page_of self.now) a }
+        ensures { IsTrue result ↔ MayClean true (words_of_frames frames.now) (page_of self.now) a }
     {
         if !self.seats[a].writing {
             return false;

@@ -3,7 +3,7 @@
 ghost use Rattle.std.specs.Prelude.{◌≡◌, ◌<◌, ◌≤◌, ◌⊎◌, [], length};
 ghost use Rattle.vm_core.specs.CoreOf.{PageSteps};
 ghost use Rattle.vm_core.specs.PageOf.{page_of};
-ghost use Rattle.vm_core.specs.StateActs.{MayUnlock, marked, one_more, shared, unlocked, unmarked, unshared, write_locked};
+ghost use Rattle.vm_core.specs.StateActs.{MayUnlock, marked, one_share_more, shared, unlocked, unmarked, unshared, write_locked};
 ghost use Rattle.vm_core.specs.Words.{UNLOCKED, MARKED};
 
 use crate::event::{Illegal, PageAct, Seat, Seen};
@@ -152,7 +152,7 @@ impl PageCell {
 /// The state with one share more.
 fn one_more(state: u8) -> u8
     requires { state < 255 }
-    ensures { result ≡ one_more state }
+    ensures { result ≡ one_share_more state }
 {
     if state == StateWord::MARKED {
         1

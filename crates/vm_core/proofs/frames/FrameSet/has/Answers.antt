@@ -1,12 +1,12 @@
 use Rattle.std.proofs.Common.{ℕ, ap, eqb, sym, ◌∙◌, subst, ◌<◌, length, List, ◌/◌, ◌%◌}
 use Rattle.std.specs.Int.{bit_at}
 use Rattle.std.proofs.lemmas.Nat.Bits.{shr_and_one}
-use Rattle.vm_core.specs.Words.{is_free}
+use Rattle.vm_core.specs.Words.{has_free_bit}
 use Rattle.vm_core.proofs.At.{at-value}
 use Rattle.vm_core.proofs.frames.FrameSet.has.Goals as goal
 
 pub returns : goal.returns
-unfolding is_free
+unfolding has_free_bit
 returns c =
     let lt = subst (λ (x : List ℕ). c.args.f / 64 < length x) (sym c.self.view_is) c.requires in
     rw (← c.self.view_is) (ap (λ y. eqb y 1) (shr_and_one _ _) ∙ ap (λ y. eqb (bit_at y (c.args.f % 64)) 1) (sym (at-value 0 c.self.inside.masks.items (c.args.f / 64) _ lt c.index.ensures)))

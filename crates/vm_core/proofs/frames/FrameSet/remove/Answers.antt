@@ -1,6 +1,6 @@
 use Rattle.std.proofs.Common.{ℕ, ap, sym, ◌∙◌, subst, ◌<◌, length, List, ◌/◌}
 use Rattle.vm_core.specs.Fn.{at}
-use Rattle.vm_core.specs.Words.{is_free}
+use Rattle.vm_core.specs.Words.{has_free_bit}
 use Rattle.vm_core.proofs.At.{at_set, at-value}
 use Rattle.vm_core.proofs.Masks.{cleared-free}
 use Rattle.vm_core.proofs.frames.FrameSet.remove.Goals as goal
@@ -8,4 +8,4 @@ use Rattle.vm_core.proofs.frames.FrameSet.remove.Goals as goal
 pub returns-clause-words : goal.returns-clause-words
 returns-clause-words c =
     let lt = subst (λ (x : List ℕ). c.args.f / 64 < length x) (sym c.self.view_is) c.requires in
-    rw (← c.self.view_is) (ap is_free (at_set 0 c.self.inside.masks.items (c.args.f / 64) _ lt) ∙ cleared-free (at 0 c.self.inside.masks.items) c.args.f _ (at-value 0 c.self.inside.masks.items (c.args.f / 64) _ lt c.index_mut.ensures.value))
+    rw (← c.self.view_is) (ap has_free_bit (at_set 0 c.self.inside.masks.items (c.args.f / 64) _ lt) ∙ cleared-free (at 0 c.self.inside.masks.items) c.args.f _ (at-value 0 c.self.inside.masks.items (c.args.f / 64) _ lt c.index_mut.ensures.value))

@@ -1,14 +1,14 @@
 use Rattle.std.proofs.Common.{◌≡◌, ◌<◌, ◌+◌, ◌/◌, false, sym, subst, length, arith}
 use Rattle.vm_core.specs.FrameActs.{HoldsAt}
 use Rattle.vm_core.specs.PageOf.{CoreData, core_of}
-use Rattle.vm_core.specs.Step.{Names}
+use Rattle.vm_core.specs.Step.{NamesActorAndPage}
 use Rattle.vm_core.proofs.At.{frame-in}
 use Rattle.vm_core.proofs.Masks.{row-length, core-cleared}
 use Rattle.vm_core.proofs.machine.Core.unmap_frame.Goals as goal
 
 pub insert-requires : goal.insert-requires
 insert-requires c =
-    let m = subst (λ (x : CoreData). Names (core_of x) c.args.a c.args.p) (sym c.self.view_is) c.requires.names in
+    let m = subst (λ (x : CoreData). NamesActorAndPage (core_of x) c.args.a c.args.p) (sym c.self.view_is) c.requires.names in
     let h = subst (λ (x : CoreData). HoldsAt ((core_of x).pages c.args.p) c.args.a c.args.f false) (sym c.self.view_is) c.requires.holds in
     let la : c.args.a < length c.self.inside.held.items = omega (arith, c.self.invariant.held, m.actor) in
     let lp : c.args.p < length c.self.inside.pages.items = omega (arith, c.self.invariant.pages, m.page) in
@@ -18,7 +18,7 @@ insert-requires c =
 
 pub returns : goal.returns
 returns c =
-    let m = subst (λ (x : CoreData). Names (core_of x) c.args.a c.args.p) (sym c.self.view_is) c.requires.names in
+    let m = subst (λ (x : CoreData). NamesActorAndPage (core_of x) c.args.a c.args.p) (sym c.self.view_is) c.requires.names in
     let h = subst (λ (x : CoreData). HoldsAt ((core_of x).pages c.args.p) c.args.a c.args.f false) (sym c.self.view_is) c.requires.holds in
     let la : c.args.a < length c.self.inside.held.items = omega (arith, c.self.invariant.held, m.actor) in
     let lp : c.args.p < length c.self.inside.pages.items = omega (arith, c.self.invariant.pages, m.page) in
