@@ -5,19 +5,19 @@ use Rattle.std.proofs.lemmas.Bool.Decides.{nat_tests}
 use Rattle.vm_owner.specs.Numbers.{has, AreApart}
 use Rattle.vm_rule.proofs.Heard.{each-both}
 use Rattle.vm_step.proofs.Groups.{apart-end}
-use Rattle.vm_step.specs.Choices.{AreCandidates, IsCandidate, pages_of}
+use Rattle.vm_step.specs.Choices.{AreCandidates, IsCandidate, candidate_pages}
 
 -- one place further in the list
-pub has-next : (p : ℕ) (l : List (ℕ × ℕ)) (i : ℕ) (d : ℕ × ℕ) → i < length l → (slice_index_or l i d).0 ≢ p → has p (pages_of (take i l)) ≡ false → has p (pages_of (take (suc i) l)) ≡ false
+pub has-next : (p : ℕ) (l : List (ℕ × ℕ)) (i : ℕ) (d : ℕ × ℕ) → i < length l → (slice_index_or l i d).0 ≢ p → has p (candidate_pages (take i l)) ≡ false → has p (candidate_pages (take (suc i) l)) ≡ false
 has-next p [] i d lt ne none = absurd (omega (arith, lt))
 has-next p (x ∷ xs) zero d lt ne none = rw (ne_eqb p x.0 (λ e. ne (sym e))) refl
 has-next p (x ∷ xs) (suc i) d lt ne none =
     let other : p ≢ x.0 = grind (arith, nat_tests, none) in
-    let rest : has p (pages_of (take i xs)) ≡ false = grind (arith, nat_tests, none) in
+    let rest : has p (candidate_pages (take i xs)) ≡ false = grind (arith, nat_tests, none) in
     rw (ne_eqb p x.0 other) (has-next p xs i d (omega (arith, lt)) ne rest)
 
 -- the page at a place of the list is one of it
-pub has-at : (p : ℕ) (l : List (ℕ × ℕ)) (i : ℕ) (d : ℕ × ℕ) → i < length l → (slice_index_or l i d).0 ≡ p → has p (pages_of l) ≡ true
+pub has-at : (p : ℕ) (l : List (ℕ × ℕ)) (i : ℕ) (d : ℕ × ℕ) → i < length l → (slice_index_or l i d).0 ≡ p → has p (candidate_pages l) ≡ true
 has-at p [] i d lt e = absurd (omega (arith, lt))
 has-at p (x ∷ xs) zero d lt e = rw (eq-eqb p x.0 (sym e)) refl
 has-at p (x ∷ xs) (suc i) d lt e = rw (has-at p xs i d (omega (arith, lt)) e) (either-true (p == x.0))
@@ -26,14 +26,14 @@ has-at p (x ∷ xs) (suc i) d lt e = rw (has-at p xs i d (omega (arith, lt)) e) 
     either-true true = refl
     either-true false = refl
 
-pub pages-end : (l : List (ℕ × ℕ)) (c : ℕ × ℕ) → pages_of (l ++ c ∷ []) ≡ pages_of l ++ c.0 ∷ []
+pub pages-end : (l : List (ℕ × ℕ)) (c : ℕ × ℕ) → candidate_pages (l ++ c ∷ []) ≡ candidate_pages l ++ c.0 ∷ []
 pages-end [] c = refl
 pages-end (x ∷ xs) c = ap (λ (t : List ℕ). x.0 ∷ t) (pages-end xs c)
 
 -- one candidate more, of another page
-pub candidates-end : (pages : ℕ) (l : List (ℕ × ℕ)) (c : ℕ × ℕ) → AreCandidates pages l → has c.0 (pages_of l) ≡ false → IsCandidate pages c → AreCandidates pages (l ++ c ∷ [])
+pub candidates-end : (pages : ℕ) (l : List (ℕ × ℕ)) (c : ℕ × ℕ) → AreCandidates pages l → has c.0 (candidate_pages l) ≡ false → IsCandidate pages c → AreCandidates pages (l ++ c ∷ [])
 candidates-end pages l c are new is = record {
-  apart = subst AreApart (sym (pages-end l c)) (apart-end (pages_of l) c.0 are.apart new);
+  apart = subst AreApart (sym (pages-end l c)) (apart-end (candidate_pages l) c.0 are.apart new);
   each = each-both (IsCandidate pages) l (c ∷ []) are.each (is, tt);
 }
 

@@ -18,10 +18,10 @@ use Rattle.vm_rule.proofs.Facts.{has-both}
 use Rattle.vm_rule.proofs.Heard.{each-both}
 use Rattle.vm_rule.proofs.WordFacts.{version-within, word-state}
 use Rattle.vm_step.specs.Alone.{Follows, IsAlone, RunsAlone}
-use Rattle.vm_step.specs.Choices.{IsHeld, pages_of}
+use Rattle.vm_step.specs.Choices.{IsHeld, candidate_pages}
 use Rattle.vm_step.specs.declared.choice.Looks.{Looks}
 use Rattle.vm_step.proofs.Tables.{else-knows, follows-between, follows-kept, follows-length}
-use Rattle.vm_clock.specs.Clock.{IsPassed, IsWalked, KnowsWalked, Visits, Visits as visits, Walks, passed_word}
+use Rattle.vm_clock.specs.Clock.{IsPassed, IsWalked, KnowsWalked, Visits, Visits as visits, WalksPages, passed_word}
 use Rattle.vm_clock.proofs.Choices.{pages-end}
 
 -- ---- the word of one page
@@ -54,7 +54,7 @@ pass-twice word =
 
 -- the words before and after a visit of page p
 data Passes (chosen : List (ℕ × ℕ)) (p : ℕ) (a b : List ℕ) : Type 0 where
-  again : has p (pages_of chosen) ≡ true → b ≡ a → Passes chosen p a b
+  again : has p (candidate_pages chosen) ≡ true → b ≡ a → Passes chosen p a b
   stays : passed_word (slice_index a p) ≡ slice_index a p → b ≡ a → Passes chosen p a b
   marks : b ≡ slice_set a p (passed_word (slice_index a p)) → Passes chosen p a b
 
@@ -94,7 +94,7 @@ module _ (start : Origin) where
   passed-other p q chosen a b ne (marks e) = ap (λ (l : List ℕ). slice_index l q) e ∙ get_or-set_other a p q _ 0 ne
 
   -- the word of the page before all visits: it has been left as it is, or passed, and that where the page was chosen
-  passed-here : (p word : ℕ) (chosen : List (ℕ × ℕ)) (a b : List ℕ) → p < length a → (slice_index a p ≡ word) ⊎ (slice_index a p ≡ passed_word word) → (has p (pages_of chosen) ≡ true → slice_index a p ≡ passed_word word) → Passes chosen p a b
+  passed-here : (p word : ℕ) (chosen : List (ℕ × ℕ)) (a b : List ℕ) → p < length a → (slice_index a p ≡ word) ⊎ (slice_index a p ≡ passed_word word) → (has p (candidate_pages chosen) ≡ true → slice_index a p ≡ passed_word word) → Passes chosen p a b
       → slice_index b p ≡ passed_word word
   passed-here p word chosen a b inside before known (again is e) = ap (λ (l : List ℕ). slice_index l p) e ∙ known is
   passed-here p word chosen a b inside before known (stays is e) =
@@ -116,18 +116,18 @@ visit-at p steps chosen list old new (visits.found word look state fresh e l) = 
 visit-at p steps chosen list old new (visits.lost word other ne look state fresh e l) = subst (Each (λ (d : Did). d.at ≡ places.State p)) (sym look.steps_are) (refl, (refl, tt))
 visit-at p steps chosen list old new (visits.marked word look state fresh e l) = subst (Each (λ (d : Did). d.at ≡ places.State p)) (sym look.steps_are) (refl, (refl, tt))
 
-chosen-more : (p q : ℕ) (steps : List Did) (chosen list : List (ℕ × ℕ)) (old new : Looks) → Visits chosen p steps old new list → has q (pages_of list) ≡ true → (has q (pages_of chosen) ≡ true) ⊎ (q ≡ p)
-chosen-more p q steps chosen list old new (visits.again word is steps_are e l) h = inl (ap (λ c. has q (pages_of c)) (sym l) ∙ h)
-chosen-more p q steps chosen list old new (visits.gone word look state e l) h = inl (ap (λ c. has q (pages_of c)) (sym l) ∙ h)
-chosen-more p q steps chosen list old new (visits.held word look held e l) h = inl (ap (λ c. has q (pages_of c)) (sym l) ∙ h)
-chosen-more p q steps chosen list old new (visits.worn word look state last e l) h = inl (ap (λ c. has q (pages_of c)) (sym l) ∙ h)
-chosen-more p q steps chosen list old new (visits.lost word other ne look state fresh e l) h = inl (ap (λ c. has q (pages_of c)) (sym l) ∙ h)
-chosen-more p q steps chosen list old new (visits.marked word look state fresh e l) h = inl (ap (λ c. has q (pages_of c)) (sym l) ∙ h)
+chosen-more : (p q : ℕ) (steps : List Did) (chosen list : List (ℕ × ℕ)) (old new : Looks) → Visits chosen p steps old new list → has q (candidate_pages list) ≡ true → (has q (candidate_pages chosen) ≡ true) ⊎ (q ≡ p)
+chosen-more p q steps chosen list old new (visits.again word is steps_are e l) h = inl (ap (λ c. has q (candidate_pages c)) (sym l) ∙ h)
+chosen-more p q steps chosen list old new (visits.gone word look state e l) h = inl (ap (λ c. has q (candidate_pages c)) (sym l) ∙ h)
+chosen-more p q steps chosen list old new (visits.held word look held e l) h = inl (ap (λ c. has q (candidate_pages c)) (sym l) ∙ h)
+chosen-more p q steps chosen list old new (visits.worn word look state last e l) h = inl (ap (λ c. has q (candidate_pages c)) (sym l) ∙ h)
+chosen-more p q steps chosen list old new (visits.lost word other ne look state fresh e l) h = inl (ap (λ c. has q (candidate_pages c)) (sym l) ∙ h)
+chosen-more p q steps chosen list old new (visits.marked word look state fresh e l) h = inl (ap (λ c. has q (candidate_pages c)) (sym l) ∙ h)
 chosen-more p q steps chosen list old new (visits.found word look state fresh e l) h =
-    let both : (has q (pages_of chosen) || (eqb q p || false)) ≡ true = sym (has-both q (pages_of chosen) (p ∷ [])) ∙ ap (has q) (sym (pages-end chosen (p, word))) ∙ ap (λ c. has q (pages_of c)) (sym l) ∙ h in
+    let both : (has q (candidate_pages chosen) || (eqb q p || false)) ≡ true = sym (has-both q (candidate_pages chosen) (p ∷ [])) ∙ ap (has q) (sym (pages-end chosen (p, word))) ∙ ap (λ c. has q (candidate_pages c)) (sym l) ∙ h in
     ⊎_elim
     (λ (e : q ≡ p). inr e)
-    (λ ne. inl (sym (or-none (has q (pages_of chosen))) ∙ ap (λ b. has q (pages_of chosen) || (b || false)) (sym (ne_eqb q p ne)) ∙ both))
+    (λ ne. inl (sym (or-none (has q (candidate_pages chosen))) ∙ ap (λ b. has q (candidate_pages chosen) || (b || false)) (sym (ne_eqb q p ne)) ∙ both))
     (cases_eq q p)
   where
     or-none : (b : Bool) → (b || false) ≡ b
@@ -136,7 +136,7 @@ chosen-more p q steps chosen list old new (visits.found word look state fresh e 
 
 module _ (want pages drawn : ℕ) where
   -- each step is at the state word of a page passed
-  pub walk-at : (k : ℕ) (done : List Did) (looks : Looks) (list : List (ℕ × ℕ)) → Walks want pages drawn k done looks list → Each (λ (d : Did). (q : ℕ) × (d.at ≡ places.State q) × IsPassed pages drawn k q) done
+  pub walk-at : (k : ℕ) (done : List Did) (looks : Looks) (list : List (ℕ × ℕ)) → WalksPages want pages drawn k done looks list → Each (λ (d : Did). (q : ℕ) × (d.at ≡ places.State q) × IsPassed pages drawn k q) done
   walk-at zero done looks list w = subst (Each (λ (d : Did). (q : ℕ) × (d.at ≡ places.State q) × IsPassed pages drawn 0 q)) (sym w.0) tt
   walk-at (suc k) done looks list (before, steps, old, chosen, cut, walk, room, visit) =
       let P : Did → Type 0 = λ d. (q : ℕ) × (d.at ≡ places.State q) × IsPassed pages drawn (suc k) q in
@@ -145,8 +145,8 @@ module _ (want pages drawn : ℕ) where
       (each-map _ P (λ (d : Did) h. ((drawn + k) % pages, h, (k, omega arith, refl))) steps (visit-at _ steps chosen list old looks visit)))
 
   -- the candidates are pages that were passed
-  chosen-passed : (k q : ℕ) (done : List Did) (looks : Looks) (list : List (ℕ × ℕ)) → Walks want pages drawn k done looks list → has q (pages_of list) ≡ true → IsPassed pages drawn k q
-  chosen-passed zero q done looks list w h = absurd (true≢false (sym h ∙ ap (λ c. has q (pages_of c)) w.2))
+  chosen-passed : (k q : ℕ) (done : List Did) (looks : Looks) (list : List (ℕ × ℕ)) → WalksPages want pages drawn k done looks list → has q (candidate_pages list) ≡ true → IsPassed pages drawn k q
+  chosen-passed zero q done looks list w h = absurd (true≢false (sym h ∙ ap (λ c. has q (candidate_pages c)) w.2))
   chosen-passed (suc k) q done looks list (before, steps, old, chosen, cut, walk, room, visit) h =
       ⊎_elim
       (λ c. passed-more pages drawn k q (chosen-passed k q before old chosen walk c))
@@ -158,7 +158,7 @@ module _ (want pages drawn : ℕ) where
     pub passed : IsPassed pages drawn k q → slice_index b q ≡ passed_word (slice_index a q)
     pub either : (slice_index b q ≡ slice_index a q) ⊎ (slice_index b q ≡ passed_word (slice_index a q))
 
-  pub walk-words : (start : Origin) (k q : ℕ) (done : List Did) (looks : Looks) (list : List (ℕ × ℕ)) (a b : List ℕ) → q < length a → Walks want pages drawn k done looks list → Follows start done a b → IsLeftBy k q a b
+  pub walk-words : (start : Origin) (k q : ℕ) (done : List Did) (looks : Looks) (list : List (ℕ × ℕ)) (a b : List ℕ) → q < length a → WalksPages want pages drawn k done looks list → Follows start done a b → IsLeftBy k q a b
   walk-words start zero q done looks list a b inside w f =
       let same : b ≡ a = subst (λ ds. Follows start ds a b) w.0 f in
       record { passed = λ p. absurd (let low : p.0 < 0 = p.1 in omega (arith, low)); either = inl (ap (λ (l : List ℕ). slice_index l q) same) }
@@ -188,7 +188,7 @@ module _ (want pages drawn : ℕ) where
 
 -- ---- the table
 
-module _ {X : Type 0} (want drawn count : ℕ) (steps : List Did) (looks : Looks) (list : List (ℕ × ℕ)) (v w : View X) (same : w.start ≡ v.start) (walk : Walks want v.start.pages drawn count steps looks list) (most : count ≤ 2 * v.start.pages)
+module _ {X : Type 0} (want drawn count : ℕ) (steps : List Did) (looks : Looks) (list : List (ℕ × ℕ)) (v w : View X) (same : w.start ≡ v.start) (walk : WalksPages want v.start.pages drawn count steps looks list) (most : count ≤ 2 * v.start.pages)
     (runs : RunsAlone (did_change places.Hand drawn (hand_more drawn) ∷ steps) [] v w) (alone : IsAlone v) where
   abbrev hand-did : Did
   hand-did = did_change places.Hand drawn (hand_more drawn)

@@ -12,21 +12,21 @@ use Rattle.vm_step.specs.Alone.{RunsAlone}
 use Rattle.vm_step.proofs.Alone.{runs-one, runs-then}
 use Rattle.vm_step.proofs.Asides.{OnlyReads, aside-within, hand-only, only-then}
 use Rattle.vm_step.specs.declared.choice.Looks.{Looks}
-use Rattle.vm_clock.specs.Clock.{IsChosen, IsPassed, IsVisited, Visits, Visits as visits, Walks, no_looks, total}
+use Rattle.vm_clock.specs.Clock.{IsChosen, IsPassed, IsPageVisited, Visits, Visits as visits, WalksPages, no_looks, looks_counted}
 use Rattle.vm_step.specs.Choices.{AreCandidates}
 use Rattle.vm_clock.proofs.Choices.{candidates-end, no-candidates}
 use Rattle.vm_clock.proofs.Passing.{passed-more, walked-knows}
 
 -- ---- one visit
 
-one-counted : (p : ℕ) (steps : List Did) (chosen list : List (ℕ × ℕ)) (old new : Looks) → Visits chosen p steps old new list → total new ≡ suc (total old)
-one-counted p steps chosen list old new (visits.again word is steps_are e l) = ap total e ∙ omega arith
-one-counted p steps chosen list old new (visits.gone word look state e l) = ap total e ∙ omega arith
-one-counted p steps chosen list old new (visits.held word look held e l) = ap total e ∙ omega arith
-one-counted p steps chosen list old new (visits.worn word look state last e l) = ap total e ∙ omega arith
-one-counted p steps chosen list old new (visits.marked word look state fresh e l) = ap total e ∙ omega arith
-one-counted p steps chosen list old new (visits.lost word other ne look state fresh e l) = ap total e ∙ omega arith
-one-counted p steps chosen list old new (visits.found word look state fresh e l) = ap total e ∙ omega arith
+one-counted : (p : ℕ) (steps : List Did) (chosen list : List (ℕ × ℕ)) (old new : Looks) → Visits chosen p steps old new list → looks_counted new ≡ suc (looks_counted old)
+one-counted p steps chosen list old new (visits.again word is steps_are e l) = ap looks_counted e ∙ omega arith
+one-counted p steps chosen list old new (visits.gone word look state e l) = ap looks_counted e ∙ omega arith
+one-counted p steps chosen list old new (visits.held word look held e l) = ap looks_counted e ∙ omega arith
+one-counted p steps chosen list old new (visits.worn word look state last e l) = ap looks_counted e ∙ omega arith
+one-counted p steps chosen list old new (visits.marked word look state fresh e l) = ap looks_counted e ∙ omega arith
+one-counted p steps chosen list old new (visits.lost word other ne look state fresh e l) = ap looks_counted e ∙ omega arith
+one-counted p steps chosen list old new (visits.found word look state fresh e l) = ap looks_counted e ∙ omega arith
 
 same-list : (chosen list : List (ℕ × ℕ)) → list ≡ chosen → length list ≤ suc (length chosen)
 same-list chosen list e = let n : length list ≡ length chosen = ap (λ l. length l) e in omega (arith, n)
@@ -55,17 +55,17 @@ still-candidates pages p steps chosen list old new page are (visits.found word l
 
 module _ (want pages drawn : ℕ) where
   -- each look is counted once
-  pub all-counted : (k : ℕ) (done : List Did) (looks : Looks) (list : List (ℕ × ℕ)) → Walks want pages drawn k done looks list → total looks ≡ k
-  all-counted zero done looks list w = ap total w.1
+  pub all-counted : (k : ℕ) (done : List Did) (looks : Looks) (list : List (ℕ × ℕ)) → WalksPages want pages drawn k done looks list → looks_counted looks ≡ k
+  all-counted zero done looks list w = ap looks_counted w.1
   all-counted (suc k) done looks list (before, steps, old, chosen, cut, walk, room, visit) = one-counted _ _ _ _ _ _ visit ∙ ap suc (all-counted k before old chosen walk)
 
   -- no more are chosen than were wanted
-  pub few-chosen : (k : ℕ) (done : List Did) (looks : Looks) (list : List (ℕ × ℕ)) → Walks want pages drawn k done looks list → length list ≤ want
+  pub few-chosen : (k : ℕ) (done : List Did) (looks : Looks) (list : List (ℕ × ℕ)) → WalksPages want pages drawn k done looks list → length list ≤ want
   few-chosen zero done looks list w = let n : length list ≡ 0 = ap (λ (l : List (ℕ × ℕ)). length l) w.2 in omega (arith, n)
   few-chosen (suc k) done looks list (before, steps, old, chosen, cut, walk, room, visit) = let n = one-more _ _ _ _ _ _ visit in omega (arith, n, room)
 
   -- and those are candidates: there is a page where there is a look
-  pub are-candidates : (k : ℕ) (done : List Did) (looks : Looks) (list : List (ℕ × ℕ)) → k ≤ 2 * pages → Walks want pages drawn k done looks list → AreCandidates pages list
+  pub are-candidates : (k : ℕ) (done : List Did) (looks : Looks) (list : List (ℕ × ℕ)) → k ≤ 2 * pages → WalksPages want pages drawn k done looks list → AreCandidates pages list
   are-candidates zero done looks list most w = subst (AreCandidates pages) (sym w.2) (no-candidates pages)
   are-candidates (suc k) done looks list most (before, steps, old, chosen, cut, walk, room, visit) =
       still-candidates pages _ _ _ _ _ _ (mod-lt (drawn + k) (omega (arith, most))) (are-candidates k before old chosen (omega (arith, most)) walk) visit
@@ -74,7 +74,7 @@ module _ {X : Type 0} (want drawn : ℕ) where
   -- a walk of k visits so far, from the place drawn
   pub record IsWalking (k : ℕ) (looks : Looks) (list : List (ℕ × ℕ)) (v w : View X) : Type 0 where
     pub steps : List Did
-    pub walk : Walks want v.start.pages drawn k steps looks list
+    pub walk : WalksPages want v.start.pages drawn k steps looks list
     pub only : OnlyReads (IsPassed v.start.pages drawn k) (did_change places.Hand drawn (hand_more drawn) ∷ steps) v w
     pub alone : RunsAlone (did_change places.Hand drawn (hand_more drawn) ∷ steps) [] v w
 
@@ -88,7 +88,7 @@ module _ {X : Type 0} (want drawn : ℕ) where
 
   -- one visit more
   pub walking-on : (k p : ℕ) (old new : Looks) (chosen list : List (ℕ × ℕ)) (v w x : View X) → IsWalking k old chosen v w → length chosen < want → p ≡ (drawn % v.start.pages + k) % v.start.pages
-      → IsVisited p old chosen new list w x → IsWalking (suc k) new list v x
+      → IsPageVisited p old chosen new list w x → IsWalking (suc k) new list v x
   walking-on k p old new chosen list v w x so-far room at visited =
       let more : ℕ → Type 0 = IsPassed v.start.pages drawn (suc k) in
       let all-steps : List Did = did_change places.Hand drawn (hand_more drawn) ∷ so-far.steps in
@@ -108,7 +108,7 @@ module _ {X : Type 0} (want drawn : ℕ) where
     walked-list pages is most =
         subst (λ n. AreCandidates n list) is (are-candidates want v.start.pages drawn k walking.steps looks list (subst (λ n. k ≤ 2 * n) (sym is) most) walking.walk)
 
-    pub walked-looks : total looks ≡ k
+    pub walked-looks : looks_counted looks ≡ k
     walked-looks = all-counted want v.start.pages drawn k walking.steps looks list walking.walk
 
     pub walked-few : length list ≤ want

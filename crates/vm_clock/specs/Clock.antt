@@ -9,44 +9,45 @@ use Rattle.vm_rule.specs.declared.view.Place.{Place}
 use Rattle.vm_rule.specs.declared.view.Place.TheVariants as places
 use Rattle.vm_rule.specs.declared.view.View.{View}
 use Rattle.vm_rule.specs.Log.{did_load, did_exchange, did_change}
-use Rattle.vm_step.specs.Alone.{IsAlone, RunsAlone, word_at}
+use Rattle.vm_step.specs.Alone.{IsAlone, RunsAlone, known_word_at}
 use Rattle.vm_step.specs.Asides.{IsAside, IsAsideOf, KeepsFrames}
-use Rattle.vm_step.specs.Choices.{IsHeld, first_or, pages_of}
+use Rattle.vm_step.specs.Choices.{IsHeld, first_or, candidate_pages}
 use Rattle.vm_step.specs.Tables.{KnowsAt, KnowsElse}
 use Rattle.vm_step.specs.declared.choice.Looks.{Looks}
 
+-- a count of no look
 abbrev pub no_looks : Looks
 no_looks = record { found = 0; again = 0; marked = 0; lost = 0; held = 0; gone = 0; worn = 0; first_worn = None }
 
 -- how many looks are counted
-abbrev pub total : Looks → ℕ
-total l = l.found + (l.again + (l.marked + (l.lost + (l.held + (l.gone + l.worn)))))
+abbrev pub looks_counted : Looks → ℕ
+looks_counted l = l.found + (l.again + (l.marked + (l.lost + (l.held + (l.gone + l.worn)))))
 
 -- the word of a page that may be locked exclusively as far as its version goes
-abbrev pub IsFresh : ℕ → Type 0
-IsFresh word = version_of word < MAX_VERSION
+abbrev pub IsBelowLast : ℕ → Type 0
+IsBelowLast word = version_of word < MAX_VERSION
 
 -- a look at page p found this word, and the page was not chosen before
 pub record LooksAt (chosen : List (ℕ × ℕ)) (p word : ℕ) (steps : List Did) (more : List Did) : Type 0 where
-  pub new : has p (pages_of chosen) ≡ false
+  pub new : has p (candidate_pages chosen) ≡ false
   pub steps_are : steps ≡ did_load (places.State p) word ∷ more
 
 -- what the look at page p comes to: the looks counted after it, and the candidates
 pub data Visits (chosen : List (ℕ × ℕ)) (p : ℕ) (steps : List Did) (old : Looks) (new : Looks) (list : List (ℕ × ℕ)) : Type 0 where
-  again : (word : ℕ) → has p (pages_of chosen) ≡ true → steps ≡ did_load (places.State p) word ∷ [] → new ≡ record old { again = old.again + 1 } → list ≡ chosen → Visits chosen p steps old new list
+  again : (word : ℕ) → has p (candidate_pages chosen) ≡ true → steps ≡ did_load (places.State p) word ∷ [] → new ≡ record old { again = old.again + 1 } → list ≡ chosen → Visits chosen p steps old new list
   gone : (word : ℕ) → LooksAt chosen p word steps [] → state_of word ≡ EVICTED → new ≡ record old { gone = old.gone + 1 } → list ≡ chosen → Visits chosen p steps old new list
   held : (word : ℕ) → LooksAt chosen p word steps [] → IsHeld word → new ≡ record old { held = old.held + 1 } → list ≡ chosen → Visits chosen p steps old new list
   worn : (word : ℕ) → LooksAt chosen p word steps [] → (state_of word ≡ UNLOCKED) ⊎ (state_of word ≡ MARKED) → version_of word ≡ MAX_VERSION → new ≡ record old { worn = old.worn + 1; first_worn = first_or old.first_worn p } → list ≡ chosen → Visits chosen p steps old new list
-  marked : (word : ℕ) → LooksAt chosen p word steps (did_exchange (places.State p) word word (word_of MARKED (version_of word)) ∷ []) → state_of word ≡ UNLOCKED → IsFresh word → new ≡ record old { marked = old.marked + 1 } → list ≡ chosen → Visits chosen p steps old new list
-  lost : (word other : ℕ) → other ≢ word → LooksAt chosen p word steps (did_exchange (places.State p) word other (word_of MARKED (version_of word)) ∷ []) → state_of word ≡ UNLOCKED → IsFresh word → new ≡ record old { lost = old.lost + 1 } → list ≡ chosen → Visits chosen p steps old new list
-  found : (word : ℕ) → LooksAt chosen p word steps [] → state_of word ≡ MARKED → IsFresh word → new ≡ record old { found = old.found + 1 } → list ≡ chosen ++ (p, word) ∷ [] → Visits chosen p steps old new list
+  marked : (word : ℕ) → LooksAt chosen p word steps (did_exchange (places.State p) word word (word_of MARKED (version_of word)) ∷ []) → state_of word ≡ UNLOCKED → IsBelowLast word → new ≡ record old { marked = old.marked + 1 } → list ≡ chosen → Visits chosen p steps old new list
+  lost : (word other : ℕ) → other ≢ word → LooksAt chosen p word steps (did_exchange (places.State p) word other (word_of MARKED (version_of word)) ∷ []) → state_of word ≡ UNLOCKED → IsBelowLast word → new ≡ record old { lost = old.lost + 1 } → list ≡ chosen → Visits chosen p steps old new list
+  found : (word : ℕ) → LooksAt chosen p word steps [] → state_of word ≡ MARKED → IsBelowLast word → new ≡ record old { found = old.found + 1 } → list ≡ chosen ++ (p, word) ∷ [] → Visits chosen p steps old new list
 
 -- the first `count` looks of a walk from the place drawn: each was made because candidates were still wanted
-abbrev pub Walks : ℕ → ℕ → ℕ → ℕ → List Did → Looks → List (ℕ × ℕ) → Type 0
-Walks want pages drawn zero done looks list = (done ≡ []) × (looks ≡ no_looks) × (list ≡ [])
-Walks want pages drawn (suc k) done looks list =
+abbrev pub WalksPages : ℕ → ℕ → ℕ → ℕ → List Did → Looks → List (ℕ × ℕ) → Type 0
+WalksPages want pages drawn zero done looks list = (done ≡ []) × (looks ≡ no_looks) × (list ≡ [])
+WalksPages want pages drawn (suc k) done looks list =
     (before : List Did) × (steps : List Did) × (old : Looks) × (chosen : List (ℕ × ℕ))
-    × (done ≡ before ++ steps) × Walks want pages drawn k before old chosen × (length chosen < want)
+    × (done ≡ before ++ steps) × WalksPages want pages drawn k before old chosen × (length chosen < want)
     × Visits chosen ((drawn + k) % pages) steps old looks list
 
 -- page p is at one of the first `count` places of a walk from the place drawn
@@ -65,9 +66,9 @@ module _ {X : Type 0} where
   -- what a pass that was alone knows after a walk: the hand went on once from the place drawn, the pages passed have their words (`passed_word`),
   -- and all other words are as before
   pub record KnowsWalked (drawn count : ℕ) (v w : View X) : Type 0 where
-    pub drawn_is : drawn ≡ word_at v places.Hand
+    pub drawn_is : drawn ≡ known_word_at v places.Hand
     pub hand : KnowsAt places.Hand (hand_more drawn) w
-    pub passed : (p : ℕ) → p < v.start.pages → IsPassed v.start.pages drawn count p → KnowsAt (places.State p) (passed_word (word_at v (places.State p))) w
+    pub passed : (p : ℕ) → p < v.start.pages → IsPassed v.start.pages drawn count p → KnowsAt (places.State p) (passed_word (known_word_at v (places.State p))) w
     pub others : KnowsElse (IsWalked v.start.pages drawn count) v w
 
   -- the walk that chose these candidates, and what it left of the view: no lock, no frame and no entry changed; nor did an open read but of
@@ -76,10 +77,10 @@ module _ {X : Type 0} where
     pub drawn : ℕ
     pub count : ℕ
     pub steps : List Did
-    pub walk : Walks want v.start.pages drawn count steps looks list
+    pub walk : WalksPages want v.start.pages drawn count steps looks list
     pub most : count ≤ 2 * v.start.pages
     pub ends : (length list ≡ want) ⊎ (count ≡ 2 * v.start.pages)
-    pub counted : total looks ≡ count
+    pub counted : looks_counted looks ≡ count
     pub aside : IsAsideOf (IsPassed v.start.pages drawn count) (did_change places.Hand drawn (hand_more drawn) ∷ steps) v w
     pub keeps : KeepsFrames v w
     -- nothing was released; of a pass that is alone the steps made all that happened to the table's words
@@ -87,7 +88,7 @@ module _ {X : Type 0} where
     pub table : IsAlone v → KnowsWalked drawn count v w
 
   -- page p was visited: what the look came to, and what it left of the view
-  pub record IsVisited (p : ℕ) (old : Looks) (chosen : List (ℕ × ℕ)) (new : Looks) (list : List (ℕ × ℕ)) (v w : View X) : Type 0 where
+  pub record IsPageVisited (p : ℕ) (old : Looks) (chosen : List (ℕ × ℕ)) (new : Looks) (list : List (ℕ × ℕ)) (v w : View X) : Type 0 where
     pub steps : List Did
     pub visits : Visits chosen p steps old new list
     pub aside : IsAside p steps v w

@@ -3,9 +3,9 @@
 #![tactic(auto)]
 
 ghost use Rattle.std.specs.Prelude.{◌≡◌, ◌*◌, ◌<◌, ◌≤◌, length};
-ghost use Rattle.vm_clock.specs.Clock.{IsChosen, IsVisited, total};
+ghost use Rattle.vm_clock.specs.Clock.{IsChosen, IsPageVisited, looks_counted};
 ghost use Rattle.vm_owner.specs.Numbers.{has};
-ghost use Rattle.vm_step.specs.Choices.{AreCandidates, pages_of};
+ghost use Rattle.vm_step.specs.Choices.{AreCandidates, candidate_pages};
 ghost use Rattle.vm_step.specs.Passes.{IsSamePass, view};
 ghost use Rattle.vm_step.specs.Ready.{IsReady};
 
@@ -40,7 +40,7 @@ pub fn candidates<U: Owner, B: Block>(
     ensures ready { IsReady words.now.table.shared.key B.tells words.now.table.shared.table_id pass.new }
     ensures chosen { IsChosen want result.looks result.list.items (view pass.old) (view pass.new) }
     ensures list { AreCandidates words.now.table.shared.key.pages result.list.items }
-    ensures looks { total result.looks ≤ 2 * words.now.table.shared.key.pages }
+    ensures looks { looks_counted result.looks ≤ 2 * words.now.table.shared.key.pages }
     ensures few { length result.list.items ≤ want }
 {
     let drawn = hand(words, pass);
@@ -60,7 +60,7 @@ pub fn candidates<U: Owner, B: Block>(
 
 /// Whether the page is one of the candidates.
 fn is_chosen(list: &[(u32, u64)], p: u32) -> bool
-    ensures { result ≡ has p (pages_of list.now) }
+    ensures { result ≡ has p (candidate_pages list.now) }
 {
     for i in 0..list.len() {
         if list[i].0 == p {
@@ -80,10 +80,10 @@ fn visit<U: Owner, B: Block>(
     requires ready { IsReady words.now.table.shared.key B.tells words.now.table.shared.table_id pass.old }
     requires page { p < words.now.table.shared.key.pages }
     requires room { length chosen.old.list.items < FRAMES }
-    requires counts { total chosen.old.looks < 4294967295 }
+    requires counts { looks_counted chosen.old.looks < 4294967295 }
     ensures pass { IsSamePass pass.old pass.new }
     ensures ready { IsReady words.now.table.shared.key B.tells words.now.table.shared.table_id pass.new }
-    ensures visited { IsVisited p chosen.old.looks chosen.old.list.items chosen.new.looks chosen.new.list.items (view pass.old) (view pass.new) }
+    ensures visited { IsPageVisited p chosen.old.looks chosen.old.list.items chosen.new.looks chosen.new.list.items (view pass.old) (view pass.new) }
 {
     let word = look_silently(words, pass, p);
     let state = StateWord::state(word);

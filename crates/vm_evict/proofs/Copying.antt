@@ -20,12 +20,15 @@ use Rattle.vm_rule.specs.Loads.{LoadTold, frame_read_by, loaded_view}
 use Rattle.vm_rule.specs.Log.{did_load}
 use Rattle.vm_rule.specs.Mappings.{held_at}
 use Rattle.vm_rule.proofs.Heard.{each-both}
+use Rattle.vm_step.specs.Alone.{WritesNone}
 use Rattle.vm_step.specs.Asides.{KeepsFrames}
+use Rattle.vm_step.specs.DeviceCalls.{IsOfPage}
 use Rattle.vm_step.specs.Works.{Works}
 use Rattle.vm_step.proofs.Alone.{runs-one}
 use Rattle.vm_step.proofs.Asides.{keeps-self, keeps-then}
+use Rattle.vm_step.proofs.DeviceCalls.{home-both, is-fault, no-fault}
 use Rattle.vm_step.proofs.Leaves.{last-quiet, leaves-quiet, works-none, works-then}
-use Rattle.vm_evict.specs.Writes.{IsCopied, IsOwnPlace, LeavesMapping, LeavesState, StaysOn, WritesOwn, WritesPage, cleans, raises, reads}
+use Rattle.vm_evict.specs.Writes.{HasNotSaved, IsCopied, IsOwnPlace, LeavesState, StaysOn, WritesOwn, WritesPage, cleans, raises, reads}
 
 abbrev pub is-state : Place → Bool
 is-state (places.State p) = true
@@ -38,8 +41,8 @@ is-state places.Hand = false
 
 pub written-own : (p : ℕ) (d : Did) → WritesPage p d → IsOwnPlace p d.at
 written-own p d (reads own none quiet) = own
-written-own p d (cleans frame is) = inr (inl (ap (λ (e : Did). e.at) is))
-written-own p d (raises count is) = inr (inr (inl (ap (λ (e : Did). e.at) is)))
+written-own p d (cleans frame is) = inl (subst (λ (e : Did). IsOfPage p e.at) (sym is) refl)
+written-own p d (raises count is) = inl (subst (λ (e : Did). IsOfPage p e.at) (sym is) refl)
 
 -- another kind of word is no state word
 pub no-state : (p : ℕ) (at : Place) → is-state at ≡ false → at ≢ places.State p
@@ -61,18 +64,30 @@ is-mapping places.Hand = false
 pub no-mapping : (p : ℕ) (d : Did) → is-mapping d.at ≡ false → d.at ≡ places.Translation p → d.wrote ≡ None
 no-mapping p d other e = absurd (false≢true (sym other ∙ ap is-mapping e))
 
-pub kept-both : (p : ℕ) (a b : List Did) → LeavesMapping p a → LeavesMapping p b → LeavesMapping p (a ++ b)
+-- another kind of word is no fault word
+pub not-fault : (p : ℕ) (at : Place) → is-fault at ≡ false → at ≢ places.Fault p
+not-fault p at other e = false≢true (sym other ∙ ap is-fault e)
+
+pub kept-both : (p : ℕ) (a b : List Did) → WritesNone (places.Translation p) a → WritesNone (places.Translation p) b → WritesNone (places.Translation p) (a ++ b)
 kept-both p a b f g = each-both (λ (d : Did). d.at ≡ places.Translation p → d.wrote ≡ None) a b f g
+
+pub none-both : (at : Place) (a b : List Did) → WritesNone at a → WritesNone at b → WritesNone at (a ++ b)
+none-both at a b f g = each-both (λ (d : Did). d.at ≡ at → d.wrote ≡ None) a b f g
 
 -- the steps of a write-back are on words of the page
 pub stays-on : (p : ℕ) (done : List Did) → Each (WritesPage p) done → StaysOn p done
 stays-on p [] e = tt
 stays-on p (d ∷ ds) e = (written-own p d e.0, stays-on p ds e.1)
 
--- steps that wrote nothing wrote no translation word
-pub kept-silent : (p : ℕ) (a : List Did) → Each (λ d. d.wrote ≡ None) a → LeavesMapping p a
-kept-silent p [] e = tt
-kept-silent p (d ∷ ds) e = (λ here. e.0, kept-silent p ds e.1)
+-- a page that was not written is not by steps on other words, nor by a load of its translation word
+pub unsaved-both : (p : ℕ) (a b : List Did) → HasNotSaved p a → HasNotSaved p b → HasNotSaved p (a ++ b)
+unsaved-both p a b f g = record { kept = kept-both p a b f.kept g.kept; home = home-both p a b f.home g.home }
+
+pub unsaved-one : (p : ℕ) (d : Did) → is-mapping d.at ≡ false → is-fault d.at ≡ false → HasNotSaved p (d ∷ [])
+unsaved-one p d mapping fault = record { kept = (no-mapping p d mapping, tt); home = (no-fault p d fault, tt) }
+
+pub unsaved-load : (p found : ℕ) → HasNotSaved p (did_load (places.Translation p) found ∷ [])
+unsaved-load p found = record { kept = ((λ here. refl), tt); home = (no-fault p (did_load (places.Translation p) found) refl, tt) }
 
 -- the frame that is read, by the seat and by what is known of the page
 abbrev frame-by : Seat → Held → Option ℕ
@@ -124,7 +139,8 @@ module _ {X : Type 0} (p : ℕ) where
     pub own : Each (WritesOwn p) done
     pub does : Each (WritesPage p) done
     pub reads : w.translations ≡ v.translations
-    pub kept : LeavesMapping p done
+    pub kept : HasNotSaved p done
+    pub unraised : WritesNone (places.Fault p) done
     pub long : length page ≡ 64
     pub front : v.start.tells ≡ true → (k : ℕ) → k < i → slice_index page k ≡ slice_index (last_of v p).words k
     pub held : held_at w p ≡ held_at v p
@@ -139,7 +155,8 @@ module _ {X : Type 0} (p : ℕ) where
     own = tt;
     does = tt;
     reads = refl;
-    kept = tt;
+    kept = record { kept = tt; home = tt };
+    unraised = tt;
     long = long;
     front = λ tells k l. absurd (omega (arith, l));
     held = refl;
@@ -158,9 +175,10 @@ module _ {X : Type 0} (p : ℕ) where
         works = works-then p c.done (did ∷ []) u v w c.works (load-works f i found v w shut t);
         state = leaves-both p c.done (did ∷ []) c.state (no-state p (places.Content f i) refl, tt);
         own = each-both (WritesOwn p) c.done (did ∷ []) c.own (inl refl, tt);
-        does = each-both (WritesPage p) c.done (did ∷ []) c.does (reads (inr (inr (inr (f, i, refl)))) refl refl, tt);
+        does = each-both (WritesPage p) c.done (did ∷ []) c.does (reads (inr (f, i, refl)) refl refl, tt);
         reads = ap (λ (x : View X). x.translations) t.brings.view ∙ c.reads;
-        kept = kept-both p c.done (did ∷ []) c.kept ((λ here. refl), tt);
+        kept = unsaved-both p c.done (did ∷ []) c.kept (unsaved-one p did refl refl);
+        unraised = none-both (places.Fault p) c.done (did ∷ []) c.unraised ((λ here. refl), tt);
         long = length-set page i found ∙ long;
         front = λ tells k l.
             let told : v.start.tells ≡ true = ap (λ (o : Origin). o.tells) c.works.leaves.start ∙ tells in
@@ -186,6 +204,7 @@ module _ {X : Type 0} (p : ℕ) where
     does = c.does;
     reads = c.reads;
     kept = c.kept;
+    unraised = c.unraised;
     same = λ tells. ext_get_or 0 page (last_of v p).words (c.long ∙ sym size) (λ k l. c.front tells k (let long : length page ≡ 64 = c.long in omega (arith, l, long, all)));
     held = c.held;
     keeps = c.keeps;

@@ -1,21 +1,24 @@
 -- The beginning and the end of an eviction: all candidates wait; each has come to its end, and is counted.
-use Rattle.std.proofs.Common.{ℕ, ◌≡◌, ◌<◌, ◌+◌, ◌++◌, true, false, zero, suc, length, List, [], ◌∷◌, None, refl, sym, ap, subst, ◌∙◌, ⊎_elim, append_assoc, arith}
+use Rattle.std.proofs.Common.{ℕ, ◌≡◌, ◌⊎◌, ◌<◌, ◌+◌, ◌++◌, true, false, zero, suc, length, List, [], ◌∷◌, None, refl, sym, ap, subst, ◌∙◌, ⊎_elim, append_assoc, arith}
 use Rattle.std.proofs.lemmas.Bool.{cases_Bool}
 use Rattle.vm_owner.specs.Numbers.{has}
 use Rattle.vm_rule.specs.declared.view.Did.{Did}
 use Rattle.vm_rule.specs.declared.view.Note.{Note}
 use Rattle.vm_rule.specs.declared.view.View.{View}
+use Rattle.vm_rule.specs.Layout.{Within}
 use Rattle.vm_rule.specs.Views.{Each}
 use Rattle.vm_rule.proofs.Entries.{append-none}
 use Rattle.vm_step.specs.Alone.{RunsAlone}
 use Rattle.vm_step.specs.Asides.{IsAsideOf}
-use Rattle.vm_step.specs.Choices.{pages_of}
+use Rattle.vm_step.specs.Choices.{candidate_pages}
 use Rattle.vm_step.specs.declared.choice.Looks.{Looks}
 use Rattle.vm_step.proofs.Alone.{runs-self}
 use Rattle.vm_step.proofs.Asides.{alone-self}
+use Rattle.vm_step.proofs.Tables.{else-knows}
 use Rattle.vm_evict.specs.Evictions.{Counts, FramesCome, IsBatch, IsEnd, candidate_at, frame_at, gathered, lost_at, note_at, release_at, stage_at}
 use Rattle.vm_evict.specs.Phases.{DoesOne, InPhases}
-use Rattle.vm_evict.specs.Stages.{IsAt, IsOver, IsPassed, IsUnderWay, Rests}
+use Rattle.vm_evict.specs.Stages.{IsAt, IsOver, IsPhaseMade, IsUnderWay, Rests}
+use Rattle.vm_evict.specs.Tables.{IsOfAny, KnowsStage}
 use Rattle.vm_evict.specs.Writes.{IsAllowed}
 use Rattle.vm_evict.specs.declared.candidate.Phase.TheVariants as phases
 use Rattle.vm_evict.specs.declared.candidate.Stage.{Stage}
@@ -24,6 +27,7 @@ use Rattle.vm_evict.specs.declared.report.Evicted.{Evicted}
 use Rattle.vm_evict.proofs.Gathering.{gathered-each, gathered-none, page-at}
 use Rattle.vm_evict.proofs.Counting.{over-all}
 use Rattle.vm_evict.proofs.Passing.{Passes, all-self, come-none, rests-self}
+use Rattle.vm_evict.proofs.Tables.{each-two, kept-self, phases-there}
 
 module _ {X : Type 0} where
   -- ---- the beginning
@@ -33,7 +37,7 @@ module _ {X : Type 0} where
     leaves = all-self list v;
     none = none;
     home = none;
-    each = λ n b. subst (λ (s : Stage). IsAt (candidate_at list n) s [] v v) (sym (wait n b)) record { quiet = tt; kept = tt; rests = rests-self (candidate_at list n).0 v; start = refl; since = ([], sym (append-none v.releases)) };
+    each = λ n b. subst (λ (s : Stage). IsAt (candidate_at list n) s [] v v) (sym (wait n b)) record { quiet = tt; kept = record { kept = tt; home = tt }; rests = rests-self (candidate_at list n).0 v; start = refl; since = ([], sym (append-none v.releases)) };
     runs =
         subst (λ l. RunsAlone [] l v v)
         (sym (gathered-none (release_at v) list (length list) ends (λ j b. ap (release_at v (candidate_at list j)) (wait j b))))
@@ -41,6 +45,7 @@ module _ {X : Type 0} where
     alone = alone-self v;
     noted = sym (ap (λ (l : List Note). v.notes ++ l) (gathered-none note_at list (length list) ends (λ j b. ap (note_at (candidate_at list j)) (wait j b))) ∙ append-none v.notes);
     frames = subst (λ (l : List ℕ). FramesCome l v v) (sym (gathered-none frame_at list (length list) ends (λ j b. ap (frame_at (candidate_at list j)) (wait j b)))) (come-none v);
+    table = λ alone n b page. subst (λ (s : Stage). KnowsStage (candidate_at list n) s v v) (sym (wait n b)) (kept-self (candidate_at list n).0 v);
   }
 
   -- ---- the end
@@ -73,13 +78,13 @@ module _ {X : Type 0} where
     rests-all : (q : ℕ) → Rests q v w
     rests-all q =
         ⊎_elim
-        (λ (e : has q (pages_of list) ≡ true).
+        (λ (e : has q (candidate_pages list) ≡ true).
         let at = page-at list q e in
         subst (λ (k : ℕ). Rests k v w) at.2 (rests-of (candidate_at list at.0) (stage_at ends at.0) done v w (over at.0 at.1) (h.each at.0 at.1)))
-        (λ (e : has q (pages_of list) ≡ false). (h.leaves.others q e).0)
-        (cases_Bool (has q (pages_of list)))
+        (λ (e : has q (candidate_pages list) ≡ false). (h.leaves.others q e).0)
+        (cases_Bool (has q (candidate_pages list)))
 
-    aside : IsAsideOf (λ p. has p (pages_of list) ≡ true) done v w
+    aside : IsAsideOf (λ p. has p (candidate_pages list) ≡ true) done v w
     aside = record {
       log = h.leaves.log;
       live = h.leaves.live;
@@ -93,12 +98,16 @@ module _ {X : Type 0} where
       group = h.leaves.group;
       holds = λ q. (rests-all q).holds;
       knows = λ q l. (rests-all q).knows l;
-      others = λ q ne. (h.leaves.others q (⊎_elim (λ (e : has q (pages_of list) ≡ true). absurd (ne e)) (λ (e : has q (pages_of list) ≡ false). e) (cases_Bool (has q (pages_of list))))).1;
+      others = λ q ne. (h.leaves.others q (⊎_elim (λ (e : has q (candidate_pages list) ≡ true). absurd (ne e)) (λ (e : has q (candidate_pages list) ≡ false). e) (cases_Bool (has q (candidate_pages list))))).1;
       alone = h.alone;
     }
 
-    pub batch : (looks : Looks) (e : Evicted) → Counts (length list) list looks ends e.report → e.frames ≡ gathered frame_at (length list) list ends → InPhases list done → IsBatch list looks v w e.report e.frames
-    batch looks e counts frames phases =
+    -- each step was on a word of the table, and left none but on a candidate's words
+    there : InPhases list done → Each (λ d. Within v.start d.at × ((d.wrote ≡ None) ⊎ IsOfAny (candidate_pages list) d.at)) done
+    there phases = each-two _ _ done h.runs.inside (phases-there list done phases)
+
+    pub batch : ((n : ℕ) → n < length list → (candidate_at list n).0 < v.start.pages) → (looks : Looks) (e : Evicted) → Counts (length list) list looks ends e.report → e.frames ≡ gathered frame_at (length list) list ends → InPhases list done → IsBatch list looks v w e.report e.frames
+    batch inside looks e counts frames phases =
         let all : length (gathered frame_at (length list) list ends) + (length (gathered note_at (length list) list ends) + length (gathered lost_at (length list) list ends)) ≡ length list = over-all (length list) list ends over in
         record {
           done = done;
@@ -117,6 +126,7 @@ module _ {X : Type 0} where
           first = counts.first;
           allowed = gathered-each note_at list (λ (n : Note). IsAllowed v.start n.page n.count) (length list) ends (λ j b. allowed-of (candidate_at list j) (stage_at ends j) done v w (end-of (candidate_at list j) (stage_at ends j) done v w (over j b) (h.each j b)));
           alone = h.runs;
+          table = λ a. record { each = λ n b. h.table a n b (inside n b); others = else-knows (IsOfAny (candidate_pages list)) done (gathered (release_at v) (length list) list ends) v w h.leaves.start h.runs (there phases) a };
         }
 
 -- n candidates wait
@@ -146,12 +156,12 @@ in-phases list a b c d e sa sb sc sd se = record {
 }
 
 module _ {X : Type 0} (list : List (ℕ × ℕ)) (looks : Looks) (a b c d e f : List Stage) (v t u x y w : View X) (start : IsUnderWay list a [] v v) (save : Passes phases.Save list a b v t) (lock : Passes phases.Lock list b c t u) (raise : Passes phases.Raise list c d u x) (empty : Passes phases.Empty list d e x y) (leave : Passes phases.Leave list e f y w) where
-  pub ended : ((n : ℕ) → n < length list → IsOver (stage_at f n)) → (r : Evicted) → Counts (length list) list looks f r.report → r.frames ≡ gathered frame_at (length list) list f → IsBatch list looks v w r.report r.frames
-  ended over r counts frames =
-      let one : IsPassed phases.Save list b [] v t = save v [] start in
-      let two : IsPassed phases.Lock list c one.more v u = lock v one.more one.after in
-      let three : IsPassed phases.Raise list d (one.more ++ two.more) v x = raise v (one.more ++ two.more) two.after in
-      let four : IsPassed phases.Empty list e ((one.more ++ two.more) ++ three.more) v y = empty v ((one.more ++ two.more) ++ three.more) three.after in
-      let five : IsPassed phases.Leave list f (((one.more ++ two.more) ++ three.more) ++ four.more) v w = leave v (((one.more ++ two.more) ++ three.more) ++ four.more) four.after in
-      batch list f ((((one.more ++ two.more) ++ three.more) ++ four.more) ++ five.more) v w five.after over looks r counts frames
+  pub ended : ((n : ℕ) → n < length list → (candidate_at list n).0 < v.start.pages) → ((n : ℕ) → n < length list → IsOver (stage_at f n)) → (r : Evicted) → Counts (length list) list looks f r.report → r.frames ≡ gathered frame_at (length list) list f → IsBatch list looks v w r.report r.frames
+  ended inside over r counts frames =
+      let one : IsPhaseMade phases.Save list b [] v t = save v [] start in
+      let two : IsPhaseMade phases.Lock list c one.more v u = lock v one.more one.after in
+      let three : IsPhaseMade phases.Raise list d (one.more ++ two.more) v x = raise v (one.more ++ two.more) two.after in
+      let four : IsPhaseMade phases.Empty list e ((one.more ++ two.more) ++ three.more) v y = empty v ((one.more ++ two.more) ++ three.more) three.after in
+      let five : IsPhaseMade phases.Leave list f (((one.more ++ two.more) ++ three.more) ++ four.more) v w = leave v (((one.more ++ two.more) ++ three.more) ++ four.more) four.after in
+      batch list f ((((one.more ++ two.more) ++ three.more) ++ four.more) ++ five.more) v w five.after over inside looks r counts frames
       (in-phases list one.more two.more three.more four.more five.more one.does two.does three.does four.does five.does)

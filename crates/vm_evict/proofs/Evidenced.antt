@@ -14,16 +14,15 @@ use Rattle.vm_rule.specs.Locks.{IsUnheld}
 use Rattle.vm_rule.specs.Log.{did_exchange}
 use Rattle.vm_rule.specs.Mappings.{clean_in}
 use Rattle.vm_rule.proofs.Heard.{each-both}
+use Rattle.vm_step.specs.DeviceCalls.{GoesOnce, StaysHome}
 use Rattle.vm_step.specs.Evidence.{IsLost}
-use Rattle.vm_step.proofs.Evidenced.{given-behind, given-front}
-use Rattle.vm_evict.specs.Evictions.{HasLost, HasSaved, HasTaken, LocksFrom, once, by_share}
+use Rattle.vm_step.proofs.DeviceCalls.{once-front}
+use Rattle.vm_step.proofs.Evidenced.{given-front}
+use Rattle.vm_evict.specs.Evictions.{HasLost, HasSaved, HasTaken, IsSavedFrom, IsSharedToSave, LocksFrom, once, by_share}
 use Rattle.vm_evict.specs.Writes.{IsFoundDirty}
 
 pub dirty-front : (p frame : ℕ) (a b : List Did) → IsFoundDirty p frame a → IsFoundDirty p frame (a ++ b)
 dirty-front p frame a b d = (d.0, given-front a b (places.Translation p) d.0 d.1, d.2)
-
-pub dirty-behind : (p frame : ℕ) (a b : List Did) → IsFoundDirty p frame b → IsFoundDirty p frame (a ++ b)
-dirty-behind p frame a b d = (d.0, given-behind a b (places.Translation p) d.0 d.1, d.2)
 
 -- an exchange that found another word than the expected one
 pub lost-one : (at : Place) (expects found new : ℕ) → found ≢ expects → IsLost (did_exchange at expects found new) at expects found
@@ -47,7 +46,7 @@ wrote-taken expects new = cond-true (eqb expects expects) (Some new) None (eq-eq
 
 -- ---- evidence in front of more steps
 
-pub taken-front : (a b : List Did) (at : Place) (expects new : ℕ) → HasTaken a at expects new → HasTaken (a ++ b) at expects new
+abbrev pub taken-front : (a b : List Did) (at : Place) (expects new : ℕ) → HasTaken a at expects new → HasTaken (a ++ b) at expects new
 taken-front a b at expects new h = record {
   earlier = h.earlier;
   step = h.step;
@@ -60,8 +59,11 @@ taken-front a b at expects new h = record {
 }
 
 -- an exchange that took, behind these steps
-pub has-taken : (a : List Did) (at : Place) (expects new : ℕ) → HasTaken (a ++ did_exchange at expects expects new ∷ []) at expects new
+abbrev pub has-taken : (a : List Did) (at : Place) (expects new : ℕ) → HasTaken (a ++ did_exchange at expects expects new ∷ []) at expects new
 has-taken a at expects new = record { earlier = a; step = did_exchange at expects expects new; later = []; cut = refl; place = refl; expected = refl; found = refl; wrote = wrote-taken expects new }
+
+abbrev pub shared-front : (p word : ℕ) (a b : List Did) → IsSharedToSave p word a → IsSharedToSave p word (a ++ b)
+shared-front p word a b h = record { taken = taken-front a b (places.State p) word (word_of 1 (version_of word)) h.taken; why = h.why }
 
 abbrev pub lost-front : (a b : List Did) (at : Place) (expects : ℕ) → HasLost a at expects → HasLost (a ++ b) at expects
 lost-front a b at expects h = record {
@@ -90,8 +92,9 @@ locks-front p word a b (by_share l h) =
     }
     h
 
-pub saved-front : (p frame : ℕ) (a b : List Did) → HasSaved p frame a → HasSaved p frame (a ++ b)
-saved-front p frame a b h = record {
+-- what was written under the share, by more steps under it
+pub saved-under : (p frame : ℕ) (under b done all : List Did) → HasSaved p frame under done → GoesOnce p all → HasSaved p frame (under ++ b) all
+saved-under p frame under b done all h block = record {
   cleaned = record {
     earlier = h.cleaned.earlier;
     step = h.cleaned.step;
@@ -101,24 +104,15 @@ saved-front p frame a b h = record {
     wrote = h.cleaned.wrote;
   };
   dirty = h.dirty;
+  block = block;
 }
+
+pub saved-front : (p word frame : ℕ) (a b : List Did) → IsSavedFrom p word frame a → StaysHome p b → IsSavedFrom p word frame (a ++ b)
+saved-front p word frame a b h home = (shared-front p word a b h.0, saved-under p frame h.0.taken.later b a (a ++ b) h.1 (once-front p a b h.1.block home))
 
 no-here : (at : Place) (P : Did → Type 0) (b : List Did) → Each (λ d. d.at ≢ at) b → Each (λ d. d.at ≡ at → P d) b
 no-here at P [] other = tt
 no-here at P (d ∷ ds) other = (λ here. absurd (other.0 here), no-here at P ds other.1)
-
-pub saved-behind : (p frame : ℕ) (a b : List Did) → HasSaved p frame b → HasSaved p frame (a ++ b)
-saved-behind p frame a b h = record {
-  cleaned = record {
-    earlier = a ++ h.cleaned.earlier;
-    step = h.cleaned.step;
-    later = h.cleaned.later;
-    cut = ap (λ (t : List Did). a ++ t) h.cleaned.cut ∙ sym (append_assoc a h.cleaned.earlier (h.cleaned.step ∷ h.cleaned.later));
-    place = h.cleaned.place;
-    wrote = h.cleaned.wrote;
-  };
-  dirty = dirty-behind p frame a h.cleaned.earlier h.dirty;
-}
 
 -- what holds of the steps at a place holds on after steps elsewhere
 pub each-else : (at : Place) (P : Did → Type 0) (a b : List Did) → Each (λ d. d.at ≢ at) b → Each (λ d. d.at ≡ at → P d) a → Each (λ d. d.at ≡ at → P d) (a ++ b)

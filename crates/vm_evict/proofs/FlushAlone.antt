@@ -21,7 +21,8 @@ use Rattle.vm_step.specs.Asides.{IsAside}
 use Rattle.vm_step.specs.declared.took.Took.TheVariants.{Taken, Lost}
 use Rattle.vm_step.proofs.Alone.{runs-one}
 use Rattle.vm_step.specs.Choices.{IsHeld}
-use Rattle.vm_evict.specs.Flushes.{IsDirtyFrame, IsStillLocked, IsUnderWriteBack, KnowsClean, Marks, Settles, Writes, left_clean, made_clean, refused}
+use Rattle.vm_evict.specs.Writes.{IsDirtyFrame}
+use Rattle.vm_evict.specs.Flushes.{IsStillLocked, IsUnderWriteBack, KnowsClean, Marks, Settles, EndsWrite, left_clean, made_clean, refused}
 use Rattle.vm_evict.specs.declared.flushing.Flushed.{Flushed}
 use Rattle.vm_evict.proofs.FlushSteps.{lock-did, lock-leaves, lock-runs, unlock-did, unlock-leaves, unlock-runs}
 use Rattle.vm_evict.proofs.FlushMarks.{mark-did}
@@ -184,10 +185,10 @@ module _ {X : Type 0} (p : ℕ) (tied : Start → ℕ → List ℕ → ℕ → L
                   let below : p < v4.start.pages = subst (λ (s : Origin). p < s.pages) (sym later4.start) page in
                   inr (inl unlocked, ap stands_dirty (sym (mapping-shown v p page v5 later5 p page)) ∙ known (later4.whole, later4.current) below in')
 
-          pub settles-write : (new : Flushed) → Writes p v4 v5 old new → Settles p v v6 old new
+          pub settles-write : (new : Flushed) → EndsWrite p v4 v5 old new → Settles p v v6 old new
           settles-write new (left_clean done x k kept given un known notes e) a h =
               settled v p page (found - 2 ^ 56) (tr5 a done k) v6 old new a (shows6 a done k) (ap (λ (f : Flushed). f.busy) e) (inl (saved-clean a done k known))
           settles-write new (made_clean done f k saved known notes e) a h =
               settled v p page (found - 2 ^ 56) (tr5 a done k) v6 old new a (shows6 a done k) (ap (λ (y : Flushed). y.busy) e) (inl (saved-clean a done k known))
-          settles-write new (refused done f count k dirty kept allowed raised notes e) a h =
+          settles-write new (refused done f count k dirty once kept allowed raised notes e) a h =
               settled v p page (found - 2 ^ 56) (tr5 a done k) v6 old new a (shows6 a done k) (ap (λ (y : Flushed). y.busy) e) (inr (ap (λ (y : Flushed). y.failed) e))

@@ -20,11 +20,12 @@ use Rattle.vm_rule.proofs.WordFacts.{mapping-clean}
 use Rattle.vm_step.specs.Alone.{Follows, IsAlone}
 use Rattle.vm_step.proofs.Leaves.{works-then}
 use Rattle.vm_step.specs.Choices.{first_or}
+use Rattle.vm_step.proofs.DeviceCalls.{no-fault, once-behind}
 use Rattle.vm_step.proofs.Evidenced.{written-behind}
-use Rattle.vm_evict.specs.Writes.{IsAllowed, IsCleaned, IsFoundDirty, IsOwnPlace, IsRefused, WritesOwn}
-use Rattle.vm_evict.specs.Flushes.{IsStillLocked, IsUnderWriteBack, KnowsClean, Writes, left_clean, made_clean, refused}
+use Rattle.vm_evict.specs.Writes.{IsAllowed, IsCleaned, IsFoundDirty, IsOwnPlace, IsWriteRefused, WritesOwn}
+use Rattle.vm_evict.specs.Flushes.{IsStillLocked, IsUnderWriteBack, KnowsClean, EndsWrite, left_clean, made_clean, refused}
 use Rattle.vm_evict.specs.declared.flushing.Flushed.{Flushed}
-use Rattle.vm_evict.proofs.Copying.{kept-both, stays-on}
+use Rattle.vm_evict.proofs.Copying.{kept-both, stays-on, unsaved-load}
 use Rattle.vm_evict.proofs.FlushSteps.{load-did, load-locked, load-notes}
 use Rattle.vm_evict.proofs.FlushWords.{IsLater, follows-end, later-on, later-self, mapping-shown, run-follows}
 use Rattle.vm_evict.proofs.Taken.{frame-said}
@@ -70,9 +71,9 @@ module _ {X : Type 0} (p found : ℕ) (v w : View X) (r : IsUnderWriteBack p v) 
       )
       ∙ e
 
-  pub ends-clean : stands_dirty (mapping_of found) ≡ false → Writes p v w old old
+  pub ends-clean : stands_dirty (mapping_of found) ≡ false → EndsWrite p v w old old
   ends-clean e =
-      left_clean (load-did p found v w r t ∷ []) found first ((λ here. refl), tt)
+      left_clean (load-did p found v w r t ∷ []) found first (unsaved-load p found)
       (record { earlier = []; step = load-did p found v w r t; later = []; cut = refl; gives = (refl, refl) })
       e (known-clean e) (load-notes p found v w r t) refl
 
@@ -101,7 +102,7 @@ module _ {X : Type 0} (p found : ℕ) (v w : View X) (r : IsUnderWriteBack p v) 
   found-dirty : (f : ℕ) (more : List Did) → mapping_of found ≡ Some (dirty_in f) → IsFoundDirty p f (load-did p found v w r t ∷ more)
   found-dirty f more is = (found, record { earlier = []; step = load-did p found v w r t; later = more; cut = refl; gives = (refl, refl) }, is)
 
-  pub ends-written : (f : ℕ) (x : View X) → mapping_of found ≡ Some (dirty_in f) → IsCleaned p f w x → Writes p v x old (record old { written = old.written + 1 })
+  pub ends-written : (f : ℕ) (x : View X) → mapping_of found ≡ Some (dirty_in f) → IsCleaned p f w x → EndsWrite p v x old (record old { written = old.written + 1 })
   ends-written f x is c =
       made_clean (load-did p found v w r t ∷ c.done) f
       record {
@@ -122,12 +123,13 @@ module _ {X : Type 0} (p found : ℕ) (v w : View X) (r : IsUnderWriteBack p v) 
           wrote = c.cleaned.wrote;
         };
         dirty = found-dirty f c.cleaned.earlier is;
+        block = once-behind p (load-did p found v w r t ∷ []) c.done (no-fault p (load-did p found v w r t) refl, tt) c.block;
       }
       (known-written f x (frame-small found f is) c)
       (c.keeps.notes ∙ load-notes p found v w r t)
       refl
 
-  pub ends-failed : (f count : ℕ) (x : View X) (least : Option ℕ) → mapping_of found ≡ Some (dirty_in f) → least ≡ first_or old.first p → IsRefused p f count w x → Writes p v x old (record old { failed = old.failed + 1; first = least })
+  pub ends-failed : (f count : ℕ) (x : View X) (least : Option ℕ) → mapping_of found ≡ Some (dirty_in f) → least ≡ first_or old.first p → IsWriteRefused p f count w x → EndsWrite p v x old (record old { failed = old.failed + 1; first = least })
   ends-failed f count x least is e c =
       refused (load-did p found v w r t ∷ c.done) f count
       record {
@@ -139,6 +141,7 @@ module _ {X : Type 0} (p found : ℕ) (v w : View X) (r : IsUnderWriteBack p v) 
         frames = (c.frames.0 ∙ first.frames.0, c.frames.1 ∙ first.frames.1);
       }
       (found-dirty f c.done is)
+      (once-behind p (load-did p found v w r t ∷ []) c.done (no-fault p (load-did p found v w r t) refl, tt) c.block)
       (kept-both p (load-did p found v w r t ∷ []) c.done ((λ here. refl), tt) c.kept)
       (subst (λ (o : Origin). IsAllowed o p count) first.works.leaves.start c.allowed)
       (written-behind (load-did p found v w r t ∷ []) c.done (places.Fault p) count c.raised)

@@ -1,6 +1,8 @@
 -- The parts of a visit of a flush that come before its words are told: a mark, or its loss, and how a page under write-back stays locked.
-use Rattle.std.proofs.Common.{ℕ, false, ◌≡◌, ◌≢◌, ◌⊎◌, ◌++◌, List, [], ◌∷◌, Option, Some, None, refl, ap, subst, ◌∙◌, inl, inr, is_some, true≢false}
-use Rattle.vm_core.specs.Words.{state_of, version_of, word_of, MARKED}
+use Rattle.std.proofs.Common.{ℕ, false, ◌≡◌, ◌≢◌, ◌⊎◌, ◌++◌, List, [], ◌∷◌, true, Option, Some, None, refl, sym, ap, subst, ◌∙◌, inl, inr, ⊎_elim, is_some, true≢false}
+use Rattle.std.proofs.lemmas.Bool.{false≢true}
+use Rattle.std.proofs.lemmas.Option.{same_Some}
+use Rattle.vm_core.specs.Words.{state_of, version_of, word_of, MARKED, UNLOCKED}
 use Rattle.vm_core.specs.FrameActs.{mapping_of}
 use Rattle.vm_laws_others.specs.Leaves.{stands_dirty}
 use Rattle.vm_rule.specs.declared.view.Did.{Did}
@@ -10,6 +12,7 @@ use Rattle.vm_rule.specs.declared.view.View.{View}
 use Rattle.vm_rule.specs.Views.{Each}
 use Rattle.vm_rule.specs.Locks.{MarkTold}
 use Rattle.vm_rule.specs.Log.{did_exchange}
+use Rattle.vm_rule.specs.Mappings.{dirty_in}
 use Rattle.vm_rule.proofs.WordFacts.{version-within, word-state}
 use Rattle.vm_step.specs.Evidence.{HasGiven, HasWritten}
 use Rattle.vm_step.specs.Passes.{found_by}
@@ -18,13 +21,14 @@ use Rattle.vm_step.specs.declared.took.Took.TheVariants.{Taken, Lost}
 use Rattle.vm_step.specs.Alone.{RunsAlone}
 use Rattle.vm_step.proofs.Alone.{runs-one, runs-self}
 use Rattle.vm_step.proofs.Asides.{OnlyReads, keeps-self, aside-self, mark-only}
-use Rattle.vm_evict.specs.Writes.{StaysOn}
-use Rattle.vm_evict.specs.Flushes.{IsDirtyFrame, IsLeft, IsStillLocked, LosesSeen, Marks, Writes, left_clean, made_clean, refused}
+use Rattle.vm_evict.specs.Evictions.{HasTaken}
+use Rattle.vm_evict.specs.Writes.{IsDirtyFrame, StaysOn}
+use Rattle.vm_evict.specs.Flushes.{IsLeft, IsStillLocked, LosesSeen, Marks, EndsWrite, left_clean, made_clean, refused}
 use Rattle.vm_evict.specs.declared.flushing.Flushed.{Flushed}
-use Rattle.vm_evict.proofs.Evidenced.{lost-one}
+use Rattle.vm_evict.proofs.Evidenced.{lost-one, wrote-taken}
 
 -- an exchange that expected a word found there before, or the mark put in its place, and found another
-pub loses-seen : (a : List Did) (at : Place) (seen expects found new : ℕ) → found ≢ expects → Each (λ d. d.at ≡ at → d.wrote ≢ Some found) a → HasGiven a at seen → (expects ≡ seen) ⊎ ((expects ≡ word_of MARKED (version_of seen)) × HasWritten a at expects) → LosesSeen (a ++ did_exchange at expects found new ∷ []) at expects
+abbrev pub loses-seen : (a : List Did) (at : Place) (seen expects found new : ℕ) → found ≢ expects → Each (λ d. d.at ≡ at → d.wrote ≢ Some found) a → HasGiven a at seen → (expects ≡ seen) ⊎ ((expects ≡ word_of MARKED (version_of seen)) × HasWritten a at expects) → LosesSeen (a ++ did_exchange at expects found new ∷ []) at expects
 loses-seen a at seen expects found new ne foreign given expected = record {
   lost = record {
     earlier = a;
@@ -48,6 +52,11 @@ none-there (Some x) e = absurd (true≢false e)
 pub not-dirty : (word : ℕ) (o : Option ℕ) → o ≡ None → IsDirtyFrame word o → stands_dirty (mapping_of word) ≡ false
 not-dirty word o e d = subst (λ (x : Option ℕ). IsDirtyFrame word x) e d
 
+-- a page with one is dirty in that frame
+pub dirty-there : (word : ℕ) (o : Option ℕ) → IsDirtyFrame word o → is_some o ≡ true → (frame : ℕ) × (mapping_of word ≡ Some (dirty_in frame))
+dirty-there word None d some = absurd (false≢true some)
+dirty-there word (Some f) d some = (f, d)
+
 -- the word that marks a page at the version of another word
 pub marked-is : (marked version word : ℕ) → marked ≡ word_of MARKED version → version ≡ version_of word → marked ≡ word_of MARKED (version_of word)
 marked-is marked version word a b = a ∙ ap (λ (n : ℕ). word_of MARKED n) b
@@ -60,10 +69,10 @@ mark-did p word found = did_exchange (places.State p) word found (word_of MARKED
 
 module _ {X : Type 0} (p : ℕ) where
   -- however the write ended, the page is locked as it was
-  pub still-locked : (v w : View X) (old new : Flushed) → Writes p v w old new → (done : List Did) × IsStillLocked p done v w
+  pub still-locked : (v w : View X) (old new : Flushed) → EndsWrite p v w old new → (done : List Did) × IsStillLocked p done v w
   still-locked v w old new (left_clean done x k kept given un known notes e) = (done, k)
   still-locked v w old new (made_clean done f k saved known notes e) = (done, k)
-  still-locked v w old new (refused done f count k dirty kept allowed raised notes e) = (done, k)
+  still-locked v w old new (refused done f count k dirty once kept allowed raised notes e) = (done, k)
 
   pub left-of : (done : List Did) (v w : View X) → OnlyReads (λ q. q ≡ p) done v w → RunsAlone done [] v w → StaysOn p done → IsLeft p done v w
   left-of done v w r alone own = record { own = own; aside = r.aside; keeps = r.keeps; alone = alone }
@@ -76,3 +85,39 @@ module _ {X : Type 0} (p : ℕ) where
   pub marked-now : (word : ℕ) (v w : View X) (took : Took) → MarkTold p word (found_by word took) (word_of MARKED (version_of word)) v w → ((x : ℕ) → took ≡ Lost x → x ≢ word) → Marks p word v w took
   marked-now word v w Taken t other = (mark-did p word word ∷ [], left-of (mark-did p word word ∷ []) v w (mark-only (λ q. q ≡ p) p word word (word_of MARKED (version_of word)) v w t) (runs-one (mark-did p word word) _ [] [] v v w t.brings) (inl refl, tt), inr refl)
   marked-now word v w (Lost x) t other = (other x refl, left-of (mark-did p word x ∷ []) v w (mark-only (λ q. q ≡ p) p word x (word_of MARKED (version_of word)) v w t) (runs-one (mark-did p word x) _ [] [] v v w t.brings) (inl refl, tt))
+
+  module _ (word : ℕ) (v w : View X) (m : Marks p word v w Taken) where
+    -- the mark alone was left there
+    pub marked-only : (found : ℕ) → found ≢ word_of MARKED (version_of word) → Each (λ d. d.at ≡ places.State p → d.wrote ≢ Some found) m.0
+    marked-only found ne =
+        ⊎_elim
+        (λ none. subst (λ (t : List Did). Each (λ d. d.at ≡ places.State p → d.wrote ≢ Some found) t) (sym none.0) tt)
+        (λ one. subst (λ (t : List Did). Each (λ d. d.at ≡ places.State p → d.wrote ≢ Some found) t) (sym one) (
+          (λ here is. ne (sym (same_Some (word_of MARKED (version_of word)) found (sym (wrote-taken word (word_of MARKED (version_of word))) ∙ is)))),
+          tt,
+        ))
+        m.2
+
+    -- a page that was locked by nobody was marked already, or is marked now, behind these steps
+    pub marked-from : (a : List Did) → (state_of word ≡ UNLOCKED) ⊎ (state_of word ≡ MARKED) → (state_of word ≡ MARKED) ⊎ ((state_of word ≡ UNLOCKED) × HasTaken (a ++ m.0) (places.State p) word (word_of MARKED (version_of word)))
+    marked-from a unheld =
+        ⊎_elim
+        (λ none. inl none.1)
+        (λ one.
+        ⊎_elim
+        (λ unlocked. inr (
+          unlocked,
+          record {
+            earlier = a;
+            step = mark-did p word word;
+            later = [];
+            cut = ap (λ (t : List Did). a ++ t) one;
+            place = refl;
+            expected = refl;
+            found = refl;
+            wrote = wrote-taken word (word_of MARKED (version_of word));
+          },
+        ))
+        (λ marked. inl marked)
+        unheld)
+        m.2

@@ -25,7 +25,7 @@ use Rattle.vm_rule.specs.Mappings.{dirty_in, held_at}
 use Rattle.vm_step.specs.Alone.{RunsAlone}
 use Rattle.vm_step.specs.Asides.{IsAside, KeepsFrames}
 use Rattle.vm_step.specs.Conditions.{IsToldOf, MayUnshare}
-use Rattle.vm_step.specs.Works.{Leaves, Works}
+use Rattle.vm_step.specs.Works.{LeavesRest, Works}
 use Rattle.vm_step.proofs.Alone.{runs-one, runs-then, stays-alone}
 use Rattle.vm_step.proofs.Leaves.{aside-of, leaves-quiet, leaves-then}
 use Rattle.vm_evict.specs.Writes.{IsToWrite}
@@ -52,7 +52,7 @@ module _ {X : Type 0} (p : ℕ) where
     lock-brings : Brings (lock-did p expects) [] [] v locked w
     lock-brings = subst (λ (x : View X). Brings (lock-did p expects) [] [] v x w) (cond-true (expects == expects) locked v (eq-eqb expects expects refl)) t.brings
 
-    pub lock-leaves : Leaves p (lock-did p expects ∷ []) v w
+    pub lock-leaves : LeavesRest p (lock-did p expects ∷ []) v w
     lock-leaves = leaves-quiet p (lock-did p expects) _ [] v locked w lock-brings
         record {
           log = refl;
@@ -117,7 +117,7 @@ module _ {X : Type 0} (p : ℕ) where
     load-locked = record {
       works = load-works;
       own = (inl refl, tt);
-      stays = (inr (inl refl), tt);
+      stays = (inl refl, tt);
       told = told-same;
       home = ap (λ (x : View X). x.out) t.brings.view ∙ r.home;
       frames = (ap (λ (x : View X). x.frames) t.brings.view, ap (λ (x : View X). x.contents) t.brings.view);
@@ -158,7 +158,7 @@ module _ {X : Type 0} (p : ℕ) where
     }
 
     module _ (found : ℕ) (w : View X) (t : UnshareTold p found v w) where
-      pub unlock-leaves : Leaves p (unlock-did p found ∷ []) v w
+      pub unlock-leaves : LeavesRest p (unlock-did p found ∷ []) v w
       unlock-leaves = leaves-quiet p (unlock-did p found) _ [] v (unshared_view p v) w t.brings
           record {
             log = refl;
@@ -188,7 +188,7 @@ module _ {X : Type 0} (p : ℕ) where
         abbrev pub whole-did : List Did
         whole-did = (lock-did p expects ∷ []) ++ (done ++ unlock-did p found ∷ [])
 
-        pub whole-leaves : Leaves p whole-did b w
+        pub whole-leaves : LeavesRest p whole-did b w
         whole-leaves =
             leaves-then p (lock-did p expects ∷ []) (done ++ unlock-did p found ∷ []) b u w (lock-leaves tied expects b u l)
             (leaves-then p done (unlock-did p found ∷ []) u v w k.works.leaves unlock-leaves)

@@ -1,5 +1,5 @@
 -- The words of one page in the snapshots of a pass that is alone, step by step.
-use Rattle.std.proofs.Common.{ℕ, true, false, ◌≡◌, ◌≢◌, ◌<◌, ◌+◌, ◌*◌, ◌⊎◌, ◌++◌, length, List, [], ◌∷◌, Option, Some, None, refl, sym, ap, subst, ◌∙◌, inl, inr, ⊎_elim, arith, slice_index, slice_set}
+use Rattle.std.proofs.Common.{ℕ, true, false, ◌≡◌, ◌≢◌, ◌<◌, ◌+◌, ◌*◌, ◌⊎◌, ◌++◌, length, List, [], ◌∷◌, refl, sym, ap, subst, ◌∙◌, inl, inr, ⊎_elim, arith, slice_index, slice_set}
 use Rattle.std.proofs.lemmas.Bool.{cases_lt}
 use Rattle.std.proofs.lemmas.List.{get_or-set_other, get_or-set_same, get_or_past, length-set}
 use Rattle.vm_core.specs.Words.{state_of, UNLOCKED, MARKED, EVICTED}
@@ -17,15 +17,12 @@ use Rattle.vm_rule_laws.specs.Standing.{state_in, mapping_in}
 use Rattle.vm_step.specs.Alone.{Follows, IsAlone, RunsAlone}
 use Rattle.vm_step.proofs.Alone.{set-else}
 use Rattle.vm_step.proofs.Asides.{whole-then}
+use Rattle.vm_step.proofs.Tables.{follows-length, set-length}
 use Rattle.vm_evict.specs.Writes.{WritesOwn}
 use Rattle.vm_evict.specs.Flushes.{IsSaved, IsSettled}
 use Rattle.vm_evict.specs.declared.flushing.Flushed.{Flushed}
 
 -- ---- lists of words
-
-set-length : (o : Option ℕ) (i : ℕ) (ws : List ℕ) → length (set_if o i ws) ≡ length ws
-set-length None i ws = refl
-set-length (Some x) i ws = length-set ws i x
 
 own-step : (start : Origin) (p j : ℕ) (d : Did) (ws : List ℕ) → WritesOwn p d → j ≢ start.pages + p → j ≢ 2 * start.pages + p → slice_index (set_if d.wrote (index_of start d.at) ws) j ≡ slice_index ws j
 own-step start p j d ws own a b =
@@ -40,10 +37,6 @@ own-step start p j d ws own a b =
 pub own-follows : (start : Origin) (p j : ℕ) (ds : List Did) (a b : List ℕ) → Follows start ds a b → Each (WritesOwn p) ds → j ≢ start.pages + p → j ≢ 2 * start.pages + p → slice_index b j ≡ slice_index a j
 own-follows start p j [] a b f own x y = ap (λ (t : List ℕ). slice_index t j) f
 own-follows start p j (d ∷ ds) a b f own x y = own-follows start p j ds (set_if d.wrote (index_of start d.at) a) b f.1 own.1 x y ∙ own-step start p j d a own.0 x y
-
-follows-length : (start : Origin) (ds : List Did) (a b : List ℕ) → Follows start ds a b → length b ≡ length a
-follows-length start [] a b f = ap (λ (t : List ℕ). length t) f
-follows-length start (d ∷ ds) a b f = follows-length start ds (set_if d.wrote (index_of start d.at) a) b f.1 ∙ set-length d.wrote (index_of start d.at) a
 
 -- what a run leaves whose last step is this one
 pub follows-end : (start : Origin) (ds : List Did) (d : Did) (a b : List ℕ) → Follows start (ds ++ d ∷ []) a b → (c : List ℕ) × (length c ≡ length a) × (b ≡ set_if d.wrote (index_of start d.at) c)

@@ -5,10 +5,15 @@ use Rattle.std.proofs.lemmas.List.{get_or-set_other, get_or-set_same, length-app
 use Rattle.vm_owner.specs.Numbers.{AreApart, has}
 use Rattle.vm_rule.specs.Views.{Each}
 use Rattle.vm_rule.proofs.Heard.{each-both}
-use Rattle.vm_step.specs.Choices.{pages_of}
+use Rattle.vm_step.specs.Choices.{candidate_pages}
 use Rattle.vm_evict.specs.Evictions.{candidate_at, gathered, stage_at}
 use Rattle.vm_evict.specs.declared.candidate.Stage.{Stage}
 use Rattle.vm_evict.specs.declared.candidate.Stage.TheVariants as stages
+
+-- one or more
+pub or-none : (a b : Bool) → (a || b) ≡ ((a || false) || b)
+or-none true b = refl
+or-none false b = refl
 
 or-rest : (a b : Bool) → a ≡ false → (a || b) ≡ true → b ≡ true
 or-rest true b f e = absurd (false≢true (sym f))
@@ -26,29 +31,29 @@ each-at P (x ∷ xs) zero below all = all.0
 each-at P (x ∷ xs) (suc n) below all = each-at P xs n (omega (arith, below)) all.1
 
 -- the page of a candidate is one of those of the list
-pub has-page : (list : List (ℕ × ℕ)) (n : ℕ) → n < length list → has (candidate_at list n).0 (pages_of list) ≡ true
+pub has-page : (list : List (ℕ × ℕ)) (n : ℕ) → n < length list → has (candidate_at list n).0 (candidate_pages list) ≡ true
 has-page [] n below = absurd (omega (arith, below))
-has-page (x ∷ xs) zero below = or_left (x.0 == x.0) (has x.0 (pages_of xs)) (eq-eqb x.0 x.0 refl)
-has-page (x ∷ xs) (suc n) below = or_right ((candidate_at xs n).0 == x.0) (has (candidate_at xs n).0 (pages_of xs)) (has-page xs n (omega (arith, below)))
+has-page (x ∷ xs) zero below = or_left (x.0 == x.0) (has x.0 (candidate_pages xs)) (eq-eqb x.0 x.0 refl)
+has-page (x ∷ xs) (suc n) below = or_right ((candidate_at xs n).0 == x.0) (has (candidate_at xs n).0 (candidate_pages xs)) (has-page xs n (omega (arith, below)))
 
 -- and each of those pages is a candidate's
-pub page-at : (list : List (ℕ × ℕ)) (q : ℕ) → has q (pages_of list) ≡ true → (n : ℕ) × (n < length list) × ((candidate_at list n).0 ≡ q)
+pub page-at : (list : List (ℕ × ℕ)) (q : ℕ) → has q (candidate_pages list) ≡ true → (n : ℕ) × (n < length list) × ((candidate_at list n).0 ≡ q)
 page-at [] q e = absurd (false≢true e)
 page-at (x ∷ xs) q e =
     ⊎_elim
     (λ (is : q ≡ x.0). (0, omega arith, sym is))
-    (λ (ne : q ≢ x.0). let r = page-at xs q (or-rest (q == x.0) (has q (pages_of xs)) (ne_eqb q x.0 ne) e) in (suc r.0, (let b = r.1 in omega (arith, b)), r.2))
+    (λ (ne : q ≢ x.0). let r = page-at xs q (or-rest (q == x.0) (has q (candidate_pages xs)) (ne_eqb q x.0 ne) e) in (suc r.0, (let b = r.1 in omega (arith, b)), r.2))
     (cases_eq q x.0)
 
 -- two places, two pages
-apart-up : (list : List (ℕ × ℕ)) (i j : ℕ) → i < j → j < length list → AreApart (pages_of list) → (candidate_at list i).0 ≢ (candidate_at list j).0
+apart-up : (list : List (ℕ × ℕ)) (i j : ℕ) → i < j → j < length list → AreApart (candidate_pages list) → (candidate_at list i).0 ≢ (candidate_at list j).0
 apart-up [] i j up below apart e = absurd (omega (arith, below))
 apart-up (x ∷ xs) zero zero up below apart e = absurd (omega (arith, up))
-apart-up (x ∷ xs) zero (suc j) up below apart e = false≢true (sym apart.0 ∙ subst (λ (p : ℕ). has p (pages_of xs) ≡ true) (sym e) (has-page xs j (omega (arith, below))))
+apart-up (x ∷ xs) zero (suc j) up below apart e = false≢true (sym apart.0 ∙ subst (λ (p : ℕ). has p (candidate_pages xs) ≡ true) (sym e) (has-page xs j (omega (arith, below))))
 apart-up (x ∷ xs) (suc i) zero up below apart e = absurd (omega (arith, up))
 apart-up (x ∷ xs) (suc i) (suc j) up below apart e = apart-up xs i j (omega (arith, up)) (omega (arith, below)) apart.1 e
 
-pub apart-at : (list : List (ℕ × ℕ)) (i j : ℕ) → i ≢ j → i < length list → j < length list → AreApart (pages_of list) → (candidate_at list i).0 ≢ (candidate_at list j).0
+pub apart-at : (list : List (ℕ × ℕ)) (i j : ℕ) → i ≢ j → i < length list → j < length list → AreApart (candidate_pages list) → (candidate_at list i).0 ≢ (candidate_at list j).0
 apart-at list i j ne bi bj apart =
     ⊎_elim (λ (up : i < j). apart-up list i j up bj apart) (λ (down : j < i). λ e. apart-up list j i down bi apart (sym e)) (either i j ne)
 

@@ -1,6 +1,7 @@
 pub mod Copying
 pub mod Writing
 pub mod Evidenced
+pub mod Tables
 pub mod FlushSteps
 pub mod FlushWords
 pub mod FlushEnds
@@ -11,6 +12,7 @@ pub mod FlushPages
 pub mod Moving
 pub mod Taken
 pub mod Dropping
+pub mod Releasing
 pub mod Locking
 pub mod Owning
 pub mod Saving

@@ -26,21 +26,24 @@ use Rattle.vm_rule.specs.Log.{did_exchange}
 use Rattle.vm_rule.specs.Mappings.{clean_in, held_at}
 use Rattle.vm_rule.proofs.Heard.{each-both}
 use Rattle.vm_rule.proofs.WordFacts.{version-within, word-state}
-use Rattle.vm_step.specs.Works.{Leaves, Works}
+use Rattle.vm_step.specs.Alone.{IsAlone, known_word_at}
+use Rattle.vm_step.specs.Works.{LeavesRest, Works}
 use Rattle.vm_step.proofs.Alone.{runs-one}
 use Rattle.vm_step.proofs.Evidenced.{lost-view, taken-view}
 use Rattle.vm_step.proofs.Asides.{starts-then}
 use Rattle.vm_step.proofs.Leaves.{leaves-quiet, works-one}
-use Rattle.vm_evict.specs.Evictions.{IsMissed, frame_at, note_at, once, release_at}
+use Rattle.vm_evict.specs.Evictions.{IsMissed, IsToShare, frame_at, note_at, once, release_at}
 use Rattle.vm_evict.specs.Phases.{Does, shares}
 use Rattle.vm_evict.specs.Stages.{Adds, Advances, IsOwning, IsSeenClean, IsWaiting, IsWriting, MayEnd, owning_seat, writing_seat}
 use Rattle.vm_evict.specs.declared.candidate.Phase.{Phase}
 use Rattle.vm_evict.specs.declared.candidate.Phase.TheVariants as phases
 use Rattle.vm_evict.specs.declared.candidate.Stage.{Stage}
 use Rattle.vm_evict.specs.declared.candidate.Stage.TheVariants as stages
-use Rattle.vm_evict.proofs.Copying.{kept-both, no-mapping}
-use Rattle.vm_evict.proofs.Evidenced.{has-lost, has-taken, none-kept, none-stored, wrote-taken}
+use Rattle.vm_evict.specs.Tables.{KnowsKept, KnowsStage}
+use Rattle.vm_evict.proofs.Copying.{not-fault, no-mapping, unsaved-both, unsaved-one}
+use Rattle.vm_evict.proofs.Evidenced.{has-lost, has-taken, lost-one, none-kept, none-stored, wrote-taken}
 use Rattle.vm_evict.proofs.Moving.{Quietly, quietly-to}
+use Rattle.vm_evict.proofs.Tables.{found-first, kept-at, kept-then, left-at, left-last, silent-page}
 use Rattle.vm_evict.proofs.Taken.{moves-by, was-free, works-rests}
 
 -- a word with a smaller state is not the marked one
@@ -74,15 +77,24 @@ module _ {X : Type 0} (phase : Phase) (old : Stage) (p word found new : ℕ) (do
   missed = record {
     why = inl (has-lost done [] (places.State p) word found new ne (none-kept done (places.State p) found h.quiet));
     cleaned = λ e. absurd (false≢true e);
-    unwritten = λ _. kept-both p done (tried ∷ []) h.kept (no-mapping p tried refl, tt);
+    unwritten = λ _. unsaved-both p done (tried ∷ []) h.kept (unsaved-one p tried refl refl);
     unreleased = each-both (λ (d : Did). d.at ≡ places.State p → d.found ≡ None → d.wrote ≡ None) done (tried ∷ []) (none-stored (places.State p) done h.quiet) ((λ here none. absurd (none-some found (sym none))), tt);
   }
 
-  pub lost-so : MayEnd phase (stages.Lost false) → Adds (release_at x (p, word)) phase phases.Leave old (stages.Lost false) [] → Adds (note_at (p, word)) phase phases.Save old (stages.Lost false) [] → Adds (frame_at (p, word)) phase phases.Empty old (stages.Lost false) [] → Advances phase (p, word) old (stages.Lost false) done v x y
-  lost-so ends releases notes frames =
+  -- a pass that is alone lost it only where it knew another word
+  lost-known : IsAlone x → p < x.start.pages → KnowsKept p v x → KnowsStage (p, word) (stages.Lost false) v y
+  lost-known alone page k =
+      let there : found ≡ known_word_at x (places.State p) = found-first tried [] [] x y lost-work.alone alone found refl in (
+        refl,
+        λ e. ne (there ∙ k.state ∙ e),
+        kept-then p v x y k (silent-page (tried ∷ []) [] x y lost-work.leaves.start lost-work.alone alone p page ((lost-one (places.State p) word found new ne).left, tt)),
+      )
+
+  pub lost-so : MayEnd phase (stages.Lost false) → Adds (release_at x (p, word)) phase phases.Leave old (stages.Lost false) [] → Adds (note_at (p, word)) phase phases.Save old (stages.Lost false) [] → Adds (frame_at (p, word)) phase phases.Empty old (stages.Lost false) [] → (KnowsStage (p, word) old v x → KnowsKept p v x) → Advances phase (p, word) old (stages.Lost false) done v x y
+  lost-so ends releases notes frames from =
       quietly-to phase (p, word) old (stages.Lost false) done (tried ∷ []) v x y lost-quiet
       (missed, works-rests p (tried ∷ []) v x y lost-work (ap (λ (z : View X). held_at z p) still-brings.view) h.rests)
-      ends releases notes frames
+      ends releases notes frames (λ alone page k. lost-known alone page (from k))
 
 -- ---- for write-back
 
@@ -111,7 +123,7 @@ module _ {X : Type 0} (tied : Start → ℕ → List ℕ → ℕ → List ℕ �
   share-stands : IsHeldAt word x.start.frames x.start.tells (last_of y p).words t.held
   share-stands = t.stands refl
 
-  share-changes : Leaves p (share-did ∷ []) x y
+  share-changes : LeavesRest p (share-did ∷ []) x y
   share-changes =
       leaves-quiet p share-did _ [] x share-inner y share-brings
       record {
@@ -135,8 +147,19 @@ module _ {X : Type 0} (tied : Start → ℕ → List ℕ → ℕ → List ℕ �
     keeps = record { frames = ap (λ (z : View X). z.frames) share-brings.view; contents = ap (λ (z : View X). z.contents) share-brings.view; notes = ap (λ (z : View X). z.notes) share-brings.view };
   }
 
-  pub writing : IsWriting p word false (done ++ share-did ∷ []) v y
-  writing = record {
+  -- a pass that is alone knew the candidate's word, and knows that of one share
+  pub share-known : IsAlone x → p < x.start.pages → KnowsKept p v x → KnowsStage (p, word) (stages.Shared false) v y
+  share-known alone page k =
+      let start = share-changes.start in
+      let runs = share-quiet.runs in
+      let there : word ≡ known_word_at x (places.State p) = found-first share-did [] [] x y runs alone word refl in (
+        record { before = sym (there ∙ k.state); now = left-at (share-did ∷ []) [] x y start runs alone (places.State p) (word_of 1 (version_of word)) (left-last [] share-did (word_of 1 (version_of word)) (wrote-taken word (word_of 1 (version_of word)))) },
+        kept-at (share-did ∷ []) [] x y start runs alone (places.Fault p) page ((λ here. absurd (not-fault p (places.State p) refl here)), tt) ∙ k.fault,
+        λ e. kept-at (share-did ∷ []) [] x y start runs alone (places.Translation p) page (no-mapping p share-did refl, tt) ∙ k.translation,
+      )
+
+  pub writing : IsToShare p word done → IsWriting p word false (done ++ share-did ∷ []) v y
+  writing why = record {
     taken = record {
       before = was-free p v x h.rests (t.unheld refl);
       start = share-changes.start ∙ h.start;
@@ -149,12 +172,12 @@ module _ {X : Type 0} (tied : Start → ℕ → List ℕ → ℕ → List ℕ �
       size = t.size;
       told = subst (λ (k : Held). k.fault ≡ k.block.count) (sym share-held) share-stands.told;
     };
-    shared = has-taken done (places.State p) word (word_of 1 (version_of word));
+    shared = record { taken = has-taken done (places.State p) word (word_of 1 (version_of word)); why = why };
     foreign = λ found ne.
         each-both (λ (d : Did). d.at ≡ places.State p → d.wrote ≢ Some found) done (share-did ∷ []) (none-kept done (places.State p) found h.quiet)
         ((λ here is. ne (same_Some found (word_of 1 (version_of word)) (sym is ∙ wrote-taken word (word_of 1 (version_of word))))), tt);
     unreleased = each-both (λ (d : Did). d.at ≡ places.State p → d.found ≡ None → d.wrote ≡ None) done (share-did ∷ []) (none-stored (places.State p) done h.quiet) ((λ here none. absurd (none-some word (sym none))), tt);
-    kept = λ _. kept-both p done (share-did ∷ []) h.kept (no-mapping p share-did refl, tt);
+    kept = λ _. unsaved-both p done (share-did ∷ []) h.kept (unsaved-one p share-did refl refl);
     resident = subst (λ (k : Held). IsSome k.mapping) (sym share-held) (share-stands.resident (not-evicted word marked));
     cleaned = λ e. absurd (false≢true e);
   }
@@ -210,7 +233,7 @@ module _ {X : Type 0} (tied : Start → ℕ → List ℕ → ℕ → List ℕ �
   pub clean-frame : (frame : ℕ) × (t.held.mapping ≡ Some (clean_in frame))
   clean-frame = clean-of t.held.mapping (lock-stands.resident (not-evicted word marked)) is-clean
 
-  lock-changes : Leaves p (lock-did ∷ []) x y
+  lock-changes : LeavesRest p (lock-did ∷ []) x y
   lock-changes =
       leaves-quiet p lock-did _ [] x lock-inner y lock-brings
       record {
@@ -234,6 +257,15 @@ module _ {X : Type 0} (tied : Start → ℕ → List ℕ → ℕ → List ℕ �
     keeps = record { frames = ap (λ (z : View X). z.frames) lock-brings.view; contents = ap (λ (z : View X). z.contents) lock-brings.view; notes = ap (λ (z : View X). z.notes) lock-brings.view };
   }
 
+  lock-known : IsAlone x → p < x.start.pages → KnowsKept p v x → KnowsStage (p, word) (stages.Owned false) v y
+  lock-known alone page k =
+      let start = lock-changes.start in
+      let runs = lock-quiet.runs in
+      let there : word ≡ known_word_at x (places.State p) = found-first lock-did [] [] x y runs alone word refl in (
+        record { before = sym (there ∙ k.state); now = left-at (lock-did ∷ []) [] x y start runs alone (places.State p) (word_of LOCKED (version_of word)) (left-last [] lock-did (word_of LOCKED (version_of word)) (wrote-taken word (word_of LOCKED (version_of word)))) },
+        kept-at (lock-did ∷ []) [] x y start runs alone (places.Fault p) page ((λ here. absurd (not-fault p (places.State p) refl here)), tt) ∙ k.fault,
+      )
+
   owning : IsOwning p word clean-frame.0 false (done ++ lock-did ∷ []) v y
   owning = record {
     taken = record {
@@ -255,9 +287,10 @@ module _ {X : Type 0} (tied : Start → ℕ → List ℕ → ℕ → List ℕ �
     stands = ap (λ (k : Held). k.mapping) lock-held ∙ clean-frame.1;
     draft = ap (λ (z : View X). draft_of z p) lock-brings.view ∙ upd-same (put_at [] x.drafts) p (last_of y p).words;
     cleaned = λ e. absurd (false≢true e);
-    kept = λ _. kept-both p done (lock-did ∷ []) seen.waits.kept (no-mapping p lock-did refl, tt);
+    kept = λ _. unsaved-both p done (lock-did ∷ []) seen.waits.kept (unsaved-one p lock-did refl refl);
   }
 
   pub locked-so : Advances phases.Lock (p, word) stages.Clean (stages.Owned false) done v x y
   locked-so =
       quietly-to phases.Lock (p, word) stages.Clean (stages.Owned false) done (lock-did ∷ []) v x y lock-quiet (clean-frame.0, owning) tt record { is = refl; when = inl refl } record { is = refl; when = inl refl } record { is = refl; when = inl refl }
+      lock-known

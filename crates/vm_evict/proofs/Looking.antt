@@ -1,12 +1,12 @@
 -- The look at a candidate and the load of its translation word: where the look found the candidate's word, the pass reads the page at its version.
-use Rattle.std.proofs.Common.{ℕ, Bool, ◌≡◌, ◌≢◌, ◌++◌, true, false, List, [], ◌∷◌, Option, Some, None, refl, ap, ◌∙◌, ⊎_elim, inl, inr, eqb}
-use Rattle.std.proofs.lemmas.Bool.{cases_eq, cond-false, cond-true, eq-eqb, ne_eqb}
+use Rattle.std.proofs.Common.{ℕ, ◌≡◌, ◌≢◌, ◌<◌, ◌++◌, true, false, List, [], ◌∷◌, Option, Some, None, refl, sym, ap, ◌∙◌, ⊎_elim, inl, inr, eqb, is_some, append_assoc}
+use Rattle.std.proofs.lemmas.Bool.{cases_eq, cond-false, cond-true, eq-eqb, false≢true, ne_eqb}
 use Rattle.vm_core.specs.declared.event.Open.{Open}
 use Rattle.vm_core.specs.declared.event.ReadIs.{ReadIs}
 use Rattle.vm_core.specs.declared.event.ReadIs.TheVariants.{Opened, Same, Moved, Closed}
 use Rattle.vm_core.specs.declared.event.Seat.{Seat}
-use Rattle.vm_core.specs.Words.{MARKED, frame_in, is_dirty, state_of, version_of}
-use Rattle.vm_core.specs.FrameActs.{mapping_at}
+use Rattle.vm_core.specs.Words.{MARKED, state_of, version_of}
+use Rattle.vm_core.specs.FrameActs.{mapping_of}
 use Rattle.vm_core.specs.History.{kept_loads}
 use Rattle.vm_core.specs.StateActs.{is_readable, left_open, open_after}
 use Rattle.vm_core.specs.Start.{no_seat}
@@ -26,17 +26,21 @@ use Rattle.vm_rule.specs.Log.{did_load}
 use Rattle.vm_rule.specs.Looks.{LookTold, left_at, looked_view, ties_below, where_same}
 use Rattle.vm_rule.proofs.Entries.{append-none}
 use Rattle.vm_rule.proofs.Heard.{each-both}
-use Rattle.vm_step.specs.Works.{Leaves}
+use Rattle.vm_step.specs.Alone.{IsAlone}
+use Rattle.vm_step.specs.Works.{LeavesRest}
 use Rattle.vm_step.proofs.Alone.{runs-one}
 use Rattle.vm_step.proofs.Asides.{starts-then, OnlyReads, holds-then, knows-then, look-only, only-then, still-locking, translation-only}
 use Rattle.vm_step.proofs.Leaves.{leaves-quiet}
+use Rattle.vm_evict.specs.Evictions.{IsToShare}
 use Rattle.vm_evict.specs.Phases.{writes}
 use Rattle.vm_evict.specs.Stages.{Advances, IsSeenClean, IsWaiting}
-use Rattle.vm_evict.specs.Writes.{reads}
+use Rattle.vm_evict.specs.Tables.{KnowsKept}
+use Rattle.vm_evict.specs.Writes.{IsDirtyFrame, reads}
 use Rattle.vm_evict.specs.declared.candidate.Phase.TheVariants as phases
 use Rattle.vm_evict.specs.declared.candidate.Stage.TheVariants as stages
-use Rattle.vm_evict.proofs.Copying.{kept-both}
+use Rattle.vm_evict.proofs.Copying.{unsaved-both, unsaved-load, unsaved-one}
 use Rattle.vm_evict.proofs.Moving.{Quietly, quietly-then, quietly-to}
+use Rattle.vm_evict.proofs.Tables.{kept-then, silent-page}
 use Rattle.vm_evict.proofs.Taken.{moves-by, tload-keeps, tload-leaves}
 
 -- a look at a page that can be read leaves an open read at the version found
@@ -50,10 +54,6 @@ opened-at found (Some o) open_word =
     (λ (ne : o.version ≢ version_of found).
     (record { version = version_of found; frame = None }, ap (λ (l : ReadIs). open_after l (Some o) (version_of found)) (left ∙ cond-false (eqb o.version (version_of found)) Same Moved (ne_eqb o.version (version_of found) ne)), refl))
     (cases_eq o.version (version_of found))
-
-dirty-of-parts : (o : Option ℕ) (dirty : Bool) → dirty ≡ false → stands_dirty (mapping_at o dirty) ≡ false
-dirty-of-parts None dirty e = refl
-dirty-of-parts (Some f) dirty e = e
 
 -- one choice of both
 same-both : {A : Type 0} (left : ReadIs) (x : A) → where_same left x x ≡ x
@@ -72,7 +72,7 @@ module _ {X : Type 0} (tied : Start → ℕ → List ℕ → ℕ → List ℕ �
   abbrev left : ReadIs
   left = left_at found (seat_of x p).reading
 
-  look-changes : Leaves p (look-did ∷ []) x a
+  look-changes : LeavesRest p (look-did ∷ []) x a
   look-changes =
       leaves-quiet p look-did None (where_same left (entries_of x None) []) x (looked_view p None found (last_of a p).words x) a look.brings
       record {
@@ -100,7 +100,7 @@ module _ {X : Type 0} (tied : Start → ℕ → List ℕ → ℕ → List ℕ �
   load-quiet = record {
     moves = record {
       leaves = tload-leaves p t a b load;
-      does = (writes (reads (inr (inl refl)) refl refl), tt);
+      does = (writes (reads (inl refl) refl refl), tt);
       home = λ e. ap (λ (y : View X). y.out) load.brings.view ∙ e;
       newer = translation_of p t (seat_of a p).reading;
       reads = ap (λ (y : View X). y.translations) load.brings.view;
@@ -119,7 +119,7 @@ module _ {X : Type 0} (tied : Start → ℕ → List ℕ → ℕ → List ℕ �
       = only-then (λ q. q ≡ p) (look-did ∷ []) (load-did ∷ []) x a b (look-only (λ q. q ≡ p) tied p found x a refl look) (translation-only (λ q. q ≡ p) p t a b refl load) in
       record {
         quiet = each-both (λ (d : Did). d.at ≡ places.State p → d.wrote ≡ None) done (look-did ∷ load-did ∷ []) h.quiet ((λ here. refl), ((λ here. refl), tt));
-        kept = kept-both p done (look-did ∷ load-did ∷ []) h.kept ((λ here. refl), ((λ here. refl), tt));
+        kept = unsaved-both p done (look-did ∷ load-did ∷ []) h.kept (unsaved-both p (look-did ∷ []) (load-did ∷ []) (unsaved-one p look-did refl refl) (unsaved-load p t));
         start = only.aside.start ∙ h.start;
         since = starts-then v.releases x.releases b.releases h.since only.aside.releases;
         rests = record {
@@ -128,7 +128,20 @@ module _ {X : Type 0} (tied : Start → ℕ → List ℕ → ℕ → List ℕ �
         };
       }
 
-  module _ (same : found ≡ word) (marked : state_of word ≡ MARKED) (clean : is_dirty t ≡ false) where
+  -- a pass that is alone knows its words as before
+  pub waits-known : IsAlone x → p < x.start.pages → KnowsKept p v x → KnowsKept p v b
+  waits-known alone page k = kept-then p v x b k (silent-page (look-did ∷ load-did ∷ []) [] x b looked.moves.leaves.start looked.runs alone p page (refl, (refl, tt)))
+
+  -- it is to be shared where the look found another word, or the load a dirty page
+  pub shares-another : found ≢ word → IsToShare p word (done ++ look-did ∷ load-did ∷ [])
+  shares-another ne = inr (found, record { earlier = done; step = look-did; later = load-did ∷ []; cut = refl; gives = (refl, refl) }, (refl, refl), ne)
+
+  pub shares-dirty : (o : Option ℕ) → IsDirtyFrame t o → is_some o ≡ true → IsToShare p word (done ++ look-did ∷ load-did ∷ [])
+  shares-dirty None d some = absurd (false≢true some)
+  shares-dirty (Some f) d some =
+      inl (f, (t, record { earlier = done ++ look-did ∷ []; step = load-did; later = []; cut = sym (append_assoc done (look-did ∷ []) (load-did ∷ [])); gives = (refl, refl) }, d))
+
+  module _ (same : found ≡ word) (marked : state_of word ≡ MARKED) (clean : stands_dirty (mapping_of t) ≡ false) where
     read : (r : Open) × (open_after left (seat_of x p).reading (version_of found) ≡ Some r) × (r.version ≡ version_of found)
     read = opened-at found (seat_of x p).reading (ap (λ (n : ℕ). is_readable (state_of n)) same ∙ ap is_readable marked)
 
@@ -148,10 +161,11 @@ module _ {X : Type 0} (tied : Start → ℕ → List ℕ → ℕ → List ℕ �
           ap (λ (y : View X). y.translations) load.brings.view
           ∙ ap (λ (o : Option Open). translation_of p t o ++ a.translations) reading
           ∙ ap (λ (n : ℕ). record { page = p; version = n; word = t } ∷ a.translations) (read.2 ∙ ap version_of same);
-      clean = dirty-of-parts (frame_in t) (is_dirty t) clean;
+      clean = clean;
     }
 
     -- it is clean, and left for the next phase
     pub clean-so : Advances phases.Save (p, word) stages.Waiting stages.Clean done v x b
     clean-so =
         quietly-to phases.Save (p, word) stages.Waiting stages.Clean done (look-did ∷ load-did ∷ []) v x b looked seen-clean tt record { is = refl; when = inl refl } record { is = refl; when = inl refl } record { is = refl; when = inl refl }
+        waits-known

@@ -1,25 +1,28 @@
 -- The steps of a phase on one candidate: they are on the candidate's own words, and one run of them behind another is one run.
-use Rattle.std.proofs.Common.{ℕ, Bool, ◌≡◌, ◌≢◌, ◌++◌, ◌<◌, ◌||◌, false, arith, List, [], ◌∷◌, refl, sym, ap, subst, ◌∙◌, ⊎_elim, inl, inr, append_assoc}
+use Rattle.std.proofs.Common.{ℕ, Bool, ◌≡◌, ◌≢◌, ◌++◌, ◌<◌, ◌||◌, false, List, [], ◌∷◌, refl, sym, ap, subst, ◌∙◌, ⊎_elim, inl, append_assoc}
 use Rattle.vm_owner.specs.Numbers.{has}
 use Rattle.vm_rule.specs.declared.view.Did.{Did}
 use Rattle.vm_rule.specs.declared.view.Note.{Note}
 use Rattle.vm_rule.specs.declared.view.Origin.{Origin}
 use Rattle.vm_rule.specs.declared.view.Place.{Place}
 use Rattle.vm_rule.specs.declared.view.Place.TheVariants as places
+use Rattle.vm_rule.specs.declared.view.Release.{Release}
 use Rattle.vm_rule.specs.declared.view.Translation.{Translation}
 use Rattle.vm_rule.specs.declared.view.View.{View}
 use Rattle.vm_rule.specs.Puts.{put_at}
 use Rattle.vm_rule.specs.Views.{Each}
 use Rattle.vm_rule.proofs.Entries.{append-none}
 use Rattle.vm_rule.proofs.Heard.{each-both}
-use Rattle.vm_step.specs.Alone.{RunsAlone}
+use Rattle.vm_step.specs.Alone.{IsAlone, RunsAlone}
 use Rattle.vm_step.specs.Asides.{KeepsFrames}
-use Rattle.vm_step.proofs.Alone.{runs-self, runs-then, stays-alone}
+use Rattle.vm_step.specs.DeviceCalls.{IsOfPage}
+use Rattle.vm_step.proofs.Alone.{runs-self, runs-then, stays-alone, still-alone}
 use Rattle.vm_step.proofs.Asides.{alone-then, keeps-self, keeps-then}
 use Rattle.vm_step.proofs.Leaves.{leaves-then, works-none}
 use Rattle.vm_evict.specs.Evictions.{FramesCome, frame_at, note_at, release_at}
 use Rattle.vm_evict.specs.Phases.{Does, GivesUp, Saves, writes, shares, gives_up}
-use Rattle.vm_evict.specs.Stages.{Adds, Advances, Comes, IsAt, MayBegin, MayEnd, Moves, one, still}
+use Rattle.vm_evict.specs.Stages.{Adds, Advances, Comes, IsAt, MayBeginPhase, MayEnd, Moves, one, still}
+use Rattle.vm_evict.specs.Tables.{KnowsStage}
 use Rattle.vm_evict.specs.Writes.{IsOwnPlace, WritesPage}
 use Rattle.vm_evict.specs.declared.candidate.Phase.{Phase}
 use Rattle.vm_evict.specs.declared.candidate.Phase.TheVariants as phases
@@ -30,50 +33,35 @@ use Rattle.vm_evict.proofs.Copying.{written-own}
 -- ---- the words that a phase steps on
 
 given-own : (p : ℕ) (d : Did) → GivesUp p d → IsOwnPlace p d.at
-given-own p d g = inl (ap (λ (e : Did). e.at) g.1)
+given-own p d g = inl (subst (λ (e : Did). IsOfPage p e.at) (sym g.1) refl)
 
 saved-own : (c : ℕ × ℕ) (d : Did) → Saves c d → IsOwnPlace c.0 d.at
 saved-own c d (writes w) = written-own c.0 d w
-saved-own c d (shares found is) = inl (ap (λ (e : Did). e.at) is)
+saved-own c d (shares found is) = inl (subst (λ (e : Did). IsOfPage c.0 e.at) (sym is) refl)
 saved-own c d (gives_up g) = given-own c.0 d g
 
 does-own : (phase : Phase) (c : ℕ × ℕ) (d : Did) → Does phase c d → IsOwnPlace c.0 d.at
 does-own phases.Save c d s = saved-own c d s
-does-own phases.Lock c d s = inl (ap (λ (e : Did). e.at) s.1)
-does-own phases.Raise c d s = ⊎_elim (λ t. inl (ap (λ (e : Did). e.at) t.1)) (λ g. given-own c.0 d g) s
-does-own phases.Empty c d s = ⊎_elim (λ t. inr (inl (ap (λ (e : Did). e.at) t.1))) (λ e. inr (inl (ap (λ (f : Did). f.at) e))) s
-does-own phases.Leave c d s = inl (ap (λ (e : Did). e.at) s)
+does-own phases.Lock c d s = inl (subst (λ (e : Did). IsOfPage c.0 e.at) (sym s.1) refl)
+does-own phases.Raise c d s = ⊎_elim (λ t. inl (subst (λ (e : Did). IsOfPage c.0 e.at) (sym t.1) refl)) (λ g. given-own c.0 d g) s
+does-own phases.Empty c d s = ⊎_elim (λ t. inl (subst (λ (e : Did). IsOfPage c.0 e.at) (sym t.1) refl)) (λ is. inl (subst (λ (e : Did). IsOfPage c.0 e.at) (sym is) refl)) s
+does-own phases.Leave c d s = inl (subst (λ (e : Did). IsOfPage c.0 e.at) (sym s) refl)
 
--- the page of a state, translation or fault word, and the kind of a word
-abbrev page-of : Place → ℕ
-page-of (places.State p) = p
-page-of (places.Translation p) = p
-page-of (places.Fault p) = p
-page-of at = 0
+-- a word of page q that is one of page p
+own-state : (p q : ℕ) → IsOwnPlace p (places.State q) → p ≡ q
+own-state p q own = ⊎_elim (λ (e : q ≡ p). sym e) (λ c. (let no : places.State q ≡ places.Content c.0 c.1 = c.2 in cc)) own
 
-abbrev kind-of : Place → ℕ
-kind-of (places.State p) = 0
-kind-of (places.Translation p) = 1
-kind-of (places.Fault p) = 2
-kind-of at = 3
+own-translation : (p q : ℕ) → IsOwnPlace p (places.Translation q) → p ≡ q
+own-translation p q own = ⊎_elim (λ (e : q ≡ p). sym e) (λ c. (let no : places.Translation q ≡ places.Content c.0 c.1 = c.2 in cc)) own
 
-abbrev number : ℕ → ℕ
-number n = n
+own-fault : (p q : ℕ) → IsOwnPlace p (places.Fault q) → p ≡ q
+own-fault p q own = ⊎_elim (λ (e : q ≡ p). sym e) (λ c. (let no : places.Fault q ≡ places.Content c.0 c.1 = c.2 in cc)) own
 
 -- a word of page p is none of the three words of another page
-own-else : (p q : ℕ) (at : Place) → p ≢ q → IsOwnPlace p at → (at ≢ places.State q) × (at ≢ places.Translation q) × (at ≢ places.Fault q)
+pub own-else : (p q : ℕ) (at : Place) → p ≢ q → IsOwnPlace p at → (at ≢ places.State q) × (at ≢ places.Translation q) × (at ≢ places.Fault q)
 own-else p q at ne own =
-    let page : (b : Place) → (kind-of b ≡ 3 → ⊥) → page-of b ≡ q → at ≡ b → ⊥
-    = λ b low is e.
-    ⊎_elim
-    (λ (h : at ≡ places.State p). ne (ap page-of (sym h ∙ e) ∙ is))
-    (λ r. ⊎_elim
-    (λ (h : at ≡ places.Translation p). ne (ap page-of (sym h ∙ e) ∙ is))
-    (λ s. ⊎_elim
-    (λ (h : at ≡ places.Fault p). ne (ap page-of (sym h ∙ e) ∙ is))
-    (λ f. low (ap kind-of (sym e ∙ f.2))) s) r)
-    own in
-    (page (places.State q) (λ e. let n : 0 ≡ 3 = e in absurd (omega (arith, n))) refl, page (places.Translation q) (λ e. let n : 1 ≡ 3 = e in absurd (omega (arith, n))) refl, page (places.Fault q) (λ e. let n : 2 ≡ 3 = e in absurd (omega (arith, n))) refl)
+    let other : (b : Place) → (IsOwnPlace p b → p ≡ q) → at ≢ b = λ b same e. ne (same (subst (IsOwnPlace p) e own)) in
+    (other (places.State q) (own-state p q), other (places.Translation q) (own-translation p q), other (places.Fault q) (own-fault p q))
 
 module _ (phase : Phase) (c : ℕ × ℕ) (q : ℕ) (ne : q ≢ c.0) where
   else-of : (d : Did) → Does phase c d → (d.at ≢ places.State q) × (d.at ≢ places.Translation q) × (d.at ≢ places.Fault q)
@@ -86,6 +74,10 @@ module _ (phase : Phase) (c : ℕ × ℕ) (q : ℕ) (ne : q ≢ c.0) where
   pub no-translation-of : (more : List Did) → Each (Does phase c) more → Each (λ d. d.at ≢ places.Translation q) more
   no-translation-of [] s = tt
   no-translation-of (d ∷ ds) s = ((else-of d s.0).1, no-translation-of ds s.1)
+
+  pub no-fault-of : (more : List Did) → Each (Does phase c) more → Each (λ d. d.at ≢ places.Fault q) more
+  no-fault-of [] s = tt
+  no-fault-of (d ∷ ds) s = ((else-of d s.0).2, no-fault-of ds s.1)
 
 -- steps of a write-back are steps of the first phase
 pub saves-all : (c : ℕ × ℕ) (done : List Did) → Each (WritesPage c.0) done → Each (Does phases.Save c) done
@@ -122,9 +114,14 @@ module _ {X : Type 0} where
     keeps = keeps-then x y z f.keeps g.keeps;
   }
 
+  -- what a pass that is alone knows of the candidate's words over some steps
+  abbrev pub KnowsOver : ℕ × ℕ → Stage → Stage → View X → View X → View X → Type 0
+  KnowsOver c old new v x y = IsAlone x → c.0 < x.start.pages → KnowsStage c old v x → KnowsStage c new v y
+
   -- a candidate that such steps bring to another stage, which gives nothing
-  pub quietly-to : (phase : Phase) (c : ℕ × ℕ) (old new : Stage) (done more : List Did) (v x y : View X) → Quietly phase c more x y → IsAt c new (done ++ more) v y → MayEnd phase new → Adds (release_at x c) phase phases.Leave old new [] → Adds (note_at c) phase phases.Save old new [] → Adds (frame_at c) phase phases.Empty old new [] → Advances phase c old new done v x y
-  quietly-to phase c old new done more v x y q at ends releases notes frames = record {
+  pub quietly-to : (phase : Phase) (c : ℕ × ℕ) (old new : Stage) (done more : List Did) (v x y : View X) → Quietly phase c more x y → IsAt c new (done ++ more) v y → MayEnd phase new → Adds (release_at x c) phase phases.Leave old new [] → Adds (note_at c) phase phases.Save old new [] → Adds (frame_at c) phase phases.Empty old new []
+      → KnowsOver c old new v x y → Advances phase c old new done v x y
+  quietly-to phase c old new done more v x y q at ends releases notes frames table = record {
     more = more;
     moves = q.moves;
     at = at;
@@ -139,6 +136,7 @@ module _ {X : Type 0} where
     frames = [];
     come = still refl q.keeps.frames q.keeps.contents;
     frames_are = frames;
+    table = table;
   }
 
   -- no step: the stage stays
@@ -151,6 +149,7 @@ module _ {X : Type 0} where
       (adds-none (release_at x c) phase phases.Leave s)
       (adds-none (note_at c) phase phases.Save s)
       (adds-none (frame_at c) phase phases.Empty s)
+      (λ a page k. k)
 
   -- after the first phase no page was released
   none-given : (x : View X) (c : ℕ × ℕ) (s : Stage) → MayEnd phases.Save s → release_at x c s ≡ []
@@ -171,9 +170,21 @@ module _ {X : Type 0} where
   comes-after frames u v w start k (still none f c) = still none (f ∙ k.frames) (c ∙ k.contents)
   comes-after frames u v w start k (one f is come) = one f is (come-after (f ∷ []) u v w start k come)
 
-  -- quiet steps in front, in the first phase
-  pub advances-after : (c : ℕ × ℕ) (new : Stage) (done a : List Did) (v x y z : View X) → Quietly phases.Save c a x y → Advances phases.Save c stages.Waiting new (done ++ a) v y z → Advances phases.Save c stages.Waiting new done v x z
-  advances-after c new done a v x y z q t = record {
+  -- a stage that gives nothing
+  pub record GivesNone (x : View X) (c : ℕ × ℕ) (s : Stage) : Type 0 where
+    pub releases : release_at x c s ≡ []
+    pub notes : note_at c s ≡ []
+    pub frames : frame_at c s ≡ []
+
+  pub none-waiting : (x : View X) (c : ℕ × ℕ) → GivesNone x c stages.Waiting
+  none-waiting x c = record { releases = refl; notes = refl; frames = refl }
+
+  pub none-shared : (x : View X) (c : ℕ × ℕ) (written : Bool) → GivesNone x c (stages.Shared written)
+  none-shared x c written = record { releases = refl; notes = refl; frames = refl }
+
+  -- quiet steps in front, in the first phase, from a stage that gives nothing to another one
+  pub advances-after : (c : ℕ × ℕ) (old mid new : Stage) (done a : List Did) (v x y z : View X) → Quietly phases.Save c a x y → GivesNone x c old → GivesNone y c mid → KnowsOver c old mid v x y → Advances phases.Save c mid new (done ++ a) v y z → Advances phases.Save c old new done v x z
+  advances-after c old mid new done a v x y z q from to table t = record {
     more = a ++ t.more;
     moves = moves-then phases.Save c a t.more x y z q.moves t.moves;
     at = subst (λ (l : List Did). IsAt c new l v z) (append_assoc done a t.more) t.at;
@@ -181,13 +192,17 @@ module _ {X : Type 0} where
     own = t.own;
     runs = runs-then a t.more [] t.own x y z q.moves.leaves.start q.moves.leaves.parts q.runs t.runs;
     alone = alone-then x y z q.moves.leaves.parts (stays-alone a x y q.moves.leaves.start q.runs) t.alone;
-    releases = record { is = none-given x c new t.ends ∙ sym (none-given y c new t.ends) ∙ t.releases.is; when = t.releases.when };
+    releases = record {
+      is = none-given x c new t.ends ∙ sym (none-given y c new t.ends) ∙ t.releases.is ∙ ap (λ (l : List Release). l ++ t.own) (to.releases ∙ sym from.releases);
+      when = t.releases.when;
+    };
     notes = t.notes;
     noted = t.noted ∙ ap (λ (l : List Note). l ++ t.notes) q.keeps.notes;
-    notes_are = t.notes_are;
+    notes_are = record { is = t.notes_are.is ∙ ap (λ (l : List Note). l ++ t.notes) (to.notes ∙ sym from.notes); when = t.notes_are.when };
     frames = t.frames;
     come = comes-after t.frames x y z q.moves.leaves.start q.keeps t.come;
-    frames_are = t.frames_are;
+    frames_are = record { is = t.frames_are.is ∙ ap (λ (l : List ℕ). l ++ t.frames) (to.frames ∙ sym from.frames); when = t.frames_are.when };
+    table = λ alone page k. t.table (still-alone x y q.moves.leaves.parts q.runs.current alone) (subst (λ (o : Origin). c.0 < o.pages) (sym q.moves.leaves.start) page) (table alone page k);
   }
 
   -- a step from a stage is one from the stage that it equals
@@ -198,7 +213,7 @@ module _ {X : Type 0} where
 
 -- ---- the stages that a phase leaves
 
-pub begins-waiting : (s : Stage) → MayBegin phases.Save s → s ≡ stages.Waiting
+pub begins-waiting : (s : Stage) → MayBeginPhase phases.Save s → s ≡ stages.Waiting
 begins-waiting stages.Waiting b = refl
 begins-waiting stages.Clean b = absurd b
 begins-waiting (stages.Shared written) b = absurd b
@@ -208,7 +223,7 @@ begins-waiting (stages.Freed frame written) b = absurd b
 begins-waiting (stages.Failed count) b = absurd b
 begins-waiting (stages.Lost written) b = absurd b
 
-lock-leaves : (s : Stage) → (s ≡ stages.Clean → ⊥) → MayBegin phases.Lock s → MayEnd phases.Lock s
+lock-leaves : (s : Stage) → (s ≡ stages.Clean → ⊥) → MayBeginPhase phases.Lock s → MayEnd phases.Lock s
 lock-leaves stages.Waiting ne b = absurd b
 lock-leaves stages.Clean ne b = absurd (ne refl)
 lock-leaves (stages.Shared written) ne b = tt
@@ -218,7 +233,7 @@ lock-leaves (stages.Freed frame written) ne b = absurd b
 lock-leaves (stages.Failed count) ne b = tt
 lock-leaves (stages.Lost written) ne b = tt
 
-raise-leaves : (s : Stage) → ((written : Bool) → s ≡ stages.Shared written → ⊥) → MayBegin phases.Raise s → MayEnd phases.Raise s
+raise-leaves : (s : Stage) → ((written : Bool) → s ≡ stages.Shared written → ⊥) → MayBeginPhase phases.Raise s → MayEnd phases.Raise s
 raise-leaves stages.Waiting ne b = absurd b
 raise-leaves stages.Clean ne b = absurd b
 raise-leaves (stages.Shared written) ne b = absurd (ne written refl)
@@ -228,7 +243,7 @@ raise-leaves (stages.Freed frame written) ne b = absurd b
 raise-leaves (stages.Failed count) ne b = tt
 raise-leaves (stages.Lost written) ne b = tt
 
-empty-leaves : (s : Stage) → ((written : Bool) → s ≡ stages.Owned written → ⊥) → MayBegin phases.Empty s → MayEnd phases.Empty s
+empty-leaves : (s : Stage) → ((written : Bool) → s ≡ stages.Owned written → ⊥) → MayBeginPhase phases.Empty s → MayEnd phases.Empty s
 empty-leaves stages.Waiting ne b = absurd b
 empty-leaves stages.Clean ne b = absurd b
 empty-leaves (stages.Shared written) ne b = absurd b
@@ -238,7 +253,7 @@ empty-leaves (stages.Freed frame written) ne b = absurd b
 empty-leaves (stages.Failed count) ne b = tt
 empty-leaves (stages.Lost written) ne b = tt
 
-leave-leaves : (s : Stage) → ((frame : ℕ) (written : Bool) → s ≡ stages.Emptied frame written → ⊥) → MayBegin phases.Leave s → MayEnd phases.Leave s
+leave-leaves : (s : Stage) → ((frame : ℕ) (written : Bool) → s ≡ stages.Emptied frame written → ⊥) → MayBeginPhase phases.Leave s → MayEnd phases.Leave s
 leave-leaves stages.Waiting ne b = absurd b
 leave-leaves stages.Clean ne b = absurd b
 leave-leaves (stages.Shared written) ne b = absurd b
@@ -248,9 +263,9 @@ leave-leaves (stages.Freed frame written) ne b = absurd b
 leave-leaves (stages.Failed count) ne b = tt
 leave-leaves (stages.Lost written) ne b = tt
 
-module _ {X : Type 0} (phase : Phase) (c : ℕ × ℕ) (s : Stage) (done : List Did) (v x : View X) (b : MayBegin phase s) (h : IsAt c s done v x) where
-  left-by : (k : Phase) → phase ≡ k → (MayBegin k s → MayEnd k s) → Advances phase c s s done v x x
-  left-by k is f = stays-so phase c s done v x h (subst (λ (j : Phase). MayEnd j s) (sym is) (f (subst (λ (j : Phase). MayBegin j s) is b)))
+module _ {X : Type 0} (phase : Phase) (c : ℕ × ℕ) (s : Stage) (done : List Did) (v x : View X) (b : MayBeginPhase phase s) (h : IsAt c s done v x) where
+  left-by : (k : Phase) → phase ≡ k → (MayBeginPhase k s → MayEnd k s) → Advances phase c s s done v x x
+  left-by k is f = stays-so phase c s done v x h (subst (λ (j : Phase). MayEnd j s) (sym is) (f (subst (λ (j : Phase). MayBeginPhase j s) is b)))
 
   pub lock-skips : phase ≡ phases.Lock → (s ≡ stages.Clean → ⊥) → Advances phase c s s done v x x
   lock-skips is ne = left-by phases.Lock is (lock-leaves s ne)

@@ -21,22 +21,26 @@ use Rattle.vm_rule.specs.Log.{did_change, did_exchange}
 use Rattle.vm_rule.specs.Mappings.{clean_in, held_at}
 use Rattle.vm_rule.proofs.Heard.{each-both}
 use Rattle.vm_rule.proofs.WordFacts.{version-within, word-state, word-version}
+use Rattle.vm_step.specs.Alone.{IsAlone}
 use Rattle.vm_step.specs.Conditions.{MayUnshare}
 use Rattle.vm_step.specs.Evidence.{IsLost}
-use Rattle.vm_step.specs.Works.{Leaves, Works}
+use Rattle.vm_step.specs.Works.{LeavesRest, Works}
 use Rattle.vm_step.proofs.Alone.{runs-one}
 use Rattle.vm_step.proofs.Asides.{starts-then}
+use Rattle.vm_step.proofs.DeviceCalls.{no-fault}
 use Rattle.vm_step.proofs.Leaves.{last-quiet, leaves-quiet, works-one}
 use Rattle.vm_step.proofs.Evidenced.{lost-view, taken-view}
-use Rattle.vm_evict.specs.Evictions.{HasLost, HasSaved, IsMissed, LocksFrom, by_share}
+use Rattle.vm_evict.specs.Evictions.{HasLost, IsMissed, IsSavedFrom, LocksFrom, by_share}
 use Rattle.vm_evict.specs.Phases.{Raises}
-use Rattle.vm_evict.specs.Stages.{Advances, IsOwning, IsTaken, IsWriting, writing_seat}
+use Rattle.vm_evict.specs.Stages.{Advances, IsOwning, HasLockTaken, IsWriting, writing_seat}
 use Rattle.vm_evict.specs.declared.candidate.Phase.TheVariants as phases
 use Rattle.vm_evict.specs.declared.candidate.Stage.TheVariants as stages
-use Rattle.vm_evict.proofs.Copying.{kept-both, no-mapping}
+use Rattle.vm_evict.specs.Tables.{KnowsStage}
+use Rattle.vm_evict.proofs.Copying.{not-fault, unsaved-both, unsaved-one}
 use Rattle.vm_evict.proofs.Evidenced.{frame-one, lost-one, saved-front, wrote-taken}
 use Rattle.vm_evict.proofs.Locking.{not-marked}
 use Rattle.vm_evict.proofs.Moving.{Quietly, quietly-then, quietly-to}
+use Rattle.vm_evict.proofs.Tables.{found-first, kept-at, left-at, left-last}
 use Rattle.vm_evict.proofs.Taken.{given-quiet, given-rests, locks-now, may-unshare, moves-by, taken-works}
 
 module _ {X : Type 0} (tied : Start → ℕ → List ℕ → ℕ → List ℕ → Type 0) (p word : ℕ) (written : Bool) (done : List Did) (v x : View X) (h : IsWriting p word written done v x) where
@@ -89,7 +93,7 @@ module _ {X : Type 0} (tied : Start → ℕ → List ℕ → ℕ → List ℕ �
     last-now : last_of y p ≡ last_of x p
     last-now = last-quiet p took _ [] x inner y brings refl p locks
 
-    changes : Leaves p (took ∷ []) x y
+    changes : LeavesRest p (took ∷ []) x y
     changes = leaves-quiet p took _ [] x inner y brings
         record {
           log = refl;
@@ -150,12 +154,24 @@ module _ {X : Type 0} (tied : Start → ℕ → List ℕ → ℕ → List ℕ �
       cleaned = λ e.
           let there = h.cleaned e in
           let same : there.0 ≡ frame = frame-one there.0 frame (sym there.1 ∙ stands) in
-          saved-front p frame done (took ∷ []) (subst (λ (n : ℕ). HasSaved p n done) same there.2);
-      kept = λ e. kept-both p done (took ∷ []) (h.kept e) (no-mapping p took refl, tt);
+          saved-front p word frame done (took ∷ []) (subst (λ (n : ℕ). IsSavedFrom p word n done) same there.2) (no-fault p took refl, tt);
+      kept = λ e. unsaved-both p done (took ∷ []) (h.kept e) (unsaved-one p took refl refl);
     }
+
+    raised-known : IsAlone x → p < x.start.pages → KnowsStage (p, word) (stages.Shared written) v x → KnowsStage (p, word) (stages.Owned written) v y
+    raised-known alone page k = (
+      record {
+        before = k.0.before;
+        now =
+            left-at (took ∷ []) [] x y changes.start quiet.runs alone (places.State p) (word_of LOCKED (version_of expects)) (left-last [] took (word_of LOCKED (version_of expects)) (wrote-taken expects (word_of LOCKED (version_of expects))))
+            ∙ ap (word_of LOCKED) (same-version expects is);
+      },
+      kept-at (took ∷ []) [] x y changes.start quiet.runs alone (places.Fault p) page ((λ here. absurd (not-fault p (places.State p) refl here)), tt) ∙ k.1,
+    )
 
     pub raised-so : Advances phases.Raise (p, word) (stages.Shared written) (stages.Owned written) done v x y
     raised-so = quietly-to phases.Raise (p, word) (stages.Shared written) (stages.Owned written) done (took ∷ []) v x y quiet (frame, owning) tt record { is = refl; when = inl refl } record { is = refl; when = inl refl } record { is = refl; when = inl refl }
+        raised-known
 
   -- ---- it was lost
 
@@ -176,7 +192,11 @@ module _ {X : Type 0} (tied : Start → ℕ → List ℕ → ℕ → List ℕ �
       keeps = record { frames = ap (λ (z : View X). z.frames) still-brings.view; contents = ap (λ (z : View X). z.contents) still-brings.view; notes = ap (λ (z : View X). z.notes) still-brings.view };
     }
 
-    held-on : IsTaken p word writing_seat v y
+    -- a pass that is alone has the one share that it knows of
+    not-lost : IsAlone x → KnowsStage (p, word) (stages.Shared written) v x → ⊥
+    not-lost alone k = ne (found-first tried [] [] x y work.alone alone found refl ∙ k.0.now ∙ sym is)
+
+    held-on : HasLockTaken p word writing_seat v y
     held-on =
         taken-works p word writing_seat (inr (omega arith)) v x h.taken (tried ∷ []) y work
         (subst (λ (k : Held). k.fault ≡ k.block.count) (sym (ap (λ (z : View X). held_at z p) still-brings.view)) h.taken.told)
@@ -209,8 +229,8 @@ module _ {X : Type 0} (tied : Start → ℕ → List ℕ → ℕ → List ℕ �
       missed : IsMissed p word written (done ++ both)
       missed = record {
         why = inr (lost, h.shared);
-        cleaned = λ e. let there = h.cleaned e in (there.0, saved-front p there.0 done both there.2);
-        unwritten = λ e. kept-both p done both (h.kept e) (no-mapping p tried refl, (no-mapping p end-did refl, tt));
+        cleaned = λ e. let there = h.cleaned e in (there.0, saved-front p word there.0 done both there.2 (no-fault p tried refl, (no-fault p end-did refl, tt)));
+        unwritten = λ e. unsaved-both p done both (h.kept e) (unsaved-both p (tried ∷ []) (end-did ∷ []) (unsaved-one p tried refl refl) (unsaved-one p end-did refl refl));
         unreleased =
             each-both (λ (d : Did). d.at ≡ places.State p → d.found ≡ None → d.wrote ≡ None) done both h.unreleased
             ((λ here none. absurd (none-some found (sym none))), ((λ here none. absurd (none-some last (sym none))), tt));
@@ -222,3 +242,4 @@ module _ {X : Type 0} (tied : Start → ℕ → List ℕ → ℕ → List ℕ �
           (quietly-then phases.Raise (p, word) (tried ∷ []) (end-did ∷ []) x y w tried-quiet gone)
           (missed, given-rests p word v y held-on phases.Raise last w u (inr (last, refl)))
           tt record { is = refl; when = inl refl } record { is = refl; when = inl refl } record { is = refl; when = inl refl }
+          (λ alone page k. absurd (not-lost alone k))

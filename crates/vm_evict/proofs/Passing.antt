@@ -17,21 +17,24 @@ use Rattle.vm_rule.specs.Reading.{last_of}
 use Rattle.vm_rule.proofs.Entries.{append-none}
 use Rattle.vm_rule.proofs.Facts.{has-both}
 use Rattle.vm_rule.proofs.Heard.{each-both}
-use Rattle.vm_step.specs.Alone.{RunsAlone}
-use Rattle.vm_step.specs.Choices.{pages_of}
-use Rattle.vm_step.specs.Works.{Leaves}
-use Rattle.vm_step.proofs.Alone.{runs-then}
+use Rattle.vm_step.specs.Alone.{IsAlone, RunsAlone}
+use Rattle.vm_step.specs.Choices.{candidate_pages}
+use Rattle.vm_step.specs.Works.{LeavesRest}
+use Rattle.vm_step.proofs.Alone.{runs-then, still-alone}
 use Rattle.vm_step.proofs.Asides.{alone-then, reads-then, starts-then}
 use Rattle.vm_step.proofs.Groups.{apart-end}
 use Rattle.vm_evict.specs.Evictions.{FramesCome, candidate_at, frame_at, gathered, note_at, release_at, stage_at}
 use Rattle.vm_evict.specs.Phases.{Does, DoesOne}
-use Rattle.vm_evict.specs.Stages.{Adds, Advances, Comes, IsAt, IsPassed, IsUnderWay, LeavesAll, MayBegin, MayEnd, Rests, one, still}
+use Rattle.vm_evict.specs.Stages.{Adds, Advances, Comes, IsAt, IsPhaseMade, IsUnderWay, LeavesAll, MayBeginPhase, MayEnd, Rests, one, still}
+use Rattle.vm_evict.specs.Tables.{KnowsStage}
 use Rattle.vm_evict.specs.declared.candidate.Phase.{Phase}
 use Rattle.vm_evict.specs.declared.candidate.Phase.TheVariants as phases
 use Rattle.vm_evict.specs.declared.candidate.Stage.{Stage}
 use Rattle.vm_evict.specs.declared.candidate.Stage.TheVariants as stages
 use Rattle.vm_evict.proofs.Gathering.{apart-at, gathered-set, has-page}
+use Rattle.vm_evict.proofs.Moving.{no-fault-of, no-state-of, no-translation-of}
 use Rattle.vm_evict.proofs.Staying.{rests-stay, stays}
+use Rattle.vm_evict.proofs.Tables.{else-page, stays-known}
 
 -- ---- frames
 
@@ -98,7 +101,7 @@ module _ {X : Type 0} where
     others = λ q no. (rests-self q v, record { reading = refl; loads = refl });
   }
 
-  all-then : (list : List (ℕ × ℕ)) (p : ℕ) → has p (pages_of list) ≡ true → (a b : List Did) (u v w : View X) → LeavesAll list a u v → Leaves p b v w → LeavesAll list (a ++ b) u w
+  all-then : (list : List (ℕ × ℕ)) (p : ℕ) → has p (candidate_pages list) ≡ true → (a b : List Did) (u v w : View X) → LeavesAll list a u v → LeavesRest p b v w → LeavesAll list (a ++ b) u w
   all-then list p among-them a b u v w f g = record {
     log = g.log ∙ ap (λ (t : List Did). t ++ b) f.log ∙ append_assoc u.log a b;
     live = g.live ∙ f.live;
@@ -110,21 +113,21 @@ module _ {X : Type 0} where
     ties = (g.ties.0 ++ f.ties.0, g.ties.1 ∙ ap (λ (t : List Tie). g.ties.0 ++ t) f.ties.1 ∙ sym (append_assoc g.ties.0 f.ties.0 u.ties));
     group = (g.group.0 ∙ f.group.0, g.group.1 ∙ f.group.1, g.group.2 ∙ f.group.2);
     others = λ q no.
-        let ne : q ≢ p = λ e. false≢true (sym no ∙ subst (λ (k : ℕ). has k (pages_of list) ≡ true) (sym e) among-them) in
+        let ne : q ≢ p = λ e. false≢true (sym no ∙ subst (λ (k : ℕ). has k (candidate_pages list) ≡ true) (sym e) among-them) in
         (rests-stay p q b u v w g ne (f.others q no).0, reads-then u v w q (f.others q no).1 record { reading = ap (λ (s : Seat). s.reading) (g.seats q ne); loads = g.loads q ne });
   }
 
 -- ---- what is given
 
-begin-release : {X : Type 0} (v : View X) (c : ℕ × ℕ) (s : Stage) → MayBegin phases.Leave s → release_at v c s ≡ []
+begin-release : {X : Type 0} (v : View X) (c : ℕ × ℕ) (s : Stage) → MayBeginPhase phases.Leave s → release_at v c s ≡ []
 begin-release v c (stages.Freed frame written) e = absurd e
 begin-release v c s e = refl
 
-begin-note : (c : ℕ × ℕ) (s : Stage) → MayBegin phases.Save s → note_at c s ≡ []
+begin-note : (c : ℕ × ℕ) (s : Stage) → MayBeginPhase phases.Save s → note_at c s ≡ []
 begin-note c (stages.Failed count) e = absurd e
 begin-note c s e = refl
 
-begin-frame : (c : ℕ × ℕ) (s : Stage) → MayBegin phases.Empty s → frame_at c s ≡ []
+begin-frame : (c : ℕ × ℕ) (s : Stage) → MayBeginPhase phases.Empty s → frame_at c s ≡ []
 begin-frame c (stages.Freed frame written) e = absurd e
 begin-frame c (stages.Emptied frame written) e = absurd e
 begin-frame c s e = refl
@@ -147,8 +150,8 @@ one-of : (phase : Phase) (list : List (ℕ × ℕ)) (i : ℕ) → i < length lis
 one-of phase list i below [] e = tt
 one-of phase list i below (d ∷ ds) e = ((i, below, e.0), one-of phase list i below ds e.1)
 
-module _ {X : Type 0} (phase : Phase) (list : List (ℕ × ℕ)) (apart : AreApart (pages_of list)) where
-  module _ (ends : List Stage) (done : List Did) (v x : View X) (h : IsUnderWay list ends done v x) (i : ℕ) (below : i < length list) (fits : length list ≤ length ends) (s : Stage) (y : View X) (a : Advances phase (candidate_at list i) (stage_at ends i) s done v x y) (later : (j : ℕ) → i < j → j < length list → MayBegin phase (stage_at ends j)) where
+module _ {X : Type 0} (phase : Phase) (list : List (ℕ × ℕ)) (apart : AreApart (candidate_pages list)) where
+  module _ (ends : List Stage) (done : List Did) (v x : View X) (h : IsUnderWay list ends done v x) (i : ℕ) (below : i < length list) (fits : length list ≤ length ends) (s : Stage) (y : View X) (a : Advances phase (candidate_at list i) (stage_at ends i) s done v x y) (later : (j : ℕ) → i < j → j < length list → MayBeginPhase phase (stage_at ends j)) where
     abbrev c : ℕ × ℕ
     c = candidate_at list i
 
@@ -161,11 +164,11 @@ module _ {X : Type 0} (phase : Phase) (list : List (ℕ × ℕ)) (apart : AreApa
     long : i < length ends
     long = omega (arith, below, fits)
 
-    at-last : {A : Type 0} (only : Phase) (more : List A) (give : ℕ × ℕ → Stage → List A) → Adds (give c) phase only (stage_at ends i) s more → ((d : ℕ × ℕ) (t : Stage) → MayBegin only t → give d t ≡ [])
+    at-last : {A : Type 0} (only : Phase) (more : List A) (give : ℕ × ℕ → Stage → List A) → Adds (give c) phase only (stage_at ends i) s more → ((d : ℕ × ℕ) (t : Stage) → MayBeginPhase only t → give d t ≡ [])
         → (j : ℕ) → i < j → j < length list → more ++ give (candidate_at list j) (stage_at ends j) ≡ give (candidate_at list j) (stage_at ends j) ++ more
     at-last only more give adds none j up b =
         comes-last more (give (candidate_at list j) (stage_at ends j))
-        (⊎_elim (λ e. inl e) (λ e. inr (none (candidate_at list j) (stage_at ends j) (subst (λ (k : Phase). MayBegin k (stage_at ends j)) e (later j up b)))) adds.when)
+        (⊎_elim (λ e. inl e) (λ e. inr (none (candidate_at list j) (stage_at ends j) (subst (λ (k : Phase). MayBeginPhase k (stage_at ends j)) e (later j up b)))) adds.when)
 
     noted-now : gathered note_at (length list) list new ≡ gathered note_at (length list) list ends ++ a.notes
     noted-now = gathered-set note_at list (length list) ends i s a.notes below long a.notes_are.is (at-last phases.Save a.notes note_at a.notes_are begin-note)
@@ -199,6 +202,27 @@ module _ {X : Type 0} (phase : Phase) (list : List (ℕ × ℕ)) (apart : AreApa
           releases = λ whole now. r.releases whole now ∙ ap (λ (l : List Release). v.releases ++ l) (sym (released-now (h.alone.words whole now c.0)));
         }
 
+    -- what a pass that is alone knows of each candidate's words
+    known-now : IsAlone v → (n : ℕ) → n < length list → (candidate_at list n).0 < v.start.pages → KnowsStage (candidate_at list n) (stage_at new n) v y
+    known-now alone n b page =
+        let before : KnowsStage (candidate_at list n) (stage_at ends n) v x = h.table alone n b page in
+        let still : IsAlone x = still-alone v x h.leaves.parts h.runs.current alone in
+        let here : (candidate_at list n).0 < x.start.pages = subst (λ (o : Origin). (candidate_at list n).0 < o.pages) (sym h.leaves.start) page in
+        ⊎_elim
+        (λ (e : n ≡ i).
+        subst (λ (k : ℕ). KnowsStage (candidate_at list k) (stage_at new k) v y) (sym e)
+        (subst (λ (t : Stage). KnowsStage c t v y) (sym (get_or-set_same ends i s stages.Waiting long))
+        (a.table still (subst (λ (k : ℕ). (candidate_at list k).0 < x.start.pages) e here) (subst (λ (k : ℕ). KnowsStage (candidate_at list k) (stage_at ends k) v x) e before))))
+        (λ (ne : n ≢ i).
+        let q : ℕ = (candidate_at list n).0 in
+        let other : q ≢ c.0 = apart-at list n i ne b below apart in
+        subst (λ (t : Stage). KnowsStage (candidate_at list n) t v y) (sym (get_or-set_other ends i n s stages.Waiting ne))
+        (stays-known (candidate_at list n) (stage_at ends n) v x y
+        (else-page a.more a.own x y a.moves.leaves.start a.runs still q here
+        (no-state-of phase c q other a.more a.moves.does) (no-translation-of phase c q other a.more a.moves.does) (no-fault-of phase c q other a.more a.moves.does))
+        before))
+        (cases_eq n i)
+
     pub under-way : IsUnderWay list new all v y
     under-way = record {
       leaves = all-then list c.0 (has-page list i below) done a.more v x y h.leaves a.moves.leaves;
@@ -209,15 +233,16 @@ module _ {X : Type 0} (phase : Phase) (list : List (ℕ × ℕ)) (apart : AreApa
       alone = alone-then v x y h.leaves.parts h.alone a.alone;
       noted = a.noted ∙ ap (λ (l : List Note). l ++ a.notes) h.noted ∙ append_assoc v.notes (gathered note_at (length list) list ends) a.notes ∙ ap (λ (l : List Note). v.notes ++ l) (sym noted-now);
       frames = subst (λ (l : List ℕ). FramesCome l v y) (sym frames-now) (come-more (gathered frame_at (length list) list ends) a.frames v x y h.leaves.start h.frames a.come);
+      table = known-now;
     }
 
   -- in the phase
-  pub passed-none : (ends : List Stage) (done : List Did) (v x : View X) → IsUnderWay list ends done v x → IsPassed phase list ends done v x
+  pub passed-none : (ends : List Stage) (done : List Did) (v x : View X) → IsUnderWay list ends done v x → IsPhaseMade phase list ends done v x
   passed-none ends done v x h = record { more = []; does = tt; after = subst (λ (l : List Did). IsUnderWay list ends l v x) (sym (append-none done)) h }
 
-  pub passed-more : (ends : List Stage) (done : List Did) (v x : View X) → IsPassed phase list ends done v x → (i : ℕ) → i < length list → length list ≤ length ends → (s : Stage) (y : View X)
+  pub passed-more : (ends : List Stage) (done : List Did) (v x : View X) → IsPhaseMade phase list ends done v x → (i : ℕ) → i < length list → length list ≤ length ends → (s : Stage) (y : View X)
       → ((all : List Did) → IsAt (candidate_at list i) (stage_at ends i) all v x → Advances phase (candidate_at list i) (stage_at ends i) s all v x y)
-      → ((j : ℕ) → i < j → j < length list → MayBegin phase (stage_at ends j)) → IsPassed phase list (slice_set ends i s) done v y
+      → ((j : ℕ) → i < j → j < length list → MayBeginPhase phase (stage_at ends j)) → IsPhaseMade phase list (slice_set ends i s) done v y
   passed-more ends done v x h i below fits s y step later =
       let a : Advances phase (candidate_at list i) (stage_at ends i) s (done ++ h.more) v x y = step (done ++ h.more) (h.after.each i below) in
       record {
@@ -230,7 +255,7 @@ module _ {X : Type 0} (phase : Phase) (list : List (ℕ × ℕ)) (apart : AreApa
 
 -- the phase so far
 abbrev pub Passes : {X : Type 0} → Phase → List (ℕ × ℕ) → List Stage → List Stage → View X → View X → Type 0
-Passes phase list old new x w = (v : View _) (done : List Did) → IsUnderWay list old done v x → IsPassed phase list new done v w
+Passes phase list old new x w = (v : View _) (done : List Did) → IsUnderWay list old done v x → IsPhaseMade phase list new done v w
 
 module _ (phase : Phase) (ends : List Stage) (i : ℕ) (s : Stage) where
   pub front-more : i < length ends → MayEnd phase s → ((j : ℕ) → j < i → MayEnd phase (stage_at ends j)) → (j : ℕ) → j < i + 1 → MayEnd phase (stage_at (slice_set ends i s) j)
@@ -240,7 +265,7 @@ module _ (phase : Phase) (ends : List Stage) (i : ℕ) (s : Stage) where
       (λ (ne : j ≢ i). subst (λ (t : Stage). MayEnd phase t) (sym (get_or-set_other ends i j s stages.Waiting ne)) (front j (omega (arith, b, ne))))
       (cases_eq j i)
 
-  pub back-more : (n : ℕ) → ((j : ℕ) → i ≤ j → j < n → MayBegin phase (stage_at ends j)) → (j : ℕ) → i + 1 ≤ j → j < n → MayBegin phase (stage_at (slice_set ends i s) j)
+  pub back-more : (n : ℕ) → ((j : ℕ) → i ≤ j → j < n → MayBeginPhase phase (stage_at ends j)) → (j : ℕ) → i + 1 ≤ j → j < n → MayBeginPhase phase (stage_at (slice_set ends i s) j)
   back-more n back j up b =
       let ne : j ≢ i = λ e. absurd (omega (arith, up, e)) in
-      subst (λ (t : Stage). MayBegin phase t) (sym (get_or-set_other ends i j s stages.Waiting ne)) (back j (omega (arith, up)) b)
+      subst (λ (t : Stage). MayBeginPhase phase t) (sym (get_or-set_other ends i j s stages.Waiting ne)) (back j (omega (arith, up)) b)

@@ -13,19 +13,22 @@ use Rattle.vm_rule.specs.declared.view.Translation.{Translation}
 use Rattle.vm_rule.specs.declared.view.View.{View}
 use Rattle.vm_rule.specs.Views.{Each, IsLocking}
 use Rattle.vm_rule.specs.Mappings.{clean_in}
-use Rattle.vm_step.specs.Works.{Leaves}
+use Rattle.vm_step.specs.DeviceCalls.{StaysHome}
+use Rattle.vm_step.specs.Works.{LeavesRest}
 use Rattle.vm_step.proofs.Asides.{starts-then, still-locking}
+use Rattle.vm_step.proofs.DeviceCalls.{home-both, home-else, once-front}
 use Rattle.vm_step.proofs.Evidenced.{given-front, written-front}
-use Rattle.vm_evict.specs.Evictions.{HasReleased, IsFailed, IsFreed, IsMissed}
-use Rattle.vm_evict.specs.Stages.{IsAt, IsCleanAt, IsEmptied, IsOwning, IsSeenClean, IsTaken, IsWaiting, IsWriting, Moves, Rests, owning_seat, writing_seat}
+use Rattle.vm_evict.specs.Evictions.{HasReleased, IsWriteFailed, IsPageFreed, IsMissed}
+use Rattle.vm_evict.specs.Stages.{IsAt, IsCleanAt, IsEmptied, IsOwning, IsSeenClean, HasLockTaken, IsWaiting, IsWriting, Moves, Rests, owning_seat, writing_seat}
+use Rattle.vm_evict.specs.Writes.{HasNotSaved}
 use Rattle.vm_evict.specs.declared.candidate.Phase.{Phase}
 use Rattle.vm_evict.specs.declared.candidate.Stage.{Stage}
 use Rattle.vm_evict.specs.declared.candidate.Stage.TheVariants as stages
-use Rattle.vm_evict.proofs.Evidenced.{each-else, dirty-front, locks-front, lost-front, saved-front, taken-front}
-use Rattle.vm_evict.proofs.Moving.{no-state-of, no-translation-of}
+use Rattle.vm_evict.proofs.Evidenced.{each-else, dirty-front, locks-front, lost-front, saved-front, shared-front}
+use Rattle.vm_evict.proofs.Moving.{no-fault-of, no-state-of, no-translation-of}
 
 module _ {X : Type 0} where
-  pub rests-stay : (p q : ℕ) (more : List Did) (v x y : View X) → Leaves p more x y → q ≢ p → Rests q v x → Rests q v y
+  pub rests-stay : (p q : ℕ) (more : List Did) (v x y : View X) → LeavesRest p more x y → q ≢ p → Rests q v x → Rests q v y
   rests-stay p q more v x y m ne r = record {
     holds = record {
       shares = ap (λ (s : Seat). s.shares) (m.seats q ne) ∙ r.holds.shares;
@@ -53,8 +56,14 @@ module _ {X : Type 0} (phase : Phase) (c : ℕ × ℕ) (more : List Did) (x y : 
   on-translation : (P : Did → Type 0) → Each (λ d. d.at ≡ places.Translation q → P d) done → Each (λ d. d.at ≡ places.Translation q → P d) (done ++ more)
   on-translation P h = each-else (places.Translation q) P done more no-translation-more h
 
+  home-more : StaysHome q more
+  home-more = home-else q more (no-fault-of phase c q ne more m.does)
+
+  unsaved : HasNotSaved q done → HasNotSaved q (done ++ more)
+  unsaved h = record { kept = on-translation (λ d. d.wrote ≡ None) h.kept; home = home-both q done more h.home home-more }
+
   waiting : IsWaiting q done v x → IsWaiting q (done ++ more) v y
-  waiting h = record { quiet = on-state (λ d. d.wrote ≡ None) h.quiet; kept = on-translation (λ d. d.wrote ≡ None) h.kept; rests = rests h.rests; start = m.leaves.start ∙ h.start; since = starts-then v.releases x.releases y.releases h.since m.leaves.releases }
+  waiting h = record { quiet = on-state (λ d. d.wrote ≡ None) h.quiet; kept = unsaved h.kept; rests = rests h.rests; start = m.leaves.start ∙ h.start; since = starts-then v.releases x.releases y.releases h.since m.leaves.releases }
 
   seen : IsSeenClean q word done v x → IsSeenClean q word (done ++ more) v y
   seen h = record {
@@ -66,7 +75,7 @@ module _ {X : Type 0} (phase : Phase) (c : ℕ × ℕ) (more : List Did) (x y : 
     clean = h.clean;
   }
 
-  taken : (seat : Seat) → IsLocking seat → IsTaken q word seat v x → IsTaken q word seat v y
+  taken : (seat : Seat) → IsLocking seat → HasLockTaken q word seat v x → HasLockTaken q word seat v y
   taken seat locks h =
       let same = m.leaves.last q ne (subst (λ (s : Seat). IsLocking s) (sym h.now) locks) in
       record {
@@ -88,12 +97,12 @@ module _ {X : Type 0} (phase : Phase) (c : ℕ × ℕ) (more : List Did) (x y : 
   writing : (written : Bool) → IsWriting q word written done v x → IsWriting q word written (done ++ more) v y
   writing written h = record {
     taken = taken writing_seat (inr (omega arith)) h.taken;
-    shared = taken-front done more (places.State q) word (word_of 1 (version_of word)) h.shared;
+    shared = shared-front q word done more h.shared;
     foreign = λ found other. on-state (λ d. d.wrote ≢ Some found) (h.foreign found other);
     unreleased = on-state (λ d. d.found ≡ None → d.wrote ≡ None) h.unreleased;
-    kept = λ e. on-translation (λ d. d.wrote ≡ None) (h.kept e);
+    kept = λ e. unsaved (h.kept e);
     resident = subst (λ (k : Held). IsSome k.mapping) (sym (m.leaves.held q ne)) h.resident;
-    cleaned = λ e. let t = h.cleaned e in (t.0, ap (λ (k : Held). k.mapping) (m.leaves.held q ne) ∙ t.1, saved-front q t.0 done more t.2);
+    cleaned = λ e. let t = h.cleaned e in (t.0, ap (λ (k : Held). k.mapping) (m.leaves.held q ne) ∙ t.1, saved-front q word t.0 done more t.2 home-more);
   }
 
   owning : (frame : ℕ) (written : Bool) → IsOwning q word frame written done v x → IsOwning q word frame written (done ++ more) v y
@@ -103,8 +112,8 @@ module _ {X : Type 0} (phase : Phase) (c : ℕ × ℕ) (more : List Did) (x y : 
     foreign = on-state (λ d. d.wrote ≢ Some word) h.foreign;
     stands = ap (λ (k : Held). k.mapping) (m.leaves.held q ne) ∙ h.stands;
     draft = m.leaves.drafts q ne ∙ h.draft ∙ ap (λ (r : Version). r.words) (sym (m.leaves.last q ne (subst (λ (s : Seat). IsLocking s) (sym h.taken.now) (inl refl))));
-    cleaned = λ e. saved-front q frame done more (h.cleaned e);
-    kept = λ e. on-translation (λ d. d.wrote ≡ None) (h.kept e);
+    cleaned = λ e. saved-front q word frame done more (h.cleaned e) home-more;
+    kept = λ e. unsaved (h.kept e);
   }
 
   emptied : (frame : ℕ) (written : Bool) → IsEmptied q word frame written done v x → IsEmptied q word frame written (done ++ more) v y
@@ -115,8 +124,8 @@ module _ {X : Type 0} (phase : Phase) (c : ℕ × ℕ) (more : List Did) (x y : 
     empty = ap (λ (k : Held). k.mapping) (m.leaves.held q ne) ∙ h.empty;
     draft = m.leaves.drafts q ne ∙ h.draft ∙ ap (λ (r : Version). r.words) (sym (m.leaves.last q ne (subst (λ (s : Seat). IsLocking s) (sym h.taken.now) (inl refl))));
     stood = (h.stood.0, given-front done more (places.Translation q) h.stood.0 h.stood.1, h.stood.2);
-    cleaned = λ e. saved-front q frame done more (h.cleaned e);
-    unwritten = λ e. on-translation (λ d. d.wrote ≢ Some (trans_word (Some (clean_in frame)))) (h.unwritten e);
+    cleaned = λ e. saved-front q word frame done more (h.cleaned e) home-more;
+    unwritten = λ e. (on-translation (λ d. d.wrote ≢ Some (trans_word (Some (clean_in frame)))) (h.unwritten e).0, home-both q done more (h.unwritten e).1 home-more);
     emptied = written-front done more (places.Translation q) (trans_word None) h.emptied;
   }
 
@@ -131,22 +140,23 @@ module _ {X : Type 0} (phase : Phase) (c : ℕ × ℕ) (more : List Did) (x y : 
         same = h.same;
       }
 
-  freed : (frame : ℕ) (written : Bool) → IsFreed q word frame written done v x → IsFreed q word frame written (done ++ more) v y
+  freed : (frame : ℕ) (written : Bool) → IsPageFreed q word frame written done v x → IsPageFreed q word frame written (done ++ more) v y
   freed frame written h = record {
     locked = locks-front q word done more h.locked;
     foreign = on-state (λ d. d.wrote ≢ Some word) h.foreign;
     stood = (h.stood.0, given-front done more (places.Translation q) h.stood.0 h.stood.1, h.stood.2);
-    cleaned = λ e. saved-front q frame done more (h.cleaned e);
-    unwritten = λ e. on-translation (λ d. d.wrote ≢ Some (trans_word (Some (clean_in frame)))) (h.unwritten e);
+    cleaned = λ e. saved-front q word frame done more (h.cleaned e) home-more;
+    unwritten = λ e. (on-translation (λ d. d.wrote ≢ Some (trans_word (Some (clean_in frame)))) (h.unwritten e).0, home-both q done more (h.unwritten e).1 home-more);
     emptied = written-front done more (places.Translation q) (trans_word None) h.emptied;
     left = written-front done more (places.State q) (word_of EVICTED (version_of word + 1)) h.left;
     released = released h.released;
   }
 
-  failed : (count : ℕ) → IsFailed q word count done v → IsFailed q word count (done ++ more) v
+  failed : (count : ℕ) → IsWriteFailed q word count done v → IsWriteFailed q word count (done ++ more) v
   failed count h = record {
-    shared = taken-front done more (places.State q) word (word_of 1 (version_of word)) h.shared;
-    dirty = (h.dirty.0, dirty-front q h.dirty.0 done more h.dirty.1);
+    shared = shared-front q word done more h.shared;
+    dirty = (h.dirty.0, dirty-front q h.dirty.0 h.shared.taken.later more h.dirty.1);
+    block = once-front q done more h.block home-more;
     kept = on-translation (λ d. d.wrote ≡ None) h.kept;
     raised = written-front done more (places.Fault q) count h.raised;
     allowed = h.allowed;
@@ -159,8 +169,8 @@ module _ {X : Type 0} (phase : Phase) (c : ℕ × ℕ) (more : List Did) (x y : 
         (λ l. inl (lost-front done more (places.State q) word l))
         (λ l. inr (lost-front done more (places.State q) (word_of 1 (version_of word)) l.0, l.1))
         h.why;
-    cleaned = λ e. let t = h.cleaned e in (t.0, saved-front q t.0 done more t.1);
-    unwritten = λ e. on-translation (λ d. d.wrote ≡ None) (h.unwritten e);
+    cleaned = λ e. let t = h.cleaned e in (t.0, saved-front q word t.0 done more t.1 home-more);
+    unwritten = λ e. unsaved (h.unwritten e);
     unreleased = on-state (λ d. d.found ≡ None → d.wrote ≡ None) h.unreleased;
   }
 

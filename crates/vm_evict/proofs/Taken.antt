@@ -21,12 +21,12 @@ use Rattle.vm_rule.specs.Log.{did_load, did_change}
 use Rattle.vm_rule.specs.Mappings.{held_at}
 use Rattle.vm_step.specs.Asides.{KeepsFrames}
 use Rattle.vm_step.specs.Conditions.{IsNotOut, IsToldOf, MayUnshare}
-use Rattle.vm_step.specs.Works.{Leaves, Works}
+use Rattle.vm_step.specs.Works.{LeavesRest, Works}
 use Rattle.vm_step.proofs.Alone.{runs-one}
 use Rattle.vm_step.proofs.Asides.{starts-then, still-locking}
 use Rattle.vm_step.proofs.Leaves.{last-quiet, leaves-quiet}
 use Rattle.vm_evict.specs.Phases.{Does}
-use Rattle.vm_evict.specs.Stages.{IsFree, IsTaken, Moves, Rests, writing_seat}
+use Rattle.vm_evict.specs.Stages.{HasNoLockOf, HasLockTaken, Moves, Rests, writing_seat}
 use Rattle.vm_evict.specs.declared.candidate.Phase.{Phase}
 use Rattle.vm_evict.proofs.Moving.{Quietly}
 
@@ -48,7 +48,7 @@ module _ {X : Type 0} (p : ℕ) where
   not-out v none o is = absurd (none-some o (sym none ∙ is))
 
   -- a load of the translation word is a step on the page alone
-  pub tload-leaves : (found : ℕ) (v w : View X) → TranslationTold p found v w → Leaves p (did_load (places.Translation p) found ∷ []) v w
+  pub tload-leaves : (found : ℕ) (v w : View X) → TranslationTold p found v w → LeavesRest p (did_load (places.Translation p) found ∷ []) v w
   tload-leaves found v w t =
       let did : Did = did_load (places.Translation p) found in
       let seat : Seat = record (seat_of v p) { reading = framed (seat_of v p).reading (mapping_of found) } in
@@ -103,10 +103,10 @@ module _ {X : Type 0} (p : ℕ) where
   }
 
   -- a page that the pass has not locked, and had not at v
-  pub was-free : (v x : View X) → Rests p v x → IsUnheld x p → IsFree v p
+  pub was-free : (v x : View X) → Rests p v x → IsUnheld x p → HasNoLockOf v p
   was-free v x r u = record { shares = sym r.holds.shares ∙ u.shares; exclusive = sym r.holds.exclusive ∙ u.exclusive; writing = sym r.holds.writing ∙ u.writing }
 
-  free-unlocked : (v : View X) → IsFree v p → IsLocking (seat_of v p) → ⊥
+  free-unlocked : (v : View X) → HasNoLockOf v p → IsLocking (seat_of v p) → ⊥
   free-unlocked v f l =
       ⊎_elim
       (λ (e : (seat_of v p).exclusive ≡ true). false≢true (sym f.exclusive ∙ e))
@@ -114,7 +114,7 @@ module _ {X : Type 0} (p : ℕ) where
       l
 
   -- it has no lock of it again
-  pub free-rests : (v x : View X) → IsFree v p → seat_of x p ≡ record { shares = 0; exclusive = false; writing = false; reading = None } → Rests p v x
+  pub free-rests : (v x : View X) → HasNoLockOf v p → seat_of x p ≡ record { shares = 0; exclusive = false; writing = false; reading = None } → Rests p v x
   free-rests v x f now = record {
     holds = record {
       shares = ap (λ (s : Seat). s.shares) now ∙ sym f.shares;
@@ -125,15 +125,15 @@ module _ {X : Type 0} (p : ℕ) where
   }
 
   -- one step, with the block and the loads as they were
-  pub moves-by : (phase : Phase) (word : ℕ) (did : Did) (x y : View X) → Leaves p (did ∷ []) x y → Does phase (p, word) did → y.out ≡ x.out → y.translations ≡ x.translations → Moves phase (p, word) (did ∷ []) x y
+  pub moves-by : (phase : Phase) (word : ℕ) (did : Did) (x y : View X) → LeavesRest p (did ∷ []) x y → Does phase (p, word) did → y.out ≡ x.out → y.translations ≡ x.translations → Moves phase (p, word) (did ∷ []) x y
   moves-by phase word did x y leaves does out reads = record { leaves = leaves; does = (does, tt); home = λ e. out ∙ e; newer = []; reads = reads }
 
-  module _ (word : ℕ) (seat : Seat) (locks : IsLocking seat) (v x : View X) (h : IsTaken p word seat v x) where
+  module _ (word : ℕ) (seat : Seat) (locks : IsLocking seat) (v x : View X) (h : HasLockTaken p word seat v x) where
     pub locks-now : IsLocking (seat_of x p)
     locks-now = subst (λ (s : Seat). IsLocking s) (sym h.now) locks
 
     -- steps on it as it stays locked
-    pub taken-works : (more : List Did) (y : View X) → Works p more x y → IsToldOf y p → IsTaken p word seat v y
+    pub taken-works : (more : List Did) (y : View X) → Works p more x y → IsToldOf y p → HasLockTaken p word seat v y
     taken-works more y k told = record {
       before = h.before;
       start = k.leaves.start ∙ h.start;
@@ -149,7 +149,7 @@ module _ {X : Type 0} (p : ℕ) where
 
   -- ---- the share is given up
 
-  module _ (word : ℕ) (v x : View X) (h : IsTaken p word writing_seat v x) where
+  module _ (word : ℕ) (v x : View X) (h : HasLockTaken p word writing_seat v x) where
     pub may-unshare : x.out ≡ None → MayUnshare x p
     may-unshare home = record { has = subst (λ (s : Seat). 1 ≤ s.shares) (sym h.now) (omega arith); told = λ _ _. h.told; home = not-out x home }
 
@@ -157,7 +157,7 @@ module _ {X : Type 0} (p : ℕ) where
       abbrev pub unshare-did : Did
       unshare-did = did_change (places.State p) found (found - 2 ^ 56)
 
-      given-leaves : Leaves p (unshare-did ∷ []) x w
+      given-leaves : LeavesRest p (unshare-did ∷ []) x w
       given-leaves =
           leaves-quiet p unshare-did _ [] x (unshared_view p x) w t.brings
           record {

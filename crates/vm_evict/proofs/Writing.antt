@@ -9,7 +9,7 @@ use Rattle.vm_core.specs.Words.{count_more}
 use Rattle.vm_core.specs.FrameActs.{frame_of, open_frame, trans_word}
 use Rattle.vm_core.specs.History.{Version}
 use Rattle.vm_core.proofs.Upd.{upd-other, upd-same}
-use Rattle.vm_block.specs.Blocks.{Writes, one_more}
+use Rattle.vm_block.specs.Blocks.{Writes, one_call_more}
 use Rattle.vm_block.specs.declared.stored.Stored.{Stored}
 use Rattle.vm_rule.specs.declared.view.Did.{Did}
 use Rattle.vm_rule.specs.declared.view.Held.{Held}
@@ -26,14 +26,17 @@ use Rattle.vm_rule.specs.Log.{did_store}
 use Rattle.vm_rule.specs.Mappings.{CleanTold, IsWritten, clean_in, held_at, mapped}
 use Rattle.vm_rule.specs.Slots.{HomeTold, MayBring, OutTold, out_at, words_held}
 use Rattle.vm_rule.proofs.Heard.{each-both}
+use Rattle.vm_step.specs.Alone.{WritesNone}
 use Rattle.vm_step.specs.Asides.{KeepsFrames}
 use Rattle.vm_step.specs.Conditions.{MayRaise, MayTakeOut}
+use Rattle.vm_step.specs.DeviceCalls.{GoesOnce, StaysHome}
 use Rattle.vm_step.specs.Works.{Works}
 use Rattle.vm_step.proofs.Asides.{keeps-then}
 use Rattle.vm_step.proofs.Device.{Moves, comes-home, counts-one, goes-out, may-bring-written, more-is, noted-more, two-loads}
+use Rattle.vm_step.proofs.DeviceCalls.{goes-once}
 use Rattle.vm_step.proofs.Leaves.{works-one, works-then}
-use Rattle.vm_evict.specs.Writes.{IsAllowed, IsCleaned, IsCopied, IsRefused, IsToWrite, LeavesMapping, LeavesState, WritesOwn, WritesPage, reads, cleans, raises}
-use Rattle.vm_evict.proofs.Copying.{kept-both, leaves-both, no-mapping, no-state, reads-same}
+use Rattle.vm_evict.specs.Writes.{IsAllowed, IsCleaned, IsCopied, IsWriteRefused, IsToWrite, LeavesState, WritesOwn, WritesPage, reads, cleans, raises}
+use Rattle.vm_evict.proofs.Copying.{kept-both, leaves-both, not-fault, no-mapping, no-state, none-both, reads-same}
 
 -- the frame of a page that is shared and resident is read
 shared-frame : (e b s : Bool) (x y : Option ℕ) → b ≡ true → s ≡ true → (if (e || b) && s then x else y) ≡ x
@@ -125,9 +128,17 @@ module _ {X : Type 0} (p f : ℕ) (v : View X) (r : IsToWrite p f v) where
               let away = no-state p (places.Fault p) refl in
               leaves-both p copied-did home-did (leaves-both p out-did k.done (away, (away, tt)) k.state) (away, (away, tt))
 
-          kept-called : LeavesMapping p called-did
+          unraised-called : WritesNone (places.Fault p) called-did
+          unraised-called =
+              none-both (places.Fault p) copied-did home-did (none-both (places.Fault p) out-did k.done ((λ here. refl), ((λ here. refl), tt)) k.unraised) ((λ here. refl), ((λ here. refl), tt))
+
+          kept-called : WritesNone (places.Translation p) called-did
           kept-called =
-              kept-both p copied-did home-did (kept-both p out-did k.done ((λ here. refl), ((λ here. refl), tt)) k.kept) ((λ here. refl), ((λ here. refl), tt))
+              kept-both p copied-did home-did (kept-both p out-did k.done ((λ here. refl), ((λ here. refl), tt)) k.kept.kept) ((λ here. refl), ((λ here. refl), tt))
+
+          -- the copy moves no block
+          once-called : (later : List Did) → StaysHome p later → GoesOnce p (called-did ++ later)
+          once-called later home = goes-once p o.first o.second m.first m.second k.done later k.kept.home home
 
           own-called : Each (WritesOwn p) called-did
           own-called =
@@ -135,8 +146,8 @@ module _ {X : Type 0} (p f : ℕ) (v : View X) (r : IsToWrite p f v) where
 
           does-called : Each (WritesPage p) called-did
           does-called =
-              each-both (WritesPage p) copied-did home-did (each-both (WritesPage p) out-did k.done (reads (inr (inr (inl refl))) refl refl, (reads (inr (inr (inl refl))) refl refl, tt)) k.does)
-              (reads (inr (inr (inl refl))) refl refl, (reads (inr (inr (inl refl))) refl refl, tt))
+              each-both (WritesPage p) copied-did home-did (each-both (WritesPage p) out-did k.done (reads (inl refl) refl refl, (reads (inl refl) refl refl, tt)) k.does)
+              (reads (inl refl) refl refl, (reads (inl refl) refl refl, tt))
 
           reads-called : d.translations ≡ v.translations
           reads-called =
@@ -162,7 +173,7 @@ module _ {X : Type 0} (p f : ℕ) (v : View X) (r : IsToWrite p f v) where
             stored t = write.held (sym telling ∙ t) ∙ ap (λ (y : Result (Unit {0}) E). if is_ok y then page else old.words) ok ∙ page-is t
 
             count-same : new.count ≡ old.count
-            count-same = write.count ∙ ap (λ (y : Result (Unit {0}) E). if is_ok y then old.count else one_more old.count) ok
+            count-same = write.count ∙ ap (λ (y : Result (Unit {0}) E). if is_ok y then old.count else one_call_more old.count) ok
 
             pub may-clean : IsWritten d p f
             may-clean = record {
@@ -201,8 +212,10 @@ module _ {X : Type 0} (p f : ℕ) (v : View X) (r : IsToWrite p f v) where
                 own = each-both (WritesOwn p) called-did (clean-did ∷ []) own-called (inr (inl refl), tt);
                 does = each-both (WritesPage p) called-did (clean-did ∷ []) does-called (cleans f refl, tt);
                 reads = ap (λ (y : View X). y.translations) t.brings.view ∙ reads-called;
+                block = once-called (clean-did ∷ []) ((λ here. refl), tt);
                 cleaned = record { earlier = called-did; step = clean-did; later = []; cut = refl; place = refl; wrote = refl };
                 ends = refl;
+                unraised = none-both (places.Fault p) called-did (clean-did ∷ []) unraised-called ((λ here. absurd (not-fault p (places.Translation p) refl here)), tt);
                 stands = ap (λ (h : Held). h.mapping) held-cleaned;
                 stored = λ tells. ap (λ (h : Held). h.block.words) held-cleaned ∙ stored tells ∙ ap (λ (x : Version). x.words) (sym (work-cleaned.last (inr r.shared)));
                 told = subst (λ (h : Held). h.fault ≡ h.block.count) (sym held-cleaned) (r.told ∙ sym o.slot.block.count ∙ sym count-same);
@@ -234,7 +247,7 @@ module _ {X : Type 0} (p f : ℕ) (v : View X) (r : IsToWrite p f v) where
                   ap (λ (y : View X). held_at y p) t.brings.view ∙ upd-same (put_at no_held d.held) p (record (held_at d p) { fault = n }) ∙ ap (λ (h : Held). record h { fault = n }) held-is
 
               count : new.count ≡ count_more old.count
-              count = write.count ∙ ap (λ (y : Result (Unit {0}) E). if is_ok y then old.count else one_more old.count) err ∙ more-is old.count
+              count = write.count ∙ ap (λ (y : Result (Unit {0}) E). if is_ok y then old.count else one_call_more old.count) err ∙ more-is old.count
 
               -- the count is what the block's bound allows
               allowed : IsAllowed v.start p n
@@ -251,7 +264,7 @@ module _ {X : Type 0} (p f : ℕ) (v : View X) (r : IsToWrite p f v) where
                   subst (λ (j : ℕ). notes_of p j n ≡ record { page = p; count = n } ∷ []) (sym fault)
                   (subst (λ (j : ℕ). notes_of p old.count j ≡ record { page = p; count = j } ∷ []) (sym (is ∙ count)) (noted-more p old.count))
 
-              pub refused : IsRefused p f n v w
+              pub refused : IsWriteRefused p f n v w
               refused = record {
                 done = called-did ++ raise-did ∷ [];
                 works = works-then p called-did (raise-did ∷ []) v d w work-called raise-work;
@@ -259,8 +272,10 @@ module _ {X : Type 0} (p f : ℕ) (v : View X) (r : IsToWrite p f v) where
                 own = each-both (WritesOwn p) called-did (raise-did ∷ []) own-called (inr (inr refl), tt);
                 does = each-both (WritesPage p) called-did (raise-did ∷ []) does-called (raises n refl, tt);
                 reads = ap (λ (y : View X). y.translations) t.brings.view ∙ reads-called;
+                block = once-called (raise-did ∷ []) ((λ here. refl), tt);
                 kept = kept-both p called-did (raise-did ∷ []) kept-called (no-mapping p raise-did refl, tt);
                 raised = record { earlier = called-did; step = raise-did; later = []; cut = refl; place = refl; wrote = refl };
+                ends = refl;
                 noted =
                     ap (λ (y : View X). y.notes) t.brings.view
                     ∙ ap (λ l. d.notes ++ l) noted-once

@@ -14,13 +14,16 @@ use Rattle.vm_rule.specs.declared.view.View.{View}
 use Rattle.vm_rule.specs.Views.{Each}
 use Rattle.vm_rule.specs.Reading.{last_in, last_of}
 use Rattle.vm_rule.specs.Mappings.{clean_in, contents_at}
-use Rattle.vm_step.specs.Alone.{RunsAlone}
+use Rattle.vm_step.specs.Alone.{IsAlone, RunsAlone, WritesNone}
 use Rattle.vm_step.specs.Asides.{IsAsideOf}
-use Rattle.vm_step.specs.Evidence.{HasGiven, HasWritten, IsLost}
-use Rattle.vm_step.specs.Choices.{pages_of}
+use Rattle.vm_step.specs.DeviceCalls.{GoesOnce, StaysHome}
+use Rattle.vm_step.specs.Evidence.{HasGiven, HasWritten, IsLoad, IsLost}
+use Rattle.vm_step.specs.Choices.{candidate_pages}
+use Rattle.vm_step.specs.Tables.{KnowsElse}
 use Rattle.vm_step.specs.declared.choice.Looks.{Looks}
 use Rattle.vm_evict.specs.Phases.{InPhases}
-use Rattle.vm_evict.specs.Writes.{IsAllowed, IsFoundDirty, LeavesMapping}
+use Rattle.vm_evict.specs.Tables.{IsOfAny, KnowsStage}
+use Rattle.vm_evict.specs.Writes.{HasNotSaved, IsAllowed, IsFoundDirty}
 use Rattle.vm_evict.specs.declared.candidate.Stage.{Stage}
 use Rattle.vm_evict.specs.declared.candidate.Stage.TheVariants as stages
 use Rattle.vm_evict.specs.declared.report.Report.{Report}
@@ -46,15 +49,34 @@ pub record HasTaken (done : List Did) (at : Place) (expects new : ℕ) : Type 0 
   pub found : step.found ≡ Some expects
   pub wrote : step.wrote ≡ Some new
 
+-- why a page is shared from its word: a step found it dirty, or a look found another word than that
+abbrev pub IsToShare : ℕ → ℕ → List Did → Type 0
+IsToShare p word done =
+    ((frame : ℕ) × IsFoundDirty p frame done)
+    ⊎ ((seen : ℕ) × (look : HasGiven done (places.State p) seen) × IsLoad look.step × (seen ≢ word))
+
+-- page p was shared from this word, and had not been seen clean with it
+pub record IsSharedToSave (p word : ℕ) (done : List Did) : Type 0 where
+  pub taken : HasTaken done (places.State p) word (word_of 1 (version_of word))
+  pub why : IsToShare p word taken.earlier
+
 -- page p went from this word to Locked at its version: by one exchange, or by way of one share, which was taken from the word
 pub data LocksFrom (p word : ℕ) (done : List Did) : Type 0 where
   once : HasTaken done (places.State p) word (word_of LOCKED (version_of word)) → LocksFrom p word done
-  by_share : (l : HasTaken done (places.State p) (word_of 1 (version_of word)) (word_of LOCKED (version_of word))) → HasTaken l.earlier (places.State p) word (word_of 1 (version_of word)) → LocksFrom p word done
+  by_share :
+      (l : HasTaken done (places.State p) (word_of 1 (version_of word)) (word_of LOCKED (version_of word)))
+      → IsSharedToSave p word l.earlier → LocksFrom p word done
 
--- page p was found dirty in this frame, and made clean there afterwards
-pub record HasSaved (p frame : ℕ) (done : List Did) : Type 0 where
-  pub cleaned : HasWritten done (places.Translation p) (trans_word (Some (clean_in frame)))
+-- among the steps under its share page p was found dirty in this frame, and made clean there afterwards; over all steps of the call its block went
+-- out once
+pub record HasSaved (p frame : ℕ) (under done : List Did) : Type 0 where
+  pub cleaned : HasWritten under (places.Translation p) (trans_word (Some (clean_in frame)))
   pub dirty : IsFoundDirty p frame cleaned.earlier
+  pub block : GoesOnce p done
+
+-- page p was shared from this word, and written under the share
+abbrev pub IsSavedFrom : ℕ → ℕ → ℕ → List Did → Type 0
+IsSavedFrom p word frame done = (s : IsSharedToSave p word done) × HasSaved p frame s.taken.later done
 
 -- no step stored the state word of page p: none released it, so its version stands
 abbrev pub Unreleased : ℕ → List Did → Type 0
@@ -118,11 +140,11 @@ pub record Counts (n : ℕ) (list : List (ℕ × ℕ)) (looks : Looks) (ends : L
   pub looks_are : report.looks ≡ looks
 
 -- an exchange on it was lost: one that expected the word, or one that expected the pass's share alone at its version, which a step before had
--- taken from the word; where it was written it had been dirty
+-- taken from the word; where it was written it had been dirty under the share, and where it was not, its device was not called
 pub record IsMissed (p word : ℕ) (written : Bool) (done : List Did) : Type 0 where
-  pub why : HasLost done (places.State p) word ⊎ ((l : HasLost done (places.State p) (word_of 1 (version_of word))) × HasTaken l.earlier (places.State p) word (word_of 1 (version_of word)))
-  pub cleaned : written ≡ true → (frame : ℕ) × HasSaved p frame done
-  pub unwritten : written ≡ false → LeavesMapping p done
+  pub why : HasLost done (places.State p) word ⊎ ((l : HasLost done (places.State p) (word_of 1 (version_of word))) × IsSharedToSave p word l.earlier)
+  pub cleaned : written ≡ true → (frame : ℕ) × IsSavedFrom p word frame done
+  pub unwritten : written ≡ false → HasNotSaved p done
   pub unreleased : Unreleased p done
 
 module _ {X : Type 0} where
@@ -149,36 +171,44 @@ module _ {X : Type 0} where
 
   -- ---- one candidate, by the steps of the call
 
-  -- it went evicted, and its frame came to the pass; where it was written it had been dirty
-  pub record IsFreed (p word frame : ℕ) (written : Bool) (done : List Did) (v w : View X) : Type 0 where
+  -- it went evicted, and its frame came to the pass; where it was written it had been dirty under the pass's share, and where it was not, its device
+  -- was not called
+  pub record IsPageFreed (p word frame : ℕ) (written : Bool) (done : List Did) (v w : View X) : Type 0 where
     pub locked : LocksFrom p word done
     -- no step marked it anew
     pub foreign : Each (λ d. d.at ≡ places.State p → d.wrote ≢ Some word) done
     -- a step found that it stands in this frame, clean
     pub stood : (found : ℕ) × HasGiven done (places.Translation p) found × (mapping_of found ≡ Some (clean_in frame))
-    pub cleaned : written ≡ true → HasSaved p frame done
-    pub unwritten : written ≡ false → Each (λ d. d.at ≡ places.Translation p → d.wrote ≢ Some (trans_word (Some (clean_in frame)))) done
+    pub cleaned : written ≡ true → IsSavedFrom p word frame done
+    pub unwritten : written ≡ false → Each (λ d. d.at ≡ places.Translation p → d.wrote ≢ Some (trans_word (Some (clean_in frame)))) done × StaysHome p done
     pub emptied : HasWritten done (places.Translation p) (trans_word None)
     pub left : HasWritten done (places.State p) (word_of EVICTED (version_of word + 1))
     pub released : HasReleased p word v w
 
-  -- its write failed: it was shared from its word and found dirty; its translation word stays, and it was not released; the fault word was raised
-  pub record IsFailed (p word count : ℕ) (done : List Did) (v : View X) : Type 0 where
-    pub shared : HasTaken done (places.State p) word (word_of 1 (version_of word))
-    pub dirty : (frame : ℕ) × IsFoundDirty p frame done
-    pub kept : LeavesMapping p done
+  -- its write failed: it was shared from its word and found dirty under the share; its block went out once; its translation word stays, and it was
+  -- not released; the fault word was raised
+  pub record IsWriteFailed (p word count : ℕ) (done : List Did) (v : View X) : Type 0 where
+    pub shared : IsSharedToSave p word done
+    pub dirty : (frame : ℕ) × IsFoundDirty p frame shared.taken.later
+    pub block : GoesOnce p done
+    pub kept : WritesNone (places.Translation p) done
     pub raised : HasWritten done (places.Fault p) count
     pub allowed : IsAllowed v.start p count
     pub unreleased : Unreleased p done
 
   -- what became of a candidate
   abbrev pub IsEnd : ℕ × ℕ → Stage → List Did → View X → View X → Type 0
-  IsEnd c (stages.Freed frame written) done v w = IsFreed c.0 c.1 frame written done v w
-  IsEnd c (stages.Failed count) done v w = IsFailed c.0 c.1 count done v
+  IsEnd c (stages.Freed frame written) done v w = IsPageFreed c.0 c.1 frame written done v w
+  IsEnd c (stages.Failed count) done v w = IsWriteFailed c.0 c.1 count done v
   IsEnd c (stages.Lost written) done v w = IsMissed c.0 c.1 written done
   IsEnd c s done v w = ⊥
 
   -- ---- a list of candidates
+
+  -- what a pass that was alone knows then: of each candidate's words what its end says, and all other words as they were, the bundles' among them
+  pub record KnowsEvicted (list : List (ℕ × ℕ)) (ends : List Stage) (v w : View X) : Type 0 where
+    pub each : (n : ℕ) → n < length list → KnowsStage (candidate_at list n) (stage_at ends n) v w
+    pub others : KnowsElse (IsOfAny (candidate_pages list)) v w
 
   -- what `evict` of these candidates does, in its phases: each is evicted, or could not be written, or was lost; their frames are in the batch
   pub record IsBatch (list : List (ℕ × ℕ)) (looks : Looks) (v w : View X) (report : Report) (batch : List ℕ) : Type 0 where
@@ -190,7 +220,7 @@ module _ {X : Type 0} where
     pub all : report.freed + (report.failed + report.lost) ≡ length list
     pub count : length batch ≡ report.freed
     pub batched : batch ≡ gathered frame_at (length list) list ends
-    pub aside : IsAsideOf (λ p. has p (pages_of list) ≡ true) done v w
+    pub aside : IsAsideOf (λ p. has p (candidate_pages list) ≡ true) done v w
     pub frames : FramesCome batch v w
     -- the faults noted are those of the pages whose write failed, in their order; the first is reported
     pub notes : List Note
@@ -200,3 +230,4 @@ module _ {X : Type 0} where
     pub allowed : Each (λ n. IsAllowed v.start n.page n.count) notes
     -- where the pass is alone, no page was released but those freed
     pub alone : RunsAlone done (gathered (release_at v) (length list) list ends) v w
+    pub table : IsAlone v → KnowsEvicted list ends v w

@@ -13,19 +13,19 @@ use Rattle.vm_rule.specs.declared.view.View.{View}
 use Rattle.vm_owner.specs.Numbers.{has}
 use Rattle.vm_rule.specs.Views.{Each, seat_of}
 use Rattle.vm_rule.specs.Reading.{last_of}
-use Rattle.vm_rule.specs.Mappings.{dirty_in}
 use Rattle.vm_rule.specs.Log.{did_exchange}
 use Rattle.vm_rule_laws.specs.Standing.{state_in, mapping_in}
-use Rattle.vm_step.specs.Alone.{IsAlone, RunsAlone}
+use Rattle.vm_step.specs.Alone.{IsAlone, RunsAlone, WritesNone}
 use Rattle.vm_step.specs.Asides.{IsAside, IsAsideOf, KeepsFrames}
 use Rattle.vm_step.specs.Conditions.{IsToldOf}
+use Rattle.vm_step.specs.DeviceCalls.{GoesOnce, IsCalledOnce}
 use Rattle.vm_step.specs.Evidence.{HasGiven, HasWritten}
 use Rattle.vm_step.specs.Works.{Works}
 use Rattle.vm_step.specs.declared.took.Took.{Took}
 use Rattle.vm_step.specs.declared.took.Took.TheVariants.{Taken, Lost}
 use Rattle.vm_step.specs.Choices.{IsHeld, first_or}
-use Rattle.vm_evict.specs.Evictions.{HasLost, HasSaved}
-use Rattle.vm_evict.specs.Writes.{IsAllowed, IsFoundDirty, IsOwnPlace, LeavesMapping, StaysOn, WritesOwn}
+use Rattle.vm_evict.specs.Evictions.{HasLost, HasSaved, HasTaken}
+use Rattle.vm_evict.specs.Writes.{HasNotSaved, IsAllowed, IsFoundDirty, IsOwnPlace, StaysOn, WritesOwn}
 use Rattle.vm_evict.specs.declared.flushing.Flushed.{Flushed}
 
 abbrev pub nothing_flushed : Flushed
@@ -34,11 +34,6 @@ nothing_flushed = record { written = 0; failed = 0; busy = 0; first = None }
 -- how many pages were written, failed or were busy
 abbrev pub done_of : Flushed → ℕ
 done_of f = f.written + (f.failed + f.busy)
-
--- the frame of a dirty page, by its translation word; none where the page is not dirty
-abbrev pub IsDirtyFrame : ℕ → Option ℕ → Type 0
-IsDirtyFrame word None = stands_dirty (mapping_of word) ≡ false
-IsDirtyFrame word (Some f) = mapping_of word ≡ Some (dirty_in f)
 
 -- one of these steps found this word, which none of the steps before had left there
 pub record HasFound (done : List Did) (at : Place) (word : ℕ) : Type 0 where
@@ -51,6 +46,14 @@ pub record LosesSeen (done : List Did) (at : Place) (expects : ℕ) : Type 0 whe
   pub seen : ℕ
   pub given : HasGiven lost.earlier at seen
   pub expected : (expects ≡ seen) ⊎ ((expects ≡ word_of MARKED (version_of seen)) × HasWritten lost.earlier at expects)
+
+-- page p, which a look found with this word, locked by nobody, and a load found dirty, was shared at its version, from its mark: it was marked
+-- already, or marked then
+pub record SharesSeen (p word : ℕ) (done : List Did) : Type 0 where
+  pub taken : HasTaken done (places.State p) (word_of MARKED (version_of word)) (word_of 1 (version_of word))
+  pub looked : HasFound taken.earlier (places.State p) word
+  pub why : (frame : ℕ) × IsFoundDirty p frame taken.earlier
+  pub from : (state_of word ≡ MARKED) ⊎ ((state_of word ≡ UNLOCKED) × HasTaken taken.earlier (places.State p) word (word_of MARKED (version_of word)))
 
 -- the page of the first of these notes
 abbrev pub first_noted : List Note → Option ℕ
@@ -68,17 +71,17 @@ noted_pages [] = []
 noted_pages (n ∷ ns) = n.page ∷ noted_pages ns
 
 module _ {X : Type 0} where
-  -- its write failed: it was looked at, found dirty, and shared at the version of that look for the write, and is no more; its translation word
-  -- stays, and it was not released; the fault was noted, with the count that the fault word was raised to
+  -- its write failed: it was shared at the version of the look, and found dirty under the share, which was given up; its block went out once;
+  -- its translation word stays, and it was not released; the fault was noted, with the count that the fault word was raised to
   pub record IsUnwritten (p word count : ℕ) (v w : View X) : Type 0 where
     pub done : List Did
     pub own : StaysOn p done
     pub aside : IsAside p done v w
     pub alone : RunsAlone done [] v w
-    pub looked : HasGiven done (places.State p) word
-    pub shared : HasWritten done (places.State p) (word_of 1 (version_of word))
-    pub dirty : (frame : ℕ) × IsFoundDirty p frame done
-    pub kept : LeavesMapping p done
+    pub shared : SharesSeen p word done
+    pub dirty : (frame : ℕ) × IsFoundDirty p frame shared.taken.later
+    pub block : GoesOnce p done
+    pub kept : WritesNone (places.Translation p) done
     pub raised : HasWritten done (places.Fault p) count
     pub noted : w.notes ≡ v.notes ++ record { page = p; count = count } ∷ []
     pub allowed : IsAllowed v.start p count
@@ -91,19 +94,36 @@ module _ {X : Type 0} where
     pub keeps : KeepsFrames v w
     pub alone : RunsAlone done [] v w
 
-  -- what the visit of page p comes to; one that is left as clean was seen locked by nobody
-  pub data Visits (p : ℕ) (v w : View X) (old new : Flushed) : Type 0 where
-    gone : (done : List Did) (word : ℕ) → IsLeft p done v w → LeavesMapping p done → HasGiven done (places.State p) word → state_of word ≡ EVICTED → new ≡ old → Visits p v w old new
-    clean : (done : List Did) (word : ℕ) → IsLeft p done v w → LeavesMapping p done → HasGiven done (places.Translation p) word → stands_dirty (mapping_of word) ≡ false → (seen : ℕ) → HasGiven done (places.State p) seen → (state_of seen ≡ UNLOCKED) ⊎ (state_of seen ≡ MARKED) → new ≡ old → Visits p v w old new
-    held : (done : List Did) (word : ℕ) → IsLeft p done v w → LeavesMapping p done → HasFound done (places.State p) word → IsHeld word → new ≡ record old { busy = old.busy + 1 } → Visits p v w old new
-    lost : (done : List Did) (word : ℕ) → IsLeft p done v w → LeavesMapping p done → LosesSeen done (places.State p) word → new ≡ record old { busy = old.busy + 1 } → Visits p v w old new
-    written : (done : List Did) (frame : ℕ) → IsLeft p done v w → HasSaved p frame done → new ≡ record old { written = old.written + 1 } → Visits p v w old new
-    failed : (word count : ℕ) → IsUnwritten p word count v w → new ≡ record old { failed = old.failed + 1; first = first_or old.first p } → Visits p v w old new
+  -- what the visit of page p comes to; one that is left as clean was seen locked by nobody, and its state word was not written, or it was shared for
+  -- the dirty word found first; an exchange is lost only on a page that was found dirty
+  pub data FlushVisits (p : ℕ) (v w : View X) (old new : Flushed) : Type 0 where
+    gone :
+        (done : List Did) (word : ℕ) → IsLeft p done v w → HasNotSaved p done → WritesNone (places.State p) done
+        → HasGiven done (places.State p) word → state_of word ≡ EVICTED → new ≡ old → FlushVisits p v w old new
+    clean :
+        (done : List Did) (word : ℕ) → IsLeft p done v w → HasNotSaved p done
+        → HasGiven done (places.Translation p) word → stands_dirty (mapping_of word) ≡ false
+        → (seen : ℕ) → HasGiven done (places.State p) seen → (state_of seen ≡ UNLOCKED) ⊎ (state_of seen ≡ MARKED)
+        → WritesNone (places.State p) done ⊎ SharesSeen p seen done → new ≡ old → FlushVisits p v w old new
+    held :
+        (done : List Did) (word : ℕ) → IsLeft p done v w → HasNotSaved p done → WritesNone (places.State p) done
+        → HasFound done (places.State p) word → IsHeld word → new ≡ record old { busy = old.busy + 1 } → FlushVisits p v w old new
+    lost :
+        (done : List Did) (word : ℕ) → IsLeft p done v w → HasNotSaved p done
+        → (l : LosesSeen done (places.State p) word) → (frame : ℕ) × IsFoundDirty p frame l.lost.earlier
+        → new ≡ record old { busy = old.busy + 1 } → FlushVisits p v w old new
+    written :
+        (done : List Did) (frame word : ℕ) → IsLeft p done v w
+        → (s : SharesSeen p word done) → HasSaved p frame s.taken.later done
+        → new ≡ record old { written = old.written + 1 } → FlushVisits p v w old new
+    failed :
+        (word count : ℕ) → IsUnwritten p word count v w
+        → new ≡ record old { failed = old.failed + 1; first = first_or old.first p } → FlushVisits p v w old new
 
   -- the first n pages, one after another
   abbrev pub Flushes : ℕ → View X → View X → Flushed → Type 0
   Flushes zero v w report = (w ≡ v) × (report ≡ nothing_flushed)
-  Flushes (suc n) v w report = (x : View X) × (old : Flushed) × Flushes n v x old × Visits n x w old report
+  Flushes (suc n) v w report = (x : View X) × (old : Flushed) × Flushes n v x old × FlushVisits n x w old report
 
   -- the notes that came with the failed pages: one for each, by rising number; the first is of the least
   pub record IsNoted (pages : ℕ) (report : Flushed) (v w : View X) : Type 0 where
@@ -135,8 +155,9 @@ module _ {X : Type 0} where
     pub each : Flushes n v w report
     pub all : done_of report ≤ n
     pub done : List Did
-    -- each step was on the words of a page, so none at the hand
-    pub own : Each (λ d. (p : ℕ) × IsOwnPlace p d.at) done
+    -- each step was on the words of one of these pages, so none at the hand; the device of each page was called once at most
+    pub own : Each (λ d. (p : ℕ) × (p < n) × IsOwnPlace p d.at) done
+    pub once : (p : ℕ) → IsCalledOnce p done
     pub aside : IsAsideOf (λ p. p < v.start.pages) done v w
     pub frames : (w.frames ≡ v.frames) × (w.contents ≡ v.contents)
     pub noted : IsNoted n report v w
@@ -148,7 +169,7 @@ module _ {X : Type 0} where
   -- ---- the parts of a visit
 
   -- both snapshots show the same words of page q
-  pub record ShowsSame (v w : View X) (q : ℕ) : Type 0 where
+  pub record ShowsSamePage (v w : View X) (q : ℕ) : Type 0 where
     pub state : state_in w.start w.snapshot q ≡ state_in v.start v.snapshot q
     pub mapping : mapping_in w.start w.snapshot q ≡ mapping_in v.start v.snapshot q
 
@@ -157,7 +178,7 @@ module _ {X : Type 0} where
     pub busy : new.busy ≡ old.busy
     pub current : w.current ≡ true
     pub releases : w.releases ≡ v.releases
-    pub others : (q : ℕ) → q ≢ p → q < v.start.pages → ShowsSame v w q
+    pub others : (q : ℕ) → q ≢ p → q < v.start.pages → ShowsSamePage v w q
     pub saved : IsSaved w p ⊎ (new.failed ≡ old.failed + 1)
 
   -- a pass that is alone, and has not locked the page, settles it
@@ -192,7 +213,16 @@ module _ {X : Type 0} where
   KnowsClean p v w = IsAlone v → p < v.start.pages → v.start.pages + p < length v.snapshot.words → stands_dirty (mapping_in w.start w.snapshot p) ≡ false
 
   -- how the write of a page under write-back ends: the page was clean; it was written; or its write failed
-  pub data Writes (p : ℕ) (v w : View X) (old new : Flushed) : Type 0 where
-    left_clean : (done : List Did) (word : ℕ) → IsStillLocked p done v w → LeavesMapping p done → HasGiven done (places.Translation p) word → stands_dirty (mapping_of word) ≡ false → KnowsClean p v w → w.notes ≡ v.notes → new ≡ old → Writes p v w old new
-    made_clean : (done : List Did) (frame : ℕ) → IsStillLocked p done v w → HasSaved p frame done → KnowsClean p v w → w.notes ≡ v.notes → new ≡ record old { written = old.written + 1 } → Writes p v w old new
-    refused : (done : List Did) (frame count : ℕ) → IsStillLocked p done v w → IsFoundDirty p frame done → LeavesMapping p done → IsAllowed v.start p count → HasWritten done (places.Fault p) count → w.notes ≡ v.notes ++ record { page = p; count = count } ∷ [] → new ≡ record old { failed = old.failed + 1; first = first_or old.first p } → Writes p v w old new
+  pub data EndsWrite (p : ℕ) (v w : View X) (old new : Flushed) : Type 0 where
+    left_clean :
+        (done : List Did) (word : ℕ) → IsStillLocked p done v w → HasNotSaved p done
+        → HasGiven done (places.Translation p) word → stands_dirty (mapping_of word) ≡ false → KnowsClean p v w
+        → w.notes ≡ v.notes → new ≡ old → EndsWrite p v w old new
+    made_clean :
+        (done : List Did) (frame : ℕ) → IsStillLocked p done v w → HasSaved p frame done done → KnowsClean p v w
+        → w.notes ≡ v.notes → new ≡ record old { written = old.written + 1 } → EndsWrite p v w old new
+    refused :
+        (done : List Did) (frame count : ℕ) → IsStillLocked p done v w → IsFoundDirty p frame done
+        → GoesOnce p done → WritesNone (places.Translation p) done → IsAllowed v.start p count → HasWritten done (places.Fault p) count
+        → w.notes ≡ v.notes ++ record { page = p; count = count } ∷ []
+        → new ≡ record old { failed = old.failed + 1; first = first_or old.first p } → EndsWrite p v w old new

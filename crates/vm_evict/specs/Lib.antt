@@ -1,4 +1,5 @@
 pub mod Phases
+pub mod Tables
 pub mod Evictions
 pub mod Writes
 pub mod Flushes

@@ -35,8 +35,8 @@ abbrev pub Empties : ℕ × ℕ → Did → Type 0
 Empties c d = ((found : ℕ) × (d ≡ did_load (places.Translation c.0) found)) ⊎ (d ≡ did_store (places.Translation c.0) (trans_word None))
 
 -- a page is released as evicted, at its next version
-abbrev pub Leaves : ℕ × ℕ → Did → Type 0
-Leaves c d = d ≡ did_store (places.State c.0) (word_of EVICTED (version_of c.1 + 1))
+abbrev pub ReleasesEvicted : ℕ × ℕ → Did → Type 0
+ReleasesEvicted c d = d ≡ did_store (places.State c.0) (word_of EVICTED (version_of c.1 + 1))
 
 -- a step of the phase on this candidate
 abbrev pub Does : Phase → ℕ × ℕ → Did → Type 0
@@ -44,7 +44,7 @@ Does phases.Save c d = Saves c d
 Does phases.Lock c d = Locks c d
 Does phases.Raise c d = Raises c d
 Does phases.Empty c d = Empties c d
-Does phases.Leave c d = Leaves c d
+Does phases.Leave c d = ReleasesEvicted c d
 
 -- a step of the phase on one of the candidates
 abbrev pub DoesOne : Phase → List (ℕ × ℕ) → Did → Type 0

@@ -17,16 +17,18 @@ use Rattle.vm_rule.specs.declared.view.View.{View}
 use Rattle.vm_rule.specs.Views.{Each, IsLocking, StartsWith, seat_of, draft_of}
 use Rattle.vm_rule.specs.Reading.{last_of}
 use Rattle.vm_rule.specs.Mappings.{held_at, clean_in}
-use Rattle.vm_step.specs.Alone.{RunsAlone}
+use Rattle.vm_step.specs.Alone.{IsAlone, RunsAlone}
 use Rattle.vm_step.specs.Asides.{HoldsPage, KnowsAsBefore, ReadsAsBefore, StaysAlone}
-use Rattle.vm_step.specs.Choices.{pages_of}
+use Rattle.vm_step.specs.Choices.{candidate_pages}
 use Rattle.vm_step.specs.Conditions.{IsToldOf}
+use Rattle.vm_step.specs.DeviceCalls.{StaysHome}
 use Rattle.vm_step.specs.Evidence.{HasGiven, HasWritten}
-use Rattle.vm_step.specs.Works.{Leaves}
+use Rattle.vm_step.specs.Works.{LeavesRest}
 use Rattle.vm_step.specs.declared.choice.Looks.{Looks}
-use Rattle.vm_evict.specs.Evictions.{FramesCome, HasSaved, HasTaken, IsFailed, IsFreed, IsMissed, LocksFrom, Unreleased, candidate_at, first_pair, frame_at, gathered, note_at, one_if, release_at, stage_at}
+use Rattle.vm_evict.specs.Evictions.{FramesCome, IsWriteFailed, IsPageFreed, IsMissed, IsSavedFrom, IsSharedToSave, LocksFrom, Unreleased, candidate_at, first_pair, frame_at, gathered, note_at, one_if, release_at, stage_at}
 use Rattle.vm_evict.specs.Phases.{Does, DoesOne}
-use Rattle.vm_evict.specs.Writes.{LeavesMapping}
+use Rattle.vm_evict.specs.Tables.{KnowsStage}
+use Rattle.vm_evict.specs.Writes.{HasNotSaved}
 use Rattle.vm_evict.specs.declared.report.Evicted.{Evicted}
 use Rattle.vm_evict.specs.declared.report.Report.{Report}
 use Rattle.vm_evict.specs.declared.candidate.Phase.{Phase}
@@ -56,18 +58,18 @@ IsAdded p s old new = ⊥
 -- ---- the order of the stages
 
 -- the stages before a phase, and at the end
-abbrev pub MayBegin : Phase → Stage → Type 0
-MayBegin phases.Save stages.Waiting = Unit {0}
-MayBegin phases.Lock stages.Clean = Unit {0}
-MayBegin phases.Lock (stages.Shared written) = Unit {0}
-MayBegin phases.Raise (stages.Shared written) = Unit {0}
-MayBegin phases.Raise (stages.Owned written) = Unit {0}
-MayBegin phases.Empty (stages.Owned written) = Unit {0}
-MayBegin phases.Leave (stages.Emptied frame written) = Unit {0}
-MayBegin phases.Save s = ⊥
-MayBegin phase (stages.Failed count) = Unit {0}
-MayBegin phase (stages.Lost written) = Unit {0}
-MayBegin phase s = ⊥
+abbrev pub MayBeginPhase : Phase → Stage → Type 0
+MayBeginPhase phases.Save stages.Waiting = Unit {0}
+MayBeginPhase phases.Lock stages.Clean = Unit {0}
+MayBeginPhase phases.Lock (stages.Shared written) = Unit {0}
+MayBeginPhase phases.Raise (stages.Shared written) = Unit {0}
+MayBeginPhase phases.Raise (stages.Owned written) = Unit {0}
+MayBeginPhase phases.Empty (stages.Owned written) = Unit {0}
+MayBeginPhase phases.Leave (stages.Emptied frame written) = Unit {0}
+MayBeginPhase phases.Save s = ⊥
+MayBeginPhase phase (stages.Failed count) = Unit {0}
+MayBeginPhase phase (stages.Lost written) = Unit {0}
+MayBeginPhase phase s = ⊥
 
 abbrev pub IsOver : Stage → Type 0
 IsOver (stages.Freed frame written) = Unit {0}
@@ -77,10 +79,10 @@ IsOver s = ⊥
 
 -- the stages after a phase
 abbrev pub MayEnd : Phase → Stage → Type 0
-MayEnd phases.Save s = MayBegin phases.Lock s
-MayEnd phases.Lock s = MayBegin phases.Raise s
-MayEnd phases.Raise s = MayBegin phases.Empty s
-MayEnd phases.Empty s = MayBegin phases.Leave s
+MayEnd phases.Save s = MayBeginPhase phases.Lock s
+MayEnd phases.Lock s = MayBeginPhase phases.Raise s
+MayEnd phases.Raise s = MayBeginPhase phases.Empty s
+MayEnd phases.Empty s = MayBeginPhase phases.Leave s
 MayEnd phases.Leave s = IsOver s
 
 -- what the stage gives more, which it does in one phase alone
@@ -96,10 +98,10 @@ module _ {X : Type 0} where
     pub holds : HoldsPage v x p
     pub knows : IsLocking (seat_of v p) → KnowsAsBefore v x p
 
-  -- none of the steps wrote its state word or its translation word
+  -- none of the steps wrote its state word, and it was not written
   pub record IsWaiting (p : ℕ) (done : List Did) (v x : View X) : Type 0 where
     pub quiet : Each (λ d. d.at ≡ places.State p → d.wrote ≡ None) done
-    pub kept : LeavesMapping p done
+    pub kept : HasNotSaved p done
     pub rests : Rests p v x
     pub start : x.start ≡ v.start
     pub since : StartsWith x.releases v.releases
@@ -114,14 +116,14 @@ module _ {X : Type 0} where
     pub clean : stands_dirty (mapping_of translation) ≡ false
 
   -- the pass has no lock of page p
-  pub record IsFree (v : View X) (p : ℕ) : Type 0 where
+  pub record HasNoLockOf (v : View X) (p : ℕ) : Type 0 where
     pub shares : (seat_of v p).shares ≡ 0
     pub exclusive : (seat_of v p).exclusive ≡ false
     pub writing : (seat_of v p).writing ≡ false
 
   -- page p, which the pass had not locked at v, was locked at this word's version, and is locked so that the pass has this seat
-  pub record IsTaken (p word : ℕ) (seat : Seat) (v x : View X) : Type 0 where
-    pub before : IsFree v p
+  pub record HasLockTaken (p word : ℕ) (seat : Seat) (v x : View X) : Type 0 where
+    pub before : HasNoLockOf v p
     pub start : x.start ≡ v.start
     pub since : StartsWith x.releases v.releases
     pub free : has p x.pending ≡ false
@@ -134,13 +136,13 @@ module _ {X : Type 0} where
 
   -- it is under write-back; it was made clean, if it was written
   pub record IsWriting (p word : ℕ) (written : Bool) (done : List Did) (v x : View X) : Type 0 where
-    pub taken : IsTaken p word writing_seat v x
-    pub shared : HasTaken done (places.State p) word (word_of 1 (version_of word))
+    pub taken : HasLockTaken p word writing_seat v x
+    pub shared : IsSharedToSave p word done
     pub foreign : (found : ℕ) → found ≢ word_of 1 (version_of word) → Each (λ d. d.at ≡ places.State p → d.wrote ≢ Some found) done
     pub unreleased : Unreleased p done
-    pub kept : written ≡ false → LeavesMapping p done
+    pub kept : written ≡ false → HasNotSaved p done
     pub resident : IsSome (held_at x p).mapping
-    pub cleaned : written ≡ true → (frame : ℕ) × ((held_at x p).mapping ≡ Some (clean_in frame)) × HasSaved p frame done
+    pub cleaned : written ≡ true → (frame : ℕ) × ((held_at x p).mapping ≡ Some (clean_in frame)) × IsSavedFrom p word frame done
 
   -- page p stands clean
   abbrev pub IsCleanAt : ℕ → View X → Type 0
@@ -148,24 +150,24 @@ module _ {X : Type 0} where
 
   -- it is held exclusively, and stands clean in this frame
   pub record IsOwning (p word frame : ℕ) (written : Bool) (done : List Did) (v x : View X) : Type 0 where
-    pub taken : IsTaken p word owning_seat v x
+    pub taken : HasLockTaken p word owning_seat v x
     pub locked : LocksFrom p word done
     pub foreign : Each (λ d. d.at ≡ places.State p → d.wrote ≢ Some word) done
     pub stands : (held_at x p).mapping ≡ Some (clean_in frame)
     pub draft : draft_of x p ≡ (last_of x p).words
-    pub cleaned : written ≡ true → HasSaved p frame done
-    pub kept : written ≡ false → LeavesMapping p done
+    pub cleaned : written ≡ true → IsSavedFrom p word frame done
+    pub kept : written ≡ false → HasNotSaved p done
 
   -- it is held exclusively, and was taken out of this frame
   pub record IsEmptied (p word frame : ℕ) (written : Bool) (done : List Did) (v x : View X) : Type 0 where
-    pub taken : IsTaken p word owning_seat v x
+    pub taken : HasLockTaken p word owning_seat v x
     pub locked : LocksFrom p word done
     pub foreign : Each (λ d. d.at ≡ places.State p → d.wrote ≢ Some word) done
     pub empty : (held_at x p).mapping ≡ None
     pub draft : draft_of x p ≡ (last_of x p).words
     pub stood : (found : ℕ) × HasGiven done (places.Translation p) found × (mapping_of found ≡ Some (clean_in frame))
-    pub cleaned : written ≡ true → HasSaved p frame done
-    pub unwritten : written ≡ false → Each (λ d. d.at ≡ places.Translation p → d.wrote ≢ Some (trans_word (Some (clean_in frame)))) done
+    pub cleaned : written ≡ true → IsSavedFrom p word frame done
+    pub unwritten : written ≡ false → Each (λ d. d.at ≡ places.Translation p → d.wrote ≢ Some (trans_word (Some (clean_in frame)))) done × StaysHome p done
     pub emptied : HasWritten done (places.Translation p) (trans_word None)
 
   -- what is known of a candidate at its stage, after these steps since v
@@ -175,15 +177,15 @@ module _ {X : Type 0} where
   IsAt c (stages.Shared written) done v x = IsWriting c.0 c.1 written done v x × IsCleanAt c.0 x
   IsAt c (stages.Owned written) done v x = (frame : ℕ) × IsOwning c.0 c.1 frame written done v x
   IsAt c (stages.Emptied frame written) done v x = IsEmptied c.0 c.1 frame written done v x
-  IsAt c (stages.Freed frame written) done v x = IsFreed c.0 c.1 frame written done v x × Rests c.0 v x
-  IsAt c (stages.Failed count) done v x = IsFailed c.0 c.1 count done v × Rests c.0 v x
+  IsAt c (stages.Freed frame written) done v x = IsPageFreed c.0 c.1 frame written done v x × Rests c.0 v x
+  IsAt c (stages.Failed count) done v x = IsWriteFailed c.0 c.1 count done v × Rests c.0 v x
   IsAt c (stages.Lost written) done v x = IsMissed c.0 c.1 written done × Rests c.0 v x
 
   -- ---- the steps of a phase on one candidate
 
   -- steps on its own words, with no block out afterwards
   pub record Moves (phase : Phase) (c : ℕ × ℕ) (more : List Did) (x y : View X) : Type 0 where
-    pub leaves : Leaves c.0 more x y
+    pub leaves : LeavesRest c.0 more x y
     pub does : Each (Does phase c) more
     pub home : x.out ≡ None → y.out ≡ None
     pub newer : List Translation
@@ -210,6 +212,8 @@ module _ {X : Type 0} where
     pub frames : List ℕ
     pub come : Comes frames x y
     pub frames_are : Adds (frame_at c) phase phases.Empty old new frames
+    -- what a pass that is alone knew of its words at the one stage it knows at the other
+    pub table : IsAlone x → c.0 < x.start.pages → KnowsStage c old v x → KnowsStage c new v y
 
   -- ---- all candidates
 
@@ -224,7 +228,7 @@ module _ {X : Type 0} where
     pub releases : StartsWith x.releases v.releases
     pub ties : (more : List Tie) × (x.ties ≡ more ++ v.ties)
     pub group : (x.pending ≡ v.pending) × (x.owed ≡ v.owed) × (x.next ≡ v.next)
-    pub others : (q : ℕ) → has q (pages_of list) ≡ false → Rests q v x × ReadsAsBefore v x q
+    pub others : (q : ℕ) → has q (candidate_pages list) ≡ false → Rests q v x × ReadsAsBefore v x q
 
   -- how far the eviction is
   pub record IsUnderWay (list : List (ℕ × ℕ)) (ends : List Stage) (done : List Did) (v x : View X) : Type 0 where
@@ -236,9 +240,10 @@ module _ {X : Type 0} where
     pub alone : StaysAlone v x
     pub noted : x.notes ≡ v.notes ++ gathered note_at (length list) list ends
     pub frames : FramesCome (gathered frame_at (length list) list ends) v x
+    pub table : IsAlone v → (n : ℕ) → n < length list → (candidate_at list n).0 < v.start.pages → KnowsStage (candidate_at list n) (stage_at ends n) v x
 
   -- a phase was made: from these stages to those
-  pub record IsPassed (phase : Phase) (list : List (ℕ × ℕ)) (new : List Stage) (done : List Did) (v w : View X) : Type 0 where
+  pub record IsPhaseMade (phase : Phase) (list : List (ℕ × ℕ)) (new : List Stage) (done : List Did) (v w : View X) : Type 0 where
     pub more : List Did
     pub does : Each (DoesOne phase list) more
     pub after : IsUnderWay list new (done ++ more) v w

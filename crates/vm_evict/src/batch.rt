@@ -1,7 +1,7 @@
 // All candidates of an eviction: a phase goes over the whole list before the next one begins.
 ghost use Rattle.std.specs.Prelude.{◌≡◌, ◌<◌, ◌≤◌, ℕ, None, List, length};
 ghost use Rattle.vm_evict.specs.Evictions.{Counts, candidate_at, frame_at, gathered, stage_at};
-ghost use Rattle.vm_evict.specs.Stages.{IsOver, IsPassed, IsUnderWay, MayBegin, MayEnd};
+ghost use Rattle.vm_evict.specs.Stages.{IsOver, IsPhaseMade, IsUnderWay, MayBeginPhase, MayEnd};
 ghost use Rattle.vm_step.specs.Choices.{AreCandidates};
 ghost use Rattle.vm_step.specs.Passes.{IsSamePass, view};
 ghost use Rattle.vm_step.specs.Ready.{IsReady};
@@ -29,10 +29,10 @@ pub(crate) fn pass_over<U: Owner, B: Block>(
     requires list { AreCandidates words.now.table.shared.key.pages list.now }
     requires few { length list.now ≤ FRAMES }
     requires way { (v : _) × (done : _) × IsUnderWay list.now stages.old done v (view pass.old) }
-    requires begins { (n : ℕ) → n < length list.now → MayBegin phase (stage_at stages.old n) }
+    requires begins { (n : ℕ) → n < length list.now → MayBeginPhase phase (stage_at stages.old n) }
     ensures pass { IsSamePass pass.old pass.new }
     ensures ready { IsReady words.now.table.shared.key B.tells words.now.table.shared.table_id pass.new }
-    ensures passed { (v : _) (done : _) → IsUnderWay list.now stages.old done v (view pass.old) → IsPassed phase list.now stages.new done v (view pass.new) }
+    ensures passed { (v : _) (done : _) → IsUnderWay list.now stages.old done v (view pass.old) → IsPhaseMade phase list.now stages.new done v (view pass.new) }
     ensures ends { (n : ℕ) → n < length list.now → MayEnd phase (stage_at stages.new n) }
 {
     for i in 0..list.len() {

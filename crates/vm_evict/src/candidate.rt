@@ -1,14 +1,15 @@
 // One candidate for eviction: what each phase does with it.
 ghost use Rattle.std.specs.Prelude.{◌≡◌, ◌<◌, None, false, List};
 ghost use Rattle.vm_core.specs.Words.{MAX_VERSION, version_of};
-ghost use Rattle.vm_evict.specs.Stages.{Advances, IsAt, IsWriting, MayBegin};
+ghost use Rattle.vm_evict.specs.Evictions.{IsToShare};
+ghost use Rattle.vm_evict.specs.Stages.{Advances, IsAt, IsWriting, MayBeginPhase};
 ghost use Rattle.vm_evict.specs.declared.candidate.Phase.TheVariants as phases;
 ghost use Rattle.vm_evict.specs.declared.candidate.Stage.TheVariants as stages;
 ghost use Rattle.vm_step.specs.Choices.{IsCandidate};
 ghost use Rattle.vm_step.specs.Passes.{IsSamePass, view};
 ghost use Rattle.vm_step.specs.Ready.{IsReady};
 
-use crate::write::write_back;
+use crate::write::{dirty_frame, write_back};
 use vm_block::Block;
 use vm_core::{StateWord, TransWord};
 use vm_owner::Owner;
@@ -20,7 +21,7 @@ use vm_step::{
 
 /// The phases of an eviction, in their order.
 #[derive(Clone, Copy)]
-pub(crate) enum Phase {
+pub enum Phase {
     /// Dirty candidates are shared, and written.
     Save,
     /// Clean candidates are locked exclusively.
@@ -35,7 +36,7 @@ pub(crate) enum Phase {
 
 /// How far an eviction is with a candidate.
 #[derive(Clone, Copy)]
-pub(crate) enum Stage {
+pub enum Stage {
     /// Nothing was done yet.
     Waiting,
     /// It was seen clean, with the candidate's word.
@@ -62,7 +63,7 @@ fn save<U: Owner, B: Block>(words: &Words<U, B>, pass: &mut Pass<U>, p: u32, wor
     requires shared { (v : _) × (done : _) × IsWriting p word false done v (view pass.old) }
     ensures pass { IsSamePass pass.old pass.new }
     ensures ready { IsReady words.now.table.shared.key B.tells words.now.table.shared.table_id pass.new }
-    ensures saved { (v : _) (done : _) → IsWriting p word false done v (view pass.old) → Advances phases.Save (p, word) stages.Waiting result done v (view pass.old) (view pass.new) }
+    ensures saved { (v : _) (done : _) → IsWriting p word false done v (view pass.old) → Advances phases.Save (p, word) (stages.Shared false) result done v (view pass.old) (view pass.new) }
 {
     let translation = tload(words, pass, p);
     if !TransWord::dirty(translation) {
@@ -80,7 +81,7 @@ fn save<U: Owner, B: Block>(words: &Words<U, B>, pass: &mut Pass<U>, p: u32, wor
     }
 }
 
-/// Shares a page from its mark, and writes it where it is dirty.
+/// Shares a page from its mark that was not seen clean with it, and writes it where it is dirty.
 fn save_marked<U: Owner, B: Block>(
     words: &Words<U, B>,
     pass: &mut Pass<U>,
@@ -90,10 +91,10 @@ fn save_marked<U: Owner, B: Block>(
     requires ready { IsReady words.now.table.shared.key B.tells words.now.table.shared.table_id pass.old }
     requires candidate { IsCandidate words.now.table.shared.key.pages (p, word) }
     requires home { (view pass.old).out ≡ None }
-    requires at { (v : _) × (done : _) × IsAt (p, word) stages.Waiting done v (view pass.old) }
+    requires at { (v : _) × (done : _) × IsAt (p, word) stages.Waiting done v (view pass.old) × IsToShare p word done }
     ensures pass { IsSamePass pass.old pass.new }
     ensures ready { IsReady words.now.table.shared.key B.tells words.now.table.shared.table_id pass.new }
-    ensures moved { (v : _) (done : _) → IsAt (p, word) stages.Waiting done v (view pass.old) → Advances phases.Save (p, word) stages.Waiting result done v (view pass.old) (view pass.new) }
+    ensures moved { (v : _) (done : _) → IsAt (p, word) stages.Waiting done v (view pass.old) → IsToShare p word done → Advances phases.Save (p, word) stages.Waiting result done v (view pass.old) (view pass.new) }
 {
     match lock_write_back(words, pass, p, word) {
         Took::Lost(_) => Stage::Lost { written: false },
@@ -117,8 +118,8 @@ fn save_page<U: Owner, B: Block>(
     ensures moved { (v : _) (done : _) → IsAt (p, word) stages.Waiting done v (view pass.old) → Advances phases.Save (p, word) stages.Waiting result done v (view pass.old) (view pass.new) }
 {
     let seen = look_silently(words, pass, p);
-    let translation = tload(words, pass, p);
-    if seen == word && !TransWord::dirty(translation) {
+    let dirty = dirty_frame(tload(words, pass, p));
+    if seen == word && dirty.is_none() {
         Stage::Clean
     } else {
         save_marked(words, pass, p, word)
@@ -226,7 +227,7 @@ pub(crate) fn advance<U: Owner, B: Block>(
     requires ready { IsReady words.now.table.shared.key B.tells words.now.table.shared.table_id pass.old }
     requires candidate { IsCandidate words.now.table.shared.key.pages c }
     requires home { (view pass.old).out ≡ None }
-    requires begins { MayBegin phase stage }
+    requires begins { MayBeginPhase phase stage }
     requires at { (v : _) × (done : _) × IsAt c stage done v (view pass.old) }
     ensures pass { IsSamePass pass.old pass.new }
     ensures ready { IsReady words.now.table.shared.key B.tells words.now.table.shared.table_id pass.new }

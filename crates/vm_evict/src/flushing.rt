@@ -1,13 +1,13 @@
 // All dirty pages that nobody has locked are written, and stay resident.
 ghost use Rattle.std.specs.Prelude.{◌≡◌, ◌+◌, ◌<◌, ◌⊎◌, None};
 ghost use Rattle.vm_core.specs.Words.{MARKED, UNLOCKED, state_of};
-ghost use Rattle.vm_evict.specs.Flushes.{IsDirtyFrame, IsFlushed, IsUnderWriteBack, Marks, Settles, Visits, Writes, done_of};
+ghost use Rattle.vm_evict.specs.Flushes.{IsFlushed, IsUnderWriteBack, Marks, Settles, FlushVisits, EndsWrite, done_of};
 ghost use Rattle.vm_step.specs.Passes.{IsSamePass, view};
 ghost use Rattle.vm_step.specs.Ready.{IsReady};
 
-use crate::write::write_back;
+use crate::write::{dirty_frame, write_back};
 use vm_block::Block;
-use vm_core::{StateWord, TransWord};
+use vm_core::StateWord;
 use vm_owner::Owner;
 use vm_rule::words::{Pass, Words};
 use vm_step::{Took, lock_write_back, look_silently, mark, tload, unlock_shared};
@@ -48,17 +48,6 @@ pub fn flush<U: Owner, B: Block>(words: &Words<U, B>, pass: &mut Pass<U>) -> Flu
     flushed
 }
 
-/// The frame of a dirty page, by its translation word.
-fn dirty_frame(word: u64) -> Option<u32>
-    ensures { IsDirtyFrame word result }
-{
-    if TransWord::dirty(word) {
-        TransWord::frame(word)
-    } else {
-        None
-    }
-}
-
 /// Looks at the page, and writes it where it is dirty and nobody has it locked.
 fn visit<U: Owner, B: Block>(words: &Words<U, B>, pass: &mut Pass<U>, p: u32, flushed: &mut Flushed)
     requires ready { IsReady words.now.table.shared.key B.tells words.now.table.shared.table_id pass.old }
@@ -67,7 +56,7 @@ fn visit<U: Owner, B: Block>(words: &Words<U, B>, pass: &mut Pass<U>, p: u32, fl
     requires counts { done_of flushed.old < 4294967295 }
     ensures pass { IsSamePass pass.old pass.new }
     ensures ready { IsReady words.now.table.shared.key B.tells words.now.table.shared.table_id pass.new }
-    ensures visited { Visits p (view pass.old) (view pass.new) flushed.old flushed.new }
+    ensures visited { FlushVisits p (view pass.old) (view pass.new) flushed.old flushed.new }
     ensures settles { Settles p (view pass.old) (view pass.new) flushed.old flushed.new }
 {
     let word = look_silently(words, pass, p);
@@ -124,7 +113,7 @@ fn write_dirty<U: Owner, B: Block>(
     requires counts { done_of flushed.old < 4294967295 }
     ensures pass { IsSamePass pass.old pass.new }
     ensures ready { IsReady words.now.table.shared.key B.tells words.now.table.shared.table_id pass.new }
-    ensures written { Writes p (view pass.old) (view pass.new) flushed.old flushed.new }
+    ensures written { EndsWrite p (view pass.old) (view pass.new) flushed.old flushed.new }
 {
     let word = tload(words, pass, p);
     if let Some(frame) = dirty_frame(word) {

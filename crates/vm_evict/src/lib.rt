@@ -9,7 +9,7 @@ ghost use Rattle.vm_step.specs.Passes.{IsSamePass, view};
 ghost use Rattle.vm_step.specs.Ready.{IsReady};
 
 mod batch;
-mod candidate;
+pub mod candidate;
 mod flushing;
 pub mod report;
 mod write;

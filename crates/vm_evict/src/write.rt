@@ -1,6 +1,6 @@
-// A dirty page is written to its block, and made clean.
+// A dirty page is written to its block, and made clean; which frame it stands in, by its translation word.
 ghost use Rattle.std.specs.Prelude.{◌≡◌, ◌<◌, ◌≤◌, None, Some, length};
-ghost use Rattle.vm_evict.specs.Writes.{IsCopied, IsToWrite, WritesBack};
+ghost use Rattle.vm_evict.specs.Writes.{IsCopied, IsDirtyFrame, IsToWrite, WritesBack};
 ghost use Rattle.vm_rule.specs.Loads.{frame_read_by};
 ghost use Rattle.vm_rule.specs.Reading.{last_of};
 ghost use Rattle.vm_rule.specs.Views.{seat_of};
@@ -8,10 +8,22 @@ ghost use Rattle.vm_step.specs.Passes.{IsSamePass, view};
 ghost use Rattle.vm_step.specs.Ready.{IsReady};
 
 use vm_block::Block;
+use vm_core::TransWord;
 use vm_owner::Owner;
 use vm_page::{PageBuf, WORDS};
 use vm_rule::words::{Pass, Words};
 use vm_step::{block_home, block_out, load, raise, set_clean};
+
+/// The frame of a dirty page, by its translation word.
+pub(crate) fn dirty_frame(word: u64) -> Option<u32>
+    ensures { IsDirtyFrame word result }
+{
+    if TransWord::dirty(word) {
+        TransWord::frame(word)
+    } else {
+        None
+    }
+}
 
 /// The words of a page that the pass shares, from its frame.
 fn copy_page<U: Owner, B: Block>(

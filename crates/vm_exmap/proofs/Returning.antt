@@ -15,13 +15,13 @@ use Rattle.vm_rule.specs.Bundles.{frames_in, GiveTold}
 use Rattle.vm_rule.specs.Releases.{without_all}
 use Rattle.vm_rule.proofs.Bundled.{has-frames_in, has-without_all}
 use Rattle.vm_rule.proofs.Entries.{append-none}
-use Rattle.vm_step.specs.Conditions.{MayGive}
+use Rattle.vm_step.specs.Conditions.{PassMayGive}
 use Rattle.vm_exmap.specs.Frames.{AreHeld, MovesFrames}
-use Rattle.vm_step.specs.Alone.{IsAlone, word_at}
+use Rattle.vm_step.specs.Alone.{IsAlone, known_word_at}
 use Rattle.vm_step.specs.Tables.{KnowsElse}
 use Rattle.vm_step.proofs.Alone.{found-known, still-alone}
 use Rattle.vm_step.proofs.Tables.{at-then, else-knows, last-known}
-use Rattle.vm_exmap.specs.Returns.{is_of, Gives, AreGiven, KnowsGiven}
+use Rattle.vm_exmap.specs.Returns.{is_of, GivesFromFirst, AreGiven, KnowsGiven}
 use Rattle.vm_exmap.specs.Returns.GivesTo.{none, some}
 use Rattle.vm_exmap.proofs.FrameMoves.{moved-by, moved-then}
 use Rattle.vm_exmap.proofs.Handing.{each-of}
@@ -62,10 +62,10 @@ module _ {X : Type 0} where
   pub record AreGivenBelow (frames : List ℕ) (count : ℕ) (v w : View X) : Type 0 where
     pub done : List Did
     pub moves : MovesFrames done v w
-    pub gives : Gives frames count done
+    pub gives : GivesFromFirst frames count done
     pub left : (f : ℕ) → has f w.frames ≡ (if is_below count frames f then false else has f v.frames)
     pub table : IsAlone v → (g : ℕ) → g < count → g < bundles_of v.start.frames → KnowsGiven frames g v w
-    pub rest : IsAlone v → (g : ℕ) → count ≤ g → g < bundles_of v.start.frames → word_at w (places.Bundle g) ≡ word_at v (places.Bundle g)
+    pub rest : IsAlone v → (g : ℕ) → count ≤ g → g < bundles_of v.start.frames → known_word_at w (places.Bundle g) ≡ known_word_at v (places.Bundle g)
 
   -- a bundle that the next step is not on
   given-on : (frames : List ℕ) (g j : ℕ) (u v w : View X) → w.start ≡ v.start → v.start ≡ u.start → KnowsElse (λ at. at ≡ places.Bundle g) v w → j < g → j < bundles_of u.start.frames → KnowsGiven frames j u v → KnowsGiven frames j u w
@@ -79,7 +79,7 @@ module _ {X : Type 0} where
 
 module _ {X : Type 0} (frames : List ℕ) (g mask : ℕ) (u v : View X) (below : AreGivenBelow frames g u v) (bits : (f : ℕ) → in_mask g mask f ≡ is_of g frames f) where
   -- those of the next bundle are still held
-  pub may-give : AreHeld frames u → mask ≢ 0 → MayGive v g mask
+  pub may-give : AreHeld frames u → mask ≢ 0 → PassMayGive v g mask
   may-give held ne = record { some = ne; holds = holds }
     where
       holds : (f : ℕ) → in_mask g mask f ≡ true → has f v.frames ≡ true
@@ -105,14 +105,14 @@ module _ {X : Type 0} (frames : List ℕ) (g mask : ℕ) (u v : View X) (below :
       record {
         done = done;
         moves = moved-then below.done (did ∷ []) u v w below.moves moves (λ f a b. had (is_of g frames f) (has f v.frames) (sym (left f) ∙ b));
-        gives = subst (λ n. Gives frames n done) next (below.done, did ∷ [], refl, below.gives, some mask found bits refl);
+        gives = subst (λ n. GivesFromFirst frames n done) next (below.done, did ∷ [], refl, below.gives, some mask found bits refl);
         left = λ f. left f ∙ ap (λ b. if is_of g frames f then false else b) (below.left f) ∙ below-more g frames f (has f u.frames);
         table = λ a j low in'.
             ⊎_elim
             (λ (l : j < g). given-on frames g j u v w moves.start below.moves.start (others (now a)) l in' (below.table a j l in'))
             (λ (h : g ≤ j).
             let same : g ≡ j = omega (arith, low, h) in
-            let found-is : found ≡ word_at u (places.Bundle g) = found-known did found None [] [] v _ w t.brings refl (now a) ∙ below.rest a g (omega arith) inside in
+            let found-is : found ≡ known_word_at u (places.Bundle g) = found-known did found None [] [] v _ w t.brings refl (now a) ∙ below.rest a g (omega arith) inside in
             subst (λ n. KnowsGiven frames n u w) same
             (inr (mask, bits, (λ inside-w. last-known [] did (bit_or found mask) [] v w moves.start moves.runs refl (now a) inside-w ∙ ap (λ n. bit_or n mask) found-is))))
             (cases_lt j g);
@@ -133,7 +133,7 @@ module _ {X : Type 0} (frames : List ℕ) (g mask : ℕ) (u v : View X) (below :
       record {
         done = below.done;
         moves = below.moves;
-        gives = subst (λ n. Gives frames n below.done) next (below.done, [], sym (append-none below.done), below.gives, none clear refl);
+        gives = subst (λ n. GivesFromFirst frames n below.done) next (below.done, [], sym (append-none below.done), below.gives, none clear refl);
         left = λ f.
             ap (λ b. if b then false else has f v.frames) (sym (clear f)) ∙ ap (λ b. if is_of g frames f then false else b) (below.left f) ∙ below-more g frames f (has f u.frames);
         table = λ a j low in'.
@@ -152,7 +152,7 @@ module _ {X : Type 0} (frames : List ℕ) (n : ℕ) (u w : View X) (all : n ≡ 
   all-given held below = record {
     done = below.done;
     moves = below.moves;
-    gives = subst (λ k. Gives frames k below.done) all below.gives;
+    gives = subst (λ k. GivesFromFirst frames k below.done) all below.gives;
     table = λ a g low. below.table a g (subst (λ k. g < k) (sym all) low) low;
     left = λ f. below.left f ∙ ap (λ b. if b then false else has f u.frames) (same f);
   }

@@ -1,139 +1,31 @@
 -- A walk over the bundles, a visit at a time: each that was passed by adds its steps; where the bits of one were lost, they are the evidence.
-use Rattle.std.proofs.Common.{ℕ, ◌≡◌, ◌≢◌, ◌+◌, ◌-◌, ◌*◌, ◌<◌, ◌≤◌, ◌++◌, ◌%◌, ◌/◌, min, true, false, List, [], ◌∷◌, Option, Some, None, zero, suc, length, refl, sym, ap, subst, ◌∙◌, inl, inr, ⊎_elim, arith, append_assoc, bit_xor, if◌then◌else◌}
+use Rattle.std.proofs.Common.{ℕ, ◌≡◌, ◌≢◌, ◌+◌, ◌-◌, ◌<◌, ◌≤◌, ◌++◌, ◌%◌, ◌/◌, min, true, false, List, [], ◌∷◌, Option, Some, None, zero, suc, length, refl, sym, ap, subst, ◌∙◌, ⊎_elim, arith, append_assoc, bit_xor, if◌then◌else◌}
 use Rattle.std.proofs.Math.Nat.{add-mod-mod, add-mod_right, mod-add-mod, mod-eq_of_lt, mod-lt}
-use Rattle.std.proofs.lemmas.Bool.{ne_eqb, eq-eqb, or_left, cases_Bool, cases_lt, true≢false}
+use Rattle.std.proofs.lemmas.Bool.{ne_eqb, cases_lt}
 use Rattle.std.proofs.lemmas.Option.{none-some}
 use Rattle.vm_core.specs.Words.{AreLowest}
 use Rattle.vm_owner.specs.Numbers.{has}
 use Rattle.vm_rule.specs.declared.view.Did.{Did}
 use Rattle.vm_rule.specs.declared.view.Place.{Place}
-use Rattle.vm_rule.specs.declared.view.Origin.{Origin}
 use Rattle.vm_rule.specs.declared.view.Place.TheVariants as places
 use Rattle.vm_rule.specs.declared.view.View.{View}
-use Rattle.vm_rule.specs.Layout.{bundles_of, index_of}
+use Rattle.vm_rule.specs.Layout.{bundles_of}
 use Rattle.vm_rule.specs.Views.{Each}
 use Rattle.vm_rule.specs.Log.{did_load, did_exchange}
-use Rattle.vm_rule.specs.Bundles.{frames_in, BundleTold, TakeTold, taken_view, with_contents}
-use Rattle.vm_rule.specs.Mappings.{contents_at}
-use Rattle.vm_rule.specs.Brought.{Brings}
-use Rattle.vm_rule.proofs.Bundled.{has-frames_in, frames_in-apart, with_contents-at}
-use Rattle.vm_rule.proofs.Facts.{has-both}
+use Rattle.vm_rule.specs.Bundles.{frames_in}
 use Rattle.vm_rule.proofs.Heard.{each-both}
 use Rattle.vm_step.specs.declared.saw.At.TheVariants as ats
 use Rattle.vm_step.specs.declared.saw.Saw.{Saw}
-use Rattle.vm_step.specs.Alone.{IsAlone, word_at}
-use Rattle.vm_step.specs.Evidence.{IsSaw, NoneExpected, NoWord, WhyAgain, place_of}
+use Rattle.vm_step.specs.Alone.{IsAlone, known_word_at}
+use Rattle.vm_step.specs.Evidence.{IsSaw, NoneExpected, NoWord, WhyAgain, place_at}
 use Rattle.vm_step.specs.Evidence.Begins.{read}
 use Rattle.vm_exmap.specs.Frames.{AreHeld, MovesFrames}
 use Rattle.vm_exmap.specs.Walks.{Asks, PassesBy, TakesBits, Walks, Dry, IsDry, bundle_at}
 use Rattle.vm_exmap.specs.Walks.PassesBy.{empty, lost}
 use Rattle.vm_exmap.specs.Visits.{IsEmptyVisit, IsLostVisit, IsTakenVisit, IsFound, IsLostWalk}
-use Rattle.vm_step.proofs.Alone.{found-known, same-word, still-alone, words-known}
-use Rattle.vm_step.specs.Tables.{KnowsElse}
-use Rattle.vm_step.proofs.Tables.{else-knows, else-same, else-then, follows-inside, last-known}
-use Rattle.vm_exmap.proofs.FrameMoves.{moved-by, moved-nothing, moved-then}
-use Rattle.vm_exmap.proofs.Handing.{each-has}
-
--- the number of a bundle of frames that there are
-pub bundle-inside : (g table start : ℕ) → g * 64 < table → start ≡ table → g < bundles_of start
-bundle-inside g table start some same = omega (arith, some, same)
-
--- ---- one bundle
-
-module _ {X : Type 0} (g word : ℕ) (u v : View X) (told : BundleTold g word u v) (inside : g < bundles_of u.start.frames) where
-  loaded : MovesFrames (did_load (places.Bundle g) word ∷ []) u v
-  loaded = moved-by (did_load (places.Bundle g) word) g u.frames u.contents u v refl inside told.brings (λ f a b. refl)
-
-  still-inside : g < bundles_of v.start.frames
-  still-inside = subst (λ (o : Origin). g < bundles_of o.frames) (sym loaded.start) inside
-
-  -- a pass that is alone loads the word that it knew
-  load-known : IsAlone u → (word ≡ word_at u (places.Bundle g)) × (v.snapshot.words ≡ u.snapshot.words)
-  load-known a = (
-    found-known (did_load (places.Bundle g) word) word None [] [] u u v told.brings refl a,
-    words-known (did_load (places.Bundle g) word) None [] [] u u v told.brings refl a,
-  )
-
-  same-frames : v.frames ≡ u.frames
-  same-frames = ap (λ (x : View X). x.frames) told.brings.view
-
-  pub empty-visit : word ≡ 0 → IsEmptyVisit g u v
-  empty-visit none = record {
-    moves = subst (λ n. MovesFrames (did_load (places.Bundle g) n ∷ []) u v) none loaded;
-    frames = same-frames;
-    known = λ a. (sym (load-known a).0 ∙ none, (load-known a).1);
-  }
-
-  module _ (most mask : ℕ) (some : word ≢ 0) (low : AreLowest word most mask) (w : View X) where
-    exchange : ℕ → Did
-    exchange seen = did_exchange (places.Bundle g) word seen (bit_xor word mask)
-
-    abbrev asks : Asks most g word mask (did_load (places.Bundle g) word)
-    asks = record { some = some; lowest = low; is = refl }
-
-    pub lost-visit : (seen : ℕ) → TakeTold g word mask seen v w → seen ≢ word → IsLostVisit most g (record { at = ats.Bundle g; first = word; seen = seen }) u w
-    lost-visit seen t ne =
-        let did : Did = did_exchange (places.Bundle g) word seen (bit_xor word mask) in
-        let b : Brings did [] [] v v w = subst (λ hit. Brings did [] [] v (if hit then taken_view g mask t.words v else v) w) (ne_eqb seen word ne) t.brings in
-        let moves : MovesFrames (did ∷ []) v w = moved-by did g v.frames v.contents v w refl still-inside b (λ f a c. refl) in
-        record {
-          mask = mask;
-          load = did_load (places.Bundle g) word;
-          asks = asks;
-          at = refl;
-          other = ne;
-          moves = moved-then (did_load (places.Bundle g) word ∷ []) (did ∷ []) u v w loaded moves (λ f a c. subst (λ (l : List ℕ). has f l ≡ true) (sym same-frames) a);
-          frames = ap (λ (x : View X). x.frames) b.view ∙ same-frames;
-          others = λ a.
-              let now : IsAlone v = still-alone u v loaded.parts loaded.alone.current a in
-              ne (found-known did seen None [] [] v v w b refl now ∙ same-word u v loaded.start (load-known a).1 (places.Bundle g) ∙ sym (load-known a).0);
-        }
-
-    pub taken-visit : TakeTold g word mask word v w → 1 ≤ length (frames_in g mask) → IsTakenVisit most g mask u w
-    taken-visit t frames_there =
-        let did : Did = did_exchange (places.Bundle g) word word (bit_xor word mask) in
-        let b : Brings did [] [] v (taken_view g mask t.words v) w = subst (λ hit. Brings did [] [] v (if hit then taken_view g mask t.words v else v) w) (eq-eqb word word refl) t.brings in
-        let old : (f : ℕ) → has f v.frames ≡ true → has f (frames_in g mask) ≡ false = λ f had.
-        ⊎_elim (λ (e : has f (frames_in g mask) ≡ true). absurd (true≢false (sym had ∙ t.new refl f (sym (has-frames_in g mask f) ∙ e)))) (λ e. e) (cases_Bool (has f (frames_in g mask))) in
-        let moves : MovesFrames (did ∷ []) v w =
-        moved-by did g (frames_in g mask ++ v.frames) (with_contents t.words (frames_in g mask) v.contents) v w refl still-inside b
-        (λ f had _. with_contents-at t.words (frames_in g mask) v.contents f ∙ ap (λ hit. if hit then t.words f else contents_at v f) (old f had)) in
-        let frames : w.frames ≡ frames_in g mask ++ v.frames = ap (λ (x : View X). x.frames) b.view in
-        let new : (f : ℕ) → has f (frames_in g mask) ≡ true → has f v.frames ≡ false = λ f e. t.new refl f (sym (has-frames_in g mask f) ∙ e) in
-        let start : w.start ≡ v.start = moves.start in
-        record {
-          word = word;
-          load = did_load (places.Bundle g) word;
-          asks = asks;
-          moves = moved-then (did_load (places.Bundle g) word ∷ []) (did ∷ []) u v w loaded moves (λ f a c. subst (λ (l : List ℕ). has f l ≡ true) (sym same-frames) a);
-          frames = frames ∙ ap (λ (l : List ℕ). frames_in g mask ++ l) same-frames;
-          new = each-has (λ f. has f u.frames ≡ false) (frames_in g mask) (λ f e. subst (λ (l : List ℕ). has f l ≡ false) same-frames (new f e));
-          held = record {
-            apart = frames_in-apart g mask;
-            inside = each-has (λ f. f < w.start.frames) (frames_in g mask) (λ f e. subst (λ s. f < s.frames) (sym start) (t.inside refl f (sym (has-frames_in g mask f) ∙ e)));
-            held = each-has (λ f. has f w.frames ≡ true) (frames_in g mask) (λ f e. ap (has f) frames ∙ has-both f (frames_in g mask) v.frames ∙ or_left (has f (frames_in g mask)) (has f v.frames) e);
-          };
-          some = frames_there;
-          table = λ a.
-              let known : word ≡ word_at u (places.Bundle g) = (load-known a).0 in
-              let done : List Did = did_load (places.Bundle g) word ∷ did ∷ [] in
-              let both : MovesFrames done u w = moved-then (did_load (places.Bundle g) word ∷ []) (did ∷ []) u v w loaded moves (λ f a c. subst (λ (l : List ℕ). has f l ≡ true) (sym same-frames) a) in
-              let there : index_of u.start (places.Bundle g) < length u.snapshot.words =
-              follows-inside u.start done u.snapshot.words w.snapshot.words (places.Bundle g) word (both.runs.words a.0 a.1)
-              (record { earlier = []; step = did_load (places.Bundle g) word; later = did ∷ []; cut = refl; gives = (refl, refl) }) some in
-              let others : KnowsElse (λ at. at ≡ places.Bundle g) u w =
-              else-knows (λ at. at ≡ places.Bundle g) done [] u w both.start both.runs ((inside, inl refl), ((inside, inr refl), tt)) a in
-              let wrote : did.wrote ≡ Some (bit_xor word mask) = ap (λ hit. if hit then Some (bit_xor word mask) else None) (eq-eqb word word refl) in
-              let still : index_of w.start (places.Bundle g) < length w.snapshot.words =
-              subst (λ (o : Origin). index_of o (places.Bundle g) < length w.snapshot.words) (sym both.start) (subst (λ (n : ℕ). index_of u.start (places.Bundle g) < n) (sym others.count) there) in
-              record {
-                lowest = subst (λ (n : ℕ). AreLowest n most mask) known low;
-                left = last-known (did_load (places.Bundle g) word ∷ []) did (bit_xor word mask) [] u w both.start both.runs wrote a still ∙ ap (λ (n : ℕ). bit_xor n mask) known;
-                others = others;
-              };
-        }
-
--- ---- the walk
+use Rattle.vm_step.proofs.Alone.{same-word, still-alone}
+use Rattle.vm_step.proofs.Tables.{else-same, else-then}
+use Rattle.vm_exmap.proofs.FrameMoves.{moved-nothing, moved-then}
 
 -- how many bundles the table has, as it is computed from its number of frames
 pub bundle-count : (n frames table start : ℕ) → n ≡ frames / 64 + min 1 (frames % 64) → frames ≡ table → start ≡ table → n ≡ bundles_of start
@@ -157,7 +49,7 @@ module _ {X : Type 0} where
     pub walk : Walks most home (bundles_of v.start.frames) count done
     pub last : IsLastLost home (bundles_of v.start.frames) count lost done
     -- a pass that is alone lost none, and knew that each word was 0
-    pub known : IsAlone v → (lost ≡ None) × (w.snapshot.words ≡ v.snapshot.words) × ((j : ℕ) → j < count → word_at v (places.Bundle (bundle_at home (bundles_of v.start.frames) j)) ≡ 0)
+    pub known : IsAlone v → (lost ≡ None) × (w.snapshot.words ≡ v.snapshot.words) × ((j : ℕ) → j < count → known_word_at v (places.Bundle (bundle_at home (bundles_of v.start.frames) j)) ≡ 0)
 
   -- no bundle was visited yet
   pub sets-out : (most home : ℕ) (v : View X) → IsUnderWay most home 0 None v v
@@ -199,7 +91,7 @@ lost-shows : (most g mask : ℕ) (before : List Did) (load : Did) (saw : Saw) �
     → IsSaw NoWord NoneExpected (before ++ load ∷ did_exchange (places.Bundle g) saw.first saw.seen (bit_xor saw.first mask) ∷ []) saw
 lost-shows most g mask before load saw silent asks at ne =
     let did : Did = did_exchange (places.Bundle g) saw.first saw.seen (bit_xor saw.first mask) in
-    let place : places.Bundle g ≡ place_of saw.at = sym (ap place_of at) in
+    let place : places.Bundle g ≡ place_at saw.at = sym (ap place_at at) in
     record {
       earlier = before ++ load ∷ [];
       last = did;
@@ -209,7 +101,7 @@ lost-shows most g mask before load saw silent asks at ne =
       since = [];
       begins = read before load refl (ap (λ (d : Did). d.at) asks.is ∙ place, ap (λ (d : Did). d.found) asks.is);
       quiet = tt;
-      foreign = silent-foreign (place_of saw.at) saw.seen (before ++ load ∷ []) (each-both (λ d. d.wrote ≡ None) before (load ∷ []) silent (ap (λ (d : Did). d.wrote) asks.is, tt));
+      foreign = silent-foreign (place_at saw.at) saw.seen (before ++ load ∷ []) (each-both (λ d. d.wrote ≡ None) before (load ∷ []) silent (ap (λ (d : Did). d.wrote) asks.is, tt));
       why = subst (λ a. WhyAgain a saw.first saw.seen did) (sym at)
           (record { gives = (refl, refl); expected = refl; other = ne; left = ap (λ hit. if hit then Some (bit_xor saw.first mask) else None) (ne_eqb saw.seen saw.first ne) });
     }
@@ -244,14 +136,14 @@ module _ {X : Type 0} (most home k g : ℕ) (last : Option Saw) (u v w : View X)
         known = λ a.
             let before = way.known a in
             let now = here.known (still-alone u v way.moves.parts way.moves.alone.current a) in
-            let zero-here : word_at u (places.Bundle (bundle_at home bundles k)) ≡ 0 = sym (same-word u v way.moves.start before.1 (places.Bundle (bundle_at home bundles k))) ∙ now.0 in (
+            let zero-here : known_word_at u (places.Bundle (bundle_at home bundles k)) ≡ 0 = sym (same-word u v way.moves.start before.1 (places.Bundle (bundle_at home bundles k))) ∙ now.0 in (
               before.0,
               now.1 ∙ before.1,
               λ j l.
                   ⊎_elim (λ (low : j < k). before.2 j low)
                   (λ (high : k ≤ j).
                   let same : k ≡ j = omega (arith, l, high) in
-                  subst (λ n. word_at u (places.Bundle (bundle_at home bundles n)) ≡ 0) same zero-here)
+                  subst (λ n. known_word_at u (places.Bundle (bundle_at home bundles n)) ≡ 0) same zero-here)
                   (cases_lt j k),
             );
       })
@@ -295,7 +187,7 @@ module _ {X : Type 0} (most home k g : ℕ) (last : Option Saw) (u v w : View X)
     table = λ a.
         let same : v.snapshot.words ≡ u.snapshot.words = (way.known a).1 in
         let bits : TakesBits most g mask v w = at.table (still-alone u v way.moves.parts way.moves.alone.current a) in
-        let before : word_at v (places.Bundle g) ≡ word_at u (places.Bundle g) = same-word u v way.moves.start same (places.Bundle g) in
+        let before : known_word_at v (places.Bundle g) ≡ known_word_at u (places.Bundle g) = same-word u v way.moves.start same (places.Bundle g) in
         record {
           lowest = subst (λ (n : ℕ). AreLowest n most mask) before bits.lowest;
           left = bits.left ∙ ap (λ (n : ℕ). bit_xor n mask) before;
@@ -328,7 +220,7 @@ module _ {X : Type 0} (most home n : ℕ) (u v : View X) (all : n ≡ bundles_of
         let r = reaches home (bundles_of u.start.frames) g below in
         let low : r.0 < bundles_of u.start.frames = r.1 in
         let here : r.0 < n = omega (arith, low, all) in
-        subst (λ i. word_at u (places.Bundle i) ≡ 0) r.2 ((way.known a).2 r.0 here);
+        subst (λ i. known_word_at u (places.Bundle i) ≡ 0) r.2 ((way.known a).2 r.0 here);
   }
 
   pub walked-lost : (saw : Saw) → IsUnderWay most home n (Some saw) u v → IsLostWalk most home saw u v

@@ -10,7 +10,7 @@ use Rattle.vm_rule.specs.Layout.{bundles_of}
 use Rattle.vm_rule.specs.Views.{StartsWith, Each, IsLocking, seat_of}
 use Rattle.vm_rule.specs.Reading.{last_of}
 use Rattle.vm_rule.specs.Mappings.{contents_at}
-use Rattle.vm_step.specs.Alone.{IsAlone, RunsAlone, word_at}
+use Rattle.vm_step.specs.Alone.{IsAlone, RunsAlone, known_word_at}
 use Rattle.vm_step.specs.Asides.{StaysAlone}
 use Rattle.vm_step.specs.Tables.{KnowsElse}
 pub use Rattle.vm_step.specs.HeldFrames.{AreHeld}
@@ -28,7 +28,7 @@ IsBundleOf start places.Hand = ⊥
 module _ {X : Type 0} where
   -- the interface has a frame, or some bundle has one, as the pass knows the table
   abbrev pub HasFree : List ℕ → View X → Type 0
-  HasFree frames v = (frames ≢ []) ⊎ ((g : ℕ) × (g < bundles_of v.start.frames) × (word_at v (places.Bundle g) ≢ 0))
+  HasFree frames v = (frames ≢ []) ⊎ ((g : ℕ) × (g < bundles_of v.start.frames) × (known_word_at v (places.Bundle g) ≢ 0))
 
   -- the call made these steps, and left all of the view but its free frames
   pub record MovesFrames (done : List Did) (v w : View X) : Type 0 where

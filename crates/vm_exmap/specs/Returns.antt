@@ -8,7 +8,7 @@ use Rattle.vm_rule.specs.declared.view.Place.TheVariants as places
 use Rattle.vm_rule.specs.declared.view.View.{View}
 use Rattle.vm_rule.specs.Layout.{bundles_of}
 use Rattle.vm_rule.specs.Log.{did_change}
-use Rattle.vm_step.specs.Alone.{IsAlone, word_at}
+use Rattle.vm_step.specs.Alone.{IsAlone, known_word_at}
 use Rattle.vm_step.specs.Tables.{KnowsAt}
 use Rattle.vm_exmap.specs.Frames.{MovesFrames}
 
@@ -22,23 +22,23 @@ pub data GivesTo (frames : List ℕ) (g : ℕ) (steps : List Did) : Type 0 where
   some : (mask found : ℕ) → ((f : ℕ) → in_mask g mask f ≡ is_of g frames f) → steps ≡ did_change (places.Bundle g) found (bit_or found mask) ∷ [] → GivesTo frames g steps
 
 -- so it was done with the first `count` bundles, in order
-abbrev pub Gives : List ℕ → ℕ → List Did → Type 0
-Gives frames zero done = done ≡ []
-Gives frames (suc g) done = (before : List Did) × (steps : List Did) × (done ≡ before ++ steps) × Gives frames g before × GivesTo frames g steps
+abbrev pub GivesFromFirst : List ℕ → ℕ → List Did → Type 0
+GivesFromFirst frames zero done = done ≡ []
+GivesFromFirst frames (suc g) done = (before : List Did) × (steps : List Did) × (done ≡ before ++ steps) × GivesFromFirst frames g before × GivesTo frames g steps
 
 module _ {X : Type 0} where
   -- what the pass knows of the word of bundle g: it is as before, where none of these frames is of the bundle; else it has their bits too, where
   -- the table has the bundle
   abbrev pub KnowsGiven : List ℕ → ℕ → View X → View X → Type 0
   KnowsGiven frames g v w =
-      (((f : ℕ) → is_of g frames f ≡ false) × (word_at w (places.Bundle g) ≡ word_at v (places.Bundle g)))
-      ⊎ ((mask : ℕ) × ((f : ℕ) → in_mask g mask f ≡ is_of g frames f) × KnowsAt (places.Bundle g) (bit_or (word_at v (places.Bundle g)) mask) w)
+      (((f : ℕ) → is_of g frames f ≡ false) × (known_word_at w (places.Bundle g) ≡ known_word_at v (places.Bundle g)))
+      ⊎ ((mask : ℕ) × ((f : ℕ) → in_mask g mask f ≡ is_of g frames f) × KnowsAt (places.Bundle g) (bit_or (known_word_at v (places.Bundle g)) mask) w)
 
   -- these frames went back to the bundles, and no others
   pub record AreGiven (frames : List ℕ) (v w : View X) : Type 0 where
     pub done : List Did
     pub moves : MovesFrames done v w
-    pub gives : Gives frames (bundles_of v.start.frames) done
+    pub gives : GivesFromFirst frames (bundles_of v.start.frames) done
     pub left : (f : ℕ) → has f w.frames ≡ (if has f frames then false else has f v.frames)
     -- what a pass that was alone knows of the bundles' words; all others are as before (`moves`)
     pub table : IsAlone v → (g : ℕ) → g < bundles_of v.start.frames → KnowsGiven frames g v w

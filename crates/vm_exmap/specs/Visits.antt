@@ -14,10 +14,10 @@ use Rattle.vm_exmap.specs.declared.interface.Alloc.{Alloc}
 use Rattle.vm_exmap.specs.declared.interface.Alloc.TheVariants as allocs
 use Rattle.vm_exmap.specs.declared.walk.Visited.{Visited}
 use Rattle.vm_exmap.specs.declared.walk.Visited.TheVariants as visits
-use Rattle.vm_step.specs.Alone.{IsAlone, word_at}
+use Rattle.vm_step.specs.Alone.{IsAlone, known_word_at}
 use Rattle.vm_step.specs.Evidence.{IsSaw, NoneExpected, NoWord}
 use Rattle.vm_exmap.specs.Frames.{AreHeld, MovesFrames}
-use Rattle.vm_exmap.specs.Walks.{Asks, Walks, TakesBits, TakesFrom, IsRefused, IsDry}
+use Rattle.vm_exmap.specs.Walks.{Asks, Walks, TakesBits, TakesFrom, TakesNone, IsDry}
 
 module _ {X : Type 0} where
   -- ---- one bundle
@@ -27,7 +27,7 @@ module _ {X : Type 0} where
     pub moves : MovesFrames (did_load (places.Bundle g) 0 ∷ []) v w
     pub frames : w.frames ≡ v.frames
     -- so a pass that is alone knew
-    pub known : IsAlone v → (word_at v (places.Bundle g) ≡ 0) × (w.snapshot.words ≡ v.snapshot.words)
+    pub known : IsAlone v → (known_word_at v (places.Bundle g) ≡ 0) × (w.snapshot.words ≡ v.snapshot.words)
 
   -- the bits asked for were lost: another word stood there by then
   pub record IsLostVisit (most g : ℕ) (saw : Saw) (v w : View X) : Type 0 where
@@ -76,7 +76,7 @@ module _ {X : Type 0} where
   -- each bundle was passed by, and the bits of one were lost: the evidence is that exchange
   pub record IsLostWalk (most home : ℕ) (saw : Saw) (v w : View X) : Type 0 where
     pub done : List Did
-    pub refused : IsRefused done [] [] v w
+    pub refused : TakesNone done [] [] v w
     pub walk : Walks most home (bundles_of v.start.frames) (bundles_of v.start.frames) done
     pub g : ℕ
     pub at : saw.at ≡ ats.Bundle g

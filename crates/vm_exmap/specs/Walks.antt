@@ -13,7 +13,7 @@ use Rattle.vm_step.specs.declared.saw.At.TheVariants as ats
 use Rattle.vm_step.specs.declared.saw.Saw.{Saw}
 use Rattle.vm_exmap.specs.declared.interface.Alloc.{Alloc}
 use Rattle.vm_exmap.specs.declared.interface.Alloc.TheVariants as allocs
-use Rattle.vm_step.specs.Alone.{IsAlone, word_at}
+use Rattle.vm_step.specs.Alone.{IsAlone, known_word_at}
 use Rattle.vm_step.specs.Evidence.{IsSaw, NoneExpected, NoWord}
 use Rattle.vm_step.specs.Tables.{KnowsElse, KnowsSame}
 use Rattle.vm_exmap.specs.Frames.{MovesFrames}
@@ -73,8 +73,8 @@ module _ {X : Type 0} where
   -- what a pass that was alone knows of the words: in that of bundle g the lowest bits asked for were set, and are not any more; all others are
   -- as before
   pub record TakesBits (most g mask : ℕ) (v w : View X) : Type 0 where
-    pub lowest : AreLowest (word_at v (places.Bundle g)) most mask
-    pub left : word_at w (places.Bundle g) ≡ bit_xor (word_at v (places.Bundle g)) mask
+    pub lowest : AreLowest (known_word_at v (places.Bundle g)) most mask
+    pub left : known_word_at w (places.Bundle g) ≡ bit_xor (known_word_at v (places.Bundle g)) mask
     pub others : KnowsElse (λ at. at ≡ places.Bundle g) v w
 
   -- the interface had frames: the first of them are handed out, with no step
@@ -84,7 +84,7 @@ module _ {X : Type 0} where
     pub same : w ≡ v
 
   -- it had none, and took some from a bundle
-  pub record IsTaken (home cap n : ℕ) (old batch new : List ℕ) (v w : View X) : Type 0 where
+  pub record TakesFromBundle (home cap n : ℕ) (old batch new : List ℕ) (v w : View X) : Type 0 where
     pub none : old ≡ []
     pub done : List Did
     pub moves : MovesFrames done v w
@@ -95,7 +95,7 @@ module _ {X : Type 0} where
     pub hands : HandsOut n (frames_in g mask) batch new
 
   -- nothing was taken
-  pub record IsRefused (done : List Did) (old new : List ℕ) (v w : View X) : Type 0 where
+  pub record TakesNone (done : List Did) (old new : List ℕ) (v w : View X) : Type 0 where
     pub none : old ≡ []
     pub same : new ≡ []
     pub moves : MovesFrames done v w
@@ -105,15 +105,15 @@ module _ {X : Type 0} where
   -- each bundle's word was 0 when it was loaded
   pub record IsDry (home : ℕ) (old new : List ℕ) (v w : View X) : Type 0 where
     pub done : List Did
-    pub refused : IsRefused done old new v w
+    pub refused : TakesNone done old new v w
     pub walk : Dry home (bundles_of v.start.frames) (bundles_of v.start.frames) done
     -- so a pass that is alone knew
-    pub known : IsAlone v → (g : ℕ) → g < bundles_of v.start.frames → word_at v (places.Bundle g) ≡ 0
+    pub known : IsAlone v → (g : ℕ) → g < bundles_of v.start.frames → known_word_at v (places.Bundle g) ≡ 0
 
   -- each bundle was passed by, and the bits of one were lost: the evidence is that exchange
   pub record IsLostOut (home cap n : ℕ) (old new : List ℕ) (saw : Saw) (v w : View X) : Type 0 where
     pub done : List Did
-    pub refused : IsRefused done old new v w
+    pub refused : TakesNone done old new v w
     pub walk : Walks (max n cap) home (bundles_of v.start.frames) (bundles_of v.start.frames) done
     pub g : ℕ
     pub at : saw.at ≡ ats.Bundle g
@@ -123,6 +123,6 @@ module _ {X : Type 0} where
 
   -- what `alloc` of n frames answers, of an interface that had the frames `old` and has the frames `new`
   abbrev pub IsAlloc : ℕ → ℕ → ℕ → List ℕ → List ℕ → View X → View X → Alloc → Type 0
-  IsAlloc home cap n old new v w (allocs.Batch batch) = IsOwn n old batch new v w ⊎ IsTaken home cap n old batch new v w
+  IsAlloc home cap n old new v w (allocs.Batch batch) = IsOwn n old batch new v w ⊎ TakesFromBundle home cap n old batch new v w
   IsAlloc home cap n old new v w allocs.Dry = IsDry home old new v w
   IsAlloc home cap n old new v w (allocs.Again saw) = IsLostOut home cap n old new saw v w

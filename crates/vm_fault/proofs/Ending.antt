@@ -28,7 +28,7 @@ use Rattle.vm_step.specs.Alone.{IsAlone, RunsAlone}
 use Rattle.vm_step.specs.Asides.{IsAside}
 use Rattle.vm_step.specs.Evidence.{HasGiven}
 use Rattle.vm_step.specs.Tables.{KnowsElse}
-use Rattle.vm_step.specs.Works.{Leaves, Works}
+use Rattle.vm_step.specs.Works.{LeavesRest, Works}
 use Rattle.vm_step.proofs.Alone.{runs-one, runs-then, stays-alone}
 use Rattle.vm_step.proofs.Asides.{alone-release, alone-then}
 use Rattle.vm_step.proofs.Evidenced.{given-front, next-stays}
@@ -69,7 +69,7 @@ module _ {X : Type 0} (p version : ℕ) (words : List ℕ) (before more : List D
   abbrev all-before : List Did
   all-before = before ++ more
 
-  pub so-far : Leaves p all-before v f
+  pub so-far : LeavesRest p all-before v f
   so-far = leaves-then p before more v x f h.leaves k.leaves
 
   not-before : IsLocking (seat_of v p) → ⊥
@@ -98,7 +98,7 @@ module _ {X : Type 0} (p version : ℕ) (words : List ℕ) (before more : List D
       seat-now : seat_of w p ≡ end-seat
       seat-now = ap (λ (y : View X). seat_of y p) b.view ∙ upd-same (put_at no_seat f.seats) p end-seat
 
-      one : Leaves p (end-did ∷ []) f w
+      one : LeavesRest p (end-did ∷ []) f w
       one = leaves-released p end-did end-release [] f end-inner w None b refl
           record {
             log = refl;

@@ -24,10 +24,10 @@ use Rattle.vm_rule.specs.Locks.{IsHeldAt, IsUnheld, locked_view}
 use Rattle.vm_rule.specs.Looks.{looked_view}
 use Rattle.vm_rule.specs.Mappings.{held_at}
 use Rattle.vm_rule.proofs.WordFacts.{word-state, word-version}
-use Rattle.vm_step.specs.Alone.{IsAlone, RunsAlone, word_at}
+use Rattle.vm_step.specs.Alone.{IsAlone, RunsAlone, known_word_at}
 use Rattle.vm_step.specs.Asides.{KeepsFrames}
 use Rattle.vm_step.specs.Evidence.{HasGiven}
-use Rattle.vm_step.specs.Works.{Leaves}
+use Rattle.vm_step.specs.Works.{LeavesRest}
 use Rattle.vm_step.proofs.Alone.{found-known, runs-one, runs-then, same-word, still-alone, words-known}
 use Rattle.vm_step.proofs.Asides.{OnlyReads, look-only}
 use Rattle.vm_step.proofs.Leaves.{leaves-quiet, leaves-then}
@@ -36,10 +36,10 @@ use Rattle.vm_fault.specs.Fetches.{IsFoundEvicted}
 module _ {X : Type 0} where
   -- the pass, which had none of page p at v, holds it exclusively at x: it is not resident, its draft is its last words, and its block has them
   pub record IsHeldEmpty (p version : ℕ) (words : List ℕ) (done : List Did) (v x : View X) : Type 0 where
-    pub leaves : Leaves p done v x
+    pub leaves : LeavesRest p done v x
     pub runs : RunsAlone done [] v x
     pub steps : Each (λ d. d.at ≡ places.State p) done
-    pub known : IsAlone v → word_at v (places.State p) ≡ word_of EVICTED version
+    pub known : IsAlone v → known_word_at v (places.State p) ≡ word_of EVICTED version
     pub found : HasGiven done (places.State p) (word_of EVICTED version)
     pub before : ((seat_of v p).exclusive ≡ false) × ((seat_of v p).shares ≡ 0)
     pub shares : (seat_of x p).shares ≡ (seat_of v p).shares
@@ -79,7 +79,7 @@ module _ {X : Type 0} where
     looked = look-only (λ q. q ≡ p) tied p f.word v f.between refl f.look
 
     -- a look changes the open read of page p alone
-    looks : Leaves p (look-did ∷ []) v f.between
+    looks : LeavesRest p (look-did ∷ []) v f.between
     looks =
         leaves-quiet p look-did None _ v (looked_view p None f.word (last_of f.between p).words v) f.between f.look.brings
         record {
@@ -142,7 +142,7 @@ module _ {X : Type 0} where
       steps = (refl, (refl, tt));
       known = λ a.
           let now : IsAlone f.between = still-alone v f.between looked.aside.parts looked.aside.alone.current a in
-          let there : expects ≡ word_at f.between (places.State p) = found-known lock-did expects None [] [] f.between lock-inner x brings refl now in
+          let there : expects ≡ known_word_at f.between (places.State p) = found-known lock-did expects None [] [] f.between lock-inner x brings refl now in
           sym (there ∙ same-word v f.between looked.aside.start (words-known look-did None [] _ v _ f.between f.look.brings refl a) (places.State p));
       found = record { earlier = look-did ∷ []; step = lock-did; later = []; cut = refl; gives = (refl, refl) };
       before = (sym (looked.aside.holds p).exclusive ∙ unheld.exclusive, sym (looked.aside.holds p).shares ∙ unheld.shares);

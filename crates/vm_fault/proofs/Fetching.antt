@@ -8,7 +8,7 @@ use Rattle.vm_core.specs.Words.{count_more, MAX_VERSION, EVICTED, word_of}
 use Rattle.vm_core.specs.FrameActs.{trans_word}
 use Rattle.vm_core.specs.History.{Version}
 use Rattle.vm_core.proofs.Upd.{upd-other, upd-same}
-use Rattle.vm_block.specs.Blocks.{Reads, one_more}
+use Rattle.vm_block.specs.Blocks.{Reads, one_call_more}
 use Rattle.vm_block.specs.declared.stored.Stored.{Stored}
 use Rattle.vm_owner.specs.declared.Entry.{Entry}
 use Rattle.vm_owner.specs.Kept.{Start, Change}
@@ -27,6 +27,7 @@ use Rattle.vm_rule.specs.Mappings.{InstallTold, MayPutInto, clean_in, held_at, m
 use Rattle.vm_rule.specs.Releases.{EvictTold, ReleaseTold}
 use Rattle.vm_rule.specs.Slots.{HomeTold, MayBring, OutTold, out_at}
 use Rattle.vm_step.specs.Conditions.{IsNotOut, MayEvict, MayGiveUp, MayRaise, MayTakeOut}
+use Rattle.vm_step.specs.DeviceCalls.{IsOfPage}
 use Rattle.vm_step.specs.Evidence.{HasWritten}
 use Rattle.vm_step.specs.Fills.{Stores}
 use Rattle.vm_step.specs.Works.{Works}
@@ -34,7 +35,7 @@ use Rattle.vm_step.proofs.Device.{Moves, call-did, called, counts-one, goes-out,
 use Rattle.vm_step.proofs.Evidenced.{written-behind, written-front}
 use Rattle.vm_step.proofs.Filling.{Fills, all-stored, filled, fills, stores-did}
 use Rattle.vm_step.proofs.Leaves.{works-one, works-then}
-use Rattle.vm_fault.specs.Fetches.{IsBrought, IsFailed, IsOfBoth, IsOfPage}
+use Rattle.vm_fault.specs.Fetches.{IsBrought, IsFailed, IsOfBoth}
 use Rattle.vm_fault.proofs.Ending.{evicted-aside, evicted-knows, evicted-released, evicted-runs, still-draft, still-free, still-last, still-owns, still-paid, unlocked-aside, unlocked-knows, unlocked-released, unlocked-runs}
 use Rattle.vm_fault.proofs.Evicted.{IsHeldEmpty}
 use Rattle.vm_fault.proofs.StepPlaces.{both-within, brought-at, brought-once, failed-at, failed-once, page-within}
@@ -82,7 +83,7 @@ module _ {X : Type 0} (p version : ℕ) (words : List ℕ) (before : List Did) (
 
     module _ (u : Unit {0}) (ok : result ≡ Ok u) where
       count-same : new.count ≡ old.count
-      count-same = read.count ∙ ap (λ (y : Result (Unit {0}) E). if is_ok y then old.count else one_more old.count) ok
+      count-same = read.count ∙ ap (λ (y : Result (Unit {0}) E). if is_ok y then old.count else one_call_more old.count) ok
 
       pub long : length page ≡ 64
       long = subst (λ (y : Result (Unit {0}) E). OnOk y (length page ≡ 64)) ok read.whole
@@ -245,7 +246,7 @@ module _ {X : Type 0} (p version : ℕ) (words : List ℕ) (before : List Did) (
         evict-did = did_store (places.State p) (word_of EVICTED (version + 1))
 
         count : new.count ≡ count_more old.count
-        count = read.count ∙ ap (λ (z : Result (Unit {0}) E). if is_ok z then old.count else one_more old.count) err ∙ more-is old.count
+        count = read.count ∙ ap (λ (z : Result (Unit {0}) E). if is_ok z then old.count else one_call_more old.count) err ∙ more-is old.count
 
         -- the count is what the block's bound allows
         allowed : (1 ≤ n) × (n ≤ fns.at 0 v.start.bounds p)

@@ -1,5 +1,5 @@
 -- The places of the steps that bring a page: each is one of the page or of the frame, and the block goes out and comes home once.
-use Rattle.std.proofs.Common.{ℕ, ◌≡◌, ◌≤◌, ◌<◌, ◌+◌, ◌++◌, List, [], ◌∷◌, None, length, refl, sym, subst, ◌∙◌, inl, inr, ⊎_elim, arith, append_assoc}
+use Rattle.std.proofs.Common.{ℕ, ◌≡◌, ◌≢◌, ◌≤◌, ◌<◌, ◌+◌, ◌++◌, List, [], ◌∷◌, None, length, refl, sym, subst, ◌∙◌, inl, inr, ⊎_elim, arith, append_assoc}
 use Rattle.vm_rule.specs.declared.view.Did.{Did}
 use Rattle.vm_rule.specs.declared.view.Origin.{Origin}
 use Rattle.vm_rule.specs.declared.view.Place.{Place}
@@ -11,7 +11,9 @@ use Rattle.vm_rule.proofs.Entries.{each-map}
 use Rattle.vm_rule.proofs.Heard.{each-both}
 use Rattle.vm_step.proofs.Device.{two-loads}
 use Rattle.vm_step.proofs.Filling.{stores-did}
-use Rattle.vm_fault.specs.Fetches.{FindsNone, GoesOnce, IsOfBoth, IsOfPage}
+use Rattle.vm_step.specs.DeviceCalls.{IsOfPage, StaysHome}
+use Rattle.vm_step.proofs.DeviceCalls.{home-both, home-else}
+use Rattle.vm_fault.specs.Fetches.{IsOfBoth, ReadsOnce}
 
 -- these are places of the table
 pub page-within : (start : Origin) (p : ℕ) → p < start.pages → (at : Place) → IsOfPage p at → Within start at
@@ -30,14 +32,13 @@ stores-at : (p f i : ℕ) (xs : List ℕ) → i + length xs ≤ 64 → Each (λ 
 stores-at p f i [] l = tt
 stores-at p f i (x ∷ xs) l = (inr (i, omega (arith, l), refl), stores-at p f (i + 1) xs (omega (arith, l)))
 
--- the page's fault word is found by loads alone
-stores-find : (p f i : ℕ) (xs : List ℕ) → FindsNone (places.Fault p) (stores-did f i xs)
-stores-find p f i [] = tt
-stores-find p f i (x ∷ xs) = ((λ _. refl), stores-find p f (i + 1) xs)
+-- neither the stores into a frame nor the steps on the page's state word move the block
+stores-home : (p f i : ℕ) (xs : List ℕ) → StaysHome p (stores-did f i xs)
+stores-home p f i [] = tt
+stores-home p f i (x ∷ xs) = ((λ _. refl), stores-home p f (i + 1) xs)
 
-finds-before : (p : ℕ) (done : List Did) → Each (λ (d : Did). d.at ≡ places.State p) done → FindsNone (places.Fault p) done
-finds-before p [] steps = tt
-finds-before p (d ∷ ds) steps = ((λ at. (let no : places.State p ≡ places.Fault p = sym steps.0 ∙ at in cc)), finds-before p ds steps.1)
+state-home : (p : ℕ) (done : List Did) → Each (λ (d : Did). d.at ≡ places.State p) done → StaysHome p done
+state-home p done steps = home-else p done (each-map (λ (d : Did). d.at ≡ places.State p) (λ (d : Did). d.at ≢ places.Fault p) (λ d at here. (let no : places.State p ≡ places.Fault p = sym at ∙ here in cc)) done steps)
 
 module _ (p : ℕ) (before : List Did) (steps : Each (λ (d : Did). d.at ≡ places.State p) before) (a b c d : ℕ) where
   abbrev calls : List Did
@@ -59,19 +60,21 @@ module _ (p : ℕ) (before : List Did) (steps : Each (λ (d : Did). d.at ≡ pla
         (each-both P filled install (each-both P calls (stores-did f 0 page) (inl refl, (inl refl, (inl refl, (inl refl, tt)))) (stores-at p f 0 page (omega (arith, long)))) (inl refl, tt)))
         (inl refl, tt)
 
-    pub brought-once : GoesOnce p brought-did
+    pub brought-once : ReadsOnce p brought-did
     brought-once =
-        let P : Did → Type 0 = λ d. d.at ≡ places.Fault p → d.found ≡ None in
         let install : List Did = did_store (places.Translation p) trans ∷ [] in
-        let end : List Did = did_store (places.State p) word ∷ [] in
-        record {
-          earlier = before;
-          out = (a, b);
-          home = (c, d);
-          later = (stores-did f 0 page ++ install) ++ end;
-          cut = append_assoc before ((calls ++ stores-did f 0 page) ++ install) end;
-          none = (finds-before p before steps, each-both P (stores-did f 0 page ++ install) end (each-both P (stores-did f 0 page) install (stores-find p f 0 page) ((λ _. refl), tt)) ((λ _. refl), tt));
-        }
+        let end : List Did = did_store (places.State p) word ∷ [] in (
+          record {
+            earlier = before;
+            out = (a, b);
+            between = [];
+            home = (c, d);
+            later = (stores-did f 0 page ++ install) ++ end;
+            cut = append_assoc before ((calls ++ stores-did f 0 page) ++ install) end;
+            none = (state-home p before steps, tt, home-both p (stores-did f 0 page ++ install) end (home-both p (stores-did f 0 page) install (stores-home p f 0 page) ((λ _. refl), tt)) ((λ _. refl), tt));
+          },
+          refl,
+        )
 
   -- the read failed: the fault word was raised, and the page released with this word
   module _ (count word : ℕ) where
@@ -86,12 +89,16 @@ module _ (p : ℕ) (before : List Did) (steps : Each (λ (d : Did). d.at ≡ pla
         (each-both P before raised (each-map _ P (λ (d : Did) e. subst (IsOfPage p) (sym e) refl) before steps) (refl, (refl, (refl, (refl, (refl, tt))))))
         (refl, tt)
 
-    pub failed-once : GoesOnce p failed-did
-    failed-once = record {
-      earlier = before;
-      out = (a, b);
-      home = (c, d);
-      later = did_store (places.Fault p) count ∷ did_store (places.State p) word ∷ [];
-      cut = append_assoc before (calls ++ did_store (places.Fault p) count ∷ []) (did_store (places.State p) word ∷ []);
-      none = (finds-before p before steps, ((λ _. refl), ((λ _. refl), tt)));
-    }
+    pub failed-once : ReadsOnce p failed-did
+    failed-once = (
+      record {
+        earlier = before;
+        out = (a, b);
+        between = [];
+        home = (c, d);
+        later = did_store (places.Fault p) count ∷ did_store (places.State p) word ∷ [];
+        cut = append_assoc before (calls ++ did_store (places.Fault p) count ∷ []) (did_store (places.State p) word ∷ []);
+        none = (state-home p before steps, tt, ((λ _. refl), ((λ _. refl), tt)));
+      },
+      refl,
+    )

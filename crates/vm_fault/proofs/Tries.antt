@@ -13,11 +13,11 @@ use Rattle.vm_rule.specs.Locks.{LockTold, locked_view}
 use Rattle.vm_rule.proofs.WordFacts.{version-within, word-made, word-state}
 use Rattle.vm_step.specs.declared.saw.At.TheVariants as ats
 use Rattle.vm_step.specs.Evidence.{EvictedExpected, HasGiven}
-use Rattle.vm_step.specs.Alone.{IsAlone, RunsAlone, word_at}
+use Rattle.vm_step.specs.Alone.{IsAlone, RunsAlone, known_word_at}
 use Rattle.vm_step.proofs.Alone.{found-known, runs-one, runs-then, same-word, still-alone, words-known}
 use Rattle.vm_step.proofs.Asides.{OnlyReads, look-only, lost-only, only-then}
 use Rattle.vm_step.proofs.Saws.{lost-saw}
-use Rattle.vm_fault.specs.Fetches.{IsToTry, IsWornOut}
+use Rattle.vm_fault.specs.Fetches.{IsFetchToTry, IsFetchWorn}
 
 -- a word at this version that is not the evicted one is of another state
 other-state : (word version : ℕ) → version_of word ≡ version → word ≢ word_of EVICTED version → state_of word ≢ EVICTED
@@ -31,13 +31,13 @@ module _ {X : Type 0} (tied : Start → ℕ → List ℕ → ℕ → List ℕ �
   looked = look-only (λ q. q ≡ p) tied p word v u refl look
 
   -- a pass that is alone finds the word that it knew
-  look-known : IsAlone v → (word ≡ word_at v (places.State p)) × (u.snapshot.words ≡ v.snapshot.words)
+  look-known : IsAlone v → (word ≡ known_word_at v (places.State p)) × (u.snapshot.words ≡ v.snapshot.words)
   look-known a = (found-known look-did word None [] _ v _ u look.brings refl a, words-known look-did None [] _ v _ u look.brings refl a)
 
   look-runs : RunsAlone (look-did ∷ []) [] v u
   look-runs = runs-one look-did None [] _ v _ u look.brings
 
-  pub worn-out : word ≡ word_of EVICTED MAX_VERSION → IsWornOut p v u
+  pub worn-out : word ≡ word_of EVICTED MAX_VERSION → IsFetchWorn p v u
   worn-out e = record {
     done = look-did ∷ [];
     aside = looked.aside;
@@ -50,7 +50,7 @@ module _ {X : Type 0} (tied : Start → ℕ → List ℕ → ℕ → List ℕ �
     known = λ a. sym (look-known a).0 ∙ e;
   }
 
-  pub worn-in : (first : ℕ) → first ≡ word_of EVICTED MAX_VERSION → version_of word ≡ MAX_VERSION → word ≢ first → IsToTry p (record { at = ats.Page p; first = first; seen = word }) v u
+  pub worn-in : (first : ℕ) → first ≡ word_of EVICTED MAX_VERSION → version_of word ≡ MAX_VERSION → word ≢ first → IsFetchToTry p (record { at = ats.Page p; first = first; seen = word }) v u
   worn-in first is last ne = record {
     done = look-did ∷ [];
     aside = looked.aside;
@@ -63,7 +63,7 @@ module _ {X : Type 0} (tied : Start → ℕ → List ℕ → ℕ → List ℕ �
     known = λ a. ((look-known a).0, other-state word MAX_VERSION last (λ e. ne (e ∙ sym is)));
   }
 
-  pub lost : (first found n : ℕ) (w : View X) → first ≡ word_of EVICTED n → version_of word ≡ n → found ≢ first → LockTold tied p first found u w → IsToTry p (record { at = ats.Page p; first = first; seen = found }) v w
+  pub lost : (first found n : ℕ) (w : View X) → first ≡ word_of EVICTED n → version_of word ≡ n → found ≢ first → LockTold tied p first found u w → IsFetchToTry p (record { at = ats.Page p; first = first; seen = found }) v w
   lost first found n w is at ne lock =
       let did : Did = did_exchange (places.State p) first found (word_of LOCKED (version_of first)) in
       let as-evicted : word_of EVICTED (version_of word) ≡ first = ap (word_of EVICTED) at ∙ sym is in
@@ -91,7 +91,7 @@ module _ {X : Type 0} (tied : Start → ℕ → List ℕ → ℕ → List ℕ �
         };
         known = λ a.
             let now : IsAlone u = still-alone v u looked.aside.parts looked.aside.alone.current a in
-            let there : found ≡ word_at v (places.State p) = found-known did found None [] [] u _ w lock.brings refl now ∙ same-word v u looked.aside.start (look-known a).1 (places.State p) in
+            let there : found ≡ known_word_at v (places.State p) = found-known did found None [] [] u _ w lock.brings refl now ∙ same-word v u looked.aside.start (look-known a).1 (places.State p) in
             let same : version_of found ≡ n = ap version_of (there ∙ sym (look-known a).0) ∙ at in
             (there, other-state found n same (λ e. ne (e ∙ sym is)));
       }

@@ -15,15 +15,15 @@ use Rattle.vm_rule.specs.declared.view.View.{View}
 use Rattle.vm_rule.specs.Views.{Each}
 use Rattle.vm_rule.specs.Reading.{last_in, last_of}
 use Rattle.vm_rule.specs.Locks.{LockTold}
-use Rattle.vm_rule.specs.Log.{did_load}
 use Rattle.vm_rule.specs.Looks.{LookTold}
 use Rattle.vm_rule.specs.Mappings.{clean_in}
 use Rattle.vm_step.specs.declared.saw.At.TheVariants as ats
 use Rattle.vm_step.specs.declared.saw.Saw.{Saw}
 use Rattle.vm_fault.specs.declared.fault.Fetch.{Fetch}
 use Rattle.vm_fault.specs.declared.fault.Fetch.TheVariants as fetches
-use Rattle.vm_step.specs.Alone.{IsAlone, RunsAlone, word_at}
+use Rattle.vm_step.specs.Alone.{IsAlone, RunsAlone, known_word_at}
 use Rattle.vm_step.specs.Asides.{IsAside, KeepsFrames}
+use Rattle.vm_step.specs.DeviceCalls.{GoesOnce, IsOfPage}
 use Rattle.vm_step.specs.Evidence.{EvictedExpected, HasGiven, HasWritten, IsLost, IsSaw, NoWord}
 use Rattle.vm_step.specs.Tables.{KnowsElse, KnowsSame}
 
@@ -45,40 +45,20 @@ pub record IsLostTo (done : List Did) (p : ℕ) (saw : Saw) : Type 0 where
   pub lost : IsLost step (places.State p) saw.first saw.seen
   pub first : state_of saw.first ≡ EVICTED
 
--- a place of page p: its state word, its translation word or its fault word
-abbrev pub IsOfPage : ℕ → Place → Type 0
-IsOfPage p (places.State q) = q ≡ p
-IsOfPage p (places.Translation q) = q ≡ p
-IsOfPage p (places.Fault q) = q ≡ p
-IsOfPage p (places.Content f i) = ⊥
-IsOfPage p (places.Bundle g) = ⊥
-IsOfPage p places.Next = ⊥
-IsOfPage p places.Hand = ⊥
-
--- or one of frame f
+-- a place of page p, or one of frame f
 abbrev pub IsOfBoth : ℕ → ℕ → Place → Type 0
 IsOfBoth p f at = IsOfPage p at ⊎ ((i : ℕ) × (i < WORDS) × (at ≡ places.Content f i))
 
--- no step found a word there
-abbrev pub FindsNone : Place → List Did → Type 0
-FindsNone at done = Each (λ d. d.at ≡ at → d.found ≡ None) done
-
--- the block of page p went out of its slot once and came home once: each of these moves is two loads of the page's fault word, and there are no
--- others
-pub record GoesOnce (p : ℕ) (done : List Did) : Type 0 where
-  pub earlier : List Did
-  pub out : ℕ × ℕ
-  pub home : ℕ × ℕ
-  pub later : List Did
-  pub cut : done ≡ earlier ++ did_load (places.Fault p) out.0 ∷ did_load (places.Fault p) out.1 ∷ did_load (places.Fault p) home.0 ∷ did_load (places.Fault p) home.1 ∷ later
-  pub none : FindsNone (places.Fault p) earlier × FindsNone (places.Fault p) later
+-- the block of page p went out once and came home once, with no step between: so its device was called once at most
+abbrev pub ReadsOnce : ℕ → List Did → Type 0
+ReadsOnce p done = (once : GoesOnce p done) × (once.between ≡ [])
 
 module _ {X : Type 0} where
   -- what a pass that was alone knows then: the page was evicted at this version, its word is this one at the next, and all words but those at
   -- the places touched are as before
   pub record KnowsReleased (touched : Place → Type 0) (state p version : ℕ) (v w : View X) : Type 0 where
-    pub before : word_at v (places.State p) ≡ word_of EVICTED version
-    pub now : word_at w (places.State p) ≡ word_of state (version + 1)
+    pub before : known_word_at v (places.State p) ≡ word_of EVICTED version
+    pub now : known_word_at w (places.State p) ≡ word_of state (version + 1)
     pub others : KnowsElse touched v w
 
   -- a look at page p led on from v, and then the lock of the page, which was evicted at this version, to w
@@ -90,7 +70,7 @@ module _ {X : Type 0} where
 
   -- the pass knows that page p is evicted below the last version
   abbrev pub IsKnownOut : ℕ → View X → Type 0
-  IsKnownOut p v = (state_of (word_at v (places.State p)) ≡ EVICTED) × (version_of (word_at v (places.State p)) < MAX_VERSION)
+  IsKnownOut p v = (state_of (known_word_at v (places.State p)) ≡ EVICTED) × (version_of (known_word_at v (places.State p)) < MAX_VERSION)
 
   -- page p was found evicted at this version, below the last, and was released with this word at the next one; its words are those that it had
   pub record IsReleasedAs (state p version : ℕ) (words : List ℕ) (done : List Did) (v w : View X) : Type 0 where
@@ -111,7 +91,7 @@ module _ {X : Type 0} where
     pub released : IsReleasedAs UNLOCKED p version words done v w
     -- no step is elsewhere; the page is released once, and of a pass that is alone nothing else happened to the table's words
     pub steps : Each (λ d. IsOfBoth p f d.at) done
-    pub block : GoesOnce p done
+    pub block : ReadsOnce p done
     pub alone : RunsAlone done (record { page = p; version = version + 1; words = words } ∷ []) v w
     pub table : IsAlone v → KnowsReleased (IsOfBoth p f) UNLOCKED p version v w
     pub mapped : HasWritten done (places.Translation p) (trans_word (Some (clean_in f)))
@@ -128,7 +108,7 @@ module _ {X : Type 0} where
     pub words : List ℕ
     pub released : IsReleasedAs EVICTED p version words done v w
     pub steps : Each (λ d. IsOfPage p d.at) done
-    pub block : GoesOnce p done
+    pub block : ReadsOnce p done
     pub alone : RunsAlone done (record { page = p; version = version + 1; words = words } ∷ []) v w
     pub table : IsAlone v → KnowsReleased (IsOfPage p) EVICTED p version v w
     pub raised : HasWritten done (places.Fault p) count
@@ -137,7 +117,7 @@ module _ {X : Type 0} where
     pub frames : (w.frames ≡ v.frames) × (w.contents ≡ v.contents)
 
   -- it may be tried again
-  pub record IsToTry (p : ℕ) (saw : Saw) (v w : View X) : Type 0 where
+  pub record IsFetchToTry (p : ℕ) (saw : Saw) (v w : View X) : Type 0 where
     pub done : List Did
     pub aside : IsAside p done v w
     pub keeps : KeepsFrames v w
@@ -147,10 +127,10 @@ module _ {X : Type 0} where
     pub at : saw.at ≡ ats.Page p
     pub why : IsLostTo done p saw ⊎ IsWornIn done p saw
     -- a pass that is alone finds the word that it knew, which is not an evicted page's
-    pub known : IsAlone v → (saw.seen ≡ word_at v (places.State p)) × (state_of saw.seen ≢ EVICTED)
+    pub known : IsAlone v → (saw.seen ≡ known_word_at v (places.State p)) × (state_of saw.seen ≢ EVICTED)
 
   -- it is evicted at the last version
-  pub record IsWornOut (p : ℕ) (v w : View X) : Type 0 where
+  pub record IsFetchWorn (p : ℕ) (v w : View X) : Type 0 where
     pub done : List Did
     pub aside : IsAside p done v w
     pub keeps : KeepsFrames v w
@@ -160,11 +140,11 @@ module _ {X : Type 0} where
     pub found : HasGiven done (places.State p) (word_of EVICTED MAX_VERSION)
     pub foreign : Each (λ d. d.at ≡ places.State p → d.wrote ≢ Some (word_of EVICTED MAX_VERSION)) found.earlier
     -- so a pass that is alone knew
-    pub known : IsAlone v → word_at v (places.State p) ≡ word_of EVICTED MAX_VERSION
+    pub known : IsAlone v → known_word_at v (places.State p) ≡ word_of EVICTED MAX_VERSION
 
   -- what `fault_in` of page p into frame f answers: on every answer but Brought the frame comes back
   abbrev pub IsFetched : ℕ → ℕ → View X → View X → Fetch → Type 0
   IsFetched p f v w fetches.Brought = IsBrought p f v w
-  IsFetched p f v w (fetches.Again frame saw) = (frame ≡ f) × IsToTry p saw v w
-  IsFetched p f v w (fetches.Worn frame pid) = (frame ≡ f) × (pid ≡ p) × IsWornOut p v w
+  IsFetched p f v w (fetches.Again frame saw) = (frame ≡ f) × IsFetchToTry p saw v w
+  IsFetched p f v w (fetches.Worn frame pid) = (frame ≡ f) × (pid ≡ p) × IsFetchWorn p v w
   IsFetched p f v w (fetches.Device frame pid count) = (frame ≡ f) × (pid ≡ p) × IsFailed p count v w

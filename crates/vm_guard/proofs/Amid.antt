@@ -32,7 +32,7 @@ use Rattle.vm_rule.proofs.Heard.{each-both}
 use Rattle.vm_rule.proofs.Worlds.{last-is, release-else}
 use Rattle.vm_step.specs.Alone.{RunsAlone}
 use Rattle.vm_step.specs.Asides.{StaysAlone}
-use Rattle.vm_step.specs.Works.{Leaves}
+use Rattle.vm_step.specs.Works.{LeavesRest}
 use Rattle.vm_step.proofs.Alone.{runs-one, runs-self, runs-then, stays-alone}
 use Rattle.vm_step.proofs.Asides.{alone-self, alone-silent, alone-release, alone-then, knows-then, starts-then}
 use Rattle.vm_step.proofs.Evidenced.{taken-view}
@@ -164,7 +164,7 @@ module _ {X : Type 0} (pages : List ℕ) where
   silent-within less done v w in-it f none = (amid-within less done v w in-it f, none)
 
   -- steps that speak of one of the pages
-  pub leaves-silent : (p : ℕ) (done : List Did) (v w : View X) → has p pages ≡ true → Leaves p done v w → w.out ≡ v.out → w.notes ≡ v.notes → RunsAlone done [] v w → Each (λ (d : Did). IsPlaceOf v.start pages d.at) done → IsSilent done v w
+  pub leaves-silent : (p : ℕ) (done : List Did) (v w : View X) → has p pages ≡ true → LeavesRest p done v w → w.out ≡ v.out → w.notes ≡ v.notes → RunsAlone done [] v w → Each (λ (d : Did). IsPlaceOf v.start pages d.at) done → IsSilent done v w
   leaves-silent p done v w e f out notes run at = (
     record {
       log = f.log;

@@ -23,12 +23,12 @@ use Rattle.vm_rule.proofs.Worlds.{last-is, release-here}
 use Rattle.vm_step.specs.Conditions.{IsClaimed, IsNotOut, MayDowngrade}
 use Rattle.vm_guard.specs.Downgrades.{IsDowngraded}
 use Rattle.vm_guard.specs.Guards.{IsElsewhere, IsHolding}
-use Rattle.vm_guard.specs.Takes.{MayRelease}
+use Rattle.vm_guard.specs.Takes.{PassMayRelease}
 use Rattle.vm_guard.proofs.QuietSteps.{elsewhere-from, loads-after, release-last, seat-after}
 
 module _ {X : Type 0} where
   pub may-downgrade : (may_release : Start → List ℕ → List Change → List (Entry X) → Type 0) (p f version : ℕ) (dirty : Bool) (v : View X) → IsHolding p f version dirty v
-      → IsNotOut v p → (v.start.tells ≡ true → IsClaimed v p) → MayRelease may_release p None v → MayDowngrade may_release v p version
+      → IsNotOut v p → (v.start.tells ≡ true → IsClaimed v p) → PassMayRelease may_release p None v → MayDowngrade may_release v p version
   may-downgrade may_release p f version dirty v h home claimed owner = record {
     owns = h.owns;
     resident = subst (λ (o : Option _). IsSome o) (sym h.stands) refl;

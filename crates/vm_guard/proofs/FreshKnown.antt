@@ -8,8 +8,9 @@ use Rattle.vm_rule.specs.declared.view.Place.TheVariants as places
 use Rattle.vm_rule.specs.declared.view.View.{View}
 use Rattle.vm_rule.specs.Layout.{Within, index_of}
 use Rattle.vm_rule.proofs.Entries.{each-map}
-use Rattle.vm_step.specs.Alone.{IsAlone, WritesNone, word_at}
-use Rattle.vm_step.proofs.After.{follows-length, knows-after, wide-after}
+use Rattle.vm_step.specs.Alone.{IsAlone, WritesNone, known_word_at}
+use Rattle.vm_step.proofs.After.{knows-after, wide-after}
+use Rattle.vm_step.proofs.Tables.{follows-length}
 use Rattle.vm_step.proofs.Written.{index-below}
 use Rattle.vm_guard.specs.Fresh.{IsAmid}
 use Rattle.vm_guard.specs.FreshPlaces.{IsPlaceOf, IsUntouched, KnowsOthers}
@@ -36,7 +37,7 @@ module _ {X : Type 0} where
       (each-map (λ (d : Did). IsPlaceOf v.start pages d.at) (λ (d : Did). d.at ≡ place → d.wrote ≡ None) (λ (d : Did) is at. absurd (untouched-else v.start pages place d.at un is at)) done f.places_are)
 
   -- the next word, where no step left another
-  pub next-known : (pages : List ℕ) (done : List Did) (v w : View X) → IsAmid pages done v w → WritesNone places.Next done → IsAlone v → word_at w places.Next ≡ word_at v places.Next
+  pub next-known : (pages : List ℕ) (done : List Did) (v w : View X) → IsAmid pages done v w → WritesNone places.Next done → IsAlone v → known_word_at w places.Next ≡ known_word_at v places.Next
   next-known pages done v w f none a = (knows-after done f.own v w f.start f.runs).kept a places.Next tt none
 
   -- the table has as many words as before
@@ -63,6 +64,6 @@ module _ {X : Type 0} where
       subst (λ (n : ℕ). index_of v.start place < n) (ap length k ∙ length-set v.snapshot.words (index_of v.start place) word) less)
 
   -- a pass that was alone knows every word of the table
-  pub known-there : (pages : List ℕ) (d : Did) (ds : List Did) (v w : View X) (place : Place) (word : ℕ) → IsAmid pages (d ∷ ds) v w → IsAlone v → Within w.start place → KnowsAt place word w → word_at w place ≡ word
+  pub known-there : (pages : List ℕ) (d : Did) (ds : List Did) (v w : View X) (place : Place) (word : ℕ) → IsAmid pages (d ∷ ds) v w → IsAlone v → Within w.start place → KnowsAt place word w → known_word_at w place ≡ word
   known-there pages d ds v w place word f a l k =
       k (let below = index-below w.start place l in let long = wide-after d ds f.own v w f.start f.runs a in omega (arith, below, long))

@@ -18,7 +18,7 @@ use Rattle.vm_rule.specs.Nexts.{NextTold}
 use Rattle.vm_rule.proofs.Entries.{each-map}
 use Rattle.vm_rule.proofs.Heard.{each-both}
 use Rattle.vm_step.specs.Asides.{HoldsPage}
-use Rattle.vm_step.specs.Evidence.{Begins, place_of, IsSaw, IsWorn, NoWord, UnlockedExpected, expected, read, same, guarded, asked}
+use Rattle.vm_step.specs.Evidence.{Begins, place_at, IsSaw, IsWorn, NoWord, UnlockedExpected, expected, read, same, guarded, asked}
 use Rattle.vm_step.specs.declared.saw.At.TheVariants as ats
 use Rattle.vm_step.specs.declared.saw.Saw.{Saw}
 use Rattle.vm_step.proofs.Asides.{holds-then, keeps-then, knows-then}
@@ -52,7 +52,7 @@ saw-within p saw pre done post at none s = record {
   since = s.since;
   begins = begins-behind UnlockedExpected _ saw.first saw.seen s.last pre s.earlier s.since s.begins;
   quiet = s.quiet;
-  foreign = each-both _ pre s.earlier (each-map _ _ (λ d ne here. absurd (ne (here ∙ ap place_of at))) pre none) s.foreign;
+  foreign = each-both _ pre s.earlier (each-map _ _ (λ d ne here. absurd (ne (here ∙ ap place_at at))) pre none) s.foreign;
   why = s.why;
 }
 

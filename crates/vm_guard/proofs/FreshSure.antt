@@ -18,7 +18,7 @@ use Rattle.vm_guard.specs.declared.given.Fresh.{Fresh}
 use Rattle.vm_guard.specs.declared.given.Fresh.TheVariants as answers
 use Rattle.vm_guard.specs.Denied.{AgainOrWorn, OnlyWorn, SameOrUnlocked}
 use Rattle.vm_guard.specs.Fresh.{IsPages, IsPagesOrWorn, Seizes}
-use Rattle.vm_guard.specs.Sure.{IsFree, MayBeGiven, MayBeSeized, MayBeTried, known_next, known_word}
+use Rattle.vm_guard.specs.Sure.{IsUnlockedWord, MayBeGiven, MayBeSeized, MayBeTried, known_next, known_word}
 use Rattle.vm_guard.specs.Takes.{SaysWhy}
 use Rattle.vm_guard.proofs.Amid.{nload-amid}
 use Rattle.vm_guard.proofs.FreshKnown.{next-known, others-known}
@@ -31,7 +31,7 @@ pub seize-refused : (p word : ℕ) (d : Deny) → SaysWhy p word d → AgainOrWo
 seize-refused p word (denies.Again saw) why kind may =
     let full : state_of word ≡ 253 = why.1 in
     ⊎_elim
-    (λ (free : IsFree word). ⊎_elim (λ (e : state_of word ≡ 0). omega (arith, e, full)) (λ (e : state_of word ≡ 254). omega (arith, e, full)) free)
+    (λ (free : IsUnlockedWord word). ⊎_elim (λ (e : state_of word ≡ 0). omega (arith, e, full)) (λ (e : state_of word ≡ 254). omega (arith, e, full)) free)
     (λ (e : state_of word ≡ 255). omega (arith, e, full))
     may.0
 seize-refused p word (denies.Need q) why kind may = kind
@@ -55,7 +55,7 @@ refused-worn p word (denies.Worn q) why kind none = tt
 
 -- a page that can be locked is locked by nobody
 pub seized-none : (word : ℕ) → MayBeSeized word → LocksNone word
-seized-none word may = ⊎_elim (λ (free : IsFree word). ⊎_elim (λ e. inl e) (λ e. inr (inl e)) free) (λ e. inr (inr e)) may.0
+seized-none word may = ⊎_elim (λ (free : IsUnlockedWord word). ⊎_elim (λ e. inl e) (λ e. inr (inl e)) free) (λ e. inr (inr e)) may.0
 
 -- and the word of one that is locked by nobody is the one that the lock expects
 seize-expected : (word expects : ℕ) → SameOrUnlocked word expects → LocksNone word → expects ≡ word

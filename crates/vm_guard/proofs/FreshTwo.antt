@@ -23,13 +23,13 @@ use Rattle.vm_rule.specs.Mappings.{contents_at, held_at}
 use Rattle.vm_rule.specs.Nexts.{NextTold, ClaimTold, claimed_view}
 use Rattle.vm_rule.specs.Releases.{without_all}
 use Rattle.vm_rule.proofs.Facts.{has-both}
-use Rattle.vm_step.specs.Conditions.{MayClaim}
+use Rattle.vm_step.specs.Conditions.{PassMayClaim}
 use Rattle.vm_step.specs.Evidence.{HasWritten}
 use Rattle.vm_step.proofs.Evidenced.{taken-view, written-behind}
 use Rattle.vm_guard.specs.Fresh.{AreFresh, Furnishes, IsAmid, IsSeized, Seizes}
 use Rattle.vm_guard.specs.declared.exclusive.ExclusiveGuard.{ExclusiveGuard}
 use Rattle.vm_guard.specs.Guards.{IsHolding}
-use Rattle.vm_step.specs.Alone.{IsAlone, word_at}
+use Rattle.vm_step.specs.Alone.{IsAlone, known_word_at}
 use Rattle.vm_step.proofs.Alone.{still-alone}
 use Rattle.vm_step.proofs.HeldFrames.{held-on}
 use Rattle.vm_guard.proofs.Amid.{IsSilent, claim-amid, claim-silent, nload-amid, nload-silent, silent-then, silent-within}
@@ -53,7 +53,7 @@ module _ {X : Type 0} where
       used-of true = refl
       used-of false = refl
 
-  pub may-claim-two : (x f1 f2 v1 v2 : ℕ) (d1 d2 : Bool) (v : View X) → IsHolding x f1 v1 d1 v → IsHolding (x + 1) f2 v2 d2 v → MayClaim v x 2
+  pub may-claim-two : (x f1 f2 v1 v2 : ℕ) (d1 d2 : Bool) (v : View X) → IsHolding x f1 v1 d1 v → IsHolding (x + 1) f2 v2 d2 v → PassMayClaim v x 2
   may-claim-two x f1 f2 v1 v2 d1 d2 v h k = record {
     few = inr refl;
     inside = (let l = k.page in omega (arith, l));
@@ -232,7 +232,7 @@ module _ {X : Type 0} where
     page-w : (q : ℕ) → q < x + 2 → q < w.start.pages
     page-w q l = subst (λ (o : Origin). q < o.pages) (sym steps-two.0.start) (let most = inside in omega (arith, most, l))
 
-    now : IsAlone v → (place : Place) (word : ℕ) → Within w.start place → KnowsAt place word w → word_at w place ≡ word
+    now : IsAlone v → (place : Place) (word : ℕ) → Within w.start place → KnowsAt place word w → known_word_at w place ≡ word
     now k place word l at = known-there two (did_load places.Next x) rest-1 v w place word steps-two.0 k l at
 
     pub fresh-two : AreFresh (numbers x 2) x 2 (g1 ∷ g2 ∷ []) before after v w
@@ -279,8 +279,8 @@ module _ {X : Type 0} where
           (written-behind (did_load places.Next x ∷ []) rest-4 places.Next (x + 2) (written-behind f.done rest-5 places.Next (x + 2) (written-behind h.done (did ∷ []) places.Next (x + 2) wrote-2)))));
       silent = steps-two.1;
       locked = λ a. (
-        ap (λ n. word_at w (places.State n)) pid1 ∙ now a (places.State x) (word_of LOCKED e1) (page-w x (omega arith)) (known-first a) ∙ ap (word_of LOCKED) (sym version-one),
-        (ap (λ n. word_at w (places.State n)) pid2 ∙ now a (places.State (x + 1)) (word_of LOCKED e2) (page-w (x + 1) (omega arith)) (known-second a) ∙ ap (word_of LOCKED) (sym version-two), tt),
+        ap (λ n. known_word_at w (places.State n)) pid1 ∙ now a (places.State x) (word_of LOCKED e1) (page-w x (omega arith)) (known-first a) ∙ ap (word_of LOCKED) (sym version-one),
+        (ap (λ n. known_word_at w (places.State n)) pid2 ∙ now a (places.State (x + 1)) (word_of LOCKED e2) (page-w (x + 1) (omega arith)) (known-second a) ∙ ap (word_of LOCKED) (sym version-two), tt),
       );
       moved = λ a. now a places.Next (x + 2) tt (put-known places.Next (x + 2) y w last-step.start
           ((last-step.runs.words (alone-y2 a).0 (alone-y2 a).1).1

@@ -22,13 +22,13 @@ use Rattle.vm_rule.specs.Locks.{IsUnheld}
 use Rattle.vm_rule.specs.Mappings.{contents_at, held_at}
 use Rattle.vm_rule.specs.Nexts.{NextTold, ClaimTold, claimed_view}
 use Rattle.vm_rule.specs.Releases.{without_all}
-use Rattle.vm_step.specs.Conditions.{MayClaim}
+use Rattle.vm_step.specs.Conditions.{PassMayClaim}
 use Rattle.vm_step.specs.Evidence.{HasWritten}
 use Rattle.vm_step.proofs.Evidenced.{taken-view, written-behind}
 use Rattle.vm_guard.specs.Fresh.{AreFresh, Furnishes, IsAmid, IsSeized, Seizes}
 use Rattle.vm_guard.specs.declared.exclusive.ExclusiveGuard.{ExclusiveGuard}
 use Rattle.vm_guard.specs.Guards.{IsHolding}
-use Rattle.vm_step.specs.Alone.{IsAlone, word_at}
+use Rattle.vm_step.specs.Alone.{IsAlone, known_word_at}
 use Rattle.vm_step.proofs.Alone.{still-alone}
 use Rattle.vm_step.proofs.HeldFrames.{held-on}
 use Rattle.vm_guard.proofs.Amid.{IsSilent, claim-amid, claim-silent, nload-amid, nload-silent, silent-then}
@@ -70,7 +70,7 @@ module _ {X : Type 0} where
         next = λ k. none-some p (sym none ∙ k);
       }
 
-  pub may-claim-one : (x frame version : ℕ) (dirty : Bool) (v : View X) → IsHolding x frame version dirty v → MayClaim v x 1
+  pub may-claim-one : (x frame version : ℕ) (dirty : Bool) (v : View X) → IsHolding x frame version dirty v → PassMayClaim v x 1
   may-claim-one x frame version dirty v h = record {
     few = inl refl;
     inside = (let l = h.page in omega (arith, l));
@@ -192,7 +192,7 @@ module _ {X : Type 0} where
       claimed = written-behind (did_load places.Next x ∷ []) _ places.Next (x + 1) (written-behind s.done _ places.Next (x + 1) (written-behind (did_load places.Next x ∷ []) _ places.Next (x + 1) (written-behind f.done _ places.Next (x + 1) wrote-it)));
       silent = steps-one.1;
       locked = λ a. (
-        ap (λ n. word_at w (places.State n)) pid
+        ap (λ n. known_word_at w (places.State n)) pid
             ∙ known-there (x ∷ []) (did_load places.Next x) rest-done v w (places.State x) (word_of LOCKED version) steps-one.0 a page-w (known-one a)
             ∙ ap (word_of LOCKED) (sym same-version),
         tt,

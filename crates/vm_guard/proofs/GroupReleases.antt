@@ -16,7 +16,7 @@ use Rattle.vm_step.specs.Keeping.{IsKeptNow}
 use Rattle.vm_step.proofs.Groups.{has-without_all_same}
 use Rattle.vm_guard.specs.declared.exclusive.ExclusiveGuard.{ExclusiveGuard}
 use Rattle.vm_guard.specs.Groups.{GuardsHeld, AreGivenUp, AreReleased, IsBeside, IsGroupReleased, MayReleaseAll, next_after_all, pids_of, release_steps, releases_of}
-use Rattle.vm_guard.specs.Sure.{IsFree}
+use Rattle.vm_guard.specs.Sure.{IsUnlockedWord}
 use Rattle.vm_guard.proofs.Groups.{all-pending, beside-then, first-or-rest, given-up, IsRest, loads-same, releases-same, same-seat, seat-else, seat-here, seats-all, without-absent, without-front}
 use Rattle.vm_guard.proofs.GroupsAlone.{free-each, last-each, last-else, words-released}
 use Rattle.vm_guard.proofs.QuietSteps.{release-elsewhere}
@@ -66,7 +66,7 @@ module _ {X : Type 0} where
         loads = λ q. rest.loads q ∙ loads-same p g.version ps said v u t q;
         current = rest.current (ap (λ (y : View X). y.current) view);
         table = λ a. words-released v.start (g ∷ gs) v.snapshot.words w.snapshot.words (run.words a.0 a.1);
-        free = λ a. subst (λ (l : List ℕ). Each (λ (x : ExclusiveGuard). IsFree (slice_index l x.pid) × (version_of (slice_index l x.pid) ≤ x.version + 1)) (g ∷ gs))
+        free = λ a. subst (λ (l : List ℕ). Each (λ (x : ExclusiveGuard). IsUnlockedWord (slice_index l x.pid) × (version_of (slice_index l x.pid) ≤ x.version + 1)) (g ∷ gs))
             (sym (words-released v.start (g ∷ gs) v.snapshot.words w.snapshot.words (run.words a.0 a.1)))
             (free-each v.start (g ∷ gs) v.snapshot.words may.apart (each-map _ _ (λ (x : ExclusiveGuard) h. h.below) (g ∷ gs) may.held));
         last = λ a. each-map _ _ (λ (x : ExclusiveGuard) is. (λ i. last_in (beside.steady.start i) (run.releases a.0 a.1 i) x.pid) ∙ is) (g ∷ gs) (last-each v (g ∷ gs) v.releases may.apart);

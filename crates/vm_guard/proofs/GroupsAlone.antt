@@ -14,7 +14,7 @@ use Rattle.vm_rule.proofs.Worlds.{last-is, release-else, release-here}
 use Rattle.vm_step.specs.Alone.{Follows}
 use Rattle.vm_guard.specs.declared.exclusive.ExclusiveGuard.{ExclusiveGuard}
 use Rattle.vm_guard.specs.Groups.{pids_of, release_steps, releases_of, released_words}
-use Rattle.vm_guard.specs.Sure.{IsFree, words_with}
+use Rattle.vm_guard.specs.Sure.{IsUnlockedWord, words_with}
 use Rattle.vm_guard.proofs.Groups.{lacks}
 use Rattle.vm_guard.proofs.Sure.{free-after}
 
@@ -32,10 +32,10 @@ words-else start (g ∷ gs) words q none =
 
 -- each page is free
 pub free-each : (start : Origin) (gs : List ExclusiveGuard) (words : List ℕ) → AreApart (pids_of gs) → Each (λ (g : ExclusiveGuard). g.version < MAX_VERSION) gs
-    → Each (λ (g : ExclusiveGuard). IsFree (slice_index (words_with start (released_words gs) words) g.pid) × (version_of (slice_index (words_with start (released_words gs) words) g.pid) ≤ g.version + 1)) gs
+    → Each (λ (g : ExclusiveGuard). IsUnlockedWord (slice_index (words_with start (released_words gs) words) g.pid) × (version_of (slice_index (words_with start (released_words gs) words) g.pid) ≤ g.version + 1)) gs
 free-each start [] words apart below = tt
 free-each start (g ∷ gs) words apart below = (
-  subst (λ (n : ℕ). IsFree n × (version_of n ≤ g.version + 1)) (sym (words-else start gs (slice_set words g.pid (g.version + 1)) g.pid apart.0))
+  subst (λ (n : ℕ). IsUnlockedWord n × (version_of n ≤ g.version + 1)) (sym (words-else start gs (slice_set words g.pid (g.version + 1)) g.pid apart.0))
       (free-after g.pid (g.version + 1) words (let low : g.version < MAX_VERSION = below.0 in omega (arith, low))),
   free-each start gs (slice_set words g.pid (g.version + 1)) apart.1 below.1,
 )

@@ -40,10 +40,10 @@ use Rattle.vm_step.specs.Alone.{IsAlone, RunsAlone}
 use Rattle.vm_step.proofs.Alone.{still-alone}
 use Rattle.vm_rule.specs.declared.view.Place.{Place}
 use Rattle.vm_rule.specs.Layout.{index_of}
-use Rattle.vm_guard.specs.Sure.{IsFree, known_word}
+use Rattle.vm_guard.specs.Sure.{IsUnlockedWord, known_word}
 use Rattle.vm_guard.proofs.Sure.{free-after, state-inside}
 use Rattle.vm_guard.specs.Quiet.{IsSteady}
-use Rattle.vm_guard.specs.Takes.{MayRelease}
+use Rattle.vm_guard.specs.Takes.{PassMayRelease}
 use Rattle.vm_guard.proofs.QuietSteps.{dirty-aside, elsewhere-then, holds-then, last-kept, loads-after, quiet-elsewhere, quiet-none, reads-then, release-elsewhere, release-last, seat-after, still-holds, still-reads, store-aside, unshare-aside}
 
 module _ {X : Type 0} where
@@ -188,7 +188,7 @@ module _ {X : Type 0} where
   -- ---- a release
 
   pub may-give_up : (may_release : Start → List ℕ → List Change → List (Entry X) → Type 0) (p f version : ℕ) (dirty : Bool) (said : Option X) (v : View X) → IsHolding p f version dirty v
-      → IsNotOut v p → (v.start.tells ≡ true → IsClaimed v p) → MayRelease may_release p said v → MayGiveUp may_release p version [] said v
+      → IsNotOut v p → (v.start.tells ≡ true → IsClaimed v p) → PassMayRelease may_release p said v → MayGiveUp may_release p version [] said v
   may-give_up may_release p f version dirty said v h home claimed owner = record {
     owns = h.owns;
     resident = subst (λ (o : Option Mapping). IsSome o) (sym h.stands) refl;
@@ -230,7 +230,7 @@ module _ {X : Type 0} where
         table = λ a. ((release-elsewhere p version [] said v w t).steady.alone.words a.0 a.1).1;
         free = λ a.
             let below : version < MAX_VERSION = h.below in
-            subst (λ (l : List ℕ). IsFree (slice_index l p) × (version_of (slice_index l p) ≤ version + 1)) (sym ((release-elsewhere p version [] said v w t).steady.alone.words a.0 a.1).1)
+            subst (λ (l : List ℕ). IsUnlockedWord (slice_index l p) × (version_of (slice_index l p) ≤ version + 1)) (sym ((release-elsewhere p version [] said v w t).steady.alone.words a.0 a.1).1)
             (free-after p (version + 1) v.snapshot.words (omega (arith, below)));
         current = ap (λ (y : View X). y.current) b.view;
       }

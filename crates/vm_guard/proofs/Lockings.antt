@@ -23,7 +23,7 @@ use Rattle.vm_rule.specs.Brought.{Brings, set_if}
 use Rattle.vm_rule.specs.Log.{did_load, did_exchange}
 use Rattle.vm_rule.specs.Looks.{LookTold}
 use Rattle.vm_rule.specs.Loads.{TranslationTold}
-use Rattle.vm_rule.specs.Locks.{IsUnheld, LockTold, Validates, locked_view}
+use Rattle.vm_rule.specs.Locks.{IsUnheld, LockTold, LockValidates, locked_view}
 use Rattle.vm_step.specs.Asides.{HoldsPage, KnowsAsBefore}
 use Rattle.vm_step.proofs.Asides.{alone-then}
 use Rattle.vm_guard.specs.Quiet.{IsQuiet}
@@ -132,9 +132,9 @@ module _ {X : Type 0} (tied : Start → ℕ → List ℕ → ℕ → List ℕ �
         holding = holding p expects u x t word found m w to load named (subst (λ (o : Origin). p < o.pages) (sym (aside.elsewhere.steady.start ∙ before.steady.start)) page);
         draft = draft-then p expects u x t word found m w to load named (subst (λ (o : Origin). p < o.pages) (sym (aside.elsewhere.steady.start ∙ before.steady.start)) page);
         validates = λ tells.
-            subst (λ (y : Version). Validates tied p (version_of word) y.words v) (sym known.last)
+            subst (λ (y : Version). LockValidates tied p (version_of word) y.words v) (sym known.last)
             (validates-before tied p word v u look to.open_word (last_of x p).words
-            (subst (λ (n : ℕ). Validates tied p n (last_of x p).words u) (sym to.version) (t.validates (ap (λ (o : Origin). o.tells) before.steady.start ∙ tells) refl)));
+            (subst (λ (n : ℕ). LockValidates tied p n (last_of x p).words u) (sym to.version) (t.validates (ap (λ (o : Origin). o.tells) before.steady.start ∙ tells) refl)));
         older = older-read word (seat_of v p).reading look.older;
         wrote = record {
           earlier = first ∷ [];

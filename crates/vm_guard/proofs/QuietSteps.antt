@@ -6,7 +6,7 @@ use Rattle.vm_core.specs.declared.event.ReadIs.{ReadIs}
 use Rattle.vm_core.specs.declared.event.ReadIs.TheVariants as read
 use Rattle.vm_core.specs.declared.event.Seat.{Seat}
 use Rattle.vm_core.specs.Words.{state_of, version_of, word_of, LOCKED}
-use Rattle.vm_core.specs.StateActs.{open_after, one_more, unshared}
+use Rattle.vm_core.specs.StateActs.{open_after, one_share_more, unshared}
 use Rattle.vm_core.specs.FrameActs.{mapping_of, open_frame, framed, trans_word}
 use Rattle.vm_core.specs.History.{History, kept_loads, loads_more}
 use Rattle.vm_core.specs.Start.{no_seat}
@@ -400,10 +400,10 @@ module _ {X : Type 0} where
       (lost-view (did_exchange (places.State p) expects found (word_of LOCKED (version_of expects))) expects found v (locked_view p t.held (last_of w p).words v) w ne t.brings)
 
   pub share-lost : (tied : Start → ℕ → List ℕ → ℕ → List ℕ → Type 0) (p expects found : ℕ) (v w : View X) → found ≢ expects → ShareTold tied p expects found v w
-      → IsQuiet p (did_exchange (places.State p) expects found (word_of (one_more (state_of expects)) (version_of expects)) ∷ []) v w
+      → IsQuiet p (did_exchange (places.State p) expects found (word_of (one_share_more (state_of expects)) (version_of expects)) ∷ []) v w
   share-lost tied p expects found v w ne t =
-      still-quiet p (did_exchange (places.State p) expects found (word_of (one_more (state_of expects)) (version_of expects))) v w
-      (lost-view (did_exchange (places.State p) expects found (word_of (one_more (state_of expects)) (version_of expects))) expects found v (shared_view p t.held v) w ne t.brings)
+      still-quiet p (did_exchange (places.State p) expects found (word_of (one_share_more (state_of expects)) (version_of expects))) v w
+      (lost-view (did_exchange (places.State p) expects found (word_of (one_share_more (state_of expects)) (version_of expects))) expects found v (shared_view p t.held v) w ne t.brings)
 
   -- all that a step leaves that takes or gives up a lock of page p alone
   pub record IsAside (p : ℕ) (done : List Did) (v w : View X) : Type 0 where
@@ -436,9 +436,9 @@ module _ {X : Type 0} where
   held-if false v p h q ne = upd-other (put_at no_held v.held) p h q ne
 
   pub share-taken : (tied : Start → ℕ → List ℕ → ℕ → List ℕ → Type 0) (p expects found : ℕ) (v w : View X) → found ≡ expects → ShareTold tied p expects found v w
-      → IsAside p (did_exchange (places.State p) expects found (word_of (one_more (state_of expects)) (version_of expects)) ∷ []) v w
+      → IsAside p (did_exchange (places.State p) expects found (word_of (one_share_more (state_of expects)) (version_of expects)) ∷ []) v w
   share-taken tied p expects found v w e t =
-      let did : Did = did_exchange (places.State p) expects found (word_of (one_more (state_of expects)) (version_of expects)) in
+      let did : Did = did_exchange (places.State p) expects found (word_of (one_share_more (state_of expects)) (version_of expects)) in
       let inner : View X = shared_view p t.held v in
       let b : Brings did [] [] v inner w = taken-view did expects found v inner w e t.brings in
       record {

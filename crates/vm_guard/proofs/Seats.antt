@@ -27,7 +27,7 @@ use Rattle.vm_rule.specs.Brought.{entries_of}
 use Rattle.vm_rule.specs.Log.{did_load}
 use Rattle.vm_rule.specs.Looks.{LookTold, left_at, looked_view, where_same}
 use Rattle.vm_rule.specs.Loads.{TranslationTold, tloaded_view, frame_read_by}
-use Rattle.vm_rule.specs.Locks.{Validates, has_lock}
+use Rattle.vm_rule.specs.Locks.{LockValidates, has_lock}
 use Rattle.vm_guard.specs.Quiet.{IsQuiet}
 use Rattle.vm_guard.proofs.QuietSteps.{look-quiet, seat-after, loads-after}
 
@@ -91,7 +91,7 @@ module _ {X : Type 0} where
           )
 
       -- what is validated after the look was there before it
-      pub validates-before : (words : List ℕ) → Validates tied p (version_of found) words w → Validates tied p (version_of found) words v
+      pub validates-before : (words : List ℕ) → LockValidates tied p (version_of found) words w → LockValidates tied p (version_of found) words v
       validates-before words val =
           let q : IsQuiet p (did_load (places.State p) found ∷ []) v w = look-quiet tied p found v w t in
           record {

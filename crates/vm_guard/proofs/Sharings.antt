@@ -4,7 +4,7 @@ use Rattle.std.proofs.lemmas.Bool.{cond-true, eq-eqb}
 use Rattle.vm_core.specs.declared.event.Mapping.{Mapping}
 use Rattle.vm_core.specs.declared.event.Seat.{Seat}
 use Rattle.vm_core.specs.Words.{state_of, version_of, word_of}
-use Rattle.vm_core.specs.StateActs.{one_more}
+use Rattle.vm_core.specs.StateActs.{one_share_more}
 use Rattle.vm_core.specs.FrameActs.{mapping_of, frame_of, framed}
 use Rattle.vm_core.specs.History.{Version}
 use Rattle.vm_core.specs.Start.{no_seat}
@@ -23,7 +23,7 @@ use Rattle.vm_rule.specs.Brought.{Brings, set_if}
 use Rattle.vm_rule.specs.Log.{did_load, did_exchange}
 use Rattle.vm_rule.specs.Looks.{LookTold}
 use Rattle.vm_rule.specs.Loads.{TranslationTold}
-use Rattle.vm_rule.specs.Locks.{ShareTold, Validates, has_lock, shared_view}
+use Rattle.vm_rule.specs.Locks.{ShareTold, LockValidates, has_lock, shared_view}
 use Rattle.vm_step.specs.Asides.{KnowsAsBefore}
 use Rattle.vm_step.proofs.Asides.{alone-then}
 use Rattle.vm_guard.specs.Quiet.{IsQuiet}
@@ -35,7 +35,7 @@ use Rattle.vm_guard.proofs.Seats.{frame-some, has-lock, look-seat, translation-s
 module _ {X : Type 0} (tied : Start → ℕ → List ℕ → ℕ → List ℕ → Type 0) where
   module _ (p word : ℕ) (u x : View X) (t : ShareTold tied p word word u x) where
     abbrev share-did : Did
-    share-did = did_exchange (places.State p) word word (word_of (one_more (state_of word)) (version_of word))
+    share-did = did_exchange (places.State p) word word (word_of (one_share_more (state_of word)) (version_of word))
 
     abbrev share-inner : View X
     share-inner = shared_view p t.held u
@@ -94,13 +94,13 @@ module _ {X : Type 0} (tied : Start → ℕ → List ℕ → ℕ → List ℕ �
         };
         size = ap (λ (y : Version). length y.words) known.last ∙ t.size;
         validates = λ tells.
-            subst (λ (y : Version). Validates tied p y.version y.words v) (sym known.last)
-            (subst (λ (n : ℕ). Validates tied p n (last_of x p).words v) (sym t.version)
+            subst (λ (y : Version). LockValidates tied p y.version y.words v) (sym known.last)
+            (subst (λ (n : ℕ). LockValidates tied p n (last_of x p).words v) (sym t.version)
             (validates-before tied p word v u look room.open_word (last_of x p).words (t.validates (ap (λ (o : Origin). o.tells) before.steady.start ∙ tells) refl)));
         current = ap (λ (y : View X). y.current) load.brings.view;
         table = λ a.
             let steps = elsewhere.steady.alone.words a.0 a.1 in
             steps.1.1.1
             ∙ ap (λ (o : Option ℕ). set_if o p v.snapshot.words)
-            (cond-true (eqb word word) (Some (word_of (one_more (state_of word)) (version_of word))) None (eq-eqb word word refl) ∙ ap (λ (n : ℕ). Some (word_of (one_more (state_of n)) (version_of n))) steps.0);
+            (cond-true (eqb word word) (Some (word_of (one_share_more (state_of word)) (version_of word))) None (eq-eqb word word refl) ∙ ap (λ (n : ℕ). Some (word_of (one_share_more (state_of n)) (version_of n))) steps.0);
       }

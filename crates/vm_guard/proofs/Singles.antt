@@ -9,7 +9,7 @@ use Rattle.vm_rule.specs.Reading.{last_of}
 use Rattle.vm_step.specs.Asides.{StaysAlone}
 use Rattle.vm_step.proofs.Asides.{alone-then}
 use Rattle.vm_guard.specs.Quiet.{IsQuiet}
-use Rattle.vm_guard.specs.Guards.{Begins, Loads, IsValid}
+use Rattle.vm_guard.specs.Guards.{BeginsReading, Loads, IsValid}
 use Rattle.vm_guard.specs.Sure.{IsKnownAt, known_word}
 use Rattle.vm_guard.proofs.OpenReads.{locked-unreadable}
 use Rattle.vm_step.specs.Alone.{IsAlone}
@@ -29,7 +29,7 @@ pub quiet-alone : {X : Type 0} (p q : ℕ) (a b : List Did) (u v w z : View X) �
 quiet-alone p q a b u v w z f g h = alone-then u v z f.steady.parts f.alone (alone-then v w z g.steady.parts g.alone h)
 
 -- a pass that is alone knows the page at the guard's word, once words were loaded through it
-pub known-at : {X : Type 0} (p word frame : ℕ) (loaded : List (ℕ × ℕ)) (u v w : View X) → Begins p word frame u v → Loads p word frame loaded v w → IsAlone u → IsAlone w × IsKnownAt p word w
+pub known-at : {X : Type 0} (p word frame : ℕ) (loaded : List (ℕ × ℕ)) (u v w : View X) → BeginsReading p word frame u v → Loads p word frame loaded v w → IsAlone u → IsAlone w × IsKnownAt p word w
 known-at p word frame loaded u v w begins loads a =
     let after : IsAlone v = still-alone u v begins.quiet.steady.parts begins.quiet.alone.current a in
     let there : known_word p w ≡ word = ap (λ (s : List ℕ). slice_index s p) (loads.table after) ∙ (begins.known a).0 in (

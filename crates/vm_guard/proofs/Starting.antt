@@ -23,7 +23,7 @@ use Rattle.vm_guard.specs.declared.deny.Deny.TheVariants as denies
 use Rattle.vm_step.specs.Evidence.{AreQuiet, NoWord, NoneExpected}
 use Rattle.vm_step.specs.Evidence.Begins.{same, read}
 use Rattle.vm_guard.specs.Quiet.{IsQuiet}
-use Rattle.vm_guard.specs.Guards.{Begins, HasLeft, IsReading, IsUnmarked}
+use Rattle.vm_guard.specs.Guards.{BeginsReading, HasLeft, IsReading, IsUnmarked}
 use Rattle.vm_guard.specs.Denied.{AgainOrNeed, IsDenied}
 use Rattle.vm_guard.proofs.QuietSteps.{quiet-then, look-quiet, translation-quiet, still-locking}
 use Rattle.vm_guard.proofs.Reading.{reading-kept}
@@ -185,7 +185,7 @@ module _ {X : Type 0} (tied : Start → ℕ → List ℕ → ℕ → List ℕ �
           })
           (cases_eq (version_of kept) (version_of first))
 
-      pub began : (frame : ℕ) → p < u.start.pages → frame_in word ≡ Some frame → Begins p seen frame u w
+      pub began : (frame : ℕ) → p < u.start.pages → frame_in word ≡ Some frame → BeginsReading p seen frame u w
       began frame inside e =
           let here : names.0 ≡ frame = some-same names.0 frame (sym names.1 ∙ e) in
           let start : w.start ≡ u.start = all-quiet.steady.start in

@@ -22,13 +22,13 @@ use Rattle.vm_guard.specs.declared.deny.Deny.TheVariants as denies
 use Rattle.vm_guard.specs.Denied.{SameOrUnlocked, NotCrowded, NotWorn}
 use Rattle.vm_guard.specs.Guards.{AreUnmarking, IsUnmarked}
 use Rattle.vm_guard.specs.Quiet.{IsQuiet}
-use Rattle.vm_guard.specs.Sure.{IsFree, IsKnownAt, IsKnownFree, known_word, unmarked_word}
+use Rattle.vm_guard.specs.Sure.{IsUnlockedWord, IsKnownAt, IsKnownFree, known_word, unmarked_word}
 use Rattle.vm_guard.specs.Takes.{SaysWhy}
 use Rattle.vm_guard.proofs.OpenReads.{locked-unreadable}
 use Rattle.vm_guard.proofs.QuietSteps.{look-quiet, translation-quiet}
 
 -- a free page below the last version is no page that a lock is refused of at once
-pub free-refused : (p word : ℕ) (d : Deny) → SaysWhy p word d → NotCrowded d → IsFree word → version_of word < MAX_VERSION → ⊥
+pub free-refused : (p word : ℕ) (d : Deny) → SaysWhy p word d → NotCrowded d → IsUnlockedWord word → version_of word < MAX_VERSION → ⊥
 free-refused p word (denies.Again saw) why kind free below =
     let full : state_of word ≡ 253 = why.1 in ⊎_elim (λ (e : state_of word ≡ 0). omega (arith, e, full)) (λ (e : state_of word ≡ 254). omega (arith, e, full)) free
 free-refused p word (denies.Need q) why kind free below =
@@ -48,7 +48,7 @@ room-refused p word (denies.Crowded q) why kind room =
 room-refused p word (denies.Worn q) why kind room = kind
 
 -- a word that the look found free is the one that the lock expects
-pub free-expected : (word expects : ℕ) → SameOrUnlocked word expects → IsFree word → expects ≡ word
+pub free-expected : (word expects : ℕ) → SameOrUnlocked word expects → IsUnlockedWord word → expects ≡ word
 free-expected word expects kept free =
     ⊎_elim
     (λ (e : expects ≡ word). e)
@@ -66,7 +66,7 @@ lock-bare word may some few =
     may.state
 
 -- of the guard's word, and of the unlocked one in its place, an upgrade expects the one that the page has, where that is free
-same-expected : (word expects known : ℕ) → SameOrUnlocked word expects → MayLock expects → IsFree known → SameOrUnlocked word known → expects ≡ known
+same-expected : (word expects known : ℕ) → SameOrUnlocked word expects → MayLock expects → IsUnlockedWord known → SameOrUnlocked word known → expects ≡ known
 same-expected word expects known kept may free is =
     ⊎_elim
     (λ (e : expects ≡ word). ⊎_elim
@@ -74,7 +74,7 @@ same-expected word expects known kept may free is =
     (λ h. absurd (lock-bare word (subst MayLock e may) h.0 h.1))
     is)
     (λ h. ⊎_elim
-    (λ (k : known ≡ word). let free-word : IsFree word = subst IsFree k free in
+    (λ (k : known ≡ word). let free-word : IsUnlockedWord word = subst IsUnlockedWord k free in
     let some : 1 ≤ state_of word = h.0 in
     let few : state_of word < 253 = h.1 in
     absurd (⊎_elim (λ (e : state_of word ≡ 0). omega (arith, e, some)) (λ (e : state_of word ≡ 254). omega (arith, e, few)) free-word))
@@ -118,13 +118,13 @@ marked-inside p words marked =
     state-inside p words (omega (arith, is))
 
 -- a word that is a version is a free page's
-free-at : (n x : ℕ) → x ≡ n → n ≤ MAX_VERSION → IsFree x × (version_of x ≤ n)
+free-at : (n x : ℕ) → x ≡ n → n ≤ MAX_VERSION → IsUnlockedWord x × (version_of x ≤ n)
 free-at n x e within =
     let same : version_of x ≡ n = ap version_of e ∙ bare-version n within in
     (inl (ap state_of e ∙ bare-state n within), omega (arith, same))
 
 -- a place where a version was put has the word of a free page, whether it is among the words or not
-pub free-after : (p n : ℕ) (words : List ℕ) → n ≤ MAX_VERSION → IsFree (slice_index (slice_set words p n) p) × (version_of (slice_index (slice_set words p n) p) ≤ n)
+pub free-after : (p n : ℕ) (words : List ℕ) → n ≤ MAX_VERSION → IsUnlockedWord (slice_index (slice_set words p n) p) × (version_of (slice_index (slice_set words p n) p) ≤ n)
 free-after p n words within =
     ⊎_elim
     (λ (l : p < length words). free-at n (slice_index (slice_set words p n) p) (get_or-set_same words p n 0 l) within)
@@ -197,7 +197,7 @@ module _ {X : Type 0} (tied : Start → ℕ → List ℕ → ℕ → List ℕ �
     lock-finds expects found w t = finds-again found (found-known _ found None [] [] u _ w t.brings refl alone-on)
 
     -- a lock of a free page is not lost
-    pub lock-sure : (expects found : ℕ) (w : View X) → LockTold tied p expects found u w → SameOrUnlocked word expects → found ≢ expects → IsFree word → ⊥
+    pub lock-sure : (expects found : ℕ) (w : View X) → LockTold tied p expects found u w → SameOrUnlocked word expects → found ≢ expects → IsUnlockedWord word → ⊥
     lock-sure expects found w t kept ne free = ne (lock-finds expects found w t ∙ sym (free-expected word expects kept free))
 
     -- nor is a share

@@ -13,7 +13,7 @@ use Rattle.vm_rule.specs.Log.{did_exchange, did_load}
 use Rattle.vm_rule.specs.Locks.{MarkTold}
 use Rattle.vm_rule.proofs.WordFacts.{version-within, word-state, word-version}
 use Rattle.vm_step.specs.Evidence.{AreQuiet}
-use Rattle.vm_guard.specs.Guards.{AreUnmarking, Begins, IsUnmarked}
+use Rattle.vm_guard.specs.Guards.{AreUnmarking, BeginsReading, IsUnmarked}
 use Rattle.vm_guard.specs.Quiet.{LeavesNone, OnlyUnmarks}
 use Rattle.vm_guard.proofs.QuietSteps.{mark-quiet, quiet-none, still-reads}
 
@@ -89,7 +89,7 @@ unmarking-unmarks p first done steps =
         (cases_eq found first)
 
 -- so the steps of an optimistic guard that begins
-pub begun-unmarks : {X : Type 0} (p word frame : ℕ) (v w : View X) (b : Begins p word frame v w) → OnlyUnmarks p b.done
+pub begun-unmarks : {X : Type 0} (p word frame : ℕ) (v w : View X) (b : BeginsReading p word frame v w) → OnlyUnmarks p b.done
 begun-unmarks p word frame v w b =
     let later : List Did = did_load (places.Translation p) b.translation ∷ did_load (places.State p) word ∷ [] in
     subst (λ (d : List Did). OnlyUnmarks p d) (sym b.cut) (

@@ -17,7 +17,7 @@ use Rattle.vm_rule.specs.Brought.{set_if}
 use Rattle.vm_rule.specs.Log.{did_load, did_exchange}
 use Rattle.vm_rule.specs.Looks.{LookTold, IsSince, IsOlder}
 use Rattle.vm_rule.specs.Loads.{TranslationTold}
-use Rattle.vm_rule.specs.Locks.{LockTold, Validates, locked_view}
+use Rattle.vm_rule.specs.Locks.{LockTold, LockValidates, locked_view}
 use Rattle.vm_rule.proofs.WordFacts.{version-within, word-state, word-version}
 use Rattle.vm_step.specs.declared.saw.At.TheVariants as ats
 use Rattle.vm_step.specs.Evidence.{UnlockedExpected}
@@ -124,7 +124,7 @@ module _ {X : Type 0} (tied : Start → ℕ → List ℕ → ℕ → List ℕ �
         draft = draft-then tied p expects v x t expects found m w to load named inside;
         older = older-read expects (seat_of v p).reading t.older;
         validates = λ tells.
-            subst (λ (y : Version). Validates tied p (version_of expects) y.words v) (sym (after.knows p (inl (lock-owns tied p expects v x t))).last) (t.validates tells refl);
+            subst (λ (y : Version). LockValidates tied p (version_of expects) y.words v) (sym (after.knows p (inl (lock-owns tied p expects v x t))).last) (t.validates tells refl);
         wrote = record {
           earlier = [];
           step = first;

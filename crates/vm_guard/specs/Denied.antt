@@ -32,18 +32,21 @@ AgainOrNeed (denies.Need q) = Unit {0}
 AgainOrNeed (denies.Crowded q) = ⊥
 AgainOrNeed (denies.Worn q) = ⊥
 
+-- of a shared guard: Again, Need or Crowded
 abbrev pub NotWorn : Deny → Type 0
 NotWorn (denies.Again saw) = Unit {0}
 NotWorn (denies.Need q) = Unit {0}
 NotWorn (denies.Crowded q) = Unit {0}
 NotWorn (denies.Worn q) = ⊥
 
+-- of an exclusive guard: Again, Need or Worn
 abbrev pub NotCrowded : Deny → Type 0
 NotCrowded (denies.Again saw) = Unit {0}
 NotCrowded (denies.Need q) = Unit {0}
 NotCrowded (denies.Crowded q) = ⊥
 NotCrowded (denies.Worn q) = Unit {0}
 
+-- of an upgrade: Again or Worn
 abbrev pub AgainOrWorn : Deny → Type 0
 AgainOrWorn (denies.Again saw) = Unit {0}
 AgainOrWorn (denies.Need q) = ⊥

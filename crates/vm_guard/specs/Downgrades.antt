@@ -14,6 +14,7 @@ use Rattle.vm_guard.specs.Guards.{IsElsewhere, IsSharing}
 use Rattle.vm_guard.specs.Sure.{KnowsBut}
 
 module _ {X : Type 0} where
+  -- the page was released to one share of the pass, by one step: its draft is the next version, its mapping and fault word are as they were
   pub record IsDowngraded (p frame version : ℕ) (v w : View X) : Type 0 where
     pub done : List Did
     pub elsewhere : IsElsewhere p done (record { page = p; version = version + 1; words = draft_of v p } ∷ []) v w

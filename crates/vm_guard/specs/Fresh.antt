@@ -191,6 +191,7 @@ module _ {X : Type 0} where
     pub at : (saw.at ≡ ats.Next) ⊎ ((p : ℕ) × (saw.at ≡ ats.Page p) × (has p pages ≡ true))
     pub saw_is : IsSaw NoWord UnlockedExpected done saw
 
+  -- a page that was to be given is at the last version
   pub record IsWornOut (pages : List ℕ) (x n p : ℕ) (v w : View X) : Type 0 where
     pub inside : x + n ≤ v.start.pages
     pub among : has p pages ≡ true
@@ -198,6 +199,7 @@ module _ {X : Type 0} where
     pub spared : IsSpared pages x done v w
     pub worn : IsWorn done p
 
+  -- the next page, loaded by the first step, leaves too few pages
   pub record IsFull (n pages next need : ℕ) (v w : View X) : Type 0 where
     pub asked : need ≡ n
     pub there : pages ≡ v.start.pages

@@ -7,7 +7,7 @@ use Rattle.vm_rule.specs.declared.view.Place.{Place}
 use Rattle.vm_rule.specs.declared.view.Place.TheVariants.{State, Translation, Fault, Content, Bundle, Next, Hand}
 use Rattle.vm_rule.specs.declared.view.View.{View}
 use Rattle.vm_rule.specs.Layout.{Within}
-use Rattle.vm_step.specs.Alone.{IsAlone, word_at}
+use Rattle.vm_step.specs.Alone.{IsAlone, known_word_at}
 
 -- A step of a call for these pages is at the state or translation word of one of them, at the next word, or at a word of a frame. So the call
 -- reads no block: a block is moved by steps at a page's fault word.
@@ -33,4 +33,4 @@ IsUntouched pages Hand = Unit {0}
 module _ {X : Type 0} where
   -- a pass that was alone knows the words at these places as they were
   abbrev pub KnowsOthers : List ℕ → View X → View X → Type 0
-  KnowsOthers pages v w = IsAlone v → (at : Place) → Within v.start at → IsUntouched pages at → word_at w at ≡ word_at v at
+  KnowsOthers pages v w = IsAlone v → (at : Place) → Within v.start at → IsUntouched pages at → known_word_at w at ≡ known_word_at v at

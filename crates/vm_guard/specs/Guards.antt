@@ -4,7 +4,7 @@ use Rattle.vm_page.specs.declared.buf.TheConstants.{WORDS}
 use Rattle.vm_core.specs.declared.event.Mapping.{Mapping}
 use Rattle.vm_core.specs.declared.event.Open.{Open}
 use Rattle.vm_core.specs.Words.{state_of, version_of, word_of, UNLOCKED, LOCKED, MARKED, MAX_VERSION}
-use Rattle.vm_core.specs.StateActs.{is_readable, one_more, unshared}
+use Rattle.vm_core.specs.StateActs.{is_readable, one_share_more, unshared}
 use Rattle.vm_core.specs.FrameActs.{frame_of, mapping_of, trans_word}
 use Rattle.vm_owner.specs.Kept.{Start}
 use Rattle.vm_owner.specs.Numbers.{has, without}
@@ -20,7 +20,7 @@ use Rattle.vm_rule.specs.Brought.{entries_of}
 use Rattle.vm_rule.specs.Looks.{ties_below}
 use Rattle.vm_rule.specs.Releases.{next_after}
 use Rattle.vm_rule.specs.Loads.{frame_read_by}
-use Rattle.vm_rule.specs.Locks.{IsUnheld, Validates}
+use Rattle.vm_rule.specs.Locks.{IsUnheld, LockValidates}
 use Rattle.vm_rule.specs.Log.{did_load, did_store, did_exchange}
 use Rattle.vm_rule.specs.Mappings.{dirty_in}
 use Rattle.vm_step.specs.Evidence.{HasWritten}
@@ -71,7 +71,7 @@ module _ {X : Type 0} where
     pub gone : (version_of word < version_of other) ⊎ ((state_of other ≡ LOCKED) × (version_of other ≡ version_of word))
 
   -- a guard began: the page's word was looked at, a mark that it had taken away, the translation word loaded, and the page looked at again
-  pub record Begins (p word frame : ℕ) (v w : View X) : Type 0 where
+  pub record BeginsReading (p word frame : ℕ) (v w : View X) : Type 0 where
     pub done : List Did
     pub quiet : IsQuiet p done v w
     pub reads : IsReading p word frame w
@@ -125,7 +125,7 @@ module _ {X : Type 0} where
     pub version : (last_of w p).version ≡ version_of word
     pub size : length (last_of w p).words ≡ WORDS
     pub ties : w.ties ≡ ties_below v.start.pages v p (last_of w p).words ++ v.ties
-    pub validates : v.start.tells ≡ true → Validates tied p (version_of word) (last_of w p).words v
+    pub validates : v.start.tells ≡ true → LockValidates tied p (version_of word) (last_of w p).words v
     pub table : KnowsSame v w
     pub leaves : LeavesNone done
     pub current : w.current ≡ true
@@ -163,7 +163,7 @@ module _ {X : Type 0} where
     pub seat : seat_of w p ≡ record (seat_of v p) { exclusive = true; reading = None }
     pub holding : IsHolding p frame version dirty w
     pub draft : draft_of w p ≡ (last_of w p).words
-    pub validates : v.start.tells ≡ true → Validates tied p version (last_of w p).words v
+    pub validates : v.start.tells ≡ true → LockValidates tied p version (last_of w p).words v
     pub wrote : HasWritten done (places.State p) (word_of LOCKED version)
     pub table : KnowsBut p (word_of LOCKED version) v w
     pub current : w.current ≡ true
@@ -242,9 +242,9 @@ module _ {X : Type 0} where
     pub knows : IsLocking (seat_of v p) → KnowsAsBefore v w p
     pub sharing : IsSharing p frame w
     pub size : length (last_of w p).words ≡ WORDS
-    pub validates : v.start.tells ≡ true → Validates tied p (last_of w p).version (last_of w p).words v
+    pub validates : v.start.tells ≡ true → LockValidates tied p (last_of w p).version (last_of w p).words v
     -- the page's word has one share more
-    pub table : KnowsBut p (word_of (one_more (state_of (known_word p v))) (version_of (known_word p v))) v w
+    pub table : KnowsBut p (word_of (one_share_more (state_of (known_word p v))) (version_of (known_word p v))) v w
     pub current : w.current ≡ true
 
   -- one share of page p was given up

@@ -6,16 +6,16 @@ use Rattle.vm_rule.specs.declared.view.Place.{Place}
 use Rattle.vm_rule.specs.declared.view.Place.TheVariants as places
 use Rattle.vm_rule.specs.declared.view.View.{View}
 use Rattle.vm_rule.specs.Layout.{index_of}
-use Rattle.vm_step.specs.Alone.{IsAlone, LocksNone, word_at}
+use Rattle.vm_step.specs.Alone.{IsAlone, LocksNone, known_word_at}
 pub use Rattle.vm_step.specs.Tables.{KnowsAt, KnowsSame}
 
 -- the page with this word is resident, and locked by nobody
-abbrev pub IsFree : ℕ → Type 0
-IsFree word = (state_of word ≡ UNLOCKED) ⊎ (state_of word ≡ MARKED)
+abbrev pub IsUnlockedWord : ℕ → Type 0
+IsUnlockedWord word = (state_of word ≡ UNLOCKED) ⊎ (state_of word ≡ MARKED)
 
 -- a page with this word can be locked, resident or not
 abbrev pub MayBeSeized : ℕ → Type 0
-MayBeSeized word = (IsFree word ⊎ (state_of word ≡ EVICTED)) × (version_of word < MAX_VERSION)
+MayBeSeized word = (IsUnlockedWord word ⊎ (state_of word ≡ EVICTED)) × (version_of word < MAX_VERSION)
 
 -- the word without its mark
 abbrev pub unmarked_word : ℕ → ℕ
@@ -29,11 +29,11 @@ words_with start (d ∷ ds) words = words_with start ds (slice_set words (index_
 module _ {X : Type 0} where
   -- the word of page p, as the pass knows the table
   abbrev pub known_word : ℕ → View X → ℕ
-  known_word p v = word_at v (places.State p)
+  known_word p v = known_word_at v (places.State p)
 
   -- the pass knows page p to be resident, and locked by nobody
   abbrev pub IsKnownFree : ℕ → View X → Type 0
-  IsKnownFree p v = IsFree (known_word p v)
+  IsKnownFree p v = IsUnlockedWord (known_word p v)
 
   -- the pass knows page p to be at the version of this word, and not locked exclusively
   abbrev pub IsKnownAt : ℕ → ℕ → View X → Type 0
@@ -41,7 +41,7 @@ module _ {X : Type 0} where
 
   -- the next word, as the pass knows the table
   abbrev pub known_next : View X → ℕ
-  known_next v = word_at v places.Next
+  known_next v = known_word_at v places.Next
 
   -- the pass knows that there are n pages from the next one on, and that each can be locked
   pub record MayBeGiven (n : ℕ) (v : View X) : Type 0 where

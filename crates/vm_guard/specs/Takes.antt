@@ -33,6 +33,6 @@ pub record IsToExpect (word expects : ℕ) : Type 0 where
 
 -- page p may be released alone: nothing is said, its words did not change and it is owed to nobody; or the layer above lets the pass
 module _ {X : Type 0} where
-  abbrev pub MayRelease : (Start → List ℕ → List Change → List (Entry X) → Type 0) → ℕ → Option X → View X → Type 0
-  MayRelease may_release p said v =
+  abbrev pub PassMayRelease : (Start → List ℕ → List Change → List (Entry X) → Type 0) → ℕ → Option X → View X → Type 0
+  PassMayRelease may_release p said v =
       v.start.tells ≡ true → ((said ≡ None) × AreUnchanged v.owed (change_of v p ∷ [])) ⊎ may_release (began_of v.start) v.owed (change_of v p ∷ []) (entries_of v said)

@@ -14,7 +14,7 @@ ghost use Rattle.vm_step.specs.Passes.{IsSamePass, MayStep, view};
 ghost use Rattle.vm_guard.specs.Quiet.{IsQuiet};
 ghost use Rattle.vm_step.specs.Ready.{IsReady};
 ghost use Rattle.vm_guard.specs.Sure.{IsKnownFree, KnowsSame, known_word};
-ghost use Rattle.vm_guard.specs.Takes.{IsToExpect, MayRelease, SaysWhy};
+ghost use Rattle.vm_guard.specs.Takes.{IsToExpect, PassMayRelease, SaysWhy};
 ghost use Rattle.vm_step.specs.Alone.{IsAlone};
 
 use crate::deny::Deny;
@@ -159,7 +159,7 @@ impl ExclusiveGuard {
         requires holds { IsHolding self.pid self.frame self.version self.dirty (view pass.old) }
         requires home { IsNotOut (view pass.old) self.pid }
         requires claimed { (view pass.old).start.tells ≡ true → IsClaimed (view pass.old) self.pid }
-        requires owner { MayRelease U.may_release self.pid (option_map (λ b. b.now) said) (view pass.old) }
+        requires owner { PassMayRelease U.may_release self.pid (option_map (λ b. b.now) said) (view pass.old) }
         ensures pass { IsSamePass pass.old pass.new }
         ensures ready { IsReady words.now.table.shared.key B.tells words.now.table.shared.table_id pass.new }
         ensures released { IsReleased self.pid self.version (option_map (λ b. b.now) said.entry) (view pass.old) (view pass.new) }
@@ -185,7 +185,7 @@ impl ExclusiveGuard {
         requires holds { IsHolding self.pid self.frame self.version self.dirty (view pass.old) }
         requires home { IsNotOut (view pass.old) self.pid }
         requires claimed { (view pass.old).start.tells ≡ true → IsClaimed (view pass.old) self.pid }
-        requires owner { MayRelease U.may_release self.pid None (view pass.old) }
+        requires owner { PassMayRelease U.may_release self.pid None (view pass.old) }
         ensures pass { IsSamePass pass.old pass.new }
         ensures ready { IsReady words.now.table.shared.key B.tells words.now.table.shared.table_id pass.new }
         ensures guard { (result.pid ≡ self.pid) × (result.frame ≡ self.frame) }

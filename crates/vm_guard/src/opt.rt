@@ -3,7 +3,7 @@ ghost use Rattle.std.specs.Prelude.{◌≡◌, ◌<◌, ◌⊎◌, ℕ, IfOk, If
 ghost use Rattle.vm_core.specs.Words.{MAX_VERSION, state_of, version_of};
 ghost use Rattle.vm_core.specs.StateActs.{is_readable};
 ghost use Rattle.vm_guard.specs.Denied.{AgainOrNeed, AgainOrWorn, IsDenied, KeptWord, SameOrUnlocked};
-ghost use Rattle.vm_guard.specs.Guards.{Begins, HasLeft, IsLocked, IsReading, IsUnmarked, IsValid, Loads, placed};
+ghost use Rattle.vm_guard.specs.Guards.{BeginsReading, HasLeft, IsLocked, IsReading, IsUnmarked, IsValid, Loads, placed};
 ghost use Rattle.vm_step.specs.Evidence.{NoWord, NoneExpected, UnlockedExpected};
 ghost use Rattle.vm_step.specs.Ready.{IsReady};
 ghost use Rattle.vm_guard.specs.Sure.{IsKnownAt, IsKnownFree, known_word};
@@ -71,7 +71,7 @@ impl OptGuard {
         requires page { pid < words.now.table.shared.key.pages }
         ensures pass { IsSamePass pass.old pass.new }
         ensures ready { IsReady words.now.table.shared.key B.tells words.now.table.shared.table_id pass.new }
-        ensures ok { IfOk result (λ guard. (guard.pid ≡ pid) × Begins pid guard.word guard.frame (view pass.old) (view pass.new)) }
+        ensures ok { IfOk result (λ guard. (guard.pid ≡ pid) × BeginsReading pid guard.word guard.frame (view pass.old) (view pass.new)) }
         ensures err { IfErr result (λ deny. IsDenied AgainOrNeed NoWord NoneExpected pid deny (view pass.old) (view pass.new)) }
         ensures sure { IsAlone (view pass.old) → is_readable (state_of (known_word pid (view pass.old))) ≡ true → IsOk result }
         ensures kept { B.tells ≡ true → IsKeptNow U.keeps pid (IsOk result) (view pass.new) }

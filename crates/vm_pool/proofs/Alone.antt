@@ -1,6 +1,6 @@
 -- A pass that is alone: it is so after a page was brought, locked, set and released; and a word that was set is the page's over calls that
 -- leave its last words.
-use Rattle.std.proofs.Common.{ℕ, ◌≡◌, ◌<◌, Bool, true, Option, List, [], length, sym, ap, ◌∙◌, slice_index, slice_set}
+use Rattle.std.proofs.Common.{ℕ, ◌≡◌, ◌<◌, Bool, Option, List, [], length, sym, ap, ◌∙◌, slice_index, slice_set}
 use Rattle.std.proofs.lemmas.List.{get_or-set_same}
 use Rattle.vm_core.specs.History.{Version}
 use Rattle.vm_rule.specs.declared.view.Did.{Did}

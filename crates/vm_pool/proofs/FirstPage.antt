@@ -14,7 +14,7 @@ use Rattle.vm_rule.specs.Started.{IsStarted, bounds_of, counts_of, started_origi
 use Rattle.vm_rule.proofs.Found.{part-found}
 use Rattle.vm_rule.proofs.StartedWords.{started-bundle, started-state}
 use Rattle.vm_rule.proofs.WordFacts.{word-state, word-version}
-use Rattle.vm_step.specs.Alone.{IsAlone, word_at}
+use Rattle.vm_step.specs.Alone.{IsAlone, known_word_at}
 use Rattle.vm_exmap.specs.Frames.{HasFree}
 use Rattle.vm_fault.specs.Fetches.{IsKnownOut}
 use Rattle.vm_pool.specs.Brings.{IsBroughtOrFailed, IsSure}
@@ -43,7 +43,7 @@ module _ {X : Type 0} (tells : Bool) (version next frames : ℕ) (blocks : List 
   first-alone = (first-has-all _ _ v is, ap (λ (x : View X). x.current) is)
 
   module _ (fits : IsStarted version next frames (length blocks)) where
-    state-there : (p : ℕ) → p < length blocks → word_at v (places.State p) ≡ word_of EVICTED version
+    state-there : (p : ℕ) → p < length blocks → known_word_at v (places.State p) ≡ word_of EVICTED version
     state-there p l = ap (λ (t : List ℕ). slice_index t p) words-are ∙ sym (part-found 0 (length blocks) words p p l (omega arith)) ∙ started-state tells version next frames blocks p l
 
     pub first-out : (p : ℕ) → p < length blocks → version < MAX_VERSION → IsKnownOut p v
@@ -53,7 +53,11 @@ module _ {X : Type 0} (tells : Bool) (version next frames : ℕ) (blocks : List 
           subst (λ (n : ℕ). n < MAX_VERSION) (sym (ap version_of (state-there p l) ∙ word-version EVICTED version within)) below,
         )
 
-    pub bundle-there : word_at v (places.Bundle 0) ≡ full_bundle frames 0
+    -- each page is at the first version
+    pub first-version : (p : ℕ) → p < length blocks → version_of (known_word_at v (places.State p)) ≡ version
+    first-version p l = let within : version ≤ MAX_VERSION = fits.in_range in ap version_of (state-there p l) ∙ word-version EVICTED version within
+
+    pub bundle-there : known_word_at v (places.Bundle 0) ≡ full_bundle frames 0
     bundle-there =
         let some : 1 ≤ frames = fits.some_frames in
         let inside : 0 < bundles_of frames = omega (arith, some) in

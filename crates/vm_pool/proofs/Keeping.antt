@@ -1,12 +1,13 @@
 -- What a sweep and bringing a page leave of the pass, by what they answer.
-use Rattle.std.proofs.Common.{ℕ, List, [], ◌∷◌, ◌++◌, ◌≡◌, ◌⊎◌, Result, Ok, Err, refl, sym, ap, subst, ◌∙◌, inl, inr}
+use Rattle.std.proofs.Common.{ℕ, List, [], ◌∷◌, ◌≡◌, Result, Ok, Err, refl, sym, ap, subst, ◌∙◌, inl, inr}
 use Rattle.vm_core.specs.declared.event.Seat.{Seat}
 use Rattle.vm_rule.specs.declared.view.Did.{Did}
 use Rattle.vm_rule.specs.declared.view.View.{View}
-use Rattle.vm_rule.specs.Views.{StartsWith, seat_of}
+use Rattle.vm_rule.specs.Views.{StartsWith, draft_of, seat_of}
+use Rattle.vm_rule.specs.Mappings.{held_at}
 use Rattle.vm_rule.proofs.Entries.{append-none}
 use Rattle.vm_step.specs.Asides.{IsAsideOf}
-use Rattle.vm_step.proofs.Asides.{starts-then, alone-self, alone-then, holds-then}
+use Rattle.vm_step.proofs.Asides.{starts-then, alone-self, alone-then, holds-then, knows-then, still-locking}
 use Rattle.vm_evict.specs.declared.report.Report.{Report}
 use Rattle.vm_exmap.specs.declared.interface.Alloc.{Alloc}
 use Rattle.vm_exmap.specs.declared.interface.Alloc.TheVariants as allocs
@@ -24,6 +25,7 @@ module _ {X : Type 0} where
   pub keeps-self : (v : View X) → KeepsLocks v v
   keeps-self v = record {
     holds = λ q. record { shares = refl; exclusive = refl; writing = refl };
+    knows = λ q l. record { held = refl; draft = refl; last = refl };
     mine = refl;
     out = refl;
     start = refl;
@@ -38,6 +40,7 @@ module _ {X : Type 0} where
   pub keeps-then : (u v w : View X) → KeepsLocks u v → KeepsLocks v w → KeepsLocks u w
   keeps-then u v w f g = record {
     holds = λ q. holds-then u v w q (f.holds q) (g.holds q);
+    knows = λ q l. knows-then u v w q (f.knows q l) (g.knows q (still-locking u v q (f.holds q) l));
     mine = g.mine ∙ f.mine;
     out = g.out ∙ f.out;
     start = g.start ∙ f.start;
@@ -52,6 +55,7 @@ module _ {X : Type 0} where
   aside-keeps : (touched : ℕ → Type 0) (done : List Did) (v w : View X) → IsAsideOf touched done v w → StartsWith w.notes v.notes → KeepsLocks v w
   aside-keeps touched done v w a noted = record {
     holds = a.holds;
+    knows = a.knows;
     mine = a.mine;
     out = a.out;
     start = a.start;
@@ -68,6 +72,7 @@ module _ {X : Type 0} where
     holds = λ q.
         let same : seat_of w q ≡ seat_of v q = ap (λ l. seat_of (record v { seats = l }) q) m.pages.0 in
         record { shares = ap (λ (s : Seat). s.shares) same; exclusive = ap (λ (s : Seat). s.exclusive) same; writing = ap (λ (s : Seat). s.writing) same };
+    knows = λ q l. record { held = ap (λ h. held_at (record v { held = h }) q) m.pages.2; draft = ap (λ d. draft_of (record v { drafts = d }) q) m.pages.3; last = m.last q l };
     mine = m.mine;
     out = m.out;
     start = m.start;

@@ -3,26 +3,28 @@
 use Rattle.std.proofs.Common.{ℕ, true, ◌≡◌, ◌≢◌, ◌<◌, ◌≤◌, ◌⊎◌, ◌+◌, ◌-◌, ◌++◌, ◌∷◌, [], List, length, length-append, min, max, sym, ap, subst, ◌∙◌, refl, inl, inr, ⊎_elim, arith}
 use Rattle.std.proofs.Math.Nat.{mod-lt}
 use Rattle.vm_core.specs.Words.{EVICTED, MAX_VERSION, UNLOCKED, version_of, word_of}
+use Rattle.vm_core.specs.History.{Version}
 use Rattle.vm_rule.specs.declared.view.Origin.{Origin}
 use Rattle.vm_rule.specs.declared.view.Place.{Place}
 use Rattle.vm_rule.specs.declared.view.Place.TheVariants as places
 use Rattle.vm_rule.specs.declared.view.View.{View}
 use Rattle.vm_rule.specs.Bundles.{frames_in}
 use Rattle.vm_rule.specs.Layout.{bundles_of}
+use Rattle.vm_rule.specs.Reading.{last_of}
 use Rattle.vm_rule.proofs.WordFacts.{word-version}
-use Rattle.vm_step.specs.Alone.{IsAlone, word_at}
+use Rattle.vm_step.specs.Alone.{IsAlone, known_word_at}
+use Rattle.vm_step.specs.DeviceCalls.{IsOfPage}
 use Rattle.vm_step.specs.Tables.{KnowsElse, KnowsSame}
 use Rattle.vm_step.proofs.Alone.{still-alone}
 use Rattle.vm_step.proofs.Tables.{else-same, else-self, else-then, else-within}
-use Rattle.vm_exmap.specs.Frames.{HasFree, IsBundleOf}
+use Rattle.vm_exmap.specs.Frames.{IsBundleOf}
 use Rattle.vm_exmap.specs.Returns.{IsFreed}
 use Rattle.vm_exmap.specs.Walks.{IsAlloc, TakesBits}
 use Rattle.vm_exmap.specs.declared.interface.Alloc.TheVariants as allocs
-use Rattle.vm_fault.specs.Fetches.{IsBrought, IsFailed, IsOfBoth, IsOfPage, KnowsReleased}
-use Rattle.vm_pool.specs.Brings.{Fetches, Fetches as fetches, Gets as gets, GetsNone as none, IsBring, IsBring as is_bring}
+use Rattle.vm_fault.specs.Fetches.{IsBrought, IsFailed, IsOfBoth, KnowsReleased}
+use Rattle.vm_pool.specs.Brings.{Fetches, Fetches as fetches}
 use Rattle.vm_pool.specs.Known.{KnowsBring, KnowsBrought, KnowsBrought as brought, KnowsFailed, known_version}
 use Rattle.vm_pool.specs.declared.bring.Bring.{Bring}
-use Rattle.vm_pool.proofs.Sure.{got-none, not-dry}
 
 -- an interface that gets a frame back keeps it where it has no other
 kept-one : (cap : ℕ) (old kept given new : List ℕ) (f : ℕ) → 1 ≤ cap → f ∷ [] ≡ kept ++ given → new ≡ old ++ kept → length kept ≡ min (cap - length old) 1 → new ≢ []
@@ -63,10 +65,10 @@ module _ {X : Type 0} (v : View X) (alone : IsAlone v) where
 
   module _ (p : ℕ) (page : p < v.start.pages) where
     -- the page's word was not touched by the frame's coming
-    page-same : (x : View X) → IsHad v x → word_at x (places.State p) ≡ word_at v (places.State p)
+    page-same : (x : View X) → IsHad v x → known_word_at x (places.State p) ≡ known_word_at v (places.State p)
     page-same x h = h.others.words (places.State p) page (λ e. e)
 
-    version-is : (x : View X) (version : ℕ) → IsHad v x → version < MAX_VERSION → word_at x (places.State p) ≡ word_of EVICTED version → version ≡ known_version v p
+    version-is : (x : View X) (version : ℕ) → IsHad v x → version < MAX_VERSION → known_word_at x (places.State p) ≡ word_of EVICTED version → version ≡ known_version v p
     version-is x version h below is = sym (word-version EVICTED version (omega (arith, below))) ∙ ap version_of (sym is ∙ page-same x h)
 
     -- the page was released at the next version, behind the frame's coming
@@ -74,6 +76,12 @@ module _ {X : Type 0} (v : View X) (alone : IsAlone v) where
     released touched more state version x w h below wider before k =
         subst (λ n. KnowsReleased more state p n v w) (version-is x version h below k.before)
         (record { before = sym (page-same x h) ∙ k.before; now = k.now; others = else-then more v x w h.start before (else-within touched more x w wider k.others) })
+
+    -- the page's last version is the next one
+    pub brought-at : (home cap f : ℕ) (old kept : List ℕ) (x w : View X) → IsAlloc home cap 1 old kept v x (allocs.Batch (f ∷ [])) → IsBrought p f x w → (last_of w p).version ≡ known_version v p + 1
+    brought-at home cap f old kept x w a b =
+        let h : IsHad v x = (had home cap f old kept x a).0 in
+        ap (λ (l : Version). l.version) b.released.last ∙ ap (λ (n : ℕ). n + 1) (version-is x b.version h b.released.below (b.table h.now).before)
 
     -- a bundle is no place of the page or of the frame
     not-of-both : (g f : ℕ) → g < bundles_of v.start.frames → IsOfBoth p f (places.Bundle g) → ⊥
@@ -125,9 +133,8 @@ module _ {X : Type 0} (v : View X) (alone : IsAlone v) where
       fetched f old kept new x w answer h got (fetches.device count y t r is) =
           subst (KnowsBring cap p old new v w) (sym is) (has-one cap kept new f y w some r, has-failed cap f count kept new x y w h t.2 r)
 
-      pub knows-bring : (home before after : ℕ) (old new : List ℕ) (w : View X) (answer : Bring) → HasFree old v → IsBring home cap p old new before after v w answer → KnowsBring cap p old new v w answer
-      knows-bring home before after old new w answer free (is_bring.framed f kept x (gets.once a same) t) =
+      -- a frame was had at once
+      pub knows-once : (home : ℕ) (f : ℕ) (old kept new : List ℕ) (x w : View X) (answer : Bring) → IsAlloc home cap 1 old kept v x (allocs.Batch (f ∷ [])) → Fetches cap p f kept new x w answer → KnowsBring cap p old new v w answer
+      knows-once home f old kept new x w answer a t =
           let got = had home cap f old kept x a in
           fetched f old kept new x w answer got.0 got.1 t
-      knows-bring home before after old new w answer free (is_bring.framed f kept x (gets.swept dry clean emptied filled report a s b n) t) = absurd (not-dry v alone home old emptied dry free a)
-      knows-bring home before after old new w answer free (is_bring.frameless g) = absurd (got-none v alone home cap old free before after new w answer g)

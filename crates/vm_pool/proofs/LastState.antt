@@ -19,7 +19,7 @@ use Rattle.vm_rule.specs.declared.view.Shape.{Shape}
 use Rattle.vm_rule.specs.declared.view.Snapshot.{Snapshot}
 use Rattle.vm_rule.specs.declared.view.View.{View}
 use Rattle.vm_rule.specs.Puts.{listed}
-use Rattle.vm_rule.specs.Layout.{bundles_of, index_of, words_of}
+use Rattle.vm_rule.specs.Layout.{bundles_of, index_of, table_words}
 use Rattle.vm_rule.specs.Views.{seat_of, IsWhole}
 use Rattle.vm_rule.specs.Reading.{no_block, at_home, out_of, out_or, known, block_of, last_of, world_of}
 use Rattle.vm_rule.specs.Rule.{began_of, snapshot_of, Ruled}
@@ -137,14 +137,14 @@ module _ {X B : Type 0} (stored : B → Stored) (keeps : Start → Kept X → Ty
   next-place : (pages frames : ℕ) → pages ≡ shape.pages → frames ≡ shape.frames → 3 * pages + 64 * frames + bundles_of frames ≡ index_of start places.Next
   next-place pages frames p f = (λ i. 3 * (p ∙ sym is-ruled.0.pages) i + 64 * (f ∙ sym is-ruled.0.frames) i + bundles_of ((f ∙ sym is-ruled.0.frames) i))
 
-  next-there : (pages frames : ℕ) → pages ≡ shape.pages → frames ≡ shape.frames → at 0 ws (3 * pages + 64 * frames + bundles_of frames) ≡ (words_of start s.words).next
+  next-there : (pages frames : ℕ) → pages ≡ shape.pages → frames ≡ shape.frames → at 0 ws (3 * pages + 64 * frames + bundles_of frames) ≡ (table_words start s.words).next
   next-there pages frames p f = ap (at 0 ws) (next-place pages frames p f) ∙ sym (ap (λ l. at 0 l (index_of start places.Next)) last.2)
 
   -- it is at most the number of pages
   pub next-small : (pages frames : ℕ) → pages ≡ shape.pages → frames ≡ shape.frames → pages ≤ 65536 → at 0 ws (3 * pages + 64 * frames + bundles_of frames) ≤ 65536
   next-small pages frames p f few =
-      let here : at 0 ws (3 * pages + 64 * frames + bundles_of frames) ≡ (words_of start s.words).next = next-there pages frames p f in
-      let low : (words_of start s.words).next ≤ start.pages = rule.inv.next in
+      let here : at 0 ws (3 * pages + 64 * frames + bundles_of frames) ≡ (table_words start s.words).next = next-there pages frames p f in
+      let low : (table_words start s.words).next ≤ start.pages = rule.inv.next in
       let same : start.pages ≡ shape.pages = is-ruled.0.pages in
       omega arith
 
@@ -211,17 +211,17 @@ module _ {X B : Type 0} (stored : B → Stored) (keeps : Start → Kept X → Ty
           noted = λ q count some. subst (λ (k : List Stored). (1 ≤ count) × (count ≤ (at no_block k q).count)) (sym all-shown) (notes.noted q count some);
           once = notes.once;
           words = λ t q l is. ap (λ k. (at no_block k q).words) all-shown ∙ words-stored (telling t) q l is;
-          next_is = n ∙ next-there pages frames p f ∙ (λ i. (words_of (sym same-start i) (sym (ap (λ (y : Snapshot). y.words) same-snapshot) i)).next);
+          next_is = n ∙ next-there pages frames p f ∙ (λ i. (table_words (sym same-start i) (sym (ap (λ (y : Snapshot). y.words) same-snapshot) i)).next);
           released = none-left.0;
           paid = none-left.1;
           kept = λ t. subst (λ (o : Origin). keeps (began_of o) (kept_by v)) (sym same-start) (what-is-kept stored keeps tied start tells s rule id v stepped none-left.0 (rule.telling ∙ t));
           own = (let h = all-seen stored keeps tied start tells s rule id v stepped.pass in h.1 ∙ sym h.0);
-          found = λ x h. let most : x ≤ (words_of start s.words).next = found-below (world_of stored start rule.releases rule.drafts s) v.log x (rule.known id v last.1.1 live).words h in subst (λ k. x ≤ k) (sym (n ∙ next-there pages frames p f)) most;
+          found = λ x h. let most : x ≤ (table_words start s.words).next = found-below (world_of stored start rule.releases rule.drafts s) v.log x (rule.known id v last.1.1 live).words h in subst (λ k. x ≤ k) (sym (n ∙ next-there pages frames p f)) most;
           versions = λ q word l h.
               let inside : q < start.pages = subst (λ (o : Origin). q < o.pages) same-start l in
               let most : version_of word ≤ ((world_of stored start rule.releases rule.drafts s).core.pages q).version = version-below (world_of stored start rule.releases rule.drafts s) v.log q word (rule.known id v last.1.1 live).words h in
-              let there : ((world_of stored start rule.releases rule.drafts s).core.pages q).version ≡ version_of ((words_of start s.words).states q) = version-there stored start s q inside in
-              let stands : version_of ((words_of start s.words).states q) ≡ version_in v.start v.snapshot q = (λ i. version_of ((words_of (sym same-start i) (sym (ap (λ (y : Snapshot). y.words) same-snapshot) i)).states q)) in
+              let there : ((world_of stored start rule.releases rule.drafts s).core.pages q).version ≡ version_of ((table_words start s.words).states q) = version-there stored start s q inside in
+              let stands : version_of ((table_words start s.words).states q) ≡ version_in v.start v.snapshot q = (λ i. version_of ((table_words (sym same-start i) (sym (ap (λ (y : Snapshot). y.words) same-snapshot) i)).states q)) in
               let is : version_in v.start v.snapshot q ≡ (last_of v q).version = (page-stands q l).version in
               omega arith;
         }

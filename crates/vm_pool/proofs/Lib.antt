@@ -4,6 +4,7 @@ pub mod Traces
 pub mod Parting
 pub mod LastState
 pub mod AtOnce
+pub mod Swept
 pub mod Sweeping
 pub mod Bringing
 pub mod Alone
@@ -11,4 +12,7 @@ pub mod Sure
 pub mod FirstPage
 pub mod Keeping
 pub mod Knowing
+pub mod Asking
 pub mod TwoPages
+pub mod OnePage
+pub mod RoundTrip

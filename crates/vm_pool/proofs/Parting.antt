@@ -1,5 +1,5 @@
 -- A pass that was split off, and one that was taken in, as callers see them.
-use Rattle.std.proofs.Common.{ℕ, Bool, true, false, true≢false, ◌≡◌, ◌≢◌, ◌+◌, ◌<◌, ◌≤◌, ◌==◌, ◌||◌, if◌then◌else◌, List, [], ◌∷◌, ◌++◌, length, refl, sym, ap, subst, ◌∙◌, arith, slice_index, ⊎_elim, append_assoc, length-append}
+use Rattle.std.proofs.Common.{ℕ, Bool, true, false, true≢false, ◌≡◌, ◌≢◌, ◌+◌, ◌<◌, ◌≤◌, List, [], ◌∷◌, ◌++◌, length, refl, sym, ap, subst, ◌∙◌, arith, slice_index, ⊎_elim, append_assoc, length-append}
 use Rattle.std.proofs.lemmas.Bool.{cases_Bool, cases_eq, eq-eqb, ne_eqb}
 use Rattle.std.proofs.lemmas.List.{nil_from_length}
 use Rattle.vm_owner.specs.declared.Entry.{Entry}
@@ -10,7 +10,7 @@ use Rattle.vm_rule.specs.declared.view.Place.TheVariants as places
 use Rattle.vm_rule.specs.declared.view.View.{View}
 use Rattle.vm_rule.specs.Joins.{CaughtUp, first_part, other_parts, giver, newcomer}
 use Rattle.vm_rule.specs.Log.{did_load}
-use Rattle.vm_rule.specs.Views.{StartsWith, IsWhole, entries_by, owns, seat_of, times, view_from}
+use Rattle.vm_rule.specs.Views.{IsWhole, entries_by, owns, seat_of, times, view_from}
 use Rattle.vm_rule.proofs.Entries.{append-none}
 use Rattle.vm_rule.proofs.Joining.{times-joined, has-right}
 use Rattle.vm_step.specs.Together.{TakesIn}

@@ -7,12 +7,12 @@ use Rattle.vm_rule.specs.declared.view.Origin.{Origin}
 use Rattle.vm_rule.specs.declared.view.Place.TheVariants as places
 use Rattle.vm_rule.specs.declared.view.View.{View}
 use Rattle.vm_rule.proofs.WordFacts.{word-version}
-use Rattle.vm_step.specs.Alone.{IsAlone, word_at}
+use Rattle.vm_step.specs.Alone.{IsAlone, known_word_at}
 use Rattle.vm_step.proofs.Alone.{still-alone}
 use Rattle.vm_exmap.specs.Frames.{HasFree}
 use Rattle.vm_exmap.specs.Walks.{IsAlloc, IsDry}
 use Rattle.vm_exmap.specs.declared.interface.Alloc.TheVariants as allocs
-use Rattle.vm_fault.specs.Fetches.{IsKnownOut, IsToTry, IsWornOut}
+use Rattle.vm_fault.specs.Fetches.{IsKnownOut, IsFetchToTry, IsFetchWorn}
 use Rattle.vm_pool.specs.Brings.{Fetches, Fetches as fetches, Gets, Gets as gets, GetsNone, GetsNone as none, IsBring, IsBring as is_bring, IsSure}
 use Rattle.vm_pool.specs.declared.bring.Bring.{Bring}
 
@@ -32,7 +32,7 @@ module _ {X : Type 0} (v : View X) (alone : IsAlone v) where
     pub record IsReadyFor (x : View X) : Type 0 where
       pub now : IsAlone x
       pub start : x.start ≡ v.start
-      pub same : word_at x (places.State p) ≡ word_at v (places.State p)
+      pub same : known_word_at x (places.State p) ≡ known_word_at v (places.State p)
       pub notes : x.notes ≡ v.notes
 
     had : (home cap n : ℕ) (old batch new : List ℕ) (x : View X) → IsAlloc home cap n old new v x (allocs.Batch batch) → IsReadyFor x
@@ -43,13 +43,13 @@ module _ {X : Type 0} (v : View X) (alone : IsAlone v) where
         a
 
     module _ (x w : View X) (r : IsReadyFor x) where
-      not-again : (saw : _) → IsToTry p saw x w → ⊥
+      not-again : (saw : _) → IsFetchToTry p saw x w → ⊥
       not-again saw t = let k = t.known r.now in k.1 (ap state_of (k.0 ∙ r.same) ∙ known.0)
 
-      not-worn : IsWornOut p x w → ⊥
+      not-worn : IsFetchWorn p x w → ⊥
       not-worn t =
-          let last : version_of (word_at v (places.State p)) ≡ MAX_VERSION = ap version_of (sym r.same ∙ t.known r.now) ∙ word-version EVICTED MAX_VERSION (omega arith) in
-          let low : version_of (word_at v (places.State p)) < MAX_VERSION = known.1 in
+          let last : version_of (known_word_at v (places.State p)) ≡ MAX_VERSION = ap version_of (sym r.same ∙ t.known r.now) ∙ word-version EVICTED MAX_VERSION (omega arith) in
+          let low : version_of (known_word_at v (places.State p)) < MAX_VERSION = known.1 in
           omega (arith, last, low)
 
     fetched : (cap f : ℕ) (old new : List ℕ) (x w : View X) (answer : Bring) → IsReadyFor x → Fetches cap p f old new x w answer → IsSure p v w answer
@@ -57,6 +57,10 @@ module _ {X : Type 0} (v : View X) (alone : IsAlone v) where
     fetched cap f old new x w answer r (fetches.again saw y t back is) = absurd (not-again x y r saw t.1)
     fetched cap f old new x w answer r (fetches.worn y t back is) = absurd (not-worn x y r t.2)
     fetched cap f old new x w answer r (fetches.device count y t back is) = inr (count, is, back.back.moves.notes ∙ t.2.noted ∙ ap (λ (l : List Note). l ++ record { page = p; count = count } ∷ []) r.notes, t.2.within.0, subst (λ (s : Origin). count ≤ at 0 s.bounds p) r.start t.2.within.1)
+
+    -- a frame was had at once
+    pub sure-once : (home cap f : ℕ) (old kept new : List ℕ) (x w : View X) (answer : Bring) → IsAlloc home cap 1 old kept v x (allocs.Batch (f ∷ [])) → Fetches cap p f kept new x w answer → IsSure p v w answer
+    sure-once home cap f old kept new x w answer a t = fetched cap f kept new x w answer (had home cap 1 old (f ∷ []) kept x a) t
 
     module _ (home cap : ℕ) (old : List ℕ) (free : HasFree old v) where
       got : (f before after : ℕ) (kept : List ℕ) (x : View X) → Gets home cap f old kept before after v x → IsReadyFor x

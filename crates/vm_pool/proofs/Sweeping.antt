@@ -1,6 +1,6 @@
 -- What a sweep knows of an eviction: its report has the looks that found the candidates, and the frames that came stand beside those that the
 -- pass holds.
-use Rattle.std.proofs.Common.{ℕ, ◌≡◌, ◌<◌, ◌++◌, true, false, List, sym, ap, subst, ◌∙◌, ⊎_elim}
+use Rattle.std.proofs.Common.{ℕ, ◌≡◌, ◌<◌, ◌++◌, true, false, List, sym, subst, ◌∙◌, ⊎_elim}
 use Rattle.std.proofs.lemmas.Bool.{cases_Bool, or_left, or_right, true≢false}
 use Rattle.vm_owner.specs.Numbers.{has}
 use Rattle.vm_rule.specs.declared.view.Origin.{Origin}
@@ -9,11 +9,14 @@ use Rattle.vm_rule.specs.Views.{Each}
 use Rattle.vm_exmap.specs.Frames.{AreHeld}
 use Rattle.vm_exmap.proofs.Handing.{apart-join, each-has, each-join, each-of}
 use Rattle.vm_clock.specs.Clock.{IsChosen}
+use Rattle.vm_step.specs.Choices.{AreCandidates, IsCandidate}
 use Rattle.vm_step.specs.declared.choice.Looks.{Looks}
 use Rattle.vm_evict.specs.Evictions.{FramesCome, IsBatch}
 use Rattle.vm_pool.specs.Sweeps.{IsSwept}
 use Rattle.vm_evict.specs.declared.report.Report.{Report}
 use Rattle.vm_exmap.specs.Returns.{IsFreed}
+use Rattle.vm_evict.proofs.Gathering.{each-at}
+use Rattle.vm_pool.proofs.Swept.{knows-swept}
 
 module _ {X : Type 0} where
   -- ---- the frames
@@ -34,15 +37,18 @@ module _ {X : Type 0} where
 
   -- ---- the sweep
 
-  pub swept : (want cap : ℕ) (old new batch : List ℕ) (list : List (ℕ × ℕ)) (looks : Looks) (report : Report) (v x y w : View X) → IsChosen want looks list v x → IsBatch list looks x y report batch → IsFreed cap old batch new y w → IsSwept want cap old new report v w
-  swept want cap old new batch list looks report v x y w chosen evicted freed =
+  pub swept : (want cap : ℕ) (old new batch : List ℕ) (list : List (ℕ × ℕ)) (looks : Looks) (report : Report) (v x y w : View X) → AreCandidates v.start.pages list → IsChosen want looks list v x → IsBatch list looks x y report batch → IsFreed cap old batch new y w → IsSwept want cap old new report v w
+  swept want cap old new batch list looks report v x y w candidates chosen evicted freed =
       let same : report.looks ≡ looks = evicted.counts.looks_are in
+      let chosen-so : IsChosen want report.looks list v x = subst (λ (l : Looks). IsChosen want l list v x) (sym same) chosen in
+      let evicted-so : IsBatch list report.looks x y report batch = subst (λ (l : Looks). IsBatch list l x y report batch) (sym same) evicted in
       record {
         list = list;
         chosen_view = x;
-        chosen = subst (λ (l : Looks). IsChosen want l list v x) (sym same) chosen;
+        chosen = chosen-so;
         batch = batch;
         evicted_view = y;
-        evicted = subst (λ (l : Looks). IsBatch list l x y report batch) (sym same) evicted;
+        evicted = evicted-so;
         freed = freed;
+        table = knows-swept want cap old new batch list report.looks report v x y w chosen-so evicted-so freed (λ n l. (each-at (IsCandidate v.start.pages) list n l candidates.each).page);
       }

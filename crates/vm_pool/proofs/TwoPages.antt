@@ -17,10 +17,11 @@ use Rattle.vm_rule.specs.Begun.{begun, unborn}
 use Rattle.vm_rule.specs.Layout.{bundles_of, index_of}
 use Rattle.vm_rule.specs.Started.{IsStarted, started_shape}
 use Rattle.vm_rule.proofs.WordFacts.{word-state}
-use Rattle.vm_step.specs.Alone.{IsAlone, word_at}
+use Rattle.vm_step.specs.Alone.{IsAlone, known_word_at}
 use Rattle.vm_step.proofs.Alone.{still-alone}
 use Rattle.vm_exmap.specs.Frames.{HasFree, IsBundleOf}
-use Rattle.vm_fault.specs.Fetches.{IsKnownOut, IsOfBoth, IsOfPage}
+use Rattle.vm_step.specs.DeviceCalls.{IsOfPage}
+use Rattle.vm_fault.specs.Fetches.{IsKnownOut, IsOfBoth}
 use Rattle.vm_pool.specs.Brings.{KeepsLocks}
 use Rattle.vm_pool.specs.Known.{KnowsBring, KnowsBrought, KnowsBrought as brought, known_version}
 use Rattle.vm_pool.specs.declared.bring.Bring.{Bring}
@@ -72,7 +73,7 @@ module _ {X : Type 0} where
   -- ---- after a page was asked for
 
   -- another page has its word
-  pub other-page : (most p q : ℕ) (old new : List ℕ) (v w : View X) (answer : Bring) → q ≢ p → q < v.start.pages → KnowsBring most p old new v w answer → word_at w (places.State q) ≡ word_at v (places.State q)
+  pub other-page : (most p q : ℕ) (old new : List ℕ) (v w : View X) (answer : Bring) → q ≢ p → q < v.start.pages → KnowsBring most p old new v w answer → known_word_at w (places.State q) ≡ known_word_at v (places.State q)
   other-page most p q old new v w brings.Brought ne l (brought.own f is k) = k.others.words (places.State q) l (not-of-other p q f ne)
   other-page most p q old new v w brings.Brought ne l (brought.taken f g mask none are inside low left k) = k.others.words (places.State q) l (λ t. ⊎_elim (not-of-other p q f ne) (λ (e : places.State q ≡ places.Bundle g). subst (IsOfPage q) e refl) t)
   other-page most p q old new v w (brings.Device r count) ne l k = k.1.others.words (places.State q) l (λ t. ⊎_elim ne (λ (b : IsBundleOf v.start (places.State q)). b) t)
@@ -82,22 +83,22 @@ module _ {X : Type 0} where
 
   pub still-out : (cap p q : ℕ) (old new : List ℕ) (v w : View X) (answer : Bring) → q ≢ p → q < v.start.pages → IsKnownOut q v → KnowsBring cap p old new v w answer → IsKnownOut q w
   still-out cap p q old new v w answer ne l out k =
-      let same : word_at w (places.State q) ≡ word_at v (places.State q) = other-page cap p q old new v w answer ne l k in
+      let same : known_word_at w (places.State q) ≡ known_word_at v (places.State q) = other-page cap p q old new v w answer ne l k in
       (ap state_of same ∙ out.0, subst (λ n. version_of n < MAX_VERSION) (sym same) out.1)
 
   -- a page that was brought can be read
-  pub can-be-read : (cap p : ℕ) (old new : List ℕ) (v w : View X) → IsKnownOut p v → KnowsBrought cap p old new v w → is_readable (state_of (word_at w (places.State p))) ≡ true
+  pub can-be-read : (cap p : ℕ) (old new : List ℕ) (v w : View X) → IsKnownOut p v → KnowsBrought cap p old new v w → is_readable (state_of (known_word_at w (places.State p))) ≡ true
   can-be-read cap p old new v w out k =
       let below : known_version v p < MAX_VERSION = out.1 in
       ap is_readable (ap state_of (now k) ∙ word-state UNLOCKED (known_version v p + 1) (omega (arith, below)))
     where
-      now : KnowsBrought cap p old new v w → word_at w (places.State p) ≡ word_of UNLOCKED (known_version v p + 1)
+      now : KnowsBrought cap p old new v w → known_word_at w (places.State p) ≡ word_of UNLOCKED (known_version v p + 1)
       now (brought.own f is r) = r.now
       now (brought.taken f g mask none are inside low left r) = r.now
 
   -- with an interface that had no frame, and two in the first bundle, a frame is free still
-  module _ (p : ℕ) (new : List ℕ) (v w : View X) (start : w.start ≡ v.start) (some : 0 < bundles_of v.start.frames) (two : 2 ≤ bit_count (word_at v (places.Bundle 0))) (any : word_at v (places.Bundle 0) ≢ 0) where
-    in-first : word_at w (places.Bundle 0) ≢ 0 → HasFree new w
+  module _ (p : ℕ) (new : List ℕ) (v w : View X) (start : w.start ≡ v.start) (some : 0 < bundles_of v.start.frames) (two : 2 ≤ bit_count (known_word_at v (places.Bundle 0))) (any : known_word_at v (places.Bundle 0) ≢ 0) where
+    in-first : known_word_at w (places.Bundle 0) ≢ 0 → HasFree new w
     in-first ne = inr (0, subst (λ (o : Origin). 0 < bundles_of o.frames) (sym start) some, ne)
 
     -- the first bundle is no other one
@@ -114,11 +115,11 @@ module _ {X : Type 0} where
     one-is-left (brought.taken f g mask none are inside low left r) =
         ⊎_elim
         (λ (e : g ≡ 0).
-        let lowest : AreLowest (word_at v (places.Bundle 0)) 1 mask = subst (λ n. AreLowest (word_at v (places.Bundle n)) 1 mask) e low in
-        let now : word_at w (places.Bundle 0) ≡ bit_xor (word_at v (places.Bundle 0)) mask = subst (λ n. word_at w (places.Bundle n) ≡ bit_xor (word_at v (places.Bundle n)) mask) e left in
-        in-first (λ none-left. one-left (word_at v (places.Bundle 0)) mask two lowest (sym now ∙ none-left)))
+        let lowest : AreLowest (known_word_at v (places.Bundle 0)) 1 mask = subst (λ n. AreLowest (known_word_at v (places.Bundle n)) 1 mask) e low in
+        let now : known_word_at w (places.Bundle 0) ≡ bit_xor (known_word_at v (places.Bundle 0)) mask = subst (λ n. known_word_at w (places.Bundle n) ≡ bit_xor (known_word_at v (places.Bundle n)) mask) e left in
+        in-first (λ none-left. one-left (known_word_at v (places.Bundle 0)) mask two lowest (sym now ∙ none-left)))
         (λ (ne : g ≢ 0).
-        let same : word_at w (places.Bundle 0) ≡ word_at v (places.Bundle 0) =
+        let same : known_word_at w (places.Bundle 0) ≡ known_word_at v (places.Bundle 0) =
         r.others.words (places.Bundle 0) some (λ t. ⊎_elim (not-of-first f) (other-bundle g ne) t) in
         in-first (λ none-left. any (sym same ∙ none-left)))
         (cases_eq g 0)
@@ -142,7 +143,7 @@ module _ {X : Type 0} where
 
     pub ready-again : (a b : ℕ) (new : List ℕ) (w : View X) (answer : Bring) → 2 ≤ frames → b ≢ a → b < length blocks → KeepsLocks v w → KnowsBring 1 a [] new v w answer → IsReadyAgain b new w
     ready-again a b new w answer two ne l keeps k =
-        let there : word_at v (places.Bundle 0) ≡ full_bundle frames 0 = bundle-there tells version next frames blocks v is fits in
+        let there : known_word_at v (places.Bundle 0) ≡ full_bundle frames 0 = bundle-there tells version next frames blocks v is fits in
         let some : 0 < bundles_of frames = omega (arith, two) in
         record {
           alone = still-alone v w keeps.parts keeps.alone.current (first-alone tells version next frames blocks v is);

@@ -3,8 +3,8 @@
 use Rattle.std.specs.Prelude.{ℕ, Option, Some, None, Result, Ok, Err, List, [], ◌∷◌, ◌++◌, ◌≡◌, ◌⊎◌, ◌≤◌, ◌+◌, ◌-◌, ◌^◌, min}
 use Rattle.vm_core.specs.Fn.{at}
 use Rattle.vm_rule.specs.declared.view.View.{View}
-use Rattle.vm_rule.specs.Views.{StartsWith}
-use Rattle.vm_step.specs.Asides.{HoldsPage, StaysAlone}
+use Rattle.vm_rule.specs.Views.{IsLocking, StartsWith, seat_of}
+use Rattle.vm_step.specs.Asides.{HoldsPage, KnowsAsBefore, StaysAlone}
 use Rattle.vm_step.specs.declared.saw.Saw.{Saw}
 use Rattle.vm_step.specs.declared.choice.Looks.{Looks}
 use Rattle.vm_evict.specs.declared.report.Report.{Report}
@@ -18,7 +18,7 @@ use Rattle.vm_pool.specs.declared.bring.Bring.TheVariants as brings
 use Rattle.vm_pool.specs.Sweeps.{IsSwept}
 
 -- a walk that met only pages at the last version, of which this is the first, and evicted ones
-pub record OnlyWorn (looks : Looks) (p : ℕ) : Type 0 where
+pub record MeetsOnlyWorn (looks : Looks) (p : ℕ) : Type 0 where
   pub first : looks.first_worn ≡ Some p
   pub found : looks.found ≡ 0
   pub again : looks.again ≡ 0
@@ -28,17 +28,17 @@ pub record OnlyWorn (looks : Looks) (p : ℕ) : Type 0 where
 
 -- the page that the first of these is, or none where the walk met others too
 abbrev pub NamesWorn : Looks → Option ℕ → Type 0
-NamesWorn looks (Some p) = OnlyWorn looks p
-NamesWorn looks None = (p : ℕ) → OnlyWorn looks p → ⊥
+NamesWorn looks (Some p) = MeetsOnlyWorn looks p
+NamesWorn looks None = (p : ℕ) → MeetsOnlyWorn looks p → ⊥
 
 -- why a sweep brought no frame: a write of it failed; it met only worn pages; or neither
 abbrev pub SaysDry : Report → Bring → Type 0
 SaysDry report brings.Brought = ⊥
 SaysDry report (brings.Again saw) = ⊥
 SaysDry report (brings.Device p count) = (report.freed ≡ 0) × (report.first_failed ≡ Some (p, count))
-SaysDry report (brings.Worn p) = (report.freed ≡ 0) × (report.failed ≡ 0) × OnlyWorn report.looks p
+SaysDry report (brings.Worn p) = (report.freed ≡ 0) × (report.failed ≡ 0) × MeetsOnlyWorn report.looks p
 SaysDry report (brings.Dry looks) =
-    (looks ≡ report.looks) × ((report.freed ≡ 0 → report.first_failed ≡ None) × (report.freed ≡ 0 → report.failed ≡ 0 → (p : ℕ) → OnlyWorn report.looks p → ⊥))
+    (looks ≡ report.looks) × ((report.freed ≡ 0 → report.first_failed ≡ None) × (report.freed ≡ 0 → report.failed ≡ 0 → (p : ℕ) → MeetsOnlyWorn report.looks p → ⊥))
 
 -- page p was brought, or its device failed, where the bound of its block allows a fault
 abbrev pub IsBroughtOrFailed : ℕ → List ℕ → Bring → Type 0
@@ -85,10 +85,11 @@ module _ {X : Type 0} where
       (answer ≡ brings.Brought)
       ⊎ ((count : ℕ) × (answer ≡ brings.Device p count) × (w.notes ≡ v.notes ++ record { page = p; count = count } ∷ []) × (1 ≤ count) × (count ≤ at 0 v.start.bounds p))
 
-  -- the pass holds just the locks that it held, made no entry, and has its block at home; its group, the pages that it owes and the next page that
+  -- the pass holds just the locks that it held, and knows of the pages that it has locked what it knew; it made no entry, and has its block at home; its group, the pages that it owes and the next page that
   -- it knows are as they were; what it has seen, its notes and its steps go on
   pub record KeepsLocks (v w : View X) : Type 0 where
     pub holds : (q : ℕ) → HoldsPage v w q
+    pub knows : (q : ℕ) → IsLocking (seat_of v q) → KnowsAsBefore v w q
     pub mine : w.mine ≡ v.mine
     pub out : w.out ≡ v.out
     pub start : w.start ≡ v.start

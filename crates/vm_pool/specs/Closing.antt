@@ -8,7 +8,7 @@ use Rattle.vm_block.specs.declared.stored.Stored.{Stored}
 use Rattle.vm_owner.specs.Kept.{Start, Kept}
 use Rattle.vm_rule.specs.declared.view.Place.TheVariants as places
 use Rattle.vm_rule.specs.declared.view.View.{View}
-use Rattle.vm_rule.specs.Layout.{words_of}
+use Rattle.vm_rule.specs.Layout.{table_words}
 use Rattle.vm_rule.specs.Started.{bounds_of}
 use Rattle.vm_rule.specs.Views.{Each, times_noted}
 use Rattle.vm_rule.specs.Reading.{no_block, last_of}
@@ -36,7 +36,7 @@ module _ {X : Type 0} where
     pub noted : (p count : ℕ) → 1 ≤ times_noted p count v.notes → (1 ≤ count) × (count ≤ (at no_block blocks p).count)
     pub once : (p count : ℕ) → count ≢ MAX_COUNT → times_noted p count v.notes ≤ 1
     pub words : tells ≡ true → (p : ℕ) → p < v.start.pages → IsStored v p → (at no_block blocks p).words ≡ (last_of v p).words
-    pub next_is : next ≡ (words_of v.start v.snapshot.words).next
+    pub next_is : next ≡ (table_words v.start v.snapshot.words).next
     pub released : v.pending ≡ []
     pub paid : v.owed ≡ []
     pub kept : tells ≡ true → keeps (began_of v.start) (kept_by v)

@@ -1,28 +1,34 @@
--- What a pass that is alone knows of the table after it asked for a page, where it knew a frame to be free before.
-use Rattle.std.specs.Prelude.{ℕ, List, [], ◌∷◌, ◌≡◌, ◌≢◌, ◌⊎◌, ◌<◌, bit_xor, max}
-use Rattle.vm_core.specs.Words.{AreLowest, version_of, EVICTED, UNLOCKED}
+-- What a pass that is alone knows of the table after it asked for a page: where it knew a frame to be free, from before the call; else from after
+-- the sweep that the call made.
+use Rattle.std.specs.Prelude.{ℕ, List, [], ◌∷◌, ◌≡◌, ◌≢◌, ◌⊎◌, ◌+◌, ◌<◌, bit_xor, max}
+use Rattle.vm_core.specs.Fn.{at}
+use Rattle.vm_core.specs.Words.{AreLowest, version_of, EVICTED, UNLOCKED, MAX_VERSION}
 use Rattle.vm_rule.specs.declared.view.Place.TheVariants as places
 use Rattle.vm_rule.specs.declared.view.View.{View}
 use Rattle.vm_rule.specs.Bundles.{frames_in}
 use Rattle.vm_rule.specs.Layout.{bundles_of}
-use Rattle.vm_step.specs.Alone.{word_at}
+use Rattle.vm_step.specs.Alone.{IsAlone, known_word_at}
 use Rattle.vm_step.specs.Tables.{KnowsElse}
-use Rattle.vm_exmap.specs.Frames.{IsBundleOf}
-use Rattle.vm_fault.specs.Fetches.{IsOfBoth, IsOfPage, KnowsReleased}
+use Rattle.vm_evict.specs.declared.report.Report.{Report}
+use Rattle.vm_exmap.specs.Frames.{HasFree, IsBundleOf}
+use Rattle.vm_step.specs.DeviceCalls.{IsOfPage}
+use Rattle.vm_fault.specs.Fetches.{IsKnownOut, IsOfBoth, KnowsReleased}
+use Rattle.vm_pool.specs.Brings.{IsSure, SaysDry}
+use Rattle.vm_pool.specs.Sweeps.{IsSwept}
 use Rattle.vm_pool.specs.declared.bring.Bring.{Bring}
 use Rattle.vm_pool.specs.declared.bring.Bring.TheVariants as brings
 
 module _ {X : Type 0} where
   -- the version of page p, as the pass knows the table
   abbrev pub known_version : View X → ℕ → ℕ
-  known_version v p = version_of (word_at v (places.State p))
+  known_version v p = version_of (known_word_at v (places.State p))
 
   -- page p was evicted and is resident in frame f, with the word Unlocked at its next version; all other words are as before, but those of the
   -- frame. The interface had that frame, or had none, and took the lowest bits of a bundle, whose word is without them
   pub data KnowsBrought (cap p : ℕ) (old new : List ℕ) (v w : View X) : Type 0 where
     own : (f : ℕ) → old ≡ f ∷ new → KnowsReleased (IsOfBoth p f) UNLOCKED p (known_version v p) v w → KnowsBrought cap p old new v w
-    taken : (f g mask : ℕ) → old ≡ [] → frames_in g mask ≡ f ∷ new → g < bundles_of v.start.frames → AreLowest (word_at v (places.Bundle g)) (max 1 cap) mask
-        → word_at w (places.Bundle g) ≡ bit_xor (word_at v (places.Bundle g)) mask → KnowsReleased (λ at. IsOfBoth p f at ⊎ (at ≡ places.Bundle g)) UNLOCKED p (known_version v p) v w
+    taken : (f g mask : ℕ) → old ≡ [] → frames_in g mask ≡ f ∷ new → g < bundles_of v.start.frames → AreLowest (known_word_at v (places.Bundle g)) (max 1 cap) mask
+        → known_word_at w (places.Bundle g) ≡ bit_xor (known_word_at v (places.Bundle g)) mask → KnowsReleased (λ at. IsOfBoth p f at ⊎ (at ≡ places.Bundle g)) UNLOCKED p (known_version v p) v w
         → KnowsBrought cap p old new v w
 
   -- page p was evicted and could not be read: it is evicted at its next version; all other words are as before, but those of the bundles, and of
@@ -37,3 +43,26 @@ module _ {X : Type 0} where
   KnowsBring cap p old new v w (brings.Again saw) = (new ≢ []) × KnowsElse (IsBundleOf v.start) v w
   KnowsBring cap p old new v w (brings.Worn q) = (new ≢ []) × KnowsElse (IsBundleOf v.start) v w
   KnowsBring cap p old new v w (brings.Dry looks) = ⊥
+
+  -- the pass knows that page p is evicted, four versions below the last or more, and that a frame is free; and the page's block never fails
+  pub record MayGoRound (p : ℕ) (frames : List ℕ) (v : View X) : Type 0 where
+    pub out : IsKnownOut p v
+    pub free : HasFree frames v
+    pub below : known_version v p + 3 < MAX_VERSION
+    pub good : at 0 v.start.bounds p ≡ 0
+
+  -- the pass is alone still, and knows the words as they were
+  pub record IsStill (v w : View X) : Type 0 where
+    pub alone : IsAlone w
+    pub start : w.start ≡ v.start
+    pub words : w.snapshot.words ≡ v.snapshot.words
+
+  -- what the pass knows after each answer for page p, whether it knew of a free frame or not. Where a frame was free it knows what came of the page.
+  -- Where none was, the call swept (`IsSwept` tells what the pass knows then), and what came of the page it knows as from the table after the sweep,
+  -- where the answer was as sure; or no frame was free still
+  pub data KnowsAsked (cap p : ℕ) (old new : List ℕ) (v w : View X) (answer : Bring) : Type 0 where
+    at_once : KnowsBring cap p old new v w answer → KnowsAsked cap p old new v w answer
+    swept : (HasFree old v → ⊥) → (dry clean : View X) (filled : List ℕ) (report : Report) → IsStill v dry → IsSwept cap cap [] filled report dry clean
+        → KnowsBring cap p filled new clean w answer → (IsKnownOut p clean → IsSure p clean w answer) → KnowsAsked cap p old new v w answer
+    none : (HasFree old v → ⊥) → (dry clean : View X) (filled : List ℕ) (report : Report) → IsStill v dry → IsSwept cap cap [] filled report dry clean
+        → (HasFree filled clean → ⊥) → IsStill clean w → SaysDry report answer → KnowsAsked cap p old new v w answer

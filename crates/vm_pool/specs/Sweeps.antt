@@ -1,12 +1,28 @@
--- What a sweep does: candidates are chosen and evicted, and their frames go to the interface, or back to the bundles past its cap.
-use Rattle.std.specs.Prelude.{ℕ, List}
+-- What a sweep does: candidates are chosen and evicted, and their frames go to the interface, or back to the bundles past its cap; and what a pass
+-- that is alone knows of the table then.
+use Rattle.std.specs.Prelude.{ℕ, List, ◌⊎◌, ◌<◌, length}
 use Rattle.vm_rule.specs.declared.view.View.{View}
-use Rattle.vm_clock.specs.Clock.{IsChosen}
-use Rattle.vm_evict.specs.Evictions.{IsBatch}
+use Rattle.vm_rule.specs.Layout.{bundles_of}
+use Rattle.vm_step.specs.Alone.{IsAlone}
+use Rattle.vm_step.specs.Choices.{candidate_pages}
+use Rattle.vm_step.specs.Tables.{KnowsElse}
+use Rattle.vm_clock.specs.Clock.{IsChosen, KnowsWalked}
+use Rattle.vm_evict.specs.Evictions.{IsBatch, candidate_at, stage_at}
+use Rattle.vm_evict.specs.Tables.{IsOfAny, KnowsStage}
+use Rattle.vm_evict.specs.declared.candidate.Stage.{Stage}
 use Rattle.vm_evict.specs.declared.report.Report.{Report}
-use Rattle.vm_exmap.specs.Returns.{IsFreed}
+use Rattle.vm_exmap.specs.Frames.{IsBundleOf}
+use Rattle.vm_exmap.specs.Returns.{IsFreed, KnowsGiven}
 
 module _ {X : Type 0} where
+  -- what a pass that was alone knows after a sweep, whose walk left it the view x: there, the words of the pages that the clock passed; then, of
+  -- each candidate's words what its end says, of each bundle's word which of these frames came back to it, and all other words as they were
+  pub record KnowsSwept (drawn count : ℕ) (list : List (ℕ × ℕ)) (ends : List Stage) (given : List ℕ) (v x w : View X) : Type 0 where
+    pub walked : KnowsWalked drawn count v x
+    pub each : (n : ℕ) → n < length list → KnowsStage (candidate_at list n) (stage_at ends n) x w
+    pub bundles : (g : ℕ) → g < bundles_of v.start.frames → KnowsGiven given g v w
+    pub others : KnowsElse (λ at. IsOfAny (candidate_pages list) at ⊎ IsBundleOf v.start at) x w
+
   -- a sweep for `want` pages, by an interface with this cap that had the frames `old` and then has the frames `new`
   pub record IsSwept (want cap : ℕ) (old new : List ℕ) (report : Report) (v w : View X) : Type 0 where
     pub list : List (ℕ × ℕ)
@@ -16,3 +32,4 @@ module _ {X : Type 0} where
     pub evicted_view : View X
     pub evicted : IsBatch list report.looks chosen_view evicted_view report batch
     pub freed : IsFreed cap old batch new evicted_view w
+    pub table : IsAlone v → KnowsSwept chosen.drawn chosen.count list evicted.ends freed.given v chosen_view w

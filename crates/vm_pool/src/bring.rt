@@ -3,7 +3,7 @@ ghost use Rattle.std.specs.Prelude.{◌≡◌, ◌<◌, ◌≤◌, ◌+◌, ◌-
 ghost use Rattle.vm_exmap.specs.Frames.{AreHeld, HasFree};
 ghost use Rattle.vm_fault.specs.Fetches.{IsKnownOut};
 ghost use Rattle.vm_pool.specs.Brings.{Fetches, IsBring, IsFramed, IsSure, KeepsLocks, NamesWorn, SaysDry};
-ghost use Rattle.vm_pool.specs.Known.{KnowsBring};
+ghost use Rattle.vm_pool.specs.Known.{KnowsAsked};
 ghost use Rattle.vm_pool.specs.Sweeps.{IsSwept};
 ghost use Rattle.vm_step.specs.Alone.{IsAlone};
 ghost use Rattle.vm_step.specs.Passes.{IsSamePass, view};
@@ -157,7 +157,7 @@ impl<U: Owner, B: Block> Pool<U, B> {
     /// Brings a page that is Evicted into memory. Where no frame is free it sweeps once, with the interface's cap.
     ///
     /// A pass that is alone, and knows that the page is evicted below the last version and that the interface or a bundle has a frame, is
-    /// answered `Brought`, or `Device` where the page's block failed. It knows the table's words after every answer, where it knew of a frame.
+    /// answered `Brought`, or `Device` where the page's block failed. It knows the table's words after every answer, after a sweep too.
     pub fn bring(&self, pass: &mut Pass<U>, iface: &mut Interface, pid: u32) -> Bring
         requires ready { IsReady self.now.words.table.shared.key B.tells self.now.words.table.shared.table_id pass.old }
         requires home { (view pass.old).out ≡ None }
@@ -167,7 +167,7 @@ impl<U: Owner, B: Block> Pool<U, B> {
         ensures ready { IsReady self.now.words.table.shared.key B.tells self.now.words.table.shared.table_id pass.new }
         ensures answer { IsBring iface.old.home iface.old.cap pid iface.old.frames iface.new.frames iface.old.swept iface.new.swept (view pass.old) (view pass.new) result }
         ensures sure { IsAlone (view pass.old) → IsKnownOut pid (view pass.old) → HasFree iface.old.frames (view pass.old) → IsSure pid (view pass.old) (view pass.new) result }
-        ensures table { IsAlone (view pass.old) → HasFree iface.old.frames (view pass.old) → KnowsBring iface.old.cap pid iface.old.frames iface.new.frames (view pass.old) (view pass.new) result }
+        ensures table { IsAlone (view pass.old) → KnowsAsked iface.old.cap pid iface.old.frames iface.new.frames (view pass.old) (view pass.new) result }
         ensures iface { (iface.new.home ≡ iface.old.home) × (iface.new.cap ≡ iface.old.cap) }
         ensures held { AreHeld iface.new.frames (view pass.new) }
         ensures keeps { KeepsLocks (view pass.old) (view pass.new) }

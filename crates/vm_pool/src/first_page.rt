@@ -3,7 +3,7 @@
 ghost use Rattle.std.specs.Prelude.{◌≡◌, ◌<◌, IfOk, length, map, true};
 ghost use Rattle.vm_core.specs.Words.{MAX_VERSION};
 ghost use Rattle.vm_pool.specs.Brings.{IsBroughtOrFailed};
-ghost use Rattle.vm_rule.specs.Started.{IsStarted, MayBegin, bounds_of, words_in};
+ghost use Rattle.vm_rule.specs.Started.{IsStarted, MayBegin, bounds_of, block_words};
 
 use crate::bring::Bring;
 use crate::pool::{Pool, Shape};
@@ -34,7 +34,7 @@ pub fn open_page<U: Owner, B: Block + Drop>(
     requires fits { IsStarted shape.first_version shape.next shape.frames (length blocks.items) }
     requires below { shape.first_version < MAX_VERSION }
     requires page { pid < shape.pages }
-    requires begins { B.tells ≡ true → MayBegin U.keeps shape.next (words_in (map B.stored blocks.items)) }
+    requires begins { B.tells ≡ true → MayBegin U.keeps shape.next (block_words (map B.stored blocks.items)) }
     ensures answer { IfOk result (λ opened. IsBroughtOrFailed pid (bounds_of (map B.stored blocks.items)) opened.answer) }
 {
     let (pool, mut pass) = Pool::start(alloc, shape, blocks)?;

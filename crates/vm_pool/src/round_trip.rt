@@ -1,8 +1,9 @@
 // A word that is written and read again, with a sweep in between: it stands on the contracts of the pool and of the guards alone, and so
 // shows that they are enough for a caller.
-ghost use Rattle.std.specs.Prelude.{◌≡◌, ◌<◌, IfSome, None, true};
+ghost use Rattle.std.specs.Prelude.{◌≡◌, ◌<◌, IfSome, None, Some, true};
 ghost use Rattle.vm_step.specs.Alone.{IsAlone};
 ghost use Rattle.vm_exmap.specs.Frames.{AreHeld};
+ghost use Rattle.vm_pool.specs.Known.{MayGoRound};
 ghost use Rattle.vm_step.specs.Passes.{view};
 ghost use Rattle.vm_step.specs.Ready.{IsReady};
 
@@ -19,7 +20,8 @@ use vm_rule::words::Pass;
 /// `w`, or `None` where the page could not be locked or read.
 ///
 /// The pass is alone: it has all parts of the table, and has made a step since it was split or joined. The contracts of the pool and of the
-/// guards are enough for such a caller to find its word again; nothing else is known of them here.
+/// guards are enough for such a caller to find its word again; nothing else is known of them here. Where it knows that the page is evicted, four
+/// versions below the last or more, and that a frame is free, and where the page's block never fails, each call succeeds.
 pub fn round_trip<B: Block>(
     pool: &Pool<Bare, B>,
     pass: &mut Pass<Bare>,
@@ -36,6 +38,7 @@ pub fn round_trip<B: Block>(
     requires tells { B.tells ≡ true }
     requires alone { IsAlone (view pass.old) }
     ensures word { IfSome result (λ x. x ≡ w) }
+    ensures sure { MayGoRound pid iface.old.frames (view pass.old) → result ≡ Some w }
     ensures ready { IsReady pool.now.words.table.shared.key B.tells pool.now.words.table.shared.table_id pass.new }
     ensures held { AreHeld iface.new.frames (view pass.new) }
     ensures home { (view pass.new).out ≡ None }

@@ -3,7 +3,7 @@
 ghost use Rattle.std.specs.Prelude.{◌≡◌, ◌≢◌, ◌<◌, ◌≤◌, IfOk, IsSome, length, map, true};
 ghost use Rattle.vm_core.specs.Words.{MAX_VERSION};
 ghost use Rattle.vm_pool.specs.Brings.{IsBroughtOrFailed};
-ghost use Rattle.vm_rule.specs.Started.{IsStarted, MayBegin, bounds_of, words_in};
+ghost use Rattle.vm_rule.specs.Started.{IsStarted, MayBegin, bounds_of, block_words};
 
 use crate::bring::Bring;
 use crate::pool::{Pool, Shape};
@@ -41,7 +41,7 @@ pub fn open_two<U: Owner, B: Block + Drop>(
     requires below { shape.first_version < MAX_VERSION }
     requires frames { 2 ≤ shape.frames }
     requires page { (a < shape.pages) × (b < shape.pages) × (a ≢ b) × (i < WORDS) }
-    requires begins { B.tells ≡ true → MayBegin U.keeps shape.next (words_in (map B.stored blocks.items)) }
+    requires begins { B.tells ≡ true → MayBegin U.keeps shape.next (block_words (map B.stored blocks.items)) }
     ensures first { IfOk result (λ two. IsBroughtOrFailed a (bounds_of (map B.stored blocks.items)) two.first) }
     ensures second { IfOk result (λ two. IsBroughtOrFailed b (bounds_of (map B.stored blocks.items)) two.second) }
     ensures word { IfOk result (λ two. two.first ≡ Bring.Brought → IsSome two.word) }

@@ -2,7 +2,7 @@
 // in all that it split off has all parts again.
 ghost use Rattle.std.specs.Prelude.{◌≡◌, ◌≤◌, All, IfOk, length, map, true};
 ghost use Rattle.vm_rule.specs.Joins.{HoldsNoPage};
-ghost use Rattle.vm_rule.specs.Started.{IsStarted, MayBegin, words_in};
+ghost use Rattle.vm_rule.specs.Started.{IsStarted, MayBegin, block_words};
 ghost use Rattle.vm_step.specs.Passes.{IsSamePass, MayStep, view};
 ghost use Rattle.vm_step.specs.Ready.{IsReady};
 ghost use Rattle.vm_step.specs.Together.{HasJoined};
@@ -42,7 +42,7 @@ pub fn split_and_join<U: Owner, B: Block + Drop>(
 ) -> Result<Closed<U, B>, Memory>
     requires pages { shape.pages ≡ length blocks.items }
     requires fits { IsStarted shape.first_version shape.next shape.frames (length blocks.items) }
-    requires begins { B.tells ≡ true → MayBegin U.keeps shape.next (words_in (map B.stored blocks.items)) }
+    requires begins { B.tells ≡ true → MayBegin U.keeps shape.next (block_words (map B.stored blocks.items)) }
     requires parts { n ≤ 4294967295 }
     ensures count { IfOk result (λ end. length end.blocks.items ≡ length blocks.items) }
 {

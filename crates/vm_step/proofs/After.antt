@@ -1,7 +1,7 @@
 -- What a pass that is alone knows after its steps: each place of the table has the word that was left there last, or the one that it had.
 use Rattle.std.proofs.Common.{ℕ, ◌≡◌, ◌≢◌, ◌⊎◌, ◌<◌, ◌≤◌, ◌+◌, ◌*◌, ◌-◌, ◌/◌, ◌%◌, nat_lt, Bool, true, false, if◌then◌else◌, Option, Some, None, List, [], ◌∷◌, ◌++◌, length, refl, sym, ap, subst, ◌∙◌, inl, inr, ⊎_elim, arith, slice_index, slice_set}
 use Rattle.std.proofs.lemmas.Bool.{cases_eq, cond-true, cond-false, lt-ltb, le-ltb}
-use Rattle.std.proofs.lemmas.List.{get_or-set_same, length-set}
+use Rattle.std.proofs.lemmas.List.{get_or-set_same}
 use Rattle.vm_page.specs.declared.buf.TheConstants.{WORDS}
 use Rattle.vm_rule.specs.declared.view.Did.{Did}
 use Rattle.vm_rule.specs.declared.view.Origin.{Origin}
@@ -12,8 +12,9 @@ use Rattle.vm_rule.specs.declared.view.View.{View}
 use Rattle.vm_rule.specs.Brought.{set_if}
 use Rattle.vm_rule.specs.Layout.{Within, bundle_count, index_of, width}
 use Rattle.vm_rule.specs.Views.{Each}
-use Rattle.vm_step.specs.Alone.{Follows, IsAlone, KnowsAfter, LeavesLast, RunsAlone, WritesNone, word_at}
+use Rattle.vm_step.specs.Alone.{Follows, IsAlone, KnowsAfter, LeavesLast, RunsAlone, WritesNone, known_word_at}
 use Rattle.vm_step.proofs.Alone.{set-else}
+use Rattle.vm_step.proofs.Tables.{follows-length}
 use Rattle.vm_step.proofs.Written.{index-below}
 
 -- ---- each place of the table has a number of its own
@@ -76,15 +77,6 @@ same-place start a b l m e = sym (place-is start a l) ∙ ap (place-at start) e 
 
 -- ---- the words after some steps
 
-set-length : (o : Option ℕ) (i : ℕ) (words : List ℕ) → length (set_if o i words) ≡ length words
-set-length None i words = refl
-set-length (Some x) i words = length-set words i x
-
--- the table has as many words after steps as before
-pub follows-length : (start : Origin) (ds : List Did) (old new : List ℕ) → Follows start ds old new → length new ≡ length old
-follows-length start [] old new f = ap length f
-follows-length start (d ∷ ds) old new f = follows-length start ds (set_if d.wrote (index_of start d.at) old) new f.1 ∙ set-length d.wrote (index_of start d.at) old
-
 -- a place where no step left a word has the word that it had
 pub follows-kept : (start : Origin) (at : Place) (ds : List Did) (old new : List ℕ) → Within start at → Each (λ (d : Did). Within start d.at) ds → Follows start ds old new → WritesNone at ds
     → slice_index new (index_of start at) ≡ slice_index old (index_of start at)
@@ -139,7 +131,7 @@ module _ {X : Type 0} where
     left = λ a at word last. now at ∙ follows-left v.start at word done v.snapshot.words w.snapshot.words (known a last) r.inside (r.words a.0 a.1) last;
   }
     where
-      now : (at : Place) → word_at w at ≡ slice_index w.snapshot.words (index_of v.start at)
+      now : (at : Place) → known_word_at w at ≡ slice_index w.snapshot.words (index_of v.start at)
       now at = ap (λ (o : Origin). slice_index w.snapshot.words (index_of o at)) start
 
       known : {at : Place} → {word : ℕ} → IsAlone v → LeavesLast done at word → length v.snapshot.words ≡ width v.start

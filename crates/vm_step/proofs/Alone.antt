@@ -15,7 +15,7 @@ use Rattle.vm_rule.specs.Reading.{last_in}
 use Rattle.vm_rule.specs.Brought.{BringsWith, IsFoundAt, set_if}
 use Rattle.vm_rule.proofs.Entries.{append-none}
 use Rattle.vm_rule.proofs.Heard.{each-both}
-use Rattle.vm_step.specs.Alone.{Follows, IsAlone, RunsAlone, word_at}
+use Rattle.vm_step.specs.Alone.{Follows, IsAlone, RunsAlone, known_word_at}
 use Rattle.vm_step.specs.Asides.{StaysAlone}
 use Rattle.vm_step.proofs.Asides.{whole-then}
 
@@ -39,12 +39,12 @@ module _ {X : Type 0} where
   still-alone v w parts current a = (whole-then v w parts a.0, current a.1)
 
   -- where two views show the same words, they show the same one at each place
-  pub same-word : (v w : View X) → w.start ≡ v.start → w.snapshot.words ≡ v.snapshot.words → (at : Place) → word_at w at ≡ word_at v at
+  pub same-word : (v w : View X) → w.start ≡ v.start → w.snapshot.words ≡ v.snapshot.words → (at : Place) → known_word_at w at ≡ known_word_at v at
   same-word v w start words at = ap (λ (o : Origin). slice_index w.snapshot.words (index_of o at)) start ∙ ap (λ (t : List ℕ). slice_index t (index_of v.start at)) words
 
   -- its step finds the word that it knew
   pub found-known : (did : Did) (n : ℕ) (block : Option (ℕ × Stored)) (own : List Release) (entries : List (Entry X)) (v inner w : View X) → BringsWith did block own entries v inner w → did.found ≡ Some n → IsAlone v
-      → n ≡ word_at v did.at
+      → n ≡ known_word_at v did.at
   found-known did n block own entries v inner w b found a = subst (λ (o : Option ℕ). IsFoundAt o (index_of v.start did.at) v.snapshot.words) found (b.alone a.0 a.1).2.found
 
   -- and leaves all words where it wrote nothing

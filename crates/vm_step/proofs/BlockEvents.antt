@@ -12,7 +12,7 @@ use Rattle.vm_core.specs.Words.{count_more, LOCKED}
 use Rattle.vm_core.specs.State.{Page, State}
 use Rattle.vm_core.specs.DeviceActs.{written, failed}
 use Rattle.vm_core.specs.History.{World}
-use Rattle.vm_core.specs.Step.{Names, on_page}
+use Rattle.vm_core.specs.Step.{NamesActorAndPage, on_page}
 use Rattle.vm_core.proofs.Upd.{upd-same, upd-other, upd-self}
 use Rattle.vm_owner.specs.Kept.{Start, Kept}
 use Rattle.vm_rule.specs.declared.view.Origin.{Origin}
@@ -21,7 +21,7 @@ use Rattle.vm_rule.specs.declared.view.View.{View}
 use Rattle.vm_rule.specs.Faults.{RaiseTold}
 use Rattle.vm_rule.specs.Layout.{index_of}
 use Rattle.vm_rule.specs.Mappings.{held_at}
-use Rattle.vm_rule.specs.Reading.{block_of, core_of}
+use Rattle.vm_rule.specs.Reading.{block_of, core_shown}
 use Rattle.vm_rule.specs.Slots.{ReturnTold, ShiftTold, SlotTold, out_at, words_held}
 use Rattle.vm_rule.specs.Views.{seat_of, may_call}
 use Rattle.vm_rule.proofs.Calls.{called}
@@ -83,7 +83,7 @@ module _ {X B : Type 0} (stored : B → Stored) (start : Origin) (keeps : Start 
 
   module _ (found : ℕ) (old : Stored) (b : B) (v w : View X) (pass : IsPassOf stored start keeps tied tells s id v) (out : v.out ≡ Some (out_at p true old)) (told : ReturnTold p (stored b) found v w) where
     abbrev c : State
-    c = core_of stored start s
+    c = core_shown stored start s
 
     abbrev page : Page
     page = c.pages p
@@ -95,7 +95,7 @@ module _ {X B : Type 0} (stored : B → Stored) (start : Origin) (keeps : Start 
     inside = let k = pass.rule.blocks.away id v (out_at p true old) pass.there out in (k.0, k.1)
 
     -- the core that the table shows then
-    core-now : core_of stored start later ≡ on_page c p (called page (stored b).count (stored b).words)
+    core-now : core_shown stored start later ≡ on_page c p (called page (stored b).count (stored b).words)
     core-now =
         let view = told.brings.view in
         core-home stored keeps tied start tells s pass.rule id v pass.there pass.live (out_at p true old) b out w (ap (λ (y : View X). y.out) view) (ap (λ (y : View X). y.seats) view) (ap (λ (y : View X). y.frames) view)
@@ -110,13 +110,13 @@ module _ {X B : Type 0} (stored : B → Stored) (start : Origin) (keeps : Start 
     -- a page that has this count, and these words where blocks tell them
     shows-page : (y : Page) → (stored b).count ≡ y.count → (start.tells ≡ true → (stored b).words ≡ y.block) → ((count : ℕ) (block : List ℕ) → called page count block ≡ called y count block) → ShowsBut stored start later (on_page c p y) p (stored b).words
     shows-page y count words same =
-        let is : core_of stored start later ≡ on_page c p (called y (stored b).count (stored b).words) = core-now ∙ ap (on_page c p) (same (stored b).count (stored b).words) in
+        let is : core_shown stored start later ≡ on_page c p (called y (stored b).count (stored b).words) = core-now ∙ ap (on_page c p) (same (stored b).count (stored b).words) in
         record {
           core = is ∙ (λ i. on_page c p (called y (count i) (stored b).words)) ∙ sym (with-block-on c p y (stored b).words);
           told = λ t. is ∙ (λ i. on_page c p (called y (count i) (words t i)));
         }
 
-    names : Names c id p
+    names : NamesActorAndPage c id p
     names = record { actor = at-bound s.views id v pass.there; page = inside.0 }
 
     resident : IsSome (held_at v p).mapping → IsSome page.trans
@@ -167,7 +167,7 @@ module _ {X B : Type 0} (stored : B → Stored) (start : Origin) (keeps : Start 
       (λ free.
       let shares : 1 ≤ (seat_of v p).shares = has-share stored keeps tied start tells s pass.rule id v pass.there pass.live p k.0 k.1 free in
       let state = shared-here stored start s id p v (pass.rule.inv.pages p).locks k.0 pass.there shares in
-      let below : ((core_of stored start s).pages p).state < LOCKED = state.1 in
+      let below : ((core_shown stored start s).pages p).state < LOCKED = state.1 in
       inr (subst IsSome (sym (((pass.rule.known id v pass.there pass.live).knows p).calls k.1).0)
       ((pass.rule.inv.pages p).stands.resident (λ e. absurd (omega arith)) (λ e. absurd (omega arith)))))
       (cases_Bool (seat_of v p).exclusive)

@@ -16,13 +16,13 @@ use Rattle.vm_rule.specs.declared.view.Origin.{Origin}
 use Rattle.vm_rule.specs.declared.view.Place.TheVariants as places
 use Rattle.vm_rule.specs.declared.view.View.{View}
 use Rattle.vm_rule.specs.Layout.{index_of}
-use Rattle.vm_rule.specs.Reading.{core_of, world_of}
+use Rattle.vm_rule.specs.Reading.{core_shown, world_of}
 use Rattle.vm_rule.specs.Bundles.{BundleTold, TakeTold, GiveTold, HandTold, taken_view}
 use Rattle.vm_rule.proofs.Found.{same-word, bundle-here, hand-here}
 use Rattle.vm_rule.proofs.FrameWorlds.{take-step, give-step, hand-step, lost-take}
 use Rattle.vm_rule.proofs.Views.{at-bound}
 use Rattle.vm_rule.proofs.Worlds.{core-still}
-use Rattle.vm_step.specs.Conditions.{MayTake, MayGive}
+use Rattle.vm_step.specs.Conditions.{IsMaskOf, PassMayGive}
 use Rattle.vm_step.specs.Events.{FindsAt, IsEvent, IsPassOf, exchange_sees, exchanged, table_after}
 use Rattle.vm_step.proofs.BundleWord.{bundle-named, names-bundle}
 use Rattle.vm_step.proofs.TakeShows.{take-legal, frames-with}
@@ -41,16 +41,16 @@ module _ {X B : Type 0} (stored : B → Stored) (start : Origin) (keeps : Start 
       }
 
   -- a take sees whether the word was the one expected, and the word where it was not
-  pub take_event : (g expects mask found : ℕ) (v w : View X) → IsPassOf stored start keeps tied tells s id v → FindsAt start s (places.Bundle g) found → MayTake expects mask → TakeTold g expects mask found v w
+  pub take_event : (g expects mask found : ℕ) (v w : View X) → IsPassOf stored start keeps tied tells s id v → FindsAt start s (places.Bundle g) found → IsMaskOf expects mask → TakeTold g expects mask found v w
       → IsEvent stored start s (table_after s (exchanged s.words (index_of start (places.Bundle g)) expects found (bit_xor expects mask)) id w) (Take id g expects mask) (exchange_sees expects found)
   take_event g expects mask found v w pass at may told =
-      let c : State = core_of stored start s in
+      let c : State = core_shown stored start s in
       let i : ℕ = index_of start (places.Bundle g) in
       let inner : View X = taken_view g mask told.words v in
       let word : c.bundles g ≡ found = bundle-here stored start s g at.0 ∙ sym at.1 in
       let legal = take-legal stored keeps tied start tells s pass.rule id v pass.there pass.live g expects mask (bundle-named start g at.0) may in
-      let as-is : (b : Bool) → eqb found expects ≡ b → core_of stored start (table_after s (exchanged s.words i expects found (bit_xor expects mask)) id w) ≡ core_of stored start (table_after s (slice_set s.words i (if b then bit_xor expects mask else found)) id w) =
-      (λ b is. ap (λ k. core_of stored start (table_after s (slice_set s.words i (if k then bit_xor expects mask else found)) id w)) is) in
+      let as-is : (b : Bool) → eqb found expects ≡ b → core_shown stored start (table_after s (exchanged s.words i expects found (bit_xor expects mask)) id w) ≡ core_shown stored start (table_after s (slice_set s.words i (if b then bit_xor expects mask else found)) id w) =
+      (λ b is. ap (λ k. core_shown stored start (table_after s (slice_set s.words i (if k then bit_xor expects mask else found)) id w)) is) in
       let seen-as : (if eqb (c.bundles g) expects then sights.Taken else sights.Lost (c.bundles g)) ≡ exchange_sees expects found = ap {B = Seen} (λ n. if eqb n expects then sights.Taken else sights.Lost n) word in
       ⊎_elim
       (λ hit.
@@ -76,7 +76,7 @@ module _ {X B : Type 0} (stored : B → Stored) (start : Origin) (keeps : Start 
       record {
         legal = legal;
         core = as-is false is
-            ∙ ap (λ l. core_of stored start (table_after s l id w)) (ap (slice_set s.words i) at.1 ∙ same-word s.words i)
+            ∙ ap (λ l. core_shown stored start (table_after s l id w)) (ap (slice_set s.words i) at.1 ∙ same-word s.words i)
             ∙ core-still stored start s id v w pass.there
             (ap (λ (y : View X). y.out) view ∙ ap (λ (y : View X). y.out) mine)
             (ap (λ (y : View X). y.frames) view ∙ ap (λ (y : View X). y.frames) mine)
@@ -87,11 +87,11 @@ module _ {X B : Type 0} (stored : B → Stored) (start : Origin) (keeps : Start 
       (cases_eq found expects)
 
   -- a give sees the word before
-  pub give_event : (g mask found : ℕ) (v w : View X) → IsPassOf stored start keeps tied tells s id v → FindsAt start s (places.Bundle g) found → MayGive v g mask → GiveTold g mask found v w
+  pub give_event : (g mask found : ℕ) (v w : View X) → IsPassOf stored start keeps tied tells s id v → FindsAt start s (places.Bundle g) found → PassMayGive v g mask → GiveTold g mask found v w
       → IsEvent stored start s (table_after s (slice_set s.words (index_of start (places.Bundle g)) (bit_or found mask)) id w) (Give id g mask) (sights.Word found)
   give_event g mask found v w pass at may told =
       let view = told.brings.view in
-      let word : (core_of stored start s).bundles g ≡ found = bundle-here stored start s g at.0 ∙ sym at.1 in
+      let word : (core_shown stored start s).bundles g ≡ found = bundle-here stored start s g at.0 ∙ sym at.1 in
       record {
         legal = give-legal stored keeps tied start tells s pass.rule id v pass.there pass.live g mask (bundle-named start g at.0) may;
         core = ap (λ (y : World). y.core)
@@ -106,7 +106,7 @@ module _ {X B : Type 0} (stored : B → Stored) (start : Origin) (keeps : Start 
       → IsEvent stored start s (table_after s (slice_set s.words (index_of start places.Hand) (hand_more found)) id w) (Hand id) (sights.Word found)
   hand_event found v w pass at told =
       let view = told.brings.view in
-      let word : (core_of stored start s).hand ≡ found = hand-here stored start s ∙ sym at.1 in
+      let word : (core_shown stored start s).hand ≡ found = hand-here stored start s ∙ sym at.1 in
       record {
         legal = at-bound s.views id v pass.there;
         core = ap (λ (y : World). y.core)

@@ -10,7 +10,7 @@ use Rattle.vm_rule.specs.declared.view.Place.TheVariants as places
 use Rattle.vm_rule.specs.declared.view.Shape.{Shape}
 use Rattle.vm_rule.specs.declared.view.View.{View}
 use Rattle.vm_rule.specs.Layout.{Within, index_of}
-use Rattle.vm_rule.specs.Reading.{core_of}
+use Rattle.vm_rule.specs.Reading.{core_shown}
 use Rattle.vm_rule.specs.Begun.{HasShape}
 use Rattle.vm_rule.proofs.Views.{at-bound}
 
@@ -30,5 +30,5 @@ bundle-at shape start has pages frames g p f = λ i. bundle-place ((has.pages �
 
 module _ {X B : Type 0} (stored : B → Stored) (start : Origin) (s : Table (Option B) (View X)) (id : ℕ) (v : View X) (there : get_elem? s.views id ≡ some v) where
   -- the pass and the bundle are the core's
-  pub names-bundle : (g : ℕ) → g * 64 < start.frames → NamesBundle (core_of stored start s) id g
+  pub names-bundle : (g : ℕ) → g * 64 < start.frames → NamesBundle (core_shown stored start s) id g
   names-bundle g l = record { actor = at-bound s.views id v there; bundle = l }

@@ -10,7 +10,7 @@ use Rattle.atomic_table.proofs.Lists.{set_here}
 use Rattle.vm_core.specs.declared.event.Event.TheVariants.{Claim}
 use Rattle.vm_core.specs.declared.event.Seat.{Seat}
 use Rattle.vm_core.specs.State.{State}
-use Rattle.vm_core.specs.Step.{Legal, after}
+use Rattle.vm_core.specs.Step.{Legal, after_event}
 use Rattle.vm_core.specs.History.{World, world_after}
 use Rattle.vm_owner.specs.Kept.{Start, Kept, claimed, AreZero}
 use Rattle.vm_owner.specs.Numbers.{has}
@@ -23,7 +23,7 @@ use Rattle.vm_rule.specs.declared.view.View.{View}
 use Rattle.vm_rule.specs.Puts.{chosen}
 use Rattle.vm_rule.specs.Layout.{index_of}
 use Rattle.vm_rule.specs.Views.{numbers, seat_of, may_call}
-use Rattle.vm_rule.specs.Reading.{core_of}
+use Rattle.vm_rule.specs.Reading.{core_shown}
 use Rattle.vm_rule.specs.Rule.{is_owed, is_pending, began_of, kept_of, Ruled}
 use Rattle.vm_rule.specs.Begun.{HasShape, Stands}
 use Rattle.vm_rule.specs.Log.{did_exchange}
@@ -34,7 +34,7 @@ use Rattle.vm_rule.proofs.Facts.{any-here, any-true}
 use Rattle.vm_rule.proofs.Found.{seat-here}
 use Rattle.vm_rule.proofs.FrameWorlds.{claim-step, lost-claim}
 use Rattle.vm_rule.proofs.Views.{any-same, at-bound}
-use Rattle.vm_step.specs.Conditions.{MayClaim}
+use Rattle.vm_step.specs.Conditions.{PassMayClaim}
 use Rattle.vm_step.specs.Plays.{claim_play}
 use Rattle.vm_step.proofs.ExchangeAt.{exchanged_at, taken-at, lost-at}
 use Rattle.vm_step.proofs.Here.{world}
@@ -52,7 +52,7 @@ or-either true b e = inl refl
 or-either false b e = inr e
 
 module _ {X B : Type 0} (stored : B → Stored) (keeps : Start → Kept X → Type 0) (tied : Start → ℕ → List ℕ → ℕ → List ℕ → Type 0) (start : Origin) (tells : Bool) (s : Table (Option B) (View X)) (r : Ruled stored keeps tied start tells s)
-    (id : ℕ) (v : View X) (there : get_elem? s.views id ≡ some v) (live : v.live ≡ true) (x n : ℕ) (may : MayClaim v x n) where
+    (id : ℕ) (v : View X) (there : get_elem? s.views id ≡ some v) (live : v.live ≡ true) (x n : ℕ) (may : PassMayClaim v x n) where
   abbrev pub claim_found : ℕ
   claim_found = slice_index s.words (index_of start places.Next)
 
@@ -77,7 +77,7 @@ module _ {X B : Type 0} (stored : B → Stored) (keeps : Start → Kept X → Ty
   within : (p : ℕ) → p < x + n → p < start.pages
   within p l = let le = inside in omega (arith, l, le)
 
-  pub claim-legal : Legal (core_of stored start s) (Claim id x n)
+  pub claim-legal : Legal (core_shown stored start s) (Claim id x n)
   claim-legal = record {
     actor = at-bound s.views id v there;
     few = may.few;
@@ -94,8 +94,8 @@ module _ {X B : Type 0} (stored : B → Stored) (keeps : Start → Kept X → Ty
     finds : old.core.next ≡ x
     finds = next-is-found stored keeps tied start tells s r id v there live ∙ hit
 
-    core-claimed : after (core_of stored start s) (Claim id x n) ≡ record (core_of stored start s) { next = x + n }
-    core-claimed = rw (eq-eqb (core_of stored start s).next x finds) refl
+    core-claimed : after_event (core_shown stored start s) (Claim id x n) ≡ record (core_shown stored start s) { next = x + n }
+    core-claimed = rw (eq-eqb (core_shown stored start s).next x finds) refl
 
     next-after : (world_after old (Claim id x n)).core.next ≡ x + n
     next-after = ap (λ (c : State). c.next) core-claimed
@@ -178,7 +178,7 @@ module _ {X B : Type 0} (stored : B → Stored) (keeps : Start → Kept X → Ty
             wrote = rw (eq-eqb claim_found x hit) (stands-there start s.words places.Next (x + n) r.wide.0 tt);
             pages = ap (λ (c : State). c.pages) core-claimed;
             frames = ap (λ (c : State). c.words) core-claimed;
-            up = (let is = finds in let after = next-after in omega (arith, is, after));
+            up = (let is = finds in let after_event = next-after in omega (arith, is, after_event));
             owes = λ p e.
                 ⊎_elim
                 (λ claims.
@@ -189,7 +189,7 @@ module _ {X B : Type 0} (stored : B → Stored) (keeps : Start → Kept X → Ty
                   subst (λ m. p < m) (sym next-after) high,
                   may.free p in-it.0 high,
                 ))
-                (λ was. let o = k.owed p was in (o.0, o.1, (let below = o.2 in let is = finds in let after = next-after in omega (arith, below, is, after)), o.3))
+                (λ was. let o = k.owed p was in (o.0, o.1, (let below = o.2 in let is = finds in let after_event = next-after in omega (arith, below, is, after_event)), o.3))
                 (or-either (has p (numbers x n)) (has p v.owed) (sym (has-both p (numbers x n) v.owed) ∙ e));
             knows_next = λ y e. absurd (cc);
             owner = λ t kept. subst (keeps (began_of start)) kept-claimed (law (began_of start) before n kept (are-zero t));
@@ -216,7 +216,7 @@ module _ {X B : Type 0} (stored : B → Stored) (keeps : Start → Kept X → Ty
 module _ {X B : Type 0} (stored : B → Stored) (keeps : Start → Kept X → Type 0) (tied : Start → ℕ → List ℕ → ℕ → List ℕ → Type 0) (shape : Shape) (tells : Bool)
     (law : (start : Start) (kept : Kept X) (n : ℕ) → keeps start kept → AreZero kept n → keeps start (claimed n kept)) where
   -- so it does of every table that stands
-  pub claim-allows : (slots id : ℕ) (me : Me (Option B) (View X)) (place x n : ℕ) → me.0.live ≡ true → 0 < length me.0.used → ((start : Origin) → HasShape shape start → index_of start places.Next ≡ place) → MayClaim me.0 x n
+  pub claim-allows : (slots id : ℕ) (me : Me (Option B) (View X)) (place x n : ℕ) → me.0.live ≡ true → 0 < length me.0.used → ((start : Origin) → HasShape shape start → index_of start places.Next ≡ place) → PassMayClaim me.0 x n
       → Allows (Stands stored keeps tied shape tells) slots id me place (λ k. either (eqb k x) (x + n) k) (claim_play shape tells n (step slots place x (x + n) maybe.none) me)
   claim-allows slots id me place x n live number is may =
       plays-at stored keeps tied shape tells slots id me place (λ start. index_of start places.Next) (λ k. either (eqb k x) (x + n) k) (ClaimTold x n) live is

@@ -3,7 +3,7 @@ use Rattle.std.proofs.Common.{ℕ, ◌≡◌, ◌≤◌, ◌+◌, ◌==◌, ◌|
 use Rattle.std.proofs.lemmas.Bool.{cases_lt, cond-true, eq-eqb, lt-ltb, or_left, or_right}
 use Rattle.vm_core.specs.Words.{count_more, MAX_COUNT}
 use Rattle.vm_core.proofs.Upd.{upd-other, upd-same}
-use Rattle.vm_block.specs.Blocks.{Reads, Writes, one_more}
+use Rattle.vm_block.specs.Blocks.{Reads, Writes, one_call_more}
 use Rattle.vm_block.specs.declared.stored.Stored.{Stored}
 use Rattle.vm_rule.specs.declared.view.Did.{Did}
 use Rattle.vm_rule.specs.declared.view.Held.{Held}
@@ -87,7 +87,7 @@ module _ {X : Type 0} (p : ℕ) where
 -- ---- what a read does
 
 -- one fault more, in both spellings
-pub more-is : (count : ℕ) → one_more count ≡ count_more count
+pub more-is : (count : ℕ) → one_call_more count ≡ count_more count
 unfolding count_more
 more-is count = refl
 

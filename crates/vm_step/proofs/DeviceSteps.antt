@@ -23,7 +23,7 @@ use Rattle.vm_rule.specs.declared.view.View.{View}
 use Rattle.vm_rule.specs.Puts.{put_at, listed, chosen}
 use Rattle.vm_rule.specs.Layout.{Within, index_of, width}
 use Rattle.vm_rule.specs.Views.{seat_of}
-use Rattle.vm_rule.specs.Reading.{block_of, core_of, world_of, histories_of}
+use Rattle.vm_rule.specs.Reading.{block_of, core_shown, world_of, histories_of}
 use Rattle.vm_rule.specs.Rule.{KnowsPage, KnowsPages, no_held, began_of, logical, is_pending, is_owed, kept_of, ArePlain, BlocksFit, FaultsFit, Ruled}
 use Rattle.vm_rule.specs.Brought.{IsFoundAt}
 use Rattle.vm_rule.proofs.Cores.{loads-still}
@@ -53,7 +53,7 @@ module _ {X B : Type 0} (stored : B → Stored) (keeps : Start → Kept X → Ty
     pub wide : length words ≡ width start
     pub slots : length homes ≡ start.pages
     pub spelled : ArePlain start words
-    pub core_is : core_of stored start new ≡ core
+    pub core_is : core_shown stored start new ≡ core
     pub inv : Inv later
     pub left : Leaves id old later
     pub next : core.next ≡ old.core.next
@@ -74,7 +74,7 @@ module _ {X B : Type 0} (stored : B → Stored) (keeps : Start → Kept X → Ty
       loads = loads-still s.views id v after there refl i;
     }
 
-    next-stays : (core_of stored start new).next ≡ old.core.next
+    next-stays : (core_shown stored start new).next ≡ old.core.next
     next-stays = ap (λ (c : State). c.next) sh.core_is ∙ sh.next
 
     last-stays : (q : ℕ) → (histories_of start (r.releases ++ []) r.drafts q).last.words ≡ (histories_of start r.releases r.drafts q).last.words

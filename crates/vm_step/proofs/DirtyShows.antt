@@ -22,7 +22,7 @@ use Rattle.vm_rule.specs.declared.view.Origin.{Origin}
 use Rattle.vm_rule.specs.declared.view.Place.TheVariants as places
 use Rattle.vm_rule.specs.declared.view.View.{View}
 use Rattle.vm_rule.specs.Views.{seat_of, may_call}
-use Rattle.vm_rule.specs.Reading.{core_of, world_of}
+use Rattle.vm_rule.specs.Reading.{core_shown, world_of}
 use Rattle.vm_rule.specs.Rule.{KnowsPages, is_pending, Ruled}
 use Rattle.vm_rule.specs.Log.{did_store}
 use Rattle.vm_rule.specs.Mappings.{clean_in, dirty_in, StandsIn, dirty_view, IsWritten, clean_view}
@@ -55,7 +55,7 @@ in_frame f dirty = Some (record { frame = f; dirty = dirty })
 
 module _ {X B : Type 0} (stored : B → Stored) (keeps : Start → Kept X → Type 0) (tied : Start → ℕ → List ℕ → ℕ → List ℕ → Type 0) (start : Origin) (tells : Bool) (s : Table (Option B) (View X)) (r : Ruled stored keeps tied start tells s) (id : ℕ) (v : View X) (p : ℕ) (there : get_elem? s.views id ≡ some v) (live : v.live ≡ true) where
   abbrev core : State
-  core = core_of stored start s
+  core = core_shown stored start s
 
   abbrev old : World
   old = world_of stored start r.releases r.drafts s

@@ -25,7 +25,7 @@ use Rattle.vm_rule.specs.Reading.{last_in, last_of}
 use Rattle.vm_rule.specs.Rule.{Ruled}
 use Rattle.vm_rule.specs.Begun.{Stands}
 use Rattle.vm_rule.specs.Brought.{Brings}
-use Rattle.vm_rule.specs.Locks.{Validates}
+use Rattle.vm_rule.specs.Locks.{LockValidates}
 use Rattle.vm_rule.specs.Log.{did_exchange}
 use Rattle.vm_rule.specs.Looks.{IsSinceAll, IsOlder}
 use Rattle.vm_rule.proofs.Found.{version-here}
@@ -97,9 +97,9 @@ module _ {X B : Type 0} (stored : B → Stored) (keeps : Start → Kept X → Ty
 
   -- where nobody has the page locked exclusively, the exchange validates the open read and the ties
   pub tried-validates : (law : (start : Start) (kept : Kept X) (q p : ℕ) → keeps start kept → q < length kept.pages → p < length kept.pages → tied start q (page_at kept.pages q) p (page_at kept.pages p))
-      → (inner w : View X) → Tried inner w → ((world stored keeps tied start tells s r).core.pages p).state ≢ LOCKED → v.start.tells ≡ true → slice_index s.words p ≡ expects → Validates tied p (version_of expects) (last_of w p).words v
+      → (inner w : View X) → Tried inner w → ((world stored keeps tied start tells s r).core.pages p).state ≢ LOCKED → v.start.tells ≡ true → slice_index s.words p ≡ expects → LockValidates tied p (version_of expects) (last_of w p).words v
   tried-validates law inner w t free tells' hit =
-      subst (λ (y : Version). Validates tied p (version_of expects) y.words v) (sym t.last) (validates stored keeps tied start tells s r id v there live law p expects l hit free tells')
+      subst (λ (y : Version). LockValidates tied p (version_of expects) y.words v) (sym t.last) (validates stored keeps tied start tells s r id v there live law p expects l hit free tells')
 
 module _ {X B : Type 0} (stored : B → Stored) (keeps : Start → Kept X → Type 0) (tied : Start → ℕ → List ℕ → ℕ → List ℕ → Type 0) (shape : Shape) (tells : Bool) where
   -- what an exchange tells over every table that meets the rule it tells over every table that stands

@@ -9,9 +9,9 @@ use Rattle.vm_core.specs.declared.event.Seat.{Seat}
 use Rattle.vm_core.specs.Fn.{upd}
 use Rattle.vm_core.specs.Words.{state_of, version_of, word_of, LOCKED, MARKED, UNLOCKED}
 use Rattle.vm_core.specs.State.{Page}
-use Rattle.vm_core.specs.StateActs.{MayLock, MayShare, one_more, finds, locked, shared, marked, unmarked, write_locked, upgraded}
+use Rattle.vm_core.specs.StateActs.{MayLock, MayShare, one_share_more, finds, locked, shared, marked, unmarked, write_locked, upgraded}
 use Rattle.vm_core.specs.PageStep.{exchange_seen}
-use Rattle.vm_core.specs.Step.{Legal, Names, on_page, seen}
+use Rattle.vm_core.specs.Step.{Legal, NamesActorAndPage, on_page, seen}
 use Rattle.vm_core.specs.History.{World, world_after}
 use Rattle.vm_block.specs.declared.stored.Stored.{Stored}
 use Rattle.vm_rule.specs.declared.view.Held.{Held}
@@ -42,7 +42,7 @@ module _ {X B : Type 0} (stored : B → Stored) (start : Origin) (s : Table (Opt
     pub sees : seen old.core e ≡ exchange_seen (old.core.pages p) expects
 
   module _ (v : View X) (p expects : ℕ) (wide : length s.words ≡ width start) (l : p < start.pages) (there : get_elem? s.views id ≡ some v) where
-    named : Names old.core id p
+    named : NamesActorAndPage old.core id p
     named = record { actor = at-bound s.views id v there; page = l }
 
     state-made : (state : ℕ) → state_of (word_of state (version_of expects)) ≡ state
@@ -63,11 +63,11 @@ module _ {X B : Type 0} (stored : B → Stored) (start : Origin) (s : Table (Opt
         }
 
     -- a share
-    pub locks-exchange : MayShare expects → (held : Held) → IsExchange p expects (word_of (one_more (state_of expects)) (version_of expects)) drafts (shared_view p held v) (LockS id p expects) (shared (old.core.pages p) id)
+    pub locks-exchange : MayShare expects → (held : Held) → IsExchange p expects (word_of (one_share_more (state_of expects)) (version_of expects)) drafts (shared_view p held v) (LockS id p expects) (shared (old.core.pages p) id)
     locks-exchange may held =
         record {
           legal = (named, may);
-          leads = λ w out frames seats loads. locks-step stored start s releases drafts id v w p expects (word_of (one_more (state_of expects)) (version_of expects)) wide l there out frames seats loads (state-made (one_more (state_of expects))) (version-made (one_more (state_of expects)));
+          leads = λ w out frames seats loads. locks-step stored start s releases drafts id v w p expects (word_of (one_share_more (state_of expects)) (version_of expects)) wide l there out frames seats loads (state-made (one_share_more (state_of expects))) (version-made (one_share_more (state_of expects)));
           core = λ f. rw f refl;
           none = lost-locks old id p expects;
           sees = refl;

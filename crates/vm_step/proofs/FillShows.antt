@@ -17,7 +17,7 @@ use Rattle.vm_rule.specs.declared.view.Place.TheVariants as places
 use Rattle.vm_rule.specs.declared.view.View.{View}
 use Rattle.vm_rule.specs.Puts.{put_at}
 use Rattle.vm_rule.specs.Layout.{index_of}
-use Rattle.vm_rule.specs.Reading.{core_of, world_of}
+use Rattle.vm_rule.specs.Reading.{core_shown, world_of}
 use Rattle.vm_rule.specs.Rule.{KnowsPages, is_pending, Ruled}
 use Rattle.vm_rule.specs.Log.{did_store}
 use Rattle.vm_rule.specs.Stores.{Drafts, filled_view}
@@ -37,7 +37,7 @@ module _ {X B : Type 0} (stored : B → Stored) (keeps : Start → Kept X → Ty
       true≢false (sym (stands-drafted stored keeps tied start tells s r id v there live p f d)
       ∙ stands-nowhere (world_of stored start r.releases r.drafts s) f id p r.inv (held-here stored start s id f v there ∙ owns))
 
-  pub fill-legal : (f i x : ℕ) → f < start.frames → i < 64 → has f v.frames ≡ true → Legal (core_of stored start s) (Store id f i x)
+  pub fill-legal : (f i x : ℕ) → f < start.frames → i < 64 → has f v.frames ≡ true → Legal (core_shown stored start s) (Store id f i x)
   fill-legal f i x lf li owns = record { actor = at-bound s.views id v there; frame = lf; place = li; owns = inl (held-here stored start s id f v there ∙ owns) }
 
   pub fill-shows : (f i x : ℕ) → f < start.frames → i < 64 → has f v.frames ≡ true
@@ -46,7 +46,7 @@ module _ {X B : Type 0} (stored : B → Stored) (keeps : Start → Kept X → Ty
       let words : List ℕ = slice_set s.words (index_of start (places.Content f i)) x in
       let inner : View X = filled_view f i x v in
       let w : View X = after_step stored keeps tied start tells s r words [] [] (did_store (places.Content f i) x) inner in
-      let c : State = core_of stored start s in
+      let c : State = core_shown stored start s in
       let k : KnowsPages tied start (world_of stored start r.releases r.drafts s) (is_pending s.views) v = r.known id v there live in
       let contents : ℕ → List ℕ = put_at [] v.contents in
       moved-shows stored keeps tied start tells s r id v words r.drafts (did_store (places.Content f i) x) inner (Store id f i x) there live

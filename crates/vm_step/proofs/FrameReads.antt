@@ -15,7 +15,7 @@ use Rattle.vm_rule.specs.declared.view.Origin.{Origin}
 use Rattle.vm_rule.specs.declared.view.View.{View}
 use Rattle.vm_rule.specs.Puts.{put_at}
 use Rattle.vm_rule.specs.Views.{IsLocking, seat_of}
-use Rattle.vm_rule.specs.Reading.{core_of}
+use Rattle.vm_rule.specs.Reading.{core_shown}
 use Rattle.vm_rule.specs.Rule.{KnowsPage, no_held}
 use Rattle.vm_rule.specs.Loads.{frame_read_by}
 use Rattle.vm_rule.proofs.Found.{seat-here}
@@ -64,7 +64,7 @@ frame-known y h r k = ⊎_elim (λ x. ap frame_of (k.calls (rw x refl)).0) (λ x
 
 module _ {X B : Type 0} (stored : B → Stored) (start : Origin) (s : Table (Option B) (View X)) (id p : ℕ) (v : View X) (l : p < start.pages) (there : get_elem? s.views id ≡ some v) where
   abbrev page : Page
-  page = (core_of stored start s).pages p
+  page = (core_shown stored start s).pages p
 
   seat-reads : load_frame page id ≡ frame-by ((seat_of v p).exclusive || nat_lt 0 (seat_of v p).shares) page.trans (open_frame (seat_of v p).reading)
   seat-reads = ap (λ (y : Seat). frame-by (y.exclusive || nat_lt 0 y.shares) page.trans (open_frame y.reading)) (seat-here stored start s id p v l there)

@@ -16,7 +16,7 @@ use Rattle.vm_rule.specs.declared.view.Place.TheVariants as places
 use Rattle.vm_rule.specs.declared.view.Shape.{Shape}
 use Rattle.vm_rule.specs.declared.view.View.{View}
 use Rattle.vm_rule.specs.Layout.{index_of}
-use Rattle.vm_rule.specs.Reading.{core_of}
+use Rattle.vm_rule.specs.Reading.{core_shown}
 use Rattle.vm_rule.specs.Rule.{Ruled}
 use Rattle.vm_rule.specs.Begun.{Stands}
 use Rattle.vm_rule.specs.Log.{did_change}
@@ -27,7 +27,7 @@ use Rattle.vm_rule.proofs.Bringing.{steps}
 use Rattle.vm_rule.proofs.Bundled.{has-frames_in, has-without_all, given-bits}
 use Rattle.vm_rule.proofs.Found.{bundle-here, held-here}
 use Rattle.vm_rule.proofs.FrameWorlds.{give-step}
-use Rattle.vm_step.specs.Conditions.{MayGive}
+use Rattle.vm_step.specs.Conditions.{PassMayGive}
 use Rattle.vm_step.specs.Plays.{give_play}
 use Rattle.vm_step.proofs.BundleWord.{bundle-place, bundle-within, bundle-at, names-bundle}
 use Rattle.vm_step.proofs.Here.{world}
@@ -44,17 +44,17 @@ left-there true c e = absurd (true≢false (sym e))
 left-there false c e = e
 
 module _ {X B : Type 0} (stored : B → Stored) (keeps : Start → Kept X → Type 0) (tied : Start → ℕ → List ℕ → ℕ → List ℕ → Type 0) (start : Origin) (tells : Bool) (s : Table (Option B) (View X)) (r : Ruled stored keeps tied start tells s)
-    (id : ℕ) (v : View X) (there : get_elem? s.views id ≡ some v) (live : v.live ≡ true) (g mask : ℕ) (l : g * 64 < start.frames) (may : MayGive v g mask) where
+    (id : ℕ) (v : View X) (there : get_elem? s.views id ≡ some v) (live : v.live ≡ true) (g mask : ℕ) (l : g * 64 < start.frames) (may : PassMayGive v g mask) where
   abbrev found : ℕ
   found = slice_index s.words (index_of start (places.Bundle g))
 
   abbrev give_did : Did
   give_did = did_change (places.Bundle g) found (bit_or found mask)
 
-  holds-all : (f : ℕ) → in_mask g mask f ≡ true → (core_of stored start s).held id f ≡ true
+  holds-all : (f : ℕ) → in_mask g mask f ≡ true → (core_shown stored start s).held id f ≡ true
   holds-all f e = held-here stored start s id f v there ∙ may.holds f e
 
-  pub give-legal : Legal (core_of stored start s) (Give id g mask)
+  pub give-legal : Legal (core_shown stored start s) (Give id g mask)
   give-legal = record { names = names-bundle stored start s id v there g l; some = may.some; holds = holds-all }
 
   give-shows : Shows stored keeps tied start tells s r id v (slice_set s.words (index_of start (places.Bundle g)) (bit_or found mask)) r.drafts [] [] give_did (given_view g mask v) (Give id g mask)
@@ -81,7 +81,7 @@ module _ {X B : Type 0} (stored : B → Stored) (keeps : Start → Kept X → Ty
 
 module _ {X B : Type 0} (stored : B → Stored) (keeps : Start → Kept X → Type 0) (tied : Start → ℕ → List ℕ → ℕ → List ℕ → Type 0) (shape : Shape) (tells : Bool) where
   -- so it does of every table that stands
-  pub give-allows : (slots id : ℕ) (me : Me (Option B) (View X)) (g pages frames mask : ℕ) → me.0.live ≡ true → 0 < length me.0.used → g * 64 < shape.frames → pages ≡ shape.pages → frames ≡ shape.frames → MayGive me.0 g mask → mask < 2 ^ 64
+  pub give-allows : (slots id : ℕ) (me : Me (Option B) (View X)) (g pages frames mask : ℕ) → me.0.live ≡ true → 0 < length me.0.used → g * 64 < shape.frames → pages ≡ shape.pages → frames ≡ shape.frames → PassMayGive me.0 g mask → mask < 2 ^ 64
       → Allows (Stands stored keeps tied shape tells) slots id me (bundle-place pages frames g) (λ n. bit_or n mask) (give_play shape tells g mask (step slots (bundle-place pages frames g) mask 0 maybe.none) me)
   give-allows slots id me g pages frames mask live number l p f may small =
       plays-at stored keeps tied shape tells slots id me (bundle-place pages frames g) (λ start. index_of start (places.Bundle g)) (λ n. bit_or n mask) (GiveTold g mask) live

@@ -5,7 +5,7 @@ use Rattle.std.proofs.lemmas.Bool.Decides.{nat_tests}
 use Rattle.vm_core.specs.Fn.{upd}
 use Rattle.vm_core.proofs.Upd.{upd-same, upd-other}
 use Rattle.vm_owner.specs.Numbers.{has, without, AreApart}
-use Rattle.vm_owner.specs.Kept.{Change, pages_of, Agrees, changed}
+use Rattle.vm_owner.specs.Kept.{Change, changed_pages, Agrees, changed}
 pub use Rattle.vm_owner.proofs.NumberLemmas.{has-end, apart-end}
 use Rattle.vm_owner.proofs.NumberLemmas.{has-without, has-without_same, has-without_other}
 use Rattle.vm_rule.specs.Puts.{listed, chosen}
@@ -91,7 +91,7 @@ listed-agrees n f [] e = tt
 listed-agrees n f (c ∷ cs) e = (rw (length-listed n f) e.0.0, page-listed n f c.page e.0.0 ∙ e.0.1, listed-agrees n f cs e.1)
 
 -- the pages after the changes have the new words of each that changes, and the others as before
-pub changed-listed : (n : ℕ) (f g : ℕ → List ℕ) (cs : List Change) → Each (λ c. (c.page < n) × (g c.page ≡ c.new)) cs → ((q : ℕ) → q < n → has q (pages_of cs) ≡ false → g q ≡ f q) → changed cs (listed n f) ≡ listed n g
+pub changed-listed : (n : ℕ) (f g : ℕ → List ℕ) (cs : List Change) → Each (λ c. (c.page < n) × (g c.page ≡ c.new)) cs → ((q : ℕ) → q < n → has q (changed_pages cs) ≡ false → g q ≡ f q) → changed cs (listed n f) ≡ listed n g
 changed-listed n f g [] new old = listed-same n f g (λ q l. sym (old q l refl))
 changed-listed n f g (c ∷ cs) new old =
     ap (changed cs) (sym (listed-upd n f c.page c.new new.0.0))

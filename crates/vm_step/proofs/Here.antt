@@ -30,7 +30,7 @@ use Rattle.vm_rule.specs.Reading.{world_of, last_in}
 use Rattle.vm_rule.specs.Rule.{WasWord, WereWords, TieHolds, began_of, is_pending, Ruled}
 use Rattle.vm_rule.specs.Begun.{HasShape}
 use Rattle.vm_rule.specs.Looks.{IsSince, IsSinceAll, IsOlder}
-use Rattle.vm_rule.specs.Locks.{Validates}
+use Rattle.vm_rule.specs.Locks.{LockValidates}
 use Rattle.vm_rule.proofs.Entries.{append-none, each-map}
 use Rattle.vm_rule.proofs.Found.{seat-here, loads-here, state-here, version-here}
 use Rattle.vm_rule.proofs.Worlds.{last-is}
@@ -150,7 +150,7 @@ module _ {X B : Type 0} (stored : B → Stored) (keeps : Start → Kept X → Ty
           (tied-now stored keeps tied start tells s r law t p p l l stays stays)
 
       -- a lock that is taken on the word validates the open read and the ties
-      pub validates : (p expects : ℕ) → p < start.pages → slice_index s.words p ≡ expects → (world.core.pages p).state ≢ LOCKED → v.start.tells ≡ true → Validates tied p (version_of expects) (last p).words v
+      pub validates : (p expects : ℕ) → p < start.pages → slice_index s.words p ≡ expects → (world.core.pages p).state ≢ LOCKED → v.start.tells ≡ true → LockValidates tied p (version_of expects) (last p).words v
       validates p expects l hit free t' =
           let t : start.tells ≡ true = ap (λ (o : Origin). o.tells) (sym (r.heard id v there live).same_start) ∙ t' in
           let at : (world.core.pages p).version ≡ version_of expects = version-here stored start s p l ∙ ap version_of hit in

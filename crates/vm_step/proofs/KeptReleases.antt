@@ -17,7 +17,7 @@ use Rattle.vm_rule.specs.declared.view.View.{View}
 use Rattle.vm_rule.specs.Layout.{index_of}
 use Rattle.vm_rule.specs.Log.{did_store}
 use Rattle.vm_rule.specs.Views.{seat_of}
-use Rattle.vm_rule.specs.Reading.{core_of, histories_of, last_in, world_of}
+use Rattle.vm_rule.specs.Reading.{core_shown, histories_of, last_in, world_of}
 use Rattle.vm_rule.specs.Rule.{logical, is_pending, began_of, kept_of, Ruled}
 use Rattle.vm_rule.specs.Brought.{entries_of}
 use Rattle.vm_rule.proofs.Adding.{Shows}
@@ -46,7 +46,7 @@ module _ {X B : Type 0} {stored : B → Stored} {keeps : Start → Kept X → Ty
 
   -- a page that was never claimed has logical words of zeros after it
   release-zero : Shows stored keeps tied start tells rel.s rel.r rel.id rel.v (words rel) rel.r.drafts (own rel ∷ []) (entries_of rel.v rel.said) (did_store (places.State rel.p) (word rel)) (inner rel) (event rel)
-      → start.tells ≡ true → (q : ℕ) → (core_of stored start (new rel)).next ≤ q → q < start.pages
+      → start.tells ≡ true → (q : ℕ) → (core_shown stored start (new rel)).next ≤ q → q < start.pages
       → logical (histories_of start (releases rel) rel.r.drafts) (is_pending (slice_set rel.s.views rel.id (left rel))) q ≡ replicate 64 0
   release-zero shows t q le l =
       let h : ℕ → History = histories_of start (releases rel) rel.r.drafts in
@@ -72,7 +72,7 @@ module _ {X B : Type 0} {stored : B → Stored} {keeps : Start → Kept X → Ty
       let same : (left rel).start ≡ start = (rel.r.heard rel.id rel.v rel.there rel.live).same_start in
       let after : World = world_of stored start (releases rel) rel.r.drafts (new rel) in
       let kept : Kept X = kept_of after (rel.r.history ++ entries_of rel.v rel.said) (slice_set rel.s.views rel.id (left rel)) in
-      let free : ((core_of stored start (new rel)).pages rel.p).state ≢ LOCKED = (λ e. left-free rel.way (sym (ap (λ (y : Page). y.state) (page-here rel)) ∙ e)) in
+      let free : ((core_shown stored start (new rel)).pages rel.p).state ≢ LOCKED = (λ e. left-free rel.way (sym (ap (λ (y : Page). y.state) (page-here rel)) ∙ e)) in
       record {
         kept = kept;
         holds = subst (λ (o : Origin). keeps (began_of o) kept) (sym same) (owner telling (rel.r.owner telling));

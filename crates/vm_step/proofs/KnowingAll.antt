@@ -10,7 +10,7 @@ use Rattle.vm_block.specs.declared.stored.Stored.{Stored}
 use Rattle.vm_rule.specs.declared.view.Origin.{Origin}
 use Rattle.vm_rule.specs.declared.view.View.{View}
 use Rattle.vm_rule.specs.Joins.{HoldsNoPage}
-use Rattle.vm_rule.specs.Layout.{words_of}
+use Rattle.vm_rule.specs.Layout.{table_words}
 use Rattle.vm_rule.specs.Views.{IsWhole}
 use Rattle.vm_rule.specs.Reading.{world_of, last_in, last_of}
 use Rattle.vm_rule.specs.Rule.{began_of, Ruled}
@@ -49,7 +49,7 @@ module _ {X B : Type 0} (stored : B → Stored) (keeps : Start → Kept X → Ty
             omega (arith, most, is, stands, here);
         next = λ whole x h.
             let known : KnowsTable stored start r.releases r.history s w = table-known stored keeps tied start tells s r id w (stepped whole) in
-            let most : x ≤ (words_of start s.words).next = found-below world w.log x (r.known id w there live).words h in
-            let is : (kept_by w).next ≡ (words_of start s.words).next = (λ i. (words_of (known.start_known i) (known.words_known i)).next) in
+            let most : x ≤ (table_words start s.words).next = found-below world w.log x (r.known id w there live).words h in
+            let is : (kept_by w).next ≡ (table_words start s.words).next = (λ i. (table_words (known.start_known i) (known.words_known i)).next) in
             omega (arith, most, is);
       }

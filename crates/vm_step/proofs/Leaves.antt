@@ -28,7 +28,7 @@ use Rattle.vm_rule.proofs.Entries.{append-none}
 use Rattle.vm_rule.proofs.Worlds.{last-is, release-else}
 use Rattle.vm_step.specs.Asides.{HoldsPage, IsAside, KnowsAsBefore, StaysAlone}
 use Rattle.vm_step.specs.Passes.{IsSamePass, view}
-use Rattle.vm_step.specs.Works.{Leaves, Works}
+use Rattle.vm_step.specs.Works.{LeavesRest, Works}
 use Rattle.vm_step.specs.Ready.{IsReady}
 use Rattle.vm_step.proofs.Alone.{runs-one, runs-self, runs-then}
 
@@ -37,7 +37,7 @@ starts-then : {A : Type 0} (k l m : List A) → StartsWith l k → StartsWith m 
 starts-then k l m a b = (a.0 ++ b.0, b.1 ∙ ap (λ (t : List _). t ++ b.0) a.1 ∙ append_assoc k a.0 b.0)
 
 module _ {X : Type 0} (p : ℕ) where
-  pub leaves-then : (a b : List Did) (u v w : View X) → Leaves p a u v → Leaves p b v w → Leaves p (a ++ b) u w
+  pub leaves-then : (a b : List Did) (u v w : View X) → LeavesRest p a u v → LeavesRest p b v w → LeavesRest p (a ++ b) u w
   leaves-then a b u v w f g = record {
     log = g.log ∙ ap (λ (t : List Did). t ++ b) f.log ∙ append_assoc u.log a b;
     live = g.live ∙ f.live;
@@ -76,7 +76,7 @@ module _ {X : Type 0} (p : ℕ) where
     last-now : inner.start ≡ v.start → (q : ℕ) → last_of w q ≡ last_in v.start ((v.releases ++ b.between) ++ own) q
     last-now same q = ap (λ (x : View X). last_in x.start x.releases q) b.view ∙ ap (λ s. last_in s ((v.releases ++ b.between) ++ own) q) same
 
-    pub leaves-from : Changes v inner → ((q : ℕ) → q ≢ p → last_in v.start ((v.releases ++ b.between) ++ own) q ≡ last_in v.start (v.releases ++ b.between) q) → Leaves p (did ∷ []) v w
+    pub leaves-from : Changes v inner → ((q : ℕ) → q ≢ p → last_in v.start ((v.releases ++ b.between) ++ own) q ≡ last_in v.start (v.releases ++ b.between) q) → LeavesRest p (did ∷ []) v w
     leaves-from c others = record {
       log = ap (λ (x : View X). x.log) b.view ∙ ap (λ (t : List Did). t ++ did ∷ []) c.log;
       live = ap (λ (x : View X). x.live) b.view ∙ c.live;
@@ -99,14 +99,14 @@ module _ {X : Type 0} (p : ℕ) where
     none-released : (q : ℕ) → last_in v.start ((v.releases ++ b.between) ++ []) q ≡ last_in v.start (v.releases ++ b.between) q
     none-released q = ap (λ (t : List Release). last_in v.start t q) (append-none (v.releases ++ b.between))
 
-    pub leaves-quiet : Changes v inner → Leaves p (did ∷ []) v w
+    pub leaves-quiet : Changes v inner → LeavesRest p (did ∷ []) v w
     leaves-quiet c = leaves-from did block [] entries v inner w b c (λ q ne. none-released q)
 
     pub last-quiet : inner.start ≡ v.start → (q : ℕ) → IsLocking (seat_of v q) → last_of w q ≡ last_of v q
     last-quiet same q l = last-now did block [] entries v inner w b same q ∙ none-released q ∙ b.kept q l
 
   -- a step that releases page p
-  pub leaves-released : (did : Did) (r : Release) (entries : List (Entry X)) (v inner w : View X) (block : Option (ℕ × Stored)) (b : BringsWith did block (r ∷ []) entries v inner w) → r.page ≡ p → Changes v inner → Leaves p (did ∷ []) v w
+  pub leaves-released : (did : Did) (r : Release) (entries : List (Entry X)) (v inner w : View X) (block : Option (ℕ × Stored)) (b : BringsWith did block (r ∷ []) entries v inner w) → r.page ≡ p → Changes v inner → LeavesRest p (did ∷ []) v w
   leaves-released did r entries v inner w block b here c =
       leaves-from did block (r ∷ []) entries v inner w b c
       (λ q ne. last-is v.start ((v.releases ++ b.between) ++ r ∷ []) (λ k. []) q
@@ -116,7 +116,7 @@ module _ {X : Type 0} (p : ℕ) where
   -- ---- the call as a whole
 
   -- all is as it was, but the open read of page p: of that page the call's own part is shown
-  pub aside-of : (done : List Did) (v w : View X) → Leaves p done v w → w.out ≡ v.out → HoldsPage v w p → (IsLocking (seat_of v p) → KnowsAsBefore v w p) → StaysAlone v w → IsAside p done v w
+  pub aside-of : (done : List Did) (v w : View X) → LeavesRest p done v w → w.out ≡ v.out → HoldsPage v w p → (IsLocking (seat_of v p) → KnowsAsBefore v w p) → StaysAlone v w → IsAside p done v w
   aside-of done v w f out holds knows alone = record {
     log = f.log;
     live = f.live;
@@ -215,5 +215,5 @@ module _ {U X : Type 0} {o : _} (shape : Shape) (tells : Bool) (t : TableId) (a 
   }
 
   -- after steps that speak of one page
-  pub ready-after : (p : ℕ) (done : List Did) → IsSamePass a b → Leaves p done (view a) (view b) → IsReady shape tells t a → IsReady shape tells t b
+  pub ready-after : (p : ℕ) (done : List Did) → IsSamePass a b → LeavesRest p done (view a) (view b) → IsReady shape tells t a → IsReady shape tells t b
   ready-after p done same f r = ready-on same f.start f.parts.0 r

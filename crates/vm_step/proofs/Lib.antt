@@ -83,6 +83,7 @@ pub mod MappingEvents
 pub mod Asides
 pub mod Leaves
 pub mod Device
+pub mod DeviceCalls
 pub mod Alone
 pub mod After
 pub mod Tables

@@ -13,7 +13,7 @@ use Rattle.vm_rule.specs.declared.view.Origin.{Origin}
 use Rattle.vm_rule.specs.declared.view.Place.TheVariants as places
 use Rattle.vm_rule.specs.declared.view.View.{View}
 use Rattle.vm_rule.specs.Loads.{TranslationTold, frame_read_by, LoadTold}
-use Rattle.vm_rule.specs.Reading.{core_of}
+use Rattle.vm_rule.specs.Reading.{core_shown}
 use Rattle.vm_rule.proofs.Views.{at-bound}
 use Rattle.vm_rule.proofs.Found.{part-found, translation-here, content-here}
 use Rattle.vm_rule.proofs.Worlds.{tload-step, load-step}
@@ -40,7 +40,7 @@ module _ {X B : Type 0} (stored : B → Stored) (start : Origin) (keeps : Start 
       → IsEvent stored start s (table_after s s.words id w) (Load id p i) (sights.Word found)
   load_event s id p f i found v w pass finds l by told =
       let view = told.brings.view in
-      let c : State = core_of stored start s in
+      let c : State = core_shown stored start s in
       let reads : load_frame (c.pages p) id ≡ Some f = reads-known stored start s id p v l pass.there ((pass.rule.known id v pass.there pass.live).knows p) ∙ by in
       record {
         legal = record { names = record { actor = at-bound s.views id v pass.there; page = l }; place = finds.0.1; frame = subst IsSome (sym reads) refl };

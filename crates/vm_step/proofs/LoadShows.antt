@@ -18,7 +18,7 @@ use Rattle.vm_rule.specs.declared.view.Place.TheVariants as places
 use Rattle.vm_rule.specs.declared.view.View.{View}
 use Rattle.vm_rule.specs.Puts.{put_at}
 use Rattle.vm_rule.specs.Views.{IsLocking, seat_of, draft_of}
-use Rattle.vm_rule.specs.Reading.{core_of, world_of, last_of}
+use Rattle.vm_rule.specs.Reading.{core_shown, world_of, last_of}
 use Rattle.vm_rule.specs.Rule.{KnowsPages, no_held, is_pending, Ruled}
 use Rattle.vm_rule.specs.Brought.{Brings}
 use Rattle.vm_rule.specs.Log.{did_load}
@@ -47,7 +47,7 @@ module _ {X B : Type 0} (stored : B → Stored) (keeps : Start → Kept X → Ty
 
   module _ (there : get_elem? s.views id ≡ some v) (live : v.live ≡ true) (l : p < start.pages) (lf : f < start.frames) (li : i < 64) (by : frame_read_by v p ≡ Some f) where
     abbrev core : State
-    core = core_of stored start s
+    core = core_shown stored start s
 
     abbrev known : KnowsPages tied start (world_of stored start r.releases r.drafts s) (is_pending s.views) v
     known = r.known id v there live

@@ -8,7 +8,7 @@ use Rattle.vm_core.specs.declared.event.Seen.{Seen}
 use Rattle.vm_core.specs.declared.event.Seen.TheVariants as sights
 use Rattle.vm_core.specs.Words.{state_of, version_of, word_of, LOCKED}
 use Rattle.vm_core.specs.State.{Page}
-use Rattle.vm_core.specs.StateActs.{MayLock, MayShare, one_more, finds, page_word}
+use Rattle.vm_core.specs.StateActs.{MayLock, MayShare, one_share_more, finds, page_word}
 use Rattle.vm_core.specs.PageStep.{exchange_seen}
 use Rattle.vm_core.specs.History.{World}
 use Rattle.vm_owner.specs.Kept.{Start, Kept}
@@ -17,7 +17,7 @@ use Rattle.vm_rule.specs.declared.view.Did.{Did}
 use Rattle.vm_rule.specs.declared.view.Origin.{Origin}
 use Rattle.vm_rule.specs.declared.view.Place.TheVariants as places
 use Rattle.vm_rule.specs.declared.view.View.{View}
-use Rattle.vm_rule.specs.Reading.{core_of, last_of}
+use Rattle.vm_rule.specs.Reading.{core_shown, last_of}
 use Rattle.vm_rule.specs.Brought.{Brings}
 use Rattle.vm_rule.specs.Locks.{LockTold, ShareTold, UnshareTold}
 use Rattle.vm_rule.proofs.Found.{same-word, word-here, state-here, version-here}
@@ -40,10 +40,10 @@ module _ {X B : Type 0} (stored : B → Stored) (start : Origin) (keeps : Start 
       → IsExchange stored start s [] (λ _. []) id p expects x drafts inner e z → Brings did [] [] v (if eqb found expects then inner else v) w
       → IsEvent stored start s (table_after s (exchanged s.words p expects found x) id w) e (exchange_sees expects found)
   exchange-event expects found x drafts did v inner w e z pass at event brings =
-      let y : Page = (core_of stored start s).pages p in
+      let y : Page = (core_shown stored start s).pages p in
       let word : page_word y ≡ found = word-here stored start s p at.0 ∙ sym at.1 in
-      let as-is : (b : Bool) → eqb found expects ≡ b → core_of stored start (table_after s (exchanged s.words p expects found x) id w) ≡ core_of stored start (table_after s (slice_set s.words p (if b then x else found)) id w) =
-      (λ b is. ap (λ k. core_of stored start (table_after s (slice_set s.words p (if k then x else found)) id w)) is) in
+      let as-is : (b : Bool) → eqb found expects ≡ b → core_shown stored start (table_after s (exchanged s.words p expects found x) id w) ≡ core_shown stored start (table_after s (slice_set s.words p (if b then x else found)) id w) =
+      (λ b is. ap (λ k. core_shown stored start (table_after s (slice_set s.words p (if k then x else found)) id w)) is) in
       ⊎_elim
       (λ hit.
       let is : eqb found expects ≡ true = eq-eqb found expects hit in
@@ -68,7 +68,7 @@ module _ {X B : Type 0} (stored : B → Stored) (start : Origin) (keeps : Start 
       record {
         legal = event.legal;
         core = as-is false is
-            ∙ ap (λ l. core_of stored start (table_after s l id w)) still
+            ∙ ap (λ l. core_shown stored start (table_after s l id w)) still
             ∙ core-still stored start s id v w pass.there
             (ap (λ (k : View X). k.out) brings.view ∙ ap (λ (k : View X). k.out) view)
             (ap (λ (k : View X). k.frames) brings.view ∙ ap (λ (k : View X). k.frames) view)
@@ -84,7 +84,7 @@ module _ {X B : Type 0} (stored : B → Stored) (start : Origin) (keeps : Start 
       exchange-event expects found _ _ _ v _ w _ _ pass at (lockx-exchange stored start s [] (λ _. []) id v p expects pass.rule.wide.0 at.0 pass.there may told.held (last_of w p).words) told.brings
 
   pub lock_shared_event : (expects found : ℕ) (v w : View X) → IsPassOf stored start keeps tied tells s id v → FindsAt start s (places.State p) found → MayShare expects → ShareTold tied p expects found v w
-      → IsEvent stored start s (table_after s (exchanged s.words p expects found (word_of (one_more (state_of expects)) (version_of expects))) id w) (LockS id p expects) (exchange_sees expects found)
+      → IsEvent stored start s (table_after s (exchanged s.words p expects found (word_of (one_share_more (state_of expects)) (version_of expects))) id w) (LockS id p expects) (exchange_sees expects found)
   lock_shared_event expects found v w pass at may told =
       exchange-event expects found _ _ _ v _ w _ _ pass at (locks-exchange stored start s [] (λ _. []) id v p expects pass.rule.wide.0 at.0 pass.there may told.held) told.brings
 

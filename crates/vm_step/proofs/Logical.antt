@@ -10,7 +10,7 @@ use Rattle.vm_block.specs.declared.stored.Stored.{Stored}
 use Rattle.vm_rule.specs.declared.view.Origin.{Origin}
 use Rattle.vm_rule.specs.declared.view.View.{View}
 use Rattle.vm_rule.specs.Puts.{listed}
-use Rattle.vm_rule.specs.Reading.{core_of, world_of}
+use Rattle.vm_rule.specs.Reading.{core_shown, world_of}
 use Rattle.vm_rule.specs.Rule.{logical, is_pending, began_of, kept_of, Ruled}
 use Rattle.vm_rule.proofs.Facts.{locked-here, pending-held}
 
@@ -44,7 +44,7 @@ logical-same h h' members members' q same draft last =
 
 module _ {X B : Type 0} (stored : B → Stored) (keeps : Start → Kept X → Type 0) (tied : Start → ℕ → List ℕ → ℕ → List ℕ → Type 0) (start : Origin) (tells : Bool) (s : Table (Option B) (View X)) (r : Ruled stored keeps tied start tells s) where
   -- a page that is not locked is no member still to be released
-  pub not-pending : (p : ℕ) → p < start.pages → ((core_of stored start s).pages p).state ≢ LOCKED → is_pending s.views p ≡ false
+  pub not-pending : (p : ℕ) → p < start.pages → ((core_shown stored start s).pages p).state ≢ LOCKED → is_pending s.views p ≡ false
   not-pending p l free =
       ⊎_elim
       (λ t. let k = pending-held stored start keeps tied tells s r p t in absurd (free (locked-here stored start s k.0 p k.1 (r.inv.pages p).locks l k.2 k.3)))

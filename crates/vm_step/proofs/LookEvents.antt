@@ -14,7 +14,7 @@ use Rattle.vm_rule.specs.declared.view.Place.TheVariants as places
 use Rattle.vm_rule.specs.declared.view.View.{View}
 use Rattle.vm_rule.specs.Looks.{LookTold, left_at}
 use Rattle.vm_rule.specs.Views.{seat_of}
-use Rattle.vm_rule.specs.Reading.{core_of}
+use Rattle.vm_rule.specs.Reading.{core_shown}
 use Rattle.vm_rule.proofs.Views.{at-bound}
 use Rattle.vm_rule.proofs.Found.{state-here, version-here, word-here, seat-here}
 use Rattle.vm_rule.proofs.Worlds.{look-step}
@@ -24,7 +24,7 @@ module _ {X B : Type 0} (stored : B → Stored) (start : Origin) (keeps : Start 
   pub look_event : (s : Table (Option B) (View X)) (id p found : ℕ) (said : Option X) (v w : View X) → IsPassOf stored start keeps tied tells s id v → FindsAt start s (places.State p) found → LookTold tied p said found v w
       → IsEvent stored start s (table_after s s.words id w) (Look id p) (sights.Look found (left_at found (seat_of v p).reading))
   look_event s id p found said v w pass finds told =
-      let page : Page = (core_of stored start s).pages p in
+      let page : Page = (core_shown stored start s).pages p in
       let view = told.brings.view in
       let state : state_of found ≡ page.state = ap state_of finds.1 ∙ sym (state-here stored start s p finds.0) in
       let version : version_of found ≡ page.version = ap version_of finds.1 ∙ sym (version-here stored start s p finds.0) in

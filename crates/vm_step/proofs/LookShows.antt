@@ -25,7 +25,7 @@ use Rattle.vm_rule.specs.declared.view.Place.TheVariants as places
 use Rattle.vm_rule.specs.declared.view.View.{View}
 use Rattle.vm_rule.specs.Puts.{put_at, listed, chosen}
 use Rattle.vm_rule.specs.Views.{Each, seat_of, may_call}
-use Rattle.vm_rule.specs.Reading.{core_of, world_of, histories_of, last_in}
+use Rattle.vm_rule.specs.Reading.{core_shown, world_of, histories_of, last_in}
 use Rattle.vm_rule.specs.Rule.{KnowsPage, no_held, is_pending, is_owed, logical, began_of, KnowsPages, TieHolds, Ruled}
 use Rattle.vm_rule.specs.Brought.{entries_of}
 use Rattle.vm_rule.specs.Log.{did_load}
@@ -69,10 +69,10 @@ module _ {X B : Type 0} (stored : B → Stored) (keeps : Start → Kept X → Ty
     world-looked : world_of stored start (r.releases ++ []) r.drafts (became stored keeps tied start tells s s.words id look-after) ≡ world_after look-before (Look id p)
     world-looked =
         ap (λ rs. world_of stored start rs r.drafts (became stored keeps tied start tells s s.words id look-after)) (append-none r.releases)
-        ∙ look-step stored start s r.releases r.drafts id v look-after p (record ((core_of stored start s).pages p) { state = state_of (slice_index s.words p); version = version_of (slice_index s.words p) }) l there refl refl
+        ∙ look-step stored start s r.releases r.drafts id v look-after p (record ((core_shown stored start s).pages p) { state = state_of (slice_index s.words p); version = version_of (slice_index s.words p) }) l there refl refl
         (sym (state-here stored start s p l)) (sym (version-here stored start s p l)) refl refl
 
-    core-looked : core_of stored start (became stored keeps tied start tells s s.words id look-after) ≡ (world_after look-before (Look id p)).core
+    core-looked : core_shown stored start (became stored keeps tied start tells s s.words id look-after) ≡ (world_after look-before (Look id p)).core
     core-looked = ap (λ (w : World). w.core) world-looked
 
     pub pending-looked : is_pending (slice_set s.views id look-after) ≡ is_pending s.views
@@ -91,7 +91,7 @@ module _ {X B : Type 0} (stored : B → Stored) (keeps : Start → Kept X → Ty
     same-calls : (q : ℕ) → may_call (seat_of look-inner q) ≡ may_call (seat_of v q)
     same-calls q = upd-keeps may_call (put_at no_seat v.seats) p (record (seat_of v p) { reading = open_after look-left (seat_of v p).reading (version_of (slice_index s.words p)) }) refl q
 
-    look-knows : (q : ℕ) → KnowsPage (seat_of look-inner q) (put_at no_held look-inner.held q) ((core_of stored start (became stored keeps tied start tells s s.words id look-after)).pages q)
+    look-knows : (q : ℕ) → KnowsPage (seat_of look-inner q) (put_at no_held look-inner.held q) ((core_shown stored start (became stored keeps tied start tells s s.words id look-after)).pages q)
     look-knows q =
         let k : KnowsPages tied start look-before (is_pending s.views) v = r.known id v there live in
         subst (λ (c : State). KnowsPage (seat_of look-inner q) (put_at no_held v.held q) (c.pages q)) (sym core-looked)

@@ -20,7 +20,7 @@ use Rattle.vm_rule.specs.declared.view.Shape.{Shape}
 use Rattle.vm_rule.specs.declared.view.View.{View}
 use Rattle.vm_rule.specs.Views.{view_of}
 use Rattle.vm_rule.specs.Layout.{index_of}
-use Rattle.vm_rule.specs.Reading.{core_of}
+use Rattle.vm_rule.specs.Reading.{core_shown}
 use Rattle.vm_rule.specs.Rule.{Ruled}
 use Rattle.vm_rule.specs.Begun.{HasShape, Stands}
 use Rattle.vm_rule.specs.Sound.{Sound}
@@ -64,7 +64,7 @@ module _ {X B : Type 0} (stored : B → Stored) (keeps : Start → Kept X → Ty
 
     clear-keeps : (f : ℕ) → StandsClean v p f → Keeps start s id v p None (λ v w. (g : ℕ) → StandsClean v p g → ClearTold p g v w)
     clear-keeps f stands =
-        mapping-keeps None (cleared_view p f ((core_of stored start s).words f) v) (Clear id p) (λ v w. (g : ℕ) → StandsClean v p g → ClearTold p g v w) refl (clear-shows stored keeps tied start tells s r id v p there live f stands)
+        mapping-keeps None (cleared_view p f ((core_shown stored start s).words f) v) (Clear id p) (λ v w. (g : ℕ) → StandsClean v p g → ClearTold p g v w) refl (clear-shows stored keeps tied start tells s r id v p there live f stands)
         (clear-told stored keeps tied start tells s r id v p there live f stands)
 
     dirty-keeps : (f : ℕ) → StandsIn v p f → Keeps start s id v p (Some (dirty_in f)) (DirtyTold p f)

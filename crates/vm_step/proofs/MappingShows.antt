@@ -24,7 +24,7 @@ use Rattle.vm_rule.specs.declared.view.View.{View}
 use Rattle.vm_rule.specs.Puts.{put_at}
 use Rattle.vm_rule.specs.Layout.{index_of}
 use Rattle.vm_rule.specs.Views.{seat_of}
-use Rattle.vm_rule.specs.Reading.{core_of, world_of}
+use Rattle.vm_rule.specs.Reading.{core_shown, world_of}
 use Rattle.vm_rule.specs.Rule.{KnowsPage, KnowsPages, no_held, is_pending, Ruled}
 use Rattle.vm_rule.specs.Log.{did_store}
 use Rattle.vm_rule.specs.Mappings.{held_at, mapped}
@@ -45,7 +45,7 @@ same-frame m n e = ap (λ (y : Mapping). y.frame) (some-same m n e)
 
 module _ {X B : Type 0} (stored : B → Stored) (keeps : Start → Kept X → Type 0) (tied : Start → ℕ → List ℕ → ℕ → List ℕ → Type 0) (start : Origin) (tells : Bool) (s : Table (Option B) (View X)) (r : Ruled stored keeps tied start tells s) (id : ℕ) (v : View X) (p : ℕ) where
   abbrev pub core : State
-  core = core_of stored start s
+  core = core_shown stored start s
 
   abbrev pub old : World
   old = world_of stored start r.releases r.drafts s

@@ -15,26 +15,26 @@ use Rattle.vm_rule.specs.declared.view.Origin.{Origin}
 use Rattle.vm_rule.specs.declared.view.View.{View}
 use Rattle.vm_rule.specs.Puts.{put_at}
 use Rattle.vm_rule.specs.Views.{any, seat_of, may_call, spent}
-use Rattle.vm_rule.specs.Reading.{pages_from, core_of}
+use Rattle.vm_rule.specs.Reading.{pages_from, core_shown}
 use Rattle.vm_rule.specs.Rule.{no_held, is_pending, is_owed, Ruled}
 use Rattle.vm_rule.proofs.Facts.{any-true, caller-here}
 
 module _ {X B : Type 0} (stored : B → Stored) (keeps : Start → Kept X → Type 0) (tied : Start → ℕ → List ℕ → ℕ → List ℕ → Type 0) (start : Origin) (tells : Bool) (s : Table (Option B) (View X)) (r : Ruled stored keeps tied start tells s) (id : ℕ) (v : View X) (there : get_elem? s.views id ≡ some v) (live : v.live ≡ true) where
   -- past the last page stands a page that is always the same
-  outside : (p : ℕ) → start.pages ≤ p → (core_of stored start s).pages p ≡ outside_page
+  outside : (p : ℕ) → start.pages ≤ p → (core_shown stored start s).pages p ≡ outside_page
   unfolding pages_from
   outside p le = rw (le-ltb p start.pages le) refl
 
   -- a page whose device the pass may call, and that it knows to stand in a frame, is one of the table's, and stands there
-  pub stands-called : (p : ℕ) (m : Mapping) → may_call (seat_of v p) ≡ true → (put_at no_held v.held p).mapping ≡ Some m → (p < start.pages) × (((core_of stored start s).pages p).trans ≡ Some m)
+  pub stands-called : (p : ℕ) (m : Mapping) → may_call (seat_of v p) ≡ true → (put_at no_held v.held p).mapping ≡ Some m → (p < start.pages) × (((core_shown stored start s).pages p).trans ≡ Some m)
   stands-called p m calls at =
-      let is : ((core_of stored start s).pages p).trans ≡ Some m = sym (((r.known id v there live).knows p).calls calls).0 ∙ at in (
+      let is : ((core_shown stored start s).pages p).trans ≡ Some m = sym (((r.known id v there live).knows p).calls calls).0 ∙ at in (
         ⊎_elim (λ l. l) (λ le. absurd (let none : None ≡ Some m = sym (ap (λ (y : Page). y.trans) (outside p le)) ∙ is in cc)) (cases_lt p start.pages),
         is,
       )
 
   -- and so of a page that it holds exclusively
-  pub stands-known : (p : ℕ) (m : Mapping) → (seat_of v p).exclusive ≡ true → (put_at no_held v.held p).mapping ≡ Some m → (p < start.pages) × (((core_of stored start s).pages p).trans ≡ Some m)
+  pub stands-known : (p : ℕ) (m : Mapping) → (seat_of v p).exclusive ≡ true → (put_at no_held v.held p).mapping ≡ Some m → (p < start.pages) × (((core_shown stored start s).pages p).trans ≡ Some m)
   stands-known p m owns at = stands-called p m (rw owns refl) at
 
   -- where a view says so only of a page that it holds exclusively, and some view says it of this page, it is the pass's

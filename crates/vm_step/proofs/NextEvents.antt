@@ -16,13 +16,13 @@ use Rattle.vm_rule.specs.declared.view.View.{View}
 use Rattle.vm_rule.specs.Hearing.{TakesOver}
 use Rattle.vm_rule.specs.Joins.{CaughtUp}
 use Rattle.vm_rule.specs.Layout.{index_of}
-use Rattle.vm_rule.specs.Reading.{core_of, world_of}
+use Rattle.vm_rule.specs.Reading.{core_shown, world_of}
 use Rattle.vm_rule.specs.Nexts.{NextTold, ClaimTold, claimed_view}
 use Rattle.vm_rule.proofs.Found.{same-word, next-here}
 use Rattle.vm_rule.proofs.FrameWorlds.{claim-step, lost-claim}
 use Rattle.vm_rule.proofs.Views.{at-bound}
 use Rattle.vm_rule.proofs.Worlds.{core-still}
-use Rattle.vm_step.specs.Conditions.{MayClaim}
+use Rattle.vm_step.specs.Conditions.{PassMayClaim}
 use Rattle.vm_step.specs.Events.{FindsAt, IsEvent, IsPassOf, exchange_sees, exchanged, table_after}
 use Rattle.vm_step.proofs.ClaimAllows.{claim-legal}
 
@@ -51,16 +51,16 @@ module _ {X B : Type 0} (stored : B → Stored) (start : Origin) (keeps : Start 
   follow_event v w f pass at = load_event f.found v w pass at (ap (λ (y : View X). y.out) f.view) (ap (λ (y : View X). y.frames) f.view) (ap (λ (y : View X). y.seats) f.view)
 
   -- a claim sees whether the word was the one expected, and the word where it was not
-  pub claim_event : (x n found : ℕ) (v w : View X) → IsPassOf stored start keeps tied tells s id v → FindsAt start s places.Next found → MayClaim v x n → ClaimTold x n found v w
+  pub claim_event : (x n found : ℕ) (v w : View X) → IsPassOf stored start keeps tied tells s id v → FindsAt start s places.Next found → PassMayClaim v x n → ClaimTold x n found v w
       → IsEvent stored start s (table_after s (exchanged s.words (index_of start places.Next) x found (x + n)) id w) (Claim id x n) (exchange_sees x found)
   claim_event x n found v w pass at may told =
-      let c : State = core_of stored start s in
+      let c : State = core_shown stored start s in
       let i : ℕ = index_of start places.Next in
       let inner : View X = claimed_view x n v in
       let word : c.next ≡ found = next-here stored start s ∙ sym at.1 in
       let legal = claim-legal stored keeps tied start tells s pass.rule id v pass.there pass.live x n may in
-      let as-is : (b : Bool) → eqb found x ≡ b → core_of stored start (table_after s (exchanged s.words i x found (x + n)) id w) ≡ core_of stored start (table_after s (slice_set s.words i (if b then x + n else found)) id w) =
-      (λ b is. ap (λ k. core_of stored start (table_after s (slice_set s.words i (if k then x + n else found)) id w)) is) in
+      let as-is : (b : Bool) → eqb found x ≡ b → core_shown stored start (table_after s (exchanged s.words i x found (x + n)) id w) ≡ core_shown stored start (table_after s (slice_set s.words i (if b then x + n else found)) id w) =
+      (λ b is. ap (λ k. core_shown stored start (table_after s (slice_set s.words i (if k then x + n else found)) id w)) is) in
       let seen-as : (if eqb c.next x then sights.Taken else sights.Lost c.next) ≡ exchange_sees x found = ap {B = Seen} (λ n. if eqb n x then sights.Taken else sights.Lost n) word in
       ⊎_elim
       (λ hit.
@@ -87,7 +87,7 @@ module _ {X B : Type 0} (stored : B → Stored) (start : Origin) (keeps : Start 
       record {
         legal = legal;
         core = as-is false is
-            ∙ ap (λ l. core_of stored start (table_after s l id w)) (ap (slice_set s.words i) at.1 ∙ same-word s.words i)
+            ∙ ap (λ l. core_shown stored start (table_after s l id w)) (ap (slice_set s.words i) at.1 ∙ same-word s.words i)
             ∙ core-still stored start s id v w pass.there
             (ap (λ (y : View X). y.out) view ∙ ap (λ (y : View X). y.out) mine)
             (ap (λ (y : View X). y.frames) view ∙ ap (λ (y : View X). y.frames) mine)

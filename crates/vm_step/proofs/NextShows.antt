@@ -17,7 +17,7 @@ use Rattle.vm_rule.specs.declared.view.View.{View}
 use Rattle.vm_rule.specs.Puts.{put_at, listed, chosen}
 use Rattle.vm_rule.specs.Layout.{Within, index_of, width}
 use Rattle.vm_rule.specs.Views.{seat_of}
-use Rattle.vm_rule.specs.Reading.{core_of, world_of, histories_of}
+use Rattle.vm_rule.specs.Reading.{core_shown, world_of, histories_of}
 use Rattle.vm_rule.specs.Rule.{KnowsPage, KnowsPages, no_held, began_of, logical, is_pending, is_owed, kept_of, ArePlain, Ruled}
 use Rattle.vm_rule.specs.Brought.{IsFoundAt}
 use Rattle.vm_rule.proofs.Entries.{append-none}
@@ -59,10 +59,10 @@ module _ {X B : Type 0} (stored : B → Stored) (keeps : Start → Kept X → Ty
     world-told : world_of stored start (r.releases ++ []) r.drafts new ≡ world_after old e
     world-told = ap (λ l. world_of stored start l r.drafts new) (append-none r.releases) ∙ sh.world
 
-    pages-told : (core_of stored start new).pages ≡ old.core.pages
+    pages-told : (core_shown stored start new).pages ≡ old.core.pages
     pages-told = ap (λ (w : World). w.core.pages) sh.world ∙ sh.pages
 
-    next-told : (core_of stored start new).next ≡ (world_after old e).core.next
+    next-told : (core_shown stored start new).next ≡ (world_after old e).core.next
     next-told = ap (λ (w : World). w.core.next) sh.world
 
     pending-told : is_pending (slice_set s.views id after) ≡ is_pending s.views
@@ -77,7 +77,7 @@ module _ {X B : Type 0} (stored : B → Stored) (keeps : Start → Kept X → Ty
       history = append-none r.history i;
     }
 
-    past : (q : ℕ) → (core_of stored start new).next ≤ q → old.core.next ≤ q
+    past : (q : ℕ) → (core_shown stored start new).next ≤ q → old.core.next ≤ q
     past q le = let up = sh.up in let same = next-told in omega (arith, up, same, le)
 
     pub next-shows : Shows stored keeps tied start tells s r id v words r.drafts [] [] did inner e

@@ -17,7 +17,7 @@ use Rattle.vm_rule.specs.Begun.{HasShape}
 use Rattle.vm_rule.specs.Layout.{index_of, bundles_of, at_next}
 use Rattle.vm_rule.specs.Brought.{Brings}
 use Rattle.vm_rule.specs.Nexts.{IsLatest, NextStepTold}
-use Rattle.vm_rule.specs.Reading.{core_of, last_in}
+use Rattle.vm_rule.specs.Reading.{core_shown, last_in}
 use Rattle.vm_rule.specs.Rule.{WasNext, WereWords, Ruled}
 use Rattle.vm_rule.proofs.Entries.{each-map}
 use Rattle.vm_rule.proofs.Found.{next-here}

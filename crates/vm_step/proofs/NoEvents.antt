@@ -19,9 +19,9 @@ use Rattle.vm_rule.specs.declared.view.Origin.{Origin}
 use Rattle.vm_rule.specs.declared.view.View.{View}
 use Rattle.vm_rule.specs.Hearing.{OnlyKnows, hearer}
 use Rattle.vm_rule.specs.Joins.{HoldsNoPage, joined}
-use Rattle.vm_rule.specs.Layout.{words_of}
+use Rattle.vm_rule.specs.Layout.{table_words}
 use Rattle.vm_rule.specs.Views.{spent, seat_of, loads_at}
-use Rattle.vm_rule.specs.Reading.{page_from, pages_from, seats_of, loads_of, held_of, block_of, core_of, histories_of, world_of}
+use Rattle.vm_rule.specs.Reading.{page_from, pages_from, seats_of, loads_of, frames_held, block_of, core_shown, histories_of, world_of}
 use Rattle.vm_rule.specs.Rule.{HoldsNothing, Ruled}
 use Rattle.vm_rule.proofs.Views.{at-there, block-same}
 use Rattle.vm_rule.proofs.Pages.{page-in, page-out}
@@ -64,7 +64,7 @@ module _ {X B : Type 0} (stored : B → Stored) (keeps : Start → Kept X → Ty
     seats-same : seats_of views' ≡ seats_of s.views
     seats-same = fun_ext (λ p. fun_ext (λ a. same-field s.views id part v is.there (λ y. seat_of y p) refl refl a))
 
-    held-same : held_of views' ≡ held_of s.views
+    held-same : frames_held views' ≡ frames_held s.views
     held-same = fun_ext (λ a. fun_ext (λ f. same-field s.views id part v is.there (λ y. has f y.frames) refl refl a))
 
     loads-same : loads_of views' ≡ loads_of s.views
@@ -72,9 +72,9 @@ module _ {X B : Type 0} (stored : B → Stored) (keeps : Start → Kept X → Ty
 
     split-world : world_of stored start r.releases r.drafts late ≡ with_actor before
     split-world i = record {
-      core = record (core_of stored start s) {
+      core = record (core_shown stored start s) {
         shape = record { pages = start.pages; frames = start.frames; actors = one-more i; next = start.next };
-        pages = pages_from start.pages (words_of start s.words) (blocks-same i) (seats-same i);
+        pages = pages_from start.pages (table_words start s.words) (blocks-same i) (seats-same i);
         held = held-same i;
       };
       histories = histories_of start r.releases r.drafts;
@@ -85,8 +85,8 @@ module _ {X B : Type 0} (stored : B → Stored) (keeps : Start → Kept X → Ty
     none-past : HasNone before (length s.views)
     none-past = record {
       seats = λ p. ⊎_elim
-          (λ l. ap (λ (y : Page). y.seats (length s.views)) (page-in start.pages (words_of start s.words) (block_of stored s.homes s.views) (seats_of s.views) p l) ∙ ap (λ (y : View X). seat_of y p) (at-past spent s.views (length s.views) (omega arith)))
-          (λ le. ap (λ (y : Page). y.seats (length s.views)) (page-out start.pages (words_of start s.words) (block_of stored s.homes s.views) (seats_of s.views) p le))
+          (λ l. ap (λ (y : Page). y.seats (length s.views)) (page-in start.pages (table_words start s.words) (block_of stored s.homes s.views) (seats_of s.views) p l) ∙ ap (λ (y : View X). seat_of y p) (at-past spent s.views (length s.views) (omega arith)))
+          (λ le. ap (λ (y : Page). y.seats (length s.views)) (page-out start.pages (table_words start s.words) (block_of stored s.homes s.views) (seats_of s.views) p le))
           (cases_lt p start.pages);
       held = λ f. ap (λ (y : View X). has f y.frames) (at-past spent s.views (length s.views) (omega arith));
       loads = λ p. ap (λ (y : View X). loads_at y p) (at-past spent s.views (length s.views) (omega arith));
@@ -139,42 +139,42 @@ module _ {X B : Type 0} (stored : B → Stored) (keeps : Start → Kept X → Ty
         block-same stored s.homes (slice_set s.views id took) other w spent (once-second s.views id other v w took spent is.there apart at-other) (sym goes)
         ∙ block-same stored s.homes s.views id v took is.there stays
 
-    pages-taken : pages_from start.pages (words_of start s.words) (block_of stored s.homes both') (seats_of both') ≡ (λ p. record (before.core.pages p) { seats = upd (before.core.pages p).seats other no_seat })
+    pages-taken : pages_from start.pages (table_words start s.words) (block_of stored s.homes both') (seats_of both') ≡ (λ p. record (before.core.pages p) { seats = upd (before.core.pages p).seats other no_seat })
     pages-taken = fun_ext (λ p. ⊎_elim
         (λ l.
-        page-in start.pages (words_of start s.words) (block_of stored s.homes both') (seats_of both') p l
-        ∙ (λ i. record (page_from (words_of start s.words) (blocks-stay i) (seats_of s.views) p) { seats = field-taken (λ y. seat_of y p) no_seat refl (seats p) i })
-        ∙ sym (ap (λ (y : Page). record y { seats = upd y.seats other no_seat }) (page-in start.pages (words_of start s.words) (block_of stored s.homes s.views) (seats_of s.views) p l)))
+        page-in start.pages (table_words start s.words) (block_of stored s.homes both') (seats_of both') p l
+        ∙ (λ i. record (page_from (table_words start s.words) (blocks-stay i) (seats_of s.views) p) { seats = field-taken (λ y. seat_of y p) no_seat refl (seats p) i })
+        ∙ sym (ap (λ (y : Page). record y { seats = upd y.seats other no_seat }) (page-in start.pages (table_words start s.words) (block_of stored s.homes s.views) (seats_of s.views) p l)))
         (λ le.
-        page-out start.pages (words_of start s.words) (block_of stored s.homes both') (seats_of both') p le
-        ∙ sym (ap (λ (y : Page). record y { seats = upd y.seats other no_seat }) (page-out start.pages (words_of start s.words) (block_of stored s.homes s.views) (seats_of s.views) p le) ∙ (λ i. record outside_page { seats = none-still other i })))
+        page-out start.pages (table_words start s.words) (block_of stored s.homes both') (seats_of both') p le
+        ∙ sym (ap (λ (y : Page). record y { seats = upd y.seats other no_seat }) (page-out start.pages (table_words start s.words) (block_of stored s.homes s.views) (seats_of s.views) p le) ∙ (λ i. record outside_page { seats = none-still other i })))
         (cases_lt p start.pages))
 
     -- the frames of both, and none
     abbrev two : ℕ → Bool
-    two f = held_of s.views other f || held_of s.views id f
+    two f = frames_held s.views other f || frames_held s.views id f
 
     abbrev none : ℕ → Bool
     none f = false
 
-    held-taken : held_of both' ≡ upd (upd (held_of s.views) id (λ f. held_of s.views other f || held_of s.views id f)) other (λ f. false)
+    held-taken : frames_held both' ≡ upd (upd (frames_held s.views) id (λ f. frames_held s.views other f || frames_held s.views id f)) other (λ f. false)
     held-taken = fun_ext (λ a. ⊎_elim
         (λ (e : a ≡ other).
-        ap (held_of both') e
+        ap (frames_held both') e
         ∙ ap (λ (y : View X). (λ f. has f y.frames)) gone
-        ∙ sym (ap (upd (upd (held_of s.views) id two) other none) e ∙ upd-same (upd (held_of s.views) id two) other none))
+        ∙ sym (ap (upd (upd (frames_held s.views) id two) other none) e ∙ upd-same (upd (frames_held s.views) id two) other none))
         (λ (m : a ≢ other).
         ⊎_elim
         (λ (e : a ≡ id).
-        ap (held_of both') e
+        ap (frames_held both') e
         ∙ ap (λ (y : View X). (λ f. has f y.frames)) here
         ∙ fun_ext (λ f. frames f ∙ (λ i. has f (sym (at-there spent s.views other w at-other) i).frames || has f (sym (at-there spent s.views id v is.there) i).frames))
-        ∙ sym (ap (upd (held_of s.views) id two) e ∙ upd-same (held_of s.views) id two))
+        ∙ sym (ap (upd (frames_held s.views) id two) e ∙ upd-same (frames_held s.views) id two))
         (λ (n : a ≢ id).
         ap (λ (y : View X). (λ f. has f y.frames)) (neither a n m)
-        ∙ sym (upd-other (held_of s.views) id two a n))
+        ∙ sym (upd-other (frames_held s.views) id two a n))
         (cases_eq a id)
-        ∙ sym (upd-other (upd (held_of s.views) id two) other none a m))
+        ∙ sym (upd-other (upd (frames_held s.views) id two) other none a m))
         (cases_eq a other))
 
     loads-taken : loads_of both' ≡ (λ p. upd (loads_of s.views p) other [])
@@ -182,7 +182,7 @@ module _ {X B : Type 0} (stored : B → Stored) (keeps : Start → Kept X → Ty
 
     taken-world : world_of stored start r.releases r.drafts (record { words = s.words; homes = s.homes; views = both' }) ≡ taken_in id other before
     taken-world i = record {
-      core = record (core_of stored start s) {
+      core = record (core_shown stored start s) {
         shape = record { pages = start.pages; frames = start.frames; actors = (length-set (slice_set s.views id took) other spent ∙ length-set s.views id took) i; next = start.next };
         pages = pages-taken i;
         held = held-taken i;

@@ -15,7 +15,7 @@ use Rattle.vm_rule.specs.declared.view.Origin.{Origin}
 use Rattle.vm_rule.specs.declared.view.Put.{Put}
 use Rattle.vm_rule.specs.declared.view.View.{View}
 use Rattle.vm_rule.specs.Puts.{put_at}
-use Rattle.vm_rule.specs.Layout.{Within, index_of, words_of, written}
+use Rattle.vm_rule.specs.Layout.{Within, index_of, table_words, with_word}
 use Rattle.vm_rule.specs.Views.{seat_of}
 use Rattle.vm_rule.specs.Reading.{world_of}
 use Rattle.vm_rule.specs.Rule.{KnowsPage, KnowsPages, no_held, is_pending, Ruled}
@@ -35,7 +35,7 @@ module _ {X B : Type 0} (stored : B → Stored) (keeps : Start → Kept X → Ty
   abbrev words : List ℕ
   words = slice_set s.words (index_of start did.at) x
 
-  pub other-shows : Within start did.at → (written (words_of start s.words) did.at x).translations ≡ (words_of start s.words).translations → IsFoundAt did.found (index_of start did.at) s.words → did.wrote ≡ Some x
+  pub other-shows : Within start did.at → (with_word (table_words start s.words) did.at x).translations ≡ (table_words start s.words).translations → IsFoundAt did.found (index_of start did.at) s.words → did.wrote ≡ Some x
       → Legal (world stored keeps tied start tells s r).core e
       → world_of stored start r.releases r.drafts (became stored keeps tied start tells s words id (after_step stored keeps tied start tells s r words [] [] did inner)) ≡ world_after (world stored keeps tied start tells s r) e
       → (world_after (world stored keeps tied start tells s r) e).core.pages ≡ (world stored keeps tied start tells s r).core.pages

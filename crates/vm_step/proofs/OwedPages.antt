@@ -3,7 +3,7 @@ use Rattle.std.proofs.Common.{◌≡◌, ◌≢◌, ℕ, zero, suc, ◌+◌, ◌
 use Rattle.std.proofs.lemmas.Bool.{cases_Bool, cases_eq, cases_lt, eq-eqb, ne_eqb}
 use Rattle.vm_owner.specs.Numbers.{has, without}
 use Rattle.vm_owner.proofs.NumberLemmas.{without-both}
-use Rattle.vm_owner.specs.Kept.{Kept, Change, pages_of, owed_after, claimed}
+use Rattle.vm_owner.specs.Kept.{Kept, Change, changed_pages, owed_after, claimed}
 use Rattle.vm_rule.specs.Puts.{chosen}
 use Rattle.vm_rule.proofs.Entries.{append-none}
 use Rattle.vm_step.proofs.Groups.{chosen-same}
@@ -87,13 +87,13 @@ chosen-less (suc n) f g k here other =
     (cases_eq n k))
 
 -- the numbers for which f says so are owed; then those for which g does, which are they but the pages of the changes
-pub owed_after-chosen : (cs : List Change) (n : ℕ) (f g : ℕ → Bool) → ((q : ℕ) → q < n → has q (pages_of cs) ≡ true → g q ≡ false) → ((q : ℕ) → q < n → has q (pages_of cs) ≡ false → g q ≡ f q)
+pub owed_after-chosen : (cs : List Change) (n : ℕ) (f g : ℕ → Bool) → ((q : ℕ) → q < n → has q (changed_pages cs) ≡ true → g q ≡ false) → ((q : ℕ) → q < n → has q (changed_pages cs) ≡ false → g q ≡ f q)
     → owed_after cs (chosen n f) ≡ chosen n g
 owed_after-chosen [] n f g gone other = chosen-same n f g (λ q l. sym (other q l refl))
 owed_after-chosen (c ∷ cs) n f g gone other =
     ap (owed_after cs) (chosen-less n f (but f c.page false) c.page (λ q _ e. but-here f c.page false q e) (λ q _ ne. but-else f c.page false q ne))
     ∙ owed_after-chosen cs n (but f c.page false) g
-    (λ q l some. gone q l (or-right (q == c.page) (has q (pages_of cs)) some))
+    (λ q l some. gone q l (or-right (q == c.page) (has q (changed_pages cs)) some))
     (λ q l none. ⊎_elim
     (λ e. gone q l (rw (eq-eqb q c.page e) refl) ∙ sym (but-here f c.page false q e))
     (λ ne. other q l (rw (ne_eqb q c.page ne) none) ∙ sym (but-else f c.page false q ne))

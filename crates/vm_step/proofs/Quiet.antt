@@ -22,7 +22,7 @@ use Rattle.vm_rule.specs.declared.view.View.{View}
 use Rattle.vm_rule.specs.Puts.{put_at, listed, chosen}
 use Rattle.vm_rule.specs.Layout.{Within, index_of, width}
 use Rattle.vm_rule.specs.Views.{Each, seat_of, draft_of, may_call}
-use Rattle.vm_rule.specs.Reading.{core_of, world_of, histories_of}
+use Rattle.vm_rule.specs.Reading.{core_shown, world_of, histories_of}
 use Rattle.vm_rule.specs.Rule.{KnowsPage, KnowsPages, no_held, TranslationHolds, began_of, logical, is_pending, is_owed, kept_of, ArePlain, Ruled}
 use Rattle.vm_rule.specs.Brought.{IsFoundAt}
 use Rattle.vm_rule.proofs.Entries.{append-none}
@@ -111,7 +111,7 @@ module _ {X B : Type 0} (stored : B → Stored) (keeps : Start → Kept X → Ty
         (λ t. draft-is start (r.releases ++ []) drafts q ∙ sh.members q t ∙ sym (draft-is start r.releases r.drafts q))
         (λ _. ap (λ x. x.words) (last-stays q)))
 
-    next-stays : (core_of stored start new).next ≡ old.core.next
+    next-stays : (core_shown stored start new).next ≡ old.core.next
     next-stays = ap (λ (w : World). w.core.next) sh.world ∙ sh.next
 
     kept-stays : kept_of (world_of stored start (r.releases ++ []) drafts new) (r.history ++ []) (slice_set s.views id after) ≡ kept_of old r.history s.views

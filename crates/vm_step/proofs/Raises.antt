@@ -28,7 +28,7 @@ use Rattle.vm_rule.specs.declared.view.View.{View}
 use Rattle.vm_rule.specs.Puts.{put, put_at, listed}
 use Rattle.vm_rule.specs.Layout.{index_of}
 use Rattle.vm_rule.specs.Views.{seat_of, may_call, times_noted, total}
-use Rattle.vm_rule.specs.Reading.{block_of, core_of, world_of}
+use Rattle.vm_rule.specs.Reading.{block_of, core_shown, world_of}
 use Rattle.vm_rule.specs.Rule.{KnowsPage, KnowsPages, no_held, is_pending, FaultsFit, Ruled}
 use Rattle.vm_rule.specs.Begun.{HasShape, Stands}
 use Rattle.vm_rule.specs.Log.{did_store}
@@ -104,7 +104,7 @@ module _ {X B : Type 0} (stored : B → Stored) (keeps : Start → Kept X → Ty
   mine : KnowsPages tied start world (is_pending s.views) v
   mine = r.known id v there live
 
-  pub raise-legal : (p : ℕ) → p < start.pages → may_call (seat_of v p) ≡ true → Legal (core_of stored start s) (Raise id p)
+  pub raise-legal : (p : ℕ) → p < start.pages → may_call (seat_of v p) ≡ true → Legal (core_shown stored start s) (Raise id p)
   raise-legal p l calls = (record { actor = at-bound s.views id v there; page = l }, may-call stored keeps tied start tells s r id v there live p l calls)
 
   -- the count that the pass knows is the page's

@@ -4,7 +4,7 @@ use Rattle.atomic_table.specs.Table.{Me, Allows}
 use Rattle.atomic_table.specs.Table.Act.{keeps as leaves}
 use Rattle.vm_core.specs.Words.{word_of, EVICTED, MAX_VERSION}
 use Rattle.vm_owner.specs.declared.Entry.{Entry}
-use Rattle.vm_owner.specs.Kept.{Start, Kept, Change, Fits, IsTurn, released}
+use Rattle.vm_owner.specs.Kept.{Start, Kept, Change, Fits, IsTurn, after_release}
 use Rattle.vm_block.specs.declared.stored.Stored.{Stored}
 use Rattle.vm_rule.specs.declared.view.Origin.{Origin}
 use Rattle.vm_rule.specs.declared.view.Place.TheVariants as places
@@ -41,7 +41,7 @@ abbrev pub TellsShared : {X S : Type 0} → Shape → Bool → (Start → Kept X
 TellsShared shape tells keeps p version m m' = IsOf shape tells m.0 × DowngradeTold p version m.0 m'.0 × (tells ≡ true → IsKeptNow keeps p (Unit {0}) m'.0) × (m'.1 ≡ m.1)
 
 module _ {X B : Type 0} (stored : B → Stored) (keeps : Start → Kept X → Type 0) (tied : Start → ℕ → List ℕ → ℕ → List ℕ → Type 0) (may_release : Start → List ℕ → List Change → List (Entry X) → Type 0)
-    (law : (start : Start) (kept : Kept X) (due : List ℕ) (changes : List Change) (entries : List (Entry X)) → keeps start kept → Fits kept due changes → IsTurn kept.history entries → may_release start due changes entries → keeps start (released changes entries kept)) where
+    (law : (start : Start) (kept : Kept X) (due : List ℕ) (changes : List Change) (entries : List (Entry X)) → keeps start kept → Fits kept due changes → IsTurn kept.history entries → may_release start due changes entries → keeps start (after_release changes entries kept)) where
   -- the layer above keeps its relation
   release-owner : (start : Origin) (tells : Bool) (rel : Releasing stored keeps tied start tells may_release) → 0 < length rel.v.used
       → start.tells ≡ true → keeps (began_of start) (kept_of (old rel) rel.r.history rel.s.views) → keeps (began_of start) (kept_of (world_of stored start (releases rel) rel.r.drafts (new rel)) (rel.r.history ++ entries_of rel.v rel.said) (slice_set rel.s.views rel.id (left rel)))
@@ -98,7 +98,7 @@ module _ {X B : Type 0} (stored : B → Stored) (keeps : Start → Kept X → Ty
       allows-any stored keeps tied shape tells slots id me p (λ _. word_of EVICTED (version + 1)) (λ _ m'. TellsEvicted shape tells keeps p version me m') live
       (λ start has_shape. evict-allows start tells shape has_shape slots id me p version live number (subst (λ n. p < n) (sym has_shape.pages) lp) below g)
 
-  -- a page is released to a share of the pass
+  -- a page is after_release to a share of the pass
   pub downgrade-allows : (start : Origin) (tells : Bool) (shape : Shape) → HasShape shape start → (slots id : ℕ) (me : Me (Option B) (View X)) (p version : ℕ)
       → me.0.live ≡ true → 0 < length me.0.used → p < start.pages → version < MAX_VERSION → MayDowngrade may_release me.0 p version
       → Allows (Ruled stored keeps tied start tells) slots id me p (λ _. word_of 1 (version + 1)) (λ _ m'. TellsShared shape tells keeps p version me m')

@@ -14,7 +14,7 @@ use Rattle.vm_rule.specs.declared.view.View.{View}
 use Rattle.vm_rule.specs.Puts.{put}
 use Rattle.vm_rule.specs.Layout.{index_of}
 use Rattle.vm_rule.specs.Views.{seat_of}
-use Rattle.vm_rule.specs.Reading.{core_of}
+use Rattle.vm_rule.specs.Reading.{core_shown}
 use Rattle.vm_rule.specs.Releases.{ReleaseTold, EvictTold, DowngradeTold}
 use Rattle.vm_step.specs.Conditions.{MayGiveUp, MayEvict, MayDowngrade}
 use Rattle.vm_step.specs.Events.{IsEvent, IsPassOf, table_after}
@@ -31,7 +31,7 @@ module _ {X B : Type 0} (stored : B → Stored) (start : Origin) (keeps : Start 
         legal = release-legal rel;
         core = ap (λ (y : World). y.core)
             (left-step stored start rel.way rel.s rel.r.releases rel.r.drafts rel.id rel.v w rel.p (word rel) rel.r.wide.0 rel.inside rel.there out frames loads seats (word-state rel) (word-version rel));
-        sees = left-sees rel.way (core_of stored start rel.s) rel.id rel.p;
+        sees = left-sees rel.way (core_shown stored start rel.s) rel.id rel.p;
       }
 
   pub release_event : (s : Table (Option B) (View X)) (id p version : ℕ) (rest : List ℕ) (said : Option X) (v w : View X) → IsPassOf stored start keeps tied tells s id v → p < start.pages → version < MAX_VERSION → MayGiveUp may_release p version rest said v

@@ -23,7 +23,7 @@ use Rattle.vm_rule.specs.declared.view.View.{View}
 use Rattle.vm_rule.specs.Puts.{put_at}
 use Rattle.vm_rule.specs.Layout.{index_of}
 use Rattle.vm_rule.specs.Views.{seat_of, draft_of, may_call}
-use Rattle.vm_rule.specs.Reading.{core_of, world_of, histories_of, last_in, last_of}
+use Rattle.vm_rule.specs.Reading.{core_shown, world_of, histories_of, last_in, last_of}
 use Rattle.vm_rule.specs.Rule.{KnowsPages, no_held, is_pending, Ruled}
 use Rattle.vm_rule.specs.Brought.{entries_of}
 use Rattle.vm_rule.specs.Log.{did_store}
@@ -136,22 +136,22 @@ module _ {X B : Type 0} {stored : B → Stored} {keeps : Start → Kept X → Ty
       ap (λ o. world_of stored start (rel.r.releases ++ o ∷ []) rel.r.drafts new) own-is
       ∙ left-step stored start rel.way rel.s rel.r.releases rel.r.drafts rel.id rel.v left rel.p word rel.r.wide.0 rel.inside rel.there refl refl refl refl word-state word-version
 
-  core-is : core_of stored start new ≡ on_page old.core rel.p page
+  core-is : core_shown stored start new ≡ on_page old.core rel.p page
   core-is = ap (λ (y : World). y.core) world-is ∙ left-core rel.way old rel.id rel.p
 
-  pub next-is : (core_of stored start new).next ≡ old.core.next
+  pub next-is : (core_shown stored start new).next ≡ old.core.next
   next-is = ap (λ (c : State). c.next) core-is
 
-  pub frames-are : (f : ℕ) → (core_of stored start new).words f ≡ old.core.words f
+  pub frames-are : (f : ℕ) → (core_shown stored start new).words f ≡ old.core.words f
   frames-are f = ap (λ (c : State). c.words f) core-is
 
-  pub pages-is : (core_of stored start new).pages ≡ upd old.core.pages rel.p page
+  pub pages-is : (core_shown stored start new).pages ≡ upd old.core.pages rel.p page
   pages-is = ap (λ (c : State). c.pages) core-is
 
-  pub page-here : (core_of stored start new).pages rel.p ≡ page
+  pub page-here : (core_shown stored start new).pages rel.p ≡ page
   page-here = ap (λ (f : ℕ → Page). f rel.p) pages-is ∙ upd-same old.core.pages rel.p page
 
-  pub page-else : (q : ℕ) → q ≢ rel.p → (core_of stored start new).pages q ≡ old.core.pages q
+  pub page-else : (q : ℕ) → q ≢ rel.p → (core_shown stored start new).pages q ≡ old.core.pages q
   page-else q ne = ap (λ (f : ℕ → Page). f q) pages-is ∙ upd-other old.core.pages rel.p page q ne
 
   -- the histories after it

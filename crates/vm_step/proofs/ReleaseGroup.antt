@@ -1,7 +1,7 @@
 -- The members of a group that are still to be released, before and after one is; and what a release that changes words must know.
 use Rattle.std.proofs.Common.{ℕ, ◌≡◌, ◌≢◌, ◌⊎◌, ◌||◌, List, [], ◌∷◌, ◌++◌, refl, sym, ap, subst, ◌∙◌, inl, inr, ⊎_elim, true, false, true≢false, Bool, Option, Some, None, eqb, if◌then◌else◌}
 use Rattle.std.proofs.lemmas.Bool.{false≢true, cases_eq, eq-eqb, ne_eqb}
-use Rattle.vm_owner.specs.Kept.{Change, pages_of}
+use Rattle.vm_owner.specs.Kept.{Change, changed_pages}
 use Rattle.vm_owner.specs.Numbers.{has, without}
 use Rattle.vm_owner.proofs.NumberLemmas.{has-without, has-without_same, has-without_other}
 use Rattle.vm_rule.specs.declared.view.View.{View}
@@ -77,7 +77,7 @@ module _ {X : Type 0} where
   entries-one v None = inl refl
   entries-one v (Some x) = inr (x, refl)
 
-  pub changes-pages : (v : View X) (qs : List ℕ) → pages_of (changes_of v qs) ≡ qs
+  pub changes-pages : (v : View X) (qs : List ℕ) → changed_pages (changes_of v qs) ≡ qs
   changes-pages v [] = refl
   changes-pages v (q ∷ qs) = ap (λ (l : List ℕ). q ∷ l) (changes-pages v qs)
 

@@ -7,7 +7,7 @@ use Rattle.atomic_table.proofs.Lists.{set_here}
 use Rattle.vm_core.specs.History.{History}
 use Rattle.vm_owner.specs.declared.Entry.{Entry}
 use Rattle.vm_owner.specs.Kept.{Start, Kept, Change, Fits, IsTurn, AreSized, AreUnchanged, Agrees, owed_after}
-use Rattle.vm_owner.specs.Kept.{released as released_kept}
+use Rattle.vm_owner.specs.Kept.{after_release as released_kept}
 use Rattle.vm_owner.specs.Numbers.{has, AreApart}
 use Rattle.vm_owner.proofs.Unchanged.{released_same}
 use Rattle.vm_block.specs.declared.stored.Stored.{Stored}

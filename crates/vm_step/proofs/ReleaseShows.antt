@@ -14,7 +14,7 @@ use Rattle.vm_rule.specs.declared.view.Place.TheVariants as places
 use Rattle.vm_rule.specs.Puts.{put_at}
 use Rattle.vm_rule.specs.Layout.{index_of}
 use Rattle.vm_rule.specs.Views.{seat_of, may_call}
-use Rattle.vm_rule.specs.Reading.{core_of, world_of, histories_of}
+use Rattle.vm_rule.specs.Reading.{core_shown, world_of, histories_of}
 use Rattle.vm_rule.specs.Rule.{KnowsPage, no_held, began_of, kept_of}
 use Rattle.vm_rule.specs.Brought.{entries_of}
 use Rattle.vm_rule.specs.Log.{did_store}
@@ -31,7 +31,7 @@ or-true true b e = refl
 or-true false b e = e
 
 module _ {X B : Type 0} {stored : B → Stored} {keeps : Start → Kept X → Type 0} {tied : Start → ℕ → List ℕ → ℕ → List ℕ → Type 0} {start : Origin} {tells : Bool} {may_release : Start → List ℕ → List Change → List (Entry X) → Type 0} (rel : Releasing stored keeps tied start tells may_release) where
-  still-pending : (q : ℕ) → has q (inner rel).pending ≡ true → ((seat_of (inner rel) q).exclusive ≡ true) × (start.tells ≡ true → (core_of stored start (new rel)).next ≤ q → rel.r.drafts q ≡ (histories_of start (releases rel) rel.r.drafts q).last.words)
+  still-pending : (q : ℕ) → has q (inner rel).pending ≡ true → ((seat_of (inner rel) q).exclusive ≡ true) × (start.tells ≡ true → (core_shown stored start (new rel)).next ≤ q → rel.r.drafts q ≡ (histories_of start (releases rel) rel.r.drafts q).last.words)
   still-pending q e =
       let m = (members-are rel).among q e in
       let last : (histories_of start (releases rel) rel.r.drafts q).last.words ≡ ((old rel).histories q).last.words = ap (λ (h : History). h.last.words) (history-else rel q m.0) in
@@ -40,7 +40,7 @@ module _ {X B : Type 0} {stored : B → Stored} {keeps : Start → Kept X → Ty
       (λ came. let k = member-is rel q came in (still-owns rel q m.0 k.owns, λ t le. sym (draft-known rel q k.owns) ∙ claimed rel q k t (subst (λ n. n ≤ q) (next-is rel) le) ∙ sym last))
       m.1
 
-  still-owed : (q : ℕ) → has q (inner rel).owed ≡ true → ((seat_of (inner rel) q).exclusive ≡ true) × (start.next ≤ q) × (q < (core_of stored start (new rel)).next) × (has q (inner rel).pending ≡ false)
+  still-owed : (q : ℕ) → has q (inner rel).owed ≡ true → ((seat_of (inner rel) q).exclusive ≡ true) × (start.next ≤ q) × (q < (core_shown stored start (new rel)).next) × (has q (inner rel).pending ≡ false)
   still-owed q e =
       let k = has-without_all (rel.p ∷ rel.rest) rel.v.owed q e in
       let o = (mine rel).owed q k.0 in
@@ -82,11 +82,11 @@ module _ {X B : Type 0} {stored : B → Stored} {keeps : Start → Kept X → Ty
         (cases_eq q rel.p);
     knows = λ q.
         ⊎_elim
-        (λ (e : q ≡ rel.p). subst (λ n. KnowsPage (seat_of (inner rel) n) (put_at no_held (inner rel).held n) ((core_of stored start (new rel)).pages n)) (sym e)
-        (subst (λ y. KnowsPage y (put_at no_held rel.v.held rel.p) ((core_of stored start (new rel)).pages rel.p)) (sym (seat-p rel))
+        (λ (e : q ≡ rel.p). subst (λ n. KnowsPage (seat_of (inner rel) n) (put_at no_held (inner rel).held n) ((core_shown stored start (new rel)).pages n)) (sym e)
+        (subst (λ y. KnowsPage y (put_at no_held rel.v.held rel.p) ((core_shown stored start (new rel)).pages rel.p)) (sym (seat-p rel))
         (subst (λ y. KnowsPage (seat_left rel.way (seat_of rel.v rel.p)) (put_at no_held rel.v.held rel.p) y) (sym (page-here rel))
         (record { calls = λ _. ((mine rel).knows rel.p).calls (calls-p rel); shares = λ _. ap frame_of (((mine rel).knows rel.p).calls (calls-p rel)).0 }))))
-        (λ ne. subst (λ y. KnowsPage y (put_at no_held rel.v.held q) ((core_of stored start (new rel)).pages q)) (sym (seat-else rel q ne))
+        (λ ne. subst (λ y. KnowsPage y (put_at no_held rel.v.held q) ((core_shown stored start (new rel)).pages q)) (sym (seat-else rel q ne))
         (subst (λ y. KnowsPage (seat_of rel.v q) (put_at no_held rel.v.held q) y) (sym (page-else rel q ne)) ((mine rel).knows q)))
         (cases_eq q rel.p);
     contents = λ f e. (mine rel).contents f e ∙ sym (frames-are rel f);
@@ -102,7 +102,7 @@ module _ {X B : Type 0} {stored : B → Stored} {keeps : Start → Kept X → Ty
     tying = ([], refl, λ _. tt);
     members = λ q was gone.
         ⊎_elim
-        (λ (e : q ≡ rel.p). subst (λ n. ((core_of stored start (new rel)).pages n).version ≢ ((old rel).core.pages n).version) (sym e)
+        (λ (e : q ≡ rel.p). subst (λ n. ((core_shown stored start (new rel)).pages n).version ≢ ((old rel).core.pages n).version) (sym e)
         (λ same. absurd (let more = ap (λ (y : Page). y.version) (page-here rel) in omega (arith, more, same))))
         (λ ne. absurd (true≢false (sym ((members-are rel).stays q ne was) ∙ gone)))
         (cases_eq q rel.p);

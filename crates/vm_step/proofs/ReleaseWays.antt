@@ -23,7 +23,7 @@ use Rattle.vm_rule.specs.declared.view.View.{View}
 use Rattle.vm_rule.specs.Puts.{put}
 use Rattle.vm_rule.specs.Layout.{width}
 use Rattle.vm_rule.specs.Views.{seat_of}
-use Rattle.vm_rule.specs.Reading.{core_of, world_of}
+use Rattle.vm_rule.specs.Reading.{core_shown, world_of}
 use Rattle.vm_rule.specs.Releases.{released_view}
 use Rattle.vm_rule.proofs.WordFacts.{bare-state, bare-version, word-state, word-version}
 use Rattle.vm_rule.proofs.Worlds.{wrote, release_of, release-step, releasee-step, downgrade-step}
@@ -109,7 +109,7 @@ module _ {X B : Type 0} (stored : B → Stored) (start : Origin) where
   -- the world after it: the draft is the next version
   pub left-step : (way : Way) (s : Table (Option B) (View X)) (releases : List Released) (drafts : ℕ → List ℕ) (id : ℕ) (v w : View X) (p x : ℕ) → length s.words ≡ width start → p < start.pages → get_elem? s.views id ≡ some v
       → w.out ≡ v.out → w.frames ≡ v.frames → w.loads ≡ v.loads → w.seats ≡ put p (seat_left way (seat_of v p)) v.seats
-      → state_of x ≡ state_left way → version_of x ≡ ((core_of stored start s).pages p).version + 1
+      → state_of x ≡ state_left way → version_of x ≡ ((core_shown stored start s).pages p).version + 1
       → world_of stored start (releases ++ release_of start releases drafts p ∷ []) drafts (wrote stored start s id (places.State p) x w) ≡ world_after (world_of stored start releases drafts s) (event_left way id p)
   left-step Evicts s releases drafts id v w p x wide l there out frames loads seats is next = releasee-step stored start s releases drafts id v w p x wide l there out frames loads seats is next
   left-step Unlocks s releases drafts id v w p x wide l there out frames loads seats is next = release-step stored start s releases drafts id v w p x wide l there out frames loads seats is next

@@ -25,9 +25,9 @@ use Rattle.vm_rule.specs.declared.view.Out.{Out}
 use Rattle.vm_rule.specs.declared.view.Place.TheVariants as places
 use Rattle.vm_rule.specs.declared.view.View.{View}
 use Rattle.vm_rule.specs.Puts.{put, put_at, listed}
-use Rattle.vm_rule.specs.Layout.{index_of, words_of}
+use Rattle.vm_rule.specs.Layout.{index_of, table_words}
 use Rattle.vm_rule.specs.Views.{seat_of, may_call}
-use Rattle.vm_rule.specs.Reading.{home, at_home, known, out_of, out_or, block_of, core_of, seats_of, held_of, world_of}
+use Rattle.vm_rule.specs.Reading.{home, at_home, known, out_of, out_or, block_of, core_shown, seats_of, frames_held, world_of}
 use Rattle.vm_rule.specs.Rule.{KnowsPage, KnowsPages, no_held, BlocksFit, is_pending, Ruled}
 use Rattle.vm_rule.specs.Log.{did_load}
 use Rattle.vm_rule.specs.Mappings.{held_at}
@@ -172,10 +172,10 @@ module _ {X B : Type 0} (stored : B → Stored) (keeps : Start → Kept X → Ty
 
     -- the core that is read then
     pub core-home : (w : View X) → w.out ≡ None → w.seats ≡ v.seats → w.frames ≡ v.frames
-        → core_of stored start (record { words = s.words; homes = home-slots p b; views = slice_set s.views id w }) ≡ on_page world.core p (called (page p) (stored b).count (stored b).words)
+        → core_shown stored start (record { words = s.words; homes = home-slots p b; views = slice_set s.views id w }) ≡ on_page world.core p (called (page p) (stored b).count (stored b).words)
     core-home w none seats frames =
         core-slots stored start s (home-slots p b) id v w (upd (block_of stored s.homes s.views) p (stored b)) there seats frames (blocks-home w none)
-        ∙ core-block start (length s.views) (words_of start s.words) (block_of stored s.homes s.views) (seats_of s.views) (held_of s.views) p (stored b) (r.blocks.away id v o there out).0
+        ∙ core-block start (length s.views) (table_words start s.words) (block_of stored s.homes s.views) (seats_of s.views) (frames_held s.views) p (stored b) (r.blocks.away id v o there out).0
 
     pub returns-home : 0 < length v.used → DeviceDid v p o.block (stored b) → (stored b).bound ≡ o.block.bound
         → Ruled stored keeps tied start tells (home-table p b) × ReturnTold p (stored b) (slice_index s.words (index_of start (places.Fault p))) v (home-after p b)

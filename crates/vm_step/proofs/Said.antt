@@ -8,7 +8,7 @@ use Rattle.vm_core.specs.declared.event.ReadIs.{ReadIs}
 use Rattle.vm_core.specs.declared.event.ReadIs.TheVariants.{Opened, Same, Moved, Closed}
 use Rattle.vm_core.specs.History.{World}
 use Rattle.vm_owner.specs.declared.Entry.{Entry}
-use Rattle.vm_owner.specs.Kept.{Start, Kept, IsTurn, calls_of, told}
+use Rattle.vm_owner.specs.Kept.{Start, Kept, IsTurn, entries_under, told}
 use Rattle.vm_block.specs.declared.stored.Stored.{Stored}
 use Rattle.vm_rule.specs.declared.view.Origin.{Origin}
 use Rattle.vm_rule.specs.declared.view.Release.{Release}
@@ -46,7 +46,7 @@ module _ {X : Type 0} where
   pub is-turn : (start : Origin) (releases : List Release) (history : List (Entry X)) (v : View X) (said : Option X) → KnowsLists start releases history v → 0 < length v.used → IsTurn history (entries_of v said)
   is-turn start releases history v None g number = tt
   is-turn start releases history v (Some x) g number = (
-    ap (λ k. k + 1) (ap (calls_of (slice_index v.used 0)) (mine-in v.used history v.seen v.mine g.mine g.heard) ∙ calls-by (slice_index v.used 0) v.used history (has-first v.used number)),
+    ap (λ k. k + 1) (ap (entries_under (slice_index v.used 0)) (mine-in v.used history v.seen v.mine g.mine g.heard) ∙ calls-by (slice_index v.used 0) v.used history (has-first v.used number)),
     refl,
   )
 

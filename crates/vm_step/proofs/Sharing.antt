@@ -9,7 +9,7 @@ use Rattle.vm_core.specs.declared.event.Mapping.{Mapping}
 use Rattle.vm_core.specs.declared.event.Seat.{Seat}
 use Rattle.vm_core.specs.Words.{state_of, version_of, word_of, LOCKED, EVICTED}
 use Rattle.vm_core.specs.State.{Page}
-use Rattle.vm_core.specs.StateActs.{MayShare, one_more, shared}
+use Rattle.vm_core.specs.StateActs.{MayShare, one_share_more, shared}
 use Rattle.vm_core.specs.FrameActs.{frame_of}
 use Rattle.vm_core.proofs.PageFacts.{some-same}
 use Rattle.vm_core.proofs.Upd.{upd-same, upd-other}
@@ -94,14 +94,14 @@ module _ {X B : Type 0} (stored : B → Stored) (keeps : Start → Kept X → Ty
   pub frame-known : frame_of (put_at no_held shared_inner.held p).mapping ≡ frame_of ((world stored keeps tied start tells s r).core.pages p).trans
   frame-known = knows-here.shares (omega arith)
 
-  abbrev pub share-is : IsExchange stored start s r.releases r.drafts id p expects (word_of (one_more (state_of expects)) (version_of expects)) r.drafts shared_inner (LockS id p expects) (shared ((world stored keeps tied start tells s r).core.pages p) id)
+  abbrev pub share-is : IsExchange stored start s r.releases r.drafts id p expects (word_of (one_share_more (state_of expects)) (version_of expects)) r.drafts shared_inner (LockS id p expects) (shared ((world stored keeps tied start tells s r).core.pages p) id)
   share-is = locks-exchange stored start s r.releases r.drafts id v p expects r.wide.0 l there may (page_held stored keeps tied start tells s r p)
 
   pub share-shows : slice_index s.words p ≡ expects
-      → ShowsQuiet stored keeps tied start tells s r id v (slice_set s.words p (word_of (one_more (state_of expects)) (version_of expects))) r.drafts (did_exchange (places.State p) expects (slice_index s.words p) (word_of (one_more (state_of expects)) (version_of expects))) shared_inner (LockS id p expects)
+      → ShowsQuiet stored keeps tied start tells s r id v (slice_set s.words p (word_of (one_share_more (state_of expects)) (version_of expects))) r.drafts (did_exchange (places.State p) expects (slice_index s.words p) (word_of (one_share_more (state_of expects)) (version_of expects))) shared_inner (LockS id p expects)
   share-shows hit =
       let seat : Seat = record (seat_of v p) { shares = (seat_of v p).shares + 1; reading = None } in
-      sharer-shows stored keeps tied start tells s r id v there live p expects (word_of (one_more (state_of expects)) (version_of expects)) l hit (LockS id p expects) (shared ((world stored keeps tied start tells s r).core.pages p) id) seat shared_inner.held share-is
+      sharer-shows stored keeps tied start tells s r id v there live p expects (word_of (one_share_more (state_of expects)) (version_of expects)) l hit (LockS id p expects) (shared ((world stored keeps tied start tells s r).core.pages p) id) seat shared_inner.held share-is
       (λ m. m) refl
       (λ q ne. put-else (has_lock (seat_of v p)) p q (page_held stored keeps tied start tells s r p) v.held ne)
       knows-here

@@ -23,9 +23,9 @@ use Rattle.vm_rule.specs.declared.view.Out.{Out}
 use Rattle.vm_rule.specs.declared.view.Place.TheVariants as places
 use Rattle.vm_rule.specs.declared.view.View.{View}
 use Rattle.vm_rule.specs.Puts.{listed}
-use Rattle.vm_rule.specs.Layout.{index_of, words_of}
+use Rattle.vm_rule.specs.Layout.{index_of, table_words}
 use Rattle.vm_rule.specs.Views.{seat_of, may_call}
-use Rattle.vm_rule.specs.Reading.{home, at_home, known, out_of, out_or, block_of, core_from, core_of, seats_of, held_of, world_of}
+use Rattle.vm_rule.specs.Reading.{home, at_home, known, out_of, out_or, block_of, core_from, core_shown, seats_of, frames_held, world_of}
 use Rattle.vm_rule.specs.Rule.{slot_of, BlocksFit, KnowsPages, is_pending, Ruled}
 use Rattle.vm_rule.specs.Brought.{Brings}
 use Rattle.vm_rule.specs.Log.{did_load}
@@ -49,9 +49,9 @@ module _ {X B : Type 0} (stored : B → Stored) (start : Origin) where
   -- the core, where only the slots and the pass's own view changed
   pub core-slots : (s : Table (Option B) (View X)) (homes : List (maybe.Option (Option B))) (id : ℕ) (v w : View X) (blocks : ℕ → Stored) → get_elem? s.views id ≡ some v → w.seats ≡ v.seats → w.frames ≡ v.frames
       → block_of stored homes (slice_set s.views id w) ≡ blocks
-      → core_of stored start (record { words = s.words; homes = homes; views = slice_set s.views id w }) ≡ core_from start (length s.views) (words_of start s.words) blocks (seats_of s.views) (held_of s.views)
+      → core_shown stored start (record { words = s.words; homes = homes; views = slice_set s.views id w }) ≡ core_from start (length s.views) (table_words start s.words) blocks (seats_of s.views) (frames_held s.views)
   core-slots s homes id v w blocks there seats frames e i =
-      core_from start (length-set s.views id w i) (words_of start s.words) (e i) (seats-still s.views id v w there seats i) (held-still s.views id v w there frames i)
+      core_from start (length-set s.views id w i) (table_words start s.words) (e i) (seats-still s.views id v w there seats i) (held-still s.views id v w there frames i)
 
 module _ {X B : Type 0} (stored : B → Stored) (keeps : Start → Kept X → Type 0) (tied : Start → ℕ → List ℕ → ℕ → List ℕ → Type 0) (start : Origin) (tells : Bool) (s : Table (Option B) (View X)) (r : Ruled stored keeps tied start tells s) (id : ℕ) (v : View X) (there : get_elem? s.views id ≡ some v) (live : v.live ≡ true) where
   abbrev fault-load : ℕ → Did
@@ -79,7 +79,7 @@ module _ {X B : Type 0} (stored : B → Stored) (keeps : Start → Kept X → Ty
   slot-moves number homes p moving b l size same fit =
       let k : KnowsPages tied start (world_of stored start r.releases r.drafts s) (is_pending s.views) v = r.known id v there live in
       steps_more stored keeps tied start tells s r id v s.words homes blocks-now None r.drafts [] [] (fault-load p) (out_view p moving b v) there live number refl refl
-      (device-shows stored keeps tied start tells s r id v s.words homes blocks-now (fault-load p) (Some (out_at p moving b)) v.held v.notes (core_of stored start s) there live
+      (device-shows stored keeps tied start tells s r id v s.words homes blocks-now (fault-load p) (Some (out_at p moving b)) v.held v.notes (core_shown stored start s) there live
       (record {
         wide = r.wide.0;
         slots = size;
@@ -101,7 +101,7 @@ module _ {X B : Type 0} (stored : B → Stored) (keeps : Start → Kept X → Ty
   -- a pass that may call the page's device and does not hold it exclusively has a share of it
   pub has-share : (p : ℕ) → p < start.pages → may_call (seat_of v p) ≡ true → (seat_of v p).exclusive ≡ false → 1 ≤ (seat_of v p).shares
   has-share p l calls free =
-      let here : ((core_of stored start s).pages p).seats id ≡ seat_of v p = seat-here stored start s id p v l there in
+      let here : ((core_shown stored start s).pages p).seats id ≡ seat_of v p = seat-here stored start s id p v l there in
       let writes : (seat_of v p).writing ≡ true = sym (ap (λ b. b || (seat_of v p).writing) free) ∙ calls in
       subst (λ (g : Seat). 1 ≤ g.shares) here ((r.inv.pages p).locks.writer id (ap (λ (g : Seat). g.writing) here ∙ writes)).0
 

@@ -8,7 +8,7 @@ use Rattle.vm_core.specs.Fn.{upd}
 use Rattle.vm_core.specs.Start.{no_seat}
 use Rattle.vm_core.specs.State.{Page}
 use Rattle.vm_core.specs.StateActs.{finds}
-use Rattle.vm_core.specs.Step.{Names}
+use Rattle.vm_core.specs.Step.{NamesActorAndPage}
 use Rattle.vm_core.proofs.Upd.{upd-same, upd-other, each-upd}
 use Rattle.vm_owner.specs.Kept.{Start, Kept}
 use Rattle.vm_block.specs.declared.stored.Stored.{Stored}
@@ -21,7 +21,7 @@ use Rattle.vm_rule.specs.declared.view.View.{View}
 use Rattle.vm_rule.specs.Puts.{put_at, put}
 use Rattle.vm_rule.specs.Layout.{width}
 use Rattle.vm_rule.specs.Views.{seat_of, may_call}
-use Rattle.vm_rule.specs.Reading.{core_of}
+use Rattle.vm_rule.specs.Reading.{core_shown}
 use Rattle.vm_rule.specs.Rule.{KnowsPage, no_held, ArePlain, Ruled}
 use Rattle.vm_rule.proofs.Views.{at-bound}
 use Rattle.vm_rule.proofs.Found.{state-here, version-here}
@@ -69,12 +69,12 @@ module _ {X B : Type 0} (stored : B → Stored) (keeps : Start → Kept X → Ty
       each-upd (λ q y. o.page ≡ q → may_call (seat_of v q) ≡ true → may_call y ≡ true) (put_at no_seat v.seats) p seat (here o x) (λ q ne e k. k) o.page refl (r.blocks.away id v o there x).1
 
   -- the pass and the page are the core's
-  pub names : (p : ℕ) → p < start.pages → Names (core_of stored start s) id p
+  pub names : (p : ℕ) → p < start.pages → NamesActorAndPage (core_shown stored start s) id p
   names p l = record { actor = at-bound s.views id v there; page = l }
 
   -- the word is the one expected, or not
-  pub finding : (p expects : ℕ) → p < start.pages → slice_index s.words p ≡ expects → finds ((core_of stored start s).pages p) expects ≡ true
-  finding p expects l hit = finds-hit ((core_of stored start s).pages p) (slice_index s.words p) expects (state-here stored start s p l) (version-here stored start s p l) hit
+  pub finding : (p expects : ℕ) → p < start.pages → slice_index s.words p ≡ expects → finds ((core_shown stored start s).pages p) expects ≡ true
+  finding p expects l hit = finds-hit ((core_shown stored start s).pages p) (slice_index s.words p) expects (state-here stored start s p l) (version-here stored start s p l) hit
 
-  pub missing : (p expects : ℕ) → p < start.pages → slice_index s.words p ≢ expects → finds ((core_of stored start s).pages p) expects ≡ false
-  missing p expects l miss = finds-miss ((core_of stored start s).pages p) (slice_index s.words p) expects (state-here stored start s p l) (version-here stored start s p l) miss
+  pub missing : (p expects : ℕ) → p < start.pages → slice_index s.words p ≢ expects → finds ((core_shown stored start s).pages p) expects ≡ false
+  missing p expects l miss = finds-miss ((core_shown stored start s).pages p) (slice_index s.words p) expects (state-here stored start s p l) (version-here stored start s p l) miss

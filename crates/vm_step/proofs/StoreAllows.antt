@@ -22,7 +22,7 @@ use Rattle.vm_rule.specs.Rule.{Ruled}
 use Rattle.vm_rule.specs.Begun.{HasShape, Stands}
 use Rattle.vm_rule.specs.Brought.{Brings}
 use Rattle.vm_rule.specs.Log.{did_store}
-use Rattle.vm_rule.specs.Stores.{Drafts, MayStore, drafted_view, filled_view, StoresTold}
+use Rattle.vm_rule.specs.Stores.{Drafts, PassMayStore, drafted_view, filled_view, StoresTold}
 use Rattle.vm_rule.proofs.Adding.{after_step}
 use Rattle.vm_rule.proofs.Bringing.{steps}
 use Rattle.vm_rule.proofs.Worlds.{stands-one}
@@ -87,7 +87,7 @@ module _ {X B : Type 0} (stored : B → Stored) (keeps : Start → Kept X → Ty
         ),
       )
 
-  pub store-allows : (shape : Shape) → HasShape shape start → (slots id : ℕ) (me : Me (Option B) (View X)) (f i x : ℕ) → me.0.live ≡ true → 0 < length me.0.used → f < start.frames → i < 64 → MayStore me.0 f
+  pub store-allows : (shape : Shape) → HasShape shape start → (slots id : ℕ) (me : Me (Option B) (View X)) (f i x : ℕ) → me.0.live ≡ true → 0 < length me.0.used → f < start.frames → i < 64 → PassMayStore me.0 f
       → Allows (Ruled stored keeps tied start tells) slots id me (index_of start (places.Content f i)) (λ _. x) (λ _ m'. Tells shape tells f i x me m')
   store-allows shape has_shape slots id me f i x live number lf li may =
       ⊎_elim
@@ -97,7 +97,7 @@ module _ {X B : Type 0} (stored : B → Stored) (keeps : Start → Kept X → Ty
 
 module _ {X B : Type 0} (stored : B → Stored) (keeps : Start → Kept X → Type 0) (tied : Start → ℕ → List ℕ → ℕ → List ℕ → Type 0) (shape : Shape) (tells : Bool) where
   -- the same of every table of the shape, by the place of the word
-  pub store-stands : (slots id : ℕ) (me : Me (Option B) (View X)) (pages f i x : ℕ) → pages ≡ shape.pages → me.0.live ≡ true → 0 < length me.0.used → f < shape.frames → i < 64 → MayStore me.0 f
+  pub store-stands : (slots id : ℕ) (me : Me (Option B) (View X)) (pages f i x : ℕ) → pages ≡ shape.pages → me.0.live ≡ true → 0 < length me.0.used → f < shape.frames → i < 64 → PassMayStore me.0 f
       → Allows (Stands stored keeps tied shape tells) slots id me (3 * pages + (64 * f + i)) (λ _. x) (λ _ m'. Tells shape tells f i x me m')
   store-stands slots id me pages f i x same live number lf li may =
       allows-any stored keeps tied shape tells slots id me (3 * pages + (64 * f + i)) (λ _. x) (λ _ m'. Tells shape tells f i x me m') live

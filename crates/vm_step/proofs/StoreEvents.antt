@@ -11,7 +11,7 @@ use Rattle.vm_rule.specs.declared.view.Origin.{Origin}
 use Rattle.vm_rule.specs.declared.view.Place.TheVariants as places
 use Rattle.vm_rule.specs.declared.view.View.{View}
 use Rattle.vm_rule.specs.Layout.{index_of}
-use Rattle.vm_rule.specs.Reading.{core_of}
+use Rattle.vm_rule.specs.Reading.{core_shown}
 use Rattle.vm_rule.specs.Stores.{Drafts, StoreTold, FillTold}
 use Rattle.vm_rule.proofs.Worlds.{store-core}
 use Rattle.vm_step.specs.Events.{IsEvent, IsPassOf, table_after}
@@ -20,7 +20,7 @@ use Rattle.vm_step.proofs.FillShows.{fill-legal}
 
 module _ {X B : Type 0} (stored : B → Stored) (start : Origin) (keeps : Start → Kept X → Type 0) (tied : Start → ℕ → List ℕ → ℕ → List ℕ → Type 0) (tells : Bool) where
   -- a store that is legal, by a pass that has out, holds and locks what it did
-  stored-event : (s : Table (Option B) (View X)) (id f i x : ℕ) (v w : View X) → IsPassOf stored start keeps tied tells s id v → f < start.frames → i < 64 → Legal (core_of stored start s) (Store id f i x)
+  stored-event : (s : Table (Option B) (View X)) (id f i x : ℕ) (v w : View X) → IsPassOf stored start keeps tied tells s id v → f < start.frames → i < 64 → Legal (core_shown stored start s) (Store id f i x)
       → w.out ≡ v.out → w.frames ≡ v.frames → w.seats ≡ v.seats
       → IsEvent stored start s (table_after s (slice_set s.words (index_of start (places.Content f i)) x) id w) (Store id f i x) sights.Done
   stored-event s id f i x v w pass lf li legal out frames seats =

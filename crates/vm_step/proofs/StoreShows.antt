@@ -20,7 +20,7 @@ use Rattle.vm_rule.specs.declared.view.Place.TheVariants as places
 use Rattle.vm_rule.specs.declared.view.View.{View}
 use Rattle.vm_rule.specs.Layout.{index_of}
 use Rattle.vm_rule.specs.Views.{draft_of}
-use Rattle.vm_rule.specs.Reading.{core_of, world_of}
+use Rattle.vm_rule.specs.Reading.{core_shown, world_of}
 use Rattle.vm_rule.specs.Rule.{KnowsPages, is_pending, Ruled}
 use Rattle.vm_rule.specs.Log.{did_store}
 use Rattle.vm_rule.specs.Stores.{Drafts, drafted_view}
@@ -35,11 +35,11 @@ use Rattle.vm_step.proofs.Quiet.{lock-quiet, quiet-shows}
 
 module _ {X B : Type 0} (stored : B → Stored) (keeps : Start → Kept X → Type 0) (tied : Start → ℕ → List ℕ → ℕ → List ℕ → Type 0) (start : Origin) (tells : Bool) (s : Table (Option B) (View X)) (r : Ruled stored keeps tied start tells s) (id : ℕ) (v : View X) (there : get_elem? s.views id ≡ some v) (live : v.live ≡ true) where
   -- the page stands in the frame
-  pub stands-drafted : (p f : ℕ) → Drafts v p f → stands_in ((core_of stored start s).pages p).trans f ≡ true
+  pub stands-drafted : (p f : ℕ) → Drafts v p f → stands_in ((core_shown stored start s).pages p).trans f ≡ true
   stands-drafted p f d =
       ap (λ t. stands_in t f) (stands-known stored keeps tied start tells s r id v there live p (record { frame = f; dirty = true }) d.owns d.stands).1 ∙ eq-eqb f f refl
 
-  pub store-legal : (p f i x : ℕ) → f < start.frames → i < 64 → Drafts v p f → Legal (core_of stored start s) (Store id f i x)
+  pub store-legal : (p f i x : ℕ) → f < start.frames → i < 64 → Drafts v p f → Legal (core_shown stored start s) (Store id f i x)
   store-legal p f i x lf li d =
       let known = stands-known stored keeps tied start tells s r id v there live p (record { frame = f; dirty = true }) d.owns d.stands in
       record {
@@ -56,7 +56,7 @@ module _ {X B : Type 0} (stored : B → Stored) (keeps : Start → Kept X → Ty
       let drafts : ℕ → List ℕ = upd r.drafts p (slice_set (r.drafts p) i x) in
       let inner : View X = drafted_view p i x v in
       let w : View X = after_step stored keeps tied start tells s r words [] [] (did_store (places.Content f i) x) inner in
-      let c : State = core_of stored start s in
+      let c : State = core_shown stored start s in
       let old : World = world_of stored start r.releases r.drafts s in
       let m : Mapping = record { frame = f; dirty = true } in
       let k : KnowsPages tied start old (is_pending s.views) v = r.known id v there live in

@@ -19,7 +19,7 @@ use Rattle.vm_rule.specs.declared.view.Place.TheVariants as places
 use Rattle.vm_rule.specs.declared.view.View.{View}
 use Rattle.vm_rule.specs.Puts.{put_at}
 use Rattle.vm_rule.specs.Views.{Each, seat_of, may_call}
-use Rattle.vm_rule.specs.Reading.{core_of, world_of}
+use Rattle.vm_rule.specs.Reading.{core_shown, world_of}
 use Rattle.vm_rule.specs.Rule.{KnowsPage, KnowsPages, no_held, is_pending, TranslationHolds, Ruled}
 use Rattle.vm_rule.specs.Brought.{Brings}
 use Rattle.vm_rule.specs.Log.{did_load}
@@ -55,7 +55,7 @@ module _ {X B : Type 0} (stored : B → Stored) (keeps : Start → Kept X → Ty
   module _ (there : get_elem? s.views id ≡ some v) (live : v.live ≡ true) (l : p < start.pages) where
     pub tload-shows : Shows stored keeps tied start tells s r id v s.words r.drafts [] [] tload-did tload-inner (TLoad id p)
     tload-shows =
-        let c : State = core_of stored start s in
+        let c : State = core_shown stored start s in
         let k : KnowsPages tied start (world_of stored start r.releases r.drafts s) (is_pending s.views) v = r.known id v there live in
         let seat : Seat = record (seat_of v p) { reading = framed (seat_of v p).reading (mapping_of tload-found) } in
         let page : Page = frame_read (c.pages p) id in
@@ -88,10 +88,10 @@ module _ {X B : Type 0} (stored : B → Stored) (keeps : Start → Kept X → Ty
 
     pub tload-told : Brings tload-did [] [] v tload-inner tload-after → TranslationTold p tload-found v tload-after
     tload-told brings =
-        let trans : ((core_of stored start s).pages p).trans ≡ mapping_of tload-found = translation-here stored start s p l in
+        let trans : ((core_shown stored start s).pages p).trans ≡ mapping_of tload-found = translation-here stored start s p l in
         record {
           brings = brings;
           inside = λ m e. subst (λ (o : Origin). m.frame < o.frames) (sym (r.heard id v there live).same_start) (frame-inside stored keeps tied start tells s r p m (trans ∙ e));
-          locked = λ x. ap frame_of (sym trans) ∙ sym (frame-known (seat_of v p) (put_at no_held v.held p) ((core_of stored start s).pages p) ((r.known id v there live).knows p) x);
+          locked = λ x. ap frame_of (sym trans) ∙ sym (frame-known (seat_of v p) (put_at no_held v.held p) ((core_shown stored start s).pages p) ((r.known id v there live).knows p) x);
           called = λ x. sym trans ∙ sym (((r.known id v there live).knows p).calls x).0;
         }

@@ -82,7 +82,7 @@ index-same start a b in-a in-b e = sym (place-at start a in-a) ∙ ap (place_at 
 
 -- ---- lists of words
 
-set-length : (o : Option ℕ) (i : ℕ) (words : List ℕ) → length (set_if o i words) ≡ length words
+pub set-length : (o : Option ℕ) (i : ℕ) (words : List ℕ) → length (set_if o i words) ≡ length words
 set-length None i words = refl
 set-length (Some x) i words = length-set words i x
 

@@ -25,7 +25,7 @@ use Rattle.vm_rule.proofs.Adding.{became}
 use Rattle.vm_rule.proofs.Bundled.{taken-frames}
 use Rattle.vm_rule.proofs.Found.{bundle-here, held-here}
 use Rattle.vm_rule.proofs.FrameWorlds.{lost-take}
-use Rattle.vm_step.specs.Conditions.{MayTake}
+use Rattle.vm_step.specs.Conditions.{IsMaskOf}
 use Rattle.vm_step.specs.Plays.{take_play}
 use Rattle.vm_step.proofs.BundleWord.{bundle-place, bundle-within, bundle-at}
 use Rattle.vm_step.proofs.ExchangeAt.{exchanged_at, taken-at, lost-at}
@@ -34,7 +34,7 @@ use Rattle.vm_step.proofs.PlaysAt.{plays-at}
 use Rattle.vm_step.proofs.TakeShows.{take_inner, take-legal, bundle-finds, take-shows}
 
 module _ {X B : Type 0} (stored : B → Stored) (keeps : Start → Kept X → Type 0) (tied : Start → ℕ → List ℕ → ℕ → List ℕ → Type 0) (start : Origin) (tells : Bool) (s : Table (Option B) (View X)) (r : Ruled stored keeps tied start tells s)
-    (id : ℕ) (v : View X) (there : get_elem? s.views id ≡ some v) (live : v.live ≡ true) (number : 0 < length v.used) (g expects mask : ℕ) (l : g * 64 < start.frames) (may : MayTake expects mask) where
+    (id : ℕ) (v : View X) (there : get_elem? s.views id ≡ some v) (live : v.live ≡ true) (number : 0 < length v.used) (g expects mask : ℕ) (l : g * 64 < start.frames) (may : IsMaskOf expects mask) where
   abbrev found : ℕ
   found = slice_index s.words (index_of start (places.Bundle g))
 
@@ -68,7 +68,7 @@ module _ {X B : Type 0} (stored : B → Stored) (keeps : Start → Kept X → Ty
 
 module _ {X B : Type 0} (stored : B → Stored) (keeps : Start → Kept X → Type 0) (tied : Start → ℕ → List ℕ → ℕ → List ℕ → Type 0) (shape : Shape) (tells : Bool) where
   -- so it does of every table that stands
-  pub take-allows : (slots id : ℕ) (me : Me (Option B) (View X)) (g pages frames expects mask : ℕ) → me.0.live ≡ true → 0 < length me.0.used → g * 64 < shape.frames → pages ≡ shape.pages → frames ≡ shape.frames → MayTake expects mask
+  pub take-allows : (slots id : ℕ) (me : Me (Option B) (View X)) (g pages frames expects mask : ℕ) → me.0.live ≡ true → 0 < length me.0.used → g * 64 < shape.frames → pages ≡ shape.pages → frames ≡ shape.frames → IsMaskOf expects mask
       → Allows (Stands stored keeps tied shape tells) slots id me (bundle-place pages frames g) (λ n. either (eqb n expects) (bit_xor expects mask) n) (take_play shape tells g mask (step slots (bundle-place pages frames g) expects (bit_xor expects mask) maybe.none) me)
   take-allows slots id me g pages frames expects mask live number l p f may =
       plays-at stored keeps tied shape tells slots id me (bundle-place pages frames g) (λ start. index_of start (places.Bundle g)) (λ n. either (eqb n expects) (bit_xor expects mask) n) (TakeTold g expects mask) live

@@ -8,7 +8,7 @@ use Rattle.atomic_table.specs.Table.{State as Table}
 use Rattle.vm_core.specs.declared.event.Event.TheVariants.{Take}
 use Rattle.vm_core.specs.State.{State}
 use Rattle.vm_core.specs.Words.{in_mask}
-use Rattle.vm_core.specs.Step.{Legal, after, taken}
+use Rattle.vm_core.specs.Step.{Legal, after_event, taken}
 use Rattle.vm_owner.specs.Kept.{Start, Kept}
 use Rattle.vm_owner.specs.Numbers.{has}
 use Rattle.vm_block.specs.declared.stored.Stored.{Stored}
@@ -18,7 +18,7 @@ use Rattle.vm_rule.specs.declared.view.Place.TheVariants as places
 use Rattle.vm_rule.specs.declared.view.View.{View}
 use Rattle.vm_rule.specs.Puts.{put_at}
 use Rattle.vm_rule.specs.Layout.{index_of}
-use Rattle.vm_rule.specs.Reading.{core_of}
+use Rattle.vm_rule.specs.Reading.{core_shown}
 use Rattle.vm_rule.specs.Rule.{Ruled}
 use Rattle.vm_rule.specs.Log.{did_exchange}
 use Rattle.vm_rule.specs.Bundles.{frames_in, taken_view}
@@ -27,24 +27,24 @@ use Rattle.vm_rule.proofs.Bundled.{has-frames_in, with_contents-at}
 use Rattle.vm_rule.proofs.Facts.{has-both, either-way}
 use Rattle.vm_rule.proofs.Found.{bundle-here}
 use Rattle.vm_rule.proofs.FrameWorlds.{take-step}
-use Rattle.vm_step.specs.Conditions.{MayTake}
+use Rattle.vm_step.specs.Conditions.{IsMaskOf}
 use Rattle.vm_step.proofs.BundleWord.{bundle-within, names-bundle}
 use Rattle.vm_step.proofs.Here.{world}
 use Rattle.vm_step.proofs.OtherWords.{other-shows}
 
--- the frames after a take
+-- the frames after_event a take
 pub frames-with : (g mask : ℕ) (frames : List ℕ) (f : ℕ) → has f (frames_in g mask ++ frames) ≡ (if in_mask g mask f then true else has f frames)
 frames-with g mask frames f = has-both f (frames_in g mask) frames ∙ ap (λ b. b || has f frames) (has-frames_in g mask f) ∙ either-way (in_mask g mask f) (has f frames)
 
 module _ {X B : Type 0} (stored : B → Stored) (keeps : Start → Kept X → Type 0) (tied : Start → ℕ → List ℕ → ℕ → List ℕ → Type 0) (start : Origin) (tells : Bool) (s : Table (Option B) (View X)) (r : Ruled stored keeps tied start tells s)
-    (id : ℕ) (v : View X) (there : get_elem? s.views id ≡ some v) (live : v.live ≡ true) (g expects mask : ℕ) (l : g * 64 < start.frames) (may : MayTake expects mask) where
+    (id : ℕ) (v : View X) (there : get_elem? s.views id ≡ some v) (live : v.live ≡ true) (g expects mask : ℕ) (l : g * 64 < start.frames) (may : IsMaskOf expects mask) where
   abbrev pub take_did : Did
   take_did = did_exchange (places.Bundle g) expects (slice_index s.words (index_of start (places.Bundle g))) (bit_xor expects mask)
 
   abbrev pub take_inner : View X
   take_inner = taken_view g mask (world stored keeps tied start tells s r).core.words v
 
-  pub take-legal : Legal (core_of stored start s) (Take id g expects mask)
+  pub take-legal : Legal (core_shown stored start s) (Take id g expects mask)
   take-legal = record { names = names-bundle stored start s id v there g l; some = may.some; among = may.among }
 
   -- it knows the words of all its frames
@@ -58,11 +58,11 @@ module _ {X B : Type 0} (stored : B → Stored) (keeps : Start → Kept X → Ty
       (cases_Bool (has f (frames_in g mask)))
 
   module _ (hit : slice_index s.words (index_of start (places.Bundle g)) ≡ expects) where
-    pub bundle-finds : (core_of stored start s).bundles g ≡ expects
+    pub bundle-finds : (core_shown stored start s).bundles g ≡ expects
     bundle-finds = bundle-here stored start s g (bundle-within start g l) ∙ hit
 
-    core-taken : after (core_of stored start s) (Take id g expects mask) ≡ taken (core_of stored start s) id g expects mask
-    core-taken = rw (eq-eqb ((core_of stored start s).bundles g) expects bundle-finds) refl
+    core-taken : after_event (core_shown stored start s) (Take id g expects mask) ≡ taken (core_shown stored start s) id g expects mask
+    core-taken = rw (eq-eqb ((core_shown stored start s).bundles g) expects bundle-finds) refl
 
     pub take-shows : Shows stored keeps tied start tells s r id v (slice_set s.words (index_of start (places.Bundle g)) (bit_xor expects mask)) r.drafts [] [] take_did take_inner (Take id g expects mask)
     take-shows =

@@ -10,7 +10,7 @@ use Rattle.vm_core.specs.StateActs.{is_readable, left_open}
 use Rattle.vm_block.specs.declared.stored.Stored.{Stored}
 use Rattle.vm_rule.specs.declared.view.Origin.{Origin}
 use Rattle.vm_rule.specs.declared.view.View.{View}
-use Rattle.vm_rule.specs.Reading.{core_of}
+use Rattle.vm_rule.specs.Reading.{core_shown}
 use Rattle.vm_rule.specs.Looks.{left_at}
 use Rattle.vm_rule.proofs.Found.{state-here}
 
@@ -33,5 +33,5 @@ pub readable : (state : ℕ) → is_readable state ≡ true → (state ≢ LOCKE
 readable state e = (grind (arith, nat_tests, e), grind (arith, nat_tests, e))
 
 -- so its page is not locked
-pub free-here : {X B : Type 0} (stored : B → Stored) (start : Origin) (s : Table (Option B) (View X)) (p : ℕ) → p < start.pages → (o : Option Open) → left_at (slice_index s.words p) o ≡ Same → ((core_of stored start s).pages p).state ≢ LOCKED
+pub free-here : {X B : Type 0} (stored : B → Stored) (start : Origin) (s : Table (Option B) (View X)) (p : ℕ) → p < start.pages → (o : Option Open) → left_at (slice_index s.words p) o ≡ Same → ((core_shown stored start s).pages p).state ≢ LOCKED
 free-here stored start s p l o same e = (readable (state_of (slice_index s.words p)) (stays (slice_index s.words p) o same).3).0 (sym (state-here stored start s p l) ∙ e)

@@ -1,4 +1,4 @@
--- One word of the table is written: the number that stands there then, and what of the table it leaves.
+-- One word of the table is with_word: the number that stands there then, and what of the table it leaves.
 use Rattle.std.proofs.Common.{ℕ, ◌≡◌, ◌<◌, List, length, sym, ap, subst, ◌∙◌, arith, slice_set, slice_index, Option}
 use Rattle.vm_core.specs.declared.event.Mapping.{Mapping}
 use Rattle.vm_core.specs.Fn.{upd}
@@ -7,7 +7,7 @@ use Rattle.vm_core.proofs.Upd.{each-upd}
 use Rattle.vm_rule.specs.declared.view.Origin.{Origin}
 use Rattle.vm_rule.specs.declared.view.Place.{Place}
 use Rattle.vm_rule.specs.declared.view.Place.TheVariants as places
-use Rattle.vm_rule.specs.Layout.{Within, Words, width, index_of, words_of, written}
+use Rattle.vm_rule.specs.Layout.{Within, Words, width, index_of, table_words, with_word}
 use Rattle.vm_rule.specs.Rule.{ArePlain}
 use Rattle.vm_rule.proofs.Parts.{words-written}
 use Rattle.std.proofs.lemmas.List.{get_or-set_same}
@@ -22,25 +22,25 @@ index-below start (places.Bundle g) l = omega (arith, l)
 index-below start places.Next l = omega arith
 index-below start places.Hand l = omega arith
 
--- the number that was written stands there
+-- the number that was with_word stands there
 pub stands-there : (start : Origin) (words : List ℕ) (w : Place) (x : ℕ) → length words ≡ width start → Within start w → x ≡ slice_index (slice_set words (index_of start w) x) (index_of start w)
 stands-there start words w x wide l =
     let lt : index_of start w < length words = (let b = index-below start w l in omega (arith, b, wide)) in
     sym (get_or-set_same words (index_of start w) x 0 lt)
 
--- the translation word that was written spells what it means, as each other does
+-- the translation word that was with_word spells what it means, as each other does
 pub spelled-now : (start : Origin) (words : List ℕ) (p : ℕ) (t : Option Mapping) → length words ≡ width start → p < start.pages → mapping_of (trans_word t) ≡ t
     → ArePlain start words → ArePlain start (slice_set words (index_of start (places.Translation p)) (trans_word t))
 spelled-now start words p t wide l fits plain q lq =
-    let e : (words_of start (slice_set words (index_of start (places.Translation p)) (trans_word t))).translations q ≡ upd (words_of start words).translations p (trans_word t) q =
+    let e : (table_words start (slice_set words (index_of start (places.Translation p)) (trans_word t))).translations q ≡ upd (table_words start words).translations p (trans_word t) q =
     ap (λ (r : Words). r.translations q) (words-written start words (places.Translation p) (trans_word t) wide l) in
     subst (λ n. n ≡ trans_word (mapping_of n)) (sym e)
-    (each-upd (λ k n. k < start.pages → n ≡ trans_word (mapping_of n)) (words_of start words).translations p (trans_word t) (λ _. ap trans_word (sym fits)) (λ k _. plain k) q lq)
+    (each-upd (λ k n. k < start.pages → n ≡ trans_word (mapping_of n)) (table_words start words).translations p (trans_word t) (λ _. ap trans_word (sym fits)) (λ k _. plain k) q lq)
 
--- where no translation word was written, each spells what it means
-pub spelled-still : (start : Origin) (words : List ℕ) (w : Place) (x : ℕ) → length words ≡ width start → Within start w → (written (words_of start words) w x).translations ≡ (words_of start words).translations
+-- where no translation word was with_word, each spells what it means
+pub spelled-still : (start : Origin) (words : List ℕ) (w : Place) (x : ℕ) → length words ≡ width start → Within start w → (with_word (table_words start words) w x).translations ≡ (table_words start words).translations
     → ArePlain start words → ArePlain start (slice_set words (index_of start w) x)
 spelled-still start words w x wide l same plain p lp =
-    let e : (words_of start (slice_set words (index_of start w) x)).translations p ≡ (words_of start words).translations p =
+    let e : (table_words start (slice_set words (index_of start w) x)).translations p ≡ (table_words start words).translations p =
     ap (λ (r : Words). r.translations p) (words-written start words w x wide l) ∙ ap (λ t. t p) same in
     e ∙ plain p lp ∙ ap (λ t. trans_word (mapping_of t)) (sym e)

@@ -36,12 +36,12 @@ module _ {X : Type 0} where
   IsAlone v = IsWhole v × (v.current ≡ true)
 
   -- the word at this place, as the pass knows the table
-  abbrev pub word_at : View X → Place → ℕ
-  word_at v at = slice_index v.snapshot.words (index_of v.start at)
+  abbrev pub known_word_at : View X → Place → ℕ
+  known_word_at v at = slice_index v.snapshot.words (index_of v.start at)
 
   -- a pass that is alone: a page that it neither holds nor shares is locked by nobody
   abbrev pub KnowsUnheld : View X → Type 0
-  KnowsUnheld w = IsAlone w → (q : ℕ) → q < w.start.pages → (seat_of w q).exclusive ≡ false → (seat_of w q).shares ≡ 0 → LocksNone (word_at w (places.State q))
+  KnowsUnheld w = IsAlone w → (q : ℕ) → q < w.start.pages → (seat_of w q).exclusive ≡ false → (seat_of w q).shares ≡ 0 → LocksNone (known_word_at w (places.State q))
 
   -- the call made these steps, each on a word of the table, and these releases; where the pass was alone, nothing else happened to the table's
   -- words, of which it knows all, and to its releases
@@ -55,5 +55,5 @@ module _ {X : Type 0} where
   -- after these steps a pass that was alone knows the word at each place: where a step left one, the last one left there, and elsewhere the word
   -- that it knew
   pub record KnowsAfter (done : List Did) (v w : View X) : Type 0 where
-    pub kept : IsAlone v → (at : Place) → Within v.start at → WritesNone at done → word_at w at ≡ word_at v at
-    pub left : IsAlone v → (at : Place) (word : ℕ) → LeavesLast done at word → word_at w at ≡ word
+    pub kept : IsAlone v → (at : Place) → Within v.start at → WritesNone at done → known_word_at w at ≡ known_word_at v at
+    pub left : IsAlone v → (at : Place) (word : ℕ) → LeavesLast done at word → known_word_at w at ≡ word

@@ -1,4 +1,4 @@
--- The table after a move of a page's slot, and what a call of the page's device, seen when its block comes home, is to the core.
+-- The table after_event a move of a page's slot, and what a call of the page's device, seen when its block comes home, is to the core.
 use Rattle.std.specs.Prelude.{ℕ, true, Option, Some, List, ◌≡◌, slice_set}
 use mathlib.Core.Option as maybe
 use mathlib.Core.Option.{some}
@@ -8,10 +8,10 @@ use Rattle.vm_block.specs.declared.stored.Stored.{Stored}
 use Rattle.vm_core.specs.declared.event.Event.{Event}
 use Rattle.vm_core.specs.declared.event.Seen.{Seen}
 use Rattle.vm_core.specs.State.{State}
-use Rattle.vm_core.specs.Step.{Legal, after, seen, on_page}
+use Rattle.vm_core.specs.Step.{Legal, after_event, seen, on_page}
 use Rattle.vm_rule.specs.declared.view.Origin.{Origin}
 use Rattle.vm_rule.specs.declared.view.View.{View}
-use Rattle.vm_rule.specs.Reading.{core_of}
+use Rattle.vm_rule.specs.Reading.{core_shown}
 
 -- the core with these words in the block of page p
 abbrev pub with_block : State → ℕ → List ℕ → State
@@ -22,7 +22,7 @@ module _ {X B : Type 0} where
   abbrev pub IsHome : Table (Option B) (View X) → ℕ → B → Type 0
   IsHome s p b = get_elem? s.homes p ≡ some (some (Some b))
 
-  -- the table after pass id took slot p, and after it brought the slot home; its view is then w
+  -- the table after_event pass id took slot p, and after_event it brought the slot home; its view is then w
   abbrev pub taken_from : Table (Option B) (View X) → ℕ → ℕ → View X → Table (Option B) (View X)
   taken_from s p id w = record { words = s.words; homes = slice_set s.homes p maybe.none; views = slice_set s.views id w }
 
@@ -32,15 +32,15 @@ module _ {X B : Type 0} where
   module _ (stored : B → Stored) (start : Origin) where
     -- the table shows the same core
     abbrev pub ShowsSame : Table (Option B) (View X) → Table (Option B) (View X) → Type 0
-    ShowsSame before later = core_of stored start later ≡ core_of stored start before
+    ShowsSame before later = core_shown stored start later ≡ core_shown stored start before
 
     -- the table shows this core; where blocks do not tell their words, but for the words of page p's block, which are these
     pub record ShowsBut (later : Table (Option B) (View X)) (c : State) (p : ℕ) (words : List ℕ) : Type 0 where
-      pub core : core_of stored start later ≡ with_block c p words
-      pub told : start.tells ≡ true → core_of stored start later ≡ c
+      pub core : core_shown stored start later ≡ with_block c p words
+      pub told : start.tells ≡ true → core_shown stored start later ≡ c
 
     -- the event is legal, sees this, and leads to the core that the table shows later
     pub record IsCall (before later : Table (Option B) (View X)) (p : ℕ) (words : List ℕ) (e : Event) (what : Seen) : Type 0 where
-      pub legal : Legal (core_of stored start before) e
-      pub shows : ShowsBut later (after (core_of stored start before) e) p words
-      pub sees : seen (core_of stored start before) e ≡ what
+      pub legal : Legal (core_shown stored start before) e
+      pub shows : ShowsBut later (after_event (core_shown stored start before) e) p words
+      pub sees : seen (core_shown stored start before) e ≡ what

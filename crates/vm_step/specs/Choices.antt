@@ -5,9 +5,9 @@ use Rattle.vm_owner.specs.Numbers.{AreApart}
 use Rattle.vm_rule.specs.Views.{Each}
 
 -- the pages of the candidates
-abbrev pub pages_of : List (ℕ × ℕ) → List ℕ
-pages_of [] = []
-pages_of (c ∷ cs) = c.0 ∷ pages_of cs
+abbrev pub candidate_pages : List (ℕ × ℕ) → List ℕ
+candidate_pages [] = []
+candidate_pages (c ∷ cs) = c.0 ∷ candidate_pages cs
 
 -- the first of them, or this page
 abbrev pub first_or : Option ℕ → ℕ → Option ℕ
@@ -26,5 +26,5 @@ pub record IsCandidate (pages : ℕ) (c : ℕ × ℕ) : Type 0 where
 
 -- candidates for eviction: each another page
 pub record AreCandidates (pages : ℕ) (list : List (ℕ × ℕ)) : Type 0 where
-  pub apart : AreApart (pages_of list)
+  pub apart : AreApart (candidate_pages list)
   pub each : Each (IsCandidate pages) list

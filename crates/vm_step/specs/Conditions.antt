@@ -20,7 +20,7 @@ use Rattle.vm_rule.specs.Mappings.{held_at}
 use Rattle.vm_step.specs.Evidence.{HasGiven, HasWritten}
 
 -- some of the bits expected, and not none
-pub record MayTake (expects mask : ℕ) : Type 0 where
+pub record IsMaskOf (expects mask : ℕ) : Type 0 where
   pub some : mask ≢ 0
   pub among : bit_and mask expects ≡ mask
 
@@ -93,7 +93,7 @@ module _ {X : Type 0} where
     pub first : IsFirst may_release p [] None v
 
   -- the pass holds the pages from x on, n of them, exclusively, all resident; none is a member of a group still to be released
-  pub record MayClaim (v : View X) (x n : ℕ) : Type 0 where
+  pub record PassMayClaim (v : View X) (x n : ℕ) : Type 0 where
     pub few : (n ≡ 1) ⊎ (n ≡ 2)
     pub inside : x + n ≤ v.start.pages
     pub owns : (p : ℕ) → x ≤ p → p < x + n → (seat_of v p).exclusive ≡ true
@@ -111,7 +111,7 @@ module _ {X : Type 0} where
     pub paid : has p v.owed ≡ false
 
   -- the pass holds all frames of the mask, which is not empty
-  pub record MayGive (v : View X) (g mask : ℕ) : Type 0 where
+  pub record PassMayGive (v : View X) (g mask : ℕ) : Type 0 where
     pub some : mask ≢ 0
     pub holds : (f : ℕ) → in_mask g mask f ≡ true → has f v.frames ≡ true
 

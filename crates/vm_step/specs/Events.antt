@@ -7,13 +7,13 @@ use Rattle.vm_block.specs.declared.stored.Stored.{Stored}
 use Rattle.vm_core.specs.declared.event.Event.{Event}
 use Rattle.vm_core.specs.declared.event.Seen.{Seen}
 use Rattle.vm_core.specs.declared.event.Seen.TheVariants as sights
-use Rattle.vm_core.specs.Step.{Legal, after, seen}
+use Rattle.vm_core.specs.Step.{Legal, after_event, seen}
 use Rattle.vm_owner.specs.Kept.{Start, Kept}
 use Rattle.vm_rule.specs.declared.view.Origin.{Origin}
 use Rattle.vm_rule.specs.declared.view.Place.{Place}
 use Rattle.vm_rule.specs.declared.view.View.{View}
 use Rattle.vm_rule.specs.Layout.{Within, index_of}
-use Rattle.vm_rule.specs.Reading.{core_of}
+use Rattle.vm_rule.specs.Reading.{core_shown}
 use Rattle.vm_rule.specs.Rule.{Ruled}
 
 -- an exchange at a word: it leaves the new number where it found the one expected, and sees whether it did
@@ -28,7 +28,7 @@ module _ {X B : Type 0} where
   abbrev pub FindsAt : Origin → Table (Option B) (View X) → Place → ℕ → Type 0
   FindsAt start s place found = Within start place × (found ≡ slice_index s.words (index_of start place))
 
-  -- the table after a step of pass id, which left these words and this view
+  -- the table after_event a step of pass id, which left these words and this view
   abbrev pub table_after : Table (Option B) (View X) → List ℕ → ℕ → View X → Table (Option B) (View X)
   table_after s words id w = record { words = words; homes = s.homes; views = slice_set s.views id w }
 
@@ -41,6 +41,6 @@ module _ {X B : Type 0} where
 
     -- from the core that the table shows before, the event is legal, leads to the core that the table shows later, and sees this
     pub record IsEvent (before later : Table (Option B) (View X)) (e : Event) (what : Seen) : Type 0 where
-      pub legal : Legal (core_of stored start before) e
-      pub core : core_of stored start later ≡ after (core_of stored start before) e
-      pub sees : seen (core_of stored start before) e ≡ what
+      pub legal : Legal (core_shown stored start before) e
+      pub core : core_shown stored start later ≡ after_event (core_shown stored start before) e
+      pub sees : seen (core_shown stored start before) e ≡ what

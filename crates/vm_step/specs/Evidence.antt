@@ -9,10 +9,10 @@ use Rattle.vm_step.specs.declared.saw.At.{At}
 use Rattle.vm_step.specs.declared.saw.At.TheVariants as ats
 use Rattle.vm_step.specs.declared.saw.Saw.{Saw}
 
-abbrev pub place_of : At → Place
-place_of (ats.Page p) = places.State p
-place_of (ats.Bundle g) = places.Bundle g
-place_of ats.Next = places.Next
+abbrev pub place_at : At → Place
+place_at (ats.Page p) = places.State p
+place_at (ats.Bundle g) = places.Bundle g
+place_at ats.Next = places.Next
 
 -- the step found this word there
 abbrev pub Gives : Did → Place → ℕ → Type 0
@@ -78,11 +78,11 @@ pub record IsSaw (kept : ℕ → Type 0) (expects : ℕ → ℕ → Type 0) (don
   pub last : Did
   pub later : List Did
   pub cut : done ≡ earlier ++ last ∷ later
-  pub gives : Gives last (place_of saw.at) saw.seen
+  pub gives : Gives last (place_at saw.at) saw.seen
   pub since : List Did
-  pub begins : Begins kept expects (place_of saw.at) saw.first saw.seen last earlier since
-  pub quiet : AreQuiet (place_of saw.at) saw.seen since
-  pub foreign : Each (λ d. d.at ≡ place_of saw.at → d.wrote ≢ Some saw.seen) earlier
+  pub begins : Begins kept expects (place_at saw.at) saw.first saw.seen last earlier since
+  pub quiet : AreQuiet (place_at saw.at) saw.seen since
+  pub foreign : Each (λ d. d.at ≡ place_at saw.at → d.wrote ≢ Some saw.seen) earlier
   pub why : WhyAgain saw.at saw.first saw.seen last
 
 -- the page was found evicted by a load, and none of the steps before had left that word

@@ -9,7 +9,7 @@ use Rattle.vm_rule.specs.declared.view.View.{View}
 use Rattle.vm_rule.specs.Views.{draft_of}
 use Rattle.vm_rule.specs.Reading.{last_of}
 use Rattle.vm_rule.specs.Rule.{began_of}
-use Rattle.vm_step.specs.Alone.{IsAlone, word_at}
+use Rattle.vm_step.specs.Alone.{IsAlone, known_word_at}
 
 module _ {X : Type 0} where
   -- what the layer above keeps after a step of the pass: its history is all that the pass has seen now; it has page p with the last words, where
@@ -23,4 +23,4 @@ module _ {X : Type 0} where
     pub members : (q : ℕ) → q < w.start.pages → has q w.pending ≡ true → page_at kept.pages q ≡ draft_of w q
     -- pages that were never claimed have words of zeros; a pass that is alone knows the next one
     pub zero : (q : ℕ) → kept.next ≤ q → q < w.start.pages → page_at kept.pages q ≡ replicate WORDS 0
-    pub next : IsAlone w → word_at w places.Next ≡ kept.next
+    pub next : IsAlone w → known_word_at w places.Next ≡ kept.next

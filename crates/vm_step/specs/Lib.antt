@@ -9,6 +9,7 @@ pub mod Whole
 pub mod Keeping
 pub mod Asides
 pub mod BlockMoves
+pub mod DeviceCalls
 pub mod Works
 pub mod Alone
 pub mod Tables

@@ -3,12 +3,12 @@ use Rattle.std.specs.Prelude.{ℕ, ◌≡◌, ◌<◌, length}
 use Rattle.vm_rule.specs.declared.view.Place.{Place}
 use Rattle.vm_rule.specs.declared.view.View.{View}
 use Rattle.vm_rule.specs.Layout.{Within, index_of}
-use Rattle.vm_step.specs.Alone.{IsAlone, word_at}
+use Rattle.vm_step.specs.Alone.{IsAlone, known_word_at}
 
 module _ {X : Type 0} where
   -- the pass knows this word to be at this place, where the table has the place
   abbrev pub KnowsAt : Place → ℕ → View X → Type 0
-  KnowsAt place word v = index_of v.start place < length v.snapshot.words → word_at v place ≡ word
+  KnowsAt place word v = index_of v.start place < length v.snapshot.words → known_word_at v place ≡ word
 
   -- a pass that was alone knows the words of the table as they were
   abbrev pub KnowsSame : View X → View X → Type 0
@@ -17,4 +17,4 @@ module _ {X : Type 0} where
   -- the pass knows the words at all places but those touched as they were, and as many words
   pub record KnowsElse (touched : Place → Type 0) (v w : View X) : Type 0 where
     pub count : length w.snapshot.words ≡ length v.snapshot.words
-    pub words : (at : Place) → Within v.start at → (touched at → ⊥) → word_at w at ≡ word_at v at
+    pub words : (at : Place) → Within v.start at → (touched at → ⊥) → known_word_at w at ≡ known_word_at v at

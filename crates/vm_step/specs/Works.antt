@@ -11,7 +11,7 @@ use Rattle.vm_step.specs.Alone.{RunsAlone}
 
 module _ {X : Type 0} (p : ℕ) where
   -- the steps speak of page p alone: all other pages are as they were
-  pub record Leaves (done : List Did) (v w : View X) : Type 0 where
+  pub record LeavesRest (done : List Did) (v w : View X) : Type 0 where
     pub log : w.log ≡ v.log ++ done
     pub live : w.live ≡ v.live
     pub start : w.start ≡ v.start
@@ -31,7 +31,7 @@ module _ {X : Type 0} (p : ℕ) where
 module _ {X : Type 0} (p : ℕ) where
   -- the pass's locks, drafts and open reads are as they were
   pub record Works (done : List Did) (v w : View X) : Type 0 where
-    pub leaves : Leaves p done v w
+    pub leaves : LeavesRest p done v w
     pub seat : seat_of w p ≡ seat_of v p
     pub loads : loads_at w p ≡ loads_at v p
     pub draft : draft_of w p ≡ draft_of v p

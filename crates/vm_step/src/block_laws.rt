@@ -12,7 +12,7 @@ ghost use Rattle.vm_rule.specs.declared.view.View.{View};
 ghost use Rattle.vm_rule.specs.Faults.{RaiseTold};
 ghost use Rattle.vm_rule.specs.Layout.{index_of};
 ghost use Rattle.vm_rule.specs.Mappings.{held_at};
-ghost use Rattle.vm_rule.specs.Reading.{core_of};
+ghost use Rattle.vm_rule.specs.Reading.{core_shown};
 ghost use Rattle.vm_rule.specs.Slots.{ReturnTold, ShiftTold, SlotTold, out_at, words_held};
 ghost use Rattle.vm_rule.specs.Views.{seat_of};
 ghost use Rattle.vm_step.specs.BlockMoves.{IsCall, IsHome, ShowsBut, ShowsSame, brought_to, taken_from};
@@ -40,7 +40,7 @@ pub fn block_out_is_no_event<U: Owner, B: Block>()
 /// blocks do not tell their words, the words of the page's block alone may differ.
 pub fn block_home_brings_its_event<U: Owner, B: Block>()
     ensures lifted { (start : Origin) (s : Table (Option B) (View U.Said)) (id p found : ℕ) (b : Stored) (v w : View U.Said) → IsPassOf B.stored start U.keeps U.tied B.tells s id v → v.out ≡ Some (out_at p false b) → ShiftTold p true b found v w → ShowsSame B.stored start s (taken_from s p id w) }
-    ensures idle { (start : Origin) (s : Table (Option B) (View U.Said)) (id p found : ℕ) (old : Stored) (b : B) (v w : View U.Said) → IsPassOf B.stored start U.keeps U.tied B.tells s id v → v.out ≡ Some (out_at p true old) → ReturnTold p (B.stored b) found v w → (start.tells ≡ true → (B.stored b).words ≡ old.words) → (B.stored b).count ≡ old.count → ShowsBut B.stored start (brought_to s p (Some b) id w) (core_of B.stored start s) p (B.stored b).words }
+    ensures idle { (start : Origin) (s : Table (Option B) (View U.Said)) (id p found : ℕ) (old : Stored) (b : B) (v w : View U.Said) → IsPassOf B.stored start U.keeps U.tied B.tells s id v → v.out ≡ Some (out_at p true old) → ReturnTold p (B.stored b) found v w → (start.tells ≡ true → (B.stored b).words ≡ old.words) → (B.stored b).count ≡ old.count → ShowsBut B.stored start (brought_to s p (Some b) id w) (core_shown B.stored start s) p (B.stored b).words }
     ensures read { (start : Origin) (s : Table (Option B) (View U.Said)) (id p found : ℕ) (old : Stored) (b : B) (v w : View U.Said) → IsPassOf B.stored start U.keeps U.tied B.tells s id v → v.out ≡ Some (out_at p true old) → ReturnTold p (B.stored b) found v w → (seat_of v p).exclusive ≡ true → (start.tells ≡ true → (B.stored b).words ≡ old.words) → (B.stored b).count ≡ old.count → IsCall B.stored start s (brought_to s p (Some b) id w) p (B.stored b).words (Read id p) sights.Done }
     ensures wrote { (start : Origin) (s : Table (Option B) (View U.Said)) (id p found : ℕ) (old : Stored) (b : B) (v w : View U.Said) → IsPassOf B.stored start U.keeps U.tied B.tells s id v → v.out ≡ Some (out_at p true old) → ReturnTold p (B.stored b) found v w → IsSome (held_at v p).mapping → (start.tells ≡ true → (B.stored b).words ≡ words_held v p) → (B.stored b).count ≡ old.count → IsCall B.stored start s (brought_to s p (Some b) id w) p (B.stored b).words (Write id p) sights.Done }
     ensures read_failed { (start : Origin) (s : Table (Option B) (View U.Said)) (id p found : ℕ) (old : Stored) (b : B) (v w : View U.Said) → IsPassOf B.stored start U.keeps U.tied B.tells s id v → v.out ≡ Some (out_at p true old) → ReturnTold p (B.stored b) found v w → (seat_of v p).exclusive ≡ true → (start.tells ≡ true → (B.stored b).words ≡ old.words) → (B.stored b).count ≡ count_more old.count → IsCall B.stored start s (brought_to s p (Some b) id w) p (B.stored b).words (RFail id p) (sights.Word (count_more old.count)) }

@@ -10,7 +10,7 @@ ghost use Rattle.vm_rule.specs.declared.view.Place.TheVariants as places;
 ghost use Rattle.vm_rule.specs.declared.view.View.{View};
 ghost use Rattle.vm_rule.specs.Bundles.{BundleTold, GiveTold, HandTold, TakeTold};
 ghost use Rattle.vm_rule.specs.Layout.{index_of};
-ghost use Rattle.vm_step.specs.Conditions.{MayGive, MayTake};
+ghost use Rattle.vm_step.specs.Conditions.{PassMayGive, IsMaskOf};
 ghost use Rattle.vm_step.specs.Events.{FindsAt, IsEvent, IsPassOf, exchange_sees, exchanged, table_after};
 
 use vm_block::Block;
@@ -23,12 +23,12 @@ pub fn bload_is_its_event<U: Owner, B: Block>()
 
 /// A take that is tried sees whether the word was the one expected, and the word where it was not.
 pub fn take_is_its_event<U: Owner, B: Block>()
-    ensures { (start : Origin) (s : Table (Option B) (View U.Said)) (id g expects mask found : ℕ) (v w : View U.Said) → IsPassOf B.stored start U.keeps U.tied B.tells s id v → FindsAt start s (places.Bundle g) found → MayTake expects mask → TakeTold g expects mask found v w → IsEvent B.stored start s (table_after s (exchanged s.words (index_of start (places.Bundle g)) expects found (bit_xor expects mask)) id w) (Take id g expects mask) (exchange_sees expects found) }
+    ensures { (start : Origin) (s : Table (Option B) (View U.Said)) (id g expects mask found : ℕ) (v w : View U.Said) → IsPassOf B.stored start U.keeps U.tied B.tells s id v → FindsAt start s (places.Bundle g) found → IsMaskOf expects mask → TakeTold g expects mask found v w → IsEvent B.stored start s (table_after s (exchanged s.words (index_of start (places.Bundle g)) expects found (bit_xor expects mask)) id w) (Take id g expects mask) (exchange_sees expects found) }
 {}
 
 /// A give sees the word before.
 pub fn give_is_its_event<U: Owner, B: Block>()
-    ensures { (start : Origin) (s : Table (Option B) (View U.Said)) (id g mask found : ℕ) (v w : View U.Said) → IsPassOf B.stored start U.keeps U.tied B.tells s id v → FindsAt start s (places.Bundle g) found → MayGive v g mask → GiveTold g mask found v w → IsEvent B.stored start s (table_after s (slice_set s.words (index_of start (places.Bundle g)) (bit_or found mask)) id w) (Give id g mask) (sights.Word found) }
+    ensures { (start : Origin) (s : Table (Option B) (View U.Said)) (id g mask found : ℕ) (v w : View U.Said) → IsPassOf B.stored start U.keeps U.tied B.tells s id v → FindsAt start s (places.Bundle g) found → PassMayGive v g mask → GiveTold g mask found v w → IsEvent B.stored start s (table_after s (slice_set s.words (index_of start (places.Bundle g)) (bit_or found mask)) id w) (Give id g mask) (sights.Word found) }
 {}
 
 /// A move of the hand sees where it was.

@@ -1,7 +1,7 @@
 // The steps on the words of bundles of free frames, and on the hand: load a bundle, take frames, give them back, move the hand on.
 ghost use Rattle.std.specs.Prelude.{◌≡◌, ◌≢◌, ◌<◌, ◌*◌, ℕ, bit_and, true};
 ghost use Rattle.vm_rule.specs.Bundles.{BundleTold, GiveTold, HandTold, TakeTold};
-ghost use Rattle.vm_step.specs.Conditions.{MayGive, MayTake};
+ghost use Rattle.vm_step.specs.Conditions.{PassMayGive, IsMaskOf};
 ghost use Rattle.vm_step.specs.Passes.{IsSamePass, MayStep, found_by, view};
 ghost use Rattle.vm_step.specs.Plays.{IsOf};
 ghost use Rattle.vm_step.specs.declared.took.Took.TheVariants.{Lost};
@@ -60,7 +60,7 @@ fn take_with<U: Owner, B: Block, M: Given<U::Said>>(
 ) -> u64
     requires pass { MayStep words.now.table.shared.table_id pass.old }
     requires bundle { g * FRAMES < words.now.table.shared.key.frames }
-    requires legal { MayTake expects mask }
+    requires legal { IsMaskOf expects mask }
     requires given { (M.shape ≡ words.now.table.shared.key) × (M.tells ≡ B.tells) × (M.first ≡ g) × (M.second ≡ mask) }
     ensures pass { IsSamePass pass.old pass.new }
     ensures table { IsOf words.now.table.shared.key B.tells (view pass.old) }
@@ -86,7 +86,7 @@ pub fn take<U: Owner, B: Block>(
 ) -> Took
     requires pass { MayStep words.now.table.shared.table_id pass.old }
     requires bundle { g * FRAMES < words.now.table.shared.key.frames }
-    requires legal { MayTake expects mask }
+    requires legal { IsMaskOf expects mask }
     ensures pass { IsSamePass pass.old pass.new }
     ensures table { IsOf words.now.table.shared.key B.tells (view pass.old) }
     ensures told { TakeTold g expects mask (found_by expects result) (view pass.old) (view pass.new) }
@@ -106,7 +106,7 @@ fn give_with<U: Owner, B: Block, M: Given<U::Said>>(
 ) -> u64
     requires pass { MayStep words.now.table.shared.table_id pass.old }
     requires bundle { g * FRAMES < words.now.table.shared.key.frames }
-    requires legal { MayGive (view pass.old) g mask }
+    requires legal { PassMayGive (view pass.old) g mask }
     requires given { (M.shape ≡ words.now.table.shared.key) × (M.tells ≡ B.tells) × (M.first ≡ g) × (M.second ≡ mask) }
     ensures pass { IsSamePass pass.old pass.new }
     ensures table { IsOf words.now.table.shared.key B.tells (view pass.old) }
@@ -126,7 +126,7 @@ fn give_with<U: Owner, B: Block, M: Given<U::Said>>(
 pub fn give<U: Owner, B: Block>(words: &Words<U, B>, pass: &mut Pass<U>, g: u32, mask: u64) -> u64
     requires pass { MayStep words.now.table.shared.table_id pass.old }
     requires bundle { g * FRAMES < words.now.table.shared.key.frames }
-    requires legal { MayGive (view pass.old) g mask }
+    requires legal { PassMayGive (view pass.old) g mask }
     ensures pass { IsSamePass pass.old pass.new }
     ensures table { IsOf words.now.table.shared.key B.tells (view pass.old) }
     ensures told { GiveTold g mask result (view pass.old) (view pass.new) }

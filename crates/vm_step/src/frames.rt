@@ -1,7 +1,7 @@
 // The steps on a page's translation word and on the words of its frame: load the translation, load a word, store a word.
 ghost use Rattle.std.specs.Prelude.{◌≡◌, ◌<◌, ℕ, Some};
 ghost use Rattle.vm_rule.specs.Loads.{LoadTold, TranslationTold, frame_read_by};
-ghost use Rattle.vm_rule.specs.Stores.{MayStore, StoresTold};
+ghost use Rattle.vm_rule.specs.Stores.{PassMayStore, StoresTold};
 ghost use Rattle.vm_step.specs.Passes.{IsSamePass, MayStep, view};
 ghost use Rattle.vm_step.specs.Plays.{IsOf};
 
@@ -96,7 +96,7 @@ fn store_with<U: Owner, B: Block, M: Given<U::Said>>(
 )
     requires pass { MayStep words.now.table.shared.table_id pass.old }
     requires frame { (f < words.now.table.shared.key.frames) × (i < WORDS) }
-    requires legal { MayStore (view pass.old) f }
+    requires legal { PassMayStore (view pass.old) f }
     requires given { (M.shape ≡ words.now.table.shared.key) × (M.tells ≡ B.tells) × (M.first ≡ f) × (M.second ≡ i) }
     ensures pass { IsSamePass pass.old pass.new }
     ensures table { IsOf words.now.table.shared.key B.tells (view pass.old) }
@@ -113,7 +113,7 @@ fn store_with<U: Owner, B: Block, M: Given<U::Said>>(
 pub fn store<U: Owner, B: Block>(words: &Words<U, B>, pass: &mut Pass<U>, f: u32, i: usize, w: u64)
     requires pass { MayStep words.now.table.shared.table_id pass.old }
     requires frame { (f < words.now.table.shared.key.frames) × (i < WORDS) }
-    requires legal { MayStore (view pass.old) f }
+    requires legal { PassMayStore (view pass.old) f }
     ensures pass { IsSamePass pass.old pass.new }
     ensures table { IsOf words.now.table.shared.key B.tells (view pass.old) }
     ensures told { StoresTold f i w (view pass.old) (view pass.new) }

@@ -4,7 +4,7 @@ ghost use Rattle.std.specs.Prelude.{◌≡◌, ◌<◌, ◌+◌, ◌-◌, ◌^�
 ghost use Rattle.atomic_table.specs.Table.{State as Table};
 ghost use Rattle.vm_core.specs.declared.event.Event.TheVariants.{Load, LockS, LockX, Look, Release, Store, TLoad, UnlockS};
 ghost use Rattle.vm_core.specs.declared.event.Seen.TheVariants as sights;
-ghost use Rattle.vm_core.specs.StateActs.{MayLock, MayShare, one_more};
+ghost use Rattle.vm_core.specs.StateActs.{MayLock, MayShare, one_share_more};
 ghost use Rattle.vm_core.specs.Words.{LOCKED, MAX_VERSION, state_of, version_of, word_of};
 ghost use Rattle.vm_rule.specs.declared.view.Origin.{Origin};
 ghost use Rattle.vm_rule.specs.declared.view.Place.TheVariants as places;
@@ -35,7 +35,7 @@ pub fn lock_exclusive_is_its_event<U: Owner, B: Block>()
 
 /// A share that is tried sees the same.
 pub fn lock_shared_is_its_event<U: Owner, B: Block>()
-    ensures { (start : Origin) (s : Table (Option B) (View U.Said)) (id p expects found : ℕ) (v w : View U.Said) → IsPassOf B.stored start U.keeps U.tied B.tells s id v → FindsAt start s (places.State p) found → MayShare expects → ShareTold U.tied p expects found v w → IsEvent B.stored start s (table_after s (exchanged s.words p expects found (word_of (one_more (state_of expects)) (version_of expects))) id w) (LockS id p expects) (exchange_sees expects found) }
+    ensures { (start : Origin) (s : Table (Option B) (View U.Said)) (id p expects found : ℕ) (v w : View U.Said) → IsPassOf B.stored start U.keeps U.tied B.tells s id v → FindsAt start s (places.State p) found → MayShare expects → ShareTold U.tied p expects found v w → IsEvent B.stored start s (table_after s (exchanged s.words p expects found (word_of (one_share_more (state_of expects)) (version_of expects))) id w) (LockS id p expects) (exchange_sees expects found) }
 {}
 
 /// A share that is given up sees the word before.

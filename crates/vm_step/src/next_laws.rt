@@ -10,7 +10,7 @@ ghost use Rattle.vm_rule.specs.declared.view.View.{View};
 ghost use Rattle.vm_rule.specs.Layout.{index_of};
 ghost use Rattle.vm_rule.specs.Nexts.{ClaimTold, NextTold};
 ghost use Rattle.vm_rule.specs.Releases.{DowngradeTold};
-ghost use Rattle.vm_step.specs.Conditions.{MayClaim, MayDowngrade};
+ghost use Rattle.vm_step.specs.Conditions.{PassMayClaim, MayDowngrade};
 ghost use Rattle.vm_step.specs.Events.{FindsAt, IsEvent, IsPassOf, exchange_sees, exchanged, table_after};
 
 use vm_block::Block;
@@ -23,7 +23,7 @@ pub fn nload_is_its_event<U: Owner, B: Block>()
 
 /// A claim that is tried sees whether the word was the one expected, and the word where it was not.
 pub fn claim_is_its_event<U: Owner, B: Block>()
-    ensures { (start : Origin) (s : Table (Option B) (View U.Said)) (id x n found : ℕ) (v w : View U.Said) → IsPassOf B.stored start U.keeps U.tied B.tells s id v → FindsAt start s places.Next found → MayClaim v x n → ClaimTold x n found v w → IsEvent B.stored start s (table_after s (exchanged s.words (index_of start places.Next) x found (x + n)) id w) (Claim id x n) (exchange_sees x found) }
+    ensures { (start : Origin) (s : Table (Option B) (View U.Said)) (id x n found : ℕ) (v w : View U.Said) → IsPassOf B.stored start U.keeps U.tied B.tells s id v → FindsAt start s places.Next found → PassMayClaim v x n → ClaimTold x n found v w → IsEvent B.stored start s (table_after s (exchanged s.words (index_of start places.Next) x found (x + n)) id w) (Claim id x n) (exchange_sees x found) }
 {}
 
 /// A release to a share of the pass sees nothing: the page is at its next version, with one share.

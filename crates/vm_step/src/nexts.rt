@@ -1,7 +1,7 @@
 // The steps on the next word, the least page number that was never claimed: load it, and claim pages from it on.
 ghost use Rattle.std.specs.Prelude.{◌≡◌, ◌≢◌, ◌<◌, ℕ};
 ghost use Rattle.vm_rule.specs.Nexts.{ClaimTold, NextTold};
-ghost use Rattle.vm_step.specs.Conditions.{MayClaim};
+ghost use Rattle.vm_step.specs.Conditions.{PassMayClaim};
 ghost use Rattle.vm_step.specs.Passes.{IsSamePass, MayStep, found_by, view};
 ghost use Rattle.vm_step.specs.Plays.{IsOf};
 ghost use Rattle.vm_step.specs.declared.took.Took.TheVariants.{Lost};
@@ -47,7 +47,7 @@ fn claim_with<U: Owner, B: Block, M: Given<U::Said>>(
     n: u32,
 ) -> u64
     requires pass { MayStep words.now.table.shared.table_id pass.old }
-    requires legal { MayClaim (view pass.old) x n }
+    requires legal { PassMayClaim (view pass.old) x n }
     requires given { (M.shape ≡ words.now.table.shared.key) × (M.tells ≡ B.tells) × (M.first ≡ n) }
     ensures pass { IsSamePass pass.old pass.new }
     ensures table { IsOf words.now.table.shared.key B.tells (view pass.old) }
@@ -68,7 +68,7 @@ fn claim_with<U: Owner, B: Block, M: Given<U::Said>>(
 /// Claims the pages `x` to `x + n - 1`, which the pass holds exclusively, for a group, where `x` is the next page.
 pub fn claim<U: Owner, B: Block>(words: &Words<U, B>, pass: &mut Pass<U>, x: u32, n: u32) -> Took
     requires pass { MayStep words.now.table.shared.table_id pass.old }
-    requires legal { MayClaim (view pass.old) x n }
+    requires legal { PassMayClaim (view pass.old) x n }
     ensures pass { IsSamePass pass.old pass.new }
     ensures table { IsOf words.now.table.shared.key B.tells (view pass.old) }
     ensures told { ClaimTold x n (found_by x result) (view pass.old) (view pass.new) }

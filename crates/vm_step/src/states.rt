@@ -1,7 +1,7 @@
 // The steps on a page's state word that guards make: look, lock exclusively, lock shared, give a share up, release, release as evicted.
 ghost use Rattle.std.specs.Prelude.{◌≡◌, ◌≢◌, ◌<◌, ℕ, None, [], option_map, true};
 ghost use Rattle.vm_core.specs.declared.event.ReadIs.TheVariants.{Same};
-ghost use Rattle.vm_core.specs.StateActs.{MayLock, MayShare, one_more};
+ghost use Rattle.vm_core.specs.StateActs.{MayLock, MayShare, one_share_more};
 ghost use Rattle.vm_core.specs.Words.{LOCKED, MAX_VERSION, state_of, version_of, word_of};
 ghost use Rattle.vm_rule.specs.Locks.{LockTold, ShareTold, UnshareTold};
 ghost use Rattle.vm_rule.specs.Looks.{LookTold, left_at};
@@ -47,7 +47,7 @@ pub(crate) fn locked_word(word: u64) -> u64
 /// The word with one share more, at the version of `word`: the first share takes a mark away.
 fn shared_word(word: u64) -> u64
     requires { MayShare word }
-    ensures { result ≡ word_of (one_more (state_of word)) (version_of word) }
+    ensures { result ≡ word_of (one_share_more (state_of word)) (version_of word) }
 {
     if word / UNIT == MARKED {
         UNIT + word % UNIT

@@ -4,7 +4,7 @@ use Rattle.vm_block.specs.declared.memory.MemBlock.{MemBlock}
 use Rattle.vm_block.specs.Memory.{stored_of, words_of}
 use Rattle.vm_owner.specs.Kept.{Start, Kept}
 use Rattle.vm_page.specs.Pages.{page_at}
-use Rattle.vm_rule.specs.Started.{MayBegin, words_in}
+use Rattle.vm_rule.specs.Started.{MayBegin, block_words}
 
 abbrev AllZero : List (List ℕ) → Type 0
 AllZero pages = (p : ℕ) → p < length pages → page_at pages p ≡ replicate 64 0
@@ -16,17 +16,17 @@ zero-more (x ∷ pages) words z e zero l = z zero (omega arith)
 zero-more (x ∷ pages) words z e (suc p) l =
     zero-more pages words (λ q m. z (suc q) (omega (arith, m))) e p (omega (arith, l))
 
-words-more : (blocks : List MemBlock) (b : MemBlock) → words_in (map stored_of (blocks ++ b ∷ [])) ≡ words_in (map stored_of blocks) ++ words_of b ∷ []
+words-more : (blocks : List MemBlock) (b : MemBlock) → block_words (map stored_of (blocks ++ b ∷ [])) ≡ block_words (map stored_of blocks) ++ words_of b ∷ []
 words-more [] b = refl
 words-more (x ∷ blocks) b = ap (λ (l : List (List ℕ)). words_of x ∷ l) (words-more blocks b)
 
 module _ {X : Type 0} (keeps : Start → Kept X → Type 0) (all : (start : Start) (kept : Kept X) → keeps start kept) where
   -- a block of zeros more
-  pub more-begins : (blocks after : List MemBlock) (b : MemBlock) → after ≡ blocks ++ b ∷ [] → words_of b ≡ replicate 64 0 → ((next : ℕ) → MayBegin keeps next (words_in (map stored_of blocks)))
-      → (next : ℕ) → MayBegin keeps next (words_in (map stored_of after))
+  pub more-begins : (blocks after : List MemBlock) (b : MemBlock) → after ≡ blocks ++ b ∷ [] → words_of b ≡ replicate 64 0 → ((next : ℕ) → MayBegin keeps next (block_words (map stored_of blocks)))
+      → (next : ℕ) → MayBegin keeps next (block_words (map stored_of after))
   more-begins blocks after b is e begins next =
-      subst (MayBegin keeps next) (sym (ap (λ (l : List MemBlock). words_in (map stored_of l)) is ∙ words-more blocks b))
+      subst (MayBegin keeps next) (sym (ap (λ (l : List MemBlock). block_words (map stored_of l)) is ∙ words-more blocks b))
       (record {
-        zero = λ p l m. zero-more (words_in (map stored_of blocks)) (words_of b) (λ q h. (begins 0).zero q (omega arith) h) e p m;
+        zero = λ p l m. zero-more (block_words (map stored_of blocks)) (words_of b) (λ q h. (begins 0).zero q (omega arith) h) e p m;
         kept = all _ _;
       })

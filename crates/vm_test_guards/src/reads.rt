@@ -2,7 +2,7 @@
 //! hand from the rules.
 ghost use Rattle.std.specs.Prelude.{◌≡◌, ◌<◌, IfOk, None, length, map};
 ghost use Rattle.vm_block.specs.Memory.{stored_of};
-ghost use Rattle.vm_rule.specs.Started.{MayBegin, words_in};
+ghost use Rattle.vm_rule.specs.Started.{MayBegin, block_words};
 ghost use Rattle.vm_step.specs.Passes.{view};
 ghost use Rattle.vm_step.specs.Ready.{IsReady};
 
@@ -23,7 +23,7 @@ use vm_step::{At, Saw};
 /// The blocks of two pages, which have 64 times the word 5, and 64 times the word 6.
 fn two_blocks(alloc: Global) -> Result<Vec<MemBlock>, Fail>
     ensures count { IfOk result (λ blocks. length blocks.items ≡ 2) }
-    ensures begins { IfOk result (λ blocks. MayBegin ⟦<Bare as Owner>⟧.keeps 2 (words_in (map stored_of blocks.items))) }
+    ensures begins { IfOk result (λ blocks. MayBegin ⟦<Bare as Owner>⟧.keeps 2 (block_words (map stored_of blocks.items))) }
 {
     let mut first = PageBuf::zero();
     let mut second = PageBuf::zero();

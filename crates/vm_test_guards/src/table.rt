@@ -1,7 +1,7 @@
 // A pool of a few evicted pages with two passes, and frames for the pages that they claim.
 ghost use Rattle.std.specs.Prelude.{◌≡◌, ◌≤◌, ℕ, IfOk, None, length, map};
 ghost use Rattle.vm_block.specs.Memory.{stored_of};
-ghost use Rattle.vm_rule.specs.Started.{MayBegin, words_in};
+ghost use Rattle.vm_rule.specs.Started.{MayBegin, block_words};
 ghost use Rattle.vm_step.specs.HeldFrames.{AreHeld};
 ghost use Rattle.vm_step.specs.Passes.{view};
 ghost use Rattle.vm_step.specs.Ready.{IsReady};
@@ -22,7 +22,7 @@ use vm_step::Batch;
 pub(crate) fn zeros(alloc: Global, pages: u32) -> Result<Vec<MemBlock>, Fail>
     requires { pages ≤ 65536 }
     ensures count { IfOk result (λ blocks. length blocks.items ≡ pages) }
-    ensures begins { IfOk result (λ blocks. (next : ℕ) → MayBegin ⟦<Bare as Owner>⟧.keeps next (words_in (map stored_of blocks.items))) }
+    ensures begins { IfOk result (λ blocks. (next : ℕ) → MayBegin ⟦<Bare as Owner>⟧.keeps next (block_words (map stored_of blocks.items))) }
 {
     if pages == 0 {
         return Ok(Vec::new(alloc));
@@ -42,7 +42,7 @@ pub(crate) fn two_passes(
     requires pages { (1 ≤ length blocks.items) × (length blocks.items ≤ 65536) }
     requires frames { (1 ≤ frames) × (frames ≤ 65536) }
     requires next { next ≤ length blocks.items }
-    requires begins { MayBegin ⟦<Bare as Owner>⟧.keeps next (words_in (map stored_of blocks.items)) }
+    requires begins { MayBegin ⟦<Bare as Owner>⟧.keeps next (block_words (map stored_of blocks.items)) }
     ensures pages { IfOk result (λ made. (made.0.words.table.shared.key.pages ≡ length blocks.items) × (made.0.words.table.shared.key.next ≡ next)) }
     ensures first { IfOk result (λ made. IsReady made.0.words.table.shared.key ⟦<MemBlock as Block>⟧.tells made.0.words.table.shared.table_id made.1) }
     ensures second { IfOk result (λ made. IsReady made.0.words.table.shared.key ⟦<MemBlock as Block>⟧.tells made.0.words.table.shared.table_id made.2) }

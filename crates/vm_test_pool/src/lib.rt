@@ -5,6 +5,8 @@
 #[cfg(test)]
 mod bring;
 #[cfg(test)]
+mod callers;
+#[cfg(test)]
 mod evict;
 #[cfg(test)]
 mod flush;

@@ -22,7 +22,7 @@ use Rattle.vm_step.proofs.Together.{each-at, holds-none, new-nothing, split-curr
 use Rattle.vm_exmap.specs.Frames.{AreHeld, MovesFrames}
 use Rattle.vm_step.proofs.HeldFrames.{held-on}
 use Rattle.vm_guard.specs.Guards.{IsLocked, IsReleased, IsSet}
-use Rattle.vm_workers.specs.Puts.{HasPut, KeepsParts, MayPut}
+use Rattle.vm_workers.specs.Puts.{HasPut, KeepsParts, MayStartWork}
 use Rattle.vm_workers.proofs.Staying.{parts-kept}
 
 module _ {X : Type 0} where
@@ -81,9 +81,9 @@ module _ {X : Type 0} where
 
 module _ {U X : Type 0} {o : _} (shape : Shape) (tells : Bool) (t : TableId) where
   -- a new pass may begin, as it was lent
-  pub may-begin : (v x : View X) (lent ps : List (Pass U X o)) → lent ≡ ps → PassesSplit v (map (λ p. view p) ps) x → All (λ p. IsReady shape tells t p) ps → All (λ p. MayPut shape tells t [] p) lent
+  pub may-begin : (v x : View X) (lent ps : List (Pass U X o)) → lent ≡ ps → PassesSplit v (map (λ p. view p) ps) x → All (λ p. IsReady shape tells t p) ps → All (λ p. MayStartWork shape tells t [] p) lent
   may-begin v x lent ps value s ready =
-      subst (λ (l : List (Pass U X o)). All (λ p. MayPut shape tells t [] p) l) (sym value) (λ k d l. record {
+      subst (λ (l : List (Pass U X o)). All (λ p. MayStartWork shape tells t [] p) l) (sym value) (λ k d l. record {
         ready = ready k d l;
         nothing = each-at HoldsNoPage (λ p. view p) ps (each-map (IsNew x) HoldsNoPage (λ w n. holds-none w (new-nothing x.start w.used x.releases x.seen w n.new)) (map (λ p. view p) ps) s.each) k d l;
         held = record { apart = tt; inside = tt; held = tt };

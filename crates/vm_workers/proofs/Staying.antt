@@ -23,7 +23,7 @@ use Rattle.vm_rule.proofs.Entries.{append-none}
 use Rattle.vm_rule.proofs.Heard.{each-both}
 use Rattle.vm_step.specs.Evidence.{HasGiven}
 use Rattle.vm_step.proofs.Evidenced.{given-front, given-behind}
-use Rattle.vm_workers.specs.Works.{AreFound, HasFound, Stays, Says}
+use Rattle.vm_workers.specs.Works.{AreFound, HasFoundWord, SaysNothing, MakesEntries}
 
 whole-again : {A : Type 0} (new old : List A) → length new ≡ length old → take (length old) (new ++ drop (length new) old) ≡ new
 whole-again [] [] e = refl
@@ -57,7 +57,7 @@ module _ {X : Type 0} where
       (λ ne. ap field (upd-other (put_at no_seat v.seats) p (record (seat_of v p) { reading = o }) q ne))
       (cases_eq q p)
 
-  pub look-stays : (tied : Start → ℕ → List ℕ → ℕ → List ℕ → Type 0) (p found : ℕ) (v w : View X) → LookTold tied p None found v w → Stays v w
+  pub look-stays : (tied : Start → ℕ → List ℕ → ℕ → List ℕ → Type 0) (p found : ℕ) (v w : View X) → LookTold tied p None found v w → SaysNothing v w
   look-stays tied p found v w told =
       let is = told.brings.view in
       record {
@@ -74,10 +74,10 @@ module _ {X : Type 0} where
         });
       }
 
-  pub stays-self : (v : View X) → Stays v v
+  pub stays-self : (v : View X) → SaysNothing v v
   stays-self v = record { start = refl; used = refl; fresh = refl; mine = refl; notes = refl; nothing = λ n. n }
 
-  pub stays-on : (u v w : View X) → Stays u v → Stays v w → Stays u w
+  pub stays-on : (u v w : View X) → SaysNothing u v → SaysNothing v w → SaysNothing u w
   stays-on u v w a b = record { start = b.start ∙ a.start; used = b.used ∙ a.used; fresh = b.fresh ∙ a.fresh; mine = b.mine ∙ a.mine; notes = b.notes ∙ a.notes; nothing = λ n. b.nothing (a.nothing n) }
 
   -- a look that says something makes its entry, or none
@@ -87,7 +87,7 @@ module _ {X : Type 0} where
   said-numbered Moved v x = tt
   said-numbered Closed v x = tt
 
-  pub look-says : (tied : Start → ℕ → List ℕ → ℕ → List ℕ → Type 0) (p : ℕ) (x : X) (found : ℕ) (v w : View X) → LookTold tied p (Some x) found v w → Says v w
+  pub look-says : (tied : Start → ℕ → List ℕ → ℕ → List ℕ → Type 0) (p : ℕ) (x : X) (found : ℕ) (v w : View X) → LookTold tied p (Some x) found v w → MakesEntries v w
   look-says tied p x found v w told =
       let is = told.brings.view in
       record {
@@ -106,13 +106,13 @@ module _ {X : Type 0} where
         });
       }
 
-  pub stays-says : (v w : View X) → Stays v w → Says v w
+  pub stays-says : (v w : View X) → SaysNothing v w → MakesEntries v w
   stays-says v w s = record { start = s.start; used = s.used; fresh = s.fresh; entries = []; mine = s.mine ∙ sym (append-none v.mine); numbered = tt; notes = s.notes; nothing = s.nothing }
 
-  pub says-self : (v : View X) → Says v v
+  pub says-self : (v : View X) → MakesEntries v v
   says-self v = record { start = refl; used = refl; fresh = refl; entries = []; mine = sym (append-none v.mine); numbered = tt; notes = refl; nothing = λ n. n }
 
-  pub says-on : (u v w : View X) → Says u v → Says v w → Says u w
+  pub says-on : (u v w : View X) → MakesEntries u v → MakesEntries v w → MakesEntries u w
   says-on u v w a b = record {
     start = b.start ∙ a.start;
     used = b.used ∙ a.used;
@@ -126,14 +126,14 @@ module _ {X : Type 0} where
 
   -- ---- answers
 
-  pub look-found : (tied : Start → ℕ → List ℕ → ℕ → List ℕ → Type 0) (p : ℕ) (said : Option X) (found : ℕ) (v w : View X) → LookTold tied p said found v w → HasFound p found v w
+  pub look-found : (tied : Start → ℕ → List ℕ → ℕ → List ℕ → Type 0) (p : ℕ) (said : Option X) (found : ℕ) (v w : View X) → LookTold tied p said found v w → HasFoundWord p found v w
   look-found tied p said found v w told = record {
     done = did_load (places.State p) found ∷ [];
     log = ap (λ (u : View X). u.log) told.brings.view;
     given = record { earlier = []; step = did_load (places.State p) found; later = []; cut = refl; gives = (refl, refl) };
   }
 
-  pub found-after : (p q other word : ℕ) (u v w : View X) → HasFound q other u v → HasFound p word v w → HasFound p word u w
+  pub found-after : (p q other word : ℕ) (u v w : View X) → HasFoundWord q other u v → HasFoundWord p word v w → HasFoundWord p word u w
   found-after p q other word u v w a b = record {
     done = a.done ++ b.done;
     log = b.log ∙ ap (λ (l : List Did). l ++ b.done) a.log ∙ append_assoc u.log a.done b.done;
@@ -143,7 +143,7 @@ module _ {X : Type 0} where
   pub found-none : (calls replies : List ℕ) (v : View X) → AreFound 0 calls replies v v
   found-none calls replies v = record { done = []; log = sym (append-none v.log); given = λ i l. absurd (omega (arith, l)) }
 
-  pub found-more : (n : ℕ) (calls replies : List ℕ) (word : ℕ) (u v w : View X) → AreFound n calls replies u v → HasFound (slice_index calls n) word v w → n < length replies → AreFound (n + 1) calls (slice_set replies n word) u w
+  pub found-more : (n : ℕ) (calls replies : List ℕ) (word : ℕ) (u v w : View X) → AreFound n calls replies u v → HasFoundWord (slice_index calls n) word v w → n < length replies → AreFound (n + 1) calls (slice_set replies n word) u w
   found-more n calls replies word u v w a b room =
       let all : List Did = a.done ++ b.done in
       let new : slice_index (slice_set replies n word) n ≡ word = get_or-set_same replies n word 0 room in

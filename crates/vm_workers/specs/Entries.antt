@@ -1,7 +1,7 @@
 -- Three entries of one pass.
 use Rattle.std.specs.Prelude.{ℕ, List, [], ◌∷◌, ◌++◌, ◌≡◌, ◌+◌, slice_index}
 use Rattle.vm_owner.specs.declared.Entry.{Entry}
-use Rattle.vm_owner.specs.Kept.{calls_of}
+use Rattle.vm_owner.specs.Kept.{entries_under}
 use Rattle.vm_rule.specs.declared.view.View.{View}
 
 -- what is said three times under this number, where it was used so often before
@@ -12,7 +12,7 @@ three_of number before said =
 -- a pass made these three entries under its first number, with that number's next counts, and no others
 pub record SaysThree (said : ℕ) (v w : View ℕ) : Type 0 where
   pub used : w.used ≡ v.used
-  pub mine : w.mine ≡ v.mine ++ three_of (slice_index v.used 0) (calls_of (slice_index v.used 0) v.mine) said
+  pub mine : w.mine ≡ v.mine ++ three_of (slice_index v.used 0) (entries_under (slice_index v.used 0) v.mine) said
 
 -- the pass has the number 0 alone, and these three entries, with the counts 1, 2 and 3
 pub record HasThree (said : ℕ) (v : View ℕ) : Type 0 where

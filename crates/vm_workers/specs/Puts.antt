@@ -22,12 +22,12 @@ pub record KeepsParts {X : Type 0} (v w : View X) : Type 0 where
 
 module _ {U X : Type 0} {o : _} where
   -- the pass may step on this table, holds no page, and has the frames of its interface
-  pub record MayPut (shape : Shape) (tells : Bool) (t : TableId) (frames : List ℕ) (p : Pass U X o) : Type 0 where
+  pub record MayStartWork (shape : Shape) (tells : Bool) (t : TableId) (frames : List ℕ) (p : Pass U X o) : Type 0 where
     pub ready : IsReady shape tells t p
     pub nothing : HoldsNoPage (view p)
     pub held : AreHeld frames (view p)
 
   -- the worker has made its calls
   pub record HasPut (shape : Shape) (tells : Bool) (t : TableId) (p q : Pass U X o) : Type 0 where
-    pub may : MayPut shape tells t [] q
+    pub may : MayStartWork shape tells t [] q
     pub parts : KeepsParts (view p) (view q)

@@ -17,7 +17,7 @@ use Rattle.vm_workers.specs.declared.worker.Worker.{Worker}
 
 module _ {X : Type 0} where
   -- the pass made no entry and no note, and has the parts that it had
-  pub record Stays (v w : View X) : Type 0 where
+  pub record SaysNothing (v w : View X) : Type 0 where
     pub start : w.start ≡ v.start
     pub used : w.used ≡ v.used
     pub fresh : w.fresh ≡ v.fresh
@@ -26,7 +26,7 @@ module _ {X : Type 0} where
     pub nothing : HoldsNoPage v → HoldsNoPage w
 
   -- the pass made some entries under its first number, and no note, and has the parts that it had
-  pub record Says (v w : View X) : Type 0 where
+  pub record MakesEntries (v w : View X) : Type 0 where
     pub start : w.start ≡ v.start
     pub used : w.used ≡ v.used
     pub fresh : w.fresh ≡ v.fresh
@@ -37,7 +37,7 @@ module _ {X : Type 0} where
     pub nothing : HoldsNoPage v → HoldsNoPage w
 
   -- the pass made steps by which it came from one view to the other, and found this word of page p in one of them
-  pub record HasFound (p word : ℕ) (v w : View X) : Type 0 where
+  pub record HasFoundWord (p word : ℕ) (v w : View X) : Type 0 where
     pub done : List Did
     pub log : w.log ≡ v.log ++ done
     pub given : HasGiven done (places.State p) word
@@ -61,9 +61,9 @@ module _ {U X : Type 0} {o : _} where
     pub job : MayDo shape w.job
 
   -- the worker has done its calls
-  pub record HasWorked (shape : Shape) (tells : Bool) (t : TableId) (v w : Worker U X o) : Type 0 where
+  pub record HasDoneJob (shape : Shape) (tells : Bool) (t : TableId) (v w : Worker U X o) : Type 0 where
     pub ready : IsReady shape tells t w.pass
-    pub stays : Stays (view v.pass) (view w.pass)
+    pub stays : SaysNothing (view v.pass) (view w.pass)
     pub calls : w.job.calls ≡ v.job.calls
     pub replies : length w.job.replies.items ≡ length v.job.calls.items
     pub found : AreFound (length v.job.calls.items) v.job.calls.items w.job.replies.items (view v.pass) (view w.pass)
@@ -76,16 +76,16 @@ module _ {U X : Type 0} {o : _} where
   jobs_of ws = map (λ w. w.job) ws
 
   -- the workers did their calls, and the pass with the view v took in their passes then, and has the view x
-  pub record AreJoined (shape : Shape) (tells : Bool) (t : TableId) (old : List (Worker U X o)) (v x : View X) : Type 0 where
+  pub record AreDoneAndJoined (shape : Shape) (tells : Bool) (t : TableId) (old : List (Worker U X o)) (v x : View X) : Type 0 where
     pub new : List (Worker U X o)
     pub count : length new ≡ length old
-    pub worked : (i : ℕ) (d : Worker U X o) → i < length old → HasWorked shape tells t (slice_index_or old i d) (slice_index_or new i d)
+    pub worked : (i : ℕ) (d : Worker U X o) → i < length old → HasDoneJob shape tells t (slice_index_or old i d) (slice_index_or new i d)
     pub joined : HasJoined v (views_of new) x
 
   -- the worker has done its calls, which may have made entries
   pub record HasSaid (shape : Shape) (tells : Bool) (t : TableId) (v w : Worker U X o) : Type 0 where
     pub ready : IsReady shape tells t w.pass
-    pub says : Says (view v.pass) (view w.pass)
+    pub says : MakesEntries (view v.pass) (view w.pass)
     pub calls : w.job.calls ≡ v.job.calls
     pub replies : length w.job.replies.items ≡ length v.job.calls.items
     pub found : AreFound (length v.job.calls.items) v.job.calls.items w.job.replies.items (view v.pass) (view w.pass)

@@ -1,6 +1,6 @@
 // A pass that makes three entries: they are its own, under its first number, with the counts 1, 2 and 3.
 ghost use Rattle.std.specs.Prelude.{◌≡◌, ◌<◌, IfOk, length, map, true};
-ghost use Rattle.vm_rule.specs.Started.{IsStarted, MayBegin, words_in};
+ghost use Rattle.vm_rule.specs.Started.{IsStarted, MayBegin, block_words};
 ghost use Rattle.vm_step.specs.Passes.{IsSamePass, view};
 ghost use Rattle.vm_step.specs.Ready.{IsReady};
 ghost use Rattle.vm_workers.specs.Entries.{HasThree, SaysThree};
@@ -71,7 +71,7 @@ pub fn three_entries<B: Block + Drop>(
 ) -> Result<Told<B>, Untold>
     requires pages { shape.pages ≡ length blocks.items }
     requires fits { IsStarted shape.first_version shape.next shape.frames (length blocks.items) }
-    requires begins { B.tells ≡ true → MayBegin ⟦<Tally as Owner>⟧.keeps shape.next (words_in (map B.stored blocks.items)) }
+    requires begins { B.tells ≡ true → MayBegin ⟦<Tally as Owner>⟧.keeps shape.next (block_words (map B.stored blocks.items)) }
     requires page { p < shape.pages }
     ensures told { IfOk result (λ told. HasThree p (view told.pass)) }
 {

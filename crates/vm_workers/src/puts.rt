@@ -5,7 +5,7 @@ ghost use Rattle.vm_rule.specs.Joins.{HoldsNoPage};
 ghost use Rattle.vm_step.specs.Alone.{IsAlone};
 ghost use Rattle.vm_step.specs.Passes.{IsSamePass, view};
 ghost use Rattle.vm_step.specs.Ready.{IsReady};
-ghost use Rattle.vm_workers.specs.Puts.{HasPages, HasPut, KeepsParts, MayPut};
+ghost use Rattle.vm_workers.specs.Puts.{HasPages, HasPut, KeepsParts, MayStartWork};
 
 use std::alloc::Global;
 use std::thread;
@@ -35,11 +35,11 @@ fn try_put<B: Block>(
     i: usize,
     w: u64,
 ) -> bool
-    requires may { MayPut pool.now.words.table.shared.key B.tells pool.now.words.table.shared.table_id iface.old.frames pass.old }
+    requires may { MayStartWork pool.now.words.table.shared.key B.tells pool.now.words.table.shared.table_id iface.old.frames pass.old }
     requires page { (p < pool.now.words.table.shared.key.pages) × (p < pool.now.words.table.shared.key.next) }
     requires place { i < WORDS }
     ensures pass { IsSamePass pass.old pass.new }
-    ensures may { MayPut pool.now.words.table.shared.key B.tells pool.now.words.table.shared.table_id iface.new.frames pass.new }
+    ensures may { MayStartWork pool.now.words.table.shared.key B.tells pool.now.words.table.shared.table_id iface.new.frames pass.new }
     ensures parts { KeepsParts (view pass.old) (view pass.new) }
 {
     match ExclusiveGuard::take(&pool.words, pass, p) {
@@ -64,11 +64,11 @@ fn put<B: Block>(
     i: usize,
     w: u64,
 )
-    requires may { MayPut pool.now.words.table.shared.key B.tells pool.now.words.table.shared.table_id iface.old.frames pass.old }
+    requires may { MayStartWork pool.now.words.table.shared.key B.tells pool.now.words.table.shared.table_id iface.old.frames pass.old }
     requires page { (p < pool.now.words.table.shared.key.pages) × (p < pool.now.words.table.shared.key.next) }
     requires place { i < WORDS }
     ensures pass { IsSamePass pass.old pass.new }
-    ensures may { MayPut pool.now.words.table.shared.key B.tells pool.now.words.table.shared.table_id iface.new.frames pass.new }
+    ensures may { MayStartWork pool.now.words.table.shared.key B.tells pool.now.words.table.shared.table_id iface.new.frames pass.new }
     ensures parts { KeepsParts (view pass.old) (view pass.new) }
 {
     for _ in 0..TRIES {
@@ -80,7 +80,7 @@ fn put<B: Block>(
 
 /// The calls of one worker: its word of each page is set to 100 times its number, and the page's. It begins at a page of its own.
 fn work<B: Block>(pool: &Pool<Bare, B>, number: usize, pass: &mut Pass<Bare>)
-    requires may { MayPut pool.now.words.table.shared.key B.tells pool.now.words.table.shared.table_id [] pass.old }
+    requires may { MayStartWork pool.now.words.table.shared.key B.tells pool.now.words.table.shared.table_id [] pass.old }
     requires pages { HasPages pool.now.words.table.shared.key }
     ensures done { HasPut pool.now.words.table.shared.key B.tells pool.now.words.table.shared.table_id pass.old pass.new }
 {
@@ -106,7 +106,7 @@ pub fn put_all<R: Threads + Sync, B: Block + Send + Sync>(
     pool: &Pool<Bare, B>,
     passes: &mut [Pass<Bare>],
 )
-    requires may { All (λ p. MayPut pool.now.words.table.shared.key B.tells pool.now.words.table.shared.table_id [] p) passes.old }
+    requires may { All (λ p. MayStartWork pool.now.words.table.shared.key B.tells pool.now.words.table.shared.table_id [] p) passes.old }
     requires pages { HasPages pool.now.words.table.shared.key }
     ensures count { length passes.new ≡ length passes.old }
     ensures done { (i : ℕ) (d : _) → i < length passes.old → HasPut pool.now.words.table.shared.key B.tells pool.now.words.table.shared.table_id (slice_index_or passes.old i d) (slice_index_or passes.new i d) }

@@ -2,7 +2,7 @@
 ghost use Rattle.std.specs.Prelude.{All, ◌≡◌, ℕ, ◌<◌, length, slice_index_or};
 ghost use Rattle.vm_step.specs.Passes.{IsSamePass, MayStep, view};
 ghost use Rattle.vm_step.specs.Ready.{IsReady};
-ghost use Rattle.vm_workers.specs.Works.{AreFound, AreTallied, HasFound, HasSaid, MayWork, Says};
+ghost use Rattle.vm_workers.specs.Works.{AreFound, AreTallied, HasFoundWord, HasSaid, MayWork, MakesEntries};
 
 use crate::joins::join_workers;
 use crate::worker::Worker;
@@ -44,8 +44,8 @@ fn call<B: Block>(words: &Words<Tally, B>, pass: &mut Pass<Tally>, p: u32) -> u6
     requires page { p < words.now.table.shared.key.pages }
     ensures pass { IsSamePass pass.old pass.new }
     ensures ready { IsReady words.now.table.shared.key B.tells words.now.table.shared.table_id pass.new }
-    ensures says { Says (view pass.old) (view pass.new) }
-    ensures found { HasFound p result (view pass.old) (view pass.new) }
+    ensures says { MakesEntries (view pass.old) (view pass.new) }
+    ensures found { HasFoundWord p result (view pass.old) (view pass.new) }
 {
     look_silently(words, pass, p);
     look(words, pass, p, Some(&p))
@@ -63,7 +63,7 @@ fn serve<B: Block>(
     requires room { length replies.old ≡ length calls.now }
     ensures pass { IsSamePass pass.old pass.new }
     ensures ready { IsReady words.now.table.shared.key B.tells words.now.table.shared.table_id pass.new }
-    ensures says { Says (view pass.old) (view pass.new) }
+    ensures says { MakesEntries (view pass.old) (view pass.new) }
     ensures room { length replies.new ≡ length calls.now }
     ensures found { AreFound (length calls.now) calls.now replies.new (view pass.old) (view pass.new) }
 {

@@ -2,7 +2,7 @@
 ghost use Rattle.std.specs.Prelude.{All, ◌≡◌, ℕ, ◌<◌, length, slice_index_or};
 ghost use Rattle.vm_step.specs.Passes.{IsSamePass, MayStep, view};
 ghost use Rattle.vm_step.specs.Ready.{IsReady};
-ghost use Rattle.vm_workers.specs.Works.{AreFound, AreJoined, HasFound, HasWorked, MayWork, Stays};
+ghost use Rattle.vm_workers.specs.Works.{AreFound, AreDoneAndJoined, HasFoundWord, HasDoneJob, MayWork, SaysNothing};
 
 use crate::joins::join_workers;
 use crate::worker::Worker;
@@ -20,8 +20,8 @@ fn call<U: Owner, B: Block>(words: &Words<U, B>, pass: &mut Pass<U>, p: u32) -> 
     requires page { p < words.now.table.shared.key.pages }
     ensures pass { IsSamePass pass.old pass.new }
     ensures ready { IsReady words.now.table.shared.key B.tells words.now.table.shared.table_id pass.new }
-    ensures stays { Stays (view pass.old) (view pass.new) }
-    ensures found { HasFound p result (view pass.old) (view pass.new) }
+    ensures stays { SaysNothing (view pass.old) (view pass.new) }
+    ensures found { HasFoundWord p result (view pass.old) (view pass.new) }
 {
     look_silently(words, pass, p)
 }
@@ -38,7 +38,7 @@ fn serve<U: Owner, B: Block>(
     requires room { length replies.old ≡ length calls.now }
     ensures pass { IsSamePass pass.old pass.new }
     ensures ready { IsReady words.now.table.shared.key B.tells words.now.table.shared.table_id pass.new }
-    ensures stays { Stays (view pass.old) (view pass.new) }
+    ensures stays { SaysNothing (view pass.old) (view pass.new) }
     ensures room { length replies.new ≡ length calls.now }
     ensures found { AreFound (length calls.now) calls.now replies.new (view pass.old) (view pass.new) }
 {
@@ -50,7 +50,7 @@ fn serve<U: Owner, B: Block>(
 /// The calls of one worker.
 fn work<U: Owner, B: Block>(words: &Words<U, B>, worker: &mut Worker<U>)
     requires may { MayWork words.now.table.shared.key B.tells words.now.table.shared.table_id worker.old }
-    ensures done { HasWorked words.now.table.shared.key B.tells words.now.table.shared.table_id worker.old worker.new }
+    ensures done { HasDoneJob words.now.table.shared.key B.tells words.now.table.shared.table_id worker.old worker.new }
 {
     serve(
         words,
@@ -68,7 +68,7 @@ pub fn run_all<R: Threads + Sync, U: Owner + Send + Sync, B: Block + Send + Sync
 )
     requires may { All (λ w. MayWork words.now.table.shared.key B.tells words.now.table.shared.table_id w) workers.old }
     ensures count { length workers.new ≡ length workers.old }
-    ensures done { (i : ℕ) (d : _) → i < length workers.old → HasWorked words.now.table.shared.key B.tells words.now.table.shared.table_id (slice_index_or workers.old i d) (slice_index_or workers.new i d) }
+    ensures done { (i : ℕ) (d : _) → i < length workers.old → HasDoneJob words.now.table.shared.key B.tells words.now.table.shared.table_id (slice_index_or workers.old i d) (slice_index_or workers.new i d) }
 {
     let count = workers.len();
     if count > 0 {
@@ -87,7 +87,7 @@ pub fn run_and_join<R: Threads + Sync, U: Owner + Send + Sync, B: Block + Send +
     requires may { All (λ w. MayWork pool.now.words.table.shared.key B.tells pool.now.words.table.shared.table_id w) workers.items }
     ensures pass { IsSamePass pass.old pass.new }
     ensures may { MayStep pool.now.words.table.shared.table_id pass.new }
-    ensures joined { AreJoined pool.now.words.table.shared.key B.tells pool.now.words.table.shared.table_id workers.items (view pass.old) (view pass.new) }
+    ensures joined { AreDoneAndJoined pool.now.words.table.shared.key B.tells pool.now.words.table.shared.table_id workers.items (view pass.old) (view pass.new) }
 {
     run_all(rt, &pool.words, workers.as_mut_slice());
     join_workers(pool, pass, workers);

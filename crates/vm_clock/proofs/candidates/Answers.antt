@@ -1,7 +1,7 @@
 -- The walk so far gives each clause.
 use Rattle.std.proofs.Common.{◌≡◌, ◌<◌, ◌≤◌, ◌+◌, ◌*◌, ◌%◌, length, suc, sym, ap, subst, ◌∙◌, inl, inr, arith}
 use Rattle.vm_step.specs.Passes.{view}
-use Rattle.vm_clock.specs.Clock.{total}
+use Rattle.vm_clock.specs.Clock.{looks_counted}
 use Rattle.vm_clock.proofs.Walking.{IsWalking, walked-chosen, walked-few, walked-list, walked-looks, walking-on}
 use Rattle.vm_clock.proofs.candidates.Goals as goal
 
@@ -23,7 +23,7 @@ visit-requires-clause-room g c =
 
 pub visit-requires-clause-counts : goal.visit-requires-clause-counts
 visit-requires-clause-counts g c =
-    let counted : total c.loop-k.chosen.looks ≡ c.loop-k.k = walked-looks _ _ _ _ _ _ _ c.loop-k.invariant.walking in
+    let counted : looks_counted c.loop-k.chosen.looks ≡ c.loop-k.k = walked-looks _ _ _ _ _ _ _ c.loop-k.invariant.walking in
     let most : c.loop-k.k < 4294967295 =
     let test = c.loop-k-test.true in
     let pages = c.args.words.now.shape.2 in

@@ -1,5 +1,5 @@
 use Rattle.std.proofs.Common.{◌≡◌, ◌+◌, false, suc, take, sym, subst, arith}
-use Rattle.vm_step.specs.Choices.{pages_of}
+use Rattle.vm_step.specs.Choices.{candidate_pages}
 use Rattle.vm_owner.specs.Numbers.{has}
 use Rattle.vm_clock.proofs.Choices.{has-at, has-next}
 use Rattle.vm_clock.proofs.is_chosen.Goals as goal
@@ -10,4 +10,4 @@ returns-then-list-i c = sym (has-at _ _ _ _ c.loop-i-test.true c.if-list-i.true)
 pub loop-i-preserved : goal.loop-i-preserved
 loop-i-preserved c =
     let on : suc c.loop-i.i ≡ c.loop-i.i + 1 = omega arith in
-    subst (λ n. has c.args.p (pages_of (take n c.args.list.now)) ≡ false) on (has-next _ _ _ _ c.loop-i-test.true c.if-list-i.false c.loop-i.invariant)
+    subst (λ n. has c.args.p (candidate_pages (take n c.args.list.now)) ≡ false) on (has-next _ _ _ _ c.loop-i-test.true c.if-list-i.false c.loop-i.invariant)

@@ -1,6 +1,6 @@
 use Rattle.std.proofs.Common.{◌≡◌, ◌<◌, ◌≤◌, ℕ, length}
 use Rattle.vm_evict.specs.Evictions.{stage_at}
-use Rattle.vm_evict.specs.Stages.{MayBegin, MayEnd}
+use Rattle.vm_evict.specs.Stages.{MayBeginPhase, MayEnd}
 use Rattle.vm_step.specs.Passes.{IsSamePass, view}
 use Rattle.vm_step.specs.Ready.{IsReady}
 use Rattle.vm_evict.proofs.Passing.{Passes}
@@ -14,5 +14,5 @@ invariant-loop-i g l = record {
   passed : Passes l.phase l.list l.fn.stages l.stages (view l.fn.pass) (view l.pass);
   long : length l.stages ≡ 64;
   front : (j : ℕ) → j < l.i → MayEnd l.phase (stage_at l.stages j);
-  back : (j : ℕ) → l.i ≤ j → j < length l.list → MayBegin l.phase (stage_at l.stages j);
+  back : (j : ℕ) → l.i ≤ j → j < length l.list → MayBeginPhase l.phase (stage_at l.stages j);
 }

@@ -1,5 +1,5 @@
 use Rattle.std.proofs.Common.{refl, subst}
-use Rattle.vm_evict.specs.Stages.{MayBegin}
+use Rattle.vm_evict.specs.Stages.{MayBeginPhase}
 use Rattle.vm_evict.specs.declared.candidate.Phase.{Phase}
 use Rattle.vm_evict.specs.declared.candidate.Phase.TheVariants as phases
 use Rattle.vm_evict.specs.declared.candidate.Stage.TheVariants as stages
@@ -10,7 +10,7 @@ use Rattle.vm_evict.proofs.candidate.advance.Goals as goal
 pub returns-in-Save-clause-moved : goal.returns-in-Save-clause-moved
 returns-in-Save-clause-moved g c v done h =
     comes-from c.args.phase phases.Save c.args.c c.args.stage stages.Waiting c.save_page.result done v (view c.args.pass.now) (view c.save_page.new.pass) c.in-Save.is
-    (begins-waiting c.args.stage (subst (λ (k : Phase). MayBegin k c.args.stage) c.in-Save.is c.requires.begins))
+    (begins-waiting c.args.stage (subst (λ (k : Phase). MayBeginPhase k c.args.stage) c.in-Save.is c.requires.begins))
     (c.save_page.ensures.moved v done) h
 
 pub returns-in_default : goal.returns-in_default

@@ -1,7 +1,7 @@
 use Rattle.std.proofs.Common.{ℕ, subst}
 use Rattle.vm_rule.specs.Releases.{EvictTold}
 use Rattle.vm_step.specs.Passes.{view}
-use Rattle.vm_evict.proofs.Dropping.{freed-so, may-evict}
+use Rattle.vm_evict.proofs.Releasing.{freed-so, may-evict}
 use Rattle.vm_evict.proofs.candidate.leave_page.Goals as goal
 
 pub release_evicted-requires-clause-legal : goal.release_evicted-requires-clause-legal

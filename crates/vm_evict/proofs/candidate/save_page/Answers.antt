@@ -1,20 +1,40 @@
-use Rattle.std.proofs.Common.{sym, ◌∙◌}
 use Rattle.vm_step.specs.Passes.{view}
-use Rattle.vm_evict.proofs.Looking.{clean-so, looked, waits-on}
-use Rattle.vm_evict.proofs.Moving.{advances-after}
+use Rattle.vm_evict.specs.declared.candidate.Stage.TheVariants as stages
+use Rattle.vm_evict.proofs.FlushMarks.{none-there, not-dirty}
+use Rattle.vm_evict.proofs.Looking.{clean-so, looked, shares-another, shares-dirty, waits-known, waits-on}
+use Rattle.vm_evict.proofs.Moving.{advances-after, none-waiting}
+use Rattle.vm_evict.proofs.candidate.save_page.Goals.{else-seen-word-via-then-seen-word+else-is_none, else-seen-word-via-else-seen-word}
 use Rattle.vm_evict.proofs.candidate.save_page.Goals as goal
 
-pub returns-then-not-dirty-clause-moved : goal.returns-then-not-dirty-clause-moved
-returns-then-not-dirty-clause-moved g c v done h = clean-so g.U.Owner.tied c.args.p c.args.word c.look_silently-seen.result c.tload-translation.result done v (view c.args.pass.now) (view c.look_silently-seen.new.pass) (view c.tload-translation.new.pass) h c.look_silently-seen.ensures.told c.tload-translation.ensures.told c.if-seen-word.true c.requires.candidate.marked (sym c.dirty.ensures ∙ c.if-not-dirty.true)
+pub returns-then-is_none-clause-moved : goal.returns-then-is_none-clause-moved
+returns-then-is_none-clause-moved g c v done h = clean-so g.U.Owner.tied c.args.p c.args.word c.look_silently-seen.result c.tload.result done v (view c.args.pass.now) (view c.look_silently-seen.new.pass) (view c.tload.new.pass) h c.look_silently-seen.ensures.told c.tload.ensures.told c.if-seen-word.true c.requires.candidate.marked (not-dirty _ _ (none-there _ c.if-is_none.ensures) c.dirty_frame-dirty.ensures)
 
 pub save_marked-requires-clause-home : goal.save_marked-requires-clause-home
-save_marked-requires-clause-home g c = (looked g.U.Owner.tied c.args.p c.args.word c.look_silently-seen.result c.tload-translation.result c.requires.at.1 c.requires.at.0 (view c.args.pass.now) (view c.look_silently-seen.new.pass) (view c.tload-translation.new.pass) c.requires.at.2 c.look_silently-seen.ensures.told c.tload-translation.ensures.told).moves.home c.requires.home
+save_marked-requires-clause-home g c = (looked g.U.Owner.tied c.args.p c.args.word c.look_silently-seen.result c.tload.result c.requires.at.1 c.requires.at.0 (view c.args.pass.now) (view c.look_silently-seen.new.pass) (view c.tload.new.pass) c.requires.at.2 c.look_silently-seen.ensures.told c.tload.ensures.told).moves.home c.requires.home
 
 pub save_marked-requires-clause-at : goal.save_marked-requires-clause-at
-save_marked-requires-clause-at g c = (c.requires.at.0, _, waits-on g.U.Owner.tied c.args.p c.args.word c.look_silently-seen.result c.tload-translation.result c.requires.at.1 c.requires.at.0 (view c.args.pass.now) (view c.look_silently-seen.new.pass) (view c.tload-translation.new.pass) c.requires.at.2 c.look_silently-seen.ensures.told c.tload-translation.ensures.told)
+save_marked-requires-clause-at g c = (
+  c.requires.at.0,
+  _,
+  waits-on g.U.Owner.tied c.args.p c.args.word c.look_silently-seen.result c.tload.result c.requires.at.1 c.requires.at.0 (view c.args.pass.now) (view c.look_silently-seen.new.pass) (view c.tload.new.pass) c.requires.at.2 c.look_silently-seen.ensures.told c.tload.ensures.told,
+  elim c.else-seen-word.branch [
+    | else-seen-word-via-then-seen-word+else-is_none w ↦
+        shares-dirty g.U.Owner.tied c.args.p c.args.word c.look_silently-seen.result c.tload.result c.requires.at.1 c.requires.at.0 (view c.args.pass.now) (view c.look_silently-seen.new.pass) (view c.tload.new.pass) c.requires.at.2 c.look_silently-seen.ensures.told c.tload.ensures.told _ c.dirty_frame-dirty.ensures w.if-is_none.ensures
+    | else-seen-word-via-else-seen-word w ↦
+        shares-another g.U.Owner.tied c.args.p c.args.word c.look_silently-seen.result c.tload.result c.requires.at.1 c.requires.at.0 (view c.args.pass.now) (view c.look_silently-seen.new.pass) (view c.tload.new.pass) c.requires.at.2 c.look_silently-seen.ensures.told c.tload.ensures.told w.if-seen-word.false
+  ],
+)
 
 pub returns-else-seen-word-clause-moved : goal.returns-else-seen-word-clause-moved
 returns-else-seen-word-clause-moved g c v done h =
-    advances-after (c.args.p, c.args.word) c.save_marked.result done _ v (view c.args.pass.now) (view c.tload-translation.new.pass) (view c.save_marked.new.pass)
-    (looked g.U.Owner.tied c.args.p c.args.word c.look_silently-seen.result c.tload-translation.result done v (view c.args.pass.now) (view c.look_silently-seen.new.pass) (view c.tload-translation.new.pass) h c.look_silently-seen.ensures.told c.tload-translation.ensures.told)
-    (c.save_marked.ensures.moved v _ (waits-on g.U.Owner.tied c.args.p c.args.word c.look_silently-seen.result c.tload-translation.result done v (view c.args.pass.now) (view c.look_silently-seen.new.pass) (view c.tload-translation.new.pass) h c.look_silently-seen.ensures.told c.tload-translation.ensures.told))
+    advances-after (c.args.p, c.args.word) stages.Waiting stages.Waiting c.save_marked.result done _ v (view c.args.pass.now) (view c.tload.new.pass) (view c.save_marked.new.pass)
+    (looked g.U.Owner.tied c.args.p c.args.word c.look_silently-seen.result c.tload.result done v (view c.args.pass.now) (view c.look_silently-seen.new.pass) (view c.tload.new.pass) h c.look_silently-seen.ensures.told c.tload.ensures.told)
+    (none-waiting (view c.args.pass.now) (c.args.p, c.args.word)) (none-waiting (view c.tload.new.pass) (c.args.p, c.args.word))
+    (waits-known g.U.Owner.tied c.args.p c.args.word c.look_silently-seen.result c.tload.result done v (view c.args.pass.now) (view c.look_silently-seen.new.pass) (view c.tload.new.pass) h c.look_silently-seen.ensures.told c.tload.ensures.told)
+    (c.save_marked.ensures.moved v _ (waits-on g.U.Owner.tied c.args.p c.args.word c.look_silently-seen.result c.tload.result done v (view c.args.pass.now) (view c.look_silently-seen.new.pass) (view c.tload.new.pass) h c.look_silently-seen.ensures.told c.tload.ensures.told)
+    (elim c.else-seen-word.branch [
+      | else-seen-word-via-then-seen-word+else-is_none w ↦
+          shares-dirty g.U.Owner.tied c.args.p c.args.word c.look_silently-seen.result c.tload.result done v (view c.args.pass.now) (view c.look_silently-seen.new.pass) (view c.tload.new.pass) h c.look_silently-seen.ensures.told c.tload.ensures.told _ c.dirty_frame-dirty.ensures w.if-is_none.ensures
+      | else-seen-word-via-else-seen-word w ↦
+          shares-another g.U.Owner.tied c.args.p c.args.word c.look_silently-seen.result c.tload.result done v (view c.args.pass.now) (view c.look_silently-seen.new.pass) (view c.tload.new.pass) h c.look_silently-seen.ensures.told c.tload.ensures.told w.if-seen-word.false
+    ]))

@@ -5,7 +5,7 @@ use Rattle.vm_rule.proofs.WordFacts.{version-within}
 use Rattle.vm_step.proofs.Evidenced.{held-state}
 use Rattle.vm_evict.proofs.FlushAlone.{dirty-word, settles-clean, settles-gone, settles-held, settles-lock-lost, settles-mark-lost, settles-write}
 use Rattle.vm_evict.proofs.FlushSteps.{may-unshare, under-write-back}
-use Rattle.vm_evict.proofs.FlushMarks.{marked-is, marked-state, none-there, not-dirty, still-locked}
+use Rattle.vm_evict.proofs.FlushMarks.{dirty-there, marked-is, marked-state, none-there, not-dirty, still-locked}
 use Rattle.vm_evict.proofs.FlushVisits.{by-load-clean, by-lock-lost, by-look-gone, by-look-held, by-mark-lost, by-write, home-front}
 use Rattle.vm_evict.proofs.flushing.visit.Goals.{else-state-ne-UNLOCKED-via-then-state-ne-UNLOCKED+else-state-2, else-state-ne-UNLOCKED-via-else-state-ne-UNLOCKED}
 use Rattle.vm_evict.proofs.flushing.visit.Goals as goal
@@ -45,6 +45,7 @@ mark_page-requires-clause-legal g c =
 pub returns-in-Lost-clause-visited : goal.returns-in-Lost-clause-visited
 returns-in-Lost-clause-visited g c =
     by-mark-lost c.args.p g.U.Owner.tied _ _ _ c.look_silently-word.ensures.told c.args.flushed.now _ _ c.tload.ensures.told c.in-Lost.field-0 _ c.in-Lost.ensures.marks
+    (dirty-there _ _ c.dirty_frame.ensures c.if-is_none.ensures)
 
 pub lock_write_back-requires-clause-legal : goal.lock_write_back-requires-clause-legal
 lock_write_back-requires-clause-legal g c = marked-state _ _ c.look_silently-word.result c.of-marked.ensures c.version.ensures
@@ -65,6 +66,7 @@ pub returns-in-Lost-lock_write_back-clause-visited :
 returns-in-Lost-lock_write_back-clause-visited g c =
     by-lock-lost c.args.p g.U.Owner.tied _ _ _ c.look_silently-word.ensures.told c.args.flushed.now _ _ c.tload.ensures.told _ c.in_default.ensures.marks
     _ (marked-is _ _ _ c.of-marked.ensures c.version.ensures) _ _ (c.in-Lost-lock_write_back.ensures.lost _ refl) c.in-Lost-lock_write_back.ensures.told
+    (dirty-there _ _ c.dirty_frame.ensures c.if-is_none.ensures)
 
 pub returns-in-Taken-clause-visited : goal.returns-in-Taken-clause-visited
 returns-in-Taken-clause-visited g c =
@@ -76,7 +78,7 @@ returns-in-Taken-clause-visited g c =
     let home = home-front c.args.p g.U.Owner.tied _ _ _ c.look_silently-word.ensures.told c.args.flushed.now _ _ c.tload.ensures.told _ c.in_default.ensures.marks c.requires.home in
     let under = under-write-back c.args.p g.U.Owner.tied _ _ _ c.in-Taken.ensures.told home in
     by-write c.args.p g.U.Owner.tied _ _ _ c.look_silently-word.ensures.told c.args.flushed.now _ _ c.tload.ensures.told _ c.in_default.ensures.marks
-    _ (marked-is _ _ _ c.of-marked.ensures c.version.ensures) home _ c.in-Taken.ensures.told under _ _ _ c.unlock_shared.ensures.told standing _ c.write_dirty.ensures.written
+    _ (marked-is _ _ _ c.of-marked.ensures c.version.ensures) home _ c.in-Taken.ensures.told under _ _ _ c.unlock_shared.ensures.told standing (dirty-there _ _ c.dirty_frame.ensures c.if-is_none.ensures) _ c.write_dirty.ensures.written
 
 -- ---- where the pass is alone
 

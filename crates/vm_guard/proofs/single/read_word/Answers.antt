@@ -1,7 +1,7 @@
 use Rattle.std.proofs.Common.{◌≡◌, true≢false, sym, subst, ◌∙◌, slice_index}
 use Rattle.vm_rule.specs.Reading.{last_of}
 use Rattle.vm_step.specs.Passes.{view}
-use Rattle.vm_guard.specs.Guards.{Begins}
+use Rattle.vm_guard.specs.Guards.{BeginsReading}
 use Rattle.vm_guard.proofs.Singles.{known-at, quiet-alone, word-valid}
 use Rattle.vm_guard.proofs.single.read_word.Goals as goal
 
@@ -20,6 +20,6 @@ returns-in-Err-clause-alone g c =
 
 pub returns-in-Err-clause-sure : goal.returns-in-Err-clause-sure
 returns-in-Err-clause-sure g c a open_word =
-    let begins = subst (λ n. Begins n c.in-Ok.guard.word c.in-Ok.guard.frame (view c.args.pass.now) (view c.start.new.pass)) (sym c.in-Ok.ensures.ok.0) c.in-Ok.ensures.ok.1 in
+    let begins = subst (λ n. BeginsReading n c.in-Ok.guard.word c.in-Ok.guard.frame (view c.args.pass.now) (view c.start.new.pass)) (sym c.in-Ok.ensures.ok.0) c.in-Ok.ensures.ok.1 in
     let k = known-at _ _ _ _ _ _ _ begins c.word-word.ensures.loads a in
     absurd (true≢false (sym (c.in-Err.ensures.sure k.0 k.1)))

@@ -1,13 +1,48 @@
--- The release made the draft the page's last words; the sweep, the second bringing and the read left them so.
-use Rattle.std.proofs.Common.{ℕ, ◌≡◌, ◌<◌, List, ap, ◌∙◌, slice_set, length, arith}
+-- The release made the draft the page's last words; the sweep, the second bringing and the read left them so. A pass that is alone has each call
+-- succeed, by what the calls before told it of the page.
+use Rattle.std.proofs.Common.{ℕ, true, ◌≡◌, ◌<◌, ◌≤◌, ◌+◌, IsOk, List, ap, sym, subst, ◌∙◌, slice_set, length, arith}
+use Rattle.std.proofs.lemmas.Bool.{false≢true}
 use Rattle.std.proofs.lemmas.Option.{IfSome_then}
+use Rattle.vm_core.specs.Fn.{at}
+use Rattle.vm_core.specs.StateActs.{is_readable}
+use Rattle.vm_core.specs.Words.{MAX_VERSION, state_of, version_of}
 use Rattle.vm_exmap.proofs.Handing.{held-on}
+use Rattle.vm_guard.specs.Sure.{IsKnownFree, known_word}
+use Rattle.vm_rule.specs.declared.view.Origin.{Origin}
 use Rattle.vm_rule.specs.Reading.{last_of}
 use Rattle.vm_rule.specs.Views.{draft_of}
 use Rattle.vm_step.specs.Passes.{view}
 use Rattle.vm_step.specs.Alone.{IsAlone}
+use Rattle.vm_step.proofs.Alone.{still-alone}
+use Rattle.vm_pool.specs.Known.{known_version}
 use Rattle.vm_pool.proofs.Alone.{set-alone, set-words, word-back}
+use Rattle.vm_pool.proofs.Asking.{asked-version, when-free}
+use Rattle.vm_pool.proofs.OnePage.{no-fault}
+use Rattle.vm_pool.proofs.RoundTrip.{CanBeLocked, first-locks, reads-again, same-version, some-is}
 use Rattle.vm_pool.proofs.round_trip.round_trip.Goals as goal
+
+pub returns-in_default-clause-held : goal.returns-in_default-clause-held
+returns-in_default-clause-held g c =
+    let steady = c.in_default.ensures.denied.quiet.steady in
+    held-on _ (view c.bring.new.pass) (view c.take.new.pass) c.bring.ensures.held steady.start steady.frames.0
+
+pub returns-in_default-clause-sure : goal.returns-in_default-clause-sure
+returns-in_default-clause-sure g c can =
+    let low : known_version (view c.args.pass.now) c.args.pid + 3 < MAX_VERSION = can.below in
+    let v0 = view c.args.pass.now in
+    let v1 = view c.bring.new.pass in
+    let below : known_version v0 c.args.pid < MAX_VERSION = omega (arith, low) in
+    let locks : CanBeLocked c.args.pid (known_version v0 c.args.pid + 1) v1 =
+    first-locks _ c.args.pid _ _ v0 v1 c.bring.result can.good below (c.bring.ensures.sure c.requires.alone can.out can.free) (when-free _ c.args.pid _ _ v0 v1 c.bring.result can.free (c.bring.ensures.table c.requires.alone)) in
+    let same = locks.version_is in
+    absurd (false≢true (subst (λ r. IsOk r) c.in_default.is (c.take.ensures.sure (still-alone v0 v1 c.bring.ensures.keeps.parts c.bring.ensures.keeps.alone.current c.requires.alone) locks.free (omega (arith, low, same)))))
+
+pub sweep-requires-clause-frames : goal.sweep-requires-clause-frames
+sweep-requires-clause-frames g c =
+    let taken = c.in-Ok.ensures.taken.1.elsewhere.steady in
+    let is = c.set.ensures.set.elsewhere.steady in
+    let released = c.release.ensures.released.elsewhere.steady in
+    held-on _ (view c.bring.new.pass) (view c.release.new.pass) c.bring.ensures.held (released.start ∙ is.start ∙ taken.start) (released.frames.0 ∙ is.frames.0 ∙ taken.frames.0)
 
 pub returns-clause-word : goal.returns-clause-word
 returns-clause-word g c =
@@ -24,6 +59,40 @@ returns-clause-word g c =
     (λ x is.
     is c.requires.tells
     ∙ word-back c.args.pid c.args.i c.args.w draft (view c.release.new.pass) (view c.sweep.new.pass) (view c.bring-2.new.pass) (view c.read_word.new.pass) alone words (omega (arith, long, inside)) c.sweep.ensures.keeps c.bring-2.ensures.keeps c.read_word.ensures.alone)
+
+pub returns-clause-sure : goal.returns-clause-sure
+returns-clause-sure g c can =
+    let low : known_version (view c.args.pass.now) c.args.pid + 3 < MAX_VERSION = can.below in
+    let p : ℕ = c.args.pid in
+    let v0 = view c.args.pass.now in
+    let v1 = view c.bring.new.pass in
+    let v2 = view c.take.new.pass in
+    let v4 = view c.release.new.pass in
+    let v5 = view c.sweep.new.pass in
+    let v6 = view c.bring-2.new.pass in
+    let page : p < v0.start.pages = subst (λ (n : ℕ). p < n) (sym c.requires.ready.table.is_shape.pages) c.requires.page.0 in
+    let taken = c.in-Ok.ensures.taken in
+    let steady-take = taken.1.elsewhere.steady in
+    let steady-set = c.set.ensures.set.elsewhere.steady in
+    let steady-end = c.release.ensures.released.elsewhere.steady in
+    let same : c.set.new.self.pid ≡ p = ap (λ s. s.pid) c.set.ensures.guard ∙ taken.0 in
+    let one : IsAlone v1 = still-alone v0 v1 c.bring.ensures.keeps.parts c.bring.ensures.keeps.alone.current c.requires.alone in
+    let set : IsAlone (view c.set.new.pass) = still-alone v2 (view c.set.new.pass) steady-set.parts steady-set.alone.current (still-alone v1 v2 steady-take.parts steady-take.alone.current one) in
+    let alone : IsAlone v4 = set-alone _ _ _ _ _ _ _ _ c.requires.alone c.bring.ensures.keeps steady-take steady-set steady-end in
+    let first : (last_of v1 p).version ≡ known_version v0 p + 1 =
+    asked-version v0 c.requires.alone p page c.args.iface.now.cap c.args.iface.now.fits.0 c.args.iface.now.home _ _ _ _ v1 c.bring.result can.free c.bring.ensures.answer (no-fault p v0 v1 c.bring.result can.good (c.bring.ensures.sure c.requires.alone can.out can.free)) in
+    let held : (last_of v2 p).version ≡ c.in-Ok.guard.version = taken.1.holding.at in
+    let kept : (last_of v2 p).version ≡ (last_of v1 p).version = same-version _ p v1 v2 one steady-take in
+    let then : c.set.new.self.version ≡ c.in-Ok.guard.version = ap (λ s. s.version) c.set.ensures.guard in
+    let free-then : IsKnownFree p v4 = subst (λ (n : ℕ). IsKnownFree n v4) same (c.release.ensures.released.free set).0 in
+    let most : version_of (known_word p v4) ≤ c.set.new.self.version + 1 = subst (λ (n : ℕ). version_of (known_word n v4) ≤ c.set.new.self.version + 1) same (c.release.ensures.released.free set).1 in
+    let below : version_of (known_word p v4) + 1 < MAX_VERSION = omega (arith, low, first, held, kept, then, most) in
+    let start-then : v4.start ≡ v0.start = steady-end.start ∙ steady-set.start ∙ steady-take.start ∙ c.bring.ensures.keeps.start in
+    let reads : is_readable (state_of (known_word p v6)) ≡ true =
+    reads-again _ c.bring.new.iface.cap c.sweep.new.iface.cap p _ _ _ c.sweep.result v4 v5 v6 c.bring-2.result alone c.bring.new.iface.fits.0 c.sweep.new.iface.fits.0 (subst (λ (o : Origin). p < o.pages) (sym start-then) page) free-then below
+    (subst (λ (o : Origin). at 0 o.bounds p ≡ 0) (sym start-then) can.good) c.sweep.ensures.swept c.sweep.ensures.keeps c.bring-2.ensures.sure c.bring-2.ensures.table in
+    let last : IsAlone v6 = still-alone v5 v6 c.bring-2.ensures.keeps.parts c.bring-2.ensures.keeps.alone.current (still-alone v4 v5 c.sweep.ensures.keeps.parts c.sweep.ensures.keeps.alone.current alone) in
+    some-is c.read_word.result c.args.w (c.read_word.ensures.sure last reads) (returns-clause-word g c)
 
 pub returns-clause-held : goal.returns-clause-held
 returns-clause-held g c = held-on _ (view c.bring-2.new.pass) (view c.read_word.new.pass) c.bring-2.ensures.held c.read_word.ensures.frames.0 c.read_word.ensures.frames.1

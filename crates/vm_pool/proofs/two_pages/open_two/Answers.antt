@@ -9,6 +9,7 @@ use Rattle.vm_rule.proofs.ListFacts.{length-mapped}
 use Rattle.vm_step.specs.Passes.{view}
 use Rattle.vm_step.proofs.Alone.{still-alone}
 use Rattle.vm_pool.specs.Known.{KnowsBring}
+use Rattle.vm_pool.proofs.Asking.{when-free}
 use Rattle.vm_pool.proofs.FirstPage.{first-alone, first-free, first-out, sure-on, sure-then}
 use Rattle.vm_pool.proofs.TwoPages.{IsReadyAgain, can-be-read, has-page, other-page, ready-again}
 use Rattle.vm_pool.proofs.two_pages.open_two.Goals as goal
@@ -31,7 +32,7 @@ returns g c =
     let free = first-free _ _ _ _ blocks _ is fits c.new-iface.result.frames in
     let knows : KnowsBring 1 c.args.a [] c.bring-first.new.iface.frames v0 v1 c.bring-first.result =
     subst (λ (n : ℕ). KnowsBring n c.args.a [] c.bring-first.new.iface.frames v0 v1 c.bring-first.result) c.new-iface.ensures.1
-    (subst (λ (l : List ℕ). KnowsBring c.new-iface.result.cap c.args.a l c.bring-first.new.iface.frames v0 v1 c.bring-first.result) c.new-iface.ensures.2 (c.bring-first.ensures.table alone free)) in
+    (subst (λ (l : List ℕ). KnowsBring c.new-iface.result.cap c.args.a l c.bring-first.new.iface.frames v0 v1 c.bring-first.result) c.new-iface.ensures.2 (when-free _ _ _ _ v0 v1 _ free (c.bring-first.ensures.table alone))) in
     let again : IsReadyAgain c.args.b c.bring-first.new.iface.frames v1 =
     ready-again _ _ _ _ blocks _ is fits c.requires.below c.args.a c.args.b c.bring-first.new.iface.frames v1 c.bring-first.result c.requires.frames other in-b c.bring-first.ensures.keeps knows in
     record {
@@ -42,6 +43,6 @@ returns g c =
           (ap (λ (n : ℕ). is_readable (state_of n))
           (other-page _ c.args.b c.args.a _ _ v1 v2 c.bring-second.result c.requires.page.2
           (subst (λ (o : Origin). c.args.a < o.pages) (sym c.bring-first.ensures.keeps.start) (has-page _ _ _ _ blocks _ is fits c.requires.below c.args.a in-a))
-          (c.bring-second.ensures.table again.alone again.free))
+          (when-free _ _ _ _ v1 v2 _ again.free (c.bring-second.ensures.table again.alone)))
           ∙ can-be-read 1 c.args.a [] c.bring-first.new.iface.frames v0 v1 out-a (subst (KnowsBring 1 c.args.a [] c.bring-first.new.iface.frames v0 v1) brought knows));
     }

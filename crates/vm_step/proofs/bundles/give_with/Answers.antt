@@ -1,6 +1,6 @@
 use Rattle.std.proofs.Common.{rules, ◌≡◌, ◌<◌, length, subst, ap, arith, true}
 use Rattle.vm_rule.specs.Views.{view_of}
-use Rattle.vm_step.specs.Conditions.{MayGive}
+use Rattle.vm_step.specs.Conditions.{PassMayGive}
 use Rattle.vm_step.proofs.GiveAllows.{give-allows}
 use Rattle.vm_step.proofs.bundles.give_with.Goals as goal
 
@@ -15,5 +15,5 @@ fetch_or-found-requires g c =
       omega (arith, pages, frames, wide, bundle),
       rw (c.requires.given.0, c.requires.given.1, c.requires.given.2, c.requires.given.3)
           (give-allows _ _ _ _ _ _ _ _ c.args.g _ _ c.args.mask (subst (λ v. v.live ≡ true) is c.args.pass.now.live) (subst (λ v. 0 < length v.used) is c.requires.pass.1) bundle pages frames
-          (subst (λ v. MayGive v c.args.g c.args.mask) is c.requires.legal) c.ranges.mask.fits),
+          (subst (λ v. PassMayGive v c.args.g c.args.mask) is c.requires.legal) c.ranges.mask.fits),
     )

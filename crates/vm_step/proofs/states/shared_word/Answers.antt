@@ -1,5 +1,5 @@
 use Rattle.std.proofs.Common.{ℕ, ◌≡◌, ◌≢◌, ◌≤◌, ◌+◌, ◌*◌, ◌/◌, ◌%◌, ◌^◌, sym, refl, ap, ◌∙◌, ⊎_elim, arith, eq-eqb, ne_eqb}
-use Rattle.vm_core.specs.StateActs.{MayShare, one_more}
+use Rattle.vm_core.specs.StateActs.{MayShare, one_share_more}
 use Rattle.vm_core.specs.Words.{state_of, version_of, word_of, MARKED}
 use Rattle.vm_step.proofs.states.shared_word.Goals as goal
 
@@ -8,10 +8,10 @@ room : (n : ℕ) → MayShare n → n / 2 ^ 56 ≢ MARKED → n / 2 ^ 56 ≤ 251
 unfolding state_of
 room n may ne = ⊎_elim (λ l. l) (λ e. absurd (ne e)) may
 
-first-share : (state : ℕ) → state ≡ MARKED → one_more state ≡ 1
+first-share : (state : ℕ) → state ≡ MARKED → one_share_more state ≡ 1
 first-share state e = rw (eq-eqb state MARKED e) refl
 
-next-share : (state : ℕ) → state ≢ MARKED → one_more state ≡ state + 1
+next-share : (state : ℕ) → state ≢ MARKED → one_share_more state ≡ state + 1
 next-share state ne = rw (ne_eqb state MARKED ne) refl
 
 pub overflow_add-result-else-word-eq-MARKED : goal.overflow_add-result-else-word-eq-MARKED

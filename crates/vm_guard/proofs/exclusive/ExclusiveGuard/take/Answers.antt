@@ -10,7 +10,7 @@ use Rattle.vm_guard.proofs.Denials.{denied-at-once, denied-lost}
 use Rattle.vm_guard.proofs.QuietSteps.{lock-lost}
 use Rattle.vm_guard.proofs.Lockings.{lock-owns, lock-resident, locked}
 use Rattle.vm_guard.proofs.Sure.{free-refused, lock-sure, look-finds}
-use Rattle.vm_guard.specs.Sure.{IsFree}
+use Rattle.vm_guard.specs.Sure.{IsUnlockedWord}
 use Rattle.vm_guard.proofs.exclusive.ExclusiveGuard.take.Goals as goal
 
 pub returns-in_err-expects-clause-denied : goal.returns-in_err-expects-clause-denied
@@ -44,10 +44,10 @@ pub returns-in_err-expects-clause-sure : goal.returns-in_err-expects-clause-sure
 returns-in_err-expects-clause-sure g c a free below =
     let why = c.in_err-expects.ensures.denied in
     let here : c.look_silently-word.result ≡ _ = look-finds g.U.Owner.tied c.args.pid None c.look_silently-word.result _ _ c.look_silently-word.ensures.told a in
-    absurd (free-refused c.args.pid c.look_silently-word.result _ why.0 why.1 (subst IsFree (sym here) free) (subst (λ n. version_of n < MAX_VERSION) (sym here) below))
+    absurd (free-refused c.args.pid c.look_silently-word.result _ why.0 why.1 (subst IsUnlockedWord (sym here) free) (subst (λ n. version_of n < MAX_VERSION) (sym here) below))
 
 pub returns-in-Lost-clause-sure : goal.returns-in-Lost-clause-sure
 returns-in-Lost-clause-sure g c a free below =
     let lost = c.in-Lost.ensures in
     let here : c.look_silently-word.result ≡ _ = look-finds g.U.Owner.tied c.args.pid None c.look_silently-word.result _ _ c.look_silently-word.ensures.told a in
-    absurd (lock-sure g.U.Owner.tied c.args.pid c.look_silently-word.result _ _ c.look_silently-word.ensures.told a _ _ _ lost.told c.in_ok-expects.ensures.kept (lost.lost _ refl) (subst IsFree (sym here) free))
+    absurd (lock-sure g.U.Owner.tied c.args.pid c.look_silently-word.result _ _ c.look_silently-word.ensures.told a _ _ _ lost.told c.in_ok-expects.ensures.kept (lost.lost _ refl) (subst IsUnlockedWord (sym here) free))

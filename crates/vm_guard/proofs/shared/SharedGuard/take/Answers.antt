@@ -2,7 +2,7 @@
 use Rattle.std.proofs.Common.{◌≡◌, ◌<◌, None, refl, sym, subst, inl}
 use Rattle.std.proofs.lemmas.Result.{err_from_is_err_and}
 use Rattle.vm_core.specs.Words.{state_of, version_of, word_of}
-use Rattle.vm_core.specs.StateActs.{MayShare, one_more}
+use Rattle.vm_core.specs.StateActs.{MayShare, one_share_more}
 use Rattle.vm_step.specs.Evidence.{NoneExpected}
 use Rattle.vm_guard.specs.Denied.{NotWorn}
 use Rattle.vm_guard.proofs.Denials.{denied-at-once, denied-lost}
@@ -25,7 +25,7 @@ returns-in-Lost-clause-denied g c =
     let word = c.look_silently-word.result in
     let lost = c.in-Lost.ensures in
     let other = lost.lost c.in-Lost.seen refl in
-    denied-lost g.U.Owner.tied NotWorn NoneExpected c.args.pid word word c.in-Lost.seen (word_of (one_more (state_of word)) (version_of word)) _ _ _ c.look_silently-word.ensures.told
+    denied-lost g.U.Owner.tied NotWorn NoneExpected c.args.pid word word c.in-Lost.seen (word_of (one_share_more (state_of word)) (version_of word)) _ _ _ c.look_silently-word.ensures.told
     (share-lost _ _ _ _ _ _ other lost.told) (inl refl) other tt
 
 pub returns-in-Taken-clause-taken : goal.returns-in-Taken-clause-taken

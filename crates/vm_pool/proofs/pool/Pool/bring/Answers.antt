@@ -2,7 +2,7 @@ use Rattle.std.proofs.Common.{◌<◌, subst, sym}
 use Rattle.vm_step.specs.Passes.{view}
 use Rattle.vm_pool.specs.Brings.{Fetches, Gets, IsBring as is_bring}
 use Rattle.vm_pool.proofs.Keeping.{keeps-then}
-use Rattle.vm_pool.proofs.Knowing.{knows-bring}
+use Rattle.vm_pool.proofs.Asking.{knows-asked}
 use Rattle.vm_pool.proofs.Sure.{sure}
 use Rattle.vm_pool.proofs.pool.Pool.bring.Goals as goal
 
@@ -26,9 +26,9 @@ pub returns-in-Ok-clause-keeps : goal.returns-in-Ok-clause-keeps
 returns-in-Ok-clause-keeps g c = keeps-then (view c.args.pass.now) (view c.frame_for.new.pass) (view c.bring_into.new.pass) c.frame_for.ensures.keeps c.bring_into.ensures.keeps
 
 pub returns-in-Ok-clause-table : goal.returns-in-Ok-clause-table
-returns-in-Ok-clause-table g c alone free =
-    knows-bring (view c.args.pass.now) alone c.args.pid (subst (λ n. c.args.pid < n) (sym c.requires.ready.table.is_shape.pages) c.requires.page) c.args.iface.now.cap c.args.iface.now.fits.0 c.args.iface.now.home _ _ c.args.iface.now.frames _ _ _ free (returns-in-Ok-clause-answer g c)
+returns-in-Ok-clause-table g c alone =
+    knows-asked (view c.args.pass.now) alone c.args.pid (subst (λ n. c.args.pid < n) (sym c.requires.ready.table.is_shape.pages) c.requires.page) c.args.iface.now.cap c.args.iface.now.fits.0 c.args.iface.now.home _ _ c.args.iface.now.frames _ _ _ (returns-in-Ok-clause-answer g c)
 
 pub returns-in-Err-clause-table : goal.returns-in-Err-clause-table
-returns-in-Err-clause-table g c alone free =
-    knows-bring (view c.args.pass.now) alone c.args.pid (subst (λ n. c.args.pid < n) (sym c.requires.ready.table.is_shape.pages) c.requires.page) c.args.iface.now.cap c.args.iface.now.fits.0 c.args.iface.now.home _ _ c.args.iface.now.frames _ _ _ free (returns-in-Err-clause-answer g c)
+returns-in-Err-clause-table g c alone =
+    knows-asked (view c.args.pass.now) alone c.args.pid (subst (λ n. c.args.pid < n) (sym c.requires.ready.table.is_shape.pages) c.requires.page) c.args.iface.now.cap c.args.iface.now.fits.0 c.args.iface.now.home _ _ c.args.iface.now.frames _ _ _ (returns-in-Err-clause-answer g c)

@@ -1,6 +1,7 @@
 use Rattle.std.proofs.Common.{ℕ, List, sym, subst}
 use Rattle.vm_exmap.specs.Returns.{IsFreed}
 use Rattle.vm_exmap.proofs.Handing.{held-on}
+use Rattle.vm_step.specs.Choices.{AreCandidates}
 use Rattle.vm_step.specs.Passes.{view}
 use Rattle.vm_pool.proofs.Keeping.{swept-keeps}
 use Rattle.vm_pool.proofs.Sweeping.{held-come, swept}
@@ -15,7 +16,7 @@ free-requires-clause-frames g c =
 
 pub returns-clause-swept : goal.returns-clause-swept
 returns-clause-swept g c =
-    swept _ _ _ _ _ _ _ _ _ _ _ _ c.candidates-chosen.ensures.chosen c.evict-evicted.ensures.evicted
+    swept _ _ _ _ _ _ _ _ _ _ _ _ (subst (λ (n : ℕ). AreCandidates n c.candidates-chosen.result.list.items) (sym c.requires.ready.table.is_shape.pages) c.candidates-chosen.ensures.list) c.candidates-chosen.ensures.chosen c.evict-evicted.ensures.evicted
     (subst (λ (l : List ℕ). IsFreed c.args.iface.now.cap c.args.iface.now.frames c.evict-evicted.result.frames l (view c.evict-evicted.new.pass) (view c.free.new.pass)) (sym c.add_swept.ensures.same.2) c.free.ensures.freed)
 
 pub returns-clause-keeps : goal.returns-clause-keeps

@@ -1,0 +1,133 @@
+-- What a pass that is alone knows of a candidate's words over some steps: where none of them left a word it knows the word that it knew.
+use Rattle.std.proofs.Common.{ℕ, ◌≡◌, ◌≢◌, ◌⊎◌, ◌<◌, ◌-◌, ◌^◌, ◌++◌, true, List, [], ◌∷◌, Option, Some, None, refl, sym, ap, subst, ◌∙◌, ⊎_elim, inl, inr, arith}
+use Rattle.vm_core.specs.Words.{UNLOCKED, word_of}
+use Rattle.vm_owner.specs.Numbers.{has}
+use Rattle.vm_rule.specs.declared.view.Did.{Did}
+use Rattle.vm_rule.specs.declared.view.Place.{Place}
+use Rattle.vm_rule.specs.declared.view.Place.TheVariants as places
+use Rattle.vm_rule.specs.declared.view.Release.{Release}
+use Rattle.vm_rule.specs.declared.view.View.{View}
+use Rattle.vm_rule.specs.Brought.{IsFoundAt}
+use Rattle.vm_rule.specs.Layout.{Within, index_of}
+use Rattle.vm_rule.specs.Views.{Each}
+use Rattle.vm_rule.proofs.Heard.{each-both}
+use Rattle.vm_step.specs.Alone.{IsAlone, LeavesLast, RunsAlone, WritesNone, known_word_at}
+use Rattle.vm_step.specs.Choices.{candidate_pages}
+use Rattle.vm_step.proofs.After.{knows-after}
+use Rattle.vm_evict.specs.Evictions.{candidate_at}
+use Rattle.vm_evict.specs.Phases.{Does, DoesOne, GivesUp, InPhases, Saves, writes, shares, gives_up}
+use Rattle.vm_evict.specs.Tables.{IsOfAny, KnowsKept, KnowsLocked, KnowsOn, KnowsStage}
+use Rattle.vm_evict.specs.Writes.{reads, cleans, raises}
+use Rattle.vm_evict.specs.declared.candidate.Phase.{Phase}
+use Rattle.vm_evict.specs.declared.candidate.Phase.TheVariants as phases
+use Rattle.vm_evict.specs.declared.candidate.Stage.{Stage}
+use Rattle.vm_evict.specs.declared.candidate.Stage.TheVariants as stages
+use Rattle.vm_evict.proofs.Gathering.{has-page}
+
+pub each-two : {A : Type 0} (P Q : A → Type 0) (l : List A) → Each P l → Each Q l → Each (λ x. P x × Q x) l
+each-two P Q [] f g = tt
+each-two P Q (x ∷ xs) f g = ((f.0, g.0), each-two P Q xs f.1 g.1)
+
+-- ---- steps that leave no word
+
+pub none-else : (at : Place) (done : List Did) → Each (λ d. d.at ≢ at) done → WritesNone at done
+none-else at [] e = tt
+none-else at (d ∷ ds) e = (λ here. absurd (e.0 here), none-else at ds e.1)
+
+pub none-silent : (at : Place) (done : List Did) → Each (λ d. d.wrote ≡ None) done → WritesNone at done
+none-silent at [] e = tt
+none-silent at (d ∷ ds) e = (λ here. e.0, none-silent at ds e.1)
+
+-- the last step left this word last
+pub left-last : (before : List Did) (d : Did) (word : ℕ) → d.wrote ≡ Some word → LeavesLast (before ++ d ∷ []) d.at word
+left-last before d word is = record { written = record { earlier = before; step = d; later = []; cut = refl; place = refl; wrote = is }; none_after = tt }
+
+-- a share given up leaves an unlocked page
+pub share-gone : (version : ℕ) → word_of 1 version - 2 ^ 56 ≡ word_of UNLOCKED version
+unfolding word_of
+share-gone version = omega arith
+
+module _ {X : Type 0} where
+  -- ---- one place
+
+  -- the first step found the word that the pass knew
+  pub found-first : (d : Did) (ds : List Did) (own : List Release) (x y : View X) → RunsAlone (d ∷ ds) own x y → IsAlone x → (n : ℕ) → d.found ≡ Some n → n ≡ known_word_at x d.at
+  found-first d ds own x y r a n is = subst (λ (o : Option ℕ). IsFoundAt o (index_of x.start d.at) x.snapshot.words) is (r.words a.0 a.1).0
+
+  module _ (done : List Did) (own : List Release) (x y : View X) (start : y.start ≡ x.start) (r : RunsAlone done own x y) (a : IsAlone x) where
+    pub kept-at : (at : Place) → Within x.start at → WritesNone at done → KnowsOn at x y
+    kept-at at inside none = (knows-after done own x y start r).kept a at inside none
+
+    pub left-at : (at : Place) (word : ℕ) → LeavesLast done at word → known_word_at y at ≡ word
+    left-at at word last = (knows-after done own x y start r).left a at word last
+
+    -- the words of a page
+    module _ (p : ℕ) (page : p < x.start.pages) where
+      pub kept-page : WritesNone (places.State p) done → WritesNone (places.Translation p) done → WritesNone (places.Fault p) done → KnowsKept p x y
+      kept-page s t f = record { state = kept-at (places.State p) page s; translation = kept-at (places.Translation p) page t; fault = kept-at (places.Fault p) page f }
+
+      pub silent-page : Each (λ d. d.wrote ≡ None) done → KnowsKept p x y
+      silent-page e = kept-page (none-silent (places.State p) done e) (none-silent (places.Translation p) done e) (none-silent (places.Fault p) done e)
+
+      pub else-page : Each (λ d. d.at ≢ places.State p) done → Each (λ d. d.at ≢ places.Translation p) done → Each (λ d. d.at ≢ places.Fault p) done → KnowsKept p x y
+      else-page s t f = kept-page (none-else (places.State p) done s) (none-else (places.Translation p) done t) (none-else (places.Fault p) done f)
+
+  -- ---- a candidate
+
+  pub kept-self : (p : ℕ) (v : View X) → KnowsKept p v v
+  kept-self p v = record { state = refl; translation = refl; fault = refl }
+
+  pub kept-then : (p : ℕ) (v x y : View X) → KnowsKept p v x → KnowsKept p x y → KnowsKept p v y
+  kept-then p v x y f g = record { state = g.state ∙ f.state; translation = g.translation ∙ f.translation; fault = g.fault ∙ f.fault }
+
+  pub locked-on : (c : ℕ × ℕ) (state version : ℕ) (v x y : View X) → KnowsOn (places.State c.0) x y → KnowsLocked c state version v x → KnowsLocked c state version v y
+  locked-on c state version v x y same k = record { before = k.before; now = same ∙ k.now }
+
+  -- a candidate's stage, over steps that left its words
+  pub stays-known : (c : ℕ × ℕ) (s : Stage) (v x y : View X) → KnowsKept c.0 x y → KnowsStage c s v x → KnowsStage c s v y
+  stays-known c stages.Waiting v x y same k = kept-then c.0 v x y k same
+  stays-known c stages.Clean v x y same k = kept-then c.0 v x y k same
+  stays-known c (stages.Shared written) v x y same k = (locked-on c _ _ v x y same.state k.0, same.fault ∙ k.1, λ e. same.translation ∙ k.2 e)
+  stays-known c (stages.Owned written) v x y same k = (locked-on c _ _ v x y same.state k.0, same.fault ∙ k.1)
+  stays-known c (stages.Emptied frame written) v x y same k = (locked-on c _ _ v x y same.state k.0, same.fault ∙ k.1, same.translation ∙ k.2)
+  stays-known c (stages.Freed frame written) v x y same k = (locked-on c _ _ v x y same.state k.0, same.fault ∙ k.1, same.translation ∙ k.2)
+  stays-known c (stages.Failed count) v x y same k = (locked-on c _ _ v x y same.state k.0, same.translation ∙ k.1, same.fault ∙ k.2)
+  stays-known c (stages.Lost written) v x y same k = (k.0, k.1, kept-then c.0 v x y k.2 same)
+
+-- ---- the words that an eviction writes
+
+-- the step left no word, or one at a word of these pages
+abbrev Touches : List ℕ → Did → Type 0
+Touches pages d = (d.wrote ≡ None) ⊎ IsOfAny pages d.at
+
+module _ (pages : List ℕ) (c : ℕ × ℕ) (among : has c.0 pages ≡ true) where
+  gives-up-there : (d : Did) → GivesUp c.0 d → Touches pages d
+  gives-up-there d g = inr (subst (λ (e : Did). IsOfAny pages e.at) (sym g.1) among)
+
+  saves-there : (d : Did) → Saves c d → Touches pages d
+  saves-there d (writes (reads own none quiet)) = inl quiet
+  saves-there d (writes (cleans frame is)) = inr (subst (λ (e : Did). IsOfAny pages e.at) (sym is) among)
+  saves-there d (writes (raises count is)) = inr (subst (λ (e : Did). IsOfAny pages e.at) (sym is) among)
+  saves-there d (shares found is) = inr (subst (λ (e : Did). IsOfAny pages e.at) (sym is) among)
+  saves-there d (gives_up g) = gives-up-there d g
+
+  does-there : (phase : Phase) (d : Did) → Does phase c d → Touches pages d
+  does-there phases.Save d s = saves-there d s
+  does-there phases.Lock d s = inr (subst (λ (e : Did). IsOfAny pages e.at) (sym s.1) among)
+  does-there phases.Raise d s = ⊎_elim (λ t. inr (subst (λ (e : Did). IsOfAny pages e.at) (sym t.1) among)) (λ g. gives-up-there d g) s
+  does-there phases.Empty d s = ⊎_elim (λ t. inl (ap (λ (e : Did). e.wrote) t.1)) (λ e. inr (subst (λ (f : Did). IsOfAny pages f.at) (sym e) among)) s
+  does-there phases.Leave d s = inr (subst (λ (e : Did). IsOfAny pages e.at) (sym s) among)
+
+phase-there : (phase : Phase) (list : List (ℕ × ℕ)) (done : List Did) → Each (DoesOne phase list) done → Each (Touches (candidate_pages list)) done
+phase-there phase list [] e = tt
+phase-there phase list (d ∷ ds) e = (does-there (candidate_pages list) (candidate_at list e.0.0) (has-page list e.0.0 e.0.1) phase d e.0.2, phase-there phase list ds e.1)
+
+pub phases-there : (list : List (ℕ × ℕ)) (done : List Did) → InPhases list done → Each (λ d. (d.wrote ≡ None) ⊎ IsOfAny (candidate_pages list) d.at) done
+phases-there list done p =
+    let there : List Did → Type 0 = Each (Touches (candidate_pages list)) in
+    subst there (sym p.cut)
+    (each-both (Touches (candidate_pages list)) p.saves _ (phase-there phases.Save list p.saves p.saving)
+    (each-both (Touches (candidate_pages list)) p.locks _ (phase-there phases.Lock list p.locks p.locking)
+    (each-both (Touches (candidate_pages list)) p.raises _ (phase-there phases.Raise list p.raises p.raising)
+    (each-both (Touches (candidate_pages list)) p.empties p.leaves (phase-there phases.Empty list p.empties p.emptying)
+    (phase-there phases.Leave list p.leaves p.leaving)))))

@@ -1,0 +1,34 @@
+-- The first pass meets the premises of what `round_trip` promises.
+use Rattle.std.proofs.Common.{ℕ, ◌≡◌, ◌<◌, ◌≤◌, ◌+◌, List, length, map, ap, subst, sym, ◌∙◌, arith}
+use Rattle.vm_block.specs.declared.stored.Stored.{Stored}
+use Rattle.vm_core.specs.Fn.{at}
+use Rattle.vm_core.specs.Words.{MAX_VERSION}
+use Rattle.vm_rule.specs.declared.view.Origin.{Origin}
+use Rattle.vm_rule.specs.Started.{IsStarted}
+use Rattle.vm_rule.proofs.ListFacts.{length-mapped}
+use Rattle.vm_step.specs.Passes.{view}
+use Rattle.vm_pool.specs.Known.{known_version}
+use Rattle.vm_pool.proofs.FirstPage.{first-alone, first-free, first-out, first-version, start-is}
+use Rattle.vm_pool.proofs.kept_word.keep_word.Goals as goal
+
+pub round_trip-word-requires-clause-alone : goal.round_trip-word-requires-clause-alone
+round_trip-word-requires-clause-alone g c = first-alone _ _ _ _ (map g.B.Block.stored c.args.blocks.items) _ c.in_ok-pool.ensures.view
+
+pub returns-clause-sure : goal.returns-clause-sure
+returns-clause-sure g c none =
+    let blocks : List Stored = map g.B.Block.stored c.args.blocks.items in
+    let mapped : length blocks ≡ length c.args.blocks.items = length-mapped g.B.Block.stored c.args.blocks.items in
+    let fits : IsStarted c.args.shape.first_version c.args.shape.next c.args.shape.frames (length blocks) = subst (λ (n : ℕ). IsStarted c.args.shape.first_version c.args.shape.next c.args.shape.frames n) (sym mapped) c.requires.fits in
+    let claimed : c.args.shape.next ≤ length blocks = fits.claimed in
+    let below : c.args.pid < c.args.shape.next = c.requires.page.0 in
+    let inside : c.args.pid < length blocks = omega (arith, claimed, below) in
+    let low : c.args.shape.first_version + 3 < MAX_VERSION = c.requires.below in
+    let is = c.in_ok-pool.ensures.view in
+    let at-first : known_version (view c.in_ok-pool.pass) c.args.pid ≡ c.args.shape.first_version = first-version _ _ _ _ blocks _ is fits c.args.pid inside in
+    c.round_trip-word.ensures.sure
+    record {
+      out = first-out _ _ _ _ blocks _ is fits c.args.pid inside (omega (arith, low));
+      free = first-free _ _ _ _ blocks _ is fits _;
+      below = omega (arith, low, at-first);
+      good = ap (λ (o : Origin). at 0 o.bounds c.args.pid) (start-is _ _ _ _ blocks _ is) ∙ none;
+    }

@@ -1,0 +1,44 @@
+-- How often the device of a page was called, by the steps of a call: it is called only while the page's block is out of its slot, and once at most
+-- each time (`DeviceDid`); each move of the block is two loads of the page's fault word, which nothing else loads.
+use Rattle.std.specs.Prelude.{ℕ, None, List, [], ◌∷◌, ◌++◌, ◌≡◌, ◌⊎◌}
+use Rattle.vm_rule.specs.declared.view.Did.{Did}
+use Rattle.vm_rule.specs.declared.view.Place.{Place}
+use Rattle.vm_rule.specs.declared.view.Place.TheVariants as places
+use Rattle.vm_rule.specs.Log.{did_load}
+use Rattle.vm_rule.specs.Views.{Each}
+
+-- a place of page p: its state word, its translation word or its fault word
+abbrev pub IsOfPage : ℕ → Place → Type 0
+IsOfPage p (places.State q) = q ≡ p
+IsOfPage p (places.Translation q) = q ≡ p
+IsOfPage p (places.Fault q) = q ≡ p
+IsOfPage p (places.Content f i) = ⊥
+IsOfPage p (places.Bundle g) = ⊥
+IsOfPage p places.Next = ⊥
+IsOfPage p places.Hand = ⊥
+
+-- no step found a word there
+abbrev pub FindsNone : Place → List Did → Type 0
+FindsNone at done = Each (λ d. d.at ≡ at → d.found ≡ None) done
+
+-- the block of page p stayed in its slot
+abbrev pub StaysHome : ℕ → List Did → Type 0
+StaysHome p done = FindsNone (places.Fault p) done
+
+-- the steps that move the block of page p, which found these words
+abbrev pub moved_block : ℕ → ℕ × ℕ → List Did
+moved_block p found = did_load (places.Fault p) found.0 ∷ did_load (places.Fault p) found.1 ∷ []
+
+-- the block of page p went out of its slot once and came home once
+pub record GoesOnce (p : ℕ) (done : List Did) : Type 0 where
+  pub earlier : List Did
+  pub out : ℕ × ℕ
+  pub between : List Did
+  pub home : ℕ × ℕ
+  pub later : List Did
+  pub cut : done ≡ earlier ++ (moved_block p out ++ (between ++ (moved_block p home ++ later)))
+  pub none : StaysHome p earlier × StaysHome p between × StaysHome p later
+
+-- the device of page p was called once at most
+abbrev pub IsCalledOnce : ℕ → List Did → Type 0
+IsCalledOnce p done = StaysHome p done ⊎ GoesOnce p done

@@ -1,0 +1,107 @@
+//! Callers that stand on the contracts of pools and guards alone, run over two pages and one frame, with ample memory. The values are worked out by
+//! hand from the rules, and not taken from a run.
+ghost use Rattle.std.specs.Prelude.{◌≡◌, IfOk, length};
+
+use std::alloc::Global;
+use std::test::Fail;
+use vm_block::MemBlock;
+use vm_owner::Bare;
+use vm_page::PageBuf;
+use vm_pool::kept_word::{KeptWord, keep_word};
+use vm_pool::shared_page::{SharedPage, open_shared};
+use vm_pool::{Bring, Shape};
+
+/// Two pages at version 0, both claimed, and one frame.
+const SHAPE: Shape = Shape {
+    pages: 2,
+    frames: 1,
+    next: 2,
+    first_version: 0,
+};
+
+/// The blocks of two pages: one of zeros, which answers every call, and one whose last word is 5, which fails the calls of this plan.
+fn two_blocks(alloc: Global, plan: &[u64]) -> Result<Vec<MemBlock>, Fail>
+    ensures { IfOk result (λ blocks. length blocks.items ≡ 2) }
+{
+    let mut second = PageBuf::zero();
+    second.set(63, 5);
+    let mut blocks = Vec::new(alloc);
+    blocks.push(MemBlock::new(alloc, PageBuf::zero(), &[])?)?;
+    blocks.push(MemBlock::new(alloc, second, plan)?)?;
+    Ok(blocks)
+}
+
+/// The word that is read again, and how many pages were evicted. A page that is written, evicted and brought again calls its block three times: a
+/// read, a write, a read.
+fn kept(alloc: Global, plan: &[u64]) -> Result<(Option<u64>, u64), Fail> {
+    let blocks = two_blocks(alloc, plan)?;
+    let KeptWord {
+        pool: _,
+        pass: _,
+        iface,
+        word,
+    } = keep_word(alloc, SHAPE, blocks, 1, 63, 7)?;
+    Ok((word, iface.swept()))
+}
+
+/// What `bring` answers, and the word that is read under a share of the page.
+fn shared(alloc: Global, plan: &[u64]) -> Result<(Bring, Option<u64>), Fail> {
+    let blocks = two_blocks(alloc, plan)?;
+    let SharedPage {
+        pool: _,
+        pass: _,
+        iface: _,
+        answer,
+        word,
+    } = open_shared::<Bare, MemBlock>(alloc, SHAPE, blocks, 1, 63)?;
+    Ok((answer, word))
+}
+
+#[test]
+fn a_word_is_read_again_for_sure(rt: HostRuntime) -> Result<(), Fail> {
+    let (word, evicted) = kept(rt.alloc(), &[])?;
+    assert_eq!(rt; word, Some(7));
+    assert_eq!(rt; evicted, 1);
+    Ok(())
+}
+
+#[test]
+fn a_page_that_could_not_be_read_keeps_no_word(rt: HostRuntime) -> Result<(), Fail> {
+    let (word, evicted) = kept(rt.alloc(), &[1])?;
+    assert_eq!(rt; word, None);
+    assert_eq!(rt; evicted, 0);
+    Ok(())
+}
+
+// The sweep's write fails, and the page stays. The call that is to bring it again finds no frame: its own sweep evicts the page, and it is brought.
+#[test]
+fn a_page_that_could_not_be_written_is_written_later(rt: HostRuntime) -> Result<(), Fail> {
+    let (word, evicted) = kept(rt.alloc(), &[2])?;
+    assert_eq!(rt; word, Some(7));
+    assert_eq!(rt; evicted, 1);
+    Ok(())
+}
+
+#[test]
+fn a_page_that_could_not_be_read_again_is_not_to_be_had(rt: HostRuntime) -> Result<(), Fail> {
+    let (word, evicted) = kept(rt.alloc(), &[3])?;
+    assert_eq!(rt; word, None);
+    assert_eq!(rt; evicted, 1);
+    Ok(())
+}
+
+#[test]
+fn a_page_that_was_brought_is_shared(rt: HostRuntime) -> Result<(), Fail> {
+    let (answer, word) = shared(rt.alloc(), &[])?;
+    assert_eq!(rt; answer, Bring::Brought);
+    assert_eq!(rt; word, Some(5));
+    Ok(())
+}
+
+#[test]
+fn a_page_whose_device_failed_is_not_shared(rt: HostRuntime) -> Result<(), Fail> {
+    let (answer, word) = shared(rt.alloc(), &[1])?;
+    assert_eq!(rt; answer, Bring::Device { pid: 1, count: 1 });
+    assert_eq!(rt; word, None);
+    Ok(())
+}
