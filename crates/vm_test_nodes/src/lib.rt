@@ -1,9 +1,11 @@
-//! Tests of the crates of pages: `vm_page`, `vm_map`, `vm_node`, `vm_inner`, `vm_image` and `vm_block`, over their public items.
+//! Tests of the crates of pages: `vm_page`, `vm_map`, `vm_node`, `vm_inner`, `vm_image`, `vm_build` and `vm_block`, over their public items.
 //! They stand here so that none of those crates is proved twice.
 #![tactic(auto)]
 
 #[cfg(test)]
 mod block;
+#[cfg(test)]
+mod built;
 #[cfg(test)]
 mod image;
 #[cfg(test)]

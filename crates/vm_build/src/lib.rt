@@ -1,0 +1,13 @@
+//! Page files built of pairs, and pairs from a number.
+#![tactic(auto)]
+
+mod building;
+pub mod laws;
+mod levels;
+mod node;
+pub mod numbers;
+mod seed;
+mod sorting;
+
+pub use building::{BuildFault, build, needed};
+pub use seed::{generator, numbered};
