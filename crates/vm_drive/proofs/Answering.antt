@@ -3,7 +3,7 @@ use Rattle.std.proofs.Common.{ℕ, ◌≡◌, ◌<◌, ◌≤◌, List, Result, 
 use Rattle.vm_rule.specs.Brought.{entry_of}
 use Rattle.std.specs.Prelude.{IfOk, IfErr}
 use Rattle.vm_drive.specs.Calls.{HasFoundWorn, IsCalled, KeepsPass}
-use Rattle.vm_drive.specs.Shows.{IsShown}
+use Rattle.vm_drive.specs.Shows.{IsWindowShown}
 use Rattle.vm_guard.specs.Denied.{KeptWord}
 use Rattle.vm_map.specs.declared.call.Call.TheVariants.{Del, Get, Put, Window}
 use Rattle.vm_map.specs.declared.call.Call.{Call}
@@ -13,15 +13,15 @@ use Rattle.vm_rule.specs.Rule.{began_of}
 use Rattle.vm_rule.specs.declared.view.Origin.{Origin}
 use Rattle.vm_rule.specs.declared.view.View.{View}
 use Rattle.vm_step.specs.Evidence.{UnlockedExpected}
-use Rattle.vm_tree_laws.specs.Keeps.{Keeps}
+use Rattle.vm_tree_laws.specs.Keeps.{KeepsTree}
 use Rattle.vm_tree_laws.specs.May.{IsProved}
 use Rattle.vm_tree_model.specs.Page.{node_of}
 use Rattle.vm_tree_read.specs.Reads.{IsAnswered}
 use Rattle.vm_tree_read.specs.Waiting.{IsFaulted as IsReadFaulted, IsReplied as IsReadReplied, Waits}
 use Rattle.vm_tree_rule.specs.declared.fault.TreeFault.{TreeFault}
-use Rattle.vm_tree_write.specs.Splits.{KeepsAll}
-use Rattle.vm_tree_write.specs.Waiting.{IsFaulted, IsFaulted as faulted, IsPutFaulted, IsPutFaulted as put_faulted, IsReplied}
-use Rattle.vm_tree_write.specs.Writes.{IsVain, IsWornLeaf, IsWritten}
+use Rattle.vm_tree_write.specs.Splits.{KeepsLocksOnly}
+use Rattle.vm_tree_write.specs.Waiting.{IsWriteFaulted, IsWriteFaulted as faulted, IsPutFaulted, IsPutFaulted as put_faulted, IsWriteReplied}
+use Rattle.vm_tree_write.specs.Writes.{IsVain, IsWornLeaf, IsWriteDone}
 use Rattle.vm_drive.proofs.Finding.{denied-worn}
 use Rattle.vm_drive.proofs.Bringing.{fault-called}
 use Rattle.vm_drive.proofs.Rooms.{room-called}
@@ -33,16 +33,16 @@ use Rattle.vm_drive.proofs.Doing.{keeps-then}
 pub read-replied : (said : Said) (v w : View Said) → IsReadReplied said v w → KeepsPass v w
 read-replied said v w r = keeps-then v r.tried w (waits-pass v r.tried r.waits) (reads-pass r.tried w r.answered.reads)
 
-pub write-replied : (keeps : View Said → View Said → Type 0) → ((x y : View Said) → keeps x y → KeepsPass x y) → (said : Said) (v w : View Said) → IsReplied keeps said v w → KeepsPass v w
+pub write-replied : (keeps : View Said → View Said → Type 0) → ((x y : View Said) → keeps x y → KeepsPass x y) → (said : Said) (v w : View Said) → IsWriteReplied keeps said v w → KeepsPass v w
 write-replied keeps pass said v w r =
     keeps-then v r.tried w (pass v r.tried r.waits)
     (⊎_elim
-    (λ (k : IsWritten said r.tried w × ¬ (IsVain said)). writes-pass k.0.page r.tried w k.0.writes)
+    (λ (k : IsWriteDone said r.tried w × ¬ (IsVain said)). writes-pass k.0.page r.tried w k.0.writes)
     (λ (k : IsAnswered said r.tried w × IsVain said). reads-pass r.tried w k.0.reads)
     r.answered)
 
 -- a window is the leaf's that proved it
-answered-shown : (call : Call) (reply : Reply) (x w : View Said) → IsAnswered (record { call = call; reply = reply }) x w → IsShown w call reply
+answered-shown : (call : Call) (reply : Reply) (x w : View Said) → IsAnswered (record { call = call; reply = reply }) x w → IsWindowShown w call reply
 answered-shown (Get key) reply x w a = tt
 answered-shown (Put key value) reply x w a = tt
 answered-shown (Del key) reply x w a = tt
@@ -51,7 +51,7 @@ answered-shown (Window start most) reply x w a = λ told.
     let b = a.told tells in
     record {
       kept = b.kept;
-      keeps = subst (λ (o : Origin). Keeps (began_of o) b.kept) (sym a.reads.start) b.keeps;
+      keeps = subst (λ (o : Origin). KeepsTree (began_of o) b.kept) (sym a.reads.start) b.keeps;
       history = same-front w.seen b.kept.history (sym b.history);
       earlier = x.seen ++ a.entry.0;
       entry = entry_of x (record { call = Window start most; reply = reply });
@@ -77,7 +77,7 @@ leaf-worn : (key p : ℕ) (v w : View Said) → IsWornLeaf v key p w → HasFoun
 leaf-worn key p v w l = denied-worn UnlockedExpected (KeptWord l.word) p p l.found w l.opened.reading.page l.denied
 
 pub write-faulted : (keeps : View Said → View Said → Type 0) → ((x y : View Said) → keeps x y → KeepsPass x y) → ((x y : View Said) → keeps x y → y.mine ≡ x.mine)
-    → (call : Call) (key : ℕ) (fault : TreeFault) (v w : View Said) → IsFaulted keeps key fault v w → KeepsPass v w × IsCalled call (Err fault) v w
+    → (call : Call) (key : ℕ) (fault : TreeFault) (v w : View Said) → IsWriteFaulted keeps key fault v w → KeepsPass v w × IsCalled call (Err fault) v w
 write-faulted keeps pass mine call key fault v w (faulted.missing tried found page k reads needed fault_is all) = (
   pass v w all,
   fault-called call fault page v found w (keeps-then v tried found (pass v tried k) (reads-pass tried found reads.0)) (mine v w all) (subst (λ (o : Origin). page < o.pages) (sym reads.0.start) needed.inside) fault_is,
@@ -88,7 +88,7 @@ write-faulted keeps pass mine call key fault v w (faulted.worn tried page k read
 )
 
 pub put-faulted : (key value : ℕ) (fault : TreeFault) (v w : View Said) → 1 ≤ v.start.pages → IsPutFaulted key fault v w → KeepsPass v w × IsCalled (Put key value) (Err fault) v w
-put-faulted key value fault v w some' (put_faulted.faulted f) = write-faulted KeepsAll all-pass (λ x y k. k.mine) (Put key value) key fault v w f
+put-faulted key value fault v w some' (put_faulted.faulted f) = write-faulted KeepsLocksOnly all-pass (λ x y k. k.mine) (Put key value) key fault v w f
 put-faulted key value fault v w some' (put_faulted.tight tried found page k reads t room all) = (
   all-pass v w all,
   room-called key value fault v found w (keeps-then v tried found (all-pass v tried k) (reads-pass tried found reads.0)) all.mine some' room,
@@ -100,10 +100,10 @@ pub read-called : (call : Call) (key : ℕ) (r : Result Reply TreeFault) (v w : 
 read-called call key (Ok reply) v w ok err = (read-replied (record { call = call; reply = reply }) v w ok, (ok.mine, answered-shown call reply ok.tried w ok.answered))
 read-called call key (Err fault) v w ok err = read-faulted call key fault v w err
 
-pub del-called : (key : ℕ) (r : Result Reply TreeFault) (v w : View Said) → IfOk r (λ reply. IsReplied Waits (record { call = Del key; reply = reply }) v w) → IfErr r (λ fault. IsFaulted Waits key fault v w) → KeepsPass v w × IsCalled (Del key) r v w
+pub del-called : (key : ℕ) (r : Result Reply TreeFault) (v w : View Said) → IfOk r (λ reply. IsWriteReplied Waits (record { call = Del key; reply = reply }) v w) → IfErr r (λ fault. IsWriteFaulted Waits key fault v w) → KeepsPass v w × IsCalled (Del key) r v w
 del-called key (Ok reply) v w ok err = (write-replied Waits waits-pass (record { call = Del key; reply = reply }) v w ok, (ok.mine, tt))
 del-called key (Err fault) v w ok err = write-faulted Waits waits-pass (λ x y k. k.mine) (Del key) key fault v w err
 
-pub put-called : (key value : ℕ) (r : Result Reply TreeFault) (v w : View Said) → 1 ≤ v.start.pages → IfOk r (λ reply. IsReplied KeepsAll (record { call = Put key value; reply = reply }) v w) → IfErr r (λ fault. IsPutFaulted key fault v w) → KeepsPass v w × IsCalled (Put key value) r v w
-put-called key value (Ok reply) v w some' ok err = (write-replied KeepsAll all-pass (record { call = Put key value; reply = reply }) v w ok, (ok.mine, tt))
+pub put-called : (key value : ℕ) (r : Result Reply TreeFault) (v w : View Said) → 1 ≤ v.start.pages → IfOk r (λ reply. IsWriteReplied KeepsLocksOnly (record { call = Put key value; reply = reply }) v w) → IfErr r (λ fault. IsPutFaulted key fault v w) → KeepsPass v w × IsCalled (Put key value) r v w
+put-called key value (Ok reply) v w some' ok err = (write-replied KeepsLocksOnly all-pass (record { call = Put key value; reply = reply }) v w ok, (ok.mine, tt))
 put-called key value (Err fault) v w some' ok err = put-faulted key value fault v w some' err

@@ -12,7 +12,7 @@ use Rattle.vm_rule.proofs.WordFacts.{word-version}
 use Rattle.vm_rule.specs.declared.view.Origin.{Origin}
 use Rattle.vm_rule.specs.declared.view.Place.TheVariants as places
 use Rattle.vm_rule.specs.declared.view.View.{View}
-use Rattle.vm_tree_read.specs.Waiting.{IsFaultOf, IsFaultOf as fault_for}
+use Rattle.vm_tree_read.specs.Waiting.{IsBringFault, IsBringFault as fault_for}
 use Rattle.vm_tree_rule.specs.declared.fault.TreeFault.{TreeFault}
 use Rattle.vm_drive.proofs.Tracing.{given-more, max-later}
 use Rattle.vm_drive.proofs.Finding.{found-worn, noted-after, noted-before}
@@ -68,7 +68,7 @@ module _ {X : Type 0} where
   bring-worn home cap p old new before after v w q inside (is_bring.frameless g) = none-worn home cap old new before after v w q (omega (arith, inside)) g
 
 -- a page could not be brought, by a call that began with the view u
-pub fault-called : (call : Call) (fault : TreeFault) (p : ℕ) (u v w : View Said) → KeepsPass u v → w.mine ≡ u.mine → p < v.start.pages → IsFaultOf p fault v w → IsCalled call (Err fault) u w
+pub fault-called : (call : Call) (fault : TreeFault) (p : ℕ) (u v w : View Said) → KeepsPass u v → w.mine ≡ u.mine → p < v.start.pages → IsBringFault p fault v w → IsCalled call (Err fault) u w
 fault-called call fault p u v w k mine inside (fault_for.device home cap before after q count old new b is) =
     subst (λ (f : TreeFault). IsCalled call (Err f) u w) (sym is) (mine, noted-before q count u v w k.notes (bring-noted home cap p old new before after v w q count b))
 fault-called call fault p u v w k mine inside (fault_for.worn home cap before after q old new b is) =

@@ -20,7 +20,7 @@ use Rattle.vm_tree_laws.specs.History.{saids}
 use Rattle.vm_tree_rule.specs.declared.fault.TreeFault.{TreeFault}
 use Rattle.vm_tree_rule.specs.declared.fault.TreeFault.TheVariants.{Device, Full, Worn}
 use Rattle.vm_drive.specs.Calls.{HasNoted, IsCalled, KeepsPass}
-use Rattle.vm_drive.specs.Causes.{notes_of, is_fault, faults_of, CausedBy, AreCausedBy, FoundWorn, FoundFull}
+use Rattle.vm_drive.specs.Causes.{notes_about, is_fault, faults_of, CausedBy, AreCausedBy, FoundWorn, FoundFull}
 use Rattle.vm_drive.specs.Holds.{answered}
 use Rattle.vm_drive.specs.Workers.{HasDone}
 use Rattle.vm_drive.specs.Shows.{AreShown}
@@ -30,12 +30,12 @@ use Rattle.vm_drive.proofs.Showing.{are-shown-more, shown-snoc}
 
 -- ---- notes
 
-pub notes-both : (p : ℕ) (a b : List Note) → notes_of p (a ++ b) ≡ notes_of p a + notes_of p b
+pub notes-both : (p : ℕ) (a b : List Note) → notes_about p (a ++ b) ≡ notes_about p a + notes_about p b
 notes-both p [] b = omega arith
-notes-both p (n ∷ ns) b = let h : notes_of p (ns ++ b) ≡ notes_of p ns + notes_of p b = notes-both p ns b in omega arith
+notes-both p (n ∷ ns) b = let h : notes_about p (ns ++ b) ≡ notes_about p ns + notes_about p b = notes-both p ns b in omega arith
 
-pub notes-rise : (p : ℕ) (l m : List Note) → StartsWith l m → notes_of p m ≤ notes_of p l
-notes-rise p l m s = let h : notes_of p l ≡ notes_of p m + notes_of p s.0 = ap (notes_of p) s.1 ∙ notes-both p m s.0 in omega arith
+pub notes-rise : (p : ℕ) (l m : List Note) → StartsWith l m → notes_about p m ≤ notes_about p l
+notes-rise p l m s = let h : notes_about p l ≡ notes_about p m + notes_about p s.0 = ap (notes_about p) s.1 ∙ notes-both p m s.0 in omega arith
 
 pub faults-both : (p : ℕ) (a b : List (Result Reply TreeFault)) → faults_of p (a ++ b) ≡ faults_of p a + faults_of p b
 faults-both p [] b = omega arith
@@ -43,11 +43,11 @@ faults-both p (r ∷ rs) b = let h : faults_of p (rs ++ b) ≡ faults_of p rs + 
 
 module _ {X : Type 0} where
   -- a new note of a page is one more
-  pub noted-more : (p q count : ℕ) (v w : View X) → HasNoted q count v w → notes_of p v.notes + (if q == p then 1 else 0) ≤ notes_of p w.notes
+  pub noted-more : (p q count : ℕ) (v w : View X) → HasNoted q count v w → notes_about p v.notes + (if q == p then 1 else 0) ≤ notes_about p w.notes
   noted-more p q count v w n =
       let one : Note = record { page = q; count = count } in
-      let all : notes_of p w.notes ≡ notes_of p v.notes + notes_of p (n.before ++ one ∷ n.after) = ap (notes_of p) n.grew ∙ notes-both p v.notes (n.before ++ one ∷ n.after) in
-      let new : notes_of p (n.before ++ one ∷ n.after) ≡ notes_of p n.before + ((if q == p then 1 else 0) + notes_of p n.after) = notes-both p n.before (one ∷ n.after) in
+      let all : notes_about p w.notes ≡ notes_about p v.notes + notes_about p (n.before ++ one ∷ n.after) = ap (notes_about p) n.grew ∙ notes-both p v.notes (n.before ++ one ∷ n.after) in
+      let new : notes_about p (n.before ++ one ∷ n.after) ≡ notes_about p n.before + ((if q == p then 1 else 0) + notes_about p n.after) = notes-both p n.before (one ∷ n.after) in
       omega arith
 
   -- ---- passes
@@ -109,7 +109,7 @@ done-none v = record { keeps = keeps-self v; long = refl; mine = sym (append-non
 -- what one call adds: its entry, its note, its cause
 pub record AddsCall (c : Call) (r : Result Reply TreeFault) (v w : View Said) : Type 0 where
   pub mine : saids w.mine ≡ saids v.mine ++ answered (c ∷ []) (r ∷ [])
-  pub faults : (p : ℕ) → notes_of p v.notes + is_fault p r ≤ notes_of p w.notes
+  pub faults : (p : ℕ) → notes_about p v.notes + is_fault p r ≤ notes_about p w.notes
   pub caused : CausedBy (FoundFull w) (FoundWorn w) c r
   pub shown : AreShown w (c ∷ []) (r ∷ [])
 
@@ -121,7 +121,7 @@ adds-call c (Ok reply) v w k a =
     let said : Said = record { call = c; reply = reply } in
     record {
       mine = ap (λ (l : List (Entry Said)). saids l) a.0 ∙ map-append (λ (e : Entry Said). e.said) v.mine (entry_of v said ∷ []);
-      faults = λ p. let h : notes_of p v.notes ≤ notes_of p w.notes = notes-rise p w.notes v.notes k.notes in omega arith;
+      faults = λ p. let h : notes_about p v.notes ≤ notes_about p w.notes = notes-rise p w.notes v.notes k.notes in omega arith;
       caused = tt;
       shown = (a.1, tt);
     }
@@ -133,13 +133,13 @@ adds-call c (Err (Device q count)) v w k a = record {
 }
 adds-call c (Err (Full pages)) v w k a = record {
   mine = same-mine v w a.0;
-  faults = λ p. let h : notes_of p v.notes ≤ notes_of p w.notes = notes-rise p w.notes v.notes k.notes in omega arith;
+  faults = λ p. let h : notes_about p v.notes ≤ notes_about p w.notes = notes-rise p w.notes v.notes k.notes in omega arith;
   caused = (a.1, (a.2 ∙ ap (λ s. s.pages) (sym k.start), a.3));
   shown = tt;
 }
 adds-call c (Err (Worn q)) v w k a = record {
   mine = same-mine v w a.0;
-  faults = λ p. let h : notes_of p v.notes ≤ notes_of p w.notes = notes-rise p w.notes v.notes k.notes in omega arith;
+  faults = λ p. let h : notes_about p v.notes ≤ notes_about p w.notes = notes-rise p w.notes v.notes k.notes in omega arith;
   caused = a.1;
   shown = tt;
 }
@@ -152,8 +152,8 @@ done-more cs rs c r v w x d k a =
       long = length-append rs (r ∷ []) ∙ ap (λ n. n + 1) d.long ∙ sym (length-append cs (c ∷ []));
       mine = one.mine ∙ ap (λ (l : List Said). l ++ answered (c ∷ []) (r ∷ [])) d.mine ∙ append_assoc (saids v.mine) (answered cs rs) (answered (c ∷ []) (r ∷ [])) ∙ ap (λ (l : List Said). saids v.mine ++ l) (sym (answered-snoc cs rs c r d.long));
       faults = λ p.
-          let before : notes_of p v.notes + faults_of p rs ≤ notes_of p w.notes = d.faults p in
-          let new : notes_of p w.notes + is_fault p r ≤ notes_of p x.notes = one.faults p in
+          let before : notes_about p v.notes + faults_of p rs ≤ notes_about p w.notes = d.faults p in
+          let new : notes_about p w.notes + is_fault p r ≤ notes_about p x.notes = one.faults p in
           let all : faults_of p (rs ++ r ∷ []) ≡ faults_of p rs + (is_fault p r + 0) = faults-both p rs (r ∷ []) in
           omega arith;
       caused = caused-snoc (FoundFull x) (FoundWorn x) cs rs c r d.long (all-caused (FoundFull w) (FoundWorn w) (FoundFull x) (FoundWorn x) (λ n. found-later w x n k.start k.log) (λ p. max-later w x p k.start k.log) cs rs d.caused) one.caused;
@@ -168,7 +168,7 @@ done-moved cs rs v w x steps d m =
       keeps = keeps-then v w x d.keeps k;
       long = d.long;
       mine = ap (λ (l : List (Entry Said)). saids l) m.mine ∙ d.mine;
-      faults = λ p. let h : notes_of p v.notes + faults_of p rs ≤ notes_of p w.notes = d.faults p in let s : notes_of p x.notes ≡ notes_of p w.notes = ap (notes_of p) m.notes in omega arith;
+      faults = λ p. let h : notes_about p v.notes + faults_of p rs ≤ notes_about p w.notes = d.faults p in let s : notes_about p x.notes ≡ notes_about p w.notes = ap (notes_about p) m.notes in omega arith;
       caused = all-caused (FoundFull w) (FoundWorn w) (FoundFull x) (FoundWorn x) (λ n. found-later w x n k.start k.log) (λ p. max-later w x p k.start k.log) cs rs d.caused;
       shown = are-shown-more w x k.start k.seen cs rs d.shown;
     }

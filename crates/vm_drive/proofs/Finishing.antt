@@ -19,9 +19,9 @@ use Rattle.vm_tree_laws.specs.History.{saids}
 use Rattle.vm_tree_rule.specs.declared.fault.TreeFault.{TreeFault}
 use Rattle.vm_pool.specs.Parting.{KeepsAll}
 use Rattle.vm_drive.specs.declared.worker.Worker.{Worker}
-use Rattle.vm_drive.specs.Causes.{notes_of, faults_of, all_faults_of, AreCausedBy, AllCausedBy, FoundFull, FoundWorn}
-use Rattle.vm_drive.specs.Crews.{AllWorked, AreHired, AreJoined, HasWorked, HaveRoom, AreIdle, IsBack, IsIn, IsNew, all_notes_of, answers_of, number_of, numbers_of}
-use Rattle.vm_drive.specs.Drives.{IsDriven, IsUsedUp, IsWornOut, items_of}
+use Rattle.vm_drive.specs.Causes.{notes_about, faults_of, all_faults_of, AreCausedBy, AllCausedBy, FoundFull, FoundWorn}
+use Rattle.vm_drive.specs.Crews.{AllWorked, AreHired, AreJoined, HasWorked, HaveRoom, AreIdle, IsBack, IsIn, IsNewWorker, all_notes_of, answers_of, number_of, numbers_of}
+use Rattle.vm_drive.specs.Drives.{IsDriven, IsUsedUp, IsAtLastVersion, items_of}
 use Rattle.vm_drive.specs.Holds.{answered, list_at, said_by}
 use Rattle.vm_drive.proofs.Lists.{all-in, behind, each-both-of, each-right, has-both, none-in, one-place, others-only, place-of}
 use Rattle.vm_drive.proofs.Crews.{room-long}
@@ -35,7 +35,7 @@ use Rattle.vm_drive.proofs.Hiring.{all-then, holds-none}
 pub record IsFinished (w : View Said) (rest : List (Entry Said)) (calls : List Call) (d : Worker) : Type 0 where
   pub said : said_by (number_of d) rest ≡ answered calls d.answers.items
   pub long : length d.answers.items ≡ length calls
-  pub faults : (p : ℕ) → faults_of p d.answers.items ≤ notes_of p (view d.pass).notes
+  pub faults : (p : ℕ) → faults_of p d.answers.items ≤ notes_about p (view d.pass).notes
   pub traces : AreCausedBy (FoundFull w) (FoundWorn w) calls d.answers.items
   pub shown : AreShown w calls d.answers.items
 
@@ -78,7 +78,7 @@ finished-faults w rest [] [] p f = omega arith
 finished-faults w rest [] (d ∷ ds) p f = absurd f
 finished-faults w rest (c ∷ cs) [] p f = absurd f
 finished-faults w rest (c ∷ cs) (d ∷ ds) p f =
-    let own : faults_of p d.answers.items ≤ notes_of p (view d.pass).notes = f.0.faults p in
+    let own : faults_of p d.answers.items ≤ notes_about p (view d.pass).notes = f.0.faults p in
     let others : all_faults_of p (items_of (answers_of ds)) ≤ all_notes_of p ds = finished-faults w rest cs ds p f.1 in
     omega arith
 
@@ -147,7 +147,7 @@ module _ (shape : Shape) (tells : Bool) (t : TableId) where
   same-numbers (c ∷ cs) (o ∷ os) (n ∷ ns) a = cons-both (same-number c o n a.0) (same-numbers cs os ns a.1)
 
   finish : (v w : View Said) (rest : List (Entry Said)) (calls : List Call) (o n : Worker) → w.seen ≡ v.seen ++ rest
-      → HasWorked shape tells t calls o n → IsNew shape tells t v o → entries_by (number_of o ∷ []) v.seen ≡ [] → IsIn w n → IsFinished w rest calls n
+      → HasWorked shape tells t calls o n → IsNewWorker shape tells t v o → entries_by (number_of o ∷ []) v.seen ≡ [] → IsIn w n → IsFinished w rest calls n
   finish v w rest calls o n seen h new none i =
       let same : number_of n ≡ number_of o = same-number calls o n h in
       let unused : entries_by (number_of n ∷ []) v.seen ≡ [] = ap (λ k. entries_by (k ∷ []) v.seen) same ∙ none in
@@ -155,13 +155,13 @@ module _ (shape : Shape) (tells : Bool) (t : TableId) where
       record {
         said = ap (λ l. saids l) mine ∙ h.done.mine ∙ ap (λ l. saids l ++ answered calls n.answers.items) new.said;
         long = h.done.long;
-        faults = λ p. let all : notes_of p (view o.pass).notes + faults_of p n.answers.items ≤ notes_of p (view n.pass).notes = h.done.faults p in omega arith;
+        faults = λ p. let all : notes_about p (view o.pass).notes + faults_of p n.answers.items ≤ notes_about p (view n.pass).notes = h.done.faults p in omega arith;
         traces = all-caused (FoundFull (view n.pass)) (FoundWorn (view n.pass)) (FoundFull w) (FoundWorn w) (λ k. found-in w n k i) (λ p. max-in w n p i) calls n.answers.items h.done.caused;
         shown = are-shown-more (view n.pass) w (sym i.start) i.heard calls n.answers.items h.done.shown;
       }
 
   finish-all : (v w : View Said) (rest : List (Entry Said)) (lists : List (List Call)) (olds news : List Worker) → w.seen ≡ v.seen ++ rest
-      → AllWorked shape tells t lists olds news → Each (IsNew shape tells t v) olds → Each (λ n. entries_by (n ∷ []) v.seen ≡ []) (numbers_of olds) → Each (IsIn w) news → AreFinished w rest lists news
+      → AllWorked shape tells t lists olds news → Each (IsNewWorker shape tells t v) olds → Each (λ n. entries_by (n ∷ []) v.seen ≡ []) (numbers_of olds) → Each (IsIn w) news → AreFinished w rest lists news
   finish-all v w rest [] [] [] seen a new none i = tt
   finish-all v w rest [] [] (n ∷ ns) seen a new none i = absurd a
   finish-all v w rest [] (o ∷ os) ns seen a new none i = absurd a
@@ -220,32 +220,32 @@ module _ (shape : Shape) (tells : Bool) (t : TableId) where
               (λ e y. let at = place-of e.number (numbers_of news) y in (at.0, (let n = numbers-long news in let b = at.1 in omega arith), at.2)) rest theirs;
         };
         faults = λ p.
-            let notes : notes_of p w.notes ≡ notes_of p x.notes + all_notes_of p news = j.notes p in
-            let old : notes_of p x.notes ≡ notes_of p v.notes = ap (notes_of p) h.notes in
+            let notes : notes_about p w.notes ≡ notes_about p x.notes + all_notes_of p news = j.notes p in
+            let old : notes_about p x.notes ≡ notes_about p v.notes = ap (notes_about p) h.notes in
             let theirs' : all_faults_of p (items_of (answers_of news)) ≤ all_notes_of p news = finished-faults w rest lists news p finished in
             omega arith;
-        caused = lists-caused (FoundFull w) (FoundWorn w) (IsUsedUp w) (IsWornOut w) (λ n. used-up w n (kept_by w).next (j.knows.next alone)) (λ p. worn-out w p (j.knows.last alone)) lists (items_of (answers_of news)) traces;
+        caused = lists-caused (FoundFull w) (FoundWorn w) (IsUsedUp w) (IsAtLastVersion w) (λ n. used-up w n (kept_by w).next (j.knows.next alone)) (λ p. worn-out w p (j.knows.last alone)) lists (items_of (answers_of news)) traces;
         traces = traces;
         shown = finished-shown w rest lists news finished;
       }
 
   -- ---- between the parts of a drive
 
-  idle-with : (lists : List (List Call)) (ds : List Worker) (v : View Said) → Each (IsNew shape tells t v) ds → HaveRoom (map (λ (d : Worker). d.answers) ds) lists → AreIdle shape tells t lists ds
+  idle-with : (lists : List (List Call)) (ds : List Worker) (v : View Said) → Each (IsNewWorker shape tells t v) ds → HaveRoom (map (λ (d : Worker). d.answers) ds) lists → AreIdle shape tells t lists ds
   idle-with [] [] v new r = tt
   idle-with [] (d ∷ ds) v new r = absurd r
   idle-with (c ∷ cs) [] v new r = absurd r
   idle-with (c ∷ cs) (d ∷ ds) v new r = (record { work = new.0.work; holds = new.0.holds; empty = r.0; room = r.1 }, idle-with cs ds v new.1 r.2)
 
   -- those that were hired are idle, with room for their lists
-  pub hired-idle : (lists : List (List Call)) (rooms : List (Vec (Result Reply TreeFault) Global)) (v : View Said) (ds : List Worker) → Each (IsNew shape tells t v) ds → map (λ (d : Worker). d.answers) ds ≡ rooms → HaveRoom rooms lists → AreIdle shape tells t lists ds
+  pub hired-idle : (lists : List (List Call)) (rooms : List (Vec (Result Reply TreeFault) Global)) (v : View Said) (ds : List Worker) → Each (IsNewWorker shape tells t v) ds → map (λ (d : Worker). d.answers) ds ≡ rooms → HaveRoom rooms lists → AreIdle shape tells t lists ds
   hired-idle lists rooms v ds new e r = idle-with lists ds v new (subst (λ l. HaveRoom l lists) (sym e) r)
 
   pub hired-long : (lists : List (List Call)) (rooms : List (Vec (Result Reply TreeFault) Global)) (v : View Said) (ds : List Worker) (x : View Said) → AreHired shape tells t rooms v ds x → HaveRoom rooms lists → length ds ≡ length lists
   hired-long lists rooms v ds x h r = sym (length-map ds (λ (d : Worker). d.answers)) ∙ ap (λ (l : List (Vec (Result Reply TreeFault) Global)). length l) h.answers ∙ room-long rooms lists r
 
   -- and those that have worked are back
-  pub worked-back : (lists : List (List Call)) (v x : View Said) (olds news : List Worker) → x.start ≡ v.start → AllWorked shape tells t lists olds news → Each (IsNew shape tells t v) olds → Each (IsBack shape tells t x) news
+  pub worked-back : (lists : List (List Call)) (v x : View Said) (olds news : List Worker) → x.start ≡ v.start → AllWorked shape tells t lists olds news → Each (IsNewWorker shape tells t v) olds → Each (IsBack shape tells t x) news
   worked-back [] v x [] [] start a new = tt
   worked-back [] v x [] (n ∷ ns) start a new = absurd a
   worked-back [] v x (o ∷ os) ns start a new = absurd a

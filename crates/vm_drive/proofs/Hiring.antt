@@ -22,7 +22,7 @@ use Rattle.vm_step.proofs.Together.{holds-none as nothing-holds, new-nothing}
 use Rattle.vm_tree_rule.specs.declared.fault.TreeFault.{TreeFault}
 use Rattle.vm_pool.specs.Parting.{KeepsAll, Splits}
 use Rattle.vm_drive.specs.declared.worker.Worker.{Worker}
-use Rattle.vm_drive.specs.Crews.{AreHired, IsNew, number_of, numbers_of}
+use Rattle.vm_drive.specs.Crews.{AreHired, IsNewWorker, number_of, numbers_of}
 use Rattle.vm_drive.proofs.Lists.{starts-then, each-snoc, apart-snoc, times-both, front-none}
 
 module _ {X : Type 0} where
@@ -90,7 +90,7 @@ module _ (shape : Shape) (tells : Bool) (t : TableId) where
   }
 
   -- the worker with a pass that was just split off
-  pub is-new : 1 ≤ shape.pages → (v w x : View Said) (d : Worker) → KeepsAll v w → Splits w (view d.pass) x → IsReady shape tells t d.pass → d.iface.frames ≡ [] → IsNew shape tells t v d
+  pub is-new : 1 ≤ shape.pages → (v w x : View Said) (d : Worker) → KeepsAll v w → Splits w (view d.pass) x → IsReady shape tells t d.pass → d.iface.frames ≡ [] → IsNewWorker shape tells t v d
   is-new pages v w x d kept s ready none =
       let is = s.new in
       let used : (view d.pass).used ≡ s.number ∷ [] = ap (λ (y : View Said). y.used) is in
@@ -136,7 +136,7 @@ module _ (shape : Shape) (tells : Bool) (t : TableId) where
             (ap (λ n. has n v.used) one ∙ ap (λ l. has s.number l) (sym h.used) ∙ s.foreign.0, ap (λ n. has n x.fresh) one ∙ s.foreign.1));
         unused = rw numbers (each-snoc (λ n. entries_by (n ∷ []) v.seen ≡ []) (numbers_of ds) (number_of d) h.unused
             (front-none (number_of d ∷ []) v.seen kept.seen.0 (ap (λ l. entries_by (number_of d ∷ []) l) (sym kept.seen.1) ∙ ap (λ n. entries_by (n ∷ []) x.seen) one ∙ s.unused)));
-        each = each-snoc (IsNew shape tells t v) ds d h.each (is-new pages v w x d h.kept s ready none);
+        each = each-snoc (IsNewWorker shape tells t v) ds d h.each (is-new pages v w x d h.kept s ready none);
         answers = map-append (λ (worker : Worker). worker.answers) ds (d ∷ []) ∙ ap (λ l. l ++ d.answers ∷ []) h.answers;
         all = inr (⊎_elim (λ empty. subst (λ (y : View Said). IsWhole y → y.mine ≡ y.seen) empty.1 s.all) (λ known. known) h.all);
       }

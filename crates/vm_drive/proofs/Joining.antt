@@ -9,22 +9,22 @@ use Rattle.vm_rule.specs.declared.view.View.{View}
 use Rattle.vm_rule.specs.Views.{entries_by, owns, times}
 use Rattle.vm_rule.proofs.Entries.{each-map}
 use Rattle.vm_step.specs.Passes.{view}
-use Rattle.vm_tree_laws.specs.Keeps.{Keeps}
+use Rattle.vm_tree_laws.specs.Keeps.{KeepsTree}
 use Rattle.vm_pool.specs.Parting.{Joins}
 use Rattle.vm_drive.specs.declared.worker.Worker.{Worker}
-use Rattle.vm_drive.specs.Causes.{notes_of}
+use Rattle.vm_drive.specs.Causes.{notes_about}
 use Rattle.vm_drive.specs.Crews.{AreJoined, IsIn, all_notes_of, number_of, numbers_of}
 use Rattle.vm_drive.proofs.Lists.{starts-then, each-snoc, has-left, has-last, nested, nested-one, times-both}
 use Rattle.vm_drive.proofs.Doing.{notes-both}
 use Rattle.vm_drive.proofs.Framing.{none-added}
 use Rattle.vm_drive.proofs.Hiring.{all-then}
 
-all-notes-snoc : (p : ℕ) (ds : List Worker) (d : Worker) → all_notes_of p (ds ++ d ∷ []) ≡ all_notes_of p ds + notes_of p (view d.pass).notes
+all-notes-snoc : (p : ℕ) (ds : List Worker) (d : Worker) → all_notes_of p (ds ++ d ∷ []) ≡ all_notes_of p ds + notes_about p (view d.pass).notes
 all-notes-snoc p [] d = omega arith
-all-notes-snoc p (e ∷ es) d = let h : all_notes_of p (es ++ d ∷ []) ≡ all_notes_of p es + notes_of p (view d.pass).notes = all-notes-snoc p es d in omega arith
+all-notes-snoc p (e ∷ es) d = let h : all_notes_of p (es ++ d ∷ []) ≡ all_notes_of p es + notes_about p (view d.pass).notes = all-notes-snoc p es d in omega arith
 
 -- a worker that is in stays in
-stays-in : (tells : Bool) (w x : View Said) (u : View Said) (d : Worker) → Joins tells Keeps w u x → w.mine ≡ entries_by w.used w.seen → IsIn w d → IsIn x d
+stays-in : (tells : Bool) (w x : View Said) (u : View Said) (d : Worker) → Joins tells KeepsTree w u x → w.mine ≡ entries_by w.used w.seen → IsIn w d → IsIn x d
 stays-in tells w x u d j mine i =
     let n = number_of d in
     record {
@@ -38,7 +38,7 @@ stays-in tells w x u d j mine i =
     }
 
 -- the worker whose pass was joined now is in
-comes-in : (tells : Bool) (w x : View Said) (d : Worker) → Joins tells Keeps w (view d.pass) x → (view d.pass).used ≡ number_of d ∷ [] → (view d.pass).start ≡ w.start → IsIn x d
+comes-in : (tells : Bool) (w x : View Said) (d : Worker) → Joins tells KeepsTree w (view d.pass) x → (view d.pass).used ≡ number_of d ∷ [] → (view d.pass).start ≡ w.start → IsIn x d
 comes-in tells w x d j one start =
     let n = number_of d in
     record {
@@ -56,7 +56,7 @@ module _ (tells : Bool) (x : View Said) where
   abbrev pub JoinedSoFar : List Worker → View Said → Type 0
   JoinedSoFar ds w = ((ds ≡ []) × (w ≡ x)) ⊎ AreJoined tells x ds w
 
-  first-joined : (w : View Said) (d : Worker) → Joins tells Keeps x (view d.pass) w → (view d.pass).used ≡ number_of d ∷ [] → (view d.pass).fresh ≡ [] → (view d.pass).start ≡ x.start → ((f : ℕ) → has f (view d.pass).frames ≡ false) → AreJoined tells x (d ∷ []) w
+  first-joined : (w : View Said) (d : Worker) → Joins tells KeepsTree x (view d.pass) w → (view d.pass).used ≡ number_of d ∷ [] → (view d.pass).fresh ≡ [] → (view d.pass).start ≡ x.start → ((f : ℕ) → has f (view d.pass).frames ≡ false) → AreJoined tells x (d ∷ []) w
   first-joined w d j one none start bare = record {
     kept = j.kept;
     current = j.current;
@@ -66,7 +66,7 @@ module _ (tells : Bool) (x : View Said) where
         let own : times k (view d.pass).used ≡ times k (numbers_of (d ∷ [])) = ap (times k) one in
         let no : times k (view d.pass).fresh ≡ 0 = ap (times k) none in
         omega arith;
-    notes = λ p. let h : notes_of p w.notes ≡ notes_of p x.notes + notes_of p (view d.pass).notes = ap (notes_of p) j.notes ∙ notes-both p x.notes (view d.pass).notes in omega arith;
+    notes = λ p. let h : notes_about p w.notes ≡ notes_about p x.notes + notes_about p (view d.pass).notes = ap (notes_about p) j.notes ∙ notes-both p x.notes (view d.pass).notes in omega arith;
     frames = none-added x (view d.pass) w j.frames bare;
     mine = j.mine;
     ours = j.ours;
@@ -74,7 +74,7 @@ module _ (tells : Bool) (x : View Said) where
     knows = j.knows;
   }
 
-  next-joined : (ds : List Worker) (v w : View Said) (d : Worker) → AreJoined tells x ds v → Joins tells Keeps v (view d.pass) w → (view d.pass).used ≡ number_of d ∷ [] → (view d.pass).fresh ≡ [] → (view d.pass).start ≡ x.start → ((f : ℕ) → has f (view d.pass).frames ≡ false) → AreJoined tells x (ds ++ d ∷ []) w
+  next-joined : (ds : List Worker) (v w : View Said) (d : Worker) → AreJoined tells x ds v → Joins tells KeepsTree v (view d.pass) w → (view d.pass).used ≡ number_of d ∷ [] → (view d.pass).fresh ≡ [] → (view d.pass).start ≡ x.start → ((f : ℕ) → has f (view d.pass).frames ≡ false) → AreJoined tells x (ds ++ d ∷ []) w
   next-joined ds v w d a j one none start bare =
       let numbers : numbers_of (ds ++ d ∷ []) ≡ numbers_of ds ++ number_of d ∷ [] = map-append number_of ds (d ∷ []) in
       record {
@@ -89,9 +89,9 @@ module _ (tells : Bool) (x : View Said) where
             let more : times k (numbers_of (ds ++ d ∷ [])) ≡ times k (numbers_of ds) + times k (number_of d ∷ []) = ap (times k) numbers ∙ times-both k (numbers_of ds) (number_of d ∷ []) in
             omega arith;
         notes = λ p.
-            let h : notes_of p w.notes ≡ notes_of p v.notes + notes_of p (view d.pass).notes = ap (notes_of p) j.notes ∙ notes-both p v.notes (view d.pass).notes in
-            let before : notes_of p v.notes ≡ notes_of p x.notes + all_notes_of p ds = a.notes p in
-            let more : all_notes_of p (ds ++ d ∷ []) ≡ all_notes_of p ds + notes_of p (view d.pass).notes = all-notes-snoc p ds d in
+            let h : notes_about p w.notes ≡ notes_about p v.notes + notes_about p (view d.pass).notes = ap (notes_about p) j.notes ∙ notes-both p v.notes (view d.pass).notes in
+            let before : notes_about p v.notes ≡ notes_about p x.notes + all_notes_of p ds = a.notes p in
+            let more : all_notes_of p (ds ++ d ∷ []) ≡ all_notes_of p ds + notes_about p (view d.pass).notes = all-notes-snoc p ds d in
             omega arith;
         frames = λ f. none-added v (view d.pass) w j.frames bare f ∙ a.frames f;
         mine = j.mine;
@@ -104,10 +104,10 @@ module _ (tells : Bool) (x : View Said) where
         knows = j.knows;
       }
 
-  pub joined-more : (ds : List Worker) (v w : View Said) (d : Worker) → JoinedSoFar ds v → Joins tells Keeps v (view d.pass) w → (view d.pass).used ≡ number_of d ∷ [] → (view d.pass).fresh ≡ [] → (view d.pass).start ≡ x.start → ((f : ℕ) → has f (view d.pass).frames ≡ false) → AreJoined tells x (ds ++ d ∷ []) w
+  pub joined-more : (ds : List Worker) (v w : View Said) (d : Worker) → JoinedSoFar ds v → Joins tells KeepsTree v (view d.pass) w → (view d.pass).used ≡ number_of d ∷ [] → (view d.pass).fresh ≡ [] → (view d.pass).start ≡ x.start → ((f : ℕ) → has f (view d.pass).frames ≡ false) → AreJoined tells x (ds ++ d ∷ []) w
   joined-more ds v w d so j one none start bare =
       ⊎_elim
-      (λ n. subst (λ (l : List Worker). AreJoined tells x (l ++ d ∷ []) w) (sym n.0) (first-joined w d (subst (λ (y : View Said). Joins tells Keeps y (view d.pass) w) n.1 j) one none start bare))
+      (λ n. subst (λ (l : List Worker). AreJoined tells x (l ++ d ∷ []) w) (sym n.0) (first-joined w d (subst (λ (y : View Said). Joins tells KeepsTree y (view d.pass) w) n.1 j) one none start bare))
       (λ a. next-joined ds v w d a j one none start bare)
       so
 

@@ -8,7 +8,7 @@ use Rattle.vm_rule.specs.Views.{StartsWith}
 use Rattle.vm_rule.specs.declared.view.View.{View}
 use Rattle.vm_tree_read.specs.Waiting.{Waits}
 use Rattle.vm_tree_rule.specs.Leaves.{OnlyReads}
-use Rattle.vm_tree_write.specs.Splits.{KeepsAll}
+use Rattle.vm_tree_write.specs.Splits.{KeepsLocksOnly}
 use Rattle.vm_tree_write.specs.Writes.{OnlyWrites}
 
 pub same-front : {A : Type 0} (l m : List A) → l ≡ m → StartsWith l m
@@ -27,5 +27,5 @@ module _ {X : Type 0} where
   pub writes-pass : (p : ℕ) (v w : View X) → OnlyWrites p v w → KeepsPass v w
   writes-pass p v w r = record { holds = r.holds; out = r.out; start = r.start; parts = r.parts; seen = r.seen; notes = same-front w.notes v.notes r.notes; log = (r.done, r.log) }
 
-pub all-pass : (v w : View Said) → KeepsAll v w → KeepsPass v w
+pub all-pass : (v w : View Said) → KeepsLocksOnly v w → KeepsPass v w
 all-pass v w k = record { holds = k.holds; out = k.out; start = k.start; parts = k.parts; seen = k.seen; notes = k.notes; log = k.log }

@@ -8,15 +8,15 @@ use Rattle.vm_rule.specs.declared.view.Origin.{Origin}
 use Rattle.vm_rule.specs.declared.view.View.{View}
 use Rattle.vm_rule.specs.Rule.{began_of}
 use Rattle.vm_rule.specs.Views.{StartsWith}
-use Rattle.vm_tree_laws.specs.Keeps.{Keeps}
+use Rattle.vm_tree_laws.specs.Keeps.{KeepsTree}
 use Rattle.vm_tree_rule.specs.declared.fault.TreeFault.{TreeFault}
-use Rattle.vm_drive.specs.Shows.{AllShown, AreShown, IsOfLeaf, IsShown}
+use Rattle.vm_drive.specs.Shows.{AllShown, AreShown, IsOfLeaf, IsWindowShown}
 use Rattle.vm_drive.proofs.Lists.{starts-then}
 
 of-leaf-more : (said : Said) (v w : View Said) → w.start ≡ v.start → StartsWith w.seen v.seen → IsOfLeaf said v → IsOfLeaf said w
 of-leaf-more said v w start seen l = record {
   kept = l.kept;
-  keeps = subst (λ (o : Origin). Keeps (began_of o) l.kept) (sym start) l.keeps;
+  keeps = subst (λ (o : Origin). KeepsTree (began_of o) l.kept) (sym start) l.keeps;
   history = starts-then w.seen v.seen l.kept.history seen l.history;
   earlier = l.earlier;
   entry = l.entry;
@@ -28,7 +28,7 @@ of-leaf-more said v w start seen l = record {
 }
 
 module _ (v w : View Said) (start : w.start ≡ v.start) (seen : StartsWith w.seen v.seen) where
-  shown-more : (c : Call) (r : Reply) → IsShown v c r → IsShown w c r
+  shown-more : (c : Call) (r : Reply) → IsWindowShown v c r → IsWindowShown w c r
   shown-more (Get key) r h = tt
   shown-more (Put key value) r h = tt
   shown-more (Del key) r h = tt

@@ -1,7 +1,7 @@
 -- What a sweep tells of worn pages and of writes that failed.
 use Rattle.std.proofs.Common.{ℕ, zero, suc, ◌≡◌, ◌+◌, ◌<◌, ◌≤◌, List, [], ◌∷◌, ◌++◌, refl, sym, ap, subst, ◌∙◌, append_assoc, ◌%◌, ◌⊎◌, Option, Some, None, inl, inr, ⊎_elim}
 use Rattle.std.proofs.Math.Nat.{mod-lt}
-use Rattle.vm_clock.specs.Clock.{Visits, Visits as visits, Walks}
+use Rattle.vm_clock.specs.Clock.{Visits, Visits as visits, WalksPages}
 use Rattle.vm_core.specs.Words.{MAX_VERSION, hand_more, version_of}
 use Rattle.vm_drive.specs.Calls.{HasFoundWorn, HasNoted}
 use Rattle.vm_evict.specs.Evictions.{first_of}
@@ -61,7 +61,7 @@ met-right pages p before steps m =
     }
 
 -- the first worn page of a walk was found so by one of its steps
-walk-worn : (want pages drawn count : ℕ) (done : List Did) (looks : Looks) (list : List (ℕ × ℕ)) (p : ℕ) → 1 ≤ pages → Walks want pages drawn count done looks list → looks.first_worn ≡ Some p → IsMetWorn pages p done
+walk-worn : (want pages drawn count : ℕ) (done : List Did) (looks : Looks) (list : List (ℕ × ℕ)) (p : ℕ) → 1 ≤ pages → WalksPages want pages drawn count done looks list → looks.first_worn ≡ Some p → IsMetWorn pages p done
 walk-worn want pages drawn zero done looks list p some' w e = absurd (let no : None ≡ Some p = sym (ap (λ (l : Looks). l.first_worn) w.1) ∙ e in cc)
 walk-worn want pages drawn (suc k) done looks list p some' w e =
     subst (λ (l : List Did). IsMetWorn pages p l) (sym w.4)

@@ -14,7 +14,7 @@ use Rattle.vm_step.specs.Asides.{HoldsPage}
 use Rattle.vm_step.specs.Evidence.{HasGiven}
 use Rattle.vm_tree_rule.specs.declared.fault.TreeFault.{TreeFault}
 use Rattle.vm_tree_rule.specs.declared.fault.TreeFault.TheVariants.{Device, Full, Worn}
-use Rattle.vm_drive.specs.Shows.{IsShown}
+use Rattle.vm_drive.specs.Shows.{IsWindowShown}
 
 module _ {X : Type 0} where
   -- a step of the pass found the state word of this page of the table at the last version
@@ -48,15 +48,15 @@ module _ {X : Type 0} where
     pub log : StartsWith w.log v.log
 
 -- the call is a put
-abbrev pub IsPut : Call → Type 0
-IsPut (Get key) = ⊥
-IsPut (Put key value) = Unit {0}
-IsPut (Del key) = ⊥
-IsPut (Window start most) = ⊥
+abbrev pub IsPutCall : Call → Type 0
+IsPutCall (Get key) = ⊥
+IsPutCall (Put key value) = Unit {0}
+IsPutCall (Del key) = ⊥
+IsPutCall (Window start most) = ⊥
 
 -- what the answer says: a reply became an entry of the pass, its next one, and a window is a leaf's; a fault has none, and its cause
 abbrev pub IsCalled : Call → Result Reply TreeFault → View Said → View Said → Type 0
-IsCalled call (Ok reply) v w = (w.mine ≡ v.mine ++ entry_of v (record { call = call; reply = reply }) ∷ []) × IsShown w call reply
+IsCalled call (Ok reply) v w = (w.mine ≡ v.mine ++ entry_of v (record { call = call; reply = reply }) ∷ []) × IsWindowShown w call reply
 IsCalled call (Err (Device p count)) v w = (w.mine ≡ v.mine) × HasNoted p count v w
-IsCalled call (Err (Full pages)) v w = (w.mine ≡ v.mine) × IsPut call × (pages ≡ v.start.pages) × HasFoundNext pages w
+IsCalled call (Err (Full pages)) v w = (w.mine ≡ v.mine) × IsPutCall call × (pages ≡ v.start.pages) × HasFoundNext pages w
 IsCalled call (Err (Worn p)) v w = (w.mine ≡ v.mine) × HasFoundWorn p w

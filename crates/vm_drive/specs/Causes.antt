@@ -6,12 +6,12 @@ use Rattle.vm_rule.specs.declared.view.Note.{Note}
 use Rattle.vm_rule.specs.declared.view.View.{View}
 use Rattle.vm_tree_rule.specs.declared.fault.TreeFault.{TreeFault}
 use Rattle.vm_tree_rule.specs.declared.fault.TreeFault.TheVariants.{Device, Full, Worn}
-use Rattle.vm_drive.specs.Calls.{IsPut, HasFoundNext, HasFoundWorn}
+use Rattle.vm_drive.specs.Calls.{IsPutCall, HasFoundNext, HasFoundWorn}
 
 -- how many notes are of page p
-abbrev pub notes_of : ℕ → List Note → ℕ
-notes_of p [] = 0
-notes_of p (n ∷ ns) = (if n.page == p then 1 else 0) + notes_of p ns
+abbrev pub notes_about : ℕ → List Note → ℕ
+notes_about p [] = 0
+notes_about p (n ∷ ns) = (if n.page == p then 1 else 0) + notes_about p ns
 
 -- 1 for an answer that the device of page p failed
 abbrev pub is_fault : ℕ → Result Reply TreeFault → ℕ
@@ -34,7 +34,7 @@ all_faults_of p (rs ∷ more) = faults_of p rs + all_faults_of p more
 abbrev pub CausedBy : (full worn : ℕ → Type 0) → Call → Result Reply TreeFault → Type 0
 CausedBy full worn call (Ok reply) = Unit {0}
 CausedBy full worn call (Err (Device p count)) = Unit {0}
-CausedBy full worn call (Err (Full pages)) = IsPut call × full pages
+CausedBy full worn call (Err (Full pages)) = IsPutCall call × full pages
 CausedBy full worn call (Err (Worn p)) = worn p
 
 -- the causes of a list's answers

@@ -11,7 +11,7 @@ use Rattle.vm_rule.specs.Joins.{HoldsNoPage}
 use Rattle.vm_rule.specs.declared.view.Did.{Did}
 use Rattle.vm_rule.specs.declared.view.Shape.{Shape}
 use Rattle.vm_rule.specs.declared.view.View.{View}
-use Rattle.vm_tree_laws.specs.Keeps.{Keeps}
+use Rattle.vm_tree_laws.specs.Keeps.{KeepsTree}
 use Rattle.vm_rule.specs.Views.{Each, IsWhole, StartsWith, entries_by, owns, times}
 use Rattle.vm_step.specs.Passes.{view}
 use Rattle.vm_step.specs.Ready.{IsReady}
@@ -20,7 +20,7 @@ use Rattle.vm_tree_rule.specs.declared.fault.TreeFault.{TreeFault}
 use Rattle.vm_pool.specs.Parting.{KeepsAll}
 use Rattle.vm_tree_read.specs.Waiting.{LosesNone}
 use Rattle.vm_drive.specs.declared.worker.Worker.{Worker}
-use Rattle.vm_drive.specs.Causes.{notes_of}
+use Rattle.vm_drive.specs.Causes.{notes_about}
 use Rattle.vm_drive.specs.Workers.{IsAtWork, HasDone}
 
 -- there is room for an answer to each call of each list
@@ -39,7 +39,7 @@ numbers_of workers = map number_of workers
 
 module _ (shape : Shape) (tells : Bool) (t : TableId) where
   -- the worker has a part of its own, no frame, and has done nothing
-  pub record IsNew (v : View Said) (worker : Worker) : Type 0 where
+  pub record IsNewWorker (v : View Said) (worker : Worker) : Type 0 where
     pub work : IsAtWork shape tells t worker
     pub holds : HoldsNoPage (view worker.pass)
     pub parts : ((view worker.pass).used ≡ number_of worker ∷ []) × ((view worker.pass).fresh ≡ [])
@@ -61,7 +61,7 @@ module _ (shape : Shape) (tells : Bool) (t : TableId) where
     pub apart : AreApart (numbers_of workers)
     pub foreign : Each (λ n. (has n v.used ≡ false) × (has n w.fresh ≡ false)) (numbers_of workers)
     pub unused : Each (λ n. entries_by (n ∷ []) v.seen ≡ []) (numbers_of workers)
-    pub each : Each (IsNew v) workers
+    pub each : Each (IsNewWorker v) workers
     pub answers : map (λ (worker : Worker). worker.answers) workers ≡ rooms
     pub all : ((workers ≡ []) × (w ≡ v)) ⊎ (IsWhole v → v.mine ≡ v.seen)
 
@@ -95,7 +95,7 @@ module _ (shape : Shape) (tells : Bool) (t : TableId) where
 -- how many notes of page p the workers' passes have
 abbrev pub all_notes_of : ℕ → List Worker → ℕ
 all_notes_of p [] = 0
-all_notes_of p (worker ∷ workers) = notes_of p (view worker.pass).notes + all_notes_of p workers
+all_notes_of p (worker ∷ workers) = notes_about p (view worker.pass).notes + all_notes_of p workers
 
 -- the workers' answers
 abbrev pub answers_of : List Worker → List (Vec (Result Reply TreeFault) Global)
@@ -118,12 +118,12 @@ pub record AreJoined (tells : Bool) (x : View Said) (workers : List Worker) (w :
   pub current : w.current ≡ true
   pub used : w.used ≡ x.used ++ numbers_of workers
   pub parts : (k : ℕ) → owns k w ≡ owns k x + times k (numbers_of workers)
-  pub notes : (p : ℕ) → notes_of p w.notes ≡ notes_of p x.notes + all_notes_of p workers
+  pub notes : (p : ℕ) → notes_about p w.notes ≡ notes_about p x.notes + all_notes_of p workers
   pub frames : (f : ℕ) → has f w.frames ≡ has f x.frames
   pub mine : w.mine ≡ entries_by w.used w.seen
   pub ours : entries_by x.used w.seen ≡ x.mine
   pub each : Each (IsIn w) workers
-  pub knows : KnowsAll tells Keeps w
+  pub knows : KnowsAll tells KeepsTree w
 
 module _ (shape : Shape) (tells : Bool) (t : TableId) where
   -- the worker is back: its pass holds no page and no frame, and has one part, its number

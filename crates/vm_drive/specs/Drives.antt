@@ -20,7 +20,7 @@ use Rattle.vm_tree_laws.specs.History.{IsLegal}
 use Rattle.vm_tree_rule.specs.declared.fault.TreeFault.{TreeFault}
 use Rattle.vm_drive.specs.Holds.{HoldsCalls}
 use Rattle.vm_drive.specs.Shows.{AllShown}
-use Rattle.vm_drive.specs.Causes.{notes_of, all_faults_of, AllCausedBy, FoundFull, FoundWorn}
+use Rattle.vm_drive.specs.Causes.{notes_about, all_faults_of, AllCausedBy, FoundFull, FoundWorn}
 
 -- the lists in the vectors
 abbrev pub items_of : {X : Type 0} → List (Vec X Global) → List (List X)
@@ -39,8 +39,8 @@ abbrev pub IsUsedUp : View Said → ℕ → Type 0
 IsUsedUp w pages = (pages ≡ w.start.pages) × (pages ≤ (kept_by w).next + 1)
 
 -- the page is at the last version that there can be
-abbrev pub IsWornOut : View Said → ℕ → Type 0
-IsWornOut w p = MAX_VERSION ≤ (last_of w p).version
+abbrev pub IsAtLastVersion : View Said → ℕ → Type 0
+IsAtLastVersion w p = MAX_VERSION ≤ (last_of w p).version
 
 -- The workers have made the calls of their lists, with these answers, and their passes went into the one that had the view v and has the
 -- view w: it is whole again, holds no page, and has just the frames that it had. What it has seen begins with what it had seen, is legal, and is all its own. Its own entries
@@ -58,8 +58,8 @@ pub record IsDriven (tells : Bool) (lists : List (List Call)) (answers : List (L
   pub grew : List (Entry Said)
   pub mine : w.mine ≡ v.mine ++ grew
   pub calls : HoldsCalls grew lists answers
-  pub faults : (p : ℕ) → notes_of p v.notes + all_faults_of p answers ≤ notes_of p w.notes
-  pub caused : AllCausedBy (IsUsedUp w) (IsWornOut w) lists answers
+  pub faults : (p : ℕ) → notes_about p v.notes + all_faults_of p answers ≤ notes_about p w.notes
+  pub caused : AllCausedBy (IsUsedUp w) (IsAtLastVersion w) lists answers
   -- the same, by what the pass's steps found: so it is of the pass later on, too
   pub traces : AllCausedBy (FoundFull w) (FoundWorn w) lists answers
   pub shown : AllShown w lists answers

@@ -11,7 +11,7 @@ use Rattle.vm_rule.specs.declared.view.View.{View}
 use Rattle.vm_rule.specs.Rule.{began_of}
 use Rattle.vm_rule.specs.Views.{StartsWith}
 use Rattle.vm_tree_model.specs.Page.{node_of}
-use Rattle.vm_tree_laws.specs.Keeps.{Keeps}
+use Rattle.vm_tree_laws.specs.Keeps.{KeepsTree}
 use Rattle.vm_tree_laws.specs.May.{IsProved}
 use Rattle.vm_tree_rule.specs.declared.fault.TreeFault.{TreeFault}
 
@@ -19,7 +19,7 @@ use Rattle.vm_tree_rule.specs.declared.fault.TreeFault.{TreeFault}
 -- knows
 pub record IsOfLeaf (said : Said) (v : View Said) : Type 0 where
   pub kept : Kept Said
-  pub keeps : Keeps (began_of v.start) kept
+  pub keeps : KeepsTree (began_of v.start) kept
   pub history : StartsWith v.seen kept.history
   pub earlier : List (Entry Said)
   pub entry : Entry Said
@@ -30,17 +30,17 @@ pub record IsOfLeaf (said : Said) (v : View Said) : Type 0 where
   pub proved : IsProved (page_at kept.pages page) said.call said.reply
 
 -- a window shows what the leaf that covers its start does, where blocks tell their words
-abbrev pub IsShown : View Said → Call → Reply → Type 0
-IsShown v (Get key) reply = Unit {0}
-IsShown v (Put key value) reply = Unit {0}
-IsShown v (Del key) reply = Unit {0}
-IsShown v (Window start most) reply = v.start.tells ≡ true → IsOfLeaf (record { call = Window start most; reply = reply }) v
+abbrev pub IsWindowShown : View Said → Call → Reply → Type 0
+IsWindowShown v (Get key) reply = Unit {0}
+IsWindowShown v (Put key value) reply = Unit {0}
+IsWindowShown v (Del key) reply = Unit {0}
+IsWindowShown v (Window start most) reply = v.start.tells ≡ true → IsOfLeaf (record { call = Window start most; reply = reply }) v
 
 -- so does each window of a list that was answered
 abbrev pub AreShown : View Said → List Call → List (Result Reply TreeFault) → Type 0
 AreShown v [] rs = Unit {0}
 AreShown v (c ∷ cs) [] = Unit {0}
-AreShown v (c ∷ cs) (Ok r ∷ rs) = IsShown v c r × AreShown v cs rs
+AreShown v (c ∷ cs) (Ok r ∷ rs) = IsWindowShown v c r × AreShown v cs rs
 AreShown v (c ∷ cs) (Err f ∷ rs) = AreShown v cs rs
 
 -- and of all lists

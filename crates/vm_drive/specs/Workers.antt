@@ -15,7 +15,7 @@ use Rattle.vm_drive.specs.Calls.{KeepsPass}
 use Rattle.vm_drive.specs.declared.worker.Worker.{Worker}
 use Rattle.vm_drive.specs.Holds.{answered}
 use Rattle.vm_drive.specs.Shows.{AreShown}
-use Rattle.vm_drive.specs.Causes.{notes_of, faults_of, AreCausedBy, FoundFull, FoundWorn}
+use Rattle.vm_drive.specs.Causes.{notes_about, faults_of, AreCausedBy, FoundFull, FoundWorn}
 
 -- the worker's pass may step on this table, which has a page, has its block at home, and holds the interface's frames
 pub record IsAtWork (shape : Shape) (tells : Bool) (t : TableId) (worker : Worker) : Type 0 where
@@ -30,6 +30,6 @@ pub record HasDone (calls : List Call) (answers : List (Result Reply TreeFault))
   pub keeps : KeepsPass v w
   pub long : length answers ≡ length calls
   pub mine : saids w.mine ≡ saids v.mine ++ answered calls answers
-  pub faults : (p : ℕ) → notes_of p v.notes + faults_of p answers ≤ notes_of p w.notes
+  pub faults : (p : ℕ) → notes_about p v.notes + faults_of p answers ≤ notes_about p w.notes
   pub caused : AreCausedBy (FoundFull w) (FoundWorn w) calls answers
   pub shown : AreShown w calls answers

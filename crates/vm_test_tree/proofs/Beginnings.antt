@@ -9,14 +9,14 @@ use Rattle.vm_image.specs.File.{IsNextPage}
 use Rattle.vm_image.specs.declared.blocks.PlannedFault.{PlannedFault}
 use Rattle.vm_page.specs.Pages.{page_at}
 use Rattle.vm_tree_model.specs.Tree.{IsTree}
-use Rattle.vm_tree_laws.specs.Keeps.{Keeps}
+use Rattle.vm_tree_laws.specs.Keeps.{KeepsTree}
 use Rattle.vm_tree_laws.proofs.Starts.{start_keeps}
 use Rattle.vm_rule.specs.Begun.{begun, unborn}
-use Rattle.vm_rule.specs.Started.{MayBegin, started_shape, words_in}
+use Rattle.vm_rule.specs.Started.{MayBegin, started_shape, block_words}
 use Rattle.vm_rule.specs.Views.{numbers}
 use Rattle.vm_rule.specs.declared.view.View.{View}
 
-words-held : (blocks : List MemBlock) → words_in (map stored_of blocks) ≡ pages_of_blocks blocks
+words-held : (blocks : List MemBlock) → block_words (map stored_of blocks) ≡ pages_of_blocks blocks
 words-held [] = refl
 words-held (b ∷ bs) = ap (λ (l : List (List ℕ)). words_of b ∷ l) (words-held bs)
 
@@ -26,9 +26,9 @@ all-zero zero (x ∷ xs) e z = absurd (omega arith)
 all-zero (suc n) [] e z = absurd (omega arith)
 all-zero (suc n) (x ∷ xs) e z = let first : x ≡ 0 = z 0 in let rest : xs ≡ replicate n 0 = all-zero n xs (omega arith) (λ i. z (suc i)) in cc
 
-pub begins : (pages : List (List ℕ)) (plan : List PlannedFault) (next : ℕ) (blocks : List MemBlock) → IsTree pages → IsNextPage pages next → AreBlocksOf pages plan blocks → MayBegin Keeps next (words_in (map stored_of blocks))
+pub begins : (pages : List (List ℕ)) (plan : List PlannedFault) (next : ℕ) (blocks : List MemBlock) → IsTree pages → IsNextPage pages next → AreBlocksOf pages plan blocks → MayBegin KeepsTree next (block_words (map stored_of blocks))
 begins pages plan next blocks tree free held =
-    subst (λ (l : List (List ℕ)). MayBegin Keeps next l) (sym (words-held blocks ∙ held.held))
+    subst (λ (l : List (List ℕ)). MayBegin KeepsTree next l) (sym (words-held blocks ∙ held.held))
     (record {
       zero = λ p l m. let f = free.free p l m in all-zero 64 (page_at pages p) f.length f.zero;
       kept = start_keeps (record { pages = pages; next = next }) tree free.within;

@@ -6,9 +6,9 @@ use Rattle.vm_map.specs.declared.call.Said.{Said}
 use Rattle.vm_rule.specs.declared.view.View.{View}
 use Rattle.vm_tree_rule.specs.declared.fault.TreeFault.{TreeFault}
 use Rattle.vm_tree_read.specs.Waiting.{Waits}
-use Rattle.vm_tree_write.specs.Splits.{KeepsAll}
+use Rattle.vm_tree_write.specs.Splits.{KeepsLocksOnly}
 use Rattle.vm_tree_write.specs.Writes.{IsDel, IsPut, OnlyWrites}
-use Rattle.vm_tree_write.specs.Waiting.{IsFaulted as IsWriteFaulted, IsPutFaulted, IsReplied as IsWriteReplied, faulted, missing, tight, worn}
+use Rattle.vm_tree_write.specs.Waiting.{IsWriteFaulted as IsWriteFaulted, IsPutFaulted, IsWriteReplied as IsWriteReplied, faulted, missing, tight, worn}
 use Rattle.vm_tree_write.specs.declared.write.TryWrite.{TryWrite}
 use Rattle.vm_tree_write.specs.declared.write.TryWrite.TheVariants as writes
 use Rattle.vm_test_tree.proofs.Homes.{Rests, of-reads}
@@ -35,7 +35,7 @@ fault-home key fault v w (faulted (missing tried found page k r n f all)) = all.
 fault-home key fault v w (faulted (worn tried page k r n f all)) = all.out
 fault-home key fault v w (tight tried found page k r t f all) = all.out
 
-pub put-home : (call : Call) (key : ℕ) (r : Result Reply TreeFault) (v w : View Said) → IfOk r (λ reply. IsWriteReplied KeepsAll (record { call = call; reply = reply }) v w) → IfErr r (λ fault. IsPutFaulted key fault v w) → w.out ≡ v.out
+pub put-home : (call : Call) (key : ℕ) (r : Result Reply TreeFault) (v w : View Said) → IfOk r (λ reply. IsWriteReplied KeepsLocksOnly (record { call = call; reply = reply }) v w) → IfErr r (λ fault. IsPutFaulted key fault v w) → w.out ≡ v.out
 put-home call key (Ok reply) v w a b = a.out
 put-home call key (Err fault) v w a b = fault-home key fault v w b
 

@@ -11,12 +11,12 @@ use Rattle.vm_rule.specs.Brought.{entry_of}
 use Rattle.vm_tree_model.specs.Tree.{map_of}
 use Rattle.vm_tree_laws.specs.History.{saids}
 use Rattle.vm_tree_read.specs.Reads.{IsAnswered}
-use Rattle.vm_tree_write.specs.Writes.{IsWritten}
+use Rattle.vm_tree_write.specs.Writes.{IsWriteDone}
 use Rattle.vm_tree_callers.specs.Pairs.{AnswersPut}
 use Rattle.vm_tree_callers.proofs.Pairs.{put-got}
 
 -- the get by a pass that had seen the put, and these entries since
-pub answers-behind : (key value : ℕ) (was reply : Reply) (u v x y w : View Said) (rest : List (Entry Said)) → IsWritten (record { call = Put key value; reply = was }) v x → y.seen ≡ x.seen ++ rest → (u.start.tells ≡ true → y.start.tells ≡ true) → IsAnswered (record { call = Get key; reply = reply }) y w → AnswersPut key value reply u w
+pub answers-behind : (key value : ℕ) (was reply : Reply) (u v x y w : View Said) (rest : List (Entry Said)) → IsWriteDone (record { call = Put key value; reply = was }) v x → y.seen ≡ x.seen ++ rest → (u.start.tells ≡ true → y.start.tells ≡ true) → IsAnswered (record { call = Get key; reply = reply }) y w → AnswersPut key value reply u w
 answers-behind key value was reply u v x y w rest a more same b =
     let p : Entry Said = entry_of v (record { call = Put key value; reply = was }) in
     let g : Entry Said = entry_of y (record { call = Get key; reply = reply }) in
@@ -43,5 +43,5 @@ answers-behind key value was reply u v x y w rest a more same b =
     joined [] p g = refl
     joined (e ∷ l) p g = ap (λ (t : List (Entry Said)). e ∷ t) (joined l p g)
 
-pub answers-put : (key value : ℕ) (was reply : Reply) (v x w : View Said) → IsWritten (record { call = Put key value; reply = was }) v x → IsAnswered (record { call = Get key; reply = reply }) x w → AnswersPut key value reply v w
+pub answers-put : (key value : ℕ) (was reply : Reply) (v x w : View Said) → IsWriteDone (record { call = Put key value; reply = was }) v x → IsAnswered (record { call = Get key; reply = reply }) x w → AnswersPut key value reply v w
 answers-put key value was reply v x w a b = answers-behind key value was reply v v x x w [] a (sym (append-nil x.seen)) (λ tells. ap (λ (o : Origin). o.tells) a.writes.start ∙ tells) b

@@ -7,7 +7,7 @@ use Rattle.vm_rule.specs.declared.view.View.{View}
 use Rattle.vm_step.specs.declared.saw.Saw.{Saw}
 use Rattle.vm_step.specs.declared.saw.At.{At}
 use Rattle.vm_step.specs.declared.saw.At.TheVariants as ats
-use Rattle.vm_step.specs.Evidence.{HasGiven, WhyAgain, place_of}
+use Rattle.vm_step.specs.Evidence.{HasGiven, WhyAgain, place_at}
 use Rattle.vm_tree_rule.specs.Shown.{IsAgain}
 use Rattle.vm_tree_rule.specs.Turns.{IsAstray}
 use Rattle.vm_tree_rule.proofs.Entering.{astray-given}
@@ -19,12 +19,12 @@ other-words p at first seen last is why =
     (λ rest. ⊎_elim (λ locked. inr locked) (λ lost. inl (λ e. lost.other (sym e))) rest)
     (subst (λ a. WhyAgain a first seen last) is why)
 
-pub again-seen : (key : ℕ) (saw : Saw) (v w : View Said) → IsAgain v saw w ⊎ IsAstray v key saw w → (done : List Did) × (w.log ≡ v.log ++ done) × HasGiven done (place_of saw.at) saw.seen
+pub again-seen : (key : ℕ) (saw : Saw) (v w : View Said) → IsAgain v saw w ⊎ IsAstray v key saw w → (done : List Did) × (w.log ≡ v.log ++ done) × HasGiven done (place_at saw.at) saw.seen
 again-seen key saw v w (inl a) =
     let s = a.seen in
     (a.done, a.log, record { earlier = s.earlier; step = s.last; later = s.later; cut = s.cut; gives = s.gives })
 again-seen key saw v w (inr a) =
-    let given = astray-given key saw v w a in (given.0, given.1, subst (λ (at : At). HasGiven given.0 (place_of at) saw.seen) (sym a.at) given.2)
+    let given = astray-given key saw v w a in (given.0, given.1, subst (λ (at : At). HasGiven given.0 (place_at at) saw.seen) (sym a.at) given.2)
 
 pub again-other : (key : ℕ) (saw : Saw) (v w : View Said) → (v.start.tells ≡ false → ⊥) → IsAgain v saw w ⊎ IsAstray v key saw w → (saw.first ≢ saw.seen) ⊎ (state_of saw.seen ≡ LOCKED)
 again-other key saw v w told (inl a) = other-words a.page saw.at saw.first saw.seen a.seen.last a.at a.seen.why

@@ -2,7 +2,7 @@
 // one, or a Locked page's, where blocks tell their words. So no get answers so with words that it never loaded, or with equal words of a page that is not locked.
 ghost use Rattle.std.specs.Prelude.{◌≡◌, ◌≢◌, ◌⊎◌, ◌≤◌, ◌++◌, IfSome, true};
 ghost use Rattle.vm_core.specs.Words.{LOCKED, state_of};
-ghost use Rattle.vm_step.specs.Evidence.{HasGiven, place_of};
+ghost use Rattle.vm_step.specs.Evidence.{HasGiven, place_at};
 ghost use Rattle.vm_step.specs.Passes.{IsSamePass, MayStep, view};
 
 use vm_block::Block;
@@ -17,7 +17,7 @@ pub fn why_again<B: Block>(words: &Words<Tree, B>, pass: &mut Pass<Tree>, key: u
     requires pages { 1 ≤ words.now.table.shared.key.pages }
     ensures pass { IsSamePass pass.old pass.new }
     ensures mine { IfSome result (λ _. (view pass.new).mine ≡ (view pass.old).mine) }
-    ensures seen { IfSome result (λ saw. (done : _) × ((view pass.new).log ≡ (view pass.old).log ++ done) × HasGiven done (place_of saw.at) saw.seen) }
+    ensures seen { IfSome result (λ saw. (done : _) × ((view pass.new).log ≡ (view pass.old).log ++ done) × HasGiven done (place_at saw.at) saw.seen) }
     ensures other { B.tells ≡ true → IfSome result (λ saw. (saw.first ≢ saw.seen) ⊎ (state_of saw.seen ≡ LOCKED)) }
 {
     match try_get(words, pass, key) {

@@ -8,9 +8,9 @@ use Rattle.vm_owner.specs.Numbers.{has}
 use Rattle.vm_owner.specs.Kept.{Start, Kept, claimed, AreZero}
 use Rattle.vm_owner.proofs.NumberLemmas.{has-end, has-last, apart-end}
 use Rattle.vm_map.specs.declared.call.Said.{Said}
-use Rattle.vm_tree_laws.specs.Keeps.{Keeps}
+use Rattle.vm_tree_laws.specs.Keeps.{KeepsTree}
 
-module _ (start : Start) (kept : Kept Said) (keeps : Keeps start kept) where
+module _ (start : Start) (kept : Kept Said) (keeps : KeepsTree start kept) where
   next_not_owed : has kept.next kept.owed ≡ false
   next_not_owed = go (has kept.next kept.owed) refl
     where
@@ -36,7 +36,7 @@ module _ (start : Start) (kept : Kept Said) (keeps : Keeps start kept) where
     ]
   ]
 
-  claim_keeps : kept.next < length kept.pages → IsFree (page_at kept.pages kept.next) → Keeps start (record kept { next = kept.next + 1; owed = kept.owed ++ kept.next ∷ [] })
+  claim_keeps : kept.next < length kept.pages → IsFree (page_at kept.pages kept.next) → KeepsTree start (record kept { next = kept.next + 1; owed = kept.owed ++ kept.next ∷ [] })
   claim_keeps there free = record {
     same_count = keeps.same_count;
     tree = keeps.tree;
@@ -70,7 +70,7 @@ module _ (start : Start) (kept : Kept Said) (keeps : Keeps start kept) where
         ]
       ]
 
-pub claims_keep : (start : Start) (kept : Kept Said) (n : ℕ) → Keeps start kept → AreZero kept n → Keeps start (claimed n kept)
+pub claims_keep : (start : Start) (kept : Kept Said) (n : ℕ) → KeepsTree start kept → AreZero kept n → KeepsTree start (claimed n kept)
 claims_keep start kept zero keeps zeros = keeps
 claims_keep start kept (suc n) keeps zeros = claims_keep start (record kept { next = kept.next + 1; owed = kept.owed ++ kept.next ∷ [] }) n
     (claim_keeps start kept keeps (omega (arith, zeros.there)) (free_at start kept keeps kept.next (omega (arith, zeros.there)) (λ i. zeros.zero kept.next i (omega arith) (omega arith))))

@@ -5,9 +5,9 @@ use Rattle.vm_tree_model.specs.Tree.{page_at}
 use Rattle.vm_tree_model.proofs.RootSplit.{root_page}
 use Rattle.vm_owner.specs.Numbers.{AreApart}
 use Rattle.vm_owner.specs.declared.Entry.{Entry}
-use Rattle.vm_owner.specs.Kept.{Start, Kept, Change, pages_of, Agrees, Fits, IsTurn, released, told}
+use Rattle.vm_owner.specs.Kept.{Start, Kept, Change, changed_pages, Agrees, Fits, IsTurn, after_release, told}
 use Rattle.vm_map.specs.declared.call.Said.{Said}
-use Rattle.vm_tree_laws.specs.Keeps.{Keeps}
+use Rattle.vm_tree_laws.specs.Keeps.{KeepsTree}
 use Rattle.vm_tree_laws.specs.May.{IsEdit, MaySplit, MaySplitRoot, MayRelease, MayRead}
 use Rattle.vm_tree_laws.proofs.LeafReads.{read_keeps}
 use Rattle.vm_tree_laws.proofs.LeafReleases.{edit_keeps}
@@ -15,17 +15,17 @@ use Rattle.vm_tree_laws.proofs.NodeSplits.{split_keeps}
 use Rattle.vm_tree_laws.proofs.Nodes.{leaf_by_tag}
 use Rattle.vm_tree_laws.proofs.RootSplits.{root_split_keeps}
 
-module _ (start : Start) (kept : Kept Said) (keeps : Keeps start kept) (due : List ℕ) where
+module _ (start : Start) (kept : Kept Said) (keeps : KeepsTree start kept) (due : List ℕ) where
   -- a change with the words that stand at a page
   abbrev change_at : ℕ → List ℕ → Change
   change_at p words = record { page = p; old = page_at kept.pages p; new = words }
 
-  leaf_law : (leaf : Change) (e : Entry Said) → Fits kept due (leaf ∷ []) → IsTurn kept.history (e ∷ []) → MayRelease start due (leaf ∷ []) (e ∷ []) → Keeps start (released (leaf ∷ []) (e ∷ []) kept)
+  leaf_law : (leaf : Change) (e : Entry Said) → Fits kept due (leaf ∷ []) → IsTurn kept.history (e ∷ []) → MayRelease start due (leaf ∷ []) (e ∷ []) → KeepsTree start (after_release (leaf ∷ []) (e ∷ []) kept)
   leaf_law leaf e fits turn may =
       let (tag, edit) = subst (λ (w : List ℕ). ((node_of w).tag ≡ 2) × IsEdit w leaf.new e.said.call e.said.reply) (sym fits.agrees.1) may in
       edit_keeps start kept keeps leaf.page leaf.new (leaf_by_tag start kept keeps leaf.page tag) e turn.0 e.said.call e.said.reply refl edit
 
-  split_law : (parent node sibling : Change) → Fits kept due (parent ∷ node ∷ sibling ∷ []) → MaySplit due parent node sibling → Keeps start (released (parent ∷ node ∷ sibling ∷ []) [] kept)
+  split_law : (parent node sibling : Change) → Fits kept due (parent ∷ node ∷ sibling ∷ []) → MaySplit due parent node sibling → KeepsTree start (after_release (parent ∷ node ∷ sibling ∷ []) [] kept)
   split_law parent node sibling fits may =
       let agrees = fits.agrees in
       let first = subst (λ (w : List ℕ). MaySplit due record parent { old = w } node sibling) (sym agrees.1) may in
@@ -40,10 +40,10 @@ module _ (start : Start) (kept : Kept Said) (keeps : Keeps start kept) (due : Li
 
     -- the law, with page m for page 0 and page p for the root
     abbrev RootLaw : ℕ → ℕ → Type 0
-    RootLaw m p = Agrees kept.pages (four m p) → AreApart (pages_of (four m p))
-        → MaySplitRoot due (change_at m meta.new) (change_at p root.new) (change_at sibling.page sibling.new) (change_at top.page top.new) → Keeps start (released (four m p) [] kept)
+    RootLaw m p = Agrees kept.pages (four m p) → AreApart (changed_pages (four m p))
+        → MaySplitRoot due (change_at m meta.new) (change_at p root.new) (change_at sibling.page sibling.new) (change_at top.page top.new) → KeepsTree start (after_release (four m p) [] kept)
 
-    root_split_law : Fits kept due (meta ∷ root ∷ sibling ∷ top ∷ []) → MaySplitRoot due meta root sibling top → Keeps start (released (meta ∷ root ∷ sibling ∷ top ∷ []) [] kept)
+    root_split_law : Fits kept due (meta ∷ root ∷ sibling ∷ top ∷ []) → MaySplitRoot due meta root sibling top → KeepsTree start (after_release (meta ∷ root ∷ sibling ∷ top ∷ []) [] kept)
     root_split_law fits may =
         let agrees = fits.agrees in
         let first = subst (λ (w : List ℕ). MaySplitRoot due record meta { old = w } root sibling top) (sym agrees.1) may in
@@ -56,14 +56,14 @@ module _ (start : Start) (kept : Kept Said) (keeps : Keeps start kept) (due : Li
         there (agrees.0, refl, (agrees.2.0, refl, (agrees.2.2.0, refl, (agrees.2.2.2.0, refl, tt)))) fits.apart fourth
 
 pub releases_keep : (start : Start) (kept : Kept Said) (due : List ℕ) (changes : List Change) (entries : List (Entry Said))
-    → Keeps start kept → Fits kept due changes → IsTurn kept.history entries → MayRelease start due changes entries → Keeps start (released changes entries kept)
+    → KeepsTree start kept → Fits kept due changes → IsTurn kept.history entries → MayRelease start due changes entries → KeepsTree start (after_release changes entries kept)
 releases_keep start kept due (leaf ∷ []) (e ∷ []) keeps fits turn may = leaf_law start kept keeps due leaf e fits turn may
 releases_keep start kept due (parent ∷ node ∷ sibling ∷ []) [] keeps fits turn may = split_law start kept keeps due parent node sibling fits may
 releases_keep start kept due (meta ∷ root ∷ sibling ∷ top ∷ []) [] keeps fits turn may = root_split_law start kept keeps due meta root sibling top fits may
 releases_keep start kept due _ _ keeps fits turn may = absurd may
 
 pub reads_keep : (start : Start) (kept : Kept Said) (page : ℕ) (entries : List (Entry Said))
-    → Keeps start kept → IsTurn kept.history entries → MayRead start page (page_at kept.pages page) entries → Keeps start (told entries kept)
+    → KeepsTree start kept → IsTurn kept.history entries → MayRead start page (page_at kept.pages page) entries → KeepsTree start (told entries kept)
 reads_keep start kept page [] keeps turn may = rw (append-nil kept.history) keeps
 reads_keep start kept page (e ∷ es) keeps turn may =
     let at = leaf_by_tag start kept keeps page may.0 in

@@ -6,7 +6,7 @@ use Rattle.vm_map.proofs.MapLemmas.{Rises-from, Rises-to}
 use Rattle.vm_map.proofs.EditedSizes.{del-none}
 use Rattle.vm_tree_model.proofs.Laws.{lookup-map_of, high_le}
 use Rattle.vm_owner.specs.declared.Entry.{Entry}
-use Rattle.vm_owner.specs.Kept.{Start, Kept, calls_of, told}
+use Rattle.vm_owner.specs.Kept.{Start, Kept, entries_under, told}
 use Rattle.vm_map.specs.declared.call.Said.{Said}
 use Rattle.vm_map.specs.declared.call.Call.{Call}
 use Rattle.vm_map.specs.declared.call.Call.TheVariants.{Get, Del, Window}
@@ -14,13 +14,13 @@ use Rattle.vm_map.specs.declared.call.Reply.{Reply}
 use Rattle.vm_map.specs.declared.call.Reply.TheVariants.{Got, Gone, Win}
 use Rattle.vm_map.specs.History.{IsReply, after, bound_of}
 use Rattle.vm_map.proofs.WindowLaws.{window_replies}
-use Rattle.vm_tree_laws.specs.Keeps.{Keeps}
+use Rattle.vm_tree_laws.specs.Keeps.{KeepsTree}
 use Rattle.vm_tree_laws.specs.May.{IsProved}
 use Rattle.vm_tree_laws.proofs.WindowPages.{between-map_of}
 use Rattle.vm_tree_laws.proofs.Histories.{legal_after, map_after, news_after}
 
-module _ (start : Start) (kept : Kept Said) (keeps : Keeps start kept) (p : ℕ) (at : IsLeafAt kept.pages p) (e : Entry Said) (turn : e.count ≡ calls_of e.number kept.history + 1) where
-  told_keeps : (call : Call) (reply : Reply) → e.said ≡ record { call = call; reply = reply } → IsReply (map_of kept.pages) call reply → map_of kept.pages ≡ after (map_of kept.pages) call → Keeps start (told (e ∷ []) kept)
+module _ (start : Start) (kept : Kept Said) (keeps : KeepsTree start kept) (p : ℕ) (at : IsLeafAt kept.pages p) (e : Entry Said) (turn : e.count ≡ entries_under e.number kept.history + 1) where
+  told_keeps : (call : Call) (reply : Reply) → e.said ≡ record { call = call; reply = reply } → IsReply (map_of kept.pages) call reply → map_of kept.pages ≡ after (map_of kept.pages) call → KeepsTree start (told (e ∷ []) kept)
   told_keeps call reply is right same = record {
     same_count = keeps.same_count;
     tree = keeps.tree;
@@ -38,7 +38,7 @@ module _ (start : Start) (kept : Kept Said) (keeps : Keeps start kept) (p : ℕ)
   rises : Rises 0 (2 ^ 64) (node_at kept.pages p).pairs
   rises = Rises-to _ 0 _ (2 ^ 64) (Rises-from _ _ 0 _ (keeps.tree.tree.leaf p at.2).rises (omega arith)) (high_le kept.pages keeps.tree p at)
 
-  pub read_keeps : (call : Call) (reply : Reply) → e.said ≡ record { call = call; reply = reply } → IsProved (page_at kept.pages p) call reply → Keeps start (told (e ∷ []) kept)
+  pub read_keeps : (call : Call) (reply : Reply) → e.said ≡ record { call = call; reply = reply } → IsProved (page_at kept.pages p) call reply → KeepsTree start (told (e ∷ []) kept)
   read_keeps (Get k) (Got found) is (covers, found_is) = told_keeps (Get k) (Got found) is (found_is ∙ sym (lookup-map_of kept.pages keeps.tree p k at covers)) refl
   read_keeps (Del k) (Gone was) is (covers, was_is, none) =
       let none_there = lookup-map_of kept.pages keeps.tree p k at covers ∙ none in

@@ -16,7 +16,7 @@ use Rattle.vm_tree_model.proofs.Load.{load_of, load_is, load-set}
 use Rattle.vm_tree_model.specs.Edits.{IsLeafWith}
 use Rattle.vm_owner.specs.Numbers.{has, without}
 use Rattle.vm_owner.specs.declared.Entry.{Entry}
-use Rattle.vm_owner.specs.Kept.{Start, Kept, calls_of}
+use Rattle.vm_owner.specs.Kept.{Start, Kept, entries_under}
 use Rattle.vm_owner.proofs.NumberLemmas.{without-none}
 use Rattle.vm_map.specs.declared.call.Said.{Said}
 use Rattle.vm_map.specs.declared.call.Call.{Call}
@@ -24,13 +24,13 @@ use Rattle.vm_map.specs.declared.call.Call.TheVariants.{Put, Del}
 use Rattle.vm_map.specs.declared.call.Reply.{Reply}
 use Rattle.vm_map.specs.declared.call.Reply.TheVariants.{Was, Gone}
 use Rattle.vm_map.specs.History.{IsReply, after}
-use Rattle.vm_tree_laws.specs.Keeps.{Keeps}
+use Rattle.vm_tree_laws.specs.Keeps.{KeepsTree}
 use Rattle.vm_tree_laws.specs.History.{is_new}
 use Rattle.vm_tree_laws.specs.May.{IsEdit}
 use Rattle.vm_tree_laws.proofs.Histories.{legal_after, map_after, news_after}
 use Rattle.vm_tree_laws.proofs.Nodes.{not_owed}
 
-module _ (start : Start) (kept : Kept Said) (keeps : Keeps start kept) (p : ℕ) (words : List ℕ) (at : IsLeafAt kept.pages p) (e : Entry Said) (turn : e.count ≡ calls_of e.number kept.history + 1) where
+module _ (start : Start) (kept : Kept Said) (keeps : KeepsTree start kept) (p : ℕ) (words : List ℕ) (at : IsLeafAt kept.pages p) (e : Entry Said) (turn : e.count ≡ entries_under e.number kept.history + 1) where
   -- what stands after the release
   abbrev now : Kept Said
   now = record kept { pages = set kept.pages p words; owed = without p kept.owed; history = kept.history ++ e ∷ [] }
@@ -63,7 +63,7 @@ module _ (start : Start) (kept : Kept Said) (keeps : Keeps start kept) (p : ℕ)
     free x some = let other : x ≢ p = λ same. true≢false (sym some ∙ ap (λ y. has y kept.owed) same ∙ p_not_owed) in rw (there x other) (keeps.owed.free x some)
 
     leaf_keeps : (call : Call) (reply : Reply) → e.said ≡ record { call = call; reply = reply } → IsReply (map_of kept.pages) call reply → map_of (set kept.pages p words) ≡ after (map_of kept.pages) call
-        → load_of words ≤ load_of (page_at kept.pages p) + 2 * is_new call reply → Keeps start now
+        → load_of words ≤ load_of (page_at kept.pages p) + 2 * is_new call reply → KeepsTree start now
     leaf_keeps call reply is right to grows =
         let tree = replaced_tree kept.pages keeps.tree p words step in
         rw (without-none p kept.owed p_not_owed) (record {
@@ -100,7 +100,7 @@ module _ (start : Start) (kept : Kept Said) (keeps : Keeps start kept) (p : ℕ)
         let less : length (pairs_of words) ≤ length (pairs_of (page_at kept.pages p)) = rw (with.pairs ∙ is) (length-del (pairs_of (page_at kept.pages p)) k) in
         let both = both_nodes replaced in grind (arith, nat_tests, both, less)
 
-  pub edit_keeps : (call : Call) (reply : Reply) → e.said ≡ record { call = call; reply = reply } → IsEdit (page_at kept.pages p) words call reply → Keeps start now
+  pub edit_keeps : (call : Call) (reply : Reply) → e.said ≡ record { call = call; reply = reply } → IsEdit (page_at kept.pages p) words call reply → KeepsTree start now
   edit_keeps (Put k v) (Was was) is (covers, was_is, with) = leaf_keeps (replaced _ with) (Put k v) (Was was) is
       (was_is ∙ sym (lookup-map_of kept.pages keeps.tree p k at covers))
       (put_map kept.pages keeps.tree p words (replaced _ with) k v covers (omega (arith, covers.1, high_le kept.pages keeps.tree p at)) with.pairs)

@@ -8,8 +8,8 @@ use Rattle.vm_tree_model.specs.Tree.{page_at, IsTree, map_of}
 use Rattle.vm_tree_model.specs.Reason.{walk, reason}
 use Rattle.vm_tree_model.proofs.Theorem.{no_reason}
 use Rattle.vm_owner.specs.declared.Entry.{Entry}
-use Rattle.vm_owner.specs.Kept.{told, Start, Kept, Change, first_kept, released}
-use Rattle.vm_tree_laws.specs.Keeps.{Keeps}
+use Rattle.vm_owner.specs.Kept.{told, Start, Kept, Change, first_kept, after_release}
+use Rattle.vm_tree_laws.specs.Keeps.{KeepsTree}
 use Rattle.vm_tree_laws.specs.May.{entry, MayRelease, MayRead}
 use Rattle.vm_tree_laws.proofs.Laws.{releases_keep, reads_keep}
 use Rattle.vm_tree_laws.proofs.Starts.{start_keeps}
@@ -32,7 +32,7 @@ least_map = refl
 abbrev pub least_start : Start
 least_start = record { pages = least; next = 2 }
 
-pub least_keeps : Keeps least_start (first_kept least_start)
+pub least_keeps : KeepsTree least_start (first_kept least_start)
 least_keeps = start_keeps least_start least_tree (omega arith)
 
 -- the first put of key 5 and value 7
@@ -43,9 +43,9 @@ put_may : MayRelease least_start [] (put_change ∷ []) (entry 0 1 (Put 5 7) (Wa
 put_may = (refl, ((omega arith, omega arith), refl, record { leaf = leaf_from 0 (2 ^ 64) put_change.new (omega arith) refl; low = refl; high = refl; pairs = refl }))
 
 abbrev pub after_put : Kept Said
-after_put = released (put_change ∷ []) (entry 0 1 (Put 5 7) (Was None)) (first_kept least_start)
+after_put = after_release (put_change ∷ []) (entry 0 1 (Put 5 7) (Was None)) (first_kept least_start)
 
-pub put_keeps : Keeps least_start after_put
+pub put_keeps : KeepsTree least_start after_put
 put_keeps = releases_keep least_start (first_kept least_start) [] (put_change ∷ []) (entry 0 1 (Put 5 7) (Was None)) least_keeps
     (record { agrees = (omega arith, refl, tt); apart = (refl, tt); sized = (refl, tt); few = omega arith; owed = λ p some. absurd (cc) })
     (refl, refl) put_may
@@ -60,5 +60,5 @@ window_entry = entry 0 2 (Window 0 1) (Win (record { bound = End; pairs = (5, 7)
 window_may : MayRead least_start 1 (page_at after_put.pages 1) window_entry
 window_may = (refl, λ low high rises. ((omega arith, omega arith), omega arith, record { shows = refl; ends = refl }))
 
-pub window_keeps : Keeps least_start (told window_entry after_put)
+pub window_keeps : KeepsTree least_start (told window_entry after_put)
 window_keeps = reads_keep least_start after_put 1 window_entry put_keeps (refl, refl) window_may

@@ -13,17 +13,17 @@ use Rattle.vm_tree_model.proofs.Load.{load_of, load}
 use Rattle.vm_tree_model.proofs.SplitLaw.{IsSplitStep}
 use Rattle.vm_tree_model.proofs.SplitPages.{IsSplitPages, split_pages_tree, split_pages_map}
 use Rattle.vm_owner.specs.Numbers.{has, AreApart}
-use Rattle.vm_owner.specs.Kept.{Start, Kept, Change, pages_of, Agrees, changed, owed_after, released}
+use Rattle.vm_owner.specs.Kept.{Start, Kept, Change, changed_pages, Agrees, changed, owed_after, after_release}
 use Rattle.vm_owner.proofs.NumberLemmas.{without-none, length-without}
 use Rattle.vm_owner.proofs.ChangeLemmas.{length-changed, changed-other, changed-here, sum-changed}
 use Rattle.vm_map.specs.declared.call.Said.{Said}
-use Rattle.vm_tree_laws.specs.Keeps.{Keeps}
+use Rattle.vm_tree_laws.specs.Keeps.{KeepsTree}
 use Rattle.vm_tree_laws.specs.May.{MaySplit}
 use Rattle.vm_tree_laws.proofs.GroupReleases.{group_keeps}
 use Rattle.vm_tree_laws.proofs.Halves.{IsOther, counted, counted_node, counted_other, load_at, halves, left_some, starts, left_node, right_node, old_load, left_load, right_load}
 use Rattle.vm_tree_laws.proofs.Nodes.{not_owed, clean_at}
 
-module _ (start : Start) (kept : Kept Said) (keeps : Keeps start kept) (q p r : ℕ) (parent node sibling : List ℕ) where
+module _ (start : Start) (kept : Kept Said) (keeps : KeepsTree start kept) (q p r : ℕ) (parent node sibling : List ℕ) where
   abbrev old : List (List ℕ)
   old = kept.pages
 
@@ -43,7 +43,7 @@ module _ (start : Start) (kept : Kept Said) (keeps : Keeps start kept) (q p r : 
   new = changed changes old
 
   module _ (due : List ℕ) (may : MaySplit due parent_change node_change sibling_change)
-      (agrees : Agrees old changes) (apart : AreApart (pages_of changes)) (owed : has r kept.owed ≡ true) where
+      (agrees : Agrees old changes) (apart : AreApart (changed_pages changes)) (owed : has r kept.owed ≡ true) where
     q_is : IsNode (node_at old q)
     q_is = let tag = may.inner in (omega (arith, tag), omega (arith, tag))
 
@@ -126,7 +126,7 @@ module _ (start : Start) (kept : Kept Said) (keeps : Keeps start kept) (q p r : 
     fewer_owed : length (owed_after changes kept.owed) + 1 ≡ length kept.owed
     fewer_owed = rw (without-none q kept.owed (not_owed start kept keeps q q_is)) (rw (without-none p kept.owed (not_owed start kept keeps p p_is)) (length-without r kept.owed keeps.owed.apart owed))
 
-    nodes : (x : ℕ) → has x (pages_of changes) ≡ true → (x ≡ 0) ⊎ IsNode (node_at new x)
+    nodes : (x : ℕ) → has x (changed_pages changes) ≡ true → (x ≡ 0) ⊎ IsNode (node_at new x)
     nodes x some = elim (cases_eq x q) [
       | inl e ↦ inr (rw e (subst (λ w. IsNode (node_of w)) (sym at_q) parent_node))
       | inr nq ↦ elim (cases_eq x p) [
@@ -135,7 +135,7 @@ module _ (start : Start) (kept : Kept Said) (keeps : Keeps start kept) (q p r : 
       ]
     ]
 
-    pub split_keeps : Keeps start (released changes [] kept)
+    pub split_keeps : KeepsTree start (after_release changes [] kept)
     split_keeps = group_keeps start kept keeps changes record {
       tree = split_pages_tree old new _ _ _ _ _ _ _ _ _ _ keeps.tree pages;
       contents = split_pages_map old new _ _ _ _ _ _ _ _ _ _ keeps.tree pages;

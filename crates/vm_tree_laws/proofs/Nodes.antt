@@ -8,10 +8,10 @@ use Rattle.vm_tree_model.proofs.Laws.{in_range}
 use Rattle.vm_owner.specs.Numbers.{has}
 use Rattle.vm_owner.specs.Kept.{Start, Kept}
 use Rattle.vm_map.specs.declared.call.Said.{Said}
-use Rattle.vm_tree_laws.specs.Keeps.{Keeps}
+use Rattle.vm_tree_laws.specs.Keeps.{KeepsTree}
 use Rattle.vm_tree_laws.proofs.Ties.{kind_of}
 
-module _ (start : Start) (kept : Kept Said) (keeps : Keeps start kept) where
+module _ (start : Start) (kept : Kept Said) (keeps : KeepsTree start kept) where
   -- a page whose first word is not 0 is not owed
   pub other_not_owed : (p : ℕ) → (slice_index (page_at kept.pages p) 0 ≡ 0 → ⊥) → has p kept.owed ≡ false
   other_not_owed p other = go (has p kept.owed) refl

@@ -12,11 +12,11 @@ use Rattle.vm_tree_model.proofs.Load.{load_of, load}
 use Rattle.vm_tree_model.proofs.SplitLaw.{IsSplitStep}
 use Rattle.vm_tree_model.proofs.RootSplit.{root_page, height_word, with_top, with_top-same, with_top-other, with_top-zero, IsRootSplit, root_split_tree, root_split_map}
 use Rattle.vm_owner.specs.Numbers.{has, without, AreApart}
-use Rattle.vm_owner.specs.Kept.{Start, Kept, Change, pages_of, Agrees, changed, owed_after, released}
+use Rattle.vm_owner.specs.Kept.{Start, Kept, Change, changed_pages, Agrees, changed, owed_after, after_release}
 use Rattle.vm_owner.proofs.NumberLemmas.{without-none, length-without, has-without_other, AreApart-without}
 use Rattle.vm_owner.proofs.ChangeLemmas.{length-changed, changed-other, changed-here, sum-changed}
 use Rattle.vm_map.specs.declared.call.Said.{Said}
-use Rattle.vm_tree_laws.specs.Keeps.{Keeps}
+use Rattle.vm_tree_laws.specs.Keeps.{KeepsTree}
 use Rattle.vm_tree_laws.specs.May.{MaySplitRoot}
 use Rattle.vm_tree_laws.proofs.GroupReleases.{group_keeps}
 use Rattle.vm_tree_laws.proofs.Halves.{IsOther, counted, counted_node, counted_other, load_at, load_other, halves, left_some, starts, separator_above, left_node, right_node, old_load, left_load, right_load}
@@ -42,7 +42,7 @@ grown_meta pages s height w meta ge lt = record {
 two_pairs : (left separator right : ℕ) → 0 < separator → put_pair ((0, left) ∷ []) separator right ≡ (0, left) ∷ (separator, right) ∷ []
 two_pairs left separator right above = grind (arith, nat_tests, above)
 
-module _ (start : Start) (kept : Kept Said) (keeps : Keeps start kept) (r s : ℕ) (meta root sibling top : List ℕ) where
+module _ (start : Start) (kept : Kept Said) (keeps : KeepsTree start kept) (r s : ℕ) (meta root sibling top : List ℕ) where
   abbrev old : List (List ℕ)
   old = kept.pages
 
@@ -68,7 +68,7 @@ module _ (start : Start) (kept : Kept Said) (keeps : Keeps start kept) (r s : �
   new = changed changes old
 
   module _ (due : List ℕ) (may : MaySplitRoot due meta_change root_change sibling_change top_change)
-      (agrees : Agrees old changes) (apart : AreApart (pages_of changes)) (owed : has r kept.owed ≡ true) (owed_top : has s kept.owed ≡ true) where
+      (agrees : Agrees old changes) (apart : AreApart (changed_pages changes)) (owed : has r kept.owed ≡ true) (owed_top : has s kept.owed ≡ true) where
     p_is : IsNode (node_at old p)
     p_is = keeps.tree.tree.root_is
 
@@ -199,7 +199,7 @@ module _ (start : Start) (kept : Kept Said) (keeps : Keeps start kept) (r s : �
     fewer_owed = rw (without-none 0 kept.owed zero_not_owed) (rw (without-none p kept.owed (not_owed start kept keeps p p_is))
         (omega (arith, length-without r kept.owed keeps.owed.apart owed, length-without s (without r kept.owed) (AreApart-without r kept.owed keeps.owed.apart) (has-without_other r s kept.owed (λ e. r_ne_s (sym e)) ∙ owed_top))))
 
-    nodes : (x : ℕ) → has x (pages_of changes) ≡ true → (x ≡ 0) ⊎ IsNode (node_at new x)
+    nodes : (x : ℕ) → has x (changed_pages changes) ≡ true → (x ≡ 0) ⊎ IsNode (node_at new x)
     nodes x some = elim (cases_eq x 0) [
       | inl e ↦ inl e
       | inr nz ↦ elim (cases_eq x p) [
@@ -211,7 +211,7 @@ module _ (start : Start) (kept : Kept Said) (keeps : Keeps start kept) (r s : �
       ]
     ]
 
-    pub root_split_keeps : Keeps start (released changes [] kept)
+    pub root_split_keeps : KeepsTree start (after_release changes [] kept)
     root_split_keeps = group_keeps start kept keeps changes record {
       tree = root_split_tree old new s r may.separator _ _ keeps.tree pages;
       contents = root_split_map old new s r may.separator _ _ keeps.tree pages;

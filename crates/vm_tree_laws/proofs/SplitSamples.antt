@@ -6,8 +6,8 @@ use Rattle.vm_tree_model.specs.Page.{node_of, IsLeaf}
 use Rattle.vm_tree_model.specs.Tree.{page_at, map_of}
 use Rattle.vm_tree_model.specs.Reason.{walk, reason}
 use Rattle.vm_tree_model.proofs.Theorem.{no_reason}
-use Rattle.vm_owner.specs.Kept.{Start, Kept, Change, first_kept, claimed, released}
-use Rattle.vm_tree_laws.specs.Keeps.{Keeps}
+use Rattle.vm_owner.specs.Kept.{Start, Kept, Change, first_kept, claimed, after_release}
+use Rattle.vm_tree_laws.specs.Keeps.{KeepsTree}
 use Rattle.vm_tree_laws.specs.May.{MayRelease}
 use Rattle.vm_tree_laws.specs.Tied.{IsTied}
 use Rattle.vm_tree_laws.proofs.Claims.{claims_keep}
@@ -29,7 +29,7 @@ abbrev pub full_start : Start
 full_start = record { pages = full; next = 2 }
 
 -- two pages were claimed
-pub full_keeps : Keeps full_start (claimed 2 (first_kept full_start))
+pub full_keeps : KeepsTree full_start (claimed 2 (first_kept full_start))
 full_keeps = claims_keep full_start (first_kept full_start) 2 (start_keeps full_start ((no_reason full).0 full_fault) (omega arith)) (record { there = omega arith; zero = zero_at })
   where
     zero_at : (p i : ℕ) → 2 ≤ p → p < 4 → get_or (page_at full p) i 0 ≡ 0
@@ -65,9 +65,9 @@ root_may = record {
 }
 
 abbrev pub after_root_split : Kept Said
-after_root_split = released root_changes [] (claimed 2 (first_kept full_start))
+after_root_split = after_release root_changes [] (claimed 2 (first_kept full_start))
 
-pub root_split_keeps : Keeps full_start after_root_split
+pub root_split_keeps : KeepsTree full_start after_root_split
 root_split_keeps = releases_keep full_start (claimed 2 (first_kept full_start)) (2 ∷ 3 ∷ []) root_changes [] full_keeps
     (record {
       agrees = (omega arith, refl, (omega arith, refl, (omega arith, refl, (omega arith, refl, tt))));
@@ -97,7 +97,7 @@ abbrev pub high_start : Start
 high_start = record { pages = high; next = 4 }
 
 -- one page was claimed
-pub high_keeps : Keeps high_start (claimed 1 (first_kept high_start))
+pub high_keeps : KeepsTree high_start (claimed 1 (first_kept high_start))
 high_keeps = claims_keep high_start (first_kept high_start) 1 (start_keeps high_start ((no_reason high).0 high_fault) (omega arith)) (record { there = omega arith; zero = zero_at })
   where
     zero_at : (p i : ℕ) → 4 ≤ p → p < 5 → get_or (page_at high p) i 0 ≡ 0
@@ -138,9 +138,9 @@ leaf_may = record {
 }
 
 abbrev pub after_leaf_split : Kept Said
-after_leaf_split = released leaf_changes [] (claimed 1 (first_kept high_start))
+after_leaf_split = after_release leaf_changes [] (claimed 1 (first_kept high_start))
 
-pub leaf_split_keeps : Keeps high_start after_leaf_split
+pub leaf_split_keeps : KeepsTree high_start after_leaf_split
 leaf_split_keeps = releases_keep high_start (claimed 1 (first_kept high_start)) (4 ∷ []) leaf_changes [] high_keeps
     (record {
       agrees = (omega arith, refl, (omega arith, refl, (omega arith, refl, tt)));

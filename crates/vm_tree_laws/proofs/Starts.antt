@@ -7,7 +7,7 @@ use Rattle.vm_tree_model.specs.Tree.{IsTree}
 use Rattle.vm_tree_model.specs.Count.{is_node, node_count, excess}
 use Rattle.vm_tree_model.proofs.Laws.{parted_leaves}
 use Rattle.vm_owner.specs.Kept.{Start, first_kept}
-use Rattle.vm_tree_laws.specs.Keeps.{Keeps}
+use Rattle.vm_tree_laws.specs.Keeps.{KeepsTree}
 
 -- a page has at most 28 pairs, so 14 above 14
 excess_le : (pages : List (List ℕ)) → excess pages ≤ 14 * node_count pages
@@ -17,7 +17,7 @@ excess_le (w ∷ ws) =
     let one : (if is_node w then length (pairs_of w) - 14 else 0) ≤ 14 * (if is_node w then 1 else 0) = grind (arith, nat_tests, few) in
     omega (arith, one, excess_le ws, sum_by-cons (λ (w : List ℕ). if is_node w then 1 else 0) w ws, sum_by-cons (λ (w : List ℕ). if is_node w then length (pairs_of w) - 14 else 0) w ws)
 
-pub start_keeps : (start : Start) → IsTree start.pages → start.next ≤ length start.pages → Keeps start (first_kept start)
+pub start_keeps : (start : Start) → IsTree start.pages → start.next ≤ length start.pages → KeepsTree start (first_kept start)
 start_keeps start tree bounded = record {
   same_count = refl;
   tree = tree;

@@ -7,7 +7,7 @@ use Rattle.vm_tree_model.proofs.Height.{height_fits}
 use Rattle.vm_tree_model.proofs.Laws.{in_range}
 use Rattle.vm_owner.specs.Kept.{Start, Kept}
 use Rattle.vm_map.specs.declared.call.Said.{Said}
-use Rattle.vm_tree_laws.specs.Keeps.{Keeps}
+use Rattle.vm_tree_laws.specs.Keeps.{KeepsTree}
 use Rattle.vm_tree_laws.specs.Tied.{IsNodeAs, IsSound, IsTied, Tied}
 
 module _ (pages : List (List ℕ)) (tree : IsTree pages) where
@@ -42,5 +42,5 @@ module _ (pages : List (List ℕ)) (tree : IsTree pages) where
     };
   }
 
-pub ties_hold : (start : Start) (kept : Kept Said) (r p : ℕ) → Keeps start kept → r < length kept.pages → Tied start r (page_at kept.pages r) p (page_at kept.pages p)
+pub ties_hold : (start : Start) (kept : Kept Said) (r p : ℕ) → KeepsTree start kept → r < length kept.pages → Tied start r (page_at kept.pages r) p (page_at kept.pages p)
 ties_hold start kept r p keeps lt = subst (λ n. IsTied n r (page_at kept.pages r) p (page_at kept.pages p)) keeps.same_count (tied_at kept.pages keeps.tree r p lt)

@@ -17,7 +17,7 @@ pub record AreOwed (start : Start) (kept : Kept Said) : Type 0 where
   pub free : (p : ℕ) → has p kept.owed ≡ true → IsFree (page_at kept.pages p)
 
 -- The pages are a tree, its map is the start's map after the history, and what was claimed and put since the start is accounted for
-pub record Keeps (start : Start) (kept : Kept Said) : Type 0 where
+pub record KeepsTree (start : Start) (kept : Kept Said) : Type 0 where
   pub same_count : length kept.pages ≡ length start.pages
   pub tree : IsTree kept.pages
   pub parted : IsParted kept.pages

@@ -27,5 +27,6 @@ pub record IsTied (pages r : ℕ) (words : List ℕ) (p : ℕ) (named : List ℕ
   pub child : 1 ≤ r → (node_of words).tag ≡ 3 → (k level : ℕ) → lookup_at (node_of words).pairs k ≡ Some p → level + 1 ≡ (node_of words).level
       → IsNodeAs named level k (next_key (node_of words).pairs (node_of words).high k)
 
+-- what an owner's tie says of the tree, of as many pages as at the start
 abbrev pub Tied : Start → ℕ → List ℕ → ℕ → List ℕ → Type 0
 Tied start = IsTied (length start.pages)

@@ -3,12 +3,12 @@
 ghost use Rattle.std.specs.Prelude.{◌≡◌, ℕ, ◌+◌, ◌*◌, ◌<◌, ◌≤◌, List, [], length};
 ghost use Rattle.vm_map.specs.declared.call.Said.{Said};
 ghost use Rattle.vm_owner.specs.declared.Entry.{Entry};
-ghost use Rattle.vm_owner.specs.Kept.{Start, Kept, Change, Fits, IsTurn, released, told, claimed, AreZero, first_kept};
+ghost use Rattle.vm_owner.specs.Kept.{Start, Kept, Change, Fits, IsTurn, after_release, told, claimed, AreZero, first_kept};
 ghost use Rattle.vm_page.specs.Pages.{page_at};
 ghost use Rattle.vm_tree_model.specs.Tree.{IsTree};
 ghost use Rattle.vm_tree_model.specs.Count.{node_count};
 ghost use Rattle.vm_tree_laws.specs.History.{news};
-ghost use Rattle.vm_tree_laws.specs.Keeps.{Keeps};
+ghost use Rattle.vm_tree_laws.specs.Keeps.{KeepsTree};
 ghost use Rattle.vm_tree_laws.specs.May.{MayRelease, MayRead};
 ghost use Rattle.vm_tree_laws.specs.Tied.{Tied};
 
@@ -16,39 +16,39 @@ ghost use Rattle.vm_tree_laws.specs.Tied.{Tied};
 /// history is empty.
 #[tactic(auto, using(crate::proofs::Starts::start_keeps))]
 pub fn start_keeps()
-    ensures { (start : Start) → IsTree start.pages → start.next ≤ length start.pages → Keeps start (first_kept start) }
+    ensures { (start : Start) → IsTree start.pages → start.next ≤ length start.pages → KeepsTree start (first_kept start) }
 {}
 
 /// What may be released keeps the relation: a leaf after a put or a del with its entry, the three pages of a split below the root, the
 /// four pages of a split of the root.
 pub fn releases_keep()
     ensures { (start : Start) (kept : Kept Said) (due : List ℕ) (changes : List Change) (entries : List (Entry Said))
-        → Keeps start kept → Fits kept due changes → IsTurn kept.history entries → MayRelease start due changes entries
-        → Keeps start (released changes entries kept) }
+        → KeepsTree start kept → Fits kept due changes → IsTurn kept.history entries → MayRelease start due changes entries
+        → KeepsTree start (after_release changes entries kept) }
 {}
 
 /// The entry that a validated leaf proves keeps the relation: a get, a window, a del of a key that is not there.
 pub fn reads_keep()
     ensures { (start : Start) (kept : Kept Said) (page : ℕ) (entries : List (Entry Said))
-        → Keeps start kept → IsTurn kept.history entries → MayRead start page (page_at kept.pages page) entries
-        → Keeps start (told entries kept) }
+        → KeepsTree start kept → IsTurn kept.history entries → MayRead start page (page_at kept.pages page) entries
+        → KeepsTree start (told entries kept) }
 {}
 
 /// A claim of pages of zeros keeps the relation, and the pages claimed are owed.
 pub fn claims_keep()
-    ensures { (start : Start) (kept : Kept Said) (n : ℕ) → Keeps start kept → AreZero kept n → Keeps start (claimed n kept) }
+    ensures { (start : Start) (kept : Kept Said) (n : ℕ) → KeepsTree start kept → AreZero kept n → KeepsTree start (claimed n kept) }
 {}
 
 /// Any two pages are tied, and each page is tied with itself.
 pub fn pages_are_tied()
-    ensures pages { (start : Start) (kept : Kept Said) (r p : ℕ) → Keeps start kept → r < length kept.pages → Tied start r (page_at kept.pages r) p (page_at kept.pages p) }
-    ensures itself { (start : Start) (kept : Kept Said) (p : ℕ) → Keeps start kept → p < length kept.pages → Tied start p (page_at kept.pages p) p (page_at kept.pages p) }
+    ensures pages { (start : Start) (kept : Kept Said) (r p : ℕ) → KeepsTree start kept → r < length kept.pages → Tied start r (page_at kept.pages r) p (page_at kept.pages p) }
+    ensures itself { (start : Start) (kept : Kept Said) (p : ℕ) → KeepsTree start kept → p < length kept.pages → Tied start p (page_at kept.pages p) p (page_at kept.pages p) }
 {}
 
 /// Where no page is owed and at most one was never claimed, the puts of new keys account for the pages. With P pages, of which X were
 /// used at the start by N nodes, and with G such puts, 13 * (P - 1 - X) is at most 28 * N + 2 * G.
 #[tactic(auto, using(crate::proofs::Fullness::room_used))]
 pub fn full_has_a_cause()
-    ensures { (start : Start) (kept : Kept Said) → Keeps start kept → kept.owed ≡ [] → length start.pages ≤ kept.next + 1
+    ensures { (start : Start) (kept : Kept Said) → KeepsTree start kept → kept.owed ≡ [] → length start.pages ≤ kept.next + 1
         → 13 * length start.pages ≤ 28 * node_count start.pages + 2 * news kept.history + 13 * (start.next + 1) }
 {}

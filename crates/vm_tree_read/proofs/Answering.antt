@@ -2,11 +2,11 @@
 use Rattle.std.proofs.Common.{ℕ, ◌≡◌, ◌+◌, ◌⊎◌, true, List, [], ◌∷◌, ◌++◌, Some, length, refl, sym, ap, subst, ◌∙◌, inl, inr, arith, slice_index, append_assoc, ⊎_elim}
 use Rattle.vm_core.specs.Inv.{LoadsAre}
 use Rattle.vm_core.specs.Words.{version_of}
-use Rattle.vm_rule.specs.Locks.{Validates}
+use Rattle.vm_rule.specs.Locks.{LockValidates}
 use Rattle.vm_map.specs.Map.{Rises}
 use Rattle.vm_map.specs.declared.call.Said.{Said}
 use Rattle.vm_owner.specs.declared.Entry.{Entry}
-use Rattle.vm_owner.specs.Kept.{calls_of}
+use Rattle.vm_owner.specs.Kept.{entries_under}
 use Rattle.vm_rule.specs.declared.view.Origin.{Origin}
 use Rattle.vm_rule.specs.declared.view.View.{View}
 use Rattle.vm_rule.specs.Views.{loads_at}
@@ -22,7 +22,7 @@ use Rattle.vm_page.specs.Pages.{page_at}
 use Rattle.vm_tree_model.specs.Page.{node_of, pairs_of}
 use Rattle.vm_tree_model.specs.Tree.{map_of}
 use Rattle.vm_tree_laws.specs.History.{IsLegal}
-use Rattle.vm_tree_laws.specs.Keeps.{Keeps}
+use Rattle.vm_tree_laws.specs.Keeps.{KeepsTree}
 use Rattle.vm_tree_laws.specs.May.{IsProved, MayRead}
 use Rattle.vm_tree_laws.specs.Tied.{Tied}
 use Rattle.vm_tree_laws.specs.Descent.{IsReached}
@@ -48,7 +48,7 @@ may-tell p v said before page long loads proves =
     inr (λ tells o reads words size are itself named. subst (λ (l : List ℕ). ((node_of l).tag ≡ 2) × ((low high : ℕ) → Rises low high (pairs_of l) → IsProved l said.call said.reply)) (sym (words-are p v before page words long loads size are)) (proves.leaf, proves.reply))
 
 pub answered : (p word frame : ℕ) (said : Said) (before : List (ℕ × ℕ)) (page : List ℕ) (v w : View Said) → IsReading p word frame v → length page ≡ 64 → loads_at v p ≡ before ++ placed 0 page → ProvesReply page said
-    → IsValid Tied p word frame (Some said) v w → (v.start.tells ≡ true → IsKeptNow Keeps p (Unit {0}) w) → IsAnswered said v w
+    → IsValid Tied p word frame (Some said) v w → (v.start.tells ≡ true → IsKeptNow KeepsTree p (Unit {0}) w) → IsAnswered said v w
 answered p word frame said before page v w r long loads proves k told = record {
   reads = valid-only Tied p word frame (Some said) v w k;
   mine = k.mine;
@@ -58,22 +58,22 @@ answered p word frame said before page v w r long loads proves k told = record {
   read = (before, (k.same_reads p).loads ∙ loads);
   proves = proves;
   proved = λ tells.
-      let kept : IsKeptNow Keeps p (Unit {0}) w = told tells in
+      let kept : IsKeptNow KeepsTree p (Unit {0}) w = told tells in
       let last : (last_of w p).words ≡ page = words-are p v before page (last_of w p).words long loads k.size ((k.validates tells).valid _ r.reading refl) in
       let here : page_at kept.kept.pages p ≡ page = kept.page tt ∙ last in
       let leaf = kept.holds.tree.tree.leaf p (subst (λ (l : List ℕ). (node_of l).tag ≡ 2) (sym here) proves.leaf) in
       proves.reply _ _ (subst (λ (l : List ℕ). Rises (node_of l).low (node_of l).high (pairs_of l)) here leaf.rises);
   told = λ tells.
-      let kept : IsKeptNow Keeps p (Unit {0}) w = told tells in
+      let kept : IsKeptNow KeepsTree p (Unit {0}) w = told tells in
       let last : (last_of w p).words ≡ page = words-are p v before page (last_of w p).words long loads k.size ((k.validates tells).valid _ r.reading refl) in
       let start : w.start ≡ v.start = k.steady.start in
-      let keeps : Keeps (began_of v.start) kept.kept = subst (λ (o : Origin). Keeps (began_of o) kept.kept) start kept.holds in
+      let keeps : KeepsTree (began_of v.start) kept.kept = subst (λ (o : Origin). KeepsTree (began_of o) kept.kept) start kept.holds in
       record { legal = subst (IsLegal (map_of v.start.contents)) kept.history keeps.legal; kept = kept.kept; keeps = keeps; history = kept.history; here = kept.page tt ∙ last; last = last };
 }
 
 -- the entry is the next one of the pass as it was before it read
 same-entry : (v x : View Said) (said : Said) → ReadsOn v x → entry_of x said ≡ entry_of v said
-same-entry v x said reads i = record { number = slice_index (reads.0.parts.0 i) 0; count = calls_of (slice_index (reads.0.parts.0 i) 0) (reads.1 i) + 1; said = said }
+same-entry v x said reads i = record { number = slice_index (reads.0.parts.0 i) 0; count = entries_under (slice_index (reads.0.parts.0 i) 0) (reads.1 i) + 1; said = said }
 
 pub answered-later : (said : Said) (v x w : View Said) → ReadsOn v x → IsAnswered said x w → IsAnswered said v w
 answered-later said v x w reads a = record {
@@ -90,7 +90,7 @@ answered-later said v x w reads a = record {
   proved = λ tells. a.proved (ap (λ (o : Origin). o.tells) reads.0.start ∙ tells);
   told = λ tells.
       let t = a.told (ap (λ (o : Origin). o.tells) reads.0.start ∙ tells) in
-      record { legal = subst (λ (o : Origin). IsLegal (map_of o.contents) w.seen) reads.0.start t.legal; kept = t.kept; keeps = subst (λ (o : Origin). Keeps (began_of o) t.kept) reads.0.start t.keeps; history = t.history; here = t.here; last = t.last };
+      record { legal = subst (λ (o : Origin). IsLegal (map_of o.contents) w.seen) reads.0.start t.legal; kept = t.kept; keeps = subst (λ (o : Origin). KeepsTree (began_of o) t.kept) reads.0.start t.keeps; history = t.history; here = t.here; last = t.last };
 }
 
 -- the leaf was not validated
@@ -98,7 +98,7 @@ pub refused : (p word frame key : ℕ) (saw : Saw) (v x w : View Said) → IsOpe
 refused p word frame key saw v x w o d = let turn = refused-turn p word frame key saw v x x w o (reads-self x) (leaves-self p x) d in (turn.0, inl turn.1)
 
 -- the words of a page that was reached at level 0 are a leaf's
-pub leaf-here : (p word key : ℕ) (v : View Said) (before : List (ℕ × ℕ)) (page words : List ℕ) → Awaits v p word 0 key → v.start.tells ≡ true → length page ≡ 64 → loads_at v p ≡ before ++ placed 0 page → length words ≡ 64 → Validates Tied p (version_of word) words v → (frame : ℕ) → IsReading p word frame v
+pub leaf-here : (p word key : ℕ) (v : View Said) (before : List (ℕ × ℕ)) (page words : List ℕ) → Awaits v p word 0 key → v.start.tells ≡ true → length page ≡ 64 → loads_at v p ≡ before ++ placed 0 page → length words ≡ 64 → LockValidates Tied p (version_of word) words v → (frame : ℕ) → IsReading p word frame v
     → ((node_of page).tag ≡ 2) × Covers (node_of page) key
 leaf-here p word key v before page words awaits tells long loads size sees frame r =
     let reached : IsReached (tree_pages v) p words 0 key = awaits tells words sees.holds in

@@ -2,7 +2,7 @@
 use Rattle.std.proofs.Common.{List, [], ◌∷◌, ◌++◌, ◌≡◌, ◌+◌, refl, sym, ap, subst, ◌∙◌, append_assoc, slice_index}
 use Rattle.vm_map.specs.declared.call.Said.{Said}
 use Rattle.vm_owner.specs.declared.Entry.{Entry}
-use Rattle.vm_owner.specs.Kept.{calls_of}
+use Rattle.vm_owner.specs.Kept.{entries_under}
 use Rattle.vm_rule.specs.declared.view.Origin.{Origin}
 use Rattle.vm_rule.specs.Brought.{entry_of}
 use Rattle.vm_tree_model.specs.Tree.{map_of}
@@ -53,7 +53,7 @@ module _ {X : Type 0} where
 
 -- the entry is the next one of the pass as it was before it waited
 same-entry : (v x : View Said) (said : Said) → Waits v x → entry_of x said ≡ entry_of v said
-same-entry v x said k i = record { number = slice_index (k.parts.0 i) 0; count = calls_of (slice_index (k.parts.0 i) 0) (k.mine i) + 1; said = said }
+same-entry v x said k i = record { number = slice_index (k.parts.0 i) 0; count = entries_under (slice_index (k.parts.0 i) 0) (k.mine i) + 1; said = said }
 
 pub replied : (said : Said) (v x w : View Said) → Waits v x → IsAnswered said x w → IsReplied said v w
 replied said v x w k a = record {

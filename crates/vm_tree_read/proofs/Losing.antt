@@ -11,7 +11,7 @@ use Rattle.vm_evict.specs.declared.report.Report.{Report}
 use Rattle.vm_evict.specs.Evictions.{FramesCome}
 use Rattle.vm_exmap.specs.declared.interface.Alloc.TheVariants as allocs
 use Rattle.vm_exmap.specs.Returns.{IsFreed}
-use Rattle.vm_exmap.specs.Walks.{IsAlloc, IsRefused}
+use Rattle.vm_exmap.specs.Walks.{IsAlloc, TakesNone}
 use Rattle.vm_pool.specs.Sweeps.{IsSwept}
 use Rattle.vm_pool.specs.Brings.{Fetches, Fetches as fetched, Gets, Gets as gets, GetsNone, GetsNone as none, IsBring, IsBring as is_bring}
 use Rattle.vm_pool.specs.declared.bring.Bring.{Bring}
@@ -66,7 +66,7 @@ module _ {X : Type 0} where
       inr (had, has-none f l old out.0 (ap (has f) t.none)))
       (cases_Bool (has f ((l ++ batch) ++ new)))
 
-  pub refused-alone : (old new : List ℕ) (done : List Did) (v w : View X) → IsRefused done old new v w → LosesNone old v new w
+  pub refused-alone : (old new : List ℕ) (done : List Did) (v w : View X) → TakesNone done old new v w → LosesNone old v new w
   refused-alone old new done v w r = loses-same old new v w r.frames (λ f e. absurd (true≢false (sym e ∙ ap (has f) r.none)))
 
   pub freed-loses : (cap : ℕ) (old frames new : List ℕ) (v w : View X) → IsFreed cap old frames new v w → LosesNone (old ++ frames) v new w

@@ -15,7 +15,7 @@ use Rattle.vm_tree_model.specs.Node.{Covers}
 use Rattle.vm_tree_model.specs.Page.{node_of, pairs_of}
 use Rattle.vm_tree_model.specs.Tree.{map_of}
 use Rattle.vm_tree_laws.specs.History.{IsLegal}
-use Rattle.vm_tree_laws.specs.Keeps.{Keeps}
+use Rattle.vm_tree_laws.specs.Keeps.{KeepsTree}
 use Rattle.vm_tree_laws.specs.May.{IsProved}
 use Rattle.vm_tree_rule.specs.Leaves.{OnlyReads, ReadsOn}
 use Rattle.vm_tree_rule.specs.Seeks.{HasRead}
@@ -42,7 +42,7 @@ pub record ProvesReply (words : List ℕ) (said : Said) : Type 0 where
 pub record IsBorneOut (page : ℕ) (words : List ℕ) (v w : View Said) : Type 0 where
   pub legal : IsLegal (map_of v.start.contents) w.seen
   pub kept : Kept Said
-  pub keeps : Keeps (began_of v.start) kept
+  pub keeps : KeepsTree (began_of v.start) kept
   pub history : kept.history ≡ w.seen
   pub here : page_at kept.pages page ≡ words
   pub last : (last_of w page).words ≡ words
@@ -67,6 +67,7 @@ IsTried call key (tries.Done reply) v w = IsAnswered (record { call = call; repl
 IsTried call key (tries.Again saw) v w = ReadsOn v w × (IsAgain v saw w ⊎ IsAstray v key saw w)
 IsTried call key (tries.Need p) v w = ReadsOn v w × IsNeeded v key p w
 
+-- it was answered
 abbrev pub IsDone : TryRead → Type 0
 IsDone (tries.Done reply) = Unit {0}
 IsDone (tries.Again saw) = ⊥

@@ -36,9 +36,9 @@ module _ {X : Type 0} where
   LosesNone old v new w = (f : ℕ) → has f w.frames ≡ true → (has f new ≡ true) ⊎ ((has f v.frames ≡ true) × (has f old ≡ false))
 
   -- page p was to be brought, and a device failed, or a page was at the last version
-  pub data IsFaultOf (p : ℕ) (fault : TreeFault) (v w : View X) : Type 0 where
-    device : (home cap before after q count : ℕ) (old new : List ℕ) → IsBring home cap p old new before after v w (brings.Device q count) → fault ≡ faults.Device q count → IsFaultOf p fault v w
-    worn : (home cap before after q : ℕ) (old new : List ℕ) → IsBring home cap p old new before after v w (brings.Worn q) → fault ≡ faults.Worn q → IsFaultOf p fault v w
+  pub data IsBringFault (p : ℕ) (fault : TreeFault) (v w : View X) : Type 0 where
+    device : (home cap before after q count : ℕ) (old new : List ℕ) → IsBring home cap p old new before after v w (brings.Device q count) → fault ≡ faults.Device q count → IsBringFault p fault v w
+    worn : (home cap before after q : ℕ) (old new : List ℕ) → IsBring home cap p old new before after v w (brings.Worn q) → fault ≡ faults.Worn q → IsBringFault p fault v w
 
 -- the last try was answered; those before it, and the pages brought, made no entry. So the entry is the pass's next one, and stands behind all
 -- that the pass had seen; the pass holds what it held
@@ -63,5 +63,5 @@ pub record IsFaulted (key : ℕ) (fault : TreeFault) (v w : View Said) : Type 0 
   pub page : ℕ
   pub reads : ReadsOn tried found
   pub needed : IsNeeded tried key page found
-  pub fault_is : IsFaultOf page fault found w
+  pub fault_is : IsBringFault page fault found w
   pub leaves : Waits v w

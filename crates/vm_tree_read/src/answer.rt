@@ -12,7 +12,7 @@ ghost use Rattle.vm_tree_read.specs.Reads.{IsAnswered, ProvesReply};
 ghost use Rattle.vm_tree_rule.specs.Leaves.{ReadsOn};
 ghost use Rattle.vm_tree_rule.specs.Resident.{IsKnownNow, KnowsResident};
 ghost use Rattle.vm_tree_rule.specs.Standing.{Awaits, IsOpened};
-ghost use Rattle.vm_tree_rule.specs.Turns.{IsTurn};
+ghost use Rattle.vm_tree_rule.specs.Turns.{IsTurnedBack};
 
 use vm_block::Block;
 use vm_guard::{Deny, OptGuard};
@@ -41,7 +41,7 @@ pub fn leaf_of<B: Block>(
     ensures loads { IfOk result (λ guard. (before : _) × (loads_at (view pass.new) guard.pid ≡ before ++ placed 0 page.new)) }
     ensures leaf { IfOk result (λ _. ((node_of page.new).tag ≡ 2) × Covers (node_of page.new) key) }
     ensures awaits { IfOk result (λ guard. Awaits (view pass.new) guard.pid guard.word 0 key) }
-    ensures err { IfErr result (λ turn. IsTurn (view pass.old) key turn (view pass.new)) }
+    ensures err { IfErr result (λ turn. IsTurnedBack (view pass.old) key turn (view pass.new)) }
     ensures sure { B.tells ≡ true → KnowsResident (view pass.old) → IsOk result }
     ensures known { B.tells ≡ true → KnowsResident (view pass.old) → IfOk result (λ guard. IsKnownNow guard.pid guard.word (view pass.new)) }
 {

@@ -5,7 +5,7 @@ ghost use Rattle.vm_step.specs.Passes.{IsSamePass, MayStep, view};
 ghost use Rattle.vm_step.specs.Ready.{IsReady};
 ghost use Rattle.vm_tree_read.specs.Reads.{IsDone, IsTried};
 ghost use Rattle.vm_tree_rule.specs.Resident.{KnowsResident};
-ghost use Rattle.vm_tree_rule.specs.Turns.{IsTurn};
+ghost use Rattle.vm_tree_rule.specs.Turns.{IsTurnedBack};
 
 use crate::answer::{answer, leaf_of};
 use vm_block::Block;
@@ -30,7 +30,7 @@ pub enum TryRead {
 
 /// Why there is no answer yet.
 fn not_yet(turn: Turn) -> TryRead
-    ensures tried { (call : _) (key : _) (v w : _) → IsTurn v key turn w → IsTried call key result v w }
+    ensures tried { (call : _) (key : _) (v w : _) → IsTurnedBack v key turn w → IsTried call key result v w }
 {
     match turn {
         Turn::Again(saw) => TryRead::Again(saw),

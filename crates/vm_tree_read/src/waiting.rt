@@ -4,7 +4,7 @@ ghost use Rattle.vm_step.specs.HeldFrames.{AreHeld};
 ghost use Rattle.vm_map.specs.declared.call.Call.TheVariants.{Get, Window as ForWindow};
 ghost use Rattle.vm_step.specs.Passes.{IsSamePass, view};
 ghost use Rattle.vm_step.specs.Ready.{IsReady};
-ghost use Rattle.vm_tree_read.specs.Waiting.{IsFaultOf, IsFaulted, IsReplied, LosesNone, Waits};
+ghost use Rattle.vm_tree_read.specs.Waiting.{IsBringFault, IsFaulted, IsReplied, LosesNone, Waits};
 
 use crate::read::{TryRead, try_get, try_window};
 use crossbeam_utils::Backoff;
@@ -34,7 +34,7 @@ pub fn fetch<B: Block>(
     ensures iface { (iface.new.home ≡ iface.old.home) × (iface.new.cap ≡ iface.old.cap) }
     ensures lost { LosesNone iface.old.frames (view pass.old) iface.new.frames (view pass.new) }
     ensures waits { Waits (view pass.old) (view pass.new) }
-    ensures err { IfErr result (λ fault. IsFaultOf pid fault (view pass.old) (view pass.new)) }
+    ensures err { IfErr result (λ fault. IsBringFault pid fault (view pass.old) (view pass.new)) }
 {
     match pool.bring(pass, iface, pid) {
         Bring::Brought => Ok(()),

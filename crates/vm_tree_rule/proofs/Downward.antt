@@ -15,10 +15,10 @@ use Rattle.vm_inner.specs.Found.{FindsChild, FindsNoChild}
 use Rattle.vm_tree_laws.specs.Tied.{Tied, IsTied}
 use Rattle.vm_tree_laws.specs.Descent.{IsReached}
 use Rattle.vm_tree_laws.proofs.Descents.{reached_root, kind_by_level, child_there, reached_child}
-use Rattle.vm_guard.specs.Guards.{Begins, Loads, placed}
+use Rattle.vm_guard.specs.Guards.{BeginsReading, Loads, placed}
 use Rattle.vm_guard.proofs.Starting.{each-at}
 use Rattle.vm_tree_rule.specs.Leaves.{OnlyReads}
-use Rattle.vm_tree_rule.specs.Standing.{Awaits, HasStepped, IsOpened, Names, NamesPage, Sees, tree_pages}
+use Rattle.vm_tree_rule.specs.Standing.{Awaits, HasSteppedDown, IsOpened, NamesForKey, NamesPage, Sees, tree_pages}
 use Rattle.vm_tree_rule.specs.Turns.{LoadsName}
 use Rattle.vm_tree_rule.proofs.Readings.{each-behind, leaves-then, loads-behind, loads-leave, loads-reads, placed-are, reads-self, reads-then}
 
@@ -72,7 +72,7 @@ module _ {X : Type 0} where
           node = λ child tied. (reached_child (tree_pages y) p words (suc level) key reached named child inner names tied level (omega arith)).kind;
         }
 
-    pub child-named : (named : ℕ) → FindsChild page key named → y.start.tells ≡ true → (words : List ℕ) → length words ≡ 64 → Sees y p word words → Names p words key named
+    pub child-named : (named : ℕ) → FindsChild page key named → y.start.tells ≡ true → (words : List ℕ) → length words ≡ 64 → Sees y p word words → NamesForKey p words key named
     child-named named is tells words size sees =
         let reached = here tells words sees in
         let inner = inner-here (tree_pages y) p words level key reached in
@@ -89,7 +89,7 @@ module _ {X : Type 0} where
         let there = child_there (tree_pages y) p words (suc level) key reached sees.itself.sound inner in
         let no : Some there.0 ≡ None = sym there.1 ∙ child-none words page key (words-are words size sees) inner none in cc
 
-    pub awaits-child : (named q word' frame' : ℕ) (w : View X) → FindsChild page key named → q ≡ named → HasStepped p word frame q word' frame' y w → Awaits w q word' level key
+    pub awaits-child : (named q word' frame' : ℕ) (w : View X) → FindsChild page key named → q ≡ named → HasSteppedDown p word frame q word' frame' y w → Awaits w q word' level key
     awaits-child named q word' frame' w is same s told words all =
         let tells : y.start.tells ≡ true = ap (λ (o : Origin). o.tells) (sym s.reads.0.start) ∙ told in
         let reached = here tells (last_of w p).words (s.sees tells) in
@@ -101,7 +101,7 @@ module _ {X : Type 0} where
         subst (λ (o : Origin). IsReached (length o.contents) q words level key) (sym s.reads.0.start)
         (reached_child (tree_pages y) p (last_of w p).words (suc level) key reached q words inner names (subst (λ (o : Origin). IsTied (length o.contents) p (last_of w p).words q words) s.reads.0.start tie) level (omega arith))
 
-  module _ (p word frame root level key : ℕ) (v a b y : View X) (zero : p ≡ 0) (begins : Begins 0 word frame v a) (first : Loads p word frame ((1, root) ∷ []) a b) (second : Loads p word frame ((2, level) ∷ []) b y) where
+  module _ (p word frame root level key : ℕ) (v a b y : View X) (zero : p ≡ 0) (begins : BeginsReading 0 word frame v a) (first : Loads p word frame ((1, root) ∷ []) a b) (second : Loads p word frame ((2, level) ∷ []) b y) where
     loads-front : (words : List ℕ) (l m : List (ℕ × ℕ)) → LoadsAre words (l ++ m) → LoadsAre words l
     loads-front words [] m h = tt
     loads-front words (x ∷ l) m h = (h.0, loads-front words l m h.1)
@@ -127,7 +127,7 @@ module _ {X : Type 0} where
       before = v;
       after = a;
       earlier = reads-self v;
-      begins = subst (λ n. Begins n word frame v a) (sym zero) begins;
+      begins = subst (λ n. BeginsReading n word frame v a) (sym zero) begins;
       since = reads-then a b y (loads-reads p word frame ((1, root) ∷ []) a b first) (loads-reads p word frame ((2, level) ∷ []) b y second);
       same = leaves-then p a b y (loads-leave p p word frame ((1, root) ∷ []) a b first) (loads-leave p p word frame ((2, level) ∷ []) b y second);
       reading = second.reads;
@@ -144,10 +144,10 @@ module _ {X : Type 0} where
           node = λ child tied. (tied.root zero is).kind;
         }
 
-    pub root-named : y.start.tells ≡ true → (words : List ℕ) → length words ≡ 64 → Sees y p word words → Names p words key root
+    pub root-named : y.start.tells ≡ true → (words : List ℕ) → length words ≡ 64 → Sees y p word words → NamesForKey p words key root
     root-named tells words size sees = inl (zero, (meta-words words sees).0)
 
-    pub awaits-root : (q word' frame' : ℕ) (w : View X) → q ≡ root → key < 2 ^ 64 → HasStepped p word frame q word' frame' y w → Awaits w q word' level key
+    pub awaits-root : (q word' frame' : ℕ) (w : View X) → q ≡ root → key < 2 ^ 64 → HasSteppedDown p word frame q word' frame' y w → Awaits w q word' level key
     awaits-root q word' frame' w same fits s told words all =
         let is = meta-words (last_of w p).words (s.sees (ap (λ (o : Origin). o.tells) (sym s.reads.0.start) ∙ told)) in
         let tie : Tied (began_of w.start) p (last_of w p).words q words =

@@ -18,17 +18,17 @@ use Rattle.vm_step.specs.Asides.{ReadsAsBefore}
 use Rattle.vm_step.specs.Evidence.{HasGiven, NoWord, NoneExpected}
 use Rattle.vm_step.specs.Keeping.{IsKeptNow}
 use Rattle.vm_tree_laws.specs.Tied.{Tied}
-use Rattle.vm_tree_laws.specs.Keeps.{Keeps}
+use Rattle.vm_tree_laws.specs.Keeps.{KeepsTree}
 use Rattle.vm_guard.specs.declared.deny.Deny.{Deny}
 use Rattle.vm_guard.specs.declared.deny.Deny.TheVariants as denies
 use Rattle.vm_guard.specs.Denied.{AgainOrNeed, IsDenied, KeptWord}
-use Rattle.vm_guard.specs.Guards.{Begins, IsReading, IsValid}
+use Rattle.vm_guard.specs.Guards.{BeginsReading, IsReading, IsValid}
 use Rattle.vm_guard.proofs.Reading.{reading-kept}
 use Rattle.vm_tree_rule.specs.declared.turn.Turn.{Turn}
 use Rattle.vm_tree_rule.specs.declared.turn.Turn.TheVariants as turns
 use Rattle.vm_tree_rule.specs.Leaves.{LeavesWord, ReadsOn}
-use Rattle.vm_tree_rule.specs.Standing.{HasStepped, IsOpened, Names, Sees, tree_pages}
-use Rattle.vm_tree_rule.specs.Turns.{IsAstray, IsNoChild, IsNoTree, IsStopped, IsTurn, IsTurnOf, LoadsName}
+use Rattle.vm_tree_rule.specs.Standing.{HasSteppedDown, IsOpened, NamesForKey, Sees, tree_pages}
+use Rattle.vm_tree_rule.specs.Turns.{IsAstray, IsNoChild, IsNoTree, IsStopped, IsTurnedBack, IsTurnOf, LoadsName}
 use Rattle.vm_tree_rule.specs.Turns.{IsNoTree as no_tree}
 use Rattle.vm_tree_rule.specs.Turns.{IsStopped as stops}
 use Rattle.vm_tree_rule.proofs.Logged.{given-since, read-since, shown-kept, shown-later, shown-start}
@@ -61,7 +61,7 @@ module _ {X : Type 0} where
       (cases_eq q n)
 
 -- the pages of the tree are those of the table
-pub pages-are : (p : ℕ) (free : Type 0) (w : View Said) → IsKeptNow Keeps p free w → tree_pages w ≡ w.start.pages
+pub pages-are : (p : ℕ) (free : Type 0) (w : View Said) → IsKeptNow KeepsTree p free w → tree_pages w ≡ w.start.pages
 pages-are p free w k = sym k.holds.same_count ∙ k.pages
 
 module _ {X : Type 0} (p word frame : ℕ) where
@@ -87,7 +87,7 @@ module _ {X : Type 0} (p word frame : ℕ) where
   pub lost : (named : ℕ) (saw : Saw) (v x w : View X) → ReadsOn v x → LeavesWord p v x → IsDenied AgainOrNeed (KeptWord word) NoneExpected p (denies.Again saw) x w → IsStopped p word frame named (turns.Again saw) v w
   lost named saw v x w reads leaves d = stops.refused saw x refl reads leaves d
 
-  pub stepped : (q started frame' : ℕ) (v x w : View X) → q ≢ p → IsReading p word frame v → Begins q started frame' v x → IsValid Tied p word frame None x w → HasStepped p word frame q started frame' v w
+  pub stepped : (q started frame' : ℕ) (v x w : View X) → q ≢ p → IsReading p word frame v → BeginsReading q started frame' v x → IsValid Tied p word frame None x w → HasSteppedDown p word frame q started frame' v w
   stepped q started frame' v x w ne reading b k =
       let apart : p ≢ q = (λ e. ne (sym e)) in
       let earlier : ReadsOn v x = begins-reads q started frame' v x b in
@@ -123,14 +123,14 @@ module _ {X : Type 0} (p word frame : ℕ) where
   opened-reads v w o = reads-then v o.before w o.earlier (reads-then o.before o.after w (begins-reads p word frame o.before o.after o.begins) o.since)
 
   -- a guard was refused, whose page the call had begun to read
-  pub refused-turn : (key : ℕ) (saw : Saw) (u v x w : View X) → IsOpened u p word frame v → ReadsOn v x → LeavesWord p v x → IsDenied AgainOrNeed (KeptWord word) NoneExpected p (denies.Again saw) x w → IsTurn u key (turns.Again saw) w
+  pub refused-turn : (key : ℕ) (saw : Saw) (u v x w : View X) → IsOpened u p word frame v → ReadsOn v x → LeavesWord p v x → IsDenied AgainOrNeed (KeptWord word) NoneExpected p (denies.Again saw) x w → IsTurnedBack u key (turns.Again saw) w
   refused-turn key saw u v x w o reads leaves d = (
     reads-then u v w (opened-reads u v o) (reads-then v x w reads (denied-reads AgainOrNeed (KeptWord word) NoneExpected p (denies.Again saw) x w d)),
     shown-kept AgainOrNeed NoneExpected p word frame saw u v x w o leaves d,
   )
 
   -- a page was read and validated that is not what it is to be
-  pub astray-turn : (key : ℕ) (u v w : View X) → IsOpened u p word frame v → u.start.tells ≡ false → IsValid Tied p word frame None v w → IsNoTree key p w → IsTurn u key (turns.Astray (record { at = ats.Page p; first = word; seen = word })) w
+  pub astray-turn : (key : ℕ) (u v w : View X) → IsOpened u p word frame v → u.start.tells ≡ false → IsValid Tied p word frame None v w → IsNoTree key p w → IsTurnedBack u key (turns.Astray (record { at = ats.Page p; first = word; seen = word })) w
   astray-turn key u v w o untold k why = (
     reads-then u v w (opened-reads u v o) (valid-reads Tied p word frame v w k),
     record { untold = untold; same = refl; page = p; at = refl; frame = frame; found = v; opened = o; valid = k; why = why },
@@ -142,20 +142,20 @@ module _ {X : Type 0} (p word frame : ℕ) where
   loads-name key named v w same (inr k) = inr (k.0, (k.1.0, same ∙ k.1.1), k.2)
 
   -- where the step ended without its page, so did the descent
-  pub turned : (key named : ℕ) (turn : Turn) (u v w : View X) → IsOpened u p word frame v → (v.start.tells ≡ true → (words : List ℕ) → length words ≡ 64 → Sees v p word words → Names p words key named) → LoadsName v p key named → IsStopped p word frame named turn v w → IsTurn u key turn w
+  pub turned : (key named : ℕ) (turn : Turn) (u v w : View X) → IsOpened u p word frame v → (v.start.tells ≡ true → (words : List ℕ) → length words ≡ 64 → Sees v p word words → NamesForKey p words key named) → LoadsName v p key named → IsStopped p word frame named turn v w → IsTurnedBack u key turn w
   turned key named turn u v w o names loads (stops.denied saw x is d k) =
       let reads : ReadsOn u v = opened-reads u v o in
       let denied : ReadsOn v x = denied-reads AgainOrNeed NoWord NoneExpected named (denies.Again saw) v x d in
       let valid : ReadsOn x w = valid-reads Tied p word frame x w k in
-      subst (λ t. IsTurn u key t w) (sym is)
+      subst (λ t. IsTurnedBack u key t w) (sym is)
       (reads-then u v w reads (reads-then v x w denied valid), shown-later NoneExpected saw k.done u x w k.steady.log (shown-start AgainOrNeed NoneExpected named saw reads.0.done u v x reads.0.log d))
-  turned key named turn u v w o names loads (stops.refused saw x is reads leaves d) = subst (λ t. IsTurn u key t w) (sym is) (refused-turn key saw u v x w o reads leaves d)
+  turned key named turn u v w o names loads (stops.refused saw x is reads leaves d) = subst (λ t. IsTurnedBack u key t w) (sym is) (refused-turn key saw u v x w o reads leaves d)
   turned key named turn u v w o names loads (stops.missing x is d k sees inside ne) =
       let reads : ReadsOn u v = opened-reads u v o in
       let denied : ReadsOn v x = denied-reads AgainOrNeed NoWord NoneExpected named (denies.Need named) v x d in
       let valid : ReadsOn x w = valid-reads Tied p word frame x w k in
       let before : ReadsOn u x = reads-then u v x reads denied in
-      subst (λ t. IsTurn u key t w) (sym is) (
+      subst (λ t. IsTurnedBack u key t w) (sym is) (
         reads-then u x w before valid,
         record {
           done = (reads.0.done ++ d.done) ++ k.done;
@@ -176,21 +176,21 @@ module _ {X : Type 0} (p word frame : ℕ) where
       )
   turned key named turn u v w o names loads (stops.astray is untold k none) =
       let reads : ReadsOn u v = opened-reads u v o in
-      subst (λ t. IsTurn u key t w) (sym is)
+      subst (λ t. IsTurnedBack u key t w) (sym is)
       (astray-turn key u v w o (ap (λ (y : Origin). y.tells) (sym reads.0.start) ∙ untold) k
       (no_tree.nowhere named (loads-name key named v w (k.same_reads p).loads loads) (subst (λ (y : Origin). IsNoChild y.pages p named) (sym k.steady.start) none)))
 
 module _ {X : Type 0} where
   -- page 0 was found evicted as the call began
-  first-needed : (key q : ℕ) (v w : View X) → 0 < v.start.pages → IsDenied AgainOrNeed NoWord NoneExpected 0 (denies.Need q) v w → IsTurn v key (turns.Need 0) w
+  first-needed : (key q : ℕ) (v w : View X) → 0 < v.start.pages → IsDenied AgainOrNeed NoWord NoneExpected 0 (denies.Need q) v w → IsTurnedBack v key (turns.Need 0) w
   first-needed key q v w inside d = (denied-reads AgainOrNeed NoWord NoneExpected 0 (denies.Need q) v w d, record { done = d.done; log = d.quiet.steady.log; needs = d.evidence.1; inside = inside; named = inl refl })
 
   -- so it could not be read
-  pub first-ended : (key : ℕ) (deny : Deny) (turn : Turn) (v w : View X) → IsTurnOf deny turn → 0 < v.start.pages → IsDenied AgainOrNeed NoWord NoneExpected 0 deny v w → IsTurn v key turn w
+  pub first-ended : (key : ℕ) (deny : Deny) (turn : Turn) (v w : View X) → IsTurnOf deny turn → 0 < v.start.pages → IsDenied AgainOrNeed NoWord NoneExpected 0 deny v w → IsTurnedBack v key turn w
   first-ended key (denies.Again saw) turn v w is inside d =
       let self = reads-self v in
-      subst (λ (t : Turn). IsTurn v key t w) (sym is) (denied-reads AgainOrNeed NoWord NoneExpected 0 (denies.Again saw) v w d, shown-start AgainOrNeed NoneExpected 0 saw self.0.done v v w self.0.log d)
-  first-ended key (denies.Need q) turn v w is inside d = subst (λ (t : Turn). IsTurn v key t w) (sym (is ∙ ap turns.Need d.evidence.0)) (first-needed key q v w inside d)
+      subst (λ (t : Turn). IsTurnedBack v key t w) (sym is) (denied-reads AgainOrNeed NoWord NoneExpected 0 (denies.Again saw) v w d, shown-start AgainOrNeed NoneExpected 0 saw self.0.done v v w self.0.log d)
+  first-ended key (denies.Need q) turn v w is inside d = subst (λ (t : Turn). IsTurnedBack v key t w) (sym (is ∙ ap turns.Need d.evidence.0)) (first-needed key q v w inside d)
   first-ended key (denies.Crowded q) turn v w is inside d = absurd is
   first-ended key (denies.Worn q) turn v w is inside d = absurd is
 

@@ -15,10 +15,10 @@ use Rattle.vm_tree_laws.specs.Tied.{Tied, IsTied}
 use Rattle.vm_tree_laws.specs.Descent.{IsReached}
 use Rattle.vm_tree_laws.proofs.Descents.{child_there, reached_child}
 use Rattle.vm_guard.specs.declared.opt.OptGuard.{OptGuard}
-use Rattle.vm_guard.specs.Guards.{Begins, IsReading, IsValid, Loads, placed}
+use Rattle.vm_guard.specs.Guards.{BeginsReading, IsReading, IsValid, Loads, placed}
 use Rattle.vm_guard.proofs.Starting.{each-at}
-use Rattle.vm_tree_rule.specs.Seeks.{ArePassed, HasRead, IsMetaRead, IsNamedRoot, IsPassed, LeadsTo}
-use Rattle.vm_tree_rule.specs.Standing.{Awaits, HasStepped, IsOpened, Names, NamesPage, Sees, StaysOpen, tree_pages}
+use Rattle.vm_tree_rule.specs.Seeks.{ArePassed, HasRead, IsMetaRead, IsNamedRoot, IsPassedBy, LeadsTo}
+use Rattle.vm_tree_rule.specs.Standing.{Awaits, HasSteppedDown, IsOpened, NamesForKey, NamesPage, Sees, StaysOpen, tree_pages}
 use Rattle.vm_tree_rule.proofs.Downward.{child-is, child-none, inner-here, itself-not, same-some}
 use Rattle.vm_tree_rule.proofs.Entering.{opened-reads}
 use Rattle.vm_tree_rule.specs.Leaves.{ReadsOn}
@@ -49,7 +49,7 @@ module _ {X : Type 0} where
             node = λ child tied. (reached_child (tree_pages y) p words (suc level) key reached named child inner names tied level (omega arith)).kind;
           }
 
-      pub goes-to : (named : ℕ) → FindsChild page key named → y.start.tells ≡ true → (words : List ℕ) → length words ≡ 64 → Sees y p word words → Names p words key named
+      pub goes-to : (named : ℕ) → FindsChild page key named → y.start.tells ≡ true → (words : List ℕ) → length words ≡ 64 → Sees y p word words → NamesForKey p words key named
       goes-to named is tells words size sees =
           let reached = awaits tells words sees.holds in
           let inner = inner-here (tree_pages y) p words level key reached in
@@ -62,7 +62,7 @@ module _ {X : Type 0} where
           let there = child_there (tree_pages y) p words (suc level) key reached sees.itself.sound inner in
           let no : Some there.0 ≡ None = sym there.1 ∙ child-none words page key (read-are words size sees) inner none in cc
 
-      pub awaits-next : (named q word' frame' : ℕ) (w : View X) → FindsChild page key named → q ≡ named → HasStepped p word frame q word' frame' y w → Awaits w q word' level key
+      pub awaits-next : (named q word' frame' : ℕ) (w : View X) → FindsChild page key named → q ≡ named → HasSteppedDown p word frame q word' frame' y w → Awaits w q word' level key
       awaits-next named q word' frame' w is same s told words all =
           let tells : y.start.tells ≡ true = ap (λ (o : Origin). o.tells) (sym s.reads.0.start) ∙ told in
           let reached = awaits tells (last_of w p).words (s.sees tells).holds in
@@ -75,7 +75,7 @@ module _ {X : Type 0} where
           (reached_child (tree_pages y) p (last_of w p).words (suc level) key reached q words inner names (subst (λ (o : Origin). IsTied (length o.contents) p (last_of w p).words q words) s.reads.0.start tie) level (omega arith))
 
       -- the page that was found and entered is the key's child
-      pub leads : (named q word' frame' : ℕ) (w : View X) → FindsChild page key named → q ≡ named → HasStepped p word frame q word' frame' y w → LeadsTo y page key q
+      pub leads : (named q word' frame' : ℕ) (w : View X) → FindsChild page key named → q ≡ named → HasSteppedDown p word frame q word' frame' y w → LeadsTo y page key q
       leads named q word' frame' w is same s = record {
         found = subst (FindsChild page key) (sym same) is;
         told = λ tells.
@@ -86,7 +86,7 @@ module _ {X : Type 0} where
       }
 
     -- the node was validated with these words as the next one was entered
-    pub passes : (q word' frame' : ℕ) (u w : View X) → IsOpened u p word frame y → length (pairs_of page) < 28 → LeadsTo y page key q → HasStepped p word frame q word' frame' y w → IsPassed u key p page q w
+    pub passes : (q word' frame' : ℕ) (u w : View X) → IsOpened u p word frame y → length (pairs_of page) < 28 → LeadsTo y page key q → HasSteppedDown p word frame q word' frame' y w → IsPassedBy u key p page q w
     passes q word' frame' u w o room names s = record {
       word = word;
       frame = frame;
@@ -103,7 +103,7 @@ module _ {X : Type 0} where
 
   -- the root was named by page 0, which was validated then
   pub root-passes : (meta : OptGuard) (root level q word' frame' : ℕ) (u y w : View X) → meta.pid ≡ 0 → IsOpened u meta.pid meta.word meta.frame y → (before : List (ℕ × ℕ)) × (loads_at y meta.pid ≡ before ++ (1, root) ∷ (2, level) ∷ []) → q ≡ root
-      → HasStepped meta.pid meta.word meta.frame q word' frame' y w → (y.start.tells ≡ true → slice_index (last_of w meta.pid).words 1 ≡ root) → IsNamedRoot u q w
+      → HasSteppedDown meta.pid meta.word meta.frame q word' frame' y w → (y.start.tells ≡ true → slice_index (last_of w meta.pid).words 1 ≡ root) → IsNamedRoot u q w
   root-passes meta root level q word' frame' u y w zero o loads same s told = record {
     meta = meta;
     level = level;
@@ -126,7 +126,7 @@ module _ {X : Type 0} where
   )
 
   -- the parent stays open
-  pub stays : (p word frame q started frame' : ℕ) (v x w : View X) → q ≢ p → Begins q started frame' v x → IsValid Tied p word frame None x w → StaysOpen p word frame q v w
+  pub stays : (p word frame q started frame' : ℕ) (v x w : View X) → q ≢ p → BeginsReading q started frame' v x → IsValid Tied p word frame None x w → StaysOpen p word frame q v w
   stays p word frame q started frame' v x w ne b k = record {
     apart = ne;
     reading = k.reads;

@@ -11,7 +11,7 @@ use Rattle.vm_rule.specs.declared.view.Origin.{Origin}
 use Rattle.vm_rule.specs.declared.view.View.{View}
 use Rattle.vm_rule.specs.Views.{Each}
 use Rattle.vm_rule.specs.Rule.{began_of}
-use Rattle.vm_rule.specs.Locks.{Validates}
+use Rattle.vm_rule.specs.Locks.{LockValidates}
 use Rattle.vm_rule.proofs.Entries.{append-none}
 use Rattle.vm_rule.proofs.Heard.{each-both}
 use Rattle.vm_step.specs.Asides.{ReadsAsBefore}
@@ -19,7 +19,7 @@ use Rattle.vm_step.proofs.Asides.{starts-then, alone-self, alone-then, holds-the
 use Rattle.vm_guard.specs.Quiet.{IsQuiet}
 use Rattle.vm_guard.specs.declared.deny.Deny.{Deny}
 use Rattle.vm_guard.specs.Denied.{IsDenied}
-use Rattle.vm_guard.specs.Guards.{Begins, IsReading, IsValid, Loads, placed}
+use Rattle.vm_guard.specs.Guards.{BeginsReading, IsReading, IsValid, Loads, placed}
 use Rattle.vm_guard.proofs.Reading.{reading-kept}
 use Rattle.vm_tree_rule.specs.Leaves.{LeavesWord, OnlyClears, OnlyReads, ReadsOn}
 use Rattle.vm_tree_rule.specs.Standing.{IsOpened}
@@ -124,7 +124,7 @@ module _ {X : Type 0} where
     q.mine,
   )
 
-  pub begins-reads : (p word frame : ℕ) (v w : View X) → Begins p word frame v w → ReadsOn v w
+  pub begins-reads : (p word frame : ℕ) (v w : View X) → BeginsReading p word frame v w → ReadsOn v w
   begins-reads p word frame v w b = quiet-reads p b.done v w b.quiet (unmarks-clear p b.done (start-unmarks p b.first b.translation word b.clearing b.done b.cut b.clears))
 
   pub denied-reads : (allowed : Deny → Type 0) (kept : ℕ → Type 0) (expects : ℕ → ℕ → Type 0) (p : ℕ) (deny : Deny) (v w : View X) → IsDenied allowed kept expects p deny v w → ReadsOn v w
@@ -158,7 +158,7 @@ module _ {X : Type 0} where
     valid-reads v w k = (valid-only None v w k, k.mine ∙ append-none v.mine)
 
     -- what a validation proves after steps that left the page's read as it was, it proves of the view before them
-    pub validates-back : (words : List ℕ) (v w : View X) → OnlyReads v w → ReadsAsBefore v w p → Validates tied p (version_of word) words w → Validates tied p (version_of word) words v
+    pub validates-back : (words : List ℕ) (v w : View X) → OnlyReads v w → ReadsAsBefore v w p → LockValidates tied p (version_of word) words w → LockValidates tied p (version_of word) words v
     validates-back words v w reads same k = record {
       valid = λ o e n. subst (LoadsAre words) same.loads (k.valid o (same.reading ∙ e) n);
       holds =
@@ -185,7 +185,7 @@ module _ {X : Type 0} where
   pub loads-leave : (q p word frame : ℕ) (loaded : List (ℕ × ℕ)) (v w : View X) → Loads p word frame loaded v w → LeavesWord q v w
   loads-leave q p word frame loaded v w l = record { done = l.done; log = l.quiet.steady.log; none = nones-there q l.done l.leaves }
 
-  pub begins-leave : (q p word frame : ℕ) (v w : View X) → q ≢ p → Begins p word frame v w → LeavesWord q v w
+  pub begins-leave : (q p word frame : ℕ) (v w : View X) → q ≢ p → BeginsReading p word frame v w → LeavesWord q v w
   begins-leave q p word frame v w ne b = record { done = b.done; log = b.quiet.steady.log; none = unmarks-elsewhere p q b.done ne (start-unmarks p b.first b.translation word b.clearing b.done b.cut b.clears) }
 
   pub denied-leave : (allowed : Deny → Type 0) (kept : ℕ → Type 0) (expects : ℕ → ℕ → Type 0) (q p : ℕ) (deny : Deny) (v w : View X) → q ≢ p → IsDenied allowed kept expects p deny v w → LeavesWord q v w

@@ -11,7 +11,7 @@ use Rattle.vm_rule.proofs.Heard.{each-both}
 use Rattle.vm_rule.proofs.WordFacts.{version-within, word-state}
 use Rattle.vm_step.specs.declared.saw.At.TheVariants as ats
 use Rattle.vm_step.specs.declared.saw.Saw.{Saw}
-use Rattle.vm_step.specs.Evidence.{AreQuiet, Begins, Begins as begun, Gives, IsSaw, NeedsPage, NoWord, place_of}
+use Rattle.vm_step.specs.Evidence.{AreQuiet, Begins, Begins as begun, Gives, IsSaw, NeedsPage, NoWord, place_at}
 use Rattle.vm_guard.specs.Denied.{KeptWord}
 use Rattle.vm_guard.specs.Guards.{AreUnmarking}
 use Rattle.vm_guard.specs.Quiet.{LeavesNone, OnlyUnmarks}
@@ -94,7 +94,7 @@ module _ (expects : ℕ → ℕ → Type 0) where
     cut = ap (λ (l : List Did). front ++ l) s.cut ∙ sym (append_assoc front s.earlier (s.last ∷ s.later));
     gives = s.gives;
     since = s.since;
-    begins = begun-behind (place_of saw.at) saw.first saw.seen s.last front s.earlier s.since s.begins;
+    begins = begun-behind (place_at saw.at) saw.first saw.seen s.last front s.earlier s.since s.begins;
     quiet = s.quiet;
     why = s.why;
   }
@@ -144,7 +144,7 @@ module _ (expects : ℕ → ℕ → Type 0) where
 
     pub saw-kept : (done : List Did) (saw : Saw) → saw.at ≡ ats.Page p → IsSaw (KeptWord word) expects done saw → IsSeen expects (front ++ done) saw
     saw-kept done saw is s =
-        let k = begun-kept (place_of saw.at) saw.first saw.seen s.last s.earlier s.since (ap place_of is) s.begins s.quiet in
+        let k = begun-kept (place_at saw.at) saw.first saw.seen s.last s.earlier s.since (ap place_at is) s.begins s.quiet in
         record {
           earlier = front ++ s.earlier;
           last = s.last;

@@ -20,14 +20,14 @@ use Rattle.vm_step.specs.Keeping.{IsKeptNow}
 use Rattle.vm_step.proofs.Asides.{whole-then}
 use Rattle.vm_step.proofs.Alone.{same-word, still-alone}
 use Rattle.vm_tree_model.specs.Page.{IsInner, IsLeaf}
-use Rattle.vm_tree_laws.specs.Keeps.{Keeps}
+use Rattle.vm_tree_laws.specs.Keeps.{KeepsTree}
 use Rattle.vm_tree_laws.specs.Tied.{IsTied, Tied}
 use Rattle.vm_tree_laws.proofs.Ties.{ties_hold}
 use Rattle.vm_guard.specs.declared.deny.Deny.{Deny}
 use Rattle.vm_guard.specs.declared.opt.OptGuard.{OptGuard}
 use Rattle.vm_guard.specs.Denied.{AgainOrNeed, IsDenied}
-use Rattle.vm_guard.specs.Guards.{Begins, IsReading, IsValid, Loads}
-use Rattle.vm_guard.specs.Sure.{IsFree, IsKnownAt, KnowsSame, known_next, known_word, unmarked_word}
+use Rattle.vm_guard.specs.Guards.{BeginsReading, IsReading, IsValid, Loads}
+use Rattle.vm_guard.specs.Sure.{IsUnlockedWord, IsKnownAt, KnowsSame, known_next, known_word, unmarked_word}
 use Rattle.vm_guard.proofs.Reading.{reading-kept}
 use Rattle.vm_tree_rule.specs.Leaves.{LeavesWord, OnlyReads, ReadsOn}
 use Rattle.vm_tree_rule.specs.Resident.{IsKnownNow, KnowsLocks, KnowsResident}
@@ -36,19 +36,19 @@ use Rattle.vm_tree_rule.proofs.Entering.{pages-are, sees-back}
 use Rattle.vm_tree_rule.proofs.Readings.{begins-leave, begins-reads, denied-leave, denied-reads, loads-reads, valid-reads}
 
 -- a free page's word is free without its mark
-unmarked-free : (word : ℕ) → IsFree word → IsFree (unmarked_word word)
+unmarked-free : (word : ℕ) → IsUnlockedWord word → IsUnlockedWord (unmarked_word word)
 unmarked-free word free = go (state_of word == MARKED)
   where
-    go : (b : Bool) → IsFree (if b then word_of UNLOCKED (version_of word) else word)
+    go : (b : Bool) → IsUnlockedWord (if b then word_of UNLOCKED (version_of word) else word)
     go true = inl (word-state UNLOCKED (version_of word) (version-within word))
     go false = free
 
-free-unlocked : (word : ℕ) → IsFree word → state_of word ≢ LOCKED
+free-unlocked : (word : ℕ) → IsUnlockedWord word → state_of word ≢ LOCKED
 free-unlocked word free locked =
     let full : state_of word ≡ 253 = locked in
     ⊎_elim (λ (e : state_of word ≡ 0). omega (arith, e, full)) (λ (e : state_of word ≡ 254). omega (arith, e, full)) free
 
-pub free-readable : (word : ℕ) → IsFree word → is_readable (state_of word) ≡ true
+pub free-readable : (word : ℕ) → IsUnlockedWord word → is_readable (state_of word) ≡ true
 free-readable word free = ⊎_elim (λ (e : state_of word ≡ UNLOCKED). ap is_readable e) (λ (e : state_of word ≡ MARKED). ap is_readable e) free
 
 module _ {X : Type 0} where
@@ -58,7 +58,7 @@ module _ {X : Type 0} where
       record {
         alone = still-alone v w reads.parts reads.alone.current k.alone;
         each = λ q l m.
-            subst IsFree (sym (same-word v w reads.start words (places.State q)))
+            subst IsUnlockedWord (sym (same-word v w reads.start words (places.State q)))
             (k.each q (subst (λ (n : ℕ). q < n) (same-word v w reads.start words places.Next) l) (subst (λ (o : Origin). q < o.pages) reads.start m));
       }
 
@@ -87,7 +87,7 @@ module _ {X : Type 0} where
   pub known-at : (p word : ℕ) (v : View X) → IsKnownNow p word v → IsKnownAt p word v
   known-at p word v k = (ap version_of k.known, λ l. free-unlocked word k.free (ap state_of (sym k.known) ∙ l))
 
-  module _ (p word frame : ℕ) (v w : View X) (b : Begins p word frame v w) (a : IsAlone v) where
+  module _ (p word frame : ℕ) (v w : View X) (b : BeginsReading p word frame v w) (a : IsAlone v) where
     begun-word : (q : ℕ) → q ≢ p → known_word q w ≡ known_word q v
     begun-word q ne = ap (λ (l : List ℕ). slice_index l q) (b.table a) ∙ get_or-set_other v.snapshot.words p q word 0 ne
 
@@ -100,7 +100,7 @@ module _ {X : Type 0} where
         ∙ get_or-set_other v.snapshot.words p (index_of v.start places.Next) word 0 (λ e. let more = bundle_count v.start in omega (arith, inside, e))
 
   -- a page that the pass begins to read is read, and free
-  pub resident-begun : (p word frame : ℕ) (v w : View X) → Begins p word frame v w → KnowsResident v → KnowsResident w
+  pub resident-begun : (p word frame : ℕ) (v w : View X) → BeginsReading p word frame v w → KnowsResident v → KnowsResident w
   resident-begun p word frame v w b k =
       let reads : OnlyReads v w = (begins-reads p word frame v w b).0 in
       let known = b.known k.alone in
@@ -110,23 +110,23 @@ module _ {X : Type 0} where
             let below : q < known_next v = subst (λ (n : ℕ). q < n) (begun-next p word frame v w b k.alone) l in
             let inside : q < v.start.pages = subst (λ (o : Origin). q < o.pages) reads.start m in
             ⊎_elim
-            (λ (e : q ≡ p). subst IsFree (sym (ap (λ (n : ℕ). known_word n w) e ∙ known.0 ∙ known.1 ∙ ap (λ (n : ℕ). unmarked_word (known_word n v)) (sym e))) (unmarked-free (known_word q v) (k.each q below inside)))
-            (λ ne. subst IsFree (sym (begun-word p word frame v w b k.alone q ne)) (k.each q below inside))
+            (λ (e : q ≡ p). subst IsUnlockedWord (sym (ap (λ (n : ℕ). known_word n w) e ∙ known.0 ∙ known.1 ∙ ap (λ (n : ℕ). unmarked_word (known_word n v)) (sym e))) (unmarked-free (known_word q v) (k.each q below inside)))
+            (λ ne. subst IsUnlockedWord (sym (begun-word p word frame v w b k.alone q ne)) (k.each q below inside))
             (cases_eq q p);
       }
 
-  pub known-begun : (p word frame : ℕ) (v w : View X) → Begins p word frame v w → p < known_next v → KnowsResident v → IsKnownNow p word w
+  pub known-begun : (p word frame : ℕ) (v w : View X) → BeginsReading p word frame v w → p < known_next v → KnowsResident v → IsKnownNow p word w
   known-begun p word frame v w b below k =
       let known = b.known k.alone in
       let inside : p < v.start.pages = subst (λ (o : Origin). p < o.pages) b.quiet.steady.start b.reads.page in
       record {
         resident = resident-begun p word frame v w b k;
         known = known.0;
-        free = subst IsFree (sym known.1) (unmarked-free (known_word p v) (k.each p below inside));
+        free = subst IsUnlockedWord (sym known.1) (unmarked-free (known_word p v) (k.each p below inside));
         below = subst (λ (n : ℕ). p < n) (sym (begun-next p word frame v w b k.alone)) below;
       }
 
-  pub known-beside : (q x p word frame : ℕ) (v w : View X) → q ≢ p → Begins p word frame v w → IsKnownNow q x v → IsKnownNow q x w
+  pub known-beside : (q x p word frame : ℕ) (v w : View X) → q ≢ p → BeginsReading p word frame v w → IsKnownNow q x v → IsKnownNow q x w
   known-beside q x p word frame v w ne b k = record {
     resident = resident-begun p word frame v w b k.resident;
     known = begun-word p word frame v w b k.resident.alone q ne ∙ k.known;
@@ -141,7 +141,7 @@ pub record HasLooked {X : Type 0} (p : ℕ) (v x : View X) : Type 0 where
   pub same : ReadsAsBefore v x p
   pub next : IsAlone v → known_next x ≡ known_next v
 
-pub looked : {X : Type 0} (q p : ℕ) (r : Result OptGuard Deny) (v x : View X) → q ≢ p → IfOk r (λ g. (g.pid ≡ q) × Begins q g.word g.frame v x) → IfErr r (λ d. IsDenied AgainOrNeed NoWord NoneExpected q d v x) → HasLooked p v x
+pub looked : {X : Type 0} (q p : ℕ) (r : Result OptGuard Deny) (v x : View X) → q ≢ p → IfOk r (λ g. (g.pid ≡ q) × BeginsReading q g.word g.frame v x) → IfErr r (λ d. IsDenied AgainOrNeed NoWord NoneExpected q d v x) → HasLooked p v x
 looked q p (Ok g) v x ne ok err =
     record {
       reads = begins-reads q g.word g.frame v x ok.1;
@@ -158,7 +158,7 @@ pub looked-reading : {X : Type 0} (p word frame : ℕ) (v x : View X) → HasLoo
 looked-reading p word frame v x l r = reading-kept p word frame v x r l.reads.0.start (l.reads.0.holds p) (λ k. (l.reads.0.knows p k).held) l.same.reading
 
 -- and what is known of it too
-pub looked-known : {X : Type 0} (q p word : ℕ) (r : Result OptGuard Deny) (v x : View X) → q ≢ p → IfOk r (λ g. (g.pid ≡ q) × Begins q g.word g.frame v x) → IfErr r (λ d. IsDenied AgainOrNeed NoWord NoneExpected q d v x) → IsKnownNow p word v → IsKnownNow p word x
+pub looked-known : {X : Type 0} (q p word : ℕ) (r : Result OptGuard Deny) (v x : View X) → q ≢ p → IfOk r (λ g. (g.pid ≡ q) × BeginsReading q g.word g.frame v x) → IfErr r (λ d. IsDenied AgainOrNeed NoWord NoneExpected q d v x) → IsKnownNow p word v → IsKnownNow p word x
 looked-known q p word (Ok g) v x ne ok err k = known-beside p word q g.word g.frame v x (λ e. ne (sym e)) ok.1 k
 looked-known q p word (Err d) v x ne ok err k = known-same p word v x (denied-reads AgainOrNeed NoWord NoneExpected q d v x err).0 err.table k
 
@@ -169,7 +169,7 @@ no-node words zeros kind =
     ⊎_elim (λ (leaf : IsLeaf words). let two : slice_index words 0 ≡ 2 = leaf.node.tag in omega (arith, tag, two)) (λ (inner : IsInner words). let three : slice_index words 0 ≡ 3 = inner.node.tag in omega (arith, tag, three)) kind
 
 -- page r, which was validated, names a page that was claimed
-pub named-claimed : (r named : ℕ) (w : View Said) (k : IsKeptNow Keeps r (Unit {0}) w) → r < w.start.pages → IsNameIn (tree_pages w) r (last_of w r).words named → named < k.kept.next
+pub named-claimed : (r named : ℕ) (w : View Said) (k : IsKeptNow KeepsTree r (Unit {0}) w) → r < w.start.pages → IsNameIn (tree_pages w) r (last_of w r).words named → named < k.kept.next
 named-claimed r named w k inside name =
     ⊎_elim
     (λ (l : named < k.kept.next). l)
@@ -180,7 +180,7 @@ named-claimed r named w k inside name =
     (cases_lt named k.kept.next)
 
 -- so was page 0
-pub first-claimed : (free : Type 0) (w : View Said) (k : IsKeptNow Keeps 0 free w) → 0 < w.start.pages → 0 < k.kept.next
+pub first-claimed : (free : Type 0) (w : View Said) (k : IsKeptNow KeepsTree 0 free w) → 0 < w.start.pages → 0 < k.kept.next
 first-claimed free w k some =
     ⊎_elim
     (λ (l : 0 < k.kept.next). l)
@@ -191,7 +191,7 @@ first-claimed free w k some =
     (cases_lt 0 k.kept.next)
 
 -- the page that a validated page names is below the next one, as the pass knew that before it looked at the page
-pub named-below : (r word frame named : ℕ) (v x w : View Said) → ReadsOn v x → ReadsAsBefore v x r → known_next x ≡ known_next v → IsValid Tied r word frame None x w → IsKeptNow Keeps r (Unit {0}) w → NamesPage v r word named → v.start.tells ≡ true → IsAlone v → named < known_next v
+pub named-below : (r word frame named : ℕ) (v x w : View Said) → ReadsOn v x → ReadsAsBefore v x r → known_next x ≡ known_next v → IsValid Tied r word frame None x w → IsKeptNow KeepsTree r (Unit {0}) w → NamesPage v r word named → v.start.tells ≡ true → IsAlone v → named < known_next v
 named-below r word frame named v x w reads same next k kept names tells a =
     let valid : ReadsOn x w = valid-reads Tied r word frame x w k in
     let start : w.start ≡ v.start = valid.0.start ∙ reads.0.start in
@@ -206,7 +206,7 @@ pub free-below : (p : ℕ) (v : View Said) → KnowsResident v → p < known_nex
 free-below p v k below inside = free-readable (known_word p v) (k.each p below inside)
 
 -- page 0 is not denied
-pub first-readable : (free : Type 0) (deny : Deny) (v x : View Said) → IsDenied AgainOrNeed NoWord NoneExpected 0 deny v x → IsKeptNow Keeps 0 free x → 0 < v.start.pages → KnowsResident v → is_readable (state_of (known_word 0 v)) ≡ true
+pub first-readable : (free : Type 0) (deny : Deny) (v x : View Said) → IsDenied AgainOrNeed NoWord NoneExpected 0 deny v x → IsKeptNow KeepsTree 0 free x → 0 < v.start.pages → KnowsResident v → is_readable (state_of (known_word 0 v)) ≡ true
 first-readable free deny v x d kept some k =
     let reads : OnlyReads v x = (denied-reads AgainOrNeed NoWord NoneExpected 0 deny v x d).0 in
     let there : IsAlone x = still-alone v x reads.parts reads.alone.current k.alone in
@@ -214,7 +214,7 @@ first-readable free deny v x d kept some k =
     free-below 0 v k (subst (λ (n : ℕ). 0 < n) (sym (kept.next there) ∙ same-next v x reads d.table k.alone) claimed) some
 
 -- page 0 is read, and two words of it
-pub first-known : (free : Type 0) (p word frame : ℕ) (one two : List (ℕ × ℕ)) (v a b y : View Said) → p ≡ 0 → Begins 0 word frame v a → IsKeptNow Keeps 0 free a → Loads p word frame one a b → Loads p word frame two b y → KnowsResident v → IsKnownNow p word y
+pub first-known : (free : Type 0) (p word frame : ℕ) (one two : List (ℕ × ℕ)) (v a b y : View Said) → p ≡ 0 → BeginsReading 0 word frame v a → IsKeptNow KeepsTree 0 free a → Loads p word frame one a b → Loads p word frame two b y → KnowsResident v → IsKnownNow p word y
 first-known free p word frame one two v a b y zero begins kept first second k =
     let reads : OnlyReads v a = (begins-reads 0 word frame v a begins).0 in
     let there : IsAlone a = still-alone v a reads.parts reads.alone.current k.alone in

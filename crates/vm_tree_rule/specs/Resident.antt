@@ -2,7 +2,7 @@
 use Rattle.std.specs.Prelude.{ℕ, true, ◌≡◌, ◌<◌}
 use Rattle.vm_rule.specs.declared.view.View.{View}
 use Rattle.vm_step.specs.Alone.{IsAlone, KnowsUnheld}
-use Rattle.vm_guard.specs.Sure.{IsFree, IsKnownFree, known_next, known_word}
+use Rattle.vm_guard.specs.Sure.{IsUnlockedWord, IsKnownFree, known_next, known_word}
 
 module _ {X : Type 0} where
   -- the pass is alone, and knows each page below the next one to be resident, and locked by nobody
@@ -14,7 +14,7 @@ module _ {X : Type 0} where
   pub record IsKnownNow (p word : ℕ) (v : View X) : Type 0 where
     pub resident : KnowsResident v
     pub known : known_word p v ≡ word
-    pub free : IsFree word
+    pub free : IsUnlockedWord word
     pub below : p < known_next v
 
   -- the pass knows the table as it is; where it is alone it knows a page that it neither holds nor shares to be locked by nobody

@@ -58,7 +58,7 @@ module _ {X : Type 0} where
 
   -- Page p was read whole in this call, with these words: they have room, and name the next page for the key. Then it was validated, so that these
   -- are its words where blocks tell theirs. Since then the call only read
-  pub record IsPassed (v : View X) (key p : ℕ) (words : List ℕ) (next : ℕ) (w : View X) : Type 0 where
+  pub record IsPassedBy (v : View X) (key p : ℕ) (words : List ℕ) (next : ℕ) (w : View X) : Type 0 where
     pub word : ℕ
     pub frame : ℕ
     pub checked : View X
@@ -74,7 +74,7 @@ module _ {X : Type 0} where
   -- so were these pages, the last one first, on the way from the root to page p
   abbrev pub ArePassed : View X → ℕ → List (ℕ × List ℕ) → ℕ → View X → Type 0
   ArePassed v key [] p w = IsNamedRoot v p w
-  ArePassed v key (s ∷ ss) p w = IsPassed v key s.0 s.1 p w × ArePassed v key ss s.0 w
+  ArePassed v key (s ∷ ss) p w = IsPassedBy v key s.0 s.1 p w × ArePassed v key ss s.0 w
 
   -- a node is full whose parent has room and names it for the key; no node on the way to the parent is full
   pub record IsFullBelow (v : View X) (key : ℕ) (parent node : OptGuard) (over page : List ℕ) (w : View X) : Type 0 where

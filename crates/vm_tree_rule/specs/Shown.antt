@@ -4,7 +4,7 @@ use Rattle.vm_rule.specs.declared.view.Did.{Did}
 use Rattle.vm_rule.specs.declared.view.View.{View}
 use Rattle.vm_step.specs.declared.saw.At.TheVariants as ats
 use Rattle.vm_step.specs.declared.saw.Saw.{Saw}
-use Rattle.vm_step.specs.Evidence.{AreQuiet, Begins, Gives, NoWord, NoneExpected, WhyAgain, place_of}
+use Rattle.vm_step.specs.Evidence.{AreQuiet, Begins, Gives, NoWord, NoneExpected, WhyAgain, place_at}
 
 -- these are the steps of a call from its first one on. The call read the word seen; it read the first word before, or an exchange of it expects
 -- that in the place of one that it read; and between the two it neither wrote the word seen nor raised a version there
@@ -13,10 +13,10 @@ pub record IsSeen (expects : ℕ → ℕ → Type 0) (done : List Did) (saw : Sa
   pub last : Did
   pub later : List Did
   pub cut : done ≡ earlier ++ last ∷ later
-  pub gives : Gives last (place_of saw.at) saw.seen
+  pub gives : Gives last (place_at saw.at) saw.seen
   pub since : List Did
-  pub begins : Begins NoWord expects (place_of saw.at) saw.first saw.seen last earlier since
-  pub quiet : AreQuiet (place_of saw.at) saw.seen since
+  pub begins : Begins NoWord expects (place_at saw.at) saw.first saw.seen last earlier since
+  pub quiet : AreQuiet (place_at saw.at) saw.seen since
   pub why : WhyAgain saw.at saw.first saw.seen last
 
 module _ {X : Type 0} where

@@ -7,13 +7,13 @@ use Rattle.vm_rule.specs.declared.view.View.{View}
 use Rattle.vm_rule.specs.Views.{Each, loads_at}
 use Rattle.vm_rule.specs.Reading.{last_of}
 use Rattle.vm_rule.specs.Rule.{began_of}
-use Rattle.vm_rule.specs.Locks.{Validates}
+use Rattle.vm_rule.specs.Locks.{LockValidates}
 use Rattle.vm_tree_model.specs.Edits.{child_of}
 use Rattle.vm_tree_model.specs.Node.{Covers}
 use Rattle.vm_tree_model.specs.Page.{IsInner, IsLeaf, node_of}
 use Rattle.vm_tree_laws.specs.Tied.{IsTied, Tied}
 use Rattle.vm_tree_laws.specs.Descent.{IsReached}
-use Rattle.vm_guard.specs.Guards.{Begins, IsReading, IsValid}
+use Rattle.vm_guard.specs.Guards.{BeginsReading, IsReading, IsValid}
 use Rattle.vm_tree_rule.specs.Leaves.{LeavesWord, ReadsOn}
 
 -- page p, with these words in an image of so many pages, names another page of it, which is a node
@@ -34,14 +34,14 @@ module _ {X : Type 0} where
     pub before : View X
     pub after : View X
     pub earlier : ReadsOn v before
-    pub begins : Begins p word frame before after
+    pub begins : BeginsReading p word frame before after
     pub since : ReadsOn after w
     pub same : LeavesWord p after w
     pub reading : IsReading p word frame w
 
   -- what a validation of page p at this word would prove of its words
   abbrev pub Sees : View X → ℕ → ℕ → List ℕ → Type 0
-  Sees v p word words = Validates Tied p (version_of word) words v
+  Sees v p word words = LockValidates Tied p (version_of word) words v
 
   -- words that meet the ties of page p at this word are those of a node of this level that covers the key, where blocks tell their words
   abbrev pub Awaits : View X → ℕ → ℕ → ℕ → ℕ → Type 0
@@ -60,7 +60,7 @@ module _ {X : Type 0} where
     pub same : LeavesWord p v w
 
   -- page p was looked at, at this word; then page r was validated, which was read before. Page p is tied to the words that page r had there
-  pub record HasStepped (r was above : ℕ) (p word frame : ℕ) (v w : View X) : Type 0 where
+  pub record HasSteppedDown (r was above : ℕ) (p word frame : ℕ) (v w : View X) : Type 0 where
     pub opened : IsOpened v p word frame w
     pub checked : View X
     pub looked : ReadsOn v checked
@@ -71,5 +71,5 @@ module _ {X : Type 0} where
     pub tied : (newer : List Tie) × (older : List Tie) × (w.ties ≡ newer ++ record { page = p; version = version_of word; of = r; words = (last_of w r).words } ∷ older)
 
 -- page r with these words names page p for the key: as the root, or, where it is an inner node that covers the key, as the child
-abbrev pub Names : ℕ → List ℕ → ℕ → ℕ → Type 0
-Names r words key p = ((r ≡ 0) × (slice_index words 1 ≡ p)) ⊎ ((1 ≤ r) × ((node_of words).tag ≡ 3) × Covers (node_of words) key × (child_of words key ≡ Some p))
+abbrev pub NamesForKey : ℕ → List ℕ → ℕ → ℕ → Type 0
+NamesForKey r words key p = ((r ≡ 0) × (slice_index words 1 ≡ p)) ⊎ ((1 ≤ r) × ((node_of words).tag ≡ 3) × Covers (node_of words) key × (child_of words key ≡ Some p))

@@ -20,7 +20,7 @@ use Rattle.vm_tree_rule.specs.declared.turn.Turn.TheVariants as turns
 use Rattle.vm_tree_rule.specs.Leaves.{LeavesWord, ReadsOn}
 use Rattle.vm_tree_rule.specs.Seeks.{HasRead}
 use Rattle.vm_tree_rule.specs.Shown.{IsAgain}
-use Rattle.vm_tree_rule.specs.Standing.{IsOpened, Names, Sees}
+use Rattle.vm_tree_rule.specs.Standing.{IsOpened, NamesForKey, Sees}
 
 -- a look at a page that was denied ends the call so
 abbrev pub IsTurnOf : Deny → Turn → Type 0
@@ -48,7 +48,7 @@ module _ {X : Type 0} where
     pub reads : ReadsOn v before
     pub valid : IsValid Tied parent word frame None before w
     pub loads : LoadsName w parent key p
-    pub names : v.start.tells ≡ true → Names parent (last_of w parent).words key p
+    pub names : v.start.tells ≡ true → NamesForKey parent (last_of w parent).words key p
 
   -- the call found page p evicted, and had not left that word; it is page 0, or the page that was validated afterwards names it for the key
   pub record IsNeeded (v : View X) (key p : ℕ) (w : View X) : Type 0 where
@@ -80,10 +80,10 @@ module _ {X : Type 0} where
     pub why : IsNoTree key page w
 
   -- the call only read, and ended for this reason
-  abbrev pub IsTurn : View X → ℕ → Turn → View X → Type 0
-  IsTurn v key (turns.Again saw) w = ReadsOn v w × IsAgain v saw w
-  IsTurn v key (turns.Need p) w = ReadsOn v w × IsNeeded v key p w
-  IsTurn v key (turns.Astray saw) w = ReadsOn v w × IsAstray v key saw w
+  abbrev pub IsTurnedBack : View X → ℕ → Turn → View X → Type 0
+  IsTurnedBack v key (turns.Again saw) w = ReadsOn v w × IsAgain v saw w
+  IsTurnedBack v key (turns.Need p) w = ReadsOn v w × IsNeeded v key p w
+  IsTurnedBack v key (turns.Astray saw) w = ReadsOn v w × IsAstray v key saw w
 
   -- a step from page r, whose read began at this word, to the page that it names ended without that page: page r was validated, but the named page
   -- could not be read, or is none of the tree's; or page r was not validated

@@ -7,8 +7,8 @@ ghost use Rattle.vm_step.specs.Ready.{IsReady};
 ghost use Rattle.vm_tree_rule.specs.Leaves.{ReadsOn};
 ghost use Rattle.vm_tree_rule.specs.Resident.{IsKnownNow, KnowsLocks, KnowsResident};
 ghost use Rattle.vm_tree_rule.specs.Seeks.{IsMetaRead, IsNamedRoot};
-ghost use Rattle.vm_tree_rule.specs.Standing.{Awaits, HasStepped, IsOpened, NamesPage, StaysOpen, tree_pages};
-ghost use Rattle.vm_tree_rule.specs.Turns.{IsStopped, IsTurn};
+ghost use Rattle.vm_tree_rule.specs.Standing.{Awaits, HasSteppedDown, IsOpened, NamesPage, StaysOpen, tree_pages};
+ghost use Rattle.vm_tree_rule.specs.Turns.{IsStopped, IsTurnedBack};
 
 use crate::Tree;
 use crate::turn::Turn;
@@ -32,7 +32,7 @@ pub(crate) fn enter<B: Block>(
     requires names { NamesPage (view pass.old) parent.now.pid parent.now.word named }
     ensures pass { IsSamePass pass.old pass.new }
     ensures ready { IsReady words.now.table.shared.key B.tells words.now.table.shared.table_id pass.new }
-    ensures ok { IfOk result (λ guard. (guard.pid ≡ named) × HasStepped parent.now.pid parent.now.word parent.now.frame guard.pid guard.word guard.frame (view pass.old) (view pass.new)) }
+    ensures ok { IfOk result (λ guard. (guard.pid ≡ named) × HasSteppedDown parent.now.pid parent.now.word parent.now.frame guard.pid guard.word guard.frame (view pass.old) (view pass.new)) }
     ensures pages { B.tells ≡ true → IfOk result (λ _. tree_pages (view pass.new) ≡ (view pass.new).start.pages) }
     ensures parent { IfOk result (λ guard. StaysOpen parent.now.pid parent.now.word parent.now.frame guard.pid (view pass.old) (view pass.new)) }
     ensures err { IfErr result (λ turn. IsStopped parent.now.pid parent.now.word parent.now.frame named turn (view pass.old) (view pass.new)) }
@@ -75,7 +75,7 @@ fn go_down<B: Block>(
     ensures ready { IsReady words.now.table.shared.key B.tells words.now.table.shared.table_id pass.new }
     ensures reads { IfOk result (λ below. ReadsOn (view pass.old) (view pass.new) × IsOpened (view pass.old) below.pid below.word below.frame (view pass.new)) }
     ensures awaits { IfOk result (λ below. (level : ℕ) → Awaits (view pass.old) guard.now.pid guard.now.word (suc level) key → Awaits (view pass.new) below.pid below.word level key) }
-    ensures err { IfErr result (λ turn. (v : _) → IsOpened v guard.now.pid guard.now.word guard.now.frame (view pass.old) → IsTurn v key turn (view pass.new)) }
+    ensures err { IfErr result (λ turn. (v : _) → IsOpened v guard.now.pid guard.now.word guard.now.frame (view pass.old) → IsTurnedBack v key turn (view pass.new)) }
     ensures sure { B.tells ≡ true → IsKnownNow guard.now.pid guard.now.word (view pass.old) → IsOk result }
     ensures known { B.tells ≡ true → IsKnownNow guard.now.pid guard.now.word (view pass.old) → IfOk result (λ below. IsKnownNow below.pid below.word (view pass.new)) }
 {
@@ -114,7 +114,7 @@ pub(crate) fn enter_root<B: Block>(
     ensures locks { IfOk result (λ _. KnowsLocks (view pass.new)) }
     ensures named { IfOk result (λ top. IsNamedRoot (view pass.old) top.guard.pid (view pass.new)) }
     ensures meta { IfOk result (λ top. IsMetaRead top.meta.pid top.meta.word top.meta.frame top.guard.pid top.level (view pass.old) (view pass.new)) }
-    ensures err { IfErr result (λ turn. IsTurn (view pass.old) key turn (view pass.new)) }
+    ensures err { IfErr result (λ turn. IsTurnedBack (view pass.old) key turn (view pass.new)) }
 {
     let meta = match OptGuard::start(words, pass, 0) {
         Ok(guard) => guard,
@@ -149,7 +149,7 @@ pub fn descend<B: Block>(
     ensures reads { IfOk result (λ guard. ReadsOn (view pass.old) (view pass.new) × IsOpened (view pass.old) guard.pid guard.word guard.frame (view pass.new)) }
     ensures awaits { IfOk result (λ guard. Awaits (view pass.new) guard.pid guard.word 0 key) }
     ensures loads { IfOk result (λ guard. (before : _) × (loads_at (view pass.new) guard.pid ≡ before ++ placed 0 page.new)) }
-    ensures err { IfErr result (λ turn. IsTurn (view pass.old) key turn (view pass.new)) }
+    ensures err { IfErr result (λ turn. IsTurnedBack (view pass.old) key turn (view pass.new)) }
     ensures sure { B.tells ≡ true → KnowsResident (view pass.old) → IsOk result }
     ensures known { B.tells ≡ true → KnowsResident (view pass.old) → IfOk result (λ guard. IsKnownNow guard.pid guard.word (view pass.new)) }
 {

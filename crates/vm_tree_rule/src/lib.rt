@@ -1,7 +1,7 @@
 //! The tree as the owner of a page store: what its pages and its history are is kept at each step of the store.
 #![tactic(auto)]
 
-ghost use Rattle.vm_tree_laws.specs.Keeps.{Keeps};
+ghost use Rattle.vm_tree_laws.specs.Keeps.{KeepsTree};
 ghost use Rattle.vm_tree_laws.specs.May.{MayRelease, MayRead};
 ghost use Rattle.vm_tree_laws.specs.Tied.{Tied};
 ghost use Rattle.vm_tree_laws.proofs.Laws.{releases_keep, reads_keep};
@@ -27,7 +27,7 @@ pub struct Tree;
 impl Owner for Tree {
     type Said = Said;
 
-    ghost keeps = { Keeps };
+    ghost keeps = { KeepsTree };
 
     ghost may_release = { MayRelease };
 

@@ -6,9 +6,9 @@ ghost use Rattle.vm_step.specs.Ready.{IsReady};
 ghost use Rattle.vm_tree_model.specs.Page.{pairs_of};
 ghost use Rattle.vm_tree_rule.specs.Leaves.{ReadsOn};
 ghost use Rattle.vm_tree_rule.specs.Resident.{IsKnownNow, KnowsLocks, KnowsResident};
-ghost use Rattle.vm_tree_rule.specs.Seeks.{HasRead, IsMet, IsPassed, KnowsMet, LeadsTo};
+ghost use Rattle.vm_tree_rule.specs.Seeks.{HasRead, IsMet, IsPassedBy, KnowsMet, LeadsTo};
 ghost use Rattle.vm_tree_rule.specs.Standing.{Awaits, IsOpened, StaysOpen};
-ghost use Rattle.vm_tree_rule.specs.Turns.{IsTurn};
+ghost use Rattle.vm_tree_rule.specs.Turns.{IsTurnedBack};
 
 use crate::Tree;
 use crate::descent::{enter, enter_root};
@@ -57,9 +57,9 @@ fn go_on<B: Block>(
     ensures reads { IfOk result (λ below. ReadsOn (view pass.old) (view pass.new) × IsOpened (view pass.old) below.pid below.word below.frame (view pass.new)) }
     ensures parent { IfOk result (λ below. StaysOpen guard.now.pid guard.now.word guard.now.frame below.pid (view pass.old) (view pass.new)) }
     ensures names { IfOk result (λ below. LeadsTo (view pass.old) page.now key below.pid) }
-    ensures passed { IfOk result (λ below. (v : _) → IsOpened v guard.now.pid guard.now.word guard.now.frame (view pass.old) → length (pairs_of page.now) < MOST_PAIRS → IsPassed v key guard.now.pid page.now below.pid (view pass.new)) }
+    ensures passed { IfOk result (λ below. (v : _) → IsOpened v guard.now.pid guard.now.word guard.now.frame (view pass.old) → length (pairs_of page.now) < MOST_PAIRS → IsPassedBy v key guard.now.pid page.now below.pid (view pass.new)) }
     ensures awaits { IfOk result (λ below. (level : ℕ) → Awaits (view pass.old) guard.now.pid guard.now.word (suc level) key → Awaits (view pass.new) below.pid below.word level key) }
-    ensures err { IfErr result (λ turn. (v : _) → IsOpened v guard.now.pid guard.now.word guard.now.frame (view pass.old) → IsTurn v key turn (view pass.new)) }
+    ensures err { IfErr result (λ turn. (v : _) → IsOpened v guard.now.pid guard.now.word guard.now.frame (view pass.old) → IsTurnedBack v key turn (view pass.new)) }
     ensures sure { B.tells ≡ true → IsKnownNow guard.now.pid guard.now.word (view pass.old) → IsOk result }
     ensures known { B.tells ≡ true → IsKnownNow guard.now.pid guard.now.word (view pass.old) → IfOk result (λ below. IsKnownNow below.pid below.word (view pass.new) × IsKnownNow guard.now.pid guard.now.word (view pass.new)) }
     ensures locks { IfOk result (λ _. KnowsLocks (view pass.new)) }
@@ -90,7 +90,7 @@ pub fn seek_full<B: Block>(
     ensures ready { IsReady words.now.table.shared.key B.tells words.now.table.shared.table_id pass.new }
     ensures reads { IfOk result (λ _. ReadsOn (view pass.old) (view pass.new)) }
     ensures met { IfOk result (λ m. IsMet (view pass.old) key m over.new page.new (view pass.new)) }
-    ensures err { IfErr result (λ turn. IsTurn (view pass.old) key turn (view pass.new)) }
+    ensures err { IfErr result (λ turn. IsTurnedBack (view pass.old) key turn (view pass.new)) }
     ensures sure { B.tells ≡ true → KnowsResident (view pass.old) → IsOk result }
     ensures known { B.tells ≡ true → KnowsResident (view pass.old) → IfOk result (λ m. KnowsMet m (view pass.new)) }
     ensures locks { IfOk result (λ _. KnowsLocks (view pass.new)) }

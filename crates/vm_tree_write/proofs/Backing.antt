@@ -6,7 +6,7 @@ use Rattle.vm_rule.specs.declared.view.Place.{Place}
 use Rattle.vm_rule.specs.declared.view.View.{View}
 use Rattle.vm_rule.specs.Views.{StartsWith}
 use Rattle.vm_step.specs.declared.saw.Saw.{Saw}
-use Rattle.vm_step.specs.Evidence.{Begins, Begins as begun, IsSaw, NoWord, NoneExpected, UnlockedExpected, place_of}
+use Rattle.vm_step.specs.Evidence.{Begins, Begins as begun, IsSaw, NoWord, NoneExpected, UnlockedExpected, place_at}
 use Rattle.vm_exmap.specs.declared.interface.Alloc.TheVariants as allocs
 use Rattle.vm_guard.specs.declared.given.Fresh.TheVariants as freshes
 use Rattle.vm_guard.specs.declared.deny.Deny.TheVariants as denies
@@ -44,7 +44,7 @@ seen-wider done saw s = record {
   cut = s.cut;
   gives = s.gives;
   since = s.since;
-  begins = begun-wider NoWord (place_of saw.at) saw.first saw.seen s.last s.earlier s.since s.begins;
+  begins = begun-wider NoWord (place_at saw.at) saw.first saw.seen s.last s.earlier s.since s.begins;
   quiet = s.quiet;
   why = s.why;
 }
@@ -80,7 +80,7 @@ saw-wider done saw s = record {
   cut = s.cut;
   gives = s.gives;
   since = s.since;
-  begins = begun-wider NoWord (place_of saw.at) saw.first saw.seen s.last s.earlier s.since s.begins;
+  begins = begun-wider NoWord (place_at saw.at) saw.first saw.seen s.last s.earlier s.since s.begins;
   quiet = s.quiet;
   foreign = s.foreign;
   why = s.why;

@@ -16,7 +16,7 @@ use Rattle.vm_step.specs.Alone.{Follows, IsAlone}
 use Rattle.vm_guard.specs.Guards.{IsSet, dirty_steps}
 use Rattle.vm_guard.specs.Sure.{known_next}
 use Rattle.vm_guard.proofs.QuietSteps.{elsewhere-then, quiet-elsewhere, quiet-none}
-use Rattle.vm_tree_write.specs.Drafts.{IsRedrafted, KnowsPages, SetsDiffering}
+use Rattle.vm_tree_write.specs.Drafts.{IsRedrafted, KnowsSameStates, SetsDiffering}
 
 -- steps that write elsewhere leave the word at this number
 follows-else : (start : Origin) (j : ℕ) (ds : List Did) (old new : List ℕ) → Each (λ (d : Did). (d.wrote ≡ None) ⊎ (j ≢ index_of start d.at)) ds → Follows start ds old new → slice_index new j ≡ slice_index old j
@@ -63,10 +63,10 @@ module _ {X : Type 0} (p : ℕ) where
     last = s.last ∙ a.last;
   }
 
-  pub pages-self : (v : View X) → KnowsPages v v
+  pub pages-self : (v : View X) → KnowsSameStates v v
   pages-self v = record { states = λ k q l. refl; next = λ k. refl }
 
-  pub pages-more : (frame : ℕ) (dirty : Bool) (i x : ℕ) (u v w : View X) → p < v.start.pages → frame < v.start.frames → i < 64 → IsRedrafted p u v → KnowsPages u v → IsSet p frame dirty i x v w → KnowsPages u w
+  pub pages-more : (frame : ℕ) (dirty : Bool) (i x : ℕ) (u v w : View X) → p < v.start.pages → frame < v.start.frames → i < 64 → IsRedrafted p u v → KnowsSameStates u v → IsSet p frame dirty i x v w → KnowsSameStates u w
   pages-more frame dirty i x u v w page frame_is inside a known s = record {
     states = λ k q l.
         s.states (still-alone u v a.elsewhere.steady.parts a.alone.current k) q (subst (λ (o : Origin). q < o.pages) (sym a.elsewhere.steady.start) l) ∙ known.states k q l;

@@ -21,7 +21,7 @@ use Rattle.vm_tree_rule.specs.Seeks.{IsFullBelow, IsRootFull}
 use Rattle.vm_tree_rule.proofs.Entering.{opened-reads}
 use Rattle.vm_tree_rule.proofs.Readings.{loads-behind}
 use Rattle.vm_tree_write.specs.Prepares.{IsPrepared}
-use Rattle.vm_tree_write.specs.Splits.{AreToSplit, CanSplit, CanSplitRoot, HasDraft, IsRootToSplit, IsSplitUp, KeepsAll}
+use Rattle.vm_tree_write.specs.Splits.{AreToSplit, CanSplit, CanSplitRoot, HasDraft, IsRootToSplit, IsSplitUp, KeepsLocksOnly}
 use Rattle.vm_tree_write.specs.Tries.{HasSplit}
 use Rattle.vm_tree_write.proofs.Preparing.{first-held, first-inner, first-not, first-stays, first-words, fresh-zero, home-is, prepared-keeps, second-held, second-not, second-words, start-then}
 use Rattle.vm_tree_write.proofs.Under.{numbers-one, numbers-two, reading-moved, right-is}
@@ -51,7 +51,7 @@ module _ (n : ℕ) (first second : OptGuard) (up low : ExclusiveGuard) (gs : Lis
   owed-all : (q : ℕ) → has q (numbers all.x n) ≡ true → has q w.owed ≡ true
   owed-all q e = ap (has q) all.fresh.owed ∙ has-both q (numbers all.x n) all.locked.owed ∙ or_left (has q (numbers all.x n)) (has q all.locked.owed) e
 
-  pub ended : (d : List Did) (y z : View Said) → AreApart (numbers all.x n) → IsSplitUp (up.pid ∷ low.pid ∷ pids_of gs) w y → MovesFrames d y z → KeepsAll v z × HasSplit n first second v z
+  pub ended : (d : List Did) (y z : View Said) → AreApart (numbers all.x n) → IsSplitUp (up.pid ∷ low.pid ∷ pids_of gs) w y → MovesFrames d y z → KeepsLocksOnly v z × HasSplit n first second v z
   ended d y z rises su m = (
     prepared-keeps n first second up low gs v w all apart d y z rises (subst (λ (l : List ℕ). IsSplitUp l w y) pids-are su) m,
     record {
@@ -98,7 +98,7 @@ module _ (parent node : OptGuard) (up low right : ExclusiveGuard) (gs : List Exc
         told = are-to-split among;
       }
 
-  pub below-ended : (d : List Did) (y z : View Said) → IsSplitUp (up.pid ∷ low.pid ∷ right.pid ∷ []) w y → MovesFrames d y z → KeepsAll v z × HasSplit 1 parent node v z
+  pub below-ended : (d : List Did) (y z : View Said) → IsSplitUp (up.pid ∷ low.pid ∷ right.pid ∷ []) w y → MovesFrames d y z → KeepsLocksOnly v z × HasSplit 1 parent node v z
   below-ended d y z su m =
       ended 1 parent node up low gs v w all met.apart d y z (apart-one all.x) (subst (λ (l : List ExclusiveGuard). IsSplitUp (up.pid ∷ low.pid ∷ pids_of l) w y) (sym one) su) m
 
@@ -152,6 +152,6 @@ module _ (meta root : OptGuard) (up low right top : ExclusiveGuard) (gs : List E
         told = root-to-split first second;
       }
 
-  pub root-ended : (d : List Did) (y z : View Said) → IsSplitUp (up.pid ∷ low.pid ∷ right.pid ∷ top.pid ∷ []) w y → MovesFrames d y z → KeepsAll v z × HasSplit 2 meta root v z
+  pub root-ended : (d : List Did) (y z : View Said) → IsSplitUp (up.pid ∷ low.pid ∷ right.pid ∷ top.pid ∷ []) w y → MovesFrames d y z → KeepsLocksOnly v z × HasSplit 2 meta root v z
   root-ended d y z su m =
       ended 2 meta root up low gs v w all roots-apart d y z (apart-two all.x) (subst (λ (l : List ExclusiveGuard). IsSplitUp (up.pid ∷ low.pid ∷ pids_of l) w y) (sym two) su) m

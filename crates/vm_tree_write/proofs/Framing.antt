@@ -20,12 +20,12 @@ use Rattle.vm_exmap.specs.declared.interface.Alloc.TheVariants as allocs
 use Rattle.vm_exmap.specs.Frames.{MovesFrames}
 use Rattle.vm_step.specs.HeldFrames.{AreHeld}
 use Rattle.vm_exmap.specs.Returns.{IsFreed}
-use Rattle.vm_exmap.specs.Walks.{IsAlloc, IsRefused}
+use Rattle.vm_exmap.specs.Walks.{IsAlloc, TakesNone}
 use Rattle.vm_exmap.proofs.FrameMoves.{moved-nothing, moved-then}
 use Rattle.vm_exmap.proofs.Handing.{apart-join, apart-not, each-has, each-join, each-of, held-on, held-rest, held-swap}
-use Rattle.vm_tree_write.specs.Splits.{KeepsAll}
+use Rattle.vm_tree_write.specs.Splits.{KeepsLocksOnly}
 
-pub keeps-self : (v : View Said) → KeepsAll v v
+pub keeps-self : (v : View Said) → KeepsLocksOnly v v
 keeps-self v = record {
   start = refl;
   parts = (refl, refl);
@@ -39,7 +39,7 @@ keeps-self v = record {
   holds = λ q. record { shares = refl; exclusive = refl; writing = refl };
 }
 
-pub keeps-then : (u v w : View Said) → KeepsAll u v → KeepsAll v w → KeepsAll u w
+pub keeps-then : (u v w : View Said) → KeepsLocksOnly u v → KeepsLocksOnly v w → KeepsLocksOnly u w
 keeps-then u v w f g = record {
   start = g.start ∙ f.start;
   parts = (g.parts.0 ∙ f.parts.0, g.parts.1 ∙ f.parts.1);
@@ -53,7 +53,7 @@ keeps-then u v w f g = record {
   holds = λ q. holds-then u v w q (f.holds q) (g.holds q);
 }
 
-pub moves-keep : (done : List Did) (v w : View Said) → MovesFrames done v w → KeepsAll v w
+pub moves-keep : (done : List Did) (v w : View Said) → MovesFrames done v w → KeepsLocksOnly v w
 moves-keep done v w m = record {
   start = m.start;
   parts = m.parts;
@@ -67,13 +67,13 @@ moves-keep done v w m = record {
   holds = λ q. record { shares = ap (λ s. (put_at no_seat s q).shares) m.pages.0; exclusive = ap (λ s. (put_at no_seat s q).exclusive) m.pages.0; writing = ap (λ s. (put_at no_seat s q).writing) m.pages.0 };
 }
 
-pub alloc-keeps : (home cap n : ℕ) (old new : List ℕ) (v w : View Said) (a : Alloc) → IsAlloc home cap n old new v w a → KeepsAll v w
-alloc-keeps home cap n old new v w (allocs.Batch batch) (inl own) = subst (λ (y : View Said). KeepsAll v y) (sym own.same) (keeps-self v)
+pub alloc-keeps : (home cap n : ℕ) (old new : List ℕ) (v w : View Said) (a : Alloc) → IsAlloc home cap n old new v w a → KeepsLocksOnly v w
+alloc-keeps home cap n old new v w (allocs.Batch batch) (inl own) = subst (λ (y : View Said). KeepsLocksOnly v y) (sym own.same) (keeps-self v)
 alloc-keeps home cap n old new v w (allocs.Batch batch) (inr taken) = moves-keep _ v w taken.moves
 alloc-keeps home cap n old new v w allocs.Dry dry = moves-keep _ v w dry.refused.moves
 alloc-keeps home cap n old new v w (allocs.Again saw) lost = moves-keep _ v w lost.refused.moves
 
-pub freed-keeps : (cap : ℕ) (old frames new : List ℕ) (v w : View Said) → IsFreed cap old frames new v w → KeepsAll v w
+pub freed-keeps : (cap : ℕ) (old frames new : List ℕ) (v w : View Said) → IsFreed cap old frames new v w → KeepsLocksOnly v w
 freed-keeps cap old frames new v w f = moves-keep f.back.done v w f.back.moves
 
 -- ---- frames that are taken
@@ -121,7 +121,7 @@ alloc-beside home cap n l old new batch v w h k (inr t) =
     })
 
 -- they stay so where nothing was handed out
-pub refused-beside : (l old new : List ℕ) (done : List Did) (v w : View Said) → AreHeld (l ++ old) v → IsRefused done old new v w → AreHeld (new ++ l) w
+pub refused-beside : (l old new : List ℕ) (done : List Did) (v w : View Said) → AreHeld (l ++ old) v → TakesNone done old new v w → AreHeld (new ++ l) w
 refused-beside l old new done v w h r =
     subst (λ (m : List ℕ). AreHeld (m ++ l) w) (sym r.same)
     (held-on l v w (subst (λ (m : List ℕ). AreHeld m v) (ap (λ (m : List ℕ). l ++ m) r.none ∙ append-none l) h) r.moves.start r.frames)

@@ -11,9 +11,9 @@ use Rattle.vm_exmap.proofs.Handing.{held-on, held-swap}
 use Rattle.vm_guard.specs.declared.exclusive.ExclusiveGuard.{ExclusiveGuard}
 use Rattle.vm_guard.specs.declared.opt.OptGuard.{OptGuard}
 use Rattle.vm_guard.specs.Guards.{IsHolding, IsReleased}
-use Rattle.vm_tree_write.specs.Prepares.{AreLocked, GivesUp}
+use Rattle.vm_tree_write.specs.Prepares.{AreLocked, GivesUpBoth}
 use Rattle.vm_tree_read.specs.Waiting.{LosesNone}
-use Rattle.vm_tree_write.specs.Splits.{HasDraft, KeepsAll}
+use Rattle.vm_tree_write.specs.Splits.{HasDraft, KeepsLocksOnly}
 use Rattle.vm_tree_write.proofs.Framing.{keeps-then, moves-keep}
 use Rattle.vm_tree_read.proofs.Losing.{loses-swap}
 use Rattle.vm_tree_write.proofs.Refusing.{IsNone, back-keeps, holding-nil, nil-keeps}
@@ -79,7 +79,7 @@ module _ (a b : OptGuard) (up low : ExclusiveGuard) (v w : View Said) (l : AreLo
     pub none-lost : (own : List ℕ) → LosesNone (before ++ own) v (own ++ after) y
     none-lost own = subst (λ (m : List ℕ). LosesNone (before ++ own) v (own ++ m) y) (sym none.same) (loses-swap before own v y (none.nil.keeps.frames ∙ locks-frames))
 
-    pub none-ended : (u z : View Said) → KeepsAll u v → GivesUp up low y z → KeepsAll u z
+    pub none-ended : (u z : View Said) → KeepsLocksOnly u v → GivesUpBoth up low y z → KeepsLocksOnly u z
     none-ended u z k g =
         let nil = nil-keeps none.pages none.done w y none.nil in
         let low-back = subst (λ p. IsReleased p low.version None y g.between) l.low_page g.low_back in

@@ -10,10 +10,10 @@ use Rattle.vm_rule.specs.Layout.{bundle_count, index_of}
 use Rattle.vm_step.specs.Alone.{IsAlone}
 use Rattle.vm_step.proofs.Alone.{still-alone}
 use Rattle.vm_guard.specs.Guards.{IsLocked, IsReleased}
-use Rattle.vm_guard.specs.Sure.{IsFree, IsKnownFree, known_next, known_word}
+use Rattle.vm_guard.specs.Sure.{IsUnlockedWord, IsKnownFree, known_next, known_word}
 use Rattle.vm_tree_laws.specs.Tied.{Tied}
 use Rattle.vm_tree_rule.specs.Resident.{KnowsResident}
-use Rattle.vm_tree_write.specs.Drafts.{IsRedrafted, KnowsPages}
+use Rattle.vm_tree_write.specs.Drafts.{IsRedrafted, KnowsSameStates}
 use Rattle.vm_tree_write.proofs.Settling.{locked-alone, locked-next, locked-word}
 
 module _ (p version : ℕ) (said : Option Said) (v w : View Said) (r : IsReleased p version said v w) (alone : IsAlone v) where
@@ -27,7 +27,7 @@ module _ (p version : ℕ) (said : Option Said) (v w : View Said) (r : IsRelease
       ∙ get_or-set_other v.snapshot.words p (index_of v.start places.Next) (version + 1) 0 (λ e. let more = bundle_count v.start in omega (arith, inside, e))
 
 -- it knows the page to be free again, and all others as before
-pub resident-written : (p f version : ℕ) (dirty : Bool) (said : Option Said) (v x y w : View Said) → IsLocked Tied p f version dirty v x → IsRedrafted p x y → KnowsPages x y → IsReleased p version said y w → KnowsResident v → KnowsResident w
+pub resident-written : (p f version : ℕ) (dirty : Bool) (said : Option Said) (v x y w : View Said) → IsLocked Tied p f version dirty v x → IsRedrafted p x y → KnowsSameStates x y → IsReleased p version said y w → KnowsResident v → KnowsResident w
 resident-written p f version dirty said v x y w l d pages r k =
     let ax : IsAlone x = locked-alone p f version dirty v x l k.alone in
     let ay : IsAlone y = still-alone x y d.elsewhere.steady.parts d.alone.current ax in
@@ -40,6 +40,6 @@ resident-written p f version dirty said v x y w l d pages r k =
       each = λ q below inside.
           let here : q < v.start.pages = subst (λ (o : Origin). q < o.pages) start inside in
           ⊎_elim (λ (e : q ≡ p). subst (λ (n : ℕ). IsKnownFree n w) (sym e) (r.free ay).0)
-          (λ ne. subst IsFree (sym (released-word p version said y w r ay q ne ∙ pages.states ax q (subst (λ (o : Origin). q < o.pages) (sym start_x) here) ∙ locked-word p f version dirty v x l k.alone q ne)) (k.each q (subst (λ (n : ℕ). q < n) next below) here))
+          (λ ne. subst IsUnlockedWord (sym (released-word p version said y w r ay q ne ∙ pages.states ax q (subst (λ (o : Origin). q < o.pages) (sym start_x) here) ∙ locked-word p f version dirty v x l k.alone q ne)) (k.each q (subst (λ (n : ℕ). q < n) next below) here))
           (cases_eq q p);
     }

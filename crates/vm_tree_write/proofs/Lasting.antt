@@ -17,9 +17,9 @@ use Rattle.vm_pool.specs.Sweeps.{IsSwept}
 use Rattle.vm_tree_read.specs.Waiting.{Waits}
 use Rattle.vm_tree_read.proofs.Lasting.{bring-waits}
 use Rattle.vm_tree_read.proofs.Seen.{swept-goes}
-use Rattle.vm_tree_write.specs.Waiting.{IsReplied}
-use Rattle.vm_tree_write.specs.Splits.{KeepsAll}
-use Rattle.vm_tree_write.specs.Writes.{IsVain, IsWritten}
+use Rattle.vm_tree_write.specs.Waiting.{IsWriteReplied}
+use Rattle.vm_tree_write.specs.Splits.{KeepsLocksOnly}
+use Rattle.vm_tree_write.specs.Writes.{IsVain, IsWriteDone}
 use Rattle.vm_tree_write.proofs.Framing.{keeps-then}
 use Rattle.vm_tree_write.proofs.Writing.{entry-same}
 
@@ -35,14 +35,14 @@ record HasReply (said : Said) (x w : View Said) : Type 0 where
   notes : w.notes ≡ x.notes
   parts : (w.used ≡ x.used) × (w.fresh ≡ x.fresh)
 
-has-reply : (said : Said) (x w : View Said) → (IsWritten said x w × ¬ (IsVain said)) ⊎ (IsAnswered said x w × IsVain said) → HasReply said x w
+has-reply : (said : Said) (x w : View Said) → (IsWriteDone said x w × ¬ (IsVain said)) ⊎ (IsAnswered said x w × IsVain said) → HasReply said x w
 has-reply said x w a =
     ⊎_elim
-    (λ (both : IsWritten said x w × ¬ (IsVain said)). let k = both.0 in record { mine = k.mine; entry = k.entry; legal = λ tells. (k.told tells).legal; holds = k.writes.holds; out = k.writes.out; start = k.writes.start; frames = k.writes.frames.0; notes = k.writes.notes; parts = k.writes.parts })
+    (λ (both : IsWriteDone said x w × ¬ (IsVain said)). let k = both.0 in record { mine = k.mine; entry = k.entry; legal = λ tells. (k.told tells).legal; holds = k.writes.holds; out = k.writes.out; start = k.writes.start; frames = k.writes.frames.0; notes = k.writes.notes; parts = k.writes.parts })
     (λ (both : IsAnswered said x w × IsVain said). let k = both.0 in record { mine = k.mine; entry = k.entry; legal = λ tells. (k.told tells).legal; holds = k.reads.holds; out = k.reads.out; start = k.reads.start; frames = k.reads.frames.0; notes = k.reads.notes; parts = k.reads.parts })
     a
 
-pub del-frames : (said : Said) (x w : View Said) → (IsWritten said x w × ¬ (IsVain said)) ⊎ (IsAnswered said x w × IsVain said) → (w.start ≡ x.start) × (w.frames ≡ x.frames)
+pub del-frames : (said : Said) (x w : View Said) → (IsWriteDone said x w × ¬ (IsVain said)) ⊎ (IsAnswered said x w × IsVain said) → (w.start ≡ x.start) × (w.frames ≡ x.frames)
 del-frames said x w a = let k = has-reply said x w a in (k.start, k.frames)
 
 -- what is left of the pass by all that was done before the last try
@@ -58,13 +58,13 @@ pub record Lasts (v x : View Said) : Type 0 where
 pub waits-last : (v x : View Said) → Waits v x → Lasts v x
 waits-last v x k = record { start = k.start; parts = k.parts; mine = k.mine; seen = k.seen; out = k.out; notes = k.notes; holds = k.holds }
 
-pub keeps-last : (v x : View Said) → KeepsAll v x → Lasts v x
+pub keeps-last : (v x : View Said) → KeepsLocksOnly v x → Lasts v x
 keeps-last v x k = record { start = k.start; parts = k.parts; mine = k.mine; seen = k.seen; out = k.out; notes = k.notes; holds = k.holds }
 
-pub waits-keep : (v x : View Said) → Waits v x → KeepsAll v x
+pub waits-keep : (v x : View Said) → Waits v x → KeepsLocksOnly v x
 waits-keep v x k = record { start = k.start; parts = k.parts; mine = k.mine; seen = k.seen; notes = k.notes; log = k.log; out = k.out; pending = k.group.0; owed = k.group.1; holds = k.holds }
 
-pub replied : (keeps : View Said → View Said → Type 0) (said : Said) (v x w : View Said) → keeps v x → Lasts v x → (IsWritten said x w × ¬ (IsVain said)) ⊎ (IsAnswered said x w × IsVain said) → IsReplied keeps said v w
+pub replied : (keeps : View Said → View Said → Type 0) (said : Said) (v x w : View Said) → keeps v x → Lasts v x → (IsWriteDone said x w × ¬ (IsVain said)) ⊎ (IsAnswered said x w × IsVain said) → IsWriteReplied keeps said v w
 replied keeps said v x w kept k answered =
     let a = has-reply said x w answered in
     let same : entry_of x said ≡ entry_of v said = entry-same v x said k.parts.0 k.mine in
@@ -86,6 +86,6 @@ replied keeps said v x w kept k answered =
     }
 
 -- a sweep after a try
-pub sweep-keeps : (want cap : ℕ) (old new : List ℕ) (report : Report) (v x w : View Said) → KeepsAll v x → KeepsLocks x w → IsSwept want cap old new report x w → KeepsAll v w
+pub sweep-keeps : (want cap : ℕ) (old new : List ℕ) (report : Report) (v x w : View Said) → KeepsLocksOnly v x → KeepsLocks x w → IsSwept want cap old new report x w → KeepsLocksOnly v w
 sweep-keeps want cap old new report v x w k locks swept =
     keeps-then v x w k (waits-keep x w (bring-waits x w locks (swept-goes want cap old new report x w swept)))

@@ -8,11 +8,11 @@ use Rattle.vm_rule.specs.declared.view.Did.{Did}
 use Rattle.vm_rule.specs.declared.view.View.{View}
 use Rattle.vm_rule.specs.Releases.{without_all}
 use Rattle.vm_rule.proofs.Bundled.{has-without_all}
-use Rattle.vm_exmap.specs.Walks.{IsRefused}
+use Rattle.vm_exmap.specs.Walks.{TakesNone}
 use Rattle.vm_tree_read.specs.Waiting.{LosesNone}
 use Rattle.vm_tree_read.proofs.Losing.{has-behind, has-neither, has-none, loses-same}
 
-pub refused-loses : (l old new : List ℕ) (done : List Did) (v w : View Said) → IsRefused done old new v w → LosesNone (l ++ old) v (new ++ l) w
+pub refused-loses : (l old new : List ℕ) (done : List Did) (v w : View Said) → TakesNone done old new v w → LosesNone (l ++ old) v (new ++ l) w
 refused-loses l old new done v w r =
     loses-same (l ++ old) (new ++ l) v w r.frames
     (λ f e.

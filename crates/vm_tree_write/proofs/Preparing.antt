@@ -25,7 +25,7 @@ use Rattle.vm_tree_model.specs.Page.{node_of, IsInner}
 use Rattle.vm_tree_rule.specs.Seeks.{HasRead}
 use Rattle.vm_tree_rule.specs.Standing.{Awaits}
 use Rattle.vm_tree_write.specs.Prepares.{IsPrepared}
-use Rattle.vm_tree_write.specs.Splits.{HasDraft, IsSplitUp, KeepsAll}
+use Rattle.vm_tree_write.specs.Splits.{HasDraft, IsSplitUp, KeepsLocksOnly}
 use Rattle.vm_tree_write.proofs.Under.{KeepsBut, amid-holds, awaits-moved, but-then, done-but, draft-amid, draft-else, fresh-but, holding-else, locked-but, locked-draft, locked-inner, moved-holds, moves-but, read-moved, reading-moved, true-false, was-before, was-done, was-fresh, was-locked, was-on}
 
 module _ (n : ℕ) (first second : OptGuard) (up low : ExclusiveGuard) (gs : List ExclusiveGuard) (v w : View Said) (all : IsPrepared n first second up low gs v w) (apart : second.pid ≢ first.pid) where
@@ -182,7 +182,7 @@ module _ (n : ℕ) (first second : OptGuard) (up low : ExclusiveGuard) (gs : Lis
         ∙ ap (without_all pages) (without-none b (pages ++ o) (has-both b pages o ∙ (λ i. second-not i || nb i)))
         ∙ without-front pages o rises none
 
-    pub prepared-keeps : KeepsAll v z
+    pub prepared-keeps : KeepsLocksOnly v z
     prepared-keeps =
         let lb = all.locks.low_locked in
         let la = all.locks.up_locked in

@@ -29,7 +29,7 @@ use Rattle.vm_exmap.proofs.FrameMoves.{leaves-states}
 use Rattle.vm_tree_laws.specs.Tied.{Tied}
 use Rattle.vm_tree_rule.specs.Leaves.{LeavesWord}
 use Rattle.vm_tree_write.specs.Prepares.{SaysDenied}
-use Rattle.vm_tree_write.specs.Splits.{KeepsAll}
+use Rattle.vm_tree_write.specs.Splits.{KeepsLocksOnly}
 use Rattle.vm_tree_write.specs.declared.tries.TrySplit.{TrySplit}
 use Rattle.vm_tree_write.specs.declared.tries.TrySplit.TheVariants as tries
 
@@ -66,7 +66,7 @@ says-denied (denies.Worn p) answer kind is-again is-worn = is-worn p refl
 says-denied (denies.Need q) answer kind is-again is-worn = absurd kind
 says-denied (denies.Crowded q) answer kind is-again is-worn = absurd kind
 
-pub quiet-keeps : (p : ℕ) (done : List Did) (v w : View Said) → IsQuiet p done v w → KeepsAll v w
+pub quiet-keeps : (p : ℕ) (done : List Did) (v w : View Said) → IsQuiet p done v w → KeepsLocksOnly v w
 quiet-keeps p done v w q = record {
   start = q.steady.start;
   parts = q.steady.parts;
@@ -98,7 +98,7 @@ holding-quiet p f version dirty q done v w h e =
 -- ---- a lock that is given up again
 
 -- it was locked, other calls left all, and it was released: all is as before
-pub back-keeps : (p f version : ℕ) (dirty : Bool) (v x y w : View Said) → IsLocked Tied p f version dirty v x → KeepsAll x y → IsReleased p version None y w → KeepsAll v w
+pub back-keeps : (p f version : ℕ) (dirty : Bool) (v x y w : View Said) → IsLocked Tied p f version dirty v x → KeepsLocksOnly x y → IsReleased p version None y w → KeepsLocksOnly v w
 back-keeps p f version dirty v x y w l k r =
     let here : HoldsPage v w p = record {
       shares = ap (λ (s : Seat). s.shares) r.seat ∙ (k.holds p).shares ∙ ap (λ (s : Seat). s.shares) l.seat;
@@ -123,7 +123,7 @@ back-keeps p f version dirty v x y w l k r =
 
 -- ---- fresh pages that were refused
 
-pub nil-keeps : (pages : List ℕ) (done : List Did) (v w : View Said) → IsNil pages done v w → KeepsAll v w
+pub nil-keeps : (pages : List ℕ) (done : List Did) (v w : View Said) → IsNil pages done v w → KeepsLocksOnly v w
 nil-keeps pages done v w n = record {
   start = n.amid.start;
   parts = n.amid.parts;

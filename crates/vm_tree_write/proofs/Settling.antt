@@ -23,7 +23,7 @@ use Rattle.vm_guard.specs.declared.exclusive.ExclusiveGuard.{ExclusiveGuard}
 use Rattle.vm_guard.specs.declared.opt.OptGuard.{OptGuard}
 use Rattle.vm_guard.specs.Guards.{IsLocked}
 use Rattle.vm_guard.specs.Denied.{AgainOrWorn, SameOrUnlocked}
-use Rattle.vm_guard.specs.Sure.{IsFree, IsKnownFree, MayBeTried, known_next, known_word}
+use Rattle.vm_guard.specs.Sure.{IsUnlockedWord, IsKnownFree, MayBeTried, known_next, known_word}
 use Rattle.vm_tree_write.specs.Prepares.{AreLocked, KnowsBoth, KnowsToSplit}
 use Rattle.vm_tree_write.specs.Writes.{SaysWorn}
 
@@ -31,11 +31,11 @@ abbrev pub denied : Deny → Result ExclusiveGuard Deny
 denied deny = Err deny
 
 -- an upgrade is denied only where the page is at the last version
-pub only-worn : (p word : ℕ) (deny : Deny) (v : View Said) → AgainOrWorn deny → IsAlone v → IsFree word → known_word p v ≡ word → (version_of word ≡ MAX_VERSION → denied deny ≡ denied (denies.Worn p))
+pub only-worn : (p word : ℕ) (deny : Deny) (v : View Said) → AgainOrWorn deny → IsAlone v → IsUnlockedWord word → known_word p v ≡ word → (version_of word ≡ MAX_VERSION → denied deny ≡ denied (denies.Worn p))
     → (IsAlone v → IsKnownFree p v → SameOrUnlocked word (known_word p v) → version_of word < MAX_VERSION → IsOk (denied deny)) → SaysWorn deny
 only-worn p word (denies.Again saw) v kind alone free known worn sure =
     ⊎_elim
-    (λ (below : version_of word < MAX_VERSION). absurd (false≢true (sure alone (subst IsFree (sym known) free) (inl known) below)))
+    (λ (below : version_of word < MAX_VERSION). absurd (false≢true (sure alone (subst IsUnlockedWord (sym known) free) (inl known) below)))
     (λ (last : MAX_VERSION ≤ version_of word). let within = version-within word in let no = worn (omega (arith, last, within)) in absurd (cc))
     (cases_lt (version_of word) MAX_VERSION)
 only-worn p word (denies.Worn q) v kind alone free known worn sure = tt

@@ -25,25 +25,25 @@ use Rattle.vm_tree_rule.specs.Leaves.{ReadsOn}
 use Rattle.vm_tree_rule.specs.Seeks.{HasRead}
 use Rattle.vm_tree_rule.specs.Standing.{Awaits, IsOpened}
 use Rattle.vm_tree_rule.specs.declared.turn.Turn.TheVariants as turns
-use Rattle.vm_tree_rule.specs.Turns.{IsTurn}
+use Rattle.vm_tree_rule.specs.Turns.{IsTurnedBack}
 use Rattle.vm_tree_rule.proofs.Readings.{denied-reads, reads-then, valid-reads}
 use Rattle.vm_tree_rule.proofs.Entering.{opened-reads}
 use Rattle.vm_tree_read.proofs.Answering.{answered-later, words-are}
 use Rattle.vm_tree_write.proofs.Backing.{shown-refused, shown-unlocked, shown-wider}
 use Rattle.vm_tree_write.proofs.Writing.{leaf-is, written-later}
 use Rattle.vm_tree_read.specs.Reads.{IsAnswered}
-use Rattle.vm_tree_write.specs.Writes.{IsFullLeaf, IsTight, IsUnwritten, IsVain, IsWornLeaf, IsWritten}
+use Rattle.vm_tree_write.specs.Writes.{IsFullLeaf, IsTight, IsWriteToTry, IsVain, IsWornLeaf, IsWriteDone}
 
-pub not-read : (key : ℕ) (saw : Saw) (v w : View Said) → IsTurn v key (turns.Again saw) w → ReadsOn v w × IsUnwritten v key saw w
+pub not-read : (key : ℕ) (saw : Saw) (v w : View Said) → IsTurnedBack v key (turns.Again saw) w → ReadsOn v w × IsWriteToTry v key saw w
 not-read key saw v w a = (a.0, inl (shown-wider saw v w a.1))
 
-pub not-there : (key : ℕ) (saw : Saw) (v w : View Said) → IsTurn v key (turns.Astray saw) w → ReadsOn v w × IsUnwritten v key saw w
+pub not-there : (key : ℕ) (saw : Saw) (v w : View Said) → IsTurnedBack v key (turns.Astray saw) w → ReadsOn v w × IsWriteToTry v key saw w
 not-there key saw v w a = (a.0, inr a.1)
 
 lock-reads : (p word frame : ℕ) (deny : Deny) (v x w : View Said) → IsOpened v p word frame x → IsDenied AgainOrWorn (KeptWord word) UnlockedExpected p deny x w → ReadsOn v w
 lock-reads p word frame deny v x w o d = reads-then v x w (opened-reads p word frame v x o) (denied-reads AgainOrWorn (KeptWord word) UnlockedExpected p deny x w d)
 
-pub not-locked : (p word frame key : ℕ) (saw : Saw) (v x w : View Said) → IsOpened v p word frame x → IsDenied AgainOrWorn (KeptWord word) UnlockedExpected p (denies.Again saw) x w → ReadsOn v w × IsUnwritten v key saw w
+pub not-locked : (p word frame key : ℕ) (saw : Saw) (v x w : View Said) → IsOpened v p word frame x → IsDenied AgainOrWorn (KeptWord word) UnlockedExpected p (denies.Again saw) x w → ReadsOn v w × IsWriteToTry v key saw w
 not-locked p word frame key saw v x w o d = (lock-reads p word frame (denies.Again saw) v x w o d, inl (shown-unlocked p word frame saw v x w o d))
 
 pub worn-leaf : (p q word frame key : ℕ) (words : List ℕ) (v x w : View Said) → IsOpened v p word frame x → Awaits x p word 0 key → HasRead x p words → ((node_of words).tag ≡ 2) × Covers (node_of words) key → IsDenied AgainOrWorn (KeptWord word) UnlockedExpected p (denies.Worn q) x w → ReadsOn v w × IsWornLeaf v key q w
@@ -64,7 +64,7 @@ worn-leaf p q word frame key words v x w o a read leaf d =
       },
     )
 
-pub not-valid : (p word frame key : ℕ) (saw : Saw) (v x w : View Said) → IsOpened v p word frame x → IsDenied AgainOrNeed (KeptWord word) NoneExpected p (denies.Again saw) x w → ReadsOn v w × IsUnwritten v key saw w
+pub not-valid : (p word frame key : ℕ) (saw : Saw) (v x w : View Said) → IsOpened v p word frame x → IsDenied AgainOrNeed (KeptWord word) NoneExpected p (denies.Again saw) x w → ReadsOn v w × IsWriteToTry v key saw w
 not-valid p word frame key saw v x w o d =
     (reads-then v x w (opened-reads p word frame v x o) (denied-reads AgainOrNeed (KeptWord word) NoneExpected p (denies.Again saw) x w d), inl (shown-wider saw v w (shown-refused p word frame saw v x w o d)))
 
@@ -101,11 +101,11 @@ tight p word frame key before page v x w o long loads leaf count full k =
 pub put-edit : (key value : ℕ) (was : Option ℕ) (page after : List ℕ) → Covers (node_of page) key → (IsLeaf page → Covers (node_of page) key → PutsInLeaf page after key value was) → IsLeaf page → IsEdit page after (Put key value) (Was was)
 put-edit key value was page after covers puts leaf = let k = puts leaf covers in (covers, k.was_there, k.after)
 
-pub put-done : (key value : ℕ) (reply : Reply) (was : Option ℕ) (page : List ℕ) (v x w : View Said) → ¬ (IsFullFor page key) → reply ≡ Was was → ReadsOn v x → (a : IsWritten (record { call = Put key value; reply = Was was }) x w) × (a.old ≡ page)
-    → (a : IsWritten (record { call = Put key value; reply = reply }) v w) × ¬ (IsFullFor a.old key)
+pub put-done : (key value : ℕ) (reply : Reply) (was : Option ℕ) (page : List ℕ) (v x w : View Said) → ¬ (IsFullFor page key) → reply ≡ Was was → ReadsOn v x → (a : IsWriteDone (record { call = Put key value; reply = Was was }) x w) × (a.old ≡ page)
+    → (a : IsWriteDone (record { call = Put key value; reply = reply }) v w) × ¬ (IsFullFor a.old key)
 put-done key value reply was page v x w room is reads a =
     let later = written-later (record { call = Put key value; reply = Was was }) v x w reads a.0 in
-    subst (λ (r : Reply). (b : IsWritten (record { call = Put key value; reply = r }) v w) × ¬ (IsFullFor b.old key)) (sym is)
+    subst (λ (r : Reply). (b : IsWriteDone (record { call = Put key value; reply = r }) v w) × ¬ (IsFullFor b.old key)) (sym is)
     (later.0, subst (λ (l : List ℕ). ¬ (IsFullFor l key)) (sym (later.1 ∙ a.1)) room)
 
 -- the del of a leaf that has the key edits it
@@ -116,17 +116,17 @@ del-edit key was page after covers is dels leaf = (covers, is _ _ leaf.node.rise
 had-not : (key was : ℕ) → ¬ (IsVain (record { call = Del key; reply = Gone (Some was) }))
 had-not key was k = let no : Gone (Some was) ≡ Gone None = ap (λ (s : Said). s.reply) k.1 in absurd (cc)
 
-pub del-done : (key : ℕ) (reply : Reply) (was : ℕ) (page : List ℕ) (v x w : View Said) → reply ≡ Gone (Some was) → ReadsOn v x → (a : IsWritten (record { call = Del key; reply = Gone (Some was) }) x w) × (a.old ≡ page)
-    → (IsWritten (record { call = Del key; reply = reply }) v w × ¬ (IsVain (record { call = Del key; reply = reply }))) ⊎ (IsAnswered (record { call = Del key; reply = reply }) v w × IsVain (record { call = Del key; reply = reply }))
+pub del-done : (key : ℕ) (reply : Reply) (was : ℕ) (page : List ℕ) (v x w : View Said) → reply ≡ Gone (Some was) → ReadsOn v x → (a : IsWriteDone (record { call = Del key; reply = Gone (Some was) }) x w) × (a.old ≡ page)
+    → (IsWriteDone (record { call = Del key; reply = reply }) v w × ¬ (IsVain (record { call = Del key; reply = reply }))) ⊎ (IsAnswered (record { call = Del key; reply = reply }) v w × IsVain (record { call = Del key; reply = reply }))
 del-done key reply was page v x w is reads a =
     let later = written-later (record { call = Del key; reply = Gone (Some was) }) v x w reads a.0 in
-    inl (subst (λ (r : Reply). IsWritten (record { call = Del key; reply = r }) v w × ¬ (IsVain (record { call = Del key; reply = r }))) (sym is) (later.0, had-not key was))
+    inl (subst (λ (r : Reply). IsWriteDone (record { call = Del key; reply = r }) v w × ¬ (IsVain (record { call = Del key; reply = r }))) (sym is) (later.0, had-not key was))
 
 -- a put is no del
 pub put-not : (key value : ℕ) (reply : Reply) → ¬ (IsVain (record { call = Put key value; reply = reply }))
 put-not key value reply k = let no : Put key value ≡ Del k.0 = ap (λ (s : Said). s.call) k.1 in absurd (cc)
 
 pub del-missed : (key : ℕ) (reply : Reply) (v x w : View Said) → reply ≡ Gone None → ReadsOn v x → IsAnswered (record { call = Del key; reply = Gone None }) x w
-    → (IsWritten (record { call = Del key; reply = reply }) v w × ¬ (IsVain (record { call = Del key; reply = reply }))) ⊎ (IsAnswered (record { call = Del key; reply = reply }) v w × IsVain (record { call = Del key; reply = reply }))
+    → (IsWriteDone (record { call = Del key; reply = reply }) v w × ¬ (IsVain (record { call = Del key; reply = reply }))) ⊎ (IsAnswered (record { call = Del key; reply = reply }) v w × IsVain (record { call = Del key; reply = reply }))
 del-missed key reply v x w is reads a =
     inr (subst (λ (r : Reply). IsAnswered (record { call = Del key; reply = r }) v w × IsVain (record { call = Del key; reply = r })) (sym is) (answered-later (record { call = Del key; reply = Gone None }) v x w reads a, (key, refl)))

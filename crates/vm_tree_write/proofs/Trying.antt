@@ -21,12 +21,12 @@ use Rattle.vm_tree_rule.specs.declared.turn.Turn.TheVariants as turns
 use Rattle.vm_tree_rule.specs.Leaves.{ReadsOn}
 use Rattle.vm_tree_rule.specs.Seeks.{IsFullBelow, IsRootFull, IsRoomy}
 use Rattle.vm_tree_rule.specs.Standing.{IsOpened}
-use Rattle.vm_tree_rule.specs.Turns.{IsTurn}
+use Rattle.vm_tree_rule.specs.Turns.{IsTurnedBack}
 use Rattle.vm_tree_rule.proofs.Entering.{opened-reads}
 use Rattle.vm_tree_rule.proofs.Readings.{denied-reads, reads-then, valid-reads}
 use Rattle.vm_tree_write.proofs.Backing.{backed-lock, backed-pages, backed-short, backed-shown, shown-refused, shown-wider}
 use Rattle.vm_tree_write.specs.Prepares.{IsNotLocked, IsRefusedPages, IsShort, SaysDenied, SaysRefused, SaysShort}
-use Rattle.vm_tree_write.specs.Splits.{KeepsAll}
+use Rattle.vm_tree_write.specs.Splits.{KeepsLocksOnly}
 use Rattle.vm_tree_write.specs.Tries.{IsBackedBy, IsCause, IsEnded, IsEndOf, IsTrySplit, IsUnsplit}
 use Rattle.vm_tree_write.specs.Tries.IsEnded.{root, below}
 use Rattle.vm_tree_write.specs.Tries.IsUnsplit.{short, unclaimed, unlocked}
@@ -34,7 +34,7 @@ use Rattle.vm_tree_write.specs.declared.tries.TrySplit.{TrySplit}
 use Rattle.vm_tree_write.specs.declared.tries.TrySplit.TheVariants as tries
 use Rattle.vm_tree_write.proofs.Framing.{keeps-then}
 
-pub reads-keep : (v w : View Said) → ReadsOn v w → KeepsAll v w
+pub reads-keep : (v w : View Said) → ReadsOn v w → KeepsLocksOnly v w
 reads-keep v w r = record {
   start = r.0.start;
   parts = r.0.parts;
@@ -48,18 +48,18 @@ reads-keep v w r = record {
   holds = r.0.holds;
 }
 
-pub turn-reads : (key : ℕ) (turn : Turn) (v w : View Said) → IsTurn v key turn w → ReadsOn v w
+pub turn-reads : (key : ℕ) (turn : Turn) (v w : View Said) → IsTurnedBack v key turn w → ReadsOn v w
 turn-reads key (turns.Again saw) v w a = a.0
 turn-reads key (turns.Need p) v w a = a.0
 turn-reads key (turns.Astray saw) v w a = a.0
 
-pub turn-again : (key : ℕ) (saw : Saw) (v w : View Said) → IsTurn v key (turns.Again saw) w → IsTrySplit key (tries.Again saw) v w
+pub turn-again : (key : ℕ) (saw : Saw) (v w : View Said) → IsTurnedBack v key (turns.Again saw) w → IsTrySplit key (tries.Again saw) v w
 turn-again key saw v w a = (reads-keep v w a.0, inl (backed-shown saw v w (shown-wider saw v w a.1), inl a))
 
-pub turn-astray : (key : ℕ) (saw : Saw) (v w : View Said) → IsTurn v key (turns.Astray saw) w → IsTrySplit key (tries.Again saw) v w
+pub turn-astray : (key : ℕ) (saw : Saw) (v w : View Said) → IsTurnedBack v key (turns.Astray saw) w → IsTrySplit key (tries.Again saw) v w
 turn-astray key saw v w a = (reads-keep v w a.0, inr a)
 
-pub turn-need : (key p : ℕ) (v w : View Said) → IsTurn v key (turns.Need p) w → IsTrySplit key (tries.Need p) v w
+pub turn-need : (key p : ℕ) (v w : View Said) → IsTurnedBack v key (turns.Need p) w → IsTrySplit key (tries.Need p) v w
 turn-need key p v w a = (reads-keep v w a.0, a)
 
 -- ---- nothing is full
@@ -154,12 +154,12 @@ caused v key w answer e (OfFull.was_worn p is) = subst (λ a. IsCause key a v w)
 caused v key w answer e (OfFull.was_dry is) = subst (λ a. IsCause key a v w) (sym is) (subst (IsEnded v key w) is e)
 caused v key w answer e (OfFull.was_full pages next need is) = subst (λ a. IsCause key a v w) (sym is) (subst (IsEnded v key w) is e)
 
-pub tried-below : (key : ℕ) (parent node : OptGuard) (over page : List ℕ) (answer : TrySplit) (v x w : View Said) → ReadsOn v x → IsFullBelow v key parent node over page x → KeepsAll x w → IsEndOf 1 parent node x w answer → IsTrySplit key answer v w
+pub tried-below : (key : ℕ) (parent node : OptGuard) (over page : List ℕ) (answer : TrySplit) (v x w : View Said) → ReadsOn v x → IsFullBelow v key parent node over page x → KeepsLocksOnly x w → IsEndOf 1 parent node x w answer → IsTrySplit key answer v w
 tried-below key parent node over page answer v x w r met k e =
     let ended = below parent node over page x r met e in
     (keeps-then v x w (reads-keep v x r) k, caused v key w answer ended (of-ended v key w answer ended))
 
-pub tried-root : (key : ℕ) (meta low : OptGuard) (height : ℕ) (page : List ℕ) (answer : TrySplit) (v x w : View Said) → ReadsOn v x → IsRootFull v key meta low height page x → KeepsAll x w → IsEndOf 2 meta low x w answer → IsTrySplit key answer v w
+pub tried-root : (key : ℕ) (meta low : OptGuard) (height : ℕ) (page : List ℕ) (answer : TrySplit) (v x w : View Said) → ReadsOn v x → IsRootFull v key meta low height page x → KeepsLocksOnly x w → IsEndOf 2 meta low x w answer → IsTrySplit key answer v w
 tried-root key meta low height page answer v x w r met k e =
     let ended = root meta low height page x r met e in
     (keeps-then v x w (reads-keep v x r) k, caused v key w answer ended (of-ended v key w answer ended))

@@ -5,7 +5,7 @@ use Rattle.std.proofs.lemmas.List.{append_cancel_left}
 use Rattle.vm_core.specs.Words.{state_of, version_of, word_of, LOCKED, UNLOCKED}
 use Rattle.vm_map.specs.declared.call.Said.{Said}
 use Rattle.vm_owner.specs.declared.Entry.{Entry}
-use Rattle.vm_owner.specs.Kept.{AreUnchanged, calls_of}
+use Rattle.vm_owner.specs.Kept.{AreUnchanged, entries_under}
 use Rattle.vm_owner.proofs.NumberLemmas.{without-none}
 use Rattle.vm_rule.specs.declared.view.Did.{Did}
 use Rattle.vm_rule.specs.declared.view.Origin.{Origin}
@@ -29,7 +29,7 @@ use Rattle.vm_step.proofs.Evidenced.{next-stays}
 use Rattle.vm_tree_model.specs.Page.{node_of, IsLeaf, IsInner, IsFree}
 use Rattle.vm_tree_model.specs.Tree.{map_of}
 use Rattle.vm_tree_laws.specs.History.{IsLegal}
-use Rattle.vm_tree_laws.specs.Keeps.{Keeps}
+use Rattle.vm_tree_laws.specs.Keeps.{KeepsTree}
 use Rattle.vm_tree_laws.specs.May.{IsEdit, MayRelease}
 use Rattle.vm_tree_laws.specs.Tied.{IsSound, Tied}
 use Rattle.vm_guard.specs.Guards.{IsElsewhere, IsLocked, IsReading, IsReleased, placed}
@@ -39,7 +39,7 @@ use Rattle.vm_tree_rule.proofs.Readings.{reads-self, reads-then}
 use Rattle.vm_tree_read.proofs.Answering.{words-are}
 use Rattle.vm_tree_write.proofs.Drafting.{Stores}
 use Rattle.vm_tree_write.specs.Drafts.{IsRedrafted, SetsDiffering}
-use Rattle.vm_tree_write.specs.Writes.{IsBorneOutBy, IsWritten, OnlyWrites}
+use Rattle.vm_tree_write.specs.Writes.{IsBorneOutBy, IsWriteDone, OnlyWrites}
 
 -- a page of the tree with a leaf's tag is a leaf
 pub leaf-is : (pages p : ℕ) (words : List ℕ) → IsSound pages p words → (node_of words).tag ≡ 2 → IsLeaf words
@@ -75,7 +75,7 @@ written-behind a b at x h = record {
 
 -- the entry of a pass with the same numbers and entries
 pub entry-same : (v x : View Said) (said : Said) → x.used ≡ v.used → x.mine ≡ v.mine → entry_of x said ≡ entry_of v said
-entry-same v x said used mine i = record { number = slice_index (used i) 0; count = calls_of (slice_index (used i) 0) (mine i) + 1; said = said }
+entry-same v x said used mine i = record { number = slice_index (used i) 0; count = entries_under (slice_index (used i) 0) (mine i) + 1; said = said }
 
 module _ {X : Type 0} where
   -- a page that the pass did not hold is not locked
@@ -171,11 +171,11 @@ module _ (p f version word frame : ℕ) (dirty : Bool) (said : Said) (earlier : 
           (subst (Each (Stores before after)) same s.differ)
           (each-map _ (Stores before after) (λ t here. no-content-near before after p t (inl here)) e.done e.places_are))
 
-      borne-out : (node_of before).tag ≡ 2 → (IsLeaf before → IsEdit before after said.call said.reply) → (v.start.tells ≡ true → IsKeptNow Keeps p (Unit {0}) w) → v.start.tells ≡ true → IsBorneOutBy p before after said v w
+      borne-out : (node_of before).tag ≡ 2 → (IsLeaf before → IsEdit before after said.call said.reply) → (v.start.tells ≡ true → IsKeptNow KeepsTree p (Unit {0}) w) → v.start.tells ≡ true → IsBorneOutBy p before after said v w
       borne-out tag edit kept-if tells =
           let kept = kept-if tells in
           let last : (last_of w p).words ≡ after = ap (λ (z : Rattle.vm_core.specs.History.Version). z.words) e.last ∙ drafted tells in
-          let keeps : Keeps (began_of v.start) kept.kept = subst (λ (o : Origin). Keeps (began_of o) kept.kept) rest.steady.start kept.holds in
+          let keeps : KeepsTree (began_of v.start) kept.kept = subst (λ (o : Origin). KeepsTree (began_of o) kept.kept) rest.steady.start kept.holds in
           record {
             legal = subst (IsLegal (map_of v.start.contents)) kept.history keeps.legal;
             kept = kept.kept;
@@ -187,7 +187,7 @@ module _ (p f version word frame : ℕ) (dirty : Bool) (said : Said) (earlier : 
             edit = edit (leaf-before tells tag);
           }
 
-      pub written : ((node_of before).tag ≡ 2) → (IsLeaf before → IsEdit before after said.call said.reply) → SetsDiffering before after x y → (v.start.tells ≡ true → IsKeptNow Keeps p (Unit {0}) w) → (a : IsWritten said v w) × (a.old ≡ before)
+      pub written : ((node_of before).tag ≡ 2) → (IsLeaf before → IsEdit before after said.call said.reply) → SetsDiffering before after x y → (v.start.tells ≡ true → IsKeptNow KeepsTree p (Unit {0}) w) → (a : IsWriteDone said v w) × (a.old ≡ before)
       unfolding only
       written tag edit sets kept =
           let used : y.used ≡ v.used = d.elsewhere.steady.parts.0 ∙ l.elsewhere.steady.parts.0 in
@@ -227,7 +227,7 @@ borne-later : (p : ℕ) (old new : List ℕ) (said : Said) (v x w : View Said) �
 borne-later p old new said v x w start a = record {
   legal = subst (λ (o : Origin). IsLegal (map_of o.contents) w.seen) start a.legal;
   kept = a.kept;
-  keeps = subst (λ (o : Origin). Keeps (began_of o) a.kept) start a.keeps;
+  keeps = subst (λ (o : Origin). KeepsTree (began_of o) a.kept) start a.keeps;
   history = a.history;
   logical = a.logical;
   last = a.last;
@@ -256,7 +256,7 @@ only-later p v x w r a = record {
   alone = λ whole current q ne. a.alone (whole-then v x r.0.parts whole) (r.0.alone.current current) q ne ∙ r.0.alone.words whole current q;
 }
 
-pub written-later : (said : Said) (v x w : View Said) → ReadsOn v x → (a : IsWritten said x w) → (b : IsWritten said v w) × (b.old ≡ a.old)
+pub written-later : (said : Said) (v x w : View Said) → ReadsOn v x → (a : IsWriteDone said x w) → (b : IsWriteDone said v w) × (b.old ≡ a.old)
 unfolding only-later
 written-later said v x w r a =
     let same : entry_of x said ≡ entry_of v said = entry-same v x said r.0.parts.0 r.1 in (

@@ -23,7 +23,7 @@ module _ {X : Type 0} where
     pub last : last_of w p ≡ last_of v p
 
   -- a pass that is alone knows all pages' state words, and the next word, as before
-  pub record KnowsPages (v w : View X) : Type 0 where
+  pub record KnowsSameStates (v w : View X) : Type 0 where
     pub states : KnowsStates v w
     pub next : IsAlone v → known_next w ≡ known_next v
 

@@ -23,7 +23,7 @@ use Rattle.vm_guard.specs.declared.given.Fresh.TheVariants as freshes
 use Rattle.vm_guard.specs.Denied.{AgainOrWorn, IsDenied, KeptWord}
 use Rattle.vm_guard.specs.Fresh.{AreFresh, IsFreshAnswer}
 use Rattle.vm_guard.specs.Guards.{IsLocked, IsReleased}
-use Rattle.vm_guard.specs.Sure.{IsFree, known_next, known_word}
+use Rattle.vm_guard.specs.Sure.{IsUnlockedWord, known_next, known_word}
 use Rattle.vm_tree_laws.specs.Tied.{Tied}
 use Rattle.vm_tree_write.specs.declared.tries.TrySplit.{TrySplit}
 use Rattle.vm_tree_write.specs.declared.tries.TrySplit.TheVariants as tries
@@ -53,7 +53,7 @@ pub record IsPrepared (n : ℕ) (first second : OptGuard) (up low : ExclusiveGua
 -- a pass that is alone knows that both pages are free, at the words of their guards
 pub record KnowsBoth (first second : OptGuard) (v : View Said) : Type 0 where
   pub alone : IsAlone v
-  pub free : IsFree first.word × IsFree second.word
+  pub free : IsUnlockedWord first.word × IsUnlockedWord second.word
   pub words : (known_word first.pid v ≡ first.word) × (known_word second.pid v ≡ second.word)
 
 -- and that they are below the next page; it holds nothing, and knows that nobody else does
@@ -64,7 +64,7 @@ pub record KnowsToSplit (first second : OptGuard) (v : View Said) : Type 0 where
   pub unheld : KnowsUnheld v
 
 -- two pages that the pass held were released, the second one first, and then frames were moved
-pub record GivesUp (up low : ExclusiveGuard) (v w : View Said) : Type 0 where
+pub record GivesUpBoth (up low : ExclusiveGuard) (v w : View Said) : Type 0 where
   pub between : View Said
   pub released : View Said
   pub low_back : IsReleased low.pid low.version None v between
@@ -119,7 +119,7 @@ pub record IsRefusedPages (n : ℕ) (first second : OptGuard) (answer : Fresh) (
   pub after : List ℕ
   pub refused : View Said
   pub fresh : IsFreshAnswer n before after locked refused answer
-  pub back : GivesUp up low refused w
+  pub back : GivesUpBoth up low refused w
 
 -- what a try of a split answers where frames were refused so
 abbrev pub SaysShort : Alloc → TrySplit → Type 0

@@ -105,7 +105,7 @@ pub record IsSplitUp (pages : List ℕ) (v w : View Said) : Type 0 where
   pub done : IsGroupDone pages v w
 
 -- a try of a split left this, whatever it answered: the pass holds just the locks that it held, and made no entry
-pub record KeepsAll (v w : View Said) : Type 0 where
+pub record KeepsLocksOnly (v w : View Said) : Type 0 where
   pub start : w.start ≡ v.start
   pub parts : (w.used ≡ v.used) × (w.fresh ≡ v.fresh)
   pub mine : w.mine ≡ v.mine

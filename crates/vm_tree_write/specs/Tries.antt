@@ -19,7 +19,7 @@ use Rattle.vm_tree_rule.specs.Seeks.{IsFullBelow, IsRoomy, IsRootFull}
 use Rattle.vm_tree_rule.specs.Shown.{IsAgain, IsSeen}
 use Rattle.vm_tree_rule.specs.Turns.{IsAstray, IsNeeded}
 use Rattle.vm_tree_write.specs.Prepares.{IsNotLocked, IsPrepared, IsRefusedPages, IsShort, SaysDenied, SaysRefused, SaysShort}
-use Rattle.vm_tree_write.specs.Splits.{IsSplitUp, KeepsAll}
+use Rattle.vm_tree_write.specs.Splits.{IsSplitUp, KeepsLocksOnly}
 use Rattle.vm_tree_write.specs.declared.tries.TrySplit.{TrySplit}
 use Rattle.vm_tree_write.specs.declared.tries.TrySplit.TheVariants as tries
 
@@ -36,7 +36,7 @@ pub record HasSplit (n : ℕ) (first second : OptGuard) (v w : View Said) : Type
   pub freed : MovesFrames done after w
 
 -- the leaf, the last page of a descent that met no full node, was validated
-pub record HasRoom (v : View Said) (key : ℕ) (w : View Said) : Type 0 where
+pub record MetNoFullNode (v : View Said) (key : ℕ) (w : View Said) : Type 0 where
   pub leaf : OptGuard
   pub page : List ℕ
   pub found : View Said
@@ -68,7 +68,7 @@ pub record IsBackedBy (v : View Said) (saw : Saw) (w : View Said) : Type 0 where
 -- the cause of each answer; where the search for a full node was not ended the call only read
 abbrev pub IsCause : ℕ → TrySplit → View Said → View Said → Type 0
 IsCause key tries.Split v w = IsEnded v key w tries.Split
-IsCause key tries.Roomy v w = HasRoom v key w
+IsCause key tries.Roomy v w = MetNoFullNode v key w
 IsCause key (tries.Need p) v w = ReadsOn v w × IsNeeded v key p w
 IsCause key (tries.Again saw) v w = (IsBackedBy v saw w × ((ReadsOn v w × IsAgain v saw w) ⊎ IsEnded v key w (tries.Again saw))) ⊎ (ReadsOn v w × IsAstray v key saw w)
 IsCause key (tries.Worn p) v w = IsEnded v key w (tries.Worn p)
@@ -77,7 +77,7 @@ IsCause key (tries.Full pages next need) v w = IsEnded v key w (tries.Full pages
 
 -- what a try of a split of the first full node on the way of the key answers. In every case the pass holds what it held, and made no entry
 abbrev pub IsTrySplit : ℕ → TrySplit → View Said → View Said → Type 0
-IsTrySplit key answer v w = KeepsAll v w × IsCause key answer v w
+IsTrySplit key answer v w = KeepsLocksOnly v w × IsCause key answer v w
 
 -- something was split, or need not be, or can't be
 abbrev pub IsFinalSplit : TrySplit → Type 0

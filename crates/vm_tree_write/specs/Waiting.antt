@@ -13,16 +13,16 @@ use Rattle.vm_tree_rule.specs.declared.fault.TreeFault.TheVariants as faults
 use Rattle.vm_tree_rule.specs.Leaves.{ReadsOn}
 use Rattle.vm_tree_rule.specs.Turns.{IsNeeded}
 use Rattle.vm_tree_read.specs.Reads.{IsAnswered}
-use Rattle.vm_tree_read.specs.Waiting.{IsFaultOf}
+use Rattle.vm_tree_read.specs.Waiting.{IsBringFault}
 use Rattle.vm_evict.specs.declared.report.Report.{Report}
 use Rattle.vm_pool.specs.declared.bring.Bring.{Bring}
 use Rattle.vm_pool.specs.declared.bring.Bring.TheVariants as brings
 use Rattle.vm_pool.specs.Brings.{SaysDry}
 use Rattle.vm_pool.specs.Sweeps.{IsSwept}
 use Rattle.vm_tree_write.specs.declared.tries.TrySplit.TheVariants as splits
-use Rattle.vm_tree_write.specs.Splits.{KeepsAll}
+use Rattle.vm_tree_write.specs.Splits.{KeepsLocksOnly}
 use Rattle.vm_tree_write.specs.Tries.{IsEnded}
-use Rattle.vm_tree_write.specs.Writes.{IsTight, IsVain, IsWornLeaf, IsWritten}
+use Rattle.vm_tree_write.specs.Writes.{IsTight, IsVain, IsWornLeaf, IsWriteDone}
 
 -- the fault that a sweep without a free frame names
 abbrev pub NamesFault : Bring → TreeFault → Type 0
@@ -34,10 +34,10 @@ NamesFault (brings.Dry looks) fault = ⊥
 
 -- The last try was answered, by a write or by a read that shows that there is nothing to write; what was done before made no entry, and left what
 -- `keeps` tells. So the entry is the pass's next one, and stands behind all that the pass had seen; the pass holds what it held
-pub record IsReplied (keeps : View Said → View Said → Type 0) (said : Said) (v w : View Said) : Type 0 where
+pub record IsWriteReplied (keeps : View Said → View Said → Type 0) (said : Said) (v w : View Said) : Type 0 where
   pub tried : View Said
   pub waits : keeps v tried
-  pub answered : (IsWritten said tried w × ¬ (IsVain said)) ⊎ (IsAnswered said tried w × IsVain said)
+  pub answered : (IsWriteDone said tried w × ¬ (IsVain said)) ⊎ (IsAnswered said tried w × IsVain said)
   pub mine : w.mine ≡ v.mine ++ entry_of v said ∷ []
   pub entry : (others : List (Entry Said)) × (w.seen ≡ (v.seen ++ others) ++ entry_of v said ∷ [])
   pub legal : v.start.tells ≡ true → IsLegal (map_of v.start.contents) w.seen
@@ -48,19 +48,19 @@ pub record IsReplied (keeps : View Said → View Said → Type 0) (said : Said) 
   pub parts : (w.used ≡ v.used) × (w.fresh ≡ v.fresh)
 
 -- the last try needed a page that could not be brought, or reached a leaf at the last version
-pub data IsFaulted (keeps : View Said → View Said → Type 0) (key : ℕ) (fault : TreeFault) (v w : View Said) : Type 0 where
-  missing : (tried found : View Said) (page : ℕ) → keeps v tried → ReadsOn tried found → IsNeeded tried key page found → IsFaultOf page fault found w → keeps v w → IsFaulted keeps key fault v w
-  worn : (tried : View Said) (page : ℕ) → keeps v tried → ReadsOn tried w → IsWornLeaf tried key page w → fault ≡ faults.Worn page → keeps v w → IsFaulted keeps key fault v w
+pub data IsWriteFaulted (keeps : View Said → View Said → Type 0) (key : ℕ) (fault : TreeFault) (v w : View Said) : Type 0 where
+  missing : (tried found : View Said) (page : ℕ) → keeps v tried → ReadsOn tried found → IsNeeded tried key page found → IsBringFault page fault found w → keeps v w → IsWriteFaulted keeps key fault v w
+  worn : (tried : View Said) (page : ℕ) → keeps v tried → ReadsOn tried w → IsWornLeaf tried key page w → fault ≡ faults.Worn page → keeps v w → IsWriteFaulted keeps key fault v w
 
 -- why no room could be made for a key: a device failed; a page was at the last version; or the image has no page left
 pub data IsRoomFault (key : ℕ) (fault : TreeFault) (v w : View Said) : Type 0 where
-  missing : (found : View Said) (page : ℕ) → ReadsOn v found → IsNeeded v key page found → IsFaultOf page fault found w → IsRoomFault key fault v w
+  missing : (found : View Said) (page : ℕ) → ReadsOn v found → IsNeeded v key page found → IsBringFault page fault found w → IsRoomFault key fault v w
   worn : (p : ℕ) → IsEnded v key w (splits.Worn p) → fault ≡ faults.Worn p → IsRoomFault key fault v w
   full : (pages next need : ℕ) → IsEnded v key w (splits.Full pages next need) → fault ≡ faults.Full pages → IsRoomFault key fault v w
-  swept : (dry : View Said) (want cap : ℕ) (old new : List ℕ) (report : Report) (answer : Bring) → IsEnded v key dry splits.Dry → KeepsAll v dry → IsSwept want cap old new report dry w → SaysDry report answer → NamesFault answer fault → IsRoomFault key fault v w
+  swept : (dry : View Said) (want cap : ℕ) (old new : List ℕ) (report : Report) (answer : Bring) → IsEnded v key dry splits.Dry → KeepsLocksOnly v dry → IsSwept want cap old new report dry w → SaysDry report answer → NamesFault answer fault → IsRoomFault key fault v w
 
 -- the last try of a put needed a page that could not be brought, or reached a leaf at the last version, or met a full leaf for which no room
 -- could be made
 pub data IsPutFaulted (key : ℕ) (fault : TreeFault) (v w : View Said) : Type 0 where
-  faulted : IsFaulted KeepsAll key fault v w → IsPutFaulted key fault v w
-  tight : (tried found : View Said) (page : ℕ) → KeepsAll v tried → ReadsOn tried found → IsTight tried key page found → IsRoomFault key fault found w → KeepsAll v w → IsPutFaulted key fault v w
+  faulted : IsWriteFaulted KeepsLocksOnly key fault v w → IsPutFaulted key fault v w
+  tight : (tried found : View Said) (page : ℕ) → KeepsLocksOnly v tried → ReadsOn tried found → IsTight tried key page found → IsRoomFault key fault found w → KeepsLocksOnly v w → IsPutFaulted key fault v w

@@ -28,7 +28,7 @@ use Rattle.vm_tree_model.specs.Node.{Covers}
 use Rattle.vm_tree_model.specs.Page.{node_of, pairs_of, IsLeaf}
 use Rattle.vm_tree_model.specs.Tree.{map_of}
 use Rattle.vm_tree_laws.specs.History.{IsLegal}
-use Rattle.vm_tree_laws.specs.Keeps.{Keeps}
+use Rattle.vm_tree_laws.specs.Keeps.{KeepsTree}
 use Rattle.vm_tree_laws.specs.May.{IsEdit}
 use Rattle.vm_tree_laws.specs.Tied.{Tied}
 use Rattle.vm_tree_rule.specs.Leaves.{ReadsOn}
@@ -67,7 +67,7 @@ module _ {X : Type 0} where
 pub record IsBorneOutBy (page : ℕ) (old new : List ℕ) (said : Said) (v w : View Said) : Type 0 where
   pub legal : IsLegal (map_of v.start.contents) w.seen
   pub kept : Kept Said
-  pub keeps : Keeps (began_of v.start) kept
+  pub keeps : KeepsTree (began_of v.start) kept
   pub history : kept.history ≡ w.seen
   pub logical : page_at kept.pages page ≡ new
   pub last : (last_of w page).words ≡ new
@@ -77,7 +77,7 @@ pub record IsBorneOutBy (page : ℕ) (old new : List ℕ) (said : Said) (v w : V
 -- The call with its reply became the last entry, under the pass's first number and its next count, at the release of a leaf that the call had
 -- locked at the version at which it had read it. Of the words that were read only those were stored that the call changes, each as it is afterwards;
 -- and where blocks tell their words the entry is borne out
-pub record IsWritten (said : Said) (v w : View Said) : Type 0 where
+pub record IsWriteDone (said : Said) (v w : View Said) : Type 0 where
   pub page : ℕ
   pub version : ℕ
   pub word : ℕ
@@ -106,8 +106,8 @@ IsVain said = (key : ℕ) × (said ≡ record { call = Del key; reply = Gone Non
 
 -- a page could not be read, or the leaf not be locked at the version that was read, as the steps of the call show; or blocks do not tell their
 -- words, and those of a page are not what the way to it says
-abbrev pub IsUnwritten : View Said → ℕ → Saw → View Said → Type 0
-IsUnwritten v key saw w = IsShown UnlockedExpected v saw w ⊎ IsAstray v key saw w
+abbrev pub IsWriteToTry : View Said → ℕ → Saw → View Said → Type 0
+IsWriteToTry v key saw w = IsShown UnlockedExpected v saw w ⊎ IsAstray v key saw w
 
 -- the leaf that the descent reached, page p, with the words that were read of it, is at the last version
 pub record IsWornLeaf (v : View Said) (key p : ℕ) (w : View Said) : Type 0 where
@@ -146,16 +146,16 @@ pub record IsTight (v : View Said) (key p : ℕ) (w : View Said) : Type 0 where
 -- a try of a put: made in a leaf that had the key or room; or the leaf is full; or to be tried again; or for a page that is needed, or worn.
 -- Without a reply the pass has no further entry, and locked nothing
 abbrev pub IsPut : ℕ → ℕ → TryWrite → View Said → View Said → Type 0
-IsPut key value (tries.Done reply) v w = (a : IsWritten (record { call = Put key value; reply = reply }) v w) × ¬ (IsFullFor a.old key)
-IsPut key value (tries.Again saw) v w = ReadsOn v w × IsUnwritten v key saw w
+IsPut key value (tries.Done reply) v w = (a : IsWriteDone (record { call = Put key value; reply = reply }) v w) × ¬ (IsFullFor a.old key)
+IsPut key value (tries.Again saw) v w = ReadsOn v w × IsWriteToTry v key saw w
 IsPut key value (tries.Need p) v w = ReadsOn v w × IsNeeded v key p w
 IsPut key value (tries.Worn p) v w = ReadsOn v w × IsWornLeaf v key p w
 IsPut key value (tries.Tight p) v w = ReadsOn v w × IsTight v key p w
 
 -- a try of a del: made in a leaf that has the key, or answered by a validation of a leaf that has it not, which locks nothing
 abbrev pub IsDel : ℕ → TryWrite → View Said → View Said → Type 0
-IsDel key (tries.Done reply) v w = (IsWritten (record { call = Del key; reply = reply }) v w × ¬ (IsVain (record { call = Del key; reply = reply }))) ⊎ (IsAnswered (record { call = Del key; reply = reply }) v w × IsVain (record { call = Del key; reply = reply }))
-IsDel key (tries.Again saw) v w = ReadsOn v w × IsUnwritten v key saw w
+IsDel key (tries.Done reply) v w = (IsWriteDone (record { call = Del key; reply = reply }) v w × ¬ (IsVain (record { call = Del key; reply = reply }))) ⊎ (IsAnswered (record { call = Del key; reply = reply }) v w × IsVain (record { call = Del key; reply = reply }))
+IsDel key (tries.Again saw) v w = ReadsOn v w × IsWriteToTry v key saw w
 IsDel key (tries.Need p) v w = ReadsOn v w × IsNeeded v key p w
 IsDel key (tries.Worn p) v w = ReadsOn v w × IsWornLeaf v key p w
 IsDel key (tries.Tight p) v w = ⊥

@@ -4,7 +4,7 @@ ghost use Rattle.vm_guard.specs.Guards.{IsHolding};
 ghost use Rattle.vm_rule.specs.Views.{draft_of};
 ghost use Rattle.vm_step.specs.Passes.{IsSamePass, view};
 ghost use Rattle.vm_step.specs.Ready.{IsReady};
-ghost use Rattle.vm_tree_write.specs.Drafts.{IsRedrafted, KnowsPages, SetsDiffering};
+ghost use Rattle.vm_tree_write.specs.Drafts.{IsRedrafted, KnowsSameStates, SetsDiffering};
 
 use vm_block::Block;
 use vm_guard::ExclusiveGuard;
@@ -30,7 +30,7 @@ pub fn redraft<U: Owner, B: Block>(
     ensures guard { (guard.new.pid ≡ guard.old.pid) × (guard.new.version ≡ guard.old.version) }
     ensures draft { (view pass.old).start.tells ≡ true → draft_of (view pass.new) guard.old.pid ≡ after.now }
     ensures redrafted { IsRedrafted guard.old.pid (view pass.old) (view pass.new) }
-    ensures known { KnowsPages (view pass.old) (view pass.new) }
+    ensures known { KnowsSameStates (view pass.old) (view pass.new) }
     ensures differ { SetsDiffering before.now after.now (view pass.old) (view pass.new) }
 {
     for i in 0..WORDS {

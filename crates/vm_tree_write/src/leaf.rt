@@ -9,7 +9,7 @@ ghost use Rattle.vm_step.specs.Ready.{IsReady};
 ghost use Rattle.vm_tree_laws.specs.May.{IsEdit};
 ghost use Rattle.vm_tree_model.specs.Page.{node_of, IsLeaf};
 ghost use Rattle.vm_tree_rule.specs.Resident.{IsKnownNow, KnowsResident};
-ghost use Rattle.vm_tree_write.specs.Writes.{IsWritten, SaysWorn};
+ghost use Rattle.vm_tree_write.specs.Writes.{IsWriteDone, SaysWorn};
 
 use crate::draft::redraft;
 use vm_block::Block;
@@ -38,7 +38,7 @@ pub fn write_leaf<B: Block>(
     ensures pass { IsSamePass pass.old pass.new }
     ensures ready { IsReady words.now.table.shared.key B.tells words.now.table.shared.table_id pass.new }
     ensures reply { IfOk result (λ reply. reply ≡ said.reply) }
-    ensures ok { IfOk result (λ _. (a : IsWritten said (view pass.old) (view pass.new)) × (a.old ≡ before.now)) }
+    ensures ok { IfOk result (λ _. (a : IsWriteDone said (view pass.old) (view pass.new)) × (a.old ≡ before.now)) }
     ensures err { IfErr result (λ deny. IsDenied AgainOrWorn (KeptWord guard.word) UnlockedExpected guard.pid deny (view pass.old) (view pass.new)) }
     ensures sure { IsKnownNow guard.pid guard.word (view pass.old) → IfErr result SaysWorn }
     ensures known { IsKnownNow guard.pid guard.word (view pass.old) → KnowsResident (view pass.new) }

@@ -12,9 +12,9 @@ ghost use Rattle.vm_rule.specs.Reading.{last_of};
 ghost use Rattle.vm_rule.specs.Views.{draft_of};
 ghost use Rattle.vm_step.specs.Passes.{IsSamePass, view};
 ghost use Rattle.vm_step.specs.Ready.{IsReady};
-ghost use Rattle.vm_tree_write.specs.Prepares.{AreLocked, GivesUp, IsPrepared, KnowsBoth, KnowsToSplit, LacksFrames, LacksLocks, LacksSecond};
+ghost use Rattle.vm_tree_write.specs.Prepares.{AreLocked, GivesUpBoth, IsPrepared, KnowsBoth, KnowsToSplit, LacksFrames, LacksLocks, LacksSecond};
 ghost use Rattle.vm_tree_read.specs.Waiting.{LosesNone};
-ghost use Rattle.vm_tree_write.specs.Splits.{KeepsAll};
+ghost use Rattle.vm_tree_write.specs.Splits.{KeepsLocksOnly};
 ghost use Rattle.vm_tree_write.specs.Tries.{IsFinalSplit, IsUnsplit};
 ghost use Rattle.vm_tree_write.specs.Writes.{SaysWorn};
 
@@ -68,7 +68,7 @@ fn second_frame<B: Block>(
     ensures pass { IsSamePass pass.old pass.new }
     ensures ready { IsReady words.now.table.shared.key B.tells words.now.table.shared.table_id pass.new }
     ensures iface { (iface.new.home ≡ iface.old.home) × (iface.new.cap ≡ iface.old.cap) }
-    ensures keeps { KeepsAll (view pass.old) (view pass.new) }
+    ensures keeps { KeepsLocksOnly (view pass.old) (view pass.new) }
     ensures moves { IfOk result (λ _. (done : _) × MovesFrames done (view pass.old) (view pass.new)) }
     ensures ok { IfOk result (λ both. (length both ≡ 2) × AreHeld (both ++ iface.new.frames) (view pass.new)) }
     ensures lost { IfOk result (λ both. LosesNone (frames ++ iface.old.frames) (view pass.old) (both ++ iface.new.frames) (view pass.new)) }
@@ -106,7 +106,7 @@ fn frames_for<B: Block>(
     ensures pass { IsSamePass pass.old pass.new }
     ensures ready { IsReady words.now.table.shared.key B.tells words.now.table.shared.table_id pass.new }
     ensures iface { (iface.new.home ≡ iface.old.home) × (iface.new.cap ≡ iface.old.cap) }
-    ensures keeps { KeepsAll (view pass.old) (view pass.new) }
+    ensures keeps { KeepsLocksOnly (view pass.old) (view pass.new) }
     ensures moves { IfOk result (λ _. (done : _) × MovesFrames done (view pass.old) (view pass.new)) }
     ensures ok { IfOk result (λ frames. (length frames ≡ n) × AreHeld (frames ++ iface.new.frames) (view pass.new)) }
     ensures lost { IfOk result (λ frames. LosesNone iface.old.frames (view pass.old) (frames ++ iface.new.frames) (view pass.new)) }
@@ -140,7 +140,7 @@ fn lock_two<B: Block>(
     ensures pass { IsSamePass pass.old pass.new }
     ensures ready { IsReady words.now.table.shared.key B.tells words.now.table.shared.table_id pass.new }
     ensures ok { IfOk result (λ locks. AreLocked first second locks.up locks.low (view pass.old) (view pass.new)) }
-    ensures err { IfErr result (λ answer. KeepsAll (view pass.old) (view pass.new) × ((view pass.new).frames ≡ (view pass.old).frames) × LacksLocks first second answer (view pass.old) (view pass.new)) }
+    ensures err { IfErr result (λ answer. KeepsLocksOnly (view pass.old) (view pass.new) × ((view pass.new).frames ≡ (view pass.old).frames) × LacksLocks first second answer (view pass.old) (view pass.new)) }
     ensures sure { KnowsBoth first second (view pass.old) → IfErr result IsFinalSplit }
 {
     let up = match first.upgrade(words, pass) {
@@ -177,7 +177,7 @@ fn give_up<B: Block>(
     ensures iface { (iface.new.home ≡ iface.old.home) × (iface.new.cap ≡ iface.old.cap) }
     ensures held { AreHeld iface.new.frames (view pass.new) }
     ensures lost { LosesNone (iface.old.frames ++ frames) (view pass.old) iface.new.frames (view pass.new) }
-    ensures done { GivesUp up low (view pass.old) (view pass.new) }
+    ensures done { GivesUpBoth up low (view pass.old) (view pass.new) }
 {
     low.release(words, pass, None);
     up.release(words, pass, None);
@@ -207,7 +207,7 @@ pub fn prepare<B: Block>(
     ensures ok { IfOk result (λ all. IsPrepared n first second all.up all.low (guards_of all.pages) (view pass.old) (view pass.new)) }
     ensures lost { IfOk result (λ all. LosesNone iface.old.frames (view pass.old) (iface.new.frames ++ all.frames) (view pass.new)) }
     ensures lost_none { IfErr result (λ _. LosesNone iface.old.frames (view pass.old) iface.new.frames (view pass.new)) }
-    ensures err { IfErr result (λ answer. AreHeld iface.new.frames (view pass.new) × KeepsAll (view pass.old) (view pass.new) × IsUnsplit n first second (view pass.old) (view pass.new) answer) }
+    ensures err { IfErr result (λ answer. AreHeld iface.new.frames (view pass.new) × KeepsLocksOnly (view pass.old) (view pass.new) × IsUnsplit n first second (view pass.old) (view pass.new) answer) }
     ensures sure { KnowsToSplit first second (view pass.old) → IfErr result IsFinalSplit }
 {
     let mut frames = match frames_for(words, pass, iface, n) {

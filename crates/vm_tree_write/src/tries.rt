@@ -6,9 +6,9 @@ ghost use Rattle.vm_step.specs.Ready.{IsReady};
 ghost use Rattle.vm_rule.specs.Joins.{HoldsNoPage};
 ghost use Rattle.vm_tree_rule.specs.Resident.{KnowsResident};
 ghost use Rattle.vm_tree_rule.specs.Seeks.{IsFullBelow, IsRootFull};
-ghost use Rattle.vm_tree_rule.specs.Turns.{IsTurn};
+ghost use Rattle.vm_tree_rule.specs.Turns.{IsTurnedBack};
 ghost use Rattle.vm_tree_read.specs.Waiting.{LosesNone};
-ghost use Rattle.vm_tree_write.specs.Splits.{KeepsAll};
+ghost use Rattle.vm_tree_write.specs.Splits.{KeepsLocksOnly};
 ghost use Rattle.vm_tree_write.specs.Prepares.{KnowsToSplit};
 ghost use Rattle.vm_tree_write.specs.Tries.{IsEndOf, IsFinalSplit, IsTrySplit};
 
@@ -44,7 +44,7 @@ pub enum TrySplit {
 
 /// Why no full node was looked for to the end.
 fn not_found(turn: Turn) -> TrySplit
-    ensures { (key : _) (v w : _) → IsTurn v key turn w → IsTrySplit key result v w }
+    ensures { (key : _) (v w : _) → IsTurnedBack v key turn w → IsTrySplit key result v w }
 {
     match turn {
         Turn::Again(saw) => TrySplit::Again(saw),
@@ -72,7 +72,7 @@ fn split_below<B: Block>(
     ensures ready { IsReady words.now.table.shared.key B.tells words.now.table.shared.table_id pass.new }
     ensures iface { (iface.new.home ≡ iface.old.home) × (iface.new.cap ≡ iface.old.cap) }
     ensures held { AreHeld iface.new.frames (view pass.new) }
-    ensures keeps { KeepsAll (view pass.old) (view pass.new) }
+    ensures keeps { KeepsLocksOnly (view pass.old) (view pass.new) }
     ensures lost { LosesNone iface.old.frames (view pass.old) iface.new.frames (view pass.new) }
     ensures cause { IsEndOf 1 parent node (view pass.old) (view pass.new) result }
     ensures sure { KnowsToSplit parent node (view pass.old) → IsFinalSplit result }
@@ -116,7 +116,7 @@ fn split_root<B: Block>(
     ensures ready { IsReady words.now.table.shared.key B.tells words.now.table.shared.table_id pass.new }
     ensures iface { (iface.new.home ≡ iface.old.home) × (iface.new.cap ≡ iface.old.cap) }
     ensures held { AreHeld iface.new.frames (view pass.new) }
-    ensures keeps { KeepsAll (view pass.old) (view pass.new) }
+    ensures keeps { KeepsLocksOnly (view pass.old) (view pass.new) }
     ensures lost { LosesNone iface.old.frames (view pass.old) iface.new.frames (view pass.new) }
     ensures cause { IsEndOf 2 meta root (view pass.old) (view pass.new) result }
     ensures sure { KnowsToSplit meta root (view pass.old) → IsFinalSplit result }

@@ -5,8 +5,8 @@ ghost use Rattle.vm_map.specs.declared.call.Call.TheVariants.{Del, Put};
 ghost use Rattle.vm_step.specs.Passes.{IsSamePass, view};
 ghost use Rattle.vm_step.specs.Ready.{IsReady};
 ghost use Rattle.vm_tree_read.specs.Waiting.{LosesNone, Waits};
-ghost use Rattle.vm_tree_write.specs.Splits.{KeepsAll};
-ghost use Rattle.vm_tree_write.specs.Waiting.{IsFaulted, IsPutFaulted, IsReplied, IsRoomFault};
+ghost use Rattle.vm_tree_write.specs.Splits.{KeepsLocksOnly};
+ghost use Rattle.vm_tree_write.specs.Waiting.{IsWriteFaulted, IsPutFaulted, IsWriteReplied, IsRoomFault};
 
 use crate::tries::{TrySplit, try_split};
 use crate::write::{TryWrite, try_del, try_put};
@@ -37,8 +37,8 @@ pub fn del<R: Wait, B: Block>(
     ensures held { AreHeld iface.new.frames (view pass.new) }
     ensures iface { (iface.new.home ≡ iface.old.home) × (iface.new.cap ≡ iface.old.cap) }
     ensures lost { LosesNone iface.old.frames (view pass.old) iface.new.frames (view pass.new) }
-    ensures ok { IfOk result (λ reply. IsReplied Waits (record { call = Del key; reply = reply }) (view pass.old) (view pass.new)) }
-    ensures err { IfErr result (λ fault. IsFaulted Waits key fault (view pass.old) (view pass.new)) }
+    ensures ok { IfOk result (λ reply. IsWriteReplied Waits (record { call = Del key; reply = reply }) (view pass.old) (view pass.new)) }
+    ensures err { IfErr result (λ fault. IsWriteFaulted Waits key fault (view pass.old) (view pass.new)) }
 {
     let backoff = Backoff::new();
     for _ in rt.forever() {
@@ -73,7 +73,7 @@ fn make_room<B: Block>(
     ensures held { AreHeld iface.new.frames (view pass.new) }
     ensures iface { (iface.new.home ≡ iface.old.home) × (iface.new.cap ≡ iface.old.cap) }
     ensures lost { LosesNone iface.old.frames (view pass.old) iface.new.frames (view pass.new) }
-    ensures keeps { KeepsAll (view pass.old) (view pass.new) }
+    ensures keeps { KeepsLocksOnly (view pass.old) (view pass.new) }
     ensures err { IfErr result (λ fault. IsRoomFault key fault (view pass.old) (view pass.new)) }
 {
     match try_split(&pool.words, pass, iface, key) {
@@ -122,7 +122,7 @@ pub fn put<R: Wait, B: Block>(
     ensures held { AreHeld iface.new.frames (view pass.new) }
     ensures iface { (iface.new.home ≡ iface.old.home) × (iface.new.cap ≡ iface.old.cap) }
     ensures lost { LosesNone iface.old.frames (view pass.old) iface.new.frames (view pass.new) }
-    ensures ok { IfOk result (λ reply. IsReplied KeepsAll (record { call = Put key value; reply = reply }) (view pass.old) (view pass.new)) }
+    ensures ok { IfOk result (λ reply. IsWriteReplied KeepsLocksOnly (record { call = Put key value; reply = reply }) (view pass.old) (view pass.new)) }
     ensures err { IfErr result (λ fault. IsPutFaulted key fault (view pass.old) (view pass.new)) }
 {
     let backoff = Backoff::new();

@@ -9,7 +9,7 @@ ghost use Rattle.vm_tree_model.specs.Page.{node_of};
 ghost use Rattle.vm_tree_rule.specs.Resident.{KnowsResident};
 ghost use Rattle.vm_tree_rule.specs.Seeks.{HasRead};
 ghost use Rattle.vm_tree_rule.specs.Standing.{Awaits, IsOpened};
-ghost use Rattle.vm_tree_rule.specs.Turns.{IsTurn};
+ghost use Rattle.vm_tree_rule.specs.Turns.{IsTurnedBack};
 ghost use Rattle.vm_tree_write.specs.Writes.{IsDel, IsPut, IsFinal, SaysWorn};
 
 use crate::leaf::write_leaf;
@@ -41,8 +41,8 @@ pub enum TryWrite {
 
 /// Why there is no answer yet.
 fn not_yet(turn: Turn) -> TryWrite
-    ensures put { (key value : _) (v w : _) → IsTurn v key turn w → IsPut key value result v w }
-    ensures del { (key : _) (v w : _) → IsTurn v key turn w → IsDel key result v w }
+    ensures put { (key value : _) (v w : _) → IsTurnedBack v key turn w → IsPut key value result v w }
+    ensures del { (key : _) (v w : _) → IsTurnedBack v key turn w → IsDel key result v w }
 {
     match turn {
         Turn::Again(saw) => TryWrite::Again(saw),

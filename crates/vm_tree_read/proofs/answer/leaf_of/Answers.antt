@@ -2,7 +2,7 @@ use Rattle.std.proofs.Common.{◌∙◌, inl, inr, sym, subst, ap}
 use Rattle.vm_rule.specs.declared.view.Origin.{Origin}
 use Rattle.vm_rule.specs.Reading.{last_of}
 use Rattle.vm_step.specs.Passes.{view}
-use Rattle.vm_tree_rule.specs.Turns.{IsTurn}
+use Rattle.vm_tree_rule.specs.Turns.{IsTurnedBack}
 use Rattle.vm_tree_rule.specs.Turns.{IsNoTree as no_tree}
 use Rattle.vm_tree_rule.proofs.Entering.{astray-turn, refused-turn, untold}
 use Rattle.vm_tree_rule.proofs.Readings.{leaves-self, reads-self}
@@ -18,7 +18,7 @@ pub returns-in-Ok-validate_silently-clause-err : goal.returns-in-Ok-validate_sil
 returns-in-Ok-validate_silently-clause-err g c =
     let valid = c.in-Ok-validate_silently.ensures.ok in
     let start = c.in-Ok.ensures.reads.0.0.start in
-    subst (λ t. IsTurn (view c.args.pass.now) c.args.key t (view c.validate_silently.new.pass)) (sym c.astray_at.ensures)
+    subst (λ t. IsTurnedBack (view c.args.pass.now) c.args.key t (view c.validate_silently.new.pass)) (sym c.astray_at.ensures)
     (astray-turn c.in-Ok.guard.pid c.in-Ok.guard.word c.in-Ok.guard.frame c.args.key (view c.args.pass.now) (view c.descend.new.pass) (view c.validate_silently.new.pass) c.in-Ok.ensures.reads.1
     (untold _ (λ tells.
     let told = ap (λ (o : Origin). o.tells) start ∙ tells in

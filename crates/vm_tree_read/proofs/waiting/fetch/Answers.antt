@@ -1,5 +1,5 @@
 use Rattle.std.proofs.Common.{refl}
-use Rattle.vm_tree_read.specs.Waiting.{IsFaultOf as fault_of}
+use Rattle.vm_tree_read.specs.Waiting.{IsBringFault as fault_of}
 use Rattle.vm_tree_read.proofs.Seen.{bring-goes}
 use Rattle.vm_tree_read.proofs.Lasting.{bring-waits}
 use Rattle.vm_tree_read.proofs.Losing.{bring-loses}

@@ -6,9 +6,9 @@ use Rattle.vm_step.specs.Passes.{view}
 use Rattle.vm_guard.specs.declared.deny.Deny.{Deny}
 use Rattle.vm_guard.specs.declared.opt.OptGuard.{OptGuard}
 use Rattle.vm_guard.specs.Denied.{AgainOrNeed, IsDenied}
-use Rattle.vm_guard.specs.Guards.{Begins}
+use Rattle.vm_guard.specs.Guards.{BeginsReading}
 use Rattle.vm_tree_rule.specs.Resident.{IsKnownNow}
-use Rattle.vm_tree_rule.specs.Standing.{HasStepped, StaysOpen}
+use Rattle.vm_tree_rule.specs.Standing.{HasSteppedDown, StaysOpen}
 use Rattle.vm_tree_rule.proofs.Onward.{stays}
 use Rattle.vm_tree_rule.proofs.Readings.{leaves-self, reads-self, valid-reads}
 use Rattle.vm_tree_rule.proofs.Entering.{ended, lost, stepped}
@@ -34,22 +34,22 @@ returns-in-Err-validate_silently-clause-sure g c tells k =
 
 pub returns-in-Ok-started-clause-ok : goal.returns-in-Ok-started-clause-ok
 returns-in-Ok-started-clause-ok g c =
-    let begun = subst (λ r. IfOk r (λ guard. (guard.pid ≡ c.args.named) × Begins c.args.named guard.word guard.frame (view c.args.pass.now) (view c.start-started.new.pass))) c.in-Ok-started.is c.start-started.ensures.ok in
+    let begun = subst (λ r. IfOk r (λ guard. (guard.pid ≡ c.args.named) × BeginsReading c.args.named guard.word guard.frame (view c.args.pass.now) (view c.start-started.new.pass))) c.in-Ok-started.is c.start-started.ensures.ok in
     let same = begun.0 in (
       same,
-      subst (λ n. HasStepped c.args.parent.now.pid c.args.parent.now.word c.args.parent.now.frame n c.in-Ok-started.guard.word c.in-Ok-started.guard.frame (view c.args.pass.now) (view c.validate_silently-2.new.pass)) (sym same)
+      subst (λ n. HasSteppedDown c.args.parent.now.pid c.args.parent.now.word c.args.parent.now.frame n c.in-Ok-started.guard.word c.in-Ok-started.guard.frame (view c.args.pass.now) (view c.validate_silently-2.new.pass)) (sym same)
           (stepped _ _ _ c.args.named _ _ _ _ _ c.if-named-parent.false c.requires.reading begun.1 c.in-Ok-validate_silently.ensures.ok),
     )
 
 pub returns-in-Ok-started-clause-parent : goal.returns-in-Ok-started-clause-parent
 returns-in-Ok-started-clause-parent g c =
-    let begun = subst (λ r. IfOk r (λ guard. (guard.pid ≡ c.args.named) × Begins c.args.named guard.word guard.frame (view c.args.pass.now) (view c.start-started.new.pass))) c.in-Ok-started.is c.start-started.ensures.ok in
+    let begun = subst (λ r. IfOk r (λ guard. (guard.pid ≡ c.args.named) × BeginsReading c.args.named guard.word guard.frame (view c.args.pass.now) (view c.start-started.new.pass))) c.in-Ok-started.is c.start-started.ensures.ok in
     subst (λ n. StaysOpen c.args.parent.now.pid c.args.parent.now.word c.args.parent.now.frame n (view c.args.pass.now) (view c.validate_silently-2.new.pass)) (sym begun.0)
     (stays _ _ _ c.args.named _ _ _ _ _ c.if-named-parent.false begun.1 c.in-Ok-validate_silently.ensures.ok)
 
 pub returns-in-Ok-started-clause-known : goal.returns-in-Ok-started-clause-known
 returns-in-Ok-started-clause-known g c tells k =
-    let begun = subst (λ r. IfOk r (λ guard. (guard.pid ≡ c.args.named) × Begins c.args.named guard.word guard.frame (view c.args.pass.now) (view c.start-started.new.pass))) c.in-Ok-started.is c.start-started.ensures.ok in
+    let begun = subst (λ r. IfOk r (λ guard. (guard.pid ≡ c.args.named) × BeginsReading c.args.named guard.word guard.frame (view c.args.pass.now) (view c.start-started.new.pass))) c.in-Ok-started.is c.start-started.ensures.ok in
     let l = looked c.args.named c.args.parent.now.pid c.start-started.result (view c.args.pass.now) (view c.start-started.new.pass) c.if-named-parent.false c.start-started.ensures.ok c.start-started.ensures.err in
     let n = looked-known c.args.named c.args.parent.now.pid c.args.parent.now.word c.start-started.result (view c.args.pass.now) (view c.start-started.new.pass) c.if-named-parent.false c.start-started.ensures.ok c.start-started.ensures.err k in
     let valid = c.in-Ok-validate_silently.ensures.ok in
@@ -61,7 +61,7 @@ returns-in-Ok-started-clause-known g c tells k =
 
 pub returns-in-Ok-started-clause-locks : goal.returns-in-Ok-started-clause-locks
 returns-in-Ok-started-clause-locks g c =
-    let begun = subst (λ r. IfOk r (λ guard. (guard.pid ≡ c.args.named) × Begins c.args.named guard.word guard.frame (view c.args.pass.now) (view c.start-started.new.pass))) c.in-Ok-started.is c.start-started.ensures.ok in
+    let begun = subst (λ r. IfOk r (λ guard. (guard.pid ≡ c.args.named) × BeginsReading c.args.named guard.word guard.frame (view c.args.pass.now) (view c.start-started.new.pass))) c.in-Ok-started.is c.start-started.ensures.ok in
     let valid = c.in-Ok-validate_silently.ensures.ok in
     locks-same (view c.start-started.new.pass) (view c.validate_silently-2.new.pass) (valid-reads _ _ _ _ _ _ valid).0 valid.table (record { current = begun.1.current; unheld = c.start-started.ensures.unheld })
 

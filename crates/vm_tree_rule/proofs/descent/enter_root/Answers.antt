@@ -2,7 +2,7 @@ use Rattle.std.proofs.Common.{ℕ, ◌≡◌, ◌∙◌, ◌<◌, ◌≤◌, ◌
 use Rattle.vm_rule.specs.declared.view.Origin.{Origin}
 use Rattle.vm_rule.specs.Reading.{last_of}
 use Rattle.vm_step.specs.Passes.{view}
-use Rattle.vm_tree_rule.specs.Turns.{IsTurn}
+use Rattle.vm_tree_rule.specs.Turns.{IsTurnedBack}
 use Rattle.vm_tree_rule.specs.Turns.{IsNoTree as no_tree}
 use Rattle.vm_tree_rule.proofs.Readings.{opened-earlier, opened-later, reads-then}
 use Rattle.vm_tree_rule.proofs.Entering.{astray-turn, first-ended, opened-reads, turned, untold}
@@ -49,7 +49,7 @@ returns-then-level-words-clause-err g c =
     let loads = meta-loads _ _ _ _ _ c.args.key _ _ _ _ c.in-Ok.ensures.ok.0 c.in-Ok.ensures.ok.1 c.word-root.ensures.loads c.word-level.ensures.loads in
     let reads = step.reads in
     let start = reads.0.start ∙ (opened-reads _ _ _ _ _ opened).0.start in
-    subst (λ t. IsTurn (view c.args.pass.now) c.args.key t (view c.enter.new.pass)) (sym c.astray_at.ensures)
+    subst (λ t. IsTurnedBack (view c.args.pass.now) c.args.key t (view c.enter.new.pass)) (sym c.astray_at.ensures)
     (astray-turn _ _ _ c.args.key (view c.args.pass.now) step.checked (view c.enter.new.pass) (opened-later _ _ _ _ _ _ opened step.looked step.stays.same step.stays.reading)
     (untold _ (λ tells.
     let below : c.word-level.result < (view c.enter.new.pass).start.pages = low-enough _ _ _ (root-height _ _ _ _ _ c.args.key _ _ _ _ c.in-Ok.ensures.ok.0 c.in-Ok.ensures.ok.1 c.word-root.ensures.loads c.word-level.ensures.loads (last_of (view c.enter.new.pass) c.in-Ok.guard.pid).words (s.ok.1.sees (ap (λ (o : Origin). o.tells) (opened-reads _ _ _ _ _ opened).0.start ∙ tells))) (ap (λ (o : Origin). length o.contents) (sym reads.0.start) ∙ s.pages (sym s.ready.table.tells_is ∙ ap (λ (o : Origin). o.tells) start ∙ tells)) in

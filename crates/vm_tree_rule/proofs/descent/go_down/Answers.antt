@@ -2,7 +2,7 @@ use Rattle.std.proofs.Common.{◌∙◌, sym, subst, ap}
 use Rattle.vm_rule.specs.declared.view.Origin.{Origin}
 use Rattle.vm_rule.specs.Reading.{last_of}
 use Rattle.vm_step.specs.Passes.{view}
-use Rattle.vm_tree_rule.specs.Turns.{IsTurn}
+use Rattle.vm_tree_rule.specs.Turns.{IsTurnedBack}
 use Rattle.vm_tree_rule.specs.Turns.{IsNoTree as no_tree}
 use Rattle.vm_tree_rule.proofs.Readings.{err-then, loads-reads, ok-then, opened-earlier, opened-loads, reads-self, reads-then, leaves-self}
 use Rattle.vm_tree_rule.proofs.Entering.{astray-turn, opened-reads, refused-turn, turned, untold}
@@ -21,7 +21,7 @@ returns-in-Ok-clause-err g c =
     λ u o.
     let opened = opened-loads _ _ _ _ u _ _ o loads in
     let start = (opened-reads _ _ _ u _ opened).0.start in
-    subst (λ t. IsTurn u c.args.key t (view c.validate_silently.new.pass)) (sym c.astray_at.ensures)
+    subst (λ t. IsTurnedBack u c.args.key t (view c.validate_silently.new.pass)) (sym c.astray_at.ensures)
     (astray-turn _ _ _ c.args.key u _ _ opened
     (untold _ (λ tells. child-missing _ _ _ c.requires.awaits.0 _ _ _ _ c.read_all.ensures.size loads c.requires.awaits.1 c.in-None.ensures.child (ap (λ (y : Origin). y.tells) start ∙ tells) (last_of (view c.validate_silently.new.pass) c.args.guard.now.pid).words
     valid.size (valid.validates (ap (λ (y : Origin). y.tells) start ∙ tells))))

@@ -2,7 +2,7 @@ use Rattle.std.proofs.Common.{◌∙◌, inr, sym, subst, ap}
 use Rattle.vm_rule.specs.declared.view.Origin.{Origin}
 use Rattle.vm_rule.specs.Reading.{last_of}
 use Rattle.vm_step.specs.Passes.{view}
-use Rattle.vm_tree_rule.specs.Turns.{IsTurn}
+use Rattle.vm_tree_rule.specs.Turns.{IsTurnedBack}
 use Rattle.vm_tree_rule.specs.Turns.{IsNoTree as no_tree}
 use Rattle.vm_tree_rule.proofs.Readings.{err-then, leaves-self, ok-then, reads-self}
 use Rattle.vm_tree_rule.proofs.Entering.{astray-turn, opened-reads, refused-turn, turned, untold}
@@ -19,7 +19,7 @@ returns-in-Ok-clause-err g c =
     let valid = c.in-Ok.ensures.ok in
     λ u o.
     let start = (opened-reads _ _ _ u _ o).0.start in
-    subst (λ t. IsTurn u c.args.key t (view c.validate_silently.new.pass)) (sym c.astray_at.ensures)
+    subst (λ t. IsTurnedBack u c.args.key t (view c.validate_silently.new.pass)) (sym c.astray_at.ensures)
     (astray-turn _ _ _ c.args.key u _ _ o
     (untold _ (λ tells. goes-nowhere _ _ _ c.requires.awaits.0 _ _ _ c.requires.size c.requires.reading c.requires.read c.requires.awaits.1 c.in-None.ensures.child (ap (λ (y : Origin). y.tells) start ∙ tells) (last_of (view c.validate_silently.new.pass) c.args.guard.now.pid).words
     valid.size (valid.validates (ap (λ (y : Origin). y.tells) start ∙ tells))))

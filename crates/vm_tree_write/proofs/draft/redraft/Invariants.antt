@@ -3,7 +3,7 @@ use Rattle.vm_rule.specs.Views.{draft_of}
 use Rattle.vm_step.specs.Passes.{IsSamePass, view}
 use Rattle.vm_step.specs.Ready.{IsReady}
 use Rattle.vm_guard.specs.Guards.{IsHolding}
-use Rattle.vm_tree_write.specs.Drafts.{IsRedrafted, KnowsPages, SetsDiffering}
+use Rattle.vm_tree_write.specs.Drafts.{IsRedrafted, KnowsSameStates, SetsDiffering}
 use Rattle.vm_tree_write.proofs.draft.redraft.Given as goal
 
 -- the words below i are the new page's, the others still the old one's, where blocks tell their words
@@ -14,7 +14,7 @@ invariant-loop-i g l = record {
   holds : IsHolding l.guard.pid l.guard.frame l.guard.version l.guard.dirty (view l.pass);
   guard : (l.guard.pid ≡ l.fn.guard.pid) × (l.guard.version ≡ l.fn.guard.version);
   redrafted : IsRedrafted l.fn.guard.pid (view l.fn.pass) (view l.pass);
-  known : KnowsPages (view l.fn.pass) (view l.pass);
+  known : KnowsSameStates (view l.fn.pass) (view l.pass);
   differ : SetsDiffering l.before l.after (view l.fn.pass) (view l.pass);
   size : 0 < l.i → length l.after ≡ 64;
   below : (view l.fn.pass).start.tells ≡ true → (k : ℕ) → k < l.i → slice_index (draft_of (view l.pass) l.fn.guard.pid) k ≡ slice_index l.after k;

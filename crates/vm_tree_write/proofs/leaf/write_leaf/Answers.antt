@@ -7,7 +7,7 @@ use Rattle.vm_step.specs.Conditions.{IsClaimed}
 use Rattle.vm_step.specs.Keeping.{IsKeptNow}
 use Rattle.vm_step.specs.Passes.{view}
 use Rattle.vm_guard.specs.Guards.{IsReleased}
-use Rattle.vm_tree_laws.specs.Keeps.{Keeps}
+use Rattle.vm_tree_laws.specs.Keeps.{KeepsTree}
 use Rattle.vm_tree_write.specs.Drafts.{IsRedrafted}
 use Rattle.vm_step.specs.Evidence.{UnlockedExpected}
 use Rattle.vm_guard.specs.Denied.{AgainOrWorn, KeptWord}
@@ -65,7 +65,7 @@ returns-clause-ok g c =
     (redrafted-at _ _ (view c.upgrade.new.pass) (view c.redraft.new.pass) k.0 c.redraft.ensures.redrafted) (drafted-at _ _ (view c.args.pass.now) (view c.upgrade.new.pass) (view c.redraft.new.pass) _ k.0 k.2.elsewhere.steady.start c.redraft.ensures.draft)
     (subst (λ (n : ℕ). IsReleased c.args.guard.pid n (Some c.args.said) (view c.redraft.new.pass) (view c.release.new.pass)) c.redraft.ensures.guard.1
     (subst (λ (n : ℕ). IsReleased n c.redraft.new.guard.version (Some c.args.said) (view c.redraft.new.pass) (view c.release.new.pass)) same c.release.ensures.released)) c.requires.leaf c.requires.edit c.redraft.ensures.differ
-    (λ tells. subst (λ (n : ℕ). IsKeptNow Keeps n (Unit {0}) (view c.release.new.pass)) same (c.release.ensures.kept (sym c.requires.ready.table.tells_is ∙ tells)))
+    (λ tells. subst (λ (n : ℕ). IsKeptNow KeepsTree n (Unit {0}) (view c.release.new.pass)) same (c.release.ensures.kept (sym c.requires.ready.table.tells_is ∙ tells)))
 
 pub returns-in-Err-clause-sure : goal.returns-in-Err-clause-sure
 returns-in-Err-clause-sure g c known =

@@ -1,13 +1,13 @@
 use Rattle.std.proofs.Common.{subst}
-use Rattle.vm_tree_rule.specs.Turns.{IsTurn}
+use Rattle.vm_tree_rule.specs.Turns.{IsTurnedBack}
 use Rattle.vm_tree_write.proofs.Trying.{turn-again, turn-astray, turn-need}
 use Rattle.vm_tree_write.proofs.tries.not_found.Goals as goal
 
 pub returns-in-Again : goal.returns-in-Again
-returns-in-Again c = λ key v w a. turn-again key _ v w (subst (λ t. IsTurn v key t w) c.in-Again.is a)
+returns-in-Again c = λ key v w a. turn-again key _ v w (subst (λ t. IsTurnedBack v key t w) c.in-Again.is a)
 
 pub returns-in-Need : goal.returns-in-Need
-returns-in-Need c = λ key v w a. turn-need key _ v w (subst (λ t. IsTurn v key t w) c.in-Need.is a)
+returns-in-Need c = λ key v w a. turn-need key _ v w (subst (λ t. IsTurnedBack v key t w) c.in-Need.is a)
 
 pub returns-in-Astray : goal.returns-in-Astray
-returns-in-Astray c = λ key v w a. turn-astray key _ v w (subst (λ t. IsTurn v key t w) c.in-Astray.is a)
+returns-in-Astray c = λ key v w a. turn-astray key _ v w (subst (λ t. IsTurnedBack v key t w) c.in-Astray.is a)

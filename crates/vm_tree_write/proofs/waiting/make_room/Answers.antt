@@ -1,7 +1,7 @@
 use Rattle.std.proofs.Common.{◌∙◌, refl, arith}
 use Rattle.std.proofs.lemmas.Result.{IfErr-weaker}
 use Rattle.vm_step.specs.Passes.{view}
-use Rattle.vm_tree_read.specs.Waiting.{IsFaultOf}
+use Rattle.vm_tree_read.specs.Waiting.{IsBringFault}
 use Rattle.vm_pool.specs.declared.bring.Bring.TheVariants as brings
 use Rattle.vm_tree_write.specs.Waiting.{IsRoomFault, IsRoomFault as room_faults}
 use Rattle.vm_tree_write.proofs.Framing.{keeps-then}
@@ -23,7 +23,7 @@ returns-in-Need-clause-keeps g c = keeps-then _ _ _ c.in-Need.ensures.tried.0 (w
 
 pub returns-in-Need-clause-err : goal.returns-in-Need-clause-err
 returns-in-Need-clause-err g c =
-    IfErr-weaker c.fetch.result (λ fault. IsFaultOf c.in-Need.pid fault (view c.try_split.new.pass) (view c.fetch.new.pass)) (λ fault. IsRoomFault c.args.key fault (view c.args.pass.now) (view c.fetch.new.pass))
+    IfErr-weaker c.fetch.result (λ fault. IsBringFault c.in-Need.pid fault (view c.try_split.new.pass) (view c.fetch.new.pass)) (λ fault. IsRoomFault c.args.key fault (view c.args.pass.now) (view c.fetch.new.pass))
     (λ fault k. room_faults.missing (view c.try_split.new.pass) c.in-Need.pid c.in-Need.ensures.tried.1.0 c.in-Need.ensures.tried.1.1 k) c.fetch.ensures.err
 
 pub returns-in-Worn-clause-err : goal.returns-in-Worn-clause-err

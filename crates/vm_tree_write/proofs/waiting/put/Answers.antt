@@ -1,8 +1,8 @@
 use Rattle.std.proofs.Common.{◌∙◌, refl, inl}
 use Rattle.vm_exmap.proofs.Handing.{held-on}
 use Rattle.vm_step.specs.Passes.{view}
-use Rattle.vm_tree_write.specs.Splits.{KeepsAll}
-use Rattle.vm_tree_write.specs.Waiting.{IsFaulted as faulted, IsPutFaulted as put_faulted}
+use Rattle.vm_tree_write.specs.Splits.{KeepsLocksOnly}
+use Rattle.vm_tree_write.specs.Waiting.{IsWriteFaulted as faulted, IsPutFaulted as put_faulted}
 use Rattle.vm_tree_write.proofs.Framing.{keeps-self, keeps-then}
 use Rattle.vm_tree_write.proofs.Lasting.{keeps-last, replied, waits-keep}
 use Rattle.vm_tree_write.proofs.Telling.{put-not}
@@ -101,7 +101,7 @@ returns-in-Done-clause-held g c =
 pub returns-in-Done-clause-ok : goal.returns-in-Done-clause-ok
 returns-in-Done-clause-ok g c =
     let i = c.loop.invariant in
-    replied KeepsAll _ _ _ _ i.keeps (keeps-last _ _ i.keeps) (inl (c.in-Done.ensures.tried.0, put-not c.args.key c.args.value c.in-Done.reply))
+    replied KeepsLocksOnly _ _ _ _ i.keeps (keeps-last _ _ i.keeps) (inl (c.in-Done.ensures.tried.0, put-not c.args.key c.args.value c.in-Done.reply))
 
 -- ---- no frame is lost
 

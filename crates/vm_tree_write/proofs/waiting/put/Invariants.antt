@@ -2,7 +2,7 @@ use Rattle.std.proofs.Common.{◌≡◌}
 use Rattle.vm_step.specs.HeldFrames.{AreHeld}
 use Rattle.vm_step.specs.Passes.{IsSamePass, view}
 use Rattle.vm_step.specs.Ready.{IsReady}
-use Rattle.vm_tree_write.specs.Splits.{KeepsAll}
+use Rattle.vm_tree_write.specs.Splits.{KeepsLocksOnly}
 use Rattle.vm_tree_read.specs.Waiting.{LosesNone}
 use Rattle.vm_tree_write.proofs.waiting.put.Given as goal
 
@@ -14,5 +14,5 @@ invariant-loop g l = record {
   held : AreHeld l.iface.frames (view l.pass);
   lost : LosesNone l.fn.iface.frames (view l.fn.pass) l.iface.frames (view l.pass);
   iface : (l.iface.home ≡ l.fn.iface.home) × (l.iface.cap ≡ l.fn.iface.cap);
-  keeps : KeepsAll (view l.fn.pass) (view l.pass);
+  keeps : KeepsLocksOnly (view l.fn.pass) (view l.pass);
 }
