@@ -2,7 +2,7 @@
 //! over the empty page file.
 //!
 //! Each line of the file `list` is a case: the line is printed, then what the command says, then its status. A page file's line may go on
-//! with triples of a page, a word of it, and what stands there.
+//! with triples of a page, a word of it, and what stands there. A line that begins with `words` has a command line over no files.
 #![tactic(auto)]
 
 mod case;
@@ -47,7 +47,10 @@ fn play_list<R: Threads + Wait + Sync, H: Host>(
     for line in list.lines() {
         say(host, line.as_bytes())?;
         say(host, b"\n")?;
-        play(rt, alloc, host, &Case::of(alloc, line)?)?;
+        match line.strip_prefix("words ") {
+            Some(words) => play_words(rt, alloc, host, words)?,
+            None => play(rt, alloc, host, &Case::of(alloc, line)?)?,
+        }
     }
     Ok(())
 }
@@ -70,6 +73,22 @@ fn play<R: Threads + Wait + Sync, H: Host>(
     add_file(alloc, &mut files, EMPTY, empty)?;
     let words = ["run", EMPTY, case.file, "--workers", "1", "--frames", "64"];
     command(rt, alloc, host, files, &words)
+}
+
+/// Plays a command line over a host without files.
+fn play_words<R: Threads + Wait + Sync, H: Host>(
+    rt: &R,
+    alloc: Global,
+    host: &mut H,
+    line: &str,
+) -> Result<(), Unplayed> {
+    let mut words = Vec::new(alloc);
+    for word in line.split_whitespace() {
+        if words.push(word).is_err() {
+            return Err(Unplayed);
+        }
+    }
+    command(rt, alloc, host, Vec::new(alloc), words.as_slice())
 }
 
 /// Performs a command over these files, and prints what it says and its status.

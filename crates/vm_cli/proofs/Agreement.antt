@@ -6,7 +6,7 @@ use Rattle.vm_words.specs.declared.Command.{Command}
 use Rattle.vm_words.specs.Commands.{IsCommand, line_of}
 use Rattle.vm_words.proofs.Lines.{one_command}
 use Rattle.vm_cli.specs.declared.ends.Ends.{Ends}
-use Rattle.vm_cli.specs.Agreement.{AgreesWithOthers, IsComplete, IsSettled, as_done}
+use Rattle.vm_cli.specs.Agreement.{AgreesWithOthers, IsComplete, IsSettledStatus, as_done}
 use Rattle.vm_cli.specs.Commands.{IsSmooth, order_of}
 use Rattle.vm_cli.specs.Deliveries.{Content, IsDelivered, WentOut, file_cut, line, text_cut, whole}
 use Rattle.vm_cli.specs.Endings.{CommandEnds, IsHeadline, ProgramEnds, command, cut, done, exhausted, stopped, told, unable, usage}
@@ -46,7 +46,7 @@ headline words failed old new before after status (exhausted shown same six) zer
 
 -- ---- two endings of the same words over a host that shows the same
 
-two_commands : (shown : Shown) (c d : Command) (failed last : List ℕ) (new more : Option Shown) (before after start end : Ends) (status other : ℕ) → line_of c ≡ line_of d → CommandEnds c failed (Some shown) new before after status → CommandEnds d last (Some shown) more start end other → IsSettled status → IsSettled other → as_done status ≡ as_done other
+two_commands : (shown : Shown) (c d : Command) (failed last : List ℕ) (new more : Option Shown) (before after start end : Ends) (status other : ℕ) → line_of c ≡ line_of d → CommandEnds c failed (Some shown) new before after status → CommandEnds d last (Some shown) more start end other → IsSettledStatus status → IsSettledStatus other → as_done status ≡ as_done other
 two_commands shown c d failed last new more before after start end status other line (done content pass does out) (done given also did gone) s t =
     let first = delivered_status content (Some shown) new status out s.put in
     let second = delivered_status given (Some shown) more other gone t.put in
@@ -66,7 +66,7 @@ two_commands shown c d failed last new more before after start end status other 
 two_commands shown c d failed last new more before after start end status other line (unable now same six) ends s t = absurd (s.memory six)
 two_commands shown c d failed last new more before after start end status other line ends (unable now same six) s t = absurd (t.memory six)
 
-pub two_endings : (words : List (List ℕ)) (shown : Shown) (failed last : List ℕ) (new more : Option Shown) (before after start end : Ends) (status other : ℕ) → ProgramEnds words failed (Some shown) new before after status → ProgramEnds words last (Some shown) more start end other → IsSettled status → IsSettled other → as_done status ≡ as_done other
+pub two_endings : (words : List (List ℕ)) (shown : Shown) (failed last : List ℕ) (new more : Option Shown) (before after start end : Ends) (status other : ℕ) → ProgramEnds words failed (Some shown) new before after status → ProgramEnds words last (Some shown) more start end other → IsSettledStatus status → IsSettledStatus other → as_done status ≡ as_done other
 two_endings words shown failed last new more before after start end status other (usage none why same out) (usage also reason kept gone) s t =
     ap as_done (delivered_status _ (Some shown) new status out s.put ∙ sym (delivered_status _ (Some shown) more other gone t.put))
 two_endings words shown failed last new more before after start end status other (usage none why same out) (command d is ends) s t = absurd (none d is)

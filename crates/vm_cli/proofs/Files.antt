@@ -9,7 +9,7 @@ use Rattle.vm_map.specs.declared.call.Call.{Call}
 use Rattle.vm_map.specs.declared.call.Call.TheVariants.{Get, Put, Del, Window}
 use Rattle.vm_map.specs.History.{IsAskable}
 use Rattle.vm_script.specs.declared.script.Order.{Order}
-use Rattle.vm_script.specs.Scripts.{IsCall, IsOrder, IsScript, calls_of, lists_of, most_lines}
+use Rattle.vm_script.specs.Scripts.{IsScriptCall, IsOrder, IsScript, calls_by, lists_of, most_lines}
 use Rattle.vm_cli.specs.Files.{HasFile}
 use Rattle.vm_image.specs.File.{IsPageFile}
 use Rattle.vm_drive.specs.Drives.{AreAskable, AreFew}
@@ -51,7 +51,7 @@ length_filter : {X : Type 0} (p : X → Bool) (xs : List X) → length (filter p
 length_filter p [] = omega arith
 length_filter p (x ∷ xs) = let h = length_filter p xs in elim (p x) as (λ b. length (cond b (x ∷ filter p xs) (filter p xs)) ≤ suc (length xs)) [ true ↦ omega arith | false ↦ omega arith ]
 
-few_calls : (worker : ℕ) (orders : List Order) → length orders ≤ most_lines → length (calls_of worker orders) ≤ most_lines
+few_calls : (worker : ℕ) (orders : List Order) → length orders ≤ most_lines → length (calls_by worker orders) ≤ most_lines
 few_calls worker orders few =
     omega (arith, length-map (filter (λ order. order.worker == worker) orders) (λ order. order.call), length_filter (λ order. order.worker == worker) orders)
 
@@ -61,23 +61,23 @@ few_append (y ∷ xs) x few h = (few.0, few_append xs x few.1 h)
 
 few_lists : (workers : ℕ) (orders : List Order) → length orders ≤ most_lines → AreFew (lists_of workers orders)
 few_lists zero orders few = tt
-few_lists (suc workers) orders few = few_append (lists_of workers orders) (calls_of workers orders) (few_lists workers orders few) (few_calls workers orders few)
+few_lists (suc workers) orders few = few_append (lists_of workers orders) (calls_by workers orders) (few_lists workers orders few) (few_calls workers orders few)
 
 length_lists : (workers : ℕ) (orders : List Order) → length (lists_of workers orders) ≡ workers
 length_lists zero orders = refl
-length_lists (suc workers) orders = omega (arith, length-append (lists_of workers orders) (calls_of workers orders ∷ []), length_lists workers orders)
+length_lists (suc workers) orders = omega (arith, length-append (lists_of workers orders) (calls_by workers orders ∷ []), length_lists workers orders)
 
 -- no worker of a script has more calls than a script has lines
 pub few_script : (workers : ℕ) (bytes : List ℕ) (lists : List (List Call)) → IsScript workers bytes lists → AreFew lists
 few_script workers bytes lists s = subst (λ l. AreFew l) (sym s.each) (few_lists workers s.orders s.spells.few)
 
-askable_call : (call : Call) → IsCall call → IsAskable call
+askable_call : (call : Call) → IsScriptCall call → IsAskable call
 askable_call (Get key) is = tt
 askable_call (Put key value) is = tt
 askable_call (Del key) is = tt
 askable_call (Window start most) is = is.1
 
-askable_calls : (workers worker : ℕ) (orders : List Order) → AllByRecursion (IsOrder workers) orders → AllByRecursion IsAskable (calls_of worker orders)
+askable_calls : (workers worker : ℕ) (orders : List Order) → AllByRecursion (IsOrder workers) orders → AllByRecursion IsAskable (calls_by worker orders)
 askable_calls workers worker [] each = tt
 askable_calls workers worker (order ∷ orders) each =
     let others = askable_calls workers worker orders each.1 in
@@ -92,7 +92,7 @@ askable_append (y ∷ xs) x all h = (all.0, askable_append xs x all.1 h)
 
 askable_lists : (workers below : ℕ) (orders : List Order) → AllByRecursion (IsOrder workers) orders → AreAskable (lists_of below orders)
 askable_lists workers zero orders each = tt
-askable_lists workers (suc below) orders each = askable_append (lists_of below orders) (calls_of below orders) (askable_lists workers below orders each) (askable_calls workers below orders each)
+askable_lists workers (suc below) orders each = askable_append (lists_of below orders) (calls_by below orders) (askable_lists workers below orders each) (askable_calls workers below orders each)
 
 -- every call of a script is askable
 pub askable_script : (workers : ℕ) (bytes : List ℕ) (lists : List (List Call)) → IsScript workers bytes lists → AreAskable lists

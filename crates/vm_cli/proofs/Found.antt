@@ -5,24 +5,21 @@ use Rattle.vm_io.specs.Loops.{ReadsWhole}
 use Rattle.vm_tree_model.specs.Tree.{IsTree}
 use Rattle.vm_cli.specs.declared.reading.Stored.{Stored}
 use Rattle.vm_cli.specs.declared.stop.Stop.{Stop}
-use Rattle.vm_cli.specs.declared.stop.Stop.TheVariants.{Shape, Unread, Length, Page, Long, Line}
+use Rattle.vm_cli.specs.declared.stop.Stop.TheVariants.{Length, Page}
 use Rattle.vm_cli.specs.declared.undone.Undone.{Undone}
 use Rattle.vm_cli.specs.declared.undone.Undone.TheVariants.{Stopped, Memory}
 use Rattle.vm_cli.specs.Endings.{HasReadCause}
-use Rattle.vm_cli.specs.Images.{IsNoTree, most_image}
-use Rattle.vm_cli.specs.Readings.{IsStored, ReadsTree, TellsTree}
+use Rattle.vm_cli.specs.Images.{HoldsNoTree, most_image}
+use Rattle.vm_cli.specs.Readings.{IsStoredTree, ReadsTree, TellsTree}
 use Rattle.vm_cli.proofs.Files.{page_file, wrong_length}
 
 -- what the bytes read tell is told of the file
 pub tree-told : (shown : Option Shown) (failed name found : List ℕ) (r : Result Stored (Undone Stop)) → ReadsWhole shown name most_image found → TellsTree found r → ReadsTree shown failed name r
-tree-told shown failed name found (Ok stored) w t = page_file shown name found (IsStored stored) w t.file t
+tree-told shown failed name found (Ok stored) w t = page_file shown name found (IsStoredTree stored) w t.file t
 tree-told shown failed name found (Err Memory) w t = tt
 tree-told shown failed name found (Err (Stopped (Length len))) w t = wrong_length shown name found len w t.0 t.1
-tree-told shown failed name found (Err (Stopped (Page page why))) w t = page_file shown name found (λ bytes. IsNoTree bytes page why) w t.file t
-tree-told shown failed name found (Err (Stopped (Shape quantity))) w t = absurd t
-tree-told shown failed name found (Err (Stopped (Unread other))) w t = absurd t
-tree-told shown failed name found (Err (Stopped (Long lines))) w t = absurd t
-tree-told shown failed name found (Err (Stopped (Line lines n))) w t = absurd t
+tree-told shown failed name found (Err (Stopped (Page page why))) w t = page_file shown name found (λ bytes. HoldsNoTree bytes page why) w t.file t
+tree-told shown failed name found (Err (Stopped _)) w t = absurd t
 
 -- bytes that were read cause no fault of reading
 pub tree-cause : (found : List ℕ) (before now : ℕ) (r : Result Stored (Undone Stop)) → TellsTree found r → HasReadCause before now r
@@ -30,10 +27,7 @@ tree-cause found before now (Ok stored) t = tt
 tree-cause found before now (Err Memory) t = tt
 tree-cause found before now (Err (Stopped (Length len))) t = λ two. absurd (omega arith)
 tree-cause found before now (Err (Stopped (Page page why))) t = λ two. absurd (omega arith)
-tree-cause found before now (Err (Stopped (Shape quantity))) t = absurd t
-tree-cause found before now (Err (Stopped (Unread other))) t = absurd t
-tree-cause found before now (Err (Stopped (Long lines))) t = absurd t
-tree-cause found before now (Err (Stopped (Line lines n))) t = absurd t
+tree-cause found before now (Err (Stopped _)) t = absurd t
 
 pub is-tree : (found : List ℕ) (r : Result Stored (Undone Stop)) → TellsTree found r → IfOk r (λ stored. IsTree stored.image)
 is-tree found (Ok stored) t = subst (λ (pages : List (List ℕ)). IsTree pages) (sym t.pages) t.rows.tree

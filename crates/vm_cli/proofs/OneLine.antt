@@ -1,18 +1,15 @@
 -- Two commands of one line: they ask the same tests, and what they do ends in one way. A further command is one more line of each.
 use Rattle.std.proofs.Common.{◌≡◌, ◌≢◌, ◌∙◌, ℕ, ◌≤◌, ◌<◌, ◌^◌, leb, true, false, true≢false, List, [], ◌∷◌, get_or, Option, Some, None, refl, sym, ap, subst, arith}
-use Rattle.std.proofs.lemmas.Bool.{and_parts, eq-eqb, leb-true}
+use Rattle.std.proofs.lemmas.Bool.{and_parts, leb-true}
 use Rattle.vm_io.specs.Shown.{Shown}
-use Rattle.vm_block.specs.Plans.{most_faults}
-use Rattle.vm_image.specs.Blocks.{numbers_for}
 use Rattle.vm_image.specs.declared.blocks.PlannedFault.{PlannedFault}
-use Rattle.vm_drive.specs.Causes.{notes_of}
-use Rattle.vm_pool.specs.Closing.{view_at_end}
-use Rattle.vm_serve.specs.Served.{is_first}
+use Rattle.vm_map.specs.declared.call.Call.{Call}
+use Rattle.vm_serve.specs.Served.{IsServed, TreeEnd}
+use Rattle.vm_serve.proofs.Unplanned.{all_flushed}
 use Rattle.vm_replay.specs.Told.{PlayedFile}
 use Rattle.vm_replay.proofs.OnePlay.{one_played}
 use Rattle.vm_words.specs.declared.Command.{Command}
-use Rattle.vm_words.specs.declared.Command.TheVariants.{Run, Check, Replay}
-use Rattle.vm_words.specs.declared.Check.{Check as CheckLine}
+use Rattle.vm_words.specs.declared.Command.TheVariants.{Run, Make, Check, Churn, Replay}
 use Rattle.vm_words.specs.declared.Replay.{Replay as ReplayLine}
 use Rattle.vm_words.specs.declared.Run.{Run as RunLine}
 use Rattle.vm_words.specs.declared.form.Verb.{Verb}
@@ -22,10 +19,10 @@ use Rattle.vm_cli.specs.declared.ends.Ends.{Ends}
 use Rattle.vm_cli.specs.Agreement.{as_done}
 use Rattle.vm_cli.specs.Commands.{Cut, IsSmooth, order_of}
 use Rattle.vm_cli.specs.Deliveries.{Content}
-use Rattle.vm_cli.specs.Endings.{Does, cut, told}
+use Rattle.vm_cli.specs.Endings.{Performs, cut, told}
 use Rattle.vm_cli.specs.Files.{HasFile}
 use Rattle.vm_cli.specs.Limits.{are_workers}
-use Rattle.vm_cli.specs.Runs.{CutRun, version_or}
+use Rattle.vm_cli.specs.Runs.{CutRun, IsUnflushedRun, version_or}
 use Rattle.vm_cli.specs.Tests.{events}
 use Rattle.vm_cli.proofs.OneStop.{AreBounded, both_of}
 
@@ -76,6 +73,17 @@ same_order (Run run) (Run other) e =
     let workers : run.workers ≡ other.workers = cc in
     let frames : run.frames ≡ other.frames = cc in
     cc (image, script, workers, frames, same_plan run other e, same_version run other e)
+same_order (Make make) (Make other) e =
+    let says = ap (λ (l : Verb × List Meaning). l.1) e in
+    let pages : make.pages ≡ other.pages = cc in
+    let pairs : make.pairs ≡ other.pairs = cc in
+    cc (pages, pairs)
+same_order (Churn churn) (Churn other) e =
+    let says = ap (λ (l : Verb × List Meaning). l.1) e in
+    let pairs : churn.pairs ≡ other.pairs = cc in
+    let workers : churn.workers ≡ other.workers = cc in
+    let frames : churn.frames ≡ other.frames = cc in
+    cc (pairs, workers, frames)
 same_order (Check check) (Check other) e = let says = ap (λ (l : Verb × List Meaning). l.1) e in cc
 same_order (Replay replay) (Replay other) e = ap (λ (name : List ℕ). events name ∷ []) (same_file replay other e)
 same_order c d e = absurd (two_lines c d (λ v. absurd cc) e)
@@ -86,7 +94,9 @@ few_workers workers h =
 
 pub bounded : (shown : Option Shown) (c : Command) → AreBounded shown (order_of c)
 bounded shown (Run run) = (tt, λ few. (tt, λ _. (tt, λ _. (tt, λ _. (tt, λ _. (few_workers run.workers few, λ _. tt))))))
+bounded shown (Make make) = (tt, λ _. (tt, λ _. (tt, λ _. tt)))
 bounded shown (Check check) = (tt, λ _. tt)
+bounded shown (Churn churn) = (tt, λ _. (tt, λ _. (tt, λ _. tt)))
 bounded shown (Replay replay) = (tt, λ _. tt)
 
 -- ---- what is done
@@ -98,21 +108,24 @@ played_apart shown name last text other e p q =
     let b = both_of shown last _ _ p' q in
     true≢false (one_played b.0 text other true false b.1 b.2).1
 
--- where no failure is planned none is noted, and so the write of no page failed
+-- where no failure is planned the write of no page failed
+all_written : (run : RunLine) (end : TreeEnd) (content : Content) (pages : List (List ℕ)) (lists : List (List Call)) → run.options.fail.items ≡ [] → IsUnflushedRun run end content pages lists → ⊥
+all_written run end content pages lists none is =
+    let made = is.made in
+    let served = subst (λ (plan : List PlannedFault). IsServed pages plan lists made.replies made.report made.blocks end) none made.served in
+    let first = all_flushed pages lists made.replies made.report made.blocks end served in
+    let least = is.least in
+    absurd cc
+
 no_cut_run : (shown : Shown) (run : RunLine) (content : Content) (after : Ends) → run.options.fail.items ≡ [] → CutRun run (Some shown) content after → ⊥
-no_cut_run shown run content after none is =
-    let unflushed = is.2.2.1.2.2 in
-    let served = unflushed.made.served in
-    let page = unflushed.page in
-    let notes = notes_of page (view_at_end is.0).notes in
-    let first : is_first unflushed.made.report.first page ≡ 1 = ap (λ o. is_first o page) unflushed.least ∙ rw (eq-eqb page page refl) refl in
-    let planned : notes ≤ most_faults (numbers_for [] page) = subst (λ plan. notes ≤ most_faults (numbers_for plan page)) none (served.planned page) in
-    omega (arith, served.noted page, first, planned)
+no_cut_run shown run content after none is = all_written run is.0 content _ is.2.2.1.2.0 none is.2.2.1.2.2
 
 -- what makes a command end otherwise is not there
 pub no_cut : (shown : Shown) (c d : Command) (content : Content) (before after : Ends) → line_of c ≡ line_of d → IsSmooth d (Some shown) → Cut c (Some shown) content before after → ⊥
 no_cut shown (Run run) (Run other) content before after e smooth is = no_cut_run shown run content after (same_plan run other e ∙ smooth) is.0
+no_cut shown (Make make) (Make other) content before after e smooth is = is
 no_cut shown (Check check) (Check other) content before after e smooth is = is
+no_cut shown (Churn churn) (Churn other) content before after e smooth is = is
 no_cut shown (Replay replay) (Replay other) content before after e smooth is =
     played_apart shown other.file.now replay.file.now smooth.2.0 content.text (sym (same_file replay other e)) (smooth.0, smooth.1, smooth.2.1) is.0.0.0
 no_cut shown c d content before after e smooth is = absurd (two_lines c d (λ v. absurd cc) e)
@@ -120,26 +133,35 @@ no_cut shown c d content before after e smooth is = absurd (two_lines c d (λ v.
 -- what it ends with then is not 0
 pub cut_not_done : (shown : Option Shown) (c : Command) (content : Content) (before after : Ends) → Cut c shown content before after → content.status ≢ 0
 cut_not_done shown (Run run) content before after is = λ e. omega (arith, e, is.1)
+cut_not_done shown (Make make) content before after is = absurd is
 cut_not_done shown (Check check) content before after is = absurd is
+cut_not_done shown (Churn churn) content before after is = absurd is
 cut_not_done shown (Replay replay) content before after is = λ e. omega (arith, e, is.1)
 
-run_ends : (shown : Option Shown) (run : RunLine) (content : Content) (before after : Ends) → Does (Run run) shown content before after → as_done content.status ≡ 0
+run_ends : (shown : Option Shown) (run : RunLine) (content : Content) (before after : Ends) → Performs (Run run) shown content before after → as_done content.status ≡ 0
 run_ends shown run content before after (told t e) = ap as_done e
 run_ends shown run content before after (cut t) = ap as_done t.1
 
-check_ends : (shown : Option Shown) (check : CheckLine) (content : Content) (before after : Ends) → Does (Check check) shown content before after → content.status ≡ 0
-check_ends shown check content before after (told t e) = e
-check_ends shown check content before after (cut t) = absurd t
+-- a command that ends in no other way ends with status 0
+only_told : (shown : Option Shown) (c : Command) (content : Content) (before after : Ends) → (Cut c shown content before after → ⊥) → Performs c shown content before after → content.status ≡ 0
+only_told shown c content before after never (told t e) = e
+only_told shown c content before after never (cut t) = absurd (never t)
 
-replays_end : (shown : Shown) (replay other : ReplayLine) (content more : Content) (before after start end : Ends) → replay.file.now ≡ other.file.now → Does (Replay replay) (Some shown) content before after → Does (Replay other) (Some shown) more start end → content.status ≡ more.status
+-- so two of them end with one
+both_told : (shown : Shown) (c d : Command) (content more : Content) (before after start end : Ends) → (Cut c (Some shown) content before after → ⊥) → (Cut d (Some shown) more start end → ⊥) → Performs c (Some shown) content before after → Performs d (Some shown) more start end → as_done content.status ≡ as_done more.status
+both_told shown c d content more before after start end never nor p q = ap as_done (only_told (Some shown) c content before after never p ∙ sym (only_told (Some shown) d more start end nor q))
+
+replays_end : (shown : Shown) (replay other : ReplayLine) (content more : Content) (before after start end : Ends) → replay.file.now ≡ other.file.now → Performs (Replay replay) (Some shown) content before after → Performs (Replay other) (Some shown) more start end → content.status ≡ more.status
 replays_end shown replay other content more before after start end file (told t e) (told u f) = e ∙ sym f
 replays_end shown replay other content more before after start end file (told t e) (cut u) = absurd (played_apart shown replay.file.now other.file.now content.text more.text file t.0.0 u.0.0.0)
 replays_end shown replay other content more before after start end file (cut t) (told u f) = absurd (played_apart shown other.file.now replay.file.now more.text content.text (sym file) u.0.0 t.0.0.0)
 replays_end shown replay other content more before after start end file (cut t) (cut u) = t.1 ∙ sym u.1
 
 -- what commands of one line do ends with one status, where the two of a run count as one
-pub one_ending : (shown : Shown) (c d : Command) (content more : Content) (before after start end : Ends) → line_of c ≡ line_of d → Does c (Some shown) content before after → Does d (Some shown) more start end → as_done content.status ≡ as_done more.status
+pub one_ending : (shown : Shown) (c d : Command) (content more : Content) (before after start end : Ends) → line_of c ≡ line_of d → Performs c (Some shown) content before after → Performs d (Some shown) more start end → as_done content.status ≡ as_done more.status
 one_ending shown (Run run) (Run other) content more before after start end e p q = run_ends (Some shown) run content before after p ∙ sym (run_ends (Some shown) other more start end q)
-one_ending shown (Check check) (Check other) content more before after start end e p q = ap as_done (check_ends (Some shown) check content before after p ∙ sym (check_ends (Some shown) other more start end q))
+one_ending shown (Make make) (Make other) content more before after start end e p q = both_told shown (Make make) (Make other) content more before after start end (λ t. t) (λ t. t) p q
+one_ending shown (Check check) (Check other) content more before after start end e p q = both_told shown (Check check) (Check other) content more before after start end (λ t. t) (λ t. t) p q
+one_ending shown (Churn churn) (Churn other) content more before after start end e p q = both_told shown (Churn churn) (Churn other) content more before after start end (λ t. t) (λ t. t) p q
 one_ending shown (Replay replay) (Replay other) content more before after start end e p q = ap as_done (replays_end shown replay other content more before after start end (same_file replay other e) p q)
 one_ending shown c d content more before after start end e p q = absurd (two_lines c d (λ v. absurd cc) e)

@@ -5,10 +5,10 @@ use Rattle.vm_io.specs.Shown.{Shown}
 use Rattle.vm_script.proofs.Readings.{not_both}
 use Rattle.vm_script.proofs.EventReadings.{not_both as not_both_events}
 use Rattle.vm_cli.specs.declared.stop.Stop.{Stop}
-use Rattle.vm_cli.specs.declared.stop.Stop.TheVariants.{Shape, Unread, Length, Page, Long, Line}
+use Rattle.vm_cli.specs.declared.stop.Stop.TheVariants.{Shape, Unread, Length, Page, TooFew, Long, Line}
 use Rattle.vm_cli.specs.Files.{HasFile}
 use Rattle.vm_cli.specs.Stops.{status_of}
-use Rattle.vm_cli.specs.Tests.{AllPass, Fails, Passes, StopsAt, Test, events, here, image, past, script, within}
+use Rattle.vm_cli.specs.Tests.{AllPass, Fails, Passes, StopsAt, Test, events, here, image, past, room, script, within}
 
 -- what holds of a file's bytes, and what else does, hold of the same bytes
 pub both_of : (shown : Shown) (name : List ℕ) (P Q : List ℕ → Type 0) → HasFile (Some shown) name P → HasFile (Some shown) name Q → (bytes : List ℕ) × P bytes × Q bytes
@@ -19,6 +19,7 @@ both_of shown name P Q p q =
 -- the workers of a script are numbers of 32 bits
 abbrev pub IsBounded : Test → Type 0
 IsBounded (within quantity holds) = Unit {0}
+IsBounded (room pages pairs) = Unit {0}
 IsBounded (image name) = Unit {0}
 IsBounded (script name workers) = workers < 2 ^ 32
 IsBounded (events name) = Unit {0}
@@ -53,6 +54,8 @@ read_events shown failed name _ p f = absurd f
 unread_only : (shown : Shown) (failed : List ℕ) (test : Test) (stop : Stop) → IsBounded test → Passes (Some shown) test → Fails (Some shown) failed test stop → status_of stop ≡ 2
 unread_only shown failed (within quantity holds) (Shape other) few p f = absurd (true≢false (sym p ∙ f.0))
 unread_only shown failed (within quantity holds) _ few p f = absurd f
+unread_only shown failed (room pages pairs) (TooFew told wanted) few p f = absurd (omega (arith, p, f.0))
+unread_only shown failed (room pages pairs) _ few p f = absurd f
 unread_only shown failed (image name) stop few p f = read_image shown failed name stop p f
 unread_only shown failed (script name workers) stop few p f = read_script shown failed name workers stop few p f
 unread_only shown failed (events name) stop few p f = read_events shown failed name stop p f
@@ -67,6 +70,7 @@ stop_unread shown failed (test ∷ tests) stop few all (past passes more) = stop
 
 abbrev status_in : Test → ℕ
 status_in (within quantity holds) = 5
+status_in (room pages pairs) = 4
 status_in (image name) = 4
 status_in (script name workers) = 5
 status_in (events name) = 5
@@ -74,6 +78,8 @@ status_in (events name) = 5
 one_status : (shown : Option Shown) (failed : List ℕ) (test : Test) (stop : Stop) → Fails shown failed test stop → status_of stop ≢ 2 → status_of stop ≡ status_in test
 one_status shown failed (within quantity holds) (Shape other) f read = refl
 one_status shown failed (within quantity holds) _ f read = absurd f
+one_status shown failed (room pages pairs) (TooFew told wanted) f read = refl
+one_status shown failed (room pages pairs) _ f read = absurd f
 one_status shown failed (image name) (Unread unread) f read = absurd (read refl)
 one_status shown failed (image name) (Length told) f read = refl
 one_status shown failed (image name) (Page page why) f read = refl
@@ -101,5 +107,6 @@ stop_status (Shape quantity) = λ e. absurd cc
 stop_status (Unread name) = λ e. absurd cc
 stop_status (Length len) = λ e. absurd cc
 stop_status (Page page why) = λ e. absurd cc
+stop_status (TooFew pages needed) = λ e. absurd cc
 stop_status (Long lines) = λ e. absurd cc
 stop_status (Line lines n) = λ e. absurd cc

@@ -10,7 +10,7 @@ use Rattle.vm_cli.specs.Endings.{ProgramEnds}
 use Rattle.vm_cli.specs.Tests.{AllPass}
 
 -- neither a host that failed nor want of memory
-pub record IsSettled (status : ℕ) : Type 0 where
+pub record IsSettledStatus (status : ℕ) : Type 0 where
   pub read : status ≢ 2
   pub put : status ≢ 3
   pub memory : status ≢ 6
@@ -22,7 +22,7 @@ as_done status = if status == 7 then 0 else status
 -- Every other ending of these words over a host that shows the same has this status too, where neither is 2, 3 or 6
 abbrev pub AgreesWithOthers : List (List ℕ) → Option Shown → ℕ → Type 0
 AgreesWithOthers words old status =
-    (shown : Shown) (failed : List ℕ) (new : Option Shown) (before after : Ends) (other : ℕ) → old ≡ Some shown → ProgramEnds words failed old new before after other → IsSettled status → IsSettled other → as_done status ≡ as_done other
+    (shown : Shown) (failed : List ℕ) (new : Option Shown) (before after : Ends) (other : ℕ) → old ≡ Some shown → ProgramEnds words failed old new before after other → IsSettledStatus status → IsSettledStatus other → as_done status ≡ as_done other
 
 -- Valid words over valid files, and a host that failed in nothing: done, or memory was wanting
 abbrev pub IsComplete : List (List ℕ) → Option Shown → (takes takes' gives gives' : ℕ) → ℕ → Type 0

@@ -8,7 +8,7 @@ use Rattle.vm_cli.specs.declared.ends.Ends.{Ends}
 use Rattle.vm_cli.specs.declared.stop.Stop.{Stop}
 use Rattle.vm_cli.specs.declared.undone.Undone.{Undone}
 use Rattle.vm_cli.specs.declared.undone.Undone.TheVariants.{Stopped, Memory}
-use Rattle.vm_cli.specs.Commands.{Cut, Told, order_of}
+use Rattle.vm_cli.specs.Commands.{Cut, ToldCommand, order_of}
 use Rattle.vm_cli.specs.Deliveries.{Content, IsDelivered, WentOut, line}
 use Rattle.vm_cli.specs.Stops.{status_of, stop_line}
 use Rattle.vm_cli.specs.Tests.{AllPass, StopsAt}
@@ -17,14 +17,14 @@ abbrev pub usage_text : List ℕ
 usage_text = codes "usage: vmcache run, make, check, churn, replay" ++ 10 ∷ []
 
 -- what a command did that nothing stopped
-pub data Does (command : Command) (shown : Option Shown) (content : Content) (before after : Ends) : Type 0 where
-  told : Told command shown content before after → content.status ≡ 0 → Does command shown content before after
-  cut : Cut command shown content before after → Does command shown content before after
+pub data Performs (command : Command) (shown : Option Shown) (content : Content) (before after : Ends) : Type 0 where
+  told : ToldCommand command shown content before after → content.status ≡ 0 → Performs command shown content before after
+  cut : Cut command shown content before after → Performs command shown content before after
 
 -- How a command may end: all its tests passed, and what it gives went out, whole or in part; the first of its tests that failed stopped it; or
 -- memory was wanting, and nothing changed. `failed` is the name of the file that the host could not read last
 pub data CommandEnds (command : Command) (failed : List ℕ) (old new : Option Shown) (before after : Ends) (status : ℕ) : Type 0 where
-  done : (content : Content) → AllPass old (order_of command) → Does command old content before after → IsDelivered content old new status → CommandEnds command failed old new before after status
+  done : (content : Content) → AllPass old (order_of command) → Performs command old content before after → IsDelivered content old new status → CommandEnds command failed old new before after status
   stopped : (stop : Stop) → StopsAt old failed (order_of command) stop → after ≡ before → IsDelivered (line (stop_line stop) (status_of stop)) old new status → CommandEnds command failed old new before after status
   unable : new ≡ old → after ≡ before → status ≡ 6 → CommandEnds command failed old new before after status
 
@@ -39,14 +39,14 @@ pub record IsHeadline (words : List (List ℕ)) (old new : Option Shown) (before
   pub command : Command
   pub named : IsCommand words command
   pub content : Content
-  pub told : Told command old content before after
+  pub told : ToldCommand command old content before after
   pub out : WentOut content old new
 
 -- what a command answers before anything goes out: what it gives, or why it stopped
-abbrev pub Gives : {V : Type 0} → (V → Content) → Command → List ℕ → Option Shown → Ends → Ends → Result V (Undone Stop) → Type 0
-Gives view asked failed shown before after (Ok given) = AllPass shown (order_of asked) × Does asked shown (view given) before after
-Gives view asked failed shown before after (Err Memory) = after ≡ before
-Gives view asked failed shown before after (Err (Stopped stop)) = StopsAt shown failed (order_of asked) stop × (after ≡ before)
+abbrev pub AnswersCommand : {V : Type 0} → (V → Content) → Command → List ℕ → Option Shown → Ends → Ends → Result V (Undone Stop) → Type 0
+AnswersCommand view asked failed shown before after (Ok given) = AllPass shown (order_of asked) × Performs asked shown (view given) before after
+AnswersCommand view asked failed shown before after (Err Memory) = after ≡ before
+AnswersCommand view asked failed shown before after (Err (Stopped stop)) = StopsAt shown failed (order_of asked) stop × (after ≡ before)
 
 -- a stop with status 2 comes only where a `take` of the host failed
 abbrev pub HasReadCause : {V : Type 0} → ℕ → ℕ → Result V (Undone Stop) → Type 0

@@ -6,10 +6,14 @@ pub mod Stops
 pub mod Tests
 pub mod Deliveries
 pub mod Replies
+pub mod Made
 pub mod Runs
+pub mod Makes
 pub mod Checks
+pub mod Churns
 pub mod Replays
 pub mod Commands
+pub mod Loads
 pub mod Readings
 pub mod Endings
 pub mod Agreement

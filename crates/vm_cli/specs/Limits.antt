@@ -15,6 +15,18 @@ are_frames workers frames = leb 64 frames && (leb frames 65536 && leb (8 * worke
 abbrev pub is_version : ℕ → Bool
 is_version version = leb version MAX_VERSION
 
+-- 2 to 65,536 pages
+abbrev pub are_pages : ℕ → Bool
+are_pages pages = leb 2 pages && leb pages 65536
+
+-- at most 1,000,000 pairs in a page file that is made
+abbrev pub are_pairs_to_make : ℕ → Bool
+are_pairs_to_make pairs = leb pairs 1000000
+
+-- 1 to 100,000 pairs that a churn begins with
+abbrev pub are_pairs_to_churn : ℕ → Bool
+are_pairs_to_churn pairs = leb 1 pairs && leb pairs 100000
+
 -- at most 64 entries of planned failures
 abbrev pub are_entries : List PlannedFault → Bool
 are_entries plan = leb (length plan) 64

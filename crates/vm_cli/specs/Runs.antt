@@ -1,26 +1,19 @@
 -- What the command `run` does: the script's calls are made on the image's tree, the pages are flushed, and what came of it is told.
-use Rattle.std.specs.Prelude.{ℕ, ◌≡◌, ◌⊎◌, ◌++◌, List, Option, Some, None, Result}
+use Rattle.std.specs.Prelude.{ℕ, ◌≡◌, ◌⊎◌, ◌++◌, List, Option, Some, None}
 use Rattle.std.specs.Borrow.{Bor}
 use Rattle.vm_io.specs.Shown.{Shown}
-use Rattle.vm_block.specs.declared.memory.MemBlock.{MemBlock}
 use Rattle.vm_image.specs.File.{pages_of_bytes}
-use Rattle.vm_map.specs.History.{after_all}
 use Rattle.vm_map.specs.Map.{Pairs}
 use Rattle.vm_map.specs.declared.call.Call.{Call}
-use Rattle.vm_map.specs.declared.call.Reply.{Reply}
 use Rattle.vm_script.specs.Texts.{rows_text, unflushed_line, worker_replies}
-use Rattle.vm_tree_model.specs.Tree.{map_of}
-use Rattle.vm_tree_laws.specs.History.{saids}
-use Rattle.vm_evict.specs.declared.flushing.Flushed.{Flushed}
-use Rattle.vm_pool.specs.Closing.{view_at_end}
-use Rattle.vm_tree_rule.specs.declared.fault.TreeFault.{TreeFault}
-use Rattle.vm_serve.specs.Served.{IsServed, TreeEnd}
+use Rattle.vm_serve.specs.Served.{TreeEnd}
 use Rattle.vm_words.specs.declared.Run.{Run}
 use Rattle.vm_cli.specs.declared.ends.Ends.{Ends}
 use Rattle.vm_cli.specs.declared.ends.Ends.TheVariants.{Tree}
 use Rattle.vm_cli.specs.Deliveries.{Content, Written}
 use Rattle.vm_cli.specs.Files.{HasFile}
 use Rattle.vm_cli.specs.Images.{IsTreeFile, file_map}
+use Rattle.vm_cli.specs.Made.{IsMade, last_map}
 use Rattle.vm_cli.specs.Replies.{all_lines, counters_of}
 use Rattle.vm_cli.specs.Scripts.{IsScriptOf}
 
@@ -29,20 +22,9 @@ abbrev pub version_or : Option ℕ → ℕ
 version_or None = 0
 version_or (Some version) = version
 
--- the map of the pages after the calls of the one history that `end` keeps
-abbrev pub last_map : List (List ℕ) → TreeEnd → Pairs
-last_map pages end = after_all (map_of pages) (saids (view_at_end end).seen)
-
--- The workers' calls were made on the tree of the pages, over blocks that may fail as often as is planned for each, in a pool of
--- the run's frames, each page at the first version at the start; `end` keeps the one history of that, and each worker has these answers
-pub record IsMade (run : Run) (end : TreeEnd) (pages : List (List ℕ)) (lists : List (List Call)) : Type 0 where
-  pub replies : List (List (Result Reply TreeFault))
-  pub report : Flushed
-  pub blocks : List MemBlock
-  pub served : IsServed pages run.options.fail.items lists replies report blocks end
-  pub version : (view_at_end end).start.version ≡ version_or run.options.first_version
-  pub frames : (view_at_end end).start.frames ≡ run.frames
-  pub evicted : ℕ
+-- the workers' calls were made as the run asks: what is planned to fail, the first version and the frames are the run's
+abbrev pub IsMadeRun : Run → TreeEnd → List (List ℕ) → List (List Call) → Type 0
+IsMadeRun run end pages lists = IsMade run.options.fail.items (version_or run.options.first_version) run.frames end pages lists
 
 -- the file to be kept, where one is asked for, is a page file whose pages are a tree of this map
 abbrev pub IsKept : Option (Bor (List ℕ)) → Pairs → Option Written → Type 0
@@ -51,17 +33,19 @@ IsKept (Some name) m file = (bytes : List ℕ) × (file ≡ Some (record { name 
 
 -- Every page was flushed: the replies are told, the rows of the history's last map, and the counters; the kept file has that map too
 pub record IsFlushedRun (run : Run) (end : TreeEnd) (content : Content) (pages : List (List ℕ)) (lists : List (List Call)) : Type 0 where
-  pub made : IsMade run end pages lists
+  pub made : IsMadeRun run end pages lists
+  pub evicted : ℕ
   pub flushed : made.report.first ≡ None
-  pub text : content.text ≡ worker_replies 0 (all_lines lists made.replies) ++ rows_text (last_map pages end) ++ counters_of end made.evicted
+  pub text : content.text ≡ worker_replies 0 (all_lines lists made.replies) ++ rows_text (last_map pages end) ++ counters_of end evicted
   pub file : IsKept run.options.keep (last_map pages end) content.file
 
 -- The write of a page failed in the last flush, and no lesser one's: the replies are told, the page, and the counters
 pub record IsUnflushedRun (run : Run) (end : TreeEnd) (content : Content) (pages : List (List ℕ)) (lists : List (List Call)) : Type 0 where
-  pub made : IsMade run end pages lists
+  pub made : IsMadeRun run end pages lists
+  pub evicted : ℕ
   pub page : ℕ
   pub least : made.report.first ≡ Some page
-  pub text : content.text ≡ worker_replies 0 (all_lines lists made.replies) ++ unflushed_line page ++ counters_of end made.evicted
+  pub text : content.text ≡ worker_replies 0 (all_lines lists made.replies) ++ unflushed_line page ++ counters_of end evicted
   pub file : content.file ≡ None
 
 -- this holds of the pages of the image, which are a tree, and of the workers' calls in the script

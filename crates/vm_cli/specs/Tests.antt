@@ -1,18 +1,21 @@
 -- What a command asks before it does anything, in the order in which it asks: the first test that fails stops it.
-use Rattle.std.specs.Prelude.{ℕ, ◌≡◌, Bool, true, false, List, ◌∷◌, Option}
+use Rattle.std.specs.Prelude.{ℕ, ◌≡◌, ◌<◌, ◌≤◌, Bool, true, false, List, ◌∷◌, Option}
 use Rattle.std.specs.List.{AllByRecursion}
 use Rattle.vm_io.specs.Shown.{Shown}
+use Rattle.vm_build.specs.Build.{needed}
 use Rattle.vm_cli.specs.declared.stop.Quantity.{Quantity}
 use Rattle.vm_cli.specs.declared.stop.Lines.TheVariants.{Script, Events}
 use Rattle.vm_cli.specs.declared.stop.Stop.{Stop}
-use Rattle.vm_cli.specs.declared.stop.Stop.TheVariants.{Shape, Unread, Length, Page, Long, Line}
+use Rattle.vm_cli.specs.declared.stop.Stop.TheVariants.{Shape, Unread, Length, Page, TooFew, Long, Line}
 use Rattle.vm_cli.specs.Files.{HasFile}
-use Rattle.vm_cli.specs.Images.{IsNoTree, IsTreeFile, IsWrongLength}
+use Rattle.vm_cli.specs.Images.{HoldsNoTree, IsTreeFile, IsWrongLength}
 use Rattle.vm_cli.specs.Scripts.{AreBadEvents, AreGoodEvents, IsBadScript, IsGoodScript, IsLong}
 
 pub data Test : Type 0 where
   -- a quantity is within its limits
   within : Quantity → Bool → Test
+  -- so many pages are enough for the tree of so many pairs
+  room : ℕ → ℕ → Test
   -- the file with this name is a page file whose pages are a tree
   image : List ℕ → Test
   -- the file with this name is a script of so many workers
@@ -22,6 +25,7 @@ pub data Test : Type 0 where
 
 abbrev pub Passes : Option Shown → Test → Type 0
 Passes shown (within quantity holds) = holds ≡ true
+Passes shown (room pages pairs) = needed pairs ≤ pages
 Passes shown (image name) = HasFile shown name IsTreeFile
 Passes shown (script name workers) = HasFile shown name (IsGoodScript workers)
 Passes shown (events name) = HasFile shown name AreGoodEvents
@@ -34,9 +38,11 @@ IsUnread failed name unread = (unread ≡ name) × (failed ≡ name)
 abbrev pub Fails : Option Shown → List ℕ → Test → Stop → Type 0
 Fails shown failed (within quantity holds) (Shape other) = (holds ≡ false) × (other ≡ quantity)
 Fails shown failed (within quantity holds) _ = ⊥
+Fails shown failed (room pages pairs) (TooFew told wanted) = (pages < needed pairs) × (told ≡ pages) × (wanted ≡ needed pairs)
+Fails shown failed (room pages pairs) _ = ⊥
 Fails shown failed (image name) (Unread unread) = IsUnread failed name unread.now
 Fails shown failed (image name) (Length told) = HasFile shown name (λ bytes. IsWrongLength bytes told)
-Fails shown failed (image name) (Page page why) = HasFile shown name (λ bytes. IsNoTree bytes page why)
+Fails shown failed (image name) (Page page why) = HasFile shown name (λ bytes. HoldsNoTree bytes page why)
 Fails shown failed (image name) _ = ⊥
 Fails shown failed (script name workers) (Unread unread) = IsUnread failed name unread.now
 Fails shown failed (script name workers) (Long lines) = (lines ≡ Script) × HasFile shown name IsLong

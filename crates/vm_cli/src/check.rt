@@ -4,7 +4,7 @@ ghost use Rattle.std.specs.Prelude.{◌≡◌, ◌≤◌, IfOk};
 ghost use Rattle.vm_script.specs.Texts.{check_text};
 ghost use Rattle.vm_words.specs.declared.Command.TheVariants as commands;
 ghost use Rattle.vm_cli.specs.Deliveries.{content_of};
-ghost use Rattle.vm_cli.specs.Endings.{Gives, HasReadCause};
+ghost use Rattle.vm_cli.specs.Endings.{AnswersCommand, HasReadCause};
 ghost use Rattle.vm_cli.specs.declared.ends.Ends.{Ends};
 
 use crate::delivery::Delivery;
@@ -40,7 +40,7 @@ pub fn run_check<'a, H: Host>(
     host: &mut H,
     check: &Check<'a>,
 ) -> Result<Delivery<'a>, Undone<Stop<'a>>>
-    ensures gives { (same : Ends) → Gives content_of (commands.Check check.now) (H.last host.new) (H.shown host.old) same same result }
+    ensures gives { (same : Ends) → AnswersCommand content_of (commands.Check check.now) (H.last host.new) (H.shown host.old) same same result }
     ensures shown { H.shown host.new ≡ H.shown host.old }
     ensures puts { H.gives host.new ≡ H.gives host.old }
     ensures later { H.takes host.old ≤ H.takes host.new }

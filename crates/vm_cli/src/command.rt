@@ -2,11 +2,13 @@
 
 ghost use Rattle.std.specs.Prelude.{◌≡◌, ◌≤◌};
 ghost use Rattle.vm_cli.specs.Deliveries.{content_of};
-ghost use Rattle.vm_cli.specs.Endings.{Gives, HasReadCause};
+ghost use Rattle.vm_cli.specs.Endings.{AnswersCommand, HasReadCause};
 
 use crate::check::run_check;
+use crate::churn::run_churn;
 use crate::delivery::Delivery;
 use crate::ends::Ends;
+use crate::make::run_make;
 use crate::replay::run_replay;
 use crate::script::run_script;
 use crate::stop::Stop;
@@ -27,7 +29,7 @@ pub fn give<'a, R: Threads + Wait + Sync, H: Host, G: Gate + Sync>(
     gate: &G,
     ends: &mut Ends,
 ) -> Result<Delivery<'a>, Undone<Stop<'a>>>
-    ensures gives { Gives content_of command.now (H.last host.new) (H.shown host.old) ends.old ends.new result }
+    ensures gives { AnswersCommand content_of command.now (H.last host.new) (H.shown host.old) ends.old ends.new result }
     ensures shown { H.shown host.new ≡ H.shown host.old }
     ensures puts { H.gives host.new ≡ H.gives host.old }
     ensures later { H.takes host.old ≤ H.takes host.new }
@@ -35,7 +37,9 @@ pub fn give<'a, R: Threads + Wait + Sync, H: Host, G: Gate + Sync>(
 {
     match command {
         Command::Run(run) => run_script(rt, alloc, host, run, gate, ends),
+        Command::Make(make) => run_make(alloc, make),
         Command::Check(check) => run_check(alloc, host, check),
+        Command::Churn(churn) => run_churn(rt, alloc, churn, gate, ends),
         Command::Replay(replay) => run_replay(alloc, host, replay),
     }
 }

@@ -2,7 +2,7 @@
 
 ghost use Rattle.std.specs.Prelude.{◌≡◌, List, Option, Some, ℕ};
 ghost use Rattle.vm_io.specs.Shown.{Shown};
-ghost use Rattle.vm_cli.specs.Agreement.{IsSettled, as_done};
+ghost use Rattle.vm_cli.specs.Agreement.{IsSettledStatus, as_done};
 ghost use Rattle.vm_cli.specs.Endings.{ProgramEnds};
 ghost use Rattle.vm_cli.specs.declared.ends.Ends.{Ends};
 
@@ -12,5 +12,5 @@ pub fn endings_agree()
     ensures { (words : List (List ℕ)) (shown : Shown) (failed last : List ℕ) (new more : Option Shown) (before after start end : Ends) (status other : ℕ)
         → ProgramEnds words failed (Some shown) new before after status
         → ProgramEnds words last (Some shown) more start end other
-        → IsSettled status → IsSettled other → as_done status ≡ as_done other }
+        → IsSettledStatus status → IsSettledStatus other → as_done status ≡ as_done other }
 {}

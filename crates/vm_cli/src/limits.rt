@@ -1,7 +1,7 @@
 //! The limits of the numbers of a command line.
 
 ghost use Rattle.std.specs.Prelude.{◌≡◌};
-ghost use Rattle.vm_cli.specs.Limits.{are_entries, are_frames, are_workers, is_version};
+ghost use Rattle.vm_cli.specs.Limits.{are_entries, are_frames, are_pages, are_pairs_to_churn, are_pairs_to_make, are_workers, is_version};
 
 use vm_image::PlannedFault;
 
@@ -27,6 +27,27 @@ pub fn is_version(version: u64) -> bool
     ensures { result ≡ is_version version }
 {
     version <= LAST_VERSION
+}
+
+/// Whether there are 2 to 65,536 pages.
+pub fn are_pages(pages: u64) -> bool
+    ensures { result ≡ are_pages pages }
+{
+    2 <= pages && pages <= 65_536
+}
+
+/// Whether a page file can be made of so many pairs: at most 1,000,000.
+pub fn are_pairs_to_make(pairs: u64) -> bool
+    ensures { result ≡ are_pairs_to_make pairs }
+{
+    pairs <= 1_000_000
+}
+
+/// Whether a churn can begin with so many pairs: 1 to 100,000.
+pub fn are_pairs_to_churn(pairs: u64) -> bool
+    ensures { result ≡ are_pairs_to_churn pairs }
+{
+    1 <= pairs && pairs <= 100_000
 }
 
 /// Whether there are at most 64 entries of planned failures.

@@ -92,8 +92,8 @@ fn cut_text(
     Ok(out)
 }
 
-// The pages that the blocks hold, and the rows of the tree that they are.
-fn stored_in(alloc: Global, blocks: &[MemBlock]) -> Result<Stored, AllocError>
+/// The pages that the blocks hold, and the rows of the tree that they are.
+pub fn stored_in(alloc: Global, blocks: &[MemBlock]) -> Result<Stored, AllocError>
     requires tree { IsTree (pages_of_blocks blocks.now) }
     requires some { 2 ≤ length blocks.now }
     requires most { length blocks.now ≤ 65536 }
@@ -128,8 +128,13 @@ fn kept<'a>(
     }
 }
 
-// What is given and kept, put together.
-fn told<'a>(file: Option<File<'a>>, text: Vec<u8>, status: u8, ended: Ended<Tree>) -> Outcome<'a>
+/// What is given and kept, put together.
+pub fn told<'a>(
+    file: Option<File<'a>>,
+    text: Vec<u8>,
+    status: u8,
+    ended: Ended<Tree>,
+) -> Outcome<'a>
     ensures { result ≡ record { delivery = record { file = file.entry; text = text; status = status }; ended = ended } }
 {
     Outcome {

@@ -3,7 +3,7 @@
 ghost use Rattle.std.specs.Prelude.{◌≡◌, ◌≤◌};
 ghost use Rattle.vm_words.specs.declared.Command.TheVariants as commands;
 ghost use Rattle.vm_cli.specs.Deliveries.{content_of};
-ghost use Rattle.vm_cli.specs.Endings.{Gives, HasReadCause};
+ghost use Rattle.vm_cli.specs.Endings.{AnswersCommand, HasReadCause};
 ghost use Rattle.vm_cli.specs.declared.ends.Ends.{Ends};
 
 use crate::delivery::Delivery;
@@ -22,7 +22,7 @@ pub fn run_replay<'a, H: Host>(
     host: &mut H,
     replay: &Replay<'a>,
 ) -> Result<Delivery<'a>, Undone<Stop<'a>>>
-    ensures gives { (same : Ends) → Gives content_of (commands.Replay replay.now) (H.last host.new) (H.shown host.old) same same result }
+    ensures gives { (same : Ends) → AnswersCommand content_of (commands.Replay replay.now) (H.last host.new) (H.shown host.old) same same result }
     ensures shown { H.shown host.new ≡ H.shown host.old }
     ensures puts { H.gives host.new ≡ H.gives host.old }
     ensures later { H.takes host.old ≤ H.takes host.new }

@@ -22,11 +22,11 @@ const USAGE: &[u8] = b"usage: vmcache run, make, check, churn, replay\n";
 ///
 /// | status | comes |
 /// |---|---|
-/// | 0 | `run`: the calls were made, every page was flushed, and the kept file was written; the replies, the rows and the counters were said. `check`: the rows and the size were said. `replay`: what each event saw was said |
+/// | 0 | `run`: the calls were made, every page was flushed, and the kept file was written; the replies, the rows and the counters were said. `make`: the file was written, and its size said. `check`: the rows and the size were said. `churn`: the calls were made, every page was flushed, and the counts said. `replay`: what each event saw was said |
 /// | 1 | exactly where the words are no command; the usage line was said |
 /// | 2 | only where a `take` of the host failed; the line names the file |
-/// | 3 | only where a `put` or `say` failed, or took nothing of a piece; the kept file holds a front of its bytes, or a front of the text was said |
-/// | 4 | exactly where the image is refused |
+/// | 3 | only where a `put` or `say` failed, or took nothing of a piece; the file that is made or kept holds a front of its bytes, or a front of the text was said |
+/// | 4 | exactly where the image is refused, or `make` has too few pages |
 /// | 5 | exactly where a number, the script or the event list is refused, or an event is illegal |
 /// | 6 | want of memory; nothing was written or said |
 /// | 7 | `run`: a write of the last flush failed; the replies, the least such page and the counters were said |
@@ -39,7 +39,8 @@ pub fn run<R: Threads + Wait + Sync, H: Host, G: Gate + Sync>(
     ends: &mut Ends,
 ) -> u8
     // Of a run: the history that `ends` keeps is legal from the image's map on, and holds each worker's calls once, in the script's order, with
-    // the replies that were said; the rows that were said, and the kept file, are its last map.
+    // the replies that were said; the rows that were said, and the kept file, are its last map. Of a churn: the same of its calls, from the numbered
+    // pairs on, and what was said are the counts of that history and of its last map.
     ensures headline { result ≡ 0 → IsHeadline (map string_bytes words.now) (H.shown host.old) (H.shown host.new) ends.old ends.new }
     // Every status with its cause, what was written and said, and what is kept.
     ensures ends { ProgramEnds (map string_bytes words.now) (H.last host.new) (H.shown host.old) (H.shown host.new) ends.old ends.new result }

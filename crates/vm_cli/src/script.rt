@@ -3,7 +3,7 @@
 ghost use Rattle.std.specs.Prelude.{◌≡◌, ◌≤◌};
 ghost use Rattle.vm_words.specs.declared.Command.TheVariants as commands;
 ghost use Rattle.vm_cli.specs.Deliveries.{content_of};
-ghost use Rattle.vm_cli.specs.Endings.{Gives, HasReadCause};
+ghost use Rattle.vm_cli.specs.Endings.{AnswersCommand, HasReadCause};
 ghost use Rattle.vm_cli.specs.Readings.{TellsLimits};
 
 use crate::delivery::Delivery;
@@ -49,7 +49,7 @@ pub fn run_script<'a, R: Threads + Wait + Sync, H: Host, G: Gate + Sync>(
     gate: &G,
     ends: &mut Ends,
 ) -> Result<Delivery<'a>, Undone<Stop<'a>>>
-    ensures gives { Gives content_of (commands.Run run.now) (H.last host.new) (H.shown host.old) ends.old ends.new result }
+    ensures gives { AnswersCommand content_of (commands.Run run.now) (H.last host.new) (H.shown host.old) ends.old ends.new result }
     ensures shown { H.shown host.new ≡ H.shown host.old }
     ensures puts { H.gives host.new ≡ H.gives host.old }
     ensures later { H.takes host.old ≤ H.takes host.new }

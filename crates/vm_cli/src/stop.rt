@@ -2,7 +2,7 @@
 
 ghost use Rattle.std.specs.Prelude.{◌≡◌, ◌∷◌, ◌++◌, [], codes, IfOk, string_bytes};
 ghost use Rattle.std.specs.Fmt.{decimal};
-ghost use Rattle.vm_cli.specs.Stops.{lines_text, quantity_text, status_of as status_for, stop_line};
+ghost use Rattle.vm_cli.specs.Stops.{lines_name, quantity_text, status_of as status_for, stop_line};
 
 use std::alloc::{AllocError, Global};
 
@@ -14,6 +14,9 @@ pub enum Quantity {
     FirstVersion,
     /// How many entries of planned failures.
     Fail,
+    Pages,
+    /// How many pairs a tree is built of.
+    Pairs,
 }
 
 /// A file of lines.
@@ -34,6 +37,8 @@ pub enum Stop<'a> {
     Length(usize),
     /// The image's pages are no tree: the page at fault, and the first reason.
     Page { page: u32, why: u8 },
+    /// There are too few pages for the pairs, which need so many.
+    TooFew { pages: u32, needed: u32 },
     /// The file has more bytes than a script or an event list may have.
     Long(Lines),
     /// This line is the first that is refused, or one too many.
@@ -46,7 +51,7 @@ pub fn status_of(stop: Stop<'_>) -> u8
 {
     match stop {
         Stop::Unread(_) => 2,
-        Stop::Length(_) | Stop::Page { .. } => 4,
+        Stop::Length(_) | Stop::Page { .. } | Stop::TooFew { .. } => 4,
         Stop::Shape(_) | Stop::Long(_) | Stop::Line(..) => 5,
     }
 }
@@ -60,12 +65,14 @@ fn name_of<'a>(quantity: Quantity) -> &'a str
         Quantity::Frames => "frames",
         Quantity::FirstVersion => "first-version",
         Quantity::Fail => "fail",
+        Quantity::Pages => "pages",
+        Quantity::Pairs => "pairs",
     }
 }
 
 // What a file of lines is called.
 fn kind_of<'a>(lines: Lines) -> &'a str
-    ensures { result.now ≡ lines_text lines }
+    ensures { result.now ≡ lines_name lines }
 {
     match lines {
         Lines::Script => "script",
@@ -81,6 +88,14 @@ fn page_line(alloc: Global, page: u32, why: u8) -> Result<String, AllocError>
     Ok(line)
 }
 
+// The line that tells how many pages there are, and how many are needed.
+fn room_line(alloc: Global, pages: u32, needed: u32) -> Result<String, AllocError>
+    ensures { IfOk result (λ line. string_bytes line ≡ codes "too few " ++ decimal pages ++ codes " needed " ++ decimal needed ++ 10 ∷ []) }
+{
+    let line = format!(in alloc; "too few {pages} needed {needed}\n")?;
+    Ok(line)
+}
+
 /// The line that tells a stop.
 pub fn line_of(alloc: Global, stop: Stop<'_>) -> Result<String, AllocError>
     ensures { IfOk result (λ line. string_bytes line ≡ stop_line stop.entry) }
@@ -93,6 +108,7 @@ pub fn line_of(alloc: Global, stop: Stop<'_>) -> Result<String, AllocError>
         Stop::Unread(name) => format!(in alloc; "read {name}\n"),
         Stop::Length(len) => format!(in alloc; "image length {len}\n"),
         Stop::Page { page, why } => page_line(alloc, page, why),
+        Stop::TooFew { pages, needed } => room_line(alloc, pages, needed),
         Stop::Long(lines) => {
             let kind = kind_of(lines);
             format!(in alloc; "{kind} long\n")

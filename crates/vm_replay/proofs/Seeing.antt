@@ -8,7 +8,7 @@ use Rattle.vm_core.specs.declared.event.Seen.{Seen}
 use Rattle.vm_core.specs.declared.event.Seen.TheVariants as seens
 use Rattle.vm_core.specs.Replay.{Replayed}
 use Rattle.vm_core.specs.State.{State}
-use Rattle.vm_core.specs.Step.{after, seen, sees}
+use Rattle.vm_core.specs.Step.{after_event, seen, sees}
 use Rattle.vm_script.specs.declared.event_line.EventLine.{EventLine}
 use Rattle.vm_script.specs.declared.event_line.EventLine.TheVariants.{One, Fill, Loads}
 use Rattle.vm_script.specs.Sights.{FitsSight}
@@ -58,11 +58,11 @@ event_fits c (Hand a) = tt
 -- events whose sights are told as that of `one` are
 many_fit : (one : Event) (event : ℕ → Event) → ((i : ℕ) → sight_of (event i) ≡ sight_of one) → (c : State) (is : List ℕ) → AllByRecursion (FitsSight (sight_of one)) (sees c (map event is))
 many_fit one event same c [] = tt
-many_fit one event same c (i ∷ is) = (subst (λ s. FitsSight s (seen c (event i))) (same i) (event_fits c (event i)), many_fit one event same (after c (event i)) is)
+many_fit one event same c (i ∷ is) = (subst (λ s. FitsSight s (seen c (event i))) (same i) (event_fits c (event i)), many_fit one event same (after_event c (event i)) is)
 
 pub sees_count : (c : State) (es : List Event) → length (sees c es) ≡ length es
 sees_count c [] = refl
-sees_count c (e ∷ es) = ap suc (sees_count (after c e) es)
+sees_count c (e ∷ es) = ap suc (sees_count (after_event c e) es)
 
 pub events_count : (c : State) (line : EventLine) → length (events_of c line) ≡ events_in line
 events_count c (One event) = refl

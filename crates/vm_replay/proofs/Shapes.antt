@@ -3,13 +3,13 @@ use Rattle.std.proofs.Common.{Bool, true, false, ◌≡◌, ◌∙◌, List, [],
 use Rattle.vm_core.specs.declared.event.Event.{Event}
 use Rattle.vm_core.specs.declared.event.Event.TheVariants.{Look, LockX, LockS, UnlockS, Mark, Unmark, LockW, Upgrade, Release, ReleaseE, Downgrade, TLoad, Install, Clear, Dirty, Clean, Load, Store, BLoad, Take, Give, Read, RFail, Write, WFail, Raise, NLoad, Claim, Hand}
 use Rattle.vm_core.specs.State.{State}
-use Rattle.vm_core.specs.Step.{after, run}
+use Rattle.vm_core.specs.Step.{after_event, run}
 
 either_shape : (b : Bool) (c d : State) → c.shape ≡ d.shape → (if b then c else d).shape ≡ d.shape
 either_shape true c d e = e
 either_shape false c d e = refl
 
-after_shape : (c : State) (e : Event) → (after c e).shape ≡ c.shape
+after_shape : (c : State) (e : Event) → (after_event c e).shape ≡ c.shape
 after_shape c (Look a p) = refl
 after_shape c (LockX a p expects) = refl
 after_shape c (LockS a p expects) = refl
@@ -42,4 +42,4 @@ after_shape c (Hand a) = refl
 
 pub run_shape : (c : State) (es : List Event) → (run c es).shape ≡ c.shape
 run_shape c [] = refl
-run_shape c (e ∷ es) = run_shape (after c e) es ∙ after_shape c e
+run_shape c (e ∷ es) = run_shape (after_event c e) es ∙ after_shape c e

@@ -5,14 +5,14 @@ use Rattle.vm_core.specs.declared.playing.ReplayFault.{ReplayFault}
 use Rattle.vm_core.specs.declared.playing.ReplayFault.TheVariants as faults
 use Rattle.vm_core.specs.Replay.{Replayed}
 use Rattle.vm_core.specs.State.{State}
-use Rattle.vm_core.specs.Step.{AllLegal, Legal, after, run}
+use Rattle.vm_core.specs.Step.{AllLegal, Legal, after_event, run}
 use Rattle.vm_script.specs.declared.event_line.EventLine.{EventLine}
 use Rattle.vm_replay.specs.Played.{events_of}
 
 stops : (c : State) (es : List Event) (index : ℕ) → index < length es → ((e : Event) → slice_get es index ≡ Some e → Legal (run c (take index es)) e → ⊥) → AllLegal c es → ⊥
 stops c [] index inside bad legal = absurd (omega arith)
 stops c (e ∷ es) zero inside bad legal = bad e refl legal.0
-stops c (e ∷ es) (suc index) inside bad legal = stops (after c e) es index (omega arith) bad legal.1
+stops c (e ∷ es) (suc index) inside bad legal = stops (after_event c e) es index (omega arith) bad legal.1
 
 -- a replay that stopped at an illegal event of a line
 pub line_stops : (old new : State) (line : EventLine) (es : List Event) (index : ℕ) (fault : ReplayFault) → es ≡ events_of old line → fault ≡ faults.Illegal index → Replayed old es (Err fault) new → AllLegal old (events_of old line) → ⊥

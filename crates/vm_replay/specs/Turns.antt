@@ -10,7 +10,7 @@ use Rattle.vm_replay.specs.declared.line.Turn.TheVariants.{Done, Illegal}
 use Rattle.vm_replay.specs.Played.{events_of, illegal_line}
 
 -- so many events were done and told behind the text before, and led to the new state
-pub record IsDone (old : State) (number : ℕ) (line : EventLine) (before : List ℕ) (count : ℕ) (new : State) (text : List ℕ) : Type 0 where
+pub record IsLinePlayed (old : State) (number : ℕ) (line : EventLine) (before : List ℕ) (count : ℕ) (new : State) (text : List ℕ) : Type 0 where
   pub legal : AllLegal old (events_of old line)
   pub state : new ≡ run old (events_of old line)
   pub told : text ≡ before ++ seen_line number line (sees old (events_of old line))
@@ -19,5 +19,5 @@ pub record IsDone (old : State) (number : ℕ) (line : EventLine) (before : List
 
 -- how the turn of the line ended
 abbrev pub Turned : State → ℕ → EventLine → List ℕ → Turn → State → List ℕ → Type 0
-Turned old number line before (Done count) new text = IsDone old number line before count new text
+Turned old number line before (Done count) new text = IsLinePlayed old number line before count new text
 Turned old number line before Illegal new text = (AllLegal old (events_of old line) → ⊥) × (text ≡ before ++ illegal_line number)

@@ -7,7 +7,7 @@ use Rattle.vm_core.specs.declared.event.CoreShape.{CoreShape}
 use Rattle.vm_script.specs.declared.event_line.EventLine.{EventLine}
 use Rattle.vm_script.specs.Cuts.{IsLine, Lacks}
 use Rattle.vm_script.specs.EventLines.{IsEventLine, IsShape, event_line_text, shape_text}
-use Rattle.vm_script.specs.EventWords.{Reads}
+use Rattle.vm_script.specs.EventWords.{ReadsAs}
 use Rattle.vm_script.specs.Events.{IsFirstBadEvent, LacksShape, SpellsEvents, events_text, most_event_lines}
 use Rattle.vm_script.specs.Scripts.{BeginsWith}
 use Rattle.vm_script.proofs.EventTexts.{lacks_line, lacks_shape}
@@ -20,7 +20,7 @@ pub record IsEventsRead (bytes : List ℕ) (shape : CoreShape) (lines : List Eve
   pub each : AllByRecursion (IsEventLine shape) lines
   pub front : (bytes ≡ events_text shape lines ++ rest) ⊎ ((rest ≡ []) × (bytes ++ 10 ∷ [] ≡ events_text shape lines))
 
-pub no_shape : (bytes line behind : List ℕ) → IsLine bytes line behind → Reads IsShape shape_text line None → LacksShape bytes
+pub no_shape : (bytes line behind : List ℕ) → IsLine bytes line behind → ReadsAs IsShape shape_text line None → LacksShape bytes
 no_shape bytes line behind l none = λ shape s begins. none shape s (first_line bytes line behind (shape_text shape) l (lacks_shape shape s) begins)
 
 pub shape_read : (bytes line behind : List ℕ) (shape : CoreShape) → IsLine bytes line behind → IsShape shape → line ≡ shape_text shape → IsEventsRead bytes shape [] behind
@@ -38,7 +38,7 @@ whole bytes rest shape lines r more = elim r.front [ inl e ↦ e | inr e ↦ abs
 
 -- a bad line behind good ones is the first bad one
 pub bad_event : (bytes rest line behind : List ℕ) (shape : CoreShape) (lines : List EventLine) (n : ℕ) → IsEventsRead bytes shape lines rest → 0 < length rest → length lines + 2 ≡ n → length lines + 1 ≤ most_event_lines → IsLine rest line behind
-    → Reads (IsEventLine shape) event_line_text line None → IsFirstBadEvent bytes n
+    → ReadsAs (IsEventLine shape) event_line_text line None → IsFirstBadEvent bytes n
 bad_event bytes rest line behind shape lines n r more count few l none = inr record {
   shape = shape;
   good = lines;

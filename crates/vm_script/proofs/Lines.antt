@@ -8,7 +8,7 @@ use Rattle.vm_map.specs.declared.call.Call.{Call}
 use Rattle.vm_map.specs.declared.call.Call.TheVariants.{Get, Put, Del, Window}
 use Rattle.vm_script.specs.declared.script.Order.{Order}
 use Rattle.vm_script.specs.Cuts.{IsLine, Lacks}
-use Rattle.vm_script.specs.Scripts.{call_text, order_text, lines_text, IsCall, IsOrder, Spells, IsFirstBad, BeginsWith, most_lines}
+use Rattle.vm_script.specs.Scripts.{call_text, order_text, lines_text, IsScriptCall, IsOrder, Spells, IsFirstBad, BeginsWith, most_lines}
 use Rattle.vm_script.specs.Calls.{ReadsOrder}
 use Rattle.vm_script.proofs.Words.{each_append, lacks_decimal, lacks_pair, lacks_verb, numbers_text, one_cut, no_cut, text_is, verb_text}
 
@@ -17,13 +17,13 @@ pub record IsRead (workers : ℕ) (bytes : List ℕ) (orders : List Order) (rest
   pub each : AllByRecursion (IsOrder workers) orders
   pub front : (bytes ≡ lines_text orders ++ rest) ⊎ ((rest ≡ []) × (bytes ++ 10 ∷ [] ≡ lines_text orders))
 
-lacks_numbers : (call : Call) → IsCall call → Lacks 10 (numbers_text call)
+lacks_numbers : (call : Call) → IsScriptCall call → Lacks 10 (numbers_text call)
 lacks_numbers (Get key) is = lacks_decimal 10 key (omega arith) is
 lacks_numbers (Put key value) is = lacks_pair 10 key value (omega arith) is.0 is.1
 lacks_numbers (Del key) is = lacks_decimal 10 key (omega arith) is
 lacks_numbers (Window start most) is = lacks_pair 10 start most (omega arith) is.0 (omega (arith, is.2))
 
-lacks_call : (call : Call) → IsCall call → Lacks 10 (call_text call)
+lacks_call : (call : Call) → IsScriptCall call → Lacks 10 (call_text call)
 lacks_call call is = rw (text_is call) (each_append (λ b. b ≢ 10) (verb_text call) (32 ∷ numbers_text call) (lacks_verb 10 call (omega arith)) (λ e. omega arith, lacks_numbers call is))
 
 pub lacks_order : (workers : ℕ) (order : Order) → workers < 2 ^ 32 → IsOrder workers order → Lacks 10 (order_text order)

@@ -5,24 +5,24 @@ use Rattle.std.proofs.lemmas.List.Elements.{All-nil, All-append}
 use Rattle.std.proofs.lemmas.List.{get_or-map, length-map}
 use Rattle.vm_map.specs.declared.call.Call.{Call}
 use Rattle.vm_script.specs.declared.script.Order.{Order}
-use Rattle.vm_script.specs.Scripts.{IsScript, lists_of, calls_of, most_lines}
+use Rattle.vm_script.specs.Scripts.{IsScript, lists_of, calls_by, most_lines}
 
 length_lists : (workers : ℕ) (orders : List Order) → length (lists_of workers orders) ≡ workers
 length_lists zero orders = refl
-length_lists (suc worker) orders = omega (arith, length_lists worker orders, length-append (lists_of worker orders) (calls_of worker orders ∷ []))
+length_lists (suc worker) orders = omega (arith, length_lists worker orders, length-append (lists_of worker orders) (calls_by worker orders ∷ []))
 
 length_filter : {X : Type 0} (p : X → Bool) (xs : List X) → length (filter p xs) ≤ length xs
 length_filter p [] = omega arith
 length_filter p (x ∷ xs) = let h = length_filter p xs in elim (p x) as (λ b. length (cond b (x ∷ filter p xs) (filter p xs)) ≤ suc (length xs)) [ true ↦ omega arith | false ↦ omega arith ]
 
-few_calls : (worker : ℕ) (orders : List Order) → length (calls_of worker orders) ≤ length orders
+few_calls : (worker : ℕ) (orders : List Order) → length (calls_by worker orders) ≤ length orders
 few_calls worker orders = omega (arith, length-map (filter (λ order. order.worker == worker) orders) (λ order. order.call), length_filter (λ order. order.worker == worker) orders)
 
 few_each : (workers most : ℕ) (orders : List Order) → length orders ≤ most → All (λ calls. length calls ≤ most) (lists_of workers orders)
 few_each zero most orders few = All-nil _
-few_each (suc worker) most orders few = All-append (λ calls. length calls ≤ most) (lists_of worker orders) (calls_of worker orders ∷ []) (few_each worker most orders few) (λ k d lt. one k d (omega (arith, few, few_calls worker orders)) lt)
+few_each (suc worker) most orders few = All-append (λ calls. length calls ≤ most) (lists_of worker orders) (calls_by worker orders ∷ []) (few_each worker most orders few) (λ k d lt. one k d (omega (arith, few, few_calls worker orders)) lt)
   where
-    one : (k : ℕ) (d : List Call) → length (calls_of worker orders) ≤ most → k < 1 → length (get_or (calls_of worker orders ∷ []) k d) ≤ most
+    one : (k : ℕ) (d : List Call) → length (calls_by worker orders) ≤ most → k < 1 → length (get_or (calls_by worker orders ∷ []) k d) ≤ most
     one zero d le lt = le
     one (suc k) d le lt = absurd (omega (arith, lt))
 

@@ -6,7 +6,7 @@ use Rattle.std.proofs.lemmas.Fmt.{decimal_injective}
 use Rattle.std.proofs.lemmas.List.{append-nil}
 use Rattle.vm_image.specs.declared.blocks.PlannedFault.{PlannedFault}
 use Rattle.vm_script.specs.Cuts.{IsCut, Lacks}
-use Rattle.vm_script.specs.EventWords.{Reads}
+use Rattle.vm_script.specs.EventWords.{ReadsAs}
 use Rattle.vm_script.specs.Faults.{IsPlan, IsPlanned, fault_text, plan_text}
 use Rattle.vm_script.proofs.StateWords.{lacks_number}
 use Rattle.vm_script.proofs.Words.{each_append, lacks_decimal, one_cut, no_cut, cut_here}
@@ -110,7 +110,7 @@ behind_entries (x ∷ xs) (y ∷ z ∷ ys) rest is is' some e =
     behind_entries xs (z ∷ ys) rest is.1 is'.1 (omega arith) parts.1
 
 -- an entry in front of a comma that is none
-pub bad_entry : (word rest entry behind : List ℕ) (plan : List PlannedFault) → IsReadTo word plan rest → IsCut rest 44 entry behind → Reads IsPlanned fault_text entry None → (spelled : List PlannedFault) → IsPlan spelled → word ≢ plan_text spelled
+pub bad_entry : (word rest entry behind : List ℕ) (plan : List PlannedFault) → IsReadTo word plan rest → IsCut rest 44 entry behind → ReadsAs IsPlanned fault_text entry None → (spelled : List PlannedFault) → IsPlan spelled → word ≢ plan_text spelled
 bad_entry word rest entry behind plan read cut none spelled is e = refuse (behind_entries plan spelled rest read.each is.each is.some (sym read.front ∙ e)) where
   by_others : (first : PlannedFault) (others : List PlannedFault) → IsPlanned first → rest ≡ plan_text (first ∷ others) → ⊥
   by_others first [] ok e = no_cut 44 (fault_text first) entry behind (lacks_comma first ok) (sym e ∙ cut.whole)
@@ -120,7 +120,7 @@ bad_entry word rest entry behind plan read cut none spelled is e = refuse (behin
   refuse b = by_others b.first b.others b.is b.spelled
 
 -- a last entry that is none
-pub bad_last : (word rest : List ℕ) (plan : List PlannedFault) → IsReadTo word plan rest → Lacks 44 rest → Reads IsPlanned fault_text rest None → (spelled : List PlannedFault) → IsPlan spelled → word ≢ plan_text spelled
+pub bad_last : (word rest : List ℕ) (plan : List PlannedFault) → IsReadTo word plan rest → Lacks 44 rest → ReadsAs IsPlanned fault_text rest None → (spelled : List PlannedFault) → IsPlan spelled → word ≢ plan_text spelled
 bad_last word rest plan read lacks none spelled is e = refuse (behind_entries plan spelled rest read.each is.each is.some (sym read.front ∙ e)) where
   by_others : (first : PlannedFault) (others : List PlannedFault) → IsPlanned first → rest ≡ plan_text (first ∷ others) → ⊥
   by_others first [] ok e = none first ok e

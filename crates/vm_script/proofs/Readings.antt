@@ -7,13 +7,13 @@ use Rattle.std.proofs.lemmas.List.{append-nil}
 use Rattle.vm_map.specs.declared.call.Call.{Call}
 use Rattle.vm_map.specs.declared.call.Call.TheVariants.{Get, Put, Del, Window}
 use Rattle.vm_script.specs.declared.script.Order.{Order}
-use Rattle.vm_script.specs.Scripts.{call_text, order_text, lines_text, lists_of, IsCall, IsOrder, Spells, IsScript, IsFirstBad, BeginsWith, most_lines}
+use Rattle.vm_script.specs.Scripts.{call_text, order_text, lines_text, lists_of, IsScriptCall, IsOrder, Spells, IsScript, IsFirstBad, BeginsWith, most_lines}
 use Rattle.vm_script.proofs.Words.{lacks_decimal, one_cut, one_pair}
 use Rattle.vm_script.proofs.LineLists.{Compared, same, first_stopped, second_stopped, HasLine, begins_of, compared as compared_lines}
 use Rattle.vm_script.proofs.Lines.{lacks_order}
 
 -- a text is that of one call
-one_call : (a b : Call) → IsCall a → IsCall b → call_text a ≡ call_text b → a ≡ b
+one_call : (a b : Call) → IsScriptCall a → IsScriptCall b → call_text a ≡ call_text b → a ≡ b
 one_call (Get k) (Get k') a b e = let rest : decimal k ≡ decimal k' = cc in ap Get (decimal_injective k k' a b rest)
 one_call (Get k) (Put k' v') a b e = let first : 103 ≡ 112 = ap (λ l. get_or l 0 0) e in absurd (omega (arith, first))
 one_call (Get k) (Del k') a b e = let first : 103 ≡ 100 = ap (λ l. get_or l 0 0) e in absurd (omega (arith, first))

@@ -4,14 +4,15 @@ use Rattle.vm_script.specs.declared.event_line.Kind.{Kind}
 use Rattle.vm_script.specs.declared.event_line.Kind.TheVariants.{Actor, Page, Frame, Place, Bundle, Word, State, Count}
 
 -- the bytes spell the value that is answered, or none that they could
-abbrev pub Reads : {X : Type 0} → (X → Type 0) → (X → List ℕ) → List ℕ → Option X → Type 0
-Reads Is text bytes (Some x) = Is x × (bytes ≡ text x)
-Reads {X = X} Is text bytes None = (x : X) → Is x → bytes ≢ text x
+abbrev pub ReadsAs : {X : Type 0} → (X → Type 0) → (X → List ℕ) → List ℕ → Option X → Type 0
+ReadsAs Is text bytes (Some x) = Is x × (bytes ≡ text x)
+ReadsAs {X = X} Is text bytes None = (x : X) → Is x → bytes ≢ text x
 
 -- four numbers, of which a line uses as many as it has kinds
 abbrev pub Four : Type 0
 Four = ℕ × ℕ × ℕ × ℕ
 
+-- as many of four numbers as there are kinds
 abbrev pub used : List Kind → Four → List ℕ
 used kinds four = take (length kinds) (four.0 ∷ four.1 ∷ four.2 ∷ four.3 ∷ [])
 
@@ -35,6 +36,6 @@ AreNarrow (kind ∷ kinds) (value ∷ values) = IsNarrow kind value × AreNarrow
 AreNarrow _ _ = Unit {0}
 
 -- the state word of so many shares
-pub record IsShared (shares : ℕ) : Type 0 where
+pub record IsShareCount (shares : ℕ) : Type 0 where
   pub some : 1 ≤ shares
   pub few : shares ≤ 252

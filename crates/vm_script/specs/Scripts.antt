@@ -20,16 +20,17 @@ call_text (Window start most) = codes "scan" ++ 32 ∷ decimal start ++ 32 ∷ d
 abbrev pub order_text : Order → List ℕ
 order_text order = decimal order.worker ++ 32 ∷ call_text order.call
 
-abbrev pub IsCall : Call → Type 0
-IsCall (Get key) = key < 2 ^ 64
-IsCall (Put key value) = (key < 2 ^ 64) × (value < 2 ^ 64)
-IsCall (Del key) = key < 2 ^ 64
-IsCall (Window start most) = (start < 2 ^ 64) × (1 ≤ most) × (most ≤ MOST_PAIRS)
+-- a call that a script may have
+abbrev pub IsScriptCall : Call → Type 0
+IsScriptCall (Get key) = key < 2 ^ 64
+IsScriptCall (Put key value) = (key < 2 ^ 64) × (value < 2 ^ 64)
+IsScriptCall (Del key) = key < 2 ^ 64
+IsScriptCall (Window start most) = (start < 2 ^ 64) × (1 ≤ most) × (most ≤ MOST_PAIRS)
 
 -- an order that a script for so many workers may have
 pub record IsOrder (workers : ℕ) (order : Order) : Type 0 where
   pub worker : order.worker < workers
-  pub call : IsCall order.call
+  pub call : IsScriptCall order.call
 
 -- the lines, each with its line feed
 abbrev pub lines_text : List Order → List ℕ
@@ -67,8 +68,8 @@ pub record IsFirstBad (workers : ℕ) (bytes : List ℕ) (n : ℕ) : Type 0 wher
   pub bad : (length good ≡ most_lines) ⊎ ((order : Order) → IsOrder workers order → BeginsWith rest (order_text order) → ⊥)
 
 -- the calls of one worker, in the script's order
-abbrev pub calls_of : ℕ → List Order → List Call
-calls_of worker orders = map (λ order. order.call) (filter (λ order. order.worker == worker) orders)
+abbrev pub calls_by : ℕ → List Order → List Call
+calls_by worker orders = map (λ order. order.call) (filter (λ order. order.worker == worker) orders)
 
 -- what a reader of scripts answers, its answer seen by `view`; want of memory is free
 abbrev pub ReadsOrders : {V : Type 0} → (V → List Order) → ℕ → List ℕ → Result V ScriptFault → Type 0
@@ -80,7 +81,7 @@ ReadsOrders view workers bytes (Err Memory) = Unit {0}
 -- the calls of each worker below a number
 abbrev pub lists_of : ℕ → List Order → List (List Call)
 lists_of zero orders = []
-lists_of (suc worker) orders = lists_of worker orders ++ calls_of worker orders ∷ []
+lists_of (suc worker) orders = lists_of worker orders ++ calls_by worker orders ∷ []
 
 -- a script gives each worker its calls, in order
 pub record IsScript (workers : ℕ) (bytes : List ℕ) (lists : List (List Call)) : Type 0 where
@@ -88,6 +89,7 @@ pub record IsScript (workers : ℕ) (bytes : List ℕ) (lists : List (List Call)
   pub spells : Spells workers bytes orders
   pub each : lists ≡ lists_of workers orders
 
+-- the right answer of a reader: its calls, too long, or the first bad line; want of memory is free
 abbrev pub ReadsScript : {V : Type 0} → (V → List (List Call)) → ℕ → List ℕ → Result V ScriptFault → Type 0
 ReadsScript view workers bytes (Ok v) = (length bytes ≤ most_bytes) × IsScript workers bytes (view v)
 ReadsScript view workers bytes (Err Long) = most_bytes < length bytes

@@ -10,7 +10,7 @@ use Rattle.vm_script.specs.declared.event_line.EventLine.{EventLine}
 use Rattle.vm_script.specs.declared.event_line.EventLine.TheVariants.{One, Fill, Loads}
 use Rattle.vm_script.specs.declared.seen.Sight.{Sight}
 use Rattle.vm_script.specs.declared.seen.Sight.TheVariants as sights
-use Rattle.vm_script.specs.Sights.{FitsSight, sight_text, word_in, no_sight}
+use Rattle.vm_script.specs.Sights.{FitsSight, sight_text, seen_word, no_sight}
 
 -- how what an event sees is told
 abbrev pub sight_of : Event → Sight
@@ -65,7 +65,7 @@ pub record FitsLine (line : EventLine) (seen : List Seen) : Type 0 where
 abbrev pub told_text : EventLine → List Seen → List ℕ
 told_text (One event) seen = sight_text (sight_of event) (get_or seen 0 no_sight)
 told_text (Fill a p f) seen = codes "done"
-told_text (Loads a p) seen = codes "words " ++ decimal (word_in (get_or seen 0 no_sight)) ++ 32 ∷ decimal (word_in (get_or seen (WORDS - 1) no_sight))
+told_text (Loads a p) seen = codes "words " ++ decimal (seen_word (get_or seen 0 no_sight)) ++ 32 ∷ decimal (seen_word (get_or seen (WORDS - 1) no_sight))
 
 -- `NUMBER WHAT WAS SEEN`
 abbrev pub seen_line : ℕ → EventLine → List Seen → List ℕ

@@ -49,6 +49,7 @@ found_text State word = decimal word
 found_text Failed word = decimal word
 found_text Done word = decimal word
 
+-- the text of what an event saw, told in this way
 abbrev pub sight_text : Sight → Seen → List ℕ
 sight_text sight seens.Done = codes "done"
 sight_text sight (seens.Word word) = word_text sight word
@@ -81,19 +82,19 @@ IsLook seens.Taken = ⊥
 IsLook (seens.Lost word) = ⊥
 
 -- nothing is seen
-abbrev pub IsDone : Seen → Type 0
-IsDone seens.Done = Unit {0}
-IsDone (seens.Word word) = ⊥
-IsDone (seens.Look word left) = ⊥
-IsDone seens.Taken = ⊥
-IsDone (seens.Lost word) = ⊥
+abbrev pub SeesNothing : Seen → Type 0
+SeesNothing seens.Done = Unit {0}
+SeesNothing (seens.Word word) = ⊥
+SeesNothing (seens.Look word left) = ⊥
+SeesNothing seens.Taken = ⊥
+SeesNothing (seens.Lost word) = ⊥
 
 -- what was seen is of the kind that is told in this way
 abbrev pub FitsSight : Sight → Seen → Type 0
 FitsSight Look seen = IsLook seen
 FitsSight Exchange seen = IsExchanged seen
 FitsSight NumberExchange seen = IsExchanged seen
-FitsSight Done seen = IsDone seen
+FitsSight Done seen = SeesNothing seen
 FitsSight Translation seen = IsWord seen
 FitsSight Loaded seen = IsWord seen
 FitsSight Bits seen = IsWord seen
@@ -103,12 +104,12 @@ FitsSight State seen = IsWord seen
 FitsSight Failed seen = IsWord seen
 
 -- the word that is seen, and 0 where none is
-abbrev pub word_in : Seen → ℕ
-word_in (seens.Word word) = word
-word_in seens.Done = 0
-word_in (seens.Look word left) = 0
-word_in seens.Taken = 0
-word_in (seens.Lost word) = 0
+abbrev pub seen_word : Seen → ℕ
+seen_word (seens.Word word) = word
+seen_word seens.Done = 0
+seen_word (seens.Look word left) = 0
+seen_word seens.Taken = 0
+seen_word (seens.Lost word) = 0
 
 abbrev pub no_sight : Seen
 no_sight = seens.Done

@@ -1,4 +1,4 @@
--- The lines of what calls were answered, of rows, of counters and of a tree's size.
+-- The lines of what calls were answered, of rows, of counters, of a tree's size, and of what was made and churned.
 use Rattle.std.specs.Prelude.{ℕ, ◌+◌, List, [], ◌∷◌, ◌++◌, length, map, Option, Some, None, codes}
 use Rattle.std.specs.Fmt.{decimal}
 use Rattle.std.specs.List.{flat_map}
@@ -92,3 +92,14 @@ tree_line height used rows = codes "tree height " ++ decimal height ++ codes " u
 -- the rows of a tree, and the line of its size
 abbrev pub check_text : Pairs → ℕ → ℕ → List ℕ
 check_text rows height used = rows_text rows ++ tree_line height used (length rows)
+
+-- `made P used U height H`
+abbrev pub made_line : ℕ → ℕ → ℕ → List ℕ
+made_line pages used height = codes "made " ++ decimal pages ++ codes " used " ++ decimal used ++ codes " height " ++ decimal height ++ 10 ∷ []
+
+-- `churn N calls C some A new B gone G rows R sum S`
+abbrev pub churn_line : (pairs calls some new gone rows sum : ℕ) → List ℕ
+churn_line pairs calls some new gone rows sum =
+    codes "churn " ++ decimal pairs ++ codes " calls " ++ decimal calls
+    ++ codes " some " ++ decimal some ++ codes " new " ++ decimal new ++ codes " gone " ++ decimal gone
+    ++ codes " rows " ++ decimal rows ++ codes " sum " ++ decimal sum ++ 10 ∷ []

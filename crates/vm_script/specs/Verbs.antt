@@ -5,6 +5,7 @@ use Rattle.vm_script.specs.declared.event_line.Kind.TheVariants.{Actor, Page, Fr
 use Rattle.vm_script.specs.declared.event_line.Verb.{Verb}
 use Rattle.vm_script.specs.declared.event_line.Verb.TheVariants.{Look, LockX, LockS, UnlockS, Mark, Unmark, LockW, Upgrade, Release, ReleaseE, Downgrade, TLoad, Install, Clear, Dirty, Clean, Load, Store, BLoad, Take, Give, Read, RFail, Write, WFail, Raise, NLoad, Claim, Hand, Fill, Loads}
 
+-- the word of a verb
 abbrev pub verb_name : Verb → List ℕ
 verb_name Look = codes "look"
 verb_name LockX = codes "lockx"

@@ -3,7 +3,7 @@
 ghost use Rattle.std.specs.Prelude.{ℕ, ◌<◌, ◌≤◌, ◌^◌, ◌↔◌, IsTrue, length};
 ghost use Rattle.std.specs.Fmt.{decimal};
 ghost use Rattle.vm_script.specs.EventLines.{AreFields, IsEventLine, IsField, IsShape, event_line_text, field_text, fields_text, shape_text, state_name, state_text};
-ghost use Rattle.vm_script.specs.EventWords.{IsShared, Reads, used_of};
+ghost use Rattle.vm_script.specs.EventWords.{IsShareCount, ReadsAs, used_of};
 ghost use Rattle.vm_script.specs.Verbs.{verb_name};
 
 use crate::event_line::{EventLine, Kind, VERBS, Verb, kinds_of, line_with, name_of};
@@ -14,7 +14,7 @@ use vm_page::WORDS;
 
 // The verb that a word names.
 fn verb_of(word: &[u8]) -> Option<Verb>
-    ensures { Reads (λ verb. Unit {0}) verb_name word.now result }
+    ensures { ReadsAs (λ verb. Unit {0}) verb_name word.now result }
 {
     'verbs: for verb in VERBS.iter() {
         if word == name_of(*verb) {
@@ -26,7 +26,7 @@ fn verb_of(word: &[u8]) -> Option<Verb>
 
 // The number of shares that a decimal tells.
 fn shares_of(name: &[u8]) -> Option<u8>
-    ensures { Reads IsShared decimal name.now result }
+    ensures { ReadsAs IsShareCount decimal name.now result }
 {
     let Some(shares) = number_of(name) else {
         return None;
@@ -40,7 +40,7 @@ fn shares_of(name: &[u8]) -> Option<u8>
 
 // The state that stands before the colon of a state word.
 fn state_of(name: &[u8]) -> Option<u8>
-    ensures { Reads (λ state. state < 256) state_name name.now result }
+    ensures { ReadsAs (λ state. state < 256) state_name name.now result }
 {
     if name == b"u".as_slice() {
         return Some(0);
@@ -59,7 +59,7 @@ fn state_of(name: &[u8]) -> Option<u8>
 
 // The state word that `S:V` spells.
 fn state_word_of(text: &[u8]) -> Option<u64>
-    ensures { Reads (λ word. word < 2 ^ 64) state_text text.now result }
+    ensures { ReadsAs (λ word. word < 2 ^ 64) state_text text.now result }
 {
     let Some((name, version)) = cut(text, b':') else {
         return None;
@@ -95,7 +95,7 @@ fn is_field(kind: Kind, shape: &CoreShape, value: u64) -> bool
 // The number of this kind that a word spells.
 fn field_of(kind: Kind, shape: &CoreShape, word: &[u8]) -> Option<u64>
     requires { IsShape shape.now }
-    ensures { Reads (IsField shape.now kind) (field_text kind) word.now result }
+    ensures { ReadsAs (IsField shape.now kind) (field_text kind) word.now result }
 {
     if let Kind::State = kind {
         return state_word_of(word);
@@ -115,7 +115,7 @@ fn fields_of(kinds: &[Kind], shape: &CoreShape, text: &[u8]) -> Option<(u64, u64
     requires shape { IsShape shape.now }
     requires some { 1 ≤ length kinds.now }
     requires few { length kinds.now ≤ 4 }
-    ensures { Reads (AreFields shape.now kinds.now) (fields_text kinds.now) text.now (used_of kinds.now result) }
+    ensures { ReadsAs (AreFields shape.now kinds.now) (fields_text kinds.now) text.now (used_of kinds.now result) }
 {
     let Some((kind, more)) = kinds.split_first() else {
         return None;
@@ -141,7 +141,7 @@ fn fields_of(kinds: &[Kind], shape: &CoreShape, text: &[u8]) -> Option<(u64, u64
 // The line that the bytes spell.
 pub(crate) fn event_line_of(line: &[u8], shape: &CoreShape) -> Option<EventLine>
     requires { IsShape shape.now }
-    ensures { Reads (IsEventLine shape.now) event_line_text line.now result }
+    ensures { ReadsAs (IsEventLine shape.now) event_line_text line.now result }
 {
     let Some((word, rest)) = cut(line, b' ') else {
         return None;
@@ -176,7 +176,7 @@ const LARGEST: CoreShape = CoreShape {
 
 // The shape that the first line spells.
 pub(crate) fn shape_of(line: &[u8]) -> Option<CoreShape>
-    ensures { Reads IsShape shape_text line.now result }
+    ensures { ReadsAs IsShape shape_text line.now result }
 {
     let Some((word, rest)) = cut(line, b' ') else {
         return None;

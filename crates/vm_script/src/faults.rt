@@ -1,7 +1,7 @@
 //! Reads plans of failures: entries `P:N` joined by commas.
 
 ghost use Rattle.std.specs.Prelude.{IfOk, option_map};
-ghost use Rattle.vm_script.specs.EventWords.{Reads};
+ghost use Rattle.vm_script.specs.EventWords.{ReadsAs};
 ghost use Rattle.vm_script.specs.Faults.{IsPlan, IsPlanned, fault_text, plan_text};
 
 use crate::number::number_of;
@@ -11,7 +11,7 @@ use vm_image::PlannedFault;
 
 // The entry that `P:N` spells.
 fn fault_of(text: &[u8]) -> Option<PlannedFault>
-    ensures { Reads IsPlanned fault_text text.now result }
+    ensures { ReadsAs IsPlanned fault_text text.now result }
 {
     let Some((page, number)) = cut(text, b':') else {
         return None;
@@ -32,7 +32,7 @@ fn fault_of(text: &[u8]) -> Option<PlannedFault>
 ///
 /// `AllocError` where memory was refused.
 pub fn faults_of(alloc: Global, word: &[u8]) -> Result<Option<Vec<PlannedFault>>, AllocError>
-    ensures { IfOk result (λ plan. Reads IsPlan plan_text word.now (option_map (λ v. v.items) plan)) }
+    ensures { IfOk result (λ plan. ReadsAs IsPlan plan_text word.now (option_map (λ v. v.items) plan)) }
 {
     let mut plan = Vec::new(alloc);
     let mut rest = word;

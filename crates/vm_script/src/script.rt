@@ -6,7 +6,7 @@ ghost use Rattle.vm_script.specs.Cuts.{IsCut, IsLine, Lacks};
 ghost use Rattle.vm_script.specs.Scripts.{
   ReadsOrders,
   ReadsScript,
-  calls_of as calls_in,
+  calls_by as calls_in,
   lists_of as lists_in,
   most_lines,
 };

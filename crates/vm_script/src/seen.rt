@@ -3,7 +3,7 @@
 ghost use Rattle.std.specs.Prelude.{◌≡◌, ◌++◌, IfOk, if◌then◌else◌, is_ok, string_bytes};
 ghost use Rattle.vm_script.specs.EventLines.{state_text};
 ghost use Rattle.vm_script.specs.SeenTexts.{FitsLine, seen_line, sight_of as sight_in, told_text};
-ghost use Rattle.vm_script.specs.Sights.{found_text, left_name, sight_text, translation_text, word_in, word_text};
+ghost use Rattle.vm_script.specs.Sights.{found_text, left_name, sight_text, translation_text, seen_word, word_text};
 
 use crate::event_line::EventLine;
 use std::alloc::{AllocError, Global};
@@ -161,7 +161,7 @@ fn sight_string(alloc: Global, sight: Sight, seen: &Seen) -> Result<String, Allo
 
 // The word that is seen, and 0 where none is.
 fn word_of(seen: &Seen) -> u64
-    ensures { result ≡ word_in seen.now }
+    ensures { result ≡ seen_word seen.now }
 {
     match *seen {
         Seen::Word(word) => word,

@@ -1,8 +1,8 @@
-//! Writes the lines of what calls were answered, of rows, of counters and of a tree's size.
+//! Writes the lines of what calls were answered, of rows, of counters, of a tree's size, and of what was made and churned.
 
 ghost use Rattle.std.specs.Prelude.{◌≡◌, ◌++◌, IfOk, string_bytes, is_ok, if◌then◌else◌};
 ghost use Rattle.vm_script.specs.declared.text.Line.TheVariants as lines;
-ghost use Rattle.vm_script.specs.Texts.{answer_text, bound_text, counters_line, outcome_text, reply_line, row_line, shown_text, tree_line, unflushed_line, window_text};
+ghost use Rattle.vm_script.specs.Texts.{answer_text, bound_text, churn_line, counters_line, made_line, outcome_text, reply_line, row_line, shown_text, tree_line, unflushed_line, window_text};
 
 use std::alloc::{AllocError, Global};
 use vm_map::call::{Call, Pair, Reply, Said};
@@ -196,5 +196,62 @@ pub fn tree_text(
     ensures { out.new.items ≡ (if is_ok result then out.old.items ++ tree_line height used rows else out.old.items) }
 {
     let line = format!(in alloc; "tree height {height} used {used} rows {rows}\n")?;
+    out.extend_from_slice(line.as_bytes())
+}
+
+/// Appends the line `made P used U height H` of a page file that was built: its pages, those that are not all zero, and
+/// the level of its root.
+///
+/// # Errors
+///
+/// `AllocError` where memory was refused; `out` is then as before.
+pub fn made_text(
+    alloc: Global,
+    pages: u32,
+    used: u32,
+    height: u64,
+    out: &mut Vec<u8>,
+) -> Result<(), AllocError>
+    ensures { out.new.items ≡ (if is_ok result then out.old.items ++ made_line pages used height else out.old.items) }
+{
+    let line = format!(in alloc; "made {pages} used {used} height {height}\n")?;
+    out.extend_from_slice(line.as_bytes())
+}
+
+/// What came of a churn: how many pairs it began with, how many calls it made, how many of them were a get that found a value,
+/// a put of a new key and a del of one that was there, how many pairs were left, and the sum of their values.
+#[derive(Clone, Copy)]
+pub struct Churned {
+    pub pairs: u32,
+    pub calls: u64,
+    pub some: u64,
+    pub new: u64,
+    pub gone: u64,
+    pub rows: u64,
+    pub sum: u64,
+}
+
+/// Appends the line `churn N calls C some A new B gone G rows R sum S`.
+///
+/// # Errors
+///
+/// `AllocError` where memory was refused; `out` is then as before.
+pub fn churn_text(alloc: Global, churned: Churned, out: &mut Vec<u8>) -> Result<(), AllocError>
+    ensures { out.new.items ≡ (if is_ok result
+        then out.old.items ++ churn_line churned.pairs churned.calls churned.some churned.new churned.gone churned.rows churned.sum
+        else out.old.items) }
+{
+    let Churned {
+        pairs,
+        calls,
+        some,
+        new,
+        gone,
+        rows,
+        sum,
+    } = churned;
+    let line = format!(in alloc;
+        "churn {pairs} calls {calls} some {some} new {new} gone {gone} rows {rows} sum {sum}\n"
+    )?;
     out.extend_from_slice(line.as_bytes())
 }

@@ -15,7 +15,7 @@ use Rattle.vm_core.specs.Words.{MAX_COUNT}
 use Rattle.vm_pool.specs.Closing.{AreSums}
 use Rattle.vm_rule.specs.Reading.{no_block}
 use Rattle.vm_rule.specs.Views.{times_noted}
-use Rattle.vm_drive.specs.Causes.{notes_of}
+use Rattle.vm_drive.specs.Causes.{notes_about}
 use Rattle.vm_serve.specs.Served.{TreeEnd, distinct_entries, same_entry}
 
 -- how many notes of page p have one of the counts up to b
@@ -43,10 +43,10 @@ own-time p (suc c) n ns e l m =
     omega arith)
     (cases_eq n.count (suc c))
 
-all-counted : (p b : ℕ) (ns : List Note) → ((c : ℕ) → 1 ≤ times_noted p c ns → (1 ≤ c) × (c ≤ b)) → notes_of p ns ≤ sum_times p b ns
+all-counted : (p b : ℕ) (ns : List Note) → ((c : ℕ) → 1 ≤ times_noted p c ns → (1 ≤ c) × (c ≤ b)) → notes_about p ns ≤ sum_times p b ns
 all-counted p b [] f = omega arith
 all-counted p b (n ∷ ns) f =
-    let rest : notes_of p ns ≤ sum_times p b ns = all-counted p b ns (λ c l. f c (omega arith)) in
+    let rest : notes_about p ns ≤ sum_times p b ns = all-counted p b ns (λ c l. f c (omega arith)) in
     ⊎_elim
     (λ here.
     let one : times_noted p n.count (n ∷ ns) ≡ 1 + times_noted p n.count ns = rw (eq-eqb n.page p here, eq-eqb n.count n.count refl) refl in
@@ -54,11 +54,11 @@ all-counted p b (n ∷ ns) f =
     let low : 1 ≤ n.count = in-range.0 in
     let high : n.count ≤ b = in-range.1 in
     let more : sum_times p b ns + 1 ≤ sum_times p b (n ∷ ns) = own-time p b n ns here low high in
-    let all : notes_of p (n ∷ ns) ≡ 1 + notes_of p ns = rw (eq-eqb n.page p here) refl in
+    let all : notes_about p (n ∷ ns) ≡ 1 + notes_about p ns = rw (eq-eqb n.page p here) refl in
     omega arith)
     (λ ne.
     let more : sum_times p b ns ≤ sum_times p b (n ∷ ns) = more-times p b n ns in
-    let all : notes_of p (n ∷ ns) ≡ notes_of p ns = rw (ne_eqb n.page p ne) (omega arith) in
+    let all : notes_about p (n ∷ ns) ≡ notes_about p ns = rw (ne_eqb n.page p ne) (omega arith) in
     omega arith)
     (cases_eq n.page p)
 
@@ -71,9 +71,9 @@ each-once p (suc c) ns f =
     omega arith
 
 -- each count of the notes of page p is from 1 to b, below the last count, and stands once
-pub few-notes : (p b : ℕ) (ns : List Note) → b < MAX_COUNT → ((c : ℕ) → 1 ≤ times_noted p c ns → (1 ≤ c) × (c ≤ b)) → ((c : ℕ) → c ≢ MAX_COUNT → times_noted p c ns ≤ 1) → notes_of p ns ≤ b
+pub few-notes : (p b : ℕ) (ns : List Note) → b < MAX_COUNT → ((c : ℕ) → 1 ≤ times_noted p c ns → (1 ≤ c) × (c ≤ b)) → ((c : ℕ) → c ≢ MAX_COUNT → times_noted p c ns ≤ 1) → notes_about p ns ≤ b
 few-notes p b ns small noted once =
-    let a : notes_of p ns ≤ sum_times p b ns = all-counted p b ns noted in
+    let a : notes_about p ns ≤ sum_times p b ns = all-counted p b ns noted in
     let o : sum_times p b ns ≤ b = each-once p b ns (λ c l. once c (λ e. absurd (omega arith))) in
     omega arith
 

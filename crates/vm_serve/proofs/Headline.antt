@@ -4,7 +4,7 @@ use Rattle.std.proofs.lemmas.Bool.{cases_lt, ne_eqb}
 use Rattle.vm_core.specs.Fn.{at}
 use Rattle.vm_block.specs.declared.memory.MemBlock.{MemBlock}
 use Rattle.vm_block.specs.declared.stored.Stored.{Stored}
-use Rattle.vm_block.specs.Memory.{plan_of, stored_of, words_of}
+use Rattle.vm_block.specs.Memory.{planned_calls, stored_of, words_of}
 use Rattle.vm_block.specs.Plans.{most_faults}
 use Rattle.vm_image.specs.Blocks.{AreBlocksOf, numbers_for, pages_of_blocks}
 use Rattle.vm_image.specs.File.{IsNextPage}
@@ -20,7 +20,7 @@ use Rattle.vm_page.specs.Pages.{page_at}
 use Rattle.vm_page.specs.declared.buf.TheConstants.{WORDS}
 use Rattle.vm_tree_model.specs.Tree.{IsTree, map_of}
 use Rattle.vm_tree_laws.specs.History.{IsLegal, saids}
-use Rattle.vm_tree_laws.specs.Keeps.{Keeps}
+use Rattle.vm_tree_laws.specs.Keeps.{KeepsTree}
 use Rattle.vm_tree_laws.proofs.Fullness.{room_used}
 use Rattle.vm_tree_laws.proofs.Starts.{start_keeps}
 use Rattle.vm_rule.specs.declared.view.Note.{Note}
@@ -31,7 +31,7 @@ use Rattle.vm_rule.specs.Puts.{listed}
 use Rattle.vm_rule.specs.Reading.{no_block, last_of}
 use Rattle.vm_core.specs.Words.{MAX_COUNT}
 use Rattle.vm_rule.specs.Rule.{began_of}
-use Rattle.vm_rule.specs.Started.{MayBegin, bounds_of, contents_of, started_origin, started_shape, words_in}
+use Rattle.vm_rule.specs.Started.{MayBegin, bounds_of, contents_of, started_origin, started_shape, block_words}
 use Rattle.vm_rule.specs.Views.{Each, numbers}
 use Rattle.vm_rule.proofs.ListFacts.{at-map, length-mapped, listed-long}
 use Rattle.vm_rule.proofs.Parts.{listed-same}
@@ -41,8 +41,8 @@ use Rattle.vm_evict.specs.Flushes.{HasNoLock, IsFlushed, RisesFrom, first_noted,
 use Rattle.vm_evict.specs.declared.flushing.Flushed.{Flushed}
 use Rattle.vm_pool.specs.Closing.{AreSums, IsClosed, IsStored, view_at_end}
 use Rattle.vm_tree_rule.specs.declared.fault.TreeFault.{TreeFault}
-use Rattle.vm_drive.specs.Causes.{notes_of, all_faults_of, FoundFull, FoundWorn}
-use Rattle.vm_drive.specs.Drives.{IsDriven, IsWornOut}
+use Rattle.vm_drive.specs.Causes.{notes_about, all_faults_of, FoundFull, FoundWorn}
+use Rattle.vm_drive.specs.Drives.{IsDriven, IsAtLastVersion}
 use Rattle.vm_drive.specs.Holds.{HoldsCalls}
 use Rattle.vm_drive.proofs.Showing.{all-shown-more}
 use Rattle.vm_drive.proofs.Doing.{notes-both}
@@ -55,7 +55,7 @@ contents-held : (blocks : List MemBlock) → contents_of true (map stored_of blo
 contents-held [] = refl
 contents-held (b ∷ bs) = ap (λ (l : List (List ℕ)). words_of b ∷ l) (contents-held bs)
 
-words-held : (blocks : List MemBlock) → words_in (map stored_of blocks) ≡ pages_of_blocks blocks
+words-held : (blocks : List MemBlock) → block_words (map stored_of blocks) ≡ pages_of_blocks blocks
 words-held [] = refl
 words-held (b ∷ bs) = ap (λ (l : List (List ℕ)). words_of b ∷ l) (words-held bs)
 
@@ -66,9 +66,9 @@ all-zero (suc n) [] e z = absurd (omega arith)
 all-zero (suc n) (x ∷ xs) e z = let first : x ≡ 0 = z 0 in let rest : xs ≡ replicate n 0 = all-zero n xs (omega arith) (λ i. z (suc i)) in cc
 
 -- the tree may begin with the pages of an image that is one
-pub begins : (pages : List (List ℕ)) (plan : List PlannedFault) (next : ℕ) (blocks : List MemBlock) → IsTree pages → IsNextPage pages next → AreBlocksOf pages plan blocks → MayBegin Keeps next (words_in (map stored_of blocks))
+pub begins : (pages : List (List ℕ)) (plan : List PlannedFault) (next : ℕ) (blocks : List MemBlock) → IsTree pages → IsNextPage pages next → AreBlocksOf pages plan blocks → MayBegin KeepsTree next (block_words (map stored_of blocks))
 begins pages plan next blocks tree free held =
-    subst (λ (l : List (List ℕ)). MayBegin Keeps next l) (sym (words-held blocks ∙ held.held))
+    subst (λ (l : List (List ℕ)). MayBegin KeepsTree next l) (sym (words-held blocks ∙ held.held))
     (record {
       zero = λ p l m. let f = free.free p l m in all-zero WORDS (page_at pages p) f.length f.zero;
       kept = start_keeps (record { pages = pages; next = next }) tree free.within;
@@ -86,7 +86,7 @@ fresh-enough tells version next frames count blocks v is few =
     omega arith
 
 -- a fresh block's bound is that of its plan
-planned-bound : (blocks : List MemBlock) (p : ℕ) (numbers : List ℕ) → p < length blocks → ((d : MemBlock) → plan_of (slice_index_or blocks p d) ≡ numbers) → (at no_block (map stored_of blocks) p).bound ≡ most_faults numbers
+planned-bound : (blocks : List MemBlock) (p : ℕ) (numbers : List ℕ) → p < length blocks → ((d : MemBlock) → planned_calls (slice_index_or blocks p d) ≡ numbers) → (at no_block (map stored_of blocks) p).bound ≡ most_faults numbers
 unfolding at
 planned-bound [] p numbers l f = absurd (omega arith)
 planned-bound (b ∷ bs) zero numbers l f = ap most_faults (f b)
@@ -105,7 +105,7 @@ at-past d (x ∷ xs) zero l = absurd (omega arith)
 at-past d (x ∷ xs) (suc p) l = at-past d xs p (omega arith)
 
 -- the page of the first note has one
-first-noted : (p : ℕ) (notes : List Note) → is_first (first_noted notes) p ≤ notes_of p notes
+first-noted : (p : ℕ) (notes : List Note) → is_first (first_noted notes) p ≤ notes_about p notes
 first-noted p [] = omega arith
 first-noted p (n ∷ ns) = omega arith
 
@@ -147,7 +147,7 @@ blocks-hold blocks n words long each =
 
 module _ (pages : List (List ℕ)) (plan : List PlannedFault) (version next frames : ℕ) (before after : List MemBlock) (lists : List (List Call)) (replies : List (List (Result Reply TreeFault))) (report : Flushed) (end : TreeEnd) (v w : View Said)
     (held : AreBlocksOf pages plan before) (count : length before ≡ length pages) (is : v ≡ begun (unborn (started_shape true version next frames (map stored_of before)))) (next_page : IsNextPage pages next)
-    (driven : IsDriven true lists replies v w) (flushed : IsFlushed report w (view_at_end end)) (last : ℕ) (closed : IsClosed true Keeps (view_at_end end) (map stored_of after) last) where
+    (driven : IsDriven true lists replies v w) (flushed : IsFlushed report w (view_at_end end)) (last : ℕ) (closed : IsClosed true KeepsTree (view_at_end end) (map stored_of after) last) where
   abbrev e : View Said
   e = view_at_end end
 
@@ -164,7 +164,7 @@ module _ (pages : List (List ℕ)) (plan : List PlannedFault) (version next fram
   grew-all : e.seen ≡ driven.grew
   grew-all = sym closed.own ∙ flushed.aside.mine ∙ driven.mine ∙ ap (λ (x : View Said). x.mine ++ driven.grew) is
 
-  keeps : Keeps (began_of e.start) (kept_by e)
+  keeps : KeepsTree (began_of e.start) (kept_by e)
   keeps = closed.kept refl
 
   legal : IsLegal (map_of pages) e.seen
@@ -206,11 +206,11 @@ module _ (pages : List (List ℕ)) (plan : List PlannedFault) (version next fram
       ((flushed.alone driven.alone free).pages q page) in
       (stored, same-words after q (subst (λ n. q < n) (sym (sym (length-mapped stored_of after) ∙ closed.count)) here) ∙ closed.words refl q here stored)
 
-  noted : (p : ℕ) → all_faults_of p replies + is_first report.first p ≤ notes_of p e.notes
+  noted : (p : ℕ) → all_faults_of p replies + is_first report.first p ≤ notes_about p e.notes
   noted p =
-      let first : is_first report.first p ≤ notes_of p flushed.noted.notes = subst (λ o. is_first o p ≤ notes_of p flushed.noted.notes) (sym flushed.noted.first) (first-noted p flushed.noted.notes) in
-      let all : notes_of p e.notes ≡ notes_of p w.notes + notes_of p flushed.noted.notes = ap (notes_of p) flushed.noted.after ∙ notes-both p w.notes flushed.noted.notes in
-      let calls : notes_of p v.notes + all_faults_of p replies ≤ notes_of p w.notes = driven.faults p in
+      let first : is_first report.first p ≤ notes_about p flushed.noted.notes = subst (λ o. is_first o p ≤ notes_about p flushed.noted.notes) (sym flushed.noted.first) (first-noted p flushed.noted.notes) in
+      let all : notes_about p e.notes ≡ notes_about p w.notes + notes_about p flushed.noted.notes = ap (notes_about p) flushed.noted.after ∙ notes-both p w.notes flushed.noted.notes in
+      let calls : notes_about p v.notes + all_faults_of p replies ≤ notes_about p w.notes = driven.faults p in
       omega arith
 
   bound-is : (p : ℕ) → p < length pages → (at no_block (map stored_of after) p).bound ≡ most_faults (numbers_for plan p)
@@ -223,7 +223,7 @@ module _ (pages : List (List ℕ)) (plan : List PlannedFault) (version next fram
       ∙ at-map (λ (b : Stored). b.bound) 0 no_block (map stored_of before) p (subst (λ n. p < n) (sym many-before) l)
       ∙ planned-bound before p (numbers_for plan p) (subst (λ n. p < n) (sym count) l) (λ d. (held.fresh p d l).planned)
 
-  planned : length plan ≤ 64 → Each (λ (b : Stored). b.count ≤ b.bound) (map stored_of after) → (p : ℕ) → notes_of p e.notes ≤ most_faults (numbers_for plan p)
+  planned : length plan ≤ 64 → Each (λ (b : Stored). b.count ≤ b.bound) (map stored_of after) → (p : ℕ) → notes_about p e.notes ≤ most_faults (numbers_for plan p)
   planned few bounded p =
       ⊎_elim
       (λ (l : p < length pages).
@@ -232,11 +232,11 @@ module _ (pages : List (List ℕ)) (plan : List PlannedFault) (version next fram
       let most : (at no_block (map stored_of after) p).count ≤ (at no_block (map stored_of after) p).bound = each-at (λ (b : Stored). b.count ≤ b.bound) no_block (map stored_of after) p inside bounded in
       let is : (at no_block (map stored_of after) p).bound ≡ most_faults (numbers_for plan p) = bound-is p l in
       let small : most_faults (numbers_for plan p) < MAX_COUNT = small-plan p plan few in
-      let notes : notes_of p e.notes ≤ (at no_block (map stored_of after) p).count = few-notes p (at no_block (map stored_of after) p).count e.notes (omega arith) (λ c some. closed.noted p c some) (λ c ne. closed.once p c ne) in
+      let notes : notes_about p e.notes ≤ (at no_block (map stored_of after) p).count = few-notes p (at no_block (map stored_of after) p).count e.notes (omega arith) (λ c some. closed.noted p c some) (λ c ne. closed.once p c ne) in
       omega arith)
       (λ (le : length pages ≤ p).
       let none : (at no_block (map stored_of after) p).count ≡ 0 = ap (λ (b : Stored). b.count) (at-past no_block (map stored_of after) p (subst (λ n. n ≤ p) (sym (closed.count ∙ many)) le)) in
-      let notes : notes_of p e.notes ≤ (at no_block (map stored_of after) p).count = few-notes p (at no_block (map stored_of after) p).count e.notes (omega arith) (λ c some. closed.noted p c some) (λ c ne. closed.once p c ne) in
+      let notes : notes_about p e.notes ≤ (at no_block (map stored_of after) p).count = few-notes p (at no_block (map stored_of after) p).count e.notes (omega arith) (λ c some. closed.noted p c some) (λ c ne. closed.once p c ne) in
       omega arith)
       (cases_lt p (length pages))
 
@@ -251,7 +251,7 @@ module _ (pages : List (List ℕ)) (plan : List PlannedFault) (version next fram
     calls = subst (λ (l : List (Entry Said)). HoldsCalls l lists replies) (sym grew-all) driven.calls;
     noted = noted;
     planned = planned few sums.each;
-    caused = lists-caused (FoundFull w) (FoundWorn w) (IsFilled pages end) (IsWornOut e) filled (λ p m. worn-out e p closed.versions (max-later w e p flushed.aside.start (flushed.done, flushed.aside.log) m)) lists replies driven.traces;
+    caused = lists-caused (FoundFull w) (FoundWorn w) (IsFilled pages end) (IsAtLastVersion e) filled (λ p m. worn-out e p closed.versions (max-later w e p flushed.aside.start (flushed.done, flushed.aside.log) m)) lists replies driven.traces;
     shown = all-shown-more w e flushed.aside.start flushed.aside.seen lists replies driven.shown;
     unflushed = λ none. flushed.noted.first ∙ none-noted flushed.noted.notes (flushed.noted.each ∙ none);
     flushed = λ none. sym flushed.noted.each ∙ none-first flushed.noted.notes (sym flushed.noted.first ∙ none);

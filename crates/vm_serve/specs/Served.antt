@@ -23,8 +23,8 @@ use Rattle.vm_pool.specs.declared.ended.Ended.{Ended}
 use Rattle.vm_pool.specs.Closing.{AreSums, IsStored, view_at_end}
 use Rattle.vm_tree_rule.specs.declared.Tree.{Tree}
 use Rattle.vm_tree_rule.specs.declared.fault.TreeFault.{TreeFault}
-use Rattle.vm_drive.specs.Causes.{notes_of, all_faults_of, AllCausedBy}
-use Rattle.vm_drive.specs.Drives.{IsWornOut}
+use Rattle.vm_drive.specs.Causes.{notes_about, all_faults_of, AllCausedBy}
+use Rattle.vm_drive.specs.Drives.{IsAtLastVersion}
 use Rattle.vm_drive.specs.Shows.{AllShown}
 use Rattle.vm_drive.specs.Holds.{HoldsCalls}
 
@@ -66,9 +66,9 @@ pub record IsServed (pages : List (List ℕ)) (plan : List PlannedFault) (lists 
   pub bounds : (p : ℕ) → p < length pages → (at no_block (map stored_of blocks) p).bound ≡ most_faults (numbers_for plan p)
   pub legal : IsLegal (map_of pages) (view_at_end end).seen
   pub calls : HoldsCalls (view_at_end end).seen lists replies
-  pub noted : (p : ℕ) → all_faults_of p replies + is_first report.first p ≤ notes_of p (view_at_end end).notes
-  pub planned : (p : ℕ) → notes_of p (view_at_end end).notes ≤ most_faults (numbers_for plan p)
-  pub caused : AllCausedBy (IsFilled pages end) (IsWornOut (view_at_end end)) lists replies
+  pub noted : (p : ℕ) → all_faults_of p replies + is_first report.first p ≤ notes_about p (view_at_end end).notes
+  pub planned : (p : ℕ) → notes_about p (view_at_end end).notes ≤ most_faults (numbers_for plan p)
+  pub caused : AllCausedBy (IsFilled pages end) (IsAtLastVersion (view_at_end end)) lists replies
   pub shown : AllShown (view_at_end end) lists replies
   pub unflushed : report.failed ≡ 0 → report.first ≡ None
   pub flushed : report.first ≡ None → report.failed ≡ 0

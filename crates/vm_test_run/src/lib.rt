@@ -3,6 +3,8 @@
 #![tactic(auto)]
 
 #[cfg(test)]
+mod churns;
+#[cfg(test)]
 mod evictions;
 #[cfg(test)]
 mod expect;
@@ -16,6 +18,8 @@ mod gates;
 mod hosts;
 #[cfg(test)]
 mod kept;
+#[cfg(test)]
+mod makes;
 #[cfg(test)]
 mod memory;
 #[cfg(test)]

@@ -48,6 +48,38 @@ fn reads_the_options_of_run(rt: HostRuntime) {
 }
 
 #[test]
+fn reads_make(rt: HostRuntime) {
+    let least = "make M0 2 0 0";
+    let most = "make 7 18446744073709551615 1000001 18446744073709551614";
+    for (line, file, numbers) in [
+        (least, "M0", (2, 0, 0)),
+        (most, "7", (u64::MAX, 1_000_001, u64::MAX - 1)),
+    ] {
+        let words = words_of(rt.alloc(), line).expect(&rt, "words");
+        let Ok(Command::Make(make)) = command_of(rt.alloc(), words.as_slice()) else {
+            panic!(rt; "at {line}");
+        };
+        assert!(rt; make.file == file, "at {line}");
+        assert!(rt; (make.pages, make.pairs, make.seed) == numbers, "at {line}");
+    }
+}
+
+#[test]
+fn reads_churn(rt: HostRuntime) {
+    for line in [
+        "churn 10 1 --workers 2 --frames 64",
+        "churn --frames=64 10 --workers 2 1",
+    ] {
+        let words = words_of(rt.alloc(), line).expect(&rt, "words");
+        let Ok(Command::Churn(churn)) = command_of(rt.alloc(), words.as_slice()) else {
+            panic!(rt; "at {line}");
+        };
+        assert!(rt; churn.pairs == 10 && churn.seed == 1, "at {line}");
+        assert!(rt; churn.workers == 2 && churn.frames == 64, "at {line}");
+    }
+}
+
+#[test]
 fn reads_check(rt: HostRuntime) {
     let words = words_of(rt.alloc(), "check I0").expect(&rt, "words");
     let Ok(Command::Check(check)) = command_of(rt.alloc(), words.as_slice()) else {
@@ -87,6 +119,17 @@ fn refuses_other_words(rt: HostRuntime) {
         "run I0 S0 --workers 1 --frames 64 --fail 1:02",
         "run I0 S0 --workers 1 --frames 64 --fail 1:2:3",
         "run I0 S0 --workers 1 --frames 64 --first-version 00",
+        "make",
+        "make M0 8 0",
+        "make M0 8 0 1 2",
+        "make M0 08 0 1",
+        "make M0 8 -1 1",
+        "make M0 8 0 18446744073709551616",
+        "make M0 8 0 --seed 1",
+        "churn 10 1",
+        "churn 10 1 --workers 2",
+        "churn 10 --workers 2 --frames 64",
+        "churn C0 10 1 --workers 2 --frames 64",
         "check I0 --keep K0",
         "check",
         "check I0 I1",

@@ -14,8 +14,8 @@ use Rattle.vm_words.specs.declared.form.Verb.{Verb}
 use Rattle.vm_words.specs.declared.form.Verb.TheVariants.{Run}
 use Rattle.vm_words.specs.Apps.{vmcache_app}
 use Rattle.vm_words.specs.Forms.{is_needed, kind_in, place_in, slot_text, slots_in, title, verb_at, verbs}
-use Rattle.vm_words.specs.Values.{AreFilled, HasUnfilled, IsFilled, IsUnfilled, Meaning}
-use Rattle.vm_words.specs.Commands.{Entered, Enters, HasLine, HasOddWord, HasWords, IsCommand, IsLine, IsNoCommand, ReadsEntered, WhyRefused, line_of, odd_word, untaken}
+use Rattle.vm_words.specs.Values.{AreFilled, HasUnfilled, IsSlotFilled, IsUnfilled, Meaning}
+use Rattle.vm_words.specs.Commands.{Entered, Enters, HasLine, HasOddWord, HasWords, IsCommand, IsCommandLine, IsNoCommand, ReadsEntered, WhyRefused, line_of, odd_word, untaken}
 use Rattle.vm_words.proofs.Filled.{fills, given_text, is_filled, level_whole, required_given}
 use Rattle.vm_words.proofs.Meanings.{each_at, filled_at, not_odd, one_list}
 
@@ -48,10 +48,10 @@ same_rows met n m a b p q = ap (λ o. option_map_or (λ x. x.1) o a) (sym p ∙ 
 one_name : (met : Entered) (n m : Text) (a b : List Row) → met ≡ Some (n, a) → met ≡ Some (m, b) → n ≡ m
 one_name met n m a b p q = ap (λ o. option_map_or (λ x. x.0) o n) (sym p ∙ q)
 
-pub line_verb : (words : List Text) (verb other : Verb) (meanings others : List Meaning) → IsLine words verb meanings → IsLine words other others → verb ≡ other
+pub line_verb : (words : List Text) (verb other : Verb) (meanings others : List Meaning) → IsCommandLine words verb meanings → IsCommandLine words other others → verb ≡ other
 line_verb words verb other meanings others p q = one_verb verb other (one_name _ _ _ p.line.rows q.line.rows p.line.named_so q.line.named_so)
 
-pub line_meanings : (words : List Text) (verb other : Verb) (meanings others : List Meaning) → IsLine words verb meanings → IsLine words other others → meanings ≡ others
+pub line_meanings : (words : List Text) (verb other : Verb) (meanings others : List Meaning) → IsCommandLine words verb meanings → IsCommandLine words other others → meanings ≡ others
 line_meanings words verb other meanings others p q =
     let rows = same_rows _ _ _ p.line.rows q.line.rows p.line.named_so q.line.named_so in
     let same = line_verb words verb other meanings others p q in
@@ -65,14 +65,14 @@ one_command words command other p q =
 
 -- ---- words that are refused
 
-odd_line : (words : List Text) (verb other : Verb) (meanings : List Meaning) → HasOddWord words verb → IsLine words other meanings → ⊥
+odd_line : (words : List Text) (verb other : Verb) (meanings : List Meaning) → HasOddWord words verb → IsCommandLine words other meanings → ⊥
 odd_line words verb other meanings o is =
     let same = one_verb other verb (one_name _ _ _ is.line.rows o.rows is.line.named_so o.named_so) in
     let rows = same_rows _ _ _ is.line.rows o.rows is.line.named_so o.named_so in
     let named : AreFilled (slots_in verb) is.line.rows meanings = subst (λ (v : Verb). AreFilled (slots_in v) is.line.rows meanings) same is.line.filled in
     let filled : AreFilled (slots_in verb) o.rows meanings = subst (λ (r : List Row). AreFilled (slots_in verb) r meanings) rows named in
     let at = filled_at (slots_in verb) o.rows meanings o.slot o.among.0 o.among.1 o.among.2 filled in
-    let read : IsFilled o.slot (Some o.text) at.0 = subst (λ (t : Option Text). IsFilled o.slot t at.0) o.found at.1 in
+    let read : IsSlotFilled o.slot (Some o.text) at.0 = subst (λ (t : Option Text). IsSlotFilled o.slot t at.0) o.found at.1 in
     not_odd (kind_in o.slot) o.text at.0 o.odd read
 
 pub refused_is_none : (words : List Text) → WhyRefused words → IsNoCommand words

@@ -11,7 +11,7 @@ use Rattle.vm_words.specs.declared.form.Kind.TheVariants.{Name, Number, Faults}
 use Rattle.vm_words.specs.declared.form.Slot.{Slot}
 use Rattle.vm_words.specs.declared.value.Value.{Value}
 use Rattle.vm_words.specs.Forms.{is_needed, kind_in, place_in, slot_text}
-use Rattle.vm_words.specs.Values.{AreFilled, AreMeant, IsFilled, IsGiven, IsMeant, IsOdd, IsRead, Meaning, named, counted, planned, absent, given, left_out, meaning_of, meanings_of}
+use Rattle.vm_words.specs.Values.{AreFilled, AreMeant, IsSlotFilled, IsGiven, IsMeant, IsOdd, IsRead, Meaning, named, counted, planned, absent, given, left_out, meaning_of, meanings_of}
 
 -- ---- one meaning
 
@@ -26,7 +26,7 @@ not_odd Name text meaning odd is = odd
 not_odd Number text meaning odd is = odd is.0 is.1 is.2
 not_odd Faults text meaning odd is = odd is.0 is.1 is.2
 
-one_filled : (slot : Slot) (found : Option Text) (a b : Meaning) → IsFilled slot found a → IsFilled slot found b → a ≡ b
+one_filled : (slot : Slot) (found : Option Text) (a b : Meaning) → IsSlotFilled slot found a → IsSlotFilled slot found b → a ≡ b
 one_filled slot (Some text) a b p q = one_meaning (kind_in slot) text a b p q
 one_filled slot None a b p q = p.1 ∙ sym q.1
 
@@ -42,10 +42,10 @@ one_list (slot ∷ slots) rows (a ∷ more) (b ∷ others) p q =
 -- ---- one of the slots
 
 pub filled_at : (slots : List Slot) (rows : List Row) (meanings : List Meaning) (slot : Slot) (k : ℕ) → k < length slots → slice_index_or slots k slot ≡ slot → AreFilled slots rows meanings
-    → (meaning : Meaning) × IsFilled slot (first_of (slot_text slot) rows) meaning
+    → (meaning : Meaning) × IsSlotFilled slot (first_of (slot_text slot) rows) meaning
 filled_at [] rows meanings slot k h e f = absurd (omega arith)
 filled_at (x ∷ xs) rows [] slot k h e f = absurd f
-filled_at (x ∷ xs) rows (m ∷ ms) slot zero h e f = (m, subst (λ (y : Slot). IsFilled y (first_of (slot_text y) rows) m) e f.0)
+filled_at (x ∷ xs) rows (m ∷ ms) slot zero h e f = (m, subst (λ (y : Slot). IsSlotFilled y (first_of (slot_text y) rows) m) e f.0)
 filled_at (x ∷ xs) rows (m ∷ ms) slot (suc k) h e f = filled_at xs rows ms slot k (omega arith) e f.1
 
 -- what holds of all elements holds of one of them
@@ -57,7 +57,7 @@ each_at P (y ∷ ys) x (suc k) h e all = each_at P ys x k (omega arith) e all.1
 -- ---- slots that are read one after another
 
 next_filled : (slots : List Slot) (i : ℕ) (d : Slot) (rows : List Row) (meanings : List Meaning) (meaning : Meaning) → i < length slots → AreFilled (take i slots) rows meanings
-    → IsFilled (get_or slots i d) (first_of (slot_text (get_or slots i d)) rows) meaning → AreFilled (take (i + 1) slots) rows (meanings ++ meaning ∷ [])
+    → IsSlotFilled (get_or slots i d) (first_of (slot_text (get_or slots i d)) rows) meaning → AreFilled (take (i + 1) slots) rows (meanings ++ meaning ∷ [])
 next_filled [] i d rows ms m h f g = absurd (omega arith)
 next_filled (s ∷ ss) zero d rows [] m h f g = (g, tt)
 next_filled (s ∷ ss) zero d rows (n ∷ ms) m h f g = absurd f
@@ -65,7 +65,7 @@ next_filled (s ∷ ss) (suc i) d rows [] m h f g = absurd f
 next_filled (s ∷ ss) (suc i) d rows (n ∷ ms) m h f g = let e : suc i + 1 ≡ suc (i + 1) = omega arith in rw e (f.0, next_filled ss i d rows ms m (omega arith) f.1 g)
 
 pub filled_more : (slots : List Slot) (i : ℕ) (d : Slot) (rows : List Row) (values news : List Value) (value : Value) → i < length slots → news ≡ values ++ value ∷ [] → AreFilled (take i slots) rows (meanings_of values)
-    → IsFilled (get_or slots i d) (first_of (slot_text (get_or slots i d)) rows) (meaning_of value) → AreFilled (take (i + 1) slots) rows (meanings_of news)
+    → IsSlotFilled (get_or slots i d) (first_of (slot_text (get_or slots i d)) rows) (meaning_of value) → AreFilled (take (i + 1) slots) rows (meanings_of news)
 filled_more slots i d rows values news value h e f g =
     let more : meanings_of news ≡ meanings_of values ++ meaning_of value ∷ [] = ap meanings_of e ∙ map-append meaning_of values (value ∷ []) in
     subst (λ (ms : List Meaning). AreFilled (take (i + 1) slots) rows ms) (sym more) (next_filled slots i d rows (meanings_of values) (meaning_of value) h f g)
@@ -81,7 +81,7 @@ meant_so : (needed : Bool) (kind : Kind) (meaning : Meaning) → IsGiven kind me
 meant_so true kind meaning is = is
 meant_so false kind meaning is = given is
 
-meant : (slot : Slot) (found : Option Text) (meaning : Meaning) → IsFilled slot found meaning → IsMeant (is_needed (place_in slot)) (kind_in slot) meaning
+meant : (slot : Slot) (found : Option Text) (meaning : Meaning) → IsSlotFilled slot found meaning → IsMeant (is_needed (place_in slot)) (kind_in slot) meaning
 meant slot (Some text) meaning is = meant_so (is_needed (place_in slot)) (kind_in slot) meaning (given_of (kind_in slot) text meaning is)
 meant slot None meaning is = subst (λ (b : Bool). IsMeant b (kind_in slot) meaning) (sym is.0) (left_out is.1)
 

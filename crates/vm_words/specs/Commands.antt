@@ -11,7 +11,7 @@ use Rattle.vm_words.specs.declared.form.Slot.{Slot}
 use Rattle.vm_words.specs.declared.form.Verb.{Verb}
 use Rattle.vm_words.specs.declared.form.Verb.TheVariants as verbs
 use Rattle.vm_words.specs.declared.Command.{Command}
-use Rattle.vm_words.specs.declared.Command.TheVariants.{Run, Check, Replay}
+use Rattle.vm_words.specs.declared.Command.TheVariants.{Run, Make, Check, Churn, Replay}
 
 -- the command that was entered, with what clap found for it
 abbrev pub Entered : Type 0
@@ -24,7 +24,7 @@ pub record Enters (entered : Entered) (verb : Verb) (meanings : List Meaning) : 
   pub filled : AreFilled (slots_in verb) rows meanings
 
 -- clap takes the words, and reads them as a line of this command that says this
-pub record IsLine (words : List Text) (verb : Verb) (meanings : List Meaning) : Type 0 where
+pub record IsCommandLine (words : List Text) (verb : Verb) (meanings : List Meaning) : Type 0 where
   pub taken : takes vmcache_app words ≡ true
   pub line : Enters (subcommand_of vmcache_app words) verb meanings
 
@@ -45,11 +45,13 @@ plan_or (fault ∷ plan) = planned (fault ∷ plan)
 -- the line of a command: what its slots say, in order
 abbrev pub line_of : Command → Verb × List Meaning
 line_of (Run run) = (verbs.Run, named run.image.now ∷ named run.script.now ∷ counted run.workers ∷ counted run.frames ∷ name_or run.options.keep ∷ plan_or run.options.fail.items ∷ number_or run.options.first_version ∷ [])
+line_of (Make make) = (verbs.Make, named make.file.now ∷ counted make.pages ∷ counted make.pairs ∷ counted make.seed ∷ [])
 line_of (Check check) = (verbs.Check, named check.file.now ∷ [])
+line_of (Churn churn) = (verbs.Churn, counted churn.pairs ∷ counted churn.seed ∷ counted churn.workers ∷ counted churn.frames ∷ [])
 line_of (Replay replay) = (verbs.Replay, named replay.file.now ∷ [])
 
 abbrev pub IsCommand : List Text → Command → Type 0
-IsCommand words command = IsLine words (line_of command).0 (line_of command).1
+IsCommand words command = IsCommandLine words (line_of command).0 (line_of command).1
 
 -- the words are no command
 abbrev pub IsNoCommand : List Text → Type 0

@@ -3,9 +3,9 @@ use Rattle.std.specs.Prelude.{Bool, true, false, List, [], ◌∷◌, Option, co
 use Rattle.std.specs.Str.{bytes_eq}
 use Rattle.clap.specs.Words.{Text}
 use Rattle.vm_words.specs.declared.form.Verb.{Verb}
-use Rattle.vm_words.specs.declared.form.Verb.TheVariants.{Run, Check, Replay}
+use Rattle.vm_words.specs.declared.form.Verb.TheVariants.{Run, Make, Check, Churn, Replay}
 use Rattle.vm_words.specs.declared.form.Slot.{Slot}
-use Rattle.vm_words.specs.declared.form.Slot.TheVariants.{Image, Script, Workers, Frames, Keep, Fail, FirstVersion, File}
+use Rattle.vm_words.specs.declared.form.Slot.TheVariants.{Image, Script, Workers, Frames, Keep, Fail, FirstVersion, File, Pages, Pairs, Seed}
 use Rattle.vm_words.specs.declared.form.Place.{Place}
 use Rattle.vm_words.specs.declared.form.Place.TheVariants.{Placed, Asked, Optional}
 use Rattle.vm_words.specs.declared.form.Kind.{Kind}
@@ -13,11 +13,13 @@ use Rattle.vm_words.specs.declared.form.Kind.TheVariants.{Name, Number, Faults}
 
 -- every command
 abbrev pub verbs : List Verb
-verbs = Run ∷ Check ∷ Replay ∷ []
+verbs = Run ∷ Make ∷ Check ∷ Churn ∷ Replay ∷ []
 
 abbrev pub title : Verb → Text
 title Run = codes "run"
+title Make = codes "make"
 title Check = codes "check"
+title Churn = codes "churn"
 title Replay = codes "replay"
 
 -- the command with this name
@@ -27,7 +29,9 @@ verb_at word = find (λ verb. bytes_eq (title verb) word) verbs
 -- the slots of a command, in order
 abbrev pub slots_in : Verb → List Slot
 slots_in Run = Image ∷ Script ∷ Workers ∷ Frames ∷ Keep ∷ Fail ∷ FirstVersion ∷ []
+slots_in Make = File ∷ Pages ∷ Pairs ∷ Seed ∷ []
 slots_in Check = File ∷ []
+slots_in Churn = Pairs ∷ Seed ∷ Workers ∷ Frames ∷ []
 slots_in Replay = File ∷ []
 
 abbrev pub slot_text : Slot → Text
@@ -39,6 +43,9 @@ slot_text Keep = codes "keep"
 slot_text Fail = codes "fail"
 slot_text FirstVersion = codes "first-version"
 slot_text File = codes "file"
+slot_text Pages = codes "pages"
+slot_text Pairs = codes "pairs"
+slot_text Seed = codes "seed"
 
 abbrev pub place_in : Slot → Place
 place_in Image = Placed
@@ -49,6 +56,9 @@ place_in Keep = Optional
 place_in Fail = Optional
 place_in FirstVersion = Optional
 place_in File = Placed
+place_in Pages = Placed
+place_in Pairs = Placed
+place_in Seed = Placed
 
 abbrev pub kind_in : Slot → Kind
 kind_in Image = Name
@@ -59,6 +69,9 @@ kind_in Keep = Name
 kind_in Fail = Faults
 kind_in FirstVersion = Number
 kind_in File = Name
+kind_in Pages = Number
+kind_in Pairs = Number
+kind_in Seed = Number
 
 -- the word has to be there
 abbrev pub is_needed : Place → Bool

@@ -5,7 +5,7 @@ use Rattle.std.specs.List.{Contains}
 use Rattle.clap.specs.Words.{Row, Text, first_of}
 use Rattle.vm_image.specs.declared.blocks.PlannedFault.{PlannedFault}
 use Rattle.vm_script.specs.Decimals.{ReadsNumber}
-use Rattle.vm_script.specs.EventWords.{Reads}
+use Rattle.vm_script.specs.EventWords.{ReadsAs}
 use Rattle.vm_script.specs.Faults.{IsPlan, plan_text}
 use Rattle.vm_words.specs.declared.form.Slot.{Slot}
 use Rattle.vm_words.specs.declared.form.Kind.{Kind}
@@ -40,7 +40,7 @@ IsRead Faults text meaning = (plan : List PlannedFault) × IsPlan plan × (text 
 abbrev pub IsOdd : Kind → Text → Type 0
 IsOdd Name text = ⊥
 IsOdd Number text = ReadsNumber text None
-IsOdd Faults text = Reads IsPlan plan_text text None
+IsOdd Faults text = ReadsAs IsPlan plan_text text None
 
 -- what the reader of a text answers
 abbrev pub ReadsText : Kind → Text → Option Meaning → Type 0
@@ -48,9 +48,9 @@ ReadsText kind text (Some meaning) = IsRead kind text meaning
 ReadsText kind text None = IsOdd kind text
 
 -- what was found for a slot says this; a word that may be left out may say nothing
-abbrev pub IsFilled : Slot → Option Text → Meaning → Type 0
-IsFilled slot (Some text) meaning = IsRead (kind_in slot) text meaning
-IsFilled slot None meaning = (is_needed (place_in slot) ≡ false) × (meaning ≡ absent)
+abbrev pub IsSlotFilled : Slot → Option Text → Meaning → Type 0
+IsSlotFilled slot (Some text) meaning = IsRead (kind_in slot) text meaning
+IsSlotFilled slot None meaning = (is_needed (place_in slot) ≡ false) × (meaning ≡ absent)
 
 -- what was found for a slot says nothing: a word that has to be there is not, or it is none of the slot's kind
 abbrev pub IsUnfilled : Slot → Option Text → Type 0
@@ -58,7 +58,7 @@ IsUnfilled slot (Some text) = IsOdd (kind_in slot) text
 IsUnfilled slot None = is_needed (place_in slot) ≡ true
 
 abbrev pub ReadsSlot : Slot → Option Text → Option Meaning → Type 0
-ReadsSlot slot found (Some meaning) = IsFilled slot found meaning
+ReadsSlot slot found (Some meaning) = IsSlotFilled slot found meaning
 ReadsSlot slot found None = IsUnfilled slot found
 
 -- what clap found for the slots says this, slot by slot
@@ -66,7 +66,7 @@ abbrev pub AreFilled : List Slot → List Row → List Meaning → Type 0
 AreFilled [] rows [] = Unit {0}
 AreFilled [] rows (meaning ∷ meanings) = ⊥
 AreFilled (slot ∷ slots) rows [] = ⊥
-AreFilled (slot ∷ slots) rows (meaning ∷ meanings) = IsFilled slot (first_of (slot_text slot) rows) meaning × AreFilled slots rows meanings
+AreFilled (slot ∷ slots) rows (meaning ∷ meanings) = IsSlotFilled slot (first_of (slot_text slot) rows) meaning × AreFilled slots rows meanings
 
 -- one of the slots says nothing
 pub record HasUnfilled (slots : List Slot) (rows : List Row) : Type 0 where
@@ -85,18 +85,18 @@ IsGiven Number meaning = (n : ℕ) × (meaning ≡ counted n)
 IsGiven Faults meaning = (plan : List PlannedFault) × (1 ≤ length plan) × (meaning ≡ planned plan)
 
 -- and where it may be left out
-pub data MayBeGiven (kind : Kind) (meaning : Meaning) : Type 0 where
-  given : IsGiven kind meaning → MayBeGiven kind meaning
-  left_out : meaning ≡ absent → MayBeGiven kind meaning
+pub data IsGivenOrLeftOut (kind : Kind) (meaning : Meaning) : Type 0 where
+  given : IsGiven kind meaning → IsGivenOrLeftOut kind meaning
+  left_out : meaning ≡ absent → IsGivenOrLeftOut kind meaning
 
 abbrev pub IsMeant : Bool → Kind → Meaning → Type 0
 IsMeant true kind meaning = IsGiven kind meaning
-IsMeant false kind meaning = MayBeGiven kind meaning
+IsMeant false kind meaning = IsGivenOrLeftOut kind meaning
 
 -- the first of these values is of this kind
-abbrev pub StartsWith : Bool → Kind → List Meaning → Type 0
-StartsWith needed kind [] = ⊥
-StartsWith needed kind (meaning ∷ meanings) = IsMeant needed kind meaning
+abbrev pub FirstIsMeant : Bool → Kind → List Meaning → Type 0
+FirstIsMeant needed kind [] = ⊥
+FirstIsMeant needed kind (meaning ∷ meanings) = IsMeant needed kind meaning
 
 abbrev pub behind : List Meaning → List Meaning
 behind [] = []
@@ -105,4 +105,4 @@ behind (meaning ∷ meanings) = meanings
 -- the values are of the slots' kinds, slot by slot
 abbrev pub AreMeant : List Slot → List Meaning → Type 0
 AreMeant [] meanings = meanings ≡ []
-AreMeant (slot ∷ slots) meanings = StartsWith (is_needed (place_in slot)) (kind_in slot) meanings × AreMeant slots (behind meanings)
+AreMeant (slot ∷ slots) meanings = FirstIsMeant (is_needed (place_in slot)) (kind_in slot) meanings × AreMeant slots (behind meanings)

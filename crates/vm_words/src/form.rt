@@ -8,7 +8,9 @@ ghost use Rattle.vm_words.specs.Forms.{kind_in, place_in, slot_text, slots_in, t
 #[derive(Clone, Copy)]
 pub enum Verb {
     Run,
+    Make,
     Check,
+    Churn,
     Replay,
 }
 
@@ -23,6 +25,9 @@ pub enum Slot {
     Fail,
     FirstVersion,
     File,
+    Pages,
+    Pairs,
+    Seed,
 }
 
 /// Where a slot's word stands.
@@ -48,7 +53,13 @@ pub enum Kind {
 }
 
 // Every command.
-pub(crate) const VERBS: [Verb; 3] = [Verb::Run, Verb::Check, Verb::Replay];
+pub(crate) const VERBS: [Verb; 5] = [
+    Verb::Run,
+    Verb::Make,
+    Verb::Check,
+    Verb::Churn,
+    Verb::Replay,
+];
 
 // The command's name.
 pub(crate) fn title_of<'a>(verb: Verb) -> &'a str
@@ -56,7 +67,9 @@ pub(crate) fn title_of<'a>(verb: Verb) -> &'a str
 {
     match verb {
         Verb::Run => "run",
+        Verb::Make => "make",
         Verb::Check => "check",
+        Verb::Churn => "churn",
         Verb::Replay => "replay",
     }
 }
@@ -75,6 +88,8 @@ pub(crate) fn slots_of(verb: Verb) -> &'static [Slot]
             Slot::Fail,
             Slot::FirstVersion,
         ],
+        Verb::Make => &[Slot::File, Slot::Pages, Slot::Pairs, Slot::Seed],
+        Verb::Churn => &[Slot::Pairs, Slot::Seed, Slot::Workers, Slot::Frames],
         Verb::Check | Verb::Replay => &[Slot::File],
     }
 }
@@ -92,6 +107,9 @@ pub(crate) fn name_of<'a>(slot: Slot) -> &'a str
         Slot::Fail => "fail",
         Slot::FirstVersion => "first-version",
         Slot::File => "file",
+        Slot::Pages => "pages",
+        Slot::Pairs => "pairs",
+        Slot::Seed => "seed",
     }
 }
 
@@ -101,6 +119,7 @@ pub(crate) fn place_of(slot: Slot) -> Place
 {
     match slot {
         Slot::Image | Slot::Script | Slot::File => Place::Placed,
+        Slot::Pages | Slot::Pairs | Slot::Seed => Place::Placed,
         Slot::Workers | Slot::Frames => Place::Asked,
         Slot::Keep | Slot::Fail | Slot::FirstVersion => Place::Optional,
     }
@@ -113,6 +132,7 @@ pub(crate) fn kind_of(slot: Slot) -> Kind
     match slot {
         Slot::Image | Slot::Script | Slot::Keep | Slot::File => Kind::Name,
         Slot::Workers | Slot::Frames | Slot::FirstVersion => Kind::Number,
+        Slot::Pages | Slot::Pairs | Slot::Seed => Kind::Number,
         Slot::Fail => Kind::Faults,
     }
 }

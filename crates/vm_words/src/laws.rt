@@ -2,7 +2,7 @@
 ghost use Rattle.std.specs.Prelude.{◌≡◌, List, true};
 ghost use Rattle.clap.specs.Words.{Text, takes};
 ghost use Rattle.vm_words.specs.Apps.{vmcache_app};
-ghost use Rattle.vm_words.specs.Commands.{HasLine, IsCommand, IsLine, IsNoCommand, WhyRefused, line_of};
+ghost use Rattle.vm_words.specs.Commands.{HasLine, IsCommand, IsCommandLine, IsNoCommand, WhyRefused, line_of};
 ghost use Rattle.vm_words.specs.Values.{Meaning};
 ghost use Rattle.vm_words.specs.declared.Command.{Command};
 ghost use Rattle.vm_words.specs.declared.form.Verb.{Verb};
@@ -16,9 +16,9 @@ pub fn taken_words_are_whole()
 /// for each of its fields.
 pub fn one_line()
     ensures verb { (words : List Text) (verb other : Verb) (meanings others : List Meaning)
-        → IsLine words verb meanings → IsLine words other others → verb ≡ other }
+        → IsCommandLine words verb meanings → IsCommandLine words other others → verb ≡ other }
     ensures meanings { (words : List Text) (verb other : Verb) (meanings others : List Meaning)
-        → IsLine words verb meanings → IsLine words other others → meanings ≡ others }
+        → IsCommandLine words verb meanings → IsCommandLine words other others → meanings ≡ others }
     ensures command { (words : List Text) (command other : Command) → IsCommand words command
         → IsCommand words other → line_of command ≡ line_of other }
 {}

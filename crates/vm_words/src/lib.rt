@@ -19,7 +19,9 @@ use vm_image::PlannedFault;
 #[derive(Drop)]
 pub enum Command<'a> {
     Run(Run<'a>),
+    Make(Make<'a>),
     Check(Check<'a>),
+    Churn(Churn),
     Replay(Replay<'a>),
 }
 
@@ -50,11 +52,37 @@ pub struct Options<'a> {
     pub first_version: Option<u64>,
 }
 
+/// `make FILE PAGES N SEED`
+#[derive(Clone, Copy)]
+pub struct Make<'a> {
+    /// The name of the file that is written.
+    pub file: &'a str,
+    /// How many pages it has.
+    pub pages: u64,
+    /// How many pairs its tree holds.
+    pub pairs: u64,
+    /// The first of the pairs' keys, from which the others follow.
+    pub seed: u64,
+}
+
 /// `check FILE`
 #[derive(Clone, Copy)]
 pub struct Check<'a> {
     /// The name of the file with the image.
     pub file: &'a str,
+}
+
+/// `churn N SEED --workers W --frames F`
+#[derive(Clone, Copy)]
+pub struct Churn {
+    /// How many pairs the tree begins with.
+    pub pairs: u64,
+    /// The first of the keys, from which the others follow.
+    pub seed: u64,
+    /// How many workers.
+    pub workers: u64,
+    /// How many frames.
+    pub frames: u64,
 }
 
 /// `replay FILE`

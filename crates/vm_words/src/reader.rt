@@ -8,7 +8,7 @@ ghost use Rattle.vm_words.specs.Values.{AreMeant, ReadsSlot, ReadsSlots, meaning
 
 use crate::form::{Place, Slot, VERBS, Verb, kind_of, name_of, place_of, slots_of, title_of};
 use crate::value::{Value, name, name_if_given, number, number_if_given, plan, value_of};
-use crate::{Check, Command, Options, Replay, Run};
+use crate::{Check, Churn, Command, Make, Options, Replay, Run};
 use clap::ArgMatches;
 use std::alloc::{AllocError, Global};
 
@@ -85,8 +85,20 @@ fn command_with<'a>(alloc: Global, verb: Verb, values: Vec<Value<'a>>) -> Comman
                 first_version: number_if_given(&mut values),
             },
         }),
+        Verb::Make => Command::Make(Make {
+            file: name(&mut values),
+            pages: number(&mut values),
+            pairs: number(&mut values),
+            seed: number(&mut values),
+        }),
         Verb::Check => Command::Check(Check {
             file: name(&mut values),
+        }),
+        Verb::Churn => Command::Churn(Churn {
+            pairs: number(&mut values),
+            seed: number(&mut values),
+            workers: number(&mut values),
+            frames: number(&mut values),
         }),
         Verb::Replay => Command::Replay(Replay {
             file: name(&mut values),

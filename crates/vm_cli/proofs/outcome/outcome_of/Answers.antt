@@ -7,7 +7,8 @@ use Rattle.vm_tree_model.specs.Tree.{map_of}
 use Rattle.vm_drive.specs.Drives.{items_of}
 use Rattle.vm_cli.specs.Deliveries.{written_of}
 use Rattle.vm_cli.specs.Replies.{all_lines, counters_of}
-use Rattle.vm_cli.specs.Runs.{IsKept, last_map}
+use Rattle.vm_cli.specs.Made.{last_map}
+use Rattle.vm_cli.specs.Runs.{IsKept}
 use Rattle.vm_cli.proofs.Outcomes.{cut_outcome, flushed_outcome, made}
 use Rattle.vm_cli.proofs.Telling.{matched}
 use Rattle.vm_cli.proofs.outcome.outcome_of.Goals as goal
@@ -23,7 +24,7 @@ returns-in-Some g c =
     let s = c.in-Ok.served in
     let of = made run image lists c.as_slice-plan.result.now c.unwrap_or-version.result _ s c.in-Ok.ensures.served c.in-Ok.ensures.version c.in-Ok.ensures.frames c.as_slice-plan.ensures.value c.unwrap_or-version.ensures (omega arith) in
     let text = rw c.as_slice.ensures.value at c.in_ok-text-in-Some.ensures in
-    cut_outcome run image lists s.ended c.in-Some.page c.in_ok-text-in-Some.text c.told.result of c.in-Some.is text c.told.ensures
+    cut_outcome run image lists s.ended c.in-Some.page c.in_ok-text-in-Some.text c.told.result s.evicted of c.in-Some.is text c.told.ensures
 
 pub whole_text-requires-clause-matched : goal.whole_text-requires-clause-matched
 whole_text-requires-clause-matched g c = rw c.as_slice-in-None-2.ensures.value (matched _ _ _ c.in-Ok.ensures.served.calls)
@@ -43,4 +44,4 @@ returns g c =
     let pairs : c.in_ok-image-in-None.field-0.rows.pairs.items ≡ m = c.in_ok-image-in-None.ensures.rows ∙ ap (λ (b : List MemBlock). map_of (pages_of_blocks b)) blocks in
     let kept : IsKept run.options.keep (map_of c.in_ok-image-in-None.field-0.image) (written_of c.in_ok-file-in-None.file) = c.in_ok-file-in-None.ensures in
     let text = (rw c.as_slice-in-None-2.ensures.value at c.in_ok-text-in-None.ensures) ∙ ap (λ (k : Pairs). worker_replies 0 (all_lines lists (items_of s.replies.items)) ++ rows_text k ++ counters_of s.ended s.evicted) (c.as_slice-rows.ensures.value ∙ pairs) in
-    flushed_outcome run image lists s.ended m c.in_ok-text-in-None.text c.in_ok-file-in-None.file c.told-in-None.result of c.in-None.is last text (subst (λ (p : List (List ℕ)). IsKept run.options.keep (map_of p) (written_of c.in_ok-file-in-None.file)) pages kept) c.told-in-None.ensures
+    flushed_outcome run image lists s.ended m c.in_ok-text-in-None.text c.in_ok-file-in-None.file c.told-in-None.result s.evicted of c.in-None.is last text (subst (λ (p : List (List ℕ)). IsKept run.options.keep (map_of p) (written_of c.in_ok-file-in-None.file)) pages kept) c.told-in-None.ensures

@@ -1,0 +1,5 @@
+pub mod Lists
+pub mod Counting
+pub mod Tallying
+pub mod Sums
+pub mod Totals

@@ -1,0 +1,8 @@
+use Rattle.std.proofs.Common.{◌≡◌, string_bytes, append_assoc}
+use Rattle.vm_script.specs.Texts.{made_line}
+use Rattle.vm_script.proofs.text.made_text.Goals as goal
+
+pub returns : goal.returns
+returns c =
+    let line : string_bytes c.in_ok-line.line ≡ made_line c.args.pages c.args.used c.args.height = rw c.in_ok-line.ensures.ok (simp append_assoc) in
+    rw (← line, ← c.as_bytes.ensures.value) c.extend_from_slice.ensures.items
