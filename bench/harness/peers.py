@@ -1,0 +1,60 @@
+"""The other engines: their packages, their programs, and how one is run."""
+import dataclasses
+
+from harness import compiler, packages, process, workload
+from harness.console import Failure
+
+SOURCES = compiler.BENCH / "peers"
+SHARED_SOURCES = ("main.cc", "churn.cc")
+
+
+@dataclasses.dataclass(frozen=True)
+class Peer:
+    """An engine: its name on the command line, its name in tables, its own source files, what it needs of Debian, whether its memory can be bounded, and what
+    a reader of its numbers has to know."""
+
+    name: str
+    title: str
+    sources: tuple
+    package: str = ""
+    header: str = ""
+    library: str = ""
+    can_be_bounded: bool = False
+    remark: str = ""
+
+    def run(self, job, limit, environment=None):
+        """Seconds of the workers by the peer's own clock, and what the run cost. Its summary is right, else it has failed."""
+        with process.scratch_folder() as folder:
+            words = [program_of(self), job.pairs, workload.SEED, job.workers, folder, job.cache_bytes]
+            ran = process.run([str(word) for word in words], limit, environment or {})
+        summary, _, seconds = ran.output.strip().partition("\nseconds ")
+        workload.require_summary(self.name, summary, job.pairs)
+        return float(seconds), ran
+
+
+# Seen in a profile of Debian 12's library: sync points, assertions and counters at each comparison of keys.
+DEBUG_BUILD = "RocksDB as Debian 12 builds it has its aids for debugging in it, which cost it much: these numbers say little of a build without them."
+PEERS = (
+    Peer("olc", "B+-tree, plain C++", ("olc.cc", "olc_tree.cc")),
+    Peer("map", "std::map, one mutex", ("map.cc",)),
+    Peer("lmdb", "LMDB", ("lmdb.cc",), "liblmdb-dev", "lmdb.h", "lmdb"),
+    Peer("wiredtiger", "WiredTiger", ("wiredtiger.cc",), "libwiredtiger-dev", "wiredtiger.h", "wiredtiger", can_be_bounded=True),
+    Peer("rocksdb", "RocksDB", ("rocksdb.cc",), "librocksdb-dev", "rocksdb/db.h", "rocksdb", can_be_bounded=True, remark=DEBUG_BUILD),
+    Peer("leveldb", "LevelDB", ("leveldb.cc",), "libleveldb-dev", "leveldb/db.h", "leveldb", can_be_bounded=True),
+    Peer("berkeleydb", "Berkeley DB", ("berkeleydb.cc",), "libdb-dev", "db.h", "db", can_be_bounded=True),
+)
+
+
+def program_of(peer):
+    return compiler.OUT / "peers" / peer.name
+
+
+def prepare(peer, may_install):
+    """Makes the peer's program."""
+    if peer.header and not compiler.has_header(peer.header):
+        packages.install(peer.package, may_install)
+        if not compiler.has_header(peer.header):
+            raise Failure(f"{peer.package} was installed, but the compiler finds no {peer.header}")
+    libraries = [f"-l{peer.library}"] if peer.library else []
+    sources = [SOURCES / source for source in (*SHARED_SOURCES, *peer.sources)]
+    compiler.compile_to(program_of(peer), sources, libraries, sorted(SOURCES.glob("*.h")))

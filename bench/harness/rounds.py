@@ -1,0 +1,95 @@
+"""The runs of a measurement, in turn: round 1 of all engines, then round 2 of all, so that what the machine does meanwhile meets them alike."""
+import dataclasses
+import typing
+
+from harness import program, workload
+from harness.console import Failure, say
+
+
+@dataclasses.dataclass(frozen=True)
+class Part:
+    """One table: its name, what it shows, the numbers of workers, how a run is set by pairs and workers, and whether it wants engines whose memory can be
+    bounded."""
+
+    name: str
+    title: str
+    workers: tuple
+    job: typing.Callable
+    is_bounded: bool
+
+    def engines_of(self, engines):
+        """Those of the engines that can take part."""
+        return [engine for engine in engines if engine.can_be_bounded or not self.is_bounded]
+
+
+PARTS = (
+    Part("resident", "All pages in memory", (1, 2, 4), workload.resident_job, is_bounded=False),
+    Part("tenth", "Frames for a tenth of the pages", (1, 4), workload.tenth_job, is_bounded=True),
+)
+COST = "cost"
+COST_WORKERS = 4
+COST_FRAMES = (workload.FEWEST_FRAMES, workload.MOST_FRAMES)
+
+
+@dataclasses.dataclass(frozen=True)
+class Sample:
+    """One run of an engine: seconds of the workers' phase (None until it is worked out) and of the whole run, of processor, and the peak in kibibytes."""
+
+    part: str
+    round: int
+    engine: str
+    workers: int
+    frames: int
+    phase: float | None
+    wall: float
+    processor: float
+    peak: int
+
+
+class Rounds:
+    """The samples so far, and the settings that an engine failed at, each with the cause: these are not tried again."""
+
+    def __init__(self, pairs, limit):
+        self.pairs, self.limit = pairs, limit
+        self.samples, self.failures, self.was_ended_by_hand = [], {}, False
+
+    def measure(self, part, engine, job, number):
+        """One run, unless it failed before."""
+        setting = (part, engine.name, job.workers, job.frames)
+        if setting in self.failures:
+            return
+        say(f"round {number}, {part}: {engine.name}, workers {job.workers}, frames {job.frames}")
+        try:
+            phase, ran = engine.run(job, self.limit)
+        except Failure as failure:
+            say(f"left out from here on: {failure}")
+            self.failures[setting] = str(failure)
+            return
+        self.samples.append(Sample(part, number, engine.name, job.workers, job.frames, phase, ran.wall, ran.processor, ran.peak))
+
+    def run_part(self, part, engines, number):
+        """One round of a part."""
+        for workers in part.workers:
+            for engine in part.engines_of(engines):
+                self.measure(part.name, engine, part.job(self.pairs, workers), number)
+
+    def run_cost(self, engine, number):
+        """One round of the program alone, with the fewest frames and with the most."""
+        for frames in COST_FRAMES:
+            self.measure(COST, engine, workload.Job(self.pairs, COST_WORKERS, frames, bounded=False), number)
+
+    def completed(self):
+        """The samples, with the phase worked out where it was not seen, and without those of which it cannot be."""
+        phases = (self.phase_of(sample) for sample in self.samples)
+        return [dataclasses.replace(sample, phase=phase) for sample, phase in zip(self.samples, phases) if phase is not None]
+
+    def phase_of(self, sample):
+        """What was seen, or what the runs of the same engine with more workers tell; or None."""
+        if sample.phase is not None:
+            return sample.phase
+        others = [
+            (other.wall, other.phase)
+            for other in self.samples
+            if (other.part, other.engine) == (sample.part, sample.engine) and other.phase is not None
+        ]
+        return program.phase_of_one_worker(sample.wall, others)

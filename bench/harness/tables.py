@@ -1,0 +1,104 @@
+"""The tables of a measurement, in Markdown and as comma-separated values."""
+import collections
+import csv
+import statistics
+
+from harness import program, rounds
+
+OURS = program.Program.name
+NONE = "-"
+
+Speed = collections.namedtuple("Speed", "best median")
+Cost = collections.namedtuple("Cost", "wall processor peak")
+
+
+def speeds_of(samples, part, calls):
+    """Calls a second of the workers' phase, by engine and number of workers."""
+    phases = collections.defaultdict(list)
+    for sample in samples:
+        if sample.part == part:
+            phases[sample.engine, sample.workers].append(sample.phase)
+    return {setting: Speed(calls / min(seconds), calls / statistics.median(seconds)) for setting, seconds in phases.items()}
+
+
+def engines_by_speed(speeds):
+    """The engines, the fastest with the most workers first."""
+    workers = {engine: max(count for name, count in speeds if name == engine) for engine, _ in speeds}
+    return sorted(workers, key=lambda engine: (-workers[engine], -speeds[engine, workers[engine]].median))
+
+
+def ratio(speeds, engine, workers):
+    """An engine's speed by the program's at as many workers, by their medians."""
+    if (engine, workers) not in speeds or (OURS, workers) not in speeds:
+        return None
+    return speeds[engine, workers].median / speeds[OURS, workers].median
+
+
+def short(calls_a_second):
+    if calls_a_second >= 1e6:
+        return f"{calls_a_second / 1e6:.2f} M"
+    return f"{calls_a_second / 1e3:.0f} k"
+
+
+def speed_table(part, speeds, titles):
+    """A row an engine: calls a second, the median and in brackets the best, and the ratio to the program, for each number of workers."""
+    head = ["engine"]
+    for workers in part.workers:
+        head += [f"{workers} worker{'s' if workers > 1 else ''}", "by ours"]
+    rows = []
+    for engine in engines_by_speed(speeds):
+        row = [f"**{titles[engine]}**" if engine == OURS else titles[engine]]
+        for workers in part.workers:
+            speed, by_ours = speeds.get((engine, workers)), ratio(speeds, engine, workers)
+            row += [f"{short(speed.median)} ({short(speed.best)})" if speed else NONE, f"{by_ours:.2f}" if by_ours else NONE]
+        rows.append(row)
+    return markdown(head, rows)
+
+
+def costs_of(samples):
+    """What whole runs with four workers cost, by engine and frames: medians of the times, and the largest peak."""
+    found = collections.defaultdict(list)
+    for sample in samples:
+        is_cost = sample.part == rounds.COST
+        if is_cost or (sample.part == rounds.PARTS[0].name and sample.engine != OURS and sample.workers == rounds.COST_WORKERS):
+            found[sample.engine, sample.frames if is_cost else None].append(sample)
+    return {
+        setting: Cost(statistics.median(s.wall for s in runs), statistics.median(s.processor for s in runs), max(s.peak for s in runs))
+        for setting, runs in found.items()
+    }
+
+
+def cost_table(costs, titles):
+    """A row an engine, ours by frames first and then the peers by their processor time."""
+    rows = []
+    for engine, frames in sorted(costs, key=lambda it: (it[0] != OURS, it[1] or 0, costs[it].processor)):
+        cost = costs[engine, frames]
+        title = f"**{titles[engine]}**, {frames:,} frames" if frames else titles[engine]
+        rows.append([title, f"{cost.wall:.2f} s", f"{cost.processor:.2f} s", f"{cost.peak / 1024:.0f} MiB"])
+    return markdown(["engine, 4 workers", "whole run", "user and system", "peak resident"], rows)
+
+
+def markdown(head, rows):
+    lines = [head, ["---"] * len(head), *rows]
+    return "\n".join(f"| {' | '.join(line)} |" for line in lines) + "\n"
+
+
+def write_runs(path, samples):
+    """Each run, as it was measured."""
+    with open(path, "w", newline="", encoding="utf-8") as file:
+        writer = csv.writer(file)
+        writer.writerow(["part", "round", "engine", "workers", "frames", "workers_seconds", "run_seconds", "processor_seconds", "peak_kibibytes"])
+        for sample in samples:
+            times = [f"{seconds:.6f}" if seconds is not None else "" for seconds in (sample.phase, sample.wall, sample.processor)]
+            writer.writerow([sample.part, sample.round, sample.engine, sample.workers, sample.frames, *times, sample.peak])
+
+
+def write_speeds(path, speeds_by_part):
+    """Each cell of the tables of speeds."""
+    with open(path, "w", newline="", encoding="utf-8") as file:
+        writer = csv.writer(file)
+        writer.writerow(["part", "engine", "workers", "best_calls_a_second", "median_calls_a_second", "median_by_ours"])
+        for part, speeds in speeds_by_part.items():
+            for engine, workers in sorted(speeds):
+                speed, by_ours = speeds[engine, workers], ratio(speeds, engine, workers)
+                writer.writerow([part, engine, workers, f"{speed.best:.0f}", f"{speed.median:.0f}", f"{by_ours:.3f}" if by_ours else ""])

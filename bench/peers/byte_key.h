@@ -1,0 +1,13 @@
+// A key as eight bytes, highest first, so that engines that compare bytes keep keys in the order of their numbers.
+#pragma once
+
+#include <array>
+#include <cstdint>
+
+using ByteKey = std::array<char, 8>;
+
+inline ByteKey byte_key(uint64_t key) {
+  ByteKey bytes;
+  for (int i = 0; i < 8; i++) bytes[i] = char(key >> (56 - 8 * i));
+  return bytes;
+}

@@ -1,0 +1,43 @@
+// What the churn workload needs of an engine: a store of pairs, and for each worker a session on it. Each peer is one file that implements open_store.
+#pragma once
+
+#include <cstdint>
+#include <memory>
+#include <optional>
+#include <stdexcept>
+#include <string>
+
+// The calls of one thread. A session is made and dropped in the thread that uses it, since some engines tie it to that thread.
+class Session {
+ public:
+  virtual ~Session() = default;
+  virtual std::optional<uint64_t> get(uint64_t key) = 0;
+  // Whether the key was new.
+  virtual bool put(uint64_t key, uint64_t value) = 0;
+  // Whether the key was there.
+  virtual bool del(uint64_t key) = 0;
+};
+
+class Store {
+ public:
+  virtual ~Store() = default;
+  virtual std::unique_ptr<Session> session() = 0;
+  // False for an engine that writes without looking: what its `put` and `del` return then says nothing.
+  virtual bool answers_writes() const { return true; }
+};
+
+struct Settings {
+  // A folder of its own, which is there and empty.
+  std::string folder;
+  // How many puts it will be given in all.
+  uint64_t puts;
+  // How many bytes of pages it may keep in memory; 0 where all shall fit.
+  uint64_t cache_bytes;
+};
+
+std::unique_ptr<Store> open_store(const Settings& settings);
+
+// An answer of an engine that no call of churn may get.
+inline void require(bool is_right, const char* call) {
+  if (!is_right) throw std::runtime_error(std::string("refused: ") + call);
+}

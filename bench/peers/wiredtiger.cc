@@ -1,0 +1,102 @@
+// WiredTiger: a table whose keys and values are numbers, with no log and no transaction beyond the call's own.
+#include <wiredtiger.h>
+
+#include <algorithm>
+
+#include "store.h"
+
+namespace {
+
+constexpr uint64_t AMPLE_CACHE = uint64_t(1) << 30;
+constexpr uint64_t LEAST_CACHE = uint64_t(1) << 20;
+
+void must(int status) {
+  if (status != 0) throw std::runtime_error(wiredtiger_strerror(status));
+}
+
+class WiredTigerSession : public Session {
+ public:
+  explicit WiredTigerSession(WT_CONNECTION* connection) {
+    must(connection->open_session(connection, nullptr, nullptr, &session_));
+    must(session_->open_cursor(session_, "table:pairs", nullptr, "overwrite=false", &cursor_));
+  }
+  ~WiredTigerSession() override { session_->close(session_, nullptr); }
+
+  std::optional<uint64_t> get(uint64_t key) override {
+    cursor_->set_key(cursor_, key);
+    const int status = cursor_->search(cursor_);
+    std::optional<uint64_t> value;
+    if (status != WT_NOTFOUND) {
+      must(status);
+      must(cursor_->get_value(cursor_, &value.emplace()));
+    }
+    must(cursor_->reset(cursor_));
+    return value;
+  }
+
+  bool put(uint64_t key, uint64_t value) override {
+    const int status = again([&] {
+      cursor_->set_key(cursor_, key);
+      cursor_->set_value(cursor_, value);
+      return cursor_->insert(cursor_);
+    });
+    if (status != WT_DUPLICATE_KEY) {
+      must(status);
+      return true;
+    }
+    must(again([&] {
+      cursor_->set_key(cursor_, key);
+      cursor_->set_value(cursor_, value);
+      return cursor_->update(cursor_);
+    }));
+    must(cursor_->reset(cursor_));
+    return false;
+  }
+
+  bool del(uint64_t key) override {
+    const int status = again([&] {
+      cursor_->set_key(cursor_, key);
+      return cursor_->remove(cursor_);
+    });
+    if (status != WT_NOTFOUND) must(status);
+    must(cursor_->reset(cursor_));
+    return status == 0;
+  }
+
+ private:
+  // Makes a call until no other writer's change is in its way.
+  template <typename Call>
+  static int again(Call call) {
+    for (;;) {
+      const int status = call();
+      if (status != WT_ROLLBACK) return status;
+    }
+  }
+
+  WT_SESSION* session_ = nullptr;
+  WT_CURSOR* cursor_ = nullptr;
+};
+
+class WiredTigerStore : public Store {
+ public:
+  WiredTigerStore(const std::string& folder, uint64_t cache_bytes) {
+    const uint64_t cache = cache_bytes == 0 ? AMPLE_CACHE : std::max(cache_bytes, LEAST_CACHE);
+    // With a small cache a page must be small too, or a few of them fill it.
+    const std::string pages = cache_bytes == 0 ? "" : ",leaf_page_max=4KB,internal_page_max=4KB,memory_page_max=32KB";
+    const std::string options = "create,log=(enabled=false),session_max=100,cache_size=" + std::to_string(cache);
+    must(wiredtiger_open(folder.c_str(), nullptr, options.c_str(), &connection_));
+    WT_SESSION* session;
+    must(connection_->open_session(connection_, nullptr, nullptr, &session));
+    must(session->create(session, "table:pairs", ("key_format=Q,value_format=Q" + pages).c_str()));
+    must(session->close(session, nullptr));
+  }
+  ~WiredTigerStore() override { connection_->close(connection_, nullptr); }
+  std::unique_ptr<Session> session() override { return std::make_unique<WiredTigerSession>(connection_); }
+
+ private:
+  WT_CONNECTION* connection_ = nullptr;
+};
+
+}  // namespace
+
+std::unique_ptr<Store> open_store(const Settings& settings) { return std::make_unique<WiredTigerStore>(settings.folder, settings.cache_bytes); }
