@@ -1,5 +1,6 @@
 -- What a block in memory is.
 use Rattle.std.specs.Prelude.{ℕ, ◌≡◌, List, Bool}
+use Rattle.vm_page.specs.Counts.{count_more}
 use Rattle.vm_block.specs.Plans.{most_faults}
 use Rattle.vm_block.specs.Plans as plans
 use Rattle.vm_block.specs.declared.stored.Stored.{Stored}
@@ -27,7 +28,7 @@ fails_next block = plans.plans_failure (planned_calls block) (calls_made block)
 
 -- one more call was made, and the plan is the same
 pub record IsNextCall (old new : MemBlock) : Type 0 where
-  pub calls : calls_made new ≡ plans.calls_after (calls_made old)
+  pub calls : calls_made new ≡ count_more (calls_made old)
   pub plan : planned_calls new ≡ planned_calls old
 
 -- a block that holds these words, fails the calls of this plan, and has counted nothing

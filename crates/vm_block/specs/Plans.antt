@@ -7,10 +7,6 @@ use Rattle.std.specs.Set.{unique_keys, is_member, distinct_count}
 abbrev pub plans_failure : List ℕ → ℕ → Bool
 plans_failure numbers calls = nat_lt calls (2 ^ 64 - 1) && is_member nat_eq numbers (calls + 1)
 
--- how many calls were made, after one more: they are counted up to 2^64 - 1
-abbrev pub calls_after : ℕ → ℕ
-calls_after calls = min (calls + 1) (2 ^ 64 - 1)
-
 -- how many different numbers of the plan are at most this
 abbrev pub up_to : List ℕ → ℕ → ℕ
 up_to numbers calls = count_by (λ number. nat_lt number (calls + 1)) (unique_keys nat_eq numbers)

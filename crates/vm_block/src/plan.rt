@@ -1,8 +1,8 @@
 //! Which calls of a block in memory fail.
 
 ghost use Rattle.std.specs.Prelude.{◌≡◌, ℕ, ◌+◌, ◌-◌, ◌^◌, ◌≤◌, ◌<◌, IfOk, if◌then◌else◌};
-ghost use Rattle.vm_block.specs.Blocks.{one_call_more};
-ghost use Rattle.vm_block.specs.Plans.{plans_failure, most_faults, calls_after, up_to};
+ghost use Rattle.vm_page.specs.Counts.{count_more};
+ghost use Rattle.vm_block.specs.Plans.{plans_failure, most_faults, up_to};
 
 use std::alloc::{AllocError, Global};
 
@@ -32,11 +32,12 @@ impl Plan {
     }
 
     /// Counts a call, and says whether it fails. A failure is counted too.
+    #[tactic(auto, unfolding(vm_page::specs::Counts::count_more))]
     pub fn fails(&mut self) -> bool
         ensures planned { result ≡ plans_failure self.old.numbers.items self.old.calls }
-        ensures calls { self.new.calls ≡ calls_after self.old.calls }
+        ensures calls { self.new.calls ≡ count_more self.old.calls }
         ensures numbers { self.new.numbers.items ≡ self.old.numbers.items }
-        ensures faults { self.new.faults ≡ (if result then one_call_more self.old.faults else self.old.faults) }
+        ensures faults { self.new.faults ≡ (if result then count_more self.old.faults else self.old.faults) }
     {
         if self.calls == u64::MAX {
             return false;

@@ -2,19 +2,17 @@
 
 ghost use Rattle.std.specs.Prelude.{◌≡◌, ◌≤◌, IfOk, MatchResult, length};
 ghost use Rattle.vm_build.specs.Build.{IsBuilt, IsBuildRefused, built, meta_page as meta_words, needed as needed_for};
-ghost use Rattle.vm_build.specs.Numbers.{HasNoTwins};
+ghost use Rattle.vm_build.specs.Numbers.{HasNoTwins, numbered as numbered_of};
 ghost use Rattle.vm_build.specs.declared.building.BuildFault.TheVariants.{Memory};
 
 use crate::levels::{nodes_for, push_levels};
+use crate::seed::numbered;
 use crate::sorting::sorted;
 use std::alloc::{AllocError, Global};
 use thiserror::Error;
-use vm_image::Image;
+use vm_image::{Image, MAGIC};
 use vm_map::call::Pair;
 use vm_page::PageBuf;
-
-// The first word of a page file: the bytes "VMCACHE1".
-const MAGIC: u64 = 0x564D_4341_4348_4531;
 
 /// Why no image was built.
 #[derive(Debug, Drop, Error)]
@@ -63,6 +61,22 @@ pub fn build(alloc: Global, pages: u32, pairs: &[Pair]) -> Result<Image, BuildFa
     let sorted = sorted(alloc, pairs)?;
     let made = pages_of(alloc, pages, sorted)?;
     Ok(Image::of_pages(made))
+}
+
+/// An image of `pages` pages, at most 65,536, with a tree of the first `count` numbers of a seed, at most 1,000,000, each with its place. The pages
+/// are enough for them.
+pub fn numbered_image(alloc: Global, pages: u32, seed: u64, count: u32) -> Result<Image, AllocError>
+    requires pages { pages ≤ 65536 }
+    requires few { count ≤ 1000000 }
+    requires room { needed_for count ≤ pages }
+    ensures { IfOk result (λ image. IsBuilt pages (numbered_of seed count) image) }
+{
+    let pairs = numbered(alloc, seed, count)?;
+    match build(alloc, pages, pairs.as_slice()) {
+        Ok(image) => Ok(image),
+        Err(BuildFault::TooFew { .. }) => unreachable!(),
+        Err(BuildFault::Memory) => Err(AllocError),
+    }
 }
 
 // The pages of the image of up to 1,000,000 pairs by rising key, where there are enough. Page 0 is written last, when the root is known.

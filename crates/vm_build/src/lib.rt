@@ -9,5 +9,5 @@ pub mod numbers;
 mod seed;
 mod sorting;
 
-pub use building::{BuildFault, build, needed};
+pub use building::{BuildFault, build, needed, numbered_image};
 pub use seed::{generator, numbered};

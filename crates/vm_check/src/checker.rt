@@ -11,10 +11,7 @@ use crate::fault::CheckFault;
 use crate::rows::Rows;
 use crate::walk::Walk;
 use std::alloc::Global;
-use vm_image::{Image, is_zero_from};
-
-// The first word of a page file: the bytes "VMCACHE1".
-const MAGIC: u64 = 0x564D_4341_4348_4531;
+use vm_image::{Image, MAGIC, is_zero_from};
 
 /// The rows of the tree that the pages are, by rising key; or the first reason why they are none: the page at fault and
 /// the reason's number, as the walk over page 0, the tree and the other pages meets them.

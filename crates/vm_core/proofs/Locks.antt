@@ -1,13 +1,11 @@
 -- The locks of a page, through the events.
-use Rattle.std.proofs.Common.{ℕ, ◌≡◌, ◌≢◌, ◌+◌, ◌-◌, ◌<◌, ◌≤◌, zero, suc, refl, sym, ap, ◌∙◌, ⊎_elim, arith, true, false, None, ◌⊎◌}
+use Rattle.std.proofs.Common.{⊎_elim, ◌+◌, ◌-◌, ◌<◌, ◌∙◌, ◌≡◌, ◌≢◌, ◌≤◌, ◌⊎◌, ap, arith, false, None, refl, suc, sym, true, zero, ℕ}
 use Rattle.std.proofs.lemmas.Bool.{cases_eq, false≢true}
 use Rattle.std.proofs.lemmas.Bool.Decides.{nat_tests}
+use Rattle.vm_core.specs.Prelude.{EVICTED, LOCKED, LocksInv, MARKED, MAX_VERSION, one_share_more, OneHolder, share_count, sum_below, UNLOCKED}
+use Rattle.vm_core.specs.Prelude.{unshared, upd}
 use Rattle.vm_core.specs.declared.event.Seat.{Seat}
-use Rattle.vm_core.specs.Fn.{upd, sum_below}
-use Rattle.vm_core.specs.Words.{UNLOCKED, LOCKED, MARKED, EVICTED, MAX_VERSION}
-use Rattle.vm_core.specs.StateActs.{one_share_more, unshared}
-use Rattle.vm_core.specs.Inv.{LocksInv, OneHolder, share_count}
-use Rattle.vm_core.proofs.Upd.{upd-tells, sum_below-change}
+use Rattle.vm_core.proofs.Upd.{sum_below-change, upd-tells}
 
 -- a page with an exclusive holder is locked
 pub locked-from_owner : {actors state version : ℕ} → {seats : ℕ → Seat} → LocksInv actors state version seats → (a : ℕ) → (seats a).exclusive ≡ true → state ≡ LOCKED

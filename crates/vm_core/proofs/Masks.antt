@@ -1,19 +1,18 @@
 -- Frames that are set and cleared in mask words.
-use Rattle.std.proofs.Common.{ℕ, ◌≡◌, ◌<◌, ◌+◌, ◌-◌, ◌*◌, ◌^◌, ◌/◌, ◌%◌, true, false, eqb, cond, ◌&&◌, List, [], length, sym, ap, ◌∙◌, ⊎_elim, arith, bit_and, bit_or, max, min, Some, slice_set, get_or, replicate}
-use Rattle.std.specs.Prelude.{bit_xor}
 use Rattle.std.specs.Int.{bit_at, bit_not, w64}
-use Rattle.std.proofs.lemmas.Bool.{cases_eq, cases_lt, and_parts, eq-eqb, ne_eqb, eqb-true, and_left, and_from, cond-true, cond-false}
-use Rattle.std.proofs.lemmas.Nat.Bits.{bit_at_clear_same, bit_at_clear_other, bit_at_set_same, bit_at_set_other, bit_at_and, bit_at_not, bit_at_or, bit_at-lt, bit_at_above, same_from_bits}
 use Rattle.std.specs.List.{All}
+use Rattle.std.specs.Prelude.{bit_xor}
+use Rattle.std.proofs.Common.{[], ⊎_elim, ◌%◌, ◌&&◌, ◌*◌, ◌+◌, ◌-◌, ◌/◌, ◌<◌, ◌^◌, ◌∙◌, ◌≡◌, ap, arith, bit_and, bit_or, cond, eqb, false, get_or}
+use Rattle.std.proofs.Common.{length, List, max, min, replicate, slice_set, Some, sym, true, ℕ}
+use Rattle.std.proofs.lemmas.Bool.{and_from, and_left, and_parts, cases_eq, cases_lt, cond-false, cond-true, eq-eqb, eqb-true, ne_eqb}
+use Rattle.std.proofs.lemmas.Nat.Bits.{bit_at-lt, bit_at_above, bit_at_and, bit_at_clear_other, bit_at_clear_same, bit_at_not, bit_at_or}
+use Rattle.std.proofs.lemmas.Nat.Bits.{bit_at_set_other, bit_at_set_same, same_from_bits}
 use mathlib.Core.Path.{fun_ext}
-use Rattle.vm_core.specs.Fn.{at, upd}
-use Rattle.vm_core.specs.Words.{has_free_bit, in_mask}
-use Rattle.vm_core.specs.State.{State}
-use Rattle.vm_core.specs.PageOf.{CoreData, PageData, core_of, page_of, pages_of, held_of}
-use Rattle.vm_core.specs.FrameActs.{installed, cleared, gains}
-use Rattle.vm_core.specs.Step.{put_under, taken_out, taken, given, stored_at}
-use Rattle.vm_core.proofs.Upd.{upd-same, upd-other, upd-map}
-use Rattle.vm_core.proofs.At.{at_set, at-value, core-page, core-page_at}
+use Rattle.vm_core.specs.Prelude.{at, cleared, core_of, CoreData, gains, has_free_bit, held_of, in_mask, installed, page_of, PageData, pages_of}
+use Rattle.vm_core.specs.Prelude.{State, stored_at, taken, upd}
+use Rattle.vm_core.specs.Step.{given, put_under, taken_out}
+use Rattle.vm_core.proofs.At.{at-value, at_set, core-page, core-page_at}
+use Rattle.vm_core.proofs.Upd.{upd-map, upd-other, upd-same}
 
 -- a bit is not 0 and 1
 pub apart : (n : ℕ) → n ≡ 0 → n ≡ 1 → ⊥

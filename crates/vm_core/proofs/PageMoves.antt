@@ -1,11 +1,8 @@
 -- The parts of a page's invariant, where the page is locked, stays open, or is released.
-use Rattle.std.proofs.Common.{ℕ, ◌≡◌, ◌≢◌, ◌+◌, ◌≤◌, ◌∷◌, ◌++◌, refl, ap, arith, List, [], Option, IsSome, length}
-use Rattle.vm_core.specs.declared.event.Mapping.{Mapping}
-use Rattle.vm_core.specs.declared.event.Open.{Open}
-use Rattle.vm_core.specs.Words.{LOCKED, EVICTED}
-use Rattle.vm_core.specs.History.{History, Version, drafted, appended}
-use Rattle.vm_core.specs.Inv.{StandsInv, SizesInv, WordsInv, ReadInv}
 use Rattle.std.specs.List.{AllByRecursion}
+use Rattle.std.proofs.Common.{[], ◌++◌, ◌+◌, ◌∷◌, ◌≡◌, ◌≢◌, ◌≤◌, ap, arith, IsSome, length, List, Option, refl, ℕ}
+use Rattle.vm_core.specs.Prelude.{appended, drafted, EVICTED, History, LOCKED, ReadInv, StandsInv, Version, WordsInv}
+use Rattle.vm_core.specs.{declared.event.Mapping.Mapping, declared.event.Open.Open, Inv.SizesInv}
 use Rattle.vm_core.proofs.PageFacts.{block-is_last}
 
 -- ---- a page that is locked exclusively

@@ -1,19 +1,16 @@
 -- The lists that a core starts with are the core's start.
-use Rattle.std.proofs.Common.{ℕ, zero, suc, ◌≡◌, ◌+◌, ◌-◌, ◌*◌, ◌/◌, ◌%◌, ◌^◌, ◌<◌, ◌≤◌, ◌∷◌, ◌++◌, List, [], length, refl, sym, ap, subst, ◌∙◌, ⊎_elim, arith, true, false, None, min, map, get_or, replicate, ltb}
-use mathlib.Core.Path.{fun_ext}
 use Rattle.std.specs.Int.{bit_at}
-use Rattle.std.proofs.Math.ListN.{get_or-append, get_or-eq_default}
-use Rattle.std.proofs.lemmas.Bool.{cases_eq, cases_lt, cond-false, le-ltb, ne_eqb, false≢true}
-use Rattle.std.proofs.lemmas.List.{get_or_default, get_or-replicate, get_or_push, length-append, length-map, length-replicate}
+use Rattle.std.proofs.Common.{[], ⊎_elim, ◌%◌, ◌*◌, ◌++◌, ◌+◌, ◌-◌, ◌/◌, ◌<◌, ◌^◌, ◌∙◌, ◌∷◌, ◌≡◌, ◌≤◌, ap, arith, false, get_or, length, List, ltb}
+use Rattle.std.proofs.Common.{map, min, None, refl, replicate, subst, suc, sym, true, zero, ℕ}
+use Rattle.std.proofs.lemmas.Bool.{cases_eq, cases_lt, cond-false, false≢true, le-ltb, ne_eqb}
+use Rattle.std.proofs.lemmas.List.{get_or-replicate, get_or_default, get_or_push, length-append, length-map, length-replicate}
 use Rattle.std.proofs.lemmas.Nat.Bits.{bit_at-zero}
-use Rattle.vm_core.specs.declared.event.CoreShape.{CoreShape}
-use Rattle.vm_core.specs.CoreOf.{CoreFits, InFrames}
-use Rattle.vm_core.specs.Fn.{at, sum_below}
-use Rattle.vm_core.specs.Inv.{LocksInv}
-use Rattle.vm_core.specs.Making.{IsStartPage, StartPages, StartBundles}
-use Rattle.vm_core.specs.PageOf.{PageData, page_of, pages_of, words_of_frames, held_of, core_of}
-use Rattle.vm_core.specs.Start.{core_block, core_start, evicted_page, full_bundle, no_seat, outside_page, start}
-use Rattle.vm_core.specs.Words.{has_free_bit, EVICTED, MAX_VERSION}
+use Rattle.std.proofs.Math.ListN.{get_or-append, get_or-eq_default}
+use mathlib.Core.Path.{fun_ext}
+use Rattle.vm_core.specs.Prelude.{at, core_block, core_of, core_start, CoreFits, EVICTED, evicted_page, full_bundle, has_free_bit, held_of, InFrames}
+use Rattle.vm_core.specs.Prelude.{LocksInv, MAX_VERSION, no_seat, outside_page, page_of, PageData, pages_of, start, StartBundles, StartPages}
+use Rattle.vm_core.specs.Prelude.{sum_below, words_of_frames}
+use Rattle.vm_core.specs.{declared.event.CoreShape.CoreShape, Making.IsStartPage}
 use Rattle.vm_core.proofs.At.{at-get, page-here}
 
 -- one page more

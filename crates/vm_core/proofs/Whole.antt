@@ -1,12 +1,8 @@
 -- From one page to the whole core.
-use Rattle.std.proofs.Common.{ℕ, ◌≡◌, refl, sym, subst, ◌∙◌, Bool, List}
-use Rattle.vm_core.specs.Fn.{upd}
-use Rattle.vm_core.specs.State.{Page, State}
-use Rattle.vm_core.specs.FrameActs.{stands_in}
-use Rattle.vm_core.specs.History.{History, World}
-use Rattle.vm_core.specs.Inv.{Inv, FrameInv, PageInv, Place}
-use Rattle.vm_core.specs.Step.{on_page}
-use Rattle.vm_core.proofs.Upd.{upd-same, upd-other, upd-keeps, each-upd2, upd-self}
+use Rattle.std.proofs.Common.{◌∙◌, ◌≡◌, Bool, List, refl, subst, sym, ℕ}
+use Rattle.vm_core.specs.Prelude.{FrameInv, History, Inv, on_page, Page, PageInv, stands_in, State, upd, World}
+use Rattle.vm_core.specs.Inv.{Place}
+use Rattle.vm_core.proofs.Upd.{each-upd2, upd-keeps, upd-other, upd-same, upd-self}
 
 -- what holds of this page of the core
 abbrev pub PageHolds : State → Page → History → (ℕ → List (ℕ × ℕ)) → Type 0

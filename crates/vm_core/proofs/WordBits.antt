@@ -1,11 +1,10 @@
 -- The bits of bundle words, and the two parts of a translation word.
-use Rattle.std.proofs.Common.{ℕ, ◌≡◌, ◌<◌, ◌≤◌, ◌+◌, ◌-◌, ◌^◌, ◌%◌, ◌/◌, zero, suc, sym, ap, ◌∙◌, ⊎_elim, arith, min, bit_and, Some, true, false}
 use Rattle.std.specs.Int.{bit_at}
+use Rattle.std.proofs.Common.{⊎_elim, ◌%◌, ◌+◌, ◌-◌, ◌/◌, ◌<◌, ◌^◌, ◌∙◌, ◌≡◌, ◌≤◌, ap, arith, bit_and, false, min, Some, suc, sym, true, zero, ℕ}
 use Rattle.std.proofs.lemmas.Bool.{cases_eq, cases_lt, eq-eqb, ne_eqb}
 use Rattle.std.proofs.lemmas.Bool.Decides.{nat_tests}
-use Rattle.std.proofs.lemmas.Nat.Bits.{bit_at_and, bit_at-lt, bit_at_ones, bit_at_ones_above, same_from_bits}
-use Rattle.vm_core.specs.Fn.{sum_below}
-use Rattle.vm_core.specs.Words.{AreLowest, frame_in, is_dirty}
+use Rattle.std.proofs.lemmas.Nat.Bits.{bit_at-lt, bit_at_and, bit_at_ones, bit_at_ones_above, same_from_bits}
+use Rattle.vm_core.specs.Prelude.{AreLowest, frame_in, is_dirty, sum_below}
 use Rattle.vm_core.proofs.Upd.{sum_below-past}
 
 -- what is 0 from k on adds nothing

@@ -1,11 +1,7 @@
 -- The events on a page's translation and on frames: when each may happen, and the page afterwards.
-use Rattle.std.specs.Prelude.{ℕ, Bool, true, false, Option, Some, None, List, ◌≡◌, ◌+◌, ◌^◌, ◌==◌, ◌&&◌, ◌||◌, nat_lt, if◌then◌else◌, IsSome, is_some}
-use Rattle.vm_core.specs.declared.event.Mapping.{Mapping}
-use Rattle.vm_core.specs.declared.event.Open.{Open}
-use Rattle.vm_core.specs.Fn.{upd}
-use Rattle.vm_core.specs.Words.{frame_in, is_dirty}
-use Rattle.vm_core.specs.State.{Page}
-use Rattle.vm_core.specs.StateActs.{seated}
+use Rattle.std.specs.Prelude.{◌&&◌, ◌+◌, ◌==◌, ◌^◌, ◌||◌, ◌≡◌, Bool, false, if◌then◌else◌, is_some, IsSome, List, nat_lt, None, Option, Some, true, ℕ}
+use Rattle.vm_core.specs.{declared.event.Mapping.Mapping, declared.event.Open.Open, Fn.upd, State.Page, StateActs.seated, Words.frame_in}
+use Rattle.vm_core.specs.{Words.is_dirty}
 
 -- the page stands in this frame
 abbrev pub stands_in : Option Mapping → ℕ → Bool

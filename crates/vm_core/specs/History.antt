@@ -1,14 +1,12 @@
 -- The versions of each page, and the loads of each open read: read from the events.
-use Rattle.std.specs.Prelude.{ℕ, Bool, Option, Some, None, List, [], ◌∷◌, ◌++◌, ◌+◌, ◌&&◌, if◌then◌else◌, slice_set}
-use Rattle.vm_core.specs.declared.event.Event.{Event}
-use Rattle.vm_core.specs.declared.event.Event.TheVariants.{Look, LockX, LockS, UnlockS, Mark, Unmark, LockW, Upgrade, Release, ReleaseE, Downgrade, TLoad, Install, Clear, Dirty, Clean, Load, Store, BLoad, Take, Give, Read, RFail, Write, WFail, Raise, NLoad, Claim, Hand}
-use Rattle.vm_core.specs.declared.event.ReadIs.{ReadIs}
-use Rattle.vm_core.specs.declared.event.ReadIs.TheVariants.{Opened, Same, Moved, Closed}
-use Rattle.vm_core.specs.Fn.{upd}
-use Rattle.vm_core.specs.State.{Page, State}
-use Rattle.vm_core.specs.StateActs.{finds, left_of}
-use Rattle.vm_core.specs.FrameActs.{stands_in, load_frame, open_frame}
-use Rattle.vm_core.specs.Step.{after_event, word_at}
+use Rattle.std.specs.Prelude.{[], ◌&&◌, ◌++◌, ◌+◌, ◌∷◌, Bool, if◌then◌else◌, List, None, Option, slice_set, Some, ℕ}
+use Rattle.vm_core.specs.{declared.event.Event.Event, declared.event.ReadIs.ReadIs, Fn.upd, State.Page, State.State, StateActs.finds}
+use Rattle.vm_core.specs.{StateActs.left_of, Step.after_event, Step.word_at}
+use Rattle.vm_core.specs.declared.event.Event.TheVariants.{BLoad, Claim, Clean, Clear, Dirty, Downgrade, Give, Hand, Install, Load, LockS, LockW}
+use Rattle.vm_core.specs.declared.event.Event.TheVariants.{LockX, Look, Mark, NLoad, Raise, Read, Release, ReleaseE, RFail, Store, Take, TLoad}
+use Rattle.vm_core.specs.declared.event.Event.TheVariants.{UnlockS, Unmark, Upgrade, WFail, Write}
+use Rattle.vm_core.specs.declared.event.ReadIs.TheVariants.{Closed, Moved, Opened, Same}
+use Rattle.vm_core.specs.FrameActs.{load_frame, open_frame, stands_in}
 
 pub record Version : Type 0 where
   pub version : ℕ

@@ -2,19 +2,14 @@
 -- nor evicted is resident; its words stand in its frame, and where it is clean or evicted in its block too; the fault word is the block's
 -- count where nobody may call the device; an open read at the page's version has read the page's frame. Over the frames: each stands in one
 -- place. Over the words: each frame, block, version and draft has 64.
-use Rattle.std.specs.Prelude.{ℕ, Bool, true, false, Option, Some, None, List, [], ◌∷◌, ◌≡◌, ◌≢◌, ◌<◌, ◌≤◌, ◌==◌, if◌then◌else◌, IsSome, nat_lt, slice_index, length}
 use Rattle.std.specs.List.{AllByRecursion}
+use Rattle.std.specs.Prelude.{[], ◌<◌, ◌==◌, ◌∷◌, ◌≡◌, ◌≢◌, ◌≤◌, Bool, false, if◌then◌else◌, IsSome, length, List, nat_lt, None, Option, slice_index}
+use Rattle.std.specs.Prelude.{Some, true, ℕ}
 use Rattle.vm_page.specs.declared.buf.TheConstants.{WORDS}
-use Rattle.vm_core.specs.declared.event.Event.{Event}
-use Rattle.vm_core.specs.declared.event.Mapping.{Mapping}
-use Rattle.vm_core.specs.declared.event.Open.{Open}
-use Rattle.vm_core.specs.declared.event.Seat.{Seat}
-use Rattle.vm_core.specs.Fn.{sum_below}
-use Rattle.vm_core.specs.Words.{has_free_bit, LOCKED, EVICTED, MAX_VERSION}
-use Rattle.vm_core.specs.State.{Page, State}
-use Rattle.vm_core.specs.FrameActs.{stands_in}
+use Rattle.vm_core.specs.{declared.event.Event.Event, declared.event.Mapping.Mapping, declared.event.Open.Open, declared.event.Seat.Seat}
+use Rattle.vm_core.specs.{Fn.sum_below, FrameActs.stands_in, State.Page, State.State, Step.Legal}
 use Rattle.vm_core.specs.History.{History, World, world_after}
-use Rattle.vm_core.specs.Step.{Legal}
+use Rattle.vm_core.specs.Words.{EVICTED, has_free_bit, LOCKED, MAX_VERSION}
 
 -- how many shares a state says there are
 abbrev pub share_count : ℕ → ℕ

@@ -1,14 +1,10 @@
 -- A validated read saw one version.
-use Rattle.std.specs.Prelude.{ℕ, true, Option, Some, List, [], ◌∷◌, ◌≡◌}
-use Rattle.vm_core.specs.declared.event.Event.{Event}
-use Rattle.vm_core.specs.declared.event.Event.TheVariants.{Look, LockX, LockS, UnlockS, Mark, Unmark, LockW, Upgrade, Release, ReleaseE, Downgrade, TLoad, Install, Clear, Dirty, Clean, Load, Store, BLoad, Take, Give, Read, RFail, Write, WFail, Raise, NLoad, Claim, Hand}
-use Rattle.vm_core.specs.declared.event.Open.{Open}
-use Rattle.vm_core.specs.declared.event.ReadIs.TheVariants.{Same}
-use Rattle.vm_core.specs.Words.{version_of}
-use Rattle.vm_core.specs.StateActs.{finds, left_of}
-use Rattle.vm_core.specs.History.{World, world_after}
-use Rattle.vm_core.specs.Inv.{Inv, LoadsAre}
-use Rattle.vm_core.specs.Step.{Legal}
+use Rattle.std.specs.Prelude.{[], ◌∷◌, ◌≡◌, List, Option, Some, true, ℕ}
+use Rattle.vm_core.specs.{declared.event.Event.Event, declared.event.Open.Open, declared.event.ReadIs.TheVariants.Same, History.World}
+use Rattle.vm_core.specs.{History.world_after, Inv.Inv, Inv.LoadsAre, StateActs.finds, StateActs.left_of, Step.Legal, Words.version_of}
+use Rattle.vm_core.specs.declared.event.Event.TheVariants.{BLoad, Claim, Clean, Clear, Dirty, Downgrade, Give, Hand, Install, Load, LockS, LockW}
+use Rattle.vm_core.specs.declared.event.Event.TheVariants.{LockX, Look, Mark, NLoad, Raise, Read, Release, ReleaseE, RFail, Store, Take, TLoad}
+use Rattle.vm_core.specs.declared.event.Event.TheVariants.{UnlockS, Unmark, Upgrade, WFail, Write}
 
 -- the last version has the version of the actor's open read, and each word loaded through it is the word at its place there
 pub record IsOneVersion (w : World) (a p : ℕ) (o : Open) : Type 0 where

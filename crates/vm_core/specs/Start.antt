@@ -1,13 +1,9 @@
 -- The core at the start: every page evicted at the first version, every frame free.
-use Rattle.std.specs.Prelude.{ℕ, Bool, true, false, None, List, [], ◌+◌, ◌-◌, ◌*◌, ◌^◌, ◌≡◌, ◌≤◌, nat_lt, if◌then◌else◌, replicate, min, map, length}
 use Rattle.std.specs.List.{range_with_len}
+use Rattle.std.specs.Prelude.{[], ◌*◌, ◌+◌, ◌-◌, ◌^◌, ◌≡◌, ◌≤◌, Bool, false, if◌then◌else◌, length, List, map, min, nat_lt, None, replicate, true, ℕ}
 use Rattle.vm_page.specs.declared.buf.TheConstants.{WORDS}
-use Rattle.vm_core.specs.declared.event.CoreShape.{CoreShape}
-use Rattle.vm_core.specs.declared.event.Seat.{Seat}
-use Rattle.vm_core.specs.Words.{EVICTED, MAX_VERSION}
-use Rattle.vm_core.specs.State.{Page, State}
-use Rattle.vm_core.specs.History.{World}
-use Rattle.vm_core.specs.declared.words.TheConstants.{FRAMES}
+use Rattle.vm_core.specs.{declared.event.CoreShape.CoreShape, declared.event.Seat.Seat, declared.words.TheConstants.FRAMES, History.World, State.Page}
+use Rattle.vm_core.specs.{State.State, Words.EVICTED, Words.MAX_VERSION}
 
 -- what a core starts from: its shape with the next word, the first version of its pages, and the blocks handed in by their words and
 -- counts of faults, and whether they tell their words

@@ -1,12 +1,8 @@
 -- What the invariant tells, said in full: each frame stands in one place, the device holds what is not in a frame alone, the fault words.
-use Rattle.std.specs.Prelude.{ℕ, true, false, Some, ◌≡◌, ◌≢◌, ◌<◌, ◌≤◌}
-use Rattle.vm_core.specs.declared.event.Mapping.{Mapping}
-use Rattle.vm_core.specs.Words.{has_free_bit, LOCKED, EVICTED}
-use Rattle.vm_core.specs.State.{Page, State}
-use Rattle.vm_core.specs.FrameActs.{stands_in}
-use Rattle.vm_core.specs.History.{History, World}
-use Rattle.vm_core.specs.Inv.{Place}
-use Rattle.vm_core.specs.Inv.Place.{Nowhere, Free, Held, Mapped}
+use Rattle.std.specs.Prelude.{◌<◌, ◌≡◌, ◌≢◌, ◌≤◌, false, Some, true, ℕ}
+use Rattle.vm_core.specs.{declared.event.Mapping.Mapping, FrameActs.stands_in, History.History, History.World, Inv.Place, State.Page, State.State}
+use Rattle.vm_core.specs.Inv.Place.{Free, Held, Mapped, Nowhere}
+use Rattle.vm_core.specs.Words.{EVICTED, has_free_bit, LOCKED}
 
 -- the frame stands in this place
 abbrev pub StandsAt : State → ℕ → Place → Type 0

@@ -1,8 +1,10 @@
 -- The words of the machine.
-use Rattle.std.specs.Prelude.{ℕ, ◌≡◌, ◌<◌, ◌+◌, ◌-◌, ◌*◌, ◌/◌, ◌%◌, ◌^◌, ◌==◌, ◌&&◌, ◌||◌, Bool, Option, Some, None, min, nat_lt, if◌then◌else◌, bit_and}
 use Rattle.std.specs.Int.{bit_at}
-use Rattle.vm_core.specs.Fn.{sum_below}
-use Rattle.vm_core.specs.declared.words.TheConstants.{FRAMES, STRIDE}
+use Rattle.std.specs.Prelude.{◌%◌, ◌&&◌, ◌*◌, ◌+◌, ◌-◌, ◌/◌, ◌<◌, ◌==◌, ◌^◌, ◌||◌, ◌≡◌, bit_and, Bool, if◌then◌else◌, min, nat_lt, None, Option, Some}
+use Rattle.std.specs.Prelude.{ℕ}
+pub use Rattle.vm_page.specs.Counts.{MAX_COUNT}
+unfoldable pub use Rattle.vm_page.specs.Counts.{count_more}
+use Rattle.vm_core.specs.{declared.words.TheConstants.FRAMES, declared.words.TheConstants.STRIDE, Fn.sum_below}
 
 -- a state word has its state in the top 8 bits, and its version below
 unfoldable pub word_of : ℕ → ℕ → ℕ
@@ -29,14 +31,6 @@ EVICTED = 255
 -- the last version
 abbrev pub MAX_VERSION : ℕ
 MAX_VERSION = 72057594037927935
-
--- the last value of a count of faults: a word of 64 bits
-abbrev pub MAX_COUNT : ℕ
-MAX_COUNT = 18446744073709551615
-
--- one fault more; a count stays at its last value
-unfoldable pub count_more : ℕ → ℕ
-count_more count = min (count + 1) MAX_COUNT
 
 -- the clock's next place: 64 further, wrapping
 unfoldable pub hand_more : ℕ → ℕ

@@ -1,9 +1,7 @@
 //! The words of frames, and the set of frames that an actor holds.
 
-ghost use Rattle.std.specs.Prelude.{ℕ, ◌≡◌, ◌<◌, ◌/◌, List, length, bit_or, true, false, if◌then◌else◌, IsTrue, ◌↔◌, IfOk, replicate};
-ghost use Rattle.vm_core.specs.Fn.{at, upd};
-ghost use Rattle.vm_core.specs.PageOf.{words_of_frames};
-ghost use Rattle.vm_core.specs.Words.{in_mask, has_free_bit};
+ghost use Rattle.std.specs.Prelude.{◌/◌, ◌<◌, ◌↔◌, ◌≡◌, bit_or, false, IfOk, if◌then◌else◌, IsTrue, length, List, replicate, true, ℕ};
+ghost use Rattle.vm_core.specs.Prelude.{at, has_free_bit, in_mask, upd, words_of_frames};
 
 use crate::words::FRAMES;
 use std::alloc::{AllocError, Global};

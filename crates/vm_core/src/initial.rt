@@ -1,8 +1,7 @@
 //! The lists of a machine at the start.
 
-ghost use Rattle.std.specs.Prelude.{◌≡◌, ◌<◌, ◌+◌, ◌-◌, ◌*◌, ◌/◌, replicate, IfOk};
-ghost use Rattle.vm_core.specs.Making.{StartBundles, StartPages};
-ghost use Rattle.vm_core.specs.Start.{core_block, full_bundle};
+ghost use Rattle.std.specs.Prelude.{◌*◌, ◌+◌, ◌-◌, ◌/◌, ◌<◌, ◌≡◌, IfOk, replicate};
+ghost use Rattle.vm_core.specs.Prelude.{core_block, full_bundle, StartBundles, StartPages};
 
 use crate::event::CoreShape;
 use crate::frames::FrameSet;

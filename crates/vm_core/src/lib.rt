@@ -16,4 +16,4 @@ mod words;
 pub use event::{CoreShape, Event, Illegal, Mapping, Open, PageAct, ReadIs, Seat, Seen};
 pub use machine::{Core, Memory};
 pub use playing::{ReplayFault, replay};
-pub use words::{Bundle, FRAMES, MAX_VERSION, STRIDE, StateWord, TransWord};
+pub use words::{Bundle, DIRTY, FRAMES, MAX_VERSION, STRIDE, StateWord, TransWord};

@@ -3,11 +3,9 @@
 //! It is the rule book of the running pool: which events may happen in a state, the state that each leads to, and what it sees. The events
 //! on frames, bundles and counters stand in the child modules, those on one page in `page`.
 
-ghost use Rattle.std.specs.Prelude.{slice_index, ◌≡◌, ◌<◌, ◌≤◌, IsTrue, ◌↔◌, IfOk};
-ghost use Rattle.vm_core.specs.CoreOf.{ActSteps, CoreFits, Steps};
-ghost use Rattle.vm_core.specs.PageOf.{CoreData, core_of};
-ghost use Rattle.vm_core.specs.Start.{core_start, start};
-ghost use Rattle.vm_core.specs.Step.{NamesActorAndPage};
+ghost use Rattle.std.specs.Prelude.{◌<◌, ◌↔◌, ◌≡◌, ◌≤◌, IfOk, IsTrue, slice_index};
+ghost use Rattle.vm_core.specs.Prelude.{core_of, core_start, CoreData, CoreFits, NamesActorAndPage, start, Steps};
+ghost use Rattle.vm_core.specs.CoreOf.{ActSteps};
 
 mod bundles;
 mod counters;

@@ -3,14 +3,8 @@
 //! The events on it stand in the child modules: the exclusive lock, shares and write-back, optimistic reads, the frame under the page, its
 //! device. Each is tried (`try_..`): first whether it may happen, then the change.
 
-ghost use Rattle.std.specs.Prelude.{◌≡◌, ◌<◌, length, IfOk, None, slice_index};
-ghost use Rattle.vm_core.specs.CoreOf.{PageSteps};
-ghost use Rattle.vm_core.specs.Fn.{at};
-ghost use Rattle.vm_core.specs.FrameActs.{trans_word};
-ghost use Rattle.vm_core.specs.Inv.{LocksInv};
-ghost use Rattle.vm_core.specs.PageOf.{PageData, page_of};
-ghost use Rattle.vm_core.specs.Start.{core_block, evicted_page, no_seat};
-ghost use Rattle.vm_core.specs.StateActs.{finds, page_word};
+ghost use Rattle.std.specs.Prelude.{◌<◌, ◌≡◌, IfOk, length, None, slice_index};
+ghost use Rattle.vm_core.specs.Prelude.{at, core_block, evicted_page, finds, LocksInv, no_seat, page_of, page_word, PageData, PageSteps, trans_word};
 
 mod device;
 mod exclusive;

@@ -1,8 +1,7 @@
 //! Lists of events, played on a machine.
 
-ghost use Rattle.std.specs.Prelude.{IfOk, IfErr};
-ghost use Rattle.vm_core.specs.PageOf.{core_of};
-ghost use Rattle.vm_core.specs.Replay.{Replayed};
+ghost use Rattle.std.specs.Prelude.{IfErr, IfOk};
+ghost use Rattle.vm_core.specs.Prelude.{core_of, Replayed};
 
 use crate::event::{Event, Seen};
 use crate::machine::Core;

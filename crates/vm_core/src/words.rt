@@ -1,8 +1,8 @@
 //! The words that a pool shares: the state word and the translation word of a page, and the word of a bundle of 64 frames.
 
-ghost use Rattle.std.specs.Prelude.{◌≡◌, ◌<◌, ◌^◌, Some};
-ghost use Rattle.vm_core.specs.FrameActs.{trans_word};
-ghost use Rattle.vm_core.specs.Words.{AreLowest, frame_in, is_dirty, state_of, version_of, word_of};
+ghost use Rattle.std.specs.Prelude.{◌<◌, ◌^◌, ◌≡◌, Some};
+ghost use Rattle.vm_core.specs.Prelude.{frame_in, is_dirty, state_of, trans_word, version_of, word_of};
+ghost use Rattle.vm_core.specs.Words.{AreLowest};
 
 /// The last version of a page.
 pub const MAX_VERSION: u64 = 0x00FF_FFFF_FFFF_FFFF;
@@ -11,7 +11,7 @@ pub const MAX_VERSION: u64 = 0x00FF_FFFF_FFFF_FFFF;
 const VERSIONS: u64 = 0x0100_0000_0000_0000;
 
 /// The top bit of a translation word.
-const DIRTY: u64 = 0x8000_0000_0000_0000;
+pub const DIRTY: u64 = 0x8000_0000_0000_0000;
 
 /// A state word: the state in the top 8 bits, the version in the 56 bits below.
 ///

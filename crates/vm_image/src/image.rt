@@ -12,6 +12,9 @@ use std::alloc::{AllocError, Global};
 use std::marker::Model;
 use vm_page::{PageBuf, WORDS};
 
+/// The first word of a page file: the bytes "VMCACHE1".
+pub const MAGIC: u64 = 0x564D_4341_4348_4531;
+
 /// 2 to 65,536 pages of 64 words: contracts see the list of their words.
 #[derive(Drop)]
 pub struct Image {

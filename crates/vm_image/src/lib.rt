@@ -9,6 +9,6 @@ mod zeros;
 
 pub use blocks::{PlannedFault, blocks_of, image_of};
 pub use fault::ImageFault;
-pub use image::{Image, read_image};
+pub use image::{Image, MAGIC, read_image};
 pub use memory::Memory;
 pub use zeros::{is_free, is_zero_from};

@@ -1,13 +1,10 @@
 -- When a fault may be answered: a count of failures never falls, and rose in the call or stands at its last value.
-use Rattle.std.specs.Prelude.{ℕ, ◌+◌, ◌-◌, ◌^◌, ◌≤◌, ◌<◌, ◌≡◌, List, min, Result, OnOk, OnErr, IfOk}
-
--- a count after one more, which stands still at the last value
-abbrev pub one_more : ℕ → ℕ
-one_more before = min (before + 1) (2 ^ 64 - 1)
+use Rattle.std.specs.Prelude.{ℕ, ◌≤◌, ◌<◌, ◌≡◌, List, Result, OnOk, OnErr, IfOk}
+use Rattle.vm_page.specs.Counts.{count_more}
 
 -- one more at least, or at the last value
 abbrev pub Rose : ℕ → ℕ → Type 0
-Rose before now = one_more before ≤ now
+Rose before now = count_more before ≤ now
 
 -- a count of failures never falls, and a failure raises it
 pub record HasCause {T E : Type 0} (before now : ℕ) (result : Result T E) : Type 0 where

@@ -1,6 +1,7 @@
 -- What a host in memory shows, and which of its calls fail.
-use Rattle.std.specs.Prelude.{ℕ, ◌+◌, ◌-◌, ◌^◌, ◌≡◌, List, [], length, min, Bool, ◌&&◌, not, is_some, Some, nat_eq}
+use Rattle.std.specs.Prelude.{ℕ, ◌-◌, ◌≡◌, List, [], length, min, Bool, ◌&&◌, not, is_some, Some, nat_eq}
 use Rattle.std.specs.List.{list_any}
+use Rattle.vm_page.specs.Counts.{count_more}
 use Rattle.vm_io.specs.Shown.{Shown}
 use Rattle.vm_io.specs.InMemory.{first_named, shown_in, can_hold, is_within}
 use Rattle.vm_io.specs.declared.memory.MemHost.{MemHost}
@@ -33,7 +34,7 @@ last_failed host = host.faults.last.bytes
 
 -- the number of the next call
 abbrev pub next_call : MemHost → ℕ
-next_call host = min (calls_of host + 1) (2 ^ 64 - 1)
+next_call host = count_more (calls_of host)
 
 -- whether the next call is to fail
 abbrev pub is_planned : MemHost → Bool

@@ -1,6 +1,7 @@
 // What each host keeps of its failures: takes and gives are counted apart, each up to the greatest `u64`.
 ghost use Rattle.std.specs.Prelude.{◌≡◌, ℕ, ◌+◌, ◌-◌, ◌^◌, ◌≤◌, ◌<◌, min, []};
-ghost use Rattle.vm_io.specs.Causes.{SameTakes, one_more};
+ghost use Rattle.vm_page.specs.Counts.{count_more};
+ghost use Rattle.vm_io.specs.Causes.{SameTakes};
 
 use crate::host::Failed;
 use crate::last_name::LastName;
@@ -13,6 +14,7 @@ pub struct Faults {
     pub last: LastName,
 }
 
+#[tactic(auto, unfolding(vm_page::specs::Counts::count_more))]
 impl Faults {
     pub fn new() -> Self
         ensures takes { result.takes ≡ 0 }
@@ -28,7 +30,7 @@ impl Faults {
 
     /// Counts a failed take.
     pub fn fail_take(&mut self, name: &str) -> Failed
-        ensures counted { self.new.takes ≡ one_more self.old.takes }
+        ensures counted { self.new.takes ≡ count_more self.old.takes }
         ensures later { self.old.takes ≤ self.new.takes }
         ensures named { self.new.last.bytes ≡ name.now }
         ensures apart { self.new.gives ≡ self.old.gives }
@@ -40,7 +42,7 @@ impl Faults {
 
     /// Counts a failed put or say.
     pub fn fail_give(&mut self) -> Failed
-        ensures counted { self.new.gives ≡ one_more self.old.gives }
+        ensures counted { self.new.gives ≡ count_more self.old.gives }
         ensures later { self.old.gives ≤ self.new.gives }
         ensures apart { SameTakes self.old.takes self.new.takes self.old.last.bytes self.new.last.bytes }
     {

@@ -105,6 +105,7 @@ fn put_piece<H: Host>(
 }
 
 /// Makes a file hold just these bytes. The first call empties the file, also where there are no bytes to put.
+#[tactic(auto, unfolding(vm_page::specs::Counts::count_more))]
 pub fn put_all<H: Host>(host: &mut H, name: &str, bytes: &[u8]) -> Result<(), PutFault>
     ensures put { OnOk result (Holds (H.shown host.old) (H.shown host.new) name.now bytes.now) }
     ensures front { HoldsSome (H.shown host.old) (H.shown host.new) name.now bytes.now }
@@ -120,6 +121,7 @@ pub fn put_all<H: Host>(host: &mut H, name: &str, bytes: &[u8]) -> Result<(), Pu
 }
 
 /// Says all bytes.
+#[tactic(auto, unfolding(vm_page::specs::Counts::count_more))]
 pub fn say_all<H: Host>(host: &mut H, bytes: &[u8]) -> Result<(), PutFault>
     ensures said { OnOk result (SaidFront (H.shown host.old) (H.shown host.new) bytes.now (length bytes.now)) }
     ensures front { SaidSome (H.shown host.old) (H.shown host.new) bytes.now }

@@ -1,6 +1,7 @@
 // A host in memory for tests: it fails exactly where its plan, a missing file or its room says so.
 ghost use Rattle.std.specs.Prelude.{◌≡◌, ℕ, ◌+◌, ◌-◌, ◌^◌, ◌≤◌, ◌<◌, ◌++◌, ◌⊎◌, min, take, drop, map, length, Some, IfOk, is_ok, if◌then◌else◌, option_map, string_bytes};
-ghost use Rattle.vm_io.specs.Causes.{HasCause, HasStuckCause, HasTakeCause, SameTakes, one_more};
+ghost use Rattle.vm_page.specs.Counts.{count_more};
+ghost use Rattle.vm_io.specs.Causes.{HasCause, HasStuckCause, HasTakeCause, SameTakes};
 ghost use Rattle.vm_io.specs.Shown.{Takes, Puts, Says};
 ghost use Rattle.vm_io.specs.Planned.{shown_of, failed_takes, failed_gives, last_failed, next_call, is_planned, can_take, can_put, can_say, IsNext, IsFresh, IsMostTaken};
 
@@ -53,6 +54,7 @@ impl MemHost {
     }
 
     // Counts a call, and says whether the plan lets it fail.
+    #[tactic(auto, unfolding(vm_page::specs::Counts::count_more))]
     fn is_planned(&mut self) -> bool
         ensures planned { result ≡ is_planned self.old }
         ensures keeps { self.new ≡ record self.old { calls = next_call self.old } }
@@ -78,7 +80,7 @@ impl Host for MemHost {
         ensures cause { HasTakeCause (failed_takes self.old) (failed_takes self.new) (last_failed self.old) (last_failed self.new) name.now result }
         ensures apart { failed_gives self.new ≡ failed_gives self.old }
         ensures exact { is_ok result ≡ can_take self.old name.now }
-        ensures counted { failed_takes self.new ≡ (if is_ok result then failed_takes self.old else one_more (failed_takes self.old)) }
+        ensures counted { failed_takes self.new ≡ (if is_ok result then failed_takes self.old else count_more (failed_takes self.old)) }
         ensures most { IfOk result (λ n. IsMostTaken (shown_of self.old) name.now at (length into.old) n) }
         ensures next { IsNext self.old self.new }
     {
@@ -98,7 +100,7 @@ impl Host for MemHost {
         ensures stuck { HasStuckCause (failed_gives self.old) (failed_gives self.new) (length piece.now) result }
         ensures apart { SameTakes (failed_takes self.old) (failed_takes self.new) (last_failed self.old) (last_failed self.new) }
         ensures exact { is_ok result ≡ can_put self.old name.now first piece.now }
-        ensures counted { failed_gives self.new ≡ (if is_ok result then failed_gives self.old else one_more (failed_gives self.old)) }
+        ensures counted { failed_gives self.new ≡ (if is_ok result then failed_gives self.old else count_more (failed_gives self.old)) }
         ensures whole { IfOk result (λ n. n ≡ length piece.now) }
         ensures next { IsNext self.old self.new }
     {
@@ -118,7 +120,7 @@ impl Host for MemHost {
         ensures stuck { HasStuckCause (failed_gives self.old) (failed_gives self.new) (length piece.now) result }
         ensures apart { SameTakes (failed_takes self.old) (failed_takes self.new) (last_failed self.old) (last_failed self.new) }
         ensures exact { is_ok result ≡ can_say self.old piece.now }
-        ensures counted { failed_gives self.new ≡ (if is_ok result then failed_gives self.old else one_more (failed_gives self.old)) }
+        ensures counted { failed_gives self.new ≡ (if is_ok result then failed_gives self.old else count_more (failed_gives self.old)) }
         ensures whole { IfOk result (λ n. n ≡ length piece.now) }
         ensures next { IsNext self.old self.new }
     {

@@ -1,13 +1,10 @@
 -- The calls of a page's device, and a fault word that is raised, keep what holds of the page.
-use Rattle.std.proofs.Common.{ℕ, ◌≡◌, refl, sym, ap, ◌∙◌, ⊎_elim, Bool, List, Some, Option, length}
+use Rattle.std.proofs.Common.{⊎_elim, ◌∙◌, ◌≡◌, ap, Bool, length, List, Option, refl, Some, sym, ℕ}
 use Rattle.std.proofs.lemmas.Bool.{true≢false}
-use Rattle.vm_core.specs.declared.event.Mapping.{Mapping}
-use Rattle.vm_core.specs.State.{Page}
-use Rattle.vm_core.specs.DeviceActs.{MayCall, MayWrite, block_after, written, failed, raised}
-use Rattle.vm_core.specs.History.{History}
-use Rattle.vm_core.specs.Inv.{PageInv, StandsInv, WordsInv}
+use Rattle.vm_core.specs.Prelude.{block_after, History, MayCall, Page, PageInv, raised, StandsInv, WordsInv, written}
+use Rattle.vm_core.specs.{declared.event.Mapping.Mapping, DeviceActs.failed, DeviceActs.MayWrite}
 use Rattle.vm_core.proofs.Locks.{locked-from_owner}
-use Rattle.vm_core.proofs.PageFacts.{some-is, some-same, none-some}
+use Rattle.vm_core.proofs.PageFacts.{none-some, some-is, some-same}
 
 -- a failed call, of the holder or of the one that writes back
 pub failed-keeps : {actors : ℕ} → {tells : Bool} → {words : ℕ → List ℕ} → {r : Page} → {h : History} → {l : ℕ → List (ℕ × ℕ)} → (a : ℕ) → PageInv actors tells words r h l → MayCall r a → PageInv actors tells words (failed r) h l

@@ -1,9 +1,8 @@
 -- Each event on a device, the next word or the hand keeps the invariant.
-use Rattle.std.proofs.Common.{ℕ, refl, inl, ⊎_elim, eqb}
+use Rattle.std.proofs.Common.{⊎_elim, eqb, inl, refl, ℕ}
 use Rattle.std.proofs.lemmas.Bool.{cases_Bool}
-use Rattle.vm_core.specs.declared.event.Event.TheVariants.{Read, RFail, Write, WFail, Raise, NLoad, Claim, Hand}
-use Rattle.vm_core.specs.History.{World}
-use Rattle.vm_core.specs.Inv.{Keeps}
+use Rattle.vm_core.specs.Prelude.{Keeps, World}
+use Rattle.vm_core.specs.declared.event.Event.TheVariants.{Claim, Hand, NLoad, Raise, Read, RFail, WFail, Write}
 use Rattle.vm_core.proofs.Whole.{page-alone}
 use Rattle.vm_laws_device.proofs.Device.{failed-keeps, raised-keeps, written-keeps}
 

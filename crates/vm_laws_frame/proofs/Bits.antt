@@ -1,13 +1,11 @@
 -- Bundle bits that are taken and given.
-use Rattle.std.proofs.Common.{ℕ, ◌≡◌, ◌+◌, ◌<◌, ◌/◌, ◌%◌, ◌⊎◌, sym, ap, ◌∙◌, inl, inr, ⊎_elim, arith, true, false, eqb, min, max, bit_and, bit_or}
-use Rattle.std.specs.Prelude.{bit_xor}
 use Rattle.std.specs.Int.{bit_at}
-use Rattle.std.proofs.lemmas.Bool.{cases_eq, eq-eqb, ne_eqb, and_left, and_right, and_from}
-use Rattle.std.proofs.lemmas.Nat.Bits.{bit_at_and, bit_at_or, bit_at_xor, bit_at-lt}
-use Rattle.vm_core.specs.Fn.{upd}
-use Rattle.vm_core.specs.Words.{has_free_bit, in_mask}
-use Rattle.vm_core.proofs.Masks.{apart}
-use Rattle.vm_core.proofs.Upd.{upd-same, upd-other}
+use Rattle.std.specs.Prelude.{bit_xor}
+use Rattle.std.proofs.Common.{⊎_elim, ◌%◌, ◌+◌, ◌/◌, ◌<◌, ◌∙◌, ◌≡◌, ◌⊎◌, ap, arith, bit_and, bit_or, eqb, false, inl, inr, max, min, sym, true, ℕ}
+use Rattle.std.proofs.lemmas.Bool.{and_from, and_left, and_right, cases_eq, eq-eqb, ne_eqb}
+use Rattle.std.proofs.lemmas.Nat.Bits.{bit_at-lt, bit_at_and, bit_at_or, bit_at_xor}
+use Rattle.vm_core.specs.Prelude.{has_free_bit, in_mask, upd}
+use Rattle.vm_core.proofs.{Masks.apart, Upd.upd-other, Upd.upd-same}
 
 -- one bit of a word, of a mask among it, and of their difference
 bits-cases : (x m y : ℕ) → x < 2 → m < 2 → m ≡ min m x → y ≡ (x + m) % 2 → ((m ≡ 1) × (x ≡ 1) × (y ≡ 0)) ⊎ ((m ≡ 0) × (y ≡ x))

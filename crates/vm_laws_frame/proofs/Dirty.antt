@@ -1,17 +1,11 @@
 -- A translation that is made dirty or clean keeps what holds of the page.
-use Rattle.std.proofs.Common.{ℕ, ◌≡◌, ◌≢◌, ◌≤◌, ◌<◌, refl, sym, ap, subst, ◌∙◌, arith, Bool, true, false, List, Some, None, Option, IsSome}
+use Rattle.std.proofs.Common.{◌<◌, ◌∙◌, ◌≡◌, ◌≢◌, ◌≤◌, ap, arith, Bool, false, IsSome, List, None, Option, refl, Some, subst, sym, true, ℕ}
 use Rattle.std.proofs.lemmas.Bool.{true≢false}
-use Rattle.vm_core.specs.declared.event.Mapping.{Mapping}
-use Rattle.vm_core.specs.declared.event.Open.{Open}
-use Rattle.vm_core.specs.declared.event.Seat.{Seat}
-use Rattle.vm_core.specs.Fn.{sum_below}
-use Rattle.vm_core.specs.Words.{LOCKED, EVICTED}
-use Rattle.vm_core.specs.State.{Page}
-use Rattle.vm_core.specs.FrameActs.{stands_in, with_dirty, MayDirty, dirtied, MayClean, cleaned}
-use Rattle.vm_core.specs.History.{History}
-use Rattle.vm_core.specs.Inv.{PageInv, LocksInv, ReadInv, ReadsPage, LoadsAre}
-use Rattle.vm_core.proofs.Locks.{locked-from_owner, sum_below-at, shared-state}
-use Rattle.vm_core.proofs.PageFacts.{some-is, some-same, none-some}
+use Rattle.vm_core.specs.Prelude.{EVICTED, History, LoadsAre, LOCKED, LocksInv, MayClean, MayDirty, Page, PageInv, ReadInv, ReadsPage, stands_in}
+use Rattle.vm_core.specs.Prelude.{sum_below, with_dirty}
+use Rattle.vm_core.specs.{declared.event.Mapping.Mapping, declared.event.Open.Open, declared.event.Seat.Seat, FrameActs.cleaned, FrameActs.dirtied}
+use Rattle.vm_core.proofs.Locks.{locked-from_owner, shared-state, sum_below-at}
+use Rattle.vm_core.proofs.PageFacts.{none-some, some-is, some-same}
 
 -- the frame of the translation stays
 pub dirty-stands : (dirty : Bool) (trans : Option Mapping) (f : ℕ) → stands_in (with_dirty dirty trans) f ≡ stands_in trans f

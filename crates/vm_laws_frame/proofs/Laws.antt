@@ -1,24 +1,17 @@
 -- Each event on translations and frames keeps the invariant.
-use Rattle.std.proofs.Common.{ℕ, ◌≡◌, refl, sym, ap, subst, ◌∙◌, ⊎_elim, Bool, true, false, eqb, cond, length}
+use Rattle.std.proofs.Common.{⊎_elim, ◌∙◌, ◌≡◌, ap, Bool, cond, eqb, false, length, refl, subst, sym, true, ℕ}
+use Rattle.std.proofs.lemmas.Bool.{and_from, and_right, cases_Bool, eq-eqb, eqb-true, ne_eqb, true≢false}
 use Rattle.std.proofs.lemmas.List.{length-set}
-use Rattle.std.proofs.lemmas.Bool.{cases_Bool, true≢false, eqb-true, eq-eqb, ne_eqb, and_from, and_right}
-use Rattle.vm_core.specs.declared.event.Event.TheVariants.{TLoad, Install, Clear, Dirty, Clean, Load, Store, BLoad, Take, Give}
-use Rattle.vm_core.specs.Fn.{upd}
-use Rattle.vm_core.specs.Words.{has_free_bit, in_mask}
-use Rattle.vm_core.specs.State.{Page, State}
-use Rattle.vm_core.specs.FrameActs.{HoldsAt, stands_in, installed, cleared, gains}
-use Rattle.vm_core.specs.History.{World}
-use Rattle.vm_core.specs.Inv.{Keeps, Inv, FrameInv, PageInv, at_actor, at_page}
-use Rattle.vm_core.specs.Inv.Place.{Free, Held, Mapped}
-use Rattle.vm_core.specs.Step.{Legal}
-use Rattle.vm_core.proofs.Upd.{upd-same, upd-other, upd-keeps, upd-map, each-upd}
+use Rattle.vm_core.specs.Prelude.{at_actor, at_page, cleared, FrameInv, Free, gains, has_free_bit, HoldsAt, in_mask, installed, Inv, Keeps, Legal}
+use Rattle.vm_core.specs.Prelude.{Mapped, Page, PageInv, stands_in, State, upd, World}
+use Rattle.vm_core.specs.declared.event.Event.TheVariants.{BLoad, Clean, Clear, Dirty, Give, Install, Load, Store, Take, TLoad}
+use Rattle.vm_core.specs.Inv.Place.{Held}
+use Rattle.vm_core.proofs.Upd.{each-upd, upd-keeps, upd-map, upd-other, upd-same}
 use Rattle.vm_core.proofs.Whole.{frame-same, page-alone, pages-page}
-use Rattle.vm_laws_frame.proofs.Bits.{taken-free, given-free}
-use Rattle.vm_laws_frame.proofs.Dirty.{dirty-stands, dirtied-keeps, cleaned-keeps}
-use Rattle.vm_laws_frame.proofs.Places.{mapped-place, frame-install, frame-clear, frame-take, frame-give}
-use Rattle.vm_laws_frame.proofs.Put.{installed-keeps, cleared-keeps}
-use Rattle.vm_laws_frame.proofs.Read.{frame_read-keeps, loaded-keeps}
-use Rattle.vm_laws_frame.proofs.Store.{store-here, store-elsewhere}
+use Rattle.vm_laws_frame.proofs.{Bits.given-free, Bits.taken-free, Put.cleared-keeps, Put.installed-keeps, Read.frame_read-keeps, Read.loaded-keeps}
+use Rattle.vm_laws_frame.proofs.{Store.store-elsewhere, Store.store-here}
+use Rattle.vm_laws_frame.proofs.Dirty.{cleaned-keeps, dirtied-keeps, dirty-stands}
+use Rattle.vm_laws_frame.proofs.Places.{frame-clear, frame-give, frame-install, frame-take, mapped-place}
 
 pub translation_load_law : (w : World) (a p : ℕ) → Keeps w (TLoad a p)
 translation_load_law w a p i m = page-alone w p _ i (λ _. refl) (frame_read-keeps a (i.pages p))

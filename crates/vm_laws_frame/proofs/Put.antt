@@ -1,14 +1,8 @@
 -- A page that is put into a frame, or taken out of it, keeps what holds of it.
-use Rattle.std.proofs.Common.{ℕ, ◌≡◌, refl, sym, subst, ◌∙◌, arith, Bool, false, List, Some, None, Option}
-use Rattle.vm_core.specs.declared.event.Mapping.{Mapping}
-use Rattle.vm_core.specs.declared.event.Open.{Open}
-use Rattle.vm_core.specs.Words.{LOCKED}
-use Rattle.vm_core.specs.State.{Page}
-use Rattle.vm_core.specs.FrameActs.{MayInstall, installed, MayClear, cleared}
-use Rattle.vm_core.specs.History.{History}
-use Rattle.vm_core.specs.Inv.{PageInv, StandsInv, ReadInv}
-use Rattle.vm_core.proofs.Locks.{locked-from_owner}
-use Rattle.vm_core.proofs.PageFacts.{none-some, some-same}
+use Rattle.std.proofs.Common.{◌∙◌, ◌≡◌, arith, Bool, false, List, None, Option, refl, Some, subst, sym, ℕ}
+use Rattle.vm_core.specs.Prelude.{cleared, History, installed, LOCKED, MayInstall, Page, PageInv, ReadInv, StandsInv}
+use Rattle.vm_core.specs.{declared.event.Mapping.Mapping, declared.event.Open.Open, FrameActs.MayClear}
+use Rattle.vm_core.proofs.{Locks.locked-from_owner, PageFacts.none-some, PageFacts.some-same}
 
 -- a locked page, wherever it stands
 locked-stands : {state version : ℕ} → {trans : Option Mapping} → {h : History} → (next : Option Mapping) → state ≡ LOCKED → StandsInv state version trans h → StandsInv state version next h

@@ -1,17 +1,12 @@
 -- A translation load and a page load keep what holds of a page.
-use Rattle.std.proofs.Common.{ℕ, ◌≡◌, ◌<◌, ◌≤◌, ◌⊎◌, ◌++◌, ◌∷◌, refl, sym, ap, subst, ◌∙◌, inl, inr, ⊎_elim, Bool, List, [], Some, None, Option, slice_index}
-use Rattle.std.proofs.lemmas.Bool.{cases_Bool, cond-true, cond-false}
-use Rattle.vm_core.specs.declared.event.Mapping.{Mapping}
-use Rattle.vm_core.specs.declared.event.Open.{Open}
-use Rattle.vm_core.specs.Fn.{upd}
-use Rattle.vm_core.specs.State.{Page}
-use Rattle.vm_core.specs.FrameActs.{framed, frame_or, frame_read, frame_of, load_frame, open_frame, reads_locked}
-use Rattle.vm_core.specs.History.{History, loads_more}
-use Rattle.vm_core.specs.Inv.{PageInv, ReadInv, ReadsPage, LoadsAre}
-use Rattle.vm_core.specs.Step.{word_at}
-use Rattle.vm_core.proofs.Upd.{upd-self, each-upd}
-use Rattle.vm_core.proofs.Locks.{locks-seat}
-use Rattle.vm_core.proofs.PageFacts.{some-same, faults-seat, reads-seat}
+use Rattle.std.proofs.Common.{[], ⊎_elim, ◌++◌, ◌<◌, ◌∙◌, ◌∷◌, ◌≡◌, ◌≤◌, ◌⊎◌, ap, Bool, inl, inr, List, None, Option, refl, slice_index, Some, subst}
+use Rattle.std.proofs.Common.{sym, ℕ}
+use Rattle.std.proofs.lemmas.Bool.{cases_Bool, cond-false, cond-true}
+use Rattle.vm_core.specs.Prelude.{frame_of, frame_read, framed, History, load_frame, loads_more, LoadsAre, open_frame, Page, PageInv, ReadInv}
+use Rattle.vm_core.specs.Prelude.{ReadsPage, upd, word_at}
+use Rattle.vm_core.specs.{declared.event.Mapping.Mapping, declared.event.Open.Open, FrameActs.frame_or, FrameActs.reads_locked}
+use Rattle.vm_core.proofs.{Locks.locks-seat, Upd.each-upd, Upd.upd-self}
+use Rattle.vm_core.proofs.PageFacts.{faults-seat, reads-seat, some-same}
 
 frame-cases : (q : Option ℕ) (n f : ℕ) → frame_or q n ≡ Some f → (q ≡ Some f) ⊎ (n ≡ f)
 frame-cases None n f e = inr (some-same n f e)

@@ -1,17 +1,10 @@
 -- A store into a frame, at the page that stands there and at the others.
-use Rattle.std.proofs.Common.{ℕ, ◌≡◌, sym, ap, subst, ◌∙◌, arith, Bool, true, false, List, Some, Option, slice_set}
+use Rattle.std.proofs.Common.{◌∙◌, ◌≡◌, ap, arith, Bool, false, List, Option, slice_set, Some, subst, sym, true, ℕ}
+use Rattle.std.proofs.lemmas.Bool.{eq-eqb, false≢true, true≢false}
 use Rattle.std.proofs.lemmas.List.{length-set}
-use Rattle.std.proofs.lemmas.Bool.{false≢true, true≢false, eq-eqb}
+use Rattle.vm_core.specs.Prelude.{History, HoldsAt, LoadsAre, LOCKED, Page, PageInv, ReadsPage, stands_in, upd, WordsInv}
 use Rattle.vm_core.specs.declared.event.Mapping.{Mapping}
-use Rattle.vm_core.specs.Fn.{upd}
-use Rattle.vm_core.specs.Words.{LOCKED}
-use Rattle.vm_core.specs.State.{Page}
-use Rattle.vm_core.specs.FrameActs.{HoldsAt, stands_in}
-use Rattle.vm_core.specs.History.{History}
-use Rattle.vm_core.specs.Inv.{PageInv, WordsInv, ReadsPage, LoadsAre}
-use Rattle.vm_core.proofs.Upd.{upd-same, upd-other}
-use Rattle.vm_core.proofs.Locks.{locked-from_owner}
-use Rattle.vm_core.proofs.PageFacts.{some-same}
+use Rattle.vm_core.proofs.{Locks.locked-from_owner, PageFacts.some-same, Upd.upd-other, Upd.upd-same}
 
 -- the words of a page that stands elsewhere
 elsewhere : (words : ℕ → List ℕ) (f : ℕ) (ws : List ℕ) (trans : Option Mapping) → stands_in trans f ≡ false → (m : Mapping) → trans ≡ Some m → upd words f ws m.frame ≡ words m.frame

@@ -2,9 +2,8 @@
 #![tactic(auto)]
 
 ghost use Rattle.std.specs.Prelude.{ℕ};
-ghost use Rattle.vm_core.specs.declared.event.Event.TheVariants.{BLoad, Clean, Clear, Dirty, Give, Install, Load, Store, TLoad, Take};
-ghost use Rattle.vm_core.specs.History.{World};
-ghost use Rattle.vm_core.specs.Inv.{Keeps};
+ghost use Rattle.vm_core.specs.Prelude.{Keeps, World};
+ghost use Rattle.vm_core.specs.declared.event.Event.TheVariants.{BLoad, Clean, Clear, Dirty, Give, Install, Load, Store, Take, TLoad};
 ghost use Rattle.vm_laws_frame.specs.Translations.{TranslationsRead};
 
 /// A translation load keeps the invariant.

@@ -1,12 +1,8 @@
 -- Who may have a page locked beside whom: nobody beside its exclusive holder, and one actor alone may call its device.
-use Rattle.std.proofs.Common.{ℕ, ◌≡◌, ◌<◌, ◌≤◌, refl, sym, ◌∙◌, ⊎_elim, arith, true, false, ◌||◌, Bool, ◌⊎◌, inl, inr}
+use Rattle.std.proofs.Common.{⊎_elim, ◌<◌, ◌||◌, ◌∙◌, ◌≡◌, ◌≤◌, ◌⊎◌, arith, Bool, false, inl, inr, refl, sym, true, ℕ}
 use Rattle.std.proofs.lemmas.Bool.Decides.{nat_tests}
+use Rattle.vm_core.specs.Prelude.{LOCKED, LocksInv, MayCall, OneHolder, Page, share_count, sum_below}
 use Rattle.vm_core.specs.declared.event.Seat.{Seat}
-use Rattle.vm_core.specs.Fn.{sum_below}
-use Rattle.vm_core.specs.Words.{LOCKED}
-use Rattle.vm_core.specs.State.{Page}
-use Rattle.vm_core.specs.DeviceActs.{MayCall}
-use Rattle.vm_core.specs.Inv.{LocksInv, OneHolder, share_count}
 use Rattle.vm_core.proofs.Locks.{locked-from_owner, sum_below-at}
 
 -- two exclusive holders are one

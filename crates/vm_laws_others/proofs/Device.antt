@@ -1,16 +1,10 @@
 -- What an act on a page's translation or device leaves of the page.
-use Rattle.std.proofs.Common.{ℕ, Bool, ◌≡◌, ◌⊎◌, refl, inl, inr, ⊎_elim, arith, true, false, true≢false, sym, ◌∙◌, List, Option, Some, None}
-use Rattle.vm_core.specs.declared.event.Mapping.{Mapping}
-use Rattle.vm_core.specs.Words.{count_more}
-use Rattle.vm_core.specs.State.{Page}
-use Rattle.vm_core.specs.FrameActs.{frame_of, with_dirty, cleaned}
-use Rattle.vm_core.specs.DeviceActs.{MayCall, written, failed, raised}
-use Rattle.vm_core.specs.History.{History}
-use Rattle.vm_core.specs.Inv.{LocksInv}
+use Rattle.std.proofs.Common.{⊎_elim, ◌∙◌, ◌≡◌, ◌⊎◌, arith, Bool, false, inl, inr, List, None, Option, refl, Some, sym, true, true≢false, ℕ}
+use Rattle.vm_core.specs.Prelude.{count_more, frame_of, History, LocksInv, MayCall, Page, raised, with_dirty, written}
+use Rattle.vm_core.specs.{declared.event.Mapping.Mapping, DeviceActs.failed, FrameActs.cleaned}
 use Rattle.vm_core.proofs.Locks.{locked-from_owner}
 use Rattle.vm_laws_others.specs.Leaves.{CountsMove, stands_dirty}
-use Rattle.vm_laws_others.proofs.Alone.{one-caller, unshared-beside}
-use Rattle.vm_laws_others.proofs.Page.{PageLeaves, counts-same}
+use Rattle.vm_laws_others.proofs.{Alone.one-caller, Alone.unshared-beside, Page.counts-same, Page.PageLeaves}
 
 -- an act of the one actor that may call the device: on the translation, the fault word, the block and its count. The frame changes only
 -- under an exclusive lock

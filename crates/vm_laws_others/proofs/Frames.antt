@@ -1,19 +1,14 @@
 -- What the events beside the pages leave: loads and stores of words, bundles, the next word and the hand.
-use Rattle.std.proofs.Common.{ℕ, Bool, ◌≡◌, ◌≢◌, ◌≤◌, ◌+◌, refl, sym, ap, subst, ◌∙◌, ⊎_elim, arith, true, false, eqb, cond, List, slice_set, ◌&&◌}
-use Rattle.std.proofs.lemmas.Bool.{cases_Bool, false≢true, eqb-true, eq-eqb, ne_eqb, and_left, cond-false}
-use Rattle.vm_core.specs.declared.event.Event.TheVariants.{Load, Store, BLoad, Take, Give, NLoad, Claim, Hand}
-use Rattle.vm_core.specs.Fn.{upd}
-use Rattle.vm_core.specs.Words.{in_mask}
-use Rattle.vm_core.specs.State.{Page}
-use Rattle.vm_core.specs.FrameActs.{HoldsAt, stands_in}
-use Rattle.vm_core.specs.History.{History, World, writes_to, stored}
-use Rattle.vm_core.specs.Inv.{Inv, Place, at_actor, at_page}
-use Rattle.vm_core.specs.Inv.Place.{Nowhere, Free, Held, Mapped}
-use Rattle.vm_core.specs.Step.{MayStore, taken_by, given_by}
+use Rattle.std.proofs.Common.{⊎_elim, ◌&&◌, ◌+◌, ◌∙◌, ◌≡◌, ◌≢◌, ◌≤◌, ap, arith, Bool, cond, eqb, false, List, refl, slice_set, subst, sym, true, ℕ}
+use Rattle.std.proofs.lemmas.Bool.{and_left, cases_Bool, cond-false, eq-eqb, eqb-true, false≢true, ne_eqb}
+use Rattle.vm_core.specs.Prelude.{at_actor, at_page, Free, History, HoldsAt, in_mask, Inv, Mapped, Nowhere, Page, stands_in, upd, World}
+use Rattle.vm_core.specs.{History.stored, History.writes_to, Inv.Place, Inv.Place.Held}
+use Rattle.vm_core.specs.declared.event.Event.TheVariants.{BLoad, Claim, Give, Hand, Load, NLoad, Store, Take}
+use Rattle.vm_core.specs.Step.{given_by, MayStore, taken_by}
 use Rattle.vm_core.proofs.Upd.{upd-other}
-use Rattle.vm_laws_others.specs.Leaves.{LeavesOthers, Leaves}
+use Rattle.vm_laws_others.specs.Leaves.{Leaves, LeavesOthers}
 use Rattle.vm_laws_others.proofs.Alone.{one-holder}
-use Rattle.vm_laws_others.proofs.Page.{PageLeaves, page-same, loads-other}
+use Rattle.vm_laws_others.proofs.Page.{loads-other, page-same, PageLeaves}
 
 -- what an event that changes no page does: to the words of frames, the frames held, the next word, the histories and the loads
 pub record BesideLeaves (a : ℕ) (w w' : World) : Type 0 where

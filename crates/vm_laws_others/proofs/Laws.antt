@@ -1,19 +1,19 @@
 -- Each event leaves what the other actors know and hold.
-use Rattle.std.proofs.Common.{ℕ, Bool, ◌≡◌, ◌≢◌, refl, subst, ⊎_elim, inl, List}
+use Rattle.std.proofs.Common.{⊎_elim, ◌≡◌, ◌≢◌, Bool, inl, List, refl, subst, ℕ}
 use Rattle.std.proofs.lemmas.Bool.{cases_Bool}
+use Rattle.vm_core.specs.Prelude.{finds, History, on_page, Page, upd, World}
 use Rattle.vm_core.specs.declared.event.Event.{Event}
-use Rattle.vm_core.specs.declared.event.Event.TheVariants.{Look, LockX, LockS, UnlockS, Mark, Unmark, LockW, Upgrade, Release, ReleaseE, Downgrade, TLoad, Install, Clear, Dirty, Clean, Load, Store, BLoad, Take, Give, Read, RFail, Write, WFail, Raise, NLoad, Claim, Hand}
-use Rattle.vm_core.specs.Fn.{upd}
-use Rattle.vm_core.specs.State.{Page}
-use Rattle.vm_core.specs.StateActs.{finds}
-use Rattle.vm_core.specs.Step.{on_page}
-use Rattle.vm_core.specs.History.{World, History}
-use Rattle.vm_core.proofs.Upd.{upd-self, upd-other}
-use Rattle.vm_laws_others.specs.Leaves.{LeavesOthers, Leaves}
-use Rattle.vm_laws_others.proofs.Page.{PageLeaves, page-leaves, page-same, loads-other}
-use Rattle.vm_laws_others.proofs.State.{seat-leaves, release-leaves, locked-leaves, upgraded-leaves, shared-leaves, unlocked-leaves, marked-leaves, unmarked-leaves, write_locked-leaves}
-use Rattle.vm_laws_others.proofs.Device.{mapped-leaves, cleaned-leaves, written-leaves, failed-leaves, raised-leaves}
-use Rattle.vm_laws_others.proofs.Frames.{load-leaves, store-leaves, bundle_load-leaves, take-leaves, give-leaves, next_load-leaves, claim-leaves, hand-leaves}
+use Rattle.vm_core.specs.declared.event.Event.TheVariants.{BLoad, Claim, Clean, Clear, Dirty, Downgrade, Give, Hand, Install, Load, LockS, LockW}
+use Rattle.vm_core.specs.declared.event.Event.TheVariants.{LockX, Look, Mark, NLoad, Raise, Read, Release, ReleaseE, RFail, Store, Take, TLoad}
+use Rattle.vm_core.specs.declared.event.Event.TheVariants.{UnlockS, Unmark, Upgrade, WFail, Write}
+use Rattle.vm_core.proofs.Upd.{upd-other, upd-self}
+use Rattle.vm_laws_others.specs.Leaves.{Leaves, LeavesOthers}
+use Rattle.vm_laws_others.proofs.Device.{cleaned-leaves, failed-leaves, mapped-leaves, raised-leaves, written-leaves}
+use Rattle.vm_laws_others.proofs.Frames.{bundle_load-leaves, claim-leaves, give-leaves, hand-leaves, load-leaves, next_load-leaves, store-leaves}
+use Rattle.vm_laws_others.proofs.Frames.{take-leaves}
+use Rattle.vm_laws_others.proofs.Page.{loads-other, page-leaves, page-same, PageLeaves}
+use Rattle.vm_laws_others.proofs.State.{locked-leaves, marked-leaves, release-leaves, seat-leaves, shared-leaves, unlocked-leaves, unmarked-leaves}
+use Rattle.vm_laws_others.proofs.State.{upgraded-leaves, write_locked-leaves}
 
 -- an event on one page alone, by what it leaves of the page and its history
 page-acts : (w : World) (a p : ℕ) (r : Page) (h : History) (ls : ℕ → ℕ → List (ℕ × ℕ)) → PageLeaves w.core.shape.actors a (w.core.pages p) r (w.histories p) h → ((b q : ℕ) → b ≢ a → ls q b ≡ w.loads q b) → Leaves a w (record { core = on_page w.core p r; histories = upd w.histories p h; loads = ls })

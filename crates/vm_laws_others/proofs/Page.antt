@@ -1,10 +1,8 @@
 -- From what an event leaves of one page to what it leaves of the world.
-use Rattle.std.proofs.Common.{ℕ, Bool, ◌≡◌, ◌≢◌, ◌<◌, ◌≤◌, refl, ap, arith, true, List}
-use Rattle.vm_core.specs.Fn.{upd}
-use Rattle.vm_core.specs.State.{Page}
-use Rattle.vm_core.specs.History.{History, World}
-use Rattle.vm_core.proofs.Upd.{upd-other, each-upd, each-upd2}
-use Rattle.vm_laws_others.specs.Leaves.{PageMoves, CountsMove, Untouched, Leaves}
+use Rattle.std.proofs.Common.{◌<◌, ◌≡◌, ◌≢◌, ◌≤◌, ap, arith, Bool, List, refl, true, ℕ}
+use Rattle.vm_core.specs.Prelude.{History, Page, upd, World}
+use Rattle.vm_core.proofs.Upd.{each-upd, each-upd2, upd-other}
+use Rattle.vm_laws_others.specs.Leaves.{CountsMove, Leaves, PageMoves, Untouched}
 
 -- what an event of the actor a leaves of one page and of its history
 pub record PageLeaves (actors a : ℕ) (r r' : Page) (h h' : History) : Type 0 where

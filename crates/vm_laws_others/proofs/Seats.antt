@@ -1,17 +1,13 @@
 -- An event changes no seat but those of its own actor.
-use Rattle.std.proofs.Common.{ℕ, ◌≡◌, ◌≢◌, refl, ⊎_elim, List, eqb, cond}
+use Rattle.std.proofs.Common.{⊎_elim, ◌≡◌, ◌≢◌, cond, eqb, List, refl, ℕ}
 use Rattle.std.proofs.lemmas.Bool.{cases_Bool}
-use Rattle.vm_core.specs.declared.event.Event.{Event}
-use Rattle.vm_core.specs.declared.event.Event.TheVariants.{Look, LockX, LockS, UnlockS, Mark, Unmark, LockW, Upgrade, Release, ReleaseE, Downgrade, TLoad, Install, Clear, Dirty, Clean, Load, Store, BLoad, Take, Give, Read, RFail, Write, WFail, Raise, NLoad, Claim, Hand}
-use Rattle.vm_core.specs.declared.event.PageAct.{PageAct}
+use Rattle.vm_core.specs.Prelude.{finds, Legal, Page, page_after, State, taken, upd, World, world_after}
+use Rattle.vm_core.specs.{declared.event.Event.Event, declared.event.PageAct.PageAct}
+use Rattle.vm_core.specs.declared.event.Event.TheVariants.{BLoad, Claim, Clean, Clear, Dirty, Downgrade, Give, Hand, Install, Load, LockS, LockW}
+use Rattle.vm_core.specs.declared.event.Event.TheVariants.{LockX, Look, Mark, NLoad, Raise, Read, Release, ReleaseE, RFail, Store, Take, TLoad}
+use Rattle.vm_core.specs.declared.event.Event.TheVariants.{UnlockS, Unmark, Upgrade, WFail, Write}
 use Rattle.vm_core.specs.declared.event.PageAct.TheVariants as acts
-use Rattle.vm_core.specs.Fn.{upd}
-use Rattle.vm_core.specs.State.{Page, State}
-use Rattle.vm_core.specs.StateActs.{finds}
-use Rattle.vm_core.specs.PageStep.{page_after}
-use Rattle.vm_core.specs.Step.{Legal, taken}
-use Rattle.vm_core.specs.History.{World, world_after}
-use Rattle.vm_core.proofs.Upd.{upd-other, upd-keeps}
+use Rattle.vm_core.proofs.Upd.{upd-keeps, upd-other}
 use Rattle.vm_laws_others.specs.Leaves.{actor_of}
 
 -- an exchange changes what it changes where it is taken, and nothing where it is lost

@@ -1,17 +1,12 @@
 -- What an act on a state word leaves of its page.
-use Rattle.std.proofs.Common.{ℕ, ◌≡◌, ◌≢◌, ◌<◌, ◌≤◌, ◌+◌, ◌-◌, refl, sym, ◌∙◌, arith, true}
+use Rattle.std.proofs.Common.{◌+◌, ◌-◌, ◌<◌, ◌∙◌, ◌≡◌, ◌≢◌, ◌≤◌, arith, refl, sym, true, ℕ}
+use Rattle.vm_core.specs.Prelude.{appended, drafted, EVICTED, finds, History, LOCKED, locked, LocksInv, MARKED, marked, MayLock, MayShare, MayUnlock}
+use Rattle.vm_core.specs.Prelude.{MayUpgrade, one_share_more, Page, shared, state_of, sum_below, UNLOCKED, unlocked, unmarked, upd, upgraded}
+use Rattle.vm_core.specs.Prelude.{version_of, write_locked}
 use Rattle.vm_core.specs.declared.event.Seat.{Seat}
-use Rattle.vm_core.specs.Fn.{upd, sum_below}
-use Rattle.vm_core.specs.Words.{UNLOCKED, LOCKED, MARKED, EVICTED, state_of, version_of}
-use Rattle.vm_core.specs.State.{Page}
-use Rattle.vm_core.specs.StateActs.{finds, one_share_more, MayLock, MayShare, MayUnlock, MayUpgrade, locked, shared, unlocked, marked, unmarked, write_locked, upgraded}
-use Rattle.vm_core.specs.History.{History, drafted, appended}
-use Rattle.vm_core.specs.Inv.{LocksInv}
-use Rattle.vm_core.proofs.Locks.{locked-from_owner, sum_below-at, shared-state}
-use Rattle.vm_core.proofs.PageFacts.{found}
-use Rattle.vm_core.proofs.Upd.{upd-other}
-use Rattle.vm_laws_others.proofs.Alone.{one-holder, unshared-beside}
-use Rattle.vm_laws_others.proofs.Page.{PageLeaves, counts-same}
+use Rattle.vm_core.proofs.{PageFacts.found, Upd.upd-other}
+use Rattle.vm_core.proofs.Locks.{locked-from_owner, shared-state, sum_below-at}
+use Rattle.vm_laws_others.proofs.{Alone.one-holder, Alone.unshared-beside, Page.counts-same, Page.PageLeaves}
 
 -- an act that changes the state and the actor's own seat, at the same version; a draft may be opened where nobody holds the page
 pub state-leaves : (actors a : ℕ) (r : Page) (h h' : History) (state : ℕ) (seats : ℕ → Seat) → ((b : ℕ) → b ≢ a → seats b ≡ r.seats b) → (state ≢ LOCKED → state ≢ EVICTED → (r.state ≢ LOCKED) × (r.state ≢ EVICTED)) → (state ≡ EVICTED → r.state ≡ EVICTED) → h'.last ≡ h.last → ((b : ℕ) → (r.seats b).exclusive ≡ true → h' ≡ h) → PageLeaves actors a r (record r { state = state; seats = seats }) h h'

@@ -1,15 +1,10 @@
 -- What an event of one actor leaves of all that the other actors know and hold.
-use Rattle.std.specs.Prelude.{ℕ, Bool, true, false, Option, Some, None, ◌≡◌, ◌≢◌, ◌<◌, ◌≤◌, ◌||◌}
-use Rattle.vm_core.specs.declared.event.Event.{Event}
-use Rattle.vm_core.specs.declared.event.Event.TheVariants.{Look, LockX, LockS, UnlockS, Mark, Unmark, LockW, Upgrade, Release, ReleaseE, Downgrade, TLoad, Install, Clear, Dirty, Clean, Load, Store, BLoad, Take, Give, Read, RFail, Write, WFail, Raise, NLoad, Claim, Hand}
-use Rattle.vm_core.specs.declared.event.Mapping.{Mapping}
-use Rattle.vm_core.specs.declared.event.Seat.{Seat}
-use Rattle.vm_core.specs.Words.{LOCKED, EVICTED, MAX_COUNT}
-use Rattle.vm_core.specs.FrameActs.{frame_of}
-use Rattle.vm_core.specs.State.{Page}
-use Rattle.vm_core.specs.History.{World, world_after}
-use Rattle.vm_core.specs.Inv.{Inv}
-use Rattle.vm_core.specs.Step.{Legal}
+use Rattle.std.specs.Prelude.{◌<◌, ◌||◌, ◌≡◌, ◌≢◌, ◌≤◌, Bool, false, None, Option, Some, true, ℕ}
+use Rattle.vm_core.specs.Prelude.{EVICTED, frame_of, Inv, Legal, LOCKED, MAX_COUNT, Page, World, world_after}
+use Rattle.vm_core.specs.{declared.event.Event.Event, declared.event.Mapping.Mapping, declared.event.Seat.Seat}
+use Rattle.vm_core.specs.declared.event.Event.TheVariants.{BLoad, Claim, Clean, Clear, Dirty, Downgrade, Give, Hand, Install, Load, LockS, LockW}
+use Rattle.vm_core.specs.declared.event.Event.TheVariants.{LockX, Look, Mark, NLoad, Raise, Read, Release, ReleaseE, RFail, Store, Take, TLoad}
+use Rattle.vm_core.specs.declared.event.Event.TheVariants.{UnlockS, Unmark, Upgrade, WFail, Write}
 
 -- the actor of the event
 abbrev pub actor_of : Event → ℕ

@@ -1,19 +1,13 @@
 -- Each event on a state word keeps the invariant.
-use Rattle.std.proofs.Common.{ℕ, refl, sym, subst, ⊎_elim, Bool, List}
+use Rattle.std.proofs.Common.{⊎_elim, Bool, List, refl, subst, sym, ℕ}
 use Rattle.std.proofs.lemmas.Bool.{cases_Bool}
-use Rattle.vm_core.specs.declared.event.Event.TheVariants.{Look, LockX, LockS, UnlockS, Mark, Unmark, LockW, Upgrade, Release, ReleaseE, Downgrade}
-use Rattle.vm_core.specs.Fn.{upd}
-use Rattle.vm_core.specs.State.{Page}
-use Rattle.vm_core.specs.StateActs.{finds}
-use Rattle.vm_core.specs.History.{World, History}
-use Rattle.vm_core.specs.Inv.{Keeps, PageInv}
+use Rattle.vm_core.specs.Prelude.{finds, History, Keeps, Page, PageInv, upd, World}
+use Rattle.vm_core.specs.declared.event.Event.TheVariants.{Downgrade, LockS, LockW, LockX, Look, Mark, Release, ReleaseE, UnlockS, Unmark, Upgrade}
 use Rattle.vm_core.proofs.Upd.{upd-self}
-use Rattle.vm_core.proofs.Whole.{page-both, page-loads, page-history, page-alone}
-use Rattle.vm_laws_state.proofs.Look.{looked-keeps}
-use Rattle.vm_laws_state.proofs.Lock.{locked-keeps, upgraded-keeps}
-use Rattle.vm_laws_state.proofs.Share.{shared-keeps, write_locked-keeps}
-use Rattle.vm_laws_state.proofs.Unlock.{unlocked-keeps, marked-keeps, unmarked-keeps}
-use Rattle.vm_laws_state.proofs.Release.{released-keeps, emptied-keeps, downgraded-keeps}
+use Rattle.vm_core.proofs.Whole.{page-alone, page-both, page-history, page-loads}
+use Rattle.vm_laws_state.proofs.{Lock.locked-keeps, Lock.upgraded-keeps, Look.looked-keeps, Share.shared-keeps, Share.write_locked-keeps}
+use Rattle.vm_laws_state.proofs.Release.{downgraded-keeps, emptied-keeps, released-keeps}
+use Rattle.vm_laws_state.proofs.Unlock.{marked-keeps, unlocked-keeps, unmarked-keeps}
 
 -- nothing changed, the loads written as they were
 same-loads : {actors : ℕ} → {tells : Bool} → {words : ℕ → List ℕ} → {r : Page} → {h : History} → {l : ℕ → List (ℕ × ℕ)} → (a : ℕ) → PageInv actors tells words r h l → PageInv actors tells words r h (upd l a (l a))

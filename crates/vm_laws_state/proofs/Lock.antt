@@ -1,14 +1,9 @@
 -- An exclusive lock, new or from a write-back, keeps what holds of a page.
-use Rattle.std.proofs.Common.{ℕ, ◌≡◌, ◌≢◌, ◌<◌, refl, ◌∙◌, arith, Bool, true, List, []}
-use Rattle.vm_core.specs.Fn.{upd}
-use Rattle.vm_core.specs.Words.{LOCKED, state_of, version_of}
-use Rattle.vm_core.specs.State.{Page}
-use Rattle.vm_core.specs.StateActs.{finds, MayLock, locked, MayUpgrade, upgraded}
-use Rattle.vm_core.specs.History.{History, drafted}
-use Rattle.vm_core.specs.Inv.{PageInv}
+use Rattle.std.proofs.Common.{[], ◌<◌, ◌∙◌, ◌≡◌, ◌≢◌, arith, Bool, List, refl, true, ℕ}
+use Rattle.vm_core.specs.Prelude.{drafted, finds, History, LOCKED, locked, MayLock, MayUpgrade, Page, PageInv, state_of, upd, upgraded, version_of}
 use Rattle.vm_core.proofs.Locks.{locks-lock, locks-upgrade}
 use Rattle.vm_core.proofs.PageFacts.{found, no-read, reads-seat}
-use Rattle.vm_core.proofs.PageMoves.{stands-lock, sizes-lock, contents-lock, read-lock}
+use Rattle.vm_core.proofs.PageMoves.{contents-lock, read-lock, sizes-lock, stands-lock}
 
 pub locked-keeps : {actors : ℕ} → {tells : Bool} → {words : ℕ → List ℕ} → {r : Page} → {h : History} → {l : ℕ → List (ℕ × ℕ)} → (a expects : ℕ) → a < actors → PageInv actors tells words r h l → MayLock expects → finds r expects ≡ true → PageInv actors tells words (locked r a) (drafted h) (upd l a [])
 locked-keeps {actors} {tells} {words} {r} {h} {l} a expects lt i m e =

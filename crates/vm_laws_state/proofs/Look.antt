@@ -1,16 +1,10 @@
 -- A look keeps what holds of a page.
-use Rattle.std.proofs.Common.{ℕ, ◌≢◌, refl, ⊎_elim, arith, Bool, true, false, eqb, cond, List, [], Some, None, Option}
-use Rattle.std.proofs.lemmas.Bool.{cases_Bool, cond-true, cond-false}
+use Rattle.std.proofs.Common.{[], ⊎_elim, ◌≢◌, arith, Bool, cond, eqb, false, List, None, Option, refl, Some, true, ℕ}
+use Rattle.std.proofs.lemmas.Bool.{cases_Bool, cond-false, cond-true}
 use Rattle.std.proofs.lemmas.Bool.Decides.{nat_tests}
-use Rattle.vm_core.specs.declared.event.Mapping.{Mapping}
-use Rattle.vm_core.specs.declared.event.Open.{Open}
-use Rattle.vm_core.specs.declared.event.ReadIs.TheVariants.{Same, Moved, Closed}
-use Rattle.vm_core.specs.Fn.{upd}
-use Rattle.vm_core.specs.Words.{EVICTED}
-use Rattle.vm_core.specs.State.{Page}
-use Rattle.vm_core.specs.StateActs.{is_readable, left_open, left_of, open_after, looked}
-use Rattle.vm_core.specs.History.{History, kept_loads}
-use Rattle.vm_core.specs.Inv.{PageInv, ReadInv}
+use Rattle.vm_core.specs.Prelude.{EVICTED, History, is_readable, kept_loads, left_of, left_open, looked, open_after, Page, PageInv, ReadInv, upd}
+use Rattle.vm_core.specs.{declared.event.Mapping.Mapping, declared.event.Open.Open}
+use Rattle.vm_core.specs.declared.event.ReadIs.TheVariants.{Closed, Moved, Same}
 use Rattle.vm_core.proofs.Locks.{locks-seat}
 use Rattle.vm_core.proofs.PageFacts.{faults-seat, no-read, reads-seat}
 

@@ -1,13 +1,10 @@
 -- A page given up by its exclusive holder, in its three forms, keeps what holds of it.
-use Rattle.std.proofs.Common.{ℕ, ◌≡◌, ◌+◌, ◌<◌, refl, sym, ap, ◌∙◌, arith, Bool, List}
-use Rattle.vm_core.specs.Words.{UNLOCKED, LOCKED, EVICTED}
-use Rattle.vm_core.specs.State.{Page}
-use Rattle.vm_core.specs.StateActs.{MayReleaseLock, released, MayEmpty, emptied, downgraded}
-use Rattle.vm_core.specs.History.{History, appended}
-use Rattle.vm_core.specs.Inv.{PageInv, WordsInv}
-use Rattle.vm_core.proofs.Locks.{locked-from_owner, locks-release, locks-empty, locks-downgrade}
+use Rattle.std.proofs.Common.{◌+◌, ◌<◌, ◌∙◌, ◌≡◌, ap, arith, Bool, List, refl, sym, ℕ}
+use Rattle.vm_core.specs.Prelude.{appended, EVICTED, History, LOCKED, MayEmpty, MayReleaseLock, Page, PageInv, UNLOCKED, WordsInv}
+use Rattle.vm_core.specs.StateActs.{downgraded, emptied, released}
+use Rattle.vm_core.proofs.Locks.{locked-from_owner, locks-downgrade, locks-empty, locks-release}
 use Rattle.vm_core.proofs.PageFacts.{none-some, reads-keep}
-use Rattle.vm_core.proofs.PageMoves.{stands-release, sizes-release, contents-release, read-release}
+use Rattle.vm_core.proofs.PageMoves.{contents-release, read-release, sizes-release, stands-release}
 
 pub released-keeps : {actors : ℕ} → {tells : Bool} → {words : ℕ → List ℕ} → {r : Page} → {h : History} → {l : ℕ → List (ℕ × ℕ)} → (a : ℕ) → PageInv actors tells words r h l → MayReleaseLock r a → PageInv actors tells words (released r a) (appended h) l
 released-keeps {actors} {tells} {words} {r} {h} {l} a i m =

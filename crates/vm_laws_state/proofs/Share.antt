@@ -1,17 +1,11 @@
 -- A shared lock, plain or for write-back, keeps what holds of a page.
-use Rattle.std.proofs.Common.{ℕ, ◌≡◌, ◌≢◌, ◌<◌, refl, sym, ap, ◌∙◌, arith, Bool, true, List, []}
+use Rattle.std.proofs.Common.{[], ◌<◌, ◌∙◌, ◌≡◌, ◌≢◌, ap, arith, Bool, List, refl, sym, true, ℕ}
 use Rattle.std.proofs.lemmas.Bool.{true≢false}
 use Rattle.std.proofs.lemmas.Bool.Decides.{nat_tests}
-use Rattle.vm_core.specs.Fn.{upd}
-use Rattle.vm_core.specs.Words.{LOCKED, MARKED, EVICTED, state_of, version_of}
-use Rattle.vm_core.specs.State.{Page}
-use Rattle.vm_core.specs.StateActs.{finds, MayShare, shared, write_locked}
-use Rattle.vm_core.specs.History.{History}
-use Rattle.vm_core.specs.Inv.{PageInv}
-use Rattle.vm_core.proofs.Upd.{upd-same}
-use Rattle.vm_core.proofs.Locks.{locks-share, locks-write_lock}
-use Rattle.vm_core.proofs.PageFacts.{found, faults-seat, no-read, reads-seat}
-use Rattle.vm_core.proofs.PageMoves.{stands-open, sizes-open, contents-open, read-open}
+use Rattle.vm_core.specs.Prelude.{EVICTED, finds, History, LOCKED, MARKED, MayShare, Page, PageInv, shared, state_of, upd, version_of, write_locked}
+use Rattle.vm_core.proofs.{Locks.locks-share, Locks.locks-write_lock, Upd.upd-same}
+use Rattle.vm_core.proofs.PageFacts.{faults-seat, found, no-read, reads-seat}
+use Rattle.vm_core.proofs.PageMoves.{contents-open, read-open, sizes-open, stands-open}
 
 pub shared-keeps : {actors : ℕ} → {tells : Bool} → {words : ℕ → List ℕ} → {r : Page} → {h : History} → {l : ℕ → List (ℕ × ℕ)} → (a expects : ℕ) → a < actors → PageInv actors tells words r h l → MayShare expects → finds r expects ≡ true → PageInv actors tells words (shared r a) h (upd l a [])
 shared-keeps {actors} {tells} {words} {r} {h} {l} a expects lt i m e =

@@ -1,17 +1,12 @@
 -- A share given up, a mark set or taken away keep what holds of a page.
-use Rattle.std.proofs.Common.{ℕ, ◌≡◌, ◌≢◌, ◌-◌, ◌<◌, ◌≤◌, ◌⊎◌, refl, sym, ap, ◌∙◌, inl, inr, ⊎_elim, arith, Bool, true, false, List}
-use Rattle.std.proofs.lemmas.Bool.{cases_eq, cases_Bool, cond-false, ne_eqb, true≢false}
+use Rattle.std.proofs.Common.{⊎_elim, ◌-◌, ◌<◌, ◌∙◌, ◌≡◌, ◌≢◌, ◌≤◌, ◌⊎◌, ap, arith, Bool, false, inl, inr, List, refl, sym, true, ℕ}
+use Rattle.std.proofs.lemmas.Bool.{cases_Bool, cases_eq, cond-false, ne_eqb, true≢false}
+use Rattle.vm_core.specs.Prelude.{EVICTED, finds, History, LOCKED, MARKED, marked, MayUnlock, Page, PageInv, state_of, sum_below, UNLOCKED, unlocked}
+use Rattle.vm_core.specs.Prelude.{unmarked, unshared}
 use Rattle.vm_core.specs.declared.event.Seat.{Seat}
-use Rattle.vm_core.specs.Fn.{sum_below}
-use Rattle.vm_core.specs.Words.{UNLOCKED, LOCKED, MARKED, EVICTED, state_of}
-use Rattle.vm_core.specs.State.{Page}
-use Rattle.vm_core.specs.StateActs.{finds, MayUnlock, unlocked, unshared, marked, unmarked}
-use Rattle.vm_core.specs.History.{History}
-use Rattle.vm_core.specs.Inv.{PageInv}
-use Rattle.vm_core.proofs.Upd.{upd-same, upd-other}
-use Rattle.vm_core.proofs.Locks.{locks-unlock, locks-mark, sum_below-at, shared-state}
-use Rattle.vm_core.proofs.PageFacts.{found, reads-keep}
-use Rattle.vm_core.proofs.PageMoves.{stands-open, sizes-open, contents-open, read-open}
+use Rattle.vm_core.proofs.{PageFacts.found, PageFacts.reads-keep, Upd.upd-other, Upd.upd-same}
+use Rattle.vm_core.proofs.Locks.{locks-mark, locks-unlock, shared-state, sum_below-at}
+use Rattle.vm_core.proofs.PageMoves.{contents-open, read-open, sizes-open, stands-open}
 
 -- a write-back that ended did so with the last share
 last-share : (s : Seat) → s.writing ≡ true → (unshared s).writing ≡ false → s.shares ≡ 1

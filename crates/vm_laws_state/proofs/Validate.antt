@@ -1,17 +1,12 @@
 -- A validated read saw one version.
-use Rattle.std.proofs.Common.{ℕ, ◌≡◌, ◌≢◌, ◌<◌, sym, ap, subst, ◌∙◌, ⊎_elim, arith, true, eqb, Some, None, Option}
-use Rattle.std.proofs.lemmas.Bool.{cases_Bool, eqb-true, cond-true, cond-false}
+use Rattle.std.proofs.Common.{⊎_elim, ◌<◌, ◌∙◌, ◌≡◌, ◌≢◌, ap, arith, eqb, None, Option, Some, subst, sym, true, ℕ}
+use Rattle.std.proofs.lemmas.Bool.{cases_Bool, cond-false, cond-true, eqb-true}
 use Rattle.std.proofs.lemmas.Bool.Decides.{nat_tests}
-use Rattle.vm_core.specs.declared.event.Event.TheVariants.{Look, LockX, LockS, LockW, Upgrade}
-use Rattle.vm_core.specs.declared.event.Mapping.{Mapping}
-use Rattle.vm_core.specs.declared.event.Open.{Open}
-use Rattle.vm_core.specs.declared.event.ReadIs.TheVariants.{Same, Moved, Closed}
-use Rattle.vm_core.specs.Words.{LOCKED, EVICTED, state_of, version_of}
-use Rattle.vm_core.specs.StateActs.{left_open, is_readable}
-use Rattle.vm_core.specs.History.{World}
-use Rattle.vm_core.specs.Inv.{Inv, WordsInv, ReadsPage, LoadsAre}
-use Rattle.vm_core.specs.OneVersion.{IsOneVersion, LockReadsOne, Validates}
-use Rattle.vm_core.proofs.PageFacts.{some-is, some-same, found}
+use Rattle.vm_core.specs.Prelude.{EVICTED, Inv, is_readable, left_open, LoadsAre, LOCKED, ReadsPage, state_of, Validates, version_of, WordsInv, World}
+use Rattle.vm_core.specs.{declared.event.Mapping.Mapping, declared.event.Open.Open, OneVersion.IsOneVersion, OneVersion.LockReadsOne}
+use Rattle.vm_core.specs.declared.event.Event.TheVariants.{LockS, LockW, LockX, Look, Upgrade}
+use Rattle.vm_core.specs.declared.event.ReadIs.TheVariants.{Closed, Moved, Same}
+use Rattle.vm_core.proofs.PageFacts.{found, some-is, some-same}
 
 -- an open read at the version of a page that is neither locked nor evicted
 one-version : (w : World) (a p : ℕ) (o : Open) → w.core.tells ≡ true → Inv w → (w.core.pages p).state ≢ LOCKED → (w.core.pages p).state ≢ EVICTED → ((w.core.pages p).seats a).reading ≡ Some o → o.version ≡ (w.core.pages p).version → IsOneVersion w a p o

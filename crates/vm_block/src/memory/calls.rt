@@ -35,6 +35,7 @@ impl MemBlock {
     }
 }
 
+#[tactic(auto, unfolding(vm_page::specs::Counts::count_more))]
 impl Block for MemBlock {
     ghost use Rattle.std.specs.Prelude.{true};
     ghost use Rattle.std.proofs.Common.{arith};

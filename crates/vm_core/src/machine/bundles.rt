@@ -1,9 +1,8 @@
 //! The events on bundle words: free frames go to an actor and come back.
 
-ghost use Rattle.std.specs.Prelude.{◌≡◌, ◌<◌, ◌*◌, IsTrue, ◌↔◌};
-ghost use Rattle.vm_core.specs.CoreOf.{Steps};
-ghost use Rattle.vm_core.specs.PageOf.{core_of};
-ghost use Rattle.vm_core.specs.Step.{given, MayGive, MayTake, NamesBundle, taken};
+ghost use Rattle.std.specs.Prelude.{◌*◌, ◌<◌, ◌↔◌, ◌≡◌, IsTrue};
+ghost use Rattle.vm_core.specs.Prelude.{core_of, NamesBundle, Steps, taken};
+ghost use Rattle.vm_core.specs.Step.{given, MayGive, MayTake};
 
 use crate::event::{Event, Illegal, Seen};
 use crate::machine::Core;

@@ -1,11 +1,8 @@
 //! The events on the next word, from which page numbers are claimed, and on the clock's hand.
 
-ghost use Rattle.std.specs.Prelude.{◌≡◌, IsTrue, ◌↔◌};
-ghost use Rattle.vm_core.specs.CoreOf.{Steps};
-ghost use Rattle.vm_core.specs.FrameActs.{MayDirty};
-ghost use Rattle.vm_core.specs.PageOf.{core_of};
-ghost use Rattle.vm_core.specs.Step.{MayClaim, NamesActorAndPage};
-ghost use Rattle.vm_core.specs.Words.{hand_more};
+ghost use Rattle.std.specs.Prelude.{◌↔◌, ◌≡◌, IsTrue};
+ghost use Rattle.vm_core.specs.Prelude.{core_of, hand_more, MayDirty, NamesActorAndPage, Steps};
+ghost use Rattle.vm_core.specs.Step.{MayClaim};
 
 use crate::event::{Event, Illegal, Seen};
 use crate::machine::Core;

@@ -1,10 +1,8 @@
 //! The events on frames: a held frame goes under a page and comes back, and words are loaded and stored.
 
-ghost use Rattle.std.specs.Prelude.{ℕ, slice_index, ◌≡◌, ◌<◌, IsTrue, ◌↔◌, true, false};
-ghost use Rattle.vm_core.specs.CoreOf.{ClearFrame, Steps};
-ghost use Rattle.vm_core.specs.FrameActs.{HoldsAt, load_frame};
-ghost use Rattle.vm_core.specs.PageOf.{core_of};
-ghost use Rattle.vm_core.specs.Step.{MayPut, MayStore, NamesActorAndPage, put_under, stored_at, taken_out};
+ghost use Rattle.std.specs.Prelude.{◌<◌, ◌↔◌, ◌≡◌, false, IsTrue, slice_index, true, ℕ};
+ghost use Rattle.vm_core.specs.Prelude.{ClearFrame, core_of, HoldsAt, load_frame, NamesActorAndPage, Steps, stored_at};
+ghost use Rattle.vm_core.specs.Step.{MayPut, MayStore, put_under, taken_out};
 
 use crate::event::{Event, Illegal, Seen};
 use crate::frames::frame_words;

@@ -1,10 +1,8 @@
 //! The calls of a page's block, which may fail, and the fault word that tells it.
 
-ghost use Rattle.std.specs.Prelude.{◌≡◌, ◌<◌, IsTrue, [], length, ◌↔◌};
-ghost use Rattle.vm_core.specs.CoreOf.{PageSteps};
-ghost use Rattle.vm_core.specs.DeviceActs.{MayCall, MayWrite, block_after, failed};
-ghost use Rattle.vm_core.specs.PageOf.{page_of, words_of_frames};
-ghost use Rattle.vm_core.specs.Words.{count_more};
+ghost use Rattle.std.specs.Prelude.{[], ◌<◌, ◌↔◌, ◌≡◌, IsTrue, length};
+ghost use Rattle.vm_core.specs.Prelude.{block_after, count_more, MayCall, page_of, PageSteps, words_of_frames};
+ghost use Rattle.vm_core.specs.DeviceActs.{failed, MayWrite};
 
 use crate::event::{Illegal, Mapping, PageAct, Seen};
 use crate::frames::frame_words;
@@ -104,7 +102,7 @@ impl PageCell {
 }
 
 /// One fault more; the count stays at its last value.
-#[tactic(auto, unfolding(crate::specs::Words::count_more))]
+#[tactic(auto, unfolding(vm_page::specs::Counts::count_more))]
 fn count_more(count: u64) -> u64
     ensures { result ≡ count_more count }
 {

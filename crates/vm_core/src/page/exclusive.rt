@@ -1,10 +1,9 @@
 //! The exclusive lock of a page: taken, upgraded from a write-back, and given up at the next version.
 
-ghost use Rattle.std.specs.Prelude.{◌≡◌, ◌<◌, ◌⊎◌, IsTrue, [], length, ◌↔◌};
-ghost use Rattle.vm_core.specs.CoreOf.{PageSteps};
-ghost use Rattle.vm_core.specs.PageOf.{page_of};
-ghost use Rattle.vm_core.specs.StateActs.{MayEmpty, MayReleaseLock, MayUpgrade, downgraded, emptied, locked, released, upgraded};
-ghost use Rattle.vm_core.specs.Words.{UNLOCKED, MARKED, EVICTED, state_of, version_of};
+ghost use Rattle.std.specs.Prelude.{[], ◌<◌, ◌↔◌, ◌≡◌, ◌⊎◌, IsTrue, length};
+ghost use Rattle.vm_core.specs.Prelude.{EVICTED, locked, MARKED, MayEmpty, MayReleaseLock, MayUpgrade, page_of, PageSteps, state_of, UNLOCKED};
+ghost use Rattle.vm_core.specs.Prelude.{upgraded, version_of};
+ghost use Rattle.vm_core.specs.StateActs.{downgraded, emptied, released};
 
 use crate::event::{Illegal, PageAct, Seat, Seen};
 use crate::page::PageCell;

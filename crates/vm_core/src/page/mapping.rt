@@ -1,9 +1,8 @@
 //! The frame under a page: put there, taken away, made dirty and clean.
 
-ghost use Rattle.std.specs.Prelude.{◌≡◌, ◌<◌, IsTrue, true, [], length, ◌↔◌};
-ghost use Rattle.vm_core.specs.CoreOf.{ClearFrame, PageSteps};
-ghost use Rattle.vm_core.specs.FrameActs.{HoldsAt, MayClean, MayDirty, MayInstall, cleared, installed, with_dirty};
-ghost use Rattle.vm_core.specs.PageOf.{page_of, words_of_frames};
+ghost use Rattle.std.specs.Prelude.{[], ◌<◌, ◌↔◌, ◌≡◌, IsTrue, length, true};
+ghost use Rattle.vm_core.specs.Prelude.{cleared, ClearFrame, HoldsAt, installed, MayClean, MayDirty, MayInstall, page_of, PageSteps, with_dirty};
+ghost use Rattle.vm_core.specs.Prelude.{words_of_frames};
 
 use crate::event::{Illegal, Mapping, PageAct, Seen};
 use crate::frames::frame_words;

@@ -1,9 +1,7 @@
 //! Optimistic reads of a page: looks, the frame of an open read, and what a load reads.
 
-ghost use Rattle.std.specs.Prelude.{◌≡◌, ◌<◌, ◌==◌, ◌||◌, ◌&&◌, is_some, nat_lt, if◌then◌else◌, length};
-ghost use Rattle.vm_core.specs.FrameActs.{frame_of, frame_read, framed, load_frame, open_frame};
-ghost use Rattle.vm_core.specs.PageOf.{page_of};
-ghost use Rattle.vm_core.specs.StateActs.{left_of, left_open, looked, open_after};
+ghost use Rattle.std.specs.Prelude.{◌&&◌, ◌<◌, ◌==◌, ◌||◌, ◌≡◌, if◌then◌else◌, is_some, length, nat_lt};
+ghost use Rattle.vm_core.specs.Prelude.{frame_of, frame_read, framed, left_of, left_open, load_frame, looked, open_after, open_frame, page_of};
 ghost use Rattle.vm_core.specs.declared.event.ReadIs.TheVariants.{Closed};
 
 use crate::event::{Mapping, Open, ReadIs, Seat};

@@ -1,10 +1,8 @@
 //! The shares of a page, its clock mark, and the lock for write-back.
 
-ghost use Rattle.std.specs.Prelude.{◌≡◌, ◌<◌, ◌≤◌, ◌⊎◌, [], length};
-ghost use Rattle.vm_core.specs.CoreOf.{PageSteps};
-ghost use Rattle.vm_core.specs.PageOf.{page_of};
-ghost use Rattle.vm_core.specs.StateActs.{MayUnlock, marked, one_share_more, shared, unlocked, unmarked, unshared, write_locked};
-ghost use Rattle.vm_core.specs.Words.{UNLOCKED, MARKED};
+ghost use Rattle.std.specs.Prelude.{[], ◌<◌, ◌≡◌, ◌≤◌, ◌⊎◌, length};
+ghost use Rattle.vm_core.specs.Prelude.{MARKED, marked, MayUnlock, one_share_more, page_of, PageSteps, shared, UNLOCKED, unlocked, unmarked};
+ghost use Rattle.vm_core.specs.Prelude.{unshared, write_locked};
 
 use crate::event::{Illegal, PageAct, Seat, Seen};
 use crate::page::PageCell;

@@ -1,13 +1,13 @@
-use Rattle.std.proofs.Common.{◌≡◌, ◌+◌, ◌*◌, ◌<◌, ◌∙◌, ◌∷◌, ◌++◌, [], sym, ap, length, take, map, replicate, ltb, arith}
 use Rattle.std.specs.List.{range_with_len}
-use Rattle.std.proofs.Math.ListN.{length-set}
-use Rattle.std.proofs.Math.Seq.{take-length}
+use Rattle.std.proofs.Common.{[], ◌*◌, ◌++◌, ◌+◌, ◌<◌, ◌∙◌, ◌∷◌, ◌≡◌, ap, arith, length, ltb, map, replicate, sym, take}
 use Rattle.std.proofs.lemmas.Bool.{cond-true, lt-ltb}
 use Rattle.std.proofs.lemmas.List.{take_more_set}
 use Rattle.std.proofs.lemmas.List.FromFn.{map-range_with_len_more}
-use Rattle.vm_core.specs.Start.{core_block}
-use Rattle.vm_core.proofs.Starting.{block-past}
+use Rattle.std.proofs.Math.ListN.{length-set}
+use Rattle.std.proofs.Math.Seq.{take-length}
+use Rattle.vm_core.specs.Prelude.{core_block}
 use Rattle.vm_core.proofs.initial.core_block.Goals as goal
+use Rattle.vm_core.proofs.Starting.{block-past}
 
 pub loop-i-preserved : goal.loop-i-preserved
 loop-i-preserved c =

@@ -1,5 +1,5 @@
-use Rattle.std.proofs.Common.{◌≡◌, ◌+◌, ◌*◌, length, take, map}
 use Rattle.std.specs.List.{range_with_len}
+use Rattle.std.proofs.Common.{◌*◌, ◌+◌, ◌≡◌, length, map, take}
 use Rattle.vm_core.proofs.initial.core_block.Given as goal
 
 abbrev pub invariant-loop-i : goal.invariant-loop-i

@@ -1,4 +1,4 @@
-use Rattle.vm_core.specs.Making.{StartBundles}
+use Rattle.vm_core.specs.Prelude.{StartBundles}
 use Rattle.vm_core.proofs.initial.start_bundles.Given as goal
 
 abbrev pub invariant-loop-g : goal.invariant-loop-g

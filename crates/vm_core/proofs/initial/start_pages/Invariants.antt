@@ -1,4 +1,4 @@
-use Rattle.vm_core.specs.Making.{StartPages}
+use Rattle.vm_core.specs.Prelude.{StartPages}
 use Rattle.vm_core.proofs.initial.start_pages.Given as goal
 
 abbrev pub invariant-loop-p : goal.invariant-loop-p

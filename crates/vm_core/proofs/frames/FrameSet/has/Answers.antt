@@ -1,7 +1,7 @@
-use Rattle.std.proofs.Common.{ℕ, ap, eqb, sym, ◌∙◌, subst, ◌<◌, length, List, ◌/◌, ◌%◌}
 use Rattle.std.specs.Int.{bit_at}
+use Rattle.std.proofs.Common.{◌%◌, ◌/◌, ◌<◌, ◌∙◌, ap, eqb, length, List, subst, sym, ℕ}
 use Rattle.std.proofs.lemmas.Nat.Bits.{shr_and_one}
-use Rattle.vm_core.specs.Words.{has_free_bit}
+use Rattle.vm_core.specs.Prelude.{has_free_bit}
 use Rattle.vm_core.proofs.At.{at-value}
 use Rattle.vm_core.proofs.frames.FrameSet.has.Goals as goal
 

@@ -1,8 +1,7 @@
-use Rattle.std.proofs.Common.{ℕ, ◌<◌, sym, subst, length, List, arith}
-use Rattle.std.proofs.lemmas.Bool.{eqb-true, eq-eqb}
-use Rattle.vm_core.specs.Fn.{at}
-use Rattle.vm_core.proofs.At.{at-value}
-use Rattle.vm_core.proofs.Masks.{all-held}
+use Rattle.std.proofs.Common.{◌<◌, arith, length, List, subst, sym, ℕ}
+use Rattle.std.proofs.lemmas.Bool.{eq-eqb, eqb-true}
+use Rattle.vm_core.specs.Prelude.{at}
+use Rattle.vm_core.proofs.{At.at-value, Masks.all-held}
 use Rattle.vm_core.proofs.frames.FrameSet.has_all.Goals as goal
 
 pub returns : goal.returns

@@ -1,8 +1,6 @@
-use Rattle.std.proofs.Common.{ℕ, ap, sym, ◌∙◌, subst, ◌<◌, length, List, ◌/◌}
-use Rattle.vm_core.specs.Fn.{at}
-use Rattle.vm_core.specs.Words.{has_free_bit}
-use Rattle.vm_core.proofs.At.{at_set, at-value}
-use Rattle.vm_core.proofs.Masks.{cleared-free}
+use Rattle.std.proofs.Common.{◌/◌, ◌<◌, ◌∙◌, ap, length, List, subst, sym, ℕ}
+use Rattle.vm_core.specs.Prelude.{at, has_free_bit}
+use Rattle.vm_core.proofs.{At.at-value, At.at_set, Masks.cleared-free}
 use Rattle.vm_core.proofs.frames.FrameSet.remove.Goals as goal
 
 pub returns-clause-words : goal.returns-clause-words

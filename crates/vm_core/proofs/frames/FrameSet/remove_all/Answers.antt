@@ -1,8 +1,6 @@
-use Rattle.std.proofs.Common.{ℕ, ◌<◌, ◌∙◌, sym, ap, subst, length, List, arith}
-use Rattle.vm_core.specs.Fn.{at}
-use Rattle.vm_core.specs.Words.{has_free_bit}
-use Rattle.vm_core.proofs.At.{at_set, at-value}
-use Rattle.vm_core.proofs.Masks.{removed-free}
+use Rattle.std.proofs.Common.{◌<◌, ◌∙◌, ap, arith, length, List, subst, sym, ℕ}
+use Rattle.vm_core.specs.Prelude.{at, has_free_bit}
+use Rattle.vm_core.proofs.{At.at-value, At.at_set, Masks.removed-free}
 use Rattle.vm_core.proofs.frames.FrameSet.remove_all.Goals as goal
 
 pub returns-clause-words : goal.returns-clause-words

@@ -1,6 +1,5 @@
-use Rattle.std.proofs.Common.{◌<◌, ◌∙◌, sym, ap, subst, length, slice_index, arith}
-use Rattle.vm_core.specs.PageOf.{CoreData}
-use Rattle.vm_core.specs.State.{Page}
+use Rattle.std.proofs.Common.{◌<◌, ◌∙◌, ap, arith, length, slice_index, subst, sym}
+use Rattle.vm_core.specs.Prelude.{CoreData, Page}
 use Rattle.vm_core.proofs.At.{page-here}
 use Rattle.vm_core.proofs.machine.Core.block_word.Goals as goal
 

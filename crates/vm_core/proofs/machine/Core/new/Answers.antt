@@ -1,7 +1,7 @@
-use Rattle.std.proofs.Common.{◌≡◌, ◌+◌, ◌/◌, ◌∙◌, ap, subst, replicate}
-use Rattle.vm_core.specs.Making.{StartBundles}
-use Rattle.vm_core.proofs.Starting.{StartLists, start-is}
+use Rattle.std.proofs.Common.{◌+◌, ◌/◌, ◌∙◌, ◌≡◌, ap, replicate, subst}
+use Rattle.vm_core.specs.Prelude.{StartBundles}
 use Rattle.vm_core.proofs.machine.Core.new.Goals as goal
+use Rattle.vm_core.proofs.Starting.{start-is, StartLists}
 
 pub returns : goal.returns
 returns c =

@@ -1,9 +1,6 @@
-use Rattle.std.proofs.Common.{◌≡◌, ◌<◌, ◌+◌, ◌/◌, false, sym, subst, length, arith}
-use Rattle.vm_core.specs.FrameActs.{HoldsAt}
-use Rattle.vm_core.specs.PageOf.{CoreData, core_of}
-use Rattle.vm_core.specs.Step.{NamesActorAndPage}
-use Rattle.vm_core.proofs.At.{frame-in}
-use Rattle.vm_core.proofs.Masks.{row-length, core-cleared}
+use Rattle.std.proofs.Common.{◌+◌, ◌/◌, ◌<◌, ◌≡◌, arith, false, length, subst, sym}
+use Rattle.vm_core.specs.Prelude.{core_of, CoreData, HoldsAt, NamesActorAndPage}
+use Rattle.vm_core.proofs.{At.frame-in, Masks.core-cleared, Masks.row-length}
 use Rattle.vm_core.proofs.machine.Core.unmap_frame.Goals as goal
 
 pub insert-requires : goal.insert-requires

@@ -1,10 +1,8 @@
-use Rattle.std.proofs.Common.{◌∙◌, ap, sym, subst, length, List}
+use Rattle.std.proofs.Common.{◌∙◌, ap, length, List, subst, sym}
+use Rattle.vm_core.specs.Prelude.{at, evicted_page, LocksInv, no_seat}
 use Rattle.vm_core.specs.declared.event.Seat.{Seat}
-use Rattle.vm_core.specs.Fn.{at}
-use Rattle.vm_core.specs.Inv.{LocksInv}
-use Rattle.vm_core.specs.Start.{no_seat, evicted_page}
-use Rattle.vm_core.proofs.Starting.{no-seats, locks-start}
 use Rattle.vm_core.proofs.page.PageCell.new.Goals as goal
+use Rattle.vm_core.proofs.Starting.{locks-start, no-seats}
 
 pub invariant_of-result : goal.invariant_of-result
 invariant_of-result c =

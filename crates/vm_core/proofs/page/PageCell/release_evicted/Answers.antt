@@ -1,8 +1,6 @@
-use Rattle.std.proofs.Common.{◌<◌, length, false, subst, sym}
-use Rattle.vm_core.specs.PageOf.{PageData, page_of}
-use Rattle.vm_core.specs.StateActs.{MayEmpty}
-use Rattle.vm_core.proofs.At.{locks-write}
-use Rattle.vm_core.proofs.Locks.{locks-empty}
+use Rattle.std.proofs.Common.{◌<◌, false, length, subst, sym}
+use Rattle.vm_core.specs.Prelude.{MayEmpty, page_of, PageData}
+use Rattle.vm_core.proofs.{At.locks-write, Locks.locks-empty}
 use Rattle.vm_core.proofs.page.PageCell.release_evicted.Goals as goal
 
 pub invariant_of-self : goal.invariant_of-self

@@ -1,11 +1,11 @@
-use Rattle.std.proofs.Common.{◌≡◌, ◌<◌, ◌+◌, ◌∙◌, sym, bit_and, arith, refl}
 use Rattle.std.specs.Int.{bit_at}
+use Rattle.std.proofs.Common.{◌+◌, ◌<◌, ◌∙◌, ◌≡◌, arith, bit_and, refl, sym}
 use Rattle.std.proofs.lemmas.Nat.{one_shl}
-use Rattle.std.proofs.lemmas.Nat.Bits.{shr_and_one, bit_at-lt}
-use Rattle.vm_core.specs.Fn.{sum_below}
+use Rattle.std.proofs.lemmas.Nat.Bits.{bit_at-lt, shr_and_one}
+use Rattle.vm_core.specs.Prelude.{sum_below}
 use Rattle.vm_core.proofs.WordBits.{lowest-below, sum-next}
+use Rattle.vm_core.proofs.words.Bundle.lowest.Goals.{else-word-i-eq1, then-word-i-eq1}
 use Rattle.vm_core.proofs.words.Bundle.lowest.Goals as goal
-use Rattle.vm_core.proofs.words.Bundle.lowest.Goals.{then-word-i-eq1, else-word-i-eq1}
 
 pub loop-i-init : goal.loop-i-init
 unfolding sum_below

@@ -1,6 +1,6 @@
-use Rattle.std.proofs.Common.{◌≡◌, ◌≤◌}
 use Rattle.std.specs.Int.{bit_at}
-use Rattle.vm_core.specs.Fn.{sum_below}
+use Rattle.std.proofs.Common.{◌≡◌, ◌≤◌}
+use Rattle.vm_core.specs.Prelude.{sum_below}
 use Rattle.vm_core.proofs.words.Bundle.lowest.Given as goal
 
 abbrev pub invariant-loop-i : goal.invariant-loop-i

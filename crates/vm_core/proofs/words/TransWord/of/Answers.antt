@@ -1,5 +1,5 @@
-use Rattle.std.proofs.Common.{◌∙◌, sym, arith}
-use Rattle.vm_core.proofs.WordBits.{frame-of, top-set, top-clear}
+use Rattle.std.proofs.Common.{◌∙◌, arith, sym}
+use Rattle.vm_core.proofs.WordBits.{frame-of, top-clear, top-set}
 use Rattle.vm_core.proofs.words.TransWord.of.Goals as goal
 
 pub returns-then-dirty-clause-frame : goal.returns-then-dirty-clause-frame
