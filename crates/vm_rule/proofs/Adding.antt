@@ -1,39 +1,21 @@
 -- The rule after one step of a pass.
-use Rattle.std.proofs.Common.{ℕ, Bool, true, false, true≢false, Option, List, [], ◌∷◌, ◌++◌, ◌≡◌, ◌≢◌, ◌+◌, ◌<◌, ◌≤◌, length, refl, sym, ap, subst, ◌∙◌, inl, arith, ⊎_elim, append_assoc, slice_set}
+use Rattle.std.proofs.Common.{[], ⊎_elim, ◌++◌, ◌+◌, ◌<◌, ◌∙◌, ◌∷◌, ◌≡◌, ◌≢◌, ◌≤◌, ap, append_assoc, arith, Bool, false, inl, length, List, Option}
+use Rattle.std.proofs.Common.{refl, slice_set, subst, sym, true, true≢false, ℕ}
 use Rattle.std.proofs.lemmas.Bool.{cases_Bool}
 use mathlib.Core.Option as maybe
-use mathlib.Core.Option.{some}
-use lib.ListN.{get_elem?}
-use Rattle.atomic_table.specs.Table.{State as Table}
 use Rattle.atomic_table.proofs.Lists.{at_set, set_here}
-use Rattle.vm_core.specs.declared.event.Event.{Event}
-use Rattle.vm_core.specs.Words.{EVICTED}
-use Rattle.vm_core.specs.State.{Page}
-use Rattle.vm_core.specs.History.{World, world_after}
-use Rattle.vm_core.specs.Inv.{Inv}
-use Rattle.vm_laws_others.specs.Leaves.{Leaves}
-use Rattle.vm_owner.specs.declared.Entry.{Entry}
-use Rattle.vm_owner.specs.Kept.{Start, Kept}
-use Rattle.vm_owner.specs.Numbers.{has}
-use Rattle.vm_block.specs.declared.stored.Stored.{Stored}
-use Rattle.vm_rule.specs.declared.view.Did.{Did}
-use Rattle.vm_rule.specs.declared.view.Origin.{Origin}
-use Rattle.vm_rule.specs.declared.view.Release.{Release}
-use Rattle.vm_rule.specs.declared.view.Tie.{Tie}
-use Rattle.vm_rule.specs.declared.view.View.{View}
-use Rattle.vm_rule.specs.Puts.{listed}
-use Rattle.vm_rule.specs.Views.{Each, PARTS, times, times_noted, entries_by, owns, spent}
-use Rattle.vm_rule.specs.Reading.{block_of, last_in, world_of}
-use Rattle.vm_rule.specs.Rule.{TranslationHolds, TieHolds, WereWords, began_of, is_pending, KnowsLists, KnowsPages, FaultsFit, ListsFit, PartsFit, snapshot_of, Ruled}
-use Rattle.vm_rule.proofs.Runs.{event_law}
+use Rattle.vm_core.specs.Prelude.{EVICTED, get_elem?, Inv, Page, some, World, world_after}
+use Rattle.vm_rule.specs.Prelude.{began_of, block_of, Each, entries_by, Entry, Event, FaultsFit, has, is_pending, Kept, KnowsLists, KnowsPages}
+use Rattle.vm_rule.specs.Prelude.{last_in, Leaves, listed, ListsFit, owns, PARTS, PartsFit, Ruled, snapshot_of, spent, Start, Stored, Table, TieHolds}
+use Rattle.vm_rule.specs.Prelude.{times, times_noted, TranslationHolds, WereWords, world_of}
+use Rattle.vm_rule.specs.{declared.view.Did.Did, declared.view.Origin.Origin, declared.view.Release.Release, declared.view.Tie.Tie}
+use Rattle.vm_rule.specs.{declared.view.View.View}
+use Rattle.vm_rule.proofs.{Facts.blocks-still, Facts.has-part, Found.outside-here, Found.seat-here, Runs.event_law, Were.were-did, Were.were-moves}
+use Rattle.vm_rule.proofs.{Worlds.draft-is, Worlds.last-is}
+use Rattle.vm_rule.proofs.Entries.{append-none, each-map, entries-both, entries-none, entries-within, mine-in, not-whole, starts-self, total-same}
+use Rattle.vm_rule.proofs.Heard.{Added, added, each-both, next-both, starts-more}
+use Rattle.vm_rule.proofs.Known.{any-gone, histories-outside, known-else, tie-moves, translation-moves}
 use Rattle.vm_rule.proofs.Views.{at-bound, at-there, block-same}
-use Rattle.vm_rule.proofs.Entries.{each-map, append-none, starts-self, entries-both, entries-none, entries-within, mine-in, not-whole, total-same}
-use Rattle.vm_rule.proofs.Heard.{Added, added, each-both, starts-more, next-both}
-use Rattle.vm_rule.proofs.Were.{were-moves, were-did}
-use Rattle.vm_rule.proofs.Known.{histories-outside, translation-moves, tie-moves, any-gone, known-else}
-use Rattle.vm_rule.proofs.Found.{seat-here, outside-here}
-use Rattle.vm_rule.proofs.Worlds.{last-is, draft-is}
-use Rattle.vm_rule.proofs.Facts.{has-part, blocks-still}
 pub use Rattle.vm_rule.proofs.Showing.{after_more, became_more, world_more, ShowsMore, became, after_step, Shows}
 
 module _ {X B : Type 0} (stored : B → Stored) (keeps : Start → Kept X → Type 0) (tied : Start → ℕ → List ℕ → ℕ → List ℕ → Type 0) (start : Origin) (tells : Bool) where

@@ -1,29 +1,16 @@
 -- The first step of the first pass: a load of the first state word, after which the pass lives and knows how the table began.
-use Rattle.std.proofs.Common.{ℕ, Bool, Option, ◌≡◌, ◌≤◌, ◌++◌, List, [], ◌∷◌, length, zero, suc, refl, sym, ap, subst, ◌∙◌, inl, arith, ⊎_elim, slice_index, slice_set}
+use Rattle.std.proofs.Common.{[], ⊎_elim, ◌++◌, ◌∙◌, ◌∷◌, ◌≡◌, ◌≤◌, ap, arith, Bool, inl, length, List, Option, refl, slice_index, slice_set, subst}
+use Rattle.std.proofs.Common.{suc, sym, zero, ℕ}
 use mathlib.Core.Option as maybe
-use mathlib.Core.Option.{some, some-injective}
-use lib.ListN.{get_elem?}
-use Rattle.atomic_table.specs.Table.{State as Table, Me, Step, step, Allows, keeps as stays, stepped}
+use Rattle.atomic_table.specs.Table.{keeps as stays, step, stepped}
+use Rattle.vm_core.specs.Prelude.{get_elem?, some}
 use Rattle.vm_core.specs.declared.event.Event.TheVariants.{NLoad}
-use Rattle.vm_block.specs.declared.stored.Stored.{Stored}
-use Rattle.vm_owner.specs.Kept.{Start, Kept}
-use Rattle.vm_rule.specs.declared.view.Did.{Did}
-use Rattle.vm_rule.specs.declared.view.Origin.{Origin}
+use Rattle.vm_rule.specs.Prelude.{Allows, block_of, brought, did_load, first_view, HasShape, Kept, listed, Me, Ruled, snapshot_of, Sound, Stands}
+use Rattle.vm_rule.specs.Prelude.{Start, Step, Stored, Table, unborn}
+use Rattle.vm_rule.specs.{Begun.begin_play, Begun.begun, declared.view.Did.Did, declared.view.Origin.Origin, declared.view.Shape.Shape}
+use Rattle.vm_rule.specs.{declared.view.View.View}
 use Rattle.vm_rule.specs.declared.view.Place.TheVariants as places
-use Rattle.vm_rule.specs.declared.view.Shape.{Shape}
-use Rattle.vm_rule.specs.declared.view.View.{View}
-use Rattle.vm_rule.specs.Puts.{listed}
-use Rattle.vm_rule.specs.Views.{first_view}
-use Rattle.vm_rule.specs.Reading.{block_of}
-use Rattle.vm_rule.specs.Rule.{snapshot_of, Ruled}
-use Rattle.vm_rule.specs.Brought.{brought}
-use Rattle.vm_rule.specs.Log.{did_load}
-use Rattle.vm_rule.specs.Begun.{HasShape, unborn, begun, begin_play, Stands}
-use Rattle.vm_rule.proofs.Found.{same-word}
-use Rattle.vm_rule.proofs.Bringing.{rested}
-use Rattle.vm_rule.proofs.FirstRule.{only-view}
-use Rattle.vm_rule.proofs.Sound.{is-sound}
-use Rattle.vm_rule.specs.Sound.{Sound}
+use Rattle.vm_rule.proofs.{Bringing.rested, FirstRule.only-view, Found.same-word, Sound.is-sound}
 
 only-place : {A : Type 0} (x : A) (j : ℕ) (y : A) → get_elem? (x ∷ []) j ≡ some y → j ≡ 0
 only-place x zero y e = refl

@@ -1,24 +1,12 @@
 -- Beside a pass with all parts every other has none, so it holds nothing: a page that such a pass has not locked is not locked.
-use Rattle.std.proofs.Common.{ℕ, Bool, false, true≢false, ◌≡◌, ◌≢◌, ◌⊎◌, ◌+◌, ◌<◌, ◌≤◌, Option, List, [], ◌∷◌, length, zero, suc, refl, sym, ap, subst, ◌∙◌, inl, inr, arith, ⊎_elim}
+use Rattle.std.proofs.Common.{[], ⊎_elim, ◌+◌, ◌<◌, ◌∙◌, ◌∷◌, ◌≡◌, ◌≢◌, ◌≤◌, ◌⊎◌, ap, arith, Bool, false, inl, inr, length, List, Option, refl, subst}
+use Rattle.std.proofs.Common.{suc, sym, true≢false, zero, ℕ}
 use Rattle.std.proofs.lemmas.Bool.{cases_Bool, cases_eq, cases_lt, eq-eqb, lt-ltb}
-use mathlib.Core.Option.{some}
-use lib.ListN.{get_elem?}
-use Rattle.atomic_table.specs.Table.{State as Table}
-use Rattle.vm_core.specs.declared.event.Seat.{Seat}
-use Rattle.vm_core.specs.Fn.{sum_below}
-use Rattle.vm_core.specs.Words.{UNLOCKED, LOCKED, MARKED, EVICTED}
-use Rattle.vm_core.specs.State.{Page}
-use Rattle.vm_core.specs.Inv.{share_count}
+use Rattle.vm_core.specs.Prelude.{EVICTED, get_elem?, LOCKED, MARKED, Page, share_count, some, sum_below, UNLOCKED}
 use Rattle.vm_core.proofs.Upd.{sum_below-past}
-use Rattle.vm_owner.specs.Kept.{Start, Kept}
-use Rattle.vm_block.specs.declared.stored.Stored.{Stored}
-use Rattle.vm_rule.specs.declared.view.Origin.{Origin}
-use Rattle.vm_rule.specs.declared.view.View.{View}
-use Rattle.vm_rule.specs.Views.{IsWhole, times, owns, seat_of, spent}
-use Rattle.vm_rule.specs.Reading.{core_shown}
-use Rattle.vm_rule.specs.Rule.{HoldsNothing, Ruled}
-use Rattle.vm_rule.proofs.Entries.{not-whole}
-use Rattle.vm_rule.proofs.Found.{seat-here}
+use Rattle.vm_rule.specs.Prelude.{core_shown, HoldsNothing, IsWhole, Kept, owns, Ruled, Seat, seat_of, spent, Start, Stored, Table, times}
+use Rattle.vm_rule.specs.{declared.view.Origin.Origin, declared.view.View.View}
+use Rattle.vm_rule.proofs.{Entries.not-whole, Found.seat-here}
 
 pub no-times : (l : List ℕ) → ((n : ℕ) → 1 ≤ times n l → ⊥) → l ≡ []
 no-times [] none = refl

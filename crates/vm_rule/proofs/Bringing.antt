@@ -1,38 +1,19 @@
 -- What a step tells of the lists, the table and the log; and the step that changes nothing of the core and of its own view but these.
-use Rattle.std.proofs.Common.{ℕ, Bool, true, true≢false, Option, None, List, [], ◌∷◌, ◌++◌, ◌≡◌, ◌+◌, ◌<◌, length, refl, sym, ap, subst, ◌∙◌, inl, arith, slice_set, length-append}
-use mathlib.Core.Path.{fun_ext}
+use Rattle.std.proofs.Common.{[], ◌++◌, ◌+◌, ◌<◌, ◌∙◌, ◌∷◌, ◌≡◌, ap, arith, Bool, inl, length, length-append, List, None, Option, refl, slice_set}
+use Rattle.std.proofs.Common.{subst, sym, true, true≢false, ℕ}
 use mathlib.Core.Option as maybe
-use mathlib.Core.Option.{some}
-use lib.ListN.{get_elem?}
-use Rattle.atomic_table.specs.Table.{State as Table}
-use Rattle.vm_core.specs.declared.event.Event.{Event}
-use Rattle.vm_core.specs.State.{Page}
-use Rattle.vm_core.specs.History.{World, world_after}
-use Rattle.vm_core.specs.Step.{Legal}
-use Rattle.vm_laws_others.specs.Leaves.{Leaves, actor_of}
-use Rattle.vm_laws_others.proofs.Laws.{leave_others}
-use Rattle.vm_owner.specs.declared.Entry.{Entry}
-use Rattle.vm_owner.specs.Kept.{Start, Kept}
-use Rattle.vm_owner.specs.Numbers.{has}
-use Rattle.vm_block.specs.declared.stored.Stored.{Stored}
-use Rattle.vm_rule.specs.declared.view.Did.{Did}
-use Rattle.vm_rule.specs.declared.view.Origin.{Origin}
-use Rattle.vm_rule.specs.declared.view.Release.{Release}
-use Rattle.vm_rule.specs.declared.view.Snapshot.{Snapshot}
-use Rattle.vm_rule.specs.declared.view.View.{View}
-use Rattle.vm_rule.specs.Puts.{listed, put_at, chosen}
-use Rattle.vm_rule.specs.Layout.{Within, index_of}
-use Rattle.vm_rule.specs.Views.{StartsWith, seat_of, entries_by, Hears}
-use Rattle.vm_rule.specs.Reading.{block_of, core_shown, world_of, histories_of, last_in}
-use Rattle.vm_rule.specs.Rule.{KnowsPage, no_held, is_pending, is_owed, logical, began_of, KnowsLists, KnowsPages, Ruled}
-use Rattle.vm_rule.specs.Sound.{Sound}
-use Rattle.vm_rule.specs.Brought.{set_if, set_block, IsFoundAt, IsStepOf, brought, BringsWith, Brings}
-use Rattle.vm_rule.proofs.Views.{any-same, at-bound}
-use Rattle.vm_rule.proofs.Entries.{append-none}
+use mathlib.Core.Path.{fun_ext}
 use Rattle.atomic_table.proofs.Lists.{set_here}
-use Rattle.vm_rule.proofs.Sound.{is-sound}
-use Rattle.vm_rule.proofs.Worlds.{last-is, draft-is, core-still, world-still}
-use Rattle.vm_rule.proofs.Adding.{after_more, became_more, ShowsMore, became, after_step, Shows, adds, adds_more}
+use Rattle.vm_core.specs.Prelude.{get_elem?, Legal, Page, some, World, world_after}
+use Rattle.vm_laws_others.proofs.Laws.{leave_others}
+use Rattle.vm_rule.specs.Prelude.{actor_of, began_of, block_of, Brings, BringsWith, brought, chosen, core_shown, Entry, Event, has, Hears}
+use Rattle.vm_rule.specs.Prelude.{histories_of, index_of, is_owed, is_pending, IsFoundAt, Kept, KnowsLists, KnowsPage, KnowsPages, last_in, Leaves}
+use Rattle.vm_rule.specs.Prelude.{listed, logical, no_held, put_at, Ruled, seat_of, set_if, Sound, Start, StartsWith, Stored, Table, Within, world_of}
+use Rattle.vm_rule.specs.{Brought.IsStepOf, Brought.set_block, declared.view.Did.Did, declared.view.Origin.Origin, declared.view.Release.Release}
+use Rattle.vm_rule.specs.{declared.view.Snapshot.Snapshot, declared.view.View.View}
+use Rattle.vm_rule.proofs.{Entries.append-none, Sound.is-sound, Views.any-same, Views.at-bound}
+use Rattle.vm_rule.proofs.Adding.{adds, adds_more, after_more, after_step, became, became_more, Shows, ShowsMore}
+use Rattle.vm_rule.proofs.Worlds.{core-still, draft-is, last-is, world-still}
 
 -- what is the whole list has nothing behind it
 none-behind : {A : Type 0} (l rest : List A) → l ≡ l ++ rest → rest ≡ []

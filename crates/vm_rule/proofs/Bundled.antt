@@ -1,22 +1,16 @@
 -- The frames of a bundle whose bits are set: the list of them has just these, each once. What stands in a list that others were taken from, and
 -- what is known of frames whose words became known. Bits that are set are those of free frames, which no pass has.
-use Rattle.std.proofs.Common.{ℕ, ◌≡◌, ◌≢◌, ◌+◌, ◌*◌, ◌/◌, ◌%◌, ◌^◌, ◌<◌, ◌≤◌, ◌||◌, ◌&&◌, List, [], ◌∷◌, ◌++◌, zero, suc, refl, sym, ap, ◌∙◌, arith, ⊎_elim, true, false, true≢false, Bool, eqb, if◌then◌else◌, min, bit_and}
-use Rattle.std.proofs.lemmas.Bool.{cases_eq, cases_lt, eq-eqb, ne_eqb, and_left, and_from}
-use Rattle.std.proofs.lemmas.Nat.Bits.{bit_at_and, bit_at-lt, bit_at-zero, bit_at_above, same_from_bits}
 use Rattle.std.specs.Int.{bit_at}
-use Rattle.vm_core.specs.Words.{in_mask, has_free_bit}
-use Rattle.vm_core.specs.History.{World}
-use Rattle.vm_core.specs.Inv.{Inv, at_free, at_actor}
-use Rattle.vm_core.specs.Inv.Place.{Free}
-use Rattle.vm_core.proofs.Upd.{upd-same, upd-other}
-use Rattle.vm_laws_frame.proofs.Bits.{taken-free}
-use Rattle.vm_laws_frame.proofs.Places.{free-place, held-place}
-use Rattle.vm_owner.specs.Numbers.{has, without, AreApart}
-use Rattle.vm_owner.proofs.NumberLemmas.{has-without_same, has-without_other}
+use Rattle.std.proofs.Common.{[], ⊎_elim, ◌%◌, ◌&&◌, ◌*◌, ◌++◌, ◌+◌, ◌/◌, ◌<◌, ◌^◌, ◌||◌, ◌∙◌, ◌∷◌, ◌≡◌, ◌≢◌, ◌≤◌, ap, arith, bit_and, Bool, eqb}
+use Rattle.std.proofs.Common.{false, if◌then◌else◌, List, min, refl, suc, sym, true, true≢false, zero, ℕ}
+use Rattle.std.proofs.lemmas.Bool.{and_from, and_left, cases_eq, cases_lt, eq-eqb, ne_eqb}
+use Rattle.std.proofs.lemmas.Nat.Bits.{bit_at-lt, bit_at-zero, bit_at_above, bit_at_and, same_from_bits}
+use Rattle.vm_core.specs.Prelude.{at_actor, at_free, Free, has_free_bit, in_mask, Inv, World}
+use Rattle.vm_core.proofs.Upd.{upd-other, upd-same}
+use Rattle.vm_laws_frame.proofs.{Bits.taken-free, Places.free-place, Places.held-place}
+use Rattle.vm_owner.proofs.NumberLemmas.{has-without_other, has-without_same}
+use Rattle.vm_rule.specs.Prelude.{AreApart, frames_below, frames_in, has, put_at, with_contents, without, without_all}
 use Rattle.vm_rule.specs.declared.view.Put.{Put}
-use Rattle.vm_rule.specs.Puts.{put_at}
-use Rattle.vm_rule.specs.Bundles.{frames_below, frames_in, with_contents}
-use Rattle.vm_rule.specs.Releases.{without_all}
 use Rattle.vm_rule.proofs.Facts.{has-both}
 
 -- ---- the frames of a mask

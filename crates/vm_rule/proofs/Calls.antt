@@ -1,19 +1,12 @@
 -- What a call of a page's device, seen when its block comes home, leaves of the core: its invariant, and what the others have. Where blocks do
 -- not tell their words, nothing is said of the words of the block, whatever the call was.
-use Rattle.std.proofs.Common.{ℕ, ◌≡◌, ◌⊎◌, Bool, List, refl, sym, subst, ◌∙◌, inr, ⊎_elim, arith, true, true≢false, IsSome, length}
-use Rattle.vm_core.specs.Words.{count_more}
-use Rattle.vm_core.specs.State.{Page}
-use Rattle.vm_core.specs.DeviceActs.{MayCall, block_after}
-use Rattle.vm_core.specs.Step.{on_page}
-use Rattle.vm_core.specs.History.{History, World}
-use Rattle.vm_core.specs.Inv.{Inv, PageInv, WordsInv}
-use Rattle.vm_core.proofs.Locks.{locked-from_owner}
-use Rattle.vm_core.proofs.Upd.{upd-self}
-use Rattle.vm_core.proofs.Whole.{page-alone}
+use Rattle.std.proofs.Common.{⊎_elim, ◌∙◌, ◌≡◌, ◌⊎◌, arith, Bool, inr, IsSome, length, List, refl, subst, sym, true, true≢false, ℕ}
+use Rattle.vm_core.specs.Prelude.{block_after, count_more, History, Inv, MayCall, on_page, Page, PageInv, WordsInv, World}
+use Rattle.vm_core.proofs.{Locks.locked-from_owner, Upd.upd-self, Whole.page-alone}
 use Rattle.vm_laws_device.proofs.Device.{written-keeps}
-use Rattle.vm_laws_others.specs.Leaves.{CountsMove, Leaves}
-use Rattle.vm_laws_others.proofs.Device.{called-leaves}
-use Rattle.vm_laws_others.proofs.Page.{page-leaves, counts-same}
+use Rattle.vm_laws_others.specs.Leaves.{CountsMove}
+use Rattle.vm_laws_others.proofs.{Device.called-leaves, Page.counts-same, Page.page-leaves}
+use Rattle.vm_rule.specs.Prelude.{Leaves}
 
 -- the page with this count and these words in its block
 abbrev pub called : Page → ℕ → List ℕ → Page

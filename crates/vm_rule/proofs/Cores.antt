@@ -1,30 +1,15 @@
 -- A step of one pass on one word of the table: the core that is read changes as by the event.
-use Rattle.std.proofs.Common.{ℕ, ◌≡◌, ◌<◌, List, [], length, refl, sym, ap, ◌∙◌, slice_set, Bool, Option, length-set}
+use Rattle.std.proofs.Common.{[], ◌<◌, ◌∙◌, ◌≡◌, ap, Bool, length, length-set, List, Option, refl, slice_set, sym, ℕ}
 use mathlib.Core.Path.{fun_ext}
-use mathlib.Core.Option.{some}
-use lib.ListN.{get_elem?}
-use Rattle.atomic_table.specs.Table.{State as Table}
-use Rattle.vm_core.specs.declared.event.Seat.{Seat}
-use Rattle.vm_core.specs.Fn.{at, upd}
-use Rattle.vm_core.specs.Words.{state_of, version_of}
-use Rattle.vm_core.specs.Start.{no_seat}
-use Rattle.vm_core.specs.State.{State}
-use Rattle.vm_core.specs.Step.{on_page, stored_at}
-use Rattle.vm_core.proofs.Upd.{upd-same, upd-other, upd-keeps, upd-map}
-use Rattle.vm_block.specs.declared.stored.Stored.{Stored}
-use Rattle.vm_rule.specs.declared.view.Origin.{Origin}
-use Rattle.vm_rule.specs.declared.view.Place.{Place}
+use Rattle.vm_core.specs.Prelude.{at, get_elem?, mapping_of, no_seat, on_page, some, State, state_of, stored_at, upd, version_of}
+use Rattle.vm_core.proofs.Upd.{upd-keeps, upd-map, upd-other, upd-same}
+use Rattle.vm_rule.specs.Prelude.{block_of, core_from, core_shown, frames_held, has, index_of, loads_of, page_from, pages_from, put, put_at, Seat}
+use Rattle.vm_rule.specs.Prelude.{seats_of, spent, Stored, Table, table_words, width, with_word, Within, Words}
+use Rattle.vm_rule.specs.{declared.view.Origin.Origin, declared.view.Place.Place, declared.view.View.View}
 use Rattle.vm_rule.specs.declared.view.Place.TheVariants as places
-use Rattle.vm_rule.specs.declared.view.View.{View}
-use Rattle.vm_rule.specs.Puts.{put, put_at}
-use Rattle.vm_owner.specs.Numbers.{has}
-use Rattle.vm_core.specs.FrameActs.{mapping_of}
-use Rattle.vm_rule.specs.Layout.{Words, Within, index_of, width, table_words, with_word}
-use Rattle.vm_rule.specs.Views.{spent}
-use Rattle.vm_rule.specs.Reading.{page_from, pages_from, core_from, seats_of, loads_of, frames_held, block_of, core_shown}
-use Rattle.vm_rule.proofs.Parts.{words-written, frame-written}
-use Rattle.vm_rule.proofs.Pages.{put-column, put-still, page-in, page-changed}
-use Rattle.vm_rule.proofs.Views.{at-there, views-set, block-same}
+use Rattle.vm_rule.proofs.Pages.{page-changed, page-in, put-column, put-still}
+use Rattle.vm_rule.proofs.Parts.{frame-written, words-written}
+use Rattle.vm_rule.proofs.Views.{at-there, block-same, views-set}
 
 module _ {X : Type 0} where
   -- what the pass has of page p changes

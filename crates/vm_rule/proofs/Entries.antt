@@ -1,13 +1,11 @@
 -- The history, the numbers of the passes, and what is noted.
-use Rattle.std.proofs.Common.{ℕ, true, false, true≢false, ◌≡◌, ◌≢◌, ◌+◌, ◌≤◌, ◌||◌, eqb, if◌then◌else◌, List, [], ◌∷◌, ◌++◌, length, zero, suc, refl, sym, ap, ◌∙◌, arith, ⊎_elim, slice_set}
-use Rattle.std.proofs.lemmas.Bool.{cases_Bool, cases_lt, lt-ltb, le-ltb}
+use Rattle.std.proofs.Common.{[], ⊎_elim, ◌++◌, ◌+◌, ◌||◌, ◌∙◌, ◌∷◌, ◌≡◌, ◌≢◌, ◌≤◌, ap, arith, eqb, false, if◌then◌else◌, length, List, refl}
+use Rattle.std.proofs.Common.{slice_set, suc, sym, true, true≢false, zero, ℕ}
+use Rattle.std.proofs.lemmas.Bool.{cases_Bool, cases_lt, le-ltb, lt-ltb}
 use mathlib.Core.Option as maybe
-use mathlib.Core.Option.{some, some-injective}
-use lib.ListN.{get_elem?}
-use Rattle.vm_owner.specs.declared.Entry.{Entry}
+use Rattle.vm_core.specs.Prelude.{get_elem?, some, some-injective}
+use Rattle.vm_rule.specs.Prelude.{Each, entries_by, Entry, has, IsWhole, one_part, owns, PARTS, StartsWith, total}
 use Rattle.vm_rule.specs.declared.view.View.{View}
-use Rattle.vm_owner.specs.Numbers.{has}
-use Rattle.vm_rule.specs.Views.{StartsWith, Each, entries_by, total, owns, PARTS, one_part, IsWhole}
 use Rattle.vm_rule.proofs.Views.{total-set}
 
 pub each-map : {A : Type 0} (P Q : A → Type 0) → ((a : A) → P a → Q a) → (l : List A) → Each P l → Each Q l

@@ -1,31 +1,19 @@
 -- What the rule says of who holds a page, of the blocks, and of the members still to be released.
-use Rattle.std.proofs.Common.{ℕ, ◌≡◌, ◌≢◌, ◌<◌, ◌≤◌, ◌||◌, List, [], ◌∷◌, ◌++◌, length, zero, suc, refl, sym, ap, subst, ◌∙◌, arith, ⊎_elim, slice_set, true, false, true≢false, Bool, Option, Some, eqb, if◌then◌else◌}
-use Rattle.std.proofs.lemmas.Bool.{false≢true, cases_Bool, cases_eq, eq-eqb}
+use Rattle.std.proofs.Common.{[], ⊎_elim, ◌<◌, ◌||◌, ◌∙◌, ◌∷◌, ◌≡◌, ◌≢◌, ◌≤◌, ap, arith, Bool, eqb, false, if◌then◌else◌, length, List, Option, refl}
+use Rattle.std.proofs.Common.{slice_set, Some, subst, suc, sym, true, true≢false, zero, ℕ}
+use Rattle.std.proofs.lemmas.Bool.{cases_Bool, cases_eq, eq-eqb, false≢true}
 use mathlib.Core.Option as maybe
-use mathlib.Core.Option.{some}
-use lib.ListN.{get_elem?}
-use Rattle.atomic_table.specs.Table.{State as Table}
 use Rattle.atomic_table.proofs.Lists.{at_set}
-use Rattle.vm_core.specs.declared.event.Seat.{Seat}
-use Rattle.vm_core.specs.Fn.{upd, sum_below}
-use Rattle.vm_core.specs.Words.{LOCKED}
-use Rattle.vm_core.specs.State.{Page}
-use Rattle.vm_core.specs.Inv.{LocksInv, OneHolder}
-use Rattle.vm_core.proofs.Upd.{upd-same, upd-other}
-use Rattle.vm_core.proofs.Locks.{locked-from_owner, sum_below-at, shared-state}
-use Rattle.vm_owner.specs.Kept.{Start, Kept}
-use Rattle.vm_owner.specs.Numbers.{has, without}
+use Rattle.vm_core.specs.Prelude.{get_elem?, LOCKED, LocksInv, OneHolder, Page, some, sum_below, upd}
+use Rattle.vm_core.proofs.Locks.{locked-from_owner, shared-state, sum_below-at}
+use Rattle.vm_core.proofs.Upd.{upd-other, upd-same}
+use Rattle.vm_rule.specs.Prelude.{has, Kept, Seat, Start, Table, without}
 pub use Rattle.vm_owner.proofs.NumberLemmas.{has-both}
-use Rattle.vm_owner.proofs.NumberLemmas.{has-without_same, has-without_other}
-use Rattle.vm_block.specs.declared.stored.Stored.{Stored}
-use Rattle.vm_rule.specs.declared.view.Origin.{Origin}
-use Rattle.vm_rule.specs.declared.view.Out.{Out}
-use Rattle.vm_rule.specs.declared.view.View.{View}
-use Rattle.vm_rule.specs.Views.{any, owns, times, seat_of, may_call}
-use Rattle.vm_rule.specs.Reading.{core_shown}
-use Rattle.vm_rule.specs.Rule.{is_pending, BlocksFit, Ruled}
-use Rattle.vm_rule.proofs.Views.{at-bound, out-same, block-same}
+use Rattle.vm_owner.proofs.NumberLemmas.{has-without_other, has-without_same}
+use Rattle.vm_rule.specs.Prelude.{any, BlocksFit, core_shown, is_pending, may_call, owns, Ruled, seat_of, Stored, times}
+use Rattle.vm_rule.specs.{declared.view.Origin.Origin, declared.view.Out.Out, declared.view.View.View}
 use Rattle.vm_rule.proofs.Found.{seat-here}
+use Rattle.vm_rule.proofs.Views.{at-bound, block-same, out-same}
 
 -- ---- lists of numbers
 

@@ -1,33 +1,19 @@
 -- A table opens under the rule: the first pass has all parts and knows nothing yet, the lists are empty, the blocks are at home. What is
 -- left to show of its words stands in `Opens`.
-use Rattle.std.proofs.Common.{ℕ, Bool, true, false, true≢false, Option, Some, None, ◌≡◌, ◌-◌, ◌^◌, ◌<◌, ◌≤◌, ◌++◌, List, [], ◌∷◌, length, map, replicate, zero, suc, refl, sym, ap, subst, ◌∙◌, inl, inr, arith, ⊎_elim}
+use Rattle.std.proofs.Common.{[], ⊎_elim, ◌++◌, ◌-◌, ◌<◌, ◌^◌, ◌∙◌, ◌∷◌, ◌≡◌, ◌≤◌, ap, arith, Bool, false, inl, inr, length, List, map, None, Option}
+use Rattle.std.proofs.Common.{refl, replicate, Some, subst, suc, sym, true, true≢false, zero, ℕ}
 use Rattle.std.proofs.lemmas.Bool.{cases_lt, lt-ltb}
 use mathlib.Core.Option as maybe
-use mathlib.Core.Option.{some, some-injective}
-use lib.ListN.{get_elem?}
-use Rattle.atomic_table.specs.Table.{State as Table, opening}
-use Rattle.vm_core.specs.Fn.{at}
-use Rattle.vm_core.specs.History.{World}
-use Rattle.vm_core.specs.Inv.{Inv}
-use Rattle.vm_core.specs.State.{Page}
-use Rattle.vm_block.specs.declared.stored.Stored.{Stored}
-use Rattle.vm_core.specs.Words.{MAX_COUNT}
-use Rattle.vm_owner.specs.Kept.{Start, Kept, first_kept}
-use Rattle.vm_rule.specs.declared.view.Origin.{Origin}
-use Rattle.vm_rule.specs.declared.view.Shape.{Shape}
-use Rattle.vm_rule.specs.declared.view.View.{View}
-use Rattle.vm_rule.specs.Puts.{chosen}
-use Rattle.vm_rule.specs.Layout.{width_of, width, table_words}
-use Rattle.vm_rule.specs.Views.{times_noted, first_view}
-use Rattle.vm_rule.specs.Reading.{no_block, block_of, seats_of, histories_of, core_shown, world_of}
-use Rattle.vm_rule.specs.Rule.{ArePlain, began_of, logical, is_pending, is_owed, kept_of, KnowsLists, KnowsPages, FaultsFit, ListsFit, PartsFit, BlocksFit, snapshot_of, Ruled}
-use Rattle.vm_rule.specs.Begun.{unborn, Stands}
-use Rattle.vm_rule.specs.Started.{MayBegin, bounds_of}
-use Rattle.vm_rule.proofs.Pages.{page-in, page-out}
-use Rattle.vm_rule.proofs.Parts.{listed-same}
-use Rattle.vm_rule.proofs.Parted.{opened}
+use Rattle.vm_core.specs.Prelude.{at, get_elem?, Inv, MAX_COUNT, Page, some, some-injective, World}
+use Rattle.vm_owner.specs.Kept.{first_kept}
+use Rattle.vm_rule.specs.Prelude.{ArePlain, began_of, block_of, BlocksFit, bounds_of, chosen, core_shown, FaultsFit, first_view, histories_of}
+use Rattle.vm_rule.specs.Prelude.{is_owed, is_pending, Kept, kept_of, KnowsLists, KnowsPages, ListsFit, logical, MayBegin, no_block, opening}
+use Rattle.vm_rule.specs.Prelude.{PartsFit, Ruled, seats_of, snapshot_of, Stands, Start, Stored, Table, table_words, times_noted, unborn, width}
+use Rattle.vm_rule.specs.Prelude.{width_of, world_of}
+use Rattle.vm_rule.specs.{declared.view.Origin.Origin, declared.view.Shape.Shape, declared.view.View.View}
+use Rattle.vm_rule.proofs.{Pages.page-in, Pages.page-out, Parted.opened, Parts.listed-same}
+use Rattle.vm_rule.proofs.FirstWorld.{first-block, home-there, table}
 use Rattle.vm_rule.proofs.ListFacts.{at-any, at-map, length-mapped, listed-long}
-use Rattle.vm_rule.proofs.FirstWorld.{table, first-block, home-there}
 
 chosen-none : (n : ℕ) (f : ℕ → Bool) → ((p : ℕ) → f p ≡ false) → chosen n f ≡ []
 unfolding chosen

@@ -1,21 +1,15 @@
 -- The world that a table shows when it opens, with all blocks at home and one pass that knows nothing yet; and that it meets the invariant
 -- where its pages and its frames are in order.
-use Rattle.std.proofs.Common.{ℕ, false, Option, Some, None, ◌≡◌, ◌<◌, ◌≤◌, List, [], ◌∷◌, length, map, replicate, zero, suc, refl, ◌∙◌, arith, ⊎_elim, ltb, IsSome, if◌then◌else◌}
-use Rattle.std.proofs.lemmas.Bool.{cases_lt, lt-ltb, le-ltb}
+use Rattle.std.proofs.Common.{[], ⊎_elim, ◌<◌, ◌∙◌, ◌∷◌, ◌≡◌, ◌≤◌, arith, false, if◌then◌else◌, IsSome, length, List, ltb, map, None, Option, refl}
+use Rattle.std.proofs.Common.{replicate, Some, suc, zero, ℕ}
+use Rattle.std.proofs.lemmas.Bool.{cases_lt, le-ltb, lt-ltb}
 use Rattle.std.proofs.lemmas.List.{length-replicate}
 use mathlib.Core.Option as maybe
-use Rattle.atomic_table.specs.Table.{State as Table, opening}
-use Rattle.vm_core.specs.Fn.{at}
-use Rattle.vm_core.specs.State.{Page, State}
-use Rattle.vm_core.specs.Start.{no_seat, outside_page}
-use Rattle.vm_core.specs.History.{History, World}
-use Rattle.vm_core.specs.Inv.{Inv, PageInv, FrameIsAt, Place}
-use Rattle.vm_block.specs.declared.stored.Stored.{Stored}
-use Rattle.vm_rule.specs.declared.view.Origin.{Origin}
-use Rattle.vm_rule.specs.declared.view.View.{View}
-use Rattle.vm_rule.specs.Layout.{table_words}
-use Rattle.vm_rule.specs.Views.{first_view}
-use Rattle.vm_rule.specs.Reading.{no_block, home, known, frame_words, page_from, pages_from, first_history, histories_of, block_of, seats_of, loads_of, frames_held, world_of}
+use Rattle.vm_core.specs.Prelude.{at, FrameIsAt, History, Inv, no_seat, outside_page, Page, PageInv, State, World}
+use Rattle.vm_core.specs.Inv.{Place}
+use Rattle.vm_rule.specs.Prelude.{block_of, first_history, first_view, frame_words, frames_held, histories_of, home, known, loads_of, no_block}
+use Rattle.vm_rule.specs.Prelude.{opening, page_from, pages_from, seats_of, Stored, Table, table_words, world_of}
+use Rattle.vm_rule.specs.{declared.view.Origin.Origin, declared.view.View.View}
 use Rattle.vm_rule.proofs.Starts.{evicted-inv}
 
 -- one version, with these words

@@ -1,28 +1,13 @@
 -- What the core that is read has at a place, in terms of the word that stands there, of the pass's view, and of the block.
-use Rattle.std.proofs.Common.{ℕ, ◌≡◌, ◌+◌, ◌*◌, ◌<◌, ◌≤◌, List, zero, suc, refl, ap, ◌∙◌, arith, slice_set, slice_index, Option}
+use Rattle.std.proofs.Common.{◌*◌, ◌+◌, ◌<◌, ◌∙◌, ◌≡◌, ◌≤◌, ap, arith, List, Option, refl, slice_index, slice_set, suc, zero, ℕ}
 use Rattle.std.proofs.lemmas.List.{set-get_or}
-use mathlib.Core.Option.{some}
-use lib.ListN.{get_elem?}
-use Rattle.atomic_table.specs.Table.{State as Table}
-use Rattle.vm_core.specs.Words.{state_of, version_of}
-use Rattle.vm_core.specs.Start.{outside_page}
-use Rattle.vm_core.specs.State.{Page}
-use Rattle.vm_core.specs.StateActs.{page_word}
-use Rattle.vm_core.specs.FrameActs.{mapping_of}
+use Rattle.vm_core.specs.Prelude.{get_elem?, mapping_of, outside_page, Page, page_word, some, state_of, version_of}
 use Rattle.vm_core.proofs.At.{at-get}
-use Rattle.vm_owner.specs.Numbers.{has}
-use Rattle.vm_block.specs.declared.stored.Stored.{Stored}
-use Rattle.vm_rule.specs.declared.view.Origin.{Origin}
+use Rattle.vm_rule.specs.Prelude.{block_of, bundle_count, core_shown, frame_words, has, index_of, listed, loads_at, loads_of, page_from, part}
+use Rattle.vm_rule.specs.Prelude.{seat_of, seats_of, spent, Stored, Table, table_words}
+use Rattle.vm_rule.specs.{declared.view.Origin.Origin, declared.view.View.View}
 use Rattle.vm_rule.specs.declared.view.Place.TheVariants as places
-use Rattle.vm_rule.specs.declared.view.View.{View}
-use Rattle.vm_rule.specs.Puts.{listed}
-use Rattle.vm_rule.specs.Layout.{index_of, bundle_count, table_words, part}
-use Rattle.vm_rule.specs.Views.{spent, seat_of, loads_at}
-use Rattle.vm_rule.specs.Reading.{frame_words, page_from, block_of, seats_of, loads_of, core_shown}
-use Rattle.vm_rule.proofs.Parts.{part-at}
-use Rattle.vm_rule.proofs.Pages.{page-in, page-out}
-use Rattle.vm_rule.proofs.Views.{at-there}
-use Rattle.vm_rule.proofs.WordFacts.{word-made}
+use Rattle.vm_rule.proofs.{Pages.page-in, Pages.page-out, Parts.part-at, Views.at-there, WordFacts.word-made}
 
 -- a word that is written as it was
 pub same-word : (words : List ℕ) (i : ℕ) → slice_set words i (slice_index words i) ≡ words

@@ -1,34 +1,21 @@
 -- The world that is read after a step on a translation word, a fault word, a frame that a pass holds, a bundle word, the next word or the
 -- hand: it is the world after the event.
-use Rattle.std.proofs.Common.{ℕ, ◌≡◌, ◌≢◌, ◌+◌, ◌<◌, List, length, refl, sym, ap, ◌∙◌, slice_set, true, false, Bool, Option, None, Some, eq-eqb, ne_eqb, if◌then◌else◌}
 use Rattle.std.specs.Prelude.{bit_or, bit_xor}
+use Rattle.std.proofs.Common.{◌+◌, ◌<◌, ◌∙◌, ◌≡◌, ◌≢◌, ap, Bool, eq-eqb, false, if◌then◌else◌, length, List, ne_eqb, None, Option, refl, slice_set}
+use Rattle.std.proofs.Common.{Some, sym, true, ℕ}
 use mathlib.Core.Path.{fun_ext}
-use mathlib.Core.Option.{some}
-use lib.ListN.{get_elem?}
-use Rattle.atomic_table.specs.Table.{State as Table}
-use Rattle.vm_core.specs.declared.event.Event.TheVariants.{Install, Clear, Dirty, Clean, Store, Take, Give, Raise, Claim, Hand}
-use Rattle.vm_core.specs.declared.event.Mapping.{Mapping}
-use Rattle.vm_core.specs.Fn.{upd}
-use Rattle.vm_core.specs.Words.{in_mask, hand_more}
-use Rattle.vm_core.specs.State.{State}
-use Rattle.vm_core.specs.FrameActs.{mapping_of, with_dirty, gains, stands_in}
-use Rattle.vm_core.specs.Step.{on_page, taken_by, given_by}
-use Rattle.vm_core.specs.History.{History, World, world_after}
-use Rattle.vm_core.specs.Inv.{Inv, at_actor, at_page}
-use Rattle.vm_core.specs.Inv.{Place as Standing}
-use Rattle.vm_core.specs.Inv.Place.{Nowhere, Free, Held, Mapped}
-use Rattle.vm_owner.specs.Numbers.{has}
-use Rattle.vm_block.specs.declared.stored.Stored.{Stored}
-use Rattle.vm_rule.specs.declared.view.Origin.{Origin}
+use Rattle.vm_core.specs.Prelude.{at_actor, at_page, Free, gains, get_elem?, hand_more, History, in_mask, Inv, Mapped, mapping_of, Nowhere, on_page}
+use Rattle.vm_core.specs.Prelude.{some, stands_in, State, upd, with_dirty, World, world_after}
+use Rattle.vm_core.specs.{Inv.Place as Standing, Inv.Place.Held, Step.given_by, Step.taken_by}
+use Rattle.vm_core.specs.declared.event.Event.TheVariants.{Claim, Clean, Clear, Dirty, Give, Hand, Install, Raise, Store, Take}
+use Rattle.vm_rule.specs.Prelude.{block_of, core_shown, frames_held, has, histories_of, Mapping, seats_of, Stored, Table, table_words, width, Within}
+use Rattle.vm_rule.specs.Prelude.{world_of}
+use Rattle.vm_rule.specs.{declared.view.Origin.Origin, declared.view.Release.Release as Released, declared.view.View.View}
 use Rattle.vm_rule.specs.declared.view.Place.TheVariants as places
-use Rattle.vm_rule.specs.declared.view.Release.{Release as Released}
-use Rattle.vm_rule.specs.declared.view.View.{View}
-use Rattle.vm_rule.specs.Layout.{Within, width, table_words}
-use Rattle.vm_rule.specs.Reading.{seats_of, frames_held, block_of, core_shown, world_of, histories_of}
-use Rattle.vm_rule.proofs.Parts.{upd-is}
-use Rattle.vm_rule.proofs.Cores.{seats-still, loads-still, held-put, held-still, core-translation, core-fault, core-bundle, core-next, core-hand, core-step}
-use Rattle.vm_rule.proofs.Found.{held-here}
-use Rattle.vm_rule.proofs.Worlds.{wrote, stores-else, store-core}
+use Rattle.vm_rule.proofs.{Found.held-here, Parts.upd-is}
+use Rattle.vm_rule.proofs.Cores.{core-bundle, core-fault, core-hand, core-next, core-step, core-translation, held-put, held-still, loads-still}
+use Rattle.vm_rule.proofs.Cores.{seats-still}
+use Rattle.vm_rule.proofs.Worlds.{store-core, stores-else, wrote}
 
 -- a frame that an actor holds stands in no page
 no-page : (x : Standing) (a q : ℕ) → at_actor x a ≡ true → at_page x q ≡ false

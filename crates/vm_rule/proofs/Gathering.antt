@@ -1,16 +1,12 @@
 -- A core in which open reads are closed, frames go from one actor to another, and actors come that have nothing: it meets the invariant.
-use Rattle.std.proofs.Common.{ℕ, Bool, true, false, ◌≡◌, ◌≢◌, ◌⊎◌, ◌+◌, ◌<◌, ◌≤◌, Option, Some, None, List, [], ◌∷◌, zero, suc, refl, sym, ap, subst, ◌∙◌, inl, inr, arith, ⊎_elim, eqb, eq-eqb, ne_eqb, if◌then◌else◌}
-use Rattle.std.proofs.lemmas.Bool.{cases_Bool, cases_eq, cases_lt}
-use mathlib.Core.Path.{fun_ext}
-use Rattle.vm_core.specs.declared.event.Mapping.{Mapping}
-use Rattle.vm_core.specs.declared.event.Open.{Open}
-use Rattle.vm_core.specs.declared.event.Seat.{Seat}
-use Rattle.vm_core.specs.Fn.{sum_below}
-use Rattle.vm_core.specs.State.{Page, State}
-use Rattle.vm_core.specs.History.{History, World}
-use Rattle.vm_core.specs.Inv.{LocksInv, FaultInv, ReadInv, PageInv, FrameInv, OneHolder, Place, IsFramePlace, at_free, at_actor, at_page, Inv}
-use Rattle.vm_core.specs.Inv.Place.{Nowhere, Free, Held, Mapped}
+use Rattle.std.proofs.Common.{⊎_elim, ◌+◌, ◌<◌, ◌∙◌, ◌≡◌, ◌≢◌, ◌≤◌, ◌⊎◌, ap, arith, Bool, eq-eqb, eqb, false, if◌then◌else◌, List, ne_eqb, None}
+use Rattle.std.proofs.Common.{Option, refl, Some, subst, suc, sym, true, zero, ℕ}
+use Rattle.std.proofs.lemmas.Bool.{cases_Bool, cases_eq}
+use Rattle.vm_core.specs.Prelude.{at_actor, at_free, at_page, Free, History, Inv, LocksInv, Mapped, Nowhere, OneHolder, Page, PageInv, ReadInv}
+use Rattle.vm_core.specs.Prelude.{sum_below, World}
+use Rattle.vm_core.specs.{Inv.IsFramePlace, Inv.Place, Inv.Place.Held}
 use Rattle.vm_core.proofs.Upd.{sum_below-past}
+use Rattle.vm_rule.specs.Prelude.{Open, Seat}
 
 -- the seat has no lock, no share and no write-back
 pub record IsIdleSeat (s : Seat) : Type 0 where

@@ -1,19 +1,13 @@
 -- What a step adds to the lists: an entry is the pass's own, with the next count of one of its numbers, which no other pass has; the
 -- releases have the next versions.
-use Rattle.std.proofs.Common.{ℕ, Bool, true, false, true≢false, ◌≡◌, ◌≢◌, ◌⊎◌, ◌+◌, ◌<◌, ◌≤◌, ◌==◌, if◌then◌else◌, List, [], ◌∷◌, ◌++◌, length, refl, sym, ap, subst, ◌∙◌, arith, ⊎_elim, append_assoc, slice_index}
-use Rattle.std.proofs.lemmas.Bool.{cases_Bool, cases_eq, cases_lt, eq-eqb, ne_eqb, lt-ltb, le-ltb}
-use mathlib.Core.Option.{some}
-use lib.ListN.{get_elem?}
-use Rattle.vm_owner.specs.declared.Entry.{Entry}
-use Rattle.vm_owner.specs.Kept.{entries_under, AreCounted}
-use Rattle.vm_owner.specs.Numbers.{has}
+use Rattle.std.proofs.Common.{[], ⊎_elim, ◌++◌, ◌+◌, ◌<◌, ◌==◌, ◌∙◌, ◌∷◌, ◌≡◌, ◌≢◌, ◌≤◌, ◌⊎◌, ap, append_assoc, arith, Bool, false, if◌then◌else◌}
+use Rattle.std.proofs.Common.{length, List, refl, slice_index, subst, sym, true, true≢false, ℕ}
+use Rattle.std.proofs.lemmas.Bool.{cases_Bool, cases_eq, cases_lt, eq-eqb, le-ltb, lt-ltb, ne_eqb}
+use Rattle.vm_core.specs.Prelude.{get_elem?, some}
+use Rattle.vm_owner.specs.Kept.{AreCounted}
 use Rattle.vm_owner.proofs.Counts.{counted-more}
-use Rattle.vm_rule.specs.declared.view.Origin.{Origin}
-use Rattle.vm_rule.specs.declared.view.Release.{Release}
-use Rattle.vm_rule.specs.declared.view.View.{View}
-use Rattle.vm_rule.specs.Views.{StartsWith, Each, times, PARTS, one_part, entries_by, total, owns}
-use Rattle.vm_rule.specs.Rule.{AreNext}
-use Rattle.vm_rule.specs.Brought.{entry_of}
+use Rattle.vm_rule.specs.Prelude.{AreNext, Each, entries_by, entries_under, Entry, entry_of, has, one_part, owns, PARTS, StartsWith, times, total}
+use Rattle.vm_rule.specs.{declared.view.Origin.Origin, declared.view.Release.Release, declared.view.View.View}
 use Rattle.vm_rule.proofs.Entries.{append-none, total-at, total-two}
 
 pub each-both : {A : Type 0} (P : A → Type 0) (l m : List A) → Each P l → Each P m → Each P (l ++ m)

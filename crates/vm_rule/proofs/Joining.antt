@@ -1,38 +1,20 @@
 -- A pass takes in another that holds no page: the table meets the rule with the two views afterwards.
-use Rattle.std.proofs.Common.{ℕ, Bool, true, false, true≢false, ◌≡◌, ◌≢◌, ◌⊎◌, ◌+◌, ◌<◌, ◌≤◌, ◌||◌, Option, Some, None, List, [], ◌∷◌, ◌++◌, length, zero, suc, refl, sym, ap, subst, ◌∙◌, inl, inr, arith, ⊎_elim, if◌then◌else◌, ltb, append_assoc, length-append, slice_set, length-set}
-use Rattle.std.proofs.lemmas.Bool.{false≢true, cases_Bool, cases_eq, cases_lt, lt-ltb, le-ltb, ltb-true}
+use Rattle.std.proofs.Common.{[], ⊎_elim, ◌++◌, ◌+◌, ◌<◌, ◌||◌, ◌∙◌, ◌∷◌, ◌≡◌, ◌≢◌, ◌≤◌, ◌⊎◌, ap, arith, Bool, false, if◌then◌else◌, inl, inr, length}
+use Rattle.std.proofs.Common.{length-append, length-set, List, ltb, Option, refl, slice_set, subst, suc, sym, true, true≢false, zero, ℕ}
+use Rattle.std.proofs.lemmas.Bool.{cases_Bool, cases_eq, cases_lt, false≢true, lt-ltb, ltb-true}
 use mathlib.Core.Option as maybe
-use mathlib.Core.Option.{some, some-injective}
-use lib.ListN.{get_elem?}
-use Rattle.atomic_table.specs.Table.{State as Table, Joins}
-use Rattle.atomic_table.proofs.Lists.{at_set, set_here, set_else}
-use Rattle.vm_core.specs.declared.event.Seat.{Seat}
-use Rattle.vm_core.specs.Fn.{at, upd}
-use Rattle.vm_core.specs.State.{Page}
-use Rattle.vm_core.specs.History.{World}
-use Rattle.vm_core.proofs.Upd.{upd-same, upd-other}
-use Rattle.vm_owner.specs.declared.Entry.{Entry}
-use Rattle.vm_owner.specs.Kept.{Start, Kept}
-use Rattle.vm_owner.specs.Numbers.{has}
-use Rattle.vm_block.specs.declared.stored.Stored.{Stored}
-use Rattle.vm_rule.specs.declared.view.Note.{Note}
-use Rattle.vm_rule.specs.declared.view.Origin.{Origin}
-use Rattle.vm_rule.specs.declared.view.Out.{Out}
-use Rattle.vm_rule.specs.declared.view.Release.{Release}
-use Rattle.vm_rule.specs.declared.view.View.{View}
-use Rattle.vm_rule.specs.Puts.{put_at}
-use Rattle.vm_rule.specs.Views.{StartsWith, Each, Hears, times, times_noted, entries_by, total, any, owns, may_call, seat_of, loads_at, spent, IsWhole}
-use Rattle.vm_rule.specs.Reading.{world_of, out_of, block_of}
-use Rattle.vm_rule.specs.Rule.{is_pending, is_owed, began_of, slot_of, KnowsLists, KnowsPages, FaultsFit, ListsFit, PartsFit, BlocksFit, snapshot_of, Ruled}
-use Rattle.vm_rule.specs.Bundles.{with_contents}
-use Rattle.vm_rule.specs.Joins.{HoldsNoPage, knows_more, joined}
-use Rattle.vm_rule.proofs.Views.{at-bound, at-there, views-set, total-set, any-same, out-same}
-use Rattle.vm_rule.proofs.Entries.{starts-self, append-none, entries-both, entries-within, entries-union, has-joined}
-use Rattle.vm_rule.proofs.Heard.{each-both}
-use Rattle.vm_rule.proofs.Bundled.{with_contents-at}
-use Rattle.vm_rule.proofs.Facts.{either-way}
-use Rattle.vm_rule.proofs.Resettling.{Resettles, same-reads, settled, settled-blocks, settled-snapshot, settled-inv, settled-faults, settled-known, settled-kept}
-use Rattle.vm_rule.proofs.Gathering.{ReadsLess, none-some}
+use Rattle.atomic_table.proofs.Lists.{at_set, set_else, set_here}
+use Rattle.vm_core.specs.Prelude.{at, get_elem?, some, some-injective, upd, World}
+use Rattle.vm_core.proofs.Upd.{upd-other}
+use Rattle.vm_rule.specs.Prelude.{any, began_of, BlocksFit, entries_by, Entry, FaultsFit, has, Hears, HoldsNoPage, is_pending, joined, Kept}
+use Rattle.vm_rule.specs.Prelude.{KnowsLists, KnowsPages, ListsFit, loads_at, may_call, owns, PartsFit, put_at, Ruled, seat_of, slot_of, snapshot_of}
+use Rattle.vm_rule.specs.Prelude.{spent, Start, StartsWith, Stored, Table, times, times_noted, total, with_contents, world_of}
+use Rattle.vm_rule.specs.{declared.view.Note.Note, declared.view.Origin.Origin, declared.view.View.View, Joins.knows_more}
+use Rattle.vm_rule.proofs.{Bundled.with_contents-at, Facts.either-way, Gathering.none-some, Gathering.ReadsLess, Heard.each-both}
+use Rattle.vm_rule.proofs.Entries.{entries-both, entries-union, has-joined}
+use Rattle.vm_rule.proofs.Resettling.{Resettles, same-reads, settled, settled-blocks, settled-faults, settled-inv, settled-kept, settled-known}
+use Rattle.vm_rule.proofs.Resettling.{settled-snapshot}
+use Rattle.vm_rule.proofs.Views.{any-same, at-bound, at-there, out-same, total-set, views-set}
 
 -- ---- lists
 

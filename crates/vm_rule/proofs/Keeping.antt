@@ -1,16 +1,12 @@
 -- Runs one after_event another.
-use Rattle.std.proofs.Common.{◌≡◌, true, List, [], ◌∷◌, ◌++◌, refl, sym, ap, subst, ◌∙◌}
-use Rattle.vm_core.specs.declared.event.Event.{Event}
-use Rattle.vm_core.specs.State.{State}
-use Rattle.vm_core.specs.Step.{after_event, AllLegal, run, RunsTo}
-use Rattle.vm_core.specs.History.{world_run}
-use Rattle.vm_core.specs.Inv.{Inv}
-use Rattle.vm_core.specs.Told.{FrameOnce, FaultsTold, Told}
-use Rattle.vm_core.specs.Start.{CoreStart, IsStart, start, begin, core_start}
-use Rattle.vm_rule.specs.Kept.{KeptFrom, IsRunKept}
-use Rattle.vm_rule.proofs.Runs.{run_law, run-one, run-tells, run-core}
-use Rattle.vm_rule.proofs.Starts.{start_law, core-start}
-use Rattle.vm_rule.proofs.Tells.{told_law}
+use Rattle.std.proofs.Common.{[], ◌++◌, ◌∙◌, ◌∷◌, ◌≡◌, ap, List, refl, subst, sym, true}
+use Rattle.vm_core.specs.Prelude.{after_event, AllLegal, begin, core_start, CoreStart, FrameOnce, Inv, IsStart, run, RunsTo, start, State, Told}
+use Rattle.vm_core.specs.Prelude.{world_run}
+use Rattle.vm_core.specs.Told.{FaultsTold}
+use Rattle.vm_rule.specs.Prelude.{Event}
+use Rattle.vm_rule.specs.Kept.{IsRunKept, KeptFrom}
+use Rattle.vm_rule.proofs.{Starts.core-start, Starts.start_law, Tells.told_law}
+use Rattle.vm_rule.proofs.Runs.{run-core, run-one, run-tells, run_law}
 
 run-both : (c : State) (xs ys : List Event) → run c (xs ++ ys) ≡ run (run c xs) ys
 run-both c [] ys = refl

@@ -1,29 +1,17 @@
 -- What a pass knows of pages stays true after an event of another pass; and so does what any pass knows of translations and ties.
-use Rattle.std.proofs.Common.{ℕ, Bool, true, false, true≢false, ◌≡◌, ◌<◌, ◌≤◌, ◌||◌, List, [], ◌∷◌, zero, suc, refl, sym, ap, subst, ◌∙◌, arith, ⊎_elim, slice_set}
+use Rattle.std.proofs.Common.{[], ⊎_elim, ◌<◌, ◌||◌, ◌∙◌, ◌∷◌, ◌≡◌, ◌≤◌, ap, arith, Bool, false, List, refl, slice_set, subst, suc, sym, true}
+use Rattle.std.proofs.Common.{true≢false, zero, ℕ}
 use Rattle.std.proofs.lemmas.Bool.{cases_lt}
 use mathlib.Core.Option as maybe
-use mathlib.Core.Option.{some, some-injective}
-use lib.ListN.{get_elem?}
-use Rattle.vm_core.specs.declared.event.Event.{Event}
-use Rattle.vm_core.specs.declared.event.Event.TheVariants.{LockX, Upgrade, Release, ReleaseE, Downgrade, Store}
-use Rattle.vm_core.specs.declared.event.Seat.{Seat}
-use Rattle.vm_core.specs.Words.{EVICTED}
-use Rattle.vm_core.specs.State.{Page}
-use Rattle.vm_core.specs.History.{History, Version, World, histories_after}
-use Rattle.vm_core.specs.Step.{Legal}
+use Rattle.vm_core.specs.Prelude.{EVICTED, get_elem?, History, Legal, Page, some, some-injective, Version, World}
+use Rattle.vm_core.specs.declared.event.Event.TheVariants.{Downgrade, LockX, Release, ReleaseE, Store, Upgrade}
+use Rattle.vm_core.specs.History.{histories_after}
 use Rattle.vm_core.proofs.Upd.{upd-other}
-use Rattle.vm_laws_others.specs.Leaves.{PageMoves, Leaves, LeavesActor}
-use Rattle.vm_owner.specs.Kept.{Start}
-use Rattle.vm_owner.specs.Numbers.{has}
-use Rattle.vm_rule.specs.declared.view.Origin.{Origin}
-use Rattle.vm_rule.specs.declared.view.Tie.{Tie}
-use Rattle.vm_rule.specs.declared.view.Translation.{Translation}
-use Rattle.vm_rule.specs.declared.view.View.{View}
-use Rattle.vm_rule.specs.Puts.{put_at}
-use Rattle.vm_rule.specs.Views.{any, seat_of, may_call}
-use Rattle.vm_rule.specs.Rule.{KnowsPage, no_held, TranslationHolds, TieHolds, began_of, KnowsPages}
-use Rattle.vm_rule.proofs.Entries.{each-map}
-use Rattle.vm_rule.proofs.Were.{were-moves}
+use Rattle.vm_laws_others.specs.Leaves.{LeavesActor, PageMoves}
+use Rattle.vm_rule.specs.Prelude.{any, began_of, Event, has, KnowsPage, KnowsPages, Leaves, may_call, no_held, put_at, Seat, seat_of, Start, TieHolds}
+use Rattle.vm_rule.specs.Prelude.{TranslationHolds}
+use Rattle.vm_rule.specs.{declared.view.Origin.Origin, declared.view.Tie.Tie, declared.view.Translation.Translation, declared.view.View.View}
+use Rattle.vm_rule.proofs.{Entries.each-map, Were.were-moves}
 
 -- the versions and drafts of a page past the last one, which nobody holds, stay
 pub histories-outside : (w : World) (e : Event) → Legal w.core e → (p : ℕ) → w.core.shape.pages ≤ p → ((a : ℕ) → ((w.core.pages p).seats a).exclusive ≡ false) → histories_after w e p ≡ w.histories p

@@ -1,13 +1,12 @@
 -- Words laid one part after another, read by the layout: those of the states, of the translations, of the faults, of the frames, of the
 -- bundles, the next word and the hand.
-use Rattle.std.proofs.Common.{ℕ, ◌≡◌, ◌+◌, ◌*◌, ◌<◌, List, [], ◌∷◌, ◌++◌, append_assoc, length, replicate, refl, sym, ap, ◌∙◌, arith, ⊎_elim}
-use Rattle.std.proofs.lemmas.Bool.{cases_lt, lt-ltb, le-ltb}
-use Rattle.vm_core.specs.Fn.{at}
+use Rattle.std.proofs.Common.{[], ⊎_elim, ◌*◌, ◌++◌, ◌+◌, ◌<◌, ◌∙◌, ◌∷◌, ◌≡◌, ap, append_assoc, arith, length, List, refl, replicate, sym, ℕ}
+use Rattle.std.proofs.lemmas.Bool.{cases_lt, le-ltb, lt-ltb}
+use Rattle.vm_core.specs.Prelude.{at}
+use Rattle.vm_rule.specs.Prelude.{bundle_count, frame_words, part, table_words, width}
 use Rattle.vm_rule.specs.declared.view.Origin.{Origin}
-use Rattle.vm_rule.specs.Layout.{bundle_count, part, width, table_words}
-use Rattle.vm_rule.specs.Reading.{frame_words}
-use Rattle.vm_rule.proofs.Parts.{part-at, listed-same}
-use Rattle.vm_rule.proofs.ListFacts.{at-right, at-left, at-past, length-both, zeros}
+use Rattle.vm_rule.proofs.ListFacts.{at-left, at-past, at-right, length-both, zeros}
+use Rattle.vm_rule.proofs.Parts.{listed-same, part-at}
 
 abbrev pub laid : List ℕ → List ℕ → List ℕ → List ℕ → List ℕ → ℕ → ℕ → List ℕ
 laid states translations faults contents bundles next hand = states ++ (translations ++ (faults ++ (contents ++ (bundles ++ (next ∷ (hand ∷ []))))))

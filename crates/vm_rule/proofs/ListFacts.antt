@@ -1,9 +1,10 @@
 -- Lists read as functions: one behind another, and the values of a function.
-use Rattle.std.proofs.Common.{ℕ, ◌≡◌, ◌+◌, ◌<◌, ◌≤◌, List, [], ◌∷◌, ◌++◌, length, map, replicate, zero, suc, refl, sym, ap, append_assoc, ◌∙◌, arith, ⊎_elim}
+use Rattle.std.proofs.Common.{[], ⊎_elim, ◌++◌, ◌+◌, ◌<◌, ◌∙◌, ◌∷◌, ◌≡◌, ◌≤◌, ap, append_assoc, arith, length, List, map, refl, replicate, suc, sym}
+use Rattle.std.proofs.Common.{zero, ℕ}
 use Rattle.std.proofs.lemmas.Bool.{cases_lt}
 use Rattle.std.proofs.lemmas.List.{append-nil}
-use Rattle.vm_core.specs.Fn.{at}
-use Rattle.vm_rule.specs.Puts.{listed}
+use Rattle.vm_core.specs.Prelude.{at}
+use Rattle.vm_rule.specs.Prelude.{listed}
 
 at-skip : {A : Type 0} (d : A) (xs ys : List A) (k : ℕ) → at d (xs ++ ys) (length xs + k) ≡ at d ys k
 unfolding at

@@ -1,35 +1,20 @@
 -- A pass takes in another that only knows the two lists, and then takes over what it was told: the table meets the rule.
-use Rattle.std.proofs.Common.{ℕ, Bool, true, false, true≢false, ◌≡◌, ◌≢◌, ◌⊎◌, ◌+◌, ◌<◌, ◌≤◌, Option, Some, List, [], ◌∷◌, ◌++◌, length, refl, sym, ap, subst, ◌∙◌, inl, inr, arith, ⊎_elim, slice_index, slice_set, append_assoc, length-append}
-use Rattle.std.proofs.lemmas.Bool.{false≢true, cases_Bool, cases_eq}
+use Rattle.std.proofs.Common.{[], ⊎_elim, ◌++◌, ◌+◌, ◌∙◌, ◌∷◌, ◌≡◌, ◌≢◌, ◌≤◌, ◌⊎◌, ap, append_assoc, arith, Bool, false, inl, inr, length}
+use Rattle.std.proofs.Common.{length-append, List, Option, refl, slice_index, slice_set, subst, sym, true, true≢false, ℕ}
+use Rattle.std.proofs.lemmas.Bool.{cases_Bool, cases_eq, false≢true}
 use Rattle.std.proofs.lemmas.List.{nil_from_length}
-use mathlib.Core.Option.{some, some-injective}
-use lib.ListN.{get_elem?}
-use Rattle.atomic_table.specs.Table.{State as Table}
-use Rattle.atomic_table.proofs.Lists.{set_here, set_else}
-use Rattle.vm_core.specs.History.{History, Version, World}
-use Rattle.vm_owner.specs.declared.Entry.{Entry}
-use Rattle.vm_owner.specs.Kept.{Start, Kept}
-use Rattle.vm_owner.specs.Numbers.{has}
-use Rattle.vm_block.specs.declared.stored.Stored.{Stored}
-use Rattle.vm_rule.specs.declared.view.Origin.{Origin}
+use Rattle.atomic_table.proofs.Lists.{set_else, set_here}
+use Rattle.vm_core.specs.Prelude.{get_elem?, History, some, some-injective, Version}
+use Rattle.vm_rule.specs.Prelude.{AreNext, core_shown, did_load, entries_by, has, hearer, Hears, histories_of, HoldsNothing, index_of, is_pending}
+use Rattle.vm_rule.specs.Prelude.{IsLocking, Kept, KnowsLists, KnowsPages, last_in, ListsFit, loads_at, OnlyKnows, Ruled, seat_of, spent, Start}
+use Rattle.vm_rule.specs.Prelude.{StartsWith, Stored, Table, TakesOver, WereWords, world_of}
+use Rattle.vm_rule.specs.{declared.view.Origin.Origin, declared.view.Release.Release, declared.view.View.View, Hearing.follower}
 use Rattle.vm_rule.specs.declared.view.Place.TheVariants as places
-use Rattle.vm_rule.specs.declared.view.Release.{Release}
-use Rattle.vm_rule.specs.declared.view.View.{View}
-use Rattle.vm_rule.specs.Layout.{index_of}
-use Rattle.vm_rule.specs.Log.{did_load}
-use Rattle.vm_rule.specs.Views.{StartsWith, IsLocking, Hears, IsWhole, entries_by, seat_of, loads_at, spent}
-use Rattle.vm_rule.specs.Reading.{core_shown, histories_of, world_of, last_in, last_of}
-use Rattle.vm_rule.specs.Rule.{AreNext, HoldsNothing, is_pending, KnowsLists, KnowsPages, ListsFit, WereWords, snapshot_of, Ruled}
-use Rattle.vm_rule.specs.Hearing.{OnlyKnows, hearer, follower, TakesOver}
-use Rattle.vm_rule.proofs.Views.{at-bound}
+use Rattle.vm_rule.proofs.{Found.next-here, Heard.each-both, Joining.none-before, Joining.none-behind, Resettling.same-reads, Sound.is-sound}
+use Rattle.vm_rule.proofs.{Sound.never-falls, Views.at-bound}
 use Rattle.vm_rule.proofs.Entries.{append-none, entries-both, entries-none}
-use Rattle.vm_rule.proofs.Found.{next-here}
-use Rattle.vm_rule.proofs.Heard.{each-both}
+use Rattle.vm_rule.proofs.Replacing.{Fits, HoldsSame, replaced-past, replaced-ruled}
 use Rattle.vm_rule.proofs.Worlds.{last-is, release-else, release-here}
-use Rattle.vm_rule.proofs.Joining.{none-before, none-behind}
-use Rattle.vm_rule.proofs.Resettling.{same-reads}
-use Rattle.vm_rule.proofs.Sound.{never-falls, is-sound}
-use Rattle.vm_rule.proofs.Replacing.{HoldsSame, Fits, replaced-ruled, replaced-past}
 
 -- ---- lists
 

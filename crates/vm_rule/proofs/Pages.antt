@@ -1,17 +1,11 @@
 -- One pass's view changes, and one word of a page: the core changes as by the event.
-use Rattle.std.proofs.Common.{ℕ, ◌≡◌, ◌≢◌, ◌<◌, ◌≤◌, List, refl, sym, ap, ◌∙◌, ⊎_elim}
-use Rattle.std.proofs.lemmas.Bool.{cases_lt, lt-ltb, le-ltb}
+use Rattle.std.proofs.Common.{⊎_elim, ◌<◌, ◌∙◌, ◌≡◌, ◌≢◌, ◌≤◌, ap, List, refl, sym, ℕ}
+use Rattle.std.proofs.lemmas.Bool.{cases_lt, le-ltb, lt-ltb}
 use mathlib.Core.Path.{fun_ext}
-use Rattle.vm_core.specs.declared.event.Seat.{Seat}
-use Rattle.vm_core.specs.Fn.{upd}
-use Rattle.vm_core.specs.Start.{outside_page}
-use Rattle.vm_core.specs.State.{Page}
-use Rattle.vm_core.proofs.Upd.{upd-same, upd-other, upd-keeps}
+use Rattle.vm_core.specs.Prelude.{outside_page, Page, upd}
+use Rattle.vm_core.proofs.Upd.{upd-keeps, upd-other, upd-same}
+use Rattle.vm_rule.specs.Prelude.{page_from, pages_from, put, put_at, Seat, Stored, Words}
 use Rattle.vm_rule.specs.declared.view.Put.{Put}
-use Rattle.vm_block.specs.declared.stored.Stored.{Stored}
-use Rattle.vm_rule.specs.Puts.{put, put_at}
-use Rattle.vm_rule.specs.Layout.{Words}
-use Rattle.vm_rule.specs.Reading.{page_from, pages_from}
 use Rattle.vm_rule.proofs.Parts.{upd-is}
 
 -- the table of a function by place and actor, after the actor's list of changes grew by one

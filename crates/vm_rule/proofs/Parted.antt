@@ -1,8 +1,8 @@
 -- The parts at the start: the first pass has each, once.
-use Rattle.std.proofs.Common.{ℕ, ◌≡◌, ◌+◌, ◌<◌, ◌≤◌, [], ◌∷◌, zero, suc, refl, arith, ⊎_elim, ltb, if◌then◌else◌}
-use Rattle.std.proofs.lemmas.Bool.{cases_eq, cases_lt, eq-eqb, ne_eqb, lt-ltb, le-ltb}
+use Rattle.std.proofs.Common.{[], ⊎_elim, ◌+◌, ◌<◌, ◌∷◌, ◌≡◌, ◌≤◌, arith, if◌then◌else◌, ltb, refl, suc, zero, ℕ}
+use Rattle.std.proofs.lemmas.Bool.{cases_eq, cases_lt, eq-eqb, le-ltb, lt-ltb, ne_eqb}
+use Rattle.vm_rule.specs.Prelude.{first_view, IsWhole, numbers, one_part, owns, PARTS, times, total}
 use Rattle.vm_rule.specs.declared.view.Origin.{Origin}
-use Rattle.vm_rule.specs.Views.{times, numbers, PARTS, one_part, total, owns, IsWhole, first_view}
 
 times-below : (k a n : ℕ) → k < a → times k (numbers a n) ≡ 0
 unfolding numbers

@@ -1,16 +1,13 @@
 -- A word of the table is with_word: the words of its kind change at one place, and all others stay.
-use Rattle.std.proofs.Common.{ℕ, ◌≡◌, ◌≢◌, ◌⊎◌, ◌+◌, ◌*◌, ◌<◌, ◌≤◌, List, ◌∷◌, length, zero, suc, refl, sym, ap, ◌∙◌, inl, inr, ⊎_elim, arith, slice_set}
-use Rattle.std.proofs.lemmas.Bool.{cases_eq, cases_lt, lt-ltb, le-ltb}
+use Rattle.std.proofs.Common.{⊎_elim, ◌*◌, ◌+◌, ◌<◌, ◌∙◌, ◌∷◌, ◌≡◌, ◌≢◌, ◌≤◌, ◌⊎◌, ap, arith, inl, inr, length, List, refl, slice_set, suc, sym, zero}
+use Rattle.std.proofs.Common.{ℕ}
+use Rattle.std.proofs.lemmas.Bool.{cases_eq, cases_lt, le-ltb, lt-ltb}
 use mathlib.Core.Path.{fun_ext}
-use Rattle.vm_core.specs.Fn.{at, upd}
-use Rattle.vm_core.proofs.Upd.{upd-same, upd-other}
-use Rattle.vm_core.proofs.At.{at_set}
-use Rattle.vm_rule.specs.declared.view.Origin.{Origin}
-use Rattle.vm_rule.specs.declared.view.Place.{Place}
+use Rattle.vm_core.specs.Prelude.{at, upd}
+use Rattle.vm_core.proofs.{At.at_set, Upd.upd-other, Upd.upd-same}
+use Rattle.vm_rule.specs.Prelude.{bundle_count, frame_words, index_of, listed, part, table_words, width, with_word, Within}
+use Rattle.vm_rule.specs.{declared.view.Origin.Origin, declared.view.Place.Place}
 use Rattle.vm_rule.specs.declared.view.Place.TheVariants as places
-use Rattle.vm_rule.specs.Puts.{listed}
-use Rattle.vm_rule.specs.Layout.{Within, bundle_count, part, index_of, width, table_words, with_word}
-use Rattle.vm_rule.specs.Reading.{frame_words}
 
 -- a function that differs from f at k alone
 pub upd-is : {A : Type 0} (f g : ℕ → A) (k : ℕ) (x : A) → g k ≡ x → ((j : ℕ) → j ≢ k → g j ≡ f j) → g ≡ upd f k x

@@ -1,29 +1,19 @@
 -- One view of a table is replaced by another that holds the same: the table meets the rule.
-use Rattle.std.proofs.Common.{ℕ, Bool, true, false, true≢false, ◌≡◌, ◌≢◌, ◌⊎◌, ◌+◌, ◌<◌, ◌≤◌, ◌||◌, Option, List, [], length, refl, sym, ap, subst, ◌∙◌, inl, arith, ⊎_elim, if◌then◌else◌, slice_set, length-set}
+use Rattle.std.proofs.Common.{⊎_elim, ◌+◌, ◌<◌, ◌||◌, ◌∙◌, ◌≡◌, ◌≢◌, ◌≤◌, ◌⊎◌, ap, arith, Bool, false, if◌then◌else◌, length, length-set, List}
+use Rattle.std.proofs.Common.{Option, refl, slice_set, subst, sym, true, ℕ}
 use Rattle.std.proofs.lemmas.Bool.{cases_eq}
 use mathlib.Core.Option as maybe
-use mathlib.Core.Option.{some}
-use lib.ListN.{get_elem?}
-use Rattle.atomic_table.specs.Table.{State as Table}
 use Rattle.atomic_table.proofs.Lists.{at_set, set_here}
-use Rattle.vm_core.specs.declared.event.Seat.{Seat}
-use Rattle.vm_core.specs.Fn.{at}
-use Rattle.vm_core.specs.State.{Page}
-use Rattle.vm_core.specs.History.{World}
+use Rattle.vm_core.specs.Prelude.{at, get_elem?, some, World}
 use Rattle.vm_core.proofs.Upd.{upd-other}
-use Rattle.vm_owner.specs.Kept.{Start, Kept}
-use Rattle.vm_owner.specs.Numbers.{has}
-use Rattle.vm_block.specs.declared.stored.Stored.{Stored}
-use Rattle.vm_rule.specs.declared.view.Origin.{Origin}
-use Rattle.vm_rule.specs.declared.view.Out.{Out}
-use Rattle.vm_rule.specs.declared.view.View.{View}
-use Rattle.vm_rule.specs.Views.{times, times_noted, owns, may_call, seat_of, loads_at, spent, IsWhole}
-use Rattle.vm_rule.specs.Reading.{world_of}
-use Rattle.vm_rule.specs.Rule.{is_pending, began_of, slot_of, KnowsLists, KnowsPages, FaultsFit, ListsFit, PartsFit, BlocksFit, snapshot_of, Ruled}
-use Rattle.vm_rule.proofs.Views.{at-bound, at-there, views-set, any-same, out-same}
-use Rattle.vm_rule.proofs.Entries.{total-same}
-use Rattle.vm_rule.proofs.Resettling.{Resettles, same-reads, at-past, settled-blocks, settled-snapshot, settled-inv, settled-faults, settled-known, settled-kept}
-use Rattle.vm_rule.proofs.Gathering.{ReadsLess}
+use Rattle.vm_rule.specs.Prelude.{began_of, BlocksFit, FaultsFit, has, is_pending, IsWhole, Kept, KnowsLists, KnowsPages, ListsFit, loads_at}
+use Rattle.vm_rule.specs.Prelude.{may_call, owns, PartsFit, Ruled, seat_of, slot_of, snapshot_of, spent, Start, Stored, Table, times, times_noted}
+use Rattle.vm_rule.specs.Prelude.{world_of}
+use Rattle.vm_rule.specs.{declared.view.Origin.Origin, declared.view.View.View}
+use Rattle.vm_rule.proofs.{Entries.total-same, Gathering.ReadsLess}
+use Rattle.vm_rule.proofs.Resettling.{at-past, Resettles, same-reads, settled-blocks, settled-faults, settled-inv, settled-kept, settled-known}
+use Rattle.vm_rule.proofs.Resettling.{settled-snapshot}
+use Rattle.vm_rule.proofs.Views.{any-same, at-bound, at-there, out-same, views-set}
 
 module _ {X : Type 0} where
   -- the view x holds what the view v holds, and its open reads are those of v, or closed

@@ -1,31 +1,17 @@
 -- The views of a table change, and none of its words and slots: passes that come have nothing, those that go hold no page, and a pass gets
 -- the frames of one that goes. What the table shows meets the invariant, and what is known of its pages is as it was.
-use Rattle.std.proofs.Common.{ℕ, Bool, true, false, ◌≡◌, ◌≢◌, ◌+◌, ◌<◌, ◌≤◌, Option, List, [], ◌∷◌, length, zero, suc, refl, sym, ap, subst, ◌∙◌, inl, inr, arith, ⊎_elim, if◌then◌else◌}
+use Rattle.std.proofs.Common.{[], ⊎_elim, ◌+◌, ◌<◌, ◌∙◌, ◌∷◌, ◌≡◌, ◌≢◌, ◌≤◌, ap, arith, Bool, false, if◌then◌else◌, inl, inr, length, List, Option}
+use Rattle.std.proofs.Common.{refl, subst, suc, sym, true, zero, ℕ}
 use Rattle.std.proofs.lemmas.Bool.{cases_lt}
-use mathlib.Core.Path.{fun_ext}
 use mathlib.Core.Option as maybe
-use lib.ListN.{get_elem?}
-use Rattle.atomic_table.specs.Table.{State as Table}
-use Rattle.vm_core.specs.declared.event.Seat.{Seat}
-use Rattle.vm_core.specs.Fn.{at}
-use Rattle.vm_core.specs.Start.{no_seat}
-use Rattle.vm_core.specs.State.{Page}
-use Rattle.vm_core.specs.History.{History, World}
-use Rattle.vm_core.specs.Inv.{Inv}
-use Rattle.vm_owner.specs.declared.Entry.{Entry}
-use Rattle.vm_owner.specs.Kept.{Start, Kept}
-use Rattle.vm_owner.specs.Numbers.{has}
-use Rattle.vm_block.specs.declared.stored.Stored.{Stored}
-use Rattle.vm_rule.specs.declared.view.Origin.{Origin}
-use Rattle.vm_rule.specs.declared.view.Release.{Release}
-use Rattle.vm_rule.specs.declared.view.View.{View}
-use Rattle.vm_rule.specs.Puts.{listed, chosen}
-use Rattle.vm_rule.specs.Layout.{Words, table_words}
-use Rattle.vm_rule.specs.Views.{spent, seat_of, loads_at}
-use Rattle.vm_rule.specs.Reading.{pages_from, core_from, seats_of, loads_of, frames_held, out_of, known, home, block_of, core_shown, histories_of, world_of}
-use Rattle.vm_rule.specs.Rule.{is_pending, is_owed, logical, kept_of, FaultsFit, KnowsPages, snapshot_of}
+use mathlib.Core.Path.{fun_ext}
+use Rattle.vm_core.specs.Prelude.{at, Inv, no_seat, Page, World}
+use Rattle.vm_rule.specs.Prelude.{block_of, chosen, core_shown, Entry, FaultsFit, frames_held, has, histories_of, home, is_owed, is_pending, kept_of}
+use Rattle.vm_rule.specs.Prelude.{known, KnowsPages, listed, loads_at, loads_of, logical, out_of, pages_from, Seat, seat_of, seats_of, snapshot_of}
+use Rattle.vm_rule.specs.Prelude.{spent, Start, Stored, Table, table_words, Words, world_of}
+use Rattle.vm_rule.specs.{declared.view.Origin.Origin, declared.view.Release.Release, declared.view.View.View}
+use Rattle.vm_rule.proofs.Gathering.{ReadsLess, regathered, regathered-inv, Regathers}
 use Rattle.vm_rule.proofs.Pages.{page-in, page-out}
-use Rattle.vm_rule.proofs.Gathering.{ReadsLess, Regathers, regathered, regathered-inv}
 
 pub at-past : {A : Type 0} (d : A) (l : List A) (i : ℕ) → length l ≤ i → at d l i ≡ d
 unfolding at

@@ -1,17 +1,19 @@
 -- Lists of events keep the invariant, and each validated read saw one version.
-use Rattle.std.proofs.Common.{◌≡◌, refl, ◌∙◌, ⊎_elim, true, eqb, List, [], ◌∷◌}
+use Rattle.std.proofs.Common.{[], ⊎_elim, ◌∙◌, ◌∷◌, ◌≡◌, eqb, List, refl, true}
 use Rattle.std.proofs.lemmas.Bool.{cases_Bool}
-use Rattle.vm_core.specs.declared.event.Event.{Event}
-use Rattle.vm_core.specs.declared.event.Event.TheVariants.{Look, LockX, LockS, UnlockS, Mark, Unmark, LockW, Upgrade, Release, ReleaseE, Downgrade, TLoad, Install, Clear, Dirty, Clean, Load, Store, BLoad, Take, Give, Read, RFail, Write, WFail, Raise, NLoad, Claim, Hand}
-use Rattle.vm_core.specs.State.{State}
-use Rattle.vm_core.specs.Step.{AllLegal, after_event, run}
-use Rattle.vm_core.specs.History.{World, world_after, world_run}
-use Rattle.vm_core.specs.Inv.{Inv, Keeps}
-use Rattle.vm_core.specs.OneVersion.{Validates, AllReadOne}
-use Rattle.vm_laws_state.proofs.Laws.{look_law, lock_exclusive_law, lock_shared_law, unlock_shared_law, mark_law, unmark_law, lock_write_back_law, upgrade_law, release_law, release_evicted_law, downgrade_law}
-use Rattle.vm_laws_state.proofs.Validate.{look_validates, lock_exclusive_validates, lock_shared_validates, lock_write_back_validates, upgrade_validates}
-use Rattle.vm_laws_frame.proofs.Laws.{translation_load_law, install_law, clear_law, dirty_law, clean_law, load_law, store_law, bundle_load_law, take_law, give_law}
-use Rattle.vm_laws_device.proofs.Laws.{read_law, read_fault_law, write_law, write_fault_law, raise_law, next_load_law, claim_law, hand_law}
+use Rattle.vm_core.specs.Prelude.{after_event, AllLegal, Inv, Keeps, run, State, Validates, World, world_after, world_run}
+use Rattle.vm_core.specs.declared.event.Event.TheVariants.{BLoad, Claim, Clean, Clear, Dirty, Downgrade, Give, Hand, Install, Load, LockS, LockW}
+use Rattle.vm_core.specs.declared.event.Event.TheVariants.{LockX, Look, Mark, NLoad, Raise, Read, Release, ReleaseE, RFail, Store, Take, TLoad}
+use Rattle.vm_core.specs.declared.event.Event.TheVariants.{UnlockS, Unmark, Upgrade, WFail, Write}
+use Rattle.vm_core.specs.OneVersion.{AllReadOne}
+use Rattle.vm_laws_state.proofs.Laws.{downgrade_law, lock_exclusive_law, lock_shared_law, lock_write_back_law, look_law, mark_law}
+use Rattle.vm_laws_state.proofs.Laws.{release_evicted_law, release_law, unlock_shared_law, unmark_law, upgrade_law}
+use Rattle.vm_laws_state.proofs.Validate.{lock_exclusive_validates, lock_shared_validates, lock_write_back_validates, look_validates}
+use Rattle.vm_laws_state.proofs.Validate.{upgrade_validates}
+use Rattle.vm_laws_frame.proofs.Laws.{bundle_load_law, clean_law, clear_law, dirty_law, give_law, install_law, load_law, store_law, take_law}
+use Rattle.vm_laws_frame.proofs.Laws.{translation_load_law}
+use Rattle.vm_laws_device.proofs.Laws.{claim_law, hand_law, next_load_law, raise_law, read_fault_law, read_law, write_fault_law, write_law}
+use Rattle.vm_rule.specs.Prelude.{Event}
 
 pub event_law : (w : World) (e : Event) → Keeps w e
 event_law w (Look a p) i m = look_law w a p i m

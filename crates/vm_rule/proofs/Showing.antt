@@ -1,30 +1,13 @@
 -- What a step of a pass shows of itself. `ShowsMore` is the step in full, which may move the pass's block and note faults: what the others know
 -- stays by what the step leaves, so it is the pass's own part alone. `Shows` is a step that is an event of the core and moves no block.
-use Rattle.std.proofs.Common.{ℕ, Bool, true, false, Option, Some, List, [], ◌∷◌, ◌++◌, ◌≡◌, ◌≢◌, ◌⊎◌, ◌<◌, ◌≤◌, length, replicate, slice_set}
+use Rattle.std.proofs.Common.{[], ◌++◌, ◌<◌, ◌∷◌, ◌≡◌, ◌≢◌, ◌≤◌, ◌⊎◌, Bool, false, length, List, Option, replicate, slice_set, Some, true, ℕ}
 use mathlib.Core.Option as maybe
-use Rattle.atomic_table.specs.Table.{State as Table}
-use Rattle.vm_core.specs.declared.event.Event.{Event}
-use Rattle.vm_core.specs.History.{World, world_after}
-use Rattle.vm_core.specs.Inv.{Inv}
-use Rattle.vm_core.specs.Step.{Legal}
-use Rattle.vm_laws_others.specs.Leaves.{Leaves}
-use Rattle.vm_owner.specs.declared.Entry.{Entry}
-use Rattle.vm_owner.specs.Kept.{Start, Kept}
-use Rattle.vm_owner.specs.Numbers.{has}
-use Rattle.vm_block.specs.declared.stored.Stored.{Stored}
-use Rattle.vm_rule.specs.declared.view.Did.{Did}
-use Rattle.vm_rule.specs.declared.view.Origin.{Origin}
-use Rattle.vm_rule.specs.declared.view.Out.{Out}
-use Rattle.vm_rule.specs.declared.view.Release.{Release}
-use Rattle.vm_rule.specs.declared.view.Tie.{Tie}
-use Rattle.vm_rule.specs.declared.view.Translation.{Translation}
-use Rattle.vm_rule.specs.declared.view.View.{View}
-use Rattle.vm_rule.specs.Puts.{put_at, listed}
-use Rattle.vm_rule.specs.Layout.{Within, index_of, width}
-use Rattle.vm_rule.specs.Views.{Each, seat_of, draft_of, may_call}
-use Rattle.vm_rule.specs.Reading.{block_of, core_shown, world_of, histories_of}
-use Rattle.vm_rule.specs.Rule.{KnowsPage, no_held, TranslationHolds, TieHolds, began_of, is_pending, kept_of, AreNext, ArePlain, BlocksFit, FaultsFit, Ruled}
-use Rattle.vm_rule.specs.Brought.{IsFoundAt, entry_of, brought}
+use Rattle.vm_core.specs.Prelude.{Inv, Legal, World, world_after}
+use Rattle.vm_rule.specs.Prelude.{AreNext, ArePlain, began_of, block_of, BlocksFit, brought, core_shown, draft_of, Each, Entry, entry_of, Event}
+use Rattle.vm_rule.specs.Prelude.{FaultsFit, has, histories_of, index_of, is_pending, IsFoundAt, Kept, kept_of, KnowsPage, Leaves, listed, may_call}
+use Rattle.vm_rule.specs.Prelude.{no_held, put_at, Ruled, seat_of, Start, Stored, Table, TieHolds, TranslationHolds, width, Within, world_of}
+use Rattle.vm_rule.specs.{declared.view.Did.Did, declared.view.Origin.Origin, declared.view.Out.Out, declared.view.Release.Release}
+use Rattle.vm_rule.specs.{declared.view.Tie.Tie, declared.view.Translation.Translation, declared.view.View.View}
 
 module _ {X B : Type 0} (stored : B → Stored) (keeps : Start → Kept X → Type 0) (tied : Start → ℕ → List ℕ → ℕ → List ℕ → Type 0) (start : Origin) (tells : Bool) where
   module _ (s : Table (Option B) (View X)) (r : Ruled stored keeps tied start tells s) (id : ℕ) (v : View X) (words : List ℕ) (homes : List (maybe.Option (Option B))) (blocks : List Stored) (drafts : ℕ → List ℕ) (own : List Release) (entries : List (Entry X)) (did : Did) (inner : View X) where

@@ -1,25 +1,14 @@
 -- The rule keeps of each live view what is read off that view alone.
-use Rattle.std.proofs.Common.{ℕ, Bool, true, false, true≢false, Option, List, [], ◌∷◌, ◌++◌, ◌≡◌, ◌≢◌, ◌⊎◌, ◌+◌, ◌<◌, ◌≤◌, ◌==◌, ◌||◌, if◌then◌else◌, length, refl, sym, ap, subst, ◌∙◌, arith, ⊎_elim, append_assoc}
+use Rattle.std.proofs.Common.{[], ⊎_elim, ◌++◌, ◌+◌, ◌<◌, ◌==◌, ◌∙◌, ◌∷◌, ◌≡◌, ◌≢◌, ◌≤◌, ◌⊎◌, ap, append_assoc, arith, Bool, if◌then◌else◌, length}
+use Rattle.std.proofs.Common.{List, Option, refl, subst, sym, true, ℕ}
 use Rattle.std.proofs.lemmas.Bool.{cases_Bool, cases_eq, eq-eqb, ne_eqb}
-use mathlib.Core.Option.{some}
-use lib.ListN.{get_elem?}
-use Rattle.atomic_table.specs.Table.{State as Table}
-use Rattle.vm_core.specs.Words.{MAX_VERSION}
-use Rattle.vm_core.specs.History.{History, Version}
-use Rattle.vm_block.specs.declared.stored.Stored.{Stored}
-use Rattle.vm_owner.specs.declared.Entry.{Entry}
-use Rattle.vm_owner.specs.Kept.{Start, Kept, AreCounted}
-use Rattle.vm_owner.specs.Numbers.{has, AreApart}
-use Rattle.vm_rule.specs.declared.view.Origin.{Origin}
-use Rattle.vm_rule.specs.declared.view.Release.{Release}
-use Rattle.vm_rule.specs.declared.view.View.{View}
-use Rattle.vm_rule.specs.Views.{StartsWith, Each, PARTS, times, total, owns, one_part, entries_by}
-use Rattle.vm_rule.specs.Reading.{last_in, after_releases, first_history, pushed}
-use Rattle.vm_rule.specs.Rule.{AreNext, KnowsLists, Ruled}
-use Rattle.vm_rule.proofs.Entries.{entries-both, total-at, append-none}
-use Rattle.vm_rule.proofs.Heard.{one-most, times-has}
-use Rattle.vm_rule.proofs.Worlds.{last-is}
-use Rattle.vm_rule.specs.Sound.{Sound}
+use Rattle.vm_core.specs.Prelude.{get_elem?, History, some, Version}
+use Rattle.vm_owner.specs.Kept.{AreCounted}
+use Rattle.vm_rule.specs.Prelude.{after_releases, AreApart, AreNext, Each, entries_by, Entry, first_history, has, Kept, KnowsLists, last_in, one_part}
+use Rattle.vm_rule.specs.Prelude.{owns, PARTS, pushed, Ruled, Sound, Start, Stored, Table, times, total}
+use Rattle.vm_rule.specs.{declared.view.Origin.Origin, declared.view.Release.Release, declared.view.View.View}
+use Rattle.vm_rule.proofs.{Heard.one-most, Heard.times-has, Worlds.last-is}
+use Rattle.vm_rule.proofs.Entries.{append-none, entries-both, total-at}
 
 after-append : (p : ℕ) (h : History) (l m : List Release) → after_releases p h (l ++ m) ≡ after_releases p (after_releases p h l) m
 after-append p h [] m = refl

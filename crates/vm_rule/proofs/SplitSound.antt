@@ -1,10 +1,8 @@
 -- What the rule keeps of a pass's own view, where the pass is split: of its view then, and of the new pass's.
-use Rattle.std.proofs.Common.{ℕ, Bool, true, false, true≢false, ◌≡◌, ◌||◌, eqb, List, [], ◌∷◌, ◌++◌, refl, sym, ap, ◌∙◌, ⊎_elim}
+use Rattle.std.proofs.Common.{[], ⊎_elim, ◌++◌, ◌||◌, ◌∙◌, ◌∷◌, ◌≡◌, ap, Bool, eqb, false, List, refl, sym, true, true≢false, ℕ}
 use Rattle.std.proofs.lemmas.Bool.{cases_Bool}
-use Rattle.vm_owner.specs.Numbers.{has, AreApart}
-use Rattle.vm_rule.specs.declared.view.View.{View}
-use Rattle.vm_rule.specs.Joins.{first_part, other_parts, given_part, giver, newcomer}
-use Rattle.vm_rule.specs.Sound.{Sound}
+use Rattle.vm_rule.specs.Prelude.{AreApart, first_part, giver, has, newcomer, other_parts, Sound}
+use Rattle.vm_rule.specs.{declared.view.View.View, Joins.given_part}
 use Rattle.vm_rule.proofs.Splitting.{cut-has, fresh-cut, none-given}
 
 -- ---- parts without the first of them

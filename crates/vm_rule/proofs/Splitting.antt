@@ -1,33 +1,20 @@
 -- A pass is split: the table meets the rule with the view of the new pass, which has one of its fresh parts or none.
-use Rattle.std.proofs.Common.{ℕ, Bool, true, false, true≢false, ◌≡◌, ◌≢◌, ◌⊎◌, ◌+◌, ◌<◌, ◌≤◌, ◌||◌, Option, Some, None, List, [], ◌∷◌, ◌++◌, length, zero, suc, refl, sym, ap, subst, ◌∙◌, inl, inr, arith, ⊎_elim, if◌then◌else◌, eqb, length-append, slice_set, length-set}
-use Rattle.std.proofs.lemmas.Bool.{false≢true, cases_Bool, cases_eq, eq-eqb}
+use Rattle.std.proofs.Common.{[], ⊎_elim, ◌++◌, ◌+◌, ◌<◌, ◌||◌, ◌∙◌, ◌∷◌, ◌≡◌, ◌≢◌, ◌≤◌, ◌⊎◌, ap, arith, Bool, eqb, false, if◌then◌else◌, inl, inr}
+use Rattle.std.proofs.Common.{length, length-append, length-set, List, None, Option, refl, slice_set, subst, suc, sym, true, true≢false, zero, ℕ}
+use Rattle.std.proofs.lemmas.Bool.{cases_eq, eq-eqb, false≢true}
 use mathlib.Core.Option as maybe
-use mathlib.Core.Option.{some, some-injective}
-use lib.ListN.{get_elem?}
-use Rattle.atomic_table.specs.Table.{State as Table}
-use Rattle.atomic_table.proofs.Lists.{at_set, at_snoc, at_longer, set_here, set_else}
-use Rattle.vm_core.specs.declared.event.Seat.{Seat}
-use Rattle.vm_core.specs.Fn.{at, upd}
-use Rattle.vm_core.specs.Start.{no_seat}
-use Rattle.vm_core.specs.State.{Page}
-use Rattle.vm_core.specs.History.{World}
-use Rattle.vm_core.proofs.Upd.{upd-same, upd-other}
-use Rattle.vm_owner.specs.declared.Entry.{Entry}
-use Rattle.vm_owner.specs.Kept.{Start, Kept}
-use Rattle.vm_owner.specs.Numbers.{has}
-use Rattle.vm_block.specs.declared.stored.Stored.{Stored}
-use Rattle.vm_rule.specs.declared.view.Origin.{Origin}
-use Rattle.vm_rule.specs.declared.view.Out.{Out}
-use Rattle.vm_rule.specs.declared.view.View.{View}
-use Rattle.vm_rule.specs.Views.{times, times_noted, entries_by, total, any, owns, may_call, seat_of, loads_at, spent, IsWhole}
-use Rattle.vm_rule.specs.Reading.{world_of, out_of, out_or}
-use Rattle.vm_rule.specs.Rule.{is_pending, is_owed, began_of, slot_of, KnowsLists, KnowsPages, FaultsFit, ListsFit, PartsFit, BlocksFit, snapshot_of, Ruled}
-use Rattle.vm_rule.specs.Joins.{first_part, other_parts, given_part, giver, newcomer}
-use Rattle.vm_rule.proofs.Views.{at-bound, at-there, views-set, total-set, any-same, out-same}
-use Rattle.vm_rule.proofs.Entries.{entries-none, entries-both}
-use Rattle.vm_rule.proofs.Joining.{or-right, none-behind, none-before}
-use Rattle.vm_rule.proofs.Resettling.{Resettles, same-reads, at-past, settled-blocks, settled-snapshot, settled-inv, settled-faults, settled-known, settled-kept}
-use Rattle.vm_rule.proofs.Gathering.{ReadsLess, none-some}
+use Rattle.atomic_table.proofs.Lists.{at_longer, at_set, at_snoc, set_else, set_here}
+use Rattle.vm_core.specs.Prelude.{at, get_elem?, some, some-injective, upd, World}
+use Rattle.vm_core.proofs.Upd.{upd-other, upd-same}
+use Rattle.vm_rule.specs.Prelude.{any, began_of, BlocksFit, entries_by, Entry, FaultsFit, first_part, giver, has, is_pending, Kept, KnowsLists}
+use Rattle.vm_rule.specs.Prelude.{KnowsPages, ListsFit, loads_at, may_call, newcomer, other_parts, out_of, out_or, owns, PartsFit, Ruled, Seat}
+use Rattle.vm_rule.specs.Prelude.{seat_of, slot_of, snapshot_of, spent, Start, Stored, Table, times, times_noted, total, world_of}
+use Rattle.vm_rule.specs.{declared.view.Origin.Origin, declared.view.View.View, Joins.given_part}
+use Rattle.vm_rule.proofs.{Entries.entries-none, Gathering.none-some, Gathering.ReadsLess}
+use Rattle.vm_rule.proofs.Joining.{none-before, none-behind, or-right}
+use Rattle.vm_rule.proofs.Resettling.{at-past, Resettles, same-reads, settled-blocks, settled-faults, settled-inv, settled-kept, settled-known}
+use Rattle.vm_rule.proofs.Resettling.{settled-snapshot}
+use Rattle.vm_rule.proofs.Views.{any-same, at-bound, at-there, out-same, total-set, views-set}
 
 -- ---- parts
 

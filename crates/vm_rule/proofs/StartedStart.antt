@@ -1,27 +1,19 @@
 -- A pool's table opens under the rule: it shows the core's start.
-use Rattle.std.proofs.Common.{ℕ, Bool, true, ◌≡◌, ◌<◌, ◌≤◌, List, [], length, map, replicate, refl, sym, ap, subst, ◌∙◌, arith, ⊎_elim, ltb, cond, if◌then◌else◌}
-use Rattle.std.proofs.lemmas.Bool.{cases_lt, cases_Bool, lt-ltb, le-ltb}
+use Rattle.std.proofs.Common.{[], ⊎_elim, ◌<◌, ◌∙◌, ◌≡◌, ◌≤◌, ap, arith, Bool, cond, if◌then◌else◌, length, List, ltb, map, refl, replicate, subst}
+use Rattle.std.proofs.Common.{sym, true, ℕ}
+use Rattle.std.proofs.lemmas.Bool.{cases_Bool, cases_lt, le-ltb, lt-ltb}
 use Rattle.std.proofs.lemmas.List.{length-replicate}
-use Rattle.vm_core.specs.Fn.{at}
-use Rattle.vm_core.specs.FrameActs.{mapping_of, trans_word}
-use Rattle.vm_core.specs.Start.{start as start_of, full_bundle, no_seat, evicted_page}
-use Rattle.vm_core.specs.State.{Page}
-use Rattle.vm_core.specs.Words.{state_of, version_of, EVICTED}
-use Rattle.vm_core.specs.Inv.{Inv, FrameIsAt}
-use Rattle.vm_core.specs.Inv.Place.{Nowhere, Free}
-use Rattle.vm_block.specs.declared.stored.Stored.{Stored}
-use Rattle.vm_owner.specs.Kept.{Start, Kept}
-use Rattle.vm_rule.specs.declared.view.Origin.{Origin}
-use Rattle.vm_rule.specs.declared.view.Shape.{Shape}
-use Rattle.vm_rule.specs.Layout.{table_words}
-use Rattle.vm_rule.specs.Reading.{no_block, page_from, world_of}
-use Rattle.vm_rule.specs.Started.{IsStarted, MayBegin, counts_of, contents_of, block_words, started_words, started_origin, started_shape}
-use Rattle.vm_rule.proofs.WordFacts.{word-state, word-version, mapping-none}
-use Rattle.vm_rule.proofs.ListFacts.{at-map, length-mapped}
-use Rattle.vm_rule.proofs.Starts.{start-frames, evicted-inv}
-use Rattle.vm_rule.proofs.StartedWords.{started-wide, started-state, started-translation, started-fault, started-bundle, started-next, started-hand, started-frame}
-use Rattle.vm_rule.proofs.FirstWorld.{first_pages, first_core, first_world, table, shown, first-inv}
-use Rattle.vm_rule.proofs.FirstRule.{blocks-whole, Opens}
+use Rattle.vm_core.specs.Prelude.{at, EVICTED, evicted_page, FrameIsAt, Free, full_bundle, Inv, mapping_of, no_seat, Nowhere, Page, start as start_of}
+use Rattle.vm_core.specs.Prelude.{state_of, trans_word, version_of}
+use Rattle.vm_rule.specs.Prelude.{block_words, counts_of, IsStarted, Kept, MayBegin, no_block, page_from, Start, started_origin, started_shape}
+use Rattle.vm_rule.specs.Prelude.{started_words, Stored, table_words, world_of}
+use Rattle.vm_rule.specs.{declared.view.Origin.Origin, declared.view.Shape.Shape, Started.contents_of}
+use Rattle.vm_rule.proofs.{FirstRule.blocks-whole, FirstRule.Opens, ListFacts.at-map, ListFacts.length-mapped, Starts.evicted-inv}
+use Rattle.vm_rule.proofs.{Starts.start-frames}
+use Rattle.vm_rule.proofs.FirstWorld.{first-inv, first_core, first_pages, first_world, shown, table}
+use Rattle.vm_rule.proofs.StartedWords.{started-bundle, started-fault, started-frame, started-hand, started-next, started-state, started-translation}
+use Rattle.vm_rule.proofs.StartedWords.{started-wide}
+use Rattle.vm_rule.proofs.WordFacts.{mapping-none, word-state, word-version}
 
 -- where blocks tell, the pages' words are theirs
 told-contents : (tells : Bool) (blocks : List Stored) → tells ≡ true → contents_of tells blocks ≡ block_words blocks

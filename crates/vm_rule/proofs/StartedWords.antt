@@ -1,17 +1,12 @@
 -- The words with which a pool's table opens, read by the layout.
-use Rattle.std.proofs.Common.{ℕ, Bool, ◌≡◌, ◌+◌, ◌-◌, ◌*◌, ◌^◌, ◌<◌, ◌≤◌, List, length, min, replicate, sym, ap, ◌∙◌, arith, ⊎_elim}
+use Rattle.std.proofs.Common.{⊎_elim, ◌*◌, ◌+◌, ◌-◌, ◌<◌, ◌^◌, ◌∙◌, ◌≡◌, ◌≤◌, ap, arith, Bool, length, List, min, replicate, sym, ℕ}
 use Rattle.std.proofs.lemmas.Bool.{cases_lt}
-use Rattle.vm_core.specs.Fn.{at}
-use Rattle.vm_core.specs.Start.{full_bundle}
-use Rattle.vm_core.specs.Words.{word_of, EVICTED}
-use Rattle.vm_block.specs.declared.stored.Stored.{Stored}
+use Rattle.vm_core.specs.Prelude.{at, EVICTED, full_bundle, word_of}
+use Rattle.vm_rule.specs.Prelude.{bundles_of, counts_of, frame_words, listed, started_origin, started_words, Stored, table_words, width}
 use Rattle.vm_rule.specs.declared.view.Origin.{Origin}
-use Rattle.vm_rule.specs.Puts.{listed}
-use Rattle.vm_rule.specs.Layout.{bundles_of, width, table_words}
-use Rattle.vm_rule.specs.Reading.{frame_words}
-use Rattle.vm_rule.specs.Started.{counts_of, started_words, started_origin}
-use Rattle.vm_rule.proofs.ListFacts.{at-past, at-map, length-mapped, length-listed, at-listed, at-same, at-zeros}
-use Rattle.vm_rule.proofs.LaidWords.{AreParts, laid-wide, laid-state, laid-translation, laid-fault, laid-content, laid-bundle, laid-next, laid-hand, frame-zero}
+use Rattle.vm_rule.proofs.LaidWords.{AreParts, frame-zero, laid-bundle, laid-content, laid-fault, laid-hand, laid-next, laid-state, laid-translation}
+use Rattle.vm_rule.proofs.LaidWords.{laid-wide}
+use Rattle.vm_rule.proofs.ListFacts.{at-listed, at-map, at-past, at-same, at-zeros, length-listed, length-mapped}
 
 -- past the last frame a bundle has no bit
 empty-bundle : (frames g : ℕ) → bundles_of frames ≤ g → full_bundle frames g ≡ 0

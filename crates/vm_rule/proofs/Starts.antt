@@ -1,16 +1,15 @@
 -- The start meets the invariant.
-use Rattle.std.proofs.Common.{ℕ, Bool, true, List, [], ap, ◌∙◌, ◌≡◌, ◌-◌, ◌*◌, ◌/◌, ◌%◌, ◌^◌, ◌≤◌, refl, ⊎_elim, arith, cond, ltb, min, length, replicate, ◌+◌}
 use Rattle.std.specs.Int.{bit_at}
-use Rattle.std.proofs.lemmas.Bool.{cases_Bool, cases_lt, eq-eqb, ne_eqb, lt-ltb, le-ltb}
-use Rattle.std.proofs.lemmas.Nat.Bits.{bit_at_ones, bit_at_ones_above}
+use Rattle.std.proofs.Common.{[], ⊎_elim, ◌%◌, ◌*◌, ◌+◌, ◌-◌, ◌/◌, ◌^◌, ◌∙◌, ◌≡◌, ◌≤◌, ap, arith, Bool, cond, length, List, ltb, min, refl, replicate}
+use Rattle.std.proofs.Common.{true, ℕ}
+use Rattle.std.proofs.lemmas.Bool.{cases_Bool, cases_lt, eq-eqb, le-ltb, lt-ltb, ne_eqb}
 use Rattle.std.proofs.lemmas.List.{length-replicate}
 use Rattle.std.proofs.lemmas.List.FromFn.{length-map-range_with_len}
-use Rattle.vm_core.specs.declared.event.CoreShape.{CoreShape}
-use Rattle.vm_core.specs.Words.{has_free_bit, MAX_VERSION}
-use Rattle.vm_core.specs.Inv.{Inv, PageInv, FrameIsAt, at_free}
-use Rattle.vm_core.specs.Inv.Place.{Nowhere, Free}
+use Rattle.std.proofs.lemmas.Nat.Bits.{bit_at_ones, bit_at_ones_above}
+use Rattle.vm_core.specs.Prelude.{at_free, begin, core_block, core_start, CoreStart, evicted_page, FrameIsAt, Free, full_bundle, has_free_bit, Inv}
+use Rattle.vm_core.specs.Prelude.{IsStart, MAX_VERSION, Nowhere, PageInv, start}
 use Rattle.vm_core.proofs.Starting.{locks-none}
-use Rattle.vm_core.specs.Start.{CoreStart, IsStart, start, begin, evicted_page, full_bundle, core_block, core_start}
+use Rattle.vm_rule.specs.Prelude.{CoreShape}
 
 start-free : (frames f : ℕ) → has_free_bit (full_bundle frames) f ≡ at_free (cond (ltb f frames) Free Nowhere)
 unfolding has_free_bit full_bundle

@@ -1,12 +1,9 @@
 -- What the invariant tells, in full.
-use Rattle.std.proofs.Common.{ℕ, ◌≡◌, ◌<◌, refl, sym, subst, ◌∙◌}
+use Rattle.std.proofs.Common.{◌<◌, ◌∙◌, ◌≡◌, refl, subst, sym, ℕ}
 use Rattle.std.proofs.lemmas.Bool.{eq-eqb}
-use Rattle.vm_core.specs.State.{State}
-use Rattle.vm_core.specs.History.{World}
-use Rattle.vm_core.specs.Inv.{Inv, FrameIsAt, Place}
-use Rattle.vm_core.specs.Inv.Place.{Nowhere, Free, Held, Mapped}
-use Rattle.vm_core.specs.Told.{StandsAt, FrameOnce, Told}
-use Rattle.vm_laws_frame.proofs.Places.{held-place, mapped-place, free-place}
+use Rattle.vm_core.specs.Prelude.{FrameIsAt, FrameOnce, Free, Inv, Mapped, Nowhere, State, Told, World}
+use Rattle.vm_core.specs.{Inv.Place, Inv.Place.Held, Told.StandsAt}
+use Rattle.vm_laws_frame.proofs.Places.{free-place, held-place, mapped-place}
 
 at-place : (c : State) (f : ℕ) (x : Place) → f < c.shape.frames → FrameIsAt c f x → StandsAt c f x
 at-place c f Nowhere lt i = i.inside lt

@@ -1,15 +1,11 @@
 -- What is read off the views, after one of them changed.
-use Rattle.std.proofs.Common.{ℕ, ◌≡◌, ◌+◌, ◌<◌, ◌||◌, List, [], ◌∷◌, length, zero, suc, refl, sym, ap, ◌∙◌, arith, slice_set, Bool, Option}
-use mathlib.Core.Path.{fun_ext}
+use Rattle.std.proofs.Common.{[], ◌+◌, ◌<◌, ◌||◌, ◌∙◌, ◌∷◌, ◌≡◌, ap, arith, Bool, length, List, Option, refl, slice_set, suc, sym, zero, ℕ}
 use mathlib.Core.Option as maybe
-use mathlib.Core.Option.{some, some-injective}
-use lib.ListN.{get_elem?}
-use Rattle.vm_core.specs.Fn.{at, upd}
+use mathlib.Core.Path.{fun_ext}
+use Rattle.vm_core.specs.Prelude.{at, get_elem?, some, some-injective, upd}
 use Rattle.vm_core.proofs.At.{at_set}
-use Rattle.vm_block.specs.declared.stored.Stored.{Stored}
+use Rattle.vm_rule.specs.Prelude.{any, block_of, home, known, out_of, out_or, spent, Stored, total}
 use Rattle.vm_rule.specs.declared.view.View.{View}
-use Rattle.vm_rule.specs.Views.{spent, total, any}
-use Rattle.vm_rule.specs.Reading.{home, known, out_of, out_or, block_of}
 
 pub at-bound : {A : Type 0} (l : List A) (i : ℕ) (a : A) → get_elem? l i ≡ some a → i < length l
 at-bound [] i a e = absurd (maybe.some-ne-none a (sym e))

@@ -1,24 +1,13 @@
 -- The words that the steps of a pass found and left on a state word or on the next word tell of the table's words from then on.
-use Rattle.std.proofs.Common.{ℕ, true, true≢false, Option, Some, None, ◌≡◌, ◌≢◌, ◌<◌, ◌≤◌, sym, ap, ◌∙◌, arith, ⊎_elim}
+use Rattle.std.proofs.Common.{⊎_elim, ◌<◌, ◌∙◌, ◌≡◌, ◌≢◌, ◌≤◌, ap, arith, None, Option, Some, sym, true, true≢false, ℕ}
 use Rattle.std.proofs.lemmas.Bool.{cases_Bool}
 use Rattle.std.proofs.lemmas.Bool.Decides.{nat_tests}
-use Rattle.atomic_table.specs.Table.{State as Table}
-use Rattle.vm_core.specs.Words.{state_of, version_of, LOCKED, EVICTED}
-use Rattle.vm_core.specs.State.{Page}
-use Rattle.vm_core.specs.StateActs.{is_readable}
-use Rattle.vm_core.specs.History.{World}
+use Rattle.vm_core.specs.Prelude.{EVICTED, is_readable, LOCKED, Page, state_of, version_of, World}
 use Rattle.vm_laws_others.specs.Leaves.{PageMoves}
-use Rattle.vm_block.specs.declared.stored.Stored.{Stored}
-use Rattle.vm_rule.specs.declared.view.Did.{Did}
-use Rattle.vm_rule.specs.declared.view.Origin.{Origin}
-use Rattle.vm_rule.specs.declared.view.Place.{Place}
-use Rattle.vm_rule.specs.declared.view.Place.TheVariants.{State, Translation, Fault, Content, Bundle, Next, Hand}
-use Rattle.vm_rule.specs.declared.view.View.{View}
-use Rattle.vm_rule.specs.Layout.{Within, index_of, at_state, at_next}
-use Rattle.vm_rule.specs.Reading.{core_shown}
-use Rattle.vm_rule.specs.Rule.{WasWord, WasNext, WereWords}
-use Rattle.vm_rule.specs.Brought.{IsFoundAt}
-use Rattle.vm_rule.proofs.Found.{state-here, version-here, next-here}
+use Rattle.vm_rule.specs.Prelude.{at_next, at_state, core_shown, index_of, IsFoundAt, Stored, Table, WasNext, WasWord, WereWords, Within}
+use Rattle.vm_rule.specs.{declared.view.Did.Did, declared.view.Origin.Origin, declared.view.Place.Place, declared.view.View.View}
+use Rattle.vm_rule.specs.declared.view.Place.TheVariants.{Bundle, Content, Fault, Hand, Next, State, Translation}
+use Rattle.vm_rule.proofs.Found.{next-here, state-here, version-here}
 
 readable-free : (state : ℕ) → is_readable state ≡ true → (state ≢ LOCKED) × (state ≢ EVICTED)
 readable-free state e = ((λ l. grind (arith, nat_tests, e, l)), (λ l. grind (arith, nat_tests, e, l)))

@@ -1,13 +1,11 @@
 -- Words of the table as numbers: a state word is its state and its version, a translation word its frame and its dirty bit. None of these
 -- asks that the word is below 2^64.
-use Rattle.std.proofs.Common.{ℕ, ◌≡◌, ◌≢◌, ◌+◌, ◌-◌, ◌*◌, ◌/◌, ◌%◌, ◌^◌, ◌<◌, ◌≤◌, sym, ap, refl, ◌∙◌, arith, ⊎_elim, true, false, Some, None, div-add-mod'}
-use Rattle.std.proofs.lemmas.Bool.{cases_Bool, eq-eqb, and_from}
-use Rattle.vm_core.specs.Words.{state_of, version_of, word_of, frame_in, UNLOCKED, MAX_VERSION}
-use Rattle.vm_core.specs.State.{Page}
-use Rattle.vm_core.specs.StateActs.{finds}
-use Rattle.vm_core.specs.FrameActs.{mapping_of}
-use Rattle.vm_core.proofs.WordBits.{frame-of, top-set, top-clear}
+use Rattle.std.proofs.Common.{⊎_elim, ◌%◌, ◌*◌, ◌+◌, ◌-◌, ◌/◌, ◌<◌, ◌^◌, ◌∙◌, ◌≡◌, ◌≢◌, ◌≤◌, ap, arith, div-add-mod', false, None, refl, Some, sym}
+use Rattle.std.proofs.Common.{true, ℕ}
+use Rattle.std.proofs.lemmas.Bool.{and_from, cases_Bool, eq-eqb}
+use Rattle.vm_core.specs.Prelude.{finds, frame_in, mapping_of, MAX_VERSION, Page, state_of, UNLOCKED, version_of, word_of}
 use Rattle.vm_core.proofs.PageFacts.{found}
+use Rattle.vm_core.proofs.WordBits.{frame-of, top-clear, top-set}
 
 -- a word is its state and its version
 pub word-is : (n m : ℕ) → state_of n ≡ state_of m → version_of n ≡ version_of m → n ≡ m

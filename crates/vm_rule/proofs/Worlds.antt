@@ -1,39 +1,22 @@
 -- The world that is read after a step of one pass: it is the world after the event.
-use Rattle.std.proofs.Common.{ℕ, ◌≡◌, ◌≢◌, ◌+◌, ◌-◌, ◌<◌, List, [], ◌∷◌, ◌++◌, length, refl, sym, ap, ◌∙◌, slice_set, slice_index, true, false, Bool, Option, Some, None, eqb, eqb-true, eq-eqb, ne_eqb, ⊎_elim, if◌then◌else◌, length-set}
+use Rattle.std.proofs.Common.{[], ⊎_elim, ◌++◌, ◌+◌, ◌-◌, ◌<◌, ◌∙◌, ◌∷◌, ◌≡◌, ◌≢◌, ap, Bool, eq-eqb, eqb, eqb-true, false, if◌then◌else◌, length}
+use Rattle.std.proofs.Common.{length-set, List, ne_eqb, None, Option, refl, slice_index, slice_set, Some, sym, true, ℕ}
 use Rattle.std.proofs.lemmas.Bool.{cases_Bool}
-use mathlib.Core.Option.{some}
-use lib.ListN.{get_elem?}
-use Rattle.atomic_table.specs.Table.{State as Table}
-use Rattle.vm_core.specs.declared.event.Event.TheVariants.{Look, LockX, LockS, UnlockS, Mark, Unmark, LockW, Upgrade, Release, ReleaseE, Downgrade, TLoad, Load, Store}
-use Rattle.vm_core.specs.declared.event.Mapping.{Mapping}
-use Rattle.vm_core.specs.declared.event.Seat.{Seat}
-use Rattle.vm_core.specs.Fn.{upd}
-use Rattle.vm_core.specs.Words.{state_of, version_of, UNLOCKED, LOCKED, MARKED, EVICTED}
-use Rattle.vm_core.specs.State.{Page, State}
-use Rattle.vm_core.specs.StateActs.{finds, left_of, open_after, one_share_more, unshared, seated}
-use Rattle.vm_core.specs.FrameActs.{framed, load_frame, open_frame, stands_in}
-use Rattle.vm_core.specs.Step.{on_page, word_at, stored_at}
-use Rattle.vm_core.specs.History.{History, World, drafted, appended, kept_loads, loads_more, world_after}
-use Rattle.vm_core.specs.History.{stored as store_history}
-use Rattle.vm_core.specs.Inv.{Inv, at_page}
-use Rattle.vm_core.specs.Inv.{Place as Standing}
-use Rattle.vm_core.specs.Inv.Place.{Nowhere, Free, Held, Mapped}
+use Rattle.vm_core.specs.Prelude.{appended, at_page, drafted, EVICTED, finds, framed, Free, get_elem?, History, Inv, kept_loads, left_of, load_frame}
+use Rattle.vm_core.specs.Prelude.{loads_more, LOCKED, Mapped, MARKED, Nowhere, on_page, one_share_more, open_after, open_frame, Page, some, stands_in}
+use Rattle.vm_core.specs.Prelude.{State, state_of, stored_at, UNLOCKED, unshared, upd, version_of, word_at, World, world_after}
+use Rattle.vm_core.specs.{History.stored as store_history, Inv.Place as Standing, Inv.Place.Held, StateActs.seated}
+use Rattle.vm_core.specs.declared.event.Event.TheVariants.{Downgrade, Load, LockS, LockW, LockX, Look, Mark, Release, ReleaseE, Store, TLoad, UnlockS}
+use Rattle.vm_core.specs.declared.event.Event.TheVariants.{Unmark, Upgrade}
 use Rattle.vm_core.proofs.PageFacts.{found}
-use Rattle.vm_core.proofs.Upd.{upd-same, upd-other, upd-self}
-use Rattle.vm_block.specs.declared.stored.Stored.{Stored}
-use Rattle.vm_rule.specs.declared.view.Origin.{Origin}
-use Rattle.vm_rule.specs.declared.view.Place.{Place}
+use Rattle.vm_core.proofs.Upd.{upd-other, upd-same, upd-self}
+use Rattle.vm_rule.specs.Prelude.{after_releases, block_of, core_from, core_shown, first_history, frames_held, histories_of, index_of, last_in}
+use Rattle.vm_rule.specs.Prelude.{loads_at, loads_of, Mapping, pushed, put, Seat, seat_of, seats_of, Stored, Table, table_words, width, world_of}
+use Rattle.vm_rule.specs.{declared.view.Origin.Origin, declared.view.Place.Place, declared.view.Release.Release as Released, declared.view.View.View}
 use Rattle.vm_rule.specs.declared.view.Place.TheVariants as places
-use Rattle.vm_rule.specs.declared.view.Release.{Release as Released}
-use Rattle.vm_rule.specs.declared.view.View.{View}
-use Rattle.vm_rule.specs.Puts.{put}
-use Rattle.vm_rule.specs.Layout.{index_of, width, table_words}
-use Rattle.vm_rule.specs.Views.{seat_of, loads_at}
-use Rattle.vm_rule.specs.Reading.{core_from, seats_of, loads_of, frames_held, block_of, core_shown, world_of, pushed, after_releases, first_history, last_in, histories_of}
-use Rattle.vm_rule.proofs.Parts.{upd-is}
-use Rattle.vm_rule.proofs.Views.{block-same}
-use Rattle.vm_rule.proofs.Cores.{seats-put, seats-still, loads-put, loads-still, held-still, core-state, core-seat, core-word, core-step}
-use Rattle.vm_rule.proofs.Found.{seat-here, seats-here, loads-here, content-here}
+use Rattle.vm_rule.proofs.{Parts.upd-is, Views.block-same}
+use Rattle.vm_rule.proofs.Cores.{core-seat, core-state, core-step, core-word, held-still, loads-put, loads-still, seats-put, seats-still}
+use Rattle.vm_rule.proofs.Found.{content-here, loads-here, seat-here, seats-here}
 
 -- ---- histories
 

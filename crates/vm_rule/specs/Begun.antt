@@ -1,18 +1,13 @@
 -- The rule of a table that is made with its shape. How it began, with its first words and blocks, the shape has for proofs alone: the first
 -- step of its first pass learns them. Until then the first view stands for nothing but its parts.
-use Rattle.std.specs.Prelude.{ℕ, Bool, false, Option, List, [], ◌∷◌, ◌≡◌, ◌⊎◌, slice_index}
-use Rattle.atomic_table.specs.Table.{State as Table, Me, Step}
+use Rattle.std.specs.Prelude.{[], ◌∷◌, ◌≡◌, ◌⊎◌, Bool, false, List, Option, slice_index, ℕ}
+use Rattle.atomic_table.specs.Table.{Me, State as Table, Step}
 use Rattle.vm_block.specs.declared.stored.Stored.{Stored}
-use Rattle.vm_owner.specs.Kept.{Start, Kept}
-use Rattle.vm_rule.specs.declared.view.Origin.{Origin}
+use Rattle.vm_owner.specs.Kept.{Kept, Start}
+use Rattle.vm_rule.specs.{Brought.brought, declared.view.Origin.Origin, declared.view.Shape.Shape, declared.view.View.View, Log.did_load, Rule.Ruled}
+use Rattle.vm_rule.specs.{Rule.snapshot_of, Sound.Sound}
 use Rattle.vm_rule.specs.declared.view.Place.TheVariants as places
-use Rattle.vm_rule.specs.declared.view.Shape.{Shape}
-use Rattle.vm_rule.specs.declared.view.View.{View}
-use Rattle.vm_rule.specs.Views.{numbers, view_from, first_view}
-use Rattle.vm_rule.specs.Rule.{snapshot_of, Ruled}
-use Rattle.vm_rule.specs.Brought.{brought}
-use Rattle.vm_rule.specs.Log.{did_load}
-use Rattle.vm_rule.specs.Sound.{Sound}
+use Rattle.vm_rule.specs.Views.{first_view, numbers, view_from}
 
 -- the shape of a table without pages
 abbrev pub no_shape : Shape

@@ -1,17 +1,11 @@
 -- What any step of a pass leaves of its view: the lists are brought up to date, the step stands in the log, and the step's own changes are made.
-use Rattle.std.specs.Prelude.{ℕ, true, Option, Some, None, List, [], ◌∷◌, ◌++◌, ◌≡◌, ◌+◌, length, slice_index, slice_set}
+use Rattle.std.specs.Prelude.{[], ◌++◌, ◌+◌, ◌∷◌, ◌≡◌, length, List, None, Option, slice_index, slice_set, Some, true, ℕ}
 use Rattle.vm_block.specs.declared.stored.Stored.{Stored}
-use Rattle.vm_owner.specs.declared.Entry.{Entry}
-use Rattle.vm_owner.specs.Kept.{entries_under}
-use Rattle.vm_rule.specs.declared.view.Did.{Did}
-use Rattle.vm_rule.specs.declared.view.Origin.{Origin}
-use Rattle.vm_rule.specs.declared.view.Release.{Release}
-use Rattle.vm_rule.specs.declared.view.Snapshot.{Snapshot}
-use Rattle.vm_rule.specs.declared.view.View.{View}
-use Rattle.vm_rule.specs.Layout.{Within, index_of, width}
-use Rattle.vm_rule.specs.Views.{StartsWith, IsLocking, seat_of, entries_by, Hears, IsWhole}
-use Rattle.vm_rule.specs.Reading.{last_in, last_of}
-use Rattle.vm_rule.specs.Sound.{Sound}
+use Rattle.vm_owner.specs.{declared.Entry.Entry, Kept.entries_under}
+use Rattle.vm_rule.specs.{declared.view.Did.Did, declared.view.Origin.Origin, declared.view.Release.Release, declared.view.Snapshot.Snapshot}
+use Rattle.vm_rule.specs.{declared.view.View.View, Reading.last_in, Reading.last_of, Sound.Sound}
+use Rattle.vm_rule.specs.Layout.{index_of, width, Within}
+use Rattle.vm_rule.specs.Views.{entries_by, Hears, IsLocking, IsWhole, seat_of, StartsWith}
 
 -- the number, if there is one, at this place of the list
 abbrev pub set_if : Option ℕ → ℕ → List ℕ → List ℕ

@@ -1,18 +1,14 @@
 -- What the steps on a bundle word and on the hand tell. Frames that are taken come to the pass with their words; frames that are given back
 -- leave it.
-use Rattle.std.specs.Prelude.{ℕ, true, false, List, [], ◌∷◌, ◌++◌, ◌≡◌, ◌+◌, ◌*◌, ◌<◌, ◌==◌, length, zero, suc, bit_and, bit_or, bit_xor, if◌then◌else◌}
 use Rattle.std.specs.Int.{bit_at}
-use Rattle.vm_page.specs.declared.buf.TheConstants.{WORDS}
-use Rattle.vm_core.specs.Words.{in_mask, hand_more}
+use Rattle.std.specs.Prelude.{[], ◌*◌, ◌++◌, ◌+◌, ◌<◌, ◌==◌, ◌∷◌, ◌≡◌, bit_and, bit_or, bit_xor, false, if◌then◌else◌, length, List, suc, true, zero}
+use Rattle.std.specs.Prelude.{ℕ}
+use Rattle.vm_core.specs.Prelude.{hand_more, in_mask, WORDS}
 use Rattle.vm_core.specs.declared.words.TheConstants.{FRAMES}
 use Rattle.vm_owner.specs.Numbers.{has}
-use Rattle.vm_rule.specs.declared.view.Put.{Put}
+use Rattle.vm_rule.specs.{Brought.Brings, declared.view.Put.Put, declared.view.View.View, Puts.put, Releases.without_all}
 use Rattle.vm_rule.specs.declared.view.Place.TheVariants as places
-use Rattle.vm_rule.specs.declared.view.View.{View}
-use Rattle.vm_rule.specs.Puts.{put}
-use Rattle.vm_rule.specs.Brought.{Brings}
-use Rattle.vm_rule.specs.Log.{did_load, did_exchange, did_change}
-use Rattle.vm_rule.specs.Releases.{without_all}
+use Rattle.vm_rule.specs.Log.{did_change, did_exchange, did_load}
 
 -- the frames of bundle g whose bits are set among the first n, by rising number
 abbrev pub frames_below : ℕ → ℕ → ℕ → List ℕ
@@ -39,7 +35,8 @@ module _ {X : Type 0} where
   -- the frames taken are frames of the table, and were not the pass's
   pub record TakeTold (g expects mask found : ℕ) (v w : View X) : Type 0 where
     pub words : ℕ → List ℕ
-    pub brings : Brings (did_exchange (places.Bundle g) expects found (bit_xor expects mask)) [] [] v (if found == expects then taken_view g mask words v else v) w
+    pub brings : Brings (did_exchange (places.Bundle g) expects found (bit_xor expects mask)) [] [] v
+        (if found == expects then taken_view g mask words v else v) w
     pub size : (f : ℕ) → length (words f) ≡ WORDS
     pub inside : found ≡ expects → (f : ℕ) → in_mask g mask f ≡ true → f < v.start.frames
     pub new : found ≡ expects → (f : ℕ) → in_mask g mask f ≡ true → has f v.frames ≡ false

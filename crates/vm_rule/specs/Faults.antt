@@ -1,13 +1,8 @@
 -- What a raise of a fault word tells: it becomes the count of the page's block, and a count that it rises to is noted.
-use Rattle.std.specs.Prelude.{ℕ, List, [], ◌∷◌, ◌++◌, ◌==◌, ◌||◌, nat_lt, if◌then◌else◌}
-use Rattle.vm_core.specs.Words.{MAX_COUNT}
-use Rattle.vm_rule.specs.declared.view.Note.{Note}
+use Rattle.std.specs.Prelude.{[], ◌++◌, ◌==◌, ◌||◌, ◌∷◌, if◌then◌else◌, List, nat_lt, ℕ}
+use Rattle.vm_core.specs.Prelude.{MAX_COUNT}
+use Rattle.vm_rule.specs.{Brought.Brings, declared.view.Note.Note, declared.view.View.View, Log.did_store, Mappings.held_at, Puts.put}
 use Rattle.vm_rule.specs.declared.view.Place.TheVariants as places
-use Rattle.vm_rule.specs.declared.view.View.{View}
-use Rattle.vm_rule.specs.Puts.{put}
-use Rattle.vm_rule.specs.Brought.{Brings}
-use Rattle.vm_rule.specs.Log.{did_store}
-use Rattle.vm_rule.specs.Mappings.{held_at}
 
 -- a count that the fault word rises to is noted; so is the last count, each time
 abbrev pub notes_of : ℕ → ℕ → ℕ → List Note

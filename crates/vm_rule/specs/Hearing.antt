@@ -1,12 +1,8 @@
 -- A pass that is told by another what that one had seen of the two lists: the view until its next step, and after a step that takes over just that.
-use Rattle.std.specs.Prelude.{ℕ, List, [], ◌∷◌, ◌++◌, ◌≡◌}
-use Rattle.vm_rule.specs.declared.view.Did.{Did}
+use Rattle.std.specs.Prelude.{[], ◌++◌, ◌∷◌, ◌≡◌, ℕ}
+use Rattle.vm_rule.specs.{declared.view.Did.Did, declared.view.View.View, Log.did_load, Reading.last_of, Sound.Sound}
 use Rattle.vm_rule.specs.declared.view.Place.TheVariants as places
-use Rattle.vm_rule.specs.declared.view.View.{View}
 use Rattle.vm_rule.specs.Views.{Hears, IsLocking, seat_of}
-use Rattle.vm_rule.specs.Reading.{last_of}
-use Rattle.vm_rule.specs.Log.{did_load}
-use Rattle.vm_rule.specs.Sound.{Sound}
 
 module _ {X : Type 0} where
   -- a pass that has nothing but what it has seen of the two lists: no part, and no note

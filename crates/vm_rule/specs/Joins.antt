@@ -1,13 +1,8 @@
 -- A pass that is split, and one that takes in another: the views afterwards, and what the call tells of a join.
-use Rattle.std.specs.Prelude.{ℕ, Bool, true, false, None, List, [], ◌∷◌, ◌++◌, ◌≡◌, nat_lt, length, if◌then◌else◌}
-use Rattle.vm_owner.specs.declared.Entry.{Entry}
+use Rattle.std.specs.Prelude.{[], ◌++◌, ◌∷◌, ◌≡◌, Bool, false, if◌then◌else◌, length, List, nat_lt, None, true, ℕ}
+use Rattle.vm_rule.specs.{Brought.Brings, Bundles.with_contents, declared.view.View.View, Log.did_load, Puts.put_at}
 use Rattle.vm_rule.specs.declared.view.Place.TheVariants as places
-use Rattle.vm_rule.specs.declared.view.View.{View}
-use Rattle.vm_rule.specs.Puts.{put_at}
-use Rattle.vm_rule.specs.Views.{StartsWith, seat_of, entries_by, Hears, view_from}
-use Rattle.vm_rule.specs.Brought.{Brings}
-use Rattle.vm_rule.specs.Bundles.{with_contents}
-use Rattle.vm_rule.specs.Log.{did_load}
+use Rattle.vm_rule.specs.Views.{entries_by, Hears, seat_of, StartsWith, view_from}
 
 -- the first of the parts, and the others
 abbrev pub first_part : List ℕ → List ℕ

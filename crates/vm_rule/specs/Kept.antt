@@ -1,16 +1,9 @@
 -- What is kept by a list of events from the start.
-use Rattle.std.specs.Prelude.{List, ◌++◌, ◌≡◌, ◌≤◌, take}
-use Rattle.vm_core.specs.declared.event.CoreShape.{CoreShape}
-use Rattle.vm_core.specs.declared.event.Event.{Event}
-use Rattle.vm_core.specs.declared.playing.ReplayFault.{ReplayFault}
+use Rattle.std.specs.Prelude.{◌++◌, ◌≡◌, ◌≤◌, List, take}
+use Rattle.vm_core.specs.Prelude.{begin, core_start, CoreStart, FrameOnce, Inv, RunsTo, start, State, world_run}
+use Rattle.vm_core.specs.{declared.playing.ReplayFault.ReplayFault, OneVersion.AllReadOne, Told.DeviceHolds, Told.FaultsTold}
 use Rattle.vm_core.specs.declared.playing.ReplayFault.TheVariants as faults
-use Rattle.vm_core.specs.State.{State}
-use Rattle.vm_core.specs.Step.{RunsTo}
-use Rattle.vm_core.specs.History.{world_run}
-use Rattle.vm_core.specs.Start.{CoreStart, start, begin, core_start}
-use Rattle.vm_core.specs.Inv.{Inv}
-use Rattle.vm_core.specs.Told.{FrameOnce, DeviceHolds, FaultsTold}
-use Rattle.vm_core.specs.OneVersion.{AllReadOne}
+use Rattle.vm_rule.specs.Prelude.{CoreShape, Event}
 
 -- the events lead from the start to the state, meet the invariant and what it tells, and each validated read saw one version
 pub record KeptFrom (s : CoreStart) (events : List Event) (new : State) : Type 0 where
@@ -25,7 +18,8 @@ pub record KeptFrom (s : CoreStart) (events : List Event) (new : State) : Type 0
 -- whatever legal events led from the start of a core to the old state, they and the ones done are kept
 abbrev pub IsRunKept : State → List Event → State → Type 0
 IsRunKept old done new =
-    (shape : CoreShape) (before : List Event) → shape.next ≤ shape.pages → RunsTo (start (core_start shape)) before old → KeptFrom (core_start shape) (before ++ done) new
+    (shape : CoreShape) (before : List Event) → shape.next ≤ shape.pages → RunsTo (start (core_start shape)) before old →
+    KeptFrom (core_start shape) (before ++ done) new
 
 -- the same for the events before an illegal one; want of memory did none
 abbrev pub KeptFault : State → List Event → ReplayFault → State → Type 0

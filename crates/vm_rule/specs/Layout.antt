@@ -1,12 +1,10 @@
 -- Where each word of the table stands: P state words, P translation words, P fault words, 64 words for each frame, a word for each
 -- bundle of 64 frames, the next word, the hand word.
-use Rattle.std.specs.Prelude.{ℕ, List, ◌+◌, ◌*◌, ◌-◌, ◌/◌, ◌<◌, nat_lt, if◌then◌else◌}
-use Rattle.vm_page.specs.declared.buf.TheConstants.{WORDS}
-use Rattle.vm_core.specs.Fn.{upd, at}
+use Rattle.std.specs.Prelude.{◌*◌, ◌+◌, ◌-◌, ◌/◌, ◌<◌, if◌then◌else◌, List, nat_lt, ℕ}
+use Rattle.vm_core.specs.Prelude.{at, upd, WORDS}
 use Rattle.vm_core.specs.declared.words.TheConstants.{FRAMES}
-use Rattle.vm_rule.specs.declared.view.Origin.{Origin}
-use Rattle.vm_rule.specs.declared.view.Place.{Place}
-use Rattle.vm_rule.specs.declared.view.Place.TheVariants.{State, Translation, Fault, Content, Bundle, Next, Hand}
+use Rattle.vm_rule.specs.{declared.view.Origin.Origin, declared.view.Place.Place}
+use Rattle.vm_rule.specs.declared.view.Place.TheVariants.{Bundle, Content, Fault, Hand, Next, State, Translation}
 
 -- the bundles of 64 frames
 abbrev pub bundles_of : ℕ → ℕ

@@ -1,18 +1,12 @@
 -- What a load tells: of a translation word, or of a word of a page's frame.
-use Rattle.std.specs.Prelude.{ℕ, true, Option, Some, None, List, [], ◌∷◌, ◌++◌, ◌≡◌, ◌<◌, ◌≤◌, ◌&&◌, ◌||◌, nat_lt, slice_index, if◌then◌else◌, is_some, IsSome}
-use Rattle.vm_core.specs.declared.event.Mapping.{Mapping}
-use Rattle.vm_core.specs.declared.event.Open.{Open}
-use Rattle.vm_core.specs.FrameActs.{mapping_of, frame_of, open_frame, framed}
-use Rattle.vm_core.specs.History.{loads_more}
+use Rattle.std.specs.Prelude.{[], ◌&&◌, ◌++◌, ◌<◌, ◌||◌, ◌∷◌, ◌≡◌, ◌≤◌, if◌then◌else◌, is_some, IsSome, List, nat_lt, None, Option, slice_index, Some}
+use Rattle.std.specs.Prelude.{true, ℕ}
+use Rattle.vm_core.specs.Prelude.{frame_of, framed, loads_more, mapping_of, open_frame}
+use Rattle.vm_core.specs.{declared.event.Mapping.Mapping, declared.event.Open.Open}
+use Rattle.vm_rule.specs.{Brought.Brings, declared.view.Translation.Translation, declared.view.View.View, Log.did_load, Puts.put, Puts.put_at}
+use Rattle.vm_rule.specs.{Reading.last_of, Rule.no_held}
 use Rattle.vm_rule.specs.declared.view.Place.TheVariants as places
-use Rattle.vm_rule.specs.declared.view.Translation.{Translation}
-use Rattle.vm_rule.specs.declared.view.View.{View}
-use Rattle.vm_rule.specs.Puts.{put_at, put}
-use Rattle.vm_rule.specs.Views.{IsLocking, may_call, seat_of, loads_at, draft_of}
-use Rattle.vm_rule.specs.Reading.{last_of}
-use Rattle.vm_rule.specs.Rule.{no_held}
-use Rattle.vm_rule.specs.Brought.{Brings}
-use Rattle.vm_rule.specs.Log.{did_load}
+use Rattle.vm_rule.specs.Views.{draft_of, IsLocking, loads_at, may_call, seat_of}
 
 -- the translation word of p was loaded: an open read without a frame gets the frame that it names
 abbrev pub translation_of : ℕ → ℕ → Option Open → List Translation
@@ -38,7 +32,8 @@ module _ {X : Type 0} where
   -- the frame that a load of p reads: that of the page where the pass has it locked, else the open read's
   abbrev pub frame_read_by : View X → ℕ → Option ℕ
   frame_read_by v p =
-      if ((seat_of v p).exclusive || nat_lt 0 (seat_of v p).shares) && is_some (put_at no_held v.held p).mapping then frame_of (put_at no_held v.held p).mapping else open_frame (seat_of v p).reading
+      if ((seat_of v p).exclusive || nat_lt 0 (seat_of v p).shares) && is_some (put_at no_held v.held p).mapping
+      then frame_of (put_at no_held v.held p).mapping else open_frame (seat_of v p).reading
 
   -- the load counts for the open read, where that has a frame
   abbrev pub loaded_view : ℕ → ℕ → ℕ → View X → View X

@@ -1,27 +1,15 @@
 -- What the steps on locks tell: an exclusive lock, a share or a lock for write-back that is tried, a share that is given up, and a lock for
 -- write-back that becomes exclusive. So do the steps on marks. A step that expects a word changes the view only where it found that word.
-use Rattle.std.specs.Prelude.{ℕ, Bool, true, false, Some, None, List, [], ◌≡◌, ◌≢◌, ◌+◌, ◌-◌, ◌^◌, ◌<◌, ◌≤◌, ◌==◌, ◌||◌, nat_lt, length, if◌then◌else◌, IsSome}
-use Rattle.vm_page.specs.declared.buf.TheConstants.{WORDS}
-use Rattle.vm_core.specs.declared.event.Mapping.{Mapping}
-use Rattle.vm_core.specs.declared.event.Open.{Open}
-use Rattle.vm_core.specs.declared.event.Seat.{Seat}
-use Rattle.vm_core.specs.Words.{state_of, version_of, word_of, LOCKED, EVICTED, MAX_VERSION}
-use Rattle.vm_core.specs.FrameActs.{mapping_of}
-use Rattle.vm_core.specs.StateActs.{unshared, one_share_more}
-use Rattle.vm_core.specs.Inv.{LoadsAre}
+use Rattle.std.specs.Prelude.{[], ◌+◌, ◌-◌, ◌<◌, ◌==◌, ◌^◌, ◌||◌, ◌≡◌, ◌≢◌, ◌≤◌, Bool, false, if◌then◌else◌, IsSome, length, List, nat_lt, None, Some}
+use Rattle.std.specs.Prelude.{true, ℕ}
+use Rattle.vm_core.specs.Prelude.{EVICTED, LoadsAre, LOCKED, mapping_of, MAX_VERSION, one_share_more, state_of, unshared, version_of, word_of, WORDS}
+use Rattle.vm_core.specs.{declared.event.Mapping.Mapping, declared.event.Open.Open, declared.event.Seat.Seat}
 use Rattle.vm_laws_others.specs.Leaves.{stands_dirty}
-use Rattle.vm_owner.specs.Kept.{Start}
-use Rattle.vm_owner.specs.Numbers.{has}
-use Rattle.vm_rule.specs.declared.view.Held.{Held}
+use Rattle.vm_owner.specs.{Kept.Start, Numbers.has}
+use Rattle.vm_rule.specs.{Brought.Brings, declared.view.Held.Held, declared.view.View.View, Log.did_change, Log.did_exchange, Looks.IsOlder}
+use Rattle.vm_rule.specs.{Looks.IsSinceAll, Puts.put, Puts.put_at, Reading.last_of, Rule.began_of, Rule.no_held}
 use Rattle.vm_rule.specs.declared.view.Place.TheVariants as places
-use Rattle.vm_rule.specs.declared.view.View.{View}
-use Rattle.vm_rule.specs.Puts.{put_at, put}
-use Rattle.vm_rule.specs.Views.{Each, seat_of, loads_at}
-use Rattle.vm_rule.specs.Reading.{last_of}
-use Rattle.vm_rule.specs.Rule.{began_of, no_held}
-use Rattle.vm_rule.specs.Brought.{Brings}
-use Rattle.vm_rule.specs.Log.{did_exchange, did_change}
-use Rattle.vm_rule.specs.Looks.{IsSinceAll, IsOlder}
+use Rattle.vm_rule.specs.Views.{Each, loads_at, seat_of}
 
 -- what a lock tells that was taken at this word, while the page had these last words: whether the page is resident, and where; its fault
 -- word; and that the block of a page that is clean or not resident has its last words
@@ -64,7 +52,8 @@ module _ {X : Type 0} where
   -- a lock was tried: taken where the word is the one expected, with what it validates and what the pass knows of the page then; else lost
   pub record LockTold (tied : Start → ℕ → List ℕ → ℕ → List ℕ → Type 0) (p expects found : ℕ) (v w : View X) : Type 0 where
     pub held : Held
-    pub brings : Brings (did_exchange (places.State p) expects found (word_of LOCKED (version_of expects))) [] [] v (if found == expects then locked_view p held (last_of w p).words v else v) w
+    pub brings : Brings (did_exchange (places.State p) expects found (word_of LOCKED (version_of expects))) [] [] v
+        (if found == expects then locked_view p held (last_of w p).words v else v) w
     pub version : (last_of w p).version ≡ version_of found
     pub since : IsSinceAll p found v.log
     pub older : IsOlder found (seat_of v p).reading
@@ -74,7 +63,9 @@ module _ {X : Type 0} where
     pub free : found ≡ expects → has p v.pending ≡ false
     pub unheld : found ≡ expects → IsUnheld v p
     -- a page whose translation was loaded as clean while the pass read it at this version is clean
-    pub clean : found ≡ expects → state_of expects ≢ EVICTED → Each (λ t. t.page ≡ p → t.version ≡ version_of expects → stands_dirty held.mapping ≡ true → stands_dirty (mapping_of t.word) ≡ true) v.translations
+    pub clean : found ≡ expects → state_of expects ≢ EVICTED →
+        Each (λ t. t.page ≡ p → t.version ≡ version_of expects → stands_dirty held.mapping ≡ true →
+        stands_dirty (mapping_of t.word) ≡ true) v.translations
     pub validates : v.start.tells ≡ true → found ≡ expects → LockValidates tied p (version_of expects) (last_of w p).words v
 
   -- the pass has one share of p more: the open read is closed, and it knows the page, if it did not yet
@@ -89,7 +80,8 @@ module _ {X : Type 0} where
   -- the same of a share
   pub record ShareTold (tied : Start → ℕ → List ℕ → ℕ → List ℕ → Type 0) (p expects found : ℕ) (v w : View X) : Type 0 where
     pub held : Held
-    pub brings : Brings (did_exchange (places.State p) expects found (word_of (one_share_more (state_of expects)) (version_of expects))) [] [] v (if found == expects then shared_view p held v else v) w
+    pub brings : Brings (did_exchange (places.State p) expects found (word_of (one_share_more (state_of expects)) (version_of expects))) [] [] v
+        (if found == expects then shared_view p held v else v) w
     pub version : (last_of w p).version ≡ version_of found
     pub since : IsSinceAll p found v.log
     pub older : IsOlder found (seat_of v p).reading
@@ -131,7 +123,8 @@ module _ {X : Type 0} where
   -- the same of a lock for write-back, which is the page's one share
   pub record WriteLockTold (tied : Start → ℕ → List ℕ → ℕ → List ℕ → Type 0) (p expects found : ℕ) (v w : View X) : Type 0 where
     pub held : Held
-    pub brings : Brings (did_exchange (places.State p) expects found (word_of 1 (version_of expects))) [] [] v (if found == expects then write_locked_view p held v else v) w
+    pub brings : Brings (did_exchange (places.State p) expects found (word_of 1 (version_of expects))) [] [] v
+        (if found == expects then write_locked_view p held v else v) w
     pub version : (last_of w p).version ≡ version_of found
     pub since : IsSinceAll p found v.log
     pub older : IsOlder found (seat_of v p).reading
@@ -160,7 +153,8 @@ module _ {X : Type 0} where
 
   -- a lock for write-back became exclusive, where it was the page's one share
   pub record UpgradeTold (tied : Start → ℕ → List ℕ → ℕ → List ℕ → Type 0) (p expects found : ℕ) (v w : View X) : Type 0 where
-    pub brings : Brings (did_exchange (places.State p) expects found (word_of LOCKED (version_of expects))) [] [] v (if found == expects then upgraded_view p (last_of w p).words v else v) w
+    pub brings : Brings (did_exchange (places.State p) expects found (word_of LOCKED (version_of expects))) [] [] v
+        (if found == expects then upgraded_view p (last_of w p).words v else v) w
     pub version : (last_of w p).version ≡ version_of found
     pub since : IsSinceAll p found v.log
     pub older : IsOlder found (seat_of v p).reading

@@ -1,7 +1,6 @@
 -- The steps of a pass, as its log has them.
-use Rattle.std.specs.Prelude.{ℕ, Some, None, ◌==◌, if◌then◌else◌}
-use Rattle.vm_rule.specs.declared.view.Did.{Did}
-use Rattle.vm_rule.specs.declared.view.Place.{Place}
+use Rattle.std.specs.Prelude.{◌==◌, if◌then◌else◌, None, Some, ℕ}
+use Rattle.vm_rule.specs.{declared.view.Did.Did, declared.view.Place.Place}
 
 abbrev pub did_load : Place → ℕ → Did
 did_load at found = record { at = at; expects = None; found = Some found; wrote = None }

@@ -1,26 +1,14 @@
 -- What a look tells: the view after it, and what a validated read saw.
-use Rattle.std.specs.Prelude.{ℕ, true, false, ◌⊎◌, ◌<◌, ◌≤◌, Option, Some, None, List, [], ◌∷◌, ◌++◌, ◌≡◌, ◌==◌, zero, suc, length, if◌then◌else◌}
-use Rattle.vm_page.specs.declared.buf.TheConstants.{WORDS}
-use Rattle.vm_core.specs.declared.event.Open.{Open}
-use Rattle.vm_core.specs.declared.event.ReadIs.{ReadIs}
-use Rattle.vm_core.specs.declared.event.ReadIs.TheVariants.{Opened, Same, Moved, Closed}
-use Rattle.vm_core.specs.Words.{state_of, version_of, UNLOCKED, MARKED, EVICTED}
-use Rattle.vm_core.specs.StateActs.{is_readable, left_open, open_after}
-use Rattle.vm_core.specs.FrameActs.{mapping_of, frame_of, open_frame}
-use Rattle.vm_core.specs.History.{kept_loads}
-use Rattle.vm_core.specs.Inv.{LoadsAre}
+use Rattle.std.specs.Prelude.{[], ◌++◌, ◌<◌, ◌==◌, ◌∷◌, ◌≡◌, ◌≤◌, ◌⊎◌, false, if◌then◌else◌, length, List, None, Option, Some, suc, true, zero, ℕ}
+use Rattle.vm_core.specs.Prelude.{EVICTED, frame_of, is_readable, kept_loads, left_open, LoadsAre, mapping_of, MARKED, open_after, open_frame}
+use Rattle.vm_core.specs.Prelude.{state_of, UNLOCKED, version_of, WORDS}
+use Rattle.vm_core.specs.{declared.event.Open.Open, declared.event.ReadIs.ReadIs}
+use Rattle.vm_core.specs.declared.event.ReadIs.TheVariants.{Closed, Moved, Opened, Same}
 use Rattle.vm_owner.specs.Kept.{Start}
-use Rattle.vm_rule.specs.declared.view.Did.{Did}
+use Rattle.vm_rule.specs.{Brought.Brings, Brought.entries_of, declared.view.Did.Did, declared.view.Tie.Tie, declared.view.View.View, Layout.at_state}
+use Rattle.vm_rule.specs.{Log.did_load, Puts.put, Reading.last_of, Rule.began_of}
 use Rattle.vm_rule.specs.declared.view.Place.TheVariants as places
-use Rattle.vm_rule.specs.declared.view.Tie.{Tie}
-use Rattle.vm_rule.specs.declared.view.View.{View}
-use Rattle.vm_rule.specs.Puts.{put}
-use Rattle.vm_rule.specs.Layout.{at_state}
-use Rattle.vm_rule.specs.Views.{Each, IsWhole, seat_of, loads_at}
-use Rattle.vm_rule.specs.Reading.{last_of}
-use Rattle.vm_rule.specs.Rule.{began_of}
-use Rattle.vm_rule.specs.Brought.{entries_of, Brings}
-use Rattle.vm_rule.specs.Log.{did_load}
+use Rattle.vm_rule.specs.Views.{Each, IsWhole, loads_at, seat_of}
 
 -- what a look that found this word leaves of an open read
 abbrev pub left_at : ℕ → Option Open → ReadIs
@@ -84,14 +72,18 @@ module _ {X : Type 0} where
   -- version's; what earlier looks tied to the page at this version holds of its words, and the page is tied to itself; and each translation
   -- word of p that was loaded at this version names a frame, which is the open read's. The word agrees with those that the pass saw before.
   pub record LookTold (tied : Start → ℕ → List ℕ → ℕ → List ℕ → Type 0) (p : ℕ) (said : Option X) (found : ℕ) (v w : View X) : Type 0 where
-    pub brings : Brings (did_load (places.State p) found) [] (where_same (left_at found (seat_of v p).reading) (entries_of v said) []) v (looked_view p said found (last_of w p).words v) w
+    pub brings : Brings (did_load (places.State p) found) [] (where_same (left_at found (seat_of v p).reading) (entries_of v said) []) v
+        (looked_view p said found (last_of w p).words v) w
     pub version : (last_of w p).version ≡ version_of found
     pub size : length (last_of w p).words ≡ WORDS
     pub valid : v.start.tells ≡ true → left_at found (seat_of v p).reading ≡ Same → LoadsAre (last_of w p).words (loads_at v p)
-    pub holds : v.start.tells ≡ true → left_at found (seat_of v p).reading ≡ Same → Each (λ t. t.page ≡ p → t.version ≡ version_of found → tied (began_of v.start) t.of t.words p (last_of w p).words) v.ties
+    pub holds : v.start.tells ≡ true → left_at found (seat_of v p).reading ≡ Same →
+        Each (λ t. t.page ≡ p → t.version ≡ version_of found → tied (began_of v.start) t.of t.words p (last_of w p).words) v.ties
     pub itself : v.start.tells ≡ true → left_at found (seat_of v p).reading ≡ Same → tied (began_of v.start) p (last_of w p).words p (last_of w p).words
-    pub frames : left_at found (seat_of v p).reading ≡ Same → Each (λ t. t.page ≡ p → t.version ≡ version_of found → NamesFrame v.start.frames t.word (seat_of v p).reading) v.translations
+    pub frames : left_at found (seat_of v p).reading ≡ Same →
+        Each (λ t. t.page ≡ p → t.version ≡ version_of found → NamesFrame v.start.frames t.word (seat_of v p).reading) v.translations
     pub since : IsSinceAll p found v.log
     pub older : IsOlder found (seat_of v p).reading
     -- beside a pass with all parts, which has no lock of the page, nobody has one
-    pub unlocked : IsWhole v → (seat_of v p).exclusive ≡ false → (seat_of v p).shares ≡ 0 → (state_of found ≡ UNLOCKED) ⊎ ((state_of found ≡ MARKED) ⊎ (state_of found ≡ EVICTED))
+    pub unlocked : IsWhole v → (seat_of v p).exclusive ≡ false → (seat_of v p).shares ≡ 0 →
+        (state_of found ≡ UNLOCKED) ⊎ ((state_of found ≡ MARKED) ⊎ (state_of found ≡ EVICTED))

@@ -1,19 +1,11 @@
 -- What the steps on a page's translation word tell: a page is put into a frame of the pass, or taken out of its frame; it is made dirty, or clean.
-use Rattle.std.specs.Prelude.{ℕ, Bool, true, false, Option, Some, None, List, [], ◌∷◌, ◌≡◌, ◌<◌, length}
-use Rattle.vm_page.specs.declared.buf.TheConstants.{WORDS}
+use Rattle.std.specs.Prelude.{[], ◌<◌, ◌∷◌, ◌≡◌, Bool, false, length, List, None, Option, Some, true, ℕ}
+use Rattle.vm_core.specs.Prelude.{trans_word, WORDS}
 use Rattle.vm_core.specs.declared.event.Mapping.{Mapping}
-use Rattle.vm_core.specs.FrameActs.{trans_word}
 use Rattle.vm_owner.specs.Numbers.{has, without}
-use Rattle.vm_rule.specs.declared.view.Held.{Held}
-use Rattle.vm_rule.specs.declared.view.Put.{Put}
+use Rattle.vm_rule.specs.{Brought.Brings, declared.view.Held.Held, declared.view.Put.Put, declared.view.View.View, Log.did_store, Puts.put}
+use Rattle.vm_rule.specs.{Puts.put_at, Reading.last_of, Rule.no_held, Views.seat_of}
 use Rattle.vm_rule.specs.declared.view.Place.TheVariants as places
-use Rattle.vm_rule.specs.declared.view.View.{View}
-use Rattle.vm_rule.specs.Puts.{put_at, put}
-use Rattle.vm_rule.specs.Views.{seat_of}
-use Rattle.vm_rule.specs.Reading.{last_of}
-use Rattle.vm_rule.specs.Rule.{no_held}
-use Rattle.vm_rule.specs.Brought.{Brings}
-use Rattle.vm_rule.specs.Log.{did_store}
 
 abbrev pub clean_in : ℕ → Mapping
 clean_in f = record { frame = f; dirty = false }

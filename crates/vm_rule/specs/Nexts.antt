@@ -1,16 +1,11 @@
 -- What the steps on the next word tell: it is loaded, or the pages from it on are claimed for a group. A claim of pages that begin with the next
 -- word which the pass knows can't be lost.
-use Rattle.std.specs.Prelude.{ℕ, true, Some, None, List, [], ◌++◌, ◌≡◌, ◌+◌, ◌<◌, ◌≤◌, ◌==◌, if◌then◌else◌, replicate}
-use Rattle.vm_page.specs.declared.buf.TheConstants.{WORDS}
-use Rattle.vm_rule.specs.declared.view.Did.{Did}
+use Rattle.std.specs.Prelude.{[], ◌++◌, ◌+◌, ◌<◌, ◌==◌, ◌≡◌, ◌≤◌, if◌then◌else◌, List, None, replicate, Some, true, ℕ}
+use Rattle.vm_core.specs.Prelude.{WORDS}
+use Rattle.vm_rule.specs.{Brought.Brings, declared.view.Did.Did, declared.view.View.View, Layout.at_next, Log.did_exchange, Log.did_load}
+use Rattle.vm_rule.specs.{Reading.last_of, Rule.WasNext}
 use Rattle.vm_rule.specs.declared.view.Place.TheVariants as places
-use Rattle.vm_rule.specs.declared.view.View.{View}
-use Rattle.vm_rule.specs.Layout.{at_next}
 use Rattle.vm_rule.specs.Views.{Each, numbers, seat_of}
-use Rattle.vm_rule.specs.Reading.{last_of}
-use Rattle.vm_rule.specs.Rule.{WasNext}
-use Rattle.vm_rule.specs.Brought.{Brings}
-use Rattle.vm_rule.specs.Log.{did_load, did_exchange}
 
 -- the next word found now is no lower than each that the steps of the log found and left
 abbrev pub IsLatest : ℕ → List Did → Type 0

@@ -1,13 +1,9 @@
 -- What is kept of a pass's own view is a proposition: it has one proof at most. So a pass can have it beside its token.
+use Rattle.std.specs.Prelude.{[], ◌++◌, ◌+◌, ◌<◌, ◌==◌, ◌∷◌, if◌then◌else◌, List, ℕ}
 use denote.Struct.Props.{props}
-use Rattle.std.specs.Prelude.{ℕ, ◌+◌, ◌==◌, if◌then◌else◌, ◌<◌, List, [], ◌∷◌, ◌++◌}
-use Rattle.vm_owner.specs.declared.Entry.{Entry}
 use Rattle.vm_owner.specs.Kept.{AreCounted}
-use Rattle.vm_owner.specs.Numbers.{AreApart}
-use Rattle.vm_rule.specs.declared.view.Origin.{Origin}
-use Rattle.vm_rule.specs.declared.view.Release.{Release}
-use Rattle.vm_rule.specs.Views.{Each, PARTS}
-use Rattle.vm_rule.specs.Rule.{AreNext}
+use Rattle.vm_rule.specs.Prelude.{AreApart, AreNext, Each, Entry, PARTS}
+use Rattle.vm_rule.specs.{declared.view.Origin.Origin, declared.view.Release.Release}
 
 pub AreApart-prop : (l : List ℕ) → IsProp (AreApart l)
 AreApart-prop [] = hlevel props

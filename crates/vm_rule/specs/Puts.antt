@@ -1,6 +1,6 @@
 -- A function from numbers, as a list of its changes; and lists that are read off functions.
-use Rattle.std.specs.Prelude.{ℕ, List, [], ◌∷◌, ◌++◌, zero, suc, Bool, if◌then◌else◌}
-use Rattle.vm_core.specs.Fn.{upd}
+use Rattle.std.specs.Prelude.{[], ◌++◌, ◌∷◌, Bool, if◌then◌else◌, List, suc, zero, ℕ}
+use Rattle.vm_core.specs.Prelude.{upd}
 use Rattle.vm_rule.specs.declared.view.Put.{Put}
 
 -- the function: d, changed at each place of the list, the last change first

@@ -1,24 +1,14 @@
 -- The words, the blocks and the views, read together: one state of the core, with the versions of its pages.
-use Rattle.std.specs.Prelude.{ℕ, Bool, Option, Some, None, List, [], ◌∷◌, ◌++◌, ◌+◌, ◌*◌, ◌==◌, nat_lt, replicate, length, if◌then◌else◌}
+use Rattle.std.specs.Prelude.{[], ◌*◌, ◌++◌, ◌+◌, ◌==◌, ◌∷◌, Bool, if◌then◌else◌, length, List, nat_lt, None, Option, replicate, Some, ℕ}
 use mathlib.Core.Option as maybe
 use Rattle.atomic_table.specs.Table.{State as Table}
-use Rattle.vm_page.specs.declared.buf.TheConstants.{WORDS}
-use Rattle.vm_core.specs.declared.event.Seat.{Seat}
-use Rattle.vm_core.specs.Fn.{at}
-use Rattle.vm_core.specs.Words.{state_of, version_of}
-use Rattle.vm_core.specs.FrameActs.{mapping_of}
-use Rattle.vm_core.specs.Start.{outside_page}
-use Rattle.vm_core.specs.State.{Page, State}
-use Rattle.vm_core.specs.History.{History, Version, World}
-use Rattle.vm_owner.specs.Numbers.{has}
 use Rattle.vm_block.specs.declared.stored.Stored.{Stored}
-use Rattle.vm_rule.specs.declared.view.Origin.{Origin}
-use Rattle.vm_rule.specs.declared.view.Out.{Out}
-use Rattle.vm_rule.specs.declared.view.Release.{Release}
-use Rattle.vm_rule.specs.declared.view.View.{View}
-use Rattle.vm_rule.specs.Puts.{listed}
-use Rattle.vm_rule.specs.Layout.{Words, table_words}
-use Rattle.vm_rule.specs.Views.{spent, seat_of, loads_at}
+use Rattle.vm_core.specs.Prelude.{at, History, mapping_of, outside_page, Page, State, state_of, Version, version_of, WORDS, World}
+use Rattle.vm_core.specs.declared.event.Seat.{Seat}
+use Rattle.vm_owner.specs.Numbers.{has}
+use Rattle.vm_rule.specs.{declared.view.Origin.Origin, declared.view.Out.Out, declared.view.Release.Release, declared.view.View.View}
+use Rattle.vm_rule.specs.{Layout.table_words, Layout.Words, Puts.listed}
+use Rattle.vm_rule.specs.Views.{loads_at, seat_of, spent}
 
 -- ---- pages and frames
 

@@ -1,16 +1,11 @@
 -- What a release tells: the draft is the next version. The first release of a group makes the drafts of all its members logical. A page that
 -- is not resident is released as evicted.
-use Rattle.std.specs.Prelude.{ℕ, true, false, Option, Some, None, List, [], ◌∷◌, ◌++◌, ◌≡◌, ◌+◌, ◌==◌, if◌then◌else◌}
-use Rattle.vm_core.specs.Words.{word_of, EVICTED}
-use Rattle.vm_owner.specs.Kept.{Change}
-use Rattle.vm_owner.specs.Numbers.{has, without}
+use Rattle.std.specs.Prelude.{[], ◌++◌, ◌+◌, ◌==◌, ◌∷◌, ◌≡◌, false, if◌then◌else◌, List, None, Option, Some, true, ℕ}
+use Rattle.vm_core.specs.Prelude.{EVICTED, word_of}
+use Rattle.vm_owner.specs.{Kept.Change, Numbers.has, Numbers.without}
+use Rattle.vm_rule.specs.{Brought.Brings, Brought.entries_of, declared.view.View.View, Log.did_store, Puts.put, Reading.last_of, Views.draft_of}
+use Rattle.vm_rule.specs.{Views.seat_of}
 use Rattle.vm_rule.specs.declared.view.Place.TheVariants as places
-use Rattle.vm_rule.specs.declared.view.View.{View}
-use Rattle.vm_rule.specs.Puts.{put}
-use Rattle.vm_rule.specs.Views.{seat_of, draft_of}
-use Rattle.vm_rule.specs.Reading.{last_of}
-use Rattle.vm_rule.specs.Brought.{entries_of, Brings}
-use Rattle.vm_rule.specs.Log.{did_store}
 
 -- without all of these
 abbrev pub without_all : List ℕ → List ℕ → List ℕ
@@ -44,7 +39,8 @@ module _ {X : Type 0} where
 
   -- a release: the draft is the next version; as the first of a group it makes the others' drafts logical, and they are pending
   pub record ReleaseTold (p version : ℕ) (rest : List ℕ) (said : Option X) (v w : View X) : Type 0 where
-    pub brings : Brings (did_store (places.State p) (version + 1)) (record { page = p; version = version + 1; words = draft_of v p } ∷ []) (entries_of v said) v (released_view p rest said v) w
+    pub brings : Brings (did_store (places.State p) (version + 1)) (record { page = p; version = version + 1; words = draft_of v p } ∷ [])
+        (entries_of v said) v (released_view p rest said v) w
 
   -- p, which is not resident, is released as evicted
   abbrev pub evicted_view : ℕ → View X → View X
@@ -52,7 +48,8 @@ module _ {X : Type 0} where
 
   -- its words are those that it had
   pub record EvictTold (p version : ℕ) (v w : View X) : Type 0 where
-    pub brings : Brings (did_store (places.State p) (word_of EVICTED (version + 1))) (record { page = p; version = version + 1; words = draft_of v p } ∷ []) [] v (evicted_view p v) w
+    pub brings : Brings (did_store (places.State p) (word_of EVICTED (version + 1)))
+        (record { page = p; version = version + 1; words = draft_of v p } ∷ []) [] v (evicted_view p v) w
     pub same : v.start.tells ≡ true → draft_of v p ≡ (last_of v p).words
 
   -- p is released to a share of the pass
@@ -62,4 +59,5 @@ module _ {X : Type 0} where
 
   -- its draft is its next version
   pub record DowngradeTold (p version : ℕ) (v w : View X) : Type 0 where
-    pub brings : Brings (did_store (places.State p) (word_of 1 (version + 1))) (record { page = p; version = version + 1; words = draft_of v p } ∷ []) [] v (downgraded_view p v) w
+    pub brings : Brings (did_store (places.State p) (word_of 1 (version + 1)))
+        (record { page = p; version = version + 1; words = draft_of v p } ∷ []) [] v (downgraded_view p v) w

@@ -1,35 +1,23 @@
 -- The rule of the running table: what holds of its words, its blocks and the views of its passes between any two steps of any threads.
-use Rattle.std.specs.Prelude.{ℕ, Bool, true, false, Option, Some, None, List, [], ◌∷◌, ◌++◌, ◌≡◌, ◌≢◌, ◌⊎◌, ◌+◌, ◌<◌, ◌≤◌, ◌==◌, if◌then◌else◌, length, replicate, IsSome}
+use Rattle.std.specs.Prelude.{[], ◌++◌, ◌+◌, ◌<◌, ◌∷◌, ◌≡◌, ◌≢◌, ◌≤◌, ◌⊎◌, Bool, false, if◌then◌else◌, IsSome, length, List, None, Option, replicate}
+use Rattle.std.specs.Prelude.{Some, true, ℕ}
 use mathlib.Core.Option as maybe
-use lib.ListN.{get_elem?}
 use Rattle.atomic_table.specs.Table.{State as Table}
-use Rattle.vm_page.specs.declared.buf.TheConstants.{WORDS}
-use Rattle.vm_core.specs.declared.event.Seat.{Seat}
-use Rattle.vm_core.specs.Fn.{at}
-use Rattle.vm_core.specs.Words.{state_of, version_of, LOCKED, EVICTED, MAX_COUNT}
-use Rattle.vm_core.specs.StateActs.{is_readable}
-use Rattle.vm_core.specs.State.{Page}
-use Rattle.vm_core.specs.FrameActs.{frame_of, mapping_of, trans_word}
-use Rattle.vm_core.specs.History.{History, World}
-use Rattle.vm_core.specs.Inv.{Inv}
-use Rattle.vm_laws_others.specs.Leaves.{stands_dirty}
-use Rattle.vm_owner.specs.declared.Entry.{Entry}
-use Rattle.vm_owner.specs.Kept.{Start, Kept, AreCounted}
-use Rattle.vm_owner.specs.Numbers.{has}
 use Rattle.vm_block.specs.declared.stored.Stored.{Stored}
-use Rattle.vm_rule.specs.declared.view.Origin.{Origin}
-use Rattle.vm_rule.specs.declared.view.Did.{Did}
-use Rattle.vm_rule.specs.declared.view.Held.{Held}
-use Rattle.vm_rule.specs.declared.view.Out.{Out}
-use Rattle.vm_rule.specs.declared.view.Release.{Release}
-use Rattle.vm_rule.specs.declared.view.Snapshot.{Snapshot}
-use Rattle.vm_rule.specs.declared.view.Tie.{Tie}
-use Rattle.vm_rule.specs.declared.view.Translation.{Translation}
-use Rattle.vm_rule.specs.declared.view.View.{View}
-use Rattle.vm_rule.specs.Puts.{put_at, listed, chosen}
-use Rattle.vm_rule.specs.Layout.{width, at_state, at_next, table_words}
-use Rattle.vm_rule.specs.Views.{StartsWith, Each, times_noted, PARTS, one_part, IsLocking, may_call, seat_of, draft_of, entries_by, Hears, total, any, owns, IsWhole, spent}
-use Rattle.vm_rule.specs.Reading.{no_block, home, out_of, block_of, last_in, last_of, histories_of, world_of, core_shown}
+use Rattle.vm_core.specs.Prelude.{at, EVICTED, frame_of, get_elem?, History, Inv, is_readable, LOCKED, mapping_of, MAX_COUNT, Page, state_of}
+use Rattle.vm_core.specs.Prelude.{trans_word, version_of, WORDS, World}
+use Rattle.vm_core.specs.declared.event.Seat.{Seat}
+use Rattle.vm_laws_others.specs.Leaves.{stands_dirty}
+use Rattle.vm_owner.specs.{declared.Entry.Entry, Numbers.has}
+use Rattle.vm_owner.specs.Kept.{AreCounted, Kept, Start}
+use Rattle.vm_rule.specs.{declared.view.Did.Did, declared.view.Held.Held, declared.view.Origin.Origin, declared.view.Out.Out}
+use Rattle.vm_rule.specs.{declared.view.Release.Release, declared.view.Snapshot.Snapshot, declared.view.Tie.Tie}
+use Rattle.vm_rule.specs.{declared.view.Translation.Translation, declared.view.View.View}
+use Rattle.vm_rule.specs.Layout.{at_next, at_state, table_words, width}
+use Rattle.vm_rule.specs.Puts.{chosen, listed, put_at}
+use Rattle.vm_rule.specs.Reading.{block_of, core_shown, histories_of, home, last_in, last_of, no_block, out_of, world_of}
+use Rattle.vm_rule.specs.Views.{any, draft_of, Each, entries_by, Hears, IsLocking, IsWhole, may_call, one_part, owns, PARTS, seat_of, spent}
+use Rattle.vm_rule.specs.Views.{StartsWith, times_noted, total}
 
 -- the slot of a block that is out: empty at home, or with the pass that moves it
 abbrev pub slot_of : {B : Type 0} → Out → maybe.Option (Option B)
@@ -76,7 +64,8 @@ WasNext next (Some x) = x ≤ next
 -- the same of the words that a step on a state word or on the next word found and left
 abbrev pub WereWords : World → Did → Type 0
 WereWords w d =
-    at_state d.at (λ p. WasWord (w.core.pages p) d.found × WasWord (w.core.pages p) d.wrote) × at_next d.at (WasNext w.core.next d.found × WasNext w.core.next d.wrote)
+    at_state d.at (λ p. WasWord (w.core.pages p) d.found × WasWord (w.core.pages p) d.wrote) ×
+    at_next d.at (WasNext w.core.next d.found × WasNext w.core.next d.wrote)
 
 -- as long as the page has the version that its read had, and is no member still to be released, its words are tied
 abbrev pub TieHolds : (Start → ℕ → List ℕ → ℕ → List ℕ → Type 0) → Start → World → (ℕ → Bool) → Tie → Type 0
@@ -150,7 +139,8 @@ module _ {X : Type 0} where
     -- it has seen the last version of each page that it has locked
     pub latest : (p : ℕ) → IsLocking (seat_of v p) → last_of v p ≡ (w.histories p).last
     -- a member still to be released is held; one that was never claimed has no new words
-    pub pending : (p : ℕ) → has p v.pending ≡ true → ((seat_of v p).exclusive ≡ true) × (start.tells ≡ true → w.core.next ≤ p → (w.histories p).draft ≡ (w.histories p).last.words)
+    pub pending : (p : ℕ) → has p v.pending ≡ true →
+        ((seat_of v p).exclusive ≡ true) × (start.tells ≡ true → w.core.next ≤ p → (w.histories p).draft ≡ (w.histories p).last.words)
     -- a page that is owed is held, was claimed since the start, and is no member of a group
     pub owed : (p : ℕ) → has p v.owed ≡ true → ((seat_of v p).exclusive ≡ true) × (start.next ≤ p) × (p < w.core.next) × (has p v.pending ≡ false)
     pub next : (x : ℕ) → v.next ≡ Some x → ((seat_of v x).exclusive ≡ true) × (w.core.next ≡ x)
@@ -166,7 +156,8 @@ module _ {X : Type 0} where
   pub record FaultsFit (pages : ℕ → Page) (views : List (View X)) : Type 0 where
     pub below : (p : ℕ) → (pages p).fault ≤ (pages p).count
     pub capped : (p : ℕ) → (pages p).count ≤ MAX_COUNT
-    pub noted : (j : ℕ) (v : View X) → get_elem? views j ≡ maybe.some v → (p count : ℕ) → 1 ≤ times_noted p count v.notes → (1 ≤ count) × (count ≤ (pages p).fault)
+    pub noted : (j : ℕ) (v : View X) → get_elem? views j ≡ maybe.some v → (p count : ℕ) → 1 ≤ times_noted p count v.notes →
+        (1 ≤ count) × (count ≤ (pages p).fault)
     pub once : (p count : ℕ) → count ≢ MAX_COUNT → total (λ v. times_noted p count v.notes) views ≤ 1
 
   -- the lists: they are the longest that a live pass has seen; entries have numbers of parts, counted for each; releases have the next versions
@@ -181,14 +172,16 @@ module _ {X : Type 0} where
   pub record PartsFit (releases : List Release) (history : List (Entry X)) (snapshot : Snapshot) (views : List (View X)) : Type 0 where
     pub parts : (k : ℕ) → total (owns k) views ≡ one_part k
     pub spent : (j : ℕ) (v : View X) → get_elem? views j ≡ maybe.some v → v.live ≡ false → v ≡ spent
-    pub whole : (j : ℕ) (v : View X) → get_elem? views j ≡ maybe.some v → v.live ≡ true → IsWhole v → v.current ≡ true → (v.releases ≡ releases) × (v.seen ≡ history) × (v.snapshot ≡ snapshot)
+    pub whole : (j : ℕ) (v : View X) → get_elem? views j ≡ maybe.some v → v.live ≡ true → IsWhole v → v.current ≡ true →
+        (v.releases ≡ releases) × (v.seen ≡ history) × (v.snapshot ≡ snapshot)
 
   -- ---- blocks
 
   module _ {B : Type 0} (stored : B → Stored) where
     -- a block is at home, or out with a pass that may call its device; each has the bound of the one that was handed in
     pub record BlocksFit (start : Origin) (homes : List (maybe.Option (Option B))) (views : List (View X)) : Type 0 where
-      pub away : (j : ℕ) (v : View X) (o : Out) → get_elem? views j ≡ maybe.some v → v.out ≡ Some o → (o.page < start.pages) × (may_call (seat_of v o.page) ≡ true) × (at maybe.none homes o.page ≡ slot_of o)
+      pub away : (j : ℕ) (v : View X) (o : Out) → get_elem? views j ≡ maybe.some v → v.out ≡ Some o →
+          (o.page < start.pages) × (may_call (seat_of v o.page) ≡ true) × (at maybe.none homes o.page ≡ slot_of o)
       pub home : (p : ℕ) → p < start.pages → out_of views p ≡ None → IsSome (home homes p)
       pub bounds : (p : ℕ) → p < start.pages → (block_of stored homes views p).bound ≡ at 0 start.bounds p
 
@@ -215,12 +208,14 @@ module _ {X : Type 0} where
         pub inv : Inv (world_of stored start releases drafts s)
         pub risen : start.next ≤ (core_shown stored start s).next
         -- pages that were never claimed have zero words
-        pub zero : start.tells ≡ true → (p : ℕ) → (core_shown stored start s).next ≤ p → p < start.pages → (histories_of start releases drafts p).last.words ≡ replicate WORDS 0
+        pub zero : start.tells ≡ true → (p : ℕ) → (core_shown stored start s).next ≤ p → p < start.pages →
+            (histories_of start releases drafts p).last.words ≡ replicate WORDS 0
         pub blocks : BlocksFit start s.homes s.views
         pub faults : FaultsFit (core_shown stored start s).pages s.views
         pub lists : ListsFit start releases history s.views
         pub parts : PartsFit releases history (snapshot_of start s) s.views
         pub heard : (j : ℕ) (v : View X) → get_elem? s.views j ≡ maybe.some v → v.live ≡ true → KnowsLists start releases history v
-        pub known : (j : ℕ) (v : View X) → get_elem? s.views j ≡ maybe.some v → v.live ≡ true → KnowsPages tied start (world_of stored start releases drafts s) (is_pending s.views) v
+        pub known : (j : ℕ) (v : View X) → get_elem? s.views j ≡ maybe.some v → v.live ≡ true →
+            KnowsPages tied start (world_of stored start releases drafts s) (is_pending s.views) v
         -- the layer above keeps its relation
         pub owner : start.tells ≡ true → keeps (began_of start) (kept_of (world_of stored start releases drafts s) history s.views)

@@ -1,18 +1,11 @@
 -- What the moves of a page's block tell. Each is two loads of the page's fault word: at the first the slot goes to the pass, at the second
 -- it is back. A block that is taken out leaves its slot empty; one that comes home may have had one call of its device.
-use Rattle.std.specs.Prelude.{ℕ, Bool, true, false, Some, None, List, [], ◌≡◌, IsSome, if◌then◌else◌}
-use Rattle.vm_core.specs.Fn.{at}
-use Rattle.vm_block.specs.Blocks.{one_call_more}
+use Rattle.std.specs.Prelude.{[], ◌≡◌, Bool, false, if◌then◌else◌, IsSome, List, None, Some, true, ℕ}
 use Rattle.vm_block.specs.declared.stored.Stored.{Stored}
-use Rattle.vm_rule.specs.declared.view.Out.{Out}
+use Rattle.vm_core.specs.Prelude.{at, count_more}
+use Rattle.vm_rule.specs.{Brought.Brings, Brought.BringsWith, declared.view.Out.Out, declared.view.View.View, Log.did_load, Mappings.held_at}
+use Rattle.vm_rule.specs.{Puts.put, Reading.last_of, Views.draft_of, Views.seat_of}
 use Rattle.vm_rule.specs.declared.view.Place.TheVariants as places
-use Rattle.vm_rule.specs.declared.view.View.{View}
-use Rattle.vm_rule.specs.Puts.{put}
-use Rattle.vm_rule.specs.Views.{seat_of, draft_of}
-use Rattle.vm_rule.specs.Reading.{last_of}
-use Rattle.vm_rule.specs.Brought.{Brings, BringsWith}
-use Rattle.vm_rule.specs.Log.{did_load}
-use Rattle.vm_rule.specs.Mappings.{held_at}
 
 abbrev pub out_at : ℕ → Bool → Stored → Out
 out_at p moving block = record { page = p; moving = moving; block = block }
@@ -56,9 +49,12 @@ module _ {X : Type 0} where
   -- words, or a call that failed
   pub data DeviceDid (v : View X) (p : ℕ) (old new : Stored) : Type 0 where
     idle : new ≡ old → DeviceDid v p old new
-    read : (seat_of v p).exclusive ≡ true → (v.start.tells ≡ true → new.words ≡ old.words) → new.count ≡ old.count → new.reads ≡ one_call_more old.reads → new.writes ≡ old.writes → DeviceDid v p old new
-    wrote : IsSome (held_at v p).mapping → (v.start.tells ≡ true → new.words ≡ words_held v p) → new.count ≡ old.count → new.reads ≡ old.reads → new.writes ≡ one_call_more old.writes → DeviceDid v p old new
-    failed : (v.start.tells ≡ true → new.words ≡ old.words) → new.count ≡ one_call_more old.count → new.reads ≡ old.reads → new.writes ≡ old.writes → DeviceDid v p old new
+    read : (seat_of v p).exclusive ≡ true → (v.start.tells ≡ true → new.words ≡ old.words) → new.count ≡ old.count →
+        new.reads ≡ count_more old.reads → new.writes ≡ old.writes → DeviceDid v p old new
+    wrote : IsSome (held_at v p).mapping → (v.start.tells ≡ true → new.words ≡ words_held v p) → new.count ≡ old.count → new.reads ≡ old.reads →
+        new.writes ≡ count_more old.writes → DeviceDid v p old new
+    failed : (v.start.tells ≡ true → new.words ≡ old.words) → new.count ≡ count_more old.count → new.reads ≡ old.reads → new.writes ≡ old.writes →
+        DeviceDid v p old new
 
   -- the pass has the page locked so that it may call its device, and has its block out
   pub record MayBring (v : View X) (p : ℕ) (old new : Stored) : Type 0 where

@@ -1,12 +1,9 @@
 -- What the rule keeps of a live view, read off that view alone.
-use Rattle.std.specs.Prelude.{ℕ, true, List, [], ◌∷◌, ◌++◌, ◌≡◌, ◌<◌, ◌≤◌}
-use Rattle.vm_core.specs.Words.{MAX_VERSION}
-use Rattle.vm_owner.specs.Kept.{AreCounted}
-use Rattle.vm_owner.specs.Numbers.{has, AreApart}
-use Rattle.vm_rule.specs.declared.view.View.{View}
-use Rattle.vm_rule.specs.Views.{Each, PARTS, entries_by}
-use Rattle.vm_rule.specs.Reading.{last_of}
-use Rattle.vm_rule.specs.Rule.{AreNext}
+use Rattle.std.specs.Prelude.{[], ◌++◌, ◌<◌, ◌∷◌, ◌≡◌, ◌≤◌, true, ℕ}
+use Rattle.vm_core.specs.Prelude.{MAX_VERSION}
+use Rattle.vm_owner.specs.{Kept.AreCounted, Numbers.AreApart, Numbers.has}
+use Rattle.vm_rule.specs.{declared.view.View.View, Reading.last_of, Rule.AreNext}
+use Rattle.vm_rule.specs.Views.{Each, entries_by, PARTS}
 
 -- its own entries are those of its numbers; a fresh part has none; its parts are apart; entries have numbers of parts, counted for each; its
 -- releases have the next versions, and no page is past the last

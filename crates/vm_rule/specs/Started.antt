@@ -1,16 +1,9 @@
 -- The opening of a pool's table: every page is evicted, with its words in its block; every frame is free; every block is at home.
-use Rattle.std.specs.Prelude.{ℕ, Bool, List, [], ◌∷◌, ◌++◌, ◌≡◌, ◌*◌, ◌<◌, ◌≤◌, length, map, replicate, if◌then◌else◌}
-use Rattle.vm_page.specs.Pages.{page_at}
-use Rattle.vm_page.specs.declared.buf.TheConstants.{WORDS}
-use Rattle.vm_core.specs.Start.{full_bundle}
-use Rattle.vm_core.specs.Words.{word_of, EVICTED, MAX_VERSION}
+use Rattle.std.specs.Prelude.{[], ◌*◌, ◌++◌, ◌<◌, ◌∷◌, ◌≡◌, ◌≤◌, Bool, if◌then◌else◌, length, List, map, replicate, ℕ}
 use Rattle.vm_block.specs.declared.stored.Stored.{Stored}
-use Rattle.vm_owner.specs.Kept.{Start, Kept, first_kept}
-use Rattle.vm_rule.specs.declared.view.Origin.{Origin}
-use Rattle.vm_rule.specs.declared.view.Shape.{Shape}
-use Rattle.vm_rule.specs.declared.view.Snapshot.{Snapshot}
-use Rattle.vm_rule.specs.Puts.{listed}
-use Rattle.vm_rule.specs.Layout.{bundles_of}
+use Rattle.vm_core.specs.Prelude.{EVICTED, full_bundle, MAX_VERSION, page_at, word_of, WORDS}
+use Rattle.vm_owner.specs.Kept.{first_kept, Kept, Start}
+use Rattle.vm_rule.specs.{declared.view.Origin.Origin, declared.view.Shape.Shape, declared.view.Snapshot.Snapshot, Layout.bundles_of, Puts.listed}
 
 -- what the blocks count of faults, and the bounds of these counts
 abbrev pub counts_of : List Stored → List ℕ
@@ -31,7 +24,9 @@ contents_of tells blocks = map (λ (b : Stored). if tells then b.words else repl
 -- the table's words: those of the states, of the translations, of the faults, of the frames, of the bundles, the next word and the hand
 abbrev pub started_words : ℕ → ℕ → ℕ → ℕ → List ℕ → List ℕ
 started_words pages frames version next counts =
-    listed pages (λ p. word_of EVICTED version) ++ (listed pages (λ p. 0) ++ (counts ++ (listed (WORDS * frames) (λ i. 0) ++ (listed (bundles_of frames) (full_bundle frames) ++ (next ∷ (0 ∷ []))))))
+    listed pages (λ p. word_of EVICTED version) ++
+    (listed pages (λ p. 0) ++ (counts ++ (listed (WORDS * frames) (λ i. 0) ++
+    (listed (bundles_of frames) (full_bundle frames) ++ (next ∷ (0 ∷ []))))))
 
 -- how the table began, with what its blocks hold
 abbrev pub started_origin : Bool → ℕ → ℕ → ℕ → List Stored → Origin

@@ -1,14 +1,9 @@
 -- What a store tells: into the frame of a page that the pass holds exclusively, or into a frame of its own.
-use Rattle.std.specs.Prelude.{ℕ, true, false, Some, [], ◌≡◌, ◌⊎◌, length, slice_set}
-use Rattle.vm_page.specs.declared.buf.TheConstants.{WORDS}
+use Rattle.std.specs.Prelude.{[], ◌≡◌, ◌⊎◌, false, length, slice_set, Some, true, ℕ}
+use Rattle.vm_core.specs.Prelude.{WORDS}
 use Rattle.vm_owner.specs.Numbers.{has}
+use Rattle.vm_rule.specs.{Brought.Brings, declared.view.View.View, Log.did_store, Puts.put, Puts.put_at, Rule.no_held, Views.draft_of, Views.seat_of}
 use Rattle.vm_rule.specs.declared.view.Place.TheVariants as places
-use Rattle.vm_rule.specs.declared.view.View.{View}
-use Rattle.vm_rule.specs.Puts.{put_at, put}
-use Rattle.vm_rule.specs.Views.{seat_of, draft_of}
-use Rattle.vm_rule.specs.Rule.{no_held}
-use Rattle.vm_rule.specs.Brought.{Brings}
-use Rattle.vm_rule.specs.Log.{did_store}
 
 module _ {X : Type 0} where
   -- the pass holds page p exclusively, which stands dirty in this frame and is no member still to be released

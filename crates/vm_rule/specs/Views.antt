@@ -1,13 +1,10 @@
 -- Views: what is read off one, what is summed over all, and the views that passes begin and end with.
-use Rattle.std.specs.Prelude.{ℕ, Bool, true, false, None, List, [], ◌∷◌, ◌++◌, ◌≡◌, ◌⊎◌, ◌+◌, ◌<◌, ◌≤◌, ◌==◌, ◌&&◌, ◌||◌, nat_lt, if◌then◌else◌, zero, suc}
+use Rattle.std.specs.Prelude.{[], ◌&&◌, ◌++◌, ◌+◌, ◌<◌, ◌==◌, ◌||◌, ◌∷◌, ◌≡◌, ◌≤◌, ◌⊎◌, Bool, false, if◌then◌else◌, List, nat_lt, None, suc, true}
+use Rattle.std.specs.Prelude.{zero, ℕ}
+use Rattle.vm_core.specs.Prelude.{no_seat}
 use Rattle.vm_core.specs.declared.event.Seat.{Seat}
-use Rattle.vm_core.specs.Start.{no_seat}
-use Rattle.vm_owner.specs.declared.Entry.{Entry}
-use Rattle.vm_owner.specs.Numbers.{has}
-use Rattle.vm_rule.specs.declared.view.Origin.{Origin}
-use Rattle.vm_rule.specs.declared.view.Note.{Note}
-use Rattle.vm_rule.specs.declared.view.View.{View}
-use Rattle.vm_rule.specs.Puts.{put_at}
+use Rattle.vm_owner.specs.{declared.Entry.Entry, Numbers.has}
+use Rattle.vm_rule.specs.{declared.view.Note.Note, declared.view.Origin.Origin, declared.view.View.View, Puts.put_at}
 
 -- l begins with m
 abbrev pub StartsWith : {A : Type 0} → List A → List A → Type 0

@@ -1,7 +1,6 @@
 // How a table began, for proofs alone.
 ghost use Rattle.std.specs.Borrow.{ftrue};
-ghost use Rattle.vm_rule.specs.declared.view.Origin.{Origin};
-ghost use Rattle.vm_rule.specs.declared.view.Snapshot.{Snapshot};
+ghost use Rattle.vm_rule.specs.{declared.view.Origin.Origin, declared.view.Snapshot.Snapshot};
 
 use std::marker::Model;
 

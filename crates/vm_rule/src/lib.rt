@@ -2,16 +2,9 @@
 //! events, and the replay that names them.
 #![tactic(auto)]
 
-ghost use Rattle.std.specs.Prelude.{◌≡◌, IfErr, IfOk, List, Ok, Err, true};
-ghost use Rattle.vm_core.specs.declared.event.Event.{Event};
-ghost use Rattle.vm_core.specs.Inv.{Inv};
-ghost use Rattle.vm_core.specs.History.{World, world_run};
-ghost use Rattle.vm_core.specs.PageOf.{core_of};
-ghost use Rattle.vm_core.specs.Replay.{Replayed};
-ghost use Rattle.vm_core.specs.Start.{IsStart, CoreStart, begin, start};
-ghost use Rattle.vm_core.specs.State.{State};
-ghost use Rattle.vm_core.specs.Step.{AllLegal, RunsTo};
-ghost use Rattle.vm_core.specs.Told.{Told};
+ghost use Rattle.std.specs.Prelude.{◌≡◌, Err, IfErr, IfOk, List, Ok, true};
+ghost use Rattle.vm_core.specs.Prelude.{AllLegal, begin, core_of, CoreStart, Inv, IsStart, Replayed, RunsTo, start, State, Told, World, world_run};
+ghost use Rattle.vm_rule.specs.Prelude.{Event};
 ghost use Rattle.vm_rule.specs.Kept.{IsRunKept, KeptFault, KeptFrom};
 
 pub mod began;

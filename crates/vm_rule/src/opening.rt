@@ -1,13 +1,8 @@
 //! What a table is made of: words that are pushed, the slots, and the first pass with its first step.
 
-ghost use Rattle.std.specs.Prelude.{◌≡◌, ◌<◌, ◌≤◌, ◌++◌, length, map, IfOk, Some, []};
-ghost use Rattle.atomic_table.specs.Table.{opening};
-ghost use Rattle.vm_rule.specs.Begun.{Stands, begun, unborn};
-ghost use Rattle.vm_rule.specs.Layout.{width_of};
-ghost use Rattle.vm_rule.specs.Puts.{listed};
-ghost use Rattle.vm_rule.specs.Sound.{Sound};
-ghost use Rattle.vm_rule.specs.Started.{counts_of};
-ghost use Rattle.vm_rule.specs.Views.{view_of};
+ghost use Rattle.std.specs.Prelude.{[], ◌++◌, ◌<◌, ◌≡◌, ◌≤◌, IfOk, length, map, Some};
+ghost use Rattle.vm_rule.specs.Prelude.{counts_of, listed, opening, Sound, Stands, unborn, view_of, width_of};
+ghost use Rattle.vm_rule.specs.Begun.{begun};
 
 use crate::view::{Shape, View};
 use crate::words::{Law, Pass, Words};

@@ -1,14 +1,10 @@
 //! The maker of a table: every page is evicted, its words in its block, and every frame is free.
 
-ghost use Rattle.std.specs.Prelude.{◌≡◌, ◌≤◌, ◌-◌, ◌^◌, ◌++◌, length, map, true, IfOk};
-ghost use Rattle.vm_core.specs.Start.{full_bundle};
-ghost use Rattle.vm_core.specs.Words.{MAX_VERSION};
-ghost use Rattle.vm_rule.specs.declared.began.Began.{Began};
-ghost use Rattle.vm_rule.specs.Begun.{begun, unborn};
-ghost use Rattle.vm_rule.specs.Layout.{bundles_of};
-ghost use Rattle.vm_rule.specs.Puts.{listed};
-ghost use Rattle.vm_rule.specs.Started.{IsStarted, MayBegin, counts_of, started_shape, started_words, block_words};
-ghost use Rattle.vm_rule.specs.Views.{view_of};
+ghost use Rattle.std.specs.Prelude.{◌++◌, ◌-◌, ◌^◌, ◌≡◌, ◌≤◌, IfOk, length, map, true};
+ghost use Rattle.vm_core.specs.Prelude.{full_bundle, MAX_VERSION};
+ghost use Rattle.vm_rule.specs.Prelude.{block_words, bundles_of, counts_of, IsStarted, listed, MayBegin, started_shape, started_words, unborn};
+ghost use Rattle.vm_rule.specs.Prelude.{view_of};
+ghost use Rattle.vm_rule.specs.{Begun.begun, declared.began.Began.Began};
 
 use crate::began::Began;
 use crate::opening::{opened, push_faults, push_same, slots_of};
@@ -37,7 +33,8 @@ impl<U: Owner, B: Block + Drop> Words<U, B> {
         requires begins { B.tells ≡ true → MayBegin U.keeps next (block_words (map B.stored blocks.items)) }
         ensures key { IfOk result (λ made. made.0.table.shared.key ≡ started_shape B.tells version next frames (map B.stored blocks.items)) }
         ensures pass { IfOk result (λ made. made.1.badge.table_id ≡ made.0.table.shared.table_id) }
-        ensures view { IfOk result (λ made. view_of made.1.badge.views ≡ begun (unborn (started_shape B.tells version next frames (map B.stored blocks.items)))) }
+        ensures view { IfOk result (λ made. view_of made.1.badge.views ≡
+            begun (unborn (started_shape B.tells version next frames (map B.stored blocks.items)))) }
     {
         let words = evicted_words(alloc, blocks.as_slice(), frames, next, version)?;
         let shape = shape_of(blocks.as_slice(), frames, next, version);

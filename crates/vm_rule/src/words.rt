@@ -1,10 +1,8 @@
 // The shared table, and a caller's token for it.
-ghost use Rattle.std.specs.Prelude.{◌≡◌, ◌≤◌, length, true, []};
-ghost use Rattle.vm_rule.specs.Layout.{width_of};
+ghost use Rattle.std.specs.Prelude.{[], ◌≡◌, ◌≤◌, length, true};
 ghost use denote.Struct.Props.{props};
+ghost use Rattle.vm_rule.specs.Prelude.{Sound, view_of, width_of};
 ghost use Rattle.vm_rule.specs.Props.{AreApart-prop, AreCounted-prop, AreNext-prop, numbered-prop};
-ghost use Rattle.vm_rule.specs.Sound.{Sound};
-ghost use Rattle.vm_rule.specs.Views.{view_of};
 
 use crate::view::{Shape, View};
 use atomic_table::{Badge, Closed, Table, TableRule};
@@ -19,7 +17,7 @@ pub struct Law<U, B> {
 }
 
 impl<U: Owner, B: Block> TableRule<Option<B>, View<U::Said>, Shape> for Law<U, B> {
-    ghost use Rattle.vm_rule.specs.Begun.{Stands, unborn};
+    ghost use Rattle.vm_rule.specs.Prelude.{Stands, unborn};
 
     ghost holds = { λ shape s. Stands B.stored U.keeps U.tied shape B.tells s };
 
@@ -32,7 +30,8 @@ pub struct Words<U: Owner, B: Block> {
     pub pages: usize,
     pub frames: usize,
     pub ghost shape: { (pages ≡ table.shared.key.pages) × (frames ≡ table.shared.key.frames) × (pages ≤ 65536) × (frames ≤ 65536) },
-    pub ghost wide: { (table.shared.table_id.words ≡ width_of table.shared.key.pages table.shared.key.frames) × (table.shared.table_id.slots ≡ table.shared.key.pages) },
+    pub ghost wide: { (table.shared.table_id.words ≡ width_of table.shared.key.pages table.shared.key.frames) ×
+        (table.shared.table_id.slots ≡ table.shared.key.pages) },
 }
 
 /// A caller's token: what it knows and holds of one table. It has no bytes.
@@ -47,13 +46,15 @@ pub struct Pass<U: Owner> {
 impl<U: Owner, B: Block> Words<U, B> {
     ghost use Rattle.std.specs.Mem.Slots.{IsFull, slots_items, slots_len};
     ghost use Rattle.atomic_table.specs.Table.{Final, Seen};
-    ghost use Rattle.vm_rule.specs.Begun.{Stands};
+    ghost use Rattle.vm_rule.specs.Prelude.{Stands};
 
     /// Ends the table: its words and its slots, as the last state that met the rule has them, in which this pass has its view.
     pub fn close_with(self, pass: Pass<U>) -> Closed<Option<B>, Global>
         requires { pass.badge.table_id ≡ self.table.shared.table_id }
         ensures counts { (slots_len result.words ≡ width_of self.pages self.frames) × (slots_len result.slots ≡ self.pages) }
-        ensures values { IsFull result.words × IsFull result.slots × Final (Seen (Stands B.stored U.keeps U.tied self.table.shared.key B.tells) pass.badge.id (view_of pass.badge.views)) (slots_items result.words) (slots_items result.slots) }
+        ensures values { IsFull result.words × IsFull result.slots ×
+            Final (Seen (Stands B.stored U.keeps U.tied self.table.shared.key B.tells) pass.badge.id (view_of pass.badge.views))
+            (slots_items result.words) (slots_items result.slots) }
     {
         let Words {
             table,

@@ -1,21 +1,12 @@
 -- Beside a pass with all parts every other pass has none, so it holds nothing; and what it has still to release, or owes, it would hold.
-use Rattle.std.proofs.Common.{ℕ, Bool, true, false, true≢false, ◌≡◌, ◌≢◌, ◌≤◌, Option, List, [], ◌∷◌, refl, sym, ap, subst, ◌∙◌, arith, ⊎_elim}
+use Rattle.std.proofs.Common.{[], ⊎_elim, ◌∙◌, ◌∷◌, ◌≡◌, ◌≢◌, ◌≤◌, ap, arith, Bool, false, List, Option, refl, subst, sym, true, true≢false, ℕ}
 use Rattle.std.proofs.lemmas.Bool.{cases_Bool, eq-eqb}
-use mathlib.Core.Option.{some}
-use lib.ListN.{get_elem?}
-use Rattle.atomic_table.specs.Table.{State as Table}
-use Rattle.vm_owner.specs.Kept.{Start, Kept}
-use Rattle.vm_owner.specs.Numbers.{has}
-use Rattle.vm_block.specs.declared.stored.Stored.{Stored}
-use Rattle.vm_rule.specs.declared.view.Origin.{Origin}
-use Rattle.vm_rule.specs.declared.view.View.{View}
-use Rattle.vm_rule.specs.Views.{times, seat_of, owns, spent}
-use Rattle.vm_rule.specs.Reading.{world_of}
-use Rattle.vm_rule.specs.Rule.{is_pending, HoldsNothing, KnowsPages, Ruled}
-use Rattle.vm_rule.proofs.Beside.{no-times, more-left, more-right}
+use Rattle.vm_core.specs.Prelude.{get_elem?, some}
+use Rattle.vm_rule.specs.Prelude.{has, HoldsNothing, is_pending, Kept, KnowsPages, owns, Ruled, seat_of, spent, Start, Stored, Table, times, world_of}
+use Rattle.vm_rule.specs.{declared.view.Origin.Origin, declared.view.View.View}
+use Rattle.vm_rule.proofs.Beside.{more-left, more-right, no-times}
 use Rattle.vm_rule.proofs.Entries.{not-whole}
-use Rattle.vm_rule_laws.specs.Alone.{HasNothing}
-use Rattle.vm_rule_laws.specs.Known.{IsWholePass}
+use Rattle.vm_rule_laws.specs.{Alone.HasNothing, Known.IsWholePass}
 
 -- a list with no number
 no-number : (l : List ℕ) → ((n : ℕ) → has n l ≡ true → ⊥) → l ≡ []

@@ -1,16 +1,9 @@
 -- A table stands by its rule, or its first pass has not begun: and then no pass lives.
-use Rattle.std.proofs.Common.{ℕ, Bool, true, true≢false, ◌≡◌, Option, List, [], ◌∷◌, zero, suc, sym, ap, subst, ◌∙◌, ⊎_elim}
+use Rattle.std.proofs.Common.{[], ⊎_elim, ◌∙◌, ◌∷◌, ◌≡◌, ap, Bool, List, Option, subst, suc, sym, true, true≢false, zero, ℕ}
 use mathlib.Core.Option as maybe
-use mathlib.Core.Option.{some, some-injective}
-use lib.ListN.{get_elem?}
-use Rattle.atomic_table.specs.Table.{State as Table}
-use Rattle.vm_owner.specs.Kept.{Start, Kept}
-use Rattle.vm_block.specs.declared.stored.Stored.{Stored}
-use Rattle.vm_rule.specs.declared.view.Origin.{Origin}
-use Rattle.vm_rule.specs.declared.view.Shape.{Shape}
-use Rattle.vm_rule.specs.declared.view.View.{View}
-use Rattle.vm_rule.specs.Begun.{HasShape, Stands, unborn}
-use Rattle.vm_rule.specs.Rule.{Ruled}
+use Rattle.vm_core.specs.Prelude.{get_elem?, some, some-injective}
+use Rattle.vm_rule.specs.Prelude.{HasShape, Kept, Ruled, Stands, Start, Stored, Table, unborn}
+use Rattle.vm_rule.specs.{declared.view.Origin.Origin, declared.view.Shape.Shape, declared.view.View.View}
 
 only-one : {A : Type 0} (a v : A) (id : ℕ) → get_elem? (a ∷ []) id ≡ some v → a ≡ v
 only-one a v zero e = some-injective a v e

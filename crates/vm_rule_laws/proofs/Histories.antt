@@ -1,16 +1,10 @@
 -- Every entry has the number of a part, and a pass that has all parts has used each number that an entry has: all entries are its own.
-use Rattle.std.proofs.Common.{ℕ, Bool, true, false, true≢false, ◌≡◌, ◌+◌, ◌<◌, ◌≤◌, Option, List, [], ◌∷◌, ◌++◌, length, suc, refl, sym, ap, subst, ◌∙◌, arith, ⊎_elim}
+use Rattle.std.proofs.Common.{[], ⊎_elim, ◌++◌, ◌+◌, ◌<◌, ◌∙◌, ◌∷◌, ◌≡◌, ◌≤◌, ap, arith, Bool, false, length, List, Option, refl, subst, suc, sym}
+use Rattle.std.proofs.Common.{true, true≢false, ℕ}
 use Rattle.std.proofs.lemmas.Bool.{cases_Bool, cases_eq, cases_lt, eq-eqb, ne_eqb}
 use Rattle.std.proofs.lemmas.List.{append-nil}
-use Rattle.atomic_table.specs.Table.{State as Table}
-use Rattle.vm_owner.specs.declared.Entry.{Entry}
-use Rattle.vm_owner.specs.Kept.{Start, Kept}
-use Rattle.vm_owner.specs.Numbers.{has}
-use Rattle.vm_block.specs.declared.stored.Stored.{Stored}
-use Rattle.vm_rule.specs.declared.view.Origin.{Origin}
-use Rattle.vm_rule.specs.declared.view.View.{View}
-use Rattle.vm_rule.specs.Views.{Each, PARTS, times, entries_by, IsWhole}
-use Rattle.vm_rule.specs.Rule.{KnowsLists, Ruled}
+use Rattle.vm_rule.specs.Prelude.{Each, entries_by, Entry, has, IsWhole, Kept, KnowsLists, PARTS, Ruled, Start, Stored, Table, times}
+use Rattle.vm_rule.specs.{declared.view.Origin.Origin, declared.view.View.View}
 use Rattle.vm_rule.proofs.Entries.{mine-in}
 use Rattle.vm_rule_laws.specs.Known.{IsWholePass}
 use Rattle.vm_rule_laws.proofs.Alone.{whole-lives}

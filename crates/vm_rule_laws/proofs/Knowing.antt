@@ -1,32 +1,16 @@
 -- A pass with all parts that has made a step knows the table: the core from its snapshot, and what the layer above keeps.
-use Rattle.std.proofs.Common.{ℕ, Bool, true, false, true≢false, ◌≡◌, ◌≢◌, ◌<◌, Option, List, [], ◌++◌, zero, suc, refl, sym, ap, subst, ◌∙◌, ⊎_elim}
+use Rattle.std.proofs.Common.{[], ⊎_elim, ◌++◌, ◌<◌, ◌∙◌, ◌≡◌, ◌≢◌, ap, Bool, false, List, Option, refl, subst, suc, sym, true, true≢false, zero, ℕ}
 use Rattle.std.proofs.lemmas.Bool.{cases_Bool, cases_eq, cases_lt}
 use mathlib.Core.Path.{fun_ext}
-use mathlib.Core.Option.{some, some-injective}
-use lib.ListN.{get_elem?}
-use Rattle.atomic_table.specs.Table.{State as Table}
-use Rattle.vm_core.specs.declared.event.Seat.{Seat}
-use Rattle.vm_core.specs.Fn.{at}
-use Rattle.vm_core.specs.History.{History}
-use Rattle.vm_owner.specs.Kept.{Start, Kept}
-use Rattle.vm_owner.specs.Numbers.{has}
-use Rattle.vm_block.specs.declared.stored.Stored.{Stored}
-use Rattle.vm_rule.specs.declared.view.Origin.{Origin}
-use Rattle.vm_rule.specs.declared.view.Snapshot.{Snapshot}
-use Rattle.vm_rule.specs.declared.view.View.{View}
-use Rattle.vm_rule.specs.Layout.{Words, table_words}
-use Rattle.vm_rule.specs.Puts.{listed, chosen}
-use Rattle.vm_rule.specs.Views.{any}
-use Rattle.vm_rule.specs.Reading.{no_block, page_from, pages_from, block_of, seats_of, last_in, histories_of, core_shown, world_of}
-use Rattle.vm_rule.specs.Rule.{logical, is_pending, is_owed, began_of, kept_of, snapshot_of, Ruled}
-use Rattle.vm_rule.proofs.Facts.{any-true, any-here}
-use Rattle.vm_rule.proofs.ListFacts.{at-listed}
-use Rattle.vm_rule.proofs.Pages.{page-in, page-out}
-use Rattle.vm_rule.proofs.Parts.{listed-same}
-use Rattle.vm_rule.proofs.Worlds.{last-is}
+use Rattle.vm_core.specs.Prelude.{at, get_elem?, History, some, some-injective}
+use Rattle.vm_rule.specs.Prelude.{any, began_of, block_of, chosen, core_shown, has, histories_of, is_owed, is_pending, Kept, kept_of, last_in, listed}
+use Rattle.vm_rule.specs.Prelude.{logical, no_block, page_from, pages_from, Ruled, Seat, seats_of, snapshot_of, Start, Stored, Table, table_words}
+use Rattle.vm_rule.specs.Prelude.{Words, world_of}
+use Rattle.vm_rule.specs.{declared.view.Origin.Origin, declared.view.Snapshot.Snapshot, declared.view.View.View}
+use Rattle.vm_rule.proofs.{Facts.any-here, Facts.any-true, ListFacts.at-listed, Pages.page-in, Pages.page-out, Parts.listed-same, Worlds.last-is}
 use Rattle.vm_rule_laws.specs.Alone.{HasNothing}
-use Rattle.vm_rule_laws.specs.Known.{HasStepped, core_in, kept_by, KnowsTable}
-use Rattle.vm_rule_laws.proofs.Alone.{whole-lives, others-have-nothing}
+use Rattle.vm_rule_laws.specs.Known.{core_in, HasStepped, kept_by, KnowsTable}
+use Rattle.vm_rule_laws.proofs.Alone.{others-have-nothing, whole-lives}
 
 -- the pages, from blocks that are the same below their number
 pages-same : (pages : ℕ) (r : Words) (blocks blocks' : ℕ → Stored) (seats : ℕ → ℕ → Seat) → ((p : ℕ) → p < pages → blocks p ≡ blocks' p) → pages_from pages r blocks seats ≡ pages_from pages r blocks' seats

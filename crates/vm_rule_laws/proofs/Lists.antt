@@ -1,16 +1,10 @@
 -- The lists of releases and of entries are those of the table: some pass has seen all of each, and no pass has seen more than is there.
-use Rattle.std.proofs.Common.{ℕ, Bool, true, false, ◌≡◌, ◌⊎◌, ◌+◌, Option, List, [], ◌∷◌, ◌++◌, length, refl, sym, ap, subst, ◌∙◌, arith, ⊎_elim}
+use Rattle.std.proofs.Common.{[], ⊎_elim, ◌++◌, ◌+◌, ◌∙◌, ◌∷◌, ◌≡◌, ◌⊎◌, ap, arith, Bool, false, length, List, Option, refl, subst, sym, true, ℕ}
 use Rattle.std.proofs.lemmas.Bool.{cases_Bool}
 use Rattle.std.proofs.lemmas.List.{append-nil, length-append}
-use mathlib.Core.Option.{some}
-use lib.ListN.{get_elem?}
-use Rattle.atomic_table.specs.Table.{State as Table}
-use Rattle.vm_owner.specs.Kept.{Start, Kept}
-use Rattle.vm_block.specs.declared.stored.Stored.{Stored}
-use Rattle.vm_rule.specs.declared.view.Origin.{Origin}
-use Rattle.vm_rule.specs.declared.view.View.{View}
-use Rattle.vm_rule.specs.Views.{StartsWith, spent}
-use Rattle.vm_rule.specs.Rule.{Ruled}
+use Rattle.vm_core.specs.Prelude.{get_elem?, some}
+use Rattle.vm_rule.specs.Prelude.{Kept, Ruled, spent, Start, StartsWith, Stored, Table}
+use Rattle.vm_rule.specs.{declared.view.Origin.Origin, declared.view.View.View}
 
 none-long : {A : Type 0} (l : List A) → length l ≡ 0 → l ≡ []
 none-long [] e = refl

@@ -1,23 +1,12 @@
 -- What a pass noted is at most the fault word of the page, so at most the count of its block, which the snapshot shows.
-use Rattle.std.proofs.Common.{ℕ, Bool, ◌≡◌, ◌≤◌, Option, List, length, sym, ap, ◌∙◌, arith, ⊎_elim}
+use Rattle.std.proofs.Common.{⊎_elim, ◌∙◌, ◌≡◌, ◌≤◌, ap, arith, Bool, length, List, Option, sym, ℕ}
 use Rattle.std.proofs.lemmas.Bool.{cases_lt}
-use Rattle.atomic_table.specs.Table.{State as Table}
-use Rattle.vm_core.specs.State.{Page}
-use Rattle.vm_owner.specs.Kept.{Start, Kept}
-use Rattle.vm_block.specs.declared.stored.Stored.{Stored}
-use Rattle.vm_rule.specs.declared.view.Origin.{Origin}
-use Rattle.vm_rule.specs.declared.view.Snapshot.{Snapshot}
-use Rattle.vm_rule.specs.declared.view.View.{View}
-use Rattle.vm_rule.specs.Puts.{listed}
-use Rattle.vm_rule.specs.Views.{times_noted, total}
-use Rattle.vm_rule.specs.Reading.{no_block, block_of, core_shown}
-use Rattle.vm_rule.specs.Rule.{snapshot_of, Ruled}
-use Rattle.vm_rule.proofs.Entries.{total-at}
-use Rattle.vm_rule.proofs.Found.{block-here, outside-here}
+use Rattle.vm_core.specs.Prelude.{Page}
+use Rattle.vm_rule.specs.Prelude.{block_of, core_shown, Kept, listed, no_block, Ruled, snapshot_of, Start, Stored, Table, times_noted, total}
+use Rattle.vm_rule.specs.{declared.view.Origin.Origin, declared.view.Snapshot.Snapshot, declared.view.View.View}
+use Rattle.vm_rule.proofs.{Entries.total-at, Found.block-here, Found.outside-here}
 use Rattle.vm_rule.proofs.ListFacts.{at-listed, at-past, length-listed}
-use Rattle.vm_rule_laws.specs.Known.{HasStepped}
-use Rattle.vm_rule_laws.specs.Noted.{NotesStand}
-use Rattle.vm_rule_laws.specs.Standing.{block_in}
+use Rattle.vm_rule_laws.specs.{Known.HasStepped, Noted.NotesStand, Standing.block_in}
 use Rattle.vm_rule_laws.proofs.Alone.{whole-lives}
 
 module _ {X B : Type 0} (stored : B → Stored) (keeps : Start → Kept X → Type 0) (tied : Start → ℕ → List ℕ → ℕ → List ℕ → Type 0) (start : Origin) (tells : Bool) (s : Table (Option B) (View X)) (r : Ruled stored keeps tied start tells s) where

@@ -1,31 +1,14 @@
 -- Where the pages' last words stand follows from the core's invariant, read off the snapshot of a pass beside which no other holds a page.
-use Rattle.std.proofs.Common.{ℕ, Bool, false, true≢false, ◌≡◌, ◌≢◌, ◌<◌, Option, List, [], ◌∷◌, length, zero, suc, refl, sym, ap, subst, ◌∙◌, arith, ⊎_elim}
+use Rattle.std.proofs.Common.{[], ⊎_elim, ◌<◌, ◌∙◌, ◌∷◌, ◌≡◌, ◌≢◌, ap, arith, Bool, false, length, List, Option, refl, subst, suc, sym, true≢false}
+use Rattle.std.proofs.Common.{zero, ℕ}
 use Rattle.std.proofs.lemmas.Bool.{cases_eq, cases_lt}
-use mathlib.Core.Option.{some}
-use lib.ListN.{get_elem?}
-use Rattle.atomic_table.specs.Table.{State as Table}
-use Rattle.vm_core.specs.Fn.{at}
-use Rattle.vm_core.specs.Inv.{OneHolder, PageInv}
-use Rattle.vm_core.specs.State.{Page}
-use Rattle.vm_core.specs.Words.{state_of, LOCKED}
-use Rattle.vm_core.specs.History.{Version}
-use Rattle.vm_owner.specs.Kept.{Start, Kept}
-use Rattle.vm_block.specs.declared.stored.Stored.{Stored}
-use Rattle.vm_rule.specs.declared.view.Origin.{Origin}
-use Rattle.vm_rule.specs.declared.view.Release.{Release}
-use Rattle.vm_rule.specs.declared.view.Snapshot.{Snapshot}
-use Rattle.vm_rule.specs.declared.view.View.{View}
-use Rattle.vm_rule.specs.Layout.{table_words}
-use Rattle.vm_rule.specs.Views.{spent, seat_of}
-use Rattle.vm_rule.specs.Reading.{no_block, frame_words, page_from, block_of, seats_of, loads_of, last_in, histories_of}
-use Rattle.vm_rule.specs.Rule.{HoldsNothing, snapshot_of, Ruled}
-use Rattle.vm_rule.proofs.Found.{page-here}
-use Rattle.vm_rule.proofs.ListFacts.{at-listed, at-past}
-use Rattle.vm_rule.proofs.Views.{at-there}
-use Rattle.vm_rule.proofs.Worlds.{last-is}
-use Rattle.vm_rule_laws.specs.Known.{IsWholePass, HasStepped}
-use Rattle.vm_rule_laws.specs.Standing.{block_in, PageStands}
-use Rattle.vm_rule_laws.proofs.Alone.{whole-lives, others-have-nothing}
+use Rattle.vm_core.specs.Prelude.{at, get_elem?, LOCKED, OneHolder, Page, PageInv, some, state_of, Version}
+use Rattle.vm_rule.specs.Prelude.{block_of, frame_words, histories_of, HoldsNothing, Kept, last_in, loads_of, no_block, page_from, Ruled, seat_of}
+use Rattle.vm_rule.specs.Prelude.{seats_of, snapshot_of, spent, Start, Stored, Table, table_words}
+use Rattle.vm_rule.specs.{declared.view.Origin.Origin, declared.view.Release.Release, declared.view.Snapshot.Snapshot, declared.view.View.View}
+use Rattle.vm_rule.proofs.{Found.page-here, ListFacts.at-listed, ListFacts.at-past, Views.at-there, Worlds.last-is}
+use Rattle.vm_rule_laws.specs.{Known.HasStepped, Known.IsWholePass, Standing.block_in, Standing.PageStands}
+use Rattle.vm_rule_laws.proofs.Alone.{others-have-nothing, whole-lives}
 
 there-at : {A : Type 0} (d : A) (l : List A) (i : ℕ) → i < length l → get_elem? l i ≡ some (at d l i)
 unfolding at

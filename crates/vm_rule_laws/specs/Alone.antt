@@ -1,7 +1,7 @@
 -- A pass that has nothing of the table.
 use Rattle.std.specs.Prelude.{[], ◌≡◌}
+use Rattle.vm_rule.specs.Prelude.{HoldsNothing}
 use Rattle.vm_rule.specs.declared.view.View.{View}
-use Rattle.vm_rule.specs.Rule.{HoldsNothing}
 
 -- no part, no share, lock, write-back, frame or block, no member of a group still to be released, and no page that was claimed for one
 pub record HasNothing {X : Type 0} (v : View X) : Type 0 where

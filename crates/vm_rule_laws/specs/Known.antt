@@ -1,22 +1,9 @@
 -- What a pass with all parts of a table knows of it once it has made a step, read off its view alone.
-use Rattle.std.specs.Prelude.{ℕ, true, Option, List, length, ◌≡◌}
-use mathlib.Core.Option.{some}
-use lib.ListN.{get_elem?}
-use Rattle.atomic_table.specs.Table.{State as Table}
-use Rattle.vm_block.specs.declared.stored.Stored.{Stored}
-use Rattle.vm_core.specs.Fn.{at}
-use Rattle.vm_core.specs.State.{State}
-use Rattle.vm_owner.specs.declared.Entry.{Entry}
-use Rattle.vm_owner.specs.Kept.{Kept}
-use Rattle.vm_owner.specs.Numbers.{has}
-use Rattle.vm_rule.specs.declared.view.Origin.{Origin}
-use Rattle.vm_rule.specs.declared.view.Release.{Release}
-use Rattle.vm_rule.specs.declared.view.Snapshot.{Snapshot}
-use Rattle.vm_rule.specs.declared.view.View.{View}
-use Rattle.vm_rule.specs.Layout.{table_words}
-use Rattle.vm_rule.specs.Puts.{listed, chosen}
-use Rattle.vm_rule.specs.Views.{IsWhole}
-use Rattle.vm_rule.specs.Reading.{no_block, seats_of, frames_held, last_of, core_from, core_shown}
+use Rattle.std.specs.Prelude.{◌≡◌, length, List, Option, true, ℕ}
+use Rattle.vm_core.specs.Prelude.{at, get_elem?, some, State}
+use Rattle.vm_rule.specs.Prelude.{chosen, core_from, core_shown, Entry, frames_held, has, IsWhole, Kept, last_of, listed, no_block, seats_of, Stored}
+use Rattle.vm_rule.specs.Prelude.{Table, table_words}
+use Rattle.vm_rule.specs.{declared.view.Origin.Origin, declared.view.Release.Release, declared.view.Snapshot.Snapshot, declared.view.View.View}
 
 module _ {X : Type 0} where
   -- the pass id of these has this view, with all parts

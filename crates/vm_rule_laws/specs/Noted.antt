@@ -1,9 +1,8 @@
 -- What the notes of a pass say of the blocks, as a snapshot of the table shows them.
-use Rattle.std.specs.Prelude.{ℕ, List, ◌≢◌, ◌≤◌}
-use Rattle.vm_core.specs.Words.{MAX_COUNT}
-use Rattle.vm_rule.specs.declared.view.Note.{Note}
-use Rattle.vm_rule.specs.declared.view.Snapshot.{Snapshot}
-use Rattle.vm_rule.specs.Views.{times_noted}
+use Rattle.std.specs.Prelude.{◌≢◌, ◌≤◌, List, ℕ}
+use Rattle.vm_core.specs.Prelude.{MAX_COUNT}
+use Rattle.vm_rule.specs.Prelude.{times_noted}
+use Rattle.vm_rule.specs.{declared.view.Note.Note, declared.view.Snapshot.Snapshot}
 use Rattle.vm_rule_laws.specs.Standing.{block_in}
 
 -- a fault that was noted is one that its page's block counted; below the last count, where counting stops, each is noted once

@@ -1,17 +1,8 @@
 -- Where the last words of a page stand: in the page's frame, or in its block, as a snapshot of the table shows both.
-use Rattle.std.specs.Prelude.{ℕ, true, false, Option, Some, None, List, IsSome, length, ◌≡◌, ◌≢◌}
-use Rattle.vm_page.specs.declared.buf.TheConstants.{WORDS}
-use Rattle.vm_block.specs.declared.stored.Stored.{Stored}
-use Rattle.vm_core.specs.declared.event.Mapping.{Mapping}
-use Rattle.vm_core.specs.declared.event.Seat.{Seat}
-use Rattle.vm_core.specs.Fn.{at}
-use Rattle.vm_core.specs.FrameActs.{mapping_of}
-use Rattle.vm_core.specs.Words.{state_of, version_of, LOCKED, EVICTED}
-use Rattle.vm_rule.specs.declared.view.Origin.{Origin}
-use Rattle.vm_rule.specs.declared.view.Release.{Release}
-use Rattle.vm_rule.specs.declared.view.Snapshot.{Snapshot}
-use Rattle.vm_rule.specs.Layout.{table_words}
-use Rattle.vm_rule.specs.Reading.{no_block, frame_words, last_in}
+use Rattle.std.specs.Prelude.{◌≡◌, ◌≢◌, false, IsSome, length, List, None, Option, Some, true, ℕ}
+use Rattle.vm_core.specs.Prelude.{at, EVICTED, LOCKED, mapping_of, state_of, version_of, WORDS}
+use Rattle.vm_rule.specs.Prelude.{frame_words, last_in, Mapping, no_block, Seat, Stored, table_words}
+use Rattle.vm_rule.specs.{declared.view.Origin.Origin, declared.view.Release.Release, declared.view.Snapshot.Snapshot}
 
 -- what the snapshot shows of page p, and of a frame
 abbrev pub state_in : Origin → Snapshot → ℕ → ℕ

@@ -2,20 +2,12 @@
 //! pass, such as one that closes it. A law is a function without a body whose contract is the law.
 #![tactic(auto)]
 
-ghost use Rattle.std.specs.Prelude.{◌≡◌, ◌≢◌, ◌<◌, ℕ, Option, [], false, true};
-ghost use mathlib.Core.Option.{some};
-ghost use lib.ListN.{get_elem?};
-ghost use Rattle.atomic_table.specs.Table.{State as Table};
-ghost use Rattle.vm_rule.specs.declared.view.Origin.{Origin};
-ghost use Rattle.vm_rule.specs.declared.view.Shape.{Shape};
-ghost use Rattle.vm_rule.specs.declared.view.View.{View};
-ghost use Rattle.vm_rule.specs.Begun.{HasShape, Stands};
-ghost use Rattle.vm_rule.specs.Rule.{Ruled, began_of};
-ghost use Rattle.vm_rule.specs.Views.{seat_of};
-ghost use Rattle.vm_rule_laws.specs.Alone.{HasNothing};
-ghost use Rattle.vm_rule_laws.specs.Known.{HasStepped, IsWholePass, KnowsTable, kept_by};
-ghost use Rattle.vm_rule_laws.specs.Noted.{NotesStand};
-ghost use Rattle.vm_rule_laws.specs.Standing.{PageStands};
+ghost use Rattle.std.specs.Prelude.{[], ◌<◌, ◌≡◌, ◌≢◌, false, Option, true, ℕ};
+ghost use Rattle.vm_core.specs.Prelude.{get_elem?, some};
+ghost use Rattle.vm_rule.specs.Prelude.{began_of, HasShape, Ruled, seat_of, Stands, Table};
+ghost use Rattle.vm_rule.specs.{declared.view.Origin.Origin, declared.view.Shape.Shape, declared.view.View.View};
+ghost use Rattle.vm_rule_laws.specs.{Alone.HasNothing, Noted.NotesStand, Standing.PageStands};
+ghost use Rattle.vm_rule_laws.specs.Known.{HasStepped, IsWholePass, kept_by, KnowsTable};
 
 use vm_block::Block;
 use vm_owner::Owner;

@@ -1,21 +1,15 @@
 -- What a pass that is alone knows after its steps: each place of the table has the word that was left there last, or the one that it had.
-use Rattle.std.proofs.Common.{ℕ, ◌≡◌, ◌≢◌, ◌⊎◌, ◌<◌, ◌≤◌, ◌+◌, ◌*◌, ◌-◌, ◌/◌, ◌%◌, nat_lt, Bool, true, false, if◌then◌else◌, Option, Some, None, List, [], ◌∷◌, ◌++◌, length, refl, sym, ap, subst, ◌∙◌, inl, inr, ⊎_elim, arith, slice_index, slice_set}
-use Rattle.std.proofs.lemmas.Bool.{cases_eq, cond-true, cond-false, lt-ltb, le-ltb}
+use Rattle.std.proofs.Common.{[], ⊎_elim, ◌%◌, ◌*◌, ◌++◌, ◌+◌, ◌-◌, ◌/◌, ◌<◌, ◌∙◌, ◌∷◌, ◌≡◌, ◌≤◌, ap, arith, if◌then◌else◌, inl, inr, length, List}
+use Rattle.std.proofs.Common.{nat_lt, refl, slice_index, slice_set, subst, sym, ℕ}
+use Rattle.std.proofs.lemmas.Bool.{cases_eq, cond-false, cond-true, le-ltb, lt-ltb}
 use Rattle.std.proofs.lemmas.List.{get_or-set_same}
-use Rattle.vm_page.specs.declared.buf.TheConstants.{WORDS}
-use Rattle.vm_rule.specs.declared.view.Did.{Did}
-use Rattle.vm_rule.specs.declared.view.Origin.{Origin}
+use Rattle.vm_core.specs.Prelude.{WORDS}
+use Rattle.vm_rule.specs.Prelude.{bundle_count, Each, index_of, set_if, width, Within}
 use Rattle.vm_rule.specs.declared.view.Place.{Place}
 use Rattle.vm_rule.specs.declared.view.Place.TheVariants as places
-use Rattle.vm_rule.specs.declared.view.Release.{Release}
-use Rattle.vm_rule.specs.declared.view.View.{View}
-use Rattle.vm_rule.specs.Brought.{set_if}
-use Rattle.vm_rule.specs.Layout.{Within, bundle_count, index_of, width}
-use Rattle.vm_rule.specs.Views.{Each}
-use Rattle.vm_step.specs.Alone.{Follows, IsAlone, KnowsAfter, LeavesLast, RunsAlone, WritesNone, known_word_at}
-use Rattle.vm_step.proofs.Alone.{set-else}
-use Rattle.vm_step.proofs.Tables.{follows-length}
-use Rattle.vm_step.proofs.Written.{index-below}
+use Rattle.vm_step.specs.Prelude.{Did, Follows, IsAlone, known_word_at, LeavesLast, Origin, Release, RunsAlone, View, WritesNone}
+use Rattle.vm_step.specs.Alone.{KnowsAfter}
+use Rattle.vm_step.proofs.{Alone.set-else, Tables.follows-length, Written.index-below}
 
 -- ---- each place of the table has a number of its own
 

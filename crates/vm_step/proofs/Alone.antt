@@ -1,22 +1,12 @@
 -- The steps of a pass that is alone, one after another: each finds the word that the step before left.
-use Rattle.std.proofs.Common.{ℕ, true, Option, Some, None, List, [], ◌∷◌, ◌++◌, ◌≡◌, ◌≢◌, ◌⊎◌, length, refl, sym, ap, subst, ◌∙◌, inl, inr, arith, ⊎_elim, append_assoc, slice_index}
+use Rattle.std.proofs.Common.{[], ⊎_elim, ◌++◌, ◌∙◌, ◌∷◌, ◌≡◌, ◌≢◌, ◌⊎◌, ap, append_assoc, arith, inl, inr, length, List, None, Option, refl}
+use Rattle.std.proofs.Common.{slice_index, Some, subst, sym, true, ℕ}
 use Rattle.std.proofs.lemmas.List.{get_or-set_other}
 use Rattle.std.proofs.lemmas.Option.{none-some}
-use Rattle.vm_block.specs.declared.stored.Stored.{Stored}
-use Rattle.vm_owner.specs.declared.Entry.{Entry}
-use Rattle.vm_rule.specs.declared.view.Did.{Did}
-use Rattle.vm_rule.specs.declared.view.Origin.{Origin}
+use Rattle.vm_rule.specs.Prelude.{BringsWith, Each, Entry, index_of, IsFoundAt, last_in, set_if, Stored, width, Within}
 use Rattle.vm_rule.specs.declared.view.Place.{Place}
-use Rattle.vm_rule.specs.declared.view.Release.{Release}
-use Rattle.vm_rule.specs.declared.view.View.{View}
-use Rattle.vm_rule.specs.Layout.{Within, index_of, width}
-use Rattle.vm_rule.specs.Views.{Each}
-use Rattle.vm_rule.specs.Reading.{last_in}
-use Rattle.vm_rule.specs.Brought.{BringsWith, IsFoundAt, set_if}
-use Rattle.vm_rule.proofs.Entries.{append-none}
-use Rattle.vm_rule.proofs.Heard.{each-both}
-use Rattle.vm_step.specs.Alone.{Follows, IsAlone, RunsAlone, known_word_at}
-use Rattle.vm_step.specs.Asides.{StaysAlone}
+use Rattle.vm_rule.proofs.{Entries.append-none, Heard.each-both}
+use Rattle.vm_step.specs.Prelude.{Did, Follows, IsAlone, known_word_at, Origin, Release, RunsAlone, StaysAlone, View}
 use Rattle.vm_step.proofs.Asides.{whole-then}
 
 pub follows-then : (start : Origin) (a b : List Did) (x y z : List ℕ) → Follows start a x y → Follows start b y z → Follows start (a ++ b) x z

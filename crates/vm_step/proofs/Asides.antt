@@ -1,37 +1,18 @@
 -- Calls that say nothing and change no lock, one after another, and the steps of such calls that change nothing of the view but open reads: a look,
 -- a mark set or taken away, a load of a translation word, of a word of a frame or of a bundle, the hand.
-use Rattle.std.proofs.Common.{ℕ, ◌≡◌, ◌≢◌, ◌+◌, ◌≤◌, ◌==◌, if◌then◌else◌, List, [], ◌∷◌, ◌++◌, Option, None, refl, sym, ap, subst, ◌∙◌, ⊎_elim, inl, inr, append_assoc, eqb}
+use Rattle.std.proofs.Common.{[], ⊎_elim, ◌++◌, ◌+◌, ◌==◌, ◌∙◌, ◌∷◌, ◌≡◌, ◌≢◌, ◌≤◌, ap, append_assoc, eqb, if◌then◌else◌, inl, inr, List, None}
+use Rattle.std.proofs.Common.{Option, refl, subst, sym, ℕ}
 use Rattle.std.proofs.lemmas.Bool.{cases_eq, cond-false, eq-eqb, ne_eqb}
-use Rattle.vm_core.specs.declared.event.Open.{Open}
-use Rattle.vm_core.specs.declared.event.ReadIs.{ReadIs}
+use Rattle.vm_core.specs.Prelude.{framed, hand_more, History, kept_loads, mapping_of, no_seat, open_after, version_of}
 use Rattle.vm_core.specs.declared.event.ReadIs.TheVariants as read
-use Rattle.vm_core.specs.declared.event.Seat.{Seat}
-use Rattle.vm_core.specs.Words.{version_of, hand_more}
-use Rattle.vm_core.specs.StateActs.{open_after}
-use Rattle.vm_core.specs.FrameActs.{mapping_of, open_frame, framed}
-use Rattle.vm_core.specs.History.{History, kept_loads, loads_more}
-use Rattle.vm_core.specs.Start.{no_seat}
-use Rattle.vm_core.proofs.Upd.{upd-other, upd-keeps}
-use Rattle.vm_block.specs.declared.stored.Stored.{Stored}
-use Rattle.vm_owner.specs.declared.Entry.{Entry}
-use Rattle.vm_owner.specs.Kept.{Start}
-use Rattle.vm_rule.specs.declared.view.Did.{Did}
+use Rattle.vm_core.proofs.Upd.{upd-keeps, upd-other}
+use Rattle.vm_rule.specs.Prelude.{after_releases, Brings, BringsWith, did_change, did_exchange, did_load, draft_of, entries_of, Entry, first_history}
+use Rattle.vm_rule.specs.Prelude.{HandTold, held_at, IsLocking, IsWhole, last_in, last_of, left_at, loads_at, LookTold, MarkTold, Open, pushed, put}
+use Rattle.vm_rule.specs.Prelude.{put_at, ReadIs, Seat, seat_of, Start, StartsWith, Stored, ties_below, times, TranslationTold, where_same}
+use Rattle.vm_rule.specs.{Loads.tloaded_view, Looks.looked_view}
 use Rattle.vm_rule.specs.declared.view.Place.TheVariants as places
-use Rattle.vm_rule.specs.declared.view.Release.{Release}
-use Rattle.vm_rule.specs.declared.view.Tie.{Tie}
-use Rattle.vm_rule.specs.declared.view.View.{View}
-use Rattle.vm_rule.specs.Puts.{put, put_at}
-use Rattle.vm_rule.specs.Views.{StartsWith, IsLocking, IsWhole, times, seat_of, loads_at, draft_of}
-use Rattle.vm_rule.specs.Reading.{after_releases, first_history, last_in, last_of, pushed}
-use Rattle.vm_rule.specs.Brought.{Brings, BringsWith, entries_of}
-use Rattle.vm_rule.specs.Bundles.{BundleTold, HandTold}
-use Rattle.vm_rule.specs.Loads.{TranslationTold, LoadTold, tloaded_view, loaded_view}
-use Rattle.vm_rule.specs.Locks.{MarkTold}
-use Rattle.vm_rule.specs.Log.{did_load, did_exchange, did_change}
-use Rattle.vm_rule.specs.Looks.{LookTold, where_same, left_at, looked_view, ties_below}
-use Rattle.vm_rule.specs.Mappings.{held_at}
 use Rattle.vm_rule.proofs.Entries.{append-none}
-use Rattle.vm_step.specs.Asides.{HoldsPage, IsAsideOf, KeepsFrames, KnowsAsBefore, ReadsAsBefore, StaysAlone}
+use Rattle.vm_step.specs.Prelude.{Did, HoldsPage, IsAsideOf, KeepsFrames, KnowsAsBefore, ReadsAsBefore, Release, StaysAlone, Tie, View}
 
 -- what begins with what begins with it
 pub starts-then : {A : Type 0} (k l m : List A) → StartsWith l k → StartsWith m l → StartsWith m k
@@ -323,36 +304,9 @@ module _ {X : Type 0} where
       }
       record { frames = refl; contents = refl; notes = refl }
 
-  -- a load of a word of a frame
-  pub load-only : (touched : ℕ → Type 0) (p f i found : ℕ) (v w : View X) → touched p → LoadTold p f i found v w → OnlyReads touched (did_load (places.Content f i) found ∷ []) v w
-  load-only touched p f i found v w at t =
-      only-from touched (did_load (places.Content f i) found) None [] v (loaded_view p i found v) w t.brings
-      record {
-        log = refl;
-        live = refl;
-        start = refl;
-        parts = (refl, refl);
-        mine = refl;
-        out = refl;
-        ties = ([], refl);
-        group = (refl, refl, refl);
-        held = refl;
-        drafts = refl;
-        holds = λ q. record { shares = refl; exclusive = refl; writing = refl };
-        others = λ q ne. record {
-          reading = refl;
-          loads = upd-other (put_at [] v.loads) p (loads_more (open_frame (seat_of v p).reading) (loads_at v p) i found) q (λ e. ne (subst touched (sym e) at));
-        };
-      }
-      record { frames = refl; contents = refl; notes = refl }
-
   -- the hand is moved
   pub hand-only : (touched : ℕ → Type 0) (found : ℕ) (v w : View X) → HandTold found v w → OnlyReads touched (did_change places.Hand found (hand_more found) ∷ []) v w
   hand-only touched found v w t = only-still touched (did_change places.Hand found (hand_more found)) v w t.brings
-
-  -- a bundle word is loaded
-  pub bundle-only : (touched : ℕ → Type 0) (g found : ℕ) (v w : View X) → BundleTold g found v w → OnlyReads touched (did_load (places.Bundle g) found ∷ []) v w
-  bundle-only touched g found v w t = only-still touched (did_load (places.Bundle g) found) v w t.brings
 
   -- a mark is set or taken away, or is not since the word was another
   pub mark-only : (touched : ℕ → Type 0) (p expects found new : ℕ) (v w : View X) → MarkTold p expects found new v w → OnlyReads touched (did_exchange (places.State p) expects found new ∷ []) v w

@@ -1,24 +1,16 @@
 -- One call of the device of a page that the pass has locked: its block is taken out, read or written, and brought home.
-use Rattle.std.proofs.Common.{ℕ, ◌≡◌, ◌≤◌, ◌+◌, ◌==◌, ◌||◌, ◌++◌, nat_lt, min, Bool, true, false, List, [], ◌∷◌, Option, Some, None, IsSome, Result, Ok, Err, refl, sym, ap, ◌∙◌, ⊎_elim, arith}
+use Rattle.std.proofs.Common.{[], ⊎_elim, ◌++◌, ◌+◌, ◌==◌, ◌||◌, ◌∙◌, ◌∷◌, ◌≡◌, ◌≤◌, ap, arith, Bool, Err, false, IsSome, List, min, nat_lt, None, Ok}
+use Rattle.std.proofs.Common.{Option, refl, Result, Some, sym, true, ℕ}
 use Rattle.std.proofs.lemmas.Bool.{cases_lt, cond-true, eq-eqb, lt-ltb, or_left, or_right}
-use Rattle.vm_core.specs.Words.{count_more, MAX_COUNT}
+use Rattle.vm_block.specs.Blocks.{Reads, Writes}
+use Rattle.vm_core.specs.Prelude.{count_more, MAX_COUNT}
 use Rattle.vm_core.proofs.Upd.{upd-other, upd-same}
-use Rattle.vm_block.specs.Blocks.{Reads, Writes, one_call_more}
-use Rattle.vm_block.specs.declared.stored.Stored.{Stored}
-use Rattle.vm_rule.specs.declared.view.Did.{Did}
+use Rattle.vm_rule.specs.Prelude.{DeviceDid, did_load, held_at, HomeTold, MayBring, no_held, notes_of, out_at, OutTold, put, put_at, ReturnTold}
+use Rattle.vm_rule.specs.Prelude.{seat_of, ShiftTold, Stored, words_held}
 use Rattle.vm_rule.specs.declared.view.Held.{Held}
-use Rattle.vm_rule.specs.declared.view.Out.{Out}
 use Rattle.vm_rule.specs.declared.view.Place.TheVariants as places
-use Rattle.vm_rule.specs.declared.view.View.{View}
-use Rattle.vm_rule.specs.Puts.{put, put_at}
-use Rattle.vm_rule.specs.Faults.{notes_of}
-use Rattle.vm_rule.specs.Views.{seat_of}
-use Rattle.vm_rule.specs.Rule.{no_held}
-use Rattle.vm_rule.specs.Log.{did_load}
-use Rattle.vm_rule.specs.Mappings.{held_at}
-use Rattle.vm_rule.specs.Slots.{DeviceDid, HomeTold, MayBring, OutTold, ReturnTold, ShiftTold, failed, out_at, read, words_held, wrote}
-use Rattle.vm_step.specs.Asides.{KeepsFrames}
-use Rattle.vm_step.specs.Works.{Works}
+use Rattle.vm_rule.specs.Slots.{failed, read, wrote}
+use Rattle.vm_step.specs.Prelude.{Did, KeepsFrames, Out, View, Works}
 use Rattle.vm_step.proofs.Leaves.{works-one, works-then}
 
 abbrev pub two-loads : ℕ → ℕ → ℕ → List Did
@@ -85,11 +77,6 @@ module _ {X : Type 0} (p : ℕ) where
       record { works = g.works; keeps = g.keeps; known = g.known ∙ ap (λ (h : Held). record h { block = new }) f.known; away = g.away }
 
 -- ---- what a read does
-
--- one fault more, in both spellings
-pub more-is : (count : ℕ) → one_call_more count ≡ count_more count
-unfolding count_more
-more-is count = refl
 
 -- a count that a fault raises is higher, or the last one
 higher : (n : ℕ) → (nat_lt n (count_more n) || count_more n == MAX_COUNT) ≡ true

@@ -1,12 +1,11 @@
 -- The moves of a page's block among more steps: steps that are not on its fault word move it not, in front of others and behind them.
-use Rattle.std.proofs.Common.{ℕ, Bool, true, false, ◌≡◌, ◌≢◌, ◌++◌, List, [], ◌∷◌, None, sym, ap, ◌∙◌, ⊎_elim, inl, inr, append_assoc}
+use Rattle.std.proofs.Common.{[], ⊎_elim, ◌++◌, ◌∙◌, ◌∷◌, ◌≡◌, ◌≢◌, ap, append_assoc, Bool, false, inl, inr, List, None, sym, true, ℕ}
 use Rattle.std.proofs.lemmas.Bool.{false≢true}
-use Rattle.vm_rule.specs.declared.view.Did.{Did}
+use Rattle.vm_rule.specs.Prelude.{Each}
 use Rattle.vm_rule.specs.declared.view.Place.{Place}
 use Rattle.vm_rule.specs.declared.view.Place.TheVariants as places
-use Rattle.vm_rule.specs.Views.{Each}
 use Rattle.vm_rule.proofs.Heard.{each-both}
-use Rattle.vm_step.specs.DeviceCalls.{GoesOnce, IsCalledOnce, StaysHome}
+use Rattle.vm_step.specs.Prelude.{Did, GoesOnce, IsCalledOnce, StaysHome}
 use Rattle.vm_step.proofs.Device.{two-loads}
 
 abbrev pub is-fault : Place → Bool

@@ -1,15 +1,12 @@
 -- Evidence in a longer list of steps, the view after an exchange, and what a look counts of a page.
-use Rattle.std.proofs.Common.{ℕ, ◌≡◌, ◌≢◌, ◌<◌, ◌==◌, ◌++◌, if◌then◌else◌, List, [], ◌∷◌, Option, Some, None, refl, sym, ap, subst, ◌∙◌, arith, eqb, append_assoc}
-use Rattle.std.proofs.lemmas.Bool.{cond-false, cond-true, eq-eqb, ne_eqb}
 use Rattle.std.specs.Option.{option_or}
-use Rattle.vm_core.specs.Words.{state_of}
-use Rattle.vm_rule.specs.declared.view.Did.{Did}
+use Rattle.std.proofs.Common.{[], ◌++◌, ◌<◌, ◌==◌, ◌∙◌, ◌∷◌, ◌≡◌, ◌≢◌, ap, append_assoc, arith, eqb, if◌then◌else◌, List, None, Option, refl, Some}
+use Rattle.std.proofs.Common.{subst, sym, ℕ}
+use Rattle.std.proofs.lemmas.Bool.{cond-false, cond-true, eq-eqb, ne_eqb}
+use Rattle.vm_core.specs.Prelude.{state_of}
+use Rattle.vm_rule.specs.Prelude.{Brings, next_after}
 use Rattle.vm_rule.specs.declared.view.Place.{Place}
-use Rattle.vm_rule.specs.declared.view.View.{View}
-use Rattle.vm_rule.specs.Brought.{Brings}
-use Rattle.vm_rule.specs.Releases.{next_after}
-use Rattle.vm_step.specs.Choices.{IsHeld, first_or}
-use Rattle.vm_step.specs.Evidence.{HasGiven, HasWritten}
+use Rattle.vm_step.specs.Prelude.{Did, first_or, HasGiven, HasWritten, IsHeld, View}
 
 -- ---- evidence in a longer list of steps
 

@@ -1,19 +1,13 @@
 -- Stores of a page's words into a frame of the pass, one after the other: they change the words of that frame alone, and after 64 of them
 -- these are the page's.
-use Rattle.std.proofs.Common.{ℕ, ◌≡◌, ◌<◌, ◌+◌, List, [], ◌∷◌, ◌++◌, length, zero, suc, refl, sym, ap, subst, ◌∙◌, arith, slice_set, slice_index, append_assoc}
+use Rattle.std.proofs.Common.{[], ◌++◌, ◌+◌, ◌<◌, ◌∙◌, ◌∷◌, ◌≡◌, ap, append_assoc, arith, length, List, refl, slice_index, slice_set, subst, suc, sym}
+use Rattle.std.proofs.Common.{zero, ℕ}
 use Rattle.std.proofs.lemmas.List.{length-append}
 use Rattle.vm_core.proofs.Upd.{upd-same}
-use Rattle.vm_rule.specs.declared.view.Did.{Did}
+use Rattle.vm_rule.specs.Prelude.{contents_at, did_store, FillTold, put, put_at}
 use Rattle.vm_rule.specs.declared.view.Place.TheVariants as places
-use Rattle.vm_rule.specs.declared.view.View.{View}
-use Rattle.vm_rule.specs.Puts.{put, put_at}
-use Rattle.vm_rule.specs.Log.{did_store}
-use Rattle.vm_rule.specs.Mappings.{contents_at}
-use Rattle.vm_rule.specs.Stores.{FillTold}
-use Rattle.vm_step.specs.Evidence.{HasWritten}
-use Rattle.vm_step.specs.Works.{Works}
+use Rattle.vm_step.specs.Prelude.{Did, HasWritten, Stores, View, Works}
 use Rattle.vm_step.proofs.Leaves.{works-none, works-one, works-then}
-use Rattle.vm_step.specs.Fills.{Stores}
 
 -- ---- words written over others, from the i-th on
 

@@ -1,19 +1,17 @@
 -- Lists of pages: those that are chosen, those without some, and the pages after a group's changes.
-use Rattle.std.proofs.Common.{◌≡◌, ◌≢◌, ℕ, zero, suc, ◌<◌, ◌≤◌, ◌||◌, Bool, true, false, List, [], ◌∷◌, ◌++◌, refl, sym, ap, ◌∙◌, ⊎_elim, arith, true≢false}
-use Rattle.std.proofs.lemmas.Bool.{false≢true, cases_Bool, cases_eq, eq-eqb, ne_eqb}
+use Rattle.std.proofs.Common.{[], ⊎_elim, ◌++◌, ◌<◌, ◌||◌, ◌∙◌, ◌∷◌, ◌≡◌, ◌≢◌, ◌≤◌, ap, arith, Bool, false, List, refl, suc, sym, true, true≢false}
+use Rattle.std.proofs.Common.{zero, ℕ}
+use Rattle.std.proofs.lemmas.Bool.{cases_Bool, cases_eq, eq-eqb, false≢true, ne_eqb}
 use Rattle.std.proofs.lemmas.Bool.Decides.{nat_tests}
-use Rattle.vm_core.specs.Fn.{upd}
-use Rattle.vm_core.proofs.Upd.{upd-same, upd-other}
-use Rattle.vm_owner.specs.Numbers.{has, without, AreApart}
-use Rattle.vm_owner.specs.Kept.{Change, changed_pages, Agrees, changed}
+use Rattle.vm_core.specs.Prelude.{upd}
+use Rattle.vm_core.proofs.Upd.{upd-other, upd-same}
+use Rattle.vm_owner.specs.Kept.{Agrees, changed}
+use Rattle.vm_rule.specs.Prelude.{Change, changed_pages, has, without}
 pub use Rattle.vm_owner.proofs.NumberLemmas.{has-end, apart-end}
-use Rattle.vm_owner.proofs.NumberLemmas.{has-without, has-without_same, has-without_other}
-use Rattle.vm_rule.specs.Puts.{listed, chosen}
-use Rattle.vm_rule.specs.Views.{Each}
-use Rattle.vm_rule.specs.Releases.{without_all}
-use Rattle.vm_rule.proofs.Facts.{has-both}
-use Rattle.vm_rule.proofs.Parts.{listed-upd, listed-same}
-use Rattle.vm_step.proofs.Logical.{page-listed, length-listed}
+use Rattle.vm_owner.proofs.NumberLemmas.{has-without, has-without_other, has-without_same}
+use Rattle.vm_rule.specs.Prelude.{chosen, Each, listed, without_all}
+use Rattle.vm_rule.proofs.{Facts.has-both, Parts.listed-same, Parts.listed-upd}
+use Rattle.vm_step.proofs.Logical.{length-listed, page-listed}
 
 -- ---- lists of numbers
 

@@ -1,9 +1,7 @@
 -- Frames are held while the pass takes and gives none.
-use Rattle.std.proofs.Common.{ℕ, ◌≡◌, ◌<◌, List, true, sym, subst}
-use Rattle.vm_owner.specs.Numbers.{has}
-use Rattle.vm_rule.specs.declared.view.View.{View}
-use Rattle.vm_rule.specs.Views.{Each}
-use Rattle.vm_step.specs.HeldFrames.{AreHeld}
+use Rattle.std.proofs.Common.{◌<◌, ◌≡◌, List, subst, sym, true, ℕ}
+use Rattle.vm_rule.specs.Prelude.{Each, has}
+use Rattle.vm_step.specs.Prelude.{AreHeld, View}
 
 module _ {X : Type 0} where
   pub held-on : (frames : List ℕ) (v w : View X) → AreHeld frames v → w.start ≡ v.start → w.frames ≡ v.frames → AreHeld frames w

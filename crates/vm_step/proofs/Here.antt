@@ -1,40 +1,17 @@
 -- What a ruled table tells a pass of itself, of a page, and of the page's word as a step finds it.
-use Rattle.std.proofs.Common.{ℕ, ◌≡◌, ◌≢◌, ◌<◌, ◌≤◌, List, [], ◌++◌, length, refl, sym, ap, subst, ◌∙◌, arith, ⊎_elim, slice_index, true, false, Bool, true≢false, Option, Some, None, eq-eqb}
+use Rattle.std.proofs.Common.{[], ⊎_elim, ◌++◌, ◌<◌, ◌∙◌, ◌≡◌, ◌≢◌, ◌≤◌, ap, arith, Bool, eq-eqb, false, length, List, None, Option, refl}
+use Rattle.std.proofs.Common.{slice_index, Some, subst, sym, true, true≢false, ℕ}
 use Rattle.std.proofs.lemmas.Bool.{cases_eq, cases_lt}
-use mathlib.Core.Option.{some}
-use lib.ListN.{get_elem?}
-use Rattle.atomic_table.specs.Table.{State as Table}
-use Rattle.vm_page.specs.Pages.{page_at}
-use Rattle.vm_core.specs.declared.event.Mapping.{Mapping}
-use Rattle.vm_core.specs.declared.event.Open.{Open}
-use Rattle.vm_core.specs.declared.event.Seat.{Seat}
-use Rattle.vm_core.specs.Words.{state_of, version_of, LOCKED, EVICTED}
-use Rattle.vm_core.specs.State.{Page}
-use Rattle.vm_core.specs.StateActs.{is_readable}
-use Rattle.vm_core.specs.FrameActs.{stands_in}
-use Rattle.vm_core.specs.History.{World, Version}
-use Rattle.vm_core.specs.Inv.{ReadInv, LoadsAre, at_page}
+use Rattle.vm_core.specs.Prelude.{at_page, EVICTED, get_elem?, is_readable, LoadsAre, LOCKED, Page, page_at, ReadInv, some, stands_in, state_of}
+use Rattle.vm_core.specs.Prelude.{Version, version_of, World}
 use Rattle.vm_core.proofs.PageFacts.{some-is}
-use Rattle.vm_owner.specs.Kept.{Start, Kept}
-use Rattle.vm_block.specs.declared.stored.Stored.{Stored}
-use Rattle.vm_rule.specs.declared.view.Origin.{Origin}
-use Rattle.vm_rule.specs.declared.view.Shape.{Shape}
-use Rattle.vm_rule.specs.declared.view.Did.{Did}
-use Rattle.vm_rule.specs.declared.view.Tie.{Tie}
+use Rattle.vm_rule.specs.Prelude.{at_state, began_of, Each, HasShape, is_pending, IsOlder, IsSince, IsSinceAll, Kept, last_in, loads_at}
+use Rattle.vm_rule.specs.Prelude.{LockValidates, Mapping, Open, Ruled, Seat, seat_of, Start, Stored, Table, TieHolds, WasWord, WereWords, world_of}
 use Rattle.vm_rule.specs.declared.view.Place.{Place}
 use Rattle.vm_rule.specs.declared.view.Place.TheVariants as places
-use Rattle.vm_rule.specs.declared.view.View.{View}
-use Rattle.vm_rule.specs.Layout.{at_state}
-use Rattle.vm_rule.specs.Views.{Each, seat_of, loads_at}
-use Rattle.vm_rule.specs.Reading.{world_of, last_in}
-use Rattle.vm_rule.specs.Rule.{WasWord, WereWords, TieHolds, began_of, is_pending, Ruled}
-use Rattle.vm_rule.specs.Begun.{HasShape}
-use Rattle.vm_rule.specs.Looks.{IsSince, IsSinceAll, IsOlder}
-use Rattle.vm_rule.specs.Locks.{LockValidates}
-use Rattle.vm_rule.proofs.Entries.{append-none, each-map}
-use Rattle.vm_rule.proofs.Found.{seat-here, loads-here, state-here, version-here}
-use Rattle.vm_rule.proofs.Worlds.{last-is}
-use Rattle.vm_step.specs.Plays.{IsOf}
+use Rattle.vm_rule.proofs.{Entries.append-none, Entries.each-map, Worlds.last-is}
+use Rattle.vm_rule.proofs.Found.{loads-here, seat-here, state-here, version-here}
+use Rattle.vm_step.specs.Prelude.{Did, IsOf, Origin, Shape, Tie, View}
 use Rattle.vm_step.proofs.Logical.{not-pending, tied-now}
 
 -- what is said of the page of a state word

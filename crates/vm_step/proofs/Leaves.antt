@@ -1,35 +1,13 @@
 -- What the steps of a call that speaks of one page leave of a view, and that this holds of several steps in a row.
-use Rattle.std.proofs.Common.{ℕ, Bool, ◌≡◌, ◌≢◌, ◌<◌, ◌++◌, length, List, [], ◌∷◌, Option, refl, sym, ap, subst, ◌∙◌, ⊎_elim, append_assoc}
+use Rattle.std.proofs.Common.{[], ⊎_elim, ◌++◌, ◌<◌, ◌∙◌, ◌∷◌, ◌≡◌, ◌≢◌, ap, append_assoc, Bool, length, List, Option, refl, subst, sym, ℕ}
 use Rattle.std.proofs.lemmas.Bool.{cases_eq}
-use Rattle.atomic_table.specs.Seated.{TableId}
-use Rattle.vm_core.specs.declared.event.Seat.{Seat}
-use Rattle.vm_core.specs.History.{History}
-use Rattle.vm_owner.specs.declared.Entry.{Entry}
-use Rattle.vm_block.specs.declared.stored.Stored.{Stored}
-use Rattle.vm_rule.specs.declared.view.Did.{Did}
+use Rattle.vm_core.specs.Prelude.{History}
+use Rattle.vm_rule.specs.Prelude.{BringsWith, draft_of, Entry, HasShape, held_at, IsLocking, last_in, last_of, loads_at, no_held, put_at, Seat}
+use Rattle.vm_rule.specs.Prelude.{seat_of, StartsWith, Stored, TableId}
 use Rattle.vm_rule.specs.declared.view.Held.{Held}
-use Rattle.vm_rule.specs.declared.view.Origin.{Origin}
-use Rattle.vm_rule.specs.declared.view.Out.{Out}
-use Rattle.vm_rule.specs.declared.view.Note.{Note}
-use Rattle.vm_rule.specs.declared.view.Put.{Put}
-use Rattle.vm_rule.specs.declared.view.Release.{Release}
-use Rattle.vm_rule.specs.declared.view.Shape.{Shape}
-use Rattle.vm_rule.specs.declared.view.Tie.{Tie}
-use Rattle.vm_rule.specs.declared.view.View.{View}
-use Rattle.vm_rule.specs.declared.words.Pass.{Pass}
-use Rattle.vm_rule.specs.Begun.{HasShape}
-use Rattle.vm_rule.specs.Puts.{put_at}
-use Rattle.vm_rule.specs.Views.{StartsWith, IsLocking, seat_of, loads_at, draft_of}
-use Rattle.vm_rule.specs.Reading.{last_in, last_of}
-use Rattle.vm_rule.specs.Rule.{no_held}
-use Rattle.vm_rule.specs.Brought.{BringsWith}
-use Rattle.vm_rule.specs.Mappings.{held_at}
-use Rattle.vm_rule.proofs.Entries.{append-none}
-use Rattle.vm_rule.proofs.Worlds.{last-is, release-else}
-use Rattle.vm_step.specs.Asides.{HoldsPage, IsAside, KnowsAsBefore, StaysAlone}
-use Rattle.vm_step.specs.Passes.{IsSamePass, view}
-use Rattle.vm_step.specs.Works.{LeavesRest, Works}
-use Rattle.vm_step.specs.Ready.{IsReady}
+use Rattle.vm_rule.proofs.{Entries.append-none, Worlds.last-is, Worlds.release-else}
+use Rattle.vm_step.specs.Prelude.{Did, HoldsPage, IsAside, IsReady, IsSamePass, KnowsAsBefore, LeavesRest, Note, Origin, Out, Pass, Put, Release}
+use Rattle.vm_step.specs.Prelude.{Shape, StaysAlone, Tie, View, view, Works}
 use Rattle.vm_step.proofs.Alone.{runs-one, runs-self, runs-then}
 
 -- what begins with what begins with it

@@ -1,18 +1,10 @@
 -- The logical words of pages, as the layer above knows them: of a page that is not locked they are its last words.
-use Rattle.std.proofs.Common.{ℕ, ◌≡◌, ◌≢◌, ◌<◌, Option, List, length, zero, suc, refl, sym, ap, subst, ◌∙◌, arith, ⊎_elim, true, false, Bool}
+use Rattle.std.proofs.Common.{⊎_elim, ◌<◌, ◌∙◌, ◌≡◌, ◌≢◌, ap, arith, Bool, false, length, List, Option, refl, subst, suc, sym, true, zero, ℕ}
 use Rattle.std.proofs.lemmas.Bool.{cases_Bool}
-use Rattle.atomic_table.specs.Table.{State as Table}
-use Rattle.vm_page.specs.Pages.{page_at}
-use Rattle.vm_core.specs.Words.{LOCKED}
-use Rattle.vm_core.specs.History.{History}
-use Rattle.vm_owner.specs.Kept.{Start, Kept}
-use Rattle.vm_block.specs.declared.stored.Stored.{Stored}
-use Rattle.vm_rule.specs.declared.view.Origin.{Origin}
-use Rattle.vm_rule.specs.declared.view.View.{View}
-use Rattle.vm_rule.specs.Puts.{listed}
-use Rattle.vm_rule.specs.Reading.{core_shown, world_of}
-use Rattle.vm_rule.specs.Rule.{logical, is_pending, began_of, kept_of, Ruled}
+use Rattle.vm_core.specs.Prelude.{History, LOCKED, page_at}
+use Rattle.vm_rule.specs.Prelude.{began_of, core_shown, is_pending, Kept, kept_of, listed, logical, Ruled, Start, Stored, Table, world_of}
 use Rattle.vm_rule.proofs.Facts.{locked-here, pending-held}
+use Rattle.vm_step.specs.Prelude.{Origin, View}
 
 pub page-listed : (n : ℕ) (f : ℕ → List ℕ) (k : ℕ) → k < n → page_at (listed n f) k ≡ f k
 unfolding listed

@@ -1,14 +1,9 @@
 -- What two passes have that met.
-use Rattle.std.proofs.Common.{ℕ, ◌<◌, false, ◌≡◌, List, [], ◌++◌, length, refl, sym, ap, subst, ◌∙◌}
-use Rattle.vm_rule.specs.declared.view.View.{View}
-use Rattle.vm_rule.specs.Hearing.{OnlyKnows, hearer, TakesOver}
-use Rattle.vm_rule.specs.Joins.{CaughtUp, giver, newcomer}
-use Rattle.vm_rule.specs.Views.{StartsWith, Hears}
+use Rattle.std.proofs.Common.{◌++◌, ◌∙◌, ◌≡◌, ap, false, subst, sym}
+use Rattle.vm_rule.specs.Prelude.{CaughtUp, giver, hearer, Hears, newcomer, StartsWith, TakesOver}
 use Rattle.vm_rule.proofs.Entries.{append-none}
-use Rattle.vm_step.specs.Meeting.{Meets}
-use Rattle.vm_step.specs.Still.{HasStill}
-use Rattle.vm_step.proofs.Still.{heard-still, followed-still}
-use Rattle.vm_step.proofs.Together.{caught-heard}
+use Rattle.vm_step.specs.Prelude.{HasStill, Meets, View}
+use Rattle.vm_step.proofs.{Still.followed-still, Still.heard-still, Together.caught-heard}
 
 module _ {X : Type 0} where
   -- a pass that was told, and then was brought up to date: both lists go on from what it was told
@@ -44,7 +39,3 @@ module _ {X : Type 0} where
   meets-then v w w' n x x' m y kept given told kept' given' follows =
       subst (λ u. Meets v w u y) (sym kept')
       (meets v w x y (subst (λ u. CaughtUp (hearer v u) x) given told) (subst (λ u. TakesOver (hearer u (newcomer false x)) y) kept (subst (λ u. TakesOver (hearer w' u) y) given' follows)))
-
-  -- a pass that was split off without a part only knows
-  pub only-knows : (v n : View X) → n ≡ newcomer false v → OnlyKnows n
-  only-knows v n e = subst OnlyKnows (sym e) (record { used = refl; fresh = refl; notes = refl })

@@ -1,23 +1,12 @@
 -- What the rule says of the pages that a pass holds exclusively: where they stand, what is known of them, and that no other view says a thing of them.
-use Rattle.std.proofs.Common.{ℕ, ◌≡◌, ◌≢◌, ◌<◌, ◌≤◌, List, refl, sym, ap, ◌∙◌, ⊎_elim, slice_set, true, false, true≢false, Bool, Option, Some, None}
-use Rattle.std.proofs.lemmas.Bool.{false≢true, cases_Bool, cases_lt, le-ltb}
-use mathlib.Core.Option.{some, some-injective}
-use lib.ListN.{get_elem?}
-use Rattle.atomic_table.specs.Table.{State as Table}
+use Rattle.std.proofs.Common.{⊎_elim, ◌<◌, ◌∙◌, ◌≡◌, ◌≢◌, ◌≤◌, ap, Bool, false, List, None, Option, refl, slice_set, Some, sym, true, true≢false, ℕ}
+use Rattle.std.proofs.lemmas.Bool.{cases_Bool, cases_lt, false≢true, le-ltb}
 use Rattle.atomic_table.proofs.Lists.{at_set}
-use Rattle.vm_core.specs.declared.event.Mapping.{Mapping}
-use Rattle.vm_core.specs.Start.{outside_page}
-use Rattle.vm_core.specs.State.{Page}
-use Rattle.vm_owner.specs.Kept.{Start, Kept}
-use Rattle.vm_owner.specs.Numbers.{has}
-use Rattle.vm_block.specs.declared.stored.Stored.{Stored}
-use Rattle.vm_rule.specs.declared.view.Origin.{Origin}
-use Rattle.vm_rule.specs.declared.view.View.{View}
-use Rattle.vm_rule.specs.Puts.{put_at}
-use Rattle.vm_rule.specs.Views.{any, seat_of, may_call, spent}
-use Rattle.vm_rule.specs.Reading.{pages_from, core_shown}
-use Rattle.vm_rule.specs.Rule.{no_held, is_pending, is_owed, Ruled}
+use Rattle.vm_core.specs.Prelude.{get_elem?, outside_page, Page, some, some-injective}
+use Rattle.vm_rule.specs.Prelude.{any, core_shown, has, is_owed, is_pending, Kept, Mapping, may_call, no_held, pages_from, put_at, Ruled, seat_of}
+use Rattle.vm_rule.specs.Prelude.{spent, Start, Stored, Table}
 use Rattle.vm_rule.proofs.Facts.{any-true, caller-here}
+use Rattle.vm_step.specs.Prelude.{Origin, View}
 
 module _ {X B : Type 0} (stored : B → Stored) (keeps : Start → Kept X → Type 0) (tied : Start → ℕ → List ℕ → ℕ → List ℕ → Type 0) (start : Origin) (tells : Bool) (s : Table (Option B) (View X)) (r : Ruled stored keeps tied start tells s) (id : ℕ) (v : View X) (there : get_elem? s.views id ≡ some v) (live : v.live ≡ true) where
   -- past the last page stands a page that is always the same

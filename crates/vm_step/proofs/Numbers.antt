@@ -1,11 +1,9 @@
 -- The pages from a number on, and a claim of them.
-use Rattle.std.proofs.Common.{ℕ, zero, suc, ◌≡◌, ◌+◌, ◌<◌, ◌≤◌, ◌||◌, Bool, true, false, List, [], ◌∷◌, ◌++◌, refl, sym, ap, ◌∙◌, ⊎_elim, arith, replicate, slice_index, length, eqb}
-use Rattle.std.proofs.Math.ListN.{get_or-eq_default}
-use Rattle.std.proofs.lemmas.Bool.{false≢true, cases_eq, cases_lt, eq-eqb, ne_eqb}
+use Rattle.std.proofs.Common.{[], ⊎_elim, ◌++◌, ◌+◌, ◌<◌, ◌||◌, ◌∙◌, ◌∷◌, ◌≡◌, ◌≤◌, ap, arith, replicate, slice_index, suc, sym, true, zero, ℕ}
+use Rattle.std.proofs.lemmas.Bool.{cases_eq, cases_lt, eq-eqb, false≢true, ne_eqb}
 use Rattle.std.proofs.lemmas.List.{get_or-replicate, length-replicate}
-use Rattle.vm_owner.specs.Kept.{Kept, claimed}
-use Rattle.vm_owner.specs.Numbers.{has}
-use Rattle.vm_rule.specs.Views.{numbers}
+use Rattle.std.proofs.Math.ListN.{get_or-eq_default}
+use Rattle.vm_rule.specs.Prelude.{claimed, has, Kept, numbers}
 
 -- the list has the numbers from x on, n of them
 pub has-numbers : (n x p : ℕ) → has p (numbers x n) ≡ true → (x ≤ p) × (p < x + n)

@@ -1,10 +1,10 @@
 -- The pages owed, by rising number: a claim adds its pages at the end, and a release takes its pages out.
-use Rattle.std.proofs.Common.{◌≡◌, ◌≢◌, ℕ, zero, suc, ◌+◌, ◌<◌, ◌≤◌, ◌==◌, ◌||◌, Bool, true, false, List, [], ◌∷◌, ◌++◌, if◌then◌else◌, refl, sym, ap, ◌∙◌, ⊎_elim, arith}
-use Rattle.std.proofs.lemmas.Bool.{cases_Bool, cases_eq, cases_lt, eq-eqb, ne_eqb}
-use Rattle.vm_owner.specs.Numbers.{has, without}
+use Rattle.std.proofs.Common.{[], ⊎_elim, ◌++◌, ◌+◌, ◌<◌, ◌==◌, ◌||◌, ◌∙◌, ◌∷◌, ◌≡◌, ◌≢◌, ◌≤◌, ap, arith, Bool, false, if◌then◌else◌, List, refl, suc}
+use Rattle.std.proofs.Common.{sym, true, zero, ℕ}
+use Rattle.std.proofs.lemmas.Bool.{cases_eq, cases_lt, eq-eqb, ne_eqb}
+use Rattle.vm_owner.specs.Kept.{owed_after}
 use Rattle.vm_owner.proofs.NumberLemmas.{without-both}
-use Rattle.vm_owner.specs.Kept.{Kept, Change, changed_pages, owed_after, claimed}
-use Rattle.vm_rule.specs.Puts.{chosen}
+use Rattle.vm_rule.specs.Prelude.{Change, changed_pages, chosen, claimed, has, Kept, without}
 use Rattle.vm_rule.proofs.Entries.{append-none}
 use Rattle.vm_step.proofs.Groups.{chosen-same}
 

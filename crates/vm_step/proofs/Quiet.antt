@@ -1,35 +1,16 @@
 -- A step that releases no page and says nothing: the layer above sees nothing of it, so it shows little more than what the pass knows of pages
 -- and of the frames that it holds.
-use Rattle.std.proofs.Common.{ℕ, ◌≡◌, ◌<◌, ◌≤◌, Bool, List, [], ◌++◌, length, refl, sym, ap, subst, ◌∙◌, inl, slice_set, true, true≢false, Option, Some}
+use Rattle.std.proofs.Common.{[], ◌++◌, ◌<◌, ◌∙◌, ◌≡◌, ◌≤◌, ap, Bool, inl, length, List, Option, refl, slice_set, Some, subst, sym, true, true≢false}
+use Rattle.std.proofs.Common.{ℕ}
 use mathlib.Core.Path.{fun_ext}
-use mathlib.Core.Option.{some}
-use lib.ListN.{get_elem?}
-use Rattle.atomic_table.specs.Table.{State as Table}
-use Rattle.vm_core.specs.declared.event.Event.{Event}
-use Rattle.vm_core.specs.declared.event.Seat.{Seat}
-use Rattle.vm_core.specs.Step.{Legal}
-use Rattle.vm_core.specs.History.{World, world_after}
-use Rattle.vm_owner.specs.Kept.{Start, Kept}
-use Rattle.vm_owner.specs.Numbers.{has}
-use Rattle.vm_block.specs.declared.stored.Stored.{Stored}
-use Rattle.vm_rule.specs.declared.view.Did.{Did}
+use Rattle.vm_core.specs.Prelude.{get_elem?, Legal, some, World, world_after}
+use Rattle.vm_rule.specs.Prelude.{ArePlain, began_of, chosen, core_shown, draft_of, Each, Event, has, histories_of, index_of, is_owed, is_pending}
+use Rattle.vm_rule.specs.Prelude.{IsFoundAt, Kept, kept_of, KnowsPage, KnowsPages, listed, logical, may_call, no_held, put_at, Ruled, Seat, seat_of}
+use Rattle.vm_rule.specs.Prelude.{Start, Stored, Table, TranslationHolds, width, Within, world_of}
 use Rattle.vm_rule.specs.declared.view.Held.{Held}
-use Rattle.vm_rule.specs.declared.view.Origin.{Origin}
-use Rattle.vm_rule.specs.declared.view.Out.{Out}
-use Rattle.vm_rule.specs.declared.view.Put.{Put}
-use Rattle.vm_rule.specs.declared.view.Translation.{Translation}
-use Rattle.vm_rule.specs.declared.view.View.{View}
-use Rattle.vm_rule.specs.Puts.{put_at, listed, chosen}
-use Rattle.vm_rule.specs.Layout.{Within, index_of, width}
-use Rattle.vm_rule.specs.Views.{Each, seat_of, draft_of, may_call}
-use Rattle.vm_rule.specs.Reading.{core_shown, world_of, histories_of}
-use Rattle.vm_rule.specs.Rule.{KnowsPage, KnowsPages, no_held, TranslationHolds, began_of, logical, is_pending, is_owed, kept_of, ArePlain, Ruled}
-use Rattle.vm_rule.specs.Brought.{IsFoundAt}
-use Rattle.vm_rule.proofs.Entries.{append-none}
-use Rattle.vm_rule.proofs.Facts.{any-here}
-use Rattle.vm_rule.proofs.Views.{any-same}
-use Rattle.vm_rule.proofs.Worlds.{draft-is, last-same}
-use Rattle.vm_rule.proofs.Adding.{became, after_step, Shows}
+use Rattle.vm_rule.proofs.{Entries.append-none, Facts.any-here, Views.any-same, Worlds.draft-is, Worlds.last-same}
+use Rattle.vm_rule.proofs.Adding.{after_step, became, Shows}
+use Rattle.vm_step.specs.Prelude.{Did, Origin, Out, Put, Translation, View}
 use Rattle.vm_step.proofs.Logical.{logical-same}
 
 module _ {X : Type 0} where

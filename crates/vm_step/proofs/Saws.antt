@@ -1,11 +1,12 @@
 -- The evidence of a call that looks at a page's word, and then loses an exchange on it.
-use Rattle.std.proofs.Common.{ℕ, ◌≡◌, ◌≢◌, ◌⊎◌, [], ◌∷◌, Some, refl, ap, inr, eqb, ⊎_elim}
-use Rattle.std.proofs.lemmas.Bool.{ne_eqb, cond-false}
+use Rattle.std.proofs.Common.{[], ⊎_elim, ◌∷◌, ◌≡◌, ◌≢◌, ◌⊎◌, ap, eqb, inr, refl, Some, ℕ}
+use Rattle.std.proofs.lemmas.Bool.{cond-false, ne_eqb}
 use Rattle.std.proofs.lemmas.Option.{none-some}
+use Rattle.vm_rule.specs.Prelude.{did_exchange, did_load}
 use Rattle.vm_rule.specs.declared.view.Place.TheVariants as places
-use Rattle.vm_rule.specs.Log.{did_load, did_exchange}
+use Rattle.vm_step.specs.Prelude.{HasGiven, IsSaw, NoWord}
 use Rattle.vm_step.specs.declared.saw.At.TheVariants as ats
-use Rattle.vm_step.specs.Evidence.{HasGiven, IsSaw, NoWord, expected, read}
+use Rattle.vm_step.specs.Evidence.{expected, read}
 
 -- the one step gave the word
 abbrev pub one-given : (p word : ℕ) → HasGiven (did_load (places.State p) word ∷ []) (places.State p) word

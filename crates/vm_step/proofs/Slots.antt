@@ -1,45 +1,202 @@
--- The moves of a page's slot that change no block: the slot is taken with the block in it; the empty slot of a block that is out goes home, and
--- is taken again.
-use Rattle.std.proofs.Common.{ℕ, ◌≡◌, ◌≢◌, ◌<◌, ◌≤◌, ◌||◌, Bool, List, [], length, refl, sym, ap, subst, ◌∙◌, inr, ⊎_elim, slice_index, slice_set, true, false, Option, Some, None, IsSome, length-set}
-use Rattle.std.proofs.lemmas.Bool.{cases_eq, cases_Bool}
-use mathlib.Core.Path.{fun_ext}
+-- The moves of a page's slot: the slots, and the blocks that are read from them; what a move shows of itself that changes no block, or brings one home.
+use Rattle.std.proofs.Common.{[], ⊎_elim, ◌++◌, ◌<◌, ◌||◌, ◌∙◌, ◌∷◌, ◌≡◌, ◌≢◌, ◌≤◌, ◌⊎◌, ap, arith, Bool, eq-eqb, eqb, false, inl, inr, IsSome}
+use Rattle.std.proofs.Common.{length, length-set, List, ne_eqb, None, Option, refl, slice_index, slice_set, Some, subst, suc, sym, true, true≢false}
+use Rattle.std.proofs.Common.{zero, ℕ}
+use Rattle.std.proofs.lemmas.Bool.{cases_Bool, cases_eq}
 use mathlib.Core.Option as maybe
-use mathlib.Core.Option.{some, some-injective}
-use lib.ListN.{get_elem?}
-use Rattle.atomic_table.specs.Table.{State as Table}
-use Rattle.atomic_table.proofs.Lists.{at_set}
+use mathlib.Core.Path.{fun_ext}
+use Rattle.atomic_table.proofs.Lists.{at_set as list-set}
+use Rattle.vm_core.specs.Prelude.{at, block_after, count_more, get_elem?, Inv, LOCKED, MayCall, on_page, Page, some, some-injective, State, upd}
+use Rattle.vm_core.specs.Prelude.{Version, World}
 use Rattle.vm_core.specs.declared.event.Event.TheVariants.{NLoad}
-use Rattle.vm_core.specs.declared.event.Seat.{Seat}
-use Rattle.vm_core.specs.Fn.{at}
-use Rattle.vm_core.specs.History.{Version}
-use Rattle.vm_core.proofs.PageFacts.{some-same, none-some}
-use Rattle.vm_laws_others.specs.Leaves.{Leaves}
+use Rattle.vm_core.proofs.{At.at_set, Upd.upd-other, Upd.upd-same}
+use Rattle.vm_core.proofs.PageFacts.{none-some, some-is, some-same}
 use Rattle.vm_laws_others.proofs.Laws.{leave_others}
-use Rattle.vm_owner.specs.Kept.{Start, Kept}
-use Rattle.vm_block.specs.declared.stored.Stored.{Stored}
-use Rattle.vm_rule.specs.declared.view.Did.{Did}
-use Rattle.vm_rule.specs.declared.view.Origin.{Origin}
-use Rattle.vm_rule.specs.declared.view.Out.{Out}
+use Rattle.vm_rule.specs.Prelude.{ArePlain, began_of, block_of, BlocksFit, Brings, chosen, core_from, core_shown, DeviceDid, did_load, FaultsFit}
+use Rattle.vm_rule.specs.Prelude.{frames_held, has, held_at, histories_of, home, index_of, is_owed, is_pending, IsFoundAt, Kept, kept_of, known}
+use Rattle.vm_rule.specs.Prelude.{KnowsPage, KnowsPages, Leaves, listed, logical, Mapping, may_call, no_held, out_at, out_of, out_or, put, put_at}
+use Rattle.vm_rule.specs.Prelude.{ReturnTold, Ruled, Seat, seat_of, seats_of, ShiftTold, slot_of, SlotTold, Start, Stored, Table, table_words, width}
+use Rattle.vm_rule.specs.Prelude.{Within, words_held, world_of}
+use Rattle.vm_rule.specs.{declared.view.Held.Held, Reading.at_home}
 use Rattle.vm_rule.specs.declared.view.Place.TheVariants as places
-use Rattle.vm_rule.specs.declared.view.View.{View}
-use Rattle.vm_rule.specs.Puts.{listed}
-use Rattle.vm_rule.specs.Layout.{index_of, table_words}
-use Rattle.vm_rule.specs.Views.{seat_of, may_call}
-use Rattle.vm_rule.specs.Reading.{home, at_home, known, out_of, out_or, block_of, core_from, core_shown, seats_of, frames_held, world_of}
-use Rattle.vm_rule.specs.Rule.{slot_of, BlocksFit, KnowsPages, is_pending, Ruled}
-use Rattle.vm_rule.specs.Brought.{Brings}
-use Rattle.vm_rule.specs.Log.{did_load}
-use Rattle.vm_rule.specs.Slots.{out_at, out_view, IsBlockOf, SlotTold, ShiftTold, words_held, DeviceDid}
-use Rattle.vm_rule.specs.Slots.DeviceDid.{idle, read, wrote, failed}
-use Rattle.vm_rule.proofs.Adding.{after_more, became_more, faults-still}
-use Rattle.vm_rule.proofs.Bringing.{steps_more}
-use Rattle.vm_rule.proofs.Cores.{seats-still, held-still}
-use Rattle.vm_rule.proofs.Facts.{caller-here}
-use Rattle.vm_rule.proofs.Found.{seat-here, block-here}
-use Rattle.vm_rule.proofs.Views.{at-bound}
-use Rattle.vm_step.proofs.DeviceSteps.{device-shows}
-use Rattle.vm_step.proofs.Here.{last-told}
-use Rattle.vm_step.proofs.Homes.{home-is, slot-here, slot-else, out-of_page, out-else, out-new, out-none, out-is}
+use Rattle.vm_rule.specs.Slots.{home_view, IsBlockOf, out_view}
+use Rattle.vm_rule.specs.Slots.DeviceDid.{failed, idle, read, wrote}
+use Rattle.vm_rule.proofs.{Bringing.steps_more, Entries.append-none, Found.block-here, Found.seat-here, Parts.listed-upd, Parts.upd-is}
+use Rattle.vm_rule.proofs.{Views.any-same, Views.at-bound, Worlds.draft-is}
+use Rattle.vm_rule.proofs.Adding.{after_more, became_more, faults-still, ShowsMore}
+use Rattle.vm_rule.proofs.Calls.{called, called-inv, called-left, IsCalled}
+use Rattle.vm_rule.proofs.Cores.{core-block, held-still, loads-still, seats-still}
+use Rattle.vm_rule.proofs.Facts.{caller-here, locked-here, shared-here}
+use Rattle.vm_step.specs.Prelude.{Did, Note, Origin, Out, Put, View}
+use Rattle.vm_step.proofs.{Fit.fit, Here.last-told}
+
+-- an element in range, by its function
+pub get-at : {A : Type 0} (d : A) (l : List A) (i : ℕ) (a : A) → i < length l → at d l i ≡ a → get_elem? l i ≡ some a
+unfolding at
+get-at d [] i a lt e = absurd (omega arith)
+get-at d (x ∷ xs) zero a lt e = ap some e
+get-at d (x ∷ xs) (suc i) a lt e = get-at d xs i a (omega arith) e
+
+module _ {B : Type 0} where
+  pub home-is : (x : maybe.Option (Option B)) → IsSome (at_home x) → (b : B) × (x ≡ some (Some b))
+  home-is maybe.none h = absurd cc
+  home-is (maybe.some None) h = absurd cc
+  home-is (maybe.some (Some b)) h = (b, refl)
+
+  -- the slot p now
+  pub slot-here : (homes : List (maybe.Option (Option B))) (p : ℕ) (x : maybe.Option (Option B)) → p < length homes → at maybe.none (slice_set homes p x) p ≡ x
+  slot-here homes p x l = ap (λ f. f p) (at_set maybe.none homes p x l) ∙ upd-same (at maybe.none homes) p x
+
+  pub slot-else : (homes : List (maybe.Option (Option B))) (p q : ℕ) (x : maybe.Option (Option B)) → p < length homes → q ≢ p → at maybe.none (slice_set homes p x) q ≡ at maybe.none homes q
+  slot-else homes p q x l ne = ap (λ f. f q) (at_set maybe.none homes p x l) ∙ upd-other (at maybe.none homes) p x q ne
+
+-- a block of another page
+pub out-of_page : (o : Out) (p : ℕ) (d : Option Stored) → p ≢ o.page → out_or (Some o) p d ≡ d
+out-of_page o p d ne = rw (ne_eqb o.page p (λ e. ne (sym e))) refl
+
+pub out-at_page : (o : Out) (d : Option Stored) → out_or (Some o) o.page d ≡ Some o.block
+out-at_page o d = rw (eq-eqb o.page o.page refl) refl
+
+-- nothing is out, so not this
+none-before : (x : Option Out) (p : ℕ) (d : Option Stored) → out_or x p d ≡ None → (d ≡ None) × ((d' : Option Stored) → out_or x p d' ≡ d')
+none-before None p d e = (e, λ _. refl)
+none-before (Some o) p d e =
+    ⊎_elim (λ t. absurd (let h : out_or (Some o) p d ≡ Some o.block = rw t refl in cc)) (λ f. ((let h : out_or (Some o) p d ≡ d = rw f refl in sym h ∙ e), λ d'. rw f refl)) (cases_Bool (eqb o.page p))
+
+not-here : (x : Option Out) (p : ℕ) (d : Option Stored) → ((o : Out) → x ≡ Some o → o.page ≢ p) → d ≡ None → out_or x p d ≡ None
+not-here None p d k e = e
+not-here (Some o) p d k e = rw (ne_eqb o.page p (k o refl)) e
+
+passes-by : (x : Option Out) (p : ℕ) (d : Option Stored) → ((o : Out) → x ≡ Some o → o.page ≢ p) → out_or x p d ≡ d
+passes-by None p d k = refl
+passes-by (Some o) p d k = rw (ne_eqb o.page p (k o refl)) refl
+
+module _ {X : Type 0} where
+  -- what is out of another page stays
+  pub out-else : (views : List (View X)) (id : ℕ) (v w : View X) (p : ℕ) → get_elem? views id ≡ some v → ((d : Option Stored) → out_or w.out p d ≡ out_or v.out p d) → out_of (slice_set views id w) p ≡ out_of views p
+  out-else [] id v w p e same = refl
+  out-else (x ∷ xs) zero v w p e same = same (out_of xs p) ∙ ap (λ (y : View X). out_or y.out p (out_of xs p)) (sym (some-injective x v e))
+  out-else (x ∷ xs) (suc id) v w p e same = ap (out_or x.out p) (out-else xs id v w p e same)
+
+  -- the block that a pass has taken out, where nobody had it out
+  pub out-new : (views : List (View X)) (id : ℕ) (v w : View X) (o : Out) → get_elem? views id ≡ some v → w.out ≡ Some o → out_of views o.page ≡ None → out_of (slice_set views id w) o.page ≡ Some o.block
+  out-new [] id v w o e new none = absurd (maybe.some-ne-none v (sym e))
+  out-new (x ∷ xs) zero v w o e new none = ap (λ y. out_or y o.page (out_of xs o.page)) new ∙ out-at_page o (out_of xs o.page)
+  out-new (x ∷ xs) (suc id) v w o e new none =
+      let k = none-before x.out o.page (out_of xs o.page) none in k.1 (out_of (slice_set xs id w) o.page) ∙ out-new xs id v w o e new k.0
+
+  -- no view has it out
+  pub out-none : (views : List (View X)) (p : ℕ) → ((j : ℕ) (u : View X) (o : Out) → get_elem? views j ≡ some u → u.out ≡ Some o → o.page ≢ p) → out_of views p ≡ None
+  out-none [] p k = refl
+  out-none (x ∷ xs) p k = not-here x.out p (out_of xs p) (λ o e. k 0 x o refl e) (out-none xs p (λ j u o e. k (suc j) u o e))
+
+  -- the block that the one pass has out
+  pub out-is : (views : List (View X)) (id : ℕ) (v : View X) (o : Out) → get_elem? views id ≡ some v → v.out ≡ Some o → ((j : ℕ) (u : View X) (o' : Out) → j ≢ id → get_elem? views j ≡ some u → u.out ≡ Some o' → o'.page ≢ o.page) → out_of views o.page ≡ Some o.block
+  out-is [] id v o e x k = absurd (maybe.some-ne-none v (sym e))
+  out-is (y ∷ ys) zero v o e x k = ap (λ (z : View X). out_or z.out o.page (out_of ys o.page)) (some-injective y v e) ∙ ap (λ z. out_or z o.page (out_of ys o.page)) x ∙ out-at_page o (out_of ys o.page)
+  out-is (y ∷ ys) (suc id) v o e x k =
+      passes-by y.out o.page (out_of ys o.page) (λ o' e'. k 0 y o' (λ z. absurd (omega arith)) refl e') ∙ out-is ys id v o e x (λ j u o' ne at e'. k (suc j) u o' (λ z. ne (omega arith)) at e')
+
+module _ {X B : Type 0} (stored : B → Stored) (keeps : Start → Kept X → Type 0) (tied : Start → ℕ → List ℕ → ℕ → List ℕ → Type 0) (start : Origin) (tells : Bool) (s : Table (Option B) (View X)) (r : Ruled stored keeps tied start tells s) (id : ℕ) (v : View X) (words : List ℕ) (homes : List (maybe.Option (Option B))) (blocks : List Stored) (did : Did) (out : Option Out) (held : List (Put Held)) (notes : List Note) (core : State) where
+  abbrev inner : View X
+  inner = record v { out = out; held = held; notes = notes }
+
+  abbrev after : View X
+  after = after_more stored keeps tied start tells s r id v words homes blocks r.drafts [] [] did inner
+
+  abbrev new : Table (Option B) (View X)
+  new = became_more stored keeps tied start tells s r id v words homes blocks r.drafts [] [] did inner
+
+  abbrev old : World
+  old = world_of stored start r.releases r.drafts s
+
+  abbrev later : World
+  later = record old { core = core }
+
+  -- what is to be shown of it; `core` is the core that the table shows then
+  pub record ShowsDevice : Type 0 where
+    pub wide : length words ≡ width start
+    pub slots : length homes ≡ start.pages
+    pub spelled : ArePlain start words
+    pub core_is : core_shown stored start new ≡ core
+    pub inv : Inv later
+    pub left : Leaves id old later
+    pub next : core.next ≡ old.core.next
+    pub contents : core.words ≡ old.core.words
+    pub told : listed start.pages (block_of stored homes (slice_set s.views id after)) ≡ blocks
+    pub fit : BlocksFit stored start homes (slice_set s.views id after)
+    pub faults : FaultsFit core.pages (slice_set s.views id after)
+    pub at : Within start did.at
+    pub found : IsFoundAt did.found (index_of start did.at) s.words
+    pub wrote : IsFoundAt did.wrote (index_of start did.at) words
+    pub knows : (q : ℕ) → KnowsPage (seat_of v q) (put_at no_held held q) (core.pages q)
+
+  module _ (there : get_elem? s.views id ≡ some v) (live : v.live ≡ true) (sh : ShowsDevice) where
+    world-is : world_of stored start (r.releases ++ []) r.drafts new ≡ later
+    world-is i = record {
+      core = sh.core_is i;
+      histories = histories_of start (append-none r.releases i) r.drafts;
+      loads = loads-still s.views id v after there refl i;
+    }
+
+    next-stays : (core_shown stored start new).next ≡ old.core.next
+    next-stays = ap (λ (c : State). c.next) sh.core_is ∙ sh.next
+
+    last-stays : (q : ℕ) → (histories_of start (r.releases ++ []) r.drafts q).last.words ≡ (histories_of start r.releases r.drafts q).last.words
+    last-stays q = ap (λ l. (histories_of start l r.drafts q).last.words) (append-none r.releases)
+
+    pending-stays : is_pending (slice_set s.views id after) ≡ is_pending s.views
+    pending-stays = fun_ext (λ q. any-same (λ (y : View X). has q y.pending) s.views id v after there refl)
+
+    owed-stays : is_owed (slice_set s.views id after) ≡ is_owed s.views
+    owed-stays = fun_ext (λ q. any-same (λ (y : View X). has q y.owed) s.views id v after there refl)
+
+    kept-stays : kept_of (world_of stored start (r.releases ++ []) r.drafts new) (r.history ++ []) (slice_set s.views id after) ≡ kept_of old r.history s.views
+    kept-stays i = record {
+      pages = listed start.pages (logical (histories_of start (append-none r.releases i) r.drafts) (pending-stays i));
+      next = next-stays i;
+      owed = chosen start.pages (owed-stays i);
+      history = append-none r.history i;
+    }
+
+    pub device-shows : ShowsMore stored keeps tied start tells s r id v words homes blocks r.drafts [] [] did inner
+    device-shows =
+        let k : KnowsPages tied start old (is_pending s.views) v = r.known id v there live in
+        record {
+          wide = sh.wide;
+          slots = sh.slots;
+          spelled = sh.spelled;
+          inv = subst Inv (sym world-is) sh.inv;
+          left = subst (Leaves id old) (sym world-is) sh.left;
+          outside = λ q _. ap (λ (w : World). w.histories q) world-is;
+          told = sh.told;
+          fit = sh.fit;
+          faults = subst (λ (c : State). FaultsFit c.pages (slice_set s.views id after)) (sym sh.core_is) sh.faults;
+          at = sh.at;
+          found = sh.found;
+          wrote = sh.wrote;
+          live = refl;
+          same_start = refl;
+          used = refl;
+          fresh = refl;
+          log = refl;
+          entry = inl refl;
+          mine = sym (append-none v.mine);
+          next_versions = tt;
+          zero = λ t q le l. last-stays q ∙ r.zero t q (subst (λ n. n ≤ q) next-stays le) l;
+          knows = λ q. subst (λ (c : State). KnowsPage (seat_of v q) (put_at no_held held q) (c.pages q)) (sym sh.core_is) (sh.knows q);
+          contents = λ f x. k.contents f x ∙ sym (ap (λ (y : ℕ → List ℕ). y f) (ap (λ (c : State). c.words) sh.core_is ∙ sh.contents));
+          drafted = λ q x. k.drafts q x ∙ draft-is start r.releases r.drafts q;
+          pending = λ q x.
+              let m = k.pending q x in
+              (m.0, λ t past. sym (draft-is start r.releases r.drafts q) ∙ m.1 t (subst (λ n. n ≤ q) next-stays past) ∙ sym (last-stays q));
+          owed = λ q x. let m = k.owed q x in (m.0, m.1, subst (λ n. q < n) (sym next-stays) m.2, m.3);
+          next = λ x e. let m = k.next x e in (m.0, next-stays ∙ m.1);
+          loaded = ([], refl, tt);
+          tying = ([], refl, λ _. tt);
+          members = λ q was gone. absurd (true≢false (sym was ∙ gone));
+          owner = λ t. subst (keeps (began_of start)) (sym kept-stays);
+        }
 
 -- an empty slot, or one that is with a pass, has no block at home
 pub slot-empty : {B : Type 0} (stored : B → Stored) (o : Out) (d : Option Stored) → known stored (at_home (slot_of o)) d ≡ known stored None d
@@ -184,7 +341,7 @@ module _ {X B : Type 0} (stored : B → Stored) (keeps : Start → Kept X → Ty
             subst (λ (y : Out). (y.page < start.pages) × (may_call (seat_of u y.page) ≡ true) × (at maybe.none homes y.page ≡ slot_of y)) is
             (l, subst (λ (y : View X). may_call (seat_of y p) ≡ true) t.1 calls, slot-here s.homes p maybe.none inside))
             (λ (t : (j ≢ id) × (get_elem? s.views j ≡ some u)). let k = r.blocks.away j u o' t.1 x in (k.0, k.1, slot-else s.homes p o'.page maybe.none inside (nobody j u o' t.1 x) ∙ k.2))
-            (at_set s.views id j w u e);
+            (list-set s.views id j w u e);
         home = λ q lq e. ⊎_elim
             (λ here. absurd (none-some (stored b) (sym e ∙ ap (out_of views) here ∙ out-new s.views id v w o there refl empty)))
             (λ ne. subst (λ x. IsSome (at_home x)) (sym (slot-else s.homes p q maybe.none inside ne))
@@ -238,7 +395,7 @@ module _ {X B : Type 0} (stored : B → Stored) (keeps : Start → Kept X → Ty
             subst (λ (y : Out). (y.page < start.pages) × (may_call (seat_of u y.page) ≡ true) × (at maybe.none homes y.page ≡ slot_of y)) is
             (k.0, subst (λ (y : View X). may_call (seat_of y p) ≡ true) t.1 k.1, slot-here s.homes p (slot_of o') inside))
             (λ (t : (j ≢ id) × (get_elem? s.views j ≡ some u)). let a = r.blocks.away j u x t.1 e' in (a.0, a.1, slot-else s.homes p x.page (slot_of o') inside (others j u x t.0 t.1 e') ∙ a.2))
-            (at_set s.views id j w u e);
+            (list-set s.views id j w u e);
         home = λ q lq e. ⊎_elim
             (λ here. absurd (none-some o.block (sym e ∙ ap (out_of views) here ∙ outs p ∙ out-is s.views id v o there out others)))
             (λ ne. subst (λ x. IsSome (at_home x)) (sym (slot-else s.homes p q (slot_of o') inside ne)) (r.blocks.home q lq (sym (outs q) ∙ e)))
@@ -246,3 +403,169 @@ module _ {X B : Type 0} (stored : B → Stored) (keeps : Start → Kept X → Ty
         bounds = λ q lq. ap (λ (y : ℕ → Stored). (y q).bound) same ∙ r.blocks.bounds q lq;
       }) in
       (done.0, record { brings = done.1 })
+
+-- who may call the device holds the page exclusively, or has it under write-back
+either-call : (g : Seat) → may_call g ≡ true → (g.exclusive ≡ true) ⊎ (g.writing ≡ true)
+either-call g e = ⊎_elim (λ t. inl t) (λ f. inr (sym (ap (λ b. b || g.writing) f) ∙ e)) (cases_Bool g.exclusive)
+
+module _ {X B : Type 0} (stored : B → Stored) (keeps : Start → Kept X → Type 0) (tied : Start → ℕ → List ℕ → ℕ → List ℕ → Type 0) (start : Origin) (tells : Bool) (s : Table (Option B) (View X)) (r : Ruled stored keeps tied start tells s) (id : ℕ) (v : View X) (there : get_elem? s.views id ≡ some v) (live : v.live ≡ true) where
+  abbrev world : World
+  world = world_of stored start r.releases r.drafts s
+
+  abbrev page : ℕ → Page
+  page p = world.core.pages p
+
+  mine : KnowsPages tied start world (is_pending s.views) v
+  mine = r.known id v there live
+
+  pub may-call : (p : ℕ) → p < start.pages → may_call (seat_of v p) ≡ true → MayCall (page p) id
+  may-call p l calls = either-call ((page p).seats id) (ap may_call (seat-here stored start s id p v l there) ∙ calls)
+
+  -- a page that has a frame and may be called has in its frame the words that the pass knows
+  pub frame-held : (p : ℕ) (m : Mapping) → p < start.pages → may_call (seat_of v p) ≡ true → start.tells ≡ true → (page p).trans ≡ Some m → words_held v p ≡ world.core.words m.frame
+  frame-held p m l calls t e =
+      let words = (r.inv.pages p).contents t in
+      ⊎_elim
+      (λ owns. rw owns (mine.drafts p owns ∙ sym (words.draft (locked-here stored start s id p v (r.inv.pages p).locks l there owns) m e)))
+      (λ free.
+      let shares : 1 ≤ (seat_of v p).shares = has-share stored keeps tied start tells s r id v there live p l calls free in
+      let below : (page p).state < LOCKED = (shared-here stored start s id p v (r.inv.pages p).locks l there shares).1 in
+      rw free (ap (λ (y : Version). y.words) (mine.latest p (inr shares)) ∙ sym (words.logical (λ locked. absurd (omega (arith, below, locked))) m e)))
+      (cases_Bool (seat_of v p).exclusive)
+
+  -- so a write leaves those words in the block
+  pub written-held : (p : ℕ) → p < start.pages → may_call (seat_of v p) ≡ true → start.tells ≡ true → IsSome (page p).trans → words_held v p ≡ block_after world.core.words (page p).trans (page p).block
+  written-held p l calls t resident =
+      let n : (y : Mapping) × ((page p).trans ≡ Some y) = some-is (page p).trans resident in
+      frame-held p n.0 l calls t n.1 ∙ sym (ap (λ x. block_after world.core.words x (page p).block) n.1)
+
+  -- the block that the pass has out is the page's
+  pub block-out-is : (o : Out) → v.out ≡ Some o → block_of stored s.homes s.views o.page ≡ o.block
+  unfolding block_of
+  block-out-is o out =
+      let k = r.blocks.away id v o there out in
+      ap (λ x. known stored (at_home x) (out_of s.views o.page)) k.2 ∙ slot-empty stored o (out_of s.views o.page)
+      ∙ ap (known stored None) (out-is s.views id v o there out (others-out stored keeps tied start tells s r id v there live o.page k.0 k.1))
+
+  -- what was done to the block is what may be done to the core's page
+  pub is-called : (o : Out) (b : Stored) → v.out ≡ Some o → DeviceDid v o.page o.block b → IsCalled start.tells world.core.words (page o.page) b.count b.words
+  is-called o b out did =
+      let p : ℕ = o.page in
+      let k = r.blocks.away id v o there out in
+      let here = block-here stored start s p k.0 in
+      let is : block_of stored s.homes s.views p ≡ o.block = block-out-is o out in
+      let words : (page p).block ≡ o.block.words = here.0 ∙ ap (λ (y : Stored). y.words) is in
+      let count : (page p).count ≡ o.block.count = here.1 ∙ ap (λ (y : Stored). y.count) is in
+      let knows = (mine.knows p).calls k.1 in
+      let t' : start.tells ≡ true → v.start.tells ≡ true = λ t. ap (λ (y : Origin). y.tells) (r.heard id v there live).same_start ∙ t in
+      cases did words count knows t' k.0 k.1
+    where
+      cases : {p : ℕ} → {old : Stored} → DeviceDid v p old b → (page p).block ≡ old.words → (page p).count ≡ old.count
+          → ((held_at v p).mapping ≡ (page p).trans) × ((held_at v p).fault ≡ (page p).fault) × ((held_at v p).block.words ≡ (page p).block) × ((held_at v p).block.count ≡ (page p).count)
+          → (start.tells ≡ true → v.start.tells ≡ true) → p < start.pages → may_call (seat_of v p) ≡ true
+          → IsCalled start.tells world.core.words (page p) b.count b.words
+      cases (idle same) words count knows t' l calls = record { contents = λ t. inl (ap (λ (y : Stored). y.words) same ∙ sym words); counts = inl (ap (λ (y : Stored). y.count) same ∙ sym count) }
+      cases (read _ w c _ _) words count knows t' l calls = record { contents = λ t. inl (w (t' t) ∙ sym words); counts = inl (c ∙ sym count) }
+      cases {p} (wrote m w c _ _) words count knows t' l calls =
+          let resident : IsSome (page p).trans = subst IsSome knows.0 m in
+          record { contents = λ t. inr (resident, w (t' t) ∙ written-held p l calls t resident); counts = inl (c ∙ sym count) }
+      cases {p} {old} (failed w c _ _) words count knows t' l calls = record { contents = λ t. inl (w (t' t) ∙ sym words); counts = inr (c ∙ ap count_more (sym count)) }
+
+  -- ---- the block comes home
+
+  abbrev pub home-blocks : ℕ → B → List Stored
+  home-blocks p b = slice_set (listed start.pages (block_of stored s.homes s.views)) p (stored b)
+
+  abbrev pub home-slots : ℕ → B → List (maybe.Option (Option B))
+  home-slots p b = slice_set s.homes p (maybe.some (Some b))
+
+  abbrev home-load : ℕ → Did
+  home-load p = did_load (places.Fault p) (slice_index s.words (index_of start (places.Fault p)))
+
+  abbrev pub home-table : ℕ → B → Table (Option B) (View X)
+  home-table p b = became_more stored keeps tied start tells s r id v s.words (home-slots p b) (home-blocks p b) r.drafts [] [] (home-load p) (home_view p (stored b) v)
+
+  abbrev pub home-after : ℕ → B → View X
+  home-after p b = after_more stored keeps tied start tells s r id v s.words (home-slots p b) (home-blocks p b) r.drafts [] [] (home-load p) (home_view p (stored b) v)
+
+  module _ (o : Out) (b : B) (out : v.out ≡ Some o) where
+    abbrev p : ℕ
+    p = o.page
+
+    abbrev views-after : List (View X)
+    views-after = slice_set s.views id (home-after p b)
+
+    elsewhere : (w : View X) → w.out ≡ None → (q : ℕ) → q ≢ p → out_of (slice_set s.views id w) q ≡ out_of s.views q
+    elsewhere w none q ne = out-else s.views id v w q there (λ d. ap (λ y. out_or y q d) none ∙ sym (out-of_page o q d ne) ∙ ap (λ y. out_or y q d) (sym out))
+
+    inside : p < length s.homes
+    inside = subst (λ m. p < m) (sym r.wide.1) (r.blocks.away id v o there out).0
+
+    -- the page's block is this one now, and every other page's is as it was
+    pub blocks-home : (w : View X) → w.out ≡ None → block_of stored (home-slots p b) (slice_set s.views id w) ≡ upd (block_of stored s.homes s.views) p (stored b)
+    unfolding block_of
+    blocks-home w none = upd-is (block_of stored s.homes s.views) (block_of stored (home-slots p b) (slice_set s.views id w)) p (stored b)
+        (ap (λ x. known stored (at_home x) (out_of (slice_set s.views id w) p)) (slot-here s.homes p (maybe.some (Some b)) inside))
+        (λ q ne. ap (λ x. known stored (at_home x) (out_of (slice_set s.views id w) q)) (slot-else s.homes p q (maybe.some (Some b)) inside ne) ∙ ap (known stored (home s.homes q)) (elsewhere w none q ne))
+
+    fit-home : (stored b).bound ≡ o.block.bound → BlocksFit stored start (home-slots p b) views-after
+    fit-home bound =
+        let k = r.blocks.away id v o there out in
+        record {
+          away = λ j u o' e x. ⊎_elim
+              (λ (t : (j ≡ id) × (home-after p b ≡ u)). absurd (none-some o' (ap (λ (y : View X). y.out) t.1 ∙ x)))
+              (λ (t : (j ≢ id) × (get_elem? s.views j ≡ some u)).
+              let a = r.blocks.away j u o' t.1 x in
+              (a.0, a.1, slot-else s.homes p o'.page (maybe.some (Some b)) inside (others-out stored keeps tied start tells s r id v there live p k.0 k.1 j u o' t.0 t.1 x) ∙ a.2))
+              (list-set s.views id j (home-after p b) u e);
+          home = λ q lq e. ⊎_elim
+              (λ here. subst (λ x. IsSome (at_home x)) (sym (ap (at maybe.none (home-slots p b)) here ∙ slot-here s.homes p (maybe.some (Some b)) inside)) refl)
+              (λ ne. subst (λ x. IsSome (at_home x)) (sym (slot-else s.homes p q (maybe.some (Some b)) inside ne)) (r.blocks.home q lq (sym (elsewhere (home-after p b) refl q ne) ∙ e)))
+              (cases_eq q p);
+          bounds = λ q lq. ap (λ (y : ℕ → Stored). (y q).bound) (blocks-home (home-after p b) refl) ∙ ⊎_elim
+              (λ here. ap (λ m. (upd (block_of stored s.homes s.views) p (stored b) m).bound) here ∙ ap (λ (y : Stored). y.bound) (upd-same (block_of stored s.homes s.views) p (stored b)) ∙ bound
+              ∙ ap (λ (y : Stored). y.bound) (sym (block-out-is o out)) ∙ r.blocks.bounds p k.0 ∙ ap (at 0 start.bounds) (sym here))
+              (λ ne. ap (λ (y : Stored). y.bound) (upd-other (block_of stored s.homes s.views) p (stored b) q ne) ∙ r.blocks.bounds q lq)
+              (cases_eq q p);
+        }
+
+    -- the core that is read then
+    pub core-home : (w : View X) → w.out ≡ None → w.seats ≡ v.seats → w.frames ≡ v.frames
+        → core_shown stored start (record { words = s.words; homes = home-slots p b; views = slice_set s.views id w }) ≡ on_page world.core p (called (page p) (stored b).count (stored b).words)
+    core-home w none seats frames =
+        core-slots stored start s (home-slots p b) id v w (upd (block_of stored s.homes s.views) p (stored b)) there seats frames (blocks-home w none)
+        ∙ core-block start (length s.views) (table_words start s.words) (block_of stored s.homes s.views) (seats_of s.views) (frames_held s.views) p (stored b) (r.blocks.away id v o there out).0
+
+    pub returns-home : 0 < length v.used → DeviceDid v p o.block (stored b) → (stored b).bound ≡ o.block.bound
+        → Ruled stored keeps tied start tells (home-table p b) × ReturnTold p (stored b) (slice_index s.words (index_of start (places.Fault p))) v (home-after p b)
+    returns-home number did bound =
+        let k = r.blocks.away id v o there out in
+        let h : Held = record (held_at v p) { block = stored b } in
+        let y : Page = called (page p) (stored b).count (stored b).words in
+        let is : IsCalled start.tells world.core.words (page p) (stored b).count (stored b).words = is-called o (stored b) out did in
+        let left = called-left world id p (stored b).count (stored b).words r.inv (may-call p k.0 k.1) is in
+        let done = steps_more stored keeps tied start tells s r id v s.words (home-slots p b) (home-blocks p b) (Some (p, stored b)) r.drafts [] [] (home-load p) (home_view p (stored b) v) there live number refl refl
+        (device-shows stored keeps tied start tells s r id v s.words (home-slots p b) (home-blocks p b) (home-load p) None (put p h v.held) v.notes (on_page world.core p y) there live
+        (record {
+          wide = r.wide.0;
+          slots = length-set s.homes p (maybe.some (Some b)) ∙ r.wide.1;
+          spelled = r.spelled;
+          core_is = core-home (home-after p b) refl refl refl;
+          inv = called-inv world id p (stored b).count (stored b).words r.inv (may-call p k.0 k.1) is;
+          left = left;
+          next = refl;
+          contents = refl;
+          told = ap (listed start.pages) (blocks-home (home-after p b) refl) ∙ listed-upd start.pages (block_of stored s.homes s.views) p (stored b) k.0;
+          fit = fit-home bound;
+          faults = faults-still stored keeps tied start tells s r id v (home-after p b) (record world { core = on_page world.core p y }) there refl left;
+          at = k.0;
+          found = refl;
+          wrote = tt;
+          knows = λ q. ⊎_elim
+              (λ e. subst (λ m. KnowsPage (seat_of v m) (put_at no_held (put p h v.held) m) (upd world.core.pages p y m)) (sym e)
+              (rw (upd-same world.core.pages p y, upd-same (put_at no_held v.held) p h)
+              (let knows = (mine.knows p).calls k.1 in record { calls = λ _. (knows.0, knows.1, refl, refl); shares = (mine.knows p).shares })))
+              (λ ne. rw (upd-other world.core.pages p y q ne, upd-other (put_at no_held v.held) p h q ne) (mine.knows q))
+              (cases_eq q p);
+        })) in
+        (done.0, record { brings = done.1 })

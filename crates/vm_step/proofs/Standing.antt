@@ -1,19 +1,14 @@
 -- A step of a pass that has begun: what it does to every table that meets the rule it does to every table that stands.
-use Rattle.std.proofs.Common.{ℕ, ◌≡◌, ◌<◌, Bool, true, true≢false, Option, List, [], ◌∷◌, zero, suc, refl, sym, ap, ◌∙◌, subst, inl, ⊎_elim, slice_index, slice_set}
+use Rattle.std.proofs.Common.{[], ⊎_elim, ◌<◌, ◌∙◌, ◌∷◌, ◌≡◌, ap, Bool, inl, List, Option, refl, slice_index, slice_set, subst, suc, sym, true}
+use Rattle.std.proofs.Common.{true≢false, zero, ℕ}
 use mathlib.Core.Option as maybe
-use mathlib.Core.Option.{some, some-injective}
-use lib.ListN.{get_elem?}
-use Rattle.atomic_table.specs.Table.{State as Table, Me, keeps as nothing, Allows}
-use Rattle.vm_owner.specs.Kept.{Start, Kept}
-use Rattle.vm_block.specs.declared.stored.Stored.{Stored}
-use Rattle.vm_rule.specs.declared.view.Origin.{Origin}
-use Rattle.vm_rule.specs.declared.view.Shape.{Shape}
-use Rattle.vm_rule.specs.declared.view.View.{View}
-use Rattle.vm_rule.specs.Rule.{Ruled}
-use Rattle.vm_rule.specs.Begun.{HasShape, unborn, Stands}
+use Rattle.atomic_table.specs.Table.{keeps as nothing}
+use Rattle.vm_core.specs.Prelude.{get_elem?, some, some-injective}
+use Rattle.vm_rule.specs.Prelude.{Allows, HasShape, index_of, Kept, Me, Ruled, Stands, Start, Stored, Table, unborn}
+use Rattle.vm_rule.specs.declared.view.Place.{Place}
 use Rattle.vm_rule.proofs.Adding.{became}
-use Rattle.vm_step.specs.Plays.{IsOf}
-use Rattle.vm_step.proofs.Here.{is-of}
+use Rattle.vm_step.specs.Prelude.{AllowsStep, IsFit, IsPlacedAt, Origin, Shape, told_of, View}
+use Rattle.vm_step.proofs.{Fit.fit, Here.is-of}
 
 -- the one view of a table before its first step is not live
 pub born : {X : Type 0} (shape : Shape) (id : ℕ) (v : View X) → get_elem? (unborn shape ∷ []) id ≡ some v → v.live ≡ true → ⊥
@@ -30,11 +25,18 @@ module _ {X B : Type 0} (stored : B → Stored) (keeps : Start → Kept X → Ty
       (λ u. absurd (born shape id me.0 (subst (λ views. get_elem? views id ≡ some me.0) u.0 there) live))
       stands.rule
 
-  -- so it is enough to say of every table that meets the rule which view the pass has after the step on word i, which becomes f of what it was
-  pub plays-any : (slots id : ℕ) (me : Me (Option B) (View X)) (i : ℕ) (f : ℕ → ℕ) (Told : ℕ → View X → View X → Type 0) → me.0.live ≡ true
-      → ((start : Origin) → HasShape shape start → (s : Table (Option B) (View X)) → Ruled stored keeps tied start tells s → get_elem? s.views id ≡ some me.0 → slice_index s.words i < 18446744073709551616
-      → (w : View X) × Ruled stored keeps tied start tells (became stored keeps tied start tells s (slice_set s.words i (f (slice_index s.words i))) id w) × Told (slice_index s.words i) me.0 w)
-      → Allows (Stands stored keeps tied shape tells) slots id me i f (λ found m. IsOf shape tells me.0 × Told found me.0 m.0 × (m.1 ≡ me.1))
-  plays-any slots id me i f Told live plays =
-      allows-any slots id me i f (λ found m. IsOf shape tells me.0 × Told found me.0 m.0 × (m.1 ≡ me.1)) live
-      (λ start has s r many there below. let k = plays start has s r there below in (k.0, nothing, tt, k.1, (is-of stored keeps tied start tells s r id me.0 there live shape has, k.2, refl)))
+  -- so it is enough to say of every table that meets the rule which view the pass has after the step on a word, which becomes f of what it was
+  module _ (slots id : ℕ) (v : View X) (i : ℕ) (at : Place) (f g : ℕ → ℕ) (Told : ℕ → View X → View X → Type 0) (live : v.live ≡ true) (is : IsPlacedAt shape at i) (same : (n : ℕ) → f n ≡ g n) where
+    -- the table meets the rule afterwards, with some view of the pass of which this is told
+    abbrev pub Plays : Origin → Table (Option B) (View X) → ℕ → (ℕ → ℕ) → Type 0
+    Plays start s j h = (w : View X) × Ruled stored keeps tied start tells (became stored keeps tied start tells s (slice_set s.words j (h (slice_index s.words j))) id w) × Told (slice_index s.words j) v w
+
+    pub allows : ((n : ℕ) (w : View X) → Told n v w → IsFit w)
+        → ((start : Origin) → HasShape shape start → (s : Table (Option B) (View X)) → Ruled stored keeps tied start tells s → get_elem? s.views id ≡ some v → slice_index s.words (index_of start at) < 18446744073709551616 → Plays start s (index_of start at) g)
+        → AllowsStep (Stands stored keeps tied shape tells) slots id v i f (told_of shape tells Told)
+    allows fit plays =
+        allows-any slots id (v, []) i f (λ n m. told_of shape tells Told n v m.0 × IsFit m.0 × (m.1 ≡ [])) live
+        (λ start has s r many there below.
+        let k = subst (λ j. slice_index s.words j < 18446744073709551616 → Plays start s j f) (is start has)
+        (λ low. let m = plays start has s r there low in (m.0, subst (λ x. Ruled stored keeps tied start tells (became stored keeps tied start tells s (slice_set s.words (index_of start at) x) id m.0)) (sym (same (slice_index s.words (index_of start at)))) m.1, m.2)) below in
+        (k.0, nothing, tt, k.1, ((is-of stored keeps tied start tells s r id v there live shape has, k.2), fit (slice_index s.words i) k.0 k.2, refl)))

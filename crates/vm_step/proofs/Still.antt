@@ -1,18 +1,9 @@
 -- Steps after which a pass has what it had.
-use Rattle.std.proofs.Common.{ℕ, Bool, true, ◌≡◌, List, [], ◌∷◌, ◌++◌, refl, sym, ap, subst, ◌∙◌}
-use Rattle.vm_owner.specs.declared.Entry.{Entry}
-use Rattle.vm_rule.specs.declared.view.Did.{Did}
+use Rattle.std.proofs.Common.{[], ◌++◌, ◌∙◌, ◌∷◌, ◌≡◌, ap, Bool, List, refl, subst, sym, true, ℕ}
+use Rattle.vm_rule.specs.Prelude.{CaughtUp, did_load, Entry, hearer, HoldsNoPage, IsLocking, last_in, last_of, seat_of, TakesOver}
 use Rattle.vm_rule.specs.declared.view.Place.TheVariants as places
-use Rattle.vm_rule.specs.declared.view.Release.{Release}
-use Rattle.vm_rule.specs.declared.view.Snapshot.{Snapshot}
-use Rattle.vm_rule.specs.declared.view.View.{View}
-use Rattle.vm_rule.specs.Hearing.{hearer, TakesOver}
-use Rattle.vm_rule.specs.Joins.{CaughtUp, HoldsNoPage}
-use Rattle.vm_rule.specs.Log.{did_load}
-use Rattle.vm_rule.specs.Reading.{last_in, last_of}
-use Rattle.vm_rule.specs.Views.{StartsWith, IsLocking, seat_of}
 use Rattle.vm_rule.proofs.Entries.{append-none}
-use Rattle.vm_step.specs.Still.{HasStill}
+use Rattle.vm_step.specs.Prelude.{Did, HasStill, Release, Snapshot, View}
 
 module _ {X : Type 0} where
   -- the pass with other lists, another snapshot and more steps

@@ -1,20 +1,13 @@
 -- The words of the table over the steps of a pass that is alone: a place is told by its index, and the words where no step wrote stay.
-use Rattle.std.proofs.Common.{ℕ, ◌≡◌, ◌≢◌, ◌⊎◌, ◌<◌, ◌≤◌, ◌+◌, ◌-◌, ◌*◌, ◌/◌, ◌%◌, ◌++◌, nat_lt, ◌==◌, if◌then◌else◌, Option, Some, None, List, [], ◌∷◌, length, refl, sym, ap, subst, ◌∙◌, inl, inr, ⊎_elim, arith, slice_index, slice_set}
+use Rattle.std.proofs.Common.{[], ⊎_elim, ◌%◌, ◌*◌, ◌++◌, ◌+◌, ◌-◌, ◌/◌, ◌<◌, ◌==◌, ◌∙◌, ◌∷◌, ◌≡◌, ◌≢◌, ◌≤◌, ◌⊎◌, ap, arith, if◌then◌else◌, inl, inr}
+use Rattle.std.proofs.Common.{length, List, nat_lt, None, Option, refl, slice_index, slice_set, Some, subst, sym, ℕ}
 use Rattle.std.proofs.lemmas.Bool.{cases_lt, cond-false, cond-true, eq-eqb, le-ltb, lt-ltb, ne_eqb}
 use Rattle.std.proofs.lemmas.List.{get_or-set_same, get_or_past, length-set}
-use Rattle.vm_rule.specs.declared.view.Did.{Did}
-use Rattle.vm_rule.specs.declared.view.Origin.{Origin}
+use Rattle.vm_rule.specs.Prelude.{bundle_count, Each, index_of, IsFoundAt, set_if, Within}
 use Rattle.vm_rule.specs.declared.view.Place.{Place}
 use Rattle.vm_rule.specs.declared.view.Place.TheVariants as places
-use Rattle.vm_rule.specs.declared.view.Release.{Release}
-use Rattle.vm_rule.specs.declared.view.View.{View}
-use Rattle.vm_rule.specs.Brought.{IsFoundAt, set_if}
-use Rattle.vm_rule.specs.Layout.{Within, bundle_count, index_of}
-use Rattle.vm_rule.specs.Views.{Each}
 use Rattle.vm_rule.proofs.Entries.{each-map}
-use Rattle.vm_step.specs.Alone.{Follows, IsAlone, RunsAlone}
-use Rattle.vm_step.specs.Evidence.{HasGiven}
-use Rattle.vm_step.specs.Tables.{KnowsAt, KnowsElse}
+use Rattle.vm_step.specs.Prelude.{Did, Follows, HasGiven, IsAlone, KnowsAt, KnowsElse, Origin, Release, RunsAlone, View}
 use Rattle.vm_step.proofs.Alone.{set-else}
 
 -- ---- a place and its index

@@ -1,31 +1,17 @@
 -- One pass more is taken in.
-use Rattle.std.proofs.Common.{ℕ, true, false, ◌≡◌, ◌+◌, ◌<◌, ◌≤◌, zero, suc, length, map, Bool, List, [], ◌∷◌, ◌++◌, ◌||◌, refl, sym, ap, subst, ◌∙◌, arith, append_assoc, length-append}
 use Rattle.std.specs.Prelude.{All}
-use Rattle.atomic_table.specs.Seated.{TableId}
-use Rattle.vm_owner.specs.declared.Entry.{Entry}
-use Rattle.vm_owner.specs.Numbers.{has, AreApart}
-use Rattle.vm_rule.specs.declared.view.Did.{Did}
+use Rattle.std.proofs.Common.{[], ◌++◌, ◌+◌, ◌<◌, ◌||◌, ◌∙◌, ◌∷◌, ◌≡◌, ◌≤◌, ap, append_assoc, arith, Bool, false, length, length-append, List, map}
+use Rattle.std.proofs.Common.{refl, subst, suc, sym, true, zero, ℕ}
+use Rattle.vm_rule.specs.Prelude.{any, AreApart, CaughtUp, did_load, Each, entries_by, Entry, first_part, giver, has, HasShape, Hears, HoldsNoPage}
+use Rattle.vm_rule.specs.Prelude.{HoldsNothing, IsWhole, joined, JoinTold, newcomer, numbers, other_parts, owns, StartsWith, TableId, times, total}
+use Rattle.vm_rule.specs.Prelude.{view_from}
 use Rattle.vm_rule.specs.declared.view.Place.TheVariants as places
-use Rattle.vm_rule.specs.declared.view.Note.{Note}
-use Rattle.vm_rule.specs.declared.view.Origin.{Origin}
-use Rattle.vm_rule.specs.declared.view.Release.{Release}
-use Rattle.vm_rule.specs.declared.view.Shape.{Shape}
-use Rattle.vm_rule.specs.declared.view.View.{View}
-use Rattle.vm_rule.specs.declared.words.Pass.{Pass}
-use Rattle.vm_rule.specs.Begun.{HasShape}
-use Rattle.vm_step.specs.Passes.{view}
-use Rattle.vm_step.specs.Ready.{IsReady}
-use Rattle.vm_rule.specs.Joins.{HoldsNoPage, CaughtUp, JoinTold, joined, first_part, other_parts, giver, newcomer}
-use Rattle.vm_rule.specs.Log.{did_load}
-use Rattle.vm_rule.specs.Rule.{HoldsNothing}
-use Rattle.vm_rule.specs.Views.{StartsWith, Each, Hears, numbers, entries_by, owns, times, total, any, view_from, IsWhole}
-use Rattle.vm_rule.proofs.Entries.{append-none, entries-both, entries-within, each-map, has-joined, starts-self}
-use Rattle.vm_rule.proofs.Heard.{each-both}
-use Rattle.vm_rule.proofs.Joining.{times-joined, has-left, has-right}
-use Rattle.vm_rule.proofs.Splitting.{parts-cut}
-use Rattle.vm_step.specs.Still.{HasStill}
+use Rattle.vm_rule.proofs.{Heard.each-both, Splitting.parts-cut}
+use Rattle.vm_rule.proofs.Entries.{append-none, each-map, entries-both, entries-within, has-joined}
+use Rattle.vm_rule.proofs.Joining.{has-left, has-right, times-joined}
+use Rattle.vm_step.specs.Prelude.{Did, HasJoined, HasStill, IsReady, Origin, Pass, PassesSplit, Release, Shape, View, view}
+use Rattle.vm_step.specs.Together.{all_notes, all_used, HasPiece}
 use Rattle.vm_step.proofs.Still.{caught-still, still-fresh}
-use Rattle.vm_step.specs.Together.{all_used, all_notes, HasJoined, HasPiece, IsNew, PassesSplit}
 
 pub starts-on : {A : Type 0} (l m n : List A) → StartsWith l m → StartsWith m n → StartsWith l n
 starts-on l m n s t = (t.0 ++ s.0, s.1 ∙ ap (λ y. y ++ s.0) t.1 ∙ append_assoc n t.0 s.0)
@@ -114,24 +100,6 @@ module _ {X : Type 0} where
       go [] within e' = tt
       go (v ∷ l) within e' = (f v (λ k t. within k (has-left k v.used (all_used l) t)) e'.0, go l (λ k t. within k (has-right k v.used (all_used l) t)) e'.1)
 
-  pub joined-none : (v : View X) → HasJoined v [] v
-  joined-none v = record {
-    start = refl;
-    used = sym (append-none v.used);
-    notes = sym (append-none v.notes);
-    parts = λ k. omega arith;
-    frames = λ f. refl;
-    log = starts-self v.log;
-    logs = tt;
-    heard = ([], sym (append-none v.seen), refl);
-    each = tt;
-    saw = starts-self v.releases;
-    saw_each = tt;
-    entries = tt;
-    nothing = λ h. h;
-    current = λ c. c;
-  }
-
   -- the entries with the numbers of a pass that was heard are its own
   pub entries-heard : (h : List (Entry X)) (w : View X) → Hears h w.used w.seen → w.mine ≡ entries_by w.used w.seen → entries_by w.used h ≡ w.mine
   entries-heard h w f c = ap (entries_by w.used) f.1 ∙ entries-both w.used w.seen f.0 ∙ (λ i. entries_by w.used w.seen ++ f.2 i) ∙ append-none (entries_by w.used w.seen) ∙ sym c
@@ -160,9 +128,6 @@ module _ {X : Type 0} where
       ∙ entries-both v.used v.seen b.others
       ∙ (λ i. entries_by v.used v.seen ++ b.foreign i)
       ∙ append-none (entries_by v.used v.seen)
-
-  pub caught-nothing : (v x : View X) → CaughtUp v x → HoldsNoPage v → HoldsNoPage x
-  caught-nothing v x c m = subst HoldsNoPage (sym c.brings.view) (record { shares = m.shares; exclusive = m.exclusive; writing = m.writing; out = m.out })
 
   -- one pass more is brought up to date and taken in
   pub joined-one : (v : View X) (others : List (View X)) (x w w' y : View X) → HasJoined v others x → CaughtUp w w' → JoinTold x w' y → HasJoined v (others ++ w ∷ []) y

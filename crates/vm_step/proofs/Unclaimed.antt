@@ -1,19 +1,11 @@
 -- The logical words of pages that were never claimed are zeros: such a page has words of zeros, and a member still to be released that was never
 -- claimed has no new ones.
-use Rattle.std.proofs.Common.{ℕ, Bool, true, Option, List, ◌≡◌, ◌<◌, ◌≤◌, replicate, ap, sym, ◌∙◌, ⊎_elim}
-use Rattle.std.proofs.lemmas.Bool.{false≢true, cases_Bool}
-use mathlib.Core.Option.{some}
-use lib.ListN.{get_elem?}
-use Rattle.atomic_table.specs.Table.{State as Table}
-use Rattle.vm_core.specs.History.{World}
-use Rattle.vm_owner.specs.Kept.{Start, Kept}
-use Rattle.vm_owner.specs.Numbers.{has}
-use Rattle.vm_block.specs.declared.stored.Stored.{Stored}
-use Rattle.vm_rule.specs.declared.view.Origin.{Origin}
-use Rattle.vm_rule.specs.declared.view.View.{View}
-use Rattle.vm_rule.specs.Reading.{world_of}
-use Rattle.vm_rule.specs.Rule.{logical, is_pending, Ruled}
+use Rattle.std.proofs.Common.{⊎_elim, ◌<◌, ◌∙◌, ◌≡◌, ◌≤◌, ap, Bool, List, Option, replicate, sym, true, ℕ}
+use Rattle.std.proofs.lemmas.Bool.{cases_Bool, false≢true}
+use Rattle.vm_core.specs.Prelude.{get_elem?, some, World}
+use Rattle.vm_rule.specs.Prelude.{has, is_pending, Kept, logical, Ruled, Start, Stored, Table, world_of}
 use Rattle.vm_rule.proofs.Facts.{any-true}
+use Rattle.vm_step.specs.Prelude.{Origin, View}
 use Rattle.vm_step.proofs.Logical.{logical-draft, logical-last}
 
 module _ {X B : Type 0} (stored : B → Stored) (keeps : Start → Kept X → Type 0) (tied : Start → ℕ → List ℕ → ℕ → List ℕ → Type 0) (start : Origin) (tells : Bool) (s : Table (Option B) (View X)) (r : Ruled stored keeps tied start tells s) where

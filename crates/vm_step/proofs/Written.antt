@@ -1,16 +1,13 @@
 -- One word of the table is with_word: the number that stands there then, and what of the table it leaves.
-use Rattle.std.proofs.Common.{ℕ, ◌≡◌, ◌<◌, List, length, sym, ap, subst, ◌∙◌, arith, slice_set, slice_index, Option}
-use Rattle.vm_core.specs.declared.event.Mapping.{Mapping}
-use Rattle.vm_core.specs.Fn.{upd}
-use Rattle.vm_core.specs.FrameActs.{mapping_of, trans_word}
+use Rattle.std.proofs.Common.{◌<◌, ◌∙◌, ◌≡◌, ap, arith, length, List, Option, slice_index, slice_set, subst, sym, ℕ}
+use Rattle.std.proofs.lemmas.List.{get_or-set_same}
+use Rattle.vm_core.specs.Prelude.{mapping_of, trans_word, upd}
 use Rattle.vm_core.proofs.Upd.{each-upd}
-use Rattle.vm_rule.specs.declared.view.Origin.{Origin}
+use Rattle.vm_rule.specs.Prelude.{ArePlain, index_of, Mapping, table_words, width, with_word, Within, Words}
 use Rattle.vm_rule.specs.declared.view.Place.{Place}
 use Rattle.vm_rule.specs.declared.view.Place.TheVariants as places
-use Rattle.vm_rule.specs.Layout.{Within, Words, width, index_of, table_words, with_word}
-use Rattle.vm_rule.specs.Rule.{ArePlain}
 use Rattle.vm_rule.proofs.Parts.{words-written}
-use Rattle.std.proofs.lemmas.List.{get_or-set_same}
+use Rattle.vm_step.specs.Prelude.{Origin}
 
 -- the place is one of the table's words
 pub index-below : (start : Origin) (w : Place) → Within start w → index_of start w < width start

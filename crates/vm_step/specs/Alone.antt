@@ -1,15 +1,10 @@
 -- A pass that is alone knows the whole table: what a run of its steps leaves of the table as it knows it.
-use Rattle.std.specs.Prelude.{ℕ, true, false, None, List, [], ◌∷◌, ◌++◌, ◌≡◌, ◌⊎◌, ◌<◌, length, slice_index}
-use Rattle.vm_core.specs.Words.{state_of, UNLOCKED, MARKED, EVICTED}
-use Rattle.vm_rule.specs.declared.view.Did.{Did}
-use Rattle.vm_rule.specs.declared.view.Origin.{Origin}
-use Rattle.vm_rule.specs.declared.view.Place.{Place}
+use Rattle.std.specs.Prelude.{[], ◌++◌, ◌<◌, ◌∷◌, ◌≡◌, ◌⊎◌, false, length, List, None, slice_index, true, ℕ}
+use Rattle.vm_core.specs.Prelude.{EVICTED, MARKED, state_of, UNLOCKED}
+use Rattle.vm_rule.specs.Prelude.{Each, index_of, IsFoundAt, IsWhole, seat_of, set_if, width, Within}
+use Rattle.vm_rule.specs.{declared.view.Did.Did, declared.view.Origin.Origin, declared.view.Place.Place, declared.view.Release.Release}
+use Rattle.vm_rule.specs.{declared.view.View.View}
 use Rattle.vm_rule.specs.declared.view.Place.TheVariants as places
-use Rattle.vm_rule.specs.declared.view.Release.{Release}
-use Rattle.vm_rule.specs.declared.view.View.{View}
-use Rattle.vm_rule.specs.Layout.{Within, index_of, width}
-use Rattle.vm_rule.specs.Views.{Each, IsWhole, seat_of}
-use Rattle.vm_rule.specs.Brought.{IsFoundAt, set_if}
 use Rattle.vm_step.specs.Evidence.{HasWritten}
 
 -- the words before and after these steps: each found the word that stood there, and left the one that it wrote
@@ -41,7 +36,8 @@ module _ {X : Type 0} where
 
   -- a pass that is alone: a page that it neither holds nor shares is locked by nobody
   abbrev pub KnowsUnheld : View X → Type 0
-  KnowsUnheld w = IsAlone w → (q : ℕ) → q < w.start.pages → (seat_of w q).exclusive ≡ false → (seat_of w q).shares ≡ 0 → LocksNone (known_word_at w (places.State q))
+  KnowsUnheld w = IsAlone w → (q : ℕ) → q < w.start.pages → (seat_of w q).exclusive ≡ false → (seat_of w q).shares ≡ 0 →
+      LocksNone (known_word_at w (places.State q))
 
   -- the call made these steps, each on a word of the table, and these releases; where the pass was alone, nothing else happened to the table's
   -- words, of which it knows all, and to its releases

@@ -1,12 +1,8 @@
 -- What a call leaves of a view that says nothing and gives up every lock that it took: the locks of all pages are those that the pass had, and
 -- at most the open read of one page is another. Frames and notes the call's own clauses tell.
-use Rattle.std.specs.Prelude.{ℕ, true, List, ◌++◌, ◌≡◌}
-use Rattle.vm_rule.specs.declared.view.Did.{Did}
-use Rattle.vm_rule.specs.declared.view.Tie.{Tie}
-use Rattle.vm_rule.specs.declared.view.View.{View}
-use Rattle.vm_rule.specs.Views.{StartsWith, IsLocking, IsWhole, seat_of, loads_at, draft_of}
-use Rattle.vm_rule.specs.Reading.{last_of}
-use Rattle.vm_rule.specs.Mappings.{held_at}
+use Rattle.std.specs.Prelude.{◌++◌, ◌≡◌, List, true, ℕ}
+use Rattle.vm_rule.specs.Prelude.{draft_of, held_at, IsLocking, IsWhole, last_of, loads_at, seat_of, StartsWith}
+use Rattle.vm_rule.specs.{declared.view.Did.Did, declared.view.Tie.Tie, declared.view.View.View}
 
 module _ {X : Type 0} where
   -- the pass has just the locks of page p that it had

@@ -1,17 +1,10 @@
 -- The table after_event a move of a page's slot, and what a call of the page's device, seen when its block comes home, is to the core.
-use Rattle.std.specs.Prelude.{ℕ, true, Option, Some, List, ◌≡◌, slice_set}
+use Rattle.std.specs.Prelude.{◌≡◌, List, Option, slice_set, Some, true, ℕ}
 use mathlib.Core.Option as maybe
-use mathlib.Core.Option.{some}
-use lib.ListN.{get_elem?}
-use Rattle.atomic_table.specs.Table.{State as Table}
-use Rattle.vm_block.specs.declared.stored.Stored.{Stored}
-use Rattle.vm_core.specs.declared.event.Event.{Event}
+use Rattle.vm_core.specs.Prelude.{after_event, get_elem?, Legal, on_page, seen, some, State}
 use Rattle.vm_core.specs.declared.event.Seen.{Seen}
-use Rattle.vm_core.specs.State.{State}
-use Rattle.vm_core.specs.Step.{Legal, after_event, seen, on_page}
-use Rattle.vm_rule.specs.declared.view.Origin.{Origin}
-use Rattle.vm_rule.specs.declared.view.View.{View}
-use Rattle.vm_rule.specs.Reading.{core_shown}
+use Rattle.vm_rule.specs.Prelude.{core_shown, Event, Stored, Table}
+use Rattle.vm_step.specs.Prelude.{Origin, View}
 
 -- the core with these words in the block of page p
 abbrev pub with_block : State → ℕ → List ℕ → State

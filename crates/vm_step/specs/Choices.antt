@@ -1,8 +1,7 @@
 -- Pages that are chosen for eviction, each with the word at which it was marked.
-use Rattle.std.specs.Prelude.{ℕ, Option, Some, None, List, [], ◌∷◌, ◌≡◌, ◌<◌, ◌≤◌}
-use Rattle.vm_core.specs.Words.{state_of, version_of, LOCKED, MARKED, MAX_VERSION}
-use Rattle.vm_owner.specs.Numbers.{AreApart}
-use Rattle.vm_rule.specs.Views.{Each}
+use Rattle.std.specs.Prelude.{[], ◌<◌, ◌∷◌, ◌≡◌, ◌≤◌, List, None, Option, Some, ℕ}
+use Rattle.vm_core.specs.Prelude.{LOCKED, MARKED, MAX_VERSION, state_of, version_of}
+use Rattle.vm_rule.specs.Prelude.{AreApart, Each}
 
 -- the pages of the candidates
 abbrev pub candidate_pages : List (ℕ × ℕ) → List ℕ

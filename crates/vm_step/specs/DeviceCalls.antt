@@ -1,11 +1,9 @@
 -- How often the device of a page was called, by the steps of a call: it is called only while the page's block is out of its slot, and once at most
 -- each time (`DeviceDid`); each move of the block is two loads of the page's fault word, which nothing else loads.
-use Rattle.std.specs.Prelude.{ℕ, None, List, [], ◌∷◌, ◌++◌, ◌≡◌, ◌⊎◌}
-use Rattle.vm_rule.specs.declared.view.Did.{Did}
-use Rattle.vm_rule.specs.declared.view.Place.{Place}
+use Rattle.std.specs.Prelude.{[], ◌++◌, ◌∷◌, ◌≡◌, ◌⊎◌, List, None, ℕ}
+use Rattle.vm_rule.specs.Prelude.{did_load, Each}
+use Rattle.vm_rule.specs.{declared.view.Did.Did, declared.view.Place.Place}
 use Rattle.vm_rule.specs.declared.view.Place.TheVariants as places
-use Rattle.vm_rule.specs.Log.{did_load}
-use Rattle.vm_rule.specs.Views.{Each}
 
 -- a place of page p: its state word, its translation word or its fault word
 abbrev pub IsOfPage : ℕ → Place → Type 0

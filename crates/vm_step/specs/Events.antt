@@ -1,20 +1,10 @@
 -- A step of the table is an event of the core.
-use Rattle.std.specs.Prelude.{ℕ, Bool, true, Option, List, ◌≡◌, ◌==◌, if◌then◌else◌, slice_index, slice_set}
-use mathlib.Core.Option.{some}
-use lib.ListN.{get_elem?}
-use Rattle.atomic_table.specs.Table.{State as Table}
-use Rattle.vm_block.specs.declared.stored.Stored.{Stored}
-use Rattle.vm_core.specs.declared.event.Event.{Event}
+use Rattle.std.specs.Prelude.{◌==◌, ◌≡◌, Bool, if◌then◌else◌, List, Option, slice_index, slice_set, true, ℕ}
+use Rattle.vm_core.specs.Prelude.{after_event, get_elem?, Legal, seen, some}
 use Rattle.vm_core.specs.declared.event.Seen.{Seen}
 use Rattle.vm_core.specs.declared.event.Seen.TheVariants as sights
-use Rattle.vm_core.specs.Step.{Legal, after_event, seen}
-use Rattle.vm_owner.specs.Kept.{Start, Kept}
-use Rattle.vm_rule.specs.declared.view.Origin.{Origin}
-use Rattle.vm_rule.specs.declared.view.Place.{Place}
-use Rattle.vm_rule.specs.declared.view.View.{View}
-use Rattle.vm_rule.specs.Layout.{Within, index_of}
-use Rattle.vm_rule.specs.Reading.{core_shown}
-use Rattle.vm_rule.specs.Rule.{Ruled}
+use Rattle.vm_rule.specs.Prelude.{core_shown, Event, index_of, Kept, Ruled, Start, Stored, Table, Within}
+use Rattle.vm_rule.specs.{declared.view.Origin.Origin, declared.view.Place.Place, declared.view.View.View}
 
 -- an exchange at a word: it leaves the new number where it found the one expected, and sees whether it did
 abbrev pub exchanged : List ℕ → ℕ → ℕ → ℕ → ℕ → List ℕ
@@ -34,7 +24,8 @@ module _ {X B : Type 0} where
 
   module _ (stored : B → Stored) (start : Origin) where
     -- the table meets the rule, and its pass id has this view
-    pub record IsPassOf (keeps : Start → Kept X → Type 0) (tied : Start → ℕ → List ℕ → ℕ → List ℕ → Type 0) (tells : Bool) (s : Table (Option B) (View X)) (id : ℕ) (v : View X) : Type 0 where
+    pub record IsPassOf (keeps : Start → Kept X → Type 0) (tied : Start → ℕ → List ℕ → ℕ → List ℕ → Type 0) (tells : Bool)
+        (s : Table (Option B) (View X)) (id : ℕ) (v : View X) : Type 0 where
       pub rule : Ruled stored keeps tied start tells s
       pub there : get_elem? s.views id ≡ some v
       pub live : v.live ≡ true

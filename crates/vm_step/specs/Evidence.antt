@@ -1,13 +1,11 @@
 -- What the steps of a call, as its pass's log has them, say of the words that the call answers with.
-use Rattle.std.specs.Prelude.{◌≡◌, ◌≢◌, ◌⊎◌, ◌<◌, ◌≤◌, ℕ, List, [], ◌∷◌, ◌++◌, Some, None}
-use Rattle.vm_core.specs.Words.{state_of, version_of, word_of, UNLOCKED, LOCKED, EVICTED, MAX_VERSION}
-use Rattle.vm_rule.specs.declared.view.Place.{Place}
+use Rattle.std.specs.Prelude.{[], ◌++◌, ◌<◌, ◌∷◌, ◌≡◌, ◌≢◌, ◌≤◌, ◌⊎◌, List, None, Some, ℕ}
+use Rattle.vm_core.specs.Prelude.{EVICTED, LOCKED, MAX_VERSION, state_of, UNLOCKED, version_of, word_of}
+use Rattle.vm_rule.specs.Prelude.{Each}
+use Rattle.vm_rule.specs.{declared.view.Did.Did, declared.view.Place.Place}
 use Rattle.vm_rule.specs.declared.view.Place.TheVariants as places
-use Rattle.vm_rule.specs.declared.view.Did.{Did}
-use Rattle.vm_rule.specs.Views.{Each}
-use Rattle.vm_step.specs.declared.saw.At.{At}
+use Rattle.vm_step.specs.{declared.saw.At.At, declared.saw.Saw.Saw}
 use Rattle.vm_step.specs.declared.saw.At.TheVariants as ats
-use Rattle.vm_step.specs.declared.saw.Saw.{Saw}
 
 abbrev pub place_at : At → Place
 place_at (ats.Page p) = places.State p
@@ -62,7 +60,8 @@ EvictedExpected word first = (state_of word ≢ EVICTED) × (first ≡ word_of E
 pub data Begins (kept : ℕ → Type 0) (expects : ℕ → ℕ → Type 0) (at : Place) (first seen : ℕ) (last : Did) (earlier since : List Did) : Type 0 where
   guarded : kept first → earlier ≡ since → Begins kept expects at first seen last earlier since
   read : (before : List Did) (d : Did) → earlier ≡ before ++ d ∷ since → Gives d at first → Begins kept expects at first seen last earlier since
-  expected : (before : List Did) (d : Did) (word : ℕ) → earlier ≡ before ++ d ∷ since → Gives d at word → expects word first → last.expects ≡ Some first → Begins kept expects at first seen last earlier since
+  expected : (before : List Did) (d : Did) (word : ℕ) → earlier ≡ before ++ d ∷ since → Gives d at word → expects word first →
+      last.expects ≡ Some first → Begins kept expects at first seen last earlier since
   asked : (word : ℕ) → kept word → earlier ≡ since → expects word first → last.expects ≡ Some first → Begins kept expects at first seen last earlier since
   same : first ≡ seen → since ≡ [] → Begins kept expects at first seen last earlier since
 

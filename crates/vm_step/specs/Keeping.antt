@@ -1,14 +1,9 @@
 -- What a step tells of the layer above: at the step it keeps its relation, and its history is the one that the pass has seen then.
-use Rattle.std.specs.Prelude.{ℕ, true, List, length, replicate, ◌≡◌, ◌<◌, ◌≤◌}
-use Rattle.vm_page.specs.declared.buf.TheConstants.{WORDS}
-use Rattle.vm_page.specs.Pages.{page_at}
-use Rattle.vm_owner.specs.Kept.{Start, Kept}
-use Rattle.vm_owner.specs.Numbers.{has}
+use Rattle.std.specs.Prelude.{◌<◌, ◌≡◌, ◌≤◌, length, replicate, true, ℕ}
+use Rattle.vm_core.specs.Prelude.{page_at, WORDS}
+use Rattle.vm_rule.specs.Prelude.{began_of, draft_of, has, Kept, last_of, Start}
 use Rattle.vm_rule.specs.declared.view.Place.TheVariants as places
 use Rattle.vm_rule.specs.declared.view.View.{View}
-use Rattle.vm_rule.specs.Views.{draft_of}
-use Rattle.vm_rule.specs.Reading.{last_of}
-use Rattle.vm_rule.specs.Rule.{began_of}
 use Rattle.vm_step.specs.Alone.{IsAlone, known_word_at}
 
 module _ {X : Type 0} where

@@ -1,5 +1,6 @@
 pub mod Conditions
-pub mod Plays
+pub mod Operations
+pub mod steps
 pub mod Passes
 pub mod Events
 pub mod NoEvents
@@ -19,3 +20,4 @@ pub mod Together
 pub mod Still
 pub mod Meeting
 pub mod HeldFrames
+pub mod Prelude

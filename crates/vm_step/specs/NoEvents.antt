@@ -1,21 +1,9 @@
 -- A pass that is split, one that takes in another, and one that is told by another: no event of the core. What the table shows changes in its
 -- actors alone.
-use Rattle.std.specs.Prelude.{ℕ, Bool, false, Option, List, [], ◌∷◌, ◌++◌, ◌≡◌, ◌≢◌, ◌+◌, ◌||◌, length, slice_set}
-use mathlib.Core.Option.{some}
-use lib.ListN.{get_elem?}
-use Rattle.atomic_table.specs.Table.{State as Table}
-use Rattle.vm_block.specs.declared.stored.Stored.{Stored}
-use Rattle.vm_core.specs.Fn.{upd}
-use Rattle.vm_core.specs.Start.{no_seat}
-use Rattle.vm_core.specs.History.{World}
-use Rattle.vm_owner.specs.Kept.{Start, Kept}
-use Rattle.vm_rule.specs.declared.view.Origin.{Origin}
-use Rattle.vm_rule.specs.declared.view.View.{View}
-use Rattle.vm_rule.specs.Hearing.{hearer}
-use Rattle.vm_rule.specs.Joins.{giver, newcomer, joined, HoldsNoPage}
-use Rattle.vm_rule.specs.Views.{spent}
-use Rattle.vm_rule.specs.Reading.{world_of}
-use Rattle.vm_rule.specs.Rule.{Ruled}
+use Rattle.std.specs.Prelude.{[], ◌++◌, ◌+◌, ◌||◌, ◌∷◌, ◌≡◌, Bool, false, length, List, Option, slice_set, ℕ}
+use Rattle.vm_core.specs.Prelude.{no_seat, upd, World}
+use Rattle.vm_rule.specs.Prelude.{giver, hearer, joined, Kept, newcomer, Ruled, spent, Start, Stored, Table, world_of}
+use Rattle.vm_step.specs.Prelude.{Origin, View}
 
 -- ---- what the core shows
 
@@ -65,12 +53,14 @@ module _ {X B : Type 0} where
     shown before r s = world_of stored start r.releases r.drafts s
 
     -- there is one actor more, the last one, which has nothing; all else is as before
-    pub record IsSplitOff (before : Table (Option B) (View X)) (r : Ruled stored keeps tied start tells before) (later : Table (Option B) (View X)) : Type 0 where
+    pub record IsSplitOff (before : Table (Option B) (View X)) (r : Ruled stored keeps tied start tells before)
+        (later : Table (Option B) (View X)) : Type 0 where
       pub goes : GoesOn before r later
       pub core : shown before r later ≡ with_actor (shown before r before)
       pub new : HasNone (shown before r later) (length before.views)
 
     -- the frames of the actor `other` are the actor id's, and its reads are closed; all else is as before
-    pub record IsTakenIn (before : Table (Option B) (View X)) (r : Ruled stored keeps tied start tells before) (id other : ℕ) (later : Table (Option B) (View X)) : Type 0 where
+    pub record IsTakenIn (before : Table (Option B) (View X)) (r : Ruled stored keeps tied start tells before) (id other : ℕ)
+        (later : Table (Option B) (View X)) : Type 0 where
       pub goes : GoesOn before r later
       pub core : shown before r later ≡ taken_in id other (shown before r before)

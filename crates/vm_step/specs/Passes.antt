@@ -1,11 +1,8 @@
 -- A pass, as the clauses of the steps see it.
-use Rattle.std.specs.Prelude.{ℕ, ◌≡◌, ◌<◌, length}
-use Rattle.atomic_table.specs.Seated.{TableId}
-use Rattle.vm_rule.specs.declared.view.View.{View}
-use Rattle.vm_rule.specs.declared.words.Pass.{Pass}
-use Rattle.vm_rule.specs.Views.{view_of}
-use Rattle.vm_step.specs.declared.took.Took.{Took}
-use Rattle.vm_step.specs.declared.took.Took.TheVariants.{Taken, Lost}
+use Rattle.std.specs.Prelude.{◌<◌, ◌≡◌, length, ℕ}
+use Rattle.vm_rule.specs.Prelude.{TableId, view_of}
+use Rattle.vm_rule.specs.{declared.view.View.View, declared.words.Pass.Pass}
+use Rattle.vm_step.specs.{declared.took.Took.TheVariants.Lost, declared.took.Took.TheVariants.Taken, declared.took.Took.Took}
 
 module _ {U X : Type 0} {o : _} where
   abbrev pub view : Pass U X o → View X

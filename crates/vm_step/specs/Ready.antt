@@ -1,10 +1,8 @@
 -- A pass that may step on a table whose shape it knows: what every call above the steps asks for, and leaves.
 use Rattle.std.specs.Prelude.{Bool}
-use Rattle.atomic_table.specs.Seated.{TableId}
-use Rattle.vm_rule.specs.declared.view.Shape.{Shape}
-use Rattle.vm_rule.specs.declared.words.Pass.{Pass}
-use Rattle.vm_step.specs.Passes.{MayStep, view}
-use Rattle.vm_step.specs.Plays.{IsOf}
+use Rattle.vm_rule.specs.Prelude.{TableId}
+use Rattle.vm_rule.specs.{declared.view.Shape.Shape, declared.words.Pass.Pass}
+use Rattle.vm_step.specs.{Operations.IsOf, Passes.MayStep, Passes.view}
 
 module _ {U X : Type 0} {o : _} where
   pub record IsReady (shape : Shape) (tells : Bool) (t : TableId) (p : Pass U X o) : Type 0 where

@@ -1,8 +1,7 @@
 -- A pass that has what it had, but for fresh parts and what it has seen of the two lists.
-use Rattle.std.specs.Prelude.{ℕ, ◌≡◌}
+use Rattle.std.specs.Prelude.{◌≡◌, ℕ}
+use Rattle.vm_rule.specs.Prelude.{IsLocking, last_of, seat_of, StartsWith}
 use Rattle.vm_rule.specs.declared.view.View.{View}
-use Rattle.vm_rule.specs.Reading.{last_of}
-use Rattle.vm_rule.specs.Views.{StartsWith, IsLocking, seat_of}
 
 module _ {X : Type 0} where
   -- It has its numbers, entries, notes, frames, locks, open reads and its group; its steps go on. Each page that it has locked has the last

@@ -1,8 +1,7 @@
 -- What a pass that was alone knows of the table's words after a call.
-use Rattle.std.specs.Prelude.{ℕ, ◌≡◌, ◌<◌, length}
-use Rattle.vm_rule.specs.declared.view.Place.{Place}
-use Rattle.vm_rule.specs.declared.view.View.{View}
-use Rattle.vm_rule.specs.Layout.{Within, index_of}
+use Rattle.std.specs.Prelude.{◌<◌, ◌≡◌, length, ℕ}
+use Rattle.vm_rule.specs.Prelude.{index_of, Within}
+use Rattle.vm_rule.specs.{declared.view.Place.Place, declared.view.View.View}
 use Rattle.vm_step.specs.Alone.{IsAlone, known_word_at}
 
 module _ {X : Type 0} where

@@ -1,10 +1,7 @@
 -- What a pass has after others were split off it, or after it took in others.
-use Rattle.std.specs.Prelude.{ℕ, true, length, List, [], ◌∷◌, ◌++◌, ◌≡◌, ◌+◌, ◌||◌}
-use Rattle.vm_owner.specs.Numbers.{AreApart, has}
-use Rattle.vm_rule.specs.declared.view.Note.{Note}
-use Rattle.vm_rule.specs.declared.view.View.{View}
-use Rattle.vm_rule.specs.Joins.{HoldsNoPage, CaughtUp, JoinTold}
-use Rattle.vm_rule.specs.Views.{StartsWith, Each, Hears, entries_by, owns, total, any, view_from}
+use Rattle.std.specs.Prelude.{[], ◌++◌, ◌+◌, ◌||◌, ◌∷◌, ◌≡◌, length, List, true, ℕ}
+use Rattle.vm_rule.specs.Prelude.{any, AreApart, CaughtUp, Each, entries_by, has, Hears, HoldsNoPage, JoinTold, owns, StartsWith, total, view_from}
+use Rattle.vm_rule.specs.{declared.view.Note.Note, declared.view.View.View}
 
 -- the list has the other in it, in one piece
 pub record HasPiece {A : Type 0} (l m : List A) : Type 0 where

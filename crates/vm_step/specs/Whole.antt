@@ -1,13 +1,9 @@
 -- What a pass that was brought up to date knows, above all where it has all parts of its table.
-use Rattle.std.specs.Prelude.{ℕ, Bool, true, [], ◌≡◌, ◌<◌, ◌≤◌}
-use Rattle.vm_core.specs.Words.{version_of}
-use Rattle.vm_owner.specs.Kept.{Start, Kept}
+use Rattle.std.specs.Prelude.{[], ◌<◌, ◌≡◌, ◌≤◌, Bool, true, ℕ}
+use Rattle.vm_core.specs.Prelude.{version_of}
+use Rattle.vm_rule.specs.Prelude.{began_of, CaughtUp, HoldsNoPage, IsWhole, Kept, last_of, Start}
 use Rattle.vm_rule.specs.declared.view.Place.TheVariants as places
 use Rattle.vm_rule.specs.declared.view.View.{View}
-use Rattle.vm_rule.specs.Views.{IsWhole}
-use Rattle.vm_rule.specs.Reading.{last_of}
-use Rattle.vm_rule.specs.Rule.{began_of}
-use Rattle.vm_rule.specs.Joins.{HoldsNoPage, CaughtUp}
 use Rattle.vm_rule_laws.specs.Known.{kept_by}
 use Rattle.vm_step.specs.Evidence.{HasGiven}
 

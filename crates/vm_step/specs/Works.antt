@@ -1,12 +1,8 @@
 -- What the steps of a call that speaks of one page leave of a view, whatever they do to that page; and what steps leave of a page that they work
 -- on while the pass has it locked.
-use Rattle.std.specs.Prelude.{ℕ, List, [], ◌++◌, ◌≡◌, ◌≢◌}
-use Rattle.vm_rule.specs.declared.view.Did.{Did}
-use Rattle.vm_rule.specs.declared.view.Tie.{Tie}
-use Rattle.vm_rule.specs.declared.view.View.{View}
-use Rattle.vm_rule.specs.Views.{StartsWith, IsLocking, seat_of, loads_at, draft_of}
-use Rattle.vm_rule.specs.Reading.{last_of}
-use Rattle.vm_rule.specs.Mappings.{held_at}
+use Rattle.std.specs.Prelude.{[], ◌++◌, ◌≡◌, ◌≢◌, List, ℕ}
+use Rattle.vm_rule.specs.Prelude.{draft_of, held_at, IsLocking, last_of, loads_at, seat_of, StartsWith}
+use Rattle.vm_rule.specs.{declared.view.Did.Did, declared.view.Tie.Tie, declared.view.View.View}
 use Rattle.vm_step.specs.Alone.{RunsAlone}
 
 module _ {X : Type 0} (p : ℕ) where

@@ -1,6 +1,6 @@
 // Frames that go from hand to hand: at most 64, which lie in the value itself.
-ghost use Rattle.std.specs.Prelude.{◌≡◌, ◌==◌, ◌+◌, ◌<◌, ◌≤◌, [], ◌∷◌, ◌++◌, length, IsSome, ◌↔◌};
 ghost use Rattle.std.specs.Option.{option_to_list};
+ghost use Rattle.std.specs.Prelude.{[], ◌++◌, ◌+◌, ◌<◌, ◌==◌, ◌↔◌, ◌∷◌, ◌≡◌, ◌≤◌, IsSome, length};
 
 use arrayvec::ArrayVec;
 use std::marker::Model;
@@ -13,8 +13,8 @@ pub struct Batch {
 }
 
 impl Model for Batch {
-    ghost use Rattle.std.specs.Prelude.{List, ℕ, ◌≤◌, length};
-    ghost use Rattle.vm_core.specs.declared.words.TheConstants.{FRAMES};
+    ghost use Rattle.std.specs.Prelude.{◌≤◌, length, List, ℕ};
+    ghost use Rattle.vm_rule.specs.Prelude.{FRAMES};
 
     ghost Value = { List ℕ };
 

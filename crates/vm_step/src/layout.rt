@@ -1,9 +1,7 @@
-// Where the next word stands among the words of a table, behind those of the pages, the frames and the bundles.
-ghost use Rattle.std.specs.Prelude.{◌≡◌, ◌+◌, ◌<◌};
-ghost use Rattle.vm_rule.specs.Begun.{HasShape};
-ghost use Rattle.vm_rule.specs.Layout.{index_of, width_of};
-ghost use Rattle.vm_rule.specs.declared.view.Origin.{Origin};
+// Where a word stands among the words of a table: those of the pages, the frames and the bundles, the next word, and the hand's word.
+ghost use Rattle.std.specs.Prelude.{◌*◌, ◌+◌, ◌<◌};
 ghost use Rattle.vm_rule.specs.declared.view.Place.TheVariants as places;
+ghost use Rattle.vm_step.specs.Prelude.{IsPlacedAt};
 
 use vm_block::Block;
 use vm_core::FRAMES;
@@ -11,10 +9,63 @@ use vm_owner::Owner;
 use vm_page::WORDS;
 use vm_rule::words::Words;
 
-/// The place of the next word. The hand's word stands behind it.
+/// The place of a page's state word.
+pub(crate) fn state_place<U: Owner, B: Block>(_words: &Words<U, B>, p: u32) -> usize
+    requires page { p < _words.now.table.shared.key.pages }
+    ensures place { IsPlacedAt _words.now.table.shared.key (places.State p) result }
+    ensures inside { result < _words.now.table.shared.table_id.words }
+{
+    p as usize
+}
+
+/// The place of a page's translation word.
+pub(crate) fn translation_place<U: Owner, B: Block>(words: &Words<U, B>, p: u32) -> usize
+    requires page { p < words.now.table.shared.key.pages }
+    ensures place { IsPlacedAt words.now.table.shared.key (places.Translation p) result }
+    ensures inside { result < words.now.table.shared.table_id.words }
+{
+    words.pages + p as usize
+}
+
+/// The place of a page's fault word.
+pub(crate) fn fault_place<U: Owner, B: Block>(words: &Words<U, B>, p: u32) -> usize
+    requires page { p < words.now.table.shared.key.pages }
+    ensures place { IsPlacedAt words.now.table.shared.key (places.Fault p) result }
+    ensures inside { result < words.now.table.shared.table_id.words }
+{
+    2 * words.pages + p as usize
+}
+
+/// The place of a word of a frame.
+pub(crate) fn content_place<U: Owner, B: Block>(words: &Words<U, B>, f: u32, i: usize) -> usize
+    requires frame { (f < words.now.table.shared.key.frames) × (i < WORDS) }
+    ensures place { IsPlacedAt words.now.table.shared.key (places.Content f i) result }
+    ensures inside { result < words.now.table.shared.table_id.words }
+{
+    3 * words.pages + (WORDS * f as usize + i)
+}
+
+/// The place of a bundle's word.
+pub(crate) fn bundle_place<U: Owner, B: Block>(words: &Words<U, B>, g: u32) -> usize
+    requires bundle { g * FRAMES < words.now.table.shared.key.frames }
+    ensures place { IsPlacedAt words.now.table.shared.key (places.Bundle g) result }
+    ensures inside { result < words.now.table.shared.table_id.words }
+{
+    3 * words.pages + WORDS * words.frames + g as usize
+}
+
+/// The place of the next word.
 pub(crate) fn next_place<U: Owner, B: Block>(words: &Words<U, B>) -> usize
-    ensures place { (start : Origin) → HasShape words.now.table.shared.key start → index_of start places.Next ≡ result }
-    ensures inside { result + 1 < width_of words.now.table.shared.key.pages words.now.table.shared.key.frames }
+    ensures place { IsPlacedAt words.now.table.shared.key places.Next result }
+    ensures inside { result < words.now.table.shared.table_id.words }
 {
     3 * words.pages + WORDS * words.frames + words.frames.div_ceil(FRAMES)
+}
+
+/// The place of the hand's word, behind the next word.
+pub(crate) fn hand_place<U: Owner, B: Block>(words: &Words<U, B>) -> usize
+    ensures place { IsPlacedAt words.now.table.shared.key places.Hand result }
+    ensures inside { result < words.now.table.shared.table_id.words }
+{
+    3 * words.pages + WORDS * words.frames + words.frames.div_ceil(FRAMES) + 1
 }

@@ -3,45 +3,32 @@
 #![tactic(auto)]
 
 mod batch;
-pub mod block_laws;
-mod blocks;
-pub mod bundle_laws;
-mod bundles;
 mod choice;
-mod fills;
-mod frames;
-pub mod laws;
+pub mod kinds;
 mod layout;
-pub mod mapping_laws;
-mod mappings;
-pub mod mark_laws;
-mod marks;
-mod meeting;
-pub mod next_laws;
-mod nexts;
-pub mod pass_laws;
-mod passes;
-mod plays;
-pub mod release_laws;
+mod operation;
 mod saw;
 mod seat;
-mod states;
+mod state_words;
 mod took;
 
 pub use batch::Batch;
-pub use blocks::{block_home, block_out, raise};
-pub use bundles::{bload, give, hand, take};
 pub use choice::{Candidates, Looks};
-pub use fills::fill;
-pub use frames::{load, store, tload};
-pub use mappings::{clear, install, set_clean, set_dirty};
-pub use marks::{lock_write_back, mark, unmark, upgrade};
-pub use meeting::{follow_pass, hear_pass};
-pub use nexts::{claim, nload};
-pub use passes::{catch_up, join_pass, split_pass};
+pub use kinds::block::{block_home, block_out};
+pub use kinds::bundle::{bload, give, take};
+pub use kinds::catch_up::catch_up;
+pub use kinds::content::{fill, load, store};
+pub use kinds::hand::hand;
+pub use kinds::lock::lock_exclusive;
+pub use kinds::look::{look, look_silently};
+pub use kinds::mapping::{clear, install, set_clean, set_dirty};
+pub use kinds::mark::{mark, unmark};
+pub use kinds::next::{claim, nload};
+pub use kinds::pass::{follow_pass, hear_pass, join_pass, split_pass};
+pub use kinds::raise::raise;
+pub use kinds::release::{downgrade, release, release_evicted, release_silently};
+pub use kinds::share::{lock_shared, unlock_shared};
+pub use kinds::translate::tload;
+pub use kinds::write_back::{lock_write_back, upgrade};
 pub use saw::{At, Saw};
-pub use states::{
-    downgrade, lock_exclusive, lock_shared, look, look_silently, release, release_evicted,
-    release_silently, unlock_shared,
-};
 pub use took::Took;

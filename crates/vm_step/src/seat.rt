@@ -1,5 +1,5 @@
 // The seat in a pass's badge.
-ghost use Rattle.std.specs.Prelude.{◌≡◌, [], ◌∷◌};
+ghost use Rattle.std.specs.Prelude.{[], ◌∷◌, ◌≡◌};
 
 use atomic_table::{Badge, Seat};
 use std::mem;

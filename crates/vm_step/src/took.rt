@@ -1,10 +1,10 @@
 // What an exchange answers.
 ghost use Rattle.std.specs.Prelude.{◌≡◌, ◌≢◌, ℕ};
-ghost use Rattle.vm_step.specs.Passes.{found_by};
+ghost use Rattle.vm_step.specs.Prelude.{found_by};
 ghost use Rattle.vm_step.specs.declared.took.Took.TheVariants.{Lost};
 
 /// Whether the word was the one expected.
-#[derive(Clone, Copy, Debug, PartialEq, Eq)]
+#[derive(Clone, Copy)]
 pub enum Took {
     /// It was, and has been changed.
     Taken,

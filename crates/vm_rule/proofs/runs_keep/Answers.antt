@@ -1,6 +1,5 @@
-use Rattle.vm_core.specs.Start.{begin}
-use Rattle.vm_rule.proofs.Runs.{run_law}
-use Rattle.vm_rule.proofs.Starts.{start_law}
+use Rattle.vm_core.specs.Prelude.{begin}
+use Rattle.vm_rule.proofs.{Runs.run_law, Starts.start_law}
 use Rattle.vm_rule.proofs.runs_keep.Goals as goal
 
 pub returns : goal.returns

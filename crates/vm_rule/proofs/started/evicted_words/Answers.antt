@@ -1,9 +1,6 @@
-use Rattle.std.proofs.Common.{ℕ, ◌*◌, ◌++◌, ◌∙◌, ap, length, map}
-use Rattle.vm_core.specs.Start.{full_bundle}
-use Rattle.vm_core.specs.Words.{word_of, EVICTED}
-use Rattle.vm_rule.specs.Started.{counts_of}
-use Rattle.vm_rule.specs.Layout.{bundles_of}
-use Rattle.vm_rule.specs.Puts.{listed}
+use Rattle.std.proofs.Common.{◌*◌, ◌++◌, ◌∙◌, ap, length, map, ℕ}
+use Rattle.vm_core.specs.Prelude.{EVICTED, full_bundle, word_of}
+use Rattle.vm_rule.specs.Prelude.{bundles_of, counts_of, listed}
 use Rattle.vm_rule.proofs.LaidWords.{pushed-parts}
 use Rattle.vm_rule.proofs.started.evicted_words.Goals as goal
 

@@ -1,6 +1,6 @@
-use Rattle.std.proofs.Common.{◌≡◌, ◌++◌}
-use Rattle.vm_core.specs.Start.{full_bundle}
-use Rattle.vm_rule.specs.Puts.{listed}
+use Rattle.std.proofs.Common.{◌++◌, ◌≡◌}
+use Rattle.vm_core.specs.Prelude.{full_bundle}
+use Rattle.vm_rule.specs.Prelude.{listed}
 use Rattle.vm_rule.proofs.started.push_bundles.Given as goal
 
 abbrev pub invariant-loop-g : goal.invariant-loop-g

@@ -1,32 +1,31 @@
 -- `new` makes the empty struct, with what the clause names.
-use mathlib.Core.Path.{refl}
-use mathlib.Core.List.{[], ◌∷◌}
-use seplogic.Ra.Ura.{Ura}
-use mir.Val.{vstruct, vnil}
-use base.Logic.{SProp, ent, emp, via, fst∗}
-use prog.Memory.{Memory}
-use prog.Routine.{Routine}
-use prog.Wp.{Calls, Loops, WpFn, Tables}
-use types.Logic.{Logic}
+use base.Logic.{emp, ent, fst∗, SProp, via}
 use contract.Monad.{Fun}
 use contract.Running.{tables, tables_of}
-use sound.WpLaws.{WpFn-mono}
-use types.Kit.{‵, raw, ◌$◌, ◌∵◌, !, qed, move, suffices, done}
-use types.Run.{no_more, returns, enter}
-use types.Part.{agg}
-use types.ByLocal.{alloc_all, pass_all, free_all, look_at, sets}
 use denote.RattleType.{owns}
 use denote.Shadow.{pure_i}
-use denote.Triple.Entry.{on_entry, alive}
+use denote.Triple.Entry.{alive, on_entry}
 use denote.Triple.Spec.{Meets, triple_of}
 use denote.Triple.Table.{entered}
-use denote.Triple.Walked.{says, Stays, walk_of, Walks, ends_at, walked, walk_Meets}
-use Rattle.vm_rule.specs.contracts.began.Began.new.Key.{name as key}
-use Rattle.vm_rule.specs.contracts.began.Began.new as f
-use Rattle.vm_rule.proofs.began.Began.new.Statement as stated
-use Rattle.vm_rule.proofs.began.Began.new.Code as code
+use denote.Triple.Walked.{ends_at, says, Stays, walk_Meets, walk_of, walked, Walks}
+use mathlib.Core.List.{[], ◌∷◌}
+use mathlib.Core.Path.{refl}
+use mir.Val.{vnil, vstruct}
+use prog.Memory.{Memory}
+use prog.Routine.{Routine}
+use prog.Wp.{Calls, Loops, Tables, WpFn}
+use seplogic.Ra.Ura.{Ura}
+use sound.WpLaws.{WpFn-mono}
+use types.ByLocal.{alloc_all, free_all, look_at, pass_all, sets}
+use types.Kit.{ !, ‵, ◌$◌, ◌∵◌, done, move, qed, raw, suffices}
+use types.Logic.{Logic}
+use types.Part.{agg}
+use types.Run.{enter, no_more, returns}
+use Rattle.vm_rule.specs.{contracts.began.Began.new.Key.name as key, declared.began.Began.Began}
 use Rattle.vm_rule.specs.contracts.began.Began as made
-use Rattle.vm_rule.specs.declared.began.Began.{Began}
+use Rattle.vm_rule.specs.contracts.began.Began.new as f
+use Rattle.vm_rule.proofs.began.Began.new.Code as code
+use Rattle.vm_rule.proofs.began.Began.new.Statement as stated
 
 abbrev stayed : Stays (f.ended).signature.params (f.ended).kept
 stayed = tt

@@ -1,6 +1,6 @@
 use Rattle.std.proofs.Common.{◌∙◌}
 use Rattle.vm_rule.proofs.FirstRule.{opens-as, opens-fit}
-use Rattle.vm_rule.proofs.StartedStart.{started-opens, shape-told, words-told}
+use Rattle.vm_rule.proofs.StartedStart.{shape-told, started-opens, words-told}
 use Rattle.vm_rule.proofs.words.Words.started.Goals as goal
 
 pub opened-requires-clause-stands : goal.opened-requires-clause-stands

@@ -1,0 +1,417 @@
+-- The ways to release a page that a pass holds exclusively: the table, the versions and the group before and after, and what the pass knows of the page.
+use Rattle.std.proofs.Common.{[], ⊎_elim, ◌++◌, ◌+◌, ◌<◌, ◌||◌, ◌∙◌, ◌∷◌, ◌≡◌, ◌≢◌, ◌≤◌, ◌⊎◌, ap, arith, Bool, eqb, false, if◌then◌else◌, inl, inr}
+use Rattle.std.proofs.Common.{IsSome, length, List, None, Option, refl, slice_set, Some, subst, sym, true, true≢false, ℕ}
+use Rattle.std.proofs.lemmas.Bool.{cases_eq, eq-eqb, false≢true, ne_eqb}
+use Rattle.vm_core.specs.Prelude.{EVICTED, get_elem?, History, Legal, MAX_VERSION, on_page, Page, seen, some, State, state_of, UNLOCKED, upd, Version}
+use Rattle.vm_core.specs.Prelude.{version_of, word_of, World, world_after}
+use Rattle.vm_core.specs.declared.event.Event.TheVariants.{Downgrade, Release, ReleaseE}
+use Rattle.vm_core.specs.declared.event.Seen.TheVariants as sights
+use Rattle.vm_core.proofs.Upd.{upd-other, upd-same}
+use Rattle.vm_owner.proofs.NumberLemmas.{has-without, has-without_other, has-without_same, without-none}
+use Rattle.vm_rule.specs.Prelude.{actor_of, Change, change_of, changed_pages, changes_of, core_shown, did_store, draft_of, Each, entries_of, Entry}
+use Rattle.vm_rule.specs.Prelude.{entry_of, Event, has, histories_of, index_of, is_pending, Kept, KnowsPages, last_in, last_of, Mapping, may_call}
+use Rattle.vm_rule.specs.Prelude.{next_after, no_held, put, put_at, Ruled, Seat, seat_of, Start, Stored, Table, width, without, world_of}
+use Rattle.vm_rule.specs.declared.view.Place.TheVariants as places
+use Rattle.vm_rule.specs.Releases.{downgraded_view, evicted_view, released_view}
+use Rattle.vm_rule.proofs.{Adding.after_step, Adding.became, Entries.append-none, Facts.has-both, Facts.locked-here, Found.seat-here, Views.at-bound}
+use Rattle.vm_rule.proofs.WordFacts.{bare-state, bare-version, word-state, word-version}
+use Rattle.vm_rule.proofs.Worlds.{downgrade-step, draft-is, last-is, release-else, release-here, release-step, release_of, releasee-step, wrote}
+use Rattle.vm_step.specs.Prelude.{IsClaimed, IsFirst, IsMember, IsNotOut, IsToldOf, MayDowngrade, MayEvict, MayGiveUp, Origin, Release as Released}
+use Rattle.vm_step.specs.Prelude.{View}
+use Rattle.vm_step.specs.steps.Release.{IsLater}
+use Rattle.vm_step.proofs.steps.CatchUp.{found-below, written-below}
+
+-- p is no member any more; the other members still are, and those of `rest` come to them
+pub record Members (p : ℕ) (rest before after : List ℕ) : Type 0 where
+  pub gone : has p after ≡ false
+  pub stays : (q : ℕ) → q ≢ p → has q before ≡ true → has q after ≡ true
+  pub comes : (q : ℕ) → has q rest ≡ true → has q after ≡ true
+  pub among : (q : ℕ) → has q after ≡ true → (q ≢ p) × ((has q before ≡ true) ⊎ (has q rest ≡ true))
+  pub others : (q : ℕ) → q ≢ p → has q rest ≡ false → has q after ≡ has q before
+
+-- p is the first of its group
+pub first-members : (p : ℕ) (rest before : List ℕ) → has p before ≡ false → has p rest ≡ false → Members p rest before (if has p before then without p before else rest ++ before)
+first-members p rest before free apart =
+    rw free (record {
+      gone = both p ∙ rw apart free;
+      stays = λ q ne e. both q ∙ rw e (or-true (has q rest));
+      comes = λ q e. both q ∙ rw e refl;
+      among = λ q e. (
+        (λ s. true≢false (sym e ∙ ap (λ n. has n (rest ++ before)) s ∙ both p ∙ rw apart free)),
+        either (has q rest) (has q before) (sym (both q) ∙ e),
+      );
+      others = λ q ne e. both q ∙ rw e refl;
+    })
+  where
+    both : (q : ℕ) → has q (rest ++ before) ≡ (has q rest || has q before)
+    both q = has-both q rest before
+
+    or-true : (x : Bool) → (x || true) ≡ true
+    or-true true = refl
+    or-true false = refl
+
+    either : (a b : Bool) → (a || b) ≡ true → (b ≡ true) ⊎ (a ≡ true)
+    either true b e = inr refl
+    either false b e = inl e
+
+-- p is a later member
+pub later-members : (p : ℕ) (before : List ℕ) → has p before ≡ true → Members p [] before (if has p before then without p before else [] ++ before)
+later-members p before member =
+    rw member (record {
+      gone = has-without_same p before;
+      stays = λ q ne e. has-without_other p q before ne ∙ e;
+      comes = λ q e. absurd (false≢true e);
+      among = λ q e. ((λ s. false≢true (sym (has-without_same p before) ∙ ap (λ n. has n (without p before)) (sym s) ∙ e)), inl (has-without p q before e));
+      others = λ q ne e. has-without_other p q before ne;
+    })
+
+-- a fact of each of the list, of one that stands in it
+pub each-has : (P : ℕ → Type 0) (qs : List ℕ) (q : ℕ) → Each P qs → has q qs ≡ true → P q
+each-has P [] q e some' = absurd (false≢true some')
+each-has P (x ∷ xs) q e some' =
+    ⊎_elim (λ s. subst P (sym s) e.0) (λ ne. each-has P xs q e.1 (sym (ap (λ b. b || has q xs) (ne_eqb q x ne)) ∙ some')) (cases_eq q x)
+
+-- the loaded next word stays known where another page is given up
+pub next-kept : (p : ℕ) (o : Option ℕ) (x : ℕ) → next_after p o ≡ Some x → (x ≢ p) × (o ≡ Some x)
+next-kept p None x e = absurd (cc)
+next-kept p (Some y) x e =
+    ⊎_elim
+    (λ s. absurd (let none : None ≡ Some x = sym (ap (λ (b : Bool). if b then None else Some y) (eq-eqb y p s)) ∙ e in cc))
+    (λ ne. let is : Some y ≡ Some x = sym (ap (λ (b : Bool). if b then None else Some y) (ne_eqb y p ne)) ∙ e in ((λ s. ne (inside y x is ∙ s)), is))
+    (cases_eq y p)
+  where
+    inside : (a b : ℕ) → Some a ≡ Some b → a ≡ b
+    inside a b k = cc
+
+module _ {X : Type 0} where
+  pub entries-one : (v : View X) (said : Option X) → (entries_of v said ≡ []) ⊎ ((x : X) × (entries_of v said ≡ entry_of v x ∷ []))
+  entries-one v None = inl refl
+  entries-one v (Some x) = inr (x, refl)
+
+  pub changes-pages : (v : View X) (qs : List ℕ) → changed_pages (changes_of v qs) ≡ qs
+  changes-pages v [] = refl
+  changes-pages v (q ∷ qs) = ap (λ (l : List ℕ). q ∷ l) (changes-pages v qs)
+
+  -- a fact of each change
+  pub changes-each : (v : View X) (P : Change → Type 0) (qs : List ℕ) → ((q : ℕ) → has q qs ≡ true → P (change_of v q)) → Each P (changes_of v qs)
+  changes-each v P [] f = tt
+  changes-each v P (q ∷ qs) f =
+      (f q (ap (λ b. b || has q qs) (eq-eqb q q refl)), changes-each v P qs (λ n e. f n (ap (λ b. eqb n q || b) e ∙ or-true (eqb n q))))
+    where
+      or-true : (x : Bool) → (x || true) ≡ true
+      or-true true = refl
+      or-true false = refl
+
+pub data Way : Type 0 where
+  Unlocks : Way
+  Evicts : Way
+  Shares : Way
+
+-- where the page must stand, for each
+abbrev pub StandsFor : Way → Option Mapping → Type 0
+StandsFor Evicts m = m ≡ None
+StandsFor Unlocks m = IsSome m
+StandsFor Shares m = IsSome m
+
+-- the state that is left, and the word, at this version; and what the pass has of the page then
+abbrev pub state_left : Way → ℕ
+state_left Evicts = EVICTED
+state_left Unlocks = UNLOCKED
+state_left Shares = 1
+
+abbrev pub word_left : Way → ℕ → ℕ
+word_left Evicts version = word_of EVICTED version
+word_left Unlocks version = version
+word_left Shares version = word_of 1 version
+
+abbrev pub seat_left : Way → Seat → Seat
+seat_left Evicts k = record k { exclusive = false }
+seat_left Unlocks k = record k { exclusive = false }
+seat_left Shares k = record k { shares = 1; exclusive = false }
+
+pub left-state : (way : Way) (version : ℕ) → version ≤ MAX_VERSION → state_of (word_left way version) ≡ state_left way
+left-state Evicts version l = word-state EVICTED version l
+left-state Unlocks version l = bare-state version l
+left-state Shares version l = word-state 1 version l
+
+pub left-version : (way : Way) (version : ℕ) → version ≤ MAX_VERSION → version_of (word_left way version) ≡ version
+left-version Evicts version l = word-version EVICTED version l
+left-version Unlocks version l = bare-version version l
+left-version Shares version l = word-version 1 version l
+
+pub left-exclusive : (way : Way) (k : Seat) → (seat_left way k).exclusive ≡ false
+left-exclusive Evicts k = refl
+left-exclusive Unlocks k = refl
+left-exclusive Shares k = refl
+
+-- the event, and the page after it
+abbrev pub event_left : Way → ℕ → ℕ → Event
+event_left Evicts a p = ReleaseE a p
+event_left Unlocks a p = Release a p
+event_left Shares a p = Downgrade a p
+
+abbrev pub page_left : Way → Page → ℕ → Page
+page_left way r a =
+    record r { state = state_left way; version = r.version + 1; seats = upd r.seats a (seat_left way (r.seats a)) }
+
+pub left-actor : (way : Way) (a p : ℕ) → actor_of (event_left way a p) ≡ a
+left-actor Evicts a p = refl
+left-actor Unlocks a p = refl
+left-actor Shares a p = refl
+
+pub left-sees : (way : Way) (c : State) (a p : ℕ) → seen c (event_left way a p) ≡ sights.Done
+left-sees Evicts c a p = refl
+left-sees Unlocks c a p = refl
+left-sees Shares c a p = refl
+
+pub left-core : (way : Way) (w : World) (a p : ℕ) → (world_after w (event_left way a p)).core ≡ on_page w.core p (page_left way (w.core.pages p) a)
+left-core Evicts w a p = refl
+left-core Unlocks w a p = refl
+left-core Shares w a p = refl
+
+pub left-legal : (way : Way) (c : State) (a p : ℕ) → a < c.shape.actors → p < c.shape.pages → ((c.pages p).seats a).exclusive ≡ true → StandsFor way (c.pages p).trans → (c.pages p).fault ≡ (c.pages p).count
+    → Legal c (event_left way a p)
+left-legal Evicts c a p actor page owns stands told = (record { actor = actor; page = page }, record { owns = owns; empty = stands; told = told })
+left-legal Unlocks c a p actor page owns stands told = (record { actor = actor; page = page }, record { owns = owns; resident = stands; told = told })
+left-legal Shares c a p actor page owns stands told = (record { actor = actor; page = page }, record { owns = owns; resident = stands; told = told })
+
+-- the view after it, of a page that is alone, first of a group, or a later member
+abbrev pub left_view : {X : Type 0} → Way → ℕ → List ℕ → Option X → View X → View X
+left_view way p rest said v = record (released_view p rest said v) { seats = put p (seat_left way (seat_of v p)) v.seats }
+
+module _ {X B : Type 0} (stored : B → Stored) (start : Origin) where
+  -- the world after it: the draft is the next version
+  pub left-step : (way : Way) (s : Table (Option B) (View X)) (releases : List Released) (drafts : ℕ → List ℕ) (id : ℕ) (v w : View X) (p x : ℕ) → length s.words ≡ width start → p < start.pages → get_elem? s.views id ≡ some v
+      → w.out ≡ v.out → w.frames ≡ v.frames → w.loads ≡ v.loads → w.seats ≡ put p (seat_left way (seat_of v p)) v.seats
+      → state_of x ≡ state_left way → version_of x ≡ ((core_shown stored start s).pages p).version + 1
+      → world_of stored start (releases ++ release_of start releases drafts p ∷ []) drafts (wrote stored start s id (places.State p) x w) ≡ world_after (world_of stored start releases drafts s) (event_left way id p)
+  left-step Evicts s releases drafts id v w p x wide l there out frames loads seats is next = releasee-step stored start s releases drafts id v w p x wide l there out frames loads seats is next
+  left-step Unlocks s releases drafts id v w p x wide l there out frames loads seats is next = release-step stored start s releases drafts id v w p x wide l there out frames loads seats is next
+  left-step Shares s releases drafts id v w p x wide l there out frames loads seats is next = downgrade-step stored start s releases drafts id v w p x wide l there out frames loads seats is next
+
+-- a release that a pass may make of a page, on a table that meets the rule
+pub record Releasing {X B : Type 0} (stored : B → Stored) (keeps : Start → Kept X → Type 0) (tied : Start → ℕ → List ℕ → ℕ → List ℕ → Type 0) (start : Origin) (tells : Bool) (may_release : Start → List ℕ → List Change → List (Entry X) → Type 0) : Type 0 where
+  pub s : Table (Option B) (View X)
+  pub r : Ruled stored keeps tied start tells s
+  pub id : ℕ
+  pub v : View X
+  pub there : get_elem? s.views id ≡ some v
+  pub live : v.live ≡ true
+  pub p : ℕ
+  pub version : ℕ
+  pub rest : List ℕ
+  pub said : Option X
+  pub inside : p < start.pages
+  pub below : version < MAX_VERSION
+  -- how it is released, and what the pass knows of it
+  pub way : Way
+  pub owns : (seat_of v p).exclusive ≡ true
+  pub stands : StandsFor way (put_at no_held v.held p).mapping
+  pub told : IsToldOf v p
+  pub home : IsNotOut v p
+  pub at_last : version ≡ (last_of v p).version
+  pub group : IsFirst may_release p rest said v ⊎ IsLater p rest said v
+
+module _ {X B : Type 0} {stored : B → Stored} {keeps : Start → Kept X → Type 0} {tied : Start → ℕ → List ℕ → ℕ → List ℕ → Type 0} {start : Origin} {tells : Bool} {may_release : Start → List ℕ → List Change → List (Entry X) → Type 0} (rel : Releasing stored keeps tied start tells may_release) where
+  abbrev pub old : World
+  old = world_of stored start rel.r.releases rel.r.drafts rel.s
+
+  abbrev pub mine : KnowsPages tied start old (is_pending rel.s.views) rel.v
+  mine = rel.r.known rel.id rel.v rel.there rel.live
+
+  -- the pass knows the draft and the last words of a page that it holds
+  pub draft-known : (q : ℕ) → (seat_of rel.v q).exclusive ≡ true → draft_of rel.v q ≡ rel.r.drafts q
+  draft-known q owns = mine.drafts q owns ∙ draft-is start rel.r.releases rel.r.drafts q
+
+  pub last-known : (q : ℕ) → (seat_of rel.v q).exclusive ≡ true → (last_of rel.v q).words ≡ (old.histories q).last.words
+  last-known q owns = ap (λ (h : Version). h.words) (mine.latest q (inl owns))
+
+  -- where a page was not claimed, as far as the table's next word goes, its draft is its last words
+  pub unclaimed : (q : ℕ) → q < start.pages → (seat_of rel.v q).exclusive ≡ true → IsClaimed rel.v q → start.tells ≡ true → old.core.next ≤ q → draft_of rel.v q ≡ (old.histories q).last.words
+  unclaimed q l owns (inl same) t le = same ∙ last-known q owns
+  unclaimed q l owns (inr (inl written)) t le = absurd (written (last-known q owns ∙ rel.r.zero t q le l))
+  unclaimed q l owns (inr (inr (inl (inr known)))) t le =
+      let high : known.0 ≤ old.core.next = ⊎_elim (λ given. found-below old rel.v.log known.0 mine.words given) (λ written. written-below old rel.v.log known.0 mine.words written) known.1 in
+      let under = known.2 in
+      absurd (omega (arith, high, under, le))
+  unclaimed q l owns (inr (inr (inl (inl early)))) t le =
+      absurd (let same = ap (λ (o : Origin). o.next) (rel.r.heard rel.id rel.v rel.there rel.live).same_start in let risen = rel.r.risen in omega (arith, early, same, risen, le))
+  unclaimed q l owns (inr (inr (inr due))) t le = absurd (let under = (mine.owed q due).2 in omega (arith, under, le))
+
+  -- the word that it leaves
+  abbrev pub word : ℕ
+  word = word_left rel.way (rel.version + 1)
+
+  abbrev pub words : List ℕ
+  words = slice_set rel.s.words (index_of start (places.State rel.p)) word
+
+  -- its release
+  abbrev pub own : Released
+  own = record { page = rel.p; version = rel.version + 1; words = draft_of rel.v rel.p }
+
+  abbrev pub releases : List Released
+  releases = rel.r.releases ++ own ∷ []
+
+  abbrev pub inner : View X
+  inner = left_view rel.way rel.p rel.rest rel.said rel.v
+
+  abbrev pub left : View X
+  left = after_step stored keeps tied start tells rel.s rel.r words (own ∷ []) (entries_of rel.v rel.said) (did_store (places.State rel.p) word) inner
+
+  abbrev pub new : Table (Option B) (View X)
+  new = became stored keeps tied start tells rel.s words rel.id left
+
+  pub version-is : rel.version ≡ (old.core.pages rel.p).version
+  version-is = rel.at_last ∙ ap (λ (h : Version). h.version) (mine.latest rel.p (inl rel.owns)) ∙ (rel.r.inv.pages rel.p).stands.last
+
+  pub next-version : rel.version ≡ (last_in start rel.r.releases rel.p).version
+  next-version = rel.at_last ∙ ap (λ (h : Version). h.version) (mine.latest rel.p (inl rel.owns) ∙ sym (last-is start rel.r.releases rel.r.drafts rel.p))
+
+  pub own-is : own ≡ release_of start rel.r.releases rel.r.drafts rel.p
+  own-is i = record { page = rel.p; version = next-version i + 1; words = draft-known rel.p rel.owns i }
+
+  abbrev pub event : Event
+  event = event_left rel.way rel.id rel.p
+
+  -- the page after it
+  abbrev pub page : Page
+  page = page_left rel.way (old.core.pages rel.p) rel.id
+
+  pub released-state : state_of word ≡ state_left rel.way
+  released-state = left-state rel.way (rel.version + 1) (omega (arith, rel.below))
+
+  pub released-version : version_of word ≡ (old.core.pages rel.p).version + 1
+  released-version = left-version rel.way (rel.version + 1) (omega (arith, rel.below)) ∙ ap (λ n. n + 1) version-is
+
+  pub world-is : world_of stored start releases rel.r.drafts new ≡ world_after old event
+  world-is =
+      ap (λ o. world_of stored start (rel.r.releases ++ o ∷ []) rel.r.drafts new) own-is
+      ∙ left-step stored start rel.way rel.s rel.r.releases rel.r.drafts rel.id rel.v left rel.p word rel.r.wide.0 rel.inside rel.there refl refl refl refl released-state released-version
+
+  core-is : core_shown stored start new ≡ on_page old.core rel.p page
+  core-is = ap (λ (y : World). y.core) world-is ∙ left-core rel.way old rel.id rel.p
+
+  pub next-is : (core_shown stored start new).next ≡ old.core.next
+  next-is = ap (λ (c : State). c.next) core-is
+
+  pub frames-are : (f : ℕ) → (core_shown stored start new).words f ≡ old.core.words f
+  frames-are f = ap (λ (c : State). c.words f) core-is
+
+  pub pages-is : (core_shown stored start new).pages ≡ upd old.core.pages rel.p page
+  pages-is = ap (λ (c : State). c.pages) core-is
+
+  pub page-here : (core_shown stored start new).pages rel.p ≡ page
+  page-here = ap (λ (f : ℕ → Page). f rel.p) pages-is ∙ upd-same old.core.pages rel.p page
+
+  pub page-else : (q : ℕ) → q ≢ rel.p → (core_shown stored start new).pages q ≡ old.core.pages q
+  page-else q ne = ap (λ (f : ℕ → Page). f q) pages-is ∙ upd-other old.core.pages rel.p page q ne
+
+  -- the histories after it
+  pub last-here : (histories_of start releases rel.r.drafts rel.p).last.words ≡ draft_of rel.v rel.p
+  last-here = ap (λ (h : History). h.last.words) (release-here start rel.r.releases rel.r.drafts own)
+
+  pub history-else : (q : ℕ) → q ≢ rel.p → histories_of start releases rel.r.drafts q ≡ old.histories q
+  history-else q ne = release-else start rel.r.releases rel.r.drafts own q ne
+
+  -- the seats after it
+  pub seat-p : seat_of inner rel.p ≡ seat_left rel.way (seat_of rel.v rel.p)
+  seat-p = upd-same (seat_of rel.v) rel.p (seat_left rel.way (seat_of rel.v rel.p))
+
+  pub seat-else : (q : ℕ) → q ≢ rel.p → seat_of inner q ≡ seat_of rel.v q
+  seat-else q ne = upd-other (seat_of rel.v) rel.p (seat_left rel.way (seat_of rel.v rel.p)) q ne
+
+  pub still-owns : (q : ℕ) → q ≢ rel.p → (seat_of rel.v q).exclusive ≡ true → (seat_of inner q).exclusive ≡ true
+  still-owns q ne owns = ap (λ (y : Seat). y.exclusive) (seat-else q ne) ∙ owns
+
+  pub calls-p : may_call (seat_of rel.v rel.p) ≡ true
+  calls-p = rw rel.owns refl
+
+  pub release-legal : Legal old.core event
+  release-legal =
+      left-legal rel.way old.core rel.id rel.p (at-bound rel.s.views rel.id rel.v rel.there) rel.inside
+      (ap (λ (y : Seat). y.exclusive) (seat-here stored start rel.s rel.id rel.p rel.v rel.inside rel.there) ∙ rel.owns)
+      (subst (StandsFor rel.way) ((mine.knows rel.p).calls calls-p).0 rel.stands)
+      (sym ((mine.knows rel.p).calls calls-p).1 ∙ rel.told ∙ ((mine.knows rel.p).calls calls-p).3)
+
+  -- the group
+  pub members-are : Members rel.p rel.rest rel.v.pending inner.pending
+  members-are =
+      ⊎_elim
+      (λ (f : IsFirst may_release rel.p rel.rest rel.said rel.v). first-members rel.p rel.rest rel.v.pending f.members.0.free f.apart.0)
+      (λ (k : IsLater rel.p rel.rest rel.said rel.v). subst (λ l. Members rel.p l rel.v.pending (released_view rel.p l rel.said rel.v).pending) (sym k.alone) (later-members rel.p rel.v.pending k.pending))
+      rel.group
+
+  pub member-is : (q : ℕ) → has q rel.rest ≡ true → IsMember rel.v q
+  member-is q e =
+      ⊎_elim
+      (λ (f : IsFirst may_release rel.p rel.rest rel.said rel.v). each-has (IsMember rel.v) rel.rest q f.members.1 e)
+      (λ (k : IsLater rel.p rel.rest rel.said rel.v). absurd (false≢true (sym (ap (has q) k.alone) ∙ e)))
+      rel.group
+
+  pub member-page : (q : ℕ) → IsMember rel.v q → q < start.pages
+  member-page q m = let l = m.page in let same = ap (λ (o : Origin). o.pages) (rel.r.heard rel.id rel.v rel.there rel.live).same_start in omega (arith, l, same)
+
+  pub claimed : (q : ℕ) → IsMember rel.v q → start.tells ≡ true → old.core.next ≤ q → draft_of rel.v q ≡ (old.histories q).last.words
+  claimed q m t le = unclaimed q (member-page q m) m.owns (m.claimed (ap (λ (o : Origin). o.tells) (rel.r.heard rel.id rel.v rel.there rel.live).same_start ∙ t)) t le
+
+  -- a page past the next word is released with the words that it had
+  pub unwritten : start.tells ≡ true → old.core.next ≤ rel.p → draft_of rel.v rel.p ≡ (old.histories rel.p).last.words
+  unwritten t le =
+      ⊎_elim
+      (λ (f : IsFirst may_release rel.p rel.rest rel.said rel.v). claimed rel.p f.members.0 t le)
+      (λ (k : IsLater rel.p rel.rest rel.said rel.v). mine.drafts rel.p rel.owns ∙ (mine.pending rel.p k.pending).1 t le)
+      rel.group
+
+-- its view after the second is that after the first, where the page is no member of a group and not owed
+pub evicted-is : {X : Type 0} (v : View X) (p version : ℕ) → MayEvict v p version → released_view p [] None v ≡ evicted_view p v
+evicted-is v p version g i = record v {
+  seats = put p (record (seat_of v p) { exclusive = false }) v.seats;
+  pending = ap (λ (b : Bool). if b then without p v.pending else v.pending) g.free i;
+  owed = without-none p v.owed g.paid i;
+  next = next_after p v.next;
+  mine = append-none v.mine i;
+}
+
+-- and so after a release to a share
+pub downgraded-is : {X : Type 0} {may_release : Start → List ℕ → List Change → List (Entry X) → Type 0} (v : View X) (p version : ℕ) → MayDowngrade may_release v p version → left_view Shares p [] None v ≡ downgraded_view p v
+downgraded-is v p version g i = record v {
+  seats = put p (record (seat_of v p) { shares = 1; exclusive = false }) v.seats;
+  pending = ap (λ (b : Bool). if b then without p v.pending else v.pending) g.first.members.0.free i;
+  owed = without p v.owed;
+  next = next_after p v.next;
+  mine = append-none v.mine i;
+}
+
+module _ {X B : Type 0} {stored : B → Stored} {keeps : Start → Kept X → Type 0} {tied : Start → ℕ → List ℕ → ℕ → List ℕ → Type 0} {start : Origin} {tells : Bool} (s : Table (Option B) (View X)) (r : Ruled stored keeps tied start tells s) (id : ℕ) (v : View X) (there : get_elem? s.views id ≡ some v) (live : v.live ≡ true) (p version : ℕ) where
+  -- the draft of a page that is not resident is its last words
+  pub evicted-same : p < start.pages → MayEvict v p version → v.start.tells ≡ true → draft_of v p ≡ (last_of v p).words
+  evicted-same l g t =
+      let old : World = world_of stored start r.releases r.drafts s in
+      let k : KnowsPages tied start old (is_pending s.views) v = r.known id v there live in
+      let calls : may_call (seat_of v p) ≡ true = rw g.owns refl in
+      let none : (old.core.pages p).trans ≡ None = sym ((k.knows p).calls calls).0 ∙ g.empty in
+      let words = (r.inv.pages p).contents (ap (λ (o : Origin). o.tells) (sym (r.heard id v there live).same_start) ∙ t) in
+      k.drafts p g.owns
+      ∙ (words.unwritten (locked-here stored start s id p v (r.inv.pages p).locks l there g.owns) (λ m e. absurd (let no : None ≡ Some m = sym none ∙ e in cc))).0
+      ∙ sym (ap (λ (h : Version). h.words) (k.latest p (inl g.owns)))
+
+  module _ {may_release : Start → List ℕ → List Change → List (Entry X) → Type 0} where
+    -- a release as Unlocked, and one as Evicted
+    abbrev pub giving-up : (rest : List ℕ) (said : Option X) → p < start.pages → version < MAX_VERSION → MayGiveUp may_release p version rest said v → Releasing stored keeps tied start tells may_release
+    giving-up rest said inside below g =
+        record { s = s; r = r; id = id; v = v; there = there; live = live; p = p; version = version; rest = rest; said = said; inside = inside; below = below; way = Unlocks; owns = g.owns; stands = g.resident; told = g.told; home = g.home; at_last = g.at; group = g.group }
+
+    abbrev pub downgrading : p < start.pages → version < MAX_VERSION → MayDowngrade may_release v p version → Releasing stored keeps tied start tells may_release
+    downgrading inside below g =
+        record { s = s; r = r; id = id; v = v; there = there; live = live; p = p; version = version; rest = []; said = None; inside = inside; below = below; way = Shares; owns = g.owns; stands = g.resident; told = g.told; home = g.home; at_last = g.at; group = inl g.first }
+
+    abbrev pub evicting : p < start.pages → version < MAX_VERSION → MayEvict v p version → Releasing stored keeps tied start tells may_release
+    evicting inside below g =
+        let group : IsFirst may_release p [] None v =
+        record {
+          members = (record { page = let same = ap (λ (o : Origin). o.pages) (r.heard id v there live).same_start in omega (arith, inside, same); owns = g.owns; free = g.free; claimed = λ t. inl (evicted-same inside g t) }, tt);
+          apart = (refl, tt);
+          few = omega arith;
+          owner = λ t. inl (refl, (evicted-same inside g t, g.paid, tt));
+        } in
+        record { s = s; r = r; id = id; v = v; there = there; live = live; p = p; version = version; rest = []; said = None; inside = inside; below = below; way = Evicts; owns = g.owns; stands = g.empty; told = g.told; home = g.home; at_last = g.at; group = inl group }

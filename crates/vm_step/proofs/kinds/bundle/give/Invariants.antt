@@ -1,0 +1,6 @@
+use Rattle.vm_rule.specs.Prelude.{GiveTold}
+use Rattle.vm_step.specs.Prelude.{told_of}
+use Rattle.vm_step.proofs.kinds.bundle.give.Given as goal
+
+abbrev pub ghosts-fetch_or : goal.ghosts-fetch_or
+ghosts-fetch_or g a = record { told = told_of a.words.now.table.shared.key g.B.Block.tells (GiveTold a._about a.k) }

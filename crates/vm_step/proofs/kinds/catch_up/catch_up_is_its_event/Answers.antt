@@ -1,0 +1,5 @@
+use Rattle.vm_step.proofs.kinds.catch_up.catch_up_is_its_event.Goals as goal
+use Rattle.vm_step.proofs.steps.Next.{caught_event}
+
+pub returns : goal.returns
+returns g c = caught_event _ _ _ _

@@ -1,0 +1,33 @@
+use Rattle.std.proofs.Common.{[], ◌++◌, ◌+◌, ◌<◌, ◌∙◌, ◌∷◌, ◌≡◌, ap, arith, inl, length, List, subst, sym, take, ℕ}
+use Rattle.std.proofs.lemmas.List.{length-take-le, take_more}
+use Rattle.vm_rule.specs.Prelude.{FillTold, has}
+use Rattle.vm_step.specs.Prelude.{view}
+use Rattle.vm_step.proofs.{Filling.fills, Filling.stores-more, Leaves.ready-after}
+use Rattle.vm_step.proofs.kinds.content.fill.Goals as goal
+
+pub store-requires-clause-pass : goal.store-requires-clause-pass
+store-requires-clause-pass g c =
+    (ready-after _ _ _ c.args.pass.now c.loop-i.pass 0 _ c.loop-i.invariant.same (fills _ 0 0 _ _ _ c.loop-i.invariant.stores).works.leaves c.requires.ready).may
+
+pub store-requires-clause-legal : goal.store-requires-clause-legal
+store-requires-clause-legal g c =
+    inl (ap (has c.args.frame) (fills _ 0 0 _ _ _ c.loop-i.invariant.stores).frames ∙ c.requires.frame.1)
+
+pub loop-i-preserved : goal.loop-i-preserved
+loop-i-preserved g c =
+    let i : ℕ = c.loop-i.i in
+    let page : List ℕ = c.args.page.now in
+    let below : i < 64 = c.loop-i-test.true in
+    let long : length page ≡ 64 = c.requires.size in
+    let front : 0 + length (take i page) ≡ i = let h : length (take i page) ≡ i = length-take-le i page (omega (arith, below, long)) in omega (arith, h) in
+    let more : take (i + 1) page ≡ take i page ++ c.get.result ∷ [] = take_more page i 0 (omega (arith, below, long)) ∙ ap (λ (x : ℕ). take i page ++ x ∷ []) (sym c.get.ensures.word) in
+    let holds = ap (has c.args.frame) (fills _ 0 0 _ _ _ c.loop-i.invariant.stores).frames ∙ c.requires.frame.1 in
+    let there : FillTold c.args.frame (0 + length (take i page)) c.get.result (view c.loop-i.pass) (view c.store.new.pass)
+    = subst (λ (n : ℕ). FillTold c.args.frame n c.get.result (view c.loop-i.pass) (view c.store.new.pass)) (sym front) (c.store.ensures.told.own holds) in
+    record {
+      same = (c.store.ensures.pass.0 ∙ c.loop-i.invariant.same.0, c.store.ensures.pass.1 ∙ c.loop-i.invariant.same.1);
+      stores = rw more (stores-more c.args.frame 0 (take i page) c.get.result _ _ _ c.loop-i.invariant.stores there);
+    }
+
+pub returns-clause-ready : goal.returns-clause-ready
+returns-clause-ready g c = ready-after _ _ _ c.args.pass.now c.loop-i.pass 0 _ c.loop-i.invariant.same (fills _ 0 0 _ _ _ c.loop-i.invariant.stores).works.leaves c.requires.ready

@@ -1,0 +1,10 @@
+use Rattle.std.proofs.Common.{take}
+use Rattle.vm_step.specs.Prelude.{IsSamePass, Stores, view}
+use Rattle.vm_step.proofs.kinds.content.fill.Given as goal
+
+-- the words below i were stored
+abbrev pub invariant-loop-i : goal.invariant-loop-i
+invariant-loop-i g l = record {
+  same : IsSamePass l.fn.pass l.pass;
+  stores : Stores l.frame 0 (take l.i l.page) (view l.fn.pass) (view l.pass);
+}

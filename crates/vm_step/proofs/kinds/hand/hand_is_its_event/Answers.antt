@@ -1,0 +1,5 @@
+use Rattle.vm_step.proofs.kinds.hand.hand_is_its_event.Goals as goal
+use Rattle.vm_step.proofs.steps.Bundle.{hand_event}
+
+pub returns : goal.returns
+returns g c = hand_event _ _ _ _

@@ -1,0 +1,6 @@
+use Rattle.vm_rule.specs.Prelude.{InstallTold}
+use Rattle.vm_step.specs.Prelude.{told_of}
+use Rattle.vm_step.proofs.kinds.mapping.install.Given as goal
+
+abbrev pub ghosts-store : goal.ghosts-store
+ghosts-store g a = record { told = told_of a.words.now.table.shared.key g.B.Block.tells (λ _. InstallTold a._about.0 a._about.1) }

@@ -1,0 +1,6 @@
+use Rattle.vm_rule.specs.Prelude.{ClaimTold}
+use Rattle.vm_step.specs.Prelude.{told_of}
+use Rattle.vm_step.proofs.kinds.next.claim.Given as goal
+
+abbrev pub ghosts-compare_exchange : goal.ghosts-compare_exchange
+ghosts-compare_exchange g a = record { told = told_of a.words.now.table.shared.key g.B.Block.tells (ClaimTold a.expects a._about) }

@@ -1,0 +1,6 @@
+use Rattle.vm_rule.specs.Prelude.{RaiseTold}
+use Rattle.vm_step.specs.Prelude.{told_of}
+use Rattle.vm_step.proofs.kinds.raise.raise.Given as goal
+
+abbrev pub ghosts-store : goal.ghosts-store
+ghosts-store g a = record { told = told_of a.words.now.table.shared.key g.B.Block.tells (λ _. RaiseTold a._about a.new) }

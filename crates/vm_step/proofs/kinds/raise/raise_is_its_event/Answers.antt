@@ -1,0 +1,5 @@
+use Rattle.vm_step.proofs.kinds.raise.raise_is_its_event.Goals as goal
+use Rattle.vm_step.proofs.steps.Block.{raise_event}
+
+pub returns : goal.returns
+returns g c start s id p count v w = raise_event _ start _ _ _ s id p count v w

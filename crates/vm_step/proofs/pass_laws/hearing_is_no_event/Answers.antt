@@ -1,5 +1,0 @@
-use Rattle.vm_step.proofs.NoEvents.{hearing-no-event}
-use Rattle.vm_step.proofs.pass_laws.hearing_is_no_event.Goals as goal
-
-pub returns : goal.returns
-returns g c start s id other v w is apart at-other live here there only = hearing-no-event _ _ _ start _ s id v is other w apart at-other live here there only

@@ -1,0 +1,10 @@
+use Rattle.std.proofs.Common.{◌<◌, ◌^◌, arith, ℕ}
+use Rattle.vm_core.specs.Prelude.{version_of}
+use Rattle.vm_step.proofs.state_words.word_with.Goals as goal
+
+fits : (word : ℕ) → version_of word < 2 ^ 56
+unfolding version_of
+fits word = omega arith
+
+pub of-requires : goal.of-requires
+of-requires c = rw c.version.ensures (fits c.args.word)

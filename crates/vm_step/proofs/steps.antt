@@ -1,0 +1,17 @@
+pub mod Leaving
+pub mod Unchanged
+pub mod Look
+pub mod Lock
+pub mod Share
+pub mod WriteBack
+pub mod Mark
+pub mod Translate
+pub mod Content
+pub mod Mapping
+pub mod Bundle
+pub mod Next
+pub mod Raise
+pub mod CatchUp
+pub mod Pass
+pub mod Block
+pub mod Release

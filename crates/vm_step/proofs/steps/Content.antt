@@ -1,0 +1,456 @@
+-- A word of a frame that is loaded for a page, or stored into a page's frame or one that the pass holds: what each shows of itself and tells; that the
+-- table allows them, and that they are their events.
+--
+-- What a store leaves: into the frame of a page that is held exclusively, of whose draft it speaks; or into a frame of the pass, of whose words it
+-- speaks.
+--
+-- What a load of a word of a frame leaves: it speaks of the words that were loaded through the open read of one page.
+use Rattle.std.proofs.Common.{[], ⊎_elim, ◌&&◌, ◌*◌, ◌+◌, ◌<◌, ◌||◌, ◌∙◌, ◌∷◌, ◌≡◌, ◌≢◌, ◌≤◌, ◌⊎◌, ap, arith, Bool, false, if◌then◌else◌, inl, inr}
+use Rattle.std.proofs.Common.{is_some, IsSome, length, length-set, List, nat_lt, None, Option, refl, slice_index, slice_set, Some, subst, suc, sym}
+use Rattle.std.proofs.Common.{true, true≢false, zero, ℕ}
+use Rattle.std.proofs.lemmas.Bool.{cases_eq, eq-eqb, false≢true, lt-ltb}
+use Rattle.vm_core.specs.Prelude.{EVICTED, frame_of, get_elem?, Legal, load_frame, loads_more, LOCKED, open_frame, Page, some, stands_in, State, upd}
+use Rattle.vm_core.specs.Prelude.{Version, word_at, World}
+use Rattle.vm_core.specs.declared.event.Event.TheVariants.{Load, Store}
+use Rattle.vm_core.specs.declared.event.Seen.TheVariants as sights
+use Rattle.vm_core.proofs.{PageFacts.some-is, PageFacts.some-same, Upd.upd-other, Upd.upd-same}
+use Rattle.vm_rule.specs.Prelude.{Brings, contents_at, core_shown, did_load, did_store, draft_of, Drafts, FillTold, frame_read_by, has, held_at}
+use Rattle.vm_rule.specs.Prelude.{index_of, is_pending, IsLocking, Kept, KnowsPage, KnowsPages, last_of, loads_at, LoadTold, Mapping, no_held, Open}
+use Rattle.vm_rule.specs.Prelude.{put_at, Ruled, Seat, seat_of, Stands, Start, Stored, StoresTold, StoreTold, Table, world_of}
+use Rattle.vm_rule.specs.{declared.view.Held.Held, Loads.loaded_view}
+use Rattle.vm_rule.specs.declared.view.Place.TheVariants as places
+use Rattle.vm_rule.specs.Stores.{drafted_view, filled_view, PassMayStore}
+use Rattle.vm_rule.proofs.{Bringing.steps, Facts.locked-here, Facts.shared-here, FrameWorlds.fill-step, FrameWorlds.stands-nowhere, Views.at-bound}
+use Rattle.vm_rule.proofs.Adding.{after_step, became, Shows}
+use Rattle.vm_rule.proofs.Found.{content-here, held-here, same-word, seat-here}
+use Rattle.vm_rule.proofs.Worlds.{draft-is, load-step, stands-one, store-core, store-step}
+use Rattle.vm_step.specs.Prelude.{AllowsStep, Did, HoldsPage, IsEvent, IsPassOf, IsPlacedAt, KnowsAsBefore, LeavesRest, Origin, Shape, table_after}
+use Rattle.vm_step.specs.Prelude.{told_of, View, Works}
+use Rattle.vm_step.specs.steps.Content.{FillIsItsEvent, LoadIsItsEvent, StoreIsItsEvent}
+use Rattle.vm_step.proofs.{Fit.fit, Leaves.works-one, Mine.member-mine, Mine.stands-known, Standing.allows, Written.spelled-still}
+use Rattle.vm_step.proofs.{Written.stands-there}
+use Rattle.vm_step.proofs.Quiet.{lock-quiet, moved-shows, quiet-shows}
+use Rattle.vm_step.proofs.steps.Leaving.{apart, holds-still, knows-still, last-still, LeavesOthers, LeavesOwn, others-from, own-from, rest-of}
+
+-- ---- who has a page locked
+
+or-true : (a b : Bool) → (a || b) ≡ true → (a ≡ true) ⊎ (b ≡ true)
+or-true true b e = inl refl
+or-true false b e = inr e
+
+either-true : (a b : Bool) → (a ≡ true) ⊎ (b ≡ true) → (a || b) ≡ true
+either-true true b e = refl
+either-true false b e = ⊎_elim (λ x. absurd (false≢true x)) (λ x. x) e
+
+one-share : (n : ℕ) → nat_lt 0 n ≡ true → 1 ≤ n
+one-share zero e = absurd (false≢true e)
+one-share (suc n) e = omega arith
+
+locking-is : (y : Seat) → (y.exclusive || nat_lt 0 y.shares) ≡ true → IsLocking y
+locking-is y e = ⊎_elim (λ x. inl x) (λ x. inr (one-share y.shares x)) (or-true y.exclusive (nat_lt 0 y.shares) e)
+
+is-locking : (y : Seat) → IsLocking y → (y.exclusive || nat_lt 0 y.shares) ≡ true
+is-locking y e = either-true y.exclusive (nat_lt 0 y.shares) (⊎_elim (λ x. inl x) (λ x. inr (lt-ltb 0 y.shares (omega arith))) e)
+
+-- ---- the frame of the translation where there is one and the page is locked, else another
+
+abbrev frame-by : Bool → Option Mapping → Option ℕ → Option ℕ
+frame-by b t d = if b && is_some t then frame_of t else d
+
+frame-some : (t u : Option Mapping) (d : Option ℕ) → frame_of t ≡ frame_of u → frame-by true t d ≡ frame-by true u d
+frame-some None None d e = refl
+frame-some (Some m) (Some n) d e = e
+frame-some None (Some n) d e = cc
+frame-some (Some m) None d e = cc
+
+frame-same : (b : Bool) (t u : Option Mapping) (d : Option ℕ) → (b ≡ true → frame_of t ≡ frame_of u) → frame-by b t d ≡ frame-by b u d
+frame-same false t u d e = refl
+frame-same true t u d e = frame-some t u d (e refl)
+
+frame-mapped : (b : Bool) (t : Option Mapping) (m : Mapping) (d : Option ℕ) → b ≡ true → t ≡ Some m → frame-by b t d ≡ Some m.frame
+frame-mapped b t m d locks is = rw (locks, is) refl
+
+-- the pass knows the frame of a page that it has locked
+pub frame-known : (y : Seat) (h : Held) (r : Page) → KnowsPage y h r → IsLocking y → frame_of h.mapping ≡ frame_of r.trans
+frame-known y h r k = ⊎_elim (λ x. ap frame_of (k.calls (rw x refl)).0) (λ x. k.shares x)
+
+module _ {X B : Type 0} (stored : B → Stored) (start : Origin) (s : Table (Option B) (View X)) (id p : ℕ) (v : View X) (l : p < start.pages) (there : get_elem? s.views id ≡ some v) where
+  abbrev page : Page
+  page = (core_shown stored start s).pages p
+
+  seat-reads : load_frame page id ≡ frame-by ((seat_of v p).exclusive || nat_lt 0 (seat_of v p).shares) page.trans (open_frame (seat_of v p).reading)
+  seat-reads = ap (λ (y : Seat). frame-by (y.exclusive || nat_lt 0 y.shares) page.trans (open_frame y.reading)) (seat-here stored start s id p v l there)
+
+  -- a load of the page reads the frame that the pass knows
+  pub reads-known : KnowsPage (seat_of v p) (put_at no_held v.held p) page → load_frame page id ≡ frame_read_by v p
+  reads-known k =
+      seat-reads
+      ∙ frame-same ((seat_of v p).exclusive || nat_lt 0 (seat_of v p).shares) page.trans (put_at no_held v.held p).mapping (open_frame (seat_of v p).reading)
+      (λ e. sym (frame-known (seat_of v p) (put_at no_held v.held p) page k (locking-is (seat_of v p) e)))
+
+  -- where the pass has the page locked, and the page is resident, that is the page's frame
+  pub reads-mapped : (m : Mapping) (f : ℕ) → page.trans ≡ Some m → IsLocking (seat_of v p) → load_frame page id ≡ Some f → m.frame ≡ f
+  reads-mapped m f is locks reads =
+      some-same m.frame f (sym (frame-mapped ((seat_of v p).exclusive || nat_lt 0 (seat_of v p).shares) page.trans m (open_frame (seat_of v p).reading) (is-locking (seat_of v p) locks) is) ∙ sym seat-reads ∙ reads)
+
+module _ {X B : Type 0} (stored : B → Stored) (keeps : Start → Kept X → Type 0) (tied : Start → ℕ → List ℕ → ℕ → List ℕ → Type 0) (start : Origin) (tells : Bool) (s : Table (Option B) (View X)) (r : Ruled stored keeps tied start tells s) (id : ℕ) (v : View X) (p f i : ℕ) where
+  -- the word that stands there
+  abbrev pub load-found : ℕ
+  load-found = slice_index s.words (3 * start.pages + (64 * f + i))
+
+  abbrev pub load-did : Did
+  load-did = did_load (places.Content f i) load-found
+
+  abbrev pub load-inner : View X
+  load-inner = loaded_view p i load-found v
+
+  abbrev pub load-after : View X
+  load-after = after_step stored keeps tied start tells s r s.words [] [] load-did load-inner
+
+  module _ (there : get_elem? s.views id ≡ some v) (live : v.live ≡ true) (l : p < start.pages) (lf : f < start.frames) (li : i < 64) (by : frame_read_by v p ≡ Some f) where
+    abbrev core : State
+    core = core_shown stored start s
+
+    abbrev known : KnowsPages tied start (world_of stored start r.releases r.drafts s) (is_pending s.views) v
+    known = r.known id v there live
+
+    reads : load_frame (core.pages p) id ≡ Some f
+    reads = reads-known stored start s id p v l there (known.knows p) ∙ by
+
+    pub load-shows : Shows stored keeps tied start tells s r id v s.words r.drafts [] [] load-did load-inner (Load id p i)
+    load-shows =
+        quiet-shows stored keeps tied start tells s r id v s.words r.drafts load-did load-inner (Load id p i) there live
+        (record {
+          wide = r.wide.0;
+          spelled = r.spelled;
+          legal = record { names = record { actor = at-bound s.views id v there; page = l }; place = li; frame = subst IsSome (sym reads) refl };
+          world = load-step stored start s r.releases r.drafts id v load-after p i f load-found l lf li there refl refl refl reads refl refl;
+          at = (lf, li);
+          found = refl;
+          wrote = tt;
+          leaves = record { live = refl; start = refl; used = refl; fresh = refl; notes = refl; log = refl; out = refl; mine = refl; frames = refl; contents = refl; pending = refl; owed = refl; next = refl; ties = refl };
+          calls = λ o x. (r.blocks.away id v o there x).1;
+          holds = λ q x. x;
+          members = λ q _. refl;
+          next = refl;
+          frames = λ g _. refl;
+          knows = known.knows;
+          drafted = λ q x. known.drafts q x ∙ draft-is start r.releases r.drafts q;
+          loaded = ([], refl, tt);
+        })
+
+    -- the word is that of the page's frame, where the pass has the page locked and it is resident
+    mapped-word : (m : Mapping) → (core.pages p).trans ≡ Some m → IsLocking (seat_of v p) → load-found ≡ slice_index (core.words m.frame) i
+    mapped-word m is locks =
+        sym (content-here stored start s f i lf li)
+        ∙ ap (λ n. slice_index (core.words n) i) (sym (reads-mapped stored start s id p v l there m f is locks reads))
+
+    here-tells : v.start.tells ≡ true → start.tells ≡ true
+    here-tells t = ap (λ (o : Origin). o.tells) (sym (r.heard id v there live).same_start) ∙ t
+
+    told-drafted : v.start.tells ≡ true → (seat_of v p).exclusive ≡ true → IsSome (put_at no_held v.held p).mapping → load-found ≡ slice_index (draft_of v p) i
+    told-drafted t owns resident =
+        let m : (m : Mapping) × ((put_at no_held v.held p).mapping ≡ Some m) = some-is (put_at no_held v.held p).mapping resident in
+        let trans : (core.pages p).trans ≡ Some m.0 = sym ((known.knows p).calls (rw owns refl)).0 ∙ m.1 in
+        mapped-word m.0 trans (inl owns)
+        ∙ ap (λ ws. slice_index ws i) (((r.inv.pages p).contents (here-tells t)).draft (locked-here stored start s id p v (r.inv.pages p).locks l there owns) m.0 trans ∙ sym (known.drafts p owns))
+
+    told-shared : v.start.tells ≡ true → 1 ≤ (seat_of v p).shares → load-found ≡ slice_index (last_of v p).words i
+    told-shared t has-share =
+        let state : (1 ≤ (core.pages p).state) × ((core.pages p).state < LOCKED) = shared-here stored start s id p v (r.inv.pages p).locks l there has-share in
+        let free : (core.pages p).state ≢ LOCKED = (λ e. absurd (omega (arith, state.1, e))) in
+        let stays : (core.pages p).state ≢ EVICTED = (λ e. absurd (omega (arith, state.1, e))) in
+        let m : (m : Mapping) × ((core.pages p).trans ≡ Some m) = some-is (core.pages p).trans ((r.inv.pages p).stands.resident free stays) in
+        mapped-word m.0 m.1 (inr has-share)
+        ∙ ap (λ ws. slice_index ws i) (((r.inv.pages p).contents (here-tells t)).logical free m.0 m.1 ∙ ap (λ (y : Version). y.words) (sym (known.latest p (inr has-share))))
+
+    pub load-told : Brings load-did [] [] v load-inner load-after → LoadTold p f i load-found v load-after
+    load-told brings = record { brings = brings; drafted = told-drafted; shared = told-shared }
+
+module _ {X B : Type 0} (stored : B → Stored) (keeps : Start → Kept X → Type 0) (tied : Start → ℕ → List ℕ → ℕ → List ℕ → Type 0) (tells : Bool) where
+  -- the place of word i of frame f, behind the three words of each of the pages
+  abbrev place-of : ℕ → ℕ → ℕ → ℕ
+  place-of pages f i = 3 * pages + (64 * f + i)
+
+  -- of every table that meets the rule
+  load-keeps : (start : Origin) (s : Table (Option B) (View X)) → Ruled stored keeps tied start tells s → (id : ℕ) (v : View X) (p f i : ℕ) → get_elem? s.views id ≡ some v → v.live ≡ true → 0 < length v.used
+      → p < start.pages → f < start.frames → i < 64 → frame_read_by v p ≡ Some f
+      → (w : View X) × Ruled stored keeps tied start tells (became stored keeps tied start tells s (slice_set s.words (place-of start.pages f i) (slice_index s.words (place-of start.pages f i))) id w) × LoadTold p f i (slice_index s.words (place-of start.pages f i)) v w
+  load-keeps start s r id v p f i there live number l lf li by =
+      let w : View X = load-after stored keeps tied start tells s r id v p f i in
+      let k = steps stored keeps tied start tells s r id v s.words r.drafts [] [] (load-did stored keeps tied start tells s r id v p f i) (load-inner stored keeps tied start tells s r id v p f i) (Load id p i) there live number refl refl
+      (load-shows stored keeps tied start tells s r id v p f i there live l lf li by) in (
+        w,
+        subst (λ ws. Ruled stored keeps tied start tells (became stored keeps tied start tells s ws id w)) (sym (same-word s.words (place-of start.pages f i))) k.0,
+        load-told stored keeps tied start tells s r id v p f i there live l lf li by k.1,
+      )
+
+  -- and so of every table that stands
+  pub load-allows : (shape : Shape) (slots id : ℕ) (v : View X) (i : ℕ) (p f j : ℕ) → v.live ≡ true → 0 < length v.used → p < shape.pages → f < shape.frames → j < 64 → frame_read_by v p ≡ Some f → IsPlacedAt shape (places.Content f j) i
+      → AllowsStep (Stands stored keeps tied shape tells) slots id v i (λ n. n) (told_of shape tells (LoadTold p f j))
+  load-allows shape slots id v i p f j live number l lf li by is =
+      allows stored keeps tied shape tells slots id v i (places.Content f j) (λ n. n) (λ n. n) (LoadTold p f j) live is (λ n. refl) (λ n w t. fit t.brings live)
+      (λ start has s r there _. load-keeps start s r id v p f j there live number (subst (λ n. p < n) (sym has.pages) l) (subst (λ n. f < n) (sym has.frames) lf) li by)
+
+module _ {X B : Type 0} (stored : B → Stored) (keeps : Start → Kept X → Type 0) (tied : Start → ℕ → List ℕ → ℕ → List ℕ → Type 0) (start : Origin) (tells : Bool) (s : Table (Option B) (View X)) (r : Ruled stored keeps tied start tells s) (id : ℕ) (v : View X) (there : get_elem? s.views id ≡ some v) (live : v.live ≡ true) where
+  -- the page stands in the frame
+  pub stands-drafted : (p f : ℕ) → Drafts v p f → stands_in ((core_shown stored start s).pages p).trans f ≡ true
+  stands-drafted p f d =
+      ap (λ t. stands_in t f) (stands-known stored keeps tied start tells s r id v there live p (record { frame = f; dirty = true }) d.owns d.stands).1 ∙ eq-eqb f f refl
+
+  pub store-legal : (p f i x : ℕ) → f < start.frames → i < 64 → Drafts v p f → Legal (core_shown stored start s) (Store id f i x)
+  store-legal p f i x lf li d =
+      let known = stands-known stored keeps tied start tells s r id v there live p (record { frame = f; dirty = true }) d.owns d.stands in
+      record {
+        actor = at-bound s.views id v there;
+        frame = lf;
+        place = li;
+        owns = inr (p, known.0, record { owns = ap (λ (y : Seat). y.exclusive) (seat-here stored start s id p v known.0 there) ∙ d.owns; stands = known.1 });
+      }
+
+  pub store-shows : (p f i x : ℕ) → f < start.frames → i < 64 → Drafts v p f
+      → Shows stored keeps tied start tells s r id v (slice_set s.words (index_of start (places.Content f i)) x) (upd r.drafts p (slice_set (r.drafts p) i x)) [] [] (did_store (places.Content f i) x) (drafted_view p i x v) (Store id f i x)
+  store-shows p f i x lf li d =
+      let words : List ℕ = slice_set s.words (index_of start (places.Content f i)) x in
+      let drafts : ℕ → List ℕ = upd r.drafts p (slice_set (r.drafts p) i x) in
+      let inner : View X = drafted_view p i x v in
+      let w : View X = after_step stored keeps tied start tells s r words [] [] (did_store (places.Content f i) x) inner in
+      let c : State = core_shown stored start s in
+      let old : World = world_of stored start r.releases r.drafts s in
+      let m : Mapping = record { frame = f; dirty = true } in
+      let k : KnowsPages tied start old (is_pending s.views) v = r.known id v there live in
+      let known : (p < start.pages) × ((c.pages p).trans ≡ Some m) = stands-known stored keeps tied start tells s r id v there live p m d.owns d.stands in
+      quiet-shows stored keeps tied start tells s r id v words drafts (did_store (places.Content f i) x) inner (Store id f i x) there live
+      (record {
+        wide = length-set s.words (index_of start (places.Content f i)) x ∙ r.wide.0;
+        spelled = spelled-still start s.words (places.Content f i) x r.wide.0 (lf, li) refl r.spelled;
+        legal = store-legal p f i x lf li d;
+        world = store-step stored start s r.releases r.drafts id v w p f i x true r.inv r.wide.0 known.0 lf li there refl refl refl refl d.owns known.1;
+        at = (lf, li);
+        found = tt;
+        wrote = stands-there start s.words (places.Content f i) x r.wide.0 (lf, li);
+        leaves = lock-quiet v v.seats v.loads v.held inner.drafts;
+        calls = λ o e. (r.blocks.away id v o there e).1;
+        holds = λ q owns. owns;
+        members = λ q some'. upd-other r.drafts p (slice_set (r.drafts p) i x) q
+            (λ e. true≢false (sym (member-mine stored keeps tied start tells s r id v there live p known.0 d.owns (ap (is_pending s.views) (sym e) ∙ some')) ∙ d.free));
+        next = refl;
+        frames = λ g e.
+            let nowhere : stands_in (c.pages p).trans g ≡ false = stands-nowhere old g id p r.inv (held-here stored start s id g v there ∙ e) in
+            upd-other c.words f (slice_set (c.words f) i x) g (λ h. true≢false (sym (ap (λ t. stands_in t g) known.1 ∙ eq-eqb f g (sym h)) ∙ nowhere));
+        knows = k.knows;
+        drafted = λ q owns.
+            ⊎_elim
+            (λ e. ap (draft_of inner) e ∙ upd-same (draft_of v) p (slice_set (draft_of v p) i x) ∙ ap (λ l. slice_set l i x) (k.drafts p d.owns ∙ draft-is start r.releases r.drafts p)
+            ∙ sym (ap drafts e ∙ upd-same r.drafts p (slice_set (r.drafts p) i x)))
+            (λ ne. upd-other (draft_of v) p (slice_set (draft_of v p) i x) q ne ∙ k.drafts q owns ∙ draft-is start r.releases r.drafts q ∙ sym (upd-other r.drafts p (slice_set (r.drafts p) i x) q ne))
+            (cases_eq q p);
+        loaded = ([], refl, tt);
+      })
+
+module _ {X B : Type 0} (stored : B → Stored) (keeps : Start → Kept X → Type 0) (tied : Start → ℕ → List ℕ → ℕ → List ℕ → Type 0) (start : Origin) (tells : Bool) (s : Table (Option B) (View X)) (r : Ruled stored keeps tied start tells s) (id : ℕ) (v : View X) (there : get_elem? s.views id ≡ some v) (live : v.live ≡ true) where
+  -- no draft stands in a frame that the pass holds
+  pub no-draft : (p f : ℕ) → has f v.frames ≡ true → Drafts v p f → ⊥
+  no-draft p f owns d =
+      true≢false (sym (stands-drafted stored keeps tied start tells s r id v there live p f d)
+      ∙ stands-nowhere (world_of stored start r.releases r.drafts s) f id p r.inv (held-here stored start s id f v there ∙ owns))
+
+  pub fill-legal : (f i x : ℕ) → f < start.frames → i < 64 → has f v.frames ≡ true → Legal (core_shown stored start s) (Store id f i x)
+  fill-legal f i x lf li owns = record { actor = at-bound s.views id v there; frame = lf; place = li; owns = inl (held-here stored start s id f v there ∙ owns) }
+
+  pub fill-shows : (f i x : ℕ) → f < start.frames → i < 64 → has f v.frames ≡ true
+      → Shows stored keeps tied start tells s r id v (slice_set s.words (index_of start (places.Content f i)) x) r.drafts [] [] (did_store (places.Content f i) x) (filled_view f i x v) (Store id f i x)
+  fill-shows f i x lf li owns =
+      let words : List ℕ = slice_set s.words (index_of start (places.Content f i)) x in
+      let inner : View X = filled_view f i x v in
+      let w : View X = after_step stored keeps tied start tells s r words [] [] (did_store (places.Content f i) x) inner in
+      let c : State = core_shown stored start s in
+      let k : KnowsPages tied start (world_of stored start r.releases r.drafts s) (is_pending s.views) v = r.known id v there live in
+      let contents : ℕ → List ℕ = put_at [] v.contents in
+      moved-shows stored keeps tied start tells s r id v words r.drafts (did_store (places.Content f i) x) inner (Store id f i x) there live
+      (record {
+        wide = length-set s.words (index_of start (places.Content f i)) x ∙ r.wide.0;
+        spelled = spelled-still start s.words (places.Content f i) x r.wide.0 (lf, li) refl r.spelled;
+        legal = fill-legal f i x lf li owns;
+        world = fill-step stored start s r.releases r.drafts id v w f i x r.inv r.wide.0 lf li there refl refl refl refl owns;
+        at = (lf, li);
+        found = tt;
+        wrote = stands-there start s.words (places.Content f i) x r.wide.0 (lf, li);
+        leaves = lock-quiet v v.seats v.loads v.held v.drafts;
+        calls = λ o e. (r.blocks.away id v o there e).1;
+        holds = λ q owns'. owns';
+        members = λ q some'. refl;
+        next = refl;
+        contents = λ g e.
+            ⊎_elim
+            (λ e'. ap (put_at [] inner.contents) e' ∙ upd-same contents f (slice_set (contents f) i x) ∙ ap (λ l. slice_set l i x) (k.contents f owns)
+            ∙ sym (ap (upd c.words f (slice_set (c.words f) i x)) e' ∙ upd-same c.words f (slice_set (c.words f) i x)))
+            (λ ne. upd-other contents f (slice_set (contents f) i x) g ne ∙ k.contents g e ∙ sym (upd-other c.words f (slice_set (c.words f) i x) g ne))
+            (cases_eq g f);
+        knows = k.knows;
+        drafted = λ q owns'. k.drafts q owns' ∙ draft-is start r.releases r.drafts q;
+        loaded = ([], refl, tt);
+      })
+
+module _ {X B : Type 0} (stored : B → Stored) (keeps : Start → Kept X → Type 0) (tied : Start → ℕ → List ℕ → ℕ → List ℕ → Type 0) (start : Origin) (tells : Bool) where
+  -- one page alone stands in the frame
+  one-place : (s : Table (Option B) (View X)) (r : Ruled stored keeps tied start tells s) (id : ℕ) (v : View X) → get_elem? s.views id ≡ some v → v.live ≡ true → (p q f : ℕ) → Drafts v p f → Drafts v q f → p ≡ q
+  one-place s r id v there live p q f d e =
+      ⊎_elim (λ same. same)
+      (λ ne. absurd (true≢false (sym (stands-drafted stored keeps tied start tells s r id v there live p f d)
+      ∙ stands-one (world_of stored start r.releases r.drafts s) f q p r.inv (stands-drafted stored keeps tied start tells s r id v there live q f e) ne)))
+      (cases_eq p q)
+
+  -- into the frame of a page
+  draft-keeps : (s : Table (Option B) (View X)) (r : Ruled stored keeps tied start tells s) (id : ℕ) (v : View X) → get_elem? s.views id ≡ some v → v.live ≡ true → 0 < length v.used → (f i x : ℕ) → f < start.frames → i < 64 → (p : ℕ) → Drafts v p f → (w : View X) × Ruled stored keeps tied start tells (became stored keeps tied start tells s (slice_set s.words (index_of start (places.Content f i)) x) id w) × StoresTold f i x v w
+  draft-keeps s r id v there live number f i x lf li p d =
+      let words : List ℕ = slice_set s.words (index_of start (places.Content f i)) x in
+      let w : View X = after_step stored keeps tied start tells s r words [] [] (did_store (places.Content f i) x) (drafted_view p i x v) in
+      let k = steps stored keeps tied start tells s r id v words (upd r.drafts p (slice_set (r.drafts p) i x)) [] [] (did_store (places.Content f i) x) (drafted_view p i x v) (Store id f i x) there live number refl refl
+      (store-shows stored keeps tied start tells s r id v there live p f i x lf li d) in (
+        w,
+        k.0,
+        record {
+          own = λ owns. absurd (no-draft stored keeps tied start tells s r id v there live p f owns d);
+          page = λ q e. record { brings = subst (λ n. Brings (did_store (places.Content f i) x) [] [] v (drafted_view n i x v) w) (one-place s r id v there live p q f d e) k.1 };
+        },
+      )
+
+  -- into a frame of the pass
+  fill-keeps : (s : Table (Option B) (View X)) (r : Ruled stored keeps tied start tells s) (id : ℕ) (v : View X) → get_elem? s.views id ≡ some v → v.live ≡ true → 0 < length v.used → (f i x : ℕ) → f < start.frames → i < 64 → has f v.frames ≡ true → (w : View X) × Ruled stored keeps tied start tells (became stored keeps tied start tells s (slice_set s.words (index_of start (places.Content f i)) x) id w) × StoresTold f i x v w
+  fill-keeps s r id v there live number f i x lf li owns =
+      let words : List ℕ = slice_set s.words (index_of start (places.Content f i)) x in
+      let k = steps stored keeps tied start tells s r id v words r.drafts [] [] (did_store (places.Content f i) x) (filled_view f i x v) (Store id f i x) there live number refl refl
+      (fill-shows stored keeps tied start tells s r id v there live f i x lf li owns) in (
+        after_step stored keeps tied start tells s r words [] [] (did_store (places.Content f i) x) (filled_view f i x v),
+        k.0,
+        record { own = λ _. record { brings = k.1; size = ap length ((r.known id v there live).contents f owns) ∙ r.inv.words f }; page = λ q e. absurd (no-draft stored keeps tied start tells s r id v there live q f owns e) },
+      )
+
+module _ {X B : Type 0} (stored : B → Stored) (keeps : Start → Kept X → Type 0) (tied : Start → ℕ → List ℕ → ℕ → List ℕ → Type 0) (shape : Shape) (tells : Bool) where
+  -- the same of every table of the shape
+  pub store-allows : (slots id : ℕ) (v : View X) (i : ℕ) (f j x : ℕ) → v.live ≡ true → 0 < length v.used → f < shape.frames → j < 64 → PassMayStore v f → IsPlacedAt shape (places.Content f j) i
+      → AllowsStep (Stands stored keeps tied shape tells) slots id v i (λ _. x) (told_of shape tells (λ _. StoresTold f j x))
+  store-allows slots id v i f j x live number lf lj may is =
+      allows stored keeps tied shape tells slots id v i (places.Content f j) (λ _. x) (λ _. x) (λ _. StoresTold f j x) live is (λ _. refl)
+      (λ _ w t. ⊎_elim (λ owns. fit (t.own owns).brings live) (λ d. fit (t.page d.0 d.1).brings live) may)
+      (λ start has s r there _.
+      let low : f < start.frames = subst (λ n. f < n) (sym has.frames) lf in
+      ⊎_elim
+      (λ owns. fill-keeps stored keeps tied start tells s r id v there live number f j x low lj owns)
+      (λ d. draft-keeps stored keeps tied start tells s r id v there live number f j x low lj d.0 d.1)
+      may)
+
+module _ {X B : Type 0} (stored : B → Stored) (start : Origin) (keeps : Start → Kept X → Type 0) (tied : Start → ℕ → List ℕ → ℕ → List ℕ → Type 0) (tells : Bool) where
+  -- a store that is legal, by a pass that has out, holds and locks what it did
+  stored-event : (s : Table (Option B) (View X)) (id f i x : ℕ) (v w : View X) → IsPassOf stored start keeps tied tells s id v → f < start.frames → i < 64 → Legal (core_shown stored start s) (Store id f i x)
+      → w.out ≡ v.out → w.frames ≡ v.frames → w.seats ≡ v.seats
+      → IsEvent stored start s (table_after s (slice_set s.words (index_of start (places.Content f i)) x) id w) (Store id f i x) sights.Done
+  stored-event s id f i x v w pass lf li legal out frames seats =
+      record { legal = legal; core = store-core stored start s id v w f i x pass.rule.wide.0 lf li pass.there out frames seats; sees = refl }
+
+module _ {X B : Type 0} (stored : B → Stored) (keeps : Start → Kept X → Type 0) (tied : Start → ℕ → List ℕ → ℕ → List ℕ → Type 0) (tells : Bool) where
+  pub store_event : StoreIsItsEvent stored keeps tied tells
+  store_event start s id p f i x v w pass lf li d told =
+      let view = told.brings.view in
+      stored-event stored start keeps tied tells s id f i x v w pass lf li (store-legal stored keeps tied start tells s pass.rule id v pass.there pass.live p f i x lf li d) (ap (λ (y : View X). y.out) view) (ap (λ (y : View X). y.frames) view) (ap (λ (y : View X). y.seats) view)
+
+  pub fill_event : FillIsItsEvent stored keeps tied tells
+  fill_event start s id f i x v w pass lf li owns told =
+      let view = told.brings.view in
+      stored-event stored start keeps tied tells s id f i x v w pass lf li (fill-legal stored keeps tied start tells s pass.rule id v pass.there pass.live f i x lf li owns) (ap (λ (y : View X). y.out) view) (ap (λ (y : View X). y.frames) view) (ap (λ (y : View X). y.seats) view)
+
+module _ {X B : Type 0} (stored : B → Stored) (keeps : Start → Kept X → Type 0) (tied : Start → ℕ → List ℕ → ℕ → List ℕ → Type 0) (tells : Bool) where
+  pub load_event : LoadIsItsEvent stored keeps tied tells
+  load_event start s id p f i found v w pass finds l by told =
+      let view = told.brings.view in
+      let c : State = core_shown stored start s in
+      let reads : load_frame (c.pages p) id ≡ Some f = reads-known stored start s id p v l pass.there ((pass.rule.known id v pass.there pass.live).knows p) ∙ by in
+      record {
+        legal = record { names = record { actor = at-bound s.views id v pass.there; page = l }; place = finds.0.1; frame = subst IsSome (sym reads) refl };
+        core = ap (λ (y : World). y.core)
+            (load-step stored start s [] (λ _. []) id v w p i f found l finds.0.0 finds.0.1 pass.there (ap (λ (y : View X). y.out) view) (ap (λ (y : View X). y.frames) view) (ap (λ (y : View X). y.seats) view)
+            reads finds.1 (ap (λ (y : View X). y.loads) view));
+        sees = ap sights.Word (ap (λ o. word_at c.words o i) reads ∙ content-here stored start s f i finds.0.0 finds.0.1 ∙ sym finds.1);
+      }
+
+module _ {X : Type 0} {p f i x : ℕ} {v w : View X} (t : StoreTold p f i x v w) where
+  abbrev pub store-did : Did
+  store-did = did_store (places.Content f i) x
+
+  pub store-others : (touched : ℕ → Type 0) → touched p → LeavesOthers touched (store-did ∷ []) [] v w
+  store-others touched at = others-from t.brings tt (λ q ne. refl) (λ q ne. refl) (λ q ne. refl) (λ q ne. upd-other (put_at [] v.drafts) p _ q (apart touched at q ne))
+
+  pub store-own : LeavesOwn v w
+  store-own = own-from t.brings refl (refl, refl, refl)
+
+  pub store-leaves : LeavesRest p (store-did ∷ []) v w
+  store-leaves = rest-of (store-others (λ q. q ≡ p) refl) store-own
+
+  pub store-seat : (q : ℕ) → seat_of w q ≡ seat_of v q
+  store-seat q = ap (λ (y : View X). seat_of y q) t.brings.view
+
+  pub store-loads : (q : ℕ) → loads_at w q ≡ loads_at v q
+  store-loads q = ap (λ (y : View X). loads_at y q) t.brings.view
+
+  pub store-held : (q : ℕ) → held_at w q ≡ held_at v q
+  store-held q = ap (λ (y : View X). held_at y q) t.brings.view
+
+  pub store-draft : draft_of w p ≡ slice_set (draft_of v p) i x
+  store-draft = ap (λ (y : View X). draft_of y p) t.brings.view ∙ upd-same (put_at [] v.drafts) p _
+
+  pub store-last : (q : ℕ) → IsLocking (seat_of v q) → last_of w q ≡ last_of v q
+  store-last = last-still t.brings refl
+
+module _ {X : Type 0} {f i x : ℕ} {v w : View X} (t : FillTold f i x v w) where
+  abbrev pub fill-did : Did
+  fill-did = did_store (places.Content f i) x
+
+  -- it speaks of no page
+  pub fill-works : (p : ℕ) → Works p (fill-did ∷ []) v w
+  fill-works p = works-one p fill-did None v v.held v.frames _ v.out v.notes w (λ q ne. refl) t.brings
+
+  pub fill-held : (q : ℕ) → held_at w q ≡ held_at v q
+  fill-held q = ap (λ (y : View X). held_at y q) t.brings.view
+
+  pub fill-frames : w.frames ≡ v.frames
+  fill-frames = ap (λ (y : View X). y.frames) t.brings.view
+
+  pub fill-words : contents_at w f ≡ slice_set (contents_at v f) i x
+  fill-words = ap (λ (y : View X). contents_at y f) t.brings.view ∙ upd-same (put_at [] v.contents) f _
+
+module _ {X : Type 0} {p f i found : ℕ} {v w : View X} (t : LoadTold p f i found v w) where
+  abbrev pub loaded-did : Did
+  loaded-did = did_load (places.Content f i) found
+
+  pub load-others : (touched : ℕ → Type 0) → touched p → LeavesOthers touched (loaded-did ∷ []) [] v w
+  load-others touched at = others-from t.brings tt (λ q ne. refl) (λ q ne. upd-other (put_at [] v.loads) p _ q (apart touched at q ne)) (λ q ne. refl) (λ q ne. refl)
+
+  pub load-own : LeavesOwn v w
+  load-own = own-from t.brings refl (refl, refl, refl)
+
+  pub load-leaves : LeavesRest p (loaded-did ∷ []) v w
+  load-leaves = rest-of (load-others (λ q. q ≡ p) refl) load-own
+
+  pub load-seat : (q : ℕ) → seat_of w q ≡ seat_of v q
+  load-seat q = ap (λ (x : View X). seat_of x q) t.brings.view
+
+  pub load-loads : loads_at w p ≡ loads_more (open_frame (seat_of v p).reading) (loads_at v p) i found
+  load-loads = ap (λ (x : View X). loads_at x p) t.brings.view ∙ upd-same (put_at [] v.loads) p _
+
+  pub load-holds : (q : ℕ) → HoldsPage v w q
+  load-holds q = holds-still q (load-seat q)
+
+  pub load-knows : (q : ℕ) → IsLocking (seat_of v q) → KnowsAsBefore v w q
+  load-knows = knows-still t.brings refl refl refl
+
+  -- of a page without an open read it changes nothing
+  pub load-works : (seat_of v p).reading ≡ None → Works p (loaded-did ∷ []) v w
+  load-works closed = record {
+    leaves = load-leaves;
+    seat = load-seat p;
+    loads = load-loads ∙ ap (λ (o : Option Open). loads_more (open_frame o) (loads_at v p) i found) closed;
+    draft = ap (λ (x : View X). put_at [] x.drafts p) t.brings.view;
+    last = λ l. (load-knows p l).last;
+    alone = (load-others (λ q. q ≡ p) refl).runs;
+  }

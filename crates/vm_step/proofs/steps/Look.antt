@@ -1,0 +1,479 @@
+-- A look: what it shows of itself and of the read that it leaves in place, what it tells, what the layer above keeps then and what a pass that is alone
+-- knows; that the table allows it, and that it is its event.
+--
+-- What a look leaves: it speaks of the open read of one page, and says at most one entry. Under a lock of the page nothing changes.
+use Rattle.std.proofs.Common.{[], ⊎_elim, ◌++◌, ◌+◌, ◌<◌, ◌∙◌, ◌∷◌, ◌≡◌, ◌≢◌, ◌≤◌, ◌⊎◌, ap, arith, Bool, eq-eqb, eqb, eqb-true, false, if◌then◌else◌}
+use Rattle.std.proofs.Common.{inl, inr, length, List, ne_eqb, None, Option, refl, slice_index, slice_set, Some, subst, suc, sym, true, true≢false}
+use Rattle.std.proofs.Common.{zero, ℕ}
+use Rattle.std.proofs.lemmas.Bool.{cases_Bool, cases_eq, cond-false, cond-true}
+use Rattle.std.proofs.lemmas.Bool.Decides.{nat_tests}
+use mathlib.Core.Path.{fun_ext}
+use Rattle.atomic_table.proofs.Lists.{set_here}
+use Rattle.vm_core.specs.Prelude.{EVICTED, frame_of, get_elem?, is_readable, kept_loads, left_of, left_open, LOCKED, looked, mapping_of, MARKED}
+use Rattle.vm_core.specs.Prelude.{no_seat, open_after, open_frame, Page, page_at, some, State, state_of, UNLOCKED, Version, version_of, World}
+use Rattle.vm_core.specs.Prelude.{world_after}
+use Rattle.vm_core.specs.declared.event.Event.TheVariants.{Look}
+use Rattle.vm_core.specs.declared.event.ReadIs.TheVariants.{Closed, Moved, Opened, Same}
+use Rattle.vm_core.specs.declared.event.ReadIs.TheVariants as read
+use Rattle.vm_core.specs.declared.event.Seen.TheVariants as sights
+use Rattle.vm_core.proofs.PageFacts.{some-is}
+use Rattle.vm_core.proofs.Upd.{each-upd2, upd-keeps, upd-other, upd-same}
+use Rattle.vm_owner.specs.Kept.{IsTurn, told}
+use Rattle.vm_rule.specs.Prelude.{began_of, Brings, chosen, core_shown, did_load, Each, entries_of, entries_under, Entry, entry_of, has, histories_of}
+use Rattle.vm_rule.specs.Prelude.{index_of, is_owed, is_pending, IsLocking, Kept, kept_of, KnowsLists, KnowsPage, KnowsPages, last_in, left_at}
+use Rattle.vm_rule.specs.Prelude.{listed, loads_at, logical, LookTold, Mapping, may_call, no_held, Open, put_at, ReadIs, Ruled, Seat, seat_of, Stands}
+use Rattle.vm_rule.specs.Prelude.{Start, Stored, Table, TieHolds, ties_below, TranslationHolds, where_same, world_of}
+use Rattle.vm_rule.specs.declared.view.Place.TheVariants as places
+use Rattle.vm_rule.specs.Looks.{looked_view, NamesFrame, tie_of}
+use Rattle.vm_rule.proofs.{Beside.page-open, Bringing.steps, Facts.any-here, Views.any-same, Views.at-bound}
+use Rattle.vm_rule.proofs.Adding.{after_step, became, Shows}
+use Rattle.vm_rule.proofs.Entries.{append-none, each-map, mine-in}
+use Rattle.vm_rule.proofs.Found.{next-here, same-word, seat-here, state-here, version-here, word-here}
+use Rattle.vm_rule.proofs.Heard.{calls-by, each-both, has-first}
+use Rattle.vm_rule.proofs.Worlds.{draft-is, last-is, look-step}
+use Rattle.vm_step.specs.Prelude.{AllowsStep, Did, HoldsPage, IsKeptNow, IsPlacedAt, KnowsAsBefore, KnowsUnheld, LeavesRest, LocksNone, LookTells}
+use Rattle.vm_step.specs.Prelude.{MayTell, Origin, Release, Shape, Tie, told_of, Translation, View}
+use Rattle.vm_step.specs.steps.Look.{LookIsItsEvent}
+use Rattle.vm_step.proofs.{Fit.fit, Standing.allows, Unclaimed.logical-zero}
+use Rattle.vm_step.proofs.Here.{frame-inside, last-told, older, read-valid, reads, since, size-told, tied-itself, ties-hold, version-told}
+use Rattle.vm_step.proofs.Logical.{length-listed, logical-draft, logical-last, not-pending, page-kept, page-listed, pages-kept, tied-now}
+use Rattle.vm_step.proofs.steps.Leaving.{apart, knows-still, LeavesOthers, LeavesOwn, others-tied, own-from, rest-of}
+
+same-version : (n : ℕ) (o : Option Open) → left_open o n ≡ Same → (x : Open) × (o ≡ Some x) × (x.version ≡ n)
+same-version n None e = cc
+same-version n (Some x) e =
+    ⊎_elim (λ t. (x, refl, eqb-true _ _ t))
+    (λ f. let moved : left_open (Some x) n ≡ Moved = cond-false (eqb x.version n) Same Moved f in cc)
+    (cases_Bool (eqb x.version n))
+
+-- the read that stays, its version, and the state found
+pub stays : (found : ℕ) (o : Option Open) → left_at found o ≡ Same → (x : Open) × (o ≡ Some x) × (x.version ≡ version_of found) × (is_readable (state_of found) ≡ true)
+stays found o e =
+    ⊎_elim
+    (λ t. let k : (x : Open) × (o ≡ Some x) × (x.version ≡ version_of found) = same-version (version_of found) o (sym (cond-true _ _ _ t) ∙ e) in (k.0, k.1, k.2, t))
+    (λ f. let closed : Closed ≡ Same = sym (cond-false _ _ _ f) ∙ e in cc)
+    (cases_Bool (is_readable (state_of found)))
+
+pub readable : (state : ℕ) → is_readable state ≡ true → (state ≢ LOCKED) × (state ≢ EVICTED)
+readable state e = (grind (arith, nat_tests, e), grind (arith, nat_tests, e))
+
+-- so its page is not locked
+pub free-here : {X B : Type 0} (stored : B → Stored) (start : Origin) (s : Table (Option B) (View X)) (p : ℕ) → p < start.pages → (o : Option Open) → left_at (slice_index s.words p) o ≡ Same → ((core_shown stored start s).pages p).state ≢ LOCKED
+free-here stored start s p l o same e = (readable (state_of (slice_index s.words p)) (stays (slice_index s.words p) o same).3).0 (sym (state-here stored start s p l) ∙ e)
+
+-- what comes only where the read stays: it is so with nothing, and where the read stays with what comes
+where-same-keeps : {A : Type 0} (P : List A → Type 0) (left : ReadIs) (l : List A) → P [] → (left ≡ Same → P l) → P (where_same left l [])
+where-same-keeps P Same l none some' = some' refl
+where-same-keeps P Opened l none some' = none
+where-same-keeps P Moved l none some' = none
+where-same-keeps P Closed l none some' = none
+
+-- the entry, if there is one
+pub said-entry : {X : Type 0} (v : View X) (left : ReadIs) (said : Option X) → (where_same left (entries_of v said) [] ≡ []) ⊎ ((x : X) × (where_same left (entries_of v said) [] ≡ entry_of v x ∷ []))
+said-entry v Same None = inl refl
+said-entry v Same (Some x) = inr (x, refl)
+said-entry v Opened said = inl refl
+said-entry v Moved said = inl refl
+said-entry v Closed said = inl refl
+
+module _ {X : Type 0} where
+  -- what is said is the next entry of the pass's first number
+  pub is-turn : (start : Origin) (releases : List Release) (history : List (Entry X)) (v : View X) (said : Option X) → KnowsLists start releases history v → 0 < length v.used → IsTurn history (entries_of v said)
+  is-turn start releases history v None g number = tt
+  is-turn start releases history v (Some x) g number = (
+    ap (λ k. k + 1) (ap (entries_under (slice_index v.used 0)) (mine-in v.used history v.seen v.mine g.mine g.heard) ∙ calls-by (slice_index v.used 0) v.used history (has-first v.used number)),
+    refl,
+  )
+
+module _ {X B : Type 0} (stored : B → Stored) (keeps : Start → Kept X → Type 0) (tied : Start → ℕ → List ℕ → ℕ → List ℕ → Type 0) (start : Origin) (tells : Bool) (s : Table (Option B) (View X)) (r : Ruled stored keeps tied start tells s) (id : ℕ) (v : View X) (there : get_elem? s.views id ≡ some v) (live : v.live ≡ true) (p : ℕ) (l : p < start.pages) (said : Option X)
+    (may_read : Start → ℕ → List ℕ → List (Entry X) → Type 0) (reads : (start : Start) (kept : Kept X) (q : ℕ) (entries : List (Entry X)) → keeps start kept → q < length kept.pages → IsTurn kept.history entries → may_read start q (page_at kept.pages q) entries → keeps start (told entries kept))
+    (ties : (start : Start) (kept : Kept X) (q p : ℕ) → keeps start kept → q < length kept.pages → p < length kept.pages → tied start q (page_at kept.pages q) p (page_at kept.pages p))
+    (may : MayTell tied may_read p said v) (number : 0 < length v.used) where
+  abbrev world : World
+  world = world_of stored start r.releases r.drafts s
+
+  abbrev left : ReadIs
+  left = left_at (slice_index s.words p) (seat_of v p).reading
+
+  abbrev kept : Kept X
+  kept = kept_of world r.history s.views
+
+  -- the page's words prove what is said, if anything is said
+  proved-here : left ≡ Same → start.tells ≡ true → may_read (began_of start) p (page_at kept.pages p) (entries_of v said) ⊎ (said ≡ None)
+  proved-here same t =
+      let same_start = (r.heard id v there live).same_start in
+      let k = stays (slice_index s.words p) (seat_of v p).reading same in
+      let free = free-here stored start s p l (seat_of v p).reading same in
+      ⊎_elim (λ none. inr none)
+      (λ proves. inl
+      (subst (λ words. may_read (began_of start) p words (entries_of v said)) (sym (page-kept stored keeps tied start tells s r p l (not-pending stored keeps tied start tells s r p l free)))
+      (subst (λ (o : Origin). may_read (began_of o) p (world.histories p).last.words (entries_of v said)) same_start
+      (proves (ap (λ (o : Origin). o.tells) same_start ∙ t) k.0 k.1 (world.histories p).last.words (r.inv.pages p).sizes.last
+      (read-valid stored keeps tied start tells s r id v there live p l t free k.0 k.1 (k.2 ∙ sym (version-here stored start s p l)))
+      (tied-itself stored keeps tied start tells s r id v there live ties p l t free)
+      (each-map _ _ (λ d h e n. h e (n ∙ k.2 ∙ sym (version-here stored start s p l))) v.ties (ties-hold stored keeps tied start tells s r id v there live p l t free))))))
+      may
+
+  keeps-none : keeps (began_of start) kept → keeps (began_of start) (told [] kept)
+  keeps-none = subst (λ h. keeps (began_of start) (record kept { history = h })) (sym (append-none r.history))
+
+  -- the layer above keeps its relation with what is said, where the open read stays
+  pub keeps-said : start.tells ≡ true → keeps (began_of start) kept → keeps (began_of start) (told (where_same left (entries_of v said) []) kept)
+  keeps-said t is =
+      where-same-keeps (λ es. keeps (began_of start) (told es kept)) left (entries_of v said) (keeps-none is)
+      (λ same. ⊎_elim
+      (reads (began_of start) kept p (entries_of v said) is (subst (λ n. p < n) (sym (pages-kept stored keeps tied start tells s r)) l) (is-turn start r.releases r.history v said (r.heard id v there live) number))
+      (λ none. subst (λ x. keeps (began_of start) (told (entries_of v x) kept)) (sym none) (keeps-none is))
+      (proved-here same t))
+
+-- what comes only where the read stays
+pub each-same : {A : Type 0} (P : A → Type 0) (left : ReadIs) (l : List A) → (left ≡ Same → Each P l) → Each P (where_same left l [])
+each-same P Same l f = f refl
+each-same P Opened l f = tt
+each-same P Moved l f = tt
+each-same P Closed l f = tt
+
+tie-each : (P : Tie → Type 0) (q : ℕ) (words : List ℕ) (k : ℕ) (o : Option Open) → ((x : Open) → o ≡ Some x → P (record { page = k; version = x.version; of = q; words = words })) → Each P (tie_of q words k o)
+tie-each P q words k None f = tt
+tie-each P q words k (Some x) f = (f x refl, tt)
+
+pub ties-each : {X : Type 0} (P : Tie → Type 0) (v : View X) (q : ℕ) (words : List ℕ) (n : ℕ)
+    → ((k : ℕ) → k < n → k ≢ q → (x : Open) → (seat_of v k).reading ≡ Some x → P (record { page = k; version = x.version; of = q; words = words })) → Each P (ties_below n v q words)
+ties-each P v q words zero f = tt
+ties-each P v q words (suc n) f =
+    each-both P (if eqb n q then [] else tie_of q words n (seat_of v n).reading) (ties_below n v q words)
+    (⊎_elim
+    (λ e. rw (eq-eqb n q e) tt)
+    (λ ne. rw (ne_eqb n q ne) (tie-each P q words n (seat_of v n).reading (f n (omega arith) ne)))
+    (cases_eq n q))
+    (ties-each P v q words n (λ k l. f k (omega arith)))
+
+-- a look changes no version and no words
+pub tie-looked : (tied : Start → ℕ → List ℕ → ℕ → List ℕ → Type 0) (began : Start) (w : World) (a p : ℕ) (pending : ℕ → Bool) (t : Tie) → TieHolds tied began w pending t → TieHolds tied began (world_after w (Look a p)) pending t
+tie-looked tied began w a p pending t h =
+    let same = upd-keeps (λ y. y.version) w.core.pages p (looked (w.core.pages p) a) refl t.page in
+    (h.0, subst (λ n. t.version ≤ n) (sym same) h.1, λ e. h.2 (e ∙ same))
+
+module _ {X B : Type 0} (stored : B → Stored) (keeps : Start → Kept X → Type 0) (tied : Start → ℕ → List ℕ → ℕ → List ℕ → Type 0) (start : Origin) (tells : Bool) (s : Table (Option B) (View X)) (r : Ruled stored keeps tied start tells s) (id : ℕ) (v : View X) (there : get_elem? s.views id ≡ some v) (live : v.live ≡ true) (p : ℕ) (l : p < start.pages)
+    (law : (start : Start) (kept : Kept X) (q p : ℕ) → keeps start kept → q < length kept.pages → p < length kept.pages → tied start q (page_at kept.pages q) p (page_at kept.pages p)) where
+  abbrev ties-world : World
+  ties-world = world_of stored start r.releases r.drafts s
+
+  -- the page's last words, as the pass knows them after the look
+  abbrev words : List ℕ
+  words = (last_in v.start (r.releases ++ []) p).words
+
+  -- they hold after the look, which is where the pass gets them
+  pub look-ties : start.tells ≡ true → Each (TieHolds tied (began_of start) (world_after ties-world (Look id p)) (is_pending s.views)) (where_same (left_at (slice_index s.words p) (seat_of v p).reading) (ties_below v.start.pages v p words) [])
+  look-ties t =
+      let pages : v.start.pages ≡ start.pages = ap (λ (o : Origin). o.pages) (r.heard id v there live).same_start in
+      each-same (TieHolds tied (began_of start) (world_after ties-world (Look id p)) (is_pending s.views)) (left_at (slice_index s.words p) (seat_of v p).reading) (ties_below v.start.pages v p words)
+      (λ same. ties-each (TieHolds tied (began_of start) (world_after ties-world (Look id p)) (is_pending s.views)) v p words v.start.pages
+      (λ q lq ne o e.
+      let inside : q < start.pages = subst (λ n. q < n) pages lq in
+      let free : is_pending s.views p ≡ false = not-pending stored keeps tied start tells s r p l (free-here stored start s p l (seat_of v p).reading same) in
+      tie-looked tied (began_of start) ties-world id p (is_pending s.views) (record { page = q; version = o.version; of = p; words = words }) (
+        inside,
+        ((r.inv.pages q).reads id).old o (ap (λ (y : Seat). y.reading) (seat-here stored start s id q v inside there) ∙ e),
+        λ _ none. subst (λ ws. tied (began_of start) p ws q (ties-world.histories q).last.words) (sym (ap (λ (y : Version). y.words) (last-told stored keeps tied start tells s r id v there live p)))
+            (tied-now stored keeps tied start tells s r law t p q l inside free none),
+      )))
+
+-- a look changes what the pass has of a page by its open read alone
+knows-looked : (a : ℕ) (seat : Seat) (r : Page) (h : _) (o : Option Open) → KnowsPage seat h r → KnowsPage (record seat { reading = o }) h (looked r a)
+knows-looked a seat r h o k = record { calls = k.calls; shares = k.shares }
+
+module _ {X B : Type 0} (stored : B → Stored) (keeps : Start → Kept X → Type 0) (tied : Start → ℕ → List ℕ → ℕ → List ℕ → Type 0) (start : Origin) (tells : Bool) (s : Table (Option B) (View X)) (r : Ruled stored keeps tied start tells s) (id : ℕ) (v : View X) (p : ℕ) (said : Option X) where
+  abbrev pub look-left : ReadIs
+  look-left = left_at (slice_index s.words p) (seat_of v p).reading
+
+  abbrev pub look-last : List ℕ
+  look-last = (last_in v.start (r.releases ++ []) p).words
+
+  abbrev pub look-entries : List (Entry X)
+  look-entries = where_same look-left (entries_of v said) []
+
+  abbrev pub look-inner : View X
+  look-inner = looked_view p said (slice_index s.words p) look-last v
+
+  abbrev pub look-did : Did
+  look-did = did_load (places.State p) (slice_index s.words p)
+
+  abbrev pub look-after : View X
+  look-after = after_step stored keeps tied start tells s r s.words [] look-entries look-did look-inner
+
+  abbrev pub look-before : World
+  look-before = world_of stored start r.releases r.drafts s
+
+  module _ (there : get_elem? s.views id ≡ some v) (live : v.live ≡ true) (l : p < start.pages) where
+    world-looked : world_of stored start (r.releases ++ []) r.drafts (became stored keeps tied start tells s s.words id look-after) ≡ world_after look-before (Look id p)
+    world-looked =
+        ap (λ rs. world_of stored start rs r.drafts (became stored keeps tied start tells s s.words id look-after)) (append-none r.releases)
+        ∙ look-step stored start s r.releases r.drafts id v look-after p (record ((core_shown stored start s).pages p) { state = state_of (slice_index s.words p); version = version_of (slice_index s.words p) }) l there refl refl
+        (sym (state-here stored start s p l)) (sym (version-here stored start s p l)) refl refl
+
+    core-looked : core_shown stored start (became stored keeps tied start tells s s.words id look-after) ≡ (world_after look-before (Look id p)).core
+    core-looked = ap (λ (w : World). w.core) world-looked
+
+    pub pending-looked : is_pending (slice_set s.views id look-after) ≡ is_pending s.views
+    pending-looked = fun_ext (λ q. any-same (λ y. has q y.pending) s.views id v look-after there refl)
+
+    owed-looked : is_owed (slice_set s.views id look-after) ≡ is_owed s.views
+    owed-looked = fun_ext (λ q. any-same (λ y. has q y.owed) s.views id v look-after there refl)
+
+    -- the pass has of each page what it had, but for its open read
+    pub same-exclusive : (q : ℕ) → (seat_of look-inner q).exclusive ≡ (seat_of v q).exclusive
+    same-exclusive q = upd-keeps (λ y. y.exclusive) (put_at no_seat v.seats) p (record (seat_of v p) { reading = open_after look-left (seat_of v p).reading (version_of (slice_index s.words p)) }) refl q
+
+    pub same-shares : (q : ℕ) → (seat_of look-inner q).shares ≡ (seat_of v q).shares
+    same-shares q = upd-keeps (λ y. y.shares) (put_at no_seat v.seats) p (record (seat_of v p) { reading = open_after look-left (seat_of v p).reading (version_of (slice_index s.words p)) }) refl q
+
+    same-calls : (q : ℕ) → may_call (seat_of look-inner q) ≡ may_call (seat_of v q)
+    same-calls q = upd-keeps may_call (put_at no_seat v.seats) p (record (seat_of v p) { reading = open_after look-left (seat_of v p).reading (version_of (slice_index s.words p)) }) refl q
+
+    look-knows : (q : ℕ) → KnowsPage (seat_of look-inner q) (put_at no_held look-inner.held q) ((core_shown stored start (became stored keeps tied start tells s s.words id look-after)).pages q)
+    look-knows q =
+        let k : KnowsPages tied start look-before (is_pending s.views) v = r.known id v there live in
+        subst (λ (c : State). KnowsPage (seat_of look-inner q) (put_at no_held v.held q) (c.pages q)) (sym core-looked)
+        (each-upd2 (λ j seat y. KnowsPage seat (put_at no_held v.held j) y) (put_at no_seat v.seats) look-before.core.pages p _ (looked (look-before.core.pages p) id)
+        (knows-looked id (seat_of v p) (look-before.core.pages p) (put_at no_held v.held p) _ (k.knows p))
+        (λ j _. k.knows j)
+        q)
+
+    module _ (may_read : Start → ℕ → List ℕ → List (Entry X) → Type 0) (reads : (start : Start) (kept : Kept X) (q : ℕ) (entries : List (Entry X)) → keeps start kept → q < length kept.pages → IsTurn kept.history entries → may_read start q (page_at kept.pages q) entries → keeps start (told entries kept))
+        (ties : (start : Start) (kept : Kept X) (q p : ℕ) → keeps start kept → q < length kept.pages → p < length kept.pages → tied start q (page_at kept.pages q) p (page_at kept.pages p)) (may : MayTell tied may_read p said v) (number : 0 < length v.used) where
+      pub look-shows : Shows stored keeps tied start tells s r id v s.words r.drafts [] look-entries look-did look-inner (Look id p)
+      look-shows =
+          let k : KnowsPages tied start look-before (is_pending s.views) v = r.known id v there live in
+          let releases : r.releases ++ [] ≡ r.releases = append-none r.releases in
+          record {
+            wide = r.wide.0;
+            spelled = r.spelled;
+            legal = (record { actor = at-bound s.views id v there; page = l }, tt);
+            world = world-looked;
+            at = l;
+            found = refl;
+            wrote = tt;
+            live = refl;
+            same_start = refl;
+            used = refl;
+            fresh = refl;
+            notes = refl;
+            log = refl;
+            out = refl;
+            calls = λ o x. same-calls o.page ∙ (r.blocks.away id v o there x).1;
+            entry = said-entry v look-left said;
+            mine = refl;
+            next_versions = tt;
+            zero = λ t q le lq. ap (λ y. (histories_of start y r.drafts q).last.words) releases ∙ r.zero t q le lq;
+            knows = look-knows;
+            contents = k.contents;
+            drafted = λ q x. k.drafts q (sym (same-exclusive q) ∙ x) ∙ draft-is start r.releases r.drafts q;
+            pending = λ q x. (
+              same-exclusive q ∙ (k.pending q x).0,
+              λ t le. sym (draft-is start r.releases r.drafts q) ∙ (k.pending q x).1 t le ∙ sym (ap (λ y. (histories_of start y r.drafts q).last.words) releases),
+            );
+            owed = λ q x. (same-exclusive q ∙ (k.owed q x).0, (k.owed q x).1, (k.owed q x).2, (k.owed q x).3);
+            next = λ q x. (same-exclusive q ∙ (k.next q x).0, (k.next q x).1);
+            loaded = ([], refl, tt);
+            tying = (
+              where_same look-left (ties_below v.start.pages v p look-last) [],
+              refl,
+              λ t.
+                  subst (λ (w : World). Each (TieHolds tied (began_of start) w (is_pending (slice_set s.views id look-after))) (where_same look-left (ties_below v.start.pages v p look-last) [])) (sym world-looked)
+                  (subst (λ (f : ℕ → Bool). Each (TieHolds tied (began_of start) (world_after look-before (Look id p)) f) (where_same look-left (ties_below v.start.pages v p look-last) [])) (sym pending-looked)
+                  (look-ties stored keeps tied start tells s r id v there live p l ties t)),
+            );
+            members = λ q was gone. absurd (true≢false (sym was ∙ gone));
+            owner = λ t kept. subst (keeps (began_of start)) (λ i. record {
+              pages = listed start.pages (logical (sym world-looked i).histories (sym pending-looked i));
+              next = (sym world-looked i).core.next;
+              owed = chosen start.pages (sym owed-looked i);
+              history = r.history ++ look-entries;
+            })
+                (keeps-said stored keeps tied start tells s r id v there live p l said may_read reads ties may number t kept);
+          }
+
+-- the frame of an open read that has one
+open-is : (o : Option Open) (x : Open) → o ≡ Some x → (g : ℕ) → open_frame o ≡ Some g → x.frame ≡ Some g
+open-is o x e g f = ap open_frame (sym e) ∙ f
+
+module _ {X B : Type 0} (stored : B → Stored) (keeps : Start → Kept X → Type 0) (tied : Start → ℕ → List ℕ → ℕ → List ℕ → Type 0) (start : Origin) (tells : Bool) (s : Table (Option B) (View X)) (r : Ruled stored keeps tied start tells s) (id : ℕ) (v : View X) (p : ℕ) (said : Option X) (there : get_elem? s.views id ≡ some v) (live : v.live ≡ true) (l : p < start.pages) where
+  abbrev look-world : World
+  look-world = world_of stored start r.releases r.drafts s
+
+  -- a translation word that was loaded at the page's version names the page's frame, where the page is readable, and so does the open read
+  names-frame : (state_of (slice_index s.words p) ≢ LOCKED) → (state_of (slice_index s.words p) ≢ EVICTED) → (o : Open) → (seat_of v p).reading ≡ Some o → o.version ≡ version_of (slice_index s.words p)
+      → (t : Translation) → TranslationHolds look-world.core.pages t → t.page ≡ p → t.version ≡ version_of (slice_index s.words p) → NamesFrame v.start.frames t.word (seat_of v p).reading
+  names-frame free stays' o e same t h page at =
+      let not_locked : (look-world.core.pages p).state ≢ LOCKED = λ q. free (sym (state-here stored start s p l) ∙ q) in
+      let not_evicted : (look-world.core.pages p).state ≢ EVICTED = λ q. stays' (sym (state-here stored start s p l) ∙ q) in
+      let m : (m : Mapping) × ((look-world.core.pages p).trans ≡ Some m) = some-is (look-world.core.pages p).trans ((r.inv.pages p).stands.resident not_locked not_evicted) in
+      let word : frame_of (mapping_of t.word) ≡ frame_of (look-world.core.pages p).trans =
+      subst (λ q. t.version ≡ (look-world.core.pages q).version → (look-world.core.pages q).state ≢ LOCKED → (look-world.core.pages q).state ≢ EVICTED → frame_of (mapping_of t.word) ≡ frame_of (look-world.core.pages q).trans) page h.1
+      (at ∙ sym (version-here stored start s p l)) not_locked not_evicted in
+      record {
+        frame = m.0.frame;
+        names = word ∙ ap frame_of m.1;
+        inside = subst (λ (y : Origin). m.0.frame < y.frames) (sym (r.heard id v there live).same_start) (frame-inside stored keeps tied start tells s r p m.0 m.1);
+        same = λ g f. ((reads stored keeps tied start tells s r id v there live p l).current not_locked not_evicted o e (same ∙ sym (version-here stored start s p l))).at_frame g (open-is _ o e g f) m.0 m.1;
+      }
+
+  module _ (ties : (start : Start) (kept : Kept X) (q p : ℕ) → keeps start kept → q < length kept.pages → p < length kept.pages → tied start q (page_at kept.pages q) p (page_at kept.pages p)) where
+    pub look-told : Brings (look-did stored keeps tied start tells s r id v p said) [] (look-entries stored keeps tied start tells s r id v p said) v (look-inner stored keeps tied start tells s r id v p said) (look-after stored keeps tied start tells s r id v p said)
+        → LookTold tied p said (slice_index s.words p) v (look-after stored keeps tied start tells s r id v p said)
+    look-told brings =
+        let last : _ = last-told stored keeps tied start tells s r id v there live p in
+        let same_tells : v.start.tells ≡ start.tells = ap (λ (o : Origin). o.tells) (r.heard id v there live).same_start in
+        let version : (look-world.core.pages p).version ≡ version_of (slice_index s.words p) = version-here stored start s p l in
+        record {
+          brings = brings;
+          version = version-told stored keeps tied start tells s r id v there live p l;
+          size = size-told stored keeps tied start tells s r id v there live p;
+          valid = λ t same.
+              let k = stays (slice_index s.words p) (seat_of v p).reading same in
+              subst (λ (y : Version). Rattle.vm_core.specs.Inv.LoadsAre y.words (loads_at v p)) (sym last)
+              (read-valid stored keeps tied start tells s r id v there live p l (sym same_tells ∙ t) (free-here stored start s p l (seat_of v p).reading same) k.0 k.1 (k.2 ∙ sym version));
+          holds = λ t same.
+              subst (λ (y : Version). Each (λ (d : Tie). d.page ≡ p → d.version ≡ version_of (slice_index s.words p) → tied (began_of v.start) d.of d.words p y.words) v.ties) (sym last)
+              (each-map _ _ (λ d h e n. h e (n ∙ sym version)) v.ties (ties-hold stored keeps tied start tells s r id v there live p l (sym same_tells ∙ t) (free-here stored start s p l (seat_of v p).reading same)));
+          itself = λ t same.
+              subst (λ (y : Version). tied (began_of v.start) p y.words p y.words) (sym last)
+              (tied-itself stored keeps tied start tells s r id v there live ties p l (sym same_tells ∙ t) (free-here stored start s p l (seat_of v p).reading same));
+          frames = λ same.
+              let k = stays (slice_index s.words p) (seat_of v p).reading same in
+              let may = readable (state_of (slice_index s.words p)) k.3 in
+              each-map (TranslationHolds look-world.core.pages) _ (names-frame may.0 may.1 k.0 k.1 k.2) v.translations (r.known id v there live).translations;
+          since = since stored keeps tied start tells s r id v there live p l;
+          older = older stored keeps tied start tells s r id v there live p l;
+          unlocked = λ whole alone none. subst (λ n. (n ≡ UNLOCKED) ⊎ ((n ≡ MARKED) ⊎ (n ≡ EVICTED))) (state-here stored start s p l) (page-open stored keeps tied start tells s r id v there whole p l alone none);
+        }
+
+module _ {X B : Type 0} (stored : B → Stored) (keeps : Start → Kept X → Type 0) (tied : Start → ℕ → List ℕ → ℕ → List ℕ → Type 0) (start : Origin) (tells : Bool) (s : Table (Option B) (View X)) (r : Ruled stored keeps tied start tells s) (id : ℕ) (v : View X) (p : ℕ) (said : Option X) (there : get_elem? s.views id ≡ some v) (live : v.live ≡ true) (l : p < start.pages)
+    (may_read : Start → ℕ → List ℕ → List (Entry X) → Type 0)
+    (reads : (start : Start) (kept : Kept X) (q : ℕ) (entries : List (Entry X)) → keeps start kept → q < length kept.pages → IsTurn kept.history entries → may_read start q (page_at kept.pages q) entries → keeps start (told entries kept))
+    (ties : (start : Start) (kept : Kept X) (q p : ℕ) → keeps start kept → q < length kept.pages → p < length kept.pages → tied start q (page_at kept.pages q) p (page_at kept.pages p)) (may : MayTell tied may_read p said v) (number : 0 < length v.used) where
+  pub look-kept : tells ≡ true → IsKeptNow keeps p (look-left stored keeps tied start tells s r id v p said ≡ Same) (look-after stored keeps tied start tells s r id v p said)
+  look-kept t =
+      let w : View X = look-after stored keeps tied start tells s r id v p said in
+      let telling : start.tells ≡ true = r.telling ∙ t in
+      let same : w.start ≡ start = (r.heard id v there live).same_start in
+      let after : World = world_of stored start (r.releases ++ []) r.drafts (became stored keeps tied start tells s s.words id w) in
+      let kept : Kept X = kept_of after (r.history ++ look-entries stored keeps tied start tells s r id v p said) (slice_set s.views id w) in
+      record {
+        kept = kept;
+        holds = subst (λ (o : Origin). keeps (began_of o) kept) (sym same) ((look-shows stored keeps tied start tells s r id v p said there live l may_read reads ties may number).owner telling (r.owner telling));
+        history = refl;
+        pages = length-listed start.pages _ ∙ ap (λ (o : Origin). o.pages) (sym same);
+        page = λ stays.
+            page-listed start.pages _ p l
+            ∙ logical-last after.histories (is_pending (slice_set s.views id w)) p
+            (ap (λ (f : ℕ → Bool). f p) (pending-looked stored keeps tied start tells s r id v p said there live l)
+            ∙ not-pending stored keeps tied start tells s r p l (free-here stored start s p l (seat_of v p).reading stays))
+            ∙ ap (λ (x : Version). x.words) (sym (last-is start (r.releases ++ []) r.drafts p))
+            ∙ ap (λ (o : Origin). (last_in o (r.releases ++ []) p).words) (sym same);
+        members = λ q inside e.
+            page-listed start.pages _ q (subst (λ (o : Origin). q < o.pages) same inside)
+            ∙ logical-draft after.histories (is_pending (slice_set s.views id w)) q (any-here (λ (u : View X). has q u.pending) (slice_set s.views id w) id w (set_here s.views id w (at-bound s.views id v there)) e)
+            ∙ draft-is start (r.releases ++ []) r.drafts q
+            ∙ sym (draft-is start r.releases r.drafts q)
+            ∙ sym ((r.known id v there live).drafts q (((r.known id v there live).pending q e).0));
+        zero = λ q le inside.
+            let l' : q < start.pages = subst (λ (o : Origin). q < o.pages) same inside in
+            page-listed start.pages _ q l'
+            ∙ (λ i. logical (histories_of start (append-none r.releases i) r.drafts) (pending-looked stored keeps tied start tells s r id v p said there live l i) q)
+            ∙ logical-zero stored keeps tied start tells s r telling q le l';
+        next = λ _. ap (λ (o : Origin). slice_index s.words (index_of o places.Next)) same ∙ sym (next-here stored start s);
+      }
+
+module _ {X B : Type 0} (stored : B → Stored) (keeps : Start → Kept X → Type 0) (tied : Start → ℕ → List ℕ → ℕ → List ℕ → Type 0) (start : Origin) (tells : Bool) (s : Table (Option B) (View X)) (r : Ruled stored keeps tied start tells s) (id : ℕ) (v : View X) (p : ℕ) (said : Option X) (there : get_elem? s.views id ≡ some v) (live : v.live ≡ true) (l : p < start.pages) where
+  pub look-unheld : KnowsUnheld (look-after stored keeps tied start tells s r id v p said)
+  look-unheld alone q inside free none =
+      let same : v.start ≡ start = (r.heard id v there live).same_start in
+      let l' : q < start.pages = subst (λ (o : Origin). q < o.pages) same inside in
+      subst (λ (o : Origin). LocksNone (slice_index s.words (index_of o (places.State q)))) (sym same)
+      (subst (λ n. (n ≡ UNLOCKED) ⊎ ((n ≡ MARKED) ⊎ (n ≡ EVICTED))) (state-here stored start s q l')
+      (page-open stored keeps tied start tells s r id v there alone.0 q l'
+      (sym (same-exclusive stored keeps tied start tells s r id v p said there live l q) ∙ free)
+      (sym (same-shares stored keeps tied start tells s r id v p said there live l q) ∙ none)))
+
+module _ {X B : Type 0} (stored : B → Stored) (keeps : Start → Kept X → Type 0) (tied : Start → ℕ → List ℕ → ℕ → List ℕ → Type 0) (tells : Bool) (may_read : Start → ℕ → List ℕ → List (Entry X) → Type 0)
+    (reads : (start : Start) (kept : Kept X) (q : ℕ) (entries : List (Entry X)) → keeps start kept → q < length kept.pages → IsTurn kept.history entries → may_read start q (page_at kept.pages q) entries → keeps start (told entries kept))
+    (ties : (start : Start) (kept : Kept X) (q p : ℕ) → keeps start kept → q < length kept.pages → p < length kept.pages → tied start q (page_at kept.pages q) p (page_at kept.pages p)) where
+  pub look_allows : (shape : Shape) (slots id : ℕ) (v : View X) (i : ℕ) (p : ℕ) (said : Option X) → v.live ≡ true → 0 < length v.used → p < shape.pages → MayTell tied may_read p said v → IsPlacedAt shape (places.State p) i
+      → AllowsStep (Stands stored keeps tied shape tells) slots id v i (λ n. n) (told_of shape tells (LookTells keeps tied tells p said))
+  look_allows shape slots id v i p said live number l may is =
+      allows stored keeps tied shape tells slots id v i (places.State p) (λ n. n) (λ n. n) (LookTells keeps tied tells p said) live is (λ n. refl) (λ n w t. fit t.0.brings live)
+      (λ start has s r there _.
+      let low : p < start.pages = subst (λ n. p < n) (sym has.pages) l in
+      let w : View X = look-after stored keeps tied start tells s r id v p said in
+      let k : Ruled stored keeps tied start tells (became stored keeps tied start tells s s.words id w)
+      × Brings (look-did stored keeps tied start tells s r id v p said) [] (look-entries stored keeps tied start tells s r id v p said) v (look-inner stored keeps tied start tells s r id v p said) w =
+      steps stored keeps tied start tells s r id v s.words r.drafts [] _ _ _ (Look id p) there live number refl refl (look-shows stored keeps tied start tells s r id v p said there live low may_read reads ties may number) in (
+        w,
+        subst (λ words. Ruled stored keeps tied start tells (became stored keeps tied start tells s words id w)) (sym (same-word s.words p)) k.0,
+        (look-told stored keeps tied start tells s r id v p said there live low ties k.1, look-kept stored keeps tied start tells s r id v p said there live low may_read reads ties may number, look-unheld stored keeps tied start tells s r id v p said there live low),
+      ))
+
+module _ {X B : Type 0} (stored : B → Stored) (keeps : Start → Kept X → Type 0) (tied : Start → ℕ → List ℕ → ℕ → List ℕ → Type 0) (tells : Bool) where
+  pub look_event : LookIsItsEvent stored keeps tied tells
+  look_event start s id p found said v w pass finds told =
+      let page : Page = (core_shown stored start s).pages p in
+      let view = told.brings.view in
+      let state : state_of found ≡ page.state = ap state_of finds.1 ∙ sym (state-here stored start s p finds.0) in
+      let version : version_of found ≡ page.version = ap version_of finds.1 ∙ sym (version-here stored start s p finds.0) in
+      record {
+        legal = (record { actor = at-bound s.views id v pass.there; page = finds.0 }, tt);
+        core = ap (λ (y : World). y.core)
+            (look-step stored start s [] (λ _. []) id v w p (record page { state = state_of found; version = version_of found }) finds.0 pass.there (ap (λ (y : View X). y.out) view) (ap (λ (y : View X). y.frames) view) state version (ap (λ (y : View X). y.seats) view)
+            (ap (λ (y : View X). y.loads) view));
+        sees = λ i. sights.Look ((word-here stored start s p finds.0 ∙ sym finds.1) i) (left_of (record page { state = sym state i; version = sym version i }) (seat-here stored start s id p v finds.0 pass.there i).reading);
+      }
+
+-- one choice of both
+pub same-both : {A : Type 0} (left : ReadIs) (x : A) → where_same left x x ≡ x
+same-both read.Same x = refl
+same-both read.Opened x = refl
+same-both read.Moved x = refl
+same-both read.Closed x = refl
+
+module _ {X : Type 0} {tied : Start → ℕ → List ℕ → ℕ → List ℕ → Type 0} {p found : ℕ} {said : Option X} {v w : View X} (t : LookTold tied p said found v w) where
+  abbrev pub looked-did : Did
+  looked-did = did_load (places.State p) found
+
+  pub look-others : (touched : ℕ → Type 0) → touched p → LeavesOthers touched (looked-did ∷ []) [] v w
+  look-others touched at =
+      others-tied t.brings (_, refl) tt
+      (λ q ne. upd-other (put_at no_seat v.seats) p _ q (apart touched at q ne))
+      (λ q ne. upd-other (put_at [] v.loads) p _ q (apart touched at q ne))
+      (λ q ne. refl)
+      (λ q ne. refl)
+
+  pub look-seat : seat_of w p ≡ record (seat_of v p) { reading = open_after (left_at found (seat_of v p).reading) (seat_of v p).reading (version_of found) }
+  look-seat = ap (λ (x : View X). seat_of x p) t.brings.view ∙ upd-same (put_at no_seat v.seats) p _
+
+  pub look-loads : loads_at w p ≡ kept_loads (left_at found (seat_of v p).reading) (loads_at v p)
+  look-loads = ap (λ (x : View X). loads_at x p) t.brings.view ∙ upd-same (put_at [] v.loads) p _
+
+  -- it says what becomes an entry, where it makes one
+  pub look-says : where_same (left_at found (seat_of v p).reading) (entries_of v said) [] ≡ [] → LeavesOwn v w
+  look-says none = own-from t.brings (ap (λ (l : List (Entry X)). v.mine ++ l) none ∙ append-none v.mine) (refl, refl, refl)
+
+  -- the locks of every page stay, and what is known under them
+  pub look-holds : (q : ℕ) → HoldsPage v w q
+  look-holds q = record {
+    shares = ap (λ (x : View X). (seat_of x q).shares) t.brings.view ∙ upd-keeps (λ (s : Seat). s.shares) (put_at no_seat v.seats) p _ refl q;
+    exclusive = ap (λ (x : View X). (seat_of x q).exclusive) t.brings.view ∙ upd-keeps (λ (s : Seat). s.exclusive) (put_at no_seat v.seats) p _ refl q;
+    writing = ap (λ (x : View X). (seat_of x q).writing) t.brings.view ∙ upd-keeps (λ (s : Seat). s.writing) (put_at no_seat v.seats) p _ refl q;
+  }
+
+  pub looked-knows : (q : ℕ) → IsLocking (seat_of v q) → KnowsAsBefore v w q
+  looked-knows = knows-still t.brings refl refl refl
+
+module _ {X : Type 0} {tied : Start → ℕ → List ℕ → ℕ → List ℕ → Type 0} {p found : ℕ} {v w : View X} (t : LookTold tied p None found v w) where
+  -- a look without a word to say
+  pub look-own : LeavesOwn v w
+  look-own = look-says t (same-both (left_at found (seat_of v p).reading) [])
+
+  pub look-leaves : LeavesRest p (did_load (places.State p) found ∷ []) v w
+  look-leaves = rest-of (look-others t (λ q. q ≡ p) refl) look-own

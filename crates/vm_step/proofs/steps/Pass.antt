@@ -1,0 +1,296 @@
+-- Passes that are split, joined, or told by one another: that the table allows it, what the load behind it tells, and that it is no event.
+use Rattle.std.proofs.Common.{[], ⊎_elim, ◌++◌, ◌+◌, ◌<◌, ◌||◌, ◌∙◌, ◌≡◌, ◌≢◌, ap, arith, Bool, false, if◌then◌else◌, inl, length, length-append}
+use Rattle.std.proofs.Common.{length-set, List, None, Option, refl, slice_index, slice_set, subst, sym, true, ℕ}
+use Rattle.std.proofs.lemmas.Bool.{cases_Bool, cases_eq, cases_lt}
+use mathlib.Core.Path.{fun_ext}
+use Rattle.atomic_table.specs.Table.{Joins, Splits}
+use Rattle.atomic_table.proofs.Lists.{set_else}
+use Rattle.vm_core.specs.Prelude.{at, get_elem?, no_seat, outside_page, Page, some, upd, World}
+use Rattle.vm_core.proofs.Upd.{upd-other, upd-same, upd-self}
+use Rattle.vm_owner.proofs.NumberLemmas.{has-both}
+use Rattle.vm_rule.specs.Prelude.{block_of, CaughtUp, core_shown, did_load, entries_by, frames_held, giver, has, hearer, Hears, histories_of}
+use Rattle.vm_rule.specs.Prelude.{HoldsNoPage, HoldsNothing, index_of, joined, JoinTold, Kept, loads_at, loads_of, newcomer, OnlyKnows, page_from}
+use Rattle.vm_rule.specs.Prelude.{pages_from, Ruled, seat_of, seats_of, spent, Stands, Start, StartsWith, Stored, Table, table_words, TakesOver}
+use Rattle.vm_rule.specs.Prelude.{world_of}
+use Rattle.vm_rule.specs.{Hearing.follower, Joins.knows_more}
+use Rattle.vm_rule.specs.declared.view.Place.TheVariants as places
+use Rattle.vm_rule.proofs.{Adding.became, Found.same-word, Pages.page-in, Pages.page-out, Views.at-there, Views.block-same}
+use Rattle.vm_rule.proofs.Entries.{append-none, entries-both, entries-within}
+use Rattle.vm_rule.proofs.Joining.{at-first, at-neither, at-second, has-left, has-right, joins-past, joins-ruled, once-second, twice}
+use Rattle.vm_rule.proofs.Meeting.{follows-ruled, hears-past, hears-ruled}
+use Rattle.vm_rule.proofs.Resettling.{at-past, Resettles, settled-blocks}
+use Rattle.vm_rule.proofs.Splitting.{same-field, split-resettles, split-views, splits-past, splits-ruled}
+use Rattle.vm_step.specs.Prelude.{AllowsStep, IsPassOf, IsPlacedAt, Origin, Shape, told_of, View}
+use Rattle.vm_step.specs.NoEvents.{HasNone, IsSplitOff, IsTakenIn, table_heard, table_joined, table_split, taken_in, with_actor}
+use Rattle.vm_step.proofs.Standing.{allows, born}
+
+module _ {X B : Type 0} (stored : B → Stored) (keeps : Start → Kept X → Type 0) (tied : Start → ℕ → List ℕ → ℕ → List ℕ → Type 0) (shape : Shape) (tells : Bool) where
+  pub splits-any : (id : ℕ) (part : Bool) (v : View X) → v.live ≡ true → 0 < length v.used → Splits (Stands stored keeps tied shape tells) id v (giver part v) (newcomer part v)
+  splits-any id part v live number s stands at =
+      ⊎_elim
+      (λ r. record {
+        start = stands.start;
+        is_shape = stands.is_shape;
+        rule = inl (splits-ruled stored keeps tied stands.start tells s r id part v at live number);
+      })
+      (λ u. absurd (born shape id v (subst (λ views. get_elem? views id ≡ some v) u.0 at) live))
+      stands.rule
+
+module _ {X B : Type 0} (stored : B → Stored) (keeps : Start → Kept X → Type 0) (tied : Start → ℕ → List ℕ → ℕ → List ℕ → Type 0) (shape : Shape) (tells : Bool) where
+  pub joins-any : (id : ℕ) (v : View X) (other : ℕ) (w : View X) → v.live ≡ true → w.live ≡ true → (v.told_releases ≡ []) × (v.told ≡ []) → (w.told_releases ≡ []) × (w.told ≡ []) → HoldsNoPage w
+      → Joins (Stands stored keeps tied shape tells) id v other w (joined v w) spent
+  joins-any id v other w live live' here there nothing s stands at apart at' =
+      ⊎_elim
+      (λ r. record {
+        start = stands.start;
+        is_shape = stands.is_shape;
+        rule = inl (joins-ruled stored keeps tied stands.start tells s r id other v w at apart (sym (set_else s.views id other (joined v w) apart) ∙ at') live live' here there nothing);
+      })
+      (λ u. absurd (born shape id v (subst (λ views. get_elem? views id ≡ some v) u.0 at) live))
+      stands.rule
+
+module _ {X : Type 0} where
+  pub more-used : (v w : View X) → 0 < length v.used → 0 < length (joined v w).used
+  more-used v w l = let both : length (v.used ++ w.used) ≡ length v.used + length w.used = length-append v.used w.used in omega (arith, l, both)
+
+  pub join-told : (v w x : View X) → CaughtUp (joined v w) x → JoinTold v w x
+  join-told v w x c =
+      let b = c.brings in
+      let seen : x.seen ≡ (joined v w).seen ++ b.others = ap (λ (y : View X). y.seen) b.view ∙ append-none ((joined v w).seen ++ b.others) in
+      let releases : x.releases ≡ v.releases ++ b.between = ap (λ (y : View X). y.releases) b.view ∙ append-none (v.releases ++ b.between) in
+      let mine-within : (k : ℕ) → has k v.used ≡ true → has k (v.used ++ w.used) ≡ true = λ k. has-left k v.used w.used in
+      let theirs-within : (k : ℕ) → has k w.used ≡ true → has k (v.used ++ w.used) ≡ true = λ k. has-right k v.used w.used in
+      record {
+        caught = c;
+        heard = ⊎_elim
+            (λ t.
+            let longer : (joined v w).seen ≡ w.seen = ap (λ q. if q then w.seen else v.seen) t in
+            let told : Hears ((joined v w).seen ++ b.others) v.used v.seen = subst (λ q. Hears ((joined v w).seen ++ b.others) (if q then v.used else w.used) (if q then v.seen else w.seen)) t b.told.1 in (
+              subst (λ l. Hears l v.used v.seen) (sym seen) told,
+              (b.others, seen ∙ ap (λ l. l ++ b.others) longer, entries-within w.used (v.used ++ w.used) b.others theirs-within b.foreign),
+            ))
+            (λ t.
+            let longer : (joined v w).seen ≡ v.seen = ap (λ q. if q then w.seen else v.seen) t in
+            let told : Hears ((joined v w).seen ++ b.others) w.used w.seen = subst (λ q. Hears ((joined v w).seen ++ b.others) (if q then v.used else w.used) (if q then v.seen else w.seen)) t b.told.1 in (
+              (b.others, seen ∙ ap (λ l. l ++ b.others) longer, entries-within v.used (v.used ++ w.used) b.others mine-within b.foreign),
+              subst (λ l. Hears l w.used w.seen) (sym seen) told,
+            ))
+            (cases_Bool (knows_more v w));
+        saw = (
+          (b.between, releases),
+          subst (λ l. StartsWith l w.releases) (sym releases) b.told.0,
+        );
+        mine = ap (λ (y : View X). y.mine) b.view ∙ sym (ap (entries_by (v.used ++ w.used)) seen ∙ entries-both (v.used ++ w.used) (joined v w).seen b.others ∙ (λ i. entries_by (v.used ++ w.used) (joined v w).seen ++ b.foreign i) ∙ append-none (entries_by (v.used ++ w.used) (joined v w).seen));
+      }
+
+module _ {X B : Type 0} (stored : B → Stored) (keeps : Start → Kept X → Type 0) (tied : Start → ℕ → List ℕ → ℕ → List ℕ → Type 0) where
+  pub hears-any : (shape : Shape) (tells : Bool) (id : ℕ) (v : View X) (other : ℕ) (w : View X) → v.live ≡ true → w.live ≡ true → (v.told_releases ≡ []) × (v.told ≡ []) → (w.told_releases ≡ []) × (w.told ≡ []) → OnlyKnows w
+      → Joins (Stands stored keeps tied shape tells) id v other w (hearer v w) spent
+  hears-any shape tells id v other w live live' here there only s stands at apart at' =
+      ⊎_elim
+      (λ r. record {
+        start = stands.start;
+        is_shape = stands.is_shape;
+        rule = inl (hears-ruled stored keeps tied stands.start tells s r id other v w at apart (sym (set_else s.views id other (hearer v w) apart) ∙ at') live live' here there only);
+      })
+      (λ u. absurd (born shape id v (subst (λ views. get_elem? views id ≡ some v) u.0 at) live))
+      stands.rule
+
+  follow-keeps : (tells : Bool) (start : Origin) (s : Table (Option B) (View X)) → Ruled stored keeps tied start tells s → (id : ℕ) (v : View X) → get_elem? s.views id ≡ some v → v.live ≡ true → StartsWith v.told_releases v.releases → StartsWith v.told v.seen
+      → (w : View X)
+      × Ruled stored keeps tied start tells (became stored keeps tied start tells s (slice_set s.words (index_of start places.Next) (slice_index s.words (index_of start places.Next))) id w)
+      × TakesOver v w
+  follow-keeps tells start s r id v there live on-releases on-seen =
+      let k = follows-ruled stored keeps tied start tells s r id v there live on-releases on-seen in
+      let w : View X = follower v (did_load places.Next (slice_index s.words (index_of start places.Next))) in (
+        w,
+        subst (λ ws. Ruled stored keeps tied start tells (became stored keeps tied start tells s ws id w)) (sym (same-word s.words (index_of start places.Next))) k.0,
+        k.1,
+      )
+
+  pub follow-allows : (tells : Bool) (shape : Shape) (slots id : ℕ) (v : View X) (i : ℕ) → v.live ≡ true → StartsWith v.told_releases v.releases → StartsWith v.told v.seen → IsPlacedAt shape places.Next i
+      → AllowsStep (Stands stored keeps tied shape tells) slots id v i (λ n. n) (told_of shape tells (λ n. TakesOver))
+  follow-allows tells shape slots id v i live on-releases on-seen is =
+      allows stored keeps tied shape tells slots id v i places.Next (λ n. n) (λ n. n) (λ n. TakesOver) live is (λ n. refl) (λ n w t. record { live = ap (λ y. y.live) t.view ∙ live; learned = (ap (λ y. y.told_releases) t.view, ap (λ y. y.told) t.view); sound = t.sound })
+      (λ start has s r there _. follow-keeps tells start s r id v there live on-releases on-seen)
+
+-- nothing changes where nothing was
+none-still : (b : ℕ) → upd (λ (_ : ℕ). no_seat) b no_seat ≡ (λ _. no_seat)
+none-still b = upd-self (λ (_ : ℕ). no_seat) b
+
+module _ {X B : Type 0} (stored : B → Stored) (keeps : Start → Kept X → Type 0) (tied : Start → ℕ → List ℕ → ℕ → List ℕ → Type 0) (start : Origin) (tells : Bool) (s : Table (Option B) (View X)) (id : ℕ) (v : View X) (is : IsPassOf stored start keeps tied tells s id v) where
+  abbrev r : Ruled stored keeps tied start tells s
+  r = is.rule
+
+  abbrev before : World
+  before = world_of stored start r.releases r.drafts s
+
+  -- ---- split
+
+  module _ (part : Bool) (number : 0 < length v.used) where
+    abbrev views' : List (View X)
+    views' = split-views s.views id part v is.there
+
+    abbrev late : Table (Option B) (View X)
+    late = table_split s id part v
+
+    parted : Resettles s.views views' 1 (length s.views) id
+    parted = split-resettles s.views id part v is.there
+
+    one-more : length views' ≡ length s.views + 1
+    one-more = let n = parted.count in omega (arith, n)
+
+    blocks-same : block_of stored s.homes views' ≡ block_of stored s.homes s.views
+    blocks-same = settled-blocks stored start r.releases r.drafts s views' 1 (length s.views) id parted
+
+    seats-same : seats_of views' ≡ seats_of s.views
+    seats-same = fun_ext (λ p. fun_ext (λ a. same-field s.views id part v is.there (λ y. seat_of y p) refl refl a))
+
+    held-same : frames_held views' ≡ frames_held s.views
+    held-same = fun_ext (λ a. fun_ext (λ f. same-field s.views id part v is.there (λ y. has f y.frames) refl refl a))
+
+    loads-same : loads_of views' ≡ loads_of s.views
+    loads-same = fun_ext (λ p. fun_ext (λ a. same-field s.views id part v is.there (λ y. loads_at y p) refl refl a))
+
+    split-world : world_of stored start r.releases r.drafts late ≡ with_actor before
+    split-world i = record {
+      core = record (core_shown stored start s) {
+        shape = record { pages = start.pages; frames = start.frames; actors = one-more i; next = start.next };
+        pages = pages_from start.pages (table_words start s.words) (blocks-same i) (seats-same i);
+        held = held-same i;
+      };
+      histories = histories_of start r.releases r.drafts;
+      loads = loads-same i;
+    }
+
+    -- past the last actor nobody has anything
+    none-past : HasNone before (length s.views)
+    none-past = record {
+      seats = λ p. ⊎_elim
+          (λ l. ap (λ (y : Page). y.seats (length s.views)) (page-in start.pages (table_words start s.words) (block_of stored s.homes s.views) (seats_of s.views) p l) ∙ ap (λ (y : View X). seat_of y p) (at-past spent s.views (length s.views) (omega arith)))
+          (λ le. ap (λ (y : Page). y.seats (length s.views)) (page-out start.pages (table_words start s.words) (block_of stored s.homes s.views) (seats_of s.views) p le))
+          (cases_lt p start.pages);
+      held = λ f. ap (λ (y : View X). has f y.frames) (at-past spent s.views (length s.views) (omega arith));
+      loads = λ p. ap (λ (y : View X). loads_at y p) (at-past spent s.views (length s.views) (omega arith));
+    }
+
+    pub split-no-event : IsSplitOff stored keeps tied start tells s r late
+    split-no-event =
+        let past = splits-past stored keeps tied start tells s r id part v is.there is.live number in
+        record {
+          goes = record { rule = splits-ruled stored keeps tied start tells s r id part v is.there is.live number; releases = past.0; history = past.1; drafts = past.2 };
+          core = split-world;
+          new = record {
+            seats = λ p. ap (λ (y : World). (y.core.pages p).seats (length s.views)) split-world ∙ none-past.seats p;
+            held = λ f. ap (λ (y : World). y.core.held (length s.views) f) split-world ∙ none-past.held f;
+            loads = λ p. ap (λ (y : World). y.loads p (length s.views)) split-world ∙ none-past.loads p;
+          };
+        }
+
+  -- ---- the pass takes in another, and has the view `took` then
+
+  module _ (other : ℕ) (w took : View X) (apart : other ≢ id) (at-other : get_elem? s.views other ≡ some w) (goes : w.out ≡ None) (stays : took.out ≡ v.out)
+      (seats : (p : ℕ) → seat_of took p ≡ seat_of v p) (loads : (p : ℕ) → loads_at took p ≡ loads_at v p) (frames : (f : ℕ) → has f took.frames ≡ (has f w.frames || has f v.frames)) where
+    abbrev both' : List (View X)
+    both' = twice s.views id other v w took spent is.there apart at-other
+
+    here : at spent both' id ≡ took
+    here = at-first s.views id other v w took spent is.there apart at-other
+
+    gone : at spent both' other ≡ spent
+    gone = at-second s.views id other v w took spent is.there apart at-other
+
+    neither : (a : ℕ) → a ≢ id → a ≢ other → at spent both' a ≡ at spent s.views a
+    neither = at-neither s.views id other v w took spent is.there apart at-other
+
+    -- a field of the views, of which a spent one has this, and the one that takes in another has what it had
+    field-taken : {A : Type 0} (f : View X → A) (none : A) → f spent ≡ none → f took ≡ f v → (λ a. f (at spent both' a)) ≡ upd (λ a. f (at spent s.views a)) other none
+    field-taken f none nothing same =
+        fun_ext (λ a. ⊎_elim
+        (λ (e : a ≡ other). ap (λ n. f (at spent both' n)) e ∙ ap f gone ∙ nothing ∙ sym (ap (upd (λ n. f (at spent s.views n)) other none) e ∙ upd-same (λ n. f (at spent s.views n)) other none))
+        (λ (m : a ≢ other).
+        ⊎_elim
+        (λ (e : a ≡ id). ap (λ n. f (at spent both' n)) e ∙ ap f here ∙ same ∙ sym (ap (λ n. f (at spent s.views n)) e ∙ ap f (at-there spent s.views id v is.there)))
+        (λ (n : a ≢ id). ap f (neither a n m))
+        (cases_eq a id)
+        ∙ sym (upd-other (λ n. f (at spent s.views n)) other none a m))
+        (cases_eq a other))
+
+    blocks-stay : block_of stored s.homes both' ≡ block_of stored s.homes s.views
+    blocks-stay =
+        block-same stored s.homes (slice_set s.views id took) other w spent (once-second s.views id other v w took spent is.there apart at-other) (sym goes)
+        ∙ block-same stored s.homes s.views id v took is.there stays
+
+    pages-taken : pages_from start.pages (table_words start s.words) (block_of stored s.homes both') (seats_of both') ≡ (λ p. record (before.core.pages p) { seats = upd (before.core.pages p).seats other no_seat })
+    pages-taken = fun_ext (λ p. ⊎_elim
+        (λ l.
+        page-in start.pages (table_words start s.words) (block_of stored s.homes both') (seats_of both') p l
+        ∙ (λ i. record (page_from (table_words start s.words) (blocks-stay i) (seats_of s.views) p) { seats = field-taken (λ y. seat_of y p) no_seat refl (seats p) i })
+        ∙ sym (ap (λ (y : Page). record y { seats = upd y.seats other no_seat }) (page-in start.pages (table_words start s.words) (block_of stored s.homes s.views) (seats_of s.views) p l)))
+        (λ le.
+        page-out start.pages (table_words start s.words) (block_of stored s.homes both') (seats_of both') p le
+        ∙ sym (ap (λ (y : Page). record y { seats = upd y.seats other no_seat }) (page-out start.pages (table_words start s.words) (block_of stored s.homes s.views) (seats_of s.views) p le) ∙ (λ i. record outside_page { seats = none-still other i })))
+        (cases_lt p start.pages))
+
+    -- the frames of both, and none
+    abbrev two : ℕ → Bool
+    two f = frames_held s.views other f || frames_held s.views id f
+
+    abbrev none : ℕ → Bool
+    none f = false
+
+    held-taken : frames_held both' ≡ upd (upd (frames_held s.views) id (λ f. frames_held s.views other f || frames_held s.views id f)) other (λ f. false)
+    held-taken = fun_ext (λ a. ⊎_elim
+        (λ (e : a ≡ other).
+        ap (frames_held both') e
+        ∙ ap (λ (y : View X). (λ f. has f y.frames)) gone
+        ∙ sym (ap (upd (upd (frames_held s.views) id two) other none) e ∙ upd-same (upd (frames_held s.views) id two) other none))
+        (λ (m : a ≢ other).
+        ⊎_elim
+        (λ (e : a ≡ id).
+        ap (frames_held both') e
+        ∙ ap (λ (y : View X). (λ f. has f y.frames)) here
+        ∙ fun_ext (λ f. frames f ∙ (λ i. has f (sym (at-there spent s.views other w at-other) i).frames || has f (sym (at-there spent s.views id v is.there) i).frames))
+        ∙ sym (ap (upd (frames_held s.views) id two) e ∙ upd-same (frames_held s.views) id two))
+        (λ (n : a ≢ id).
+        ap (λ (y : View X). (λ f. has f y.frames)) (neither a n m)
+        ∙ sym (upd-other (frames_held s.views) id two a n))
+        (cases_eq a id)
+        ∙ sym (upd-other (upd (frames_held s.views) id two) other none a m))
+        (cases_eq a other))
+
+    loads-taken : loads_of both' ≡ (λ p. upd (loads_of s.views p) other [])
+    loads-taken = fun_ext (λ p. field-taken (λ y. loads_at y p) [] refl (loads p))
+
+    taken-world : world_of stored start r.releases r.drafts (record { words = s.words; homes = s.homes; views = both' }) ≡ taken_in id other before
+    taken-world i = record {
+      core = record (core_shown stored start s) {
+        shape = record { pages = start.pages; frames = start.frames; actors = (length-set (slice_set s.views id took) other spent ∙ length-set s.views id took) i; next = start.next };
+        pages = pages-taken i;
+        held = held-taken i;
+      };
+      histories = histories_of start r.releases r.drafts;
+      loads = loads-taken i;
+    }
+
+  module _ (other : ℕ) (w : View X) (apart : other ≢ id) (at-other : get_elem? s.views other ≡ some w) (live' : w.live ≡ true) (settled-here : (v.told_releases ≡ []) × (v.told ≡ [])) (settled-other : (w.told_releases ≡ []) × (w.told ≡ [])) where
+    -- ---- join
+
+    pub join-no-event : HoldsNoPage w → IsTakenIn stored keeps tied start tells s r id other (table_joined s id other v w)
+    join-no-event nothing =
+        let past = joins-past stored keeps tied start tells s r id other v w is.there apart at-other is.live live' settled-here settled-other nothing in
+        record {
+          goes = record { rule = joins-ruled stored keeps tied start tells s r id other v w is.there apart at-other is.live live' settled-here settled-other nothing; releases = past.0; history = past.1; drafts = past.2 };
+          core = taken-world other w (joined v w) apart at-other nothing.out refl (λ p. refl) (λ p. refl) (λ f. has-both f w.frames v.frames);
+        }
+
+    -- ---- hearing
+
+    pub hearing-no-event : OnlyKnows w → IsTakenIn stored keeps tied start tells s r id other (table_heard s id other v w)
+    hearing-no-event only =
+        let nothing : HoldsNothing w = (r.heard other w at-other live').idle only.used only.fresh in
+        let past = hears-past stored keeps tied start tells s r id other v w is.there apart at-other is.live live' settled-here settled-other only in
+        record {
+          goes = record { rule = hears-ruled stored keeps tied start tells s r id other v w is.there apart at-other is.live live' settled-here settled-other only; releases = past.0; history = past.1; drafts = past.2 };
+          core = taken-world other w (hearer v w) apart at-other nothing.out refl (λ p. refl) (λ p. refl) (λ f. ap (λ l. has f l || has f v.frames) (sym nothing.frames));
+        }

@@ -1,0 +1,221 @@
+-- A fault word that is raised to the count of the page's block: a count that it rises to was noted by nobody before; that the table allows it.
+--
+-- What a raise of a page's fault word leaves: the step works on that page, which is locked meanwhile; a count that the word rises to is noted.
+use Rattle.std.proofs.Common.{[], ⊎_elim, ◌++◌, ◌+◌, ◌<◌, ◌∙◌, ◌∷◌, ◌≡◌, ◌≢◌, ◌≤◌, ◌⊎◌, ap, arith, Bool, eq-eqb, inl, inr, length, length-set, List}
+use Rattle.std.proofs.Common.{ne_eqb, None, Option, refl, slice_set, subst, suc, sym, true, ℕ}
+use Rattle.std.proofs.lemmas.Bool.{cases_eq, cases_lt, le-ltb, lt-ltb}
+use Rattle.atomic_table.proofs.Lists.{at_set}
+use Rattle.vm_core.specs.Prelude.{get_elem?, Legal, MAX_COUNT, Page, raised, some, upd, World, world_after}
+use Rattle.vm_core.specs.declared.event.Event.TheVariants.{Raise}
+use Rattle.vm_core.proofs.Upd.{upd-other, upd-same}
+use Rattle.vm_laws_others.proofs.Laws.{leave_others}
+use Rattle.vm_rule.specs.Prelude.{block_of, core_shown, did_store, FaultsFit, held_at, index_of, is_pending, Kept, KnowsPage, KnowsPages, Leaves}
+use Rattle.vm_rule.specs.Prelude.{listed, may_call, no_held, notes_of, put, put_at, RaiseTold, Ruled, seat_of, Stands, Start, Stored, Table}
+use Rattle.vm_rule.specs.Prelude.{times_noted, total, world_of}
+use Rattle.vm_rule.specs.{declared.view.Held.Held, Faults.raised_view}
+use Rattle.vm_rule.specs.declared.view.Place.TheVariants as places
+use Rattle.vm_rule.proofs.{Adding.after_more, Adding.became_more, Bringing.steps_more, Facts.blocks-still, FrameWorlds.raise-step, Runs.event_law}
+use Rattle.vm_rule.proofs.Views.{at-bound, block-same, total-set}
+use Rattle.vm_step.specs.Prelude.{AllowsStep, Did, IsPlacedAt, MayRaise, Note, Origin, Shape, told_of, View, Works}
+use Rattle.vm_step.proofs.{Fit.fit, Leaves.works-one, Slots.device-shows, Slots.may-call, Standing.allows, Written.spelled-still}
+use Rattle.vm_step.proofs.{Written.stands-there}
+
+-- ---- notes
+
+noted-both : (p count : ℕ) (l m : List Note) → times_noted p count (l ++ m) ≡ times_noted p count l + times_noted p count m
+noted-both p count [] m = omega arith
+noted-both p count (n ∷ ns) m = let rest : times_noted p count (ns ++ m) ≡ times_noted p count ns + times_noted p count m = noted-both p count ns m in omega arith
+
+abbrev note : ℕ → ℕ → Note
+note p count = record { page = p; count = count }
+
+-- one note is of one count of one page
+noted-one : (p count q n : ℕ) → (times_noted q n (note p count ∷ []) ≡ 0) ⊎ ((times_noted q n (note p count ∷ []) ≡ 1) × (p ≡ q) × (count ≡ n))
+noted-one p count q n =
+    ⊎_elim
+    (λ (e : p ≡ q). ⊎_elim
+    (λ (e' : count ≡ n). inr (rw (eq-eqb p q e, eq-eqb count n e') refl, e, e'))
+    (λ (ne : count ≢ n). inl (rw (eq-eqb p q e, ne_eqb count n ne) refl))
+    (cases_eq count n))
+    (λ (ne : p ≢ q). inl (rw (ne_eqb p q ne) refl))
+    (cases_eq p q)
+
+-- what is noted at a raise: nothing, or the count, which the fault word rises to or which is the last
+noted-raise : (p fault count : ℕ) → (notes_of p fault count ≡ []) ⊎ ((notes_of p fault count ≡ note p count ∷ []) × ((fault < count) ⊎ (count ≡ MAX_COUNT)))
+noted-raise p fault count =
+    ⊎_elim
+    (λ lt. inr (rw (lt-ltb fault count lt) refl, inl lt))
+    (λ le. ⊎_elim
+    (λ e. inr (rw (le-ltb fault count le, eq-eqb count MAX_COUNT e) refl, inr e))
+    (λ ne. inl (rw (le-ltb fault count le, ne_eqb count MAX_COUNT ne) refl))
+    (cases_eq count MAX_COUNT))
+    (cases_lt fault count)
+
+-- so of any count of any page: it is not among the new notes, or it is the one
+noted-new : (p fault count q n : ℕ) → (times_noted q n (notes_of p fault count) ≡ 0) ⊎ ((times_noted q n (notes_of p fault count) ≡ 1) × (p ≡ q) × (count ≡ n) × ((fault < count) ⊎ (count ≡ MAX_COUNT)))
+noted-new p fault count q n =
+    ⊎_elim
+    (λ none. inl (ap (times_noted q n) none))
+    (λ k. ⊎_elim
+    (λ z. inl (ap (times_noted q n) k.0 ∙ z))
+    (λ o. inr (ap (times_noted q n) k.0 ∙ o.0, o.1, o.2, k.1))
+    (noted-one p count q n))
+    (noted-raise p fault count)
+
+total-none : {X : Type 0} (f : View X → ℕ) (views : List (View X)) → ((j : ℕ) (u : View X) → get_elem? views j ≡ some u → f u ≡ 0) → total f views ≡ 0
+total-none f [] k = refl
+total-none f (v ∷ vs) k = let here : f v ≡ 0 = k 0 v refl in let rest : total f vs ≡ 0 = total-none f vs (λ j u e. k (suc j) u e) in omega arith
+
+module _ {X B : Type 0} (stored : B → Stored) (keeps : Start → Kept X → Type 0) (tied : Start → ℕ → List ℕ → ℕ → List ℕ → Type 0) (start : Origin) (tells : Bool) (s : Table (Option B) (View X)) (r : Ruled stored keeps tied start tells s) (id : ℕ) (v : View X) (there : get_elem? s.views id ≡ some v) (live : v.live ≡ true) where
+  abbrev world : World
+  world = world_of stored start r.releases r.drafts s
+
+  abbrev page : ℕ → Page
+  page p = world.core.pages p
+
+  mine : KnowsPages tied start world (is_pending s.views) v
+  mine = r.known id v there live
+
+  pub raise-legal : (p : ℕ) → p < start.pages → may_call (seat_of v p) ≡ true → Legal (core_shown stored start s) (Raise id p)
+  raise-legal p l calls = (record { actor = at-bound s.views id v there; page = l }, may-call stored keeps tied start tells s r id v there live p l calls)
+
+  -- the count that the pass knows is the page's
+  pub count-known : (p count : ℕ) → MayRaise v p count → count ≡ (page p).count
+  count-known p count may = may.is ∙ ((mine.knows p).calls may.calls).3
+
+  abbrev pub raise-did : ℕ → ℕ → Did
+  raise-did p count = did_store (places.Fault p) count
+
+  abbrev pub raise-words : ℕ → ℕ → List ℕ
+  raise-words p count = slice_set s.words (index_of start (places.Fault p)) count
+
+  abbrev blocks : List Stored
+  blocks = listed start.pages (block_of stored s.homes s.views)
+
+  abbrev pub raise-view : ℕ → ℕ → View X
+  raise-view p count = after_more stored keeps tied start tells s r id v (raise-words p count) s.homes blocks r.drafts [] [] (raise-did p count) (raised_view p count v)
+
+  abbrev pub raise-table : ℕ → ℕ → Table (Option B) (View X)
+  raise-table p count = became_more stored keeps tied start tells s r id v (raise-words p count) s.homes blocks r.drafts [] [] (raise-did p count) (raised_view p count v)
+
+  module _ (p count : ℕ) (l : p < start.pages) (may : MayRaise v p count) where
+    abbrev fault : ℕ
+    fault = (held_at v p).fault
+
+    fault-is : fault ≡ (page p).fault
+    fault-is = ((mine.knows p).calls may.calls).1
+
+    raise-left : Leaves id world (world_after world (Raise id p))
+    raise-left = leave_others world (Raise id p) r.inv (raise-legal p l may.calls)
+
+    -- what was noted before is at most the fault word that was
+    noted-before : (j : ℕ) (u : View X) → get_elem? s.views j ≡ some u → (q n : ℕ) → 1 ≤ times_noted q n u.notes → (1 ≤ n) × (n ≤ ((world_after world (Raise id p)).core.pages q).fault)
+    noted-before j u at q n m =
+        let more : (page q).fault ≤ ((world_after world (Raise id p)).core.pages q).fault = (raise-left.counts q).fault (r.faults.below q) in
+        let was = r.faults.noted j u at q n m in
+        let below : n ≤ (page q).fault = was.1 in
+        (was.0, omega arith)
+
+    noted-after : (q n : ℕ) → 1 ≤ times_noted q n (v.notes ++ notes_of p fault count) → (1 ≤ n) × (n ≤ ((world_after world (Raise id p)).core.pages q).fault)
+    noted-after q n m =
+        let both : times_noted q n (v.notes ++ notes_of p fault count) ≡ times_noted q n v.notes + times_noted q n (notes_of p fault count) = noted-both q n v.notes (notes_of p fault count) in
+        ⊎_elim
+        (λ (z : times_noted q n (notes_of p fault count) ≡ 0). noted-before id v there q n (omega arith))
+        (λ k.
+        let is : count ≡ n = k.2 in
+        let now : ((world_after world (Raise id p)).core.pages q).fault ≡ n = ap (λ m. (upd world.core.pages p (raised (page p)) m).fault) (sym k.1) ∙ ap (λ (y : Page). y.fault) (upd-same world.core.pages p (raised (page p))) ∙ sym (count-known p count may) ∙ is in
+        (⊎_elim (λ (lt : fault < count). omega arith) (λ (e : count ≡ MAX_COUNT). omega arith) k.3, omega arith))
+        (noted-new p fault count q n)
+
+    -- a count that the fault word rises to was noted by nobody
+    once-after : (q n : ℕ) → n ≢ MAX_COUNT → total (λ (y : View X). times_noted q n y.notes) (slice_set s.views id (raise-view p count)) ≤ 1
+    once-after q n ne =
+        let f : View X → ℕ = λ y. times_noted q n y.notes in
+        let w : View X = raise-view p count in
+        let new : ℕ = times_noted q n (notes_of p fault count) in
+        let both : f w ≡ f v + new = noted-both q n v.notes (notes_of p fault count) in
+        let sum : total f (slice_set s.views id w) + f v ≡ total f s.views + f w = total-set f s.views id v w there in
+        let before : total f s.views ≤ 1 = r.faults.once q n ne in
+        ⊎_elim
+        (λ (z : new ≡ 0). omega arith)
+        (λ k.
+        let is : count ≡ n = k.2 in
+        let one : new ≡ 1 = k.0 in
+        let up : fault < count = ⊎_elim (λ lt. lt) (λ e. absurd (ne (sym is ∙ e))) k.3 in
+        let none : total f s.views ≡ 0 = total-none f s.views (λ j u at. ⊎_elim
+        (λ (le : 1 ≤ f u). absurd (
+        let below : n ≤ (page q).fault = (r.faults.noted j u at q n le).1 in
+        let here : fault ≡ (page q).fault = fault-is ∙ ap (λ m. (page m).fault) k.1 in
+        omega arith))
+        (λ (lt : f u < 1). omega arith)
+        (⊎_elim (λ lt. inr lt) (λ le. inl le) (cases_lt (f u) 1))) in
+        omega arith)
+        (noted-new p fault count q n)
+
+    raise-faults : FaultsFit (world_after world (Raise id p)).core.pages (slice_set s.views id (raise-view p count))
+    raise-faults = record {
+      below = λ q. (raise-left.counts q).within (r.faults.capped q) (r.faults.below q);
+      capped = λ q. (raise-left.counts q).inside (r.faults.capped q);
+      noted = λ j u at q n m. ⊎_elim
+          (λ (t : (j ≡ id) × (raise-view p count ≡ u)). noted-after q n (subst (λ (y : View X). 1 ≤ times_noted q n y.notes) (sym t.1) m))
+          (λ (t : (j ≢ id) × (get_elem? s.views j ≡ some u)). noted-before j u t.1 q n m)
+          (at_set s.views id j (raise-view p count) u at);
+      once = once-after;
+    }
+
+    pub raise-keeps : 0 < length v.used → Ruled stored keeps tied start tells (raise-table p count) × RaiseTold p count v (raise-view p count)
+    raise-keeps number =
+        let h : Held = record (held_at v p) { fault = count } in
+        let w : View X = raise-view p count in
+        let place : ℕ = index_of start (places.Fault p) in
+        let y : Page = raised (page p) in
+        let knows = (mine.knows p).calls may.calls in
+        let done = steps_more stored keeps tied start tells s r id v (raise-words p count) s.homes blocks None r.drafts [] [] (raise-did p count) (raised_view p count v) there live number refl refl
+        (device-shows stored keeps tied start tells s r id v (raise-words p count) s.homes blocks (raise-did p count) v.out (put p h v.held) (v.notes ++ notes_of p fault count) (world_after world (Raise id p)).core there live
+        (record {
+          wide = length-set s.words place count ∙ r.wide.0;
+          slots = r.wide.1;
+          spelled = spelled-still start s.words (places.Fault p) count r.wide.0 l refl r.spelled;
+          core_is = ap (λ (x : World). x.core) (raise-step stored start s r.releases r.drafts id v w p count r.wide.0 l there refl refl refl refl (count-known p count may));
+          inv = event_law world (Raise id p) r.inv (raise-legal p l may.calls);
+          left = raise-left;
+          next = refl;
+          contents = refl;
+          told = ap (listed start.pages) (block-same stored s.homes s.views id v w there refl);
+          fit = blocks-still stored start s.homes s.views id v w there refl (λ o x. (r.blocks.away id v o there x).1) r.blocks;
+          faults = raise-faults;
+          at = l;
+          found = tt;
+          wrote = stands-there start s.words (places.Fault p) count r.wide.0 l;
+          knows = λ q. ⊎_elim
+              (λ e. subst (λ m. KnowsPage (seat_of v m) (put_at no_held (put p h v.held) m) (upd world.core.pages p y m)) (sym e)
+              (rw (upd-same world.core.pages p y, upd-same (put_at no_held v.held) p h)
+              (record { calls = λ _. (knows.0, count-known p count may, knows.2, knows.3); shares = (mine.knows p).shares })))
+              (λ ne. rw (upd-other world.core.pages p y q ne, upd-other (put_at no_held v.held) p h q ne) (mine.knows q))
+              (cases_eq q p);
+        })) in
+        (done.0, record { brings = done.1 })
+
+-- ---- the table allows it
+
+module _ {X B : Type 0} (stored : B → Stored) (keeps : Start → Kept X → Type 0) (tied : Start → ℕ → List ℕ → ℕ → List ℕ → Type 0) (shape : Shape) (tells : Bool) where
+  pub raise-allows : (slots id : ℕ) (v : View X) (i : ℕ) (p count : ℕ) → v.live ≡ true → 0 < length v.used → p < shape.pages → MayRaise v p count → IsPlacedAt shape (places.Fault p) i
+      → AllowsStep (Stands stored keeps tied shape tells) slots id v i (λ _. count) (told_of shape tells (λ _. RaiseTold p count))
+  raise-allows slots id v i p count live number l may is =
+      allows stored keeps tied shape tells slots id v i (places.Fault p) (λ _. count) (λ _. count) (λ _. RaiseTold p count) live is (λ n. refl) (λ n w t. fit t.brings live)
+      (λ start has s r there _.
+      let k = raise-keeps stored keeps tied start tells s r id v there live p count (subst (λ n. p < n) (sym has.pages) l) may number in
+      (raise-view stored keeps tied start tells s r id v there live p count, k.0, k.1))
+
+module _ {X : Type 0} {p count : ℕ} {v w : View X} (t : RaiseTold p count v w) where
+  abbrev pub raised-did : Did
+  raised-did = did_store (places.Fault p) count
+
+  pub raise-works : Works p (raised-did ∷ []) v w
+  raise-works = works-one p raised-did None v _ v.frames v.contents v.out _ w (λ q ne. upd-other (put_at no_held v.held) p _ q ne) t.brings
+
+  pub raise-held : held_at w p ≡ record (held_at v p) { fault = count }
+  raise-held = ap (λ (x : View X). held_at x p) t.brings.view ∙ upd-same (put_at no_held v.held) p _
+
+  pub raise-notes : w.notes ≡ v.notes ++ notes_of p (held_at v p).fault count
+  raise-notes = ap (λ (x : View X). x.notes) t.brings.view

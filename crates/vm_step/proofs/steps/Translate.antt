@@ -1,0 +1,162 @@
+-- A load of a page's translation word: an open read without a frame gets the one that it names; that the table allows it, and that it is its event.
+--
+-- What a load of a translation word leaves: it speaks of the open read of one page. Under a lock of the page nothing changes.
+use Rattle.std.proofs.Common.{[], ◌+◌, ◌<◌, ◌∙◌, ◌∷◌, ◌≡◌, ◌≤◌, ap, Bool, length, List, None, Option, refl, slice_index, slice_set, Some, subst, sym}
+use Rattle.std.proofs.Common.{true, ℕ}
+use Rattle.vm_core.specs.Prelude.{frame_of, frame_read, framed, get_elem?, mapping_of, no_seat, Page, some, State, trans_word, upd, World}
+use Rattle.vm_core.specs.declared.event.Event.TheVariants.{TLoad}
+use Rattle.vm_core.specs.declared.event.Seen.TheVariants as sights
+use Rattle.vm_core.proofs.Upd.{each-upd2, upd-keeps, upd-other, upd-same}
+use Rattle.vm_rule.specs.Prelude.{Brings, core_shown, did_load, Each, is_pending, IsLocking, Kept, KnowsPage, KnowsPages, loads_at, may_call, no_held}
+use Rattle.vm_rule.specs.Prelude.{Open, put_at, Ruled, Seat, seat_of, Stands, stands_dirty, Start, Stored, Table, translation_of, TranslationHolds}
+use Rattle.vm_rule.specs.Prelude.{TranslationTold, world_of}
+use Rattle.vm_rule.specs.declared.view.Place.TheVariants as places
+use Rattle.vm_rule.specs.Loads.{tloaded_view}
+use Rattle.vm_rule.proofs.{Bringing.steps, Views.at-bound, Worlds.draft-is, Worlds.tload-step}
+use Rattle.vm_rule.proofs.Adding.{after_step, became, Shows}
+use Rattle.vm_rule.proofs.Found.{part-found, same-word, seat-here, translation-here}
+use Rattle.vm_step.specs.Prelude.{AllowsStep, Did, HoldsPage, IsPlacedAt, KnowsAsBefore, LeavesRest, Origin, Shape, told_of, View, Works}
+use Rattle.vm_step.specs.steps.Translate.{TloadIsItsEvent}
+use Rattle.vm_step.proofs.{Fit.fit, Here.frame-inside, Quiet.quiet-shows, Standing.allows, steps.Content.frame-known}
+use Rattle.vm_step.proofs.steps.Leaving.{apart, knows-still, LeavesOthers, LeavesOwn, others-from, own-from, rest-of}
+
+-- the translation that an open read got holds: the word is the page's now
+translation-now : (pages : ℕ → Page) (p found : ℕ) (o : Option Open) → ((x : Open) → o ≡ Some x → x.version ≤ (pages p).version) → mapping_of found ≡ (pages p).trans
+    → Each (TranslationHolds pages) (translation_of p found o)
+translation-now pages p found None old same = tt
+translation-now pages p found (Some x) old same = ((old x refl, λ _ _ _. ap frame_of same, λ _ _ _ d. ap stands_dirty same ∙ d), tt)
+
+module _ {X B : Type 0} (stored : B → Stored) (keeps : Start → Kept X → Type 0) (tied : Start → ℕ → List ℕ → ℕ → List ℕ → Type 0) (start : Origin) (tells : Bool) (s : Table (Option B) (View X)) (r : Ruled stored keeps tied start tells s) (id : ℕ) (v : View X) (p : ℕ) where
+  -- the word that stands there
+  abbrev pub tload-found : ℕ
+  tload-found = slice_index s.words (start.pages + p)
+
+  abbrev pub tload-did : Did
+  tload-did = did_load (places.Translation p) tload-found
+
+  abbrev pub tload-inner : View X
+  tload-inner = tloaded_view p tload-found v
+
+  abbrev pub tload-after : View X
+  tload-after = after_step stored keeps tied start tells s r s.words [] [] tload-did tload-inner
+
+  module _ (there : get_elem? s.views id ≡ some v) (live : v.live ≡ true) (l : p < start.pages) where
+    pub tload-shows : Shows stored keeps tied start tells s r id v s.words r.drafts [] [] tload-did tload-inner (TLoad id p)
+    tload-shows =
+        let c : State = core_shown stored start s in
+        let k : KnowsPages tied start (world_of stored start r.releases r.drafts s) (is_pending s.views) v = r.known id v there live in
+        let seat : Seat = record (seat_of v p) { reading = framed (seat_of v p).reading (mapping_of tload-found) } in
+        let page : Page = frame_read (c.pages p) id in
+        let owns : (q : ℕ) → (seat_of tload-inner q).exclusive ≡ (seat_of v q).exclusive = upd-keeps (λ (y : Seat). y.exclusive) (seat_of v) p seat refl in
+        quiet-shows stored keeps tied start tells s r id v s.words r.drafts tload-did tload-inner (TLoad id p) there live
+        (record {
+          wide = r.wide.0;
+          spelled = r.spelled;
+          legal = (record { actor = at-bound s.views id v there; page = l }, tt);
+          world = tload-step stored start s r.releases r.drafts id v tload-after p (mapping_of tload-found) l there refl refl refl (translation-here stored start s p l) refl;
+          at = l;
+          found = refl;
+          wrote = tt;
+          leaves = record { live = refl; start = refl; used = refl; fresh = refl; notes = refl; log = refl; out = refl; mine = refl; frames = refl; contents = refl; pending = refl; owed = refl; next = refl; ties = refl };
+          calls = λ o x. upd-keeps may_call (seat_of v) p seat refl o.page ∙ (r.blocks.away id v o there x).1;
+          holds = λ q x. owns q ∙ x;
+          members = λ q _. refl;
+          next = refl;
+          frames = λ f _. refl;
+          knows = each-upd2 (λ q (y : Seat) (z : Page). KnowsPage y (put_at no_held v.held q) z) (seat_of v) c.pages p seat page (record { calls = (k.knows p).calls; shares = (k.knows p).shares }) (λ q _. k.knows q);
+          drafted = λ q x. k.drafts q (sym (owns q) ∙ x) ∙ draft-is start r.releases r.drafts q;
+          loaded = (
+            translation_of p tload-found (seat_of v p).reading,
+            refl,
+            translation-now (upd c.pages p page) p tload-found (seat_of v p).reading
+                (λ x e. subst (λ n. x.version ≤ n) (sym (upd-keeps (λ (y : Page). y.version) c.pages p page refl p)) (((r.inv.pages p).reads id).old x (ap (λ (y : Seat). y.reading) (seat-here stored start s id p v l there) ∙ e)))
+                (sym (upd-keeps (λ (y : Page). y.trans) c.pages p page refl p ∙ translation-here stored start s p l)),
+          );
+        })
+
+    pub tload-told : Brings tload-did [] [] v tload-inner tload-after → TranslationTold p tload-found v tload-after
+    tload-told brings =
+        let trans : ((core_shown stored start s).pages p).trans ≡ mapping_of tload-found = translation-here stored start s p l in
+        record {
+          brings = brings;
+          inside = λ m e. subst (λ (o : Origin). m.frame < o.frames) (sym (r.heard id v there live).same_start) (frame-inside stored keeps tied start tells s r p m (trans ∙ e));
+          locked = λ x. ap frame_of (sym trans) ∙ sym (frame-known (seat_of v p) (put_at no_held v.held p) ((core_shown stored start s).pages p) ((r.known id v there live).knows p) x);
+          called = λ x. sym trans ∙ sym (((r.known id v there live).knows p).calls x).0;
+        }
+
+module _ {X B : Type 0} (stored : B → Stored) (keeps : Start → Kept X → Type 0) (tied : Start → ℕ → List ℕ → ℕ → List ℕ → Type 0) (tells : Bool) where
+  -- of every table that meets the rule
+  tload-keeps : (start : Origin) (s : Table (Option B) (View X)) → Ruled stored keeps tied start tells s → (id : ℕ) (v : View X) (p : ℕ) → get_elem? s.views id ≡ some v → v.live ≡ true → 0 < length v.used → p < start.pages
+      → (w : View X) × Ruled stored keeps tied start tells (became stored keeps tied start tells s (slice_set s.words (start.pages + p) (slice_index s.words (start.pages + p))) id w) × TranslationTold p (slice_index s.words (start.pages + p)) v w
+  tload-keeps start s r id v p there live number l =
+      let w : View X = tload-after stored keeps tied start tells s r id v p in
+      let k = steps stored keeps tied start tells s r id v s.words r.drafts [] [] (tload-did stored keeps tied start tells s r id v p) (tload-inner stored keeps tied start tells s r id v p) (TLoad id p) there live number refl refl
+      (tload-shows stored keeps tied start tells s r id v p there live l) in (
+        w,
+        subst (λ ws. Ruled stored keeps tied start tells (became stored keeps tied start tells s ws id w)) (sym (same-word s.words (start.pages + p))) k.0,
+        tload-told stored keeps tied start tells s r id v p there live l k.1,
+      )
+
+  -- and so of every table that stands
+  pub tload-allows : (shape : Shape) (slots id : ℕ) (v : View X) (i : ℕ) (p : ℕ) → v.live ≡ true → 0 < length v.used → p < shape.pages → IsPlacedAt shape (places.Translation p) i
+      → AllowsStep (Stands stored keeps tied shape tells) slots id v i (λ n. n) (told_of shape tells (TranslationTold p))
+  tload-allows shape slots id v i p live number l is =
+      allows stored keeps tied shape tells slots id v i (places.Translation p) (λ n. n) (λ n. n) (TranslationTold p) live is (λ n. refl) (λ n w t. fit t.brings live)
+      (λ start has s r there _. tload-keeps start s r id v p there live number (subst (λ n. p < n) (sym has.pages) l))
+
+module _ {X B : Type 0} (stored : B → Stored) (keeps : Start → Kept X → Type 0) (tied : Start → ℕ → List ℕ → ℕ → List ℕ → Type 0) (tells : Bool) where
+  pub tload_event : TloadIsItsEvent stored keeps tied tells
+  tload_event start s id p found v w pass finds told =
+      let l : p < start.pages = finds.0 in
+      let view = told.brings.view in
+      let spelled : slice_index s.words (start.pages + p) ≡ trans_word (mapping_of (slice_index s.words (start.pages + p))) =
+      subst (λ n. n ≡ trans_word (mapping_of n)) (part-found start.pages start.pages s.words p (start.pages + p) l refl) (pass.rule.spelled p l) in
+      record {
+        legal = (record { actor = at-bound s.views id v pass.there; page = l }, tt);
+        core = ap (λ (y : World). y.core)
+            (tload-step stored start s [] (λ _. []) id v w p (mapping_of found) l pass.there (ap (λ (y : View X). y.out) view) (ap (λ (y : View X). y.frames) view) (ap (λ (y : View X). y.loads) view)
+            (translation-here stored start s p l ∙ ap mapping_of (sym finds.1)) (ap (λ (y : View X). y.seats) view));
+        sees = ap sights.Word (ap trans_word (translation-here stored start s p l) ∙ sym spelled ∙ sym finds.1);
+      }
+
+module _ {X : Type 0} {p found : ℕ} {v w : View X} (t : TranslationTold p found v w) where
+  abbrev pub tloaded-did : Did
+  tloaded-did = did_load (places.Translation p) found
+
+  pub tload-others : (touched : ℕ → Type 0) → touched p → LeavesOthers touched (tloaded-did ∷ []) [] v w
+  tload-others touched at = others-from t.brings tt (λ q ne. upd-other (put_at no_seat v.seats) p _ q (apart touched at q ne)) (λ q ne. refl) (λ q ne. refl) (λ q ne. refl)
+
+  pub tload-own : LeavesOwn v w
+  tload-own = own-from t.brings refl (refl, refl, refl)
+
+  pub tload-leaves : LeavesRest p (tloaded-did ∷ []) v w
+  tload-leaves = rest-of (tload-others (λ q. q ≡ p) refl) tload-own
+
+  -- an open read without a frame gets the frame that the word names
+  pub tload-seat : seat_of w p ≡ record (seat_of v p) { reading = framed (seat_of v p).reading (mapping_of found) }
+  tload-seat = ap (λ (x : View X). seat_of x p) t.brings.view ∙ upd-same (put_at no_seat v.seats) p _
+
+  pub tload-loads : (q : ℕ) → loads_at w q ≡ loads_at v q
+  tload-loads q = ap (λ (x : View X). loads_at x q) t.brings.view
+
+  -- the locks of every page stay, and what is known under them
+  pub tload-holds : (q : ℕ) → HoldsPage v w q
+  tload-holds q = record {
+    shares = ap (λ (x : View X). (seat_of x q).shares) t.brings.view ∙ upd-keeps (λ (s : Seat). s.shares) (put_at no_seat v.seats) p _ refl q;
+    exclusive = ap (λ (x : View X). (seat_of x q).exclusive) t.brings.view ∙ upd-keeps (λ (s : Seat). s.exclusive) (put_at no_seat v.seats) p _ refl q;
+    writing = ap (λ (x : View X). (seat_of x q).writing) t.brings.view ∙ upd-keeps (λ (s : Seat). s.writing) (put_at no_seat v.seats) p _ refl q;
+  }
+
+  pub tload-knows : (q : ℕ) → IsLocking (seat_of v q) → KnowsAsBefore v w q
+  tload-knows = knows-still t.brings refl refl refl
+
+  -- of a page without an open read it changes nothing
+  pub tload-works : (seat_of v p).reading ≡ None → Works p (tloaded-did ∷ []) v w
+  tload-works closed = record {
+    leaves = tload-leaves;
+    seat = tload-seat ∙ (λ i. record (seat_of v p) { reading = framed (closed i) (mapping_of found) }) ∙ sym (λ i. record (seat_of v p) { reading = closed i });
+    loads = tload-loads p;
+    draft = ap (λ (x : View X). put_at [] x.drafts p) t.brings.view;
+    last = λ l. (tload-knows p l).last;
+    alone = (tload-others (λ q. q ≡ p) refl).runs;
+  }

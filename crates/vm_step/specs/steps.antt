@@ -1,0 +1,16 @@
+pub mod Block
+pub mod Bundle
+pub mod CatchUp
+pub mod Content
+pub mod Hand
+pub mod Lock
+pub mod Look
+pub mod Mapping
+pub mod Mark
+pub mod Next
+pub mod Pass
+pub mod Raise
+pub mod Release
+pub mod Share
+pub mod Translate
+pub mod WriteBack

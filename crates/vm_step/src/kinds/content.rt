@@ -1,0 +1,76 @@
+// A word of a frame is loaded, for a page that the pass reads there; or stored.
+ghost use Rattle.std.specs.Prelude.{◌<◌, ◌≡◌, length, Some, true};
+ghost use Rattle.vm_rule.specs.Prelude.{frame_read_by, has, LoadTold, StoresTold};
+ghost use Rattle.vm_rule.specs.Stores.{PassMayStore};
+ghost use Rattle.vm_step.specs.Prelude.{IsOf, IsReady, IsSamePass, MayStep, Stores, view};
+ghost use Rattle.vm_step.specs.steps.Content.{FillIsItsEvent, LoadIsItsEvent, StoreIsItsEvent};
+
+use crate::layout::content_place;
+use crate::operation;
+use std::marker::Brand;
+use vm_block::Block;
+use vm_owner::Owner;
+use vm_page::{PageBuf, WORDS};
+use vm_rule::words::{Pass, Words};
+
+/// Word `i` (0 to 63) of the frame that the pass reads the page from: the page's own where the pass has it locked, else its open read's.
+pub fn load<U: Owner, B: Block>(
+    words: &Words<U, B>,
+    pass: &mut Pass<U>,
+    p: u32,
+    f: u32,
+    i: usize,
+) -> u64
+    requires pass { MayStep words.now.table.shared.table_id pass.old }
+    requires page { (p < words.now.table.shared.key.pages) × (f < words.now.table.shared.key.frames) × (i < WORDS) }
+    requires frame { frame_read_by (view pass.old) p ≡ Some f }
+    ensures pass { IsSamePass pass.old pass.new }
+    ensures table { IsOf words.now.table.shared.key B.tells (view pass.old) }
+    ensures told { LoadTold p f i result (view pass.old) (view pass.new) }
+{
+    let at = content_place(words, f, i);
+    operation::load::<U, B, (u32, u32, usize), Brand>(words, pass, at, (p, f, i))
+}
+
+/// Stores word `i` (0 to 63) of a frame: one that the pass holds, or that of a dirty page which the pass has locked exclusively, where it
+/// is a word of the page's draft.
+pub fn store<U: Owner, B: Block>(words: &Words<U, B>, pass: &mut Pass<U>, f: u32, i: usize, w: u64)
+    requires pass { MayStep words.now.table.shared.table_id pass.old }
+    requires frame { (f < words.now.table.shared.key.frames) × (i < WORDS) }
+    requires legal { PassMayStore (view pass.old) f }
+    ensures pass { IsSamePass pass.old pass.new }
+    ensures table { IsOf words.now.table.shared.key B.tells (view pass.old) }
+    ensures told { StoresTold f i w (view pass.old) (view pass.new) }
+{
+    let at = content_place(words, f, i);
+    operation::store::<U, B, (u32, usize), Brand>(words, pass, at, w, (f, i));
+}
+
+/// Stores the words of a page into a frame of the pass, from the first on: 64 steps.
+pub fn fill<U: Owner, B: Block>(words: &Words<U, B>, pass: &mut Pass<U>, frame: u32, page: &PageBuf)
+    requires ready { IsReady words.now.table.shared.key B.tells words.now.table.shared.table_id pass.old }
+    requires frame { (frame < words.now.table.shared.key.frames) × (has frame (view pass.old).frames ≡ true) }
+    requires size { length page.now ≡ WORDS }
+    ensures pass { IsSamePass pass.old pass.new }
+    ensures ready { IsReady words.now.table.shared.key B.tells words.now.table.shared.table_id pass.new }
+    ensures stores { Stores frame 0 page.now (view pass.old) (view pass.new) }
+{
+    for i in 0..WORDS {
+        store(words, pass, frame, i, page.get(i));
+    }
+}
+
+/// A load of a word of a page's frame sees the word.
+pub fn load_is_its_event<U: Owner, B: Block>()
+    ensures { LoadIsItsEvent B.stored U.keeps U.tied B.tells }
+{}
+
+/// A store into the frame of a page that the pass holds exclusively sees nothing: that word of the frame is the one stored.
+pub fn store_is_its_event<U: Owner, B: Block>()
+    ensures { StoreIsItsEvent B.stored U.keeps U.tied B.tells }
+{}
+
+/// A store into a frame that the pass holds sees nothing: that word of the frame is the one stored.
+pub fn fill_is_its_event<U: Owner, B: Block>()
+    ensures { FillIsItsEvent B.stored U.keeps U.tied B.tells }
+{}

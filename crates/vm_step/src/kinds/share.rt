@@ -1,0 +1,61 @@
+// A share of a page is taken, and given up.
+ghost use Rattle.std.specs.Prelude.{◌<◌, ◌≡◌, ◌≢◌, ℕ};
+ghost use Rattle.vm_core.specs.Prelude.{MayShare};
+ghost use Rattle.vm_rule.specs.Prelude.{ShareTold, UnshareTold};
+ghost use Rattle.vm_step.specs.Prelude.{found_by, IsOf, IsSamePass, MayStep, MayUnshare, view};
+ghost use Rattle.vm_step.specs.{declared.took.Took.TheVariants.Lost, steps.Share.LockSharedIsItsEvent, steps.Share.UnlockSharedIsItsEvent};
+
+use crate::layout::state_place;
+use crate::operation::{compare_exchange, fetch_sub};
+use crate::state_words::{SHARE, shared_word};
+use crate::took::{Took, answer};
+use std::marker::Brand;
+use vm_block::Block;
+use vm_owner::Owner;
+use vm_rule::words::{Pass, Words};
+
+/// Takes one share of the page, where its word is the one expected: with room for a share, or Marked.
+pub fn lock_shared<U: Owner, B: Block>(
+    words: &Words<U, B>,
+    pass: &mut Pass<U>,
+    p: u32,
+    expects: u64,
+) -> Took
+    requires pass { MayStep words.now.table.shared.table_id pass.old }
+    requires page { p < words.now.table.shared.key.pages }
+    requires legal { MayShare expects }
+    ensures pass { IsSamePass pass.old pass.new }
+    ensures table { IsOf words.now.table.shared.key B.tells (view pass.old) }
+    ensures told { ShareTold U.tied p expects (found_by expects result) (view pass.old) (view pass.new) }
+    ensures lost { (word : ℕ) → result ≡ Lost word → word ≢ expects }
+{
+    let at = state_place(words, p);
+    let new = shared_word(expects);
+    answer(
+        compare_exchange::<U, B, u32, Brand>(words, pass, at, expects, new, p),
+        expects,
+    )
+}
+
+/// Gives one share of the page up, and answers the word before.
+pub fn unlock_shared<U: Owner, B: Block>(words: &Words<U, B>, pass: &mut Pass<U>, p: u32) -> u64
+    requires pass { MayStep words.now.table.shared.table_id pass.old }
+    requires page { p < words.now.table.shared.key.pages }
+    requires legal { MayUnshare (view pass.old) p }
+    ensures pass { IsSamePass pass.old pass.new }
+    ensures table { IsOf words.now.table.shared.key B.tells (view pass.old) }
+    ensures told { UnshareTold p result (view pass.old) (view pass.new) }
+{
+    let at = state_place(words, p);
+    fetch_sub::<U, B, u32, Brand>(words, pass, at, SHARE, p)
+}
+
+/// A share that is tried sees the same.
+pub fn lock_shared_is_its_event<U: Owner, B: Block>()
+    ensures { LockSharedIsItsEvent B.stored U.keeps U.tied B.tells }
+{}
+
+/// A share that is given up sees the word before.
+pub fn unlock_shared_is_its_event<U: Owner, B: Block>()
+    ensures { UnlockSharedIsItsEvent B.stored U.keeps U.tied B.tells }
+{}
