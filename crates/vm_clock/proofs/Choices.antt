@@ -1,11 +1,12 @@
 -- The pages among the candidates: page by page through the list, and with one candidate more.
-use Rattle.std.proofs.Common.{ℕ, ◌≡◌, ◌≢◌, ◌<◌, ◌==◌, ◌||◌, Bool, true, false, List, [], ◌∷◌, ◌++◌, length, take, slice_index_or, zero, suc, refl, sym, ap, subst, arith}
+use Rattle.std.proofs.Common.{[], ◌++◌, ◌<◌, ◌==◌, ◌||◌, ◌∷◌, ◌≡◌, ◌≢◌, ap, arith, Bool, false, length, List, refl, slice_index_or, subst, suc, sym}
+use Rattle.std.proofs.Common.{take, true, zero, ℕ}
 use Rattle.std.proofs.lemmas.Bool.{eq-eqb, ne_eqb}
 use Rattle.std.proofs.lemmas.Bool.Decides.{nat_tests}
-use Rattle.vm_owner.specs.Numbers.{has, AreApart}
+use Rattle.vm_rule.specs.Prelude.{AreApart, has}
 use Rattle.vm_rule.proofs.Heard.{each-both}
+use Rattle.vm_step.specs.Prelude.{AreCandidates, candidate_pages, IsCandidate}
 use Rattle.vm_step.proofs.Groups.{apart-end}
-use Rattle.vm_step.specs.Choices.{AreCandidates, IsCandidate, candidate_pages}
 
 -- one place further in the list
 pub has-next : (p : ℕ) (l : List (ℕ × ℕ)) (i : ℕ) (d : ℕ × ℕ) → i < length l → (slice_index_or l i d).0 ≢ p → has p (candidate_pages (take i l)) ≡ false → has p (candidate_pages (take (suc i) l)) ≡ false

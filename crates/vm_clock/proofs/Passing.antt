@@ -1,28 +1,18 @@
 -- What a walk leaves of the words of a table that nobody else changes: each page passed has its word as the clock leaves it, by the first visit.
-use Rattle.std.proofs.Common.{ℕ, ◌≡◌, ◌≢◌, ◌⊎◌, ◌<◌, ◌≤◌, ◌+◌, ◌*◌, ◌%◌, ◌&&◌, ◌||◌, Bool, true, false, Some, None, List, [], ◌∷◌, length, zero, suc, refl, sym, ap, subst, ◌∙◌, inl, inr, ⊎_elim, arith, eqb, if◌then◌else◌, slice_index, slice_set}
-use Rattle.std.proofs.Math.Nat.{mod-lt}
+use Rattle.std.proofs.Common.{[], ⊎_elim, ◌%◌, ◌&&◌, ◌*◌, ◌+◌, ◌<◌, ◌||◌, ◌∙◌, ◌∷◌, ◌≡◌, ◌≢◌, ◌≤◌, ◌⊎◌, ap, arith, Bool, eqb, false, inl, inr, length}
+use Rattle.std.proofs.Common.{List, None, refl, slice_index, slice_set, Some, subst, suc, sym, true, zero, ℕ}
 use Rattle.std.proofs.lemmas.Bool.{and_left, and_right, cases_eq, cases_lt, cond-false, cond-true, eq-eqb, le-ltb, lt-ltb, ne_eqb, true≢false}
 use Rattle.std.proofs.lemmas.List.{get_or-set_other, get_or-set_same, length-set}
-use Rattle.vm_core.specs.Words.{state_of, version_of, word_of, hand_more, UNLOCKED, MARKED, MAX_VERSION}
-use Rattle.vm_owner.specs.Numbers.{has}
-use Rattle.vm_rule.specs.declared.view.Did.{Did}
-use Rattle.vm_rule.specs.declared.view.Origin.{Origin}
+use Rattle.std.proofs.Math.Nat.{mod-lt}
+use Rattle.vm_core.specs.Prelude.{hand_more, MARKED, MAX_VERSION, state_of, UNLOCKED, version_of, word_of}
+use Rattle.vm_rule.specs.Prelude.{did_change, Each, has, index_of, set_if, Within}
 use Rattle.vm_rule.specs.declared.view.Place.TheVariants as places
-use Rattle.vm_rule.specs.declared.view.View.{View}
-use Rattle.vm_rule.specs.Brought.{set_if}
-use Rattle.vm_rule.specs.Layout.{Within, index_of}
-use Rattle.vm_rule.specs.Log.{did_change}
-use Rattle.vm_rule.specs.Views.{Each}
-use Rattle.vm_rule.proofs.Entries.{each-map}
-use Rattle.vm_rule.proofs.Facts.{has-both}
-use Rattle.vm_rule.proofs.Heard.{each-both}
-use Rattle.vm_rule.proofs.WordFacts.{version-within, word-state}
-use Rattle.vm_step.specs.Alone.{Follows, IsAlone, RunsAlone}
-use Rattle.vm_step.specs.Choices.{IsHeld, candidate_pages}
+use Rattle.vm_rule.proofs.{Entries.each-map, Facts.has-both, Heard.each-both, WordFacts.version-within, WordFacts.word-state}
+use Rattle.vm_step.specs.Prelude.{candidate_pages, Did, Follows, IsAlone, IsHeld, Origin, RunsAlone, View}
 use Rattle.vm_step.specs.declared.choice.Looks.{Looks}
 use Rattle.vm_step.proofs.Tables.{else-knows, follows-between, follows-kept, follows-length}
-use Rattle.vm_clock.specs.Clock.{IsPassed, IsWalked, KnowsWalked, Visits, Visits as visits, WalksPages, passed_word}
-use Rattle.vm_clock.proofs.Choices.{pages-end}
+use Rattle.vm_clock.specs.Clock.{IsPassed, IsWalked, KnowsWalked, passed_word, Visits, Visits as visits, WalksPages}
+use Rattle.vm_clock.proofs.{Choices.pages-end, Visiting.IsVisit, Visiting.visit-of}
 
 -- ---- the word of one page
 
@@ -107,28 +97,17 @@ module _ (start : Origin) where
 pub passed-more : (pages drawn k q : ℕ) → IsPassed pages drawn k q → IsPassed pages drawn (suc k) q
 passed-more pages drawn k q (j, low, is) = (j, omega (arith, low), is)
 
-visit-at : (p : ℕ) (steps : List Did) (chosen list : List (ℕ × ℕ)) (old new : Looks) → Visits chosen p steps old new list → Each (λ (d : Did). d.at ≡ places.State p) steps
-visit-at p steps chosen list old new (visits.again word is steps_are e l) = subst (Each (λ (d : Did). d.at ≡ places.State p)) (sym steps_are) (refl, tt)
-visit-at p steps chosen list old new (visits.gone word look state e l) = subst (Each (λ (d : Did). d.at ≡ places.State p)) (sym look.steps_are) (refl, tt)
-visit-at p steps chosen list old new (visits.held word look held e l) = subst (Each (λ (d : Did). d.at ≡ places.State p)) (sym look.steps_are) (refl, tt)
-visit-at p steps chosen list old new (visits.worn word look state last e l) = subst (Each (λ (d : Did). d.at ≡ places.State p)) (sym look.steps_are) (refl, tt)
-visit-at p steps chosen list old new (visits.found word look state fresh e l) = subst (Each (λ (d : Did). d.at ≡ places.State p)) (sym look.steps_are) (refl, tt)
-visit-at p steps chosen list old new (visits.lost word other ne look state fresh e l) = subst (Each (λ (d : Did). d.at ≡ places.State p)) (sym look.steps_are) (refl, (refl, tt))
-visit-at p steps chosen list old new (visits.marked word look state fresh e l) = subst (Each (λ (d : Did). d.at ≡ places.State p)) (sym look.steps_are) (refl, (refl, tt))
-
-chosen-more : (p q : ℕ) (steps : List Did) (chosen list : List (ℕ × ℕ)) (old new : Looks) → Visits chosen p steps old new list → has q (candidate_pages list) ≡ true → (has q (candidate_pages chosen) ≡ true) ⊎ (q ≡ p)
-chosen-more p q steps chosen list old new (visits.again word is steps_are e l) h = inl (ap (λ c. has q (candidate_pages c)) (sym l) ∙ h)
-chosen-more p q steps chosen list old new (visits.gone word look state e l) h = inl (ap (λ c. has q (candidate_pages c)) (sym l) ∙ h)
-chosen-more p q steps chosen list old new (visits.held word look held e l) h = inl (ap (λ c. has q (candidate_pages c)) (sym l) ∙ h)
-chosen-more p q steps chosen list old new (visits.worn word look state last e l) h = inl (ap (λ c. has q (candidate_pages c)) (sym l) ∙ h)
-chosen-more p q steps chosen list old new (visits.lost word other ne look state fresh e l) h = inl (ap (λ c. has q (candidate_pages c)) (sym l) ∙ h)
-chosen-more p q steps chosen list old new (visits.marked word look state fresh e l) h = inl (ap (λ c. has q (candidate_pages c)) (sym l) ∙ h)
-chosen-more p q steps chosen list old new (visits.found word look state fresh e l) h =
-    let both : (has q (candidate_pages chosen) || (eqb q p || false)) ≡ true = sym (has-both q (candidate_pages chosen) (p ∷ [])) ∙ ap (has q) (sym (pages-end chosen (p, word))) ∙ ap (λ c. has q (candidate_pages c)) (sym l) ∙ h in
+chosen-more : {p : ℕ} {steps : List Did} {chosen list : List (ℕ × ℕ)} {old new : Looks} → IsVisit chosen p steps old new list → (q : ℕ) → has q (candidate_pages list) ≡ true → (has q (candidate_pages chosen) ≡ true) ⊎ (q ≡ p)
+chosen-more {p = p} {chosen = chosen} v q h =
+    ⊎_elim
+    (λ same. inl (ap (λ c. has q (candidate_pages c)) (sym same) ∙ h))
+    (λ m.
+    let both : (has q (candidate_pages chosen) || (eqb q p || false)) ≡ true = sym (has-both q (candidate_pages chosen) (p ∷ [])) ∙ ap (has q) (sym (pages-end chosen (p, m.0))) ∙ ap (λ c. has q (candidate_pages c)) (sym m.4) ∙ h in
     ⊎_elim
     (λ (e : q ≡ p). inr e)
     (λ ne. inl (sym (or-none (has q (candidate_pages chosen))) ∙ ap (λ b. has q (candidate_pages chosen) || (b || false)) (sym (ne_eqb q p ne)) ∙ both))
-    (cases_eq q p)
+    (cases_eq q p))
+    v.chooses
   where
     or-none : (b : Bool) → (b || false) ≡ b
     or-none true = refl
@@ -142,7 +121,7 @@ module _ (want pages drawn : ℕ) where
       let P : Did → Type 0 = λ d. (q : ℕ) × (d.at ≡ places.State q) × IsPassed pages drawn (suc k) q in
       subst (Each P) (sym cut)
       (each-both P before steps (each-map _ P (λ (d : Did) h. (h.0, h.1, passed-more pages drawn k h.0 h.2)) before (walk-at k before old chosen walk))
-      (each-map _ P (λ (d : Did) h. ((drawn + k) % pages, h, (k, omega arith, refl))) steps (visit-at _ steps chosen list old looks visit)))
+      (each-map _ P (λ (d : Did) h. ((drawn + k) % pages, h, (k, omega arith, refl))) steps (visit-of _ _ _ _ _ _ visit).there))
 
   -- the candidates are pages that were passed
   chosen-passed : (k q : ℕ) (done : List Did) (looks : Looks) (list : List (ℕ × ℕ)) → WalksPages want pages drawn k done looks list → has q (candidate_pages list) ≡ true → IsPassed pages drawn k q
@@ -151,7 +130,7 @@ module _ (want pages drawn : ℕ) where
       ⊎_elim
       (λ c. passed-more pages drawn k q (chosen-passed k q before old chosen walk c))
       (λ e. (k, omega arith, e))
-      (chosen-more _ q steps chosen list old looks visit h)
+      (chosen-more (visit-of _ _ _ _ _ _ visit) q h)
 
   -- a page that was passed has its word as the clock leaves it, and any page has that or its word
   pub record IsLeftBy (k q : ℕ) (a b : List ℕ) : Type 0 where

@@ -1,55 +1,34 @@
 -- A walk: the next visit makes it longer; each of its looks is counted; its candidates are pages of the table, each another.
-use Rattle.std.proofs.Common.{ℕ, ◌≡◌, ◌<◌, ◌≤◌, ◌⊎◌, ◌+◌, ◌*◌, ◌%◌, List, [], ◌∷◌, ◌++◌, length, zero, suc, refl, sym, ap, subst, ◌∙◌, arith}
+use Rattle.std.proofs.Common.{[], ⊎_elim, ◌%◌, ◌*◌, ◌++◌, ◌+◌, ◌<◌, ◌∙◌, ◌∷◌, ◌≡◌, ◌≤◌, ◌⊎◌, ap, arith, length, List, refl, subst, suc, sym, zero, ℕ}
 use Rattle.std.proofs.lemmas.List.{length-append}
-use Rattle.std.proofs.Math.Nat.{mod-lt, mod-add-mod}
-use Rattle.vm_core.specs.Words.{hand_more}
-use Rattle.vm_rule.specs.declared.view.Did.{Did}
+use Rattle.std.proofs.Math.Nat.{mod-add-mod, mod-lt}
+use Rattle.vm_core.specs.Prelude.{hand_more}
+use Rattle.vm_rule.specs.Prelude.{did_change, HandTold}
 use Rattle.vm_rule.specs.declared.view.Place.TheVariants as places
-use Rattle.vm_rule.specs.declared.view.View.{View}
-use Rattle.vm_rule.specs.Bundles.{HandTold}
-use Rattle.vm_rule.specs.Log.{did_change}
-use Rattle.vm_step.specs.Alone.{RunsAlone}
-use Rattle.vm_step.proofs.Alone.{runs-one, runs-then}
-use Rattle.vm_step.proofs.Asides.{OnlyReads, aside-within, hand-only, only-then}
+use Rattle.vm_step.specs.Prelude.{AreCandidates, Did, RunsAlone, View}
 use Rattle.vm_step.specs.declared.choice.Looks.{Looks}
-use Rattle.vm_clock.specs.Clock.{IsChosen, IsPassed, IsPageVisited, Visits, Visits as visits, WalksPages, no_looks, looks_counted}
-use Rattle.vm_step.specs.Choices.{AreCandidates}
-use Rattle.vm_clock.proofs.Choices.{candidates-end, no-candidates}
-use Rattle.vm_clock.proofs.Passing.{passed-more, walked-knows}
+use Rattle.vm_step.proofs.Alone.{runs-one, runs-then}
+use Rattle.vm_step.proofs.Asides.{aside-within, hand-only, only-then, OnlyReads}
+use Rattle.vm_clock.specs.Clock.{IsChosen, IsPageVisited, IsPassed, looks_counted, no_looks, Visits, WalksPages}
+use Rattle.vm_clock.proofs.{Choices.candidates-end, Choices.no-candidates, Passing.passed-more, Passing.walked-knows, Visiting.IsVisit}
+use Rattle.vm_clock.proofs.{Visiting.visit-of}
 
 -- ---- one visit
 
-one-counted : (p : ℕ) (steps : List Did) (chosen list : List (ℕ × ℕ)) (old new : Looks) → Visits chosen p steps old new list → looks_counted new ≡ suc (looks_counted old)
-one-counted p steps chosen list old new (visits.again word is steps_are e l) = ap looks_counted e ∙ omega arith
-one-counted p steps chosen list old new (visits.gone word look state e l) = ap looks_counted e ∙ omega arith
-one-counted p steps chosen list old new (visits.held word look held e l) = ap looks_counted e ∙ omega arith
-one-counted p steps chosen list old new (visits.worn word look state last e l) = ap looks_counted e ∙ omega arith
-one-counted p steps chosen list old new (visits.marked word look state fresh e l) = ap looks_counted e ∙ omega arith
-one-counted p steps chosen list old new (visits.lost word other ne look state fresh e l) = ap looks_counted e ∙ omega arith
-one-counted p steps chosen list old new (visits.found word look state fresh e l) = ap looks_counted e ∙ omega arith
+module _ {p : ℕ} {steps : List Did} {chosen list : List (ℕ × ℕ)} {old new : Looks} (v : IsVisit chosen p steps old new list) where
+  one-more : length list ≤ suc (length chosen)
+  one-more =
+      ⊎_elim
+      (λ same. let n : length list ≡ length chosen = ap (λ l. length l) same in omega (arith, n))
+      (λ m. let n : length list ≡ length chosen + 1 = ap (λ t. length t) m.4 ∙ length-append chosen ((p, m.0) ∷ []) in omega (arith, n))
+      v.chooses
 
-same-list : (chosen list : List (ℕ × ℕ)) → list ≡ chosen → length list ≤ suc (length chosen)
-same-list chosen list e = let n : length list ≡ length chosen = ap (λ l. length l) e in omega (arith, n)
-
-one-more : (p : ℕ) (steps : List Did) (chosen list : List (ℕ × ℕ)) (old new : Looks) → Visits chosen p steps old new list → length list ≤ suc (length chosen)
-one-more p steps chosen list old new (visits.again word is steps_are e l) = same-list chosen list l
-one-more p steps chosen list old new (visits.gone word look state e l) = same-list chosen list l
-one-more p steps chosen list old new (visits.held word look held e l) = same-list chosen list l
-one-more p steps chosen list old new (visits.worn word look state last e l) = same-list chosen list l
-one-more p steps chosen list old new (visits.marked word look state fresh e l) = same-list chosen list l
-one-more p steps chosen list old new (visits.lost word other ne look state fresh e l) = same-list chosen list l
-one-more p steps chosen list old new (visits.found word look state fresh e l) =
-    let n : length list ≡ length chosen + 1 = ap (λ t. length t) l ∙ length-append chosen ((p, word) ∷ []) in omega (arith, n)
-
-still-candidates : (pages p : ℕ) (steps : List Did) (chosen list : List (ℕ × ℕ)) (old new : Looks) → p < pages → AreCandidates pages chosen → Visits chosen p steps old new list → AreCandidates pages list
-still-candidates pages p steps chosen list old new page are (visits.again word is steps_are e l) = subst (AreCandidates pages) (sym l) are
-still-candidates pages p steps chosen list old new page are (visits.gone word look state e l) = subst (AreCandidates pages) (sym l) are
-still-candidates pages p steps chosen list old new page are (visits.held word look held e l) = subst (AreCandidates pages) (sym l) are
-still-candidates pages p steps chosen list old new page are (visits.worn word look state last e l) = subst (AreCandidates pages) (sym l) are
-still-candidates pages p steps chosen list old new page are (visits.marked word look state fresh e l) = subst (AreCandidates pages) (sym l) are
-still-candidates pages p steps chosen list old new page are (visits.lost word other ne look state fresh e l) = subst (AreCandidates pages) (sym l) are
-still-candidates pages p steps chosen list old new page are (visits.found word look state fresh e l) =
-    subst (AreCandidates pages) (sym l) (candidates-end pages chosen (p, word) are look.new record { page = page; marked = state; below = fresh })
+  still-candidates : (pages : ℕ) → p < pages → AreCandidates pages chosen → AreCandidates pages list
+  still-candidates pages page are =
+      ⊎_elim
+      (λ same. subst (AreCandidates pages) (sym same) are)
+      (λ m. subst (AreCandidates pages) (sym m.4) (candidates-end pages chosen (p, m.0) are m.1 record { page = page; marked = m.2; below = m.3 }))
+      v.chooses
 
 -- ---- the walk
 
@@ -57,18 +36,18 @@ module _ (want pages drawn : ℕ) where
   -- each look is counted once
   pub all-counted : (k : ℕ) (done : List Did) (looks : Looks) (list : List (ℕ × ℕ)) → WalksPages want pages drawn k done looks list → looks_counted looks ≡ k
   all-counted zero done looks list w = ap looks_counted w.1
-  all-counted (suc k) done looks list (before, steps, old, chosen, cut, walk, room, visit) = one-counted _ _ _ _ _ _ visit ∙ ap suc (all-counted k before old chosen walk)
+  all-counted (suc k) done looks list (before, steps, old, chosen, cut, walk, room, visit) = (visit-of _ _ _ _ _ _ visit).counted ∙ ap suc (all-counted k before old chosen walk)
 
   -- no more are chosen than were wanted
   pub few-chosen : (k : ℕ) (done : List Did) (looks : Looks) (list : List (ℕ × ℕ)) → WalksPages want pages drawn k done looks list → length list ≤ want
   few-chosen zero done looks list w = let n : length list ≡ 0 = ap (λ (l : List (ℕ × ℕ)). length l) w.2 in omega (arith, n)
-  few-chosen (suc k) done looks list (before, steps, old, chosen, cut, walk, room, visit) = let n = one-more _ _ _ _ _ _ visit in omega (arith, n, room)
+  few-chosen (suc k) done looks list (before, steps, old, chosen, cut, walk, room, visit) = let n = one-more (visit-of _ _ _ _ _ _ visit) in omega (arith, n, room)
 
   -- and those are candidates: there is a page where there is a look
   pub are-candidates : (k : ℕ) (done : List Did) (looks : Looks) (list : List (ℕ × ℕ)) → k ≤ 2 * pages → WalksPages want pages drawn k done looks list → AreCandidates pages list
   are-candidates zero done looks list most w = subst (AreCandidates pages) (sym w.2) (no-candidates pages)
   are-candidates (suc k) done looks list most (before, steps, old, chosen, cut, walk, room, visit) =
-      still-candidates pages _ _ _ _ _ _ (mod-lt (drawn + k) (omega (arith, most))) (are-candidates k before old chosen (omega (arith, most)) walk) visit
+      still-candidates (visit-of _ _ _ _ _ _ visit) pages (mod-lt (drawn + k) (omega (arith, most))) (are-candidates k before old chosen (omega (arith, most)) walk)
 
 module _ {X : Type 0} (want drawn : ℕ) where
   -- a walk of k visits so far, from the place drawn

@@ -1,18 +1,14 @@
 -- How the clock chooses candidates for eviction: from a place drawn from the hand it walks over the pages, round and round, looks at each, and
 -- counts what it sees by the first of these that fits: a page chosen before; an evicted one; one that somebody has locked; one at the last
 -- version; an unlocked one, which it marks; a marked one, which it chooses.
-use Rattle.std.specs.Prelude.{ℕ, true, false, None, List, [], ◌∷◌, ◌++◌, ◌≡◌, ◌≢◌, ◌⊎◌, ◌+◌, ◌*◌, ◌%◌, ◌<◌, ◌≤◌, ◌==◌, ◌&&◌, nat_lt, if◌then◌else◌, zero, suc, length}
-use Rattle.vm_core.specs.Words.{state_of, version_of, word_of, hand_more, UNLOCKED, MARKED, EVICTED, MAX_VERSION}
-use Rattle.vm_owner.specs.Numbers.{has}
-use Rattle.vm_rule.specs.declared.view.Did.{Did}
+use Rattle.std.specs.Prelude.{[], ◌%◌, ◌&&◌, ◌*◌, ◌++◌, ◌+◌, ◌<◌, ◌==◌, ◌∷◌, ◌≡◌, ◌≢◌, ◌≤◌, ◌⊎◌, false, if◌then◌else◌, length, List, nat_lt, None}
+use Rattle.std.specs.Prelude.{suc, true, zero, ℕ}
+use Rattle.vm_core.specs.Prelude.{EVICTED, hand_more, MARKED, MAX_VERSION, state_of, UNLOCKED, version_of, word_of}
+use Rattle.vm_rule.specs.Prelude.{did_change, did_exchange, did_load, has}
 use Rattle.vm_rule.specs.declared.view.Place.{Place}
 use Rattle.vm_rule.specs.declared.view.Place.TheVariants as places
-use Rattle.vm_rule.specs.declared.view.View.{View}
-use Rattle.vm_rule.specs.Log.{did_load, did_exchange, did_change}
-use Rattle.vm_step.specs.Alone.{IsAlone, RunsAlone, known_word_at}
-use Rattle.vm_step.specs.Asides.{IsAside, IsAsideOf, KeepsFrames}
-use Rattle.vm_step.specs.Choices.{IsHeld, first_or, candidate_pages}
-use Rattle.vm_step.specs.Tables.{KnowsAt, KnowsElse}
+use Rattle.vm_step.specs.Prelude.{candidate_pages, Did, first_or, IsAlone, IsAside, IsAsideOf, IsHeld, KeepsFrames, known_word_at, KnowsAt, KnowsElse}
+use Rattle.vm_step.specs.Prelude.{RunsAlone, View}
 use Rattle.vm_step.specs.declared.choice.Looks.{Looks}
 
 -- a count of no look
@@ -34,13 +30,31 @@ pub record LooksAt (chosen : List (ℕ × ℕ)) (p word : ℕ) (steps : List Did
 
 -- what the look at page p comes to: the looks counted after it, and the candidates
 pub data Visits (chosen : List (ℕ × ℕ)) (p : ℕ) (steps : List Did) (old : Looks) (new : Looks) (list : List (ℕ × ℕ)) : Type 0 where
-  again : (word : ℕ) → has p (candidate_pages chosen) ≡ true → steps ≡ did_load (places.State p) word ∷ [] → new ≡ record old { again = old.again + 1 } → list ≡ chosen → Visits chosen p steps old new list
-  gone : (word : ℕ) → LooksAt chosen p word steps [] → state_of word ≡ EVICTED → new ≡ record old { gone = old.gone + 1 } → list ≡ chosen → Visits chosen p steps old new list
-  held : (word : ℕ) → LooksAt chosen p word steps [] → IsHeld word → new ≡ record old { held = old.held + 1 } → list ≡ chosen → Visits chosen p steps old new list
-  worn : (word : ℕ) → LooksAt chosen p word steps [] → (state_of word ≡ UNLOCKED) ⊎ (state_of word ≡ MARKED) → version_of word ≡ MAX_VERSION → new ≡ record old { worn = old.worn + 1; first_worn = first_or old.first_worn p } → list ≡ chosen → Visits chosen p steps old new list
-  marked : (word : ℕ) → LooksAt chosen p word steps (did_exchange (places.State p) word word (word_of MARKED (version_of word)) ∷ []) → state_of word ≡ UNLOCKED → IsBelowLast word → new ≡ record old { marked = old.marked + 1 } → list ≡ chosen → Visits chosen p steps old new list
-  lost : (word other : ℕ) → other ≢ word → LooksAt chosen p word steps (did_exchange (places.State p) word other (word_of MARKED (version_of word)) ∷ []) → state_of word ≡ UNLOCKED → IsBelowLast word → new ≡ record old { lost = old.lost + 1 } → list ≡ chosen → Visits chosen p steps old new list
-  found : (word : ℕ) → LooksAt chosen p word steps [] → state_of word ≡ MARKED → IsBelowLast word → new ≡ record old { found = old.found + 1 } → list ≡ chosen ++ (p, word) ∷ [] → Visits chosen p steps old new list
+  again :
+      (word : ℕ) → has p (candidate_pages chosen) ≡ true → steps ≡ did_load (places.State p) word ∷ []
+      → new ≡ record old { again = old.again + 1 } → list ≡ chosen → Visits chosen p steps old new list
+  gone :
+      (word : ℕ) → LooksAt chosen p word steps [] → state_of word ≡ EVICTED → new ≡ record old { gone = old.gone + 1 } → list ≡ chosen
+      → Visits chosen p steps old new list
+  held :
+      (word : ℕ) → LooksAt chosen p word steps [] → IsHeld word → new ≡ record old { held = old.held + 1 } → list ≡ chosen
+      → Visits chosen p steps old new list
+  worn :
+      (word : ℕ) → LooksAt chosen p word steps [] → (state_of word ≡ UNLOCKED) ⊎ (state_of word ≡ MARKED) → version_of word ≡ MAX_VERSION
+      → new ≡ record old { worn = old.worn + 1; first_worn = first_or old.first_worn p } → list ≡ chosen
+      → Visits chosen p steps old new list
+  marked :
+      (word : ℕ) → LooksAt chosen p word steps (did_exchange (places.State p) word word (word_of MARKED (version_of word)) ∷ [])
+      → state_of word ≡ UNLOCKED → IsBelowLast word → new ≡ record old { marked = old.marked + 1 } → list ≡ chosen
+      → Visits chosen p steps old new list
+  lost :
+      (word other : ℕ) → other ≢ word
+      → LooksAt chosen p word steps (did_exchange (places.State p) word other (word_of MARKED (version_of word)) ∷ [])
+      → state_of word ≡ UNLOCKED → IsBelowLast word → new ≡ record old { lost = old.lost + 1 } → list ≡ chosen
+      → Visits chosen p steps old new list
+  found :
+      (word : ℕ) → LooksAt chosen p word steps [] → state_of word ≡ MARKED → IsBelowLast word → new ≡ record old { found = old.found + 1 }
+      → list ≡ chosen ++ (p, word) ∷ [] → Visits chosen p steps old new list
 
 -- the first `count` looks of a walk from the place drawn: each was made because candidates were still wanted
 abbrev pub WalksPages : ℕ → ℕ → ℕ → ℕ → List Did → Looks → List (ℕ × ℕ) → Type 0
@@ -68,7 +82,9 @@ module _ {X : Type 0} where
   pub record KnowsWalked (drawn count : ℕ) (v w : View X) : Type 0 where
     pub drawn_is : drawn ≡ known_word_at v places.Hand
     pub hand : KnowsAt places.Hand (hand_more drawn) w
-    pub passed : (p : ℕ) → p < v.start.pages → IsPassed v.start.pages drawn count p → KnowsAt (places.State p) (passed_word (known_word_at v (places.State p))) w
+    pub passed :
+        (p : ℕ) → p < v.start.pages → IsPassed v.start.pages drawn count p
+        → KnowsAt (places.State p) (passed_word (known_word_at v (places.State p))) w
     pub others : KnowsElse (IsWalked v.start.pages drawn count) v w
 
   -- the walk that chose these candidates, and what it left of the view: no lock, no frame and no entry changed; nor did an open read but of

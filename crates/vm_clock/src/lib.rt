@@ -2,12 +2,10 @@
 //! round. Marks are states of the page's word, which a reader takes away.
 #![tactic(auto)]
 
-ghost use Rattle.std.specs.Prelude.{◌≡◌, ◌*◌, ◌<◌, ◌≤◌, length};
+ghost use Rattle.std.specs.Prelude.{◌*◌, ◌<◌, ◌≡◌, ◌≤◌, length};
+ghost use Rattle.vm_rule.specs.Prelude.{has};
+ghost use Rattle.vm_step.specs.Prelude.{AreCandidates, candidate_pages, IsReady, IsSamePass, view};
 ghost use Rattle.vm_clock.specs.Clock.{IsChosen, IsPageVisited, looks_counted};
-ghost use Rattle.vm_owner.specs.Numbers.{has};
-ghost use Rattle.vm_step.specs.Choices.{AreCandidates, candidate_pages};
-ghost use Rattle.vm_step.specs.Passes.{IsSamePass, view};
-ghost use Rattle.vm_step.specs.Ready.{IsReady};
 
 use arrayvec::ArrayVec;
 use vm_block::Block;

@@ -1,15 +1,14 @@
 -- What the report of an eviction counts: the stages at which the first candidates ended.
-use Rattle.std.proofs.Common.{ℕ, Bool, ◌≡◌, ◌<◌, ◌≤◌, ◌+◌, ◌++◌, true, false, suc, zero, length, List, [], ◌∷◌, Option, refl, sym, ap, subst, ◌∙◌, arith, if◌then◌else◌}
+use Rattle.std.proofs.Common.{[], ◌++◌, ◌+◌, ◌<◌, ◌∙◌, ◌∷◌, ◌≡◌, ◌≤◌, ap, arith, Bool, false, if◌then◌else◌, length, List, Option, refl, subst, suc}
+use Rattle.std.proofs.Common.{sym, true, zero, ℕ}
 use Rattle.std.proofs.lemmas.List.{length-append}
-use Rattle.vm_rule.specs.declared.view.Note.{Note}
 use Rattle.vm_rule.proofs.Entries.{append-none}
+use Rattle.vm_step.specs.Prelude.{Note}
 use Rattle.vm_step.specs.declared.choice.Looks.{Looks}
-use Rattle.vm_evict.specs.Evictions.{Counts, candidate_at, first_of, first_pair, frame_at, gathered, lost_at, note_at, one_if, stage_at, written_at}
-use Rattle.vm_evict.specs.Stages.{IsAdded, IsOver, none_of}
-use Rattle.vm_evict.specs.declared.candidate.Stage.{Stage}
+use Rattle.vm_evict.specs.{declared.candidate.Stage.Stage, declared.report.Evicted.Evicted, declared.report.Report.Report}
 use Rattle.vm_evict.specs.declared.candidate.Stage.TheVariants as stages
-use Rattle.vm_evict.specs.declared.report.Evicted.{Evicted}
-use Rattle.vm_evict.specs.declared.report.Report.{Report}
+use Rattle.vm_evict.specs.Evictions.{candidate_at, Counts, first_of, first_pair, frame_at, gathered, lost_at, note_at, one_if, stage_at, written_at}
+use Rattle.vm_evict.specs.Stages.{IsAdded, IsOver, none_of}
 use Rattle.vm_evict.proofs.Gathering.{gathered-few}
 
 -- the first that failed stays the first
@@ -54,11 +53,6 @@ gives-more give n list ends s l is e = ap (λ (t : Stage). gathered give n list 
 
 module _ (n : ℕ) (list : List (ℕ × ℕ)) (looks : Looks) (ends : List Stage) (old new : Evicted) (h : Reports n list looks ends old) where
   reports-by : (s : Stage) → stage_at ends n ≡ s → IsAdded (candidate_at list n).0 s old new → Reports (suc n) list looks ends new
-  reports-by stages.Waiting is a = absurd a
-  reports-by stages.Clean is a = absurd a
-  reports-by (stages.Shared written) is a = absurd a
-  reports-by (stages.Owned written) is a = absurd a
-  reports-by (stages.Emptied frame written) is a = absurd a
   reports-by (stages.Freed frame written) is a =
       let s : Stage = stages.Freed frame written in
       let c : ℕ × ℕ = candidate_at list n in
@@ -111,6 +105,7 @@ module _ (n : ℕ) (list : List (ℕ × ℕ)) (looks : Looks) (ends : List Stage
         };
         frames = a.1 ∙ h.frames ∙ sym (gives-none frame_at n list ends s is refl);
       }
+  reports-by s is a = absurd a
 
   pub reports-more : (m p : ℕ) → m ≡ n + 1 → p ≡ (candidate_at list n).0 → IsAdded p (stage_at ends n) old new → Reports m list looks ends new
   reports-more m p is page a =

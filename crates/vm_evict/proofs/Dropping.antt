@@ -1,42 +1,26 @@
 -- A clean page that the pass holds exclusively is taken out of its frame, which is the pass's then.
-use Rattle.std.proofs.Common.{ℕ, Bool, ◌≡◌, ◌≢◌, ◌<◌, ◌==◌, ◌++◌, true, false, List, [], ◌∷◌, Some, None, refl, sym, ap, subst, ◌∙◌, inl, inr, append_assoc}
+use Rattle.std.proofs.Common.{[], ◌++◌, ◌<◌, ◌==◌, ◌∙◌, ◌∷◌, ◌≡◌, ◌≢◌, ap, append_assoc, Bool, false, inl, inr, List, None, refl, Some, subst, sym}
+use Rattle.std.proofs.Common.{true, ℕ}
 use Rattle.std.proofs.lemmas.Bool.{false≢true, or_left}
 use Rattle.std.proofs.lemmas.Option.{none-some, same_Some}
-use Rattle.vm_core.specs.declared.event.Seat.{Seat}
-use Rattle.vm_core.specs.Words.{LOCKED, frame_in, version_of}
-use Rattle.vm_core.specs.FrameActs.{frame_of, mapping_of, trans_word}
-use Rattle.vm_core.specs.History.{Version}
-use Rattle.vm_core.proofs.Upd.{upd-other, upd-same}
-use Rattle.vm_owner.specs.Numbers.{has}
-use Rattle.vm_rule.specs.declared.view.Did.{Did}
+use Rattle.vm_core.specs.Prelude.{frame_in, frame_of, LOCKED, mapping_of, trans_word, Version, version_of}
+use Rattle.vm_core.proofs.Upd.{upd-other}
+use Rattle.vm_rule.specs.Prelude.{clean_in, ClearTold, contents_at, did_load, did_store, has, held_at, IsLocking, put_at, Seat, seat_of, StandsClean}
+use Rattle.vm_rule.specs.Prelude.{translation_of, TranslationTold}
 use Rattle.vm_rule.specs.declared.view.Held.{Held}
-use Rattle.vm_rule.specs.declared.view.Origin.{Origin}
 use Rattle.vm_rule.specs.declared.view.Place.TheVariants as places
-use Rattle.vm_rule.specs.declared.view.View.{View}
-use Rattle.vm_rule.specs.Puts.{put, put_at}
-use Rattle.vm_rule.specs.Views.{IsLocking, seat_of}
-use Rattle.vm_rule.specs.Rule.{no_held}
-use Rattle.vm_rule.specs.Loads.{TranslationTold, translation_of}
-use Rattle.vm_rule.specs.Log.{did_load, did_store}
-use Rattle.vm_rule.specs.Mappings.{ClearTold, StandsClean, clean_in, contents_at, held_at, mapped}
-use Rattle.vm_rule.proofs.Entries.{append-none}
-use Rattle.vm_rule.proofs.Heard.{each-both}
-use Rattle.vm_step.specs.Alone.{IsAlone}
-use Rattle.vm_step.specs.DeviceCalls.{StaysHome}
-use Rattle.vm_step.specs.Works.{Works}
-use Rattle.vm_step.proofs.Alone.{stays-alone}
-use Rattle.vm_step.proofs.DeviceCalls.{home-both, no-fault}
-use Rattle.vm_step.proofs.Leaves.{works-one, works-then}
-use Rattle.vm_evict.specs.Evictions.{FramesCome}
-use Rattle.vm_evict.specs.Stages.{Advances, IsEmptied, IsOwning, one, owning_seat}
+use Rattle.vm_rule.proofs.{Entries.append-none, Heard.each-both}
+use Rattle.vm_step.specs.Prelude.{Did, IsAlone, Origin, StaysHome, View, Works}
+use Rattle.vm_step.proofs.{Alone.stays-alone, DeviceCalls.home-both, DeviceCalls.no-fault, Leaves.works-then, steps.Mapping.clear-held}
+use Rattle.vm_step.proofs.{steps.Mapping.clear-works, steps.Translate.tload-works}
+use Rattle.vm_evict.specs.{Evictions.FramesCome, Tables.KnowsStage}
 use Rattle.vm_evict.specs.declared.candidate.Phase.TheVariants as phases
 use Rattle.vm_evict.specs.declared.candidate.Stage.TheVariants as stages
-use Rattle.vm_evict.specs.Tables.{KnowsStage}
-use Rattle.vm_evict.proofs.Copying.{not-fault, no-state}
-use Rattle.vm_evict.proofs.Evidenced.{locks-front, none-kept, not-emptied, saved-front}
+use Rattle.vm_evict.specs.Stages.{Advances, IsEmptied, IsOwning, one, owning_seat}
+use Rattle.vm_evict.proofs.Evidenced.{locks-front, no-state, none-kept, not-emptied, not-fault, saved-front}
 use Rattle.vm_evict.proofs.Gathering.{or-none}
 use Rattle.vm_evict.proofs.Tables.{kept-at, left-at, left-last, locked-on}
-use Rattle.vm_evict.proofs.Taken.{frame-said, locks-now, taken-works, tload-works}
+use Rattle.vm_evict.proofs.Taken.{frame-said, locks-now, taken-works}
 
 module _ {X : Type 0} (p word frame : ℕ) (written : Bool) (done : List Did) (v x : View X) (h : IsOwning p word frame written done v x) where
   locks : IsLocking (seat_of x p)
@@ -50,7 +34,7 @@ module _ {X : Type 0} (p word frame : ℕ) (written : Bool) (done : List Did) (v
     load-did = did_load (places.Translation p) t
 
     loaded : Works p (load-did ∷ []) x a
-    loaded = tload-works p t 0 true false x a h.taken.now l
+    loaded = tload-works l (ap (λ (s : Seat). s.reading) h.taken.now)
 
     said : mapping_of t ≡ Some (clean_in frame)
     said = l.called (or_left (seat_of x p).exclusive (seat_of x p).writing (ap (λ (s : Seat). s.exclusive) h.taken.now)) ∙ h.stands
@@ -73,14 +57,11 @@ module _ {X : Type 0} (p word frame : ℕ) (written : Bool) (done : List Did) (v
 
       work : Works p worked x b
       work =
-          works-then p (load-did ∷ []) (clear-did ∷ []) x a b loaded
-          (works-one p clear-did _ a (mapped p None a) (frame ∷ a.frames) (put frame c.words a.contents) a.out a.notes b
-          (λ q ne. upd-other (put_at no_held a.held) p (record (held_at a p) { mapping = None }) q ne) c.brings)
+          works-then p (load-did ∷ []) (clear-did ∷ []) x a b loaded (clear-works c)
 
       held-cleared : held_at b p ≡ record (held_at x p) { mapping = None }
       held-cleared =
-          ap (λ (y : View X). held_at y p) c.brings.view
-          ∙ upd-same (put_at no_held a.held) p (record (held_at a p) { mapping = None })
+          clear-held c
           ∙ ap (λ (k : Held). record k { mapping = None }) held-loaded
 
       abbrev all : List Did

@@ -1,32 +1,21 @@
 -- The beginning and the end of an eviction: all candidates wait; each has come to its end, and is counted.
-use Rattle.std.proofs.Common.{ℕ, ◌≡◌, ◌⊎◌, ◌<◌, ◌+◌, ◌++◌, true, false, zero, suc, length, List, [], ◌∷◌, None, refl, sym, ap, subst, ◌∙◌, ⊎_elim, append_assoc, arith}
+use Rattle.std.proofs.Common.{[], ⊎_elim, ◌++◌, ◌+◌, ◌<◌, ◌∙◌, ◌∷◌, ◌≡◌, ◌⊎◌, ap, append_assoc, arith, false, length, List, None, refl, subst, suc}
+use Rattle.std.proofs.Common.{sym, true, zero, ℕ}
 use Rattle.std.proofs.lemmas.Bool.{cases_Bool}
-use Rattle.vm_owner.specs.Numbers.{has}
-use Rattle.vm_rule.specs.declared.view.Did.{Did}
-use Rattle.vm_rule.specs.declared.view.Note.{Note}
-use Rattle.vm_rule.specs.declared.view.View.{View}
-use Rattle.vm_rule.specs.Layout.{Within}
-use Rattle.vm_rule.specs.Views.{Each}
+use Rattle.vm_rule.specs.Prelude.{Each, has, Within}
 use Rattle.vm_rule.proofs.Entries.{append-none}
-use Rattle.vm_step.specs.Alone.{RunsAlone}
-use Rattle.vm_step.specs.Asides.{IsAsideOf}
-use Rattle.vm_step.specs.Choices.{candidate_pages}
+use Rattle.vm_step.specs.Prelude.{candidate_pages, Did, IsAsideOf, Note, RunsAlone, View}
 use Rattle.vm_step.specs.declared.choice.Looks.{Looks}
-use Rattle.vm_step.proofs.Alone.{runs-self}
-use Rattle.vm_step.proofs.Asides.{alone-self}
-use Rattle.vm_step.proofs.Tables.{else-knows}
-use Rattle.vm_evict.specs.Evictions.{Counts, FramesCome, IsBatch, IsEnd, candidate_at, frame_at, gathered, lost_at, note_at, release_at, stage_at}
-use Rattle.vm_evict.specs.Phases.{DoesOne, InPhases}
-use Rattle.vm_evict.specs.Stages.{IsAt, IsOver, IsPhaseMade, IsUnderWay, Rests}
-use Rattle.vm_evict.specs.Tables.{IsOfAny, KnowsStage}
-use Rattle.vm_evict.specs.Writes.{IsAllowed}
+use Rattle.vm_step.proofs.{Alone.runs-self, Asides.alone-self, Tables.else-knows}
+use Rattle.vm_evict.specs.{declared.candidate.Stage.Stage, declared.report.Evicted.Evicted, Phases.DoesOne, Phases.InPhases, Tables.IsOfAny}
+use Rattle.vm_evict.specs.{Tables.KnowsStage, Writes.IsAllowed}
 use Rattle.vm_evict.specs.declared.candidate.Phase.TheVariants as phases
-use Rattle.vm_evict.specs.declared.candidate.Stage.{Stage}
 use Rattle.vm_evict.specs.declared.candidate.Stage.TheVariants as stages
-use Rattle.vm_evict.specs.declared.report.Evicted.{Evicted}
-use Rattle.vm_evict.proofs.Gathering.{gathered-each, gathered-none, page-at}
+use Rattle.vm_evict.specs.Evictions.{candidate_at, Counts, frame_at, FramesCome, gathered, IsBatch, IsEnd, lost_at, note_at, release_at, stage_at}
+use Rattle.vm_evict.specs.Stages.{IsAt, IsOver, IsPhaseMade, IsUnderWay, Rests}
 use Rattle.vm_evict.proofs.Counting.{over-all}
-use Rattle.vm_evict.proofs.Passing.{Passes, all-self, come-none, rests-self}
+use Rattle.vm_evict.proofs.Gathering.{gathered-each, gathered-none, page-at}
+use Rattle.vm_evict.proofs.Passing.{all-self, come-none, Passes, rests-self}
 use Rattle.vm_evict.proofs.Tables.{each-two, kept-self, phases-there}
 
 module _ {X : Type 0} where
@@ -54,21 +43,13 @@ module _ {X : Type 0} where
   end-of c (stages.Freed frame written) done v w o h = h.0
   end-of c (stages.Failed count) done v w o h = h.0
   end-of c (stages.Lost written) done v w o h = h.0
-  end-of c stages.Waiting done v w o h = absurd o
-  end-of c stages.Clean done v w o h = absurd o
-  end-of c (stages.Shared written) done v w o h = absurd o
-  end-of c (stages.Owned written) done v w o h = absurd o
-  end-of c (stages.Emptied frame written) done v w o h = absurd o
+  end-of c s done v w o h = absurd o
 
   rests-of : (c : ℕ × ℕ) (s : Stage) (done : List Did) (v w : View X) → IsOver s → IsAt c s done v w → Rests c.0 v w
   rests-of c (stages.Freed frame written) done v w o h = h.1
   rests-of c (stages.Failed count) done v w o h = h.1
   rests-of c (stages.Lost written) done v w o h = h.1
-  rests-of c stages.Waiting done v w o h = absurd o
-  rests-of c stages.Clean done v w o h = absurd o
-  rests-of c (stages.Shared written) done v w o h = absurd o
-  rests-of c (stages.Owned written) done v w o h = absurd o
-  rests-of c (stages.Emptied frame written) done v w o h = absurd o
+  rests-of c s done v w o h = absurd o
 
   allowed-of : (c : ℕ × ℕ) (s : Stage) (done : List Did) (v w : View X) → IsEnd c s done v w → Each (λ n. IsAllowed v.start n.page n.count) (note_at c s)
   allowed-of c (stages.Failed count) done v w h = (h.allowed, tt)

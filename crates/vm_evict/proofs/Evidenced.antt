@@ -1,25 +1,18 @@
 -- Evidence in a longer list of steps, and what a pass leaves of a page that it locked and gave up again.
-use Rattle.std.proofs.Common.{ℕ, ◌≡◌, ◌≢◌, ◌≤◌, ◌+◌, ◌==◌, ◌++◌, if◌then◌else◌, true, List, append_assoc, [], ◌∷◌, Option, Some, None, refl, sym, ap, ◌∙◌, arith, ⊎_elim, eqb}
+use Rattle.std.proofs.Common.{[], ⊎_elim, ◌++◌, ◌+◌, ◌==◌, ◌∙◌, ◌∷◌, ◌≡◌, ◌≢◌, ◌≤◌, ap, append_assoc, arith, Bool, eqb, false, if◌then◌else◌, List}
+use Rattle.std.proofs.Common.{None, Option, refl, Some, sym, true, ℕ}
 use Rattle.std.proofs.lemmas.Bool.{cond-false, cond-true, eq-eqb, false≢true, ne_eqb}
 use Rattle.std.proofs.lemmas.Option.{none-some, same_Some}
-use Rattle.vm_core.specs.declared.event.Mapping.{Mapping}
-use Rattle.vm_core.specs.Words.{LOCKED, version_of, word_of}
-use Rattle.vm_core.specs.FrameActs.{frame_of, trans_word}
-use Rattle.vm_rule.specs.declared.view.Did.{Did}
+use Rattle.vm_core.specs.Prelude.{frame_of, LOCKED, trans_word, version_of, word_of}
+use Rattle.vm_rule.specs.Prelude.{clean_in, did_exchange, did_load, Each, IsLocking, IsUnheld, Mapping, seat_of}
 use Rattle.vm_rule.specs.declared.view.Place.{Place}
 use Rattle.vm_rule.specs.declared.view.Place.TheVariants as places
-use Rattle.vm_rule.specs.declared.view.View.{View}
-use Rattle.vm_rule.specs.Views.{Each, IsLocking, seat_of}
-use Rattle.vm_rule.specs.Locks.{IsUnheld}
-use Rattle.vm_rule.specs.Log.{did_exchange}
-use Rattle.vm_rule.specs.Mappings.{clean_in}
-use Rattle.vm_rule.proofs.Heard.{each-both}
-use Rattle.vm_step.specs.DeviceCalls.{GoesOnce, StaysHome}
-use Rattle.vm_step.specs.Evidence.{IsLost}
-use Rattle.vm_step.proofs.DeviceCalls.{once-front}
-use Rattle.vm_step.proofs.Evidenced.{given-front}
-use Rattle.vm_evict.specs.Evictions.{HasLost, HasSaved, HasTaken, IsSavedFrom, IsSharedToSave, LocksFrom, once, by_share}
-use Rattle.vm_evict.specs.Writes.{IsFoundDirty}
+use Rattle.vm_rule.proofs.{Entries.each-map, Heard.each-both}
+use Rattle.vm_step.specs.Prelude.{Did, GoesOnce, IsLost, StaysHome, View, WritesNone}
+use Rattle.vm_step.proofs.DeviceCalls.{home-both, is-fault, no-fault, once-behind, once-front}
+use Rattle.vm_step.proofs.Evidenced.{given-behind, given-front}
+use Rattle.vm_evict.specs.Evictions.{by_share, HasLost, HasTaken, IsSavedFrom, IsSharedToSave, LocksFrom, once}
+use Rattle.vm_evict.specs.Writes.{HasNotSaved, HasSaved, IsFoundDirty}
 
 pub dirty-front : (p frame : ℕ) (a b : List Did) → IsFoundDirty p frame a → IsFoundDirty p frame (a ++ b)
 dirty-front p frame a b d = (d.0, given-front a b (places.Translation p) d.0 d.1, d.2)
@@ -29,7 +22,7 @@ pub lost-one : (at : Place) (expects found new : ℕ) → found ≢ expects → 
 lost-one at expects found new ne = record { gives = (refl, refl); expected = refl; other = ne; left = cond-false (eqb found expects) (Some new) None (ne_eqb found expects ne) }
 
 -- such an exchange, behind steps that had not left there the word that it found
-pub has-lost : (a b : List Did) (at : Place) (expects found new : ℕ) → found ≢ expects → Each (λ d. d.at ≡ at → d.wrote ≢ Some found) a → HasLost (a ++ did_exchange at expects found new ∷ b) at expects
+abbrev pub has-lost : (a b : List Did) (at : Place) (expects found new : ℕ) → found ≢ expects → Each (λ d. d.at ≡ at → d.wrote ≢ Some found) a → HasLost (a ++ did_exchange at expects found new ∷ b) at expects
 has-lost a b at expects found new ne foreign = record {
   earlier = a;
   step = did_exchange at expects found new;
@@ -78,19 +71,7 @@ lost-front a b at expects h = record {
 
 pub locks-front : (p word : ℕ) (a b : List Did) → LocksFrom p word a → LocksFrom p word (a ++ b)
 locks-front p word a b (once h) = once (taken-front a b (places.State p) word (word_of LOCKED (version_of word)) h)
-locks-front p word a b (by_share l h) =
-    by_share
-    record {
-      earlier = l.earlier;
-      step = l.step;
-      later = l.later ++ b;
-      cut = ap (λ (t : List Did). t ++ b) l.cut ∙ append_assoc l.earlier (l.step ∷ l.later) b;
-      place = l.place;
-      expected = l.expected;
-      found = l.found;
-      wrote = l.wrote;
-    }
-    h
+locks-front p word a b (by_share l h) = by_share (taken-front a b (places.State p) (word_of 1 (version_of word)) (word_of LOCKED (version_of word)) l) h
 
 -- what was written under the share, by more steps under it
 pub saved-under : (p frame : ℕ) (under b done all : List Did) → HasSaved p frame under done → GoesOnce p all → HasSaved p frame (under ++ b) all
@@ -110,38 +91,77 @@ saved-under p frame under b done all h block = record {
 pub saved-front : (p word frame : ℕ) (a b : List Did) → IsSavedFrom p word frame a → StaysHome p b → IsSavedFrom p word frame (a ++ b)
 saved-front p word frame a b h home = (shared-front p word a b h.0, saved-under p frame h.0.taken.later b a (a ++ b) h.1 (once-front p a b h.1.block home))
 
-no-here : (at : Place) (P : Did → Type 0) (b : List Did) → Each (λ d. d.at ≢ at) b → Each (λ d. d.at ≡ at → P d) b
-no-here at P [] other = tt
-no-here at P (d ∷ ds) other = (λ here. absurd (other.0 here), no-here at P ds other.1)
+-- what was written by steps behind the share, among which the block did not move before
+pub saved-behind : (p word frame : ℕ) (a b : List Did) → IsSharedToSave p word a → StaysHome p a → HasSaved p frame b b → IsSavedFrom p word frame (a ++ b)
+saved-behind p word frame a b h home s = (
+  shared-front p word a b h,
+  record {
+    cleaned = record {
+      earlier = h.taken.later ++ s.cleaned.earlier;
+      step = s.cleaned.step;
+      later = s.cleaned.later;
+      cut = ap (λ (l : List Did). h.taken.later ++ l) s.cleaned.cut ∙ sym (append_assoc h.taken.later s.cleaned.earlier (s.cleaned.step ∷ s.cleaned.later));
+      place = s.cleaned.place;
+      wrote = s.cleaned.wrote;
+    };
+    dirty = (s.dirty.0, given-behind h.taken.later s.cleaned.earlier (places.Translation p) s.dirty.0 s.dirty.1, s.dirty.2);
+    block = once-behind p a b home s.block;
+  },
+)
+
+-- ---- steps on words of a kind
+
+abbrev pub is-state : Place → Bool
+is-state (places.State p) = true
+is-state at = false
+
+-- another kind of word is no state word
+pub no-state : (p : ℕ) (at : Place) → is-state at ≡ false → at ≢ places.State p
+no-state p at other e = false≢true (sym other ∙ ap is-state e)
+
+abbrev pub is-mapping : Place → Bool
+is-mapping (places.Translation p) = true
+is-mapping at = false
+
+-- another kind of word is no translation word
+pub no-mapping : (p : ℕ) (d : Did) → is-mapping d.at ≡ false → d.at ≡ places.Translation p → d.wrote ≡ None
+no-mapping p d other e = absurd (false≢true (sym other ∙ ap is-mapping e))
+
+-- another kind of word is no fault word
+pub not-fault : (p : ℕ) (at : Place) → is-fault at ≡ false → at ≢ places.Fault p
+not-fault p at other e = false≢true (sym other ∙ ap is-fault e)
+
+pub none-both : (at : Place) (a b : List Did) → WritesNone at a → WritesNone at b → WritesNone at (a ++ b)
+none-both at a b f g = each-both (λ (d : Did). d.at ≡ at → d.wrote ≡ None) a b f g
+
+-- ---- steps that leave no word, or not this one
 
 -- what holds of the steps at a place holds on after steps elsewhere
 pub each-else : (at : Place) (P : Did → Type 0) (a b : List Did) → Each (λ d. d.at ≢ at) b → Each (λ d. d.at ≡ at → P d) a → Each (λ d. d.at ≡ at → P d) (a ++ b)
-each-else at P a b other h = each-both (λ (d : Did). d.at ≡ at → P d) a b h (no-here at P b other)
+each-else at P a b other h = each-both (λ (d : Did). d.at ≡ at → P d) a b h (each-map (λ (d : Did). d.at ≢ at) (λ d. d.at ≡ at → P d) (λ d ne here. absurd (ne here)) b other)
 
--- steps that wrote nothing wrote nothing there
-pub silent-there : (at : Place) (a : List Did) → Each (λ d. d.wrote ≡ None) a → Each (λ d. d.at ≡ at → d.wrote ≡ None) a
-silent-there at [] e = tt
-silent-there at (d ∷ ds) e = (λ here. e.0, silent-there at ds e.1)
+pub none-else : (at : Place) (a : List Did) → Each (λ d. d.at ≢ at) a → WritesNone at a
+none-else at a e = each-map (λ (d : Did). d.at ≢ at) (λ d. d.at ≡ at → d.wrote ≡ None) (λ d ne here. absurd (ne here)) a e
 
--- steps that wrote nothing there stored nothing there
-pub none-stored : (at : Place) (a : List Did) → Each (λ d. d.at ≡ at → d.wrote ≡ None) a → Each (λ d. d.at ≡ at → d.found ≡ None → d.wrote ≡ None) a
-none-stored at [] e = tt
-none-stored at (d ∷ ds) e = (λ here none. e.0 here, none-stored at ds e.1)
+pub none-silent : (at : Place) (a : List Did) → Each (λ d. d.wrote ≡ None) a → WritesNone at a
+none-silent at a e = each-map (λ (d : Did). d.wrote ≡ None) (λ d. d.at ≡ at → d.wrote ≡ None) (λ d none here. none) a e
 
--- steps that wrote nothing left no word there
-pub none-left : (a : List Did) (at : Place) (found : ℕ) → Each (λ d. d.wrote ≡ None) a → Each (λ d. d.at ≡ at → d.wrote ≢ Some found) a
-none-left [] at found e = tt
-none-left (d ∷ ds) at found e = (λ here is. none-some found (sym e.0 ∙ is), none-left ds at found e.1)
+-- steps that wrote nothing there stored nothing there, and left no word there
+pub none-stored : (at : Place) (a : List Did) → WritesNone at a → Each (λ d. d.at ≡ at → d.found ≡ None → d.wrote ≡ None) a
+none-stored at a e = each-map (λ (d : Did). d.at ≡ at → d.wrote ≡ None) (λ d. d.at ≡ at → d.found ≡ None → d.wrote ≡ None) (λ d none here stored. none here) a e
 
--- steps that wrote nothing there left no word there
-pub none-kept : (a : List Did) (at : Place) (found : ℕ) → Each (λ d. d.at ≡ at → d.wrote ≡ None) a → Each (λ d. d.at ≡ at → d.wrote ≢ Some found) a
-none-kept [] at found e = tt
-none-kept (d ∷ ds) at found e = (λ here is. none-some found (sym (e.0 here) ∙ is), none-kept ds at found e.1)
+pub none-kept : (a : List Did) (at : Place) (found : ℕ) → WritesNone at a → Each (λ d. d.at ≡ at → d.wrote ≢ Some found) a
+none-kept a at found e = each-map (λ (d : Did). d.at ≡ at → d.wrote ≡ None) (λ d. d.at ≡ at → d.wrote ≢ Some found) (λ d none here is. none-some found (sym (none here) ∙ is)) a e
 
--- steps elsewhere left no word there
-pub none-there : (a : List Did) (at : Place) (found : ℕ) → Each (λ d. d.at ≢ at) a → Each (λ d. d.at ≡ at → d.wrote ≢ Some found) a
-none-there [] at found e = tt
-none-there (d ∷ ds) at found e = (λ here. absurd (e.0 here), none-there ds at found e.1)
+-- a page that was not written is not by steps on other words, nor by a load of its translation word
+pub unsaved-both : (p : ℕ) (a b : List Did) → HasNotSaved p a → HasNotSaved p b → HasNotSaved p (a ++ b)
+unsaved-both p a b f g = record { kept = none-both (places.Translation p) a b f.kept g.kept; home = home-both p a b f.home g.home }
+
+pub unsaved-one : (p : ℕ) (d : Did) → is-mapping d.at ≡ false → is-fault d.at ≡ false → HasNotSaved p (d ∷ [])
+unsaved-one p d mapping fault = record { kept = (no-mapping p d mapping, tt); home = (no-fault p d fault, tt) }
+
+pub unsaved-load : (p found : ℕ) → HasNotSaved p (did_load (places.Translation p) found ∷ [])
+unsaved-load p found = record { kept = ((λ here. refl), tt); home = (no-fault p (did_load (places.Translation p) found) refl, tt) }
 
 -- a page stands in one frame
 pub frame-one : (f g : ℕ) → ◌≡◌ {A = Option Mapping} (Some (clean_in f)) (Some (clean_in g)) → f ≡ g

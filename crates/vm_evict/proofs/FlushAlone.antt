@@ -1,194 +1,151 @@
 -- The visit of one page by a pass that is alone: each step finds the word that the step before left, so no exchange is lost.
-use Rattle.std.proofs.Common.{ℕ, true, false, ◌≡◌, ◌≢◌, ◌<◌, ◌≤◌, ◌+◌, ◌-◌, ◌^◌, ◌⊎◌, length, List, [], ◌∷◌, Option, Some, None, is_some, refl, sym, ap, subst, ◌∙◌, inl, inr, ⊎_elim, arith, eqb, slice_index, slice_set}
-use Rattle.std.proofs.lemmas.Bool.{cond-true, eq-eqb, false≢true}
-use Rattle.std.proofs.lemmas.Option.{none-some}
-use Rattle.vm_core.specs.Words.{state_of, version_of, word_of, UNLOCKED, MARKED, EVICTED}
-use Rattle.vm_core.specs.FrameActs.{mapping_of}
-use Rattle.vm_laws_others.specs.Leaves.{stands_dirty}
-use Rattle.vm_owner.specs.Kept.{Start}
-use Rattle.vm_rule.specs.declared.view.Did.{Did}
-use Rattle.vm_rule.specs.declared.view.Origin.{Origin}
+use Rattle.std.proofs.Common.{[], ⊎_elim, ◌+◌, ◌-◌, ◌<◌, ◌^◌, ◌∙◌, ◌∷◌, ◌≡◌, ◌≢◌, ◌≤◌, ◌⊎◌, ap, arith, Bool, Err, false, inl, inr, List, None, Ok}
+use Rattle.std.proofs.Common.{refl, Result, subst, sym, true, ℕ}
+use Rattle.vm_core.specs.Prelude.{EVICTED, mapping_of, MARKED, state_of, UNLOCKED, version_of, word_of}
+use Rattle.vm_rule.specs.Prelude.{did_exchange, did_load, LookTold, stands_dirty, Start, TranslationTold, UnshareTold, WriteLockTold}
 use Rattle.vm_rule.specs.declared.view.Place.TheVariants as places
-use Rattle.vm_rule.specs.declared.view.View.{View}
-use Rattle.vm_rule.specs.Brought.{set_if}
-use Rattle.vm_rule.specs.Loads.{TranslationTold}
-use Rattle.vm_rule.specs.Locks.{UnshareTold, WriteLockTold}
-use Rattle.vm_rule.specs.Log.{did_exchange, did_load}
-use Rattle.vm_rule.specs.Looks.{LookTold}
-use Rattle.vm_rule.proofs.WordFacts.{less-state, mapping-none, version-within, word-made, word-state}
-use Rattle.vm_step.specs.Alone.{Follows, IsAlone, RunsAlone}
-use Rattle.vm_step.specs.Asides.{IsAside}
-use Rattle.vm_step.specs.declared.took.Took.TheVariants.{Taken, Lost}
-use Rattle.vm_step.proofs.Alone.{runs-one}
-use Rattle.vm_step.specs.Choices.{IsHeld}
-use Rattle.vm_evict.specs.Writes.{IsDirtyFrame}
-use Rattle.vm_evict.specs.Flushes.{IsStillLocked, IsUnderWriteBack, KnowsClean, Marks, Settles, EndsWrite, left_clean, made_clean, refused}
+use Rattle.vm_rule.proofs.Found.{part-found}
+use Rattle.vm_rule.proofs.WordFacts.{version-within, word-made, word-state}
+use Rattle.vm_rule_laws.specs.Standing.{mapping_in, state_in}
+use Rattle.vm_step.specs.Prelude.{Did, IsAlone, IsAside, IsHeld, known_word_at, LeavesLast, Origin, RunsAlone, View, WritesNone}
+use Rattle.vm_step.specs.declared.took.Took.TheVariants.{Lost, Taken}
+use Rattle.vm_step.proofs.{Alone.runs-one, Alone.still-alone, Asides.translation-only, steps.WriteBack.write_lock-did}
+use Rattle.vm_step.proofs.{steps.WriteBack.write_lock-others}
+use Rattle.vm_step.proofs.steps.Share.{unshare-did, unshare-leaves, unshare-others}
 use Rattle.vm_evict.specs.declared.flushing.Flushed.{Flushed}
-use Rattle.vm_evict.proofs.FlushSteps.{lock-did, lock-leaves, lock-runs, unlock-did, unlock-leaves, unlock-runs}
-use Rattle.vm_evict.proofs.FlushMarks.{mark-did}
+use Rattle.vm_evict.specs.Flushes.{HasNoLock, IsCounted, IsSaved, IsSettled, Marks}
+use Rattle.vm_evict.specs.Writes.{EndsWrite, IsStillLocked, KnowsClean}
+use Rattle.vm_evict.proofs.{Copying.no-state-written, Evidenced.no-mapping, Evidenced.wrote-taken, FlushMarks.mark-did}
 use Rattle.vm_evict.proofs.FlushVisits.{load-runs, look-did, looked, looked-runs}
-use Rattle.vm_evict.proofs.FlushWords.{AreSaved, IsLater, Shows, later-on, later-self, mapping-shown, run-follows, settled, shows-own, shows-same, shows-self, shows-state, word-inside}
-use Rattle.vm_step.proofs.Asides.{translation-only}
+use Rattle.vm_evict.proofs.Tables.{found-first, kept-at, left-at, left-last, share-gone}
 
--- a word that names a dirty frame is not 0
-pub dirty-word : (word : ℕ) (o : Option ℕ) → IsDirtyFrame word o → is_some o ≡ true → word ≢ 0
-dirty-word word None d e z = absurd (false≢true e)
-dirty-word word (Some f) d e z = absurd (none-some _ (sym (ap mapping_of z ∙ mapping-none) ∙ d))
+module _ {X : Type 0} (p : ℕ) (w : View X) (page : p < w.start.pages) where
+  -- the snapshot shows the words that the pass knows
+  pub state-shown : state_in w.start w.snapshot p ≡ state_of (known_word_at w (places.State p))
+  state-shown = ap state_of (part-found 0 w.start.pages w.snapshot.words p p page (omega arith))
 
-module _ {X : Type 0} (p : ℕ) (tied : Start → ℕ → List ℕ → ℕ → List ℕ → Type 0) (word : ℕ) (v v1 : View X) (look : LookTold tied p None word v v1) (old : Flushed) (page : p < v.start.pages) where
-  abbrev st0 : ℕ
-  st0 = slice_index v.snapshot.words p
+  pub mapping-shown : mapping_in w.start w.snapshot p ≡ mapping_of (known_word_at w (places.Translation p))
+  mapping-shown = ap mapping_of (part-found w.start.pages w.start.pages w.snapshot.words p (w.start.pages + p) page refl)
 
-  abbrev tr0 : ℕ
-  tr0 = slice_index v.snapshot.words (v.start.pages + p)
+  saved-clean : (state_of (known_word_at w (places.State p)) ≡ UNLOCKED) ⊎ (state_of (known_word_at w (places.State p)) ≡ MARKED) → stands_dirty (mapping_of (known_word_at w (places.Translation p))) ≡ false → IsSaved w p
+  saved-clean none clean = inr (⊎_elim (λ e. inl (state-shown ∙ e)) (λ e. inr (state-shown ∙ e)) none, ap stands_dirty mapping-shown ∙ clean)
 
-  -- ---- the look
+module _ {X : Type 0} (p : ℕ) where
+  -- the pass is alone, and knows the page's state word
+  record Stands (word : ℕ) (w : View X) : Type 0 where
+    alone : IsAlone w
+    page : p < w.start.pages
+    state : known_word_at w (places.State p) ≡ word
 
-  module _ (a : IsAlone v) where
-    later1 : IsLater v v1
-    later1 = later-on v v v1 (later-self v a) (look-did p tied word v v1 look old) (looked-runs p tied word v v1 look old) (looked p tied word v v1 look old).aside.start (looked p tied word v v1 look old).aside.parts
+  -- after steps that left the word, or this one last
+  module _ (word : ℕ) (done : List Did) (v w : View X) (s : Stands word v) (start : w.start ≡ v.start) (parts : (w.used ≡ v.used) × (w.fresh ≡ v.fresh)) (runs : RunsAlone done [] v w) where
+    stands-now : (new : ℕ) → known_word_at w (places.State p) ≡ new → Stands new w
+    stands-now new is = record { alone = still-alone v w parts runs.current s.alone; page = subst (λ (o : Origin). p < o.pages) (sym start) s.page; state = is }
 
-    follows1 : (word ≡ st0) × (v1.snapshot.words ≡ v.snapshot.words)
-    follows1 = run-follows v v v1 (later-self v a) (look-did p tied word v v1 look old) (looked-runs p tied word v v1 look old)
+    stands-on : WritesNone (places.State p) done → Stands word w
+    stands-on none = stands-now word (kept-at done [] v w start runs s.alone (places.State p) s.page none ∙ s.state)
 
-    shows1 : Shows v p page st0 tr0 v1
-    shows1 = shows-same v p page st0 tr0 v v1 (shows-self v p page a) later1 follows1.1
+    stands-left : (new : ℕ) → LeavesLast done (places.State p) new → Stands new w
+    stands-left new last = stands-now new (left-at done [] v w start runs s.alone (places.State p) new last)
 
-  pub settles-gone : state_of word ≡ EVICTED → Settles p v v1 old old
-  settles-gone e a h = settled v p page st0 tr0 v1 old old a (shows1 a) refl (inl (inl (ap state_of (sym (follows1 a).0) ∙ e)))
+  module _ (tied : Start → ℕ → List ℕ → ℕ → List ℕ → Type 0) (word : ℕ) (v v1 : View X) (look : LookTold tied p None word v v1) (old : Flushed) where
+    abbrev read : IsAside p (look-did p tied word v v1 look old) v v1
+    read = (looked p tied word v v1 look old).aside
 
-  pub settles-held : (new : Flushed) → IsHeld word → Settles p v v1 old new
-  settles-held new held a h =
-      let low : 1 ≤ state_of word = held.0 in
-      let high : state_of word ≤ 253 = held.1 in
-      absurd (⊎_elim (λ (e : state_of word ≡ 0). omega (arith, low, e)) (λ m. ⊎_elim (λ (e : state_of word ≡ 254). omega (arith, high, e)) (λ (e : state_of word ≡ 255). omega (arith, high, e)) m) (look.unlocked a.0 h.0 h.1))
+    pub page-before : p < v1.start.pages → p < v.start.pages
+    page-before page = subst (λ (o : Origin). p < o.pages) read.start page
 
-  module _ (tr : ℕ) (v2 : View X) (load : TranslationTold p tr v1 v2) (standing : (state_of word ≡ UNLOCKED) ⊎ (state_of word ≡ MARKED)) where
-    module _ (a : IsAlone v) where
-      abbrev load-is : Did
-      load-is = did_load (places.Translation p) tr
+    module _ (page : p < v.start.pages) where
+      stands1 : IsAlone v → Stands word v1
+      stands1 a =
+          stands-on word (look-did p tied word v v1 look old) v v1
+          record { alone = a; page = page; state = sym (found-first (did_load (places.State p) word) [] [] v v1 (looked-runs p tied word v v1 look old) a word refl) }
+          read.start read.parts (looked-runs p tied word v v1 look old) ((λ here. refl), tt)
 
-      load-aside : IsAside p (load-is ∷ []) v1 v2
-      load-aside = (translation-only (λ q. q ≡ p) p tr v1 v2 refl load).aside
+      pub settles-gone : state_of word ≡ EVICTED → IsAlone v → HasNoLock v p → IsSettled p v1 old old
+      settles-gone e a h = let s = stands1 a in record { busy = refl; saved = inl (inl (state-shown p v1 s.page ∙ ap state_of s.state ∙ e)) }
 
-      later2 : IsLater v v2
-      later2 = later-on v v1 v2 (later1 a) (load-is ∷ []) (load-runs p tied word v v1 look old tr v2 load) load-aside.start load-aside.parts
+      pub settles-held : (new : Flushed) → IsHeld word → IsAlone v → HasNoLock v p → IsSettled p v1 old new
+      settles-held new held a h =
+          let low : 1 ≤ state_of word = held.0 in
+          let high : state_of word ≤ 253 = held.1 in
+          absurd (⊎_elim (λ (e : state_of word ≡ 0). omega (arith, low, e)) (λ m. ⊎_elim (λ (e : state_of word ≡ 254). omega (arith, high, e)) (λ (e : state_of word ≡ 255). omega (arith, high, e)) m) (look.unlocked a.0 h.0 h.1))
 
-      follows2 : (tr ≡ slice_index v1.snapshot.words (v.start.pages + p)) × (v2.snapshot.words ≡ v1.snapshot.words)
-      follows2 = run-follows v v1 v2 (later1 a) (load-is ∷ []) (load-runs p tied word v v1 look old tr v2 load)
+      module _ (tr : ℕ) (v2 : View X) (load : TranslationTold p tr v1 v2) (standing : (state_of word ≡ UNLOCKED) ⊎ (state_of word ≡ MARKED)) where
+        abbrev load-is : Did
+        load-is = did_load (places.Translation p) tr
 
-      tr-is : tr ≡ tr0
-      tr-is = follows2.0 ∙ (shows1 a).translation
+        load-ran : RunsAlone (load-is ∷ []) [] v1 v2
+        load-ran = load-runs p tied word v v1 look old tr v2 load
 
-      shows2 : Shows v p page st0 tr0 v2
-      shows2 = shows-same v p page st0 tr0 v1 v2 (shows1 a) later2 follows2.1
+        load-aside : IsAside p (load-is ∷ []) v1 v2
+        load-aside = (translation-only (λ q. q ≡ p) p tr v1 v2 refl load).aside
 
-    pub settles-clean : stands_dirty (mapping_of tr) ≡ false → Settles p v v2 old old
-    settles-clean e a h =
-        let st : state_of st0 ≡ state_of word = ap state_of (sym (follows1 a).0) in
-        settled v p page st0 tr0 v2 old old a (shows2 a) refl
-        (inl (inr (⊎_elim (λ u. inl (st ∙ u)) (λ m. inr (st ∙ m)) standing, ap (λ (n : ℕ). stands_dirty (mapping_of n)) (sym (tr-is a)) ∙ e)))
+        stands2 : IsAlone v → Stands word v2
+        stands2 a = stands-on word (load-is ∷ []) v1 v2 (stands1 a) load-aside.start load-aside.parts load-ran ((λ here. refl), tt)
 
-    pub settles-mark-lost : (new : Flushed) (found : ℕ) (v3 : View X) → Marks p word v2 v3 (Lost found) → Settles p v v3 old new
-    settles-mark-lost new found v3 m a h =
-        let f = run-follows v v2 v3 (later2 a) (mark-did p word found ∷ []) m.1.alone in
-        absurd (m.0 (f.0 ∙ (shows2 a).state ∙ sym (follows1 a).0))
+        pub settles-clean : stands_dirty (mapping_of tr) ≡ false → IsAlone v → HasNoLock v p → IsSettled p v2 old old
+        settles-clean e a h =
+            let s : Stands word v2 = stands2 a in
+            let there : tr ≡ known_word_at v1 (places.Translation p) = found-first load-is [] [] v1 v2 load-ran (stands1 a).alone tr refl in
+            let kept = kept-at (load-is ∷ []) [] v1 v2 load-aside.start load-ran (stands1 a).alone (places.Translation p) (stands1 a).page ((λ here. refl), tt) in
+            record { busy = refl; saved = inl (saved-clean p v2 s.page (⊎_elim (λ x. inl (ap state_of s.state ∙ x)) (λ x. inr (ap state_of s.state ∙ x)) standing) (ap (λ (n : ℕ). stands_dirty (mapping_of n)) (kept ∙ sym there) ∙ e)) }
 
-    -- ---- the page is dirty
+        pub settles-mark-lost : (new : Flushed) (found : ℕ) (v3 : View X) → Marks p word v2 v3 (Lost found) → IsAlone v → HasNoLock v p → IsSettled p v3 old new
+        settles-mark-lost new found v3 m a h = absurd (m.0 (found-first (mark-did p word found) [] [] v2 v3 m.1.alone (stands2 a).alone found refl ∙ (stands2 a).state))
 
-    module _ (dirty : tr ≢ 0) (v3 : View X) (m : Marks p word v2 v3 Taken) where
-      abbrev marked : ℕ
-      marked = word_of MARKED (version_of word)
+        -- ---- the page is marked
 
-      module _ (a : IsAlone v) where
-        tr-inside : v.start.pages + p < length v.snapshot.words
-        tr-inside = word-inside v.snapshot.words (v.start.pages + p) (λ z. dirty (tr-is a ∙ z))
+        module _ (v3 : View X) (m : Marks p word v2 v3 Taken) where
+          abbrev marked : ℕ
+          marked = word_of MARKED (version_of word)
 
-        st-inside : p < length v.snapshot.words
-        st-inside = let l : v.start.pages + p < length v.snapshot.words = tr-inside in omega (arith, l)
+          stands3 : IsAlone v → Stands marked v3
+          stands3 a =
+              ⊎_elim
+              (λ none.
+              subst (λ (n : ℕ). Stands n v3) (sym (word-made word) ∙ ap (λ (s : ℕ). word_of s (version_of word)) none.1)
+              (stands-on word m.0 v2 v3 (stands2 a) m.1.aside.start m.1.aside.parts m.1.alone (subst (λ (ds : List Did). WritesNone (places.State p) ds) (sym none.0) tt)))
+              (λ one.
+              stands-left word m.0 v2 v3 (stands2 a) m.1.aside.start m.1.aside.parts m.1.alone marked
+              (subst (λ (ds : List Did). LeavesLast ds (places.State p) marked) (sym one) (left-last [] (mark-did p word word) marked (wrote-taken word marked))))
+              m.2
 
-        later3 : IsLater v v3
-        later3 = later-on v v2 v3 (later2 a) m.0 m.1.alone m.1.aside.start m.1.aside.parts
+          module _ (expects : ℕ) (is : expects ≡ marked) where
+            pub settles-lock-lost : (new : Flushed) (found : ℕ) (v4 : View X) → found ≢ expects → WriteLockTold tied p expects found v3 v4 → IsAlone v → HasNoLock v p → IsSettled p v4 old new
+            settles-lock-lost new found v4 ne l a h =
+                let did : Did = did_exchange (places.State p) expects found (word_of 1 (version_of expects)) in
+                absurd (ne (found-first did [] [] v3 v4 (runs-one did _ [] [] v3 _ v4 l.brings) (stands3 a).alone found refl ∙ (stands3 a).state ∙ sym is))
 
-        follows3 : Follows v.start m.0 v2.snapshot.words v3.snapshot.words
-        follows3 = run-follows v v2 v3 (later2 a) m.0 m.1.alone
+            -- ---- it was locked, and given up again
 
-        shows3 : Shows v p page marked tr0 v3
-        shows3 =
-            ⊎_elim
-            (λ none.
-            let same : v3.snapshot.words ≡ v2.snapshot.words = subst (λ (ds : List Did). Follows v.start ds v2.snapshot.words v3.snapshot.words) none.0 follows3 in
-            let is : st0 ≡ marked = sym (follows1 a).0 ∙ sym (word-made word) ∙ ap (λ (s : ℕ). word_of s (version_of word)) none.1 in
-            subst (λ (n : ℕ). Shows v p page n tr0 v3) is (shows-same v p page st0 tr0 v2 v3 (shows2 a) later3 same))
-            (λ one.
-            let f = subst (λ (ds : List Did). Follows v.start ds v2.snapshot.words v3.snapshot.words) one follows3 in
-            let set : v3.snapshot.words ≡ slice_set v2.snapshot.words p marked = f.1 ∙ ap (λ (o : Option ℕ). set_if o p v2.snapshot.words) (cond-true (eqb word word) (Some marked) None (eq-eqb word word refl)) in
-            shows-state v p page st0 tr0 marked v2 v3 (shows2 a) later3 st-inside set)
-            m.2
+            module _ (v4 : View X) (l : WriteLockTold tied p expects expects v3 v4) (v5 : View X) (found : ℕ) (v6 : View X) (u : UnshareTold p found v5 v6) where
+              abbrev shared : ℕ
+              shared = word_of 1 (version_of expects)
 
-      module _ (expects : ℕ) (is : expects ≡ marked) where
-        pub settles-lock-lost : (new : Flushed) (found : ℕ) (v4 : View X) → found ≢ expects → WriteLockTold tied p expects found v3 v4 → Settles p v v4 old new
-        settles-lock-lost new found v4 ne l a h =
-            let did : Did = did_exchange (places.State p) expects found (word_of 1 (version_of expects)) in
-            let f = run-follows v v3 v4 (later3 a) (did ∷ []) (runs-one did _ [] [] v3 _ v4 l.brings) in
-            absurd (ne (f.0 ∙ (shows3 a).state ∙ sym is))
+              stands4 : IsAlone v → Stands shared v4
+              stands4 a =
+                  let f = write_lock-others refl l (λ q. q ≡ p) refl in
+                  stands-left marked (write_lock-did refl l ∷ []) v3 v4 (stands3 a) f.start f.parts f.runs shared (left-last [] (write_lock-did refl l) shared (wrote-taken expects shared))
 
-        -- ---- it was locked, and given up again
+              module _ (done : List Did) (k : IsStillLocked p done v4 v5) (a : IsAlone v) where
+                stands5 : Stands shared v5
+                stands5 = stands-on shared done v4 v5 (stands4 a) k.works.leaves.start k.works.leaves.parts k.works.alone (no-state-written p done k.does)
 
-        module _ (v4 : View X) (l : WriteLockTold tied p expects expects v3 v4) (under : IsUnderWriteBack p v4) (v5 : View X) (found : ℕ) (v6 : View X) (u : UnshareTold p found v5 v6) where
-          abbrev shared : ℕ
-          shared = word_of 1 (version_of expects)
+                stands6 : Stands (word_of UNLOCKED (version_of expects)) v6
+                stands6 =
+                    let f = unshare-others u (λ q. q ≡ p) refl in
+                    let there : found ≡ known_word_at v5 (places.State p) = found-first (unshare-did u) [] [] v5 v6 f.runs stands5.alone found refl in
+                    subst (λ (n : ℕ). Stands n v6) (ap (λ (n : ℕ). n - 2 ^ 56) (there ∙ stands5.state) ∙ share-gone (version_of expects))
+                    (stands-left shared (unshare-did u ∷ []) v5 v6 stands5 f.start f.parts f.runs (found - 2 ^ 56) (left-last [] (unshare-did u) (found - 2 ^ 56) refl))
 
-          module _ (a : IsAlone v) where
-            later4 : IsLater v v4
-            later4 = later-on v v3 v4 (later3 a) (lock-did p expects ∷ []) (lock-runs p tied expects v3 v4 l) (lock-leaves p tied expects v3 v4 l).start (lock-leaves p tied expects v3 v4 l).parts
+                saved-now : KnowsClean p v4 v5 → IsSaved v6 p
+                saved-now known =
+                    let kept = kept-at (unshare-did u ∷ []) [] v5 v6 (unshare-leaves u).start (unshare-others u (λ q. q ≡ p) refl).runs stands5.alone (places.Translation p) stands5.page (no-mapping p (unshare-did u) refl, tt) in
+                    saved-clean p v6 stands6.page (inl (ap state_of stands6.state ∙ word-state UNLOCKED (version_of expects) (version-within expects)))
+                    (ap (λ (n : ℕ). stands_dirty (mapping_of n)) kept ∙ known (stands4 a).alone (stands4 a).page)
 
-            shows4 : Shows v p page shared tr0 v4
-            shows4 =
-                let f = run-follows v v3 v4 (later3 a) (lock-did p expects ∷ []) (lock-runs p tied expects v3 v4 l) in
-                let set : v4.snapshot.words ≡ slice_set v3.snapshot.words p shared = f.1 ∙ ap (λ (o : Option ℕ). set_if o p v3.snapshot.words) (cond-true (eqb expects expects) (Some shared) None (eq-eqb expects expects refl)) in
-                shows-state v p page marked tr0 shared v3 v4 (shows3 a) later4 (st-inside a) set
-
-            module _ (done : List Did) (k : IsStillLocked p done v4 v5) where
-              abbrev tr5 : ℕ
-              tr5 = slice_index v5.snapshot.words (v.start.pages + p)
-
-              later5 : IsLater v v5
-              later5 = later-on v v4 v5 later4 done k.works.alone k.works.leaves.start k.works.leaves.parts
-
-              shows5 : Shows v p page shared tr5 v5
-              shows5 = shows-own v p page shared tr0 done v4 v5 shows4 later5 (run-follows v v4 v5 later4 done k.works.alone) k.own
-
-              unlock : RunsAlone (unlock-did p found ∷ []) [] v5 v6
-              unlock = unlock-runs p done v4 v5 under k found v6 u
-
-              later6 : IsLater v v6
-              later6 = let f = unlock-leaves p done v4 v5 under k found v6 u in later-on v v5 v6 later5 (unlock-did p found ∷ []) unlock f.start f.parts
-
-              follows6 : (found ≡ slice_index v5.snapshot.words p) × (v6.snapshot.words ≡ slice_set v5.snapshot.words p (found - 2 ^ 56))
-              follows6 = run-follows v v5 v6 later5 (unlock-did p found ∷ []) unlock
-
-              shows6 : Shows v p page (found - 2 ^ 56) tr5 v6
-              shows6 = shows-state v p page shared tr5 (found - 2 ^ 56) v5 v6 shows5 later6 (st-inside a) follows6.1
-
-              unlocked : state_of (found - 2 ^ 56) ≡ UNLOCKED
-              unlocked =
-                  let one : state_of found ≡ 1 = ap state_of (follows6.0 ∙ shows5.state) ∙ word-state 1 (version_of expects) (version-within expects) in
-                  less-state found (omega (arith, one)) ∙ ap (λ (n : ℕ). n - 1) one
-
-              -- it is clean
-              saved-clean : KnowsClean p v4 v5 → AreSaved v p page (found - 2 ^ 56) tr5
-              saved-clean known =
-                  let in' : v4.start.pages + p < length v4.snapshot.words =
-                  subst (λ (s : Origin). s.pages + p < length v4.snapshot.words) (sym later4.start)
-                  (subst (λ (n : ℕ). v.start.pages + p < n) (sym shows4.long) (tr-inside a)) in
-                  let below : p < v4.start.pages = subst (λ (s : Origin). p < s.pages) (sym later4.start) page in
-                  inr (inl unlocked, ap stands_dirty (sym (mapping-shown v p page v5 later5 p page)) ∙ known (later4.whole, later4.current) below in')
-
-          pub settles-write : (new : Flushed) → EndsWrite p v4 v5 old new → Settles p v v6 old new
-          settles-write new (left_clean done x k kept given un known notes e) a h =
-              settled v p page (found - 2 ^ 56) (tr5 a done k) v6 old new a (shows6 a done k) (ap (λ (f : Flushed). f.busy) e) (inl (saved-clean a done k known))
-          settles-write new (made_clean done f k saved known notes e) a h =
-              settled v p page (found - 2 ^ 56) (tr5 a done k) v6 old new a (shows6 a done k) (ap (λ (y : Flushed). y.busy) e) (inl (saved-clean a done k known))
-          settles-write new (refused done f count k dirty once kept allowed raised notes e) a h =
-              settled v p page (found - 2 ^ 56) (tr5 a done k) v6 old new a (shows6 a done k) (ap (λ (y : Flushed). y.busy) e) (inr (ap (λ (y : Flushed). y.failed) e))
+              pub settles-write : (wrote : Result Bool ℕ) → EndsWrite p v4 v5 wrote → (new : Flushed) → IsCounted p wrote old new → IsAlone v → HasNoLock v p → IsSettled p v6 old new
+              settles-write (Ok false) e new counted a h = record { busy = ap (λ (f : Flushed). f.busy) counted; saved = inl (saved-now e.done e.locked a e.known) }
+              settles-write (Ok true) e new counted a h = record { busy = ap (λ (f : Flushed). f.busy) counted; saved = inl (saved-now e.done e.locked a e.known) }
+              settles-write (Err count) e new counted a h = record { busy = ap (λ (f : Flushed). f.busy) counted; saved = inr (ap (λ (f : Flushed). f.failed) counted) }

@@ -1,48 +1,24 @@
--- The parts of a visit of a flush that come before its words are told: a mark, or its loss, and how a page under write-back stays locked.
-use Rattle.std.proofs.Common.{ℕ, false, ◌≡◌, ◌≢◌, ◌⊎◌, ◌++◌, List, [], ◌∷◌, true, Option, Some, None, refl, sym, ap, subst, ◌∙◌, inl, inr, ⊎_elim, is_some, true≢false}
+-- The parts of a visit of a flush that come before its words are told: what a load says of the page, and a mark, or its loss.
+use Rattle.std.proofs.Common.{[], ⊎_elim, ◌++◌, ◌∙◌, ◌∷◌, ◌≡◌, ◌≢◌, ◌⊎◌, ap, false, inl, inr, is_some, List, None, Option, refl, Some, subst, sym}
+use Rattle.std.proofs.Common.{true, true≢false, ℕ}
 use Rattle.std.proofs.lemmas.Bool.{false≢true}
 use Rattle.std.proofs.lemmas.Option.{same_Some}
-use Rattle.vm_core.specs.Words.{state_of, version_of, word_of, MARKED, UNLOCKED}
-use Rattle.vm_core.specs.FrameActs.{mapping_of}
-use Rattle.vm_laws_others.specs.Leaves.{stands_dirty}
-use Rattle.vm_rule.specs.declared.view.Did.{Did}
+use Rattle.vm_core.specs.Prelude.{mapping_of, MARKED, state_of, UNLOCKED, version_of, word_of}
+use Rattle.vm_rule.specs.Prelude.{did_exchange, dirty_in, Each, MarkTold, stands_dirty}
 use Rattle.vm_rule.specs.declared.view.Place.{Place}
 use Rattle.vm_rule.specs.declared.view.Place.TheVariants as places
-use Rattle.vm_rule.specs.declared.view.View.{View}
-use Rattle.vm_rule.specs.Views.{Each}
-use Rattle.vm_rule.specs.Locks.{MarkTold}
-use Rattle.vm_rule.specs.Log.{did_exchange}
-use Rattle.vm_rule.specs.Mappings.{dirty_in}
 use Rattle.vm_rule.proofs.WordFacts.{version-within, word-state}
-use Rattle.vm_step.specs.Evidence.{HasGiven, HasWritten}
-use Rattle.vm_step.specs.Passes.{found_by}
-use Rattle.vm_step.specs.declared.took.Took.{Took}
-use Rattle.vm_step.specs.declared.took.Took.TheVariants.{Taken, Lost}
-use Rattle.vm_step.specs.Alone.{RunsAlone}
+use Rattle.vm_step.specs.Prelude.{Did, found_by, HasGiven, HasWritten, RunsAlone, View}
+use Rattle.vm_step.specs.{declared.took.Took.TheVariants.Lost, declared.took.Took.TheVariants.Taken, declared.took.Took.Took}
 use Rattle.vm_step.proofs.Alone.{runs-one, runs-self}
-use Rattle.vm_step.proofs.Asides.{OnlyReads, keeps-self, aside-self, mark-only}
-use Rattle.vm_evict.specs.Evictions.{HasTaken}
-use Rattle.vm_evict.specs.Writes.{IsDirtyFrame, StaysOn}
-use Rattle.vm_evict.specs.Flushes.{IsLeft, IsStillLocked, LosesSeen, Marks, EndsWrite, left_clean, made_clean, refused}
-use Rattle.vm_evict.specs.declared.flushing.Flushed.{Flushed}
-use Rattle.vm_evict.proofs.Evidenced.{lost-one, wrote-taken}
+use Rattle.vm_step.proofs.Asides.{aside-self, keeps-self, mark-only, OnlyReads}
+use Rattle.vm_evict.specs.{Evictions.HasTaken, Writes.IsDirtyFrame, Writes.StaysOn}
+use Rattle.vm_evict.specs.Flushes.{IsLeft, LosesSeen, Marks}
+use Rattle.vm_evict.proofs.Evidenced.{has-lost, wrote-taken}
 
 -- an exchange that expected a word found there before, or the mark put in its place, and found another
 abbrev pub loses-seen : (a : List Did) (at : Place) (seen expects found new : ℕ) → found ≢ expects → Each (λ d. d.at ≡ at → d.wrote ≢ Some found) a → HasGiven a at seen → (expects ≡ seen) ⊎ ((expects ≡ word_of MARKED (version_of seen)) × HasWritten a at expects) → LosesSeen (a ++ did_exchange at expects found new ∷ []) at expects
-loses-seen a at seen expects found new ne foreign given expected = record {
-  lost = record {
-    earlier = a;
-    step = did_exchange at expects found new;
-    later = [];
-    cut = refl;
-    found = found;
-    lost = lost-one at expects found new ne;
-    foreign = foreign;
-  };
-  seen = seen;
-  given = given;
-  expected = expected;
-}
+loses-seen a at seen expects found new ne foreign given expected = record { lost = has-lost a [] at expects found new ne foreign; seen = seen; given = given; expected = expected }
 
 pub none-there : (o : Option ℕ) → is_some o ≡ false → o ≡ None
 none-there None e = refl
@@ -68,12 +44,6 @@ abbrev pub mark-did : ℕ → ℕ → ℕ → Did
 mark-did p word found = did_exchange (places.State p) word found (word_of MARKED (version_of word))
 
 module _ {X : Type 0} (p : ℕ) where
-  -- however the write ended, the page is locked as it was
-  pub still-locked : (v w : View X) (old new : Flushed) → EndsWrite p v w old new → (done : List Did) × IsStillLocked p done v w
-  still-locked v w old new (left_clean done x k kept given un known notes e) = (done, k)
-  still-locked v w old new (made_clean done f k saved known notes e) = (done, k)
-  still-locked v w old new (refused done f count k dirty once kept allowed raised notes e) = (done, k)
-
   pub left-of : (done : List Did) (v w : View X) → OnlyReads (λ q. q ≡ p) done v w → RunsAlone done [] v w → StaysOn p done → IsLeft p done v w
   left-of done v w r alone own = record { own = own; aside = r.aside; keeps = r.keeps; alone = alone }
 

@@ -1,30 +1,21 @@
 -- The pages of a flush, one after another: what they come to together.
-use Rattle.std.proofs.Common.{ℕ, Bool, true, ◌||◌, eqb, inl, inr, ⊎_elim, ◌⊎◌, ◌≢◌, ◌≡◌, ◌<◌, ◌≤◌, ◌+◌, ◌++◌, length, List, [], ◌∷◌, Option, suc, refl, sym, ap, subst, ◌∙◌, arith, append_assoc, false, Some}
+use Rattle.std.proofs.Common.{[], ⊎_elim, ◌++◌, ◌+◌, ◌<◌, ◌||◌, ◌∙◌, ◌∷◌, ◌≡◌, ◌≢◌, ◌≤◌, ◌⊎◌, ap, append_assoc, arith, Bool, eqb, false, inl, inr}
+use Rattle.std.proofs.Common.{length, List, Option, refl, Some, subst, suc, sym, true, ℕ}
 use Rattle.std.proofs.lemmas.Bool.{cases_Bool, cases_eq, eq-eqb, false≢true}
-use Rattle.vm_core.specs.declared.event.Mapping.{Mapping}
-use Rattle.vm_core.specs.Words.{UNLOCKED, LOCKED, MARKED, EVICTED}
+use Rattle.vm_core.specs.Prelude.{EVICTED, LOCKED, mapping_of, MARKED, state_of, UNLOCKED}
 use Rattle.vm_core.proofs.PageFacts.{some-is}
-use Rattle.vm_laws_others.specs.Leaves.{stands_dirty}
-use Rattle.vm_rule.specs.Views.{Each, seat_of}
-use Rattle.vm_rule_laws.specs.Standing.{PageStands, state_in, mapping_in}
-use Rattle.vm_owner.specs.Numbers.{has}
-use Rattle.vm_rule.specs.declared.view.Did.{Did}
-use Rattle.vm_rule.specs.declared.view.Note.{Note}
-use Rattle.vm_rule.specs.declared.view.Origin.{Origin}
-use Rattle.vm_rule.specs.declared.view.View.{View}
+use Rattle.vm_rule.specs.Prelude.{Each, has, Mapping, seat_of, stands_dirty}
 use Rattle.vm_rule.specs.declared.view.Place.TheVariants as places
-use Rattle.vm_rule.proofs.Entries.{append-none, each-map}
-use Rattle.vm_rule.proofs.Heard.{each-both}
-use Rattle.vm_step.specs.Asides.{IsAside, IsAsideOf}
-use Rattle.vm_step.specs.DeviceCalls.{IsCalledOnce, StaysHome}
+use Rattle.vm_rule.proofs.{Entries.append-none, Entries.each-map, Heard.each-both}
+use Rattle.vm_rule_laws.specs.Standing.{mapping_in, PageStands, state_in}
+use Rattle.vm_step.specs.Prelude.{Did, first_or, IsAlone, IsAside, IsAsideOf, IsCalledOnce, Note, Origin, RunsAlone, StaysHome, View}
 use Rattle.vm_step.proofs.Asides.{aside-self, aside-then, aside-within, whole-then}
 use Rattle.vm_step.proofs.DeviceCalls.{called-behind, called-front, home-else}
-use Rattle.vm_step.specs.Choices.{first_or}
-use Rattle.vm_step.specs.Alone.{IsAlone}
+use Rattle.vm_evict.specs.{declared.flushing.Flushed.Flushed, Tables.KnowsKept}
+use Rattle.vm_evict.specs.Flushes.{clean, done_of, failed, first_noted, FlushVisits, gone, HasNoLock, held, IsFlushedAlone, IsFlushedTo, IsLeft}
+use Rattle.vm_evict.specs.Flushes.{IsNoted, IsSaved, IsSettled, IsUnwritten, IsVisit, lost, noted_pages, nothing_flushed, RisesFrom, written}
 use Rattle.vm_evict.specs.Writes.{IsAllowed, IsOwnPlace, StaysOn}
-use Rattle.vm_evict.specs.Flushes.{HasNoLock, IsFlushedAlone, IsFlushedTo, IsLeft, IsNoted, IsSaved, IsSettled, RisesFrom, Settles, ShowsSamePage, FlushVisits, clean, done_of, failed, first_noted, gone, held, lost, noted_pages, nothing_flushed, written}
-use Rattle.vm_evict.specs.declared.flushing.Flushed.{Flushed}
-use Rattle.vm_evict.proofs.Moving.{own-else}
+use Rattle.vm_evict.proofs.{FlushAlone.mapping-shown, FlushAlone.state-shown, Moving.own-else, Tables.else-page}
 
 -- ---- notes by rising page
 
@@ -99,54 +90,67 @@ module _ {X : Type 0} where
     pub once : IsCalledOnce p done
     pub aside : IsAside p done v w
     pub frames : (w.frames ≡ v.frames) × (w.contents ≡ v.contents)
+    pub alone : RunsAlone done [] v w
 
-  from-left : (p : ℕ) (done : List Did) (v w : View X) → IsLeft p done v w → IsCalledOnce p done → IsPassedBy p v w
-  from-left p done v w l once = record { done = done; own = l.own; once = once; aside = l.aside; frames = (l.keeps.frames, l.keeps.contents) }
+  -- what a visit that did not fail counts, and which notes it leaves
+  pub record IsCalm (v w : View X) (old new : Flushed) : Type 0 where
+    pub counted : done_of new ≤ done_of old + 1
+    pub failed : new.failed ≡ old.failed
+    pub first : new.first ≡ old.first
+    pub notes : w.notes ≡ v.notes
 
-  pub passed-by : (p : ℕ) (v w : View X) (old new : Flushed) → FlushVisits p v w old new → IsPassedBy p v w
-  passed-by p v w old new (gone done x l m q g s e) = from-left p done v w l (inl m.home)
-  passed-by p v w old new (clean done x l m g s seen shows none q e) = from-left p done v w l (inl m.home)
-  passed-by p v w old new (held done x l m q g s e) = from-left p done v w l (inl m.home)
-  passed-by p v w old new (lost done x l m g d e) = from-left p done v w l (inl m.home)
-  passed-by p v w old new (written done x word l s m e) = from-left p done v w l (inr m.block)
-  passed-by p v w old new (failed word count u e) = record { done = u.done; own = u.own; once = inr u.block; aside = u.aside; frames = u.frames }
+  -- the page's write failed, or the visit was calm
+  abbrev pub FailsOrNot : ℕ → View X → View X → Flushed → Flushed → Type 0
+  FailsOrNot p v w old new = IsPassedBy p v w × (((word : ℕ) × (count : ℕ) × IsUnwritten p word count v w × (new ≡ record old { failed = old.failed + 1; first = first_or old.first p })) ⊎ IsCalm v w old new)
+
+  calm : (p : ℕ) (done : List Did) (v w : View X) (old new to : Flushed) → IsLeft p done v w → IsCalledOnce p done → new ≡ to → done_of to ≤ done_of old + 1 → to.failed ≡ old.failed → to.first ≡ old.first → FailsOrNot p v w old new
+  calm p done v w old new to l once e counted fails first = (
+    record { done = done; own = l.own; once = once; aside = l.aside; frames = (l.keeps.frames, l.keeps.contents); alone = l.alone },
+    inr record { counted = subst (λ (f : Flushed). done_of f ≤ done_of old + 1) (sym e) counted; failed = ap (λ (f : Flushed). f.failed) e ∙ fails; first = ap (λ (f : Flushed). f.first) e ∙ first; notes = l.keeps.notes },
+  )
+
+  pub passed-by : (p : ℕ) (v w : View X) (old new : Flushed) → FlushVisits p v w old new → FailsOrNot p v w old new
+  passed-by p v w old new (gone done x l m q g s e) = calm p done v w old new old l (inl m.home) e (omega arith) refl refl
+  passed-by p v w old new (clean done x l m g s seen shows none q e) = calm p done v w old new old l (inl m.home) e (omega arith) refl refl
+  passed-by p v w old new (held done x l m q g s e) = calm p done v w old new (record old { busy = old.busy + 1 }) l (inl m.home) e (omega arith) refl refl
+  passed-by p v w old new (lost done x l m g d e) = calm p done v w old new (record old { busy = old.busy + 1 }) l (inl m.home) e (omega arith) refl refl
+  passed-by p v w old new (written done x word l s m e) = calm p done v w old new (record old { written = old.written + 1 }) l (inr m.block) e (omega arith) refl refl
+  passed-by p v w old new (failed word count u e) = (record { done = u.done; own = u.own; once = inr u.block; aside = u.aside; frames = u.frames; alone = u.alone }, inl (word, count, u, e))
 
   -- one page more counts once at most
-  counted : (p n : ℕ) (v w : View X) (old new : Flushed) → FlushVisits p v w old new → done_of old ≤ n → done_of new ≤ suc n
-  counted p n v w old new (gone done x l m q g s e) c = subst (λ (f : Flushed). done_of f ≤ suc n) (sym e) (omega (arith, c))
-  counted p n v w old new (clean done x l m g s seen shows none q e) c = subst (λ (f : Flushed). done_of f ≤ suc n) (sym e) (omega (arith, c))
-  counted p n v w old new (held done x l m q g s e) c = subst (λ (f : Flushed). done_of f ≤ suc n) (sym e) (omega (arith, c))
-  counted p n v w old new (lost done x l m g d e) c = subst (λ (f : Flushed). done_of f ≤ suc n) (sym e) (omega (arith, c))
-  counted p n v w old new (written done x word l s m e) c = subst (λ (f : Flushed). done_of f ≤ suc n) (sym e) (omega (arith, c))
-  counted p n v w old new (failed word count u e) c = subst (λ (f : Flushed). done_of f ≤ suc n) (sym e) (omega (arith, c))
+  counted : (p n : ℕ) (v w : View X) (old new : Flushed) → FailsOrNot p v w old new → done_of old ≤ n → done_of new ≤ suc n
+  counted p n v w old new by c =
+      ⊎_elim (λ r. subst (λ (f : Flushed). done_of f ≤ suc n) (sym r.3) (omega (arith, c))) (λ r. let one = r.counted in omega (arith, c, one)) by.1
 
-  -- a page that did not fail brings no note
-  noted-same : (n : ℕ) (u v w : View X) (old new : Flushed) → IsNoted n old u v → w.notes ≡ v.notes → new.failed ≡ old.failed → new.first ≡ old.first → IsNoted (suc n) new u w
-  noted-same n u v w old new k same fails least = record {
-    notes = k.notes;
-    after = same ∙ k.after;
-    each = k.each ∙ sym fails;
-    rises = rises-more 0 n k.notes k.rises;
-    first = least ∙ k.first;
-    allowed = k.allowed;
-  }
+  -- what the notes are then, and that the page is noted where its write failed, and those noted before still
+  record NotedOn (n : ℕ) (u v w : View X) (old new : Flushed) (before : IsNoted n old u v) : Type 0 where
+    now : IsNoted (suc n) new u w
+    failed : new.failed ≡ old.failed + 1 → has n (noted_pages now.notes) ≡ true
+    still : (p : ℕ) → has p (noted_pages before.notes) ≡ true → has p (noted_pages now.notes) ≡ true
 
-  noted-on : (n : ℕ) (u v w : View X) (old new : Flushed) → v.start ≡ u.start → IsNoted n old u v → FlushVisits n v w old new → IsNoted (suc n) new u w
-  noted-on n u v w old new start k (gone done x l m q g s e) = noted-same n u v w old new k l.keeps.notes (ap (λ (f : Flushed). f.failed) e) (ap (λ (f : Flushed). f.first) e)
-  noted-on n u v w old new start k (clean done x l m g s seen shows none q e) = noted-same n u v w old new k l.keeps.notes (ap (λ (f : Flushed). f.failed) e) (ap (λ (f : Flushed). f.first) e)
-  noted-on n u v w old new start k (held done x l m q g s e) = noted-same n u v w old new k l.keeps.notes (ap (λ (f : Flushed). f.failed) e) (ap (λ (f : Flushed). f.first) e)
-  noted-on n u v w old new start k (lost done x l m g d e) = noted-same n u v w old new k l.keeps.notes (ap (λ (f : Flushed). f.failed) e) (ap (λ (f : Flushed). f.first) e)
-  noted-on n u v w old new start k (written done x word l s m e) = noted-same n u v w old new k l.keeps.notes (ap (λ (f : Flushed). f.failed) e) (ap (λ (f : Flushed). f.first) e)
-  noted-on n u v w old new start k (failed word count r e) =
-      let note : Note = record { page = n; count = count } in
+  noted-on : (n : ℕ) (u v w : View X) (old new : Flushed) → v.start ≡ u.start → (k : IsNoted n old u v) → FailsOrNot n v w old new → NotedOn n u v w old new k
+  noted-on n u v w old new start k by =
+      ⊎_elim
+      (λ r.
+      let note : Note = record { page = n; count = r.1 } in
       record {
-        notes = k.notes ++ note ∷ [];
-        after = r.noted ∙ ap (λ (ns : List Note). ns ++ note ∷ []) k.after ∙ append_assoc u.notes k.notes (note ∷ []);
-        each = length-end k.notes note ∙ ap (λ (m : ℕ). m + 1) k.each ∙ sym (ap (λ (f : Flushed). f.failed) e);
-        rises = rises-end 0 n count k.notes k.rises;
-        first = ap (λ (f : Flushed). f.first) e ∙ ap (λ (o : Option ℕ). first_or o n) k.first ∙ first-end n count k.notes;
-        allowed = each-both (λ (m : Note). IsAllowed u.start m.page m.count) k.notes (note ∷ []) k.allowed (subst (λ (o : Origin). IsAllowed o n count) start r.allowed, tt);
-      }
+        now = record {
+          notes = k.notes ++ note ∷ [];
+          after = r.2.noted ∙ ap (λ (ns : List Note). ns ++ note ∷ []) k.after ∙ append_assoc u.notes k.notes (note ∷ []);
+          each = length-end k.notes note ∙ ap (λ (m : ℕ). m + 1) k.each ∙ sym (ap (λ (f : Flushed). f.failed) r.3);
+          rises = rises-end 0 n r.1 k.notes k.rises;
+          first = ap (λ (f : Flushed). f.first) r.3 ∙ ap (λ (o : Option ℕ). first_or o n) k.first ∙ first-end n r.1 k.notes;
+          allowed = each-both (λ (m : Note). IsAllowed u.start m.page m.count) k.notes (note ∷ []) k.allowed (subst (λ (o : Origin). IsAllowed o n r.1) start r.2.allowed, tt);
+        };
+        failed = λ more. has-last n r.1 k.notes;
+        still = λ p h. has-kept p k.notes note h;
+      })
+      (λ r. record {
+        now = record { notes = k.notes; after = r.notes ∙ k.after; each = k.each ∙ sym r.failed; rises = rises-more 0 n k.notes k.rises; first = r.first ∙ k.first; allowed = k.allowed };
+        failed = λ more. absurd (not-more old new r.failed more);
+        still = λ p h. h;
+      })
+      by.1
 
   -- ---- all pages below n
 
@@ -165,32 +169,19 @@ module _ {X : Type 0} where
 
   -- ---- a pass that is alone
 
-  -- a page whose write failed is noted
-  noted-failed : (n : ℕ) (u v w : View X) (old new : Flushed) (start : v.start ≡ u.start) (k : IsNoted n old u v) (x : FlushVisits n v w old new) → new.failed ≡ old.failed + 1 → has n (noted_pages (noted-on n u v w old new start k x).notes) ≡ true
-  unfolding noted-on
-  noted-failed n u v w old new start k (gone done y l m q g s e) more = absurd (not-more old new (ap (λ (f : Flushed). f.failed) e) more)
-  noted-failed n u v w old new start k (clean done y l m g s seen shows none q e) more = absurd (not-more old new (ap (λ (f : Flushed). f.failed) e) more)
-  noted-failed n u v w old new start k (held done y l m q g s e) more = absurd (not-more old new (ap (λ (f : Flushed). f.failed) e) more)
-  noted-failed n u v w old new start k (lost done y l m g d e) more = absurd (not-more old new (ap (λ (f : Flushed). f.failed) e) more)
-  noted-failed n u v w old new start k (written done y word l s m e) more = absurd (not-more old new (ap (λ (f : Flushed). f.failed) e) more)
-  noted-failed n u v w old new start k (failed word count r e) more = has-last n count k.notes
-
-  -- and stays noted
-  noted-still : (p n : ℕ) (u v w : View X) (old new : Flushed) (start : v.start ≡ u.start) (k : IsNoted n old u v) (x : FlushVisits n v w old new) → has p (noted_pages k.notes) ≡ true → has p (noted_pages (noted-on n u v w old new start k x).notes) ≡ true
-  unfolding noted-on noted-same
-  noted-still p n u v w old new start k (gone done y l m q g s e) h = h
-  noted-still p n u v w old new start k (clean done y l m g s seen shows none q e) h = h
-  noted-still p n u v w old new start k (held done y l m q g s e) h = h
-  noted-still p n u v w old new start k (lost done y l m g d e) h = h
-  noted-still p n u v w old new start k (written done y word l s m e) h = h
-  noted-still p n u v w old new start k (failed word count r e) h = has-kept p k.notes (record { page = n; count = count }) h
-
-  -- a page whose words are shown as before is saved as before
-  saved-still : (p : ℕ) (v w : View X) → ShowsSamePage v w p → IsSaved v p → IsSaved w p
-  saved-still p v w same saved =
+  -- a page is saved as before after steps on another one
+  saved-still : (n p : ℕ) (v w : View X) → IsPassedBy n v w → IsAlone v → p < v.start.pages → p ≢ n → IsSaved v p → IsSaved w p
+  saved-still n p v w by a page ne saved =
+      let else-own : (d : Did) → IsOwnPlace n d.at → (d.at ≢ places.State p) × (d.at ≢ places.Translation p) × (d.at ≢ places.Fault p) = λ d own. own-else n p d.at (λ e. ne (sym e)) own in
+      let on : (P : Did → Type 0) → ((d : Did) → IsOwnPlace n d.at → P d) → Each P by.done = λ P f. each-map (λ (d : Did). IsOwnPlace n d.at) P f by.done by.own in
+      let same : KnowsKept p v w =
+      else-page by.done [] v w by.aside.start by.alone a p page (on (λ d. d.at ≢ places.State p) (λ d own. (else-own d own).0)) (on (λ d. d.at ≢ places.Translation p) (λ d own. (else-own d own).1)) (on (λ d. d.at ≢ places.Fault p) (λ d own. (else-own d own).2)) in
+      let then : p < w.start.pages = subst (λ (o : Origin). p < o.pages) (sym by.aside.start) page in
+      let state : state_in w.start w.snapshot p ≡ state_in v.start v.snapshot p = state-shown p w then ∙ ap state_of same.state ∙ sym (state-shown p v page) in
+      let mapping : mapping_in w.start w.snapshot p ≡ mapping_in v.start v.snapshot p = mapping-shown p w then ∙ ap mapping_of same.translation ∙ sym (mapping-shown p v page) in
       ⊎_elim
-      (λ out. inl (same.state ∙ out))
-      (λ c. inr (⊎_elim (λ e. inl (same.state ∙ e)) (λ e. inr (same.state ∙ e)) c.0, ap stands_dirty same.mapping ∙ c.1))
+      (λ out. inl (state ∙ out))
+      (λ c. inr (⊎_elim (λ e. inl (state ∙ e)) (λ e. inr (state ∙ e)) c.0, ap stands_dirty mapping ∙ c.1))
       saved
 
   -- a page that is saved, as pages stand, is evicted, or in a frame and clean
@@ -206,41 +197,39 @@ module _ {X : Type 0} where
       not-in : (state : ℕ) → state ≢ UNLOCKED → state ≢ MARKED → (state_in v.start v.snapshot p ≡ UNLOCKED) ⊎ (state_in v.start v.snapshot p ≡ MARKED) → state_in v.start v.snapshot p ≢ state
       not-in state a b e is = ⊎_elim (λ u. a (sym is ∙ u)) (λ m. b (sym is ∙ m)) e
 
-  alone-more : (n : ℕ) (u v w : View X) (old new : Flushed) → n < u.start.pages → (f : IsFlushedTo n old u v) (x : FlushVisits n v w old new) → Settles n v w old new
-      → IsAlone u → ((p : ℕ) → p < u.start.pages → HasNoLock u p) → IsFlushedAlone (suc n) new (noted-on n u v w old new f.aside.start f.noted x).notes u w
-  alone-more n u v w old new page f x s a free =
-      let before : IsFlushedAlone n old f.noted.notes u v = f.alone a free in
-      let mine : HasNoLock v n = ((f.aside.holds n).exclusive ∙ (free n page).0, (f.aside.holds n).shares ∙ (free n page).1) in
-      let now : IsSettled n v w old new = s (whole-then u v f.aside.parts a.0, f.aside.alone.current a.1) mine in
-      let below : n < v.start.pages = subst (λ (o : Origin). n < o.pages) (sym f.aside.start) page in
-      record {
-        busy = now.busy ∙ before.busy;
-        releases = now.releases ∙ before.releases;
-        pages = λ p l.
-            ⊎_elim
-            (λ (e : p ≡ n).
-            subst (λ (q : ℕ). IsSaved w q ⊎ (has q (noted_pages (noted-on n u v w old new f.aside.start f.noted x).notes) ≡ true)) (sym e)
-            (⊎_elim (λ saved. inl saved) (λ more. inr (noted-failed n u v w old new f.aside.start f.noted x more)) now.saved))
-            (λ (ne : p ≢ n).
-            ⊎_elim
-            (λ saved. inl (saved-still p v w (now.others p ne (omega (arith, l, ne, below))) saved))
-            (λ h. inr (noted-still p n u v w old new f.aside.start f.noted x h))
-            (before.pages p (omega (arith, l, ne))))
-            (cases_eq p n);
-      }
-
-  pub flushed-more : (n : ℕ) (u v w : View X) (old new : Flushed) → n < u.start.pages → IsFlushedTo n old u v → FlushVisits n v w old new → Settles n v w old new → IsFlushedTo (suc n) new u w
-  flushed-more n u v w old new page f x s =
-      let by : IsPassedBy n v w = passed-by n v w old new x in
+  pub flushed-more : (n : ℕ) (u v w : View X) (old new : Flushed) → n < u.start.pages → IsFlushedTo n old u v → IsVisit n v w old new → IsFlushedTo (suc n) new u w
+  flushed-more n u v w old new page f x =
+      let fails : FailsOrNot n v w old new = passed-by n v w old new x.ends in
+      let by : IsPassedBy n v w = fails.0 in
       let wide : IsAsideOf (λ p. p < u.start.pages) by.done v w = aside-within (λ q. q ≡ n) (λ p. p < u.start.pages) by.done v w (λ q e. subst (λ (k : ℕ). k < u.start.pages) (sym e) page) by.aside in
+      let notes : NotedOn n u v w old new f.noted = noted-on n u v w old new f.aside.start f.noted fails in
       record {
-        each = (v, old, f.each, x);
-        all = counted n n v w old new x f.all;
+        each = (v, old, f.each, x.ends);
+        all = counted n n v w old new fails f.all;
         done = f.done ++ by.done;
         own = each-both (OnBelow (suc n)) f.done by.done (below-more n f.done f.own) (on-below n by.done by.own);
         once = once-more n f.done by.done f.own f.once by.own by.once;
         aside = aside-then (λ p. p < u.start.pages) f.done by.done u v w f.aside wide;
         frames = (by.frames.0 ∙ f.frames.0, by.frames.1 ∙ f.frames.1);
-        noted = noted-on n u v w old new f.aside.start f.noted x;
-        alone = alone-more n u v w old new page f x s;
+        noted = notes.now;
+        alone = λ a free.
+            let before : IsFlushedAlone n old f.noted.notes u v = f.alone a free in
+            let now : IsAlone v = (whole-then u v f.aside.parts a.0, f.aside.alone.current a.1) in
+            let mine : HasNoLock v n = ((f.aside.holds n).exclusive ∙ (free n page).0, (f.aside.holds n).shares ∙ (free n page).1) in
+            let settled : IsSettled n w old new = x.settles now mine in
+            record {
+              busy = settled.busy ∙ before.busy;
+              releases = by.alone.releases now.0 now.1 ∙ append-none v.releases ∙ before.releases;
+              pages = λ p l.
+                  ⊎_elim
+                  (λ (e : p ≡ n).
+                  subst (λ (q : ℕ). IsSaved w q ⊎ (has q (noted_pages notes.now.notes) ≡ true)) (sym e)
+                  (⊎_elim (λ saved. inl saved) (λ more. inr (notes.failed more)) settled.saved))
+                  (λ (ne : p ≢ n).
+                  ⊎_elim
+                  (λ saved. inl (saved-still n p v w by now (subst (λ (o : Origin). p < o.pages) (sym f.aside.start) (omega (arith, l, page))) ne saved))
+                  (λ h. inr (notes.still p h))
+                  (before.pages p (omega (arith, l, ne))))
+                  (cases_eq p n);
+            };
       }

@@ -1,40 +1,28 @@
 -- The visit of one page by a flush, by the words that its steps found.
-use Rattle.std.proofs.Common.{ℕ, false, ◌≡◌, ◌≢◌, ◌⊎◌, ◌+◌, ◌++◌, List, [], ◌∷◌, Some, None, refl, sym, ap, subst, ◌∙◌, inl, inr, ⊎_elim}
-use Rattle.vm_core.specs.Words.{state_of, version_of, word_of, MARKED, UNLOCKED, EVICTED}
-use Rattle.vm_core.specs.FrameActs.{mapping_of}
-use Rattle.vm_laws_others.specs.Leaves.{stands_dirty}
-use Rattle.vm_owner.specs.Kept.{Start}
-use Rattle.vm_rule.specs.declared.view.Did.{Did}
-use Rattle.vm_rule.specs.declared.view.Origin.{Origin}
-use Rattle.vm_rule.specs.declared.view.Place.{Place}
+use Rattle.std.proofs.Common.{[], ⊎_elim, ◌++◌, ◌+◌, ◌∙◌, ◌∷◌, ◌≡◌, ◌≢◌, ◌⊎◌, ap, Bool, Err, false, inl, inr, List, None, Ok, refl, Result, Some}
+use Rattle.std.proofs.Common.{subst, sym, true, ℕ}
+use Rattle.vm_core.specs.Prelude.{EVICTED, mapping_of, MARKED, no_seat, state_of, UNLOCKED, version_of, word_of}
+use Rattle.vm_rule.specs.Prelude.{did_exchange, did_load, dirty_in, Each, IsUnheld, LookTold, Seat, seat_of, stands_dirty, Start, TranslationTold}
+use Rattle.vm_rule.specs.Prelude.{UnshareTold, WriteLockTold}
 use Rattle.vm_rule.specs.declared.view.Place.TheVariants as places
-use Rattle.vm_rule.specs.declared.view.View.{View}
-use Rattle.vm_rule.specs.Views.{Each}
-use Rattle.vm_rule.specs.Loads.{TranslationTold}
-use Rattle.vm_rule.specs.Locks.{UnshareTold, WriteLockTold}
-use Rattle.vm_rule.specs.Log.{did_exchange, did_load}
-use Rattle.vm_rule.specs.Looks.{LookTold}
-use Rattle.vm_rule.specs.Mappings.{dirty_in}
 use Rattle.vm_rule.proofs.Heard.{each-both}
 use Rattle.vm_rule.proofs.WordFacts.{version-within, word-made, word-version}
-use Rattle.vm_step.specs.Asides.{IsAside}
-use Rattle.vm_step.specs.Evidence.{HasGiven, HasWritten}
-use Rattle.vm_step.specs.declared.took.Took.TheVariants.{Taken, Lost}
-use Rattle.vm_step.specs.Alone.{RunsAlone, WritesNone}
-use Rattle.vm_step.specs.DeviceCalls.{GoesOnce, StaysHome}
-use Rattle.vm_step.proofs.Alone.{runs-one, runs-then}
-use Rattle.vm_step.proofs.Asides.{OnlyReads, aside-then, lost-only, look-only, only-then, translation-only}
-use Rattle.vm_step.specs.Choices.{IsHeld}
-use Rattle.vm_step.proofs.DeviceCalls.{home-both, no-fault, once-behind, once-front}
+use Rattle.vm_step.specs.Prelude.{Did, GoesOnce, HasGiven, HasWritten, IsAside, IsHeld, LeavesRest, Origin, RunsAlone, View, WritesNone}
+use Rattle.vm_step.specs.declared.took.Took.TheVariants.{Lost, Taken}
+use Rattle.vm_step.proofs.Alone.{runs-one, runs-then, stays-alone}
+use Rattle.vm_step.proofs.Asides.{aside-then, look-only, lost-only, only-then, OnlyReads, translation-only}
+use Rattle.vm_step.proofs.DeviceCalls.{home-both, once-behind, once-front}
 use Rattle.vm_step.proofs.Evidenced.{given-behind, given-front, written-behind, written-front}
-use Rattle.vm_evict.specs.Evictions.{HasSaved}
-use Rattle.vm_evict.specs.Writes.{HasNotSaved, IsAllowed, IsFoundDirty, IsOwnPlace, StaysOn}
-use Rattle.vm_evict.specs.Flushes.{IsLeft, IsStillLocked, IsUnderWriteBack, Marks, SharesSeen, FlushVisits, EndsWrite, clean, failed, gone, held, left_clean, lost, made_clean, refused, written}
+use Rattle.vm_step.proofs.Leaves.{aside-of, leaves-then}
+use Rattle.vm_step.proofs.steps.Share.{unshare-did, unshare-leaves, unshare-others}
+use Rattle.vm_step.proofs.steps.WriteBack.{write_lock-did, write_lock-leaves, write_lock-others}
 use Rattle.vm_evict.specs.declared.flushing.Flushed.{Flushed}
-use Rattle.vm_evict.proofs.Copying.{kept-both, no-mapping, unsaved-both, unsaved-load, unsaved-one}
-use Rattle.vm_evict.proofs.Evidenced.{dirty-front, none-left, saved-under, wrote-taken}
+use Rattle.vm_evict.specs.Flushes.{clean, failed, FlushVisits, gone, held, IsCounted, IsLeft, lost, Marks, SharesSeen, written}
+use Rattle.vm_evict.specs.Writes.{EndsWrite, HasNotSaved, IsAllowed, IsFoundDirty, IsOwnPlace, IsStillLocked, StaysOn}
+use Rattle.vm_evict.proofs.{Copying.stays-on, WriteLocks.lock-now, WriteLocks.unlocked-seat}
+use Rattle.vm_evict.proofs.Evidenced.{dirty-front, none-both, none-kept, none-silent, not-locking, saved-under, unsaved-both, unsaved-load}
+use Rattle.vm_evict.proofs.Evidenced.{unsaved-one, wrote-taken}
 use Rattle.vm_evict.proofs.FlushMarks.{left-of, loses-seen, mark-did, marked-from, marked-only}
-use Rattle.vm_evict.proofs.FlushSteps.{lock-did, lock-keeps, lock-leaves, notes-now, unlock-did, whole-aside, whole-did, whole-frames, whole-runs}
 
 module _ {X : Type 0} (p : ℕ) where
   -- ---- the look, and the load of the translation word
@@ -93,7 +81,7 @@ module _ {X : Type 0} (p : ℕ) where
       dirty-before behind d = (d.0, (tr, record { earlier = look-did; step = did_load (places.Translation p) tr; later = behind; cut = refl; gives = (refl, refl) }, d.1))
 
       none-written : (found : ℕ) → Each (λ d. d.at ≡ places.State p → d.wrote ≢ Some found) reads-did
-      none-written found = none-left reads-did (places.State p) found (refl, (refl, tt))
+      none-written found = none-kept reads-did (places.State p) found ((λ here. refl), ((λ here. refl), tt))
 
       -- an exchange on the page's state word writes no page
       exchange-kept : (expects found new : ℕ) → HasNotSaved p (did_exchange (places.State p) expects found new ∷ [])
@@ -133,8 +121,8 @@ module _ {X : Type 0} (p : ℕ) where
             (λ one. subst (λ (t : List Did). HasNotSaved p t) (sym one) (exchange-kept word word (word_of MARKED (version_of word))))
             m.2)
 
-        pub home-front : v.out ≡ None → v3.out ≡ None
-        home-front home = front.aside.out ∙ home
+        pub home-front : v1.out ≡ None → v3.out ≡ None
+        home-front home = m.1.aside.out ∙ (translation-only (λ q. q ≡ p) p tr v1 v2 refl load).aside.out ∙ home
 
         module _ (expects : ℕ) (is : expects ≡ word_of MARKED (version_of word)) where
           -- the word that the lock expects is the one found, where that was a mark, or else the mark that was put in its place
@@ -171,81 +159,82 @@ module _ {X : Type 0} (p : ℕ) where
 
           -- ---- it was locked, and given up again
 
-          module _ (home : v3.out ≡ None) (v4 : View X) (l : WriteLockTold tied p expects expects v3 v4) (under : IsUnderWriteBack p v4) (v5 : View X) (found : ℕ) (v6 : View X) (u : UnshareTold p found v5 v6) where
+          module _ (home : v3.out ≡ None) (v4 : View X) (l : WriteLockTold tied p expects expects v3 v4) (v5 : View X) (found : ℕ) (v6 : View X) (u : UnshareTold p found v5 v6) where
             module _ (done : List Did) (k : IsStillLocked p done v4 v5) where
-              abbrev back-did : List Did
-              back-did = whole-did p done v4 v5 under k found v6 u tied expects v3 l
+              abbrev lock : List Did
+              lock = write_lock-did refl l ∷ []
+
+              abbrev end : List Did
+              end = unshare-did u ∷ []
 
               abbrev all-did : List Did
-              all-did = front-did ++ back-did
+              all-did = front-did ++ (lock ++ (done ++ end))
+
+              lock-rest : LeavesRest p lock v3 v4
+              lock-rest = write_lock-leaves refl l
+
+              back-leaves : LeavesRest p (lock ++ (done ++ end)) v3 v6
+              back-leaves = leaves-then p lock (done ++ end) v3 v4 v6 lock-rest (leaves-then p done end v4 v5 v6 k.works.leaves (unshare-leaves u))
+
+              back-runs : RunsAlone (lock ++ (done ++ end)) [] v3 v6
+              back-runs =
+                  runs-then lock (done ++ end) [] [] v3 v4 v6 lock-rest.start lock-rest.parts (write_lock-others refl l (λ q. q ≡ p) refl).runs
+                  (runs-then done end [] [] v4 v5 v6 k.works.leaves.start k.works.leaves.parts k.works.alone (unshare-others u (λ q. q ≡ p) refl).runs)
+
+              back-aside : IsAside p (lock ++ (done ++ end)) v3 v6
+              back-aside =
+                  let seat : seat_of v6 p ≡ no_seat = unlocked-seat u (k.works.seat ∙ lock-now l) in
+                  let un : IsUnheld v3 p = l.unheld refl in
+                  aside-of p (lock ++ (done ++ end)) v3 v6 back-leaves (ap (λ (x : View X). x.out) u.brings.view ∙ k.home ∙ sym home)
+                  record {
+                    shares = ap (λ (s : Seat). s.shares) seat ∙ sym un.shares;
+                    exclusive = ap (λ (s : Seat). s.exclusive) seat ∙ sym un.exclusive;
+                    writing = ap (λ (s : Seat). s.writing) seat ∙ sym un.writing;
+                  }
+                  (λ locking. absurd (not-locking v3 p un locking)) (stays-alone (lock ++ (done ++ end)) v3 v6 back-leaves.start back-runs)
 
               all-aside : IsAside p all-did v v6
-              all-aside = aside-then (λ q. q ≡ p) front-did back-did v v3 v6 front.aside (whole-aside p done v4 v5 under k found v6 u tied expects v3 l home)
-
-              frames : (v6.frames ≡ v3.frames) × (v6.contents ≡ v3.contents)
-              frames = whole-frames p done v4 v5 under k found v6 u tied expects v3 l
-
-              all-frames : (v6.frames ≡ v.frames) × (v6.contents ≡ v.contents)
-              all-frames = (frames.0 ∙ front.keeps.frames, frames.1 ∙ front.keeps.contents)
-
-              notes-before : v4.notes ≡ v.notes
-              notes-before = (lock-keeps p tied expects v3 v4 l).notes ∙ front.keeps.notes
-
-              notes-after : v6.notes ≡ v5.notes
-              notes-after = notes-now p done v4 v5 under k found v6 u tied expects v3 l
+              all-aside = aside-then (λ q. q ≡ p) front-did (lock ++ (done ++ end)) v v3 v6 front.aside back-aside
 
               all-runs : RunsAlone all-did [] v v6
-              all-runs = runs-then front-did back-did [] [] v v3 v6 front.aside.start front.aside.parts front-runs (whole-runs p done v4 v5 under k found v6 u tied expects v3 l)
+              all-runs = runs-then front-did (lock ++ (done ++ end)) [] [] v v3 v6 front.aside.start front.aside.parts front-runs back-runs
 
               all-own : StaysOn p all-did
-              all-own = each-both (λ (d : Did). IsOwnPlace p d.at) front-did back-did front-own (inl refl, each-both (λ (d : Did). IsOwnPlace p d.at) done (unlock-did p found ∷ []) k.stays (inl refl, tt))
+              all-own = each-both (λ (d : Did). IsOwnPlace p d.at) front-did (lock ++ (done ++ end)) front-own (inl refl, each-both (λ (d : Did). IsOwnPlace p d.at) done end (stays-on p done k.does) (inl refl, tt))
+
+              all-frames : (v6.frames ≡ v.frames) × (v6.contents ≡ v.contents)
+              all-frames =
+                  let a = (unshare-others u (λ q. q ≡ p) refl).keeps in
+                  let b = (write_lock-others refl l (λ q. q ≡ p) refl).keeps in
+                  (a.frames ∙ k.frames.0 ∙ b.frames ∙ front.keeps.frames, a.contents ∙ k.frames.1 ∙ b.contents ∙ front.keeps.contents)
+
+              notes-before : v4.notes ≡ v.notes
+              notes-before = (write_lock-others refl l (λ q. q ≡ p) refl).keeps.notes ∙ front.keeps.notes
 
               all-left : v5.notes ≡ v4.notes → IsLeft p all-did v v6
-              all-left same = record { own = all-own; aside = all-aside; keeps = record { frames = all-frames.0; contents = all-frames.1; notes = notes-after ∙ same ∙ notes-before }; alone = all-runs }
+              all-left same = record { own = all-own; aside = all-aside; keeps = record { frames = all-frames.0; contents = all-frames.1; notes = (unshare-others u (λ q. q ≡ p) refl).keeps.notes ∙ same ∙ notes-before }; alone = all-runs }
 
-              given-in : (at : Place) (x : ℕ) → HasGiven done at x → HasGiven all-did at x
-              given-in at x h =
-                  given-behind front-did back-did at x
-                  (given-behind (lock-did p expects ∷ []) (done ++ unlock-did p found ∷ []) at x (given-front done (unlock-did p found ∷ []) at x h))
+              lock-kept : HasNotSaved p lock
+              lock-kept = exchange-kept expects expects (word_of 1 (version_of expects))
 
-              written-in : (at : Place) (x : ℕ) → HasWritten done at x → HasWritten all-did at x
-              written-in at x h =
-                  written-behind front-did back-did at x
-                  (written-behind (lock-did p expects ∷ []) (done ++ unlock-did p found ∷ []) at x (written-front done (unlock-did p found ∷ []) at x h))
+              end-kept : HasNotSaved p end
+              end-kept = unsaved-one p (unshare-did u) refl refl
 
-              -- neither the lock nor its end moves the block
-              lock-home : StaysHome p (lock-did p expects ∷ [])
-              lock-home = (no-fault p (lock-did p expects) refl, tt)
-
-              unlock-home : StaysHome p (unlock-did p found ∷ [])
-              unlock-home = (no-fault p (unlock-did p found) refl, tt)
-
+              -- the block moves in the write alone
               once-in : GoesOnce p done → GoesOnce p all-did
-              once-in o =
-                  once-behind p front-did back-did front-kept.home
-                  (once-behind p (lock-did p expects ∷ []) (done ++ unlock-did p found ∷ []) lock-home (once-front p done (unlock-did p found ∷ []) o unlock-home))
-
-              saved-in : (frame : ℕ) → HasSaved p frame done done → HasSaved p frame (done ++ unlock-did p found ∷ []) all-did
-              saved-in frame h = saved-under p frame done (unlock-did p found ∷ []) done all-did h (once-in h.block)
+              once-in o = once-behind p front-did (lock ++ (done ++ end)) front-kept.home (once-behind p lock (done ++ end) lock-kept.home (once-front p done end o end-kept.home))
 
               all-kept : WritesNone (places.Translation p) done → WritesNone (places.Translation p) all-did
               all-kept kept =
-                  kept-both p front-did back-did front-kept.kept
-                  (kept-both p (lock-did p expects ∷ []) (done ++ unlock-did p found ∷ []) (exchange-kept expects expects (word_of 1 (version_of expects))).kept
-                  (kept-both p done (unlock-did p found ∷ []) kept (no-mapping p (unlock-did p found) refl, tt)))
-
-              all-unsaved : HasNotSaved p done → HasNotSaved p all-did
-              all-unsaved h = record {
-                kept = all-kept h.kept;
-                home = home-both p front-did back-did front-kept.home (home-both p (lock-did p expects ∷ []) (done ++ unlock-did p found ∷ []) lock-home (home-both p done (unlock-did p found ∷ []) h.home unlock-home));
-              }
+                  none-both (places.Translation p) front-did (lock ++ (done ++ end)) front-kept.kept
+                  (none-both (places.Translation p) lock (done ++ end) lock-kept.kept (none-both (places.Translation p) done end kept end-kept.kept))
 
               abbrev share : (state_of word ≡ UNLOCKED) ⊎ (state_of word ≡ MARKED) → (frame : ℕ) × (mapping_of tr ≡ Some (dirty_in frame)) → SharesSeen p word all-did
               share unheld d = record {
                 taken = record {
                   earlier = front-did;
-                  step = lock-did p expects;
-                  later = done ++ unlock-did p found ∷ [];
+                  step = write_lock-did refl l;
+                  later = done ++ end;
                   cut = refl;
                   place = refl;
                   expected = ap (λ (n : ℕ). Some n) is;
@@ -257,25 +246,35 @@ module _ {X : Type 0} (p : ℕ) where
                 from = marked-from p word v2 v3 m reads-did unheld;
               }
 
-            pub by-write : (state_of word ≡ UNLOCKED) ⊎ (state_of word ≡ MARKED) → (frame : ℕ) × (mapping_of tr ≡ Some (dirty_in frame)) → (new : Flushed) → EndsWrite p v4 v5 old new → FlushVisits p v v6 old new
-            by-write none d new (left_clean done x k kept given un known notes e) =
-                clean (all-did done k) x (all-left done k notes) (all-unsaved done k kept) (given-in done k (places.Translation p) x given) un
-                word (given-front front-did (back-did done k) (places.State p) word (given-front look-did (did_load (places.Translation p) tr ∷ m.0) (places.State p) word seen)) none (inr (share done k none d)) e
-            by-write none d new (made_clean done f k saved known notes e) = written (all-did done k) f word (all-left done k notes) (share done k none d) (saved-in done k f saved) e
-            by-write none d new (refused done f count k dirty once kept allowed raised notes e) =
+            pub by-write : (state_of word ≡ UNLOCKED) ⊎ (state_of word ≡ MARKED) → (frame : ℕ) × (mapping_of tr ≡ Some (dirty_in frame)) → (wrote : Result Bool ℕ) → EndsWrite p v4 v5 wrote → (new : Flushed) → IsCounted p wrote old new → FlushVisits p v v6 old new
+            by-write none d (Ok false) e new counted =
+                let k = e.locked in
+                clean (all-did e.done k) e.word (all-left e.done k e.notes)
+                record {
+                  kept = all-kept e.done k (none-silent (places.Translation p) e.done e.silent);
+                  home = home-both p front-did _ front-kept.home (home-both p (lock e.done k) _ (lock-kept e.done k).home (home-both p e.done (end e.done k) e.stays (end-kept e.done k).home));
+                }
+                (given-behind front-did _ (places.Translation p) e.word (given-behind (lock e.done k) _ (places.Translation p) e.word (given-front e.done (end e.done k) (places.Translation p) e.word e.given)))
+                e.clean word (given-front front-did _ (places.State p) word (given-front look-did (did_load (places.Translation p) tr ∷ m.0) (places.State p) word seen)) none (inr (share e.done k none d)) counted
+            by-write none d (Ok true) e new counted =
+                let k = e.locked in
+                written (all-did e.done k) e.frame word (all-left e.done k e.notes) (share e.done k none d)
+                (saved-under p e.frame e.done (end e.done k) e.done (all-did e.done k) e.saved (once-in e.done k e.saved.block)) counted
+            by-write none d (Err count) e new counted =
+                let k = e.locked in
                 failed word count
                 record {
-                  done = all-did done k;
-                  own = all-own done k;
-                  aside = all-aside done k;
-                  alone = all-runs done k;
-                  shared = share done k none d;
-                  dirty = (f, dirty-front p f done (unlock-did p found ∷ []) dirty);
-                  block = once-in done k once;
-                  kept = all-kept done k kept;
-                  raised = written-in done k (places.Fault p) count raised;
-                  noted = notes-after done k ∙ notes ∙ ap (λ ns. ns ++ record { page = p; count = count } ∷ []) (notes-before done k);
-                  allowed = subst (λ (o : Origin). IsAllowed o p count) ((lock-leaves p tied expects v3 v4 l).start ∙ front.aside.start) allowed;
-                  frames = all-frames done k;
+                  done = all-did e.done k;
+                  own = all-own e.done k;
+                  aside = all-aside e.done k;
+                  alone = all-runs e.done k;
+                  shared = share e.done k none d;
+                  dirty = (e.frame, dirty-front p e.frame e.done (end e.done k) e.dirty);
+                  block = once-in e.done k e.block;
+                  kept = all-kept e.done k e.kept;
+                  raised = written-behind front-did _ (places.Fault p) count (written-behind (lock e.done k) _ (places.Fault p) count (written-front e.done (end e.done k) (places.Fault p) count e.raised));
+                  noted = (unshare-others u (λ q. q ≡ p) refl).keeps.notes ∙ e.noted ∙ ap (λ ns. ns ++ record { page = p; count = count } ∷ []) (notes-before e.done k);
+                  allowed = subst (λ (o : Origin). IsAllowed o p count) ((lock-rest e.done k).start ∙ front.aside.start) e.allowed;
+                  frames = all-frames e.done k;
                 }
-                e
+                counted

@@ -1,14 +1,14 @@
 -- Lists by places: the candidates of a list are apart, and what the first of them give together, as one stage comes in the place of another.
-use Rattle.std.proofs.Common.{ℕ, Bool, ◌≡◌, ◌≢◌, ◌<◌, ◌≤◌, ◌==◌, ◌++◌, ◌||◌, ◌⊎◌, true, false, zero, suc, length, List, [], ◌∷◌, refl, sym, ap, subst, ◌∙◌, ⊎_elim, inl, inr, append_assoc, arith, slice_set}
+use Rattle.std.proofs.Common.{[], ⊎_elim, ◌++◌, ◌<◌, ◌==◌, ◌||◌, ◌∙◌, ◌∷◌, ◌≡◌, ◌≢◌, ◌≤◌, ◌⊎◌, ap, append_assoc, arith, Bool, false, inl, inr, length}
+use Rattle.std.proofs.Common.{List, refl, slice_set, subst, suc, sym, true, zero, ℕ}
 use Rattle.std.proofs.lemmas.Bool.{cases_eq, cases_lt, eq-eqb, false≢true, ne_eqb, or_left, or_right}
 use Rattle.std.proofs.lemmas.List.{get_or-set_other, get_or-set_same, length-append}
-use Rattle.vm_owner.specs.Numbers.{AreApart, has}
-use Rattle.vm_rule.specs.Views.{Each}
+use Rattle.vm_rule.specs.Prelude.{AreApart, Each, has}
 use Rattle.vm_rule.proofs.Heard.{each-both}
-use Rattle.vm_step.specs.Choices.{candidate_pages}
-use Rattle.vm_evict.specs.Evictions.{candidate_at, gathered, stage_at}
+use Rattle.vm_step.specs.Prelude.{candidate_pages}
 use Rattle.vm_evict.specs.declared.candidate.Stage.{Stage}
 use Rattle.vm_evict.specs.declared.candidate.Stage.TheVariants as stages
+use Rattle.vm_evict.specs.Evictions.{candidate_at, gathered, stage_at}
 
 -- one or more
 pub or-none : (a b : Bool) → (a || b) ≡ ((a || false) || b)

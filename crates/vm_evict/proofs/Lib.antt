@@ -2,9 +2,8 @@ pub mod Copying
 pub mod Writing
 pub mod Evidenced
 pub mod Tables
-pub mod FlushSteps
-pub mod FlushWords
-pub mod FlushEnds
+pub mod WriteLocks
+pub mod WriteEnds
 pub mod FlushMarks
 pub mod FlushVisits
 pub mod FlushAlone

@@ -1,47 +1,24 @@
 -- The look at a candidate and the load of its translation word: where the look found the candidate's word, the pass reads the page at its version.
-use Rattle.std.proofs.Common.{ℕ, ◌≡◌, ◌≢◌, ◌<◌, ◌++◌, true, false, List, [], ◌∷◌, Option, Some, None, refl, sym, ap, ◌∙◌, ⊎_elim, inl, inr, eqb, is_some, append_assoc}
+use Rattle.std.proofs.Common.{[], ⊎_elim, ◌++◌, ◌<◌, ◌∙◌, ◌∷◌, ◌≡◌, ◌≢◌, ap, append_assoc, eqb, false, inl, inr, is_some, List, None, Option, refl}
+use Rattle.std.proofs.Common.{Some, sym, true, ℕ}
 use Rattle.std.proofs.lemmas.Bool.{cases_eq, cond-false, cond-true, eq-eqb, false≢true, ne_eqb}
-use Rattle.vm_core.specs.declared.event.Open.{Open}
-use Rattle.vm_core.specs.declared.event.ReadIs.{ReadIs}
-use Rattle.vm_core.specs.declared.event.ReadIs.TheVariants.{Opened, Same, Moved, Closed}
-use Rattle.vm_core.specs.declared.event.Seat.{Seat}
-use Rattle.vm_core.specs.Words.{MARKED, state_of, version_of}
-use Rattle.vm_core.specs.FrameActs.{mapping_of}
-use Rattle.vm_core.specs.History.{kept_loads}
-use Rattle.vm_core.specs.StateActs.{is_readable, left_open, open_after}
-use Rattle.vm_core.specs.Start.{no_seat}
-use Rattle.vm_core.proofs.Upd.{upd-other, upd-same}
-use Rattle.vm_laws_others.specs.Leaves.{stands_dirty}
-use Rattle.vm_owner.specs.Kept.{Start}
-use Rattle.vm_owner.specs.declared.Entry.{Entry}
-use Rattle.vm_rule.specs.declared.view.Did.{Did}
+use Rattle.vm_core.specs.Prelude.{is_readable, left_open, mapping_of, MARKED, no_seat, open_after, state_of, version_of}
+use Rattle.vm_core.specs.declared.event.ReadIs.TheVariants.{Closed, Moved, Opened, Same}
+use Rattle.vm_core.proofs.Upd.{upd-same}
+use Rattle.vm_rule.specs.Prelude.{did_load, left_at, LookTold, Open, put_at, ReadIs, Seat, seat_of, stands_dirty, Start, translation_of}
+use Rattle.vm_rule.specs.Prelude.{TranslationTold}
 use Rattle.vm_rule.specs.declared.view.Place.TheVariants as places
-use Rattle.vm_rule.specs.declared.view.View.{View}
-use Rattle.vm_rule.specs.Puts.{put_at}
-use Rattle.vm_rule.specs.Views.{loads_at, seat_of}
-use Rattle.vm_rule.specs.Reading.{last_of}
-use Rattle.vm_rule.specs.Brought.{entries_of}
-use Rattle.vm_rule.specs.Loads.{TranslationTold, tloaded_view, translation_of}
-use Rattle.vm_rule.specs.Log.{did_load}
-use Rattle.vm_rule.specs.Looks.{LookTold, left_at, looked_view, ties_below, where_same}
-use Rattle.vm_rule.proofs.Entries.{append-none}
 use Rattle.vm_rule.proofs.Heard.{each-both}
-use Rattle.vm_step.specs.Alone.{IsAlone}
-use Rattle.vm_step.specs.Works.{LeavesRest}
-use Rattle.vm_step.proofs.Alone.{runs-one}
-use Rattle.vm_step.proofs.Asides.{starts-then, OnlyReads, holds-then, knows-then, look-only, only-then, still-locking, translation-only}
-use Rattle.vm_step.proofs.Leaves.{leaves-quiet}
-use Rattle.vm_evict.specs.Evictions.{IsToShare}
-use Rattle.vm_evict.specs.Phases.{writes}
-use Rattle.vm_evict.specs.Stages.{Advances, IsSeenClean, IsWaiting}
-use Rattle.vm_evict.specs.Tables.{KnowsKept}
-use Rattle.vm_evict.specs.Writes.{IsDirtyFrame, reads}
+use Rattle.vm_step.specs.Prelude.{Did, IsAlone, View}
+use Rattle.vm_step.proofs.{steps.Look.look-others, steps.Look.look-own, steps.Translate.tload-others, steps.Translate.tload-own}
+use Rattle.vm_step.proofs.Asides.{holds-then, knows-then, look-only, only-then, OnlyReads, starts-then, still-locking, translation-only}
+use Rattle.vm_evict.specs.{Evictions.IsToShare, Phases.writes, Tables.KnowsKept, Writes.IsDirtyFrame, Writes.reads}
 use Rattle.vm_evict.specs.declared.candidate.Phase.TheVariants as phases
 use Rattle.vm_evict.specs.declared.candidate.Stage.TheVariants as stages
-use Rattle.vm_evict.proofs.Copying.{unsaved-both, unsaved-load, unsaved-one}
-use Rattle.vm_evict.proofs.Moving.{Quietly, quietly-then, quietly-to}
-use Rattle.vm_evict.proofs.Tables.{kept-then, silent-page}
-use Rattle.vm_evict.proofs.Taken.{moves-by, tload-keeps, tload-leaves}
+use Rattle.vm_evict.specs.Stages.{Advances, IsSeenClean, IsWaiting}
+use Rattle.vm_evict.proofs.{Tables.kept-then, Tables.silent-page, Taken.quiet-one}
+use Rattle.vm_evict.proofs.Evidenced.{unsaved-both, unsaved-load, unsaved-one}
+use Rattle.vm_evict.proofs.Moving.{gives-nothing, Quietly, quietly-then, quietly-to}
 
 -- a look at a page that can be read leaves an open read at the version found
 opened-at : (found : ℕ) (o : Option Open) → is_readable (state_of found) ≡ true → (r : Open) × (open_after (left_at found o) o (version_of found) ≡ Some r) × (r.version ≡ version_of found)
@@ -55,13 +32,6 @@ opened-at found (Some o) open_word =
     (record { version = version_of found; frame = None }, ap (λ (l : ReadIs). open_after l (Some o) (version_of found)) (left ∙ cond-false (eqb o.version (version_of found)) Same Moved (ne_eqb o.version (version_of found) ne)), refl))
     (cases_eq o.version (version_of found))
 
--- one choice of both
-same-both : {A : Type 0} (left : ReadIs) (x : A) → where_same left x x ≡ x
-same-both Same x = refl
-same-both Opened x = refl
-same-both Moved x = refl
-same-both Closed x = refl
-
 module _ {X : Type 0} (tied : Start → ℕ → List ℕ → ℕ → List ℕ → Type 0) (p word found t : ℕ) (done : List Did) (v x a b : View X) (h : IsWaiting p done v x) (look : LookTold tied p None found x a) (load : TranslationTold p t a b) where
   abbrev pub look-did : Did
   look-did = did_load (places.State p) found
@@ -72,42 +42,11 @@ module _ {X : Type 0} (tied : Start → ℕ → List ℕ → ℕ → List ℕ �
   abbrev left : ReadIs
   left = left_at found (seat_of x p).reading
 
-  look-changes : LeavesRest p (look-did ∷ []) x a
-  look-changes =
-      leaves-quiet p look-did None (where_same left (entries_of x None) []) x (looked_view p None found (last_of a p).words x) a look.brings
-      record {
-        log = refl;
-        live = refl;
-        start = refl;
-        parts = (refl, refl);
-        mine = ap (λ (l : List (Entry X)). x.mine ++ l) (same-both left []) ∙ append-none x.mine;
-        ties = (where_same left (ties_below x.start.pages x p (last_of a p).words) [], refl);
-        group = (refl, refl, refl);
-        seats = λ q ne. upd-other (put_at no_seat x.seats) p (record (seat_of x p) { reading = open_after left (seat_of x p).reading (version_of found) }) q ne;
-        loads = λ q ne. upd-other (put_at [] x.loads) p (kept_loads left (loads_at x p)) q ne;
-        held = λ q ne. refl;
-        drafts = λ q ne. refl;
-      }
-
   look-quiet : Quietly phases.Save (p, word) (look-did ∷ []) x a
-  look-quiet = record {
-    moves = moves-by p phases.Save word look-did x a look-changes (writes (reads (inl refl) refl refl)) (ap (λ (y : View X). y.out) look.brings.view) (ap (λ (y : View X). y.translations) look.brings.view);
-    runs = runs-one look-did None [] (where_same left (entries_of x None) []) x (looked_view p None found (last_of a p).words x) a look.brings;
-    keeps = record { frames = ap (λ (y : View X). y.frames) look.brings.view; contents = ap (λ (y : View X). y.contents) look.brings.view; notes = ap (λ (y : View X). y.notes) look.brings.view };
-  }
+  look-quiet = quiet-one p phases.Save word (look-others look (λ q. q ≡ p) refl) (look-own look) [] (ap (λ (y : View X). y.translations) look.brings.view) (writes (reads (inl refl) refl refl))
 
   load-quiet : Quietly phases.Save (p, word) (load-did ∷ []) a b
-  load-quiet = record {
-    moves = record {
-      leaves = tload-leaves p t a b load;
-      does = (writes (reads (inl refl) refl refl), tt);
-      home = λ e. ap (λ (y : View X). y.out) load.brings.view ∙ e;
-      newer = translation_of p t (seat_of a p).reading;
-      reads = ap (λ (y : View X). y.translations) load.brings.view;
-    };
-    runs = runs-one load-did _ [] [] a (tloaded_view p t a) b load.brings;
-    keeps = tload-keeps p t a b load;
-  }
+  load-quiet = quiet-one p phases.Save word (tload-others load (λ q. q ≡ p) refl) (tload-own load) (translation_of p t (seat_of a p).reading) (ap (λ (y : View X). y.translations) load.brings.view) (writes (reads (inl refl) refl refl))
 
   pub looked : Quietly phases.Save (p, word) (look-did ∷ load-did ∷ []) x b
   looked = quietly-then phases.Save (p, word) (look-did ∷ []) (load-did ∷ []) x a b look-quiet load-quiet
@@ -167,5 +106,5 @@ module _ {X : Type 0} (tied : Start → ℕ → List ℕ → ℕ → List ℕ �
     -- it is clean, and left for the next phase
     pub clean-so : Advances phases.Save (p, word) stages.Waiting stages.Clean done v x b
     clean-so =
-        quietly-to phases.Save (p, word) stages.Waiting stages.Clean done (look-did ∷ load-did ∷ []) v x b looked seen-clean tt record { is = refl; when = inl refl } record { is = refl; when = inl refl } record { is = refl; when = inl refl }
+        quietly-to phases.Save (p, word) stages.Waiting stages.Clean done (look-did ∷ load-did ∷ []) v x b looked seen-clean tt (gives-nothing refl refl refl)
         waits-known

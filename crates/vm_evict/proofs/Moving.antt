@@ -1,33 +1,19 @@
 -- The steps of a phase on one candidate: they are on the candidate's own words, and one run of them behind another is one run.
-use Rattle.std.proofs.Common.{ℕ, Bool, ◌≡◌, ◌≢◌, ◌++◌, ◌<◌, ◌||◌, false, List, [], ◌∷◌, refl, sym, ap, subst, ◌∙◌, ⊎_elim, inl, append_assoc}
-use Rattle.vm_owner.specs.Numbers.{has}
-use Rattle.vm_rule.specs.declared.view.Did.{Did}
-use Rattle.vm_rule.specs.declared.view.Note.{Note}
-use Rattle.vm_rule.specs.declared.view.Origin.{Origin}
+use Rattle.std.proofs.Common.{[], ⊎_elim, ◌++◌, ◌<◌, ◌||◌, ◌∙◌, ◌∷◌, ◌≡◌, ◌≢◌, ap, append_assoc, Bool, false, inl, List, refl, subst, sym, ℕ}
+use Rattle.vm_rule.specs.Prelude.{Each, has, put_at}
 use Rattle.vm_rule.specs.declared.view.Place.{Place}
 use Rattle.vm_rule.specs.declared.view.Place.TheVariants as places
-use Rattle.vm_rule.specs.declared.view.Release.{Release}
-use Rattle.vm_rule.specs.declared.view.Translation.{Translation}
-use Rattle.vm_rule.specs.declared.view.View.{View}
-use Rattle.vm_rule.specs.Puts.{put_at}
-use Rattle.vm_rule.specs.Views.{Each}
-use Rattle.vm_rule.proofs.Entries.{append-none}
-use Rattle.vm_rule.proofs.Heard.{each-both}
-use Rattle.vm_step.specs.Alone.{IsAlone, RunsAlone}
-use Rattle.vm_step.specs.Asides.{KeepsFrames}
-use Rattle.vm_step.specs.DeviceCalls.{IsOfPage}
+use Rattle.vm_rule.proofs.{Entries.append-none, Heard.each-both}
+use Rattle.vm_step.specs.Prelude.{Did, IsAlone, IsOfPage, KeepsFrames, Note, Origin, Release, RunsAlone, Translation, View}
 use Rattle.vm_step.proofs.Alone.{runs-self, runs-then, stays-alone, still-alone}
 use Rattle.vm_step.proofs.Asides.{alone-then, keeps-self, keeps-then}
 use Rattle.vm_step.proofs.Leaves.{leaves-then, works-none}
-use Rattle.vm_evict.specs.Evictions.{FramesCome, frame_at, note_at, release_at}
-use Rattle.vm_evict.specs.Phases.{Does, GivesUp, Saves, writes, shares, gives_up}
-use Rattle.vm_evict.specs.Stages.{Adds, Advances, Comes, IsAt, MayBeginPhase, MayEnd, Moves, one, still}
-use Rattle.vm_evict.specs.Tables.{KnowsStage}
-use Rattle.vm_evict.specs.Writes.{IsOwnPlace, WritesPage}
-use Rattle.vm_evict.specs.declared.candidate.Phase.{Phase}
+use Rattle.vm_evict.specs.{declared.candidate.Phase.Phase, declared.candidate.Stage.Stage, Tables.KnowsStage, Writes.IsOwnPlace, Writes.WritesPage}
 use Rattle.vm_evict.specs.declared.candidate.Phase.TheVariants as phases
-use Rattle.vm_evict.specs.declared.candidate.Stage.{Stage}
 use Rattle.vm_evict.specs.declared.candidate.Stage.TheVariants as stages
+use Rattle.vm_evict.specs.Evictions.{frame_at, FramesCome, note_at, release_at}
+use Rattle.vm_evict.specs.Phases.{Does, gives_up, GivesUp, Saves, shares, writes}
+use Rattle.vm_evict.specs.Stages.{Adds, Advances, Comes, IsAt, MayBeginPhase, MayEnd, Moves, one, still}
 use Rattle.vm_evict.proofs.Copying.{written-own}
 
 -- ---- the words that a phase steps on
@@ -84,10 +70,6 @@ pub saves-all : (c : ℕ × ℕ) (done : List Did) → Each (WritesPage c.0) don
 saves-all c [] e = tt
 saves-all c (d ∷ ds) e = (writes e.0, saves-all c ds e.1)
 
--- what a stage gives, told of two views
-pub adds-none : {A : Type 0} (give : Stage → List A) (phase only : Phase) (s : Stage) → Adds give phase only s s []
-adds-none give phase only s = record { is = sym (append-none (give s)); when = inl refl }
-
 module _ {X : Type 0} where
   pub moves-none : (phase : Phase) (c : ℕ × ℕ) (x : View X) → Moves phase c [] x x
   moves-none phase c x = record { leaves = (works-none c.0 x).leaves; does = tt; home = λ e. e; newer = []; reads = refl }
@@ -114,14 +96,22 @@ module _ {X : Type 0} where
     keeps = keeps-then x y z f.keeps g.keeps;
   }
 
+  -- the new stage gives what the old one gave
+  pub record GivesNothing (phase : Phase) (c : ℕ × ℕ) (x : View X) (old new : Stage) : Type 0 where
+    pub releases : Adds (release_at x c) phase phases.Leave old new []
+    pub notes : Adds (note_at c) phase phases.Save old new []
+    pub frames : Adds (frame_at c) phase phases.Empty old new []
+
+  pub gives-nothing : {phase : Phase} {c : ℕ × ℕ} {x : View X} {old new : Stage} → release_at x c new ≡ release_at x c old ++ [] → note_at c new ≡ note_at c old ++ [] → frame_at c new ≡ frame_at c old ++ [] → GivesNothing phase c x old new
+  gives-nothing releases notes frames = record { releases = record { is = releases; when = inl refl }; notes = record { is = notes; when = inl refl }; frames = record { is = frames; when = inl refl } }
+
   -- what a pass that is alone knows of the candidate's words over some steps
   abbrev pub KnowsOver : ℕ × ℕ → Stage → Stage → View X → View X → View X → Type 0
   KnowsOver c old new v x y = IsAlone x → c.0 < x.start.pages → KnowsStage c old v x → KnowsStage c new v y
 
   -- a candidate that such steps bring to another stage, which gives nothing
-  pub quietly-to : (phase : Phase) (c : ℕ × ℕ) (old new : Stage) (done more : List Did) (v x y : View X) → Quietly phase c more x y → IsAt c new (done ++ more) v y → MayEnd phase new → Adds (release_at x c) phase phases.Leave old new [] → Adds (note_at c) phase phases.Save old new [] → Adds (frame_at c) phase phases.Empty old new []
-      → KnowsOver c old new v x y → Advances phase c old new done v x y
-  quietly-to phase c old new done more v x y q at ends releases notes frames table = record {
+  pub quietly-to : (phase : Phase) (c : ℕ × ℕ) (old new : Stage) (done more : List Did) (v x y : View X) → Quietly phase c more x y → IsAt c new (done ++ more) v y → MayEnd phase new → GivesNothing phase c x old new → KnowsOver c old new v x y → Advances phase c old new done v x y
+  quietly-to phase c old new done more v x y q at ends gives table = record {
     more = more;
     moves = q.moves;
     at = at;
@@ -129,13 +119,13 @@ module _ {X : Type 0} where
     own = [];
     runs = q.runs;
     alone = stays-alone more x y q.moves.leaves.start q.runs;
-    releases = releases;
+    releases = gives.releases;
     notes = [];
     noted = q.keeps.notes ∙ sym (append-none x.notes);
-    notes_are = notes;
+    notes_are = gives.notes;
     frames = [];
     come = still refl q.keeps.frames q.keeps.contents;
-    frames_are = frames;
+    frames_are = gives.frames;
     table = table;
   }
 
@@ -145,11 +135,7 @@ module _ {X : Type 0} where
       quietly-to phase c s s done [] v x x
       record { moves = moves-none phase c x; runs = runs-self x; keeps = keeps-self x }
       (subst (λ (t : List Did). IsAt c s t v x) (sym (append-none done)) at)
-      ends
-      (adds-none (release_at x c) phase phases.Leave s)
-      (adds-none (note_at c) phase phases.Save s)
-      (adds-none (frame_at c) phase phases.Empty s)
-      (λ a page k. k)
+      ends (gives-nothing (sym (append-none (release_at x c s))) (sym (append-none (note_at c s))) (sym (append-none (frame_at c s)))) (λ a page k. k)
 
   -- after the first phase no page was released
   none-given : (x : View X) (c : ℕ × ℕ) (s : Stage) → MayEnd phases.Save s → release_at x c s ≡ []
@@ -215,53 +201,26 @@ module _ {X : Type 0} where
 
 pub begins-waiting : (s : Stage) → MayBeginPhase phases.Save s → s ≡ stages.Waiting
 begins-waiting stages.Waiting b = refl
-begins-waiting stages.Clean b = absurd b
-begins-waiting (stages.Shared written) b = absurd b
-begins-waiting (stages.Owned written) b = absurd b
-begins-waiting (stages.Emptied frame written) b = absurd b
-begins-waiting (stages.Freed frame written) b = absurd b
-begins-waiting (stages.Failed count) b = absurd b
-begins-waiting (stages.Lost written) b = absurd b
+begins-waiting s b = absurd b
 
 lock-leaves : (s : Stage) → (s ≡ stages.Clean → ⊥) → MayBeginPhase phases.Lock s → MayEnd phases.Lock s
-lock-leaves stages.Waiting ne b = absurd b
 lock-leaves stages.Clean ne b = absurd (ne refl)
-lock-leaves (stages.Shared written) ne b = tt
-lock-leaves (stages.Owned written) ne b = absurd b
-lock-leaves (stages.Emptied frame written) ne b = absurd b
-lock-leaves (stages.Freed frame written) ne b = absurd b
-lock-leaves (stages.Failed count) ne b = tt
-lock-leaves (stages.Lost written) ne b = tt
+lock-leaves (stages.Owned written) ne b = tt
+lock-leaves s ne b = b
 
 raise-leaves : (s : Stage) → ((written : Bool) → s ≡ stages.Shared written → ⊥) → MayBeginPhase phases.Raise s → MayEnd phases.Raise s
-raise-leaves stages.Waiting ne b = absurd b
-raise-leaves stages.Clean ne b = absurd b
 raise-leaves (stages.Shared written) ne b = absurd (ne written refl)
-raise-leaves (stages.Owned written) ne b = tt
-raise-leaves (stages.Emptied frame written) ne b = absurd b
-raise-leaves (stages.Freed frame written) ne b = absurd b
-raise-leaves (stages.Failed count) ne b = tt
-raise-leaves (stages.Lost written) ne b = tt
+raise-leaves s ne b = b
 
 empty-leaves : (s : Stage) → ((written : Bool) → s ≡ stages.Owned written → ⊥) → MayBeginPhase phases.Empty s → MayEnd phases.Empty s
-empty-leaves stages.Waiting ne b = absurd b
-empty-leaves stages.Clean ne b = absurd b
-empty-leaves (stages.Shared written) ne b = absurd b
 empty-leaves (stages.Owned written) ne b = absurd (ne written refl)
-empty-leaves (stages.Emptied frame written) ne b = absurd b
-empty-leaves (stages.Freed frame written) ne b = absurd b
-empty-leaves (stages.Failed count) ne b = tt
-empty-leaves (stages.Lost written) ne b = tt
+empty-leaves (stages.Emptied frame written) ne b = tt
+empty-leaves s ne b = b
 
 leave-leaves : (s : Stage) → ((frame : ℕ) (written : Bool) → s ≡ stages.Emptied frame written → ⊥) → MayBeginPhase phases.Leave s → MayEnd phases.Leave s
-leave-leaves stages.Waiting ne b = absurd b
-leave-leaves stages.Clean ne b = absurd b
-leave-leaves (stages.Shared written) ne b = absurd b
-leave-leaves (stages.Owned written) ne b = absurd b
 leave-leaves (stages.Emptied frame written) ne b = absurd (ne frame written refl)
-leave-leaves (stages.Freed frame written) ne b = absurd b
-leave-leaves (stages.Failed count) ne b = tt
-leave-leaves (stages.Lost written) ne b = tt
+leave-leaves (stages.Freed frame written) ne b = tt
+leave-leaves s ne b = b
 
 module _ {X : Type 0} (phase : Phase) (c : ℕ × ℕ) (s : Stage) (done : List Did) (v x : View X) (b : MayBeginPhase phase s) (h : IsAt c s done v x) where
   left-by : (k : Phase) → phase ≡ k → (MayBeginPhase k s → MayEnd k s) → Advances phase c s s done v x x

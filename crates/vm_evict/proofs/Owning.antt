@@ -1,47 +1,27 @@
 -- A page under write-back, which is clean, becomes held exclusively; or the exchange is lost, and the share is given up.
-use Rattle.std.proofs.Common.{ℕ, Bool, ◌≡◌, ◌≢◌, ◌<◌, ◌-◌, ◌^◌, ◌++◌, true, false, List, [], ◌∷◌, Some, None, refl, sym, ap, subst, ◌∙◌, inl, inr, arith}
+use Rattle.std.proofs.Common.{[], ◌++◌, ◌<◌, ◌∙◌, ◌∷◌, ◌≡◌, ◌≢◌, ap, arith, Bool, inl, inr, List, None, refl, Some, subst, sym, ℕ}
 use Rattle.std.proofs.lemmas.Option.{none-some, same_Some}
-use Rattle.vm_core.specs.declared.event.Seat.{Seat}
-use Rattle.vm_core.specs.Words.{LOCKED, MARKED, MAX_VERSION, version_of, word_of, state_of}
-use Rattle.vm_core.specs.History.{Version}
-use Rattle.vm_core.specs.Start.{no_seat}
-use Rattle.vm_core.proofs.Upd.{upd-other, upd-same}
-use Rattle.vm_owner.specs.Kept.{Start}
-use Rattle.vm_owner.specs.Numbers.{has}
-use Rattle.vm_rule.specs.declared.view.Did.{Did}
+use Rattle.vm_core.specs.Prelude.{LOCKED, MARKED, MAX_VERSION, state_of, version_of, word_of}
+use Rattle.vm_rule.specs.Prelude.{Brings, clean_in, did_exchange, held_at, IsLocking, last_of, MayRaiseLock, Seat, seat_of, Start, UnshareTold}
+use Rattle.vm_rule.specs.Prelude.{upgraded_view, UpgradeTold}
 use Rattle.vm_rule.specs.declared.view.Held.{Held}
 use Rattle.vm_rule.specs.declared.view.Place.TheVariants as places
-use Rattle.vm_rule.specs.declared.view.View.{View}
-use Rattle.vm_rule.specs.Puts.{put_at}
-use Rattle.vm_rule.specs.Views.{IsLocking, seat_of, draft_of}
-use Rattle.vm_rule.specs.Reading.{last_of}
-use Rattle.vm_rule.specs.Brought.{Brings}
-use Rattle.vm_rule.specs.Locks.{MayRaiseLock, UnshareTold, UpgradeTold, upgraded_view}
-use Rattle.vm_rule.specs.Log.{did_change, did_exchange}
-use Rattle.vm_rule.specs.Mappings.{clean_in, held_at}
 use Rattle.vm_rule.proofs.Heard.{each-both}
 use Rattle.vm_rule.proofs.WordFacts.{version-within, word-state, word-version}
-use Rattle.vm_step.specs.Alone.{IsAlone}
-use Rattle.vm_step.specs.Conditions.{MayUnshare}
-use Rattle.vm_step.specs.Evidence.{IsLost}
-use Rattle.vm_step.specs.Works.{LeavesRest, Works}
-use Rattle.vm_step.proofs.Alone.{runs-one}
-use Rattle.vm_step.proofs.Asides.{starts-then}
-use Rattle.vm_step.proofs.DeviceCalls.{no-fault}
-use Rattle.vm_step.proofs.Leaves.{last-quiet, leaves-quiet, works-one}
-use Rattle.vm_step.proofs.Evidenced.{lost-view, taken-view}
-use Rattle.vm_evict.specs.Evictions.{HasLost, IsMissed, IsSavedFrom, LocksFrom, by_share}
-use Rattle.vm_evict.specs.Phases.{Raises}
-use Rattle.vm_evict.specs.Stages.{Advances, IsOwning, HasLockTaken, IsWriting, writing_seat}
+use Rattle.vm_step.specs.Prelude.{Did, IsAlone, IsLost, LeavesRest, MayUnshare, View, Works}
+use Rattle.vm_step.proofs.{DeviceCalls.no-fault, Evidenced.lost-view, steps.Share.unshare-did, steps.Unchanged.still-works}
+use Rattle.vm_step.proofs.steps.WriteBack.{upgrade-brings, upgrade-did, upgrade-draft, upgrade-held, upgrade-last, upgrade-others, upgrade-own}
+use Rattle.vm_step.proofs.steps.WriteBack.{upgrade-seat}
+use Rattle.vm_evict.specs.{Phases.Raises, Tables.KnowsStage, Writes.writing_seat}
 use Rattle.vm_evict.specs.declared.candidate.Phase.TheVariants as phases
 use Rattle.vm_evict.specs.declared.candidate.Stage.TheVariants as stages
-use Rattle.vm_evict.specs.Tables.{KnowsStage}
-use Rattle.vm_evict.proofs.Copying.{not-fault, unsaved-both, unsaved-one}
-use Rattle.vm_evict.proofs.Evidenced.{frame-one, lost-one, saved-front, wrote-taken}
-use Rattle.vm_evict.proofs.Locking.{not-marked}
-use Rattle.vm_evict.proofs.Moving.{Quietly, quietly-then, quietly-to}
+use Rattle.vm_evict.specs.Evictions.{by_share, HasLost, IsMissed, IsSavedFrom, LocksFrom}
+use Rattle.vm_evict.specs.Stages.{Advances, HasLockTaken, IsOwning, IsWriting, owning_seat}
+use Rattle.vm_evict.proofs.{Locking.not-marked, WriteLocks.may-unshare}
+use Rattle.vm_evict.proofs.Evidenced.{frame-one, lost-one, not-fault, saved-front, unsaved-both, unsaved-one, wrote-taken}
+use Rattle.vm_evict.proofs.Moving.{gives-nothing, Quietly, quietly-then, quietly-to}
 use Rattle.vm_evict.proofs.Tables.{found-first, kept-at, left-at, left-last}
-use Rattle.vm_evict.proofs.Taken.{given-quiet, given-rests, locks-now, may-unshare, moves-by, taken-works}
+use Rattle.vm_evict.proofs.Taken.{given-quiet, given-rests, locks-now, lost-quiet, quiet-one, taken-on, taken-works}
 
 module _ {X : Type 0} (tied : Start → ℕ → List ℕ → ℕ → List ℕ → Type 0) (p word : ℕ) (written : Bool) (done : List Did) (v x : View X) (h : IsWriting p word written done v x) where
   abbrev version : ℕ
@@ -73,48 +53,16 @@ module _ {X : Type 0} (tied : Start → ℕ → List ℕ → ℕ → List ℕ �
 
   module _ (marked : state_of word ≡ MARKED) (frame : ℕ) (stands : (held_at x p).mapping ≡ Some (clean_in frame)) (expects : ℕ) (is : expects ≡ word_of 1 version) (y : View X) (t : UpgradeTold tied p expects expects x y) where
     abbrev took : Did
-    took = did_exchange (places.State p) expects expects (word_of LOCKED (version_of expects))
-
-    abbrev inner : View X
-    inner = upgraded_view p (last_of y p).words x
-
-    brings : Brings took [] [] x inner y
-    brings = taken-view took expects expects x inner y refl t.brings
-
-    abbrev now : Seat
-    now = record { shares = 0; exclusive = true; writing = false; reading = None }
-
-    seat-now : seat_of y p ≡ now
-    seat-now = ap (λ (z : View X). seat_of z p) brings.view ∙ upd-same (put_at no_seat x.seats) p now
-
-    held-now : held_at y p ≡ held_at x p
-    held-now = ap (λ (z : View X). held_at z p) brings.view
+    took = upgrade-did refl t
 
     last-now : last_of y p ≡ last_of x p
-    last-now = last-quiet p took _ [] x inner y brings refl p locks
-
-    changes : LeavesRest p (took ∷ []) x y
-    changes = leaves-quiet p took _ [] x inner y brings
-        record {
-          log = refl;
-          live = refl;
-          start = refl;
-          parts = (refl, refl);
-          mine = refl;
-          ties = ([], refl);
-          group = (refl, refl, refl);
-          seats = λ q ne. upd-other (put_at no_seat x.seats) p now q ne;
-          loads = λ q ne. upd-other (put_at [] x.loads) p [] q ne;
-          held = λ q ne. refl;
-          drafts = λ q ne. upd-other (put_at [] x.drafts) p (last_of y p).words q ne;
-        }
+    last-now = upgrade-last refl t p locks
 
     quiet : Quietly phases.Raise (p, word) (took ∷ []) x y
-    quiet = record {
-      moves = moves-by p phases.Raise word took x y changes (raises-so expects expects is) (ap (λ (z : View X). z.out) brings.view) (ap (λ (z : View X). z.translations) brings.view);
-      runs = runs-one took _ [] [] x inner y brings;
-      keeps = record { frames = ap (λ (z : View X). z.frames) brings.view; contents = ap (λ (z : View X). z.contents) brings.view; notes = ap (λ (z : View X). z.notes) brings.view };
-    }
+    quiet = quiet-one p phases.Raise word (upgrade-others refl t (λ q. q ≡ p) refl) (upgrade-own refl t) [] (ap (λ (z : View X). z.translations) (upgrade-brings refl t).view) (raises-so expects expects is)
+
+    changes : LeavesRest p (took ∷ []) x y
+    changes = quiet.moves.leaves
 
     locked : LocksFrom p word (done ++ took ∷ [])
     locked =
@@ -133,24 +81,13 @@ module _ {X : Type 0} (tied : Start → ℕ → List ℕ → ℕ → List ℕ �
 
     owning : IsOwning p word frame written (done ++ took ∷ []) v y
     owning = record {
-      taken = record {
-        before = h.taken.before;
-        start = changes.start ∙ h.taken.start;
-        since = starts-then v.releases x.releases y.releases h.taken.since changes.releases;
-        free = ap (has p) changes.group.0 ∙ h.taken.free;
-        paid = ap (has p) changes.group.1 ∙ h.taken.paid;
-        next = λ e. h.taken.next (sym changes.group.2 ∙ e);
-        now = seat-now;
-        at = ap (λ (r : Version). r.version) last-now ∙ h.taken.at;
-        size = t.size;
-        told = subst (λ (k : Held). k.fault ≡ k.block.count) (sym held-now) h.taken.told;
-      };
+      taken = taken-on p p word writing_seat owning_seat (took ∷ []) v x y h.taken changes last-now (upgrade-seat refl t) (subst (λ (k : Held). k.fault ≡ k.block.count) (sym (upgrade-held refl t p)) h.taken.told);
       locked = locked;
       foreign =
           each-both (λ (d : Did). d.at ≡ places.State p → d.wrote ≢ Some word) done (took ∷ []) (h.foreign word (not-marked word 1 version marked (omega arith) (version-within word)))
           ((λ here e. not-marked word LOCKED (version_of expects) marked (omega arith) (version-within expects) (same_Some word (word_of LOCKED (version_of expects)) (sym e ∙ wrote-taken expects (word_of LOCKED (version_of expects))))), tt);
-      stands = ap (λ (k : Held). k.mapping) held-now ∙ stands;
-      draft = ap (λ (z : View X). draft_of z p) brings.view ∙ upd-same (put_at [] x.drafts) p (last_of y p).words;
+      stands = ap (λ (k : Held). k.mapping) (upgrade-held refl t p) ∙ stands;
+      draft = upgrade-draft refl t;
       cleaned = λ e.
           let there = h.cleaned e in
           let same : there.0 ≡ frame = frame-one there.0 frame (sym there.1 ∙ stands) in
@@ -170,7 +107,7 @@ module _ {X : Type 0} (tied : Start → ℕ → List ℕ → ℕ → List ℕ �
     )
 
     pub raised-so : Advances phases.Raise (p, word) (stages.Shared written) (stages.Owned written) done v x y
-    raised-so = quietly-to phases.Raise (p, word) (stages.Shared written) (stages.Owned written) done (took ∷ []) v x y quiet (frame, owning) tt record { is = refl; when = inl refl } record { is = refl; when = inl refl } record { is = refl; when = inl refl }
+    raised-so = quietly-to phases.Raise (p, word) (stages.Shared written) (stages.Owned written) done (took ∷ []) v x y quiet (frame, owning) tt (gives-nothing refl refl refl)
         raised-known
 
   -- ---- it was lost
@@ -183,14 +120,10 @@ module _ {X : Type 0} (tied : Start → ℕ → List ℕ → ℕ → List ℕ �
     still-brings = lost-view tried expects found x (upgraded_view p (last_of y p).words x) y ne t.brings
 
     work : Works p (tried ∷ []) x y
-    work = works-one p tried _ x x.held x.frames x.contents x.out x.notes y (λ q e. refl) still-brings
+    work = still-works still-brings p
 
     tried-quiet : Quietly phases.Raise (p, word) (tried ∷ []) x y
-    tried-quiet = record {
-      moves = moves-by p phases.Raise word tried x y work.leaves (raises-so expects found is) (ap (λ (z : View X). z.out) still-brings.view) (ap (λ (z : View X). z.translations) still-brings.view);
-      runs = work.alone;
-      keeps = record { frames = ap (λ (z : View X). z.frames) still-brings.view; contents = ap (λ (z : View X). z.contents) still-brings.view; notes = ap (λ (z : View X). z.notes) still-brings.view };
-    }
+    tried-quiet = lost-quiet p phases.Raise word tried x y still-brings (raises-so expects found is)
 
     -- a pass that is alone has the one share that it knows of
     not-lost : IsAlone x → KnowsStage (p, word) (stages.Shared written) v x → ⊥
@@ -202,17 +135,17 @@ module _ {X : Type 0} (tied : Start → ℕ → List ℕ → ℕ → List ℕ �
         (subst (λ (k : Held). k.fault ≡ k.block.count) (sym (ap (λ (z : View X). held_at z p) still-brings.view)) h.taken.told)
 
     pub may-give : x.out ≡ None → MayUnshare y p
-    may-give home = may-unshare p word v y held-on (tried-quiet.moves.home home)
+    may-give home = may-unshare p y held-on.now held-on.told (tried-quiet.moves.home home)
 
     module _ (last : ℕ) (w : View X) (u : UnshareTold p last y w) where
       abbrev end-did : Did
-      end-did = did_change (places.State p) last (last - 2 ^ 56)
-
-      abbrev both : List Did
-      both = tried ∷ end-did ∷ []
+      end-did = unshare-did u
 
       gone : Quietly phases.Raise (p, word) (end-did ∷ []) y w
       gone = given-quiet p word v y held-on phases.Raise last w u (inr (last, refl))
+
+      abbrev both : List Did
+      both = tried ∷ end-did ∷ []
 
       -- the exchange found another word than that of the pass's share alone, and no step before had left it there
       abbrev lost : HasLost (done ++ both) (places.State p) (word_of 1 version)
@@ -240,6 +173,6 @@ module _ {X : Type 0} (tied : Start → ℕ → List ℕ → ℕ → List ℕ �
       lost-so =
           quietly-to phases.Raise (p, word) (stages.Shared written) (stages.Lost written) done both v x w
           (quietly-then phases.Raise (p, word) (tried ∷ []) (end-did ∷ []) x y w tried-quiet gone)
-          (missed, given-rests p word v y held-on phases.Raise last w u (inr (last, refl)))
-          tt record { is = refl; when = inl refl } record { is = refl; when = inl refl } record { is = refl; when = inl refl }
+          (missed, given-rests p word v y held-on phases.Raise last w u)
+          tt (gives-nothing refl refl refl)
           (λ alone page k. absurd (not-lost alone k))

@@ -1,40 +1,22 @@
 -- One candidate after another: how far the eviction is, as a phase brings one candidate to its next stage; and the end.
-use Rattle.std.proofs.Common.{ℕ, Bool, ◌≡◌, ◌≢◌, ◌<◌, ◌≤◌, ◌==◌, ◌+◌, ◌||◌, ◌++◌, ◌⊎◌, true, false, length, List, [], ◌∷◌, refl, sym, ap, subst, ◌∙◌, ⊎_elim, inl, inr, append_assoc, arith, slice_set}
+use Rattle.std.proofs.Common.{[], ⊎_elim, ◌++◌, ◌+◌, ◌<◌, ◌==◌, ◌||◌, ◌∙◌, ◌∷◌, ◌≡◌, ◌≢◌, ◌≤◌, ◌⊎◌, ap, append_assoc, arith, Bool, false, inl, inr}
+use Rattle.std.proofs.Common.{length, List, refl, slice_set, subst, sym, true, ℕ}
 use Rattle.std.proofs.lemmas.Bool.{cases_eq, false≢true, or_right}
 use Rattle.std.proofs.lemmas.List.{get_or-set_other, get_or-set_same}
-use Rattle.vm_core.specs.declared.event.Seat.{Seat}
-use Rattle.vm_core.specs.Words.{version_of}
-use Rattle.vm_owner.specs.Numbers.{AreApart, has}
-use Rattle.vm_rule.specs.declared.view.Did.{Did}
-use Rattle.vm_rule.specs.declared.view.Note.{Note}
-use Rattle.vm_rule.specs.declared.view.Origin.{Origin}
-use Rattle.vm_rule.specs.declared.view.Release.{Release}
-use Rattle.vm_rule.specs.declared.view.Tie.{Tie}
-use Rattle.vm_rule.specs.declared.view.View.{View}
-use Rattle.vm_rule.specs.Puts.{put_at}
-use Rattle.vm_rule.specs.Views.{Each}
-use Rattle.vm_rule.specs.Reading.{last_of}
-use Rattle.vm_rule.proofs.Entries.{append-none}
-use Rattle.vm_rule.proofs.Facts.{has-both}
-use Rattle.vm_rule.proofs.Heard.{each-both}
-use Rattle.vm_step.specs.Alone.{IsAlone, RunsAlone}
-use Rattle.vm_step.specs.Choices.{candidate_pages}
-use Rattle.vm_step.specs.Works.{LeavesRest}
-use Rattle.vm_step.proofs.Alone.{runs-then, still-alone}
+use Rattle.vm_core.specs.Prelude.{version_of}
+use Rattle.vm_rule.specs.Prelude.{AreApart, Each, has, last_of, put_at, Seat}
+use Rattle.vm_rule.proofs.{Entries.append-none, Facts.has-both, Heard.each-both}
+use Rattle.vm_step.specs.Prelude.{candidate_pages, Did, IsAlone, LeavesRest, Note, Origin, Release, RunsAlone, Tie, View}
+use Rattle.vm_step.proofs.{Alone.runs-then, Alone.still-alone, Groups.apart-end}
 use Rattle.vm_step.proofs.Asides.{alone-then, reads-then, starts-then}
-use Rattle.vm_step.proofs.Groups.{apart-end}
-use Rattle.vm_evict.specs.Evictions.{FramesCome, candidate_at, frame_at, gathered, note_at, release_at, stage_at}
-use Rattle.vm_evict.specs.Phases.{Does, DoesOne}
-use Rattle.vm_evict.specs.Stages.{Adds, Advances, Comes, IsAt, IsPhaseMade, IsUnderWay, LeavesAll, MayBeginPhase, MayEnd, Rests, one, still}
-use Rattle.vm_evict.specs.Tables.{KnowsStage}
-use Rattle.vm_evict.specs.declared.candidate.Phase.{Phase}
+use Rattle.vm_evict.specs.{declared.candidate.Phase.Phase, declared.candidate.Stage.Stage, Phases.Does, Phases.DoesOne, Tables.KnowsStage}
 use Rattle.vm_evict.specs.declared.candidate.Phase.TheVariants as phases
-use Rattle.vm_evict.specs.declared.candidate.Stage.{Stage}
 use Rattle.vm_evict.specs.declared.candidate.Stage.TheVariants as stages
+use Rattle.vm_evict.specs.Evictions.{candidate_at, frame_at, FramesCome, gathered, note_at, release_at, stage_at}
+use Rattle.vm_evict.specs.Stages.{Adds, Advances, Comes, IsAt, IsPhaseMade, IsUnderWay, LeavesAll, MayBeginPhase, MayEnd, one, Rests, still}
+use Rattle.vm_evict.proofs.{Staying.rests-stay, Staying.stays, Tables.else-page, Tables.stays-known}
 use Rattle.vm_evict.proofs.Gathering.{apart-at, gathered-set, has-page}
 use Rattle.vm_evict.proofs.Moving.{no-fault-of, no-state-of, no-translation-of}
-use Rattle.vm_evict.proofs.Staying.{rests-stay, stays}
-use Rattle.vm_evict.proofs.Tables.{else-page, stays-known}
 
 -- ---- frames
 

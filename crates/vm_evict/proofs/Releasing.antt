@@ -1,42 +1,22 @@
 -- A page that the pass holds exclusively, and that was taken out of its frame, is released as evicted: nothing but its version is another then.
-use Rattle.std.proofs.Common.{ℕ, Bool, ◌≡◌, ◌≢◌, ◌<◌, ◌≤◌, ◌+◌, ◌++◌, true, false, List, [], ◌∷◌, Some, None, refl, sym, ap, ◌∙◌, inl, inr, append_assoc, arith}
+use Rattle.std.proofs.Common.{[], ◌++◌, ◌+◌, ◌<◌, ◌∙◌, ◌∷◌, ◌≡◌, ◌≢◌, ◌≤◌, ap, append_assoc, arith, Bool, false, inl, inr, List, None, refl, Some}
+use Rattle.std.proofs.Common.{sym, true, ℕ}
 use Rattle.std.proofs.lemmas.Option.{same_Some}
-use Rattle.vm_core.specs.declared.event.Seat.{Seat}
-use Rattle.vm_core.specs.Words.{EVICTED, MARKED, MAX_VERSION, state_of, version_of, word_of}
-use Rattle.vm_core.specs.FrameActs.{trans_word}
-use Rattle.vm_core.specs.Start.{no_seat}
-use Rattle.vm_core.proofs.Upd.{upd-other, upd-same}
-use Rattle.vm_rule.specs.declared.view.Did.{Did}
-use Rattle.vm_rule.specs.declared.view.Origin.{Origin}
+use Rattle.vm_core.specs.Prelude.{EVICTED, MARKED, MAX_VERSION, state_of, trans_word, version_of, word_of}
+use Rattle.vm_rule.specs.Prelude.{clean_in, did_store, draft_of, EvictTold, IsLocking, last_in, last_of, Seat, seat_of}
 use Rattle.vm_rule.specs.declared.view.Place.TheVariants as places
-use Rattle.vm_rule.specs.declared.view.Release.{Release}
-use Rattle.vm_rule.specs.declared.view.View.{View}
-use Rattle.vm_rule.specs.Puts.{put_at}
-use Rattle.vm_rule.specs.Views.{IsLocking, seat_of, draft_of}
-use Rattle.vm_rule.specs.Reading.{last_in, last_of}
-use Rattle.vm_rule.specs.Log.{did_store}
-use Rattle.vm_rule.specs.Mappings.{clean_in}
-use Rattle.vm_rule.specs.Releases.{EvictTold, evicted_view}
-use Rattle.vm_rule.proofs.Entries.{append-none}
-use Rattle.vm_rule.proofs.Heard.{each-both}
-use Rattle.vm_rule.proofs.WordFacts.{word-state}
-use Rattle.vm_step.specs.Alone.{IsAlone}
-use Rattle.vm_step.specs.Conditions.{MayEvict}
-use Rattle.vm_step.specs.Works.{LeavesRest}
-use Rattle.vm_step.proofs.Alone.{runs-one}
-use Rattle.vm_step.proofs.Asides.{alone-release}
-use Rattle.vm_step.proofs.DeviceCalls.{home-both}
-use Rattle.vm_step.proofs.Leaves.{leaves-released}
-use Rattle.vm_step.proofs.Evidenced.{given-front, next-stays, written-front}
-use Rattle.vm_evict.specs.Evictions.{HasReleased, IsPageFreed}
-use Rattle.vm_evict.specs.Stages.{Advances, IsEmptied, owning_seat, still}
+use Rattle.vm_rule.specs.Releases.{evicted_view}
+use Rattle.vm_rule.proofs.{Entries.append-none, Heard.each-both, WordFacts.word-state}
+use Rattle.vm_step.specs.Prelude.{Did, IsAlone, LeavesRest, MayEvict, Origin, Release, View}
+use Rattle.vm_step.proofs.{Alone.runs-one, DeviceCalls.home-both, Evidenced.given-front, Evidenced.written-front}
+use Rattle.vm_step.proofs.steps.Release.{evict-alone, evict-leaves, evict-seat}
+use Rattle.vm_evict.specs.{Evictions.HasReleased, Evictions.IsPageFreed, Tables.KnowsStage}
 use Rattle.vm_evict.specs.declared.candidate.Phase.TheVariants as phases
 use Rattle.vm_evict.specs.declared.candidate.Stage.TheVariants as stages
-use Rattle.vm_evict.specs.Tables.{KnowsStage}
-use Rattle.vm_evict.proofs.Copying.{not-fault, no-mapping}
-use Rattle.vm_evict.proofs.Evidenced.{locks-front, none-kept, saved-front}
+use Rattle.vm_evict.specs.Stages.{Advances, IsEmptied, owning_seat, still}
+use Rattle.vm_evict.proofs.Evidenced.{locks-front, no-mapping, none-kept, not-fault, saved-front}
 use Rattle.vm_evict.proofs.Tables.{kept-at, left-at, left-last}
-use Rattle.vm_evict.proofs.Taken.{free-rests, locks-now, moves-by, not-out}
+use Rattle.vm_evict.proofs.Taken.{free-rests, locks-now, not-out}
 
 module _ {X : Type 0} (p word frame : ℕ) (written : Bool) (marked : state_of word ≡ MARKED) (below : version_of word < MAX_VERSION) (done : List Did) (v b : View X) (h : IsEmptied p word frame written done v b) where
   locked-now : IsLocking (seat_of b p)
@@ -66,9 +46,6 @@ module _ {X : Type 0} (p word frame : ℕ) (written : Bool) (marked : state_of w
     abbrev end-did : Did
     end-did = did_store (places.State p) (word_of EVICTED (version_of word + 1))
 
-    abbrev end-seat : Seat
-    end-seat = record (seat_of b p) { exclusive = false }
-
     abbrev end-release : Release
     end-release = record { page = p; version = version_of word + 1; words = draft_of b p }
 
@@ -76,26 +53,10 @@ module _ {X : Type 0} (p word frame : ℕ) (written : Bool) (marked : state_of w
     end-all = done ++ end-did ∷ []
 
     seat-now : seat_of w p ≡ record { shares = 0; exclusive = false; writing = false; reading = None }
-    seat-now =
-        ap (λ (y : View X). seat_of y p) e.brings.view
-        ∙ upd-same (put_at no_seat b.seats) p end-seat
-        ∙ ap (λ (s : Seat). record s { exclusive = false }) h.taken.now
+    seat-now = evict-seat e ∙ ap (λ (s : Seat). record s { exclusive = false }) h.taken.now
 
     changes : LeavesRest p (end-did ∷ []) b w
-    changes = leaves-released p end-did end-release [] b (evicted_view p b) w _ e.brings refl
-        record {
-          log = refl;
-          live = refl;
-          start = refl;
-          parts = (refl, refl);
-          mine = refl;
-          ties = ([], refl);
-          group = (refl, refl, next-stays p b.next h.taken.next);
-          seats = λ q ne. upd-other (put_at no_seat b.seats) p end-seat q ne;
-          loads = λ q ne. refl;
-          held = λ q ne. refl;
-          drafts = λ q ne. refl;
-        }
+    changes = evict-leaves e h.taken.next
 
     abbrev since : List Release
     since = h.taken.since.0 ++ e.brings.between
@@ -152,12 +113,12 @@ module _ {X : Type 0} (p word frame : ℕ) (written : Bool) (marked : state_of w
     pub freed-so : Advances phases.Leave (p, word) (stages.Emptied frame written) (stages.Freed frame written) done v b w
     freed-so = record {
       more = end-did ∷ [];
-      moves = moves-by p phases.Leave word end-did b w changes refl (ap (λ (y : View X). y.out) e.brings.view) (ap (λ (y : View X). y.translations) e.brings.view);
+      moves = record { leaves = changes; does = (refl, tt); home = λ none. ap (λ (y : View X). y.out) e.brings.view ∙ none; newer = []; reads = ap (λ (y : View X). y.translations) e.brings.view };
       at = (freed, free-rests p v w h.taken.before seat-now);
       ends = tt;
       own = end-release ∷ [];
       runs = runs-one end-did _ (end-release ∷ []) [] b (evicted_view p b) w e.brings;
-      alone = alone-release end-did p (version_of word + 1) (draft_of b p) [] b (evicted_view p b) w e.brings refl h.draft;
+      alone = evict-alone e h.draft;
       releases = record { is = ap (λ (k : List ℕ). record { page = p; version = version_of word + 1; words = k } ∷ []) (sym h.draft); when = inr refl };
       notes = [];
       noted = ap (λ (y : View X). y.notes) e.brings.view ∙ sym (append-none b.notes);

@@ -1,283 +1,160 @@
 -- A page under write-back is written where it is dirty; where the write fails the share is given up.
-use Rattle.std.proofs.Common.{ℕ, Bool, ◌≡◌, ◌≢◌, ◌<◌, ◌≤◌, ◌-◌, ◌^◌, ◌++◌, true, false, List, [], ◌∷◌, Option, Some, None, IsSome, refl, sym, ap, subst, ◌∙◌, inl, inr, arith, append_assoc}
-use Rattle.std.proofs.lemmas.Bool.{false≢true, or_right}
+use Rattle.std.proofs.Common.{[], ◌++◌, ◌-◌, ◌<◌, ◌^◌, ◌∙◌, ◌∷◌, ◌≡◌, ◌≢◌, ap, arith, Bool, false, inl, inr, IsSome, List, None, Ok, Option, refl}
+use Rattle.std.proofs.Common.{Some, subst, sym, true, ℕ}
+use Rattle.std.proofs.lemmas.Bool.{false≢true}
 use Rattle.std.proofs.lemmas.Option.{none-some}
-use Rattle.vm_core.specs.declared.event.Mapping.{Mapping}
-use Rattle.vm_core.specs.declared.event.Seat.{Seat}
-use Rattle.vm_core.specs.Words.{frame_in, is_dirty, version_of, word_of}
-use Rattle.vm_core.specs.FrameActs.{mapping_at, mapping_of}
-use Rattle.vm_laws_others.specs.Leaves.{stands_dirty}
-use Rattle.vm_rule.specs.declared.view.Did.{Did}
+use Rattle.vm_core.specs.Prelude.{version_of}
+use Rattle.vm_rule.specs.Prelude.{clean_in, held_at, Mapping, stands_dirty, UnshareTold}
 use Rattle.vm_rule.specs.declared.view.Held.{Held}
-use Rattle.vm_rule.specs.declared.view.Origin.{Origin}
 use Rattle.vm_rule.specs.declared.view.Place.TheVariants as places
-use Rattle.vm_rule.specs.declared.view.View.{View}
-use Rattle.vm_rule.specs.Views.{Each, IsLocking, seat_of}
-use Rattle.vm_rule.specs.Loads.{TranslationTold, translation_of}
-use Rattle.vm_rule.specs.Locks.{UnshareTold}
-use Rattle.vm_rule.specs.Log.{did_change, did_load}
-use Rattle.vm_rule.specs.Mappings.{clean_in, dirty_in, held_at}
 use Rattle.vm_rule.proofs.Heard.{each-both}
-use Rattle.vm_step.specs.Alone.{IsAlone, WritesNone, known_word_at}
-use Rattle.vm_step.specs.Conditions.{MayUnshare}
-use Rattle.vm_step.specs.Works.{Works}
+use Rattle.vm_step.specs.Prelude.{Did, IsAlone, known_word_at, Origin, View, WritesNone}
+use Rattle.vm_step.proofs.{Asides.alone-then, steps.Share.unshare-did}
 use Rattle.vm_step.proofs.Alone.{runs-then, stays-alone, still-alone}
-use Rattle.vm_step.proofs.Asides.{alone-then}
 use Rattle.vm_step.proofs.DeviceCalls.{no-fault, once-behind, once-front}
-use Rattle.vm_step.proofs.Evidenced.{written-behind, written-front}
-use Rattle.vm_evict.specs.Evictions.{IsWriteFailed, IsSavedFrom, IsSharedToSave, Unreleased}
-use Rattle.vm_evict.specs.Phases.{gives_up, writes}
-use Rattle.vm_evict.specs.Stages.{Advances, IsCleanAt, HasLockTaken, IsWriting, still, writing_seat}
-use Rattle.vm_evict.specs.Tables.{KnowsStage}
-use Rattle.vm_evict.specs.Writes.{HasNotSaved, IsAllowed, IsCleaned, IsFoundDirty, IsWriteRefused, IsToWrite, reads}
+use Rattle.vm_step.proofs.Evidenced.{given-behind, written-behind, written-front}
+use Rattle.vm_evict.specs.{Evictions.IsWriteFailed, Phases.gives_up, Tables.KnowsLocked, Tables.KnowsStage}
 use Rattle.vm_evict.specs.declared.candidate.Phase.TheVariants as phases
 use Rattle.vm_evict.specs.declared.candidate.Stage.TheVariants as stages
-use Rattle.vm_evict.proofs.Copying.{kept-both, not-fault, no-mapping, no-state, unsaved-both, unsaved-load}
-use Rattle.vm_evict.proofs.Evidenced.{dirty-front, each-else, shared-front}
-use Rattle.vm_evict.proofs.Moving.{Quietly, advances-after, moves-then, none-shared, quietly-to, saves-all}
-use Rattle.vm_evict.proofs.Tables.{found-first, kept-at, left-at, left-last, locked-on, none-else, share-gone, silent-page, stays-known}
-use Rattle.vm_evict.proofs.Taken.{given-quiet, given-rests, locks-now, may-unshare, said-frame, taken-works, tload-keeps, tload-works}
+use Rattle.vm_evict.specs.Stages.{Advances, HasLockTaken, IsCleanAt, IsWriting, Moves, still}
+use Rattle.vm_evict.specs.Writes.{EndsWrite, HasNotSaved, HasSaved, IsAllowed, IsFoundClean, IsFoundDirty, IsLeftDirty, IsSavedNow, IsStillLocked}
+use Rattle.vm_evict.specs.Writes.{writing_seat}
+use Rattle.vm_evict.proofs.{Copying.no-state-written, Locking.clean-of}
+use Rattle.vm_evict.proofs.Evidenced.{dirty-front, no-mapping, none-both, none-kept, none-silent, none-stored, not-fault, saved-behind, shared-front}
+use Rattle.vm_evict.proofs.Evidenced.{unsaved-both}
+use Rattle.vm_evict.proofs.Moving.{gives-nothing, moves-then, Quietly, quietly-to, saves-all}
+use Rattle.vm_evict.proofs.Tables.{found-first, kept-at, left-at, left-last, locked-on, share-gone, silent-page, stays-known}
+use Rattle.vm_evict.proofs.Taken.{given-quiet, given-rests, taken-works}
 
--- a page that stands, and not dirty, stands clean
-same-dirty : (o : Option ℕ) (dirty : Bool) (m : Mapping) → mapping_at o dirty ≡ Some m → dirty ≡ m.dirty
-same-dirty None dirty m is = absurd (none-some m is)
-same-dirty (Some f) dirty m is = ap (λ (x : Option Mapping). stands_dirty x) is
+module _ {X : Type 0} (p word : ℕ) (done : List Did) (v x y : View X) (h : IsWriting p word false done v x) where
+  moves-write : (more : List Did) → IsStillLocked p more x y → Moves phases.Save (p, word) more x y
+  moves-write more k = record { leaves = k.works.leaves; does = saves-all (p, word) more k.does; home = λ e. k.home; newer = []; reads = k.reads }
 
-clean-of : (m : Option Mapping) (word : ℕ) → IsSome m → mapping_of word ≡ m → is_dirty word ≡ false → (frame : ℕ) × (m ≡ Some (clean_in frame))
-clean-of None word some said clean = absurd (false≢true some)
-clean-of (Some m) word some said clean = (m.frame, ap (λ (b : Bool). Some (record { frame = m.frame; dirty = b })) (sym (same-dirty (frame_in word) (is_dirty word) m said) ∙ clean))
+  -- the steps of the write are on the page alone, and keep it locked
+  quiet-write : (more : List Did) → IsStillLocked p more x y → y.notes ≡ x.notes → Quietly phases.Save (p, word) more x y
+  quiet-write more k notes = record {
+    moves = moves-write more k;
+    runs = k.works.alone;
+    keeps = record { frames = k.frames.0; contents = k.frames.1; notes = notes };
+  }
 
-module _ {X : Type 0} (p word : ℕ) (done : List Did) (v x : View X) (h : IsWriting p word false done v x) where
-  locks : IsLocking (seat_of x p)
-  locks = locks-now p word writing_seat (inr (omega arith)) v x h.taken
-
-  module _ (t : ℕ) (a : View X) (l : TranslationTold p t x a) where
-    abbrev load-did : Did
-    load-did = did_load (places.Translation p) t
-
-    abbrev so-far : List Did
-    so-far = done ++ load-did ∷ []
-
-    loaded : Works p (load-did ∷ []) x a
-    loaded = tload-works p t 1 false true x a h.taken.now l
-
-    held-loaded : held_at a p ≡ held_at x p
-    held-loaded = ap (λ (y : View X). held_at y p) l.brings.view
-
-    said : mapping_of t ≡ (held_at x p).mapping
-    said = l.called (or_right (seat_of x p).exclusive (seat_of x p).writing (ap (λ (s : Seat). s.writing) h.taken.now))
-
-    load-quiet : Quietly phases.Save (p, word) (load-did ∷ []) x a
-    load-quiet = record {
-      moves = record {
-        leaves = loaded.leaves;
-        does = (writes (reads (inl refl) refl refl), tt);
-        home = λ e. ap (λ (y : View X). y.out) l.brings.view ∙ e;
-        newer = translation_of p t (seat_of x p).reading;
-        reads = ap (λ (y : View X). y.translations) l.brings.view;
-      };
-      runs = loaded.alone;
-      keeps = tload-keeps p t x a l;
-    }
-
-    taken-loaded : HasLockTaken p word writing_seat v a
-    taken-loaded = taken-works p word writing_seat (inr (omega arith)) v x h.taken (load-did ∷ []) a loaded (subst (λ (k : Held). k.fault ≡ k.block.count) (sym held-loaded) h.taken.told)
-
-    foreign-loaded : (found : ℕ) → found ≢ word_of 1 (version_of word) → Each (λ d. d.at ≡ places.State p → d.wrote ≢ Some found) so-far
-    foreign-loaded found ne = each-both (λ (d : Did). d.at ≡ places.State p → d.wrote ≢ Some found) done (load-did ∷ []) (h.foreign found ne) ((λ here. absurd (no-state p (places.Translation p) refl here)), tt)
-
-    abbrev shared-loaded : IsSharedToSave p word so-far
-    shared-loaded = shared-front p word done (load-did ∷ []) h.shared
-
-    unreleased-loaded : Unreleased p so-far
-    unreleased-loaded = each-both (λ (d : Did). d.at ≡ places.State p → d.found ≡ None → d.wrote ≡ None) done (load-did ∷ []) h.unreleased ((λ here none. refl), tt)
-
-    kept-loaded : HasNotSaved p so-far
-    kept-loaded = unsaved-both p done (load-did ∷ []) (h.kept refl) (unsaved-load p t)
-
-    -- ---- it was clean
-
-    kept : IsWriting p word false so-far v a
-    kept = record {
-      taken = taken-loaded;
-      shared = shared-loaded;
-      foreign = foreign-loaded;
-      unreleased = unreleased-loaded;
-      kept = λ _. kept-loaded;
-      resident = subst (λ (k : Held). IsSome k.mapping) (sym held-loaded) h.resident;
-      cleaned = λ e. absurd (false≢true e);
-    }
-
-    -- a pass that is alone knows its words as before the load
-    load-known : IsAlone x → p < x.start.pages → KnowsStage (p, word) (stages.Shared false) v x → KnowsStage (p, word) (stages.Shared false) v a
-    load-known alone page k = stays-known (p, word) (stages.Shared false) v x a (silent-page (load-did ∷ []) [] x a loaded.leaves.start loaded.alone alone p page (refl, tt)) k
-
-    pub kept-so : is_dirty t ≡ false → Advances phases.Save (p, word) (stages.Shared false) (stages.Shared false) done v x a
-    kept-so clean =
-        let stands : IsCleanAt p a = subst (λ (k : Held). (frame : ℕ) × (k.mapping ≡ Some (clean_in frame))) (sym held-loaded) (clean-of (held_at x p).mapping t h.resident said clean) in
-        quietly-to phases.Save (p, word) (stages.Shared false) (stages.Shared false) done (load-did ∷ []) v x a load-quiet (kept, stands) tt record { is = refl; when = inl refl } record { is = refl; when = inl refl } record { is = refl; when = inl refl }
-        load-known
-
-    -- ---- it was dirty
-
-    module _ (f : ℕ) (names : frame_in t ≡ Some f) (dirty : is_dirty t ≡ true) where
-      said-dirty : mapping_of t ≡ Some (dirty_in f)
-      said-dirty = said-frame t f names ∙ ap (λ (b : Bool). Some (record { frame = f; dirty = b })) dirty
-
-      stands-dirty : (held_at x p).mapping ≡ Some (dirty_in f)
-      stands-dirty = sym said ∙ said-dirty
-
-      -- the share was taken before
-      dirty-shared : IsFoundDirty p f shared-loaded.taken.later
-      dirty-shared = (t, record { earlier = h.shared.taken.later; step = load-did; later = []; cut = refl; gives = (refl, refl) }, said-dirty)
-
-      pub inside : f < x.start.frames
-      inside = l.inside (dirty_in f) (said ∙ stands-dirty)
-
-      pub to-write : x.out ≡ None → IsToWrite p f a
-      to-write home = record {
-        writes = ap (λ (s : Seat). s.writing) taken-loaded.now;
-        shared = subst (λ (s : Seat). 1 ≤ s.shares) (sym taken-loaded.now) (omega arith);
-        owns = ap (λ (s : Seat). s.exclusive) taken-loaded.now;
-        closed = ap (λ (s : Seat). s.reading) taken-loaded.now;
-        stands = ap (λ (k : Held). k.mapping) held-loaded ∙ stands-dirty;
-        told = taken-loaded.told;
-        size = taken-loaded.size;
-        home = load-quiet.moves.home home;
+  -- it stays under write-back, and was written or not
+  writing-on : (written : Bool) (more : List Did) → IsStillLocked p more x y → IsSome (held_at y p).mapping → (written ≡ false → HasNotSaved p more)
+      → (written ≡ true → (frame : ℕ) × ((held_at y p).mapping ≡ Some (clean_in frame)) × HasSaved p frame more more) → IsWriting p word written (done ++ more) v y
+  writing-on written more k resident kept saved =
+      let state = no-state-written p more k.does in
+      record {
+        taken = taken-works p word writing_seat (inr (omega arith)) v x h.taken more y k.works k.told;
+        shared = shared-front p word done more h.shared;
+        foreign = λ found ne. each-both (λ (d : Did). d.at ≡ places.State p → d.wrote ≢ Some found) done more (h.foreign found ne) (none-kept more (places.State p) found state);
+        unreleased = each-both (λ (d : Did). d.at ≡ places.State p → d.found ≡ None → d.wrote ≡ None) done more h.unreleased (none-stored (places.State p) more state);
+        kept = λ e. unsaved-both p done more (h.kept refl) (kept e);
+        resident = resident;
+        cleaned = λ e. let there = saved e in (there.0, there.1, saved-behind p word there.0 done more h.shared (h.kept refl).home there.2);
       }
 
-      module _ (b : View X) (c : IsCleaned p f a b) where
-        write-quiet : Quietly phases.Save (p, word) c.done a b
-        write-quiet = record {
-          moves = record { leaves = c.works.leaves; does = saves-all (p, word) c.done c.does; home = λ e. c.home; newer = []; reads = c.reads };
-          runs = c.works.alone;
-          keeps = c.keeps;
-        }
+  known-on : (more : List Did) → IsStillLocked p more x y → IsAlone x → p < x.start.pages → KnowsStage (p, word) (stages.Shared false) v x → KnowsLocked (p, word) 1 (version_of word) v y
+  known-on more k alone page known = locked-on (p, word) 1 (version_of word) v x y (kept-at more [] x y k.works.leaves.start k.works.alone alone (places.State p) page (no-state-written p more k.does)) known.0
 
-        abbrev all : List Did
-        all = so-far ++ c.done
+  -- ---- it was clean
 
-        has-saved : IsSavedFrom p word f all
-        has-saved = (
-          shared-front p word so-far c.done shared-loaded,
-          record {
-            cleaned = record {
-              earlier = shared-loaded.taken.later ++ c.cleaned.earlier;
-              step = c.cleaned.step;
-              later = c.cleaned.later;
-              cut =
-                  ap (λ (l : List Did). shared-loaded.taken.later ++ l) c.cleaned.cut
-                  ∙ sym (append_assoc shared-loaded.taken.later c.cleaned.earlier (c.cleaned.step ∷ c.cleaned.later));
-              place = c.cleaned.place;
-              wrote = c.cleaned.wrote;
-            };
-            dirty = dirty-front p f shared-loaded.taken.later c.cleaned.earlier dirty-shared;
-            block = once-behind p so-far c.done kept-loaded.home c.block;
-          },
-        )
+  pub kept-so : IsFoundClean p x y → Advances phases.Save (p, word) (stages.Shared false) (stages.Shared false) done v x y
+  kept-so c =
+      let stands : IsCleanAt p y = clean-of (held_at y p).mapping (subst (λ (k : Held). IsSome k.mapping) (sym c.held) h.resident) (ap stands_dirty (sym c.said) ∙ c.clean) in
+      let kept : HasNotSaved p c.done = record { kept = none-silent (places.Translation p) c.done c.silent; home = c.stays } in
+      quietly-to phases.Save (p, word) (stages.Shared false) (stages.Shared false) done c.done v x y (quiet-write c.done c.locked c.notes)
+      (writing-on false c.done c.locked (subst (λ (m : Option Mapping). IsSome m) (sym stands.1) refl) (λ e. kept) (λ e. absurd (false≢true e)), stands) tt (gives-nothing refl refl refl)
+      (λ alone page k. stays-known (p, word) (stages.Shared false) v x y (silent-page c.done [] x y c.locked.works.leaves.start c.locked.works.alone alone p page c.silent) k)
 
-        saved : IsWriting p word true all v b
-        saved = record {
-          taken = taken-works p word writing_seat (inr (omega arith)) v a taken-loaded c.done b c.works c.told;
-          shared = shared-front p word so-far c.done shared-loaded;
-          foreign = λ found ne. each-else (places.State p) (λ d. d.wrote ≢ Some found) so-far c.done c.state (foreign-loaded found ne);
-          unreleased = each-else (places.State p) (λ d. d.found ≡ None → d.wrote ≡ None) so-far c.done c.state unreleased-loaded;
-          kept = λ e. absurd (false≢true (sym e));
-          resident = subst (λ (m : Option Mapping). IsSome m) (sym c.stands) refl;
-          cleaned = λ _. (f, c.stands, has-saved);
-        }
+  -- ---- it was dirty, and written
 
-        saved-known : IsAlone a → p < a.start.pages → KnowsStage (p, word) (stages.Shared false) v a → KnowsStage (p, word) (stages.Shared true) v b
-        saved-known alone page k =
-            let start = c.works.leaves.start in (
-              locked-on (p, word) 1 (version_of word) v a b (kept-at c.done [] a b start c.works.alone alone (places.State p) page (none-else (places.State p) c.done c.state)) k.0,
-              kept-at c.done [] a b start c.works.alone alone (places.Fault p) page c.unraised ∙ k.1,
-              λ e. absurd (false≢true (sym e)),
-            )
+  pub saved-so : IsSavedNow p x y → Advances phases.Save (p, word) (stages.Shared false) (stages.Shared true) done v x y
+  saved-so c =
+      quietly-to phases.Save (p, word) (stages.Shared false) (stages.Shared true) done c.done v x y (quiet-write c.done c.locked c.notes)
+      (writing-on true c.done c.locked (subst (λ (m : Option Mapping). IsSome m) (sym c.stands) refl) (λ e. absurd (false≢true (sym e))) (λ e. (c.frame, c.stands, c.saved)), (c.frame, c.stands)) tt (gives-nothing refl refl refl)
+      (λ alone page k. (
+        known-on c.done c.locked alone page k,
+        kept-at c.done [] x y c.locked.works.leaves.start c.locked.works.alone alone (places.Fault p) page c.unraised ∙ k.1,
+        λ e. absurd (false≢true (sym e)),
+      ))
 
-        pub saved-so : Advances phases.Save (p, word) (stages.Shared false) (stages.Shared true) done v x b
-        saved-so =
-            advances-after (p, word) (stages.Shared false) (stages.Shared false) (stages.Shared true) done (load-did ∷ []) v x a b load-quiet (none-shared x (p, word) false) (none-shared a (p, word) false) load-known
-            (quietly-to phases.Save (p, word) (stages.Shared false) (stages.Shared true) so-far c.done v a b write-quiet (saved, (f, c.stands)) tt record { is = refl; when = inl refl } record { is = refl; when = inl refl } record { is = refl; when = inl refl } saved-known)
+  -- ---- its write failed, and the share is given up
 
-      module _ (count : ℕ) (b : View X) (r : IsWriteRefused p f count a b) where
-        abbrev tried : List Did
-        tried = so-far ++ r.done
+  module _ (count : ℕ) (r : IsLeftDirty p count x y) where
+    held-on : HasLockTaken p word writing_seat v y
+    held-on = taken-works p word writing_seat (inr (omega arith)) v x h.taken r.done y r.locked.works r.locked.told
 
-        held-on : HasLockTaken p word writing_seat v b
-        held-on = taken-works p word writing_seat (inr (omega arith)) v a taken-loaded r.done b r.works r.told
+    module _ (last : ℕ) (w : View X) (u : UnshareTold p last y w) where
+      abbrev end-did : Did
+      end-did = unshare-did u
 
-        pub may-give : MayUnshare b p
-        may-give = may-unshare p word v b held-on r.home
+      abbrev both : List Did
+      both = r.done ++ end-did ∷ []
 
-        module _ (last : ℕ) (w : View X) (u : UnshareTold p last b w) where
-          abbrev end-did : Did
-          end-did = did_change (places.State p) last (last - 2 ^ 56)
+      gone : Quietly phases.Save (p, word) (end-did ∷ []) y w
+      gone = given-quiet p word v y held-on phases.Save last w u (gives_up (last, refl))
 
-          gone : Quietly phases.Save (p, word) (end-did ∷ []) b w
-          gone = given-quiet p word v b held-on phases.Save last w u (gives_up (last, refl))
+      dirty-on : IsFoundDirty p r.frame both
+      dirty-on = dirty-front p r.frame r.done (end-did ∷ []) r.dirty
 
-          abbrev both : List Did
-          both = r.done ++ end-did ∷ []
+      failed : IsWriteFailed p word count (done ++ both) v
+      failed = record {
+        shared = shared-front p word done both h.shared;
+        dirty = (r.frame, (dirty-on.0, given-behind h.shared.taken.later both (places.Translation p) dirty-on.0 dirty-on.1, dirty-on.2));
+        block = once-behind p done both (h.kept refl).home (once-front p r.done (end-did ∷ []) r.block (no-fault p end-did refl, tt));
+        kept = none-both (places.Translation p) done both (h.kept refl).kept (none-both (places.Translation p) r.done (end-did ∷ []) r.kept (no-mapping p end-did refl, tt));
+        raised = written-behind done both (places.Fault p) count (written-front r.done (end-did ∷ []) (places.Fault p) count r.raised);
+        allowed = subst (λ (o : Origin). IsAllowed o p count) h.taken.start r.allowed;
+        unreleased =
+            each-both (λ (d : Did). d.at ≡ places.State p → d.found ≡ None → d.wrote ≡ None) done both h.unreleased
+            (each-both (λ (d : Did). d.at ≡ places.State p → d.found ≡ None → d.wrote ≡ None) r.done (end-did ∷ [])
+            (none-stored (places.State p) r.done (no-state-written p r.done r.locked.does)) ((λ here none. absurd (none-some last (sym none))), tt));
+      }
 
-          failed : IsWriteFailed p word count (tried ++ end-did ∷ []) v
-          failed = record {
-            shared = shared-front p word tried (end-did ∷ []) (shared-front p word so-far r.done shared-loaded);
-            dirty = (f, dirty-front p f (shared-loaded.taken.later ++ r.done) (end-did ∷ []) (dirty-front p f shared-loaded.taken.later r.done dirty-shared));
-            block = once-front p tried (end-did ∷ []) (once-behind p so-far r.done kept-loaded.home r.block) (no-fault p end-did refl, tt);
-            kept = kept-both p tried (end-did ∷ []) (kept-both p so-far r.done kept-loaded.kept r.kept) (no-mapping p end-did refl, tt);
-            raised =
-                written-front tried (end-did ∷ []) (places.Fault p) count
-                (written-behind so-far r.done (places.Fault p) count r.raised);
-            allowed = subst (λ (o : Origin). IsAllowed o p count) (loaded.leaves.start ∙ h.taken.start) r.allowed;
-            unreleased =
-                each-both (λ (d : Did). d.at ≡ places.State p → d.found ≡ None → d.wrote ≡ None) tried (end-did ∷ [])
-                (each-else (places.State p) (λ d. d.found ≡ None → d.wrote ≡ None) so-far r.done r.state unreleased-loaded) ((λ here none. absurd (none-some last (sym none))), tt);
-          }
+      -- what a pass that is alone knows once the write failed, and once the share was given up
+      failed-known : IsAlone x → p < x.start.pages → KnowsStage (p, word) (stages.Shared false) v x → KnowsStage (p, word) (stages.Failed count) v w
+      failed-known alone page k =
+          let start = r.locked.works.leaves.start in
+          let runs = r.locked.works.alone in
+          let shared = known-on r.done r.locked alone page k in
+          let raised : known_word_at y (places.Fault p) ≡ count = left-at r.done [] x y start runs alone (places.Fault p) count record { written = r.raised; none_after = subst (λ (l : List Did). WritesNone (places.Fault p) l) (sym r.ends) tt } in
+          let alone-then : IsAlone y = still-alone x y r.locked.works.leaves.parts runs.current alone in
+          let page-then : p < y.start.pages = subst (λ (o : Origin). p < o.pages) (sym start) page in
+          let end-start = gone.moves.leaves.start in
+          let found : last ≡ known_word_at y (places.State p) = found-first end-did [] [] y w gone.runs alone-then last refl in (
+            record {
+              before = shared.before;
+              now =
+                  left-at (end-did ∷ []) [] y w end-start gone.runs alone-then (places.State p) (last - 2 ^ 56) (left-last [] end-did (last - 2 ^ 56) refl)
+                  ∙ ap (λ (n : ℕ). n - 2 ^ 56) (found ∙ shared.now)
+                  ∙ share-gone (version_of word);
+            },
+            kept-at (end-did ∷ []) [] y w end-start gone.runs alone-then (places.Translation p) page-then (no-mapping p end-did refl, tt)
+                ∙ kept-at r.done [] x y start runs alone (places.Translation p) page r.kept
+                ∙ k.2 refl,
+            kept-at (end-did ∷ []) [] y w end-start gone.runs alone-then (places.Fault p) page-then ((λ here. absurd (not-fault p (places.State p) refl here)), tt) ∙ raised,
+          )
 
-          -- what a pass that is alone knows once the write failed, and once the share was given up
-          failed-known : IsAlone a → p < a.start.pages → KnowsStage (p, word) (stages.Shared false) v a → KnowsStage (p, word) (stages.Failed count) v w
-          failed-known alone page k =
-              let start = r.works.leaves.start in
-              let shared : known_word_at b (places.State p) ≡ word_of 1 (version_of word) = kept-at r.done [] a b start r.works.alone alone (places.State p) page (none-else (places.State p) r.done r.state) ∙ k.0.now in
-              let raised : known_word_at b (places.Fault p) ≡ count = left-at r.done [] a b start r.works.alone alone (places.Fault p) count record { written = r.raised; none_after = subst (λ (l : List Did). WritesNone (places.Fault p) l) (sym r.ends) tt } in
-              let alone-then : IsAlone b = still-alone a b r.works.leaves.parts r.works.alone.current alone in
-              let page-then : p < b.start.pages = subst (λ (o : Origin). p < o.pages) (sym start) page in
-              let end-start = gone.moves.leaves.start in
-              let found : last ≡ known_word_at b (places.State p) = found-first end-did [] [] b w gone.runs alone-then last refl in (
-                record {
-                  before = k.0.before;
-                  now =
-                      left-at (end-did ∷ []) [] b w end-start gone.runs alone-then (places.State p) (last - 2 ^ 56) (left-last [] end-did (last - 2 ^ 56) refl)
-                      ∙ ap (λ (n : ℕ). n - 2 ^ 56) (found ∙ shared)
-                      ∙ share-gone (version_of word);
-                },
-                kept-at (end-did ∷ []) [] b w end-start gone.runs alone-then (places.Translation p) page-then (no-mapping p end-did refl, tt)
-                    ∙ kept-at r.done [] a b start r.works.alone alone (places.Translation p) page r.kept
-                    ∙ k.2 refl,
-                kept-at (end-did ∷ []) [] b w end-start gone.runs alone-then (places.Fault p) page-then ((λ here. absurd (not-fault p (places.State p) refl here)), tt) ∙ raised,
-              )
+      pub failed-so : Advances phases.Save (p, word) (stages.Shared false) (stages.Failed count) done v x w
+      failed-so = record {
+        more = both;
+        moves = moves-then phases.Save (p, word) r.done (end-did ∷ []) x y w (moves-write r.done r.locked) gone.moves;
+        at = (failed, given-rests p word v y held-on phases.Save last w u);
+        ends = tt;
+        own = [];
+        runs = runs-then r.done (end-did ∷ []) [] [] x y w r.locked.works.leaves.start r.locked.works.leaves.parts r.locked.works.alone gone.runs;
+        alone = alone-then x y w r.locked.works.leaves.parts (stays-alone r.done x y r.locked.works.leaves.start r.locked.works.alone) (stays-alone (end-did ∷ []) y w gone.moves.leaves.start gone.runs);
+        releases = record { is = refl; when = inl refl };
+        notes = record { page = p; count = count } ∷ [];
+        noted = gone.keeps.notes ∙ r.noted;
+        notes_are = record { is = refl; when = inr refl };
+        frames = [];
+        come = still refl (gone.keeps.frames ∙ r.locked.frames.0) (gone.keeps.contents ∙ r.locked.frames.1);
+        frames_are = record { is = refl; when = inl refl };
+        table = failed-known;
+      }
 
-          pub failed-so : Advances phases.Save (p, word) (stages.Shared false) (stages.Failed count) done v x w
-          failed-so =
-              advances-after (p, word) (stages.Shared false) (stages.Shared false) (stages.Failed count) done (load-did ∷ []) v x a w load-quiet (none-shared x (p, word) false) (none-shared a (p, word) false) load-known
-              record {
-                more = both;
-                moves =
-                    moves-then phases.Save (p, word) r.done (end-did ∷ []) a b w
-                    record { leaves = r.works.leaves; does = saves-all (p, word) r.done r.does; home = λ e. r.home; newer = []; reads = r.reads }
-                    gone.moves;
-                at = (subst (λ (l : List Did). IsWriteFailed p word count l v) (append_assoc so-far r.done (end-did ∷ [])) failed, given-rests p word v b held-on phases.Save last w u (gives_up (last, refl)));
-                ends = tt;
-                own = [];
-                runs = runs-then r.done (end-did ∷ []) [] [] a b w r.works.leaves.start r.works.leaves.parts r.works.alone gone.runs;
-                alone = alone-then a b w r.works.leaves.parts (stays-alone r.done a b r.works.leaves.start r.works.alone) (stays-alone (end-did ∷ []) b w gone.moves.leaves.start gone.runs);
-                releases = record { is = refl; when = inl refl };
-                notes = record { page = p; count = count } ∷ [];
-                noted = gone.keeps.notes ∙ r.noted;
-                notes_are = record { is = refl; when = inr refl };
-                frames = [];
-                come = still refl (gone.keeps.frames ∙ r.frames.0) (gone.keeps.contents ∙ r.frames.1);
-                frames_are = record { is = refl; when = inl refl };
-                table = failed-known;
-              }
+  -- whether it was written or not
+  pub written-so : (written : Bool) → EndsWrite p x y (Ok written) → Advances phases.Save (p, word) (stages.Shared false) (stages.Shared written) done v x y
+  written-so false c = kept-so c
+  written-so true c = saved-so c

@@ -1,31 +1,20 @@
 -- What is known of a candidate stays over steps on another one.
-use Rattle.std.proofs.Common.{ℕ, Bool, ◌≡◌, ◌≢◌, ◌+◌, ◌++◌, length, List, [], ◌∷◌, Some, None, IsSome, refl, sym, ap, subst, ◌∙◌, ⊎_elim, inl, inr, append_assoc, arith}
-use Rattle.vm_core.specs.declared.event.Seat.{Seat}
-use Rattle.vm_core.specs.Words.{EVICTED, version_of, word_of}
-use Rattle.vm_core.specs.FrameActs.{trans_word}
-use Rattle.vm_core.specs.History.{Version}
-use Rattle.vm_owner.specs.Numbers.{has}
-use Rattle.vm_rule.specs.declared.view.Did.{Did}
+use Rattle.std.proofs.Common.{[], ⊎_elim, ◌++◌, ◌+◌, ◌∙◌, ◌∷◌, ◌≡◌, ◌≢◌, ap, append_assoc, arith, Bool, inl, inr, IsSome, List, None, refl, Some}
+use Rattle.std.proofs.Common.{subst, sym, ℕ}
+use Rattle.vm_core.specs.Prelude.{EVICTED, trans_word, Version, version_of, word_of}
+use Rattle.vm_rule.specs.Prelude.{clean_in, Each, IsLocking, Seat}
 use Rattle.vm_rule.specs.declared.view.Held.{Held}
 use Rattle.vm_rule.specs.declared.view.Place.TheVariants as places
-use Rattle.vm_rule.specs.declared.view.Release.{Release}
-use Rattle.vm_rule.specs.declared.view.Translation.{Translation}
-use Rattle.vm_rule.specs.declared.view.View.{View}
-use Rattle.vm_rule.specs.Views.{Each, IsLocking}
-use Rattle.vm_rule.specs.Mappings.{clean_in}
-use Rattle.vm_step.specs.DeviceCalls.{StaysHome}
-use Rattle.vm_step.specs.Works.{LeavesRest}
-use Rattle.vm_step.proofs.Asides.{starts-then, still-locking}
+use Rattle.vm_step.specs.Prelude.{Did, LeavesRest, Release, StaysHome, Translation, View}
+use Rattle.vm_step.proofs.{Asides.starts-then, Asides.still-locking, Evidenced.given-front, Evidenced.written-front}
 use Rattle.vm_step.proofs.DeviceCalls.{home-both, home-else, once-front}
-use Rattle.vm_step.proofs.Evidenced.{given-front, written-front}
-use Rattle.vm_evict.specs.Evictions.{HasReleased, IsWriteFailed, IsPageFreed, IsMissed}
-use Rattle.vm_evict.specs.Stages.{IsAt, IsCleanAt, IsEmptied, IsOwning, IsSeenClean, HasLockTaken, IsWaiting, IsWriting, Moves, Rests, owning_seat, writing_seat}
-use Rattle.vm_evict.specs.Writes.{HasNotSaved}
-use Rattle.vm_evict.specs.declared.candidate.Phase.{Phase}
-use Rattle.vm_evict.specs.declared.candidate.Stage.{Stage}
+use Rattle.vm_evict.specs.{declared.candidate.Phase.Phase, declared.candidate.Stage.Stage, Writes.HasNotSaved, Writes.writing_seat}
 use Rattle.vm_evict.specs.declared.candidate.Stage.TheVariants as stages
-use Rattle.vm_evict.proofs.Evidenced.{each-else, dirty-front, locks-front, lost-front, saved-front, shared-front}
+use Rattle.vm_evict.specs.Evictions.{HasReleased, IsMissed, IsPageFreed, IsWriteFailed}
+use Rattle.vm_evict.specs.Stages.{HasLockTaken, IsAt, IsCleanAt, IsEmptied, IsOwning, IsSeenClean, IsWaiting, IsWriting, Moves, owning_seat, Rests}
+use Rattle.vm_evict.proofs.Evidenced.{dirty-front, each-else, locks-front, lost-front, saved-front, shared-front}
 use Rattle.vm_evict.proofs.Moving.{no-fault-of, no-state-of, no-translation-of}
+use Rattle.vm_evict.proofs.Taken.{taken-on}
 
 module _ {X : Type 0} where
   pub rests-stay : (p q : ℕ) (more : List Did) (v x y : View X) → LeavesRest p more x y → q ≢ p → Rests q v x → Rests q v y
@@ -77,19 +66,8 @@ module _ {X : Type 0} (phase : Phase) (c : ℕ × ℕ) (more : List Did) (x y : 
 
   taken : (seat : Seat) → IsLocking seat → HasLockTaken q word seat v x → HasLockTaken q word seat v y
   taken seat locks h =
-      let same = m.leaves.last q ne (subst (λ (s : Seat). IsLocking s) (sym h.now) locks) in
-      record {
-        before = h.before;
-        start = m.leaves.start ∙ h.start;
-        since = starts-then v.releases x.releases y.releases h.since m.leaves.releases;
-        free = ap (has q) m.leaves.group.0 ∙ h.free;
-        paid = ap (has q) m.leaves.group.1 ∙ h.paid;
-        next = λ e. h.next (sym m.leaves.group.2 ∙ e);
-        now = m.leaves.seats q ne ∙ h.now;
-        at = ap (λ (r : Version). r.version) same ∙ h.at;
-        size = ap (λ (r : Version). length r.words) same ∙ h.size;
-        told = subst (λ (k : Held). k.fault ≡ k.block.count) (sym (m.leaves.held q ne)) h.told;
-      }
+      taken-on q c.0 word seat seat more v x y h m.leaves (m.leaves.last q ne (subst (λ (s : Seat). IsLocking s) (sym h.now) locks)) (m.leaves.seats q ne ∙ h.now)
+      (subst (λ (k : Held). k.fault ≡ k.block.count) (sym (m.leaves.held q ne)) h.told)
 
   clean-on : IsCleanAt q x → IsCleanAt q y
   clean-on h = (h.0, ap (λ (k : Held). k.mapping) (m.leaves.held q ne) ∙ h.1)

@@ -1,42 +1,24 @@
 -- What a pass that is alone knows of a candidate's words over some steps: where none of them left a word it knows the word that it knew.
-use Rattle.std.proofs.Common.{ℕ, ◌≡◌, ◌≢◌, ◌⊎◌, ◌<◌, ◌-◌, ◌^◌, ◌++◌, true, List, [], ◌∷◌, Option, Some, None, refl, sym, ap, subst, ◌∙◌, ⊎_elim, inl, inr, arith}
-use Rattle.vm_core.specs.Words.{UNLOCKED, word_of}
-use Rattle.vm_owner.specs.Numbers.{has}
-use Rattle.vm_rule.specs.declared.view.Did.{Did}
+use Rattle.std.proofs.Common.{[], ⊎_elim, ◌++◌, ◌-◌, ◌<◌, ◌^◌, ◌∙◌, ◌∷◌, ◌≡◌, ◌≢◌, ◌⊎◌, ap, arith, inl, inr, List, None, Option, refl, Some, subst}
+use Rattle.std.proofs.Common.{sym, true, ℕ}
+use Rattle.vm_core.specs.Prelude.{UNLOCKED, word_of}
+use Rattle.vm_rule.specs.Prelude.{Each, has, index_of, IsFoundAt, Within}
 use Rattle.vm_rule.specs.declared.view.Place.{Place}
 use Rattle.vm_rule.specs.declared.view.Place.TheVariants as places
-use Rattle.vm_rule.specs.declared.view.Release.{Release}
-use Rattle.vm_rule.specs.declared.view.View.{View}
-use Rattle.vm_rule.specs.Brought.{IsFoundAt}
-use Rattle.vm_rule.specs.Layout.{Within, index_of}
-use Rattle.vm_rule.specs.Views.{Each}
 use Rattle.vm_rule.proofs.Heard.{each-both}
-use Rattle.vm_step.specs.Alone.{IsAlone, LeavesLast, RunsAlone, WritesNone, known_word_at}
-use Rattle.vm_step.specs.Choices.{candidate_pages}
+use Rattle.vm_step.specs.Prelude.{candidate_pages, Did, IsAlone, known_word_at, LeavesLast, Release, RunsAlone, View, WritesNone}
 use Rattle.vm_step.proofs.After.{knows-after}
-use Rattle.vm_evict.specs.Evictions.{candidate_at}
-use Rattle.vm_evict.specs.Phases.{Does, DoesOne, GivesUp, InPhases, Saves, writes, shares, gives_up}
-use Rattle.vm_evict.specs.Tables.{IsOfAny, KnowsKept, KnowsLocked, KnowsOn, KnowsStage}
-use Rattle.vm_evict.specs.Writes.{reads, cleans, raises}
-use Rattle.vm_evict.specs.declared.candidate.Phase.{Phase}
+use Rattle.vm_evict.specs.{declared.candidate.Phase.Phase, declared.candidate.Stage.Stage, Evictions.candidate_at}
 use Rattle.vm_evict.specs.declared.candidate.Phase.TheVariants as phases
-use Rattle.vm_evict.specs.declared.candidate.Stage.{Stage}
 use Rattle.vm_evict.specs.declared.candidate.Stage.TheVariants as stages
-use Rattle.vm_evict.proofs.Gathering.{has-page}
+use Rattle.vm_evict.specs.Phases.{Does, DoesOne, gives_up, GivesUp, InPhases, Saves, shares, writes}
+use Rattle.vm_evict.specs.Tables.{IsOfAny, KnowsKept, KnowsLocked, KnowsOn, KnowsStage}
+use Rattle.vm_evict.specs.Writes.{cleans, raises, reads}
+use Rattle.vm_evict.proofs.{Evidenced.none-else, Evidenced.none-silent, Gathering.has-page}
 
 pub each-two : {A : Type 0} (P Q : A → Type 0) (l : List A) → Each P l → Each Q l → Each (λ x. P x × Q x) l
 each-two P Q [] f g = tt
 each-two P Q (x ∷ xs) f g = ((f.0, g.0), each-two P Q xs f.1 g.1)
-
--- ---- steps that leave no word
-
-pub none-else : (at : Place) (done : List Did) → Each (λ d. d.at ≢ at) done → WritesNone at done
-none-else at [] e = tt
-none-else at (d ∷ ds) e = (λ here. absurd (e.0 here), none-else at ds e.1)
-
-pub none-silent : (at : Place) (done : List Did) → Each (λ d. d.wrote ≡ None) done → WritesNone at done
-none-silent at [] e = tt
-none-silent at (d ∷ ds) e = (λ here. e.0, none-silent at ds e.1)
 
 -- the last step left this word last
 pub left-last : (before : List Did) (d : Did) (word : ℕ) → d.wrote ≡ Some word → LeavesLast (before ++ d ∷ []) d.at word

@@ -1,42 +1,22 @@
 -- The write-back of a dirty page: its block is taken out, the page's words are copied from its frame and written, and the block is brought home;
 -- then the page is made clean, or the fault is noted.
-use Rattle.std.proofs.Common.{ℕ, ◌≡◌, ◌≤◌, ◌&&◌, ◌||◌, ◌++◌, true, false, nat_lt, List, [], ◌∷◌, Option, Some, None, IsSome, is_some, length, refl, sym, ap, subst, ◌∙◌, inl, inr, arith, if◌then◌else◌, Bool, Result, Ok, Err, is_ok}
-use Rattle.std.proofs.lemmas.Bool.{cond-true, cond-false, lt-ltb, or_right}
-use Rattle.vm_core.specs.declared.event.Mapping.{Mapping}
-use Rattle.vm_core.specs.declared.event.Seat.{Seat}
-use Rattle.vm_core.specs.Fn.{at}
-use Rattle.vm_core.specs.Words.{count_more}
-use Rattle.vm_core.specs.FrameActs.{frame_of, open_frame, trans_word}
-use Rattle.vm_core.specs.History.{Version}
-use Rattle.vm_core.proofs.Upd.{upd-other, upd-same}
-use Rattle.vm_block.specs.Blocks.{Writes, one_call_more}
-use Rattle.vm_block.specs.declared.stored.Stored.{Stored}
-use Rattle.vm_rule.specs.declared.view.Did.{Did}
+use Rattle.std.proofs.Common.{[], ◌&&◌, ◌++◌, ◌||◌, ◌∙◌, ◌∷◌, ◌≡◌, ◌≤◌, ap, arith, Bool, Err, false, if◌then◌else◌, inl, inr, is_ok, is_some, IsSome}
+use Rattle.std.proofs.Common.{length, List, nat_lt, None, Ok, Option, refl, Result, Some, subst, sym, true, ℕ}
+use Rattle.std.proofs.lemmas.Bool.{cond-false, cond-true, lt-ltb, or_right}
+use Rattle.vm_block.specs.Blocks.{Writes}
+use Rattle.vm_core.specs.Prelude.{at, count_more, frame_of, open_frame, trans_word, Version}
+use Rattle.vm_rule.specs.Prelude.{clean_in, CleanTold, did_store, draft_of, Each, frame_read_by, held_at, HomeTold, IsWritten, last_of, Mapping}
+use Rattle.vm_rule.specs.Prelude.{MayBring, notes_of, out_at, OutTold, RaiseTold, Seat, seat_of, Stored, words_held}
 use Rattle.vm_rule.specs.declared.view.Held.{Held}
-use Rattle.vm_rule.specs.declared.view.Origin.{Origin}
 use Rattle.vm_rule.specs.declared.view.Place.TheVariants as places
-use Rattle.vm_rule.specs.declared.view.View.{View}
-use Rattle.vm_rule.specs.Puts.{put, put_at}
-use Rattle.vm_rule.specs.Views.{Each, seat_of, draft_of}
-use Rattle.vm_rule.specs.Reading.{last_of}
-use Rattle.vm_rule.specs.Rule.{no_held}
-use Rattle.vm_rule.specs.Faults.{RaiseTold, notes_of}
-use Rattle.vm_rule.specs.Loads.{frame_read_by}
-use Rattle.vm_rule.specs.Log.{did_store}
-use Rattle.vm_rule.specs.Mappings.{CleanTold, IsWritten, clean_in, held_at, mapped}
-use Rattle.vm_rule.specs.Slots.{HomeTold, MayBring, OutTold, out_at, words_held}
 use Rattle.vm_rule.proofs.Heard.{each-both}
-use Rattle.vm_step.specs.Alone.{WritesNone}
-use Rattle.vm_step.specs.Asides.{KeepsFrames}
-use Rattle.vm_step.specs.Conditions.{MayRaise, MayTakeOut}
-use Rattle.vm_step.specs.DeviceCalls.{GoesOnce, StaysHome}
-use Rattle.vm_step.specs.Works.{Works}
-use Rattle.vm_step.proofs.Asides.{keeps-then}
-use Rattle.vm_step.proofs.Device.{Moves, comes-home, counts-one, goes-out, may-bring-written, more-is, noted-more, two-loads}
-use Rattle.vm_step.proofs.DeviceCalls.{goes-once}
-use Rattle.vm_step.proofs.Leaves.{works-one, works-then}
-use Rattle.vm_evict.specs.Writes.{IsAllowed, IsCleaned, IsCopied, IsWriteRefused, IsToWrite, LeavesState, WritesOwn, WritesPage, reads, cleans, raises}
-use Rattle.vm_evict.proofs.Copying.{kept-both, leaves-both, not-fault, no-mapping, no-state, none-both, reads-same}
+use Rattle.vm_step.specs.Prelude.{Did, GoesOnce, KeepsFrames, MayRaise, MayTakeOut, Origin, StaysHome, View, Works}
+use Rattle.vm_step.proofs.{Asides.keeps-then, DeviceCalls.goes-once, Leaves.works-then, steps.Mapping.clean-held, steps.Mapping.clean-works}
+use Rattle.vm_step.proofs.{steps.Raise.raise-held, steps.Raise.raise-works}
+use Rattle.vm_step.proofs.Device.{comes-home, counts-one, goes-out, may-bring-written, Moves, noted-more, two-loads}
+use Rattle.vm_evict.specs.Writes.{cleans, IsAllowed, IsCleaned, IsCopied, IsToWrite, IsWriteRefused, raises, reads, WritesPage}
+use Rattle.vm_evict.proofs.Copying.{loads-silent, loads-stay, loads-write, reads-same}
+use Rattle.vm_evict.proofs.Evidenced.{no-mapping, none-both, none-silent, not-fault}
 
 -- the frame of a page that is shared and resident is read
 shared-frame : (e b s : Bool) (x y : Option ℕ) → b ≡ true → s ≡ true → (if (e || b) && s then x else y) ≡ x
@@ -123,30 +103,20 @@ module _ {X : Type 0} (p f : ℕ) (v : View X) (r : IsToWrite p f v) where
           held-is : held_at d p ≡ held-called
           held-is = back.known ∙ ap (λ (h : Held). record h { block = new }) held-copied
 
-          state-called : LeavesState p called-did
-          state-called =
-              let away = no-state p (places.Fault p) refl in
-              leaves-both p copied-did home-did (leaves-both p out-did k.done (away, (away, tt)) k.state) (away, (away, tt))
+          silent-copy : Each (λ d. d.wrote ≡ None) k.done
+          silent-copy = loads-silent k.done k.loads
 
-          unraised-called : WritesNone (places.Fault p) called-did
-          unraised-called =
-              none-both (places.Fault p) copied-did home-did (none-both (places.Fault p) out-did k.done ((λ here. refl), ((λ here. refl), tt)) k.unraised) ((λ here. refl), ((λ here. refl), tt))
-
-          kept-called : WritesNone (places.Translation p) called-did
-          kept-called =
-              kept-both p copied-did home-did (kept-both p out-did k.done ((λ here. refl), ((λ here. refl), tt)) k.kept.kept) ((λ here. refl), ((λ here. refl), tt))
+          silent-called : Each (λ d. d.wrote ≡ None) called-did
+          silent-called =
+              each-both (λ (d : Did). d.wrote ≡ None) copied-did home-did (each-both (λ (d : Did). d.wrote ≡ None) out-did k.done (refl, (refl, tt)) silent-copy) (refl, (refl, tt))
 
           -- the copy moves no block
           once-called : (later : List Did) → StaysHome p later → GoesOnce p (called-did ++ later)
-          once-called later home = goes-once p o.first o.second m.first m.second k.done later k.kept.home home
-
-          own-called : Each (WritesOwn p) called-did
-          own-called =
-              each-both (WritesOwn p) copied-did home-did (each-both (WritesOwn p) out-did k.done (inl refl, (inl refl, tt)) k.own) (inl refl, (inl refl, tt))
+          once-called later home = goes-once p o.first o.second m.first m.second k.done later (loads-stay p k.done k.loads) home
 
           does-called : Each (WritesPage p) called-did
           does-called =
-              each-both (WritesPage p) copied-did home-did (each-both (WritesPage p) out-did k.done (reads (inl refl) refl refl, (reads (inl refl) refl refl, tt)) k.does)
+              each-both (WritesPage p) copied-did home-did (each-both (WritesPage p) out-did k.done (reads (inl refl) refl refl, (reads (inl refl) refl refl, tt)) (loads-write p k.done k.loads))
               (reads (inl refl) refl refl, (reads (inl refl) refl refl, tt))
 
           reads-called : d.translations ≡ v.translations
@@ -173,7 +143,7 @@ module _ {X : Type 0} (p f : ℕ) (v : View X) (r : IsToWrite p f v) where
             stored t = write.held (sym telling ∙ t) ∙ ap (λ (y : Result (Unit {0}) E). if is_ok y then page else old.words) ok ∙ page-is t
 
             count-same : new.count ≡ old.count
-            count-same = write.count ∙ ap (λ (y : Result (Unit {0}) E). if is_ok y then old.count else one_call_more old.count) ok
+            count-same = write.count ∙ ap (λ (y : Result (Unit {0}) E). if is_ok y then old.count else count_more old.count) ok
 
             pub may-clean : IsWritten d p f
             may-clean = record {
@@ -190,38 +160,32 @@ module _ {X : Type 0} (p f : ℕ) (v : View X) (r : IsToWrite p f v) where
               abbrev clean-did : Did
               clean-did = did_store (places.Translation p) (trans_word (Some (clean_in f)))
 
-              clean-work : Works p (clean-did ∷ []) d w
-              clean-work =
-                  works-one p clean-did _ d (mapped p (Some (clean_in f)) d) d.frames d.contents d.out d.notes w
-                  (λ q ne. upd-other (put_at no_held d.held) p (record (held_at d p) { mapping = Some (clean_in f) }) q ne) t.brings
-
               work-cleaned : Works p (called-did ++ clean-did ∷ []) v w
-              work-cleaned = works-then p called-did (clean-did ∷ []) v d w work-called clean-work
+              work-cleaned = works-then p called-did (clean-did ∷ []) v d w work-called (clean-works t)
 
               held-cleaned : held_at w p ≡ record held-called { mapping = Some (clean_in f) }
               held-cleaned =
-                  ap (λ (y : View X). held_at y p) t.brings.view
-                  ∙ upd-same (put_at no_held d.held) p (record (held_at d p) { mapping = Some (clean_in f) })
+                  clean-held t
                   ∙ ap (λ (h : Held). record h { mapping = Some (clean_in f) }) held-is
 
               pub cleaned : IsCleaned p f v w
               cleaned = record {
                 done = called-did ++ clean-did ∷ [];
-                works = work-cleaned;
-                state = leaves-both p called-did (clean-did ∷ []) state-called (no-state p (places.Translation p) refl, tt);
-                own = each-both (WritesOwn p) called-did (clean-did ∷ []) own-called (inr (inl refl), tt);
-                does = each-both (WritesPage p) called-did (clean-did ∷ []) does-called (cleans f refl, tt);
-                reads = ap (λ (y : View X). y.translations) t.brings.view ∙ reads-called;
+                locked = record {
+                  works = work-cleaned;
+                  does = each-both (WritesPage p) called-did (clean-did ∷ []) does-called (cleans f refl, tt);
+                  reads = ap (λ (y : View X). y.translations) t.brings.view ∙ reads-called;
+                  told = subst (λ (h : Held). h.fault ≡ h.block.count) (sym held-cleaned) (r.told ∙ sym o.slot.block.count ∙ sym count-same);
+                  home = ap (λ (y : View X). y.out) t.brings.view ∙ back.away;
+                  frames = (ap (λ (y : View X). y.frames) t.brings.view ∙ keeps-called.frames, ap (λ (y : View X). y.contents) t.brings.view ∙ keeps-called.contents);
+                };
                 block = once-called (clean-did ∷ []) ((λ here. refl), tt);
                 cleaned = record { earlier = called-did; step = clean-did; later = []; cut = refl; place = refl; wrote = refl };
                 ends = refl;
-                unraised = none-both (places.Fault p) called-did (clean-did ∷ []) unraised-called ((λ here. absurd (not-fault p (places.Translation p) refl here)), tt);
+                unraised = none-both (places.Fault p) called-did (clean-did ∷ []) (none-silent (places.Fault p) called-did silent-called) ((λ here. absurd (not-fault p (places.Translation p) refl here)), tt);
                 stands = ap (λ (h : Held). h.mapping) held-cleaned;
                 stored = λ tells. ap (λ (h : Held). h.block.words) held-cleaned ∙ stored tells ∙ ap (λ (x : Version). x.words) (sym (work-cleaned.last (inr r.shared)));
-                told = subst (λ (h : Held). h.fault ≡ h.block.count) (sym held-cleaned) (r.told ∙ sym o.slot.block.count ∙ sym count-same);
-                keeps = keeps-then v d w keeps-called
-                    record { frames = ap (λ (y : View X). y.frames) t.brings.view; contents = ap (λ (y : View X). y.contents) t.brings.view; notes = ap (λ (y : View X). y.notes) t.brings.view };
-                home = ap (λ (y : View X). y.out) t.brings.view ∙ back.away;
+                notes = ap (λ (y : View X). y.notes) t.brings.view ∙ keeps-called.notes;
               }
 
           -- ---- the write failed
@@ -237,17 +201,12 @@ module _ {X : Type 0} (p f : ℕ) (v : View X) (r : IsToWrite p f v) where
               abbrev raise-did : Did
               raise-did = did_store (places.Fault p) n
 
-              raise-work : Works p (raise-did ∷ []) d w
-              raise-work =
-                  works-one p raise-did _ d (put p (record (held_at d p) { fault = n }) d.held) d.frames d.contents d.out (d.notes ++ notes_of p (held_at d p).fault n) w
-                  (λ q ne. upd-other (put_at no_held d.held) p (record (held_at d p) { fault = n }) q ne) t.brings
-
               held-raised : held_at w p ≡ record held-called { fault = n }
               held-raised =
-                  ap (λ (y : View X). held_at y p) t.brings.view ∙ upd-same (put_at no_held d.held) p (record (held_at d p) { fault = n }) ∙ ap (λ (h : Held). record h { fault = n }) held-is
+                  raise-held t ∙ ap (λ (h : Held). record h { fault = n }) held-is
 
               count : new.count ≡ count_more old.count
-              count = write.count ∙ ap (λ (y : Result (Unit {0}) E). if is_ok y then old.count else one_call_more old.count) err ∙ more-is old.count
+              count = write.count ∙ ap (λ (y : Result (Unit {0}) E). if is_ok y then old.count else count_more old.count) err
 
               -- the count is what the block's bound allows
               allowed : IsAllowed v.start p n
@@ -267,13 +226,16 @@ module _ {X : Type 0} (p f : ℕ) (v : View X) (r : IsToWrite p f v) where
               pub refused : IsWriteRefused p f n v w
               refused = record {
                 done = called-did ++ raise-did ∷ [];
-                works = works-then p called-did (raise-did ∷ []) v d w work-called raise-work;
-                state = leaves-both p called-did (raise-did ∷ []) state-called (no-state p (places.Fault p) refl, tt);
-                own = each-both (WritesOwn p) called-did (raise-did ∷ []) own-called (inr (inr refl), tt);
-                does = each-both (WritesPage p) called-did (raise-did ∷ []) does-called (raises n refl, tt);
-                reads = ap (λ (y : View X). y.translations) t.brings.view ∙ reads-called;
+                locked = record {
+                  works = works-then p called-did (raise-did ∷ []) v d w work-called (raise-works t);
+                  does = each-both (WritesPage p) called-did (raise-did ∷ []) does-called (raises n refl, tt);
+                  reads = ap (λ (y : View X). y.translations) t.brings.view ∙ reads-called;
+                  told = subst (λ (h : Held). h.fault ≡ h.block.count) (sym held-raised) is;
+                  home = ap (λ (y : View X). y.out) t.brings.view ∙ back.away;
+                  frames = (ap (λ (y : View X). y.frames) t.brings.view ∙ keeps-called.frames, ap (λ (y : View X). y.contents) t.brings.view ∙ keeps-called.contents);
+                };
                 block = once-called (raise-did ∷ []) ((λ here. refl), tt);
-                kept = kept-both p called-did (raise-did ∷ []) kept-called (no-mapping p raise-did refl, tt);
+                kept = none-both (places.Translation p) called-did (raise-did ∷ []) (none-silent (places.Translation p) called-did silent-called) (no-mapping p raise-did refl, tt);
                 raised = record { earlier = called-did; step = raise-did; later = []; cut = refl; place = refl; wrote = refl };
                 ends = refl;
                 noted =
@@ -282,7 +244,4 @@ module _ {X : Type 0} (p f : ℕ) (v : View X) (r : IsToWrite p f v) where
                     ∙ ap (λ l. l ++ record { page = p; count = n } ∷ []) keeps-called.notes;
                 allowed = allowed;
                 stands = ap (λ (h : Held). h.mapping) held-raised ∙ r.stands;
-                told = subst (λ (h : Held). h.fault ≡ h.block.count) (sym held-raised) is;
-                frames = (ap (λ (y : View X). y.frames) t.brings.view ∙ keeps-called.frames, ap (λ (y : View X). y.contents) t.brings.view ∙ keeps-called.contents);
-                home = ap (λ (y : View X). y.out) t.brings.view ∙ back.away;
               }

@@ -1,32 +1,18 @@
 -- What becomes of the candidates for eviction. A candidate is freed: locked from the very word at which it was marked, written before if it was
 -- dirty, taken out of its frame, and released as evicted at its next version with the words that it had. Or its write failed, and it stays
 -- resident and dirty, at its version. Or it changed before it could be locked.
-use Rattle.std.specs.Prelude.{ℕ, Bool, true, false, Option, Some, None, List, [], ◌∷◌, ◌++◌, ◌≡◌, ◌≢◌, ◌⊎◌, ◌+◌, ◌<◌, ◌||◌, zero, suc, length, slice_index_or, if◌then◌else◌}
-use Rattle.vm_core.specs.Words.{version_of, word_of, LOCKED, EVICTED}
-use Rattle.vm_core.specs.FrameActs.{mapping_of, trans_word}
-use Rattle.vm_owner.specs.Numbers.{has, AreApart}
-use Rattle.vm_rule.specs.declared.view.Did.{Did}
-use Rattle.vm_rule.specs.declared.view.Note.{Note}
+use Rattle.std.specs.Prelude.{[], ◌++◌, ◌+◌, ◌<◌, ◌||◌, ◌∷◌, ◌≡◌, ◌≢◌, ◌⊎◌, Bool, false, if◌then◌else◌, length, List, None, Option, slice_index_or}
+use Rattle.std.specs.Prelude.{Some, suc, true, zero, ℕ}
+use Rattle.vm_core.specs.Prelude.{EVICTED, LOCKED, mapping_of, trans_word, version_of, word_of}
+use Rattle.vm_rule.specs.Prelude.{AreApart, clean_in, contents_at, Each, has, last_in, last_of}
 use Rattle.vm_rule.specs.declared.view.Place.{Place}
 use Rattle.vm_rule.specs.declared.view.Place.TheVariants as places
-use Rattle.vm_rule.specs.declared.view.Release.{Release}
-use Rattle.vm_rule.specs.declared.view.View.{View}
-use Rattle.vm_rule.specs.Views.{Each}
-use Rattle.vm_rule.specs.Reading.{last_in, last_of}
-use Rattle.vm_rule.specs.Mappings.{clean_in, contents_at}
-use Rattle.vm_step.specs.Alone.{IsAlone, RunsAlone, WritesNone}
-use Rattle.vm_step.specs.Asides.{IsAsideOf}
-use Rattle.vm_step.specs.DeviceCalls.{GoesOnce, StaysHome}
-use Rattle.vm_step.specs.Evidence.{HasGiven, HasWritten, IsLoad, IsLost}
-use Rattle.vm_step.specs.Choices.{candidate_pages}
-use Rattle.vm_step.specs.Tables.{KnowsElse}
-use Rattle.vm_step.specs.declared.choice.Looks.{Looks}
-use Rattle.vm_evict.specs.Phases.{InPhases}
-use Rattle.vm_evict.specs.Tables.{IsOfAny, KnowsStage}
-use Rattle.vm_evict.specs.Writes.{HasNotSaved, IsAllowed, IsFoundDirty}
-use Rattle.vm_evict.specs.declared.candidate.Stage.{Stage}
+use Rattle.vm_step.specs.Prelude.{candidate_pages, Did, GoesOnce, HasGiven, HasWritten, IsAlone, IsAsideOf, IsLost, KnowsElse, Note, Release}
+use Rattle.vm_step.specs.Prelude.{RunsAlone, StaysHome, View, WritesNone}
+use Rattle.vm_step.specs.{declared.choice.Looks.Looks, Evidence.IsLoad}
+use Rattle.vm_evict.specs.{declared.candidate.Stage.Stage, declared.report.Report.Report, Phases.InPhases, Tables.IsOfAny, Tables.KnowsStage}
 use Rattle.vm_evict.specs.declared.candidate.Stage.TheVariants as stages
-use Rattle.vm_evict.specs.declared.report.Report.{Report}
+use Rattle.vm_evict.specs.Writes.{HasNotSaved, HasSaved, IsAllowed, IsFoundDirty}
 
 -- an exchange of these steps expected this word, and found another, which none of the steps before had left there
 pub record HasLost (done : List Did) (at : Place) (expects : ℕ) : Type 0 where
@@ -66,13 +52,6 @@ pub data LocksFrom (p word : ℕ) (done : List Did) : Type 0 where
   by_share :
       (l : HasTaken done (places.State p) (word_of 1 (version_of word)) (word_of LOCKED (version_of word)))
       → IsSharedToSave p word l.earlier → LocksFrom p word done
-
--- among the steps under its share page p was found dirty in this frame, and made clean there afterwards; over all steps of the call its block went
--- out once
-pub record HasSaved (p frame : ℕ) (under done : List Did) : Type 0 where
-  pub cleaned : HasWritten under (places.Translation p) (trans_word (Some (clean_in frame)))
-  pub dirty : IsFoundDirty p frame cleaned.earlier
-  pub block : GoesOnce p done
 
 -- page p was shared from this word, and written under the share
 abbrev pub IsSavedFrom : ℕ → ℕ → ℕ → List Did → Type 0

@@ -1,32 +1,17 @@
 -- What a flush does with each page, by rising number. A page that is evicted or clean it leaves; one that somebody has locked, or that changed
 -- before it could be locked, is busy; any other is written under a share, and is clean then, or its write failed and it stays dirty.
-use Rattle.std.specs.Prelude.{ℕ, true, false, Option, Some, None, List, [], ◌∷◌, ◌++◌, ◌≡◌, ◌≢◌, ◌⊎◌, ◌+◌, ◌<◌, ◌≤◌, zero, suc, length}
-use Rattle.vm_page.specs.declared.buf.TheConstants.{WORDS}
-use Rattle.vm_core.specs.Words.{state_of, version_of, word_of, UNLOCKED, MARKED, EVICTED}
-use Rattle.vm_core.specs.FrameActs.{mapping_of}
-use Rattle.vm_laws_others.specs.Leaves.{stands_dirty}
-use Rattle.vm_rule.specs.declared.view.Did.{Did}
-use Rattle.vm_rule.specs.declared.view.Note.{Note}
+use Rattle.std.specs.Prelude.{[], ◌++◌, ◌+◌, ◌<◌, ◌∷◌, ◌≡◌, ◌≢◌, ◌≤◌, ◌⊎◌, Bool, Err, false, length, List, None, Ok, Option, Result, Some, suc, true}
+use Rattle.std.specs.Prelude.{zero, ℕ}
+use Rattle.vm_core.specs.Prelude.{EVICTED, mapping_of, MARKED, state_of, UNLOCKED, version_of, word_of}
+use Rattle.vm_rule.specs.Prelude.{did_exchange, Each, has, seat_of, stands_dirty}
 use Rattle.vm_rule.specs.declared.view.Place.{Place}
 use Rattle.vm_rule.specs.declared.view.Place.TheVariants as places
-use Rattle.vm_rule.specs.declared.view.View.{View}
-use Rattle.vm_owner.specs.Numbers.{has}
-use Rattle.vm_rule.specs.Views.{Each, seat_of}
-use Rattle.vm_rule.specs.Reading.{last_of}
-use Rattle.vm_rule.specs.Log.{did_exchange}
-use Rattle.vm_rule_laws.specs.Standing.{state_in, mapping_in}
-use Rattle.vm_step.specs.Alone.{IsAlone, RunsAlone, WritesNone}
-use Rattle.vm_step.specs.Asides.{IsAside, IsAsideOf, KeepsFrames}
-use Rattle.vm_step.specs.Conditions.{IsToldOf}
-use Rattle.vm_step.specs.DeviceCalls.{GoesOnce, IsCalledOnce}
-use Rattle.vm_step.specs.Evidence.{HasGiven, HasWritten}
-use Rattle.vm_step.specs.Works.{Works}
-use Rattle.vm_step.specs.declared.took.Took.{Took}
-use Rattle.vm_step.specs.declared.took.Took.TheVariants.{Taken, Lost}
-use Rattle.vm_step.specs.Choices.{IsHeld, first_or}
-use Rattle.vm_evict.specs.Evictions.{HasLost, HasSaved, HasTaken}
-use Rattle.vm_evict.specs.Writes.{HasNotSaved, IsAllowed, IsFoundDirty, IsOwnPlace, StaysOn, WritesOwn}
-use Rattle.vm_evict.specs.declared.flushing.Flushed.{Flushed}
+use Rattle.vm_rule_laws.specs.Standing.{mapping_in, state_in}
+use Rattle.vm_step.specs.Prelude.{Did, first_or, GoesOnce, HasGiven, HasWritten, IsAlone, IsAside, IsAsideOf, IsCalledOnce, IsHeld, KeepsFrames, Note}
+use Rattle.vm_step.specs.Prelude.{RunsAlone, View, WritesNone}
+use Rattle.vm_step.specs.{declared.took.Took.TheVariants.Lost, declared.took.Took.TheVariants.Taken, declared.took.Took.Took}
+use Rattle.vm_evict.specs.{declared.flushing.Flushed.Flushed, Evictions.HasLost, Evictions.HasTaken}
+use Rattle.vm_evict.specs.Writes.{HasNotSaved, HasSaved, IsAllowed, IsFoundDirty, IsOwnPlace, StaysOn}
 
 abbrev pub nothing_flushed : Flushed
 nothing_flushed = record { written = 0; failed = 0; busy = 0; first = None }
@@ -168,61 +153,26 @@ module _ {X : Type 0} where
 
   -- ---- the parts of a visit
 
-  -- both snapshots show the same words of page q
-  pub record ShowsSamePage (v w : View X) (q : ℕ) : Type 0 where
-    pub state : state_in w.start w.snapshot q ≡ state_in v.start v.snapshot q
-    pub mapping : mapping_in w.start w.snapshot q ≡ mapping_in v.start v.snapshot q
-
-  -- what the visit of page p by a pass that is alone comes to: it is not busy, nothing is released, and it is saved, or its write failed
-  pub record IsSettled (p : ℕ) (v w : View X) (old new : Flushed) : Type 0 where
+  -- what the visit of page p by a pass that is alone, and has not locked it, comes to: it is not busy, and it is saved, or its write failed
+  pub record IsSettled (p : ℕ) (w : View X) (old new : Flushed) : Type 0 where
     pub busy : new.busy ≡ old.busy
-    pub current : w.current ≡ true
-    pub releases : w.releases ≡ v.releases
-    pub others : (q : ℕ) → q ≢ p → q < v.start.pages → ShowsSamePage v w q
     pub saved : IsSaved w p ⊎ (new.failed ≡ old.failed + 1)
 
-  -- a pass that is alone, and has not locked the page, settles it
-  abbrev pub Settles : ℕ → View X → View X → Flushed → Flushed → Type 0
-  Settles p v w old new = IsAlone v → HasNoLock v p → IsSettled p v w old new
+  -- the visit of page p
+  pub record IsVisit (p : ℕ) (v w : View X) (old new : Flushed) : Type 0 where
+    pub ends : FlushVisits p v w old new
+    pub settles : IsAlone v → HasNoLock v p → IsSettled p w old new
 
   -- the page was marked already, or a mark was tried: set, or lost to another word
   abbrev pub Marks : ℕ → ℕ → View X → View X → Took → Type 0
   Marks p word v w Taken =
       (done : List Did) × IsLeft p done v w
       × (((done ≡ []) × (state_of word ≡ MARKED)) ⊎ (done ≡ did_exchange (places.State p) word word (word_of MARKED (version_of word)) ∷ []))
-  Marks p word v w (Lost found) = (found ≢ word) × IsLeft p (did_exchange (places.State p) word found (word_of MARKED (version_of word)) ∷ []) v w
+  Marks p word v w (Lost found) =
+      (found ≢ word) × IsLeft p (did_exchange (places.State p) word found (word_of MARKED (version_of word)) ∷ []) v w
 
-  -- the pass has page p under write-back, as the lock leaves it
-  pub record IsUnderWriteBack (p : ℕ) (v : View X) : Type 0 where
-    pub seat : seat_of v p ≡ record { shares = 1; exclusive = false; writing = true; reading = None }
-    pub told : IsToldOf v p
-    pub size : length (last_of v p).words ≡ WORDS
-    pub home : v.out ≡ None
-
-  -- the pass still has page p under write-back, and may give it up
-  pub record IsStillLocked (p : ℕ) (done : List Did) (v w : View X) : Type 0 where
-    pub works : Works p done v w
-    pub own : Each (WritesOwn p) done
-    pub stays : StaysOn p done
-    pub told : IsToldOf w p
-    pub home : w.out ≡ None
-    pub frames : (w.frames ≡ v.frames) × (w.contents ≡ v.contents)
-
-  -- a pass that is alone knows that the page is clean, whose translation word is one of the table
-  abbrev pub KnowsClean : ℕ → View X → View X → Type 0
-  KnowsClean p v w = IsAlone v → p < v.start.pages → v.start.pages + p < length v.snapshot.words → stands_dirty (mapping_in w.start w.snapshot p) ≡ false
-
-  -- how the write of a page under write-back ends: the page was clean; it was written; or its write failed
-  pub data EndsWrite (p : ℕ) (v w : View X) (old new : Flushed) : Type 0 where
-    left_clean :
-        (done : List Did) (word : ℕ) → IsStillLocked p done v w → HasNotSaved p done
-        → HasGiven done (places.Translation p) word → stands_dirty (mapping_of word) ≡ false → KnowsClean p v w
-        → w.notes ≡ v.notes → new ≡ old → EndsWrite p v w old new
-    made_clean :
-        (done : List Did) (frame : ℕ) → IsStillLocked p done v w → HasSaved p frame done done → KnowsClean p v w
-        → w.notes ≡ v.notes → new ≡ record old { written = old.written + 1 } → EndsWrite p v w old new
-    refused :
-        (done : List Did) (frame count : ℕ) → IsStillLocked p done v w → IsFoundDirty p frame done
-        → GoesOnce p done → WritesNone (places.Translation p) done → IsAllowed v.start p count → HasWritten done (places.Fault p) count
-        → w.notes ≡ v.notes ++ record { page = p; count = count } ∷ []
-        → new ≡ record old { failed = old.failed + 1; first = first_or old.first p } → EndsWrite p v w old new
+-- what became of the write of page p was counted
+abbrev pub IsCounted : ℕ → Result Bool ℕ → Flushed → Flushed → Type 0
+IsCounted p (Ok false) old new = new ≡ old
+IsCounted p (Ok true) old new = new ≡ record old { written = old.written + 1 }
+IsCounted p (Err count) old new = new ≡ record old { failed = old.failed + 1; first = first_or old.first p }

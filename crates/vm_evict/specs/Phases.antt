@@ -1,15 +1,12 @@
 -- The phases of an eviction, by the steps of the call: all dirty candidates are shared from their word and written; then the clean ones are locked
 -- exclusively; then the written ones become exclusive from one share; then all are taken out of their frames; then all are released as evicted.
 -- No step is on another word than those of the candidates.
-use Rattle.std.specs.Prelude.{ℕ, None, List, ◌++◌, ◌≡◌, ◌⊎◌, ◌+◌, ◌-◌, ◌^◌, ◌<◌, length, slice_index_or}
-use Rattle.vm_core.specs.Words.{version_of, word_of, LOCKED, EVICTED}
-use Rattle.vm_core.specs.FrameActs.{trans_word}
-use Rattle.vm_rule.specs.declared.view.Did.{Did}
+use Rattle.std.specs.Prelude.{◌++◌, ◌+◌, ◌-◌, ◌<◌, ◌^◌, ◌≡◌, ◌⊎◌, length, List, None, slice_index_or, ℕ}
+use Rattle.vm_core.specs.Prelude.{EVICTED, LOCKED, trans_word, version_of, word_of}
+use Rattle.vm_rule.specs.Prelude.{did_change, did_exchange, did_load, did_store, Each}
 use Rattle.vm_rule.specs.declared.view.Place.TheVariants as places
-use Rattle.vm_rule.specs.Views.{Each}
-use Rattle.vm_rule.specs.Log.{did_load, did_store, did_exchange, did_change}
-use Rattle.vm_evict.specs.Writes.{WritesPage}
-use Rattle.vm_evict.specs.declared.candidate.Phase.{Phase}
+use Rattle.vm_step.specs.Prelude.{Did}
+use Rattle.vm_evict.specs.{declared.candidate.Phase.Phase, Writes.WritesPage}
 use Rattle.vm_evict.specs.declared.candidate.Phase.TheVariants as phases
 
 -- a step that gives up a share of page p

@@ -1,45 +1,20 @@
 -- How far an eviction is with a candidate: what is known of it at each stage, by the steps of the call so far and the pass's view now; and what the
 -- steps of a phase on one candidate come to.
-use Rattle.std.specs.Prelude.{ℕ, Bool, true, false, Some, None, List, [], ◌∷◌, ◌++◌, ◌≡◌, ◌≢◌, ◌⊎◌, ◌+◌, ◌<◌, length, IsSome}
-use Rattle.vm_page.specs.declared.buf.TheConstants.{WORDS}
-use Rattle.vm_core.specs.declared.event.Seat.{Seat}
-use Rattle.vm_core.specs.Words.{version_of, word_of}
-use Rattle.vm_core.specs.FrameActs.{mapping_of, trans_word}
-use Rattle.vm_laws_others.specs.Leaves.{stands_dirty}
-use Rattle.vm_owner.specs.Numbers.{has}
-use Rattle.vm_rule.specs.declared.view.Did.{Did}
-use Rattle.vm_rule.specs.declared.view.Note.{Note}
+use Rattle.std.specs.Prelude.{[], ◌++◌, ◌+◌, ◌<◌, ◌∷◌, ◌≡◌, ◌≢◌, ◌⊎◌, Bool, false, IsSome, length, List, None, Some, true, ℕ}
+use Rattle.vm_core.specs.Prelude.{mapping_of, trans_word, version_of, word_of, WORDS}
+use Rattle.vm_rule.specs.Prelude.{clean_in, draft_of, Each, has, held_at, IsLocking, last_of, Seat, seat_of, stands_dirty, StartsWith}
 use Rattle.vm_rule.specs.declared.view.Place.TheVariants as places
-use Rattle.vm_rule.specs.declared.view.Release.{Release}
-use Rattle.vm_rule.specs.declared.view.Tie.{Tie}
-use Rattle.vm_rule.specs.declared.view.Translation.{Translation}
-use Rattle.vm_rule.specs.declared.view.View.{View}
-use Rattle.vm_rule.specs.Views.{Each, IsLocking, StartsWith, seat_of, draft_of}
-use Rattle.vm_rule.specs.Reading.{last_of}
-use Rattle.vm_rule.specs.Mappings.{held_at, clean_in}
-use Rattle.vm_step.specs.Alone.{IsAlone, RunsAlone}
-use Rattle.vm_step.specs.Asides.{HoldsPage, KnowsAsBefore, ReadsAsBefore, StaysAlone}
-use Rattle.vm_step.specs.Choices.{candidate_pages}
-use Rattle.vm_step.specs.Conditions.{IsToldOf}
-use Rattle.vm_step.specs.DeviceCalls.{StaysHome}
-use Rattle.vm_step.specs.Evidence.{HasGiven, HasWritten}
-use Rattle.vm_step.specs.Works.{LeavesRest}
+use Rattle.vm_step.specs.Prelude.{candidate_pages, Did, HasGiven, HasWritten, HoldsPage, IsAlone, IsToldOf, KnowsAsBefore, LeavesRest, Note}
+use Rattle.vm_step.specs.Prelude.{ReadsAsBefore, Release, RunsAlone, StaysAlone, StaysHome, Tie, Translation, View}
 use Rattle.vm_step.specs.declared.choice.Looks.{Looks}
-use Rattle.vm_evict.specs.Evictions.{FramesCome, IsWriteFailed, IsPageFreed, IsMissed, IsSavedFrom, IsSharedToSave, LocksFrom, Unreleased, candidate_at, first_pair, frame_at, gathered, note_at, one_if, release_at, stage_at}
-use Rattle.vm_evict.specs.Phases.{Does, DoesOne}
-use Rattle.vm_evict.specs.Tables.{KnowsStage}
-use Rattle.vm_evict.specs.Writes.{HasNotSaved}
-use Rattle.vm_evict.specs.declared.report.Evicted.{Evicted}
-use Rattle.vm_evict.specs.declared.report.Report.{Report}
-use Rattle.vm_evict.specs.declared.candidate.Phase.{Phase}
+use Rattle.vm_evict.specs.{declared.candidate.Phase.Phase, declared.candidate.Stage.Stage, declared.report.Evicted.Evicted}
+use Rattle.vm_evict.specs.{declared.report.Report.Report, Phases.Does, Phases.DoesOne, Tables.KnowsStage, Writes.HasNotSaved, Writes.writing_seat}
 use Rattle.vm_evict.specs.declared.candidate.Phase.TheVariants as phases
-use Rattle.vm_evict.specs.declared.candidate.Stage.{Stage}
 use Rattle.vm_evict.specs.declared.candidate.Stage.TheVariants as stages
+use Rattle.vm_evict.specs.Evictions.{candidate_at, first_pair, frame_at, FramesCome, gathered, IsMissed, IsPageFreed, IsSavedFrom, IsSharedToSave}
+use Rattle.vm_evict.specs.Evictions.{IsWriteFailed, LocksFrom, note_at, one_if, release_at, stage_at, Unreleased}
 
--- the pass's locks of a page under write-back, and of one held exclusively
-abbrev pub writing_seat : Seat
-writing_seat = record { shares = 1; exclusive = false; writing = true; reading = None }
-
+-- the pass's locks of a page held exclusively
 abbrev pub owning_seat : Seat
 owning_seat = record { shares = 0; exclusive = true; writing = false; reading = None }
 
@@ -50,9 +25,15 @@ none_of looks = record { freed = 0; written = 0; failed = 0; lost = 0; first_fai
 
 -- what became of candidate p was counted, and its frame was taken
 abbrev pub IsAdded : ℕ → Stage → Evicted → Evicted → Type 0
-IsAdded p (stages.Freed frame written) old new = (new.report ≡ record (old.report) { freed = old.report.freed + 1; written = old.report.written + one_if written }) × (new.frames ≡ old.frames ++ frame ∷ [])
-IsAdded p (stages.Failed count) old new = (new.report ≡ record (old.report) { failed = old.report.failed + 1; first_failed = first_pair old.report.first_failed (p, count) }) × (new.frames ≡ old.frames)
-IsAdded p (stages.Lost written) old new = (new.report ≡ record (old.report) { lost = old.report.lost + 1; written = old.report.written + one_if written }) × (new.frames ≡ old.frames)
+IsAdded p (stages.Freed frame written) old new =
+    (new.report ≡ record (old.report) { freed = old.report.freed + 1; written = old.report.written + one_if written })
+    × (new.frames ≡ old.frames ++ frame ∷ [])
+IsAdded p (stages.Failed count) old new =
+    (new.report ≡ record (old.report) { failed = old.report.failed + 1; first_failed = first_pair old.report.first_failed (p, count) })
+    × (new.frames ≡ old.frames)
+IsAdded p (stages.Lost written) old new =
+    (new.report ≡ record (old.report) { lost = old.report.lost + 1; written = old.report.written + one_if written })
+    × (new.frames ≡ old.frames)
 IsAdded p s old new = ⊥
 
 -- ---- the order of the stages
@@ -214,6 +195,10 @@ module _ {X : Type 0} where
     pub frames_are : Adds (frame_at c) phase phases.Empty old new frames
     -- what a pass that is alone knew of its words at the one stage it knows at the other
     pub table : IsAlone x → c.0 < x.start.pages → KnowsStage c old v x → KnowsStage c new v y
+
+  -- the phase carries the candidate from one stage to another, whatever the call did before
+  abbrev pub Carries : Phase → ℕ × ℕ → Stage → Stage → View X → View X → Type 0
+  Carries phase c old new x y = (v : View X) (done : List Did) → IsAt c old done v x → Advances phase c old new done v x y
 
   -- ---- all candidates
 

@@ -1,13 +1,11 @@
 -- What a pass that is alone knows of the words of one candidate for eviction, by how far the eviction is with it. Such a pass loses a candidate only
 -- where it knew another word of the page than the one at which the page was marked; and it has written none of those that it lost.
-use Rattle.std.specs.Prelude.{ℕ, true, false, None, List, ◌≡◌, ◌≢◌, ◌+◌}
-use Rattle.vm_core.specs.Words.{version_of, word_of, UNLOCKED, LOCKED, EVICTED}
-use Rattle.vm_core.specs.FrameActs.{trans_word}
-use Rattle.vm_owner.specs.Numbers.{has}
+use Rattle.std.specs.Prelude.{◌+◌, ◌≡◌, ◌≢◌, false, List, None, true, ℕ}
+use Rattle.vm_core.specs.Prelude.{EVICTED, LOCKED, trans_word, UNLOCKED, version_of, word_of}
+use Rattle.vm_rule.specs.Prelude.{has}
 use Rattle.vm_rule.specs.declared.view.Place.{Place}
 use Rattle.vm_rule.specs.declared.view.Place.TheVariants as places
-use Rattle.vm_rule.specs.declared.view.View.{View}
-use Rattle.vm_step.specs.Alone.{known_word_at}
+use Rattle.vm_step.specs.Prelude.{known_word_at, View}
 use Rattle.vm_evict.specs.declared.candidate.Stage.{Stage}
 use Rattle.vm_evict.specs.declared.candidate.Stage.TheVariants as stages
 

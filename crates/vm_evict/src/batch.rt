@@ -1,10 +1,9 @@
 // All candidates of an eviction: a phase goes over the whole list before the next one begins.
-ghost use Rattle.std.specs.Prelude.{◌≡◌, ◌<◌, ◌≤◌, ℕ, None, List, length};
-ghost use Rattle.vm_evict.specs.Evictions.{Counts, candidate_at, frame_at, gathered, stage_at};
+ghost use Rattle.std.specs.Prelude.{◌<◌, ◌≡◌, ◌≤◌, length, ℕ};
+ghost use Rattle.vm_step.specs.Prelude.{AreCandidates, IsReady, IsSamePass, view};
+ghost use Rattle.vm_evict.specs.declared.candidate.Stage.TheVariants as stages;
+ghost use Rattle.vm_evict.specs.Evictions.{Counts, frame_at, gathered, stage_at};
 ghost use Rattle.vm_evict.specs.Stages.{IsOver, IsPhaseMade, IsUnderWay, MayBeginPhase, MayEnd};
-ghost use Rattle.vm_step.specs.Choices.{AreCandidates};
-ghost use Rattle.vm_step.specs.Passes.{IsSamePass, view};
-ghost use Rattle.vm_step.specs.Ready.{IsReady};
 
 use crate::candidate::{Phase, Stage, advance};
 use crate::report::Evicted;
@@ -16,6 +15,13 @@ use vm_step::Looks;
 
 /// How far the eviction is with each candidate, by its place in the list.
 pub(crate) type Stages = [Stage; FRAMES];
+
+/// All candidates wait.
+pub(crate) fn waiting() -> Stages
+    ensures waits { (n : ℕ) → stage_at result n ≡ stages.Waiting }
+{
+    [Stage::Waiting; FRAMES]
+}
 
 /// One phase, over the whole list.
 pub(crate) fn pass_over<U: Owner, B: Block>(
@@ -33,6 +39,7 @@ pub(crate) fn pass_over<U: Owner, B: Block>(
     ensures pass { IsSamePass pass.old pass.new }
     ensures ready { IsReady words.now.table.shared.key B.tells words.now.table.shared.table_id pass.new }
     ensures passed { (v : _) (done : _) → IsUnderWay list.now stages.old done v (view pass.old) → IsPhaseMade phase list.now stages.new done v (view pass.new) }
+    ensures way { (v : _) × (done : _) × IsUnderWay list.now stages.new done v (view pass.new) }
     ensures ends { (n : ℕ) → n < length list.now → MayEnd phase (stage_at stages.new n) }
 {
     for i in 0..list.len() {

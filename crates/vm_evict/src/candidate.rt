@@ -1,15 +1,12 @@
 // One candidate for eviction: what each phase does with it.
-ghost use Rattle.std.specs.Prelude.{◌≡◌, ◌<◌, None, false, List};
-ghost use Rattle.vm_core.specs.Words.{MAX_VERSION, version_of};
-ghost use Rattle.vm_evict.specs.Evictions.{IsToShare};
-ghost use Rattle.vm_evict.specs.Stages.{Advances, IsAt, IsWriting, MayBeginPhase};
+ghost use Rattle.std.specs.Prelude.{◌<◌, ◌≡◌, false, None};
+ghost use Rattle.vm_step.specs.Prelude.{IsCandidate, IsReady, IsSamePass, view};
 ghost use Rattle.vm_evict.specs.declared.candidate.Phase.TheVariants as phases;
 ghost use Rattle.vm_evict.specs.declared.candidate.Stage.TheVariants as stages;
-ghost use Rattle.vm_step.specs.Choices.{IsCandidate};
-ghost use Rattle.vm_step.specs.Passes.{IsSamePass, view};
-ghost use Rattle.vm_step.specs.Ready.{IsReady};
+ghost use Rattle.vm_evict.specs.Evictions.{IsToShare};
+ghost use Rattle.vm_evict.specs.Stages.{Advances, Carries, IsAt, MayBeginPhase};
 
-use crate::write::{dirty_frame, write_back};
+use crate::write::{dirty_frame, write_where_dirty};
 use vm_block::Block;
 use vm_core::{StateWord, TransWord};
 use vm_owner::Owner;
@@ -55,33 +52,7 @@ pub enum Stage {
     Lost { written: bool },
 }
 
-/// Writes a page under write-back, where it is dirty. Where the write fails, gives the share up.
-fn save<U: Owner, B: Block>(words: &Words<U, B>, pass: &mut Pass<U>, p: u32, word: u64) -> Stage
-    requires ready { IsReady words.now.table.shared.key B.tells words.now.table.shared.table_id pass.old }
-    requires page { p < words.now.table.shared.key.pages }
-    requires home { (view pass.old).out ≡ None }
-    requires shared { (v : _) × (done : _) × IsWriting p word false done v (view pass.old) }
-    ensures pass { IsSamePass pass.old pass.new }
-    ensures ready { IsReady words.now.table.shared.key B.tells words.now.table.shared.table_id pass.new }
-    ensures saved { (v : _) (done : _) → IsWriting p word false done v (view pass.old) → Advances phases.Save (p, word) (stages.Shared false) result done v (view pass.old) (view pass.new) }
-{
-    let translation = tload(words, pass, p);
-    if !TransWord::dirty(translation) {
-        return Stage::Shared { written: false };
-    }
-    let Some(frame) = TransWord::frame(translation) else {
-        unreachable!()
-    };
-    match write_back(words, pass, p, frame) {
-        Ok(()) => Stage::Shared { written: true },
-        Err(count) => {
-            unlock_shared(words, pass, p);
-            Stage::Failed { count }
-        }
-    }
-}
-
-/// Shares a page from its mark that was not seen clean with it, and writes it where it is dirty.
+/// Shares a page from its mark that was not seen clean with it, and writes it where it is dirty. Where the write fails, gives the share up.
 fn save_marked<U: Owner, B: Block>(
     words: &Words<U, B>,
     pass: &mut Pass<U>,
@@ -94,11 +65,18 @@ fn save_marked<U: Owner, B: Block>(
     requires at { (v : _) × (done : _) × IsAt (p, word) stages.Waiting done v (view pass.old) × IsToShare p word done }
     ensures pass { IsSamePass pass.old pass.new }
     ensures ready { IsReady words.now.table.shared.key B.tells words.now.table.shared.table_id pass.new }
-    ensures moved { (v : _) (done : _) → IsAt (p, word) stages.Waiting done v (view pass.old) → IsToShare p word done → Advances phases.Save (p, word) stages.Waiting result done v (view pass.old) (view pass.new) }
+    ensures moved { (v : _) (done : _) → IsAt (p, word) stages.Waiting done v (view pass.old) → IsToShare p word done
+        → Advances phases.Save (p, word) stages.Waiting result done v (view pass.old) (view pass.new) }
 {
-    match lock_write_back(words, pass, p, word) {
-        Took::Lost(_) => Stage::Lost { written: false },
-        Took::Taken => save(words, pass, p, word),
+    if let Took::Lost(_) = lock_write_back(words, pass, p, word) {
+        return Stage::Lost { written: false };
+    }
+    match write_where_dirty(words, pass, p) {
+        Ok(written) => Stage::Shared { written },
+        Err(count) => {
+            unlock_shared(words, pass, p);
+            Stage::Failed { count }
+        }
     }
 }
 
@@ -115,7 +93,7 @@ fn save_page<U: Owner, B: Block>(
     requires at { (v : _) × (done : _) × IsAt (p, word) stages.Waiting done v (view pass.old) }
     ensures pass { IsSamePass pass.old pass.new }
     ensures ready { IsReady words.now.table.shared.key B.tells words.now.table.shared.table_id pass.new }
-    ensures moved { (v : _) (done : _) → IsAt (p, word) stages.Waiting done v (view pass.old) → Advances phases.Save (p, word) stages.Waiting result done v (view pass.old) (view pass.new) }
+    ensures moved { Carries phases.Save (p, word) stages.Waiting result (view pass.old) (view pass.new) }
 {
     let seen = look_silently(words, pass, p);
     let dirty = dirty_frame(tload(words, pass, p));
@@ -138,7 +116,7 @@ fn lock_clean<U: Owner, B: Block>(
     requires at { (v : _) × (done : _) × IsAt (p, word) stages.Clean done v (view pass.old) }
     ensures pass { IsSamePass pass.old pass.new }
     ensures ready { IsReady words.now.table.shared.key B.tells words.now.table.shared.table_id pass.new }
-    ensures moved { (v : _) (done : _) → IsAt (p, word) stages.Clean done v (view pass.old) → Advances phases.Lock (p, word) stages.Clean result done v (view pass.old) (view pass.new) }
+    ensures moved { Carries phases.Lock (p, word) stages.Clean result (view pass.old) (view pass.new) }
 {
     match lock_exclusive(words, pass, p, word) {
         Took::Lost(_) => Stage::Lost { written: false },
@@ -160,7 +138,7 @@ fn raise_shared<U: Owner, B: Block>(
     requires at { (v : _) × (done : _) × IsAt (p, word) (stages.Shared written) done v (view pass.old) }
     ensures pass { IsSamePass pass.old pass.new }
     ensures ready { IsReady words.now.table.shared.key B.tells words.now.table.shared.table_id pass.new }
-    ensures moved { (v : _) (done : _) → IsAt (p, word) (stages.Shared written) done v (view pass.old) → Advances phases.Raise (p, word) (stages.Shared written) result done v (view pass.old) (view pass.new) }
+    ensures moved { Carries phases.Raise (p, word) (stages.Shared written) result (view pass.old) (view pass.new) }
 {
     let shared = StateWord::of(1, StateWord::version(word));
     match upgrade(words, pass, p, shared) {
@@ -185,7 +163,7 @@ fn empty_page<U: Owner, B: Block>(
     requires at { (v : _) × (done : _) × IsAt (p, word) (stages.Owned written) done v (view pass.old) }
     ensures pass { IsSamePass pass.old pass.new }
     ensures ready { IsReady words.now.table.shared.key B.tells words.now.table.shared.table_id pass.new }
-    ensures moved { (v : _) (done : _) → IsAt (p, word) (stages.Owned written) done v (view pass.old) → Advances phases.Empty (p, word) (stages.Owned written) result done v (view pass.old) (view pass.new) }
+    ensures moved { Carries phases.Empty (p, word) (stages.Owned written) result (view pass.old) (view pass.new) }
 {
     let translation = tload(words, pass, p);
     let Some(frame) = TransWord::frame(translation) else {
@@ -210,7 +188,7 @@ fn leave_page<U: Owner, B: Block>(
     requires at { (v : _) × (done : _) × IsAt (p, word) (stages.Emptied frame written) done v (view pass.old) }
     ensures pass { IsSamePass pass.old pass.new }
     ensures ready { IsReady words.now.table.shared.key B.tells words.now.table.shared.table_id pass.new }
-    ensures moved { (v : _) (done : _) → IsAt (p, word) (stages.Emptied frame written) done v (view pass.old) → Advances phases.Leave (p, word) (stages.Emptied frame written) result done v (view pass.old) (view pass.new) }
+    ensures moved { Carries phases.Leave (p, word) (stages.Emptied frame written) result (view pass.old) (view pass.new) }
 {
     release_evicted(words, pass, p, StateWord::version(word));
     Stage::Freed { frame, written }
@@ -231,7 +209,7 @@ pub(crate) fn advance<U: Owner, B: Block>(
     requires at { (v : _) × (done : _) × IsAt c stage done v (view pass.old) }
     ensures pass { IsSamePass pass.old pass.new }
     ensures ready { IsReady words.now.table.shared.key B.tells words.now.table.shared.table_id pass.new }
-    ensures moved { (v : _) (done : _) → IsAt c stage done v (view pass.old) → Advances phase c stage result done v (view pass.old) (view pass.new) }
+    ensures moved { Carries phase c stage result (view pass.old) (view pass.new) }
 {
     let (p, word) = c;
     match phase {

@@ -1,11 +1,11 @@
 // All dirty pages that nobody has locked are written, and stay resident.
-ghost use Rattle.std.specs.Prelude.{◌≡◌, ◌+◌, ◌<◌, ◌⊎◌, None};
-ghost use Rattle.vm_core.specs.Words.{MARKED, UNLOCKED, state_of};
-ghost use Rattle.vm_evict.specs.Flushes.{IsFlushed, IsUnderWriteBack, Marks, Settles, FlushVisits, EndsWrite, done_of};
-ghost use Rattle.vm_step.specs.Passes.{IsSamePass, view};
-ghost use Rattle.vm_step.specs.Ready.{IsReady};
+ghost use Rattle.std.specs.Prelude.{◌+◌, ◌<◌, ◌≡◌, ◌⊎◌, None};
+ghost use Rattle.vm_core.specs.Prelude.{MARKED, state_of, UNLOCKED};
+ghost use Rattle.vm_rule.specs.Prelude.{LookTold};
+ghost use Rattle.vm_step.specs.Prelude.{IsReady, IsSamePass, view};
+ghost use Rattle.vm_evict.specs.Flushes.{done_of, IsCounted, IsFlushed, IsVisit, Marks};
 
-use crate::write::{dirty_frame, write_back};
+use crate::write::{dirty_frame, write_where_dirty};
 use vm_block::Block;
 use vm_core::StateWord;
 use vm_owner::Owner;
@@ -56,18 +56,35 @@ fn visit<U: Owner, B: Block>(words: &Words<U, B>, pass: &mut Pass<U>, p: u32, fl
     requires counts { done_of flushed.old < 4294967295 }
     ensures pass { IsSamePass pass.old pass.new }
     ensures ready { IsReady words.now.table.shared.key B.tells words.now.table.shared.table_id pass.new }
-    ensures visited { FlushVisits p (view pass.old) (view pass.new) flushed.old flushed.new }
-    ensures settles { Settles p (view pass.old) (view pass.new) flushed.old flushed.new }
+    ensures visited { IsVisit p (view pass.old) (view pass.new) flushed.old flushed.new }
 {
     let word = look_silently(words, pass, p);
     let state = StateWord::state(word);
-    if state == StateWord::EVICTED {
-        return;
-    }
-    if state != StateWord::UNLOCKED && state != StateWord::MARKED {
+    if state == StateWord::UNLOCKED || state == StateWord::MARKED {
+        visit_unheld(words, pass, p, word, flushed);
+    } else if state != StateWord::EVICTED {
         flushed.busy += 1;
-        return;
     }
+}
+
+/// Writes the page, which a look found with this word, locked by nobody, where it is dirty.
+fn visit_unheld<U: Owner, B: Block>(
+    words: &Words<U, B>,
+    pass: &mut Pass<U>,
+    p: u32,
+    word: u64,
+    flushed: &mut Flushed,
+)
+    requires ready { IsReady words.now.table.shared.key B.tells words.now.table.shared.table_id pass.old }
+    requires home { (view pass.old).out ≡ None }
+    requires page { p < words.now.table.shared.key.pages }
+    requires counts { done_of flushed.old < 4294967295 }
+    requires unheld { (state_of word ≡ UNLOCKED) ⊎ (state_of word ≡ MARKED) }
+    requires looked { (v : _) × LookTold U.tied p None word v (view pass.old) }
+    ensures pass { IsSamePass pass.old pass.new }
+    ensures ready { IsReady words.now.table.shared.key B.tells words.now.table.shared.table_id pass.new }
+    ensures visited { (v : _) → LookTold U.tied p None word v (view pass.old) → IsVisit p v (view pass.new) flushed.old flushed.new }
+{
     if dirty_frame(tload(words, pass, p)).is_none() {
         return;
     }
@@ -79,8 +96,9 @@ fn visit<U: Owner, B: Block>(words: &Words<U, B>, pass: &mut Pass<U>, p: u32, fl
     match lock_write_back(words, pass, p, marked) {
         Took::Lost(_) => flushed.busy += 1,
         Took::Taken => {
-            write_dirty(words, pass, p, flushed);
+            let wrote = write_where_dirty(words, pass, p);
             unlock_shared(words, pass, p);
+            flushed.count(p, wrote);
         }
     }
 }
@@ -100,28 +118,18 @@ fn mark_page<U: Owner, B: Block>(words: &Words<U, B>, pass: &mut Pass<U>, p: u32
     mark(words, pass, p, word)
 }
 
-/// Writes the page, which the pass has locked for write-back, where it is dirty.
-fn write_dirty<U: Owner, B: Block>(
-    words: &Words<U, B>,
-    pass: &mut Pass<U>,
-    p: u32,
-    flushed: &mut Flushed,
-)
-    requires ready { IsReady words.now.table.shared.key B.tells words.now.table.shared.table_id pass.old }
-    requires page { p < words.now.table.shared.key.pages }
-    requires legal { IsUnderWriteBack p (view pass.old) }
-    requires counts { done_of flushed.old < 4294967295 }
-    ensures pass { IsSamePass pass.old pass.new }
-    ensures ready { IsReady words.now.table.shared.key B.tells words.now.table.shared.table_id pass.new }
-    ensures written { EndsWrite p (view pass.old) (view pass.new) flushed.old flushed.new }
-{
-    let word = tload(words, pass, p);
-    if let Some(frame) = dirty_frame(word) {
-        match write_back(words, pass, p, frame) {
-            Ok(()) => flushed.written += 1,
+impl Flushed {
+    /// Counts what became of the write of page `p`.
+    fn count(&mut self, p: u32, wrote: Result<bool, u64>)
+        requires counts { done_of self.old < 4294967295 }
+        ensures counted { IsCounted p wrote self.old self.new }
+    {
+        match wrote {
+            Ok(false) => {}
+            Ok(true) => self.written += 1,
             Err(_) => {
-                flushed.failed += 1;
-                flushed.first = flushed.first.or(Some(p));
+                self.failed += 1;
+                self.first = self.first.or(Some(p));
             }
         }
     }

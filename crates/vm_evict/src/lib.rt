@@ -3,10 +3,8 @@
 #![tactic(auto)]
 
 ghost use Rattle.std.specs.Prelude.{◌≡◌, None};
-ghost use Rattle.vm_step.specs.Choices.{AreCandidates};
+ghost use Rattle.vm_step.specs.Prelude.{AreCandidates, IsReady, IsSamePass, view};
 ghost use Rattle.vm_evict.specs.Evictions.{IsBatch};
-ghost use Rattle.vm_step.specs.Passes.{IsSamePass, view};
-ghost use Rattle.vm_step.specs.Ready.{IsReady};
 
 mod batch;
 pub mod candidate;
@@ -14,12 +12,11 @@ mod flushing;
 pub mod report;
 mod write;
 
-use batch::{pass_over, report_of};
-use candidate::{Phase, Stage};
+use batch::{pass_over, report_of, waiting};
+use candidate::Phase;
 pub use flushing::{Flushed, flush};
 use report::Evicted;
 use vm_block::Block;
-use vm_core::FRAMES;
 use vm_owner::Owner;
 use vm_rule::words::{Pass, Words};
 use vm_step::Candidates;
@@ -40,7 +37,7 @@ pub fn evict<U: Owner, B: Block>(
     ensures evicted { IsBatch candidates.now.list.items candidates.now.looks (view pass.old) (view pass.new) result.report result.frames }
 {
     let list = candidates.list.as_slice();
-    let mut stages = [Stage::Waiting; FRAMES];
+    let mut stages = waiting();
     pass_over(words, pass, Phase::Save, list, &mut stages);
     pass_over(words, pass, Phase::Lock, list, &mut stages);
     pass_over(words, pass, Phase::Raise, list, &mut stages);

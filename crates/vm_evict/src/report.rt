@@ -1,5 +1,5 @@
 // What evictions report.
-ghost use Rattle.std.specs.Prelude.{◌≡◌, ◌<◌, [], length};
+ghost use Rattle.std.specs.Prelude.{[], ◌<◌, ◌≡◌, length};
 ghost use Rattle.vm_evict.specs.Stages.{IsAdded, IsOver, none_of};
 
 use crate::candidate::Stage;
@@ -53,7 +53,8 @@ impl Evicted {
     pub(crate) fn add(&mut self, p: u32, stage: Stage)
         requires over { IsOver stage }
         requires room { length self.old.frames < FRAMES }
-        requires counts { (self.old.report.freed < FRAMES) × (self.old.report.written < FRAMES) × (self.old.report.failed < FRAMES) × (self.old.report.lost < FRAMES) }
+        requires counts { (self.old.report.freed < FRAMES) × (self.old.report.written < FRAMES)
+            × (self.old.report.failed < FRAMES) × (self.old.report.lost < FRAMES) }
         ensures added { IsAdded p stage self.old self.new }
     {
         let report = &mut self.report;

@@ -1,18 +1,15 @@
 // A dirty page is written to its block, and made clean; which frame it stands in, by its translation word.
-ghost use Rattle.std.specs.Prelude.{◌≡◌, ◌<◌, ◌≤◌, None, Some, length};
-ghost use Rattle.vm_evict.specs.Writes.{IsCopied, IsDirtyFrame, IsToWrite, WritesBack};
-ghost use Rattle.vm_rule.specs.Loads.{frame_read_by};
-ghost use Rattle.vm_rule.specs.Reading.{last_of};
-ghost use Rattle.vm_rule.specs.Views.{seat_of};
-ghost use Rattle.vm_step.specs.Passes.{IsSamePass, view};
-ghost use Rattle.vm_step.specs.Ready.{IsReady};
+ghost use Rattle.std.specs.Prelude.{◌<◌, ◌≡◌, ◌≤◌, length, None, Some};
+ghost use Rattle.vm_rule.specs.Prelude.{frame_read_by, last_of, seat_of};
+ghost use Rattle.vm_step.specs.Prelude.{IsReady, IsSamePass, view};
+ghost use Rattle.vm_evict.specs.Writes.{EndsWrite, IsCopied, IsDirtyFrame, IsToWrite, IsUnderWriteBack, WritesBack};
 
 use vm_block::Block;
 use vm_core::TransWord;
 use vm_owner::Owner;
 use vm_page::{PageBuf, WORDS};
 use vm_rule::words::{Pass, Words};
-use vm_step::{block_home, block_out, load, raise, set_clean};
+use vm_step::{block_home, block_out, load, raise, set_clean, tload};
 
 /// The frame of a dirty page, by its translation word.
 pub(crate) fn dirty_frame(word: u64) -> Option<u32>
@@ -50,7 +47,7 @@ fn copy_page<U: Owner, B: Block>(
 
 /// Writes a dirty page to its block and makes it clean: the pass has it under write-back, and it stands in this frame. Where the write
 /// fails, the page stays as it is, and the answer is the count of the fault, which the fault word is raised to.
-pub(crate) fn write_back<U: Owner, B: Block>(
+fn write_back<U: Owner, B: Block>(
     words: &Words<U, B>,
     pass: &mut Pass<U>,
     p: u32,
@@ -77,5 +74,27 @@ pub(crate) fn write_back<U: Owner, B: Block>(
             raise(words, pass, p, count);
             Err(count)
         }
+    }
+}
+
+/// Writes a page, which the pass has under write-back, where it is dirty. It answers whether it was, or the count of the fault.
+pub(crate) fn write_where_dirty<U: Owner, B: Block>(
+    words: &Words<U, B>,
+    pass: &mut Pass<U>,
+    p: u32,
+) -> Result<bool, u64>
+    requires ready { IsReady words.now.table.shared.key B.tells words.now.table.shared.table_id pass.old }
+    requires page { p < words.now.table.shared.key.pages }
+    requires legal { IsUnderWriteBack p (view pass.old) }
+    ensures pass { IsSamePass pass.old pass.new }
+    ensures ready { IsReady words.now.table.shared.key B.tells words.now.table.shared.table_id pass.new }
+    ensures written { EndsWrite p (view pass.old) (view pass.new) result }
+{
+    let Some(frame) = dirty_frame(tload(words, pass, p)) else {
+        return Ok(false);
+    };
+    match write_back(words, pass, p, frame) {
+        Ok(()) => Ok(true),
+        Err(count) => Err(count),
     }
 }

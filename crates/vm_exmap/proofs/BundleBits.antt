@@ -1,14 +1,14 @@
 -- The bits of a bundle's word and the frames that they are of, gathered one at a time: the bits of a mask into a list, and a list into a
 -- mask. Some bits are asked of a word that is not 0.
-use Rattle.std.proofs.Common.{ℕ, ◌≡◌, ◌≢◌, ◌+◌, ◌*◌, ◌/◌, ◌%◌, ◌^◌, ◌<◌, ◌≤◌, ◌||◌, ◌&&◌, List, [], ◌∷◌, ◌++◌, length, length-append, zero, suc, refl, sym, ap, ◌∙◌, arith, ⊎_elim, true, false, Bool, eqb, if◌then◌else◌, max, bit_or}
-use Rattle.std.proofs.lemmas.Bool.{cases_eq, eq-eqb, ne_eqb, and_left, or_right}
-use Rattle.std.proofs.lemmas.Nat.Bits.{bit_at_or, bit_at-lt, bit_at-pow_same, bit_at-pow_other, bit_at-zero, same_from_bits_below}
 use Rattle.std.specs.Int.{bit_at}
-use Rattle.vm_core.specs.Fn.{sum_below}
-use Rattle.vm_core.specs.Words.{in_mask, bit_count, AreLowest}
+use Rattle.std.proofs.Common.{[], ⊎_elim, ◌%◌, ◌&&◌, ◌*◌, ◌++◌, ◌+◌, ◌/◌, ◌<◌, ◌^◌, ◌||◌, ◌∙◌, ◌∷◌, ◌≡◌, ◌≢◌, ◌≤◌, ap, arith, bit_or, Bool, eqb}
+use Rattle.std.proofs.Common.{false, if◌then◌else◌, length, length-append, List, max, refl, suc, sym, true, zero, ℕ}
+use Rattle.std.proofs.lemmas.Bool.{and_left, cases_eq, eq-eqb, ne_eqb, or_right}
+use Rattle.std.proofs.lemmas.Nat.Bits.{bit_at-lt, bit_at-pow_other, bit_at-pow_same, bit_at-zero, bit_at_or, same_from_bits_below}
+use Rattle.vm_core.specs.Prelude.{AreLowest, in_mask, sum_below}
+use Rattle.vm_core.specs.Words.{bit_count}
 use Rattle.vm_core.proofs.Locks.{sum_below-at}
-use Rattle.vm_owner.specs.Numbers.{has}
-use Rattle.vm_rule.specs.Bundles.{frames_below, frames_in}
+use Rattle.vm_rule.specs.Prelude.{frames_below, frames_in, has}
 use Rattle.vm_rule.proofs.Facts.{has-both}
 use Rattle.vm_exmap.specs.Returns.{is_of}
 

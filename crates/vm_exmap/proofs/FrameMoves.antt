@@ -1,36 +1,17 @@
 -- What steps leave of a view that move free frames alone: of one step, of several in a row, and that the pass may step on.
-use Rattle.std.proofs.Common.{ℕ, ◌≡◌, ◌≢◌, ◌<◌, ◌++◌, Bool, true, None, List, [], ◌∷◌, length, refl, sym, ap, subst, ◌∙◌, inr, append_assoc}
-use Rattle.atomic_table.specs.Seated.{TableId}
-use Rattle.vm_core.specs.declared.event.Seat.{Seat}
-use Rattle.vm_core.specs.Start.{no_seat}
-use Rattle.vm_owner.specs.Numbers.{has}
-use Rattle.vm_rule.specs.declared.view.Did.{Did}
+use Rattle.std.proofs.Common.{[], ◌++◌, ◌<◌, ◌∙◌, ◌∷◌, ◌≡◌, ◌≢◌, ap, append_assoc, Bool, inr, List, None, refl, subst, sym, true, ℕ}
+use Rattle.vm_core.specs.Prelude.{no_seat}
+use Rattle.vm_rule.specs.Prelude.{Brings, bundles_of, contents_at, Each, has, IsLocking, last_in, no_held, put_at, Seat, seat_of, TableId, Within}
 use Rattle.vm_rule.specs.declared.view.Held.{Held}
-use Rattle.vm_rule.specs.declared.view.Origin.{Origin}
 use Rattle.vm_rule.specs.declared.view.Place.TheVariants as places
-use Rattle.vm_rule.specs.declared.view.Put.{Put}
-use Rattle.vm_rule.specs.declared.view.Release.{Release}
-use Rattle.vm_rule.specs.declared.view.Shape.{Shape}
-use Rattle.vm_rule.specs.declared.view.View.{View}
-use Rattle.vm_rule.specs.declared.words.Pass.{Pass}
-use Rattle.vm_rule.specs.Layout.{Within, bundles_of}
-use Rattle.vm_rule.specs.Puts.{put_at}
-use Rattle.vm_rule.specs.Views.{Each, seat_of, IsLocking}
-use Rattle.vm_rule.specs.Rule.{no_held}
-use Rattle.vm_rule.specs.Reading.{last_in}
-use Rattle.vm_rule.specs.Mappings.{contents_at}
-use Rattle.vm_rule.specs.Begun.{HasShape}
-use Rattle.vm_rule.specs.Brought.{Brings}
 use Rattle.vm_rule.proofs.Entries.{append-none, each-map, starts-self}
 use Rattle.vm_rule.proofs.Heard.{each-both}
-use Rattle.vm_exmap.specs.Frames.{IsBundleOf, MovesFrames}
-use Rattle.vm_step.specs.Asides.{IsAsideOf}
-use Rattle.vm_step.specs.Passes.{IsSamePass, view}
-use Rattle.vm_step.specs.Ready.{IsReady}
-use Rattle.vm_step.specs.Tables.{KnowsElse}
+use Rattle.vm_step.specs.Prelude.{Did, IsAsideOf, IsReady, IsSamePass, KnowsElse, Origin, Pass, Put, Release, RunsAlone, Shape, View, view}
 use Rattle.vm_step.proofs.Alone.{runs-one, runs-self, runs-then, still-alone}
 use Rattle.vm_step.proofs.Asides.{alone-self, alone-silent, alone-then, starts-then}
+use Rattle.vm_step.proofs.Leaves.{ready-on}
 use Rattle.vm_step.proofs.Tables.{else-knows, else-self, else-then}
+use Rattle.vm_exmap.specs.Frames.{IsBundleOf, MovesFrames}
 
 module _ {X : Type 0} where
   -- no step at all
@@ -76,13 +57,16 @@ module _ {X : Type 0} where
         ap (λ (x : View X). last_in x.start x.releases p) b.view ∙ ap (λ (t : List Release). last_in v.start t p) (append-none (v.releases ++ b.between)) ∙ b.kept p l;
     contents = λ f h k. ap (λ (x : View X). contents_at x f) b.view ∙ same f h (sym (ap (λ (x : View X). has f x.frames) b.view) ∙ k);
     alone = alone-silent did None [] v (record v { frames = frames; contents = contents }) w b refl;
-    runs = runs-one did None [] [] v (record v { frames = frames; contents = contents }) w b;
+    runs = runs;
     steps = (here, tt);
-    table = else-knows (IsBundleOf v.start) (did ∷ []) [] v w (ap (λ (x : View X). x.start) b.view) (runs-one did None [] [] v (record v { frames = frames; contents = contents }) w b) ((subst (Within v.start) (sym at) inside, inr here), tt);
+    table = else-knows (IsBundleOf v.start) (did ∷ []) [] v w (ap (λ (x : View X). x.start) b.view) runs ((subst (Within v.start) (sym at) inside, inr here), tt);
   }
     where
       here : IsBundleOf v.start did.at
       here = subst (IsBundleOf v.start) (sym at) inside
+
+      runs : RunsAlone (did ∷ []) [] v w
+      runs = runs-one did None [] [] v (record v { frames = frames; contents = contents }) w b
 
   -- steps, and then more: a frame that the pass had and has it had in between
   pub moved-then : (a b : List Did) (u v w : View X) → MovesFrames a u v → MovesFrames b v w → ((f : ℕ) → has f u.frames ≡ true → has f w.frames ≡ true → has f v.frames ≡ true) → MovesFrames (a ++ b) u w
@@ -136,7 +120,4 @@ module _ {X : Type 0} where
 module _ {U X : Type 0} {o : _} (shape : Shape) (tells : Bool) (t : TableId) where
   -- the pass may step on
   pub ready-after : (done : List Did) (p q : Pass U X o) → IsReady shape tells t p → IsSamePass p q → MovesFrames done (view p) (view q) → IsReady shape tells t q
-  ready-after done p q r same moves = record {
-    may = (same.0 ∙ r.may.0, subst (λ (ns : List ℕ). 0 < length ns) (sym moves.parts.0) r.may.1);
-    table = record { is_shape = subst (HasShape shape) (sym moves.start) r.table.is_shape; tells_is = ap (λ (x : Origin). x.tells) moves.start ∙ r.table.tells_is };
-  }
+  ready-after done p q r same moves = ready-on shape tells t p q same moves.start moves.parts.0 r

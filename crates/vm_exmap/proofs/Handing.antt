@@ -1,12 +1,11 @@
 -- Frames that a pass holds, as a list that is split: each part is held too, and what is in the one is not in the other.
-use Rattle.std.proofs.Common.{ℕ, ◌≡◌, ◌<◌, ◌++◌, ◌∷◌, ◌||◌, [], List, true, false, refl, sym, ap, subst, ◌∙◌, ⊎_elim, eqb, if◌then◌else◌}
-use Rattle.std.proofs.lemmas.Bool.{cases_Bool, cases_eq, eq-eqb, ne_eqb, or_left, or_right, or_parts, true≢false}
-use Rattle.vm_owner.specs.Numbers.{has, AreApart}
-use Rattle.vm_rule.specs.declared.view.View.{View}
-use Rattle.vm_rule.specs.Views.{Each}
+use Rattle.std.proofs.Common.{[], ⊎_elim, ◌++◌, ◌<◌, ◌||◌, ◌∙◌, ◌∷◌, ◌≡◌, ap, eqb, false, if◌then◌else◌, List, refl, subst, sym, true, ℕ}
+use Rattle.std.proofs.lemmas.Bool.{cases_Bool, cases_eq, eq-eqb, ne_eqb, or_left, or_parts, or_right, true≢false}
+use Rattle.vm_rule.specs.Prelude.{AreApart, Each, has}
 use Rattle.vm_rule.proofs.Facts.{has-both}
+use Rattle.vm_step.specs.Prelude.{View}
 pub use Rattle.vm_step.proofs.HeldFrames.{held-on}
-use Rattle.vm_exmap.specs.Frames.{AreHeld}
+use Rattle.vm_step.specs.Prelude.{AreHeld}
 use Rattle.vm_exmap.specs.Returns.{AreGiven}
 
 -- ---- what holds of each number of a list

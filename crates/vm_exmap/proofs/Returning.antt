@@ -1,30 +1,20 @@
 -- Frames that go back to their bundles, a bundle at a time: those of the first bundles are given, the others are still held.
-use Rattle.std.proofs.Common.{ℕ, ◌≡◌, ◌≢◌, ◌+◌, ◌/◌, ◌%◌, ◌<◌, ◌≤◌, ◌++◌, ◌&&◌, true, false, Bool, None, List, [], ◌∷◌, suc, refl, sym, ap, subst, ◌∙◌, inl, inr, ⊎_elim, arith, bit_or, eqb, ltb, if◌then◌else◌}
-use Rattle.std.proofs.lemmas.Bool.{cases_Bool, cases_eq, cases_lt, eq-eqb, ne_eqb, and_left, and_right, and_parts, lt-ltb, le-ltb, eqb-true, true≢false}
-use Rattle.std.proofs.lemmas.Nat.Bits.{bit_at-zero}
 use Rattle.std.specs.Int.{bit_at}
-use Rattle.vm_core.specs.Words.{in_mask}
-use Rattle.vm_owner.specs.Numbers.{has}
-use Rattle.vm_rule.specs.declared.view.Did.{Did}
-use Rattle.vm_rule.specs.declared.view.Origin.{Origin}
+use Rattle.std.proofs.Common.{[], ⊎_elim, ◌%◌, ◌&&◌, ◌++◌, ◌+◌, ◌/◌, ◌<◌, ◌∙◌, ◌∷◌, ◌≡◌, ◌≢◌, ◌≤◌, ap, arith, bit_or, Bool, eqb, false, if◌then◌else◌}
+use Rattle.std.proofs.Common.{inl, inr, List, ltb, None, refl, subst, suc, sym, true, ℕ}
+use Rattle.std.proofs.lemmas.Bool.{and_left, and_parts, and_right, cases_Bool, cases_eq, cases_lt, eq-eqb, eqb-true, le-ltb, lt-ltb, ne_eqb}
+use Rattle.std.proofs.lemmas.Bool.{true≢false}
+use Rattle.std.proofs.lemmas.Nat.Bits.{bit_at-zero}
+use Rattle.vm_core.specs.Prelude.{in_mask}
+use Rattle.vm_rule.specs.Prelude.{bundles_of, did_change, frames_in, GiveTold, has, without_all}
 use Rattle.vm_rule.specs.declared.view.Place.TheVariants as places
-use Rattle.vm_rule.specs.declared.view.View.{View}
-use Rattle.vm_rule.specs.Layout.{bundles_of}
-use Rattle.vm_rule.specs.Log.{did_change}
-use Rattle.vm_rule.specs.Bundles.{frames_in, GiveTold}
-use Rattle.vm_rule.specs.Releases.{without_all}
-use Rattle.vm_rule.proofs.Bundled.{has-frames_in, has-without_all}
-use Rattle.vm_rule.proofs.Entries.{append-none}
-use Rattle.vm_step.specs.Conditions.{PassMayGive}
-use Rattle.vm_exmap.specs.Frames.{AreHeld, MovesFrames}
-use Rattle.vm_step.specs.Alone.{IsAlone, known_word_at}
-use Rattle.vm_step.specs.Tables.{KnowsElse}
+use Rattle.vm_rule.proofs.{Bundled.has-frames_in, Bundled.has-without_all, Entries.append-none}
+use Rattle.vm_step.specs.Prelude.{AreHeld, Did, IsAlone, known_word_at, KnowsElse, Origin, PassMayGive, View}
 use Rattle.vm_step.proofs.Alone.{found-known, still-alone}
 use Rattle.vm_step.proofs.Tables.{at-then, else-knows, last-known}
-use Rattle.vm_exmap.specs.Returns.{is_of, GivesFromFirst, AreGiven, KnowsGiven}
-use Rattle.vm_exmap.specs.Returns.GivesTo.{none, some}
-use Rattle.vm_exmap.proofs.FrameMoves.{moved-by, moved-then}
-use Rattle.vm_exmap.proofs.Handing.{each-of}
+use Rattle.vm_exmap.specs.{Frames.MovesFrames, Returns.GivesTo.none, Returns.GivesTo.some}
+use Rattle.vm_exmap.specs.Returns.{AreGiven, GivesFromFirst, is_of, KnowsGiven}
+use Rattle.vm_exmap.proofs.{FrameMoves.moved-by, FrameMoves.moved-then, Handing.each-of}
 
 -- the frame is one of these, and of the first `count` bundles
 abbrev pub is_below : ℕ → List ℕ → ℕ → Bool

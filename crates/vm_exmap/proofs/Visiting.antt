@@ -1,29 +1,22 @@
 -- The visit of one bundle by a walk: its word is loaded; it is empty, or the exchange on its bits is lost, or takes them.
-use Rattle.std.proofs.Common.{ℕ, ◌≡◌, ◌≢◌, ◌*◌, ◌<◌, ◌≤◌, ◌++◌, true, false, List, [], ◌∷◌, Some, None, length, refl, sym, ap, subst, ◌∙◌, inl, inr, ⊎_elim, arith, bit_xor, if◌then◌else◌}
-use Rattle.std.proofs.lemmas.Bool.{ne_eqb, eq-eqb, or_left, cases_Bool, true≢false}
-use Rattle.vm_core.specs.Words.{AreLowest}
-use Rattle.vm_owner.specs.Numbers.{has}
-use Rattle.vm_rule.specs.declared.view.Did.{Did}
-use Rattle.vm_rule.specs.declared.view.Origin.{Origin}
+use Rattle.std.proofs.Common.{[], ⊎_elim, ◌*◌, ◌++◌, ◌<◌, ◌∙◌, ◌∷◌, ◌≡◌, ◌≢◌, ◌≤◌, ap, arith, bit_xor, false, if◌then◌else◌, inl, inr, length, List}
+use Rattle.std.proofs.Common.{None, refl, Some, subst, sym, true, ℕ}
+use Rattle.std.proofs.lemmas.Bool.{cases_Bool, eq-eqb, or_left, true≢false}
+use Rattle.vm_core.specs.Prelude.{AreLowest}
+use Rattle.vm_rule.specs.Prelude.{Brings, bundles_of, BundleTold, contents_at, did_exchange, did_load, frames_in, has, index_of, TakeTold}
+use Rattle.vm_rule.specs.Prelude.{with_contents}
+use Rattle.vm_rule.specs.Bundles.{taken_view}
 use Rattle.vm_rule.specs.declared.view.Place.TheVariants as places
-use Rattle.vm_rule.specs.declared.view.View.{View}
-use Rattle.vm_rule.specs.Layout.{bundles_of, index_of}
-use Rattle.vm_rule.specs.Log.{did_load, did_exchange}
-use Rattle.vm_rule.specs.Bundles.{frames_in, BundleTold, TakeTold, taken_view, with_contents}
-use Rattle.vm_rule.specs.Mappings.{contents_at}
-use Rattle.vm_rule.specs.Brought.{Brings}
-use Rattle.vm_rule.proofs.Bundled.{has-frames_in, frames_in-apart, with_contents-at}
+use Rattle.vm_rule.proofs.Bundled.{frames_in-apart, has-frames_in, with_contents-at}
 use Rattle.vm_rule.proofs.Facts.{has-both}
+use Rattle.vm_step.specs.Prelude.{Did, IsAlone, known_word_at, KnowsElse, Origin, View}
 use Rattle.vm_step.specs.declared.saw.At.TheVariants as ats
-use Rattle.vm_step.specs.Alone.{IsAlone, known_word_at}
-use Rattle.vm_exmap.specs.Frames.{MovesFrames}
-use Rattle.vm_exmap.specs.Walks.{Asks}
-use Rattle.vm_exmap.specs.Visits.{IsEmptyVisit, IsLostVisit, IsTakenVisit}
 use Rattle.vm_step.proofs.Alone.{found-known, same-word, still-alone, words-known}
-use Rattle.vm_step.specs.Tables.{KnowsElse}
+use Rattle.vm_step.proofs.Evidenced.{lost-view, taken-view}
 use Rattle.vm_step.proofs.Tables.{else-knows, follows-inside, last-known}
-use Rattle.vm_exmap.proofs.FrameMoves.{moved-by, moved-then}
-use Rattle.vm_exmap.proofs.Handing.{each-has}
+use Rattle.vm_exmap.specs.{Frames.MovesFrames, Walks.Asks}
+use Rattle.vm_exmap.specs.Visits.{IsEmptyVisit, IsLostVisit, IsTakenVisit}
+use Rattle.vm_exmap.proofs.{FrameMoves.moved-by, FrameMoves.moved-then, Handing.each-has}
 
 -- the number of a bundle of frames that there are
 pub bundle-inside : (g table start : ℕ) → g * 64 < table → start ≡ table → g < bundles_of start
@@ -63,7 +56,7 @@ module _ {X : Type 0} (g word : ℕ) (u v : View X) (told : BundleTold g word u 
     pub lost-visit : (seen : ℕ) → TakeTold g word mask seen v w → seen ≢ word → IsLostVisit most g (record { at = ats.Bundle g; first = word; seen = seen }) u w
     lost-visit seen t ne =
         let did : Did = did_exchange (places.Bundle g) word seen (bit_xor word mask) in
-        let b : Brings did [] [] v v w = subst (λ hit. Brings did [] [] v (if hit then taken_view g mask t.words v else v) w) (ne_eqb seen word ne) t.brings in
+        let b : Brings did [] [] v v w = lost-view did word seen v (taken_view g mask t.words v) w ne t.brings in
         let moves : MovesFrames (did ∷ []) v w = moved-by did g v.frames v.contents v w refl still-inside b (λ f a c. refl) in
         record {
           mask = mask;
@@ -81,7 +74,7 @@ module _ {X : Type 0} (g word : ℕ) (u v : View X) (told : BundleTold g word u 
     pub taken-visit : TakeTold g word mask word v w → 1 ≤ length (frames_in g mask) → IsTakenVisit most g mask u w
     taken-visit t frames_there =
         let did : Did = did_exchange (places.Bundle g) word word (bit_xor word mask) in
-        let b : Brings did [] [] v (taken_view g mask t.words v) w = subst (λ hit. Brings did [] [] v (if hit then taken_view g mask t.words v else v) w) (eq-eqb word word refl) t.brings in
+        let b : Brings did [] [] v (taken_view g mask t.words v) w = taken-view did word word v (taken_view g mask t.words v) w refl t.brings in
         let old : (f : ℕ) → has f v.frames ≡ true → has f (frames_in g mask) ≡ false = λ f had.
         ⊎_elim (λ (e : has f (frames_in g mask) ≡ true). absurd (true≢false (sym had ∙ t.new refl f (sym (has-frames_in g mask f) ∙ e)))) (λ e. e) (cases_Bool (has f (frames_in g mask))) in
         let moves : MovesFrames (did ∷ []) v w =
@@ -90,11 +83,13 @@ module _ {X : Type 0} (g word : ℕ) (u v : View X) (told : BundleTold g word u 
         let frames : w.frames ≡ frames_in g mask ++ v.frames = ap (λ (x : View X). x.frames) b.view in
         let new : (f : ℕ) → has f (frames_in g mask) ≡ true → has f v.frames ≡ false = λ f e. t.new refl f (sym (has-frames_in g mask f) ∙ e) in
         let start : w.start ≡ v.start = moves.start in
+        let done : List Did = did_load (places.Bundle g) word ∷ did ∷ [] in
+        let both : MovesFrames done u w = moved-then (did_load (places.Bundle g) word ∷ []) (did ∷ []) u v w loaded moves (λ f a c. subst (λ (l : List ℕ). has f l ≡ true) (sym same-frames) a) in
         record {
           word = word;
           load = did_load (places.Bundle g) word;
           asks = asks;
-          moves = moved-then (did_load (places.Bundle g) word ∷ []) (did ∷ []) u v w loaded moves (λ f a c. subst (λ (l : List ℕ). has f l ≡ true) (sym same-frames) a);
+          moves = both;
           frames = frames ∙ ap (λ (l : List ℕ). frames_in g mask ++ l) same-frames;
           new = each-has (λ f. has f u.frames ≡ false) (frames_in g mask) (λ f e. subst (λ (l : List ℕ). has f l ≡ false) same-frames (new f e));
           held = record {
@@ -105,8 +100,6 @@ module _ {X : Type 0} (g word : ℕ) (u v : View X) (told : BundleTold g word u 
           some = frames_there;
           table = λ a.
               let known : word ≡ known_word_at u (places.Bundle g) = (load-known a).0 in
-              let done : List Did = did_load (places.Bundle g) word ∷ did ∷ [] in
-              let both : MovesFrames done u w = moved-then (did_load (places.Bundle g) word ∷ []) (did ∷ []) u v w loaded moves (λ f a c. subst (λ (l : List ℕ). has f l ≡ true) (sym same-frames) a) in
               let there : index_of u.start (places.Bundle g) < length u.snapshot.words =
               follows-inside u.start done u.snapshot.words w.snapshot.words (places.Bundle g) word (both.runs.words a.0 a.1)
               (record { earlier = []; step = did_load (places.Bundle g) word; later = did ∷ []; cut = refl; gives = (refl, refl) }) some in

@@ -1,30 +1,21 @@
 -- A walk over the bundles, a visit at a time: each that was passed by adds its steps; where the bits of one were lost, they are the evidence.
-use Rattle.std.proofs.Common.{ℕ, ◌≡◌, ◌≢◌, ◌+◌, ◌-◌, ◌<◌, ◌≤◌, ◌++◌, ◌%◌, ◌/◌, min, true, false, List, [], ◌∷◌, Option, Some, None, zero, suc, length, refl, sym, ap, subst, ◌∙◌, ⊎_elim, arith, append_assoc, bit_xor, if◌then◌else◌}
-use Rattle.std.proofs.Math.Nat.{add-mod-mod, add-mod_right, mod-add-mod, mod-eq_of_lt, mod-lt}
-use Rattle.std.proofs.lemmas.Bool.{ne_eqb, cases_lt}
+use Rattle.std.proofs.Common.{[], ⊎_elim, ◌%◌, ◌++◌, ◌+◌, ◌-◌, ◌/◌, ◌<◌, ◌∙◌, ◌∷◌, ◌≡◌, ◌≢◌, ◌≤◌, ap, append_assoc, arith, bit_xor, false}
+use Rattle.std.proofs.Common.{if◌then◌else◌, length, List, min, None, Option, refl, Some, subst, suc, sym, true, zero, ℕ}
+use Rattle.std.proofs.lemmas.Bool.{cases_lt, ne_eqb}
 use Rattle.std.proofs.lemmas.Option.{none-some}
-use Rattle.vm_core.specs.Words.{AreLowest}
-use Rattle.vm_owner.specs.Numbers.{has}
-use Rattle.vm_rule.specs.declared.view.Did.{Did}
+use Rattle.std.proofs.Math.Nat.{add-mod-mod, add-mod_right, mod-add-mod, mod-eq_of_lt, mod-lt}
+use Rattle.vm_core.specs.Prelude.{AreLowest}
+use Rattle.vm_rule.specs.Prelude.{bundles_of, did_exchange, did_load, Each, frames_in, has}
 use Rattle.vm_rule.specs.declared.view.Place.{Place}
 use Rattle.vm_rule.specs.declared.view.Place.TheVariants as places
-use Rattle.vm_rule.specs.declared.view.View.{View}
-use Rattle.vm_rule.specs.Layout.{bundles_of}
-use Rattle.vm_rule.specs.Views.{Each}
-use Rattle.vm_rule.specs.Log.{did_load, did_exchange}
-use Rattle.vm_rule.specs.Bundles.{frames_in}
 use Rattle.vm_rule.proofs.Heard.{each-both}
+use Rattle.vm_step.specs.Prelude.{AreHeld, Did, IsAlone, IsSaw, known_word_at, NoneExpected, NoWord, place_at, View, WhyAgain}
+use Rattle.vm_step.specs.{declared.saw.Saw.Saw, Evidence.Begins.read}
 use Rattle.vm_step.specs.declared.saw.At.TheVariants as ats
-use Rattle.vm_step.specs.declared.saw.Saw.{Saw}
-use Rattle.vm_step.specs.Alone.{IsAlone, known_word_at}
-use Rattle.vm_step.specs.Evidence.{IsSaw, NoneExpected, NoWord, WhyAgain, place_at}
-use Rattle.vm_step.specs.Evidence.Begins.{read}
-use Rattle.vm_exmap.specs.Frames.{AreHeld, MovesFrames}
-use Rattle.vm_exmap.specs.Walks.{Asks, PassesBy, TakesBits, Walks, Dry, IsDry, bundle_at}
-use Rattle.vm_exmap.specs.Walks.PassesBy.{empty, lost}
-use Rattle.vm_exmap.specs.Visits.{IsEmptyVisit, IsLostVisit, IsTakenVisit, IsFound, IsLostWalk}
-use Rattle.vm_step.proofs.Alone.{same-word, still-alone}
-use Rattle.vm_step.proofs.Tables.{else-same, else-then}
+use Rattle.vm_step.proofs.{Alone.same-word, Alone.still-alone, Tables.else-same, Tables.else-then}
+use Rattle.vm_exmap.specs.{Frames.MovesFrames, Walks.PassesBy.empty, Walks.PassesBy.lost}
+use Rattle.vm_exmap.specs.Visits.{IsEmptyVisit, IsFound, IsLostVisit, IsLostWalk, IsTakenVisit}
+use Rattle.vm_exmap.specs.Walks.{Asks, bundle_at, Dry, IsDry, PassesBy, TakesBits, Walks}
 use Rattle.vm_exmap.proofs.FrameMoves.{moved-nothing, moved-then}
 
 -- how many bundles the table has, as it is computed from its number of frames

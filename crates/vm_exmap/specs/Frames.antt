@@ -1,18 +1,9 @@
 -- Frames that a pass holds or knows to be free, and what a call leaves that moves free frames alone.
-use Rattle.std.specs.Prelude.{ℕ, true, List, [], ◌++◌, ◌≡◌, ◌≢◌, ◌⊎◌, ◌<◌}
-use Rattle.vm_owner.specs.Numbers.{has}
-use Rattle.vm_rule.specs.declared.view.Did.{Did}
-use Rattle.vm_rule.specs.declared.view.Origin.{Origin}
+use Rattle.std.specs.Prelude.{[], ◌++◌, ◌<◌, ◌≡◌, ◌≢◌, ◌⊎◌, List, true, ℕ}
+use Rattle.vm_rule.specs.Prelude.{bundles_of, contents_at, Each, has, IsLocking, last_of, seat_of, StartsWith}
 use Rattle.vm_rule.specs.declared.view.Place.{Place}
 use Rattle.vm_rule.specs.declared.view.Place.TheVariants as places
-use Rattle.vm_rule.specs.declared.view.View.{View}
-use Rattle.vm_rule.specs.Layout.{bundles_of}
-use Rattle.vm_rule.specs.Views.{StartsWith, Each, IsLocking, seat_of}
-use Rattle.vm_rule.specs.Reading.{last_of}
-use Rattle.vm_rule.specs.Mappings.{contents_at}
-use Rattle.vm_step.specs.Alone.{IsAlone, RunsAlone, known_word_at}
-use Rattle.vm_step.specs.Asides.{StaysAlone}
-use Rattle.vm_step.specs.Tables.{KnowsElse}
+use Rattle.vm_step.specs.Prelude.{Did, IsAlone, known_word_at, KnowsElse, Origin, RunsAlone, StaysAlone, View}
 pub use Rattle.vm_step.specs.HeldFrames.{AreHeld}
 
 -- the place is a bundle's word

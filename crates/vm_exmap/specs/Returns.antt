@@ -1,15 +1,9 @@
 -- How frames go back to the bundles: for each bundle that has some of them, by rising number, one step that sets their bits.
-use Rattle.std.specs.Prelude.{ℕ, Bool, false, List, [], ◌∷◌, ◌++◌, ◌≡◌, ◌⊎◌, ◌-◌, ◌/◌, ◌<◌, ◌==◌, ◌&&◌, zero, suc, length, bit_or, min, if◌then◌else◌}
-use Rattle.vm_core.specs.Words.{in_mask}
-use Rattle.vm_core.specs.declared.words.TheConstants.{FRAMES}
-use Rattle.vm_owner.specs.Numbers.{has}
-use Rattle.vm_rule.specs.declared.view.Did.{Did}
+use Rattle.std.specs.Prelude.{[], ◌&&◌, ◌++◌, ◌-◌, ◌/◌, ◌<◌, ◌==◌, ◌∷◌, ◌≡◌, ◌⊎◌, bit_or, Bool, false, if◌then◌else◌, length, List, min, suc, zero, ℕ}
+use Rattle.vm_core.specs.Prelude.{in_mask}
+use Rattle.vm_rule.specs.Prelude.{bundles_of, did_change, FRAMES, has}
 use Rattle.vm_rule.specs.declared.view.Place.TheVariants as places
-use Rattle.vm_rule.specs.declared.view.View.{View}
-use Rattle.vm_rule.specs.Layout.{bundles_of}
-use Rattle.vm_rule.specs.Log.{did_change}
-use Rattle.vm_step.specs.Alone.{IsAlone, known_word_at}
-use Rattle.vm_step.specs.Tables.{KnowsAt}
+use Rattle.vm_step.specs.Prelude.{Did, IsAlone, known_word_at, KnowsAt, View}
 use Rattle.vm_exmap.specs.Frames.{MovesFrames}
 
 -- the frame is one of these, and of bundle g
@@ -19,12 +13,14 @@ is_of g frames f = (f / FRAMES == g) && has f frames
 -- the bits of the frames that are of bundle g were set, by one step; or there are none, and no step was made
 pub data GivesTo (frames : List ℕ) (g : ℕ) (steps : List Did) : Type 0 where
   none : ((f : ℕ) → is_of g frames f ≡ false) → steps ≡ [] → GivesTo frames g steps
-  some : (mask found : ℕ) → ((f : ℕ) → in_mask g mask f ≡ is_of g frames f) → steps ≡ did_change (places.Bundle g) found (bit_or found mask) ∷ [] → GivesTo frames g steps
+  some : (mask found : ℕ) → ((f : ℕ) → in_mask g mask f ≡ is_of g frames f) → steps ≡ did_change (places.Bundle g) found (bit_or found mask) ∷ []
+      → GivesTo frames g steps
 
 -- so it was done with the first `count` bundles, in order
 abbrev pub GivesFromFirst : List ℕ → ℕ → List Did → Type 0
 GivesFromFirst frames zero done = done ≡ []
-GivesFromFirst frames (suc g) done = (before : List Did) × (steps : List Did) × (done ≡ before ++ steps) × GivesFromFirst frames g before × GivesTo frames g steps
+GivesFromFirst frames (suc g) done = (before : List Did) × (steps : List Did) × (done ≡ before ++ steps) × GivesFromFirst frames g before
+    × GivesTo frames g steps
 
 module _ {X : Type 0} where
   -- what the pass knows of the word of bundle g: it is as before, where none of these frames is of the bundle; else it has their bits too, where

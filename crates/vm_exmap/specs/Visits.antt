@@ -1,23 +1,14 @@
 -- What comes of a visit to one bundle on a walk, and of the walk: the parts of an allocation from an interface without a frame.
-use Rattle.std.specs.Prelude.{ℕ, false, List, [], ◌∷◌, ◌++◌, ◌≡◌, ◌≢◌, ◌≤◌, length, bit_xor}
-use Rattle.vm_owner.specs.Numbers.{has}
-use Rattle.vm_rule.specs.declared.view.Did.{Did}
+use Rattle.std.specs.Prelude.{[], ◌++◌, ◌∷◌, ◌≡◌, ◌≢◌, ◌≤◌, bit_xor, false, length, List, ℕ}
+use Rattle.vm_rule.specs.Prelude.{bundles_of, did_exchange, did_load, Each, frames_in, has}
 use Rattle.vm_rule.specs.declared.view.Place.TheVariants as places
-use Rattle.vm_rule.specs.declared.view.View.{View}
-use Rattle.vm_rule.specs.Layout.{bundles_of}
-use Rattle.vm_rule.specs.Views.{Each}
-use Rattle.vm_rule.specs.Log.{did_load, did_exchange}
-use Rattle.vm_rule.specs.Bundles.{frames_in}
+use Rattle.vm_step.specs.Prelude.{AreHeld, Did, IsAlone, IsSaw, known_word_at, NoneExpected, NoWord, View}
 use Rattle.vm_step.specs.declared.saw.At.TheVariants as ats
 use Rattle.vm_step.specs.declared.saw.Saw.{Saw}
-use Rattle.vm_exmap.specs.declared.interface.Alloc.{Alloc}
+use Rattle.vm_exmap.specs.{declared.interface.Alloc.Alloc, declared.walk.Visited.Visited, Frames.MovesFrames}
 use Rattle.vm_exmap.specs.declared.interface.Alloc.TheVariants as allocs
-use Rattle.vm_exmap.specs.declared.walk.Visited.{Visited}
 use Rattle.vm_exmap.specs.declared.walk.Visited.TheVariants as visits
-use Rattle.vm_step.specs.Alone.{IsAlone, known_word_at}
-use Rattle.vm_step.specs.Evidence.{IsSaw, NoneExpected, NoWord}
-use Rattle.vm_exmap.specs.Frames.{AreHeld, MovesFrames}
-use Rattle.vm_exmap.specs.Walks.{Asks, Walks, TakesBits, TakesFrom, TakesNone, IsDry}
+use Rattle.vm_exmap.specs.Walks.{Asks, IsDry, TakesBits, TakesFrom, TakesNone, Walks}
 
 module _ {X : Type 0} where
   -- ---- one bundle

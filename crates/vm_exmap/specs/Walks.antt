@@ -1,22 +1,13 @@
 -- How an interface comes to frames: from its own, or by a walk over the bundles, from its home bundle on and round.
-use Rattle.std.specs.Prelude.{ℕ, false, List, [], ◌∷◌, ◌++◌, ◌≡◌, ◌≢◌, ◌⊎◌, ◌+◌, ◌<◌, ◌%◌, zero, suc, length, min, max, bit_xor}
-use Rattle.vm_core.specs.Words.{AreLowest}
-use Rattle.vm_owner.specs.Numbers.{has}
-use Rattle.vm_rule.specs.declared.view.Did.{Did}
+use Rattle.std.specs.Prelude.{[], ◌%◌, ◌++◌, ◌+◌, ◌<◌, ◌∷◌, ◌≡◌, ◌≢◌, ◌⊎◌, bit_xor, false, length, List, max, min, suc, zero, ℕ}
+use Rattle.vm_core.specs.Prelude.{AreLowest}
+use Rattle.vm_rule.specs.Prelude.{bundles_of, did_exchange, did_load, Each, frames_in, has}
 use Rattle.vm_rule.specs.declared.view.Place.TheVariants as places
-use Rattle.vm_rule.specs.declared.view.View.{View}
-use Rattle.vm_rule.specs.Layout.{bundles_of}
-use Rattle.vm_rule.specs.Views.{Each}
-use Rattle.vm_rule.specs.Log.{did_load, did_exchange}
-use Rattle.vm_rule.specs.Bundles.{frames_in}
+use Rattle.vm_step.specs.Prelude.{Did, IsAlone, IsSaw, known_word_at, KnowsElse, KnowsSame, NoneExpected, NoWord, View}
 use Rattle.vm_step.specs.declared.saw.At.TheVariants as ats
 use Rattle.vm_step.specs.declared.saw.Saw.{Saw}
-use Rattle.vm_exmap.specs.declared.interface.Alloc.{Alloc}
+use Rattle.vm_exmap.specs.{declared.interface.Alloc.Alloc, Frames.MovesFrames}
 use Rattle.vm_exmap.specs.declared.interface.Alloc.TheVariants as allocs
-use Rattle.vm_step.specs.Alone.{IsAlone, known_word_at}
-use Rattle.vm_step.specs.Evidence.{IsSaw, NoneExpected, NoWord}
-use Rattle.vm_step.specs.Tables.{KnowsElse, KnowsSame}
-use Rattle.vm_exmap.specs.Frames.{MovesFrames}
 
 -- the k-th bundle of the walk
 abbrev pub bundle_at : ℕ → ℕ → ℕ → ℕ
@@ -31,12 +22,14 @@ pub record Asks (most g word mask : ℕ) (load : Did) : Type 0 where
 -- a bundle is passed by: its word was 0, or the bits asked for were lost, since another word stood there by then
 pub data PassesBy (most g : ℕ) (steps : List Did) : Type 0 where
   empty : steps ≡ did_load (places.Bundle g) 0 ∷ [] → PassesBy most g steps
-  lost : (word mask other : ℕ) (load : Did) → Asks most g word mask load → other ≢ word → steps ≡ load ∷ did_exchange (places.Bundle g) word other (bit_xor word mask) ∷ [] → PassesBy most g steps
+  lost : (word mask other : ℕ) (load : Did) → Asks most g word mask load → other ≢ word
+      → steps ≡ load ∷ did_exchange (places.Bundle g) word other (bit_xor word mask) ∷ [] → PassesBy most g steps
 
 -- the first `count` bundles of the walk were passed by, in order; each word was loaded once
 abbrev pub Walks : ℕ → ℕ → ℕ → ℕ → List Did → Type 0
 Walks most home bundles zero done = done ≡ []
-Walks most home bundles (suc k) done = (before : List Did) × (steps : List Did) × (done ≡ before ++ steps) × Walks most home bundles k before × PassesBy most (bundle_at home bundles k) steps
+Walks most home bundles (suc k) done = (before : List Did) × (steps : List Did) × (done ≡ before ++ steps) × Walks most home bundles k before
+    × PassesBy most (bundle_at home bundles k) steps
 
 -- so were they, and each word was 0
 abbrev pub Dry : ℕ → ℕ → ℕ → List Did → Type 0

@@ -1,11 +1,8 @@
 // A pass's own store of free frames over the bundles that all passes share: frames are taken from a bundle and given back in batches, each
 // by one step on the bundle's word.
-ghost use Rattle.std.specs.Prelude.{◌≡◌, ◌≤◌, ◌+◌, ◌-◌, ◌^◌, ◌++◌, ℕ, [], length, min};
-ghost use Rattle.vm_core.specs.declared.words.TheConstants.{FRAMES};
-ghost use Rattle.vm_exmap.specs.Frames.{AreHeld};
-ghost use Rattle.vm_step.specs.Alone.{IsAlone};
-ghost use Rattle.vm_step.specs.Passes.{IsSamePass, view};
-ghost use Rattle.vm_step.specs.Ready.{IsReady};
+ghost use Rattle.std.specs.Prelude.{[], ◌++◌, ◌+◌, ◌-◌, ◌^◌, ◌≡◌, ◌≤◌, length, min};
+ghost use Rattle.vm_rule.specs.Prelude.{FRAMES};
+ghost use Rattle.vm_step.specs.Prelude.{AreHeld, IsAlone, IsReady, IsSamePass, view};
 ghost use Rattle.vm_exmap.specs.Returns.{AreGiven, IsFreed};
 ghost use Rattle.vm_exmap.specs.Walks.{HandsOut, IsAlloc, NotLost};
 

@@ -1,8 +1,7 @@
 // A walk over the bundles for free frames: each is visited once, from a home on and round, until the bits asked of one of them are taken.
-ghost use Rattle.std.specs.Prelude.{◌≡◌, ◌*◌, ◌<◌, ◌≤◌, ℕ};
+ghost use Rattle.std.specs.Prelude.{◌*◌, ◌<◌, ◌≤◌};
+ghost use Rattle.vm_step.specs.Prelude.{IsReady, IsSamePass, view};
 ghost use Rattle.vm_exmap.specs.Visits.{IsVisited, IsWalk};
-ghost use Rattle.vm_step.specs.Passes.{IsSamePass, view};
-ghost use Rattle.vm_step.specs.Ready.{IsReady};
 
 use crate::bits::frames_of;
 use crate::interface::Alloc;

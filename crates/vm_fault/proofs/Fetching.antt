@@ -1,42 +1,22 @@
 -- The page was found evicted and locked, and its block was read: it is installed with the block's words and released, or released as evicted.
-use Rattle.std.proofs.Common.{ℕ, ◌≡◌, ◌<◌, ◌≤◌, ◌+◌, ◌++◌, true, false, List, [], ◌∷◌, Some, None, IsSome, length, refl, sym, ap, subst, ◌∙◌, inl, arith, slice_index, if◌then◌else◌, Bool, Result, Ok, Err, is_ok, OnOk}
+use Rattle.std.proofs.Common.{[], ◌++◌, ◌+◌, ◌<◌, ◌∙◌, ◌∷◌, ◌≡◌, ◌≤◌, ap, arith, Bool, Err, false, if◌then◌else◌, inl, is_ok, IsSome, length, List}
+use Rattle.std.proofs.Common.{None, Ok, OnOk, refl, Result, slice_index, Some, subst, sym, true, ℕ}
 use Rattle.std.proofs.lemmas.Bool.{or_left}
 use Rattle.std.proofs.lemmas.Option.{none-some}
-use Rattle.vm_core.specs.declared.event.Seat.{Seat}
+use Rattle.vm_block.specs.Blocks.{Reads}
+use Rattle.vm_core.specs.Prelude.{count_more, EVICTED, MAX_VERSION, trans_word, UNLOCKED, Version, word_of}
 use Rattle.vm_core.specs.Fn as fns
-use Rattle.vm_core.specs.Words.{count_more, MAX_VERSION, EVICTED, word_of}
-use Rattle.vm_core.specs.FrameActs.{trans_word}
-use Rattle.vm_core.specs.History.{Version}
-use Rattle.vm_core.proofs.Upd.{upd-other, upd-same}
-use Rattle.vm_block.specs.Blocks.{Reads, one_call_more}
-use Rattle.vm_block.specs.declared.stored.Stored.{Stored}
-use Rattle.vm_owner.specs.declared.Entry.{Entry}
-use Rattle.vm_owner.specs.Kept.{Start, Change}
-use Rattle.vm_owner.specs.Numbers.{has, without}
-use Rattle.vm_rule.specs.declared.view.Did.{Did}
+use Rattle.vm_rule.specs.Prelude.{Change, clean_in, did_store, Each, Entry, EvictTold, has, held_at, HomeTold, InstallTold, MayBring, MayPutInto}
+use Rattle.vm_rule.specs.Prelude.{no_held, notes_of, out_at, OutTold, put_at, RaiseTold, ReleaseTold, Seat, seat_of, Start, Stored, without}
 use Rattle.vm_rule.specs.declared.view.Held.{Held}
-use Rattle.vm_rule.specs.declared.view.Origin.{Origin}
 use Rattle.vm_rule.specs.declared.view.Place.TheVariants as places
-use Rattle.vm_rule.specs.declared.view.View.{View}
-use Rattle.vm_rule.specs.Puts.{put, put_at}
-use Rattle.vm_rule.specs.Views.{Each, seat_of}
-use Rattle.vm_rule.specs.Rule.{no_held}
-use Rattle.vm_rule.specs.Faults.{RaiseTold, notes_of}
-use Rattle.vm_rule.specs.Log.{did_store}
-use Rattle.vm_rule.specs.Mappings.{InstallTold, MayPutInto, clean_in, held_at, mapped}
-use Rattle.vm_rule.specs.Releases.{EvictTold, ReleaseTold}
-use Rattle.vm_rule.specs.Slots.{HomeTold, MayBring, OutTold, out_at}
-use Rattle.vm_step.specs.Conditions.{IsNotOut, MayEvict, MayGiveUp, MayRaise, MayTakeOut}
-use Rattle.vm_step.specs.DeviceCalls.{IsOfPage}
-use Rattle.vm_step.specs.Evidence.{HasWritten}
-use Rattle.vm_step.specs.Fills.{Stores}
-use Rattle.vm_step.specs.Works.{Works}
-use Rattle.vm_step.proofs.Device.{Moves, call-did, called, counts-one, goes-out, may-bring, more-is, noted-more, two-loads}
-use Rattle.vm_step.proofs.Evidenced.{written-behind, written-front}
-use Rattle.vm_step.proofs.Filling.{Fills, all-stored, filled, fills, stores-did}
-use Rattle.vm_step.proofs.Leaves.{works-one, works-then}
+use Rattle.vm_step.specs.Prelude.{Did, HasWritten, IsNotOut, IsOfPage, MayEvict, MayGiveUp, MayRaise, MayTakeOut, Origin, Stores, View, Works}
+use Rattle.vm_step.proofs.{Evidenced.written-behind, Evidenced.written-front, Leaves.works-then, steps.Mapping.install-held}
+use Rattle.vm_step.proofs.{steps.Mapping.install-works, steps.Raise.raise-held, steps.Raise.raise-works}
+use Rattle.vm_step.proofs.Device.{call-did, called, counts-one, goes-out, may-bring, Moves, noted-more, two-loads}
+use Rattle.vm_step.proofs.Filling.{all-stored, filled, Fills, fills, stores-did}
 use Rattle.vm_fault.specs.Fetches.{IsBrought, IsFailed, IsOfBoth}
-use Rattle.vm_fault.proofs.Ending.{evicted-aside, evicted-knows, evicted-released, evicted-runs, still-draft, still-free, still-last, still-owns, still-paid, unlocked-aside, unlocked-knows, unlocked-released, unlocked-runs}
+use Rattle.vm_fault.proofs.Ending.{EndsAs, evicted-ends, still-draft, still-free, still-last, still-owns, still-paid, unlocked-ends}
 use Rattle.vm_fault.proofs.Evicted.{IsHeldEmpty}
 use Rattle.vm_fault.proofs.StepPlaces.{both-within, brought-at, brought-once, failed-at, failed-once, page-within}
 
@@ -83,7 +63,7 @@ module _ {X : Type 0} (p version : ℕ) (words : List ℕ) (before : List Did) (
 
     module _ (u : Unit {0}) (ok : result ≡ Ok u) where
       count-same : new.count ≡ old.count
-      count-same = read.count ∙ ap (λ (y : Result (Unit {0}) E). if is_ok y then old.count else one_call_more old.count) ok
+      count-same = read.count ∙ ap (λ (y : Result (Unit {0}) E). if is_ok y then old.count else count_more old.count) ok
 
       pub long : length page ≡ 64
       long = subst (λ (y : Result (Unit {0}) E). OnOk y (length page ≡ 64)) ok read.whole
@@ -128,16 +108,10 @@ module _ {X : Type 0} (p version : ℕ) (words : List ℕ) (before : List Did) (
         worked-did = filled-did ++ install-did ∷ []
 
         work-installed : Works p worked-did x i
-        work-installed =
-            works-then p filled-did (install-did ∷ []) x e i work-filled
-            (works-one p install-did None e (mapped p (Some (clean_in f)) e) (without f e.frames) e.contents e.out e.notes i
-            (λ q ne. upd-other (put_at no_held e.held) p (record (held_at e p) { mapping = Some (clean_in f) }) q ne) t.brings)
+        work-installed = works-then p filled-did (install-did ∷ []) x e i work-filled (install-works t)
 
         held-installed : held_at i p ≡ record held-called { mapping = Some (clean_in f) }
-        held-installed =
-            ap (λ (y : View X). held_at y p) t.brings.view
-            ∙ upd-same (put_at no_held e.held) p (record (held_at e p) { mapping = Some (clean_in f) })
-            ∙ ap (λ (y : Held). record y { mapping = Some (clean_in f) }) held-filled
+        held-installed = install-held t ∙ ap (λ (y : Held). record y { mapping = Some (clean_in f) }) held-filled
 
         out-installed : i.out ≡ None
         out-installed = ap (λ (y : View X). y.out) t.brings.view ∙ filled-as.out ∙ moved.away
@@ -169,20 +143,23 @@ module _ {X : Type 0} (p version : ℕ) (words : List ℕ) (before : List Did) (
           abbrev end-did : Did
           end-did = did_store (places.State p) (version + 1)
 
+          ends : EndsAs p version words before worked-did v x i h work-installed UNLOCKED ((before ++ worked-did) ++ end-did ∷ []) w
+          ends = unlocked-ends p version words before worked-did v x i h work-installed below w r
+
           steps-are : Each (λ (d : Did). IsOfBoth p f d.at) ((before ++ worked-did) ++ end-did ∷ [])
           steps-are = brought-at p before h.steps o.first o.second m.first m.second f (trans_word (Some (clean_in f))) (version + 1) page (long u ok)
 
           pub brought : IsBrought p f v w
           brought = record {
             done = (before ++ worked-did) ++ end-did ∷ [];
-            aside = unlocked-aside p version words before worked-did v x i h work-installed below w r (out-installed ∙ sym none ∙ h.out);
+            aside = ends.aside (out-installed ∙ sym none ∙ h.out);
             version = version;
             words = words;
-            released = unlocked-released p version words before worked-did v x i h work-installed below w r;
+            released = ends.released;
             steps = steps-are;
             block = brought-once p before h.steps o.first o.second m.first m.second f (trans_word (Some (clean_in f))) (version + 1) page (long u ok);
-            alone = unlocked-runs p version words before worked-did v x i h work-installed below w r;
-            table = unlocked-knows p version words before worked-did v x i h work-installed below w r (IsOfBoth p f)
+            alone = ends.runs;
+            table = ends.knows (IsOfBoth p f)
                 (both-within v.start p f (subst (λ (y : Origin). p < y.pages) h.leaves.start inside) (subst (λ (y : Origin). f < y.frames) h.leaves.start frame)) steps-are;
             mapped =
                 written-front (before ++ worked-did) (end-did ∷ []) (places.Translation p) (trans_word (Some (clean_in f)))
@@ -218,14 +195,10 @@ module _ {X : Type 0} (p version : ℕ) (words : List ℕ) (before : List Did) (
       raised-did = called-did ++ raise-did ∷ []
 
       pub work-raised : Works p raised-did x y
-      work-raised =
-          works-then p called-did (raise-did ∷ []) x d y moved.works
-          (works-one p raise-did None d (put p (record (held_at d p) { fault = n }) d.held) d.frames d.contents d.out (d.notes ++ notes_of p (held_at d p).fault n) y
-          (λ q ne. upd-other (put_at no_held d.held) p (record (held_at d p) { fault = n }) q ne) t.brings)
+      work-raised = works-then p called-did (raise-did ∷ []) x d y moved.works (raise-works t)
 
       held-raised : held_at y p ≡ record held-called { fault = n }
-      held-raised =
-          ap (λ (z : View X). held_at z p) t.brings.view ∙ upd-same (put_at no_held d.held) p (record (held_at d p) { fault = n }) ∙ ap (λ (z : Held). record z { fault = n }) moved.known
+      held-raised = raise-held t ∙ ap (λ (z : Held). record z { fault = n }) moved.known
 
       out-raised : y.out ≡ None
       out-raised = ap (λ (z : View X). z.out) t.brings.view ∙ moved.away
@@ -246,7 +219,7 @@ module _ {X : Type 0} (p version : ℕ) (words : List ℕ) (before : List Did) (
         evict-did = did_store (places.State p) (word_of EVICTED (version + 1))
 
         count : new.count ≡ count_more old.count
-        count = read.count ∙ ap (λ (z : Result (Unit {0}) E). if is_ok z then old.count else one_call_more old.count) err ∙ more-is old.count
+        count = read.count ∙ ap (λ (z : Result (Unit {0}) E). if is_ok z then old.count else count_more old.count) err
 
         -- the count is what the block's bound allows
         allowed : (1 ≤ n) × (n ≤ fns.at 0 v.start.bounds p)
@@ -263,20 +236,23 @@ module _ {X : Type 0} (p version : ℕ) (words : List ℕ) (before : List Did) (
             subst (λ (k : ℕ). notes_of p k n ≡ record { page = p; count = n } ∷ []) (sym fault)
             (subst (λ (k : ℕ). notes_of p old.count k ≡ record { page = p; count = k } ∷ []) (sym (is ∙ count)) (noted-more p old.count))
 
+        evicts : EndsAs p version words before raised-did v x y h work-raised EVICTED ((before ++ raised-did) ++ evict-did ∷ []) w
+        evicts = evicted-ends p version words before raised-did v x y h work-raised below w r
+
         steps-of : Each (λ (d : Did). IsOfPage p d.at) ((before ++ raised-did) ++ evict-did ∷ [])
         steps-of = failed-at p before h.steps o.first o.second m.first m.second n (word_of EVICTED (version + 1))
 
         pub failed : IsFailed p n v w
         failed = record {
           done = (before ++ raised-did) ++ evict-did ∷ [];
-          aside = evicted-aside p version words before raised-did v x y h work-raised below w r (out-raised ∙ sym none ∙ h.out);
+          aside = evicts.aside (out-raised ∙ sym none ∙ h.out);
           version = version;
           words = words;
-          released = evicted-released p version words before raised-did v x y h work-raised below w r;
+          released = evicts.released;
           steps = steps-of;
           block = failed-once p before h.steps o.first o.second m.first m.second n (word_of EVICTED (version + 1));
-          alone = evicted-runs p version words before raised-did v x y h work-raised below w r;
-          table = evicted-knows p version words before raised-did v x y h work-raised below w r (IsOfPage p) (page-within v.start p (subst (λ (y : Origin). p < y.pages) h.leaves.start inside)) steps-of;
+          alone = evicts.runs;
+          table = evicts.knows (IsOfPage p) (page-within v.start p (subst (λ (y : Origin). p < y.pages) h.leaves.start inside)) steps-of;
           raised =
               written-front (before ++ raised-did) (evict-did ∷ []) (places.Fault p) n
               (written-behind before raised-did (places.Fault p) n record { earlier = called-did; step = raise-did; later = []; cut = refl; place = refl; wrote = refl });

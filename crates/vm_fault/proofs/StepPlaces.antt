@@ -1,18 +1,11 @@
 -- The places of the steps that bring a page: each is one of the page or of the frame, and the block goes out and comes home once.
-use Rattle.std.proofs.Common.{ℕ, ◌≡◌, ◌≢◌, ◌≤◌, ◌<◌, ◌+◌, ◌++◌, List, [], ◌∷◌, None, length, refl, sym, subst, ◌∙◌, inl, inr, ⊎_elim, arith, append_assoc}
-use Rattle.vm_rule.specs.declared.view.Did.{Did}
-use Rattle.vm_rule.specs.declared.view.Origin.{Origin}
+use Rattle.std.proofs.Common.{[], ⊎_elim, ◌++◌, ◌+◌, ◌<◌, ◌∙◌, ◌∷◌, ◌≡◌, ◌≢◌, ◌≤◌, append_assoc, arith, inl, inr, length, List, refl, subst, sym, ℕ}
+use Rattle.vm_rule.specs.Prelude.{did_store, Each, Within}
 use Rattle.vm_rule.specs.declared.view.Place.{Place}
 use Rattle.vm_rule.specs.declared.view.Place.TheVariants as places
-use Rattle.vm_rule.specs.Layout.{Within}
-use Rattle.vm_rule.specs.Log.{did_store}
-use Rattle.vm_rule.specs.Views.{Each}
-use Rattle.vm_rule.proofs.Entries.{each-map}
-use Rattle.vm_rule.proofs.Heard.{each-both}
-use Rattle.vm_step.proofs.Device.{two-loads}
-use Rattle.vm_step.proofs.Filling.{stores-did}
-use Rattle.vm_step.specs.DeviceCalls.{IsOfPage, StaysHome}
-use Rattle.vm_step.proofs.DeviceCalls.{home-both, home-else}
+use Rattle.vm_rule.proofs.{Entries.each-map, Heard.each-both}
+use Rattle.vm_step.specs.Prelude.{Did, IsOfPage, Origin, StaysHome}
+use Rattle.vm_step.proofs.{Device.two-loads, DeviceCalls.home-both, DeviceCalls.home-else, Filling.stores-did}
 use Rattle.vm_fault.specs.Fetches.{IsOfBoth, ReadsOnce}
 
 -- these are places of the table

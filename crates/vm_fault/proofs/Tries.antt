@@ -1,21 +1,15 @@
 -- A page that could not be brought: it was found in another state, or at the last version, or another came before with its lock.
-use Rattle.std.proofs.Common.{ℕ, ◌≡◌, ◌≢◌, ◌≤◌, ◌⊎◌, List, [], ◌∷◌, Some, None, refl, sym, ap, subst, ◌∙◌, inl, inr, eqb, ⊎_elim}
+use Rattle.std.proofs.Common.{[], ⊎_elim, ◌∙◌, ◌∷◌, ◌≡◌, ◌≢◌, ◌≤◌, ◌⊎◌, ap, eqb, inl, inr, List, None, refl, Some, subst, sym, ℕ}
 use Rattle.std.proofs.lemmas.Bool.{cases_eq, cond-false, ne_eqb}
-use Rattle.vm_core.specs.Words.{state_of, version_of, word_of, LOCKED, EVICTED, MAX_VERSION}
-use Rattle.vm_owner.specs.Kept.{Start}
-use Rattle.vm_rule.specs.declared.view.Did.{Did}
+use Rattle.vm_core.specs.Prelude.{EVICTED, LOCKED, MAX_VERSION, state_of, version_of, word_of}
+use Rattle.vm_rule.specs.Prelude.{did_exchange, did_load, last_of, locked_view, LockTold, LookTold, Start}
 use Rattle.vm_rule.specs.declared.view.Place.TheVariants as places
-use Rattle.vm_rule.specs.declared.view.View.{View}
-use Rattle.vm_rule.specs.Reading.{last_of}
-use Rattle.vm_rule.specs.Log.{did_load, did_exchange}
-use Rattle.vm_rule.specs.Looks.{LookTold}
-use Rattle.vm_rule.specs.Locks.{LockTold, locked_view}
 use Rattle.vm_rule.proofs.WordFacts.{version-within, word-made, word-state}
+use Rattle.vm_step.specs.Prelude.{Did, IsAlone, known_word_at, RunsAlone, View}
 use Rattle.vm_step.specs.declared.saw.At.TheVariants as ats
-use Rattle.vm_step.specs.Evidence.{EvictedExpected, HasGiven}
-use Rattle.vm_step.specs.Alone.{IsAlone, RunsAlone, known_word_at}
+use Rattle.vm_step.specs.Evidence.{EvictedExpected}
 use Rattle.vm_step.proofs.Alone.{found-known, runs-one, runs-then, same-word, still-alone, words-known}
-use Rattle.vm_step.proofs.Asides.{OnlyReads, look-only, lost-only, only-then}
+use Rattle.vm_step.proofs.Asides.{look-only, lost-only, only-then, OnlyReads}
 use Rattle.vm_step.proofs.Saws.{lost-saw}
 use Rattle.vm_fault.specs.Fetches.{IsFetchToTry, IsFetchWorn}
 

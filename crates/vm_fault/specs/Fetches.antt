@@ -1,31 +1,17 @@
 -- What bringing a page into a frame answers. A page that was evicted is released at its next version with the words that it had: resident in
 -- the frame, or evicted again where its block could not be read.
-use Rattle.std.specs.Prelude.{ℕ, true, List, [], ◌∷◌, ◌++◌, ◌≡◌, ◌≢◌, ◌⊎◌, ◌+◌, ◌<◌, ◌≤◌, slice_index, Some, None}
-use Rattle.vm_page.specs.declared.buf.TheConstants.{WORDS}
+use Rattle.std.specs.Prelude.{[], ◌++◌, ◌+◌, ◌<◌, ◌∷◌, ◌≡◌, ◌≢◌, ◌≤◌, ◌⊎◌, List, None, slice_index, Some, true, ℕ}
+use Rattle.vm_core.specs.Prelude.{EVICTED, MAX_VERSION, state_of, trans_word, UNLOCKED, version_of, word_of, WORDS}
 use Rattle.vm_core.specs.Fn as fns
-use Rattle.vm_core.specs.Words.{state_of, version_of, word_of, UNLOCKED, EVICTED, MAX_VERSION}
-use Rattle.vm_core.specs.FrameActs.{trans_word}
-use Rattle.vm_owner.specs.Kept.{Start}
-use Rattle.vm_owner.specs.Numbers.{without}
-use Rattle.vm_rule.specs.declared.view.Did.{Did}
+use Rattle.vm_rule.specs.Prelude.{clean_in, Each, last_in, last_of, LockTold, LookTold, Start, without}
 use Rattle.vm_rule.specs.declared.view.Place.{Place}
 use Rattle.vm_rule.specs.declared.view.Place.TheVariants as places
-use Rattle.vm_rule.specs.declared.view.Release.{Release}
-use Rattle.vm_rule.specs.declared.view.View.{View}
-use Rattle.vm_rule.specs.Views.{Each}
-use Rattle.vm_rule.specs.Reading.{last_in, last_of}
-use Rattle.vm_rule.specs.Locks.{LockTold}
-use Rattle.vm_rule.specs.Looks.{LookTold}
-use Rattle.vm_rule.specs.Mappings.{clean_in}
+use Rattle.vm_step.specs.Prelude.{Did, GoesOnce, HasGiven, HasWritten, IsAlone, IsAside, IsLost, IsOfPage, IsSaw, KeepsFrames, known_word_at}
+use Rattle.vm_step.specs.Prelude.{KnowsElse, KnowsSame, NoWord, Release, RunsAlone, View}
+use Rattle.vm_step.specs.{declared.saw.Saw.Saw, Evidence.EvictedExpected}
 use Rattle.vm_step.specs.declared.saw.At.TheVariants as ats
-use Rattle.vm_step.specs.declared.saw.Saw.{Saw}
 use Rattle.vm_fault.specs.declared.fault.Fetch.{Fetch}
 use Rattle.vm_fault.specs.declared.fault.Fetch.TheVariants as fetches
-use Rattle.vm_step.specs.Alone.{IsAlone, RunsAlone, known_word_at}
-use Rattle.vm_step.specs.Asides.{IsAside, KeepsFrames}
-use Rattle.vm_step.specs.DeviceCalls.{GoesOnce, IsOfPage}
-use Rattle.vm_step.specs.Evidence.{EvictedExpected, HasGiven, HasWritten, IsLost, IsSaw, NoWord}
-use Rattle.vm_step.specs.Tables.{KnowsElse, KnowsSame}
 
 -- the page was found at the last version, in a state other than evicted: no lock of it may be tried
 pub record IsWornIn (done : List Did) (p : ℕ) (saw : Saw) : Type 0 where

@@ -1,10 +1,9 @@
 // A page that is not in memory is brought from its block into a frame.
-ghost use Rattle.std.specs.Prelude.{◌≡◌, ◌<◌, None, true};
-ghost use Rattle.vm_owner.specs.Numbers.{has};
-ghost use Rattle.vm_core.specs.Words.{EVICTED, MAX_VERSION, version_of, word_of};
+ghost use Rattle.std.specs.Prelude.{◌<◌, ◌≡◌, None, true};
+ghost use Rattle.vm_core.specs.Prelude.{EVICTED, MAX_VERSION};
+ghost use Rattle.vm_rule.specs.Prelude.{has};
+ghost use Rattle.vm_step.specs.Prelude.{IsReady, IsSamePass, view};
 ghost use Rattle.vm_fault.specs.Fetches.{IsFetched, IsFoundEvicted};
-ghost use Rattle.vm_step.specs.Passes.{IsSamePass, view};
-ghost use Rattle.vm_step.specs.Ready.{IsReady};
 
 use vm_block::Block;
 use vm_core::{MAX_VERSION, StateWord};

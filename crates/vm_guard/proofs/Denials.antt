@@ -1,28 +1,19 @@
 -- A call that looked at a page's word and was denied: at once, or by an exchange that was lost.
-use Rattle.std.proofs.Common.{ℕ, ◌≡◌, ◌≢◌, ◌⊎◌, List, [], ◌∷◌, None, refl, sym, subst, ◌∙◌, inl, inr}
-use Rattle.vm_owner.specs.Kept.{Start}
-use Rattle.vm_rule.specs.declared.view.Did.{Did}
+use Rattle.std.proofs.Common.{[], ◌∙◌, ◌∷◌, ◌≡◌, ◌≢◌, ◌⊎◌, inl, inr, List, None, refl, subst, sym, ℕ}
+use Rattle.vm_rule.specs.Prelude.{did_exchange, did_load, Each, LookTold, Start}
 use Rattle.vm_rule.specs.declared.view.Place.TheVariants as places
-use Rattle.vm_rule.specs.declared.view.View.{View}
-use Rattle.vm_rule.specs.Views.{Each}
-use Rattle.vm_rule.specs.Log.{did_load, did_exchange}
-use Rattle.vm_rule.specs.Looks.{LookTold}
-use Rattle.vm_guard.specs.declared.deny.Deny.{Deny}
-use Rattle.vm_guard.specs.declared.deny.Deny.TheVariants as denies
+use Rattle.vm_step.specs.Prelude.{Did, IsSaw, NoWord, View}
+use Rattle.vm_step.specs.{declared.saw.Saw.Saw, Evidence.same}
 use Rattle.vm_step.specs.declared.saw.At.TheVariants as ats
-use Rattle.vm_step.specs.declared.saw.Saw.{Saw}
-use Rattle.vm_guard.specs.Denied.{IsDenied, IsEvidence}
-use Rattle.vm_step.specs.Evidence.{IsSaw, NoWord, same}
 use Rattle.vm_step.proofs.Saws.{lost-saw, one-given}
-use Rattle.vm_guard.specs.Quiet.{IsQuiet}
-use Rattle.vm_guard.specs.Takes.{SaysWhy}
-use Rattle.vm_guard.proofs.QuietSteps.{look-quiet, quiet-then}
+use Rattle.vm_guard.specs.{declared.deny.Deny.Deny, Denied.IsDenied, Denied.IsEvidence, Quiet.IsQuiet, Takes.SaysWhy}
+use Rattle.vm_guard.specs.declared.deny.Deny.TheVariants as denies
+use Rattle.vm_guard.proofs.{QuietSteps.look-quiet, QuietSteps.quiet-then, Unmarking.load-unmarks, Unmarking.lost-unmarks}
 use Rattle.vm_guard.proofs.Sure.{alone-on, look-current, look-leaves, lost-leaves}
-use Rattle.vm_guard.proofs.Unmarking.{load-unmarks, lost-unmarks}
 
-word-shows : (expects : ℕ → ℕ → Type 0) (p word : ℕ) (d : Deny) → SaysWhy p word d → IsEvidence NoWord expects (did_load (places.State p) word ∷ []) p d
-word-shows expects p word (denies.Again saw) why =
-    subst (λ (s : Saw). (s.at ≡ ats.Page p) × IsSaw NoWord expects (did_load (places.State p) word ∷ []) s) (sym why.0) (
+word-shows : (kept : ℕ → Type 0) (expects : ℕ → ℕ → Type 0) (p word : ℕ) (d : Deny) → SaysWhy p word d → IsEvidence kept expects (did_load (places.State p) word ∷ []) p d
+word-shows kept expects p word (denies.Again saw) why =
+    subst (λ (s : Saw). (s.at ≡ ats.Page p) × IsSaw kept expects (did_load (places.State p) word ∷ []) s) (sym why.0) (
       refl,
       record {
         earlier = [];
@@ -37,13 +28,13 @@ word-shows expects p word (denies.Again saw) why =
         why = inr (inl why.1);
       },
     )
-word-shows expects p word (denies.Need q) why = (why.0, record { word = word; given = one-given p word; load = (refl, refl); evicted = why.1; foreign = tt })
-word-shows expects p word (denies.Crowded q) why = (why.0, record { word = word; given = one-given p word; load = (refl, refl); full = why.1; foreign = tt })
-word-shows expects p word (denies.Worn q) why = (why.0, record { word = word; given = one-given p word; load = (refl, refl); last = why.1; foreign = tt })
+word-shows kept expects p word (denies.Need q) why = (why.0, record { word = word; given = one-given p word; load = (refl, refl); evicted = why.1; foreign = tt })
+word-shows kept expects p word (denies.Crowded q) why = (why.0, record { word = word; given = one-given p word; load = (refl, refl); full = why.1; foreign = tt })
+word-shows kept expects p word (denies.Worn q) why = (why.0, record { word = word; given = one-given p word; load = (refl, refl); last = why.1; foreign = tt })
 
 module _ {X : Type 0} (tied : Start → ℕ → List ℕ → ℕ → List ℕ → Type 0) (allowed : Deny → Type 0) (instead : ℕ → ℕ → Type 0) where
-  pub denied-at-once : (p word : ℕ) (d : Deny) (v w : View X) → LookTold tied p None word v w → SaysWhy p word d → allowed d → IsDenied allowed NoWord instead p d v w
-  denied-at-once p word d v w t why kind = record { done = did_load (places.State p) word ∷ []; quiet = look-quiet tied p word v w t; evidence = word-shows instead p word d why; kind = kind; table = look-leaves tied p None word v w t; leaves = (load-unmarks p (places.State p) word, tt); current = look-current tied p None word v w t }
+  pub denied-at-once : {kept : ℕ → Type 0} (p word : ℕ) (d : Deny) (v w : View X) → LookTold tied p None word v w → SaysWhy p word d → allowed d → IsDenied allowed kept instead p d v w
+  denied-at-once {kept = kept} p word d v w t why kind = record { done = did_load (places.State p) word ∷ []; quiet = look-quiet tied p word v w t; evidence = word-shows kept instead p word d why; kind = kind; table = look-leaves tied p None word v w t; leaves = (load-unmarks p (places.State p) word, tt); current = look-current tied p None word v w t }
 
   pub denied-lost : (p word expects found new : ℕ) (v u w : View X) → LookTold tied p None word v u → IsQuiet p (did_exchange (places.State p) expects found new ∷ []) u w
       → (word ≡ expects) ⊎ instead word expects → found ≢ expects → allowed (denies.Again (record { at = ats.Page p; first = expects; seen = found }))
@@ -59,7 +50,7 @@ module _ {X : Type 0} (tied : Start → ℕ → List ℕ → ℕ → List ℕ �
   }
 
   -- the steps of such calls are on the page's word
-  pub at-once-places : (p word : ℕ) (d : Deny) (v w : View X) (t : LookTold tied p None word v w) (why : SaysWhy p word d) (kind : allowed d) → Each (λ (k : Did). k.at ≡ places.State p) (denied-at-once p word d v w t why kind).done
+  pub at-once-places : (p word : ℕ) (d : Deny) (v w : View X) (t : LookTold tied p None word v w) (why : SaysWhy p word d) (kind : allowed d) → Each (λ (k : Did). k.at ≡ places.State p) (denied-at-once {kept = NoWord} p word d v w t why kind).done
   unfolding denied-at-once
   at-once-places p word d v w t why kind = (refl, tt)
 

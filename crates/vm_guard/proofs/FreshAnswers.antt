@@ -1,42 +1,33 @@
 -- What a call for fresh pages answers, for one page and for two.
-use Rattle.std.proofs.Common.{ℕ, ◌≡◌, ◌≢◌, ◌+◌, ◌<◌, ◌≤◌, ◌||◌, true, false, Bool, Option, None, List, [], ◌∷◌, ◌++◌, refl, sym, ap, subst, ◌∙◌, arith, inl, append_assoc, length, replicate, reverse}
+use Rattle.std.proofs.Common.{[], ◌++◌, ◌+◌, ◌<◌, ◌||◌, ◌∙◌, ◌∷◌, ◌≡◌, ◌≢◌, ◌≤◌, ap, append_assoc, arith, Bool, false, inl, length, List, None}
+use Rattle.std.proofs.Common.{Option, refl, replicate, reverse, subst, sym, true, ℕ}
 use Rattle.std.proofs.lemmas.Bool.{ne_eqb}
-use Rattle.std.proofs.lemmas.Option.{none-some}
-use Rattle.vm_core.specs.declared.event.Mapping.{Mapping}
-use Rattle.vm_core.specs.declared.event.Seat.{Seat}
 use Rattle.std.proofs.lemmas.List.{length-append, length-reverse}
-use Rattle.vm_owner.specs.Numbers.{has}
-use Rattle.vm_rule.specs.declared.view.Did.{Did}
-use Rattle.vm_rule.specs.declared.view.Origin.{Origin}
+use Rattle.std.proofs.lemmas.Option.{none-some}
+use Rattle.vm_rule.specs.Prelude.{did_load, has, last_of, Mapping, next_view, NextTold, numbers, Seat, seat_of, TableId}
 use Rattle.vm_rule.specs.declared.view.Place.TheVariants as places
-use Rattle.vm_rule.specs.declared.view.View.{View}
-use Rattle.vm_rule.specs.Views.{numbers, seat_of}
-use Rattle.vm_rule.specs.Reading.{last_of}
-use Rattle.vm_rule.specs.Log.{did_load}
-use Rattle.vm_rule.specs.Nexts.{NextTold, next_view}
-use Rattle.vm_rule.proofs.Entries.{append-none, each-map}
-use Rattle.vm_rule.proofs.Heard.{each-both}
-use Rattle.vm_step.specs.Evidence.{IsSaw, NoWord, UnlockedExpected}
+use Rattle.vm_rule.proofs.{Entries.append-none, Entries.each-map, Heard.each-both}
+use Rattle.vm_step.specs.Prelude.{AreHeld, Did, IsReady, IsSamePass, IsSaw, NoWord, Origin, Pass, Shape, UnlockedExpected, View, view}
 use Rattle.vm_step.specs.declared.saw.At.TheVariants as ats
 use Rattle.vm_step.specs.declared.saw.Saw.{Saw}
-use Rattle.vm_step.proofs.Numbers.{numbers-has}
-use Rattle.vm_step.specs.HeldFrames.{AreHeld}
-use Rattle.vm_step.proofs.Alone.{words-known}
-use Rattle.vm_step.proofs.HeldFrames.{held-on}
-use Rattle.vm_guard.specs.declared.deny.Deny.{Deny}
+use Rattle.vm_step.proofs.{Alone.words-known, HeldFrames.held-on, Leaves.ready-on, Numbers.numbers-has, steps.Next.nload-others}
+use Rattle.vm_guard.specs.{declared.deny.Deny.Deny, declared.given.Fresh.Fresh, Denied.AgainOrWorn, Quiet.IsQuiet}
 use Rattle.vm_guard.specs.declared.deny.Deny.TheVariants as denies
-use Rattle.vm_guard.specs.Denied.{AgainOrWorn}
-use Rattle.vm_guard.specs.declared.given.Fresh.{Fresh}
 use Rattle.vm_guard.specs.declared.given.Fresh.TheVariants as answers
-use Rattle.vm_guard.specs.Fresh.{Furnishes, GivesBack, IsBegun, IsFreshAnswer, IsFull, IsNil, IsNotSeized, IsSeized, IsSpared, IsToTry, IsWornOut, Seizes}
-use Rattle.vm_guard.specs.Quiet.{IsQuiet}
-use Rattle.vm_guard.proofs.Amid.{amid-reads, nload-amid}
-use Rattle.vm_guard.proofs.Seizing.{self-has}
-use Rattle.vm_guard.proofs.FreshNone.{not-next, not-state, nload-nil, denied-nil, bracket, seized-on}
-use Rattle.vm_guard.proofs.FreshNumbers.{numbers-one, numbers-two, apart-first, apart-second, both-first, both-second, within-second}
-use Rattle.vm_guard.proofs.FreshSpared.{next-saw, next-else, next-some, next-none, spared-first, spared-none, spared-locked, answers-denied}
+use Rattle.vm_guard.specs.Fresh.{Furnishes, GivesBack, IsBegun, IsFreshAnswer, IsFull, IsNil, IsNotSeized, IsSeized, IsSpared, IsToTry, IsWornOut}
+use Rattle.vm_guard.specs.Fresh.{Seizes}
+use Rattle.vm_guard.proofs.{Amid.amid-reads, Amid.nload-amid, Seizing.self-has}
+use Rattle.vm_guard.proofs.FreshNone.{bracket, denied-nil, nload-nil, not-next, not-state, seized-on}
+use Rattle.vm_guard.proofs.FreshNumbers.{apart-first, apart-second, both-first, both-second, numbers-one, numbers-two, within-second}
+use Rattle.vm_guard.proofs.FreshSpared.{answers-denied, next-else, next-none, next-saw, next-some, none-known, spared-first, spared-locked}
+use Rattle.vm_guard.proofs.FreshSpared.{spared-none}
 
 module _ {X : Type 0} where
+  -- the next page was loaded, and then it was locked
+  pub begins : {x pid version : ℕ} {stands : Option Mapping} {v u w : View X} → NextTold x v u → (pid ≡ x) × Seizes x version stands u w → IsBegun pid version stands v w
+  begins {x = x} {version = version} {stands = stands} {v = v} {u = u} {w = w} told taken =
+      subst (λ (n : ℕ). IsBegun n version stands v w) (sym taken.0) (record { none = none-known x v u told taken.1.unheld.exclusive; between = u; loaded = told; seizes = taken.1 })
+
   begun-none : (x version : ℕ) (stands : Option Mapping) (v u : View X) → IsBegun x version stands v u → u.next ≡ None
   begun-none x version stands v u b = b.seizes.group.1 ∙ next-none x v b.between b.none b.loaded b.seizes.unheld.exclusive
 
@@ -48,6 +39,12 @@ module _ {X : Type 0} where
   begun-else x version stands v u b q ne = b.seizes.amid.seats q (ap (λ (k : Bool). k || false) (ne_eqb q x ne)) ∙ (nload-amid [] x v b.between b.loaded).seats q refl
 
   -- after a second load
+  pub ready-after : {U : Type 0} {o : _} {shape : Shape} {tells : Bool} {t : TableId} {again : ℕ} {a b : Pass U X o} → IsSamePass a b → NextTold again (view a) (view b) → IsReady shape tells t a → IsReady shape tells t b
+  ready-after {shape = shape} {tells = tells} {t = t} {a = a} {b = b} same told r = let f = nload-others told (λ q. ⊥) in ready-on shape tells t a b same f.start f.parts.0 r
+
+  pub out-after : {again : ℕ} {u z : View X} → NextTold again u z → u.out ≡ None → z.out ≡ None
+  out-after t home = (nload-others t (λ q. ⊥)).out ∙ home
+
   pub seized-after : (p version again : ℕ) (stands : Option Mapping) (u z : View X) → IsSeized p version stands u → NextTold again u z → IsSeized p version stands z
   seized-after p version again stands u z s t = seized-on p version stands [] (did_load places.Next again ∷ []) u z s (nload-amid [] again u z t) refl (ap (λ (k : View X). k.owed) t.brings.view)
 

@@ -1,40 +1,23 @@
 -- What a pass that is alone knows of the table after a call for fresh pages: words at places of no step are as they were.
-use Rattle.std.proofs.Common.{ℕ, ◌≡◌, ◌≢◌, ◌<◌, true≢false, None, List, ◌∷◌, length, sym, ap, subst, ◌∙◌, arith, slice_index, slice_set}
+use Rattle.std.proofs.Common.{[], ◌<◌, ◌∙◌, ◌∷◌, ◌≡◌, ◌⊎◌, ap, arith, false, inr, length, List, None, slice_index, slice_set, subst, sym, true≢false}
+use Rattle.std.proofs.Common.{ℕ}
 use Rattle.std.proofs.lemmas.List.{get_or-set_same, length-set}
-use Rattle.vm_rule.specs.declared.view.Did.{Did}
-use Rattle.vm_rule.specs.declared.view.Origin.{Origin}
+use Rattle.vm_rule.specs.Prelude.{Each, has, index_of, Within}
 use Rattle.vm_rule.specs.declared.view.Place.{Place}
 use Rattle.vm_rule.specs.declared.view.Place.TheVariants as places
-use Rattle.vm_rule.specs.declared.view.View.{View}
-use Rattle.vm_rule.specs.Layout.{Within, index_of}
-use Rattle.vm_rule.proofs.Entries.{each-map}
-use Rattle.vm_step.specs.Alone.{IsAlone, WritesNone, known_word_at}
-use Rattle.vm_step.proofs.After.{knows-after, wide-after}
-use Rattle.vm_step.proofs.Tables.{follows-length}
-use Rattle.vm_step.proofs.Written.{index-below}
-use Rattle.vm_guard.specs.Fresh.{IsAmid}
-use Rattle.vm_guard.specs.FreshPlaces.{IsPlaceOf, IsUntouched, KnowsOthers}
-use Rattle.vm_guard.specs.Sure.{KnowsAt, KnowsStates}
-
--- no step of the call is at an untouched place
-pub untouched-else : (start : Origin) (pages : List ℕ) (place at : Place) → IsUntouched pages place → IsPlaceOf start pages at → at ≢ place
-untouched-else start pages place at un is e = both place un (subst (IsPlaceOf start pages) e is)
-  where
-    both : (q : Place) → IsUntouched pages q → IsPlaceOf start pages q → ⊥
-    both (places.State q) un is = true≢false (sym is.1 ∙ un)
-    both (places.Translation q) un is = true≢false (sym is.1 ∙ un)
-    both (places.Fault q) un is = is
-    both (places.Content f i) un is = un
-    both (places.Bundle g) un is = is
-    both places.Next un is = un
-    both places.Hand un is = is
+use Rattle.vm_step.specs.Prelude.{Did, IsAlone, known_word_at, KnowsAt, Origin, View, WritesNone}
+use Rattle.vm_step.proofs.{After.knows-after, After.wide-after, Written.index-below}
+use Rattle.vm_step.proofs.Tables.{at-then, else-knows, follows-length}
+use Rattle.vm_guard.specs.{Fresh.IsAmid, FreshPlaces.IsPlaceOf, FreshPlaces.KnowsOthers, Sure.KnowsStates}
 
 module _ {X : Type 0} where
-  -- the words of an untouched place
+  -- the words at all places but the call's
   pub others-known : (pages : List ℕ) (done : List Did) (v w : View X) → IsAmid pages done v w → KnowsOthers pages v w
-  others-known pages done v w f a place within un =
-      (knows-after done f.own v w f.start f.runs).kept a place within
-      (each-map (λ (d : Did). IsPlaceOf v.start pages d.at) (λ (d : Did). d.at ≡ place → d.wrote ≡ None) (λ (d : Did) is at. absurd (untouched-else v.start pages place d.at un is at)) done f.places_are)
+  others-known pages done v w f = else-knows (IsPlaceOf v.start pages) done f.own v w f.start f.runs (both done f.runs.inside f.places_are)
+    where
+      both : (ds : List Did) → Each (λ (d : Did). Within v.start d.at) ds → Each (λ (d : Did). IsPlaceOf v.start pages d.at) ds → Each (λ (d : Did). Within v.start d.at × ((d.wrote ≡ None) ⊎ IsPlaceOf v.start pages d.at)) ds
+      both [] inside are = tt
+      both (d ∷ ds) inside are = ((inside.0, inr are.0), both ds inside.1 are.1)
 
   -- the next word, where no step left another
   pub next-known : (pages : List ℕ) (done : List Did) (v w : View X) → IsAmid pages done v w → WritesNone places.Next done → IsAlone v → known_word_at w places.Next ≡ known_word_at v places.Next
@@ -44,11 +27,9 @@ module _ {X : Type 0} where
   pub length-known : (pages : List ℕ) (done : List Did) (v w : View X) → IsAmid pages done v w → IsAlone v → length w.snapshot.words ≡ length v.snapshot.words
   length-known pages done v w f a = follows-length v.start done v.snapshot.words w.snapshot.words (f.runs.words a.0 a.1)
 
-  -- what is known of an untouched place is known on
-  pub known-on : (pages : List ℕ) (done : List Did) (v w : View X) (place : Place) (word : ℕ) → IsAmid pages done v w → IsAlone v → Within v.start place → IsUntouched pages place → KnowsAt place word v → KnowsAt place word w
-  known-on pages done v w place word f a within un k l =
-      others-known pages done v w f a place within un
-      ∙ k (let less : index_of v.start place < length w.snapshot.words = subst (λ (o : Origin). index_of o place < length w.snapshot.words) f.start l in subst (λ (n : ℕ). index_of v.start place < n) (length-known pages done v w f a) less)
+  -- what is known of the word of a page that is none of these is known on
+  pub known-on : (pages : List ℕ) (done : List Did) (v w : View X) (q word : ℕ) → IsAmid pages done v w → IsAlone v → q < v.start.pages → has q pages ≡ false → KnowsAt (places.State q) word v → KnowsAt (places.State q) word w
+  known-on pages done v w q word f a page none k = at-then (IsPlaceOf v.start pages) (places.State q) word v w f.start (others-known pages done v w f a) page (λ t. true≢false (sym t.1 ∙ none)) k
 
   -- of a state word too, where the steps leave those
   pub known-states : (pages : List ℕ) (done : List Did) (v w : View X) (p word : ℕ) → IsAmid pages done v w → KnowsStates v w → IsAlone v → p < v.start.pages → KnowsAt (places.State p) word v → KnowsAt (places.State p) word w

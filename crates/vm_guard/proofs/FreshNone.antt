@@ -1,30 +1,21 @@
 -- A call for fresh pages that ends without them: a page that was locked and given up again leaves nothing, and the evidence of the call is that of
 -- its steps.
-use Rattle.std.proofs.Common.{ℕ, ◌≡◌, ◌≢◌, ◌⊎◌, ◌<◌, ◌≤◌, ◌||◌, true, false, true≢false, Bool, Option, None, List, [], ◌∷◌, ◌++◌, refl, sym, ap, subst, ◌∙◌, arith, inl, inr, ⊎_elim, append_assoc, length}
+use Rattle.std.proofs.Common.{[], ⊎_elim, ◌++◌, ◌<◌, ◌||◌, ◌∙◌, ◌∷◌, ◌≡◌, ◌≢◌, ◌≤◌, ◌⊎◌, ap, append_assoc, arith, Bool, false, inl, inr, length, List}
+use Rattle.std.proofs.Common.{None, Option, refl, subst, sym, true, true≢false, ℕ}
 use Rattle.std.proofs.lemmas.Bool.{cases_eq, ne_eqb}
-use Rattle.vm_core.specs.declared.event.Mapping.{Mapping}
-use Rattle.vm_core.specs.declared.event.Seat.{Seat}
-use Rattle.vm_core.specs.History.{Version}
-use Rattle.vm_owner.specs.Numbers.{has}
-use Rattle.vm_rule.specs.declared.view.Did.{Did}
-use Rattle.vm_rule.specs.declared.view.Held.{Held}
-use Rattle.vm_rule.specs.declared.view.Origin.{Origin}
-use Rattle.vm_rule.specs.declared.view.Place.{Place}
+use Rattle.vm_core.specs.Prelude.{Version}
+use Rattle.vm_rule.specs.Prelude.{did_load, Each, has, IsLocking, Mapping, NextTold, Seat, seat_of}
+use Rattle.vm_rule.specs.{declared.view.Held.Held, declared.view.Place.Place}
 use Rattle.vm_rule.specs.declared.view.Place.TheVariants as places
-use Rattle.vm_rule.specs.declared.view.View.{View}
-use Rattle.vm_rule.specs.Views.{Each, IsLocking, seat_of}
-use Rattle.vm_rule.specs.Log.{did_load}
-use Rattle.vm_rule.specs.Nexts.{NextTold}
-use Rattle.vm_rule.proofs.Entries.{each-map}
-use Rattle.vm_rule.proofs.Heard.{each-both}
-use Rattle.vm_step.specs.Asides.{HoldsPage}
-use Rattle.vm_step.specs.Evidence.{Begins, place_at, IsSaw, IsWorn, NoWord, UnlockedExpected, expected, read, same, guarded, asked}
+use Rattle.vm_rule.proofs.{Entries.each-map, Heard.each-both}
+use Rattle.vm_step.specs.Prelude.{Begins, Did, HoldsPage, IsSaw, IsWorn, NoWord, Origin, place_at, UnlockedExpected, View}
 use Rattle.vm_step.specs.declared.saw.At.TheVariants as ats
 use Rattle.vm_step.specs.declared.saw.Saw.{Saw}
+use Rattle.vm_step.specs.Evidence.{asked, expected, guarded, read, same}
 use Rattle.vm_step.proofs.Asides.{holds-then, keeps-then, knows-then}
 use Rattle.vm_guard.specs.Fresh.{GivesBack, IsAmid, IsNil, IsSeized, Seizes}
 use Rattle.vm_guard.specs.Quiet.{IsQuiet}
-use Rattle.vm_guard.proofs.Amid.{other, amid-reads, amid-then, amid-within, nload-amid}
+use Rattle.vm_guard.proofs.Amid.{amid-reads, amid-then, amid-within, nload-amid, other}
 
 -- ---- evidence in a longer list of steps
 
@@ -79,13 +70,11 @@ not-state p q ne d (inr a) e = absurd (let no : places.Translation p ≡ places.
 
 -- so they leave the next word
 pub unmoved-at : (p : ℕ) (ds : List Did) → Each (λ (d : Did). (d.at ≡ places.State p) ⊎ (d.at ≡ places.Translation p)) ds → Each (λ (d : Did). d.at ≡ places.Next → d.wrote ≡ None) ds
-unmoved-at p [] e = tt
-unmoved-at p (d ∷ ds) e = ((λ next. absurd (not-next p d e.0 next)), unmoved-at p ds e.1)
+unmoved-at p ds e = each-map _ _ (λ (d : Did) is. λ next. absurd (not-next p d is next)) ds e
 
 -- steps on state words too
 unmoved-state : (p : ℕ) (ds : List Did) → Each (λ (d : Did). d.at ≡ places.State p) ds → Each (λ (d : Did). d.at ≡ places.Next → d.wrote ≡ None) ds
-unmoved-state p [] e = tt
-unmoved-state p (d ∷ ds) e = ((λ next. absurd (not-next p d (inl e.0) next)), unmoved-state p ds e.1)
+unmoved-state p ds e = each-map _ _ (λ (d : Did) is. λ next. absurd (not-next p d (inl is) next)) ds e
 
 -- ---- calls that leave nothing
 

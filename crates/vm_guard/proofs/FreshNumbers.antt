@@ -1,10 +1,8 @@
 -- The numbers of one page, and of two that follow each other.
-use Rattle.std.proofs.Common.{ℕ, ◌≡◌, ◌⊎◌, ◌+◌, ◌||◌, true, false, Bool, [], ◌∷◌, refl, sym, ap, ◌∙◌, arith, inl, inr, ⊎_elim, suc}
-use Rattle.std.proofs.lemmas.Bool.{false≢true, cases_eq, eq-eqb, ne_eqb}
-use Rattle.vm_owner.specs.Numbers.{has}
-use Rattle.vm_rule.specs.Views.{numbers}
-use Rattle.vm_guard.proofs.Amid.{other}
-use Rattle.vm_guard.proofs.Seizing.{self-has}
+use Rattle.std.proofs.Common.{[], ⊎_elim, ◌+◌, ◌||◌, ◌∙◌, ◌∷◌, ◌≡◌, ◌⊎◌, ap, arith, Bool, false, inl, inr, refl, suc, sym, true, ℕ}
+use Rattle.std.proofs.lemmas.Bool.{cases_eq, eq-eqb, false≢true, ne_eqb}
+use Rattle.vm_rule.specs.Prelude.{has, numbers}
+use Rattle.vm_guard.proofs.{Amid.other, Seizing.self-has}
 
 pub one-page : (x q : ℕ) → has q (x ∷ []) ≡ true → q ≡ x
 one-page x q e = ⊎_elim (λ s. s) (λ ne. absurd (false≢true (sym (ap (λ (b : Bool). b || false) (ne_eqb q x ne)) ∙ e))) (cases_eq q x)

@@ -1,27 +1,19 @@
 -- Why a call for fresh pages is to be tried again, and that it knows the next page then only where the pass held that page before.
-use Rattle.std.proofs.Common.{true≢false, ◌<◌, ℕ, ◌≡◌, ◌≢◌, ◌+◌, ◌≤◌, true, false, Option, Some, None, List, [], ◌∷◌, ◌++◌, refl, sym, ap, subst, ◌∙◌, inr, ⊎_elim, eqb}
-use Rattle.std.proofs.lemmas.Bool.{cases_eq, cases_Bool, cond-false, cond-true, eq-eqb, ne_eqb}
-use Rattle.std.proofs.lemmas.Option.{none-some}
-use Rattle.vm_core.specs.declared.event.Mapping.{Mapping}
-use Rattle.vm_owner.specs.Numbers.{has}
-use Rattle.vm_rule.specs.declared.view.Did.{Did}
+use Rattle.std.proofs.Common.{[], ⊎_elim, ◌++◌, ◌+◌, ◌<◌, ◌∙◌, ◌∷◌, ◌≡◌, ◌≢◌, ◌≤◌, ap, eqb, false, inr, List, None, Option, refl, Some, subst, sym}
+use Rattle.std.proofs.Common.{true, true≢false, ℕ}
+use Rattle.std.proofs.lemmas.Bool.{cases_Bool, cases_eq, cond-false, cond-true, eq-eqb, ne_eqb}
+use Rattle.std.proofs.lemmas.Option.{none-some, same_Some}
+use Rattle.vm_rule.specs.Prelude.{did_load, Each, has, Mapping, next_after, next_view, NextTold, seat_of}
 use Rattle.vm_rule.specs.declared.view.Place.TheVariants as places
-use Rattle.vm_rule.specs.declared.view.View.{View}
-use Rattle.vm_rule.specs.Views.{Each, seat_of}
-use Rattle.vm_rule.specs.Log.{did_load}
-use Rattle.vm_rule.specs.Nexts.{NextTold, next_view}
-use Rattle.vm_rule.specs.Releases.{next_after}
 use Rattle.vm_rule.proofs.Entries.{each-map}
-use Rattle.vm_step.specs.Evidence.{IsSaw, NoWord, UnlockedExpected, read, same, asked}
+use Rattle.vm_step.specs.Prelude.{Did, IsSaw, NoWord, UnlockedExpected, View}
+use Rattle.vm_step.specs.{declared.saw.Saw.Saw, Evidence.read}
 use Rattle.vm_step.specs.declared.saw.At.TheVariants as ats
-use Rattle.vm_step.specs.declared.saw.Saw.{Saw}
-use Rattle.vm_guard.specs.declared.deny.Deny.{Deny}
+use Rattle.vm_guard.specs.{declared.deny.Deny.Deny, Denied.AgainOrWorn, Denied.IsEvidence, Quiet.IsQuiet}
 use Rattle.vm_guard.specs.declared.deny.Deny.TheVariants as denies
-use Rattle.vm_guard.specs.Denied.{AgainOrWorn, IsEvidence}
 use Rattle.vm_guard.specs.Fresh.{GivesBack, IsNil, IsSpared, IsToTry, IsWornOut, Seizes}
-use Rattle.vm_guard.specs.Quiet.{IsQuiet}
 use Rattle.vm_guard.proofs.FreshKnown.{next-known, others-known}
-use Rattle.vm_guard.proofs.FreshNone.{saw-within, worn-within, nil-then, nload-nil, denied-nil, bracket}
+use Rattle.vm_guard.proofs.FreshNone.{bracket, denied-nil, nil-then, nload-nil, saw-within, worn-within}
 
 -- two loads of the next word that differ
 pub next-saw : (found again : ℕ) (mid post : List Did) → found ≢ again → Each (λ (d : Did). d.at ≢ places.Next) mid
@@ -45,11 +37,8 @@ next-else p q None e = absurd (none-some q e)
 next-else p q (Some y) e =
     ⊎_elim
     (λ (s : y ≡ p). absurd (none-some q (sym (cond-true (eqb y p) None (Some y) (eq-eqb y p s)) ∙ e)))
-    (λ (ne : y ≢ p). let is : Some y ≡ Some q = sym (cond-false (eqb y p) None (Some y) (ne_eqb y p ne)) ∙ e in ((λ s. ne (some-same y q is ∙ s)), is))
+    (λ (ne : y ≢ p). let is : Some y ≡ Some q = sym (cond-false (eqb y p) None (Some y) (ne_eqb y p ne)) ∙ e in ((λ s. ne (same_Some y q is ∙ s)), is))
     (cases_eq y p)
-  where
-    some-same : (x y : ℕ) → Some x ≡ Some y → x ≡ y
-    some-same x y k = cc
 
 module _ {X : Type 0} where
   -- what the first load of the next word tells of it
@@ -57,27 +46,21 @@ module _ {X : Type 0} where
   next-some found q v none e =
       ⊎_elim
       (λ (t : (seat_of v found).exclusive ≡ true).
-      let same : found ≡ q = some-same found q (sym (cond-true (seat_of v found).exclusive (Some found) v.next t) ∙ e) in
+      let same : found ≡ q = same_Some found q (sym (cond-true (seat_of v found).exclusive (Some found) v.next t) ∙ e) in
       (sym same, ap (λ n. (seat_of v n).exclusive) (sym same) ∙ t))
       (λ (f : (seat_of v found).exclusive ≡ false). absurd (none-some q (sym none ∙ sym (cond-false (seat_of v found).exclusive (Some found) v.next f) ∙ e)))
       (cases_Bool (seat_of v found).exclusive)
-    where
-      some-same : (x y : ℕ) → Some x ≡ Some y → x ≡ y
-      some-same x y k = cc
 
   -- a page that it knows for the next one then it held before
   next-kept : (found q : ℕ) (v u : View X) → NextTold found v u → u.next ≡ Some q → (seat_of v q).exclusive ≡ true
   next-kept found q v u told e =
       ⊎_elim
-      (λ (t : (seat_of v found).exclusive ≡ true). ap (λ n. (seat_of v n).exclusive) (sym (some-same found q (sym (cond-true (seat_of v found).exclusive (Some found) v.next t) ∙ known))) ∙ t)
+      (λ (t : (seat_of v found).exclusive ≡ true). ap (λ n. (seat_of v n).exclusive) (sym (same_Some found q (sym (cond-true (seat_of v found).exclusive (Some found) v.next t) ∙ known))) ∙ t)
       (λ (f : (seat_of v found).exclusive ≡ false). told.holds q (sym (cond-false (seat_of v found).exclusive (Some found) v.next f) ∙ known))
       (cases_Bool (seat_of v found).exclusive)
     where
       known : (next_view found v).next ≡ Some q
       known = sym (ap (λ (y : View X). y.next) told.brings.view) ∙ e
-
-      some-same : (x y : ℕ) → Some x ≡ Some y → x ≡ y
-      some-same x y k = cc
 
   -- a pass that could lock the next page knew none for the next one
   pub none-known : (found : ℕ) (v u : View X) → NextTold found v u → (seat_of u found).exclusive ≡ false → v.next ≡ None

@@ -1,29 +1,18 @@
 -- A pass that is alone is given the fresh pages that it knows can be locked.
-use Rattle.std.proofs.Common.{ℕ, ◌≡◌, ◌≢◌, ◌+◌, ◌<◌, ◌≤◌, Option, None, List, [], ◌∷◌, refl, sym, subst, ◌∙◌, ⊎_elim, inl, inr, arith}
-use Rattle.vm_core.specs.declared.event.Mapping.{Mapping}
-use Rattle.vm_core.specs.Words.{state_of, version_of}
-use Rattle.vm_owner.specs.Kept.{Start}
-use Rattle.vm_rule.specs.declared.view.Origin.{Origin}
+use Rattle.std.proofs.Common.{[], ⊎_elim, ◌+◌, ◌-◌, ◌<◌, ◌∙◌, ◌∷◌, ◌≡◌, ◌≢◌, ◌≤◌, arith, inl, inr, List, None, Option, refl, subst, sym, true≢false}
+use Rattle.std.proofs.Common.{ℕ}
+use Rattle.vm_core.specs.Prelude.{state_of, version_of}
+use Rattle.vm_rule.specs.Prelude.{did_load, LockTold, LookTold, Mapping, next_view, NextTold, Start}
 use Rattle.vm_rule.specs.declared.view.Place.TheVariants as places
-use Rattle.vm_rule.specs.declared.view.View.{View}
-use Rattle.vm_rule.specs.Log.{did_load}
-use Rattle.vm_rule.specs.Locks.{LockTold}
-use Rattle.vm_rule.specs.Looks.{LookTold}
-use Rattle.vm_rule.specs.Nexts.{NextTold, next_view}
-use Rattle.vm_step.specs.Alone.{IsAlone, LocksNone}
+use Rattle.vm_step.specs.Prelude.{IsAlone, LocksNone, Origin, View}
 use Rattle.vm_step.proofs.Alone.{found-known, same-word, still-alone, words-known}
-use Rattle.vm_guard.specs.declared.deny.Deny.{Deny}
+use Rattle.vm_guard.specs.{declared.deny.Deny.Deny, declared.given.Fresh.Fresh, Takes.SaysWhy}
 use Rattle.vm_guard.specs.declared.deny.Deny.TheVariants as denies
-use Rattle.vm_guard.specs.declared.given.Fresh.{Fresh}
 use Rattle.vm_guard.specs.declared.given.Fresh.TheVariants as answers
 use Rattle.vm_guard.specs.Denied.{AgainOrWorn, OnlyWorn, SameOrUnlocked}
 use Rattle.vm_guard.specs.Fresh.{IsPages, IsPagesOrWorn, Seizes}
-use Rattle.vm_guard.specs.Sure.{IsUnlockedWord, MayBeGiven, MayBeSeized, MayBeTried, known_next, known_word}
-use Rattle.vm_guard.specs.Takes.{SaysWhy}
-use Rattle.vm_guard.proofs.Amid.{nload-amid}
-use Rattle.vm_guard.proofs.FreshKnown.{next-known, others-known}
-use Rattle.vm_guard.proofs.FreshNone.{unmoved-at}
-use Rattle.vm_guard.proofs.FreshNumbers.{apart-second}
+use Rattle.vm_guard.specs.Sure.{IsUnlockedWord, known_next, known_word, MayBeGiven, MayBeSeized, MayBeTried}
+use Rattle.vm_guard.proofs.{Amid.nload-amid, FreshKnown.next-known, FreshKnown.others-known, FreshNone.unmoved-at, FreshNumbers.apart-second}
 use Rattle.vm_guard.proofs.Sure.{free-expected, lock-finds, look-finds}
 
 -- a page that can be locked is not refused at once
@@ -87,6 +76,16 @@ module _ {X : Type 0} where
   pub next-found : (found : ℕ) (v u : View X) → NextTold found v u → IsAlone v → found ≡ known_next v
   next-found found v u t a = found-known (did_load places.Next found) found None [] [] v (next_view found v) u t.brings refl a
 
+  -- of a table with so many pages, which has room for n from the next one on, or has not
+  pub no-room : {x n pages shape : ℕ} {v u : View X} → NextTold x v u → IsAlone v → known_next v + n ≤ v.start.pages → pages ≡ shape → v.start.pages ≡ shape → pages - x < n → ⊥
+  no-room {x = x} {v = v} {u = u} t a room is same full = let here : x ≡ known_next v = next-found x v u t a in omega (arith, here, full, room, is, same)
+
+  pub not-full : {x n pages shape : ℕ} {v u : View X} → NextTold x v u → IsAlone v → shape < known_next v + n → pages ≡ shape → v.start.pages ≡ shape → n ≤ pages - x → ⊥
+  not-full {x = x} {v = v} {u = u} t a past is same fits =
+      let here : x ≡ known_next v = next-found x v u t a in
+      let inside : x ≤ v.start.pages = t.inside in
+      omega (arith, here, past, fits, inside, is, same)
+
   pub loaded-alone : (found : ℕ) (v u : View X) → NextTold found v u → IsAlone v → IsAlone u
   loaded-alone found v u t a = let f = nload-amid [] found v u t in still-alone v u f.parts f.alone.current a
 
@@ -118,7 +117,7 @@ module _ {X : Type 0} where
       let here : x ≡ known_next v = next-found x v u t a in
       let page : x + 1 < v.start.pages = omega (arith, here, room) in
       subst P
-      (sym (others-known (x ∷ []) s.done u z s.amid (loaded-alone x v u t a) (places.State (x + 1)) (subst (λ (o : Origin). x + 1 < o.pages) (sym (nload-amid [] x v u t).start) page) (apart-second x)
+      (sym ((others-known (x ∷ []) s.done u z s.amid (loaded-alone x v u t a)).words (places.State (x + 1)) (subst (λ (o : Origin). x + 1 < o.pages) (sym (nload-amid [] x v u t).start) page) (λ k. true≢false (sym k.1 ∙ apart-second x))
       ∙ loaded-word x (x + 1) v u t a))
       (each (x + 1) (omega (arith, here)) (omega (arith, here)))
 

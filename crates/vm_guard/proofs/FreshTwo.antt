@@ -1,44 +1,23 @@
 -- The fresh pages that a call for two gives: they are locked one after the other, put into frames, and claimed together.
-use Rattle.std.proofs.Common.{ℕ, if◌then◌else◌, ◌==◌, ◌≡◌, ◌≢◌, ◌⊎◌, ◌+◌, ◌<◌, ◌≤◌, true, false, Bool, Option, Some, None, List, [], ◌∷◌, ◌++◌, refl, sym, ap, subst, ◌∙◌, arith, inl, inr, ⊎_elim, append_assoc, eqb, replicate, reverse, IsSome}
+use Rattle.std.proofs.Common.{[], ⊎_elim, ◌++◌, ◌+◌, ◌<◌, ◌==◌, ◌∙◌, ◌∷◌, ◌≡◌, ◌≢◌, ◌≤◌, ◌⊎◌, ap, append_assoc, arith, Bool, eqb, false}
+use Rattle.std.proofs.Common.{if◌then◌else◌, inl, inr, IsSome, List, None, Option, refl, replicate, reverse, Some, subst, sym, true, ℕ}
 use Rattle.std.proofs.lemmas.Bool.{cases_eq, cond-true, eq-eqb}
-use Rattle.vm_core.specs.declared.event.Mapping.{Mapping}
-use Rattle.vm_core.specs.declared.event.Seat.{Seat}
-use Rattle.vm_core.specs.History.{Version}
-use Rattle.vm_core.specs.Words.{word_of, LOCKED}
 use Rattle.std.proofs.lemmas.List.{reverse-append}
-use Rattle.vm_owner.specs.Numbers.{has, without}
-use Rattle.vm_rule.specs.declared.view.Did.{Did}
-use Rattle.vm_rule.specs.declared.view.Origin.{Origin}
+use Rattle.vm_core.specs.Prelude.{LOCKED, Version, word_of}
+use Rattle.vm_rule.specs.Prelude.{Brings, claimed_view, ClaimTold, contents_at, did_exchange, did_load, draft_of, has, held_at, index_of, IsUnheld}
+use Rattle.vm_rule.specs.Prelude.{last_of, Mapping, NextTold, numbers, put_at, Seat, seat_of, set_if, Within, without, without_all}
 use Rattle.vm_rule.specs.declared.view.Place.{Place}
 use Rattle.vm_rule.specs.declared.view.Place.TheVariants as places
-use Rattle.vm_rule.specs.declared.view.View.{View}
-use Rattle.vm_rule.specs.Puts.{put_at}
-use Rattle.vm_rule.specs.Views.{numbers, seat_of, draft_of}
-use Rattle.vm_rule.specs.Reading.{last_of}
-use Rattle.vm_rule.specs.Brought.{Brings, set_if}
-use Rattle.vm_rule.specs.Layout.{Within, index_of}
-use Rattle.vm_rule.specs.Log.{did_load, did_exchange}
-use Rattle.vm_rule.specs.Locks.{IsUnheld}
-use Rattle.vm_rule.specs.Mappings.{contents_at, held_at}
-use Rattle.vm_rule.specs.Nexts.{NextTold, ClaimTold, claimed_view}
-use Rattle.vm_rule.specs.Releases.{without_all}
 use Rattle.vm_rule.proofs.Facts.{has-both}
-use Rattle.vm_step.specs.Conditions.{PassMayClaim}
-use Rattle.vm_step.specs.Evidence.{HasWritten}
-use Rattle.vm_step.proofs.Evidenced.{taken-view, written-behind}
+use Rattle.vm_step.specs.Prelude.{Did, HasWritten, IsAlone, known_word_at, KnowsAt, Origin, PassMayClaim, View}
+use Rattle.vm_step.proofs.{Alone.still-alone, Evidenced.taken-view, Evidenced.written-behind, HeldFrames.held-on, steps.Leaving.holds-still}
+use Rattle.vm_guard.specs.{declared.exclusive.ExclusiveGuard.ExclusiveGuard, Guards.IsHolding}
 use Rattle.vm_guard.specs.Fresh.{AreFresh, Furnishes, IsAmid, IsSeized, Seizes}
-use Rattle.vm_guard.specs.declared.exclusive.ExclusiveGuard.{ExclusiveGuard}
-use Rattle.vm_guard.specs.Guards.{IsHolding}
-use Rattle.vm_step.specs.Alone.{IsAlone, known_word_at}
-use Rattle.vm_step.proofs.Alone.{still-alone}
-use Rattle.vm_step.proofs.HeldFrames.{held-on}
-use Rattle.vm_guard.proofs.Amid.{IsSilent, claim-amid, claim-silent, nload-amid, nload-silent, silent-then, silent-within}
-use Rattle.vm_step.specs.Tables.{KnowsAt}
+use Rattle.vm_guard.proofs.{FreshNone.seized-on, Groups.or-none, Lockings.unheld-same}
+use Rattle.vm_guard.proofs.Amid.{claim-amid, claim-silent, IsSilent, nload-amid, nload-silent, silent-then, silent-within}
 use Rattle.vm_guard.proofs.FreshKnown.{known-on, known-states, known-there, others-known, put-known}
-use Rattle.vm_guard.proofs.FreshNone.{seized-on}
-use Rattle.vm_guard.proofs.FreshNumbers.{numbers-two, two-pages, apart-first, apart-second, within-first, within-second}
-use Rattle.vm_guard.proofs.Furnishing.{or-none}
 use Rattle.vm_guard.proofs.Freshly.{holding-on, next-held, unheld-before}
+use Rattle.vm_guard.proofs.FreshNumbers.{apart-first, apart-second, numbers-two, two-pages, within-first, within-second}
 
 module _ {X : Type 0} where
   -- a claim, lost or not, leaves the start and the numbers
@@ -143,15 +122,7 @@ module _ {X : Type 0} where
         ∙ ap (λ (k : Seat). record k { exclusive = true; reading = None }) (a.amid.seats (x + 1) (apart-second x) ∙ zeroth.seats (x + 1) refl)
 
     unheld-two : IsUnheld v1 (x + 1)
-    unheld-two =
-        let e : seat_of u1 (x + 1) ≡ seat_of v1 (x + 1) = a.amid.seats (x + 1) (apart-second x) in
-        record {
-          exclusive = ap (λ (k : Seat). k.exclusive) (sym e) ∙ b.unheld.exclusive;
-          shares = ap (λ (k : Seat). k.shares) (sym e) ∙ b.unheld.shares;
-          writing = ap (λ (k : Seat). k.writing) (sym e) ∙ b.unheld.writing;
-          paid = ap (has (x + 1)) (sym a.group.0) ∙ b.unheld.paid;
-          next = λ k. b.unheld.next (a.group.1 ∙ k);
-        }
+    unheld-two = unheld-same (x + 1) v1 u1 (holds-still (x + 1) (a.amid.seats (x + 1) (apart-second x))) a.group.0 a.group.1 b.unheld
 
     abbrev rest-5 : List Did
     rest-5 = h.done ++ did ∷ []
@@ -212,10 +183,10 @@ module _ {X : Type 0} where
     -- what is known of one of the pages once both are locked stays so
     known-last : IsAlone v → (q word : ℕ) → q < u2.start.pages → KnowsAt (places.State q) word u2 → KnowsAt (places.State q) word w
     known-last k q word page at =
-        known-on [] (did ∷ []) y w (places.State q) word last-step (alone-y2 k) (on y (h.amid.start ∙ f.amid.start ∙ again.start)) refl
+        known-on [] (did ∷ []) y w q word last-step (alone-y2 k) (on y (h.amid.start ∙ f.amid.start ∙ again.start)) refl
         (known-states ((x + 1) ∷ []) h.done y1 y q word h.amid h.states (alone-y1 k) (on y1 (f.amid.start ∙ again.start))
         (known-states (x ∷ []) f.done z y1 q word f.amid f.states (alone-z2 k) (on z again.start)
-        (known-on [] (did_load places.Next x ∷ []) u2 z (places.State q) word again (alone-u2 k) page refl at)))
+        (known-on [] (did_load places.Next x ∷ []) u2 z q word again (alone-u2 k) page refl at)))
       where
         on : (t : View X) → t.start ≡ u2.start → q < t.start.pages
         on t same = subst (λ (o : Origin). q < o.pages) (sym same) page
@@ -223,7 +194,7 @@ module _ {X : Type 0} where
     known-first : IsAlone v → KnowsAt (places.State x) (word_of LOCKED e1) w
     known-first k =
         known-last k x (word_of LOCKED e1) seized-b.page
-        (known-on ((x + 1) ∷ []) b.done u1 u2 (places.State x) (word_of LOCKED e1) b.amid (alone-u1 k) a.seized.page (apart-first x)
+        (known-on ((x + 1) ∷ []) b.done u1 u2 x (word_of LOCKED e1) b.amid (alone-u1 k) a.seized.page (apart-first x)
         (put-known (places.State x) (word_of LOCKED e1) v1 u1 a.amid.start (a.table (alone-v1 k))))
 
     known-second : IsAlone v → KnowsAt (places.State (x + 1)) (word_of LOCKED e2) w

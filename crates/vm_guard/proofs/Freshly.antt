@@ -1,58 +1,24 @@
 -- The fresh page that a call for one gives: it is locked, put into a frame, and claimed.
-use Rattle.std.proofs.Common.{ℕ, ◌≡◌, ◌+◌, ◌<◌, ◌≤◌, true, false, Bool, Option, Some, None, List, [], ◌∷◌, ◌++◌, refl, sym, ap, subst, ◌∙◌, arith, inl, eqb, length, replicate, IsSome}
+use Rattle.std.proofs.Common.{[], ◌++◌, ◌+◌, ◌<◌, ◌∙◌, ◌∷◌, ◌≡◌, ◌≤◌, ap, arith, Bool, eqb, false, inl, IsSome, List, None, Option, refl, replicate}
+use Rattle.std.proofs.Common.{Some, subst, sym, true, ℕ}
 use Rattle.std.proofs.lemmas.Bool.{cond-true, eq-eqb}
 use Rattle.std.proofs.lemmas.Option.{none-some}
-use Rattle.vm_core.specs.declared.event.Mapping.{Mapping}
-use Rattle.vm_core.specs.declared.event.Seat.{Seat}
-use Rattle.vm_core.specs.History.{Version}
-use Rattle.vm_core.specs.Words.{word_of, LOCKED}
-use Rattle.vm_owner.specs.Numbers.{has}
-use Rattle.vm_rule.specs.declared.view.Did.{Did}
-use Rattle.vm_rule.specs.declared.view.Held.{Held}
-use Rattle.vm_rule.specs.declared.view.Origin.{Origin}
+use Rattle.vm_core.specs.Prelude.{LOCKED, Version, word_of}
+use Rattle.vm_rule.specs.Prelude.{Brings, claimed_view, ClaimTold, contents_at, did_exchange, did_load, draft_of, has, held_at, index_of, IsUnheld}
+use Rattle.vm_rule.specs.Prelude.{last_of, Mapping, NextTold, numbers, put_at, Seat, seat_of, set_if, without_all}
 use Rattle.vm_rule.specs.declared.view.Place.TheVariants as places
-use Rattle.vm_rule.specs.declared.view.View.{View}
-use Rattle.vm_rule.specs.Puts.{put_at}
-use Rattle.vm_rule.specs.Views.{numbers, seat_of, draft_of}
-use Rattle.vm_rule.specs.Reading.{last_of}
-use Rattle.vm_rule.specs.Brought.{Brings, set_if}
-use Rattle.vm_rule.specs.Layout.{index_of}
-use Rattle.vm_rule.specs.Log.{did_load, did_exchange}
-use Rattle.vm_rule.specs.Locks.{IsUnheld}
-use Rattle.vm_rule.specs.Mappings.{contents_at, held_at}
-use Rattle.vm_rule.specs.Nexts.{NextTold, ClaimTold, claimed_view}
-use Rattle.vm_rule.specs.Releases.{without_all}
-use Rattle.vm_step.specs.Conditions.{PassMayClaim}
-use Rattle.vm_step.specs.Evidence.{HasWritten}
-use Rattle.vm_step.proofs.Evidenced.{taken-view, written-behind}
+use Rattle.vm_step.specs.Prelude.{Did, HasWritten, IsAlone, known_word_at, KnowsAt, Origin, PassMayClaim, View}
+use Rattle.vm_step.proofs.{Alone.still-alone, Evidenced.taken-view, Evidenced.written-behind, HeldFrames.held-on}
+use Rattle.vm_guard.specs.{declared.exclusive.ExclusiveGuard.ExclusiveGuard, Guards.IsHolding}
 use Rattle.vm_guard.specs.Fresh.{AreFresh, Furnishes, IsAmid, IsSeized, Seizes}
-use Rattle.vm_guard.specs.declared.exclusive.ExclusiveGuard.{ExclusiveGuard}
-use Rattle.vm_guard.specs.Guards.{IsHolding}
-use Rattle.vm_step.specs.Alone.{IsAlone, known_word_at}
-use Rattle.vm_step.proofs.Alone.{still-alone}
-use Rattle.vm_step.proofs.HeldFrames.{held-on}
-use Rattle.vm_guard.proofs.Amid.{IsSilent, claim-amid, claim-silent, nload-amid, nload-silent, silent-then}
-use Rattle.vm_step.specs.Tables.{KnowsAt}
+use Rattle.vm_guard.proofs.{FreshNone.seized-on, FreshNumbers.numbers-one, FreshNumbers.one-page, GuardSteps.still-held}
+use Rattle.vm_guard.proofs.Amid.{claim-amid, claim-silent, IsSilent, nload-amid, nload-silent, silent-then}
 use Rattle.vm_guard.proofs.FreshKnown.{known-on, known-states, known-there, others-known, put-known}
-use Rattle.vm_guard.proofs.FreshNone.{seized-on}
-use Rattle.vm_guard.proofs.FreshNumbers.{one-page, numbers-one}
 
 module _ {X : Type 0} where
   -- a page that is held stays so while the call works on others
   pub holding-on : (p frame version : ℕ) (dirty : Bool) (pages : List ℕ) (done : List Did) (v w : View X) → IsHolding p frame version dirty v → IsAmid pages done v w → has p pages ≡ false → IsHolding p frame version dirty w
-  holding-on p frame version dirty pages done v w h f none =
-      let k = f.knows p none (inl h.owns) in
-      record {
-        page = subst (λ (o : Origin). p < o.pages) (sym f.start) h.page;
-        frame_is = subst (λ (o : Origin). frame < o.frames) (sym f.start) h.frame_is;
-        below = h.below;
-        owns = ap (λ (x : Seat). x.exclusive) (f.seats p none) ∙ h.owns;
-        stands = ap (λ (x : Held). x.mapping) k.held ∙ h.stands;
-        told = ap (λ (x : Held). x.fault) k.held ∙ h.told ∙ ap (λ (x : Held). x.block.count) (sym k.held);
-        at = ap (λ (x : Version). x.version) k.last ∙ h.at;
-        size = ap length k.draft ∙ h.size;
-        free = ap (has p) f.pending ∙ h.free;
-      }
+  holding-on p frame version dirty pages done v w h f none = still-held h f.start (ap (λ (x : Seat). x.exclusive) (f.seats p none)) (f.knows p none (inl h.owns)) f.pending
 
   -- who holds the next page knows it
   pub next-held : (x : ℕ) (u z : View X) → NextTold x u z → (seat_of u x).exclusive ≡ true → z.next ≡ Some x
@@ -147,9 +113,9 @@ module _ {X : Type 0} where
     -- the page's word is known from its lock on
     known-one : IsAlone v → KnowsAt (places.State x) (word_of LOCKED version) w
     known-one a =
-        known-on [] (did_exchange places.Next x c (x + 1) ∷ []) y w (places.State x) (word_of LOCKED version) at-claim (alone-y a) f.holding.page refl
+        known-on [] (did_exchange places.Next x c (x + 1) ∷ []) y w x (word_of LOCKED version) at-claim (alone-y a) f.holding.page refl
         (known-states (x ∷ []) f.done z y x (word_of LOCKED version) f.amid f.states (alone-z a) seized.page
-        (known-on [] (did_load places.Next x ∷ []) u z (places.State x) (word_of LOCKED version) at-second (alone-u a) page-u refl
+        (known-on [] (did_load places.Next x ∷ []) u z x (word_of LOCKED version) at-second (alone-u a) page-u refl
         (put-known (places.State x) (word_of LOCKED version) v1 u s.amid.start (s.table (still-alone v v1 at-first.parts at-first.alone.current a)))))
 
     steps-one : IsSilent (x ∷ []) all-done v w

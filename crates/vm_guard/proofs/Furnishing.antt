@@ -1,44 +1,23 @@
 -- A page that was locked is put into a frame of zeros, where it stood in none.
-use Rattle.std.proofs.Common.{ℕ, ◌≡◌, ◌≢◌, ◌⊎◌, ◌+◌, ◌<◌, ◌≤◌, ◌||◌, true, false, true≢false, Bool, Option, Some, None, List, [], ◌∷◌, ◌++◌, length, refl, sym, ap, subst, ◌∙◌, inl, ⊎_elim, arith, replicate, eqb, suc, inr, slice_index, slice_set}
-use Rattle.std.proofs.lemmas.Bool.{cases_eq, eq-eqb, ne_eqb}
+use Rattle.std.proofs.Common.{[], ◌++◌, ◌+◌, ◌<◌, ◌||◌, ◌∙◌, ◌∷◌, ◌≡◌, ◌≢◌, ◌≤◌, ap, arith, Bool, eqb, false, inl, length, List, None, refl}
+use Rattle.std.proofs.Common.{replicate, slice_set, Some, subst, suc, sym, true, true≢false, ℕ}
+use Rattle.std.proofs.lemmas.Bool.{eq-eqb, false≢true, ne_eqb}
 use Rattle.std.proofs.lemmas.List.{length-replicate}
-use Rattle.vm_core.specs.declared.event.Mapping.{Mapping}
-use Rattle.vm_core.specs.declared.event.Seat.{Seat}
-use Rattle.vm_core.specs.FrameActs.{trans_word}
-use Rattle.vm_core.specs.History.{Version}
-use Rattle.vm_core.proofs.Upd.{upd-same, upd-other}
-use Rattle.vm_owner.specs.Numbers.{has, without, AreApart}
+use Rattle.vm_core.specs.Prelude.{Version}
+use Rattle.vm_core.proofs.Upd.{upd-other}
 use Rattle.vm_owner.proofs.NumberLemmas.{has-without_other}
-use Rattle.vm_rule.specs.declared.view.Did.{Did}
+use Rattle.vm_rule.specs.Prelude.{AreApart, clean_in, contents_at, Each, FillTold, has, held_at, InstallTold, last_of, Mapping, MayPutInto, no_held}
+use Rattle.vm_rule.specs.Prelude.{put_at, Seat, without}
 use Rattle.vm_rule.specs.declared.view.Held.{Held}
-use Rattle.vm_rule.specs.declared.view.Origin.{Origin}
 use Rattle.vm_rule.specs.declared.view.Place.TheVariants as places
-use Rattle.vm_rule.specs.declared.view.View.{View}
-use Rattle.vm_rule.specs.Puts.{put_at}
-use Rattle.vm_rule.specs.Views.{Each, seat_of, draft_of}
-use Rattle.vm_rule.specs.Reading.{last_of}
-use Rattle.vm_rule.specs.Rule.{no_held}
-use Rattle.vm_rule.specs.Log.{did_store}
-use Rattle.vm_rule.specs.Mappings.{InstallTold, MayPutInto, clean_in, contents_at, held_at, installed_view}
-use Rattle.vm_rule.specs.Stores.{FillTold}
-use Rattle.vm_rule.proofs.Entries.{append-none, each-map}
-use Rattle.vm_rule.proofs.Heard.{each-both}
-use Rattle.vm_rule.proofs.Facts.{has-both}
-use Rattle.vm_step.specs.Fills.{Stores}
-use Rattle.vm_step.specs.HeldFrames.{AreHeld}
-use Rattle.vm_step.proofs.After.{knows-after}
-use Rattle.vm_step.proofs.Filling.{Fills, fills, filled, stores-did}
-use Rattle.vm_step.proofs.Leaves.{last-quiet}
-use Rattle.vm_guard.specs.Fresh.{Furnishes, IsAmid, IsSeized}
-use Rattle.vm_guard.specs.FreshPlaces.{IsPlaceOf}
-use Rattle.vm_guard.specs.Sure.{KnowsStates}
-use Rattle.vm_guard.proofs.Amid.{IsSilent, other, leaves-silent, none-silent, quiet-silent, silent-then}
-use Rattle.vm_guard.proofs.FreshKnown.{untouched-else}
-use Rattle.vm_guard.proofs.Seizing.{self-has}
-
-pub or-none : (a b : Bool) → (a || b) ≡ false → (a ≡ false) × (b ≡ false)
-or-none true b e = absurd (true≢false e)
-or-none false b e = (refl, e)
+use Rattle.vm_rule.proofs.{Entries.append-none, Entries.each-map, Facts.has-both, Heard.each-both}
+use Rattle.vm_step.specs.Prelude.{AreHeld, Did, Origin, Stores, View, Works}
+use Rattle.vm_step.proofs.{After.knows-after, Leaves.works-then}
+use Rattle.vm_step.proofs.Filling.{filled, Fills, fills, stores-did}
+use Rattle.vm_step.proofs.steps.Mapping.{install-did, install-frames, install-held, install-works}
+use Rattle.vm_guard.specs.{Fresh.Furnishes, Fresh.IsSeized, FreshPlaces.IsPlaceOf, Sure.KnowsStates}
+use Rattle.vm_guard.proofs.{Groups.or-none, Seizing.self-has}
+use Rattle.vm_guard.proofs.Amid.{IsSilent, leaves-silent, none-silent, other}
 
 -- a list of different numbers that ends with f: the others are different numbers, and f is none of them
 apart-front : (a : List ℕ) (f : ℕ) → AreApart (a ++ f ∷ []) → AreApart a × (has f a ≡ false)
@@ -133,85 +112,53 @@ module _ {X : Type 0} where
       }
 
       module _ (w : View X) (t : InstallTold p f u w) where
-        abbrev did : Did
-        did = did_store (places.Translation p) (trans_word (Some (clean_in f)))
+        abbrev done : List Did
+        done = stores-did f 0 zeros ++ install-did t ∷ []
 
-        installing : IsSilent (p ∷ []) (did ∷ []) u w
-        installing = quiet-silent (p ∷ []) did [] u (installed_view p f u) w t.brings
-            (record {
-              log = refl;
-              live = refl;
-              start = refl;
-              parts = (refl, refl);
-              mine = refl;
-              out = refl;
-              notes = refl;
-              ties = ([], refl);
-              pending = refl;
-              seats = λ q none. refl;
-              loads = λ q none. refl;
-              knows = λ q none. (upd-other (put_at no_held u.held) p (record (held_at u p) { mapping = Some (clean_in f) }) q (other p q (p ∷ []) (self-has p) none), refl);
-            })
-            (subst (λ (o : Origin). p < o.pages) (sym filling.works.leaves.start) s.page, self-has p)
+        work : Works p done v w
+        work = works-then p (stores-did f 0 zeros) (install-did t ∷ []) v u w filling.works (install-works t)
 
-        installs : IsAmid (p ∷ []) (did ∷ []) u w
-        installs = installing.0
-
-        steps : IsSilent (p ∷ []) (stores-did f 0 zeros ++ did ∷ []) v w
-        steps = silent-then (p ∷ []) (stores-did f 0 zeros) (did ∷ []) v u w
-            (leaves-silent (p ∷ []) p (stores-did f 0 zeros) v u (self-has p) filling.works.leaves filling.out filling.notes filling.works.alone (stores-places v.start (p ∷ []) f frame-own.0 0 zeros (omega arith)))
-            installing
+        steps : IsSilent (p ∷ []) done v w
+        steps =
+            leaves-silent (p ∷ []) p done v w (self-has p) work.leaves
+            (ap (λ (y : View X). y.out) t.brings.view ∙ filling.out) (ap (λ (y : View X). y.notes) t.brings.view ∙ filling.notes) work.alone
+            (each-both (λ (d : Did). IsPlaceOf v.start (p ∷ []) d.at) (stores-did f 0 zeros) (install-did t ∷ []) (stores-places v.start (p ∷ []) f frame-own.0 0 zeros (omega arith)) ((s.page, self-has p), tt))
 
         held-w : held_at w p ≡ record (held_at v p) { mapping = Some (clean_in f) }
-        held-w =
-            ap (λ (y : View X). held_at y p) t.brings.view
-            ∙ upd-same (put_at no_held u.held) p (record (held_at u p) { mapping = Some (clean_in f) })
-            ∙ ap (λ (h : Held). record h { mapping = Some (clean_in f) }) held-u
-
-        start-w : w.start ≡ v.start
-        start-w = installs.start ∙ filling.works.leaves.start
+        held-w = install-held t ∙ ap (λ (h : Held). record h { mapping = Some (clean_in f) }) held-u
 
         -- no step is at a state word
         states-w : KnowsStates v w
         states-w a q l =
-            (knows-after (stores-did f 0 zeros ++ did ∷ []) steps.0.own v w start-w steps.0.runs).kept a (places.State q) l
-            (each-both (λ (d : Did). d.at ≡ places.State q → d.wrote ≡ None) (stores-did f 0 zeros) (did ∷ [])
-            (each-map (λ (d : Did). IsPlaceOf v.start [] d.at) (λ (d : Did). d.at ≡ places.State q → d.wrote ≡ None) (λ (d : Did) is at. absurd (untouched-else v.start [] (places.State q) d.at refl is at)) (stores-did f 0 zeros) (stores-places v.start [] f frame-own.0 0 zeros (omega arith)))
+            (knows-after done [] v w work.leaves.start work.alone).kept a (places.State q) l
+            (each-both (λ (d : Did). d.at ≡ places.State q → d.wrote ≡ None) (stores-did f 0 zeros) (install-did t ∷ [])
+            (each-map (λ (d : Did). IsPlaceOf v.start [] d.at) (λ (d : Did). d.at ≡ places.State q → d.wrote ≡ None) (λ (d : Did) is at. absurd (false≢true (subst (IsPlaceOf v.start []) at is).1)) (stores-did f 0 zeros) (stores-places v.start [] f frame-own.0 0 zeros (omega arith)))
             ((λ e. absurd (let no : places.Translation p ≡ places.State q = e in cc)), tt))
 
-        seat-w : seat_of w p ≡ seat_of v p
-        seat-w = ap (λ (y : View X). seat_of y p) t.brings.view ∙ filling.works.seat
-
         last-w : last_of w p ≡ last_of v p
-        last-w = last-quiet p did None [] u (installed_view p f u) w t.brings refl p (inl (ap (λ (k : Seat). k.exclusive) filling.works.seat ∙ s.owns)) ∙ last-u
-
-        draft-w : draft_of w p ≡ draft_of v p
-        draft-w = ap (λ (y : View X). draft_of y p) t.brings.view ∙ filling.works.draft
+        last-w = work.last (inl s.owns)
 
         frames-w : w.frames ≡ without f v.frames
-        frames-w = ap (λ (y : View X). y.frames) t.brings.view ∙ ap (without f) filling.frames
+        frames-w = install-frames t ∙ ap (without f) filling.frames
 
         pub furnish-empty : Furnishes p f version false before after v w
         furnish-empty = record {
-          done = stores-did f 0 zeros ++ did ∷ [];
+          done = done;
           amid = steps.0;
-          group = (
-            ap (λ (y : View X). y.owed) t.brings.view ∙ filling.works.leaves.group.1,
-            ap (λ (y : View X). y.next) t.brings.view ∙ filling.works.leaves.group.2,
-          );
-          seat = seat-w;
+          group = (work.leaves.group.1, work.leaves.group.2);
+          seat = work.seat;
           holding = record {
-            page = subst (λ (o : Origin). p < o.pages) (sym start-w) s.page;
-            frame_is = subst (λ (o : Origin). f < o.frames) (sym start-w) frame-own.0;
+            page = subst (λ (o : Origin). p < o.pages) (sym work.leaves.start) s.page;
+            frame_is = subst (λ (o : Origin). f < o.frames) (sym work.leaves.start) frame-own.0;
             below = s.below;
-            owns = ap (λ (k : Seat). k.exclusive) seat-w ∙ s.owns;
+            owns = ap (λ (k : Seat). k.exclusive) work.seat ∙ s.owns;
             stands = ap (λ (h : Held). h.mapping) held-w;
             told = ap (λ (h : Held). h.fault) held-w ∙ s.told ∙ ap (λ (h : Held). h.block.count) (sym held-w);
             at = ap (λ (y : Version). y.version) last-w ∙ s.at;
-            size = ap (λ (l : List ℕ). length l) draft-w ∙ ap length s.draft ∙ s.size;
-            free = ap (has p) (installs.pending ∙ filling.works.leaves.group.0) ∙ s.free;
+            size = ap (λ (l : List ℕ). length l) work.draft ∙ ap length s.draft ∙ s.size;
+            free = ap (has p) work.leaves.group.0 ∙ s.free;
           };
-          draft = draft-w;
+          draft = work.draft;
           last = last-w;
           taken = f ∷ [];
           few = omega arith;
@@ -219,7 +166,7 @@ module _ {X : Type 0} where
           frames = frames-w;
           own = record {
             apart = apart.0;
-            inside = each-front (λ g. g < v.start.frames) (λ g. g < w.start.frames) after f (λ g ne k. subst (λ (o : Origin). g < o.frames) (sym start-w) k) apart.1 each-inside;
+            inside = each-front (λ g. g < v.start.frames) (λ g. g < w.start.frames) after f (λ g ne k. subst (λ (o : Origin). g < o.frames) (sym work.leaves.start) k) apart.1 each-inside;
             held = each-front (λ g. has g v.frames ≡ true) (λ g. has g w.frames ≡ true) after f (λ g ne k. ap (has g) frames-w ∙ has-without_other f g v.frames ne ∙ k) apart.1 each-held;
           };
           contents = λ g none. ap (λ (y : View X). contents_at y g) t.brings.view ∙ stores-elsewhere f 0 zeros v u stores g (other f g (f ∷ []) (self-has f) none);

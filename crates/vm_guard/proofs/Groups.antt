@@ -1,38 +1,22 @@
 -- A group is released: what each release leaves of the members that are still to be released, and what all of them leave together.
-use Rattle.std.proofs.Common.{ℕ, ◌≡◌, ◌≢◌, ◌⊎◌, ◌+◌, ◌<◌, ◌≤◌, ◌||◌, Bool, true, false, true≢false, Option, None, List, [], ◌∷◌, ◌++◌, length, refl, sym, ap, subst, ◌∙◌, inl, inr, ⊎_elim, eqb, IsSome, if◌then◌else◌}
-use Rattle.std.proofs.lemmas.Bool.{false≢true, cases_eq, cond-true, cond-false, eq-eqb, ne_eqb}
-use Rattle.vm_core.specs.declared.event.Seat.{Seat}
-use Rattle.vm_core.specs.Start.{no_seat}
-use Rattle.vm_core.specs.Words.{MAX_VERSION}
-use Rattle.vm_core.specs.History.{Version}
-use Rattle.vm_core.proofs.Upd.{upd-same, upd-other}
-use Rattle.vm_owner.specs.declared.Entry.{Entry}
-use Rattle.vm_owner.specs.Kept.{Start, Change}
-use Rattle.vm_owner.specs.Numbers.{has, without, AreApart}
+use Rattle.std.proofs.Common.{[], ⊎_elim, ◌++◌, ◌+◌, ◌<◌, ◌||◌, ◌∙◌, ◌∷◌, ◌≡◌, ◌≢◌, ◌≤◌, ◌⊎◌, ap, Bool, eqb, false, if◌then◌else◌, inl, inr, IsSome}
+use Rattle.std.proofs.Common.{length, List, None, Option, refl, subst, sym, true, true≢false, ℕ}
+use Rattle.std.proofs.lemmas.Bool.{cases_eq, cond-false, cond-true, eq-eqb, false≢true, ne_eqb, or_right}
+use Rattle.vm_core.specs.Prelude.{MAX_VERSION, Version}
 use Rattle.vm_owner.proofs.NumberLemmas.{has-without_other, without-none}
-use Rattle.vm_rule.specs.declared.view.Did.{Did}
+use Rattle.vm_rule.specs.Prelude.{AreApart, Change, Each, Entry, has, held_at, last_of, loads_at, put_at, ReleaseTold, Seat, seat_of, Start, without}
+use Rattle.vm_rule.specs.Prelude.{without_all}
 use Rattle.vm_rule.specs.declared.view.Held.{Held}
-use Rattle.vm_rule.specs.declared.view.Origin.{Origin}
-use Rattle.vm_rule.specs.declared.view.Place.TheVariants as places
-use Rattle.vm_rule.specs.declared.view.Release.{Release}
-use Rattle.vm_rule.specs.declared.view.View.{View}
-use Rattle.vm_rule.specs.Puts.{put_at}
-use Rattle.vm_rule.specs.Views.{Each, seat_of, loads_at, draft_of}
-use Rattle.vm_rule.specs.Reading.{last_of}
-use Rattle.vm_rule.specs.Brought.{entries_of}
-use Rattle.vm_rule.specs.Log.{did_store}
-use Rattle.vm_rule.specs.Mappings.{held_at}
-use Rattle.vm_rule.specs.Releases.{ReleaseTold, released_view, without_all}
-use Rattle.vm_rule.proofs.Entries.{append-none}
-use Rattle.vm_rule.proofs.Facts.{has-both}
-use Rattle.vm_step.specs.Conditions.{IsClaimed, IsFirst, IsMember, IsNotOut, IsToldOf, MayGiveUp}
+use Rattle.vm_rule.proofs.{Entries.append-none, Facts.has-both}
+use Rattle.vm_step.specs.Prelude.{IsClaimed, IsFirst, IsMember, IsNotOut, IsToldOf, MayGiveUp, Origin, Release, View}
 use Rattle.vm_step.proofs.Groups.{has-left_of}
-use Rattle.vm_guard.specs.declared.exclusive.ExclusiveGuard.{ExclusiveGuard}
-use Rattle.vm_guard.specs.Guards.{IsElsewhere, IsHolding}
-use Rattle.vm_guard.specs.Groups.{GuardsHeld, AreGivenUp, IsBeside, IsDue, MayReleaseAll, next_after_all, pids_of, release_steps, releases_of}
-use Rattle.vm_guard.proofs.QuietSteps.{holds-then, knows-then, reads-then, loads-after, quiet-none, release-elsewhere, seat-after, steady-then, still-locking}
+use Rattle.vm_step.proofs.steps.Leaving.{holds-still, LeavesOthers, others-none, others-then, others-within}
+use Rattle.vm_step.proofs.steps.Release.{release-loads, release-others, release-own, release-seat}
+use Rattle.vm_guard.specs.{declared.exclusive.ExclusiveGuard.ExclusiveGuard, Guards.IsHolding}
+use Rattle.vm_guard.specs.Groups.{AreGivenUp, GuardsHeld, IsBeside, IsDue, MayReleaseAll, next_after_all, pids_of, release_steps, releases_of}
+use Rattle.vm_guard.proofs.QuietSteps.{elsewhere-of, steady-of}
 
-or-none : (a b : Bool) → (a || b) ≡ false → (a ≡ false) × (b ≡ false)
+pub or-none : (a b : Bool) → (a || b) ≡ false → (a ≡ false) × (b ≡ false)
 or-none true b e = absurd (true≢false e)
 or-none false b e = (refl, e)
 
@@ -48,22 +32,14 @@ without-front (p ∷ ps) m apart none =
     ap (λ (b : Bool). if b then without p (ps ++ m) else p ∷ without p (ps ++ m)) (eq-eqb p p refl)
     ∙ without-none p (ps ++ m) (has-both p ps m ∙ (λ i. apart.0 i || none p (ap (λ b. b || has p ps) (eq-eqb p p refl)) i)) in
     ap (without_all ps) gone
-    ∙ without-front ps m apart.1 (λ q e. none q (or-right (eqb q p) (has q ps) e))
-  where
-    or-right : (a b : Bool) → b ≡ true → (a || b) ≡ true
-    or-right true b e = refl
-    or-right false b e = e
+    ∙ without-front ps m apart.1 (λ q e. none q (or_right (eqb q p) (has q ps) e))
 
 -- numbers that a list lacks are taken away from it
 pub without-absent : (ps m : List ℕ) → ((q : ℕ) → has q ps ≡ true → has q m ≡ false) → without_all ps m ≡ m
 without-absent [] m none = refl
 without-absent (p ∷ ps) m none =
     ap (without_all ps) (without-none p m (none p (ap (λ b. b || has p ps) (eq-eqb p p refl))))
-    ∙ without-absent ps m (λ q e. none q (or-right (eqb q p) (has q ps) e))
-  where
-    or-right : (a b : Bool) → b ≡ true → (a || b) ≡ true
-    or-right true b e = refl
-    or-right false b e = e
+    ∙ without-absent ps m (λ q e. none q (or_right (eqb q p) (has q ps) e))
 
 -- a page that is among several, and not the first, is among the rest; the first is not, where no page stands twice
 pub first-or-rest : (q p : ℕ) (ps : List ℕ) → has q (p ∷ ps) ≡ true → (q ≡ p) ⊎ ((q ≢ p) × (has q ps ≡ true))
@@ -74,12 +50,8 @@ pub all-pending : (p : ℕ) (before : List ℕ) (gs : List ExclusiveGuard) (all 
 all-pending p before [] all among = tt
 all-pending p before (g ∷ gs) all among = (
   has-left_of g.pid all before (among g.pid (ap (λ b. b || has g.pid (pids_of gs)) (eq-eqb g.pid g.pid refl))),
-  all-pending p before gs all (λ q e. among q (or-right (eqb q g.pid) (has q (pids_of gs)) e)),
+  all-pending p before gs all (λ q e. among q (or_right (eqb q g.pid) (has q (pids_of gs)) e)),
 )
-  where
-    or-right : (a b : Bool) → b ≡ true → (a || b) ≡ true
-    or-right true b e = refl
-    or-right false b e = e
 
 module _ {X : Type 0} where
   -- ---- what the release asks for
@@ -119,7 +91,7 @@ module _ {X : Type 0} where
   due-else : (q version p other : ℕ) (rest : List ℕ) (said : Option X) (v w : View X) → ReleaseTold p other rest said v w → q ≢ p
       → q < v.start.pages → version < MAX_VERSION → (seat_of v q).exclusive ≡ true → IsSome (held_at v q).mapping → IsToldOf v q → IsNotOut v q → version ≡ (last_of v q).version → has q w.pending ≡ true → IsDue q version w
   due-else q version p other rest said v w t ne page below owns resident told home at pending =
-      let e = release-elsewhere p other rest said v w t in
+      let e = elsewhere-of (release-others t (λ q. q ≡ p) refl) in
       let k = e.knows q ne (inl owns) in
       record {
         page = subst (λ (o : Origin). q < o.pages) (sym e.steady.start) page;
@@ -147,64 +119,65 @@ module _ {X : Type 0} where
 
   -- ---- together
 
-  pub beside-then : (p : ℕ) (ps : List ℕ) (a b : List Did) (c d : List Release) (u v w : View X) → IsElsewhere p a c u v → IsBeside ps b d v w → IsBeside (p ∷ ps) (a ++ b) (c ++ d) u w
-  beside-then p ps a b c d u v w f g = record {
-    steady = steady-then a b c d u v w f.steady g.steady;
-    holds = λ q e. let k = lacks q p ps e in holds-then u v w q (f.holds q k.0) (g.holds q k.1);
-    knows = λ q e l. let k = lacks q p ps e in knows-then u v w q (f.knows q k.0 l) (g.knows q k.1 (still-locking u v q (f.holds q k.0) l));
-    others = λ q e. let k = lacks q p ps e in reads-then u v w q (f.others q k.0) (g.others q k.1);
-  }
-
   -- the drafts that are known stay known
   pub releases-same : (v w : View X) (gs : List ExclusiveGuard) → w.drafts ≡ v.drafts → releases_of w gs ≡ releases_of v gs
   releases-same v w [] e = refl
   releases-same v w (g ∷ gs) e = λ i. record { page = g.pid; version = g.version + 1; words = put_at [] (e i) g.pid } ∷ releases-same v w gs e i
 
-  -- what the later members' releases leave
-  pub record IsRest (gs : List ExclusiveGuard) (v w : View X) : Type 0 where
-    pub beside : IsBeside (pids_of gs) (release_steps gs) (releases_of v gs) v w
-    pub mine : w.mine ≡ v.mine
-    pub group : (w.pending ≡ without_all (pids_of gs) v.pending) × (w.owed ≡ without_all (pids_of gs) v.owed) × (w.next ≡ next_after_all (pids_of gs) v.next)
+  -- these releases leave all but the pages of the guards, which are given up
+  pub record AreAllGiven (gs : List ExclusiveGuard) (v w : View X) : Type 0 where
+    pub steps : LeavesOthers (λ q. has q (pids_of gs) ≡ true) (release_steps gs) (releases_of v gs) v w
     pub seats : (q : ℕ) → has q (pids_of gs) ≡ true → seat_of w q ≡ record (seat_of v q) { exclusive = false }
     pub loads : (q : ℕ) → loads_at w q ≡ loads_at v q
+
+  pub all-beside : (gs : List ExclusiveGuard) (v w : View X) → AreAllGiven gs v w → IsBeside (pids_of gs) (release_steps gs) (releases_of v gs) v w
+  all-beside gs v w all =
+      let f = all.steps in
+      record {
+        steady = steady-of f;
+        holds = λ q none. holds-still q (f.seats q (missing q none));
+        knows = λ q none l. record { held = f.held q (missing q none); draft = f.drafts q (missing q none); last = f.last q (missing q none) l };
+        others = λ q none. record { reading = ap (λ (k : Seat). k.reading) (f.seats q (missing q none)); loads = f.loads q (missing q none) };
+      }
+    where
+      missing : (q : ℕ) → has q (pids_of gs) ≡ false → has q (pids_of gs) ≡ true → ⊥
+      missing q none e = true≢false (sym e ∙ none)
+
+  -- the first of several is released, and then the rest
+  pub all-then : (g : ExclusiveGuard) (gs : List ExclusiveGuard) (others : List ℕ) (said : Option X) (v u w : View X) → ReleaseTold g.pid g.version others said v u → has g.pid (pids_of gs) ≡ false → AreAllGiven gs u w → AreAllGiven (g ∷ gs) v w
+  all-then g gs others said v u w t apart rest =
+      let touched : ℕ → Type 0 = λ q. has q (g.pid ∷ pids_of gs) ≡ true in
+      let first = release-others t touched (ap (λ b. b || has g.pid (pids_of gs)) (eq-eqb g.pid g.pid refl)) in
+      record {
+        steps = subst (λ (l : List Release). LeavesOthers touched (release_steps (g ∷ gs)) (release-own t ∷ l) v w) (releases-same v u gs (ap (λ (y : View X). y.drafts) t.brings.view))
+            (others-then first (others-within (λ q e. or_right (eqb q g.pid) (has q (pids_of gs)) e) rest.steps));
+        seats = λ q e.
+            ⊎_elim
+            (λ (same : q ≡ g.pid).
+            ap (seat_of w) same
+            ∙ rest.steps.seats g.pid (λ k. true≢false (sym k ∙ apart))
+            ∙ release-seat t
+            ∙ ap (λ n. record (seat_of v n) { exclusive = false }) (sym same))
+            (λ (k : (q ≢ g.pid) × (has q (pids_of gs) ≡ true)). rest.seats q k.1
+            ∙ ap (λ (k : Seat). record k { exclusive = false }) ((release-others t (λ n. n ≡ g.pid) refl).seats q k.0))
+            (first-or-rest q g.pid (pids_of gs) e);
+        loads = λ q. rest.loads q ∙ release-loads t q;
+      }
+
+  -- what the later members' releases leave
+  pub record IsRest (gs : List ExclusiveGuard) (v w : View X) : Type 0 where
+    pub all : AreAllGiven gs v w
+    pub mine : w.mine ≡ v.mine
+    pub group : (w.pending ≡ without_all (pids_of gs) v.pending) × (w.owed ≡ without_all (pids_of gs) v.owed) × (w.next ≡ next_after_all (pids_of gs) v.next)
     pub current : v.current ≡ true → w.current ≡ true
 
   none-rest : (v w : View X) → v ≡ w → IsRest [] v w
-  none-rest v w same =
-      let q = quiet-none 0 v in
-      subst (IsRest [] v) same (record {
-        beside = record { steady = q.steady; holds = λ k e. q.holds k; knows = λ k e. q.knows k; others = λ k e. record { reading = refl; loads = refl } };
-        mine = refl;
-        group = (refl, refl, refl);
-        seats = λ k e. absurd (false≢true e);
-        loads = λ k. refl;
-        current = λ e. e;
-      })
-
-  -- the seat of a released page, of another
-  pub seat-here : (p version : ℕ) (rest : List ℕ) (said : Option X) (v w : View X) → ReleaseTold p version rest said v w → seat_of w p ≡ record (seat_of v p) { exclusive = false }
-  seat-here p version rest said v w t =
-      seat-after (did_store (places.State p) (version + 1)) (record { page = p; version = version + 1; words = draft_of v p } ∷ []) (entries_of v said) v (released_view p rest said v) w t.brings p
-      ∙ upd-same (put_at no_seat v.seats) p (record (seat_of v p) { exclusive = false })
-
-  pub seat-else : (p version : ℕ) (rest : List ℕ) (said : Option X) (v w : View X) → ReleaseTold p version rest said v w → (q : ℕ) → q ≢ p → seat_of w q ≡ seat_of v q
-  seat-else p version rest said v w t q ne =
-      seat-after (did_store (places.State p) (version + 1)) (record { page = p; version = version + 1; words = draft_of v p } ∷ []) (entries_of v said) v (released_view p rest said v) w t.brings q
-      ∙ upd-other (put_at no_seat v.seats) p (record (seat_of v p) { exclusive = false }) q ne
-
-  pub loads-same : (p version : ℕ) (rest : List ℕ) (said : Option X) (v w : View X) → ReleaseTold p version rest said v w → (q : ℕ) → loads_at w q ≡ loads_at v q
-  loads-same p version rest said v w t q =
-      loads-after (did_store (places.State p) (version + 1)) (record { page = p; version = version + 1; words = draft_of v p } ∷ []) (entries_of v said) v (released_view p rest said v) w t.brings q
-
-  -- the page of each seat, after the first of several and then the rest
-  pub seats-all : (p : ℕ) (ps : List ℕ) (u v w : View X) → has p ps ≡ false → seat_of v p ≡ record (seat_of u p) { exclusive = false } → ((q : ℕ) → q ≢ p → seat_of v q ≡ seat_of u q)
-      → ((q : ℕ) → has q ps ≡ true → seat_of w q ≡ record (seat_of v q) { exclusive = false }) → ((q : ℕ) → has q ps ≡ false → seat_of w q ≡ seat_of v q)
-      → (q : ℕ) → has q (p ∷ ps) ≡ true → seat_of w q ≡ record (seat_of u q) { exclusive = false }
-  seats-all p ps u v w apart here away among beside q e =
-      ⊎_elim
-      (λ (same : q ≡ p). ap (seat_of w) same ∙ beside p apart ∙ here ∙ ap (λ n. record (seat_of u n) { exclusive = false }) (sym same))
-      (λ (t : (q ≢ p) × (has q ps ≡ true)). among q t.1 ∙ ap (λ (k : Seat). record k { exclusive = false }) (away q t.0))
-      (first-or-rest q p ps e)
+  none-rest v w same = subst (IsRest [] v) same (record {
+    all = record { steps = others-none v; seats = λ k e. absurd (false≢true e); loads = λ k. refl };
+    mine = refl;
+    group = (refl, refl, refl);
+    current = λ e. e;
+  })
 
   -- a page that is as it was has the seat that it had
   pub same-seat : (v w : View X) (q : ℕ) → (seat_of w q).shares ≡ (seat_of v q).shares → (seat_of w q).exclusive ≡ (seat_of v q).exclusive → (seat_of w q).writing ≡ (seat_of v q).writing → (seat_of w q).reading ≡ (seat_of v q).reading → seat_of w q ≡ seat_of v q
@@ -216,22 +189,16 @@ module _ {X : Type 0} where
       let p : ℕ = g.pid in
       let u : View X = k.0 in
       let t : ReleaseTold p g.version [] None v u = k.1 in
-      let e = release-elsewhere p g.version [] None v u t in
       let pending : u.pending ≡ without p v.pending = ap (λ (y : View X). y.pending) t.brings.view ∙ cond-true (has p v.pending) (without p v.pending) v.pending due.0 in
       let rest : IsRest gs u w = given-up gs u w apart.1 (each-still p v.pending u.pending pending gs apart.0 due.1) k.2 in
-      let drafts : releases_of u gs ≡ releases_of v gs = releases-same v u gs (ap (λ (y : View X). y.drafts) t.brings.view) in
       record {
-        beside = subst (λ (l : List Release). IsBeside (p ∷ pids_of gs) (release_steps (g ∷ gs)) (record { page = p; version = g.version + 1; words = draft_of v p } ∷ l) v w) drafts
-            (beside-then p (pids_of gs) _ (release_steps gs) _ (releases_of u gs) v u w e rest.beside);
+        all = all-then g gs [] None v u w t apart.0 rest.all;
         mine = rest.mine ∙ ap (λ (y : View X). y.mine) t.brings.view ∙ append-none v.mine;
         group = (
           rest.group.0 ∙ ap (without_all (pids_of gs)) pending,
           rest.group.1 ∙ ap (λ (y : View X). without_all (pids_of gs) y.owed) t.brings.view,
           rest.group.2 ∙ ap (λ (y : View X). next_after_all (pids_of gs) y.next) t.brings.view,
         );
-        seats = seats-all p (pids_of gs) v u w apart.0 (seat-here p g.version [] None v u t) (seat-else p g.version [] None v u t) rest.seats
-            (λ q none. let h = rest.beside.holds q none in same-seat u w q h.shares h.exclusive h.writing (rest.beside.others q none).reading);
-        loads = λ q. rest.loads q ∙ loads-same p g.version [] None v u t q;
         current = λ _. rest.current (ap (λ (y : View X). y.current) t.brings.view);
       }
     where
@@ -253,12 +220,8 @@ module _ {X : Type 0} where
       go (h ∷ hs) held home none among =
           let k = lacks a.pid h.pid (pids_of hs) none in (
             due-first h a.pid a.version (pids_of gs) said v u t may.held.0.free (λ e. k.0 (sym e)) (among h.pid (ap (λ b. b || has h.pid (pids_of hs)) (eq-eqb h.pid h.pid refl))) held.0 home.0,
-            go hs held.1 home.1 k.1 (λ q e. among q (or-right (eqb q h.pid) (has q (pids_of hs)) e)),
+            go hs held.1 home.1 k.1 (λ q e. among q (or_right (eqb q h.pid) (has q (pids_of hs)) e)),
           )
-        where
-          or-right : (x y : Bool) → y ≡ true → (x || y) ≡ true
-          or-right true y e = refl
-          or-right false y e = e
 
   -- and all others still after a later one
   pub dues-later : (b : ExclusiveGuard) (gs : List ExclusiveGuard) (u w : View X) → has b.pid (pids_of gs) ≡ false → Each (λ (g : ExclusiveGuard). IsDue g.pid g.version u) (b ∷ gs) → ReleaseTold b.pid b.version [] None u w → Each (λ (g : ExclusiveGuard). IsDue g.pid g.version w) gs

@@ -1,22 +1,15 @@
 -- What a pass that is alone knows after a group was released: the words of the table, and the last version of each page.
-use Rattle.std.proofs.Common.{ℕ, false, ◌≡◌, ◌+◌, ◌<◌, ◌≤◌, List, [], ◌∷◌, ◌++◌, refl, sym, ap, subst, ◌∙◌, arith, append_assoc, slice_index, slice_set}
+use Rattle.std.proofs.Common.{[], ◌++◌, ◌+◌, ◌<◌, ◌∙◌, ◌∷◌, ◌≡◌, ◌≢◌, ◌≤◌, ap, append_assoc, arith, false, List, refl, slice_index, slice_set, subst}
+use Rattle.std.proofs.Common.{sym, ℕ}
 use Rattle.std.proofs.lemmas.List.{get_or-set_other}
-use Rattle.vm_core.specs.Words.{version_of, MAX_VERSION}
-use Rattle.vm_core.specs.History.{History}
-use Rattle.vm_owner.specs.Numbers.{has, AreApart}
-use Rattle.vm_rule.specs.declared.view.Origin.{Origin}
-use Rattle.vm_rule.specs.declared.view.Release.{Release}
-use Rattle.vm_rule.specs.declared.view.View.{View}
-use Rattle.vm_rule.specs.Views.{Each, draft_of}
-use Rattle.vm_rule.specs.Reading.{last_in}
-use Rattle.vm_rule.proofs.Entries.{append-none}
-use Rattle.vm_rule.proofs.Worlds.{last-is, release-else, release-here}
-use Rattle.vm_step.specs.Alone.{Follows}
-use Rattle.vm_guard.specs.declared.exclusive.ExclusiveGuard.{ExclusiveGuard}
-use Rattle.vm_guard.specs.Groups.{pids_of, release_steps, releases_of, released_words}
-use Rattle.vm_guard.specs.Sure.{IsUnlockedWord, words_with}
-use Rattle.vm_guard.proofs.Groups.{lacks}
-use Rattle.vm_guard.proofs.Sure.{free-after}
+use Rattle.vm_core.specs.Prelude.{History, MAX_VERSION, version_of}
+use Rattle.vm_rule.specs.Prelude.{AreApart, draft_of, Each, has, last_in}
+use Rattle.vm_rule.proofs.Worlds.{last-is, release-here}
+use Rattle.vm_step.specs.Prelude.{Follows, Origin, Release, View}
+use Rattle.vm_step.proofs.steps.Leaving.{releases-else}
+use Rattle.vm_guard.specs.{declared.exclusive.ExclusiveGuard.ExclusiveGuard, Sure.IsUnlockedWord, Sure.words_with}
+use Rattle.vm_guard.specs.Groups.{pids_of, release_steps, released_words, releases_of}
+use Rattle.vm_guard.proofs.{Groups.lacks, Sure.free-after}
 
 -- the words after the releases
 pub words-released : (start : Origin) (gs : List ExclusiveGuard) (old new : List ℕ) → Follows start (release_steps gs) old new → new ≡ words_with start (released_words gs) old
@@ -43,15 +36,11 @@ free-each start (g ∷ gs) words apart below = (
 module _ {X : Type 0} where
   -- another page has the last version that it had
   pub last-else : (v : View X) (gs : List ExclusiveGuard) (rs : List Release) (q : ℕ) → has q (pids_of gs) ≡ false → last_in v.start (rs ++ releases_of v gs) q ≡ last_in v.start rs q
-  last-else v [] rs q none = ap (λ (l : List Release). last_in v.start l q) (append-none rs)
-  last-else v (g ∷ gs) rs q none =
-      let r : Release = record { page = g.pid; version = g.version + 1; words = draft_of v g.pid } in
-      let k = lacks q g.pid (pids_of gs) none in
-      ap (λ (l : List Release). last_in v.start l q) (sym (append_assoc rs (r ∷ []) (releases_of v gs)))
-      ∙ last-else v gs (rs ++ r ∷ []) q k.1
-      ∙ last-is v.start (rs ++ r ∷ []) (λ k. []) q
-      ∙ ap (λ (h : History). h.last) (release-else v.start rs (λ k. []) r q k.0)
-      ∙ sym (last-is v.start rs (λ k. []) q)
+  last-else v gs rs q none = releases-else v.start rs (releases_of v gs) q (apart gs none)
+    where
+      apart : (hs : List ExclusiveGuard) → has q (pids_of hs) ≡ false → Each (λ (r : Release). q ≢ r.page) (releases_of v hs)
+      apart [] none = tt
+      apart (h ∷ hs) none = let k = lacks q h.pid (pids_of hs) none in (k.0, apart hs k.1)
 
   -- each page has the version that it was released at
   pub last-each : (v : View X) (gs : List ExclusiveGuard) (rs : List Release) → AreApart (pids_of gs)

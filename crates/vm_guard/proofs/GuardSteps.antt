@@ -1,50 +1,26 @@
 -- What the calls on a page that is locked already leave of the view: a word read, a word set, a share given up, a release.
-use Rattle.std.proofs.Common.{ℕ, ◌≡◌, ◌≢◌, ◌≤◌, ◌<◌, ◌+◌, ◌-◌, ◌*◌, ◌^◌, ◌++◌, Bool, true, false, List, [], ◌∷◌, length, Option, Some, refl, sym, ap, subst, ◌∙◌, arith, inl, inr, get_or-set_other, get_or-set_same, slice_index, slice_set, length-set, IsSome}
+use Rattle.std.proofs.Common.{[], ◌*◌, ◌++◌, ◌+◌, ◌-◌, ◌<◌, ◌^◌, ◌∙◌, ◌∷◌, ◌≡◌, ◌≢◌, ◌≤◌, ap, arith, Bool, false, get_or-set_other, get_or-set_same}
+use Rattle.std.proofs.Common.{inl, inr, IsSome, length, length-set, List, Option, refl, slice_index, slice_set, Some, subst, sym, true, ℕ}
 use Rattle.std.proofs.lemmas.Bool.{cond-false}
-use Rattle.vm_core.specs.declared.event.Mapping.{Mapping}
-use Rattle.vm_core.specs.History.{History, Version}
-use Rattle.vm_core.specs.Start.{no_seat}
-use Rattle.vm_core.specs.StateActs.{unshared}
-use Rattle.vm_core.specs.FrameActs.{trans_word}
-use Rattle.vm_core.proofs.Upd.{upd-same}
-use Rattle.vm_core.specs.Words.{state_of, version_of, MAX_VERSION}
-use Rattle.vm_owner.specs.declared.Entry.{Entry}
-use Rattle.vm_owner.specs.Kept.{Start, Change}
-use Rattle.vm_owner.specs.Numbers.{has, without}
-use Rattle.vm_rule.specs.declared.view.Did.{Did}
-use Rattle.vm_rule.specs.declared.view.Held.{Held}
-use Rattle.vm_rule.specs.declared.view.Origin.{Origin}
+use Rattle.vm_core.specs.Prelude.{MAX_VERSION, state_of, trans_word, Version, version_of}
+use Rattle.vm_rule.specs.Prelude.{Change, did_change, did_store, dirty_in, DirtyTold, draft_of, Drafts, Entry, has, HasShape, index_of, last_in}
+use Rattle.vm_rule.specs.Prelude.{last_of, Mapping, no_held, put_at, ReleaseTold, seat_of, StandsIn, Start, StoresTold, StoreTold, UnshareTold}
+use Rattle.vm_rule.specs.Prelude.{without}
+use Rattle.vm_rule.specs.{declared.view.Held.Held, declared.view.Place.Place}
 use Rattle.vm_rule.specs.declared.view.Place.TheVariants as places
-use Rattle.vm_rule.specs.declared.view.Release.{Release}
-use Rattle.vm_rule.specs.declared.view.Shape.{Shape}
-use Rattle.vm_rule.specs.declared.view.View.{View}
-use Rattle.vm_rule.specs.Puts.{put_at}
-use Rattle.vm_rule.specs.Views.{seat_of, draft_of}
-use Rattle.vm_rule.specs.Reading.{last_in, last_of}
-use Rattle.vm_rule.specs.Rule.{no_held}
-use Rattle.vm_rule.specs.Brought.{Brings, entries_of}
-use Rattle.vm_rule.specs.Log.{did_store, did_change}
-use Rattle.vm_rule.specs.Locks.{UnshareTold, unshared_view}
-use Rattle.vm_rule.specs.Mappings.{DirtyTold, StandsIn, dirty_in, dirty_view}
-use Rattle.vm_rule.specs.Releases.{ReleaseTold, released_view}
-use Rattle.vm_rule.specs.Stores.{Drafts, StoreTold, StoresTold, drafted_view}
-use Rattle.vm_rule.specs.Begun.{HasShape}
-use Rattle.vm_rule.proofs.Entries.{append-none}
-use Rattle.vm_rule.proofs.Worlds.{last-is, release-here}
-use Rattle.vm_step.specs.Conditions.{IsClaimed, IsNotOut, MayGiveUp}
-use Rattle.vm_step.specs.Asides.{HoldsPage}
-use Rattle.vm_step.proofs.Asides.{alone-self, alone-then}
-use Rattle.vm_guard.specs.Guards.{IsDirtied, IsHolding, IsReleased, IsSet, IsUnshared, dirty_steps}
-use Rattle.vm_step.specs.Plays.{IsOf}
-use Rattle.vm_step.specs.Alone.{IsAlone, RunsAlone}
+use Rattle.vm_step.specs.Prelude.{Did, HoldsPage, IsAlone, IsClaimed, IsFirst, IsNotOut, IsOf, KnowsAsBefore, MayGiveUp, Origin, Release, RunsAlone}
+use Rattle.vm_step.specs.Prelude.{Shape, View}
 use Rattle.vm_step.proofs.Alone.{still-alone}
-use Rattle.vm_rule.specs.declared.view.Place.{Place}
-use Rattle.vm_rule.specs.Layout.{index_of}
-use Rattle.vm_guard.specs.Sure.{IsUnlockedWord, known_word}
+use Rattle.vm_step.proofs.Asides.{alone-self, alone-then, holds-then, reads-then}
+use Rattle.vm_step.proofs.steps.Content.{store-draft, store-held, store-last, store-loads, store-others, store-own, store-seat}
+use Rattle.vm_step.proofs.steps.Leaving.{holds-still, LeavesOwn, own-then, releases-else}
+use Rattle.vm_step.proofs.steps.Mapping.{dirty-held, dirty-others, dirty-works}
+use Rattle.vm_step.proofs.steps.Release.{release-last, release-loads, release-others, release-own, release-seat}
+use Rattle.vm_step.proofs.steps.Share.{unshare-knows, unshare-loads, unshare-others, unshare-own, unshare-seat}
+use Rattle.vm_guard.specs.{Quiet.IsSteady, Sure.IsUnlockedWord, Sure.known_word, Takes.PassMayRelease}
+use Rattle.vm_guard.specs.Guards.{dirty_steps, IsDirtied, IsHolding, IsReleased, IsSet, IsUnshared}
+use Rattle.vm_guard.proofs.QuietSteps.{alone-of, elsewhere-of, elsewhere-then, quiet-elsewhere, quiet-none}
 use Rattle.vm_guard.proofs.Sure.{free-after, state-inside}
-use Rattle.vm_guard.specs.Quiet.{IsSteady}
-use Rattle.vm_guard.specs.Takes.{PassMayRelease}
-use Rattle.vm_guard.proofs.QuietSteps.{dirty-aside, elsewhere-then, holds-then, last-kept, loads-after, quiet-elsewhere, quiet-none, reads-then, release-elsewhere, release-last, seat-after, still-holds, still-reads, store-aside, unshare-aside}
 
 module _ {X : Type 0} where
   -- a view of the table is one after the call too
@@ -57,31 +33,25 @@ module _ {X : Type 0} where
 
   pub gives-up : (p found : ℕ) (v w : View X) → 1 ≤ (seat_of v p).shares → UnshareTold p found v w → IsUnshared p v w
   gives-up p found v w shares t =
-      let did : Did = did_change (places.State p) found (found - 2 ^ 56) in
-      let b : Brings did [] [] v (unshared_view p v) w = t.brings in
-      let aside = unshare-aside p found v w t in
+      let f = unshare-others t (λ q. q ≡ p) refl in
       record {
-        done = did ∷ [];
-        elsewhere = aside.elsewhere;
-        mine = aside.mine;
-        group = aside.group;
-        alone = aside.alone;
-        seat = seat-after did [] [] v (unshared_view p v) w b p ∙ upd-same (put_at no_seat v.seats) p (unshared (seat_of v p));
-        loads = loads-after did [] [] v (unshared_view p v) w b p;
-        knows = record {
-          held = ap (λ (x : View X). put_at no_held x.held p) b.view;
-          draft = ap (λ (x : View X). draft_of x p) b.view;
-          last = last-kept did [] v (unshared_view p v) w b refl p (inr shares);
-        };
+        done = did_change (places.State p) found (found - 2 ^ 56) ∷ [];
+        elsewhere = elsewhere-of f;
+        mine = (unshare-own t).mine;
+        group = (unshare-own t).group;
+        alone = alone-of f;
+        seat = unshare-seat t;
+        loads = unshare-loads t;
+        knows = unshare-knows t p (inr shares);
         table = λ a.
-            let steps = aside.elsewhere.steady.alone.words a.0 a.1 in
+            let steps = f.runs.words a.0 a.1 in
             steps.1 ∙ ap (λ (n : ℕ). slice_set v.snapshot.words p (n - 2 ^ 56)) steps.0;
         known = λ a.
-            let steps = aside.elsewhere.steady.alone.words a.0 a.1 in
+            let steps = f.runs.words a.0 a.1 in
             ap (λ (l : List ℕ). slice_index l p) steps.1
             ∙ get_or-set_same v.snapshot.words p (found - 2 ^ 56) 0 (state-inside p v.snapshot.words (subst (λ (n : ℕ). 1 ≤ state_of n) steps.0 t.shared))
             ∙ ap (λ (n : ℕ). n - 2 ^ 56) steps.0;
-        current = ap (λ (x : View X). x.current) b.view;
+        current = ap (λ (x : View X). x.current) t.brings.view;
       }
 
   -- ---- a word of the draft
@@ -91,6 +61,20 @@ module _ {X : Type 0} where
 
   pub stands-in : (p f version : ℕ) (dirty : Bool) (v : View X) → IsHolding p f version dirty v → StandsIn v p f
   stands-in p f version dirty v h = record { owns = h.owns; dirty = dirty; stands = h.stands }
+
+  -- a page that is held stays so, where what is known of it under its lock does
+  pub still-held : {p f version : ℕ} {dirty : Bool} {v w : View X} → IsHolding p f version dirty v → w.start ≡ v.start → (seat_of w p).exclusive ≡ (seat_of v p).exclusive → KnowsAsBefore v w p → w.pending ≡ v.pending → IsHolding p f version dirty w
+  still-held {p = p} {f = f} h start owns k pending = record {
+    page = subst (λ (o : Origin). p < o.pages) (sym start) h.page;
+    frame_is = subst (λ (o : Origin). f < o.frames) (sym start) h.frame_is;
+    below = h.below;
+    owns = owns ∙ h.owns;
+    stands = ap (λ (y : Held). y.mapping) k.held ∙ h.stands;
+    told = ap (λ (y : Held). y.fault) k.held ∙ h.told ∙ ap (λ (y : Held). y.block.count) (sym k.held);
+    at = ap (λ (y : Version). y.version) k.last ∙ h.at;
+    size = ap (λ (l : List ℕ). length l) k.draft ∙ h.size;
+    free = ap (has p) pending ∙ h.free;
+  }
 
   -- a page that is held is held dirty, where it was made so and as many words are its draft
   holding-on : (p f version : ℕ) (dirty : Bool) (v w : View X) → IsHolding p f version dirty v → w.start ≡ v.start → HoldsPage v w p → put_at no_held w.held p ≡ record (put_at no_held v.held p) { mapping = Some (dirty_in f) }
@@ -131,22 +115,20 @@ module _ {X : Type 0} where
   -- a clean one is made so
   pub dirties : (p f version : ℕ) (dirty : Bool) (v w : View X) → IsHolding p f version dirty v → dirty ≡ false → DirtyTold p f v w → IsDirtied p f dirty v w
   dirties p f version dirty v w h e t =
-      let did : Did = did_store (places.Translation p) (trans_word (Some (dirty_in f))) in
-      let b : Brings did [] [] v (dirty_view p f v) w = t.brings in
-      let aside = dirty-aside p f v w t in
+      let k = dirty-works t in
       record {
-        done = did ∷ [];
+        done = did_store (places.Translation p) (trans_word (Some (dirty_in f))) ∷ [];
         steps = sym (ap (dirty_steps p f) e);
-        elsewhere = aside.elsewhere;
-        mine = aside.mine;
-        group = aside.group;
-        alone = aside.alone;
-        holds = still-holds did v (dirty_view p f v) w b refl p;
-        reads = still-reads did v (dirty_view p f v) w b refl refl p;
-        held = ap (λ (y : View X). put_at no_held y.held p) b.view ∙ upd-same (put_at no_held v.held) p (record (put_at no_held v.held p) { mapping = Some (dirty_in f) });
-        last = last-kept did [] v (dirty_view p f v) w b refl p (inl h.owns);
-        draft = ap (λ (y : View X). draft_of y p) b.view;
-        states = λ a q l. stored-else (places.Translation p) (trans_word (Some (dirty_in f))) q v w aside.elsewhere.steady.alone a (λ (e : q ≡ v.start.pages + p). omega (arith, l, e));
+        elsewhere = elsewhere-of (dirty-others t (λ q. q ≡ p) refl);
+        mine = k.leaves.mine;
+        group = k.leaves.group;
+        alone = alone-of (dirty-others t (λ q. q ≡ p) refl);
+        holds = holds-still p k.seat;
+        reads = record { reading = ap (λ s. s.reading) k.seat; loads = k.loads };
+        held = dirty-held t;
+        last = k.last (inl h.owns);
+        draft = k.draft;
+        states = λ a q l. stored-else (places.Translation p) (trans_word (Some (dirty_in f))) q v w k.alone a (λ (e : q ≡ v.start.pages + p). omega (arith, l, e));
       }
 
   pub holds-dirty : (p f version : ℕ) (dirty : Bool) (v w : View X) → IsHolding p f version dirty v → IsDirtied p f dirty v w → IsHolding p f version true w
@@ -158,26 +140,23 @@ module _ {X : Type 0} where
       let h : IsHolding p f version true u = holds-dirty p f version dirty v u before d in
       let t : StoreTold p f i x u w = stores.page p (drafts-of p f version u h) in
       let did : Did = did_store (places.Content f i) x in
-      let b : Brings did [] [] u (drafted_view p i x u) w = t.brings in
-      let aside = store-aside p f i x u w t in
+      let k = store-others t (λ q. q ≡ p) refl in
+      let own : LeavesOwn v w = own-then (record { mine = d.mine; group = d.group }) (store-own t) in
       record {
         done = d.done ++ did ∷ [];
         steps = ap (λ (l : List Did). l ++ did ∷ []) d.steps;
-        elsewhere = elsewhere-then p d.done (did ∷ []) v u w d.elsewhere aside.elsewhere;
-        mine = aside.mine ∙ d.mine;
-        group = (aside.group.0 ∙ d.group.0, aside.group.1 ∙ d.group.1, aside.group.2 ∙ d.group.2);
-        alone = alone-then v u w d.elsewhere.steady.parts d.alone aside.alone;
-        holds = holds-then v u w p d.holds (still-holds did u (drafted_view p i x u) w b refl p);
-        reads = reads-then v u w p d.reads (still-reads did u (drafted_view p i x u) w b refl refl p);
-        held = ap (λ (y : View X). put_at no_held y.held p) b.view ∙ d.held;
-        last = last-kept did [] u (drafted_view p i x u) w b refl p (inl h.owns) ∙ d.last;
-        draft =
-            ap (λ (y : View X). draft_of y p) b.view
-            ∙ upd-same (put_at [] u.drafts) p (slice_set (draft_of u p) i x)
-            ∙ ap (λ (l : List ℕ). slice_set l i x) d.draft;
+        elsewhere = elsewhere-then p d.done (did ∷ []) v u w d.elsewhere (elsewhere-of k);
+        mine = own.mine;
+        group = own.group;
+        alone = alone-then v u w d.elsewhere.steady.parts d.alone (alone-of k);
+        holds = holds-then v u w p d.holds (holds-still p (store-seat t p));
+        reads = reads-then v u w p d.reads (record { reading = ap (λ s. s.reading) (store-seat t p); loads = store-loads t p });
+        held = store-held t p ∙ d.held;
+        last = store-last t p (inl h.owns) ∙ d.last;
+        draft = store-draft t ∙ ap (λ (l : List ℕ). slice_set l i x) d.draft;
         states = λ a q l.
             let below : q < u.start.pages = subst (λ (o : Origin). q < o.pages) (sym d.elsewhere.steady.start) l in
-            stored-else (places.Content f i) x q u w aside.elsewhere.steady.alone (still-alone v u d.elsewhere.steady.parts d.alone.current a) (λ (e : q ≡ 3 * u.start.pages + (64 * f + i)). omega (arith, below, e))
+            stored-else (places.Content f i) x q u w k.runs (still-alone v u d.elsewhere.steady.parts d.alone.current a) (λ (e : q ≡ 3 * u.start.pages + (64 * f + i)). omega (arith, below, e))
             ∙ d.states a q l;
       }
 
@@ -187,6 +166,11 @@ module _ {X : Type 0} where
 
   -- ---- a release
 
+  -- a page that is held may be the first of a group of its own
+  pub alone-first : {may_release : Start → List ℕ → List Change → List (Entry X) → Type 0} {p f version : ℕ} {dirty : Bool} {said : Option X} {v : View X} → IsHolding p f version dirty v → (v.start.tells ≡ true → IsClaimed v p) → PassMayRelease may_release p said v
+      → IsFirst may_release p [] said v
+  alone-first h claimed owner = record { members = (record { page = h.page; owns = h.owns; free = h.free; claimed = claimed }, tt); apart = (refl, tt); few = omega arith; owner = owner }
+
   pub may-give_up : (may_release : Start → List ℕ → List Change → List (Entry X) → Type 0) (p f version : ℕ) (dirty : Bool) (said : Option X) (v : View X) → IsHolding p f version dirty v
       → IsNotOut v p → (v.start.tells ≡ true → IsClaimed v p) → PassMayRelease may_release p said v → MayGiveUp may_release p version [] said v
   may-give_up may_release p f version dirty said v h home claimed owner = record {
@@ -195,42 +179,36 @@ module _ {X : Type 0} where
     told = h.told;
     home = home;
     at = sym h.at;
-    group = inl record { members = (record { page = h.page; owns = h.owns; free = h.free; claimed = claimed }, tt); apart = (refl, tt); few = omega arith; owner = owner };
+    group = inl (alone-first h claimed owner);
   }
 
   pub releases : (p f version : ℕ) (dirty : Bool) (said : Option X) (v w : View X) → IsHolding p f version dirty v → ReleaseTold p version [] said v w → IsReleased p version said v w
   releases p f version dirty said v w h t =
-      let did : Did = did_store (places.State p) (version + 1) in
-      let r : Release = record { page = p; version = version + 1; words = draft_of v p } in
-      let inner : View X = released_view p [] said v in
-      let b : Brings did (r ∷ []) (entries_of v said) v inner w = t.brings in
+      let e = release-others t (λ q. q ≡ p) refl in
+      let view = t.brings.view in
       record {
-        done = did ∷ [];
-        elsewhere = release-elsewhere p version [] said v w t;
-        mine = ap (λ (y : View X). y.mine) b.view;
-        entry = (b.others, ap (λ (y : View X). y.seen) b.view);
+        done = did_store (places.State p) (version + 1) ∷ [];
+        elsewhere = elsewhere-of e;
+        mine = ap (λ (y : View X). y.mine) view;
+        entry = (t.brings.others, ap (λ (y : View X). y.seen) view);
         group = (
-          ap (λ (y : View X). y.pending) b.view ∙ cond-false (has p v.pending) (without p v.pending) v.pending h.free,
-          ap (λ (y : View X). y.owed) b.view,
-          ap (λ (y : View X). y.next) b.view,
+          ap (λ (y : View X). y.pending) view ∙ cond-false (has p v.pending) (without p v.pending) v.pending h.free,
+          ap (λ (y : View X). y.owed) view,
+          ap (λ (y : View X). y.next) view,
         );
-        seat = seat-after did (r ∷ []) (entries_of v said) v inner w b p ∙ upd-same (put_at no_seat v.seats) p (record (seat_of v p) { exclusive = false });
-        loads = loads-after did (r ∷ []) (entries_of v said) v inner w b p;
-        last =
-            ap (λ (y : View X). last_in y.start y.releases p) b.view
-            ∙ last-is v.start ((v.releases ++ b.between) ++ r ∷ []) (λ k. []) p
-            ∙ ap (λ (y : History). y.last) (release-here v.start (v.releases ++ b.between) (λ k. []) r);
-        alone = λ all e q ne.
-            ap (λ (y : View X). (last_in y.start y.releases q).words) b.view
-            ∙ ap (λ (rs : List Release). (last_in v.start ((v.releases ++ rs) ++ r ∷ []) q).words) (b.alone all e).0
-            ∙ ap (λ (x : Version). x.words) (release-last v (v.releases ++ []) r q ne)
-            ∙ ap (λ (rs : List Release). (last_in v.start rs q).words) (append-none v.releases);
-        wrote = record { earlier = []; step = did; later = []; cut = refl; place = refl; wrote = refl };
+        seat = release-seat t;
+        loads = release-loads t p;
+        last = release-last t;
+        alone = λ all k q ne.
+            ap (λ (o : Origin). (last_in o w.releases q).words) e.start
+            ∙ ap (λ (rs : List Release). (last_in v.start rs q).words) (e.runs.releases all k)
+            ∙ ap (λ (x : Version). x.words) (releases-else v.start v.releases (release-own t ∷ []) q (ne, tt));
+        wrote = record { earlier = []; step = did_store (places.State p) (version + 1); later = []; cut = refl; place = refl; wrote = refl };
         places_are = (refl, tt);
-        table = λ a. ((release-elsewhere p version [] said v w t).steady.alone.words a.0 a.1).1;
+        table = λ a. (e.runs.words a.0 a.1).1;
         free = λ a.
             let below : version < MAX_VERSION = h.below in
-            subst (λ (l : List ℕ). IsUnlockedWord (slice_index l p) × (version_of (slice_index l p) ≤ version + 1)) (sym ((release-elsewhere p version [] said v w t).steady.alone.words a.0 a.1).1)
+            subst (λ (l : List ℕ). IsUnlockedWord (slice_index l p) × (version_of (slice_index l p) ≤ version + 1)) (sym (e.runs.words a.0 a.1).1)
             (free-after p (version + 1) v.snapshot.words (omega (arith, below)));
-        current = ap (λ (y : View X). y.current) b.view;
+        current = ap (λ (y : View X). y.current) view;
       }

@@ -1,16 +1,12 @@
 -- A pass that locks a page exclusively which it was reading optimistically has left that read behind.
-use Rattle.std.proofs.Common.{ℕ, ◌≡◌, ◌<◌, ◌≤◌, ◌++◌, Bool, List, ◌∷◌, Option, Some, None, sym, ap, subst, ◌∙◌, arith, ⊎_elim, inl, inr, append_assoc}
+use Rattle.std.proofs.Common.{⊎_elim, ◌++◌, ◌<◌, ◌∙◌, ◌∷◌, ◌≡◌, ◌≤◌, ap, append_assoc, arith, Bool, inl, inr, List, None, Option, Some, subst, sym, ℕ}
 use Rattle.std.proofs.lemmas.Bool.{cases_eq}
-use Rattle.vm_core.specs.declared.event.Open.{Open}
-use Rattle.vm_core.specs.Words.{version_of, word_of, LOCKED, MAX_VERSION}
-use Rattle.vm_owner.specs.Kept.{Start}
-use Rattle.vm_rule.specs.declared.view.Did.{Did}
-use Rattle.vm_rule.specs.declared.view.Release.{Release}
-use Rattle.vm_rule.specs.declared.view.View.{View}
-use Rattle.vm_rule.specs.Looks.{IsOlder}
+use Rattle.vm_core.specs.Prelude.{LOCKED, MAX_VERSION, version_of, word_of}
+use Rattle.vm_rule.specs.Prelude.{IsOlder, Open, Start}
 use Rattle.vm_rule.proofs.WordFacts.{word-state, word-version}
-use Rattle.vm_guard.specs.Quiet.{IsSteady}
+use Rattle.vm_step.specs.Prelude.{Did, Release, View}
 use Rattle.vm_guard.specs.Guards.{HasLeft, IsLocked, IsReading}
+use Rattle.vm_guard.specs.Quiet.{IsSteady}
 
 -- an open read is of no later version than the word found
 pub older-read : (found : ℕ) (o : Option Open) → IsOlder found o → (x : Open) → o ≡ Some x → x.version ≤ version_of found

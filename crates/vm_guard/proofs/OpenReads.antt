@@ -1,32 +1,18 @@
 -- What looks and loads leave of the open read of their page, and when a look leaves it in place.
-use Rattle.std.proofs.Common.{ℕ, ◌≡◌, ◌≢◌, ◌⊎◌, ◌<◌, ◌&&◌, ◌||◌, if◌then◌else◌, Bool, true, false, true≢false, nat_lt, is_some, Option, Some, None, List, [], ◌∷◌, ◌++◌, refl, sym, ap, subst, ◌∙◌, ⊎_elim, inl, inr, eqb, arith}
-use Rattle.std.proofs.lemmas.Bool.{cases_Bool, cases_eq, eq-eqb, ne_eqb, cond-true, cond-false}
+use Rattle.std.proofs.Common.{[], ⊎_elim, ◌&&◌, ◌++◌, ◌<◌, ◌||◌, ◌∙◌, ◌∷◌, ◌≡◌, ◌≢◌, ◌⊎◌, ap, arith, Bool, eqb, false, if◌then◌else◌, inl, inr}
+use Rattle.std.proofs.Common.{is_some, List, nat_lt, None, Option, refl, Some, subst, sym, true, true≢false, ℕ}
+use Rattle.std.proofs.lemmas.Bool.{cases_Bool, cases_eq, cond-false, cond-true, eq-eqb, ne_eqb}
 use Rattle.std.proofs.lemmas.Bool.Decides.{nat_tests}
-use Rattle.vm_core.specs.declared.event.Mapping.{Mapping}
-use Rattle.vm_core.specs.declared.event.Open.{Open}
+use Rattle.vm_core.specs.Prelude.{EVICTED, frame_in, frame_of, framed, is_dirty, is_readable, left_open, loads_more, LOCKED, mapping_at, mapping_of}
+use Rattle.vm_core.specs.Prelude.{open_after, open_frame, state_of, version_of}
 use Rattle.vm_core.specs.declared.event.ReadIs.TheVariants as read
-use Rattle.vm_core.specs.declared.event.Seat.{Seat}
-use Rattle.vm_core.specs.Words.{state_of, version_of, frame_in, is_dirty, LOCKED, EVICTED}
-use Rattle.vm_core.specs.StateActs.{is_readable, left_open, open_after}
-use Rattle.vm_core.specs.FrameActs.{mapping_of, mapping_at, frame_of, frame_or, open_frame, framed}
-use Rattle.vm_core.specs.History.{kept_loads, loads_more}
-use Rattle.vm_core.specs.Start.{no_seat}
-use Rattle.vm_core.proofs.PageFacts.{some-same, none-some}
-use Rattle.vm_core.proofs.Upd.{upd-same}
-use Rattle.vm_owner.specs.Kept.{Start}
-use Rattle.vm_rule.specs.declared.view.Place.TheVariants as places
-use Rattle.vm_rule.specs.declared.view.Translation.{Translation}
-use Rattle.vm_rule.specs.declared.view.View.{View}
-use Rattle.vm_rule.specs.Puts.{put_at}
-use Rattle.vm_rule.specs.Views.{Each, IsLocking, seat_of, loads_at}
-use Rattle.vm_rule.specs.Reading.{last_of}
-use Rattle.vm_rule.specs.Rule.{no_held}
-use Rattle.vm_rule.specs.Brought.{entries_of}
-use Rattle.vm_rule.specs.Log.{did_load}
-use Rattle.vm_rule.specs.Looks.{LookTold, NamesFrame, left_at, where_same, looked_view}
-use Rattle.vm_rule.specs.Loads.{TranslationTold, LoadTold, translation_of, tloaded_view, loaded_view, frame_read_by}
-use Rattle.vm_step.specs.Asides.{HoldsPage}
-use Rattle.vm_guard.proofs.QuietSteps.{seat-after, loads-after}
+use Rattle.vm_core.specs.FrameActs.{frame_or}
+use Rattle.vm_core.proofs.PageFacts.{none-some, some-same}
+use Rattle.vm_rule.specs.Prelude.{Each, frame_read_by, IsLocking, left_at, loads_at, LoadTold, LookTold, Mapping, no_held, Open, put_at, Seat}
+use Rattle.vm_rule.specs.Prelude.{seat_of, Start, translation_of, TranslationTold}
+use Rattle.vm_rule.specs.Looks.{NamesFrame}
+use Rattle.vm_step.specs.Prelude.{HoldsPage, Translation, View}
+use Rattle.vm_step.proofs.{steps.Content.load-loads, steps.Look.look-seat, steps.Translate.tload-seat}
 
 -- ---- open reads alone
 
@@ -126,17 +112,8 @@ module _ {X : Type 0} where
 
   module _ (tied : Start → ℕ → List ℕ → ℕ → List ℕ → Type 0) (p : ℕ) where
     -- the open read after a look
-    pub looked-reading : (said : Option X) (found : ℕ) (v w : View X) → LookTold tied p said found v w
-        → (seat_of w p).reading ≡ open_after (left_at found (seat_of v p).reading) (seat_of v p).reading (version_of found)
-    looked-reading said found v w t =
-        let s : Seat = record (seat_of v p) { reading = open_after (left_at found (seat_of v p).reading) (seat_of v p).reading (version_of found) } in
-        ap (λ (s : Seat). s.reading) (seat-after (did_load (places.State p) found) [] (where_same (left_at found (seat_of v p).reading) (entries_of v said) []) v (looked_view p said found (last_of w p).words v) w t.brings p
-        ∙ upd-same (put_at no_seat v.seats) p s)
-
-    pub looked-loads : (said : Option X) (found : ℕ) (v w : View X) → LookTold tied p said found v w → loads_at w p ≡ kept_loads (left_at found (seat_of v p).reading) (loads_at v p)
-    looked-loads said found v w t =
-        loads-after (did_load (places.State p) found) [] (where_same (left_at found (seat_of v p).reading) (entries_of v said) []) v (looked_view p said found (last_of w p).words v) w t.brings p
-        ∙ upd-same (put_at [] v.loads) p (kept_loads (left_at found (seat_of v p).reading) (loads_at v p))
+    looked-reading : (said : Option X) (found : ℕ) (v w : View X) → LookTold tied p said found v w → (seat_of w p).reading ≡ open_after (left_at found (seat_of v p).reading) (seat_of v p).reading (version_of found)
+    looked-reading said found v w t = ap (λ (s : Seat). s.reading) (look-seat t)
 
     -- a look at a readable page leaves an open read at its version
     pub looked-open : (said : Option X) (found : ℕ) (v w : View X) → LookTold tied p said found v w → is_readable (state_of found) ≡ true
@@ -155,24 +132,18 @@ module _ {X : Type 0} where
     pub looked-same : (said : Option X) (found : ℕ) (v w : View X) → LookTold tied p said found v w → left_at found (seat_of v p).reading ≡ read.Same → (seat_of w p).reading ≡ (seat_of v p).reading
     looked-same said found v w t same = looked-reading said found v w t ∙ ap (λ l. open_after l (seat_of v p).reading (version_of found)) same
 
-  pub loaded-reading : (p f i found : ℕ) (v w : View X) → LoadTold p f i found v w → (seat_of w p).reading ≡ (seat_of v p).reading
-  loaded-reading p f i found v w t = ap (λ (s : Seat). s.reading) (seat-after (did_load (places.Content f i) found) [] [] v (loaded_view p i found v) w t.brings p)
-
   -- a word that is loaded through an open read with a frame is the last of its loads
   pub loaded-loads : (p f i found g : ℕ) (v w : View X) → LoadTold p f i found v w → open_frame (seat_of v p).reading ≡ Some g → loads_at w p ≡ loads_at v p ++ (i, found) ∷ []
   loaded-loads p f i found g v w t frame =
-      loads-after (did_load (places.Content f i) found) [] [] v (loaded_view p i found v) w t.brings p
-      ∙ upd-same (put_at [] v.loads) p (loads_more (open_frame (seat_of v p).reading) (loads_at v p) i found)
-      ∙ ap (λ o. loads_more o (loads_at v p) i found) frame
+      load-loads t ∙ ap (λ o. loads_more o (loads_at v p) i found) frame
 
   -- the open read after its page's translation word was loaded, and the frame that a later look at the same version ties it to
   pub translated-reading : (p word : ℕ) (v w : View X) (o : Open) → TranslationTold p word v w → (seat_of v p).reading ≡ Some o
       → (y : Open) × ((seat_of w p).reading ≡ Some y) × (y.version ≡ o.version) × ((k : Mapping) → mapping_of word ≡ Some k → y.frame ≡ frame_or o.frame k.frame)
   translated-reading p word v w o t e =
-      let s : Seat = record (seat_of v p) { reading = framed (seat_of v p).reading (mapping_of word) } in
       let k = framed-at o (mapping_of word) in (
         k.0,
-        ap (λ (s : Seat). s.reading) (seat-after (did_load (places.Translation p) word) [] [] v (tloaded_view p word v) w t.brings p ∙ upd-same (put_at no_seat v.seats) p s)
+        ap (λ (s : Seat). s.reading) (tload-seat t)
             ∙ ap (λ r. framed r (mapping_of word)) e
             ∙ k.1,
         k.2,
@@ -182,18 +153,13 @@ module _ {X : Type 0} where
   -- a frame that the open read had stays
   pub translated-keeps : (p word : ℕ) (v w : View X) (version frame : ℕ) → TranslationTold p word v w → (seat_of v p).reading ≡ Some (record { version = version; frame = Some frame }) → (seat_of w p).reading ≡ Some (record { version = version; frame = Some frame })
   translated-keeps p word v w version frame t e =
-      let s : Seat = record (seat_of v p) { reading = framed (seat_of v p).reading (mapping_of word) } in
-      ap (λ (s : Seat). s.reading) (seat-after (did_load (places.Translation p) word) [] [] v (tloaded_view p word v) w t.brings p ∙ upd-same (put_at no_seat v.seats) p s)
+      ap (λ (s : Seat). s.reading) (tload-seat t)
       ∙ ap (λ r. framed r (mapping_of word)) e
       ∙ keeps (mapping_of word)
     where
       keeps : (m : Option Mapping) → framed (Some (record { version = version; frame = Some frame })) m ≡ Some (record { version = version; frame = Some frame })
       keeps None = refl
       keeps (Some k) = refl
-
-  -- and so do its loads
-  pub translated-loads : (p word : ℕ) (v w : View X) → TranslationTold p word v w → loads_at w p ≡ loads_at v p
-  translated-loads p word v w t = loads-after (did_load (places.Translation p) word) [] [] v (tloaded_view p word v) w t.brings p
 
   pub translated-list : (p word : ℕ) (v w : View X) (o : Open) → TranslationTold p word v w → (seat_of v p).reading ≡ Some o → w.translations ≡ record { page = p; version = o.version; word = word } ∷ v.translations
   translated-list p word v w o t e =

@@ -1,27 +1,17 @@
 -- A caller of fresh pages and groups: which guards it got, that it may release them, and what the pages have then.
-use Rattle.std.proofs.Common.{ℕ, ◌≡◌, ◌≢◌, ◌+◌, ◌<◌, true, false, Bool, None, List, [], ◌∷◌, ◌++◌, refl, sym, ap, subst, ◌∙◌, arith, inl, inr, ◌||◌, suc, length, replicate, slice_set}
+use Rattle.std.proofs.Common.{[], ◌++◌, ◌+◌, ◌||◌, ◌∙◌, ◌∷◌, ◌≡◌, ◌≢◌, ap, arith, Bool, false, inl, inr, length, List, None, refl, replicate}
+use Rattle.std.proofs.Common.{slice_set, subst, suc, sym, true, ℕ}
 use Rattle.std.proofs.lemmas.Bool.{ne_eqb}
 use Rattle.std.proofs.lemmas.List.{length-append}
 use Rattle.std.proofs.lemmas.Option.{none-some}
-use Rattle.vm_core.specs.History.{Version}
-use Rattle.vm_owner.specs.declared.Entry.{Entry}
-use Rattle.vm_owner.specs.Kept.{Start, Change}
-use Rattle.vm_owner.specs.Numbers.{has}
-use Rattle.vm_rule.specs.declared.view.Held.{Held}
-use Rattle.vm_rule.specs.declared.view.Origin.{Origin}
-use Rattle.vm_rule.specs.declared.view.View.{View}
-use Rattle.vm_rule.specs.Views.{draft_of, numbers}
-use Rattle.vm_rule.specs.Rule.{began_of}
-use Rattle.vm_rule.specs.Releases.{changes_of}
+use Rattle.vm_core.specs.Prelude.{Version}
+use Rattle.vm_rule.specs.Prelude.{began_of, Change, changes_of, draft_of, Entry, has, numbers, Start}
 use Rattle.vm_rule.proofs.Facts.{has-both}
-use Rattle.vm_step.specs.Alone.{IsAlone}
-use Rattle.vm_step.proofs.Alone.{still-alone}
-use Rattle.vm_step.proofs.Numbers.{numbers-has}
-use Rattle.vm_guard.specs.declared.exclusive.ExclusiveGuard.{ExclusiveGuard}
-use Rattle.vm_guard.specs.Fresh.{AreFresh}
+use Rattle.vm_step.specs.Prelude.{IsAlone, View}
+use Rattle.vm_step.proofs.{Alone.still-alone, Numbers.numbers-has}
+use Rattle.vm_guard.specs.{declared.exclusive.ExclusiveGuard.ExclusiveGuard, Fresh.AreFresh, Guards.IsHolding, Guards.IsSet, Pairs.HasFirst}
 use Rattle.vm_guard.specs.Groups.{AreReleased, MayReleaseAll, pids_of}
-use Rattle.vm_guard.specs.Guards.{IsHolding, IsSet}
-use Rattle.vm_guard.specs.Pairs.{HasFirst}
+use Rattle.vm_guard.proofs.GuardSteps.{still-held}
 
 pids-many : (gs : List ExclusiveGuard) → length (pids_of gs) ≡ length gs
 pids-many [] = refl
@@ -43,6 +33,12 @@ taken-both x gs gs1 (g ∷ rest) a b e e1 p =
     let two : length gs1 ≡ length (g ∷ rest) + 1 = ap length e1 ∙ length-append (g ∷ rest) (a ∷ []) in
     omega (arith, long, one, two))
 
+-- so they are the two fresh ones
+pub fresh-both : {X : Type 0} (x : ℕ) (gs2 : List ExclusiveGuard) {gs gs1 : List ExclusiveGuard} {a b : ExclusiveGuard} {before after : List ℕ} {v w : View X} → gs ≡ gs1 ++ b ∷ [] → gs1 ≡ gs2 ++ a ∷ [] → AreFresh (numbers x 2) x 2 gs before after v w
+    → AreFresh (numbers x 2) x 2 (a ∷ b ∷ []) before after v w
+fresh-both x gs2 {gs = gs} {gs1 = gs1} {a = a} {b = b} {before = before} {after = after} {v = v} {w = w} e e1 f =
+    subst (λ (l : List ExclusiveGuard). AreFresh (numbers x 2) x 2 l before after v w) (taken-both x gs gs1 gs2 a b e e1 f.guards).1 f
+
 -- and have these pages
 pub pids-both : (x : ℕ) (a b : ExclusiveGuard) → pids_of (a ∷ b ∷ []) ≡ numbers x 2 → (a.pid ≡ x) × (b.pid ≡ x + 1)
 unfolding numbers
@@ -54,19 +50,7 @@ apart-of x a b e same = absurd (let p = (pids-both x a b e).0 in let q = (pids-b
 module _ {X : Type 0} where
   -- a page that is held stays so while a word of another one is set
   pub holding-beside : (p frame version : ℕ) (dirty : Bool) (q f2 : ℕ) (d2 : Bool) (i x : ℕ) (v w : View X) → IsHolding p frame version dirty v → p ≢ q → IsSet q f2 d2 i x v w → IsHolding p frame version dirty w
-  holding-beside p frame version dirty q f2 d2 i x v w h ne s =
-      let k = s.elsewhere.knows p ne (inl h.owns) in
-      record {
-        page = subst (λ (o : Origin). p < o.pages) (sym s.elsewhere.steady.start) h.page;
-        frame_is = subst (λ (o : Origin). frame < o.frames) (sym s.elsewhere.steady.start) h.frame_is;
-        below = h.below;
-        owns = (s.elsewhere.holds p ne).exclusive ∙ h.owns;
-        stands = ap (λ (y : Held). y.mapping) k.held ∙ h.stands;
-        told = ap (λ (y : Held). y.fault) k.held ∙ h.told ∙ ap (λ (y : Held). y.block.count) (sym k.held);
-        at = ap (λ (y : Version). y.version) k.last ∙ h.at;
-        size = ap length k.draft ∙ h.size;
-        free = ap (has p) s.group.0 ∙ h.free;
-      }
+  holding-beside p frame version dirty q f2 d2 i x v w h ne s = still-held h s.elsewhere.steady.start (s.elsewhere.holds p ne).exclusive (s.elsewhere.knows p ne (inl h.owns)) s.group.0
 
   module _ (x a b : ℕ) (g1 g2 : ExclusiveGuard) (before after : List ℕ) (v w1 w2 w3 : View X) (f : AreFresh (numbers x 2) x 2 (g1 ∷ g2 ∷ []) before after v w1) (s1 : IsSet g1.pid g1.frame g1.dirty 0 a w1 w2) (s2 : IsSet g2.pid g2.frame g2.dirty 0 b w2 w3) where
     pids : (g1.pid ≡ x) × (g2.pid ≡ x + 1)

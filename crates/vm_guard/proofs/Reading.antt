@@ -1,24 +1,17 @@
 -- An open read stays as it is over steps that leave its page, and over loads of its words.
-use Rattle.std.proofs.Common.{ℕ, ◌≡◌, ◌≢◌, ◌<◌, ◌+◌, None, List, [], ◌∷◌, ◌++◌, length, take, suc, refl, sym, ap, subst, ◌∙◌, append_assoc, slice_set, arith}
-use Rattle.std.proofs.lemmas.List.{take_more_set, length-take-le}
-use Rattle.vm_core.specs.FrameActs.{open_frame}
-use Rattle.vm_rule.specs.declared.view.Did.{Did}
+use Rattle.std.proofs.Common.{[], ◌++◌, ◌+◌, ◌<◌, ◌∙◌, ◌∷◌, ◌≡◌, ◌≢◌, ap, append_assoc, arith, length, List, None, refl, slice_set, subst, suc, sym}
+use Rattle.std.proofs.Common.{take, ℕ}
+use Rattle.std.proofs.lemmas.List.{length-take-le, take_more_set}
+use Rattle.vm_core.specs.Prelude.{open_frame}
+use Rattle.vm_rule.specs.Prelude.{did_load, IsLocking, loads_at, LoadTold, no_held, put_at, seat_of}
 use Rattle.vm_rule.specs.declared.view.Place.TheVariants as places
-use Rattle.vm_rule.specs.declared.view.Release.{Release}
-use Rattle.vm_rule.specs.declared.view.View.{View}
-use Rattle.vm_rule.specs.Puts.{put_at}
-use Rattle.vm_rule.specs.Views.{IsLocking, seat_of, loads_at}
-use Rattle.vm_rule.specs.Rule.{no_held}
-use Rattle.vm_rule.specs.Log.{did_load}
-use Rattle.vm_rule.specs.Loads.{LoadTold}
-use Rattle.vm_rule.proofs.Entries.{append-none}
-use Rattle.vm_rule.proofs.Heard.{each-both}
-use Rattle.vm_step.specs.Asides.{HoldsPage}
-use Rattle.vm_step.proofs.Alone.{still-alone}
+use Rattle.vm_rule.proofs.{Entries.append-none, Heard.each-both}
+use Rattle.vm_step.specs.Prelude.{Did, HoldsPage, Release, View}
+use Rattle.vm_step.proofs.{Alone.still-alone, steps.Content.load-seat}
+use Rattle.vm_guard.specs.Guards.{IsElsewhere, IsReading, Loads, placed}
 use Rattle.vm_guard.specs.Quiet.{IsQuiet}
-use Rattle.vm_guard.specs.Guards.{IsReading, Loads, IsElsewhere, placed}
-use Rattle.vm_guard.proofs.QuietSteps.{load-quiet, quiet-then, quiet-none}
-use Rattle.vm_guard.proofs.OpenReads.{still-read, loaded-reading, loaded-loads}
+use Rattle.vm_guard.proofs.OpenReads.{loaded-loads, still-read}
+use Rattle.vm_guard.proofs.QuietSteps.{load-quiet, quiet-none, quiet-then}
 
 -- ---- words with their places
 
@@ -57,7 +50,7 @@ module _ {X : Type 0} (p word frame : ℕ) where
       record {
         done = did_load (places.Content frame i) found ∷ [];
         quiet = quiet;
-        reads = reading-kept v w r quiet.steady.start (quiet.holds p) (λ l. (quiet.knows p l).held) (loaded-reading p frame i found v w t);
+        reads = reading-kept v w r quiet.steady.start (quiet.holds p) (λ l. (quiet.knows p l).held) (ap (λ s. s.reading) (load-seat t p));
         loads = loaded-loads p frame i found frame v w t (ap open_frame r.reading);
         table = λ a. (quiet.steady.alone.words a.0 a.1).1;
         leaves = (refl, tt);

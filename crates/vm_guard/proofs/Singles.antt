@@ -1,20 +1,12 @@
 -- A word that was loaded through a guard's open read, and then validated, is the word of the page's last version.
-use Rattle.std.proofs.Common.{ℕ, ◌≡◌, true, true≢false, None, List, [], ◌∷◌, ◌++◌, refl, sym, ap, subst, ◌∙◌, slice_index}
-use Rattle.vm_core.specs.Inv.{LoadsAre}
-use Rattle.vm_owner.specs.Kept.{Start}
-use Rattle.vm_rule.specs.declared.view.Did.{Did}
-use Rattle.vm_rule.specs.declared.view.View.{View}
-use Rattle.vm_rule.specs.Views.{loads_at}
-use Rattle.vm_rule.specs.Reading.{last_of}
-use Rattle.vm_step.specs.Asides.{StaysAlone}
-use Rattle.vm_step.proofs.Asides.{alone-then}
-use Rattle.vm_guard.specs.Quiet.{IsQuiet}
-use Rattle.vm_guard.specs.Guards.{BeginsReading, Loads, IsValid}
-use Rattle.vm_guard.specs.Sure.{IsKnownAt, known_word}
+use Rattle.std.proofs.Common.{[], ◌++◌, ◌∙◌, ◌∷◌, ◌≡◌, ap, List, None, refl, slice_index, subst, sym, true, true≢false, ℕ}
+use Rattle.vm_core.specs.Prelude.{LoadsAre, state_of, version_of}
+use Rattle.vm_rule.specs.Prelude.{last_of, loads_at, Start}
+use Rattle.vm_step.specs.Prelude.{Did, IsAlone, StaysAlone, View}
+use Rattle.vm_step.proofs.{Alone.still-alone, Asides.alone-then}
+use Rattle.vm_guard.specs.{Quiet.IsQuiet, Sure.IsKnownAt, Sure.known_word}
+use Rattle.vm_guard.specs.Guards.{BeginsReading, IsValid, Loads}
 use Rattle.vm_guard.proofs.OpenReads.{locked-unreadable}
-use Rattle.vm_step.specs.Alone.{IsAlone}
-use Rattle.vm_step.proofs.Alone.{still-alone}
-use Rattle.vm_core.specs.Words.{state_of, version_of}
 
 loads-last : (words : List ℕ) (l : List (ℕ × ℕ)) (i x : ℕ) → LoadsAre words (l ++ (i, x) ∷ []) → slice_index words i ≡ x
 loads-last words [] i x h = h.0

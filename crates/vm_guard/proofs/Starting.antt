@@ -1,35 +1,26 @@
 -- The start of an optimistic guard: what its looks, the mark that it takes away and its load of the translation word prove of each answer.
-use Rattle.std.proofs.Common.{ℕ, ◌≡◌, ◌≢◌, ◌⊎◌, ◌<◌, ◌≤◌, true, Some, None, List, [], ◌∷◌, ◌++◌, append_assoc, refl, sym, ap, subst, ◌∙◌, ⊎_elim, arith, inl, inr}
+use Rattle.std.proofs.Common.{[], ⊎_elim, ◌++◌, ◌<◌, ◌∙◌, ◌∷◌, ◌≡◌, ◌≢◌, ◌≤◌, ◌⊎◌, ap, append_assoc, arith, inl, inr, List, None, refl, Some, subst}
+use Rattle.std.proofs.Common.{sym, true, ℕ}
 use Rattle.std.proofs.lemmas.Bool.{cases_eq}
-use Rattle.vm_core.specs.declared.event.Open.{Open}
+use Rattle.vm_core.specs.Prelude.{EVICTED, frame_in, frame_of, is_readable, kept_loads, LOCKED, open_frame, state_of, version_of}
 use Rattle.vm_core.specs.declared.event.ReadIs.TheVariants as opens
-use Rattle.vm_core.specs.Words.{state_of, version_of, frame_in, LOCKED, EVICTED}
-use Rattle.vm_core.specs.StateActs.{is_readable}
-use Rattle.vm_core.specs.FrameActs.{frame_of, open_frame}
-use Rattle.vm_core.specs.History.{kept_loads}
-use Rattle.vm_core.proofs.PageFacts.{some-same, none-some}
-use Rattle.vm_owner.specs.Kept.{Start}
-use Rattle.vm_rule.specs.declared.view.Did.{Did}
+use Rattle.vm_core.proofs.PageFacts.{none-some, some-same}
+use Rattle.vm_rule.specs.Prelude.{at_state, did_load, Each, IsLocking, IsOlder, IsSince, left_at, loads_at, LookTold, Open, seat_of, Start}
+use Rattle.vm_rule.specs.Prelude.{TranslationTold}
 use Rattle.vm_rule.specs.declared.view.Place.TheVariants as places
-use Rattle.vm_rule.specs.declared.view.View.{View}
-use Rattle.vm_rule.specs.Layout.{at_state}
-use Rattle.vm_rule.specs.Views.{Each, IsLocking, seat_of, loads_at}
-use Rattle.vm_rule.specs.Log.{did_load}
-use Rattle.vm_rule.specs.Looks.{LookTold, IsSince, IsOlder, left_at}
-use Rattle.vm_rule.specs.Loads.{TranslationTold}
+use Rattle.vm_step.specs.Prelude.{AreQuiet, Did, NoneExpected, NoWord, View}
 use Rattle.vm_step.specs.declared.saw.At.TheVariants as ats
-use Rattle.vm_guard.specs.declared.deny.Deny.{Deny}
+use Rattle.vm_step.specs.Evidence.Begins.{read}
+use Rattle.vm_step.proofs.{Asides.still-locking, steps.Look.look-loads, steps.Translate.tload-loads}
+use Rattle.vm_guard.specs.{Denied.AgainOrNeed, Denied.IsDenied, Quiet.IsQuiet}
 use Rattle.vm_guard.specs.declared.deny.Deny.TheVariants as denies
-use Rattle.vm_step.specs.Evidence.{AreQuiet, NoWord, NoneExpected}
-use Rattle.vm_step.specs.Evidence.Begins.{same, read}
-use Rattle.vm_guard.specs.Quiet.{IsQuiet}
 use Rattle.vm_guard.specs.Guards.{BeginsReading, HasLeft, IsReading, IsUnmarked}
-use Rattle.vm_guard.specs.Denied.{AgainOrNeed, IsDenied}
-use Rattle.vm_guard.proofs.QuietSteps.{quiet-then, look-quiet, translation-quiet, still-locking}
+use Rattle.vm_guard.proofs.OpenReads.{holds-back, left-same, looked-open, looked-same, mapped-frame, named, reads-by, translated-keeps}
+use Rattle.vm_guard.proofs.OpenReads.{translated-reading}
+use Rattle.vm_guard.proofs.QuietSteps.{look-quiet, quiet-then, translation-quiet}
 use Rattle.vm_guard.proofs.Reading.{reading-kept}
-use Rattle.vm_guard.proofs.Sure.{look-current, look-leaves, moved-words, start-known, start-words}
+use Rattle.vm_guard.proofs.Sure.{look-current, moved-words, start-known, start-words}
 use Rattle.vm_guard.proofs.Unmarking.{load-unmarks, quiet-foreign, unmarking-quiet, unmarking-unmarks, unmarks-both}
-use Rattle.vm_guard.proofs.OpenReads.{left-same, looked-loads, looked-open, looked-same, translated-keeps, translated-loads, translated-reading, named, mapped-frame, reads-by, holds-back}
 
 -- a fact of a step in the middle
 pub each-at : {A : Type 0} (P : A → Type 0) (l : List A) (d : A) (m : List A) → Each P (l ++ d ∷ m) → P d
@@ -46,45 +37,6 @@ abbrev Agrees : ℕ → ℕ → Did → Type 0
 Agrees p seen d = at_state d.at (λ q. q ≡ p → IsSince seen d.found × IsSince seen d.wrote)
 
 module _ {X : Type 0} (tied : Start → ℕ → List ℕ → ℕ → List ℕ → Type 0) (p : ℕ) where
-  -- the page was found Evicted by the first look
-  pub needed : (allowed : Deny → Type 0) (first : ℕ) (v w : View X) → allowed (denies.Need p) → LookTold tied p None first v w → state_of first ≡ EVICTED → IsDenied allowed NoWord NoneExpected p (denies.Need p) v w
-  needed allowed first v w may t e = record {
-    done = did_load (places.State p) first ∷ [];
-    quiet = look-quiet tied p first v w t;
-    evidence = (refl, record { word = first; given = record { earlier = []; step = did_load (places.State p) first; later = []; cut = refl; gives = (refl, refl) }; load = (refl, refl); evicted = e; foreign = tt });
-    kind = may;
-    table = look-leaves tied p None first v w t;
-    leaves = (load-unmarks p (places.State p) first, tt);
-    current = look-current tied p None first v w t;
-  }
-
-  -- it was found Locked by the first look
-  pub locked-first : (allowed : Deny → Type 0) (first : ℕ) (v w : View X) → allowed (denies.Again (record { at = ats.Page p; first = first; seen = first })) → LookTold tied p None first v w → state_of first ≡ LOCKED
-      → IsDenied allowed NoWord NoneExpected p (denies.Again (record { at = ats.Page p; first = first; seen = first })) v w
-  locked-first allowed first v w may t e = record {
-    done = did_load (places.State p) first ∷ [];
-    quiet = look-quiet tied p first v w t;
-    evidence = (
-      refl,
-      record {
-        earlier = [];
-        last = did_load (places.State p) first;
-        later = [];
-        cut = refl;
-        gives = (refl, refl);
-        since = [];
-        begins = same refl refl;
-        quiet = tt;
-        foreign = tt;
-        why = inr (inl e);
-      },
-    );
-    kind = may;
-    table = look-leaves tied p None first v w t;
-    leaves = (load-unmarks p (places.State p) first, tt);
-    current = look-current tied p None first v w t;
-  }
-
   module _ (first word seen : ℕ) (u v y x w : View X) (l : LookTold tied p None first u v) (c : IsUnmarked p first v y) (t : TranslationTold p word y x) (m : LookTold tied p None seen x w) where
     abbrev later-steps : List Did
     later-steps = did_load (places.Translation p) word ∷ did_load (places.State p) seen ∷ []
@@ -166,11 +118,11 @@ module _ {X : Type 0} (tied : Start → ℕ → List ℕ → ℕ → List ℕ �
           let named : (seat_of x p).reading ≡ Some o = translated-keeps p word y x (version_of kept) frame t opened in
           let still-there : left_at seen (seat_of x p).reading ≡ opens.Same = ap (left_at seen) named ∙ left-same seen o still (e ∙ sym at) in
           let seen-same : (seat_of w p).reading ≡ (seat_of x p).reading = looked-same tied p None seen x w m still-there in
-          let before : loads_at v p ≡ loads_at u p = looked-loads tied p None first u v l ∙ ap (λ k. kept_loads k (loads_at u p)) in-place in
-          let after : loads_at w p ≡ loads_at x p = looked-loads tied p None seen x w m ∙ ap (λ k. kept_loads k (loads_at x p)) still-there in
+          let before : loads_at v p ≡ loads_at u p = look-loads l ∙ ap (λ k. kept_loads k (loads_at u p)) in-place in
+          let after : loads_at w p ≡ loads_at x p = look-loads m ∙ ap (λ k. kept_loads k (loads_at x p)) still-there in
           inl (
             reading-kept p kept frame u w r all-quiet.steady.start (all-quiet.holds p) (λ k. (all-quiet.knows p k).held) (seen-same ∙ named ∙ sym r.reading),
-            after ∙ translated-loads p word y x t ∙ c.reads.loads ∙ before,
+            after ∙ tload-loads t p ∙ c.reads.loads ∙ before,
           ))
           (λ ne. inr record {
             earlier = u.log;

@@ -1,31 +1,19 @@
 -- A pass that is alone finds the words that it knows, so its calls are denied for no other reason than these words.
-use Rattle.std.proofs.Common.{ℕ, ◌≡◌, ◌≢◌, ◌⊎◌, ◌<◌, ◌≤◌, Option, Some, None, List, [], ◌∷◌, length, true, true≢false, refl, sym, ap, subst, ◌∙◌, ⊎_elim, inl, inr, arith, eqb, slice_index, slice_set}
+use Rattle.std.proofs.Common.{[], ⊎_elim, ◌<◌, ◌∙◌, ◌∷◌, ◌≡◌, ◌≢◌, ◌≤◌, ◌⊎◌, ap, arith, eqb, inl, inr, length, List, None, Option, refl, slice_index}
+use Rattle.std.proofs.Common.{slice_set, Some, subst, sym, true, true≢false, ℕ}
 use Rattle.std.proofs.lemmas.Bool.{cases_lt, cond-false, cond-true, eq-eqb, ne_eqb}
 use Rattle.std.proofs.lemmas.List.{get_or-set_same, get_or_past, length-set, set-get_or}
-use Rattle.vm_core.specs.Words.{state_of, version_of, word_of, UNLOCKED, LOCKED, MARKED, MAX_VERSION}
-use Rattle.vm_core.specs.StateActs.{MayLock, MayShare, is_readable}
-use Rattle.vm_owner.specs.Kept.{Start}
-use Rattle.vm_rule.specs.declared.view.Did.{Did}
-use Rattle.vm_rule.specs.declared.view.Origin.{Origin}
+use Rattle.vm_core.specs.Prelude.{is_readable, LOCKED, MARKED, MAX_VERSION, MayLock, MayShare, state_of, UNLOCKED, version_of, word_of}
+use Rattle.vm_rule.specs.Prelude.{did_exchange, did_load, LockTold, LookTold, set_if, ShareTold, Start, TranslationTold}
 use Rattle.vm_rule.specs.declared.view.Place.TheVariants as places
-use Rattle.vm_rule.specs.declared.view.View.{View}
-use Rattle.vm_rule.specs.Brought.{set_if}
-use Rattle.vm_rule.specs.Log.{did_load, did_exchange}
-use Rattle.vm_rule.specs.Looks.{LookTold}
-use Rattle.vm_rule.specs.Loads.{TranslationTold}
-use Rattle.vm_rule.specs.Locks.{LockTold, ShareTold}
 use Rattle.vm_rule.proofs.WordFacts.{bare-state, bare-version, version-within, word-state, word-version}
-use Rattle.vm_step.specs.Alone.{Follows, IsAlone}
+use Rattle.vm_step.specs.Prelude.{Did, Follows, IsAlone, Origin, View}
 use Rattle.vm_step.proofs.Alone.{found-known, same-word, still-alone, words-known}
-use Rattle.vm_guard.specs.declared.deny.Deny.{Deny}
+use Rattle.vm_guard.specs.{declared.deny.Deny.Deny, Guards.AreUnmarking, Guards.IsUnmarked, Quiet.IsQuiet, Takes.SaysWhy}
 use Rattle.vm_guard.specs.declared.deny.Deny.TheVariants as denies
-use Rattle.vm_guard.specs.Denied.{SameOrUnlocked, NotCrowded, NotWorn}
-use Rattle.vm_guard.specs.Guards.{AreUnmarking, IsUnmarked}
-use Rattle.vm_guard.specs.Quiet.{IsQuiet}
-use Rattle.vm_guard.specs.Sure.{IsUnlockedWord, IsKnownAt, IsKnownFree, known_word, unmarked_word}
-use Rattle.vm_guard.specs.Takes.{SaysWhy}
-use Rattle.vm_guard.proofs.OpenReads.{locked-unreadable}
-use Rattle.vm_guard.proofs.QuietSteps.{look-quiet, translation-quiet}
+use Rattle.vm_guard.specs.Denied.{NotCrowded, NotWorn, SameOrUnlocked}
+use Rattle.vm_guard.specs.Sure.{IsKnownAt, IsKnownFree, IsUnlockedWord, known_word, unmarked_word}
+use Rattle.vm_guard.proofs.{OpenReads.locked-unreadable, QuietSteps.look-quiet, QuietSteps.translation-quiet}
 
 -- a free page below the last version is no page that a lock is refused of at once
 pub free-refused : (p word : ℕ) (d : Deny) → SaysWhy p word d → NotCrowded d → IsUnlockedWord word → version_of word < MAX_VERSION → ⊥

@@ -1,6 +1,6 @@
 -- The word that a lock expects of a page that is to be given: the word seen itself, or the unlocked one at its version.
-use Rattle.std.proofs.Common.{ℕ, ◌≡◌, ◌≢◌, ◌⊎◌, ◌<◌, ◌≤◌, sym, refl, subst, ◌∙◌, arith, inl}
-use Rattle.vm_core.specs.Words.{state_of, version_of, word_of, UNLOCKED, MARKED, EVICTED, MAX_VERSION}
+use Rattle.std.proofs.Common.{◌<◌, ◌∙◌, ◌≡◌, ◌≢◌, ◌≤◌, ◌⊎◌, arith, inl, refl, subst, sym, ℕ}
+use Rattle.vm_core.specs.Prelude.{EVICTED, MARKED, MAX_VERSION, state_of, UNLOCKED, version_of, word_of}
 use Rattle.vm_rule.proofs.WordFacts.{version-within, word-state, word-version}
 use Rattle.vm_guard.specs.Fresh.{IsToSeize}
 

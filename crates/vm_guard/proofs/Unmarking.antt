@@ -1,21 +1,19 @@
 -- The mark of a page is taken away, or was not there: one exchange, or no step. It leaves the view, and the word that it leaves is none that
 -- a later look denies a call by; and which steps leave at most an Unlocked word on the page.
-use Rattle.std.proofs.Common.{ℕ, ◌≡◌, ◌≢◌, ◌⊎◌, Some, None, List, [], ◌∷◌, ◌++◌, refl, sym, ap, subst, ◌∙◌, ⊎_elim, arith, eqb, inl, inr}
-use Rattle.std.proofs.lemmas.Bool.{cases_eq, cond-true, cond-false, eq-eqb, ne_eqb}
-use Rattle.vm_core.specs.Words.{state_of, version_of, word_of, UNLOCKED, LOCKED, MARKED}
-use Rattle.vm_core.proofs.PageFacts.{some-same, none-some}
-use Rattle.vm_rule.specs.declared.view.Did.{Did}
+use Rattle.std.proofs.Common.{[], ⊎_elim, ◌++◌, ◌∙◌, ◌∷◌, ◌≡◌, ◌≢◌, ◌⊎◌, ap, arith, eqb, inl, inr, List, None, refl, Some, subst, sym, ℕ}
+use Rattle.std.proofs.lemmas.Bool.{cases_eq, cond-false, cond-true, eq-eqb, ne_eqb}
+use Rattle.vm_core.specs.Prelude.{LOCKED, MARKED, state_of, UNLOCKED, version_of, word_of}
+use Rattle.vm_core.proofs.PageFacts.{none-some, some-same}
+use Rattle.vm_rule.specs.Prelude.{did_exchange, did_load, Each, MarkTold}
 use Rattle.vm_rule.specs.declared.view.Place.{Place}
 use Rattle.vm_rule.specs.declared.view.Place.TheVariants as places
-use Rattle.vm_rule.specs.declared.view.View.{View}
-use Rattle.vm_rule.specs.Views.{Each}
-use Rattle.vm_rule.specs.Log.{did_exchange, did_load}
-use Rattle.vm_rule.specs.Locks.{MarkTold}
+use Rattle.vm_rule.proofs.{Entries.each-map, Heard.each-both}
 use Rattle.vm_rule.proofs.WordFacts.{version-within, word-state, word-version}
-use Rattle.vm_step.specs.Evidence.{AreQuiet}
+use Rattle.vm_step.specs.Prelude.{AreQuiet, Did, View}
+use Rattle.vm_step.proofs.steps.Unchanged.{still-loads, still-seat}
 use Rattle.vm_guard.specs.Guards.{AreUnmarking, BeginsReading, IsUnmarked}
 use Rattle.vm_guard.specs.Quiet.{LeavesNone, OnlyUnmarks}
-use Rattle.vm_guard.proofs.QuietSteps.{mark-quiet, quiet-none, still-reads}
+use Rattle.vm_guard.proofs.QuietSteps.{mark-quiet, quiet-none}
 
 -- an exchange leaves no word but the new one
 exchange-leaves : (expects found new other : ℕ) → new ≢ other → (did_exchange (places.Next) expects found new).wrote ≢ Some other
@@ -62,13 +60,11 @@ pub lost-unmarks : (p expects found new : ℕ) → found ≢ expects → OnlyUnm
 lost-unmarks p expects found new ne = ((λ x e. absurd (none-some x (sym (cond-false (eqb found expects) (Some new) None (ne_eqb found expects ne)) ∙ e))), tt)
 
 pub unmarks-both : (p : ℕ) (a b : List Did) → OnlyUnmarks p a → OnlyUnmarks p b → OnlyUnmarks p (a ++ b)
-unmarks-both p [] b f g = g
-unmarks-both p (d ∷ a) b f g = (f.0, unmarks-both p a b f.1 g)
+unmarks-both p = each-both (λ d. (x : ℕ) → d.wrote ≡ Some x → (d.at ≡ places.State p) × (state_of x ≡ UNLOCKED))
 
 -- steps that leave no word
 pub none-unmarks : (p : ℕ) (done : List Did) → LeavesNone done → OnlyUnmarks p done
-none-unmarks p [] f = tt
-none-unmarks p (d ∷ ds) f = ((λ x e. absurd (none-some x (sym f.0 ∙ e))), none-unmarks p ds f.1)
+none-unmarks p done f = each-map _ _ (λ (d : Did) none. λ x e. absurd (none-some x (sym none ∙ e))) done f
 
 -- the steps that take a mark away
 pub unmarking-unmarks : (p first : ℕ) (done : List Did) → AreUnmarking p first done → OnlyUnmarks p done
@@ -103,7 +99,7 @@ module _ {X : Type 0} where
   unmarked p word found v w is t = record {
     done = did_exchange (places.State p) word found (word_of UNLOCKED (version_of word)) ∷ [];
     quiet = mark-quiet p word found (word_of UNLOCKED (version_of word)) v w t;
-    reads = still-reads (did_exchange (places.State p) word found (word_of UNLOCKED (version_of word))) v v w t.brings refl refl p;
+    reads = record { reading = ap (λ s. s.reading) (still-seat t.brings p); loads = still-loads t.brings p };
     clears = inr (is, (found, refl));
   }
 

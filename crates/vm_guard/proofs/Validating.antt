@@ -1,37 +1,22 @@
 -- The look that validates an optimistic guard: what it proves of each answer.
-use Rattle.std.proofs.Common.{ℕ, ◌≡◌, ◌≢◌, ◌⊎◌, ◌<◌, ◌≤◌, true, false, true≢false, Option, Some, None, List, [], ◌∷◌, ◌++◌, refl, sym, ap, subst, ◌∙◌, ⊎_elim, inl, inr, arith}
+use Rattle.std.proofs.Common.{[], ⊎_elim, ◌++◌, ◌<◌, ◌∙◌, ◌∷◌, ◌≡◌, ◌≢◌, ◌≤◌, ◌⊎◌, ap, arith, false, inl, inr, List, None, Option, refl, Some, subst}
+use Rattle.std.proofs.Common.{sym, true, true≢false, ℕ}
 use Rattle.std.proofs.lemmas.Bool.{cases_eq}
+use Rattle.vm_core.specs.Prelude.{EVICTED, is_readable, kept_loads, LOCKED, state_of, version_of}
 use Rattle.vm_core.specs.declared.event.ReadIs.TheVariants as opens
-use Rattle.vm_core.specs.Words.{state_of, version_of, LOCKED, EVICTED}
-use Rattle.vm_core.specs.StateActs.{is_readable}
-use Rattle.vm_core.specs.History.{kept_loads}
-use Rattle.vm_owner.specs.declared.Entry.{Entry}
-use Rattle.vm_owner.specs.Kept.{Start, Kept}
-use Rattle.vm_rule.specs.declared.view.Did.{Did}
+use Rattle.vm_rule.specs.Prelude.{at_state, began_of, did_load, Each, entries_of, Entry, IsOlder, IsSince, IsSinceAll, Kept, last_of, left_at}
+use Rattle.vm_rule.specs.Prelude.{loads_at, LookTold, seat_of, Start, ties_below, where_same}
 use Rattle.vm_rule.specs.declared.view.Place.TheVariants as places
-use Rattle.vm_rule.specs.declared.view.Tie.{Tie}
-use Rattle.vm_rule.specs.declared.view.View.{View}
-use Rattle.vm_rule.specs.Layout.{at_state}
-use Rattle.vm_rule.specs.Views.{Each, seat_of, loads_at}
-use Rattle.vm_rule.specs.Reading.{last_of}
-use Rattle.vm_rule.specs.Rule.{began_of}
-use Rattle.vm_rule.specs.Brought.{entries_of}
-use Rattle.vm_rule.specs.Log.{did_load}
-use Rattle.vm_rule.specs.Looks.{LookTold, IsSince, IsSinceAll, IsOlder, left_at, where_same, ties_below}
+use Rattle.vm_step.specs.Prelude.{Did, IsKeptNow, NoneExpected, ReadsAsBefore, Tie, View}
 use Rattle.vm_step.specs.declared.saw.At.TheVariants as ats
-use Rattle.vm_step.specs.Evidence.{NoneExpected}
-use Rattle.vm_step.specs.Keeping.{IsKeptNow}
 use Rattle.vm_step.specs.Evidence.Begins.{guarded}
+use Rattle.vm_step.proofs.steps.Look.{look-holds, look-loads, look-others, looked-knows, same-both}
 use Rattle.vm_guard.specs.declared.deny.Deny.TheVariants as denies
-use Rattle.vm_step.specs.Asides.{ReadsAsBefore}
-use Rattle.vm_guard.specs.Guards.{IsReading, HasLeft, IsValid}
 use Rattle.vm_guard.specs.Denied.{AgainOrNeed, IsDenied, KeptWord}
-use Rattle.vm_guard.proofs.QuietSteps.{IsLooked, looked, look-unsaid, same-both, where-other}
-use Rattle.vm_guard.proofs.OpenReads.{left-same, left-other, readable-state, locked-unreadable, looked-same, looked-loads}
-use Rattle.vm_guard.proofs.Reading.{reading-kept}
-use Rattle.vm_guard.proofs.Starting.{each-at}
-use Rattle.vm_guard.proofs.Sure.{look-current, look-leaves}
-use Rattle.vm_guard.proofs.Unmarking.{load-unmarks}
+use Rattle.vm_guard.specs.Guards.{HasLeft, IsReading, IsValid}
+use Rattle.vm_guard.proofs.{Reading.reading-kept, Starting.each-at, Sure.look-current, Sure.look-leaves, Unmarking.load-unmarks}
+use Rattle.vm_guard.proofs.OpenReads.{left-other, left-same, locked-unreadable, looked-same, readable-state}
+use Rattle.vm_guard.proofs.QuietSteps.{alone-of, elsewhere-of, look-unsaid, steady-of, where-other}
 
 -- the word found agrees with the one that a step of the pass found or left since the guard began
 pub left-since : {X : Type 0} (p word seen : ℕ) (v : View X) (h : HasLeft p word v) → IsSinceAll p seen v.log → IsSince seen (Some h.other)
@@ -109,23 +94,23 @@ module _ {X : Type 0} (tied : Start → ℕ → List ℕ → ℕ → List ℕ �
         let r : IsReading p word frame v = in-place may in
         let readable : is_readable (state_of seen) ≡ true = readable-state (state_of seen) small unlocked (reading-resident r) in
         let same : left_at seen (seat_of v p).reading ≡ opens.Same = ap (left_at seen) r.reading ∙ left-same seen (record { version = version_of word; frame = Some frame }) readable (sym at) in
-        let k : IsLooked p (did_load (places.State p) seen ∷ []) v w = looked tied p said seen v w t in
+        let k = look-others t (λ q. q ≡ p) refl in
         let reading : (seat_of w p).reading ≡ (seat_of v p).reading = looked-same tied p said seen v w t same in
         let entries : where_same (left_at seen (seat_of v p).reading) (entries_of v said) [] ≡ entries_of v said = ap (λ l. where_same l (entries_of v said) []) same in
         record {
           done = did_load (places.State p) seen ∷ [];
-          steady = k.steady;
+          steady = steady-of k;
           mine = ap (λ (x : View X). x.mine) t.brings.view ∙ ap (λ (l : List (Entry X)). v.mine ++ l) entries;
           entry = (t.brings.others, ap (λ (x : View X). x.seen) t.brings.view ∙ ap (λ (l : List (Entry X)). (v.seen ++ t.brings.others) ++ l) entries);
-          group = k.group;
-          holds = k.holds;
-          knows = k.knows;
-          reads = reading-kept p word frame v w r k.steady.start (k.holds p) (λ l. (k.knows p l).held) reading;
+          group = (ap (λ (x : View X). x.pending) t.brings.view, ap (λ (x : View X). x.owed) t.brings.view, ap (λ (x : View X). x.next) t.brings.view);
+          holds = look-holds t;
+          knows = looked-knows t;
+          reads = reading-kept p word frame v w r k.start (look-holds t p) (λ l. (looked-knows t p l).held) reading;
           same_reads = λ q. ⊎_elim
-              (λ e. subst (λ n. ReadsAsBefore v w n) (sym e) (record { reading = reading; loads = looked-loads tied p said seen v w t ∙ ap (λ l. kept_loads l (loads_at v p)) same }))
-              (λ ne. k.others q ne)
+              (λ e. subst (λ n. ReadsAsBefore v w n) (sym e) (record { reading = reading; loads = look-loads t ∙ ap (λ l. kept_loads l (loads_at v p)) same }))
+              (λ ne. (elsewhere-of k).others q ne)
               (cases_eq q p);
-          alone = k.alone;
+          alone = alone-of k;
           version = t.version ∙ at;
           size = t.size;
           ties = ap (λ (x : View X). x.ties) t.brings.view ∙ ap (λ l. where_same l (ties_below v.start.pages v p (last_of w p).words) [] ++ v.ties) same;

@@ -1,13 +1,10 @@
 -- What a call answers that gives no guard, or ends without what it was asked for: the evidence of its steps, and that the pass holds what it held.
-use Rattle.std.specs.Prelude.{ℕ, true, List, ◌≡◌, ◌⊎◌}
-use Rattle.vm_rule.specs.declared.view.Did.{Did}
-use Rattle.vm_rule.specs.declared.view.View.{View}
+use Rattle.std.specs.Prelude.{◌≡◌, ◌⊎◌, List, true, ℕ}
+use Rattle.vm_step.specs.Prelude.{Did, IsSaw, IsWorn, KnowsSame, NeedsPage, UnlockedExpected, View}
 use Rattle.vm_step.specs.declared.saw.At.TheVariants as ats
-use Rattle.vm_guard.specs.declared.deny.Deny.{Deny}
+use Rattle.vm_step.specs.Evidence.{IsCrowded}
+use Rattle.vm_guard.specs.{declared.deny.Deny.Deny, Quiet.IsQuiet, Quiet.OnlyUnmarks}
 use Rattle.vm_guard.specs.declared.deny.Deny.TheVariants as denies
-use Rattle.vm_step.specs.Evidence.{IsSaw, NeedsPage, IsCrowded, IsWorn, UnlockedExpected}
-use Rattle.vm_guard.specs.Quiet.{IsQuiet, OnlyUnmarks}
-use Rattle.vm_guard.specs.Sure.{KnowsSame}
 
 -- the steps of the call show why; `kept` tells the words that the call had before its first step, and `expects` which word an exchange of it
 -- may expect in the place of one that was read

@@ -1,17 +1,10 @@
 -- What a guard's release to a share leaves: the draft is the page's next version, and the pass has one share of the page.
-use Rattle.std.specs.Prelude.{ℕ, true, false, List, [], ◌∷◌, ◌≡◌, ◌+◌}
-use Rattle.vm_core.specs.Words.{word_of}
-use Rattle.vm_owner.specs.Numbers.{without}
-use Rattle.vm_rule.specs.declared.view.Did.{Did}
+use Rattle.std.specs.Prelude.{[], ◌+◌, ◌∷◌, ◌≡◌, false, List, true, ℕ}
+use Rattle.vm_core.specs.Prelude.{word_of}
+use Rattle.vm_rule.specs.Prelude.{did_store, draft_of, held_at, last_of, loads_at, next_after, seat_of, without}
 use Rattle.vm_rule.specs.declared.view.Place.TheVariants as places
-use Rattle.vm_rule.specs.declared.view.View.{View}
-use Rattle.vm_rule.specs.Views.{seat_of, loads_at, draft_of}
-use Rattle.vm_rule.specs.Reading.{last_of}
-use Rattle.vm_rule.specs.Log.{did_store}
-use Rattle.vm_rule.specs.Mappings.{held_at}
-use Rattle.vm_rule.specs.Releases.{next_after}
-use Rattle.vm_guard.specs.Guards.{IsElsewhere, IsSharing}
-use Rattle.vm_guard.specs.Sure.{KnowsBut}
+use Rattle.vm_step.specs.Prelude.{Did, View}
+use Rattle.vm_guard.specs.{Guards.IsElsewhere, Guards.IsSharing, Sure.KnowsBut}
 
 module _ {X : Type 0} where
   -- the page was released to one share of the pass, by one step: its draft is the next version, its mapping and fault word are as they were

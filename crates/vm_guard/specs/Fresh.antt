@@ -1,39 +1,19 @@
 -- Pages that were never claimed: what a call for some of them answers. Each page given has words of zeros, is held by the pass and owed to it; on
 -- every other answer nothing is claimed, no lock is kept and the frames are as they were.
-use Rattle.std.specs.Prelude.{ℕ, Bool, true, false, Option, Some, None, List, [], ◌∷◌, ◌++◌, ◌≡◌, ◌⊎◌, ◌+◌, ◌<◌, ◌≤◌, length, replicate, reverse}
-use Rattle.vm_page.specs.declared.buf.TheConstants.{WORDS}
-use Rattle.vm_core.specs.declared.event.Mapping.{Mapping}
-use Rattle.vm_core.specs.Words.{version_of, word_of, LOCKED, MAX_VERSION}
-use Rattle.vm_core.specs.StateActs.{MayLock}
-use Rattle.vm_owner.specs.Numbers.{has}
-use Rattle.vm_rule.specs.declared.view.Did.{Did}
+use Rattle.std.specs.Prelude.{[], ◌++◌, ◌+◌, ◌<◌, ◌∷◌, ◌≡◌, ◌≤◌, ◌⊎◌, Bool, false, length, List, None, Option, replicate, reverse, Some, true, ℕ}
+use Rattle.vm_core.specs.Prelude.{LOCKED, MAX_VERSION, MayLock, version_of, word_of, WORDS}
+use Rattle.vm_rule.specs.Prelude.{contents_at, did_load, draft_of, Each, has, held_at, IsLocking, IsUnheld, last_of, loads_at, Mapping, next_after}
+use Rattle.vm_rule.specs.Prelude.{NextTold, numbers, seat_of, StartsWith, without_all}
 use Rattle.vm_rule.specs.declared.view.Place.TheVariants as places
-use Rattle.vm_rule.specs.declared.view.Release.{Release}
-use Rattle.vm_rule.specs.declared.view.Tie.{Tie}
-use Rattle.vm_rule.specs.declared.view.View.{View}
-use Rattle.vm_rule.specs.Views.{StartsWith, Each, IsLocking, numbers, seat_of, loads_at, draft_of}
-use Rattle.vm_rule.specs.Reading.{last_of}
-use Rattle.vm_rule.specs.Locks.{IsUnheld}
-use Rattle.vm_rule.specs.Log.{did_load}
-use Rattle.vm_rule.specs.Mappings.{contents_at, held_at}
-use Rattle.vm_rule.specs.Nexts.{NextTold}
-use Rattle.vm_rule.specs.Releases.{next_after, without_all}
-use Rattle.vm_step.specs.Alone.{IsAlone, RunsAlone}
-use Rattle.vm_step.specs.Asides.{HoldsPage, KeepsFrames, KnowsAsBefore, StaysAlone}
-use Rattle.vm_step.specs.Conditions.{IsToldOf}
-use Rattle.vm_step.specs.Evidence.{HasWritten, IsSaw, IsWorn, NoWord, UnlockedExpected}
-use Rattle.vm_step.specs.HeldFrames.{AreHeld}
+use Rattle.vm_step.specs.Prelude.{AreHeld, Did, HasWritten, HoldsPage, IsAlone, IsSaw, IsToldOf, IsWorn, KeepsFrames, KnowsAsBefore, KnowsSame}
+use Rattle.vm_step.specs.Prelude.{NoWord, Release, RunsAlone, StaysAlone, Tie, UnlockedExpected, View}
 use Rattle.vm_step.specs.declared.saw.At.TheVariants as ats
 use Rattle.vm_step.specs.declared.saw.Saw.{Saw}
-use Rattle.vm_guard.specs.declared.deny.Deny.{Deny}
-use Rattle.vm_guard.specs.declared.exclusive.ExclusiveGuard.{ExclusiveGuard}
-use Rattle.vm_guard.specs.declared.given.Fresh.{Fresh}
+use Rattle.vm_guard.specs.{declared.deny.Deny.Deny, declared.exclusive.ExclusiveGuard.ExclusiveGuard, declared.given.Fresh.Fresh, Denied.AgainOrWorn}
+use Rattle.vm_guard.specs.{Denied.IsDenied, FreshPlaces.IsPlaceOf, FreshPlaces.KnowsOthers, Guards.IsHolding}
 use Rattle.vm_guard.specs.declared.given.Fresh.TheVariants as answers
-use Rattle.vm_guard.specs.Guards.{IsHolding}
-use Rattle.vm_guard.specs.Denied.{AgainOrWorn, IsDenied}
-use Rattle.vm_guard.specs.FreshPlaces.{IsPlaceOf, KnowsOthers}
-use Rattle.vm_guard.specs.Groups.{GuardsHeld, guards_of, pids_of}
-use Rattle.vm_guard.specs.Sure.{KnowsBut, KnowsSame, KnowsStates, known_next, known_word}
+use Rattle.vm_guard.specs.Groups.{guards_of, GuardsHeld, pids_of}
+use Rattle.vm_guard.specs.Sure.{known_next, known_word, KnowsBut, KnowsStates}
 
 -- the word to expect of a page that was seen so: it may be locked, at the version seen
 pub record IsToSeize (word expects : ℕ) : Type 0 where

@@ -1,30 +1,13 @@
 -- Groups of guards: pages whose drafts become their last words at one point, the first release of the group.
-use Rattle.std.specs.Prelude.{ℕ, true, false, Option, None, List, [], ◌∷◌, ◌++◌, ◌≡◌, ◌⊎◌, ◌+◌, ◌<◌, ◌≤◌, IsSome}
-use Rattle.vm_core.specs.Words.{version_of, MAX_VERSION}
-use Rattle.vm_owner.specs.declared.Entry.{Entry}
-use Rattle.vm_owner.specs.Kept.{Start, Kept, Change, AreUnchanged}
-use Rattle.vm_owner.specs.Numbers.{has, AreApart}
-use Rattle.vm_rule.specs.declared.view.Did.{Did}
+use Rattle.std.specs.Prelude.{[], ◌++◌, ◌+◌, ◌<◌, ◌∷◌, ◌≡◌, ◌≤◌, ◌⊎◌, false, IsSome, List, None, Option, true, ℕ}
+use Rattle.vm_core.specs.Prelude.{MAX_VERSION, version_of}
+use Rattle.vm_rule.specs.Prelude.{AreApart, AreUnchanged, began_of, Change, changes_of, did_store, draft_of, Each, entries_of, Entry, has, held_at}
+use Rattle.vm_rule.specs.Prelude.{IsLocking, Kept, last_of, loads_at, next_after, ReleaseTold, seat_of, Start, without_all}
 use Rattle.vm_rule.specs.declared.view.Place.{Place}
 use Rattle.vm_rule.specs.declared.view.Place.TheVariants as places
-use Rattle.vm_rule.specs.declared.view.Release.{Release}
-use Rattle.vm_rule.specs.declared.view.View.{View}
-use Rattle.vm_rule.specs.Views.{Each, IsLocking, seat_of, loads_at, draft_of}
-use Rattle.vm_rule.specs.Reading.{last_of}
-use Rattle.vm_rule.specs.Rule.{began_of}
-use Rattle.vm_rule.specs.Brought.{entries_of}
-use Rattle.vm_rule.specs.Log.{did_store}
-use Rattle.vm_rule.specs.Mappings.{held_at}
-use Rattle.vm_rule.specs.Releases.{ReleaseTold, changes_of, next_after, without_all}
-use Rattle.vm_step.specs.Alone.{IsAlone}
-use Rattle.vm_step.specs.Asides.{HoldsPage, KnowsAsBefore, ReadsAsBefore}
-use Rattle.vm_step.specs.Conditions.{IsClaimed, IsNotOut, IsToldOf}
-use Rattle.vm_step.specs.Keeping.{IsKeptNow}
-use Rattle.vm_guard.specs.declared.exclusive.ExclusiveGuard.{ExclusiveGuard}
-use Rattle.vm_guard.specs.declared.group.Group.{Group}
+use Rattle.vm_step.specs.Prelude.{Did, HoldsPage, IsAlone, IsClaimed, IsKeptNow, IsNotOut, IsToldOf, KnowsAsBefore, ReadsAsBefore, Release, View}
+use Rattle.vm_guard.specs.{declared.exclusive.ExclusiveGuard.ExclusiveGuard, declared.group.Group.Group, Guards.IsHolding, Quiet.IsSteady}
 use Rattle.vm_guard.specs.declared.group.Group.TheVariants as groups
-use Rattle.vm_guard.specs.Guards.{IsHolding}
-use Rattle.vm_guard.specs.Quiet.{IsSteady}
 use Rattle.vm_guard.specs.Sure.{IsKnownFree, known_word, words_with}
 
 -- the guards of a group, in the order in which they were added
@@ -67,12 +50,14 @@ module _ {X : Type 0} where
 
   -- the pass may release these pages together: it holds each, another page each, with its block at home and claimed as far as it can know; and
   -- nothing is said, no word changes and no page is owed, or the layer above lets the changes be made
-  pub record MayReleaseAll (may_release : Start → List ℕ → List Change → List (Entry X) → Type 0) (gs : List ExclusiveGuard) (said : Option X) (v : View X) : Type 0 where
+  pub record MayReleaseAll (may_release : Start → List ℕ → List Change → List (Entry X) → Type 0)
+      (gs : List ExclusiveGuard) (said : Option X) (v : View X) : Type 0 where
     pub held : GuardsHeld v gs
     pub apart : AreApart (pids_of gs)
     pub home : Each (λ g. IsNotOut v g.pid) gs
     pub claimed : v.start.tells ≡ true → Each (λ g. IsClaimed v g.pid) gs
-    pub owner : v.start.tells ≡ true → ((said ≡ None) × AreUnchanged v.owed (changes_of v (pids_of gs))) ⊎ may_release (began_of v.start) v.owed (changes_of v (pids_of gs)) (entries_of v said)
+    pub owner : v.start.tells ≡ true → ((said ≡ None) × AreUnchanged v.owed (changes_of v (pids_of gs)))
+        ⊎ may_release (began_of v.start) v.owed (changes_of v (pids_of gs)) (entries_of v said)
 
   -- page p is a member of a group that was released in part, and is still to be released, at this version
   pub record IsDue (p version : ℕ) (v : View X) : Type 0 where

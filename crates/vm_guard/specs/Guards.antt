@@ -1,33 +1,15 @@
 -- What guards are to the view of their pass, and what their calls answer.
-use Rattle.std.specs.Prelude.{ℕ, Bool, true, false, Option, Some, None, List, [], ◌∷◌, ◌++◌, ◌≡◌, ◌≢◌, ◌⊎◌, ◌+◌, ◌-◌, ◌^◌, ◌<◌, ◌≤◌, length, slice_set, suc}
-use Rattle.vm_page.specs.declared.buf.TheConstants.{WORDS}
-use Rattle.vm_core.specs.declared.event.Mapping.{Mapping}
-use Rattle.vm_core.specs.declared.event.Open.{Open}
-use Rattle.vm_core.specs.Words.{state_of, version_of, word_of, UNLOCKED, LOCKED, MARKED, MAX_VERSION}
-use Rattle.vm_core.specs.StateActs.{is_readable, one_share_more, unshared}
-use Rattle.vm_core.specs.FrameActs.{frame_of, mapping_of, trans_word}
-use Rattle.vm_owner.specs.Kept.{Start}
-use Rattle.vm_owner.specs.Numbers.{has, without}
-use Rattle.vm_rule.specs.declared.view.Did.{Did}
+use Rattle.std.specs.Prelude.{[], ◌++◌, ◌+◌, ◌-◌, ◌<◌, ◌^◌, ◌∷◌, ◌≡◌, ◌≢◌, ◌≤◌, ◌⊎◌, Bool, false, length, List, None, Option, slice_set, Some, suc}
+use Rattle.std.specs.Prelude.{true, ℕ}
+use Rattle.vm_core.specs.Prelude.{frame_of, is_readable, LOCKED, mapping_of, MARKED, MAX_VERSION, one_share_more, state_of, trans_word, UNLOCKED}
+use Rattle.vm_core.specs.Prelude.{unshared, version_of, word_of, WORDS}
+use Rattle.vm_rule.specs.Prelude.{did_exchange, did_load, did_store, dirty_in, draft_of, Each, entries_of, frame_read_by, has, IsLocking, IsUnheld}
+use Rattle.vm_rule.specs.Prelude.{IsWhole, last_of, loads_at, LockValidates, Mapping, next_after, no_held, Open, put_at, seat_of, Start, ties_below}
+use Rattle.vm_rule.specs.Prelude.{without}
 use Rattle.vm_rule.specs.declared.view.Place.TheVariants as places
-use Rattle.vm_rule.specs.declared.view.Release.{Release}
-use Rattle.vm_rule.specs.declared.view.View.{View}
-use Rattle.vm_rule.specs.Puts.{put_at}
-use Rattle.vm_rule.specs.Views.{Each, IsLocking, IsWhole, seat_of, loads_at, draft_of}
-use Rattle.vm_rule.specs.Reading.{last_of}
-use Rattle.vm_rule.specs.Rule.{no_held}
-use Rattle.vm_rule.specs.Brought.{entries_of}
-use Rattle.vm_rule.specs.Looks.{ties_below}
-use Rattle.vm_rule.specs.Releases.{next_after}
-use Rattle.vm_rule.specs.Loads.{frame_read_by}
-use Rattle.vm_rule.specs.Locks.{IsUnheld, LockValidates}
-use Rattle.vm_rule.specs.Log.{did_load, did_store, did_exchange}
-use Rattle.vm_rule.specs.Mappings.{dirty_in}
-use Rattle.vm_step.specs.Evidence.{HasWritten}
-use Rattle.vm_step.specs.Asides.{HoldsPage, KnowsAsBefore, ReadsAsBefore, StaysAlone}
-use Rattle.vm_step.specs.Alone.{IsAlone}
-use Rattle.vm_guard.specs.Quiet.{IsSteady, IsQuiet, LeavesNone}
-use Rattle.vm_guard.specs.Sure.{IsKnownFree, KnowsBut, KnowsSame, KnowsStates, known_word, unmarked_word}
+use Rattle.vm_step.specs.Prelude.{Did, HasWritten, HoldsPage, IsAlone, KnowsAsBefore, KnowsSame, ReadsAsBefore, Release, StaysAlone, View}
+use Rattle.vm_guard.specs.Quiet.{IsQuiet, IsSteady, LeavesNone}
+use Rattle.vm_guard.specs.Sure.{IsKnownFree, known_word, KnowsBut, KnowsStates, unmarked_word}
 
 -- the words of a page with their places, from i on
 abbrev pub placed : ℕ → List ℕ → List (ℕ × ℕ)

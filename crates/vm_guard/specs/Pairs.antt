@@ -1,8 +1,8 @@
 -- What a caller of fresh pages has written.
-use Rattle.std.specs.Prelude.{ℕ, ◌≡◌, replicate, slice_set}
-use Rattle.vm_page.specs.declared.buf.TheConstants.{WORDS}
-use Rattle.vm_rule.specs.declared.view.View.{View}
-use Rattle.vm_rule.specs.Reading.{last_of}
+use Rattle.std.specs.Prelude.{◌≡◌, replicate, slice_set, ℕ}
+use Rattle.vm_core.specs.Prelude.{WORDS}
+use Rattle.vm_rule.specs.Prelude.{last_of}
+use Rattle.vm_step.specs.Prelude.{View}
 
 module _ {X : Type 0} where
   -- the last words of page p are zeros but for the first one

@@ -1,15 +1,10 @@
 -- What a call leaves of a view that says nothing and changes no lock: the lists and the log go on, and at most the open read of one page is
 -- another.
-use Rattle.std.specs.Prelude.{ℕ, Some, None, List, [], ◌++◌, ◌≡◌, ◌≢◌}
-use Rattle.vm_core.specs.Words.{state_of, UNLOCKED}
-use Rattle.vm_rule.specs.declared.view.Did.{Did}
+use Rattle.std.specs.Prelude.{[], ◌++◌, ◌≡◌, ◌≢◌, List, None, Some, ℕ}
+use Rattle.vm_core.specs.Prelude.{state_of, UNLOCKED}
+use Rattle.vm_rule.specs.Prelude.{Each, IsLocking, seat_of, StartsWith}
 use Rattle.vm_rule.specs.declared.view.Place.TheVariants as places
-use Rattle.vm_rule.specs.declared.view.Release.{Release}
-use Rattle.vm_rule.specs.declared.view.Tie.{Tie}
-use Rattle.vm_rule.specs.declared.view.View.{View}
-use Rattle.vm_rule.specs.Views.{StartsWith, Each, IsLocking, seat_of}
-use Rattle.vm_step.specs.Alone.{RunsAlone}
-use Rattle.vm_step.specs.Asides.{HoldsPage, KnowsAsBefore, ReadsAsBefore, StaysAlone}
+use Rattle.vm_step.specs.Prelude.{Did, HoldsPage, KnowsAsBefore, ReadsAsBefore, Release, RunsAlone, StaysAlone, Tie, View}
 
 -- the steps leave no word
 abbrev pub LeavesNone : List Did → Type 0

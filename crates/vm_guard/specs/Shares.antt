@@ -1,9 +1,7 @@
 -- What calls leave of the shares of a page, where they give up just those that they take.
-use Rattle.std.specs.Prelude.{ℕ, false, ◌≡◌, ◌≤◌}
-use Rattle.vm_rule.specs.declared.view.View.{View}
-use Rattle.vm_rule.specs.Puts.{put_at}
-use Rattle.vm_rule.specs.Views.{seat_of}
-use Rattle.vm_rule.specs.Rule.{no_held}
+use Rattle.std.specs.Prelude.{◌≡◌, ◌≤◌, false, ℕ}
+use Rattle.vm_rule.specs.Prelude.{no_held, put_at, seat_of}
+use Rattle.vm_step.specs.Prelude.{View}
 
 module _ {X : Type 0} where
   -- the pass has as many shares of page p as before, knows of it what it knew, and writes nothing back

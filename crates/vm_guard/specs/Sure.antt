@@ -1,12 +1,10 @@
 -- What a pass that is alone knows of a page, with which a call on the page is sure to succeed; and what it knows of the table afterwards.
-use Rattle.std.specs.Prelude.{ℕ, List, [], ◌∷◌, ◌≡◌, ◌≢◌, ◌⊎◌, ◌+◌, ◌<◌, ◌≤◌, ◌==◌, if◌then◌else◌, slice_set}
-use Rattle.vm_core.specs.Words.{state_of, version_of, word_of, UNLOCKED, LOCKED, MARKED, EVICTED, MAX_VERSION}
-use Rattle.vm_rule.specs.declared.view.Origin.{Origin}
+use Rattle.std.specs.Prelude.{[], ◌+◌, ◌<◌, ◌==◌, ◌∷◌, ◌≡◌, ◌≢◌, ◌≤◌, ◌⊎◌, if◌then◌else◌, List, slice_set, ℕ}
+use Rattle.vm_core.specs.Prelude.{EVICTED, LOCKED, MARKED, MAX_VERSION, state_of, UNLOCKED, version_of, word_of}
+use Rattle.vm_rule.specs.Prelude.{index_of}
 use Rattle.vm_rule.specs.declared.view.Place.{Place}
 use Rattle.vm_rule.specs.declared.view.Place.TheVariants as places
-use Rattle.vm_rule.specs.declared.view.View.{View}
-use Rattle.vm_rule.specs.Layout.{index_of}
-use Rattle.vm_step.specs.Alone.{IsAlone, LocksNone, known_word_at}
+use Rattle.vm_step.specs.Prelude.{IsAlone, known_word_at, LocksNone, Origin, View}
 pub use Rattle.vm_step.specs.Tables.{KnowsAt, KnowsSame}
 
 -- the page with this word is resident, and locked by nobody

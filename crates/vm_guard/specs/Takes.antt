@@ -1,16 +1,11 @@
 -- What a page's word tells a call that is to lock the page, and what the layer above must let a release do.
-use Rattle.std.specs.Prelude.{ℕ, Option, None, List, [], ◌∷◌, ◌≡◌, ◌≢◌, ◌⊎◌, true}
-use Rattle.vm_core.specs.Words.{state_of, version_of, LOCKED, EVICTED, MAX_VERSION}
-use Rattle.vm_core.specs.StateActs.{MayLock, MayShare, is_readable}
-use Rattle.vm_owner.specs.declared.Entry.{Entry}
-use Rattle.vm_owner.specs.Kept.{Start, Change, AreUnchanged}
-use Rattle.vm_rule.specs.declared.view.View.{View}
-use Rattle.vm_rule.specs.Rule.{began_of}
-use Rattle.vm_rule.specs.Brought.{entries_of}
-use Rattle.vm_rule.specs.Releases.{change_of}
+use Rattle.std.specs.Prelude.{[], ◌∷◌, ◌≡◌, ◌≢◌, ◌⊎◌, List, None, Option, true, ℕ}
+use Rattle.vm_core.specs.Prelude.{EVICTED, is_readable, LOCKED, MAX_VERSION, MayLock, MayShare, state_of, version_of}
+use Rattle.vm_rule.specs.Prelude.{AreUnchanged, began_of, Change, change_of, entries_of, Entry, Start}
+use Rattle.vm_step.specs.Prelude.{View}
+use Rattle.vm_step.specs.declared.saw.At.TheVariants as ats
 use Rattle.vm_guard.specs.declared.deny.Deny.{Deny}
 use Rattle.vm_guard.specs.declared.deny.Deny.TheVariants as denies
-use Rattle.vm_step.specs.declared.saw.At.TheVariants as ats
 
 -- why a call on page p that found this word is denied at once
 abbrev pub SaysWhy : ℕ → ℕ → Deny → Type 0
@@ -35,4 +30,5 @@ pub record IsToExpect (word expects : ℕ) : Type 0 where
 module _ {X : Type 0} where
   abbrev pub PassMayRelease : (Start → List ℕ → List Change → List (Entry X) → Type 0) → ℕ → Option X → View X → Type 0
   PassMayRelease may_release p said v =
-      v.start.tells ≡ true → ((said ≡ None) × AreUnchanged v.owed (change_of v p ∷ [])) ⊎ may_release (began_of v.start) v.owed (change_of v p ∷ []) (entries_of v said)
+      v.start.tells ≡ true → ((said ≡ None) × AreUnchanged v.owed (change_of v p ∷ []))
+      ⊎ may_release (began_of v.start) v.owed (change_of v p ∷ []) (entries_of v said)

@@ -1,21 +1,13 @@
 // Guards that hold a page exclusively: the page's words are the guard's draft until its release makes them the next version.
-ghost use Rattle.std.specs.Prelude.{◌≡◌, ◌<◌, ℕ, IfOk, IfErr, IsOk, None, [], true, false, option_map, slice_index};
-ghost use Rattle.vm_core.specs.Words.{MAX_VERSION, version_of};
-ghost use Rattle.vm_rule.specs.Views.{draft_of};
-ghost use Rattle.vm_rule.specs.Releases.{ReleaseTold};
-ghost use Rattle.vm_step.specs.Conditions.{IsClaimed, IsFirst, IsNotOut};
-ghost use Rattle.vm_step.specs.Evidence.{NoWord, UnlockedExpected};
-ghost use Rattle.vm_step.specs.Keeping.{IsKeptNow};
-ghost use Rattle.vm_guard.specs.Downgrades.{IsDowngraded};
+ghost use Rattle.std.specs.Prelude.{[], ◌<◌, ◌≡◌, IfErr, IfOk, IsOk, None, option_map, slice_index, true};
+ghost use Rattle.vm_core.specs.Prelude.{MAX_VERSION, version_of};
+ghost use Rattle.vm_rule.specs.Prelude.{draft_of, ReleaseTold};
+ghost use Rattle.vm_step.specs.Prelude.{IsAlone, IsClaimed, IsFirst, IsKeptNow, IsNotOut, IsReady, IsSamePass, KnowsSame, MayStep, NoWord};
+ghost use Rattle.vm_step.specs.Prelude.{UnlockedExpected, view};
+ghost use Rattle.vm_guard.specs.{Downgrades.IsDowngraded, Groups.IsDue, Quiet.IsQuiet, Sure.IsKnownFree, Sure.known_word};
 ghost use Rattle.vm_guard.specs.Denied.{IsDenied, NotCrowded, SameOrUnlocked};
-ghost use Rattle.vm_guard.specs.Groups.{IsDue};
 ghost use Rattle.vm_guard.specs.Guards.{IsDirtied, IsHolding, IsLocked, IsReleased, IsSet};
-ghost use Rattle.vm_step.specs.Passes.{IsSamePass, MayStep, view};
-ghost use Rattle.vm_guard.specs.Quiet.{IsQuiet};
-ghost use Rattle.vm_step.specs.Ready.{IsReady};
-ghost use Rattle.vm_guard.specs.Sure.{IsKnownFree, KnowsSame, known_word};
 ghost use Rattle.vm_guard.specs.Takes.{IsToExpect, PassMayRelease, SaysWhy};
-ghost use Rattle.vm_step.specs.Alone.{IsAlone};
 
 use crate::deny::Deny;
 use crate::shared::SharedGuard;

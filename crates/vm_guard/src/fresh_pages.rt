@@ -1,17 +1,13 @@
 // Pages that were never claimed: they are locked, given frames of zeros where they have none, and claimed for a group of the pass.
-ghost use Rattle.std.specs.Prelude.{◌≡◌, ◌⊎◌, ◌+◌, ◌<◌, ◌≤◌, ℕ, IfOk, IfErr, IsOk, None, Some, length, replicate, true};
-ghost use Rattle.vm_core.specs.FrameActs.{mapping_of};
+ghost use Rattle.std.specs.Prelude.{◌+◌, ◌<◌, ◌≡◌, ◌≤◌, ◌⊎◌, IfErr, IfOk, IsOk, length, None, replicate, Some, true};
+ghost use Rattle.vm_core.specs.Prelude.{mapping_of};
+ghost use Rattle.vm_rule.specs.Prelude.{last_of};
+ghost use Rattle.vm_step.specs.Prelude.{AreHeld, IsAlone, IsReady, IsSamePass, LocksNone, MayStep, view};
 ghost use Rattle.vm_guard.specs.Denied.{AgainOrWorn, OnlyWorn, SameOrUnlocked};
-ghost use Rattle.vm_guard.specs.Fresh.{Furnishes, GivesBack, IsBegun, IsFreshAnswer, IsFullAnswer, IsNotSeized, IsPages, IsPagesOrWorn, IsSeized, IsToSeize, Seizes};
-ghost use Rattle.vm_guard.specs.Sure.{MayBeGiven, MayBeSeized, MayBeTried, known_next, known_word};
+ghost use Rattle.vm_guard.specs.Fresh.{Furnishes, GivesBack, IsBegun, IsFreshAnswer, IsFullAnswer, IsNotSeized, IsPages, IsPagesOrWorn, IsSeized};
+ghost use Rattle.vm_guard.specs.Fresh.{IsToSeize, Seizes};
+ghost use Rattle.vm_guard.specs.Sure.{known_next, known_word, MayBeGiven, MayBeSeized, MayBeTried};
 ghost use Rattle.vm_guard.specs.Takes.{SaysWhy};
-ghost use Rattle.vm_owner.specs.Numbers.{AreApart};
-ghost use Rattle.vm_rule.specs.Reading.{last_of};
-ghost use Rattle.vm_rule.specs.Views.{Each};
-ghost use Rattle.vm_step.specs.Alone.{IsAlone, LocksNone};
-ghost use Rattle.vm_step.specs.HeldFrames.{AreHeld};
-ghost use Rattle.vm_step.specs.Passes.{IsSamePass, MayStep, view};
-ghost use Rattle.vm_step.specs.Ready.{IsReady};
 
 use crate::deny::Deny;
 use crate::exclusive::ExclusiveGuard;
@@ -232,7 +228,8 @@ fn give_two<U: Owner, B: Block>(
     ensures ready { IsReady words.now.table.shared.key B.tells words.now.table.shared.table_id pass.new }
     ensures answer { (v : _) → IsBegun one.pid one.version one.stands v (view pass.old) → IsFreshAnswer 2 frames.old frames.new v (view pass.new) result }
     ensures sure { IsAlone (view pass.old) → known_next (view pass.old) ≡ one.pid → MayBeSeized (known_word (one.pid + 1) (view pass.old)) → IsPages result }
-    ensures settled { IsAlone (view pass.old) → known_next (view pass.old) ≡ one.pid → LocksNone (known_word (one.pid + 1) (view pass.old)) → IsPagesOrWorn result }
+    ensures settled { IsAlone (view pass.old) → known_next (view pass.old) ≡ one.pid → LocksNone (known_word (one.pid + 1) (view pass.old))
+        → IsPagesOrWorn result }
 {
     let x = one.pid;
     let two = match seize(words, pass, x + 1) {

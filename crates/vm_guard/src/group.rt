@@ -1,9 +1,8 @@
 // Groups of guards: pages whose drafts become their last words at one point, the first release of the group.
-ghost use Rattle.std.specs.Prelude.{◌≡◌, ◌≢◌, ◌<◌, ◌≤◌, ◌++◌, ◌∷◌, [], length, option_map, Some, None, IfSome, IfNone};
-ghost use Rattle.vm_guard.specs.Groups.{IsGroupReleased, MayReleaseAll, guards_of};
+ghost use Rattle.std.specs.Prelude.{[], ◌++◌, ◌<◌, ◌∷◌, ◌≡◌, ◌≢◌, IfSome, length, None, option_map, Some};
+ghost use Rattle.vm_step.specs.Prelude.{IsReady, IsSamePass, view};
 ghost use Rattle.vm_guard.specs.declared.group.Group.TheVariants as groups;
-ghost use Rattle.vm_step.specs.Passes.{IsSamePass, view};
-ghost use Rattle.vm_step.specs.Ready.{IsReady};
+ghost use Rattle.vm_guard.specs.Groups.{guards_of, IsGroupReleased, MayReleaseAll};
 
 use crate::exclusive::ExclusiveGuard;
 use std::mem;

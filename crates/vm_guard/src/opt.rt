@@ -1,17 +1,12 @@
 // Optimistic guards: a page is read without a lock, and a later look at its word tells whether all words read were of one version.
-ghost use Rattle.std.specs.Prelude.{◌≡◌, ◌<◌, ◌⊎◌, ℕ, IfOk, IfErr, IsOk, None, [], ◌∷◌, length, option_map, true};
-ghost use Rattle.vm_core.specs.Words.{MAX_VERSION, state_of, version_of};
-ghost use Rattle.vm_core.specs.StateActs.{is_readable};
+ghost use Rattle.std.specs.Prelude.{[], ◌<◌, ◌∷◌, ◌≡◌, ◌⊎◌, IfErr, IfOk, IsOk, length, None, option_map, true};
+ghost use Rattle.vm_core.specs.Prelude.{is_readable, MAX_VERSION, state_of, version_of};
+ghost use Rattle.vm_step.specs.Prelude.{IsAlone, IsKeptNow, IsReady, IsSamePass, KnowsUnheld, MayStep, MayTell, NoneExpected, NoWord};
+ghost use Rattle.vm_step.specs.Prelude.{UnlockedExpected, view};
 ghost use Rattle.vm_guard.specs.Denied.{AgainOrNeed, AgainOrWorn, IsDenied, KeptWord, SameOrUnlocked};
 ghost use Rattle.vm_guard.specs.Guards.{BeginsReading, HasLeft, IsLocked, IsReading, IsUnmarked, IsValid, Loads, placed};
-ghost use Rattle.vm_step.specs.Evidence.{NoWord, NoneExpected, UnlockedExpected};
-ghost use Rattle.vm_step.specs.Ready.{IsReady};
 ghost use Rattle.vm_guard.specs.Sure.{IsKnownAt, IsKnownFree, known_word};
 ghost use Rattle.vm_guard.specs.Takes.{IsToExpect};
-ghost use Rattle.vm_step.specs.Alone.{IsAlone, KnowsUnheld};
-ghost use Rattle.vm_step.specs.Conditions.{MayTell};
-ghost use Rattle.vm_step.specs.Keeping.{IsKeptNow};
-ghost use Rattle.vm_step.specs.Passes.{IsSamePass, MayStep, view};
 
 use crate::deny::Deny;
 use crate::exclusive::ExclusiveGuard;
@@ -60,8 +55,8 @@ fn clear_mark<U: Owner, B: Block>(words: &Words<U, B>, pass: &mut Pass<U>, pid: 
 }
 
 impl OptGuard {
-    /// Begins to read the page, and takes a mark of the clock away. A page that is Evicted is needed; one that is Locked, or that another version came to between the two
-    /// looks, may be tried again.
+    /// Begins to read the page, and takes a mark of the clock away. A page that is Evicted is needed; one that is Locked, or that another version
+    /// came to between the two looks, may be tried again.
     pub fn start<U: Owner, B: Block>(
         words: &Words<U, B>,
         pass: &mut Pass<U>,
@@ -151,13 +146,16 @@ impl OptGuard {
     ) -> Result<(), Saw>
         requires ready { IsReady words.now.table.shared.key B.tells words.now.table.shared.table_id pass.old }
         requires page { self.now.pid < words.now.table.shared.key.pages }
-        requires reading { IsReading self.now.pid self.now.word self.now.frame (view pass.old) ⊎ (HasLeft self.now.pid self.now.word (view pass.old) × (option_map (λ b. b.now) said ≡ None)) }
+        requires reading { IsReading self.now.pid self.now.word self.now.frame (view pass.old)
+            ⊎ (HasLeft self.now.pid self.now.word (view pass.old) × (option_map (λ b. b.now) said ≡ None)) }
         requires owner { MayTell U.tied U.may_read self.now.pid (option_map (λ b. b.now) said) (view pass.old) }
         ensures pass { IsSamePass pass.old pass.new }
         ensures ready { IsReady words.now.table.shared.key B.tells words.now.table.shared.table_id pass.new }
-        ensures ok { IfOk result (λ _. IsValid U.tied self.now.pid self.now.word self.now.frame (option_map (λ b. b.now) said.entry) (view pass.old) (view pass.new)) }
+        ensures ok { IfOk result
+            (λ _. IsValid U.tied self.now.pid self.now.word self.now.frame (option_map (λ b. b.now) said.entry) (view pass.old) (view pass.new)) }
         ensures kept { B.tells ≡ true → IfOk result (λ _. IsKeptNow U.keeps self.now.pid (Unit {0}) (view pass.new)) }
-        ensures err { IfErr result (λ saw. IsDenied AgainOrNeed (KeptWord self.now.word) NoneExpected self.now.pid (Deny.Again saw) (view pass.old) (view pass.new)) }
+        ensures err { IfErr result
+            (λ saw. IsDenied AgainOrNeed (KeptWord self.now.word) NoneExpected self.now.pid (Deny.Again saw) (view pass.old) (view pass.new)) }
         ensures sure { IsAlone (view pass.old) → IsKnownAt self.now.pid self.now.word (view pass.old) → IsOk result }
     {
         let seen = look(words, pass, self.pid, said);
@@ -183,7 +181,8 @@ impl OptGuard {
         ensures ready { IsReady words.now.table.shared.key B.tells words.now.table.shared.table_id pass.new }
         ensures ok { IfOk result (λ _. IsValid U.tied self.now.pid self.now.word self.now.frame None (view pass.old) (view pass.new)) }
         ensures kept { B.tells ≡ true → IfOk result (λ _. IsKeptNow U.keeps self.now.pid (Unit {0}) (view pass.new)) }
-        ensures err { IfErr result (λ saw. IsDenied AgainOrNeed (KeptWord self.now.word) NoneExpected self.now.pid (Deny.Again saw) (view pass.old) (view pass.new)) }
+        ensures err { IfErr result
+            (λ saw. IsDenied AgainOrNeed (KeptWord self.now.word) NoneExpected self.now.pid (Deny.Again saw) (view pass.old) (view pass.new)) }
         ensures sure { IsAlone (view pass.old) → IsKnownAt self.now.pid self.now.word (view pass.old) → IsOk result }
     {
         let seen = look_silently(words, pass, self.pid);
@@ -208,10 +207,12 @@ impl OptGuard {
         requires reading { IsReading self.pid self.word self.frame (view pass.old) ⊎ HasLeft self.pid self.word (view pass.old) }
         ensures pass { IsSamePass pass.old pass.new }
         ensures ready { IsReady words.now.table.shared.key B.tells words.now.table.shared.table_id pass.new }
-        ensures taken { IfOk result (λ guard. (guard.pid ≡ self.pid) × (guard.version ≡ version_of self.word) × IsLocked U.tied self.pid guard.frame guard.version guard.dirty (view pass.old) (view pass.new)) }
+        ensures taken { IfOk result (λ guard. (guard.pid ≡ self.pid) × (guard.version ≡ version_of self.word)
+            × IsLocked U.tied self.pid guard.frame guard.version guard.dirty (view pass.old) (view pass.new)) }
         ensures denied { IfErr result (λ deny. IsDenied AgainOrWorn (KeptWord self.word) UnlockedExpected self.pid deny (view pass.old) (view pass.new)) }
         ensures worn { version_of self.word ≡ MAX_VERSION → result ≡ Err (Deny.Worn self.pid) }
-        ensures sure { IsAlone (view pass.old) → IsKnownFree self.pid (view pass.old) → SameOrUnlocked self.word (known_word self.pid (view pass.old)) → version_of self.word < MAX_VERSION → IsOk result }
+        ensures sure { IsAlone (view pass.old) → IsKnownFree self.pid (view pass.old)
+            → SameOrUnlocked self.word (known_word self.pid (view pass.old)) → version_of self.word < MAX_VERSION → IsOk result }
     {
         let pid = self.pid;
         if StateWord::version(self.word) == MAX_VERSION {

@@ -1,11 +1,8 @@
 // Two fresh pages that are written and released together: the least that a caller of fresh pages and groups does. It stands on their
 // contracts alone.
-ghost use Rattle.std.specs.Prelude.{◌≡◌, ◌≤◌, ◌+◌, IfSome, None, length, true};
-ghost use Rattle.vm_step.specs.HeldFrames.{AreHeld};
+ghost use Rattle.std.specs.Prelude.{◌+◌, ◌≡◌, ◌≤◌, IfSome, length, None, true};
+ghost use Rattle.vm_step.specs.Prelude.{AreHeld, IsAlone, IsReady, IsSamePass, view};
 ghost use Rattle.vm_guard.specs.Pairs.{HasFirst};
-ghost use Rattle.vm_step.specs.Alone.{IsAlone};
-ghost use Rattle.vm_step.specs.Passes.{IsSamePass, view};
-ghost use Rattle.vm_step.specs.Ready.{IsReady};
 
 use crate::fresh_pages::fresh;
 use crate::given::Fresh;

@@ -1,17 +1,10 @@
 // Guards that hold a share of a page: its words stay what they are.
-ghost use Rattle.std.specs.Prelude.{◌≡◌, ◌<◌, ◌+◌, ℕ, IfOk, IfErr, IsOk, None, true, slice_index};
-ghost use Rattle.vm_core.specs.StateActs.{MayShare};
-ghost use Rattle.vm_rule.specs.Reading.{last_of};
-ghost use Rattle.vm_step.specs.Conditions.{MayUnshare};
-ghost use Rattle.vm_guard.specs.Denied.{IsDenied, NotWorn};
-ghost use Rattle.vm_step.specs.Evidence.{NoWord, NoneExpected};
+ghost use Rattle.std.specs.Prelude.{◌<◌, ◌≡◌, IfErr, IfOk, IsOk, slice_index, true};
+ghost use Rattle.vm_core.specs.Prelude.{MayShare};
+ghost use Rattle.vm_rule.specs.Prelude.{last_of};
+ghost use Rattle.vm_step.specs.Prelude.{IsAlone, IsReady, IsSamePass, KnowsSame, MayStep, MayUnshare, NoneExpected, NoWord, view};
+ghost use Rattle.vm_guard.specs.{Denied.IsDenied, Denied.NotWorn, Quiet.IsQuiet, Sure.known_word, Takes.HasRoom, Takes.SaysWhy};
 ghost use Rattle.vm_guard.specs.Guards.{IsShared, IsSharing, IsUnshared};
-ghost use Rattle.vm_step.specs.Passes.{IsSamePass, MayStep, view};
-ghost use Rattle.vm_guard.specs.Quiet.{IsQuiet};
-ghost use Rattle.vm_step.specs.Ready.{IsReady};
-ghost use Rattle.vm_guard.specs.Sure.{KnowsSame, known_word};
-ghost use Rattle.vm_guard.specs.Takes.{HasRoom, SaysWhy};
-ghost use Rattle.vm_step.specs.Alone.{IsAlone};
 
 use crate::deny::Deny;
 use crate::standing::{Lock, standing};

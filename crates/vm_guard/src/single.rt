@@ -1,13 +1,9 @@
 // One word of a page, read optimistically: the least that a caller of the guards does. It stands on their contracts alone.
-ghost use Rattle.std.specs.Prelude.{◌≡◌, ◌<◌, IfSome, IsSome, true, slice_index};
-ghost use Rattle.vm_core.specs.StateActs.{is_readable};
-ghost use Rattle.vm_core.specs.Words.{state_of};
+ghost use Rattle.std.specs.Prelude.{◌<◌, ◌≡◌, IfSome, IsSome, slice_index, true};
+ghost use Rattle.vm_core.specs.Prelude.{is_readable, state_of};
+ghost use Rattle.vm_rule.specs.Prelude.{last_of};
+ghost use Rattle.vm_step.specs.Prelude.{IsAlone, IsReady, IsSamePass, MayStep, StaysAlone, view};
 ghost use Rattle.vm_guard.specs.Sure.{known_word};
-ghost use Rattle.vm_step.specs.Alone.{IsAlone};
-ghost use Rattle.vm_step.specs.Asides.{StaysAlone};
-ghost use Rattle.vm_step.specs.Ready.{IsReady};
-ghost use Rattle.vm_rule.specs.Reading.{last_of};
-ghost use Rattle.vm_step.specs.Passes.{IsSamePass, MayStep, view};
 
 use crate::opt::OptGuard;
 use vm_block::Block;

@@ -1,11 +1,8 @@
 // What guards that hold a lock share: the mark of a lock, and where a page stands that the pass has locked.
-ghost use Rattle.std.specs.Prelude.{◌≡◌, ◌<◌, ℕ, Some, IsSome};
-ghost use Rattle.vm_core.specs.FrameActs.{mapping_of};
-ghost use Rattle.vm_rule.specs.Loads.{TranslationTold};
-ghost use Rattle.vm_rule.specs.Puts.{put_at};
-ghost use Rattle.vm_rule.specs.Rule.{no_held};
-ghost use Rattle.vm_rule.specs.Views.{IsLocking, seat_of};
-ghost use Rattle.vm_step.specs.Passes.{IsSamePass, MayStep, view};
+ghost use Rattle.std.specs.Prelude.{◌<◌, ◌≡◌, IsSome, Some, ℕ};
+ghost use Rattle.vm_core.specs.Prelude.{mapping_of};
+ghost use Rattle.vm_rule.specs.Prelude.{IsLocking, no_held, put_at, seat_of, TranslationTold};
+ghost use Rattle.vm_step.specs.Prelude.{IsSamePass, MayStep, view};
 
 use vm_block::Block;
 use vm_core::{Mapping, TransWord};

@@ -1,19 +1,12 @@
 -- A pass that is alone: it is so after a page was brought, locked, set and released; and a word that was set is the page's over calls that
 -- leave its last words.
-use Rattle.std.proofs.Common.{ℕ, ◌≡◌, ◌<◌, Bool, Option, List, [], length, sym, ap, ◌∙◌, slice_index, slice_set}
+use Rattle.std.proofs.Common.{[], ◌<◌, ◌∙◌, ◌≡◌, ap, Bool, length, List, Option, slice_index, slice_set, sym, ℕ}
 use Rattle.std.proofs.lemmas.List.{get_or-set_same}
-use Rattle.vm_core.specs.History.{Version}
-use Rattle.vm_rule.specs.declared.view.Did.{Did}
-use Rattle.vm_rule.specs.declared.view.Release.{Release}
-use Rattle.vm_rule.specs.declared.view.View.{View}
-use Rattle.vm_rule.specs.Views.{draft_of}
-use Rattle.vm_rule.specs.Reading.{last_of}
-use Rattle.vm_step.specs.Asides.{StaysAlone}
-use Rattle.vm_step.specs.Alone.{IsAlone}
-use Rattle.vm_step.proofs.Alone.{still-alone}
-use Rattle.vm_step.proofs.Asides.{alone-then}
-use Rattle.vm_guard.specs.Quiet.{IsSteady}
-use Rattle.vm_guard.specs.Guards.{IsReleased, IsSet}
+use Rattle.vm_core.specs.Prelude.{Version}
+use Rattle.vm_rule.specs.Prelude.{draft_of, last_of}
+use Rattle.vm_step.specs.Prelude.{Did, IsAlone, Release, StaysAlone, View}
+use Rattle.vm_step.proofs.{Alone.still-alone, Asides.alone-then}
+use Rattle.vm_guard.specs.{Guards.IsReleased, Guards.IsSet, Quiet.IsSteady}
 use Rattle.vm_pool.specs.Brings.{KeepsLocks}
 
 module _ {X : Type 0} where

@@ -1,20 +1,15 @@
 -- What a pass that is alone knows after it asked for a page, whether it knew of a free frame or not.
-use Rattle.std.proofs.Common.{ℕ, ◌≡◌, ◌<◌, ◌≤◌, ◌+◌, [], List, sym, subst, ◌∙◌}
-use Rattle.vm_rule.specs.declared.view.Origin.{Origin}
-use Rattle.vm_rule.specs.declared.view.View.{View}
-use Rattle.vm_rule.specs.Reading.{last_of}
-use Rattle.vm_step.specs.Alone.{IsAlone}
+use Rattle.std.proofs.Common.{[], ◌+◌, ◌<◌, ◌∙◌, ◌≡◌, ◌≤◌, List, subst, sym, ℕ}
+use Rattle.vm_rule.specs.Prelude.{last_of}
+use Rattle.vm_step.specs.Prelude.{IsAlone, Origin, View}
 use Rattle.vm_step.proofs.Alone.{still-alone}
-use Rattle.vm_exmap.specs.Frames.{HasFree}
-use Rattle.vm_exmap.specs.Walks.{IsDry}
+use Rattle.vm_exmap.specs.{Frames.HasFree, Walks.IsDry}
 use Rattle.vm_evict.specs.declared.report.Report.{Report}
+use Rattle.vm_pool.specs.{declared.bring.Bring.Bring, Sweeps.IsSwept}
 use Rattle.vm_pool.specs.Brings.{Fetches as fetches, Gets as gets, GetsNone as none, IsBring, IsBring as is_bring, KeepsLocks}
-use Rattle.vm_pool.specs.Known.{IsStill, KnowsAsked, KnowsAsked as asked, KnowsBring, known_version}
-use Rattle.vm_pool.specs.Sweeps.{IsSwept}
-use Rattle.vm_pool.specs.declared.bring.Bring.{Bring}
 use Rattle.vm_pool.specs.declared.bring.Bring.TheVariants as brings
-use Rattle.vm_pool.proofs.Keeping.{swept-keeps}
-use Rattle.vm_pool.proofs.Knowing.{brought-at, knows-once}
+use Rattle.vm_pool.specs.Known.{IsStill, known_version, KnowsAsked, KnowsAsked as asked, KnowsBring}
+use Rattle.vm_pool.proofs.{Keeping.swept-keeps, Knowing.brought-at, Knowing.knows-once}
 use Rattle.vm_pool.proofs.Sure.{got-none, not-dry, sure-once}
 
 -- what an answer says of the page asked for: it was brought, or not

@@ -1,24 +1,16 @@
 -- What the first pass of a pool knows: it is alone, each page is evicted at the first version, and the first bundle has frames.
-use Rattle.std.proofs.Common.{ℕ, Bool, ◌≡◌, ◌≢◌, ◌<◌, ◌≤◌, ◌+◌, ◌*◌, ◌-◌, ◌^◌, List, length, min, refl, sym, ap, subst, ◌∙◌, inl, inr, ⊎_elim, arith, slice_index}
+use Rattle.std.proofs.Common.{[], ⊎_elim, ◌*◌, ◌+◌, ◌-◌, ◌<◌, ◌^◌, ◌∙◌, ◌≡◌, ◌≢◌, ◌≤◌, ap, arith, Bool, inl, inr, length, List, min, None, refl}
+use Rattle.std.proofs.Common.{slice_index, subst, sym, ℕ}
 use Rattle.std.proofs.Math.Nat.{pow-le-pow_right}
-use Rattle.vm_core.specs.Fn.{at}
-use Rattle.vm_core.specs.Start.{full_bundle}
-use Rattle.vm_core.specs.Words.{EVICTED, MAX_VERSION, state_of, version_of, word_of}
-use Rattle.vm_block.specs.declared.stored.Stored.{Stored}
-use Rattle.vm_rule.specs.declared.view.Origin.{Origin}
+use Rattle.vm_core.specs.Prelude.{at, EVICTED, full_bundle, MAX_VERSION, state_of, version_of, word_of}
+use Rattle.vm_rule.specs.Prelude.{bounds_of, bundles_of, counts_of, index_of, IsStarted, started_origin, started_shape, started_words, Stored, unborn}
+use Rattle.vm_rule.specs.Begun.{begun}
 use Rattle.vm_rule.specs.declared.view.Place.TheVariants as places
-use Rattle.vm_rule.specs.declared.view.View.{View}
-use Rattle.vm_rule.specs.Begun.{begun, unborn}
-use Rattle.vm_rule.specs.Layout.{bundles_of, index_of}
-use Rattle.vm_rule.specs.Started.{IsStarted, bounds_of, counts_of, started_origin, started_shape, started_words}
-use Rattle.vm_rule.proofs.Found.{part-found}
-use Rattle.vm_rule.proofs.StartedWords.{started-bundle, started-state}
-use Rattle.vm_rule.proofs.WordFacts.{word-state, word-version}
-use Rattle.vm_step.specs.Alone.{IsAlone, known_word_at}
+use Rattle.vm_rule.proofs.{Found.part-found, StartedWords.started-bundle, StartedWords.started-state, WordFacts.word-state, WordFacts.word-version}
+use Rattle.vm_step.specs.Prelude.{AreHeld, IsAlone, IsOf, known_word_at, Origin, Shape, View}
 use Rattle.vm_exmap.specs.Frames.{HasFree}
 use Rattle.vm_fault.specs.Fetches.{IsKnownOut}
-use Rattle.vm_pool.specs.Brings.{IsBroughtOrFailed, IsSure}
-use Rattle.vm_pool.specs.declared.bring.Bring.{Bring}
+use Rattle.vm_pool.specs.{Brings.IsBroughtOrFailed, Brings.IsSure, declared.bring.Bring.Bring}
 use Rattle.vm_pool.proofs.AtOnce.{first-has-all}
 
 -- the first bundle of a table with frames has some
@@ -38,6 +30,18 @@ module _ {X : Type 0} (tells : Bool) (version next frames : ℕ) (blocks : List 
 
   words-are : v.snapshot.words ≡ words
   words-are = ap (λ (x : View X). x.snapshot.words) is
+
+  -- it may call on the table that began so, holds no frame, and has no block out
+  pub first-of : (shape : Shape) → shape ≡ started_shape tells version next frames blocks → IsOf shape tells v
+  first-of shape same =
+      subst (λ (s : Shape). IsOf s tells v) (sym same)
+      (subst (IsOf (started_shape tells version next frames blocks) tells) (sym is) record { is_shape = record { same = refl; pages = refl; frames = refl; version = refl; next = refl }; tells_is = refl })
+
+  pub first-used : 0 < length v.used
+  first-used = subst (λ (x : View X). 0 < length x.used) (sym is) (omega arith)
+
+  pub first-home : v.out ≡ None
+  first-home = ap (λ (x : View X). x.out) is
 
   pub first-alone : IsAlone v
   first-alone = (first-has-all _ _ v is, ap (λ (x : View X). x.current) is)
@@ -77,3 +81,6 @@ module _ {X : Type 0} (tells : Bool) (version next frames : ℕ) (blocks : List 
 
   pub sure-then : (p : ℕ) (w : View X) (answer : Bring) → IsSure p v w answer → IsBroughtOrFailed p (bounds_of blocks) answer
   sure-then p w answer s = sure-on p v w answer refl s
+
+pub none-held : {X : Type 0} (v : View X) (frames : List ℕ) → frames ≡ [] → AreHeld frames v
+none-held v frames none = subst (λ (l : List ℕ). AreHeld l v) (sym none) record { apart = tt; inside = tt; held = tt }

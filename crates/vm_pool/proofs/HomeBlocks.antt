@@ -1,11 +1,11 @@
 -- Slots that all have their blocks: the blocks taken out of them one after another, and the places that are empty then.
-use Rattle.std.proofs.Common.{ℕ, Bool, true, false, Option, Some, None, ◌≡◌, ◌+◌, ◌<◌, ◌≤◌, List, [], ◌∷◌, ◌++◌, if◌then◌else◌, length, map, take, get_or, slice_set, zero, suc, refl, sym, ap, ◌∙◌, arith, ⊎_elim}
-use Rattle.std.proofs.lemmas.Bool.{cases_eq, cases_lt}
-use Rattle.std.proofs.lemmas.List.{get_or-set_same, get_or-set_other}
-use mathlib.Core.Option as maybe
-use mathlib.Core.Option.{some, some-injective}
-use lib.ListN.{get_elem?}
 use Rattle.std.specs.Mem.Slots.Ownership.{Filled}
+use Rattle.std.proofs.Common.{[], ⊎_elim, ◌++◌, ◌+◌, ◌<◌, ◌∙◌, ◌∷◌, ◌≡◌, ◌≤◌, ap, arith, Bool, false, get_or, if◌then◌else◌, length, List, map, None}
+use Rattle.std.proofs.Common.{Option, refl, slice_set, Some, suc, sym, take, true, zero, ℕ}
+use Rattle.std.proofs.lemmas.Bool.{cases_eq, cases_lt}
+use Rattle.std.proofs.lemmas.List.{get_or-set_other, get_or-set_same}
+use mathlib.Core.Option as maybe
+use Rattle.vm_core.specs.Prelude.{get_elem?, some, some-injective}
 
 take-next : {A : Type 0} (xs : List A) (p : ℕ) (x : A) → get_elem? xs p ≡ some x → take (suc p) xs ≡ take p xs ++ x ∷ []
 take-next [] p x e = absurd (maybe.some-ne-none x (sym e))

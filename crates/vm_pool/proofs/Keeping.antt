@@ -1,22 +1,14 @@
 -- What a sweep and bringing a page leave of the pass, by what they answer.
-use Rattle.std.proofs.Common.{ℕ, List, [], ◌∷◌, ◌≡◌, Result, Ok, Err, refl, sym, ap, subst, ◌∙◌, inl, inr}
-use Rattle.vm_core.specs.declared.event.Seat.{Seat}
-use Rattle.vm_rule.specs.declared.view.Did.{Did}
-use Rattle.vm_rule.specs.declared.view.View.{View}
-use Rattle.vm_rule.specs.Views.{StartsWith, draft_of, seat_of}
-use Rattle.vm_rule.specs.Mappings.{held_at}
+use Rattle.std.proofs.Common.{[], ◌∙◌, ◌∷◌, ◌≡◌, ap, Err, inl, inr, List, Ok, refl, Result, subst, sym, ℕ}
+use Rattle.vm_rule.specs.Prelude.{draft_of, held_at, Seat, seat_of, StartsWith}
 use Rattle.vm_rule.proofs.Entries.{append-none}
-use Rattle.vm_step.specs.Asides.{IsAsideOf}
-use Rattle.vm_step.proofs.Asides.{starts-then, alone-self, alone-then, holds-then, knows-then, still-locking}
-use Rattle.vm_evict.specs.declared.report.Report.{Report}
-use Rattle.vm_exmap.specs.declared.interface.Alloc.{Alloc}
+use Rattle.vm_step.specs.Prelude.{Did, IsAsideOf, View}
+use Rattle.vm_step.proofs.Asides.{alone-self, alone-then, holds-then, knows-then, starts-then, still-locking}
+use Rattle.vm_exmap.specs.{declared.interface.Alloc.Alloc, Frames.MovesFrames, Returns.IsFreed, Walks.IsAlloc}
 use Rattle.vm_exmap.specs.declared.interface.Alloc.TheVariants as allocs
-use Rattle.vm_exmap.specs.Frames.{MovesFrames}
-use Rattle.vm_exmap.specs.Walks.{IsAlloc}
-use Rattle.vm_exmap.specs.Returns.{IsFreed}
-use Rattle.vm_pool.specs.Sweeps.{IsSwept}
+use Rattle.vm_evict.specs.declared.report.Report.{Report}
+use Rattle.vm_pool.specs.{declared.bring.Bring.Bring, Sweeps.IsSwept}
 use Rattle.vm_pool.specs.Brings.{Fetches, Fetches as fetched, Gets, Gets as gets, GetsNone, GetsNone as none, IsFramed, KeepsLocks}
-use Rattle.vm_pool.specs.declared.bring.Bring.{Bring}
 
 same-start : {A : Type 0} (l m : List A) → l ≡ m → StartsWith l m
 same-start l m e = ([], e ∙ sym (append-none m))

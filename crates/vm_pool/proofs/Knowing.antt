@@ -1,30 +1,21 @@
 -- What a pass that is alone knows of the table after it asked for a page: the words that the frame's coming left, and then those that the
 -- page's coming left, or the frame's going back.
-use Rattle.std.proofs.Common.{ℕ, true, ◌≡◌, ◌≢◌, ◌<◌, ◌≤◌, ◌⊎◌, ◌+◌, ◌-◌, ◌++◌, ◌∷◌, [], List, length, length-append, min, max, sym, ap, subst, ◌∙◌, refl, inl, inr, ⊎_elim, arith}
+use Rattle.std.proofs.Common.{[], ⊎_elim, ◌++◌, ◌+◌, ◌-◌, ◌<◌, ◌∙◌, ◌∷◌, ◌≡◌, ◌≢◌, ◌≤◌, ◌⊎◌, ap, arith, inl, inr, length, length-append, List, max}
+use Rattle.std.proofs.Common.{min, refl, subst, sym, true, ℕ}
 use Rattle.std.proofs.Math.Nat.{mod-lt}
-use Rattle.vm_core.specs.Words.{EVICTED, MAX_VERSION, UNLOCKED, version_of, word_of}
-use Rattle.vm_core.specs.History.{Version}
-use Rattle.vm_rule.specs.declared.view.Origin.{Origin}
+use Rattle.vm_core.specs.Prelude.{EVICTED, MAX_VERSION, UNLOCKED, Version, version_of, word_of}
+use Rattle.vm_rule.specs.Prelude.{bundles_of, frames_in, last_of}
 use Rattle.vm_rule.specs.declared.view.Place.{Place}
 use Rattle.vm_rule.specs.declared.view.Place.TheVariants as places
-use Rattle.vm_rule.specs.declared.view.View.{View}
-use Rattle.vm_rule.specs.Bundles.{frames_in}
-use Rattle.vm_rule.specs.Layout.{bundles_of}
-use Rattle.vm_rule.specs.Reading.{last_of}
 use Rattle.vm_rule.proofs.WordFacts.{word-version}
-use Rattle.vm_step.specs.Alone.{IsAlone, known_word_at}
-use Rattle.vm_step.specs.DeviceCalls.{IsOfPage}
-use Rattle.vm_step.specs.Tables.{KnowsElse, KnowsSame}
+use Rattle.vm_step.specs.Prelude.{IsAlone, IsOfPage, known_word_at, KnowsElse, KnowsSame, Origin, View}
 use Rattle.vm_step.proofs.Alone.{still-alone}
 use Rattle.vm_step.proofs.Tables.{else-same, else-self, else-then, else-within}
-use Rattle.vm_exmap.specs.Frames.{IsBundleOf}
-use Rattle.vm_exmap.specs.Returns.{IsFreed}
-use Rattle.vm_exmap.specs.Walks.{IsAlloc, TakesBits}
+use Rattle.vm_exmap.specs.{Frames.IsBundleOf, Returns.IsFreed, Walks.IsAlloc, Walks.TakesBits}
 use Rattle.vm_exmap.specs.declared.interface.Alloc.TheVariants as allocs
 use Rattle.vm_fault.specs.Fetches.{IsBrought, IsFailed, IsOfBoth, KnowsReleased}
-use Rattle.vm_pool.specs.Brings.{Fetches, Fetches as fetches}
-use Rattle.vm_pool.specs.Known.{KnowsBring, KnowsBrought, KnowsBrought as brought, KnowsFailed, known_version}
-use Rattle.vm_pool.specs.declared.bring.Bring.{Bring}
+use Rattle.vm_pool.specs.{Brings.Fetches, Brings.Fetches as fetches, declared.bring.Bring.Bring}
+use Rattle.vm_pool.specs.Known.{known_version, KnowsBring, KnowsBrought, KnowsBrought as brought, KnowsFailed}
 
 -- an interface that gets a frame back keeps it where it has no other
 kept-one : (cap : ℕ) (old kept given new : List ℕ) (f : ℕ) → 1 ≤ cap → f ∷ [] ≡ kept ++ given → new ≡ old ++ kept → length kept ≡ min (cap - length old) 1 → new ≢ []

@@ -1,46 +1,26 @@
 -- The last state of a table that was closed with a pass that has all parts and holds no page: every block is at home, and the words and
 -- blocks are those of the pass's snapshot.
-use Rattle.std.proofs.Common.{ℕ, Bool, true, false, true≢false, Option, Some, None, IsSome, ◌≡◌, ◌≢◌, ◌+◌, ◌*◌, ◌<◌, ◌≤◌, List, [], ◌∷◌, length, map, zero, suc, refl, sym, ap, subst, ◌∙◌, arith, ⊎_elim}
+use Rattle.std.proofs.Common.{[], ⊎_elim, ◌*◌, ◌+◌, ◌<◌, ◌∙◌, ◌∷◌, ◌≡◌, ◌≢◌, ◌≤◌, ap, arith, Bool, false, IsSome, length, List, map, None, Option}
+use Rattle.std.proofs.Common.{refl, Some, subst, suc, sym, true, true≢false, zero, ℕ}
 use Rattle.std.proofs.lemmas.Bool.{cases_eq}
 use mathlib.Core.Option as maybe
-use mathlib.Core.Option.{some, some-injective}
-use lib.ListN.{get_elem?}
-use Rattle.atomic_table.specs.Table.{State as Table, Final, Seen}
-use Rattle.vm_core.specs.declared.event.Mapping.{Mapping}
-use Rattle.vm_core.specs.Fn.{at}
-use Rattle.vm_core.specs.Words.{LOCKED, EVICTED, version_of}
-use Rattle.vm_laws_others.specs.Leaves.{stands_dirty}
-use Rattle.vm_block.specs.declared.stored.Stored.{Stored}
-use Rattle.vm_owner.specs.Kept.{Start, Kept}
-use Rattle.vm_rule.specs.declared.view.Origin.{Origin}
-use Rattle.vm_rule.specs.declared.view.Out.{Out}
+use Rattle.atomic_table.specs.Table.{Final, Seen}
+use Rattle.vm_core.specs.Prelude.{at, EVICTED, get_elem?, LOCKED, some, some-injective, version_of}
+use Rattle.vm_rule.specs.Prelude.{began_of, block_of, bounds_of, bundles_of, HasShape, HoldsNoPage, index_of, IsWhole, Kept, known, last_of, listed}
+use Rattle.vm_rule.specs.Prelude.{Mapping, no_block, out_of, out_or, Ruled, seat_of, snapshot_of, Stands, stands_dirty, Start, Stored, Table}
+use Rattle.vm_rule.specs.Prelude.{table_words, world_of}
 use Rattle.vm_rule.specs.declared.view.Place.TheVariants as places
-use Rattle.vm_rule.specs.declared.view.Shape.{Shape}
-use Rattle.vm_rule.specs.declared.view.Snapshot.{Snapshot}
-use Rattle.vm_rule.specs.declared.view.View.{View}
-use Rattle.vm_rule.specs.Puts.{listed}
-use Rattle.vm_rule.specs.Layout.{bundles_of, index_of, table_words}
-use Rattle.vm_rule.specs.Views.{seat_of, IsWhole}
-use Rattle.vm_rule.specs.Reading.{no_block, at_home, out_of, out_or, known, block_of, last_of, world_of}
-use Rattle.vm_rule.specs.Rule.{began_of, snapshot_of, Ruled}
-use Rattle.vm_rule.specs.Begun.{HasShape, Stands}
-use Rattle.vm_rule.specs.Started.{bounds_of}
-use Rattle.vm_rule.proofs.ListFacts.{at-map, length-mapped, at-listed, length-listed, listed-long}
+use Rattle.vm_rule.specs.Reading.{at_home}
+use Rattle.vm_rule.proofs.ListFacts.{at-listed, at-map, length-listed, length-mapped, listed-long}
 use Rattle.vm_rule.proofs.Parts.{listed-same}
-use Rattle.vm_rule_laws.specs.Known.{HasStepped, kept_by}
-use Rattle.vm_rule_laws.specs.Noted.{NotesStand}
-use Rattle.vm_rule_laws.specs.Standing.{state_in, mapping_in, version_in, block_in, PageStands}
-use Rattle.vm_rule_laws.proofs.Alone.{without-locks, others-have-nothing}
-use Rattle.vm_rule_laws.proofs.Begun.{begun-ruled}
-use Rattle.vm_rule_laws.proofs.Histories.{all-seen}
-use Rattle.vm_rule_laws.proofs.Knowing.{table-known, what-is-kept}
-use Rattle.vm_rule_laws.proofs.Noted.{notes-stand}
-use Rattle.vm_rule_laws.proofs.Standing.{stands-known}
-use Rattle.vm_pool.specs.Holding.{HoldsNoPage}
-use Rattle.vm_pool.specs.Closing.{IsStored, IsClosed}
-use Rattle.vm_pool.proofs.HomeBlocks.{all-home}
-use Rattle.vm_step.proofs.Traces.{found-below, version-below}
-use Rattle.vm_pool.proofs.Traces.{version-there}
+use Rattle.vm_rule_laws.specs.{Known.HasStepped, Known.kept_by, Noted.NotesStand}
+use Rattle.vm_rule_laws.specs.Standing.{block_in, mapping_in, PageStands, state_in, version_in}
+use Rattle.vm_rule_laws.proofs.{Alone.others-have-nothing, Alone.without-locks, Begun.begun-ruled, Histories.all-seen, Knowing.table-known}
+use Rattle.vm_rule_laws.proofs.{Knowing.what-is-kept, Noted.notes-stand, Standing.stands-known}
+use Rattle.vm_step.specs.Prelude.{Origin, Out, Shape, Snapshot, View}
+use Rattle.vm_step.proofs.steps.CatchUp.{found-below, version-below}
+use Rattle.vm_pool.specs.Closing.{IsClosed, IsStored}
+use Rattle.vm_pool.proofs.{HomeBlocks.all-home, Traces.version-there}
 
 -- ---- lists
 

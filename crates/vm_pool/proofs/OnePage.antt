@@ -1,42 +1,27 @@
 -- What a pass that is alone knows of a page that is resident and locked by nobody, over a sweep and over `bring`: after a sweep the page is as it was
 -- but for a mark, or it is evicted at its next version, and the interface has a frame; after `bring` it can be read, unless its device failed.
-use Rattle.std.proofs.Common.{ℕ, Bool, ◌≡◌, ◌≢◌, ◌⊎◌, ◌<◌, ◌≤◌, ◌+◌, ◌-◌, ◌%◌, ◌==◌, ◌&&◌, ◌++◌, nat_lt, true, false, zero, suc, length, min, List, [], refl, sym, ap, subst, ◌∙◌, inl, inr, ⊎_elim, arith}
+use Rattle.std.proofs.Common.{[], ⊎_elim, ◌%◌, ◌&&◌, ◌++◌, ◌+◌, ◌-◌, ◌<◌, ◌==◌, ◌∙◌, ◌≡◌, ◌≢◌, ◌≤◌, ◌⊎◌, ap, arith, Bool, false, inl, inr, length}
+use Rattle.std.proofs.Common.{List, min, nat_lt, refl, subst, suc, sym, true, zero, ℕ}
 use Rattle.std.proofs.lemmas.Bool.{cases_Bool, cases_eq, cases_lt, cond-false, cond-true, false≢true}
 use Rattle.std.proofs.lemmas.List.{length-append}
-use Rattle.vm_core.specs.Fn.{at}
-use Rattle.vm_core.specs.StateActs.{is_readable}
-use Rattle.vm_core.specs.Words.{EVICTED, MARKED, MAX_VERSION, UNLOCKED, state_of, version_of, word_of}
-use Rattle.vm_owner.specs.Numbers.{has}
-use Rattle.vm_rule.specs.declared.view.Did.{Did}
-use Rattle.vm_rule.specs.declared.view.Origin.{Origin}
+use Rattle.vm_core.specs.Prelude.{at, EVICTED, is_readable, MARKED, MAX_VERSION, state_of, UNLOCKED, version_of, word_of}
+use Rattle.vm_rule.specs.Prelude.{has, index_of, width}
 use Rattle.vm_rule.specs.declared.view.Place.TheVariants as places
-use Rattle.vm_rule.specs.declared.view.View.{View}
-use Rattle.vm_rule.specs.Layout.{index_of, width}
 use Rattle.vm_rule.proofs.WordFacts.{version-within, word-state, word-version}
-use Rattle.vm_step.specs.Alone.{IsAlone, known_word_at}
-use Rattle.vm_step.specs.Choices.{candidate_pages}
-use Rattle.vm_step.proofs.After.{wide-after}
-use Rattle.vm_step.proofs.Alone.{same-word}
-use Rattle.vm_step.proofs.Written.{index-below}
+use Rattle.vm_step.specs.Prelude.{candidate_pages, Did, IsAlone, IsOfPage, known_word_at, Origin, View}
+use Rattle.vm_step.proofs.{After.wide-after, Alone.same-word, Written.index-below}
+use Rattle.vm_exmap.specs.{Frames.HasFree, Returns.IsFreed}
 use Rattle.vm_clock.specs.Clock.{IsPassed, IsWalked, KnowsWalked, passed_word}
-use Rattle.vm_evict.specs.Evictions.{IsEnd, candidate_at, frame_at, gathered, stage_at}
-use Rattle.vm_evict.specs.Tables.{KnowsStage}
-use Rattle.vm_evict.specs.declared.candidate.Stage.{Stage}
-use Rattle.vm_evict.specs.declared.candidate.Stage.TheVariants as stages
-use Rattle.vm_evict.specs.declared.report.Report.{Report}
-use Rattle.vm_evict.proofs.Gathering.{page-at}
-use Rattle.vm_exmap.specs.Frames.{HasFree}
-use Rattle.vm_exmap.specs.Returns.{IsFreed}
-use Rattle.vm_fault.specs.Fetches.{IsKnownOut}
-use Rattle.vm_step.specs.DeviceCalls.{IsOfPage}
 use Rattle.vm_guard.specs.Sure.{IsUnlockedWord}
-use Rattle.vm_pool.specs.Brings.{IsSure}
-use Rattle.vm_pool.specs.Known.{IsStill, KnowsAsked, KnowsAsked as asked, KnowsBring, KnowsBrought as brought}
-use Rattle.vm_pool.specs.Sweeps.{IsSwept}
-use Rattle.vm_pool.specs.declared.bring.Bring.{Bring}
+use Rattle.vm_fault.specs.Fetches.{IsKnownOut}
+use Rattle.vm_evict.specs.{declared.candidate.Stage.Stage, declared.report.Report.Report, Tables.KnowsStage}
+use Rattle.vm_evict.specs.declared.candidate.Stage.TheVariants as stages
+use Rattle.vm_evict.specs.Evictions.{candidate_at, frame_at, gathered, IsEnd, stage_at}
+use Rattle.vm_evict.proofs.Gathering.{page-at}
+use Rattle.vm_pool.specs.{Brings.IsSure, declared.bring.Bring.Bring, Sweeps.IsSwept}
 use Rattle.vm_pool.specs.declared.bring.Bring.TheVariants as brings
-use Rattle.vm_pool.proofs.Keeping.{swept-keeps}
-use Rattle.vm_pool.proofs.TwoPages.{can-be-read}
+use Rattle.vm_pool.specs.Known.{IsStill, KnowsAsked, KnowsAsked as asked, KnowsBring, KnowsBrought as brought}
+use Rattle.vm_pool.proofs.{Keeping.swept-keeps, TwoPages.can-be-read}
 
 -- ---- words
 
@@ -140,11 +125,7 @@ module _ {X : Type 0} where
         ap version_of k.0.now ∙ word-version UNLOCKED (version_of c.1) (version-within c.1) ∙ ap version_of (sym k.0.before),
       )
   ended-free c (stages.Lost written) done x y w e k f = inl (subst IsUnlockedWord (sym k.2.state) f, ap version_of k.2.state)
-  ended-free c stages.Waiting done x y w e k f = absurd e
-  ended-free c stages.Clean done x y w e k f = absurd e
-  ended-free c (stages.Shared written) done x y w e k f = absurd e
-  ended-free c (stages.Owned written) done x y w e k f = absurd e
-  ended-free c (stages.Emptied frame written) done x y w e k f = absurd e
+  ended-free c s done x y w e k f = absurd e
 
   module _ (want cap : ℕ) (old new : List ℕ) (report : Report) (v w : View X) (s : IsSwept want cap old new report v w) (alone : IsAlone v) (one : 1 ≤ cap) (p : ℕ) (page : p < v.start.pages) (free : IsUnlockedWord (known_word_at v (places.State p))) where
     abbrev x : View X

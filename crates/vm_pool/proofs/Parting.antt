@@ -1,24 +1,17 @@
 -- A pass that was split off, and one that was taken in, as callers see them.
-use Rattle.std.proofs.Common.{ℕ, Bool, true, false, true≢false, ◌≡◌, ◌≢◌, ◌+◌, ◌<◌, ◌≤◌, List, [], ◌∷◌, ◌++◌, length, refl, sym, ap, subst, ◌∙◌, arith, slice_index, ⊎_elim, append_assoc, length-append}
+use Rattle.std.proofs.Common.{[], ⊎_elim, ◌++◌, ◌+◌, ◌<◌, ◌∙◌, ◌∷◌, ◌≡◌, ◌≢◌, ◌≤◌, ap, append_assoc, arith, Bool, false, length, length-append, List}
+use Rattle.std.proofs.Common.{refl, slice_index, subst, sym, true, true≢false, ℕ}
 use Rattle.std.proofs.lemmas.Bool.{cases_Bool, cases_eq, eq-eqb, ne_eqb}
 use Rattle.std.proofs.lemmas.List.{nil_from_length}
-use Rattle.vm_owner.specs.declared.Entry.{Entry}
-use Rattle.vm_owner.specs.Kept.{Start, Kept}
-use Rattle.vm_owner.specs.Numbers.{has, AreApart}
-use Rattle.vm_rule.specs.declared.view.Did.{Did}
+use Rattle.vm_rule.specs.Prelude.{AreApart, CaughtUp, did_load, entries_by, Entry, first_part, giver, has, IsWhole, Kept, newcomer, other_parts, owns}
+use Rattle.vm_rule.specs.Prelude.{seat_of, Start, times, view_from}
 use Rattle.vm_rule.specs.declared.view.Place.TheVariants as places
-use Rattle.vm_rule.specs.declared.view.View.{View}
-use Rattle.vm_rule.specs.Joins.{CaughtUp, first_part, other_parts, giver, newcomer}
-use Rattle.vm_rule.specs.Log.{did_load}
-use Rattle.vm_rule.specs.Views.{IsWhole, entries_by, owns, seat_of, times, view_from}
-use Rattle.vm_rule.proofs.Entries.{append-none}
-use Rattle.vm_rule.proofs.Joining.{times-joined, has-right}
+use Rattle.vm_rule.proofs.{Entries.append-none, Joining.has-right, Joining.times-joined}
+use Rattle.vm_step.specs.Prelude.{Did, KnowsAll, Meets, View}
 use Rattle.vm_step.specs.Together.{TakesIn}
-use Rattle.vm_step.specs.Whole.{KnowsAll}
-use Rattle.vm_step.proofs.Together.{starts-on, hears-on, caught-heard, caught-mine, entries-heard}
-use Rattle.vm_step.specs.Meeting.{Meets}
 use Rattle.vm_step.proofs.MetPasses.{met-known, met-still}
-use Rattle.vm_pool.specs.Parting.{Splits, Joins, HaveMet}
+use Rattle.vm_step.proofs.Together.{caught-heard, caught-mine, entries-heard, hears-on, starts-on}
+use Rattle.vm_pool.specs.Parting.{HaveMet, Joins, Splits}
 
 cut-is : (l : List ℕ) → 0 < length l → (l ≡ slice_index l 0 ∷ other_parts l) × (first_part l ≡ slice_index l 0 ∷ [])
 cut-is [] h = absurd (omega (arith, h))

@@ -1,29 +1,19 @@
 -- A page that is brought, written and released by a pass that is alone, and a sweep behind it: the calls succeed where the page is far enough below
 -- the last version, and its block never fails.
-use Rattle.std.proofs.Common.{ℕ, ◌≡◌, ◌<◌, ◌≤◌, ◌+◌, true, List, [], Option, Some, None, IsSome, IfSome, sym, ap, subst, ◌∙◌, inl, ⊎_elim, arith}
+use Rattle.std.proofs.Common.{[], ⊎_elim, ◌+◌, ◌<◌, ◌∙◌, ◌≡◌, ◌≤◌, ap, arith, IfSome, inl, IsSome, List, None, Option, Some, subst, sym, true, ℕ}
 use Rattle.std.proofs.lemmas.Bool.{false≢true}
-use Rattle.vm_core.specs.Fn.{at}
-use Rattle.vm_core.specs.StateActs.{is_readable}
-use Rattle.vm_core.specs.Words.{MAX_VERSION, UNLOCKED, state_of, version_of, word_of}
-use Rattle.vm_rule.specs.declared.view.Did.{Did}
-use Rattle.vm_rule.specs.declared.view.Origin.{Origin}
+use Rattle.vm_core.specs.Prelude.{at, is_readable, MAX_VERSION, state_of, UNLOCKED, version_of, word_of}
+use Rattle.vm_rule.specs.Prelude.{last_in, last_of}
 use Rattle.vm_rule.specs.declared.view.Place.TheVariants as places
-use Rattle.vm_rule.specs.declared.view.Release.{Release}
-use Rattle.vm_rule.specs.declared.view.View.{View}
-use Rattle.vm_rule.specs.Reading.{last_in, last_of}
-use Rattle.vm_rule.proofs.Entries.{append-none}
-use Rattle.vm_rule.proofs.WordFacts.{word-state, word-version}
-use Rattle.vm_step.specs.Alone.{IsAlone, known_word_at}
+use Rattle.vm_rule.proofs.{Entries.append-none, WordFacts.word-state, WordFacts.word-version}
+use Rattle.vm_step.specs.Prelude.{Did, IsAlone, known_word_at, Origin, Release, View}
 use Rattle.vm_step.proofs.Alone.{still-alone}
-use Rattle.vm_evict.specs.declared.report.Report.{Report}
 use Rattle.vm_exmap.specs.Frames.{HasFree}
+use Rattle.vm_guard.specs.{Quiet.IsSteady, Sure.IsKnownFree}
 use Rattle.vm_fault.specs.Fetches.{IsKnownOut}
-use Rattle.vm_guard.specs.Quiet.{IsSteady}
-use Rattle.vm_guard.specs.Sure.{IsKnownFree}
-use Rattle.vm_pool.specs.Brings.{IsSure, KeepsLocks}
-use Rattle.vm_pool.specs.Known.{KnowsAsked, KnowsBring, KnowsBrought, KnowsBrought as brought, known_version}
-use Rattle.vm_pool.specs.Sweeps.{IsSwept}
-use Rattle.vm_pool.specs.declared.bring.Bring.{Bring}
+use Rattle.vm_evict.specs.declared.report.Report.{Report}
+use Rattle.vm_pool.specs.{Brings.IsSure, Brings.KeepsLocks, declared.bring.Bring.Bring, Sweeps.IsSwept}
+use Rattle.vm_pool.specs.Known.{known_version, KnowsAsked, KnowsBring, KnowsBrought, KnowsBrought as brought}
 use Rattle.vm_pool.proofs.Asking.{when-free}
 use Rattle.vm_pool.proofs.OnePage.{asked-reads, is-out, no-fault, out-reads, swept-free}
 

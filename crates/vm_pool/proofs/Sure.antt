@@ -1,18 +1,13 @@
 -- A pass that is alone, and knows that a page is evicted and that a frame is free, brings the page unless its device fails.
-use Rattle.std.proofs.Common.{ℕ, ◌≡◌, ◌<◌, ◌≤◌, ◌++◌, ◌∷◌, [], List, sym, ap, subst, ◌∙◌, refl, inl, inr, ⊎_elim, arith}
-use Rattle.vm_core.specs.Fn.{at}
-use Rattle.vm_core.specs.Words.{EVICTED, MAX_VERSION, state_of, version_of}
-use Rattle.vm_rule.specs.declared.view.Note.{Note}
-use Rattle.vm_rule.specs.declared.view.Origin.{Origin}
+use Rattle.std.proofs.Common.{[], ⊎_elim, ◌++◌, ◌<◌, ◌∙◌, ◌∷◌, ◌≡◌, ◌≤◌, ap, arith, inl, inr, List, refl, subst, sym, ℕ}
+use Rattle.vm_core.specs.Prelude.{at, EVICTED, MAX_VERSION, state_of, version_of}
 use Rattle.vm_rule.specs.declared.view.Place.TheVariants as places
-use Rattle.vm_rule.specs.declared.view.View.{View}
 use Rattle.vm_rule.proofs.WordFacts.{word-version}
-use Rattle.vm_step.specs.Alone.{IsAlone, known_word_at}
+use Rattle.vm_step.specs.Prelude.{IsAlone, known_word_at, Note, Origin, View}
 use Rattle.vm_step.proofs.Alone.{still-alone}
-use Rattle.vm_exmap.specs.Frames.{HasFree}
-use Rattle.vm_exmap.specs.Walks.{IsAlloc, IsDry}
+use Rattle.vm_exmap.specs.{Frames.HasFree, Walks.IsAlloc, Walks.IsDry}
 use Rattle.vm_exmap.specs.declared.interface.Alloc.TheVariants as allocs
-use Rattle.vm_fault.specs.Fetches.{IsKnownOut, IsFetchToTry, IsFetchWorn}
+use Rattle.vm_fault.specs.Fetches.{IsFetchToTry, IsFetchWorn, IsKnownOut}
 use Rattle.vm_pool.specs.Brings.{Fetches, Fetches as fetches, Gets, Gets as gets, GetsNone, GetsNone as none, IsBring, IsBring as is_bring, IsSure}
 use Rattle.vm_pool.specs.declared.bring.Bring.{Bring}
 

@@ -1,21 +1,16 @@
 -- What a sweep knows of an eviction: its report has the looks that found the candidates, and the frames that came stand beside those that the
 -- pass holds.
-use Rattle.std.proofs.Common.{ℕ, ◌≡◌, ◌<◌, ◌++◌, true, false, List, sym, subst, ◌∙◌, ⊎_elim}
+use Rattle.std.proofs.Common.{⊎_elim, ◌++◌, ◌<◌, ◌∙◌, ◌≡◌, false, List, subst, sym, true, ℕ}
 use Rattle.std.proofs.lemmas.Bool.{cases_Bool, or_left, or_right, true≢false}
-use Rattle.vm_owner.specs.Numbers.{has}
-use Rattle.vm_rule.specs.declared.view.Origin.{Origin}
-use Rattle.vm_rule.specs.declared.view.View.{View}
-use Rattle.vm_rule.specs.Views.{Each}
-use Rattle.vm_exmap.specs.Frames.{AreHeld}
+use Rattle.vm_rule.specs.Prelude.{Each, has}
+use Rattle.vm_step.specs.Prelude.{AreCandidates, AreHeld, IsCandidate, Origin, View}
+use Rattle.vm_step.specs.declared.choice.Looks.{Looks}
+use Rattle.vm_exmap.specs.Returns.{IsFreed}
 use Rattle.vm_exmap.proofs.Handing.{apart-join, each-has, each-join, each-of}
 use Rattle.vm_clock.specs.Clock.{IsChosen}
-use Rattle.vm_step.specs.Choices.{AreCandidates, IsCandidate}
-use Rattle.vm_step.specs.declared.choice.Looks.{Looks}
-use Rattle.vm_evict.specs.Evictions.{FramesCome, IsBatch}
-use Rattle.vm_pool.specs.Sweeps.{IsSwept}
-use Rattle.vm_evict.specs.declared.report.Report.{Report}
-use Rattle.vm_exmap.specs.Returns.{IsFreed}
+use Rattle.vm_evict.specs.{declared.report.Report.Report, Evictions.FramesCome, Evictions.IsBatch}
 use Rattle.vm_evict.proofs.Gathering.{each-at}
+use Rattle.vm_pool.specs.Sweeps.{IsSwept}
 use Rattle.vm_pool.proofs.Swept.{knows-swept}
 
 module _ {X : Type 0} where

@@ -1,24 +1,17 @@
 -- What a pass that is alone knows of the table after a sweep: the words that the walk left, then those that the eviction left, then those that the
 -- frames' going back left.
-use Rattle.std.proofs.Common.{ℕ, ◌≡◌, ◌<◌, ◌⊎◌, List, length, sym, subst, ◌∙◌, inl, inr, ⊎_elim, bit_or}
-use Rattle.vm_rule.specs.declared.view.Origin.{Origin}
+use Rattle.std.proofs.Common.{⊎_elim, ◌<◌, ◌∙◌, ◌≡◌, ◌⊎◌, bit_or, inl, inr, length, List, subst, sym, ℕ}
+use Rattle.vm_rule.specs.Prelude.{bundles_of}
 use Rattle.vm_rule.specs.declared.view.Place.{Place}
 use Rattle.vm_rule.specs.declared.view.Place.TheVariants as places
-use Rattle.vm_rule.specs.declared.view.View.{View}
-use Rattle.vm_rule.specs.Layout.{bundles_of}
-use Rattle.vm_step.specs.Alone.{IsAlone, known_word_at}
-use Rattle.vm_step.specs.Choices.{candidate_pages}
-use Rattle.vm_step.specs.Tables.{KnowsAt, KnowsElse}
+use Rattle.vm_step.specs.Prelude.{candidate_pages, IsAlone, known_word_at, KnowsAt, KnowsElse, Origin, View}
 use Rattle.vm_step.specs.declared.choice.Looks.{Looks}
-use Rattle.vm_step.proofs.Alone.{still-alone}
-use Rattle.vm_step.proofs.Tables.{else-then, else-within}
+use Rattle.vm_step.proofs.{Alone.still-alone, Tables.else-then, Tables.else-within}
+use Rattle.vm_exmap.specs.{Frames.IsBundleOf, Returns.IsFreed, Returns.KnowsGiven}
 use Rattle.vm_clock.specs.Clock.{IsChosen, IsWalked, KnowsWalked}
-use Rattle.vm_evict.specs.Evictions.{IsBatch, candidate_at, stage_at}
-use Rattle.vm_evict.specs.Tables.{IsOfAny}
-use Rattle.vm_evict.specs.declared.report.Report.{Report}
+use Rattle.vm_evict.specs.{declared.report.Report.Report, Tables.IsOfAny}
+use Rattle.vm_evict.specs.Evictions.{candidate_at, IsBatch, stage_at}
 use Rattle.vm_evict.proofs.Tables.{stays-known}
-use Rattle.vm_exmap.specs.Frames.{IsBundleOf}
-use Rattle.vm_exmap.specs.Returns.{IsFreed, KnowsGiven}
 use Rattle.vm_pool.specs.Sweeps.{KnowsSwept}
 
 -- a walk is on no bundle's word

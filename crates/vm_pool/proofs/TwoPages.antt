@@ -1,31 +1,24 @@
 -- What the first pass of a pool with two frames knows after it asked for a page: another page has its word, a frame is free still, and a page
 -- that was brought can be read.
-use Rattle.std.proofs.Common.{ℕ, Bool, true, ◌≡◌, ◌≢◌, ◌<◌, ◌≤◌, ◌+◌, ◌*◌, ◌-◌, ◌%◌, ◌^◌, ◌∷◌, [], List, length, min, zero, suc, bit_xor, refl, sym, ap, subst, ◌∙◌, inl, inr, ⊎_elim, arith}
+use Rattle.std.specs.Int.{bit_at}
+use Rattle.std.proofs.Common.{[], ⊎_elim, ◌%◌, ◌*◌, ◌+◌, ◌-◌, ◌<◌, ◌^◌, ◌∙◌, ◌∷◌, ◌≡◌, ◌≢◌, ◌≤◌, ap, arith, bit_xor, Bool, inl, inr, length, List}
+use Rattle.std.proofs.Common.{min, refl, subst, suc, sym, true, zero, ℕ}
 use Rattle.std.proofs.lemmas.Bool.{cases_eq, cases_lt}
 use Rattle.std.proofs.lemmas.Nat.Bits.{bit_at-lt, bit_at-zero, bit_at_ones, bit_at_xor}
-use Rattle.std.specs.Int.{bit_at}
-use Rattle.vm_core.specs.Fn.{sum_below}
-use Rattle.vm_core.specs.Start.{full_bundle}
-use Rattle.vm_core.specs.StateActs.{is_readable}
-use Rattle.vm_core.specs.Words.{AreLowest, MAX_VERSION, UNLOCKED, bit_count, state_of, version_of, word_of}
+use Rattle.vm_core.specs.Prelude.{AreLowest, full_bundle, is_readable, MAX_VERSION, state_of, sum_below, UNLOCKED, version_of, word_of}
+use Rattle.vm_core.specs.Words.{bit_count}
 use Rattle.vm_core.proofs.Upd.{sum_below-past}
-use Rattle.vm_block.specs.declared.stored.Stored.{Stored}
-use Rattle.vm_rule.specs.declared.view.Origin.{Origin}
+use Rattle.vm_rule.specs.Prelude.{bundles_of, index_of, IsStarted, started_shape, Stored, unborn}
+use Rattle.vm_rule.specs.Begun.{begun}
 use Rattle.vm_rule.specs.declared.view.Place.TheVariants as places
-use Rattle.vm_rule.specs.declared.view.View.{View}
-use Rattle.vm_rule.specs.Begun.{begun, unborn}
-use Rattle.vm_rule.specs.Layout.{bundles_of, index_of}
-use Rattle.vm_rule.specs.Started.{IsStarted, started_shape}
 use Rattle.vm_rule.proofs.WordFacts.{word-state}
-use Rattle.vm_step.specs.Alone.{IsAlone, known_word_at}
+use Rattle.vm_step.specs.Prelude.{IsAlone, IsOfPage, known_word_at, Origin, View}
 use Rattle.vm_step.proofs.Alone.{still-alone}
 use Rattle.vm_exmap.specs.Frames.{HasFree, IsBundleOf}
-use Rattle.vm_step.specs.DeviceCalls.{IsOfPage}
 use Rattle.vm_fault.specs.Fetches.{IsKnownOut, IsOfBoth}
-use Rattle.vm_pool.specs.Brings.{KeepsLocks}
-use Rattle.vm_pool.specs.Known.{KnowsBring, KnowsBrought, KnowsBrought as brought, known_version}
-use Rattle.vm_pool.specs.declared.bring.Bring.{Bring}
+use Rattle.vm_pool.specs.{Brings.KeepsLocks, declared.bring.Bring.Bring}
 use Rattle.vm_pool.specs.declared.bring.Bring.TheVariants as brings
+use Rattle.vm_pool.specs.Known.{known_version, KnowsBring, KnowsBrought, KnowsBrought as brought}
 use Rattle.vm_pool.proofs.FirstPage.{bundle-there, first-alone, first-out, some-frames, start-is}
 
 -- ---- two bits of a word

@@ -1,22 +1,13 @@
 -- What is left of a pool that was closed by a pass with all parts: the blocks, the next word, and sums of the blocks' counts.
-use Rattle.std.specs.Prelude.{ℕ, Bool, true, false, List, [], ◌≡◌, ◌≢◌, ◌⊎◌, ◌-◌, ◌^◌, ◌<◌, ◌≤◌, length, min}
 use Rattle.std.specs.List.{sum_by}
-use Rattle.vm_core.specs.Fn.{at}
-use Rattle.vm_core.specs.Words.{EVICTED, version_of, MAX_COUNT}
-use Rattle.vm_laws_others.specs.Leaves.{stands_dirty}
-use Rattle.vm_block.specs.declared.stored.Stored.{Stored}
-use Rattle.vm_owner.specs.Kept.{Start, Kept}
+use Rattle.std.specs.Prelude.{[], ◌-◌, ◌<◌, ◌^◌, ◌≡◌, ◌≢◌, ◌≤◌, ◌⊎◌, Bool, false, length, List, min, true, ℕ}
+use Rattle.vm_core.specs.Prelude.{at, EVICTED, MAX_COUNT, version_of}
+use Rattle.vm_rule.specs.Prelude.{began_of, bounds_of, Each, Kept, last_of, no_block, stands_dirty, Start, Stored, table_words, times_noted}
 use Rattle.vm_rule.specs.declared.view.Place.TheVariants as places
-use Rattle.vm_rule.specs.declared.view.View.{View}
-use Rattle.vm_rule.specs.Layout.{table_words}
-use Rattle.vm_rule.specs.Started.{bounds_of}
-use Rattle.vm_rule.specs.Views.{Each, times_noted}
-use Rattle.vm_rule.specs.Reading.{no_block, last_of}
-use Rattle.vm_rule.specs.Rule.{began_of}
-use Rattle.vm_step.specs.Evidence.{HasGiven}
-use Rattle.vm_pool.specs.declared.ended.Ended.{Ended}
 use Rattle.vm_rule_laws.specs.Known.{kept_by}
-use Rattle.vm_rule_laws.specs.Standing.{state_in, mapping_in, fault_in}
+use Rattle.vm_rule_laws.specs.Standing.{fault_in, mapping_in, state_in}
+use Rattle.vm_step.specs.Prelude.{HasGiven, View}
+use Rattle.vm_pool.specs.declared.ended.Ended.{Ended}
 
 module _ {X : Type 0} where
   -- the view's snapshot shows page p evicted, or not dirty

@@ -1,21 +1,14 @@
 -- What a pass that is alone knows of the table after it asked for a page: where it knew a frame to be free, from before the call; else from after
 -- the sweep that the call made.
-use Rattle.std.specs.Prelude.{ℕ, List, [], ◌∷◌, ◌≡◌, ◌≢◌, ◌⊎◌, ◌+◌, ◌<◌, bit_xor, max}
-use Rattle.vm_core.specs.Fn.{at}
-use Rattle.vm_core.specs.Words.{AreLowest, version_of, EVICTED, UNLOCKED, MAX_VERSION}
+use Rattle.std.specs.Prelude.{[], ◌+◌, ◌<◌, ◌∷◌, ◌≡◌, ◌≢◌, ◌⊎◌, bit_xor, List, max, ℕ}
+use Rattle.vm_core.specs.Prelude.{AreLowest, at, EVICTED, MAX_VERSION, UNLOCKED, version_of}
+use Rattle.vm_rule.specs.Prelude.{bundles_of, frames_in}
 use Rattle.vm_rule.specs.declared.view.Place.TheVariants as places
-use Rattle.vm_rule.specs.declared.view.View.{View}
-use Rattle.vm_rule.specs.Bundles.{frames_in}
-use Rattle.vm_rule.specs.Layout.{bundles_of}
-use Rattle.vm_step.specs.Alone.{IsAlone, known_word_at}
-use Rattle.vm_step.specs.Tables.{KnowsElse}
-use Rattle.vm_evict.specs.declared.report.Report.{Report}
+use Rattle.vm_step.specs.Prelude.{IsAlone, IsOfPage, known_word_at, KnowsElse, View}
 use Rattle.vm_exmap.specs.Frames.{HasFree, IsBundleOf}
-use Rattle.vm_step.specs.DeviceCalls.{IsOfPage}
 use Rattle.vm_fault.specs.Fetches.{IsKnownOut, IsOfBoth, KnowsReleased}
-use Rattle.vm_pool.specs.Brings.{IsSure, SaysDry}
-use Rattle.vm_pool.specs.Sweeps.{IsSwept}
-use Rattle.vm_pool.specs.declared.bring.Bring.{Bring}
+use Rattle.vm_evict.specs.declared.report.Report.{Report}
+use Rattle.vm_pool.specs.{Brings.IsSure, Brings.SaysDry, declared.bring.Bring.Bring, Sweeps.IsSwept}
 use Rattle.vm_pool.specs.declared.bring.Bring.TheVariants as brings
 
 module _ {X : Type 0} where
@@ -27,8 +20,10 @@ module _ {X : Type 0} where
   -- frame. The interface had that frame, or had none, and took the lowest bits of a bundle, whose word is without them
   pub data KnowsBrought (cap p : ℕ) (old new : List ℕ) (v w : View X) : Type 0 where
     own : (f : ℕ) → old ≡ f ∷ new → KnowsReleased (IsOfBoth p f) UNLOCKED p (known_version v p) v w → KnowsBrought cap p old new v w
-    taken : (f g mask : ℕ) → old ≡ [] → frames_in g mask ≡ f ∷ new → g < bundles_of v.start.frames → AreLowest (known_word_at v (places.Bundle g)) (max 1 cap) mask
-        → known_word_at w (places.Bundle g) ≡ bit_xor (known_word_at v (places.Bundle g)) mask → KnowsReleased (λ at. IsOfBoth p f at ⊎ (at ≡ places.Bundle g)) UNLOCKED p (known_version v p) v w
+    taken : (f g mask : ℕ) → old ≡ [] → frames_in g mask ≡ f ∷ new → g < bundles_of v.start.frames
+        → AreLowest (known_word_at v (places.Bundle g)) (max 1 cap) mask
+        → known_word_at w (places.Bundle g) ≡ bit_xor (known_word_at v (places.Bundle g)) mask
+        → KnowsReleased (λ at. IsOfBoth p f at ⊎ (at ≡ places.Bundle g)) UNLOCKED p (known_version v p) v w
         → KnowsBrought cap p old new v w
 
   -- page p was evicted and could not be read: it is evicted at its next version; all other words are as before, but those of the bundles, and of

@@ -1,15 +1,7 @@
 -- What a split of one pass and a join of one tell of the views.
-use Rattle.std.specs.Prelude.{ℕ, Bool, true, false, List, [], ◌∷◌, ◌++◌, ◌≡◌, ◌+◌}
-use Rattle.vm_owner.specs.declared.Entry.{Entry}
-use Rattle.vm_owner.specs.Kept.{Start, Kept}
-use Rattle.vm_owner.specs.Numbers.{has}
-use Rattle.vm_rule.specs.declared.view.Did.{Did}
-use Rattle.vm_rule.specs.declared.view.View.{View}
-use Rattle.vm_rule.specs.Joins.{CaughtUp, giver}
-use Rattle.vm_rule.specs.Views.{StartsWith, Hears, IsWhole, entries_by, owns, view_from}
-use Rattle.vm_step.specs.Asides.{HoldsPage}
-use Rattle.vm_step.specs.Still.{HasStill}
-use Rattle.vm_step.specs.Whole.{KnowsAll}
+use Rattle.std.specs.Prelude.{[], ◌++◌, ◌+◌, ◌∷◌, ◌≡◌, Bool, false, List, true, ℕ}
+use Rattle.vm_rule.specs.Prelude.{CaughtUp, entries_by, giver, has, Hears, IsWhole, Kept, owns, Start, StartsWith, view_from}
+use Rattle.vm_step.specs.Prelude.{Did, HasStill, HoldsPage, KnowsAll, View}
 
 module _ {X : Type 0} where
   -- the pass has what it had, but for parts

@@ -1,18 +1,12 @@
 -- What a sweep does: candidates are chosen and evicted, and their frames go to the interface, or back to the bundles past its cap; and what a pass
 -- that is alone knows of the table then.
-use Rattle.std.specs.Prelude.{ℕ, List, ◌⊎◌, ◌<◌, length}
-use Rattle.vm_rule.specs.declared.view.View.{View}
-use Rattle.vm_rule.specs.Layout.{bundles_of}
-use Rattle.vm_step.specs.Alone.{IsAlone}
-use Rattle.vm_step.specs.Choices.{candidate_pages}
-use Rattle.vm_step.specs.Tables.{KnowsElse}
+use Rattle.std.specs.Prelude.{◌<◌, ◌⊎◌, length, List, ℕ}
+use Rattle.vm_rule.specs.Prelude.{bundles_of}
+use Rattle.vm_step.specs.Prelude.{candidate_pages, IsAlone, KnowsElse, View}
+use Rattle.vm_exmap.specs.{Frames.IsBundleOf, Returns.IsFreed, Returns.KnowsGiven}
 use Rattle.vm_clock.specs.Clock.{IsChosen, KnowsWalked}
-use Rattle.vm_evict.specs.Evictions.{IsBatch, candidate_at, stage_at}
-use Rattle.vm_evict.specs.Tables.{IsOfAny, KnowsStage}
-use Rattle.vm_evict.specs.declared.candidate.Stage.{Stage}
-use Rattle.vm_evict.specs.declared.report.Report.{Report}
-use Rattle.vm_exmap.specs.Frames.{IsBundleOf}
-use Rattle.vm_exmap.specs.Returns.{IsFreed, KnowsGiven}
+use Rattle.vm_evict.specs.{declared.candidate.Stage.Stage, declared.report.Report.Report, Tables.IsOfAny, Tables.KnowsStage}
+use Rattle.vm_evict.specs.Evictions.{candidate_at, IsBatch, stage_at}
 
 module _ {X : Type 0} where
   -- what a pass that was alone knows after a sweep, whose walk left it the view x: there, the words of the pages that the clock passed; then, of

@@ -1,13 +1,10 @@
 // A page is brought into memory, and frames are made free for it by a sweep.
-ghost use Rattle.std.specs.Prelude.{◌≡◌, ◌<◌, ◌≤◌, ◌+◌, ◌-◌, ◌^◌, ◌∷◌, [], IfOk, None, length, min};
-ghost use Rattle.vm_exmap.specs.Frames.{AreHeld, HasFree};
+ghost use Rattle.std.specs.Prelude.{[], ◌+◌, ◌-◌, ◌<◌, ◌^◌, ◌∷◌, ◌≡◌, ◌≤◌, IfOk, length, min, None};
+ghost use Rattle.vm_step.specs.Prelude.{AreHeld, IsAlone, IsReady, IsSamePass, view};
+ghost use Rattle.vm_exmap.specs.Frames.{HasFree};
 ghost use Rattle.vm_fault.specs.Fetches.{IsKnownOut};
+ghost use Rattle.vm_pool.specs.{Known.KnowsAsked, Sweeps.IsSwept};
 ghost use Rattle.vm_pool.specs.Brings.{Fetches, IsBring, IsFramed, IsSure, KeepsLocks, NamesWorn, SaysDry};
-ghost use Rattle.vm_pool.specs.Known.{KnowsAsked};
-ghost use Rattle.vm_pool.specs.Sweeps.{IsSwept};
-ghost use Rattle.vm_step.specs.Alone.{IsAlone};
-ghost use Rattle.vm_step.specs.Passes.{IsSamePass, view};
-ghost use Rattle.vm_step.specs.Ready.{IsReady};
 
 use crate::pool::Pool;
 use vm_block::Block;
@@ -90,7 +87,8 @@ impl<U: Owner, B: Block> Pool<U, B> {
         ensures pass { IsSamePass pass.old pass.new }
         ensures ready { IsReady self.now.words.table.shared.key B.tells self.now.words.table.shared.table_id pass.new }
         ensures swept { IsSwept want iface.old.cap iface.old.frames iface.new.frames result (view pass.old) (view pass.new) }
-        ensures iface { (iface.new.home ≡ iface.old.home) × (iface.new.cap ≡ iface.old.cap) × (iface.new.swept ≡ min (iface.old.swept + result.freed) (2 ^ 64 - 1)) }
+        ensures iface { (iface.new.home ≡ iface.old.home) × (iface.new.cap ≡ iface.old.cap)
+            × (iface.new.swept ≡ min (iface.old.swept + result.freed) (2 ^ 64 - 1)) }
         ensures held { AreHeld iface.new.frames (view pass.new) }
         ensures keeps { KeepsLocks (view pass.old) (view pass.new) }
     {
@@ -109,7 +107,8 @@ impl<U: Owner, B: Block> Pool<U, B> {
         requires frames { AreHeld iface.old.frames (view pass.old) }
         ensures pass { IsSamePass pass.old pass.new }
         ensures ready { IsReady self.now.words.table.shared.key B.tells self.now.words.table.shared.table_id pass.new }
-        ensures framed { IsFramed iface.old.home iface.old.cap iface.old.frames iface.new.frames iface.old.swept iface.new.swept (view pass.old) (view pass.new) result }
+        ensures framed { IsFramed iface.old.home iface.old.cap iface.old.frames iface.new.frames iface.old.swept iface.new.swept
+            (view pass.old) (view pass.new) result }
         ensures iface { (iface.new.home ≡ iface.old.home) × (iface.new.cap ≡ iface.old.cap) }
         ensures frame { IfOk result (λ frame. AreHeld (frame ∷ iface.new.frames) (view pass.new)) }
         ensures held { AreHeld iface.new.frames (view pass.new) }
@@ -157,7 +156,8 @@ impl<U: Owner, B: Block> Pool<U, B> {
     /// Brings a page that is Evicted into memory. Where no frame is free it sweeps once, with the interface's cap.
     ///
     /// A pass that is alone, and knows that the page is evicted below the last version and that the interface or a bundle has a frame, is
-    /// answered `Brought`, or `Device` where the page's block failed. It knows the table's words after every answer, after a sweep too.
+    /// answered `Brought`, or `Device` where the page's block failed. After every answer, after a sweep too, it knows the table's
+    /// words, but for those of the bundles after `Device`, `Again` and `Worn`.
     pub fn bring(&self, pass: &mut Pass<U>, iface: &mut Interface, pid: u32) -> Bring
         requires ready { IsReady self.now.words.table.shared.key B.tells self.now.words.table.shared.table_id pass.old }
         requires home { (view pass.old).out ≡ None }
@@ -165,8 +165,10 @@ impl<U: Owner, B: Block> Pool<U, B> {
         requires page { pid < self.now.words.table.shared.key.pages }
         ensures pass { IsSamePass pass.old pass.new }
         ensures ready { IsReady self.now.words.table.shared.key B.tells self.now.words.table.shared.table_id pass.new }
-        ensures answer { IsBring iface.old.home iface.old.cap pid iface.old.frames iface.new.frames iface.old.swept iface.new.swept (view pass.old) (view pass.new) result }
-        ensures sure { IsAlone (view pass.old) → IsKnownOut pid (view pass.old) → HasFree iface.old.frames (view pass.old) → IsSure pid (view pass.old) (view pass.new) result }
+        ensures answer { IsBring iface.old.home iface.old.cap pid iface.old.frames iface.new.frames iface.old.swept iface.new.swept
+            (view pass.old) (view pass.new) result }
+        ensures sure { IsAlone (view pass.old) → IsKnownOut pid (view pass.old) → HasFree iface.old.frames (view pass.old)
+            → IsSure pid (view pass.old) (view pass.new) result }
         ensures table { IsAlone (view pass.old) → KnowsAsked iface.old.cap pid iface.old.frames iface.new.frames (view pass.old) (view pass.new) result }
         ensures iface { (iface.new.home ≡ iface.old.home) × (iface.new.cap ≡ iface.old.cap) }
         ensures held { AreHeld iface.new.frames (view pass.new) }

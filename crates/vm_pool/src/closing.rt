@@ -1,14 +1,12 @@
 //! The end of a pool, once there is room for its blocks.
 
-ghost use Rattle.std.specs.Prelude.{◌≡◌, ◌≤◌, ◌+◌, ◌*◌, ℕ, Bool, true, List, [], Some, length, map};
 ghost use Rattle.std.specs.Mem.Slots.{IsFull, slots_items, slots_len};
+ghost use Rattle.std.specs.Prelude.{[], ◌*◌, ◌+◌, ◌≡◌, ◌≤◌, List, map, Some, true};
 ghost use Rattle.std.specs.Vec.{vec_capacity};
-ghost use Rattle.vm_core.specs.Fn.{at};
+ghost use Rattle.vm_core.specs.Prelude.{at};
+ghost use Rattle.vm_rule.specs.Prelude.{bundles_of, HoldsNoPage, IsWhole, view_of, width_of};
+ghost use Rattle.vm_step.specs.Prelude.{View};
 ghost use Rattle.vm_pool.specs.Closing.{AreSums, IsClosed, view_at_end};
-ghost use Rattle.vm_pool.specs.Holding.{HoldsNoPage};
-ghost use Rattle.vm_rule.specs.declared.view.View.{View};
-ghost use Rattle.vm_rule.specs.Layout.{bundles_of, width_of};
-ghost use Rattle.vm_rule.specs.Views.{IsWhole, view_of};
 
 use crate::ended::{Closed, Ended};
 use crate::told::Told;

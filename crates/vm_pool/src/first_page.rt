@@ -1,9 +1,9 @@
 // A pool is started and a page brought at once. It stands on the contracts of `start` and `bring` alone, and shows that what `bring` promises
 // a pass that is alone can be had: the first pass is such a one, and knows each page to be evicted and each frame to be free.
-ghost use Rattle.std.specs.Prelude.{◌≡◌, ◌<◌, IfOk, length, map, true};
-ghost use Rattle.vm_core.specs.Words.{MAX_VERSION};
+ghost use Rattle.std.specs.Prelude.{◌<◌, ◌≡◌, IfOk, length, map, true};
+ghost use Rattle.vm_core.specs.Prelude.{MAX_VERSION};
+ghost use Rattle.vm_rule.specs.Prelude.{block_words, bounds_of, IsStarted, MayBegin};
 ghost use Rattle.vm_pool.specs.Brings.{IsBroughtOrFailed};
-ghost use Rattle.vm_rule.specs.Started.{IsStarted, MayBegin, bounds_of, block_words};
 
 use crate::bring::Bring;
 use crate::pool::{Pool, Shape};

@@ -1,9 +1,8 @@
 // A pool is started, and a word of a page goes out to the page's block and comes back: it stands on the contracts of `start` and `round_trip` alone, and
 // shows that a word can be had again for sure from the very start, with a sweep in between.
-ghost use Rattle.std.specs.Prelude.{◌≡◌, ◌<◌, ◌+◌, IfOk, IfSome, Some, length, map, true};
-ghost use Rattle.vm_core.specs.Fn.{at};
-ghost use Rattle.vm_core.specs.Words.{MAX_VERSION};
-ghost use Rattle.vm_rule.specs.Started.{IsStarted, MayBegin, bounds_of, block_words};
+ghost use Rattle.std.specs.Prelude.{◌+◌, ◌<◌, ◌≡◌, IfOk, IfSome, length, map, Some, true};
+ghost use Rattle.vm_core.specs.Prelude.{at, MAX_VERSION};
+ghost use Rattle.vm_rule.specs.Prelude.{block_words, bounds_of, IsStarted, MayBegin};
 
 use crate::pool::{Pool, Shape};
 use crate::round_trip::round_trip;

@@ -1,14 +1,11 @@
 //! Passes of a pool: split off, joined, and told of one another.
 
-ghost use Rattle.std.specs.Prelude.{◌≡◌, ◌<◌, ◌≤◌, All, IfErr, IfOk, length, map};
+ghost use Rattle.std.specs.Prelude.{◌<◌, ◌≡◌, ◌≤◌, All, IfErr, IfOk, length, map};
 ghost use Rattle.std.specs.Vec.{vec_capacity, vec_len};
-ghost use Rattle.vm_rule.specs.Joins.{HoldsNoPage};
-ghost use Rattle.vm_rule.specs.declared.view.View.{View};
-ghost use Rattle.vm_step.specs.Passes.{IsSamePass, MayStep, view};
-ghost use Rattle.vm_step.specs.Ready.{IsReady};
+ghost use Rattle.vm_rule.specs.Prelude.{HoldsNoPage};
+ghost use Rattle.vm_step.specs.Prelude.{IsReady, IsSamePass, MayStep, Meets, PassesSplit, View, view};
+ghost use Rattle.vm_step.specs.Together.{TakesIn};
 ghost use Rattle.vm_pool.specs.Parting.{HaveMet, Joins, Splits};
-ghost use Rattle.vm_step.specs.Meeting.{Meets};
-ghost use Rattle.vm_step.specs.Together.{HasJoined, PassesSplit, TakesIn};
 
 use crate::pool::Pool;
 use std::alloc::Global;
@@ -59,7 +56,8 @@ impl<U: Owner, B: Block> Pool<U, B> {
         requires nothing { HoldsNoPage (view other) }
         ensures pass { IsSamePass pass.old pass.new }
         ensures may { MayStep self.now.words.table.shared.table_id pass.new }
-        ensures ready { IsReady self.now.words.table.shared.key B.tells self.now.words.table.shared.table_id pass.old → IsReady self.now.words.table.shared.key B.tells self.now.words.table.shared.table_id pass.new }
+        ensures ready { IsReady self.now.words.table.shared.key B.tells self.now.words.table.shared.table_id pass.old
+            → IsReady self.now.words.table.shared.key B.tells self.now.words.table.shared.table_id pass.new }
         ensures told { TakesIn (view pass.old) (view other) (view pass.new) }
         ensures joins { Joins B.tells U.keeps (view pass.old) (view other) (view pass.new) }
     {
@@ -95,7 +93,8 @@ fn split_each<U: Owner, B: Block>(
     requires room { (length given.items ≡ 0) × (n ≤ vec_capacity given) × (vec_len given ≡ 0) }
     ensures pass { IsSamePass pass.old pass.new }
     ensures ready { IsReady words.now.table.shared.key B.tells words.now.table.shared.table_id pass.new }
-    ensures split { (v : View U.Said) → PassesSplit v (map (λ p. view p) given.items) (view pass.old) → PassesSplit v (map (λ p. view p) result.items) (view pass.new) }
+    ensures split { (v : View U.Said) → PassesSplit v (map (λ p. view p) given.items) (view pass.old)
+        → PassesSplit v (map (λ p. view p) result.items) (view pass.new) }
     ensures each { All (λ p. IsReady words.now.table.shared.key B.tells words.now.table.shared.table_id p) result.items }
     ensures count { length result.items ≡ n }
 {

@@ -1,11 +1,9 @@
 //! A pool: the shared words with their blocks, from the start to the end.
 
-ghost use Rattle.std.specs.Prelude.{◌≡◌, length, map, true, IfErr, IfOk};
+ghost use Rattle.std.specs.Prelude.{◌≡◌, IfErr, IfOk, length, map, true};
+ghost use Rattle.vm_rule.specs.Prelude.{block_words, HoldsNoPage, IsStarted, IsWhole, MayBegin, started_shape, unborn, view_of};
+ghost use Rattle.vm_rule.specs.Begun.{begun};
 ghost use Rattle.vm_pool.specs.Closing.{AreSums, IsClosed, view_at_end};
-ghost use Rattle.vm_pool.specs.Holding.{HoldsNoPage};
-ghost use Rattle.vm_rule.specs.Begun.{begun, unborn};
-ghost use Rattle.vm_rule.specs.Started.{IsStarted, MayBegin, started_shape, block_words};
-ghost use Rattle.vm_rule.specs.Views.{IsWhole, view_of};
 
 use crate::closing::closed;
 use crate::ended::Closed;
@@ -50,9 +48,11 @@ impl<U: Owner, B: Block + Drop> Pool<U, B> {
         requires pages { shape.pages ≡ length blocks.items }
         requires fits { IsStarted shape.first_version shape.next shape.frames (length blocks.items) }
         requires begins { B.tells ≡ true → MayBegin U.keeps shape.next (block_words (map B.stored blocks.items)) }
-        ensures key { IfOk result (λ made. made.0.words.table.shared.key ≡ started_shape B.tells shape.first_version shape.next shape.frames (map B.stored blocks.items)) }
+        ensures key { IfOk result (λ made. made.0.words.table.shared.key
+            ≡ started_shape B.tells shape.first_version shape.next shape.frames (map B.stored blocks.items)) }
         ensures pass { IfOk result (λ made. made.1.badge.table_id ≡ made.0.words.table.shared.table_id) }
-        ensures view { IfOk result (λ made. view_of made.1.badge.views ≡ begun (unborn (started_shape B.tells shape.first_version shape.next shape.frames (map B.stored blocks.items)))) }
+        ensures view { IfOk result (λ made. view_of made.1.badge.views
+            ≡ begun (unborn (started_shape B.tells shape.first_version shape.next shape.frames (map B.stored blocks.items)))) }
     {
         let (words, pass) = Words::started(
             alloc,

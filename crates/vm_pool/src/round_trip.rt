@@ -1,11 +1,8 @@
 // A word that is written and read again, with a sweep in between: it stands on the contracts of the pool and of the guards alone, and so
 // shows that they are enough for a caller.
-ghost use Rattle.std.specs.Prelude.{◌≡◌, ◌<◌, IfSome, None, Some, true};
-ghost use Rattle.vm_step.specs.Alone.{IsAlone};
-ghost use Rattle.vm_exmap.specs.Frames.{AreHeld};
+ghost use Rattle.std.specs.Prelude.{◌<◌, ◌≡◌, IfSome, None, Some, true};
+ghost use Rattle.vm_step.specs.Prelude.{AreHeld, IsAlone, IsReady, view};
 ghost use Rattle.vm_pool.specs.Known.{MayGoRound};
-ghost use Rattle.vm_step.specs.Passes.{view};
-ghost use Rattle.vm_step.specs.Ready.{IsReady};
 
 use crate::pool::Pool;
 use vm_block::Block;

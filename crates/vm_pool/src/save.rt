@@ -1,14 +1,11 @@
 // A pool's dirty pages are written, and the pool is closed. It stands on the contracts of `flush` and `close` alone, and shows that they are
 // enough for a caller: where no write failed, each block has the last words of its page.
-ghost use Rattle.std.specs.Prelude.{◌≡◌, ◌<◌, ℕ, IfErr, IfOk, None, length, map, true};
-ghost use Rattle.vm_core.specs.Fn.{at};
+ghost use Rattle.std.specs.Prelude.{◌<◌, ◌≡◌, IfErr, IfOk, length, map, None, true, ℕ};
+ghost use Rattle.vm_core.specs.Prelude.{at};
+ghost use Rattle.vm_rule.specs.Prelude.{HoldsNoPage, last_of, no_block};
+ghost use Rattle.vm_step.specs.Prelude.{IsAlone, IsReady, view};
 ghost use Rattle.vm_evict.specs.Flushes.{IsFlushed};
 ghost use Rattle.vm_pool.specs.Closing.{AreSums, IsClosed, view_at_end};
-ghost use Rattle.vm_pool.specs.Holding.{HoldsNoPage};
-ghost use Rattle.vm_rule.specs.Reading.{last_of, no_block};
-ghost use Rattle.vm_step.specs.Alone.{IsAlone};
-ghost use Rattle.vm_step.specs.Passes.{view};
-ghost use Rattle.vm_step.specs.Ready.{IsReady};
 
 use crate::ended::Closed;
 use crate::pool::Pool;
@@ -35,13 +32,15 @@ pub fn flush_and_close<U: Owner, B: Block + Drop>(
     requires ready { IsReady pool.words.table.shared.key B.tells pool.words.table.shared.table_id pass }
     requires alone { IsAlone (view pass) }
     requires holds { HoldsNoPage (view pass) }
-    ensures words { IfOk result (λ saved. B.tells ≡ true → saved.report.failed ≡ 0 → (p : ℕ) → p < pool.words.table.shared.key.pages → (at no_block (map B.stored saved.closed.blocks.items) p).words ≡ (last_of (view pass) p).words) }
+    ensures words { IfOk result (λ saved. B.tells ≡ true → saved.report.failed ≡ 0 → (p : ℕ) → p < pool.words.table.shared.key.pages
+        → (at no_block (map B.stored saved.closed.blocks.items) p).words ≡ (last_of (view pass) p).words) }
     ensures count { IfOk result (λ saved. length saved.closed.blocks.items ≡ pool.words.table.shared.key.pages) }
     ensures busy { IfOk result (λ saved. saved.report.busy ≡ 0) }
     ensures first { IfOk result (λ saved. saved.report.failed ≡ 0 → saved.report.first ≡ None) }
     ensures flushed { IfOk result (λ saved. IsFlushed saved.report (view pass) (view_at_end saved.closed.ended)) }
     ensures sums { IfOk result (λ saved. AreSums (map B.stored saved.closed.blocks.items) saved.closed.ended) }
-    ensures closed { IfOk result (λ saved. IsClosed B.tells U.keeps (view_at_end saved.closed.ended) (map B.stored saved.closed.blocks.items) saved.closed.next) }
+    ensures closed { IfOk result (λ saved. IsClosed B.tells U.keeps (view_at_end saved.closed.ended)
+        (map B.stored saved.closed.blocks.items) saved.closed.next) }
     ensures pool { IfErr result (λ back. back.0 ≡ pool) }
     ensures ready { IfErr result (λ back. IsReady pool.words.table.shared.key B.tells pool.words.table.shared.table_id back.1) }
     ensures alone { IfErr result (λ back. IsAlone (view back.1)) }

@@ -1,9 +1,9 @@
 // A pool is started, a page brought, shared and read: it stands on the contracts of `start`, `bring` and the shared guard alone, and shows that a page
 // that was brought can be shared for sure.
-ghost use Rattle.std.specs.Prelude.{◌≡◌, ◌<◌, IfOk, IsSome, length, map, true};
-ghost use Rattle.vm_core.specs.Words.{MAX_VERSION};
+ghost use Rattle.std.specs.Prelude.{◌<◌, ◌≡◌, IfOk, IsSome, length, map, true};
+ghost use Rattle.vm_core.specs.Prelude.{MAX_VERSION};
+ghost use Rattle.vm_rule.specs.Prelude.{block_words, bounds_of, IsStarted, MayBegin};
 ghost use Rattle.vm_pool.specs.Brings.{IsBroughtOrFailed};
-ghost use Rattle.vm_rule.specs.Started.{IsStarted, MayBegin, bounds_of, block_words};
 
 use crate::bring::Bring;
 use crate::pool::{Pool, Shape};

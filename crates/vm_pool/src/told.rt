@@ -1,6 +1,6 @@
 // What a pass knew, for proofs alone.
 ghost use Rattle.std.specs.Borrow.{ftrue};
-ghost use Rattle.vm_rule.specs.declared.view.View.{View};
+ghost use Rattle.vm_step.specs.Prelude.{View};
 
 use std::marker::{Model, PhantomData};
 

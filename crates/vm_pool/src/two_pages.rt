@@ -1,9 +1,9 @@
 // A pool is started, two pages are brought, and a word of the first is read. It stands on the contracts of `start`, `bring` and `read_word`
 // alone, and shows that they can be chained: what a pass that is alone knows after one call is what makes the next one sure.
-ghost use Rattle.std.specs.Prelude.{◌≡◌, ◌≢◌, ◌<◌, ◌≤◌, IfOk, IsSome, length, map, true};
-ghost use Rattle.vm_core.specs.Words.{MAX_VERSION};
+ghost use Rattle.std.specs.Prelude.{◌<◌, ◌≡◌, ◌≢◌, ◌≤◌, IfOk, IsSome, length, map, true};
+ghost use Rattle.vm_core.specs.Prelude.{MAX_VERSION};
+ghost use Rattle.vm_rule.specs.Prelude.{block_words, bounds_of, IsStarted, MayBegin};
 ghost use Rattle.vm_pool.specs.Brings.{IsBroughtOrFailed};
-ghost use Rattle.vm_rule.specs.Started.{IsStarted, MayBegin, bounds_of, block_words};
 
 use crate::bring::Bring;
 use crate::pool::{Pool, Shape};

@@ -1,11 +1,8 @@
 // A pool whose pass is split and joined again is closed: it stands on the contracts of the pool alone, and shows that a pass that has taken
 // in all that it split off has all parts again.
 ghost use Rattle.std.specs.Prelude.{◌≡◌, ◌≤◌, All, IfOk, length, map, true};
-ghost use Rattle.vm_rule.specs.Joins.{HoldsNoPage};
-ghost use Rattle.vm_rule.specs.Started.{IsStarted, MayBegin, block_words};
-ghost use Rattle.vm_step.specs.Passes.{IsSamePass, MayStep, view};
-ghost use Rattle.vm_step.specs.Ready.{IsReady};
-ghost use Rattle.vm_step.specs.Together.{HasJoined};
+ghost use Rattle.vm_rule.specs.Prelude.{block_words, HoldsNoPage, IsStarted, MayBegin};
+ghost use Rattle.vm_step.specs.Prelude.{HasJoined, IsReady, IsSamePass, MayStep, view};
 
 use crate::ended::Closed;
 use crate::pool::{Pool, Shape};

@@ -1,9 +1,9 @@
 -- The walk so far gives each clause.
-use Rattle.std.proofs.Common.{◌≡◌, ◌<◌, ◌≤◌, ◌+◌, ◌*◌, ◌%◌, length, suc, sym, ap, subst, ◌∙◌, inl, inr, arith}
-use Rattle.vm_step.specs.Passes.{view}
+use Rattle.std.proofs.Common.{◌%◌, ◌*◌, ◌+◌, ◌<◌, ◌∙◌, ◌≡◌, ◌≤◌, ap, arith, inl, inr, length, subst, suc, sym}
+use Rattle.vm_step.specs.Prelude.{view}
 use Rattle.vm_clock.specs.Clock.{looks_counted}
-use Rattle.vm_clock.proofs.Walking.{IsWalking, walked-chosen, walked-few, walked-list, walked-looks, walking-on}
 use Rattle.vm_clock.proofs.candidates.Goals as goal
+use Rattle.vm_clock.proofs.Walking.{IsWalking, walked-chosen, walked-few, walked-list, walked-looks, walking-on}
 
 pub returns-then-len-want-clause-list : goal.returns-then-len-want-clause-list
 returns-then-len-want-clause-list g c =

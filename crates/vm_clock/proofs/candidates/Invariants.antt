@@ -1,7 +1,6 @@
-use Rattle.vm_step.specs.Passes.{IsSamePass, view}
-use Rattle.vm_step.specs.Ready.{IsReady}
-use Rattle.vm_clock.proofs.Walking.{IsWalking}
+use Rattle.vm_step.specs.Prelude.{IsReady, IsSamePass, view}
 use Rattle.vm_clock.proofs.candidates.Given as goal
+use Rattle.vm_clock.proofs.Walking.{IsWalking}
 
 -- k visits were made
 abbrev pub invariant-loop-k : goal.invariant-loop-k

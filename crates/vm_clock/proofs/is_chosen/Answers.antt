@@ -1,6 +1,6 @@
-use Rattle.std.proofs.Common.{◌≡◌, ◌+◌, false, suc, take, sym, subst, arith}
-use Rattle.vm_step.specs.Choices.{candidate_pages}
-use Rattle.vm_owner.specs.Numbers.{has}
+use Rattle.std.proofs.Common.{◌+◌, ◌≡◌, arith, false, subst, suc, sym, take}
+use Rattle.vm_rule.specs.Prelude.{has}
+use Rattle.vm_step.specs.Prelude.{candidate_pages}
 use Rattle.vm_clock.proofs.Choices.{has-at, has-next}
 use Rattle.vm_clock.proofs.is_chosen.Goals as goal
 

@@ -1,6 +1,6 @@
 use Rattle.std.proofs.Common.{◌≡◌, false, take}
-use Rattle.vm_step.specs.Choices.{candidate_pages}
-use Rattle.vm_owner.specs.Numbers.{has}
+use Rattle.vm_rule.specs.Prelude.{has}
+use Rattle.vm_step.specs.Prelude.{candidate_pages}
 use Rattle.vm_clock.proofs.is_chosen.Given as goal
 
 -- the page is none of the first i

@@ -1,11 +1,12 @@
 -- What the look found, and the exchange, give each count.
-use Rattle.std.proofs.Common.{◌≡◌, ◌<◌, ◌+◌, ◌⊎◌, true, false, [], refl, sym, ap, subst, ◌∙◌, inl, inr}
-use Rattle.vm_core.specs.Words.{state_of, UNLOCKED, MARKED}
+use Rattle.std.proofs.Common.{[], ◌+◌, ◌<◌, ◌∙◌, ◌≡◌, ◌⊎◌, ap, false, inl, inr, refl, subst, sym, true}
+use Rattle.vm_core.specs.Prelude.{MARKED, state_of, UNLOCKED}
 use Rattle.vm_step.proofs.Evidenced.{first-or, held-state}
 use Rattle.vm_clock.specs.Clock.{Visits as visits}
-use Rattle.vm_clock.proofs.Visiting.{by-look, by-mark, fresh-word, looks-at, told-of}
-use Rattle.vm_clock.proofs.visit.Goals.{else-state-ne-UNLOCKED-via-then-state-ne-UNLOCKED+else-state-2, else-state-ne-UNLOCKED-via-else-state-ne-UNLOCKED}
+use Rattle.vm_clock.proofs.visit.Goals.{else-state-ne-UNLOCKED-via-else-state-ne-UNLOCKED}
+use Rattle.vm_clock.proofs.visit.Goals.{else-state-ne-UNLOCKED-via-then-state-ne-UNLOCKED+else-state-2}
 use Rattle.vm_clock.proofs.visit.Goals as goal
+use Rattle.vm_clock.proofs.Visiting.{by-look, by-mark, fresh-word, looks-at, told-of}
 
 pub returns-then-is_chosen-clause-visited : goal.returns-then-is_chosen-clause-visited
 returns-then-is_chosen-clause-visited g c =

@@ -1,10 +1,9 @@
-use Rattle.std.proofs.Common.{◌≡◌, ◌<◌, ◌≤◌, ℕ, length, refl, sym, subst, ◌∙◌, arith}
+use Rattle.std.proofs.Common.{◌<◌, ◌∙◌, ◌≡◌, ◌≤◌, arith, length, refl, subst, sym, ℕ}
 use Rattle.std.proofs.lemmas.List.{length-set}
-use Rattle.vm_step.specs.Choices.{IsCandidate}
-use Rattle.vm_step.specs.Passes.{view}
+use Rattle.vm_step.specs.Prelude.{IsCandidate, view}
+use Rattle.vm_evict.proofs.batch.pass_over.Goals as goal
 use Rattle.vm_evict.proofs.Gathering.{each-at}
 use Rattle.vm_evict.proofs.Passing.{back-more, front-more, passed-more, passed-none}
-use Rattle.vm_evict.proofs.batch.pass_over.Goals as goal
 
 -- there is a stage for each candidate
 fits : (n m : ℕ) → n ≤ 64 → m ≡ 64 → n ≤ m
@@ -78,3 +77,6 @@ returns-clause-passed g c = c.loop-i.invariant.passed
 
 pub returns-clause-ends : goal.returns-clause-ends
 returns-clause-ends g c n b = c.loop-i.invariant.front n (after-all n c.loop-i.i _ c.loop-i-test.false b)
+
+pub returns-clause-way : goal.returns-clause-way
+returns-clause-way g c = (c.requires.way.0, _, (c.loop-i.invariant.passed c.requires.way.0 c.requires.way.1 c.requires.way.2).after)

@@ -1,10 +1,8 @@
-use Rattle.std.proofs.Common.{◌≡◌, ◌<◌, ◌≤◌, ℕ, length}
-use Rattle.vm_evict.specs.Evictions.{stage_at}
-use Rattle.vm_evict.specs.Stages.{MayBeginPhase, MayEnd}
-use Rattle.vm_step.specs.Passes.{IsSamePass, view}
-use Rattle.vm_step.specs.Ready.{IsReady}
-use Rattle.vm_evict.proofs.Passing.{Passes}
+use Rattle.std.proofs.Common.{◌<◌, ◌≡◌, ◌≤◌, length, ℕ}
+use Rattle.vm_step.specs.Prelude.{IsReady, IsSamePass, view}
+use Rattle.vm_evict.specs.{Evictions.stage_at, Stages.MayBeginPhase, Stages.MayEnd}
 use Rattle.vm_evict.proofs.batch.pass_over.Given as goal
+use Rattle.vm_evict.proofs.Passing.{Passes}
 
 -- the candidates below i have passed the phase
 abbrev pub invariant-loop-i : goal.invariant-loop-i

@@ -1,6 +1,6 @@
-use Rattle.std.proofs.Common.{◌≡◌, ◌≤◌, ℕ, length, refl, subst, arith}
-use Rattle.vm_evict.proofs.Counting.{Reports, counts-fit, reports-more, reports-none}
+use Rattle.std.proofs.Common.{◌≡◌, ◌≤◌, arith, length, refl, subst, ℕ}
 use Rattle.vm_evict.proofs.batch.report_of.Goals as goal
+use Rattle.vm_evict.proofs.Counting.{counts-fit, Reports, reports-more, reports-none}
 
 end : (n m : ℕ) → m ≤ n → n ≤ m → n ≡ m
 end n m ge le = omega (arith, ge, le)

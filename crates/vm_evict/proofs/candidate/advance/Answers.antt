@@ -1,11 +1,10 @@
 use Rattle.std.proofs.Common.{refl, subst}
-use Rattle.vm_evict.specs.Stages.{MayBeginPhase}
-use Rattle.vm_evict.specs.declared.candidate.Phase.{Phase}
+use Rattle.vm_step.specs.Prelude.{view}
+use Rattle.vm_evict.specs.{declared.candidate.Phase.Phase, Stages.MayBeginPhase}
 use Rattle.vm_evict.specs.declared.candidate.Phase.TheVariants as phases
 use Rattle.vm_evict.specs.declared.candidate.Stage.TheVariants as stages
-use Rattle.vm_step.specs.Passes.{view}
-use Rattle.vm_evict.proofs.Moving.{begins-waiting, comes-from, empty-skips, leave-skips, lock-skips, raise-skips}
 use Rattle.vm_evict.proofs.candidate.advance.Goals as goal
+use Rattle.vm_evict.proofs.Moving.{begins-waiting, comes-from, empty-skips, leave-skips, lock-skips, raise-skips}
 
 pub returns-in-Save-clause-moved : goal.returns-in-Save-clause-moved
 returns-in-Save-clause-moved g c v done h =

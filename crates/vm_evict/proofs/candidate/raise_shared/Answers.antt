@@ -1,8 +1,8 @@
-use Rattle.std.proofs.Common.{ap, ◌∙◌}
-use Rattle.vm_core.specs.Words.{word_of}
-use Rattle.vm_step.specs.Passes.{view}
-use Rattle.vm_evict.proofs.Owning.{lost-so, may-give, may-raise, raised-so}
+use Rattle.std.proofs.Common.{◌∙◌, ap}
+use Rattle.vm_core.specs.Prelude.{word_of}
+use Rattle.vm_step.specs.Prelude.{view}
 use Rattle.vm_evict.proofs.candidate.raise_shared.Goals as goal
+use Rattle.vm_evict.proofs.Owning.{lost-so, may-give, may-raise, raised-so}
 
 pub upgrade-requires-clause-legal : goal.upgrade-requires-clause-legal
 upgrade-requires-clause-legal g c = may-raise g.U.Owner.tied c.args.p c.args.word c.args.written c.requires.at.1 c.requires.at.0 (view c.args.pass.now) c.requires.at.2.0 c.of-shared.result (c.of-shared.ensures ∙ ap (word_of 1) c.version.ensures) c.requires.candidate.below

@@ -1,24 +1,39 @@
-use Rattle.std.proofs.Common.{false, refl, inl}
-use Rattle.vm_step.specs.Passes.{view}
-use Rattle.vm_evict.specs.Phases.{shares}
+use Rattle.std.proofs.Common.{◌∙◌, false, refl}
+use Rattle.vm_step.specs.Prelude.{view}
 use Rattle.vm_evict.specs.declared.candidate.Phase.TheVariants as phases
 use Rattle.vm_evict.specs.declared.candidate.Stage.TheVariants as stages
-use Rattle.vm_evict.proofs.Locking.{lost-so, share-known, share-quiet, writing}
-use Rattle.vm_evict.proofs.Moving.{advances-after, none-shared, none-waiting}
+use Rattle.vm_evict.specs.Phases.{shares}
 use Rattle.vm_evict.proofs.candidate.save_marked.Goals as goal
-
-pub save-requires-clause-shared : goal.save-requires-clause-shared
-save-requires-clause-shared g c =
-    (c.requires.at.0, _, writing g.U.Owner.tied c.args.p c.args.word c.requires.candidate.marked c.requires.at.1 c.requires.at.0 (view c.args.pass.now) (view c.lock_write_back.new.pass) c.requires.at.2 c.in-Taken.ensures.told c.requires.at.3)
+use Rattle.vm_evict.proofs.Locking.{lost-so, share-known, share-quiet, writing}
+use Rattle.vm_evict.proofs.Moving.{advances-after, gives-nothing, none-shared, none-waiting}
+use Rattle.vm_evict.proofs.Saving.{failed-so, written-so}
+use Rattle.vm_evict.proofs.WriteLocks.{lock-now, may-unshare, under-write-back}
 
 pub returns-in-Lost-clause-moved : goal.returns-in-Lost-clause-moved
 returns-in-Lost-clause-moved g c v done h why =
-    lost-so phases.Save stages.Waiting c.args.p c.args.word c.in-Lost.field-0 _ done v (view c.args.pass.now) _ (view c.lock_write_back.new.pass) h (c.lock_write_back.ensures.lost c.in-Lost.field-0 c.in-Lost.is) c.in-Lost.ensures.told.brings (shares c.in-Lost.field-0 refl) tt record { is = refl; when = inl refl } record { is = refl; when = inl refl } record { is = refl; when = inl refl } (λ k. k)
+    lost-so phases.Save stages.Waiting c.args.p c.args.word c.in-Lost.field-0 _ done v (view c.args.pass.now) _ (view c.lock_write_back.new.pass) h (c.lock_write_back.ensures.lost c.in-Lost.field-0 c.in-Lost.is) c.in-Lost.ensures.told.brings (shares c.in-Lost.field-0 refl)
+    tt (gives-nothing refl refl refl) (λ k. k)
 
-pub returns-in-Taken-clause-moved : goal.returns-in-Taken-clause-moved
-returns-in-Taken-clause-moved g c v done h why =
-    advances-after (c.args.p, c.args.word) stages.Waiting (stages.Shared false) c.save.result done _ v (view c.args.pass.now) (view c.lock_write_back.new.pass) (view c.save.new.pass)
-    (share-quiet g.U.Owner.tied c.args.p c.args.word c.requires.candidate.marked done v (view c.args.pass.now) (view c.lock_write_back.new.pass) h c.in-Taken.ensures.told)
+pub write_where_dirty-requires-clause-legal : goal.write_where_dirty-requires-clause-legal
+write_where_dirty-requires-clause-legal g c = under-write-back c.in_default.ensures.told c.requires.home
+
+pub unlock_shared-requires-clause-legal : goal.unlock_shared-requires-clause-legal
+unlock_shared-requires-clause-legal g c =
+    let k = c.in-Err.ensures.written.locked in
+    may-unshare c.args.p (view c.write_where_dirty.new.pass) (k.works.seat ∙ lock-now c.in_default.ensures.told) k.told k.home
+
+pub returns-in-Ok-clause-moved : goal.returns-in-Ok-clause-moved
+returns-in-Ok-clause-moved g c v done h why =
+    advances-after (c.args.p, c.args.word) stages.Waiting (stages.Shared false) (stages.Shared c.in-Ok.written) done _ v (view c.args.pass.now) (view c.lock_write_back.new.pass) (view c.write_where_dirty.new.pass)
+    (share-quiet g.U.Owner.tied c.args.p c.args.word c.requires.candidate.marked done v (view c.args.pass.now) (view c.lock_write_back.new.pass) h c.in_default.ensures.told)
     (none-waiting (view c.args.pass.now) (c.args.p, c.args.word)) (none-shared (view c.lock_write_back.new.pass) (c.args.p, c.args.word) false)
-    (share-known g.U.Owner.tied c.args.p c.args.word c.requires.candidate.marked done v (view c.args.pass.now) (view c.lock_write_back.new.pass) h c.in-Taken.ensures.told)
-    (c.save.ensures.saved v _ (writing g.U.Owner.tied c.args.p c.args.word c.requires.candidate.marked done v (view c.args.pass.now) (view c.lock_write_back.new.pass) h c.in-Taken.ensures.told why))
+    (share-known g.U.Owner.tied c.args.p c.args.word c.requires.candidate.marked done v (view c.args.pass.now) (view c.lock_write_back.new.pass) h c.in_default.ensures.told)
+    (written-so c.args.p c.args.word _ v (view c.lock_write_back.new.pass) (view c.write_where_dirty.new.pass) (writing g.U.Owner.tied c.args.p c.args.word c.requires.candidate.marked done v (view c.args.pass.now) (view c.lock_write_back.new.pass) h c.in_default.ensures.told why) c.in-Ok.written c.in-Ok.ensures.written)
+
+pub returns-in-Err-clause-moved : goal.returns-in-Err-clause-moved
+returns-in-Err-clause-moved g c v done h why =
+    advances-after (c.args.p, c.args.word) stages.Waiting (stages.Shared false) (stages.Failed c.in-Err.count) done _ v (view c.args.pass.now) (view c.lock_write_back.new.pass) (view c.unlock_shared.new.pass)
+    (share-quiet g.U.Owner.tied c.args.p c.args.word c.requires.candidate.marked done v (view c.args.pass.now) (view c.lock_write_back.new.pass) h c.in_default.ensures.told)
+    (none-waiting (view c.args.pass.now) (c.args.p, c.args.word)) (none-shared (view c.lock_write_back.new.pass) (c.args.p, c.args.word) false)
+    (share-known g.U.Owner.tied c.args.p c.args.word c.requires.candidate.marked done v (view c.args.pass.now) (view c.lock_write_back.new.pass) h c.in_default.ensures.told)
+    (failed-so c.args.p c.args.word _ v (view c.lock_write_back.new.pass) (view c.write_where_dirty.new.pass) (writing g.U.Owner.tied c.args.p c.args.word c.requires.candidate.marked done v (view c.args.pass.now) (view c.lock_write_back.new.pass) h c.in_default.ensures.told why) c.in-Err.count c.in-Err.ensures.written c.unlock_shared.result (view c.unlock_shared.new.pass) c.unlock_shared.ensures.told)

@@ -1,10 +1,10 @@
-use Rattle.vm_step.specs.Passes.{view}
+use Rattle.vm_step.specs.Prelude.{view}
 use Rattle.vm_evict.specs.declared.candidate.Stage.TheVariants as stages
+use Rattle.vm_evict.proofs.candidate.save_page.Goals.{else-seen-word-via-else-seen-word, else-seen-word-via-then-seen-word+else-is_none}
+use Rattle.vm_evict.proofs.candidate.save_page.Goals as goal
 use Rattle.vm_evict.proofs.FlushMarks.{none-there, not-dirty}
 use Rattle.vm_evict.proofs.Looking.{clean-so, looked, shares-another, shares-dirty, waits-known, waits-on}
 use Rattle.vm_evict.proofs.Moving.{advances-after, none-waiting}
-use Rattle.vm_evict.proofs.candidate.save_page.Goals.{else-seen-word-via-then-seen-word+else-is_none, else-seen-word-via-else-seen-word}
-use Rattle.vm_evict.proofs.candidate.save_page.Goals as goal
 
 pub returns-then-is_none-clause-moved : goal.returns-then-is_none-clause-moved
 returns-then-is_none-clause-moved g c v done h = clean-so g.U.Owner.tied c.args.p c.args.word c.look_silently-seen.result c.tload.result done v (view c.args.pass.now) (view c.look_silently-seen.new.pass) (view c.tload.new.pass) h c.look_silently-seen.ensures.told c.tload.ensures.told c.if-seen-word.true c.requires.candidate.marked (not-dirty _ _ (none-there _ c.if-is_none.ensures) c.dirty_frame-dirty.ensures)

@@ -1,9 +1,9 @@
 -- Page after page gives each clause.
-use Rattle.std.proofs.Common.{◌≡◌, ◌<◌, ◌≤◌, ◌+◌, suc, refl, sym, subst, ◌∙◌, arith}
-use Rattle.vm_step.specs.Passes.{view}
-use Rattle.vm_evict.specs.Flushes.{IsFlushedTo, done_of}
-use Rattle.vm_evict.proofs.FlushPages.{flushed-more, flushed-none}
+use Rattle.std.proofs.Common.{◌+◌, ◌<◌, ◌∙◌, ◌≡◌, ◌≤◌, arith, refl, subst, suc, sym}
+use Rattle.vm_step.specs.Prelude.{view}
+use Rattle.vm_evict.specs.Flushes.{done_of, IsFlushedTo}
 use Rattle.vm_evict.proofs.flushing.flush.Goals as goal
+use Rattle.vm_evict.proofs.FlushPages.{flushed-more, flushed-none}
 
 pub loop-p-init : goal.loop-p-init
 loop-p-init g c = record { same = (refl, refl); ready = c.requires.ready; flushed = flushed-none (view c.args.pass.now) }
@@ -29,7 +29,7 @@ loop-p-preserved g c =
       same = (c.visit.ensures.pass.0 ∙ c.loop-p.invariant.same.0, c.visit.ensures.pass.1 ∙ c.loop-p.invariant.same.1);
       ready = c.visit.ensures.ready;
       flushed = subst (λ n. IsFlushedTo n c.visit.new.flushed (view c.args.pass.now) (view c.visit.new.pass)) next
-          (flushed-more _ _ _ _ _ _ (subst (λ n. c.loop-p.p < n) pages c.loop-p-test.true) c.loop-p.invariant.flushed c.visit.ensures.visited c.visit.ensures.settles);
+          (flushed-more _ _ _ _ _ _ (subst (λ n. c.loop-p.p < n) pages c.loop-p-test.true) c.loop-p.invariant.flushed c.visit.ensures.visited);
     }
 
 pub returns-clause-pass : goal.returns-clause-pass

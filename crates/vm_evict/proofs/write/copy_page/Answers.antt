@@ -1,5 +1,5 @@
-use Rattle.std.proofs.Common.{◌≡◌, ◌≤◌, ℕ, length, refl, ap, ◌∙◌, arith}
-use Rattle.vm_step.specs.Passes.{view}
+use Rattle.std.proofs.Common.{◌∙◌, ◌≡◌, ◌≤◌, ap, arith, length, refl, ℕ}
+use Rattle.vm_step.specs.Prelude.{view}
 use Rattle.vm_step.proofs.Leaves.{ready-after}
 use Rattle.vm_evict.proofs.Copying.{copied, copies-more, copies-none, reads-same}
 use Rattle.vm_evict.proofs.write.copy_page.Goals as goal

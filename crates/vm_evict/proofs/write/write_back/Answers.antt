@@ -1,8 +1,9 @@
 use Rattle.std.proofs.Common.{◌∙◌}
-use Rattle.vm_step.specs.Passes.{view}
+use Rattle.vm_step.specs.Prelude.{view}
 use Rattle.vm_step.proofs.Leaves.{ready-after}
-use Rattle.vm_evict.proofs.Writing.{cleaned, copies-frame, copies-shared, copies-size, may-clean, may-come-home, may-raise, may-take-out, refused, work-called, work-gone}
 use Rattle.vm_evict.proofs.write.write_back.Goals as goal
+use Rattle.vm_evict.proofs.Writing.{cleaned, copies-frame, copies-shared, copies-size, may-clean, may-come-home, may-raise, may-take-out, refused}
+use Rattle.vm_evict.proofs.Writing.{work-called, work-gone}
 
 pub block_out-block-requires-clause-legal : goal.block_out-block-requires-clause-legal
 block_out-block-requires-clause-legal g c = may-take-out c.args.p c.args.frame (view c.args.pass.now) c.requires.legal
@@ -32,7 +33,7 @@ set_clean-requires-clause-legal g c = may-clean c.args.p c.args.frame (view c.ar
 
 pub returns-in-Ok-clause-ready : goal.returns-in-Ok-clause-ready
 returns-in-Ok-clause-ready g c =
-    ready-after _ _ _ c.args.pass.now c.set_clean.new.pass c.args.p _ (c.set_clean.ensures.pass.0 ∙ c.block_home.ensures.pass.0 ∙ c.copy_page-page.ensures.pass.0 ∙ c.block_out-block.ensures.pass.0, c.set_clean.ensures.pass.1 ∙ c.block_home.ensures.pass.1 ∙ c.copy_page-page.ensures.pass.1 ∙ c.block_out-block.ensures.pass.1) ((cleaned c.args.p c.args.frame (view c.args.pass.now) c.requires.legal _ (view c.block_out-block.new.pass) c.block_out-block.ensures.told _ (view c.copy_page-page.new.pass) c.copy_page-page.ensures.copied g.B.Block.tells c.requires.ready.table.tells_is _ c.write-wrote.result c.write-wrote.ensures (view c.block_home.new.pass) c.block_home.ensures.told _ c.in-Ok.is _ c.set_clean.ensures.told).works.leaves) c.requires.ready
+    ready-after _ _ _ c.args.pass.now c.set_clean.new.pass c.args.p _ (c.set_clean.ensures.pass.0 ∙ c.block_home.ensures.pass.0 ∙ c.copy_page-page.ensures.pass.0 ∙ c.block_out-block.ensures.pass.0, c.set_clean.ensures.pass.1 ∙ c.block_home.ensures.pass.1 ∙ c.copy_page-page.ensures.pass.1 ∙ c.block_out-block.ensures.pass.1) ((cleaned c.args.p c.args.frame (view c.args.pass.now) c.requires.legal _ (view c.block_out-block.new.pass) c.block_out-block.ensures.told _ (view c.copy_page-page.new.pass) c.copy_page-page.ensures.copied g.B.Block.tells c.requires.ready.table.tells_is _ c.write-wrote.result c.write-wrote.ensures (view c.block_home.new.pass) c.block_home.ensures.told _ c.in-Ok.is _ c.set_clean.ensures.told).locked.works.leaves) c.requires.ready
 
 pub returns-in-Ok-clause-written : goal.returns-in-Ok-clause-written
 returns-in-Ok-clause-written g c = cleaned c.args.p c.args.frame (view c.args.pass.now) c.requires.legal _ (view c.block_out-block.new.pass) c.block_out-block.ensures.told _ (view c.copy_page-page.new.pass) c.copy_page-page.ensures.copied g.B.Block.tells c.requires.ready.table.tells_is _ c.write-wrote.result c.write-wrote.ensures (view c.block_home.new.pass) c.block_home.ensures.told _ c.in-Ok.is _ c.set_clean.ensures.told
@@ -46,7 +47,7 @@ raise-requires-clause-legal g c = may-raise c.args.p c.args.frame (view c.args.p
 
 pub returns-in-Err-clause-ready : goal.returns-in-Err-clause-ready
 returns-in-Err-clause-ready g c =
-    ready-after _ _ _ c.args.pass.now c.raise.new.pass c.args.p _ (c.raise.ensures.pass.0 ∙ c.block_home.ensures.pass.0 ∙ c.copy_page-page.ensures.pass.0 ∙ c.block_out-block.ensures.pass.0, c.raise.ensures.pass.1 ∙ c.block_home.ensures.pass.1 ∙ c.copy_page-page.ensures.pass.1 ∙ c.block_out-block.ensures.pass.1) ((refused c.args.p c.args.frame (view c.args.pass.now) c.requires.legal _ (view c.block_out-block.new.pass) c.block_out-block.ensures.told _ (view c.copy_page-page.new.pass) c.copy_page-page.ensures.copied g.B.Block.tells c.requires.ready.table.tells_is _ c.write-wrote.result c.write-wrote.ensures (view c.block_home.new.pass) c.block_home.ensures.told _ c.faults-count.ensures _ c.in-Err.is (g.met.B.Block.bounded c.write-wrote.new.self) _ c.raise.ensures.told).works.leaves) c.requires.ready
+    ready-after _ _ _ c.args.pass.now c.raise.new.pass c.args.p _ (c.raise.ensures.pass.0 ∙ c.block_home.ensures.pass.0 ∙ c.copy_page-page.ensures.pass.0 ∙ c.block_out-block.ensures.pass.0, c.raise.ensures.pass.1 ∙ c.block_home.ensures.pass.1 ∙ c.copy_page-page.ensures.pass.1 ∙ c.block_out-block.ensures.pass.1) ((refused c.args.p c.args.frame (view c.args.pass.now) c.requires.legal _ (view c.block_out-block.new.pass) c.block_out-block.ensures.told _ (view c.copy_page-page.new.pass) c.copy_page-page.ensures.copied g.B.Block.tells c.requires.ready.table.tells_is _ c.write-wrote.result c.write-wrote.ensures (view c.block_home.new.pass) c.block_home.ensures.told _ c.faults-count.ensures _ c.in-Err.is (g.met.B.Block.bounded c.write-wrote.new.self) _ c.raise.ensures.told).locked.works.leaves) c.requires.ready
 
 pub returns-in-Err-clause-written : goal.returns-in-Err-clause-written
 returns-in-Err-clause-written g c = refused c.args.p c.args.frame (view c.args.pass.now) c.requires.legal _ (view c.block_out-block.new.pass) c.block_out-block.ensures.told _ (view c.copy_page-page.new.pass) c.copy_page-page.ensures.copied g.B.Block.tells c.requires.ready.table.tells_is _ c.write-wrote.result c.write-wrote.ensures (view c.block_home.new.pass) c.block_home.ensures.told _ c.faults-count.ensures _ c.in-Err.is (g.met.B.Block.bounded c.write-wrote.new.self) _ c.raise.ensures.told

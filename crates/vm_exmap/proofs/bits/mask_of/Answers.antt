@@ -1,11 +1,11 @@
-use Rattle.std.proofs.Common.{ℕ, ◌≡◌, ◌+◌, ◌++◌, ◌∷◌, ◌%◌, ◌^◌, [], get_or, take, suc, sym, ap, ◌∙◌, arith, bit_or}
-use Rattle.std.proofs.Math.Seq.{take-suc}
+use Rattle.std.proofs.Common.{[], ◌%◌, ◌++◌, ◌+◌, ◌^◌, ◌∙◌, ◌∷◌, ◌≡◌, ap, arith, bit_or, get_or, suc, sym, take, ℕ}
 use Rattle.std.proofs.lemmas.Nat.{one_shl}
-use Rattle.vm_core.specs.Words.{in_mask}
+use Rattle.std.proofs.Math.Seq.{take-suc}
+use Rattle.vm_core.specs.Prelude.{in_mask}
 use Rattle.vm_exmap.specs.Returns.{is_of}
-use Rattle.vm_exmap.proofs.BundleBits.{mask-none, mask-more, mask-same}
+use Rattle.vm_exmap.proofs.bits.mask_of.Goals.{else-frame-g, then-frame-g}
 use Rattle.vm_exmap.proofs.bits.mask_of.Goals as goal
-use Rattle.vm_exmap.proofs.bits.mask_of.Goals.{then-frame-g, else-frame-g}
+use Rattle.vm_exmap.proofs.BundleBits.{mask-more, mask-none, mask-same}
 
 pub loop-frame-init : goal.loop-frame-init
 loop-frame-init c f = mask-none c.args.g f

@@ -1,5 +1,5 @@
-use Rattle.std.proofs.Common.{ℕ, ◌≡◌, take}
-use Rattle.vm_core.specs.Words.{in_mask}
+use Rattle.std.proofs.Common.{◌≡◌, take, ℕ}
+use Rattle.vm_core.specs.Prelude.{in_mask}
 use Rattle.vm_exmap.specs.Returns.{is_of}
 use Rattle.vm_exmap.proofs.bits.mask_of.Given as goal
 

@@ -1,14 +1,12 @@
-use Rattle.std.proofs.Common.{◌<◌, ◌≤◌, ℕ, refl, sym, ap, subst, ◌∙◌, arith}
-use Rattle.vm_core.specs.Words.{MAX_VERSION}
-use Rattle.vm_core.specs.declared.event.Seat.{Seat}
-use Rattle.vm_owner.specs.Numbers.{has}
-use Rattle.vm_rule.specs.declared.view.View.{View}
-use Rattle.vm_rule.specs.declared.view.Origin.{Origin}
-use Rattle.vm_step.proofs.Device.{goes-out, may-bring}
-use Rattle.vm_step.proofs.Leaves.{ready-after, ready-on}
+use Rattle.std.proofs.Common.{◌<◌, ◌∙◌, ◌≤◌, ap, arith, refl, subst, sym, ℕ}
+use Rattle.vm_core.specs.Prelude.{MAX_VERSION}
+use Rattle.vm_rule.specs.Prelude.{has, Seat}
+use Rattle.vm_step.specs.Prelude.{Origin, View}
+use Rattle.vm_step.proofs.{Device.goes-out, Device.may-bring, Leaves.ready-after, Leaves.ready-on}
 use Rattle.vm_fault.proofs.Evicted.{held-empty}
-use Rattle.vm_fault.proofs.Fetching.{brought, failed, frames-called, may-evict, may-give_up, may-put, may-raise, may-take-out, work-called, work-raised}
 use Rattle.vm_fault.proofs.fault.bring_locked.Goals as goal
+use Rattle.vm_fault.proofs.Fetching.{brought, failed, frames-called, may-evict, may-give_up, may-put, may-raise, may-take-out, work-called}
+use Rattle.vm_fault.proofs.Fetching.{work-raised}
 
 within : (n : ℕ) → n < MAX_VERSION → n ≤ MAX_VERSION
 within n l = omega arith

@@ -1,11 +1,11 @@
-use Rattle.std.proofs.Common.{◌≡◌, ◌≢◌, ◌<◌, ◌≤◌, ℕ, refl, sym, ap, subst, ◌∙◌, inr, arith}
-use Rattle.vm_core.specs.Words.{EVICTED, MAX_VERSION, state_of, version_of, word_of}
-use Rattle.vm_rule.specs.Locks.{LockTold}
+use Rattle.std.proofs.Common.{◌<◌, ◌∙◌, ◌≡◌, ◌≢◌, ◌≤◌, ap, arith, inr, refl, subst, sym, ℕ}
+use Rattle.vm_core.specs.Prelude.{EVICTED, MAX_VERSION, state_of, version_of, word_of}
+use Rattle.vm_rule.specs.Prelude.{LockTold}
 use Rattle.vm_rule.proofs.WordFacts.{version-within, word-state, word-version}
+use Rattle.vm_step.specs.Prelude.{view}
 use Rattle.vm_fault.specs.Fetches.{IsFetched}
-use Rattle.vm_step.specs.Passes.{view}
-use Rattle.vm_fault.proofs.Tries.{lost, worn-in, worn-out}
 use Rattle.vm_fault.proofs.fault.fault_in.Goals as goal
+use Rattle.vm_fault.proofs.Tries.{lost, worn-in, worn-out}
 
 -- the version of a word
 fits : (word version : ℕ) → version ≡ version_of word → version < 72057594037927936

@@ -1,9 +1,9 @@
-use Rattle.std.proofs.Common.{ℕ, ◌≡◌, ◌≢◌, ◌<◌, ◌≤◌, ◌∙◌, ap, sym, subst, arith, inl, inr}
-use Rattle.vm_core.specs.Words.{state_of, word_of, UNLOCKED, LOCKED, EVICTED}
+use Rattle.std.proofs.Common.{◌<◌, ◌∙◌, ◌≡◌, ◌≢◌, ◌≤◌, ap, arith, inl, inr, subst, sym, ℕ}
+use Rattle.vm_core.specs.Prelude.{EVICTED, LOCKED, state_of, UNLOCKED, word_of}
 use Rattle.vm_rule.proofs.WordFacts.{version-within}
 use Rattle.vm_guard.specs.Takes.{IsToExpect}
-use Rattle.vm_guard.proofs.Expecting.{expect-same, expect-bare}
 use Rattle.vm_guard.proofs.exclusive.expected.Goals as goal
+use Rattle.vm_guard.proofs.Expecting.{expect-bare, expect-same}
 
 pub of-requires : goal.of-requires
 of-requires c = omega (arith, c.version-version.ensures, version-within c.args.word)

@@ -1,9 +1,9 @@
-use Rattle.std.proofs.Common.{ℕ, ◌<◌, ◌≤◌, ◌∙◌, refl, ap, sym, subst, arith, inl, inr}
-use Rattle.vm_core.specs.Words.{state_of, word_of, UNLOCKED}
+use Rattle.std.proofs.Common.{◌<◌, ◌∙◌, ◌≤◌, ap, arith, inl, inr, refl, subst, sym, ℕ}
+use Rattle.vm_core.specs.Prelude.{state_of, UNLOCKED, word_of}
 use Rattle.vm_rule.proofs.WordFacts.{version-within}
 use Rattle.vm_guard.specs.Fresh.{IsToSeize}
-use Rattle.vm_guard.proofs.ToSeize.{seize-same, seize-bare}
 use Rattle.vm_guard.proofs.fresh_pages.expected.Goals as goal
+use Rattle.vm_guard.proofs.ToSeize.{seize-bare, seize-same}
 
 pub of-requires : goal.of-requires
 of-requires c = omega (arith, c.version-version.ensures, version-within c.args.word)

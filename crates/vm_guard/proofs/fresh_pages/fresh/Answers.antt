@@ -1,13 +1,13 @@
-use Rattle.std.proofs.Common.{ℕ, ◌≡◌, ◌≤◌, ◌<◌, ◌+◌, refl, sym, subst, ◌∙◌, ⊎_elim, arith}
+use Rattle.std.proofs.Common.{⊎_elim, ◌+◌, ◌<◌, ◌∙◌, ◌≡◌, ◌≤◌, arith, refl, subst, sym, ℕ}
 use Rattle.std.proofs.lemmas.Bool.{false≢true}
-use Rattle.vm_step.specs.Passes.{view}
+use Rattle.vm_step.specs.Prelude.{LocksNone, view}
 use Rattle.vm_step.proofs.HeldFrames.{held-on}
-use Rattle.vm_guard.proofs.FreshAnswers.{answered, first-denied, is-full, held-after}
-use Rattle.vm_guard.proofs.FreshSure.{first-none, first-sure, loaded-alone, loaded-next, next-found, pages-settle, second-none, second-sure, seized-alone, seized-next}
 use Rattle.vm_guard.specs.Fresh.{IsFull}
-use Rattle.vm_step.specs.Alone.{LocksNone}
-use Rattle.vm_guard.specs.Sure.{MayBeGiven, MayBeSeized, MayBeTried, known_next, known_word}
+use Rattle.vm_guard.specs.Sure.{known_word, MayBeGiven, MayBeSeized, MayBeTried}
 use Rattle.vm_guard.proofs.fresh_pages.fresh.Goals as goal
+use Rattle.vm_guard.proofs.FreshAnswers.{answered, first-denied, held-after, is-full}
+use Rattle.vm_guard.proofs.FreshSure.{first-none, first-sure, loaded-alone, loaded-next, next-found, no-room, not-full, pages-settle, second-none}
+use Rattle.vm_guard.proofs.FreshSure.{second-sure, seized-alone, seized-next}
 
 pub returns-in-Err-clause-answer : goal.returns-in-Err-clause-answer
 returns-in-Err-clause-answer g c =
@@ -36,14 +36,7 @@ give_two-requires-clause-frames g c =
     (held-on _ _ _ (held-after _ c.nload-found.result _ _ c.nload-found.ensures.told c.requires.frames.0) taken.1.amid.start taken.1.keeps.frames, ⊎_elim (λ e. absurd (c.if-n-eq1.false e)) (λ (e : c.args.n ≡ 2). omega (arith, many, e)) c.requires.few)
 
 pub returns-then-pages-next-clause-sure : goal.returns-then-pages-next-clause-sure
-returns-then-pages-next-clause-sure g c a may =
-    let x : ℕ = c.nload-found.result in
-    let here : x ≡ known_next (view c.args.pass.now) = next-found x _ _ c.nload-found.ensures.told a in
-    let full = c.if-pages-next.true in
-    let room = may.room in
-    let pages = c.args.words.now.shape.0 in
-    let same = c.requires.ready.table.is_shape.pages in
-    absurd (omega (arith, here, full, room, pages, same))
+returns-then-pages-next-clause-sure g c a may = no-room c.nload-found.ensures.told a may.room c.args.words.now.shape.0 c.requires.ready.table.is_shape.pages c.if-pages-next.true
 
 pub returns-in-Err-clause-sure : goal.returns-in-Err-clause-sure
 returns-in-Err-clause-sure g c a may =
@@ -81,14 +74,7 @@ returns-then-pages-next-clause-answer g c =
     (refl, subst (λ (n : ℕ). IsFull c.args.n n x c.args.n v (view c.nload-found.new.pass)) there (is-full c.args.n x v (view c.nload-found.new.pass) told past))
 
 pub returns-then-pages-next-clause-settled : goal.returns-then-pages-next-clause-settled
-returns-then-pages-next-clause-settled g c a may =
-    let x : ℕ = c.nload-found.result in
-    let here : x ≡ known_next (view c.args.pass.now) = next-found x _ _ c.nload-found.ensures.told a in
-    let full = c.if-pages-next.true in
-    let room = may.room in
-    let pages = c.args.words.now.shape.0 in
-    let same = c.requires.ready.table.is_shape.pages in
-    absurd (omega (arith, here, full, room, pages, same))
+returns-then-pages-next-clause-settled g c a may = no-room c.nload-found.ensures.told a may.room c.args.words.now.shape.0 c.requires.ready.table.is_shape.pages c.if-pages-next.true
 
 pub returns-in-Err-clause-settled : goal.returns-in-Err-clause-settled
 returns-in-Err-clause-settled g c a may =
@@ -113,16 +99,10 @@ returns-else-n-eq1-clause-settled g c a may =
     (subst (λ n. LocksNone (known_word (n + 1) (view c.seize.new.pass))) (sym taken.0) (second-none x _ _ _ _ _ told a (⊎_elim (λ e. absurd (c.if-n-eq1.false e)) (λ (e : c.args.n ≡ 2). subst (λ n. MayBeTried n (view c.args.pass.now)) e may) c.requires.few) taken.1))
 
 pub returns-in-Err-clause-full : goal.returns-in-Err-clause-full
-returns-in-Err-clause-full g c a past =
-    let here : c.nload-found.result ≡ known_next (view c.args.pass.now) = next-found c.nload-found.result _ _ c.nload-found.ensures.told a in
-    absurd (omega (arith, here, past, c.if-pages-next.false, c.nload-found.ensures.told.inside, c.args.words.now.shape.0, c.requires.ready.table.is_shape.pages))
+returns-in-Err-clause-full g c a past = absurd (not-full c.nload-found.ensures.told a past c.args.words.now.shape.0 c.requires.ready.table.is_shape.pages c.if-pages-next.false)
 
 pub returns-then-n-eq1-clause-full : goal.returns-then-n-eq1-clause-full
-returns-then-n-eq1-clause-full g c a past =
-    let here : c.nload-found.result ≡ known_next (view c.args.pass.now) = next-found c.nload-found.result _ _ c.nload-found.ensures.told a in
-    absurd (omega (arith, here, past, c.if-pages-next.false, c.nload-found.ensures.told.inside, c.args.words.now.shape.0, c.requires.ready.table.is_shape.pages))
+returns-then-n-eq1-clause-full g c a past = absurd (not-full c.nload-found.ensures.told a past c.args.words.now.shape.0 c.requires.ready.table.is_shape.pages c.if-pages-next.false)
 
 pub returns-else-n-eq1-clause-full : goal.returns-else-n-eq1-clause-full
-returns-else-n-eq1-clause-full g c a past =
-    let here : c.nload-found.result ≡ known_next (view c.args.pass.now) = next-found c.nload-found.result _ _ c.nload-found.ensures.told a in
-    absurd (omega (arith, here, past, c.if-pages-next.false, c.nload-found.ensures.told.inside, c.args.words.now.shape.0, c.requires.ready.table.is_shape.pages))
+returns-else-n-eq1-clause-full g c a past = absurd (not-full c.nload-found.ensures.told a past c.args.words.now.shape.0 c.requires.ready.table.is_shape.pages c.if-pages-next.false)

@@ -1,10 +1,9 @@
-use Rattle.std.proofs.Common.{◌∙◌, ◌++◌, ℕ, List, ap, subst}
 use Rattle.std.specs.Option.{option_to_list}
-use Rattle.vm_step.specs.Fills.{Stores}
-use Rattle.vm_step.specs.Passes.{view}
+use Rattle.std.proofs.Common.{◌++◌, ◌∙◌, ap, List, subst, ℕ}
+use Rattle.vm_step.specs.Prelude.{Stores, view}
 use Rattle.vm_guard.specs.Fresh.{IsSeized}
-use Rattle.vm_guard.proofs.Furnishing.{furnish-resident, furnish-empty, may-install}
 use Rattle.vm_guard.proofs.fresh_pages.furnish.Goals as goal
+use Rattle.vm_guard.proofs.Furnishing.{furnish-empty, furnish-resident, may-install}
 
 pub install-requires-clause-legal : goal.install-requires-clause-legal
 install-requires-clause-legal g c =

@@ -1,12 +1,9 @@
-use Rattle.std.proofs.Common.{ℕ, ◌<◌, List, length, refl, sym, subst, ◌∙◌}
-use Rattle.vm_rule.specs.Nexts.{NextTold}
-use Rattle.vm_step.specs.Passes.{view, found_by}
-use Rattle.vm_guard.proofs.GuardSteps.{still-of}
-use Rattle.vm_guard.proofs.FreshTwo.{claim-keeps}
-use Rattle.vm_guard.proofs.FreshAnswers.{again-one, held-after, room-one}
-use Rattle.vm_guard.proofs.Freshly.{fresh-one}
-use Rattle.vm_guard.proofs.FreshSure.{next-found}
+use Rattle.std.proofs.Common.{◌<◌, ◌∙◌, length, List, refl, subst, sym, ℕ}
+use Rattle.vm_rule.specs.Prelude.{NextTold}
+use Rattle.vm_step.specs.Prelude.{found_by, view}
+use Rattle.vm_guard.proofs.{Freshly.fresh-one, FreshSure.next-found, FreshTwo.claim-keeps, GuardSteps.still-of}
 use Rattle.vm_guard.proofs.fresh_pages.give_one.Goals as goal
+use Rattle.vm_guard.proofs.FreshAnswers.{again-one, held-after, out-after, ready-after, room-one, seized-after}
 
 pub returns-then-again-x-clause-answer : goal.returns-then-again-x-clause-answer
 returns-then-again-x-clause-answer g c v b =
@@ -31,3 +28,18 @@ returns-clause-answer g c v b = (
 
 pub returns-then-again-x-clause-sure : goal.returns-then-again-x-clause-sure
 returns-then-again-x-clause-sure g c a is = absurd (c.if-again-x.true (next-found c.nload-again.result _ _ c.nload-again.ensures.told a ∙ is))
+
+pub give_back-requires-clause-ready : goal.give_back-requires-clause-ready
+give_back-requires-clause-ready g c = ready-after c.nload-again.ensures.pass c.nload-again.ensures.told c.requires.ready
+
+pub give_back-requires-clause-seized : goal.give_back-requires-clause-seized
+give_back-requires-clause-seized g c = seized-after _ _ _ _ _ _ c.requires.begun.1.seizes.seized c.nload-again.ensures.told
+
+pub give_back-requires-clause-home : goal.give_back-requires-clause-home
+give_back-requires-clause-home g c = out-after c.nload-again.ensures.told c.requires.home
+
+pub furnish-first-requires-clause-ready : goal.furnish-first-requires-clause-ready
+furnish-first-requires-clause-ready g c = ready-after c.nload-again.ensures.pass c.nload-again.ensures.told c.requires.ready
+
+pub furnish-first-requires-clause-seized : goal.furnish-first-requires-clause-seized
+furnish-first-requires-clause-seized g c = seized-after _ _ _ _ _ _ c.requires.begun.1.seizes.seized c.nload-again.ensures.told

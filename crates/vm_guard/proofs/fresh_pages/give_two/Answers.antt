@@ -1,16 +1,15 @@
-use Rattle.std.proofs.Common.{ℕ, List, ◌∙◌, ◌≤◌, ◌<◌, ◌+◌, length, refl, sym, subst, arith}
+use Rattle.std.proofs.Common.{◌+◌, ◌<◌, ◌∙◌, ◌≤◌, arith, length, List, refl, subst, sym, ℕ}
 use Rattle.std.proofs.lemmas.Bool.{false≢true}
-use Rattle.vm_rule.specs.Nexts.{NextTold}
-use Rattle.vm_step.specs.Passes.{view, found_by}
+use Rattle.vm_rule.specs.Prelude.{NextTold}
+use Rattle.vm_step.specs.Prelude.{found_by, view}
 use Rattle.vm_step.proofs.HeldFrames.{held-on}
 use Rattle.vm_guard.specs.Fresh.{Furnishes, GivesBack, IsSeized}
-use Rattle.vm_guard.proofs.FreshAnswers.{again-two, answered, held-after, room, second-denied, seized-after, seized-beside, seized-furnished, seized-returned}
-use Rattle.vm_guard.proofs.FreshNumbers.{apart-first}
-use Rattle.vm_guard.proofs.Freshly.{holding-on}
-use Rattle.vm_guard.proofs.GuardSteps.{still-of}
-use Rattle.vm_guard.proofs.FreshTwo.{claim-keeps, fresh-two, may-claim-two}
-use Rattle.vm_guard.proofs.FreshSure.{next-found, seized-alone, seized-next}
+use Rattle.vm_guard.proofs.{Freshly.holding-on, FreshNumbers.apart-first, GuardSteps.still-of}
 use Rattle.vm_guard.proofs.fresh_pages.give_two.Goals as goal
+use Rattle.vm_guard.proofs.FreshAnswers.{again-two, answered, held-after, out-after, ready-after, room, second-denied, seized-after, seized-beside}
+use Rattle.vm_guard.proofs.FreshAnswers.{seized-denied, seized-furnished, seized-returned}
+use Rattle.vm_guard.proofs.FreshSure.{next-found, seized-alone, seized-next}
+use Rattle.vm_guard.proofs.FreshTwo.{claim-keeps, fresh-two, may-claim-two}
 
 pub returns-in-Err-clause-answer : goal.returns-in-Err-clause-answer
 returns-in-Err-clause-answer g c v b =
@@ -103,3 +102,31 @@ returns-clause-ready g c =
     let ready = c.furnish-second.ensures.ready in
     let kept = claim-keeps c.args.one.pid 2 _ _ _ c.claim.ensures.told in
     record { may = (c.claim.ensures.pass.0 ∙ ready.may.0, subst (λ (ns : List ℕ). 0 < length ns) (sym kept.1) ready.may.1); table = still-of _ _ _ _ kept.0 ready.table }
+
+-- ---- what each call of a page asks for
+
+pub give_back-requires-clause-seized : goal.give_back-requires-clause-seized
+give_back-requires-clause-seized g c = seized-denied _ _ _ _ _ _ c.requires.begun.1.seizes.seized c.in-Err.ensures.denied
+
+pub give_back-requires-clause-home : goal.give_back-requires-clause-home
+give_back-requires-clause-home g c = c.in-Err.ensures.denied.denied.quiet.steady.out ∙ c.requires.home
+
+pub give_back-requires-then-again-x-clause-ready : goal.give_back-requires-then-again-x-clause-ready
+give_back-requires-then-again-x-clause-ready g c = ready-after c.nload-again.ensures.pass c.nload-again.ensures.told c.in-Ok.ensures.ready
+
+pub give_back-requires-then-again-x-clause-seized : goal.give_back-requires-then-again-x-clause-seized
+give_back-requires-then-again-x-clause-seized g c =
+    let taken = c.in-Ok.ensures.taken in
+    subst (λ n. IsSeized n c.in-Ok.page.version c.in-Ok.page.stands (view c.nload-again.new.pass)) (sym taken.0) (seized-after _ _ _ _ _ _ taken.1.seized c.nload-again.ensures.told)
+
+pub give_back-requires-then-again-x-clause-home : goal.give_back-requires-then-again-x-clause-home
+give_back-requires-then-again-x-clause-home g c = out-after c.nload-again.ensures.told (c.in-Ok.ensures.taken.1.amid.out ∙ c.requires.home)
+
+pub give_back-requires-then-again-x-2-clause-home : goal.give_back-requires-then-again-x-2-clause-home
+give_back-requires-then-again-x-2-clause-home g c = c.give_back-then-again-x.ensures.given.amid.out ∙ out-after c.nload-again.ensures.told (c.in-Ok.ensures.taken.1.amid.out ∙ c.requires.home)
+
+pub furnish-first-requires-clause-ready : goal.furnish-first-requires-clause-ready
+furnish-first-requires-clause-ready g c = ready-after c.nload-again.ensures.pass c.nload-again.ensures.told c.in-Ok.ensures.ready
+
+pub furnish-first-requires-clause-seized : goal.furnish-first-requires-clause-seized
+furnish-first-requires-clause-seized g c = seized-after _ _ _ _ _ _ (seized-beside _ _ _ _ _ _ _ c.requires.begun.1.seizes.seized c.in-Ok.ensures.taken.1) c.nload-again.ensures.told

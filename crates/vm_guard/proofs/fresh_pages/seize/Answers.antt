@@ -1,21 +1,13 @@
 -- The look, the exchange and the load of the translation word give each answer.
-use Rattle.std.proofs.Common.{ℕ, ◌≡◌, ◌<◌, ◌∙◌, None, refl, sym, subst, ⊎_elim, inl, inr}
+use Rattle.std.proofs.Common.{⊎_elim, ◌<◌, ◌∙◌, ◌≡◌, inl, inr, None, refl, subst, sym, ℕ}
 use Rattle.std.proofs.lemmas.Result.{err_from_is_err_and}
-use Rattle.vm_core.specs.FrameActs.{mapping_of}
-use Rattle.vm_core.specs.Words.{version_of, word_of, LOCKED}
-use Rattle.vm_step.specs.Alone.{LocksNone}
-use Rattle.vm_step.specs.Evidence.{UnlockedExpected}
-use Rattle.vm_step.specs.Passes.{view}
-use Rattle.vm_guard.specs.Fresh.{Seizes}
-use Rattle.vm_guard.specs.Denied.{AgainOrWorn}
+use Rattle.vm_core.specs.Prelude.{LOCKED, mapping_of, version_of, word_of}
+use Rattle.vm_step.specs.Prelude.{LocksNone, UnlockedExpected, view}
+use Rattle.vm_guard.specs.{Denied.AgainOrWorn, Fresh.Seizes, Sure.MayBeSeized}
+use Rattle.vm_guard.proofs.{GuardSteps.parts-on, GuardSteps.still-of, QuietSteps.lock-lost, Seizing.seizes, Sure.look-finds}
 use Rattle.vm_guard.proofs.Denials.{at-once-places, denied-at-once, denied-lost, lost-places}
-use Rattle.vm_guard.proofs.FreshSure.{refused-worn, seize-refused, seize-sure, seized-none}
-use Rattle.vm_guard.proofs.Sure.{look-finds}
-use Rattle.vm_guard.specs.Sure.{MayBeSeized}
-use Rattle.vm_guard.proofs.GuardSteps.{parts-on, still-of}
-use Rattle.vm_guard.proofs.QuietSteps.{lock-lost}
-use Rattle.vm_guard.proofs.Seizing.{seizes}
 use Rattle.vm_guard.proofs.fresh_pages.seize.Goals as goal
+use Rattle.vm_guard.proofs.FreshSure.{refused-worn, seize-refused, seize-sure, seized-none}
 
 pub returns-in_err-expects-clause-denied : goal.returns-in_err-expects-clause-denied
 returns-in_err-expects-clause-denied g c =

@@ -1,11 +1,11 @@
 -- Each release of a group may be made, and all of them together release the group.
-use Rattle.std.proofs.Common.{◌∙◌, ◌∷◌, [], refl, sym, subst, arith}
 use Rattle.std.specs.Prelude.{option_map}
-use Rattle.vm_step.specs.Passes.{view}
-use Rattle.vm_guard.specs.Groups.{IsGroupReleased, MayReleaseAll, guards_of}
-use Rattle.vm_guard.proofs.Groups.{dues-first, dues-later, first-of}
-use Rattle.vm_guard.proofs.GroupReleases.{group-released}
+use Rattle.std.proofs.Common.{[], ◌∙◌, ◌∷◌, arith, refl, subst, sym}
+use Rattle.vm_step.specs.Prelude.{view}
+use Rattle.vm_guard.specs.Groups.{guards_of, IsGroupReleased, MayReleaseAll}
 use Rattle.vm_guard.proofs.group.release_group.Goals as goal
+use Rattle.vm_guard.proofs.GroupReleases.{group-released}
+use Rattle.vm_guard.proofs.Groups.{dues-first, dues-later, first-of}
 
 pub release_first-requires-clause-first : goal.release_first-requires-clause-first
 release_first-requires-clause-first g c = first-of _ c.in-One.a [] _ _ (subst (λ x. MayReleaseAll g.U.Owner.may_release (guards_of x) (option_map (λ b. b.now) c.args.said) (view c.args.pass.now)) c.in-One.is c.requires.may) (omega arith)

@@ -1,9 +1,8 @@
-use Rattle.std.proofs.Common.{◌≡◌, ◌≢◌, ℕ, sym, ap, subst, ◌∙◌, inr, arith}
-use Rattle.vm_core.specs.Words.{state_of, version_of, word_of, UNLOCKED}
+use Rattle.std.proofs.Common.{◌∙◌, ◌≡◌, ◌≢◌, ap, arith, inr, subst, sym, ℕ}
+use Rattle.vm_core.specs.Prelude.{state_of, UNLOCKED, version_of, word_of}
 use Rattle.vm_rule.proofs.WordFacts.{version-within, word-version}
 use Rattle.vm_guard.specs.Takes.{IsToExpect}
-use Rattle.vm_guard.proofs.Expecting.{has-shares}
-use Rattle.vm_guard.proofs.Upgrading.{unlocked-word}
+use Rattle.vm_guard.proofs.{Expecting.has-shares, Upgrading.unlocked-word}
 use Rattle.vm_guard.proofs.opt.unlocked.Goals as goal
 
 pub returns-in_default-clause-expects : goal.returns-in_default-clause-expects

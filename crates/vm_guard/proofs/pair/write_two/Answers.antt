@@ -1,14 +1,10 @@
 -- The two guards are those of the pages given, and each release of them may be made.
-use Rattle.std.proofs.Common.{ℕ, ◌+◌, ◌∷◌, ◌∙◌, [], List, None, length, refl, sym, ap, subst, arith, true}
+use Rattle.std.proofs.Common.{[], ◌+◌, ◌∙◌, ◌∷◌, ap, arith, length, None, refl, subst, sym, true, ℕ}
 use Rattle.std.proofs.lemmas.List.{length-append}
-use Rattle.vm_rule.specs.Views.{numbers}
-use Rattle.vm_step.specs.Passes.{view}
-use Rattle.vm_guard.specs.declared.exclusive.ExclusiveGuard.{ExclusiveGuard}
-use Rattle.vm_guard.specs.Fresh.{AreFresh}
-use Rattle.vm_guard.specs.Groups.{AreReleased, guards_of}
-use Rattle.vm_guard.specs.Pairs.{HasFirst}
-use Rattle.vm_guard.proofs.Pairs.{apart-of, holding-beside, may-pair, taken-both, two-many, written-pair}
+use Rattle.vm_step.specs.Prelude.{view}
+use Rattle.vm_guard.specs.{declared.exclusive.ExclusiveGuard.ExclusiveGuard, Groups.AreReleased, Groups.guards_of, Pairs.HasFirst}
 use Rattle.vm_guard.proofs.pair.write_two.Goals as goal
+use Rattle.vm_guard.proofs.Pairs.{apart-of, fresh-both, holding-beside, may-pair, taken-both, two-many, written-pair}
 
 pub unreachable-requires : goal.unreachable-requires
 unreachable-requires g c =
@@ -35,9 +31,7 @@ set-requires-in-Pages-clause-holds g c =
     let ans = c.in-Pages.ensures.answer in
     let first = c.in-Some-take_last.first in
     let second = c.in-Some.second in
-    let is = (taken-both ans.0 (guards_of c.in-Pages.given) (guards_of c.take_last.new.self) (guards_of c.take_last-in-Pages.new.self) first second c.in-Some.ensures.some c.in-Some-take_last.ensures.some ans.1.guards).1 in
-    let f : AreFresh (numbers ans.0 2) ans.0 2 (first ∷ second ∷ []) c.args.frames.now c.fresh.new.frames (view c.args.pass.now) (view c.fresh.new.pass) =
-    subst (λ (l : List ExclusiveGuard). AreFresh (numbers ans.0 2) ans.0 2 l c.args.frames.now c.fresh.new.frames (view c.args.pass.now) (view c.fresh.new.pass)) is ans.1 in
+    let f = fresh-both ans.0 _ c.in-Some.ensures.some c.in-Some-take_last.ensures.some ans.1 in
     holding-beside second.pid second.frame second.version second.dirty first.pid first.frame first.dirty 0 c.args.a (view c.fresh.new.pass) (view c.set.new.pass) f.held.1.0 (apart-of ans.0 first second f.guards) c.set.ensures.set
 
 pub release_group-requires-clause-may : goal.release_group-requires-clause-may
@@ -45,9 +39,7 @@ release_group-requires-clause-may g c =
     let ans = c.in-Pages.ensures.answer in
     let first = c.in-Some-take_last.first in
     let second = c.in-Some.second in
-    let is = (taken-both ans.0 (guards_of c.in-Pages.given) (guards_of c.take_last.new.self) (guards_of c.take_last-in-Pages.new.self) first second c.in-Some.ensures.some c.in-Some-take_last.ensures.some ans.1.guards).1 in
-    let f : AreFresh (numbers ans.0 2) ans.0 2 (first ∷ second ∷ []) c.args.frames.now c.fresh.new.frames (view c.args.pass.now) (view c.fresh.new.pass) =
-    subst (λ (l : List ExclusiveGuard). AreFresh (numbers ans.0 2) ans.0 2 l c.args.frames.now c.fresh.new.frames (view c.args.pass.now) (view c.fresh.new.pass)) is ans.1 in
+    let f = fresh-both ans.0 _ c.in-Some.ensures.some c.in-Some-take_last.ensures.some ans.1 in
     rw (c.set.ensures.guard, c.set-in-Pages.ensures.guard)
     (may-pair ans.0 c.args.a c.args.b first second c.args.frames.now c.fresh.new.frames (view c.args.pass.now) (view c.fresh.new.pass) (view c.set.new.pass) (view c.set-in-Pages.new.pass) f c.set.ensures.set c.set-in-Pages.ensures.set _ c.set.ensures.holds c.set-in-Pages.ensures.holds c.requires.home refl)
 
@@ -56,9 +48,7 @@ returns-in-Some-take_last-clause-written g c t alone =
     let ans = c.in-Pages.ensures.answer in
     let first = c.in-Some-take_last.first in
     let second = c.in-Some.second in
-    let is = (taken-both ans.0 (guards_of c.in-Pages.given) (guards_of c.take_last.new.self) (guards_of c.take_last-in-Pages.new.self) first second c.in-Some.ensures.some c.in-Some-take_last.ensures.some ans.1.guards).1 in
-    let f : AreFresh (numbers ans.0 2) ans.0 2 (first ∷ second ∷ []) c.args.frames.now c.fresh.new.frames (view c.args.pass.now) (view c.fresh.new.pass) =
-    subst (λ (l : List ExclusiveGuard). AreFresh (numbers ans.0 2) ans.0 2 l c.args.frames.now c.fresh.new.frames (view c.args.pass.now) (view c.fresh.new.pass)) is ans.1 in
+    let f = fresh-both ans.0 _ c.in-Some.ensures.some c.in-Some-take_last.ensures.some ans.1 in
     let r : AreReleased (record first { dirty = true }) (record second { dirty = true } ∷ []) None (view c.set-in-Pages.new.pass) (view c.release_group.new.pass) =
     subst (λ (k : ExclusiveGuard). AreReleased (record first { dirty = true }) (k ∷ []) None (view c.set-in-Pages.new.pass) (view c.release_group.new.pass)) c.set-in-Pages.ensures.guard
     (subst (λ (k : ExclusiveGuard). AreReleased k (c.set-in-Pages.new.self ∷ []) None (view c.set-in-Pages.new.pass) (view c.release_group.new.pass)) c.set.ensures.guard c.release_group.ensures.released.0) in

@@ -1,9 +1,9 @@
-use Rattle.std.proofs.Common.{◌≡◌, true≢false, sym, subst, ◌∙◌, slice_index}
-use Rattle.vm_rule.specs.Reading.{last_of}
-use Rattle.vm_step.specs.Passes.{view}
+use Rattle.std.proofs.Common.{◌∙◌, ◌≡◌, slice_index, subst, sym, true≢false}
+use Rattle.vm_rule.specs.Prelude.{last_of}
+use Rattle.vm_step.specs.Prelude.{view}
 use Rattle.vm_guard.specs.Guards.{BeginsReading}
-use Rattle.vm_guard.proofs.Singles.{known-at, quiet-alone, word-valid}
 use Rattle.vm_guard.proofs.single.read_word.Goals as goal
+use Rattle.vm_guard.proofs.Singles.{known-at, quiet-alone, word-valid}
 
 pub returns-in-Ok-validate_silently-clause-word : goal.returns-in-Ok-validate_silently-clause-word
 returns-in-Ok-validate_silently-clause-word g c = λ tells.

@@ -1,10 +1,9 @@
-use Rattle.std.proofs.Common.{◌≡◌, ◌+◌, ◌<◌, ◌≤◌, true, false, is_ok, if◌then◌else◌, get_or, sym, ap, ◌∙◌, arith}
-use mathlib.Core.Option.{some}
-use lib.ListN.{get_elem?}
-use Rattle.std.specs.Mem.Slots.{slots_items, slots_filled, slots_len}
+use Rattle.std.specs.Mem.Slots.{slots_filled, slots_items, slots_len}
 use Rattle.std.specs.Vec.{vec_capacity, vec_len}
-use Rattle.vm_pool.proofs.HomeBlocks.{never-none, taken-more, filled-next, emptied-next}
+use Rattle.std.proofs.Common.{◌+◌, ◌<◌, ◌∙◌, ◌≡◌, ◌≤◌, ap, arith, false, get_or, if◌then◌else◌, is_ok, sym, true}
+use Rattle.vm_core.specs.Prelude.{get_elem?, some}
 use Rattle.vm_pool.proofs.closing.blocks_of.Goals as goal
+use Rattle.vm_pool.proofs.HomeBlocks.{emptied-next, filled-next, never-none, taken-more}
 
 pub unreachable-requires : goal.unreachable-requires
 unreachable-requires g c = never-none (slots_items c.args.table.slots) c.requires.home c.loop-p.p c.take-slot.result (ap (λ l. get_elem? l c.loop-p.p) (sym c.loop-p.invariant.1) ∙ c.take-slot.ensures.value) c.in_default.is

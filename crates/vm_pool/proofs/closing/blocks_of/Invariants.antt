@@ -1,7 +1,7 @@
-use Rattle.std.proofs.Common.{◌≡◌, ◌≤◌, ℕ, ◌<◌, Some, map, take, false, get_or}
-use Rattle.std.specs.Mem.Slots.{slots_items, slots_filled, slots_len}
+use Rattle.std.specs.Mem.Slots.{slots_filled, slots_items, slots_len}
 use Rattle.std.specs.Mem.Slots.Ownership.{Filled}
 use Rattle.std.specs.Vec.{vec_capacity, vec_len}
+use Rattle.std.proofs.Common.{◌<◌, ◌≡◌, ◌≤◌, false, get_or, map, Some, take, ℕ}
 use Rattle.vm_pool.proofs.closing.blocks_of.Given as goal
 
 -- the blocks taken so far, and the places that are empty now

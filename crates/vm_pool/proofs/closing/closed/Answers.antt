@@ -1,7 +1,7 @@
 use Rattle.std.specs.Mem.Slots.{slots_items}
-use Rattle.vm_rule.specs.Views.{view_of}
-use Rattle.vm_pool.proofs.LastState.{same-start, slots-home, next-small, closes}
+use Rattle.vm_rule.specs.Prelude.{view_of}
 use Rattle.vm_pool.proofs.closing.closed.Goals as goal
+use Rattle.vm_pool.proofs.LastState.{closes, next-small, same-start, slots-home}
 
 pub next_of-next-requires-clause-small : goal.next_of-next-requires-clause-small
 next_of-next-requires-clause-small g c =

@@ -1,4 +1,4 @@
-use Rattle.vm_rule.specs.Views.{view_of}
+use Rattle.vm_rule.specs.Prelude.{view_of}
 use Rattle.vm_pool.proofs.closing.closed.Given as goal
 
 abbrev pub ghost-told_of : goal.ghost-told_of

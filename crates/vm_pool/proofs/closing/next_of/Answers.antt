@@ -1,7 +1,7 @@
-use Rattle.std.proofs.Common.{◌≡◌, ◌+◌, ◌*◌, ◌≤◌, sym, arith}
 use Rattle.std.specs.Mem.Slots.{slots_items}
-use Rattle.vm_core.specs.Fn.{at}
-use Rattle.vm_rule.specs.Layout.{bundles_of}
+use Rattle.std.proofs.Common.{◌*◌, ◌+◌, ◌≡◌, ◌≤◌, arith, sym}
+use Rattle.vm_core.specs.Prelude.{at}
+use Rattle.vm_rule.specs.Prelude.{bundles_of}
 use Rattle.vm_rule.proofs.Views.{at-there}
 use Rattle.vm_pool.proofs.closing.next_of.Goals as goal
 

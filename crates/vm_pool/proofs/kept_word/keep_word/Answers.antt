@@ -1,12 +1,9 @@
 -- The first pass meets the premises of what `round_trip` promises.
-use Rattle.std.proofs.Common.{ℕ, ◌≡◌, ◌<◌, ◌≤◌, ◌+◌, List, length, map, ap, subst, sym, ◌∙◌, arith}
-use Rattle.vm_block.specs.declared.stored.Stored.{Stored}
-use Rattle.vm_core.specs.Fn.{at}
-use Rattle.vm_core.specs.Words.{MAX_VERSION}
-use Rattle.vm_rule.specs.declared.view.Origin.{Origin}
-use Rattle.vm_rule.specs.Started.{IsStarted}
+use Rattle.std.proofs.Common.{◌+◌, ◌<◌, ◌∙◌, ◌≡◌, ◌≤◌, ap, arith, length, List, map, subst, sym, ℕ}
+use Rattle.vm_core.specs.Prelude.{at, MAX_VERSION}
+use Rattle.vm_rule.specs.Prelude.{IsStarted, Stored}
 use Rattle.vm_rule.proofs.ListFacts.{length-mapped}
-use Rattle.vm_step.specs.Passes.{view}
+use Rattle.vm_step.specs.Prelude.{Origin, view}
 use Rattle.vm_pool.specs.Known.{known_version}
 use Rattle.vm_pool.proofs.FirstPage.{first-alone, first-free, first-out, first-version, start-is}
 use Rattle.vm_pool.proofs.kept_word.keep_word.Goals as goal

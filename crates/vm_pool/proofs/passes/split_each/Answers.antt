@@ -1,10 +1,8 @@
 use Rattle.std.specs.Prelude.{All}
-use Rattle.std.proofs.Common.{ℕ, true, ◌≡◌, ◌+◌, ◌<◌, ◌≤◌, ◌++◌, List, [], ◌∷◌, length, map, is_ok, if◌then◌else◌, subst, sym, ap, ◌∙◌, arith, length-append}
-use mathlib.Core.List.{map-append}
 use Rattle.std.specs.Vec.{vec_capacity, vec_len}
-use Rattle.vm_step.specs.Passes.{view}
-use Rattle.vm_step.specs.Ready.{IsReady}
-use Rattle.vm_step.specs.Together.{PassesSplit}
+use Rattle.std.proofs.Common.{[], ◌++◌, ◌+◌, ◌<◌, ◌∙◌, ◌∷◌, ◌≡◌, ◌≤◌, ap, arith, if◌then◌else◌, is_ok, length, length-append, map, subst, sym, true}
+use mathlib.Core.List.{map-append}
+use Rattle.vm_step.specs.Prelude.{IsReady, PassesSplit, view}
 use Rattle.vm_step.proofs.Together.{all-snoc, cut-length, new-number, ready-as, split-step}
 use Rattle.vm_pool.proofs.passes.split_each.Goals as goal
 

@@ -1,9 +1,6 @@
-use Rattle.std.proofs.Common.{◌≡◌, ◌+◌, ◌≤◌, All, length, map}
 use Rattle.std.specs.Vec.{vec_capacity, vec_len}
-use Rattle.vm_rule.specs.declared.view.View.{View}
-use Rattle.vm_step.specs.Passes.{IsSamePass, view}
-use Rattle.vm_step.specs.Ready.{IsReady}
-use Rattle.vm_step.specs.Together.{PassesSplit}
+use Rattle.std.proofs.Common.{◌+◌, ◌≡◌, ◌≤◌, All, length, map}
+use Rattle.vm_step.specs.Prelude.{IsReady, IsSamePass, PassesSplit, View, view}
 use Rattle.vm_pool.proofs.passes.split_each.Given as goal
 
 abbrev pub invariant-loop-i : goal.invariant-loop-i

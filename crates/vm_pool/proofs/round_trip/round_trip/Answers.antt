@@ -1,25 +1,19 @@
 -- The release made the draft the page's last words; the sweep, the second bringing and the read left them so. A pass that is alone has each call
 -- succeed, by what the calls before told it of the page.
-use Rattle.std.proofs.Common.{ℕ, true, ◌≡◌, ◌<◌, ◌≤◌, ◌+◌, IsOk, List, ap, sym, subst, ◌∙◌, slice_set, length, arith}
+use Rattle.std.proofs.Common.{◌+◌, ◌<◌, ◌∙◌, ◌≡◌, ◌≤◌, ap, arith, IsOk, length, List, slice_set, subst, sym, true, ℕ}
 use Rattle.std.proofs.lemmas.Bool.{false≢true}
 use Rattle.std.proofs.lemmas.Option.{IfSome_then}
-use Rattle.vm_core.specs.Fn.{at}
-use Rattle.vm_core.specs.StateActs.{is_readable}
-use Rattle.vm_core.specs.Words.{MAX_VERSION, state_of, version_of}
+use Rattle.vm_core.specs.Prelude.{at, is_readable, MAX_VERSION, state_of, version_of}
+use Rattle.vm_rule.specs.Prelude.{draft_of, last_of}
+use Rattle.vm_step.specs.Prelude.{IsAlone, Origin, view}
+use Rattle.vm_step.proofs.Alone.{still-alone}
 use Rattle.vm_exmap.proofs.Handing.{held-on}
 use Rattle.vm_guard.specs.Sure.{IsKnownFree, known_word}
-use Rattle.vm_rule.specs.declared.view.Origin.{Origin}
-use Rattle.vm_rule.specs.Reading.{last_of}
-use Rattle.vm_rule.specs.Views.{draft_of}
-use Rattle.vm_step.specs.Passes.{view}
-use Rattle.vm_step.specs.Alone.{IsAlone}
-use Rattle.vm_step.proofs.Alone.{still-alone}
 use Rattle.vm_pool.specs.Known.{known_version}
+use Rattle.vm_pool.proofs.{Asking.asked-version, Asking.when-free, OnePage.no-fault}
 use Rattle.vm_pool.proofs.Alone.{set-alone, set-words, word-back}
-use Rattle.vm_pool.proofs.Asking.{asked-version, when-free}
-use Rattle.vm_pool.proofs.OnePage.{no-fault}
-use Rattle.vm_pool.proofs.RoundTrip.{CanBeLocked, first-locks, reads-again, same-version, some-is}
 use Rattle.vm_pool.proofs.round_trip.round_trip.Goals as goal
+use Rattle.vm_pool.proofs.RoundTrip.{CanBeLocked, first-locks, reads-again, same-version, some-is}
 
 pub returns-in_default-clause-held : goal.returns-in_default-clause-held
 returns-in_default-clause-held g c =

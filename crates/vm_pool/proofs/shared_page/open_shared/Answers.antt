@@ -1,21 +1,50 @@
 -- The first pass meets the premises of what `bring` promises, and what `bring` tells then those of what the shared guard promises.
-use Rattle.std.proofs.Common.{ℕ, List, length, map, ◌≡◌, ◌<◌, ◌≤◌, ◌+◌, ◌∙◌, IsOk, IsSome, ap, refl, subst, sym, inl, arith}
+use Rattle.std.proofs.Common.{◌+◌, ◌<◌, ◌∙◌, ◌≡◌, ◌≤◌, ap, arith, inl, IsOk, IsSome, length, List, map, refl, subst, sym, ℕ}
 use Rattle.std.proofs.lemmas.Bool.{false≢true}
-use Rattle.vm_block.specs.declared.stored.Stored.{Stored}
-use Rattle.vm_core.specs.StateActs.{MayShare}
-use Rattle.vm_core.specs.Words.{MAX_VERSION, UNLOCKED, state_of}
-use Rattle.vm_guard.specs.Sure.{known_word}
-use Rattle.vm_rule.specs.Started.{IsStarted}
-use Rattle.vm_rule.proofs.ListFacts.{length-mapped}
-use Rattle.vm_rule.proofs.WordFacts.{word-state}
-use Rattle.vm_step.specs.Passes.{view}
+use Rattle.vm_core.specs.Prelude.{MAX_VERSION, MayShare, state_of, UNLOCKED}
+use Rattle.vm_rule.specs.Prelude.{IsStarted, Stored}
+use Rattle.vm_rule.proofs.{ListFacts.length-mapped, WordFacts.word-state}
+use Rattle.vm_step.specs.Prelude.{Shape, view}
 use Rattle.vm_step.proofs.Alone.{still-alone}
-use Rattle.vm_pool.specs.Known.{KnowsBring, KnowsBrought, known_version}
-use Rattle.vm_pool.proofs.Asking.{when-free}
-use Rattle.vm_pool.proofs.FirstPage.{first-alone, first-free, first-out, sure-then}
-use Rattle.vm_pool.proofs.RoundTrip.{brought-word}
+use Rattle.vm_guard.specs.{Guards.IsSharing, Sure.known_word}
+use Rattle.vm_pool.specs.Known.{known_version, KnowsBring, KnowsBrought}
+use Rattle.vm_pool.proofs.{Asking.when-free, RoundTrip.brought-word, shared_page.open_shared.Goals.in-Err, shared_page.open_shared.Goals.in-Ok}
+use Rattle.vm_pool.proofs.FirstPage.{first-alone, first-free, first-home, first-of, first-out, first-used, none-held, sure-then}
 use Rattle.vm_pool.proofs.shared_page.open_shared.Goals as goal
-use Rattle.vm_pool.proofs.shared_page.open_shared.Goals.{in-Ok, in-Err}
+
+pub start-requires : goal.start-requires
+start-requires g c = record { pages = c.requires.pages; fits = c.requires.fits; begins = c.requires.begins }
+
+pub new-iface-requires : goal.new-iface-requires
+new-iface-requires g c = (omega arith, omega arith)
+
+pub bring-answer-requires : goal.bring-answer-requires
+bring-answer-requires g c =
+    let blocks : List Stored = map g.B.Block.stored c.args.blocks.items in
+    let mapped : length blocks ≡ length c.args.blocks.items = length-mapped g.B.Block.stored c.args.blocks.items in
+    let made = c.in_ok-pool.ensures in
+    record {
+      ready = record { may = (made.pass, first-used _ _ _ _ blocks _ made.view); table = first-of _ _ _ _ blocks _ made.view _ made.key };
+      home = first-home _ _ _ _ blocks _ made.view;
+      frames = none-held (view c.in_ok-pool.pass) c.new-iface.result.frames c.new-iface.ensures.2;
+      page = subst (λ (s : Shape). c.args.pid < s.pages) (sym made.key) (subst (λ (n : ℕ). c.args.pid < n) (c.requires.pages ∙ sym mapped) c.requires.page.0);
+    }
+
+pub take-requires : goal.take-requires
+take-requires g c =
+    let blocks : List Stored = map g.B.Block.stored c.args.blocks.items in
+    let mapped : length blocks ≡ length c.args.blocks.items = length-mapped g.B.Block.stored c.args.blocks.items in
+    record {
+      pass = c.bring-answer.ensures.ready.may;
+      page = subst (λ (s : Shape). c.args.pid < s.pages) (sym c.in_ok-pool.ensures.key) (subst (λ (n : ℕ). c.args.pid < n) (c.requires.pages ∙ sym mapped) c.requires.page.0);
+    }
+
+pub read-word-requires : goal.read-word-requires
+read-word-requires g c = record {
+  ready = c.take.ensures.ready;
+  shares = subst (λ (n : ℕ). IsSharing n c.in-Ok.guard.frame (view c.take.new.pass)) (sym c.in-Ok.ensures.taken.0) c.in-Ok.ensures.taken.1.sharing;
+  word = c.requires.page.1;
+}
 
 pub returns-clause-answer : goal.returns-clause-answer
 returns-clause-answer g c =

@@ -1,18 +1,45 @@
 -- The second call and the read meet the premises of what is promised a pass that is alone, by what the call before them told.
-use Rattle.std.proofs.Common.{ℕ, ◌≡◌, ◌≢◌, ◌<◌, [], List, length, map, sym, ap, subst, ◌∙◌}
-use Rattle.vm_block.specs.declared.stored.Stored.{Stored}
-use Rattle.vm_core.specs.StateActs.{is_readable}
-use Rattle.vm_core.specs.Words.{state_of}
-use Rattle.vm_rule.specs.declared.view.Origin.{Origin}
-use Rattle.vm_rule.specs.Started.{IsStarted}
+use Rattle.std.proofs.Common.{[], ◌<◌, ◌∙◌, ◌≡◌, ◌≢◌, ap, arith, length, List, map, subst, sym, ℕ}
+use Rattle.vm_core.specs.Prelude.{is_readable, state_of}
+use Rattle.vm_rule.specs.Prelude.{IsStarted, Stored}
 use Rattle.vm_rule.proofs.ListFacts.{length-mapped}
-use Rattle.vm_step.specs.Passes.{view}
+use Rattle.vm_step.specs.Prelude.{Origin, Shape, view}
 use Rattle.vm_step.proofs.Alone.{still-alone}
 use Rattle.vm_pool.specs.Known.{KnowsBring}
 use Rattle.vm_pool.proofs.Asking.{when-free}
-use Rattle.vm_pool.proofs.FirstPage.{first-alone, first-free, first-out, sure-on, sure-then}
-use Rattle.vm_pool.proofs.TwoPages.{IsReadyAgain, can-be-read, has-page, other-page, ready-again}
+use Rattle.vm_pool.proofs.FirstPage.{first-alone, first-free, first-home, first-of, first-out, first-used, none-held, sure-on, sure-then}
 use Rattle.vm_pool.proofs.two_pages.open_two.Goals as goal
+use Rattle.vm_pool.proofs.TwoPages.{can-be-read, has-page, IsReadyAgain, other-page, ready-again}
+
+pub start-requires : goal.start-requires
+start-requires g c = record { pages = c.requires.pages; fits = c.requires.fits; begins = c.requires.begins }
+
+pub new-iface-requires : goal.new-iface-requires
+new-iface-requires g c = (omega arith, omega arith)
+
+pub bring-first-requires : goal.bring-first-requires
+bring-first-requires g c =
+    let blocks : List Stored = map g.B.Block.stored c.args.blocks.items in
+    let mapped : length blocks ≡ length c.args.blocks.items = length-mapped g.B.Block.stored c.args.blocks.items in
+    let made = c.in_ok-pool.ensures in
+    record {
+      ready = record { may = (made.pass, first-used _ _ _ _ blocks _ made.view); table = first-of _ _ _ _ blocks _ made.view _ made.key };
+      home = first-home _ _ _ _ blocks _ made.view;
+      frames = none-held (view c.in_ok-pool.pass) c.new-iface.result.frames c.new-iface.ensures.2;
+      page = subst (λ (s : Shape). c.args.a < s.pages) (sym made.key) (subst (λ (n : ℕ). c.args.a < n) (c.requires.pages ∙ sym mapped) c.requires.page.0);
+    }
+
+pub bring-second-requires : goal.bring-second-requires
+bring-second-requires g c =
+    let blocks : List Stored = map g.B.Block.stored c.args.blocks.items in
+    let mapped : length blocks ≡ length c.args.blocks.items = length-mapped g.B.Block.stored c.args.blocks.items in
+    let made = c.in_ok-pool.ensures in
+    record {
+      ready = c.bring-first.ensures.ready;
+      home = c.bring-first.ensures.keeps.out ∙ first-home _ _ _ _ blocks _ made.view;
+      frames = c.bring-first.ensures.held;
+      page = subst (λ (s : Shape). c.args.b < s.pages) (sym made.key) (subst (λ (n : ℕ). c.args.b < n) (c.requires.pages ∙ sym mapped) c.requires.page.1);
+    }
 
 pub returns : goal.returns
 returns g c =

@@ -1,7 +1,6 @@
-use Rattle.std.proofs.Common.{◌≡◌, List, [], ◌∷◌, map, subst, sym, ◌∙◌}
+use Rattle.std.proofs.Common.{[], ◌∙◌, ◌∷◌, subst, sym}
 use mathlib.Core.List.{map-append}
-use Rattle.vm_step.specs.Passes.{view}
-use Rattle.vm_step.specs.Together.{HasJoined}
+use Rattle.vm_step.specs.Prelude.{HasJoined, view}
 use Rattle.vm_step.proofs.Together.{joined-one}
 use Rattle.vm_pool.proofs.whole_again.join_each.Goals as goal
 

@@ -1,6 +1,5 @@
-use Rattle.std.proofs.Common.{◌≡◌, map}
-use Rattle.vm_step.specs.Passes.{IsSamePass, MayStep, view}
-use Rattle.vm_step.specs.Together.{HasJoined}
+use Rattle.std.proofs.Common.{map}
+use Rattle.vm_step.specs.Prelude.{HasJoined, IsSamePass, MayStep, view}
 use Rattle.vm_pool.proofs.whole_again.join_each.Given as goal
 
 abbrev pub invariant-loop-other : goal.invariant-loop-other

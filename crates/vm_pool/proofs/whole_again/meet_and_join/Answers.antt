@@ -1,8 +1,6 @@
-use Rattle.std.proofs.Common.{ℕ, ◌≡◌, ◌≤◌, ◌+◌, List, ◌∷◌, length, ap, arith}
-use Rattle.vm_step.specs.Passes.{view}
-use Rattle.vm_step.proofs.MetPasses.{met-still}
-use Rattle.vm_step.proofs.Still.{still-nothing}
-use Rattle.vm_step.proofs.Together.{holds-none, new-nothing}
+use Rattle.std.proofs.Common.{◌∷◌, ◌≡◌, ◌≤◌, ap, arith, length}
+use Rattle.vm_step.specs.Prelude.{view}
+use Rattle.vm_step.proofs.{MetPasses.met-still, Still.still-nothing, Together.holds-none, Together.new-nothing}
 use Rattle.vm_pool.proofs.whole_again.meet_and_join.Goals as goal
 
 pub split_one-second-requires-clause-fresh : goal.split_one-second-requires-clause-fresh

@@ -1,6 +1,6 @@
-use Rattle.std.proofs.Common.{◌≡◌, ◌≤◌, length, refl, subst, sym, ap, ◌∙◌, arith}
-use Rattle.vm_rule.specs.Joins.{HoldsNoPage}
-use Rattle.vm_step.specs.Passes.{view}
+use Rattle.std.proofs.Common.{◌∙◌, ◌≡◌, ◌≤◌, ap, arith, length, refl, subst, sym}
+use Rattle.vm_rule.specs.Prelude.{HoldsNoPage}
+use Rattle.vm_step.specs.Prelude.{view}
 use Rattle.vm_step.proofs.Still.{still-nothing}
 use Rattle.vm_step.proofs.Together.{each-at, holds-none, new-nothing, numbers-length, split-current, split-still, whole-again}
 use Rattle.vm_pool.proofs.AtOnce.{first-has-all}

@@ -1,7 +1,6 @@
 -- What stays with the interface is part of what it had, or of what was taken, and that is held.
-use Rattle.std.proofs.Common.{ℕ, List, subst}
-use Rattle.vm_exmap.specs.Frames.{AreHeld}
-use Rattle.vm_step.specs.Passes.{view}
+use Rattle.std.proofs.Common.{List, subst, ℕ}
+use Rattle.vm_step.specs.Prelude.{AreHeld, view}
 use Rattle.vm_exmap.proofs.Handing.{held-rest}
 use Rattle.vm_exmap.proofs.interface.Interface.alloc.Goals as goal
 

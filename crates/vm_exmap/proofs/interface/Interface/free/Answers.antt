@@ -1,7 +1,6 @@
 -- What is kept and what is given are the two parts of what was handed in; what the interface had and keeps is still held.
-use Rattle.std.proofs.Common.{ℕ, ◌≡◌, ◌++◌, List, subst, sym, ◌∙◌, ap, append_assoc}
-use Rattle.vm_exmap.specs.Frames.{AreHeld}
-use Rattle.vm_step.specs.Passes.{view}
+use Rattle.std.proofs.Common.{◌++◌, ◌∙◌, ◌≡◌, ap, append_assoc, List, subst, sym, ℕ}
+use Rattle.vm_step.specs.Prelude.{AreHeld, view}
 use Rattle.vm_exmap.proofs.Handing.{held-rest, held-still}
 use Rattle.vm_exmap.proofs.interface.Interface.free.Goals as goal
 

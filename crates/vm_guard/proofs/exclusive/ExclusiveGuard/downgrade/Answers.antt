@@ -1,6 +1,5 @@
-use Rattle.std.proofs.Common.{◌<◌, subst, ◌∙◌}
-use Rattle.vm_guard.proofs.Downgrading.{downgrades, may-downgrade}
-use Rattle.vm_guard.proofs.GuardSteps.{parts-on, still-of}
+use Rattle.std.proofs.Common.{◌<◌, ◌∙◌, subst}
+use Rattle.vm_guard.proofs.{Downgrading.downgrades, Downgrading.may-downgrade, GuardSteps.parts-on, GuardSteps.still-of}
 use Rattle.vm_guard.proofs.exclusive.ExclusiveGuard.downgrade.Goals as goal
 
 pub downgrade-requires-clause-page : goal.downgrade-requires-clause-page

@@ -1,9 +1,6 @@
-use Rattle.std.proofs.Common.{◌<◌, subst, sym, refl, inl, ◌∙◌}
-use Rattle.std.proofs.Common.{IsSome}
-use Rattle.vm_step.specs.Passes.{view}
-use Rattle.vm_guard.proofs.GuardSteps.{parts-on, still-of}
-use Rattle.vm_guard.proofs.QuietSteps.{load-quiet}
-use Rattle.vm_guard.proofs.Seats.{frame-read}
+use Rattle.std.proofs.Common.{◌<◌, ◌∙◌, inl, IsSome, refl, subst, sym}
+use Rattle.vm_step.specs.Prelude.{view}
+use Rattle.vm_guard.proofs.{GuardSteps.parts-on, GuardSteps.still-of, QuietSteps.load-quiet, Seats.frame-read}
 use Rattle.vm_guard.proofs.exclusive.ExclusiveGuard.read.Goals as goal
 
 pub load-requires-clause-page : goal.load-requires-clause-page

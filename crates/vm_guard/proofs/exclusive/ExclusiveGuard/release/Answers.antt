@@ -1,6 +1,6 @@
-use Rattle.std.proofs.Common.{◌<◌, subst, ◌∙◌}
-use Rattle.vm_guard.proofs.GuardSteps.{may-give_up, parts-on, still-of, releases}
+use Rattle.std.proofs.Common.{◌<◌, ◌∙◌, subst}
 use Rattle.vm_guard.proofs.exclusive.ExclusiveGuard.release.Goals as goal
+use Rattle.vm_guard.proofs.GuardSteps.{may-give_up, parts-on, releases, still-of}
 
 pub release-requires-clause-page : goal.release-requires-clause-page
 release-requires-clause-page g c = subst (λ n. c.args.self.pid < n) c.requires.ready.table.is_shape.pages c.requires.holds.page

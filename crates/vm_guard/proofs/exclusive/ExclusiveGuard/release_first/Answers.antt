@@ -1,7 +1,6 @@
-use Rattle.std.proofs.Common.{◌<◌, subst, ◌∙◌}
-use Rattle.vm_guard.proofs.GuardSteps.{parts-on, still-of}
-use Rattle.vm_guard.proofs.Groups.{first-may}
-use Rattle.vm_guard.proofs.QuietSteps.{release-elsewhere}
+use Rattle.std.proofs.Common.{◌<◌, ◌∙◌, ◌≡◌, refl, subst}
+use Rattle.vm_step.proofs.steps.Release.{release-others}
+use Rattle.vm_guard.proofs.{Groups.first-may, GuardSteps.parts-on, GuardSteps.still-of, QuietSteps.steady-of}
 use Rattle.vm_guard.proofs.exclusive.ExclusiveGuard.release_first.Goals as goal
 
 pub release-requires-clause-page : goal.release-requires-clause-page
@@ -13,5 +12,5 @@ release-requires-clause-legal g c = first-may _ _ _ _ _ _ _ _ c.requires.holds c
 pub returns-clause-ready : goal.returns-clause-ready
 returns-clause-ready g c =
     let ready = c.requires.ready in
-    let steady = (release-elsewhere _ _ _ _ _ _ c.release.ensures.told).steady in
+    let steady = steady-of (release-others c.release.ensures.told (λ q. q ≡ c.args.self.pid) refl) in
     record { may = (c.release.ensures.pass.0 ∙ ready.may.0, parts-on _ _ _ steady ready.may.1); table = still-of _ _ _ _ steady.start ready.table }

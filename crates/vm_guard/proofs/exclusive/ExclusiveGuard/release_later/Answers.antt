@@ -1,7 +1,6 @@
-use Rattle.std.proofs.Common.{◌<◌, subst, ◌∙◌}
-use Rattle.vm_guard.proofs.GuardSteps.{parts-on, still-of}
-use Rattle.vm_guard.proofs.Groups.{later-may}
-use Rattle.vm_guard.proofs.QuietSteps.{release-elsewhere}
+use Rattle.std.proofs.Common.{◌<◌, ◌∙◌, ◌≡◌, refl, subst}
+use Rattle.vm_step.proofs.steps.Release.{release-others}
+use Rattle.vm_guard.proofs.{Groups.later-may, GuardSteps.parts-on, GuardSteps.still-of, QuietSteps.steady-of}
 use Rattle.vm_guard.proofs.exclusive.ExclusiveGuard.release_later.Goals as goal
 
 pub release_silently-requires-clause-page : goal.release_silently-requires-clause-page
@@ -13,5 +12,5 @@ release_silently-requires-clause-legal g c = later-may _ _ _ _ c.requires.due
 pub returns-clause-ready : goal.returns-clause-ready
 returns-clause-ready g c =
     let ready = c.requires.ready in
-    let steady = (release-elsewhere _ _ _ _ _ _ c.release_silently.ensures.told).steady in
+    let steady = steady-of (release-others c.release_silently.ensures.told (λ q. q ≡ c.args.self.pid) refl) in
     record { may = (c.release_silently.ensures.pass.0 ∙ ready.may.0, parts-on _ _ _ steady ready.may.1); table = still-of _ _ _ _ steady.start ready.table }

@@ -1,9 +1,9 @@
 -- The page is made dirty, and then the word is stored.
-use Rattle.std.proofs.Common.{◌<◌, subst, ◌∙◌, inr}
-use Rattle.vm_rule.specs.Stores.{StoresTold}
-use Rattle.vm_step.specs.Passes.{view}
-use Rattle.vm_guard.proofs.GuardSteps.{drafts-of, holds-dirty, parts-on, sets, still-holding, still-of}
+use Rattle.std.proofs.Common.{◌<◌, ◌∙◌, inr, subst}
+use Rattle.vm_rule.specs.Prelude.{StoresTold}
+use Rattle.vm_step.specs.Prelude.{view}
 use Rattle.vm_guard.proofs.exclusive.ExclusiveGuard.set.Goals as goal
+use Rattle.vm_guard.proofs.GuardSteps.{drafts-of, holds-dirty, parts-on, sets, still-holding, still-of}
 
 pub store-requires-clause-frame : goal.store-requires-clause-frame
 store-requires-clause-frame g c =

@@ -1,17 +1,13 @@
 -- The look, the exchange and the load of the translation word give each answer.
-use Rattle.std.proofs.Common.{◌≡◌, ◌<◌, None, refl, sym, subst, ⊎_elim, inl, inr}
+use Rattle.std.proofs.Common.{⊎_elim, ◌<◌, ◌∙◌, ◌≡◌, inl, inr, None, refl, subst, sym}
 use Rattle.std.proofs.lemmas.Result.{err_from_is_err_and}
-use Rattle.vm_core.specs.Words.{version_of, word_of, LOCKED, MAX_VERSION}
-use Rattle.vm_step.specs.Evidence.{UnlockedExpected}
-use Rattle.vm_step.specs.Passes.{view}
-use Rattle.vm_guard.specs.Denied.{NotCrowded}
-use Rattle.vm_guard.specs.Guards.{IsLocked}
-use Rattle.vm_guard.proofs.Denials.{denied-at-once, denied-lost}
-use Rattle.vm_guard.proofs.QuietSteps.{lock-lost}
+use Rattle.vm_core.specs.Prelude.{LOCKED, MAX_VERSION, version_of, word_of}
+use Rattle.vm_step.specs.Prelude.{UnlockedExpected, view}
+use Rattle.vm_guard.specs.{Denied.NotCrowded, Guards.IsLocked, Sure.IsUnlockedWord}
+use Rattle.vm_guard.proofs.{Denials.denied-at-once, Denials.denied-lost, GuardSteps.parts-on, GuardSteps.still-of, QuietSteps.lock-lost}
+use Rattle.vm_guard.proofs.exclusive.ExclusiveGuard.take.Goals as goal
 use Rattle.vm_guard.proofs.Lockings.{lock-owns, lock-resident, locked}
 use Rattle.vm_guard.proofs.Sure.{free-refused, lock-sure, look-finds}
-use Rattle.vm_guard.specs.Sure.{IsUnlockedWord}
-use Rattle.vm_guard.proofs.exclusive.ExclusiveGuard.take.Goals as goal
 
 pub returns-in_err-expects-clause-denied : goal.returns-in_err-expects-clause-denied
 returns-in_err-expects-clause-denied g c =
@@ -20,10 +16,10 @@ returns-in_err-expects-clause-denied g c =
     rw (p.1, p.2) (denied-at-once g.U.Owner.tied NotCrowded UnlockedExpected c.args.pid c.look_silently-word.result c.in_err-expects.field-0.0 _ _ c.look_silently-word.ensures.told why.0 why.1)
 
 pub standing-stands-requires-clause-locked : goal.standing-stands-requires-clause-locked
-standing-stands-requires-clause-locked g c = inl (lock-owns _ _ _ _ _ c.in-Taken.ensures.told)
+standing-stands-requires-clause-locked g c = inl (lock-owns c.in-Taken.ensures.told)
 
 pub standing-stands-requires-clause-resident : goal.standing-stands-requires-clause-resident
-standing-stands-requires-clause-resident g c = lock-resident _ _ _ _ _ c.in-Taken.ensures.told c.in_ok-expects.ensures.ok.resident
+standing-stands-requires-clause-resident g c = lock-resident c.in-Taken.ensures.told c.in_ok-expects.ensures.ok.resident
 
 pub returns-in-Lost-clause-denied : goal.returns-in-Lost-clause-denied
 returns-in-Lost-clause-denied g c =
@@ -51,3 +47,13 @@ returns-in-Lost-clause-sure g c a free below =
     let lost = c.in-Lost.ensures in
     let here : c.look_silently-word.result ≡ _ = look-finds g.U.Owner.tied c.args.pid None c.look_silently-word.result _ _ c.look_silently-word.ensures.told a in
     absurd (lock-sure g.U.Owner.tied c.args.pid c.look_silently-word.result _ _ c.look_silently-word.ensures.told a _ _ _ lost.told c.in_ok-expects.ensures.kept (lost.lost _ refl) (subst IsUnlockedWord (sym here) free))
+
+pub returns-in-Lost-clause-ready : goal.returns-in-Lost-clause-ready
+returns-in-Lost-clause-ready g c =
+    let steady = (returns-in-Lost-clause-denied g c).quiet.steady in
+    record { may = (c.in-Lost.ensures.pass.0 ∙ c.look_silently-word.ensures.pass.0 ∙ c.requires.pass.0, parts-on _ _ _ steady c.requires.pass.1); table = still-of _ _ _ _ steady.start c.look_silently-word.ensures.table }
+
+pub returns-in-Taken-clause-ready : goal.returns-in-Taken-clause-ready
+returns-in-Taken-clause-ready g c =
+    let steady = (returns-in-Taken-clause-taken g c).1.elsewhere.steady in
+    record { may = (c.standing-stands.ensures.pass.0 ∙ c.in-Taken.ensures.pass.0 ∙ c.look_silently-word.ensures.pass.0 ∙ c.requires.pass.0, parts-on _ _ _ steady c.requires.pass.1); table = still-of _ _ _ _ steady.start c.look_silently-word.ensures.table }

@@ -1,7 +1,6 @@
 use Rattle.std.proofs.Common.{◌≡◌, length, take}
-use Rattle.vm_step.specs.Passes.{IsSamePass, view}
+use Rattle.vm_step.specs.Prelude.{IsReady, IsSamePass, view}
 use Rattle.vm_guard.specs.Guards.{Loads, placed}
-use Rattle.vm_step.specs.Ready.{IsReady}
 use Rattle.vm_guard.proofs.opt.OptGuard.read_all.Given as goal
 
 -- the words below i were loaded, and stand in the page

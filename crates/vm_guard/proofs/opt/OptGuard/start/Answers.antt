@@ -1,20 +1,19 @@
 -- The looks, the mark that is taken away and the load of the translation word give each answer.
-use Rattle.std.proofs.Common.{◌≡◌, ◌<◌, ◌≢◌, None, true≢false, refl, sym, ap, subst, ◌∙◌, inl, inr}
+use Rattle.std.proofs.Common.{◌<◌, ◌∙◌, ◌≡◌, ◌≢◌, ap, inl, inr, None, refl, subst, sym, true≢false}
 use Rattle.std.proofs.lemmas.Bool.{false≢true}
-use Rattle.vm_core.specs.Words.{state_of, EVICTED}
-use Rattle.vm_core.specs.StateActs.{is_readable}
+use Rattle.vm_core.specs.Prelude.{EVICTED, is_readable, state_of}
+use Rattle.vm_step.specs.Prelude.{NoneExpected}
 use Rattle.vm_guard.specs.Denied.{AgainOrNeed}
-use Rattle.vm_guard.proofs.OpenReads.{locked-unreadable, readable-state}
-use Rattle.vm_guard.proofs.Sure.{look-finds, start-open, start-version}
-use Rattle.vm_guard.proofs.Starting.{needed, locked-first, looks-same, moved, still-resident, names-frame, began}
-use Rattle.vm_guard.proofs.Validating.{kept-as}
+use Rattle.vm_guard.proofs.{Denials.denied-at-once, OpenReads.locked-unreadable, OpenReads.readable-state, Validating.kept-as}
 use Rattle.vm_guard.proofs.opt.OptGuard.start.Goals as goal
+use Rattle.vm_guard.proofs.Starting.{began, looks-same, moved, names-frame, still-resident}
+use Rattle.vm_guard.proofs.Sure.{look-finds, start-open, start-version}
 
 pub returns-then-state-clause-err : goal.returns-then-state-clause-err
-returns-then-state-clause-err g c = needed _ _ AgainOrNeed _ _ _ tt c.look_silently-first.ensures.told (sym c.state.ensures ∙ c.if-state.true)
+returns-then-state-clause-err g c = denied-at-once _ AgainOrNeed NoneExpected _ _ _ _ _ c.look_silently-first.ensures.told (refl, sym c.state.ensures ∙ c.if-state.true) tt
 
 pub returns-then-state-2-clause-err : goal.returns-then-state-2-clause-err
-returns-then-state-2-clause-err g c = locked-first _ _ AgainOrNeed _ _ _ tt c.look_silently-first.ensures.told (sym c.state-2.ensures ∙ c.if-state-2.true)
+returns-then-state-2-clause-err g c = denied-at-once _ AgainOrNeed NoneExpected _ _ _ _ _ c.look_silently-first.ensures.told (refl, sym c.state-2.ensures ∙ c.if-state-2.true) tt
 
 pub returns-then-version-clause-err : goal.returns-then-version-clause-err
 returns-then-version-clause-err g c =

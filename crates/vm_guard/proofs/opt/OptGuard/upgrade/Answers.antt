@@ -1,10 +1,9 @@
-use Rattle.std.proofs.Common.{◌≡◌, ◌≢◌, ◌<◌, ◌≤◌, refl, sym, subst, ◌∙◌, inl, arith}
-use Rattle.vm_core.specs.Words.{version_of}
+use Rattle.std.proofs.Common.{◌<◌, ◌∙◌, ◌≡◌, ◌≢◌, ◌≤◌, arith, inl, refl, subst, sym}
+use Rattle.vm_core.specs.Prelude.{version_of}
 use Rattle.vm_rule.proofs.WordFacts.{version-within}
-use Rattle.vm_guard.proofs.Sure.{upgrade-sure}
-use Rattle.vm_guard.proofs.Upgrading.{worn, lost, upgraded, was-readable}
-use Rattle.vm_guard.proofs.Lockings.{lock-owns, lock-resident}
+use Rattle.vm_guard.proofs.{GuardSteps.parts-on, GuardSteps.still-of, Lockings.lock-owns, Lockings.lock-resident, Sure.upgrade-sure}
 use Rattle.vm_guard.proofs.opt.OptGuard.upgrade.Goals as goal
+use Rattle.vm_guard.proofs.Upgrading.{lost, upgraded, was-readable, worn}
 
 pub returns-then-version-eq-MAX_VERSION-clause-denied : goal.returns-then-version-eq-MAX_VERSION-clause-denied
 returns-then-version-eq-MAX_VERSION-clause-denied g c =
@@ -20,10 +19,10 @@ unlocked-expects-requires-clause-below g c =
     omega (arith, within, other)
 
 pub standing-stands-requires-clause-locked : goal.standing-stands-requires-clause-locked
-standing-stands-requires-clause-locked g c = inl (lock-owns g.U.Owner.tied _ _ _ _ c.in-Taken.ensures.told)
+standing-stands-requires-clause-locked g c = inl (lock-owns c.in-Taken.ensures.told)
 
 pub standing-stands-requires-clause-resident : goal.standing-stands-requires-clause-resident
-standing-stands-requires-clause-resident g c = lock-resident g.U.Owner.tied _ _ _ _ c.in-Taken.ensures.told c.unlocked-expects.ensures.expects.resident
+standing-stands-requires-clause-resident g c = lock-resident c.in-Taken.ensures.told c.unlocked-expects.ensures.expects.resident
 
 pub returns-in-Lost-clause-denied : goal.returns-in-Lost-clause-denied
 returns-in-Lost-clause-denied g c = lost g.U.Owner.tied _ _ c.args.self.frame _ _ _ _ c.in-Lost.ensures.told (c.in-Lost.ensures.lost _ refl) c.unlocked-expects.ensures.kept
@@ -47,3 +46,13 @@ pub returns-in-Lost-clause-sure : goal.returns-in-Lost-clause-sure
 returns-in-Lost-clause-sure g c a free known below =
     let lost = c.in-Lost.ensures in
     absurd (upgrade-sure g.U.Owner.tied c.args.self.pid c.args.self.word _ _ _ _ lost.told c.unlocked-expects.ensures.kept c.unlocked-expects.ensures.expects.may_lock (lost.lost _ refl) a free known)
+
+pub returns-in-Lost-clause-ready : goal.returns-in-Lost-clause-ready
+returns-in-Lost-clause-ready g c =
+    let steady = (returns-in-Lost-clause-denied g c).quiet.steady in
+    record { may = (c.in-Lost.ensures.pass.0 ∙ c.requires.ready.may.0, parts-on _ _ _ steady c.requires.ready.may.1); table = still-of _ _ _ _ steady.start c.requires.ready.table }
+
+pub returns-in-Taken-clause-ready : goal.returns-in-Taken-clause-ready
+returns-in-Taken-clause-ready g c =
+    let steady = (returns-in-Taken-clause-taken g c).2.elsewhere.steady in
+    record { may = (c.standing-stands.ensures.pass.0 ∙ c.in-Taken.ensures.pass.0 ∙ c.requires.ready.may.0, parts-on _ _ _ steady c.requires.ready.may.1); table = still-of _ _ _ _ steady.start c.requires.ready.table }

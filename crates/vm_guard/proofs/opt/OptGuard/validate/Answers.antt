@@ -1,7 +1,7 @@
-use Rattle.std.proofs.Common.{◌<◌, sym, subst, ◌∙◌, inl, inr}
+use Rattle.std.proofs.Common.{◌<◌, ◌∙◌, inl, inr, subst, sym}
+use Rattle.vm_guard.proofs.opt.OptGuard.validate.Goals as goal
 use Rattle.vm_guard.proofs.Sure.{valid-sure}
 use Rattle.vm_guard.proofs.Validating.{kept-valid, refused, stays-open, validated}
-use Rattle.vm_guard.proofs.opt.OptGuard.validate.Goals as goal
 
 pub returns-then-version-clause-err : goal.returns-then-version-clause-err
 returns-then-version-clause-err g c =

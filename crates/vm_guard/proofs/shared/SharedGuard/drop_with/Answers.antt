@@ -1,4 +1,4 @@
-use Rattle.std.proofs.Common.{◌<◌, subst, ◌∙◌}
+use Rattle.std.proofs.Common.{◌<◌, ◌∙◌, subst}
 use Rattle.vm_guard.proofs.GuardSteps.{gives-up, parts-on, still-of}
 use Rattle.vm_guard.proofs.shared.SharedGuard.drop_with.Goals as goal
 

@@ -1,8 +1,6 @@
-use Rattle.std.proofs.Common.{◌<◌, Some, subst, inr, ap, ◌∙◌}
-use Rattle.vm_step.specs.Passes.{view}
-use Rattle.vm_guard.proofs.GuardSteps.{parts-on, still-of}
-use Rattle.vm_guard.proofs.QuietSteps.{load-quiet}
-use Rattle.vm_guard.proofs.Seats.{frame-read}
+use Rattle.std.proofs.Common.{◌<◌, ◌∙◌, ap, inr, Some, subst}
+use Rattle.vm_step.specs.Prelude.{view}
+use Rattle.vm_guard.proofs.{GuardSteps.parts-on, GuardSteps.still-of, QuietSteps.load-quiet, Seats.frame-read}
 use Rattle.vm_guard.proofs.shared.SharedGuard.read.Goals as goal
 
 pub load-requires-clause-page : goal.load-requires-clause-page

@@ -1,9 +1,7 @@
 use Rattle.std.proofs.Common.{◌<◌, subst, sym}
-use Rattle.vm_step.specs.Passes.{view}
+use Rattle.vm_step.specs.Prelude.{view}
 use Rattle.vm_pool.specs.Brings.{Fetches, Gets, IsBring as is_bring}
-use Rattle.vm_pool.proofs.Keeping.{keeps-then}
-use Rattle.vm_pool.proofs.Asking.{knows-asked}
-use Rattle.vm_pool.proofs.Sure.{sure}
+use Rattle.vm_pool.proofs.{Asking.knows-asked, Keeping.keeps-then, Sure.sure}
 use Rattle.vm_pool.proofs.pool.Pool.bring.Goals as goal
 
 pub returns-in-Ok-clause-answer : goal.returns-in-Ok-clause-answer

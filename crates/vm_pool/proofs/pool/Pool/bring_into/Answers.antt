@@ -1,13 +1,12 @@
 -- Where the page was not brought, the pass has the frames that it had.
-use Rattle.std.proofs.Common.{ℕ, ◌≡◌, ◌++◌, ◌∷◌, [], List, refl, ap, subst, ◌∙◌}
+use Rattle.std.proofs.Common.{[], ◌++◌, ◌∙◌, ◌∷◌, ◌≡◌, ap, List, refl, subst, ℕ}
+use Rattle.vm_step.specs.Prelude.{view}
 use Rattle.vm_exmap.specs.Returns.{IsFreed}
-use Rattle.vm_step.specs.Passes.{view}
 use Rattle.vm_pool.specs.Brings.{Fetches as fetched}
 use Rattle.vm_pool.specs.declared.bring.Bring.TheVariants as brings
-use Rattle.vm_pool.proofs.Bringing.{held-back, held-others}
-use Rattle.vm_pool.proofs.Keeping.{fetches-keeps}
+use Rattle.vm_pool.proofs.{Bringing.held-back, Bringing.held-others, Keeping.fetches-keeps}
+use Rattle.vm_pool.proofs.pool.Pool.bring_into.Goals.{in-Again, in-Device, in-Worn}
 use Rattle.vm_pool.proofs.pool.Pool.bring_into.Goals as goal
-use Rattle.vm_pool.proofs.pool.Pool.bring_into.Goals.{in-Again, in-Worn, in-Device}
 
 pub returns-in-Brought-clause-held : goal.returns-in-Brought-clause-held
 returns-in-Brought-clause-held g c = held-others _ _ _ _ c.requires.frames c.in-Brought.ensures.fetched.aside.start c.in-Brought.ensures.fetched.frames

@@ -1,10 +1,9 @@
 -- Each answer is that of the last allocation; a sweep left home and cap.
-use Rattle.std.proofs.Common.{ap, refl, ◌∙◌}
-use Rattle.vm_pool.specs.Brings.{GetsNone as none, counted}
-use Rattle.std.proofs.Common.{Ok, Err}
+use Rattle.std.proofs.Common.{◌∙◌, ap, Err, Ok, refl}
+use Rattle.vm_exmap.specs.declared.interface.Alloc.TheVariants as allocs
+use Rattle.vm_pool.specs.Brings.{counted, GetsNone as none}
 use Rattle.vm_pool.proofs.Bringing.{dry-then, got-then, lost-then}
 use Rattle.vm_pool.proofs.Keeping.{alloc-keeps, framed-keeps}
-use Rattle.vm_exmap.specs.declared.interface.Alloc.TheVariants as allocs
 use Rattle.vm_pool.proofs.pool.Pool.frame_for.Goals as goal
 
 pub returns-in-Again-clause-framed : goal.returns-in-Again-clause-framed

@@ -1,5 +1,5 @@
 use Rattle.std.proofs.Common.{ap}
-use Rattle.vm_step.specs.Passes.{view}
+use Rattle.vm_step.specs.Prelude.{view}
 use Rattle.vm_step.proofs.Together.{joined-number, ready-as}
 use Rattle.vm_pool.proofs.Parting.{takes-joins}
 use Rattle.vm_pool.proofs.pool.Pool.join.Goals as goal

@@ -1,4 +1,4 @@
-use Rattle.vm_step.specs.Passes.{view}
+use Rattle.vm_step.specs.Prelude.{view}
 use Rattle.vm_step.proofs.MetPasses.{meets-then}
 use Rattle.vm_pool.proofs.Parting.{have-met}
 use Rattle.vm_pool.proofs.pool.Pool.meet.Goals as goal

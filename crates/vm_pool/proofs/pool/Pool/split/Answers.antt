@@ -1,6 +1,5 @@
 use Rattle.std.proofs.Common.{map, subst, sym}
-use Rattle.vm_step.specs.Passes.{view}
-use Rattle.vm_step.specs.Together.{PassesSplit}
+use Rattle.vm_step.specs.Prelude.{PassesSplit, view}
 use Rattle.vm_step.proofs.Together.{split-none}
 use Rattle.vm_pool.proofs.pool.Pool.split.Goals as goal
 

@@ -1,5 +1,5 @@
-use Rattle.std.proofs.Common.{ℕ, ◌<◌, List, length, subst, sym, ap, ◌∙◌}
-use Rattle.vm_step.specs.Passes.{view}
+use Rattle.std.proofs.Common.{◌<◌, ◌∙◌, ap, length, List, subst, sym, ℕ}
+use Rattle.vm_step.specs.Prelude.{view}
 use Rattle.vm_step.proofs.Together.{new-number, ready-as}
 use Rattle.vm_pool.proofs.Parting.{splits-off}
 use Rattle.vm_pool.proofs.pool.Pool.split_one.Goals as goal

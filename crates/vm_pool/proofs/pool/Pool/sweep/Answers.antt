@@ -1,10 +1,8 @@
-use Rattle.std.proofs.Common.{ℕ, List, sym, subst}
+use Rattle.std.proofs.Common.{List, subst, sym, ℕ}
+use Rattle.vm_step.specs.Prelude.{AreCandidates, view}
 use Rattle.vm_exmap.specs.Returns.{IsFreed}
 use Rattle.vm_exmap.proofs.Handing.{held-on}
-use Rattle.vm_step.specs.Choices.{AreCandidates}
-use Rattle.vm_step.specs.Passes.{view}
-use Rattle.vm_pool.proofs.Keeping.{swept-keeps}
-use Rattle.vm_pool.proofs.Sweeping.{held-come, swept}
+use Rattle.vm_pool.proofs.{Keeping.swept-keeps, Sweeping.held-come, Sweeping.swept}
 use Rattle.vm_pool.proofs.pool.Pool.sweep.Goals as goal
 
 pub free-requires-clause-frames : goal.free-requires-clause-frames

@@ -1,39 +1,39 @@
 -- `new` makes the empty struct, with the view that its clause names.
-use Rattle.std.proofs.Common.{List, [], ◌∷◌, refl}
-use seplogic.Ra.Ura.{Ura}
-use mir.Syntax.{Fn, Args, a_type}
-use mir.Val.{Val, vstruct, vcons, vnil}
-use mir.MapTy.{inst_fn}
-use base.Logic.{SProp, ent}
-use prog.Memory.{Memory}
-use prog.Routine.{Routine}
-use prog.Wp.{Calls, Loops, WpFn, Tables}
+use Rattle.std.specs.contracts.marker.PhantomData as Mark
+use Rattle.std.proofs.Common.{[], ◌∷◌, List, refl}
+use base.Logic.{ent, SProp}
 use contract.Monad.{Fun}
 use contract.Running.{tables, tables_of}
-use sound.WpLaws.{WpFn-mono}
-use types.Logic.{Logic}
-use types.Kit.{Goal, Step, step, Item, ‵, raw, ◌⊛◌, ◌$◌, ◌∵◌, !, qed, move, keep, split, fjoin, fpack, feq_i, suffices, done}
-use types.Part.{agg}
-use types.Run.{enter, returns, and_then, no_more}
-use types.ByLocal.{alloc_all, pass_all, free_all, look_at, get, sets}
-use denote.RattleType.{RattleType, Valss, owns}
 use denote.Laws.{Is}
-use denote.Param.{param, layouts}
+use denote.Param.{layouts, param}
+use denote.RattleType.{owns, RattleType, Valss}
 use denote.Signature.{types_at}
 use denote.Steps.{nothing, owned}
 use denote.Struct.Laws.{makes}
 use denote.Struct.Struct.{Struct, within}
-use denote.Triple.Clauses.{Clauses, Ended, closing}
+use denote.Triple.Clauses.{Clauses, closing, Ended}
 use denote.Triple.Entry.{alive}
 use denote.Triple.Spec.{Meets, triple_of}
 use denote.Triple.Table.{entered}
-use denote.Triple.Walked.{says, Stays, walk_of, ends_at, walk_Meets}
-use Rattle.std.specs.contracts.marker.PhantomData as Mark
+use denote.Triple.Walked.{ends_at, says, Stays, walk_Meets, walk_of}
+use mir.MapTy.{inst_fn}
+use mir.Syntax.{a_type, Args, Fn}
+use mir.Val.{Val, vcons, vnil, vstruct}
+use prog.Memory.{Memory}
+use prog.Routine.{Routine}
+use prog.Wp.{Calls, Loops, Tables, WpFn}
+use seplogic.Ra.Ura.{Ura}
+use sound.WpLaws.{WpFn-mono}
+use types.ByLocal.{alloc_all, free_all, get, look_at, pass_all, sets}
+use types.Kit.{ !, ‵, ◌$◌, ◌∵◌, ◌⊛◌, done, feq_i, fjoin, fpack, Goal, Item, keep, move, qed, raw, split, Step, step, suffices}
+use types.Logic.{Logic}
+use types.Part.{agg}
+use types.Run.{and_then, enter, no_more, returns}
 use Rattle.vm_pool.specs.contracts.told.Told as Told
 use Rattle.vm_pool.specs.contracts.told.Told.new as F
 use Rattle.vm_pool.specs.contracts.told.Told.new.Key.{name as #self}
-use Rattle.vm_pool.proofs.told.Told.new.Statement as stated
 use Rattle.vm_pool.proofs.told.Told.new.Code as code
+use Rattle.vm_pool.proofs.told.Told.new.Statement as stated
 
 -- a struct by its fields alone: what it owns does not read its name
 abbrev plainly : List RattleType → RattleType
