@@ -1,41 +1,21 @@
 -- The leaf's validation answers the call.
-use Rattle.std.proofs.Common.{ℕ, ◌≡◌, ◌+◌, ◌⊎◌, true, List, [], ◌∷◌, ◌++◌, Some, length, refl, sym, ap, subst, ◌∙◌, inl, inr, arith, slice_index, append_assoc, ⊎_elim}
-use Rattle.vm_core.specs.Inv.{LoadsAre}
-use Rattle.vm_core.specs.Words.{version_of}
-use Rattle.vm_rule.specs.Locks.{LockValidates}
-use Rattle.vm_map.specs.Map.{Rises}
-use Rattle.vm_map.specs.declared.call.Said.{Said}
-use Rattle.vm_owner.specs.declared.Entry.{Entry}
-use Rattle.vm_owner.specs.Kept.{entries_under}
-use Rattle.vm_rule.specs.declared.view.Origin.{Origin}
-use Rattle.vm_rule.specs.declared.view.View.{View}
-use Rattle.vm_rule.specs.Views.{loads_at}
-use Rattle.vm_rule.specs.Reading.{last_of}
-use Rattle.vm_rule.specs.Rule.{began_of}
-use Rattle.vm_rule.specs.Brought.{entry_of}
-use Rattle.vm_step.specs.Conditions.{MayTell}
-use Rattle.vm_step.specs.Keeping.{IsKeptNow}
+use Rattle.std.proofs.Common.{[], ⊎_elim, ◌++◌, ◌+◌, ◌∙◌, ◌∷◌, ◌≡◌, ◌⊎◌, ap, append_assoc, arith, inl, inr, length, List, refl, slice_index, Some}
+use Rattle.std.proofs.Common.{subst, sym, true, ℕ}
+use Rattle.vm_map.specs.{declared.call.Said.Said, Map.Rises}
+use Rattle.vm_tree_model.specs.{Node.Covers, Page.node_of, Page.pairs_of, Tree.map_of}
+use Rattle.vm_core.specs.Prelude.{LoadsAre, page_at, version_of}
+use Rattle.vm_rule.specs.Prelude.{began_of, entries_under, Entry, entry_of, last_of, loads_at, LockValidates}
+use Rattle.vm_step.specs.Prelude.{IsKeptNow, MayTell, NoneExpected, Origin, View}
 use Rattle.vm_step.specs.declared.saw.Saw.{Saw}
-use Rattle.vm_step.specs.Evidence.{NoneExpected}
-use Rattle.vm_tree_model.specs.Node.{Covers}
-use Rattle.vm_page.specs.Pages.{page_at}
-use Rattle.vm_tree_model.specs.Page.{node_of, pairs_of}
-use Rattle.vm_tree_model.specs.Tree.{map_of}
-use Rattle.vm_tree_laws.specs.History.{IsLegal}
-use Rattle.vm_tree_laws.specs.Keeps.{KeepsTree}
-use Rattle.vm_tree_laws.specs.May.{IsProved, MayRead}
-use Rattle.vm_tree_laws.specs.Tied.{Tied}
-use Rattle.vm_tree_laws.specs.Descent.{IsReached}
-use Rattle.vm_tree_laws.proofs.Descents.{kind_by_level}
 use Rattle.vm_guard.specs.declared.deny.Deny.TheVariants as denies
 use Rattle.vm_guard.specs.Denied.{AgainOrNeed, IsDenied, KeptWord}
 use Rattle.vm_guard.specs.Guards.{IsReading, IsValid, placed}
-use Rattle.vm_tree_rule.specs.Leaves.{ReadsOn}
+use Rattle.vm_tree_laws.specs.{Descent.IsReached, History.IsLegal, Keeps.KeepsTree, May.IsProved, May.MayRead, Tied.Tied}
+use Rattle.vm_tree_laws.proofs.Descents.{kind_by_level}
+use Rattle.vm_tree_rule.specs.{Leaves.ReadsOn, Shown.IsAgain, Turns.IsAstray}
 use Rattle.vm_tree_rule.specs.Standing.{Awaits, IsOpened, tree_pages}
-use Rattle.vm_tree_rule.specs.Shown.{IsAgain}
-use Rattle.vm_tree_rule.specs.Turns.{IsAstray}
-use Rattle.vm_tree_rule.proofs.Readings.{leaves-self, loads-behind, only-then, placed-are, reads-self, valid-only}
 use Rattle.vm_tree_rule.proofs.Entering.{refused-turn}
+use Rattle.vm_tree_rule.proofs.Readings.{leaves-self, loads-behind, only-then, placed-are, reads-self, valid-only}
 use Rattle.vm_tree_read.specs.Reads.{IsAnswered, ProvesReply}
 
 -- the words that a validation proves are those of the page buffer

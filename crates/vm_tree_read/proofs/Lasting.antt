@@ -1,19 +1,15 @@
 -- Tries and pages brought, one after the other.
-use Rattle.std.proofs.Common.{List, [], ◌∷◌, ◌++◌, ◌≡◌, ◌+◌, refl, sym, ap, subst, ◌∙◌, append_assoc, slice_index}
+use Rattle.std.proofs.Common.{[], ◌++◌, ◌+◌, ◌∙◌, ◌∷◌, ◌≡◌, ap, append_assoc, List, refl, slice_index, subst, sym}
 use Rattle.vm_map.specs.declared.call.Said.{Said}
-use Rattle.vm_owner.specs.declared.Entry.{Entry}
-use Rattle.vm_owner.specs.Kept.{entries_under}
-use Rattle.vm_rule.specs.declared.view.Origin.{Origin}
-use Rattle.vm_rule.specs.Brought.{entry_of}
 use Rattle.vm_tree_model.specs.Tree.{map_of}
-use Rattle.vm_tree_laws.specs.History.{IsLegal}
-use Rattle.vm_tree_read.specs.Reads.{IsAnswered}
-use Rattle.vm_rule.specs.declared.view.View.{View}
+use Rattle.vm_rule.specs.Prelude.{entries_under, Entry, entry_of}
 use Rattle.vm_rule.proofs.Entries.{append-none}
-use Rattle.vm_step.proofs.Asides.{starts-then, alone-self, alone-then, holds-then}
+use Rattle.vm_step.specs.Prelude.{Origin, View}
+use Rattle.vm_step.proofs.Asides.{alone-self, alone-then, holds-then, starts-then}
 use Rattle.vm_pool.specs.Brings.{KeepsLocks}
+use Rattle.vm_tree_laws.specs.History.{IsLegal}
 use Rattle.vm_tree_rule.specs.Leaves.{ReadsOn}
-use Rattle.vm_tree_read.specs.Waiting.{IsReplied, Waits}
+use Rattle.vm_tree_read.specs.{Reads.IsAnswered, Waiting.IsReplied, Waiting.Waits}
 use Rattle.vm_tree_read.proofs.Seen.{GoesOn}
 
 module _ {X : Type 0} where

@@ -1,20 +1,16 @@
 -- No frame is lost by calls that hand frames out, take them back, or bring pages into them.
-use Rattle.std.proofs.Common.{ℕ, Bool, List, [], ◌∷◌, ◌++◌, ◌≡◌, ◌||◌, true, false, sym, ap, subst, ◌∙◌, inl, inr, append_assoc, if◌then◌else◌, ⊎_elim, true≢false}
+use Rattle.std.proofs.Common.{[], ⊎_elim, ◌++◌, ◌||◌, ◌∙◌, ◌∷◌, ◌≡◌, ap, append_assoc, Bool, false, if◌then◌else◌, inl, inr, List, subst, sym, true}
+use Rattle.std.proofs.Common.{true≢false, ℕ}
 use Rattle.std.proofs.lemmas.Bool.{cases_Bool, cases_eq, ne_eqb, or_left, or_parts, or_right}
-use Rattle.vm_owner.specs.Numbers.{has, without}
 use Rattle.vm_owner.proofs.NumberLemmas.{has-without_other, has-without_same}
-use Rattle.vm_rule.specs.declared.view.Did.{Did}
-use Rattle.vm_rule.specs.declared.view.View.{View}
-use Rattle.vm_rule.specs.Bundles.{frames_in}
+use Rattle.vm_rule.specs.Prelude.{frames_in, has, without}
 use Rattle.vm_rule.proofs.Facts.{has-both}
-use Rattle.vm_evict.specs.declared.report.Report.{Report}
-use Rattle.vm_evict.specs.Evictions.{FramesCome}
+use Rattle.vm_step.specs.Prelude.{Did, View}
+use Rattle.vm_exmap.specs.{Returns.IsFreed, Walks.IsAlloc, Walks.TakesNone}
 use Rattle.vm_exmap.specs.declared.interface.Alloc.TheVariants as allocs
-use Rattle.vm_exmap.specs.Returns.{IsFreed}
-use Rattle.vm_exmap.specs.Walks.{IsAlloc, TakesNone}
-use Rattle.vm_pool.specs.Sweeps.{IsSwept}
+use Rattle.vm_evict.specs.{declared.report.Report.Report, Evictions.FramesCome}
+use Rattle.vm_pool.specs.{declared.bring.Bring.Bring, Sweeps.IsSwept}
 use Rattle.vm_pool.specs.Brings.{Fetches, Fetches as fetched, Gets, Gets as gets, GetsNone, GetsNone as none, IsBring, IsBring as is_bring}
-use Rattle.vm_pool.specs.declared.bring.Bring.{Bring}
 use Rattle.vm_tree_rule.specs.Leaves.{ReadsOn}
 use Rattle.vm_tree_read.specs.Waiting.{LosesNone}
 

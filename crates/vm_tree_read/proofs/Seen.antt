@@ -1,20 +1,14 @@
 -- Bringing a page leaves what the pass has seen of the history and its log, and may add to both; it leaves the group and the next page.
-use Rattle.std.proofs.Common.{ℕ, List, [], ◌∷◌, ◌≡◌, ◌∙◌, inl, inr, refl, subst, sym}
-use Rattle.vm_rule.specs.declared.view.Did.{Did}
-use Rattle.vm_rule.specs.declared.view.View.{View}
-use Rattle.vm_rule.specs.Views.{StartsWith}
+use Rattle.std.proofs.Common.{[], ◌∙◌, ◌∷◌, ◌≡◌, inl, inr, List, refl, subst, sym, ℕ}
+use Rattle.vm_rule.specs.Prelude.{StartsWith}
 use Rattle.vm_rule.proofs.Entries.{append-none}
-use Rattle.vm_step.specs.Asides.{IsAsideOf}
+use Rattle.vm_step.specs.Prelude.{Did, IsAsideOf, View}
 use Rattle.vm_step.proofs.Asides.{starts-then}
-use Rattle.vm_exmap.specs.Frames.{MovesFrames}
-use Rattle.vm_evict.specs.declared.report.Report.{Report}
-use Rattle.vm_exmap.specs.declared.interface.Alloc.{Alloc}
+use Rattle.vm_exmap.specs.{declared.interface.Alloc.Alloc, Frames.MovesFrames, Returns.IsFreed, Walks.IsAlloc}
 use Rattle.vm_exmap.specs.declared.interface.Alloc.TheVariants as allocs
-use Rattle.vm_exmap.specs.Walks.{IsAlloc}
-use Rattle.vm_exmap.specs.Returns.{IsFreed}
-use Rattle.vm_pool.specs.Sweeps.{IsSwept}
+use Rattle.vm_evict.specs.declared.report.Report.{Report}
+use Rattle.vm_pool.specs.{declared.bring.Bring.Bring, Sweeps.IsSwept}
 use Rattle.vm_pool.specs.Brings.{Fetches, Fetches as fetched, Gets, Gets as gets, GetsNone, GetsNone as none, IsBring, IsBring as is_bring}
-use Rattle.vm_pool.specs.declared.bring.Bring.{Bring}
 
 module _ {X : Type 0} where
   pub record GoesOn (v w : View X) : Type 0 where

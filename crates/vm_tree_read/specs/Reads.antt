@@ -1,26 +1,13 @@
 -- What a read of the tree answers: the reply at one step of the history, or why it is to be tried again.
-use Rattle.std.specs.Prelude.{ℕ, List, [], true, ◌∷◌, ◌++◌, ◌≡◌, ◌⊎◌}
-use Rattle.vm_map.specs.Map.{Rises}
-use Rattle.vm_map.specs.declared.call.Call.{Call}
-use Rattle.vm_map.specs.declared.call.Call.TheVariants.{Get, Put, Del, Window}
-use Rattle.vm_map.specs.declared.call.Said.{Said}
-use Rattle.vm_owner.specs.declared.Entry.{Entry}
-use Rattle.vm_owner.specs.Kept.{Kept}
-use Rattle.vm_page.specs.Pages.{page_at}
-use Rattle.vm_rule.specs.declared.view.View.{View}
-use Rattle.vm_rule.specs.Reading.{last_of}
-use Rattle.vm_rule.specs.Rule.{began_of}
-use Rattle.vm_rule.specs.Brought.{entry_of}
-use Rattle.vm_tree_model.specs.Node.{Covers}
-use Rattle.vm_tree_model.specs.Page.{node_of, pairs_of}
-use Rattle.vm_tree_model.specs.Tree.{map_of}
-use Rattle.vm_tree_laws.specs.History.{IsLegal}
-use Rattle.vm_tree_laws.specs.Keeps.{KeepsTree}
-use Rattle.vm_tree_laws.specs.May.{IsProved}
-use Rattle.vm_tree_rule.specs.Leaves.{OnlyReads, ReadsOn}
-use Rattle.vm_tree_rule.specs.Seeks.{HasRead}
-use Rattle.vm_tree_rule.specs.Shown.{IsAgain}
-use Rattle.vm_tree_rule.specs.Turns.{IsAstray, IsNeeded}
+use Rattle.std.specs.Prelude.{[], ◌++◌, ◌∷◌, ◌≡◌, ◌⊎◌, List, true, ℕ}
+use Rattle.vm_map.specs.{declared.call.Call.Call, declared.call.Said.Said, Map.Rises}
+use Rattle.vm_map.specs.declared.call.Call.TheVariants.{Del, Get, Put, Window}
+use Rattle.vm_tree_model.specs.{Node.Covers, Page.node_of, Page.pairs_of, Tree.map_of}
+use Rattle.vm_core.specs.Prelude.{page_at}
+use Rattle.vm_rule.specs.Prelude.{began_of, Entry, entry_of, Kept, last_of}
+use Rattle.vm_step.specs.Prelude.{View}
+use Rattle.vm_tree_laws.specs.{History.IsLegal, Keeps.KeepsTree, May.IsProved}
+use Rattle.vm_tree_rule.specs.{Leaves.OnlyReads, Leaves.ReadsOn, Seeks.HasRead, Shown.IsAgain, Turns.IsAstray, Turns.IsNeeded}
 use Rattle.vm_tree_read.specs.declared.read.TryRead.{TryRead}
 use Rattle.vm_tree_read.specs.declared.read.TryRead.TheVariants as tries
 

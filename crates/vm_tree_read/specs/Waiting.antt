@@ -1,20 +1,14 @@
 -- What a read leaves and answers that waits: tries, and pages brought in between, until a try is answered or a page can't be brought.
-use Rattle.std.specs.Prelude.{ℕ, List, [], true, false, ◌∷◌, ◌++◌, ◌≡◌, ◌⊎◌}
+use Rattle.std.specs.Prelude.{[], ◌++◌, ◌∷◌, ◌≡◌, ◌⊎◌, false, List, true, ℕ}
 use Rattle.vm_map.specs.declared.call.Said.{Said}
-use Rattle.vm_owner.specs.declared.Entry.{Entry}
-use Rattle.vm_owner.specs.Numbers.{has}
-use Rattle.vm_rule.specs.declared.view.View.{View}
-use Rattle.vm_rule.specs.Brought.{entry_of}
 use Rattle.vm_tree_model.specs.Tree.{map_of}
-use Rattle.vm_tree_laws.specs.History.{IsLegal}
-use Rattle.vm_rule.specs.Views.{StartsWith}
-use Rattle.vm_step.specs.Asides.{HoldsPage, StaysAlone}
-use Rattle.vm_pool.specs.declared.bring.Bring.TheVariants as brings
+use Rattle.vm_rule.specs.Prelude.{Entry, entry_of, has, StartsWith}
+use Rattle.vm_step.specs.Prelude.{HoldsPage, StaysAlone, View}
 use Rattle.vm_pool.specs.Brings.{IsBring}
-use Rattle.vm_tree_rule.specs.declared.fault.TreeFault.{TreeFault}
+use Rattle.vm_pool.specs.declared.bring.Bring.TheVariants as brings
+use Rattle.vm_tree_laws.specs.History.{IsLegal}
+use Rattle.vm_tree_rule.specs.{declared.fault.TreeFault.TreeFault, Leaves.ReadsOn, Turns.IsNeeded}
 use Rattle.vm_tree_rule.specs.declared.fault.TreeFault.TheVariants as faults
-use Rattle.vm_tree_rule.specs.Leaves.{ReadsOn}
-use Rattle.vm_tree_rule.specs.Turns.{IsNeeded}
 use Rattle.vm_tree_read.specs.Reads.{IsAnswered}
 
 module _ {X : Type 0} where

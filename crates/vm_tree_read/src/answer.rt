@@ -1,18 +1,13 @@
 // The leaf of a key, and the answer that its validation makes an entry of the history.
-ghost use Rattle.std.specs.Prelude.{◌≡◌, ◌++◌, ◌≤◌, ℕ, IfOk, IfErr, IsOk, Some, length, true};
+ghost use Rattle.std.specs.Prelude.{◌++◌, ◌≡◌, ◌≤◌, IfErr, IfOk, IsOk, length, Some, true};
+ghost use Rattle.vm_tree_model.specs.{Node.Covers, Page.node_of};
+ghost use Rattle.vm_rule.specs.Prelude.{loads_at};
+ghost use Rattle.vm_step.specs.Prelude.{IsReady, IsSamePass, MayStep, NoneExpected, view};
 ghost use Rattle.vm_guard.specs.Denied.{AgainOrNeed, IsDenied, KeptWord};
 ghost use Rattle.vm_guard.specs.Guards.{IsReading, placed};
-ghost use Rattle.vm_rule.specs.Views.{loads_at};
-ghost use Rattle.vm_step.specs.Evidence.{NoneExpected};
-ghost use Rattle.vm_step.specs.Passes.{IsSamePass, MayStep, view};
-ghost use Rattle.vm_step.specs.Ready.{IsReady};
-ghost use Rattle.vm_tree_model.specs.Node.{Covers};
-ghost use Rattle.vm_tree_model.specs.Page.{node_of};
+ghost use Rattle.vm_tree_rule.specs.{Leaves.ReadsOn, Resident.IsKnownNow, Resident.KnowsResident, Standing.Awaits, Standing.IsOpened};
+ghost use Rattle.vm_tree_rule.specs.{Turns.IsTurnedBack};
 ghost use Rattle.vm_tree_read.specs.Reads.{IsAnswered, ProvesReply};
-ghost use Rattle.vm_tree_rule.specs.Leaves.{ReadsOn};
-ghost use Rattle.vm_tree_rule.specs.Resident.{IsKnownNow, KnowsResident};
-ghost use Rattle.vm_tree_rule.specs.Standing.{Awaits, IsOpened};
-ghost use Rattle.vm_tree_rule.specs.Turns.{IsTurnedBack};
 
 use vm_block::Block;
 use vm_guard::{Deny, OptGuard};

@@ -1,11 +1,9 @@
 // The reads that never wait: each answers, or says why it is to be tried again.
-ghost use Rattle.std.specs.Prelude.{◌≡◌, ◌≤◌, ◌<◌, true};
+ghost use Rattle.std.specs.Prelude.{◌<◌, ◌≡◌, ◌≤◌, true};
 ghost use Rattle.vm_map.specs.declared.call.Call.TheVariants.{Get, Window as ForWindow};
-ghost use Rattle.vm_step.specs.Passes.{IsSamePass, MayStep, view};
-ghost use Rattle.vm_step.specs.Ready.{IsReady};
+ghost use Rattle.vm_step.specs.Prelude.{IsReady, IsSamePass, MayStep, view};
+ghost use Rattle.vm_tree_rule.specs.{Resident.KnowsResident, Turns.IsTurnedBack};
 ghost use Rattle.vm_tree_read.specs.Reads.{IsDone, IsTried};
-ghost use Rattle.vm_tree_rule.specs.Resident.{KnowsResident};
-ghost use Rattle.vm_tree_rule.specs.Turns.{IsTurnedBack};
 
 use crate::answer::{answer, leaf_of};
 use vm_block::Block;

@@ -1,9 +1,7 @@
 // The reads that wait: they try again until they are answered, and bring the pages that they need.
-ghost use Rattle.std.specs.Prelude.{◌≡◌, ◌<◌, ◌≤◌, IfErr, IfOk, None, true};
-ghost use Rattle.vm_step.specs.HeldFrames.{AreHeld};
+ghost use Rattle.std.specs.Prelude.{◌<◌, ◌≡◌, ◌≤◌, IfErr, IfOk, None};
 ghost use Rattle.vm_map.specs.declared.call.Call.TheVariants.{Get, Window as ForWindow};
-ghost use Rattle.vm_step.specs.Passes.{IsSamePass, view};
-ghost use Rattle.vm_step.specs.Ready.{IsReady};
+ghost use Rattle.vm_step.specs.Prelude.{AreHeld, IsReady, IsSamePass, view};
 ghost use Rattle.vm_tree_read.specs.Waiting.{IsBringFault, IsFaulted, IsReplied, LosesNone, Waits};
 
 use crate::read::{TryRead, try_get, try_window};

@@ -1,25 +1,18 @@
 -- A step down: the words that were loaded are those that the validation proves, and so they name the next page.
-use Rattle.std.proofs.Common.{ℕ, ◌≡◌, ◌<◌, ◌≤◌, ◌+◌, ◌^◌, inl, inr, ⊎_elim, true, List, [], ◌∷◌, ◌++◌, Some, None, length, suc, refl, sym, ap, subst, ◌∙◌, append_assoc, arith, slice_index}
+use Rattle.std.proofs.Common.{[], ⊎_elim, ◌++◌, ◌+◌, ◌<◌, ◌^◌, ◌∙◌, ◌∷◌, ◌≡◌, ◌≤◌, ap, append_assoc, arith, inl, inr, length, List, None, refl}
+use Rattle.std.proofs.Common.{slice_index, Some, subst, suc, sym, true, ℕ}
 use Rattle.std.proofs.lemmas.Bool.Decides.{nat_tests}
-use Rattle.vm_core.specs.Inv.{LoadsAre}
-use Rattle.vm_core.specs.Words.{version_of}
-use Rattle.vm_rule.specs.declared.view.Origin.{Origin}
-use Rattle.vm_rule.specs.declared.view.Tie.{Tie}
-use Rattle.vm_rule.specs.declared.view.View.{View}
-use Rattle.vm_rule.specs.Reading.{last_of}
-use Rattle.vm_rule.specs.Views.{Each, loads_at}
-use Rattle.vm_rule.specs.Rule.{began_of}
-use Rattle.vm_tree_model.specs.Page.{IsInner}
-use Rattle.vm_tree_model.specs.Edits.{child_of}
+use Rattle.vm_tree_model.specs.{Edits.child_of, Page.IsInner}
 use Rattle.vm_inner.specs.Found.{FindsChild, FindsNoChild}
-use Rattle.vm_tree_laws.specs.Tied.{Tied, IsTied}
-use Rattle.vm_tree_laws.specs.Descent.{IsReached}
-use Rattle.vm_tree_laws.proofs.Descents.{reached_root, kind_by_level, child_there, reached_child}
+use Rattle.vm_core.specs.Prelude.{LoadsAre, version_of}
+use Rattle.vm_rule.specs.Prelude.{began_of, Each, last_of, loads_at}
+use Rattle.vm_step.specs.Prelude.{Origin, Tie, View}
 use Rattle.vm_guard.specs.Guards.{BeginsReading, Loads, placed}
 use Rattle.vm_guard.proofs.Starting.{each-at}
-use Rattle.vm_tree_rule.specs.Leaves.{OnlyReads}
+use Rattle.vm_tree_laws.specs.{Descent.IsReached, Tied.IsTied, Tied.Tied}
+use Rattle.vm_tree_laws.proofs.Descents.{child_there, kind_by_level, reached_child, reached_root}
+use Rattle.vm_tree_rule.specs.{Leaves.OnlyReads, Turns.LoadsName}
 use Rattle.vm_tree_rule.specs.Standing.{Awaits, HasSteppedDown, IsOpened, NamesForKey, NamesPage, Sees, tree_pages}
-use Rattle.vm_tree_rule.specs.Turns.{LoadsName}
 use Rattle.vm_tree_rule.proofs.Readings.{each-behind, leaves-then, loads-behind, loads-leave, loads-reads, placed-are, reads-self, reads-then}
 
 -- a page that names itself can't be: its level would be another

@@ -1,38 +1,29 @@
 -- A step from a page to the page that it names: the named page is looked at, and then the first one validated.
-use Rattle.std.proofs.Common.{ℕ, ◌≡◌, ◌≢◌, ◌<◌, inl, inr, ⊎_elim, Bool, true, false, List, [], ◌∷◌, ◌++◌, Some, None, length, zero, suc, refl, sym, ap, subst, ◌∙◌, append_assoc, arith}
+use Rattle.std.proofs.Common.{[], ⊎_elim, ◌++◌, ◌<◌, ◌∙◌, ◌∷◌, ◌≡◌, ◌≢◌, ap, append_assoc, arith, Bool, false, inl, inr, length, List, None, refl}
+use Rattle.std.proofs.Common.{Some, subst, suc, sym, true, zero, ℕ}
 use Rattle.std.proofs.lemmas.Bool.{cases_eq, ne_eqb}
-use Rattle.vm_core.specs.declared.event.Open.{Open}
-use Rattle.vm_core.specs.Words.{version_of}
 use Rattle.vm_map.specs.declared.call.Said.{Said}
-use Rattle.vm_rule.specs.declared.view.Did.{Did}
+use Rattle.vm_core.specs.Prelude.{version_of}
+use Rattle.vm_rule.specs.Prelude.{last_of, loads_at, Open, seat_of, ties_below}
 use Rattle.vm_rule.specs.declared.view.Place.TheVariants as places
-use Rattle.vm_rule.specs.declared.view.Tie.{Tie}
-use Rattle.vm_rule.specs.declared.view.Origin.{Origin}
-use Rattle.vm_rule.specs.declared.view.View.{View}
-use Rattle.vm_rule.specs.Views.{loads_at, seat_of}
-use Rattle.vm_rule.specs.Reading.{last_of}
-use Rattle.vm_rule.specs.Looks.{tie_of, ties_below}
+use Rattle.vm_rule.specs.Looks.{tie_of}
+use Rattle.vm_step.specs.Prelude.{Did, HasGiven, IsKeptNow, NoneExpected, NoWord, Origin, ReadsAsBefore, Tie, View}
 use Rattle.vm_step.specs.declared.saw.At.TheVariants as ats
 use Rattle.vm_step.specs.declared.saw.Saw.{Saw}
-use Rattle.vm_step.specs.Asides.{ReadsAsBefore}
-use Rattle.vm_step.specs.Evidence.{HasGiven, NoWord, NoneExpected}
-use Rattle.vm_step.specs.Keeping.{IsKeptNow}
-use Rattle.vm_tree_laws.specs.Tied.{Tied}
-use Rattle.vm_tree_laws.specs.Keeps.{KeepsTree}
 use Rattle.vm_guard.specs.declared.deny.Deny.{Deny}
 use Rattle.vm_guard.specs.declared.deny.Deny.TheVariants as denies
 use Rattle.vm_guard.specs.Denied.{AgainOrNeed, IsDenied, KeptWord}
 use Rattle.vm_guard.specs.Guards.{BeginsReading, IsReading, IsValid}
 use Rattle.vm_guard.proofs.Reading.{reading-kept}
-use Rattle.vm_tree_rule.specs.declared.turn.Turn.{Turn}
+use Rattle.vm_tree_laws.specs.{Keeps.KeepsTree, Tied.Tied}
+use Rattle.vm_tree_rule.specs.{declared.turn.Turn.Turn, Leaves.LeavesWord, Leaves.ReadsOn}
 use Rattle.vm_tree_rule.specs.declared.turn.Turn.TheVariants as turns
-use Rattle.vm_tree_rule.specs.Leaves.{LeavesWord, ReadsOn}
 use Rattle.vm_tree_rule.specs.Standing.{HasSteppedDown, IsOpened, NamesForKey, Sees, tree_pages}
-use Rattle.vm_tree_rule.specs.Turns.{IsAstray, IsNoChild, IsNoTree, IsStopped, IsTurnedBack, IsTurnOf, LoadsName}
-use Rattle.vm_tree_rule.specs.Turns.{IsNoTree as no_tree}
-use Rattle.vm_tree_rule.specs.Turns.{IsStopped as stops}
+use Rattle.vm_tree_rule.specs.Turns.{IsAstray, IsNoChild, IsNoTree, IsNoTree as no_tree, IsStopped, IsStopped as stops, IsTurnedBack, IsTurnOf}
+use Rattle.vm_tree_rule.specs.Turns.{LoadsName}
 use Rattle.vm_tree_rule.proofs.Logged.{given-since, read-since, shown-kept, shown-later, shown-start}
-use Rattle.vm_tree_rule.proofs.Readings.{begins-leave, begins-reads, denied-reads, leaves-self, log-then, reading-beside, reads-self, reads-then, valid-leave, valid-reads, validates-back}
+use Rattle.vm_tree_rule.proofs.Readings.{begins-leave, begins-reads, denied-reads, leaves-self, log-then, reading-beside, reads-self, reads-then}
+use Rattle.vm_tree_rule.proofs.Readings.{valid-leave, valid-reads, validates-back}
 use Rattle.vm_tree_rule.proofs.Showing.{needs-behind, needs-front}
 
 -- what is not true is false

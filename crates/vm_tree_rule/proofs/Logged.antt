@@ -1,18 +1,12 @@
 -- The evidence of an end without a page, in the log of the whole call.
-use Rattle.std.proofs.Common.{ℕ, ◌≡◌, None, List, [], ◌∷◌, ◌++◌, refl, sym, ap, ◌∙◌, append_assoc}
-use Rattle.vm_rule.specs.declared.view.Did.{Did}
+use Rattle.std.proofs.Common.{[], ◌++◌, ◌∙◌, ◌∷◌, ◌≡◌, ap, append_assoc, List, None, refl, sym, ℕ}
+use Rattle.vm_rule.specs.Prelude.{did_load, Each}
 use Rattle.vm_rule.specs.declared.view.Place.TheVariants as places
-use Rattle.vm_rule.specs.declared.view.View.{View}
-use Rattle.vm_rule.specs.Log.{did_load}
-use Rattle.vm_rule.specs.Views.{Each}
+use Rattle.vm_step.specs.Prelude.{Did, HasGiven, NoWord, View}
 use Rattle.vm_step.specs.declared.saw.Saw.{Saw}
-use Rattle.vm_step.specs.Evidence.{HasGiven, NoWord}
-use Rattle.vm_guard.specs.declared.deny.Deny.{Deny}
+use Rattle.vm_guard.specs.{declared.deny.Deny.Deny, Denied.IsDenied, Denied.KeptWord}
 use Rattle.vm_guard.specs.declared.deny.Deny.TheVariants as denies
-use Rattle.vm_guard.specs.Denied.{IsDenied, KeptWord}
-use Rattle.vm_tree_rule.specs.Leaves.{LeavesWord}
-use Rattle.vm_tree_rule.specs.Shown.{IsShown}
-use Rattle.vm_tree_rule.specs.Standing.{IsOpened}
+use Rattle.vm_tree_rule.specs.{Leaves.LeavesWord, Shown.IsShown, Standing.IsOpened}
 use Rattle.vm_tree_rule.proofs.Readings.{leaves-then, log-then}
 use Rattle.vm_tree_rule.proofs.Showing.{saw-behind, saw-kept, seen-front}
 

@@ -1,28 +1,23 @@
 -- A step down from a node whose words were read before: they name the next page.
-use Rattle.std.proofs.Common.{ℕ, ◌≡◌, ◌≢◌, ◌<◌, ◌≤◌, inr, true, List, [], ◌∷◌, ◌++◌, Some, None, length, suc, refl, sym, ap, subst, ◌∙◌, arith, append_assoc, slice_index}
-use Rattle.vm_core.specs.Inv.{LoadsAre}
-use Rattle.vm_core.specs.Words.{version_of}
-use Rattle.vm_rule.specs.declared.view.Origin.{Origin}
-use Rattle.vm_rule.specs.declared.view.Tie.{Tie}
-use Rattle.vm_rule.specs.declared.view.View.{View}
-use Rattle.vm_rule.specs.Reading.{last_of}
-use Rattle.vm_rule.specs.Views.{Each, loads_at}
-use Rattle.vm_rule.specs.Rule.{began_of}
-use Rattle.vm_tree_model.specs.Edits.{child_of}
+use Rattle.std.proofs.Common.{[], ◌++◌, ◌<◌, ◌∙◌, ◌∷◌, ◌≡◌, ◌≢◌, ◌≤◌, ap, append_assoc, arith, inr, length, List, None, refl, slice_index, Some}
+use Rattle.std.proofs.Common.{subst, suc, sym, true, ℕ}
+use Rattle.vm_tree_model.specs.{Edits.child_of, Page.pairs_of}
 use Rattle.vm_inner.specs.Found.{FindsChild, FindsNoChild}
-use Rattle.vm_tree_model.specs.Page.{pairs_of}
-use Rattle.vm_tree_laws.specs.Tied.{Tied, IsTied}
-use Rattle.vm_tree_laws.specs.Descent.{IsReached}
-use Rattle.vm_tree_laws.proofs.Descents.{child_there, reached_child}
+use Rattle.vm_core.specs.Prelude.{LoadsAre, version_of}
+use Rattle.vm_rule.specs.Prelude.{began_of, Each, last_of, loads_at}
+use Rattle.vm_step.specs.Prelude.{Origin, Tie, View}
 use Rattle.vm_guard.specs.declared.opt.OptGuard.{OptGuard}
 use Rattle.vm_guard.specs.Guards.{BeginsReading, IsReading, IsValid, Loads, placed}
 use Rattle.vm_guard.proofs.Starting.{each-at}
+use Rattle.vm_tree_laws.specs.{Descent.IsReached, Tied.IsTied, Tied.Tied}
+use Rattle.vm_tree_laws.proofs.Descents.{child_there, reached_child}
+use Rattle.vm_tree_rule.specs.Leaves.{ReadsOn}
 use Rattle.vm_tree_rule.specs.Seeks.{ArePassed, HasRead, IsMetaRead, IsNamedRoot, IsPassedBy, LeadsTo}
 use Rattle.vm_tree_rule.specs.Standing.{Awaits, HasSteppedDown, IsOpened, NamesForKey, NamesPage, Sees, StaysOpen, tree_pages}
 use Rattle.vm_tree_rule.proofs.Downward.{child-is, child-none, inner-here, itself-not, same-some}
 use Rattle.vm_tree_rule.proofs.Entering.{opened-reads}
-use Rattle.vm_tree_rule.specs.Leaves.{ReadsOn}
-use Rattle.vm_tree_rule.proofs.Readings.{begins-leave, leaves-then, loads-behind, loads-leave, loads-reads, opened-later, placed-are, reading-beside, reads-self, reads-then, valid-leave}
+use Rattle.vm_tree_rule.proofs.Readings.{begins-leave, leaves-then, loads-behind, loads-leave, loads-reads, opened-later, placed-are, reading-beside}
+use Rattle.vm_tree_rule.proofs.Readings.{reads-self, reads-then, valid-leave}
 
 module _ {X : Type 0} where
   -- the call began before

@@ -1,24 +1,14 @@
 -- What reads of pages leave of the view, one after the other.
-use Rattle.std.proofs.Common.{ℕ, ◌≡◌, ◌≢◌, ◌<◌, ◌+◌, List, [], ◌∷◌, ◌++◌, Some, None, Option, length, zero, suc, refl, sym, ap, subst, ◌∙◌, append_assoc, slice_index, arith, Result, Ok, Err, IfOk, IfErr}
+use Rattle.std.proofs.Common.{[], ◌++◌, ◌+◌, ◌<◌, ◌∙◌, ◌∷◌, ◌≡◌, ◌≢◌, ap, append_assoc, arith, Err, IfErr, IfOk, length, List, None, Ok, Option, refl}
+use Rattle.std.proofs.Common.{Result, slice_index, Some, subst, suc, sym, zero, ℕ}
 use Rattle.std.proofs.lemmas.Grind.{same_number_lists}
-use Rattle.vm_core.specs.Inv.{LoadsAre}
-use Rattle.vm_core.specs.Words.{state_of, version_of, UNLOCKED}
-use Rattle.vm_owner.specs.Kept.{Start}
-use Rattle.vm_rule.specs.declared.view.Did.{Did}
+use Rattle.vm_core.specs.Prelude.{LoadsAre, state_of, UNLOCKED, version_of}
+use Rattle.vm_rule.specs.Prelude.{began_of, Each, LockValidates, Start}
 use Rattle.vm_rule.specs.declared.view.Place.TheVariants as places
-use Rattle.vm_rule.specs.declared.view.Tie.{Tie}
-use Rattle.vm_rule.specs.declared.view.Origin.{Origin}
-use Rattle.vm_rule.specs.declared.view.View.{View}
-use Rattle.vm_rule.specs.Views.{Each}
-use Rattle.vm_rule.specs.Rule.{began_of}
-use Rattle.vm_rule.specs.Locks.{LockValidates}
-use Rattle.vm_rule.proofs.Entries.{append-none}
-use Rattle.vm_rule.proofs.Heard.{each-both}
-use Rattle.vm_step.specs.Asides.{ReadsAsBefore}
-use Rattle.vm_step.proofs.Asides.{starts-then, alone-self, alone-then, holds-then, knows-then, still-locking}
-use Rattle.vm_guard.specs.Quiet.{IsQuiet}
-use Rattle.vm_guard.specs.declared.deny.Deny.{Deny}
-use Rattle.vm_guard.specs.Denied.{IsDenied}
+use Rattle.vm_rule.proofs.{Entries.append-none, Heard.each-both}
+use Rattle.vm_step.specs.Prelude.{Did, Origin, ReadsAsBefore, Tie, View}
+use Rattle.vm_step.proofs.Asides.{alone-self, alone-then, holds-then, knows-then, starts-then, still-locking}
+use Rattle.vm_guard.specs.{declared.deny.Deny.Deny, Denied.IsDenied, Quiet.IsQuiet}
 use Rattle.vm_guard.specs.Guards.{BeginsReading, IsReading, IsValid, Loads, placed}
 use Rattle.vm_guard.proofs.Reading.{reading-kept}
 use Rattle.vm_tree_rule.specs.Leaves.{LeavesWord, OnlyClears, OnlyReads, ReadsOn}

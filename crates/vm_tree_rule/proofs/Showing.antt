@@ -1,22 +1,16 @@
 -- The evidence of one step of a call, in the log of the whole call.
-use Rattle.std.proofs.Common.{ℕ, ◌≡◌, ◌≢◌, Bool, true, false, if◌then◌else◌, Option, Some, None, List, [], ◌∷◌, ◌++◌, refl, sym, ap, subst, ◌∙◌, append_assoc, arith, ⊎_elim}
-use Rattle.vm_core.specs.Words.{state_of, version_of, word_of, UNLOCKED}
-use Rattle.vm_rule.specs.declared.view.Did.{Did}
+use Rattle.std.proofs.Common.{[], ⊎_elim, ◌++◌, ◌∙◌, ◌∷◌, ◌≡◌, ◌≢◌, ap, append_assoc, arith, Bool, false, if◌then◌else◌, List, None, Option, refl}
+use Rattle.std.proofs.Common.{Some, subst, sym, true, ℕ}
+use Rattle.vm_core.specs.Prelude.{state_of, UNLOCKED, version_of, word_of}
+use Rattle.vm_rule.specs.Prelude.{did_load, Each}
 use Rattle.vm_rule.specs.declared.view.Place.{Place}
 use Rattle.vm_rule.specs.declared.view.Place.TheVariants as places
-use Rattle.vm_rule.specs.Log.{did_load}
-use Rattle.vm_rule.specs.Views.{Each}
-use Rattle.vm_rule.proofs.Entries.{each-map}
-use Rattle.vm_rule.proofs.Heard.{each-both}
-use Rattle.vm_rule.proofs.WordFacts.{version-within, word-state}
+use Rattle.vm_rule.proofs.{Entries.each-map, Heard.each-both, WordFacts.version-within, WordFacts.word-state}
+use Rattle.vm_step.specs.Prelude.{AreQuiet, Begins, Begins as begun, Did, IsSaw, NeedsPage, NoWord, place_at}
+use Rattle.vm_step.specs.{declared.saw.Saw.Saw, Evidence.Gives}
 use Rattle.vm_step.specs.declared.saw.At.TheVariants as ats
-use Rattle.vm_step.specs.declared.saw.Saw.{Saw}
-use Rattle.vm_step.specs.Evidence.{AreQuiet, Begins, Begins as begun, Gives, IsSaw, NeedsPage, NoWord, place_at}
-use Rattle.vm_guard.specs.Denied.{KeptWord}
-use Rattle.vm_guard.specs.Guards.{AreUnmarking}
-use Rattle.vm_guard.specs.Quiet.{LeavesNone, OnlyUnmarks}
-use Rattle.vm_tree_rule.specs.Leaves.{OnlyClears}
-use Rattle.vm_tree_rule.specs.Shown.{IsSeen}
+use Rattle.vm_guard.specs.{Denied.KeptWord, Guards.AreUnmarking, Quiet.LeavesNone, Quiet.OnlyUnmarks}
+use Rattle.vm_tree_rule.specs.{Leaves.OnlyClears, Shown.IsSeen}
 
 -- ---- which words steps leave
 

@@ -1,34 +1,22 @@
 -- A pass that is alone and knows the pages below the next one to be resident: its reads leave it so, and none of them is denied.
-use Rattle.std.proofs.Common.{ℕ, Result, Ok, Err, IfOk, IfErr, ◌≡◌, ◌≢◌, ◌<◌, ◌≤◌, ◌==◌, ◌⊎◌, inl, ⊎_elim, Bool, true, false, if◌then◌else◌, None, List, length, slice_index, replicate, sym, ap, subst, ◌∙◌, arith}
+use Rattle.std.proofs.Common.{⊎_elim, ◌<◌, ◌==◌, ◌∙◌, ◌≡◌, ◌≢◌, ◌≤◌, ◌⊎◌, ap, arith, Bool, Err, false, IfErr, IfOk, if◌then◌else◌, inl, length, List}
+use Rattle.std.proofs.Common.{None, Ok, replicate, Result, slice_index, subst, sym, true, ℕ}
 use Rattle.std.proofs.lemmas.Bool.{cases_eq, cases_lt}
 use Rattle.std.proofs.lemmas.List.{get_or-set_other}
-use Rattle.vm_core.specs.Words.{state_of, version_of, word_of, UNLOCKED, LOCKED, MARKED}
-use Rattle.vm_core.specs.StateActs.{is_readable}
 use Rattle.vm_map.specs.declared.call.Said.{Said}
-use Rattle.vm_page.specs.Pages.{page_at}
-use Rattle.vm_rule.specs.declared.view.Origin.{Origin}
-use Rattle.vm_rule.specs.declared.view.Place.TheVariants as places
-use Rattle.vm_rule.specs.declared.view.View.{View}
-use Rattle.vm_rule.specs.Layout.{bundle_count, index_of}
-use Rattle.vm_rule.specs.Reading.{last_of}
-use Rattle.vm_rule.specs.Rule.{began_of}
-use Rattle.vm_rule.proofs.WordFacts.{version-within, word-state}
-use Rattle.vm_step.specs.Alone.{IsAlone, LocksNone}
-use Rattle.vm_step.specs.Asides.{ReadsAsBefore}
-use Rattle.vm_step.specs.Evidence.{NoWord, NoneExpected}
-use Rattle.vm_step.specs.Keeping.{IsKeptNow}
-use Rattle.vm_step.proofs.Asides.{whole-then}
-use Rattle.vm_step.proofs.Alone.{same-word, still-alone}
 use Rattle.vm_tree_model.specs.Page.{IsInner, IsLeaf}
-use Rattle.vm_tree_laws.specs.Keeps.{KeepsTree}
-use Rattle.vm_tree_laws.specs.Tied.{IsTied, Tied}
-use Rattle.vm_tree_laws.proofs.Ties.{ties_hold}
-use Rattle.vm_guard.specs.declared.deny.Deny.{Deny}
-use Rattle.vm_guard.specs.declared.opt.OptGuard.{OptGuard}
-use Rattle.vm_guard.specs.Denied.{AgainOrNeed, IsDenied}
+use Rattle.vm_core.specs.Prelude.{is_readable, LOCKED, MARKED, page_at, state_of, UNLOCKED, version_of, word_of}
+use Rattle.vm_rule.specs.Prelude.{began_of, bundle_count, index_of, last_of}
+use Rattle.vm_rule.specs.declared.view.Place.TheVariants as places
+use Rattle.vm_rule.proofs.WordFacts.{version-within, word-state}
+use Rattle.vm_step.specs.Prelude.{IsAlone, IsKeptNow, KnowsSame, LocksNone, NoneExpected, NoWord, Origin, ReadsAsBefore, View}
+use Rattle.vm_step.proofs.{Alone.same-word, Alone.still-alone, Asides.whole-then}
+use Rattle.vm_guard.specs.{declared.deny.Deny.Deny, declared.opt.OptGuard.OptGuard, Denied.AgainOrNeed, Denied.IsDenied}
 use Rattle.vm_guard.specs.Guards.{BeginsReading, IsReading, IsValid, Loads}
-use Rattle.vm_guard.specs.Sure.{IsUnlockedWord, IsKnownAt, KnowsSame, known_next, known_word, unmarked_word}
+use Rattle.vm_guard.specs.Sure.{IsKnownAt, IsUnlockedWord, known_next, known_word, unmarked_word}
 use Rattle.vm_guard.proofs.Reading.{reading-kept}
+use Rattle.vm_tree_laws.specs.{Keeps.KeepsTree, Tied.IsTied, Tied.Tied}
+use Rattle.vm_tree_laws.proofs.Ties.{ties_hold}
 use Rattle.vm_tree_rule.specs.Leaves.{LeavesWord, OnlyReads, ReadsOn}
 use Rattle.vm_tree_rule.specs.Resident.{IsKnownNow, KnowsLocks, KnowsResident}
 use Rattle.vm_tree_rule.specs.Standing.{IsNameIn, NamesPage, tree_pages}

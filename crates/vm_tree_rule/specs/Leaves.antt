@@ -1,12 +1,9 @@
 -- What calls leave of a view that read pages of the tree optimistically: the pass holds what it held. The entries of the pass stand beside it.
-use Rattle.std.specs.Prelude.{ℕ, List, Some, None, ◌++◌, ◌≡◌}
-use Rattle.vm_core.specs.Words.{state_of, UNLOCKED}
-use Rattle.vm_rule.specs.declared.view.Did.{Did}
+use Rattle.std.specs.Prelude.{◌++◌, ◌≡◌, List, None, Some, ℕ}
+use Rattle.vm_core.specs.Prelude.{state_of, UNLOCKED}
+use Rattle.vm_rule.specs.Prelude.{Each, IsLocking, seat_of, StartsWith}
 use Rattle.vm_rule.specs.declared.view.Place.TheVariants as places
-use Rattle.vm_rule.specs.declared.view.Tie.{Tie}
-use Rattle.vm_rule.specs.declared.view.View.{View}
-use Rattle.vm_rule.specs.Views.{StartsWith, Each, IsLocking, seat_of}
-use Rattle.vm_step.specs.Asides.{HoldsPage, KnowsAsBefore, StaysAlone}
+use Rattle.vm_step.specs.Prelude.{Did, HoldsPage, KnowsAsBefore, StaysAlone, Tie, View}
 
 -- each word that the steps leave is an Unlocked one, on the state word of a page: a mark was taken away
 abbrev pub OnlyClears : List Did → Type 0

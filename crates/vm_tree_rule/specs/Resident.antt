@@ -1,8 +1,7 @@
 -- What a pass that is alone has to know of the table, so that a call on the tree is sure to be answered; and what it knows then of a page that it reads.
-use Rattle.std.specs.Prelude.{ℕ, true, ◌≡◌, ◌<◌}
-use Rattle.vm_rule.specs.declared.view.View.{View}
-use Rattle.vm_step.specs.Alone.{IsAlone, KnowsUnheld}
-use Rattle.vm_guard.specs.Sure.{IsUnlockedWord, IsKnownFree, known_next, known_word}
+use Rattle.std.specs.Prelude.{◌<◌, ◌≡◌, true, ℕ}
+use Rattle.vm_step.specs.Prelude.{IsAlone, KnowsUnheld, View}
+use Rattle.vm_guard.specs.Sure.{IsKnownFree, IsUnlockedWord, known_next, known_word}
 
 module _ {X : Type 0} where
   -- the pass is alone, and knows each page below the next one to be resident, and locked by nobody

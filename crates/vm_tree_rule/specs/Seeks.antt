@@ -1,20 +1,14 @@
 -- Where a descent stands that looks for a full node: a page and the page that names it, both read and still open.
-use Rattle.std.specs.Prelude.{ℕ, List, [], ◌∷◌, ◌++◌, length, slice_index, suc, Some, None, true, ◌≡◌, ◌≢◌, ◌<◌}
+use Rattle.std.specs.Prelude.{[], ◌++◌, ◌<◌, ◌∷◌, ◌≡◌, ◌≢◌, length, List, None, slice_index, Some, suc, true, ℕ}
 use Rattle.vm_map.specs.declared.window.TheConstants.{MOST_PAIRS}
-use Rattle.vm_rule.specs.declared.view.View.{View}
-use Rattle.vm_rule.specs.Reading.{last_of}
-use Rattle.vm_rule.specs.Views.{loads_at}
-use Rattle.vm_tree_model.specs.Edits.{child_of}
+use Rattle.vm_tree_model.specs.{Edits.child_of, Page.pairs_of}
 use Rattle.vm_inner.specs.Found.{FindsChild}
-use Rattle.vm_tree_model.specs.Page.{pairs_of}
+use Rattle.vm_rule.specs.Prelude.{last_of, loads_at}
+use Rattle.vm_step.specs.Prelude.{View}
+use Rattle.vm_guard.specs.{declared.opt.OptGuard.OptGuard, Guards.IsValid, Guards.placed}
 use Rattle.vm_tree_laws.specs.Tied.{Tied}
-use Rattle.vm_guard.specs.Guards.{IsValid, placed}
-use Rattle.vm_guard.specs.declared.opt.OptGuard.{OptGuard}
-use Rattle.vm_tree_rule.specs.declared.seek.Met.{Met}
+use Rattle.vm_tree_rule.specs.{declared.seek.Met.Met, Leaves.ReadsOn, Resident.IsKnownNow, Standing.Awaits, Standing.IsOpened}
 use Rattle.vm_tree_rule.specs.declared.seek.Met.TheVariants as met
-use Rattle.vm_tree_rule.specs.Leaves.{ReadsOn}
-use Rattle.vm_tree_rule.specs.Resident.{IsKnownNow}
-use Rattle.vm_tree_rule.specs.Standing.{Awaits, IsOpened}
 
 module _ {X : Type 0} where
   -- the words of page p were read whole, and last, through its open read

@@ -1,10 +1,8 @@
 -- The evidence of a call that may be tried again: what its log, from the call's first step on, shows of the words that it answers with.
-use Rattle.std.specs.Prelude.{ℕ, List, ◌∷◌, ◌++◌, ◌≡◌}
-use Rattle.vm_rule.specs.declared.view.Did.{Did}
-use Rattle.vm_rule.specs.declared.view.View.{View}
+use Rattle.std.specs.Prelude.{◌++◌, ◌∷◌, ◌≡◌, List, ℕ}
+use Rattle.vm_step.specs.Prelude.{AreQuiet, Begins, Did, NoneExpected, NoWord, place_at, View, WhyAgain}
+use Rattle.vm_step.specs.{declared.saw.Saw.Saw, Evidence.Gives}
 use Rattle.vm_step.specs.declared.saw.At.TheVariants as ats
-use Rattle.vm_step.specs.declared.saw.Saw.{Saw}
-use Rattle.vm_step.specs.Evidence.{AreQuiet, Begins, Gives, NoWord, NoneExpected, WhyAgain, place_at}
 
 -- these are the steps of a call from its first one on. The call read the word seen; it read the first word before, or an exchange of it expects
 -- that in the place of one that it read; and between the two it neither wrote the word seen nor raised a version there

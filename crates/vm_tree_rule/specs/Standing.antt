@@ -1,19 +1,12 @@
 -- Where a descent stands: a page whose open read began in this call, and what its ties ask of its words.
-use Rattle.std.specs.Prelude.{ℕ, List, ◌∷◌, ◌++◌, length, slice_index, Some, None, true, ◌≡◌, ◌≢◌, ◌≤◌, ◌<◌, ◌⊎◌}
-use Rattle.vm_page.specs.declared.buf.TheConstants.{WORDS}
-use Rattle.vm_core.specs.Words.{version_of}
-use Rattle.vm_rule.specs.declared.view.Tie.{Tie}
-use Rattle.vm_rule.specs.declared.view.View.{View}
-use Rattle.vm_rule.specs.Views.{Each, loads_at}
-use Rattle.vm_rule.specs.Reading.{last_of}
-use Rattle.vm_rule.specs.Rule.{began_of}
-use Rattle.vm_rule.specs.Locks.{LockValidates}
-use Rattle.vm_tree_model.specs.Edits.{child_of}
-use Rattle.vm_tree_model.specs.Node.{Covers}
+use Rattle.std.specs.Prelude.{◌++◌, ◌<◌, ◌∷◌, ◌≡◌, ◌≢◌, ◌≤◌, ◌⊎◌, length, List, None, slice_index, Some, true, ℕ}
+use Rattle.vm_tree_model.specs.{Edits.child_of, Node.Covers}
 use Rattle.vm_tree_model.specs.Page.{IsInner, IsLeaf, node_of}
-use Rattle.vm_tree_laws.specs.Tied.{IsTied, Tied}
-use Rattle.vm_tree_laws.specs.Descent.{IsReached}
+use Rattle.vm_core.specs.Prelude.{version_of, WORDS}
+use Rattle.vm_rule.specs.Prelude.{began_of, Each, last_of, loads_at, LockValidates}
+use Rattle.vm_step.specs.Prelude.{Tie, View}
 use Rattle.vm_guard.specs.Guards.{BeginsReading, IsReading, IsValid}
+use Rattle.vm_tree_laws.specs.{Descent.IsReached, Tied.IsTied, Tied.Tied}
 use Rattle.vm_tree_rule.specs.Leaves.{LeavesWord, ReadsOn}
 
 -- page p, with these words in an image of so many pages, names another page of it, which is a node

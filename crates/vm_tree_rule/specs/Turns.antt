@@ -1,25 +1,17 @@
 -- Why a descent ended without its leaf, by the steps of its call.
-use Rattle.std.specs.Prelude.{ℕ, List, [], None, true, false, ◌∷◌, ◌++◌, ◌≡◌, ◌≢◌, ◌<◌, ◌≤◌, ◌⊎◌}
-use Rattle.vm_rule.specs.declared.view.Did.{Did}
-use Rattle.vm_rule.specs.declared.view.View.{View}
-use Rattle.vm_rule.specs.Views.{loads_at}
-use Rattle.vm_rule.specs.Reading.{last_of}
+use Rattle.std.specs.Prelude.{[], ◌++◌, ◌<◌, ◌∷◌, ◌≡◌, ◌≢◌, ◌≤◌, ◌⊎◌, false, List, None, true, ℕ}
+use Rattle.vm_tree_model.specs.{Node.Covers, Page.node_of}
+use Rattle.vm_inner.specs.Found.{FindsChild, FindsNoChild}
+use Rattle.vm_rule.specs.Prelude.{last_of, loads_at}
+use Rattle.vm_step.specs.Prelude.{Did, NeedsPage, NoneExpected, NoWord, View}
 use Rattle.vm_step.specs.declared.saw.At.TheVariants as ats
 use Rattle.vm_step.specs.declared.saw.Saw.{Saw}
-use Rattle.vm_step.specs.Evidence.{NeedsPage, NoWord, NoneExpected}
-use Rattle.vm_inner.specs.Found.{FindsChild, FindsNoChild}
-use Rattle.vm_tree_model.specs.Node.{Covers}
-use Rattle.vm_tree_model.specs.Page.{node_of}
-use Rattle.vm_tree_laws.specs.Tied.{Tied}
-use Rattle.vm_guard.specs.declared.deny.Deny.{Deny}
+use Rattle.vm_guard.specs.{declared.deny.Deny.Deny, Guards.IsValid}
 use Rattle.vm_guard.specs.declared.deny.Deny.TheVariants as denies
 use Rattle.vm_guard.specs.Denied.{AgainOrNeed, IsDenied, KeptWord}
-use Rattle.vm_guard.specs.Guards.{IsValid}
-use Rattle.vm_tree_rule.specs.declared.turn.Turn.{Turn}
+use Rattle.vm_tree_laws.specs.Tied.{Tied}
+use Rattle.vm_tree_rule.specs.{declared.turn.Turn.Turn, Leaves.LeavesWord, Leaves.ReadsOn, Seeks.HasRead, Shown.IsAgain}
 use Rattle.vm_tree_rule.specs.declared.turn.Turn.TheVariants as turns
-use Rattle.vm_tree_rule.specs.Leaves.{LeavesWord, ReadsOn}
-use Rattle.vm_tree_rule.specs.Seeks.{HasRead}
-use Rattle.vm_tree_rule.specs.Shown.{IsAgain}
 use Rattle.vm_tree_rule.specs.Standing.{IsOpened, NamesForKey, Sees}
 
 -- a look at a page that was denied ends the call so

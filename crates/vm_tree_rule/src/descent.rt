@@ -1,14 +1,11 @@
 // The coupled descent: each page is looked at before the page that names it is validated, and read before it is left.
-ghost use Rattle.std.specs.Prelude.{◌≡◌, ◌<◌, ◌≤◌, ◌∷◌, ◌++◌, [], ℕ, IfOk, IfErr, IsOk, length, suc, true};
+ghost use Rattle.std.specs.Prelude.{◌++◌, ◌<◌, ◌≡◌, ◌≤◌, IfErr, IfOk, IsOk, length, suc, true, ℕ};
+ghost use Rattle.vm_rule.specs.Prelude.{loads_at};
+ghost use Rattle.vm_step.specs.Prelude.{IsReady, IsSamePass, MayStep, view};
 ghost use Rattle.vm_guard.specs.Guards.{IsReading, placed};
-ghost use Rattle.vm_rule.specs.Views.{loads_at};
-ghost use Rattle.vm_step.specs.Passes.{IsSamePass, MayStep, view};
-ghost use Rattle.vm_step.specs.Ready.{IsReady};
-ghost use Rattle.vm_tree_rule.specs.Leaves.{ReadsOn};
+ghost use Rattle.vm_tree_rule.specs.{Leaves.ReadsOn, Seeks.IsMetaRead, Seeks.IsNamedRoot, Turns.IsStopped, Turns.IsTurnedBack};
 ghost use Rattle.vm_tree_rule.specs.Resident.{IsKnownNow, KnowsLocks, KnowsResident};
-ghost use Rattle.vm_tree_rule.specs.Seeks.{IsMetaRead, IsNamedRoot};
 ghost use Rattle.vm_tree_rule.specs.Standing.{Awaits, HasSteppedDown, IsOpened, NamesPage, StaysOpen, tree_pages};
-ghost use Rattle.vm_tree_rule.specs.Turns.{IsStopped, IsTurnedBack};
 
 use crate::Tree;
 use crate::turn::Turn;

@@ -1,12 +1,8 @@
 //! The tree as the owner of a page store: what its pages and its history are is kept at each step of the store.
 #![tactic(auto)]
 
-ghost use Rattle.vm_tree_laws.specs.Keeps.{KeepsTree};
-ghost use Rattle.vm_tree_laws.specs.May.{MayRelease, MayRead};
-ghost use Rattle.vm_tree_laws.specs.Tied.{Tied};
-ghost use Rattle.vm_tree_laws.proofs.Laws.{releases_keep, reads_keep};
-ghost use Rattle.vm_tree_laws.proofs.Claims.{claims_keep};
-ghost use Rattle.vm_tree_laws.proofs.Ties.{ties_hold};
+ghost use Rattle.vm_tree_laws.specs.{Keeps.KeepsTree, May.MayRead, May.MayRelease, Tied.Tied};
+ghost use Rattle.vm_tree_laws.proofs.{Claims.claims_keep, Laws.reads_keep, Laws.releases_keep, Ties.ties_hold};
 
 pub mod descent;
 mod fault;

@@ -1,14 +1,12 @@
 // The search for the first full node on the way of a key, from the root on.
-ghost use Rattle.std.specs.Prelude.{◌≡◌, ◌<◌, ◌≤◌, ℕ, IfOk, IfErr, IsOk, length, suc, true};
-ghost use Rattle.vm_guard.specs.Guards.{IsReading};
-ghost use Rattle.vm_step.specs.Passes.{IsSamePass, MayStep, view};
-ghost use Rattle.vm_step.specs.Ready.{IsReady};
+ghost use Rattle.std.specs.Prelude.{◌<◌, ◌≡◌, ◌≤◌, IfErr, IfOk, IsOk, length, suc, true, ℕ};
 ghost use Rattle.vm_tree_model.specs.Page.{pairs_of};
-ghost use Rattle.vm_tree_rule.specs.Leaves.{ReadsOn};
+ghost use Rattle.vm_step.specs.Prelude.{IsReady, IsSamePass, MayStep, view};
+ghost use Rattle.vm_guard.specs.Guards.{IsReading};
+ghost use Rattle.vm_tree_rule.specs.{Leaves.ReadsOn, Turns.IsTurnedBack};
 ghost use Rattle.vm_tree_rule.specs.Resident.{IsKnownNow, KnowsLocks, KnowsResident};
 ghost use Rattle.vm_tree_rule.specs.Seeks.{HasRead, IsMet, IsPassedBy, KnowsMet, LeadsTo};
 ghost use Rattle.vm_tree_rule.specs.Standing.{Awaits, IsOpened, StaysOpen};
-ghost use Rattle.vm_tree_rule.specs.Turns.{IsTurnedBack};
 
 use crate::Tree;
 use crate::descent::{enter, enter_root};

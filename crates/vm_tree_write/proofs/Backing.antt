@@ -1,32 +1,26 @@
 -- The words of an answer that is to be tried again, in the log of the whole call.
-use Rattle.std.proofs.Common.{ℕ, ◌≡◌, ◌≢◌, List, ◌++◌}
+use Rattle.std.proofs.Common.{◌++◌, ◌≡◌, ◌≢◌, List, ℕ}
 use Rattle.vm_map.specs.declared.call.Said.{Said}
-use Rattle.vm_rule.specs.declared.view.Did.{Did}
+use Rattle.vm_rule.specs.Prelude.{StartsWith}
 use Rattle.vm_rule.specs.declared.view.Place.{Place}
-use Rattle.vm_rule.specs.declared.view.View.{View}
-use Rattle.vm_rule.specs.Views.{StartsWith}
+use Rattle.vm_rule.proofs.Entries.{starts-self}
+use Rattle.vm_step.specs.Prelude.{Begins, Begins as begun, Did, IsSaw, NoneExpected, NoWord, place_at, UnlockedExpected, View}
 use Rattle.vm_step.specs.declared.saw.Saw.{Saw}
-use Rattle.vm_step.specs.Evidence.{Begins, Begins as begun, IsSaw, NoWord, NoneExpected, UnlockedExpected, place_at}
+use Rattle.vm_step.proofs.Asides.{starts-then}
 use Rattle.vm_exmap.specs.declared.interface.Alloc.TheVariants as allocs
-use Rattle.vm_guard.specs.declared.given.Fresh.TheVariants as freshes
+use Rattle.vm_exmap.specs.Walks.{IsAlloc}
 use Rattle.vm_guard.specs.declared.deny.Deny.TheVariants as denies
+use Rattle.vm_guard.specs.declared.given.Fresh.TheVariants as freshes
 use Rattle.vm_guard.specs.declared.opt.OptGuard.{OptGuard}
 use Rattle.vm_guard.specs.Denied.{AgainOrNeed, AgainOrWorn, IsDenied, KeptWord}
+use Rattle.vm_tree_rule.specs.{Leaves.LeavesWord, Standing.IsOpened}
 use Rattle.vm_tree_rule.specs.Shown.{IsAgain, IsSeen, IsShown}
-use Rattle.vm_tree_rule.specs.Standing.{IsOpened}
-use Rattle.vm_tree_rule.proofs.Logged.{shown-kept, shown-later}
-use Rattle.vm_rule.proofs.Entries.{starts-self}
-use Rattle.vm_step.proofs.Asides.{starts-then}
-use Rattle.vm_exmap.specs.Walks.{IsAlloc}
-use Rattle.vm_tree_rule.specs.Leaves.{LeavesWord}
+use Rattle.vm_tree_rule.proofs.{Logged.shown-kept, Logged.shown-later, Showing.saw-behind, Showing.seen-front}
 use Rattle.vm_tree_rule.proofs.Readings.{leaves-self, leaves-then, log-then}
-use Rattle.vm_tree_rule.proofs.Showing.{saw-behind, seen-front}
+use Rattle.vm_tree_write.specs.{Prepares.IsLockDenied.first_denied, Prepares.IsLockDenied.second_denied, Prepares.IsShort.after_one}
+use Rattle.vm_tree_write.specs.{Prepares.IsShort.at_once, Tries.IsBackedBy}
 use Rattle.vm_tree_write.specs.Prepares.{IsLockDenied, IsNotLocked, IsRefusedPages, IsSecondRefused, IsShort}
-use Rattle.vm_tree_write.specs.Prepares.IsLockDenied.{first_denied, second_denied}
-use Rattle.vm_tree_write.specs.Prepares.IsShort.{after_one, at_once}
-use Rattle.vm_tree_write.specs.Tries.{IsBackedBy}
-use Rattle.vm_tree_write.proofs.Framing.{alloc-more}
-use Rattle.vm_tree_write.proofs.Refusing.{locked-leave, moves-leave}
+use Rattle.vm_tree_write.proofs.{Framing.alloc-more, Refusing.locked-leave, Refusing.moves-leave}
 
 -- what holds where no word is expected in the place of another holds where one may be
 begun-wider : (kept : ℕ → Type 0) (at : Place) (first seen : ℕ) (last : Did) (earlier since : List Did) → Begins kept NoneExpected at first seen last earlier since → Begins kept UnlockedExpected at first seen last earlier since

@@ -1,20 +1,14 @@
 -- Words of a draft that are set one after the other.
-use Rattle.std.proofs.Common.{ℕ, Bool, true, false, Some, ◌≡◌, ◌≢◌, ◌<◌, ◌≤◌, ◌+◌, ◌*◌, List, [], ◌∷◌, ◌++◌, length, refl, sym, ap, subst, ◌∙◌, slice_index, slice_set, arith, append_assoc, None, ◌⊎◌, inr, ⊎_elim, get_or-set_other, get_or-set_same}
+use Rattle.std.proofs.Common.{[], ⊎_elim, ◌*◌, ◌++◌, ◌+◌, ◌<◌, ◌∙◌, ◌∷◌, ◌≡◌, ◌≢◌, ◌≤◌, ◌⊎◌, ap, append_assoc, arith, Bool, false, get_or-set_other}
+use Rattle.std.proofs.Common.{get_or-set_same, inr, length, List, None, refl, slice_index, slice_set, Some, subst, sym, true, ℕ}
 use Rattle.std.proofs.lemmas.Bool.{cases_eq}
-use Rattle.vm_rule.specs.declared.view.Did.{Did}
+use Rattle.vm_rule.specs.Prelude.{bundle_count, did_store, Each, index_of, set_if}
 use Rattle.vm_rule.specs.declared.view.Place.TheVariants as places
-use Rattle.vm_rule.specs.declared.view.View.{View}
-use Rattle.vm_rule.specs.declared.view.Origin.{Origin}
-use Rattle.vm_rule.specs.Brought.{set_if}
-use Rattle.vm_rule.specs.Layout.{bundle_count, index_of}
-use Rattle.vm_rule.specs.Log.{did_store}
-use Rattle.vm_rule.specs.Views.{Each}
 use Rattle.vm_rule.proofs.Entries.{append-none}
-use Rattle.vm_step.proofs.Asides.{alone-self, alone-then, holds-then, reads-then}
+use Rattle.vm_step.specs.Prelude.{Did, Follows, IsAlone, Origin, View}
 use Rattle.vm_step.proofs.Alone.{set-else, still-alone}
-use Rattle.vm_step.specs.Alone.{Follows, IsAlone}
-use Rattle.vm_guard.specs.Guards.{IsSet, dirty_steps}
-use Rattle.vm_guard.specs.Sure.{known_next}
+use Rattle.vm_step.proofs.Asides.{alone-self, alone-then, holds-then, reads-then}
+use Rattle.vm_guard.specs.{Guards.dirty_steps, Guards.IsSet, Sure.known_next}
 use Rattle.vm_guard.proofs.QuietSteps.{elsewhere-then, quiet-elsewhere, quiet-none}
 use Rattle.vm_tree_write.specs.Drafts.{IsRedrafted, KnowsSameStates, SetsDiffering}
 

@@ -1,29 +1,22 @@
 -- What came of a full node: all that a split asks for, once its pages are locked and its fresh ones claimed.
-use Rattle.std.proofs.Common.{ℕ, true, false, ◌≡◌, ◌≢◌, ◌+◌, ◌≤◌, ◌||◌, List, [], ◌∷◌, ◌++◌, Some, None, length, suc, refl, sym, ap, subst, ◌∙◌, arith, replicate, slice_index}
+use Rattle.std.proofs.Common.{[], ◌++◌, ◌+◌, ◌||◌, ◌∙◌, ◌∷◌, ◌≡◌, ◌≢◌, ◌≤◌, ap, arith, false, length, List, None, refl, replicate, slice_index, Some}
+use Rattle.std.proofs.Common.{subst, suc, sym, true, ℕ}
 use Rattle.std.proofs.lemmas.Bool.{ne_eqb, or_left}
-use Rattle.vm_core.specs.Inv.{LoadsAre}
 use Rattle.vm_map.specs.declared.call.Said.{Said}
-use Rattle.vm_owner.specs.Numbers.{has, AreApart}
-use Rattle.vm_rule.specs.declared.view.Did.{Did}
-use Rattle.vm_rule.specs.declared.view.Origin.{Origin}
-use Rattle.vm_rule.specs.declared.view.View.{View}
-use Rattle.vm_rule.specs.Puts.{put_at}
-use Rattle.vm_rule.specs.Views.{loads_at, numbers}
-use Rattle.vm_rule.specs.Reading.{last_of}
+use Rattle.vm_core.specs.Prelude.{LoadsAre}
+use Rattle.vm_rule.specs.Prelude.{AreApart, has, last_of, loads_at, numbers, put_at}
 use Rattle.vm_rule.proofs.Facts.{has-both}
+use Rattle.vm_step.specs.Prelude.{Did, Origin, View}
 use Rattle.vm_step.proofs.Numbers.{numbers-has}
-use Rattle.vm_guard.specs.declared.exclusive.ExclusiveGuard.{ExclusiveGuard}
-use Rattle.vm_guard.specs.declared.opt.OptGuard.{OptGuard}
-use Rattle.vm_guard.specs.Groups.{GuardsHeld, pids_of}
-use Rattle.vm_guard.proofs.Pairs.{pids-both}
 use Rattle.vm_exmap.specs.Frames.{MovesFrames}
+use Rattle.vm_guard.specs.{declared.exclusive.ExclusiveGuard.ExclusiveGuard, declared.opt.OptGuard.OptGuard, Groups.GuardsHeld, Groups.pids_of}
+use Rattle.vm_guard.proofs.Pairs.{pids-both}
 use Rattle.vm_tree_rule.specs.Seeks.{IsFullBelow, IsRootFull}
-use Rattle.vm_tree_rule.proofs.Entering.{opened-reads}
-use Rattle.vm_tree_rule.proofs.Readings.{loads-behind}
-use Rattle.vm_tree_write.specs.Prepares.{IsPrepared}
+use Rattle.vm_tree_rule.proofs.{Entering.opened-reads, Readings.loads-behind}
+use Rattle.vm_tree_write.specs.{Prepares.IsPrepared, Tries.HasSplit}
 use Rattle.vm_tree_write.specs.Splits.{AreToSplit, CanSplit, CanSplitRoot, HasDraft, IsRootToSplit, IsSplitUp, KeepsLocksOnly}
-use Rattle.vm_tree_write.specs.Tries.{HasSplit}
-use Rattle.vm_tree_write.proofs.Preparing.{first-held, first-inner, first-not, first-stays, first-words, fresh-zero, home-is, prepared-keeps, second-held, second-not, second-words, start-then}
+use Rattle.vm_tree_write.proofs.Preparing.{first-held, first-inner, first-not, first-stays, first-words, fresh-zero, home-is, prepared-keeps}
+use Rattle.vm_tree_write.proofs.Preparing.{second-held, second-not, second-words, start-then}
 use Rattle.vm_tree_write.proofs.Under.{numbers-one, numbers-two, reading-moved, right-is}
 
 apart-one : (x : ℕ) → AreApart (numbers x 1)

@@ -1,26 +1,16 @@
 -- Frames for fresh pages: one allocation, and a second one for what is missing.
-use Rattle.std.proofs.Common.{ℕ, List, [], ◌∷◌, ◌++◌, ◌≡◌, ◌<◌, ◌||◌, true, false, refl, sym, ap, subst, ◌∙◌, inl, inr, append_assoc, eqb, reverse, if◌then◌else◌, ⊎_elim, true≢false}
+use Rattle.std.proofs.Common.{[], ⊎_elim, ◌++◌, ◌<◌, ◌||◌, ◌∙◌, ◌∷◌, ◌≡◌, ap, append_assoc, eqb, false, if◌then◌else◌, inl, inr, List, refl, reverse}
+use Rattle.std.proofs.Common.{subst, sym, true, true≢false, ℕ}
 use Rattle.std.proofs.lemmas.Bool.{cases_Bool, cases_eq, eq-eqb, ne_eqb, or_left, or_right}
 use Rattle.std.proofs.lemmas.List.{reverse-append}
-use Rattle.vm_owner.specs.Numbers.{has}
 use Rattle.vm_map.specs.declared.call.Said.{Said}
-use Rattle.vm_rule.specs.declared.view.Did.{Did}
-use Rattle.vm_rule.specs.declared.view.View.{View}
-use Rattle.vm_rule.specs.Bundles.{frames_in}
-use Rattle.vm_rule.specs.Releases.{without_all}
-use Rattle.vm_rule.specs.Views.{Each}
-use Rattle.vm_rule.specs.Puts.{put_at}
-use Rattle.vm_core.specs.Start.{no_seat}
-use Rattle.vm_rule.proofs.Bundled.{has-without_all}
-use Rattle.vm_rule.proofs.Entries.{append-none}
-use Rattle.vm_rule.proofs.Facts.{has-both}
-use Rattle.vm_step.proofs.Asides.{starts-then, holds-then}
-use Rattle.vm_exmap.specs.declared.interface.Alloc.{Alloc}
+use Rattle.vm_core.specs.Prelude.{no_seat}
+use Rattle.vm_rule.specs.Prelude.{Each, frames_in, has, put_at, without_all}
+use Rattle.vm_rule.proofs.{Bundled.has-without_all, Entries.append-none, Facts.has-both}
+use Rattle.vm_step.specs.Prelude.{AreHeld, Did, View}
+use Rattle.vm_step.proofs.Asides.{holds-then, starts-then}
+use Rattle.vm_exmap.specs.{declared.interface.Alloc.Alloc, Frames.MovesFrames, Returns.IsFreed, Walks.IsAlloc, Walks.TakesNone}
 use Rattle.vm_exmap.specs.declared.interface.Alloc.TheVariants as allocs
-use Rattle.vm_exmap.specs.Frames.{MovesFrames}
-use Rattle.vm_step.specs.HeldFrames.{AreHeld}
-use Rattle.vm_exmap.specs.Returns.{IsFreed}
-use Rattle.vm_exmap.specs.Walks.{IsAlloc, TakesNone}
 use Rattle.vm_exmap.proofs.FrameMoves.{moved-nothing, moved-then}
 use Rattle.vm_exmap.proofs.Handing.{apart-join, apart-not, each-has, each-join, each-of, held-on, held-rest, held-swap}
 use Rattle.vm_tree_write.specs.Splits.{KeepsLocksOnly}

@@ -1,23 +1,16 @@
 -- Two pages that were locked are given up, since no fresh pages were given: the pass holds what it held.
-use Rattle.std.proofs.Common.{ℕ, false, ◌≡◌, ◌≢◌, List, ◌++◌, None, refl, sym, ap, subst, ◌∙◌, inl}
-use Rattle.vm_core.specs.History.{Version}
+use Rattle.std.proofs.Common.{◌++◌, ◌∙◌, ◌≡◌, ◌≢◌, ap, false, inl, List, None, refl, subst, sym, ℕ}
 use Rattle.vm_map.specs.declared.call.Said.{Said}
-use Rattle.vm_owner.specs.Numbers.{has}
-use Rattle.vm_rule.specs.declared.view.View.{View}
-use Rattle.vm_rule.specs.Reading.{last_of}
-use Rattle.vm_rule.specs.Views.{draft_of}
-use Rattle.vm_step.specs.HeldFrames.{AreHeld}
+use Rattle.vm_core.specs.Prelude.{Version}
+use Rattle.vm_rule.specs.Prelude.{draft_of, has, last_of}
+use Rattle.vm_step.specs.Prelude.{AreHeld, View}
 use Rattle.vm_exmap.proofs.Handing.{held-on, held-swap}
-use Rattle.vm_guard.specs.declared.exclusive.ExclusiveGuard.{ExclusiveGuard}
-use Rattle.vm_guard.specs.declared.opt.OptGuard.{OptGuard}
-use Rattle.vm_guard.specs.Guards.{IsHolding, IsReleased}
-use Rattle.vm_tree_write.specs.Prepares.{AreLocked, GivesUpBoth}
+use Rattle.vm_guard.specs.{declared.exclusive.ExclusiveGuard.ExclusiveGuard, declared.opt.OptGuard.OptGuard, Guards.IsHolding, Guards.IsReleased}
 use Rattle.vm_tree_read.specs.Waiting.{LosesNone}
-use Rattle.vm_tree_write.specs.Splits.{HasDraft, KeepsLocksOnly}
-use Rattle.vm_tree_write.proofs.Framing.{keeps-then, moves-keep}
 use Rattle.vm_tree_read.proofs.Losing.{loses-swap}
-use Rattle.vm_tree_write.proofs.Refusing.{IsNone, back-keeps, holding-nil, nil-keeps}
-use Rattle.vm_tree_write.proofs.Under.{draft-else, holding-else}
+use Rattle.vm_tree_write.specs.{Prepares.AreLocked, Prepares.GivesUpBoth, Splits.HasDraft, Splits.KeepsLocksOnly}
+use Rattle.vm_tree_write.proofs.{Framing.keeps-then, Framing.moves-keep, Under.draft-else, Under.holding-else}
+use Rattle.vm_tree_write.proofs.Refusing.{back-keeps, holding-nil, IsNone, nil-keeps}
 
 -- the pass keeps both, each with its last words as its draft
 pub record AreKept (up low : ExclusiveGuard) (w : View Said) : Type 0 where

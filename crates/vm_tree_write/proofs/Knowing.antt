@@ -1,16 +1,14 @@
 -- What a pass that is alone knows of the pages once it has locked one, written it and released it.
-use Rattle.std.proofs.Common.{ℕ, Bool, ◌≡◌, ◌≢◌, ◌<◌, ◌+◌, ◌∙◌, List, Option, ap, arith, slice_index, subst, sym, ⊎_elim}
+use Rattle.std.proofs.Common.{⊎_elim, ◌+◌, ◌<◌, ◌∙◌, ◌≡◌, ◌≢◌, ap, arith, Bool, List, Option, slice_index, subst, sym, ℕ}
 use Rattle.std.proofs.lemmas.Bool.{cases_eq}
 use Rattle.std.proofs.lemmas.List.{get_or-set_other}
 use Rattle.vm_map.specs.declared.call.Said.{Said}
-use Rattle.vm_rule.specs.declared.view.Origin.{Origin}
+use Rattle.vm_rule.specs.Prelude.{bundle_count, index_of}
 use Rattle.vm_rule.specs.declared.view.Place.TheVariants as places
-use Rattle.vm_rule.specs.declared.view.View.{View}
-use Rattle.vm_rule.specs.Layout.{bundle_count, index_of}
-use Rattle.vm_step.specs.Alone.{IsAlone}
+use Rattle.vm_step.specs.Prelude.{IsAlone, Origin, View}
 use Rattle.vm_step.proofs.Alone.{still-alone}
 use Rattle.vm_guard.specs.Guards.{IsLocked, IsReleased}
-use Rattle.vm_guard.specs.Sure.{IsUnlockedWord, IsKnownFree, known_next, known_word}
+use Rattle.vm_guard.specs.Sure.{IsKnownFree, IsUnlockedWord, known_next, known_word}
 use Rattle.vm_tree_laws.specs.Tied.{Tied}
 use Rattle.vm_tree_rule.specs.Resident.{KnowsResident}
 use Rattle.vm_tree_write.specs.Drafts.{IsRedrafted, KnowsSameStates}

@@ -1,27 +1,17 @@
 -- The answer of a write that waited.
-use Rattle.std.proofs.Common.{ℕ, true, List, [], ◌∷◌, ◌++◌, ◌≡◌, ◌⊎◌, ◌+◌, ap, subst, ◌∙◌, append_assoc, ⊎_elim}
+use Rattle.std.proofs.Common.{[], ⊎_elim, ◌++◌, ◌+◌, ◌∙◌, ◌∷◌, ◌≡◌, ◌⊎◌, ap, append_assoc, List, subst, true, ℕ}
 use Rattle.vm_map.specs.declared.call.Said.{Said}
-use Rattle.vm_owner.specs.declared.Entry.{Entry}
-use Rattle.vm_rule.specs.declared.view.Origin.{Origin}
-use Rattle.vm_rule.specs.declared.view.View.{View}
-use Rattle.vm_rule.specs.Brought.{entry_of}
-use Rattle.vm_rule.specs.Views.{StartsWith}
 use Rattle.vm_tree_model.specs.Tree.{map_of}
-use Rattle.vm_tree_laws.specs.History.{IsLegal}
-use Rattle.vm_step.specs.Asides.{HoldsPage}
+use Rattle.vm_rule.specs.Prelude.{Entry, entry_of, StartsWith}
+use Rattle.vm_step.specs.Prelude.{HoldsPage, Origin, View}
 use Rattle.vm_step.proofs.Asides.{holds-then}
-use Rattle.vm_tree_read.specs.Reads.{IsAnswered}
 use Rattle.vm_evict.specs.declared.report.Report.{Report}
-use Rattle.vm_pool.specs.Brings.{KeepsLocks}
-use Rattle.vm_pool.specs.Sweeps.{IsSwept}
-use Rattle.vm_tree_read.specs.Waiting.{Waits}
-use Rattle.vm_tree_read.proofs.Lasting.{bring-waits}
-use Rattle.vm_tree_read.proofs.Seen.{swept-goes}
-use Rattle.vm_tree_write.specs.Waiting.{IsWriteReplied}
-use Rattle.vm_tree_write.specs.Splits.{KeepsLocksOnly}
-use Rattle.vm_tree_write.specs.Writes.{IsVain, IsWriteDone}
-use Rattle.vm_tree_write.proofs.Framing.{keeps-then}
-use Rattle.vm_tree_write.proofs.Writing.{entry-same}
+use Rattle.vm_pool.specs.{Brings.KeepsLocks, Sweeps.IsSwept}
+use Rattle.vm_tree_laws.specs.History.{IsLegal}
+use Rattle.vm_tree_read.specs.{Reads.IsAnswered, Waiting.Waits}
+use Rattle.vm_tree_read.proofs.{Lasting.bring-waits, Seen.swept-goes}
+use Rattle.vm_tree_write.specs.{Splits.KeepsLocksOnly, Waiting.IsWriteReplied, Writes.IsVain, Writes.IsWriteDone}
+use Rattle.vm_tree_write.proofs.{Framing.keeps-then, Writing.entry-same}
 
 -- what both kinds of answers have
 record HasReply (said : Said) (x w : View Said) : Type 0 where

@@ -1,13 +1,11 @@
 -- No frame is lost by a split: frames that are given back beside others, and frames that fresh pages took.
-use Rattle.std.proofs.Common.{ℕ, List, [], ◌∷◌, ◌++◌, ◌≡◌, true, false, refl, sym, ap, ◌∙◌, ◌⊎◌, inl, inr, if◌then◌else◌, reverse, ⊎_elim, true≢false}
+use Rattle.std.proofs.Common.{[], ⊎_elim, ◌++◌, ◌∙◌, ◌∷◌, ◌≡◌, ◌⊎◌, ap, false, if◌then◌else◌, inl, inr, List, refl, reverse, sym, true, true≢false, ℕ}
 use Rattle.std.proofs.lemmas.Bool.{cases_Bool}
 use Rattle.std.proofs.lemmas.List.{reverse-append}
 use Rattle.vm_map.specs.declared.call.Said.{Said}
-use Rattle.vm_owner.specs.Numbers.{has}
-use Rattle.vm_rule.specs.declared.view.Did.{Did}
-use Rattle.vm_rule.specs.declared.view.View.{View}
-use Rattle.vm_rule.specs.Releases.{without_all}
+use Rattle.vm_rule.specs.Prelude.{has, without_all}
 use Rattle.vm_rule.proofs.Bundled.{has-without_all}
+use Rattle.vm_step.specs.Prelude.{Did, View}
 use Rattle.vm_exmap.specs.Walks.{TakesNone}
 use Rattle.vm_tree_read.specs.Waiting.{LosesNone}
 use Rattle.vm_tree_read.proofs.Losing.{has-behind, has-neither, has-none, loses-same}

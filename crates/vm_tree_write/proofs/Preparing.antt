@@ -1,32 +1,23 @@
 -- Two pages that are locked, and fresh pages beside them: what the search read is what the locks prove, and once all are released the pass holds
 -- what it held.
-use Rattle.std.proofs.Common.{ℕ, true, false, ◌≡◌, ◌≢◌, ◌+◌, ◌||◌, List, ◌∷◌, ◌++◌, length, suc, refl, sym, ap, subst, ◌∙◌, ◌⊎◌, replicate, ⊎_elim}
+use Rattle.std.proofs.Common.{⊎_elim, ◌++◌, ◌+◌, ◌||◌, ◌∙◌, ◌∷◌, ◌≡◌, ◌≢◌, ◌⊎◌, ap, false, length, List, refl, replicate, subst, suc, sym, true, ℕ}
 use Rattle.std.proofs.lemmas.Bool.{cases_Bool, cases_eq, eq-eqb, ne_eqb}
 use Rattle.vm_map.specs.declared.call.Said.{Said}
-use Rattle.vm_owner.specs.Numbers.{has, without, AreApart}
+use Rattle.vm_tree_model.specs.{Node.Covers, Page.IsInner, Page.node_of}
 use Rattle.vm_owner.proofs.NumberLemmas.{without-none}
-use Rattle.vm_rule.specs.declared.view.Did.{Did}
-use Rattle.vm_rule.specs.declared.view.Origin.{Origin}
-use Rattle.vm_rule.specs.declared.view.View.{View}
-use Rattle.vm_rule.specs.Views.{numbers, seat_of}
-use Rattle.vm_rule.specs.Releases.{without_all}
+use Rattle.vm_rule.specs.Prelude.{AreApart, has, numbers, seat_of, without, without_all}
 use Rattle.vm_rule.proofs.Facts.{has-both}
-use Rattle.vm_step.specs.Asides.{HoldsPage}
+use Rattle.vm_step.specs.Prelude.{Did, HoldsPage, Origin, View}
 use Rattle.vm_step.proofs.Asides.{holds-then}
-use Rattle.vm_guard.specs.declared.exclusive.ExclusiveGuard.{ExclusiveGuard}
-use Rattle.vm_guard.specs.declared.opt.OptGuard.{OptGuard}
-use Rattle.vm_guard.specs.Guards.{IsHolding, IsReading}
-use Rattle.vm_guard.proofs.Freshly.{holding-on}
-use Rattle.vm_guard.proofs.Groups.{lacks, without-front}
-use Rattle.vm_guard.proofs.Reading.{reading-elsewhere}
 use Rattle.vm_exmap.specs.Frames.{MovesFrames}
-use Rattle.vm_tree_model.specs.Node.{Covers}
-use Rattle.vm_tree_model.specs.Page.{node_of, IsInner}
-use Rattle.vm_tree_rule.specs.Seeks.{HasRead}
-use Rattle.vm_tree_rule.specs.Standing.{Awaits}
+use Rattle.vm_guard.specs.{declared.exclusive.ExclusiveGuard.ExclusiveGuard, declared.opt.OptGuard.OptGuard, Guards.IsHolding, Guards.IsReading}
+use Rattle.vm_guard.proofs.{Freshly.holding-on, Groups.lacks, Groups.without-front, Reading.reading-elsewhere}
+use Rattle.vm_tree_rule.specs.{Seeks.HasRead, Standing.Awaits}
 use Rattle.vm_tree_write.specs.Prepares.{IsPrepared}
 use Rattle.vm_tree_write.specs.Splits.{HasDraft, IsSplitUp, KeepsLocksOnly}
-use Rattle.vm_tree_write.proofs.Under.{KeepsBut, amid-holds, awaits-moved, but-then, done-but, draft-amid, draft-else, fresh-but, holding-else, locked-but, locked-draft, locked-inner, moved-holds, moves-but, read-moved, reading-moved, true-false, was-before, was-done, was-fresh, was-locked, was-on}
+use Rattle.vm_tree_write.proofs.Under.{amid-holds, awaits-moved, but-then, done-but, draft-amid, draft-else, fresh-but, holding-else, KeepsBut}
+use Rattle.vm_tree_write.proofs.Under.{locked-but, locked-draft, locked-inner, moved-holds, moves-but, read-moved, reading-moved, true-false}
+use Rattle.vm_tree_write.proofs.Under.{was-before, was-done, was-fresh, was-locked, was-on}
 
 module _ (n : ℕ) (first second : OptGuard) (up low : ExclusiveGuard) (gs : List ExclusiveGuard) (v w : View Said) (all : IsPrepared n first second up low gs v w) (apart : second.pid ≢ first.pid) where
   abbrev a : ℕ

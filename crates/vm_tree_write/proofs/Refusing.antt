@@ -1,36 +1,25 @@
 -- A split that is refused: what it took goes back, and the pass holds what it held.
-use Rattle.std.proofs.Common.{ℕ, Bool, ◌≡◌, ◌≢◌, ◌<◌, length, List, [], None, refl, sym, ap, subst, ◌∙◌, ◌⊎◌, inl, ⊎_elim}
+use Rattle.std.proofs.Common.{[], ⊎_elim, ◌<◌, ◌∙◌, ◌≡◌, ◌≢◌, ◌⊎◌, ap, Bool, inl, length, List, None, refl, subst, sym, ℕ}
 use Rattle.std.proofs.lemmas.Bool.{cases_eq}
-use Rattle.vm_core.specs.declared.event.Seat.{Seat}
-use Rattle.vm_core.specs.History.{Version}
 use Rattle.vm_map.specs.declared.call.Said.{Said}
-use Rattle.vm_owner.specs.Numbers.{has, without}
+use Rattle.vm_core.specs.Prelude.{Version}
 use Rattle.vm_owner.proofs.NumberLemmas.{without-none}
-use Rattle.vm_rule.specs.declared.view.Did.{Did}
+use Rattle.vm_rule.specs.Prelude.{has, numbers, Seat, without}
 use Rattle.vm_rule.specs.declared.view.Held.{Held}
-use Rattle.vm_rule.specs.declared.view.Origin.{Origin}
 use Rattle.vm_rule.specs.declared.view.Place.TheVariants as places
-use Rattle.vm_rule.specs.declared.view.View.{View}
-use Rattle.vm_rule.specs.Views.{numbers}
 use Rattle.vm_rule.proofs.Entries.{append-none, each-map}
+use Rattle.vm_step.specs.Prelude.{Did, HoldsPage, KnowsAsBefore, Origin, View}
 use Rattle.vm_step.specs.declared.saw.Saw.{Saw}
-use Rattle.vm_step.specs.Asides.{HoldsPage, KnowsAsBefore}
 use Rattle.vm_step.proofs.Asides.{holds-then, starts-then}
-use Rattle.vm_guard.specs.declared.deny.Deny.{Deny}
-use Rattle.vm_guard.specs.declared.deny.Deny.TheVariants as denies
-use Rattle.vm_guard.specs.declared.given.Fresh.{Fresh}
-use Rattle.vm_guard.specs.declared.given.Fresh.TheVariants as freshes
-use Rattle.vm_guard.specs.Denied.{AgainOrWorn}
-use Rattle.vm_guard.specs.Fresh.{IsFreshAnswer, IsNil}
-use Rattle.vm_guard.specs.Guards.{IsHolding, IsLocked, IsReleased}
-use Rattle.vm_guard.specs.Quiet.{IsQuiet}
 use Rattle.vm_exmap.specs.Frames.{MovesFrames}
 use Rattle.vm_exmap.proofs.FrameMoves.{leaves-states}
+use Rattle.vm_guard.specs.{declared.deny.Deny.Deny, declared.given.Fresh.Fresh, Denied.AgainOrWorn, Fresh.IsFreshAnswer, Fresh.IsNil, Quiet.IsQuiet}
+use Rattle.vm_guard.specs.declared.deny.Deny.TheVariants as denies
+use Rattle.vm_guard.specs.declared.given.Fresh.TheVariants as freshes
+use Rattle.vm_guard.specs.Guards.{IsHolding, IsLocked, IsReleased}
 use Rattle.vm_tree_laws.specs.Tied.{Tied}
 use Rattle.vm_tree_rule.specs.Leaves.{LeavesWord}
-use Rattle.vm_tree_write.specs.Prepares.{SaysDenied}
-use Rattle.vm_tree_write.specs.Splits.{KeepsLocksOnly}
-use Rattle.vm_tree_write.specs.declared.tries.TrySplit.{TrySplit}
+use Rattle.vm_tree_write.specs.{declared.tries.TrySplit.TrySplit, Prepares.SaysDenied, Splits.KeepsLocksOnly}
 use Rattle.vm_tree_write.specs.declared.tries.TrySplit.TheVariants as tries
 
 -- ---- steps that leave no word on a page's state word

@@ -1,27 +1,21 @@
 -- Four pages that are held get their new drafts one after the other, and are released together: page 0, the full root, and two fresh pages.
-use Rattle.std.proofs.Common.{ℕ, Bool, true, ◌≡◌, ◌≢◌, ◌+◌, List, [], ◌∷◌, None, length, refl, sym, ap, subst, ◌∙◌, inr, slice_index, slice_set, replicate}
-use Rattle.vm_core.specs.History.{Version}
+use Rattle.std.proofs.Common.{[], ◌+◌, ◌∙◌, ◌∷◌, ◌≡◌, ◌≢◌, ap, Bool, inr, length, List, None, refl, replicate, slice_index, slice_set, subst, sym}
+use Rattle.std.proofs.Common.{true, ℕ}
 use Rattle.vm_map.specs.declared.call.Said.{Said}
-use Rattle.vm_owner.specs.Numbers.{has, AreApart}
-use Rattle.vm_rule.specs.declared.view.Origin.{Origin}
-use Rattle.vm_rule.specs.declared.view.View.{View}
-use Rattle.vm_rule.specs.Views.{draft_of, seat_of}
-use Rattle.vm_rule.specs.Reading.{last_of}
-use Rattle.vm_rule.specs.Rule.{began_of}
-use Rattle.vm_rule.specs.Releases.{change_of, changes_of}
-use Rattle.vm_step.specs.Conditions.{IsClaimed}
-use Rattle.vm_guard.specs.declared.exclusive.ExclusiveGuard.{ExclusiveGuard}
+use Rattle.vm_tree_model.specs.{Edits.IsNewRoot, Edits.IsSplit, Page.pairs_of}
+use Rattle.vm_core.specs.Prelude.{Version}
+use Rattle.vm_rule.specs.Prelude.{AreApart, began_of, change_of, changes_of, draft_of, has, last_of, seat_of}
+use Rattle.vm_step.specs.Prelude.{IsClaimed, Origin, View}
+use Rattle.vm_guard.specs.{declared.exclusive.ExclusiveGuard.ExclusiveGuard, Guards.IsHolding, Guards.IsSet}
 use Rattle.vm_guard.specs.Groups.{AreReleased, MayReleaseAll, pids_of}
-use Rattle.vm_guard.specs.Guards.{IsHolding, IsSet}
 use Rattle.vm_guard.proofs.Groups.{lacks}
-use Rattle.vm_tree_model.specs.Edits.{IsNewRoot, IsSplit}
-use Rattle.vm_tree_model.specs.Page.{pairs_of}
 use Rattle.vm_tree_laws.specs.May.{MayRelease}
 use Rattle.vm_tree_laws.proofs.Established.{may_split_root}
 use Rattle.vm_tree_write.specs.Drafts.{IsRedrafted}
 use Rattle.vm_tree_write.specs.Splits.{HasDraft, IsRootToSplit, IsSplitUp, Stays}
 use Rattle.vm_tree_write.proofs.Drafting.{redrafted-self, set-more}
-use Rattle.vm_tree_write.proofs.Splitting.{draft-new, draft-past, full-not, group-done, none-not, redrafted-stays, stays-then, told-before, words-claimed}
+use Rattle.vm_tree_write.proofs.Splitting.{draft-new, draft-past, full-not, group-done, none-not, redrafted-stays, stays-then, told-before}
+use Rattle.vm_tree_write.proofs.Splitting.{words-claimed}
 
 -- pages that are apart
 pub record AreFour (a b c d : ℕ) : Type 0 where

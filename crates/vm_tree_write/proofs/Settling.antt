@@ -1,29 +1,21 @@
 -- A pass that is alone: what a call on a page answers that the pass knows to be free.
-use Rattle.std.proofs.Common.{ℕ, Bool, ◌≡◌, ◌≢◌, ◌<◌, ◌≤◌, ◌+◌, ◌∙◌, List, Err, IsOk, Result, ap, arith, inl, slice_index, subst, sym, ⊎_elim}
+use Rattle.std.proofs.Common.{⊎_elim, ◌+◌, ◌<◌, ◌∙◌, ◌≡◌, ◌≢◌, ◌≤◌, ap, arith, Bool, Err, inl, IsOk, List, Result, slice_index, subst, sym, ℕ}
 use Rattle.std.proofs.lemmas.Bool.{cases_lt, false≢true}
 use Rattle.std.proofs.lemmas.List.{get_or-set_other}
-use Rattle.vm_core.specs.Words.{version_of, word_of, LOCKED, MAX_VERSION}
-use Rattle.vm_rule.specs.declared.view.Did.{Did}
-use Rattle.vm_rule.specs.declared.view.Origin.{Origin}
-use Rattle.vm_rule.specs.declared.view.Place.TheVariants as places
-use Rattle.vm_rule.specs.declared.view.View.{View}
-use Rattle.vm_rule.specs.Layout.{bundle_count, index_of}
-use Rattle.vm_rule.proofs.WordFacts.{version-within}
 use Rattle.vm_map.specs.declared.call.Said.{Said}
-use Rattle.vm_rule.specs.Joins.{HoldsNoPage}
-use Rattle.vm_step.specs.Alone.{IsAlone, KnowsUnheld, LocksNone}
-use Rattle.vm_tree_rule.specs.Leaves.{ReadsOn}
-use Rattle.vm_tree_rule.specs.Resident.{IsKnownNow}
+use Rattle.vm_core.specs.Prelude.{LOCKED, MAX_VERSION, version_of, word_of}
+use Rattle.vm_rule.specs.Prelude.{bundle_count, HoldsNoPage, index_of}
+use Rattle.vm_rule.specs.declared.view.Place.TheVariants as places
+use Rattle.vm_rule.proofs.WordFacts.{version-within}
+use Rattle.vm_step.specs.Prelude.{Did, IsAlone, KnowsUnheld, LocksNone, Origin, View}
 use Rattle.vm_step.proofs.Alone.{still-alone}
 use Rattle.vm_exmap.specs.Frames.{MovesFrames}
-use Rattle.vm_tree_laws.specs.Tied.{Tied}
-use Rattle.vm_guard.specs.declared.deny.Deny.{Deny}
+use Rattle.vm_guard.specs.{declared.deny.Deny.Deny, declared.exclusive.ExclusiveGuard.ExclusiveGuard, declared.opt.OptGuard.OptGuard}
+use Rattle.vm_guard.specs.{Denied.AgainOrWorn, Denied.SameOrUnlocked, Guards.IsLocked}
 use Rattle.vm_guard.specs.declared.deny.Deny.TheVariants as denies
-use Rattle.vm_guard.specs.declared.exclusive.ExclusiveGuard.{ExclusiveGuard}
-use Rattle.vm_guard.specs.declared.opt.OptGuard.{OptGuard}
-use Rattle.vm_guard.specs.Guards.{IsLocked}
-use Rattle.vm_guard.specs.Denied.{AgainOrWorn, SameOrUnlocked}
-use Rattle.vm_guard.specs.Sure.{IsUnlockedWord, IsKnownFree, MayBeTried, known_next, known_word}
+use Rattle.vm_guard.specs.Sure.{IsKnownFree, IsUnlockedWord, known_next, known_word, MayBeTried}
+use Rattle.vm_tree_laws.specs.Tied.{Tied}
+use Rattle.vm_tree_rule.specs.{Leaves.ReadsOn, Resident.IsKnownNow}
 use Rattle.vm_tree_write.specs.Prepares.{AreLocked, KnowsBoth, KnowsToSplit}
 use Rattle.vm_tree_write.specs.Writes.{SaysWorn}
 

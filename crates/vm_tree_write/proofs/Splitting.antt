@@ -1,28 +1,20 @@
 -- Three pages that are held get their new drafts one after the other, and are released together.
-use Rattle.std.proofs.Common.{ℕ, Bool, true, ◌≡◌, ◌≢◌, ◌<◌, List, [], ◌∷◌, Some, None, length, refl, sym, ap, subst, ◌∙◌, ◌⊎◌, inl, inr, arith, slice_index, replicate, ⊎_elim}
+use Rattle.std.proofs.Common.{[], ⊎_elim, ◌<◌, ◌∙◌, ◌∷◌, ◌≡◌, ◌≢◌, ◌⊎◌, ap, arith, Bool, inl, inr, length, List, None, refl, replicate, slice_index}
+use Rattle.std.proofs.Common.{Some, subst, sym, true, ℕ}
 use Rattle.std.proofs.lemmas.Bool.{cases_eq}
-use Rattle.vm_core.specs.declared.event.Seat.{Seat}
-use Rattle.vm_core.specs.History.{Version}
 use Rattle.vm_map.specs.declared.call.Said.{Said}
-use Rattle.vm_owner.specs.Numbers.{has, AreApart}
-use Rattle.vm_rule.specs.declared.view.Origin.{Origin}
-use Rattle.vm_rule.specs.declared.view.Held.{Held}
-use Rattle.vm_rule.specs.declared.view.View.{View}
-use Rattle.vm_rule.specs.Views.{draft_of, seat_of}
-use Rattle.vm_rule.specs.Reading.{last_of}
-use Rattle.vm_rule.specs.Rule.{began_of}
-use Rattle.vm_rule.specs.Releases.{change_of, changes_of, without_all}
-use Rattle.vm_rule.proofs.Entries.{append-none}
-use Rattle.vm_step.specs.Asides.{HoldsPage, KnowsAsBefore}
-use Rattle.vm_step.specs.Conditions.{IsClaimed}
-use Rattle.vm_step.proofs.Asides.{holds-then, starts-then}
-use Rattle.vm_guard.specs.declared.exclusive.ExclusiveGuard.{ExclusiveGuard}
-use Rattle.vm_guard.specs.Groups.{AreReleased, MayReleaseAll, next_after_all, pids_of}
-use Rattle.vm_guard.specs.Guards.{IsHolding}
-use Rattle.vm_guard.proofs.Groups.{lacks}
-use Rattle.vm_tree_model.specs.Edits.{AddsPair, IsSplit, child_of}
+use Rattle.vm_tree_model.specs.Edits.{AddsPair, child_of, IsSplit}
 use Rattle.vm_tree_model.specs.Node.{Covers}
-use Rattle.vm_tree_model.specs.Page.{node_of, pairs_of, IsInner}
+use Rattle.vm_tree_model.specs.Page.{IsInner, node_of, pairs_of}
+use Rattle.vm_core.specs.Prelude.{Version}
+use Rattle.vm_rule.specs.Prelude.{AreApart, began_of, change_of, changes_of, draft_of, has, last_of, Seat, seat_of, without_all}
+use Rattle.vm_rule.specs.declared.view.Held.{Held}
+use Rattle.vm_rule.proofs.Entries.{append-none}
+use Rattle.vm_step.specs.Prelude.{HoldsPage, IsClaimed, KnowsAsBefore, Origin, View}
+use Rattle.vm_step.proofs.Asides.{holds-then, starts-then}
+use Rattle.vm_guard.specs.{declared.exclusive.ExclusiveGuard.ExclusiveGuard, Guards.IsHolding}
+use Rattle.vm_guard.specs.Groups.{AreReleased, MayReleaseAll, next_after_all, pids_of}
+use Rattle.vm_guard.proofs.Groups.{lacks}
 use Rattle.vm_tree_laws.specs.May.{MayRelease}
 use Rattle.vm_tree_laws.proofs.Established.{may_split}
 use Rattle.vm_tree_write.specs.Drafts.{IsRedrafted}

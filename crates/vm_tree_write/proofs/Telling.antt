@@ -1,38 +1,29 @@
 -- Why a write gave no reply.
-use Rattle.std.proofs.Common.{ℕ, ◌≡◌, ◌+◌, ◌⊎◌, inl, inr, Option, true, List, ◌++◌, Some, None, length, refl, sym, ap, subst, ◌∙◌}
-use Rattle.vm_map.specs.Map.{Rises, lookup_at, del_pair}
-use Rattle.vm_map.specs.declared.call.Call.TheVariants.{Put, Del}
-use Rattle.vm_map.specs.declared.call.Reply.{Reply}
-use Rattle.vm_map.specs.declared.call.Reply.TheVariants.{Was, Gone}
-use Rattle.vm_map.specs.declared.call.Said.{Said}
-use Rattle.vm_map.specs.declared.window.TheConstants.{MOST_PAIRS}
-use Rattle.vm_rule.specs.declared.view.Origin.{Origin}
-use Rattle.vm_rule.specs.declared.view.View.{View}
-use Rattle.vm_rule.specs.Views.{loads_at}
-use Rattle.vm_rule.specs.Reading.{last_of}
-use Rattle.vm_step.specs.Evidence.{NoneExpected, UnlockedExpected}
+use Rattle.std.proofs.Common.{◌++◌, ◌+◌, ◌∙◌, ◌≡◌, ◌⊎◌, ap, inl, inr, length, List, None, Option, refl, Some, subst, sym, true, ℕ}
+use Rattle.vm_map.specs.{declared.call.Call.TheVariants.Del, declared.call.Call.TheVariants.Put, declared.call.Reply.Reply}
+use Rattle.vm_map.specs.{declared.call.Reply.TheVariants.Gone, declared.call.Reply.TheVariants.Was, declared.call.Said.Said}
+use Rattle.vm_map.specs.{declared.window.TheConstants.MOST_PAIRS}
+use Rattle.vm_map.specs.Map.{del_pair, lookup_at, Rises}
+use Rattle.vm_tree_model.specs.Edits.{IsFullFor, IsLeafWith, PutsInLeaf}
+use Rattle.vm_tree_model.specs.Node.{Covers}
+use Rattle.vm_tree_model.specs.Page.{IsLeaf, node_of, pairs_of}
+use Rattle.vm_rule.specs.Prelude.{last_of, loads_at}
+use Rattle.vm_step.specs.Prelude.{NoneExpected, Origin, UnlockedExpected, View}
 use Rattle.vm_step.specs.declared.saw.Saw.{Saw}
 use Rattle.vm_guard.specs.declared.deny.Deny.{Deny}
 use Rattle.vm_guard.specs.declared.deny.Deny.TheVariants as denies
 use Rattle.vm_guard.specs.Denied.{AgainOrNeed, AgainOrWorn, IsDenied, KeptWord}
 use Rattle.vm_guard.specs.Guards.{IsReading, IsValid, placed}
-use Rattle.vm_tree_model.specs.Edits.{IsFullFor, IsLeafWith, PutsInLeaf}
-use Rattle.vm_tree_model.specs.Node.{Covers}
-use Rattle.vm_tree_model.specs.Page.{node_of, pairs_of, IsLeaf}
-use Rattle.vm_tree_laws.specs.May.{IsEdit}
-use Rattle.vm_tree_laws.specs.Tied.{Tied}
-use Rattle.vm_tree_rule.specs.Leaves.{ReadsOn}
-use Rattle.vm_tree_rule.specs.Seeks.{HasRead}
-use Rattle.vm_tree_rule.specs.Standing.{Awaits, IsOpened}
+use Rattle.vm_tree_laws.specs.{May.IsEdit, Tied.Tied}
+use Rattle.vm_tree_rule.specs.{Leaves.ReadsOn, Seeks.HasRead, Standing.Awaits, Standing.IsOpened, Turns.IsTurnedBack}
 use Rattle.vm_tree_rule.specs.declared.turn.Turn.TheVariants as turns
-use Rattle.vm_tree_rule.specs.Turns.{IsTurnedBack}
-use Rattle.vm_tree_rule.proofs.Readings.{denied-reads, reads-then, valid-reads}
 use Rattle.vm_tree_rule.proofs.Entering.{opened-reads}
+use Rattle.vm_tree_rule.proofs.Readings.{denied-reads, reads-then, valid-reads}
+use Rattle.vm_tree_read.specs.Reads.{IsAnswered}
 use Rattle.vm_tree_read.proofs.Answering.{answered-later, words-are}
+use Rattle.vm_tree_write.specs.Writes.{IsFullLeaf, IsTight, IsVain, IsWornLeaf, IsWriteDone, IsWriteToTry}
 use Rattle.vm_tree_write.proofs.Backing.{shown-refused, shown-unlocked, shown-wider}
 use Rattle.vm_tree_write.proofs.Writing.{leaf-is, written-later}
-use Rattle.vm_tree_read.specs.Reads.{IsAnswered}
-use Rattle.vm_tree_write.specs.Writes.{IsFullLeaf, IsTight, IsWriteToTry, IsVain, IsWornLeaf, IsWriteDone}
 
 pub not-read : (key : ℕ) (saw : Saw) (v w : View Said) → IsTurnedBack v key (turns.Again saw) w → ReadsOn v w × IsWriteToTry v key saw w
 not-read key saw v w a = (a.0, inl (shown-wider saw v w a.1))

@@ -1,37 +1,28 @@
 -- The answer of a try of a split has its cause.
-use Rattle.std.proofs.Common.{ℕ, ◌≡◌, ◌≢◌, List, [], None, sym, ap, subst, ◌∙◌, ◌⊎◌, inl, inr, ⊎_elim}
+use Rattle.std.proofs.Common.{[], ⊎_elim, ◌∙◌, ◌≡◌, ◌≢◌, ◌⊎◌, ap, inl, inr, List, None, subst, sym, ℕ}
 use Rattle.vm_map.specs.declared.call.Said.{Said}
-use Rattle.vm_rule.specs.declared.view.View.{View}
-use Rattle.vm_rule.specs.Views.{StartsWith}
+use Rattle.vm_rule.specs.Prelude.{StartsWith}
 use Rattle.vm_rule.proofs.Entries.{append-none}
+use Rattle.vm_step.specs.Prelude.{NoneExpected, View}
 use Rattle.vm_step.specs.declared.saw.Saw.{Saw}
-use Rattle.vm_step.specs.Evidence.{NoneExpected}
 use Rattle.vm_exmap.specs.declared.interface.Alloc.{Alloc}
 use Rattle.vm_exmap.specs.declared.interface.Alloc.TheVariants as allocs
-use Rattle.vm_guard.specs.declared.deny.Deny.{Deny}
+use Rattle.vm_guard.specs.{declared.deny.Deny.Deny, declared.given.Fresh.Fresh, declared.opt.OptGuard.OptGuard, Guards.IsValid}
 use Rattle.vm_guard.specs.declared.deny.Deny.TheVariants as denies
-use Rattle.vm_guard.specs.declared.given.Fresh.{Fresh}
 use Rattle.vm_guard.specs.declared.given.Fresh.TheVariants as freshes
-use Rattle.vm_guard.specs.declared.opt.OptGuard.{OptGuard}
 use Rattle.vm_guard.specs.Denied.{AgainOrNeed, IsDenied, KeptWord}
-use Rattle.vm_guard.specs.Guards.{IsValid}
 use Rattle.vm_tree_laws.specs.Tied.{Tied}
-use Rattle.vm_tree_rule.specs.declared.turn.Turn.{Turn}
+use Rattle.vm_tree_rule.specs.{declared.turn.Turn.Turn, Leaves.ReadsOn, Standing.IsOpened, Turns.IsTurnedBack}
 use Rattle.vm_tree_rule.specs.declared.turn.Turn.TheVariants as turns
-use Rattle.vm_tree_rule.specs.Leaves.{ReadsOn}
-use Rattle.vm_tree_rule.specs.Seeks.{IsFullBelow, IsRootFull, IsRoomy}
-use Rattle.vm_tree_rule.specs.Standing.{IsOpened}
-use Rattle.vm_tree_rule.specs.Turns.{IsTurnedBack}
+use Rattle.vm_tree_rule.specs.Seeks.{IsFullBelow, IsRoomy, IsRootFull}
 use Rattle.vm_tree_rule.proofs.Entering.{opened-reads}
 use Rattle.vm_tree_rule.proofs.Readings.{denied-reads, reads-then, valid-reads}
-use Rattle.vm_tree_write.proofs.Backing.{backed-lock, backed-pages, backed-short, backed-shown, shown-refused, shown-wider}
-use Rattle.vm_tree_write.specs.Prepares.{IsNotLocked, IsRefusedPages, IsShort, SaysDenied, SaysRefused, SaysShort}
-use Rattle.vm_tree_write.specs.Splits.{KeepsLocksOnly}
-use Rattle.vm_tree_write.specs.Tries.{IsBackedBy, IsCause, IsEnded, IsEndOf, IsTrySplit, IsUnsplit}
-use Rattle.vm_tree_write.specs.Tries.IsEnded.{root, below}
-use Rattle.vm_tree_write.specs.Tries.IsUnsplit.{short, unclaimed, unlocked}
-use Rattle.vm_tree_write.specs.declared.tries.TrySplit.{TrySplit}
+use Rattle.vm_tree_write.specs.{declared.tries.TrySplit.TrySplit, Splits.KeepsLocksOnly, Tries.IsEnded.below, Tries.IsEnded.root}
 use Rattle.vm_tree_write.specs.declared.tries.TrySplit.TheVariants as tries
+use Rattle.vm_tree_write.specs.Prepares.{IsNotLocked, IsRefusedPages, IsShort, SaysDenied, SaysRefused, SaysShort}
+use Rattle.vm_tree_write.specs.Tries.{IsBackedBy, IsCause, IsEnded, IsEndOf, IsTrySplit, IsUnsplit}
+use Rattle.vm_tree_write.specs.Tries.IsUnsplit.{short, unclaimed, unlocked}
+use Rattle.vm_tree_write.proofs.Backing.{backed-lock, backed-pages, backed-short, backed-shown, shown-refused, shown-wider}
 use Rattle.vm_tree_write.proofs.Framing.{keeps-then}
 
 pub reads-keep : (v w : View Said) → ReadsOn v w → KeepsLocksOnly v w

@@ -1,37 +1,21 @@
 -- A full node below its parent: what the search read of both is what the locks prove of them, and a fresh page stands beside them.
-use Rattle.std.proofs.Common.{ℕ, Bool, true, false, ◌≡◌, ◌≢◌, ◌+◌, ◌<◌, List, [], ◌∷◌, ◌++◌, length, suc, refl, sym, ap, subst, ◌∙◌, inl, arith, slice_index}
+use Rattle.std.proofs.Common.{[], ◌++◌, ◌+◌, ◌<◌, ◌∙◌, ◌∷◌, ◌≡◌, ◌≢◌, ap, arith, Bool, false, inl, length, List, refl, slice_index, subst, suc, sym}
+use Rattle.std.proofs.Common.{true, ℕ}
 use Rattle.std.proofs.lemmas.List.{length-append}
-use Rattle.vm_core.specs.declared.event.Seat.{Seat}
-use Rattle.vm_core.specs.History.{Version}
-use Rattle.vm_core.specs.Start.{no_seat}
-use Rattle.vm_core.specs.Words.{version_of}
 use Rattle.vm_map.specs.declared.call.Said.{Said}
-use Rattle.vm_owner.specs.Numbers.{has}
-use Rattle.vm_rule.specs.declared.view.Did.{Did}
+use Rattle.vm_tree_model.specs.{Node.Covers, Page.IsInner, Page.node_of}
+use Rattle.vm_core.specs.Prelude.{no_seat, Version, version_of}
+use Rattle.vm_rule.specs.Prelude.{began_of, draft_of, Each, has, last_of, no_held, numbers, put_at, Seat, seat_of, StartsWith}
 use Rattle.vm_rule.specs.declared.view.Held.{Held}
-use Rattle.vm_rule.specs.declared.view.Origin.{Origin}
-use Rattle.vm_rule.specs.declared.view.Release.{Release}
-use Rattle.vm_rule.specs.declared.view.Tie.{Tie}
-use Rattle.vm_rule.specs.declared.view.View.{View}
-use Rattle.vm_rule.specs.Puts.{put_at}
-use Rattle.vm_rule.specs.Views.{Each, StartsWith, draft_of, numbers, seat_of}
-use Rattle.vm_rule.specs.Reading.{last_of}
-use Rattle.vm_rule.specs.Rule.{began_of, no_held}
 use Rattle.vm_rule.proofs.Entries.{append-none}
-use Rattle.vm_step.specs.Asides.{HoldsPage, KnowsAsBefore}
+use Rattle.vm_step.specs.Prelude.{Did, HoldsPage, KnowsAsBefore, Origin, Release, Tie, View}
 use Rattle.vm_step.proofs.Asides.{holds-then, starts-then}
-use Rattle.vm_guard.specs.declared.exclusive.ExclusiveGuard.{ExclusiveGuard}
-use Rattle.vm_guard.specs.Fresh.{AreFresh, IsAmid}
-use Rattle.vm_guard.specs.Groups.{pids_of}
+use Rattle.vm_exmap.specs.Frames.{MovesFrames}
+use Rattle.vm_guard.specs.{declared.exclusive.ExclusiveGuard.ExclusiveGuard, Fresh.AreFresh, Fresh.IsAmid, Groups.pids_of}
 use Rattle.vm_guard.specs.Guards.{IsElsewhere, IsHolding, IsLocked, IsReading}
 use Rattle.vm_guard.proofs.Reading.{reading-kept}
-use Rattle.vm_exmap.specs.Frames.{MovesFrames}
-use Rattle.vm_tree_model.specs.Node.{Covers}
-use Rattle.vm_tree_model.specs.Page.{node_of, IsInner}
-use Rattle.vm_tree_laws.specs.Tied.{Tied}
-use Rattle.vm_tree_laws.specs.Descent.{IsReached}
-use Rattle.vm_tree_rule.specs.Seeks.{HasRead}
-use Rattle.vm_tree_rule.specs.Standing.{Awaits, tree_pages}
+use Rattle.vm_tree_laws.specs.{Descent.IsReached, Tied.Tied}
+use Rattle.vm_tree_rule.specs.{Seeks.HasRead, Standing.Awaits, Standing.tree_pages}
 use Rattle.vm_tree_rule.proofs.Downward.{inner-here}
 use Rattle.vm_tree_read.proofs.Answering.{words-are}
 use Rattle.vm_tree_write.specs.Splits.{HasDraft, IsGroupDone}

@@ -1,45 +1,29 @@
 -- A leaf is locked, written and released: the call is answered there.
-use Rattle.std.proofs.Common.{ℕ, Bool, true, ◌≡◌, ◌≢◌, ◌+◌, ◌≤◌, List, [], ◌∷◌, ◌++◌, Some, None, length, refl, sym, ap, subst, ◌∙◌, ◌⊎◌, inl, inr, arith, slice_index, append_assoc, replicate, ⊎_elim}
+use Rattle.std.proofs.Common.{[], ⊎_elim, ◌++◌, ◌+◌, ◌∙◌, ◌∷◌, ◌≡◌, ◌≢◌, ◌≤◌, ◌⊎◌, ap, append_assoc, arith, Bool, inl, inr, length, List, None, refl}
+use Rattle.std.proofs.Common.{replicate, slice_index, Some, subst, sym, true, ℕ}
 use Rattle.std.proofs.lemmas.Bool.{cases_eq}
 use Rattle.std.proofs.lemmas.List.{append_cancel_left}
-use Rattle.vm_core.specs.Words.{state_of, version_of, word_of, LOCKED, UNLOCKED}
 use Rattle.vm_map.specs.declared.call.Said.{Said}
-use Rattle.vm_owner.specs.declared.Entry.{Entry}
-use Rattle.vm_owner.specs.Kept.{AreUnchanged, entries_under}
+use Rattle.vm_tree_model.specs.Page.{IsFree, IsInner, IsLeaf, node_of}
+use Rattle.vm_tree_model.specs.Tree.{map_of}
+use Rattle.vm_core.specs.Prelude.{LOCKED, state_of, UNLOCKED, version_of, word_of}
 use Rattle.vm_owner.proofs.NumberLemmas.{without-none}
-use Rattle.vm_rule.specs.declared.view.Did.{Did}
-use Rattle.vm_rule.specs.declared.view.Origin.{Origin}
+use Rattle.vm_rule.specs.Prelude.{AreUnchanged, began_of, change_of, draft_of, Each, entries_under, Entry, entry_of, IsLocking, IsUnheld, last_of}
+use Rattle.vm_rule.specs.Prelude.{loads_at, next_after, Seat, seat_of}
 use Rattle.vm_rule.specs.declared.view.Place.{Place}
 use Rattle.vm_rule.specs.declared.view.Place.TheVariants as places
-use Rattle.vm_core.specs.declared.event.Seat.{Seat}
-use Rattle.vm_rule.specs.declared.view.View.{View}
-use Rattle.vm_rule.specs.Views.{Each, IsLocking, loads_at, draft_of, seat_of}
-use Rattle.vm_rule.proofs.Entries.{each-map}
-use Rattle.vm_rule.proofs.Heard.{each-both}
-use Rattle.vm_rule.specs.Reading.{last_of}
-use Rattle.vm_rule.specs.Rule.{began_of}
-use Rattle.vm_rule.specs.Brought.{entry_of}
-use Rattle.vm_rule.specs.Locks.{IsUnheld}
-use Rattle.vm_rule.specs.Releases.{change_of, next_after}
-use Rattle.vm_step.specs.Asides.{HoldsPage}
-use Rattle.vm_step.specs.Evidence.{HasWritten}
-use Rattle.vm_step.specs.Keeping.{IsKeptNow}
-use Rattle.vm_step.proofs.Asides.{starts-then, whole-then}
-use Rattle.vm_step.proofs.Evidenced.{next-stays}
-use Rattle.vm_tree_model.specs.Page.{node_of, IsLeaf, IsInner, IsFree}
-use Rattle.vm_tree_model.specs.Tree.{map_of}
-use Rattle.vm_tree_laws.specs.History.{IsLegal}
-use Rattle.vm_tree_laws.specs.Keeps.{KeepsTree}
-use Rattle.vm_tree_laws.specs.May.{IsEdit, MayRelease}
-use Rattle.vm_tree_laws.specs.Tied.{IsSound, Tied}
+use Rattle.vm_rule.proofs.{Entries.each-map, Heard.each-both}
+use Rattle.vm_step.specs.Prelude.{Did, HasWritten, HoldsPage, IsKeptNow, Origin, View}
+use Rattle.vm_step.proofs.{Asides.starts-then, Asides.whole-then, Evidenced.next-stays}
 use Rattle.vm_guard.specs.Guards.{IsElsewhere, IsLocked, IsReading, IsReleased, placed}
 use Rattle.vm_guard.proofs.QuietSteps.{elsewhere-then}
+use Rattle.vm_tree_laws.specs.{History.IsLegal, Keeps.KeepsTree, May.IsEdit, May.MayRelease, Tied.IsSound, Tied.Tied}
 use Rattle.vm_tree_rule.specs.Leaves.{ReadsOn}
 use Rattle.vm_tree_rule.proofs.Readings.{reads-self, reads-then}
 use Rattle.vm_tree_read.proofs.Answering.{words-are}
-use Rattle.vm_tree_write.proofs.Drafting.{Stores}
 use Rattle.vm_tree_write.specs.Drafts.{IsRedrafted, SetsDiffering}
 use Rattle.vm_tree_write.specs.Writes.{IsBorneOutBy, IsWriteDone, OnlyWrites}
+use Rattle.vm_tree_write.proofs.Drafting.{Stores}
 
 -- a page of the tree with a leaf's tag is a leaf
 pub leaf-is : (pages p : ℕ) (words : List ℕ) → IsSound pages p words → (node_of words).tag ≡ 2 → IsLeaf words

@@ -1,14 +1,9 @@
 -- What setting words of a draft leaves of the view.
-use Rattle.std.specs.Prelude.{ℕ, List, [], Some, ◌++◌, ◌≡◌, ◌≢◌, slice_index}
-use Rattle.vm_rule.specs.declared.view.Did.{Did}
+use Rattle.std.specs.Prelude.{[], ◌++◌, ◌≡◌, ◌≢◌, List, slice_index, Some, ℕ}
+use Rattle.vm_rule.specs.Prelude.{Each, last_of}
 use Rattle.vm_rule.specs.declared.view.Place.TheVariants as places
-use Rattle.vm_rule.specs.declared.view.View.{View}
-use Rattle.vm_rule.specs.Views.{Each}
-use Rattle.vm_rule.specs.Reading.{last_of}
-use Rattle.vm_step.specs.Asides.{HoldsPage, ReadsAsBefore, StaysAlone}
-use Rattle.vm_step.specs.Alone.{IsAlone}
-use Rattle.vm_guard.specs.Guards.{IsElsewhere}
-use Rattle.vm_guard.specs.Sure.{KnowsStates, known_next}
+use Rattle.vm_step.specs.Prelude.{Did, HoldsPage, IsAlone, ReadsAsBefore, StaysAlone, View}
+use Rattle.vm_guard.specs.{Guards.IsElsewhere, Sure.known_next, Sure.KnowsStates}
 
 module _ {X : Type 0} where
   -- words of the draft of page p, which the pass holds, were set; its last words are as they were

@@ -1,28 +1,17 @@
 -- What a split has taken before it writes: frames, two pages that are locked at the versions read, and fresh pages; and what is left where one of
 -- these is refused.
-use Rattle.std.specs.Prelude.{ℕ, Bool, List, None, ◌≡◌, ◌<◌, length}
-use Rattle.vm_core.specs.Words.{version_of}
+use Rattle.std.specs.Prelude.{◌<◌, ◌≡◌, Bool, length, List, None, ℕ}
 use Rattle.vm_map.specs.declared.call.Said.{Said}
-use Rattle.vm_rule.specs.declared.view.Did.{Did}
-use Rattle.vm_rule.specs.declared.view.View.{View}
-use Rattle.vm_rule.specs.Views.{numbers}
-use Rattle.vm_rule.specs.Joins.{HoldsNoPage}
-use Rattle.vm_step.specs.Alone.{IsAlone, KnowsUnheld}
-use Rattle.vm_step.specs.Evidence.{UnlockedExpected}
-use Rattle.vm_exmap.specs.declared.interface.Alloc.{Alloc}
+use Rattle.vm_core.specs.Prelude.{version_of}
+use Rattle.vm_rule.specs.Prelude.{HoldsNoPage, numbers}
+use Rattle.vm_step.specs.Prelude.{Did, IsAlone, KnowsUnheld, UnlockedExpected, View}
+use Rattle.vm_exmap.specs.{declared.interface.Alloc.Alloc, Frames.MovesFrames, Returns.IsFreed, Walks.IsAlloc}
 use Rattle.vm_exmap.specs.declared.interface.Alloc.TheVariants as allocs
-use Rattle.vm_exmap.specs.Frames.{MovesFrames}
-use Rattle.vm_exmap.specs.Returns.{IsFreed}
-use Rattle.vm_exmap.specs.Walks.{IsAlloc}
-use Rattle.vm_guard.specs.declared.deny.Deny.{Deny}
+use Rattle.vm_guard.specs.{declared.deny.Deny.Deny, declared.exclusive.ExclusiveGuard.ExclusiveGuard, declared.given.Fresh.Fresh}
+use Rattle.vm_guard.specs.{declared.opt.OptGuard.OptGuard, Fresh.AreFresh, Fresh.IsFreshAnswer, Guards.IsLocked, Guards.IsReleased}
 use Rattle.vm_guard.specs.declared.deny.Deny.TheVariants as denies
-use Rattle.vm_guard.specs.declared.exclusive.ExclusiveGuard.{ExclusiveGuard}
-use Rattle.vm_guard.specs.declared.opt.OptGuard.{OptGuard}
-use Rattle.vm_guard.specs.declared.given.Fresh.{Fresh}
 use Rattle.vm_guard.specs.declared.given.Fresh.TheVariants as freshes
 use Rattle.vm_guard.specs.Denied.{AgainOrWorn, IsDenied, KeptWord}
-use Rattle.vm_guard.specs.Fresh.{AreFresh, IsFreshAnswer}
-use Rattle.vm_guard.specs.Guards.{IsLocked, IsReleased}
 use Rattle.vm_guard.specs.Sure.{IsUnlockedWord, known_next, known_word}
 use Rattle.vm_tree_laws.specs.Tied.{Tied}
 use Rattle.vm_tree_write.specs.declared.tries.TrySplit.{TrySplit}

@@ -1,20 +1,13 @@
 -- What a split of a full node does: its pages are locked, written and released together.
-use Rattle.std.specs.Prelude.{ℕ, true, false, Some, None, List, [], ◌∷◌, ◌≡◌, ◌≢◌, ◌<◌, ◌⊎◌, length, replicate, slice_index}
-use Rattle.vm_page.specs.declared.buf.TheConstants.{WORDS}
-use Rattle.vm_owner.specs.Numbers.{AreApart, has}
-use Rattle.vm_map.specs.declared.call.Said.{Said}
-use Rattle.vm_map.specs.declared.window.TheConstants.{MOST_PAIRS}
-use Rattle.vm_rule.specs.declared.view.View.{View}
-use Rattle.vm_rule.specs.Views.{StartsWith, draft_of, seat_of}
-use Rattle.vm_rule.specs.Reading.{last_of}
-use Rattle.vm_rule.specs.Rule.{began_of}
-use Rattle.vm_rule.specs.Releases.{changes_of, without_all}
-use Rattle.vm_step.specs.Asides.{HoldsPage}
+use Rattle.std.specs.Prelude.{[], ◌<◌, ◌∷◌, ◌≡◌, ◌≢◌, ◌⊎◌, false, length, List, None, replicate, slice_index, Some, true, ℕ}
+use Rattle.vm_map.specs.{declared.call.Said.Said, declared.window.TheConstants.MOST_PAIRS}
+use Rattle.vm_tree_model.specs.{Edits.child_of, Node.Covers}
+use Rattle.vm_tree_model.specs.Page.{IsInner, node_of, pairs_of}
+use Rattle.vm_core.specs.Prelude.{WORDS}
+use Rattle.vm_rule.specs.Prelude.{AreApart, began_of, changes_of, draft_of, has, last_of, seat_of, StartsWith, without_all}
+use Rattle.vm_step.specs.Prelude.{HoldsPage, View}
 use Rattle.vm_guard.specs.declared.exclusive.ExclusiveGuard.{ExclusiveGuard}
-use Rattle.vm_guard.specs.Groups.{GuardsHeld, AreReleased, pids_of}
-use Rattle.vm_tree_model.specs.Edits.{child_of}
-use Rattle.vm_tree_model.specs.Node.{Covers}
-use Rattle.vm_tree_model.specs.Page.{node_of, pairs_of, IsInner}
+use Rattle.vm_guard.specs.Groups.{AreReleased, GuardsHeld, pids_of}
 use Rattle.vm_tree_laws.specs.May.{MayRelease}
 
 module _ {X : Type 0} where

@@ -1,27 +1,17 @@
 -- What a try of a split answers: the group was released, or nothing was split, with the evidence of the step that ended it.
-use Rattle.std.specs.Prelude.{ℕ, None, List, ◌∷◌, ◌++◌, ◌≡◌, ◌⊎◌}
+use Rattle.std.specs.Prelude.{◌++◌, ◌∷◌, ◌≡◌, ◌⊎◌, List, None, ℕ}
 use Rattle.vm_map.specs.declared.call.Said.{Said}
-use Rattle.vm_rule.specs.declared.view.View.{View}
+use Rattle.vm_step.specs.Prelude.{Did, UnlockedExpected, View}
 use Rattle.vm_step.specs.declared.saw.Saw.{Saw}
-use Rattle.vm_step.specs.Evidence.{UnlockedExpected}
-use Rattle.vm_rule.specs.declared.view.Did.{Did}
-use Rattle.vm_exmap.specs.declared.interface.Alloc.{Alloc}
-use Rattle.vm_exmap.specs.Frames.{MovesFrames}
-use Rattle.vm_guard.specs.declared.deny.Deny.{Deny}
-use Rattle.vm_guard.specs.declared.exclusive.ExclusiveGuard.{ExclusiveGuard}
-use Rattle.vm_guard.specs.declared.given.Fresh.{Fresh}
-use Rattle.vm_guard.specs.declared.opt.OptGuard.{OptGuard}
-use Rattle.vm_guard.specs.Groups.{pids_of}
-use Rattle.vm_guard.specs.Guards.{IsValid}
+use Rattle.vm_exmap.specs.{declared.interface.Alloc.Alloc, Frames.MovesFrames}
+use Rattle.vm_guard.specs.{declared.deny.Deny.Deny, declared.exclusive.ExclusiveGuard.ExclusiveGuard, declared.given.Fresh.Fresh}
+use Rattle.vm_guard.specs.{declared.opt.OptGuard.OptGuard, Groups.pids_of, Guards.IsValid}
 use Rattle.vm_tree_laws.specs.Tied.{Tied}
-use Rattle.vm_tree_rule.specs.Leaves.{ReadsOn}
+use Rattle.vm_tree_rule.specs.{Leaves.ReadsOn, Shown.IsAgain, Shown.IsSeen, Turns.IsAstray, Turns.IsNeeded}
 use Rattle.vm_tree_rule.specs.Seeks.{IsFullBelow, IsRoomy, IsRootFull}
-use Rattle.vm_tree_rule.specs.Shown.{IsAgain, IsSeen}
-use Rattle.vm_tree_rule.specs.Turns.{IsAstray, IsNeeded}
-use Rattle.vm_tree_write.specs.Prepares.{IsNotLocked, IsPrepared, IsRefusedPages, IsShort, SaysDenied, SaysRefused, SaysShort}
-use Rattle.vm_tree_write.specs.Splits.{IsSplitUp, KeepsLocksOnly}
-use Rattle.vm_tree_write.specs.declared.tries.TrySplit.{TrySplit}
+use Rattle.vm_tree_write.specs.{declared.tries.TrySplit.TrySplit, Splits.IsSplitUp, Splits.KeepsLocksOnly}
 use Rattle.vm_tree_write.specs.declared.tries.TrySplit.TheVariants as tries
+use Rattle.vm_tree_write.specs.Prepares.{IsNotLocked, IsPrepared, IsRefusedPages, IsShort, SaysDenied, SaysRefused, SaysShort}
 
 -- the pages were prepared, and then released in a group, which splits the second one; what frames were left went back
 pub record HasSplit (n : ℕ) (first second : OptGuard) (v w : View Said) : Type 0 where

@@ -1,27 +1,18 @@
 -- What a write answers that waits: tries, pages brought and nodes split in between, until a try is answered or can't be.
-use Rattle.std.specs.Prelude.{ℕ, true, List, [], ◌∷◌, ◌++◌, ◌≡◌, ◌⊎◌}
+use Rattle.std.specs.Prelude.{[], ◌++◌, ◌∷◌, ◌≡◌, ◌⊎◌, List, true, ℕ}
 use Rattle.vm_map.specs.declared.call.Said.{Said}
-use Rattle.vm_owner.specs.declared.Entry.{Entry}
-use Rattle.vm_rule.specs.declared.view.View.{View}
-use Rattle.vm_rule.specs.Brought.{entry_of}
-use Rattle.vm_rule.specs.Views.{StartsWith}
 use Rattle.vm_tree_model.specs.Tree.{map_of}
-use Rattle.vm_tree_laws.specs.History.{IsLegal}
-use Rattle.vm_step.specs.Asides.{HoldsPage}
-use Rattle.vm_tree_rule.specs.declared.fault.TreeFault.{TreeFault}
-use Rattle.vm_tree_rule.specs.declared.fault.TreeFault.TheVariants as faults
-use Rattle.vm_tree_rule.specs.Leaves.{ReadsOn}
-use Rattle.vm_tree_rule.specs.Turns.{IsNeeded}
-use Rattle.vm_tree_read.specs.Reads.{IsAnswered}
-use Rattle.vm_tree_read.specs.Waiting.{IsBringFault}
+use Rattle.vm_rule.specs.Prelude.{Entry, entry_of, StartsWith}
+use Rattle.vm_step.specs.Prelude.{HoldsPage, View}
 use Rattle.vm_evict.specs.declared.report.Report.{Report}
-use Rattle.vm_pool.specs.declared.bring.Bring.{Bring}
+use Rattle.vm_pool.specs.{Brings.SaysDry, declared.bring.Bring.Bring, Sweeps.IsSwept}
 use Rattle.vm_pool.specs.declared.bring.Bring.TheVariants as brings
-use Rattle.vm_pool.specs.Brings.{SaysDry}
-use Rattle.vm_pool.specs.Sweeps.{IsSwept}
+use Rattle.vm_tree_laws.specs.History.{IsLegal}
+use Rattle.vm_tree_rule.specs.{declared.fault.TreeFault.TreeFault, Leaves.ReadsOn, Turns.IsNeeded}
+use Rattle.vm_tree_rule.specs.declared.fault.TreeFault.TheVariants as faults
+use Rattle.vm_tree_read.specs.{Reads.IsAnswered, Waiting.IsBringFault}
+use Rattle.vm_tree_write.specs.{Splits.KeepsLocksOnly, Tries.IsEnded}
 use Rattle.vm_tree_write.specs.declared.tries.TrySplit.TheVariants as splits
-use Rattle.vm_tree_write.specs.Splits.{KeepsLocksOnly}
-use Rattle.vm_tree_write.specs.Tries.{IsEnded}
 use Rattle.vm_tree_write.specs.Writes.{IsTight, IsVain, IsWornLeaf, IsWriteDone}
 
 -- the fault that a sweep without a free frame names

@@ -1,41 +1,19 @@
 -- What a write of the tree answers: the reply at the release of the leaf, or why it is to be tried again.
-use Rattle.std.specs.Prelude.{ℕ, true, Some, None, List, [], ◌∷◌, ◌++◌, ◌≡◌, ◌≢◌, ◌+◌, ◌⊎◌, length, slice_index}
-use Rattle.vm_core.specs.Words.{version_of, word_of, LOCKED}
-use Rattle.vm_map.specs.declared.call.Call.TheVariants.{Put, Del}
-use Rattle.vm_map.specs.declared.call.Reply.TheVariants.{Gone}
-use Rattle.vm_map.specs.declared.call.Said.{Said}
-use Rattle.vm_map.specs.declared.window.TheConstants.{MOST_PAIRS}
-use Rattle.vm_owner.specs.declared.Entry.{Entry}
-use Rattle.vm_owner.specs.Kept.{Kept}
-use Rattle.vm_page.specs.Pages.{page_at}
-use Rattle.vm_rule.specs.declared.view.Did.{Did}
+use Rattle.std.specs.Prelude.{[], ◌++◌, ◌+◌, ◌∷◌, ◌≡◌, ◌≢◌, ◌⊎◌, length, List, None, slice_index, Some, true, ℕ}
+use Rattle.vm_map.specs.{declared.call.Call.TheVariants.Del, declared.call.Call.TheVariants.Put, declared.call.Reply.TheVariants.Gone}
+use Rattle.vm_map.specs.{declared.call.Said.Said, declared.window.TheConstants.MOST_PAIRS}
+use Rattle.vm_tree_model.specs.{Edits.IsFullFor, Node.Covers, Tree.map_of}
+use Rattle.vm_tree_model.specs.Page.{IsLeaf, node_of, pairs_of}
+use Rattle.vm_core.specs.Prelude.{LOCKED, page_at, version_of, word_of}
+use Rattle.vm_rule.specs.Prelude.{began_of, Each, Entry, entry_of, IsLocking, IsWhole, Kept, last_of, seat_of, StartsWith}
 use Rattle.vm_rule.specs.declared.view.Place.TheVariants as places
-use Rattle.vm_rule.specs.declared.view.Tie.{Tie}
-use Rattle.vm_rule.specs.declared.view.View.{View}
-use Rattle.vm_rule.specs.Views.{StartsWith, Each, IsLocking, IsWhole, seat_of}
-use Rattle.vm_rule.specs.Reading.{last_of}
-use Rattle.vm_rule.specs.Rule.{began_of}
-use Rattle.vm_rule.specs.Brought.{entry_of}
-use Rattle.vm_step.specs.Asides.{HoldsPage, KnowsAsBefore}
+use Rattle.vm_step.specs.Prelude.{Did, HasWritten, HoldsPage, KnowsAsBefore, Tie, UnlockedExpected, View}
 use Rattle.vm_step.specs.declared.saw.Saw.{Saw}
-use Rattle.vm_step.specs.Evidence.{HasWritten, UnlockedExpected}
-use Rattle.vm_guard.specs.declared.deny.Deny.{Deny}
+use Rattle.vm_guard.specs.{declared.deny.Deny.Deny, Guards.IsReading, Guards.IsValid}
 use Rattle.vm_guard.specs.declared.deny.Deny.TheVariants as denies
 use Rattle.vm_guard.specs.Denied.{AgainOrWorn, IsDenied, KeptWord}
-use Rattle.vm_guard.specs.Guards.{IsReading, IsValid}
-use Rattle.vm_tree_model.specs.Edits.{IsFullFor}
-use Rattle.vm_tree_model.specs.Node.{Covers}
-use Rattle.vm_tree_model.specs.Page.{node_of, pairs_of, IsLeaf}
-use Rattle.vm_tree_model.specs.Tree.{map_of}
-use Rattle.vm_tree_laws.specs.History.{IsLegal}
-use Rattle.vm_tree_laws.specs.Keeps.{KeepsTree}
-use Rattle.vm_tree_laws.specs.May.{IsEdit}
-use Rattle.vm_tree_laws.specs.Tied.{Tied}
-use Rattle.vm_tree_rule.specs.Leaves.{ReadsOn}
-use Rattle.vm_tree_rule.specs.Standing.{Awaits, IsOpened}
-use Rattle.vm_tree_rule.specs.Seeks.{HasRead}
-use Rattle.vm_tree_rule.specs.Shown.{IsShown}
-use Rattle.vm_tree_rule.specs.Turns.{IsAstray, IsNeeded}
+use Rattle.vm_tree_laws.specs.{History.IsLegal, Keeps.KeepsTree, May.IsEdit, Tied.Tied}
+use Rattle.vm_tree_rule.specs.{Leaves.ReadsOn, Seeks.HasRead, Shown.IsShown, Standing.Awaits, Standing.IsOpened, Turns.IsAstray, Turns.IsNeeded}
 use Rattle.vm_tree_read.specs.Reads.{IsAnswered}
 use Rattle.vm_tree_write.specs.declared.write.TryWrite.{TryWrite}
 use Rattle.vm_tree_write.specs.declared.write.TryWrite.TheVariants as tries

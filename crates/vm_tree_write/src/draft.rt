@@ -1,9 +1,8 @@
 // The draft of a locked page becomes a page's words.
 ghost use Rattle.std.specs.Prelude.{◌≡◌, true};
+ghost use Rattle.vm_rule.specs.Prelude.{draft_of};
+ghost use Rattle.vm_step.specs.Prelude.{IsReady, IsSamePass, view};
 ghost use Rattle.vm_guard.specs.Guards.{IsHolding};
-ghost use Rattle.vm_rule.specs.Views.{draft_of};
-ghost use Rattle.vm_step.specs.Passes.{IsSamePass, view};
-ghost use Rattle.vm_step.specs.Ready.{IsReady};
 ghost use Rattle.vm_tree_write.specs.Drafts.{IsRedrafted, KnowsSameStates, SetsDiffering};
 
 use vm_block::Block;

@@ -1,13 +1,11 @@
 // The leaf is locked at the version at which it was read, written, and released with what is said.
-ghost use Rattle.std.specs.Prelude.{◌≡◌, ◌++◌, ◌≤◌, IfOk, IfErr, None, length};
+ghost use Rattle.std.specs.Prelude.{◌++◌, ◌≡◌, IfErr, IfOk, length, None};
+ghost use Rattle.vm_tree_model.specs.Page.{IsLeaf, node_of};
+ghost use Rattle.vm_rule.specs.Prelude.{loads_at};
+ghost use Rattle.vm_step.specs.Prelude.{IsReady, IsSamePass, UnlockedExpected, view};
 ghost use Rattle.vm_guard.specs.Denied.{AgainOrWorn, IsDenied, KeptWord};
 ghost use Rattle.vm_guard.specs.Guards.{IsReading, placed};
-ghost use Rattle.vm_rule.specs.Views.{loads_at};
-ghost use Rattle.vm_step.specs.Evidence.{UnlockedExpected};
-ghost use Rattle.vm_step.specs.Passes.{IsSamePass, view};
-ghost use Rattle.vm_step.specs.Ready.{IsReady};
 ghost use Rattle.vm_tree_laws.specs.May.{IsEdit};
-ghost use Rattle.vm_tree_model.specs.Page.{node_of, IsLeaf};
 ghost use Rattle.vm_tree_rule.specs.Resident.{IsKnownNow, KnowsResident};
 ghost use Rattle.vm_tree_write.specs.Writes.{IsWriteDone, SaysWorn};
 

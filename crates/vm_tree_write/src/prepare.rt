@@ -1,22 +1,13 @@
 // What a split takes before it writes: frames, the locks of two pages at the versions read, and fresh pages. Where one of them is refused the
 // others are given back.
-ghost use Rattle.std.specs.Prelude.{◌≡◌, ◌≢◌, ◌⊎◌, ◌++◌, IfOk, IfErr, None, false, length};
+ghost use Rattle.std.specs.Prelude.{◌++◌, ◌≡◌, ◌≢◌, ◌⊎◌, false, IfErr, IfOk, length, None};
+ghost use Rattle.vm_rule.specs.Prelude.{draft_of, has, last_of};
+ghost use Rattle.vm_step.specs.Prelude.{AreHeld, IsAlone, IsReady, IsSamePass, view};
 ghost use Rattle.vm_exmap.specs.Frames.{MovesFrames};
-ghost use Rattle.vm_step.specs.Alone.{IsAlone};
-ghost use Rattle.vm_step.specs.HeldFrames.{AreHeld};
-ghost use Rattle.vm_guard.specs.Denied.{AgainOrWorn};
-ghost use Rattle.vm_guard.specs.Groups.{guards_of};
-ghost use Rattle.vm_guard.specs.Guards.{IsHolding, IsReading};
-ghost use Rattle.vm_owner.specs.Numbers.{has};
-ghost use Rattle.vm_rule.specs.Reading.{last_of};
-ghost use Rattle.vm_rule.specs.Views.{draft_of};
-ghost use Rattle.vm_step.specs.Passes.{IsSamePass, view};
-ghost use Rattle.vm_step.specs.Ready.{IsReady};
-ghost use Rattle.vm_tree_write.specs.Prepares.{AreLocked, GivesUpBoth, IsPrepared, KnowsBoth, KnowsToSplit, LacksFrames, LacksLocks, LacksSecond};
+ghost use Rattle.vm_guard.specs.{Denied.AgainOrWorn, Groups.guards_of, Guards.IsHolding, Guards.IsReading};
 ghost use Rattle.vm_tree_read.specs.Waiting.{LosesNone};
-ghost use Rattle.vm_tree_write.specs.Splits.{KeepsLocksOnly};
-ghost use Rattle.vm_tree_write.specs.Tries.{IsFinalSplit, IsUnsplit};
-ghost use Rattle.vm_tree_write.specs.Writes.{SaysWorn};
+ghost use Rattle.vm_tree_write.specs.{Splits.KeepsLocksOnly, Tries.IsFinalSplit, Tries.IsUnsplit, Writes.SaysWorn};
+ghost use Rattle.vm_tree_write.specs.Prepares.{AreLocked, GivesUpBoth, IsPrepared, KnowsBoth, KnowsToSplit, LacksFrames, LacksLocks, LacksSecond};
 
 use crate::tries::TrySplit;
 use vm_block::Block;

@@ -1,15 +1,10 @@
 // The try of a split: the first full node on the way of a key is split, or the answer tells why not.
-ghost use Rattle.std.specs.Prelude.{◌≡◌, ◌≤◌, ℕ, None, length, true};
-ghost use Rattle.vm_step.specs.HeldFrames.{AreHeld};
-ghost use Rattle.vm_step.specs.Passes.{IsSamePass, MayStep, view};
-ghost use Rattle.vm_step.specs.Ready.{IsReady};
-ghost use Rattle.vm_rule.specs.Joins.{HoldsNoPage};
-ghost use Rattle.vm_tree_rule.specs.Resident.{KnowsResident};
-ghost use Rattle.vm_tree_rule.specs.Seeks.{IsFullBelow, IsRootFull};
-ghost use Rattle.vm_tree_rule.specs.Turns.{IsTurnedBack};
+ghost use Rattle.std.specs.Prelude.{◌≡◌, ◌≤◌, length, None, true, ℕ};
+ghost use Rattle.vm_rule.specs.Prelude.{HoldsNoPage};
+ghost use Rattle.vm_step.specs.Prelude.{AreHeld, IsReady, IsSamePass, MayStep, view};
+ghost use Rattle.vm_tree_rule.specs.{Resident.KnowsResident, Seeks.IsFullBelow, Seeks.IsRootFull, Turns.IsTurnedBack};
 ghost use Rattle.vm_tree_read.specs.Waiting.{LosesNone};
-ghost use Rattle.vm_tree_write.specs.Splits.{KeepsLocksOnly};
-ghost use Rattle.vm_tree_write.specs.Prepares.{KnowsToSplit};
+ghost use Rattle.vm_tree_write.specs.{Prepares.KnowsToSplit, Splits.KeepsLocksOnly};
 ghost use Rattle.vm_tree_write.specs.Tries.{IsEndOf, IsFinalSplit, IsTrySplit};
 
 use crate::prepare::{Prepared, prepare};

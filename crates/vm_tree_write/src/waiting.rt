@@ -1,12 +1,10 @@
 // The writes that wait: they try again until they are answered, and bring the pages that they need.
-ghost use Rattle.std.specs.Prelude.{◌≡◌, ◌<◌, ◌≤◌, IfErr, IfOk, None};
-ghost use Rattle.vm_step.specs.HeldFrames.{AreHeld};
+ghost use Rattle.std.specs.Prelude.{◌<◌, ◌≡◌, ◌≤◌, IfErr, IfOk, None};
 ghost use Rattle.vm_map.specs.declared.call.Call.TheVariants.{Del, Put};
-ghost use Rattle.vm_step.specs.Passes.{IsSamePass, view};
-ghost use Rattle.vm_step.specs.Ready.{IsReady};
+ghost use Rattle.vm_step.specs.Prelude.{AreHeld, IsReady, IsSamePass, view};
 ghost use Rattle.vm_tree_read.specs.Waiting.{LosesNone, Waits};
 ghost use Rattle.vm_tree_write.specs.Splits.{KeepsLocksOnly};
-ghost use Rattle.vm_tree_write.specs.Waiting.{IsWriteFaulted, IsPutFaulted, IsWriteReplied, IsRoomFault};
+ghost use Rattle.vm_tree_write.specs.Waiting.{IsPutFaulted, IsRoomFault, IsWriteFaulted, IsWriteReplied};
 
 use crate::tries::{TrySplit, try_split};
 use crate::write::{TryWrite, try_del, try_put};

@@ -1,16 +1,10 @@
 // The writes that never wait: each answers, or says why it is to be tried again.
-ghost use Rattle.std.specs.Prelude.{◌≡◌, ◌≤◌, ◌<◌, None, true};
+ghost use Rattle.std.specs.Prelude.{◌<◌, ◌≡◌, ◌≤◌, None, true};
+ghost use Rattle.vm_tree_model.specs.{Node.Covers, Page.node_of};
+ghost use Rattle.vm_step.specs.Prelude.{IsReady, IsSamePass, MayStep, UnlockedExpected, view};
 ghost use Rattle.vm_guard.specs.Denied.{AgainOrWorn, IsDenied, KeptWord};
-ghost use Rattle.vm_step.specs.Evidence.{UnlockedExpected};
-ghost use Rattle.vm_step.specs.Passes.{IsSamePass, MayStep, view};
-ghost use Rattle.vm_step.specs.Ready.{IsReady};
-ghost use Rattle.vm_tree_model.specs.Node.{Covers};
-ghost use Rattle.vm_tree_model.specs.Page.{node_of};
-ghost use Rattle.vm_tree_rule.specs.Resident.{KnowsResident};
-ghost use Rattle.vm_tree_rule.specs.Seeks.{HasRead};
-ghost use Rattle.vm_tree_rule.specs.Standing.{Awaits, IsOpened};
-ghost use Rattle.vm_tree_rule.specs.Turns.{IsTurnedBack};
-ghost use Rattle.vm_tree_write.specs.Writes.{IsDel, IsPut, IsFinal, SaysWorn};
+ghost use Rattle.vm_tree_rule.specs.{Resident.KnowsResident, Seeks.HasRead, Standing.Awaits, Standing.IsOpened, Turns.IsTurnedBack};
+ghost use Rattle.vm_tree_write.specs.Writes.{IsDel, IsFinal, IsPut, SaysWorn};
 
 use crate::leaf::write_leaf;
 use vm_block::Block;

@@ -1,9 +1,8 @@
 use Rattle.std.proofs.Common.{◌∙◌, sym, true≢false}
-use Rattle.vm_step.specs.Passes.{view}
-use Rattle.vm_tree_rule.proofs.Readings.{valid-only}
-use Rattle.vm_tree_rule.proofs.Surely.{known-at, resident-same}
-use Rattle.vm_tree_read.proofs.Answering.{answered, may-tell}
+use Rattle.vm_step.specs.Prelude.{view}
+use Rattle.vm_tree_rule.proofs.{Readings.valid-only, Surely.known-at, Surely.resident-same}
 use Rattle.vm_tree_read.proofs.answer.answer.Goals as goal
+use Rattle.vm_tree_read.proofs.Answering.{answered, may-tell}
 
 pub validate-requires-clause-owner : goal.validate-requires-clause-owner
 validate-requires-clause-owner g c = may-tell c.args.guard.now.pid (view c.args.pass.now) c.args.said c.requires.loads.0 c.args.page.now c.requires.size c.requires.loads.1 c.requires.proves

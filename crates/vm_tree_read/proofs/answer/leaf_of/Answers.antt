@@ -1,15 +1,11 @@
-use Rattle.std.proofs.Common.{◌∙◌, inl, inr, sym, subst, ap}
-use Rattle.vm_rule.specs.declared.view.Origin.{Origin}
-use Rattle.vm_rule.specs.Reading.{last_of}
-use Rattle.vm_step.specs.Passes.{view}
-use Rattle.vm_tree_rule.specs.Turns.{IsTurnedBack}
-use Rattle.vm_tree_rule.specs.Turns.{IsNoTree as no_tree}
+use Rattle.std.proofs.Common.{◌∙◌, ap, inl, inr, subst, sym}
+use Rattle.vm_rule.specs.Prelude.{last_of}
+use Rattle.vm_step.specs.Prelude.{Origin, view}
+use Rattle.vm_tree_rule.specs.Turns.{IsNoTree as no_tree, IsTurnedBack}
+use Rattle.vm_tree_rule.proofs.{Readings.leaves-self, Readings.reads-self, Surely.known-at}
 use Rattle.vm_tree_rule.proofs.Entering.{astray-turn, refused-turn, untold}
-use Rattle.vm_tree_rule.proofs.Readings.{leaves-self, reads-self}
-use Rattle.vm_tree_rule.proofs.Surely.{known-at}
-use Rattle.vm_tree_read.proofs.Answering.{leaf-here}
+use Rattle.vm_tree_read.proofs.{answer.leaf_of.Goals.else-is_leaf, answer.leaf_of.Goals.then-is_leaf+else-covers, Answering.leaf-here}
 use Rattle.vm_tree_read.proofs.answer.leaf_of.Goals as goal
-use Rattle.vm_tree_read.proofs.answer.leaf_of.Goals.{then-is_leaf+else-covers, else-is_leaf}
 
 pub returns-in-Err-clause-sure : goal.returns-in-Err-clause-sure
 returns-in-Err-clause-sure g c tells k = c.in-Err.ensures.sure tells k

@@ -1,6 +1,6 @@
-use Rattle.std.proofs.Common.{sym, subst, true≢false}
+use Rattle.std.proofs.Common.{subst, sym, true≢false}
 use Rattle.vm_map.specs.declared.call.Call.TheVariants.{Get}
-use Rattle.vm_step.specs.Passes.{view}
+use Rattle.vm_step.specs.Prelude.{view}
 use Rattle.vm_tree_read.specs.Reads.{IsAnswered}
 use Rattle.vm_tree_read.proofs.Answering.{answered-later, refused}
 use Rattle.vm_tree_read.proofs.read.try_get.Goals as goal

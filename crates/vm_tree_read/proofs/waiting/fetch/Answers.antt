@@ -1,8 +1,6 @@
 use Rattle.std.proofs.Common.{refl}
 use Rattle.vm_tree_read.specs.Waiting.{IsBringFault as fault_of}
-use Rattle.vm_tree_read.proofs.Seen.{bring-goes}
-use Rattle.vm_tree_read.proofs.Lasting.{bring-waits}
-use Rattle.vm_tree_read.proofs.Losing.{bring-loses}
+use Rattle.vm_tree_read.proofs.{Lasting.bring-waits, Losing.bring-loses, Seen.bring-goes}
 use Rattle.vm_tree_read.proofs.waiting.fetch.Goals as goal
 
 pub returns-in-Brought-clause-waits : goal.returns-in-Brought-clause-waits

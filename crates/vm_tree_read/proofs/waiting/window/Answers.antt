@@ -1,8 +1,8 @@
 use Rattle.std.proofs.Common.{◌∙◌, refl}
+use Rattle.vm_step.specs.Prelude.{view}
 use Rattle.vm_exmap.proofs.Handing.{held-on}
-use Rattle.vm_step.specs.Passes.{view}
 use Rattle.vm_tree_read.proofs.Lasting.{reads-wait, replied, waits-self, waits-then}
-use Rattle.vm_tree_read.proofs.Losing.{lost-on, loses-same, loses-then, reads-lose}
+use Rattle.vm_tree_read.proofs.Losing.{loses-same, loses-then, lost-on, reads-lose}
 use Rattle.vm_tree_read.proofs.waiting.window.Goals as goal
 
 pub loop-init : goal.loop-init

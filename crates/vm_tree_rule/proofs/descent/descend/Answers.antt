@@ -1,10 +1,9 @@
-use Rattle.std.proofs.Common.{ℕ, ◌≡◌, ◌∙◌, ◌+◌, ◌-◌, ◌<◌, ◌≤◌, suc, subst, arith}
-use Rattle.vm_step.specs.Passes.{view}
+use Rattle.std.proofs.Common.{◌+◌, ◌-◌, ◌<◌, ◌∙◌, ◌≡◌, ◌≤◌, arith, subst, suc, ℕ}
+use Rattle.vm_step.specs.Prelude.{view}
 use Rattle.vm_tree_rule.specs.Standing.{Awaits}
-use Rattle.vm_tree_rule.proofs.Readings.{loads-reads, opened-earlier, opened-loads, reads-then}
-use Rattle.vm_tree_rule.proofs.Downward.{awaits-later}
-use Rattle.vm_tree_rule.proofs.Surely.{known-same}
+use Rattle.vm_tree_rule.proofs.{Downward.awaits-later, Surely.known-same}
 use Rattle.vm_tree_rule.proofs.descent.descend.Goals as goal
+use Rattle.vm_tree_rule.proofs.Readings.{loads-reads, opened-earlier, opened-loads, reads-then}
 
 whole : (n : ℕ) → n ≡ n - 0
 whole n = omega arith

@@ -1,9 +1,6 @@
-use Rattle.std.proofs.Common.{◌≡◌, ◌≤◌, ◌-◌, length, true}
-use Rattle.vm_step.specs.Passes.{IsSamePass, view}
-use Rattle.vm_step.specs.Ready.{IsReady}
-use Rattle.vm_tree_rule.specs.Leaves.{ReadsOn}
-use Rattle.vm_tree_rule.specs.Resident.{IsKnownNow, KnowsResident}
-use Rattle.vm_tree_rule.specs.Standing.{Awaits, IsOpened}
+use Rattle.std.proofs.Common.{◌-◌, ◌≡◌, ◌≤◌, length, true}
+use Rattle.vm_step.specs.Prelude.{IsReady, IsSamePass, view}
+use Rattle.vm_tree_rule.specs.{Leaves.ReadsOn, Resident.IsKnownNow, Resident.KnowsResident, Standing.Awaits, Standing.IsOpened}
 use Rattle.vm_tree_rule.proofs.descent.descend.Given as goal
 
 -- the page on the way is read, and its level is the number of steps that are left

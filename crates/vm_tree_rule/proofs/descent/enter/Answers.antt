@@ -1,19 +1,13 @@
-use Rattle.std.proofs.Common.{ℕ, ◌≡◌, ◌∙◌, Result, Err, IfOk, IfErr, IsOk, inl, sym, subst, arith}
+use Rattle.std.proofs.Common.{◌∙◌, ◌≡◌, arith, Err, IfErr, IfOk, inl, IsOk, Result, subst, sym, ℕ}
 use Rattle.vm_map.specs.declared.call.Said.{Said}
-use Rattle.vm_rule.specs.declared.view.View.{View}
-use Rattle.vm_step.specs.Evidence.{NoWord, NoneExpected}
-use Rattle.vm_step.specs.Passes.{view}
-use Rattle.vm_guard.specs.declared.deny.Deny.{Deny}
-use Rattle.vm_guard.specs.declared.opt.OptGuard.{OptGuard}
-use Rattle.vm_guard.specs.Denied.{AgainOrNeed, IsDenied}
-use Rattle.vm_guard.specs.Guards.{BeginsReading}
-use Rattle.vm_tree_rule.specs.Resident.{IsKnownNow}
-use Rattle.vm_tree_rule.specs.Standing.{HasSteppedDown, StaysOpen}
+use Rattle.vm_step.specs.Prelude.{NoneExpected, NoWord, View, view}
+use Rattle.vm_guard.specs.{declared.deny.Deny.Deny, declared.opt.OptGuard.OptGuard, Denied.AgainOrNeed, Denied.IsDenied, Guards.BeginsReading}
+use Rattle.vm_tree_rule.specs.{Resident.IsKnownNow, Standing.HasSteppedDown, Standing.StaysOpen}
+use Rattle.vm_tree_rule.proofs.descent.enter.Goals as goal
+use Rattle.vm_tree_rule.proofs.Entering.{ended, lost, stepped}
 use Rattle.vm_tree_rule.proofs.Onward.{stays}
 use Rattle.vm_tree_rule.proofs.Readings.{leaves-self, reads-self, valid-reads}
-use Rattle.vm_tree_rule.proofs.Entering.{ended, lost, stepped}
 use Rattle.vm_tree_rule.proofs.Surely.{free-below, known-at, known-begun, known-same, locks-same, looked, looked-known, looked-reading, named-below}
-use Rattle.vm_tree_rule.proofs.descent.enter.Goals as goal
 
 pub returns-in-Err-clause-err : goal.returns-in-Err-clause-err
 returns-in-Err-clause-err g c = lost _ _ _ c.args.named c.in-Err.saw (view c.args.pass.now) (view c.args.pass.now) _ (reads-self _) (leaves-self _ _) c.in-Err.ensures.err

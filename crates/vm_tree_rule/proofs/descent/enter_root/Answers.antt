@@ -1,15 +1,12 @@
-use Rattle.std.proofs.Common.{ℕ, ◌≡◌, ◌∙◌, ◌<◌, ◌≤◌, ◌+◌, sym, subst, ap, length, arith}
-use Rattle.vm_rule.specs.declared.view.Origin.{Origin}
-use Rattle.vm_rule.specs.Reading.{last_of}
-use Rattle.vm_step.specs.Passes.{view}
-use Rattle.vm_tree_rule.specs.Turns.{IsTurnedBack}
-use Rattle.vm_tree_rule.specs.Turns.{IsNoTree as no_tree}
-use Rattle.vm_tree_rule.proofs.Readings.{opened-earlier, opened-later, reads-then}
-use Rattle.vm_tree_rule.proofs.Entering.{astray-turn, first-ended, opened-reads, turned, untold}
-use Rattle.vm_tree_rule.proofs.Downward.{awaits-root, meta-loads, meta-words, names-root, root-height, root-loaded, root-named, root-opened}
-use Rattle.vm_tree_rule.proofs.Onward.{meta-read, root-passes}
-use Rattle.vm_tree_rule.proofs.Surely.{first-known, first-readable}
+use Rattle.std.proofs.Common.{◌+◌, ◌<◌, ◌∙◌, ◌≡◌, ◌≤◌, ap, arith, length, subst, sym, ℕ}
+use Rattle.vm_rule.specs.Prelude.{last_of}
+use Rattle.vm_step.specs.Prelude.{Origin, view}
+use Rattle.vm_tree_rule.specs.Turns.{IsNoTree as no_tree, IsTurnedBack}
+use Rattle.vm_tree_rule.proofs.{Onward.meta-read, Onward.root-passes, Surely.first-known, Surely.first-readable}
 use Rattle.vm_tree_rule.proofs.descent.enter_root.Goals as goal
+use Rattle.vm_tree_rule.proofs.Downward.{awaits-root, meta-loads, meta-words, names-root, root-height, root-loaded, root-named, root-opened}
+use Rattle.vm_tree_rule.proofs.Entering.{astray-turn, first-ended, opened-reads, turned, untold}
+use Rattle.vm_tree_rule.proofs.Readings.{opened-earlier, opened-later, reads-then}
 
 some-pages : (n pages start : ℕ) → 1 ≤ n → start ≡ n → 0 < start
 some-pages n pages start some is = omega (arith, some, is)

@@ -1,14 +1,12 @@
-use Rattle.std.proofs.Common.{◌∙◌, sym, subst, ap}
-use Rattle.vm_rule.specs.declared.view.Origin.{Origin}
-use Rattle.vm_rule.specs.Reading.{last_of}
-use Rattle.vm_step.specs.Passes.{view}
-use Rattle.vm_tree_rule.specs.Turns.{IsTurnedBack}
-use Rattle.vm_tree_rule.specs.Turns.{IsNoTree as no_tree}
-use Rattle.vm_tree_rule.proofs.Readings.{err-then, loads-reads, ok-then, opened-earlier, opened-loads, reads-self, reads-then, leaves-self}
-use Rattle.vm_tree_rule.proofs.Entering.{astray-turn, opened-reads, refused-turn, turned, untold}
-use Rattle.vm_tree_rule.proofs.Downward.{awaits-child, child-loaded, child-missing, child-named, names-child}
-use Rattle.vm_tree_rule.proofs.Surely.{known-at, known-same}
+use Rattle.std.proofs.Common.{◌∙◌, ap, subst, sym}
+use Rattle.vm_rule.specs.Prelude.{last_of}
+use Rattle.vm_step.specs.Prelude.{Origin, view}
+use Rattle.vm_tree_rule.specs.Turns.{IsNoTree as no_tree, IsTurnedBack}
 use Rattle.vm_tree_rule.proofs.descent.go_down.Goals as goal
+use Rattle.vm_tree_rule.proofs.Downward.{awaits-child, child-loaded, child-missing, child-named, names-child}
+use Rattle.vm_tree_rule.proofs.Entering.{astray-turn, opened-reads, refused-turn, turned, untold}
+use Rattle.vm_tree_rule.proofs.Readings.{err-then, leaves-self, loads-reads, ok-then, opened-earlier, opened-loads, reads-self, reads-then}
+use Rattle.vm_tree_rule.proofs.Surely.{known-at, known-same}
 
 pub enter-requires-clause-names : goal.enter-requires-clause-names
 enter-requires-clause-names g c =

@@ -1,14 +1,12 @@
-use Rattle.std.proofs.Common.{◌∙◌, inr, sym, subst, ap}
-use Rattle.vm_rule.specs.declared.view.Origin.{Origin}
-use Rattle.vm_rule.specs.Reading.{last_of}
-use Rattle.vm_step.specs.Passes.{view}
-use Rattle.vm_tree_rule.specs.Turns.{IsTurnedBack}
-use Rattle.vm_tree_rule.specs.Turns.{IsNoTree as no_tree}
-use Rattle.vm_tree_rule.proofs.Readings.{err-then, leaves-self, ok-then, reads-self}
+use Rattle.std.proofs.Common.{◌∙◌, ap, inr, subst, sym}
+use Rattle.vm_rule.specs.Prelude.{last_of}
+use Rattle.vm_step.specs.Prelude.{Origin, view}
+use Rattle.vm_tree_rule.specs.Turns.{IsNoTree as no_tree, IsTurnedBack}
 use Rattle.vm_tree_rule.proofs.Entering.{astray-turn, opened-reads, refused-turn, turned, untold}
 use Rattle.vm_tree_rule.proofs.Onward.{awaits-next, goes-nowhere, goes-on, goes-to, leads, passes}
-use Rattle.vm_tree_rule.proofs.Surely.{known-at}
+use Rattle.vm_tree_rule.proofs.Readings.{err-then, leaves-self, ok-then, reads-self}
 use Rattle.vm_tree_rule.proofs.seek.go_on.Goals as goal
+use Rattle.vm_tree_rule.proofs.Surely.{known-at}
 
 pub enter-requires-clause-names : goal.enter-requires-clause-names
 enter-requires-clause-names g c =

@@ -1,12 +1,10 @@
-use Rattle.std.proofs.Common.{ℕ, List, [], ◌∷◌, ◌≡◌, ◌≢◌, ◌∙◌, ◌+◌, ◌-◌, ◌<◌, ◌≤◌, length, min, suc, sym, subst, arith}
-use Rattle.vm_step.specs.Passes.{view}
+use Rattle.std.proofs.Common.{[], ◌+◌, ◌-◌, ◌<◌, ◌∙◌, ◌∷◌, ◌≡◌, ◌≢◌, ◌≤◌, arith, length, List, min, subst, suc, sym, ℕ}
 use Rattle.vm_tree_model.specs.Page.{pairs_of}
-use Rattle.vm_tree_rule.specs.Seeks.{HasRead, LeadsTo}
-use Rattle.vm_tree_rule.specs.Standing.{Awaits}
-use Rattle.vm_tree_rule.proofs.Readings.{loads-reads, opened-earlier, opened-later, opened-loads, reads-then}
-use Rattle.vm_tree_rule.proofs.Downward.{awaits-later}
+use Rattle.vm_step.specs.Prelude.{view}
+use Rattle.vm_tree_rule.specs.{Seeks.HasRead, Seeks.LeadsTo, Standing.Awaits}
+use Rattle.vm_tree_rule.proofs.{Downward.awaits-later, Surely.known-same, Surely.locks-same}
 use Rattle.vm_tree_rule.proofs.Onward.{leads-from, meta-on, passed-later, stays-on}
-use Rattle.vm_tree_rule.proofs.Surely.{known-same, locks-same}
+use Rattle.vm_tree_rule.proofs.Readings.{loads-reads, opened-earlier, opened-later, opened-loads, reads-then}
 use Rattle.vm_tree_rule.proofs.seek.seek_full.Goals as goal
 
 whole : (n : ℕ) → n ≡ n - 0

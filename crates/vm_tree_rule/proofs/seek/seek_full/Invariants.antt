@@ -1,11 +1,8 @@
-use Rattle.std.proofs.Common.{ℕ, List, ◌≡◌, ◌≤◌, ◌<◌, ◌-◌, length, true}
-use Rattle.vm_step.specs.Passes.{IsSamePass, view}
-use Rattle.vm_step.specs.Ready.{IsReady}
+use Rattle.std.proofs.Common.{◌-◌, ◌<◌, ◌≡◌, ◌≤◌, length, List, true, ℕ}
 use Rattle.vm_tree_model.specs.Page.{pairs_of}
-use Rattle.vm_tree_rule.specs.Leaves.{ReadsOn}
+use Rattle.vm_step.specs.Prelude.{IsReady, IsSamePass, view}
+use Rattle.vm_tree_rule.specs.{Leaves.ReadsOn, Seeks.ArePassed, Seeks.HasRead, Standing.Awaits, Standing.IsOpened}
 use Rattle.vm_tree_rule.specs.Resident.{IsKnownNow, KnowsLocks, KnowsResident}
-use Rattle.vm_tree_rule.specs.Seeks.{ArePassed, HasRead}
-use Rattle.vm_tree_rule.specs.Standing.{Awaits, IsOpened}
 use Rattle.vm_tree_rule.proofs.seek.seek_full.Given as goal
 
 -- the page on the way was read and is not full, and its level is the number of steps that are left

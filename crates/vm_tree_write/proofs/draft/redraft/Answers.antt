@@ -1,11 +1,12 @@
-use Rattle.std.proofs.Common.{ℕ, List, ◌≡◌, ◌<◌, ◌∙◌, length, refl, sym, ap, subst, arith, slice_index}
+use Rattle.std.proofs.Common.{◌<◌, ◌∙◌, ◌≡◌, ap, arith, length, List, refl, slice_index, subst, sym, ℕ}
 use Rattle.std.proofs.lemmas.Grind.{same_number_lists}
-use Rattle.vm_rule.specs.Views.{draft_of}
-use Rattle.vm_step.specs.Passes.{view}
+use Rattle.vm_rule.specs.Prelude.{draft_of}
+use Rattle.vm_step.specs.Prelude.{view}
 use Rattle.vm_guard.specs.Guards.{IsSet}
-use Rattle.vm_tree_write.proofs.Drafting.{differs-more, differs-self, pages-more, pages-self, redrafted-self, same-below, set-above, set-below, set-more}
+use Rattle.vm_tree_write.proofs.draft.redraft.Goals.{else-word-get, then-word-get}
 use Rattle.vm_tree_write.proofs.draft.redraft.Goals as goal
-use Rattle.vm_tree_write.proofs.draft.redraft.Goals.{then-word-get, else-word-get}
+use Rattle.vm_tree_write.proofs.Drafting.{differs-more, differs-self, pages-more, pages-self, redrafted-self, same-below, set-above, set-below}
+use Rattle.vm_tree_write.proofs.Drafting.{set-more}
 
 pub loop-i-init : goal.loop-i-init
 loop-i-init g c = record {

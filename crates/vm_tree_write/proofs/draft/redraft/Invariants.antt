@@ -1,7 +1,6 @@
-use Rattle.std.proofs.Common.{ℕ, true, ◌≡◌, ◌<◌, ◌≤◌, length, slice_index}
-use Rattle.vm_rule.specs.Views.{draft_of}
-use Rattle.vm_step.specs.Passes.{IsSamePass, view}
-use Rattle.vm_step.specs.Ready.{IsReady}
+use Rattle.std.proofs.Common.{◌<◌, ◌≡◌, ◌≤◌, length, slice_index, true, ℕ}
+use Rattle.vm_rule.specs.Prelude.{draft_of}
+use Rattle.vm_step.specs.Prelude.{IsReady, IsSamePass, view}
 use Rattle.vm_guard.specs.Guards.{IsHolding}
 use Rattle.vm_tree_write.specs.Drafts.{IsRedrafted, KnowsSameStates, SetsDiffering}
 use Rattle.vm_tree_write.proofs.draft.redraft.Given as goal

@@ -1,22 +1,14 @@
-use Rattle.std.proofs.Common.{true, ◌≡◌, ◌≢◌, ◌∙◌, ℕ, List, None, Some, sym, ap, subst, inl, inr, replicate}
+use Rattle.std.proofs.Common.{◌∙◌, ◌≡◌, ◌≢◌, ap, inl, inr, List, None, replicate, Some, subst, sym, true, ℕ}
 use Rattle.vm_map.specs.declared.call.Said.{Said}
-use Rattle.vm_rule.specs.declared.view.Origin.{Origin}
-use Rattle.vm_rule.specs.declared.view.View.{View}
-use Rattle.vm_rule.specs.Views.{draft_of}
-use Rattle.vm_step.specs.Conditions.{IsClaimed}
-use Rattle.vm_step.specs.Keeping.{IsKeptNow}
-use Rattle.vm_step.specs.Passes.{view}
-use Rattle.vm_guard.specs.Guards.{IsReleased}
+use Rattle.vm_rule.specs.Prelude.{draft_of}
+use Rattle.vm_step.specs.Prelude.{IsClaimed, IsKeptNow, Origin, UnlockedExpected, View, view}
+use Rattle.vm_guard.specs.{Denied.AgainOrWorn, Denied.KeptWord, Guards.IsReleased}
 use Rattle.vm_tree_laws.specs.Keeps.{KeepsTree}
+use Rattle.vm_tree_rule.proofs.{Readings.denied-reads, Surely.resident-same}
 use Rattle.vm_tree_write.specs.Drafts.{IsRedrafted}
-use Rattle.vm_step.specs.Evidence.{UnlockedExpected}
-use Rattle.vm_guard.specs.Denied.{AgainOrWorn, KeptWord}
-use Rattle.vm_tree_rule.proofs.Readings.{denied-reads}
-use Rattle.vm_tree_rule.proofs.Surely.{resident-same}
-use Rattle.vm_tree_write.proofs.Knowing.{resident-written}
-use Rattle.vm_tree_write.proofs.Settling.{only-worn}
-use Rattle.vm_tree_write.proofs.Writing.{draft-is, not-zeros, old-is, owner, written}
+use Rattle.vm_tree_write.proofs.{Knowing.resident-written, Settling.only-worn}
 use Rattle.vm_tree_write.proofs.leaf.write_leaf.Goals as goal
+use Rattle.vm_tree_write.proofs.Writing.{draft-is, not-zeros, old-is, owner, written}
 
 redrafted-at : (p q : ℕ) (x y : View Said) → q ≡ p → IsRedrafted q x y → IsRedrafted p x y
 redrafted-at p q x y e d = subst (λ (n : ℕ). IsRedrafted n x y) e d

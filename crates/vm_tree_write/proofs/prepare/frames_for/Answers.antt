@@ -1,17 +1,13 @@
-use Rattle.std.proofs.Common.{ℕ, List, [], ◌≡◌, ◌≢◌, ◌∙◌, ◌++◌, length, refl, subst, arith, ⊎_elim}
+use Rattle.std.proofs.Common.{[], ⊎_elim, ◌++◌, ◌∙◌, ◌≡◌, ◌≢◌, arith, length, List, refl, subst, ℕ}
 use Rattle.std.proofs.lemmas.Result.{IfErr-weaker, IfOk-weaker}
-use Rattle.vm_exmap.specs.Frames.{MovesFrames}
-use Rattle.vm_exmap.specs.Walks.{IsAlloc}
-use Rattle.vm_step.specs.HeldFrames.{AreHeld}
+use Rattle.vm_step.specs.Prelude.{AreHeld, Did, view}
+use Rattle.vm_step.proofs.Alone.{still-alone}
+use Rattle.vm_exmap.specs.{Frames.MovesFrames, Walks.IsAlloc}
 use Rattle.vm_exmap.specs.declared.interface.Alloc.TheVariants as allocs
-use Rattle.vm_rule.specs.declared.view.Did.{Did}
-use Rattle.vm_step.specs.Passes.{view}
-use Rattle.vm_tree_write.specs.Prepares.{LacksFrames, LacksSecond}
-use Rattle.vm_tree_write.specs.Prepares.IsShort.{after_one, at_once}
-use Rattle.vm_tree_write.proofs.Framing.{alloc-keeps, alloc-more, keeps-then, more-then}
 use Rattle.vm_tree_read.specs.Waiting.{LosesNone}
 use Rattle.vm_tree_read.proofs.Losing.{alloc-loses, loses-then, refused-alone}
-use Rattle.vm_step.proofs.Alone.{still-alone}
+use Rattle.vm_tree_write.specs.{Prepares.IsShort.after_one, Prepares.IsShort.at_once, Prepares.LacksFrames, Prepares.LacksSecond}
+use Rattle.vm_tree_write.proofs.Framing.{alloc-keeps, alloc-more, keeps-then, more-then}
 use Rattle.vm_tree_write.proofs.prepare.frames_for.Goals as goal
 
 pub returns-in-Dry-clause-err : goal.returns-in-Dry-clause-err

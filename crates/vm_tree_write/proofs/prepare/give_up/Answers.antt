@@ -1,9 +1,9 @@
-use Rattle.std.proofs.Common.{◌++◌, ◌∙◌, refl, sym, ap, inl}
-use Rattle.vm_core.specs.History.{Version}
-use Rattle.vm_exmap.proofs.Handing.{held-on}
-use Rattle.vm_owner.specs.Numbers.{has}
+use Rattle.std.proofs.Common.{◌++◌, ◌∙◌, ap, inl, refl, sym}
+use Rattle.vm_core.specs.Prelude.{Version}
 use Rattle.vm_owner.proofs.NumberLemmas.{without-none}
-use Rattle.vm_step.specs.Passes.{view}
+use Rattle.vm_rule.specs.Prelude.{has}
+use Rattle.vm_step.specs.Prelude.{view}
+use Rattle.vm_exmap.proofs.Handing.{held-on}
 use Rattle.vm_tree_read.proofs.Losing.{freed-loses, loses-same, loses-then}
 use Rattle.vm_tree_write.proofs.prepare.give_up.Goals as goal
 

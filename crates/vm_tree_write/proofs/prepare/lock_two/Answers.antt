@@ -1,11 +1,11 @@
-use Rattle.std.proofs.Common.{◌∙◌, None, subst, inl}
-use Rattle.vm_step.specs.Passes.{view}
+use Rattle.std.proofs.Common.{◌∙◌, inl, None, subst}
+use Rattle.vm_step.specs.Prelude.{view}
 use Rattle.vm_guard.specs.Guards.{IsReleased}
 use Rattle.vm_guard.proofs.Reading.{reading-elsewhere}
-use Rattle.vm_tree_write.proofs.Refusing.{back-keeps, quiet-keeps, says-denied}
-use Rattle.vm_tree_write.proofs.Settling.{locked-alone, locked-word, only-worn}
 use Rattle.vm_tree_write.specs.Prepares.IsLockDenied.{first_denied, second_denied}
 use Rattle.vm_tree_write.proofs.prepare.lock_two.Goals as goal
+use Rattle.vm_tree_write.proofs.Refusing.{back-keeps, quiet-keeps, says-denied}
+use Rattle.vm_tree_write.proofs.Settling.{locked-alone, locked-word, only-worn}
 
 pub returns-in-Err-clause-err : goal.returns-in-Err-clause-err
 returns-in-Err-clause-err g c =

@@ -1,18 +1,16 @@
-use Rattle.std.proofs.Common.{◌<◌, ◌≤◌, ◌∙◌, ◌++◌, ◌+◌, refl, arith, ⊎_elim}
-use Rattle.vm_guard.specs.declared.given.Fresh.TheVariants as freshes
-use Rattle.vm_step.specs.Passes.{view}
+use Rattle.std.proofs.Common.{⊎_elim, ◌++◌, ◌+◌, ◌<◌, ◌∙◌, ◌≤◌, arith, refl}
+use Rattle.std.proofs.lemmas.Bool.{cases_lt}
+use Rattle.vm_step.specs.Prelude.{view}
 use Rattle.vm_exmap.proofs.Handing.{held-on, held-rest, held-swap}
+use Rattle.vm_guard.specs.declared.given.Fresh.TheVariants as freshes
+use Rattle.vm_guard.specs.Sure.{known_next}
+use Rattle.vm_tree_read.proofs.Losing.{freed-loses, loses-same, loses-swap, loses-then}
 use Rattle.vm_tree_write.specs.Tries.IsUnsplit.{short, unclaimed, unlocked}
+use Rattle.vm_tree_write.proofs.{Losing.fresh-loses, Refusing.none-given, Under.reading-moved}
 use Rattle.vm_tree_write.proofs.Framing.{freed-keeps, fresh-beside, keeps-then}
 use Rattle.vm_tree_write.proofs.GivingUp.{locks-frames, locks-out, locks-start, none-ended, none-frames, none-kept, none-lost, none-out}
-use Rattle.vm_tree_read.proofs.Losing.{freed-loses, loses-same, loses-swap, loses-then}
-use Rattle.vm_tree_write.proofs.Losing.{fresh-loses}
-use Rattle.vm_tree_write.proofs.Refusing.{none-given}
-use Rattle.vm_tree_write.proofs.Under.{reading-moved}
-use Rattle.std.proofs.lemmas.Bool.{cases_lt}
-use Rattle.vm_guard.specs.Sure.{known_next}
-use Rattle.vm_tree_write.proofs.Settling.{both-alone, both-moved, may-be-tried}
 use Rattle.vm_tree_write.proofs.prepare.prepare.Goals as goal
+use Rattle.vm_tree_write.proofs.Settling.{both-alone, both-moved, may-be-tried}
 
 pub lock_two-requires-clause-first : goal.lock_two-requires-clause-first
 lock_two-requires-clause-first g c =

@@ -1,13 +1,11 @@
-use Rattle.std.proofs.Common.{ℕ, List, ◌≡◌, ◌∙◌, ◌++◌, ◌+◌, length, refl, sym, ap, subst, arith}
+use Rattle.std.proofs.Common.{◌++◌, ◌+◌, ◌∙◌, ◌≡◌, ap, arith, length, List, refl, subst, sym, ℕ}
 use Rattle.std.proofs.lemmas.List.{length-append}
-use Rattle.vm_step.specs.HeldFrames.{AreHeld}
+use Rattle.vm_step.specs.Prelude.{AreHeld, view}
 use Rattle.vm_exmap.specs.declared.interface.Alloc.TheVariants as allocs
 use Rattle.vm_exmap.specs.Returns.{IsFreed}
-use Rattle.vm_step.specs.Passes.{view}
-use Rattle.vm_tree_write.proofs.Framing.{alloc-beside, alloc-more}
 use Rattle.vm_tree_read.specs.Waiting.{LosesNone}
 use Rattle.vm_tree_read.proofs.Losing.{alloc-loses, freed-loses, loses-then}
-use Rattle.vm_tree_write.proofs.Losing.{refused-loses}
+use Rattle.vm_tree_write.proofs.{Framing.alloc-beside, Framing.alloc-more, Losing.refused-loses}
 use Rattle.vm_tree_write.proofs.prepare.second_frame.Goals as goal
 
 pub returns-in-Batch-clause-moves : goal.returns-in-Batch-clause-moves

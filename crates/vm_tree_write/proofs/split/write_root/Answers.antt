@@ -1,17 +1,13 @@
-use Rattle.std.proofs.Common.{ℕ, List, true, ◌≡◌, ◌∙◌, ◌+◌, refl, sym, ap, subst, slice_set}
+use Rattle.std.proofs.Common.{◌+◌, ◌∙◌, ◌≡◌, ap, List, refl, slice_set, subst, sym, true, ℕ}
 use Rattle.vm_map.specs.declared.call.Said.{Said}
-use Rattle.vm_rule.specs.declared.view.View.{View}
-use Rattle.vm_rule.specs.Reading.{last_of}
-use Rattle.vm_rule.specs.Views.{draft_of}
-use Rattle.vm_step.specs.Passes.{view}
-use Rattle.vm_guard.specs.declared.exclusive.ExclusiveGuard.{ExclusiveGuard}
-use Rattle.vm_guard.specs.Guards.{IsHolding, IsSet}
 use Rattle.vm_tree_model.specs.Edits.{IsSplit}
-use Rattle.vm_tree_write.specs.Drafts.{IsRedrafted}
-use Rattle.vm_tree_write.specs.Splits.{HasDraft}
-use Rattle.vm_tree_write.proofs.Splitting.{draft-past, holding-past, told-before}
+use Rattle.vm_rule.specs.Prelude.{draft_of, last_of}
+use Rattle.vm_step.specs.Prelude.{View, view}
+use Rattle.vm_guard.specs.{declared.exclusive.ExclusiveGuard.ExclusiveGuard, Guards.IsHolding, Guards.IsSet}
+use Rattle.vm_tree_write.specs.{Drafts.IsRedrafted, Splits.HasDraft}
 use Rattle.vm_tree_write.proofs.Rooting.{four-all, four-apart, four-redrafted, four-released, four-stay, set-two}
 use Rattle.vm_tree_write.proofs.split.write_root.Goals as goal
+use Rattle.vm_tree_write.proofs.Splitting.{draft-past, holding-past, told-before}
 
 -- page 0 after both words
 two : (g g' : ExclusiveGuard) (x y : ℕ) (v u w : View Said) → IsSet g.pid g.frame g.dirty 1 x v u → g' ≡ record g { dirty = true } → IsSet g'.pid g'.frame g'.dirty 2 y u w → draft_of v g.pid ≡ (last_of v g.pid).words

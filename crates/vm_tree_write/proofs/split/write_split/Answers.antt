@@ -1,10 +1,10 @@
-use Rattle.std.proofs.Common.{ℕ, List, ◌∙◌, length, sym, ap, subst, arith}
-use Rattle.vm_step.specs.Passes.{view}
+use Rattle.std.proofs.Common.{◌∙◌, ap, arith, length, List, subst, sym, ℕ}
 use Rattle.vm_map.specs.Map.{Rises}
 use Rattle.vm_tree_model.specs.Edits.{AddsPair, IsSplit}
-use Rattle.vm_tree_model.specs.Page.{node_of, pairs_of, IsInner}
-use Rattle.vm_tree_write.proofs.Splitting.{draft-past, first-apart, holding-past, told-before, three-all, three-redrafted, three-released, three-stay}
+use Rattle.vm_tree_model.specs.Page.{IsInner, node_of, pairs_of}
+use Rattle.vm_step.specs.Prelude.{view}
 use Rattle.vm_tree_write.proofs.split.write_split.Goals as goal
+use Rattle.vm_tree_write.proofs.Splitting.{draft-past, first-apart, holding-past, three-all, three-redrafted, three-released, three-stay, told-before}
 
 pub unreachable-requires : goal.unreachable-requires
 unreachable-requires g c =

@@ -1,7 +1,7 @@
 use Rattle.std.proofs.Common.{subst}
 use Rattle.vm_tree_rule.specs.Turns.{IsTurnedBack}
-use Rattle.vm_tree_write.proofs.Trying.{turn-again, turn-astray, turn-need}
 use Rattle.vm_tree_write.proofs.tries.not_found.Goals as goal
+use Rattle.vm_tree_write.proofs.Trying.{turn-again, turn-astray, turn-need}
 
 pub returns-in-Again : goal.returns-in-Again
 returns-in-Again c = λ key v w a. turn-again key _ v w (subst (λ t. IsTurnedBack v key t w) c.in-Again.is a)

@@ -1,10 +1,9 @@
-use Rattle.std.proofs.Common.{◌++◌, refl, inl, inr}
-use Rattle.vm_step.specs.Passes.{view}
-use Rattle.vm_guard.specs.Groups.{guards_of}
+use Rattle.std.proofs.Common.{◌++◌, inl, inr, refl}
+use Rattle.vm_step.specs.Prelude.{view}
 use Rattle.vm_exmap.proofs.Handing.{held-on}
+use Rattle.vm_guard.specs.Groups.{guards_of}
 use Rattle.vm_tree_read.proofs.Losing.{freed-loses, loses-same, loses-then}
-use Rattle.vm_tree_write.proofs.Ends.{below-ended, can-split}
-use Rattle.vm_tree_write.proofs.Under.{some-taken, taken-one}
+use Rattle.vm_tree_write.proofs.{Ends.below-ended, Ends.can-split, Under.some-taken, Under.taken-one}
 use Rattle.vm_tree_write.proofs.tries.split_below.Goals as goal
 
 pub unreachable-requires : goal.unreachable-requires

@@ -1,9 +1,9 @@
-use Rattle.std.proofs.Common.{◌++◌, ◌∙◌, ◌∷◌, [], length, refl, ap, arith, inl, inr}
+use Rattle.std.proofs.Common.{[], ◌++◌, ◌∙◌, ◌∷◌, ap, arith, inl, inr, length, refl}
 use Rattle.std.proofs.lemmas.List.{length-append}
-use Rattle.vm_step.specs.Passes.{view}
+use Rattle.vm_step.specs.Prelude.{view}
+use Rattle.vm_exmap.proofs.Handing.{held-on}
 use Rattle.vm_guard.specs.Groups.{guards_of}
 use Rattle.vm_guard.proofs.Pairs.{taken-both, two-many}
-use Rattle.vm_exmap.proofs.Handing.{held-on}
 use Rattle.vm_tree_read.proofs.Losing.{freed-loses, loses-same, loses-then}
 use Rattle.vm_tree_write.proofs.Ends.{can-split-root, root-ended}
 use Rattle.vm_tree_write.proofs.tries.split_root.Goals as goal

@@ -1,14 +1,13 @@
 use Rattle.std.proofs.Common.{◌∙◌, subst}
 use Rattle.std.proofs.lemmas.Bool.{false≢true}
+use Rattle.vm_step.specs.Prelude.{view}
 use Rattle.vm_exmap.proofs.Handing.{held-on}
-use Rattle.vm_step.specs.Passes.{view}
-use Rattle.vm_tree_rule.specs.Seeks.{IsMet}
-use Rattle.vm_tree_read.proofs.Losing.{loses-same, loses-then, reads-lose}
-use Rattle.vm_tree_write.proofs.Trying.{roomy-lost, roomy-valid, tried-below, tried-root, turn-reads}
-use Rattle.vm_tree_rule.specs.Seeks.{KnowsMet}
+use Rattle.vm_tree_rule.specs.Seeks.{IsMet, KnowsMet}
 use Rattle.vm_tree_rule.proofs.Surely.{known-at}
+use Rattle.vm_tree_read.proofs.Losing.{loses-same, loses-then, reads-lose}
 use Rattle.vm_tree_write.proofs.Settling.{knows-to-split}
 use Rattle.vm_tree_write.proofs.tries.try_split.Goals as goal
+use Rattle.vm_tree_write.proofs.Trying.{roomy-lost, roomy-valid, tried-below, tried-root, turn-reads}
 
 pub returns-in-Err-clause-tried : goal.returns-in-Err-clause-tried
 returns-in-Err-clause-tried g c = c.not_found.ensures c.args.key (view c.args.pass.now) (view c.seek_full.new.pass) c.in-Err.ensures.err

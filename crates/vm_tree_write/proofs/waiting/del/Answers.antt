@@ -1,11 +1,11 @@
 use Rattle.std.proofs.Common.{◌∙◌, refl}
+use Rattle.vm_step.specs.Prelude.{view}
 use Rattle.vm_exmap.proofs.Handing.{held-on}
-use Rattle.vm_step.specs.Passes.{view}
 use Rattle.vm_tree_read.specs.Waiting.{Waits}
 use Rattle.vm_tree_read.proofs.Lasting.{reads-wait, waits-self, waits-then}
+use Rattle.vm_tree_read.proofs.Losing.{loses-same, loses-then, lost-on, reads-lose}
 use Rattle.vm_tree_write.specs.Waiting.{IsWriteFaulted as faulted}
 use Rattle.vm_tree_write.proofs.Lasting.{del-frames, replied, waits-last}
-use Rattle.vm_tree_read.proofs.Losing.{lost-on, loses-same, loses-then, reads-lose}
 use Rattle.vm_tree_write.proofs.waiting.del.Goals as goal
 
 pub loop-init : goal.loop-init

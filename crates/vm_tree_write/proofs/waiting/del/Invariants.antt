@@ -1,7 +1,5 @@
 use Rattle.std.proofs.Common.{◌≡◌}
-use Rattle.vm_step.specs.HeldFrames.{AreHeld}
-use Rattle.vm_step.specs.Passes.{IsSamePass, view}
-use Rattle.vm_step.specs.Ready.{IsReady}
+use Rattle.vm_step.specs.Prelude.{AreHeld, IsReady, IsSamePass, view}
 use Rattle.vm_tree_read.specs.Waiting.{LosesNone, Waits}
 use Rattle.vm_tree_write.proofs.waiting.del.Given as goal
 

@@ -1,12 +1,11 @@
-use Rattle.std.proofs.Common.{◌∙◌, refl, arith}
+use Rattle.std.proofs.Common.{◌∙◌, arith, refl}
 use Rattle.std.proofs.lemmas.Result.{IfErr-weaker}
-use Rattle.vm_step.specs.Passes.{view}
-use Rattle.vm_tree_read.specs.Waiting.{IsBringFault}
+use Rattle.vm_step.specs.Prelude.{view}
 use Rattle.vm_pool.specs.declared.bring.Bring.TheVariants as brings
-use Rattle.vm_tree_write.specs.Waiting.{IsRoomFault, IsRoomFault as room_faults}
-use Rattle.vm_tree_write.proofs.Framing.{keeps-then}
-use Rattle.vm_tree_write.proofs.Lasting.{sweep-keeps, waits-keep}
+use Rattle.vm_tree_read.specs.Waiting.{IsBringFault}
 use Rattle.vm_tree_read.proofs.Losing.{loses-then, swept-loses}
+use Rattle.vm_tree_write.specs.Waiting.{IsRoomFault, IsRoomFault as room_faults}
+use Rattle.vm_tree_write.proofs.{Framing.keeps-then, Lasting.sweep-keeps, Lasting.waits-keep}
 use Rattle.vm_tree_write.proofs.waiting.make_room.Goals as goal
 
 pub fetch-requires-clause-home : goal.fetch-requires-clause-home

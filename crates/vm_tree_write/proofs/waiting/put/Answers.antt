@@ -1,13 +1,10 @@
-use Rattle.std.proofs.Common.{◌∙◌, refl, inl}
+use Rattle.std.proofs.Common.{◌∙◌, inl, refl}
+use Rattle.vm_step.specs.Prelude.{view}
 use Rattle.vm_exmap.proofs.Handing.{held-on}
-use Rattle.vm_step.specs.Passes.{view}
-use Rattle.vm_tree_write.specs.Splits.{KeepsLocksOnly}
-use Rattle.vm_tree_write.specs.Waiting.{IsWriteFaulted as faulted, IsPutFaulted as put_faulted}
-use Rattle.vm_tree_write.proofs.Framing.{keeps-self, keeps-then}
+use Rattle.vm_tree_read.proofs.Losing.{loses-same, loses-then, lost-on, reads-lose}
+use Rattle.vm_tree_write.specs.{Splits.KeepsLocksOnly, Waiting.IsPutFaulted as put_faulted, Waiting.IsWriteFaulted as faulted}
+use Rattle.vm_tree_write.proofs.{Framing.keeps-self, Framing.keeps-then, Telling.put-not, Trying.reads-keep}
 use Rattle.vm_tree_write.proofs.Lasting.{keeps-last, replied, waits-keep}
-use Rattle.vm_tree_write.proofs.Telling.{put-not}
-use Rattle.vm_tree_write.proofs.Trying.{reads-keep}
-use Rattle.vm_tree_read.proofs.Losing.{lost-on, loses-same, loses-then, reads-lose}
 use Rattle.vm_tree_write.proofs.waiting.put.Goals as goal
 
 pub loop-init : goal.loop-init

@@ -1,9 +1,7 @@
 use Rattle.std.proofs.Common.{◌≡◌}
-use Rattle.vm_step.specs.HeldFrames.{AreHeld}
-use Rattle.vm_step.specs.Passes.{IsSamePass, view}
-use Rattle.vm_step.specs.Ready.{IsReady}
-use Rattle.vm_tree_write.specs.Splits.{KeepsLocksOnly}
+use Rattle.vm_step.specs.Prelude.{AreHeld, IsReady, IsSamePass, view}
 use Rattle.vm_tree_read.specs.Waiting.{LosesNone}
+use Rattle.vm_tree_write.specs.Splits.{KeepsLocksOnly}
 use Rattle.vm_tree_write.proofs.waiting.put.Given as goal
 
 -- no try was answered yet

@@ -1,9 +1,8 @@
-use Rattle.std.proofs.Common.{ℕ, List, Some, ◌∙◌, sym, subst, ap, refl}
+use Rattle.std.proofs.Common.{◌∙◌, ap, List, refl, Some, subst, sym, ℕ}
 use Rattle.std.proofs.lemmas.Bool.{false≢true}
-use Rattle.vm_map.specs.Map.{Rises, lookup_at, del_pair}
-use Rattle.vm_tree_model.specs.Edits.{IsLeafWith}
-use Rattle.vm_tree_model.specs.Page.{pairs_of, IsLeaf}
-use Rattle.vm_step.specs.Passes.{view}
+use Rattle.vm_map.specs.Map.{del_pair, lookup_at, Rises}
+use Rattle.vm_tree_model.specs.{Edits.IsLeafWith, Page.IsLeaf, Page.pairs_of}
+use Rattle.vm_step.specs.Prelude.{view}
 use Rattle.vm_tree_write.proofs.Telling.{del-done, del-edit, del-missed, not-valid}
 use Rattle.vm_tree_write.proofs.write.try_del.Goals as goal
 

@@ -1,14 +1,12 @@
-use Rattle.std.proofs.Common.{ℕ, List, ◌≡◌, ◌∙◌, length, sym, subst}
+use Rattle.std.proofs.Common.{◌∙◌, ◌≡◌, length, List, subst, sym, ℕ}
 use Rattle.std.proofs.lemmas.Bool.{false≢true}
 use Rattle.vm_map.specs.declared.window.TheConstants.{MOST_PAIRS}
-use Rattle.vm_tree_model.specs.Edits.{IsFullFor, PutsInLeaf}
-use Rattle.vm_tree_model.specs.Node.{Covers}
-use Rattle.vm_tree_model.specs.Page.{node_of, pairs_of, IsLeaf}
-use Rattle.vm_step.specs.Passes.{view}
-use Rattle.vm_tree_write.proofs.Telling.{not-valid, put-done, put-edit, tight}
+use Rattle.vm_tree_model.specs.{Edits.IsFullFor, Edits.PutsInLeaf, Node.Covers}
+use Rattle.vm_tree_model.specs.Page.{IsLeaf, node_of, pairs_of}
+use Rattle.vm_step.specs.Prelude.{view}
 use Rattle.vm_tree_laws.specs.Tied.{Tied}
-use Rattle.vm_tree_rule.proofs.Readings.{valid-reads}
-use Rattle.vm_tree_rule.proofs.Surely.{known-at, resident-same}
+use Rattle.vm_tree_rule.proofs.{Readings.valid-reads, Surely.known-at, Surely.resident-same}
+use Rattle.vm_tree_write.proofs.Telling.{not-valid, put-done, put-edit, tight}
 use Rattle.vm_tree_write.proofs.write.try_put.Goals as goal
 
 pub returns-in-Err-clause-tried : goal.returns-in-Err-clause-tried

@@ -1,5 +1,5 @@
 use Rattle.std.proofs.Common.{subst}
-use Rattle.vm_step.specs.Evidence.{UnlockedExpected}
+use Rattle.vm_step.specs.Prelude.{UnlockedExpected}
 use Rattle.vm_guard.specs.Denied.{AgainOrWorn, IsDenied, KeptWord}
 use Rattle.vm_tree_write.specs.Writes.{SaysWorn}
 use Rattle.vm_tree_write.proofs.Telling.{not-locked, worn-leaf}
