@@ -1,32 +1,74 @@
--- How far the counts of workers' answers can rise.
-use Rattle.std.proofs.Common.{◌≡◌, ◌+◌, ◌*◌, ◌<◌, ◌≤◌, ℕ, zero, suc, Bool, List, Vec, Result, [], ◌∷◌, length, take, get_or, sym, subst, arith}
-use Rattle.std.specs.List.{count_by}
+-- What a tally comes to answer by answer, and what the workers' tallies come to.
 use Rattle.std.specs.declared.alloc.Global.{Global}
-use Rattle.std.proofs.lemmas.List.Sums.{count_by-le-length, sum_by-cons}
-use Rattle.vm_map.specs.declared.call.Reply.{Reply}
+use Rattle.std.specs.List.{AllByRecursion, count_by, sum_by}
+use Rattle.std.proofs.Common.{[], ◌*◌, ◌++◌, ◌+◌, ◌<◌, ◌∙◌, ◌∷◌, ◌≡◌, ◌≤◌, ap, arith, cond, get_or, length, length-append, List, refl, Result}
+use Rattle.std.proofs.Common.{slice_index_or, subst, suc, sym, take, Vec, zero, ℕ}
+use Rattle.std.proofs.lemmas.List.Sums.{count_by-le-length, sum_by-cons, sum_by_more_le, sum_by_push}
+use Rattle.vm_map.specs.{declared.call.Call.Call, declared.call.Reply.Reply}
 use Rattle.vm_tree_rule.specs.declared.fault.TreeFault.{TreeFault}
-use Rattle.vm_drive.specs.Drives.{AreFew, items_of}
-use Rattle.vm_churn.specs.Tallies.{count_in}
+use Rattle.vm_drive.specs.{Drives.AreFew, Drives.items_of, Kept.AreKept}
+use Rattle.vm_churn.specs.declared.tally.Tally.{Tally}
+use Rattle.vm_churn.specs.Tallies.{count_in, IsSmall, StandsFor, tells_found, tells_gone, tells_new, told_after, told_by, told_tally, total_of}
 
 abbrev Answer : Type 0
 Answer = Result Reply TreeFault
 
-abbrev Answers : Type 0
-Answers = Vec Answer Global
+told-small : (told : List Answer) → length told ≤ 1000000 → IsSmall (told_by told)
+told-small told few = record {
+  some = omega (arith, count_by-le-length tells_found told);
+  new = omega (arith, count_by-le-length tells_new told);
+  gone = omega (arith, count_by-le-length tells_gone told);
+}
+
+told-more : (told : List Answer) (answer : Answer) → told_by (told ++ answer ∷ []) ≡ told_after (told_by told) answer
+told-more told answer =
+    let some : count_by tells_found (told ++ answer ∷ []) ≡ count_by tells_found told + cond (tells_found answer) 1 0 = sum_by_push (λ a. cond (tells_found a) 1 0) told answer in
+    let new : count_by tells_new (told ++ answer ∷ []) ≡ count_by tells_new told + cond (tells_new answer) 1 0 = sum_by_push (λ a. cond (tells_new a) 1 0) told answer in
+    let gone : count_by tells_gone (told ++ answer ∷ []) ≡ count_by tells_gone told + cond (tells_gone answer) 1 0 = sum_by_push (λ a. cond (tells_gone a) 1 0) told answer in
+    cc
+
+-- the tally with the answer more stands for it
+pub stands_after : (old new : Tally) (answer : Answer) → (IsSmall old → new ≡ told_after old answer) → (told : List Answer) → StandsFor old told → StandsFor new (told ++ answer ∷ [])
+stands_after old new answer counts told stands few =
+    let short : length told ≤ 1000000 = omega (arith, few, length-append told (answer ∷ [])) in
+    let is : old ≡ told_by told = stands short in
+    counts (subst (λ t. IsSmall t) (sym is) (told-small told short)) ∙ ap (λ t. told_after t answer) is ∙ sym (told-more told answer)
 
 -- a list that is one of few
-pub few_at : (replies : List Answers) (i : ℕ) (answers : Answers) → AreFew (items_of replies) → i < length replies → answers ≡ get_or replies i answers → length answers.items ≤ 1000000
-few_at [] i answers few l is = absurd (omega arith)
-few_at (a ∷ replies) zero answers few l is = subst (λ (v : Answers). length v.items ≤ 1000000) (sym is) few.0
-few_at (a ∷ replies) (suc i) answers few l is = few_at replies i answers few.1 (omega arith) is
+pub few_at : (lists : List (Vec Call Global)) (i : ℕ) (calls : Vec Call Global) → AreFew (items_of lists) → i < length lists → calls ≡ get_or lists i calls → length calls.items ≤ 1000000
+few_at [] i calls few l is = absurd (omega arith)
+few_at (a ∷ lists) zero calls few l is = subst (λ (v : Vec Call Global). length v.items ≤ 1000000) (sym is) few.0
+few_at (a ∷ lists) (suc i) calls few l is = few_at lists i calls few.1 (omega arith) is
 
-count-most : (tells : Answer → Bool) (replies : List Answers) (i : ℕ) → AreFew (items_of replies) → count_in tells (items_of (take i replies)) ≤ 1000000 * i
-count-most tells replies zero few = omega arith
-count-most tells [] (suc i) few = omega arith
-count-most tells (a ∷ replies) (suc i) few =
-    let both : count_in tells (items_of (take (suc i) (a ∷ replies))) ≡ count_by tells a.items + count_in tells (items_of (take i replies)) = sum_by-cons (count_by tells) a.items (items_of (take i replies)) in
-    omega (arith, both, count_by-le-length tells a.items, few.0, count-most tells replies i few.1)
+-- the tallies of few answers each are small
+pub kept_small : (tallies : List Tally) (told : List (List Answer)) → AreKept StandsFor tallies told → AreFew told → AllByRecursion IsSmall tallies
+kept_small [] [] kept few = tt
+kept_small [] (t ∷ told) kept few = absurd kept
+kept_small (a ∷ tallies) [] kept few = absurd kept
+kept_small (a ∷ tallies) (t ∷ told) kept few = (subst (λ x. IsSmall x) (sym (kept.0 few.0)) (told-small t few.0), kept_small tallies told kept.1 few.1)
 
--- with one worker's answers more a count stays small
-pub count_small : (tells : Answer → Bool) (replies : List Answers) (i : ℕ) (answers : List Answer) (all own : ℕ) → length replies ≤ 64 → AreFew (items_of replies) → i < length replies → length answers ≤ 1000000 → all ≡ count_in tells (items_of (take i replies)) → own ≡ count_by tells answers → all + own ≤ 64000000
-count_small tells replies i answers all own workers few l short is one = omega (arith, is, one, workers, l, short, count-most tells replies i few, count_by-le-length tells answers)
+-- and together they are the tally of all answers
+pub kept_total : (tallies : List Tally) (told : List (List Answer)) → AreKept StandsFor tallies told → AreFew told → total_of tallies ≡ told_tally told
+kept_total [] [] kept few = refl
+kept_total [] (t ∷ told) kept few = absurd kept
+kept_total (a ∷ tallies) [] kept few = absurd kept
+kept_total (a ∷ tallies) (t ∷ told) kept few =
+    let is : a ≡ told_by t = kept.0 few.0 in
+    let rest : total_of tallies ≡ told_tally told = kept_total tallies told kept.1 few.1 in
+    let some : sum_by (λ (x : Tally). x.some) (a ∷ tallies) ≡ count_in tells_found (t ∷ told) =
+    sum_by-cons (λ (x : Tally). x.some) a tallies ∙ ap (λ (x : Tally). x.some + sum_by (λ (y : Tally). y.some) tallies) is ∙ ap (λ (x : Tally). count_by tells_found t + x.some) rest ∙ sym (sum_by-cons (count_by tells_found) t told) in
+    let new : sum_by (λ (x : Tally). x.new) (a ∷ tallies) ≡ count_in tells_new (t ∷ told) =
+    sum_by-cons (λ (x : Tally). x.new) a tallies ∙ ap (λ (x : Tally). x.new + sum_by (λ (y : Tally). y.new) tallies) is ∙ ap (λ (x : Tally). count_by tells_new t + x.new) rest ∙ sym (sum_by-cons (count_by tells_new) t told) in
+    let gone : sum_by (λ (x : Tally). x.gone) (a ∷ tallies) ≡ count_in tells_gone (t ∷ told) =
+    sum_by-cons (λ (x : Tally). x.gone) a tallies ∙ ap (λ (x : Tally). x.gone + sum_by (λ (y : Tally). y.gone) tallies) is ∙ ap (λ (x : Tally). count_by tells_gone t + x.gone) rest ∙ sym (sum_by-cons (count_by tells_gone) t told) in
+    cc
+
+sum-most : (f : Tally → ℕ) (tallies : List Tally) → ((t : Tally) → IsSmall t → f t ≤ 1000000) → AllByRecursion IsSmall tallies → sum_by f tallies ≤ 1000000 * length tallies
+sum-most f [] most small = omega arith
+sum-most f (a ∷ tallies) most small = omega (arith, sum_by-cons f a tallies, most a small.0, sum-most f tallies most small.1)
+
+-- with one worker's tally more a sum stays small
+pub sum_small : (f : Tally → ℕ) (tallies : List Tally) (i : ℕ) (d : Tally) (all : ℕ) → ((t : Tally) → IsSmall t → f t ≤ 1000000) → length tallies ≤ 64 → AllByRecursion IsSmall tallies → i < length tallies → all ≡ sum_by f (take i tallies) → all + f (slice_index_or tallies i d) ≤ 64000000
+sum_small f tallies i d all most workers small l sums =
+    let whole : sum_by f (take i tallies) + f (slice_index_or tallies i d) ≤ sum_by f tallies = sum_by_more_le f tallies i d l in
+    omega (arith, whole, sums, workers, sum-most f tallies most small)

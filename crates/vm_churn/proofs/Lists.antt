@@ -1,19 +1,20 @@
 -- The lists of a churn as the loop over the places fills them: what a place adds to them, how many and how long they are.
-use Rattle.std.proofs.Common.{◌≡◌, ◌≢◌, ◌∙◌, ◌+◌, ◌-◌, ◌*◌, ◌%◌, ◌<◌, ◌≤◌, ◌==◌, ℕ, zero, suc, Bool, true, false, cond, List, Vec, [], ◌∷◌, ◌++◌, length, map, filter, replicate, set, get_or, refl, sym, ap, subst, add-one, arith, append-nil, length-append, length-set, ⊎_elim}
 use Rattle.std.specs.declared.alloc.Global.{Global}
 use Rattle.std.specs.List.{AllByRecursion, flat_map, range_with_len}
+use Rattle.std.proofs.Common.{[], ⊎_elim, ◌%◌, ◌*◌, ◌++◌, ◌+◌, ◌-◌, ◌<◌, ◌==◌, ◌∙◌, ◌∷◌, ◌≡◌, ◌≢◌, ◌≤◌, add-one, ap, append-nil, arith, Bool, cond}
+use Rattle.std.proofs.Common.{false, filter, get_or, length, length-append, length-set, List, map, refl, replicate, set, subst, suc, sym, true, Vec}
+use Rattle.std.proofs.Common.{zero, ℕ}
 use Rattle.std.proofs.lemmas.Bool.{cases_eq, eq-eqb, ne_eqb}
-use Rattle.std.proofs.lemmas.List.{ext_get_or, get_or-map, get_or-set_same, get_or-set_other, length-map, map-set}
+use Rattle.std.proofs.lemmas.List.{ext_get_or, get_or-map, get_or-set_other, get_or-set_same, length-map, map-set}
 use Rattle.std.proofs.lemmas.List.Concat.{flat_map-append, flat_map-cons}
 use Rattle.std.proofs.lemmas.List.Elements.{filter-append}
 use Rattle.std.proofs.lemmas.List.FromFn.{get_or-map-range_with_len, length-map-range_with_len, length-range_with_len}
 use Rattle.std.proofs.lemmas.Nat.{mod_below}
-use Rattle.vm_map.specs.History.{IsAskable}
-use Rattle.vm_map.specs.declared.call.Call.{Call}
-use Rattle.vm_map.specs.declared.call.Call.TheVariants.{Get, Put, Del}
+use Rattle.vm_map.specs.{declared.call.Call.Call, History.IsAskable}
+use Rattle.vm_map.specs.declared.call.Call.TheVariants.{Del, Get, Put}
 use Rattle.vm_build.specs.Numbers.{number_at}
-use Rattle.vm_drive.specs.Holds.{list_at}
 use Rattle.vm_drive.specs.Drives.{AreAskable, AreFew, items_of}
+use Rattle.vm_drive.specs.Holds.{list_at}
 use Rattle.vm_churn.specs.Calls.{calls_for, churn_lists, key_at, place_calls, places_of, worker_calls}
 
 range-more : (a k : ℕ) → range_with_len a (suc k) ≡ range_with_len a k ++ (a + k) ∷ []

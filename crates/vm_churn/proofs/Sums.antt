@@ -1,19 +1,17 @@
 -- How far the values of a churn's last map can add up: each is a value of the first map or of a put, and a place's values are small.
-use Rattle.std.proofs.Common.{◌≡◌, ◌+◌, ◌-◌, ◌*◌, ◌%◌, ◌<◌, ◌≤◌, ◌==◌, ℕ, zero, suc, Bool, true, false, cond, nat_lt, List, [], ◌∷◌, length, filter, Result, Ok, Err, sym, subst, arith, le_trans}
 use Rattle.std.specs.List.{AllByRecursion, flat_map, range_with_len}
+use Rattle.std.proofs.Common.{[], ◌%◌, ◌*◌, ◌+◌, ◌-◌, ◌<◌, ◌==◌, ◌∷◌, ◌≡◌, ◌≤◌, arith, Bool, cond, Err, false, filter, le_trans, length, List, nat_lt}
+use Rattle.std.proofs.Common.{Ok, Result, subst, suc, sym, true, zero, ℕ}
 use Rattle.std.proofs.lemmas.List.Concat.{flat_map-cons}
 use Rattle.std.proofs.lemmas.List.Sums.{sum_by-append, sum_by-cons}
-use Rattle.vm_map.specs.History.{after, after_all}
-use Rattle.vm_map.specs.Map.{Pairs, del_pair, gather, put_pair}
-use Rattle.vm_map.specs.declared.call.Call.{Call}
-use Rattle.vm_map.specs.declared.call.Call.TheVariants.{Get, Put, Del, Window}
-use Rattle.vm_map.specs.declared.call.Reply.{Reply}
-use Rattle.vm_map.specs.declared.call.Said.{Said}
-use Rattle.vm_owner.specs.declared.Entry.{Entry}
+use Rattle.vm_map.specs.{declared.call.Call.Call, declared.call.Reply.Reply, declared.call.Said.Said, History.after, History.after_all}
+use Rattle.vm_map.specs.declared.call.Call.TheVariants.{Del, Get, Put, Window}
+use Rattle.vm_map.specs.Map.{del_pair, gather, Pairs, put_pair}
+use Rattle.vm_build.specs.Numbers.{number_at, numbered}
+use Rattle.vm_rule.specs.Prelude.{Entry}
 use Rattle.vm_tree_laws.specs.History.{saids}
 use Rattle.vm_tree_rule.specs.declared.fault.TreeFault.{TreeFault}
-use Rattle.vm_build.specs.Numbers.{number_at, numbered}
-use Rattle.vm_drive.specs.Holds.{HoldsCalls, answered, list_at}
+use Rattle.vm_drive.specs.Holds.{answered, HoldsCalls, list_at}
 use Rattle.vm_churn.specs.Calls.{calls_for, churn_lists, key_at, place_calls, places_of, worker_calls}
 use Rattle.vm_churn.specs.Tallies.{sum_values}
 use Rattle.vm_churn.proofs.Lists.{count_lists, each-both, few_worker, list_is}

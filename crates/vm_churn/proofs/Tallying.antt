@@ -1,20 +1,17 @@
 -- A history that holds workers' calls with their answers: what its entries come to is what the answers do.
-use Rattle.std.proofs.Common.{◌≡◌, ◌≢◌, ◌∙◌, ◌+◌, ◌<◌, ◌==◌, ◌||◌, ℕ, zero, suc, Bool, true, false, cond, List, [], ◌∷◌, length, Some, None, Result, Ok, Err, refl, sym, ap, subst, arith, ⊎_elim}
 use Rattle.std.specs.List.{count_by, sum_by}
+use Rattle.std.proofs.Common.{[], ⊎_elim, ◌+◌, ◌<◌, ◌==◌, ◌||◌, ◌∙◌, ◌∷◌, ◌≡◌, ◌≢◌, ap, arith, Bool, cond, Err, false, length, List, None, Ok, refl}
+use Rattle.std.proofs.Common.{Result, Some, subst, suc, sym, true, zero, ℕ}
 use Rattle.std.proofs.lemmas.Bool.{cases_eq, eq-eqb, ne_eqb}
 use Rattle.std.proofs.lemmas.List.Sums.{sum_by-cons}
-use Rattle.vm_map.specs.History.{AreReplies, IsReply, after}
-use Rattle.vm_map.specs.Map.{Pairs}
-use Rattle.vm_map.specs.declared.call.Call.{Call}
-use Rattle.vm_map.specs.declared.call.Call.TheVariants.{Get, Put, Del, Window}
-use Rattle.vm_map.specs.declared.call.Reply.{Reply}
-use Rattle.vm_map.specs.declared.call.Reply.TheVariants.{Got, Was, Gone, Win}
-use Rattle.vm_map.specs.declared.call.Said.{Said}
-use Rattle.vm_owner.specs.declared.Entry.{Entry}
-use Rattle.vm_rule.specs.Views.{Each, entries_by}
+use Rattle.vm_map.specs.{declared.call.Call.Call, declared.call.Reply.Reply, declared.call.Said.Said, Map.Pairs}
+use Rattle.vm_map.specs.declared.call.Call.TheVariants.{Del, Get, Put, Window}
+use Rattle.vm_map.specs.declared.call.Reply.TheVariants.{Gone, Got, Was, Win}
+use Rattle.vm_map.specs.History.{after, AreReplies, IsReply}
+use Rattle.vm_rule.specs.Prelude.{Each, entries_by, Entry}
 use Rattle.vm_tree_laws.specs.History.{is_new, news, saids}
 use Rattle.vm_tree_rule.specs.declared.fault.TreeFault.{TreeFault}
-use Rattle.vm_drive.specs.Holds.{HoldsCalls, answered, list_at, said_by}
+use Rattle.vm_drive.specs.Holds.{answered, HoldsCalls, list_at, said_by}
 use Rattle.vm_churn.specs.Tallies.{count_in, founds, gones, is_found, is_gone, tally_of, tells_found, tells_gone, tells_new, told_tally}
 
 abbrev Answer : Type 0

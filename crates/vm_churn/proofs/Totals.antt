@@ -1,11 +1,12 @@
 -- How many calls a churn has in all.
-use Rattle.std.proofs.Common.{◌≡◌, ◌≢◌, ◌∙◌, ◌+◌, ◌%◌, ◌≤◌, ◌==◌, ℕ, zero, suc, true, false, cond, List, [], ◌∷◌, length, map, refl, sym, ap, add-one, arith, length-append, ⊎_elim}
 use Rattle.std.specs.List.{range_with_len, sum_by}
+use Rattle.std.proofs.Common.{[], ⊎_elim, ◌%◌, ◌+◌, ◌==◌, ◌∙◌, ◌∷◌, ◌≡◌, ◌≢◌, ◌≤◌, add-one, ap, arith, cond, false, length, length-append, List, map}
+use Rattle.std.proofs.Common.{refl, suc, sym, true, zero, ℕ}
 use Rattle.std.proofs.lemmas.Bool.{cases_eq, eq-eqb, ne_eqb}
 use Rattle.std.proofs.lemmas.List.FromFn.{sum_by-map-range_with_len_more}
 use Rattle.std.proofs.lemmas.Nat.{mod_below}
 use Rattle.vm_map.specs.declared.call.Call.{Call}
-use Rattle.vm_map.specs.declared.call.Call.TheVariants.{Get, Put, Del}
+use Rattle.vm_map.specs.declared.call.Call.TheVariants.{Del, Get, Put}
 use Rattle.vm_churn.specs.Calls.{calls_for, churn_count, churn_lists, key_at, place_calls}
 use Rattle.vm_churn.proofs.Lists.{calls_up_to, other, own}
 use Rattle.vm_churn.proofs.Tallying.{sum_to, sum_to-both, sum_to-none, sum_to-one}

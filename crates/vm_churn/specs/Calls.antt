@@ -1,8 +1,8 @@
 -- The calls of a churn over n pairs: what each place asks for, and how the places are shared out among the workers. Places are counted from 1.
-use Rattle.std.specs.Prelude.{ℕ, ◌+◌, ◌-◌, ◌*◌, ◌/◌, ◌%◌, ◌==◌, List, [], ◌∷◌, map, filter, if◌then◌else◌}
 use Rattle.std.specs.List.{flat_map, range_with_len}
+use Rattle.std.specs.Prelude.{[], ◌%◌, ◌*◌, ◌+◌, ◌-◌, ◌/◌, ◌==◌, ◌∷◌, filter, if◌then◌else◌, List, map, ℕ}
 use Rattle.vm_map.specs.declared.call.Call.{Call}
-use Rattle.vm_map.specs.declared.call.Call.TheVariants.{Get, Put, Del}
+use Rattle.vm_map.specs.declared.call.Call.TheVariants.{Del, Get, Put}
 use Rattle.vm_build.specs.Numbers.{number_at}
 
 -- the key of a place

@@ -1,14 +1,11 @@
 -- What the calls of a churn came to: how many gets found a value, how many puts no pair of their key, and how many dels one; in a history, and
 -- among the answers.
-use Rattle.std.specs.Prelude.{ℕ, ◌+◌, Bool, true, false, if◌then◌else◌, List, [], ◌∷◌, Some, None, Result, Ok}
 use Rattle.std.specs.List.{count_by, sum_by}
-use Rattle.vm_map.specs.Map.{Pairs}
-use Rattle.vm_map.specs.declared.call.Call.{Call}
-use Rattle.vm_map.specs.declared.call.Call.TheVariants.{Get, Del}
-use Rattle.vm_map.specs.declared.call.Reply.{Reply}
-use Rattle.vm_map.specs.declared.call.Reply.TheVariants.{Got, Was, Gone}
-use Rattle.vm_map.specs.declared.call.Said.{Said}
-use Rattle.vm_owner.specs.declared.Entry.{Entry}
+use Rattle.std.specs.Prelude.{[], ◌+◌, ◌∷◌, ◌≡◌, ◌≤◌, Bool, false, if◌then◌else◌, length, List, None, Ok, Result, Some, true, ℕ}
+use Rattle.vm_map.specs.{declared.call.Call.Call, declared.call.Call.TheVariants.Del, declared.call.Call.TheVariants.Get, declared.call.Reply.Reply}
+use Rattle.vm_map.specs.{declared.call.Said.Said, Map.Pairs}
+use Rattle.vm_map.specs.declared.call.Reply.TheVariants.{Gone, Got, Was}
+use Rattle.vm_rule.specs.Prelude.{Entry}
 use Rattle.vm_tree_laws.specs.History.{news}
 use Rattle.vm_tree_rule.specs.declared.fault.TreeFault.{TreeFault}
 use Rattle.vm_churn.specs.declared.tally.Tally.{Tally}
@@ -63,6 +60,24 @@ told_after tally answer = record {
   new = tally.new + (if tells_new answer then 1 else 0);
   gone = tally.gone + (if tells_gone answer then 1 else 0);
 }
+
+-- no count of the tally is more than a list's most answers
+pub record IsSmall (tally : Tally) : Type 0 where
+  pub some : tally.some ≤ 1000000
+  pub new : tally.new ≤ 1000000
+  pub gone : tally.gone ≤ 1000000
+
+-- the tally is that of these answers, where they are no more than a list may have calls
+abbrev pub StandsFor : Tally → List (Result Reply TreeFault) → Type 0
+StandsFor tally told = length told ≤ 1000000 → tally ≡ told_by told
+
+-- a tally takes as many answers as a list may have calls
+abbrev pub tally_room : Tally → ℕ
+tally_room tally = 1000000
+
+-- the tallies put together
+abbrev pub total_of : List Tally → Tally
+total_of tallies = record { some = sum_by (λ t. t.some) tallies; new = sum_by (λ t. t.new) tallies; gone = sum_by (λ t. t.gone) tallies }
 
 -- how many answers of all lists are such
 abbrev pub count_in : (Result Reply TreeFault → Bool) → List (List (Result Reply TreeFault)) → ℕ

@@ -1,6 +1,6 @@
 //! The calls that the workers of a churn make: each place has a few, and the places go to the workers in turn.
 
-ghost use Rattle.std.specs.Prelude.{◌≡◌, ◌≤◌, ◌+◌, ◌++◌, ◌∷◌, [], IfOk, OnOk, length, replicate};
+ghost use Rattle.std.specs.Prelude.{[], ◌++◌, ◌+◌, ◌≡◌, ◌≤◌, IfOk, length, OnOk, replicate};
 ghost use Rattle.vm_build.specs.Numbers.{number_at};
 ghost use Rattle.vm_drive.specs.Drives.{AreAskable, AreFew, items_of};
 ghost use Rattle.vm_churn.specs.Calls.{calls_for, churn_lists};
@@ -21,13 +21,13 @@ fn generator_after(seed: u64, places: u32) -> Generator
     numbers
 }
 
-// So many empty lists.
-fn empty_lists(alloc: Global, workers: u32) -> Result<Vec<Vec<Call>>, AllocError>
+// So many empty lists, each with room for so many calls.
+fn empty_lists(alloc: Global, workers: u32, most: u32) -> Result<Vec<Vec<Call>>, AllocError>
     ensures { IfOk result (λ lists. items_of lists.items ≡ replicate workers []) }
 {
     let mut lists = Vec::with_capacity(alloc, workers as usize)?;
     'workers: for _worker in 0..workers {
-        lists.push(Vec::new(alloc))?;
+        lists.push(Vec::with_capacity(alloc, most as usize)?)?;
     }
     Ok(lists)
 }
@@ -62,7 +62,8 @@ pub fn calls_of(
     ensures few { IfOk result (λ lists. AreFew (items_of lists.items)) }
     ensures askable { IfOk result (λ lists. AreAskable (items_of lists.items)) }
 {
-    let mut lists = empty_lists(alloc, workers)?;
+    // A place has three calls at the most. Memory that a list takes and does not use is never touched.
+    let mut lists = empty_lists(alloc, workers, 3 * (pairs / workers + 1))?;
     let mut keys = generator(seed);
     let mut new_keys = generator_after(seed, pairs);
     'places: for before in 0..pairs {

@@ -1,14 +1,10 @@
 //! What holds of the calls of a churn: each function states one law and does nothing.
 
-ghost use Rattle.std.specs.Prelude.{◌≡◌, ◌<◌, ◌≤◌, ◌^◌, List, Result, ℕ, length};
 ghost use Rattle.std.specs.List.{sum_by};
+ghost use Rattle.std.specs.Prelude.{◌<◌, ◌^◌, ◌≡◌, ◌≤◌, length, List, Result, ℕ};
+ghost use Rattle.vm_map.specs.{declared.call.Call.Call, declared.call.Reply.Reply, declared.call.Said.Said, History.after_all, Map.gather, Map.Pairs};
 ghost use Rattle.vm_build.specs.Numbers.{numbered};
-ghost use Rattle.vm_map.specs.History.{after_all};
-ghost use Rattle.vm_map.specs.Map.{Pairs, gather};
-ghost use Rattle.vm_map.specs.declared.call.Call.{Call};
-ghost use Rattle.vm_map.specs.declared.call.Reply.{Reply};
-ghost use Rattle.vm_map.specs.declared.call.Said.{Said};
-ghost use Rattle.vm_owner.specs.declared.Entry.{Entry};
+ghost use Rattle.vm_rule.specs.Prelude.{Entry};
 ghost use Rattle.vm_tree_laws.specs.History.{IsLegal, saids};
 ghost use Rattle.vm_tree_rule.specs.declared.fault.TreeFault.{TreeFault};
 ghost use Rattle.vm_drive.specs.Holds.{HoldsCalls};

@@ -6,4 +6,4 @@ pub mod laws;
 mod tally;
 
 pub use calls::calls_of;
-pub use tally::{Tally, sum_of, tally_answers};
+pub use tally::{Tally, sum_of, tallies_for, tally_all};

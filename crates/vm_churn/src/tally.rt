@@ -1,14 +1,16 @@
-//! What the calls of a churn were answered in all.
+//! What the calls of a churn were answered in all. Each worker's tally counts an answer as it comes, so none of them is kept.
 
-ghost use Rattle.std.specs.Prelude.{◌≡◌, ◌<◌, ◌≤◌, ◌^◌, length};
-ghost use Rattle.vm_drive.specs.Drives.{AreFew, items_of};
-ghost use Rattle.vm_churn.specs.Tallies.{sum_values, told_after, told_by, told_tally};
+ghost use Rattle.std.specs.List.{AllByRecursion};
+ghost use Rattle.std.specs.Prelude.{◌<◌, ◌^◌, ◌≡◌, ◌≤◌, IfOk, length};
+ghost use Rattle.vm_drive.specs.{Drives.AreFew, Drives.items_of, Kept.HaveRoom};
+ghost use Rattle.vm_churn.specs.Tallies.{IsSmall, StandsFor, sum_values, tally_room, told_after, total_of};
 
-use vm_drive::worker::Answer;
-use vm_map::call::{Pair, Reply};
+use std::alloc::{AllocError, Global};
+use vm_drive::answers::{Answer, Answers};
+use vm_map::call::{Call, Pair, Reply};
 
 /// How many gets found a value, how many puts no pair of their key, and how many dels one.
-#[derive(Clone, Copy)]
+#[derive(Clone, Copy, Drop)]
 pub struct Tally {
     pub some: u64,
     pub new: u64,
@@ -21,53 +23,62 @@ const NONE: Tally = Tally {
     gone: 0,
 };
 
+/// The tally of up to 1,000,000 answers.
+impl Answers for Tally {
+    ghost keeps = { StandsFor };
+
+    ghost room = { tally_room };
+
+    fn keep(&mut self, answer: Answer) {
+        *self = add(*self, &answer);
+    }
+}
+
 // With one answer more.
 fn add(tally: Tally, answer: &Answer) -> Tally
-    requires room { (tally.some < 1000000) × (tally.new < 1000000) × (tally.gone < 1000000) }
-    ensures { result ≡ told_after tally answer.now }
+    ensures { IsSmall tally → result ≡ told_after tally answer.now }
 {
     let Tally { some, new, gone } = tally;
     match answer {
         Ok(Reply::Got(Some(_))) => Tally {
-            some: some + 1,
+            some: some.saturating_add(1),
             new,
             gone,
         },
         Ok(Reply::Was(None)) => Tally {
             some,
-            new: new + 1,
+            new: new.saturating_add(1),
             gone,
         },
         Ok(Reply::Gone(Some(_))) => Tally {
             some,
             new,
-            gone: gone + 1,
+            gone: gone.saturating_add(1),
         },
         _ => tally,
     }
 }
 
-// The tally of one worker's answers.
-fn tally_of(answers: &[Answer]) -> Tally
-    requires { length answers.now ≤ 1000000 }
-    ensures { result ≡ told_by answers.now }
+/// A tally for each list of calls, of no answer yet.
+pub fn tallies_for(alloc: Global, lists: &[Vec<Call>]) -> Result<Vec<Tally>, AllocError>
+    requires { AreFew (items_of lists.now) }
+    ensures { IfOk result (λ tallies. HaveRoom StandsFor tally_room tallies.items (items_of lists.now)) }
 {
-    let mut tally = NONE;
-    'answers: for answer in answers {
-        tally = add(tally, answer);
+    let mut tallies = Vec::with_capacity(alloc, lists.len())?;
+    'lists: for _calls in lists {
+        tallies.push(NONE)?;
     }
-    tally
+    Ok(tallies)
 }
 
-/// The tally of up to 64 workers' answers, at most 1,000,000 each.
-pub fn tally_answers(replies: &[Vec<Answer>]) -> Tally
-    requires workers { length replies.now ≤ 64 }
-    requires few { AreFew (items_of replies.now) }
-    ensures { result ≡ told_tally (items_of replies.now) }
+/// The tally of all answers of up to 64 workers.
+pub fn tally_all(tallies: &[Tally]) -> Tally
+    requires workers { length tallies.now ≤ 64 }
+    requires small { AllByRecursion IsSmall tallies.now }
+    ensures { result ≡ total_of tallies.now }
 {
     let mut all = NONE;
-    'workers: for answers in replies {
-        let own = tally_of(answers.as_slice());
+    'workers: for own in tallies {
         all.some += own.some;
         all.new += own.new;
         all.gone += own.gone;

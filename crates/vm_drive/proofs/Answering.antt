@@ -1,32 +1,23 @@
 -- What the tree's calls that wait tell, in the terms of a worker: what its pass keeps, its entry, its note, or what it found.
-use Rattle.std.proofs.Common.{ℕ, ◌≡◌, ◌<◌, ◌≤◌, List, Result, sym, ap, subst, ◌∙◌, Ok, Err, ⊎_elim, ◌++◌, refl}
-use Rattle.vm_rule.specs.Brought.{entry_of}
-use Rattle.std.specs.Prelude.{IfOk, IfErr}
-use Rattle.vm_drive.specs.Calls.{HasFoundWorn, IsCalled, KeepsPass}
-use Rattle.vm_drive.specs.Shows.{IsWindowShown}
-use Rattle.vm_guard.specs.Denied.{KeptWord}
+use Rattle.std.specs.Prelude.{IfErr, IfOk}
+use Rattle.std.proofs.Common.{⊎_elim, ◌++◌, ◌<◌, ◌∙◌, ◌≡◌, ◌≤◌, ap, Err, List, Ok, refl, Result, subst, sym, ℕ}
+use Rattle.vm_map.specs.{declared.call.Call.Call, declared.call.Reply.Reply, declared.call.Said.Said}
 use Rattle.vm_map.specs.declared.call.Call.TheVariants.{Del, Get, Put, Window}
-use Rattle.vm_map.specs.declared.call.Call.{Call}
-use Rattle.vm_map.specs.declared.call.Reply.{Reply}
-use Rattle.vm_map.specs.declared.call.Said.{Said}
-use Rattle.vm_rule.specs.Rule.{began_of}
-use Rattle.vm_rule.specs.declared.view.Origin.{Origin}
-use Rattle.vm_rule.specs.declared.view.View.{View}
-use Rattle.vm_step.specs.Evidence.{UnlockedExpected}
-use Rattle.vm_tree_laws.specs.Keeps.{KeepsTree}
-use Rattle.vm_tree_laws.specs.May.{IsProved}
 use Rattle.vm_tree_model.specs.Page.{node_of}
+use Rattle.vm_rule.specs.Prelude.{began_of, entry_of}
+use Rattle.vm_step.specs.Prelude.{Origin, UnlockedExpected, View}
+use Rattle.vm_guard.specs.Denied.{KeptWord}
+use Rattle.vm_tree_laws.specs.{Keeps.KeepsTree, May.IsProved}
+use Rattle.vm_tree_rule.specs.declared.fault.TreeFault.{TreeFault}
 use Rattle.vm_tree_read.specs.Reads.{IsAnswered}
 use Rattle.vm_tree_read.specs.Waiting.{IsFaulted as IsReadFaulted, IsReplied as IsReadReplied, Waits}
-use Rattle.vm_tree_rule.specs.declared.fault.TreeFault.{TreeFault}
 use Rattle.vm_tree_write.specs.Splits.{KeepsLocksOnly}
-use Rattle.vm_tree_write.specs.Waiting.{IsWriteFaulted, IsWriteFaulted as faulted, IsPutFaulted, IsPutFaulted as put_faulted, IsWriteReplied}
+use Rattle.vm_tree_write.specs.Waiting.{IsPutFaulted, IsPutFaulted as put_faulted, IsWriteFaulted, IsWriteFaulted as faulted, IsWriteReplied}
 use Rattle.vm_tree_write.specs.Writes.{IsVain, IsWornLeaf, IsWriteDone}
-use Rattle.vm_drive.proofs.Finding.{denied-worn}
-use Rattle.vm_drive.proofs.Bringing.{fault-called}
-use Rattle.vm_drive.proofs.Rooms.{room-called}
-use Rattle.vm_drive.proofs.Keeping.{all-pass, reads-pass, waits-pass, writes-pass, same-front}
-use Rattle.vm_drive.proofs.Doing.{keeps-then}
+use Rattle.vm_drive.specs.Calls.{HasFoundWorn, IsCalled, KeepsPass}
+use Rattle.vm_drive.specs.Shows.{IsWindowShown}
+use Rattle.vm_drive.proofs.{Bringing.fault-called, Doing.keeps-then, Finding.denied-worn, Rooms.room-called}
+use Rattle.vm_drive.proofs.Keeping.{all-pass, reads-pass, same-front, waits-pass, writes-pass}
 
 -- ---- replies
 

@@ -1,22 +1,19 @@
 -- A page that could not be brought: the note, or the worn page.
-use Rattle.std.proofs.Common.{ℕ, ◌≡◌, ◌<◌, ◌≤◌, List, [], ◌∷◌, ◌++◌, refl, sym, subst, ◌∙◌, arith, Ok, Err}
-use Rattle.vm_core.specs.Words.{EVICTED, MAX_VERSION, word_of}
-use Rattle.vm_drive.specs.Calls.{HasFoundWorn, HasNoted, IsCalled, KeepsPass}
+use Rattle.std.proofs.Common.{[], ◌++◌, ◌<◌, ◌∙◌, ◌∷◌, ◌≡◌, ◌≤◌, arith, Err, List, Ok, refl, subst, sym, ℕ}
+use Rattle.vm_map.specs.{declared.call.Call.Call, declared.call.Said.Said}
+use Rattle.vm_core.specs.Prelude.{EVICTED, MAX_VERSION, word_of}
+use Rattle.vm_rule.specs.declared.view.Place.TheVariants as places
+use Rattle.vm_rule.proofs.WordFacts.{word-version}
+use Rattle.vm_step.specs.Prelude.{Origin, View}
 use Rattle.vm_exmap.specs.declared.interface.Alloc.TheVariants as allocs
-use Rattle.vm_map.specs.declared.call.Call.{Call}
-use Rattle.vm_map.specs.declared.call.Said.{Said}
-use Rattle.vm_pool.proofs.Keeping.{alloc-keeps, framed-keeps}
 use Rattle.vm_pool.specs.Brings.{Fetches, Fetches as fetched, GetsNone, GetsNone as none, IsBring, IsBring as is_bring}
 use Rattle.vm_pool.specs.declared.bring.Bring.TheVariants as brings
-use Rattle.vm_rule.proofs.WordFacts.{word-version}
-use Rattle.vm_rule.specs.declared.view.Origin.{Origin}
-use Rattle.vm_rule.specs.declared.view.Place.TheVariants as places
-use Rattle.vm_rule.specs.declared.view.View.{View}
-use Rattle.vm_tree_read.specs.Waiting.{IsBringFault, IsBringFault as fault_for}
+use Rattle.vm_pool.proofs.Keeping.{alloc-keeps, framed-keeps}
 use Rattle.vm_tree_rule.specs.declared.fault.TreeFault.{TreeFault}
-use Rattle.vm_drive.proofs.Tracing.{given-more, max-later}
+use Rattle.vm_tree_read.specs.Waiting.{IsBringFault, IsBringFault as fault_for}
+use Rattle.vm_drive.specs.Calls.{HasFoundWorn, HasNoted, IsCalled, KeepsPass}
+use Rattle.vm_drive.proofs.{Sweeping.swept-noted, Sweeping.swept-worn, Tracing.given-more, Tracing.max-later}
 use Rattle.vm_drive.proofs.Finding.{found-worn, noted-after, noted-before}
-use Rattle.vm_drive.proofs.Sweeping.{swept-noted, swept-worn}
 
 module _ {X : Type 0} where
   fetch-noted : (cap p f : ℕ) (old new : List ℕ) (v w : View X) (q count : ℕ) → Fetches cap p f old new v w (brings.Device q count) → HasNoted q count v w

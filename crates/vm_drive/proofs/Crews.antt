@@ -1,34 +1,39 @@
 -- Lists of workers, place by place.
-use Rattle.std.proofs.Common.{ℕ, zero, suc, Bool, ◌≡◌, ◌<◌, ◌≤◌, List, [], ◌∷◌, ◌++◌, Vec, length, take, drop, get_or, Result, refl, sym, ap, subst, arith}
 use Rattle.std.specs.declared.alloc.Global.{Global}
-use Rattle.std.specs.Vec.{vec_capacity}
 use Rattle.std.specs.List.{AllByRecursion}
-use Rattle.atomic_table.specs.Seated.{TableId}
-use Rattle.vm_map.specs.declared.call.Call.{Call}
-use Rattle.vm_map.specs.declared.call.Reply.{Reply}
-use Rattle.vm_map.specs.History.{IsAskable}
-use Rattle.vm_rule.specs.declared.view.Shape.{Shape}
+use Rattle.std.proofs.Common.{[], ◌++◌, ◌<◌, ◌∷◌, ◌≡◌, ◌≤◌, ap, arith, Bool, drop, get_or, length, List, refl, Result, subst, suc, sym, take, Vec}
+use Rattle.std.proofs.Common.{zero, ℕ}
+use Rattle.vm_map.specs.{declared.call.Call.Call, declared.call.Reply.Reply, History.IsAskable}
+use Rattle.vm_rule.specs.Prelude.{TableId}
+use Rattle.vm_step.specs.Prelude.{Shape}
 use Rattle.vm_tree_rule.specs.declared.fault.TreeFault.{TreeFault}
-use Rattle.vm_drive.specs.declared.worker.Worker.{Worker}
-use Rattle.vm_drive.specs.Crews.{AllWorked, AreIdle, HasWorked, HaveRoom, IsIdle}
-use Rattle.vm_drive.specs.Drives.{AreAskable, items_of}
-use Rattle.vm_drive.specs.Holds.{list_at}
+use Rattle.vm_drive.specs.{declared.worker.Worker.Worker, Drives.AreAskable, Drives.items_of, Holds.list_at}
+use Rattle.vm_drive.specs.Crews.{AllWorked, AreIdle, HasWorked, IsIdle}
+use Rattle.vm_drive.specs.Kept.{AreKept, HasItems, HaveRoom}
 
-pub room-snoc : (rooms : List (Vec (Result Reply TreeFault) Global)) (lists : List (List Call)) (room : Vec (Result Reply TreeFault) Global) (calls : List Call) → HaveRoom rooms lists → room.items ≡ [] → length calls ≤ vec_capacity room → HaveRoom (rooms ++ room ∷ []) (lists ++ calls ∷ [])
-room-snoc [] [] room calls h e l = (e, l, tt)
-room-snoc [] (c ∷ cs) room calls h e l = absurd h
-room-snoc (r ∷ rs) [] room calls h e l = absurd h
-room-snoc (r ∷ rs) (c ∷ cs) room calls h e l = (h.0, h.1, room-snoc rs cs room calls h.2 e l)
+module _ {A : Type 0} (keeps : A → List (Result Reply TreeFault) → Type 0) (space : A → ℕ) where
+  pub room-snoc : (rooms : List A) (lists : List (List Call)) (room : A) (calls : List Call) → HaveRoom keeps space rooms lists → keeps room [] → length calls ≤ space room → HaveRoom keeps space (rooms ++ room ∷ []) (lists ++ calls ∷ [])
+  room-snoc [] [] room calls h e l = (e, l, tt)
+  room-snoc [] (c ∷ cs) room calls h e l = absurd h
+  room-snoc (r ∷ rs) [] room calls h e l = absurd h
+  room-snoc (r ∷ rs) (c ∷ cs) room calls h e l = (h.0, h.1, room-snoc rs cs room calls h.2 e l)
+
+  pub room-long : (rooms : List A) (lists : List (List Call)) → HaveRoom keeps space rooms lists → length rooms ≡ length lists
+  room-long [] [] h = refl
+  room-long [] (c ∷ cs) h = absurd h
+  room-long (r ∷ rs) [] h = absurd h
+  room-long (r ∷ rs) (c ∷ cs) h = ap suc (room-long rs cs h.2)
+
+-- vectors that stand for lists hold them
+pub kept-items : (kept : List (Vec (Result Reply TreeFault) Global)) (told : List (List (Result Reply TreeFault))) → AreKept HasItems kept told → items_of kept ≡ told
+kept-items [] [] k = refl
+kept-items [] (t ∷ ts) k = absurd k
+kept-items (v ∷ vs) [] k = absurd k
+kept-items (v ∷ vs) (t ∷ ts) k = let first : v.items ≡ t = k.0 in let rest : items_of vs ≡ ts = kept-items vs ts k.1 in cc
 
 pub items-long : {X : Type 0} (vectors : List (Vec X Global)) → length (items_of vectors) ≡ length vectors
 items-long [] = refl
 items-long (v ∷ vs) = ap suc (items-long vs)
-
-pub room-long : (rooms : List (Vec (Result Reply TreeFault) Global)) (lists : List (List Call)) → HaveRoom rooms lists → length rooms ≡ length lists
-room-long [] [] h = refl
-room-long [] (c ∷ cs) h = absurd h
-room-long (r ∷ rs) [] h = absurd h
-room-long (r ∷ rs) (c ∷ cs) h = ap suc (room-long rs cs h.2)
 
 -- a vector whose whole slice was changed
 pub whole-back : {A : Type 0} (news olds : List A) (n : ℕ) → length news ≡ length olds → n ≡ length olds → take n (news ++ drop (length news) olds) ≡ news
@@ -50,21 +55,22 @@ askable-in [] i l a = absurd (omega arith)
 askable-in (x ∷ xs) zero l a = a.0
 askable-in (x ∷ xs) (suc i) l a = askable-in xs i (omega arith) a.1
 
-module _ (shape : Shape) (tells : Bool) (t : TableId) where
-  pub idle-long : (lists : List (List Call)) (workers : List Worker) → AreIdle shape tells t lists workers → length lists ≡ length workers
+module _ {A : Type 0} (keeps : A → List (Result Reply TreeFault) → Type 0) (space : A → ℕ) (shape : Shape) (tells : Bool) (t : TableId) where
+  pub idle-long : (lists : List (List Call)) (workers : List (Worker A)) → AreIdle keeps space shape tells t lists workers → length lists ≡ length workers
   idle-long [] [] a = refl
   idle-long [] (w ∷ ws) a = absurd a
   idle-long (c ∷ cs) [] a = absurd a
   idle-long (c ∷ cs) (w ∷ ws) a = ap suc (idle-long cs ws a.1)
 
-  pub idle-at : (lists : List (List Call)) (workers : List Worker) (i : ℕ) (w : Worker) → AreIdle shape tells t lists workers → i < length workers → w ≡ get_or workers i w → IsIdle shape tells t (list_at lists i) w
+  pub idle-at : (lists : List (List Call)) (workers : List (Worker A)) (i : ℕ) (w : Worker A) → AreIdle keeps space shape tells t lists workers → i < length workers → w ≡ get_or workers i w → IsIdle keeps space shape tells t (list_at lists i) w
   idle-at [] [] i w a l e = absurd (omega arith)
   idle-at [] (x ∷ xs) i w a l e = absurd a
   idle-at (c ∷ cs) [] i w a l e = absurd a
-  idle-at (c ∷ cs) (x ∷ xs) zero w a l e = subst (λ (y : Worker). IsIdle shape tells t c y) (sym e) a.0
+  idle-at (c ∷ cs) (x ∷ xs) zero w a l e = subst (λ (y : Worker A). IsIdle keeps space shape tells t c y) (sym e) a.0
   idle-at (c ∷ cs) (x ∷ xs) (suc i) w a l e = idle-at cs xs i w a.1 (omega arith) e
 
-  pub worked-all : (lists : List (List Call)) (olds news : List Worker) → length lists ≡ length olds → length news ≡ length olds → ((i : ℕ) (d : Worker) → i < length olds → HasWorked shape tells t (list_at lists i) (get_or olds i d) (get_or news i d)) → AllWorked shape tells t lists olds news
+module _ {A : Type 0} (keeps : A → List (Result Reply TreeFault) → Type 0) (shape : Shape) (tells : Bool) (t : TableId) where
+  pub worked-all : (lists : List (List Call)) (olds news : List (Worker A)) → length lists ≡ length olds → length news ≡ length olds → ((i : ℕ) (d : Worker A) → i < length olds → HasWorked keeps shape tells t (list_at lists i) (get_or olds i d) (get_or news i d)) → AllWorked keeps shape tells t lists olds news
   worked-all [] [] [] e f each = tt
   worked-all [] [] (n ∷ ns) e f each = absurd (omega arith)
   worked-all [] (o ∷ os) ns e f each = absurd (omega arith)
@@ -72,7 +78,7 @@ module _ (shape : Shape) (tells : Bool) (t : TableId) where
   worked-all (c ∷ cs) (o ∷ os) [] e f each = absurd (omega arith)
   worked-all (c ∷ cs) (o ∷ os) (n ∷ ns) e f each = (each 0 o (omega arith), worked-all cs os ns (omega arith) (omega arith) (λ i d l. each (suc i) d (omega arith)))
 
-  pub worked-long : (lists : List (List Call)) (olds news : List Worker) → AllWorked shape tells t lists olds news → length news ≡ length olds
+  pub worked-long : (lists : List (List Call)) (olds news : List (Worker A)) → AllWorked keeps shape tells t lists olds news → length news ≡ length olds
   worked-long [] [] [] a = refl
   worked-long [] [] (n ∷ ns) a = absurd a
   worked-long [] (o ∷ os) ns a = absurd a

@@ -1,32 +1,21 @@
 -- What a worker has done grows by a call.
-use Rattle.std.proofs.Common.{ℕ, ◌≡◌, ◌+◌, ◌≤◌, ◌==◌, if◌then◌else◌, List, [], ◌∷◌, ◌++◌, length, Result, Ok, Err, refl, sym, ap, subst, ◌∙◌, arith, append_assoc}
+use Rattle.std.proofs.Common.{[], ◌++◌, ◌+◌, ◌==◌, ◌∙◌, ◌∷◌, ◌≡◌, ◌≤◌, ap, append_assoc, arith, Err, if◌then◌else◌, length, List, Ok, refl, Result}
+use Rattle.std.proofs.Common.{subst, sym, ℕ}
 use Rattle.std.proofs.lemmas.List.{length-append, map-append}
-use Rattle.vm_core.specs.declared.event.Seat.{Seat}
-use Rattle.vm_core.specs.Start.{no_seat}
-use Rattle.vm_map.specs.declared.call.Call.{Call}
-use Rattle.vm_map.specs.declared.call.Reply.{Reply}
-use Rattle.vm_map.specs.declared.call.Said.{Said}
-use Rattle.vm_owner.specs.declared.Entry.{Entry}
-use Rattle.vm_rule.specs.declared.view.Did.{Did}
-use Rattle.vm_rule.specs.declared.view.Note.{Note}
-use Rattle.vm_rule.specs.declared.view.Put.{Put}
-use Rattle.vm_rule.specs.declared.view.View.{View}
-use Rattle.vm_rule.specs.Puts.{put_at}
-use Rattle.vm_rule.specs.Views.{StartsWith, seat_of}
-use Rattle.vm_rule.specs.Brought.{entry_of}
+use Rattle.vm_map.specs.{declared.call.Call.Call, declared.call.Reply.Reply, declared.call.Said.Said}
+use Rattle.vm_core.specs.Prelude.{no_seat}
+use Rattle.vm_rule.specs.Prelude.{Entry, entry_of, put_at, Seat, seat_of, StartsWith}
 use Rattle.vm_rule.proofs.Entries.{append-none, starts-self}
+use Rattle.vm_step.specs.Prelude.{Did, Note, Put, View}
 use Rattle.vm_exmap.specs.Frames.{MovesFrames}
 use Rattle.vm_tree_laws.specs.History.{saids}
 use Rattle.vm_tree_rule.specs.declared.fault.TreeFault.{TreeFault}
 use Rattle.vm_tree_rule.specs.declared.fault.TreeFault.TheVariants.{Device, Full, Worn}
+use Rattle.vm_drive.specs.{Holds.answered, Shows.AreShown, Workers.HasDone}
 use Rattle.vm_drive.specs.Calls.{HasNoted, IsCalled, KeepsPass}
-use Rattle.vm_drive.specs.Causes.{notes_about, is_fault, faults_of, CausedBy, AreCausedBy, FoundWorn, FoundFull}
-use Rattle.vm_drive.specs.Holds.{answered}
-use Rattle.vm_drive.specs.Workers.{HasDone}
-use Rattle.vm_drive.specs.Shows.{AreShown}
-use Rattle.vm_drive.proofs.Lists.{starts-then}
+use Rattle.vm_drive.specs.Causes.{AreCausedBy, CausedBy, faults_of, FoundFull, FoundWorn, is_fault, notes_about}
+use Rattle.vm_drive.proofs.{Lists.starts-then, Showing.are-shown-more, Showing.shown-snoc}
 use Rattle.vm_drive.proofs.Tracing.{all-caused, found-later, max-later}
-use Rattle.vm_drive.proofs.Showing.{are-shown-more, shown-snoc}
 
 -- ---- notes
 

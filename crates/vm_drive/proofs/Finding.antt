@@ -1,18 +1,14 @@
 -- What the steps of a call found, and what it noted, its pass found and noted.
-use Rattle.std.proofs.Common.{ℕ, ◌≡◌, ◌<◌, List, ◌∷◌, ◌++◌, refl, sym, ap, subst, ◌∙◌, append_assoc}
-use Rattle.vm_core.specs.Words.{MAX_VERSION, version_of}
-use Rattle.vm_drive.specs.Calls.{HasFoundWorn, HasNoted}
-use Rattle.vm_guard.specs.Denied.{AgainOrWorn, IsDenied}
-use Rattle.vm_guard.specs.declared.deny.Deny.TheVariants as denies
+use Rattle.std.proofs.Common.{◌++◌, ◌<◌, ◌∙◌, ◌∷◌, ◌≡◌, ap, append_assoc, List, refl, subst, sym, ℕ}
 use Rattle.vm_map.specs.declared.call.Said.{Said}
-use Rattle.vm_rule.specs.Views.{StartsWith}
-use Rattle.vm_rule.specs.declared.view.Did.{Did}
-use Rattle.vm_rule.specs.declared.view.Note.{Note}
-use Rattle.vm_rule.specs.declared.view.Origin.{Origin}
-use Rattle.vm_rule.specs.declared.view.Place.TheVariants as places
+use Rattle.vm_core.specs.Prelude.{MAX_VERSION, version_of}
+use Rattle.vm_rule.specs.Prelude.{StartsWith}
 use Rattle.vm_rule.specs.declared.view.Place.{Place}
-use Rattle.vm_rule.specs.declared.view.View.{View}
-use Rattle.vm_step.specs.Evidence.{HasGiven}
+use Rattle.vm_rule.specs.declared.view.Place.TheVariants as places
+use Rattle.vm_step.specs.Prelude.{Did, HasGiven, Note, Origin, View}
+use Rattle.vm_guard.specs.declared.deny.Deny.TheVariants as denies
+use Rattle.vm_guard.specs.Denied.{AgainOrWorn, IsDenied}
+use Rattle.vm_drive.specs.Calls.{HasFoundWorn, HasNoted}
 
 module _ {X : Type 0} where
   -- the steps of a call are among those of its pass

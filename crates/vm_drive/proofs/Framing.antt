@@ -1,9 +1,9 @@
 -- The frames of workers: a pass that gave them back has none, and one that took it in has what it had.
-use Rattle.std.proofs.Common.{ℕ, Bool, true, false, true≢false, ◌≡◌, ◌||◌, ◌++◌, if◌then◌else◌, List, [], inr, sym, ap, ◌∙◌, ⊎_elim}
+use Rattle.std.proofs.Common.{[], ⊎_elim, ◌++◌, ◌||◌, ◌∙◌, ◌≡◌, ap, Bool, false, if◌then◌else◌, inr, List, sym, true, true≢false, ℕ}
 use Rattle.std.proofs.lemmas.Bool.{cases_Bool}
-use Rattle.vm_owner.specs.Numbers.{has}
 use Rattle.vm_owner.proofs.NumberLemmas.{has-both}
-use Rattle.vm_rule.specs.declared.view.View.{View}
+use Rattle.vm_rule.specs.Prelude.{has}
+use Rattle.vm_step.specs.Prelude.{View}
 use Rattle.vm_exmap.specs.Returns.{AreGiven}
 use Rattle.vm_tree_read.specs.Waiting.{LosesNone}
 

@@ -1,29 +1,17 @@
 -- One worker more is hired.
-use Rattle.std.proofs.Common.{ℕ, Bool, true, false, true≢false, ◌≡◌, ◌+◌, ◌==◌, ◌≤◌, if◌then◌else◌, inl, inr, List, [], ◌∷◌, ◌++◌, Vec, length, Result, slice_index, refl, sym, ap, subst, ◌∙◌, arith, ⊎_elim}
+use Rattle.std.proofs.Common.{[], ⊎_elim, ◌++◌, ◌+◌, ◌==◌, ◌∙◌, ◌∷◌, ◌≡◌, ◌≤◌, ap, arith, Bool, false, if◌then◌else◌, inl, inr, length, List, refl}
+use Rattle.std.proofs.Common.{slice_index, subst, sym, true, true≢false, ℕ}
 use Rattle.std.proofs.lemmas.Bool.{cases_eq, eq-eqb, ne_eqb}
 use Rattle.std.proofs.lemmas.List.{length-append, map-append}
-use Rattle.std.specs.declared.alloc.Global.{Global}
-use Rattle.atomic_table.specs.Seated.{TableId}
-use Rattle.vm_map.specs.declared.call.Reply.{Reply}
 use Rattle.vm_map.specs.declared.call.Said.{Said}
-use Rattle.vm_owner.specs.Numbers.{has}
-use Rattle.vm_rule.specs.Joins.{HoldsNoPage, other_parts}
-use Rattle.vm_rule.specs.declared.view.Shape.{Shape}
-use Rattle.vm_rule.specs.declared.view.View.{View}
-use Rattle.vm_rule.specs.Rule.{HoldsNothing}
-use Rattle.vm_rule.specs.Views.{Each, IsWhole, entries_by, owns, times}
+use Rattle.vm_rule.specs.Prelude.{Each, entries_by, has, HoldsNoPage, HoldsNothing, IsWhole, other_parts, owns, TableId, times}
 use Rattle.vm_rule.proofs.Entries.{each-map, starts-self}
-use Rattle.vm_step.specs.HeldFrames.{AreHeld}
-use Rattle.vm_step.specs.Passes.{view}
-use Rattle.vm_step.specs.Ready.{IsReady}
-use Rattle.vm_step.specs.Still.{HasStill}
-use Rattle.vm_step.proofs.Still.{caught-still, still-fresh}
-use Rattle.vm_step.proofs.Together.{holds-none as nothing-holds, new-nothing}
-use Rattle.vm_tree_rule.specs.declared.fault.TreeFault.{TreeFault}
+use Rattle.vm_step.specs.Prelude.{AreHeld, HasStill, IsReady, Shape, View, view}
+use Rattle.vm_step.proofs.{Still.caught-still, Still.still-fresh, Together.holds-none as nothing-holds, Together.new-nothing}
 use Rattle.vm_pool.specs.Parting.{KeepsAll, Splits}
-use Rattle.vm_drive.specs.declared.worker.Worker.{Worker}
 use Rattle.vm_drive.specs.Crews.{AreHired, IsNewWorker, number_of, numbers_of}
-use Rattle.vm_drive.proofs.Lists.{starts-then, each-snoc, apart-snoc, times-both, front-none}
+use Rattle.vm_drive.specs.declared.worker.Worker.{Worker}
+use Rattle.vm_drive.proofs.Lists.{apart-snoc, each-snoc, front-none, starts-then, times-both}
 
 module _ {X : Type 0} where
   pub all-self : (v : View X) → KeepsAll v v
@@ -70,8 +58,8 @@ not-among m rest (n ∷ ns) e =
     (λ ne. rw (ne_eqb m n ne) (not-among m rest ns e.1))
     (cases_eq m n)
 
-module _ (shape : Shape) (tells : Bool) (t : TableId) where
-  pub hired-none : (v : View Said) → AreHired shape tells t [] v [] v
+module _ {A : Type 0} (shape : Shape) (tells : Bool) (t : TableId) where
+  pub hired-none : (v : View Said) → AreHired {A = A} shape tells t [] v [] v
   hired-none v = record {
     kept = all-self v;
     mine = refl;
@@ -90,7 +78,7 @@ module _ (shape : Shape) (tells : Bool) (t : TableId) where
   }
 
   -- the worker with a pass that was just split off
-  pub is-new : 1 ≤ shape.pages → (v w x : View Said) (d : Worker) → KeepsAll v w → Splits w (view d.pass) x → IsReady shape tells t d.pass → d.iface.frames ≡ [] → IsNewWorker shape tells t v d
+  pub is-new : 1 ≤ shape.pages → (v w x : View Said) (d : Worker A) → KeepsAll v w → Splits w (view d.pass) x → IsReady shape tells t d.pass → d.iface.frames ≡ [] → IsNewWorker shape tells t v d
   is-new pages v w x d kept s ready none =
       let is = s.new in
       let used : (view d.pass).used ≡ s.number ∷ [] = ap (λ (y : View Said). y.used) is in
@@ -106,7 +94,7 @@ module _ (shape : Shape) (tells : Bool) (t : TableId) where
         frames = ap (λ (y : View Said). y.frames) is;
       }
 
-  pub hired-more : 1 ≤ shape.pages → (rooms : List (Vec (Result Reply TreeFault) Global)) (v : View Said) (ds : List Worker) (w x : View Said) (d : Worker)
+  pub hired-more : 1 ≤ shape.pages → (rooms : List A) (v : View Said) (ds : List (Worker A)) (w x : View Said) (d : Worker A)
       → AreHired shape tells t rooms v ds w → Splits w (view d.pass) x → IsReady shape tells t d.pass → d.iface.frames ≡ []
       → AreHired shape tells t (rooms ++ d.answers ∷ []) v (ds ++ d ∷ []) x
   hired-more pages rooms v ds w x d h s ready none =
@@ -137,6 +125,6 @@ module _ (shape : Shape) (tells : Bool) (t : TableId) where
         unused = rw numbers (each-snoc (λ n. entries_by (n ∷ []) v.seen ≡ []) (numbers_of ds) (number_of d) h.unused
             (front-none (number_of d ∷ []) v.seen kept.seen.0 (ap (λ l. entries_by (number_of d ∷ []) l) (sym kept.seen.1) ∙ ap (λ n. entries_by (n ∷ []) x.seen) one ∙ s.unused)));
         each = each-snoc (IsNewWorker shape tells t v) ds d h.each (is-new pages v w x d h.kept s ready none);
-        answers = map-append (λ (worker : Worker). worker.answers) ds (d ∷ []) ∙ ap (λ l. l ++ d.answers ∷ []) h.answers;
+        answers = map-append (λ (worker : Worker A). worker.answers) ds (d ∷ []) ∙ ap (λ l. l ++ d.answers ∷ []) h.answers;
         all = inr (⊎_elim (λ empty. subst (λ (y : View Said). IsWhole y → y.mine ≡ y.seen) empty.1 s.all) (λ known. known) h.all);
       }

@@ -1,116 +1,110 @@
 -- One worker's pass more is joined.
-use Rattle.std.proofs.Common.{ℕ, Bool, false, ◌≡◌, ◌⊎◌, ◌+◌, ◌≤◌, List, [], ◌∷◌, ◌++◌, length, sym, ap, subst, ◌∙◌, arith, ⊎_elim, append_assoc}
+use Rattle.std.proofs.Common.{[], ⊎_elim, ◌++◌, ◌+◌, ◌∙◌, ◌∷◌, ◌≡◌, ◌≤◌, ◌⊎◌, ap, append_assoc, arith, Bool, false, length, List, subst, sym, ℕ}
 use Rattle.std.proofs.lemmas.List.{map-append}
 use Rattle.vm_map.specs.declared.call.Said.{Said}
-use Rattle.vm_owner.specs.declared.Entry.{Entry}
-use Rattle.vm_owner.specs.Numbers.{has}
-use Rattle.vm_rule.specs.declared.view.Did.{Did}
-use Rattle.vm_rule.specs.declared.view.View.{View}
-use Rattle.vm_rule.specs.Views.{entries_by, owns, times}
+use Rattle.vm_rule.specs.Prelude.{entries_by, Entry, has, owns, times}
 use Rattle.vm_rule.proofs.Entries.{each-map}
-use Rattle.vm_step.specs.Passes.{view}
-use Rattle.vm_tree_laws.specs.Keeps.{KeepsTree}
+use Rattle.vm_step.specs.Prelude.{Did, View, view}
 use Rattle.vm_pool.specs.Parting.{Joins}
-use Rattle.vm_drive.specs.declared.worker.Worker.{Worker}
-use Rattle.vm_drive.specs.Causes.{notes_about}
-use Rattle.vm_drive.specs.Crews.{AreJoined, IsIn, all_notes_of, number_of, numbers_of}
-use Rattle.vm_drive.proofs.Lists.{starts-then, each-snoc, has-left, has-last, nested, nested-one, times-both}
-use Rattle.vm_drive.proofs.Doing.{notes-both}
-use Rattle.vm_drive.proofs.Framing.{none-added}
-use Rattle.vm_drive.proofs.Hiring.{all-then}
+use Rattle.vm_tree_laws.specs.Keeps.{KeepsTree}
+use Rattle.vm_drive.specs.{Causes.notes_about, declared.worker.Worker.Worker}
+use Rattle.vm_drive.specs.Crews.{all_notes_of, AreJoined, IsIn, number_of, numbers_of}
+use Rattle.vm_drive.proofs.{Doing.notes-both, Framing.none-added, Hiring.all-then}
+use Rattle.vm_drive.proofs.Lists.{each-snoc, has-last, has-left, nested, nested-one, starts-then, times-both}
 
-all-notes-snoc : (p : ℕ) (ds : List Worker) (d : Worker) → all_notes_of p (ds ++ d ∷ []) ≡ all_notes_of p ds + notes_about p (view d.pass).notes
-all-notes-snoc p [] d = omega arith
-all-notes-snoc p (e ∷ es) d = let h : all_notes_of p (es ++ d ∷ []) ≡ all_notes_of p es + notes_about p (view d.pass).notes = all-notes-snoc p es d in omega arith
+module _ {A : Type 0} where
+  all-notes-snoc : (p : ℕ) (ds : List (Worker A)) (d : Worker A) → all_notes_of p (ds ++ d ∷ []) ≡ all_notes_of p ds + notes_about p (view d.pass).notes
+  all-notes-snoc p [] d = omega arith
+  all-notes-snoc p (e ∷ es) d = let h : all_notes_of p (es ++ d ∷ []) ≡ all_notes_of p es + notes_about p (view d.pass).notes = all-notes-snoc p es d in omega arith
 
--- a worker that is in stays in
-stays-in : (tells : Bool) (w x : View Said) (u : View Said) (d : Worker) → Joins tells KeepsTree w u x → w.mine ≡ entries_by w.used w.seen → IsIn w d → IsIn x d
-stays-in tells w x u d j mine i =
-    let n = number_of d in
-    record {
-      number = ap (λ (l : List ℕ). has n l) j.used ∙ has-left n w.used u.used i.number;
-      entries = sym (nested-one n w.used x.seen i.number) ∙ ap (λ (l : List (Entry Said)). entries_by (n ∷ []) l) (j.ours ∙ mine) ∙ nested-one n w.used w.seen i.number ∙ i.entries;
-      front = i.front;
-      behind = i.behind ++ (u.log ++ j.steps);
-      log = j.log ∙ append_assoc w.log u.log j.steps ∙ ap (λ (l : List Did). l ++ (u.log ++ j.steps)) i.log ∙ append_assoc i.front ((view d.pass).log ++ i.behind) (u.log ++ j.steps) ∙ ap (λ (l : List Did). i.front ++ l) (append_assoc (view d.pass).log i.behind (u.log ++ j.steps));
-      start = i.start ∙ sym j.kept.start;
-      heard = starts-then x.seen w.seen (view d.pass).seen j.kept.seen i.heard;
-    }
-
--- the worker whose pass was joined now is in
-comes-in : (tells : Bool) (w x : View Said) (d : Worker) → Joins tells KeepsTree w (view d.pass) x → (view d.pass).used ≡ number_of d ∷ [] → (view d.pass).start ≡ w.start → IsIn x d
-comes-in tells w x d j one start =
-    let n = number_of d in
-    record {
-      number = ap (λ (l : List ℕ). has n l) (j.used ∙ ap (λ (l : List ℕ). w.used ++ l) one) ∙ has-last n w.used;
-      entries = ap (λ (l : List ℕ). entries_by l x.seen) (sym one) ∙ j.theirs;
-      front = w.log;
-      behind = j.steps;
-      log = j.log ∙ append_assoc w.log (view d.pass).log j.steps;
-      start = start ∙ sym j.kept.start;
-      heard = j.heard;
-    }
-
-module _ (tells : Bool) (x : View Said) where
-  -- what was joined so far: nothing, or these
-  abbrev pub JoinedSoFar : List Worker → View Said → Type 0
-  JoinedSoFar ds w = ((ds ≡ []) × (w ≡ x)) ⊎ AreJoined tells x ds w
-
-  first-joined : (w : View Said) (d : Worker) → Joins tells KeepsTree x (view d.pass) w → (view d.pass).used ≡ number_of d ∷ [] → (view d.pass).fresh ≡ [] → (view d.pass).start ≡ x.start → ((f : ℕ) → has f (view d.pass).frames ≡ false) → AreJoined tells x (d ∷ []) w
-  first-joined w d j one none start bare = record {
-    kept = j.kept;
-    current = j.current;
-    used = j.used ∙ ap (λ (l : List ℕ). x.used ++ l) one;
-    parts = λ k.
-        let all : owns k w ≡ owns k x + owns k (view d.pass) = j.parts k in
-        let own : times k (view d.pass).used ≡ times k (numbers_of (d ∷ [])) = ap (times k) one in
-        let no : times k (view d.pass).fresh ≡ 0 = ap (times k) none in
-        omega arith;
-    notes = λ p. let h : notes_about p w.notes ≡ notes_about p x.notes + notes_about p (view d.pass).notes = ap (notes_about p) j.notes ∙ notes-both p x.notes (view d.pass).notes in omega arith;
-    frames = none-added x (view d.pass) w j.frames bare;
-    mine = j.mine;
-    ours = j.ours;
-    each = (comes-in tells x w d j one start, tt);
-    knows = j.knows;
-  }
-
-  next-joined : (ds : List Worker) (v w : View Said) (d : Worker) → AreJoined tells x ds v → Joins tells KeepsTree v (view d.pass) w → (view d.pass).used ≡ number_of d ∷ [] → (view d.pass).fresh ≡ [] → (view d.pass).start ≡ x.start → ((f : ℕ) → has f (view d.pass).frames ≡ false) → AreJoined tells x (ds ++ d ∷ []) w
-  next-joined ds v w d a j one none start bare =
-      let numbers : numbers_of (ds ++ d ∷ []) ≡ numbers_of ds ++ number_of d ∷ [] = map-append number_of ds (d ∷ []) in
+  -- a worker that is in stays in
+  stays-in : (tells : Bool) (w x : View Said) (u : View Said) (d : Worker A) → Joins tells KeepsTree w u x → w.mine ≡ entries_by w.used w.seen → IsIn w d → IsIn x d
+  stays-in tells w x u d j mine i =
+      let n = number_of d in
       record {
-        kept = all-then x v w a.kept j.kept;
-        current = j.current;
-        used = j.used ∙ ap (λ (l : List ℕ). l ++ (view d.pass).used) a.used ∙ ap (λ (l : List ℕ). (x.used ++ numbers_of ds) ++ l) one ∙ append_assoc x.used (numbers_of ds) (number_of d ∷ []) ∙ ap (λ (l : List ℕ). x.used ++ l) (sym numbers);
-        parts = λ k.
-            let all : owns k w ≡ owns k v + owns k (view d.pass) = j.parts k in
-            let before : owns k v ≡ owns k x + times k (numbers_of ds) = a.parts k in
-            let own : times k (view d.pass).used ≡ times k (number_of d ∷ []) = ap (times k) one in
-            let no : times k (view d.pass).fresh ≡ 0 = ap (times k) none in
-            let more : times k (numbers_of (ds ++ d ∷ [])) ≡ times k (numbers_of ds) + times k (number_of d ∷ []) = ap (times k) numbers ∙ times-both k (numbers_of ds) (number_of d ∷ []) in
-            omega arith;
-        notes = λ p.
-            let h : notes_about p w.notes ≡ notes_about p v.notes + notes_about p (view d.pass).notes = ap (notes_about p) j.notes ∙ notes-both p v.notes (view d.pass).notes in
-            let before : notes_about p v.notes ≡ notes_about p x.notes + all_notes_of p ds = a.notes p in
-            let more : all_notes_of p (ds ++ d ∷ []) ≡ all_notes_of p ds + notes_about p (view d.pass).notes = all-notes-snoc p ds d in
-            omega arith;
-        frames = λ f. none-added v (view d.pass) w j.frames bare f ∙ a.frames f;
-        mine = j.mine;
-        ours =
-            sym (nested x.used v.used w.seen (λ k t. ap (λ (l : List ℕ). has k l) a.used ∙ has-left k x.used (numbers_of ds) t))
-            ∙ ap (λ (l : List (Entry Said)). entries_by x.used l) (j.ours ∙ a.mine)
-            ∙ nested x.used v.used v.seen (λ k t. ap (λ (l : List ℕ). has k l) a.used ∙ has-left k x.used (numbers_of ds) t)
-            ∙ a.ours;
-        each = each-snoc (IsIn w) ds d (each-map (IsIn v) (IsIn w) (λ e i. stays-in tells v w (view d.pass) e j a.mine i) ds a.each) (comes-in tells v w d j one (start ∙ sym a.kept.start));
-        knows = j.knows;
+        number = ap (λ (l : List ℕ). has n l) j.used ∙ has-left n w.used u.used i.number;
+        entries = sym (nested-one n w.used x.seen i.number) ∙ ap (λ (l : List (Entry Said)). entries_by (n ∷ []) l) (j.ours ∙ mine) ∙ nested-one n w.used w.seen i.number ∙ i.entries;
+        front = i.front;
+        behind = i.behind ++ (u.log ++ j.steps);
+        log = j.log ∙ append_assoc w.log u.log j.steps ∙ ap (λ (l : List Did). l ++ (u.log ++ j.steps)) i.log ∙ append_assoc i.front ((view d.pass).log ++ i.behind) (u.log ++ j.steps) ∙ ap (λ (l : List Did). i.front ++ l) (append_assoc (view d.pass).log i.behind (u.log ++ j.steps));
+        start = i.start ∙ sym j.kept.start;
+        heard = starts-then x.seen w.seen (view d.pass).seen j.kept.seen i.heard;
       }
 
-  pub joined-more : (ds : List Worker) (v w : View Said) (d : Worker) → JoinedSoFar ds v → Joins tells KeepsTree v (view d.pass) w → (view d.pass).used ≡ number_of d ∷ [] → (view d.pass).fresh ≡ [] → (view d.pass).start ≡ x.start → ((f : ℕ) → has f (view d.pass).frames ≡ false) → AreJoined tells x (ds ++ d ∷ []) w
-  joined-more ds v w d so j one none start bare =
-      ⊎_elim
-      (λ n. subst (λ (l : List Worker). AreJoined tells x (l ++ d ∷ []) w) (sym n.0) (first-joined w d (subst (λ (y : View Said). Joins tells KeepsTree y (view d.pass) w) n.1 j) one none start bare))
-      (λ a. next-joined ds v w d a j one none start bare)
-      so
+  -- the worker whose pass was joined now is in
+  comes-in : (tells : Bool) (w x : View Said) (d : Worker A) → Joins tells KeepsTree w (view d.pass) x → (view d.pass).used ≡ number_of d ∷ [] → (view d.pass).start ≡ w.start → IsIn x d
+  comes-in tells w x d j one start =
+      let n = number_of d in
+      record {
+        number = ap (λ (l : List ℕ). has n l) (j.used ∙ ap (λ (l : List ℕ). w.used ++ l) one) ∙ has-last n w.used;
+        entries = ap (λ (l : List ℕ). entries_by l x.seen) (sym one) ∙ j.theirs;
+        front = w.log;
+        behind = j.steps;
+        log = j.log ∙ append_assoc w.log (view d.pass).log j.steps;
+        start = start ∙ sym j.kept.start;
+        heard = j.heard;
+      }
 
-  -- some were joined, so these
-  pub joined-all : (ds : List Worker) (w : View Said) → JoinedSoFar ds w → 1 ≤ length ds → AreJoined tells x ds w
-  joined-all ds w so some' = ⊎_elim (λ n. let none : length ds ≡ 0 = ap length n.0 in absurd (omega arith)) (λ a. a) so
+  module _ (tells : Bool) (x : View Said) where
+    -- what was joined so far: nothing, or these
+    abbrev pub JoinedSoFar : List (Worker A) → View Said → Type 0
+    JoinedSoFar ds w = ((ds ≡ []) × (w ≡ x)) ⊎ AreJoined tells x ds w
+
+    first-joined : (w : View Said) (d : Worker A) → Joins tells KeepsTree x (view d.pass) w → (view d.pass).used ≡ number_of d ∷ [] → (view d.pass).fresh ≡ [] → (view d.pass).start ≡ x.start → ((f : ℕ) → has f (view d.pass).frames ≡ false) → AreJoined tells x (d ∷ []) w
+    first-joined w d j one none start bare = record {
+      kept = j.kept;
+      current = j.current;
+      used = j.used ∙ ap (λ (l : List ℕ). x.used ++ l) one;
+      parts = λ k.
+          let all : owns k w ≡ owns k x + owns k (view d.pass) = j.parts k in
+          let own : times k (view d.pass).used ≡ times k (numbers_of (d ∷ [])) = ap (times k) one in
+          let no : times k (view d.pass).fresh ≡ 0 = ap (times k) none in
+          omega arith;
+      notes = λ p. let h : notes_about p w.notes ≡ notes_about p x.notes + notes_about p (view d.pass).notes = ap (notes_about p) j.notes ∙ notes-both p x.notes (view d.pass).notes in omega arith;
+      frames = none-added x (view d.pass) w j.frames bare;
+      mine = j.mine;
+      ours = j.ours;
+      each = (comes-in tells x w d j one start, tt);
+      knows = j.knows;
+    }
+
+    next-joined : (ds : List (Worker A)) (v w : View Said) (d : Worker A) → AreJoined tells x ds v → Joins tells KeepsTree v (view d.pass) w → (view d.pass).used ≡ number_of d ∷ [] → (view d.pass).fresh ≡ [] → (view d.pass).start ≡ x.start → ((f : ℕ) → has f (view d.pass).frames ≡ false) → AreJoined tells x (ds ++ d ∷ []) w
+    next-joined ds v w d a j one none start bare =
+        let numbers : numbers_of (ds ++ d ∷ []) ≡ numbers_of ds ++ number_of d ∷ [] = map-append number_of ds (d ∷ []) in
+        record {
+          kept = all-then x v w a.kept j.kept;
+          current = j.current;
+          used = j.used ∙ ap (λ (l : List ℕ). l ++ (view d.pass).used) a.used ∙ ap (λ (l : List ℕ). (x.used ++ numbers_of ds) ++ l) one ∙ append_assoc x.used (numbers_of ds) (number_of d ∷ []) ∙ ap (λ (l : List ℕ). x.used ++ l) (sym numbers);
+          parts = λ k.
+              let all : owns k w ≡ owns k v + owns k (view d.pass) = j.parts k in
+              let before : owns k v ≡ owns k x + times k (numbers_of ds) = a.parts k in
+              let own : times k (view d.pass).used ≡ times k (number_of d ∷ []) = ap (times k) one in
+              let no : times k (view d.pass).fresh ≡ 0 = ap (times k) none in
+              let more : times k (numbers_of (ds ++ d ∷ [])) ≡ times k (numbers_of ds) + times k (number_of d ∷ []) = ap (times k) numbers ∙ times-both k (numbers_of ds) (number_of d ∷ []) in
+              omega arith;
+          notes = λ p.
+              let h : notes_about p w.notes ≡ notes_about p v.notes + notes_about p (view d.pass).notes = ap (notes_about p) j.notes ∙ notes-both p v.notes (view d.pass).notes in
+              let before : notes_about p v.notes ≡ notes_about p x.notes + all_notes_of p ds = a.notes p in
+              let more : all_notes_of p (ds ++ d ∷ []) ≡ all_notes_of p ds + notes_about p (view d.pass).notes = all-notes-snoc p ds d in
+              omega arith;
+          frames = λ f. none-added v (view d.pass) w j.frames bare f ∙ a.frames f;
+          mine = j.mine;
+          ours =
+              sym (nested x.used v.used w.seen (λ k t. ap (λ (l : List ℕ). has k l) a.used ∙ has-left k x.used (numbers_of ds) t))
+              ∙ ap (λ (l : List (Entry Said)). entries_by x.used l) (j.ours ∙ a.mine)
+              ∙ nested x.used v.used v.seen (λ k t. ap (λ (l : List ℕ). has k l) a.used ∙ has-left k x.used (numbers_of ds) t)
+              ∙ a.ours;
+          each = each-snoc (IsIn w) ds d (each-map (IsIn v) (IsIn w) (λ e i. stays-in tells v w (view d.pass) e j a.mine i) ds a.each) (comes-in tells v w d j one (start ∙ sym a.kept.start));
+          knows = j.knows;
+        }
+
+    pub joined-more : (ds : List (Worker A)) (v w : View Said) (d : Worker A) → JoinedSoFar ds v → Joins tells KeepsTree v (view d.pass) w → (view d.pass).used ≡ number_of d ∷ [] → (view d.pass).fresh ≡ [] → (view d.pass).start ≡ x.start → ((f : ℕ) → has f (view d.pass).frames ≡ false) → AreJoined tells x (ds ++ d ∷ []) w
+    joined-more ds v w d so j one none start bare =
+        ⊎_elim
+        (λ n. subst (λ (l : List (Worker A)). AreJoined tells x (l ++ d ∷ []) w) (sym n.0) (first-joined w d (subst (λ (y : View Said). Joins tells KeepsTree y (view d.pass) w) n.1 j) one none start bare))
+        (λ a. next-joined ds v w d a j one none start bare)
+        so
+
+    -- some were joined, so these
+    pub joined-all : (ds : List (Worker A)) (w : View Said) → JoinedSoFar ds w → 1 ≤ length ds → AreJoined tells x ds w
+    joined-all ds w so some' = ⊎_elim (λ n. let none : length ds ≡ 0 = ap length n.0 in absurd (omega arith)) (λ a. a) so

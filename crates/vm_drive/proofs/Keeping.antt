@@ -1,15 +1,14 @@
 -- What the tree's calls leave of a worker's pass.
-use Rattle.std.proofs.Common.{ℕ, ◌≡◌, List, [], sym, ◌∙◌}
-use Rattle.vm_drive.specs.Calls.{KeepsPass}
+use Rattle.std.proofs.Common.{[], ◌∙◌, ◌≡◌, List, sym, ℕ}
 use Rattle.vm_map.specs.declared.call.Said.{Said}
-use Rattle.vm_pool.specs.Brings.{KeepsLocks}
+use Rattle.vm_rule.specs.Prelude.{StartsWith}
 use Rattle.vm_rule.proofs.Entries.{append-none}
-use Rattle.vm_rule.specs.Views.{StartsWith}
-use Rattle.vm_rule.specs.declared.view.View.{View}
-use Rattle.vm_tree_read.specs.Waiting.{Waits}
+use Rattle.vm_step.specs.Prelude.{View}
+use Rattle.vm_pool.specs.Brings.{KeepsLocks}
 use Rattle.vm_tree_rule.specs.Leaves.{OnlyReads}
-use Rattle.vm_tree_write.specs.Splits.{KeepsLocksOnly}
-use Rattle.vm_tree_write.specs.Writes.{OnlyWrites}
+use Rattle.vm_tree_read.specs.Waiting.{Waits}
+use Rattle.vm_tree_write.specs.{Splits.KeepsLocksOnly, Writes.OnlyWrites}
+use Rattle.vm_drive.specs.Calls.{KeepsPass}
 
 pub same-front : {A : Type 0} (l m : List A) → l ≡ m → StartsWith l m
 same-front l m e = ([], e ∙ sym (append-none m))

@@ -1,9 +1,8 @@
 -- Lists that begin with others, numbers apart, and the entries of some numbers.
-use Rattle.std.proofs.Common.{ℕ, zero, suc, true, false, true≢false, ◌≡◌, ◌+◌, ◌<◌, ◌≤◌, if◌then◌else◌, List, [], ◌∷◌, ◌++◌, length, slice_index, refl, sym, ap, ◌∙◌, arith, ⊎_elim, append_assoc}
-use Rattle.std.proofs.lemmas.Bool.{cases_Bool, cases_eq, ne_eqb, eq-eqb}
-use Rattle.vm_owner.specs.declared.Entry.{Entry}
-use Rattle.vm_owner.specs.Numbers.{has, AreApart}
-use Rattle.vm_rule.specs.Views.{StartsWith, Each, entries_by, times}
+use Rattle.std.proofs.Common.{[], ⊎_elim, ◌++◌, ◌+◌, ◌<◌, ◌∙◌, ◌∷◌, ◌≡◌, ◌≤◌, ap, append_assoc, arith, false, if◌then◌else◌, length, List, refl}
+use Rattle.std.proofs.Common.{slice_index, suc, sym, true, true≢false, zero, ℕ}
+use Rattle.std.proofs.lemmas.Bool.{cases_Bool, cases_eq, eq-eqb, ne_eqb}
+use Rattle.vm_rule.specs.Prelude.{AreApart, Each, entries_by, Entry, has, StartsWith, times}
 use Rattle.vm_rule.proofs.Entries.{entries-both}
 
 pub starts-then : {A : Type 0} (l m n : List A) → StartsWith l m → StartsWith m n → StartsWith l n

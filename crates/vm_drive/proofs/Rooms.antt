@@ -1,39 +1,26 @@
 -- A put without room for a split: a worn page, a full image, or a sweep that made no frame free.
-use Rattle.std.proofs.Common.{ℕ, ◌≡◌, ◌+◌, ◌<◌, ◌≤◌, List, [], refl, sym, ap, subst, ◌∙◌, arith, Err, ⊎_elim}
-use Rattle.vm_drive.proofs.Lists.{starts-then}
-use Rattle.vm_drive.specs.Calls.{HasFoundNext, HasFoundWorn, IsCalled, KeepsPass}
-use Rattle.vm_evict.specs.declared.report.Report.{Report}
+use Rattle.std.proofs.Common.{[], ⊎_elim, ◌+◌, ◌<◌, ◌∙◌, ◌≡◌, ◌≤◌, ap, arith, Err, List, refl, subst, sym, ℕ}
+use Rattle.vm_map.specs.{declared.call.Call.Call, declared.call.Call.TheVariants.Put, declared.call.Said.Said}
+use Rattle.vm_rule.specs.Prelude.{did_load, StartsWith}
+use Rattle.vm_rule.specs.declared.view.Place.TheVariants as places
+use Rattle.vm_step.specs.Prelude.{Origin, UnlockedExpected, View}
+use Rattle.vm_step.proofs.Numbers.{has-numbers}
 use Rattle.vm_exmap.specs.declared.interface.Alloc.TheVariants as allocs
-use Rattle.vm_guard.specs.Denied.{KeptWord}
+use Rattle.vm_guard.specs.{declared.given.Fresh.Fresh, declared.opt.OptGuard.OptGuard, Denied.KeptWord}
 use Rattle.vm_guard.specs.declared.deny.Deny.TheVariants as denies
 use Rattle.vm_guard.specs.declared.given.Fresh.TheVariants as freshes
-use Rattle.vm_guard.specs.declared.given.Fresh.{Fresh}
-use Rattle.vm_guard.specs.declared.opt.OptGuard.{OptGuard}
-use Rattle.vm_map.specs.declared.call.Call.TheVariants.{Put}
-use Rattle.vm_map.specs.declared.call.Call.{Call}
-use Rattle.vm_map.specs.declared.call.Said.{Said}
-use Rattle.vm_pool.specs.Brings.{SaysDry}
-use Rattle.vm_pool.specs.Sweeps.{IsSwept}
+use Rattle.vm_evict.specs.declared.report.Report.{Report}
+use Rattle.vm_pool.specs.{Brings.SaysDry, declared.bring.Bring.Bring, Sweeps.IsSwept}
 use Rattle.vm_pool.specs.declared.bring.Bring.TheVariants as brings
-use Rattle.vm_pool.specs.declared.bring.Bring.{Bring}
-use Rattle.vm_rule.specs.Log.{did_load}
-use Rattle.vm_rule.specs.Views.{StartsWith}
-use Rattle.vm_rule.specs.declared.view.Origin.{Origin}
-use Rattle.vm_rule.specs.declared.view.Place.TheVariants as places
-use Rattle.vm_rule.specs.declared.view.View.{View}
-use Rattle.vm_step.proofs.Numbers.{has-numbers}
-use Rattle.vm_step.specs.Evidence.{UnlockedExpected}
 use Rattle.vm_tree_rule.specs.declared.fault.TreeFault.{TreeFault}
+use Rattle.vm_tree_write.specs.declared.tries.TrySplit.TheVariants as splits
 use Rattle.vm_tree_write.specs.Prepares.{IsLockDenied, IsLockDenied as locks, IsNotLocked, IsRefusedPages}
 use Rattle.vm_tree_write.specs.Tries.{IsEnded, IsEnded as ends, IsUnsplit, IsUnsplit as unsplit}
 use Rattle.vm_tree_write.specs.Waiting.{IsRoomFault, IsRoomFault as rooms, NamesFault}
-use Rattle.vm_tree_write.specs.declared.tries.TrySplit.TheVariants as splits
-use Rattle.vm_drive.proofs.Tracing.{given-more, max-later}
+use Rattle.vm_drive.specs.Calls.{HasFoundNext, HasFoundWorn, IsCalled, KeepsPass}
+use Rattle.vm_drive.proofs.{Bringing.fault-called, Doing.keeps-then, Keeping.all-pass, Keeping.reads-pass, Lists.starts-then, Sweeping.swept-noted}
+use Rattle.vm_drive.proofs.{Sweeping.swept-worn, Tracing.given-more, Tracing.max-later}
 use Rattle.vm_drive.proofs.Finding.{denied-worn, found-worn, given-in, noted-before}
-use Rattle.vm_drive.proofs.Sweeping.{swept-noted, swept-worn}
-use Rattle.vm_drive.proofs.Bringing.{fault-called}
-use Rattle.vm_drive.proofs.Keeping.{all-pass, reads-pass}
-use Rattle.vm_drive.proofs.Doing.{keeps-then}
 
 -- one of two pages could not be locked
 deny-worn : (a b : OptGuard) (p : ℕ) (v w : View Said) → a.pid < v.start.pages → b.pid < v.start.pages → IsLockDenied a b (denies.Worn p) v w → HasFoundWorn p w

@@ -1,13 +1,9 @@
 -- What a window shows it shows in each later view of the pass, and of the pass that took it in.
-use Rattle.std.proofs.Common.{◌≡◌, List, [], ◌∷◌, ◌++◌, length, Result, Ok, Err, sym, ap, subst, ◌∙◌, arith}
-use Rattle.vm_map.specs.declared.call.Call.{Call}
-use Rattle.vm_map.specs.declared.call.Call.TheVariants.{Get, Put, Del, Window}
-use Rattle.vm_map.specs.declared.call.Reply.{Reply}
-use Rattle.vm_map.specs.declared.call.Said.{Said}
-use Rattle.vm_rule.specs.declared.view.Origin.{Origin}
-use Rattle.vm_rule.specs.declared.view.View.{View}
-use Rattle.vm_rule.specs.Rule.{began_of}
-use Rattle.vm_rule.specs.Views.{StartsWith}
+use Rattle.std.proofs.Common.{[], ◌++◌, ◌∙◌, ◌∷◌, ◌≡◌, ap, arith, Err, length, List, Ok, Result, subst, sym}
+use Rattle.vm_map.specs.{declared.call.Call.Call, declared.call.Reply.Reply, declared.call.Said.Said}
+use Rattle.vm_map.specs.declared.call.Call.TheVariants.{Del, Get, Put, Window}
+use Rattle.vm_rule.specs.Prelude.{began_of, StartsWith}
+use Rattle.vm_step.specs.Prelude.{Origin, View}
 use Rattle.vm_tree_laws.specs.Keeps.{KeepsTree}
 use Rattle.vm_tree_rule.specs.declared.fault.TreeFault.{TreeFault}
 use Rattle.vm_drive.specs.Shows.{AllShown, AreShown, IsOfLeaf, IsWindowShown}

@@ -1,25 +1,18 @@
 -- What a sweep tells of worn pages and of writes that failed.
-use Rattle.std.proofs.Common.{ℕ, zero, suc, ◌≡◌, ◌+◌, ◌<◌, ◌≤◌, List, [], ◌∷◌, ◌++◌, refl, sym, ap, subst, ◌∙◌, append_assoc, ◌%◌, ◌⊎◌, Option, Some, None, inl, inr, ⊎_elim}
+use Rattle.std.proofs.Common.{[], ⊎_elim, ◌%◌, ◌++◌, ◌+◌, ◌<◌, ◌∙◌, ◌∷◌, ◌≡◌, ◌≤◌, ◌⊎◌, ap, append_assoc, inl, inr, List, None, Option, refl, Some}
+use Rattle.std.proofs.Common.{subst, suc, sym, zero, ℕ}
 use Rattle.std.proofs.Math.Nat.{mod-lt}
-use Rattle.vm_clock.specs.Clock.{Visits, Visits as visits, WalksPages}
-use Rattle.vm_core.specs.Words.{MAX_VERSION, hand_more, version_of}
-use Rattle.vm_drive.specs.Calls.{HasFoundWorn, HasNoted}
-use Rattle.vm_evict.specs.Evictions.{first_of}
-use Rattle.vm_evict.specs.declared.report.Report.{Report}
-use Rattle.vm_pool.proofs.Keeping.{swept-keeps}
-use Rattle.vm_pool.specs.Sweeps.{IsSwept}
-use Rattle.vm_rule.specs.Log.{did_load, did_change}
-use Rattle.vm_rule.specs.Views.{StartsWith}
-use Rattle.vm_rule.specs.declared.view.Did.{Did}
-use Rattle.vm_rule.specs.declared.view.Note.{Note}
-use Rattle.vm_rule.specs.declared.view.Origin.{Origin}
+use Rattle.vm_core.specs.Prelude.{hand_more, MAX_VERSION, version_of}
+use Rattle.vm_rule.specs.Prelude.{did_change, did_load, StartsWith}
 use Rattle.vm_rule.specs.declared.view.Place.TheVariants as places
-use Rattle.vm_rule.specs.declared.view.View.{View}
-use Rattle.vm_step.specs.Choices.{first_or}
-use Rattle.vm_step.specs.Evidence.{HasGiven}
+use Rattle.vm_step.specs.Prelude.{Did, first_or, HasGiven, Note, Origin, View}
 use Rattle.vm_step.specs.declared.choice.Looks.{Looks}
-use Rattle.vm_drive.proofs.Tracing.{given-more}
-use Rattle.vm_drive.proofs.Finding.{given-in}
+use Rattle.vm_clock.specs.Clock.{Visits, Visits as visits, WalksPages}
+use Rattle.vm_evict.specs.{declared.report.Report.Report, Evictions.first_of}
+use Rattle.vm_pool.specs.Sweeps.{IsSwept}
+use Rattle.vm_pool.proofs.Keeping.{swept-keeps}
+use Rattle.vm_drive.specs.Calls.{HasFoundWorn, HasNoted}
+use Rattle.vm_drive.proofs.{Finding.given-in, Tracing.given-more}
 
 -- a walk of the clock met this page of so many, and found it at the last version
 record IsMetWorn (pages p : ℕ) (done : List Did) : Type 0 where

@@ -1,18 +1,14 @@
 -- From what steps found to what is so at the end.
-use Rattle.std.proofs.Common.{ℕ, ◌≡◌, ◌+◌, ◌<◌, ◌≤◌, List, [], ◌∷◌, ◌++◌, Result, sym, ap, subst, ◌∙◌, arith, append_assoc, Ok, Err}
-use Rattle.vm_core.specs.Words.{MAX_VERSION, version_of}
-use Rattle.vm_drive.specs.Causes.{AllCausedBy, FoundFull, FoundWorn, AreCausedBy, CausedBy}
-use Rattle.vm_map.specs.declared.call.Call.{Call}
-use Rattle.vm_map.specs.declared.call.Reply.{Reply}
-use Rattle.vm_rule.specs.Reading.{last_of}
-use Rattle.vm_rule.specs.Views.{StartsWith}
-use Rattle.vm_rule.specs.declared.view.Did.{Did}
-use Rattle.vm_rule.specs.declared.view.Place.TheVariants as places
+use Rattle.std.proofs.Common.{[], ◌++◌, ◌+◌, ◌<◌, ◌∙◌, ◌∷◌, ◌≡◌, ◌≤◌, ap, append_assoc, arith, Err, List, Ok, Result, subst, sym, ℕ}
+use Rattle.vm_map.specs.{declared.call.Call.Call, declared.call.Reply.Reply}
+use Rattle.vm_core.specs.Prelude.{MAX_VERSION, version_of}
+use Rattle.vm_rule.specs.Prelude.{last_of, StartsWith}
 use Rattle.vm_rule.specs.declared.view.Place.{Place}
-use Rattle.vm_rule.specs.declared.view.View.{View}
-use Rattle.vm_step.specs.Evidence.{HasGiven}
-use Rattle.vm_tree_rule.specs.declared.fault.TreeFault.TheVariants.{Device, Full, Worn}
+use Rattle.vm_rule.specs.declared.view.Place.TheVariants as places
+use Rattle.vm_step.specs.Prelude.{Did, HasGiven, View}
 use Rattle.vm_tree_rule.specs.declared.fault.TreeFault.{TreeFault}
+use Rattle.vm_tree_rule.specs.declared.fault.TreeFault.TheVariants.{Device, Full, Worn}
+use Rattle.vm_drive.specs.Causes.{AllCausedBy, AreCausedBy, CausedBy, FoundFull, FoundWorn}
 
 -- what was found stays found
 pub given-more : (l m : List Did) (at : Place) (word : ℕ) → StartsWith l m → HasGiven m at word → HasGiven l at word

@@ -1,17 +1,11 @@
 -- What a call of the tree that waits leaves of a worker's pass, and what its answer says.
-use Rattle.std.specs.Prelude.{ℕ, List, [], ◌∷◌, ◌++◌, ◌≡◌, ◌<◌, ◌≤◌, ◌+◌, Result, Ok, Err}
-use Rattle.vm_core.specs.Words.{MAX_VERSION, version_of}
-use Rattle.vm_map.specs.declared.call.Call.{Call}
-use Rattle.vm_map.specs.declared.call.Call.TheVariants.{Get, Put, Del, Window}
-use Rattle.vm_map.specs.declared.call.Reply.{Reply}
-use Rattle.vm_map.specs.declared.call.Said.{Said}
-use Rattle.vm_rule.specs.declared.view.Note.{Note}
+use Rattle.std.specs.Prelude.{[], ◌++◌, ◌+◌, ◌<◌, ◌∷◌, ◌≡◌, ◌≤◌, Err, List, Ok, Result, ℕ}
+use Rattle.vm_map.specs.{declared.call.Call.Call, declared.call.Reply.Reply, declared.call.Said.Said}
+use Rattle.vm_map.specs.declared.call.Call.TheVariants.{Del, Get, Put, Window}
+use Rattle.vm_core.specs.Prelude.{MAX_VERSION, version_of}
+use Rattle.vm_rule.specs.Prelude.{entry_of, StartsWith}
 use Rattle.vm_rule.specs.declared.view.Place.TheVariants as places
-use Rattle.vm_rule.specs.declared.view.View.{View}
-use Rattle.vm_rule.specs.Brought.{entry_of}
-use Rattle.vm_rule.specs.Views.{StartsWith}
-use Rattle.vm_step.specs.Asides.{HoldsPage}
-use Rattle.vm_step.specs.Evidence.{HasGiven}
+use Rattle.vm_step.specs.Prelude.{HasGiven, HoldsPage, Note, View}
 use Rattle.vm_tree_rule.specs.declared.fault.TreeFault.{TreeFault}
 use Rattle.vm_tree_rule.specs.declared.fault.TreeFault.TheVariants.{Device, Full, Worn}
 use Rattle.vm_drive.specs.Shows.{IsWindowShown}

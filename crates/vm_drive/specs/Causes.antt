@@ -1,12 +1,10 @@
 -- Why calls had no reply.
-use Rattle.std.specs.Prelude.{ℕ, List, [], ◌∷◌, ◌≡◌, ◌+◌, ◌==◌, if◌then◌else◌, Result, Ok, Err}
-use Rattle.vm_map.specs.declared.call.Call.{Call}
-use Rattle.vm_map.specs.declared.call.Reply.{Reply}
-use Rattle.vm_rule.specs.declared.view.Note.{Note}
-use Rattle.vm_rule.specs.declared.view.View.{View}
+use Rattle.std.specs.Prelude.{[], ◌+◌, ◌==◌, ◌∷◌, ◌≡◌, Err, if◌then◌else◌, List, Ok, Result, ℕ}
+use Rattle.vm_map.specs.{declared.call.Call.Call, declared.call.Reply.Reply}
+use Rattle.vm_step.specs.Prelude.{Note, View}
 use Rattle.vm_tree_rule.specs.declared.fault.TreeFault.{TreeFault}
 use Rattle.vm_tree_rule.specs.declared.fault.TreeFault.TheVariants.{Device, Full, Worn}
-use Rattle.vm_drive.specs.Calls.{IsPutCall, HasFoundNext, HasFoundWorn}
+use Rattle.vm_drive.specs.Calls.{HasFoundNext, HasFoundWorn, IsPutCall}
 
 -- how many notes are of page p
 abbrev pub notes_about : ℕ → List Note → ℕ

@@ -1,45 +1,24 @@
 -- The workers of a drive: those that were hired, and those that have done their work.
-use Rattle.std.specs.Prelude.{ℕ, Bool, true, false, List, [], ◌∷◌, ◌++◌, Vec, ◌≡◌, ◌⊎◌, ◌≤◌, ◌+◌, length, map, slice_index, Result}
-use Rattle.std.specs.Vec.{vec_capacity}
-use Rattle.std.specs.declared.alloc.Global.{Global}
-use Rattle.atomic_table.specs.Seated.{TableId}
-use Rattle.vm_map.specs.declared.call.Call.{Call}
-use Rattle.vm_map.specs.declared.call.Reply.{Reply}
-use Rattle.vm_map.specs.declared.call.Said.{Said}
-use Rattle.vm_owner.specs.Numbers.{has, AreApart}
-use Rattle.vm_rule.specs.Joins.{HoldsNoPage}
-use Rattle.vm_rule.specs.declared.view.Did.{Did}
-use Rattle.vm_rule.specs.declared.view.Shape.{Shape}
-use Rattle.vm_rule.specs.declared.view.View.{View}
-use Rattle.vm_tree_laws.specs.Keeps.{KeepsTree}
-use Rattle.vm_rule.specs.Views.{Each, IsWhole, StartsWith, entries_by, owns, times}
-use Rattle.vm_step.specs.Passes.{view}
-use Rattle.vm_step.specs.Ready.{IsReady}
-use Rattle.vm_step.specs.Whole.{KnowsAll}
-use Rattle.vm_tree_rule.specs.declared.fault.TreeFault.{TreeFault}
+use Rattle.std.specs.Prelude.{[], ◌++◌, ◌+◌, ◌∷◌, ◌≡◌, ◌≤◌, ◌⊎◌, Bool, false, length, List, map, Result, slice_index, true, ℕ}
+use Rattle.vm_map.specs.{declared.call.Call.Call, declared.call.Reply.Reply, declared.call.Said.Said}
+use Rattle.vm_rule.specs.Prelude.{AreApart, Each, entries_by, has, HoldsNoPage, IsWhole, owns, StartsWith, TableId, times}
+use Rattle.vm_step.specs.Prelude.{Did, IsReady, KnowsAll, Shape, View, view}
 use Rattle.vm_pool.specs.Parting.{KeepsAll}
+use Rattle.vm_tree_laws.specs.Keeps.{KeepsTree}
+use Rattle.vm_tree_rule.specs.declared.fault.TreeFault.{TreeFault}
 use Rattle.vm_tree_read.specs.Waiting.{LosesNone}
-use Rattle.vm_drive.specs.declared.worker.Worker.{Worker}
-use Rattle.vm_drive.specs.Causes.{notes_about}
-use Rattle.vm_drive.specs.Workers.{IsAtWork, HasDone}
-
--- there is room for an answer to each call of each list
-abbrev pub HaveRoom : List (Vec (Result Reply TreeFault) Global) → List (List Call) → Type 0
-HaveRoom [] [] = Unit {0}
-HaveRoom [] (calls ∷ lists) = ⊥
-HaveRoom (room ∷ rooms) [] = ⊥
-HaveRoom (room ∷ rooms) (calls ∷ lists) = (room.items ≡ []) × (length calls ≤ vec_capacity room) × HaveRoom rooms lists
+use Rattle.vm_drive.specs.{Causes.notes_about, declared.worker.Worker.Worker, Workers.HasKept, Workers.IsAtWork}
 
 -- the worker's number
-abbrev pub number_of : Worker → ℕ
+abbrev pub number_of : {A : Type 0} → Worker A → ℕ
 number_of worker = slice_index (view worker.pass).used 0
 
-abbrev pub numbers_of : List Worker → List ℕ
+abbrev pub numbers_of : {A : Type 0} → List (Worker A) → List ℕ
 numbers_of workers = map number_of workers
 
-module _ (shape : Shape) (tells : Bool) (t : TableId) where
+module _ {A : Type 0} (shape : Shape) (tells : Bool) (t : TableId) where
   -- the worker has a part of its own, no frame, and has done nothing
-  pub record IsNewWorker (v : View Said) (worker : Worker) : Type 0 where
+  pub record IsNewWorker (v : View Said) (worker : Worker A) : Type 0 where
     pub work : IsAtWork shape tells t worker
     pub holds : HoldsNoPage (view worker.pass)
     pub parts : ((view worker.pass).used ≡ number_of worker ∷ []) × ((view worker.pass).fresh ≡ [])
@@ -49,7 +28,7 @@ module _ (shape : Shape) (tells : Bool) (t : TableId) where
     pub frames : (view worker.pass).frames ≡ []
 
   -- The pass with the view v, which then has the view w, gave a part to each of these workers, who have these rooms for answers
-  pub record AreHired (rooms : List (Vec (Result Reply TreeFault) Global)) (v : View Said) (workers : List Worker) (w : View Said) : Type 0 where
+  pub record AreHired (rooms : List A) (v : View Said) (workers : List (Worker A)) (w : View Said) : Type 0 where
     pub kept : KeepsAll v w
     pub mine : w.mine ≡ v.mine
     pub notes : w.notes ≡ v.notes
@@ -62,48 +41,50 @@ module _ (shape : Shape) (tells : Bool) (t : TableId) where
     pub foreign : Each (λ n. (has n v.used ≡ false) × (has n w.fresh ≡ false)) (numbers_of workers)
     pub unused : Each (λ n. entries_by (n ∷ []) v.seen ≡ []) (numbers_of workers)
     pub each : Each (IsNewWorker v) workers
-    pub answers : map (λ (worker : Worker). worker.answers) workers ≡ rooms
+    pub answers : map (λ (worker : Worker A). worker.answers) workers ≡ rooms
     pub all : ((workers ≡ []) × (w ≡ v)) ⊎ (IsWhole v → v.mine ≡ v.seen)
 
+module _ {A : Type 0} (keeps : A → List (Result Reply TreeFault) → Type 0) (space : A → ℕ) (shape : Shape) (tells : Bool) (t : TableId) where
   -- the worker is at work with no page, and has room for answers to the calls
-  pub record IsIdle (calls : List Call) (worker : Worker) : Type 0 where
+  pub record IsIdle (calls : List Call) (worker : Worker A) : Type 0 where
     pub work : IsAtWork shape tells t worker
     pub holds : HoldsNoPage (view worker.pass)
-    pub empty : worker.answers.items ≡ []
-    pub room : length calls ≤ vec_capacity worker.answers
+    pub empty : keeps worker.answers []
+    pub room : length calls ≤ space worker.answers
 
   -- there is such a worker for each list
-  abbrev pub AreIdle : List (List Call) → List Worker → Type 0
+  abbrev pub AreIdle : List (List Call) → List (Worker A) → Type 0
   AreIdle [] [] = Unit {0}
   AreIdle [] (worker ∷ workers) = ⊥
   AreIdle (calls ∷ lists) [] = ⊥
   AreIdle (calls ∷ lists) (worker ∷ workers) = IsIdle calls worker × AreIdle lists workers
 
+module _ {A : Type 0} (keeps : A → List (Result Reply TreeFault) → Type 0) (shape : Shape) (tells : Bool) (t : TableId) where
   -- the worker has made the calls, holds no page, and has no frame but those that it had and its interface did not
-  pub record HasWorked (calls : List Call) (old new : Worker) : Type 0 where
+  pub record HasWorked (calls : List Call) (old new : Worker A) : Type 0 where
     pub ready : IsReady shape tells t new.pass
     pub holds : HoldsNoPage (view new.pass)
-    pub done : HasDone calls new.answers.items (view old.pass) (view new.pass)
+    pub done : HasKept keeps calls new.answers (view old.pass) (view new.pass)
     pub lost : LosesNone old.iface.frames (view old.pass) [] (view new.pass)
 
   -- so has each worker
-  abbrev pub AllWorked : List (List Call) → List Worker → List Worker → Type 0
+  abbrev pub AllWorked : List (List Call) → List (Worker A) → List (Worker A) → Type 0
   AllWorked [] [] [] = Unit {0}
   AllWorked (calls ∷ lists) (old ∷ olds) (new ∷ news) = HasWorked calls old new × AllWorked lists olds news
   AllWorked _ _ _ = ⊥
 
 -- how many notes of page p the workers' passes have
-abbrev pub all_notes_of : ℕ → List Worker → ℕ
+abbrev pub all_notes_of : {A : Type 0} → ℕ → List (Worker A) → ℕ
 all_notes_of p [] = 0
 all_notes_of p (worker ∷ workers) = notes_about p (view worker.pass).notes + all_notes_of p workers
 
--- the workers' answers
-abbrev pub answers_of : List Worker → List (Vec (Result Reply TreeFault) Global)
-answers_of workers = map (λ (worker : Worker). worker.answers) workers
+-- what keeps the workers' answers
+abbrev pub answers_of : {A : Type 0} → List (Worker A) → List A
+answers_of workers = map (λ worker. worker.answers) workers
 
 -- the worker's pass went into this one: its number is one of the pass's, and the history has its entries alone under it; and the pass has
 -- its steps
-pub record IsIn (w : View Said) (worker : Worker) : Type 0 where
+pub record IsIn {A : Type 0} (w : View Said) (worker : Worker A) : Type 0 where
   pub number : has (number_of worker) w.used ≡ true
   pub entries : entries_by (number_of worker ∷ []) w.seen ≡ (view worker.pass).mine
   pub front : List Did
@@ -113,7 +94,7 @@ pub record IsIn (w : View Said) (worker : Worker) : Type 0 where
   pub heard : StartsWith w.seen (view worker.pass).seen
 
 -- The passes of the workers, which had no frame, went into the pass that had the view x and has the view w
-pub record AreJoined (tells : Bool) (x : View Said) (workers : List Worker) (w : View Said) : Type 0 where
+pub record AreJoined {A : Type 0} (tells : Bool) (x : View Said) (workers : List (Worker A)) (w : View Said) : Type 0 where
   pub kept : KeepsAll x w
   pub current : w.current ≡ true
   pub used : w.used ≡ x.used ++ numbers_of workers
@@ -125,9 +106,9 @@ pub record AreJoined (tells : Bool) (x : View Said) (workers : List Worker) (w :
   pub each : Each (IsIn w) workers
   pub knows : KnowsAll tells KeepsTree w
 
-module _ (shape : Shape) (tells : Bool) (t : TableId) where
+module _ {A : Type 0} (shape : Shape) (tells : Bool) (t : TableId) where
   -- the worker is back: its pass holds no page and no frame, and has one part, its number
-  pub record IsBack (x : View Said) (worker : Worker) : Type 0 where
+  pub record IsBack (x : View Said) (worker : Worker A) : Type 0 where
     pub ready : IsReady shape tells t worker.pass
     pub holds : HoldsNoPage (view worker.pass)
     pub frames : (f : ℕ) → has f (view worker.pass).frames ≡ false

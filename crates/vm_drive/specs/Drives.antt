@@ -1,26 +1,17 @@
 -- What driving the workers leaves.
-use Rattle.std.specs.Prelude.{ℕ, Bool, true, List, Vec, ◌++◌, ◌≡◌, ◌≤◌, ◌+◌, map, length, Result}
 use Rattle.std.specs.declared.alloc.Global.{Global}
 use Rattle.std.specs.List.{AllByRecursion}
-use Rattle.vm_core.specs.Words.{MAX_VERSION}
-use Rattle.vm_map.specs.declared.call.Call.{Call}
-use Rattle.vm_map.specs.declared.call.Reply.{Reply}
-use Rattle.vm_map.specs.declared.call.Said.{Said}
-use Rattle.vm_map.specs.History.{IsAskable}
-use Rattle.vm_owner.specs.declared.Entry.{Entry}
-use Rattle.vm_owner.specs.Numbers.{has}
-use Rattle.vm_rule.specs.Joins.{HoldsNoPage}
-use Rattle.vm_rule.specs.declared.view.View.{View}
-use Rattle.vm_rule.specs.Reading.{last_of}
-use Rattle.vm_rule.specs.Views.{StartsWith}
-use Rattle.vm_rule_laws.specs.Known.{kept_by}
-use Rattle.vm_step.specs.Alone.{IsAlone}
+use Rattle.std.specs.Prelude.{◌++◌, ◌+◌, ◌≡◌, ◌≤◌, Bool, length, List, map, Result, true, Vec, ℕ}
+use Rattle.vm_map.specs.{declared.call.Call.Call, declared.call.Reply.Reply, declared.call.Said.Said, History.IsAskable}
 use Rattle.vm_tree_model.specs.Tree.{map_of}
+use Rattle.vm_core.specs.Prelude.{MAX_VERSION}
+use Rattle.vm_rule.specs.Prelude.{Entry, has, HoldsNoPage, last_of, StartsWith}
+use Rattle.vm_rule_laws.specs.Known.{kept_by}
+use Rattle.vm_step.specs.Prelude.{IsAlone, View}
 use Rattle.vm_tree_laws.specs.History.{IsLegal}
 use Rattle.vm_tree_rule.specs.declared.fault.TreeFault.{TreeFault}
-use Rattle.vm_drive.specs.Holds.{HoldsCalls}
-use Rattle.vm_drive.specs.Shows.{AllShown}
-use Rattle.vm_drive.specs.Causes.{notes_about, all_faults_of, AllCausedBy, FoundFull, FoundWorn}
+use Rattle.vm_drive.specs.{Holds.HoldsCalls, Kept.AreKept, Shows.AllShown}
+use Rattle.vm_drive.specs.Causes.{all_faults_of, AllCausedBy, FoundFull, FoundWorn, notes_about}
 
 -- the lists in the vectors
 abbrev pub items_of : {X : Type 0} → List (Vec X Global) → List (List X)
@@ -63,3 +54,9 @@ pub record IsDriven (tells : Bool) (lists : List (List Call)) (answers : List (L
   -- the same, by what the pass's steps found: so it is of the pass later on, too
   pub traces : AllCausedBy (FoundFull w) (FoundWorn w) lists answers
   pub shown : AllShown w lists answers
+
+-- the same, where each worker's answers were kept so
+pub record IsDrivenInto {A : Type 0} (keeps : A → List (Result Reply TreeFault) → Type 0) (tells : Bool) (lists : List (List Call)) (kept : List A) (v w : View Said) : Type 0 where
+  pub told : List (List (Result Reply TreeFault))
+  pub stand : AreKept keeps kept told
+  pub driven : IsDriven tells lists told v w

@@ -1,10 +1,7 @@
 -- The history holds each worker's calls once, in order, with their replies.
-use Rattle.std.specs.Prelude.{◌≡◌, ℕ, ◌<◌, List, [], ◌∷◌, length, slice_index_or, Result, Ok, Err}
-use Rattle.vm_map.specs.declared.call.Call.{Call}
-use Rattle.vm_map.specs.declared.call.Reply.{Reply}
-use Rattle.vm_map.specs.declared.call.Said.{Said}
-use Rattle.vm_owner.specs.declared.Entry.{Entry}
-use Rattle.vm_rule.specs.Views.{Each, entries_by}
+use Rattle.std.specs.Prelude.{[], ◌<◌, ◌∷◌, ◌≡◌, Err, length, List, Ok, Result, slice_index_or, ℕ}
+use Rattle.vm_map.specs.{declared.call.Call.Call, declared.call.Reply.Reply, declared.call.Said.Said}
+use Rattle.vm_rule.specs.Prelude.{Each, entries_by, Entry}
 use Rattle.vm_tree_laws.specs.History.{saids}
 use Rattle.vm_tree_rule.specs.declared.fault.TreeFault.{TreeFault}
 

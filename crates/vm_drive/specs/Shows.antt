@@ -1,18 +1,12 @@
 -- The windows among workers' answers: each shows what the leaf that covers its start does.
-use Rattle.std.specs.Prelude.{ℕ, true, List, [], ◌∷◌, ◌++◌, ◌≡◌, Result, Ok, Err}
-use Rattle.vm_map.specs.declared.call.Call.{Call}
-use Rattle.vm_map.specs.declared.call.Call.TheVariants.{Get, Put, Del, Window}
-use Rattle.vm_map.specs.declared.call.Reply.{Reply}
-use Rattle.vm_map.specs.declared.call.Said.{Said}
-use Rattle.vm_owner.specs.declared.Entry.{Entry}
-use Rattle.vm_owner.specs.Kept.{Kept}
-use Rattle.vm_page.specs.Pages.{page_at}
-use Rattle.vm_rule.specs.declared.view.View.{View}
-use Rattle.vm_rule.specs.Rule.{began_of}
-use Rattle.vm_rule.specs.Views.{StartsWith}
+use Rattle.std.specs.Prelude.{[], ◌++◌, ◌∷◌, ◌≡◌, Err, List, Ok, Result, true, ℕ}
+use Rattle.vm_map.specs.{declared.call.Call.Call, declared.call.Reply.Reply, declared.call.Said.Said}
+use Rattle.vm_map.specs.declared.call.Call.TheVariants.{Del, Get, Put, Window}
 use Rattle.vm_tree_model.specs.Page.{node_of}
-use Rattle.vm_tree_laws.specs.Keeps.{KeepsTree}
-use Rattle.vm_tree_laws.specs.May.{IsProved}
+use Rattle.vm_core.specs.Prelude.{page_at}
+use Rattle.vm_rule.specs.Prelude.{began_of, Entry, Kept, StartsWith}
+use Rattle.vm_step.specs.Prelude.{View}
+use Rattle.vm_tree_laws.specs.{Keeps.KeepsTree, May.IsProved}
 use Rattle.vm_tree_rule.specs.declared.fault.TreeFault.{TreeFault}
 
 -- the reply is what a leaf shows: one of the tree's pages at the step that made the call with this reply an entry of the history, which the pass

@@ -1,24 +1,15 @@
 -- A worker at work, and what it has done.
-use Rattle.std.specs.Prelude.{ℕ, Bool, List, None, ◌++◌, ◌≡◌, ◌≤◌, ◌+◌, length, Result}
-use Rattle.atomic_table.specs.Seated.{TableId}
-use Rattle.vm_step.specs.HeldFrames.{AreHeld}
-use Rattle.vm_map.specs.declared.call.Call.{Call}
-use Rattle.vm_map.specs.declared.call.Reply.{Reply}
-use Rattle.vm_map.specs.declared.call.Said.{Said}
-use Rattle.vm_rule.specs.declared.view.Shape.{Shape}
-use Rattle.vm_rule.specs.declared.view.View.{View}
-use Rattle.vm_step.specs.Passes.{view}
-use Rattle.vm_step.specs.Ready.{IsReady}
+use Rattle.std.specs.Prelude.{◌++◌, ◌+◌, ◌≡◌, ◌≤◌, Bool, length, List, None, Result, ℕ}
+use Rattle.vm_map.specs.{declared.call.Call.Call, declared.call.Reply.Reply, declared.call.Said.Said}
+use Rattle.vm_rule.specs.Prelude.{TableId}
+use Rattle.vm_step.specs.Prelude.{AreHeld, IsReady, Shape, View, view}
 use Rattle.vm_tree_laws.specs.History.{saids}
 use Rattle.vm_tree_rule.specs.declared.fault.TreeFault.{TreeFault}
-use Rattle.vm_drive.specs.Calls.{KeepsPass}
-use Rattle.vm_drive.specs.declared.worker.Worker.{Worker}
-use Rattle.vm_drive.specs.Holds.{answered}
-use Rattle.vm_drive.specs.Shows.{AreShown}
-use Rattle.vm_drive.specs.Causes.{notes_about, faults_of, AreCausedBy, FoundFull, FoundWorn}
+use Rattle.vm_drive.specs.{Calls.KeepsPass, declared.worker.Worker.Worker, Holds.answered, Shows.AreShown}
+use Rattle.vm_drive.specs.Causes.{AreCausedBy, faults_of, FoundFull, FoundWorn, notes_about}
 
 -- the worker's pass may step on this table, which has a page, has its block at home, and holds the interface's frames
-pub record IsAtWork (shape : Shape) (tells : Bool) (t : TableId) (worker : Worker) : Type 0 where
+pub record IsAtWork {A : Type 0} (shape : Shape) (tells : Bool) (t : TableId) (worker : Worker A) : Type 0 where
   pub ready : IsReady shape tells t worker.pass
   pub pages : 1 ≤ shape.pages
   pub home : (view worker.pass).out ≡ None
@@ -33,3 +24,9 @@ pub record HasDone (calls : List Call) (answers : List (Result Reply TreeFault))
   pub faults : (p : ℕ) → notes_about p v.notes + faults_of p answers ≤ notes_about p w.notes
   pub caused : AreCausedBy (FoundFull w) (FoundWorn w) calls answers
   pub shown : AreShown w calls answers
+
+-- the calls were made, and what was kept stands for their answers
+pub record HasKept {A : Type 0} (keeps : A → List (Result Reply TreeFault) → Type 0) (calls : List Call) (kept : A) (v w : View Said) : Type 0 where
+  pub told : List (Result Reply TreeFault)
+  pub stands : keeps kept told
+  pub done : HasDone calls told v w

@@ -1,17 +1,17 @@
 //! All workers, side by side.
 
-ghost use Rattle.std.specs.Prelude.{◌≡◌, ◌<◌, ◌≤◌, ◌*◌, [], None, IfErr, IfOk, length};
+ghost use Rattle.std.specs.Prelude.{[], ◌*◌, ◌<◌, ◌≡◌, ◌≤◌, IfErr, IfOk, length, None};
 ghost use Rattle.std.specs.Vec.{vec_capacity};
-ghost use Rattle.vm_rule.specs.Joins.{HoldsNoPage};
-ghost use Rattle.vm_rule.specs.Views.{Each, IsWhole};
-ghost use Rattle.vm_step.specs.Passes.{IsSamePass, view};
-ghost use Rattle.vm_step.specs.Ready.{IsReady};
-ghost use Rattle.vm_drive.specs.Crews.{AllWorked, AreHired, AreIdle, AreJoined, HasWorked, HaveRoom, IsBack, IsIdle, answers_of};
+ghost use Rattle.vm_rule.specs.Prelude.{Each, HoldsNoPage, IsWhole};
+ghost use Rattle.vm_step.specs.Prelude.{IsReady, IsSamePass, view};
+ghost use Rattle.vm_drive.specs.Crews.{AllWorked, answers_of, AreHired, AreIdle, AreJoined, HasWorked, IsBack, IsIdle};
+ghost use Rattle.vm_drive.specs.Drives.{AreAskable, AreFew, IsDriven, IsDrivenInto, items_of};
 ghost use Rattle.vm_drive.specs.Holds.{list_at};
-ghost use Rattle.vm_drive.specs.Drives.{AreAskable, AreFew, IsDriven, items_of};
+ghost use Rattle.vm_drive.specs.Kept.{HasItems, HaveRoom, left_in};
 
+use crate::answers::{Answer, Answers};
 use crate::gate::Gate;
-use crate::worker::{Answer, Worker, work};
+use crate::worker::{Worker, work};
 use std::alloc::{AllocError, Global};
 use std::sync::Wait;
 use std::thread;
@@ -29,6 +29,15 @@ use vm_tree_rule::Tree;
 pub struct Driven {
     /// For each list an answer for each of its calls, in order.
     pub replies: Vec<Vec<Answer>>,
+    /// Up to the greatest `u64`.
+    pub evicted: u64,
+}
+
+/// What keeps what the workers were answered, and how many pages their sweeps evicted.
+#[derive(Drop)]
+pub struct DrivenInto<A> {
+    /// One for each list, in order.
+    pub kept: Vec<A>,
     /// Up to the greatest `u64`.
     pub evicted: u64,
 }
@@ -58,32 +67,77 @@ pub fn drive<R: Threads + Wait + Sync, B: Block + Send + Sync, G: Gate + Sync>(
     ensures driven { IfOk result (λ driven. IsDriven B.tells (items_of lists.now) (items_of driven.replies.items) (view pass.old) (view pass.new)) }
     ensures memory { IfErr result (λ _. pass.new ≡ pass.old) }
 {
-    let (rooms, workers, replies) = match rooms_for(alloc, lists) {
+    let rooms = match rooms_for(alloc, lists) {
         Ok(rooms) => rooms,
+        Err(AllocError) => return Err(Memory),
+    };
+    let DrivenInto { kept, evicted } = drive_into(rt, alloc, pool, pass, lists, gate, rooms)?;
+    Ok(Driven {
+        replies: kept,
+        evicted,
+    })
+}
+
+/// The same, where each list has something that keeps its answers, in the lists' order: it stands for no answer yet, and has room for one to
+/// each of the list's calls.
+pub fn drive_into<
+    R: Threads + Wait + Sync,
+    B: Block + Send + Sync,
+    G: Gate + Sync,
+    A: Answers + Send + Drop,
+>(
+    rt: &R,
+    alloc: Global,
+    pool: &Pool<Tree, B>,
+    pass: &mut Pass<Tree>,
+    lists: &[Vec<Call>],
+    gate: &G,
+    rooms: Vec<A>,
+) -> Result<DrivenInto<A>, Memory>
+    requires ready { IsReady pool.now.words.table.shared.key B.tells pool.now.words.table.shared.table_id pass.old }
+    requires whole { IsWhole (view pass.old) }
+    requires holds { HoldsNoPage (view pass.old) }
+    requires fresh { length lists.now ≤ length (view pass.old).fresh }
+    requires lists { (1 ≤ length lists.now) × (length lists.now ≤ 64) }
+    requires few { AreFew (items_of lists.now) }
+    requires askable { AreAskable (items_of lists.now) }
+    requires frames { 8 * length lists.now ≤ pool.now.words.frames }
+    requires pages { 1 ≤ pool.now.words.table.shared.key.pages }
+    requires rooms { HaveRoom A.keeps A.room rooms.items (items_of lists.now) }
+    ensures pass { IsSamePass pass.old pass.new }
+    ensures ready { IsReady pool.now.words.table.shared.key B.tells pool.now.words.table.shared.table_id pass.new }
+    ensures driven { IfOk result (λ driven. IsDrivenInto A.keeps B.tells (items_of lists.now) driven.kept.items (view pass.old) (view pass.new)) }
+    ensures memory { IfErr result (λ _. pass.new ≡ pass.old) }
+{
+    let (workers, kept) = match places_for(alloc, lists.len()) {
+        Ok(places) => places,
         Err(AllocError) => return Err(Memory),
     };
     let cap = cap_for(pool.words.frames, lists.len());
     let mut workers = hire(pool, pass, cap, rooms, workers);
     work_all(rt, pool, gate, lists, workers.as_mut_slice());
-    Ok(gather(pool, pass, workers, replies))
+    Ok(gather(pool, pass, workers, kept))
 }
 
-// The memory that all workers need: room for each list's answers, for the workers, and for the lists of answers.
-fn rooms_for(
-    alloc: Global,
-    lists: &[Vec<Call>],
-) -> Result<(Vec<Vec<Answer>>, Vec<Worker>, Vec<Vec<Answer>>), AllocError>
-    ensures rooms { IfOk result (λ v. HaveRoom v.0.items (items_of lists.now)) }
-    ensures workers { IfOk result (λ v. (v.1.items ≡ []) × (length lists.now ≤ vec_capacity v.1)) }
-    ensures replies { IfOk result (λ v. (v.2.items ≡ []) × (length lists.now ≤ vec_capacity v.2)) }
+/// For each list, room for an answer to each of its calls.
+pub fn rooms_for(alloc: Global, lists: &[Vec<Call>]) -> Result<Vec<Vec<Answer>>, AllocError>
+    ensures { IfOk result (λ rooms. HaveRoom HasItems left_in rooms.items (items_of lists.now)) }
 {
-    let workers = Vec::with_capacity(alloc, lists.len())?;
-    let replies = Vec::with_capacity(alloc, lists.len())?;
     let mut rooms = Vec::with_capacity(alloc, lists.len())?;
     'lists: for calls in lists {
         rooms.push(Vec::with_capacity(alloc, calls.len())?)?;
     }
-    Ok((rooms, workers, replies))
+    Ok(rooms)
+}
+
+// Room for so many workers, and for what keeps their answers.
+fn places_for<A: Drop>(alloc: Global, count: usize) -> Result<(Vec<Worker<A>>, Vec<A>), AllocError>
+    ensures workers { IfOk result (λ v. (v.0.items ≡ []) × (count ≤ vec_capacity v.0)) }
+    ensures kept { IfOk result (λ v. (v.1.items ≡ []) × (count ≤ vec_capacity v.1)) }
+{
+    let workers = Vec::with_capacity(alloc, count)?;
+    let kept = Vec::with_capacity(alloc, count)?;
+    Ok((workers, kept))
 }
 
 // How many frames an interface keeps: a quarter of the worker's share, at most 64.
@@ -97,13 +151,13 @@ fn cap_for(frames: usize, workers: usize) -> u32
 }
 
 // Splits off a pass for each room.
-fn hire<B: Block>(
+fn hire<B: Block, A: Drop>(
     pool: &Pool<Tree, B>,
     pass: &mut Pass<Tree>,
     cap: u32,
-    rooms: Vec<Vec<Answer>>,
-    mut workers: Vec<Worker>,
-) -> Vec<Worker>
+    rooms: Vec<A>,
+    mut workers: Vec<Worker<A>>,
+) -> Vec<Worker<A>>
     requires ready { IsReady pool.now.words.table.shared.key B.tells pool.now.words.table.shared.table_id pass.old }
     requires holds { HoldsNoPage (view pass.old) }
     requires fresh { length rooms.items ≤ length (view pass.old).fresh }
@@ -132,47 +186,47 @@ fn hire<B: Block>(
 }
 
 // Makes each worker's calls, in as many threads as there are workers.
-fn work_all<R: Threads + Wait + Sync, B: Block + Send + Sync, G: Gate + Sync>(
+fn work_all<R: Threads + Wait + Sync, B: Block + Send + Sync, G: Gate + Sync, A: Answers + Send>(
     rt: &R,
     pool: &Pool<Tree, B>,
     gate: &G,
     lists: &[Vec<Call>],
-    workers: &mut [Worker],
+    workers: &mut [Worker<A>],
 )
     requires lists { (1 ≤ length lists.now) × (length lists.now ≤ 64) }
     requires askable { AreAskable (items_of lists.now) }
-    requires idle { AreIdle pool.now.words.table.shared.key B.tells pool.now.words.table.shared.table_id (items_of lists.now) workers.old }
-    ensures { AllWorked pool.now.words.table.shared.key B.tells pool.now.words.table.shared.table_id (items_of lists.now) workers.old workers.new }
+    requires idle { AreIdle A.keeps A.room pool.now.words.table.shared.key B.tells pool.now.words.table.shared.table_id (items_of lists.now) workers.old }
+    ensures { AllWorked A.keeps pool.now.words.table.shared.key B.tells pool.now.words.table.shared.table_id (items_of lists.now) workers.old workers.new }
 {
     thread::for_each_mut(
         rt,
         workers,
         lists.len(),
-        &|i: usize, worker: &mut Worker|
+        &|i: usize, worker: &mut Worker<A>|
             requires inside { (i < length lists.now) × (length lists.now ≤ 64) }
             requires askable { AreAskable (items_of lists.now) }
-            requires idle { IsIdle pool.now.words.table.shared.key B.tells pool.now.words.table.shared.table_id (list_at (items_of lists.now) i) worker.old }
-            ensures { HasWorked pool.entry.now.words.table.shared.key B.tells pool.entry.now.words.table.shared.table_id (list_at (items_of lists.entry.now) i) worker.old worker.new }
+            requires idle { IsIdle A.keeps A.room pool.now.words.table.shared.key B.tells pool.now.words.table.shared.table_id (list_at (items_of lists.now) i) worker.old }
+            ensures { HasWorked A.keeps pool.entry.now.words.table.shared.key B.tells pool.entry.now.words.table.shared.table_id (list_at (items_of lists.entry.now) i) worker.old worker.new }
         { work(rt, pool, gate, i as u32, lists[i].as_slice(), worker) },
     );
 }
 
 // Joins the workers' passes, and collects their answers.
-fn gather<B: Block>(
+fn gather<B: Block, A: Drop>(
     pool: &Pool<Tree, B>,
     pass: &mut Pass<Tree>,
-    workers: Vec<Worker>,
-    mut replies: Vec<Vec<Answer>>,
-) -> Driven
+    workers: Vec<Worker<A>>,
+    mut kept: Vec<A>,
+) -> DrivenInto<A>
     requires ready { IsReady pool.now.words.table.shared.key B.tells pool.now.words.table.shared.table_id pass.old }
     requires home { (view pass.old).out ≡ None }
-    requires room { (replies.items ≡ []) × (length workers.items ≤ vec_capacity replies) }
+    requires room { (kept.items ≡ []) × (length workers.items ≤ vec_capacity kept) }
     requires some { 1 ≤ length workers.items }
     requires back { Each (IsBack pool.now.words.table.shared.key B.tells pool.now.words.table.shared.table_id (view pass.old)) workers.items }
     ensures pass { IsSamePass pass.old pass.new }
     ensures ready { IsReady pool.now.words.table.shared.key B.tells pool.now.words.table.shared.table_id pass.new }
     ensures joined { AreJoined B.tells (view pass.old) workers.items (view pass.new) }
-    ensures replies { result.replies.items ≡ answers_of workers.items }
+    ensures kept { result.kept.items ≡ answers_of workers.items }
 {
     let mut evicted = 0u64;
     'workers: for worker in workers {
@@ -183,9 +237,9 @@ fn gather<B: Block>(
         } = worker;
         evicted = evicted.saturating_add(iface.swept());
         pool.join(pass, own);
-        if replies.push(answers).is_err() {
+        if kept.push(answers).is_err() {
             unreachable!()
         }
     }
-    Driven { replies, evicted }
+    DrivenInto { kept, evicted }
 }

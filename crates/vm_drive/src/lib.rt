@@ -1,8 +1,9 @@
 //! The workers: each makes a list of calls with a pass of its own, side by side.
 #![tactic(auto)]
 
+pub mod answers;
 mod driving;
 pub mod gate;
 pub mod worker;
 
-pub use driving::{Driven, drive};
+pub use driving::{Driven, DrivenInto, drive, drive_into, rooms_for};

@@ -1,37 +1,32 @@
-//! One worker: its pass, its interface, and the room for its answers.
+//! One worker: its pass, its interface, and what keeps its answers.
 
-ghost use Rattle.std.specs.Prelude.{◌≡◌, ◌≤◌, [], None, length};
 ghost use Rattle.std.specs.List.{AllByRecursion};
-ghost use Rattle.std.specs.Vec.{vec_capacity};
-ghost use Rattle.vm_step.specs.HeldFrames.{AreHeld};
+ghost use Rattle.std.specs.Prelude.{[], ◌≡◌, ◌≤◌, length, None};
 ghost use Rattle.vm_map.specs.History.{IsAskable};
-ghost use Rattle.vm_rule.specs.Joins.{HoldsNoPage};
-ghost use Rattle.vm_step.specs.Passes.{view};
-ghost use Rattle.vm_step.specs.Ready.{IsReady};
+ghost use Rattle.vm_rule.specs.Prelude.{HoldsNoPage};
+ghost use Rattle.vm_step.specs.Prelude.{AreHeld, IsReady, view};
 ghost use Rattle.vm_tree_read.specs.Waiting.{LosesNone};
-ghost use Rattle.vm_drive.specs.Calls.{IsCalled, KeepsPass};
-ghost use Rattle.vm_drive.specs.Workers.{HasDone, IsAtWork};
+ghost use Rattle.vm_drive.specs.{Calls.IsCalled, Calls.KeepsPass, Workers.HasKept, Workers.IsAtWork};
 
+pub use crate::answers::Answer;
+use crate::answers::Answers;
 use crate::gate::Gate;
 use std::sync::Wait;
 use vm_block::Block;
 use vm_exmap::Interface;
-use vm_map::call::{Call, Reply};
+use vm_map::call::Call;
 use vm_pool::Pool;
 use vm_rule::words::Pass;
 use vm_tree_read::{get, window};
-use vm_tree_rule::{Tree, TreeFault};
+use vm_tree_rule::Tree;
 use vm_tree_write::{del, put};
-
-/// What a call is answered: a reply, or why there is none.
-pub type Answer = Result<Reply, TreeFault>;
 
 /// A worker's own things.
 #[derive(Drop)]
-pub struct Worker {
+pub struct Worker<A> {
     pub pass: Pass<Tree>,
     pub iface: Interface,
-    pub answers: Vec<Answer>,
+    pub answers: A,
 }
 
 // Makes one call.
@@ -62,20 +57,20 @@ fn answer<R: Wait, B: Block>(
 }
 
 // Makes the calls, in order.
-fn call_all<R: Wait, B: Block, G: Gate>(
+fn call_all<R: Wait, B: Block, G: Gate, A: Answers>(
     rt: &R,
     pool: &Pool<Tree, B>,
     gate: &G,
     number: u32,
     calls: &[Call],
-    worker: &mut Worker,
+    worker: &mut Worker<A>,
 )
     requires work { IsAtWork pool.now.words.table.shared.key B.tells pool.now.words.table.shared.table_id worker.old }
-    requires room { length calls.now ≤ vec_capacity worker.old.answers }
-    requires fresh { worker.old.answers.items ≡ [] }
+    requires room { length calls.now ≤ A.room worker.old.answers }
+    requires fresh { A.keeps worker.old.answers [] }
     requires askable { AllByRecursion IsAskable calls.now }
     ensures work { IsAtWork pool.now.words.table.shared.key B.tells pool.now.words.table.shared.table_id worker.new }
-    ensures done { HasDone calls.now worker.new.answers.items (view worker.old.pass) (view worker.new.pass) }
+    ensures done { HasKept A.keeps calls.now worker.new.answers (view worker.old.pass) (view worker.new.pass) }
     ensures lost { LosesNone worker.old.iface.frames (view worker.old.pass) worker.new.iface.frames (view worker.new.pass) }
 {
     let mut count = 0u32;
@@ -84,29 +79,27 @@ fn call_all<R: Wait, B: Block, G: Gate>(
         gate.before(number, count);
         let answer = answer(rt, pool, &mut worker.pass, &mut worker.iface, call);
         gate.after(number, count);
-        if worker.answers.push(answer).is_err() {
-            unreachable!()
-        }
+        worker.answers.keep(answer);
     }
 }
 
 /// Makes the worker's calls, in order, and gives its frames back.
-pub fn work<R: Wait, B: Block, G: Gate>(
+pub fn work<R: Wait, B: Block, G: Gate, A: Answers>(
     rt: &R,
     pool: &Pool<Tree, B>,
     gate: &G,
     number: u32,
     calls: &[Call],
-    worker: &mut Worker,
+    worker: &mut Worker<A>,
 )
     requires work { IsAtWork pool.now.words.table.shared.key B.tells pool.now.words.table.shared.table_id worker.old }
     requires holds { HoldsNoPage (view worker.old.pass) }
-    requires room { length calls.now ≤ vec_capacity worker.old.answers }
-    requires fresh { worker.old.answers.items ≡ [] }
+    requires room { length calls.now ≤ A.room worker.old.answers }
+    requires fresh { A.keeps worker.old.answers [] }
     requires askable { AllByRecursion IsAskable calls.now }
     ensures ready { IsReady pool.now.words.table.shared.key B.tells pool.now.words.table.shared.table_id worker.new.pass }
     ensures holds { HoldsNoPage (view worker.new.pass) }
-    ensures done { HasDone calls.now worker.new.answers.items (view worker.old.pass) (view worker.new.pass) }
+    ensures done { HasKept A.keeps calls.now worker.new.answers (view worker.old.pass) (view worker.new.pass) }
     ensures lost { LosesNone worker.old.iface.frames (view worker.old.pass) [] (view worker.new.pass) }
 {
     call_all(rt, pool, gate, number, calls, worker);

@@ -1,22 +1,18 @@
 -- As many notes of a page as its block can have faults: each has another count. No more faults than different entries of the plan.
-use Rattle.std.proofs.Common.{ℕ, zero, suc, true, false, ◌≡◌, ◌≢◌, ◌+◌, ◌<◌, ◌≤◌, ◌==◌, ◌||◌, Bool, cond, List, [], ◌∷◌, length, refl, sym, ap, ◌∙◌, arith, ⊎_elim, nat_eq}
-use Rattle.std.proofs.lemmas.Bool.{cases_eq, cases_Bool, eq-eqb, ne_eqb}
-use Rattle.std.proofs.lemmas.Map.Made.{distinct_count-le}
-use Rattle.std.proofs.lemmas.List.Sums.{sum_by-cons}
 use Rattle.std.specs.List.{sum_by}
 use Rattle.std.specs.Set.{distinct_count, is_member, unique_keys}
-use Rattle.vm_block.specs.declared.stored.Stored.{Stored}
-use Rattle.vm_block.specs.Plans.{most_faults}
-use Rattle.vm_image.specs.Blocks.{numbers_for}
-use Rattle.vm_image.specs.declared.blocks.PlannedFault.{PlannedFault}
-use Rattle.vm_rule.specs.declared.view.Note.{Note}
-use Rattle.vm_core.specs.Fn.{at}
-use Rattle.vm_core.specs.Words.{MAX_COUNT}
+use Rattle.std.proofs.Common.{[], ⊎_elim, ◌+◌, ◌<◌, ◌==◌, ◌||◌, ◌∙◌, ◌∷◌, ◌≡◌, ◌≢◌, ◌≤◌, ap, arith, Bool, cond, false, length, List, nat_eq, refl}
+use Rattle.std.proofs.Common.{suc, sym, true, zero, ℕ}
+use Rattle.std.proofs.lemmas.Bool.{cases_Bool, cases_eq, eq-eqb, ne_eqb}
+use Rattle.std.proofs.lemmas.List.Sums.{sum_by-cons}
+use Rattle.std.proofs.lemmas.Map.Made.{distinct_count-le}
+use Rattle.vm_image.specs.{Blocks.numbers_for, declared.blocks.PlannedFault.PlannedFault}
+use Rattle.vm_core.specs.Prelude.{at, MAX_COUNT}
+use Rattle.vm_rule.specs.Prelude.{most_faults, no_block, Stored, times_noted}
+use Rattle.vm_step.specs.Prelude.{Note}
 use Rattle.vm_pool.specs.Closing.{AreSums}
-use Rattle.vm_rule.specs.Reading.{no_block}
-use Rattle.vm_rule.specs.Views.{times_noted}
 use Rattle.vm_drive.specs.Causes.{notes_about}
-use Rattle.vm_serve.specs.Served.{TreeEnd, distinct_entries, same_entry}
+use Rattle.vm_serve.specs.Served.{distinct_entries, same_entry, TreeEnd}
 
 -- how many notes of page p have one of the counts up to b
 sum_times : ℕ → ℕ → List Note → ℕ

@@ -1,54 +1,33 @@
 -- What serving comes to, from what was driven, what was flushed and what was closed.
-use Rattle.std.proofs.Common.{ℕ, zero, suc, Bool, true, false, ◌≡◌, ◌+◌, ◌<◌, ◌≤◌, Some, None, List, [], ◌∷◌, ◌++◌, length, map, Result, replicate, slice_index, slice_index_or, refl, sym, ap, subst, ◌∙◌, arith, ⊎_elim, inl, inr, true≢false}
+use Rattle.std.proofs.Common.{[], ⊎_elim, ◌++◌, ◌+◌, ◌<◌, ◌∙◌, ◌∷◌, ◌≡◌, ◌≤◌, ap, arith, Bool, false, inl, inr, length, List, map, None, refl}
+use Rattle.std.proofs.Common.{replicate, Result, slice_index, slice_index_or, Some, subst, suc, sym, true, true≢false, zero, ℕ}
 use Rattle.std.proofs.lemmas.Bool.{cases_lt, ne_eqb}
-use Rattle.vm_core.specs.Fn.{at}
-use Rattle.vm_block.specs.declared.memory.MemBlock.{MemBlock}
-use Rattle.vm_block.specs.declared.stored.Stored.{Stored}
-use Rattle.vm_block.specs.Memory.{planned_calls, stored_of, words_of}
-use Rattle.vm_block.specs.Plans.{most_faults}
+use Rattle.vm_block.specs.Memory.{planned_calls}
+use Rattle.vm_map.specs.{declared.call.Call.Call, declared.call.Reply.Reply, declared.call.Said.Said, History.after_all}
+use Rattle.vm_tree_model.specs.{Count.node_count, Tree.IsTree, Tree.map_of}
+use Rattle.vm_image.specs.{declared.blocks.PlannedFault.PlannedFault, File.IsNextPage}
 use Rattle.vm_image.specs.Blocks.{AreBlocksOf, numbers_for, pages_of_blocks}
-use Rattle.vm_image.specs.File.{IsNextPage}
-use Rattle.vm_image.specs.declared.blocks.PlannedFault.{PlannedFault}
-use Rattle.vm_map.specs.History.{after_all}
-use Rattle.vm_map.specs.declared.call.Call.{Call}
-use Rattle.vm_map.specs.declared.call.Reply.{Reply}
-use Rattle.vm_map.specs.declared.call.Said.{Said}
-use Rattle.vm_owner.specs.Numbers.{has}
-use Rattle.vm_owner.specs.declared.Entry.{Entry}
-use Rattle.vm_tree_model.specs.Count.{node_count}
-use Rattle.vm_page.specs.Pages.{page_at}
-use Rattle.vm_page.specs.declared.buf.TheConstants.{WORDS}
-use Rattle.vm_tree_model.specs.Tree.{IsTree, map_of}
-use Rattle.vm_tree_laws.specs.History.{IsLegal, saids}
-use Rattle.vm_tree_laws.specs.Keeps.{KeepsTree}
-use Rattle.vm_tree_laws.proofs.Fullness.{room_used}
-use Rattle.vm_tree_laws.proofs.Starts.{start_keeps}
-use Rattle.vm_rule.specs.declared.view.Note.{Note}
-use Rattle.vm_rule.specs.declared.view.Origin.{Origin}
-use Rattle.vm_rule.specs.declared.view.View.{View}
-use Rattle.vm_rule.specs.Begun.{begun, unborn}
-use Rattle.vm_rule.specs.Puts.{listed}
-use Rattle.vm_rule.specs.Reading.{no_block, last_of}
-use Rattle.vm_core.specs.Words.{MAX_COUNT}
-use Rattle.vm_rule.specs.Rule.{began_of}
-use Rattle.vm_rule.specs.Started.{MayBegin, bounds_of, contents_of, started_origin, started_shape, block_words}
-use Rattle.vm_rule.specs.Views.{Each, numbers}
+use Rattle.vm_core.specs.Prelude.{at, MAX_COUNT, page_at, WORDS}
+use Rattle.vm_rule.specs.Prelude.{began_of, block_words, bounds_of, Each, Entry, has, last_of, listed, MayBegin, MemBlock, most_faults, no_block}
+use Rattle.vm_rule.specs.Prelude.{numbers, started_origin, started_shape, Stored, stored_of, unborn, words_of}
+use Rattle.vm_rule.specs.{Begun.begun, Started.contents_of}
 use Rattle.vm_rule.proofs.ListFacts.{at-map, length-mapped, listed-long}
 use Rattle.vm_rule.proofs.Parts.{listed-same}
 use Rattle.vm_rule_laws.specs.Known.{kept_by}
 use Rattle.vm_rule_laws.proofs.Knowing.{owes-nothing}
-use Rattle.vm_evict.specs.Flushes.{HasNoLock, IsFlushed, RisesFrom, first_noted, noted_pages}
+use Rattle.vm_step.specs.Prelude.{Note, Origin, View}
 use Rattle.vm_evict.specs.declared.flushing.Flushed.{Flushed}
+use Rattle.vm_evict.specs.Flushes.{first_noted, HasNoLock, IsFlushed, noted_pages, RisesFrom}
 use Rattle.vm_pool.specs.Closing.{AreSums, IsClosed, IsStored, view_at_end}
+use Rattle.vm_tree_laws.specs.{History.IsLegal, History.saids, Keeps.KeepsTree}
+use Rattle.vm_tree_laws.proofs.{Fullness.room_used, Starts.start_keeps}
 use Rattle.vm_tree_rule.specs.declared.fault.TreeFault.{TreeFault}
-use Rattle.vm_drive.specs.Causes.{notes_about, all_faults_of, FoundFull, FoundWorn}
-use Rattle.vm_drive.specs.Drives.{IsDriven, IsAtLastVersion}
-use Rattle.vm_drive.specs.Holds.{HoldsCalls}
-use Rattle.vm_drive.proofs.Showing.{all-shown-more}
-use Rattle.vm_drive.proofs.Doing.{notes-both}
+use Rattle.vm_drive.specs.{Drives.IsAtLastVersion, Drives.IsDriven, Holds.HoldsCalls}
+use Rattle.vm_drive.specs.Causes.{all_faults_of, FoundFull, FoundWorn, notes_about}
+use Rattle.vm_drive.proofs.{Doing.notes-both, Showing.all-shown-more}
 use Rattle.vm_drive.proofs.Tracing.{found-later, lists-caused, max-later, used-up, worn-out}
+use Rattle.vm_serve.specs.Served.{is_first, IsFilled, IsServed, TreeEnd}
 use Rattle.vm_serve.proofs.Counting.{few-faults, few-notes, small-plan}
-use Rattle.vm_serve.specs.Served.{IsFilled, IsServed, TreeEnd, is_first}
 
 -- the words of the blocks are the start's
 contents-held : (blocks : List MemBlock) → contents_of true (map stored_of blocks) ≡ pages_of_blocks blocks
@@ -65,14 +44,19 @@ all-zero zero (x ∷ xs) e z = absurd (omega arith)
 all-zero (suc n) [] e z = absurd (omega arith)
 all-zero (suc n) (x ∷ xs) e z = let first : x ≡ 0 = z 0 in let rest : xs ≡ replicate n 0 = all-zero n xs (omega arith) (λ i. z (suc i)) in cc
 
--- the tree may begin with the pages of an image that is one
+-- the tree may begin with the pages of blocks that are one
+pub begins-held : (next : ℕ) (blocks : List MemBlock) → IsTree (pages_of_blocks blocks) → IsNextPage (pages_of_blocks blocks) next → MayBegin KeepsTree next (block_words (map stored_of blocks))
+begins-held next blocks tree free =
+    subst (λ (l : List (List ℕ)). MayBegin KeepsTree next l) (sym (words-held blocks))
+    (record {
+      zero = λ p l m. let f = free.free p l m in all-zero WORDS (page_at (pages_of_blocks blocks) p) f.length f.zero;
+      kept = start_keeps (record { pages = pages_of_blocks blocks; next = next }) tree free.within;
+    })
+
+-- so it may with the pages of an image that is one
 pub begins : (pages : List (List ℕ)) (plan : List PlannedFault) (next : ℕ) (blocks : List MemBlock) → IsTree pages → IsNextPage pages next → AreBlocksOf pages plan blocks → MayBegin KeepsTree next (block_words (map stored_of blocks))
 begins pages plan next blocks tree free held =
-    subst (λ (l : List (List ℕ)). MayBegin KeepsTree next l) (sym (words-held blocks ∙ held.held))
-    (record {
-      zero = λ p l m. let f = free.free p l m in all-zero WORDS (page_at pages p) f.length f.zero;
-      kept = start_keeps (record { pages = pages; next = next }) tree free.within;
-    })
+    begins-held next blocks (subst (λ (l : List (List ℕ)). IsTree l) (sym held.held) tree) (subst (λ (l : List (List ℕ)). IsNextPage l next) (sym held.held) free)
 
 numbers-long : (a n : ℕ) → length (numbers a n) ≡ n
 unfolding numbers

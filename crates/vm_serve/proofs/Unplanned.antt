@@ -1,13 +1,12 @@
 -- Where no failure is planned, no call is answered by a fault of a device, and the last flush writes every page.
-use Rattle.std.proofs.Common.{◌≡◌, Option, Some, None, ℕ, List, [], Result, refl, arith}
+use Rattle.std.proofs.Common.{[], ◌≡◌, arith, List, None, Option, refl, Result, Some, ℕ}
 use Rattle.std.proofs.lemmas.Bool.{eq-eqb}
-use Rattle.vm_block.specs.declared.memory.MemBlock.{MemBlock}
+use Rattle.vm_map.specs.{declared.call.Call.Call, declared.call.Reply.Reply}
+use Rattle.vm_rule.specs.Prelude.{MemBlock}
 use Rattle.vm_evict.specs.declared.flushing.Flushed.{Flushed}
-use Rattle.vm_map.specs.declared.call.Call.{Call}
-use Rattle.vm_map.specs.declared.call.Reply.{Reply}
 use Rattle.vm_tree_rule.specs.declared.fault.TreeFault.{TreeFault}
 use Rattle.vm_drive.specs.Causes.{all_faults_of}
-use Rattle.vm_serve.specs.Served.{IsServed, TreeEnd, is_first}
+use Rattle.vm_serve.specs.Served.{is_first, IsServed, TreeEnd}
 
 no-page : (first : Option ℕ) → ((p : ℕ) → is_first first p ≡ 0) → first ≡ None
 no-page None f = refl

@@ -1,32 +1,19 @@
 -- What serving workers' calls on an image comes to: the headline, read from what the pool's end keeps.
-use Rattle.std.specs.Prelude.{ℕ, Bool, ◌≡◌, ◌<◌, ◌≤◌, ◌+◌, ◌*◌, ◌==◌, ◌&&◌, true, if◌then◌else◌, List, length, map, Option, Some, None, Result}
+use Rattle.std.specs.Prelude.{◌&&◌, ◌*◌, ◌+◌, ◌<◌, ◌==◌, ◌≡◌, ◌≤◌, Bool, if◌then◌else◌, length, List, map, None, Option, Result, Some, true, ℕ}
 use Rattle.std.specs.Set.{distinct_count}
-use Rattle.vm_map.specs.History.{after_all}
-use Rattle.vm_map.specs.declared.call.Call.{Call}
-use Rattle.vm_map.specs.declared.call.Reply.{Reply}
-use Rattle.vm_map.specs.declared.call.Said.{Said}
-use Rattle.vm_core.specs.Fn.{at}
-use Rattle.vm_block.specs.Memory.{stored_of}
-use Rattle.vm_block.specs.Plans.{most_faults}
-use Rattle.vm_block.specs.declared.memory.MemBlock.{MemBlock}
-use Rattle.vm_page.specs.Pages.{page_at}
-use Rattle.vm_image.specs.Blocks.{numbers_for, pages_of_blocks}
-use Rattle.vm_image.specs.File.{IsNextPage}
-use Rattle.vm_image.specs.declared.blocks.PlannedFault.{PlannedFault}
-use Rattle.vm_tree_model.specs.Tree.{IsTree, map_of}
-use Rattle.vm_tree_model.specs.Count.{node_count}
-use Rattle.vm_tree_laws.specs.History.{IsLegal, news, saids}
-use Rattle.vm_rule.specs.Reading.{last_of, no_block}
+use Rattle.vm_map.specs.{declared.call.Call.Call, declared.call.Reply.Reply, declared.call.Said.Said, History.after_all}
+use Rattle.vm_tree_model.specs.{Count.node_count, Tree.IsTree, Tree.map_of}
+use Rattle.vm_image.specs.{Blocks.numbers_for, Blocks.pages_of_blocks, declared.blocks.PlannedFault.PlannedFault, File.IsNextPage}
+use Rattle.vm_core.specs.Prelude.{at, page_at}
+use Rattle.vm_rule.specs.Prelude.{last_of, MemBlock, most_faults, no_block, stored_of}
 use Rattle.vm_rule_laws.specs.Known.{kept_by}
 use Rattle.vm_evict.specs.declared.flushing.Flushed.{Flushed}
-use Rattle.vm_pool.specs.declared.ended.Ended.{Ended}
 use Rattle.vm_pool.specs.Closing.{AreSums, IsStored, view_at_end}
-use Rattle.vm_tree_rule.specs.declared.Tree.{Tree}
-use Rattle.vm_tree_rule.specs.declared.fault.TreeFault.{TreeFault}
-use Rattle.vm_drive.specs.Causes.{notes_about, all_faults_of, AllCausedBy}
-use Rattle.vm_drive.specs.Drives.{IsAtLastVersion}
-use Rattle.vm_drive.specs.Shows.{AllShown}
-use Rattle.vm_drive.specs.Holds.{HoldsCalls}
+use Rattle.vm_pool.specs.declared.ended.Ended.{Ended}
+use Rattle.vm_tree_laws.specs.History.{IsLegal, news, saids}
+use Rattle.vm_tree_rule.specs.{declared.fault.TreeFault.TreeFault, declared.Tree.Tree}
+use Rattle.vm_drive.specs.{Drives.IsAtLastVersion, Holds.HoldsCalls, Kept.AreKept, Shows.AllShown}
+use Rattle.vm_drive.specs.Causes.{all_faults_of, AllCausedBy, notes_about}
 
 -- the end of a pool with a tree
 abbrev pub TreeEnd : Type 0
@@ -76,3 +63,9 @@ pub record IsServed (pages : List (List ℕ)) (plan : List PlannedFault) (lists 
   pub saved : report.failed ≡ 0 → IsTree (pages_of_blocks blocks) × (map_of (pages_of_blocks blocks) ≡ after_all (map_of pages) (saids (view_at_end end).seen))
   pub sums : AreSums (map stored_of blocks) end
   pub few : end.faults ≤ distinct_entries plan
+
+-- the same, where what was kept of the replies stands for them
+pub record IsServedInto {A : Type 0} (keeps : A → List (Result Reply TreeFault) → Type 0) (pages : List (List ℕ)) (plan : List PlannedFault) (lists : List (List Call)) (kept : List A) (report : Flushed) (blocks : List MemBlock) (end : TreeEnd) : Type 0 where
+  pub told : List (List (Result Reply TreeFault))
+  pub stand : AreKept keeps kept told
+  pub served : IsServed pages plan lists told report blocks end

@@ -1,10 +1,9 @@
 //! What holds of serving an image: each function states one law and does nothing.
 
-ghost use Rattle.std.specs.Prelude.{◌≡◌, [], List, Result, ℕ};
-ghost use Rattle.vm_block.specs.declared.memory.MemBlock.{MemBlock};
+ghost use Rattle.std.specs.Prelude.{[], ◌≡◌, List, Result, ℕ};
+ghost use Rattle.vm_map.specs.{declared.call.Call.Call, declared.call.Reply.Reply};
+ghost use Rattle.vm_rule.specs.Prelude.{MemBlock};
 ghost use Rattle.vm_evict.specs.declared.flushing.Flushed.{Flushed};
-ghost use Rattle.vm_map.specs.declared.call.Call.{Call};
-ghost use Rattle.vm_map.specs.declared.call.Reply.{Reply};
 ghost use Rattle.vm_tree_rule.specs.declared.fault.TreeFault.{TreeFault};
 ghost use Rattle.vm_drive.specs.Causes.{all_faults_of};
 ghost use Rattle.vm_serve.specs.Served.{IsServed, TreeEnd};

@@ -4,4 +4,4 @@
 pub mod laws;
 mod serving;
 
-pub use serving::{Served, serve};
+pub use serving::{Served, ServedInto, serve, serve_into};

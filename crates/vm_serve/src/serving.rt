@@ -1,20 +1,23 @@
-//! The calls are made on a pool of the image's pages, which is then flushed and closed.
+//! The calls are made on a pool of the image's pages, which is then flushed and closed. The image may be let go as soon as there are blocks, and
+//! what keeps the answers may be anything.
 
-ghost use Rattle.std.specs.Prelude.{◌≡◌, ◌≤◌, ◌*◌, IfOk, length, map};
-ghost use Rattle.vm_core.specs.Words.{MAX_VERSION};
+ghost use Rattle.std.specs.Prelude.{[], ◌*◌, ◌≡◌, ◌≤◌, IfOk, length, List, ℕ};
 ghost use Rattle.vm_tree_model.specs.Tree.{IsTree};
-ghost use Rattle.vm_drive.specs.Drives.{AreAskable, AreFew, items_of};
+ghost use Rattle.vm_image.specs.{Blocks.AreBlocksOf, Blocks.pages_of_blocks, declared.blocks.PlannedFault.PlannedFault, File.IsNextPage};
+ghost use Rattle.vm_core.specs.Prelude.{MAX_VERSION};
 ghost use Rattle.vm_pool.specs.Closing.{view_at_end};
-ghost use Rattle.vm_serve.specs.Served.{IsServed};
+ghost use Rattle.vm_drive.specs.Drives.{AreAskable, AreFew, items_of};
+ghost use Rattle.vm_drive.specs.Kept.{HaveRoom};
+ghost use Rattle.vm_serve.specs.Served.{IsServed, IsServedInto};
 
 use std::alloc::Global;
 use std::sync::Wait;
 use std::thread::Threads;
 use vm_block::MemBlock;
 use vm_core::Memory;
+use vm_drive::answers::{Answer, Answers};
 use vm_drive::gate::Gate;
-use vm_drive::worker::Answer;
-use vm_drive::{Driven, drive};
+use vm_drive::{DrivenInto, drive_into, rooms_for};
 use vm_evict::Flushed;
 use vm_image::{Image, PlannedFault, blocks_of};
 use vm_map::call::Call;
@@ -27,6 +30,21 @@ use vm_tree_rule::Tree;
 pub struct Served {
     /// For each worker an answer to each of its calls.
     pub replies: Vec<Vec<Answer>>,
+    /// How many pages the workers' sweeps evicted.
+    pub evicted: u64,
+    /// What the last flush did.
+    pub report: Flushed,
+    /// The blocks, in the order of their pages.
+    pub blocks: Vec<MemBlock>,
+    /// That the pool was closed, with the one history that this run had.
+    pub ended: Ended<Tree>,
+}
+
+/// What serving the calls came to, where the caller chose what keeps the answers.
+#[derive(Drop)]
+pub struct ServedInto<A> {
+    /// For each worker what keeps its answers.
+    pub kept: Vec<A>,
     /// How many pages the workers' sweeps evicted.
     pub evicted: u64,
     /// What the last flush did.
@@ -63,15 +81,98 @@ pub fn serve<R: Threads + Wait + Sync, G: Gate + Sync>(
     let Ok(blocks) = blocks_of(alloc, image, plan) else {
         return Err(Memory);
     };
-    let shape = Shape {
+    let shape = shape_of(image, first_version, frames);
+    let Ok(rooms) = rooms_for(alloc, lists) else {
+        return Err(Memory);
+    };
+    let ServedInto {
+        kept,
+        evicted,
+        report,
+        blocks,
+        ended,
+    } = serve_blocks(rt, alloc, shape, blocks, lists, gate, rooms)?;
+    Ok(Served {
+        replies: kept,
+        evicted,
+        report,
+        blocks,
+        ended,
+    })
+}
+
+/// The same on blocks that fail in nothing, where each list has something that keeps its answers. The image is let go before the pool starts, so
+/// that its pages do not stand in memory twice.
+pub fn serve_into<R: Threads + Wait + Sync, G: Gate + Sync, A: Answers + Send + Drop>(
+    rt: &R,
+    alloc: Global,
+    image: Image,
+    first_version: u64,
+    frames: u32,
+    lists: &[Vec<Call>],
+    gate: &G,
+    rooms: Vec<A>,
+) -> Result<ServedInto<A>, Memory>
+    requires tree { IsTree image }
+    requires version { first_version ≤ MAX_VERSION }
+    requires frames { (64 ≤ frames) × (frames ≤ 65536) × (8 * length lists.now ≤ frames) }
+    requires lists { (1 ≤ length lists.now) × (length lists.now ≤ 64) }
+    requires few { AreFew (items_of lists.now) }
+    requires askable { AreAskable (items_of lists.now) }
+    requires rooms { HaveRoom A.keeps A.room rooms.items (items_of lists.now) }
+    ensures served { IfOk result (λ s. IsServedInto A.keeps image [] (items_of lists.now) s.kept.items s.report s.blocks.items s.ended) }
+    ensures version { IfOk result (λ s. (view_at_end s.ended).start.version ≡ first_version) }
+    ensures frames { IfOk result (λ s. (view_at_end s.ended).start.frames ≡ frames) }
+{
+    let Ok(blocks) = blocks_of(alloc, &image, &[]) else {
+        return Err(Memory);
+    };
+    let shape = shape_of(&image, first_version, frames);
+    drop(image);
+    serve_blocks(rt, alloc, shape, blocks, lists, gate, rooms)
+}
+
+// What a pool of the image's pages is started with.
+fn shape_of(image: &Image, first_version: u64, frames: u32) -> Shape
+    ensures pages { (result.pages ≡ length image.now) × (result.pages ≤ 65536) }
+    ensures next { IsNextPage image.now result.next }
+    ensures asked { (result.first_version ≡ first_version) × (result.frames ≡ frames) }
+{
+    Shape {
         pages: image.pages(),
         frames,
         next: image.next(),
         first_version,
-    };
+    }
+}
+
+// Makes the calls on a pool of these blocks, flushes it, and closes it.
+fn serve_blocks<R: Threads + Wait + Sync, G: Gate + Sync, A: Answers + Send + Drop>(
+    rt: &R,
+    alloc: Global,
+    shape: Shape,
+    blocks: Vec<MemBlock>,
+    lists: &[Vec<Call>],
+    gate: &G,
+    rooms: Vec<A>,
+) -> Result<ServedInto<A>, Memory>
+    requires tree { IsTree (pages_of_blocks blocks.items) }
+    requires pages { (shape.pages ≡ length blocks.items) × (shape.pages ≤ 65536) }
+    requires next { IsNextPage (pages_of_blocks blocks.items) shape.next }
+    requires version { shape.first_version ≤ MAX_VERSION }
+    requires frames { (64 ≤ shape.frames) × (shape.frames ≤ 65536) × (8 * length lists.now ≤ shape.frames) }
+    requires lists { (1 ≤ length lists.now) × (length lists.now ≤ 64) }
+    requires few { AreFew (items_of lists.now) }
+    requires askable { AreAskable (items_of lists.now) }
+    requires rooms { HaveRoom A.keeps A.room rooms.items (items_of lists.now) }
+    ensures served { IfOk result (λ s. (pages : List (List ℕ)) (plan : List PlannedFault) → length plan ≤ 64 → AreBlocksOf pages plan blocks.items
+        → IsServedInto A.keeps pages plan (items_of lists.now) s.kept.items s.report s.blocks.items s.ended) }
+    ensures version { IfOk result (λ s. (view_at_end s.ended).start.version ≡ shape.first_version) }
+    ensures frames { IfOk result (λ s. (view_at_end s.ended).start.frames ≡ shape.frames) }
+{
     let (pool, mut pass) = Pool::start(alloc, shape, blocks)?;
-    let driven = drive(rt, alloc, &pool, &mut pass, lists, gate)?;
-    let Driven { replies, evicted } = driven;
+    let driven = drive_into(rt, alloc, &pool, &mut pass, lists, gate, rooms)?;
+    let DrivenInto { kept, evicted } = driven;
     match flush_and_close(pool, alloc, pass) {
         Ok(saved) => {
             let Saved { report, closed } = saved;
@@ -80,8 +181,8 @@ pub fn serve<R: Threads + Wait + Sync, G: Gate + Sync>(
                 next: _,
                 ended,
             } = closed;
-            Ok(Served {
-                replies,
+            Ok(ServedInto {
+                kept,
                 evicted,
                 report,
                 blocks,

@@ -1,9 +1,9 @@
-use Rattle.std.proofs.Common.{◌≡◌, ◌∙◌, ◌+◌, ℕ, List, sym, ap, subst, arith, add-one}
-use Rattle.vm_build.specs.Numbers.{next_number, number_at}
+use Rattle.std.proofs.Common.{◌+◌, ◌∙◌, ◌≡◌, add-one, ap, arith, List, subst, sym, ℕ}
 use Rattle.vm_map.specs.declared.call.Call.{Call}
+use Rattle.vm_build.specs.Numbers.{next_number, number_at}
 use Rattle.vm_drive.specs.Drives.{AreAskable, AreFew}
-use Rattle.vm_churn.proofs.Lists.{askable_lists, few_lists, none_added, vectors_added}
 use Rattle.vm_churn.proofs.calls.calls_of.Goals as goal
+use Rattle.vm_churn.proofs.Lists.{askable_lists, few_lists, none_added, vectors_added}
 
 next : (seed k key after : ℕ) → key ≡ number_at seed k → after ≡ next_number key → after ≡ number_at seed (k + 1)
 next seed k key after is to = to ∙ ap next_number is ∙ ap (number_at seed) (sym (add-one k))

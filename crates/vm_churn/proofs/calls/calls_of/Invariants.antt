@@ -1,8 +1,8 @@
-use Rattle.std.proofs.Common.{◌≡◌, ◌+◌}
+use Rattle.std.proofs.Common.{◌+◌, ◌≡◌}
 use Rattle.vm_build.specs.Numbers.{number_at}
 use Rattle.vm_drive.specs.Drives.{items_of}
-use Rattle.vm_churn.proofs.Lists.{lists_up_to}
 use Rattle.vm_churn.proofs.calls.calls_of.Given as goal
+use Rattle.vm_churn.proofs.Lists.{lists_up_to}
 
 abbrev pub invariant-places : goal.invariant-places
 invariant-places l = record {

@@ -1,4 +1,4 @@
-use Rattle.std.proofs.Common.{◌≡◌, [], replicate}
+use Rattle.std.proofs.Common.{[], ◌≡◌, replicate}
 use Rattle.vm_drive.specs.Drives.{items_of}
 use Rattle.vm_churn.proofs.calls.empty_lists.Given as goal
 

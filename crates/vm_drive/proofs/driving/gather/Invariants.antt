@@ -1,11 +1,10 @@
-use Rattle.std.proofs.Common.{◌≡◌, ◌≤◌, ◌++◌, length, vec_len}
 use Rattle.std.specs.Vec.{vec_capacity}
 use Rattle.std.specs.Vec.Iter.{into_iter_items, into_iter_len}
-use Rattle.vm_step.specs.Passes.{IsSamePass, view}
-use Rattle.vm_step.specs.Ready.{IsReady}
+use Rattle.std.proofs.Common.{◌++◌, ◌≡◌, ◌≤◌, length, vec_len}
+use Rattle.vm_step.specs.Prelude.{IsReady, IsSamePass, view}
 use Rattle.vm_drive.specs.Crews.{answers_of}
-use Rattle.vm_drive.proofs.Joining.{JoinedSoFar}
 use Rattle.vm_drive.proofs.driving.gather.Given as goal
+use Rattle.vm_drive.proofs.Joining.{JoinedSoFar}
 
 abbrev pub invariant-workers : goal.invariant-workers
 invariant-workers g l = record {
@@ -14,7 +13,7 @@ invariant-workers g l = record {
   same : IsSamePass l.fn.pass l.pass;
   ready : IsReady l.pool.words.table.shared.key g.B.Block.tells l.pool.words.table.shared.table_id l.pass;
   joined : JoinedSoFar g.B.Block.tells (view l.fn.pass) l.yielded (view l.pass);
-  told : l.replies.items ≡ answers_of l.yielded;
-  count : vec_len l.replies ≡ length l.yielded;
-  room : length (into_iter_items l.initial.worker-iterator) ≤ vec_capacity l.replies;
+  told : l.kept.items ≡ answers_of l.yielded;
+  count : vec_len l.kept ≡ length l.yielded;
+  room : length (into_iter_items l.initial.worker-iterator) ≤ vec_capacity l.kept;
 }

@@ -1,14 +1,10 @@
-use Rattle.std.proofs.Common.{◌≡◌, ◌+◌, true, is_ok, if◌then◌else◌, List, Vec, Result, ◌∷◌, [], ◌++◌, length, sym, ap, subst, ◌∙◌, arith, append_assoc, vec_len}
-use Rattle.std.proofs.lemmas.List.{length-append}
-use Rattle.std.specs.declared.alloc.Global.{Global}
 use Rattle.std.specs.Vec.Iter.{into_iter_items}
-use Rattle.vm_map.specs.declared.call.Reply.{Reply}
-use Rattle.vm_tree_rule.specs.declared.fault.TreeFault.{TreeFault}
-use Rattle.vm_drive.specs.declared.worker.Worker.{Worker}
-use Rattle.vm_step.specs.Passes.{view}
-use Rattle.vm_drive.specs.Crews.{AreHired}
-use Rattle.vm_drive.proofs.Hiring.{hired-more}
+use Rattle.std.proofs.Common.{[], ◌++◌, ◌+◌, ◌∙◌, ◌∷◌, ◌≡◌, ap, append_assoc, arith, if◌then◌else◌, is_ok, length, List, subst, sym, true, vec_len}
+use Rattle.std.proofs.lemmas.List.{length-append}
+use Rattle.vm_step.specs.Prelude.{view}
+use Rattle.vm_drive.specs.{Crews.AreHired, declared.worker.Worker.Worker}
 use Rattle.vm_drive.proofs.driving.hire.Goals as goal
+use Rattle.vm_drive.proofs.Hiring.{hired-more}
 
 pub rooms-preserved : goal.rooms-preserved
 rooms-preserved g c =
@@ -16,10 +12,10 @@ rooms-preserved g c =
     let inv = at.invariant in
     let shape = c.args.pool.now.words.table.shared.key in
     let t = c.args.pool.now.words.table.shared.table_id in
-    let x : Vec (Result Reply TreeFault) Global = c.in-Some.answers in
-    let d : Worker = record { pass = c.split_one-own.result; iface = c.new-iface.result; answers = x } in
+    let x = c.in-Some.answers in
+    let d : Worker _ = record { pass = c.split_one-own.result; iface = c.new-iface.result; answers = x } in
     let steps : into_iter_items at.answers-iterator ≡ x ∷ into_iter_items c.next.new.self = c.in-Some.ensures.steps.0 in
-    let whole : at.yielded ++ x ∷ into_iter_items c.next.new.self ≡ into_iter_items c.into_iter-answers-iterator.result = ap (λ (l : List (Vec (Result Reply TreeFault) Global)). at.yielded ++ l) (sym steps) ∙ inv.rest in
+    let whole : at.yielded ++ x ∷ into_iter_items c.next.new.self ≡ into_iter_items c.into_iter-answers-iterator.result = ap (λ l. at.yielded ++ l) (sym steps) ∙ inv.rest in
     let long : length at.yielded + length (x ∷ into_iter_items c.next.new.self) ≡ length (into_iter_items c.into_iter-answers-iterator.result) = sym (length-append at.yielded (x ∷ into_iter_items c.next.new.self)) ∙ ap length whole in
     let count : vec_len at.workers ≡ length at.yielded = inv.count in
     let ok : is_ok c.push.result ≡ true = c.push.ensures.succeeds (let room = inv.room in omega arith) in
@@ -29,7 +25,7 @@ rooms-preserved g c =
       len = (let was = inv.len in let gone = c.in-Some.ensures.steps.1 in let short = ap length steps in omega arith);
       same = (c.split_one-own.ensures.pass.0 ∙ inv.same.0, c.split_one-own.ensures.pass.1 ∙ inv.same.1);
       ready = c.split_one-own.ensures.ready;
-      hired = subst (λ (l : List Worker). AreHired shape g.B.Block.tells t (at.yielded ++ x ∷ []) (view c.args.pass.now) l (view c.split_one-own.new.pass)) (sym items)
+      hired = subst (λ (l : List (Worker _)). AreHired shape g.B.Block.tells t (at.yielded ++ x ∷ []) (view c.args.pass.now) l (view c.split_one-own.new.pass)) (sym items)
           (hired-more shape g.B.Block.tells t c.requires.pages at.yielded (view c.args.pass.now) at.workers.items (view at.pass) (view c.split_one-own.new.pass) d inv.hired c.split_one-own.ensures.splits c.split_one-own.ensures.new c.new-iface.ensures.2);
       count = c.push.ensures.len ∙ ap (λ y. if y then vec_len at.workers + 1 else vec_len at.workers) ok ∙ ap (λ n. n + 1) count ∙ sym (length-append at.yielded (x ∷ []));
       room = (let room = inv.room in let more = c.push.ensures.capacity in omega arith);

@@ -1,8 +1,7 @@
-use Rattle.std.proofs.Common.{◌≡◌, ◌≤◌, ◌++◌, length, vec_len}
 use Rattle.std.specs.Vec.{vec_capacity}
 use Rattle.std.specs.Vec.Iter.{into_iter_items, into_iter_len}
-use Rattle.vm_step.specs.Passes.{IsSamePass, view}
-use Rattle.vm_step.specs.Ready.{IsReady}
+use Rattle.std.proofs.Common.{◌++◌, ◌≡◌, ◌≤◌, length, vec_len}
+use Rattle.vm_step.specs.Prelude.{IsReady, IsSamePass, view}
 use Rattle.vm_drive.specs.Crews.{AreHired}
 use Rattle.vm_drive.proofs.driving.hire.Given as goal
 

@@ -1,6 +1,6 @@
-use Rattle.std.proofs.Common.{◌≡◌, ◌<◌, ◌∷◌, [], ◌++◌, length, take, sym, ap, ◌∙◌, ◌+◌, rules}
-use Rattle.std.proofs.lemmas.List.{take_more, map-append}
-use Rattle.vm_drive.specs.Drives.{items_of}
+use Rattle.std.proofs.Common.{[], ◌++◌, ◌+◌, ◌<◌, ◌∙◌, ◌∷◌, ◌≡◌, ap, length, rules, sym, take}
+use Rattle.std.proofs.lemmas.List.{map-append, take_more}
+use Rattle.vm_drive.specs.{Drives.items_of, Kept.HasItems, Kept.left_in}
 use Rattle.vm_drive.proofs.Crews.{room-snoc}
 use Rattle.vm_drive.proofs.driving.rooms_for.Goals as goal
 
@@ -11,4 +11,4 @@ lists-preserved c =
     let one : take (c.lists.calls-index + 1) xs ≡ take c.lists.calls-index xs ++ c.calls-item.result ∷ [] = take_more xs c.lists.calls-index c.calls-item.result inside ∙ ap (λ l. take c.lists.calls-index xs ++ l ∷ []) (sym c.calls-item.is) in
     let more : items_of (take (c.lists.calls-index + 1) xs) ≡ items_of (take c.lists.calls-index xs) ++ c.calls-item.result.items ∷ [] = ap (λ l. items_of l) one ∙ map-append (λ v. v.items) (take c.lists.calls-index xs) (c.calls-item.result ∷ []) in
     rw (c.in_ok-push.ensures.items, more)
-    (room-snoc _ _ _ _ c.lists.invariant c.in_ok-with_capacity.ensures.items (let cap = c.in_ok-with_capacity.ensures.capacity in let len = c.len.ensures in search rules))
+    (room-snoc HasItems left_in _ _ _ _ c.lists.invariant c.in_ok-with_capacity.ensures.items (let cap = c.in_ok-with_capacity.ensures.capacity in let len = c.len.ensures in search rules))

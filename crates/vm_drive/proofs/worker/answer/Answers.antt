@@ -1,7 +1,6 @@
-use Rattle.std.proofs.Common.{◌≤◌, sym, subst}
-use Rattle.vm_map.specs.declared.call.Call.{Call}
-use Rattle.vm_map.specs.declared.call.Call.TheVariants.{Get, Window}
-use Rattle.vm_step.specs.Passes.{view}
+use Rattle.std.proofs.Common.{◌≤◌, subst, sym}
+use Rattle.vm_map.specs.{declared.call.Call.Call, declared.call.Call.TheVariants.Get, declared.call.Call.TheVariants.Window}
+use Rattle.vm_step.specs.Prelude.{view}
 use Rattle.vm_drive.specs.Calls.{IsCalled}
 use Rattle.vm_drive.proofs.Answering.{del-called, put-called, read-called}
 use Rattle.vm_drive.proofs.worker.answer.Goals as goal

@@ -1,5 +1,5 @@
-use Rattle.vm_serve.proofs.Unplanned.{all_flushed, no_faults}
 use Rattle.vm_serve.proofs.laws.no_faults_without_a_plan.Goals as goal
+use Rattle.vm_serve.proofs.Unplanned.{all_flushed, no_faults}
 
 pub returns-clause-faults : goal.returns-clause-faults
 returns-clause-faults c = no_faults
