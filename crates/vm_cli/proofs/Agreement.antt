@@ -5,12 +5,12 @@ use Rattle.vm_io.specs.Shown.{Shown}
 use Rattle.vm_words.specs.declared.Command.{Command}
 use Rattle.vm_words.specs.Commands.{IsCommand, line_of}
 use Rattle.vm_words.proofs.Lines.{one_command}
-use Rattle.vm_cli.specs.declared.ends.Ends.{Ends}
+use Rattle.vm_endings.specs.declared.ends.Ends.{Ends}
 use Rattle.vm_cli.specs.Agreement.{AgreesWithOthers, IsComplete, IsSettledStatus, as_done}
-use Rattle.vm_cli.specs.Commands.{IsSmooth, order_of}
-use Rattle.vm_cli.specs.Deliveries.{Content, IsDelivered, WentOut, file_cut, line, text_cut, whole}
-use Rattle.vm_cli.specs.Endings.{CommandEnds, IsHeadline, ProgramEnds, command, cut, done, exhausted, stopped, told, unable, usage}
-use Rattle.vm_cli.specs.Tests.{AllPass, StopsAt, Test}
+use Rattle.vm_endings.specs.Commands.{IsSmooth, order_of}
+use Rattle.vm_endings.specs.Deliveries.{Content, IsDelivered, WentOut, file_cut, line, text_cut, whole}
+use Rattle.vm_endings.specs.Endings.{CommandEnds, IsHeadline, ProgramEnds, command, cut, done, exhausted, stopped, told, unable, usage}
+use Rattle.vm_endings.specs.Tests.{AllPass, StopsAt, Test}
 use Rattle.vm_cli.proofs.OneLine.{bounded, cut_not_done, no_cut, one_ending, same_order}
 use Rattle.vm_cli.proofs.OneStop.{one_stop, stop_status, stop_unread}
 

@@ -15,15 +15,15 @@ use Rattle.vm_words.specs.declared.Run.{Run as RunLine}
 use Rattle.vm_words.specs.declared.form.Verb.{Verb}
 use Rattle.vm_words.specs.Commands.{line_of, number_or, plan_or}
 use Rattle.vm_words.specs.Values.{Meaning, named, counted, planned, absent}
-use Rattle.vm_cli.specs.declared.ends.Ends.{Ends}
+use Rattle.vm_endings.specs.declared.ends.Ends.{Ends}
 use Rattle.vm_cli.specs.Agreement.{as_done}
-use Rattle.vm_cli.specs.Commands.{Cut, IsSmooth, order_of}
-use Rattle.vm_cli.specs.Deliveries.{Content}
-use Rattle.vm_cli.specs.Endings.{Performs, cut, told}
-use Rattle.vm_cli.specs.Files.{HasFile}
-use Rattle.vm_cli.specs.Limits.{are_workers}
-use Rattle.vm_cli.specs.Runs.{CutRun, IsUnflushedRun, version_or}
-use Rattle.vm_cli.specs.Tests.{events}
+use Rattle.vm_endings.specs.Commands.{Cut, IsSmooth, order_of}
+use Rattle.vm_endings.specs.Deliveries.{Content}
+use Rattle.vm_endings.specs.Endings.{Performs, cut, told}
+use Rattle.vm_endings.specs.Files.{HasFile}
+use Rattle.vm_endings.specs.Limits.{are_workers}
+use Rattle.vm_endings.specs.Runs.{CutRun, IsUnflushedRun, version_or}
+use Rattle.vm_endings.specs.Tests.{events}
 use Rattle.vm_cli.proofs.OneStop.{AreBounded, both_of}
 
 -- ---- what a line says

@@ -4,11 +4,11 @@ use Rattle.std.specs.Option.{option_map_or}
 use Rattle.vm_io.specs.Shown.{Shown}
 use Rattle.vm_script.proofs.Readings.{not_both}
 use Rattle.vm_script.proofs.EventReadings.{not_both as not_both_events}
-use Rattle.vm_cli.specs.declared.stop.Stop.{Stop}
-use Rattle.vm_cli.specs.declared.stop.Stop.TheVariants.{Shape, Unread, Length, Page, TooFew, Long, Line}
-use Rattle.vm_cli.specs.Files.{HasFile}
-use Rattle.vm_cli.specs.Stops.{status_of}
-use Rattle.vm_cli.specs.Tests.{AllPass, Fails, Passes, StopsAt, Test, events, here, image, past, room, script, within}
+use Rattle.vm_endings.specs.declared.stop.Stop.{Stop}
+use Rattle.vm_endings.specs.declared.stop.Stop.TheVariants.{Shape, Unread, Length, Page, TooFew, Long, Line}
+use Rattle.vm_endings.specs.Files.{HasFile}
+use Rattle.vm_endings.specs.Stops.{status_of}
+use Rattle.vm_endings.specs.Tests.{AllPass, Fails, Passes, StopsAt, Test, events, here, image, past, room, script, within}
 
 -- what holds of a file's bytes, and what else does, hold of the same bytes
 pub both_of : (shown : Shown) (name : List ℕ) (P Q : List ℕ → Type 0) → HasFile (Some shown) name P → HasFile (Some shown) name Q → (bytes : List ℕ) × P bytes × Q bytes

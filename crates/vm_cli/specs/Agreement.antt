@@ -4,10 +4,10 @@ use Rattle.vm_io.specs.Causes.{Rose}
 use Rattle.vm_io.specs.Shown.{Shown}
 use Rattle.vm_words.specs.declared.Command.{Command}
 use Rattle.vm_words.specs.Commands.{IsCommand}
-use Rattle.vm_cli.specs.declared.ends.Ends.{Ends}
-use Rattle.vm_cli.specs.Commands.{IsSmooth, order_of}
-use Rattle.vm_cli.specs.Endings.{ProgramEnds}
-use Rattle.vm_cli.specs.Tests.{AllPass}
+use Rattle.vm_endings.specs.declared.ends.Ends.{Ends}
+use Rattle.vm_endings.specs.Commands.{IsSmooth, order_of}
+use Rattle.vm_endings.specs.Endings.{ProgramEnds}
+use Rattle.vm_endings.specs.Tests.{AllPass}
 
 -- neither a host that failed nor want of memory
 pub record IsSettledStatus (status : ℕ) : Type 0 where

@@ -1,23 +1,23 @@
 //! The commands: of each the function that does it, up to what goes out.
 
 ghost use Rattle.std.specs.Prelude.{◌≡◌, ◌≤◌};
-ghost use Rattle.vm_cli.specs.Deliveries.{content_of};
-ghost use Rattle.vm_cli.specs.Endings.{AnswersCommand, HasReadCause};
+ghost use Rattle.vm_endings.specs.Deliveries.{content_of};
+ghost use Rattle.vm_endings.specs.Endings.{AnswersCommand, HasReadCause};
 
-use crate::check::run_check;
-use crate::churn::run_churn;
-use crate::delivery::Delivery;
-use crate::ends::Ends;
-use crate::make::run_make;
-use crate::replay::run_replay;
-use crate::script::run_script;
-use crate::stop::Stop;
-use crate::undone::Undone;
 use std::alloc::Global;
 use std::sync::Wait;
 use std::thread::Threads;
 use vm_drive::gate::Gate;
+use vm_endings::delivery::Delivery;
+use vm_endings::ends::Ends;
+use vm_endings::stop::Stop;
+use vm_endings::undone::Undone;
+use vm_files::check::run_check;
+use vm_files::make::run_make;
+use vm_files::replay::run_replay;
 use vm_io::host::Host;
+use vm_runs::churn::run_churn;
+use vm_runs::script::run_script;
 use vm_words::Command;
 
 /// Does what the command asks for, and gives what is to go out, or why it stopped.

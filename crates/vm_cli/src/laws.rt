@@ -3,8 +3,8 @@
 ghost use Rattle.std.specs.Prelude.{◌≡◌, List, Option, Some, ℕ};
 ghost use Rattle.vm_io.specs.Shown.{Shown};
 ghost use Rattle.vm_cli.specs.Agreement.{IsSettledStatus, as_done};
-ghost use Rattle.vm_cli.specs.Endings.{ProgramEnds};
-ghost use Rattle.vm_cli.specs.declared.ends.Ends.{Ends};
+ghost use Rattle.vm_endings.specs.Endings.{ProgramEnds};
+ghost use Rattle.vm_endings.specs.declared.ends.Ends.{Ends};
 
 /// Two endings of one command line over a host that shows the same files have one status, unless the host failed or memory was wanting in
 /// one of them. Of a run 7 counts as 0: whether the last flush writes each page may hang on how its workers met.

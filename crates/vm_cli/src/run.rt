@@ -3,16 +3,16 @@
 ghost use Rattle.std.specs.Prelude.{◌≡◌, map, string_bytes};
 ghost use Rattle.vm_io.specs.Causes.{Rose};
 ghost use Rattle.vm_cli.specs.Agreement.{AgreesWithOthers, IsComplete};
-ghost use Rattle.vm_cli.specs.Endings.{CommandEnds, IsHeadline, ProgramEnds};
+ghost use Rattle.vm_endings.specs.Endings.{CommandEnds, IsHeadline, ProgramEnds};
 
 use crate::command::give;
-use crate::delivery::{deliver, refuse, say};
-use crate::ends::Ends;
-use crate::undone::Undone;
 use std::alloc::Global;
 use std::sync::Wait;
 use std::thread::Threads;
 use vm_drive::gate::Gate;
+use vm_endings::delivery::{deliver, refuse, say};
+use vm_endings::ends::Ends;
+use vm_endings::undone::Undone;
 use vm_io::host::Host;
 use vm_words::{Command, WordsFault, command_of};
 

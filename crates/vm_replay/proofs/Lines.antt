@@ -1,15 +1,12 @@
 -- Lines played in part, and one line on.
-use Rattle.std.proofs.Common.{ℕ, Bool, true, false, ◌≡◌, ◌<◌, ◌+◌, ◌∙◌, List, [], ◌∷◌, ◌++◌, inl, inr, length, refl, sym, ap, subst, append_assoc, drop, get_or, suc, arith}
+use Rattle.std.proofs.Common.{[], ◌++◌, ◌+◌, ◌<◌, ◌∙◌, ◌∷◌, ◌≡◌, ap, append_assoc, arith, Bool, drop, false, get_or, inl, inr, length, List, refl}
+use Rattle.std.proofs.Common.{subst, suc, sym, true, ℕ}
 use Rattle.std.proofs.Math.Seq.{drop-cons}
-use Rattle.vm_core.specs.declared.event.CoreShape.{CoreShape}
-use Rattle.vm_core.specs.State.{State}
-use Rattle.vm_core.specs.Step.{AllLegal, run, sees}
-use Rattle.vm_script.specs.declared.event_line.EventLine.{EventLine}
-use Rattle.vm_script.specs.SeenTexts.{seen_line}
-use Rattle.vm_replay.specs.Played.{Played, PlayedFromStart, end_line, events_of, illegal_line}
-use Rattle.vm_replay.specs.declared.line.Turn.{Turn}
-use Rattle.vm_replay.specs.declared.line.Turn.TheVariants.{Done}
-use Rattle.vm_replay.specs.Turns.{IsLinePlayed, Turned}
+use Rattle.vm_core.specs.Prelude.{AllLegal, run, sees, State}
+use Rattle.vm_rule.specs.Prelude.{CoreShape}
+use Rattle.vm_script.specs.{declared.event_line.EventLine.EventLine, SeenTexts.seen_line}
+use Rattle.vm_replay.specs.{declared.line.Turn.TheVariants.Done, declared.line.Turn.Turn, Turns.IsLinePlayed, Turns.Turned}
+use Rattle.vm_replay.specs.Played.{end_line, events_of, illegal_line, Played, PlayedFromStart}
 use Rattle.vm_replay.proofs.Shapes.{run_shape}
 
 -- whatever the lines left give from here, told behind the text so far, is what all lines give

@@ -1,13 +1,10 @@
 -- The lines of a core are played in one way: they give one text, and are all legal or not.
-use Rattle.std.proofs.Common.{ℕ, Bool, ◌≡◌, ◌∙◌, ◌+◌, List, [], ◌∷◌, ◌++◌, inl, inr, length, sym, ap, subst}
-use Rattle.vm_core.specs.declared.event.CoreShape.{CoreShape}
-use Rattle.vm_core.specs.Start.{core_start, start}
-use Rattle.vm_core.specs.State.{State}
-use Rattle.vm_core.specs.Step.{run, sees}
-use Rattle.vm_script.specs.declared.event_line.EventLine.{EventLine}
-use Rattle.vm_script.specs.SeenTexts.{seen_line}
+use Rattle.std.proofs.Common.{[], ◌++◌, ◌+◌, ◌∙◌, ◌∷◌, ◌≡◌, ap, Bool, inl, inr, length, List, subst, sym, ℕ}
+use Rattle.vm_core.specs.Prelude.{core_start, run, sees, start, State}
+use Rattle.vm_rule.specs.Prelude.{CoreShape}
+use Rattle.vm_script.specs.{declared.event_line.EventLine.EventLine, SeenTexts.seen_line}
 use Rattle.vm_script.proofs.EventReadings.{one_list}
-use Rattle.vm_replay.specs.Played.{Played, PlayedFromStart, events_of}
+use Rattle.vm_replay.specs.Played.{events_of, Played, PlayedFromStart}
 use Rattle.vm_replay.specs.Told.{PlayedFile}
 
 one_play : (c : State) (number count : ℕ) (lines : List EventLine) (text other : List ℕ) (legal also : Bool) → Played c number count lines text legal → Played c number count lines other also → (text ≡ other) × (legal ≡ also)

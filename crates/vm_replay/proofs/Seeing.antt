@@ -1,18 +1,18 @@
 -- What a line's events see is of the kinds that its text tells.
-use Rattle.std.proofs.Common.{ℕ, suc, Bool, true, false, ◌≡◌, ◌≤◌, ◌∙◌, List, [], ◌∷◌, length, map, slice_index, Ok, refl, sym, ap, subst, arith, if◌then◌else◌}
 use Rattle.std.specs.List.{AllByRecursion, range_with_len}
+use Rattle.std.proofs.Common.{[], ◌∙◌, ◌∷◌, ◌≡◌, ◌≤◌, ap, arith, Bool, false, if◌then◌else◌, length, List, map, Ok, refl, slice_index, subst, suc}
+use Rattle.std.proofs.Common.{sym, true, ℕ}
 use Rattle.std.proofs.lemmas.List.FromFn.{length-map-range_with_len}
-use Rattle.vm_core.specs.declared.event.Event.{Event}
-use Rattle.vm_core.specs.declared.event.Event.TheVariants.{Look, LockX, LockS, UnlockS, Mark, Unmark, LockW, Upgrade, Release, ReleaseE, Downgrade, TLoad, Install, Clear, Dirty, Clean, Load, Store, BLoad, Take, Give, Read, RFail, Write, WFail, Raise, NLoad, Claim, Hand}
+use Rattle.vm_core.specs.Prelude.{after_event, Replayed, seen, sees, State}
+use Rattle.vm_core.specs.declared.event.Event.TheVariants.{BLoad, Claim, Clean, Clear, Dirty, Downgrade, Give, Hand, Install, Load, LockS, LockW}
+use Rattle.vm_core.specs.declared.event.Event.TheVariants.{LockX, Look, Mark, NLoad, Raise, Read, Release, ReleaseE, RFail, Store, Take, TLoad}
+use Rattle.vm_core.specs.declared.event.Event.TheVariants.{UnlockS, Unmark, Upgrade, WFail, Write}
 use Rattle.vm_core.specs.declared.event.Seen.{Seen}
 use Rattle.vm_core.specs.declared.event.Seen.TheVariants as seens
-use Rattle.vm_core.specs.Replay.{Replayed}
-use Rattle.vm_core.specs.State.{State}
-use Rattle.vm_core.specs.Step.{after_event, seen, sees}
-use Rattle.vm_script.specs.declared.event_line.EventLine.{EventLine}
-use Rattle.vm_script.specs.declared.event_line.EventLine.TheVariants.{One, Fill, Loads}
-use Rattle.vm_script.specs.Sights.{FitsSight}
-use Rattle.vm_script.specs.SeenTexts.{FitsLine, events_in, line_sight, sight_of}
+use Rattle.vm_rule.specs.Prelude.{Event}
+use Rattle.vm_script.specs.{declared.event_line.EventLine.EventLine, Sights.FitsSight}
+use Rattle.vm_script.specs.declared.event_line.EventLine.TheVariants.{Fill, Loads, One}
+use Rattle.vm_script.specs.SeenTexts.{events_in, FitsLine, line_sight, sight_of}
 use Rattle.vm_replay.specs.Played.{events_of}
 
 exchange_fits : (found : Bool) (word : ℕ) → FitsSight (sight_of (LockX 0 0 0)) (if found then seens.Taken else seens.Lost word)

@@ -1,11 +1,9 @@
 -- A list of events with an illegal one is not legal throughout.
-use Rattle.std.proofs.Common.{ℕ, zero, suc, ◌≡◌, ◌<◌, List, [], ◌∷◌, Some, length, take, slice_get, Err, refl, subst, sym, arith}
-use Rattle.vm_core.specs.declared.event.Event.{Event}
+use Rattle.std.proofs.Common.{[], ◌<◌, ◌∷◌, ◌≡◌, arith, Err, length, List, refl, slice_get, Some, subst, suc, sym, take, zero, ℕ}
+use Rattle.vm_core.specs.Prelude.{after_event, AllLegal, Legal, Replayed, run, State}
 use Rattle.vm_core.specs.declared.playing.ReplayFault.{ReplayFault}
 use Rattle.vm_core.specs.declared.playing.ReplayFault.TheVariants as faults
-use Rattle.vm_core.specs.Replay.{Replayed}
-use Rattle.vm_core.specs.State.{State}
-use Rattle.vm_core.specs.Step.{AllLegal, Legal, after_event, run}
+use Rattle.vm_rule.specs.Prelude.{Event}
 use Rattle.vm_script.specs.declared.event_line.EventLine.{EventLine}
 use Rattle.vm_replay.specs.Played.{events_of}
 

@@ -1,17 +1,12 @@
 -- Event lines, played one after another.
-use Rattle.std.specs.Prelude.{ℕ, Bool, true, false, ◌+◌, ◌≡◌, ◌⊎◌, List, [], ◌∷◌, ◌++◌, length, map, slice_index, codes}
 use Rattle.std.specs.Fmt.{decimal}
 use Rattle.std.specs.List.{range_with_len}
-use Rattle.vm_page.specs.declared.buf.TheConstants.{WORDS}
-use Rattle.vm_core.specs.declared.event.CoreShape.{CoreShape}
-use Rattle.vm_core.specs.declared.event.Event.{Event}
+use Rattle.std.specs.Prelude.{[], ◌++◌, ◌+◌, ◌∷◌, ◌≡◌, ◌⊎◌, Bool, codes, false, length, List, map, slice_index, true, ℕ}
+use Rattle.vm_core.specs.Prelude.{AllLegal, core_start, run, sees, start, State, WORDS}
 use Rattle.vm_core.specs.declared.event.Event.TheVariants.{Load, Store}
-use Rattle.vm_core.specs.Start.{core_start, start}
-use Rattle.vm_core.specs.State.{State}
-use Rattle.vm_core.specs.Step.{AllLegal, run, sees}
-use Rattle.vm_script.specs.declared.event_line.EventLine.{EventLine}
-use Rattle.vm_script.specs.declared.event_line.EventLine.TheVariants.{One, Fill, Loads}
-use Rattle.vm_script.specs.SeenTexts.{seen_line}
+use Rattle.vm_rule.specs.Prelude.{CoreShape, Event}
+use Rattle.vm_script.specs.{declared.event_line.EventLine.EventLine, SeenTexts.seen_line}
+use Rattle.vm_script.specs.declared.event_line.EventLine.TheVariants.{Fill, Loads, One}
 
 -- the 64 stores of these words
 abbrev pub stores : ℕ → ℕ → List ℕ → List Event

@@ -1,12 +1,9 @@
 -- What a replay of a file tells.
-use Rattle.std.specs.Prelude.{ℕ, Bool, ◌<◌, ◌≤◌, List, length, Result, Ok, Err}
-use Rattle.vm_core.specs.declared.event.CoreShape.{CoreShape}
-use Rattle.vm_script.specs.declared.event_line.EventLine.{EventLine}
-use Rattle.vm_script.specs.Events.{IsFirstBadEvent, SpellsEvents}
-use Rattle.vm_script.specs.Scripts.{most_bytes}
-use Rattle.vm_replay.specs.declared.file.ReplayStop.{ReplayStop}
-use Rattle.vm_replay.specs.declared.file.ReplayStop.TheVariants.{Long, Line, Memory}
-use Rattle.vm_replay.specs.Played.{PlayedFromStart}
+use Rattle.std.specs.Prelude.{◌<◌, ◌≤◌, Bool, Err, length, List, Ok, Result, ℕ}
+use Rattle.vm_rule.specs.Prelude.{CoreShape}
+use Rattle.vm_script.specs.{declared.event_line.EventLine.EventLine, Events.IsFirstBadEvent, Events.SpellsEvents, Scripts.most_bytes}
+use Rattle.vm_replay.specs.{declared.file.ReplayStop.ReplayStop, Played.PlayedFromStart}
+use Rattle.vm_replay.specs.declared.file.ReplayStop.TheVariants.{Line, Long, Memory}
 
 -- the bytes spell an event list, which was played from the start of its core
 pub record PlayedFile (bytes : List ℕ) (text : List ℕ) (is_legal : Bool) : Type 0 where

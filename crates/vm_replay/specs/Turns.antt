@@ -1,13 +1,9 @@
 -- The turn of one line.
-use Rattle.std.specs.Prelude.{ℕ, ◌≡◌, ◌≤◌, List, ◌++◌, length}
-use Rattle.vm_page.specs.declared.buf.TheConstants.{WORDS}
-use Rattle.vm_core.specs.State.{State}
-use Rattle.vm_core.specs.Step.{AllLegal, run, sees}
-use Rattle.vm_script.specs.declared.event_line.EventLine.{EventLine}
-use Rattle.vm_script.specs.SeenTexts.{seen_line}
-use Rattle.vm_replay.specs.declared.line.Turn.{Turn}
-use Rattle.vm_replay.specs.declared.line.Turn.TheVariants.{Done, Illegal}
-use Rattle.vm_replay.specs.Played.{events_of, illegal_line}
+use Rattle.std.specs.Prelude.{◌++◌, ◌≡◌, ◌≤◌, length, List, ℕ}
+use Rattle.vm_core.specs.Prelude.{AllLegal, run, sees, State, WORDS}
+use Rattle.vm_script.specs.{declared.event_line.EventLine.EventLine, SeenTexts.seen_line}
+use Rattle.vm_replay.specs.{declared.line.Turn.TheVariants.Done, declared.line.Turn.TheVariants.Illegal, declared.line.Turn.Turn, Played.events_of}
+use Rattle.vm_replay.specs.{Played.illegal_line}
 
 -- so many events were done and told behind the text before, and led to the new state
 pub record IsLinePlayed (old : State) (number : ℕ) (line : EventLine) (before : List ℕ) (count : ℕ) (new : State) (text : List ℕ) : Type 0 where

@@ -1,10 +1,10 @@
 //! One line of an event list: its events, and its turn on the core.
 
-ghost use Rattle.std.specs.Prelude.{◌≡◌, ◌<◌, ◌++◌, IfOk};
-ghost use Rattle.vm_core.specs.PageOf.{core_of};
+ghost use Rattle.std.specs.Prelude.{◌++◌, ◌<◌, ◌≡◌, IfOk};
+ghost use Rattle.vm_core.specs.Prelude.{core_of};
+ghost use Rattle.vm_script.specs.EventLines.{IsEventLine};
 ghost use Rattle.vm_replay.specs.Played.{events_of as events_in, illegal_line, loads, stores};
 ghost use Rattle.vm_replay.specs.Turns.{Turned};
-ghost use Rattle.vm_script.specs.EventLines.{IsEventLine};
 
 use std::alloc::{AllocError, Global};
 use vm_core::{Core, Event, Memory, ReplayFault};

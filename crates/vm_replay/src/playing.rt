@@ -1,10 +1,9 @@
 //! The lines of an event list, played one after another on a core of their shape.
 
-ghost use Rattle.std.specs.Prelude.{◌≤◌, ◌+◌, ◌++◌, ◌≡◌, IfOk, length};
 ghost use Rattle.std.specs.List.{AllByRecursion};
-ghost use Rattle.vm_replay.specs.Played.{PlayedFromStart, end_line};
-ghost use Rattle.vm_script.specs.EventLines.{IsEventLine};
-ghost use Rattle.vm_script.specs.Events.{most_event_lines};
+ghost use Rattle.std.specs.Prelude.{◌++◌, ◌+◌, ◌≡◌, ◌≤◌, IfOk, length};
+ghost use Rattle.vm_script.specs.{EventLines.IsEventLine, Events.most_event_lines};
+ghost use Rattle.vm_replay.specs.Played.{end_line, PlayedFromStart};
 
 use crate::line::{Turn, play_line};
 use std::alloc::{AllocError, Global};

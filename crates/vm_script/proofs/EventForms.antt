@@ -1,17 +1,14 @@
 -- A line is told by its verb and its numbers.
-use Rattle.std.proofs.Common.{◌≡◌, ℕ, List, get_or, refl, sym, ap, ap₂, ◌∙◌, subst, lit<}
-use Rattle.vm_core.specs.declared.event.CoreShape.{CoreShape}
-use Rattle.vm_core.specs.declared.event.Event.{Event}
-use Rattle.vm_core.specs.declared.event.Event.TheVariants.{Look, LockX, LockS, UnlockS, Mark, Unmark, LockW, Upgrade, Release, ReleaseE, Downgrade, TLoad, Install, Clear, Dirty, Clean, Load, Store, BLoad, Take, Give, Read, RFail, Write, WFail, Raise, NLoad, Claim, Hand}
-use Rattle.vm_script.specs.declared.event_line.EventLine.{EventLine}
-use Rattle.vm_script.specs.declared.event_line.EventLine.TheVariants.{One, Fill, Loads}
-use Rattle.vm_script.specs.declared.event_line.Verb.{Verb}
+use Rattle.std.proofs.Common.{◌∙◌, ◌≡◌, ap, ap₂, get_or, List, lit<, refl, subst, sym, ℕ}
+use Rattle.vm_core.specs.{declared.event.CoreShape.CoreShape, declared.event.Event.Event}
+use Rattle.vm_core.specs.declared.event.Event.TheVariants.{BLoad, Claim, Clean, Clear, Dirty, Downgrade, Give, Hand, Install, Load, LockS, LockW}
+use Rattle.vm_core.specs.declared.event.Event.TheVariants.{LockX, Look, Mark, NLoad, Raise, Read, Release, ReleaseE, RFail, Store, Take, TLoad}
+use Rattle.vm_core.specs.declared.event.Event.TheVariants.{UnlockS, Unmark, Upgrade, WFail, Write}
+use Rattle.vm_script.specs.{declared.event_line.EventLine.EventLine, declared.event_line.Verb.Verb, Verbs.kinds_of, Verbs.verb_name}
+use Rattle.vm_script.specs.declared.event_line.EventLine.TheVariants.{Fill, Loads, One}
 use Rattle.vm_script.specs.declared.event_line.Verb.TheVariants as verbs
-use Rattle.vm_script.specs.EventLines.{AreFields, IsEventLine, IsShape, event_line_text, fields_text, form}
-use Rattle.vm_script.specs.Verbs.{kinds_of, verb_name}
-use Rattle.vm_script.proofs.FieldLists.{one_list}
-use Rattle.vm_script.proofs.VerbNames.{lacks_verb, one_verb}
-use Rattle.vm_script.proofs.Words.{one_cut}
+use Rattle.vm_script.specs.EventLines.{AreFields, event_line_text, fields_text, form, IsEventLine, IsShape}
+use Rattle.vm_script.proofs.{FieldLists.one_list, VerbNames.lacks_verb, VerbNames.one_verb, Words.one_cut}
 
 -- the line of a verb and four numbers, of which it uses as many as it has kinds
 abbrev line_by : Verb → ℕ → ℕ → ℕ → ℕ → EventLine

@@ -1,17 +1,15 @@
 -- Bytes have one reading as an event list.
-use Rattle.std.proofs.Common.{◌≡◌, ◌⊎◌, inl, inr, ℕ, ◌+◌, ◌≤◌, ◌<◌, List, [], ◌∷◌, ◌++◌, length, drop, sym, ap, subst, ◌∙◌, arith, append_assoc, length-append}
 use Rattle.std.specs.List.{AllByRecursion, flat_map}
+use Rattle.std.proofs.Common.{[], ◌++◌, ◌+◌, ◌<◌, ◌∙◌, ◌∷◌, ◌≡◌, ◌≤◌, ◌⊎◌, ap, append_assoc, arith, drop, inl, inr, length, length-append, List}
+use Rattle.std.proofs.Common.{subst, sym, ℕ}
 use Rattle.std.proofs.lemmas.List.{append-nil}
 use Rattle.vm_core.specs.declared.event.CoreShape.{CoreShape}
-use Rattle.vm_script.specs.declared.event_line.EventLine.{EventLine}
-use Rattle.vm_script.specs.EventLines.{IsEventLine, IsShape, event_line_text, fields_text, form, shape_text}
-use Rattle.vm_script.specs.Events.{IsFirstBadEvent, IsFirstBadLine, LacksShape, SpellsEvents, events_text, most_event_lines}
-use Rattle.vm_script.specs.Scripts.{BeginsWith}
-use Rattle.vm_script.specs.Verbs.{kinds_of, verb_name}
-use Rattle.vm_script.proofs.EventForms.{one_event}
+use Rattle.vm_script.specs.{declared.event_line.EventLine.EventLine, Scripts.BeginsWith, Verbs.kinds_of, Verbs.verb_name}
+use Rattle.vm_script.specs.EventLines.{event_line_text, fields_text, form, IsEventLine, IsShape, shape_text}
+use Rattle.vm_script.specs.Events.{events_text, IsFirstBadEvent, IsFirstBadLine, LacksShape, most_event_lines, SpellsEvents}
+use Rattle.vm_script.proofs.{EventForms.one_event, Words.one_cut}
 use Rattle.vm_script.proofs.EventTexts.{are_counts, lacks_line, lacks_shape, largest, one_shape}
-use Rattle.vm_script.proofs.LineLists.{Compared, same, first_stopped, second_stopped, HasLine, begins_of, compared as compared_lines}
-use Rattle.vm_script.proofs.Words.{one_cut}
+use Rattle.vm_script.proofs.LineLists.{begins_of, Compared, compared as compared_lines, first_stopped, HasLine, same, second_stopped}
 
 -- the event lines, each with its line feed
 abbrev lines_text : List EventLine → List ℕ

@@ -1,18 +1,13 @@
 -- An event list that is read in part, and one step on.
-use Rattle.std.proofs.Common.{◌≡◌, ◌≢◌, ◌⊎◌, inl, inr, ℕ, ◌+◌, ◌≤◌, ◌<◌, List, [], ◌∷◌, ◌++◌, length, Option, None, refl, sym, ap, ◌∙◌, arith, append_assoc}
 use Rattle.std.specs.List.{AllByRecursion, flat_map}
-use Rattle.std.proofs.lemmas.List.{append-nil}
+use Rattle.std.proofs.Common.{[], ◌++◌, ◌+◌, ◌<◌, ◌∙◌, ◌∷◌, ◌≡◌, ◌≤◌, ◌⊎◌, ap, append_assoc, arith, inl, inr, length, List, None, sym, ℕ}
 use Rattle.std.proofs.lemmas.Grind.{flat_map-append}
+use Rattle.std.proofs.lemmas.List.{append-nil}
 use Rattle.vm_core.specs.declared.event.CoreShape.{CoreShape}
-use Rattle.vm_script.specs.declared.event_line.EventLine.{EventLine}
-use Rattle.vm_script.specs.Cuts.{IsLine, Lacks}
-use Rattle.vm_script.specs.EventLines.{IsEventLine, IsShape, event_line_text, shape_text}
-use Rattle.vm_script.specs.EventWords.{ReadsAs}
-use Rattle.vm_script.specs.Events.{IsFirstBadEvent, LacksShape, SpellsEvents, events_text, most_event_lines}
-use Rattle.vm_script.specs.Scripts.{BeginsWith}
-use Rattle.vm_script.proofs.EventTexts.{lacks_line, lacks_shape}
-use Rattle.vm_script.proofs.Words.{each_append}
-use Rattle.vm_script.proofs.Lines.{first_line}
+use Rattle.vm_script.specs.{Cuts.IsLine, declared.event_line.EventLine.EventLine, EventWords.ReadsAs}
+use Rattle.vm_script.specs.EventLines.{event_line_text, IsEventLine, IsShape, shape_text}
+use Rattle.vm_script.specs.Events.{events_text, IsFirstBadEvent, LacksShape, most_event_lines, SpellsEvents}
+use Rattle.vm_script.proofs.{EventTexts.lacks_line, EventTexts.lacks_shape, Lines.first_line, Words.each_append}
 
 -- this shape and these lines are read, and the rest is still to be read
 pub record IsEventsRead (bytes : List ℕ) (shape : CoreShape) (lines : List EventLine) (rest : List ℕ) : Type 0 where

@@ -1,18 +1,11 @@
 -- The text of one line: where it is cut, and that it is the line's alone.
-use Rattle.std.proofs.Common.{◌≡◌, ◌≢◌, ℕ, ◌<◌, ◌^◌, List, [], ◌∷◌, ◌++◌, refl, sym, ap, ap₂, ◌∙◌, subst, arith, lit<, lit≤, codes}
-use Rattle.std.specs.Fmt.{decimal}
+use Rattle.std.proofs.Common.{[], ◌++◌, ◌∙◌, ◌∷◌, ◌≡◌, ◌≢◌, ap₂, arith, codes, List, lit<, lit≤, subst, sym, ℕ}
 use Rattle.vm_core.specs.declared.event.CoreShape.{CoreShape}
-use Rattle.vm_script.specs.declared.event_line.EventLine.{EventLine}
-use Rattle.vm_script.specs.declared.event_line.Kind.{Kind}
-use Rattle.vm_script.specs.declared.event_line.Kind.TheVariants.{Count}
-use Rattle.vm_script.specs.declared.event_line.Verb.{Verb}
-use Rattle.vm_script.specs.Cuts.{IsCut, Lacks}
-use Rattle.vm_script.specs.EventLines.{AreFields, IsEventLine, IsShape, event_line_text, fields_text, form, form_text, shape_text}
-use Rattle.vm_script.specs.Verbs.{kinds_of, verb_name}
-use Rattle.vm_script.proofs.FieldLists.{lacks_fields, one_list}
-use Rattle.vm_script.proofs.Words.{each_append}
-use Rattle.vm_script.proofs.VerbNames.{lacks_verb, one_verb}
-use Rattle.vm_script.proofs.Words.{one_cut, cut_here}
+use Rattle.vm_script.specs.{Cuts.IsCut, Cuts.Lacks, declared.event_line.EventLine.EventLine, declared.event_line.Kind.Kind}
+use Rattle.vm_script.specs.{declared.event_line.Kind.TheVariants.Count, declared.event_line.Verb.Verb, Verbs.kinds_of, Verbs.verb_name}
+use Rattle.vm_script.specs.EventLines.{AreFields, event_line_text, fields_text, form, form_text, IsEventLine, IsShape, shape_text}
+use Rattle.vm_script.proofs.{FieldLists.lacks_fields, FieldLists.one_list, VerbNames.lacks_verb, VerbNames.one_verb, Words.cut_here}
+use Rattle.vm_script.proofs.{Words.each_append}
 
 -- a line's text is cut behind the verb
 pub cut_line : (bytes word rest : List ℕ) (line : EventLine) → IsCut bytes 32 word rest → bytes ≡ event_line_text line → (word ≡ verb_name (form line).0) × (rest ≡ fields_text (kinds_of (form line).0) (form line).1)

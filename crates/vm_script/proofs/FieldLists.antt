@@ -1,16 +1,14 @@
 -- Lists of numbers with single spaces between them.
-use Rattle.std.proofs.Common.{◌≡◌, ◌≢◌, ℕ, zero, suc, ◌+◌, ◌<◌, ◌≤◌, ◌^◌, List, [], ◌∷◌, ◌++◌, length, take, refl, sym, ap, ◌∙◌, subst, arith, lit<}
 use Rattle.std.specs.Fmt.{decimal}
+use Rattle.std.proofs.Common.{[], ◌++◌, ◌<◌, ◌^◌, ◌∙◌, ◌∷◌, ◌≡◌, ◌≢◌, ◌≤◌, ap, arith, length, List, lit<, refl, subst, suc, sym, take, zero, ℕ}
 use Rattle.std.proofs.lemmas.Fmt.{decimal_injective}
 use Rattle.vm_core.specs.declared.event.CoreShape.{CoreShape}
-use Rattle.vm_script.specs.declared.event_line.Kind.{Kind}
-use Rattle.vm_script.specs.declared.event_line.Kind.TheVariants.{Actor, Page, Frame, Place, Bundle, Word, State, Count}
-use Rattle.vm_script.specs.Cuts.{IsCut, Lacks}
-use Rattle.vm_script.specs.EventLines.{AreFields, IsField, IsShape, field_text, fields_text}
+use Rattle.vm_script.specs.{Cuts.IsCut, Cuts.Lacks, declared.event_line.Kind.Kind}
+use Rattle.vm_script.specs.declared.event_line.Kind.TheVariants.{Actor, Bundle, Count, Frame, Page, Place, State, Word}
+use Rattle.vm_script.specs.EventLines.{AreFields, field_text, fields_text, IsField, IsShape}
 use Rattle.vm_script.specs.EventWords.{AreNarrow, IsNarrow, used}
-use Rattle.vm_script.proofs.Words.{each_append}
 use Rattle.vm_script.proofs.StateWords.{lacks_state, one_state}
-use Rattle.vm_script.proofs.Words.{lacks_decimal, one_cut, no_cut, cut_here}
+use Rattle.vm_script.proofs.Words.{cut_here, each_append, lacks_decimal, no_cut, one_cut}
 
 pub field_small : (shape : CoreShape) (kind : Kind) (value : ℕ) → IsShape shape → IsField shape kind value → value < 2 ^ 64
 field_small shape Actor value s is = omega (arith, s.actors)

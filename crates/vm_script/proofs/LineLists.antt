@@ -1,8 +1,7 @@
 -- Lines one after another, each with its line feed: of two ways to read them both are one, or one of them stopped before a line.
-use Rattle.std.proofs.Common.{◌≡◌, inl, inr, ℕ, ◌<◌, List, [], ◌∷◌, ◌++◌, length, refl, sym, ap, ◌∙◌, arith, append_assoc, length-append}
 use Rattle.std.specs.List.{AllByRecursion, flat_map}
-use Rattle.vm_script.specs.Cuts.{Lacks}
-use Rattle.vm_script.specs.Scripts.{BeginsWith}
+use Rattle.std.proofs.Common.{[], ◌++◌, ◌<◌, ◌∙◌, ◌∷◌, ◌≡◌, ap, append_assoc, arith, inl, inr, length, length-append, List, refl, sym, ℕ}
+use Rattle.vm_script.specs.{Cuts.Lacks, Scripts.BeginsWith}
 use Rattle.vm_script.proofs.Words.{one_cut}
 
 -- bytes that a line feed makes begin with a whole line begin with that line

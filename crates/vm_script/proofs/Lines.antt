@@ -1,16 +1,15 @@
 -- A script that is read in part, and one step on.
-use Rattle.std.proofs.Common.{◌≡◌, ◌≢◌, ◌⊎◌, inl, inr, ℕ, ◌+◌, ◌≤◌, ◌<◌, ◌^◌, List, [], ◌∷◌, ◌++◌, length, None, refl, sym, ap, ◌∙◌, arith, append_assoc}
 use Rattle.std.specs.Fmt.{decimal}
 use Rattle.std.specs.List.{AllByRecursion}
-use Rattle.std.proofs.lemmas.List.{append-nil}
+use Rattle.std.proofs.Common.{[], ◌++◌, ◌+◌, ◌<◌, ◌^◌, ◌∙◌, ◌∷◌, ◌≡◌, ◌≢◌, ◌≤◌, ◌⊎◌, ap, append_assoc, arith, inl, inr, length, List, None, refl, sym}
+use Rattle.std.proofs.Common.{ℕ}
 use Rattle.std.proofs.lemmas.Grind.{flat_map-append}
+use Rattle.std.proofs.lemmas.List.{append-nil}
 use Rattle.vm_map.specs.declared.call.Call.{Call}
-use Rattle.vm_map.specs.declared.call.Call.TheVariants.{Get, Put, Del, Window}
-use Rattle.vm_script.specs.declared.script.Order.{Order}
-use Rattle.vm_script.specs.Cuts.{IsLine, Lacks}
-use Rattle.vm_script.specs.Scripts.{call_text, order_text, lines_text, IsScriptCall, IsOrder, Spells, IsFirstBad, BeginsWith, most_lines}
-use Rattle.vm_script.specs.Calls.{ReadsOrder}
-use Rattle.vm_script.proofs.Words.{each_append, lacks_decimal, lacks_pair, lacks_verb, numbers_text, one_cut, no_cut, text_is, verb_text}
+use Rattle.vm_map.specs.declared.call.Call.TheVariants.{Del, Get, Put, Window}
+use Rattle.vm_script.specs.{Calls.ReadsOrder, Cuts.IsLine, Cuts.Lacks, declared.script.Order.Order}
+use Rattle.vm_script.specs.Scripts.{BeginsWith, call_text, IsFirstBad, IsOrder, IsScriptCall, lines_text, most_lines, order_text, Spells}
+use Rattle.vm_script.proofs.Words.{each_append, lacks_decimal, lacks_pair, lacks_verb, no_cut, numbers_text, one_cut, text_is, verb_text}
 
 -- these orders are read, and the rest is still to be read
 pub record IsRead (workers : ℕ) (bytes : List ℕ) (orders : List Order) (rest : List ℕ) : Type 0 where

@@ -1,11 +1,12 @@
 -- How many lists a script gives, and how long they are.
-use Rattle.std.proofs.Common.{◌≡◌, ◌≤◌, ◌<◌, ℕ, zero, suc, ◌==◌, List, [], ◌∷◌, length, map, filter, get_or, refl, ap, arith, length-append, cond, Bool, true, false}
 use Rattle.std.specs.List.{All}
-use Rattle.std.proofs.lemmas.List.Elements.{All-nil, All-append}
+use Rattle.std.proofs.Common.{[], ◌<◌, ◌==◌, ◌∷◌, ◌≡◌, ◌≤◌, ap, arith, Bool, cond, false, filter, get_or, length, length-append, List, map, refl, suc}
+use Rattle.std.proofs.Common.{true, zero, ℕ}
 use Rattle.std.proofs.lemmas.List.{get_or-map, length-map}
+use Rattle.std.proofs.lemmas.List.Elements.{All-append, All-nil}
 use Rattle.vm_map.specs.declared.call.Call.{Call}
 use Rattle.vm_script.specs.declared.script.Order.{Order}
-use Rattle.vm_script.specs.Scripts.{IsScript, lists_of, calls_by, most_lines}
+use Rattle.vm_script.specs.Scripts.{calls_by, IsScript, lists_of, most_lines}
 
 length_lists : (workers : ℕ) (orders : List Order) → length (lists_of workers orders) ≡ workers
 length_lists zero orders = refl

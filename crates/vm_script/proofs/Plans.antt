@@ -1,16 +1,14 @@
 -- Words that spell plans: a plan is spelled by one word, and read entry by entry.
-use Rattle.std.proofs.Common.{◌≡◌, ◌≢◌, ℕ, ◌<◌, ◌≤◌, ◌^◌, lit<, List, [], ◌∷◌, ◌++◌, length, None, refl, sym, ap, ◌∙◌, arith, append_assoc}
 use Rattle.std.specs.Fmt.{decimal}
 use Rattle.std.specs.List.{AllByRecursion, flat_map}
+use Rattle.std.proofs.Common.{[], ◌++◌, ◌<◌, ◌^◌, ◌∙◌, ◌∷◌, ◌≡◌, ◌≢◌, ◌≤◌, ap, append_assoc, arith, inr, length, List, lit<, None, refl, sym, ℕ}
 use Rattle.std.proofs.lemmas.Fmt.{decimal_injective}
 use Rattle.std.proofs.lemmas.List.{append-nil}
 use Rattle.vm_image.specs.declared.blocks.PlannedFault.{PlannedFault}
-use Rattle.vm_script.specs.Cuts.{IsCut, Lacks}
-use Rattle.vm_script.specs.EventWords.{ReadsAs}
-use Rattle.vm_script.specs.Faults.{IsPlan, IsPlanned, fault_text, plan_text}
+use Rattle.vm_script.specs.{Cuts.IsCut, Cuts.Lacks, EventWords.ReadsAs}
+use Rattle.vm_script.specs.Faults.{fault_text, IsPlan, IsPlanned, plan_text}
 use Rattle.vm_script.proofs.StateWords.{lacks_number}
-use Rattle.vm_script.proofs.Words.{each_append, lacks_decimal, one_cut, no_cut, cut_here}
-use Rattle.std.proofs.Common.{inr}
+use Rattle.vm_script.proofs.Words.{cut_here, each_append, lacks_decimal, no_cut, one_cut}
 
 -- ---- one entry
 

@@ -1,16 +1,18 @@
 -- Bytes have one reading as lines of orders.
-use Rattle.std.proofs.Common.{◌≡◌, ◌⊎◌, inl, inr, ℕ, ◌≤◌, ◌<◌, ◌^◌, lit<, get_or, List, [], ◌∷◌, ◌++◌, length, sym, ap, ◌∙◌, arith, append_assoc, length-append}
 use Rattle.std.specs.Fmt.{decimal}
 use Rattle.std.specs.List.{AllByRecursion}
+use Rattle.std.proofs.Common.{[], ◌++◌, ◌<◌, ◌^◌, ◌∙◌, ◌∷◌, ◌≡◌, ◌≤◌, ◌⊎◌, ap, append_assoc, arith, get_or, inl, inr, length, length-append, List}
+use Rattle.std.proofs.Common.{lit<, sym, ℕ}
 use Rattle.std.proofs.lemmas.Fmt.{decimal_injective}
 use Rattle.std.proofs.lemmas.List.{append-nil}
 use Rattle.vm_map.specs.declared.call.Call.{Call}
-use Rattle.vm_map.specs.declared.call.Call.TheVariants.{Get, Put, Del, Window}
+use Rattle.vm_map.specs.declared.call.Call.TheVariants.{Del, Get, Put, Window}
 use Rattle.vm_script.specs.declared.script.Order.{Order}
-use Rattle.vm_script.specs.Scripts.{call_text, order_text, lines_text, lists_of, IsScriptCall, IsOrder, Spells, IsScript, IsFirstBad, BeginsWith, most_lines}
-use Rattle.vm_script.proofs.Words.{lacks_decimal, one_cut, one_pair}
-use Rattle.vm_script.proofs.LineLists.{Compared, same, first_stopped, second_stopped, HasLine, begins_of, compared as compared_lines}
+use Rattle.vm_script.specs.Scripts.{BeginsWith, call_text, IsFirstBad, IsOrder, IsScript, IsScriptCall, lines_text, lists_of, most_lines, order_text}
+use Rattle.vm_script.specs.Scripts.{Spells}
+use Rattle.vm_script.proofs.LineLists.{begins_of, Compared, compared as compared_lines, first_stopped, HasLine, same, second_stopped}
 use Rattle.vm_script.proofs.Lines.{lacks_order}
+use Rattle.vm_script.proofs.Words.{lacks_decimal, one_cut, one_pair}
 
 -- a text is that of one call
 one_call : (a b : Call) → IsScriptCall a → IsScriptCall b → call_text a ≡ call_text b → a ≡ b

@@ -1,17 +1,15 @@
 -- State words: what each state is called, and that `S:V` spells one word.
-use Rattle.std.proofs.Common.{◌≡◌, ◌≢◌, ◌⊎◌, inl, inr, ℕ, Bool, true, false, ◌<◌, ◌≤◌, ◌^◌, List, [], ◌∷◌, ◌++◌, refl, sym, ap, ap₂, subst, ◌∙◌, arith, lit<, codes, if◌then◌else◌, eqb-true}
-use Rattle.std.specs.Prelude.{◌==◌}
 use Rattle.std.specs.Fmt.{decimal}
+use Rattle.std.specs.Prelude.{◌==◌}
 use Rattle.std.specs.Str.Parse.{AllDigits}
-use Rattle.std.proofs.lemmas.Str.Parse.{digit_from_value}
-use Rattle.std.proofs.lemmas.Fmt.{decimal_is_IsNumeral, decimal_injective}
-use Rattle.std.proofs.lemmas.Grind.{common_steps}
+use Rattle.std.proofs.Common.{[], ◌++◌, ◌<◌, ◌^◌, ◌∙◌, ◌∷◌, ◌≡◌, ◌≢◌, ◌≤◌, ◌⊎◌, ap, ap₂, arith, Bool, codes, eqb-true, false, if◌then◌else◌, inl, inr}
+use Rattle.std.proofs.Common.{List, lit<, refl, subst, sym, true, ℕ}
 use Rattle.std.proofs.lemmas.Bool.{eqb-false}
-use Rattle.vm_core.specs.Words.{word_of, state_of, version_of}
-use Rattle.vm_script.specs.Cuts.{IsCut, Lacks}
-use Rattle.vm_script.specs.EventLines.{state_name, state_text}
-use Rattle.vm_script.proofs.Words.{each_append}
-use Rattle.vm_script.proofs.Words.{cut_here, one_cut}
+use Rattle.std.proofs.lemmas.Fmt.{decimal_injective, decimal_is_IsNumeral}
+use Rattle.std.proofs.lemmas.Str.Parse.{digit_from_value}
+use Rattle.vm_core.specs.Prelude.{state_of, version_of, word_of}
+use Rattle.vm_script.specs.{Cuts.IsCut, Cuts.Lacks, EventLines.state_name, EventLines.state_text}
+use Rattle.vm_script.proofs.Words.{cut_here, each_append, one_cut}
 
 -- what a state may be called
 pub data IsName (state : ℕ) (name : List ℕ) : Type 0 where

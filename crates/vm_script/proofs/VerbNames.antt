@@ -1,14 +1,15 @@
 -- The verbs' words: letters alone, and no two the same.
-use Rattle.std.proofs.Common.{◌≡◌, ◌≢◌, ℕ, zero, suc, ◌+◌, length, take, get_or, eqb, Bool, true, false, ◌<◌, ◌&&◌, nat_lt, List, [], ◌∷◌, Option, Some, None, refl, sym, ap, ◌∙◌, arith, find, bytes_eq}
-use Rattle.std.specs.List.{AllByRecursion, list_all}
 use Rattle.std.specs.Cmp.Lexicographic.{pointwise}
-use Rattle.std.proofs.lemmas.Slice.Eq.{slice_eq-Decides}
+use Rattle.std.specs.List.{AllByRecursion, list_all}
+use Rattle.std.proofs.Common.{[], ◌&&◌, ◌+◌, ◌<◌, ◌∙◌, ◌∷◌, ◌≡◌, ◌≢◌, ap, arith, Bool, bytes_eq, eqb, false, find, get_or, length, List, nat_lt}
+use Rattle.std.proofs.Common.{Option, refl, Some, suc, sym, take, true, zero, ℕ}
 use Rattle.std.proofs.lemmas.Bool.Decides.{Decides-eqb}
 use Rattle.std.proofs.lemmas.Grind.{common_steps}
-use Rattle.vm_script.specs.declared.event_line.Verb.{Verb}
-use Rattle.vm_script.specs.declared.event_line.Verb.TheVariants.{Look, LockX, LockS, UnlockS, Mark, Unmark, LockW, Upgrade, Release, ReleaseE, Downgrade, TLoad, Install, Clear, Dirty, Clean, Load, Store, BLoad, Take, Give, Read, RFail, Write, WFail, Raise, NLoad, Claim, Hand, Fill, Loads}
-use Rattle.vm_script.specs.Cuts.{Lacks}
-use Rattle.vm_script.specs.Verbs.{verb_name}
+use Rattle.std.proofs.lemmas.Slice.Eq.{slice_eq-Decides}
+use Rattle.vm_script.specs.{Cuts.Lacks, declared.event_line.Verb.Verb, Verbs.verb_name}
+use Rattle.vm_script.specs.declared.event_line.Verb.TheVariants.{BLoad, Claim, Clean, Clear, Dirty, Downgrade, Fill, Give, Hand, Install, Load, Loads}
+use Rattle.vm_script.specs.declared.event_line.Verb.TheVariants.{LockS, LockW, LockX, Look, Mark, NLoad, Raise, Read, Release, ReleaseE, RFail, Store}
+use Rattle.vm_script.specs.declared.event_line.Verb.TheVariants.{Take, TLoad, UnlockS, Unmark, Upgrade, WFail, Write}
 
 and_left : (a b : Bool) → (a && b) ≡ true → a ≡ true
 and_left true b h = refl

@@ -1,19 +1,16 @@
 -- Event lines: a verb and its numbers, with single spaces between them.
-use Rattle.std.specs.Prelude.{ℕ, ◌+◌, ◌*◌, ◌/◌, ◌%◌, ◌<◌, ◌≤◌, ◌^◌, ◌≡◌, ◌==◌, if◌then◌else◌, List, [], ◌∷◌, ◌++◌, codes}
 use Rattle.std.specs.Fmt.{decimal}
-use Rattle.vm_page.specs.declared.buf.TheConstants.{WORDS}
-use Rattle.vm_core.specs.Words.{state_of, version_of}
-use Rattle.vm_core.specs.declared.event.CoreShape.{CoreShape}
-use Rattle.vm_core.specs.declared.event.Event.{Event}
-use Rattle.vm_core.specs.declared.event.Event.TheVariants.{Look, LockX, LockS, UnlockS, Mark, Unmark, LockW, Upgrade, Release, ReleaseE, Downgrade, TLoad, Install, Clear, Dirty, Clean, Load, Store, BLoad, Take, Give, Read, RFail, Write, WFail, Raise, NLoad, Claim, Hand}
-use Rattle.vm_core.specs.declared.words.TheConstants.{FRAMES}
-use Rattle.vm_script.specs.declared.event_line.EventLine.{EventLine}
-use Rattle.vm_script.specs.declared.event_line.EventLine.TheVariants.{One, Fill, Loads}
-use Rattle.vm_script.specs.declared.event_line.Kind.{Kind}
-use Rattle.vm_script.specs.declared.event_line.Kind.TheVariants.{Actor, Page, Frame, Place, Bundle, Word, State, Count}
-use Rattle.vm_script.specs.declared.event_line.Verb.{Verb}
+use Rattle.std.specs.Prelude.{[], ◌*◌, ◌++◌, ◌<◌, ◌==◌, ◌^◌, ◌∷◌, ◌≤◌, codes, if◌then◌else◌, List, ℕ}
+use Rattle.vm_core.specs.Prelude.{EVICTED, LOCKED, MARKED, state_of, UNLOCKED, version_of, WORDS}
+use Rattle.vm_core.specs.{declared.event.CoreShape.CoreShape, declared.words.TheConstants.FRAMES}
+use Rattle.vm_core.specs.declared.event.Event.TheVariants.{BLoad, Claim, Clean, Clear, Dirty, Downgrade, Give, Hand, Install, Load, LockS, LockW}
+use Rattle.vm_core.specs.declared.event.Event.TheVariants.{LockX, Look, Mark, NLoad, Raise, Read, Release, ReleaseE, RFail, Store, Take, TLoad}
+use Rattle.vm_core.specs.declared.event.Event.TheVariants.{UnlockS, Unmark, Upgrade, WFail, Write}
+use Rattle.vm_script.specs.{declared.event_line.EventLine.EventLine, declared.event_line.Kind.Kind, declared.event_line.Verb.Verb, Verbs.kinds_of}
+use Rattle.vm_script.specs.{Verbs.verb_name}
+use Rattle.vm_script.specs.declared.event_line.EventLine.TheVariants.{Fill, Loads, One}
+use Rattle.vm_script.specs.declared.event_line.Kind.TheVariants.{Actor, Bundle, Count, Frame, Page, Place, State, Word}
 use Rattle.vm_script.specs.declared.event_line.Verb.TheVariants as verbs
-use Rattle.vm_script.specs.Verbs.{verb_name, kinds_of}
 
 -- the limits of a shape
 pub record IsShape (shape : CoreShape) : Type 0 where
@@ -25,7 +22,7 @@ pub record IsShape (shape : CoreShape) : Type 0 where
 -- `u`, `x`, `m`, `e`, or the number of shares
 abbrev pub state_name : ℕ → List ℕ
 state_name state =
-    if state == 0 then codes "u" else if state == 253 then codes "x" else if state == 254 then codes "m" else if state == 255 then codes "e" else decimal state
+    if state == UNLOCKED then codes "u" else if state == LOCKED then codes "x" else if state == MARKED then codes "m" else if state == EVICTED then codes "e" else decimal state
 
 -- `S:V`
 abbrev pub state_text : ℕ → List ℕ

@@ -1,7 +1,7 @@
 -- What the readers of parts of an event line answer.
-use Rattle.std.specs.Prelude.{ℕ, ◌<◌, ◌≤◌, ◌^◌, ◌≡◌, ◌≢◌, List, [], ◌∷◌, Option, Some, None, length, take}
+use Rattle.std.specs.Prelude.{[], ◌<◌, ◌^◌, ◌∷◌, ◌≡◌, ◌≢◌, ◌≤◌, length, List, None, Option, Some, take, ℕ}
 use Rattle.vm_script.specs.declared.event_line.Kind.{Kind}
-use Rattle.vm_script.specs.declared.event_line.Kind.TheVariants.{Actor, Page, Frame, Place, Bundle, Word, State, Count}
+use Rattle.vm_script.specs.declared.event_line.Kind.TheVariants.{Actor, Bundle, Count, Frame, Page, Place, State, Word}
 
 -- the bytes spell the value that is answered, or none that they could
 abbrev pub ReadsAs : {X : Type 0} → (X → Type 0) → (X → List ℕ) → List ℕ → Option X → Type 0

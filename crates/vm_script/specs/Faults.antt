@@ -1,7 +1,7 @@
 -- Plans of failures: entries `P:N`, with commas between them.
-use Rattle.std.specs.Prelude.{ℕ, ◌<◌, ◌≤◌, ◌^◌, List, [], ◌∷◌, ◌++◌, length}
 use Rattle.std.specs.Fmt.{decimal}
 use Rattle.std.specs.List.{AllByRecursion}
+use Rattle.std.specs.Prelude.{[], ◌++◌, ◌<◌, ◌^◌, ◌∷◌, ◌≤◌, length, List, ℕ}
 use Rattle.vm_image.specs.declared.blocks.PlannedFault.{PlannedFault}
 
 -- `P:N`

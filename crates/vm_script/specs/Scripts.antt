@@ -1,13 +1,11 @@
 -- Scripts: lines `WORKER CALL`, each ended by a line feed, which the last may lack.
-use Rattle.std.specs.Prelude.{ℕ, zero, suc, ◌+◌, ◌<◌, ◌≤◌, ◌^◌, ◌≡◌, ◌⊎◌, List, [], ◌∷◌, ◌++◌, length, map, filter, ◌==◌, codes, Result, Ok, Err}
 use Rattle.std.specs.Fmt.{decimal}
 use Rattle.std.specs.List.{AllByRecursion, flat_map}
-use Rattle.vm_map.specs.declared.call.Call.{Call}
-use Rattle.vm_map.specs.declared.call.Call.TheVariants.{Get, Put, Del, Window}
-use Rattle.vm_map.specs.declared.window.TheConstants.{MOST_PAIRS}
-use Rattle.vm_script.specs.declared.script.Order.{Order}
-use Rattle.vm_script.specs.declared.script.ScriptFault.{ScriptFault}
-use Rattle.vm_script.specs.declared.script.ScriptFault.TheVariants.{Long, Line, Memory}
+use Rattle.std.specs.Prelude.{[], ◌++◌, ◌+◌, ◌<◌, ◌==◌, ◌^◌, ◌∷◌, ◌≡◌, ◌≤◌, ◌⊎◌, codes, Err, filter, length, List, map, Ok, Result, suc, zero, ℕ}
+use Rattle.vm_map.specs.{declared.call.Call.Call, declared.window.TheConstants.MOST_PAIRS}
+use Rattle.vm_map.specs.declared.call.Call.TheVariants.{Del, Get, Put, Window}
+use Rattle.vm_script.specs.{declared.script.Order.Order, declared.script.ScriptFault.ScriptFault}
+use Rattle.vm_script.specs.declared.script.ScriptFault.TheVariants.{Line, Long, Memory}
 
 -- `get K`, `put K V`, `del K` or `scan K N`
 abbrev pub call_text : Call → List ℕ

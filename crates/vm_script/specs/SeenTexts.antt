@@ -1,16 +1,16 @@
 -- The text of what the events of a line saw.
-use Rattle.std.specs.Prelude.{◌-◌, ℕ, ◌≡◌, List, [], ◌∷◌, ◌++◌, length, get_or, codes}
 use Rattle.std.specs.Fmt.{decimal}
 use Rattle.std.specs.List.{AllByRecursion}
-use Rattle.vm_page.specs.declared.buf.TheConstants.{WORDS}
-use Rattle.vm_core.specs.declared.event.Event.{Event}
-use Rattle.vm_core.specs.declared.event.Event.TheVariants.{Look, LockX, LockS, UnlockS, Mark, Unmark, LockW, Upgrade, Release, ReleaseE, Downgrade, TLoad, Install, Clear, Dirty, Clean, Load, Store, BLoad, Take, Give, Read, RFail, Write, WFail, Raise, NLoad, Claim, Hand}
-use Rattle.vm_core.specs.declared.event.Seen.{Seen}
-use Rattle.vm_script.specs.declared.event_line.EventLine.{EventLine}
-use Rattle.vm_script.specs.declared.event_line.EventLine.TheVariants.{One, Fill, Loads}
-use Rattle.vm_script.specs.declared.seen.Sight.{Sight}
+use Rattle.std.specs.Prelude.{[], ◌++◌, ◌-◌, ◌∷◌, ◌≡◌, codes, get_or, length, List, ℕ}
+use Rattle.vm_core.specs.Prelude.{WORDS}
+use Rattle.vm_core.specs.{declared.event.Event.Event, declared.event.Seen.Seen}
+use Rattle.vm_core.specs.declared.event.Event.TheVariants.{BLoad, Claim, Clean, Clear, Dirty, Downgrade, Give, Hand, Install, Load, LockS, LockW}
+use Rattle.vm_core.specs.declared.event.Event.TheVariants.{LockX, Look, Mark, NLoad, Raise, Read, Release, ReleaseE, RFail, Store, Take, TLoad}
+use Rattle.vm_core.specs.declared.event.Event.TheVariants.{UnlockS, Unmark, Upgrade, WFail, Write}
+use Rattle.vm_script.specs.{declared.event_line.EventLine.EventLine, declared.seen.Sight.Sight}
+use Rattle.vm_script.specs.declared.event_line.EventLine.TheVariants.{Fill, Loads, One}
 use Rattle.vm_script.specs.declared.seen.Sight.TheVariants as sights
-use Rattle.vm_script.specs.Sights.{FitsSight, sight_text, seen_word, no_sight}
+use Rattle.vm_script.specs.Sights.{FitsSight, no_sight, seen_word, sight_text}
 
 -- how what an event sees is told
 abbrev pub sight_of : Event → Sight

@@ -1,13 +1,12 @@
 -- The text of one thing seen.
-use Rattle.std.specs.Prelude.{ℕ, ◌-◌, ◌^◌, ◌==◌, nat_lt, if◌then◌else◌, List, ◌∷◌, ◌++◌, codes}
 use Rattle.std.specs.Fmt.{decimal}
-use Rattle.vm_core.specs.declared.event.ReadIs.{ReadIs}
-use Rattle.vm_core.specs.declared.event.ReadIs.TheVariants.{Opened, Same, Moved, Closed}
-use Rattle.vm_core.specs.declared.event.Seen.{Seen}
+use Rattle.std.specs.Prelude.{◌++◌, ◌-◌, ◌==◌, ◌^◌, ◌∷◌, codes, if◌then◌else◌, List, nat_lt, ℕ}
+use Rattle.vm_core.specs.{declared.event.ReadIs.ReadIs, declared.event.Seen.Seen}
+use Rattle.vm_core.specs.declared.event.ReadIs.TheVariants.{Closed, Moved, Opened, Same}
 use Rattle.vm_core.specs.declared.event.Seen.TheVariants as seens
-use Rattle.vm_script.specs.declared.seen.Sight.{Sight}
-use Rattle.vm_script.specs.declared.seen.Sight.TheVariants.{Look, Exchange, NumberExchange, Translation, Loaded, Bits, Next, Place, State, Failed, Done}
-use Rattle.vm_script.specs.EventLines.{state_text}
+use Rattle.vm_script.specs.{declared.seen.Sight.Sight, EventLines.state_text}
+use Rattle.vm_script.specs.declared.seen.Sight.TheVariants.{Bits, Done, Exchange, Failed, Loaded, Look, Next, NumberExchange, Place, State}
+use Rattle.vm_script.specs.declared.seen.Sight.TheVariants.{Translation}
 
 -- what became of the open read
 abbrev pub left_name : ReadIs → List ℕ

@@ -1,16 +1,11 @@
 -- The lines of what calls were answered, of rows, of counters, of a tree's size, and of what was made and churned.
-use Rattle.std.specs.Prelude.{ℕ, ◌+◌, List, [], ◌∷◌, ◌++◌, length, map, Option, Some, None, codes}
 use Rattle.std.specs.Fmt.{decimal}
 use Rattle.std.specs.List.{flat_map}
-use Rattle.vm_map.specs.declared.call.Call.{Call}
-use Rattle.vm_map.specs.declared.call.Call.TheVariants.{Get, Put, Del, Window as Asked}
-use Rattle.vm_map.specs.declared.call.Reply.{Reply}
-use Rattle.vm_map.specs.declared.call.Reply.TheVariants.{Got, Was, Gone, Win}
-use Rattle.vm_map.specs.declared.call.Said.{Said}
-use Rattle.vm_map.specs.declared.window.Bound.{Bound}
-use Rattle.vm_map.specs.declared.window.Bound.TheVariants.{Key, End}
-use Rattle.vm_map.specs.declared.window.Window.{Window}
-use Rattle.vm_map.specs.Map.{Pairs}
+use Rattle.std.specs.Prelude.{[], ◌++◌, ◌+◌, ◌∷◌, codes, length, List, map, None, Option, Some, ℕ}
+use Rattle.vm_map.specs.{declared.call.Call.Call, declared.call.Reply.Reply, declared.call.Said.Said, declared.window.Bound.Bound}
+use Rattle.vm_map.specs.{declared.window.Bound.TheVariants.End, declared.window.Bound.TheVariants.Key, declared.window.Window.Window, Map.Pairs}
+use Rattle.vm_map.specs.declared.call.Call.TheVariants.{Del, Get, Put, Window as Asked}
+use Rattle.vm_map.specs.declared.call.Reply.TheVariants.{Gone, Got, Was, Win}
 use Rattle.vm_script.specs.declared.text.Line.{Line}
 use Rattle.vm_script.specs.declared.text.Line.TheVariants as lines
 

@@ -1,9 +1,10 @@
 -- The verbs of event lines, and the kinds of the numbers behind each.
-use Rattle.std.specs.Prelude.{ℕ, List, [], ◌∷◌, codes}
-use Rattle.vm_script.specs.declared.event_line.Kind.{Kind}
-use Rattle.vm_script.specs.declared.event_line.Kind.TheVariants.{Actor, Page, Frame, Place, Bundle, Word, State, Count}
-use Rattle.vm_script.specs.declared.event_line.Verb.{Verb}
-use Rattle.vm_script.specs.declared.event_line.Verb.TheVariants.{Look, LockX, LockS, UnlockS, Mark, Unmark, LockW, Upgrade, Release, ReleaseE, Downgrade, TLoad, Install, Clear, Dirty, Clean, Load, Store, BLoad, Take, Give, Read, RFail, Write, WFail, Raise, NLoad, Claim, Hand, Fill, Loads}
+use Rattle.std.specs.Prelude.{[], ◌∷◌, codes, List, ℕ}
+use Rattle.vm_script.specs.{declared.event_line.Kind.Kind, declared.event_line.Verb.Verb}
+use Rattle.vm_script.specs.declared.event_line.Kind.TheVariants.{Actor, Bundle, Count, Frame, Page, Place, State, Word}
+use Rattle.vm_script.specs.declared.event_line.Verb.TheVariants.{BLoad, Claim, Clean, Clear, Dirty, Downgrade, Fill, Give, Hand, Install, Load, Loads}
+use Rattle.vm_script.specs.declared.event_line.Verb.TheVariants.{LockS, LockW, LockX, Look, Mark, NLoad, Raise, Read, Release, ReleaseE, RFail, Store}
+use Rattle.vm_script.specs.declared.event_line.Verb.TheVariants.{Take, TLoad, UnlockS, Unmark, Upgrade, WFail, Write}
 
 -- the word of a verb
 abbrev pub verb_name : Verb → List ℕ

@@ -1,9 +1,7 @@
 //! The lines of an event list: what one says, its verb, and the kinds of its numbers.
 
-ghost use Rattle.std.specs.Prelude.{◌≡◌, ◌<◌, ◌^◌};
-ghost use Rattle.vm_script.specs.EventLines.{form};
-ghost use Rattle.vm_script.specs.EventWords.{AreNarrow, used};
-ghost use Rattle.vm_script.specs.Verbs.{kinds_of as kinds_in, verb_name};
+ghost use Rattle.std.specs.Prelude.{◌<◌, ◌^◌, ◌≡◌};
+ghost use Rattle.vm_script.specs.{EventLines.form, EventWords.AreNarrow, EventWords.used, Verbs.kinds_of as kinds_in, Verbs.verb_name};
 
 use vm_core::Event;
 

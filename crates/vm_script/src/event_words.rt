@@ -1,15 +1,16 @@
 //! Readers of one line of an event list and of its parts.
 
-ghost use Rattle.std.specs.Prelude.{ℕ, ◌<◌, ◌≤◌, ◌^◌, ◌↔◌, IsTrue, length};
 ghost use Rattle.std.specs.Fmt.{decimal};
-ghost use Rattle.vm_script.specs.EventLines.{AreFields, IsEventLine, IsField, IsShape, event_line_text, field_text, fields_text, shape_text, state_name, state_text};
+ghost use Rattle.std.specs.Prelude.{◌<◌, ◌^◌, ◌↔◌, ◌≤◌, IsTrue, length};
+ghost use Rattle.vm_script.specs.EventLines.{AreFields, event_line_text, field_text, fields_text, IsEventLine, IsField, IsShape, shape_text};
+ghost use Rattle.vm_script.specs.EventLines.{state_name, state_text};
 ghost use Rattle.vm_script.specs.EventWords.{IsShareCount, ReadsAs, used_of};
 ghost use Rattle.vm_script.specs.Verbs.{verb_name};
 
 use crate::event_line::{EventLine, Kind, VERBS, Verb, kinds_of, line_with, name_of};
 use crate::number::number_of;
 use crate::script::cut;
-use vm_core::{CoreShape, FRAMES, StateWord};
+use vm_core::{CoreShape, FRAMES, MAX_VERSION, StateWord};
 use vm_page::WORDS;
 
 // The verb that a word names.
@@ -31,7 +32,7 @@ fn shares_of(name: &[u8]) -> Option<u8>
     let Some(shares) = number_of(name) else {
         return None;
     };
-    if 1 <= shares && shares <= 252 {
+    if 1 <= shares && shares <= u64::from(StateWord::MAX_SHARES) {
         Some(shares as u8)
     } else {
         None
@@ -43,16 +44,16 @@ fn state_of(name: &[u8]) -> Option<u8>
     ensures { ReadsAs (λ state. state < 256) state_name name.now result }
 {
     if name == b"u".as_slice() {
-        return Some(0);
+        return Some(StateWord::UNLOCKED);
     }
     if name == b"x".as_slice() {
-        return Some(253);
+        return Some(StateWord::LOCKED);
     }
     if name == b"m".as_slice() {
-        return Some(254);
+        return Some(StateWord::MARKED);
     }
     if name == b"e".as_slice() {
-        return Some(255);
+        return Some(StateWord::EVICTED);
     }
     shares_of(name)
 }
@@ -70,7 +71,7 @@ fn state_word_of(text: &[u8]) -> Option<u64>
     let Some(version) = number_of(version) else {
         return None;
     };
-    if version >= 0x0100_0000_0000_0000 {
+    if version > MAX_VERSION {
         return None;
     }
     Some(StateWord::of(state, version))

@@ -2,7 +2,7 @@
 
 ghost use Rattle.std.specs.Prelude.{IfOk, option_map};
 ghost use Rattle.vm_script.specs.EventWords.{ReadsAs};
-ghost use Rattle.vm_script.specs.Faults.{IsPlan, IsPlanned, fault_text, plan_text};
+ghost use Rattle.vm_script.specs.Faults.{fault_text, IsPlan, IsPlanned, plan_text};
 
 use crate::number::number_of;
 use crate::script::cut;

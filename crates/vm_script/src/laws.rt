@@ -1,14 +1,12 @@
 // Laws on scripts, event lists, plans and numbers that hold of their definitions, for whoever reads or writes them.
-ghost use Rattle.std.specs.Prelude.{◌≡◌, ℕ, ◌<◌, ◌^◌, List};
 ghost use Rattle.std.specs.Fmt.{decimal};
-ghost use Rattle.vm_core.specs.declared.event.CoreShape.{CoreShape};
-ghost use Rattle.vm_image.specs.declared.blocks.PlannedFault.{PlannedFault};
+ghost use Rattle.std.specs.Prelude.{◌<◌, ◌^◌, ◌≡◌, List, ℕ};
 ghost use Rattle.vm_map.specs.declared.call.Call.{Call};
-ghost use Rattle.vm_script.specs.declared.event_line.EventLine.{EventLine};
-ghost use Rattle.vm_script.specs.declared.script.Order.{Order};
-ghost use Rattle.vm_script.specs.Events.{IsFirstBadEvent, SpellsEvents};
-ghost use Rattle.vm_script.specs.Faults.{IsPlan, plan_text};
-ghost use Rattle.vm_script.specs.Scripts.{Spells, IsScript, IsFirstBad};
+ghost use Rattle.vm_image.specs.declared.blocks.PlannedFault.{PlannedFault};
+ghost use Rattle.vm_core.specs.declared.event.CoreShape.{CoreShape};
+ghost use Rattle.vm_script.specs.{declared.event_line.EventLine.EventLine, declared.script.Order.Order, Events.IsFirstBadEvent, Events.SpellsEvents};
+ghost use Rattle.vm_script.specs.{Faults.IsPlan, Faults.plan_text};
+ghost use Rattle.vm_script.specs.Scripts.{IsFirstBad, IsScript, Spells};
 
 /// A script has one reading: its bytes spell one list of orders, and so one list of calls for each
 /// worker, or they have one first bad line, and never both.

@@ -1,15 +1,9 @@
 // Reads scripts: lines `WORKER CALL`, single spaces, each line ended by a line feed.
-ghost use Rattle.std.specs.Prelude.{◌≡◌, ◌≤◌, IfOk, MatchOption, All, length, map};
-ghost use Rattle.vm_script.specs.declared.script.ScriptFault.TheVariants.{Memory};
+ghost use Rattle.std.specs.Prelude.{◌≡◌, ◌≤◌, All, IfOk, length, map, MatchOption};
 ghost use Rattle.vm_script.specs.Calls.{ReadsCall, ReadsOrder, ReadsPair};
 ghost use Rattle.vm_script.specs.Cuts.{IsCut, IsLine, Lacks};
-ghost use Rattle.vm_script.specs.Scripts.{
-  ReadsOrders,
-  ReadsScript,
-  calls_by as calls_in,
-  lists_of as lists_in,
-  most_lines,
-};
+ghost use Rattle.vm_script.specs.declared.script.ScriptFault.TheVariants.{Memory};
+ghost use Rattle.vm_script.specs.Scripts.{calls_by as calls_in, lists_of as lists_in, most_lines, ReadsOrders, ReadsScript};
 
 use crate::number::number_of;
 use std::alloc::{AllocError, AllocFailed, Global};

@@ -1,13 +1,13 @@
 //! The text of what the events of a line saw.
 
-ghost use Rattle.std.specs.Prelude.{◌≡◌, ◌++◌, IfOk, if◌then◌else◌, is_ok, string_bytes};
+ghost use Rattle.std.specs.Prelude.{◌++◌, ◌≡◌, IfOk, if◌then◌else◌, is_ok, string_bytes};
 ghost use Rattle.vm_script.specs.EventLines.{state_text};
 ghost use Rattle.vm_script.specs.SeenTexts.{FitsLine, seen_line, sight_of as sight_in, told_text};
-ghost use Rattle.vm_script.specs.Sights.{found_text, left_name, sight_text, translation_text, seen_word, word_text};
+ghost use Rattle.vm_script.specs.Sights.{found_text, left_name, seen_word, sight_text, translation_text, word_text};
 
 use crate::event_line::EventLine;
 use std::alloc::{AllocError, Global};
-use vm_core::{Event, ReadIs, Seen, StateWord};
+use vm_core::{DIRTY, Event, ReadIs, Seen, StateWord, TransWord};
 use vm_page::WORDS;
 
 // How what an event sees is told.
@@ -78,10 +78,10 @@ fn state_string(alloc: Global, word: u64) -> Result<String, AllocError>
 {
     let version = StateWord::version(word);
     match StateWord::state(word) {
-        0 => format!(in alloc; "u:{version}"),
-        253 => format!(in alloc; "x:{version}"),
-        254 => format!(in alloc; "m:{version}"),
-        255 => format!(in alloc; "e:{version}"),
+        StateWord::UNLOCKED => format!(in alloc; "u:{version}"),
+        StateWord::LOCKED => format!(in alloc; "x:{version}"),
+        StateWord::MARKED => format!(in alloc; "m:{version}"),
+        StateWord::EVICTED => format!(in alloc; "e:{version}"),
         shares => format!(in alloc; "{shares}:{version}"),
     }
 }
@@ -90,8 +90,7 @@ fn state_string(alloc: Global, word: u64) -> Result<String, AllocError>
 fn translation_string(alloc: Global, word: u64) -> Result<String, AllocError>
     ensures { IfOk result (λ text. string_bytes text ≡ translation_text word) }
 {
-    const DIRTY: u64 = 0x8000_0000_0000_0000;
-    if word == 0 {
+    if word == TransWord::EMPTY {
         return String::from_str(alloc, "empty");
     }
     if word < DIRTY {

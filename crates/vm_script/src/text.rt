@@ -1,8 +1,9 @@
 //! Writes the lines of what calls were answered, of rows, of counters, of a tree's size, and of what was made and churned.
 
-ghost use Rattle.std.specs.Prelude.{◌≡◌, ◌++◌, IfOk, string_bytes, is_ok, if◌then◌else◌};
+ghost use Rattle.std.specs.Prelude.{◌++◌, ◌≡◌, IfOk, if◌then◌else◌, is_ok, string_bytes};
 ghost use Rattle.vm_script.specs.declared.text.Line.TheVariants as lines;
-ghost use Rattle.vm_script.specs.Texts.{answer_text, bound_text, churn_line, counters_line, made_line, outcome_text, reply_line, row_line, shown_text, tree_line, unflushed_line, window_text};
+ghost use Rattle.vm_script.specs.Texts.{answer_text, bound_text, churn_line, counters_line, made_line, outcome_text, reply_line, row_line};
+ghost use Rattle.vm_script.specs.Texts.{shown_text, tree_line, unflushed_line, window_text};
 
 use std::alloc::{AllocError, Global};
 use vm_map::call::{Call, Pair, Reply, Said};

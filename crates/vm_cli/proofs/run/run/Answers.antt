@@ -1,5 +1,5 @@
 use Rattle.std.proofs.Common.{Err, ap, refl}
-use Rattle.vm_cli.specs.Endings.{command, usage}
+use Rattle.vm_endings.specs.Endings.{command, usage}
 use Rattle.vm_cli.proofs.Agreement.{agrees, complete, headline}
 use Rattle.vm_cli.proofs.run.run.Goals as goal
 

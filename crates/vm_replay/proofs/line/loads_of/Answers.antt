@@ -1,7 +1,7 @@
-use Rattle.std.proofs.Common.{◌∙◌, ◌++◌, ◌∷◌, [], ℕ, sym, ap, arith}
+use Rattle.std.proofs.Common.{[], ◌++◌, ◌∙◌, ◌∷◌, ap, arith, sym, ℕ}
 use Rattle.std.proofs.lemmas.List.FromFn.{map-range_with_len_more}
-use Rattle.vm_core.specs.declared.event.Event.{Event}
 use Rattle.vm_core.specs.declared.event.Event.TheVariants.{Load}
+use Rattle.vm_rule.specs.Prelude.{Event}
 use Rattle.vm_replay.proofs.line.loads_of.Goals as goal
 
 pub loop-i-preserved : goal.loop-i-preserved

@@ -1,8 +1,7 @@
-use Rattle.std.proofs.Common.{◌∙◌, sym, subst}
+use Rattle.std.proofs.Common.{◌∙◌, subst, sym}
+use Rattle.vm_core.specs.Prelude.{core_of}
 use Rattle.vm_script.specs.SeenTexts.{FitsLine}
-use Rattle.vm_core.specs.PageOf.{core_of}
-use Rattle.vm_replay.proofs.Seeing.{replay_fits}
-use Rattle.vm_replay.proofs.Stopping.{line_stops}
+use Rattle.vm_replay.proofs.{Seeing.replay_fits, Stopping.line_stops}
 use Rattle.vm_replay.proofs.line.play_line.Goals as goal
 
 pub seen_text-requires : goal.seen_text-requires

@@ -1,5 +1,5 @@
-use Rattle.std.proofs.Common.{ℕ, Bool, ◌≡◌, ◌+◌, ◌*◌, ◌≤◌, List, ◌++◌, drop}
-use Rattle.vm_core.specs.PageOf.{core_of}
+use Rattle.std.proofs.Common.{◌*◌, ◌++◌, ◌+◌, ◌≡◌, ◌≤◌, Bool, drop, List, ℕ}
+use Rattle.vm_core.specs.Prelude.{core_of}
 use Rattle.vm_replay.specs.Played.{Played, PlayedFromStart}
 use Rattle.vm_replay.proofs.playing.play.Given as goal
 

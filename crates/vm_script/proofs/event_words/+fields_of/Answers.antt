@@ -1,6 +1,6 @@
 use Rattle.std.proofs.Common.{arith}
-use Rattle.vm_script.proofs.FieldLists.{no_split, split_fields, read_more}
 use Rattle.vm_script.proofs.event_words.+fields_of.Goals as goal
+use Rattle.vm_script.proofs.FieldLists.{no_split, read_more, split_fields}
 
 pub returns-in_default-cut : goal.returns-in_default-cut
 returns-in_default-cut t c = λ values is e.

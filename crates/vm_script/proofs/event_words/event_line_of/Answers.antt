@@ -1,10 +1,9 @@
-use Rattle.std.proofs.Common.{◌≡◌, ap, sym, subst, ◌∙◌}
+use Rattle.std.proofs.Common.{◌∙◌, ◌≡◌, ap, subst, sym}
+use Rattle.vm_script.specs.{EventWords.used, Verbs.kinds_of}
 use Rattle.vm_script.specs.EventLines.{AreFields, fields_text, form}
-use Rattle.vm_script.specs.EventWords.{used}
-use Rattle.vm_script.specs.Verbs.{kinds_of}
+use Rattle.vm_script.proofs.event_words.event_line_of.Goals as goal
 use Rattle.vm_script.proofs.EventTexts.{cut_line, made_line, other_rest}
 use Rattle.vm_script.proofs.FieldLists.{fields_narrow}
-use Rattle.vm_script.proofs.event_words.event_line_of.Goals as goal
 
 pub returns-in_default-verb_of : goal.returns-in_default-verb_of
 returns-in_default-verb_of c = λ line is e. c.in_default-verb_of.ensures (form line).0 tt (cut_line _ _ _ line c.in-Some.ensures e).0

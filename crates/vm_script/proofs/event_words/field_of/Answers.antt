@@ -1,8 +1,8 @@
-use Rattle.std.proofs.Common.{◌≡◌, IsTrue, subst, sym, ◌∙◌}
+use Rattle.std.proofs.Common.{◌∙◌, ◌≡◌, IsTrue, subst, sym}
 use Rattle.std.proofs.lemmas.Fmt.{decimal_injective}
 use Rattle.vm_script.specs.EventLines.{IsField}
-use Rattle.vm_script.proofs.FieldLists.{field_small, plain_text}
 use Rattle.vm_script.proofs.event_words.field_of.Goals as goal
+use Rattle.vm_script.proofs.FieldLists.{field_small, plain_text}
 
 pub returns-else-is_field : goal.returns-else-is_field
 returns-else-is_field c = λ value is e.

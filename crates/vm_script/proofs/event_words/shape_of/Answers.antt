@@ -1,8 +1,8 @@
-use Rattle.std.proofs.Common.{◌≡◌, codes, rules, ap₂, sym, subst, ◌∙◌, ◌++◌, ◌∷◌, List, ℕ}
+use Rattle.std.proofs.Common.{◌++◌, ◌∙◌, ◌∷◌, ◌≡◌, ap₂, codes, List, rules, subst, sym, ℕ}
 use Rattle.vm_core.specs.declared.event.CoreShape.{CoreShape}
 use Rattle.vm_script.specs.EventLines.{IsShape}
-use Rattle.vm_script.proofs.EventTexts.{are_counts, cut_shape, largest, numbers, one_shape}
 use Rattle.vm_script.proofs.event_words.shape_of.Goals as goal
+use Rattle.vm_script.proofs.EventTexts.{are_counts, cut_shape, largest, numbers, one_shape}
 
 pub returns-then-ne : goal.returns-then-ne
 returns-then-ne c = λ shape is e. let k = rw ((cut_shape _ _ _ shape c.in-Some.ensures e).0, c.as_slice.ensures) at c.if-ne.ensures in cc

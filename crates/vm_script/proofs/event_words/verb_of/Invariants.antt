@@ -1,5 +1,5 @@
-use Rattle.std.proofs.Common.{◌≢◌, take}
 use Rattle.std.specs.List.{AllByRecursion}
+use Rattle.std.proofs.Common.{◌≢◌, take}
 use Rattle.vm_script.specs.Verbs.{verb_name}
 use Rattle.vm_script.proofs.event_words.verb_of.Given as goal
 

@@ -1,4 +1,4 @@
-use Rattle.std.proofs.Common.{inl, refl, arith}
+use Rattle.std.proofs.Common.{arith, inl, refl}
 use Rattle.vm_script.proofs.EventRuns.{bad_event, no_shape}
 use Rattle.vm_script.proofs.events.read_events.Goals as goal
 

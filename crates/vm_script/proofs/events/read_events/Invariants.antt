@@ -1,6 +1,5 @@
-use Rattle.std.proofs.Common.{◌≡◌, ◌+◌, ◌≤◌, length}
-use Rattle.vm_script.specs.Events.{most_event_lines}
-use Rattle.vm_script.specs.Scripts.{most_bytes}
+use Rattle.std.proofs.Common.{◌+◌, ◌≡◌, ◌≤◌, length}
+use Rattle.vm_script.specs.{Events.most_event_lines, Scripts.most_bytes}
 use Rattle.vm_script.proofs.EventRuns.{IsEventsRead}
 use Rattle.vm_script.proofs.events.read_events.Given as goal
 

@@ -1,5 +1,5 @@
-use Rattle.vm_script.proofs.Plans.{cut_fault, no_fault}
 use Rattle.vm_script.proofs.faults.fault_of.Goals as goal
+use Rattle.vm_script.proofs.Plans.{cut_fault, no_fault}
 
 pub returns-in_default : goal.returns-in_default
 returns-in_default c = λ fault is e. no_fault _ fault c.in_default.ensures e

@@ -1,5 +1,5 @@
-use Rattle.vm_script.proofs.Plans.{all_read, bad_entry, bad_last}
 use Rattle.vm_script.proofs.faults.faults_of.Goals as goal
+use Rattle.vm_script.proofs.Plans.{all_read, bad_entry, bad_last}
 
 pub returns-in_default-fault_of : goal.returns-in_default-fault_of
 returns-in_default-fault_of c = bad_entry c.args.word.now c.entries.rest.now _ _ c.entries.plan.items c.entries.invariant c.in-Some.ensures c.in_default-fault_of.ensures

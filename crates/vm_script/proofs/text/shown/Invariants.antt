@@ -1,4 +1,4 @@
-use Rattle.std.proofs.Common.{◌≡◌, ◌++◌, string_bytes, drop}
+use Rattle.std.proofs.Common.{◌++◌, ◌≡◌, drop, string_bytes}
 use Rattle.vm_script.specs.Texts.{shown_text}
 use Rattle.vm_script.proofs.text.shown.Given as goal
 

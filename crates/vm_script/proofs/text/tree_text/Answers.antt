@@ -1,4 +1,4 @@
-use Rattle.std.proofs.Common.{◌≡◌, string_bytes, append_assoc}
+use Rattle.std.proofs.Common.{◌≡◌, append_assoc, string_bytes}
 use Rattle.vm_script.specs.Texts.{tree_line}
 use Rattle.vm_script.proofs.text.tree_text.Goals as goal
 

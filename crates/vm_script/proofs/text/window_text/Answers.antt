@@ -1,4 +1,4 @@
-use Rattle.std.proofs.Common.{◌≡◌, ◌∙◌, string_bytes, ap, append_assoc}
+use Rattle.std.proofs.Common.{◌∙◌, ◌≡◌, ap, append_assoc, string_bytes}
 use Rattle.vm_script.specs.Texts.{shown_text}
 use Rattle.vm_script.proofs.text.window_text.Goals as goal
 

@@ -1,6 +1,0 @@
-use Rattle.std.proofs.Common.{[], None}
-use Rattle.vm_cli.proofs.Making.{make_reads_none}
-use Rattle.vm_cli.proofs.make.run_make.Goals as goal
-
-pub returns-in-Err-clause-cause : goal.returns-in-Err-clause-cause
-returns-in-Err-clause-cause c = λ takes two. absurd (make_reads_none c.args.make.now c.in-Err.stop (c.in-Err.ensures None []) two)

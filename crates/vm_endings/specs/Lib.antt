@@ -1,0 +1,16 @@
+pub mod Files
+pub mod Images
+pub mod Scripts
+pub mod Limits
+pub mod Stops
+pub mod Tests
+pub mod Deliveries
+pub mod Replies
+pub mod Made
+pub mod Runs
+pub mod Makes
+pub mod Checks
+pub mod Churns
+pub mod Replays
+pub mod Commands
+pub mod Endings

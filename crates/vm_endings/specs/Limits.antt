@@ -1,0 +1,32 @@
+-- The limits of the numbers of a command line.
+use Rattle.std.specs.Prelude.{◌&&◌, ◌*◌, Bool, leb, length, List, ℕ}
+use Rattle.vm_image.specs.declared.blocks.PlannedFault.{PlannedFault}
+use Rattle.vm_core.specs.Prelude.{MAX_VERSION}
+
+-- 1 to 64 workers
+abbrev pub are_workers : ℕ → Bool
+are_workers workers = leb 1 workers && leb workers 64
+
+-- 64 to 65,536 frames, and eight for each worker
+abbrev pub are_frames : ℕ → ℕ → Bool
+are_frames workers frames = leb 64 frames && (leb frames 65536 && leb (8 * workers) frames)
+
+-- a version that a page can have
+abbrev pub is_version : ℕ → Bool
+is_version version = leb version MAX_VERSION
+
+-- 2 to 65,536 pages
+abbrev pub are_pages : ℕ → Bool
+are_pages pages = leb 2 pages && leb pages 65536
+
+-- at most 1,000,000 pairs in a page file that is made
+abbrev pub are_pairs_to_make : ℕ → Bool
+are_pairs_to_make pairs = leb pairs 1000000
+
+-- 1 to 100,000 pairs that a churn begins with
+abbrev pub are_pairs_to_churn : ℕ → Bool
+are_pairs_to_churn pairs = leb 1 pairs && leb pairs 100000
+
+-- at most 64 entries of planned failures
+abbrev pub are_entries : List PlannedFault → Bool
+are_entries plan = leb (length plan) 64

@@ -1,0 +1,41 @@
+-- The lines of workers' answers.
+use Rattle.std.specs.Prelude.{[], ◌∷◌, ◌≡◌, Err, length, List, Ok, Result, ℕ}
+use Rattle.vm_map.specs.{declared.call.Call.Call, declared.call.Reply.Reply}
+use Rattle.vm_tree_rule.specs.declared.fault.TreeFault.{TreeFault}
+use Rattle.vm_tree_rule.specs.declared.fault.TreeFault.TheVariants.{Device, Full, Worn}
+use Rattle.vm_serve.specs.Served.{TreeEnd}
+use Rattle.vm_script.specs.{declared.text.Line.Line, Texts.counters_line}
+use Rattle.vm_script.specs.declared.text.Line.TheVariants as lines
+
+abbrev pub fault_line : TreeFault → Line
+fault_line (Device page count) = lines.Fault page
+fault_line (Full pages) = lines.Full
+fault_line (Worn page) = lines.Worn page
+
+-- the line of a call: its reply, or why it has none
+abbrev pub line_in : Call → Result Reply TreeFault → Line
+line_in call (Ok reply) = lines.Said (record { call = call; reply = reply })
+line_in call (Err fault) = fault_line fault
+
+-- a worker's lines, one for each call with its answer
+abbrev pub lines_in : List Call → List (Result Reply TreeFault) → List Line
+lines_in [] answers = []
+lines_in (call ∷ calls) [] = []
+lines_in (call ∷ calls) (answer ∷ answers) = line_in call answer ∷ lines_in calls answers
+
+-- all workers' lines
+abbrev pub all_lines : List (List Call) → List (List (Result Reply TreeFault)) → List (List Line)
+all_lines [] replies = []
+all_lines (calls ∷ lists) [] = []
+all_lines (calls ∷ lists) (answers ∷ replies) = lines_in calls answers ∷ all_lines lists replies
+
+-- the counters of the device, as the end of the pool keeps them, and how many pages were evicted
+abbrev pub counters_of : TreeEnd → ℕ → List ℕ
+counters_of end evicted = counters_line end.reads end.writes end.faults evicted
+
+-- each list has an answer for each of its calls
+abbrev pub AreMatched : List (List Call) → List (List (Result Reply TreeFault)) → Type 0
+AreMatched [] [] = Unit {0}
+AreMatched [] (answers ∷ replies) = ⊥
+AreMatched (calls ∷ lists) [] = ⊥
+AreMatched (calls ∷ lists) (answers ∷ replies) = (length answers ≡ length calls) × AreMatched lists replies

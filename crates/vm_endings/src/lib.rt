@@ -1,0 +1,10 @@
+//! How commands end: what each asks before it does anything, what stops it, what it gives, and how that goes out; the texts of answers and rows.
+//! The definitions of what the commands promise stand here, and the few functions that say a stop and let out what is given.
+#![tactic(auto)]
+
+pub mod delivery;
+pub mod ends;
+pub mod limits;
+pub mod replies;
+pub mod stop;
+pub mod undone;

@@ -1,0 +1,56 @@
+//! The limits of the numbers of a command line.
+
+ghost use Rattle.std.specs.Prelude.{◌≡◌};
+ghost use Rattle.vm_endings.specs.Limits.{are_entries, are_frames, are_pages, are_pairs_to_churn, are_pairs_to_make, are_workers, is_version};
+
+use vm_core::MAX_VERSION;
+use vm_image::PlannedFault;
+
+/// Whether there are 1 to 64 workers.
+pub fn are_workers(workers: u64) -> bool
+    ensures { result ≡ are_workers workers }
+{
+    1 <= workers && workers <= 64
+}
+
+/// Whether there are 64 to 65,536 frames, and eight for each worker.
+pub fn are_frames(workers: u64, frames: u64) -> bool
+    ensures { result ≡ are_frames workers frames }
+{
+    64 <= frames && (frames <= 65_536 && workers <= frames / 8)
+}
+
+/// Whether a page can have this version.
+pub fn is_version(version: u64) -> bool
+    ensures { result ≡ is_version version }
+{
+    version <= MAX_VERSION
+}
+
+/// Whether there are 2 to 65,536 pages.
+pub fn are_pages(pages: u64) -> bool
+    ensures { result ≡ are_pages pages }
+{
+    2 <= pages && pages <= 65_536
+}
+
+/// Whether a page file can be made of so many pairs: at most 1,000,000.
+pub fn are_pairs_to_make(pairs: u64) -> bool
+    ensures { result ≡ are_pairs_to_make pairs }
+{
+    pairs <= 1_000_000
+}
+
+/// Whether a churn can begin with so many pairs: 1 to 100,000.
+pub fn are_pairs_to_churn(pairs: u64) -> bool
+    ensures { result ≡ are_pairs_to_churn pairs }
+{
+    1 <= pairs && pairs <= 100_000
+}
+
+/// Whether there are at most 64 entries of planned failures.
+pub fn are_entries(plan: &[PlannedFault]) -> bool
+    ensures { result ≡ are_entries plan.now }
+{
+    plan.len() <= 64
+}

@@ -1,0 +1,27 @@
+-- What the tests of a make ask for.
+use Rattle.std.proofs.Common.{◌≡◌, ◌≢◌, ◌+◌, ℕ, zero, suc, Bool, List, [], ◌∷◌, length, Option, None, refl, arith, length-append}
+use Rattle.vm_io.specs.Shown.{Shown}
+use Rattle.vm_words.specs.declared.Command.TheVariants as commands
+use Rattle.vm_words.specs.declared.Make.{Make}
+use Rattle.vm_endings.specs.declared.stop.Quantity.{Quantity}
+use Rattle.vm_endings.specs.declared.stop.Stop.{Stop}
+use Rattle.vm_endings.specs.declared.stop.Stop.TheVariants.{Shape, TooFew}
+use Rattle.vm_endings.specs.Commands.{order_of}
+use Rattle.vm_endings.specs.Stops.{status_of}
+use Rattle.vm_endings.specs.Tests.{Fails, StopsAt, here, past, room, within}
+
+-- no test of a make is of a file, so none fails because a file was not read
+number_status : (shown : Option Shown) (failed : List ℕ) (quantity : Quantity) (holds : Bool) (stop : Stop) → Fails shown failed (within quantity holds) stop → status_of stop ≢ 2
+number_status shown failed quantity holds (Shape other) f = λ two. absurd (omega (arith, two))
+number_status shown failed quantity holds _ f = absurd f
+
+room_status : (shown : Option Shown) (failed : List ℕ) (pages pairs : ℕ) (stop : Stop) → Fails shown failed (room pages pairs) stop → status_of stop ≢ 2
+room_status shown failed pages pairs (TooFew there wanted) f = λ two. absurd (omega (arith, two))
+room_status shown failed pages pairs _ f = absurd f
+
+-- so a make stops for another cause than that
+pub make_reads_none : (make : Make) (stop : Stop) → StopsAt None [] (order_of (commands.Make make)) stop → status_of stop ≢ 2
+make_reads_none make stop (here f) = number_status None [] _ _ stop f
+make_reads_none make stop (past p (here f)) = number_status None [] _ _ stop f
+make_reads_none make stop (past p (past q (here f))) = room_status None [] make.pages make.pairs stop f
+make_reads_none make stop (past p (past q (past r none))) = elim none [ ]

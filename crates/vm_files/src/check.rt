@@ -1,0 +1,57 @@
+//! The command `check`: a page file's rows and size.
+
+ghost use Rattle.std.specs.Prelude.{◌≡◌, ◌≤◌, IfOk};
+ghost use Rattle.vm_script.specs.Texts.{check_text};
+ghost use Rattle.vm_words.specs.declared.Command.TheVariants as commands;
+ghost use Rattle.vm_endings.specs.Deliveries.{content_of};
+ghost use Rattle.vm_endings.specs.Endings.{AnswersCommand, HasReadCause};
+ghost use Rattle.vm_endings.specs.declared.ends.Ends.{Ends};
+
+use crate::reading::{Stored, read_tree};
+use std::alloc::{AllocError, Global};
+use vm_check::Rows;
+use vm_endings::delivery::Delivery;
+use vm_endings::replies::add_rows;
+use vm_endings::stop::Stop;
+use vm_endings::undone::Undone;
+use vm_io::host::Host;
+use vm_script::text::tree_text;
+use vm_words::Check;
+
+// The text of a tree's rows and of its size.
+fn text_of(alloc: Global, rows: &Rows) -> Result<Vec<u8>, AllocError>
+    ensures { IfOk result (λ v. v.items ≡ check_text rows.now.pairs.items rows.now.height rows.now.used) }
+{
+    let mut out = Vec::new(alloc);
+    add_rows(alloc, rows.pairs.as_slice(), &mut out)?;
+    tree_text(
+        alloc,
+        rows.height,
+        rows.used,
+        rows.pairs.len() as u64,
+        &mut out,
+    )?;
+    Ok(out)
+}
+
+/// Reads and checks the page file, and builds the text.
+pub fn run_check<'a, H: Host>(
+    alloc: Global,
+    host: &mut H,
+    check: &Check<'a>,
+) -> Result<Delivery<'a>, Undone<Stop<'a>>>
+    ensures gives { (same : Ends) → AnswersCommand content_of (commands.Check check.now) (H.last host.new) (H.shown host.old) same same result }
+    ensures shown { H.shown host.new ≡ H.shown host.old }
+    ensures puts { H.gives host.new ≡ H.gives host.old }
+    ensures later { H.takes host.old ≤ H.takes host.new }
+    ensures cause { HasReadCause (H.takes host.old) (H.takes host.new) result }
+{
+    let Stored { image: _, rows } = match read_tree(alloc, host, check.file) {
+        Ok(stored) => stored,
+        Err(undone) => return Err(undone),
+    };
+    match text_of(alloc, &rows) {
+        Ok(text) => Ok(Delivery::line(text, 0)),
+        Err(AllocError) => Err(Undone::Memory),
+    }
+}

@@ -1,0 +1,7 @@
+//! The commands that have no workers, each up to what goes out: `make`, `check` and `replay`; and the readers of page files and scripts.
+#![tactic(auto)]
+
+pub mod check;
+pub mod make;
+pub mod reading;
+pub mod replay;

@@ -1,0 +1,109 @@
+//! The command `make`: a page file built of numbered pairs.
+
+ghost use Rattle.std.specs.Prelude.{◌≡◌, ◌≤◌, ℕ, List, Option, IfOk, slice_index};
+ghost use Rattle.vm_io.specs.Shown.{Shown};
+ghost use Rattle.vm_page.specs.Pages.{page_at};
+ghost use Rattle.vm_script.specs.Texts.{made_line};
+ghost use Rattle.vm_tree_model.specs.Reason.{used_pages};
+ghost use Rattle.vm_words.specs.declared.Command.TheVariants as commands;
+ghost use Rattle.vm_endings.specs.Deliveries.{content_of};
+ghost use Rattle.vm_endings.specs.Endings.{AnswersCommand, HasReadCause};
+ghost use Rattle.vm_endings.specs.Makes.{ToldMake};
+ghost use Rattle.vm_files.specs.Readings.{TellsSizes};
+ghost use Rattle.vm_endings.specs.declared.ends.Ends.{Ends};
+
+use std::alloc::{AllocError, Global};
+use vm_build::{needed, numbered_image};
+use vm_endings::delivery::{Delivery, File};
+use vm_endings::limits::{are_pages, are_pairs_to_make};
+use vm_endings::stop::{Quantity, Stop};
+use vm_endings::undone::Undone;
+use vm_image::{Image, is_free};
+use vm_script::text::made_text;
+use vm_words::Make;
+
+/// How many pages a page file has, 2 to 65,536, and how many pairs its tree holds, at most 1,000,000.
+#[derive(Clone, Copy)]
+pub struct Sizes {
+    pub pages: u32,
+    pub pairs: u32,
+}
+
+// The numbers, where they are within their limits and the pages are enough for the pairs.
+fn sizes_of<'a>(make: &Make<'a>) -> Result<Sizes, Stop<'a>>
+    ensures { TellsSizes make.now result }
+{
+    if !are_pages(make.pages) {
+        return Err(Stop::Shape(Quantity::Pages));
+    }
+    if !are_pairs_to_make(make.pairs) {
+        return Err(Stop::Shape(Quantity::Pairs));
+    }
+    let pages = make.pages as u32;
+    let pairs = make.pairs as u32;
+    let needed = needed(pairs);
+    if pages < needed {
+        return Err(Stop::TooFew { pages, needed });
+    }
+    Ok(Sizes { pages, pairs })
+}
+
+// How many pages are not all zero.
+fn used_in(image: &Image) -> u32
+    ensures { result ≡ used_pages image.now }
+{
+    let mut used = 0;
+    for p in 0..image.pages() {
+        if !is_free(image.page(p)) {
+            used += 1;
+        }
+    }
+    used
+}
+
+// The line that tells an image's size.
+fn text_of(alloc: Global, pages: u32, image: &Image) -> Result<Vec<u8>, AllocError>
+    ensures { IfOk result (λ v. v.items ≡ made_line pages (used_pages image.now) (slice_index (page_at image.now 0) 2)) }
+{
+    // Any call on the image tells that it has a page 0.
+    let _pages = image.pages();
+    let mut out = Vec::new(alloc);
+    made_text(alloc, pages, used_in(image), image.word(0, 2), &mut out)?;
+    Ok(out)
+}
+
+// The file, and the line that tells its size.
+fn made<'a>(alloc: Global, make: &Make<'a>, sizes: Sizes) -> Result<Delivery<'a>, AllocError>
+    requires sizes { TellsSizes make.now (Ok sizes) }
+    ensures { IfOk result (λ delivery. ToldMake make.now (content_of delivery) × (delivery.status ≡ 0)) }
+{
+    let image = numbered_image(alloc, sizes.pages, make.seed, sizes.pairs)?;
+    let text = text_of(alloc, sizes.pages, &image)?;
+    let Ok(bytes) = image.to_bytes(alloc) else {
+        return Err(AllocError);
+    };
+    let file = File {
+        name: make.file,
+        bytes,
+    };
+    Ok(Delivery {
+        file: Some(file),
+        text,
+        status: 0,
+    })
+}
+
+/// Tests the numbers, builds the page file and the text. It asks the host for nothing.
+pub fn run_make<'a>(alloc: Global, make: &Make<'a>) -> Result<Delivery<'a>, Undone<Stop<'a>>>
+    ensures gives { (shown : Option Shown) (failed : List ℕ) (same : Ends) → AnswersCommand content_of (commands.Make make.now) failed shown same same result }
+    ensures cause { (takes : ℕ) → HasReadCause takes takes result }
+{
+    let sizes = match sizes_of(make) {
+        Ok(sizes) => sizes,
+        Err(stop) => return Err(Undone::Stopped(stop)),
+    };
+    match made(alloc, make, sizes) {
+        Ok(delivery) => Ok(delivery),
+        Err(AllocError) => Err(Undone::Memory),
+    }
+}

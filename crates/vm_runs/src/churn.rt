@@ -1,0 +1,154 @@
+//! The command `churn`: many calls, made by workers on a tree of numbered pairs.
+
+ghost use Rattle.std.specs.Prelude.{◌<◌, ◌^◌, ◌≡◌, ◌≤◌, IfOk, length, List, Option, ℕ};
+ghost use Rattle.vm_io.specs.Shown.{Shown};
+ghost use Rattle.vm_churn.specs.{Calls.churn_count, Tallies.sum_values};
+ghost use Rattle.vm_script.specs.Texts.{churn_line};
+ghost use Rattle.vm_words.specs.declared.Command.TheVariants as commands;
+ghost use Rattle.vm_endings.specs.{Churns.ToldChurn, Deliveries.content_of, Endings.AnswersCommand, Endings.HasReadCause};
+ghost use Rattle.vm_endings.specs.declared.ends.Ends.TheVariants as kept;
+ghost use Rattle.vm_runs.specs.Loads.{asked, IsLoaded, IsWithinLimits, TellsLoad};
+
+use crate::outcome::{Outcome, stored_in, told};
+use std::alloc::{AllocError, Global};
+use std::sync::Wait;
+use std::thread::Threads;
+use vm_build::{needed, numbered_image};
+use vm_churn::{Tally, calls_of, sum_of, tallies_for, tally_all};
+use vm_core::Memory;
+use vm_drive::gate::Gate;
+use vm_endings::delivery::Delivery;
+use vm_endings::ends::Ends;
+use vm_endings::limits::{are_frames, are_pairs_to_churn, are_workers};
+use vm_endings::stop::{Quantity, Stop};
+use vm_endings::undone::Undone;
+use vm_files::reading::Stored;
+use vm_map::call::Pair;
+use vm_script::text::{Churned, churn_text};
+use vm_serve::{ServedInto, serve_into};
+use vm_words::Churn;
+
+/// The numbers of a churn: at most 100,000 pairs, 1 to 64 workers, 64 to 65,536 frames and eight for each worker.
+#[derive(Clone, Copy)]
+pub struct Load {
+    pub pairs: u32,
+    pub seed: u64,
+    pub workers: u32,
+    pub frames: u32,
+}
+
+// The numbers, where they are within their limits; else the first that is not.
+fn load_of(churn: &Churn) -> Result<Load, Quantity>
+    ensures { TellsLoad churn.now result }
+{
+    if !are_pairs_to_churn(churn.pairs) {
+        return Err(Quantity::Pairs);
+    }
+    if !are_workers(churn.workers) {
+        return Err(Quantity::Workers);
+    }
+    if !are_frames(churn.workers, churn.frames) {
+        return Err(Quantity::Frames);
+    }
+    Ok(Load {
+        pairs: churn.pairs as u32,
+        seed: churn.seed,
+        workers: churn.workers as u32,
+        frames: churn.frames as u32,
+    })
+}
+
+// Builds the tree, and has the calls made on it. Of the answers only tallies are kept, and of the image only its blocks: a churn's memory is
+// mostly that of its pages.
+fn served<R: Threads + Wait + Sync, G: Gate + Sync>(
+    rt: &R,
+    alloc: Global,
+    load: Load,
+    gate: &G,
+) -> Result<ServedInto<Tally>, AllocError>
+    requires { IsWithinLimits load }
+    ensures { IfOk result (λ s. IsLoaded load s) }
+{
+    let pages = 4 * needed(load.pairs) + 64;
+    let image = numbered_image(alloc, pages, load.seed, load.pairs)?;
+    // Any call on the image tells that it has no more pages than a page file may have.
+    let _pages = image.pages();
+    let lists = calls_of(alloc, load.pairs, load.seed, load.workers)?;
+    let lists = lists.as_slice();
+    let tallies = tallies_for(alloc, lists)?;
+    match serve_into(rt, alloc, image, 0, load.frames, lists, gate, tallies) {
+        Ok(served) => Ok(served),
+        Err(Memory) => Err(AllocError),
+    }
+}
+
+// The line that tells the counts.
+fn text_of(alloc: Global, pairs: u32, tally: Tally, rows: &[Pair]) -> Result<Vec<u8>, AllocError>
+    requires pairs { pairs ≤ 100000 }
+    requires fits { sum_values rows.now < 2 ^ 64 }
+    ensures { IfOk result (λ v. v.items ≡ churn_line pairs (churn_count pairs) tally.some tally.new tally.gone (length rows.now) (sum_values rows.now)) }
+{
+    let calls = 2 * u64::from(pairs) + u64::from(pairs) / 2;
+    let Tally { some, new, gone } = tally;
+    let churned = Churned {
+        pairs,
+        calls,
+        some,
+        new,
+        gone,
+        rows: rows.len() as u64,
+        sum: sum_of(rows),
+    };
+    let mut out = Vec::new(alloc);
+    churn_text(alloc, churned, &mut out)?;
+    Ok(out)
+}
+
+// Has the calls made, and builds what is told. The only error is want of memory.
+fn churned<'a, R: Threads + Wait + Sync, G: Gate + Sync>(
+    rt: &R,
+    alloc: Global,
+    load: Load,
+    gate: &G,
+) -> Result<Outcome<'a>, AllocError>
+    requires { IsWithinLimits load }
+    ensures { IfOk result (λ outcome. ToldChurn (asked load) (content_of outcome.delivery) (kept.Tree outcome.ended) × (outcome.delivery.status ≡ 0)) }
+{
+    let ServedInto {
+        kept,
+        evicted: _,
+        report: _,
+        blocks,
+        ended,
+    } = served(rt, alloc, load, gate)?;
+    let tally = tally_all(kept.as_slice());
+    let Stored { image: _, rows } = stored_in(alloc, blocks.as_slice())?;
+    let text = text_of(alloc, load.pairs, tally, rows.pairs.as_slice())?;
+    Ok(told(None, text, 0, ended))
+}
+
+/// Tests the numbers, builds the tree, has the calls made, and builds the text. It asks the host for nothing. The history is kept in
+/// `ends` once nothing can fail any more but the host.
+pub fn run_churn<'a, R: Threads + Wait + Sync, G: Gate + Sync>(
+    rt: &R,
+    alloc: Global,
+    churn: &Churn,
+    gate: &G,
+    ends: &mut Ends,
+) -> Result<Delivery<'a>, Undone<Stop<'a>>>
+    ensures gives { (shown : Option Shown) (failed : List ℕ) → AnswersCommand content_of (commands.Churn churn.now) failed shown ends.old ends.new result }
+    ensures cause { (takes : ℕ) → HasReadCause takes takes result }
+{
+    let load = match load_of(churn) {
+        Ok(load) => load,
+        Err(quantity) => return Err(Undone::Stopped(Stop::Shape(quantity))),
+    };
+    match churned(rt, alloc, load, gate) {
+        Ok(outcome) => {
+            let Outcome { delivery, ended } = outcome;
+            *ends = Ends::Tree(ended);
+            Ok(delivery)
+        }
+        Err(AllocError) => Err(Undone::Memory),
+    }
+}

@@ -1,0 +1,6 @@
+//! The commands whose workers make calls on a tree, each up to what goes out: `run` and `churn`.
+#![tactic(auto)]
+
+pub mod churn;
+mod outcome;
+pub mod script;

@@ -1,0 +1,201 @@
+//! What the workers' calls come to, with the text that tells it and the file that is kept.
+
+ghost use Rattle.std.specs.Prelude.{◌*◌, ◌++◌, ◌≡◌, ◌≤◌, IfOk, length};
+ghost use Rattle.vm_tree_model.specs.Tree.{IsTree, map_of};
+ghost use Rattle.vm_image.specs.Blocks.{pages_of_blocks};
+ghost use Rattle.vm_core.specs.Prelude.{MAX_VERSION};
+ghost use Rattle.vm_drive.specs.Drives.{AreAskable, AreFew, items_of};
+ghost use Rattle.vm_script.specs.Texts.{rows_text, unflushed_line, worker_replies};
+ghost use Rattle.vm_endings.specs.Deliveries.{content_of, written_of};
+ghost use Rattle.vm_endings.specs.Replies.{all_lines, AreMatched, counters_of};
+ghost use Rattle.vm_endings.specs.Runs.{IsKept, IsOutcome, version_or};
+
+use std::alloc::{AllocError, Global};
+use std::sync::Wait;
+use std::thread::Threads;
+use vm_block::MemBlock;
+use vm_check::{CheckFault, check};
+use vm_core::Memory;
+use vm_drive::gate::Gate;
+use vm_drive::worker::Answer;
+use vm_endings::delivery::{Delivery, File};
+use vm_endings::replies::{add_replies, add_rows};
+use vm_files::reading::Stored;
+use vm_image::{Image, image_of};
+use vm_map::call::{Call, Pair};
+use vm_pool::Ended;
+use vm_script::text::{counters_text, unflushed_text};
+use vm_serve::{Served, serve};
+use vm_tree_rule::Tree;
+use vm_words::Run;
+
+/// What a run gives, and what is kept of it.
+#[derive(Drop)]
+pub struct Outcome<'a> {
+    pub delivery: Delivery<'a>,
+    pub ended: Ended<Tree>,
+}
+
+// The text of the replies, of the rows and of the counters.
+fn whole_text(
+    alloc: Global,
+    lists: &[Vec<Call>],
+    replies: &[Vec<Answer>],
+    rows: &[Pair],
+    ended: &Ended<Tree>,
+    evicted: u64,
+) -> Result<Vec<u8>, AllocError>
+    requires few { AreFew (items_of lists.now) }
+    requires workers { length lists.now ≤ 64 }
+    requires matched { AreMatched (items_of lists.now) (items_of replies.now) }
+    ensures { IfOk result (λ v. v.items ≡ worker_replies 0 (all_lines (items_of lists.now) (items_of replies.now)) ++ rows_text rows.now ++ counters_of ended.now evicted) }
+{
+    let mut out = Vec::new(alloc);
+    add_replies(alloc, lists, replies, &mut out)?;
+    add_rows(alloc, rows, &mut out)?;
+    counters_text(
+        alloc,
+        ended.reads(),
+        ended.writes(),
+        ended.faults(),
+        evicted,
+        &mut out,
+    )?;
+    Ok(out)
+}
+
+// The text of the replies, of the page whose write failed and of the counters.
+fn cut_text(
+    alloc: Global,
+    lists: &[Vec<Call>],
+    replies: &[Vec<Answer>],
+    page: u32,
+    ended: &Ended<Tree>,
+    evicted: u64,
+) -> Result<Vec<u8>, AllocError>
+    requires few { AreFew (items_of lists.now) }
+    requires workers { length lists.now ≤ 64 }
+    requires matched { AreMatched (items_of lists.now) (items_of replies.now) }
+    ensures { IfOk result (λ v. v.items ≡ worker_replies 0 (all_lines (items_of lists.now) (items_of replies.now)) ++ unflushed_line page ++ counters_of ended.now evicted) }
+{
+    let mut out = Vec::new(alloc);
+    add_replies(alloc, lists, replies, &mut out)?;
+    unflushed_text(alloc, page, &mut out)?;
+    counters_text(
+        alloc,
+        ended.reads(),
+        ended.writes(),
+        ended.faults(),
+        evicted,
+        &mut out,
+    )?;
+    Ok(out)
+}
+
+/// The pages that the blocks hold, and the rows of the tree that they are.
+pub fn stored_in(alloc: Global, blocks: &[MemBlock]) -> Result<Stored, AllocError>
+    requires tree { IsTree (pages_of_blocks blocks.now) }
+    requires some { 2 ≤ length blocks.now }
+    requires most { length blocks.now ≤ 65536 }
+    ensures image { IfOk result (λ stored. stored.image ≡ pages_of_blocks blocks.now) }
+    ensures rows { IfOk result (λ stored. stored.rows.pairs.items ≡ map_of (pages_of_blocks blocks.now)) }
+{
+    let Ok(image) = image_of(alloc, blocks) else {
+        return Err(AllocError);
+    };
+    match check(alloc, &image) {
+        Ok(rows) => Ok(Stored { image, rows }),
+        Err(CheckFault::BadPage { .. }) => unreachable!(),
+        Err(CheckFault::Memory) => Err(AllocError),
+    }
+}
+
+// The file that is to be kept, if one is.
+fn kept<'a>(
+    alloc: Global,
+    image: &Image,
+    keep: Option<&'a str>,
+) -> Result<Option<File<'a>>, AllocError>
+    requires { IsTree image.now }
+    ensures { IfOk result (λ file. IsKept keep.entry (map_of image.now) (written_of file)) }
+{
+    match keep {
+        Some(name) => match image.to_bytes(alloc) {
+            Ok(bytes) => Ok(Some(File { name, bytes })),
+            Err(_) => Err(AllocError),
+        },
+        None => Ok(None),
+    }
+}
+
+/// What is given and kept, put together.
+pub fn told<'a>(
+    file: Option<File<'a>>,
+    text: Vec<u8>,
+    status: u8,
+    ended: Ended<Tree>,
+) -> Outcome<'a>
+    ensures { result ≡ record { delivery = record { file = file.entry; text = text; status = status }; ended = ended } }
+{
+    Outcome {
+        delivery: Delivery { file, text, status },
+        ended,
+    }
+}
+
+/// Makes the workers' calls on the image's tree, and builds what is told and kept. The only error is want of memory.
+pub fn outcome_of<'a, R: Threads + Wait + Sync, G: Gate + Sync>(
+    rt: &R,
+    alloc: Global,
+    run: &Run<'a>,
+    image: &Image,
+    lists: &[Vec<Call>],
+    gate: &G,
+) -> Result<Outcome<'a>, AllocError>
+    requires tree { IsTree image.now }
+    requires plan { length run.now.options.fail.items ≤ 64 }
+    requires version { version_or run.now.options.first_version ≤ MAX_VERSION }
+    requires frames { (64 ≤ run.now.frames) × (run.now.frames ≤ 65536) × (8 * length lists.now ≤ run.now.frames) }
+    requires lists { (1 ≤ length lists.now) × (length lists.now ≤ 64) }
+    requires few { AreFew (items_of lists.now) }
+    requires askable { AreAskable (items_of lists.now) }
+    ensures { IfOk result (λ outcome. IsOutcome run.now image.now (items_of lists.now) (content_of outcome.delivery) outcome.ended) }
+{
+    // Any call on the image tells that it has no more pages than a page file may have.
+    let _pages = image.pages();
+    let version = run.options.first_version.unwrap_or(0);
+    let plan = run.options.fail.as_slice();
+    let served = match serve(
+        rt,
+        alloc,
+        image,
+        plan,
+        version,
+        run.frames as u32,
+        lists,
+        gate,
+    ) {
+        Ok(served) => served,
+        Err(Memory) => return Err(AllocError),
+    };
+    let Served {
+        replies,
+        evicted,
+        report,
+        blocks,
+        ended,
+    } = served;
+    match report.first {
+        Some(page) => {
+            let text = cut_text(alloc, lists, replies.as_slice(), page, &ended, evicted)?;
+            Ok(told(None, text, 7, ended))
+        }
+        None => {
+            let Stored { image, rows } = stored_in(alloc, blocks.as_slice())?;
+            let file = kept(alloc, &image, run.options.keep)?;
+            let rows = rows.pairs.as_slice();
+            let text = whole_text(alloc, lists, replies.as_slice(), rows, &ended, evicted)?;
+            Ok(told(file, text, 0, ended))
+        }
+    }
+}

@@ -1,0 +1,78 @@
+//! The command `run`: a script's calls, made by workers on the tree of a page file.
+
+ghost use Rattle.std.specs.Prelude.{◌≡◌, ◌≤◌};
+ghost use Rattle.vm_words.specs.declared.Command.TheVariants as commands;
+ghost use Rattle.vm_endings.specs.{Deliveries.content_of, Endings.AnswersCommand, Endings.HasReadCause};
+ghost use Rattle.vm_files.specs.Readings.{TellsLimits};
+
+use crate::outcome::{Outcome, outcome_of};
+use std::alloc::{AllocError, Global};
+use std::sync::Wait;
+use std::thread::Threads;
+use vm_drive::gate::Gate;
+use vm_endings::delivery::Delivery;
+use vm_endings::ends::Ends;
+use vm_endings::limits::{are_entries, are_frames, are_workers, is_version};
+use vm_endings::stop::{Quantity, Stop};
+use vm_endings::undone::Undone;
+use vm_files::reading::{Stored, read_calls, read_tree};
+use vm_io::host::Host;
+use vm_words::Run;
+
+// The number of workers, where the numbers are within their limits; else the first that is not.
+fn workers_of(run: &Run<'_>) -> Result<u32, Quantity>
+    ensures { TellsLimits run.now result }
+{
+    if !are_workers(run.workers) {
+        return Err(Quantity::Workers);
+    }
+    if !are_frames(run.workers, run.frames) {
+        return Err(Quantity::Frames);
+    }
+    if !is_version(run.options.first_version.unwrap_or(0)) {
+        return Err(Quantity::FirstVersion);
+    }
+    if !are_entries(run.options.fail.as_slice()) {
+        return Err(Quantity::Fail);
+    }
+    Ok(run.workers as u32)
+}
+
+/// Tests the numbers, reads image and script, makes the calls, and builds what is told. The history is kept in `ends` once nothing can fail
+/// any more but the host.
+#[tactic(auto, unfolding(vm_page::specs::Counts::count_more))]
+pub fn run_script<'a, R: Threads + Wait + Sync, H: Host, G: Gate + Sync>(
+    rt: &R,
+    alloc: Global,
+    host: &mut H,
+    run: &Run<'a>,
+    gate: &G,
+    ends: &mut Ends,
+) -> Result<Delivery<'a>, Undone<Stop<'a>>>
+    ensures gives { AnswersCommand content_of (commands.Run run.now) (H.last host.new) (H.shown host.old) ends.old ends.new result }
+    ensures shown { H.shown host.new ≡ H.shown host.old }
+    ensures puts { H.gives host.new ≡ H.gives host.old }
+    ensures later { H.takes host.old ≤ H.takes host.new }
+    ensures cause { HasReadCause (H.takes host.old) (H.takes host.new) result }
+{
+    let workers = match workers_of(run) {
+        Ok(workers) => workers,
+        Err(quantity) => return Err(Undone::Stopped(Stop::Shape(quantity))),
+    };
+    let Stored { image, rows: _ } = match read_tree(alloc, host, run.image) {
+        Ok(stored) => stored,
+        Err(undone) => return Err(undone),
+    };
+    let lists = match read_calls(alloc, host, run.script, workers) {
+        Ok(lists) => lists,
+        Err(undone) => return Err(undone),
+    };
+    match outcome_of(rt, alloc, run, &image, lists.as_slice(), gate) {
+        Ok(outcome) => {
+            let Outcome { delivery, ended } = outcome;
+            *ends = Ends::Tree(ended);
+            Ok(delivery)
+        }
+        Err(AllocError) => Err(Undone::Memory),
+    }
+}
