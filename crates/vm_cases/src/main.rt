@@ -1,8 +1,9 @@
-//! Cases of the program's commands that stand in files: page files, each as it is or with some words changed, lists of events, and scripts
-//! over the empty page file.
+//! Cases of the program's commands that stand in files: page files, each as it is or with some words changed, lists of events, scripts over the
+//! empty page file, and command lines.
 //!
 //! Each line of the file `list` is a case: the line is printed, then what the command says, then its status. A page file's line may go on
-//! with triples of a page, a word of it, and what stands there. A line that begins with `words` has a command line over no files.
+//! with triples of a page, a word of it, and what stands there. A line that begins with `words` has a command line over no files; one that begins
+//! with `over` has names of files, with commas between them, and then a command line, or two with ` ; ` between them, over one host with these.
 #![tactic(auto)]
 
 mod case;
@@ -47,9 +48,10 @@ fn play_list<R: Threads + Wait + Sync, H: Host>(
     for line in list.lines() {
         say(host, line.as_bytes())?;
         say(host, b"\n")?;
-        match line.strip_prefix("words ") {
-            Some(words) => play_words(rt, alloc, host, words)?,
-            None => play(rt, alloc, host, &Case::of(alloc, line)?)?,
+        match line.split_once(' ') {
+            Some(("words", words)) => play_lines(rt, alloc, host, Vec::new(alloc), words)?,
+            Some(("over", rest)) => play_over(rt, alloc, host, rest)?,
+            _ => play(rt, alloc, host, &Case::of(alloc, line)?)?,
         }
     }
     Ok(())
@@ -62,59 +64,86 @@ fn play<R: Threads + Wait + Sync, H: Host>(
     host: &mut H,
     case: &Case<'_>,
 ) -> Result<(), Unplayed> {
-    let mut bytes = file_of(alloc, host, case.file)?;
+    let Case { command, file, .. } = *case;
+    let mut bytes = file_of(alloc, host, file)?;
     case.change(bytes.as_mut_slice());
     let mut files = Vec::new(alloc);
-    add_file(alloc, &mut files, case.file, bytes)?;
-    if case.command != "script" {
-        return command(rt, alloc, host, files, &[case.command, case.file]);
+    add_file(alloc, &mut files, file, bytes)?;
+    let line = if command == "script" {
+        let empty = file_of(alloc, host, EMPTY)?;
+        add_file(alloc, &mut files, EMPTY, empty)?;
+        format!(in alloc; "run {EMPTY} {file} --workers 1 --frames 64")
+    } else {
+        format!(in alloc; "{command} {file}")
+    };
+    match line {
+        Ok(line) => play_lines(rt, alloc, host, files, line.as_str()),
+        Err(_) => Err(Unplayed),
     }
-    let empty = file_of(alloc, host, EMPTY)?;
-    add_file(alloc, &mut files, EMPTY, empty)?;
-    let words = ["run", EMPTY, case.file, "--workers", "1", "--frames", "64"];
-    command(rt, alloc, host, files, &words)
 }
 
-/// Plays a command line over a host without files.
-fn play_words<R: Threads + Wait + Sync, H: Host>(
+/// Plays command lines behind the names of their files.
+fn play_over<R: Threads + Wait + Sync, H: Host>(
     rt: &R,
     alloc: Global,
     host: &mut H,
-    line: &str,
+    rest: &str,
 ) -> Result<(), Unplayed> {
-    let mut words = Vec::new(alloc);
-    for word in line.split_whitespace() {
-        if words.push(word).is_err() {
-            return Err(Unplayed);
-        }
+    let Some((names, lines)) = rest.split_once(' ') else {
+        return Err(Unplayed);
+    };
+    let mut files = Vec::new(alloc);
+    for name in names.split(',') {
+        let bytes = file_of(alloc, host, name)?;
+        add_file(alloc, &mut files, name, bytes)?;
     }
-    command(rt, alloc, host, Vec::new(alloc), words.as_slice())
+    play_lines(rt, alloc, host, files, lines)
 }
 
-/// Performs a command over these files, and prints what it says and its status.
-fn command<R: Threads + Wait + Sync, H: Host>(
+/// Performs a command line over these files, or two with ` ; ` between them, and prints what is said and then each status.
+fn play_lines<R: Threads + Wait + Sync, H: Host>(
     rt: &R,
     alloc: Global,
     host: &mut H,
     files: Vec<(String, Vec<u8>)>,
-    line: &[&str],
+    lines: &str,
 ) -> Result<(), Unplayed> {
+    let Ok(mut own) = MemHost::new(alloc, files, MOST, &[]) else {
+        return Err(Unplayed);
+    };
+    let told = match lines.split_once(" ; ") {
+        Some((first, second)) => {
+            let first = perform(rt, alloc, &mut own, first)?;
+            let second = perform(rt, alloc, &mut own, second)?;
+            format!(in alloc; "status {first}\nstatus {second}\n")
+        }
+        None => {
+            let status = perform(rt, alloc, &mut own, lines)?;
+            format!(in alloc; "status {status}\n")
+        }
+    };
+    say(host, own.said())?;
+    match told {
+        Ok(told) => say(host, told.as_bytes()),
+        Err(_) => Err(Unplayed),
+    }
+}
+
+/// Performs a command line, and gives its status.
+fn perform<R: Threads + Wait + Sync>(
+    rt: &R,
+    alloc: Global,
+    host: &mut MemHost,
+    line: &str,
+) -> Result<u8, Unplayed> {
     let mut words = Vec::new(alloc);
-    for &word in line {
+    for word in line.split_whitespace() {
         if words.push(name_of(alloc, word)?).is_err() {
             return Err(Unplayed);
         }
     }
-    let Ok(mut own) = MemHost::new(alloc, files, MOST, &[]) else {
-        return Err(Unplayed);
-    };
     let mut ends = Ends::Nothing;
-    let status = run(rt, alloc, words.as_slice(), &mut own, &Open, &mut ends);
-    say(host, own.said())?;
-    let Ok(told) = format!(in alloc; "status {status}\n") else {
-        return Err(Unplayed);
-    };
-    say(host, told.as_bytes())
+    Ok(run(rt, alloc, words.as_slice(), host, &Open, &mut ends))
 }
 
 /// Adds a file to those of a host.

@@ -1,11 +1,9 @@
 //! Lists of calls for workers, and what the pass knows once their passes are joined into it.
-ghost use Rattle.std.specs.Prelude.{◌≡◌, ◌≤◌, IfOk, None, length};
 ghost use Rattle.std.specs.List.{AllByRecursion};
-ghost use Rattle.vm_drive.specs.Drives.{AreAskable, AreFew, items_of};
+ghost use Rattle.std.specs.Prelude.{◌≡◌, ◌≤◌, IfOk, length, None};
 ghost use Rattle.vm_map.specs.History.{IsAskable};
-ghost use Rattle.vm_step.specs.HeldFrames.{AreHeld};
-ghost use Rattle.vm_step.specs.Passes.{view};
-ghost use Rattle.vm_step.specs.Ready.{IsReady};
+ghost use Rattle.vm_step.specs.Prelude.{AreHeld, IsReady, view};
+ghost use Rattle.vm_drive.specs.Drives.{AreAskable, AreFew, items_of};
 
 use std::alloc::{AllocError, Global};
 use std::process::Abort;

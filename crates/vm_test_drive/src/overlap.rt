@@ -1,9 +1,7 @@
 //! A call is made and answered while another worker's device is being read: no lock is round the calls, or round the tree.
-ghost use Rattle.std.specs.Prelude.{◌≡◌, ◌≤◌, IfOk, false, length};
-ghost use Rattle.vm_rule.specs.Joins.{HoldsNoPage};
-ghost use Rattle.vm_rule.specs.Views.{IsWhole};
-ghost use Rattle.vm_step.specs.Passes.{view};
-ghost use Rattle.vm_step.specs.Ready.{IsReady};
+ghost use Rattle.std.specs.Prelude.{◌≡◌, ◌≤◌, false, IfOk, length};
+ghost use Rattle.vm_rule.specs.Prelude.{HoldsNoPage, IsWhole};
+ghost use Rattle.vm_step.specs.Prelude.{IsReady, view};
 
 use crate::calls::two_lists;
 use crate::trees::two_leaves;
@@ -81,7 +79,7 @@ struct Held<'a> {
 impl<'a> Block for Held<'a> {
     ghost use Rattle.std.specs.Prelude.{false};
     ghost use Rattle.std.proofs.Common.{arith};
-    ghost use Rattle.vm_block.specs.Memory.{stored_of};
+    ghost use Rattle.vm_rule.specs.Prelude.{stored_of};
 
     ghost tells = { false };
 

@@ -1,5 +1,5 @@
 //! One, two and four workers, with frames for all pages and with few.
-ghost use Rattle.std.specs.Prelude.{◌≤◌, ◌*◌};
+ghost use Rattle.std.specs.Prelude.{◌*◌, ◌≤◌};
 
 use crate::calls::{expect_lists, faults_in, shares};
 use crate::trees::{empty, open};

@@ -1,11 +1,9 @@
 //! Trees on the pages of an image, and pools over them.
 ghost use Rattle.std.specs.Prelude.{◌≡◌, ◌≤◌, IfOk, length};
-ghost use Rattle.vm_core.specs.Words.{MAX_VERSION};
-ghost use Rattle.vm_rule.specs.Joins.{HoldsNoPage};
-ghost use Rattle.vm_rule.specs.Views.{IsWhole};
-ghost use Rattle.vm_step.specs.Passes.{view};
-ghost use Rattle.vm_step.specs.Ready.{IsReady};
 ghost use Rattle.vm_tree_model.specs.Tree.{IsTree};
+ghost use Rattle.vm_core.specs.Prelude.{MAX_VERSION};
+ghost use Rattle.vm_rule.specs.Prelude.{HoldsNoPage, IsWhole};
+ghost use Rattle.vm_step.specs.Prelude.{IsReady, view};
 
 use std::alloc::{AllocError, Global};
 use std::test::Fail;

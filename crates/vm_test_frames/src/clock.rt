@@ -1,6 +1,6 @@
 //! Walks over small tables, with ample memory. The values are worked out by hand from the rules, and not taken from a run.
 ghost use Rattle.std.specs.Prelude.{IfOk};
-ghost use Rattle.vm_step.specs.Ready.{IsReady};
+ghost use Rattle.vm_step.specs.Prelude.{IsReady};
 
 use crate::resident::zero_pages;
 use arrayvec::ArrayVec;

@@ -1,7 +1,7 @@
 //! Interfaces over a table whose frames are all free, with ample memory. The values are worked out by hand from the rules, and not taken
 //! from a run.
-ghost use Rattle.std.specs.Prelude.{◌≡◌, ◌≤◌, IfOk, true};
-ghost use Rattle.vm_step.specs.Ready.{IsReady};
+ghost use Rattle.std.specs.Prelude.{◌≤◌, IfOk, true};
+ghost use Rattle.vm_step.specs.Prelude.{IsReady};
 
 use std::alloc::Global;
 use std::test::Fail;

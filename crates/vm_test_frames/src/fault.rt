@@ -1,10 +1,9 @@
 //! Fault-in over small tables of evicted pages, with ample memory. The values are worked out by hand from the rules, and not
 //! taken from a run.
 ghost use Rattle.std.specs.Prelude.{◌≡◌, ◌≤◌, IfOk, None, true};
-ghost use Rattle.vm_core.specs.Words.{MAX_VERSION};
-ghost use Rattle.vm_owner.specs.Numbers.{has};
-ghost use Rattle.vm_step.specs.Passes.{IsSamePass, MayStep, view};
-ghost use Rattle.vm_step.specs.Ready.{IsReady};
+ghost use Rattle.vm_core.specs.Prelude.{MAX_VERSION};
+ghost use Rattle.vm_rule.specs.Prelude.{has};
+ghost use Rattle.vm_step.specs.Prelude.{IsReady, IsSamePass, MayStep, view};
 
 use crate::resident::resident;
 use std::alloc::Global;

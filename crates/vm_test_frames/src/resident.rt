@@ -1,9 +1,8 @@
 //! Tables whose pages all stand in frames: they begin evicted, and each is brought into a frame.
-ghost use Rattle.std.specs.Prelude.{◌≡◌, ◌<◌, ◌≤◌, ℕ, IfOk, None, [], false, length, map, true};
-ghost use Rattle.vm_core.specs.Words.{MAX_VERSION};
-ghost use Rattle.vm_rule.specs.Views.{seat_of};
-ghost use Rattle.vm_step.specs.Passes.{view};
-ghost use Rattle.vm_step.specs.Ready.{IsReady};
+ghost use Rattle.std.specs.Prelude.{[], ◌<◌, ◌≡◌, ◌≤◌, false, IfOk, length, None, ℕ};
+ghost use Rattle.vm_core.specs.Prelude.{MAX_VERSION};
+ghost use Rattle.vm_rule.specs.Prelude.{seat_of};
+ghost use Rattle.vm_step.specs.Prelude.{IsReady, view};
 
 use std::alloc::Global;
 use std::process::Abort;

@@ -1,10 +1,7 @@
 -- A pool may begin with blocks of zeros, whatever its next page is.
-use Rattle.std.proofs.Common.{ℕ, zero, suc, ◌≡◌, ◌<◌, List, [], ◌∷◌, ◌++◌, length, map, replicate, refl, sym, ap, subst, ◌∙◌, arith}
-use Rattle.vm_block.specs.declared.memory.MemBlock.{MemBlock}
-use Rattle.vm_block.specs.Memory.{stored_of, words_of}
-use Rattle.vm_owner.specs.Kept.{Start, Kept}
-use Rattle.vm_page.specs.Pages.{page_at}
-use Rattle.vm_rule.specs.Started.{MayBegin, block_words}
+use Rattle.std.proofs.Common.{[], ◌++◌, ◌<◌, ◌∙◌, ◌∷◌, ◌≡◌, ap, arith, length, List, map, refl, replicate, subst, suc, sym, zero, ℕ}
+use Rattle.vm_core.specs.Prelude.{page_at}
+use Rattle.vm_rule.specs.Prelude.{block_words, Kept, MayBegin, MemBlock, Start, stored_of, words_of}
 
 abbrev AllZero : List (List ℕ) → Type 0
 AllZero pages = (p : ℕ) → p < length pages → page_at pages p ≡ replicate 64 0

@@ -1,30 +1,17 @@
 -- What the steps of the tests need: frames of an allocation, pages that are fresh and may be released, and pages that are held on.
-use Rattle.std.proofs.Common.{ℕ, ◌≡◌, ◌≢◌, ◌⊎◌, ◌<◌, true, false, Bool, None, List, [], ◌∷◌, ◌++◌, refl, sym, ap, subst, ◌∙◌, arith, inl, inr, ⊎_elim, ◌||◌, length, eqb}
+use Rattle.std.proofs.Common.{[], ⊎_elim, ◌++◌, ◌<◌, ◌||◌, ◌∙◌, ◌∷◌, ◌≡◌, ◌≢◌, ◌⊎◌, ap, arith, Bool, eqb, false, inl, inr, length, List, None, refl}
+use Rattle.std.proofs.Common.{subst, sym, true, ℕ}
 use Rattle.std.proofs.lemmas.Bool.{eq-eqb, or_left, or_right}
 use Rattle.std.proofs.lemmas.Option.{none-some}
-use Rattle.vm_core.specs.History.{Version}
-use Rattle.vm_owner.specs.declared.Entry.{Entry}
-use Rattle.vm_owner.specs.Kept.{Start, Kept, Change}
-use Rattle.vm_owner.specs.Numbers.{has, AreApart}
-use Rattle.vm_rule.specs.declared.view.Did.{Did}
-use Rattle.vm_rule.specs.declared.view.Held.{Held}
-use Rattle.vm_rule.specs.declared.view.Origin.{Origin}
-use Rattle.vm_rule.specs.declared.view.View.{View}
-use Rattle.vm_rule.specs.declared.view.Snapshot.{Snapshot}
-use Rattle.vm_rule.specs.Begun.{begun}
-use Rattle.vm_rule.specs.Views.{Each, numbers, view_from}
-use Rattle.vm_rule.specs.Rule.{began_of}
-use Rattle.vm_rule.specs.Releases.{changes_of}
+use Rattle.vm_core.specs.Prelude.{Version}
+use Rattle.vm_rule.specs.Prelude.{AreApart, began_of, Change, changes_of, Each, Entry, has, Kept, numbers, Start, view_from}
+use Rattle.vm_rule.specs.{Begun.begun, declared.view.Held.Held}
 use Rattle.vm_rule.proofs.Facts.{has-both}
-use Rattle.vm_step.specs.Conditions.{IsClaimed, IsNotOut}
-use Rattle.vm_step.specs.HeldFrames.{AreHeld}
-use Rattle.vm_step.proofs.HeldFrames.{held-on}
-use Rattle.vm_step.proofs.Together.{numbers-length}
+use Rattle.vm_step.specs.Prelude.{AreHeld, Did, IsClaimed, IsNotOut, Origin, Snapshot, View}
+use Rattle.vm_step.proofs.{HeldFrames.held-on, Together.numbers-length}
 use Rattle.vm_exmap.proofs.Handing.{apart-left, each-left}
-use Rattle.vm_guard.specs.declared.exclusive.ExclusiveGuard.{ExclusiveGuard}
-use Rattle.vm_guard.specs.Fresh.{AreFresh}
+use Rattle.vm_guard.specs.{declared.exclusive.ExclusiveGuard.ExclusiveGuard, Fresh.AreFresh, Guards.IsElsewhere, Guards.IsHolding}
 use Rattle.vm_guard.specs.Groups.{IsGroupReleased, MayReleaseAll, pids_of}
-use Rattle.vm_guard.specs.Guards.{IsElsewhere, IsHolding}
 use Rattle.vm_guard.proofs.FreshNumbers.{apart-first, numbers-one, numbers-two}
 
 -- the guards of one page, or of two, are some

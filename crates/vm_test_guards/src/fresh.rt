@@ -1,9 +1,7 @@
 //! Fresh pages, and groups of them, over a pool of a few evicted pages of zeros. The values are worked out by hand from the rules.
-ghost use Rattle.std.specs.Prelude.{◌≡◌, ◌≢◌, ◌⊎◌, [], None};
-ghost use Rattle.vm_step.specs.HeldFrames.{AreHeld};
-ghost use Rattle.vm_guard.specs.Groups.{MayReleaseAll, guards_of};
-ghost use Rattle.vm_step.specs.Passes.{view};
-ghost use Rattle.vm_step.specs.Ready.{IsReady};
+ghost use Rattle.std.specs.Prelude.{[], ◌≡◌, ◌≢◌, ◌⊎◌, None};
+ghost use Rattle.vm_step.specs.Prelude.{AreHeld, IsReady, view};
+ghost use Rattle.vm_guard.specs.Groups.{guards_of, MayReleaseAll};
 
 use crate::table::{free_frames, two_passes, zeros};
 use std::process::Abort;

@@ -1,8 +1,7 @@
 //! A group of three pages, which a second pass reads before and after its release. The values are worked out by hand from the rules.
-ghost use Rattle.std.specs.Prelude.{◌≡◌, ◌≢◌, ◌<◌, ℕ, Bool, None};
+ghost use Rattle.std.specs.Prelude.{◌<◌, ◌≡◌, ◌≢◌, Bool, None, ℕ};
+ghost use Rattle.vm_step.specs.Prelude.{IsReady, view};
 ghost use Rattle.vm_guard.specs.Guards.{IsHolding};
-ghost use Rattle.vm_step.specs.Passes.{view};
-ghost use Rattle.vm_step.specs.Ready.{IsReady};
 
 use crate::table::{two_passes, zeros};
 use std::process::Abort;

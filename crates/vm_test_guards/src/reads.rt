@@ -1,10 +1,8 @@
 //! A page that is read optimistically while a second pass evicts it, and brings another page into its frame. The values are worked out by
 //! hand from the rules.
-ghost use Rattle.std.specs.Prelude.{◌≡◌, ◌<◌, IfOk, None, length, map};
-ghost use Rattle.vm_block.specs.Memory.{stored_of};
-ghost use Rattle.vm_rule.specs.Started.{MayBegin, block_words};
-ghost use Rattle.vm_step.specs.Passes.{view};
-ghost use Rattle.vm_step.specs.Ready.{IsReady};
+ghost use Rattle.std.specs.Prelude.{◌<◌, ◌≡◌, IfOk, length, map, None};
+ghost use Rattle.vm_rule.specs.Prelude.{block_words, MayBegin, stored_of};
+ghost use Rattle.vm_step.specs.Prelude.{IsReady, view};
 
 use crate::table::two_passes;
 use std::alloc::Global;

@@ -1,10 +1,7 @@
 // A pool of a few evicted pages with two passes, and frames for the pages that they claim.
-ghost use Rattle.std.specs.Prelude.{◌≡◌, ◌≤◌, ℕ, IfOk, None, length, map};
-ghost use Rattle.vm_block.specs.Memory.{stored_of};
-ghost use Rattle.vm_rule.specs.Started.{MayBegin, block_words};
-ghost use Rattle.vm_step.specs.HeldFrames.{AreHeld};
-ghost use Rattle.vm_step.specs.Passes.{view};
-ghost use Rattle.vm_step.specs.Ready.{IsReady};
+ghost use Rattle.std.specs.Prelude.{◌≡◌, ◌≤◌, IfOk, length, map, None, ℕ};
+ghost use Rattle.vm_rule.specs.Prelude.{block_words, MayBegin, stored_of};
+ghost use Rattle.vm_step.specs.Prelude.{AreHeld, IsReady, view};
 
 use std::alloc::Global;
 use std::process::Abort;

@@ -1,7 +1,6 @@
 //! Passes of one thread over a pool of two pages, with ample memory. The values are worked out by hand from the rules, and not taken from a run.
 ghost use Rattle.std.specs.Prelude.{◌≡◌, ◌≤◌, IfOk, length};
-ghost use Rattle.vm_step.specs.Passes.{view};
-ghost use Rattle.vm_step.specs.Ready.{IsReady};
+ghost use Rattle.vm_step.specs.Prelude.{IsReady, view};
 
 use std::alloc::Global;
 use std::test::Fail;

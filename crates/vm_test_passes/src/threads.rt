@@ -1,9 +1,7 @@
 //! Four workers in threads over a pool of eight pages and six frames, with ample memory. What stands in the end is the same whatever the schedule.
-ghost use Rattle.std.specs.Prelude.{◌≡◌, ◌≤◌, IfOk, length};
-ghost use Rattle.vm_pool.specs.Holding.{HoldsNoPage};
-ghost use Rattle.vm_step.specs.Alone.{IsAlone};
-ghost use Rattle.vm_step.specs.Passes.{view};
-ghost use Rattle.vm_step.specs.Ready.{IsReady};
+ghost use Rattle.std.specs.Prelude.{◌≤◌, IfOk, length};
+ghost use Rattle.vm_rule.specs.Prelude.{HoldsNoPage};
+ghost use Rattle.vm_step.specs.Prelude.{IsAlone, IsReady, view};
 ghost use Rattle.vm_workers.specs.Puts.{HasPages};
 
 use std::alloc::Global;

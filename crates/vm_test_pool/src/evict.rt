@@ -1,9 +1,7 @@
 //! Evictions over a table of one dirty page, whose last word is 5, with ample memory. The values are worked out by hand from the rules, and not
 //! taken from a run.
 ghost use Rattle.std.specs.Prelude.{◌≡◌, IfOk, None};
-ghost use Rattle.vm_step.specs.Choices.{AreCandidates};
-ghost use Rattle.vm_step.specs.Passes.{view};
-ghost use Rattle.vm_step.specs.Ready.{IsReady};
+ghost use Rattle.vm_step.specs.Prelude.{AreCandidates, IsReady, view};
 
 use crate::flush::flush_all;
 use arrayvec::ArrayVec;

@@ -1,7 +1,6 @@
 //! Flushes of a table of one dirty page. The values are worked out by hand from the rules, and not taken from a run.
 ghost use Rattle.std.specs.Prelude.{◌≡◌, None};
-ghost use Rattle.vm_step.specs.Passes.{view};
-ghost use Rattle.vm_step.specs.Ready.{IsReady};
+ghost use Rattle.vm_step.specs.Prelude.{IsReady, view};
 
 use crate::evict::{DIRTY_IN_0, one_page};
 use std::process::Abort;

@@ -1,11 +1,7 @@
 //! Pools of a few pages, with ample memory. The values are worked out by hand from the rules, and not taken from a run.
-ghost use Rattle.std.specs.Prelude.{◌≡◌, ◌<◌, ◌≤◌, ℕ, IfOk, None, [], false, true, length};
-ghost use Rattle.vm_exmap.specs.Frames.{AreHeld};
-ghost use Rattle.vm_pool.specs.Holding.{HoldsNoPage};
-ghost use Rattle.vm_rule.specs.Views.{seat_of};
-ghost use Rattle.vm_step.specs.Alone.{IsAlone};
-ghost use Rattle.vm_step.specs.Passes.{view};
-ghost use Rattle.vm_step.specs.Ready.{IsReady};
+ghost use Rattle.std.specs.Prelude.{[], ◌<◌, ◌≡◌, ◌≤◌, false, IfOk, length, None, ℕ};
+ghost use Rattle.vm_rule.specs.Prelude.{HoldsNoPage, seat_of};
+ghost use Rattle.vm_step.specs.Prelude.{AreHeld, IsAlone, IsReady, view};
 
 use std::alloc::Global;
 use std::process::Abort;

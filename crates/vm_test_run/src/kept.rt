@@ -1,6 +1,6 @@
 //! The file that a run keeps: it is written whole before anything is said.
 
-use crate::expect::{OLD, RUN, expect_run, host, is_kept, perform};
+use crate::expect::{OLD, expect_run, host, is_kept, perform};
 use crate::hosts::{FEW, Short, Stuck};
 use crate::pages::{add_news, add_rows, empty_tree, puts, two_leaves};
 use std::alloc::{AllocError, Global};
@@ -42,17 +42,6 @@ fn the_tree_is_kept_and_read_back(rt: HostRuntime) -> Result<(), Fail> {
     assert_eq!(rt; status, 0);
     assert!(rt; host.said() == said.as_bytes());
     assert!(rt; !is_kept(&ends));
-    Ok(())
-}
-
-/// Where no file is to be kept, none is written.
-#[test]
-fn a_run_that_keeps_nothing_writes_nothing(rt: HostRuntime) -> Result<(), Fail> {
-    let alloc = rt.alloc();
-    let mut host = host_of_29(alloc, &[])?;
-    let said = said_of_29(alloc)?;
-    expect_run(&rt, alloc, &mut host, RUN, 0, said.as_str())?;
-    assert!(rt; host.file("K") == Some(OLD));
     Ok(())
 }
 

@@ -3,15 +3,11 @@
 #![tactic(auto)]
 
 #[cfg(test)]
-mod churns;
-#[cfg(test)]
-mod evictions;
+mod ends;
 #[cfg(test)]
 mod expect;
 #[cfg(test)]
-mod faults;
-#[cfg(test)]
-mod files;
+mod failing;
 #[cfg(test)]
 mod gates;
 #[cfg(test)]
@@ -19,14 +15,8 @@ mod hosts;
 #[cfg(test)]
 mod kept;
 #[cfg(test)]
-mod makes;
-#[cfg(test)]
 mod memory;
 #[cfg(test)]
 mod pages;
-#[cfg(test)]
-mod refusals;
-#[cfg(test)]
-mod scripts;
 #[cfg(test)]
 mod workers;

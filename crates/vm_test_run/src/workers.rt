@@ -1,6 +1,6 @@
 //! Scripts of several workers, side by side, and the gate round each of their calls.
 
-use crate::expect::{RUN_BY_TWO, expect_run, host_with, is_kept, perform};
+use crate::expect::{RUN_BY_TWO, host_with, is_kept, perform};
 use crate::gates::{Counts, Held};
 use std::sync::atomic::Ordering;
 use std::test::Fail;
@@ -56,27 +56,4 @@ fn the_gate_is_called_round_each_call(rt: HostRuntime) -> Result<(), Fail> {
     }
     assert_eq!(rt; gate.odd.load(Ordering::SeqCst), 0);
     Ok(())
-}
-
-/// Four workers put a key each and read it, and take out one that is not there: the lines are in the workers' order.
-#[test]
-fn lines_are_by_worker(rt: HostRuntime) -> Result<(), Fail> {
-    let alloc = rt.alloc();
-    let script =
-        "3 put 40 4\n2 put 30 3\n1 put 20 2\n0 put 10 1\n0 get 10\n3 get 40\n2 del 31\n1 get 20\n";
-    let mut host = host_with(alloc, script)?;
-    let said =
-        "0 1 new\n0 2 some 1\n1 1 new\n1 2 some 2\n2 1 new\n2 2 none\n3 1 new\n3 2 some 4\nrow 10 1\nrow 20 2\nrow 30 3\nrow 40 4\ncounters reads 2 writes 1 faults 0 evicted 0\n";
-    let line = "run I0 S --workers 4 --frames 64";
-    expect_run(&rt, alloc, &mut host, line, 0, said)
-}
-
-/// As many workers as there may be, with the fewest frames for them, of which one makes a call.
-#[test]
-fn sixty_four_workers(rt: HostRuntime) -> Result<(), Fail> {
-    let alloc = rt.alloc();
-    let mut host = host_with(alloc, "63 put 1 1\n")?;
-    let said = "63 1 new\nrow 1 1\ncounters reads 2 writes 1 faults 0 evicted 0\n";
-    let line = "run I0 S --workers 64 --frames 512";
-    expect_run(&rt, alloc, &mut host, line, 0, said)
 }

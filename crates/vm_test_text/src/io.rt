@@ -1,5 +1,5 @@
 ghost use Rattle.std.specs.Prelude.{None};
-ghost use Rattle.vm_io.specs.Planned.{failed_takes, failed_gives, last_failed};
+ghost use Rattle.vm_io.specs.Planned.{failed_gives, failed_takes, last_failed};
 
 use std::alloc::{AllocError, Global};
 use std::test::Fail;

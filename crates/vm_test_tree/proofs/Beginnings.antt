@@ -1,20 +1,14 @@
 -- A pool may begin with the blocks of an image that is a tree; its first pass has fresh parts.
-use Rattle.std.proofs.Common.{ℕ, Bool, zero, suc, ◌≡◌, ◌<◌, List, [], ◌∷◌, length, map, replicate, slice_index, refl, sym, ap, subst, ◌∙◌, arith}
-use Rattle.vm_block.specs.declared.memory.MemBlock.{MemBlock}
-use Rattle.vm_block.specs.Memory.{stored_of, words_of}
-use Rattle.vm_block.specs.declared.stored.Stored.{Stored}
+use Rattle.std.proofs.Common.{[], ◌<◌, ◌∙◌, ◌∷◌, ◌≡◌, ap, arith, Bool, length, List, map, refl, replicate, slice_index, subst, suc, sym, zero, ℕ}
 use Rattle.vm_map.specs.declared.call.Said.{Said}
-use Rattle.vm_image.specs.Blocks.{AreBlocksOf, pages_of_blocks}
-use Rattle.vm_image.specs.File.{IsNextPage}
-use Rattle.vm_image.specs.declared.blocks.PlannedFault.{PlannedFault}
-use Rattle.vm_page.specs.Pages.{page_at}
 use Rattle.vm_tree_model.specs.Tree.{IsTree}
+use Rattle.vm_image.specs.{Blocks.AreBlocksOf, Blocks.pages_of_blocks, declared.blocks.PlannedFault.PlannedFault, File.IsNextPage}
+use Rattle.vm_core.specs.Prelude.{page_at}
+use Rattle.vm_rule.specs.Prelude.{block_words, MayBegin, MemBlock, numbers, started_shape, Stored, stored_of, unborn, words_of}
+use Rattle.vm_rule.specs.Begun.{begun}
+use Rattle.vm_step.specs.Prelude.{View}
 use Rattle.vm_tree_laws.specs.Keeps.{KeepsTree}
 use Rattle.vm_tree_laws.proofs.Starts.{start_keeps}
-use Rattle.vm_rule.specs.Begun.{begun, unborn}
-use Rattle.vm_rule.specs.Started.{MayBegin, started_shape, block_words}
-use Rattle.vm_rule.specs.Views.{numbers}
-use Rattle.vm_rule.specs.declared.view.View.{View}
 
 words-held : (blocks : List MemBlock) → block_words (map stored_of blocks) ≡ pages_of_blocks blocks
 words-held [] = refl

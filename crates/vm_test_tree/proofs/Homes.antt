@@ -1,24 +1,14 @@
 -- Whatever a read of the tree answers, the pass has its block at home as before; and a call that asks for no frame leaves it those that it had.
-use Rattle.std.proofs.Common.{ℕ, Bool, false, ◌≡◌, ◌<◌, List, length, Result, Ok, Err, IfOk, IfErr, inl, sym, ap, subst, ◌∙◌}
-use Rattle.vm_core.specs.History.{Version}
-use Rattle.vm_map.specs.declared.call.Call.{Call}
-use Rattle.vm_map.specs.declared.call.Reply.{Reply}
-use Rattle.vm_map.specs.declared.call.Said.{Said}
-use Rattle.vm_owner.specs.Numbers.{has}
+use Rattle.std.proofs.Common.{◌<◌, ◌∙◌, ◌≡◌, ap, Bool, Err, false, IfErr, IfOk, inl, length, List, Ok, Result, subst, sym, ℕ}
+use Rattle.vm_map.specs.{declared.call.Call.Call, declared.call.Reply.Reply, declared.call.Said.Said}
+use Rattle.vm_core.specs.Prelude.{Version}
+use Rattle.vm_rule.specs.Prelude.{draft_of, has, last_of}
 use Rattle.vm_rule.specs.declared.view.Held.{Held}
-use Rattle.vm_rule.specs.declared.view.Origin.{Origin}
-use Rattle.vm_rule.specs.declared.view.View.{View}
-use Rattle.vm_rule.specs.Reading.{last_of}
-use Rattle.vm_rule.specs.Views.{draft_of}
-use Rattle.vm_step.specs.Asides.{KnowsAsBefore}
-use Rattle.vm_guard.specs.Guards.{IsHolding}
-use Rattle.vm_step.specs.HeldFrames.{AreHeld}
+use Rattle.vm_step.specs.Prelude.{AreHeld, KnowsAsBefore, Origin, View}
 use Rattle.vm_exmap.proofs.Handing.{held-on}
-use Rattle.vm_tree_rule.specs.Leaves.{OnlyReads}
-use Rattle.vm_tree_rule.specs.declared.fault.TreeFault.{TreeFault}
-use Rattle.vm_tree_read.specs.Reads.{IsTried}
-use Rattle.vm_tree_read.specs.Waiting.{IsFaulted, IsReplied}
-use Rattle.vm_tree_read.specs.declared.read.TryRead.{TryRead}
+use Rattle.vm_guard.specs.Guards.{IsHolding}
+use Rattle.vm_tree_rule.specs.{declared.fault.TreeFault.TreeFault, Leaves.OnlyReads}
+use Rattle.vm_tree_read.specs.{declared.read.TryRead.TryRead, Reads.IsTried, Waiting.IsFaulted, Waiting.IsReplied}
 use Rattle.vm_tree_read.specs.declared.read.TryRead.TheVariants as reads
 
 -- what a call leaves that asks for no frame and moves no block

@@ -1,17 +1,14 @@
 -- Whatever a write of the tree answers, the pass has its block at home as before; and a try asks for no frame.
-use Rattle.std.proofs.Common.{ℕ, ◌≡◌, Result, Ok, Err, IfOk, IfErr, ⊎_elim}
-use Rattle.vm_map.specs.declared.call.Call.{Call}
-use Rattle.vm_map.specs.declared.call.Reply.{Reply}
-use Rattle.vm_map.specs.declared.call.Said.{Said}
-use Rattle.vm_rule.specs.declared.view.View.{View}
+use Rattle.std.proofs.Common.{⊎_elim, ◌≡◌, Err, IfErr, IfOk, Ok, Result, ℕ}
+use Rattle.vm_map.specs.{declared.call.Call.Call, declared.call.Reply.Reply, declared.call.Said.Said}
+use Rattle.vm_step.specs.Prelude.{View}
 use Rattle.vm_tree_rule.specs.declared.fault.TreeFault.{TreeFault}
 use Rattle.vm_tree_read.specs.Waiting.{Waits}
-use Rattle.vm_tree_write.specs.Splits.{KeepsLocksOnly}
-use Rattle.vm_tree_write.specs.Writes.{IsDel, IsPut, OnlyWrites}
-use Rattle.vm_tree_write.specs.Waiting.{IsWriteFaulted as IsWriteFaulted, IsPutFaulted, IsWriteReplied as IsWriteReplied, faulted, missing, tight, worn}
-use Rattle.vm_tree_write.specs.declared.write.TryWrite.{TryWrite}
+use Rattle.vm_tree_write.specs.{declared.write.TryWrite.TryWrite, Splits.KeepsLocksOnly}
 use Rattle.vm_tree_write.specs.declared.write.TryWrite.TheVariants as writes
-use Rattle.vm_test_tree.proofs.Homes.{Rests, of-reads}
+use Rattle.vm_tree_write.specs.Waiting.{faulted, IsPutFaulted, IsWriteFaulted, IsWriteReplied, missing, tight, worn}
+use Rattle.vm_tree_write.specs.Writes.{IsDel, IsPut, OnlyWrites}
+use Rattle.vm_test_tree.proofs.Homes.{of-reads, Rests}
 
 of-writes : (p : ℕ) (v w : View Said) → OnlyWrites p v w → Rests v w
 of-writes p v w r = record { out = r.out; start = r.start; frames = r.frames.0 }

@@ -1,13 +1,9 @@
 //! A pool over a small tree, and the tree's reads by a pass whose block is at home: it is at home again after each of them.
-ghost use Rattle.std.specs.Prelude.{◌≡◌, ◌<◌, ◌≤◌, IfOk, None, false, length};
-ghost use Rattle.vm_core.specs.Words.{MAX_VERSION};
-ghost use Rattle.vm_step.specs.HeldFrames.{AreHeld};
+ghost use Rattle.std.specs.Prelude.{◌<◌, ◌≡◌, ◌≤◌, false, IfOk, length, None};
+ghost use Rattle.vm_core.specs.Prelude.{MAX_VERSION};
+ghost use Rattle.vm_rule.specs.Prelude.{draft_of, has, last_of};
+ghost use Rattle.vm_step.specs.Prelude.{AreHeld, IsReady, view};
 ghost use Rattle.vm_guard.specs.Guards.{IsHolding};
-ghost use Rattle.vm_owner.specs.Numbers.{has};
-ghost use Rattle.vm_rule.specs.Reading.{last_of};
-ghost use Rattle.vm_rule.specs.Views.{draft_of};
-ghost use Rattle.vm_step.specs.Passes.{view};
-ghost use Rattle.vm_step.specs.Ready.{IsReady};
 
 use std::alloc::Global;
 use std::sync::Wait;

@@ -1,8 +1,6 @@
 //! The tree's writes by a pass whose block is at home: it is at home again after each of them.
 ghost use Rattle.std.specs.Prelude.{◌≡◌, ◌≤◌, None};
-ghost use Rattle.vm_step.specs.HeldFrames.{AreHeld};
-ghost use Rattle.vm_step.specs.Passes.{view};
-ghost use Rattle.vm_step.specs.Ready.{IsReady};
+ghost use Rattle.vm_step.specs.Prelude.{AreHeld, IsReady, view};
 
 use std::sync::Wait;
 use vm_block::{Block, MemBlock};

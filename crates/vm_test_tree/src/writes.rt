@@ -1,8 +1,6 @@
 //! Writes of small trees, with ample memory: puts that split leaves and the root, and dels.
 ghost use Rattle.std.specs.Prelude.{◌≡◌, ◌≤◌, None};
-ghost use Rattle.vm_step.specs.HeldFrames.{AreHeld};
-ghost use Rattle.vm_step.specs.Passes.{view};
-ghost use Rattle.vm_step.specs.Ready.{IsReady};
+ghost use Rattle.vm_step.specs.Prelude.{AreHeld, IsReady, view};
 
 use crate::calls::{empty, got, open};
 use crate::write_calls::{del_at, del_once, put_at, put_once, split_once};

@@ -1,14 +1,10 @@
 -- Both answers, one after the other.
-use Rattle.std.proofs.Common.{ℕ, true, List, [], ◌∷◌, ◌++◌, ◌≡◌, ◌∙◌, refl, sym, ap, subst, append_assoc, append-nil}
-use Rattle.vm_map.specs.History.{AreReplies}
-use Rattle.vm_map.specs.declared.call.Call.TheVariants.{Get, Put}
-use Rattle.vm_map.specs.declared.call.Reply.{Reply}
-use Rattle.vm_map.specs.declared.call.Said.{Said}
-use Rattle.vm_owner.specs.declared.Entry.{Entry}
-use Rattle.vm_rule.specs.declared.view.Origin.{Origin}
-use Rattle.vm_rule.specs.declared.view.View.{View}
-use Rattle.vm_rule.specs.Brought.{entry_of}
+use Rattle.std.proofs.Common.{[], ◌++◌, ◌∙◌, ◌∷◌, ◌≡◌, ap, append-nil, append_assoc, List, refl, subst, sym, true, ℕ}
+use Rattle.vm_map.specs.{declared.call.Call.TheVariants.Get, declared.call.Call.TheVariants.Put, declared.call.Reply.Reply, declared.call.Said.Said}
+use Rattle.vm_map.specs.{History.AreReplies}
 use Rattle.vm_tree_model.specs.Tree.{map_of}
+use Rattle.vm_rule.specs.Prelude.{Entry, entry_of}
+use Rattle.vm_step.specs.Prelude.{Origin, View}
 use Rattle.vm_tree_laws.specs.History.{saids}
 use Rattle.vm_tree_read.specs.Reads.{IsAnswered}
 use Rattle.vm_tree_write.specs.Writes.{IsWriteDone}

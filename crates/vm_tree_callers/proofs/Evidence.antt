@@ -1,15 +1,11 @@
 -- What the evidence of a try tells of its call.
-use Rattle.std.proofs.Common.{ℕ, List, false, ◌++◌, ◌≡◌, ◌≢◌, ◌⊎◌, inl, inr, ⊎_elim, sym, ap, subst}
-use Rattle.vm_core.specs.Words.{LOCKED, state_of, version_of}
+use Rattle.std.proofs.Common.{⊎_elim, ◌++◌, ◌≡◌, ◌≢◌, ◌⊎◌, ap, false, inl, inr, List, subst, sym, ℕ}
 use Rattle.vm_map.specs.declared.call.Said.{Said}
-use Rattle.vm_rule.specs.declared.view.Did.{Did}
-use Rattle.vm_rule.specs.declared.view.View.{View}
-use Rattle.vm_step.specs.declared.saw.Saw.{Saw}
-use Rattle.vm_step.specs.declared.saw.At.{At}
+use Rattle.vm_core.specs.Prelude.{LOCKED, state_of, version_of}
+use Rattle.vm_step.specs.Prelude.{Did, HasGiven, place_at, View, WhyAgain}
+use Rattle.vm_step.specs.{declared.saw.At.At, declared.saw.Saw.Saw}
 use Rattle.vm_step.specs.declared.saw.At.TheVariants as ats
-use Rattle.vm_step.specs.Evidence.{HasGiven, WhyAgain, place_at}
-use Rattle.vm_tree_rule.specs.Shown.{IsAgain}
-use Rattle.vm_tree_rule.specs.Turns.{IsAstray}
+use Rattle.vm_tree_rule.specs.{Shown.IsAgain, Turns.IsAstray}
 use Rattle.vm_tree_rule.proofs.Entering.{astray-given}
 
 other-words : (p : ℕ) (at : At) (first seen : ℕ) (last : Did) → at ≡ ats.Page p → WhyAgain at first seen last → (first ≢ seen) ⊎ (state_of seen ≡ LOCKED)

@@ -1,14 +1,11 @@
 -- In a legal history a get that follows a put of the same key at once is answered the value that was put.
-use Rattle.std.proofs.Common.{ℕ, Option, Some, List, [], ◌∷◌, ◌++◌, ◌≡◌, ◌∙◌, ap, subst}
-use Rattle.vm_map.specs.Map.{put_pair, Pairs}
-use Rattle.vm_map.specs.History.{AreReplies, IsReply, after}
-use Rattle.vm_map.specs.declared.call.Call.{Call}
-use Rattle.vm_map.specs.declared.call.Call.TheVariants.{Get, Put}
-use Rattle.vm_map.specs.declared.call.Reply.{Reply}
-use Rattle.vm_map.specs.declared.call.Reply.TheVariants.{Got, Was, Gone, Win}
-use Rattle.vm_map.specs.declared.call.Said.{Said}
+use Rattle.std.proofs.Common.{[], ◌++◌, ◌∙◌, ◌∷◌, ◌≡◌, ap, List, Option, Some, subst, ℕ}
+use Rattle.vm_map.specs.{declared.call.Call.Call, declared.call.Call.TheVariants.Get, declared.call.Call.TheVariants.Put, declared.call.Reply.Reply}
+use Rattle.vm_map.specs.{declared.call.Said.Said, Map.Pairs, Map.put_pair}
+use Rattle.vm_map.specs.declared.call.Reply.TheVariants.{Gone, Got, Was, Win}
+use Rattle.vm_map.specs.History.{after, AreReplies, IsReply}
 use Rattle.vm_map.proofs.MapLemmas.{lookup-put_same}
-use Rattle.vm_owner.specs.declared.Entry.{Entry}
+use Rattle.vm_rule.specs.Prelude.{Entry}
 use Rattle.vm_tree_laws.specs.History.{saids}
 
 -- what the get is answered on the map after the put

@@ -1,11 +1,9 @@
 -- What a put and then a get of the same key by one pass are answered.
-use Rattle.std.specs.Prelude.{ℕ, Some, true, List, [], ◌∷◌, ◌++◌, ◌≡◌}
-use Rattle.vm_map.specs.declared.call.Call.TheVariants.{Get, Put}
-use Rattle.vm_map.specs.declared.call.Reply.{Reply}
-use Rattle.vm_map.specs.declared.call.Reply.TheVariants.{Got}
-use Rattle.vm_map.specs.declared.call.Said.{Said}
-use Rattle.vm_owner.specs.declared.Entry.{Entry}
-use Rattle.vm_rule.specs.declared.view.View.{View}
+use Rattle.std.specs.Prelude.{[], ◌++◌, ◌∷◌, ◌≡◌, List, Some, true, ℕ}
+use Rattle.vm_map.specs.{declared.call.Call.TheVariants.Get, declared.call.Call.TheVariants.Put, declared.call.Reply.Reply}
+use Rattle.vm_map.specs.{declared.call.Reply.TheVariants.Got, declared.call.Said.Said}
+use Rattle.vm_rule.specs.Prelude.{Entry}
+use Rattle.vm_step.specs.Prelude.{View}
 
 -- Both calls are entries of the history, in this order; and where no entry stands between them, and blocks tell their words, the get is answered
 -- the value that was put

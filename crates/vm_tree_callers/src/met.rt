@@ -1,7 +1,7 @@
 // A put of one pass, and a get of the same key by another that it has met since, over the contracts of the calls alone: both entries stand in one
 // history, the put first.
 ghost use Rattle.std.specs.Prelude.{◌≡◌, ◌≤◌, IfSome, None};
-ghost use Rattle.vm_step.specs.Passes.{IsSamePass, MayStep, view};
+ghost use Rattle.vm_step.specs.Prelude.{MayStep, view};
 ghost use Rattle.vm_tree_callers.specs.Pairs.{AnswersPut};
 
 use vm_block::Block;

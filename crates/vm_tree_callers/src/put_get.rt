@@ -1,8 +1,7 @@
 // A put and then a get of the same key by one pass, over their contracts alone: both entries stand in the history in order, and where no other call
 // came between them the get is answered the value, where blocks tell their words.
 ghost use Rattle.std.specs.Prelude.{◌≡◌, ◌≤◌, IfSome, None};
-ghost use Rattle.vm_step.specs.Passes.{IsSamePass, MayStep, view};
-ghost use Rattle.vm_step.specs.Ready.{IsReady};
+ghost use Rattle.vm_step.specs.Prelude.{IsReady, IsSamePass, MayStep, view};
 ghost use Rattle.vm_tree_callers.specs.Pairs.{AnswersPut};
 
 use vm_block::Block;

@@ -1,12 +1,11 @@
 // Two gets of one pass, over their contracts alone: both entries stand in the history, in order, under one number with following counts, and
 // the history is legal. A pass that is alone and knows the pages to be resident is answered at once.
-ghost use Rattle.std.specs.Prelude.{◌≡◌, ◌≤◌, ◌∷◌, ◌++◌, IfSome, IsSome, [], true};
+ghost use Rattle.std.specs.Prelude.{[], ◌++◌, ◌∷◌, ◌≡◌, ◌≤◌, IfSome, IsSome, true};
 ghost use Rattle.vm_map.specs.declared.call.Call.TheVariants.{Get};
-ghost use Rattle.vm_rule.specs.Brought.{entry_of};
-ghost use Rattle.vm_step.specs.Passes.{IsSamePass, MayStep, view};
-ghost use Rattle.vm_step.specs.Ready.{IsReady};
-ghost use Rattle.vm_tree_laws.specs.History.{IsLegal};
 ghost use Rattle.vm_tree_model.specs.Tree.{map_of};
+ghost use Rattle.vm_rule.specs.Prelude.{entry_of};
+ghost use Rattle.vm_step.specs.Prelude.{IsReady, IsSamePass, MayStep, view};
+ghost use Rattle.vm_tree_laws.specs.History.{IsLegal};
 ghost use Rattle.vm_tree_rule.specs.Resident.{KnowsResident};
 
 use vm_block::Block;

@@ -1,9 +1,8 @@
 // Why a get is to be tried again, over its contract alone: the word seen was found by a step of the call, and it is another word than the first
 // one, or a Locked page's, where blocks tell their words. So no get answers so with words that it never loaded, or with equal words of a page that is not locked.
-ghost use Rattle.std.specs.Prelude.{◌≡◌, ◌≢◌, ◌⊎◌, ◌≤◌, ◌++◌, IfSome, true};
-ghost use Rattle.vm_core.specs.Words.{LOCKED, state_of};
-ghost use Rattle.vm_step.specs.Evidence.{HasGiven, place_at};
-ghost use Rattle.vm_step.specs.Passes.{IsSamePass, MayStep, view};
+ghost use Rattle.std.specs.Prelude.{◌++◌, ◌≡◌, ◌≢◌, ◌≤◌, ◌⊎◌, IfSome, true};
+ghost use Rattle.vm_core.specs.Prelude.{LOCKED, state_of};
+ghost use Rattle.vm_step.specs.Prelude.{HasGiven, IsSamePass, MayStep, place_at, view};
 
 use vm_block::Block;
 use vm_rule::words::{Pass, Words};

@@ -1,11 +1,9 @@
 -- Three entries, one after another.
-use Rattle.std.proofs.Common.{ℕ, Some, List, [], ◌∷◌, ◌++◌, ◌≡◌, ◌+◌, ◌==◌, if◌then◌else◌, refl, sym, ap, subst, ◌∙◌, arith, slice_index, append_assoc}
+use Rattle.std.proofs.Common.{[], ◌++◌, ◌+◌, ◌==◌, ◌∙◌, ◌∷◌, ◌≡◌, ap, append_assoc, arith, if◌then◌else◌, List, refl, slice_index, Some, ℕ}
 use Rattle.std.proofs.lemmas.Bool.{eq-eqb}
-use Rattle.vm_owner.specs.declared.Entry.{Entry}
-use Rattle.vm_owner.specs.Kept.{entries_under}
-use Rattle.vm_rule.specs.declared.view.View.{View}
-use Rattle.vm_rule.specs.Brought.{entries_of}
-use Rattle.vm_workers.specs.Entries.{three_of, HasThree, SaysThree}
+use Rattle.vm_rule.specs.Prelude.{entries_of, entries_under, Entry}
+use Rattle.vm_step.specs.Prelude.{View}
+use Rattle.vm_workers.specs.Entries.{HasThree, SaysThree, three_of}
 
 -- one entry more of a number counts
 counts-more : (n count said : ℕ) (h : List (Entry ℕ)) → entries_under n (h ++ record { number = n; count = count; said = said } ∷ []) ≡ entries_under n h + 1

@@ -1,26 +1,14 @@
 -- A worker's pass over its calls: what it holds, and the parts that it has.
-use Rattle.std.proofs.Common.{ℕ, List, [], ◌∷◌, ◌≡◌, ◌≢◌, ◌<◌, Bool, Option, Some, None, true, length, map, slice_index_or, refl, sym, ap, subst, ◌∙◌, ⊎_elim, inl, inr, arith}
 use Rattle.std.specs.Prelude.{All}
+use Rattle.std.proofs.Common.{[], ⊎_elim, ◌<◌, ◌∙◌, ◌≡◌, ◌≢◌, ap, arith, Bool, length, List, map, Option, slice_index_or, subst, sym, ℕ}
 use Rattle.std.proofs.lemmas.Bool.{cases_eq}
-use Rattle.atomic_table.specs.Seated.{TableId}
-use Rattle.vm_core.specs.declared.event.Seat.{Seat}
-use Rattle.vm_owner.specs.Kept.{Start}
-use Rattle.vm_rule.specs.declared.view.Did.{Did}
-use Rattle.vm_rule.specs.declared.view.Shape.{Shape}
-use Rattle.vm_rule.specs.declared.view.View.{View}
-use Rattle.vm_rule.specs.declared.words.Pass.{Pass}
-use Rattle.vm_rule.specs.Joins.{HoldsNoPage}
-use Rattle.vm_rule.specs.Views.{seat_of}
+use Rattle.vm_rule.specs.Prelude.{HoldsNoPage, Seat, seat_of, Start, TableId}
 use Rattle.vm_rule.proofs.Entries.{each-map}
-use Rattle.vm_step.specs.Alone.{IsAlone}
-use Rattle.vm_step.specs.Asides.{HoldsPage}
-use Rattle.vm_step.specs.Passes.{MayStep, view}
-use Rattle.vm_step.specs.Ready.{IsReady}
-use Rattle.vm_step.specs.Together.{HasJoined, IsNew, PassesSplit}
-use Rattle.vm_step.proofs.Still.{still-nothing}
+use Rattle.vm_step.specs.Prelude.{AreHeld, Did, HasJoined, HoldsPage, IsAlone, IsReady, MayStep, Pass, PassesSplit, Shape, View, view}
+use Rattle.vm_step.specs.Together.{IsNew}
+use Rattle.vm_step.proofs.{HeldFrames.held-on, Still.still-nothing}
 use Rattle.vm_step.proofs.Together.{each-at, holds-none, new-nothing, split-current, split-still, whole-again}
-use Rattle.vm_exmap.specs.Frames.{AreHeld, MovesFrames}
-use Rattle.vm_step.proofs.HeldFrames.{held-on}
+use Rattle.vm_exmap.specs.Frames.{MovesFrames}
 use Rattle.vm_guard.specs.Guards.{IsLocked, IsReleased, IsSet}
 use Rattle.vm_workers.specs.Puts.{HasPut, KeepsParts, MayStartWork}
 use Rattle.vm_workers.proofs.Staying.{parts-kept}

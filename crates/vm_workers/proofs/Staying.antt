@@ -1,29 +1,18 @@
 -- A silent look leaves what a worker needs.
-use Rattle.std.proofs.Common.{ℕ, Bool, true, ◌≡◌, ◌≢◌, ◌+◌, ◌<◌, ◌≤◌, zero, suc, map, slice_index_or, List, [], ◌∷◌, ◌++◌, length, take, drop, arith, refl, sym, ap, subst, ◌∙◌, ⊎_elim, Option, Some, None, append_assoc, slice_index, slice_set}
+use Rattle.std.proofs.Common.{[], ⊎_elim, ◌++◌, ◌+◌, ◌<◌, ◌∙◌, ◌∷◌, ◌≡◌, ◌≢◌, ◌≤◌, ap, append_assoc, arith, Bool, drop, length, List, map, None}
+use Rattle.std.proofs.Common.{Option, refl, slice_index, slice_index_or, slice_set, Some, subst, suc, sym, take, ℕ}
 use Rattle.std.proofs.lemmas.Bool.{cases_eq}
-use Rattle.std.proofs.lemmas.List.{get_or-set_same, get_or-set_other}
-use Rattle.vm_core.specs.declared.event.Open.{Open}
-use Rattle.vm_core.specs.declared.event.ReadIs.{ReadIs}
-use Rattle.vm_core.specs.declared.event.ReadIs.TheVariants.{Opened, Same, Moved, Closed}
-use Rattle.vm_core.specs.declared.event.Seat.{Seat}
-use Rattle.vm_core.proofs.Upd.{upd-same, upd-other}
-use Rattle.vm_owner.specs.Kept.{Start}
-use Rattle.vm_owner.specs.declared.Entry.{Entry}
-use Rattle.vm_rule.specs.declared.view.Did.{Did}
+use Rattle.std.proofs.lemmas.List.{get_or-set_other, get_or-set_same}
+use Rattle.vm_core.specs.Prelude.{no_seat}
+use Rattle.vm_core.specs.declared.event.ReadIs.TheVariants.{Closed, Moved, Opened, Same}
+use Rattle.vm_core.proofs.Upd.{upd-other, upd-same}
+use Rattle.vm_rule.specs.Prelude.{did_load, Each, entries_of, HoldsNoPage, left_at, LookTold, Open, owns, put, put_at, ReadIs, Seat, seat_of, Start}
+use Rattle.vm_rule.specs.Prelude.{times, total, where_same}
 use Rattle.vm_rule.specs.declared.view.Place.TheVariants as places
-use Rattle.vm_rule.specs.declared.view.View.{View}
-use Rattle.vm_rule.specs.Puts.{put, put_at}
-use Rattle.vm_core.specs.Start.{no_seat}
-use Rattle.vm_rule.specs.Views.{Each, owns, seat_of, times, total}
-use Rattle.vm_rule.specs.Joins.{HoldsNoPage}
-use Rattle.vm_rule.specs.Looks.{LookTold, left_at, where_same}
-use Rattle.vm_rule.specs.Brought.{entries_of}
-use Rattle.vm_rule.specs.Log.{did_load}
-use Rattle.vm_rule.proofs.Entries.{append-none}
-use Rattle.vm_rule.proofs.Heard.{each-both}
-use Rattle.vm_step.specs.Evidence.{HasGiven}
-use Rattle.vm_step.proofs.Evidenced.{given-front, given-behind}
-use Rattle.vm_workers.specs.Works.{AreFound, HasFoundWord, SaysNothing, MakesEntries}
+use Rattle.vm_rule.proofs.{Entries.append-none, Heard.each-both}
+use Rattle.vm_step.specs.Prelude.{Did, HasGiven, View}
+use Rattle.vm_step.proofs.Evidenced.{given-behind, given-front}
+use Rattle.vm_workers.specs.Works.{AreFound, HasFoundWord, MakesEntries, SaysNothing}
 
 whole-again : {A : Type 0} (new old : List A) → length new ≡ length old → take (length old) (new ++ drop (length new) old) ≡ new
 whole-again [] [] e = refl

@@ -1,8 +1,7 @@
 -- Three entries of one pass.
-use Rattle.std.specs.Prelude.{ℕ, List, [], ◌∷◌, ◌++◌, ◌≡◌, ◌+◌, slice_index}
-use Rattle.vm_owner.specs.declared.Entry.{Entry}
-use Rattle.vm_owner.specs.Kept.{entries_under}
-use Rattle.vm_rule.specs.declared.view.View.{View}
+use Rattle.std.specs.Prelude.{[], ◌++◌, ◌+◌, ◌∷◌, ◌≡◌, List, slice_index, ℕ}
+use Rattle.vm_rule.specs.Prelude.{entries_under, Entry}
+use Rattle.vm_step.specs.Prelude.{View}
 
 -- what is said three times under this number, where it was used so often before
 abbrev pub three_of : ℕ → ℕ → ℕ → List (Entry ℕ)

@@ -1,13 +1,7 @@
 -- A pass of a worker that sets words of pages, before and after its calls.
-use Rattle.std.specs.Prelude.{ℕ, Bool, List, [], ◌≡◌, ◌≤◌}
-use Rattle.atomic_table.specs.Seated.{TableId}
-use Rattle.vm_rule.specs.declared.view.Shape.{Shape}
-use Rattle.vm_rule.specs.declared.view.View.{View}
-use Rattle.vm_rule.specs.declared.words.Pass.{Pass}
-use Rattle.vm_rule.specs.Joins.{HoldsNoPage}
-use Rattle.vm_exmap.specs.Frames.{AreHeld}
-use Rattle.vm_step.specs.Passes.{view}
-use Rattle.vm_step.specs.Ready.{IsReady}
+use Rattle.std.specs.Prelude.{[], ◌≡◌, ◌≤◌, Bool, List, ℕ}
+use Rattle.vm_rule.specs.Prelude.{HoldsNoPage, TableId}
+use Rattle.vm_step.specs.Prelude.{AreHeld, IsReady, Pass, Shape, View, view}
 
 -- the table has the eight pages whose words are set, all claimed
 pub record HasPages (shape : Shape) : Type 0 where

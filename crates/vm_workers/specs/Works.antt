@@ -1,19 +1,9 @@
 -- A worker before and after its calls.
-use Rattle.std.specs.Prelude.{ℕ, Bool, List, [], ◌++◌, ◌≡◌, ◌<◌, ◌≤◌, length, map, slice_index, slice_index_or, All}
-use Rattle.atomic_table.specs.Seated.{TableId}
-use Rattle.vm_rule.specs.declared.view.Shape.{Shape}
-use Rattle.vm_rule.specs.declared.view.Did.{Did}
+use Rattle.std.specs.Prelude.{◌++◌, ◌<◌, ◌≡◌, All, Bool, length, List, map, slice_index, slice_index_or, ℕ}
+use Rattle.vm_rule.specs.Prelude.{Each, Entry, HoldsNoPage, TableId}
 use Rattle.vm_rule.specs.declared.view.Place.TheVariants as places
-use Rattle.vm_rule.specs.declared.view.View.{View}
-use Rattle.vm_owner.specs.declared.Entry.{Entry}
-use Rattle.vm_rule.specs.Joins.{HoldsNoPage}
-use Rattle.vm_rule.specs.Views.{Each}
-use Rattle.vm_step.specs.Evidence.{HasGiven}
-use Rattle.vm_step.specs.Passes.{view}
-use Rattle.vm_step.specs.Ready.{IsReady}
-use Rattle.vm_step.specs.Together.{HasJoined}
-use Rattle.vm_workers.specs.declared.worker.Job.{Job}
-use Rattle.vm_workers.specs.declared.worker.Worker.{Worker}
+use Rattle.vm_step.specs.Prelude.{Did, HasGiven, HasJoined, IsReady, Shape, View, view}
+use Rattle.vm_workers.specs.{declared.worker.Job.Job, declared.worker.Worker.Worker}
 
 module _ {X : Type 0} where
   -- the pass made no entry and no note, and has the parts that it had

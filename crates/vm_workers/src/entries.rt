@@ -1,8 +1,7 @@
 // A pass that makes three entries: they are its own, under its first number, with the counts 1, 2 and 3.
-ghost use Rattle.std.specs.Prelude.{◌≡◌, ◌<◌, IfOk, length, map, true};
-ghost use Rattle.vm_rule.specs.Started.{IsStarted, MayBegin, block_words};
-ghost use Rattle.vm_step.specs.Passes.{IsSamePass, view};
-ghost use Rattle.vm_step.specs.Ready.{IsReady};
+ghost use Rattle.std.specs.Prelude.{◌<◌, ◌≡◌, IfOk, length, map, true};
+ghost use Rattle.vm_rule.specs.Prelude.{block_words, IsStarted, MayBegin};
+ghost use Rattle.vm_step.specs.Prelude.{IsReady, IsSamePass, view};
 ghost use Rattle.vm_workers.specs.Entries.{HasThree, SaysThree};
 
 use crate::tally::Tally;

@@ -1,8 +1,7 @@
 // The passes of workers are joined, one after another.
 ghost use Rattle.std.specs.Prelude.{All};
-ghost use Rattle.vm_rule.specs.Joins.{HoldsNoPage};
-ghost use Rattle.vm_step.specs.Passes.{IsSamePass, MayStep, view};
-ghost use Rattle.vm_step.specs.Together.{HasJoined};
+ghost use Rattle.vm_rule.specs.Prelude.{HoldsNoPage};
+ghost use Rattle.vm_step.specs.Prelude.{HasJoined, IsSamePass, MayStep, view};
 ghost use Rattle.vm_workers.specs.Works.{views_of};
 
 use crate::worker::Worker;

@@ -1,10 +1,8 @@
 // Workers that set words of pages which do not all fit into memory: each brings the pages that it needs, by its own pass and interface, and gives
 // its frames back. Their passes are joined afterwards, so that the first pass has all parts again.
-ghost use Rattle.std.specs.Prelude.{◌≡◌, ◌<◌, ◌≤◌, ℕ, All, IfErr, IfOk, [], length, slice_index_or};
-ghost use Rattle.vm_rule.specs.Joins.{HoldsNoPage};
-ghost use Rattle.vm_step.specs.Alone.{IsAlone};
-ghost use Rattle.vm_step.specs.Passes.{IsSamePass, view};
-ghost use Rattle.vm_step.specs.Ready.{IsReady};
+ghost use Rattle.std.specs.Prelude.{[], ◌<◌, ◌≡◌, ◌≤◌, All, IfErr, length, slice_index_or, ℕ};
+ghost use Rattle.vm_rule.specs.Prelude.{HoldsNoPage};
+ghost use Rattle.vm_step.specs.Prelude.{IsAlone, IsReady, IsSamePass, view};
 ghost use Rattle.vm_workers.specs.Puts.{HasPages, HasPut, KeepsParts, MayStartWork};
 
 use std::alloc::Global;

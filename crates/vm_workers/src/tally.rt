@@ -1,8 +1,7 @@
 // A layer that allows every entry, and workers that make some: the entries of each are found in the history of the pass that took them all in.
-ghost use Rattle.std.specs.Prelude.{All, ◌≡◌, ℕ, ◌<◌, length, slice_index_or};
-ghost use Rattle.vm_step.specs.Passes.{IsSamePass, MayStep, view};
-ghost use Rattle.vm_step.specs.Ready.{IsReady};
-ghost use Rattle.vm_workers.specs.Works.{AreFound, AreTallied, HasFoundWord, HasSaid, MayWork, MakesEntries};
+ghost use Rattle.std.specs.Prelude.{◌<◌, ◌≡◌, All, length, slice_index_or, ℕ};
+ghost use Rattle.vm_step.specs.Prelude.{IsReady, IsSamePass, MayStep, view};
+ghost use Rattle.vm_workers.specs.Works.{AreFound, AreTallied, HasFoundWord, HasSaid, MakesEntries, MayWork};
 
 use crate::joins::join_workers;
 use crate::worker::Worker;

@@ -1,8 +1,7 @@
 // The parallel walk: workers that look at pages, each with its own pass.
-ghost use Rattle.std.specs.Prelude.{All, ◌≡◌, ℕ, ◌<◌, length, slice_index_or};
-ghost use Rattle.vm_step.specs.Passes.{IsSamePass, MayStep, view};
-ghost use Rattle.vm_step.specs.Ready.{IsReady};
-ghost use Rattle.vm_workers.specs.Works.{AreFound, AreDoneAndJoined, HasFoundWord, HasDoneJob, MayWork, SaysNothing};
+ghost use Rattle.std.specs.Prelude.{◌<◌, ◌≡◌, All, length, slice_index_or, ℕ};
+ghost use Rattle.vm_step.specs.Prelude.{IsReady, IsSamePass, MayStep, view};
+ghost use Rattle.vm_workers.specs.Works.{AreDoneAndJoined, AreFound, HasDoneJob, HasFoundWord, MayWork, SaysNothing};
 
 use crate::joins::join_workers;
 use crate::worker::Worker;

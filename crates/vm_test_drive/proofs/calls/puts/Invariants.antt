@@ -1,5 +1,5 @@
-use Rattle.std.proofs.Common.{◌≡◌, ◌≤◌, length}
 use Rattle.std.specs.List.{AllByRecursion}
+use Rattle.std.proofs.Common.{◌≡◌, ◌≤◌, length}
 use Rattle.vm_map.specs.History.{IsAskable}
 use Rattle.vm_test_drive.proofs.calls.puts.Given as goal
 

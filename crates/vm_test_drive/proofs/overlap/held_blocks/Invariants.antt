@@ -1,5 +1,5 @@
-use Rattle.std.proofs.Common.{◌≡◌, ◌++◌, length}
 use Rattle.std.specs.Vec.Iter.{into_iter_items, into_iter_len}
+use Rattle.std.proofs.Common.{◌++◌, ◌≡◌, length}
 use Rattle.vm_test_drive.proofs.overlap.held_blocks.Given as goal
 
 abbrev pub invariant-loop-inner : goal.invariant-loop-inner

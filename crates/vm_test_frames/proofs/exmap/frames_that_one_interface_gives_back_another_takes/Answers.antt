@@ -1,6 +1,6 @@
 -- The other interface found no frame, so the frames of the first one are held as before.
 use Rattle.std.proofs.Common.{refl}
-use Rattle.vm_step.specs.Passes.{view}
+use Rattle.vm_step.specs.Prelude.{view}
 use Rattle.vm_exmap.proofs.Handing.{held-on, held-swap}
 use Rattle.vm_test_frames.proofs.exmap.frames_that_one_interface_gives_back_another_takes.Goals as goal
 

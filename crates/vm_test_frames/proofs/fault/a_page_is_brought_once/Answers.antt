@@ -1,7 +1,7 @@
-use Rattle.std.proofs.Common.{◌≡◌, ◌≢◌, ◌<◌, ℕ, List, true, ap, ◌∙◌, arith}
-use Rattle.vm_owner.specs.Numbers.{has, without}
+use Rattle.std.proofs.Common.{◌<◌, ◌∙◌, ◌≡◌, ◌≢◌, ap, arith, List, true, ℕ}
 use Rattle.vm_owner.proofs.NumberLemmas.{has-without_other}
-use Rattle.vm_step.specs.Passes.{view}
+use Rattle.vm_rule.specs.Prelude.{has, without}
+use Rattle.vm_step.specs.Prelude.{view}
 use Rattle.vm_test_frames.proofs.fault.a_page_is_brought_once.Goals as goal
 
 -- the first frame went to the page, and the second is left

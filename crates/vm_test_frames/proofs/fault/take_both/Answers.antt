@@ -1,7 +1,6 @@
-use Rattle.std.proofs.Common.{◌≡◌, ◌++◌, ℕ, List, true, refl, ap, ◌∙◌}
-use Rattle.vm_owner.specs.Numbers.{has}
-use Rattle.vm_rule.specs.declared.view.View.{View}
-use Rattle.vm_rule.specs.Bundles.{frames_in}
+use Rattle.std.proofs.Common.{◌++◌, ◌∙◌, ◌≡◌, ap, List, refl, true, ℕ}
+use Rattle.vm_rule.specs.Prelude.{frames_in, has}
+use Rattle.vm_step.specs.Prelude.{View}
 use Rattle.vm_test_frames.proofs.fault.take_both.Goals as goal
 
 -- both frames are among those of the two lowest bits

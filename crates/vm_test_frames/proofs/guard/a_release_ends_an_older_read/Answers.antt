@@ -1,5 +1,5 @@
-use Rattle.std.proofs.Common.{sym, subst, inr}
-use Rattle.vm_step.specs.Passes.{view}
+use Rattle.std.proofs.Common.{inr, subst, sym}
+use Rattle.vm_step.specs.Prelude.{view}
 use Rattle.vm_guard.specs.Guards.{HasLeft}
 use Rattle.vm_guard.proofs.Leaving.{has-left-on, lock-leaves}
 use Rattle.vm_test_frames.proofs.guard.a_release_ends_an_older_read.Goals as goal

@@ -1,7 +1,6 @@
-use Rattle.std.proofs.Common.{◌≡◌, ℕ, None, [], false}
-use Rattle.vm_rule.specs.Views.{seat_of}
-use Rattle.vm_step.specs.Passes.{view}
-use Rattle.vm_step.specs.Ready.{IsReady}
+use Rattle.std.proofs.Common.{[], ◌≡◌, false, None, ℕ}
+use Rattle.vm_rule.specs.Prelude.{seat_of}
+use Rattle.vm_step.specs.Prelude.{IsReady, view}
 use Rattle.vm_test_frames.proofs.resident.resident.Given as goal
 
 -- the pass is ready, knows the same start, and holds, owes and writes back no page

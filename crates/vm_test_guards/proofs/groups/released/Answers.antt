@@ -1,6 +1,6 @@
-use Rattle.std.proofs.Common.{refl, ◌∙◌}
-use Rattle.vm_test_guards.proofs.Released.{may-three}
+use Rattle.std.proofs.Common.{◌∙◌, refl}
 use Rattle.vm_test_guards.proofs.groups.released.Goals as goal
+use Rattle.vm_test_guards.proofs.Released.{may-three}
 
 pub release_group-requires-clause-may : goal.release_group-requires-clause-may
 release_group-requires-clause-may g c =

@@ -1,6 +1,6 @@
 use Rattle.std.proofs.Common.{◌∙◌}
-use Rattle.vm_test_guards.proofs.Released.{holding-on}
 use Rattle.vm_test_guards.proofs.groups.written.Goals as goal
+use Rattle.vm_test_guards.proofs.Released.{holding-on}
 
 pub returns-clause-others : goal.returns-clause-others
 returns-clause-others g c q f v d ne h =

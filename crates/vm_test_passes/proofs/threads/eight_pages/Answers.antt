@@ -1,5 +1,5 @@
-use Rattle.std.proofs.Common.{ℕ, ◌≡◌, ◌≤◌, length, ap, ◌∙◌, arith}
-use Rattle.vm_step.specs.Passes.{view}
+use Rattle.std.proofs.Common.{◌∙◌, ◌≡◌, ap, arith, length}
+use Rattle.vm_step.specs.Prelude.{view}
 use Rattle.vm_step.proofs.Together.{numbers-length}
 use Rattle.vm_pool.proofs.FirstPage.{first-alone}
 use Rattle.vm_test_passes.proofs.threads.eight_pages.Goals as goal

@@ -1,6 +1,6 @@
-use Rattle.std.proofs.Common.{◌≡◌, ◌<◌, ◌++◌, ◌∷◌, [], ℕ, List, refl, sym, ap, subst, ◌∙◌, arith}
-use Rattle.vm_core.specs.Words.{MARKED, MAX_VERSION, state_of, version_of}
-use Rattle.vm_step.specs.Choices.{AreCandidates}
+use Rattle.std.proofs.Common.{[], ◌++◌, ◌<◌, ◌∙◌, ◌∷◌, ◌≡◌, ap, arith, List, refl, subst, sym, ℕ}
+use Rattle.vm_core.specs.Prelude.{MARKED, MAX_VERSION, state_of, version_of}
+use Rattle.vm_step.specs.Prelude.{AreCandidates}
 use Rattle.vm_test_pool.proofs.evict.candidate.Goals as goal
 
 marked : state_of 18302628885633695751 ≡ MARKED

@@ -1,16 +1,9 @@
-use Rattle.std.proofs.Common.{◌≡◌, ◌<◌, ℕ, List, true, None, refl, ap, ◌∙◌, inr, arith}
+use Rattle.std.proofs.Common.{◌<◌, ◌∙◌, ◌≡◌, ap, arith, inr, List, None, refl, true, ℕ}
 use Rattle.std.proofs.lemmas.Bool.{or_left}
-use Rattle.vm_core.specs.declared.event.Seat.{Seat}
-use Rattle.vm_core.specs.Words.{EVICTED, MAX_VERSION, state_of, version_of}
-use Rattle.vm_core.specs.Start.{no_seat}
+use Rattle.vm_core.specs.Prelude.{EVICTED, MAX_VERSION, no_seat, state_of, version_of}
 use Rattle.vm_core.proofs.Upd.{upd-same}
-use Rattle.vm_owner.specs.Kept.{Start}
-use Rattle.vm_rule.specs.declared.view.View.{View}
-use Rattle.vm_rule.specs.Puts.{put_at}
-use Rattle.vm_rule.specs.Views.{seat_of}
-use Rattle.vm_rule.specs.Reading.{last_of}
-use Rattle.vm_rule.specs.Locks.{LockTold, locked_view}
-use Rattle.vm_step.specs.Conditions.{MayTakeOut}
+use Rattle.vm_rule.specs.Prelude.{last_of, locked_view, LockTold, put_at, Seat, seat_of, Start}
+use Rattle.vm_step.specs.Prelude.{MayTakeOut, View}
 use Rattle.vm_step.proofs.Evidenced.{taken-view}
 use Rattle.vm_test_pool.proofs.evict.last_in_block.Goals as goal
 

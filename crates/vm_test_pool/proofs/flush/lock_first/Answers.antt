@@ -1,5 +1,5 @@
-use Rattle.std.proofs.Common.{◌≡◌, ◌<◌, inl, arith}
-use Rattle.vm_core.specs.Words.{UNLOCKED, MAX_VERSION, state_of, version_of}
+use Rattle.std.proofs.Common.{◌<◌, ◌≡◌, arith, inl}
+use Rattle.vm_core.specs.Prelude.{MAX_VERSION, state_of, UNLOCKED, version_of}
 use Rattle.vm_test_pool.proofs.flush.lock_first.Goals as goal
 
 unlocked : state_of 7 ≡ UNLOCKED

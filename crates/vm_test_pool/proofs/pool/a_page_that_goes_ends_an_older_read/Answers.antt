@@ -1,14 +1,10 @@
-use Rattle.std.proofs.Common.{ℕ, ◌≡◌, ◌<◌, true, None, List, [], refl, sym, ap, subst, ◌∙◌, inl, inr, arith}
-use Rattle.vm_core.specs.StateActs.{is_readable}
-use Rattle.vm_core.specs.Words.{state_of, version_of}
-use Rattle.vm_owner.specs.Kept.{Start}
+use Rattle.std.proofs.Common.{[], ◌<◌, ◌≡◌, arith, inl, inr, List, None, refl, subst, sym, true, ℕ}
+use Rattle.vm_core.specs.Prelude.{is_readable, state_of, version_of}
+use Rattle.vm_rule.specs.Prelude.{did_load, LookTold, Start}
 use Rattle.vm_rule.specs.declared.view.Place.TheVariants as places
-use Rattle.vm_rule.specs.declared.view.View.{View}
-use Rattle.vm_rule.specs.Log.{did_load}
-use Rattle.vm_rule.specs.Looks.{LookTold}
+use Rattle.vm_step.specs.Prelude.{View, view}
 use Rattle.vm_guard.specs.Guards.{HasLeft}
 use Rattle.vm_guard.proofs.QuietSteps.{look-quiet}
-use Rattle.vm_step.specs.Passes.{view}
 use Rattle.vm_test_pool.proofs.pool.a_page_that_goes_ends_an_older_read.Goals as goal
 
 -- a look found the page at a later version than that of a read

@@ -1,8 +1,8 @@
 use Rattle.std.proofs.Common.{◌∙◌}
 use Rattle.vm_map.specs.declared.call.Call.TheVariants.{Get}
-use Rattle.vm_step.specs.Passes.{view}
-use Rattle.vm_test_tree.proofs.Homes.{read-rests, rests-held}
+use Rattle.vm_step.specs.Prelude.{view}
 use Rattle.vm_test_tree.proofs.calls.get_once.Goals as goal
+use Rattle.vm_test_tree.proofs.Homes.{read-rests, rests-held}
 
 pub returns-clause-home : goal.returns-clause-home
 returns-clause-home c = (read-rests (Get c.args.key) c.args.key c.try_get.result (view c.args.pass.now) (view c.try_get.new.pass) c.try_get.ensures.tried).out ∙ c.requires.home

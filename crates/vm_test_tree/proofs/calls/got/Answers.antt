@@ -1,8 +1,8 @@
 use Rattle.std.proofs.Common.{◌∙◌}
 use Rattle.vm_map.specs.declared.call.Call.TheVariants.{Get}
-use Rattle.vm_step.specs.Passes.{view}
-use Rattle.vm_test_tree.proofs.Homes.{got-home}
+use Rattle.vm_step.specs.Prelude.{view}
 use Rattle.vm_test_tree.proofs.calls.got.Goals as goal
+use Rattle.vm_test_tree.proofs.Homes.{got-home}
 
 pub returns-clause-home : goal.returns-clause-home
 returns-clause-home g c = got-home (Get c.args.key) c.args.key c.get.result (view c.args.pass.now) (view c.get.new.pass) c.get.ensures.ok c.get.ensures.err ∙ c.requires.home

@@ -1,4 +1,4 @@
-use Rattle.std.proofs.Common.{refl, inl}
+use Rattle.std.proofs.Common.{inl, refl}
 use Rattle.vm_test_tree.proofs.reads.a_locked_page_is_tried_again.Goals as goal
 
 pub release-requires-clause-owner : goal.release-requires-clause-owner

@@ -1,7 +1,6 @@
 use Rattle.std.proofs.Common.{◌∙◌}
-use Rattle.vm_step.specs.Passes.{view}
-use Rattle.vm_test_tree.proofs.Homes.{rests-held}
-use Rattle.vm_test_tree.proofs.WriteHomes.{del-rests}
+use Rattle.vm_step.specs.Prelude.{view}
+use Rattle.vm_test_tree.proofs.{Homes.rests-held, WriteHomes.del-rests}
 use Rattle.vm_test_tree.proofs.write_calls.del_once.Goals as goal
 
 pub returns-clause-home : goal.returns-clause-home

@@ -1,8 +1,8 @@
 use Rattle.std.proofs.Common.{◌∙◌}
 use Rattle.vm_map.specs.declared.call.Call.TheVariants.{Put}
-use Rattle.vm_step.specs.Passes.{view}
-use Rattle.vm_test_tree.proofs.WriteHomes.{put-home}
+use Rattle.vm_step.specs.Prelude.{view}
 use Rattle.vm_test_tree.proofs.write_calls.put_at.Goals as goal
+use Rattle.vm_test_tree.proofs.WriteHomes.{put-home}
 
 pub returns-clause-home : goal.returns-clause-home
 returns-clause-home g c = put-home (Put c.args.key c.args.value) c.args.key c.put.result (view c.args.pass.now) (view c.put.new.pass) c.put.ensures.ok c.put.ensures.err ∙ c.requires.home

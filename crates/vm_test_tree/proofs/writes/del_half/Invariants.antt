@@ -1,7 +1,5 @@
 use Rattle.std.proofs.Common.{◌≡◌, None, true}
-use Rattle.vm_step.specs.HeldFrames.{AreHeld}
-use Rattle.vm_step.specs.Passes.{view}
-use Rattle.vm_step.specs.Ready.{IsReady}
+use Rattle.vm_step.specs.Prelude.{AreHeld, IsReady, view}
 use Rattle.vm_test_tree.proofs.writes.del_half.Given as goal
 
 -- the pass is ready and at home

@@ -1,6 +1,5 @@
 use Rattle.std.proofs.Common.{◌∙◌, ap, sym}
-use Rattle.vm_rule.specs.declared.view.Origin.{Origin}
-use Rattle.vm_step.specs.Passes.{view}
+use Rattle.vm_step.specs.Prelude.{Origin, view}
 use Rattle.vm_tree_callers.proofs.Answered.{answers-behind}
 use Rattle.vm_tree_callers.proofs.met.put_meet_get.Goals as goal
 

@@ -1,4 +1,4 @@
-use Rattle.vm_step.specs.Passes.{view}
+use Rattle.vm_step.specs.Prelude.{view}
 use Rattle.vm_tree_callers.proofs.Answered.{answers-put}
 use Rattle.vm_tree_callers.proofs.put_get.put_then_get.Goals as goal
 

@@ -1,5 +1,5 @@
-use Rattle.std.proofs.Common.{◌∙◌, true≢false, ap, sym}
-use Rattle.vm_rule.specs.declared.view.Origin.{Origin}
+use Rattle.std.proofs.Common.{◌∙◌, ap, sym, true≢false}
+use Rattle.vm_step.specs.Prelude.{Origin}
 use Rattle.vm_tree_callers.proofs.Evidence.{again-other, again-seen}
 use Rattle.vm_tree_callers.proofs.why.why_again.Goals as goal
 

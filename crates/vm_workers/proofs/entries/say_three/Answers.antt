@@ -1,5 +1,5 @@
 use Rattle.std.proofs.Common.{inr}
-use Rattle.vm_step.specs.Passes.{view}
+use Rattle.vm_step.specs.Prelude.{view}
 use Rattle.vm_workers.proofs.Counting.{says-three}
 use Rattle.vm_workers.proofs.entries.say_three.Goals as goal
 

@@ -1,5 +1,5 @@
-use Rattle.std.proofs.Common.{ap, ◌∙◌}
-use Rattle.vm_step.specs.Passes.{view}
+use Rattle.std.proofs.Common.{◌∙◌, ap}
+use Rattle.vm_step.specs.Prelude.{view}
 use Rattle.vm_workers.proofs.Counting.{has-three}
 use Rattle.vm_workers.proofs.entries.three_entries.Goals as goal
 

@@ -1,9 +1,7 @@
-use Rattle.std.proofs.Common.{◌≡◌, List, [], ◌∷◌, map, subst, sym, ap, ◌∙◌}
+use Rattle.std.proofs.Common.{[], ◌∙◌, ◌∷◌, map, subst, sym}
 use mathlib.Core.List.{map-append}
-use Rattle.vm_step.specs.Passes.{view}
-use Rattle.vm_step.specs.Together.{HasJoined}
+use Rattle.vm_step.specs.Prelude.{HasJoined, view}
 use Rattle.vm_step.proofs.Together.{joined-one}
-use Rattle.vm_workers.specs.Works.{views_of}
 use Rattle.vm_workers.proofs.joins.join_workers.Goals as goal
 
 pub loop-worker-preserved : goal.loop-worker-preserved

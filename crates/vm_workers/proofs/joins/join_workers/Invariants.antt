@@ -1,6 +1,4 @@
-use Rattle.std.proofs.Common.{◌≡◌}
-use Rattle.vm_step.specs.Passes.{IsSamePass, MayStep, view}
-use Rattle.vm_step.specs.Together.{HasJoined}
+use Rattle.vm_step.specs.Prelude.{HasJoined, IsSamePass, MayStep, view}
 use Rattle.vm_workers.specs.Works.{views_of}
 use Rattle.vm_workers.proofs.joins.join_workers.Given as goal
 

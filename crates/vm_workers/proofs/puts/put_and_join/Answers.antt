@@ -1,12 +1,11 @@
-use Rattle.std.proofs.Common.{length, map, ap, sym, subst, ◌∙◌}
 use Rattle.std.specs.Prelude.{All}
-use Rattle.vm_rule.specs.Joins.{HoldsNoPage}
-use Rattle.vm_step.specs.Passes.{MayStep, view}
-use Rattle.vm_step.specs.Together.{HasJoined}
+use Rattle.std.proofs.Common.{◌∙◌, ap, length, map, subst, sym}
+use Rattle.vm_rule.specs.Prelude.{HoldsNoPage}
+use Rattle.vm_step.specs.Prelude.{HasJoined, MayStep, view}
 use Rattle.vm_step.proofs.Together.{ready-as}
+use Rattle.vm_workers.proofs.puts.put_and_join.Goals as goal
 use Rattle.vm_workers.proofs.Putting.{alone-again, each-nothing, each-step, may-begin, nothing-again}
 use Rattle.vm_workers.proofs.Staying.{came-back}
-use Rattle.vm_workers.proofs.puts.put_and_join.Goals as goal
 
 pub put_all-requires-clause-may : goal.put_all-requires-clause-may
 put_all-requires-clause-may g c lts lives =

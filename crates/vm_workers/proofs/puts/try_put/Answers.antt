@@ -1,9 +1,8 @@
-use Rattle.std.proofs.Common.{ℕ, None, ap, subst, ◌∙◌}
-use Rattle.vm_step.specs.Passes.{view}
-use Rattle.vm_guard.specs.Guards.{IsReleased, IsSet}
-use Rattle.vm_guard.specs.declared.exclusive.ExclusiveGuard.{ExclusiveGuard}
-use Rattle.vm_workers.proofs.Putting.{put-held, put-nothing}
+use Rattle.std.proofs.Common.{◌∙◌, ap, None, subst, ℕ}
+use Rattle.vm_step.specs.Prelude.{view}
+use Rattle.vm_guard.specs.{declared.exclusive.ExclusiveGuard.ExclusiveGuard, Guards.IsReleased, Guards.IsSet}
 use Rattle.vm_workers.proofs.puts.try_put.Goals as goal
+use Rattle.vm_workers.proofs.Putting.{put-held, put-nothing}
 
 pub returns-in-Ok-clause-may : goal.returns-in-Ok-clause-may
 returns-in-Ok-clause-may g c =

@@ -1,6 +1,5 @@
-use Rattle.std.proofs.Common.{◌∙◌}
-use Rattle.vm_workers.proofs.Putting.{nothing-moved, parts-then}
 use Rattle.vm_workers.proofs.puts.work.Goals as goal
+use Rattle.vm_workers.proofs.Putting.{nothing-moved, parts-then}
 
 pub returns : goal.returns
 returns g c =

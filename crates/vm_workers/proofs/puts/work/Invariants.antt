@@ -1,5 +1,4 @@
-use Rattle.std.proofs.Common.{◌≡◌}
-use Rattle.vm_step.specs.Passes.{IsSamePass, view}
+use Rattle.vm_step.specs.Prelude.{IsSamePass, view}
 use Rattle.vm_workers.specs.Puts.{KeepsParts, MayStartWork}
 use Rattle.vm_workers.proofs.puts.work.Given as goal
 

@@ -1,5 +1,5 @@
 use Rattle.std.proofs.Common.{inr}
-use Rattle.vm_workers.proofs.Staying.{found-after, look-found, look-says, stays-says, says-on, look-stays}
+use Rattle.vm_workers.proofs.Staying.{found-after, look-found, look-says, look-stays, says-on, stays-says}
 use Rattle.vm_workers.proofs.tally.call.Goals as goal
 
 pub look-requires-clause-owner : goal.look-requires-clause-owner

@@ -1,6 +1,5 @@
-use Rattle.std.proofs.Common.{◌≡◌, ◌<◌, length, slice_index_or, ap, sym, subst, ◌∙◌}
-use Rattle.vm_step.specs.Passes.{view}
-use Rattle.vm_step.specs.Together.{HasJoined}
+use Rattle.std.proofs.Common.{◌<◌, ◌∙◌, ap, length, slice_index_or, subst, sym}
+use Rattle.vm_step.specs.Prelude.{HasJoined, view}
 use Rattle.vm_workers.specs.Works.{HasSaid, views_of}
 use Rattle.vm_workers.proofs.Staying.{came-back}
 use Rattle.vm_workers.proofs.tally.tally_and_join.Goals as goal

@@ -1,4 +1,4 @@
-use Rattle.std.proofs.Common.{length, refl, ap, sym, ◌∙◌}
+use Rattle.std.proofs.Common.{◌∙◌, ap, length, refl, sym}
 use Rattle.vm_workers.proofs.Staying.{came-back, found-back}
 use Rattle.vm_workers.proofs.tally.work.Goals as goal
 

@@ -1,4 +1,4 @@
-use Rattle.std.proofs.Common.{◌≡◌, ◌<◌, ◌≤◌, length, length-set, ◌∙◌, arith}
+use Rattle.std.proofs.Common.{◌<◌, ◌∙◌, ◌≡◌, arith, length, length-set}
 use Rattle.vm_workers.proofs.Staying.{found-all, found-more, stays-on}
 use Rattle.vm_workers.proofs.walk.serve.Goals as goal
 

@@ -1,0 +1,60 @@
+//! Hosts whose calls with given numbers fail: what is read, written or said up to there.
+
+use crate::expect::{RUN, expect_no_run, expect_run, host, is_kept, perform};
+use crate::pages::empty_tree;
+use std::test::Fail;
+use vm_cli::ends::Ends;
+use vm_drive::gate::Open;
+
+/// Call 2 reads the image to its end, call 4 the script: the file that could not be read is named.
+#[test]
+fn files_that_can_not_be_read(rt: HostRuntime) -> Result<(), Fail> {
+    let alloc = rt.alloc();
+    for (call, said) in [(2, "read I0\n"), (4, "read S\n")] {
+        let mut host = host(alloc, empty_tree(alloc, 6)?, b"0 get 1\n", &[call])?;
+        expect_no_run(&rt, alloc, &mut host, RUN, 2, said)?;
+    }
+    Ok(())
+}
+
+/// Where the line of a refusal can't be said, the status is 3. Call 1 says where no file is read, call 3 behind an image.
+#[test]
+fn a_refusal_that_is_not_said(rt: HostRuntime) -> Result<(), Fail> {
+    let alloc = rt.alloc();
+    let zeros = vec![in alloc; 0u8; 511]?;
+    let mut host = host(alloc, zeros, b"", &[1, 4])?;
+    expect_no_run(&rt, alloc, &mut host, "walk I0", 3, "")?;
+    expect_no_run(&rt, alloc, &mut host, RUN, 3, "")
+}
+
+/// Call 1 of a make writes the file, and call 2 says what was made. 65,536 pages are within the limits, but no file here has room for them.
+#[test]
+fn a_make_that_fails(rt: HostRuntime) -> Result<(), Fail> {
+    let alloc = rt.alloc();
+    for (line, plan) in [
+        ("make K 8 2 1", [1].as_slice()),
+        ("make NOFILE 8 2 1", &[]),
+        ("make K 65536 0 1", &[]),
+        ("make K 2 29 1", &[1]),
+    ] {
+        let mut host = host(alloc, Vec::new(alloc), b"", plan)?;
+        expect_no_run(&rt, alloc, &mut host, line, 3, "")?;
+    }
+    let mut host = host(alloc, Vec::new(alloc), b"", &[2])?;
+    let mut ends = Ends::Nothing;
+    let status = perform(&rt, alloc, &mut host, "make K 8 0 1", &Open, &mut ends)?;
+    assert_eq!(rt; status, 3);
+    assert!(rt; host.said().is_empty());
+    assert!(rt; host.file("K") == Some(empty_tree(alloc, 6)?.as_slice()));
+    assert!(rt; !is_kept(&ends));
+    Ok(())
+}
+
+/// Call 1 of a churn says the line. Where it fails the workers have ended, so what their pool left is kept.
+#[test]
+fn a_churn_that_is_not_said(rt: HostRuntime) -> Result<(), Fail> {
+    let alloc = rt.alloc();
+    let mut host = host(alloc, Vec::new(alloc), b"", &[1])?;
+    let line = "churn 10 1 --workers 2 --frames 64";
+    expect_run(&rt, alloc, &mut host, line, 3, "")
+}
