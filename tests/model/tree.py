@@ -1,0 +1,268 @@
+"""Page files, the checker, the builder, and the calls of one worker on a tree.
+
+A page is a list of 64 numbers, a page file a list of pages. Written from docs/ and the READMEs of the crates, and from no answer of the program.
+"""
+
+from dataclasses import dataclass
+
+MAGIC = 0x564D434143484531
+WORDS, MOST, HALF, BUILT = 64, 28, 14, 20
+LEAF, INNER = 2, 3
+TOP, LAST = 2**64, 2**56 - 1
+
+
+def blank():
+    return [0] * WORDS
+
+
+def spell(pages):
+    """The bytes of a page file."""
+    return b"".join(word.to_bytes(8, "big") for page in pages for word in page)
+
+
+def read(data):
+    """The pages that the bytes spell, or None where the length is no page file's."""
+    size = len(data) // 512
+    if len(data) % 512 or not 2 <= size <= 65536:
+        return None
+    words = [int.from_bytes(data[i : i + 8], "big") for i in range(0, len(data), 8)]
+    return [words[WORDS * p : WORDS * (p + 1)] for p in range(size)]
+
+
+@dataclass
+class Node:
+    level: int
+    low: int
+    high: int | None
+    pairs: list  # of key and value, or of a child's lowest key and its page
+
+    def page(self):
+        words = [LEAF if self.level == 0 else INNER, len(self.pairs), self.low, self.high or 0, int(self.high is None), self.level, 0, 0]
+        for key, value in self.pairs:
+            words += [key, value]
+        return words + [0] * (WORDS - len(words))
+
+    def place(self, key):
+        """The place of the child that covers the key."""
+        return max(i for i, (low, _) in enumerate(self.pairs) if low <= key)
+
+
+def node_of(page):
+    high = None if page[4] == 1 else page[3]
+    return Node(page[5], page[2], high, [(page[8 + 2 * i], page[9 + 2 * i]) for i in range(page[1])])
+
+
+def meta(root, height):
+    return [MAGIC, root, height] + [0] * 61
+
+
+def fault_of(pages, pid, level, low, high, seen):
+    """Why the page can't be the node of this level and these fences, by the first reason of the nine; None where it can."""
+    page = pages[pid]
+    if pid in seen:
+        return 3
+    if page[0] != (LEAF if level == 0 else INNER):
+        return 4
+    if page[2:5] != [low, high or 0, int(high is None)]:
+        return 5
+    count = page[1]
+    if count > MOST or (level > 0 and count == 0) or page[5] != level or page[6] or page[7] or any(page[8 + 2 * count :]):
+        return 6
+    keys = [page[8 + 2 * i] for i in range(count)]
+    rises = all(a < b for a, b in zip(keys, keys[1:]))
+    inside = all(low <= k and (high is None or k < high) for k in keys)
+    if not rises or not inside or (level > 0 and keys[0] != low):
+        return 7
+    if level > 0 and not all(1 <= page[9 + 2 * i] < len(pages) for i in range(count)):
+        return 8
+    return None
+
+
+def check(pages):
+    """The rows, the height and the number of used pages; or the page and the reason of the first fault on the walk."""
+    if pages[0][0] != MAGIC:
+        return ("bad", 0, 1)
+    root, height = pages[0][1], pages[0][2]
+    if not 1 <= root < len(pages) or height > len(pages) - 2 or any(pages[0][3:]):
+        return ("bad", 0, 2)
+    rows, seen, todo = [], set(), [(root, height, 0, None)]
+    while todo:
+        pid, level, low, high = todo.pop()
+        why = fault_of(pages, pid, level, low, high, seen)
+        if why:
+            return ("bad", pid, why)
+        seen.add(pid)
+        node = node_of(pages[pid])
+        if level == 0:
+            rows += node.pairs
+            continue
+        ends = [key for key, _ in node.pairs[1:]] + [high]
+        todo += [(child, level - 1, key, end) for (key, child), end in reversed(list(zip(node.pairs, ends)))]
+    for pid in range(1, len(pages)):
+        if pid not in seen and any(pages[pid]):
+            return ("bad", pid, 9)
+    return ("tree", rows, height, sum(any(page) for page in pages))
+
+
+def numbers(seed, count):
+    """The numbers that follow from a seed."""
+    found, x = [], seed
+    for _ in range(count):
+        found.append(x)
+        x = (6364136223846793005 * x + 1442695040888963407) % TOP
+    return found
+
+
+def needed(count):
+    """How many pages the builder needs."""
+    level = max(1, -(-count // BUILT))
+    pages = 1 + level
+    while level > 1:
+        level = -(-level // BUILT)
+        pages += level
+    return pages
+
+
+def build(size, pairs):
+    """The page file that the builder makes of the pairs, of this many pages; there must be enough."""
+    pages = [blank() for _ in range(size)]
+    items, level, free = sorted(pairs), 0, 1
+    while True:
+        groups = [items[i : i + BUILT] for i in range(0, len(items), BUILT)] or [[]]
+        lows = [0] + [group[0][0] for group in groups[1:]]
+        highs = lows[1:] + [None]
+        if level:
+            groups[0][0] = (0, groups[0][0][1])
+        for group, low, high in zip(groups, lows, highs):
+            pages[free] = Node(level, low, high, group).page()
+            free += 1
+        if len(groups) == 1:
+            pages[0] = meta(free - 1, level)
+            return pages
+        items, level = list(zip(lows, range(free - len(groups), free))), level + 1
+
+
+class Fault(Exception):
+    """A call without a reply, with what may be printed for it."""
+
+    def __init__(self, *texts):
+        super().__init__(*texts)
+        self.texts = texts
+
+
+class Store:
+    """The pages under one worker, where every page finds a frame: versions, the calls on each page's device, and what was changed."""
+
+    def __init__(self, pages, plan=(), version=0):
+        self.pages = [list(page) for page in pages]
+        self.versions = [version] * len(pages)
+        self.plan, self.calls = set(plan), [0] * len(pages)
+        self.resident, self.dirty, self.locked = set(), set(), set()
+        self.reads = self.faults = 0
+        used = [p for p, page in enumerate(pages) if any(page)]
+        self.next = used[-1] + 1 if used else 0
+
+    def device(self, pid):
+        self.calls[pid] += 1
+        if (pid, self.calls[pid]) in self.plan:
+            self.faults += 1
+            return False
+        return True
+
+    def raise_version(self, pid):
+        if self.versions[pid] == LAST:
+            raise Fault(f"worn {pid}")
+        self.versions[pid] += 1
+
+    def bring(self, pid):
+        if pid in self.resident:
+            return
+        self.raise_version(pid)
+        if not self.device(pid):
+            raise Fault(f"fault {pid}")
+        self.reads += 1
+        self.resident.add(pid)
+
+    def node(self, pid):
+        self.bring(pid)
+        return node_of(self.pages[pid])
+
+    def write(self, pid, page):
+        if self.pages[pid] != page:
+            self.dirty.add(pid)
+        self.locked.add(pid)
+        self.pages[pid] = page
+
+    def way(self, key):
+        """The pages from the root to the leaf that covers the key."""
+        self.bring(0)
+        pids, pid = [], self.pages[0][1]
+        while True:
+            pids.append(pid)
+            node = self.node(pid)
+            if node.level == 0:
+                return pids
+            pid = node.pairs[node.place(key)][1]
+
+    def split(self, way):
+        """Splits the first full node of the way; a call `full` where no page is left for it."""
+        at = next(i for i, pid in enumerate(way) if len(node_of(self.pages[pid]).pairs) == MOST)
+        pid, root = way[at], at == 0
+        worn = [f"worn {p}" for p in (0 if root else way[at - 1], pid) if self.versions[p] == LAST]
+        full = ["full"] if self.next + (2 if root else 1) > len(self.pages) else []
+        if worn or full:
+            raise Fault(*worn, *full)
+        node, right = node_of(self.pages[pid]), self.next
+        key = node.pairs[HALF][0]
+        halves = Node(node.level, node.low, key, node.pairs[:HALF]), Node(node.level, key, node.high, node.pairs[HALF:])
+        self.next += 2 if root else 1
+        fresh = [right, right + 1] if root else [right]
+        for page in [0 if root else way[at - 1], pid] + fresh:
+            self.raise_version(page)
+        self.resident |= set(fresh)
+        self.write(pid, halves[0].page())
+        self.write(right, halves[1].page())
+        if root:
+            self.write(right + 1, Node(node.level + 1, 0, None, [(0, pid), (key, right)]).page())
+            self.write(0, meta(right + 1, node.level + 1))
+        else:
+            parent = node_of(self.pages[way[at - 1]])
+            parent.pairs.insert(parent.place(key) + 1, (key, right))
+            self.write(way[at - 1], parent.page())
+
+    def get(self, key):
+        return dict(self.node(self.way(key)[-1]).pairs).get(key)
+
+    def put(self, key, value):
+        while True:
+            way = self.way(key)
+            leaf = node_of(self.pages[way[-1]])
+            pairs = dict(leaf.pairs)
+            if key in pairs or len(pairs) < MOST:
+                break
+            self.split(way)
+        self.raise_version(way[-1])
+        old = pairs.get(key)
+        leaf.pairs = sorted({**pairs, key: value}.items())
+        self.write(way[-1], leaf.page())
+        return old
+
+    def delete(self, key):
+        pid = self.way(key)[-1]
+        leaf = node_of(self.pages[pid])
+        old = dict(leaf.pairs).get(key)
+        if old is not None:
+            self.raise_version(pid)
+            leaf.pairs = [pair for pair in leaf.pairs if pair[0] != key]
+            self.write(pid, leaf.page())
+        return old
+
+    def window(self, start, most):
+        leaf = self.node(self.way(start)[-1])
+        pairs = [pair for pair in leaf.pairs if pair[0] >= start]
+        bound = pairs[most][0] if len(pairs) > most else leaf.high
+        return bound, pairs[:most]
+
+    def flush(self):
+        """The pages whose write failed, each written page's device called once."""
+        return [pid for pid in sorted(self.locked) if not self.device(pid)]
