@@ -144,6 +144,7 @@ struct Mute {
     writes: u64,
 }
 
+#[tactic(auto, unfolding(vm_page::specs::Counts::count_more))]
 impl Block for Mute {
     ghost use Rattle.std.specs.Prelude.{[], false};
     ghost use Rattle.std.proofs.Common.{arith};
