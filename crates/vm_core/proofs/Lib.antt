@@ -6,6 +6,7 @@ pub mod PageMoves
 pub mod Whole
 pub mod At
 pub mod Masks
+pub mod Owned
 pub mod Act
 pub mod Running
 pub mod Cleaning

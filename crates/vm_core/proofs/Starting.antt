@@ -36,14 +36,15 @@ words-more frames n xs x i s =
     }
 
 -- the lists of the start
-pub record StartLists (shape : CoreShape) (pages : List PageData) (frames : List (List ℕ)) (bundles : List ℕ) (held : List (List ℕ)) : Type 0 where
+pub record StartLists (shape : CoreShape) (pages : List PageData) (frames : List (List ℕ)) (bundles : List ℕ) (held : List (List ℕ)) (owners : List ℕ) : Type 0 where
   pub pages_are : StartPages shape shape.pages pages
   pub frames_are : frames ≡ replicate shape.frames (replicate 64 0)
   pub bundles_are : StartBundles shape.frames ((shape.frames + 63) / 64) bundles
   pub held_are : held ≡ replicate shape.actors (replicate ((shape.frames + 63) / 64) 0)
+  pub owners_are : owners ≡ replicate shape.frames 0
 
-pub start-fits : (shape : CoreShape) (pages : List PageData) (frames : List (List ℕ)) (bundles : List ℕ) (held : List (List ℕ)) → StartLists shape pages frames bundles held → CoreFits (record { shape = shape; pages = pages; frames = frames; bundles = bundles; held = held; next = shape.next; hand = 0 })
-start-fits shape pages frames bundles held i =
+pub start-fits : (shape : CoreShape) (pages : List PageData) (frames : List (List ℕ)) (bundles : List ℕ) (held : List (List ℕ)) (owners : List ℕ) → StartLists shape pages frames bundles held owners → CoreFits (record { shape = shape; pages = pages; frames = frames; bundles = bundles; held = held; next = shape.next; hand = 0; owners = owners })
+start-fits shape pages frames bundles held owners i =
     record {
       pages = i.pages_are.len;
       each = λ p d lt. (i.pages_are.each p d (omega (arith, i.pages_are.len, lt))).seats;
@@ -51,6 +52,7 @@ start-fits shape pages frames bundles held i =
       frames = ap length i.frames_are ∙ length-replicate shape.frames (replicate 64 0);
       bundles = i.bundles_are.len;
       held = ap length i.held_are ∙ length-replicate shape.actors (replicate ((shape.frames + 63) / 64) 0);
+      owners = ap length i.owners_are ∙ length-replicate shape.frames 0;
       rows = λ a d lt. ap (λ xs. length (get_or xs a d)) i.held_are
           ∙ ap length (get_or-replicate shape.actors a (replicate ((shape.frames + 63) / 64) 0) d (omega (arith, ap length i.held_are ∙ length-replicate shape.actors (replicate ((shape.frames + 63) / 64) 0), lt)))
           ∙ length-replicate ((shape.frames + 63) / 64) 0;
@@ -127,10 +129,11 @@ start-held actors n =
     (λ le. ap (λ row. has_free_bit (at 0 row) f) (at-get [] rows a ∙ get_or-eq_default rows [] (omega (arith, length-replicate actors none, le))) ∙ none-free 0 f)
     (cases_lt a actors)))
 
-pub start-is : (shape : CoreShape) (pages : List PageData) (frames : List (List ℕ)) (bundles : List ℕ) (held : List (List ℕ)) → shape.next ≤ shape.pages → StartLists shape pages frames bundles held → core_of (record { shape = shape; pages = pages; frames = frames; bundles = bundles; held = held; next = shape.next; hand = 0 }) ≡ start (core_start shape)
-start-is shape pages frames bundles held le i =
+pub start-is : (shape : CoreShape) (pages : List PageData) (frames : List (List ℕ)) (bundles : List ℕ) (held : List (List ℕ)) (owners : List ℕ) → shape.next ≤ shape.pages → StartLists shape pages frames bundles held owners → core_of (record { shape = shape; pages = pages; frames = frames; bundles = bundles; held = held; next = shape.next; hand = 0; owners = owners }) ≡ start (core_start shape)
+start-is shape pages frames bundles held owners le i =
     let ps : pages_of pages ≡ (λ p. evicted_page 0 (core_block shape.next p) 0) = start-pages shape pages le i.pages_are in
     let ws : words_of_frames frames ≡ (λ f. replicate 64 0) = ap words_of_frames i.frames_are ∙ fun_ext (λ f. all-same shape.frames f (replicate 64 0)) in
     let bs : at 0 bundles ≡ full_bundle shape.frames = start-bundles shape.frames bundles i.bundles_are in
     let hs : held_of held ≡ (λ a f. false) = ap held_of i.held_are ∙ start-held shape.actors ((shape.frames + 63) / 64) in
-    λ k. record { shape = shape; tells = true; pages = ps k; words = ws k; bundles = bs k; held = hs k; next = shape.next; hand = 0 }
+    let os : at 0 owners ≡ (λ f. 0) = ap (at 0) i.owners_are ∙ fun_ext (λ f. all-same shape.frames f 0) in
+    λ k. record { shape = shape; tells = true; pages = ps k; words = ws k; bundles = bs k; held = hs k; next = shape.next; hand = 0; owners = os k }

@@ -2,9 +2,9 @@
 use Rattle.std.specs.Prelude.{[], ◌&&◌, ◌++◌, ◌+◌, ◌∷◌, Bool, if◌then◌else◌, List, None, Option, slice_set, Some, ℕ}
 use Rattle.vm_core.specs.{declared.event.Event.Event, declared.event.ReadIs.ReadIs, Fn.upd, State.Page, State.State, StateActs.finds}
 use Rattle.vm_core.specs.{StateActs.left_of, Step.after_event, Step.word_at}
-use Rattle.vm_core.specs.declared.event.Event.TheVariants.{BLoad, Claim, Clean, Clear, Dirty, Downgrade, Give, Hand, Install, Load, LockS, LockW}
-use Rattle.vm_core.specs.declared.event.Event.TheVariants.{LockX, Look, Mark, NLoad, Raise, Read, Release, ReleaseE, RFail, Store, Take, TLoad}
-use Rattle.vm_core.specs.declared.event.Event.TheVariants.{UnlockS, Unmark, Upgrade, WFail, Write}
+use Rattle.vm_core.specs.declared.event.Event.TheVariants.{BLoad, Claim, Clean, Clear, Dirty, Disown, Downgrade, Give, Hand, Install, Load, LockS}
+use Rattle.vm_core.specs.declared.event.Event.TheVariants.{LockW, LockX, Look, Mark, NLoad, OLoad, Own, Raise, Read, Release, ReleaseE, RFail, Store}
+use Rattle.vm_core.specs.declared.event.Event.TheVariants.{Take, TLoad, UnlockS, Unmark, Upgrade, WFail, Write}
 use Rattle.vm_core.specs.declared.event.ReadIs.TheVariants.{Closed, Moved, Opened, Same}
 use Rattle.vm_core.specs.FrameActs.{load_frame, open_frame, stands_in}
 
@@ -82,6 +82,9 @@ histories_after w (Raise a p) = w.histories
 histories_after w (NLoad a) = w.histories
 histories_after w (Claim a x n) = w.histories
 histories_after w (Hand a) = w.histories
+histories_after w (Own a p) = w.histories
+histories_after w (Disown a p) = w.histories
+histories_after w (OLoad a f) = w.histories
 
 -- ---- loads
 
@@ -141,6 +144,9 @@ loads_after w (Raise a p) = w.loads
 loads_after w (NLoad a) = w.loads
 loads_after w (Claim a x n) = w.loads
 loads_after w (Hand a) = w.loads
+loads_after w (Own a p) = w.loads
+loads_after w (Disown a p) = w.loads
+loads_after w (OLoad a f) = w.loads
 
 -- ---- the world
 

@@ -2,9 +2,9 @@
 use Rattle.std.specs.Prelude.{[], ◌∷◌, ◌≡◌, List, Option, Some, true, ℕ}
 use Rattle.vm_core.specs.{declared.event.Event.Event, declared.event.Open.Open, declared.event.ReadIs.TheVariants.Same, History.World}
 use Rattle.vm_core.specs.{History.world_after, Inv.Inv, Inv.LoadsAre, StateActs.finds, StateActs.left_of, Step.Legal, Words.version_of}
-use Rattle.vm_core.specs.declared.event.Event.TheVariants.{BLoad, Claim, Clean, Clear, Dirty, Downgrade, Give, Hand, Install, Load, LockS, LockW}
-use Rattle.vm_core.specs.declared.event.Event.TheVariants.{LockX, Look, Mark, NLoad, Raise, Read, Release, ReleaseE, RFail, Store, Take, TLoad}
-use Rattle.vm_core.specs.declared.event.Event.TheVariants.{UnlockS, Unmark, Upgrade, WFail, Write}
+use Rattle.vm_core.specs.declared.event.Event.TheVariants.{BLoad, Claim, Clean, Clear, Dirty, Disown, Downgrade, Give, Hand, Install, Load, LockS}
+use Rattle.vm_core.specs.declared.event.Event.TheVariants.{LockW, LockX, Look, Mark, NLoad, OLoad, Own, Raise, Read, Release, ReleaseE, RFail, Store}
+use Rattle.vm_core.specs.declared.event.Event.TheVariants.{Take, TLoad, UnlockS, Unmark, Upgrade, WFail, Write}
 
 -- the last version has the version of the actor's open read, and each word loaded through it is the word at its place there
 pub record IsOneVersion (w : World) (a p : ℕ) (o : Open) : Type 0 where
@@ -54,6 +54,9 @@ ReadsOne w (Raise a p) = Unit {0}
 ReadsOne w (NLoad a) = Unit {0}
 ReadsOne w (Claim a x n) = Unit {0}
 ReadsOne w (Hand a) = Unit {0}
+ReadsOne w (Own a p) = Unit {0}
+ReadsOne w (Disown a p) = Unit {0}
+ReadsOne w (OLoad a f) = Unit {0}
 
 -- where the blocks tell their words, a legal event validates only what is one version
 abbrev pub Validates : World → Event → Type 0

@@ -5,7 +5,7 @@ pub use Rattle.vm_page.specs.Counts.{MAX_COUNT}
 unfoldable pub use Rattle.vm_page.specs.Counts.{count_more}
 pub use Rattle.vm_page.specs.declared.buf.TheConstants.{WORDS}
 pub use Rattle.vm_page.specs.Pages.{page_at}
-pub use Rattle.vm_core.specs.CoreOf.{ClearFrame, CoreFits, InFrames, PageSteps, Steps}
+pub use Rattle.vm_core.specs.CoreOf.{ClearFrame, CoreFits, HeldFrame, InFrames, PageSteps, Steps}
 pub use Rattle.vm_core.specs.DeviceActs.{block_after, MayCall, raised, written}
 unfoldable pub use Rattle.vm_core.specs.Fn.{at, sum_below, upd}
 pub use Rattle.vm_core.specs.FrameActs.{cleared, frame_of, frame_read, framed, gains, HoldsAt, installed, load_frame, mapping_at, mapping_of}

@@ -1,4 +1,4 @@
--- The core at the start: every page evicted at the first version, every frame free.
+-- The core at the start: every page evicted at the first version, every frame free and no page's.
 use Rattle.std.specs.List.{range_with_len}
 use Rattle.std.specs.Prelude.{[], ◌*◌, ◌+◌, ◌-◌, ◌^◌, ◌≡◌, ◌≤◌, Bool, false, if◌then◌else◌, length, List, map, min, nat_lt, None, replicate, true, ℕ}
 use Rattle.vm_page.specs.declared.buf.TheConstants.{WORDS}
@@ -32,7 +32,7 @@ pub record IsStart (s : CoreStart) : Type 0 where
   pub first : s.first ≤ MAX_VERSION
   pub blocks : (p : ℕ) → length (s.blocks p) ≡ WORDS
 
--- the state at the start: every page evicted, every frame free
+-- the state at the start: every page evicted, every frame free and no page's
 abbrev pub start : CoreStart → State
 start s =
     record {
@@ -44,6 +44,7 @@ start s =
       held = λ a f. false;
       next = s.shape.next;
       hand = 0;
+      owners = λ f. 0;
     }
 
 -- with its histories: the first version of each page has its block's words

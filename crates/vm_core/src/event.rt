@@ -205,6 +205,21 @@ pub enum Event {
     Hand {
         a: u32,
     },
+    /// Actor `a` writes into the owner word of its locked page's frame that the frame is page `p`'s: `p + 1`.
+    Own {
+        a: u32,
+        p: u32,
+    },
+    /// Actor `a` writes into the owner word of its locked page's frame that the frame is no page's: 0.
+    Disown {
+        a: u32,
+        p: u32,
+    },
+    /// Actor `a` loads the owner word of frame `f`.
+    OLoad {
+        a: u32,
+        f: u32,
+    },
 }
 
 /// What a look leaves of the actor's open read.

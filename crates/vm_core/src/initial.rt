@@ -91,3 +91,10 @@ pub fn start_held(alloc: Global, actors: u32, count: u32) -> Result<Vec<FrameSet
     }
     Ok(held)
 }
+
+/// A class of words at the start, such as the owner words: all 0.
+pub fn start_words(alloc: Global, count: u32) -> Result<Vec<u64>, AllocError>
+    ensures { IfOk result (λ v. v.items ≡ replicate count 0) }
+{
+    vec![in alloc; 0; count as usize]
+}

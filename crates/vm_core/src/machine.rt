@@ -1,7 +1,7 @@
 //! The machine: a pool's pages, frames, bundle words and counters as plain values, and one step.
 //!
 //! It is the rule book of the running pool: which events may happen in a state, the state that each leads to, and what it sees. The events
-//! on frames, bundles and counters stand in the child modules, those on one page in `page`.
+//! on frames, bundles, counters and owner words stand in the child modules, those on one page in `page`.
 
 ghost use Rattle.std.specs.Prelude.{◌<◌, ◌↔◌, ◌≡◌, ◌≤◌, IfOk, IsTrue, slice_index};
 ghost use Rattle.vm_core.specs.Prelude.{core_of, core_start, CoreData, CoreFits, NamesActorAndPage, start, Steps};
@@ -10,10 +10,13 @@ ghost use Rattle.vm_core.specs.CoreOf.{ActSteps};
 mod bundles;
 mod counters;
 mod frames;
+mod owners;
 
 use crate::event::{CoreShape, Event, Illegal, PageAct, Seen};
 use crate::frames::FrameSet;
-use crate::initial::{bundle_count, start_bundles, start_frames, start_held, start_pages};
+use crate::initial::{
+    bundle_count, start_bundles, start_frames, start_held, start_pages, start_words,
+};
 use crate::page::PageCell;
 use std::alloc::{AllocError, Global};
 use std::marker::Model;
@@ -32,7 +35,7 @@ impl From<AllocError> for Memory {
 }
 
 /// The machine. For contracts it is the state `core_of core` of `specs/State.antt`: its shape, its pages, the words of its frames, its bundle
-/// words, the frames that each actor holds, the next word and the hand.
+/// words, the frames that each actor holds, the next word, the hand and the owner words.
 #[derive(Drop)]
 pub struct Core {
     shape: CoreShape,
@@ -42,19 +45,20 @@ pub struct Core {
     held: Vec<FrameSet>,
     next: u64,
     hand: u64,
+    owners: Vec<u64>,
 }
 
 impl Model for Core {
     ghost Value = { CoreData };
 
-    ghost view = { λ c. record { shape = c.shape; pages = c.pages.items; frames = c.frames.items; bundles = c.bundles.items; held = c.held.items; next = c.next; hand = c.hand } };
+    ghost view = { λ c. record { shape = c.shape; pages = c.pages.items; frames = c.frames.items; bundles = c.bundles.items; held = c.held.items; next = c.next; hand = c.hand; owners = c.owners.items } };
 
-    ghost invariant = { λ c. CoreFits (record { shape = c.shape; pages = c.pages.items; frames = c.frames.items; bundles = c.bundles.items; held = c.held.items; next = c.next; hand = c.hand }) };
+    ghost invariant = { λ c. CoreFits (record { shape = c.shape; pages = c.pages.items; frames = c.frames.items; bundles = c.bundles.items; held = c.held.items; next = c.next; hand = c.hand; owners = c.owners.items }) };
 }
 
 impl Core {
-    /// The machine at the start: every page is evicted at version 0 with no fault, every frame is free and zero, nobody holds anything, and
-    /// the hand is 0. Block `p` holds the words `64 * p + i` for pages below `shape.next`, and zeros from there on.
+    /// The machine at the start: every page is evicted at version 0 with no fault, every frame is free, zero and no page's, nobody holds
+    /// anything, and the hand is 0. Block `p` holds the words `64 * p + i` for pages below `shape.next`, and zeros from there on.
     pub fn new(alloc: Global, shape: CoreShape) -> Result<Self, Memory>
         requires { shape.next ≤ shape.pages }
         ensures { IfOk result (λ c. core_of c ≡ start (core_start shape)) }
@@ -64,6 +68,7 @@ impl Core {
         let frames = start_frames(alloc, shape.frames)?;
         let bundles = start_bundles(alloc, shape.frames, count)?;
         let held = start_held(alloc, shape.actors, count)?;
+        let owners = start_words(alloc, shape.frames)?;
         Ok(Core {
             shape,
             pages,
@@ -72,6 +77,7 @@ impl Core {
             held,
             next: u64::from(shape.next),
             hand: 0,
+            owners,
         })
     }
 
@@ -131,6 +137,9 @@ impl Core {
             Event::NLoad { a } => self.next_load(a),
             Event::Claim { a, x, n } => self.claim(a, x, n),
             Event::Hand { a } => self.hand(a),
+            Event::Own { a, p } => self.own(a, p),
+            Event::Disown { a, p } => self.disown(a, p),
+            Event::OLoad { a, f } => self.owner_load(a, f),
         }
     }
 

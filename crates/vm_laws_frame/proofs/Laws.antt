@@ -1,10 +1,10 @@
--- Each event on translations and frames keeps the invariant.
+-- Each event on translations, frames and owner words keeps the invariant.
 use Rattle.std.proofs.Common.{⊎_elim, ◌∙◌, ◌≡◌, ap, Bool, cond, eqb, false, length, refl, subst, sym, true, ℕ}
 use Rattle.std.proofs.lemmas.Bool.{and_from, and_right, cases_Bool, eq-eqb, eqb-true, ne_eqb, true≢false}
 use Rattle.std.proofs.lemmas.List.{length-set}
 use Rattle.vm_core.specs.Prelude.{at_actor, at_page, cleared, FrameInv, Free, gains, has_free_bit, HoldsAt, in_mask, installed, Inv, Keeps, Legal}
 use Rattle.vm_core.specs.Prelude.{Mapped, Page, PageInv, stands_in, State, upd, World}
-use Rattle.vm_core.specs.declared.event.Event.TheVariants.{BLoad, Clean, Clear, Dirty, Give, Install, Load, Store, Take, TLoad}
+use Rattle.vm_core.specs.declared.event.Event.TheVariants.{BLoad, Clean, Clear, Dirty, Disown, Give, Install, Load, OLoad, Own, Store, Take, TLoad}
 use Rattle.vm_core.specs.Inv.Place.{Held}
 use Rattle.vm_core.proofs.Upd.{each-upd, upd-keeps, upd-map, upd-other, upd-same}
 use Rattle.vm_core.proofs.Whole.{frame-same, page-alone, pages-page}
@@ -143,3 +143,18 @@ give_law w a g mask i m =
       next = i.next;
       pages = i.pages;
     }
+
+-- ---- owner words
+
+-- the invariant says nothing of the owner words
+owners-keep : (w : World) (owners : ℕ → ℕ) → Inv w → Inv (record w { core = record w.core { owners = owners } })
+owners-keep w owners i = record { place = i.place; frames = i.frames; words = i.words; next = i.next; pages = i.pages }
+
+pub own_law : (w : World) (a p : ℕ) → Keeps w (Own a p)
+own_law w a p i m = owners-keep w _ i
+
+pub disown_law : (w : World) (a p : ℕ) → Keeps w (Disown a p)
+disown_law w a p i m = owners-keep w _ i
+
+pub owner_load_law : (w : World) (a f : ℕ) → Keeps w (OLoad a f)
+owner_load_law w a f i m = i

@@ -1,9 +1,9 @@
-//! Each event on translations and frames keeps the invariant of the core.
+//! Each event on translations, frames and owner words keeps the invariant of the core.
 #![tactic(auto)]
 
 ghost use Rattle.std.specs.Prelude.{ℕ};
 ghost use Rattle.vm_core.specs.Prelude.{Keeps, World};
-ghost use Rattle.vm_core.specs.declared.event.Event.TheVariants.{BLoad, Clean, Clear, Dirty, Give, Install, Load, Store, Take, TLoad};
+ghost use Rattle.vm_core.specs.declared.event.Event.TheVariants.{BLoad, Clean, Clear, Dirty, Disown, Give, Install, Load, OLoad, Own, Store, Take, TLoad};
 ghost use Rattle.vm_laws_frame.specs.Translations.{TranslationsRead};
 
 /// A translation load keeps the invariant.
@@ -64,6 +64,24 @@ pub fn take_keeps()
 #[tactic(auto, using(crate::proofs::Laws::give_law))]
 pub fn give_keeps()
     ensures { (w : World) (a g mask : ℕ) → Keeps w (Give a g mask) }
+{}
+
+/// Writing a page into the owner word of its frame keeps the invariant.
+#[tactic(auto, using(crate::proofs::Laws::own_law))]
+pub fn own_keeps()
+    ensures { (w : World) (a p : ℕ) → Keeps w (Own a p) }
+{}
+
+/// Clearing the owner word of a page's frame keeps the invariant.
+#[tactic(auto, using(crate::proofs::Laws::disown_law))]
+pub fn disown_keeps()
+    ensures { (w : World) (a p : ℕ) → Keeps w (Disown a p) }
+{}
+
+/// A load of an owner word keeps the invariant.
+#[tactic(auto, using(crate::proofs::Laws::owner_load_law))]
+pub fn owner_load_keeps()
+    ensures { (w : World) (a f : ℕ) → Keeps w (OLoad a f) }
 {}
 
 /// A translation word says the translation that it was written from; one without a frame says none, dirty or not.

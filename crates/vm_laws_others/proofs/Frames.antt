@@ -1,9 +1,9 @@
--- What the events beside the pages leave: loads and stores of words, bundles, the next word and the hand.
+-- What the events beside the pages leave: loads and stores of words, bundles, the next word, the hand and the owner words.
 use Rattle.std.proofs.Common.{⊎_elim, ◌&&◌, ◌+◌, ◌∙◌, ◌≡◌, ◌≢◌, ◌≤◌, ap, arith, Bool, cond, eqb, false, List, refl, slice_set, subst, sym, true, ℕ}
 use Rattle.std.proofs.lemmas.Bool.{and_left, cases_Bool, cond-false, eq-eqb, eqb-true, false≢true, ne_eqb}
 use Rattle.vm_core.specs.Prelude.{at_actor, at_page, Free, History, HoldsAt, in_mask, Inv, Mapped, Nowhere, Page, stands_in, upd, World}
 use Rattle.vm_core.specs.{History.stored, History.writes_to, Inv.Place, Inv.Place.Held}
-use Rattle.vm_core.specs.declared.event.Event.TheVariants.{BLoad, Claim, Give, Hand, Load, NLoad, Store, Take}
+use Rattle.vm_core.specs.declared.event.Event.TheVariants.{BLoad, Claim, Disown, Give, Hand, Load, NLoad, OLoad, Own, Store, Take}
 use Rattle.vm_core.specs.Step.{given_by, MayStore, taken_by}
 use Rattle.vm_core.proofs.Upd.{upd-other}
 use Rattle.vm_laws_others.specs.Leaves.{Leaves, LeavesOthers}
@@ -20,10 +20,10 @@ pub record BesideLeaves (a : ℕ) (w w' : World) : Type 0 where
   pub last : (p : ℕ) → (w'.histories p).last ≡ (w.histories p).last
   pub claims : (b : ℕ) → b ≢ a → ((w.core.pages w.core.next).seats b).exclusive ≡ true → w'.core.next ≡ w.core.next
 
-pub beside-leaves : (w : World) (a : ℕ) (words : ℕ → List ℕ) (bundles : ℕ → ℕ) (held : ℕ → ℕ → Bool) (next hand : ℕ) (hs : ℕ → History) (ls : ℕ → ℕ → List (ℕ × ℕ)) →
-    BesideLeaves a w (record { core = record w.core { words = words; bundles = bundles; held = held; next = next; hand = hand }; histories = hs; loads = ls }) →
-    Leaves a w (record { core = record w.core { words = words; bundles = bundles; held = held; next = next; hand = hand }; histories = hs; loads = ls })
-beside-leaves w a words bundles held next hand hs ls i =
+pub beside-leaves : (w : World) (a : ℕ) (words : ℕ → List ℕ) (bundles : ℕ → ℕ) (held : ℕ → ℕ → Bool) (next hand : ℕ) (owners : ℕ → ℕ) (hs : ℕ → History) (ls : ℕ → ℕ → List (ℕ × ℕ)) →
+    BesideLeaves a w (record { core = record w.core { words = words; bundles = bundles; held = held; next = next; hand = hand; owners = owners }; histories = hs; loads = ls }) →
+    Leaves a w (record { core = record w.core { words = words; bundles = bundles; held = held; next = next; hand = hand; owners = owners }; histories = hs; loads = ls })
+beside-leaves w a words bundles held next hand owners hs ls i =
     let same : (q : ℕ) → PageLeaves w.core.shape.actors a (w.core.pages q) (w.core.pages q) (w.histories q) (w.histories q) =
     λ q. page-same w.core.shape.actors a (w.core.pages q) (w.histories q) in
     record {
@@ -45,11 +45,11 @@ beside-leaves w a words bundles held next hand hs ls i =
       last = λ q _. i.last q;
     }
 
--- the world stays but for this actor's own loads and frames
-own-leaves : (w : World) (a : ℕ) (bundles : ℕ → ℕ) (held : ℕ → ℕ → Bool) (hand : ℕ) (ls : ℕ → ℕ → List (ℕ × ℕ)) → ((b p : ℕ) → b ≢ a → ls p b ≡ w.loads p b) → ((b f : ℕ) → b ≢ a → held b f ≡ w.core.held b f) →
-    Leaves a w (record { core = record w.core { bundles = bundles; held = held; hand = hand }; histories = w.histories; loads = ls })
-own-leaves w a bundles held hand ls loads frames =
-    beside-leaves w a w.core.words bundles held w.core.next hand w.histories ls
+-- the world stays but for this actor's own loads and frames, the bundle words, the hand and the owner words
+own-leaves : (w : World) (a : ℕ) (bundles : ℕ → ℕ) (held : ℕ → ℕ → Bool) (hand : ℕ) (owners : ℕ → ℕ) (ls : ℕ → ℕ → List (ℕ × ℕ)) → ((b p : ℕ) → b ≢ a → ls p b ≡ w.loads p b) → ((b f : ℕ) → b ≢ a → held b f ≡ w.core.held b f) →
+    Leaves a w (record { core = record w.core { bundles = bundles; held = held; hand = hand; owners = owners }; histories = w.histories; loads = ls })
+own-leaves w a bundles held hand owners ls loads frames =
+    beside-leaves w a w.core.words bundles held w.core.next hand owners w.histories ls
     (record {
       next = omega arith;
       loads = loads;
@@ -62,10 +62,10 @@ own-leaves w a bundles held hand ls loads frames =
 
 -- nothing changes
 pub nothing-leaves : (w : World) (a : ℕ) → Leaves a w w
-nothing-leaves w a = own-leaves w a w.core.bundles w.core.held w.core.hand w.loads (λ b p ne. refl) (λ b f ne. refl)
+nothing-leaves w a = own-leaves w a w.core.bundles w.core.held w.core.hand w.core.owners w.loads (λ b p ne. refl) (λ b f ne. refl)
 
 pub load-leaves : (w : World) (a p i : ℕ) → LeavesOthers w (Load a p i)
-load-leaves w a p i inv m = own-leaves w a w.core.bundles w.core.held w.core.hand _ (loads-other w.loads p a _) (λ b f ne. refl)
+load-leaves w a p i inv m = own-leaves w a w.core.bundles w.core.held w.core.hand w.core.owners _ (loads-other w.loads p a _) (λ b f ne. refl)
 
 pub bundle_load-leaves : (w : World) (a g : ℕ) → LeavesOthers w (BLoad a g)
 bundle_load-leaves w a g inv m = nothing-leaves w a
@@ -74,7 +74,21 @@ pub next_load-leaves : (w : World) (a : ℕ) → LeavesOthers w (NLoad a)
 next_load-leaves w a inv m = nothing-leaves w a
 
 pub hand-leaves : (w : World) (a : ℕ) → LeavesOthers w (Hand a)
-hand-leaves w a inv m = own-leaves w a w.core.bundles w.core.held _ w.loads (λ b p ne. refl) (λ b f ne. refl)
+hand-leaves w a inv m = own-leaves w a w.core.bundles w.core.held _ w.core.owners w.loads (λ b p ne. refl) (λ b f ne. refl)
+
+-- ---- owner words
+
+owners-leave : (w : World) (a : ℕ) (owners : ℕ → ℕ) → Leaves a w (record { core = record w.core { owners = owners }; histories = w.histories; loads = w.loads })
+owners-leave w a owners = own-leaves w a w.core.bundles w.core.held w.core.hand owners w.loads (λ b p ne. refl) (λ b f ne. refl)
+
+pub own_page-leaves : (w : World) (a p : ℕ) → LeavesOthers w (Own a p)
+own_page-leaves w a p inv m = owners-leave w a _
+
+pub disown-leaves : (w : World) (a p : ℕ) → LeavesOthers w (Disown a p)
+disown-leaves w a p inv m = owners-leave w a _
+
+pub owner_load-leaves : (w : World) (a f : ℕ) → LeavesOthers w (OLoad a f)
+owner_load-leaves w a f inv m = nothing-leaves w a
 
 -- ---- bundles
 
@@ -85,13 +99,13 @@ other-row held v inside a b ne = cond-false (eqb b a && inside) v held (and_left
 pub take-leaves : (w : World) (a g expects mask : ℕ) → LeavesOthers w (Take a g expects mask)
 take-leaves w a g expects mask inv m =
     ⊎_elim
-    (λ e. rw e (own-leaves w a _ (taken_by w.core.held a g mask) w.core.hand w.loads (λ b p ne. refl) (λ b f ne. other-row (w.core.held b f) true (in_mask g mask f) a b ne)))
+    (λ e. rw e (own-leaves w a _ (taken_by w.core.held a g mask) w.core.hand w.core.owners w.loads (λ b p ne. refl) (λ b f ne. other-row (w.core.held b f) true (in_mask g mask f) a b ne)))
     (λ e. rw e (nothing-leaves w a))
     (cases_Bool (eqb (w.core.bundles g) expects))
 
 pub give-leaves : (w : World) (a g mask : ℕ) → LeavesOthers w (Give a g mask)
 give-leaves w a g mask inv m =
-    own-leaves w a _ (given_by w.core.held a g mask) w.core.hand w.loads (λ b p ne. refl) (λ b f ne. other-row (w.core.held b f) false (in_mask g mask f) a b ne)
+    own-leaves w a _ (given_by w.core.held a g mask) w.core.hand w.core.owners w.loads (λ b p ne. refl) (λ b f ne. other-row (w.core.held b f) false (in_mask g mask f) a b ne)
 
 -- ---- stores
 
@@ -130,7 +144,7 @@ stored-other r h a f i x e = cond-false (writes_to r a f) (record h { draft = sl
 pub store-leaves : (w : World) (a f i x : ℕ) → LeavesOthers w (Store a f i x)
 store-leaves w a f i x inv m =
     let row : ℕ → List ℕ = upd w.core.words f (slice_set (w.core.words f) i x) in
-    beside-leaves w a row w.core.bundles w.core.held w.core.next w.core.hand (λ p. stored (w.core.pages p) (w.histories p) a f i x) w.loads
+    beside-leaves w a row w.core.bundles w.core.held w.core.next w.core.hand w.core.owners (λ p. stored (w.core.pages p) (w.histories p) a f i x) w.loads
     (record {
       next = omega arith;
       loads = λ b p ne. refl;
@@ -149,7 +163,7 @@ pub claim-leaves : (w : World) (a x n : ℕ) → LeavesOthers w (Claim a x n)
 claim-leaves w a x n inv m =
     let some : 1 ≤ n = grind (arith, m.few) in
     let next : ℕ = cond (eqb w.core.next x) (x + n) w.core.next in
-    beside-leaves w a w.core.words w.core.bundles w.core.held next w.core.hand w.histories w.loads
+    beside-leaves w a w.core.words w.core.bundles w.core.held next w.core.hand w.core.owners w.histories w.loads
     (record {
       next = ⊎_elim (λ e. rw e (omega (arith, eqb-true _ _ e))) (λ e. rw e (omega arith)) (cases_Bool (eqb w.core.next x));
       loads = λ b p ne. refl;

@@ -3,14 +3,14 @@ use Rattle.std.proofs.Common.{⊎_elim, ◌≡◌, ◌≢◌, Bool, inl, List, r
 use Rattle.std.proofs.lemmas.Bool.{cases_Bool}
 use Rattle.vm_core.specs.Prelude.{finds, History, on_page, Page, upd, World}
 use Rattle.vm_core.specs.declared.event.Event.{Event}
-use Rattle.vm_core.specs.declared.event.Event.TheVariants.{BLoad, Claim, Clean, Clear, Dirty, Downgrade, Give, Hand, Install, Load, LockS, LockW}
-use Rattle.vm_core.specs.declared.event.Event.TheVariants.{LockX, Look, Mark, NLoad, Raise, Read, Release, ReleaseE, RFail, Store, Take, TLoad}
-use Rattle.vm_core.specs.declared.event.Event.TheVariants.{UnlockS, Unmark, Upgrade, WFail, Write}
+use Rattle.vm_core.specs.declared.event.Event.TheVariants.{BLoad, Claim, Clean, Clear, Dirty, Disown, Downgrade, Give, Hand, Install, Load, LockS}
+use Rattle.vm_core.specs.declared.event.Event.TheVariants.{LockW, LockX, Look, Mark, NLoad, OLoad, Own, Raise, Read, Release, ReleaseE, RFail, Store}
+use Rattle.vm_core.specs.declared.event.Event.TheVariants.{Take, TLoad, UnlockS, Unmark, Upgrade, WFail, Write}
 use Rattle.vm_core.proofs.Upd.{upd-other, upd-self}
 use Rattle.vm_laws_others.specs.Leaves.{Leaves, LeavesOthers}
 use Rattle.vm_laws_others.proofs.Device.{cleaned-leaves, failed-leaves, mapped-leaves, raised-leaves, written-leaves}
-use Rattle.vm_laws_others.proofs.Frames.{bundle_load-leaves, claim-leaves, give-leaves, hand-leaves, load-leaves, next_load-leaves, store-leaves}
-use Rattle.vm_laws_others.proofs.Frames.{take-leaves}
+use Rattle.vm_laws_others.proofs.Frames.{bundle_load-leaves, claim-leaves, disown-leaves, give-leaves, hand-leaves, load-leaves, next_load-leaves}
+use Rattle.vm_laws_others.proofs.Frames.{own_page-leaves, owner_load-leaves, store-leaves, take-leaves}
 use Rattle.vm_laws_others.proofs.Page.{loads-other, page-leaves, page-same, PageLeaves}
 use Rattle.vm_laws_others.proofs.State.{locked-leaves, marked-leaves, release-leaves, seat-leaves, shared-leaves, unlocked-leaves, unmarked-leaves}
 use Rattle.vm_laws_others.proofs.State.{upgraded-leaves, write_locked-leaves}
@@ -155,3 +155,6 @@ leave_others w (Raise a p) = raise-leaves w a p
 leave_others w (NLoad a) = next_load-leaves w a
 leave_others w (Claim a x n) = claim-leaves w a x n
 leave_others w (Hand a) = hand-leaves w a
+leave_others w (Own a p) = own_page-leaves w a p
+leave_others w (Disown a p) = disown-leaves w a p
+leave_others w (OLoad a f) = owner_load-leaves w a f

@@ -3,9 +3,9 @@ use Rattle.std.proofs.Common.{⊎_elim, ◌≡◌, ◌≢◌, cond, eqb, List, r
 use Rattle.std.proofs.lemmas.Bool.{cases_Bool}
 use Rattle.vm_core.specs.Prelude.{finds, Legal, Page, page_after, State, taken, upd, World, world_after}
 use Rattle.vm_core.specs.{declared.event.Event.Event, declared.event.PageAct.PageAct}
-use Rattle.vm_core.specs.declared.event.Event.TheVariants.{BLoad, Claim, Clean, Clear, Dirty, Downgrade, Give, Hand, Install, Load, LockS, LockW}
-use Rattle.vm_core.specs.declared.event.Event.TheVariants.{LockX, Look, Mark, NLoad, Raise, Read, Release, ReleaseE, RFail, Store, Take, TLoad}
-use Rattle.vm_core.specs.declared.event.Event.TheVariants.{UnlockS, Unmark, Upgrade, WFail, Write}
+use Rattle.vm_core.specs.declared.event.Event.TheVariants.{BLoad, Claim, Clean, Clear, Dirty, Disown, Downgrade, Give, Hand, Install, Load, LockS}
+use Rattle.vm_core.specs.declared.event.Event.TheVariants.{LockW, LockX, Look, Mark, NLoad, OLoad, Own, Raise, Read, Release, ReleaseE, RFail, Store}
+use Rattle.vm_core.specs.declared.event.Event.TheVariants.{Take, TLoad, UnlockS, Unmark, Upgrade, WFail, Write}
 use Rattle.vm_core.specs.declared.event.PageAct.TheVariants as acts
 use Rattle.vm_core.proofs.Upd.{upd-keeps, upd-other}
 use Rattle.vm_laws_others.specs.Leaves.{actor_of}
@@ -76,3 +76,6 @@ seats-only w (Raise a p) m b q ne = acted-seats w.core a p acts.Raise b ne q
 seats-only w (NLoad a) m b q ne = refl
 seats-only w (Claim a x n) m b q ne = refl
 seats-only w (Hand a) m b q ne = refl
+seats-only w (Own a p) m b q ne = refl
+seats-only w (Disown a p) m b q ne = refl
+seats-only w (OLoad a f) m b q ne = refl

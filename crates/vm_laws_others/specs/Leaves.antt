@@ -2,9 +2,9 @@
 use Rattle.std.specs.Prelude.{◌<◌, ◌||◌, ◌≡◌, ◌≢◌, ◌≤◌, Bool, false, None, Option, Some, true, ℕ}
 use Rattle.vm_core.specs.Prelude.{EVICTED, frame_of, Inv, Legal, LOCKED, MAX_COUNT, Page, World, world_after}
 use Rattle.vm_core.specs.{declared.event.Event.Event, declared.event.Mapping.Mapping, declared.event.Seat.Seat}
-use Rattle.vm_core.specs.declared.event.Event.TheVariants.{BLoad, Claim, Clean, Clear, Dirty, Downgrade, Give, Hand, Install, Load, LockS, LockW}
-use Rattle.vm_core.specs.declared.event.Event.TheVariants.{LockX, Look, Mark, NLoad, Raise, Read, Release, ReleaseE, RFail, Store, Take, TLoad}
-use Rattle.vm_core.specs.declared.event.Event.TheVariants.{UnlockS, Unmark, Upgrade, WFail, Write}
+use Rattle.vm_core.specs.declared.event.Event.TheVariants.{BLoad, Claim, Clean, Clear, Dirty, Disown, Downgrade, Give, Hand, Install, Load, LockS}
+use Rattle.vm_core.specs.declared.event.Event.TheVariants.{LockW, LockX, Look, Mark, NLoad, OLoad, Own, Raise, Read, Release, ReleaseE, RFail, Store}
+use Rattle.vm_core.specs.declared.event.Event.TheVariants.{Take, TLoad, UnlockS, Unmark, Upgrade, WFail, Write}
 
 -- the actor of the event
 abbrev pub actor_of : Event → ℕ
@@ -37,6 +37,9 @@ actor_of (Raise a p) = a
 actor_of (NLoad a) = a
 actor_of (Claim a x n) = a
 actor_of (Hand a) = a
+actor_of (Own a p) = a
+actor_of (Disown a p) = a
+actor_of (OLoad a f) = a
 
 -- the page stands in a frame, dirty
 abbrev pub stands_dirty : Option Mapping → Bool

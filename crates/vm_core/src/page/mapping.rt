@@ -1,8 +1,8 @@
 //! The frame under a page: put there, taken away, made dirty and clean.
 
 ghost use Rattle.std.specs.Prelude.{[], ◌<◌, ◌↔◌, ◌≡◌, IsTrue, length, true};
-ghost use Rattle.vm_core.specs.Prelude.{cleared, ClearFrame, HoldsAt, installed, MayClean, MayDirty, MayInstall, page_of, PageSteps, with_dirty};
-ghost use Rattle.vm_core.specs.Prelude.{words_of_frames};
+ghost use Rattle.vm_core.specs.Prelude.{cleared, ClearFrame, HeldFrame, HoldsAt, installed, MayClean, MayDirty, MayInstall, page_of, PageSteps};
+ghost use Rattle.vm_core.specs.Prelude.{with_dirty, words_of_frames};
 
 use crate::event::{Illegal, Mapping, PageAct, Seen};
 use crate::frames::frame_words;
@@ -40,6 +40,17 @@ impl PageCell {
     {
         match self.trans {
             Some(mapping) if self.seats[a].exclusive && !mapping.dirty => Some(mapping.frame),
+            _ => None,
+        }
+    }
+
+    /// The frame of the page, where the actor holds it exclusively and it is resident.
+    pub fn held_frame(&self, a: usize) -> Option<u32>
+        requires { a < length self.now.seats }
+        ensures { HeldFrame (page_of self.now) a result }
+    {
+        match self.trans {
+            Some(mapping) if self.seats[a].exclusive => Some(mapping.frame),
             _ => None,
         }
     }
