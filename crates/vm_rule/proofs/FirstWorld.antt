@@ -66,6 +66,7 @@ module _ (start : Origin) (stands : ℕ → Page) where
           held = λ a f. false;
           next = next;
           hand = hand;
+          owners = λ f. 0;
         }
 
     abbrev pub first_world : World
@@ -109,6 +110,7 @@ module _ (X : Type 0) {B : Type 0} (stored : B → Stored) (start : Origin) (wor
         held = λ a k. lone-held X start a k i;
         next = n i;
         hand = h i;
+        owners = λ k. 0;
       };
       histories = λ p. first-histories p i;
       loads = λ p a. lone-load X start p a i;

@@ -2,16 +2,16 @@
 use Rattle.std.proofs.Common.{[], ⊎_elim, ◌∙◌, ◌∷◌, ◌≡◌, eqb, List, refl, true}
 use Rattle.std.proofs.lemmas.Bool.{cases_Bool}
 use Rattle.vm_core.specs.Prelude.{after_event, AllLegal, Inv, Keeps, run, State, Validates, World, world_after, world_run}
-use Rattle.vm_core.specs.declared.event.Event.TheVariants.{BLoad, Claim, Clean, Clear, Dirty, Downgrade, Give, Hand, Install, Load, LockS, LockW}
-use Rattle.vm_core.specs.declared.event.Event.TheVariants.{LockX, Look, Mark, NLoad, Raise, Read, Release, ReleaseE, RFail, Store, Take, TLoad}
-use Rattle.vm_core.specs.declared.event.Event.TheVariants.{UnlockS, Unmark, Upgrade, WFail, Write}
+use Rattle.vm_core.specs.declared.event.Event.TheVariants.{BLoad, Claim, Clean, Clear, Dirty, Disown, Downgrade, Give, Hand, Install, Load, LockS}
+use Rattle.vm_core.specs.declared.event.Event.TheVariants.{LockW, LockX, Look, Mark, NLoad, OLoad, Own, Raise, Read, Release, ReleaseE, RFail, Store}
+use Rattle.vm_core.specs.declared.event.Event.TheVariants.{Take, TLoad, UnlockS, Unmark, Upgrade, WFail, Write}
 use Rattle.vm_core.specs.OneVersion.{AllReadOne}
 use Rattle.vm_laws_state.proofs.Laws.{downgrade_law, lock_exclusive_law, lock_shared_law, lock_write_back_law, look_law, mark_law}
 use Rattle.vm_laws_state.proofs.Laws.{release_evicted_law, release_law, unlock_shared_law, unmark_law, upgrade_law}
 use Rattle.vm_laws_state.proofs.Validate.{lock_exclusive_validates, lock_shared_validates, lock_write_back_validates, look_validates}
 use Rattle.vm_laws_state.proofs.Validate.{upgrade_validates}
-use Rattle.vm_laws_frame.proofs.Laws.{bundle_load_law, clean_law, clear_law, dirty_law, give_law, install_law, load_law, store_law, take_law}
-use Rattle.vm_laws_frame.proofs.Laws.{translation_load_law}
+use Rattle.vm_laws_frame.proofs.Laws.{bundle_load_law, clean_law, clear_law, dirty_law, disown_law, give_law, install_law, load_law, own_law}
+use Rattle.vm_laws_frame.proofs.Laws.{owner_load_law, store_law, take_law, translation_load_law}
 use Rattle.vm_laws_device.proofs.Laws.{claim_law, hand_law, next_load_law, raise_law, read_fault_law, read_law, write_fault_law, write_law}
 use Rattle.vm_rule.specs.Prelude.{Event}
 
@@ -45,6 +45,9 @@ event_law w (Raise a p) i m = raise_law w a p i m
 event_law w (NLoad a) i m = next_load_law w a i m
 event_law w (Claim a x n) i m = claim_law w a x n i m
 event_law w (Hand a) i m = hand_law w a i m
+event_law w (Own a p) i m = own_law w a p i m
+event_law w (Disown a p) i m = disown_law w a p i m
+event_law w (OLoad a f) i m = owner_load_law w a f i m
 
 event-one : (w : World) (e : Event) → Validates w e
 event-one w (Look a p) t i m = look_validates w a p t i m

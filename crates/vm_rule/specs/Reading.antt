@@ -32,7 +32,7 @@ page_from r blocks seats p =
 unfoldable pub pages_from : ℕ → Words → (ℕ → Stored) → (ℕ → ℕ → Seat) → ℕ → Page
 pages_from pages r blocks seats p = if nat_lt p pages then page_from r blocks seats p else outside_page
 
--- the core state; its actors are the passes
+-- the core state; its actors are the passes; no frame is said to be a page's, as the table has no owner words
 abbrev pub core_from : Origin → ℕ → Words → (ℕ → Stored) → (ℕ → ℕ → Seat) → (ℕ → ℕ → Bool) → State
 core_from start actors r blocks seats held =
     record {
@@ -44,6 +44,7 @@ core_from start actors r blocks seats held =
       held = held;
       next = r.next;
       hand = r.hand;
+      owners = λ f. 0;
     }
 
 -- ---- versions
