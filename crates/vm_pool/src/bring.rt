@@ -157,7 +157,8 @@ impl<U: Owner, B: Block> Pool<U, B> {
     ///
     /// A pass that is alone, and knows that the page is evicted below the last version and that the interface or a bundle has a frame, is
     /// answered `Brought`, or `Device` where the page's block failed. After every answer, after a sweep too, it knows the table's
-    /// words, but for those of the bundles after `Device`, `Again` and `Worn`.
+    /// words but these: after `Brought` those of the page's translation and fault and of its frame, and the bundle that the frame was
+    /// taken from; after `Device` those of the page's translation and fault, and the bundles; after `Again` and `Worn` the bundles.
     pub fn bring(&self, pass: &mut Pass<U>, iface: &mut Interface, pid: u32) -> Bring
         requires ready { IsReady self.now.words.table.shared.key B.tells self.now.words.table.shared.table_id pass.old }
         requires home { (view pass.old).out ≡ None }
