@@ -1,9 +1,9 @@
 -- A core keeps its shape.
 use Rattle.std.proofs.Common.{[], ◌∙◌, ◌∷◌, ◌≡◌, Bool, false, if◌then◌else◌, List, refl, true}
 use Rattle.vm_core.specs.Prelude.{after_event, run, State}
-use Rattle.vm_core.specs.declared.event.Event.TheVariants.{BLoad, Claim, Clean, Clear, Dirty, Downgrade, Give, Hand, Install, Load, LockS, LockW}
-use Rattle.vm_core.specs.declared.event.Event.TheVariants.{LockX, Look, Mark, NLoad, Raise, Read, Release, ReleaseE, RFail, Store, Take, TLoad}
-use Rattle.vm_core.specs.declared.event.Event.TheVariants.{UnlockS, Unmark, Upgrade, WFail, Write}
+use Rattle.vm_core.specs.declared.event.Event.TheVariants.{BLoad, Claim, Clean, Clear, Dirty, Disown, Downgrade, Give, Hand, Install, Load, LockS}
+use Rattle.vm_core.specs.declared.event.Event.TheVariants.{LockW, LockX, Look, Mark, NLoad, OLoad, Own, Raise, Read, Release, ReleaseE, RFail}
+use Rattle.vm_core.specs.declared.event.Event.TheVariants.{Store, Take, TLoad, UnlockS, Unmark, Upgrade, WFail, Write}
 use Rattle.vm_rule.specs.Prelude.{Event}
 
 either_shape : (b : Bool) (c d : State) → c.shape ≡ d.shape → (if b then c else d).shape ≡ d.shape
@@ -40,6 +40,9 @@ after_shape c (Raise a p) = refl
 after_shape c (NLoad a) = refl
 after_shape c (Claim a x n) = refl
 after_shape c (Hand a) = refl
+after_shape c (Own a p) = refl
+after_shape c (Disown a p) = refl
+after_shape c (OLoad a f) = refl
 
 pub run_shape : (c : State) (es : List Event) → (run c es).shape ≡ c.shape
 run_shape c [] = refl

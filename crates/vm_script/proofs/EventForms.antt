@@ -1,9 +1,9 @@
 -- A line is told by its verb and its numbers.
 use Rattle.std.proofs.Common.{◌∙◌, ◌≡◌, ap, ap₂, get_or, List, lit<, refl, subst, sym, ℕ}
 use Rattle.vm_core.specs.{declared.event.CoreShape.CoreShape, declared.event.Event.Event}
-use Rattle.vm_core.specs.declared.event.Event.TheVariants.{BLoad, Claim, Clean, Clear, Dirty, Downgrade, Give, Hand, Install, Load, LockS, LockW}
-use Rattle.vm_core.specs.declared.event.Event.TheVariants.{LockX, Look, Mark, NLoad, Raise, Read, Release, ReleaseE, RFail, Store, Take, TLoad}
-use Rattle.vm_core.specs.declared.event.Event.TheVariants.{UnlockS, Unmark, Upgrade, WFail, Write}
+use Rattle.vm_core.specs.declared.event.Event.TheVariants.{BLoad, Claim, Clean, Clear, Dirty, Disown, Downgrade, Give, Hand, Install, Load, LockS}
+use Rattle.vm_core.specs.declared.event.Event.TheVariants.{LockW, LockX, Look, Mark, NLoad, OLoad, Own, Raise, Read, Release, ReleaseE, RFail}
+use Rattle.vm_core.specs.declared.event.Event.TheVariants.{Store, Take, TLoad, UnlockS, Unmark, Upgrade, WFail, Write}
 use Rattle.vm_script.specs.{declared.event_line.EventLine.EventLine, declared.event_line.Verb.Verb, Verbs.kinds_of, Verbs.verb_name}
 use Rattle.vm_script.specs.declared.event_line.EventLine.TheVariants.{Fill, Loads, One}
 use Rattle.vm_script.specs.declared.event_line.Verb.TheVariants as verbs
@@ -41,6 +41,9 @@ line_by verbs.Raise a p x y = One (Raise a p)
 line_by verbs.NLoad a p x y = One (NLoad a)
 line_by verbs.Claim a p x y = One (Claim a p x)
 line_by verbs.Hand a p x y = One (Hand a)
+line_by verbs.Own a p x y = One (Own a p)
+line_by verbs.Disown a p x y = One (Disown a p)
+line_by verbs.OLoad a p x y = One (OLoad a p)
 line_by verbs.Fill a p x y = Fill a p x
 line_by verbs.Loads a p x y = Loads a p
 

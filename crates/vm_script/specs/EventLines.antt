@@ -3,9 +3,9 @@ use Rattle.std.specs.Fmt.{decimal}
 use Rattle.std.specs.Prelude.{[], ◌*◌, ◌++◌, ◌<◌, ◌==◌, ◌^◌, ◌∷◌, ◌≤◌, codes, if◌then◌else◌, List, ℕ}
 use Rattle.vm_core.specs.Prelude.{EVICTED, LOCKED, MARKED, state_of, UNLOCKED, version_of, WORDS}
 use Rattle.vm_core.specs.{declared.event.CoreShape.CoreShape, declared.words.TheConstants.FRAMES}
-use Rattle.vm_core.specs.declared.event.Event.TheVariants.{BLoad, Claim, Clean, Clear, Dirty, Downgrade, Give, Hand, Install, Load, LockS, LockW}
-use Rattle.vm_core.specs.declared.event.Event.TheVariants.{LockX, Look, Mark, NLoad, Raise, Read, Release, ReleaseE, RFail, Store, Take, TLoad}
-use Rattle.vm_core.specs.declared.event.Event.TheVariants.{UnlockS, Unmark, Upgrade, WFail, Write}
+use Rattle.vm_core.specs.declared.event.Event.TheVariants.{BLoad, Claim, Clean, Clear, Dirty, Disown, Downgrade, Give, Hand, Install, Load, LockS}
+use Rattle.vm_core.specs.declared.event.Event.TheVariants.{LockW, LockX, Look, Mark, NLoad, OLoad, Own, Raise, Read, Release, ReleaseE, RFail}
+use Rattle.vm_core.specs.declared.event.Event.TheVariants.{Store, Take, TLoad, UnlockS, Unmark, Upgrade, WFail, Write}
 use Rattle.vm_script.specs.{declared.event_line.EventLine.EventLine, declared.event_line.Kind.Kind, declared.event_line.Verb.Verb, Verbs.kinds_of}
 use Rattle.vm_script.specs.{Verbs.verb_name}
 use Rattle.vm_script.specs.declared.event_line.EventLine.TheVariants.{Fill, Loads, One}
@@ -94,6 +94,9 @@ form (One (Raise a p)) = (verbs.Raise, a ∷ p ∷ [])
 form (One (NLoad a)) = (verbs.NLoad, a ∷ [])
 form (One (Claim a x n)) = (verbs.Claim, a ∷ x ∷ n ∷ [])
 form (One (Hand a)) = (verbs.Hand, a ∷ [])
+form (One (Own a p)) = (verbs.Own, a ∷ p ∷ [])
+form (One (Disown a p)) = (verbs.Disown, a ∷ p ∷ [])
+form (One (OLoad a f)) = (verbs.OLoad, a ∷ f ∷ [])
 form (Fill a p f) = (verbs.Fill, a ∷ p ∷ f ∷ [])
 form (Loads a p) = (verbs.Loads, a ∷ p ∷ [])
 

@@ -4,9 +4,9 @@ use Rattle.std.specs.List.{AllByRecursion}
 use Rattle.std.specs.Prelude.{[], ◌++◌, ◌-◌, ◌∷◌, ◌≡◌, codes, get_or, length, List, ℕ}
 use Rattle.vm_core.specs.Prelude.{WORDS}
 use Rattle.vm_core.specs.{declared.event.Event.Event, declared.event.Seen.Seen}
-use Rattle.vm_core.specs.declared.event.Event.TheVariants.{BLoad, Claim, Clean, Clear, Dirty, Downgrade, Give, Hand, Install, Load, LockS, LockW}
-use Rattle.vm_core.specs.declared.event.Event.TheVariants.{LockX, Look, Mark, NLoad, Raise, Read, Release, ReleaseE, RFail, Store, Take, TLoad}
-use Rattle.vm_core.specs.declared.event.Event.TheVariants.{UnlockS, Unmark, Upgrade, WFail, Write}
+use Rattle.vm_core.specs.declared.event.Event.TheVariants.{BLoad, Claim, Clean, Clear, Dirty, Disown, Downgrade, Give, Hand, Install, Load, LockS}
+use Rattle.vm_core.specs.declared.event.Event.TheVariants.{LockW, LockX, Look, Mark, NLoad, OLoad, Own, Raise, Read, Release, ReleaseE, RFail}
+use Rattle.vm_core.specs.declared.event.Event.TheVariants.{Store, Take, TLoad, UnlockS, Unmark, Upgrade, WFail, Write}
 use Rattle.vm_script.specs.{declared.event_line.EventLine.EventLine, declared.seen.Sight.Sight}
 use Rattle.vm_script.specs.declared.event_line.EventLine.TheVariants.{Fill, Loads, One}
 use Rattle.vm_script.specs.declared.seen.Sight.TheVariants as sights
@@ -43,6 +43,9 @@ sight_of (Raise a p) = sights.Done
 sight_of (NLoad a) = sights.Next
 sight_of (Claim a x n) = sights.NumberExchange
 sight_of (Hand a) = sights.Place
+sight_of (Own a p) = sights.Done
+sight_of (Disown a p) = sights.Done
+sight_of (OLoad a f) = sights.Owner
 
 -- how what each event of a line sees is told
 abbrev pub line_sight : EventLine → Sight

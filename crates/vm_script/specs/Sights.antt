@@ -5,7 +5,7 @@ use Rattle.vm_core.specs.{declared.event.ReadIs.ReadIs, declared.event.Seen.Seen
 use Rattle.vm_core.specs.declared.event.ReadIs.TheVariants.{Closed, Moved, Opened, Same}
 use Rattle.vm_core.specs.declared.event.Seen.TheVariants as seens
 use Rattle.vm_script.specs.{declared.seen.Sight.Sight, EventLines.state_text}
-use Rattle.vm_script.specs.declared.seen.Sight.TheVariants.{Bits, Done, Exchange, Failed, Loaded, Look, Next, NumberExchange, Place, State}
+use Rattle.vm_script.specs.declared.seen.Sight.TheVariants.{Bits, Done, Exchange, Failed, Loaded, Look, Next, NumberExchange, Owner, Place, State}
 use Rattle.vm_script.specs.declared.seen.Sight.TheVariants.{Translation}
 
 -- what became of the open read
@@ -20,6 +20,10 @@ abbrev pub translation_text : ℕ → List ℕ
 translation_text word =
     if word == 0 then codes "empty" else if nat_lt word (2 ^ 63) then codes "frame " ++ decimal (word - 1) ++ codes " clean" else codes "frame " ++ decimal (word - 2 ^ 63 - 1) ++ codes " dirty"
 
+-- `owner P` where a frame's owner word is P + 1, `owner none` where it is 0
+abbrev pub owner_text : ℕ → List ℕ
+owner_text word = if word == 0 then codes "owner none" else codes "owner " ++ decimal (word - 1)
+
 -- a word that was seen
 abbrev pub word_text : Sight → ℕ → List ℕ
 word_text Translation word = translation_text word
@@ -27,6 +31,7 @@ word_text Loaded word = codes "word " ++ decimal word
 word_text Bits word = codes "bits " ++ decimal word
 word_text Next word = codes "next " ++ decimal word
 word_text Place word = codes "place " ++ decimal word
+word_text Owner word = owner_text word
 word_text State word = state_text word
 word_text Failed word = codes "failed " ++ decimal word
 word_text Look word = decimal word
@@ -44,6 +49,7 @@ found_text Loaded word = decimal word
 found_text Bits word = decimal word
 found_text Next word = decimal word
 found_text Place word = decimal word
+found_text Owner word = decimal word
 found_text State word = decimal word
 found_text Failed word = decimal word
 found_text Done word = decimal word
@@ -99,6 +105,7 @@ FitsSight Loaded seen = IsWord seen
 FitsSight Bits seen = IsWord seen
 FitsSight Next seen = IsWord seen
 FitsSight Place seen = IsWord seen
+FitsSight Owner seen = IsWord seen
 FitsSight State seen = IsWord seen
 FitsSight Failed seen = IsWord seen
 

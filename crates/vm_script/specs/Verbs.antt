@@ -2,9 +2,9 @@
 use Rattle.std.specs.Prelude.{[], ◌∷◌, codes, List, ℕ}
 use Rattle.vm_script.specs.{declared.event_line.Kind.Kind, declared.event_line.Verb.Verb}
 use Rattle.vm_script.specs.declared.event_line.Kind.TheVariants.{Actor, Bundle, Count, Frame, Page, Place, State, Word}
-use Rattle.vm_script.specs.declared.event_line.Verb.TheVariants.{BLoad, Claim, Clean, Clear, Dirty, Downgrade, Fill, Give, Hand, Install, Load, Loads}
-use Rattle.vm_script.specs.declared.event_line.Verb.TheVariants.{LockS, LockW, LockX, Look, Mark, NLoad, Raise, Read, Release, ReleaseE, RFail, Store}
-use Rattle.vm_script.specs.declared.event_line.Verb.TheVariants.{Take, TLoad, UnlockS, Unmark, Upgrade, WFail, Write}
+use Rattle.vm_script.specs.declared.event_line.Verb.TheVariants.{BLoad, Claim, Clean, Clear, Dirty, Disown, Downgrade, Fill, Give, Hand, Install, Load}
+use Rattle.vm_script.specs.declared.event_line.Verb.TheVariants.{Loads, LockS, LockW, LockX, Look, Mark, NLoad, OLoad, Own, Raise, Read, Release}
+use Rattle.vm_script.specs.declared.event_line.Verb.TheVariants.{ReleaseE, RFail, Store, Take, TLoad, UnlockS, Unmark, Upgrade, WFail, Write}
 
 -- the word of a verb
 abbrev pub verb_name : Verb → List ℕ
@@ -37,6 +37,9 @@ verb_name Raise = codes "raise"
 verb_name NLoad = codes "nload"
 verb_name Claim = codes "claim"
 verb_name Hand = codes "hand"
+verb_name Own = codes "own"
+verb_name Disown = codes "disown"
+verb_name OLoad = codes "oload"
 verb_name Fill = codes "fill"
 verb_name Loads = codes "loads"
 
@@ -71,5 +74,8 @@ kinds_of Raise = Actor ∷ Page ∷ []
 kinds_of NLoad = Actor ∷ []
 kinds_of Claim = Actor ∷ Word ∷ Count ∷ []
 kinds_of Hand = Actor ∷ []
+kinds_of Own = Actor ∷ Page ∷ []
+kinds_of Disown = Actor ∷ Page ∷ []
+kinds_of OLoad = Actor ∷ Frame ∷ []
 kinds_of Fill = Actor ∷ Page ∷ Frame ∷ []
 kinds_of Loads = Actor ∷ Page ∷ []

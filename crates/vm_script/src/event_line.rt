@@ -48,6 +48,9 @@ pub(crate) enum Verb {
     NLoad,
     Claim,
     Hand,
+    Own,
+    Disown,
+    OLoad,
     Fill,
     Loads,
 }
@@ -66,7 +69,7 @@ pub(crate) enum Kind {
 }
 
 // Every verb.
-pub(crate) const VERBS: [Verb; 31] = [
+pub(crate) const VERBS: [Verb; 34] = [
     Verb::Look,
     Verb::LockX,
     Verb::LockS,
@@ -96,6 +99,9 @@ pub(crate) const VERBS: [Verb; 31] = [
     Verb::NLoad,
     Verb::Claim,
     Verb::Hand,
+    Verb::Own,
+    Verb::Disown,
+    Verb::OLoad,
     Verb::Fill,
     Verb::Loads,
 ];
@@ -134,6 +140,9 @@ pub(crate) fn name_of(verb: Verb) -> &'static [u8]
         Verb::NLoad => b"nload",
         Verb::Claim => b"claim",
         Verb::Hand => b"hand",
+        Verb::Own => b"own",
+        Verb::Disown => b"disown",
+        Verb::OLoad => b"oload",
         Verb::Fill => b"fill",
         Verb::Loads => b"loads",
     }
@@ -158,6 +167,8 @@ pub(crate) fn kinds_of(verb: Verb) -> &'static [Kind]
         | Verb::Write
         | Verb::WFail
         | Verb::Raise
+        | Verb::Own
+        | Verb::Disown
         | Verb::Loads => &[Kind::Actor, Kind::Page],
         Verb::LockX | Verb::LockS | Verb::Mark | Verb::Unmark | Verb::LockW | Verb::Upgrade => &[
             Kind::Actor,
@@ -166,6 +177,7 @@ pub(crate) fn kinds_of(verb: Verb) -> &'static [Kind]
         ],
         Verb::Install | Verb::Fill => &[Kind::Actor, Kind::Page, Kind::Frame],
         Verb::Load => &[Kind::Actor, Kind::Page, Kind::Place],
+        Verb::OLoad => &[Kind::Actor, Kind::Frame],
         Verb::Store => &[Kind::Actor, Kind::Frame, Kind::Place, Kind::Word],
         Verb::BLoad => &[Kind::Actor, Kind::Bundle],
         Verb::Take => &[Kind::Actor, Kind::Bundle, Kind::Word, Kind::Word],
@@ -258,6 +270,9 @@ pub(crate) fn line_with(verb: Verb, values: (u64, u64, u64, u64)) -> EventLine
         Verb::NLoad => Event::NLoad { a },
         Verb::Claim => Event::Claim { a, x: second, n: f },
         Verb::Hand => Event::Hand { a },
+        Verb::Own => Event::Own { a, p },
+        Verb::Disown => Event::Disown { a, p },
+        Verb::OLoad => Event::OLoad { a, f: p },
         Verb::Fill => return EventLine::Fill { a, p, f },
         Verb::Loads => return EventLine::Loads { a, p },
     };

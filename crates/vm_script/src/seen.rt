@@ -3,7 +3,7 @@
 ghost use Rattle.std.specs.Prelude.{◌++◌, ◌≡◌, IfOk, if◌then◌else◌, is_ok, string_bytes};
 ghost use Rattle.vm_script.specs.EventLines.{state_text};
 ghost use Rattle.vm_script.specs.SeenTexts.{FitsLine, seen_line, sight_of as sight_in, told_text};
-ghost use Rattle.vm_script.specs.Sights.{found_text, left_name, seen_word, sight_text, translation_text, word_text};
+ghost use Rattle.vm_script.specs.Sights.{found_text, left_name, owner_text, seen_word, sight_text, translation_text, word_text};
 
 use crate::event_line::EventLine;
 use std::alloc::{AllocError, Global};
@@ -21,6 +21,7 @@ pub(crate) enum Sight {
     Bits,
     Next,
     Place,
+    Owner,
     State,
     Failed,
     Done,
@@ -49,7 +50,9 @@ fn sight_of(event: &Event) -> Sight
         | Event::Store { .. }
         | Event::Read { .. }
         | Event::Write { .. }
-        | Event::Raise { .. } => Sight::Done,
+        | Event::Raise { .. }
+        | Event::Own { .. }
+        | Event::Disown { .. } => Sight::Done,
         Event::TLoad { .. } => Sight::Translation,
         Event::Load { .. } => Sight::Loaded,
         Event::BLoad { .. } | Event::Give { .. } => Sight::Bits,
@@ -57,6 +60,7 @@ fn sight_of(event: &Event) -> Sight
         Event::RFail { .. } | Event::WFail { .. } => Sight::Failed,
         Event::NLoad { .. } => Sight::Next,
         Event::Hand { .. } => Sight::Place,
+        Event::OLoad { .. } => Sight::Owner,
     }
 }
 
@@ -101,6 +105,17 @@ fn translation_string(alloc: Global, word: u64) -> Result<String, AllocError>
     format!(in alloc; "frame {frame} dirty")
 }
 
+// The owner word of a frame.
+fn owner_string(alloc: Global, word: u64) -> Result<String, AllocError>
+    ensures { IfOk result (λ text. string_bytes text ≡ owner_text word) }
+{
+    if word == 0 {
+        return String::from_str(alloc, "owner none");
+    }
+    let page = word - 1;
+    format!(in alloc; "owner {page}")
+}
+
 // A word that was seen.
 fn word_string(alloc: Global, sight: Sight, word: u64) -> Result<String, AllocError>
     ensures { IfOk result (λ text. string_bytes text ≡ word_text sight word) }
@@ -111,6 +126,7 @@ fn word_string(alloc: Global, sight: Sight, word: u64) -> Result<String, AllocEr
         Sight::Bits => format!(in alloc; "bits {word}"),
         Sight::Next => format!(in alloc; "next {word}"),
         Sight::Place => format!(in alloc; "place {word}"),
+        Sight::Owner => owner_string(alloc, word),
         Sight::State => state_string(alloc, word),
         Sight::Failed => format!(in alloc; "failed {word}"),
         Sight::Look | Sight::Exchange | Sight::NumberExchange | Sight::Done => {
@@ -132,6 +148,7 @@ fn found_string(alloc: Global, sight: Sight, word: u64) -> Result<String, AllocE
         | Sight::Bits
         | Sight::Next
         | Sight::Place
+        | Sight::Owner
         | Sight::State
         | Sight::Failed
         | Sight::Done => format!(in alloc; "{word}"),
