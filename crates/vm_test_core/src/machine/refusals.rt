@@ -113,6 +113,20 @@ const ON_COUNTERS: [Case; 13] = [
     case!(RELEASED; Claim, a = 0, x = 1, n = 1),
     case!(LOCK; Claim, a = 0, x = 1, n = 1),
 ];
+/// Events on owner words: of a page that the actor does not hold exclusively, of one without a frame, of no frame.
+const ON_OWNERS: [Case; 11] = [
+    case!(NOTHING; Own, a = 0, p = 1),
+    case!(LOCK; Own, a = 0, p = 1),
+    case!(CLEAN; Own, a = 1, p = 1),
+    case!(RELEASED; Own, a = 0, p = 1),
+    case!(WRITING; Own, a = 0, p = 1),
+    case!(NOTHING; Disown, a = 0, p = 1),
+    case!(LOCK; Disown, a = 0, p = 1),
+    case!(CLEAN; Disown, a = 1, p = 1),
+    case!(RELEASED; Disown, a = 0, p = 1),
+    case!(WRITING; Disown, a = 0, p = 1),
+    case!(NOTHING; OLoad, a = 0, f = 2),
+];
 /// Calls of the device.
 const ON_DEVICES: [Case; 8] = [
     case!(RELEASED; Read, a = 0, p = 1),
@@ -125,7 +139,7 @@ const ON_DEVICES: [Case; 8] = [
     case!(FRAME; Store, a = 0, f = 2, i = 0, w = 1),
 ];
 /// Each event by an actor that is not there.
-const NO_ACTOR: [Event; 29] = [
+const NO_ACTOR: [Event; 32] = [
     event!(Look, a = 2, p = 0),
     event!(LockX, a = 2, p = 0, expects = EVICTED),
     event!(LockS, a = 2, p = 0, expects = 0),
@@ -155,9 +169,12 @@ const NO_ACTOR: [Event; 29] = [
     event!(NLoad, a = 2),
     event!(Claim, a = 2, x = 0, n = 1),
     event!(Hand, a = 2),
+    event!(Own, a = 2, p = 0),
+    event!(Disown, a = 2, p = 0),
+    event!(OLoad, a = 2, f = 0),
 ];
 /// Each event on a page that is not there.
-const NO_PAGE: [Event; 22] = [
+const NO_PAGE: [Event; 24] = [
     event!(Look, a = 0, p = 2),
     event!(LockX, a = 0, p = 2, expects = EVICTED),
     event!(LockS, a = 0, p = 2, expects = 0),
@@ -180,6 +197,8 @@ const NO_PAGE: [Event; 22] = [
     event!(Write, a = 0, p = 2),
     event!(WFail, a = 0, p = 2),
     event!(Raise, a = 0, p = 2),
+    event!(Own, a = 0, p = 2),
+    event!(Disown, a = 0, p = 2),
 ];
 
 /// Whether a core of two pages, frames and actors refuses just the last event of the case.
@@ -208,6 +227,7 @@ fn events_that_may_not_happen(rt: HostRuntime) -> Result<(), Fail> {
     cases.extend_from_slice(&ON_RELEASES)?;
     cases.extend_from_slice(&ON_FRAMES)?;
     cases.extend_from_slice(&ON_COUNTERS)?;
+    cases.extend_from_slice(&ON_OWNERS)?;
     cases.extend_from_slice(&ON_DEVICES)?;
     for event in NO_ACTOR {
         cases.push((NOTHING, None, event))?;

@@ -150,6 +150,18 @@ const CLAIMS: [Row; 11] = [
     row!(Seen::Word(64); Hand, a = 1),
 ];
 
+/// Actor 0 locks the page and says that the frame is the page's, and then that it is no page's. Both read that.
+const OWNS: [Row; 8] = [
+    row!(Seen::Word(0); OLoad, a = 1, f = 0),
+    row!(Seen::Taken; LockX, a = 0, p = 1, expects = 3),
+    row!(Seen::Done; Own, a = 0, p = 1),
+    row!(Seen::Word(2); OLoad, a = 1, f = 0),
+    row!(Seen::Word(0); OLoad, a = 1, f = 1),
+    row!(Seen::Word(2); OLoad, a = 0, f = 0),
+    row!(Seen::Done; Disown, a = 0, p = 1),
+    row!(Seen::Word(0); OLoad, a = 1, f = 0),
+];
+
 /// Each event that the first script lacks.
 #[test]
 fn a_page_is_written_back(rt: HostRuntime) -> Result<(), Fail> {
@@ -158,6 +170,7 @@ fn a_page_is_written_back(rt: HostRuntime) -> Result<(), Fail> {
     plays(&rt, alloc, &mut core, &WRITES)?;
     plays(&rt, alloc, &mut core, &WRITES_BACK)?;
     plays(&rt, alloc, &mut core, &CLAIMS)?;
+    plays(&rt, alloc, &mut core, &OWNS)?;
     assert_eq!(rt; core.shape().pages, 2);
     assert_eq!(rt; core.block_word(1, 9), 77);
     Ok(())
