@@ -53,6 +53,7 @@ class Machine:
     def __post_init__(self):
         self.pages = [Page([64 * p + i if p < self.next else 0 for i in range(64)]) for p in range(self.size)]
         self.frames = [[0] * 64 for _ in range(self.frame_count)]
+        self.owners = [0] * self.frame_count  # a frame's owner word: 0, or a page and 1
         self.free = set(range(self.frame_count))
         self.held = [set() for _ in range(self.actors)]
         self.seats = [[Seat() for _ in range(self.size)] for _ in range(self.actors)]
@@ -242,6 +243,24 @@ class Machine:
     def draw(self, a):
         before, self.hand = self.hand, (self.hand + 64) % 2**64
         return f"place {before}"
+
+    # ---- a frame's owner word
+
+    def give_owner(self, a, p, word):
+        page = self.pages[p]
+        may(self.seats[a][p].exclusive, page.frame is not None)
+        self.owners[page.frame] = word
+        return "done"
+
+    def own(self, a, p):
+        return self.give_owner(a, p, p + 1)
+
+    def disown(self, a, p):
+        return self.give_owner(a, p, 0)
+
+    def oload(self, a, f):
+        word = self.owners[f]
+        return f"owner {word - 1}" if word else "owner none"
 
     # ---- a page's device and fault word
 

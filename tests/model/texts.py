@@ -67,7 +67,7 @@ VERBS = {
     "look": "ap", "lockx": "apS", "locks": "apS", "unlocks": "ap", "mark": "apS", "unmark": "apS", "lockw": "apS", "upgrade": "apS",
     "release": "ap", "releasee": "ap", "downgrade": "ap", "tload": "ap", "install": "apf", "clear": "ap", "dirty": "ap", "clean": "ap",
     "load": "api", "store": "afin", "bload": "ag", "take": "agnn", "give": "agn", "read": "ap", "rfail": "ap", "write": "ap", "wfail": "ap",
-    "raise": "ap", "nload": "a", "claim": "anc", "hand": "a", "fill": "apf", "loads": "ap",
+    "raise": "ap", "nload": "a", "claim": "anc", "hand": "a", "own": "ap", "disown": "ap", "oload": "af", "fill": "apf", "loads": "ap",
 }
 
 
