@@ -1,7 +1,7 @@
 -- What a block in memory is.
 use Rattle.std.specs.Prelude.{ℕ, ◌≡◌, List, Bool}
 use Rattle.vm_page.specs.Counts.{count_more}
-use Rattle.vm_block.specs.Plans.{most_faults}
+use Rattle.vm_block.specs.Plans.{most_counted, most_faults}
 use Rattle.vm_block.specs.Plans as plans
 use Rattle.vm_block.specs.declared.stored.Stored.{Stored}
 use Rattle.vm_block.specs.declared.memory.MemBlock.{MemBlock}
@@ -18,9 +18,9 @@ planned_calls block = block.plan.numbers.items
 abbrev pub calls_made : MemBlock → ℕ
 calls_made block = block.plan.calls
 
--- what contracts see of a block in memory: its bound is how many different numbers its plan has
+-- what contracts see of a block in memory: its bound is the count that it started at and how many different numbers its plan has
 abbrev pub stored_of : MemBlock → Stored
-stored_of block = record { words = block.words; count = block.plan.faults; bound = most_faults block.plan.numbers.items; reads = block.reads; writes = block.writes }
+stored_of block = record { words = block.words; count = block.plan.faults; bound = most_counted block.plan.first block.plan.numbers.items; reads = block.reads; writes = block.writes }
 
 -- whether the next call is to fail
 abbrev pub fails_next : MemBlock → Bool
@@ -31,11 +31,17 @@ pub record IsNextCall (old new : MemBlock) : Type 0 where
   pub calls : calls_made new ≡ count_more (calls_made old)
   pub plan : planned_calls new ≡ planned_calls old
 
--- a block that holds these words, fails the calls of this plan, and has counted nothing
-pub record IsNewBlock (block : MemBlock) (words plan : List ℕ) : Type 0 where
+-- a block that holds these words, fails the calls of this plan, starts at this count of faults, and has counted nothing else
+pub record IsBlockFrom (block : MemBlock) (words plan : List ℕ) (faults : ℕ) : Type 0 where
   pub held : words_of block ≡ words
   pub planned : planned_calls block ≡ plan
   pub calls : calls_made block ≡ 0
-  pub count : (stored_of block).count ≡ 0
+  pub count : (stored_of block).count ≡ faults
+  pub bound : (stored_of block).bound ≡ most_counted faults plan
   pub reads : (stored_of block).reads ≡ 0
   pub writes : (stored_of block).writes ≡ 0
+
+-- such a block with no faults counted, so that its bound is how many different numbers its plan has
+pub record IsNewBlock (block : MemBlock) (words plan : List ℕ) : Type 0 where
+  pub began : IsBlockFrom block words plan 0
+  pub bound : (stored_of block).bound ≡ most_faults plan

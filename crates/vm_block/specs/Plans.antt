@@ -14,3 +14,7 @@ up_to numbers calls = count_by (λ number. nat_lt number (calls + 1)) (unique_ke
 -- what the count of faults never passes: the different numbers of the plan
 abbrev pub most_faults : List ℕ → ℕ
 most_faults numbers = min (distinct_count nat_eq numbers) (2 ^ 64 - 1)
+
+-- the same of a count that starts at a number of faults
+abbrev pub most_counted : ℕ → List ℕ → ℕ
+most_counted first numbers = min (first + distinct_count nat_eq numbers) (2 ^ 64 - 1)

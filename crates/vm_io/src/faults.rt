@@ -1,7 +1,7 @@
 // What each host keeps of its failures: takes and gives are counted apart, each up to the greatest `u64`.
-ghost use Rattle.std.specs.Prelude.{◌≡◌, ℕ, ◌+◌, ◌-◌, ◌^◌, ◌≤◌, ◌<◌, min, []};
+ghost use Rattle.std.specs.Prelude.{◌≡◌, ℕ, ◌+◌, ◌-◌, ◌^◌, ◌≤◌, ◌<◌, ◌&&◌, min, [], nat_eq, nat_lt, if◌then◌else◌};
 ghost use Rattle.vm_page.specs.Counts.{count_more};
-ghost use Rattle.vm_io.specs.Causes.{SameTakes};
+ghost use Rattle.vm_io.specs.Causes.{Rose, SameTakes};
 
 use crate::host::Failed;
 use crate::last_name::LastName;
@@ -48,6 +48,20 @@ impl Faults {
     {
         self.gives = self.gives.saturating_add(1);
         Failed
+    }
+
+    /// Counts a give that took nothing of a piece that is not empty, and answers how many bytes it took.
+    pub fn taken(&mut self, count: usize, len: usize) -> usize
+        ensures answer { result ≡ count }
+        ensures later { self.old.gives ≤ self.new.gives }
+        ensures stuck { count ≡ 0 → 0 < len → Rose self.old.gives self.new.gives }
+        ensures counted { self.new.gives ≡ (if nat_eq count 0 && nat_lt 0 len then count_more self.old.gives else self.old.gives) }
+        ensures apart { SameTakes self.old.takes self.new.takes self.old.last.bytes self.new.last.bytes }
+    {
+        if count == 0 && len > 0 {
+            self.fail_give();
+        }
+        count
     }
 
     /// All that failed, up to the greatest `u64`.

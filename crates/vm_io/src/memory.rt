@@ -1,9 +1,10 @@
 // A host in memory for tests: it fails exactly where its plan, a missing file or its room says so.
-ghost use Rattle.std.specs.Prelude.{◌≡◌, ℕ, ◌+◌, ◌-◌, ◌^◌, ◌≤◌, ◌<◌, ◌++◌, ◌⊎◌, min, take, drop, map, length, Some, IfOk, is_ok, if◌then◌else◌, option_map, string_bytes};
+ghost use Rattle.std.specs.Prelude.{◌≡◌, ℕ, ◌+◌, ◌-◌, ◌^◌, ◌≤◌, ◌<◌, ◌++◌, ◌⊎◌, ◌&&◌, min, max, take, drop, map, length, Some, IfOk, is_ok, if◌then◌else◌, option_map, string_bytes};
 ghost use Rattle.vm_page.specs.Counts.{count_more};
 ghost use Rattle.vm_io.specs.Causes.{HasCause, HasStuckCause, HasTakeCause, SameTakes};
 ghost use Rattle.vm_io.specs.Shown.{Takes, Puts, Says};
 ghost use Rattle.vm_io.specs.Planned.{shown_of, failed_takes, failed_gives, last_failed, next_call, is_planned, can_take, can_put, can_say, IsNext, IsFresh, IsMostTaken};
+ghost use Rattle.vm_io.specs.Planned.{piece_of, front_of, moves_some, limited_to};
 
 use crate::faults::Faults;
 use crate::host::{Failed, Host};
@@ -16,6 +17,7 @@ pub struct MemHost {
     store: Store,
     plan: Vec<u64>,
     calls: u64,
+    piece: usize,
     faults: Faults,
 }
 
@@ -35,8 +37,17 @@ impl MemHost {
             store: Store::new(alloc, files, room)?,
             plan: Vec::from_slice(alloc, plan)?,
             calls: 0,
+            piece: usize::MAX,
             faults: Faults::new(),
         })
+    }
+
+    /// The same host, each of whose calls moves at most `piece` bytes; but a take moves one at least, where there is one and room for it.
+    /// Where that is none, a put or say of a piece that is not empty answers 0, and is counted as a fault.
+    pub fn with_piece(self, piece: usize) -> MemHost
+        ensures { result ≡ limited_to self piece }
+    {
+        MemHost { piece, ..self }
     }
 
     /// The bytes said.
@@ -62,6 +73,13 @@ impl MemHost {
         self.calls = self.calls.saturating_add(1);
         self.plan.contains(&self.calls)
     }
+
+    // The bytes of a piece that a call moves.
+    fn front<'a>(&self, piece: &'a [u8]) -> &'a [u8]
+        ensures { result.now ≡ front_of self.now piece.now }
+    {
+        &piece[..self.piece.min(piece.len())]
+    }
 }
 
 impl Host for MemHost {
@@ -81,7 +99,7 @@ impl Host for MemHost {
         ensures apart { failed_gives self.new ≡ failed_gives self.old }
         ensures exact { is_ok result ≡ can_take self.old name.now }
         ensures counted { failed_takes self.new ≡ (if is_ok result then failed_takes self.old else count_more (failed_takes self.old)) }
-        ensures most { IfOk result (λ n. IsMostTaken (shown_of self.old) name.now at (length into.old) n) }
+        ensures most { IfOk result (λ n. IsMostTaken self.old name.now at (length into.old) n) }
         ensures next { IsNext self.old self.new }
     {
         if self.is_planned() {
@@ -90,7 +108,7 @@ impl Host for MemHost {
         let Some(bytes) = self.store.file(name) else {
             return Err(self.faults.fail_take(name));
         };
-        Ok(copy_from(bytes, at as usize, into))
+        Ok(copy_from(bytes, at as usize, self.piece.max(1), into))
     }
 
     fn put(&mut self, name: &str, first: bool, piece: &[u8]) -> Result<usize, Failed>
@@ -100,17 +118,18 @@ impl Host for MemHost {
         ensures stuck { HasStuckCause (failed_gives self.old) (failed_gives self.new) (length piece.now) result }
         ensures apart { SameTakes (failed_takes self.old) (failed_takes self.new) (last_failed self.old) (last_failed self.new) }
         ensures exact { is_ok result ≡ can_put self.old name.now first piece.now }
-        ensures counted { failed_gives self.new ≡ (if is_ok result then failed_gives self.old else count_more (failed_gives self.old)) }
-        ensures whole { IfOk result (λ n. n ≡ length piece.now) }
+        ensures counted { failed_gives self.new ≡ (if is_ok result && moves_some self.old piece.now then failed_gives self.old else count_more (failed_gives self.old)) }
+        ensures most { IfOk result (λ n. n ≡ min (piece_of self.old) (length piece.now)) }
         ensures next { IsNext self.old self.new }
     {
         if self.is_planned() {
             return Err(self.faults.fail_give());
         }
-        if !self.store.put(name, first, piece) {
+        let front = self.front(piece);
+        if !self.store.put(name, first, front) {
             return Err(self.faults.fail_give());
         }
-        Ok(piece.len())
+        Ok(self.faults.taken(front.len(), piece.len()))
     }
 
     fn say(&mut self, piece: &[u8]) -> Result<usize, Failed>
@@ -120,17 +139,18 @@ impl Host for MemHost {
         ensures stuck { HasStuckCause (failed_gives self.old) (failed_gives self.new) (length piece.now) result }
         ensures apart { SameTakes (failed_takes self.old) (failed_takes self.new) (last_failed self.old) (last_failed self.new) }
         ensures exact { is_ok result ≡ can_say self.old piece.now }
-        ensures counted { failed_gives self.new ≡ (if is_ok result then failed_gives self.old else count_more (failed_gives self.old)) }
-        ensures whole { IfOk result (λ n. n ≡ length piece.now) }
+        ensures counted { failed_gives self.new ≡ (if is_ok result && moves_some self.old piece.now then failed_gives self.old else count_more (failed_gives self.old)) }
+        ensures most { IfOk result (λ n. n ≡ min (piece_of self.old) (length piece.now)) }
         ensures next { IsNext self.old self.new }
     {
         if self.is_planned() {
             return Err(self.faults.fail_give());
         }
-        if !self.store.say(piece) {
+        let front = self.front(piece);
+        if !self.store.say(front) {
             return Err(self.faults.fail_give());
         }
-        Ok(piece.len())
+        Ok(self.faults.taken(front.len(), piece.len()))
     }
 
     fn faults(&self) -> u64 {
@@ -138,14 +158,15 @@ impl Host for MemHost {
     }
 }
 
-// Copies bytes from an offset on, as many as there are and as fit.
-fn copy_from(bytes: &[u8], at: usize, into: &mut [u8]) -> usize
-    ensures count { result ≡ min (length into.old) (length bytes.now - at) }
+// Copies bytes from an offset on, as many as there are and as fit, but at most so many.
+fn copy_from(bytes: &[u8], at: usize, most: usize, into: &mut [u8]) -> usize
+    requires { 0 < most }
+    ensures count { result ≡ min most (min (length into.old) (length bytes.now - at)) }
     ensures copied { into.new ≡ take result (drop at bytes.now) ++ drop result into.old }
     ensures end { result ≡ 0 → (length into.old ≡ 0) ⊎ (length bytes.now ≤ at) }
 {
     let at = at.min(bytes.len());
-    let count = into.len().min(bytes.len() - at);
+    let count = most.min(into.len().min(bytes.len() - at));
     into[..count].copy_from_slice(&bytes[at..at + count]);
     count
 }

@@ -58,11 +58,7 @@ impl<R: Files + Print + Drop> StdHost<R> {
         ensures apart { SameTakes self.old.faults.takes self.new.faults.takes self.old.faults.last.bytes self.new.faults.last.bytes }
     {
         match count {
-            Ok(0) if len > 0 => {
-                self.faults.fail_give();
-                Ok(0)
-            }
-            Ok(count) => Ok(count),
+            Ok(count) => Ok(self.faults.taken(count, len)),
             Err(_) => Err(self.faults.fail_give()),
         }
     }

@@ -2,7 +2,6 @@
 use Rattle.std.proofs.Common.{[], ⊎_elim, ◌++◌, ◌+◌, ◌<◌, ◌∙◌, ◌∷◌, ◌≡◌, ◌≤◌, ap, arith, Bool, false, inl, inr, length, List, map, None, refl}
 use Rattle.std.proofs.Common.{replicate, Result, slice_index, slice_index_or, Some, subst, suc, sym, true, true≢false, zero, ℕ}
 use Rattle.std.proofs.lemmas.Bool.{cases_lt, ne_eqb}
-use Rattle.vm_block.specs.Memory.{planned_calls}
 use Rattle.vm_map.specs.{declared.call.Call.Call, declared.call.Reply.Reply, declared.call.Said.Said, History.after_all}
 use Rattle.vm_tree_model.specs.{Count.node_count, Tree.IsTree, Tree.map_of}
 use Rattle.vm_image.specs.{declared.blocks.PlannedFault.PlannedFault, File.IsNextPage}
@@ -70,10 +69,10 @@ fresh-enough tells version next frames count blocks v is few =
     omega arith
 
 -- a fresh block's bound is that of its plan
-planned-bound : (blocks : List MemBlock) (p : ℕ) (numbers : List ℕ) → p < length blocks → ((d : MemBlock) → planned_calls (slice_index_or blocks p d) ≡ numbers) → (at no_block (map stored_of blocks) p).bound ≡ most_faults numbers
+planned-bound : (blocks : List MemBlock) (p : ℕ) (numbers : List ℕ) → p < length blocks → ((d : MemBlock) → (stored_of (slice_index_or blocks p d)).bound ≡ most_faults numbers) → (at no_block (map stored_of blocks) p).bound ≡ most_faults numbers
 unfolding at
 planned-bound [] p numbers l f = absurd (omega arith)
-planned-bound (b ∷ bs) zero numbers l f = ap most_faults (f b)
+planned-bound (b ∷ bs) zero numbers l f = f b
 planned-bound (b ∷ bs) (suc p) numbers l f = planned-bound bs p numbers (omega arith) f
 
 each-at : {A : Type 0} (P : A → Type 0) (d : A) (xs : List A) (p : ℕ) → p < length xs → Each P xs → P (at d xs p)
@@ -205,7 +204,7 @@ module _ (pages : List (List ℕ)) (plan : List PlannedFault) (version next fram
       sym (at-map (λ (b : Stored). b.bound) 0 no_block (map stored_of after) p (subst (λ n. p < n) (sym many-after) l))
       ∙ ap (λ (k : List ℕ). at 0 k p) same
       ∙ at-map (λ (b : Stored). b.bound) 0 no_block (map stored_of before) p (subst (λ n. p < n) (sym many-before) l)
-      ∙ planned-bound before p (numbers_for plan p) (subst (λ n. p < n) (sym count) l) (λ d. (held.fresh p d l).planned)
+      ∙ planned-bound before p (numbers_for plan p) (subst (λ n. p < n) (sym count) l) (λ d. (held.fresh p d l).bound)
 
   planned : length plan ≤ 64 → Each (λ (b : Stored). b.count ≤ b.bound) (map stored_of after) → (p : ℕ) → notes_about p e.notes ≤ most_faults (numbers_for plan p)
   planned few bounded p =

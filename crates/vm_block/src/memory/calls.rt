@@ -2,7 +2,7 @@
 
 ghost use Rattle.std.specs.Prelude.{◌≡◌, ℕ, ◌-◌, ◌^◌, ◌≤◌, length, true, IfOk, is_ok, not};
 ghost use Rattle.vm_block.specs.Blocks.{Reads, Writes};
-ghost use Rattle.vm_block.specs.Memory.{stored_of, words_of, fails_next, IsNewBlock, IsNextCall};
+ghost use Rattle.vm_block.specs.Memory.{stored_of, words_of, fails_next, IsBlockFrom, IsNewBlock, IsNextCall};
 
 use crate::block::{Block, Failed};
 use crate::memory::MemBlock;
@@ -13,14 +13,27 @@ use vm_page::{PageBuf, WORDS};
 impl MemBlock {
     /// A block that holds the words and fails exactly the calls whose numbers are in the plan. Reads and writes are numbered together,
     /// from 1; a call past number 2^64 - 1 has no number, and does not fail.
+    #[tactic(auto, using(crate::proofs::Counting::counted_from_none))]
     pub fn new(alloc: Global, words: PageBuf, plan: &[u64]) -> Result<MemBlock, AllocError>
         ensures { IfOk result (λ block. IsNewBlock block words plan.now) }
+    {
+        MemBlock::with_count(alloc, words, plan, 0)
+    }
+
+    /// The same, with a count of faults that starts at `count`. It stands still at 2^64 - 1.
+    pub fn with_count(
+        alloc: Global,
+        words: PageBuf,
+        plan: &[u64],
+        count: u64,
+    ) -> Result<MemBlock, AllocError>
+        ensures { IfOk result (λ block. IsBlockFrom block words plan.now count) }
     {
         // A page has 64 words.
         let _ = words.get(0);
         Ok(MemBlock {
             words,
-            plan: Plan::new(alloc, plan)?,
+            plan: Plan::new(alloc, plan, count)?,
             reads: 0,
             writes: 0,
         })
