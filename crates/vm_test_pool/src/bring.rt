@@ -71,6 +71,25 @@ fn a_frame_comes_back_from_a_read_that_failed(rt: HostRuntime) -> Result<(), Fai
 }
 
 #[test]
+fn a_count_of_faults_stands_still_at_its_last_value(rt: HostRuntime) -> Result<(), Fail> {
+    let alloc = rt.alloc();
+    let count = u64::MAX;
+    let mut blocks = Vec::new(alloc);
+    blocks.push(MemBlock::with_count(alloc, PageBuf::zero(), &[1], count)?)?;
+    let shape = Shape {
+        pages: 1,
+        frames: 1,
+        next: 1,
+        first_version: 0,
+    };
+    let (pool, mut pass) = Pool::<Bare, MemBlock>::start(alloc, shape, blocks)?;
+    let mut iface = Interface::new(0, 1);
+    let failed = pool.bring(&mut pass, &mut iface, 0);
+    assert_eq!(rt; failed, Bring::Device { pid: 0, count });
+    Ok(())
+}
+
+#[test]
 fn an_evicted_page_at_the_last_version_is_worn(rt: HostRuntime) -> Result<(), Fail> {
     let (pool, mut pass) = two_pages(rt.alloc(), 0xff_ffff_ffff_ffff, &[])?;
     let mut iface = Interface::new(0, 1);

@@ -11,4 +11,6 @@ mod evict;
 #[cfg(test)]
 mod flush;
 #[cfg(test)]
+mod full;
+#[cfg(test)]
 mod pool;

@@ -49,7 +49,7 @@ fn pool_of(
 }
 
 /// Blocks of so many pages (0 to 65536) of zeros, which answer every call.
-fn zeros(alloc: Global, pages: u32) -> Result<Vec<MemBlock>, Fail>
+pub(crate) fn zeros(alloc: Global, pages: u32) -> Result<Vec<MemBlock>, Fail>
     requires { pages ≤ 65536 }
     ensures { IfOk result (λ blocks. length blocks.items ≡ pages) }
 {
@@ -62,7 +62,7 @@ fn zeros(alloc: Global, pages: u32) -> Result<Vec<MemBlock>, Fail>
 }
 
 /// Brings page `p`, which is evicted.
-fn brought<B: Block>(
+pub(crate) fn brought<B: Block>(
     rt: &impl Abort,
     pool: &Pool<Bare, B>,
     pass: &mut Pass<Bare>,
@@ -83,7 +83,13 @@ fn brought<B: Block>(
 }
 
 /// Sets word 5 of page `p`, which is resident, and not locked by anyone.
-fn put<B: Block>(rt: &impl Abort, pool: &Pool<Bare, B>, pass: &mut Pass<Bare>, p: u32, w: u64)
+pub(crate) fn put<B: Block>(
+    rt: &impl Abort,
+    pool: &Pool<Bare, B>,
+    pass: &mut Pass<Bare>,
+    p: u32,
+    w: u64,
+)
     requires ready { IsReady pool.now.words.table.shared.key B.tells pool.now.words.table.shared.table_id pass.old }
     requires home { (view pass.old).out ≡ None }
     requires page { (p < pool.now.words.table.shared.key.pages) × (p < pool.now.words.table.shared.key.next) }

@@ -6,17 +6,6 @@ use std::test::Fail;
 use vm_cli::ends::Ends;
 use vm_drive::gate::Open;
 
-/// Call 2 reads the image to its end, call 4 the script: the file that could not be read is named.
-#[test]
-fn files_that_can_not_be_read(rt: HostRuntime) -> Result<(), Fail> {
-    let alloc = rt.alloc();
-    for (call, said) in [(2, "read I0\n"), (4, "read S\n")] {
-        let mut host = host(alloc, empty_tree(alloc, 6)?, b"0 get 1\n", &[call])?;
-        expect_no_run(&rt, alloc, &mut host, RUN, 2, said)?;
-    }
-    Ok(())
-}
-
 /// Where the line of a refusal can't be said, the status is 3. Call 1 says where no file is read, call 3 behind an image.
 #[test]
 fn a_refusal_that_is_not_said(rt: HostRuntime) -> Result<(), Fail> {

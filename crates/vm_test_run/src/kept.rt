@@ -1,10 +1,12 @@
 //! The file that a run keeps: it is written whole before anything is said.
 
-use crate::expect::{OLD, expect_run, host, is_kept, perform};
-use crate::hosts::{FEW, Short, Stuck};
+use crate::expect::{OLD, RUN, expect_no_run, expect_run, host, is_kept, perform};
 use crate::pages::{add_news, add_rows, empty_tree, puts, two_leaves};
 use std::alloc::{AllocError, Global};
+use std::process::Abort;
+use std::sync::Wait;
 use std::test::Fail;
+use std::thread::Threads;
 use vm_cli::ends::Ends;
 use vm_drive::gate::Open;
 use vm_io::memory::MemHost;
@@ -45,75 +47,94 @@ fn the_tree_is_kept_and_read_back(rt: HostRuntime) -> Result<(), Fail> {
     Ok(())
 }
 
-/// Call 5 is the `put`: where it fails the file is as it was, and nothing is said. A missing file is one that can't be put.
+/// A missing file is one that can't be put.
 #[test]
-fn a_failed_put_is_status_3(rt: HostRuntime) -> Result<(), Fail> {
+fn a_missing_file_is_not_kept(rt: HostRuntime) -> Result<(), Fail> {
     let alloc = rt.alloc();
-    let mut failing = host_of_29(alloc, &[5])?;
-    expect_run(&rt, alloc, &mut failing, RUN_KEEP, 3, "")?;
-    assert!(rt; failing.file("K") == Some(OLD));
-    let mut missing = host_of_29(alloc, &[])?;
+    let mut host = host_of_29(alloc, &[])?;
     let line = "run I0 S --workers 1 --frames 64 --keep NOFILE";
-    expect_run(&rt, alloc, &mut missing, line, 3, "")
+    expect_run(&rt, alloc, &mut host, line, 3, "")
 }
 
-/// Call 6 is the first that says: the whole file is there by then.
+/// What the file `K` holds after so many puts of at most `piece` bytes.
+fn kept_after(alloc: Global, puts: usize, piece: usize) -> Result<Vec<u8>, AllocError> {
+    if puts == 0 {
+        return Vec::from_slice(alloc, OLD);
+    }
+    let mut front = two_leaves(alloc)?;
+    front.truncate(puts.saturating_mul(piece));
+    Ok(front)
+}
+
+/// Each call of the host fails in turn, where a call moves at most `piece` bytes: so many takes read the image, so many the script, so many puts
+/// write the file, and one more call says all. A file is read to its end by a take of nothing. Behind the last call nothing fails.
+fn fails_in_turn<R: Abort + Threads + Wait + Sync>(
+    rt: &R,
+    alloc: Global,
+    piece: usize,
+    counts: [usize; 3],
+) -> Result<(), Fail> {
+    let [image, script, puts] = counts;
+    let read = image.wrapping_add(script);
+    let last = read.wrapping_add(puts).wrapping_add(1);
+    for call in 0..last {
+        let plan = [(call as u64).wrapping_add(1)];
+        let mut host = host_of_29(alloc, &plan)?.with_piece(piece);
+        if call < image {
+            expect_no_run(rt, alloc, &mut host, RUN_KEEP, 2, "read I0\n")?;
+        } else if call < read {
+            expect_no_run(rt, alloc, &mut host, RUN_KEEP, 2, "read S\n")?;
+        } else {
+            expect_run(rt, alloc, &mut host, RUN_KEEP, 3, "")?;
+            let front = kept_after(alloc, call.wrapping_sub(read), piece)?;
+            assert!(rt; host.file("K") == Some(front.as_slice()), "{call}");
+        }
+    }
+    let plan = [(last as u64).wrapping_add(1)];
+    let mut host = host_of_29(alloc, &plan)?.with_piece(piece);
+    expect_run(
+        rt,
+        alloc,
+        &mut host,
+        RUN_KEEP,
+        0,
+        said_of_29(alloc)?.as_str(),
+    )
+}
+
+/// The image has 4,096 bytes, as many as the kept file, the script 330, and the text 569.
 #[test]
-fn a_failed_say_comes_after_the_file(rt: HostRuntime) -> Result<(), Fail> {
+fn each_call_of_the_host_fails_in_turn(rt: HostRuntime) -> Result<(), Fail> {
     let alloc = rt.alloc();
-    let mut host = host_of_29(alloc, &[6])?;
-    expect_run(&rt, alloc, &mut host, RUN_KEEP, 3, "")?;
+    fails_in_turn(&rt, alloc, 4096, [2, 2, 1])?;
+    fails_in_turn(&rt, alloc, 1000, [6, 2, 5])
+}
+
+/// A host that moves one byte in a call moves them all.
+#[test]
+fn a_byte_at_a_time_comes_to_the_same(rt: HostRuntime) -> Result<(), Fail> {
+    let alloc = rt.alloc();
+    let mut host = host_of_29(alloc, &[])?.with_piece(1);
+    expect_run(
+        &rt,
+        alloc,
+        &mut host,
+        RUN_KEEP,
+        0,
+        said_of_29(alloc)?.as_str(),
+    )?;
     assert!(rt; host.file("K") == Some(two_leaves(alloc)?.as_slice()));
     Ok(())
 }
 
-/// The third `put` of 1,000 bytes fails: the file has the first 2,000, and nothing is said.
-#[test]
-fn a_put_that_fails_later_leaves_a_front(rt: HostRuntime) -> Result<(), Fail> {
-    let alloc = rt.alloc();
-    let mut short = Short {
-        host: host_of_29(alloc, &[7])?,
-    };
-    let mut ends = Ends::Nothing;
-    let status = perform(&rt, alloc, &mut short, RUN_KEEP, &Open, &mut ends)?;
-    assert_eq!(rt; status, 3);
-    let mut front = two_leaves(alloc)?;
-    front.truncate(2 * FEW);
-    assert!(rt; short.host.file("K") == Some(front.as_slice()));
-    assert!(rt; short.host.said().is_empty());
-    assert!(rt; is_kept(&ends));
-    Ok(())
-}
-
-/// A host that takes few bytes in a call gets them all.
-#[test]
-fn a_short_host_gets_all_bytes(rt: HostRuntime) -> Result<(), Fail> {
-    let alloc = rt.alloc();
-    let mut short = Short {
-        host: host_of_29(alloc, &[])?,
-    };
-    let mut ends = Ends::Nothing;
-    let status = perform(&rt, alloc, &mut short, RUN_KEEP, &Open, &mut ends)?;
-    assert_eq!(rt; status, 0);
-    assert!(rt; short.host.file("K") == Some(two_leaves(alloc)?.as_slice()));
-    assert!(rt; short.host.said() == said_of_29(alloc)?.as_bytes());
-    Ok(())
-}
-
-/// Nothing is taken of the file, or of the text behind it.
+/// Nothing is taken of the file, which the first put has made empty, or of the text where no file is kept.
 #[test]
 fn a_stuck_host_is_status_3(rt: HostRuntime) -> Result<(), Fail> {
     let alloc = rt.alloc();
-    for call in [5, 6] {
-        let mut stuck = Stuck {
-            host: host_of_29(alloc, &[call])?,
-        };
-        let mut ends = Ends::Nothing;
-        let status = perform(&rt, alloc, &mut stuck, RUN_KEEP, &Open, &mut ends)?;
-        assert_eq!(rt; status, 3);
-        assert_eq!(rt; stuck.host.file("K") == Some(OLD), call == 5);
-        assert!(rt; stuck.host.said().is_empty());
-        assert!(rt; is_kept(&ends));
+    for (line, kept) in [(RUN_KEEP, b"".as_slice()), (RUN, OLD)] {
+        let mut host = host_of_29(alloc, &[])?.with_piece(0);
+        expect_run(&rt, alloc, &mut host, line, 3, "")?;
+        assert!(rt; host.file("K") == Some(kept));
     }
     Ok(())
 }

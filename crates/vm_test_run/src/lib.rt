@@ -11,8 +11,6 @@ mod failing;
 #[cfg(test)]
 mod gates;
 #[cfg(test)]
-mod hosts;
-#[cfg(test)]
 mod kept;
 #[cfg(test)]
 mod memory;

@@ -1,5 +1,5 @@
-use Rattle.vm_pool.proofs.AtOnce.{first-has-all}
+use Rattle.vm_pool.proofs.FirstPage.{first-alone}
 use Rattle.vm_test_pool.proofs.pool.a_pool_that_is_closed_at_once_gives_its_blocks_back.Goals as goal
 
 pub close-requires-clause-whole : goal.close-requires-clause-whole
-close-requires-clause-whole g c = first-has-all _ _ _ c.in_ok-pool.ensures.view
+close-requires-clause-whole g c = (first-alone _ _ _ _ _ _ c.in_ok-pool.ensures.view).0
