@@ -30,7 +30,7 @@ pub mapped-leaves : (actors a : ℕ) (r : Page) (h : History) (trans : Option Ma
 mapped-leaves actors a r h trans i owns = called-leaves actors a r h trans r.fault r.count r.block i (inl owns) (inl owns) (counts-same r _ refl refl)
 
 -- a translation that is made dirty or clean keeps its frame
-frame-dirty : (dirty : Bool) (trans : Option Mapping) → frame_of (with_dirty dirty trans) ≡ frame_of trans
+pub frame-dirty : (dirty : Bool) (trans : Option Mapping) → frame_of (with_dirty dirty trans) ≡ frame_of trans
 frame-dirty dirty None = refl
 frame-dirty dirty (Some m) = refl
 

@@ -1,13 +1,14 @@
 -- What the events beside the pages leave: loads and stores of words, bundles, the next word, the hand and the owner words.
-use Rattle.std.proofs.Common.{⊎_elim, ◌&&◌, ◌+◌, ◌∙◌, ◌≡◌, ◌≢◌, ◌≤◌, ap, arith, Bool, cond, eqb, false, List, refl, slice_set, subst, sym, true, ℕ}
+use Rattle.std.proofs.Common.{⊎_elim, ◌&&◌, ◌+◌, ◌||◌, ◌∙◌, ◌≡◌, ◌≢◌, ◌≤◌, ap, arith, Bool, cond, eqb, false, inl, List, Option, refl, slice_set, Some}
+use Rattle.std.proofs.Common.{subst, sym, true, ℕ}
 use Rattle.std.proofs.lemmas.Bool.{and_left, cases_Bool, cond-false, eq-eqb, eqb-true, false≢true, ne_eqb}
-use Rattle.vm_core.specs.Prelude.{at_actor, at_page, Free, History, HoldsAt, in_mask, Inv, Mapped, Nowhere, Page, stands_in, upd, World}
-use Rattle.vm_core.specs.{History.stored, History.writes_to, Inv.Place, Inv.Place.Held}
+use Rattle.vm_core.specs.Prelude.{at_actor, at_page, frame_of, Free, History, HoldsAt, in_mask, Inv, Mapped, Nowhere, Page, stands_in, upd, World}
+use Rattle.vm_core.specs.{declared.event.Mapping.Mapping, FrameActs.MayDirty, History.stored, History.writes_to, Inv.Place, Inv.Place.Held}
 use Rattle.vm_core.specs.declared.event.Event.TheVariants.{BLoad, Claim, Disown, Give, Hand, Load, NLoad, OLoad, Own, Store, Take}
-use Rattle.vm_core.specs.Step.{given_by, MayStore, taken_by}
-use Rattle.vm_core.proofs.Upd.{upd-other}
+use Rattle.vm_core.specs.Step.{changed_at, given_by, MayStore, owned, taken_by}
+use Rattle.vm_core.proofs.{PageFacts.some-is, Upd.upd-other}
 use Rattle.vm_laws_others.specs.Leaves.{Leaves, LeavesOthers}
-use Rattle.vm_laws_others.proofs.Alone.{one-holder}
+use Rattle.vm_laws_others.proofs.Alone.{one-caller, one-holder}
 use Rattle.vm_laws_others.proofs.Page.{loads-other, page-same, PageLeaves}
 
 -- what an event that changes no page does: to the words of frames, the frames held, the next word, the histories and the loads
@@ -16,6 +17,7 @@ pub record BesideLeaves (a : ℕ) (w w' : World) : Type 0 where
   pub loads : (b p : ℕ) → b ≢ a → w'.loads p b ≡ w.loads p b
   pub held : (b f : ℕ) → b ≢ a → w'.core.held b f ≡ w.core.held b f
   pub words : (b f : ℕ) → b ≢ a → w.core.held b f ≡ true → w'.core.words f ≡ w.core.words f
+  pub owners : (b p : ℕ) (m : Mapping) → b ≢ a → (((w.core.pages p).seats b).exclusive || ((w.core.pages p).seats b).writing) ≡ true → (w.core.pages p).trans ≡ Some m → w'.core.owners m.frame ≡ w.core.owners m.frame
   pub owned : (b p : ℕ) → b ≢ a → ((w.core.pages p).seats b).exclusive ≡ true → w'.histories p ≡ w.histories p
   pub last : (p : ℕ) → (w'.histories p).last ≡ (w.histories p).last
   pub claims : (b : ℕ) → b ≢ a → ((w.core.pages w.core.next).seats b).exclusive ≡ true → w'.core.next ≡ w.core.next
@@ -38,6 +40,7 @@ beside-leaves w a words bundles held next hand owners hs ls i =
         held = λ f. i.held b f ne;
         untouched = λ q. (same q).untouched b lt ne;
         words = λ f. i.words b f ne;
+        owners = λ q m. i.owners b q m ne;
         owned = λ q. i.owned b q ne;
         shared = λ q _. i.last q;
         next = i.claims b ne;
@@ -45,16 +48,17 @@ beside-leaves w a words bundles held next hand owners hs ls i =
       last = λ q _. i.last q;
     }
 
--- the world stays but for this actor's own loads and frames, the bundle words, the hand and the owner words
-own-leaves : (w : World) (a : ℕ) (bundles : ℕ → ℕ) (held : ℕ → ℕ → Bool) (hand : ℕ) (owners : ℕ → ℕ) (ls : ℕ → ℕ → List (ℕ × ℕ)) → ((b p : ℕ) → b ≢ a → ls p b ≡ w.loads p b) → ((b f : ℕ) → b ≢ a → held b f ≡ w.core.held b f) →
-    Leaves a w (record { core = record w.core { bundles = bundles; held = held; hand = hand; owners = owners }; histories = w.histories; loads = ls })
-own-leaves w a bundles held hand owners ls loads frames =
-    beside-leaves w a w.core.words bundles held w.core.next hand owners w.histories ls
+-- the world stays but for this actor's own loads and frames, the bundle words and the hand
+own-leaves : (w : World) (a : ℕ) (bundles : ℕ → ℕ) (held : ℕ → ℕ → Bool) (hand : ℕ) (ls : ℕ → ℕ → List (ℕ × ℕ)) → ((b p : ℕ) → b ≢ a → ls p b ≡ w.loads p b) → ((b f : ℕ) → b ≢ a → held b f ≡ w.core.held b f) →
+    Leaves a w (record { core = record w.core { bundles = bundles; held = held; hand = hand }; histories = w.histories; loads = ls })
+own-leaves w a bundles held hand ls loads frames =
+    beside-leaves w a w.core.words bundles held w.core.next hand w.core.owners w.histories ls
     (record {
       next = omega arith;
       loads = loads;
       held = frames;
       words = λ b f ne e. refl;
+      owners = λ b p m ne call at. refl;
       owned = λ b p ne e. refl;
       last = λ p. refl;
       claims = λ b ne e. refl;
@@ -62,10 +66,10 @@ own-leaves w a bundles held hand owners ls loads frames =
 
 -- nothing changes
 pub nothing-leaves : (w : World) (a : ℕ) → Leaves a w w
-nothing-leaves w a = own-leaves w a w.core.bundles w.core.held w.core.hand w.core.owners w.loads (λ b p ne. refl) (λ b f ne. refl)
+nothing-leaves w a = own-leaves w a w.core.bundles w.core.held w.core.hand w.loads (λ b p ne. refl) (λ b f ne. refl)
 
 pub load-leaves : (w : World) (a p i : ℕ) → LeavesOthers w (Load a p i)
-load-leaves w a p i inv m = own-leaves w a w.core.bundles w.core.held w.core.hand w.core.owners _ (loads-other w.loads p a _) (λ b f ne. refl)
+load-leaves w a p i inv m = own-leaves w a w.core.bundles w.core.held w.core.hand _ (loads-other w.loads p a _) (λ b f ne. refl)
 
 pub bundle_load-leaves : (w : World) (a g : ℕ) → LeavesOthers w (BLoad a g)
 bundle_load-leaves w a g inv m = nothing-leaves w a
@@ -74,18 +78,57 @@ pub next_load-leaves : (w : World) (a : ℕ) → LeavesOthers w (NLoad a)
 next_load-leaves w a inv m = nothing-leaves w a
 
 pub hand-leaves : (w : World) (a : ℕ) → LeavesOthers w (Hand a)
-hand-leaves w a inv m = own-leaves w a w.core.bundles w.core.held _ w.core.owners w.loads (λ b p ne. refl) (λ b f ne. refl)
+hand-leaves w a inv m = own-leaves w a w.core.bundles w.core.held _ w.loads (λ b p ne. refl) (λ b f ne. refl)
 
 -- ---- owner words
 
-owners-leave : (w : World) (a : ℕ) (owners : ℕ → ℕ) → Leaves a w (record { core = record w.core { owners = owners }; histories = w.histories; loads = w.loads })
-owners-leave w a owners = own-leaves w a w.core.bundles w.core.held w.core.hand owners w.loads (λ b p ne. refl) (λ b f ne. refl)
+-- one page alone stands in a frame
+one-page : (x : Place) (p q : ℕ) → at_page x p ≡ true → at_page x q ≡ true → p ≡ q
+one-page Nowhere p q e e' = absurd (false≢true e)
+one-page Free p q e e' = absurd (false≢true e)
+one-page (Held a) p q e e' = absurd (false≢true e)
+one-page (Mapped r) p q e e' = eqb-true p r e ∙ sym (eqb-true q r e')
+
+-- two pages that stand in one frame are one
+pub same-page : (w : World) (p q f : ℕ) → Inv w → stands_in (w.core.pages p).trans f ≡ true → stands_in (w.core.pages q).trans f ≡ true → p ≡ q
+same-page w p q f inv here there = one-page (inv.place f) p q (sym ((inv.frames f).mapped p) ∙ here) (sym ((inv.frames f).mapped q) ∙ there)
+
+pub stands-in : (t : Option Mapping) (m : Mapping) → t ≡ Some m → stands_in t m.frame ≡ true
+stands-in t m at = ap (λ x. stands_in x m.frame) at ∙ eq-eqb m.frame m.frame refl
+
+-- the owner word of the frame is written
+pub word-written : (owners : ℕ → ℕ) (t : Option Mapping) (m : Mapping) (word : ℕ) → t ≡ Some m → changed_at owners (frame_of t) word ≡ upd owners m.frame word
+word-written owners t m word at = ap (λ x. changed_at owners (frame_of x) word) at
+
+-- the word of the frame of another page stays
+pub word-elsewhere : (w : World) (p q word : ℕ) (m n : Mapping) → Inv w → (w.core.pages p).trans ≡ Some m → (w.core.pages q).trans ≡ Some n → q ≢ p → changed_at w.core.owners (frame_of (w.core.pages p).trans) word n.frame ≡ w.core.owners n.frame
+word-elsewhere w p q word m n inv here there ne =
+    ap (λ h. h n.frame) (word-written w.core.owners (w.core.pages p).trans m word here)
+    ∙ upd-other w.core.owners m.frame word n.frame
+    (λ e. ne (same-page w q p n.frame inv (stands-in (w.core.pages q).trans n there) (ap (stands_in (w.core.pages p).trans) e ∙ stands-in (w.core.pages p).trans m here)))
+
+word-leaves : (w : World) (a p word : ℕ) → Inv w → MayDirty (w.core.pages p) a → Leaves a w (record { core = owned w.core p word; histories = w.histories; loads = w.loads })
+word-leaves w a p word inv may =
+    let m = some-is (w.core.pages p).trans may.resident in
+    beside-leaves w a w.core.words w.core.bundles w.core.held w.core.next w.core.hand (owned w.core p word).owners w.histories w.loads
+    (record {
+      next = omega arith;
+      loads = λ b q ne. refl;
+      held = λ b f ne. refl;
+      words = λ b f ne e. refl;
+      owners = λ b q n ne call at.
+          word-elsewhere w p q word m.0 n inv m.1 at
+          (λ same. ne (one-caller (w.core.pages p) (inv.pages p).locks a b (inl may.owns) (subst (λ k. (((w.core.pages k).seats b).exclusive || ((w.core.pages k).seats b).writing) ≡ true) same call)));
+      owned = λ b q ne e. refl;
+      last = λ q. refl;
+      claims = λ b ne e. refl;
+    })
 
 pub own_page-leaves : (w : World) (a p : ℕ) → LeavesOthers w (Own a p)
-own_page-leaves w a p inv m = owners-leave w a _
+own_page-leaves w a p inv m = word-leaves w a p _ inv m.page
 
 pub disown-leaves : (w : World) (a p : ℕ) → LeavesOthers w (Disown a p)
-disown-leaves w a p inv m = owners-leave w a _
+disown-leaves w a p inv m = word-leaves w a p _ inv m.page
 
 pub owner_load-leaves : (w : World) (a f : ℕ) → LeavesOthers w (OLoad a f)
 owner_load-leaves w a f inv m = nothing-leaves w a
@@ -99,13 +142,13 @@ other-row held v inside a b ne = cond-false (eqb b a && inside) v held (and_left
 pub take-leaves : (w : World) (a g expects mask : ℕ) → LeavesOthers w (Take a g expects mask)
 take-leaves w a g expects mask inv m =
     ⊎_elim
-    (λ e. rw e (own-leaves w a _ (taken_by w.core.held a g mask) w.core.hand w.core.owners w.loads (λ b p ne. refl) (λ b f ne. other-row (w.core.held b f) true (in_mask g mask f) a b ne)))
+    (λ e. rw e (own-leaves w a _ (taken_by w.core.held a g mask) w.core.hand w.loads (λ b p ne. refl) (λ b f ne. other-row (w.core.held b f) true (in_mask g mask f) a b ne)))
     (λ e. rw e (nothing-leaves w a))
     (cases_Bool (eqb (w.core.bundles g) expects))
 
 pub give-leaves : (w : World) (a g mask : ℕ) → LeavesOthers w (Give a g mask)
 give-leaves w a g mask inv m =
-    own-leaves w a _ (given_by w.core.held a g mask) w.core.hand w.core.owners w.loads (λ b p ne. refl) (λ b f ne. other-row (w.core.held b f) false (in_mask g mask f) a b ne)
+    own-leaves w a _ (given_by w.core.held a g mask) w.core.hand w.loads (λ b p ne. refl) (λ b f ne. other-row (w.core.held b f) false (in_mask g mask f) a b ne)
 
 -- ---- stores
 
@@ -150,6 +193,7 @@ store-leaves w a f i x inv m =
       loads = λ b p ne. refl;
       held = λ b g ne. refl;
       words = λ b g ne e. upd-other w.core.words f _ g (store-elsewhere w a f i inv m b g ne e);
+      owners = λ b p n ne call at. refl;
       owned = λ b p ne e. ⊎_elim (λ mine. absurd (ne (one-holder (inv.pages p).locks a b mine e)))
           (λ free. stored-other (w.core.pages p) (w.histories p) a f i x free)
           (cases_Bool ((w.core.pages p).seats a).exclusive);
@@ -169,6 +213,7 @@ claim-leaves w a x n inv m =
       loads = λ b p ne. refl;
       held = λ b f ne. refl;
       words = λ b f ne e. refl;
+      owners = λ b p n ne call at. refl;
       owned = λ b p ne e. refl;
       last = λ p. refl;
       claims = λ b ne e. ⊎_elim

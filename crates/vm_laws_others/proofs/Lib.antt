@@ -5,3 +5,4 @@ pub mod Device
 pub mod Seats
 pub mod Frames
 pub mod Laws
+pub mod Owners

@@ -50,6 +50,7 @@ page-leaves w a p r h ls held here loads frames =
         held = λ f. ap (λ row. row f) (frames b ne);
         untouched = λ q. (all q).untouched b lt ne;
         words = λ f e. refl;
+        owners = λ q m call at. refl;
         owned = λ q. (all q).owned b ne;
         shared = λ q. (all q).shared b lt ne;
         next = λ e. refl;

@@ -50,7 +50,8 @@ stands_dirty (Some m) = m.dirty
 -- only if it was; and a page that is evicted at the same version was evicted before
 pub record PageMoves (r r' : Page) : Type 0 where
   pub version : r.version ≤ r'.version
-  pub still : r'.version ≡ r.version → r'.state ≢ LOCKED → r'.state ≢ EVICTED → (r.state ≢ LOCKED) × (r.state ≢ EVICTED) × (frame_of r'.trans ≡ frame_of r.trans)
+  pub still : r'.version ≡ r.version → r'.state ≢ LOCKED → r'.state ≢ EVICTED →
+      (r.state ≢ LOCKED) × (r.state ≢ EVICTED) × (frame_of r'.trans ≡ frame_of r.trans)
   pub cleaner : r'.version ≡ r.version → r'.state ≢ LOCKED → r'.state ≢ EVICTED → stands_dirty r'.trans ≡ true → stands_dirty r.trans ≡ true
   pub gone : r'.version ≡ r.version → r'.state ≡ EVICTED → r.state ≡ EVICTED
 
@@ -75,6 +76,10 @@ pub record LeavesActor (b : ℕ) (w w' : World) : Type 0 where
   pub untouched : (p : ℕ) → Untouched ((w.core.pages p).seats b) (w.core.pages p) (w'.core.pages p)
   -- the words of a frame that it holds
   pub words : (f : ℕ) → w.core.held b f ≡ true → w'.core.words f ≡ w.core.words f
+  -- the owner word of the frame of a page whose device it may call
+  pub owners :
+      (p : ℕ) (m : Mapping) → (((w.core.pages p).seats b).exclusive || ((w.core.pages p).seats b).writing) ≡ true → (w.core.pages p).trans ≡ Some m
+      → w'.core.owners m.frame ≡ w.core.owners m.frame
   -- the draft and the versions of a page that it holds exclusively, and the last version of one that it has a share of
   pub owned : (p : ℕ) → ((w.core.pages p).seats b).exclusive ≡ true → w'.histories p ≡ w.histories p
   pub shared : (p : ℕ) → 1 ≤ ((w.core.pages p).seats b).shares → (w'.histories p).last ≡ (w.histories p).last
