@@ -1,12 +1,9 @@
 -- Beside a pass with all parts every other has none, so it holds nothing: a page that such a pass has not locked is not locked.
-use Rattle.std.proofs.Common.{[], ⊎_elim, ◌+◌, ◌<◌, ◌∙◌, ◌∷◌, ◌≡◌, ◌≢◌, ◌≤◌, ◌⊎◌, ap, arith, Bool, false, inl, inr, length, List, Option, refl, subst}
-use Rattle.std.proofs.Common.{suc, sym, true≢false, zero, ℕ}
-use Rattle.std.proofs.lemmas.Bool.{cases_Bool, cases_eq, cases_lt, eq-eqb, lt-ltb}
-use Rattle.vm_core.specs.Prelude.{EVICTED, get_elem?, LOCKED, MARKED, Page, share_count, some, sum_below, UNLOCKED}
-use Rattle.vm_core.proofs.Upd.{sum_below-past}
-use Rattle.vm_rule.specs.Prelude.{core_shown, HoldsNothing, IsWhole, Kept, owns, Ruled, Seat, seat_of, spent, Start, Stored, Table, times}
-use Rattle.vm_rule.specs.{declared.view.Origin.Origin, declared.view.View.View}
 use Rattle.vm_rule.proofs.{Entries.not-whole, Found.seat-here}
+use Rattle.vm_rule.proofs.Prelude.{[], ap, arith, Bool, cases_Bool, cases_eq, cases_lt, core_shown, eq-eqb, EVICTED, false, get_elem?, HoldsNothing}
+use Rattle.vm_rule.proofs.Prelude.{inl, inr, IsWhole, Kept, length, List, LOCKED, lt-ltb, MARKED, Option, Origin, owns, Page, refl, Ruled, Seat}
+use Rattle.vm_rule.proofs.Prelude.{seat_of, share_count, some, spent, Start, Stored, subst, suc, sum_below, sum_below-past, sym, Table, times}
+use Rattle.vm_rule.proofs.Prelude.{true≢false, UNLOCKED, View, zero, ℕ, ⊎_elim, ◌+◌, ◌<◌, ◌∙◌, ◌∷◌, ◌≡◌, ◌≢◌, ◌≤◌, ◌⊎◌}
 
 pub no-times : (l : List ℕ) → ((n : ℕ) → 1 ≤ times n l → ⊥) → l ≡ []
 no-times [] none = refl

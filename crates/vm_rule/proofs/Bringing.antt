@@ -1,65 +1,20 @@
 -- What a step tells of the lists, the table and the log; and the step that changes nothing of the core and of its own view but these.
-use Rattle.std.proofs.Common.{[], ◌++◌, ◌+◌, ◌<◌, ◌∙◌, ◌∷◌, ◌≡◌, ap, arith, Bool, inl, length, length-append, List, None, Option, refl, slice_set}
-use Rattle.std.proofs.Common.{subst, sym, true, true≢false, ℕ}
 use mathlib.Core.Option as maybe
-use mathlib.Core.Path.{fun_ext}
-use Rattle.atomic_table.proofs.Lists.{set_here}
-use Rattle.vm_core.specs.Prelude.{get_elem?, Legal, Page, some, World, world_after}
-use Rattle.vm_laws_others.proofs.Laws.{leave_others}
-use Rattle.vm_rule.specs.Prelude.{actor_of, began_of, block_of, Brings, BringsWith, brought, chosen, core_shown, Entry, Event, has, Hears}
-use Rattle.vm_rule.specs.Prelude.{histories_of, index_of, is_owed, is_pending, IsFoundAt, Kept, KnowsLists, KnowsPage, KnowsPages, last_in, Leaves}
-use Rattle.vm_rule.specs.Prelude.{listed, logical, no_held, put_at, Ruled, seat_of, set_if, Sound, Start, StartsWith, Stored, Table, Within, world_of}
-use Rattle.vm_rule.specs.{Brought.IsStepOf, Brought.set_block, declared.view.Did.Did, declared.view.Origin.Origin, declared.view.Release.Release}
-use Rattle.vm_rule.specs.{declared.view.Snapshot.Snapshot, declared.view.View.View}
 use Rattle.vm_rule.proofs.{Entries.append-none, Sound.is-sound, Views.any-same, Views.at-bound}
-use Rattle.vm_rule.proofs.Adding.{adds, adds_more, after_more, after_step, became, became_more, Shows, ShowsMore}
+use Rattle.vm_rule.proofs.Adding.{adds_more, after_more, after_step, became, became_more, Shows, shows-more, ShowsMore}
+use Rattle.vm_rule.proofs.Prelude.{[], actor_of, ap, append_cancel_left, began_of, block_of, Bool, Brings, BringsWith, brought, chosen, core_shown}
+use Rattle.vm_rule.proofs.Prelude.{Did, Entry, Event, fun_ext, get_elem?, has, Hears, histories_of, index_of, inl, is_owed, is_pending, IsFoundAt}
+use Rattle.vm_rule.proofs.Prelude.{IsStepOf, Kept, KnowsLists, KnowsPage, KnowsPages, last_in, leave_others, Leaves, Legal, length, List, listed}
+use Rattle.vm_rule.proofs.Prelude.{logical, no_held, None, Option, Origin, Page, put_at, refl, Release, Ruled, seat_of, set_block, set_here, set_if}
+use Rattle.vm_rule.proofs.Prelude.{slice_set, Snapshot, some, Start, StartsWith, Stored, subst, sym, Table, true, true≢false, View, Within, World}
+use Rattle.vm_rule.proofs.Prelude.{world_after, world_of, ℕ, ◌++◌, ◌<◌, ◌∙◌, ◌≡◌}
 use Rattle.vm_rule.proofs.Worlds.{core-still, draft-is, last-is, world-still}
 
--- what is the whole list has nothing behind it
-none-behind : {A : Type 0} (l rest : List A) → l ≡ l ++ rest → rest ≡ []
-none-behind l [] e = refl
-none-behind l (x ∷ xs) e = absurd (let long : length l ≡ length l + length (x ∷ xs) = ap length e ∙ length-append l (x ∷ xs) in omega arith)
+-- who has seen all has nothing behind it
+nothing-behind : {A : Type 0} (seen all : List A) (s : StartsWith all seen) → seen ≡ all → s.0 ≡ []
+nothing-behind seen all s e = append_cancel_left seen s.0 [] (sym s.1 ∙ sym e ∙ sym (append-none seen))
 
 module _ {X B : Type 0} (stored : B → Stored) (keeps : Start → Kept X → Type 0) (tied : Start → ℕ → List ℕ → ℕ → List ℕ → Type 0) (start : Origin) (tells : Bool) where
-  -- what any step tells: it found the word that stands there, and left these words and blocks
-  pub brings_more : (s : Table (Option B) (View X)) (r : Ruled stored keeps tied start tells s) (id : ℕ) (v : View X) (words : List ℕ) (blocks : List Stored) (block : Option (ℕ × Stored)) (own : List Release) (entries : List (Entry X)) (did : Did) (inner : View X)
-      → get_elem? s.views id ≡ some v → v.live ≡ true
-      → Within start did.at → IsFoundAt did.found (index_of start did.at) s.words → words ≡ set_if did.wrote (index_of start did.at) s.words
-      → blocks ≡ set_block block (listed start.pages (block_of stored s.homes s.views))
-      → Sound (brought inner (r.releases ++ own) (r.history ++ entries) (record { words = words; blocks = blocks }) did)
-      → BringsWith did block own entries v inner (brought inner (r.releases ++ own) (r.history ++ entries) (record { words = words; blocks = blocks }) did)
-  brings_more s r id v words blocks block own entries did inner there live at found left moved sound =
-      let g : KnowsLists start r.releases r.history v = r.heard id v there live in
-      let k : KnowsPages tied start (world_of stored start r.releases r.drafts s) (is_pending s.views) v = r.known id v there live in
-      let now : Snapshot = record { words = words; blocks = blocks } in
-      record {
-        between = g.saw.0;
-        others = g.heard.0;
-        snapshot = now;
-        inside = subst (λ (o : Origin). Within o did.at) (sym g.same_start) at;
-        view = λ i. brought inner (g.saw.1 i ++ own) (g.heard.1 i ++ entries) now did;
-        foreign = g.heard.2;
-        kept = λ p locks. (λ i. last_in (g.same_start i) (sym g.saw.1 i) p) ∙ last-is start r.releases r.drafts p ∙ sym (k.latest p locks);
-        told = (subst (λ l. StartsWith l v.told_releases) g.saw.1 g.told.0, subst (λ l. Hears l v.told_used v.told) g.heard.1 g.told.1);
-        sound = sound;
-        alone = λ whole current.
-            let same = r.parts.whole id v there live whole current in (
-              none-behind v.releases g.saw.0 (same.0 ∙ g.saw.1),
-              none-behind v.seen g.heard.0 (same.1 ∙ g.heard.1),
-              subst (λ (o : Origin). IsStepOf o did block v.snapshot now) (sym g.same_start)
-                  (subst (λ (y : Snapshot). IsStepOf start did block y now) (sym same.2) (record { wide = r.wide.0; found = found; words = left; blocks = moved })),
-            );
-      }
-
-  -- a step that moves no block
-  pub brings : (s : Table (Option B) (View X)) (r : Ruled stored keeps tied start tells s) (id : ℕ) (v : View X) (words : List ℕ) (own : List Release) (entries : List (Entry X)) (did : Did) (inner : View X)
-      → get_elem? s.views id ≡ some v → v.live ≡ true
-      → Within start did.at → IsFoundAt did.found (index_of start did.at) s.words → words ≡ set_if did.wrote (index_of start did.at) s.words
-      → Sound (after_step stored keeps tied start tells s r words own entries did inner)
-      → Brings did own entries v inner (after_step stored keeps tied start tells s r words own entries did inner)
-  brings s r id v words own entries did inner there live at found left sound =
-      brings_more s r id v words (listed start.pages (block_of stored s.homes s.views)) None own entries did inner there live at found left refl sound
-
   -- a step that shows its own part keeps the rule and tells what it brings
   pub steps_more : (s : Table (Option B) (View X)) (r : Ruled stored keeps tied start tells s) (id : ℕ) (v : View X) (words : List ℕ) (homes : List (maybe.Option (Option B))) (blocks : List Stored) (block : Option (ℕ × Stored)) (drafts : ℕ → List ℕ) (own : List Release) (entries : List (Entry X)) (did : Did) (inner : View X)
       → get_elem? s.views id ≡ some v → v.live ≡ true → 0 < length v.used
@@ -70,10 +25,29 @@ module _ {X B : Type 0} (stored : B → Stored) (keeps : Start → Kept X → Ty
       × BringsWith did block own entries v inner (after_more stored keeps tied start tells s r id v words homes blocks drafts own entries did inner)
   steps_more s r id v words homes blocks block drafts own entries did inner there live number left moved sh =
       let ruled = adds_more stored keeps tied start tells s r id v words homes blocks drafts own entries did inner there live number sh in
-      let w : View X = after_more stored keeps tied start tells s r id v words homes blocks drafts own entries did inner in (
+      let w : View X = after_more stored keeps tied start tells s r id v words homes blocks drafts own entries did inner in
+      let g : KnowsLists start r.releases r.history v = r.heard id v there live in
+      let k : KnowsPages tied start (world_of stored start r.releases r.drafts s) (is_pending s.views) v = r.known id v there live in
+      let now : Snapshot = record { words = words; blocks = blocks } in (
         ruled,
-        brings_more s r id v words blocks block own entries did inner there live sh.at sh.found left moved
-            (is-sound stored keeps tied start tells (became_more stored keeps tied start tells s r id v words homes blocks drafts own entries did inner) ruled id w (set_here s.views id w (at-bound s.views id v there)) (sh.live ∙ live)),
+        record {
+          between = g.saw.0;
+          others = g.heard.0;
+          snapshot = now;
+          inside = subst (λ (o : Origin). Within o did.at) (sym g.same_start) sh.at;
+          view = λ i. brought inner (g.saw.1 i ++ own) (g.heard.1 i ++ entries) now did;
+          foreign = g.heard.2;
+          kept = λ p locks. (λ i. last_in (g.same_start i) (sym g.saw.1 i) p) ∙ last-is start r.releases r.drafts p ∙ sym (k.latest p locks);
+          told = (subst (λ l. StartsWith l v.told_releases) g.saw.1 g.told.0, subst (λ l. Hears l v.told_used v.told) g.heard.1 g.told.1);
+          sound = is-sound stored keeps tied start tells (became_more stored keeps tied start tells s r id v words homes blocks drafts own entries did inner) ruled id w (set_here s.views id w (at-bound s.views id v there)) (sh.live ∙ live);
+          alone = λ whole current.
+              let same = r.parts.whole id v there live whole current in (
+                nothing-behind v.releases r.releases g.saw same.0,
+                nothing-behind v.seen r.history (g.heard.0, g.heard.1) same.1,
+                subst (λ (o : Origin). IsStepOf o did block v.snapshot now) (sym g.same_start)
+                    (subst (λ (y : Snapshot). IsStepOf start did block y now) (sym same.2) (record { wide = r.wide.0; found = sh.found; words = left; blocks = moved })),
+              );
+        },
       )
 
   -- a step that is an event of its pass, and shows its own part, keeps the rule and tells what it brings
@@ -85,12 +59,8 @@ module _ {X B : Type 0} (stored : B → Stored) (keeps : Start → Kept X → Ty
       × Brings did own entries v inner (after_step stored keeps tied start tells s r words own entries did inner)
   steps s r id v words drafts own entries did inner e there live number actor left sh =
       let old : World = world_of stored start r.releases r.drafts s in
-      let w : View X = after_step stored keeps tied start tells s r words own entries did inner in
-      let ruled = adds stored keeps tied start tells s r id v words drafts own entries did inner e there live number (subst (λ a. Leaves a old (world_after old e)) actor (leave_others old e r.inv sh.legal)) sh in (
-        ruled,
-        brings s r id v words own entries did inner there live sh.at sh.found left
-            (is-sound stored keeps tied start tells (became stored keeps tied start tells s words id w) ruled id w (set_here s.views id w (at-bound s.views id v there)) (sh.live ∙ live)),
-      )
+      steps_more s r id v words s.homes (listed start.pages (block_of stored s.homes s.views)) None drafts own entries did inner there live number left refl
+      (shows-more stored keeps tied start tells s r id v words drafts own entries did inner e there (subst (λ a. Leaves a old (world_after old e)) actor (leave_others old e r.inv sh.legal)) sh)
 
   -- a step that is an event which changes nothing, with a view that keeps all but what any step brings
   pub rests : (s : Table (Option B) (View X)) (r : Ruled stored keeps tied start tells s) (id : ℕ) (v : View X) (did : Did) (e : Event) → get_elem? s.views id ≡ some v → v.live ≡ true

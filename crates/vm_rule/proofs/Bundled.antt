@@ -1,17 +1,12 @@
 -- The frames of a bundle whose bits are set: the list of them has just these, each once. What stands in a list that others were taken from, and
 -- what is known of frames whose words became known. Bits that are set are those of free frames, which no pass has.
-use Rattle.std.specs.Int.{bit_at}
-use Rattle.std.proofs.Common.{[], ⊎_elim, ◌%◌, ◌&&◌, ◌*◌, ◌++◌, ◌+◌, ◌/◌, ◌<◌, ◌^◌, ◌||◌, ◌∙◌, ◌∷◌, ◌≡◌, ◌≢◌, ◌≤◌, ap, arith, bit_and, Bool, eqb}
-use Rattle.std.proofs.Common.{false, if◌then◌else◌, List, min, refl, suc, sym, true, true≢false, zero, ℕ}
-use Rattle.std.proofs.lemmas.Bool.{and_from, and_left, cases_eq, cases_lt, eq-eqb, ne_eqb}
-use Rattle.std.proofs.lemmas.Nat.Bits.{bit_at-lt, bit_at-zero, bit_at_above, bit_at_and, same_from_bits}
-use Rattle.vm_core.specs.Prelude.{at_actor, at_free, Free, has_free_bit, in_mask, Inv, World}
-use Rattle.vm_core.proofs.Upd.{upd-other, upd-same}
-use Rattle.vm_laws_frame.proofs.{Bits.taken-free, Places.free-place, Places.held-place}
-use Rattle.vm_owner.proofs.NumberLemmas.{has-without_other, has-without_same}
-use Rattle.vm_rule.specs.Prelude.{AreApart, frames_below, frames_in, has, put_at, with_contents, without, without_all}
-use Rattle.vm_rule.specs.declared.view.Put.{Put}
-use Rattle.vm_rule.proofs.Facts.{has-both}
+use Rattle.vm_rule.proofs.{Entries.append-none, Facts.has-both}
+use Rattle.vm_rule.proofs.Prelude.{[], and_from, ap, apart-end, AreApart, arith, at_actor, at_free, bit_and, bit_at, bit_at-lt, bit_at-zero}
+use Rattle.vm_rule.proofs.Prelude.{bit_at_above, bit_at_and, Bool, cases_Bool, cases_eq, cases_lt, eq-eqb, eqb, false, frames_below, frames_in, Free}
+use Rattle.vm_rule.proofs.Prelude.{free-place, has, has-without_other, has-without_same, has_free_bit, held-place, if◌then◌else◌, in_mask, Inv, List}
+use Rattle.vm_rule.proofs.Prelude.{lt-ltb, ltb, min, nat_tests, ne_eqb, Put, put_at, refl, same_from_bits, subst, suc, sym, taken-free, true}
+use Rattle.vm_rule.proofs.Prelude.{true≢false, upd-other, upd-same, with_contents, without, without_all, World, zero, ℕ, ⊎_elim, ◌%◌, ◌&&◌, ◌*◌, ◌++◌}
+use Rattle.vm_rule.proofs.Prelude.{◌+◌, ◌/◌, ◌<◌, ◌^◌, ◌||◌, ◌∙◌, ◌∷◌, ◌≡◌, ◌≢◌, ◌≤◌}
 
 -- ---- the frames of a mask
 
@@ -19,75 +14,47 @@ use Rattle.vm_rule.proofs.Facts.{has-both}
 abbrev one-if : Bool → ℕ → List ℕ
 one-if b x = if b then x ∷ [] else []
 
-has-one : (f x : ℕ) (b : Bool) → f ≢ x → has f (one-if b x) ≡ false
-has-one f x true ne = rw (ne_eqb f x ne) refl
-has-one f x false ne = refl
+has-one : (f x : ℕ) (b : Bool) → has f (one-if b x) ≡ (eqb f x && b)
+has-one f x true = ⊎_elim (λ t. rw t refl) (λ n. rw n refl) (cases_Bool (eqb f x))
+has-one f x false = ⊎_elim (λ t. rw t refl) (λ n. rw n refl) (cases_Bool (eqb f x))
 
-has-same : (f x : ℕ) (b : Bool) → f ≡ x → has f (one-if b x) ≡ b
-has-same f x true e = rw (eq-eqb f x e) refl
-has-same f x false e = refl
+-- among the first n frames stands none, one more, and not the next one
+none-below : (g f : ℕ) (c : Bool) → (eqb (f / 64) g && (ltb (f % 64) 0 && c)) ≡ false
+none-below g f c = grind (arith, nat_tests)
 
--- a frame that is none of the first n has no part in the list
-has-none : (n g mask f : ℕ) → ((k : ℕ) → k < n → f ≢ 64 * g + k) → has f (frames_below n g mask) ≡ false
-has-none zero g mask f none = refl
-has-none (suc n) g mask f none =
+one-more : (g f n : ℕ) (b c : Bool) → suc n ≤ 64 → (f ≡ 64 * g + n → c ≡ b) → ((eqb (f / 64) g && (ltb (f % 64) n && c)) || (eqb f (64 * g + n) && b)) ≡ (eqb (f / 64) g && (ltb (f % 64) (suc n) && c))
+one-more g f n b c le same = ⊎_elim (λ e. let q : f / 64 ≡ g = omega arith in let m : f % 64 ≡ n = omega arith in let s : c ≡ b = same e in grind (arith, nat_tests, e, q, m, s)) (λ ne. grind (arith, nat_tests, ne)) (cases_eq f (64 * g + n))
+
+next-not : (g n : ℕ) (c : Bool) → n < 64 → (eqb ((64 * g + n) / 64) g && (ltb ((64 * g + n) % 64) n && c)) ≡ false
+next-not g n c l = let m : (64 * g + n) % 64 ≡ n = omega arith in grind (arith, nat_tests, m)
+
+has-below : (n g mask f : ℕ) → n ≤ 64 → has f (frames_below n g mask) ≡ (eqb (f / 64) g && (ltb (f % 64) n && eqb (bit_at mask (f % 64)) 1))
+has-below zero g mask f le = sym (none-below g f (eqb (bit_at mask (f % 64)) 1))
+has-below (suc n) g mask f le =
     has-both f (frames_below n g mask) (one-if (eqb (bit_at mask n) 1) (64 * g + n))
-    ∙ (λ i. has-none n g mask f (λ k l. none k (omega (arith, l))) i || has-one f (64 * g + n) (eqb (bit_at mask n) 1) (none n (omega arith)) i)
-
--- one of the first n stands there where its bit is set
-has-bit : (n g mask k : ℕ) → k < n → has (64 * g + k) (frames_below n g mask) ≡ eqb (bit_at mask k) 1
-has-bit zero g mask k l = absurd (omega arith)
-has-bit (suc n) g mask k l =
-    has-both (64 * g + k) (frames_below n g mask) (one-if (eqb (bit_at mask n) 1) (64 * g + n))
-    ∙ ⊎_elim
-    (λ e.
-    (λ i. has-none n g mask (64 * g + k) (λ j lj same. absurd (omega (arith, lj, same, e))) i || has-same (64 * g + k) (64 * g + n) (eqb (bit_at mask n) 1) (ap (λ m. 64 * g + m) e) i)
-    ∙ ap (λ m. eqb (bit_at mask m) 1) (sym e))
-    (λ ne.
-    (λ i. has-bit n g mask k (omega (arith, l, ne)) i || has-one (64 * g + k) (64 * g + n) (eqb (bit_at mask n) 1) (λ same. ne (omega (arith, same))) i)
-    ∙ or-false (eqb (bit_at mask k) 1))
-    (cases_eq k n)
-  where
-    or-false : (b : Bool) → (b || false) ≡ b
-    or-false true = refl
-    or-false false = refl
+    ∙ (λ i. has-below n g mask f (omega arith) i || has-one f (64 * g + n) (eqb (bit_at mask n) 1) i)
+    ∙ one-more g f n (eqb (bit_at mask n) 1) (eqb (bit_at mask (f % 64)) 1) le (λ e. let m : f % 64 ≡ n = omega arith in ap (λ k. eqb (bit_at mask k) 1) m)
 
 -- the list has just the frames of the mask
 pub has-frames_in : (g mask f : ℕ) → has f (frames_in g mask) ≡ in_mask g mask f
 unfolding frames_in in_mask
-has-frames_in g mask f =
-    ⊎_elim
-    (λ e.
-    let is : f ≡ 64 * g + f % 64 = omega (arith, e) in
-    ap (λ n. has n (frames_below 64 g mask)) is
-    ∙ has-bit 64 g mask (f % 64) (omega arith)
-    ∙ sym (ap (λ b. b && eqb (bit_at mask (f % 64)) 1) (eq-eqb (f / 64) g e)))
-    (λ ne.
-    has-none 64 g mask f (λ k l same. ne (omega (arith, l, same)))
-    ∙ sym (and_left (eqb (f / 64) g) (eqb (bit_at mask (f % 64)) 1) (ne_eqb (f / 64) g ne)))
-    (cases_eq (f / 64) g)
+has-frames_in g mask f = has-below 64 g mask f (omega arith) ∙ ap (λ b. eqb (f / 64) g && (b && eqb (bit_at mask (f % 64)) 1)) (lt-ltb (f % 64) 64 (omega arith))
 
 -- a list of different numbers, and another one behind it
 apart-snoc : (l : List ℕ) (x : ℕ) (b : Bool) → AreApart l → has x l ≡ false → AreApart (l ++ one-if b x)
-apart-snoc [] x true a none = (refl, tt)
-apart-snoc [] x false a none = tt
-apart-snoc (q ∷ qs) x b a none =
-    ⊎_elim
-    (λ same. absurd (true≢false (sym (ap (λ c. c || has x qs) (eq-eqb x q same)) ∙ none)))
-    (λ ne. (
-      has-both q qs (one-if b x) ∙ (λ i. a.0 i || has-one q x b (λ e. ne (sym e)) i),
-      apart-snoc qs x b a.1 (sym (ap (λ c. c || has x qs) (ne_eqb x q ne)) ∙ none),
-    ))
-    (cases_eq x q)
+apart-snoc l x true a none = apart-end l x a none
+apart-snoc l x false a none = subst AreApart (sym (append-none l)) a
 
-below-apart : (n g mask : ℕ) → AreApart (frames_below n g mask)
-below-apart zero g mask = tt
-below-apart (suc n) g mask = apart-snoc (frames_below n g mask) (64 * g + n) (eqb (bit_at mask n) 1) (below-apart n g mask) (has-none n g mask (64 * g + n) (λ k l same. absurd (omega (arith, l, same))))
+below-apart : (n g mask : ℕ) → n ≤ 64 → AreApart (frames_below n g mask)
+below-apart zero g mask le = tt
+below-apart (suc n) g mask le =
+    apart-snoc (frames_below n g mask) (64 * g + n) (eqb (bit_at mask n) 1) (below-apart n g mask (omega arith))
+    (has-below n g mask (64 * g + n) (omega arith) ∙ next-not g n (eqb (bit_at mask ((64 * g + n) % 64)) 1) le)
 
 -- each frame of the mask stands once
 pub frames_in-apart : (g mask : ℕ) → AreApart (frames_in g mask)
 unfolding frames_in
-frames_in-apart g mask = below-apart 64 g mask
+frames_in-apart g mask = below-apart 64 g mask (omega arith)
 
 -- ---- a list that others were taken from
 
@@ -171,9 +138,7 @@ module _ (w : World) (g mask : ℕ) (inv : Inv w) where
           let in-it : in_mask g mask (64 * g + i) ≡ true = and_from _ _ (eq-eqb _ _ q) (eq-eqb _ _ (ap (bit_at mask) m ∙ one)) in
           let off : eqb (bit_at (w.core.bundles ((64 * g + i) / 64)) ((64 * g + i) % 64)) 1 ≡ false = held-frame w (64 * g + i) inv a (holds (64 * g + i) in-it) in
           let here : eqb (bit_at (w.core.bundles g) i) 1 ≡ false = sym (λ j. eqb (bit_at (w.core.bundles (q j)) (m j)) 1) ∙ off in
-          ⊎_elim
-          (λ set. absurd (true≢false (sym (eq-eqb _ _ set) ∙ here)))
-          (λ (ne : bit_at (w.core.bundles g) i ≢ 1). omega (arith, word, ne))
-          (cases_eq (bit_at (w.core.bundles g) i) 1))
+          let ne : bit_at (w.core.bundles g) i ≢ 1 = λ set. true≢false (sym (eq-eqb _ _ set) ∙ here) in
+          omega (arith, word, ne))
           (λ (ne : bit_at mask i ≢ 1). omega (arith, bit, ne))
           (cases_eq (bit_at mask i) 1)

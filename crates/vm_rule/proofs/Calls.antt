@@ -1,12 +1,8 @@
 -- What a call of a page's device, seen when its block comes home, leaves of the core: its invariant, and what the others have. Where blocks do
 -- not tell their words, nothing is said of the words of the block, whatever the call was.
-use Rattle.std.proofs.Common.{⊎_elim, ◌∙◌, ◌≡◌, ◌⊎◌, arith, Bool, inr, IsSome, length, List, refl, subst, sym, true, true≢false, ℕ}
-use Rattle.vm_core.specs.Prelude.{block_after, count_more, History, Inv, MayCall, on_page, Page, PageInv, WordsInv, World}
-use Rattle.vm_core.proofs.{Locks.locked-from_owner, Upd.upd-self, Whole.page-alone}
-use Rattle.vm_laws_device.proofs.Device.{written-keeps}
-use Rattle.vm_laws_others.specs.Leaves.{CountsMove}
-use Rattle.vm_laws_others.proofs.{Device.called-leaves, Page.counts-same, Page.page-leaves}
-use Rattle.vm_rule.specs.Prelude.{Leaves}
+use Rattle.vm_rule.proofs.Prelude.{arith, block_after, Bool, called-leaves, count_more, counts-same, CountsMove, History, inr, Inv, IsSome, Leaves}
+use Rattle.vm_rule.proofs.Prelude.{length, List, locked-from_owner, MayCall, on_page, Page, page-alone, page-leaves, PageInv, refl, subst, sym, true}
+use Rattle.vm_rule.proofs.Prelude.{true≢false, upd-self, WordsInv, World, written-keeps, ℕ, ⊎_elim, ◌∙◌, ◌≡◌, ◌⊎◌}
 
 -- the page with this count and these words in its block
 abbrev pub called : Page → ℕ → List ℕ → Page

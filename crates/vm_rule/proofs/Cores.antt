@@ -1,15 +1,13 @@
 -- A step of one pass on one word of the table: the core that is read changes as by the event.
-use Rattle.std.proofs.Common.{[], ◌<◌, ◌∙◌, ◌≡◌, ap, Bool, length, length-set, List, Option, refl, slice_set, sym, ℕ}
-use mathlib.Core.Path.{fun_ext}
-use Rattle.vm_core.specs.Prelude.{at, get_elem?, mapping_of, no_seat, on_page, some, State, state_of, stored_at, upd, version_of}
-use Rattle.vm_core.proofs.Upd.{upd-keeps, upd-map, upd-other, upd-same}
-use Rattle.vm_rule.specs.Prelude.{block_of, core_from, core_shown, frames_held, has, index_of, loads_of, page_from, pages_from, put, put_at, Seat}
-use Rattle.vm_rule.specs.Prelude.{seats_of, spent, Stored, Table, table_words, width, with_word, Within, Words}
-use Rattle.vm_rule.specs.{declared.view.Origin.Origin, declared.view.Place.Place, declared.view.View.View}
 use Rattle.vm_rule.specs.declared.view.Place.TheVariants as places
-use Rattle.vm_rule.proofs.Pages.{page-changed, page-in, put-column, put-still}
+use Rattle.vm_rule.proofs.Pages.{page-changed, page-in, put-column}
 use Rattle.vm_rule.proofs.Parts.{frame-written, words-written}
-use Rattle.vm_rule.proofs.Views.{at-there, block-same, views-set}
+use Rattle.vm_rule.proofs.Prelude.{[], ap, at, block_of, Bool, core_from, core_shown, frames_held, fun_ext, get_elem?, has, index_of, length}
+use Rattle.vm_rule.proofs.Prelude.{length-set, List, loads_at, loads_of, mapping_of, no_seat, on_page, Option, Origin, page_from, pages_from, Place}
+use Rattle.vm_rule.proofs.Prelude.{put, put_at, refl, Seat, seat_of, seats_of, slice_set, some, spent, State, state_of, Stored, stored_at, sym, Table}
+use Rattle.vm_rule.proofs.Prelude.{table_words, upd, upd-map, upd-other, upd-same, version_of, View, width, with_word, Within, Words, ℕ, ◌<◌, ◌∙◌}
+use Rattle.vm_rule.proofs.Prelude.{◌≡◌}
+use Rattle.vm_rule.proofs.Views.{at-there, block-same, field-still, views-set}
 
 module _ {X : Type 0} where
   -- what the pass has of page p changes
@@ -19,9 +17,7 @@ module _ {X : Type 0} where
       ∙ put-column no_seat (λ (y : View X). y.seats) (at spent views) id p seat w (e ∙ ap (λ (y : View X). put p seat y.seats) (sym (at-there spent views id v there)))
 
   pub seats-still : (views : List (View X)) (id : ℕ) (v w : View X) → get_elem? views id ≡ some v → w.seats ≡ v.seats → seats_of (slice_set views id w) ≡ seats_of views
-  seats-still views id v w there e =
-      ap {B = ℕ → ℕ → Seat} (λ (f : ℕ → View X) q b. put_at no_seat (f b).seats q) (views-set views id v w there)
-      ∙ put-still no_seat (λ (y : View X). y.seats) (at spent views) id w (e ∙ ap (λ (y : View X). y.seats) (sym (at-there spent views id v there)))
+  seats-still views id v w there e = fun_ext (λ p. fun_ext (field-still (λ y. seat_of y p) views id v w there (ap (λ l. put_at no_seat l p) e)))
 
   pub loads-put : (views : List (View X)) (id p : ℕ) (v w : View X) (l : List (ℕ × ℕ)) → get_elem? views id ≡ some v → w.loads ≡ put p l v.loads → loads_of (slice_set views id w) ≡ upd (loads_of views) p (upd (loads_of views p) id l)
   loads-put views id p v w l there e =
@@ -29,9 +25,7 @@ module _ {X : Type 0} where
       ∙ put-column [] (λ (y : View X). y.loads) (at spent views) id p l w (e ∙ ap (λ (y : View X). put p l y.loads) (sym (at-there spent views id v there)))
 
   pub loads-still : (views : List (View X)) (id : ℕ) (v w : View X) → get_elem? views id ≡ some v → w.loads ≡ v.loads → loads_of (slice_set views id w) ≡ loads_of views
-  loads-still views id v w there e =
-      ap {B = ℕ → ℕ → List (ℕ × ℕ)} (λ (f : ℕ → View X) q b. put_at [] (f b).loads q) (views-set views id v w there)
-      ∙ put-still [] (λ (y : View X). y.loads) (at spent views) id w (e ∙ ap (λ (y : View X). y.loads) (sym (at-there spent views id v there)))
+  loads-still views id v w there e = fun_ext (λ p. fun_ext (field-still (λ y. loads_at y p) views id v w there (ap (λ l. put_at [] l p) e)))
 
   -- the frames that the passes hold
   pub held-put : (views : List (View X)) (id : ℕ) (v w : View X) → get_elem? views id ≡ some v → frames_held (slice_set views id w) ≡ upd (frames_held views) id (λ f. has f w.frames)
@@ -39,9 +33,7 @@ module _ {X : Type 0} where
       fun_ext (λ b. ap (λ (f : ℕ → View X). λ n. has n (f b).frames) (views-set views id v w there) ∙ upd-map (λ (y : View X). λ n. has n y.frames) (at spent views) id w b)
 
   pub held-still : (views : List (View X)) (id : ℕ) (v w : View X) → get_elem? views id ≡ some v → w.frames ≡ v.frames → frames_held (slice_set views id w) ≡ frames_held views
-  held-still views id v w there e =
-      fun_ext (λ b. ap (λ (f : ℕ → View X). λ n. has n (f b).frames) (views-set views id v w there)
-      ∙ upd-keeps (λ (y : View X). λ n. has n y.frames) (at spent views) id w (ap (λ l n. has n l) (e ∙ ap (λ (y : View X). y.frames) (sym (at-there spent views id v there)))) b)
+  held-still views id v w there e = fun_ext (field-still (λ y f. has f y.frames) views id v w there (ap (λ l f. has f l) e))
 
 module _ (start : Origin) (actors : ℕ) (r : Words) (blocks : ℕ → Stored) (seats : ℕ → ℕ → Seat) (held : ℕ → ℕ → Bool) where
   abbrev core : State
@@ -100,6 +92,11 @@ module _ (start : Origin) (actors : ℕ) (r : Words) (blocks : ℕ → Stored) (
   pub core-hand : (x : ℕ) → core_from start actors (with_word r places.Hand x) blocks seats held ≡ record core { hand = x }
   unfolding pages_from
   core-hand x = refl
+
+  -- an owner word
+  pub core-owner : (f x : ℕ) → core_from start actors (with_word r (places.Owner f) x) blocks seats held ≡ record core { owners = upd r.owners f x }
+  unfolding pages_from
+  core-owner f x = refl
 
 module _ {X B : Type 0} (stored : B → Stored) (start : Origin) where
   -- the one word that a step writes, and the one view that it changes

@@ -1,11 +1,8 @@
 -- The history, the numbers of the passes, and what is noted.
-use Rattle.std.proofs.Common.{[], ⊎_elim, ◌++◌, ◌+◌, ◌||◌, ◌∙◌, ◌∷◌, ◌≡◌, ◌≢◌, ◌≤◌, ap, arith, eqb, false, if◌then◌else◌, length, List, refl}
-use Rattle.std.proofs.Common.{slice_set, suc, sym, true, true≢false, zero, ℕ}
-use Rattle.std.proofs.lemmas.Bool.{cases_Bool, cases_lt, le-ltb, lt-ltb}
 use mathlib.Core.Option as maybe
-use Rattle.vm_core.specs.Prelude.{get_elem?, some, some-injective}
-use Rattle.vm_rule.specs.Prelude.{Each, entries_by, Entry, has, IsWhole, one_part, owns, PARTS, StartsWith, total}
-use Rattle.vm_rule.specs.declared.view.View.{View}
+use Rattle.vm_rule.proofs.Prelude.{[], ap, arith, cases_Bool, cases_lt, Each, entries_by, Entry, eqb, false, get_elem?, has, if◌then◌else◌, IsWhole}
+use Rattle.vm_rule.proofs.Prelude.{le-ltb, length, List, lt-ltb, one_part, owns, PARTS, refl, slice_set, some, some-injective, StartsWith, suc, sym}
+use Rattle.vm_rule.proofs.Prelude.{total, true, true≢false, View, zero, ℕ, ⊎_elim, ◌++◌, ◌+◌, ◌||◌, ◌∙◌, ◌∷◌, ◌≡◌, ◌≢◌, ◌≤◌}
 use Rattle.vm_rule.proofs.Views.{total-set}
 
 pub each-map : {A : Type 0} (P Q : A → Type 0) → ((a : A) → P a → Q a) → (l : List A) → Each P l → Each Q l
@@ -23,11 +20,26 @@ pub has-joined : (n : ℕ) (l m : List ℕ) → has n (l ++ m) ≡ (has n l || h
 has-joined n [] m = refl
 has-joined n (x ∷ xs) m = ⊎_elim (λ t. rw t refl) (λ f. rw f (has-joined n xs m)) (cases_Bool (eqb n x))
 
+-- a list that is empty when it is joined to another
+pub none-left : {A : Type 0} (a b : List A) → a ++ b ≡ [] → (a ≡ []) × (b ≡ [])
+none-left [] b e = (refl, e)
+none-left (x ∷ a) b e = absurd (let none : length (x ∷ (a ++ b)) ≡ 0 = ap length e in omega arith)
+
 module _ {X : Type 0} where
   pub entries-both : (ns : List ℕ) (a b : List (Entry X)) → entries_by ns (a ++ b) ≡ entries_by ns a ++ entries_by ns b
   entries-both ns [] b = refl
   entries-both ns (e ∷ es) b =
       ⊎_elim (λ t. rw t (ap (λ (l : List (Entry X)). e ∷ l) (entries-both ns es b))) (λ f. rw f (entries-both ns es b)) (cases_Bool (has e.number ns))
+
+  -- numbers that have no entry have none in either part
+  none-each : (ns : List ℕ) (m r : List (Entry X)) → entries_by ns (m ++ r) ≡ [] → (entries_by ns m ≡ []) × (entries_by ns r ≡ [])
+  none-each ns m r e = none-left (entries_by ns m) (entries_by ns r) (sym (entries-both ns m r) ∙ e)
+
+  pub none-before : (ns : List ℕ) (m r : List (Entry X)) → entries_by ns (m ++ r) ≡ [] → entries_by ns m ≡ []
+  none-before ns m r e = (none-each ns m r e).0
+
+  pub none-behind : (ns : List ℕ) (m r : List (Entry X)) → entries_by ns (m ++ r) ≡ [] → entries_by ns r ≡ []
+  none-behind ns m r e = (none-each ns m r e).1
 
   -- no number, no entry
   pub entries-none : (l : List (Entry X)) → entries_by [] l ≡ []

@@ -1,19 +1,13 @@
 -- What the rule says of who holds a page, of the blocks, and of the members still to be released.
-use Rattle.std.proofs.Common.{[], ⊎_elim, ◌<◌, ◌||◌, ◌∙◌, ◌∷◌, ◌≡◌, ◌≢◌, ◌≤◌, ap, arith, Bool, eqb, false, if◌then◌else◌, length, List, Option, refl}
-use Rattle.std.proofs.Common.{slice_set, Some, subst, suc, sym, true, true≢false, zero, ℕ}
-use Rattle.std.proofs.lemmas.Bool.{cases_Bool, cases_eq, eq-eqb, false≢true}
 use mathlib.Core.Option as maybe
-use Rattle.atomic_table.proofs.Lists.{at_set}
-use Rattle.vm_core.specs.Prelude.{get_elem?, LOCKED, LocksInv, OneHolder, Page, some, sum_below, upd}
-use Rattle.vm_core.proofs.Locks.{locked-from_owner, shared-state, sum_below-at}
-use Rattle.vm_core.proofs.Upd.{upd-other, upd-same}
-use Rattle.vm_rule.specs.Prelude.{has, Kept, Seat, Start, Table, without}
-pub use Rattle.vm_owner.proofs.NumberLemmas.{has-both}
-use Rattle.vm_owner.proofs.NumberLemmas.{has-without_other, has-without_same}
-use Rattle.vm_rule.specs.Prelude.{any, BlocksFit, core_shown, is_pending, may_call, owns, Ruled, seat_of, Stored, times}
-use Rattle.vm_rule.specs.{declared.view.Origin.Origin, declared.view.Out.Out, declared.view.View.View}
 use Rattle.vm_rule.proofs.Found.{seat-here}
-use Rattle.vm_rule.proofs.Views.{at-bound, block-same, out-same}
+use Rattle.vm_rule.proofs.Prelude.{[], any, ap, arith, at, BlocksFit, Bool, cases_Bool, cases_eq, core_shown, false, false≢true, get_elem?, has}
+use Rattle.vm_rule.proofs.Prelude.{has-without_other, has-without_same, if◌then◌else◌, is_pending, Kept, length, List, LOCKED, locked-from_owner}
+use Rattle.vm_rule.proofs.Prelude.{LocksInv, may_call, OneHolder, Option, Origin, Out, owns, Page, refl, Ruled, Seat, seat_of, shared-state}
+use Rattle.vm_rule.proofs.Prelude.{slice_set, slot_of, Some, some, Start, Stored, suc, sum_below, sum_below-at, sym, Table, true, true≢false, upd}
+use Rattle.vm_rule.proofs.Prelude.{upd-other, upd-same, View, without, zero, ℕ, ⊎_elim, ◌<◌, ◌||◌, ◌∙◌, ◌∷◌, ◌≡◌, ◌≢◌, ◌≤◌}
+use Rattle.vm_rule.proofs.Views.{at-bound, block-same, out-same, set-each}
+pub use Rattle.vm_owner.proofs.NumberLemmas.{has-both}
 
 -- ---- lists of numbers
 
@@ -32,14 +26,6 @@ either-way false b = refl
 -- ---- views
 
 module _ {X : Type 0} where
-  -- a pass with a number has a part
-  pub has-part : (v : View X) → 0 < length v.used → (k : ℕ) × (1 ≤ owns k v)
-  has-part v l = let k = first v.used l in (k.0, omega (arith, k.1))
-    where
-      first : (ns : List ℕ) → 0 < length ns → (k : ℕ) × (1 ≤ times k ns)
-      first [] l' = absurd (omega arith)
-      first (n ∷ ns) l' = (n, rw (eq-eqb n n refl) (omega arith))
-
   -- some view says so
   pub any-true : (f : View X → Bool) (views : List (View X)) → any f views ≡ true → (j : ℕ) × (u : View X) × (get_elem? views j ≡ some u) × (f u ≡ true)
   any-true f [] e = absurd (false≢true e)
@@ -103,13 +89,6 @@ module _ {X B : Type 0} (stored : B → Stored) (start : Origin) where
   caller-here s id j p v u i l there mine at theirs =
       one-caller (length s.views) _ _ ((core_shown stored start s).pages p).seats id j i (at-bound s.views id v there) (at-bound s.views j u at) (ap may_call (seat-here stored start s id p v l there) ∙ mine) (ap may_call (seat-here stored start s j p u l at) ∙ theirs)
 
-  -- the other passes have nothing of a page that a pass holds exclusively
-  pub alone-here : (s : Table (Option B) (View X)) (id j p : ℕ) (v u : View X) → LocksHere s p → p < start.pages → get_elem? s.views id ≡ some v → (seat_of v p).exclusive ≡ true → get_elem? s.views j ≡ some u → j ≢ id
-      → (may_call (seat_of u p) ≡ false) × ((seat_of u p).shares ≡ 0)
-  alone-here s id j p v u i l there owns at ne =
-      let k = alone (length s.views) _ _ ((core_shown stored start s).pages p).seats id j i (ap (λ y. y.exclusive) (seat-here stored start s id p v l there) ∙ owns) (at-bound s.views j u at) ne in
-      subst (λ y. (may_call y ≡ false) × (y.shares ≡ 0)) (seat-here stored start s j p u l at) k
-
   -- nobody holds a page that is not locked
   pub unheld : (s : Table (Option B) (View X)) (j p : ℕ) (u : View X) → LocksHere s p → ((core_shown stored start s).pages p).state ≢ LOCKED → p < start.pages → get_elem? s.views j ≡ some u → (seat_of u p).exclusive ≡ false
   unheld s j p u i free l there = sym (ap (λ y. y.exclusive) (seat-here stored start s j p u l there)) ∙ i.unheld free j
@@ -117,13 +96,9 @@ module _ {X B : Type 0} (stored : B → Stored) (start : Origin) where
   -- the blocks, after a view that keeps what it has out, and may still call its device
   pub blocks-still : (homes : List (maybe.Option (Option B))) (views : List (View X)) (id : ℕ) (v w : View X) → get_elem? views id ≡ some v → w.out ≡ v.out → ((o : Out) → v.out ≡ Some o → may_call (seat_of w o.page) ≡ true) → BlocksFit stored start homes views → BlocksFit stored start homes (slice_set views id w)
   blocks-still homes views id v w there out calls b = record {
-    away = λ j u o e x. ⊎_elim
-        (λ (t : (j ≡ id) × (w ≡ u)).
-        let has-out : v.out ≡ Some o = sym out ∙ ap (λ (y : View X). y.out) t.1 ∙ x in
-        let k = b.away id v o there has-out in
-        (k.0, subst (λ (y : View X). may_call (seat_of y o.page) ≡ true) t.1 (calls o has-out), k.2))
-        (λ (t : (j ≢ id) × (get_elem? views j ≡ some u)). b.away j u o t.1 x)
-        (at_set views id j w u e);
+    away = λ j u o e. set-each (λ y. y.out ≡ Some o → (o.page < start.pages) × (may_call (seat_of y o.page) ≡ true) × (at maybe.none homes o.page ≡ slot_of o)) views id w
+        (λ x. let k = b.away id v o there (sym out ∙ x) in (k.0, calls o (sym out ∙ x), k.2))
+        (λ i y _ there'. b.away i y o there') j u e;
     home = λ p l e. b.home p l (sym (out-same views id v w p there out) ∙ e);
     bounds = λ p l. ap (λ f. (f p).bound) (block-same stored homes views id v w there out) ∙ b.bounds p l;
   }

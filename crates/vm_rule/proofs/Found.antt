@@ -1,13 +1,10 @@
 -- What the core that is read has at a place, in terms of the word that stands there, of the pass's view, and of the block.
-use Rattle.std.proofs.Common.{◌*◌, ◌+◌, ◌<◌, ◌∙◌, ◌≡◌, ◌≤◌, ap, arith, List, Option, refl, slice_index, slice_set, suc, zero, ℕ}
-use Rattle.std.proofs.lemmas.List.{set-get_or}
-use Rattle.vm_core.specs.Prelude.{get_elem?, mapping_of, outside_page, Page, page_word, some, state_of, version_of}
-use Rattle.vm_core.proofs.At.{at-get}
-use Rattle.vm_rule.specs.Prelude.{block_of, bundle_count, core_shown, frame_words, has, index_of, listed, loads_at, loads_of, page_from, part}
-use Rattle.vm_rule.specs.Prelude.{seat_of, seats_of, spent, Stored, Table, table_words}
-use Rattle.vm_rule.specs.{declared.view.Origin.Origin, declared.view.View.View}
 use Rattle.vm_rule.specs.declared.view.Place.TheVariants as places
 use Rattle.vm_rule.proofs.{Pages.page-in, Pages.page-out, Parts.part-at, Views.at-there, WordFacts.word-made}
+use Rattle.vm_rule.proofs.Prelude.{ap, arith, at-get, block_of, bundle_count, core_shown, frame_words, get_elem?, has, index_of, List, listed}
+use Rattle.vm_rule.proofs.Prelude.{loads_at, loads_of, mapping_of, Option, Origin, outside_page, Page, page_from, page_word, part, refl, seat_of}
+use Rattle.vm_rule.proofs.Prelude.{seats_of, set-get_or, slice_index, slice_set, some, spent, state_of, Stored, suc, Table, table_words, version_of}
+use Rattle.vm_rule.proofs.Prelude.{View, zero, ℕ, ◌*◌, ◌+◌, ◌<◌, ◌∙◌, ◌≡◌, ◌≤◌}
 
 -- a word that is written as it was
 pub same-word : (words : List ℕ) (i : ℕ) → slice_set words i (slice_index words i) ≡ words
@@ -61,12 +58,9 @@ module _ {X B : Type 0} (stored : B → Stored) (start : Origin) where
   pub word-here : (s : Table (Option B) (View X)) (p : ℕ) → p < start.pages → page_word ((core_shown stored start s).pages p) ≡ slice_index s.words (index_of start (places.State p))
   word-here s p l = ap (λ (r : Page). page_word r) (page-here s p l) ∙ word-made ((table_words start s.words).states p) ∙ part-found 0 start.pages s.words p p l (omega arith)
 
-  -- its translation word, its fault word
+  -- its translation word
   pub translation-here : (s : Table (Option B) (View X)) (p : ℕ) → p < start.pages → ((core_shown stored start s).pages p).trans ≡ mapping_of (slice_index s.words (index_of start (places.Translation p)))
   translation-here s p l = ap (λ (r : Page). r.trans) (page-here s p l) ∙ ap mapping_of (part-found start.pages start.pages s.words p (start.pages + p) l refl)
-
-  pub fault-here : (s : Table (Option B) (View X)) (p : ℕ) → p < start.pages → ((core_shown stored start s).pages p).fault ≡ slice_index s.words (index_of start (places.Fault p))
-  fault-here s p l = ap (λ (r : Page). r.fault) (page-here s p l) ∙ part-found (2 * start.pages) start.pages s.words p (2 * start.pages + p) l refl
 
   -- its block
   pub block-here : (s : Table (Option B) (View X)) (p : ℕ) → p < start.pages → (((core_shown stored start s).pages p).block ≡ (block_of stored s.homes s.views p).words) × (((core_shown stored start s).pages p).count ≡ (block_of stored s.homes s.views p).count)
@@ -85,3 +79,7 @@ module _ {X B : Type 0} (stored : B → Stored) (start : Origin) where
 
   pub hand-here : (s : Table (Option B) (View X)) → (core_shown stored start s).hand ≡ slice_index s.words (index_of start places.Hand)
   hand-here s = at-get 0 s.words (index_of start places.Hand)
+
+  -- an owner word
+  pub owner-here : (s : Table (Option B) (View X)) (f : ℕ) → f < start.frames → (core_shown stored start s).owners f ≡ slice_index s.words (index_of start (places.Owner f))
+  owner-here s f l = part-found (3 * start.pages + 64 * start.frames + bundle_count start + 2) start.frames s.words f (3 * start.pages + 64 * start.frames + bundle_count start + 2 + f) l refl

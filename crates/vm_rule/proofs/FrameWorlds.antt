@@ -1,28 +1,23 @@
 -- The world that is read after a step on a translation word, a fault word, a frame that a pass holds, a bundle word, the next word or the
 -- hand: it is the world after the event.
-use Rattle.std.specs.Prelude.{bit_or, bit_xor}
-use Rattle.std.proofs.Common.{◌+◌, ◌<◌, ◌∙◌, ◌≡◌, ◌≢◌, ap, Bool, eq-eqb, false, if◌then◌else◌, length, List, ne_eqb, None, Option, refl, slice_set}
-use Rattle.std.proofs.Common.{Some, sym, true, ℕ}
-use mathlib.Core.Path.{fun_ext}
-use Rattle.vm_core.specs.Prelude.{at_actor, at_page, Free, gains, get_elem?, hand_more, History, in_mask, Inv, Mapped, mapping_of, Nowhere, on_page}
-use Rattle.vm_core.specs.Prelude.{some, stands_in, State, upd, with_dirty, World, world_after}
-use Rattle.vm_core.specs.{Inv.Place as Standing, Inv.Place.Held, Step.given_by, Step.taken_by}
-use Rattle.vm_core.specs.declared.event.Event.TheVariants.{Claim, Clean, Clear, Dirty, Give, Hand, Install, Raise, Store, Take}
-use Rattle.vm_rule.specs.Prelude.{block_of, core_shown, frames_held, has, histories_of, Mapping, seats_of, Stored, Table, table_words, width, Within}
-use Rattle.vm_rule.specs.Prelude.{world_of}
-use Rattle.vm_rule.specs.{declared.view.Origin.Origin, declared.view.Release.Release as Released, declared.view.View.View}
+use Rattle.std.proofs.Common.{eq-eqb, ne_eqb}
+use Rattle.vm_core.specs.Inv.{Place as Standing}
 use Rattle.vm_rule.specs.declared.view.Place.TheVariants as places
+use Rattle.vm_rule.specs.declared.view.Release.{Release as Released}
 use Rattle.vm_rule.proofs.{Found.held-here, Parts.upd-is}
-use Rattle.vm_rule.proofs.Cores.{core-bundle, core-fault, core-hand, core-next, core-step, core-translation, held-put, held-still, loads-still}
-use Rattle.vm_rule.proofs.Cores.{seats-still}
-use Rattle.vm_rule.proofs.Worlds.{store-core, stores-else, wrote}
+use Rattle.vm_rule.proofs.Cores.{core-bundle, core-fault, core-hand, core-next, core-owner, core-step, core-translation, held-put, held-still}
+use Rattle.vm_rule.proofs.Cores.{loads-still, seats-still}
+use Rattle.vm_rule.proofs.Prelude.{ap, at_actor, at_page, bit_or, bit_xor, block_of, Bool, changed_at, Claim, Clean, Clear, core_from, core_shown}
+use Rattle.vm_rule.proofs.Prelude.{Dirty, false, frame_of, frames_held, fun_ext, gains, get_elem?, Give, given_by, Hand, hand_more, has, held-place}
+use Rattle.vm_rule.proofs.Prelude.{histories_of, if◌then◌else◌, in_mask, Install, Inv, length, List, Mapping, mapping_of, None, on_page, Option}
+use Rattle.vm_rule.proofs.Prelude.{Origin, owned, Place, Raise, refl, seats_of, slice_set, Some, some, stands_in, State, Store, Stored, sym, Table}
+use Rattle.vm_rule.proofs.Prelude.{table_words, Take, taken_by, true, upd, View, width, with_dirty, with_word, Within, World, world_after, world_of}
+use Rattle.vm_rule.proofs.Prelude.{ℕ, ◌+◌, ◌<◌, ◌∙◌, ◌≡◌, ◌≢◌}
+use Rattle.vm_rule.proofs.Worlds.{store-core, stores-else, worlds-same, wrote}
 
 -- a frame that an actor holds stands in no page
 no-page : (x : Standing) (a q : ℕ) → at_actor x a ≡ true → at_page x q ≡ false
-no-page Nowhere a q e = cc
-no-page Free a q e = refl
-no-page (Held b) a q e = refl
-no-page (Mapped k) a q e = cc
+no-page x a q e = ap (λ y. at_page y q) (held-place x a e)
 
 pub stands-nowhere : (w : World) (f a q : ℕ) → Inv w → w.core.held a f ≡ true → stands_in (w.core.pages q).trans f ≡ false
 stands-nowhere w f a q inv e = (inv.frames f).mapped q ∙ no-page (inv.place f) a q (sym ((inv.frames f).holds a) ∙ e)
@@ -35,162 +30,137 @@ module _ (w : World) (a : ℕ) where
   pub lost-claim : (x n : ℕ) → w.core.next ≢ x → world_after w (Claim a x n) ≡ w
   lost-claim x n ne = rw (ne_eqb w.core.next x ne) refl
 
-module _ {X B : Type 0} (stored : B → Stored) (start : Origin) where
+module _ {X B : Type 0} (stored : B → Stored) (start : Origin) (s : Table (Option B) (View X)) (releases : List Released) (drafts : ℕ → List ℕ) (id : ℕ) (v w : View X) where
+  abbrev c : State
+  c = core_shown stored start s
+
+  abbrev old : World
+  old = world_of stored start releases drafts s
+
+  abbrev held : ℕ → ℕ → Bool
+  held = frames_held s.views
+
+  -- what a step asks that writes this word: the table is whole, and this pass's view is as it was but for its frames
+  abbrev Writes : Place → Type 0 → Type 0
+  Writes place T = length s.words ≡ width start → Within start place → get_elem? s.views id ≡ some v → T
+
+  abbrev Keeps : Type 0 → Type 0
+  Keeps T = w.out ≡ v.out → w.frames ≡ v.frames → w.seats ≡ v.seats → w.loads ≡ v.loads → T
+
+  -- the same of a step by which the pass has f of its frames
+  abbrev Moves : ((ℕ → Bool) → ℕ → Bool) → Type 0 → Type 0
+  Moves f T = ((h : ℕ) → has h w.frames ≡ f (λ k. has k v.frames) h) → T
+
+  abbrev Becomes : Place → ℕ → World → Type 0
+  Becomes place x new = world_of stored start releases drafts (wrote stored start s id place x w) ≡ new
+
+  -- the word is written, and the pass's frames are as they were
+  written : (place : Place) (x : ℕ) (new : State) → core_from start (length s.views) (with_word (table_words start s.words) place x) (block_of stored s.homes s.views) (seats_of s.views) held ≡ new
+      → Writes place (Keeps (Becomes place x (record old { core = new })))
+  written place x new is wide l there out frames seats loads =
+      worlds-same (core-step stored start s id v w place x wide l there out _ _ (seats-still s.views id v w there seats) (held-still s.views id v w there frames) ∙ is) refl (loads-still s.views id v w there loads)
+
   -- ---- translation and fault words
 
   -- a translation word alone
-  translated : (s : Table (Option B) (View X)) (releases : List Released) (drafts : ℕ → List ℕ) (id : ℕ) (v w : View X) (p x : ℕ) (t : Option Mapping) → length s.words ≡ width start → p < start.pages → get_elem? s.views id ≡ some v
-      → w.out ≡ v.out → w.frames ≡ v.frames → w.seats ≡ v.seats → w.loads ≡ v.loads → mapping_of x ≡ t
-      → world_of stored start releases drafts (wrote stored start s id (places.Translation p) x w)
-      ≡ record (world_of stored start releases drafts s) { core = on_page (core_shown stored start s) p (record ((core_shown stored start s).pages p) { trans = t }) }
-  translated s releases drafts id v w p x t wide l there out frames seats loads maps i =
-      record {
-        core = (core-step stored start s id v w (places.Translation p) x wide l there out _ _ (seats-still s.views id v w there seats) (held-still s.views id v w there frames)
-            ∙ core-translation start (length s.views) (table_words start s.words) (block_of stored s.homes s.views) (seats_of s.views) (frames_held s.views) p x l
-            ∙ (λ j. on_page (core_shown stored start s) p (record ((core_shown stored start s).pages p) { trans = maps j }))) i;
-        histories = histories_of start releases drafts;
-        loads = loads-still s.views id v w there loads i;
-      }
+  translated : (p x : ℕ) (t : Option Mapping) → Writes (places.Translation p) (Keeps (mapping_of x ≡ t → Becomes (places.Translation p) x (record old { core = on_page c p (record (c.pages p) { trans = t }) })))
+  translated p x t wide l there out frames seats loads maps =
+      written (places.Translation p) x _
+      (core-translation start (length s.views) (table_words start s.words) (block_of stored s.homes s.views) (seats_of s.views) held p x l ∙ (λ j. on_page c p (record (c.pages p) { trans = maps j })))
+      wide l there out frames seats loads
 
   -- a page is made dirty; its frame is clean again
-  pub dirty-step : (s : Table (Option B) (View X)) (releases : List Released) (drafts : ℕ → List ℕ) (id : ℕ) (v w : View X) (p x : ℕ) → length s.words ≡ width start → p < start.pages → get_elem? s.views id ≡ some v
-      → w.out ≡ v.out → w.frames ≡ v.frames → w.seats ≡ v.seats → w.loads ≡ v.loads → mapping_of x ≡ with_dirty true ((core_shown stored start s).pages p).trans
-      → world_of stored start releases drafts (wrote stored start s id (places.Translation p) x w) ≡ world_after (world_of stored start releases drafts s) (Dirty id p)
-  dirty-step s releases drafts id v w p x wide l there out frames seats loads maps = translated s releases drafts id v w p x (with_dirty true ((core_shown stored start s).pages p).trans) wide l there out frames seats loads maps
+  pub dirty-step : (p x : ℕ) → Writes (places.Translation p) (Keeps (mapping_of x ≡ with_dirty true (c.pages p).trans → Becomes (places.Translation p) x (world_after old (Dirty id p))))
+  dirty-step p x = translated p x (with_dirty true (c.pages p).trans)
 
-  pub clean-step : (s : Table (Option B) (View X)) (releases : List Released) (drafts : ℕ → List ℕ) (id : ℕ) (v w : View X) (p x : ℕ) → length s.words ≡ width start → p < start.pages → get_elem? s.views id ≡ some v
-      → w.out ≡ v.out → w.frames ≡ v.frames → w.seats ≡ v.seats → w.loads ≡ v.loads → mapping_of x ≡ with_dirty false ((core_shown stored start s).pages p).trans
-      → world_of stored start releases drafts (wrote stored start s id (places.Translation p) x w) ≡ world_after (world_of stored start releases drafts s) (Clean id p)
-  clean-step s releases drafts id v w p x wide l there out frames seats loads maps = translated s releases drafts id v w p x (with_dirty false ((core_shown stored start s).pages p).trans) wide l there out frames seats loads maps
+  pub clean-step : (p x : ℕ) → Writes (places.Translation p) (Keeps (mapping_of x ≡ with_dirty false (c.pages p).trans → Becomes (places.Translation p) x (world_after old (Clean id p))))
+  clean-step p x = translated p x (with_dirty false (c.pages p).trans)
 
   -- a fault word is raised to the count
-  pub raise-step : (s : Table (Option B) (View X)) (releases : List Released) (drafts : ℕ → List ℕ) (id : ℕ) (v w : View X) (p x : ℕ) → length s.words ≡ width start → p < start.pages → get_elem? s.views id ≡ some v
-      → w.out ≡ v.out → w.frames ≡ v.frames → w.seats ≡ v.seats → w.loads ≡ v.loads → x ≡ ((core_shown stored start s).pages p).count
-      → world_of stored start releases drafts (wrote stored start s id (places.Fault p) x w) ≡ world_after (world_of stored start releases drafts s) (Raise id p)
-  raise-step s releases drafts id v w p x wide l there out frames seats loads is i =
-      record {
-        core = (core-step stored start s id v w (places.Fault p) x wide l there out _ _ (seats-still s.views id v w there seats) (held-still s.views id v w there frames)
-            ∙ core-fault start (length s.views) (table_words start s.words) (block_of stored s.homes s.views) (seats_of s.views) (frames_held s.views) p x l
-            ∙ (λ j. on_page (core_shown stored start s) p (record ((core_shown stored start s).pages p) { fault = is j }))) i;
-        histories = histories_of start releases drafts;
-        loads = loads-still s.views id v w there loads i;
-      }
+  pub raise-step : (p x : ℕ) → Writes (places.Fault p) (Keeps (x ≡ (c.pages p).count → Becomes (places.Fault p) x (world_after old (Raise id p))))
+  raise-step p x wide l there out frames seats loads is =
+      written (places.Fault p) x _
+      (core-fault start (length s.views) (table_words start s.words) (block_of stored s.homes s.views) (seats_of s.views) held p x l ∙ (λ j. on_page c p (record (c.pages p) { fault = is j })))
+      wide l there out frames seats loads
 
   -- ---- frames that come and go
 
   -- the frames held, after a view whose frames are f of what they were
-  held-now : (s : Table (Option B) (View X)) (id : ℕ) (v w : View X) (f : (ℕ → Bool) → ℕ → Bool) → get_elem? s.views id ≡ some v → ((h : ℕ) → has h w.frames ≡ f (λ k. has k v.frames) h)
-      → frames_held (slice_set s.views id w) ≡ upd (frames_held s.views) id (f (frames_held s.views id))
-  held-now s id v w f there frames =
-      held-put s.views id v w there ∙ ap (upd (frames_held s.views) id) (fun_ext frames ∙ ap f (fun_ext (λ k. sym (held-here stored start s id k v there))))
+  held-now : (f : (ℕ → Bool) → ℕ → Bool) → get_elem? s.views id ≡ some v → Moves f (frames_held (slice_set s.views id w) ≡ upd held id (f (held id)))
+  held-now f there frames = held-put s.views id v w there ∙ ap (upd held id) (fun_ext frames ∙ ap f (fun_ext (λ k. sym (held-here stored start s id k v there))))
 
   -- a translation word, and the frames of the pass
-  moved-frame : (s : Table (Option B) (View X)) (releases : List Released) (drafts : ℕ → List ℕ) (id : ℕ) (v w : View X) (p x : ℕ) (t : Option Mapping) (f : (ℕ → Bool) → ℕ → Bool) → length s.words ≡ width start → p < start.pages → get_elem? s.views id ≡ some v
-      → w.out ≡ v.out → w.seats ≡ v.seats → w.loads ≡ v.loads → mapping_of x ≡ t → ((h : ℕ) → has h w.frames ≡ f (λ k. has k v.frames) h)
-      → world_of stored start releases drafts (wrote stored start s id (places.Translation p) x w)
-      ≡ record (world_of stored start releases drafts s) {
-        core = record (core_shown stored start s) { pages = upd (core_shown stored start s).pages p (record ((core_shown stored start s).pages p) { trans = t }); held = upd (frames_held s.views) id (f (frames_held s.views id)) };
-      }
-  moved-frame s releases drafts id v w p x t f wide l there out seats loads maps frames i =
-      let c : State = core_shown stored start s in
-      let held' : ℕ → ℕ → Bool = upd (frames_held s.views) id (f (frames_held s.views id)) in
-      record {
-        core = (core-step stored start s id v w (places.Translation p) x wide l there out _ _ (seats-still s.views id v w there seats) (held-now s id v w f there frames)
-            ∙ core-translation start (length s.views) (table_words start s.words) (block_of stored s.homes s.views) (seats_of s.views) held' p x l
-            ∙ (λ j. record c { pages = upd c.pages p (record (c.pages p) { trans = maps j }); held = held' })) i;
-        histories = histories_of start releases drafts;
-        loads = loads-still s.views id v w there loads i;
-      }
+  moved-frame : (p x : ℕ) (t : Option Mapping) (f : (ℕ → Bool) → ℕ → Bool) → Writes (places.Translation p) (w.out ≡ v.out → w.seats ≡ v.seats → w.loads ≡ v.loads → mapping_of x ≡ t → Moves f
+      (Becomes (places.Translation p) x (record old { core = record c { pages = upd c.pages p (record (c.pages p) { trans = t }); held = upd held id (f (held id)) } })))
+  moved-frame p x t f wide l there out seats loads maps frames =
+      let held' : ℕ → ℕ → Bool = upd held id (f (held id)) in
+      worlds-same
+      (core-step stored start s id v w (places.Translation p) x wide l there out _ _ (seats-still s.views id v w there seats) (held-now f there frames)
+      ∙ core-translation start (length s.views) (table_words start s.words) (block_of stored s.homes s.views) (seats_of s.views) held' p x l
+      ∙ (λ j. record c { pages = upd c.pages p (record (c.pages p) { trans = maps j }); held = held' }))
+      refl (loads-still s.views id v w there loads)
 
   -- a page is put into a frame of the pass
-  pub install-step : (s : Table (Option B) (View X)) (releases : List Released) (drafts : ℕ → List ℕ) (id : ℕ) (v w : View X) (p f x : ℕ) → length s.words ≡ width start → p < start.pages → get_elem? s.views id ≡ some v
-      → w.out ≡ v.out → w.seats ≡ v.seats → w.loads ≡ v.loads → mapping_of x ≡ Some (record { frame = f; dirty = false }) → ((h : ℕ) → has h w.frames ≡ upd (λ k. has k v.frames) f false h)
-      → world_of stored start releases drafts (wrote stored start s id (places.Translation p) x w) ≡ world_after (world_of stored start releases drafts s) (Install id p f)
-  install-step s releases drafts id v w p f x wide l there out seats loads maps frames =
-      moved-frame s releases drafts id v w p x (Some (record { frame = f; dirty = false })) (λ row. upd row f false) wide l there out seats loads maps frames
+  pub install-step : (p f x : ℕ) → Writes (places.Translation p) (w.out ≡ v.out → w.seats ≡ v.seats → w.loads ≡ v.loads → mapping_of x ≡ Some (record { frame = f; dirty = false }) → Moves (λ row. upd row f false)
+      (Becomes (places.Translation p) x (world_after old (Install id p f))))
+  install-step p f x = moved-frame p x (Some (record { frame = f; dirty = false })) (λ row. upd row f false)
 
   -- a page is taken out of its frame, which comes to the pass
-  pub clear-step : (s : Table (Option B) (View X)) (releases : List Released) (drafts : ℕ → List ℕ) (id : ℕ) (v w : View X) (p x : ℕ) → length s.words ≡ width start → p < start.pages → get_elem? s.views id ≡ some v
-      → w.out ≡ v.out → w.seats ≡ v.seats → w.loads ≡ v.loads → mapping_of x ≡ None → ((h : ℕ) → has h w.frames ≡ gains (λ k. has k v.frames) ((core_shown stored start s).pages p).trans h)
-      → world_of stored start releases drafts (wrote stored start s id (places.Translation p) x w) ≡ world_after (world_of stored start releases drafts s) (Clear id p)
-  clear-step s releases drafts id v w p x wide l there out seats loads maps frames =
-      moved-frame s releases drafts id v w p x None (λ row. gains row ((core_shown stored start s).pages p).trans) wide l there out seats loads maps frames
+  pub clear-step : (p x : ℕ) → Writes (places.Translation p) (w.out ≡ v.out → w.seats ≡ v.seats → w.loads ≡ v.loads → mapping_of x ≡ None → Moves (λ row. gains row (c.pages p).trans)
+      (Becomes (places.Translation p) x (world_after old (Clear id p))))
+  clear-step p x = moved-frame p x None (λ row. gains row (c.pages p).trans)
 
-  -- a bundle word, and the frames of the pass
-  moved-bundle : (s : Table (Option B) (View X)) (releases : List Released) (drafts : ℕ → List ℕ) (id : ℕ) (v w : View X) (g x : ℕ) (f : (ℕ → Bool) → ℕ → Bool) → length s.words ≡ width start → Within start (places.Bundle g) → get_elem? s.views id ≡ some v
-      → w.out ≡ v.out → w.seats ≡ v.seats → w.loads ≡ v.loads → ((h : ℕ) → has h w.frames ≡ f (λ k. has k v.frames) h)
-      → world_of stored start releases drafts (wrote stored start s id (places.Bundle g) x w)
-      ≡ record (world_of stored start releases drafts s) { core = record (core_shown stored start s) { bundles = upd (core_shown stored start s).bundles g x; held = upd (frames_held s.views) id (f (frames_held s.views id)) } }
-  moved-bundle s releases drafts id v w g x f wide l there out seats loads frames i =
-      record {
-        core = (core-step stored start s id v w (places.Bundle g) x wide l there out _ _ (seats-still s.views id v w there seats) (held-now s id v w f there frames)
-            ∙ core-bundle start (length s.views) (table_words start s.words) (block_of stored s.homes s.views) (seats_of s.views) (frames_held s.views) g x (upd (frames_held s.views) id (f (frames_held s.views id)))) i;
-        histories = histories_of start releases drafts;
-        loads = loads-still s.views id v w there loads i;
-      }
+  -- a bundle word, and the frames of the pass, which are f of what they were
+  moved-bundle : (g x : ℕ) (f : (ℕ → Bool) → ℕ → Bool) (word : ℕ) (held' : ℕ → ℕ → Bool) → Writes (places.Bundle g) (w.out ≡ v.out → w.seats ≡ v.seats → w.loads ≡ v.loads → Moves f (x ≡ word → upd held id (f (held id)) ≡ held' →
+      Becomes (places.Bundle g) x (record old { core = record c { bundles = upd c.bundles g word; held = held' } })))
+  moved-bundle g x f word held' wide l there out seats loads frames is now =
+      worlds-same
+      (core-step stored start s id v w (places.Bundle g) x wide l there out _ _ (seats-still s.views id v w there seats) (held-now f there frames)
+      ∙ core-bundle start (length s.views) (table_words start s.words) (block_of stored s.homes s.views) (seats_of s.views) held g x (upd held id (f (held id)))
+      ∙ (λ i. record c { bundles = upd c.bundles g (is i); held = now i }))
+      refl (loads-still s.views id v w there loads)
 
   -- frames are taken from a bundle
-  pub take-step : (s : Table (Option B) (View X)) (releases : List Released) (drafts : ℕ → List ℕ) (id : ℕ) (v w : View X) (g expects mask : ℕ) → length s.words ≡ width start → Within start (places.Bundle g) → get_elem? s.views id ≡ some v
-      → w.out ≡ v.out → w.seats ≡ v.seats → w.loads ≡ v.loads → ((h : ℕ) → has h w.frames ≡ (if in_mask g mask h then true else has h v.frames))
-      → (core_shown stored start s).bundles g ≡ expects
-      → world_of stored start releases drafts (wrote stored start s id (places.Bundle g) (bit_xor expects mask) w) ≡ world_after (world_of stored start releases drafts s) (Take id g expects mask)
-  take-step s releases drafts id v w g expects mask wide l there out seats loads frames finding =
-      let c : State = core_shown stored start s in
-      let held : upd c.held id (λ h. if in_mask g mask h then true else c.held id h) ≡ taken_by c.held id g mask =
-      sym (upd-is c.held (taken_by c.held id g mask) id (λ h. if in_mask g mask h then true else c.held id h) (fun_ext (λ h. rw (eq-eqb id id refl) refl)) (λ b ne. fun_ext (λ h. rw (ne_eqb b id ne) refl))) in
-      let moved : _ = moved-bundle s releases drafts id v w g (bit_xor expects mask) (λ row h. if in_mask g mask h then true else row h) wide l there out seats loads frames in
+  pub take-step : (g expects mask : ℕ) → Writes (places.Bundle g) (w.out ≡ v.out → w.seats ≡ v.seats → w.loads ≡ v.loads → Moves (λ row h. if in_mask g mask h then true else row h) (c.bundles g ≡ expects →
+      Becomes (places.Bundle g) (bit_xor expects mask) (world_after old (Take id g expects mask))))
+  take-step g expects mask wide l there out seats loads frames finding =
       rw (eq-eqb (c.bundles g) expects finding)
-      (moved ∙ (λ i. record (world_of stored start releases drafts s) { core = record c { bundles = upd c.bundles g (bit_xor expects mask); held = held i } }))
+      (moved-bundle g (bit_xor expects mask) (λ row h. if in_mask g mask h then true else row h) (bit_xor expects mask) (taken_by c.held id g mask) wide l there out seats loads frames refl
+      (sym (upd-is c.held (taken_by c.held id g mask) id (λ h. if in_mask g mask h then true else c.held id h) (fun_ext (λ h. rw (eq-eqb id id refl) refl)) (λ b ne. fun_ext (λ h. rw (ne_eqb b id ne) refl)))))
 
   -- and given back
-  pub give-step : (s : Table (Option B) (View X)) (releases : List Released) (drafts : ℕ → List ℕ) (id : ℕ) (v w : View X) (g mask x : ℕ) → length s.words ≡ width start → Within start (places.Bundle g) → get_elem? s.views id ≡ some v
-      → w.out ≡ v.out → w.seats ≡ v.seats → w.loads ≡ v.loads → ((h : ℕ) → has h w.frames ≡ (if in_mask g mask h then false else has h v.frames))
-      → x ≡ bit_or ((core_shown stored start s).bundles g) mask
-      → world_of stored start releases drafts (wrote stored start s id (places.Bundle g) x w) ≡ world_after (world_of stored start releases drafts s) (Give id g mask)
-  give-step s releases drafts id v w g mask x wide l there out seats loads frames is =
-      let c : State = core_shown stored start s in
-      let held : upd c.held id (λ h. if in_mask g mask h then false else c.held id h) ≡ given_by c.held id g mask =
-      sym (upd-is c.held (given_by c.held id g mask) id (λ h. if in_mask g mask h then false else c.held id h) (fun_ext (λ h. rw (eq-eqb id id refl) refl)) (λ b ne. fun_ext (λ h. rw (ne_eqb b id ne) refl))) in
-      moved-bundle s releases drafts id v w g x (λ row h. if in_mask g mask h then false else row h) wide l there out seats loads frames
-      ∙ (λ i. record (world_of stored start releases drafts s) { core = record c { bundles = upd c.bundles g (is i); held = held i } })
+  pub give-step : (g mask x : ℕ) → Writes (places.Bundle g) (w.out ≡ v.out → w.seats ≡ v.seats → w.loads ≡ v.loads → Moves (λ row h. if in_mask g mask h then false else row h) (x ≡ bit_or (c.bundles g) mask →
+      Becomes (places.Bundle g) x (world_after old (Give id g mask))))
+  give-step g mask x wide l there out seats loads frames is =
+      moved-bundle g x (λ row h. if in_mask g mask h then false else row h) (bit_or (c.bundles g) mask) (given_by c.held id g mask) wide l there out seats loads frames is
+      (sym (upd-is c.held (given_by c.held id g mask) id (λ h. if in_mask g mask h then false else c.held id h) (fun_ext (λ h. rw (eq-eqb id id refl) refl)) (λ b ne. fun_ext (λ h. rw (ne_eqb b id ne) refl))))
 
   -- a word is stored into a frame that the pass holds: no draft changes
-  pub fill-step : (s : Table (Option B) (View X)) (releases : List Released) (drafts : ℕ → List ℕ) (id : ℕ) (v w : View X) (f i x : ℕ) → Inv (world_of stored start releases drafts s) → length s.words ≡ width start
-      → f < start.frames → i < 64 → get_elem? s.views id ≡ some v
-      → w.out ≡ v.out → w.frames ≡ v.frames → w.seats ≡ v.seats → w.loads ≡ v.loads → has f v.frames ≡ true
-      → world_of stored start releases drafts (wrote stored start s id (places.Content f i) x w) ≡ world_after (world_of stored start releases drafts s) (Store id f i x)
-  fill-step s releases drafts id v w f i x inv wide lf li there out frames seats loads owns =
-      let c : State = core_shown stored start s in
-      let h : ℕ → History = histories_of start releases drafts in
-      let mine : c.held id f ≡ true = held-here stored start s id f v there ∙ owns in
-      λ k. record {
-        core = store-core stored start s id v w f i x wide lf li there out frames seats k;
-        histories = fun_ext (λ q. sym (stores-else (c.pages q) (h q) id f i x (stands-nowhere (world_of stored start releases drafts s) f id q inv mine))) k;
-        loads = loads-still s.views id v w there loads k;
-      }
+  pub fill-step : (f i x : ℕ) → Inv old → length s.words ≡ width start → f < start.frames → i < 64 → get_elem? s.views id ≡ some v → Keeps (has f v.frames ≡ true → Becomes (places.Content f i) x (world_after old (Store id f i x)))
+  fill-step f i x inv wide lf li there out frames seats loads owns =
+      worlds-same
+      (store-core stored start s id v w f i x wide lf li there out frames seats)
+      (fun_ext (λ q. sym (stores-else (c.pages q) (histories_of start releases drafts q) id f i x (stands-nowhere old f id q inv (held-here stored start s id f v there ∙ owns)))))
+      (loads-still s.views id v w there loads)
 
   -- ---- the next word, and the hand
 
-  pub claim-step : (s : Table (Option B) (View X)) (releases : List Released) (drafts : ℕ → List ℕ) (id : ℕ) (v w : View X) (x n y : ℕ) → length s.words ≡ width start → get_elem? s.views id ≡ some v
-      → w.out ≡ v.out → w.frames ≡ v.frames → w.seats ≡ v.seats → w.loads ≡ v.loads → (core_shown stored start s).next ≡ x → y ≡ x + n
-      → world_of stored start releases drafts (wrote stored start s id places.Next y w) ≡ world_after (world_of stored start releases drafts s) (Claim id x n)
-  claim-step s releases drafts id v w x n y wide there out frames seats loads finding is =
-      rw (eq-eqb (core_shown stored start s).next x finding) (λ i. record {
-        core = (core-step stored start s id v w places.Next y wide tt there out _ _ (seats-still s.views id v w there seats) (held-still s.views id v w there frames)
-            ∙ core-next start (length s.views) (table_words start s.words) (block_of stored s.homes s.views) (seats_of s.views) (frames_held s.views) y
-            ∙ (λ j. record (core_shown stored start s) { next = is j })) i;
-        histories = histories_of start releases drafts;
-        loads = loads-still s.views id v w there loads i;
-      })
+  pub claim-step : (x n y : ℕ) → length s.words ≡ width start → get_elem? s.views id ≡ some v → Keeps (c.next ≡ x → y ≡ x + n → Becomes places.Next y (world_after old (Claim id x n)))
+  claim-step x n y wide there out frames seats loads finding is =
+      rw (eq-eqb c.next x finding) (written places.Next y _
+      (core-next start (length s.views) (table_words start s.words) (block_of stored s.homes s.views) (seats_of s.views) held y ∙ (λ j. record c { next = is j }))
+      wide tt there out frames seats loads)
 
-  pub hand-step : (s : Table (Option B) (View X)) (releases : List Released) (drafts : ℕ → List ℕ) (id : ℕ) (v w : View X) (y : ℕ) → length s.words ≡ width start → get_elem? s.views id ≡ some v
-      → w.out ≡ v.out → w.frames ≡ v.frames → w.seats ≡ v.seats → w.loads ≡ v.loads → y ≡ hand_more (core_shown stored start s).hand
-      → world_of stored start releases drafts (wrote stored start s id places.Hand y w) ≡ world_after (world_of stored start releases drafts s) (Hand id)
-  hand-step s releases drafts id v w y wide there out frames seats loads is i =
-      record {
-        core = (core-step stored start s id v w places.Hand y wide tt there out _ _ (seats-still s.views id v w there seats) (held-still s.views id v w there frames)
-            ∙ core-hand start (length s.views) (table_words start s.words) (block_of stored s.homes s.views) (seats_of s.views) (frames_held s.views) y
-            ∙ (λ j. record (core_shown stored start s) { hand = is j })) i;
-        histories = histories_of start releases drafts;
-        loads = loads-still s.views id v w there loads i;
-      }
+  pub hand-step : (y : ℕ) → length s.words ≡ width start → get_elem? s.views id ≡ some v → Keeps (y ≡ hand_more c.hand → Becomes places.Hand y (world_after old (Hand id)))
+  hand-step y wide there out frames seats loads is =
+      written places.Hand y _
+      (core-hand start (length s.views) (table_words start s.words) (block_of stored s.homes s.views) (seats_of s.views) held y ∙ (λ j. record c { hand = is j }))
+      wide tt there out frames seats loads
+
+  -- ---- the owner word of a page's frame
+
+  pub owner-step : (p f x : ℕ) → Writes (places.Owner f) (Keeps (frame_of (c.pages p).trans ≡ Some f → Becomes (places.Owner f) x (record old { core = owned c p x })))
+  owner-step p f x wide l there out frames seats loads stands =
+      written (places.Owner f) x _
+      (core-owner start (length s.views) (table_words start s.words) (block_of stored s.homes s.views) (seats_of s.views) held f x ∙ (λ j. record c { owners = changed_at c.owners (sym stands j) x }))
+      wide l there out frames seats loads

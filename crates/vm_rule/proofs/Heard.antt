@@ -1,14 +1,10 @@
 -- What a step adds to the lists: an entry is the pass's own, with the next count of one of its numbers, which no other pass has; the
 -- releases have the next versions.
-use Rattle.std.proofs.Common.{[], ⊎_elim, ◌++◌, ◌+◌, ◌<◌, ◌==◌, ◌∙◌, ◌∷◌, ◌≡◌, ◌≢◌, ◌≤◌, ◌⊎◌, ap, append_assoc, arith, Bool, false, if◌then◌else◌}
-use Rattle.std.proofs.Common.{length, List, refl, slice_index, subst, sym, true, true≢false, ℕ}
-use Rattle.std.proofs.lemmas.Bool.{cases_Bool, cases_eq, cases_lt, eq-eqb, le-ltb, lt-ltb, ne_eqb}
-use Rattle.vm_core.specs.Prelude.{get_elem?, some}
-use Rattle.vm_owner.specs.Kept.{AreCounted}
-use Rattle.vm_owner.proofs.Counts.{counted-more}
-use Rattle.vm_rule.specs.Prelude.{AreNext, Each, entries_by, entries_under, Entry, entry_of, has, one_part, owns, PARTS, StartsWith, times, total}
-use Rattle.vm_rule.specs.{declared.view.Origin.Origin, declared.view.Release.Release, declared.view.View.View}
 use Rattle.vm_rule.proofs.Entries.{append-none, total-at, total-two}
+use Rattle.vm_rule.proofs.Prelude.{[], ap, append_assoc, AreCounted, AreNext, arith, Bool, cases_Bool, cases_eq, cases_lt, counted-more, Each}
+use Rattle.vm_rule.proofs.Prelude.{entries_by, entries_under, Entry, entry_of, eq-eqb, false, get_elem?, has, if◌then◌else◌, le-ltb, length, List}
+use Rattle.vm_rule.proofs.Prelude.{lt-ltb, ne_eqb, one_part, Origin, owns, PARTS, refl, Release, slice_index, some, StartsWith, subst, sym, times}
+use Rattle.vm_rule.proofs.Prelude.{total, true, true≢false, View, ℕ, ⊎_elim, ◌++◌, ◌+◌, ◌<◌, ◌==◌, ◌∙◌, ◌∷◌, ◌≡◌, ◌≢◌, ◌≤◌, ◌⊎◌}
 
 pub each-both : {A : Type 0} (P : A → Type 0) (l m : List A) → Each P l → Each P m → Each P (l ++ m)
 each-both P [] m e f = f
@@ -16,6 +12,10 @@ each-both P (x ∷ xs) m e f = (e.0, each-both P xs m e.1 f)
 
 pub starts-more : {A : Type 0} (l m n : List A) → StartsWith l m → StartsWith (l ++ n) m
 starts-more l m n s = (s.0 ++ n, ap (λ (y : List _). y ++ n) s.1 ∙ append_assoc m s.0 n)
+
+pub times-joined : (k : ℕ) (a b : List ℕ) → times k (a ++ b) ≡ times k a + times k b
+times-joined k [] b = omega arith
+times-joined k (n ∷ a) b = let h : times k (a ++ b) ≡ times k a + times k b = times-joined k a b in omega arith
 
 pub times-has : (k : ℕ) (ns : List ℕ) → has k ns ≡ true → 1 ≤ times k ns
 times-has k [] e = absurd (true≢false (sym e))
@@ -30,10 +30,14 @@ pub has-first : (ns : List ℕ) → 0 < length ns → has (slice_index ns 0) ns 
 has-first [] l = absurd (omega arith)
 has-first (n ∷ ns) l = rw (eq-eqb n n refl) refl
 
+-- a pass with a number has a part
+pub has-part : {X : Type 0} (v : View X) → 0 < length v.used → (k : ℕ) × (1 ≤ owns k v)
+has-part v l = let one : 1 ≤ times (slice_index v.used 0) v.used = times-has (slice_index v.used 0) v.used (has-first v.used l) in (slice_index v.used 0, omega (arith, one))
+
 pub one-most : (k : ℕ) → one_part k ≤ 1
 one-most k = ⊎_elim (λ l. rw (lt-ltb k PARTS l) (omega arith)) (λ le. rw (le-ltb k PARTS le) (omega arith)) (cases_lt k PARTS)
 
-not-true : (b : Bool) → (b ≡ true → ⊥) → b ≡ false
+pub not-true : (b : Bool) → (b ≡ true → ⊥) → b ≡ false
 not-true true f = absurd (f refl)
 not-true false f = refl
 

@@ -1,11 +1,7 @@
 -- Runs one after_event another.
-use Rattle.std.proofs.Common.{[], ◌++◌, ◌∙◌, ◌∷◌, ◌≡◌, ap, List, refl, subst, sym, true}
-use Rattle.vm_core.specs.Prelude.{after_event, AllLegal, begin, core_start, CoreStart, FrameOnce, Inv, IsStart, run, RunsTo, start, State, Told}
-use Rattle.vm_core.specs.Prelude.{world_run}
-use Rattle.vm_core.specs.Told.{FaultsTold}
-use Rattle.vm_rule.specs.Prelude.{Event}
-use Rattle.vm_rule.specs.Kept.{IsRunKept, KeptFrom}
 use Rattle.vm_rule.proofs.{Starts.core-start, Starts.start_law, Tells.told_law}
+use Rattle.vm_rule.proofs.Prelude.{[], after_event, AllLegal, ap, begin, core_start, CoreStart, Event, FaultsTold, FrameOnce, Inv, IsRunKept, IsStart}
+use Rattle.vm_rule.proofs.Prelude.{KeptFrom, List, refl, run, RunsTo, start, State, subst, sym, Told, true, world_run, ◌++◌, ◌∙◌, ◌∷◌, ◌≡◌}
 use Rattle.vm_rule.proofs.Runs.{run-core, run-one, run-tells, run_law}
 
 run-both : (c : State) (xs ys : List Event) → run c (xs ++ ys) ≡ run (run c xs) ys

@@ -1,17 +1,13 @@
 -- What a pass knows of pages stays true after an event of another pass; and so does what any pass knows of translations and ties.
-use Rattle.std.proofs.Common.{[], ⊎_elim, ◌<◌, ◌||◌, ◌∙◌, ◌∷◌, ◌≡◌, ◌≤◌, ap, arith, Bool, false, List, refl, slice_set, subst, suc, sym, true}
-use Rattle.std.proofs.Common.{true≢false, zero, ℕ}
-use Rattle.std.proofs.lemmas.Bool.{cases_lt}
-use mathlib.Core.Option as maybe
-use Rattle.vm_core.specs.Prelude.{EVICTED, get_elem?, History, Legal, Page, some, some-injective, Version, World}
-use Rattle.vm_core.specs.declared.event.Event.TheVariants.{Downgrade, LockX, Release, ReleaseE, Store, Upgrade}
-use Rattle.vm_core.specs.History.{histories_after}
-use Rattle.vm_core.proofs.Upd.{upd-other}
-use Rattle.vm_laws_others.specs.Leaves.{LeavesActor, PageMoves}
-use Rattle.vm_rule.specs.Prelude.{any, began_of, Event, has, KnowsPage, KnowsPages, Leaves, may_call, no_held, put_at, Seat, seat_of, Start, TieHolds}
-use Rattle.vm_rule.specs.Prelude.{TranslationHolds}
-use Rattle.vm_rule.specs.{declared.view.Origin.Origin, declared.view.Tie.Tie, declared.view.Translation.Translation, declared.view.View.View}
-use Rattle.vm_rule.proofs.{Entries.each-map, Were.were-moves}
+use Rattle.vm_core.specs.declared.event.Event.TheVariants.{Release}
+use Rattle.vm_rule.specs.declared.view.Release.{Release as Released}
+use Rattle.vm_rule.proofs.{Entries.each-map, Facts.any-here, Facts.any-true, Heard.not-true, Views.at-bound, Were.were-moves}
+use Rattle.vm_rule.proofs.Prelude.{[], any, ap, arith, began_of, Bool, cases_eq, cases_lt, Did, Downgrade, Each, Entry, Event, EVICTED, false}
+use Rattle.vm_rule.proofs.Prelude.{get_elem?, has, histories_after, History, IsLocking, KnowsPage, KnowsPages, last_in, Leaves, LeavesActor, Legal}
+use Rattle.vm_rule.proofs.Prelude.{List, LockX, may_call, no_held, Note, Origin, Page, PageMoves, Put, put_at, refl, ReleaseE, Seat, seat_of}
+use Rattle.vm_rule.proofs.Prelude.{set_else, set_here, slice_set, some, some-injective, Start, Store, subst, sym, Tie, TieHolds, Translation}
+use Rattle.vm_rule.proofs.Prelude.{TranslationHolds, true, true≢false, upd-other, Upgrade, Version, View, view_from, WereWords, World, ℕ, ⊎_elim, ◌<◌}
+use Rattle.vm_rule.proofs.Prelude.{◌∙◌, ◌≡◌, ◌≤◌}
 
 -- the versions and drafts of a page past the last one, which nobody holds, stay
 pub histories-outside : (w : World) (e : Event) → Legal w.core e → (p : ℕ) → w.core.shape.pages ≤ p → ((a : ℕ) → ((w.core.pages p).seats a).exclusive ≡ false) → histories_after w e p ≡ w.histories p
@@ -52,24 +48,68 @@ tie-moves tied began w w' pending pending' shape moves last members t h =
           subst (λ (y : Version). tied began t.of t.words t.page y.words) (sym (last t.page still)) (h.2 (e ∙ still) (members t.page still free)),
     )
 
-or-none : (a b : Bool) → (a || b) ≡ false → (a ≡ false) × (b ≡ false)
-or-none true b e = absurd (true≢false e)
-or-none false b e = (refl, e)
+module _ {X : Type 0} (tied : Start → ℕ → List ℕ → ℕ → List ℕ → Type 0) (start : Origin) (w : World) (unreleased : ℕ → Bool) where
+  -- what a view knows of pages stays true of it with other lists, parts and notes, and with other frames and steps where that is shown of these
+  pub known-with : (v : View X) {frames : List ℕ} {contents : List (Put (List ℕ))} {notes : List Note} {releases told_releases : List Released} {seen mine told : List (Entry X)} {used fresh told_used : List ℕ} {current : Bool} {log : List Did}
+      → KnowsPages tied start w unreleased v
+      → ((f : ℕ) → has f frames ≡ true → put_at [] contents f ≡ w.core.words f)
+      → ((p : ℕ) → IsLocking (seat_of v p) → last_in v.start releases p ≡ (w.histories p).last)
+      → Each (WereWords w) log
+      → KnowsPages tied start w unreleased (record v {
+        frames = frames;
+        contents = contents;
+        notes = notes;
+        releases = releases;
+        told_releases = told_releases;
+        seen = seen;
+        mine = mine;
+        told = told;
+        used = used;
+        fresh = fresh;
+        told_used = told_used;
+        current = current;
+        log = log;
+      })
+  known-with v k contents latest words = record {
+    knows = k.knows;
+    contents = contents;
+    drafts = k.drafts;
+    latest = latest;
+    pending = k.pending;
+    owed = k.owed;
+    next = k.next;
+    translations = k.translations;
+    words = words;
+    ties = k.ties;
+  }
 
-or-first : (a b : Bool) → (a || b) ≡ true → b ≡ false → a ≡ true
-or-first true b e f = refl
-or-first false b e f = absurd (true≢false (sym e ∙ f))
+  -- a view that holds nothing and has read nothing knows nothing of pages
+  pub known-nothing : (live : Bool) (began : Origin) (used fresh : List ℕ) (releases : List Released) (seen : List (Entry X)) → KnowsPages tied start w unreleased (record (view_from live began used fresh) { releases = releases; seen = seen })
+  known-nothing live began used fresh releases seen = record {
+    knows = λ p. record { calls = λ e. absurd (true≢false (sym e)); shares = λ l. absurd (omega (arith, l)) };
+    contents = λ f e. absurd (true≢false (sym e));
+    drafts = λ p e. absurd (true≢false (sym e));
+    latest = λ p. ⊎_elim (λ e. absurd (true≢false (sym e))) (λ l. absurd (omega (arith, l)));
+    pending = λ p e. absurd (true≢false (sym e));
+    owed = λ p e. absurd (true≢false (sym e));
+    next = λ x e. absurd cc;
+    translations = tt;
+    words = tt;
+    ties = λ _. tt;
+  }
 
 module _ {X : Type 0} where
   -- where some view said so, and none does after one of them changed, it was that one
   pub any-gone : (f : View X → Bool) (views : List (View X)) (id : ℕ) (v w : View X) → get_elem? views id ≡ some v → any f views ≡ true → any f (slice_set views id w) ≡ false → (f v ≡ true) × (f w ≡ false)
-  any-gone f [] id v w there was gone = absurd (maybe.some-ne-none v (sym there))
-  any-gone f (x ∷ xs) zero v w there was gone =
-      let none = or-none (f w) (any f xs) gone in
-      (ap f (sym (some-injective x v there)) ∙ or-first (f x) (any f xs) was none.1, none.0)
-  any-gone f (x ∷ xs) (suc id) v w there was gone =
-      let none = or-none (f x) (any f (slice_set xs id w)) gone in
-      any-gone f xs id v w there (ap (λ b. b || any f xs) (sym none.0) ∙ was) none.1
+  any-gone f views id v w there was gone =
+      let k = any-true f views was in
+      let none : (j : ℕ) (u : View X) → get_elem? (slice_set views id w) j ≡ some u → f u ≡ true → ⊥ = λ j u e t. true≢false (sym (any-here f (slice_set views id w) j u e t) ∙ gone) in (
+        ⊎_elim
+            (λ e. ap f (some-injective v k.1 (sym there ∙ ap (get_elem? views) (sym e) ∙ k.2)) ∙ k.3)
+            (λ ne. absurd (none k.0 k.1 (set_else views id k.0 w ne ∙ k.2) k.3))
+            (cases_eq k.0 id),
+        not-true (f w) (none id w (set_here views id w (at-bound views id v there))),
+      )
 
   module _ (tied : Start → ℕ → List ℕ → ℕ → List ℕ → Type 0) (start : Origin) where
     -- what the pass j knows, after an event of the pass a

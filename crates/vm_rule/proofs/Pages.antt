@@ -1,12 +1,7 @@
 -- One pass's view changes, and one word of a page: the core changes as by the event.
-use Rattle.std.proofs.Common.{⊎_elim, ◌<◌, ◌∙◌, ◌≡◌, ◌≢◌, ◌≤◌, ap, List, refl, sym, ℕ}
-use Rattle.std.proofs.lemmas.Bool.{cases_lt, le-ltb, lt-ltb}
-use mathlib.Core.Path.{fun_ext}
-use Rattle.vm_core.specs.Prelude.{outside_page, Page, upd}
-use Rattle.vm_core.proofs.Upd.{upd-keeps, upd-other, upd-same}
-use Rattle.vm_rule.specs.Prelude.{page_from, pages_from, put, put_at, Seat, Stored, Words}
-use Rattle.vm_rule.specs.declared.view.Put.{Put}
 use Rattle.vm_rule.proofs.Parts.{upd-is}
+use Rattle.vm_rule.proofs.Prelude.{ap, cases_lt, fun_ext, le-ltb, List, lt-ltb, outside_page, Page, page_from, pages_from, Put, put, put_at, refl}
+use Rattle.vm_rule.proofs.Prelude.{Seat, Stored, sym, upd, upd-keeps, upd-other, upd-same, Words, ℕ, ⊎_elim, ◌<◌, ◌∙◌, ◌≡◌, ◌≢◌, ◌≤◌}
 
 -- the table of a function by place and actor, after the actor's list of changes grew by one
 pub put-column : {V A : Type 0} (d : A) (field : V → List (Put A)) (views : ℕ → V) (a p : ℕ) (x : A) (w : V) → field w ≡ put p x (field (views a))
@@ -17,11 +12,6 @@ put-column d field views a p x w e =
     (ap (λ y. put_at d (field y) p) (upd-same views a w) ∙ ap (λ l. put_at d l p) e ∙ upd-same (put_at d (field (views a))) p x)
     (λ b ne. ap (λ y. put_at d (field y) p) (upd-other views a w b ne)))
     (λ q ne. fun_ext (upd-keeps (λ y. put_at d (field y) q) views a w (ap (λ l. put_at d l q) e ∙ upd-other (put_at d (field (views a))) p x q ne)))
-
--- the same where the field stays
-pub put-still : {V A : Type 0} (d : A) (field : V → List (Put A)) (views : ℕ → V) (a : ℕ) (w : V) → field w ≡ field (views a)
-    → ◌≡◌ {A = ℕ → ℕ → A} (λ q b. put_at d (field (upd views a w b)) q) (λ q b. put_at d (field (views b)) q)
-put-still d field views a w e = fun_ext (λ q. fun_ext (upd-keeps (λ y. put_at d (field y) q) views a w (ap (λ l. put_at d l q) e)))
 
 -- a page in range, and out of it
 pub page-in : (pages : ℕ) (r : Words) (blocks : ℕ → Stored) (seats : ℕ → ℕ → Seat) (p : ℕ) → p < pages → pages_from pages r blocks seats p ≡ page_from r blocks seats p

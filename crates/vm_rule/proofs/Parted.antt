@@ -1,38 +1,22 @@
 -- The parts at the start: the first pass has each, once.
-use Rattle.std.proofs.Common.{[], ⊎_elim, ◌+◌, ◌<◌, ◌∷◌, ◌≡◌, ◌≤◌, arith, if◌then◌else◌, ltb, refl, suc, zero, ℕ}
-use Rattle.std.proofs.lemmas.Bool.{cases_eq, cases_lt, eq-eqb, le-ltb, lt-ltb, ne_eqb}
-use Rattle.vm_rule.specs.Prelude.{first_view, IsWhole, numbers, one_part, owns, PARTS, times, total}
-use Rattle.vm_rule.specs.declared.view.Origin.{Origin}
+use Rattle.vm_rule.proofs.Prelude.{[], arith, eqb, first_view, if◌then◌else◌, IsWhole, lt-ltb, ltb, nat_tests, numbers, one_part, Origin, owns, PARTS}
+use Rattle.vm_rule.proofs.Prelude.{refl, suc, times, total, zero, ℕ, ◌+◌, ◌∷◌, ◌≡◌}
 
-times-below : (k a n : ℕ) → k < a → times k (numbers a n) ≡ 0
-unfolding numbers
-times-below k a zero l = refl
-times-below k a (suc n) l = let rest : times k (numbers (suc a) n) ≡ 0 = times-below k (suc a) n (omega arith) in rw (ne_eqb a k (λ e. absurd (omega arith)), rest) refl
+times-none : (k a : ℕ) → times k [] ≡ (if ltb k a then 0 else if ltb k (a + 0) then 1 else 0)
+times-none k a = grind (arith, nat_tests)
 
-times-above : (k a n : ℕ) → a + n ≤ k → times k (numbers a n) ≡ 0
-unfolding numbers
-times-above k a zero l = refl
-times-above k a (suc n) l = let rest : times k (numbers (suc a) n) ≡ 0 = times-above k (suc a) n (omega arith) in rw (ne_eqb a k (λ e. absurd (omega arith)), rest) refl
+times-more : (k a n t : ℕ) → t ≡ (if ltb k (suc a) then 0 else if ltb k (suc a + n) then 1 else 0) → (if eqb a k then 1 else 0) + t ≡ (if ltb k a then 0 else if ltb k (a + suc n) then 1 else 0)
+times-more k a n t e = grind (arith, nat_tests, e)
 
-times-inside : (k a n : ℕ) → a ≤ k → k < a + n → times k (numbers a n) ≡ 1
+-- each of the numbers from a on stands once
+times-numbers : (k a n : ℕ) → times k (numbers a n) ≡ (if ltb k a then 0 else if ltb k (a + n) then 1 else 0)
 unfolding numbers
-times-inside k a zero le l = absurd (omega arith)
-times-inside k a (suc n) le l =
-    ⊎_elim
-    (λ e. let rest : times k (numbers (suc a) n) ≡ 0 = times-below k (suc a) n (omega arith) in rw (eq-eqb a k e, rest) refl)
-    (λ ne. let rest : times k (numbers (suc a) n) ≡ 1 = times-inside k (suc a) n (omega arith) (omega arith) in rw (ne_eqb a k ne, rest) refl)
-    (cases_eq a k)
+times-numbers k a zero = times-none k a
+times-numbers k a (suc n) = times-more k a n (times k (numbers (suc a) n)) (times-numbers k (suc a) n)
 
 -- 0 and the numbers from 1 on, m of them
 all-parts : (k m n : ℕ) → suc m ≡ n → times k (0 ∷ []) + times k (numbers 1 m) ≡ (if ltb k n then 1 else 0)
-all-parts k m n e =
-    ⊎_elim
-    (λ here. let none : times k (numbers 1 m) ≡ 0 = times-below k 1 m (omega arith) in let l : k < n = omega arith in rw (eq-eqb 0 k here, none, lt-ltb k n l) refl)
-    (λ ne. ⊎_elim
-    (λ l. let one : times k (numbers 1 m) ≡ 1 = times-inside k 1 m (omega arith) (omega arith) in rw (ne_eqb 0 k ne, one, lt-ltb k n l) refl)
-    (λ le. let none : times k (numbers 1 m) ≡ 0 = times-above k 1 m (omega arith) in rw (ne_eqb 0 k ne, none, le-ltb k n le) refl)
-    (cases_lt k n))
-    (cases_eq 0 k)
+all-parts k m n e = grind (arith, nat_tests, times-numbers k 1 m)
 
 module _ (X : Type 0) (start : Origin) where
   pub first-owns : (k : ℕ) → owns {X = X} k (first_view start) ≡ one_part k

@@ -1,13 +1,9 @@
 -- A word of the table is with_word: the words of its kind change at one place, and all others stay.
-use Rattle.std.proofs.Common.{⊎_elim, ◌*◌, ◌+◌, ◌<◌, ◌∙◌, ◌∷◌, ◌≡◌, ◌≢◌, ◌≤◌, ◌⊎◌, ap, arith, inl, inr, length, List, refl, slice_set, suc, sym, zero}
-use Rattle.std.proofs.Common.{ℕ}
-use Rattle.std.proofs.lemmas.Bool.{cases_eq, cases_lt, le-ltb, lt-ltb}
-use mathlib.Core.Path.{fun_ext}
-use Rattle.vm_core.specs.Prelude.{at, upd}
-use Rattle.vm_core.proofs.{At.at_set, Upd.upd-other, Upd.upd-same}
-use Rattle.vm_rule.specs.Prelude.{bundle_count, frame_words, index_of, listed, part, table_words, width, with_word, Within}
-use Rattle.vm_rule.specs.{declared.view.Origin.Origin, declared.view.Place.Place}
+use Rattle.vm_core.proofs.At.{at_set}
 use Rattle.vm_rule.specs.declared.view.Place.TheVariants as places
+use Rattle.vm_rule.proofs.Prelude.{ap, arith, at, bundle_count, cases_eq, cases_lt, frame_words, fun_ext, index_of, inl, inr, le-ltb, length, List}
+use Rattle.vm_rule.proofs.Prelude.{listed, lt-ltb, Origin, part, Place, refl, slice_set, suc, sym, table_words, upd, upd-other, upd-same, width}
+use Rattle.vm_rule.proofs.Prelude.{with_word, Within, Words, zero, ℕ, ⊎_elim, ◌*◌, ◌+◌, ◌<◌, ◌∙◌, ◌∷◌, ◌≡◌, ◌≢◌, ◌≤◌, ◌⊎◌}
 
 -- a function that differs from f at k alone
 pub upd-is : {A : Type 0} (f g : ℕ → A) (k : ℕ) (x : A) → g k ≡ x → ((j : ℕ) → j ≢ k → g j ≡ f j) → g ≡ upd f k x
@@ -45,92 +41,78 @@ pub part-at : (base n : ℕ) (words : List ℕ) (k : ℕ) → k < n → part bas
 unfolding part
 part-at base n words k l = rw (lt-ltb k n l) refl
 
--- one word is with_word
+-- the words, part by part, in the order of the layout
+words-as : {a a' b b' c c' d d' e e' h h' : ℕ → ℕ} {f f' g g' : ℕ} → a ≡ a' → b ≡ b' → c ≡ c' → d ≡ d' → e ≡ e' → f ≡ f' → g ≡ g' → h ≡ h'
+    → ◌≡◌ {A = Words} (record { states = a; translations = b; faults = c; contents = d; bundles = e; next = f; hand = g; owners = h }) (record { states = a'; translations = b'; faults = c'; contents = d'; bundles = e'; next = f'; hand = g'; owners = h' })
+words-as a b c d e f g h i = record { states = a i; translations = b i; faults = c i; contents = d i; bundles = e i; next = f i; hand = g i; owners = h i }
+
+-- one word is written: its part changes there, and the others are as they were
 pub words-written : (start : Origin) (words : List ℕ) (w : Place) (x : ℕ) → length words ≡ width start → Within start w → table_words start (slice_set words (index_of start w) x) ≡ with_word (table_words start words) w x
 words-written start words (places.State p) x wide l =
     let lt : p < length words = omega arith in
-    λ i. record {
-      states = part-here 0 start.pages words p p x l lt (omega arith) i;
-      translations = part-else start.pages start.pages words p x lt (inl l) i;
-      faults = part-else (2 * start.pages) start.pages words p x lt (inl (omega arith)) i;
-      contents = part-else (3 * start.pages) (64 * start.frames) words p x lt (inl (omega arith)) i;
-      bundles = part-else (3 * start.pages + 64 * start.frames) (bundle_count start) words p x lt (inl (omega arith)) i;
-      next = at-else words p x (index_of start places.Next) lt (λ e. absurd (omega arith)) i;
-      hand = at-else words p x (index_of start places.Hand) lt (λ e. absurd (omega arith)) i;
-    }
+    words-as
+    (part-here 0 start.pages words p p x l lt (omega arith)) (part-else start.pages start.pages words p x lt (inl (omega arith))) (part-else (2 * start.pages) start.pages words p x lt (inl (omega arith)))
+    (part-else (3 * start.pages) (64 * start.frames) words p x lt (inl (omega arith))) (part-else (3 * start.pages + 64 * start.frames) (bundle_count start) words p x lt (inl (omega arith)))
+    (at-else words p x (index_of start places.Next) lt (λ e. absurd (omega arith))) (at-else words p x (index_of start places.Hand) lt (λ e. absurd (omega arith)))
+    (part-else (3 * start.pages + 64 * start.frames + bundle_count start + 2) start.frames words p x lt (inl (omega arith)))
 words-written start words (places.Translation p) x wide l =
-    let lt : start.pages + p < length words = omega arith in
-    λ i. record {
-      states = part-else 0 start.pages words (start.pages + p) x lt (inr (omega arith)) i;
-      translations = part-here start.pages start.pages words p (start.pages + p) x l lt refl i;
-      faults = part-else (2 * start.pages) start.pages words (start.pages + p) x lt (inl (omega arith)) i;
-      contents = part-else (3 * start.pages) (64 * start.frames) words (start.pages + p) x lt (inl (omega arith)) i;
-      bundles = part-else (3 * start.pages + 64 * start.frames) (bundle_count start) words (start.pages + p) x lt (inl (omega arith)) i;
-      next = at-else words (start.pages + p) x (index_of start places.Next) lt (λ e. absurd (omega arith)) i;
-      hand = at-else words (start.pages + p) x (index_of start places.Hand) lt (λ e. absurd (omega arith)) i;
-    }
+    let k : ℕ = start.pages + p in
+    let lt : k < length words = omega arith in
+    words-as
+    (part-else 0 start.pages words k x lt (inr (omega arith))) (part-here start.pages start.pages words p k x l lt refl) (part-else (2 * start.pages) start.pages words k x lt (inl (omega arith)))
+    (part-else (3 * start.pages) (64 * start.frames) words k x lt (inl (omega arith))) (part-else (3 * start.pages + 64 * start.frames) (bundle_count start) words k x lt (inl (omega arith)))
+    (at-else words k x (index_of start places.Next) lt (λ e. absurd (omega arith))) (at-else words k x (index_of start places.Hand) lt (λ e. absurd (omega arith)))
+    (part-else (3 * start.pages + 64 * start.frames + bundle_count start + 2) start.frames words k x lt (inl (omega arith)))
 words-written start words (places.Fault p) x wide l =
     let k : ℕ = 2 * start.pages + p in
     let lt : k < length words = omega arith in
-    λ i. record {
-      states = part-else 0 start.pages words k x lt (inr (omega arith)) i;
-      translations = part-else start.pages start.pages words k x lt (inr (omega arith)) i;
-      faults = part-here (2 * start.pages) start.pages words p k x l lt refl i;
-      contents = part-else (3 * start.pages) (64 * start.frames) words k x lt (inl (omega arith)) i;
-      bundles = part-else (3 * start.pages + 64 * start.frames) (bundle_count start) words k x lt (inl (omega arith)) i;
-      next = at-else words k x (index_of start places.Next) lt (λ e. absurd (omega arith)) i;
-      hand = at-else words k x (index_of start places.Hand) lt (λ e. absurd (omega arith)) i;
-    }
+    words-as
+    (part-else 0 start.pages words k x lt (inr (omega arith))) (part-else start.pages start.pages words k x lt (inr (omega arith))) (part-here (2 * start.pages) start.pages words p k x l lt refl)
+    (part-else (3 * start.pages) (64 * start.frames) words k x lt (inl (omega arith))) (part-else (3 * start.pages + 64 * start.frames) (bundle_count start) words k x lt (inl (omega arith)))
+    (at-else words k x (index_of start places.Next) lt (λ e. absurd (omega arith))) (at-else words k x (index_of start places.Hand) lt (λ e. absurd (omega arith)))
+    (part-else (3 * start.pages + 64 * start.frames + bundle_count start + 2) start.frames words k x lt (inl (omega arith)))
 words-written start words (places.Content f n) x wide l =
     let k : ℕ = 3 * start.pages + (64 * f + n) in
     let frame : f < start.frames = l.0 in
     let inside : n < 64 = l.1 in
     let lt : k < length words = omega arith in
-    λ i. record {
-      states = part-else 0 start.pages words k x lt (inr (omega arith)) i;
-      translations = part-else start.pages start.pages words k x lt (inr (omega arith)) i;
-      faults = part-else (2 * start.pages) start.pages words k x lt (inr (omega arith)) i;
-      contents = part-here (3 * start.pages) (64 * start.frames) words (64 * f + n) k x (omega arith) lt refl i;
-      bundles = part-else (3 * start.pages + 64 * start.frames) (bundle_count start) words k x lt (inl (omega arith)) i;
-      next = at-else words k x (index_of start places.Next) lt (λ e. absurd (omega arith)) i;
-      hand = at-else words k x (index_of start places.Hand) lt (λ e. absurd (omega arith)) i;
-    }
+    words-as
+    (part-else 0 start.pages words k x lt (inr (omega arith))) (part-else start.pages start.pages words k x lt (inr (omega arith))) (part-else (2 * start.pages) start.pages words k x lt (inr (omega arith)))
+    (part-here (3 * start.pages) (64 * start.frames) words (64 * f + n) k x (omega arith) lt refl) (part-else (3 * start.pages + 64 * start.frames) (bundle_count start) words k x lt (inl (omega arith)))
+    (at-else words k x (index_of start places.Next) lt (λ e. absurd (omega arith))) (at-else words k x (index_of start places.Hand) lt (λ e. absurd (omega arith)))
+    (part-else (3 * start.pages + 64 * start.frames + bundle_count start + 2) start.frames words k x lt (inl (omega arith)))
 words-written start words (places.Bundle g) x wide l =
     let k : ℕ = 3 * start.pages + 64 * start.frames + g in
     let lt : k < length words = omega arith in
-    λ i. record {
-      states = part-else 0 start.pages words k x lt (inr (omega arith)) i;
-      translations = part-else start.pages start.pages words k x lt (inr (omega arith)) i;
-      faults = part-else (2 * start.pages) start.pages words k x lt (inr (omega arith)) i;
-      contents = part-else (3 * start.pages) (64 * start.frames) words k x lt (inr (omega arith)) i;
-      bundles = part-here (3 * start.pages + 64 * start.frames) (bundle_count start) words g k x l lt refl i;
-      next = at-else words k x (index_of start places.Next) lt (λ e. absurd (omega arith)) i;
-      hand = at-else words k x (index_of start places.Hand) lt (λ e. absurd (omega arith)) i;
-    }
+    words-as
+    (part-else 0 start.pages words k x lt (inr (omega arith))) (part-else start.pages start.pages words k x lt (inr (omega arith))) (part-else (2 * start.pages) start.pages words k x lt (inr (omega arith)))
+    (part-else (3 * start.pages) (64 * start.frames) words k x lt (inr (omega arith))) (part-here (3 * start.pages + 64 * start.frames) (bundle_count start) words g k x l lt refl)
+    (at-else words k x (index_of start places.Next) lt (λ e. absurd (omega arith))) (at-else words k x (index_of start places.Hand) lt (λ e. absurd (omega arith)))
+    (part-else (3 * start.pages + 64 * start.frames + bundle_count start + 2) start.frames words k x lt (inl (omega arith)))
 words-written start words places.Next x wide l =
     let k : ℕ = index_of start places.Next in
     let lt : k < length words = omega arith in
-    λ i. record {
-      states = part-else 0 start.pages words k x lt (inr (omega arith)) i;
-      translations = part-else start.pages start.pages words k x lt (inr (omega arith)) i;
-      faults = part-else (2 * start.pages) start.pages words k x lt (inr (omega arith)) i;
-      contents = part-else (3 * start.pages) (64 * start.frames) words k x lt (inr (omega arith)) i;
-      bundles = part-else (3 * start.pages + 64 * start.frames) (bundle_count start) words k x lt (inr (omega arith)) i;
-      next = at-here words k x lt i;
-      hand = at-else words k x (index_of start places.Hand) lt (λ e. absurd (omega arith)) i;
-    }
+    words-as
+    (part-else 0 start.pages words k x lt (inr (omega arith))) (part-else start.pages start.pages words k x lt (inr (omega arith))) (part-else (2 * start.pages) start.pages words k x lt (inr (omega arith)))
+    (part-else (3 * start.pages) (64 * start.frames) words k x lt (inr (omega arith))) (part-else (3 * start.pages + 64 * start.frames) (bundle_count start) words k x lt (inr (omega arith)))
+    (at-here words k x lt) (at-else words k x (index_of start places.Hand) lt (λ e. absurd (omega arith)))
+    (part-else (3 * start.pages + 64 * start.frames + bundle_count start + 2) start.frames words k x lt (inl (omega arith)))
 words-written start words places.Hand x wide l =
     let k : ℕ = index_of start places.Hand in
     let lt : k < length words = omega arith in
-    λ i. record {
-      states = part-else 0 start.pages words k x lt (inr (omega arith)) i;
-      translations = part-else start.pages start.pages words k x lt (inr (omega arith)) i;
-      faults = part-else (2 * start.pages) start.pages words k x lt (inr (omega arith)) i;
-      contents = part-else (3 * start.pages) (64 * start.frames) words k x lt (inr (omega arith)) i;
-      bundles = part-else (3 * start.pages + 64 * start.frames) (bundle_count start) words k x lt (inr (omega arith)) i;
-      next = at-else words k x (index_of start places.Next) lt (λ e. absurd (omega arith)) i;
-      hand = at-here words k x lt i;
-    }
+    words-as
+    (part-else 0 start.pages words k x lt (inr (omega arith))) (part-else start.pages start.pages words k x lt (inr (omega arith))) (part-else (2 * start.pages) start.pages words k x lt (inr (omega arith)))
+    (part-else (3 * start.pages) (64 * start.frames) words k x lt (inr (omega arith))) (part-else (3 * start.pages + 64 * start.frames) (bundle_count start) words k x lt (inr (omega arith)))
+    (at-else words k x (index_of start places.Next) lt (λ e. absurd (omega arith))) (at-here words k x lt)
+    (part-else (3 * start.pages + 64 * start.frames + bundle_count start + 2) start.frames words k x lt (inl (omega arith)))
+words-written start words (places.Owner f) x wide l =
+    let k : ℕ = 3 * start.pages + 64 * start.frames + bundle_count start + 2 + f in
+    let lt : k < length words = omega arith in
+    words-as
+    (part-else 0 start.pages words k x lt (inr (omega arith))) (part-else start.pages start.pages words k x lt (inr (omega arith))) (part-else (2 * start.pages) start.pages words k x lt (inr (omega arith)))
+    (part-else (3 * start.pages) (64 * start.frames) words k x lt (inr (omega arith))) (part-else (3 * start.pages + 64 * start.frames) (bundle_count start) words k x lt (inr (omega arith)))
+    (at-else words k x (index_of start places.Next) lt (λ e. absurd (omega arith))) (at-else words k x (index_of start places.Hand) lt (λ e. absurd (omega arith)))
+    (part-here (3 * start.pages + 64 * start.frames + bundle_count start + 2) start.frames words f k x l lt refl)
 
 -- the values below n, of functions that agree there
 pub listed-same : {A : Type 0} (n : ℕ) (f g : ℕ → A) → ((k : ℕ) → k < n → f k ≡ g k) → listed n f ≡ listed n g

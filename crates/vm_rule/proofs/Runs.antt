@@ -1,19 +1,14 @@
 -- Lists of events keep the invariant, and each validated read saw one version.
-use Rattle.std.proofs.Common.{[], ⊎_elim, ◌∙◌, ◌∷◌, ◌≡◌, eqb, List, refl, true}
-use Rattle.std.proofs.lemmas.Bool.{cases_Bool}
-use Rattle.vm_core.specs.Prelude.{after_event, AllLegal, Inv, Keeps, run, State, Validates, World, world_after, world_run}
-use Rattle.vm_core.specs.declared.event.Event.TheVariants.{BLoad, Claim, Clean, Clear, Dirty, Disown, Downgrade, Give, Hand, Install, Load, LockS}
-use Rattle.vm_core.specs.declared.event.Event.TheVariants.{LockW, LockX, Look, Mark, NLoad, OLoad, Own, Raise, Read, Release, ReleaseE, RFail, Store}
-use Rattle.vm_core.specs.declared.event.Event.TheVariants.{Take, TLoad, UnlockS, Unmark, Upgrade, WFail, Write}
-use Rattle.vm_core.specs.OneVersion.{AllReadOne}
-use Rattle.vm_laws_state.proofs.Laws.{downgrade_law, lock_exclusive_law, lock_shared_law, lock_write_back_law, look_law, mark_law}
-use Rattle.vm_laws_state.proofs.Laws.{release_evicted_law, release_law, unlock_shared_law, unmark_law, upgrade_law}
-use Rattle.vm_laws_state.proofs.Validate.{lock_exclusive_validates, lock_shared_validates, lock_write_back_validates, look_validates}
-use Rattle.vm_laws_state.proofs.Validate.{upgrade_validates}
-use Rattle.vm_laws_frame.proofs.Laws.{bundle_load_law, clean_law, clear_law, dirty_law, disown_law, give_law, install_law, load_law, own_law}
-use Rattle.vm_laws_frame.proofs.Laws.{owner_load_law, store_law, take_law, translation_load_law}
-use Rattle.vm_laws_device.proofs.Laws.{claim_law, hand_law, next_load_law, raise_law, read_fault_law, read_law, write_fault_law, write_law}
-use Rattle.vm_rule.specs.Prelude.{Event}
+use Rattle.vm_core.specs.declared.event.Event.TheVariants.{Release}
+use Rattle.vm_rule.proofs.Prelude.{[], after_event, AllLegal, AllReadOne, BLoad, bundle_load_law, cases_Bool, Claim, claim_law, Clean, clean_law}
+use Rattle.vm_rule.proofs.Prelude.{Clear, clear_law, Dirty, dirty_law, Disown, disown_law, Downgrade, downgrade_law, eqb, Event, Give, give_law, Hand}
+use Rattle.vm_rule.proofs.Prelude.{hand_law, Install, install_law, Inv, Keeps, List, Load, load_law, lock_exclusive_law, lock_exclusive_validates}
+use Rattle.vm_rule.proofs.Prelude.{lock_shared_law, lock_shared_validates, lock_write_back_law, lock_write_back_validates, LockS, LockW, LockX, Look}
+use Rattle.vm_rule.proofs.Prelude.{look_law, look_validates, Mark, mark_law, next_load_law, NLoad, OLoad, Own, own_law, owner_load_law, Raise}
+use Rattle.vm_rule.proofs.Prelude.{raise_law, Read, read_fault_law, read_law, refl, release_evicted_law, release_law, ReleaseE, RFail, run, State}
+use Rattle.vm_rule.proofs.Prelude.{Store, store_law, Take, take_law, TLoad, translation_load_law, true, unlock_shared_law, UnlockS, Unmark}
+use Rattle.vm_rule.proofs.Prelude.{unmark_law, Upgrade, upgrade_law, upgrade_validates, Validates, WFail, World, world_after, world_run, Write}
+use Rattle.vm_rule.proofs.Prelude.{write_fault_law, write_law, ⊎_elim, ◌∙◌, ◌∷◌, ◌≡◌}
 
 pub event_law : (w : World) (e : Event) → Keeps w e
 event_law w (Look a p) i m = look_law w a p i m

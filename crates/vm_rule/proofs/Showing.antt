@@ -1,13 +1,11 @@
 -- What a step of a pass shows of itself. `ShowsMore` is the step in full, which may move the pass's block and note faults: what the others know
 -- stays by what the step leaves, so it is the pass's own part alone. `Shows` is a step that is an event of the core and moves no block.
-use Rattle.std.proofs.Common.{[], ◌++◌, ◌<◌, ◌∷◌, ◌≡◌, ◌≢◌, ◌≤◌, ◌⊎◌, Bool, false, length, List, Option, replicate, slice_set, Some, true, ℕ}
 use mathlib.Core.Option as maybe
-use Rattle.vm_core.specs.Prelude.{Inv, Legal, World, world_after}
-use Rattle.vm_rule.specs.Prelude.{AreNext, ArePlain, began_of, block_of, BlocksFit, brought, core_shown, draft_of, Each, Entry, entry_of, Event}
-use Rattle.vm_rule.specs.Prelude.{FaultsFit, has, histories_of, index_of, is_pending, IsFoundAt, Kept, kept_of, KnowsPage, Leaves, listed, may_call}
-use Rattle.vm_rule.specs.Prelude.{no_held, put_at, Ruled, seat_of, Start, Stored, Table, TieHolds, TranslationHolds, width, Within, world_of}
-use Rattle.vm_rule.specs.{declared.view.Did.Did, declared.view.Origin.Origin, declared.view.Out.Out, declared.view.Release.Release}
-use Rattle.vm_rule.specs.{declared.view.Tie.Tie, declared.view.Translation.Translation, declared.view.View.View}
+use Rattle.vm_rule.proofs.Prelude.{[], AreNext, ArePlain, began_of, block_of, BlocksFit, Bool, brought, core_shown, Did, draft_of, Each, Entry}
+use Rattle.vm_rule.proofs.Prelude.{entry_of, Event, false, FaultsFit, has, histories_of, index_of, Inv, is_pending, IsFoundAt, Kept, kept_of}
+use Rattle.vm_rule.proofs.Prelude.{KnowsPage, Leaves, Legal, length, List, listed, may_call, no_held, Option, Origin, Out, put_at, Release, replicate}
+use Rattle.vm_rule.proofs.Prelude.{Ruled, seat_of, slice_set, Some, Start, Stored, Table, Tie, TieHolds, Translation, TranslationHolds, true, View}
+use Rattle.vm_rule.proofs.Prelude.{width, Within, World, world_after, world_of, ℕ, ◌++◌, ◌<◌, ◌∷◌, ◌≡◌, ◌≢◌, ◌≤◌, ◌⊎◌}
 
 module _ {X B : Type 0} (stored : B → Stored) (keeps : Start → Kept X → Type 0) (tied : Start → ℕ → List ℕ → ℕ → List ℕ → Type 0) (start : Origin) (tells : Bool) where
   module _ (s : Table (Option B) (View X)) (r : Ruled stored keeps tied start tells s) (id : ℕ) (v : View X) (words : List ℕ) (homes : List (maybe.Option (Option B))) (blocks : List Stored) (drafts : ℕ → List ℕ) (own : List Release) (entries : List (Entry X)) (did : Did) (inner : View X) where

@@ -1,21 +1,11 @@
 -- The rule keeps of each live view what is read off that view alone.
-use Rattle.std.proofs.Common.{[], ⊎_elim, ◌++◌, ◌+◌, ◌<◌, ◌==◌, ◌∙◌, ◌∷◌, ◌≡◌, ◌≢◌, ◌≤◌, ◌⊎◌, ap, append_assoc, arith, Bool, if◌then◌else◌, length}
-use Rattle.std.proofs.Common.{List, Option, refl, subst, sym, true, ℕ}
-use Rattle.std.proofs.lemmas.Bool.{cases_Bool, cases_eq, eq-eqb, ne_eqb}
-use Rattle.vm_core.specs.Prelude.{get_elem?, History, some, Version}
-use Rattle.vm_owner.specs.Kept.{AreCounted}
-use Rattle.vm_rule.specs.Prelude.{after_releases, AreApart, AreNext, Each, entries_by, Entry, first_history, has, Kept, KnowsLists, last_in, one_part}
-use Rattle.vm_rule.specs.Prelude.{owns, PARTS, pushed, Ruled, Sound, Start, Stored, Table, times, total}
-use Rattle.vm_rule.specs.{declared.view.Origin.Origin, declared.view.Release.Release, declared.view.View.View}
-use Rattle.vm_rule.proofs.{Heard.one-most, Heard.times-has, Worlds.last-is}
-use Rattle.vm_rule.proofs.Entries.{append-none, entries-both, total-at}
-
-after-append : (p : ℕ) (h : History) (l m : List Release) → after_releases p h (l ++ m) ≡ after_releases p (after_releases p h l) m
-after-append p h [] m = refl
-after-append p h (r ∷ rs) m = after-append p (if r.page == p then pushed h r else h) rs m
-
-last-one : (start : Origin) (before : List Release) (r : Release) (p : ℕ) → last_in start (before ++ r ∷ []) p ≡ (if r.page == p then pushed (after_releases p (first_history start p) before) r else after_releases p (first_history start p) before).last
-last-one start before r p = ap (λ (h : History). h.last) (after-append p (first_history start p) before (r ∷ []))
+use Rattle.vm_rule.proofs.Entries.{append-none, none-before, total-at}
+use Rattle.vm_rule.proofs.Heard.{one-most, times-has, times-joined}
+use Rattle.vm_rule.proofs.Prelude.{[], ap, append_assoc, AreApart, AreCounted, AreNext, arith, Bool, cases_Bool, cases_eq, Each, entries_by, Entry}
+use Rattle.vm_rule.proofs.Prelude.{eq-eqb, get_elem?, has, if◌then◌else◌, Kept, KnowsLists, last_in, List, one_part, Option, Origin, owns, PARTS}
+use Rattle.vm_rule.proofs.Prelude.{refl, Release, Ruled, some, Sound, Start, Stored, subst, sym, Table, times, total, true, Version, View, ℕ, ⊎_elim}
+use Rattle.vm_rule.proofs.Prelude.{◌++◌, ◌+◌, ◌<◌, ◌==◌, ◌∙◌, ◌∷◌, ◌≡◌, ◌≢◌, ◌≤◌}
+use Rattle.vm_rule.proofs.Worlds.{last-else, last-here, last-is}
 
 -- the last version never falls
 pub never-falls : (start : Origin) (before more : List Release) (p : ℕ) → AreNext start before more → (last_in start before p).version ≤ (last_in start (before ++ more) p).version
@@ -25,18 +15,14 @@ never-falls start before (r ∷ rs) p a =
     let same : (last_in start ((before ++ r ∷ []) ++ rs) p).version ≡ (last_in start (before ++ r ∷ rs) p).version = ap (λ l. (last_in start l p).version) (append_assoc before (r ∷ []) rs) in
     let now : (last_in start before p).version ≤ (last_in start (before ++ r ∷ []) p).version = ⊎_elim
     (λ (t : r.page ≡ p).
-    let is : (last_in start (before ++ r ∷ []) p).version ≡ r.version = ap (λ (v : Version). v.version) (last-one start before r p) ∙ (rw (eq-eqb r.page p t) refl) in
+    let is : (last_in start (before ++ r ∷ []) p).version ≡ r.version = last-here start before r p t in
     let next : r.version ≡ (last_in start before p).version + 1 = a.0 ∙ ap (λ q. (last_in start before q).version + 1) t in
     omega (arith, is, next))
     (λ (ne : r.page ≢ p).
-    let is : (last_in start (before ++ r ∷ []) p).version ≡ (last_in start before p).version = ap (λ (v : Version). v.version) (last-one start before r p) ∙ (rw (ne_eqb r.page p ne) refl) in
+    let is : (last_in start (before ++ r ∷ []) p).version ≡ (last_in start before p).version = ap (λ (v : Version). v.version) (last-else start before r p (λ e. ne (sym e))) in
     omega (arith, is))
     (cases_eq r.page p) in
     omega (arith, later, same, now)
-
-times-append : (k : ℕ) (l m : List ℕ) → times k (l ++ m) ≡ times k l + times k m
-times-append k [] m = omega arith
-times-append k (x ∷ xs) m = let r : times k (xs ++ m) ≡ times k xs + times k m = times-append k xs m in omega (arith, r)
 
 -- numbers that stand once at most are apart
 once-apart : (l : List ℕ) → ((k : ℕ) → times k l ≤ 1) → AreApart l
@@ -50,7 +36,8 @@ each-front : {A : Type 0} (P : A → Type 0) (l m : List A) → Each P (l ++ m) 
 each-front P [] m e = tt
 each-front P (x ∷ xs) m e = (e.0, each-front P xs m e.1)
 
-next-front : (start : Origin) (before l m : List Release) → AreNext start before (l ++ m) → AreNext start before l × AreNext start (before ++ l) m
+-- of releases that have the next versions, the first ones and those behind them
+pub next-front : (start : Origin) (before l m : List Release) → AreNext start before (l ++ m) → AreNext start before l × AreNext start (before ++ l) m
 next-front start before [] m a = (tt, subst (λ b. AreNext start b m) (sym (append-none before)) a)
 next-front start before (r ∷ rs) m a =
     let k = next-front start (before ++ r ∷ []) rs m a.1 in
@@ -61,10 +48,6 @@ module _ {X : Type 0} where
   counted-front before [] m a = tt
   counted-front before (e ∷ es) m a = (a.0, counted-front (λ n. (if e.number == n then 1 else 0) + before n) es m a.1)
 
-  front-none : (a b : List (Entry X)) → a ++ b ≡ [] → a ≡ []
-  front-none [] b e = refl
-  front-none (x ∷ xs) b e = absurd (let n : length (x ∷ (xs ++ b)) ≡ 0 = ap length e in omega arith)
-
 module _ {X B : Type 0} (stored : B → Stored) (keeps : Start → Kept X → Type 0) (tied : Start → ℕ → List ℕ → ℕ → List ℕ → Type 0) (start : Origin) (tells : Bool) where
   pub is-sound : (s : Table (Option B) (View X)) (r : Ruled stored keeps tied start tells s) (id : ℕ) (v : View X) → get_elem? s.views id ≡ some v → v.live ≡ true → Sound v
   is-sound s r id v there live =
@@ -72,9 +55,9 @@ module _ {X B : Type 0} (stored : B → Stored) (keeps : Start → Kept X → Ty
       let rises : AreNext start [] v.releases × AreNext start v.releases g.saw.0 = next-front start [] v.releases g.saw.0 (subst (AreNext start []) g.saw.1 r.lists.rises) in
       record {
         mine = g.mine;
-        fresh = λ k x. front-none (entries_by (k ∷ []) v.seen) (entries_by (k ∷ []) g.heard.0) (sym (entries-both (k ∷ []) v.seen g.heard.0) ∙ ap (entries_by (k ∷ [])) (sym g.heard.1) ∙ g.fresh k x);
+        fresh = λ k x. none-before (k ∷ []) v.seen g.heard.0 (ap (entries_by (k ∷ [])) (sym g.heard.1) ∙ g.fresh k x);
         apart = once-apart (v.used ++ v.fresh) (λ k.
-            let both : times k (v.used ++ v.fresh) ≡ times k v.used + times k v.fresh = times-append k v.used v.fresh in
+            let both : times k (v.used ++ v.fresh) ≡ times k v.used + times k v.fresh = times-joined k v.used v.fresh in
             let one : owns k v ≤ total (owns k) s.views = total-at (owns k) s.views id v there in
             let all : total (owns k) s.views ≡ one_part k = r.parts.parts k in
             let most : one_part k ≤ 1 = one-most k in

@@ -1,15 +1,13 @@
 -- What the rule keeps of a pass's own view, where the pass is split: of its view then, and of the new pass's.
-use Rattle.std.proofs.Common.{[], ⊎_elim, ◌++◌, ◌||◌, ◌∙◌, ◌∷◌, ◌≡◌, ap, Bool, eqb, false, List, refl, sym, true, true≢false, ℕ}
-use Rattle.std.proofs.lemmas.Bool.{cases_Bool}
-use Rattle.vm_rule.specs.Prelude.{AreApart, first_part, giver, has, newcomer, other_parts, Sound}
-use Rattle.vm_rule.specs.{declared.view.View.View, Joins.given_part}
+use Rattle.vm_rule.proofs.Joining.{has-either, has-left, has-right}
+use Rattle.vm_rule.proofs.Prelude.{[], AreApart, Bool, cases_Bool, false, first_part, given_part, giver, has, List, newcomer, other_parts, refl}
+use Rattle.vm_rule.proofs.Prelude.{Sound, sym, true, true≢false, View, ℕ, ⊎_elim, ◌++◌, ◌∙◌, ◌∷◌, ◌≡◌}
 use Rattle.vm_rule.proofs.Splitting.{cut-has, fresh-cut, none-given}
 
 -- ---- parts without the first of them
 
 more-has : (k : ℕ) (l m : List ℕ) → has k (l ++ other_parts m) ≡ true → has k (l ++ m) ≡ true
-more-has k [] m e = cut-has k m e
-more-has k (n ∷ l) m e = ⊎_elim (λ t. rw t refl) (λ f. rw f (more-has k l m (sym (ap (λ b. b || has k (l ++ other_parts m)) f) ∙ e))) (cases_Bool (eqb k n))
+more-has k l m e = ⊎_elim (has-left k l m) (λ b. has-right k l m (cut-has k m b)) (has-either k l (other_parts m) e)
 
 fewer-apart : (l m : List ℕ) → AreApart (l ++ m) → AreApart (l ++ other_parts m)
 fewer-apart [] [] apart = tt

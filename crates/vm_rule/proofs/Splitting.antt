@@ -1,20 +1,14 @@
 -- A pass is split: the table meets the rule with the view of the new pass, which has one of its fresh parts or none.
-use Rattle.std.proofs.Common.{[], ⊎_elim, ◌++◌, ◌+◌, ◌<◌, ◌||◌, ◌∙◌, ◌∷◌, ◌≡◌, ◌≢◌, ◌≤◌, ◌⊎◌, ap, arith, Bool, eqb, false, if◌then◌else◌, inl, inr}
-use Rattle.std.proofs.Common.{length, length-append, length-set, List, None, Option, refl, slice_set, subst, suc, sym, true, true≢false, zero, ℕ}
-use Rattle.std.proofs.lemmas.Bool.{cases_eq, eq-eqb, false≢true}
-use mathlib.Core.Option as maybe
-use Rattle.atomic_table.proofs.Lists.{at_longer, at_set, at_snoc, set_else, set_here}
-use Rattle.vm_core.specs.Prelude.{at, get_elem?, some, some-injective, upd, World}
-use Rattle.vm_core.proofs.Upd.{upd-other, upd-same}
-use Rattle.vm_rule.specs.Prelude.{any, began_of, BlocksFit, entries_by, Entry, FaultsFit, first_part, giver, has, is_pending, Kept, KnowsLists}
-use Rattle.vm_rule.specs.Prelude.{KnowsPages, ListsFit, loads_at, may_call, newcomer, other_parts, out_of, out_or, owns, PartsFit, Ruled, Seat}
-use Rattle.vm_rule.specs.Prelude.{seat_of, slot_of, snapshot_of, spent, Start, Stored, Table, times, times_noted, total, world_of}
-use Rattle.vm_rule.specs.{declared.view.Origin.Origin, declared.view.View.View, Joins.given_part}
-use Rattle.vm_rule.proofs.{Entries.entries-none, Gathering.none-some, Gathering.ReadsLess}
-use Rattle.vm_rule.proofs.Joining.{none-before, none-behind, or-right}
-use Rattle.vm_rule.proofs.Resettling.{at-past, Resettles, same-reads, settled-blocks, settled-faults, settled-inv, settled-kept, settled-known}
-use Rattle.vm_rule.proofs.Resettling.{settled-snapshot}
-use Rattle.vm_rule.proofs.Views.{any-same, at-bound, at-there, out-same, total-set, views-set}
+use Rattle.vm_rule.proofs.{Joining.or-right, Known.known-nothing, Known.known-with}
+use Rattle.vm_rule.proofs.Entries.{entries-none, none-before, none-behind}
+use Rattle.vm_rule.proofs.Prelude.{[], any, ap, arith, at, at_longer, at_set, at_snoc, Bool, entries_by, Entry, eq-eqb, eqb, false, false≢true}
+use Rattle.vm_rule.proofs.Prelude.{first_part, get_elem?, given_part, giver, has, inl, inr, is_pending, Kept, KnowsLists, KnowsPages, length}
+use Rattle.vm_rule.proofs.Prelude.{length-append, length-set, List, loads_at, newcomer, None, Option, Origin, other_parts, out_of, out_or, owns, refl}
+use Rattle.vm_rule.proofs.Prelude.{Ruled, Seat, seat_of, slice_set, some, spent, Start, Stored, subst, suc, sym, Table, times, times_noted, total}
+use Rattle.vm_rule.proofs.Prelude.{true, true≢false, View, world_of, zero, ℕ, ⊎_elim, ◌++◌, ◌+◌, ◌<◌, ◌||◌, ◌∙◌, ◌∷◌, ◌≡◌, ◌≤◌, ◌⊎◌}
+use Rattle.vm_rule.proofs.Resettling.{fit-now, HasSome, IsFit, keeps-resettles, KnowsHistory, KnowsReleases, Resettles, set-some, settled-past}
+use Rattle.vm_rule.proofs.Resettling.{settled-ruled, Settles}
+use Rattle.vm_rule.proofs.Views.{any-same, at-bound, field-still, out-same, total-set}
 
 -- ---- parts
 
@@ -58,47 +52,32 @@ module _ {X : Type 0} where
     -- what is the same of the pass before and after, and of the new pass and a spent one, is the same of any
     pub same-field : {A : Type 0} (f : View X → A) → f (giver part v) ≡ f v → f (newcomer part v) ≡ f spent → (a : ℕ) → f (at spent split-views a) ≡ f (at spent views a)
     same-field f mine new a =
-        ⊎_elim
-        (λ e. ap f e)
-        (λ e. ap f e.0 ∙ new ∙ sym (ap f e.1))
-        (snoc-past spent (newcomer part v) given a)
-        ∙ ⊎_elim
-        (λ e. ap f (ap (λ h. h a) (views-set views id v (giver part v) there) ∙ ap (upd (at spent views) id (giver part v)) e ∙ upd-same (at spent views) id (giver part v)) ∙ mine ∙ ap f (sym (at-there spent views id v there) ∙ ap (at spent views) (sym e)))
-        (λ ne. ap f (ap (λ h. h a) (views-set views id v (giver part v) there) ∙ upd-other (at spent views) id (giver part v) a ne))
-        (cases_eq a id)
+        ⊎_elim (λ e. ap f e) (λ e. ap f e.0 ∙ new ∙ sym (ap f e.1)) (snoc-past spent (newcomer part v) given a)
+        ∙ field-still f views id v (giver part v) there mine a
 
-    pub split-at : (j : ℕ) (u : View X) → get_elem? split-views j ≡ some u → (newcomer part v ≡ u) ⊎ (((j ≡ id) × (giver part v ≡ u)) ⊎ ((j ≢ id) × (get_elem? views j ≡ some u)))
-    split-at j u e = ⊎_elim (λ t. inr (at_set views id j (giver part v) u t)) (λ t. inl t) (at_snoc given (newcomer part v) u j e)
+    split-at : (j : ℕ) (u : View X) → get_elem? split-views j ≡ some u → (newcomer part v ≡ u) ⊎ ((giver part v ≡ u) ⊎ (get_elem? views j ≡ some u))
+    split-at j u e = ⊎_elim (λ t. inr (⊎_elim (λ q. inl q.1) (λ q. inr q.1) (at_set views id j (giver part v) u t))) (λ t. inl t) (at_snoc given (newcomer part v) u j e)
 
-    -- a view stays where it was
-    split-keeps : (P : View X → Type 0) → (P v → P (giver part v)) → (j : ℕ) (u : View X) → get_elem? views j ≡ some u → P u → (k : ℕ) × (z : View X) × (get_elem? split-views k ≡ some z) × P z
-    split-keeps P f j u e p =
-        ⊎_elim
-        (λ i.
-        let same : u ≡ v = some-injective u v (sym e ∙ ap (get_elem? views) i ∙ there) in
-        (id, giver part v, at_longer given (newcomer part v ∷ []) id (giver part v) (set_here views id (giver part v) (at-bound views id v there)), f (subst P same p)))
-        (λ ne. (j, u, at_longer given (newcomer part v ∷ []) j u (set_else views id j (giver part v) ne ∙ e), p))
-        (cases_eq j id)
+    -- what some view says, the giver still says
+    split-some : (P : View X → Type 0) → (P v → P (giver part v)) → HasSome P views → HasSome P split-views
+    split-some P f l = let k = set-some P views id v (giver part v) there f l in (k.0, k.1, at_longer given (newcomer part v ∷ []) k.0 k.1 k.2, k.3)
 
-    pub split-total : (f : View X → ℕ) → f (giver part v) + f (newcomer part v) ≡ f v → total f split-views ≡ total f views
+    split-total : (f : View X → ℕ) → f (giver part v) + f (newcomer part v) ≡ f v → total f split-views ≡ total f views
     split-total f e =
         let a : total f split-views ≡ total f given + f (newcomer part v) = total-snoc f given (newcomer part v) in
         let b : total f given + f v ≡ total f views + f (giver part v) = total-set f views id v (giver part v) there in
         omega (arith, a, b, e)
 
     pub split-resettles : Resettles views split-views 1 (length views) id
-    split-resettles = record {
-      count = (let a : length split-views ≡ length given + 1 = length-append given (newcomer part v ∷ []) in let b : length given ≡ length views = length-set views id (giver part v) in omega (arith, a, b));
-      apart = λ e. (let l : id < length views = at-bound views id v there in absurd (omega arith));
-      named = at-bound views id v there;
-      less = λ p a. subst (λ (q : Seat × List (ℕ × ℕ)). ReadsLess (seat_of (at spent views a) p) q.0 (loads_at (at spent views a) p) q.1) (sym (same-field {A = Seat × List (ℕ × ℕ)} (λ y. (seat_of y p, loads_at y p)) refl refl a)) (same-reads (seat_of (at spent views a) p) (loads_at (at spent views a) p));
-      gets = λ f. same-field (λ y. has f y.frames) refl refl id ∙ sym (ap (λ (y : View X). if has f y.frames then true else has f (at spent views id).frames) (at-past spent views (length views) (omega arith)));
-      gives = λ f. same-field (λ y. has f y.frames) refl refl (length views) ∙ ap (λ (y : View X). has f y.frames) (at-past spent views (length views) (omega arith));
-      keeps = λ a f n m. same-field (λ y. has f y.frames) refl refl a;
-      out = λ p. out-snoc given (newcomer part v) p refl ∙ out-same views id v (giver part v) p there refl;
-      pending = λ p. any-snoc (λ y. has p y.pending) given (newcomer part v) refl ∙ any-same (λ y. has p y.pending) views id v (giver part v) there refl;
-      owed = λ p. any-snoc (λ y. has p y.owed) given (newcomer part v) refl ∙ any-same (λ y. has p y.owed) views id v (giver part v) there refl;
-    }
+    split-resettles =
+        keeps-resettles views split-views 1 id
+        (let a : length split-views ≡ length given + 1 = length-append given (newcomer part v ∷ []) in let b : length given ≡ length views = length-set views id (giver part v) in omega (arith, a, b))
+        (at-bound views id v there)
+        (λ p a. same-field {A = Seat × List (ℕ × ℕ)} (λ y. (seat_of y p, loads_at y p)) refl refl a)
+        (λ f a. same-field (λ y. has f y.frames) refl refl a)
+        (λ p. out-snoc given (newcomer part v) p refl ∙ out-same views id v (giver part v) p there refl)
+        (λ p. any-snoc (λ y. has p y.pending) given (newcomer part v) refl ∙ any-same (λ y. has p y.pending) views id v (giver part v) there refl)
+        (λ p. any-snoc (λ y. has p y.owed) given (newcomer part v) refl ∙ any-same (λ y. has p y.owed) views id v (giver part v) there refl)
 
   -- the parts of both are those that the pass had
   pub parts-cut : (part : Bool) (v : View X) (k : ℕ) → owns k (giver part v) + owns k (newcomer part v) ≡ owns k v
@@ -134,155 +113,63 @@ module _ {X B : Type 0} (stored : B → Stored) (keeps : Start → Kept X → Ty
   resettles : Resettles s.views after 1 (length s.views) id
   resettles = split-resettles s.views id part v there
 
-  giver-lists : KnowsLists start r.releases r.history (giver part v)
-  giver-lists = record {
-    same_start = mine.same_start;
-    saw = mine.saw;
-    heard = mine.heard;
-    told = mine.told;
-    mine = mine.mine;
-    fresh = λ k e. mine.fresh k (fresh-cut part v k e);
-    idle = λ none _. absurd (let no : length v.used ≡ 0 = ap length none in omega arith);
-  }
+  giver-fit : IsFit stored keeps tied start tells s r (giver part v)
+  giver-fit =
+      let c = fit-now stored keeps tied start tells s r id v there in
+      record {
+        away = c.away;
+        noted = c.noted;
+        gone = λ off. absurd (true≢false (sym live ∙ off));
+        heard = λ _. record {
+          same_start = mine.same_start;
+          saw = mine.saw;
+          heard = mine.heard;
+          told = mine.told;
+          mine = mine.mine;
+          fresh = λ k e. mine.fresh k (fresh-cut part v k e);
+          idle = λ none _. absurd (let no : length v.used ≡ 0 = ap length none in omega arith);
+        };
+        known = λ _. known-with tied start _ _ v held held.contents held.latest held.words;
+        whole = λ _ all. c.whole live (λ k l. let cut : owns k (giver part v) + owns k (newcomer part v) ≡ owns k v = parts-cut part v k in let has' : 1 ≤ owns k (giver part v) = all k l in omega (arith, cut, has'));
+      }
 
-  newcomer-lists : KnowsLists start r.releases r.history (newcomer part v)
-  newcomer-lists =
+  newcomer-fit : IsFit stored keeps tied start tells s r (newcomer part v)
+  newcomer-fit =
       let none : entries_by (given_part part v) r.history ≡ [] = none-given part v r.history mine.fresh in
       let cut : entries_by (given_part part v) (v.seen ++ mine.heard.0) ≡ [] = subst (λ h. entries_by (given_part part v) h ≡ []) mine.heard.1 none in
       record {
-        same_start = mine.same_start;
-        saw = mine.saw;
-        heard = (mine.heard.0, mine.heard.1, none-behind (given_part part v) v.seen mine.heard.0 cut);
-        told = ((r.releases, refl), (r.history, refl, entries-none r.history), λ k e. absurd (true≢false (sym e)));
-        mine = sym (none-before (given_part part v) v.seen mine.heard.0 cut);
-        fresh = λ k e. absurd (true≢false (sym e));
-        idle = λ _ _. record { shares = λ p. refl; exclusive = λ p. refl; writing = λ p. refl; frames = refl; out = refl };
+        away = λ o e. absurd cc;
+        noted = λ p n m. absurd (omega arith);
+        gone = λ off. absurd (true≢false off);
+        heard = λ _. record {
+          same_start = mine.same_start;
+          saw = mine.saw;
+          heard = (mine.heard.0, mine.heard.1, none-behind (given_part part v) v.seen mine.heard.0 cut);
+          told = ((r.releases, refl), (r.history, refl, entries-none r.history), λ k e. absurd (true≢false (sym e)));
+          mine = sym (none-before (given_part part v) v.seen mine.heard.0 cut);
+          fresh = λ k e. absurd (true≢false (sym e));
+          idle = λ _ _. record { shares = λ p. refl; exclusive = λ p. refl; writing = λ p. refl; frames = refl; out = refl };
+        };
+        known = λ _. known-nothing tied start _ _ true v.start (given_part part v) [] v.releases v.seen;
+        whole = λ _ _ current. absurd (false≢true current);
       }
 
-  giver-pages : KnowsPages tied start (world_of stored start r.releases r.drafts s) (is_pending s.views) (giver part v)
-  giver-pages = record {
-    knows = held.knows;
-    contents = held.contents;
-    drafts = held.drafts;
-    latest = held.latest;
-    pending = held.pending;
-    owed = held.owed;
-    next = held.next;
-    translations = held.translations;
-    words = held.words;
-    ties = held.ties;
-  }
-
-  newcomer-pages : KnowsPages tied start (world_of stored start r.releases r.drafts s) (is_pending s.views) (newcomer part v)
-  newcomer-pages = record {
-    knows = λ p. record { calls = λ e. absurd (true≢false (sym e)); shares = λ l. absurd (omega (arith, l)) };
-    contents = λ f e. absurd (true≢false (sym e));
-    drafts = λ p e. absurd (true≢false (sym e));
-    latest = λ p e. absurd (⊎_elim (λ t. true≢false (sym t)) (λ l. absurd (omega (arith, l))) e);
-    pending = λ p e. absurd (true≢false (sym e));
-    owed = λ p e. absurd (true≢false (sym e));
-    next = λ x e. absurd (none-some x e);
-    translations = tt;
-    words = tt;
-    ties = λ _. tt;
-  }
-
-  split-blocks : BlocksFit stored start s.homes after
-  split-blocks = record {
-    away = λ j u o e x. ⊎_elim
-        (λ t. absurd (none-some o (ap (λ (y : View X). y.out) t ∙ x)))
-        (λ t. ⊎_elim
-        (λ q. let k = r.blocks.away id v o there (ap (λ (y : View X). y.out) q.1 ∙ x) in subst (λ (y : View X). (o.page < start.pages) × (may_call (seat_of y o.page) ≡ true) × (at maybe.none s.homes o.page ≡ slot_of o)) q.1 k)
-        (λ q. r.blocks.away j u o q.1 x)
-        t)
+  settles : Settles stored keeps tied start tells s r after 1 (length s.views) id resettles
+  settles = record {
+    fit = λ j u e. ⊎_elim
+        (λ t. subst (IsFit stored keeps tied start tells s r) t newcomer-fit)
+        (λ t. ⊎_elim (λ q. subst (IsFit stored keeps tied start tells s r) q giver-fit) (λ q. fit-now stored keeps tied start tells s r j u q) t)
         (split-at s.views id part v there j u e);
-    home = λ p l e. r.blocks.home p l (sym (resettles.out p) ∙ e);
-    bounds = λ p l. ap (λ f. (f p).bound) (settled-blocks stored start r.releases r.drafts s after 1 (length s.views) id resettles) ∙ r.blocks.bounds p l;
-  }
-
-  split-faults : FaultsFit (world_of stored start r.releases r.drafts s).core.pages after
-  split-faults = record {
-    below = r.faults.below;
-    capped = r.faults.capped;
-    noted = λ j u e p n m. ⊎_elim
-        (λ t. absurd (let none : times_noted p n u.notes ≡ 0 = ap (λ (y : View X). times_noted p n y.notes) (sym t) in omega arith))
-        (λ t. ⊎_elim
-        (λ q. r.faults.noted id v there p n (subst (λ k. 1 ≤ k) (ap (λ (y : View X). times_noted p n y.notes) (sym q.1)) m))
-        (λ q. r.faults.noted j u q.1 p n m)
-        t)
-        (split-at s.views id part v there j u e);
-    once = λ p n ne. subst (λ k. k ≤ 1) (sym (split-total s.views id part v there (λ y. times_noted p n y.notes) (omega arith))) (r.faults.once p n ne);
-  }
-
-  split-longest : ListsFit start r.releases r.history after
-  split-longest = record {
-    longest_releases = let l = r.lists.longest_releases in split-keeps s.views id part v there (λ z. (z.releases ≡ r.releases) ⊎ (z.told_releases ≡ r.releases)) (λ z. z) l.0 l.1 l.2 l.3;
-    longest = let l = r.lists.longest in split-keeps s.views id part v there (λ z. (z.seen ≡ r.history) ⊎ (z.told ≡ r.history)) (λ z. z) l.0 l.1 l.2 l.3;
-    numbered = r.lists.numbered;
-    counted = r.lists.counted;
-    rises = r.lists.rises;
-  }
-
-  split-parts : PartsFit r.releases r.history (snapshot_of stored start s) after
-  split-parts = record {
-    parts = λ k. split-total s.views id part v there (owns k) (parts-cut part v k) ∙ r.parts.parts k;
-    spent = λ j u e off. ⊎_elim
-        (λ t. absurd (true≢false (ap (λ (y : View X). y.live) t ∙ off)))
-        (λ t. ⊎_elim
-        (λ q. absurd (true≢false (sym live ∙ ap (λ (y : View X). y.live) q.1 ∙ off)))
-        (λ q. r.parts.spent j u q.1 off)
-        t)
-        (split-at s.views id part v there j u e);
-    whole = λ j u e on all current. ⊎_elim
-        (λ t. absurd (false≢true (ap (λ (y : View X). y.current) t ∙ current)))
-        (λ t. ⊎_elim
-        (λ q. subst (λ (y : View X). (y.releases ≡ r.releases) × (y.seen ≡ r.history) × (y.snapshot ≡ snapshot_of stored start s)) q.1
-        (r.parts.whole id v there live
-        (λ k l. let cut : owns k (giver part v) + owns k (newcomer part v) ≡ owns k v = parts-cut part v k in let has' : 1 ≤ owns k (giver part v) = subst (λ (y : View X). 1 ≤ owns k y) (sym q.1) (all k l) in omega (arith, cut, has'))
-        (ap (λ (y : View X). y.current) q.1 ∙ current)))
-        (λ q. r.parts.whole j u q.1 on all current)
-        t)
-        (split-at s.views id part v there j u e);
+    notes = λ p n. split-total s.views id part v there (λ y. times_noted p n y.notes) (omega arith);
+    parts = λ k. split-total s.views id part v there (owns k) (parts-cut part v k);
+    releases = split-some s.views id part v there (KnowsReleases stored keeps tied start tells s r) (λ z. z) r.lists.longest_releases;
+    history = split-some s.views id part v there (KnowsHistory stored keeps tied start tells s r) (λ z. z) r.lists.longest;
   }
 
   pub splits-ruled : Ruled stored keeps tied start tells (record { words = s.words; homes = s.homes; views = after })
-  splits-ruled =
-      let moved : World = world_of stored start r.releases r.drafts (record { words = s.words; homes = s.homes; views = after }) in
-      let known : (u : View X) → KnowsPages tied start (world_of stored start r.releases r.drafts s) (is_pending s.views) u → KnowsPages tied start moved (is_pending after) u
-      = settled-known stored start r.releases r.drafts s after 1 (length s.views) id resettles tied in
-      record {
-        releases = r.releases;
-        history = r.history;
-        drafts = r.drafts;
-        telling = r.telling;
-        wide = r.wide;
-        sized = r.sized;
-        spelled = r.spelled;
-        inv = settled-inv stored start r.releases r.drafts s after 1 (length s.views) id resettles r.inv;
-        risen = r.risen;
-        zero = r.zero;
-        blocks = split-blocks;
-        faults = settled-faults stored start r.releases r.drafts s after 1 (length s.views) id resettles split-faults;
-        lists = split-longest;
-        parts = subst (λ y. PartsFit r.releases r.history y after) (sym (settled-snapshot stored start r.releases r.drafts s after 1 (length s.views) id resettles)) split-parts;
-        heard = λ j u e on. ⊎_elim
-            (λ t. subst (KnowsLists start r.releases r.history) t newcomer-lists)
-            (λ t. ⊎_elim
-            (λ q. subst (KnowsLists start r.releases r.history) q.1 giver-lists)
-            (λ q. r.heard j u q.1 on)
-            t)
-            (split-at s.views id part v there j u e);
-        known = λ j u e on. ⊎_elim
-            (λ t. subst (KnowsPages tied start moved (is_pending after)) t (known (newcomer part v) newcomer-pages))
-            (λ t. ⊎_elim
-            (λ q. subst (KnowsPages tied start moved (is_pending after)) q.1 (known (giver part v) giver-pages))
-            (λ q. known u (r.known j u q.1 on))
-            t)
-            (split-at s.views id part v there j u e);
-        owner = λ t. subst (keeps (began_of start)) (sym (settled-kept stored start r.releases r.drafts s after 1 (length s.views) id resettles r.history)) (r.owner t);
-      }
+  splits-ruled = settled-ruled stored keeps tied start tells s r after 1 (length s.views) id resettles settles
 
   -- the lists and the drafts are as they were
   pub splits-past : (splits-ruled.releases ≡ r.releases) × (splits-ruled.history ≡ r.history) × (splits-ruled.drafts ≡ r.drafts)
   unfolding splits-ruled
-  splits-past = (refl, refl, refl)
+  splits-past = settled-past stored keeps tied start tells s r after 1 (length s.views) id resettles settles

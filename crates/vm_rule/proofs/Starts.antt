@@ -1,15 +1,9 @@
 -- The start meets the invariant.
-use Rattle.std.specs.Int.{bit_at}
-use Rattle.std.proofs.Common.{[], ⊎_elim, ◌%◌, ◌*◌, ◌+◌, ◌-◌, ◌/◌, ◌^◌, ◌∙◌, ◌≡◌, ◌≤◌, ap, arith, Bool, cond, length, List, ltb, min, refl, replicate}
-use Rattle.std.proofs.Common.{true, ℕ}
-use Rattle.std.proofs.lemmas.Bool.{cases_Bool, cases_lt, eq-eqb, le-ltb, lt-ltb, ne_eqb}
-use Rattle.std.proofs.lemmas.List.{length-replicate}
-use Rattle.std.proofs.lemmas.List.FromFn.{length-map-range_with_len}
-use Rattle.std.proofs.lemmas.Nat.Bits.{bit_at_ones, bit_at_ones_above}
-use Rattle.vm_core.specs.Prelude.{at_free, begin, core_block, core_start, CoreStart, evicted_page, FrameIsAt, Free, full_bundle, has_free_bit, Inv}
-use Rattle.vm_core.specs.Prelude.{IsStart, MAX_VERSION, Nowhere, PageInv, start}
-use Rattle.vm_core.proofs.Starting.{locks-none}
-use Rattle.vm_rule.specs.Prelude.{CoreShape}
+use Rattle.vm_rule.proofs.Prelude.{[], ap, arith, at_free, begin, bit_at, bit_at_ones, bit_at_ones_above, Bool, cases_Bool, cases_lt, cond}
+use Rattle.vm_rule.proofs.Prelude.{core_block, core_start, CoreShape, CoreStart, eq-eqb, evicted_page, FrameIsAt, Free, full_bundle, has_free_bit}
+use Rattle.vm_rule.proofs.Prelude.{Inv, IsStart, le-ltb, length, length-map-range_with_len, length-replicate, List, locks-none, lt-ltb, ltb}
+use Rattle.vm_rule.proofs.Prelude.{MAX_VERSION, min, ne_eqb, Nowhere, PageInv, refl, replicate, start, true, ℕ, ⊎_elim, ◌%◌, ◌*◌, ◌+◌, ◌-◌, ◌/◌, ◌^◌}
+use Rattle.vm_rule.proofs.Prelude.{◌∙◌, ◌≡◌, ◌≤◌}
 
 start-free : (frames f : ℕ) → has_free_bit (full_bundle frames) f ≡ at_free (cond (ltb f frames) Free Nowhere)
 unfolding has_free_bit full_bundle

@@ -1,9 +1,7 @@
 -- What the invariant tells, in full.
-use Rattle.std.proofs.Common.{◌<◌, ◌∙◌, ◌≡◌, refl, subst, sym, ℕ}
-use Rattle.std.proofs.lemmas.Bool.{eq-eqb}
-use Rattle.vm_core.specs.Prelude.{FrameIsAt, FrameOnce, Free, Inv, Mapped, Nowhere, State, Told, World}
-use Rattle.vm_core.specs.{Inv.Place, Inv.Place.Held, Told.StandsAt}
-use Rattle.vm_laws_frame.proofs.Places.{free-place, held-place, mapped-place}
+use Rattle.vm_core.specs.Inv.{Place}
+use Rattle.vm_rule.proofs.Prelude.{eq-eqb, FrameIsAt, FrameOnce, Free, free-place, Held, held-place, Inv, Mapped, mapped-place, Nowhere, refl}
+use Rattle.vm_rule.proofs.Prelude.{StandsAt, State, subst, sym, Told, World, ℕ, ◌<◌, ◌∙◌, ◌≡◌}
 
 at-place : (c : State) (f : ℕ) (x : Place) → f < c.shape.frames → FrameIsAt c f x → StandsAt c f x
 at-place c f Nowhere lt i = i.inside lt

@@ -1,11 +1,10 @@
 -- What is read off the views, after one of them changed.
-use Rattle.std.proofs.Common.{[], ◌+◌, ◌<◌, ◌||◌, ◌∙◌, ◌∷◌, ◌≡◌, ap, arith, Bool, length, List, Option, refl, slice_set, suc, sym, zero, ℕ}
 use mathlib.Core.Option as maybe
-use mathlib.Core.Path.{fun_ext}
-use Rattle.vm_core.specs.Prelude.{at, get_elem?, some, some-injective, upd}
+use Rattle.atomic_table.proofs.Lists.{at_set as view_set}
 use Rattle.vm_core.proofs.At.{at_set}
-use Rattle.vm_rule.specs.Prelude.{any, block_of, home, known, out_of, out_or, spent, Stored, total}
-use Rattle.vm_rule.specs.declared.view.View.{View}
+use Rattle.vm_rule.proofs.Prelude.{[], any, ap, arith, at, block_of, Bool, fun_ext, get_elem?, home, known, length, List, Option, out_of, out_or}
+use Rattle.vm_rule.proofs.Prelude.{refl, slice_set, some, some-injective, spent, Stored, subst, suc, sym, total, upd, upd-keeps, View, zero, ℕ}
+use Rattle.vm_rule.proofs.Prelude.{⊎_elim, ◌+◌, ◌<◌, ◌||◌, ◌∙◌, ◌∷◌, ◌≡◌, ◌≢◌}
 
 pub at-bound : {A : Type 0} (l : List A) (i : ℕ) (a : A) → get_elem? l i ≡ some a → i < length l
 at-bound [] i a e = absurd (maybe.some-ne-none a (sym e))
@@ -19,10 +18,18 @@ at-there d [] i a e = absurd (maybe.some-ne-none a (sym e))
 at-there d (x ∷ xs) zero a e = some-injective x a e
 at-there d (x ∷ xs) (suc i) a e = at-there d xs i a e
 
+-- what each element says, each says where one is replaced by one that says it
+pub set-each : {A : Type 0} (P : A → Type 0) (l : List A) (i : ℕ) (b : A) → P b → ((j : ℕ) (a : A) → j ≢ i → get_elem? l j ≡ some a → P a) → (j : ℕ) (a : A) → get_elem? (slice_set l i b) j ≡ some a → P a
+set-each P l i b here there j a e = ⊎_elim (λ t. subst P t.1 here) (λ t. there j a t.0 t.1) (view_set l i j b a e)
+
 module _ {X : Type 0} where
   -- the views as a function, after one of them changed
   pub views-set : (views : List (View X)) (id : ℕ) (v w : View X) → get_elem? views id ≡ some v → at spent (slice_set views id w) ≡ upd (at spent views) id w
   views-set views id v w at = at_set spent views id w (at-bound views id v at)
+
+  -- what the new view has as the old one had it, every view has as before
+  pub field-still : {A : Type 0} (f : View X → A) (views : List (View X)) (id : ℕ) (v w : View X) → get_elem? views id ≡ some v → f w ≡ f v → (a : ℕ) → f (at spent (slice_set views id w) a) ≡ f (at spent views a)
+  field-still f views id v w there e a = ap (λ h. f (h a)) (views-set views id v w there) ∙ upd-keeps f (at spent views) id w (e ∙ ap f (sym (at-there spent views id v there))) a
 
   pub total-set : (f : View X → ℕ) (views : List (View X)) (id : ℕ) (v w : View X) → get_elem? views id ≡ some v → total f (slice_set views id w) + f v ≡ total f views + f w
   total-set f [] id v w e = absurd (maybe.some-ne-none v (sym e))

@@ -1,13 +1,9 @@
 -- The words that the steps of a pass found and left on a state word or on the next word tell of the table's words from then on.
-use Rattle.std.proofs.Common.{⊎_elim, ◌<◌, ◌∙◌, ◌≡◌, ◌≢◌, ◌≤◌, ap, arith, None, Option, Some, sym, true, true≢false, ℕ}
-use Rattle.std.proofs.lemmas.Bool.{cases_Bool}
-use Rattle.std.proofs.lemmas.Bool.Decides.{nat_tests}
-use Rattle.vm_core.specs.Prelude.{EVICTED, is_readable, LOCKED, Page, state_of, version_of, World}
-use Rattle.vm_laws_others.specs.Leaves.{PageMoves}
-use Rattle.vm_rule.specs.Prelude.{at_next, at_state, core_shown, index_of, IsFoundAt, Stored, Table, WasNext, WasWord, WereWords, Within}
-use Rattle.vm_rule.specs.{declared.view.Did.Did, declared.view.Origin.Origin, declared.view.Place.Place, declared.view.View.View}
-use Rattle.vm_rule.specs.declared.view.Place.TheVariants.{Bundle, Content, Fault, Hand, Next, State, Translation}
+use Rattle.vm_rule.specs.declared.view.Place.TheVariants.{State}
 use Rattle.vm_rule.proofs.Found.{next-here, state-here, version-here}
+use Rattle.vm_rule.proofs.Prelude.{ap, arith, at_next, at_state, cases_Bool, core_shown, Did, EVICTED, index_of, is_readable, IsFoundAt, LOCKED}
+use Rattle.vm_rule.proofs.Prelude.{nat_tests, Next, None, Option, Origin, Page, PageMoves, Place, Some, state_of, Stored, sym, Table, true}
+use Rattle.vm_rule.proofs.Prelude.{true≢false, version_of, View, WasNext, WasWord, WereWords, Within, World, ℕ, ⊎_elim, ◌<◌, ◌∙◌, ◌≡◌, ◌≢◌, ◌≤◌}
 
 readable-free : (state : ℕ) → is_readable state ≡ true → (state ≢ LOCKED) × (state ≢ EVICTED)
 readable-free state e = ((λ l. grind (arith, nat_tests, e, l)), (λ l. grind (arith, nat_tests, e, l)))
@@ -39,30 +35,16 @@ next-moves : (next next' : ℕ) → next ≤ next' → (word : Option ℕ) → W
 next-moves next next' up None was = tt
 next-moves next next' up (Some word) was = omega arith
 
-at_state-map : (at : Place) (P Q : ℕ → Type 0) → ((p : ℕ) → P p → Q p) → at_state at P → at_state at Q
-at_state-map (State p) P Q f x = f p x
-at_state-map (Translation p) P Q f x = tt
-at_state-map (Fault p) P Q f x = tt
-at_state-map (Content g i) P Q f x = tt
-at_state-map (Bundle g) P Q f x = tt
-at_state-map Next P Q f x = tt
-at_state-map Hand P Q f x = tt
-
-at_next-map : (at : Place) (P Q : Type 0) → (P → Q) → at_next at P → at_next at Q
-at_next-map (State p) P Q f x = tt
-at_next-map (Translation p) P Q f x = tt
-at_next-map (Fault p) P Q f x = tt
-at_next-map (Content g i) P Q f x = tt
-at_next-map (Bundle g) P Q f x = tt
-at_next-map Next P Q f x = f x
-at_next-map Hand P Q f x = tt
+were-at : (w w' : World) → ((p : ℕ) → PageMoves (w.core.pages p) (w'.core.pages p)) → ((p : ℕ) → (w.core.pages p).state ≤ EVICTED) → w.core.next ≤ w'.core.next → (at : Place) (found wrote : Option ℕ)
+    → at_state at (λ p. WasWord (w.core.pages p) found × WasWord (w.core.pages p) wrote) × at_next at (WasNext w.core.next found × WasNext w.core.next wrote)
+    → at_state at (λ p. WasWord (w'.core.pages p) found × WasWord (w'.core.pages p) wrote) × at_next at (WasNext w'.core.next found × WasNext w'.core.next wrote)
+were-at w w' moves known up (State p) found wrote x = ((word-moves (w.core.pages p) (w'.core.pages p) (moves p) (known p) found x.0.0, word-moves (w.core.pages p) (w'.core.pages p) (moves p) (known p) wrote x.0.1), tt)
+were-at w w' moves known up Next found wrote x = (tt, (next-moves w.core.next w'.core.next up found x.1.0, next-moves w.core.next w'.core.next up wrote x.1.1))
+were-at w w' moves known up at found wrote x = (tt, tt)
 
 -- what was a word of the table was one after an event too
 pub were-moves : (w w' : World) → ((p : ℕ) → PageMoves (w.core.pages p) (w'.core.pages p)) → ((p : ℕ) → (w.core.pages p).state ≤ EVICTED) → w.core.next ≤ w'.core.next → (d : Did) → WereWords w d → WereWords w' d
-were-moves w w' moves known up d x = (
-  at_state-map d.at _ _ (λ p y. (word-moves (w.core.pages p) (w'.core.pages p) (moves p) (known p) d.found y.0, word-moves (w.core.pages p) (w'.core.pages p) (moves p) (known p) d.wrote y.1)) x.0,
-  at_next-map d.at _ _ (λ y. (next-moves w.core.next w'.core.next up d.found y.0, next-moves w.core.next w'.core.next up d.wrote y.1)) x.1,
-)
+were-moves w w' moves known up d x = were-at w w' moves known up d.at d.found d.wrote x
 
 module _ {X B : Type 0} (stored : B → Stored) (start : Origin) where
   -- the word that stands at a page's place
@@ -83,9 +65,5 @@ module _ {X B : Type 0} (stored : B → Stored) (start : Origin) where
       → at_state at (λ p. WasWord ((core_shown stored start s').pages p) found × WasWord ((core_shown stored start s').pages p) wrote) × at_next at (WasNext (core_shown stored start s').next found × WasNext (core_shown stored start s').next wrote)
   were-did s s' moves known up (State p) found wrote l e e' =
       ((word-moves ((core_shown stored start s).pages p) ((core_shown stored start s').pages p) (moves p) (known p) found (was-word s p l found e), was-word s' p l wrote e'), tt)
-  were-did s s' moves known up (Translation p) found wrote l e e' = (tt, tt)
-  were-did s s' moves known up (Fault p) found wrote l e e' = (tt, tt)
-  were-did s s' moves known up (Content f i) found wrote l e e' = (tt, tt)
-  were-did s s' moves known up (Bundle g) found wrote l e e' = (tt, tt)
   were-did s s' moves known up Next found wrote l e e' = (tt, (next-moves (core_shown stored start s).next (core_shown stored start s').next up found (was-next s found e), was-next s' wrote e'))
-  were-did s s' moves known up Hand found wrote l e e' = (tt, tt)
+  were-did s s' moves known up at found wrote l e e' = (tt, tt)

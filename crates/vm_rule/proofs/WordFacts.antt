@@ -1,11 +1,8 @@
 -- Words of the table as numbers: a state word is its state and its version, a translation word its frame and its dirty bit. None of these
 -- asks that the word is below 2^64.
-use Rattle.std.proofs.Common.{⊎_elim, ◌%◌, ◌*◌, ◌+◌, ◌-◌, ◌/◌, ◌<◌, ◌^◌, ◌∙◌, ◌≡◌, ◌≢◌, ◌≤◌, ap, arith, div-add-mod', false, None, refl, Some, sym}
-use Rattle.std.proofs.Common.{true, ℕ}
-use Rattle.std.proofs.lemmas.Bool.{and_from, cases_Bool, eq-eqb}
-use Rattle.vm_core.specs.Prelude.{finds, frame_in, mapping_of, MAX_VERSION, Page, state_of, UNLOCKED, version_of, word_of}
-use Rattle.vm_core.proofs.PageFacts.{found}
-use Rattle.vm_core.proofs.WordBits.{frame-of, top-clear, top-set}
+use Rattle.vm_rule.proofs.Prelude.{and_from, ap, arith, cases_Bool, div-add-mod', eq-eqb, false, finds, found, frame-of, frame_in, mapping_of}
+use Rattle.vm_rule.proofs.Prelude.{MAX_VERSION, None, Page, refl, Some, state_of, sym, top-clear, top-set, true, UNLOCKED, version_of, word_of, ℕ}
+use Rattle.vm_rule.proofs.Prelude.{⊎_elim, ◌%◌, ◌*◌, ◌+◌, ◌-◌, ◌/◌, ◌<◌, ◌^◌, ◌∙◌, ◌≡◌, ◌≢◌, ◌≤◌}
 
 -- a word is its state and its version
 pub word-is : (n m : ℕ) → state_of n ≡ state_of m → version_of n ≡ version_of m → n ≡ m
@@ -29,11 +26,6 @@ pub version-within : (n : ℕ) → version_of n ≤ MAX_VERSION
 unfolding version_of
 version-within n = omega arith
 
--- a word of 64 bits has a state of 8
-pub state-within : (n : ℕ) → n < 18446744073709551616 → state_of n < 256
-unfolding state_of
-state-within n l = omega arith
-
 -- one share less
 pub less-state : (n : ℕ) → 1 ≤ state_of n → state_of (n - 2 ^ 56) ≡ state_of n - 1
 unfolding state_of
@@ -42,15 +34,6 @@ less-state n l = omega arith
 pub less-version : (n : ℕ) → 1 ≤ state_of n → version_of (n - 2 ^ 56) ≡ version_of n
 unfolding state_of version_of
 less-version n l = omega arith
-
--- one share more
-pub more-state : (n : ℕ) → state_of (n + 2 ^ 56) ≡ state_of n + 1
-unfolding state_of
-more-state n = omega arith
-
-pub more-version : (n : ℕ) → version_of (n + 2 ^ 56) ≡ version_of n
-unfolding version_of
-more-version n = omega arith
 
 -- an unlocked word is its version
 pub bare-state : (n : ℕ) → n ≤ MAX_VERSION → state_of n ≡ UNLOCKED

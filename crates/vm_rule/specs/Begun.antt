@@ -17,7 +17,10 @@ no_shape =
       frames = 0;
       version = 0;
       next = 0;
-      began = record { origin = record { tells = false; pages = 0; frames = 0; version = 0; next = 0; contents = []; bounds = [] }; snapshot = record { words = []; blocks = [] } };
+      began = record {
+        origin = record { tells = false; pages = 0; frames = 0; version = 0; next = 0; contents = []; bounds = [] };
+        snapshot = record { words = []; blocks = [] };
+      };
     }
 
 -- the table began with this shape, and just so
@@ -48,4 +51,5 @@ module _ {X : Type 0} where
       pub is_shape : HasShape shape start
       pub rule :
           Ruled stored keeps tied start tells s
-          ⊎ ((s.views ≡ unborn shape ∷ []) × Ruled stored keeps tied start tells (record s { views = first_view start ∷ [] }) × (snapshot_of stored start s ≡ shape.began.snapshot))
+          ⊎ ((s.views ≡ unborn shape ∷ []) × Ruled stored keeps tied start tells (record s { views = first_view start ∷ [] })
+          × (snapshot_of stored start s ≡ shape.began.snapshot))

@@ -1,10 +1,10 @@
 -- Where each word of the table stands: P state words, P translation words, P fault words, 64 words for each frame, a word for each
--- bundle of 64 frames, the next word, the hand word.
+-- bundle of 64 frames, the next word, the hand word, an owner word for each frame.
 use Rattle.std.specs.Prelude.{◌*◌, ◌+◌, ◌-◌, ◌/◌, ◌<◌, if◌then◌else◌, List, nat_lt, ℕ}
 use Rattle.vm_core.specs.Prelude.{at, upd, WORDS}
 use Rattle.vm_core.specs.declared.words.TheConstants.{FRAMES}
 use Rattle.vm_rule.specs.{declared.view.Origin.Origin, declared.view.Place.Place}
-use Rattle.vm_rule.specs.declared.view.Place.TheVariants.{Bundle, Content, Fault, Hand, Next, State, Translation}
+use Rattle.vm_rule.specs.declared.view.Place.TheVariants.{Bundle, Content, Fault, Hand, Next, Owner, State, Translation}
 
 -- the bundles of 64 frames
 abbrev pub bundles_of : ℕ → ℕ
@@ -22,30 +22,21 @@ index_of start (Content f i) = 3 * start.pages + (WORDS * f + i)
 index_of start (Bundle g) = 3 * start.pages + WORDS * start.frames + g
 index_of start Next = 3 * start.pages + WORDS * start.frames + bundle_count start
 index_of start Hand = 3 * start.pages + WORDS * start.frames + bundle_count start + 1
+index_of start (Owner f) = 3 * start.pages + WORDS * start.frames + bundle_count start + 2 + f
 
 -- what is said of page p, if the place is its state word
 abbrev pub at_state : Place → (ℕ → Type 0) → Type 0
 at_state (State p) P = P p
-at_state (Translation p) P = Unit {0}
-at_state (Fault p) P = Unit {0}
-at_state (Content f i) P = Unit {0}
-at_state (Bundle g) P = Unit {0}
-at_state Next P = Unit {0}
-at_state Hand P = Unit {0}
+at_state w P = Unit {0}
 
 -- what is said of the next word, if the place is its
 abbrev pub at_next : Place → Type 0 → Type 0
-at_next (State p) P = Unit {0}
-at_next (Translation p) P = Unit {0}
-at_next (Fault p) P = Unit {0}
-at_next (Content f i) P = Unit {0}
-at_next (Bundle g) P = Unit {0}
 at_next Next P = P
-at_next Hand P = Unit {0}
+at_next w P = Unit {0}
 
 -- how many words the table has
 abbrev pub width_of : ℕ → ℕ → ℕ
-width_of pages frames = 3 * pages + WORDS * frames + bundles_of frames + 2
+width_of pages frames = 3 * pages + WORDS * frames + bundles_of frames + 2 + frames
 
 -- how many words a table has
 abbrev pub width : Origin → ℕ
@@ -60,6 +51,7 @@ Within start (Content f i) = (f < start.frames) × (i < WORDS)
 Within start (Bundle g) = g < bundle_count start
 Within start Next = Unit {0}
 Within start Hand = Unit {0}
+Within start (Owner f) = f < start.frames
 
 -- the n words from base on, as a function
 unfoldable pub part : ℕ → ℕ → List ℕ → ℕ → ℕ
@@ -74,6 +66,7 @@ pub record Words : Type 0 where
   pub bundles : ℕ → ℕ
   pub next : ℕ
   pub hand : ℕ
+  pub owners : ℕ → ℕ
 
 -- the words of a table, by what they are
 abbrev pub table_words : Origin → List ℕ → Words
@@ -86,6 +79,7 @@ table_words start words =
       bundles = part (3 * start.pages + WORDS * start.frames) (bundle_count start) words;
       next = at 0 words (index_of start Next);
       hand = at 0 words (index_of start Hand);
+      owners = part (3 * start.pages + WORDS * start.frames + bundle_count start + 2) start.frames words;
     }
 
 -- one word is with_word
@@ -97,3 +91,4 @@ with_word r (Content f i) x = record r { contents = upd r.contents (WORDS * f + 
 with_word r (Bundle g) x = record r { bundles = upd r.bundles g x }
 with_word r Next x = record r { next = x }
 with_word r Hand x = record r { hand = x }
+with_word r (Owner f) x = record r { owners = upd r.owners f x }

@@ -3,7 +3,7 @@ use Rattle.std.specs.Prelude.{[], ◌++◌, ◌<◌, ◌==◌, ◌∷◌, ◌≡
 use Rattle.vm_core.specs.Prelude.{EVICTED, frame_of, is_readable, kept_loads, left_open, LoadsAre, mapping_of, MARKED, open_after, open_frame}
 use Rattle.vm_core.specs.Prelude.{state_of, UNLOCKED, version_of, WORDS}
 use Rattle.vm_core.specs.{declared.event.Open.Open, declared.event.ReadIs.ReadIs}
-use Rattle.vm_core.specs.declared.event.ReadIs.TheVariants.{Closed, Moved, Opened, Same}
+use Rattle.vm_core.specs.declared.event.ReadIs.TheVariants.{Closed, Same}
 use Rattle.vm_owner.specs.Kept.{Start}
 use Rattle.vm_rule.specs.{Brought.Brings, Brought.entries_of, declared.view.Did.Did, declared.view.Tie.Tie, declared.view.View.View, Layout.at_state}
 use Rattle.vm_rule.specs.{Log.did_load, Puts.put, Reading.last_of, Rule.began_of}
@@ -17,9 +17,7 @@ left_at found o = if is_readable (state_of found) then left_open o (version_of f
 -- x where the read stays, else y
 abbrev pub where_same : {A : Type 0} → ReadIs → A → A → A
 where_same Same x y = x
-where_same Opened x y = y
-where_same Moved x y = y
-where_same Closed x y = y
+where_same left x y = y
 
 -- the seat has an open read of page p: it is tied to the words of page r
 abbrev pub tie_of : ℕ → List ℕ → ℕ → Option Open → List Tie

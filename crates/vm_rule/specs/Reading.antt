@@ -32,7 +32,7 @@ page_from r blocks seats p =
 unfoldable pub pages_from : ℕ → Words → (ℕ → Stored) → (ℕ → ℕ → Seat) → ℕ → Page
 pages_from pages r blocks seats p = if nat_lt p pages then page_from r blocks seats p else outside_page
 
--- the core state; its actors are the passes; no frame is said to be a page's, as the table has no owner words
+-- the core state; its actors are the passes
 abbrev pub core_from : Origin → ℕ → Words → (ℕ → Stored) → (ℕ → ℕ → Seat) → (ℕ → ℕ → Bool) → State
 core_from start actors r blocks seats held =
     record {
@@ -44,7 +44,7 @@ core_from start actors r blocks seats held =
       held = held;
       next = r.next;
       hand = r.hand;
-      owners = λ f. 0;
+      owners = r.owners;
     }
 
 -- ---- versions
@@ -54,7 +54,10 @@ abbrev pub first_history : Origin → ℕ → History
 first_history start p =
     record {
       older = [];
-      last = record { version = if nat_lt p start.pages then start.version else 0; words = if nat_lt p start.pages then at (replicate WORDS 0) start.contents p else replicate WORDS 0 };
+      last = record {
+        version = if nat_lt p start.pages then start.version else 0;
+        words = if nat_lt p start.pages then at (replicate WORDS 0) start.contents p else replicate WORDS 0;
+      };
       draft = [];
     }
 

@@ -44,8 +44,10 @@ pub record KnowsPage (seat : Seat) (h : Held) (r : Page) : Type 0 where
 abbrev pub TranslationHolds : (ℕ → Page) → Translation → Type 0
 TranslationHolds pages t =
     (t.version ≤ (pages t.page).version)
-    × (t.version ≡ (pages t.page).version → (pages t.page).state ≢ LOCKED → (pages t.page).state ≢ EVICTED → frame_of (mapping_of t.word) ≡ frame_of (pages t.page).trans)
-    × (t.version ≡ (pages t.page).version → (pages t.page).state ≢ LOCKED → (pages t.page).state ≢ EVICTED → stands_dirty (pages t.page).trans ≡ true → stands_dirty (mapping_of t.word) ≡ true)
+    × (t.version ≡ (pages t.page).version → (pages t.page).state ≢ LOCKED → (pages t.page).state ≢ EVICTED
+    → frame_of (mapping_of t.word) ≡ frame_of (pages t.page).trans)
+    × (t.version ≡ (pages t.page).version → (pages t.page).state ≢ LOCKED → (pages t.page).state ≢ EVICTED → stands_dirty (pages t.page).trans ≡ true
+    → stands_dirty (mapping_of t.word) ≡ true)
 
 -- the word was the page's once: the page's version is no lower; where the word said that it can't be read, it can't be at that version; and
 -- at that version it is evicted only where the word said so

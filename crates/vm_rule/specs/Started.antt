@@ -1,5 +1,5 @@
 -- The opening of a pool's table: every page is evicted, with its words in its block; every frame is free; every block is at home.
-use Rattle.std.specs.Prelude.{[], ◌*◌, ◌++◌, ◌<◌, ◌∷◌, ◌≡◌, ◌≤◌, Bool, if◌then◌else◌, length, List, map, replicate, ℕ}
+use Rattle.std.specs.Prelude.{◌*◌, ◌++◌, ◌<◌, ◌∷◌, ◌≡◌, ◌≤◌, Bool, if◌then◌else◌, length, List, map, replicate, ℕ}
 use Rattle.vm_block.specs.declared.stored.Stored.{Stored}
 use Rattle.vm_core.specs.Prelude.{EVICTED, full_bundle, MAX_VERSION, page_at, word_of, WORDS}
 use Rattle.vm_owner.specs.Kept.{first_kept, Kept, Start}
@@ -21,17 +21,25 @@ block_words blocks = map (λ (b : Stored). b.words) blocks
 abbrev pub contents_of : Bool → List Stored → List (List ℕ)
 contents_of tells blocks = map (λ (b : Stored). if tells then b.words else replicate WORDS 0) blocks
 
--- the table's words: those of the states, of the translations, of the faults, of the frames, of the bundles, the next word and the hand
+-- the table's words: those of the states, of the translations, of the faults, of the frames, of the bundles, the next word, the hand, the owner words
 abbrev pub started_words : ℕ → ℕ → ℕ → ℕ → List ℕ → List ℕ
 started_words pages frames version next counts =
     listed pages (λ p. word_of EVICTED version) ++
     (listed pages (λ p. 0) ++ (counts ++ (listed (WORDS * frames) (λ i. 0) ++
-    (listed (bundles_of frames) (full_bundle frames) ++ (next ∷ (0 ∷ []))))))
+    (listed (bundles_of frames) (full_bundle frames) ++ (next ∷ (0 ∷ listed frames (λ f. 0)))))))
 
 -- how the table began, with what its blocks hold
 abbrev pub started_origin : Bool → ℕ → ℕ → ℕ → List Stored → Origin
 started_origin tells version next frames blocks =
-    record { tells = tells; pages = length blocks; frames = frames; version = version; next = next; contents = contents_of tells blocks; bounds = bounds_of blocks }
+    record {
+      tells = tells;
+      pages = length blocks;
+      frames = frames;
+      version = version;
+      next = next;
+      contents = contents_of tells blocks;
+      bounds = bounds_of blocks;
+    }
 
 -- its first words and blocks; its shape with both
 abbrev pub started_snapshot : ℕ → ℕ → ℕ → List Stored → Snapshot

@@ -72,7 +72,7 @@ pub(crate) fn evicted_words<B: Block>(
 {
     let pages = blocks.len();
     let count = frames as usize;
-    let mut words = Vec::with_capacity(alloc, 3 * pages + (WORDS + 1) * count + 2)?;
+    let mut words = Vec::with_capacity(alloc, 3 * pages + (WORDS + 2) * count + 2)?;
     push_same(
         &mut words,
         pages,
@@ -84,6 +84,7 @@ pub(crate) fn evicted_words<B: Block>(
     push_bundles(&mut words, count)?;
     words.push(next as u64)?;
     words.push(0)?;
+    push_same(&mut words, count, 0)?;
     Ok(words)
 }
 

@@ -91,6 +91,8 @@ pub enum Place {
     Bundle(u64),
     Next,
     Hand,
+    /// The owner word of a frame.
+    Owner(u64),
 }
 
 /// One step of the pass on a word: what it expected, the word found, the word left there. A load leaves none, a store finds none.

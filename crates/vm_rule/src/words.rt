@@ -8,6 +8,7 @@ use crate::view::{Shape, View};
 use atomic_table::{Badge, Closed, Table, TableRule};
 use std::alloc::Global;
 use std::marker::PhantomData;
+use std::snapshot::Snapshot;
 use vm_block::Block;
 use vm_owner::Owner;
 
@@ -33,6 +34,9 @@ pub struct Words<U: Owner, B: Block> {
     pub ghost wide: { (table.shared.table_id.words ≡ width_of table.shared.key.pages table.shared.key.frames) ×
         (table.shared.table_id.slots ≡ table.shared.key.pages) },
 }
+
+/// What a pass knew at some time, for proofs. It has no bytes.
+pub type Knew<X> = Snapshot<Badge<View<X>>>;
 
 /// A caller's token: what it knows and holds of one table. It has no bytes.
 pub struct Pass<U: Owner> {
@@ -66,6 +70,13 @@ impl<U: Owner, B: Block> Words<U, B> {
 }
 
 impl<U: Owner> Pass<U> {
+    /// What the pass knows now, for proofs.
+    pub fn knew(&self) -> Knew<U::Said>
+        ensures { result.value ≡ self.now.badge }
+    {
+        Snapshot::of(&self.badge)
+    }
+
     /// The token without what is known of it.
     pub fn into_badge(self) -> Badge<View<U::Said>>
         ensures { result ≡ self.badge }

@@ -1,5 +1,4 @@
-use Rattle.vm_core.specs.Prelude.{begin}
-use Rattle.vm_rule.proofs.{Runs.run_law, Starts.start_law}
+use Rattle.vm_rule.proofs.{Prelude.begin, Runs.run_law, Starts.start_law}
 use Rattle.vm_rule.proofs.runs_keep.Goals as goal
 
 pub returns : goal.returns

@@ -1,5 +1,4 @@
-use Rattle.std.proofs.Common.{◌++◌, ◌≡◌, map, take}
-use Rattle.vm_rule.specs.Prelude.{counts_of}
+use Rattle.vm_rule.proofs.Prelude.{counts_of, map, take, ◌++◌, ◌≡◌}
 use Rattle.vm_rule.proofs.opening.push_faults.Given as goal
 
 abbrev pub invariant-loop-block : goal.invariant-loop-block

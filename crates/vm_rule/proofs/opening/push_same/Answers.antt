@@ -1,5 +1,4 @@
-use Rattle.std.proofs.Common.{refl}
-use Rattle.vm_rule.proofs.ListFacts.{listed-none, pushed-listed}
+use Rattle.vm_rule.proofs.{ListFacts.listed-none, ListFacts.pushed-listed, Prelude.refl}
 use Rattle.vm_rule.proofs.opening.push_same.Goals as goal
 
 pub loop-i-init : goal.loop-i-init

@@ -1,5 +1,4 @@
-use Rattle.std.proofs.Common.{◌++◌, ◌≡◌}
-use Rattle.vm_rule.specs.Prelude.{listed}
+use Rattle.vm_rule.proofs.Prelude.{listed, ◌++◌, ◌≡◌}
 use Rattle.vm_rule.proofs.opening.push_same.Given as goal
 
 abbrev pub invariant-loop-i : goal.invariant-loop-i

@@ -1,4 +1,4 @@
-use Rattle.std.proofs.Common.{◌≡◌, map, Some}
+use Rattle.vm_rule.proofs.Prelude.{map, Some, ◌≡◌}
 use Rattle.vm_rule.proofs.opening.slots_of.Given as goal
 
 abbrev pub invariant-loop-block : goal.invariant-loop-block

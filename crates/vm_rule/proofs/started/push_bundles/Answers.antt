@@ -1,6 +1,5 @@
-use Rattle.std.proofs.Common.{◌*◌, ◌-◌, ◌^◌, ◌∙◌, ◌≡◌, ap, arith, min}
-use Rattle.vm_core.specs.Prelude.{full_bundle}
 use Rattle.vm_rule.proofs.ListFacts.{listed-none, pushed-listed}
+use Rattle.vm_rule.proofs.Prelude.{ap, arith, full_bundle, min, ◌*◌, ◌-◌, ◌^◌, ◌∙◌, ◌≡◌}
 use Rattle.vm_rule.proofs.started.push_bundles.Goals as goal
 
 pub loop-g-init : goal.loop-g-init

@@ -1,6 +1,4 @@
-use Rattle.std.proofs.Common.{◌++◌, ◌≡◌}
-use Rattle.vm_core.specs.Prelude.{full_bundle}
-use Rattle.vm_rule.specs.Prelude.{listed}
+use Rattle.vm_rule.proofs.Prelude.{full_bundle, listed, ◌++◌, ◌≡◌}
 use Rattle.vm_rule.proofs.started.push_bundles.Given as goal
 
 abbrev pub invariant-loop-g : goal.invariant-loop-g

@@ -1,5 +1,4 @@
-use Rattle.std.proofs.Common.{map}
-use Rattle.vm_rule.specs.Prelude.{started_shape}
+use Rattle.vm_rule.proofs.Prelude.{map, started_shape}
 use Rattle.vm_rule.proofs.words.Words.started.Given as goal
 
 abbrev pub ghost-shape_of : goal.ghost-shape_of
