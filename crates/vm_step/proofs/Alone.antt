@@ -1,13 +1,9 @@
 -- The steps of a pass that is alone, one after another: each finds the word that the step before left.
-use Rattle.std.proofs.Common.{[], ⊎_elim, ◌++◌, ◌∙◌, ◌∷◌, ◌≡◌, ◌≢◌, ◌⊎◌, ap, append_assoc, arith, inl, inr, length, List, None, Option, refl}
-use Rattle.std.proofs.Common.{slice_index, Some, subst, sym, true, ℕ}
-use Rattle.std.proofs.lemmas.List.{get_or-set_other}
-use Rattle.std.proofs.lemmas.Option.{none-some}
-use Rattle.vm_rule.specs.Prelude.{BringsWith, Each, Entry, index_of, IsFoundAt, last_in, set_if, Stored, width, Within}
-use Rattle.vm_rule.specs.declared.view.Place.{Place}
-use Rattle.vm_rule.proofs.{Entries.append-none, Heard.each-both}
-use Rattle.vm_step.specs.Prelude.{Did, Follows, IsAlone, known_word_at, Origin, Release, RunsAlone, StaysAlone, View}
 use Rattle.vm_step.proofs.Asides.{whole-then}
+use Rattle.vm_step.proofs.Prelude.{[], ap, append-none, append_assoc, arith, BringsWith, Did, Each, each-both, Entry, Follows, get_or-set_other}
+use Rattle.vm_step.proofs.Prelude.{index_of, inl, inr, IsAlone, IsFoundAt, known_word_at, last_in, length, List, None, none-some, Option, Origin}
+use Rattle.vm_step.proofs.Prelude.{Place, refl, Release, RunsAlone, set_if, slice_index, Some, StaysAlone, Stored, subst, sym, true, View, width}
+use Rattle.vm_step.proofs.Prelude.{Within, ℕ, ⊎_elim, ◌++◌, ◌∙◌, ◌∷◌, ◌≡◌, ◌≢◌, ◌⊎◌}
 
 pub follows-then : (start : Origin) (a b : List Did) (x y z : List ℕ) → Follows start a x y → Follows start b y z → Follows start (a ++ b) x z
 follows-then start [] b x y z f g = subst (λ (t : List ℕ). Follows start b t z) f g

@@ -1,29 +1,13 @@
--- Calls that say nothing and change no lock, one after another, and the steps of such calls that change nothing of the view but open reads: a look,
--- a mark set or taken away, a load of a translation word, of a word of a frame or of a bundle, the hand.
-use Rattle.std.proofs.Common.{[], ⊎_elim, ◌++◌, ◌+◌, ◌==◌, ◌∙◌, ◌∷◌, ◌≡◌, ◌≢◌, ◌≤◌, ap, append_assoc, eqb, if◌then◌else◌, inl, inr, List, None}
-use Rattle.std.proofs.Common.{Option, refl, subst, sym, ℕ}
-use Rattle.std.proofs.lemmas.Bool.{cases_eq, cond-false, eq-eqb, ne_eqb}
-use Rattle.vm_core.specs.Prelude.{framed, hand_more, History, kept_loads, mapping_of, no_seat, open_after, version_of}
-use Rattle.vm_core.specs.declared.event.ReadIs.TheVariants as read
-use Rattle.vm_core.proofs.Upd.{upd-keeps, upd-other}
-use Rattle.vm_rule.specs.Prelude.{after_releases, Brings, BringsWith, did_change, did_exchange, did_load, draft_of, entries_of, Entry, first_history}
-use Rattle.vm_rule.specs.Prelude.{HandTold, held_at, IsLocking, IsWhole, last_in, last_of, left_at, loads_at, LookTold, MarkTold, Open, pushed, put}
-use Rattle.vm_rule.specs.Prelude.{put_at, ReadIs, Seat, seat_of, Start, StartsWith, Stored, ties_below, times, TranslationTold, where_same}
-use Rattle.vm_rule.specs.{Loads.tloaded_view, Looks.looked_view}
-use Rattle.vm_rule.specs.declared.view.Place.TheVariants as places
-use Rattle.vm_rule.proofs.Entries.{append-none}
-use Rattle.vm_step.specs.Prelude.{Did, HoldsPage, IsAsideOf, KeepsFrames, KnowsAsBefore, ReadsAsBefore, Release, StaysAlone, Tie, View}
+-- Calls that say nothing and change no lock, one after another; `OnlyReads` is what the steps of such calls leave that change nothing of the view but
+-- open reads. The files of the kinds of steps say which do.
+use Rattle.vm_step.proofs.Prelude.{[], after_releases, ap, append-none, append_assoc, BringsWith, cases_eq, Did, Entry, eq-eqb, first_history}
+use Rattle.vm_step.proofs.Prelude.{History, HoldsPage, if◌then◌else◌, inl, inr, IsAsideOf, IsLocking, IsWhole, KeepsFrames, KnowsAsBefore, last_in}
+use Rattle.vm_step.proofs.Prelude.{last_of, List, ne_eqb, None, Option, pushed, ReadsAsBefore, refl, Release, seat_of, StartsWith, StaysAlone, Stored}
+use Rattle.vm_step.proofs.Prelude.{subst, sym, Tie, times, View, ℕ, ⊎_elim, ◌++◌, ◌+◌, ◌==◌, ◌∙◌, ◌∷◌, ◌≡◌, ◌≤◌}
 
 -- what begins with what begins with it
 pub starts-then : {A : Type 0} (k l m : List A) → StartsWith l k → StartsWith m l → StartsWith m k
 starts-then k l m a b = (a.0 ++ b.0, b.1 ∙ ap (λ (t : List _). t ++ b.0) a.1 ∙ append_assoc k a.0 b.0)
-
--- one choice of both
-same-both : {A : Type 0} (left : ReadIs) (x : A) → where_same left x x ≡ x
-same-both read.Same x = refl
-same-both read.Opened x = refl
-same-both read.Moved x = refl
-same-both read.Closed x = refl
 
 -- a release of page p with its last words leaves the words of every page
 after-same : (p q : ℕ) (h : History) (rs : List Release) (r : Release) → r.page ≡ p → (p ≡ q → r.words ≡ (after_releases q h rs).last.words) → (after_releases q h (rs ++ r ∷ [])).last.words ≡ (after_releases q h rs).last.words
@@ -73,24 +57,6 @@ module _ {X : Type 0} where
   alone-release did p version words entries v inner w b same kept =
       alone-step did None (record { page = p; version = version; words = words } ∷ []) entries v inner w b same
       (λ q. after-same p q (first_history v.start q) v.releases (record { page = p; version = version; words = words }) refl (λ e. kept ∙ ap (λ k. (last_of v k).words) e))
-
-  pub aside-self : (touched : ℕ → Type 0) (v : View X) → IsAsideOf touched [] v v
-  aside-self touched v = record {
-    log = sym (append-none v.log);
-    live = refl;
-    start = refl;
-    parts = (refl, refl);
-    mine = refl;
-    seen = ([], sym (append-none v.seen));
-    releases = ([], sym (append-none v.releases));
-    out = refl;
-    ties = ([], refl);
-    group = (refl, refl, refl);
-    holds = λ q. record { shares = refl; exclusive = refl; writing = refl };
-    knows = λ q l. record { held = refl; draft = refl; last = refl };
-    others = λ q ne. record { reading = refl; loads = refl };
-    alone = alone-self v;
-  }
 
   -- a page that the pass has locked is locked afterwards
   pub still-locking : (v w : View X) (q : ℕ) → HoldsPage v w q → IsLocking (seat_of v q) → IsLocking (seat_of w q)
@@ -153,166 +119,5 @@ module _ {X : Type 0} where
     pub aside : IsAsideOf touched done v w
     pub keeps : KeepsFrames v w
 
-  pub reads-self : (touched : ℕ → Type 0) (v : View X) → OnlyReads touched [] v v
-  reads-self touched v = record { aside = aside-self touched v; keeps = keeps-self v }
-
   pub only-then : (touched : ℕ → Type 0) (a b : List Did) (u v w : View X) → OnlyReads touched a u v → OnlyReads touched b v w → OnlyReads touched (a ++ b) u w
   only-then touched a b u v w f g = record { aside = aside-then touched a b u v w f.aside g.aside; keeps = keeps-then u v w f.keeps g.keeps }
-
-  -- ---- one step
-
-  -- the changes that a step of its own makes: of seats, reads alone; frames and notes may be others
-  pub record Rereads (touched : ℕ → Type 0) (v inner : View X) : Type 0 where
-    pub log : inner.log ≡ v.log
-    pub live : inner.live ≡ v.live
-    pub start : inner.start ≡ v.start
-    pub parts : (inner.used ≡ v.used) × (inner.fresh ≡ v.fresh)
-    pub mine : inner.mine ≡ v.mine
-    pub out : inner.out ≡ v.out
-    pub ties : (more : List Tie) × (inner.ties ≡ more ++ v.ties)
-    pub group : (inner.pending ≡ v.pending) × (inner.owed ≡ v.owed) × (inner.next ≡ v.next)
-    pub held : inner.held ≡ v.held
-    pub drafts : inner.drafts ≡ v.drafts
-    pub holds : (q : ℕ) → HoldsPage v inner q
-    pub others : (q : ℕ) → (touched q → ⊥) → ReadsAsBefore v inner q
-
-  module _ (touched : ℕ → Type 0) (did : Did) (block : Option (ℕ × Stored)) (entries : List (Entry X)) (v inner w : View X) (b : BringsWith did block [] entries v inner w) where
-    -- a step that releases no page leaves the last version of each page that the pass has locked
-    last-kept : inner.start ≡ v.start → (q : ℕ) → IsLocking (seat_of v q) → last_of w q ≡ last_of v q
-    last-kept same q l =
-        ap (λ (x : View X). last_in x.start x.releases q) b.view
-        ∙ ap (λ s. last_in s ((v.releases ++ b.between) ++ []) q) same
-        ∙ ap (λ (t : List Release). last_in v.start t q) (append-none (v.releases ++ b.between))
-        ∙ b.kept q l
-
-    pub aside-from : Rereads touched v inner → IsAsideOf touched (did ∷ []) v w
-    aside-from r = record {
-      log = ap (λ (x : View X). x.log) b.view ∙ ap (λ (t : List Did). t ++ did ∷ []) r.log;
-      live = ap (λ (x : View X). x.live) b.view ∙ r.live;
-      start = ap (λ (x : View X). x.start) b.view ∙ r.start;
-      parts = (ap (λ (x : View X). x.used) b.view ∙ r.parts.0, ap (λ (x : View X). x.fresh) b.view ∙ r.parts.1);
-      mine = ap (λ (x : View X). x.mine) b.view ∙ r.mine;
-      seen = (b.others ++ entries, ap (λ (x : View X). x.seen) b.view ∙ append_assoc v.seen b.others entries);
-      releases = (b.between ++ [], ap (λ (x : View X). x.releases) b.view ∙ append_assoc v.releases b.between []);
-      out = ap (λ (x : View X). x.out) b.view ∙ r.out;
-      ties = (r.ties.0, ap (λ (x : View X). x.ties) b.view ∙ r.ties.1);
-      group = (ap (λ (x : View X). x.pending) b.view ∙ r.group.0, ap (λ (x : View X). x.owed) b.view ∙ r.group.1, ap (λ (x : View X). x.next) b.view ∙ r.group.2);
-      holds = λ q. let e : seat_of w q ≡ seat_of inner q = ap (λ (x : View X). seat_of x q) b.view in record {
-        shares = ap (λ (s : Seat). s.shares) e ∙ (r.holds q).shares;
-        exclusive = ap (λ (s : Seat). s.exclusive) e ∙ (r.holds q).exclusive;
-        writing = ap (λ (s : Seat). s.writing) e ∙ (r.holds q).writing;
-      };
-      knows = λ q l. record {
-        held = ap (λ (x : View X). held_at x q) b.view ∙ ap (λ h. held_at (record v { held = h }) q) r.held;
-        draft = ap (λ (x : View X). draft_of x q) b.view ∙ ap (λ l. put_at [] l q) r.drafts;
-        last = last-kept r.start q l;
-      };
-      others = λ q ne. record {
-        reading = ap (λ (x : View X). (seat_of x q).reading) b.view ∙ (r.others q ne).reading;
-        loads = ap (λ (x : View X). loads_at x q) b.view ∙ (r.others q ne).loads;
-      };
-      alone = alone-silent did block entries v inner w b r.start;
-    }
-
-    pub only-from : Rereads touched v inner → KeepsFrames v inner → OnlyReads touched (did ∷ []) v w
-    only-from r k = record {
-      aside = aside-from r;
-      keeps = record {
-        frames = ap (λ (x : View X). x.frames) b.view ∙ k.frames;
-        contents = ap (λ (x : View X). x.contents) b.view ∙ k.contents;
-        notes = ap (λ (x : View X). x.notes) b.view ∙ k.notes;
-      };
-    }
-
-  -- the step changed nothing
-  rereads-none : (touched : ℕ → Type 0) (v : View X) → Rereads touched v v
-  rereads-none touched v = record {
-    log = refl;
-    live = refl;
-    start = refl;
-    parts = (refl, refl);
-    mine = refl;
-    out = refl;
-    ties = ([], refl);
-    group = (refl, refl, refl);
-    held = refl;
-    drafts = refl;
-    holds = λ q. record { shares = refl; exclusive = refl; writing = refl };
-    others = λ q ne. record { reading = refl; loads = refl };
-  }
-
-  pub only-still : (touched : ℕ → Type 0) (did : Did) (v w : View X) → Brings did [] [] v v w → OnlyReads touched (did ∷ []) v w
-  only-still touched did v w b = only-from touched did None [] v v w b (rereads-none touched v) (keeps-self v)
-
-  -- the open read of page p is another
-  holds-reread : (v : View X) (p : ℕ) (o : Option Open) (q : ℕ) → HoldsPage v (record v { seats = put p (record (seat_of v p) { reading = o }) v.seats }) q
-  holds-reread v p o q =
-      let s : Seat = record (seat_of v p) { reading = o } in
-      record {
-        shares = upd-keeps (λ (t : Seat). t.shares) (put_at no_seat v.seats) p s refl q;
-        exclusive = upd-keeps (λ (t : Seat). t.exclusive) (put_at no_seat v.seats) p s refl q;
-        writing = upd-keeps (λ (t : Seat). t.writing) (put_at no_seat v.seats) p s refl q;
-      }
-
-  reads-elsewhere : (v : View X) (p : ℕ) (o : Option Open) (q : ℕ) → q ≢ p → (put_at no_seat (put p (record (seat_of v p) { reading = o }) v.seats) q).reading ≡ (seat_of v q).reading
-  reads-elsewhere v p o q ne = ap (λ (s : Seat). s.reading) (upd-other (put_at no_seat v.seats) p (record (seat_of v p) { reading = o }) q ne)
-
-  -- ---- each kind of step
-
-  -- a look without a word to say
-  pub look-only : (touched : ℕ → Type 0) (tied : Start → ℕ → List ℕ → ℕ → List ℕ → Type 0) (p found : ℕ) (v w : View X) → touched p → LookTold tied p None found v w → OnlyReads touched (did_load (places.State p) found ∷ []) v w
-  look-only touched tied p found v w at t =
-      let left : ReadIs = left_at found (seat_of v p).reading in
-      let o : Option Open = open_after left (seat_of v p).reading (version_of found) in
-      let inner : View X = looked_view p None found (last_of w p).words v in
-      let not-p : (q : ℕ) → (touched q → ⊥) → q ≢ p = λ q ne e. ne (subst touched (sym e) at) in
-      only-from touched (did_load (places.State p) found) None (where_same left (entries_of v None) []) v inner w t.brings
-      record {
-        log = refl;
-        live = refl;
-        start = refl;
-        parts = (refl, refl);
-        mine = ap (λ (l : List (Entry X)). v.mine ++ l) (same-both left []) ∙ append-none v.mine;
-        out = refl;
-        ties = (where_same left (ties_below v.start.pages v p (last_of w p).words) [], refl);
-        group = (refl, refl, refl);
-        held = refl;
-        drafts = refl;
-        holds = λ q. let h = holds-reread v p o q in record { shares = h.shares; exclusive = h.exclusive; writing = h.writing };
-        others = λ q ne. record { reading = reads-elsewhere v p o q (not-p q ne); loads = upd-other (put_at [] v.loads) p (kept_loads left (loads_at v p)) q (not-p q ne) };
-      }
-      record { frames = refl; contents = refl; notes = refl }
-
-  -- a load of a translation word
-  pub translation-only : (touched : ℕ → Type 0) (p found : ℕ) (v w : View X) → touched p → TranslationTold p found v w → OnlyReads touched (did_load (places.Translation p) found ∷ []) v w
-  translation-only touched p found v w at t =
-      let o : Option Open = framed (seat_of v p).reading (mapping_of found) in
-      only-from touched (did_load (places.Translation p) found) None [] v (tloaded_view p found v) w t.brings
-      record {
-        log = refl;
-        live = refl;
-        start = refl;
-        parts = (refl, refl);
-        mine = refl;
-        out = refl;
-        ties = ([], refl);
-        group = (refl, refl, refl);
-        held = refl;
-        drafts = refl;
-        holds = λ q. let h = holds-reread v p o q in record { shares = h.shares; exclusive = h.exclusive; writing = h.writing };
-        others = λ q ne. record { reading = reads-elsewhere v p o q (λ e. ne (subst touched (sym e) at)); loads = refl };
-      }
-      record { frames = refl; contents = refl; notes = refl }
-
-  -- the hand is moved
-  pub hand-only : (touched : ℕ → Type 0) (found : ℕ) (v w : View X) → HandTold found v w → OnlyReads touched (did_change places.Hand found (hand_more found) ∷ []) v w
-  hand-only touched found v w t = only-still touched (did_change places.Hand found (hand_more found)) v w t.brings
-
-  -- a mark is set or taken away, or is not since the word was another
-  pub mark-only : (touched : ℕ → Type 0) (p expects found new : ℕ) (v w : View X) → MarkTold p expects found new v w → OnlyReads touched (did_exchange (places.State p) expects found new ∷ []) v w
-  mark-only touched p expects found new v w t = only-still touched (did_exchange (places.State p) expects found new) v w t.brings
-
-  -- an exchange of any kind that was lost
-  pub lost-only : (touched : ℕ → Type 0) (did : Did) (expects found : ℕ) (v inner w : View X) → found ≢ expects → Brings did [] [] v (if found == expects then inner else v) w → OnlyReads touched (did ∷ []) v w
-  lost-only touched did expects found v inner w ne b =
-      only-still touched did v w (subst (λ (x : View X). Brings did [] [] v x w) (cond-false (eqb found expects) inner v (ne_eqb found expects ne)) b)

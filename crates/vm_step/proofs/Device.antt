@@ -1,17 +1,12 @@
 -- One call of the device of a page that the pass has locked: its block is taken out, read or written, and brought home.
-use Rattle.std.proofs.Common.{[], ⊎_elim, ◌++◌, ◌+◌, ◌==◌, ◌||◌, ◌∙◌, ◌∷◌, ◌≡◌, ◌≤◌, ap, arith, Bool, Err, false, IsSome, List, min, nat_lt, None, Ok}
-use Rattle.std.proofs.Common.{Option, refl, Result, Some, sym, true, ℕ}
-use Rattle.std.proofs.lemmas.Bool.{cases_lt, cond-true, eq-eqb, lt-ltb, or_left, or_right}
-use Rattle.vm_block.specs.Blocks.{Reads, Writes}
-use Rattle.vm_core.specs.Prelude.{count_more, MAX_COUNT}
-use Rattle.vm_core.proofs.Upd.{upd-other, upd-same}
-use Rattle.vm_rule.specs.Prelude.{DeviceDid, did_load, held_at, HomeTold, MayBring, no_held, notes_of, out_at, OutTold, put, put_at, ReturnTold}
-use Rattle.vm_rule.specs.Prelude.{seat_of, ShiftTold, Stored, words_held}
-use Rattle.vm_rule.specs.declared.view.Held.{Held}
+use Rattle.vm_rule.specs.Slots.{wrote}
 use Rattle.vm_rule.specs.declared.view.Place.TheVariants as places
-use Rattle.vm_rule.specs.Slots.{failed, read, wrote}
-use Rattle.vm_step.specs.Prelude.{Did, KeepsFrames, Out, View, Works}
 use Rattle.vm_step.proofs.Leaves.{works-one, works-then}
+use Rattle.vm_step.proofs.Prelude.{[], ap, arith, Bool, cases_lt, cond-true, count_more, DeviceDid, Did, did_load, eq-eqb, Err, failed, false, Held}
+use Rattle.vm_step.proofs.Prelude.{held_at, HomeTold, IsSome, KeepsFrames, List, lt-ltb, MAX_COUNT, MayBring, min, nat_lt, no_held, None, notes_of}
+use Rattle.vm_step.proofs.Prelude.{Ok, Option, or_left, or_right, Out, out_at, OutTold, put, put_at, read, Reads, refl, Result, ReturnTold, seat_of}
+use Rattle.vm_step.proofs.Prelude.{ShiftTold, Some, Stored, sym, true, upd-other, upd-same, View, words_held, Works, Writes, ℕ, ⊎_elim, ◌++◌, ◌+◌}
+use Rattle.vm_step.proofs.Prelude.{◌==◌, ◌||◌, ◌∙◌, ◌∷◌, ◌≡◌, ◌≤◌}
 
 abbrev pub two-loads : ℕ → ℕ → ℕ → List Did
 two-loads p first second = did_load (places.Fault p) first ∷ did_load (places.Fault p) second ∷ []

@@ -1,21 +1,12 @@
 -- The moves of a page's block among more steps: steps that are not on its fault word move it not, in front of others and behind them.
-use Rattle.std.proofs.Common.{[], ⊎_elim, ◌++◌, ◌∙◌, ◌∷◌, ◌≡◌, ◌≢◌, ap, append_assoc, Bool, false, inl, inr, List, None, sym, true, ℕ}
-use Rattle.std.proofs.lemmas.Bool.{false≢true}
-use Rattle.vm_rule.specs.Prelude.{Each}
-use Rattle.vm_rule.specs.declared.view.Place.{Place}
 use Rattle.vm_rule.specs.declared.view.Place.TheVariants as places
-use Rattle.vm_rule.proofs.Heard.{each-both}
-use Rattle.vm_step.specs.Prelude.{Did, GoesOnce, IsCalledOnce, StaysHome}
 use Rattle.vm_step.proofs.Device.{two-loads}
+use Rattle.vm_step.proofs.Prelude.{[], ap, append_assoc, Bool, Did, Each, each-both, false, false≢true, GoesOnce, inl, inr, IsCalledOnce, List, None}
+use Rattle.vm_step.proofs.Prelude.{Place, StaysHome, sym, true, ℕ, ⊎_elim, ◌++◌, ◌∙◌, ◌∷◌, ◌≡◌, ◌≢◌}
 
 abbrev pub is-fault : Place → Bool
-is-fault (places.State p) = false
-is-fault (places.Translation p) = false
 is-fault (places.Fault p) = true
-is-fault (places.Content f i) = false
-is-fault (places.Bundle g) = false
-is-fault places.Next = false
-is-fault places.Hand = false
+is-fault _ = false
 
 -- a step on another kind of word finds no fault word
 pub no-fault : (p : ℕ) (d : Did) → is-fault d.at ≡ false → d.at ≡ places.Fault p → d.found ≡ None

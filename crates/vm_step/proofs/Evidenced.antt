@@ -1,12 +1,7 @@
 -- Evidence in a longer list of steps, the view after an exchange, and what a look counts of a page.
-use Rattle.std.specs.Option.{option_or}
-use Rattle.std.proofs.Common.{[], ◌++◌, ◌<◌, ◌==◌, ◌∙◌, ◌∷◌, ◌≡◌, ◌≢◌, ap, append_assoc, arith, eqb, if◌then◌else◌, List, None, Option, refl, Some}
-use Rattle.std.proofs.Common.{subst, sym, ℕ}
-use Rattle.std.proofs.lemmas.Bool.{cond-false, cond-true, eq-eqb, ne_eqb}
-use Rattle.vm_core.specs.Prelude.{state_of}
-use Rattle.vm_rule.specs.Prelude.{Brings, next_after}
-use Rattle.vm_rule.specs.declared.view.Place.{Place}
-use Rattle.vm_step.specs.Prelude.{Did, first_or, HasGiven, HasWritten, IsHeld, View}
+use Rattle.vm_step.proofs.Prelude.{[], ap, append_assoc, arith, Brings, cond-false, cond-true, Did, eq-eqb, eqb, first_or, HasGiven, HasWritten}
+use Rattle.vm_step.proofs.Prelude.{if◌then◌else◌, IsHeld, List, ne_eqb, next_after, None, Option, option_or, Place, refl, Some, state_of, subst, sym}
+use Rattle.vm_step.proofs.Prelude.{View, ℕ, ◌++◌, ◌<◌, ◌==◌, ◌∙◌, ◌∷◌, ◌≡◌, ◌≢◌}
 
 -- ---- evidence in a longer list of steps
 

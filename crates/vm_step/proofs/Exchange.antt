@@ -1,46 +1,99 @@
--- An exchange on a page's state word, found there or not: the words and the pages that the pass knows afterwards, what it shows of itself where it is taken,
--- what it tells either way, and that it is an event of the core.
-use Rattle.std.proofs.Common.{[], ⊎_elim, ◌++◌, ◌<◌, ◌∙◌, ◌≡◌, ◌≢◌, ◌≤◌, ap, arith, Bool, eq-eqb, eqb, false, if◌then◌else◌, length, length-set, List}
-use Rattle.std.proofs.Common.{ne_eqb, None, Option, refl, slice_index, slice_set, Some, subst, sym, true, true≢false, ℕ}
-use Rattle.std.proofs.lemmas.Bool.{cases_Bool, cases_eq}
-use prog.Atomic.{either}
-use Rattle.vm_core.specs.Prelude.{finds, frame_of, get_elem?, Legal, LOCKED, locked, MARKED, marked, MayLock, MayShare, NamesActorAndPage, no_seat}
-use Rattle.vm_core.specs.Prelude.{on_page, one_share_more, Page, page_at, page_word, seen, share_count, shared, some, State, state_of, sum_below}
-use Rattle.vm_core.specs.Prelude.{UNLOCKED, unmarked, upd, upgraded, Version, version_of, word_of, World, world_after, write_locked}
-use Rattle.vm_core.specs.{declared.event.Seen.Seen, PageStep.exchange_seen}
-use Rattle.vm_core.specs.declared.event.Event.TheVariants.{LockS, LockW, LockX, Mark, Unmark, Upgrade}
+-- An exchange, found there or not: at any place, the rule after it, and that it is an event of the core; on a page's state word, what the pass knows of
+-- pages afterwards, what it shows of itself where it is taken, and what it tells either way.
+use Rattle.std.proofs.Common.{eq-eqb, ne_eqb}
 use Rattle.vm_core.specs.declared.event.Seen.TheVariants as sights
-use Rattle.vm_core.proofs.{Locks.sum_below-at, PageFacts.block-is_last}
-use Rattle.vm_core.proofs.Upd.{each-upd, upd-keeps, upd-other, upd-same}
-use Rattle.vm_rule.specs.Prelude.{actor_of, ArePlain, block_of, Brings, core_shown, did_exchange, draft_of, Event, has, index_of, is_pending}
-use Rattle.vm_rule.specs.Prelude.{IsFoundAt, IsHeldAt, IsOlder, IsSinceAll, IsUnheld, Kept, KnowsPage, last_in, last_of, locked_view, LockValidates}
-use Rattle.vm_rule.specs.Prelude.{may_call, MayRaiseLock, no_held, put, put_at, Ruled, Seat, seat_of, set_if, shared_view, Start, Stored, Table}
-use Rattle.vm_rule.specs.Prelude.{upgraded_view, width, Within, world_of}
-use Rattle.vm_rule.specs.{declared.view.Held.Held, declared.view.Place.Place, Locks.write_locked_view}
 use Rattle.vm_rule.specs.declared.view.Place.TheVariants as places
-use Rattle.vm_rule.proofs.{Bringing.rested, Bringing.steps, Facts.any-here, Facts.unheld, Views.at-bound}
-use Rattle.vm_rule.proofs.Adding.{after_step, became, Shows}
-use Rattle.vm_rule.proofs.Found.{block-here, same-word, seat-here, state-here, version-here, word-here}
-use Rattle.vm_rule.proofs.WordFacts.{finds-hit, finds-miss, version-within, word-state, word-version}
-use Rattle.vm_rule.proofs.Worlds.{core-still, draft-is, last-is, locks-step, lockw-step, lockx-step, lost-locks, lost-lockw, lost-lockx, lost-mark}
-use Rattle.vm_rule.proofs.Worlds.{lost-unmark, lost-upgrade, mark-step, unmark-step, upgrade-step, wrote}
-use Rattle.vm_step.specs.Prelude.{Did, exchange_sees, exchanged, IsEvent, IsPassOf, Origin, Out, Put, Release, table_after, View}
-use Rattle.vm_step.specs.Events.{FindsAt}
-use Rattle.vm_step.proofs.{Logical.not-pending, Written.spelled-still, Written.stands-there}
+use Rattle.vm_step.proofs.{Evidenced.lost-view, Evidenced.taken-view, Logical.not-pending, Quiet.quiet-shows, Quiet.ShowsQuiet, Written.IsWordOf}
+use Rattle.vm_step.proofs.{Written.word-left}
 use Rattle.vm_step.proofs.Here.{frame-inside, last, last-told, older, since, validates, world}
-use Rattle.vm_step.proofs.Quiet.{lock-quiet, quiet-shows, ShowsQuiet}
+use Rattle.vm_step.proofs.Prelude.{[], actor_of, after_event, after_step, any-here, ap, arith, at-bound, became, block-here, block-is_last, block_of}
+use Rattle.vm_step.proofs.Prelude.{Bool, Brings, cases_Bool, cases_eq, core-still, core_shown, Did, did_exchange, draft-is, draft_of, each-upd}
+use Rattle.vm_step.proofs.Prelude.{either, eqb, Event, exchange_seen, exchange_sees, exchanged, false, false_from_ne_true, finds, finds-hit}
+use Rattle.vm_step.proofs.Prelude.{finds-miss, FindsAt, frame_of, get_elem?, has, Held, if◌then◌else◌, index_of, is_pending, IsEvent, IsHeldAt}
+use Rattle.vm_step.proofs.Prelude.{IsOlder, IsPassOf, IsSinceAll, IsUnheld, Kept, KnowsPage, last-is, last_in, last_of, Legal, length, List, LOCKED}
+use Rattle.vm_step.proofs.Prelude.{locked, locked_view, LockS, locks-step, LockValidates, LockW, lockw-step, LockX, lockx-step, lost-locks}
+use Rattle.vm_step.proofs.Prelude.{lost-lockw, lost-lockx, lost-mark, lost-unmark, lost-upgrade, Mark, mark-step, marked, MARKED, may_call, MayLock}
+use Rattle.vm_step.proofs.Prelude.{MayRaiseLock, MayShare, NamesActorAndPage, no_held, no_seat, None, on_page, one_share_more, Option, Origin, Out}
+use Rattle.vm_step.proofs.Prelude.{Page, page_at, page_word, Place, Put, put, put_at, refl, Release, rested, Ruled, same-word, Seat, seat-here}
+use Rattle.vm_step.proofs.Prelude.{seat_of, Seen, seen, set_if, share_count, shared, shared_view, Shows, slice_index, slice_set, Some, some, Start}
+use Rattle.vm_step.proofs.Prelude.{State, state-here, state_of, steps, Stored, subst, sum_below, sum_below-at, sym, Table, table_after, true}
+use Rattle.vm_step.proofs.Prelude.{true≢false, unheld, UNLOCKED, Unmark, unmark-step, unmarked, upd, upd-keeps, upd-other, upd-same, Upgrade}
+use Rattle.vm_step.proofs.Prelude.{upgrade-step, upgraded, upgraded_view, Version, version-here, version-within, version_of, View, width, Within}
+use Rattle.vm_step.proofs.Prelude.{word-here, word-state, word-version, word_of, World, world_after, world_of, write_locked, write_locked_view, wrote}
+use Rattle.vm_step.proofs.Prelude.{ℕ, ⊎_elim, ◌++◌, ◌<◌, ◌∙◌, ◌≡◌, ◌≢◌, ◌≤◌}
 
--- ---- the words
+-- ---- at any place
 
-pub wide-after : (start : Origin) (words : List ℕ) (p x : ℕ) → length words ≡ width start → length (slice_set words p x) ≡ width start
-wide-after start words p x wide = length-set words p x ∙ wide
+module _ {X B : Type 0} (stored : B → Stored) (keeps : Start → Kept X → Type 0) (tied : Start → ℕ → List ℕ → ℕ → List ℕ → Type 0) (start : Origin) (tells : Bool) (s : Table (Option B) (View X)) (r : Ruled stored keeps tied start tells s) (id : ℕ) (v : View X)
+    (there : get_elem? s.views id ≡ some v) (live : v.live ≡ true) (number : 0 < length v.used) (at : Place) (expects x : ℕ) (l : Within start at) where
+  -- the word that stands there
+  abbrev pub finding_at : ℕ
+  finding_at = slice_index s.words (index_of start at)
 
--- the translation words are as they were
-pub spelled-after : (start : Origin) (words : List ℕ) (p x : ℕ) → length words ≡ width start → p < start.pages → ArePlain start words → ArePlain start (slice_set words p x)
-spelled-after start words p x wide l = spelled-still start words (places.State p) x wide l refl
+  abbrev pub exchange_did : Did
+  exchange_did = did_exchange at expects finding_at x
 
-pub wrote-there : (start : Origin) (words : List ℕ) (p x : ℕ) → length words ≡ width start → p < start.pages → x ≡ slice_index (slice_set words p x) p
-wrote-there start words p x wide l = stands-there start words (places.State p) x wide l
+  -- the words after it
+  abbrev pub exchanged_at : List ℕ
+  exchanged_at = slice_set s.words (index_of start at) (either (eqb finding_at expects) x finding_at)
+
+  -- taken or lost, it keeps the rule, where it is an event; and the pass has the view `inner` where it is taken
+  pub exchange-tells : (drafts : ℕ → List ℕ) (inner : View X) (e : Event) → actor_of e ≡ id → Legal (core_shown stored start s) e
+      → (finding_at ≡ expects → Shows stored keeps tied start tells s r id v (slice_set s.words (index_of start at) x) drafts [] [] exchange_did inner e)
+      → (finding_at ≢ expects → world_after (world stored keeps tied start tells s r) e ≡ world stored keeps tied start tells s r)
+      → (w : View X) × Ruled stored keeps tied start tells (became stored keeps tied start tells s exchanged_at id w) × Brings exchange_did [] [] v (if eqb finding_at expects then inner else v) w × (w.start ≡ v.start) × (w.releases ≡ r.releases ++ [])
+  exchange-tells drafts inner e actor legal shows none =
+      ⊎_elim
+      (λ hit.
+      let is : eqb finding_at expects ≡ true = eq-eqb finding_at expects hit in
+      let words : List ℕ = slice_set s.words (index_of start at) x in
+      let w : View X = after_step stored keeps tied start tells s r words [] [] exchange_did inner in
+      let k = steps stored keeps tied start tells s r id v words drafts [] [] exchange_did inner e there live number actor
+      (subst (λ b. words ≡ set_if (if b then Some x else None) (index_of start at) s.words) (sym is) refl) (shows hit) in (
+        w,
+        subst (λ b. Ruled stored keeps tied start tells (became stored keeps tied start tells s (slice_set s.words (index_of start at) (either b x finding_at)) id w)) (sym is) k.0,
+        subst (λ (b : Bool). Brings exchange_did [] [] v (if b then inner else v) w) (sym is) k.1,
+        (shows hit).same_start,
+        refl,
+      ))
+      (λ miss.
+      let is : eqb finding_at expects ≡ false = ne_eqb finding_at expects miss in
+      let w : View X = after_step stored keeps tied start tells s r s.words [] [] exchange_did v in
+      let k = rested stored keeps tied start tells s r id v exchange_did e there live number actor legal (none miss) l refl (ap {B = Option ℕ} (λ b. if b then Some x else None) is) in (
+        w,
+        subst (λ b. Ruled stored keeps tied start tells (became stored keeps tied start tells s (slice_set s.words (index_of start at) (either b x finding_at)) id w)) (sym is)
+            (subst (λ words. Ruled stored keeps tied start tells (became stored keeps tied start tells s words id w)) (sym (same-word s.words (index_of start at))) k.0),
+        subst (λ (b : Bool). Brings exchange_did [] [] v (if b then inner else v) w) (sym is) k.1,
+        refl,
+        refl,
+      ))
+      (cases_eq finding_at expects)
+
+module _ {X B : Type 0} (stored : B → Stored) (start : Origin) (keeps : Start → Kept X → Type 0) (tied : Start → ℕ → List ℕ → ℕ → List ℕ → Type 0) (tells : Bool) (s : Table (Option B) (View X)) (id : ℕ) where
+  -- it is an event, where it is one with the view `inner` if it is taken, and one that changes nothing if it is lost
+  pub tried-event : (at : Place) (expects found x : ℕ) (did : Did) (v inner w : View X) (e : Event) → IsPassOf stored start keeps tied tells s id v → FindsAt start s at found → Brings did [] [] v (if eqb found expects then inner else v) w
+      → Legal (core_shown stored start s) e
+      → (found ≡ expects → Brings did [] [] v inner w → core_shown stored start (table_after s (slice_set s.words (index_of start at) x) id w) ≡ after_event (core_shown stored start s) e)
+      → (found ≢ expects → after_event (core_shown stored start s) e ≡ core_shown stored start s)
+      → seen (core_shown stored start s) e ≡ exchange_sees expects found
+      → IsEvent stored start s (table_after s (exchanged s.words (index_of start at) expects found x) id w) e (exchange_sees expects found)
+  tried-event at expects found x did v inner w e pass finds brings legal taken lost sees =
+      let i : ℕ = index_of start at in
+      let by : (b : Bool) → eqb found expects ≡ b → core_shown stored start (table_after s (exchanged s.words i expects found x) id w) ≡ core_shown stored start (table_after s (slice_set s.words i (if b then x else found)) id w) =
+      (λ b is. ap (λ k. core_shown stored start (table_after s (slice_set s.words i (if k then x else found)) id w)) is) in
+      record {
+        legal = legal;
+        core = ⊎_elim
+            (λ hit. by true (eq-eqb found expects hit) ∙ taken hit (taken-view did expects found v inner w hit brings))
+            (λ miss.
+            let view = (lost-view did expects found v inner w miss brings).view in
+            by false (ne_eqb found expects miss)
+            ∙ ap (λ l. core_shown stored start (table_after s l id w)) (ap (slice_set s.words i) finds.1 ∙ same-word s.words i)
+            ∙ core-still stored start s id v w pass.there (ap (λ (k : View X). k.out) view) (ap (λ (k : View X). k.frames) view) (ap (λ (k : View X). k.seats) view)
+            ∙ sym (lost miss))
+            (cases_eq found expects);
+        sees = sees;
+      }
 
 -- ---- what the pass has of pages
 
@@ -56,16 +109,7 @@ module _ {X : Type 0} where
       subst (λ k. KnowsPage k (put_at no_held held q) (pages q)) (sym (upd-other (put_at no_seat v.seats) p seat q ne))
       (subst (λ h. KnowsPage (seat_of v q) h (pages q)) (sym (others q ne)) (known q)))
 
-  -- something that its seats have, it still has
-  pub seats-keep : (P : Seat → Type 0) (v : View X) (p : ℕ) (seat : Seat) → (P (seat_of v p) → P seat) → (q : ℕ) → P (seat_of v q) → P (put_at no_seat (put p seat v.seats) q)
-  seats-keep P v p seat here = each-upd (λ q y. P (seat_of v q) → P y) (put_at no_seat v.seats) p seat here (λ q ne k. k)
-
 module _ {X B : Type 0} (stored : B → Stored) (keeps : Start → Kept X → Type 0) (tied : Start → ℕ → List ℕ → ℕ → List ℕ → Type 0) (start : Origin) (tells : Bool) (s : Table (Option B) (View X)) (r : Ruled stored keeps tied start tells s) (id : ℕ) (v : View X) (there : get_elem? s.views id ≡ some v) where
-  -- it may call the device of the page whose block it has out
-  pub calls-still : (p : ℕ) (seat : Seat) → ((o : Out) → v.out ≡ Some o → o.page ≡ p → may_call (seat_of v p) ≡ true → may_call seat ≡ true) → (o : Out) → v.out ≡ Some o → may_call (put_at no_seat (put p seat v.seats) o.page) ≡ true
-  calls-still p seat here o x =
-      each-upd (λ q y. o.page ≡ q → may_call (seat_of v q) ≡ true → may_call y ≡ true) (put_at no_seat v.seats) p seat (here o x) (λ q ne e k. k) o.page refl (r.blocks.away id v o there x).1
-
   -- the pass and the page are the core's
   pub names : (p : ℕ) → p < start.pages → NamesActorAndPage (core_shown stored start s) id p
   names p l = record { actor = at-bound s.views id v there; page = l }
@@ -89,27 +133,22 @@ module _ {X B : Type 0} (stored : B → Stored) (start : Origin) (s : Table (Opt
         → world_of stored start releases drafts' (wrote stored start s id (places.State p) x w) ≡ world_after old e
     pub core : finds (old.core.pages p) expects ≡ true → (world_after old e).core ≡ on_page old.core p y
     pub none : finds (old.core.pages p) expects ≡ false → world_after old e ≡ old
-    pub sees : seen old.core e ≡ exchange_seen (old.core.pages p) expects
 
   module _ (v : View X) (p expects : ℕ) (wide : length s.words ≡ width start) (l : p < start.pages) (there : get_elem? s.views id ≡ some v) where
     named : NamesActorAndPage old.core id p
     named = record { actor = at-bound s.views id v there; page = l }
 
-    state-made : (state : ℕ) → state_of (word_of state (version_of expects)) ≡ state
-    state-made state = word-state state (version_of expects) (version-within expects)
-
-    version-made : (state : ℕ) → version_of (word_of state (version_of expects)) ≡ version_of expects
-    version-made state = word-version state (version_of expects) (version-within expects)
+    made : (state : ℕ) → (state_of (word_of state (version_of expects)) ≡ state) × (version_of (word_of state (version_of expects)) ≡ version_of expects)
+    made state = (word-state state (version_of expects) (version-within expects), word-version state (version_of expects) (version-within expects))
 
     -- an exclusive lock
     pub lockx-exchange : MayLock expects → (held : Held) (words : List ℕ) → IsExchange p expects (word_of LOCKED (version_of expects)) (upd drafts p (last_in start releases p).words) (locked_view p held words v) (LockX id p expects) (locked (old.core.pages p) id)
     lockx-exchange may held words =
         record {
           legal = (named, may);
-          leads = λ w out frames seats loads. lockx-step stored start s releases drafts id v w p expects (word_of LOCKED (version_of expects)) wide l there out frames seats loads (state-made LOCKED) (version-made LOCKED);
+          leads = λ w out frames seats loads. lockx-step stored start s releases drafts id v w p expects (word_of LOCKED (version_of expects)) wide l there out frames seats loads (made LOCKED).0 (made LOCKED).1;
           core = λ f. rw f refl;
           none = lost-lockx old id p expects;
-          sees = refl;
         }
 
     -- a share
@@ -117,10 +156,9 @@ module _ {X B : Type 0} (stored : B → Stored) (start : Origin) (s : Table (Opt
     locks-exchange may held =
         record {
           legal = (named, may);
-          leads = λ w out frames seats loads. locks-step stored start s releases drafts id v w p expects (word_of (one_share_more (state_of expects)) (version_of expects)) wide l there out frames seats loads (state-made (one_share_more (state_of expects))) (version-made (one_share_more (state_of expects)));
+          leads = λ w out frames seats loads. locks-step stored start s releases drafts id v w p expects (word_of (one_share_more (state_of expects)) (version_of expects)) wide l there out frames seats loads (made (one_share_more (state_of expects))).0 (made (one_share_more (state_of expects))).1;
           core = λ f. rw f refl;
           none = lost-locks old id p expects;
-          sees = refl;
         }
 
     -- a lock for write-back
@@ -128,10 +166,9 @@ module _ {X B : Type 0} (stored : B → Stored) (start : Origin) (s : Table (Opt
     lockw-exchange may held =
         record {
           legal = (named, may);
-          leads = λ w out frames seats loads. lockw-step stored start s releases drafts id v w p expects (word_of 1 (version_of expects)) wide l there out frames seats loads (state-made 1) (version-made 1);
+          leads = λ w out frames seats loads. lockw-step stored start s releases drafts id v w p expects (word_of 1 (version_of expects)) wide l there out frames seats loads (made 1).0 (made 1).1;
           core = λ f. rw f refl;
           none = lost-lockw old id p expects;
-          sees = refl;
         }
 
     -- a lock for write-back that becomes exclusive
@@ -147,10 +184,9 @@ module _ {X B : Type 0} (stored : B → Stored) (start : Origin) (s : Table (Opt
               one = ap (λ (k : Seat). k.shares) (seat-here stored start s id p v l there) ∙ may.one;
             },
           );
-          leads = λ w out frames seats loads. upgrade-step stored start s releases drafts id v w p expects (word_of LOCKED (version_of expects)) wide l there out frames seats loads (state-made LOCKED) (version-made LOCKED);
+          leads = λ w out frames seats loads. upgrade-step stored start s releases drafts id v w p expects (word_of LOCKED (version_of expects)) wide l there out frames seats loads (made LOCKED).0 (made LOCKED).1;
           core = λ f. rw f refl;
           none = lost-upgrade old id p expects;
-          sees = refl;
         }
 
     -- a mark
@@ -158,10 +194,9 @@ module _ {X B : Type 0} (stored : B → Stored) (start : Origin) (s : Table (Opt
     mark-exchange may =
         record {
           legal = (named, may);
-          leads = λ w out frames seats loads. mark-step stored start s releases drafts id v w p expects (word_of MARKED (version_of expects)) wide l there out frames seats loads (state-made MARKED) (version-made MARKED);
+          leads = λ w out frames seats loads. mark-step stored start s releases drafts id v w p expects (word_of MARKED (version_of expects)) wide l there out frames seats loads (made MARKED).0 (made MARKED).1;
           core = λ f. rw f refl;
           none = lost-mark old id p expects;
-          sees = refl;
         }
 
     -- a mark that is taken away
@@ -169,108 +204,45 @@ module _ {X B : Type 0} (stored : B → Stored) (start : Origin) (s : Table (Opt
     unmark-exchange may =
         record {
           legal = (named, may);
-          leads = λ w out frames seats loads. unmark-step stored start s releases drafts id v w p expects (word_of UNLOCKED (version_of expects)) wide l there out frames seats loads (state-made UNLOCKED) (version-made UNLOCKED);
+          leads = λ w out frames seats loads. unmark-step stored start s releases drafts id v w p expects (word_of UNLOCKED (version_of expects)) wide l there out frames seats loads (made UNLOCKED).0 (made UNLOCKED).1;
           core = λ f. rw f refl;
           none = lost-unmark old id p expects;
-          sees = refl;
         }
 
-module _ {X B : Type 0} (stored : B → Stored) (keeps : Start → Kept X → Type 0) (tied : Start → ℕ → List ℕ → ℕ → List ℕ → Type 0) (start : Origin) (tells : Bool) (s : Table (Option B) (View X)) (r : Ruled stored keeps tied start tells s)
-    (id : ℕ) (v : View X) (there : get_elem? s.views id ≡ some v) (live : v.live ≡ true) (number : 0 < length v.used) (at : Place) (expects x : ℕ) (l : Within start at) where
-  -- the word that stands there
-  abbrev pub finding_at : ℕ
-  finding_at = slice_index s.words (index_of start at)
+-- ---- on a page's state word
 
-  abbrev pub exchange_did_at : Did
-  exchange_did_at = did_exchange at expects finding_at x
-
-  -- the words after it
-  abbrev pub exchanged_at : List ℕ
-  exchanged_at = slice_set s.words (index_of start at) (either (eqb finding_at expects) x finding_at)
-
-  -- the word was the one expected
-  pub taken-at : (drafts : ℕ → List ℕ) (inner : View X) (e : Event) → finding_at ≡ expects → actor_of e ≡ id → Shows stored keeps tied start tells s r id v (slice_set s.words (index_of start at) x) drafts [] [] exchange_did_at inner e
-      → Ruled stored keeps tied start tells (became stored keeps tied start tells s exchanged_at id (after_step stored keeps tied start tells s r (slice_set s.words (index_of start at) x) [] [] exchange_did_at inner))
-      × Brings exchange_did_at [] [] v (if eqb finding_at expects then inner else v) (after_step stored keeps tied start tells s r (slice_set s.words (index_of start at) x) [] [] exchange_did_at inner)
-  taken-at drafts inner e hit actor shows =
-      let is : eqb finding_at expects ≡ true = eq-eqb finding_at expects hit in
-      let words : List ℕ = slice_set s.words (index_of start at) x in
-      let w : View X = after_step stored keeps tied start tells s r words [] [] exchange_did_at inner in
-      let both = steps stored keeps tied start tells s r id v words drafts [] [] exchange_did_at inner e there live number actor
-      (subst (λ b. words ≡ set_if (if b then Some x else None) (index_of start at) s.words) (sym is) refl) shows in (
-        subst (λ b. Ruled stored keeps tied start tells (became stored keeps tied start tells s (slice_set s.words (index_of start at) (either b x finding_at)) id w)) (sym is) both.0,
-        subst (λ (b : Bool). Brings exchange_did_at [] [] v (if b then inner else v) w) (sym is) both.1,
-      )
-
-  -- it was another
-  pub lost-at : (other : View X) (e : Event) → finding_at ≢ expects → actor_of e ≡ id → Legal (world stored keeps tied start tells s r).core e → world_after (world stored keeps tied start tells s r) e ≡ world stored keeps tied start tells s r
-      → Ruled stored keeps tied start tells (became stored keeps tied start tells s exchanged_at id (after_step stored keeps tied start tells s r s.words [] [] exchange_did_at v))
-      × Brings exchange_did_at [] [] v (if eqb finding_at expects then other else v) (after_step stored keeps tied start tells s r s.words [] [] exchange_did_at v)
-  lost-at other e miss actor legal none =
-      let is : eqb finding_at expects ≡ false = ne_eqb finding_at expects miss in
-      let w : View X = after_step stored keeps tied start tells s r s.words [] [] exchange_did_at v in
-      let both = rested stored keeps tied start tells s r id v exchange_did_at e there live number actor legal none l refl (ap {B = Option ℕ} (λ b. if b then Some x else None) is) in (
-        subst (λ b. Ruled stored keeps tied start tells (became stored keeps tied start tells s (slice_set s.words (index_of start at) (either b x finding_at)) id w)) (sym is)
-            (subst (λ words. Ruled stored keeps tied start tells (became stored keeps tied start tells s words id w)) (sym (same-word s.words (index_of start at))) both.0),
-        subst (λ (b : Bool). Brings exchange_did_at [] [] v (if b then other else v) w) (sym is) both.1,
-      )
-
-module _ {X B : Type 0} (stored : B → Stored) (keeps : Start → Kept X → Type 0) (tied : Start → ℕ → List ℕ → ℕ → List ℕ → Type 0) (start : Origin) (tells : Bool) (s : Table (Option B) (View X)) (r : Ruled stored keeps tied start tells s)
-    (id : ℕ) (v : View X) (there : get_elem? s.views id ≡ some v) (live : v.live ≡ true) (number : 0 < length v.used) (p expects x : ℕ) (l : p < start.pages) where
-  abbrev pub exchange_did : Did
-  exchange_did = did_exchange (places.State p) expects (slice_index s.words p) x
-
-  -- the words after it
-  abbrev pub exchange_words : List ℕ
-  exchange_words = slice_set s.words p (either (eqb (slice_index s.words p) expects) x (slice_index s.words p))
-
-  -- the word was the one expected
-  taken : (drafts : ℕ → List ℕ) (inner : View X) (e : Event) → slice_index s.words p ≡ expects → actor_of e ≡ id → ShowsQuiet stored keeps tied start tells s r id v (slice_set s.words p x) drafts exchange_did inner e
-      → Ruled stored keeps tied start tells (became stored keeps tied start tells s exchange_words id (after_step stored keeps tied start tells s r (slice_set s.words p x) [] [] exchange_did inner))
-      × Brings exchange_did [] [] v (if eqb (slice_index s.words p) expects then inner else v) (after_step stored keeps tied start tells s r (slice_set s.words p x) [] [] exchange_did inner)
-  taken drafts inner e hit actor shows =
-      taken-at stored keeps tied start tells s r id v there live number (places.State p) expects x l drafts inner e hit actor
-      (quiet-shows stored keeps tied start tells s r id v (slice_set s.words p x) drafts exchange_did inner e there live shows)
-
-  -- it was another
-  lost : (other : View X) (e : Event) → slice_index s.words p ≢ expects → actor_of e ≡ id → Legal (world stored keeps tied start tells s r).core e → world_after (world stored keeps tied start tells s r) e ≡ world stored keeps tied start tells s r
-      → Ruled stored keeps tied start tells (became stored keeps tied start tells s exchange_words id (after_step stored keeps tied start tells s r s.words [] [] exchange_did v))
-      × Brings exchange_did [] [] v (if eqb (slice_index s.words p) expects then other else v) (after_step stored keeps tied start tells s r s.words [] [] exchange_did v)
-  lost other e miss actor legal none = lost-at stored keeps tied start tells s r id v there live number (places.State p) expects x l other e miss actor legal none
-
+module _ {X B : Type 0} (stored : B → Stored) (keeps : Start → Kept X → Type 0) (tied : Start → ℕ → List ℕ → ℕ → List ℕ → Type 0) (start : Origin) (tells : Bool) (s : Table (Option B) (View X)) (r : Ruled stored keeps tied start tells s) (id : ℕ) (v : View X)
+    (there : get_elem? s.views id ≡ some v) (live : v.live ≡ true) (number : 0 < length v.used) (p expects x : ℕ) (l : p < start.pages) where
   -- what any exchange tells, which gives the pass the view `inner` where it is taken
   pub record Tried (inner w : View X) : Type 0 where
-    pub rule : Ruled stored keeps tied start tells (became stored keeps tied start tells s exchange_words id w)
-    pub brings : Brings exchange_did [] [] v (if eqb (slice_index s.words p) expects then inner else v) w
+    pub rule : Ruled stored keeps tied start tells (became stored keeps tied start tells s (exchanged_at stored keeps tied start tells s r id v there live number (places.State p) expects x l) id w)
+    pub brings : Brings (did_exchange (places.State p) expects (slice_index s.words p) x) [] [] v (if eqb (slice_index s.words p) expects then inner else v) w
     pub last : last_of w p ≡ last stored keeps tied start tells s r p
     pub version : (last_of w p).version ≡ version_of (slice_index s.words p)
     pub since : IsSinceAll p (slice_index s.words p) v.log
     pub older : IsOlder (slice_index s.words p) (seat_of v p).reading
     pub size : length (last_of w p).words ≡ 64
 
-  tried-as : (inner w : View X) → w.start ≡ v.start → w.releases ≡ r.releases ++ []
-      → Ruled stored keeps tied start tells (became stored keeps tied start tells s exchange_words id w) × Brings exchange_did [] [] v (if eqb (slice_index s.words p) expects then inner else v) w → Tried inner w
-  tried-as inner w same_start releases both =
-      let told : last_of w p ≡ last stored keeps tied start tells s r p = (λ i. last_in (same_start i) (releases i) p) ∙ last-told stored keeps tied start tells s r id v there live p in
-      record {
-        rule = both.0;
-        brings = both.1;
-        last = told;
-        version = ap (λ (y : Version). y.version) told ∙ (r.inv.pages p).stands.last ∙ version-here stored start s p l;
-        since = since stored keeps tied start tells s r id v there live p l;
-        older = older stored keeps tied start tells s r id v there live p l;
-        size = ap (λ (y : Version). length y.words) told ∙ (r.inv.pages p).sizes.last;
-      }
-
   -- so it tells, where it is an event, and shows what is to be shown of it when it is taken
   pub tried : (drafts : ℕ → List ℕ) (inner : View X) (e : Event) (y : Page) → actor_of e ≡ id → IsExchange stored start s r.releases r.drafts id p expects x drafts inner e y
-      → (slice_index s.words p ≡ expects → ShowsQuiet stored keeps tied start tells s r id v (slice_set s.words p x) drafts exchange_did inner e)
+      → (slice_index s.words p ≡ expects → ShowsQuiet stored keeps tied start tells s r id v (slice_set s.words p x) drafts (did_exchange (places.State p) expects (slice_index s.words p) x) inner e)
       → (w : View X) × Tried inner w
   tried drafts inner e y actor is shows =
-      ⊎_elim
-      (λ hit. (_, tried-as inner _ (shows hit).leaves.start refl (taken drafts inner e hit actor (shows hit))))
-      (λ miss. (_, tried-as inner _ refl refl (lost inner e miss actor is.legal (is.none (missing stored keeps tied start tells s r id v there p expects l miss)))))
-      (cases_eq (slice_index s.words p) expects)
+      let k = exchange-tells stored keeps tied start tells s r id v there live number (places.State p) expects x l drafts inner e actor is.legal
+      (λ hit. quiet-shows stored keeps tied start tells s r id v (slice_set s.words p x) drafts (did_exchange (places.State p) expects (slice_index s.words p) x) inner e there live (shows hit))
+      (λ miss. is.none (missing stored keeps tied start tells s r id v there p expects l miss)) in
+      let told : last_of k.0 p ≡ last stored keeps tied start tells s r p = (λ i. last_in (k.3 i) (k.4 i) p) ∙ last-told stored keeps tied start tells s r id v there live p in (
+        k.0,
+        record {
+          rule = k.1;
+          brings = k.2;
+          last = told;
+          version = ap (λ (y : Version). y.version) told ∙ (r.inv.pages p).stands.last ∙ version-here stored start s p l;
+          since = since stored keeps tied start tells s r id v there live p l;
+          older = older stored keeps tied start tells s r id v there live p l;
+          size = ap (λ (y : Version). length y.words) told ∙ (r.inv.pages p).sizes.last;
+        },
+      )
 
   -- where nobody has the page locked exclusively, the exchange validates the open read and the ties
   pub tried-validates : (law : (start : Start) (kept : Kept X) (q p : ℕ) → keeps start kept → q < length kept.pages → p < length kept.pages → tied start q (page_at kept.pages q) p (page_at kept.pages p))
@@ -278,106 +250,11 @@ module _ {X B : Type 0} (stored : B → Stored) (keeps : Start → Kept X → Ty
   tried-validates law inner w t free tells' hit =
       subst (λ (y : Version). LockValidates tied p (version_of expects) y.words v) (sym t.last) (validates stored keeps tied start tells s r id v there live law p expects l hit free tells')
 
--- the view with these seats, loads, pages known and drafts
-abbrev pub locking : {X : Type 0} → View X → List (Put Seat) → List (Put (List (ℕ × ℕ))) → List (Put Held) → List (Put (List ℕ)) → View X
-locking v seats loads held drafts = record v { seats = seats; loads = loads; held = held; drafts = drafts }
-
 module _ {X B : Type 0} (stored : B → Stored) (keeps : Start → Kept X → Type 0) (tied : Start → ℕ → List ℕ → ℕ → List ℕ → Type 0) (start : Origin) (tells : Bool) (s : Table (Option B) (View X)) (r : Ruled stored keeps tied start tells s) where
-  abbrev taken-old : World
-  taken-old = world stored keeps tied start tells s r
-
   -- the drafts with the page's, which is opened with its last words
   abbrev pub opened : ℕ → ℕ → List ℕ
   opened p = upd r.drafts p (last_in start r.releases p).words
 
-  module _ (id : ℕ) (v : View X) (there : get_elem? s.views id ≡ some v) (live : v.live ≡ true) (p expects x : ℕ) (l : p < start.pages) (hit : slice_index s.words p ≡ expects) where
-    abbrev taken_did : Did
-    taken_did = did_exchange (places.State p) expects (slice_index s.words p) x
-
-    -- what it shows of the pass's seats, of the pages that it knows and of the drafts
-    pub word-shows : (e : Event) (y : Page) (seats : List (Put Seat)) (loads : List (Put (List (ℕ × ℕ)))) (held : List (Put Held)) (own : List (Put (List ℕ))) (drafts : ℕ → List ℕ) → IsExchange stored start s r.releases r.drafts id p expects x drafts (locking v seats loads held own) e y
-        → ((o : Out) → v.out ≡ Some o → may_call (put_at no_seat seats o.page) ≡ true)
-        → ((q : ℕ) → (seat_of v q).exclusive ≡ true → (put_at no_seat seats q).exclusive ≡ true)
-        → ((q : ℕ) → KnowsPage (put_at no_seat seats q) (put_at no_held held q) (upd taken-old.core.pages p y q))
-        → ((q : ℕ) → is_pending s.views q ≡ true → drafts q ≡ r.drafts q)
-        → ((q : ℕ) → (put_at no_seat seats q).exclusive ≡ true → put_at [] own q ≡ drafts q)
-        → ShowsQuiet stored keeps tied start tells s r id v (slice_set s.words p x) drafts taken_did (locking v seats loads held own) e
-    word-shows e y seats loads held own drafts is calls holds knows members drafted =
-        let found-it = finding stored keeps tied start tells s r id v there p expects l hit in
-        record {
-          wide = wide-after start s.words p x r.wide.0;
-          spelled = spelled-after start s.words p x r.wide.0 l r.spelled;
-          legal = is.legal;
-          world = is.leads _ refl refl refl refl found-it;
-          at = l;
-          found = refl;
-          wrote = subst (λ b. IsFoundAt (if b then Some x else None) p (slice_set s.words p x)) (sym (eq-eqb (slice_index s.words p) expects hit)) (wrote-there start s.words p x r.wide.0 l);
-          leaves = lock-quiet v seats loads held own;
-          calls = calls;
-          holds = holds;
-          members = members;
-          next = ap (λ (c : State). c.next) (is.core found-it);
-          frames = λ f h. ap (λ (c : State). c.words f) (is.core found-it);
-          knows = λ q. subst (λ (c : State). KnowsPage (put_at no_seat seats q) (put_at no_held held q) (c.pages q)) (sym (is.core found-it)) (knows q);
-          drafted = drafted;
-          loaded = ([], refl, tt);
-        }
-
-    -- a page that the pass holds exclusively has its draft, also after a step that leaves it
-    pub draft-stays : (q : ℕ) → (seat_of v q).exclusive ≡ true → draft_of v q ≡ r.drafts q
-    draft-stays q owns = (r.known id v there live).drafts q owns ∙ draft-is start r.releases r.drafts q
-
-    -- ---- a lock
-
-    -- the pass has this seat of the page, and knows the page, if the seat says so
-    seat-shows : (e : Event) (y : Page) (seat : Seat) (held : List (Put Held)) (own : List (Put (List ℕ))) (drafts : ℕ → List ℕ) → IsExchange stored start s r.releases r.drafts id p expects x drafts (locking v (put p seat v.seats) (put p [] v.loads) held own) e y
-        → (may_call (seat_of v p) ≡ true → may_call seat ≡ true) → ((seat_of v p).exclusive ≡ true → seat.exclusive ≡ true)
-        → ((q : ℕ) → q ≢ p → put_at no_held held q ≡ put_at no_held v.held q) → KnowsPage seat (put_at no_held held p) y
-        → ((q : ℕ) → is_pending s.views q ≡ true → drafts q ≡ r.drafts q)
-        → ((q : ℕ) → (put_at no_seat (put p seat v.seats) q).exclusive ≡ true → put_at [] own q ≡ drafts q)
-        → ShowsQuiet stored keeps tied start tells s r id v (slice_set s.words p x) drafts taken_did (locking v (put p seat v.seats) (put p [] v.loads) held own) e
-    seat-shows e y seat held own drafts is calls holds others here members drafted =
-        word-shows e y (put p seat v.seats) (put p [] v.loads) held own drafts is
-        (calls-still stored keeps tied start tells s r id v there p seat (λ o h same. calls))
-        (seats-keep (λ k. k.exclusive ≡ true) v p seat holds)
-        (knows-one v taken-old.core.pages p seat held y (r.known id v there live).knows others here)
-        members drafted
-
-    -- an exclusive lock of a page that was not locked: its draft is opened
-    pub owner-shows : (e : Event) (y : Page) (seat : Seat) (held : List (Put Held)) → IsExchange stored start s r.releases r.drafts id p expects x (opened p) (locking v (put p seat v.seats) (put p [] v.loads) held (put p (last stored keeps tied start tells s r p).words v.drafts)) e y
-        → seat.exclusive ≡ true → (taken-old.core.pages p).state ≢ LOCKED
-        → ((q : ℕ) → q ≢ p → put_at no_held held q ≡ put_at no_held v.held q) → KnowsPage seat (put_at no_held held p) y
-        → ShowsQuiet stored keeps tied start tells s r id v (slice_set s.words p x) (opened p) taken_did (locking v (put p seat v.seats) (put p [] v.loads) held (put p (last stored keeps tied start tells s r p).words v.drafts)) e
-    owner-shows e y seat held is owns free others here =
-        seat-shows e y seat held (put p (last stored keeps tied start tells s r p).words v.drafts) (opened p) is (λ m. rw owns refl) (λ m. owns) others here
-        (λ q t.
-        ⊎_elim
-        (λ e'. absurd (true≢false (sym t ∙ ap (is_pending s.views) e' ∙ not-pending stored keeps tied start tells s r p l free)))
-        (λ ne. upd-other r.drafts p _ q ne)
-        (cases_eq q p))
-        (λ q m.
-        ⊎_elim
-        (λ e'.
-        ap (put_at [] (put p (last stored keeps tied start tells s r p).words v.drafts)) e'
-        ∙ upd-same (put_at [] v.drafts) p _
-        ∙ ap (λ (k : Version). k.words) (sym (last-is start r.releases r.drafts p))
-        ∙ sym (ap (opened p) e' ∙ upd-same r.drafts p _))
-        (λ ne.
-        upd-other (put_at [] v.drafts) p _ q ne
-        ∙ draft-stays q (sym (ap (λ (k : Seat). k.exclusive) (upd-other (λ n. seat_of v n) p seat q ne)) ∙ m)
-        ∙ sym (upd-other r.drafts p _ q ne))
-        (cases_eq q p))
-
-    -- a lock that is not exclusive
-    pub sharer-shows : (e : Event) (y : Page) (seat : Seat) (held : List (Put Held)) → IsExchange stored start s r.releases r.drafts id p expects x r.drafts (locking v (put p seat v.seats) (put p [] v.loads) held v.drafts) e y
-        → (may_call (seat_of v p) ≡ true → may_call seat ≡ true) → seat.exclusive ≡ (seat_of v p).exclusive
-        → ((q : ℕ) → q ≢ p → put_at no_held held q ≡ put_at no_held v.held q) → KnowsPage seat (put_at no_held held p) y
-        → ShowsQuiet stored keeps tied start tells s r id v (slice_set s.words p x) r.drafts taken_did (locking v (put p seat v.seats) (put p [] v.loads) held v.drafts) e
-    sharer-shows e y seat held is calls same others here =
-        seat-shows e y seat held v.drafts r.drafts is calls (λ m. same ∙ m) others here (λ q t. refl)
-        (λ q m. draft-stays q (sym (upd-keeps (λ (k : Seat). k.exclusive) (λ n. seat_of v n) p seat same q) ∙ m))
-
-module _ {X B : Type 0} (stored : B → Stored) (keeps : Start → Kept X → Type 0) (tied : Start → ℕ → List ℕ → ℕ → List ℕ → Type 0) (start : Origin) (tells : Bool) (s : Table (Option B) (View X)) (r : Ruled stored keeps tied start tells s) where
   -- what the pass knows of the page
   abbrev pub page_held : ℕ → Held
   page_held p =
@@ -398,10 +275,7 @@ module _ {X B : Type 0} (stored : B → Stored) (keeps : Start → Kept X → Ty
     -- the page is no member still to be released of the pass, which does not hold it exclusively
     pub free-member : has p v.pending ≡ false
     free-member =
-        ⊎_elim
-        (λ t. absurd (true≢false (sym (any-here (λ (y : View X). has p y.pending) s.views id v there t) ∙ not-pending stored keeps tied start tells s r p l free)))
-        (λ f. f)
-        (cases_Bool (has p v.pending))
+        false_from_ne_true (has p v.pending) (λ t. true≢false (sym (any-here (λ (y : View X). has p y.pending) s.views id v there t) ∙ not-pending stored keeps tied start tells s r p l free))
 
     pub free-owner : (seat_of v p).exclusive ≡ false
     free-owner = unheld stored start s id p v (r.inv.pages p).locks free l there
@@ -409,10 +283,7 @@ module _ {X B : Type 0} (stored : B → Stored) (keeps : Start → Kept X → Ty
     -- it does not owe the page either, and does not hold it as the next page
     pub free-debt : v.live ≡ true → has p v.owed ≡ false
     free-debt live =
-        ⊎_elim
-        (λ t. absurd (true≢false (sym ((r.known id v there live).owed p t).0 ∙ free-owner)))
-        (λ f. f)
-        (cases_Bool (has p v.owed))
+        false_from_ne_true (has p v.owed) (λ t. true≢false (sym ((r.known id v there live).owed p t).0 ∙ free-owner))
 
     module _ (none : share_count ((world stored keeps tied start tells s r).core.pages p).state ≡ 0) where
       shares-none : (a : ℕ) → a < length s.views → (((world stored keeps tied start tells s r).core.pages p).seats a).shares ≡ 0
@@ -422,14 +293,11 @@ module _ {X B : Type 0} (stored : B → Stored) (keeps : Start → Kept X → Ty
           let sum : sum_below (length s.views) (λ b. (y.seats b).shares) ≡ share_count y.state = (r.inv.pages p).locks.shares in
           omega (arith, below, sum, none)
 
-      pub free-shares : (seat_of v p).shares ≡ 0
-      free-shares = ap (λ (k : Seat). k.shares) (sym (seat-here stored start s id p v l there)) ∙ shares-none id (at-bound s.views id v there)
-
       pub free-unheld : v.live ≡ true → IsUnheld v p
       free-unheld live =
           record {
             exclusive = free-owner;
-            shares = free-shares;
+            shares = ap (λ (k : Seat). k.shares) (sym (seat-here stored start s id p v l there)) ∙ shares-none id (at-bound s.views id v there);
             writing = ⊎_elim
                 (λ t.
                 let one : 1 ≤ (((world stored keeps tied start tells s r).core.pages p).seats id).shares = ((r.inv.pages p).locks.writer id (ap (λ (k : Seat). k.writing) (seat-here stored start s id p v l there) ∙ t)).0 in
@@ -469,6 +337,114 @@ module _ {X B : Type 0} (stored : B → Stored) (keeps : Start → Kept X → Ty
             device = λ t clean. sym block.0 ∙ block-is_last (r.inv.pages p).stands ((r.inv.pages p).contents t) free clean;
           })
 
+-- the view with these seats, loads, pages known and drafts
+abbrev pub locking : {X : Type 0} → View X → List (Put Seat) → List (Put (List (ℕ × ℕ))) → List (Put Held) → List (Put (List ℕ)) → View X
+locking v seats loads held drafts = record v { seats = seats; loads = loads; held = held; drafts = drafts }
+
+module _ {X B : Type 0} (stored : B → Stored) (keeps : Start → Kept X → Type 0) (tied : Start → ℕ → List ℕ → ℕ → List ℕ → Type 0) (start : Origin) (tells : Bool) (s : Table (Option B) (View X)) (r : Ruled stored keeps tied start tells s) (id : ℕ) (v : View X)
+    (there : get_elem? s.views id ≡ some v) (live : v.live ≡ true) (p : ℕ) (l : p < start.pages) where
+  abbrev old' : World
+  old' = world stored keeps tied start tells s r
+
+  -- a page that the pass holds exclusively has its draft, also after a step that leaves it
+  pub draft-stays : (q : ℕ) → (seat_of v q).exclusive ≡ true → draft_of v q ≡ r.drafts q
+  draft-stays q owns = (r.known id v there live).drafts q owns ∙ draft-is start r.releases r.drafts q
+
+  module _ (did : Did) (x : ℕ) (drafts : ℕ → List ℕ) (e : Event) (y : Page) where
+    -- the step leaves this word, and is an event after which the page is y
+    pub record Settles (inner : View X) : Type 0 where
+      pub word : IsWordOf start s.words (slice_set s.words p x) did
+      pub legal : Legal old'.core e
+      pub world : world_of stored start r.releases drafts (became stored keeps tied start tells s (slice_set s.words p x) id (after_step stored keeps tied start tells s r (slice_set s.words p x) [] [] did inner)) ≡ world_after old' e
+      pub core : (world_after old' e).core ≡ on_page old'.core p y
+
+    -- what it shows of the pass's seats, of the pages that it knows and of the drafts
+    pub word-shows : (seats : List (Put Seat)) (loads : List (Put (List (ℕ × ℕ)))) (held : List (Put Held)) (own : List (Put (List ℕ))) → Settles (locking v seats loads held own)
+        → ((o : Out) → v.out ≡ Some o → may_call (put_at no_seat seats o.page) ≡ true)
+        → ((q : ℕ) → (seat_of v q).exclusive ≡ true → (put_at no_seat seats q).exclusive ≡ true)
+        → ((q : ℕ) → KnowsPage (put_at no_seat seats q) (put_at no_held held q) (upd old'.core.pages p y q))
+        → ((q : ℕ) → is_pending s.views q ≡ true → drafts q ≡ r.drafts q)
+        → ((q : ℕ) → (put_at no_seat seats q).exclusive ≡ true → put_at [] own q ≡ drafts q)
+        → ShowsQuiet stored keeps tied start tells s r id v (slice_set s.words p x) drafts did (locking v seats loads held own) e
+    word-shows seats loads held own is calls holds knows members drafted = record {
+      word = is.word;
+      legal = is.legal;
+      world = is.world;
+      leaves = refl;
+      calls = calls;
+      holds = holds;
+      members = members;
+      next = ap (λ (c : State). c.next) is.core;
+      knows = λ q. subst (λ (c : State). KnowsPage (put_at no_seat seats q) (put_at no_held held q) (c.pages q)) (sym is.core) (knows q);
+      contents = λ f h. (r.known id v there live).contents f h ∙ sym (ap (λ (c : State). c.words f) is.core);
+      drafted = drafted;
+      loaded = ([], refl, tt);
+    }
+
+    -- the same, where the pass has this seat of the page, and knows the page, if the seat says so
+    pub seat-shows : (seat : Seat) (loads : List (Put (List (ℕ × ℕ)))) (held : List (Put Held)) (own : List (Put (List ℕ))) → Settles (locking v (put p seat v.seats) loads held own)
+        → ((o : Out) → v.out ≡ Some o → o.page ≡ p → may_call (seat_of v p) ≡ true → may_call seat ≡ true) → ((seat_of v p).exclusive ≡ true → seat.exclusive ≡ true)
+        → ((q : ℕ) → q ≢ p → put_at no_held held q ≡ put_at no_held v.held q) → KnowsPage seat (put_at no_held held p) y
+        → ((q : ℕ) → is_pending s.views q ≡ true → drafts q ≡ r.drafts q)
+        → ((q : ℕ) → (put_at no_seat (put p seat v.seats) q).exclusive ≡ true → put_at [] own q ≡ drafts q)
+        → ShowsQuiet stored keeps tied start tells s r id v (slice_set s.words p x) drafts did (locking v (put p seat v.seats) loads held own) e
+    seat-shows seat loads held own is calls holds others here =
+        word-shows (put p seat v.seats) loads held own is
+        (λ o x. each-upd (λ q y. o.page ≡ q → may_call (seat_of v q) ≡ true → may_call y ≡ true) (put_at no_seat v.seats) p seat (calls o x) (λ q ne e k. k) o.page refl (r.blocks.away id v o there x).1)
+        (each-upd (λ q y. (seat_of v q).exclusive ≡ true → y.exclusive ≡ true) (put_at no_seat v.seats) p seat holds (λ q ne k. k))
+        (knows-one v old'.core.pages p seat held y (r.known id v there live).knows others here)
+
+  -- ---- a lock
+
+  module _ (expects x : ℕ) (hit : slice_index s.words p ≡ expects) where
+    abbrev taken_did : Did
+    taken_did = did_exchange (places.State p) expects (slice_index s.words p) x
+
+    -- so an exchange that is taken does
+    pub exchange-settles : (drafts : ℕ → List ℕ) (inner : View X) (e : Event) (y : Page) → IsExchange stored start s r.releases r.drafts id p expects x drafts inner e y → Settles taken_did x drafts e y inner
+    exchange-settles drafts inner e y is =
+        let found-it = finding stored keeps tied start tells s r id v there p expects l hit in
+        record {
+          word = word-left start s.words taken_did x r.wide.0 r.spelled l refl refl (ap {B = Option ℕ} (λ b. if b then Some x else None) (eq-eqb (slice_index s.words p) expects hit));
+          legal = is.legal;
+          world = is.leads _ refl refl refl refl found-it;
+          core = is.core found-it;
+        }
+
+    -- an exclusive lock of a page that was not locked: its draft is opened
+    pub owner-shows : (e : Event) (y : Page) (seat : Seat) (held : List (Put Held)) → IsExchange stored start s r.releases r.drafts id p expects x (opened stored keeps tied start tells s r p) (locking v (put p seat v.seats) (put p [] v.loads) held (put p (last stored keeps tied start tells s r p).words v.drafts)) e y
+        → seat.exclusive ≡ true → (old'.core.pages p).state ≢ LOCKED
+        → ((q : ℕ) → q ≢ p → put_at no_held held q ≡ put_at no_held v.held q) → KnowsPage seat (put_at no_held held p) y
+        → ShowsQuiet stored keeps tied start tells s r id v (slice_set s.words p x) (opened stored keeps tied start tells s r p) taken_did (locking v (put p seat v.seats) (put p [] v.loads) held (put p (last stored keeps tied start tells s r p).words v.drafts)) e
+    owner-shows e y seat held is owns free others here =
+        seat-shows taken_did x (opened stored keeps tied start tells s r p) e y seat (put p [] v.loads) held (put p (last stored keeps tied start tells s r p).words v.drafts) (exchange-settles (opened stored keeps tied start tells s r p) _ e y is) (λ o h same m. rw owns refl) (λ m. owns) others here
+        (λ q t.
+        ⊎_elim
+        (λ e'. absurd (true≢false (sym t ∙ ap (is_pending s.views) e' ∙ not-pending stored keeps tied start tells s r p l free)))
+        (λ ne. upd-other r.drafts p _ q ne)
+        (cases_eq q p))
+        (λ q m.
+        ⊎_elim
+        (λ e'.
+        ap (put_at [] (put p (last stored keeps tied start tells s r p).words v.drafts)) e'
+        ∙ upd-same (put_at [] v.drafts) p _
+        ∙ ap (λ (k : Version). k.words) (sym (last-is start r.releases r.drafts p))
+        ∙ sym (ap (opened stored keeps tied start tells s r p) e' ∙ upd-same r.drafts p _))
+        (λ ne.
+        upd-other (put_at [] v.drafts) p _ q ne
+        ∙ draft-stays q (sym (ap (λ (k : Seat). k.exclusive) (upd-other (λ n. seat_of v n) p seat q ne)) ∙ m)
+        ∙ sym (upd-other r.drafts p _ q ne))
+        (cases_eq q p))
+
+    -- a lock that is not exclusive
+    pub sharer-shows : (e : Event) (y : Page) (seat : Seat) (held : List (Put Held)) → IsExchange stored start s r.releases r.drafts id p expects x r.drafts (locking v (put p seat v.seats) (put p [] v.loads) held v.drafts) e y
+        → (may_call (seat_of v p) ≡ true → may_call seat ≡ true) → seat.exclusive ≡ (seat_of v p).exclusive
+        → ((q : ℕ) → q ≢ p → put_at no_held held q ≡ put_at no_held v.held q) → KnowsPage seat (put_at no_held held p) y
+        → ShowsQuiet stored keeps tied start tells s r id v (slice_set s.words p x) r.drafts taken_did (locking v (put p seat v.seats) (put p [] v.loads) held v.drafts) e
+    sharer-shows e y seat held is calls same others here =
+        seat-shows taken_did x r.drafts e y seat (put p [] v.loads) held v.drafts (exchange-settles r.drafts _ e y is) (λ o h at. calls) (λ m. same ∙ m) others here (λ q t. refl)
+        (λ q m. draft-stays q (sym (upd-keeps (λ (k : Seat). k.exclusive) (λ n. seat_of v n) p seat same q) ∙ m))
+
 -- what an exchange sees, by whether the page has the word expected
 seen-as : (y : Page) (expects found : ℕ) (b : Bool) → finds y expects ≡ b → eqb found expects ≡ b → page_word y ≡ found → exchange_seen y expects ≡ exchange_sees expects found
 seen-as y expects found b at is word =
@@ -477,43 +453,17 @@ seen-as y expects found b at is word =
 module _ {X B : Type 0} (stored : B → Stored) (start : Origin) (keeps : Start → Kept X → Type 0) (tied : Start → ℕ → List ℕ → ℕ → List ℕ → Type 0) (tells : Bool) (s : Table (Option B) (View X)) (id p : ℕ) where
   -- what an exchange on a page's state word tells, of a kind whose view where it was taken is `inner`: the event is this one
   pub exchange-event : (expects found x : ℕ) (drafts : ℕ → List ℕ) (did : Did) (v inner w : View X) (e : Event) (z : Page) → IsPassOf stored start keeps tied tells s id v → FindsAt start s (places.State p) found
-      → IsExchange stored start s [] (λ _. []) id p expects x drafts inner e z → Brings did [] [] v (if eqb found expects then inner else v) w
+      → IsExchange stored start s [] (λ _. []) id p expects x drafts inner e z → Brings did [] [] v (if eqb found expects then inner else v) w → seen (core_shown stored start s) e ≡ exchange_seen ((core_shown stored start s).pages p) expects
       → IsEvent stored start s (table_after s (exchanged s.words p expects found x) id w) e (exchange_sees expects found)
-  exchange-event expects found x drafts did v inner w e z pass at event brings =
+  exchange-event expects found x drafts did v inner w e z pass at event brings sees =
       let y : Page = (core_shown stored start s).pages p in
       let word : page_word y ≡ found = word-here stored start s p at.0 ∙ sym at.1 in
-      let as-is : (b : Bool) → eqb found expects ≡ b → core_shown stored start (table_after s (exchanged s.words p expects found x) id w) ≡ core_shown stored start (table_after s (slice_set s.words p (if b then x else found)) id w) =
-      (λ b is. ap (λ k. core_shown stored start (table_after s (slice_set s.words p (if k then x else found)) id w)) is) in
-      ⊎_elim
-      (λ hit.
-      let is : eqb found expects ≡ true = eq-eqb found expects hit in
-      let finds-it : finds y expects ≡ true = finding stored keeps tied start tells s pass.rule id v pass.there p expects at.0 (sym at.1 ∙ hit) in
-      let view = ap {B = View X} (λ b. if b then inner else v) is in
-      record {
-        legal = event.legal;
-        core = as-is true is
-            ∙ ap (λ (k : World). k.core) (event.leads w
-            (ap (λ (k : View X). k.out) brings.view ∙ ap (λ (k : View X). k.out) view)
-            (ap (λ (k : View X). k.frames) brings.view ∙ ap (λ (k : View X). k.frames) view)
-            (ap (λ (k : View X). k.seats) brings.view ∙ ap (λ (k : View X). k.seats) view)
-            (ap (λ (k : View X). k.loads) brings.view ∙ ap (λ (k : View X). k.loads) view)
-            finds-it);
-        sees = event.sees ∙ seen-as y expects found true finds-it is word;
-      })
-      (λ miss.
-      let is : eqb found expects ≡ false = ne_eqb found expects miss in
-      let misses : finds y expects ≡ false = missing stored keeps tied start tells s pass.rule id v pass.there p expects at.0 (λ q. miss (at.1 ∙ q)) in
-      let view = ap {B = View X} (λ b. if b then inner else v) is in
-      let still : slice_set s.words p found ≡ s.words = ap (slice_set s.words p) at.1 ∙ same-word s.words p in
-      record {
-        legal = event.legal;
-        core = as-is false is
-            ∙ ap (λ l. core_shown stored start (table_after s l id w)) still
-            ∙ core-still stored start s id v w pass.there
-            (ap (λ (k : View X). k.out) brings.view ∙ ap (λ (k : View X). k.out) view)
-            (ap (λ (k : View X). k.frames) brings.view ∙ ap (λ (k : View X). k.frames) view)
-            (ap (λ (k : View X). k.seats) brings.view ∙ ap (λ (k : View X). k.seats) view)
-            ∙ sym (ap (λ (k : World). k.core) (event.none misses));
-        sees = event.sees ∙ seen-as y expects found false misses is word;
-      })
-      (cases_eq found expects)
+      let hits : found ≡ expects → finds y expects ≡ true = (λ hit. finding stored keeps tied start tells s pass.rule id v pass.there p expects at.0 (sym at.1 ∙ hit)) in
+      let misses : found ≢ expects → finds y expects ≡ false = (λ miss. missing stored keeps tied start tells s pass.rule id v pass.there p expects at.0 (λ q. miss (at.1 ∙ q))) in
+      tried-event stored start keeps tied tells s id (places.State p) expects found x did v inner w e pass at brings event.legal
+      (λ hit b. ap (λ (k : World). k.core) (event.leads w (ap (λ (k : View X). k.out) b.view) (ap (λ (k : View X). k.frames) b.view) (ap (λ (k : View X). k.seats) b.view) (ap (λ (k : View X). k.loads) b.view) (hits hit)))
+      (λ miss. ap (λ (k : World). k.core) (event.none (misses miss)))
+      (sees ∙ ⊎_elim
+      (λ hit. seen-as y expects found true (hits hit) (eq-eqb found expects hit) word)
+      (λ miss. seen-as y expects found false (misses miss) (ne_eqb found expects miss) word)
+      (cases_eq found expects))

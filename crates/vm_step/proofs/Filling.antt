@@ -1,13 +1,10 @@
 -- Stores of a page's words into a frame of the pass, one after the other: they change the words of that frame alone, and after 64 of them
 -- these are the page's.
-use Rattle.std.proofs.Common.{[], ◌++◌, ◌+◌, ◌<◌, ◌∙◌, ◌∷◌, ◌≡◌, ap, append_assoc, arith, length, List, refl, slice_index, slice_set, subst, suc, sym}
-use Rattle.std.proofs.Common.{zero, ℕ}
 use Rattle.std.proofs.lemmas.List.{length-append}
-use Rattle.vm_core.proofs.Upd.{upd-same}
-use Rattle.vm_rule.specs.Prelude.{contents_at, did_store, FillTold, put, put_at}
 use Rattle.vm_rule.specs.declared.view.Place.TheVariants as places
-use Rattle.vm_step.specs.Prelude.{Did, HasWritten, Stores, View, Works}
 use Rattle.vm_step.proofs.Leaves.{works-none, works-one, works-then}
+use Rattle.vm_step.proofs.Prelude.{[], ap, append_assoc, arith, contents_at, Did, did_store, FillTold, HasWritten, length, List, put, put_at, refl}
+use Rattle.vm_step.proofs.Prelude.{slice_index, slice_set, Stores, subst, suc, sym, upd-same, View, Works, zero, ℕ, ◌++◌, ◌+◌, ◌<◌, ◌∙◌, ◌∷◌, ◌≡◌}
 
 -- ---- words written over others, from the i-th on
 
@@ -28,10 +25,6 @@ written-over i (x ∷ xs) a (y ∷ b) la lb =
     let here : slice_set (a ++ y ∷ b) i x ≡ (a ++ x ∷ []) ++ b = subst (λ (n : ℕ). slice_set (a ++ y ∷ b) n x ≡ (a ++ x ∷ []) ++ b) la (set-behind a y b x ∙ sym (append_assoc a (x ∷ []) b)) in
     let long : length (a ++ x ∷ []) ≡ i + 1 = length-append a (x ∷ []) ∙ ap (λ (n : ℕ). n + 1) la in
     ap (written (i + 1) xs) here ∙ written-over (i + 1) xs (a ++ x ∷ []) b long (omega (arith, lb)) ∙ append_assoc a (x ∷ []) xs
-
--- all words are written
-written-all : (xs l : List ℕ) → length l ≡ length xs → written 0 xs l ≡ xs
-written-all xs l e = written-over 0 xs [] l refl e
 
 -- ---- the steps
 
@@ -87,7 +80,7 @@ module _ {X : Type 0} (f : ℕ) where
   fills-size (x ∷ xs) v w long s = let t : FillTold f 0 x v s.0 = s.1 in t.size
 
   pub filled : (xs : List ℕ) (v w : View X) → length xs ≡ 64 → Stores f 0 xs v w → contents_at w f ≡ xs
-  filled xs v w long s = fills-contents 0 xs v w s ∙ written-all xs (contents_at v f) (fills-size xs v w long s ∙ sym long)
+  filled xs v w long s = fills-contents 0 xs v w s ∙ (written-over 0 xs [] (contents_at v f) refl (fills-size xs v w long s ∙ sym long))
 
 plus-none : (i : ℕ) → i ≡ i + 0
 plus-none i = omega arith

@@ -1,30 +1,16 @@
 -- Lists of pages: those that are chosen, those without some, and the pages after a group's changes.
-use Rattle.std.proofs.Common.{[], ⊎_elim, ◌++◌, ◌<◌, ◌||◌, ◌∙◌, ◌∷◌, ◌≡◌, ◌≢◌, ◌≤◌, ap, arith, Bool, false, List, refl, suc, sym, true, true≢false}
-use Rattle.std.proofs.Common.{zero, ℕ}
-use Rattle.std.proofs.lemmas.Bool.{cases_Bool, cases_eq, eq-eqb, false≢true, ne_eqb}
-use Rattle.std.proofs.lemmas.Bool.Decides.{nat_tests}
-use Rattle.vm_core.specs.Prelude.{upd}
-use Rattle.vm_core.proofs.Upd.{upd-other, upd-same}
-use Rattle.vm_owner.specs.Kept.{Agrees, changed}
-use Rattle.vm_rule.specs.Prelude.{Change, changed_pages, has, without}
-pub use Rattle.vm_owner.proofs.NumberLemmas.{has-end, apart-end}
-use Rattle.vm_owner.proofs.NumberLemmas.{has-without, has-without_other, has-without_same}
-use Rattle.vm_rule.specs.Prelude.{chosen, Each, listed, without_all}
-use Rattle.vm_rule.proofs.{Facts.has-both, Parts.listed-same, Parts.listed-upd}
 use Rattle.vm_step.proofs.Logical.{length-listed, page-listed}
+use Rattle.vm_step.proofs.Prelude.{[], Agrees, ap, arith, Bool, cases_Bool, cases_eq, Change, changed, changed_pages, chosen, Each, eq-eqb, false}
+use Rattle.vm_step.proofs.Prelude.{false_from_ne_true, false≢true, has, has-both, has-right, has-without, has-without_other, has-without_same, List}
+use Rattle.vm_step.proofs.Prelude.{listed, listed-same, listed-upd, nat_tests, ne_eqb, or-false, refl, suc, sym, true, true≢false, upd, upd-other}
+use Rattle.vm_step.proofs.Prelude.{upd-same, without, without_all, zero, ℕ, ⊎_elim, ◌++◌, ◌<◌, ◌∙◌, ◌∷◌, ◌≡◌, ◌≢◌, ◌≤◌}
+pub use Rattle.vm_owner.proofs.NumberLemmas.{has-end, apart-end}
 
 -- ---- lists of numbers
 
 -- what the first of two lists has, both have
 pub has-left_of : (q : ℕ) (a b : List ℕ) → has q a ≡ true → has q (a ++ b) ≡ true
 has-left_of q a b e = has-both q a b ∙ rw e refl
-
-pub has-right_of : (q : ℕ) (a b : List ℕ) → has q b ≡ true → has q (a ++ b) ≡ true
-has-right_of q a b e = has-both q a b ∙ rw e (or-true (has q a))
-  where
-    or-true : (x : Bool) → (x || true) ≡ true
-    or-true true = refl
-    or-true false = refl
 
 -- ---- the numbers that are chosen
 
@@ -43,18 +29,14 @@ chosen-has zero f q l = absurd (omega arith)
 chosen-has (suc n) f q l =
     ⊎_elim
     (λ (e : q ≡ n). ⊎_elim
-    (λ t. rw t (has-right_of q (chosen n f) (n ∷ []) (rw (eq-eqb q n e) refl)) ∙ sym t ∙ ap f (sym e))
+    (λ t. rw t (has-right q (chosen n f) (n ∷ []) (rw (eq-eqb q n e) refl)) ∙ sym t ∙ ap f (sym e))
     (λ x. rw x (has-both q (chosen n f) [] ∙ rw (chosen-below n f q (omega arith)) refl) ∙ sym x ∙ ap f (sym e))
     (cases_Bool (f n)))
     (λ ne. ⊎_elim
     (λ t. rw t (has-end (chosen n f) n q ne) ∙ chosen-has n f q (omega (arith, l, ne)))
-    (λ x. rw x (has-both q (chosen n f) [] ∙ or-none (has q (chosen n f))) ∙ chosen-has n f q (omega (arith, l, ne)))
+    (λ x. rw x (has-both q (chosen n f) [] ∙ or-false (has q (chosen n f))) ∙ chosen-has n f q (omega (arith, l, ne)))
     (cases_Bool (f n)))
     (cases_eq q n)
-  where
-    or-none : (b : Bool) → (b || false) ≡ b
-    or-none true = refl
-    or-none false = refl
 
 pub chosen-same : (n : ℕ) (f g : ℕ → Bool) → ((q : ℕ) → q < n → f q ≡ g q) → chosen n f ≡ chosen n g
 unfolding chosen
@@ -79,7 +61,7 @@ has-without_all_other (x ∷ xs) owed q none =
 
 pub has-without_all_same : (qs owed : List ℕ) (q : ℕ) → has q qs ≡ true → has q (without_all qs owed) ≡ false
 has-without_all_same qs owed q some =
-    ⊎_elim (λ t. absurd (true≢false (sym some ∙ (has-without_all qs owed q t).1))) (λ f. f) (cases_Bool (has q (without_all qs owed)))
+    false_from_ne_true (has q (without_all qs owed)) (λ t. true≢false (sym some ∙ (has-without_all qs owed q t).1))
 
 -- ---- the pages after a group's changes
 

@@ -1,7 +1,5 @@
 -- Frames are held while the pass takes and gives none.
-use Rattle.std.proofs.Common.{◌<◌, ◌≡◌, List, subst, sym, true, ℕ}
-use Rattle.vm_rule.specs.Prelude.{Each, has}
-use Rattle.vm_step.specs.Prelude.{AreHeld, View}
+use Rattle.vm_step.proofs.Prelude.{AreHeld, Each, has, List, subst, sym, true, View, ℕ, ◌<◌, ◌≡◌}
 
 module _ {X : Type 0} where
   pub held-on : (frames : List ℕ) (v w : View X) → AreHeld frames v → w.start ≡ v.start → w.frames ≡ v.frames → AreHeld frames w

@@ -1,28 +1,18 @@
 -- What a ruled table tells a pass of itself, of a page, and of the page's word as a step finds it.
-use Rattle.std.proofs.Common.{[], ⊎_elim, ◌++◌, ◌<◌, ◌∙◌, ◌≡◌, ◌≢◌, ◌≤◌, ap, arith, Bool, eq-eqb, false, length, List, None, Option, refl}
-use Rattle.std.proofs.Common.{slice_index, Some, subst, sym, true, true≢false, ℕ}
-use Rattle.std.proofs.lemmas.Bool.{cases_eq, cases_lt}
-use Rattle.vm_core.specs.Prelude.{at_page, EVICTED, get_elem?, is_readable, LoadsAre, LOCKED, Page, page_at, ReadInv, some, stands_in, state_of}
-use Rattle.vm_core.specs.Prelude.{Version, version_of, World}
-use Rattle.vm_core.proofs.PageFacts.{some-is}
-use Rattle.vm_rule.specs.Prelude.{at_state, began_of, Each, HasShape, is_pending, IsOlder, IsSince, IsSinceAll, Kept, last_in, loads_at}
-use Rattle.vm_rule.specs.Prelude.{LockValidates, Mapping, Open, Ruled, Seat, seat_of, Start, Stored, Table, TieHolds, WasWord, WereWords, world_of}
-use Rattle.vm_rule.specs.declared.view.Place.{Place}
+use Rattle.std.proofs.Common.{eq-eqb}
 use Rattle.vm_rule.specs.declared.view.Place.TheVariants as places
-use Rattle.vm_rule.proofs.{Entries.append-none, Entries.each-map, Worlds.last-is}
-use Rattle.vm_rule.proofs.Found.{loads-here, seat-here, state-here, version-here}
-use Rattle.vm_step.specs.Prelude.{Did, IsOf, Origin, Shape, Tie, View}
 use Rattle.vm_step.proofs.Logical.{not-pending, tied-now}
+use Rattle.vm_step.proofs.Prelude.{[], ap, append-none, arith, at_page, at_state, began_of, Bool, cases_eq, cases_lt, Did, Each, each-map, EVICTED}
+use Rattle.vm_step.proofs.Prelude.{false, get_elem?, HasShape, is_pending, is_readable, IsOf, IsOlder, IsSince, IsSinceAll, Kept, last-is, last_in}
+use Rattle.vm_step.proofs.Prelude.{length, List, loads-here, loads_at, LoadsAre, LOCKED, LockValidates, Mapping, None, Open, Option, Origin, Page}
+use Rattle.vm_step.proofs.Prelude.{page_at, Place, ReadInv, refl, Ruled, Seat, seat-here, seat_of, Shape, slice_index, Some, some, some-is, stands_in}
+use Rattle.vm_step.proofs.Prelude.{Start, state-here, state_of, Stored, subst, sym, Table, Tie, TieHolds, true, true≢false, Version, version-here}
+use Rattle.vm_step.proofs.Prelude.{version_of, View, WasWord, WereWords, World, world_of, ℕ, ⊎_elim, ◌++◌, ◌<◌, ◌∙◌, ◌≡◌, ◌≢◌, ◌≤◌}
 
 -- what is said of the page of a state word
 state-each : (x : Place) (P Q : ℕ → Type 0) → ((q : ℕ) → P q → Q q) → at_state x P → at_state x Q
 state-each (places.State p) P Q f h = f p h
-state-each (places.Translation p) P Q f h = tt
-state-each (places.Fault p) P Q f h = tt
-state-each (places.Content g i) P Q f h = tt
-state-each (places.Bundle g) P Q f h = tt
-state-each places.Next P Q f h = tt
-state-each places.Hand P Q f h = tt
+state-each _ P Q f h = tt
 
 was-since : (y : Page) (found : ℕ) (o : Option ℕ) → y.state ≡ state_of found → y.version ≡ version_of found → WasWord y o → IsSince found o
 was-since y found None s v h = tt

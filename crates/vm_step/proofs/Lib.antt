@@ -1,3 +1,4 @@
+pub mod Prelude
 pub mod Logical
 pub mod Here
 pub mod Fit
@@ -6,6 +7,7 @@ pub mod Groups
 pub mod Written
 pub mod Mine
 pub mod Unclaimed
+pub mod Keeping
 pub mod OwedPages
 pub mod Quiet
 pub mod Slots

@@ -1,10 +1,7 @@
 -- The logical words of pages, as the layer above knows them: of a page that is not locked they are its last words.
-use Rattle.std.proofs.Common.{⊎_elim, ◌<◌, ◌∙◌, ◌≡◌, ◌≢◌, ap, arith, Bool, false, length, List, Option, refl, subst, suc, sym, true, zero, ℕ}
-use Rattle.std.proofs.lemmas.Bool.{cases_Bool}
-use Rattle.vm_core.specs.Prelude.{History, LOCKED, page_at}
-use Rattle.vm_rule.specs.Prelude.{began_of, core_shown, is_pending, Kept, kept_of, listed, logical, Ruled, Start, Stored, Table, world_of}
-use Rattle.vm_rule.proofs.Facts.{locked-here, pending-held}
-use Rattle.vm_step.specs.Prelude.{Origin, View}
+use Rattle.vm_step.proofs.Prelude.{ap, arith, began_of, Bool, cases_Bool, core_shown, false, false_from_ne_true, History, is_pending, Kept, kept_of}
+use Rattle.vm_step.proofs.Prelude.{length, List, listed, LOCKED, locked-here, logical, Option, Origin, page_at, pending-held, refl, Ruled, Start}
+use Rattle.vm_step.proofs.Prelude.{Stored, subst, suc, sym, Table, true, View, world_of, zero, ℕ, ⊎_elim, ◌<◌, ◌∙◌, ◌≡◌, ◌≢◌}
 
 pub page-listed : (n : ℕ) (f : ℕ → List ℕ) (k : ℕ) → k < n → page_at (listed n f) k ≡ f k
 unfolding listed
@@ -38,10 +35,7 @@ module _ {X B : Type 0} (stored : B → Stored) (keeps : Start → Kept X → Ty
   -- a page that is not locked is no member still to be released
   pub not-pending : (p : ℕ) → p < start.pages → ((core_shown stored start s).pages p).state ≢ LOCKED → is_pending s.views p ≡ false
   not-pending p l free =
-      ⊎_elim
-      (λ t. let k = pending-held stored start keeps tied tells s r p t in absurd (free (locked-here stored start s k.0 p k.1 (r.inv.pages p).locks l k.2 k.3)))
-      (λ f. f)
-      (cases_Bool (is_pending s.views p))
+      false_from_ne_true (is_pending s.views p) (λ t. let k = pending-held stored start keeps tied tells s r p t in free (locked-here stored start s k.0 p k.1 (r.inv.pages p).locks l k.2 k.3))
 
   -- what the layer above has of a page
   pub page-kept : (p : ℕ) → p < start.pages → is_pending s.views p ≡ false

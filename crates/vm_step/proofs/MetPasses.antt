@@ -1,9 +1,7 @@
 -- What two passes have that met.
-use Rattle.std.proofs.Common.{◌++◌, ◌∙◌, ◌≡◌, ap, false, subst, sym}
-use Rattle.vm_rule.specs.Prelude.{CaughtUp, giver, hearer, Hears, newcomer, StartsWith, TakesOver}
-use Rattle.vm_rule.proofs.Entries.{append-none}
-use Rattle.vm_step.specs.Prelude.{HasStill, Meets, View}
 use Rattle.vm_step.proofs.{Still.followed-still, Still.heard-still, Together.caught-heard}
+use Rattle.vm_step.proofs.Prelude.{ap, append-none, CaughtUp, false, giver, HasStill, hearer, Hears, Meets, newcomer, StartsWith, subst, sym}
+use Rattle.vm_step.proofs.Prelude.{TakesOver, View, ◌++◌, ◌∙◌, ◌≡◌}
 
 module _ {X : Type 0} where
   -- a pass that was told, and then was brought up to date: both lists go on from what it was told
@@ -13,10 +11,6 @@ module _ {X : Type 0} where
       let seen : v.seen ++ b.others ≡ x.seen = sym (ap (λ (u : View X). u.seen) b.view ∙ append-none (v.seen ++ b.others)) in
       let releases : v.releases ++ b.between ≡ x.releases = sym (ap (λ (u : View X). u.releases) b.view ∙ append-none (v.releases ++ b.between)) in
       (subst (λ l. StartsWith l n.releases) releases b.told.0, subst (λ l. StartsWith l n.seen) seen (b.told.1.0, b.told.1.1))
-
-  -- each pass was told by a pass without a part that was split off the other: the first was brought up to date, and the second follows it
-  pub meets : (v w x y : View X) → CaughtUp (hearer v (newcomer false w)) x → TakesOver (hearer w (newcomer false x)) y → Meets v w x y
-  meets v w x y a b = record { caught = a; takes = b }
 
   -- they know one and the same of both lists then, which goes on from what each had seen, with no further entry of either
   pub met-known : (v w x y : View X) → Meets v w x y → (y.seen ≡ x.seen) × (y.releases ≡ x.releases) × Hears x.seen v.used v.seen × Hears x.seen w.used w.seen × StartsWith x.releases v.releases × StartsWith x.releases w.releases
@@ -38,4 +32,4 @@ module _ {X : Type 0} where
   pub meets-then : (v w w' n x x' m y : View X) → w' ≡ giver false w → n ≡ newcomer false w → CaughtUp (hearer v n) x → x' ≡ giver false x → m ≡ newcomer false x → TakesOver (hearer w' m) y → Meets v w x' y
   meets-then v w w' n x x' m y kept given told kept' given' follows =
       subst (λ u. Meets v w u y) (sym kept')
-      (meets v w x y (subst (λ u. CaughtUp (hearer v u) x) given told) (subst (λ u. TakesOver (hearer u (newcomer false x)) y) kept (subst (λ u. TakesOver (hearer w' u) y) given' follows)))
+      (record { caught = (subst (λ u. CaughtUp (hearer v u) x) given told); takes = (subst (λ u. TakesOver (hearer u (newcomer false x)) y) kept (subst (λ u. TakesOver (hearer w' u) y) given' follows)) })

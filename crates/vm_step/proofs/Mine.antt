@@ -1,12 +1,8 @@
 -- What the rule says of the pages that a pass holds exclusively: where they stand, what is known of them, and that no other view says a thing of them.
-use Rattle.std.proofs.Common.{⊎_elim, ◌<◌, ◌∙◌, ◌≡◌, ◌≢◌, ◌≤◌, ap, Bool, false, List, None, Option, refl, slice_set, Some, sym, true, true≢false, ℕ}
-use Rattle.std.proofs.lemmas.Bool.{cases_Bool, cases_lt, false≢true, le-ltb}
-use Rattle.atomic_table.proofs.Lists.{at_set}
-use Rattle.vm_core.specs.Prelude.{get_elem?, outside_page, Page, some, some-injective}
-use Rattle.vm_rule.specs.Prelude.{any, core_shown, has, is_owed, is_pending, Kept, Mapping, may_call, no_held, pages_from, put_at, Ruled, seat_of}
-use Rattle.vm_rule.specs.Prelude.{spent, Start, Stored, Table}
-use Rattle.vm_rule.proofs.Facts.{any-true, caller-here}
-use Rattle.vm_step.specs.Prelude.{Origin, View}
+use Rattle.vm_step.proofs.Prelude.{any, any-true, ap, at_set, Bool, caller-here, cases_Bool, cases_lt, core_shown, false, false_from_ne_true}
+use Rattle.vm_step.proofs.Prelude.{false≢true, get_elem?, has, is_owed, is_pending, Kept, le-ltb, List, Mapping, may_call, no_held, None, Option}
+use Rattle.vm_step.proofs.Prelude.{Origin, outside_page, Page, pages_from, put_at, refl, Ruled, seat_of, slice_set, Some, some, some-injective, spent}
+use Rattle.vm_step.proofs.Prelude.{Start, Stored, sym, Table, true, true≢false, View, ℕ, ⊎_elim, ◌<◌, ◌∙◌, ◌≡◌, ◌≢◌, ◌≤◌}
 
 module _ {X B : Type 0} (stored : B → Stored) (keeps : Start → Kept X → Type 0) (tied : Start → ℕ → List ℕ → ℕ → List ℕ → Type 0) (start : Origin) (tells : Bool) (s : Table (Option B) (View X)) (r : Ruled stored keeps tied start tells s) (id : ℕ) (v : View X) (there : get_elem? s.views id ≡ some v) (live : v.live ≡ true) where
   -- past the last page stands a page that is always the same
@@ -59,14 +55,8 @@ module _ {X B : Type 0} (stored : B → Stored) (keeps : Start → Kept X → Ty
 
   pub not-member : (p : ℕ) (w : View X) → p < start.pages → (seat_of v p).exclusive ≡ true → has p w.pending ≡ false → is_pending (slice_set s.views id w) p ≡ false
   not-member p w l owns none =
-      ⊎_elim
-      (λ t. absurd (true≢false (sym (holder-said (λ u. has p u.pending) p w l owns refl (λ j u at on x. ((r.known j u at on).pending p x).0) t) ∙ none)))
-      (λ f. f)
-      (cases_Bool (is_pending (slice_set s.views id w) p))
+      false_from_ne_true (is_pending (slice_set s.views id w) p) (λ t. true≢false (sym (holder-said (λ u. has p u.pending) p w l owns refl (λ j u at on x. ((r.known j u at on).pending p x).0) t) ∙ none))
 
   pub not-owed : (p : ℕ) (w : View X) → p < start.pages → (seat_of v p).exclusive ≡ true → has p w.owed ≡ false → is_owed (slice_set s.views id w) p ≡ false
   not-owed p w l owns none =
-      ⊎_elim
-      (λ t. absurd (true≢false (sym (holder-said (λ u. has p u.owed) p w l owns refl (λ j u at on x. ((r.known j u at on).owed p x).0) t) ∙ none)))
-      (λ f. f)
-      (cases_Bool (is_owed (slice_set s.views id w) p))
+      false_from_ne_true (is_owed (slice_set s.views id w) p) (λ t. true≢false (sym (holder-said (λ u. has p u.owed) p w l owns refl (λ j u at on x. ((r.known j u at on).owed p x).0) t) ∙ none))

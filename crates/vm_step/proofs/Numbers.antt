@@ -1,9 +1,7 @@
 -- The pages from a number on, and a claim of them.
-use Rattle.std.proofs.Common.{[], ⊎_elim, ◌++◌, ◌+◌, ◌<◌, ◌||◌, ◌∙◌, ◌∷◌, ◌≡◌, ◌≤◌, ap, arith, replicate, slice_index, suc, sym, true, zero, ℕ}
-use Rattle.std.proofs.lemmas.Bool.{cases_eq, cases_lt, eq-eqb, false≢true, ne_eqb}
-use Rattle.std.proofs.lemmas.List.{get_or-replicate, length-replicate}
-use Rattle.std.proofs.Math.ListN.{get_or-eq_default}
-use Rattle.vm_rule.specs.Prelude.{claimed, has, Kept, numbers}
+use Rattle.vm_step.proofs.Prelude.{[], ap, arith, cases_eq, cases_lt, claimed, eq-eqb, false≢true, get_or-eq_default, get_or-replicate, has, Kept}
+use Rattle.vm_step.proofs.Prelude.{length-replicate, ne_eqb, numbers, replicate, slice_index, suc, sym, true, zero, ℕ, ⊎_elim, ◌++◌, ◌+◌, ◌<◌, ◌||◌}
+use Rattle.vm_step.proofs.Prelude.{◌∙◌, ◌∷◌, ◌≡◌, ◌≤◌}
 
 -- the list has the numbers from x on, n of them
 pub has-numbers : (n x p : ℕ) → has p (numbers x n) ≡ true → (x ≤ p) × (p < x + n)

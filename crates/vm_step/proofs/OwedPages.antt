@@ -1,12 +1,8 @@
 -- The pages owed, by rising number: a claim adds its pages at the end, and a release takes its pages out.
-use Rattle.std.proofs.Common.{[], ⊎_elim, ◌++◌, ◌+◌, ◌<◌, ◌==◌, ◌||◌, ◌∙◌, ◌∷◌, ◌≡◌, ◌≢◌, ◌≤◌, ap, arith, Bool, false, if◌then◌else◌, List, refl, suc}
-use Rattle.std.proofs.Common.{sym, true, zero, ℕ}
-use Rattle.std.proofs.lemmas.Bool.{cases_eq, cases_lt, eq-eqb, ne_eqb}
-use Rattle.vm_owner.specs.Kept.{owed_after}
-use Rattle.vm_owner.proofs.NumberLemmas.{without-both}
-use Rattle.vm_rule.specs.Prelude.{Change, changed_pages, chosen, claimed, has, Kept, without}
-use Rattle.vm_rule.proofs.Entries.{append-none}
 use Rattle.vm_step.proofs.Groups.{chosen-same}
+use Rattle.vm_step.proofs.Prelude.{[], ap, append-none, arith, Bool, cases_eq, cases_lt, Change, changed_pages, chosen, claimed, eq-eqb, false, has}
+use Rattle.vm_step.proofs.Prelude.{if◌then◌else◌, Kept, List, ne_eqb, or_right, owed_after, refl, suc, sym, true, without, without-both, zero, ℕ}
+use Rattle.vm_step.proofs.Prelude.{⊎_elim, ◌++◌, ◌+◌, ◌<◌, ◌==◌, ◌∙◌, ◌∷◌, ◌≡◌, ◌≢◌, ◌≤◌}
 
 -- f, but b at k
 abbrev but : (ℕ → Bool) → ℕ → Bool → ℕ → Bool
@@ -93,12 +89,8 @@ owed_after-chosen [] n f g gone other = chosen-same n f g (λ q l. sym (other q 
 owed_after-chosen (c ∷ cs) n f g gone other =
     ap (owed_after cs) (chosen-less n f (but f c.page false) c.page (λ q _ e. but-here f c.page false q e) (λ q _ ne. but-else f c.page false q ne))
     ∙ owed_after-chosen cs n (but f c.page false) g
-    (λ q l some. gone q l (or-right (q == c.page) (has q (changed_pages cs)) some))
+    (λ q l some. gone q l (or_right (q == c.page) (has q (changed_pages cs)) some))
     (λ q l none. ⊎_elim
     (λ e. gone q l (rw (eq-eqb q c.page e) refl) ∙ sym (but-here f c.page false q e))
     (λ ne. other q l (rw (ne_eqb q c.page ne) none) ∙ sym (but-else f c.page false q ne))
     (cases_eq q c.page))
-  where
-    or-right : (a b : Bool) → b ≡ true → (a || b) ≡ true
-    or-right true b e = refl
-    or-right false b e = e

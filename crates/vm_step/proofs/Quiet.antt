@@ -1,196 +1,239 @@
--- A step that releases no page and says nothing: the layer above sees nothing of it, so it shows little more than what the pass knows of pages
--- and of the frames that it holds.
-use Rattle.std.proofs.Common.{[], ◌++◌, ◌<◌, ◌∙◌, ◌≡◌, ◌≤◌, ap, Bool, inl, length, List, Option, refl, slice_set, Some, subst, sym, true, true≢false}
-use Rattle.std.proofs.Common.{ℕ}
-use mathlib.Core.Path.{fun_ext}
-use Rattle.vm_core.specs.Prelude.{get_elem?, Legal, some, World, world_after}
-use Rattle.vm_rule.specs.Prelude.{ArePlain, began_of, chosen, core_shown, draft_of, Each, Event, has, histories_of, index_of, is_owed, is_pending}
-use Rattle.vm_rule.specs.Prelude.{IsFoundAt, Kept, kept_of, KnowsPage, KnowsPages, listed, logical, may_call, no_held, put_at, Ruled, Seat, seat_of}
-use Rattle.vm_rule.specs.Prelude.{Start, Stored, Table, TranslationHolds, width, Within, world_of}
-use Rattle.vm_rule.specs.declared.view.Held.{Held}
-use Rattle.vm_rule.proofs.{Entries.append-none, Facts.any-here, Views.any-same, Worlds.draft-is, Worlds.last-same}
-use Rattle.vm_rule.proofs.Adding.{after_step, became, Shows}
-use Rattle.vm_step.specs.Prelude.{Did, Origin, Out, Put, Translation, View}
-use Rattle.vm_step.proofs.Logical.{logical-same}
+-- A step that releases no page: of it the layer above sees an entry, the next page and the pages owed, at most. So the step shows little more than what the pass
+-- knows of pages and of the frames that it holds.
+use mathlib.Core.Option as maybe
+use Rattle.vm_step.proofs.{Logical.logical-same, Written.IsWordOf}
+use Rattle.vm_step.proofs.Prelude.{[], after_more, after_step, any-here, any-same, ap, append-none, arith, became, became_more, began_of, block_of}
+use Rattle.vm_step.proofs.Prelude.{Bool, chosen, core_shown, Did, draft-is, draft_of, Each, Entry, entry_of, Event, false, fun_ext, get_elem?, has}
+use Rattle.vm_step.proofs.Prelude.{Held, histories_of, inl, is_owed, is_pending, Kept, kept_of, KnowsPage, KnowsPages, last-same, Legal, List, listed}
+use Rattle.vm_step.proofs.Prelude.{logical, may_call, no_held, Option, Origin, Out, Put, put_at, refl, replicate, Ruled, seat_of, Shows, slice_set}
+use Rattle.vm_step.proofs.Prelude.{Some, some, Start, State, Stored, subst, sym, Table, Tie, TieHolds, Translation, TranslationHolds, true}
+use Rattle.vm_step.proofs.Prelude.{true≢false, View, World, world_after, world_of, ℕ, ◌++◌, ◌<◌, ◌∙◌, ◌∷◌, ◌≡◌, ◌≤◌, ◌⊎◌}
 
-module _ {X : Type 0} where
-  -- the parts of a view that such a step leaves
-  pub record IsQuiet (v inner : View X) : Type 0 where
-    pub live : inner.live ≡ v.live
-    pub start : inner.start ≡ v.start
-    pub used : inner.used ≡ v.used
-    pub fresh : inner.fresh ≡ v.fresh
-    pub notes : inner.notes ≡ v.notes
-    pub log : inner.log ≡ v.log
-    pub out : inner.out ≡ v.out
-    pub mine : inner.mine ≡ v.mine
-    pub frames : inner.frames ≡ v.frames
-    pub contents : inner.contents ≡ v.contents
-    pub pending : inner.pending ≡ v.pending
-    pub owed : inner.owed ≡ v.owed
-    pub next : inner.next ≡ v.next
-    pub ties : inner.ties ≡ v.ties
+-- ---- what follows of any such step
 
-  -- a step on a lock changes the seats, the loads, and what is known of the pages held
-  pub lock-quiet : (v : View X) (seats : List (Put Seat)) (loads : List (Put (List (ℕ × ℕ)))) (held : List (Put Held)) (drafts : List (Put (List ℕ))) → IsQuiet v (record v { seats = seats; loads = loads; held = held; drafts = drafts })
-  lock-quiet v seats loads held drafts = record { live = refl; start = refl; used = refl; fresh = refl; notes = refl; log = refl; out = refl; mine = refl; frames = refl; contents = refl; pending = refl; owed = refl; next = refl; ties = refl }
-
-  -- the view with the frames that the pass had, and what it knew of them
-  abbrev pub with_frames_of : View X → View X → View X
-  with_frames_of v inner = record inner { frames = v.frames; contents = v.contents }
-
-  with-frames : (v inner : View X) → IsQuiet v inner → IsQuiet v (with_frames_of v inner)
-  with-frames v inner q = record { live = q.live; start = q.start; used = q.used; fresh = q.fresh; notes = q.notes; log = q.log; out = q.out; mine = q.mine; frames = refl; contents = refl; pending = q.pending; owed = q.owed; next = q.next; ties = q.ties }
-
-module _ {X B : Type 0} (stored : B → Stored) (keeps : Start → Kept X → Type 0) (tied : Start → ℕ → List ℕ → ℕ → List ℕ → Type 0) (start : Origin) (tells : Bool) (s : Table (Option B) (View X)) (r : Ruled stored keeps tied start tells s) (id : ℕ) (v : View X) (words : List ℕ) (drafts : ℕ → List ℕ) (did : Did) (inner : View X) (e : Event) where
+module _ {X B : Type 0} (stored : B → Stored) (keeps : Start → Kept X → Type 0) (tied : Start → ℕ → List ℕ → ℕ → List ℕ → Type 0) (start : Origin) (tells : Bool) (s : Table (Option B) (View X)) (r : Ruled stored keeps tied start tells s) (id : ℕ) (v : View X) (words : List ℕ) (homes : List (maybe.Option (Option B))) (blocks : List Stored) (drafts : ℕ → List ℕ) (entries : List (Entry X)) (did : Did) (inner : View X) (later : World) where
   abbrev after : View X
-  after = after_step stored keeps tied start tells s r words [] [] did inner
+  after = after_more stored keeps tied start tells s r id v words homes blocks drafts [] entries did inner
 
   abbrev new : Table (Option B) (View X)
-  new = became stored keeps tied start tells s words id after
+  new = became_more stored keeps tied start tells s r id v words homes blocks drafts [] entries did inner
 
   abbrev old : World
   old = world_of stored start r.releases r.drafts s
 
-  -- what is to be shown of it, where frames may come to the pass or go from it
-  pub record ShowsMoved : Type 0 where
-    pub wide : length words ≡ width start
-    pub spelled : ArePlain start words
-    pub legal : Legal old.core e
-    pub world : world_of stored start r.releases drafts new ≡ world_after old e
-    pub at : Within start did.at
-    pub found : IsFoundAt did.found (index_of start did.at) s.words
-    pub wrote : IsFoundAt did.wrote (index_of start did.at) words
-    pub leaves : IsQuiet v (with_frames_of v inner)
-    pub calls : (o : Out) → v.out ≡ Some o → may_call (seat_of inner o.page) ≡ true
-    -- the pass holds what it held; drafts stay, but of pages that were not held
-    pub holds : (q : ℕ) → (seat_of v q).exclusive ≡ true → (seat_of inner q).exclusive ≡ true
+  -- the table shows this world then; each member still to be released keeps its draft, and the next page goes up, if it moves
+  pub record LeadsTo : Type 0 where
+    pub world : world_of stored start r.releases drafts new ≡ later
+    pub pending : inner.pending ≡ v.pending
     pub members : (q : ℕ) → is_pending s.views q ≡ true → drafts q ≡ r.drafts q
-    pub next : (world_after old e).core.next ≡ old.core.next
-    -- it knows the words of each frame that it holds
-    pub contents : (f : ℕ) → has f inner.frames ≡ true → put_at [] inner.contents f ≡ (world_after old e).core.words f
-    pub knows : (q : ℕ) → KnowsPage (seat_of inner q) (put_at no_held inner.held q) ((world_after old e).core.pages q)
-    pub drafted : (q : ℕ) → (seat_of inner q).exclusive ≡ true → draft_of inner q ≡ drafts q
-    pub loaded : (l : List Translation) × (inner.translations ≡ l ++ v.translations) × Each (TranslationHolds (world_after old e).core.pages) l
+    pub up : old.core.next ≤ later.core.next
 
-  module _ (there : get_elem? s.views id ≡ some v) (live : v.live ≡ true) (sh : ShowsMoved) where
-    world-told : world_of stored start (r.releases ++ []) drafts new ≡ world_after old e
-    world-told = ap (λ l. world_of stored start l drafts new) (append-none r.releases) ∙ sh.world
+  -- so it does with the releases after the step, and this is so of the members and of what the layer above has then
+  pub record HasLed : Type 0 where
+    pub world : world_of stored start (r.releases ++ []) drafts new ≡ later
+    pub pending : is_pending (slice_set s.views id after) ≡ is_pending s.views
+    pub zero : start.tells ≡ true → (q : ℕ) → (core_shown stored start new).next ≤ q → q < start.pages → (histories_of start (r.releases ++ []) drafts q).last.words ≡ replicate 64 0
+    pub members : (q : ℕ) → has q inner.pending ≡ true
+        → ((seat_of v q).exclusive ≡ true) × (start.tells ≡ true → (core_shown stored start new).next ≤ q → drafts q ≡ (histories_of start (r.releases ++ []) drafts q).last.words)
+    pub kept : kept_of (world_of stored start (r.releases ++ []) drafts new) (r.history ++ entries) (slice_set s.views id after)
+        ≡ record (kept_of old r.history s.views) { next = later.core.next; owed = chosen start.pages (is_owed (slice_set s.views id after)); history = r.history ++ entries }
 
+  module _ (there : get_elem? s.views id ≡ some v) (live : v.live ≡ true) (to : LeadsTo) where
     last-stays : (q : ℕ) → (histories_of start (r.releases ++ []) drafts q).last ≡ (histories_of start r.releases r.drafts q).last
     last-stays q = ap (λ l. (histories_of start l drafts q).last) (append-none r.releases) ∙ last-same start r.releases drafts r.drafts q
 
-    pending-stays : is_pending (slice_set s.views id after) ≡ is_pending s.views
-    pending-stays = fun_ext (λ q. any-same (λ (y : View X). has q y.pending) s.views id v after there (ap (has q) sh.leaves.pending))
+    world-told : world_of stored start (r.releases ++ []) drafts new ≡ later
+    world-told = ap (λ l. world_of stored start l drafts new) (append-none r.releases) ∙ to.world
 
-    owed-stays : is_owed (slice_set s.views id after) ≡ is_owed s.views
-    owed-stays = fun_ext (λ q. any-same (λ (y : View X). has q y.owed) s.views id v after there (ap (has q) sh.leaves.owed))
+    past : (q : ℕ) → (core_shown stored start new).next ≤ q → old.core.next ≤ q
+    past q le = let up = to.up in let same = ap (λ (w : World). w.core.next) to.world in omega (arith, up, same, le)
+
+    pending-stays : is_pending (slice_set s.views id after) ≡ is_pending s.views
+    pending-stays = fun_ext (λ q. any-same (λ (y : View X). has q y.pending) s.views id v after there (ap (has q) to.pending))
 
     logical-stays : logical (histories_of start (r.releases ++ []) drafts) (is_pending s.views) ≡ logical (histories_of start r.releases r.drafts) (is_pending s.views)
     logical-stays =
         fun_ext (λ q. logical-same (histories_of start (r.releases ++ []) drafts) (histories_of start r.releases r.drafts) (is_pending s.views) (is_pending s.views) q refl
-        (λ t. draft-is start (r.releases ++ []) drafts q ∙ sh.members q t ∙ sym (draft-is start r.releases r.drafts q))
+        (λ t. draft-is start (r.releases ++ []) drafts q ∙ to.members q t ∙ sym (draft-is start r.releases r.drafts q))
         (λ _. ap (λ x. x.words) (last-stays q)))
 
-    next-stays : (core_shown stored start new).next ≡ old.core.next
-    next-stays = ap (λ (w : World). w.core.next) sh.world ∙ sh.next
-
-    kept-stays : kept_of (world_of stored start (r.releases ++ []) drafts new) (r.history ++ []) (slice_set s.views id after) ≡ kept_of old r.history s.views
-    kept-stays i = record {
-      pages = listed start.pages (((λ j. logical (histories_of start (r.releases ++ []) drafts) (pending-stays j)) ∙ logical-stays) i);
-      next = next-stays i;
-      owed = chosen start.pages (owed-stays i);
-      history = append-none r.history i;
+    pub has-led : HasLed
+    has-led = record {
+      world = world-told;
+      pending = pending-stays;
+      zero = λ t q le l. ap (λ x. x.words) (last-stays q) ∙ r.zero t q (past q le) l;
+      members = λ q x.
+          let was : has q v.pending ≡ true = sym (ap (has q) to.pending) ∙ x in
+          let m = (r.known id v there live).pending q was in (
+            m.0,
+            λ t le.
+                to.members q (any-here (λ (y : View X). has q y.pending) s.views id v there was)
+                ∙ sym (draft-is start r.releases r.drafts q)
+                ∙ m.1 t (past q le)
+                ∙ sym (ap (λ y. y.words) (last-stays q)),
+          );
+      kept = λ i. record {
+        pages = listed start.pages (((λ j. logical (histories_of start (r.releases ++ []) drafts) (pending-stays j)) ∙ logical-stays) i);
+        next = ap (λ (w : World). w.core.next) world-told i;
+        owed = chosen start.pages (is_owed (slice_set s.views id after));
+        history = r.history ++ entries;
+      };
     }
 
-    pub moved-shows : Shows stored keeps tied start tells s r id v words drafts [] [] did inner e
-    moved-shows =
-        let k : KnowsPages tied start old (is_pending s.views) v = r.known id v there live in
-        record {
-          wide = sh.wide;
-          spelled = sh.spelled;
-          legal = sh.legal;
-          world = world-told;
-          at = sh.at;
-          found = sh.found;
-          wrote = sh.wrote;
-          live = sh.leaves.live;
-          same_start = sh.leaves.start;
-          used = sh.leaves.used;
-          fresh = sh.leaves.fresh;
-          notes = sh.leaves.notes;
-          log = sh.leaves.log;
-          out = sh.leaves.out;
-          calls = sh.calls;
-          entry = inl refl;
-          mine = sh.leaves.mine ∙ sym (append-none v.mine);
-          next_versions = tt;
-          zero = λ t q le l. ap (λ x. x.words) (last-stays q) ∙ r.zero t q (subst (λ n. n ≤ q) next-stays le) l;
-          knows = λ q. subst (λ (w : World). KnowsPage (seat_of inner q) (put_at no_held inner.held q) (w.core.pages q)) (sym sh.world) (sh.knows q);
-          contents = λ f x. sh.contents f x ∙ sym (ap (λ (w : World). w.core.words f) sh.world);
-          drafted = sh.drafted;
-          pending = λ q x.
-              let was : has q v.pending ≡ true = sym (ap (has q) sh.leaves.pending) ∙ x in
-              let m = k.pending q was in (
-                sh.holds q m.0,
-                λ t past.
-                    sh.members q (any-here (λ (y : View X). has q y.pending) s.views id v there was)
-                    ∙ sym (draft-is start r.releases r.drafts q)
-                    ∙ m.1 t (subst (λ n. n ≤ q) next-stays past)
-                    ∙ sym (ap (λ y. y.words) (last-stays q)),
-              );
-          owed = λ q x.
-              let m = k.owed q (sym (ap (has q) sh.leaves.owed) ∙ x) in (
-                sh.holds q m.0,
-                m.1,
-                subst (λ n. q < n) (sym next-stays) m.2,
-                ap (has q) sh.leaves.pending ∙ m.3,
-              );
-          next = λ x e'. let m = k.next x (sym sh.leaves.next ∙ e') in (sh.holds x m.0, next-stays ∙ m.1);
-          loaded = subst (λ (w : World). (l : List Translation) × (inner.translations ≡ l ++ v.translations) × Each (TranslationHolds w.core.pages) l) (sym sh.world) sh.loaded;
-          tying = ([], sh.leaves.ties, λ _. tt);
-          members = λ q was gone. absurd (true≢false (sym was ∙ sym (ap (has q) sh.leaves.pending) ∙ gone));
-          owner = λ t. subst (keeps (began_of start)) (sym kept-stays);
-        }
+-- ---- a step that is an event, and moves no block
 
-  -- the same, where it holds the frames that it held, and their words stay
-  pub record ShowsQuiet : Type 0 where
-    pub wide : length words ≡ width start
-    pub spelled : ArePlain start words
-    pub legal : Legal old.core e
-    pub world : world_of stored start r.releases drafts new ≡ world_after old e
-    pub at : Within start did.at
-    pub found : IsFoundAt did.found (index_of start did.at) s.words
-    pub wrote : IsFoundAt did.wrote (index_of start did.at) words
-    pub leaves : IsQuiet v inner
+module _ {X B : Type 0} (stored : B → Stored) (keeps : Start → Kept X → Type 0) (tied : Start → ℕ → List ℕ → ℕ → List ℕ → Type 0) (start : Origin) (tells : Bool) (s : Table (Option B) (View X)) (r : Ruled stored keeps tied start tells s) (id : ℕ) (v : View X) (words : List ℕ) (drafts : ℕ → List ℕ) (entries : List (Entry X)) (did : Did) (inner : View X) (e : Event) where
+  abbrev views : List (View X)
+  views = slice_set s.views id (after_step stored keeps tied start tells s r words [] entries did inner)
+
+  abbrev now : World
+  now = world_of stored start r.releases r.drafts s
+
+  abbrev then : World
+  then = world_after now e
+
+  -- what is to be shown of it, where all may change but what every such step leaves
+  pub record ShowsEvent : Type 0 where
+    pub word : IsWordOf start s.words words did
+    pub legal : Legal now.core e
+    pub leads : LeadsTo stored keeps tied start tells s r id v words s.homes (listed start.pages (block_of stored s.homes s.views)) drafts entries did inner then
+    pub same : (inner.live ≡ v.live) × (inner.start ≡ v.start) × (inner.used ≡ v.used) × (inner.fresh ≡ v.fresh) × (inner.notes ≡ v.notes) × (inner.log ≡ v.log) × (inner.out ≡ v.out)
     pub calls : (o : Out) → v.out ≡ Some o → may_call (seat_of inner o.page) ≡ true
     pub holds : (q : ℕ) → (seat_of v q).exclusive ≡ true → (seat_of inner q).exclusive ≡ true
-    pub members : (q : ℕ) → is_pending s.views q ≡ true → drafts q ≡ r.drafts q
-    pub next : (world_after old e).core.next ≡ old.core.next
-    pub frames : (f : ℕ) → has f v.frames ≡ true → (world_after old e).core.words f ≡ old.core.words f
-    pub knows : (q : ℕ) → KnowsPage (seat_of inner q) (put_at no_held inner.held q) ((world_after old e).core.pages q)
+    pub knows : (q : ℕ) → KnowsPage (seat_of inner q) (put_at no_held inner.held q) (then.core.pages q)
+    pub contents : (f : ℕ) → has f inner.frames ≡ true → put_at [] inner.contents f ≡ then.core.words f
     pub drafted : (q : ℕ) → (seat_of inner q).exclusive ≡ true → draft_of inner q ≡ drafts q
-    pub loaded : (l : List Translation) × (inner.translations ≡ l ++ v.translations) × Each (TranslationHolds (world_after old e).core.pages) l
+    pub owes : (q : ℕ) → has q inner.owed ≡ true → ((seat_of inner q).exclusive ≡ true) × (start.next ≤ q) × (q < then.core.next) × (has q inner.pending ≡ false)
+    pub next : (x : ℕ) → inner.next ≡ Some x → ((seat_of inner x).exclusive ≡ true) × (then.core.next ≡ x)
+    pub loaded : (l : List Translation) × (inner.translations ≡ l ++ v.translations) × Each (TranslationHolds then.core.pages) l
+    pub tying : (l : List Tie) × (inner.ties ≡ l ++ v.ties) × (start.tells ≡ true → Each (TieHolds tied (began_of start) then (is_pending s.views)) l)
+    pub says : ((entries ≡ []) ⊎ ((x : X) × (entries ≡ entry_of v x ∷ []))) × (inner.mine ≡ v.mine ++ entries)
+    pub owner : start.tells ≡ true → keeps (began_of start) (kept_of now r.history s.views)
+        → keeps (began_of start) (record (kept_of now r.history s.views) { next = then.core.next; owed = chosen start.pages (is_owed views); history = r.history ++ entries })
 
-  pub quiet-shows : get_elem? s.views id ≡ some v → v.live ≡ true → ShowsQuiet → Shows stored keeps tied start tells s r id v words drafts [] [] did inner e
-  quiet-shows there live sh =
-      moved-shows there live (record {
-        wide = sh.wide;
-        spelled = sh.spelled;
+  pub event-shows : get_elem? s.views id ≡ some v → v.live ≡ true → ShowsEvent → Shows stored keeps tied start tells s r id v words drafts [] entries did inner e
+  event-shows there live sh =
+      let led : HasLed stored keeps tied start tells s r id v words s.homes (listed start.pages (block_of stored s.homes s.views)) drafts entries did inner then =
+      has-led stored keeps tied start tells s r id v words s.homes (listed start.pages (block_of stored s.homes s.views)) drafts entries did inner then there live sh.leads in
+      let core : core_shown stored start (became stored keeps tied start tells s words id (after_step stored keeps tied start tells s r words [] entries did inner)) ≡ then.core = ap (λ (w : World). w.core) sh.leads.world in
+      record {
+        wide = sh.word.wide;
+        spelled = sh.word.spelled;
         legal = sh.legal;
-        world = sh.world;
-        at = sh.at;
-        found = sh.found;
-        wrote = sh.wrote;
-        leaves = with-frames v inner sh.leaves;
+        world = led.world;
+        at = sh.word.at;
+        found = sh.word.found;
+        wrote = sh.word.wrote;
+        live = sh.same.0;
+        same_start = sh.same.1;
+        used = sh.same.2;
+        fresh = sh.same.3;
+        notes = sh.same.4;
+        log = sh.same.5;
+        out = sh.same.6;
         calls = sh.calls;
-        holds = sh.holds;
-        members = sh.members;
-        next = sh.next;
-        contents = λ f x.
-            let has-it : has f v.frames ≡ true = sym (ap (has f) sh.leaves.frames) ∙ x in
-            ap (λ l. put_at [] l f) sh.leaves.contents ∙ (r.known id v there live).contents f has-it ∙ sym (sh.frames f has-it);
-        knows = sh.knows;
+        entry = sh.says.0;
+        mine = sh.says.1;
+        next_versions = tt;
+        zero = led.zero;
+        knows = λ q. subst (λ (c : State). KnowsPage (seat_of inner q) (put_at no_held inner.held q) (c.pages q)) (sym core) (sh.knows q);
+        contents = λ f x. sh.contents f x ∙ sym (ap (λ (c : State). c.words f) core);
         drafted = sh.drafted;
-        loaded = sh.loaded;
+        pending = λ q x. let m = led.members q x in (sh.holds q m.0, m.1);
+        owed = λ q x. let m = sh.owes q x in (m.0, m.1, subst (λ n. q < n) (sym (ap (λ (c : State). c.next) core)) m.2, m.3);
+        next = λ x is. let m = sh.next x is in (m.0, ap (λ (c : State). c.next) core ∙ m.1);
+        loaded = subst (λ (c : State). (l : List Translation) × (inner.translations ≡ l ++ v.translations) × Each (TranslationHolds c.pages) l) (sym core) sh.loaded;
+        tying = (
+          sh.tying.0,
+          sh.tying.1,
+          λ t. subst (λ (w : World). Each (TieHolds tied (began_of start) w (is_pending views)) sh.tying.0) (sym led.world)
+              (subst (λ (f : ℕ → Bool). Each (TieHolds tied (began_of start) then f) sh.tying.0) (sym led.pending) (sh.tying.2 t)),
+        );
+        members = λ q was gone. absurd (true≢false (sym was ∙ sym (ap (has q) sh.leads.pending) ∙ gone));
+        owner = λ t kept. subst (keeps (began_of start)) (sym led.kept) (sh.owner t kept);
+      }
+
+-- ---- where nothing is said, and the pages owed and the next page are as they were
+
+module _ {X B : Type 0} (stored : B → Stored) (keeps : Start → Kept X → Type 0) (tied : Start → ℕ → List ℕ → ℕ → List ℕ → Type 0) (start : Origin) (tells : Bool) (s : Table (Option B) (View X)) (r : Ruled stored keeps tied start tells s) (id : ℕ) (v : View X) (words : List ℕ) (drafts : ℕ → List ℕ) (did : Did) (inner : View X) (e : Event) where
+  abbrev before : World
+  before = world_of stored start r.releases r.drafts s
+
+  abbrev behind : View X
+  behind = after_step stored keeps tied start tells s r words [] [] did inner
+
+  pub record ShowsQuiet : Type 0 where
+    pub word : IsWordOf start s.words words did
+    pub legal : Legal before.core e
+    pub world : world_of stored start r.releases drafts (became stored keeps tied start tells s words id behind) ≡ world_after before e
+    pub leaves : inner ≡ record v { seats = inner.seats; loads = inner.loads; held = inner.held; drafts = inner.drafts; frames = inner.frames; contents = inner.contents; translations = inner.translations }
+    pub calls : (o : Out) → v.out ≡ Some o → may_call (seat_of inner o.page) ≡ true
+    -- the pass holds what it held; drafts stay, but of pages that were not held
+    pub holds : (q : ℕ) → (seat_of v q).exclusive ≡ true → (seat_of inner q).exclusive ≡ true
+    pub members : (q : ℕ) → is_pending s.views q ≡ true → drafts q ≡ r.drafts q
+    pub next : (world_after before e).core.next ≡ before.core.next
+    pub knows : (q : ℕ) → KnowsPage (seat_of inner q) (put_at no_held inner.held q) ((world_after before e).core.pages q)
+    pub contents : (f : ℕ) → has f inner.frames ≡ true → put_at [] inner.contents f ≡ (world_after before e).core.words f
+    pub drafted : (q : ℕ) → (seat_of inner q).exclusive ≡ true → draft_of inner q ≡ drafts q
+    pub loaded : (l : List Translation) × (inner.translations ≡ l ++ v.translations) × Each (TranslationHolds (world_after before e).core.pages) l
+
+  module _ (there : get_elem? s.views id ≡ some v) (live : v.live ≡ true) where
+    pub quiet-shows : ShowsQuiet → Shows stored keeps tied start tells s r id v words drafts [] [] did inner e
+    quiet-shows sh =
+        let k : KnowsPages tied start before (is_pending s.views) v = r.known id v there live in
+        let pending : inner.pending ≡ v.pending = ap (λ (x : View X). x.pending) sh.leaves in
+        let owed : inner.owed ≡ v.owed = ap (λ (x : View X). x.owed) sh.leaves in
+        let owed-stays : is_owed (slice_set s.views id behind) ≡ is_owed s.views = fun_ext (λ q. any-same (λ (y : View X). has q y.owed) s.views id v behind there (ap (has q) owed)) in
+        event-shows stored keeps tied start tells s r id v words drafts [] did inner e there live
+        (record {
+          word = sh.word;
+          legal = sh.legal;
+          leads = record { world = sh.world; pending = pending; members = sh.members; up = let same = sh.next in omega (arith, same) };
+          same = (ap (λ (x : View X). x.live) sh.leaves, ap (λ (x : View X). x.start) sh.leaves, ap (λ (x : View X). x.used) sh.leaves, ap (λ (x : View X). x.fresh) sh.leaves, ap (λ (x : View X). x.notes) sh.leaves, ap (λ (x : View X). x.log) sh.leaves, ap (λ (x : View X). x.out) sh.leaves);
+          calls = sh.calls;
+          holds = sh.holds;
+          knows = sh.knows;
+          contents = sh.contents;
+          drafted = sh.drafted;
+          owes = λ q x. let m = k.owed q (sym (ap (has q) owed) ∙ x) in (sh.holds q m.0, m.1, subst (λ n. q < n) (sym sh.next) m.2, ap (has q) pending ∙ m.3);
+          next = λ x is. let m = k.next x (sym (ap (λ (y : View X). y.next) sh.leaves) ∙ is) in (sh.holds x m.0, sh.next ∙ m.1);
+          loaded = sh.loaded;
+          tying = ([], ap (λ (x : View X). x.ties) sh.leaves, λ _. tt);
+          says = (inl refl, ap (λ (x : View X). x.mine) sh.leaves ∙ sym (append-none v.mine));
+          owner = λ t. subst (keeps (began_of start)) (λ i. record (kept_of before r.history s.views) {
+            next = sym sh.next i;
+            owed = chosen start.pages (sym owed-stays i);
+            history = sym (append-none r.history) i;
+          });
+        })
+
+-- where seats, drafts and reads stay as well: what is known of pages may change, and the frames and their words
+module _ {X B : Type 0} (stored : B → Stored) (keeps : Start → Kept X → Type 0) (tied : Start → ℕ → List ℕ → ℕ → List ℕ → Type 0) (start : Origin) (tells : Bool) (s : Table (Option B) (View X)) (r : Ruled stored keeps tied start tells s) (id : ℕ) (v : View X) (words : List ℕ) (did : Did) (held : List (Put Held)) (frames : List ℕ) (contents : List (Put (List ℕ))) (e : Event) (there : get_elem? s.views id ≡ some v) (live : v.live ≡ true) where
+  abbrev was : World
+  was = world_of stored start r.releases r.drafts s
+
+  abbrev with_these : View X
+  with_these = record v { held = held; frames = frames; contents = contents }
+
+  pub held-shows : IsWordOf start s.words words did → Legal was.core e
+      → world_of stored start r.releases r.drafts (became stored keeps tied start tells s words id (after_step stored keeps tied start tells s r words [] [] did with_these)) ≡ world_after was e
+      → (world_after was e).core.next ≡ was.core.next
+      → ((q : ℕ) → KnowsPage (seat_of v q) (put_at no_held held q) ((world_after was e).core.pages q))
+      → ((f : ℕ) → has f frames ≡ true → put_at [] contents f ≡ (world_after was e).core.words f)
+      → Shows stored keeps tied start tells s r id v words r.drafts [] [] did with_these e
+  held-shows word legal world next knows contents' =
+      quiet-shows stored keeps tied start tells s r id v words r.drafts did with_these e there live
+      (record {
+        word = word;
+        legal = legal;
+        world = world;
+        leaves = refl;
+        calls = λ o x. (r.blocks.away id v o there x).1;
+        holds = λ q x. x;
+        members = λ q _. refl;
+        next = next;
+        knows = knows;
+        contents = contents';
+        drafted = λ q x. (r.known id v there live).drafts q x ∙ draft-is start r.releases r.drafts q;
+        loaded = ([], refl, tt);
       })

@@ -1,24 +1,20 @@
 -- The ways to release a page that a pass holds exclusively: the table, the versions and the group before and after, and what the pass knows of the page.
-use Rattle.std.proofs.Common.{[], ⊎_elim, ◌++◌, ◌+◌, ◌<◌, ◌||◌, ◌∙◌, ◌∷◌, ◌≡◌, ◌≢◌, ◌≤◌, ◌⊎◌, ap, arith, Bool, eqb, false, if◌then◌else◌, inl, inr}
-use Rattle.std.proofs.Common.{IsSome, length, List, None, Option, refl, slice_set, Some, subst, sym, true, true≢false, ℕ}
-use Rattle.std.proofs.lemmas.Bool.{cases_eq, eq-eqb, false≢true, ne_eqb}
-use Rattle.vm_core.specs.Prelude.{EVICTED, get_elem?, History, Legal, MAX_VERSION, on_page, Page, seen, some, State, state_of, UNLOCKED, upd, Version}
-use Rattle.vm_core.specs.Prelude.{version_of, word_of, World, world_after}
-use Rattle.vm_core.specs.declared.event.Event.TheVariants.{Downgrade, Release, ReleaseE}
+use Rattle.vm_core.specs.declared.event.Event.TheVariants.{Release}
 use Rattle.vm_core.specs.declared.event.Seen.TheVariants as sights
-use Rattle.vm_core.proofs.Upd.{upd-other, upd-same}
-use Rattle.vm_owner.proofs.NumberLemmas.{has-without, has-without_other, has-without_same, without-none}
-use Rattle.vm_rule.specs.Prelude.{actor_of, Change, change_of, changed_pages, changes_of, core_shown, did_store, draft_of, Each, entries_of, Entry}
-use Rattle.vm_rule.specs.Prelude.{entry_of, Event, has, histories_of, index_of, is_pending, Kept, KnowsPages, last_in, last_of, Mapping, may_call}
-use Rattle.vm_rule.specs.Prelude.{next_after, no_held, put, put_at, Ruled, Seat, seat_of, Start, Stored, Table, width, without, world_of}
 use Rattle.vm_rule.specs.declared.view.Place.TheVariants as places
-use Rattle.vm_rule.specs.Releases.{downgraded_view, evicted_view, released_view}
-use Rattle.vm_rule.proofs.{Adding.after_step, Adding.became, Entries.append-none, Facts.has-both, Facts.locked-here, Found.seat-here, Views.at-bound}
-use Rattle.vm_rule.proofs.WordFacts.{bare-state, bare-version, word-state, word-version}
-use Rattle.vm_rule.proofs.Worlds.{downgrade-step, draft-is, last-is, release-else, release-here, release-step, release_of, releasee-step, wrote}
-use Rattle.vm_step.specs.Prelude.{IsClaimed, IsFirst, IsMember, IsNotOut, IsToldOf, MayDowngrade, MayEvict, MayGiveUp, Origin, Release as Released}
-use Rattle.vm_step.specs.Prelude.{View}
-use Rattle.vm_step.specs.steps.Release.{IsLater}
+use Rattle.vm_step.specs.Prelude.{Release as Released}
+use Rattle.vm_step.proofs.Prelude.{[], actor_of, after_step, ap, append-none, arith, at-bound, bare-state, bare-version, became, Bool, cases_eq}
+use Rattle.vm_step.proofs.Prelude.{Change, change_of, changed_pages, changes_of, core_shown, did_store, Downgrade, downgrade-step, downgraded_view}
+use Rattle.vm_step.proofs.Prelude.{draft-is, draft_of, Each, entries_of, Entry, entry_of, eq-eqb, eqb, Event, EVICTED, evicted_view, false}
+use Rattle.vm_step.proofs.Prelude.{false≢true, get_elem?, has, has-both, has-without, has-without_other, has-without_same, histories_of, History}
+use Rattle.vm_step.proofs.Prelude.{if◌then◌else◌, index_of, inl, inr, is_pending, IsClaimed, IsFirst, IsLater, IsMember, IsNotOut, IsSome, IsToldOf}
+use Rattle.vm_step.proofs.Prelude.{Kept, known, KnowsPages, last-is, last_in, last_of, Legal, length, List, locked-here, Mapping, MAX_VERSION}
+use Rattle.vm_step.proofs.Prelude.{may_call, MayDowngrade, MayEvict, MayGiveUp, ne_eqb, next_after, no_held, None, on_page, Option, or_cases}
+use Rattle.vm_step.proofs.Prelude.{or_right, Origin, Page, put, put_at, refl, release-else, release-here, release-step, release_of, released_view}
+use Rattle.vm_step.proofs.Prelude.{ReleaseE, releasee-step, Ruled, Seat, seat-here, seat_of, seen, slice_set, Some, some, Start, State, state_of}
+use Rattle.vm_step.proofs.Prelude.{Stored, subst, sym, Table, true, true≢false, UNLOCKED, upd, upd-other, upd-same, Version, version_of, View, width}
+use Rattle.vm_step.proofs.Prelude.{without, without-none, word-state, word-version, word_of, World, world_after, world_of, wrote, ℕ, ⊎_elim, ◌++◌}
+use Rattle.vm_step.proofs.Prelude.{◌+◌, ◌<◌, ◌||◌, ◌∙◌, ◌∷◌, ◌≡◌, ◌≢◌, ◌≤◌, ◌⊎◌}
 use Rattle.vm_step.proofs.steps.CatchUp.{found-below, written-below}
 
 -- p is no member any more; the other members still are, and those of `rest` come to them
@@ -34,25 +30,17 @@ pub first-members : (p : ℕ) (rest before : List ℕ) → has p before ≡ fals
 first-members p rest before free apart =
     rw free (record {
       gone = both p ∙ rw apart free;
-      stays = λ q ne e. both q ∙ rw e (or-true (has q rest));
+      stays = λ q ne e. both q ∙ or_right (has q rest) (has q before) e;
       comes = λ q e. both q ∙ rw e refl;
       among = λ q e. (
         (λ s. true≢false (sym e ∙ ap (λ n. has n (rest ++ before)) s ∙ both p ∙ rw apart free)),
-        either (has q rest) (has q before) (sym (both q) ∙ e),
+        ⊎_elim (λ new. inr new) (λ old. inl old) (or_cases (has q rest) (has q before) (sym (both q) ∙ e)),
       );
       others = λ q ne e. both q ∙ rw e refl;
     })
   where
     both : (q : ℕ) → has q (rest ++ before) ≡ (has q rest || has q before)
     both q = has-both q rest before
-
-    or-true : (x : Bool) → (x || true) ≡ true
-    or-true true = refl
-    or-true false = refl
-
-    either : (a b : Bool) → (a || b) ≡ true → (b ≡ true) ⊎ (a ≡ true)
-    either true b e = inr refl
-    either false b e = inl e
 
 -- p is a later member
 pub later-members : (p : ℕ) (before : List ℕ) → has p before ≡ true → Members p [] before (if has p before then without p before else [] ++ before)
@@ -96,11 +84,7 @@ module _ {X : Type 0} where
   pub changes-each : (v : View X) (P : Change → Type 0) (qs : List ℕ) → ((q : ℕ) → has q qs ≡ true → P (change_of v q)) → Each P (changes_of v qs)
   changes-each v P [] f = tt
   changes-each v P (q ∷ qs) f =
-      (f q (ap (λ b. b || has q qs) (eq-eqb q q refl)), changes-each v P qs (λ n e. f n (ap (λ b. eqb n q || b) e ∙ or-true (eqb n q))))
-    where
-      or-true : (x : Bool) → (x || true) ≡ true
-      or-true true = refl
-      or-true false = refl
+      (f q (ap (λ b. b || has q qs) (eq-eqb q q refl)), changes-each v P qs (λ n e. f n (or_right (eqb n q) (has n qs) e)))
 
 pub data Way : Type 0 where
   Unlocks : Way
@@ -141,8 +125,7 @@ left-version Shares version l = word-version 1 version l
 
 pub left-exclusive : (way : Way) (k : Seat) → (seat_left way k).exclusive ≡ false
 left-exclusive Evicts k = refl
-left-exclusive Unlocks k = refl
-left-exclusive Shares k = refl
+left-exclusive _ k = refl
 
 -- the event, and the page after it
 abbrev pub event_left : Way → ℕ → ℕ → Event
@@ -156,24 +139,20 @@ page_left way r a =
 
 pub left-actor : (way : Way) (a p : ℕ) → actor_of (event_left way a p) ≡ a
 left-actor Evicts a p = refl
-left-actor Unlocks a p = refl
-left-actor Shares a p = refl
+left-actor _ a p = refl
 
 pub left-sees : (way : Way) (c : State) (a p : ℕ) → seen c (event_left way a p) ≡ sights.Done
 left-sees Evicts c a p = refl
-left-sees Unlocks c a p = refl
-left-sees Shares c a p = refl
+left-sees _ c a p = refl
 
 pub left-core : (way : Way) (w : World) (a p : ℕ) → (world_after w (event_left way a p)).core ≡ on_page w.core p (page_left way (w.core.pages p) a)
 left-core Evicts w a p = refl
-left-core Unlocks w a p = refl
-left-core Shares w a p = refl
+left-core _ w a p = refl
 
 pub left-legal : (way : Way) (c : State) (a p : ℕ) → a < c.shape.actors → p < c.shape.pages → ((c.pages p).seats a).exclusive ≡ true → StandsFor way (c.pages p).trans → (c.pages p).fault ≡ (c.pages p).count
     → Legal c (event_left way a p)
 left-legal Evicts c a p actor page owns stands told = (record { actor = actor; page = page }, record { owns = owns; empty = stands; told = told })
-left-legal Unlocks c a p actor page owns stands told = (record { actor = actor; page = page }, record { owns = owns; resident = stands; told = told })
-left-legal Shares c a p actor page owns stands told = (record { actor = actor; page = page }, record { owns = owns; resident = stands; told = told })
+left-legal _ c a p actor page owns stands told = (record { actor = actor; page = page }, record { owns = owns; resident = stands; told = told })
 
 -- the view after it, of a page that is alone, first of a group, or a later member
 abbrev pub left_view : {X : Type 0} → Way → ℕ → List ℕ → Option X → View X → View X
@@ -261,9 +240,6 @@ module _ {X B : Type 0} {stored : B → Stored} {keeps : Start → Kept X → Ty
   abbrev pub new : Table (Option B) (View X)
   new = became stored keeps tied start tells rel.s words rel.id left
 
-  pub version-is : rel.version ≡ (old.core.pages rel.p).version
-  version-is = rel.at_last ∙ ap (λ (h : Version). h.version) (mine.latest rel.p (inl rel.owns)) ∙ (rel.r.inv.pages rel.p).stands.last
-
   pub next-version : rel.version ≡ (last_in start rel.r.releases rel.p).version
   next-version = rel.at_last ∙ ap (λ (h : Version). h.version) (mine.latest rel.p (inl rel.owns) ∙ sym (last-is start rel.r.releases rel.r.drafts rel.p))
 
@@ -281,7 +257,7 @@ module _ {X B : Type 0} {stored : B → Stored} {keeps : Start → Kept X → Ty
   released-state = left-state rel.way (rel.version + 1) (omega (arith, rel.below))
 
   pub released-version : version_of word ≡ (old.core.pages rel.p).version + 1
-  released-version = left-version rel.way (rel.version + 1) (omega (arith, rel.below)) ∙ ap (λ n. n + 1) version-is
+  released-version = left-version rel.way (rel.version + 1) (omega (arith, rel.below)) ∙ ap (λ n. n + 1) (rel.at_last ∙ ap (λ (h : Version). h.version) (mine.latest rel.p (inl rel.owns)) ∙ (rel.r.inv.pages rel.p).stands.last)
 
   pub world-is : world_of stored start releases rel.r.drafts new ≡ world_after old event
   world-is =
@@ -297,14 +273,11 @@ module _ {X B : Type 0} {stored : B → Stored} {keeps : Start → Kept X → Ty
   pub frames-are : (f : ℕ) → (core_shown stored start new).words f ≡ old.core.words f
   frames-are f = ap (λ (c : State). c.words f) core-is
 
-  pub pages-is : (core_shown stored start new).pages ≡ upd old.core.pages rel.p page
-  pages-is = ap (λ (c : State). c.pages) core-is
-
   pub page-here : (core_shown stored start new).pages rel.p ≡ page
-  page-here = ap (λ (f : ℕ → Page). f rel.p) pages-is ∙ upd-same old.core.pages rel.p page
+  page-here = ap (λ (f : ℕ → Page). f rel.p) (ap (λ (c : State). c.pages) core-is) ∙ upd-same old.core.pages rel.p page
 
   pub page-else : (q : ℕ) → q ≢ rel.p → (core_shown stored start new).pages q ≡ old.core.pages q
-  page-else q ne = ap (λ (f : ℕ → Page). f q) pages-is ∙ upd-other old.core.pages rel.p page q ne
+  page-else q ne = ap (λ (f : ℕ → Page). f q) (ap (λ (c : State). c.pages) core-is) ∙ upd-other old.core.pages rel.p page q ne
 
   -- the histories after it
   pub last-here : (histories_of start releases rel.r.drafts rel.p).last.words ≡ draft_of rel.v rel.p

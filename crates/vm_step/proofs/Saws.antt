@@ -1,12 +1,9 @@
 -- The evidence of a call that looks at a page's word, and then loses an exchange on it.
-use Rattle.std.proofs.Common.{[], ⊎_elim, ◌∷◌, ◌≡◌, ◌≢◌, ◌⊎◌, ap, eqb, inr, refl, Some, ℕ}
-use Rattle.std.proofs.lemmas.Bool.{cond-false, ne_eqb}
-use Rattle.std.proofs.lemmas.Option.{none-some}
-use Rattle.vm_rule.specs.Prelude.{did_exchange, did_load}
 use Rattle.vm_rule.specs.declared.view.Place.TheVariants as places
-use Rattle.vm_step.specs.Prelude.{HasGiven, IsSaw, NoWord}
+use Rattle.vm_step.specs.Evidence.{read}
 use Rattle.vm_step.specs.declared.saw.At.TheVariants as ats
-use Rattle.vm_step.specs.Evidence.{expected, read}
+use Rattle.vm_step.proofs.Prelude.{[], ap, cond-false, did_exchange, did_load, eqb, expected, HasGiven, inr, IsSaw, ne_eqb, none-some, NoWord, refl}
+use Rattle.vm_step.proofs.Prelude.{Some, ℕ, ⊎_elim, ◌∷◌, ◌≡◌, ◌≢◌, ◌⊎◌}
 
 -- the one step gave the word
 abbrev pub one-given : (p word : ℕ) → HasGiven (did_load (places.State p) word ∷ []) (places.State p) word

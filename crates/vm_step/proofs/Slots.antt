@@ -1,34 +1,23 @@
 -- The moves of a page's slot: the slots, and the blocks that are read from them; what a move shows of itself that changes no block, or brings one home.
-use Rattle.std.proofs.Common.{[], ⊎_elim, ◌++◌, ◌<◌, ◌||◌, ◌∙◌, ◌∷◌, ◌≡◌, ◌≢◌, ◌≤◌, ◌⊎◌, ap, arith, Bool, eq-eqb, eqb, false, inl, inr, IsSome}
-use Rattle.std.proofs.Common.{length, length-set, List, ne_eqb, None, Option, refl, slice_index, slice_set, Some, subst, suc, sym, true, true≢false}
-use Rattle.std.proofs.Common.{zero, ℕ}
-use Rattle.std.proofs.lemmas.Bool.{cases_Bool, cases_eq}
+use Rattle.std.proofs.Common.{eq-eqb, ne_eqb}
 use mathlib.Core.Option as maybe
-use mathlib.Core.Path.{fun_ext}
 use Rattle.atomic_table.proofs.Lists.{at_set as list-set}
-use Rattle.vm_core.specs.Prelude.{at, block_after, count_more, get_elem?, Inv, LOCKED, MayCall, on_page, Page, some, some-injective, State, upd}
-use Rattle.vm_core.specs.Prelude.{Version, World}
-use Rattle.vm_core.specs.declared.event.Event.TheVariants.{NLoad}
-use Rattle.vm_core.proofs.{At.at_set, Upd.upd-other, Upd.upd-same}
-use Rattle.vm_core.proofs.PageFacts.{none-some, some-is, some-same}
-use Rattle.vm_laws_others.proofs.Laws.{leave_others}
-use Rattle.vm_rule.specs.Prelude.{ArePlain, began_of, block_of, BlocksFit, Brings, chosen, core_from, core_shown, DeviceDid, did_load, FaultsFit}
-use Rattle.vm_rule.specs.Prelude.{frames_held, has, held_at, histories_of, home, index_of, is_owed, is_pending, IsFoundAt, Kept, kept_of, known}
-use Rattle.vm_rule.specs.Prelude.{KnowsPage, KnowsPages, Leaves, listed, logical, Mapping, may_call, no_held, out_at, out_of, out_or, put, put_at}
-use Rattle.vm_rule.specs.Prelude.{ReturnTold, Ruled, Seat, seat_of, seats_of, ShiftTold, slot_of, SlotTold, Start, Stored, Table, table_words, width}
-use Rattle.vm_rule.specs.Prelude.{Within, words_held, world_of}
-use Rattle.vm_rule.specs.{declared.view.Held.Held, Reading.at_home}
+use Rattle.vm_core.proofs.{At.at_set, PageFacts.none-some}
+use Rattle.vm_rule.specs.Slots.DeviceDid.{failed, read, wrote}
 use Rattle.vm_rule.specs.declared.view.Place.TheVariants as places
-use Rattle.vm_rule.specs.Slots.{home_view, IsBlockOf, out_view}
-use Rattle.vm_rule.specs.Slots.DeviceDid.{failed, idle, read, wrote}
-use Rattle.vm_rule.proofs.{Bringing.steps_more, Entries.append-none, Found.block-here, Found.seat-here, Parts.listed-upd, Parts.upd-is}
-use Rattle.vm_rule.proofs.{Views.any-same, Views.at-bound, Worlds.draft-is}
-use Rattle.vm_rule.proofs.Adding.{after_more, became_more, faults-still, ShowsMore}
-use Rattle.vm_rule.proofs.Calls.{called, called-inv, called-left, IsCalled}
-use Rattle.vm_rule.proofs.Cores.{core-block, held-still, loads-still, seats-still}
-use Rattle.vm_rule.proofs.Facts.{caller-here, locked-here, shared-here}
-use Rattle.vm_step.specs.Prelude.{Did, Note, Origin, Out, Put, View}
-use Rattle.vm_step.proofs.{Fit.fit, Here.last-told}
+use Rattle.vm_step.proofs.{Here.last-told, Quiet.has-led, Quiet.HasLed, Written.IsWordOf, Written.word-loaded}
+use Rattle.vm_step.proofs.Prelude.{[], after_more, any-same, ap, append-none, arith, at, at-bound, at_home, became_more, began_of, block-here}
+use Rattle.vm_step.proofs.Prelude.{block_after, block_of, BlocksFit, Bool, Brings, called, called-inv, called-left, caller-here, cases_Bool, cases_eq}
+use Rattle.vm_step.proofs.Prelude.{chosen, core-block, core_from, core_shown, count_more, DeviceDid, Did, did_load, draft-is, each-upd2, eqb, false}
+use Rattle.vm_step.proofs.Prelude.{faults-still, FaultsFit, frames_held, fun_ext, get_elem?, has, Held, held-still, held_at, histories_of, home}
+use Rattle.vm_step.proofs.Prelude.{home_view, idle, index_of, inl, inr, Inv, is_owed, is_pending, IsBlockOf, IsCalled, IsSome, Kept, kept_of, known}
+use Rattle.vm_step.proofs.Prelude.{KnowsPage, KnowsPages, leave_others, Leaves, length, length-set, List, listed, listed-upd, loads-still, LOCKED}
+use Rattle.vm_step.proofs.Prelude.{locked-here, Mapping, may_call, MayCall, NLoad, no_held, None, Note, on_page, Option, or_cases, Origin, Out}
+use Rattle.vm_step.proofs.Prelude.{out_at, out_of, out_or, out_view, Page, Put, put, put_at, refl, ReturnTold, Ruled, Seat, seat-here, seat_of}
+use Rattle.vm_step.proofs.Prelude.{seats-still, seats_of, shared-here, ShiftTold, ShowsMore, slice_index, slice_set, slot_of, SlotTold, Some, some}
+use Rattle.vm_step.proofs.Prelude.{some-injective, some-is, some-same, Start, State, steps_more, Stored, subst, suc, sym, Table, table_words, true}
+use Rattle.vm_step.proofs.Prelude.{true≢false, upd, upd-is, upd-other, upd-same, Version, View, words_held, World, world_of, zero, ℕ, ⊎_elim, ◌<◌}
+use Rattle.vm_step.proofs.Prelude.{◌||◌, ◌∙◌, ◌∷◌, ◌≡◌, ◌≢◌, ◌≤◌}
 
 -- an element in range, by its function
 pub get-at : {A : Type 0} (d : A) (l : List A) (i : ℕ) (a : A) → i < length l → at d l i ≡ a → get_elem? l i ≡ some a
@@ -63,10 +52,6 @@ none-before None p d e = (e, λ _. refl)
 none-before (Some o) p d e =
     ⊎_elim (λ t. absurd (let h : out_or (Some o) p d ≡ Some o.block = rw t refl in cc)) (λ f. ((let h : out_or (Some o) p d ≡ d = rw f refl in sym h ∙ e), λ d'. rw f refl)) (cases_Bool (eqb o.page p))
 
-not-here : (x : Option Out) (p : ℕ) (d : Option Stored) → ((o : Out) → x ≡ Some o → o.page ≢ p) → d ≡ None → out_or x p d ≡ None
-not-here None p d k e = e
-not-here (Some o) p d k e = rw (ne_eqb o.page p (k o refl)) e
-
 passes-by : (x : Option Out) (p : ℕ) (d : Option Stored) → ((o : Out) → x ≡ Some o → o.page ≢ p) → out_or x p d ≡ d
 passes-by None p d k = refl
 passes-by (Some o) p d k = rw (ne_eqb o.page p (k o refl)) refl
@@ -88,7 +73,7 @@ module _ {X : Type 0} where
   -- no view has it out
   pub out-none : (views : List (View X)) (p : ℕ) → ((j : ℕ) (u : View X) (o : Out) → get_elem? views j ≡ some u → u.out ≡ Some o → o.page ≢ p) → out_of views p ≡ None
   out-none [] p k = refl
-  out-none (x ∷ xs) p k = not-here x.out p (out_of xs p) (λ o e. k 0 x o refl e) (out-none xs p (λ j u o e. k (suc j) u o e))
+  out-none (x ∷ xs) p k = passes-by x.out p (out_of xs p) (λ o e. k 0 x o refl e) ∙ out-none xs p (λ j u o e. k (suc j) u o e)
 
   -- the block that the one pass has out
   pub out-is : (views : List (View X)) (id : ℕ) (v : View X) (o : Out) → get_elem? views id ≡ some v → v.out ≡ Some o → ((j : ℕ) (u : View X) (o' : Out) → j ≢ id → get_elem? views j ≡ some u → u.out ≡ Some o' → o'.page ≢ o.page) → out_of views o.page ≡ Some o.block
@@ -115,9 +100,8 @@ module _ {X B : Type 0} (stored : B → Stored) (keeps : Start → Kept X → Ty
 
   -- what is to be shown of it; `core` is the core that the table shows then
   pub record ShowsDevice : Type 0 where
-    pub wide : length words ≡ width start
+    pub word : IsWordOf start s.words words did
     pub slots : length homes ≡ start.pages
-    pub spelled : ArePlain start words
     pub core_is : core_shown stored start new ≡ core
     pub inv : Inv later
     pub left : Leaves id old later
@@ -126,77 +110,57 @@ module _ {X B : Type 0} (stored : B → Stored) (keeps : Start → Kept X → Ty
     pub told : listed start.pages (block_of stored homes (slice_set s.views id after)) ≡ blocks
     pub fit : BlocksFit stored start homes (slice_set s.views id after)
     pub faults : FaultsFit core.pages (slice_set s.views id after)
-    pub at : Within start did.at
-    pub found : IsFoundAt did.found (index_of start did.at) s.words
-    pub wrote : IsFoundAt did.wrote (index_of start did.at) words
     pub knows : (q : ℕ) → KnowsPage (seat_of v q) (put_at no_held held q) (core.pages q)
 
-  module _ (there : get_elem? s.views id ≡ some v) (live : v.live ≡ true) (sh : ShowsDevice) where
-    world-is : world_of stored start (r.releases ++ []) r.drafts new ≡ later
-    world-is i = record {
-      core = sh.core_is i;
-      histories = histories_of start (append-none r.releases i) r.drafts;
-      loads = loads-still s.views id v after there refl i;
-    }
-
-    next-stays : (core_shown stored start new).next ≡ old.core.next
-    next-stays = ap (λ (c : State). c.next) sh.core_is ∙ sh.next
-
-    last-stays : (q : ℕ) → (histories_of start (r.releases ++ []) r.drafts q).last.words ≡ (histories_of start r.releases r.drafts q).last.words
-    last-stays q = ap (λ l. (histories_of start l r.drafts q).last.words) (append-none r.releases)
-
-    pending-stays : is_pending (slice_set s.views id after) ≡ is_pending s.views
-    pending-stays = fun_ext (λ q. any-same (λ (y : View X). has q y.pending) s.views id v after there refl)
-
-    owed-stays : is_owed (slice_set s.views id after) ≡ is_owed s.views
-    owed-stays = fun_ext (λ q. any-same (λ (y : View X). has q y.owed) s.views id v after there refl)
-
-    kept-stays : kept_of (world_of stored start (r.releases ++ []) r.drafts new) (r.history ++ []) (slice_set s.views id after) ≡ kept_of old r.history s.views
-    kept-stays i = record {
-      pages = listed start.pages (logical (histories_of start (append-none r.releases i) r.drafts) (pending-stays i));
-      next = next-stays i;
-      owed = chosen start.pages (owed-stays i);
-      history = append-none r.history i;
-    }
-
-    pub device-shows : ShowsMore stored keeps tied start tells s r id v words homes blocks r.drafts [] [] did inner
-    device-shows =
-        let k : KnowsPages tied start old (is_pending s.views) v = r.known id v there live in
-        record {
-          wide = sh.wide;
-          slots = sh.slots;
-          spelled = sh.spelled;
-          inv = subst Inv (sym world-is) sh.inv;
-          left = subst (Leaves id old) (sym world-is) sh.left;
-          outside = λ q _. ap (λ (w : World). w.histories q) world-is;
-          told = sh.told;
-          fit = sh.fit;
-          faults = subst (λ (c : State). FaultsFit c.pages (slice_set s.views id after)) (sym sh.core_is) sh.faults;
-          at = sh.at;
-          found = sh.found;
-          wrote = sh.wrote;
-          live = refl;
-          same_start = refl;
-          used = refl;
-          fresh = refl;
-          log = refl;
-          entry = inl refl;
-          mine = sym (append-none v.mine);
-          next_versions = tt;
-          zero = λ t q le l. last-stays q ∙ r.zero t q (subst (λ n. n ≤ q) next-stays le) l;
-          knows = λ q. subst (λ (c : State). KnowsPage (seat_of v q) (put_at no_held held q) (c.pages q)) (sym sh.core_is) (sh.knows q);
-          contents = λ f x. k.contents f x ∙ sym (ap (λ (y : ℕ → List ℕ). y f) (ap (λ (c : State). c.words) sh.core_is ∙ sh.contents));
-          drafted = λ q x. k.drafts q x ∙ draft-is start r.releases r.drafts q;
-          pending = λ q x.
-              let m = k.pending q x in
-              (m.0, λ t past. sym (draft-is start r.releases r.drafts q) ∙ m.1 t (subst (λ n. n ≤ q) next-stays past) ∙ sym (last-stays q));
-          owed = λ q x. let m = k.owed q x in (m.0, m.1, subst (λ n. q < n) (sym next-stays) m.2, m.3);
-          next = λ x e. let m = k.next x e in (m.0, next-stays ∙ m.1);
-          loaded = ([], refl, tt);
-          tying = ([], refl, λ _. tt);
-          members = λ q was gone. absurd (true≢false (sym was ∙ gone));
-          owner = λ t. subst (keeps (began_of start)) (sym kept-stays);
-        }
+  pub device-shows : get_elem? s.views id ≡ some v → v.live ≡ true → ShowsDevice → ShowsMore stored keeps tied start tells s r id v words homes blocks r.drafts [] [] did inner
+  device-shows there live sh =
+      let k : KnowsPages tied start old (is_pending s.views) v = r.known id v there live in
+      let led : HasLed stored keeps tied start tells s r id v words homes blocks r.drafts [] did inner later = has-led stored keeps tied start tells s r id v words homes blocks r.drafts [] did inner later there live
+      (record {
+        world = λ i. record { core = sh.core_is i; histories = histories_of start r.releases r.drafts; loads = loads-still s.views id v after there refl i };
+        pending = refl;
+        members = λ q _. refl;
+        up = let same = sh.next in omega (arith, same);
+      }) in
+      let next-stays : (core_shown stored start new).next ≡ old.core.next = ap (λ (c : State). c.next) sh.core_is ∙ sh.next in
+      let owed-stays : is_owed (slice_set s.views id after) ≡ is_owed s.views = fun_ext (λ q. any-same (λ (y : View X). has q y.owed) s.views id v after there refl) in
+      record {
+        wide = sh.word.wide;
+        slots = sh.slots;
+        spelled = sh.word.spelled;
+        inv = subst Inv (sym led.world) sh.inv;
+        left = subst (Leaves id old) (sym led.world) sh.left;
+        outside = λ q _. ap (λ (w : World). w.histories q) led.world;
+        told = sh.told;
+        fit = sh.fit;
+        faults = subst (λ (c : State). FaultsFit c.pages (slice_set s.views id after)) (sym sh.core_is) sh.faults;
+        at = sh.word.at;
+        found = sh.word.found;
+        wrote = sh.word.wrote;
+        live = refl;
+        same_start = refl;
+        used = refl;
+        fresh = refl;
+        log = refl;
+        entry = inl refl;
+        mine = sym (append-none v.mine);
+        next_versions = tt;
+        zero = led.zero;
+        knows = λ q. subst (λ (c : State). KnowsPage (seat_of v q) (put_at no_held held q) (c.pages q)) (sym sh.core_is) (sh.knows q);
+        contents = λ f x. k.contents f x ∙ sym (ap (λ (y : ℕ → List ℕ). y f) (ap (λ (c : State). c.words) sh.core_is ∙ sh.contents));
+        drafted = λ q x. k.drafts q x ∙ draft-is start r.releases r.drafts q;
+        pending = led.members;
+        owed = λ q x. let m = k.owed q x in (m.0, m.1, subst (λ n. q < n) (sym next-stays) m.2, m.3);
+        next = λ x e. let m = k.next x e in (m.0, next-stays ∙ m.1);
+        loaded = ([], refl, tt);
+        tying = ([], refl, λ _. tt);
+        members = λ q was gone. absurd (true≢false (sym was ∙ gone));
+        owner = λ t kept. subst (keeps (began_of start)) (sym led.kept) (subst (keeps (began_of start)) (λ i. record (kept_of old r.history s.views) {
+          next = sym sh.next i;
+          owed = chosen start.pages (sym owed-stays i);
+          history = sym (append-none r.history) i;
+        }) kept);
+      }
 
 -- an empty slot, or one that is with a pass, has no block at home
 pub slot-empty : {B : Type 0} (stored : B → Stored) (o : Out) (d : Option Stored) → known stored (at_home (slot_of o)) d ≡ known stored None d
@@ -228,30 +192,44 @@ module _ {X B : Type 0} (stored : B → Stored) (keeps : Start → Kept X → Ty
   rests-left : Leaves id (world_of stored start r.releases r.drafts s) (world_of stored start r.releases r.drafts s)
   rests-left = leave_others (world_of stored start r.releases r.drafts s) (NLoad id) r.inv (at-bound s.views id v there)
 
-  -- the slot moves, and the block that is read stays: the core is as it was
-  slot-moves : 0 < length v.used → (homes : List (maybe.Option (Option B))) (p : ℕ) (moving : Bool) (b : Stored) → p < start.pages → length homes ≡ start.pages
-      → block_of stored homes (slice_set s.views id (slot-view homes p moving b)) ≡ block_of stored s.homes s.views
-      → BlocksFit stored start homes (slice_set s.views id (slot-view homes p moving b))
-      → Ruled stored keeps tied start tells (slot-table homes p moving b) × Brings (fault-load p) [] [] v (out_view p moving b v) (slot-view homes p moving b)
-  slot-moves number homes p moving b l size same fit =
+  -- the slot is this pass's, at home or with it; the block that is read stays, so the core is as it was
+  slot-moves : 0 < length v.used → (p : ℕ) (moving : Bool) (b : Stored) → p < start.pages → may_call (seat_of v p) ≡ true
+      → ((j : ℕ) (u : View X) (o : Out) → j ≢ id → get_elem? s.views j ≡ some u → u.out ≡ Some o → o.page ≢ p)
+      → ((q : ℕ) → q ≢ p → out_of (slice_set s.views id (slot-view (slice_set s.homes p (slot_of (out_at p moving b))) p moving b)) q ≡ out_of s.views q)
+      → out_of (slice_set s.views id (slot-view (slice_set s.homes p (slot_of (out_at p moving b))) p moving b)) p ≡ Some b
+      → block_of stored (slice_set s.homes p (slot_of (out_at p moving b))) (slice_set s.views id (slot-view (slice_set s.homes p (slot_of (out_at p moving b))) p moving b)) ≡ block_of stored s.homes s.views
+      → Ruled stored keeps tied start tells (slot-table (slice_set s.homes p (slot_of (out_at p moving b))) p moving b) × Brings (fault-load p) [] [] v (out_view p moving b v) (slot-view (slice_set s.homes p (slot_of (out_at p moving b))) p moving b)
+  slot-moves number p moving b l calls others elsewhere now same =
       let k : KnowsPages tied start (world_of stored start r.releases r.drafts s) (is_pending s.views) v = r.known id v there live in
+      let o : Out = out_at p moving b in
+      let homes : List (maybe.Option (Option B)) = slice_set s.homes p (slot_of o) in
+      let w : View X = slot-view homes p moving b in
+      let inside : p < length s.homes = subst (λ n. p < n) (sym r.wide.1) l in
       steps_more stored keeps tied start tells s r id v s.words homes blocks-now None r.drafts [] [] (fault-load p) (out_view p moving b v) there live number refl refl
-      (device-shows stored keeps tied start tells s r id v s.words homes blocks-now (fault-load p) (Some (out_at p moving b)) v.held v.notes (core_shown stored start s) there live
+      (device-shows stored keeps tied start tells s r id v s.words homes blocks-now (fault-load p) (Some o) v.held v.notes (core_shown stored start s) there live
       (record {
-        wide = r.wide.0;
-        slots = size;
-        spelled = r.spelled;
-        core_is = core-slots stored start s homes id v (slot-view homes p moving b) (block_of stored s.homes s.views) there refl refl same;
+        word = word-loaded start s.words (places.Fault p) r.wide.0 r.spelled l;
+        slots = length-set s.homes p (slot_of o) ∙ r.wide.1;
+        core_is = core-slots stored start s homes id v w (block_of stored s.homes s.views) there refl refl same;
         inv = r.inv;
         left = rests-left;
         next = refl;
         contents = refl;
         told = ap (listed start.pages) same;
-        fit = fit;
-        faults = faults-still stored keeps tied start tells s r id v (slot-view homes p moving b) (world_of stored start r.releases r.drafts s) there refl rests-left;
-        at = l;
-        found = refl;
-        wrote = tt;
+        fit = record {
+          away = λ j u o' e x. ⊎_elim
+              (λ (t : (j ≡ id) × (w ≡ u)). let is : o ≡ o' = some-same o o' (ap (λ (y : View X). y.out) t.1 ∙ x) in
+              subst (λ (y : Out). (y.page < start.pages) × (may_call (seat_of u y.page) ≡ true) × (at maybe.none homes y.page ≡ slot_of y)) is
+              (l, subst (λ (y : View X). may_call (seat_of y p) ≡ true) t.1 calls, slot-here s.homes p (slot_of o) inside))
+              (λ (t : (j ≢ id) × (get_elem? s.views j ≡ some u)). let a = r.blocks.away j u o' t.1 x in (a.0, a.1, slot-else s.homes p o'.page (slot_of o) inside (others j u o' t.0 t.1 x) ∙ a.2))
+              (list-set s.views id j w u e);
+          home = λ q lq e. ⊎_elim
+              (λ here. absurd (none-some b (sym e ∙ ap (out_of (slice_set s.views id w)) here ∙ now)))
+              (λ ne. subst (λ x. IsSome (at_home x)) (sym (slot-else s.homes p q (slot_of o) inside ne)) (r.blocks.home q lq (sym (elsewhere q ne) ∙ e)))
+              (cases_eq q p);
+          bounds = λ q lq. ap (λ (y : ℕ → Stored). (y q).bound) same ∙ r.blocks.bounds q lq;
+        };
+        faults = faults-still stored keeps tied start tells s r id v w (world_of stored start r.releases r.drafts s) there refl rests-left;
         knows = k.knows;
       }))
 
@@ -327,28 +305,12 @@ module _ {X B : Type 0} (stored : B → Stored) (keeps : Start → Kept X → Ty
       → Ruled stored keeps tied start tells (slot-table (slice_set s.homes p maybe.none) p true (stored b)) × SlotTold p (stored b) (slice_index s.words (index_of start (places.Fault p))) v (slot-view (slice_set s.homes p maybe.none) p true (stored b))
   takes-slot number p b l calls none at-p =
       let nobody = nobody-out p l calls none in
-      let empty : out_of s.views p ≡ None = out-none s.views p nobody in
-      let inside : p < length s.homes = subst (λ k. p < k) (sym r.wide.1) l in
       let o : Out = out_at p true (stored b) in
-      let homes : List (maybe.Option (Option B)) = slice_set s.homes p maybe.none in
-      let w : View X = slot-view homes p true (stored b) in
-      let views : List (View X) = slice_set s.views id w in
-      let same : block_of stored homes views ≡ block_of stored s.homes s.views = taken-blocks p b w l calls none at-p refl in
-      let k = slot-moves number homes p true (stored b) l (length-set s.homes p maybe.none ∙ r.wide.1) same
-      (record {
-        away = λ j u o' e x. ⊎_elim
-            (λ (t : (j ≡ id) × (w ≡ u)). let is : o ≡ o' = some-same o o' (ap (λ (y : View X). y.out) t.1 ∙ x) in
-            subst (λ (y : Out). (y.page < start.pages) × (may_call (seat_of u y.page) ≡ true) × (at maybe.none homes y.page ≡ slot_of y)) is
-            (l, subst (λ (y : View X). may_call (seat_of y p) ≡ true) t.1 calls, slot-here s.homes p maybe.none inside))
-            (λ (t : (j ≢ id) × (get_elem? s.views j ≡ some u)). let k = r.blocks.away j u o' t.1 x in (k.0, k.1, slot-else s.homes p o'.page maybe.none inside (nobody j u o' t.1 x) ∙ k.2))
-            (list-set s.views id j w u e);
-        home = λ q lq e. ⊎_elim
-            (λ here. absurd (none-some (stored b) (sym e ∙ ap (out_of views) here ∙ out-new s.views id v w o there refl empty)))
-            (λ ne. subst (λ x. IsSome (at_home x)) (sym (slot-else s.homes p q maybe.none inside ne))
-            (r.blocks.home q lq (sym (out-else s.views id v w q there (λ d. out-of_page o q d ne ∙ ap (λ y. out_or y q d) (sym none))) ∙ e)))
-            (cases_eq q p);
-        bounds = λ q lq. ap (λ (y : ℕ → Stored). (y q).bound) same ∙ r.blocks.bounds q lq;
-      }) in
+      let w : View X = slot-view (slice_set s.homes p maybe.none) p true (stored b) in
+      let k = slot-moves number p true (stored b) l calls (λ j u o' _. nobody j u o')
+      (λ q ne. out-else s.views id v w q there (λ d. out-of_page o q d ne ∙ ap (λ y. out_or y q d) (sym none)))
+      (out-new s.views id v w o there refl (out-none s.views p nobody))
+      (taken-blocks p b w l calls none at-p refl) in
       (k.0, record { brings = k.1; block = is-block p b l calls at-p })
 
   -- ---- the empty slot of a block that is out
@@ -379,36 +341,13 @@ module _ {X B : Type 0} (stored : B → Stored) (keeps : Start → Kept X → Ty
       × ShiftTold o.page moving o.block (slice_index s.words (index_of start (places.Fault o.page))) v (slot-view (slice_set s.homes o.page (slot_of (out_at o.page moving o.block))) o.page moving o.block)
   shifts-slot number o moving out =
       let p : ℕ = o.page in
-      let o' : Out = out_at p moving o.block in
-      let homes : List (maybe.Option (Option B)) = slice_set s.homes p (slot_of o') in
-      let w : View X = slot-view homes p moving o.block in
-      let views : List (View X) = slice_set s.views id w in
+      let w : View X = slot-view (slice_set s.homes p (slot_of (out_at p moving o.block))) p moving o.block in
       let k = r.blocks.away id v o there out in
-      let inside : p < length s.homes = subst (λ m. p < m) (sym r.wide.1) k.0 in
       let others = others-out p k.0 k.1 in
-      let outs : (q : ℕ) → out_of views q ≡ out_of s.views q = λ q. out-else s.views id v w q there (λ d. ap (λ y. out_or y q d) (sym out)) in
-      let same : block_of stored homes views ≡ block_of stored s.homes s.views = shifted-blocks o moving w out refl in
-      let done = slot-moves number homes p moving o.block k.0 (length-set s.homes p (slot_of o') ∙ r.wide.1) same
-      (record {
-        away = λ j u x e e'. ⊎_elim
-            (λ (t : (j ≡ id) × (w ≡ u)). let is : o' ≡ x = some-same o' x (ap (λ (y : View X). y.out) t.1 ∙ e') in
-            subst (λ (y : Out). (y.page < start.pages) × (may_call (seat_of u y.page) ≡ true) × (at maybe.none homes y.page ≡ slot_of y)) is
-            (k.0, subst (λ (y : View X). may_call (seat_of y p) ≡ true) t.1 k.1, slot-here s.homes p (slot_of o') inside))
-            (λ (t : (j ≢ id) × (get_elem? s.views j ≡ some u)). let a = r.blocks.away j u x t.1 e' in (a.0, a.1, slot-else s.homes p x.page (slot_of o') inside (others j u x t.0 t.1 e') ∙ a.2))
-            (list-set s.views id j w u e);
-        home = λ q lq e. ⊎_elim
-            (λ here. absurd (none-some o.block (sym e ∙ ap (out_of views) here ∙ outs p ∙ out-is s.views id v o there out others)))
-            (λ ne. subst (λ x. IsSome (at_home x)) (sym (slot-else s.homes p q (slot_of o') inside ne)) (r.blocks.home q lq (sym (outs q) ∙ e)))
-            (cases_eq q p);
-        bounds = λ q lq. ap (λ (y : ℕ → Stored). (y q).bound) same ∙ r.blocks.bounds q lq;
-      }) in
+      let outs : (q : ℕ) → out_of (slice_set s.views id w) q ≡ out_of s.views q = λ q. out-else s.views id v w q there (λ d. ap (λ y. out_or y q d) (sym out)) in
+      let done = slot-moves number p moving o.block k.0 k.1 others (λ q _. outs q) (outs p ∙ out-is s.views id v o there out others) (shifted-blocks o moving w out refl) in
       (done.0, record { brings = done.1 })
 
--- who may call the device holds the page exclusively, or has it under write-back
-either-call : (g : Seat) → may_call g ≡ true → (g.exclusive ≡ true) ⊎ (g.writing ≡ true)
-either-call g e = ⊎_elim (λ t. inl t) (λ f. inr (sym (ap (λ b. b || g.writing) f) ∙ e)) (cases_Bool g.exclusive)
-
-module _ {X B : Type 0} (stored : B → Stored) (keeps : Start → Kept X → Type 0) (tied : Start → ℕ → List ℕ → ℕ → List ℕ → Type 0) (start : Origin) (tells : Bool) (s : Table (Option B) (View X)) (r : Ruled stored keeps tied start tells s) (id : ℕ) (v : View X) (there : get_elem? s.views id ≡ some v) (live : v.live ≡ true) where
   abbrev world : World
   world = world_of stored start r.releases r.drafts s
 
@@ -419,7 +358,7 @@ module _ {X B : Type 0} (stored : B → Stored) (keeps : Start → Kept X → Ty
   mine = r.known id v there live
 
   pub may-call : (p : ℕ) → p < start.pages → may_call (seat_of v p) ≡ true → MayCall (page p) id
-  may-call p l calls = either-call ((page p).seats id) (ap may_call (seat-here stored start s id p v l there) ∙ calls)
+  may-call p l calls = or_cases ((page p).seats id).exclusive ((page p).seats id).writing (ap may_call (seat-here stored start s id p v l there) ∙ calls)
 
   -- a page that has a frame and may be called has in its frame the words that the pass knows
   pub frame-held : (p : ℕ) (m : Mapping) → p < start.pages → may_call (seat_of v p) ≡ true → start.tells ≡ true → (page p).trans ≡ Some m → words_held v p ≡ world.core.words m.frame
@@ -428,7 +367,7 @@ module _ {X B : Type 0} (stored : B → Stored) (keeps : Start → Kept X → Ty
       ⊎_elim
       (λ owns. rw owns (mine.drafts p owns ∙ sym (words.draft (locked-here stored start s id p v (r.inv.pages p).locks l there owns) m e)))
       (λ free.
-      let shares : 1 ≤ (seat_of v p).shares = has-share stored keeps tied start tells s r id v there live p l calls free in
+      let shares : 1 ≤ (seat_of v p).shares = has-share p l calls free in
       let below : (page p).state < LOCKED = (shared-here stored start s id p v (r.inv.pages p).locks l there shares).1 in
       rw free (ap (λ (y : Version). y.words) (mine.latest p (inr shares)) ∙ sym (words.logical (λ locked. absurd (omega (arith, below, locked))) m e)))
       (cases_Bool (seat_of v p).exclusive)
@@ -445,7 +384,7 @@ module _ {X B : Type 0} (stored : B → Stored) (keeps : Start → Kept X → Ty
   block-out-is o out =
       let k = r.blocks.away id v o there out in
       ap (λ x. known stored (at_home x) (out_of s.views o.page)) k.2 ∙ slot-empty stored o (out_of s.views o.page)
-      ∙ ap (known stored None) (out-is s.views id v o there out (others-out stored keeps tied start tells s r id v there live o.page k.0 k.1))
+      ∙ ap (known stored None) (out-is s.views id v o there out (others-out o.page k.0 k.1))
 
   -- what was done to the block is what may be done to the core's page
   pub is-called : (o : Out) (b : Stored) → v.out ≡ Some o → DeviceDid v o.page o.block b → IsCalled start.tells world.core.words (page o.page) b.count b.words
@@ -479,21 +418,12 @@ module _ {X B : Type 0} (stored : B → Stored) (keeps : Start → Kept X → Ty
   abbrev pub home-slots : ℕ → B → List (maybe.Option (Option B))
   home-slots p b = slice_set s.homes p (maybe.some (Some b))
 
-  abbrev home-load : ℕ → Did
-  home-load p = did_load (places.Fault p) (slice_index s.words (index_of start (places.Fault p)))
-
-  abbrev pub home-table : ℕ → B → Table (Option B) (View X)
-  home-table p b = became_more stored keeps tied start tells s r id v s.words (home-slots p b) (home-blocks p b) r.drafts [] [] (home-load p) (home_view p (stored b) v)
-
   abbrev pub home-after : ℕ → B → View X
-  home-after p b = after_more stored keeps tied start tells s r id v s.words (home-slots p b) (home-blocks p b) r.drafts [] [] (home-load p) (home_view p (stored b) v)
+  home-after p b = after_more stored keeps tied start tells s r id v s.words (home-slots p b) (home-blocks p b) r.drafts [] [] (fault-load p) (home_view p (stored b) v)
 
   module _ (o : Out) (b : B) (out : v.out ≡ Some o) where
     abbrev p : ℕ
     p = o.page
-
-    abbrev views-after : List (View X)
-    views-after = slice_set s.views id (home-after p b)
 
     elsewhere : (w : View X) → w.out ≡ None → (q : ℕ) → q ≢ p → out_of (slice_set s.views id w) q ≡ out_of s.views q
     elsewhere w none q ne = out-else s.views id v w q there (λ d. ap (λ y. out_or y q d) none ∙ sym (out-of_page o q d ne) ∙ ap (λ y. out_or y q d) (sym out))
@@ -508,7 +438,7 @@ module _ {X B : Type 0} (stored : B → Stored) (keeps : Start → Kept X → Ty
         (ap (λ x. known stored (at_home x) (out_of (slice_set s.views id w) p)) (slot-here s.homes p (maybe.some (Some b)) inside))
         (λ q ne. ap (λ x. known stored (at_home x) (out_of (slice_set s.views id w) q)) (slot-else s.homes p q (maybe.some (Some b)) inside ne) ∙ ap (known stored (home s.homes q)) (elsewhere w none q ne))
 
-    fit-home : (stored b).bound ≡ o.block.bound → BlocksFit stored start (home-slots p b) views-after
+    fit-home : (stored b).bound ≡ o.block.bound → BlocksFit stored start (home-slots p b) (slice_set s.views id (home-after p b))
     fit-home bound =
         let k = r.blocks.away id v o there out in
         record {
@@ -516,7 +446,7 @@ module _ {X B : Type 0} (stored : B → Stored) (keeps : Start → Kept X → Ty
               (λ (t : (j ≡ id) × (home-after p b ≡ u)). absurd (none-some o' (ap (λ (y : View X). y.out) t.1 ∙ x)))
               (λ (t : (j ≢ id) × (get_elem? s.views j ≡ some u)).
               let a = r.blocks.away j u o' t.1 x in
-              (a.0, a.1, slot-else s.homes p o'.page (maybe.some (Some b)) inside (others-out stored keeps tied start tells s r id v there live p k.0 k.1 j u o' t.0 t.1 x) ∙ a.2))
+              (a.0, a.1, slot-else s.homes p o'.page (maybe.some (Some b)) inside (others-out p k.0 k.1 j u o' t.0 t.1 x) ∙ a.2))
               (list-set s.views id j (home-after p b) u e);
           home = λ q lq e. ⊎_elim
               (λ here. subst (λ x. IsSome (at_home x)) (sym (ap (at maybe.none (home-slots p b)) here ∙ slot-here s.homes p (maybe.some (Some b)) inside)) refl)
@@ -537,19 +467,18 @@ module _ {X B : Type 0} (stored : B → Stored) (keeps : Start → Kept X → Ty
         ∙ core-block start (length s.views) (table_words start s.words) (block_of stored s.homes s.views) (seats_of s.views) (frames_held s.views) p (stored b) (r.blocks.away id v o there out).0
 
     pub returns-home : 0 < length v.used → DeviceDid v p o.block (stored b) → (stored b).bound ≡ o.block.bound
-        → Ruled stored keeps tied start tells (home-table p b) × ReturnTold p (stored b) (slice_index s.words (index_of start (places.Fault p))) v (home-after p b)
+        → Ruled stored keeps tied start tells (became_more stored keeps tied start tells s r id v s.words (home-slots p b) (home-blocks p b) r.drafts [] [] (fault-load p) (home_view p (stored b) v)) × ReturnTold p (stored b) (slice_index s.words (index_of start (places.Fault p))) v (home-after p b)
     returns-home number did bound =
         let k = r.blocks.away id v o there out in
         let h : Held = record (held_at v p) { block = stored b } in
         let y : Page = called (page p) (stored b).count (stored b).words in
         let is : IsCalled start.tells world.core.words (page p) (stored b).count (stored b).words = is-called o (stored b) out did in
         let left = called-left world id p (stored b).count (stored b).words r.inv (may-call p k.0 k.1) is in
-        let done = steps_more stored keeps tied start tells s r id v s.words (home-slots p b) (home-blocks p b) (Some (p, stored b)) r.drafts [] [] (home-load p) (home_view p (stored b) v) there live number refl refl
-        (device-shows stored keeps tied start tells s r id v s.words (home-slots p b) (home-blocks p b) (home-load p) None (put p h v.held) v.notes (on_page world.core p y) there live
+        let done = steps_more stored keeps tied start tells s r id v s.words (home-slots p b) (home-blocks p b) (Some (p, stored b)) r.drafts [] [] (fault-load p) (home_view p (stored b) v) there live number refl refl
+        (device-shows stored keeps tied start tells s r id v s.words (home-slots p b) (home-blocks p b) (fault-load p) None (put p h v.held) v.notes (on_page world.core p y) there live
         (record {
-          wide = r.wide.0;
+          word = word-loaded start s.words (places.Fault p) r.wide.0 r.spelled k.0;
           slots = length-set s.homes p (maybe.some (Some b)) ∙ r.wide.1;
-          spelled = r.spelled;
           core_is = core-home (home-after p b) refl refl refl;
           inv = called-inv world id p (stored b).count (stored b).words r.inv (may-call p k.0 k.1) is;
           left = left;
@@ -558,14 +487,8 @@ module _ {X B : Type 0} (stored : B → Stored) (keeps : Start → Kept X → Ty
           told = ap (listed start.pages) (blocks-home (home-after p b) refl) ∙ listed-upd start.pages (block_of stored s.homes s.views) p (stored b) k.0;
           fit = fit-home bound;
           faults = faults-still stored keeps tied start tells s r id v (home-after p b) (record world { core = on_page world.core p y }) there refl left;
-          at = k.0;
-          found = refl;
-          wrote = tt;
-          knows = λ q. ⊎_elim
-              (λ e. subst (λ m. KnowsPage (seat_of v m) (put_at no_held (put p h v.held) m) (upd world.core.pages p y m)) (sym e)
-              (rw (upd-same world.core.pages p y, upd-same (put_at no_held v.held) p h)
-              (let knows = (mine.knows p).calls k.1 in record { calls = λ _. (knows.0, knows.1, refl, refl); shares = (mine.knows p).shares })))
-              (λ ne. rw (upd-other world.core.pages p y q ne, upd-other (put_at no_held v.held) p h q ne) (mine.knows q))
-              (cases_eq q p);
+          knows = each-upd2 (λ q (x : Held) (z : Page). KnowsPage (seat_of v q) x z) (put_at no_held v.held) world.core.pages p h y
+              (let knows = (mine.knows p).calls k.1 in record { calls = λ _. (knows.0, knows.1, refl, refl); shares = (mine.knows p).shares })
+              (λ q _. mine.knows q);
         })) in
         (done.0, record { brings = done.1 })

@@ -1,14 +1,10 @@
 -- A step of a pass that has begun: what it does to every table that meets the rule it does to every table that stands.
-use Rattle.std.proofs.Common.{[], ⊎_elim, ◌<◌, ◌∙◌, ◌∷◌, ◌≡◌, ap, Bool, inl, List, Option, refl, slice_index, slice_set, subst, suc, sym, true}
-use Rattle.std.proofs.Common.{true≢false, zero, ℕ}
 use mathlib.Core.Option as maybe
 use Rattle.atomic_table.specs.Table.{keeps as nothing}
-use Rattle.vm_core.specs.Prelude.{get_elem?, some, some-injective}
-use Rattle.vm_rule.specs.Prelude.{Allows, HasShape, index_of, Kept, Me, Ruled, Stands, Start, Stored, Table, unborn}
-use Rattle.vm_rule.specs.declared.view.Place.{Place}
-use Rattle.vm_rule.proofs.Adding.{became}
-use Rattle.vm_step.specs.Prelude.{AllowsStep, IsFit, IsPlacedAt, Origin, Shape, told_of, View}
 use Rattle.vm_step.proofs.{Fit.fit, Here.is-of}
+use Rattle.vm_step.proofs.Prelude.{[], Allows, AllowsStep, ap, became, Bool, get_elem?, HasShape, index_of, inl, IsFit, IsPlacedAt, Kept, List, Me}
+use Rattle.vm_step.proofs.Prelude.{Option, Origin, Place, refl, Ruled, same-word, Shape, slice_index, slice_set, some, some-injective, Stands, Start}
+use Rattle.vm_step.proofs.Prelude.{Stored, subst, suc, sym, Table, told_of, true, true≢false, unborn, View, zero, ℕ, ⊎_elim, ◌<◌, ◌∙◌, ◌∷◌, ◌≡◌}
 
 -- the one view of a table before its first step is not live
 pub born : {X : Type 0} (shape : Shape) (id : ℕ) (v : View X) → get_elem? (unborn shape ∷ []) id ≡ some v → v.live ≡ true → ⊥
@@ -40,3 +36,14 @@ module _ {X B : Type 0} (stored : B → Stored) (keeps : Start → Kept X → Ty
         let k = subst (λ j. slice_index s.words j < 18446744073709551616 → Plays start s j f) (is start has)
         (λ low. let m = plays start has s r there low in (m.0, subst (λ x. Ruled stored keeps tied start tells (became stored keeps tied start tells s (slice_set s.words (index_of start at) x) id m.0)) (sym (same (slice_index s.words (index_of start at)))) m.1, m.2)) below in
         (k.0, nothing, tt, k.1, ((is-of stored keeps tied start tells s r id v there live shape has, k.2), fit (slice_index s.words i) k.0 k.2, refl)))
+
+  -- a load leaves all words
+  pub allows-load : (slots id : ℕ) (v : View X) (i : ℕ) (at : Place) (Told : ℕ → View X → View X → Type 0) → v.live ≡ true → IsPlacedAt shape at i → ((n : ℕ) (w : View X) → Told n v w → IsFit w)
+      → ((start : Origin) → HasShape shape start → (s : Table (Option B) (View X)) → Ruled stored keeps tied start tells s → get_elem? s.views id ≡ some v
+      → (w : View X) × Ruled stored keeps tied start tells (became stored keeps tied start tells s s.words id w) × Told (slice_index s.words (index_of start at)) v w)
+      → AllowsStep (Stands stored keeps tied shape tells) slots id v i (λ n. n) (told_of shape tells Told)
+  allows-load slots id v i at Told live is fit loads =
+      allows slots id v i at (λ n. n) (λ n. n) Told live is (λ _. refl) fit
+      (λ start has s r there _.
+      let k = loads start has s r there in
+      (k.0, subst (λ words. Ruled stored keeps tied start tells (became stored keeps tied start tells s words id k.0)) (sym (same-word s.words (index_of start at))) k.1, k.2))

@@ -1,9 +1,7 @@
 -- Steps after which a pass has what it had.
-use Rattle.std.proofs.Common.{[], ◌++◌, ◌∙◌, ◌∷◌, ◌≡◌, ap, Bool, List, refl, subst, sym, true, ℕ}
-use Rattle.vm_rule.specs.Prelude.{CaughtUp, did_load, Entry, hearer, HoldsNoPage, IsLocking, last_in, last_of, seat_of, TakesOver}
 use Rattle.vm_rule.specs.declared.view.Place.TheVariants as places
-use Rattle.vm_rule.proofs.Entries.{append-none}
-use Rattle.vm_step.specs.Prelude.{Did, HasStill, Release, Snapshot, View}
+use Rattle.vm_step.proofs.Prelude.{[], ap, append-none, Bool, CaughtUp, Did, did_load, Entry, HasStill, hearer, HoldsNoPage, IsLocking, last_in}
+use Rattle.vm_step.proofs.Prelude.{last_of, List, refl, Release, seat_of, Snapshot, subst, sym, TakesOver, true, View, ℕ, ◌++◌, ◌∙◌, ◌∷◌, ◌≡◌}
 
 module _ {X : Type 0} where
   -- the pass with other lists, another snapshot and more steps

@@ -1,14 +1,12 @@
 -- The words of the table over the steps of a pass that is alone: a place is told by its index, and the words where no step wrote stay.
-use Rattle.std.proofs.Common.{[], ⊎_elim, ◌%◌, ◌*◌, ◌++◌, ◌+◌, ◌-◌, ◌/◌, ◌<◌, ◌==◌, ◌∙◌, ◌∷◌, ◌≡◌, ◌≢◌, ◌≤◌, ◌⊎◌, ap, arith, if◌then◌else◌, inl, inr}
-use Rattle.std.proofs.Common.{length, List, nat_lt, None, Option, refl, slice_index, slice_set, Some, subst, sym, ℕ}
-use Rattle.std.proofs.lemmas.Bool.{cases_lt, cond-false, cond-true, eq-eqb, le-ltb, lt-ltb, ne_eqb}
-use Rattle.std.proofs.lemmas.List.{get_or-set_same, get_or_past, length-set}
-use Rattle.vm_rule.specs.Prelude.{bundle_count, Each, index_of, IsFoundAt, set_if, Within}
-use Rattle.vm_rule.specs.declared.view.Place.{Place}
+use Rattle.std.proofs.lemmas.List.{length-set}
 use Rattle.vm_rule.specs.declared.view.Place.TheVariants as places
-use Rattle.vm_rule.proofs.Entries.{each-map}
-use Rattle.vm_step.specs.Prelude.{Did, Follows, HasGiven, IsAlone, KnowsAt, KnowsElse, Origin, Release, RunsAlone, View}
 use Rattle.vm_step.proofs.Alone.{set-else}
+use Rattle.vm_step.proofs.Prelude.{[], ap, arith, bundle_count, cases_lt, cond-false, cond-true, Did, Each, each-map, eq-eqb, Follows}
+use Rattle.vm_step.proofs.Prelude.{get_or-set_same, get_or_past, HasGiven, if◌then◌else◌, index_of, inl, inr, IsAlone, IsFoundAt, KnowsAt, KnowsElse}
+use Rattle.vm_step.proofs.Prelude.{le-ltb, length, List, lt-ltb, nat_lt, ne_eqb, None, Option, Origin, Place, refl, Release, RunsAlone, set_if}
+use Rattle.vm_step.proofs.Prelude.{slice_index, slice_set, Some, subst, sym, View, Within, ℕ, ⊎_elim, ◌%◌, ◌*◌, ◌++◌, ◌+◌, ◌-◌, ◌/◌, ◌<◌, ◌==◌, ◌∙◌}
+use Rattle.vm_step.proofs.Prelude.{◌∷◌, ◌≡◌, ◌≢◌, ◌≤◌, ◌⊎◌}
 
 -- ---- a place and its index
 
@@ -16,7 +14,9 @@ use Rattle.vm_step.proofs.Alone.{set-else}
 unfoldable late_place : Origin → ℕ → Place
 late_place start i =
     if nat_lt i (3 * start.pages + 64 * start.frames + bundle_count start) then places.Bundle (i - (3 * start.pages + 64 * start.frames))
-    else if i == 3 * start.pages + 64 * start.frames + bundle_count start then places.Next else places.Hand
+    else if i == 3 * start.pages + 64 * start.frames + bundle_count start then places.Next
+    else if i == 3 * start.pages + 64 * start.frames + bundle_count start + 1 then places.Hand
+    else places.Owner (i - (3 * start.pages + 64 * start.frames + bundle_count start + 2))
 
 unfoldable place_at : Origin → ℕ → Place
 place_at start i =
@@ -67,7 +67,15 @@ place-at start places.Next l =
     before-bundles start i (omega arith) ∙ cond-false _ _ _ (le-ltb i i (omega arith)) ∙ cond-true _ _ _ (eq-eqb i i refl)
 place-at start places.Hand l =
     let n : ℕ = 3 * start.pages + 64 * start.frames + bundle_count start in
-    before-bundles start (n + 1) (omega arith) ∙ cond-false _ _ _ (le-ltb (n + 1) n (omega arith)) ∙ cond-false _ _ _ (ne_eqb (n + 1) n (λ e. omega (arith, e)))
+    before-bundles start (n + 1) (omega arith) ∙ cond-false _ _ _ (le-ltb (n + 1) n (omega arith)) ∙ cond-false _ _ _ (ne_eqb (n + 1) n (λ e. omega (arith, e))) ∙ cond-true _ _ _ (eq-eqb (n + 1) (n + 1) refl)
+place-at start (places.Owner f) l =
+    let n : ℕ = 3 * start.pages + 64 * start.frames + bundle_count start in
+    let i : ℕ = n + 2 + f in
+    before-bundles start i (omega arith)
+    ∙ cond-false _ _ _ (le-ltb i n (omega arith))
+    ∙ cond-false _ _ _ (ne_eqb i n (λ e. omega (arith, e)))
+    ∙ cond-false _ _ _ (ne_eqb i (n + 1) (λ e. omega (arith, e)))
+    ∙ ap (λ (k : ℕ). places.Owner k) (let e : i - (n + 2) ≡ f = omega arith in e)
 
 -- two places of the table with one index are one
 pub index-same : (start : Origin) (a b : Place) → Within start a → Within start b → index_of start a ≡ index_of start b → a ≡ b
@@ -97,23 +105,13 @@ follows-between start (d ∷ ds) b old new f =
     let r = follows-between start ds b (set_if d.wrote (index_of start d.at) old) new f.1 in
     (r.0, (f.0, r.1), r.2)
 
--- steps that left no word
-pub follows-silent : (start : Origin) (ds : List Did) (old new : List ℕ) → Follows start ds old new → Each (λ (d : Did). d.wrote ≡ None) ds → new ≡ old
-follows-silent start [] old new f s = f
-follows-silent start (d ∷ ds) old new f s =
-    follows-silent start ds (set_if d.wrote (index_of start d.at) old) new f.1 s.1 ∙ ap (λ (o : Option ℕ). set_if o (index_of start d.at) old) s.0
-
--- a word that is not 0 stands in the list
-word-inside : (ws : List ℕ) (i x : ℕ) → x ≡ slice_index ws i → x ≢ 0 → i < length ws
-word-inside ws i x e ne = ⊎_elim (λ l. l) (λ past. absurd (ne (e ∙ get_or_past ws i 0 past))) (cases_lt i (length ws))
-
 -- where a step found a word that is not 0, the table has the place
 pub follows-inside : (start : Origin) (ds : List Did) (old new : List ℕ) (at : Place) (x : ℕ) → Follows start ds old new → HasGiven ds at x → x ≢ 0 → index_of start at < length old
 follows-inside start ds old new at x f h ne =
     let r = follows-between start h.earlier (h.step ∷ h.later) old new (subst (λ (l : List Did). Follows start l old new) h.cut f) in
     let found : x ≡ slice_index r.0 (index_of start at) =
     subst (λ (p : Place). x ≡ slice_index r.0 (index_of start p)) h.gives.0 (subst (λ (o : Option ℕ). IsFoundAt o (index_of start h.step.at) r.0) h.gives.1 r.2.0) in
-    subst (λ (n : ℕ). index_of start at < n) (follows-length start h.earlier old r.0 r.1) (word-inside r.0 (index_of start at) x found ne)
+    subst (λ (n : ℕ). index_of start at < n) (follows-length start h.earlier old r.0 r.1) (⊎_elim (λ l. l) (λ past. absurd (ne (found ∙ get_or_past r.0 (index_of start at) 0 past))) (cases_lt (index_of start at) (length r.0)))
 
 -- ---- what a pass knows
 

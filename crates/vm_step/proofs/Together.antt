@@ -1,16 +1,12 @@
 -- One pass more is taken in.
-use Rattle.std.specs.Prelude.{All}
-use Rattle.std.proofs.Common.{[], ◌++◌, ◌+◌, ◌<◌, ◌||◌, ◌∙◌, ◌∷◌, ◌≡◌, ◌≤◌, ap, append_assoc, arith, Bool, false, length, length-append, List, map}
-use Rattle.std.proofs.Common.{refl, subst, suc, sym, true, zero, ℕ}
-use Rattle.vm_rule.specs.Prelude.{any, AreApart, CaughtUp, did_load, Each, entries_by, Entry, first_part, giver, has, HasShape, Hears, HoldsNoPage}
-use Rattle.vm_rule.specs.Prelude.{HoldsNothing, IsWhole, joined, JoinTold, newcomer, numbers, other_parts, owns, StartsWith, TableId, times, total}
-use Rattle.vm_rule.specs.Prelude.{view_from}
 use Rattle.vm_rule.specs.declared.view.Place.TheVariants as places
-use Rattle.vm_rule.proofs.{Heard.each-both, Splitting.parts-cut}
-use Rattle.vm_rule.proofs.Entries.{append-none, each-map, entries-both, entries-within, has-joined}
-use Rattle.vm_rule.proofs.Joining.{has-left, has-right, times-joined}
-use Rattle.vm_step.specs.Prelude.{Did, HasJoined, HasStill, IsReady, Origin, Pass, PassesSplit, Release, Shape, View, view}
-use Rattle.vm_step.specs.Together.{all_notes, all_used, HasPiece}
+use Rattle.vm_step.proofs.Prelude.{[], All, all_notes, all_used, any, ap, append-none, append_assoc, AreApart, arith, Bool, CaughtUp, Did, did_load}
+use Rattle.vm_step.proofs.Prelude.{Each, each-both, each-map, entries-both, entries-within, entries_by, Entry, false, first_part, giver, has}
+use Rattle.vm_step.proofs.Prelude.{has-joined, has-left, has-right, HasJoined, HasPiece, HasShape, HasStill, Hears, HoldsNoPage, HoldsNothing}
+use Rattle.vm_step.proofs.Prelude.{IsReady, IsWhole, joined, JoinTold, length, length-append, List, map, newcomer, numbers, or-false, or_assoc}
+use Rattle.vm_step.proofs.Prelude.{Origin, other_parts, owns, parts-cut, Pass, PassesSplit, refl, Release, Shape, StartsWith, subst, suc, sym}
+use Rattle.vm_step.proofs.Prelude.{TableId, times, times-joined, total, true, View, view, view_from, zero, ℕ, ◌++◌, ◌+◌, ◌<◌, ◌||◌, ◌∙◌, ◌∷◌, ◌≡◌}
+use Rattle.vm_step.proofs.Prelude.{◌≤◌}
 use Rattle.vm_step.proofs.Still.{caught-still, still-fresh}
 
 pub starts-on : {A : Type 0} (l m n : List A) → StartsWith l m → StartsWith m n → StartsWith l n
@@ -44,14 +40,6 @@ pub numbers-length : (a n : ℕ) → length (numbers a n) ≡ n
 unfolding numbers
 numbers-length a zero = refl
 numbers-length a (suc n) = let rest : length (numbers (suc a) n) ≡ n = numbers-length (suc a) n in omega (arith, rest)
-
-or-none : (a : Bool) → (a || false) ≡ a
-or-none true = refl
-or-none false = refl
-
-or-of : (a b c : Bool) → ((a || b) || c) ≡ (a || (b || c))
-or-of true b c = refl
-or-of false b c = refl
 
 or-turn : (a b c : Bool) → (a || (b || c)) ≡ ((b || a) || c)
 or-turn true true c = refl
@@ -89,8 +77,8 @@ module _ {X : Type 0} where
   total-snoc f (x ∷ l) w = let h : total f (l ++ w ∷ []) ≡ total f l + f w = total-snoc f l w in omega arith
 
   any-more : (f : View X → Bool) (l : List (View X)) (w : View X) → any f (l ++ w ∷ []) ≡ (any f l || f w)
-  any-more f [] w = or-none (f w)
-  any-more f (x ∷ l) w = ap (λ (b : Bool). f x || b) (any-more f l w) ∙ sym (or-of (f x) (any f l) (f w))
+  any-more f [] w = or-false (f w)
+  any-more f (x ∷ l) w = ap (λ (b : Bool). f x || b) (any-more f l w) ∙ sym (or_assoc (f x) (any f l) (f w))
 
   -- the numbers of one of several are among those of all
   all-within : (vs : List (View X)) (P : View X → Type 0) (Q : View X → Type 0) → ((v : View X) → ((k : ℕ) → has k v.used ≡ true → has k (all_used vs) ≡ true) → P v → Q v) → Each P vs → Each Q vs
@@ -103,10 +91,6 @@ module _ {X : Type 0} where
   -- the entries with the numbers of a pass that was heard are its own
   pub entries-heard : (h : List (Entry X)) (w : View X) → Hears h w.used w.seen → w.mine ≡ entries_by w.used w.seen → entries_by w.used h ≡ w.mine
   entries-heard h w f c = ap (entries_by w.used) f.1 ∙ entries-both w.used w.seen f.0 ∙ (λ i. entries_by w.used w.seen ++ f.2 i) ∙ append-none (entries_by w.used w.seen) ∙ sym c
-
-  -- a longer history has the same entries of these numbers, where they made none between
-  entries-further : (ns ms : List ℕ) (h h' : List (Entry X)) → ((k : ℕ) → has k ns ≡ true → has k ms ≡ true) → Hears h' ms h → entries_by ns h ≡ entries_by ns h'
-  entries-further ns ms h h' within f = sym (ap (entries_by ns) f.1 ∙ entries-both ns h f.0 ∙ (λ i. entries_by ns h ++ entries-within ns ms f.0 within f.2 i) ∙ append-none (entries_by ns h))
 
   -- what a pass that was brought up to date has
   pub caught-heard : (v x : View X) → CaughtUp v x → Hears x.seen v.used v.seen × StartsWith x.releases v.releases
@@ -178,7 +162,7 @@ module _ {X : Type 0} where
         saw = starts-on y.releases x.releases v.releases j.saw.0 h.saw;
         saw_each = each-both _ others (w ∷ []) (each-map _ _ (λ u s. starts-on y.releases x.releases u.releases j.saw.0 s) others h.saw_each) (starts-on y.releases w'.releases w.releases j.saw.1 heard.1, tt);
         entries = each-both (λ u. entries_by u.used y.seen ≡ u.mine) others (w ∷ [])
-            (all-within others _ _ (λ u within e. sym (entries-further u.used x.used x.seen y.seen (λ k t. theirs-within k (within k t)) j.heard.0) ∙ e) h.entries)
+            (all-within others _ _ (λ u within e. ap (entries_by u.used) j.heard.0.1 ∙ entries-both u.used x.seen j.heard.0.0 ∙ (λ i. entries_by u.used x.seen ++ entries-within u.used x.used j.heard.0.0 (λ k t. theirs-within k (within k t)) j.heard.0.2 i) ∙ append-none (entries_by u.used x.seen) ∙ e) h.entries)
             (entries-heard y.seen w last (caught-mine w w' c), tt);
         nothing = λ n. let m = h.nothing n in subst HoldsNoPage (sym is) (record { shares = m.shares; exclusive = m.exclusive; writing = m.writing; out = m.out });
         current = λ _. ap (λ (u : View X). u.current) is;

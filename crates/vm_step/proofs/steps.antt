@@ -10,6 +10,7 @@ pub mod Content
 pub mod Mapping
 pub mod Bundle
 pub mod Next
+pub mod Owner
 pub mod Raise
 pub mod CatchUp
 pub mod Pass

@@ -1,8 +1,7 @@
 -- How often the device of a page was called, by the steps of a call: it is called only while the page's block is out of its slot, and once at most
 -- each time (`DeviceDid`); each move of the block is two loads of the page's fault word, which nothing else loads.
-use Rattle.std.specs.Prelude.{[], ◌++◌, ◌∷◌, ◌≡◌, ◌⊎◌, List, None, ℕ}
-use Rattle.vm_rule.specs.Prelude.{did_load, Each}
-use Rattle.vm_rule.specs.{declared.view.Did.Did, declared.view.Place.Place}
+use Rattle.std.specs.Prelude.{[], List, None, ℕ, ◌++◌, ◌∷◌, ◌≡◌, ◌⊎◌}
+use Rattle.vm_rule.specs.{declared.view.Did.Did, declared.view.Place.Place, Prelude.did_load, Prelude.Each}
 use Rattle.vm_rule.specs.declared.view.Place.TheVariants as places
 
 -- a place of page p: its state word, its translation word or its fault word
@@ -10,10 +9,7 @@ abbrev pub IsOfPage : ℕ → Place → Type 0
 IsOfPage p (places.State q) = q ≡ p
 IsOfPage p (places.Translation q) = q ≡ p
 IsOfPage p (places.Fault q) = q ≡ p
-IsOfPage p (places.Content f i) = ⊥
-IsOfPage p (places.Bundle g) = ⊥
-IsOfPage p places.Next = ⊥
-IsOfPage p places.Hand = ⊥
+IsOfPage p _ = ⊥
 
 -- no step found a word there
 abbrev pub FindsNone : Place → List Did → Type 0

@@ -1,4 +1,4 @@
-// Where a word stands among the words of a table: those of the pages, the frames and the bundles, the next word, and the hand's word.
+// Where a word stands among the words of a table: those of the pages, the frames and the bundles, the next word, the hand's word, and the owner words.
 ghost use Rattle.std.specs.Prelude.{◌*◌, ◌+◌, ◌<◌};
 ghost use Rattle.vm_rule.specs.declared.view.Place.TheVariants as places;
 ghost use Rattle.vm_step.specs.Prelude.{IsPlacedAt};
@@ -68,4 +68,13 @@ pub(crate) fn hand_place<U: Owner, B: Block>(words: &Words<U, B>) -> usize
     ensures inside { result < words.now.table.shared.table_id.words }
 {
     3 * words.pages + WORDS * words.frames + words.frames.div_ceil(FRAMES) + 1
+}
+
+/// The place of a frame's owner word.
+pub(crate) fn owner_place<U: Owner, B: Block>(words: &Words<U, B>, f: u32) -> usize
+    requires frame { f < words.now.table.shared.key.frames }
+    ensures place { IsPlacedAt words.now.table.shared.key (places.Owner f) result }
+    ensures inside { result < words.now.table.shared.table_id.words }
+{
+    3 * words.pages + WORDS * words.frames + words.frames.div_ceil(FRAMES) + 2 + f as usize
 }

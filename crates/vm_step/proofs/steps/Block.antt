@@ -1,27 +1,20 @@
 -- The moves of a page's slot, by which its block is taken out and comes home: that the table allows each, what both together tell, and what they are to
 -- the core.
-use Rattle.std.proofs.Common.{[], ⊎_elim, ◌<◌, ◌∙◌, ◌∷◌, ◌≡◌, ◌≤◌, ◌⊎◌, ap, arith, Bool, false, inl, inr, IsSome, length, List, None, Option, refl}
-use Rattle.std.proofs.Common.{slice_index, slice_set, Some, subst, sym, true, ℕ}
-use Rattle.std.proofs.lemmas.Bool.{cases_Bool}
 use mathlib.Core.Option as maybe
-use Rattle.atomic_table.specs.Table.{gives, put_back, step, takes as picks}
-use Rattle.vm_core.specs.Prelude.{count_more, LOCKED, NamesActorAndPage, on_page, Page, some, State, upd, World, written}
-use Rattle.vm_core.specs.declared.event.Event.TheVariants.{Raise, Read, RFail, WFail, Write}
-use Rattle.vm_core.specs.declared.event.Seen.TheVariants as sights
+use Rattle.atomic_table.specs.Table.{takes as picks}
 use Rattle.vm_core.specs.DeviceActs.{failed}
-use Rattle.vm_core.proofs.PageFacts.{some-same}
-use Rattle.vm_core.proofs.Upd.{upd-other, upd-same, upd-self}
-use Rattle.vm_rule.specs.Prelude.{Allows, block_of, BringsWith, core_shown, DeviceDid, did_load, Entry, HasShape, held_at, index_of, Kept, may_call}
-use Rattle.vm_rule.specs.Prelude.{MayBring, Me, out_at, RaiseTold, rest, ReturnTold, Ruled, seat_of, ShiftTold, SlotTold, Sound, Stands, Start}
-use Rattle.vm_rule.specs.Prelude.{Stored, Table, words_held}
+use Rattle.vm_core.specs.declared.event.Seen.TheVariants as sights
 use Rattle.vm_rule.specs.declared.view.Place.TheVariants as places
-use Rattle.vm_rule.specs.Slots.{home_view, out_view}
-use Rattle.vm_rule.proofs.{Calls.called, Facts.shared-here, FrameWorlds.raise-step, Parts.upd-is, Views.at-bound, Views.at-there}
-use Rattle.vm_rule.proofs.Found.{block-here, same-word, seat-here}
-use Rattle.vm_step.specs.Prelude.{Did, IsEvent, IsOf, IsPassOf, IsPlacedAt, MayRaise, MayTakeOut, Origin, Out, Release, Shape, table_after, View}
-use Rattle.vm_step.specs.BlockMoves.{brought_to, IsCall, IsHome, ShowsBut, ShowsSame, taken_from, with_block}
-use Rattle.vm_step.specs.steps.Block.{empty_play, lift_play, return_play, slot_play}
 use Rattle.vm_step.proofs.{Here.is-of, Standing.allows-any, steps.Raise.count-known, steps.Raise.raise-legal}
+use Rattle.vm_step.proofs.Prelude.{[], Allows, ap, arith, at-bound, at-there, block-here, block_of, Bool, BringsWith, brought_to, called, cases_Bool}
+use Rattle.vm_step.proofs.Prelude.{core_shown, count_more, DeviceDid, Did, did_load, empty_play, Entry, false, gives, HasShape, held_at, home_view}
+use Rattle.vm_step.proofs.Prelude.{index_of, inl, inr, IsCall, IsEvent, IsHome, IsOf, IsPassOf, IsPlacedAt, IsSome, Kept, length, lift_play, List}
+use Rattle.vm_step.proofs.Prelude.{LOCKED, may_call, MayBring, MayRaise, MayTakeOut, Me, NamesActorAndPage, None, on_page, Option, Origin, Out}
+use Rattle.vm_step.proofs.Prelude.{out_at, out_view, Page, put_back, Raise, raise-step, RaiseTold, Read, refl, Release, rest, return_play, ReturnTold}
+use Rattle.vm_step.proofs.Prelude.{RFail, Ruled, same-word, seat-here, seat_of, Shape, shared-here, ShiftTold, ShowsBut, ShowsSame, slice_index}
+use Rattle.vm_step.proofs.Prelude.{slice_set, slot_play, SlotTold, Some, some, some-same, Sound, Stands, Start, State, Step, step, Stored, subst, sym}
+use Rattle.vm_step.proofs.Prelude.{Table, table_after, taken_from, true, upd, upd-is, upd-other, upd-same, upd-self, View, WFail, with_block}
+use Rattle.vm_step.proofs.Prelude.{words_held, World, Write, written, ℕ, ⊎_elim, ◌<◌, ◌∙◌, ◌∷◌, ◌≡◌, ◌≤◌, ◌⊎◌}
 use Rattle.vm_step.proofs.Slots.{at-home, block-out-is, core-home, core-slots, did-stays, get-at, has-share, home-after, may-call, returns-home}
 use Rattle.vm_step.proofs.Slots.{shifted-blocks, shifts-slot, slot-view, taken-blocks, takes-slot, written-held}
 
@@ -53,28 +46,25 @@ module _ {X : Type 0} where
     sound = b.sound;
   }
 
-module _ {X : Type 0} where
-  -- the block that is out after a slot was taken, after one that is out went home, and after it was taken again
-  pub out-taken : (p : ℕ) (b : Stored) (found : ℕ) (v w : View X) → SlotTold p b found v w → w.out ≡ Some (out_at p true b)
-  out-taken p b found v w t = ap (λ (y : View X). y.out) t.brings.view
-
-  pub out-shifted : (p : ℕ) (moving : Bool) (b : Stored) (found : ℕ) (v w : View X) → ShiftTold p moving b found v w → w.out ≡ Some (out_at p moving b)
-  out-shifted p moving b found v w t = ap (λ (y : View X). y.out) t.brings.view
-
-  pub steady-taken : (p : ℕ) (b : Stored) (found : ℕ) (v w : View X) → v.live ≡ true → 0 < length v.used → SlotTold p b found v w → GoesOn v w
-  steady-taken p b found v w live number t = still-steady (did_load (places.Fault p) found) None [] [] v (out_view p true b v) w refl refl live number t.brings
-
   pub steady-shifted : (p : ℕ) (moving : Bool) (b : Stored) (found : ℕ) (v w : View X) → v.live ≡ true → 0 < length v.used → ShiftTold p moving b found v w → GoesOn v w
   steady-shifted p moving b found v w live number t = still-steady (did_load (places.Fault p) found) None [] [] v (out_view p moving b v) w refl refl live number t.brings
 
-  pub steady-returned : (p : ℕ) (b : Stored) (found : ℕ) (v w : View X) → v.live ≡ true → 0 < length v.used → ReturnTold p b found v w → GoesOn v w
-  steady-returned p b found v w live number t = still-steady (did_load (places.Fault p) found) (Some (p, b)) [] [] v (home_view p b v) w refl refl live number t.brings
-
 module _ {X B : Type 0} (stored : B → Stored) (keeps : Start → Kept X → Type 0) (tied : Start → ℕ → List ℕ → ℕ → List ℕ → Type 0) (tells : Bool) where
-  -- of every table that meets the rule, the slot is taken with the block in it
-  out-ruled : (start : Origin) (shape : Shape) → HasShape shape start → (slots id : ℕ) (me : Me (Option B) (View X)) (p : ℕ) → me.0.live ≡ true → 0 < length me.0.used → p < start.pages → may_call (seat_of me.0 p) ≡ true → me.0.out ≡ None
-      → Allows (Ruled stored keeps tied start tells) slots id me (index_of start (places.Fault p)) (λ n. n) (slot_play shape tells stored p (step slots (index_of start (places.Fault p)) 0 0 maybe.none) me)
-  out-ruled start shape has slots id me p live number l calls none s r many there below =
+  -- what a load of page p's fault word does to every table that meets the rule, it does to every table that stands
+  at-fault : (shape : Shape) (slots id : ℕ) (me : Me (Option B) (View X)) (p i : ℕ) (play : Step (Option B) → ℕ → Me (Option B) (View X) → Type 0) → me.0.live ≡ true → IsPlacedAt shape (places.Fault p) i
+      → ((start : Origin) → HasShape shape start → Allows (Ruled stored keeps tied start tells) slots id me (index_of start (places.Fault p)) (λ n. n) (play (step slots (index_of start (places.Fault p)) 0 0 maybe.none)))
+      → Allows (Stands stored keeps tied shape tells) slots id me i (λ n. n) (play (step slots i 0 0 maybe.none))
+  at-fault shape slots id me p i play live is ruled =
+      allows-any stored keeps tied shape tells slots id me i (λ n. n) (play (step slots i 0 0 maybe.none)) live
+      (λ start has. subst (λ n. Allows (Ruled stored keeps tied start tells) slots id me n (λ k. k) (play (step slots n 0 0 maybe.none))) (is start has) (ruled start has))
+
+  -- the slot is taken with the block in it
+  pub out-allows : (shape : Shape) (slots id : ℕ) (me : Me (Option B) (View X)) (p i : ℕ) → me.0.live ≡ true → 0 < length me.0.used → p < shape.pages → IsPlacedAt shape (places.Fault p) i → may_call (seat_of me.0 p) ≡ true → me.0.out ≡ None
+      → Allows (Stands stored keeps tied shape tells) slots id me i (λ n. n) (slot_play shape tells stored p (step slots i 0 0 maybe.none) me)
+  out-allows shape slots id me p i live number l' is calls none =
+      at-fault shape slots id me p i (λ st. slot_play shape tells stored p st me) live is
+      (λ start has s r many there below.
+      let l : p < start.pages = subst (λ n. p < n) (sym has.pages) l' in
       let v : View X = me.0 in
       let place : ℕ = index_of start (places.Fault p) in
       let h = at-home stored keeps tied start tells s r id v there live p l calls none in
@@ -86,12 +76,14 @@ module _ {X B : Type 0} (stored : B → Stored) (keeps : Start → Kept X → Ty
         get-at maybe.none s.homes p (maybe.some (Some h.0)) inside h.1,
         subst (λ ws. Ruled stored keeps tied start tells (record { words = ws; homes = slice_set s.homes p maybe.none; views = slice_set s.views id w })) (sym (same-word s.words place)) k.0,
         (is-of stored keeps tied start tells s r id v there live shape has, (h.0, k.1, refl)),
-      )
+      ))
 
   -- the empty slot of a block that is out goes home
-  empty-ruled : (start : Origin) (shape : Shape) → HasShape shape start → (slots id : ℕ) (me : Me (Option B) (View X)) (p : ℕ) (b : Stored) → me.0.live ≡ true → 0 < length me.0.used → me.0.out ≡ Some (out_at p true b) → me.1 ≡ (p, None) ∷ []
-      → Allows (Ruled stored keeps tied start tells) slots id me (index_of start (places.Fault p)) (λ n. n) (empty_play shape tells p (step slots (index_of start (places.Fault p)) 0 0 maybe.none) me)
-  empty-ruled start shape has slots id me p b live number out carried s r many there below =
+  pub empty-allows : (shape : Shape) (slots id : ℕ) (me : Me (Option B) (View X)) (p i : ℕ) (b : Stored) → me.0.live ≡ true → 0 < length me.0.used → IsPlacedAt shape (places.Fault p) i → me.0.out ≡ Some (out_at p true b) → me.1 ≡ (p, None) ∷ []
+      → Allows (Stands stored keeps tied shape tells) slots id me i (λ n. n) (empty_play shape tells p (step slots i 0 0 maybe.none) me)
+  empty-allows shape slots id me p i b live number is out carried =
+      at-fault shape slots id me p i (λ st. empty_play shape tells p st me) live is
+      (λ start has s r many there below.
       let v : View X = me.0 in
       let place : ℕ = index_of start (places.Fault p) in
       let o : Out = out_at p true b in
@@ -104,12 +96,14 @@ module _ {X B : Type 0} (stored : B → Stored) (keeps : Start → Kept X → Ty
         subst (λ hs. Ruled stored keeps tied start tells (record { words = slice_set s.words place (slice_index s.words place); homes = hs; views = slice_set s.views id w })) (ap (put_back s.homes) (sym carried))
             (subst (λ ws. Ruled stored keeps tied start tells (record { words = ws; homes = homes; views = slice_set s.views id w })) (sym (same-word s.words place)) k.0),
         (λ c e. (subst (λ y. ShiftTold p false y (slice_index s.words place) v w) (one-out p true me.0.out b c out e) k.1, ap rest carried)),
-      )
+      ))
 
   -- it is taken
-  lift-ruled : (start : Origin) (shape : Shape) → HasShape shape start → (slots id : ℕ) (me : Me (Option B) (View X)) (p : ℕ) (b : Stored) → me.0.live ≡ true → 0 < length me.0.used → me.0.out ≡ Some (out_at p false b)
-      → Allows (Ruled stored keeps tied start tells) slots id me (index_of start (places.Fault p)) (λ n. n) (lift_play shape tells p (step slots (index_of start (places.Fault p)) 0 0 maybe.none) me)
-  lift-ruled start shape has slots id me p b live number out s r many there below =
+  pub lift-allows : (shape : Shape) (slots id : ℕ) (me : Me (Option B) (View X)) (p i : ℕ) (b : Stored) → me.0.live ≡ true → 0 < length me.0.used → IsPlacedAt shape (places.Fault p) i → me.0.out ≡ Some (out_at p false b)
+      → Allows (Stands stored keeps tied shape tells) slots id me i (λ n. n) (lift_play shape tells p (step slots i 0 0 maybe.none) me)
+  lift-allows shape slots id me p i b live number is out =
+      at-fault shape slots id me p i (λ st. lift_play shape tells p st me) live is
+      (λ start has s r many there below.
       let v : View X = me.0 in
       let place : ℕ = index_of start (places.Fault p) in
       let o : Out = out_at p false b in
@@ -130,40 +124,16 @@ module _ {X B : Type 0} (stored : B → Stored) (keeps : Start → Kept X → Ty
             λ new did. did-stays stored keeps tied start tells s r id v there live homes p true b c new away.0 away.1 did,
           )),
         ),
-      )
-
-  -- and so of every table that stands
-  pub out-allows : (shape : Shape) (slots id : ℕ) (me : Me (Option B) (View X)) (p i : ℕ) → me.0.live ≡ true → 0 < length me.0.used → p < shape.pages → IsPlacedAt shape (places.Fault p) i → may_call (seat_of me.0 p) ≡ true → me.0.out ≡ None
-      → Allows (Stands stored keeps tied shape tells) slots id me i (λ n. n) (slot_play shape tells stored p (step slots i 0 0 maybe.none) me)
-  out-allows shape slots id me p i live number l is calls none =
-      allows-any stored keeps tied shape tells slots id me i (λ n. n) (slot_play shape tells stored p (step slots i 0 0 maybe.none) me) live
-      (λ start has.
-      subst (λ n. Allows (Ruled stored keeps tied start tells) slots id me n (λ k. k) (slot_play shape tells stored p (step slots n 0 0 maybe.none) me)) (is start has)
-      (out-ruled start shape has slots id me p live number (subst (λ n. p < n) (sym has.pages) l) calls none))
-
-  pub empty-allows : (shape : Shape) (slots id : ℕ) (me : Me (Option B) (View X)) (p i : ℕ) (b : Stored) → me.0.live ≡ true → 0 < length me.0.used → IsPlacedAt shape (places.Fault p) i → me.0.out ≡ Some (out_at p true b) → me.1 ≡ (p, None) ∷ []
-      → Allows (Stands stored keeps tied shape tells) slots id me i (λ n. n) (empty_play shape tells p (step slots i 0 0 maybe.none) me)
-  empty-allows shape slots id me p i b live number is out carried =
-      allows-any stored keeps tied shape tells slots id me i (λ n. n) (empty_play shape tells p (step slots i 0 0 maybe.none) me) live
-      (λ start has.
-      subst (λ n. Allows (Ruled stored keeps tied start tells) slots id me n (λ k. k) (empty_play shape tells p (step slots n 0 0 maybe.none) me)) (is start has)
-      (empty-ruled start shape has slots id me p b live number out carried))
-
-  pub lift-allows : (shape : Shape) (slots id : ℕ) (me : Me (Option B) (View X)) (p i : ℕ) (b : Stored) → me.0.live ≡ true → 0 < length me.0.used → IsPlacedAt shape (places.Fault p) i → me.0.out ≡ Some (out_at p false b)
-      → Allows (Stands stored keeps tied shape tells) slots id me i (λ n. n) (lift_play shape tells p (step slots i 0 0 maybe.none) me)
-  lift-allows shape slots id me p i b live number is out =
-      allows-any stored keeps tied shape tells slots id me i (λ n. n) (lift_play shape tells p (step slots i 0 0 maybe.none) me) live
-      (λ start has.
-      subst (λ n. Allows (Ruled stored keeps tied start tells) slots id me n (λ k. k) (lift_play shape tells p (step slots n 0 0 maybe.none) me)) (is start has)
-      (lift-ruled start shape has slots id me p b live number out))
+      ))
 
   -- ---- a block comes home
 
-  -- of every table that meets the rule
-  return-ruled : (start : Origin) (shape : Shape) → HasShape shape start → (slots id : ℕ) (me : Me (Option B) (View X)) (p : ℕ) (b : B) (old : Stored) → me.0.live ≡ true → 0 < length me.0.used
+  pub return-allows : (shape : Shape) (slots id : ℕ) (me : Me (Option B) (View X)) (p i : ℕ) (b : B) (old : Stored) → me.0.live ≡ true → 0 < length me.0.used → IsPlacedAt shape (places.Fault p) i
       → me.0.out ≡ Some (out_at p true old) → me.1 ≡ (p, Some b) ∷ [] → DeviceDid me.0 p old (stored b) → (stored b).bound ≡ old.bound
-      → Allows (Ruled stored keeps tied start tells) slots id me (index_of start (places.Fault p)) (λ n. n) (return_play shape tells stored p (step slots (index_of start (places.Fault p)) 0 0 maybe.none) me)
-  return-ruled start shape has slots id me p b old live number out carried did bound s r many there below =
+      → Allows (Stands stored keeps tied shape tells) slots id me i (λ n. n) (return_play shape tells stored p (step slots i 0 0 maybe.none) me)
+  return-allows shape slots id me p i b old live number is out carried did bound =
+      at-fault shape slots id me p i (λ st. return_play shape tells stored p st me) live is
+      (λ start has s r many there below.
       let v : View X = me.0 in
       let place : ℕ = index_of start (places.Fault p) in
       let w : View X = home-after stored keeps tied start tells s r id v there live p b in
@@ -178,17 +148,7 @@ module _ {X B : Type 0} (stored : B → Stored) (keeps : Start → Kept X → Ty
           subst (λ y. ReturnTold p (stored y) (slice_index s.words place) v w) (some-same b c (one-slot p p (Some b) (Some c) [] [] (sym carried ∙ e))) k.1,
           ap rest carried,
         )),
-      )
-
-  -- and so of every table that stands
-  pub return-allows : (shape : Shape) (slots id : ℕ) (me : Me (Option B) (View X)) (p i : ℕ) (b : B) (old : Stored) → me.0.live ≡ true → 0 < length me.0.used → IsPlacedAt shape (places.Fault p) i
-      → me.0.out ≡ Some (out_at p true old) → me.1 ≡ (p, Some b) ∷ [] → DeviceDid me.0 p old (stored b) → (stored b).bound ≡ old.bound
-      → Allows (Stands stored keeps tied shape tells) slots id me i (λ n. n) (return_play shape tells stored p (step slots i 0 0 maybe.none) me)
-  return-allows shape slots id me p i b old live number is out carried did bound =
-      allows-any stored keeps tied shape tells slots id me i (λ n. n) (return_play shape tells stored p (step slots i 0 0 maybe.none) me) live
-      (λ start has.
-      subst (λ n. Allows (Ruled stored keeps tied start tells) slots id me n (λ k. k) (return_play shape tells stored p (step slots n 0 0 maybe.none) me)) (is start has)
-      (return-ruled start shape has slots id me p b old live number out carried did bound))
+      ))
 
 -- a write into the slot that the seat took last leaves the view
 pub view-put : {X B : Type 0} (m n : Me (Option B) (View X)) (l : List (ℕ × Option B)) → n ≡ (m.0, l) → n.0 ≡ m.0
@@ -222,9 +182,9 @@ module _ {X B : Type 0} (stored : B → Stored) where
     -- after the block was taken from the slot
     pub emptied : (found : ℕ) (v : View X) (m' n : Me (Option B) (View X)) (b : B) → v.live ≡ true → 0 < length v.used → SlotTold p (stored b) found v m'.0 → m'.1 ≡ (p, Some b) ∷ [] → n ≡ (m'.0, (p, None) ∷ rest m'.1) → IsEmptied p (stored b) n
     emptied found v m' n b live number told carried put =
-        let steady : GoesOn v m'.0 = steady-taken p (stored b) found v m'.0 live number told in
+        let steady : GoesOn v m'.0 = (still-steady (did_load (places.Fault p) found) None [] [] v (out_view p true (stored b) v) m'.0 refl refl live number told.brings) in
         subst (IsEmptied p (stored b)) (sym put) (record {
-          out = out-taken p (stored b) found v m'.0 told;
+          out = ap (λ (y : View X). y.out) told.brings.view;
           carried = ap (λ (x : List (ℕ × Option B)). (p, None) ∷ rest x) carried;
           live = steady.live;
           number = steady.number;
@@ -269,7 +229,7 @@ module _ {X B : Type 0} (stored : B → Stored) where
         let t = subst (λ j. Lifted j found m m') e told old (ap (λ (y : View X). y.out) (sym is) ∙ may.out) in
         let steady : GoesOn v m'.0 = steady-shifted p true old found v m'.0 live number l.0 in
         subst (IsLoaded p old b) (sym put) (record {
-          out = out-shifted p true old found v m'.0 l.0;
+          out = ap (λ (y : View X). y.out) l.0.brings.view;
           carried = ap (λ (x : List (ℕ × Option B)). (p, Some b) ∷ rest x) l.1;
           did = t.2 (stored b) (subst (λ y. DeviceDid y p old (stored b)) is may.did);
           live = steady.live;
@@ -280,21 +240,17 @@ module _ {X B : Type 0} (stored : B → Stored) where
     pub back-home : (shape : Shape) (tells : Bool) (k found : ℕ) (m m' : Me (Option B) (View X)) → k ≡ p → IsLoaded p old b m → (stored b).bound ≡ old.bound → Back shape tells k found m m' → ReturnTold p (stored b) found m.0 m'.0 × (m'.1 ≡ []) × GoesOn m.0 m'.0
     back-home shape tells k found m m' e is bound told =
         let t = subst (λ n. Back shape tells n found m m') e told b old is.carried is.out is.did bound in
-        (t.1, t.2, steady-returned p (stored b) found m.0 m'.0 is.live is.number t.1)
-
--- a page that is put in place twice
-upd-twice : {A : Type 0} (f : ℕ → A) (k : ℕ) (x y : A) → upd (upd f k x) k y ≡ upd f k y
-upd-twice f k x y = upd-is f (upd (upd f k x) k y) k y (upd-same (upd f k x) k y) (λ j ne. upd-other (upd f k x) k y j ne ∙ upd-other f k x j ne)
+        (t.1, t.2, (still-steady (did_load (places.Fault p) found) (Some (p, (stored b))) [] [] m.0 (home_view p (stored b) m.0) m'.0 refl refl is.live is.number t.1.brings))
 
 with-block-on : (c : State) (p : ℕ) (y : Page) (words : List ℕ) → with_block (on_page c p y) p words ≡ on_page c p (record y { block = words })
 with-block-on c p y words =
     ap (λ (x : Page). on_page (on_page c p y) p (record x { block = words })) (upd-same c.pages p y)
-    ∙ ap (λ (pages : ℕ → Page). record c { pages = pages }) (upd-twice c.pages p y (record y { block = words }))
+    ∙ ap (λ (pages : ℕ → Page). record c { pages = pages }) (upd-is c.pages (upd (upd c.pages p y) p (record y { block = words })) p (record y { block = words }) (upd-same (upd c.pages p y) p (record y { block = words })) (λ j ne. upd-other (upd c.pages p y) p (record y { block = words }) j ne ∙ upd-other c.pages p y j ne))
 
 module _ {X B : Type 0} (stored : B → Stored) (start : Origin) (keeps : Start → Kept X → Type 0) (tied : Start → ℕ → List ℕ → ℕ → List ℕ → Type 0) (tells : Bool) (s : Table (Option B) (View X)) (id p : ℕ) where
-  pub raise_event : (count : ℕ) (v w : View X) → IsPassOf stored start keeps tied tells s id v → p < start.pages → MayRaise v p count → RaiseTold p count v w
+  pub raise-event : (count : ℕ) (v w : View X) → IsPassOf stored start keeps tied tells s id v → p < start.pages → MayRaise v p count → RaiseTold p count v w
       → IsEvent stored start s (table_after s (slice_set s.words (index_of start (places.Fault p)) count) id w) (Raise id p) sights.Done
-  raise_event count v w pass l may told =
+  raise-event count v w pass l may told =
       let view = told.brings.view in
       record {
         legal = raise-legal stored keeps tied start tells s pass.rule id v pass.there pass.live p l may.calls;
@@ -339,12 +295,6 @@ module _ {X B : Type 0} (stored : B → Stored) (start : Origin) (keeps : Start 
     inside : (p < start.pages) × (may_call (seat_of v p) ≡ true)
     inside = let k = pass.rule.blocks.away id v (out_at p true old) pass.there out in (k.0, k.1)
 
-    -- the core that the table shows then
-    core-now : core_shown stored start later ≡ on_page c p (called page (stored b).count (stored b).words)
-    core-now =
-        let view = told.brings.view in
-        core-home stored keeps tied start tells s pass.rule id v pass.there pass.live (out_at p true old) b out w (ap (λ (y : View X). y.out) view) (ap (λ (y : View X). y.seats) view) (ap (λ (y : View X). y.frames) view)
-
     -- the page's block before
     block-before : (page.block ≡ old.words) × (page.count ≡ old.count)
     block-before =
@@ -355,7 +305,10 @@ module _ {X B : Type 0} (stored : B → Stored) (start : Origin) (keeps : Start 
     -- a page that has this count, and these words where blocks tell them
     shows-page : (y : Page) → (stored b).count ≡ y.count → (start.tells ≡ true → (stored b).words ≡ y.block) → ((count : ℕ) (block : List ℕ) → called page count block ≡ called y count block) → ShowsBut stored start later (on_page c p y) p (stored b).words
     shows-page y count words same =
-        let is : core_shown stored start later ≡ on_page c p (called y (stored b).count (stored b).words) = core-now ∙ ap (on_page c p) (same (stored b).count (stored b).words) in
+        let view = told.brings.view in
+        let is : core_shown stored start later ≡ on_page c p (called y (stored b).count (stored b).words) =
+        core-home stored keeps tied start tells s pass.rule id v pass.there pass.live (out_at p true old) b out w (ap (λ (y : View X). y.out) view) (ap (λ (y : View X). y.seats) view) (ap (λ (y : View X). y.frames) view)
+        ∙ ap (on_page c p) (same (stored b).count (stored b).words) in
         record {
           core = is ∙ (λ i. on_page c p (called y (count i) (stored b).words)) ∙ sym (with-block-on c p y (stored b).words);
           told = λ t. is ∙ (λ i. on_page c p (called y (count i) (words t i)));
@@ -372,15 +325,15 @@ module _ {X B : Type 0} (stored : B → Stored) (start : Origin) (keeps : Start 
         subst (λ (x : State). ShowsBut stored start later x p (stored b).words) (ap (λ (pages : ℕ → Page). record c { pages = pages }) (upd-self c.pages p))
         (shows-page page (count ∙ sym block-before.1) (λ t. words t ∙ sym block-before.0) (λ _ _. refl))
 
-    pub read_event : (seat_of v p).exclusive ≡ true → (start.tells ≡ true → (stored b).words ≡ old.words) → (stored b).count ≡ old.count → IsCall stored start s later p (stored b).words (Read id p) sights.Done
-    read_event owns words count = record {
+    pub read-event : (seat_of v p).exclusive ≡ true → (start.tells ≡ true → (stored b).words ≡ old.words) → (stored b).count ≡ old.count → IsCall stored start s later p (stored b).words (Read id p) sights.Done
+    read-event owns words count = record {
       legal = (names, ap (λ y. y.exclusive) (seat-here stored start s id p v inside.0 pass.there) ∙ owns);
       shows = shows-page page (count ∙ sym block-before.1) (λ t. words t ∙ sym block-before.0) (λ _ _. refl);
       sees = refl;
     }
 
-    pub wrote_event : IsSome (held_at v p).mapping → (start.tells ≡ true → (stored b).words ≡ words_held v p) → (stored b).count ≡ old.count → IsCall stored start s later p (stored b).words (Write id p) sights.Done
-    wrote_event m words count = record {
+    pub wrote-event : IsSome (held_at v p).mapping → (start.tells ≡ true → (stored b).words ≡ words_held v p) → (stored b).count ≡ old.count → IsCall stored start s later p (stored b).words (Write id p) sights.Done
+    wrote-event m words count = record {
       legal = (names, record { call = may-call stored keeps tied start tells s pass.rule id v pass.there pass.live p inside.0 inside.1; resident = resident m });
       shows = shows-page (written c.words page) (count ∙ sym block-before.1) (λ t. words t ∙ written-held stored keeps tied start tells s pass.rule id v pass.there pass.live p inside.0 inside.1 t (resident m)) (λ _ _. refl);
       sees = refl;
@@ -389,15 +342,15 @@ module _ {X B : Type 0} (stored : B → Stored) (start : Origin) (keeps : Start 
     failed-shows : (start.tells ≡ true → (stored b).words ≡ old.words) → (stored b).count ≡ count_more old.count → ShowsBut stored start later (on_page c p (failed page)) p (stored b).words
     failed-shows words count = shows-page (failed page) (count ∙ ap count_more (sym block-before.1)) (λ t. words t ∙ sym block-before.0) (λ _ _. refl)
 
-    pub read_failed_event : (seat_of v p).exclusive ≡ true → (start.tells ≡ true → (stored b).words ≡ old.words) → (stored b).count ≡ count_more old.count → IsCall stored start s later p (stored b).words (RFail id p) (sights.Word (count_more old.count))
-    read_failed_event owns words count = record {
+    pub read_failed-event : (seat_of v p).exclusive ≡ true → (start.tells ≡ true → (stored b).words ≡ old.words) → (stored b).count ≡ count_more old.count → IsCall stored start s later p (stored b).words (RFail id p) (sights.Word (count_more old.count))
+    read_failed-event owns words count = record {
       legal = (names, ap (λ y. y.exclusive) (seat-here stored start s id p v inside.0 pass.there) ∙ owns);
       shows = failed-shows words count;
       sees = ap (λ n. sights.Word (count_more n)) block-before.1;
     }
 
-    pub write_failed_event : IsSome (held_at v p).mapping → (start.tells ≡ true → (stored b).words ≡ old.words) → (stored b).count ≡ count_more old.count → IsCall stored start s later p (stored b).words (WFail id p) (sights.Word (count_more old.count))
-    write_failed_event m words count = record {
+    pub write_failed-event : IsSome (held_at v p).mapping → (start.tells ≡ true → (stored b).words ≡ old.words) → (stored b).count ≡ count_more old.count → IsCall stored start s later p (stored b).words (WFail id p) (sights.Word (count_more old.count))
+    write_failed-event m words count = record {
       legal = (names, record { call = may-call stored keeps tied start tells s pass.rule id v pass.there pass.live p inside.0 inside.1; resident = resident m });
       shows = failed-shows words count;
       sees = ap (λ n. sights.Word (count_more n)) block-before.1;

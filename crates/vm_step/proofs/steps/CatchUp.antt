@@ -1,18 +1,12 @@
 -- A load of the next word that brings a pass up to date: a pass with all parts knows the table then; that the table allows it.
-use Rattle.std.proofs.Common.{[], ◌++◌, ◌<◌, ◌∙◌, ◌∷◌, ◌≡◌, ◌≤◌, ap, arith, Bool, length, List, Option, refl, slice_index, slice_set, Some, subst}
-use Rattle.std.proofs.Common.{sym, true, ℕ}
-use Rattle.atomic_table.proofs.Lists.{set_here}
-use Rattle.vm_core.specs.Prelude.{get_elem?, some, Version, version_of, World}
-use Rattle.vm_core.specs.declared.event.Event.TheVariants.{NLoad}
-use Rattle.vm_rule.specs.Prelude.{at_next, at_state, began_of, did_load, Each, HoldsNoPage, index_of, IsWhole, Kept, last_in, last_of, Ruled, Stands}
-use Rattle.vm_rule.specs.Prelude.{Start, Stored, Table, table_words, WasNext, WasWord, WereWords, world_of}
-use Rattle.vm_rule.specs.declared.view.Place.{Place}
 use Rattle.vm_rule.specs.declared.view.Place.TheVariants as places
-use Rattle.vm_rule.proofs.{Adding.after_step, Adding.became, Bringing.rested, Found.same-word, Views.at-bound, Worlds.last-is}
-use Rattle.vm_rule_laws.specs.Known.{HasStepped, kept_by, KnowsTable}
-use Rattle.vm_rule_laws.proofs.{Alone.without-locks, Histories.all-seen, Knowing.table-known, Knowing.what-is-kept}
-use Rattle.vm_step.specs.Prelude.{AllowsStep, CatchTold, Did, HasGiven, HasWritten, IsPlacedAt, KnowsAll, Origin, Shape, told_of, View}
-use Rattle.vm_step.proofs.{Fit.fit, Standing.allows}
+use Rattle.vm_step.proofs.{Fit.fit, Standing.allows-load}
+use Rattle.vm_step.proofs.Prelude.{[], after_step, all-seen, AllowsStep, ap, arith, at-bound, at_next, at_state, became, began_of, Bool, CatchTold}
+use Rattle.vm_step.proofs.Prelude.{Did, did_load, Each, get_elem?, HasGiven, HasStepped, HasWritten, index_of, IsPlacedAt, IsWhole, Kept, kept_by}
+use Rattle.vm_step.proofs.Prelude.{KnowsAll, KnowsTable, last-is, last_in, last_of, length, List, NLoad, Option, Origin, Place, refl, rested, Ruled}
+use Rattle.vm_step.proofs.Prelude.{set_here, Shape, slice_index, Some, some, Stands, Start, Stored, subst, sym, Table, table-known, table_words}
+use Rattle.vm_step.proofs.Prelude.{told_of, true, Version, version_of, View, WasNext, WasWord, WereWords, what-is-kept, without-locks, World}
+use Rattle.vm_step.proofs.Prelude.{world_of, ℕ, ◌++◌, ◌<◌, ◌∙◌, ◌∷◌, ◌≡◌, ◌≤◌}
 
 each-there : {A : Type 0} (P : A → Type 0) (l : List A) (x : A) (m : List A) → Each P (l ++ x ∷ m) → P x
 each-there P [] x m e = e.0
@@ -45,16 +39,13 @@ module _ {X B : Type 0} (stored : B → Stored) (keeps : Start → Kept X → Ty
   abbrev world : World
   world = world_of stored start r.releases r.drafts s
 
-  none-owed : HoldsNoPage w → (w.pending ≡ []) × (w.owed ≡ [])
-  none-owed nothing = without-locks stored keeps tied start tells s r id w there live nothing.exclusive
-
   pub knows-all : KnowsAll tells keeps w
   knows-all =
       let same : w.start ≡ start = (r.heard id w there live).same_start in
       record {
-        paid = none-owed;
+        paid = λ nothing. without-locks stored keeps tied start tells s r id w there live nothing.exclusive;
         all = λ whole. (let h = all-seen stored keeps tied start tells s r id w (stepped whole).pass in h.1 ∙ sym h.0);
-        stands = λ t whole nothing. subst (λ (o : Origin). keeps (began_of o) (kept_by w)) (sym same) (what-is-kept stored keeps tied start tells s r id w (stepped whole) (none-owed nothing).0 (r.telling ∙ t));
+        stands = λ t whole nothing. subst (λ (o : Origin). keeps (began_of o) (kept_by w)) (sym same) (what-is-kept stored keeps tied start tells s r id w (stepped whole) (without-locks stored keeps tied start tells s r id w there live nothing.exclusive).0 (r.telling ∙ t));
         last = λ whole p word l h.
             let known : KnowsTable stored start r.releases r.history s w = table-known stored keeps tied start tells s r id w (stepped whole) in
             let most : version_of word ≤ (world.core.pages p).version = version-below world w.log p word (r.known id w there live).words h in
@@ -70,26 +61,19 @@ module _ {X B : Type 0} (stored : B → Stored) (keeps : Start → Kept X → Ty
       }
 
 module _ {X B : Type 0} (stored : B → Stored) (keeps : Start → Kept X → Type 0) (tied : Start → ℕ → List ℕ → ℕ → List ℕ → Type 0) (tells : Bool) where
-  -- of every table that meets the rule
-  catch-keeps : (start : Origin) (s : Table (Option B) (View X)) → Ruled stored keeps tied start tells s → (id : ℕ) (v : View X) → get_elem? s.views id ≡ some v → v.live ≡ true → 0 < length v.used
-      → (w : View X)
-      × Ruled stored keeps tied start tells (became stored keeps tied start tells s (slice_set s.words (index_of start places.Next) (slice_index s.words (index_of start places.Next))) id w)
-      × CatchTold tells keeps v w
-  catch-keeps start s r id v there live number =
-      let i : ℕ = index_of start places.Next in
-      let w : View X = after_step stored keeps tied start tells s r s.words [] [] (did_load places.Next (slice_index s.words i)) v in
-      let k = rested stored keeps tied start tells s r id v (did_load places.Next (slice_index s.words i)) (NLoad id) there live number refl (at-bound s.views id v there) refl tt refl refl in (
+  -- it keeps the rule of every table and tells what it is to tell
+  pub catch_up-allows : (shape : Shape) (slots id : ℕ) (v : View X) (i : ℕ) → v.live ≡ true → 0 < length v.used → IsPlacedAt shape places.Next i
+      → AllowsStep (Stands stored keeps tied shape tells) slots id v i (λ n. n) (told_of shape tells (λ n. CatchTold tells keeps))
+  catch_up-allows shape slots id v i live number is =
+      allows-load stored keeps tied shape tells slots id v i places.Next (λ n. CatchTold tells keeps) live is (λ n w t. fit t.caught.brings live)
+      (λ start has s r there.
+      let found : ℕ = slice_index s.words (index_of start places.Next) in
+      let w : View X = after_step stored keeps tied start tells s r s.words [] [] (did_load places.Next found) v in
+      let k = rested stored keeps tied start tells s r id v (did_load places.Next found) (NLoad id) there live number refl (at-bound s.views id v there) refl tt refl refl in (
         w,
-        subst (λ ws. Ruled stored keeps tied start tells (became stored keeps tied start tells s ws id w)) (sym (same-word s.words i)) k.0,
+        k.0,
         record {
-          caught = record { found = slice_index s.words i; brings = k.1 };
+          caught = record { found = found; brings = k.1 };
           knows = knows-all stored keeps tied start tells (became stored keeps tied start tells s s.words id w) k.0 id w (set_here s.views id w (at-bound s.views id v there)) live refl;
         },
-      )
-
-  -- and so of every table that stands
-  pub catch-allows : (shape : Shape) (slots id : ℕ) (v : View X) (i : ℕ) → v.live ≡ true → 0 < length v.used → IsPlacedAt shape places.Next i
-      → AllowsStep (Stands stored keeps tied shape tells) slots id v i (λ n. n) (told_of shape tells (λ n. CatchTold tells keeps))
-  catch-allows shape slots id v i live number is =
-      allows stored keeps tied shape tells slots id v i places.Next (λ n. n) (λ n. n) (λ n. CatchTold tells keeps) live is (λ n. refl) (λ n w t. fit t.caught.brings live)
-      (λ start has s r there _. catch-keeps start s r id v there live number)
+      ))

@@ -5,52 +5,30 @@
 -- speaks.
 --
 -- What a load of a word of a frame leaves: it speaks of the words that were loaded through the open read of one page.
-use Rattle.std.proofs.Common.{[], ⊎_elim, ◌&&◌, ◌*◌, ◌+◌, ◌<◌, ◌||◌, ◌∙◌, ◌∷◌, ◌≡◌, ◌≢◌, ◌≤◌, ◌⊎◌, ap, arith, Bool, false, if◌then◌else◌, inl, inr}
-use Rattle.std.proofs.Common.{is_some, IsSome, length, length-set, List, nat_lt, None, Option, refl, slice_index, slice_set, Some, subst, suc, sym}
-use Rattle.std.proofs.Common.{true, true≢false, zero, ℕ}
-use Rattle.std.proofs.lemmas.Bool.{cases_eq, eq-eqb, false≢true, lt-ltb}
-use Rattle.vm_core.specs.Prelude.{EVICTED, frame_of, get_elem?, Legal, load_frame, loads_more, LOCKED, open_frame, Page, some, stands_in, State, upd}
-use Rattle.vm_core.specs.Prelude.{Version, word_at, World}
-use Rattle.vm_core.specs.declared.event.Event.TheVariants.{Load, Store}
 use Rattle.vm_core.specs.declared.event.Seen.TheVariants as sights
-use Rattle.vm_core.proofs.{PageFacts.some-is, PageFacts.some-same, Upd.upd-other, Upd.upd-same}
-use Rattle.vm_rule.specs.Prelude.{Brings, contents_at, core_shown, did_load, did_store, draft_of, Drafts, FillTold, frame_read_by, has, held_at}
-use Rattle.vm_rule.specs.Prelude.{index_of, is_pending, IsLocking, Kept, KnowsPage, KnowsPages, last_of, loads_at, LoadTold, Mapping, no_held, Open}
-use Rattle.vm_rule.specs.Prelude.{put_at, Ruled, Seat, seat_of, Stands, Start, Stored, StoresTold, StoreTold, Table, world_of}
-use Rattle.vm_rule.specs.{declared.view.Held.Held, Loads.loaded_view}
 use Rattle.vm_rule.specs.declared.view.Place.TheVariants as places
-use Rattle.vm_rule.specs.Stores.{drafted_view, filled_view, PassMayStore}
-use Rattle.vm_rule.proofs.{Bringing.steps, Facts.locked-here, Facts.shared-here, FrameWorlds.fill-step, FrameWorlds.stands-nowhere, Views.at-bound}
-use Rattle.vm_rule.proofs.Adding.{after_step, became, Shows}
-use Rattle.vm_rule.proofs.Found.{content-here, held-here, same-word, seat-here}
-use Rattle.vm_rule.proofs.Worlds.{draft-is, load-step, stands-one, store-core, store-step}
-use Rattle.vm_step.specs.Prelude.{AllowsStep, Did, HoldsPage, IsEvent, IsPassOf, IsPlacedAt, KnowsAsBefore, LeavesRest, Origin, Shape, table_after}
-use Rattle.vm_step.specs.Prelude.{told_of, View, Works}
-use Rattle.vm_step.specs.steps.Content.{FillIsItsEvent, LoadIsItsEvent, StoreIsItsEvent}
-use Rattle.vm_step.proofs.{Fit.fit, Leaves.works-one, Mine.member-mine, Mine.stands-known, Standing.allows, Written.spelled-still}
-use Rattle.vm_step.proofs.{Written.stands-there}
-use Rattle.vm_step.proofs.Quiet.{lock-quiet, moved-shows, quiet-shows}
-use Rattle.vm_step.proofs.steps.Leaving.{apart, holds-still, knows-still, last-still, LeavesOthers, LeavesOwn, others-from, own-from, rest-of}
+use Rattle.vm_step.proofs.{Fit.fit, Mine.member-mine, Mine.stands-known, Quiet.held-shows, Quiet.quiet-shows, Standing.allows, Standing.allows-load}
+use Rattle.vm_step.proofs.{Written.word-left, Written.word-loaded}
+use Rattle.vm_step.proofs.Prelude.{[], after_step, AllowsStep, ap, arith, at-bound, Bool, Brings, cases_eq, content-here, core_shown, Did, did_load}
+use Rattle.vm_step.proofs.Prelude.{did_store, draft-is, draft_of, drafted_view, Drafts, eq-eqb, EVICTED, false, fill-step, filled_view}
+use Rattle.vm_step.proofs.Prelude.{FillIsItsEvent, frame_of, frame_read_by, get_elem?, has, Held, held-here, held_at, HoldsPage, if◌then◌else◌}
+use Rattle.vm_step.proofs.Prelude.{index_of, inl, inr, is_pending, is_some, IsEvent, IsLocking, IsPassOf, IsPlacedAt, IsSome, Kept, KnowsAsBefore}
+use Rattle.vm_step.proofs.Prelude.{KnowsPage, KnowsPages, last_of, Legal, length, List, Load, load-step, load_frame, loaded_view, LoadIsItsEvent}
+use Rattle.vm_step.proofs.Prelude.{loads_at, loads_more, LoadTold, LOCKED, locked-here, lt-ltb, ltb-true, Mapping, nat_lt, no_held, None, Open}
+use Rattle.vm_step.proofs.Prelude.{open_frame, Option, or_cases, or_left, or_right, Origin, Page, PassMayStore, put_at, refl, Ruled, Seat, seat-here}
+use Rattle.vm_step.proofs.Prelude.{seat_of, Shape, shared-here, Shows, slice_index, slice_set, Some, some, some-is, some-same, Stands, stands-nowhere}
+use Rattle.vm_step.proofs.Prelude.{stands-one, stands_in, Start, State, steps, Store, store-core, store-step, Stored, StoreIsItsEvent, StoresTold}
+use Rattle.vm_step.proofs.Prelude.{StoreTold, subst, sym, Table, table_after, told_of, true, true≢false, upd, upd-other, upd-same, Version, View}
+use Rattle.vm_step.proofs.Prelude.{word_at, Works, World, world_of, ℕ, ⊎_elim, ◌&&◌, ◌*◌, ◌+◌, ◌<◌, ◌||◌, ◌∙◌, ◌∷◌, ◌≡◌, ◌≢◌, ◌≤◌}
+use Rattle.vm_step.proofs.steps.Leaving.{apart, holds-still, knows-still, last-still, LeavesOthers, LeavesOwn, others-tied, own-from, rest-of}
 
 -- ---- who has a page locked
 
-or-true : (a b : Bool) → (a || b) ≡ true → (a ≡ true) ⊎ (b ≡ true)
-or-true true b e = inl refl
-or-true false b e = inr e
-
-either-true : (a b : Bool) → (a ≡ true) ⊎ (b ≡ true) → (a || b) ≡ true
-either-true true b e = refl
-either-true false b e = ⊎_elim (λ x. absurd (false≢true x)) (λ x. x) e
-
-one-share : (n : ℕ) → nat_lt 0 n ≡ true → 1 ≤ n
-one-share zero e = absurd (false≢true e)
-one-share (suc n) e = omega arith
-
 locking-is : (y : Seat) → (y.exclusive || nat_lt 0 y.shares) ≡ true → IsLocking y
-locking-is y e = ⊎_elim (λ x. inl x) (λ x. inr (one-share y.shares x)) (or-true y.exclusive (nat_lt 0 y.shares) e)
+locking-is y e = ⊎_elim (λ x. inl x) (λ x. inr (let lt = ltb-true 0 y.shares x in omega (arith, lt))) (or_cases y.exclusive (nat_lt 0 y.shares) e)
 
 is-locking : (y : Seat) → IsLocking y → (y.exclusive || nat_lt 0 y.shares) ≡ true
-is-locking y e = either-true y.exclusive (nat_lt 0 y.shares) (⊎_elim (λ x. inl x) (λ x. inr (lt-ltb 0 y.shares (omega arith))) e)
+is-locking y = ⊎_elim (λ x. or_left y.exclusive (nat_lt 0 y.shares) x) (λ x. or_right y.exclusive (nat_lt 0 y.shares) (lt-ltb 0 y.shares (omega arith)))
 
 -- ---- the frame of the translation where there is one and the page is locked, else another
 
@@ -121,20 +99,16 @@ module _ {X B : Type 0} (stored : B → Stored) (keeps : Start → Kept X → Ty
     load-shows =
         quiet-shows stored keeps tied start tells s r id v s.words r.drafts load-did load-inner (Load id p i) there live
         (record {
-          wide = r.wide.0;
-          spelled = r.spelled;
+          word = word-loaded start s.words (places.Content f i) r.wide.0 r.spelled (lf, li);
           legal = record { names = record { actor = at-bound s.views id v there; page = l }; place = li; frame = subst IsSome (sym reads) refl };
           world = load-step stored start s r.releases r.drafts id v load-after p i f load-found l lf li there refl refl refl reads refl refl;
-          at = (lf, li);
-          found = refl;
-          wrote = tt;
-          leaves = record { live = refl; start = refl; used = refl; fresh = refl; notes = refl; log = refl; out = refl; mine = refl; frames = refl; contents = refl; pending = refl; owed = refl; next = refl; ties = refl };
+          leaves = refl;
           calls = λ o x. (r.blocks.away id v o there x).1;
           holds = λ q x. x;
           members = λ q _. refl;
           next = refl;
-          frames = λ g _. refl;
           knows = known.knows;
+          contents = known.contents;
           drafted = λ q x. known.drafts q x ∙ draft-is start r.releases r.drafts q;
           loaded = ([], refl, tt);
         })
@@ -145,52 +119,34 @@ module _ {X B : Type 0} (stored : B → Stored) (keeps : Start → Kept X → Ty
         sym (content-here stored start s f i lf li)
         ∙ ap (λ n. slice_index (core.words n) i) (sym (reads-mapped stored start s id p v l there m f is locks reads))
 
-    here-tells : v.start.tells ≡ true → start.tells ≡ true
-    here-tells t = ap (λ (o : Origin). o.tells) (sym (r.heard id v there live).same_start) ∙ t
-
-    told-drafted : v.start.tells ≡ true → (seat_of v p).exclusive ≡ true → IsSome (put_at no_held v.held p).mapping → load-found ≡ slice_index (draft_of v p) i
-    told-drafted t owns resident =
-        let m : (m : Mapping) × ((put_at no_held v.held p).mapping ≡ Some m) = some-is (put_at no_held v.held p).mapping resident in
-        let trans : (core.pages p).trans ≡ Some m.0 = sym ((known.knows p).calls (rw owns refl)).0 ∙ m.1 in
-        mapped-word m.0 trans (inl owns)
-        ∙ ap (λ ws. slice_index ws i) (((r.inv.pages p).contents (here-tells t)).draft (locked-here stored start s id p v (r.inv.pages p).locks l there owns) m.0 trans ∙ sym (known.drafts p owns))
-
-    told-shared : v.start.tells ≡ true → 1 ≤ (seat_of v p).shares → load-found ≡ slice_index (last_of v p).words i
-    told-shared t has-share =
-        let state : (1 ≤ (core.pages p).state) × ((core.pages p).state < LOCKED) = shared-here stored start s id p v (r.inv.pages p).locks l there has-share in
-        let free : (core.pages p).state ≢ LOCKED = (λ e. absurd (omega (arith, state.1, e))) in
-        let stays : (core.pages p).state ≢ EVICTED = (λ e. absurd (omega (arith, state.1, e))) in
-        let m : (m : Mapping) × ((core.pages p).trans ≡ Some m) = some-is (core.pages p).trans ((r.inv.pages p).stands.resident free stays) in
-        mapped-word m.0 m.1 (inr has-share)
-        ∙ ap (λ ws. slice_index ws i) (((r.inv.pages p).contents (here-tells t)).logical free m.0 m.1 ∙ ap (λ (y : Version). y.words) (sym (known.latest p (inr has-share))))
-
     pub load-told : Brings load-did [] [] v load-inner load-after → LoadTold p f i load-found v load-after
-    load-told brings = record { brings = brings; drafted = told-drafted; shared = told-shared }
+    load-told brings = record {
+      brings = brings;
+      drafted = λ t owns resident.
+          let m : (m : Mapping) × ((put_at no_held v.held p).mapping ≡ Some m) = some-is (put_at no_held v.held p).mapping resident in
+          let trans : (core.pages p).trans ≡ Some m.0 = sym ((known.knows p).calls (rw owns refl)).0 ∙ m.1 in
+          mapped-word m.0 trans (inl owns)
+          ∙ ap (λ ws. slice_index ws i) (((r.inv.pages p).contents (ap (λ (o : Origin). o.tells) (sym (r.heard id v there live).same_start) ∙ t)).draft (locked-here stored start s id p v (r.inv.pages p).locks l there owns) m.0 trans ∙ sym (known.drafts p owns));
+      shared = λ t has-share.
+          let state : (1 ≤ (core.pages p).state) × ((core.pages p).state < LOCKED) = shared-here stored start s id p v (r.inv.pages p).locks l there has-share in
+          let free : (core.pages p).state ≢ LOCKED = (λ e. absurd (omega (arith, state.1, e))) in
+          let stays : (core.pages p).state ≢ EVICTED = (λ e. absurd (omega (arith, state.1, e))) in
+          let m : (m : Mapping) × ((core.pages p).trans ≡ Some m) = some-is (core.pages p).trans ((r.inv.pages p).stands.resident free stays) in
+          mapped-word m.0 m.1 (inr has-share)
+          ∙ ap (λ ws. slice_index ws i) (((r.inv.pages p).contents (ap (λ (o : Origin). o.tells) (sym (r.heard id v there live).same_start) ∙ t)).logical free m.0 m.1 ∙ ap (λ (y : Version). y.words) (sym (known.latest p (inr has-share))));
+    }
 
 module _ {X B : Type 0} (stored : B → Stored) (keeps : Start → Kept X → Type 0) (tied : Start → ℕ → List ℕ → ℕ → List ℕ → Type 0) (tells : Bool) where
-  -- the place of word i of frame f, behind the three words of each of the pages
-  abbrev place-of : ℕ → ℕ → ℕ → ℕ
-  place-of pages f i = 3 * pages + (64 * f + i)
-
-  -- of every table that meets the rule
-  load-keeps : (start : Origin) (s : Table (Option B) (View X)) → Ruled stored keeps tied start tells s → (id : ℕ) (v : View X) (p f i : ℕ) → get_elem? s.views id ≡ some v → v.live ≡ true → 0 < length v.used
-      → p < start.pages → f < start.frames → i < 64 → frame_read_by v p ≡ Some f
-      → (w : View X) × Ruled stored keeps tied start tells (became stored keeps tied start tells s (slice_set s.words (place-of start.pages f i) (slice_index s.words (place-of start.pages f i))) id w) × LoadTold p f i (slice_index s.words (place-of start.pages f i)) v w
-  load-keeps start s r id v p f i there live number l lf li by =
-      let w : View X = load-after stored keeps tied start tells s r id v p f i in
-      let k = steps stored keeps tied start tells s r id v s.words r.drafts [] [] (load-did stored keeps tied start tells s r id v p f i) (load-inner stored keeps tied start tells s r id v p f i) (Load id p i) there live number refl refl
-      (load-shows stored keeps tied start tells s r id v p f i there live l lf li by) in (
-        w,
-        subst (λ ws. Ruled stored keeps tied start tells (became stored keeps tied start tells s ws id w)) (sym (same-word s.words (place-of start.pages f i))) k.0,
-        load-told stored keeps tied start tells s r id v p f i there live l lf li by k.1,
-      )
-
-  -- and so of every table that stands
+  -- a load keeps the rule of every table and tells what it is to tell
   pub load-allows : (shape : Shape) (slots id : ℕ) (v : View X) (i : ℕ) (p f j : ℕ) → v.live ≡ true → 0 < length v.used → p < shape.pages → f < shape.frames → j < 64 → frame_read_by v p ≡ Some f → IsPlacedAt shape (places.Content f j) i
       → AllowsStep (Stands stored keeps tied shape tells) slots id v i (λ n. n) (told_of shape tells (LoadTold p f j))
-  load-allows shape slots id v i p f j live number l lf li by is =
-      allows stored keeps tied shape tells slots id v i (places.Content f j) (λ n. n) (λ n. n) (LoadTold p f j) live is (λ n. refl) (λ n w t. fit t.brings live)
-      (λ start has s r there _. load-keeps start s r id v p f j there live number (subst (λ n. p < n) (sym has.pages) l) (subst (λ n. f < n) (sym has.frames) lf) li by)
+  load-allows shape slots id v i p f j live number l' lf' lj by is =
+      allows-load stored keeps tied shape tells slots id v i (places.Content f j) (LoadTold p f j) live is (λ n w t. fit t.brings live)
+      (λ start has s r there.
+      let l : p < start.pages = subst (λ n. p < n) (sym has.pages) l' in
+      let lf : f < start.frames = subst (λ n. f < n) (sym has.frames) lf' in
+      let k = steps stored keeps tied start tells s r id v s.words r.drafts [] [] _ _ (Load id p j) there live number refl refl (load-shows stored keeps tied start tells s r id v p f j there live l lf lj by) in
+      (_, k.0, load-told stored keeps tied start tells s r id v p f j there live l lf lj by k.1))
 
 module _ {X B : Type 0} (stored : B → Stored) (keeps : Start → Kept X → Type 0) (tied : Start → ℕ → List ℕ → ℕ → List ℕ → Type 0) (start : Origin) (tells : Bool) (s : Table (Option B) (View X)) (r : Ruled stored keeps tied start tells s) (id : ℕ) (v : View X) (there : get_elem? s.views id ≡ some v) (live : v.live ≡ true) where
   -- the page stands in the frame
@@ -222,23 +178,19 @@ module _ {X B : Type 0} (stored : B → Stored) (keeps : Start → Kept X → Ty
       let known : (p < start.pages) × ((c.pages p).trans ≡ Some m) = stands-known stored keeps tied start tells s r id v there live p m d.owns d.stands in
       quiet-shows stored keeps tied start tells s r id v words drafts (did_store (places.Content f i) x) inner (Store id f i x) there live
       (record {
-        wide = length-set s.words (index_of start (places.Content f i)) x ∙ r.wide.0;
-        spelled = spelled-still start s.words (places.Content f i) x r.wide.0 (lf, li) refl r.spelled;
+        word = word-left start s.words (did_store (places.Content f i) x) x r.wide.0 r.spelled (lf, li) refl tt refl;
         legal = store-legal p f i x lf li d;
         world = store-step stored start s r.releases r.drafts id v w p f i x true r.inv r.wide.0 known.0 lf li there refl refl refl refl d.owns known.1;
-        at = (lf, li);
-        found = tt;
-        wrote = stands-there start s.words (places.Content f i) x r.wide.0 (lf, li);
-        leaves = lock-quiet v v.seats v.loads v.held inner.drafts;
+        leaves = refl;
         calls = λ o e. (r.blocks.away id v o there e).1;
         holds = λ q owns. owns;
         members = λ q some'. upd-other r.drafts p (slice_set (r.drafts p) i x) q
             (λ e. true≢false (sym (member-mine stored keeps tied start tells s r id v there live p known.0 d.owns (ap (is_pending s.views) (sym e) ∙ some')) ∙ d.free));
         next = refl;
-        frames = λ g e.
-            let nowhere : stands_in (c.pages p).trans g ≡ false = stands-nowhere old g id p r.inv (held-here stored start s id g v there ∙ e) in
-            upd-other c.words f (slice_set (c.words f) i x) g (λ h. true≢false (sym (ap (λ t. stands_in t g) known.1 ∙ eq-eqb f g (sym h)) ∙ nowhere));
         knows = k.knows;
+        contents = λ g e.
+            let nowhere : stands_in (c.pages p).trans g ≡ false = stands-nowhere old g id p r.inv (held-here stored start s id g v there ∙ e) in
+            k.contents g e ∙ sym (upd-other c.words f (slice_set (c.words f) i x) g (λ h. true≢false (sym (ap (λ t. stands_in t g) known.1 ∙ eq-eqb f g (sym h)) ∙ nowhere)));
         drafted = λ q owns.
             ⊎_elim
             (λ e. ap (draft_of inner) e ∙ upd-same (draft_of v) p (slice_set (draft_of v p) i x) ∙ ap (λ l. slice_set l i x) (k.drafts p d.owns ∙ draft-is start r.releases r.drafts p)
@@ -248,11 +200,10 @@ module _ {X B : Type 0} (stored : B → Stored) (keeps : Start → Kept X → Ty
         loaded = ([], refl, tt);
       })
 
-module _ {X B : Type 0} (stored : B → Stored) (keeps : Start → Kept X → Type 0) (tied : Start → ℕ → List ℕ → ℕ → List ℕ → Type 0) (start : Origin) (tells : Bool) (s : Table (Option B) (View X)) (r : Ruled stored keeps tied start tells s) (id : ℕ) (v : View X) (there : get_elem? s.views id ≡ some v) (live : v.live ≡ true) where
   -- no draft stands in a frame that the pass holds
   pub no-draft : (p f : ℕ) → has f v.frames ≡ true → Drafts v p f → ⊥
   no-draft p f owns d =
-      true≢false (sym (stands-drafted stored keeps tied start tells s r id v there live p f d)
+      true≢false (sym (stands-drafted p f d)
       ∙ stands-nowhere (world_of stored start r.releases r.drafts s) f id p r.inv (held-here stored start s id f v there ∙ owns))
 
   pub fill-legal : (f i x : ℕ) → f < start.frames → i < 64 → has f v.frames ≡ true → Legal (core_shown stored start s) (Store id f i x)
@@ -267,78 +218,52 @@ module _ {X B : Type 0} (stored : B → Stored) (keeps : Start → Kept X → Ty
       let c : State = core_shown stored start s in
       let k : KnowsPages tied start (world_of stored start r.releases r.drafts s) (is_pending s.views) v = r.known id v there live in
       let contents : ℕ → List ℕ = put_at [] v.contents in
-      moved-shows stored keeps tied start tells s r id v words r.drafts (did_store (places.Content f i) x) inner (Store id f i x) there live
-      (record {
-        wide = length-set s.words (index_of start (places.Content f i)) x ∙ r.wide.0;
-        spelled = spelled-still start s.words (places.Content f i) x r.wide.0 (lf, li) refl r.spelled;
-        legal = fill-legal f i x lf li owns;
-        world = fill-step stored start s r.releases r.drafts id v w f i x r.inv r.wide.0 lf li there refl refl refl refl owns;
-        at = (lf, li);
-        found = tt;
-        wrote = stands-there start s.words (places.Content f i) x r.wide.0 (lf, li);
-        leaves = lock-quiet v v.seats v.loads v.held v.drafts;
-        calls = λ o e. (r.blocks.away id v o there e).1;
-        holds = λ q owns'. owns';
-        members = λ q some'. refl;
-        next = refl;
-        contents = λ g e.
-            ⊎_elim
-            (λ e'. ap (put_at [] inner.contents) e' ∙ upd-same contents f (slice_set (contents f) i x) ∙ ap (λ l. slice_set l i x) (k.contents f owns)
-            ∙ sym (ap (upd c.words f (slice_set (c.words f) i x)) e' ∙ upd-same c.words f (slice_set (c.words f) i x)))
-            (λ ne. upd-other contents f (slice_set (contents f) i x) g ne ∙ k.contents g e ∙ sym (upd-other c.words f (slice_set (c.words f) i x) g ne))
-            (cases_eq g f);
-        knows = k.knows;
-        drafted = λ q owns'. k.drafts q owns' ∙ draft-is start r.releases r.drafts q;
-        loaded = ([], refl, tt);
-      })
+      held-shows stored keeps tied start tells s r id v words (did_store (places.Content f i) x) v.held v.frames inner.contents (Store id f i x) there live
+      (word-left start s.words (did_store (places.Content f i) x) x r.wide.0 r.spelled (lf, li) refl tt refl)
+      (fill-legal f i x lf li owns)
+      (fill-step stored start s r.releases r.drafts id v w f i x r.inv r.wide.0 lf li there refl refl refl refl owns)
+      refl k.knows
+      (λ g e.
+      ⊎_elim
+      (λ e'. ap (put_at [] inner.contents) e' ∙ upd-same contents f (slice_set (contents f) i x) ∙ ap (λ l. slice_set l i x) (k.contents f owns)
+      ∙ sym (ap (upd c.words f (slice_set (c.words f) i x)) e' ∙ upd-same c.words f (slice_set (c.words f) i x)))
+      (λ ne. upd-other contents f (slice_set (contents f) i x) g ne ∙ k.contents g e ∙ sym (upd-other c.words f (slice_set (c.words f) i x) g ne))
+      (cases_eq g f))
 
-module _ {X B : Type 0} (stored : B → Stored) (keeps : Start → Kept X → Type 0) (tied : Start → ℕ → List ℕ → ℕ → List ℕ → Type 0) (start : Origin) (tells : Bool) where
   -- one page alone stands in the frame
-  one-place : (s : Table (Option B) (View X)) (r : Ruled stored keeps tied start tells s) (id : ℕ) (v : View X) → get_elem? s.views id ≡ some v → v.live ≡ true → (p q f : ℕ) → Drafts v p f → Drafts v q f → p ≡ q
-  one-place s r id v there live p q f d e =
+  pub one-place : (p q f : ℕ) → Drafts v p f → Drafts v q f → p ≡ q
+  one-place p q f d e =
       ⊎_elim (λ same. same)
-      (λ ne. absurd (true≢false (sym (stands-drafted stored keeps tied start tells s r id v there live p f d)
-      ∙ stands-one (world_of stored start r.releases r.drafts s) f q p r.inv (stands-drafted stored keeps tied start tells s r id v there live q f e) ne)))
+      (λ ne. absurd (true≢false (sym (stands-drafted p f d) ∙ stands-one (world_of stored start r.releases r.drafts s) f q p r.inv (stands-drafted q f e) ne)))
       (cases_eq p q)
 
-  -- into the frame of a page
-  draft-keeps : (s : Table (Option B) (View X)) (r : Ruled stored keeps tied start tells s) (id : ℕ) (v : View X) → get_elem? s.views id ≡ some v → v.live ≡ true → 0 < length v.used → (f i x : ℕ) → f < start.frames → i < 64 → (p : ℕ) → Drafts v p f → (w : View X) × Ruled stored keeps tied start tells (became stored keeps tied start tells s (slice_set s.words (index_of start (places.Content f i)) x) id w) × StoresTold f i x v w
-  draft-keeps s r id v there live number f i x lf li p d =
-      let words : List ℕ = slice_set s.words (index_of start (places.Content f i)) x in
-      let w : View X = after_step stored keeps tied start tells s r words [] [] (did_store (places.Content f i) x) (drafted_view p i x v) in
-      let k = steps stored keeps tied start tells s r id v words (upd r.drafts p (slice_set (r.drafts p) i x)) [] [] (did_store (places.Content f i) x) (drafted_view p i x v) (Store id f i x) there live number refl refl
-      (store-shows stored keeps tied start tells s r id v there live p f i x lf li d) in (
+module _ {X B : Type 0} (stored : B → Stored) (keeps : Start → Kept X → Type 0) (tied : Start → ℕ → List ℕ → ℕ → List ℕ → Type 0) (shape : Shape) (tells : Bool) where
+  -- a store into the frame of a page, or into a frame of the pass, keeps the rule of every table and tells what it is to tell
+  pub store-allows : (slots id : ℕ) (v : View X) (i : ℕ) (f j x : ℕ) → v.live ≡ true → 0 < length v.used → f < shape.frames → j < 64 → PassMayStore v f → IsPlacedAt shape (places.Content f j) i
+      → AllowsStep (Stands stored keeps tied shape tells) slots id v i (λ _. x) (told_of shape tells (λ _. StoresTold f j x))
+  store-allows slots id v i f j x live number lf' lj may is =
+      allows stored keeps tied shape tells slots id v i (places.Content f j) (λ _. x) (λ _. x) (λ _. StoresTold f j x) live is (λ _. refl)
+      (λ _ w t. ⊎_elim (λ owns. fit (t.own owns).brings live) (λ d. fit (t.page d.0 d.1).brings live) may)
+      (λ start shaped s r there _.
+      let lf : f < start.frames = subst (λ n. f < n) (sym shaped.frames) lf' in
+      let words : List ℕ = slice_set s.words (index_of start (places.Content f j)) x in
+      let did : Did = did_store (places.Content f j) x in
+      let apart : (q : ℕ) → has f v.frames ≡ true → Drafts v q f → ⊥ = (λ q. no-draft stored keeps tied start tells s r id v there live q f) in
+      ⊎_elim
+      (λ owns.
+      let k = steps stored keeps tied start tells s r id v words r.drafts [] [] did (filled_view f j x v) (Store id f j x) there live number refl refl (fill-shows stored keeps tied start tells s r id v there live f j x lf lj owns) in
+      (_, k.0, record { own = λ _. record { brings = k.1; size = ap length ((r.known id v there live).contents f owns) ∙ r.inv.words f }; page = λ q e. absurd (apart q owns e) }))
+      (λ (d : (p : ℕ) × Drafts v p f).
+      let p : ℕ = d.0 in
+      let w : View X = after_step stored keeps tied start tells s r words [] [] did (drafted_view p j x v) in
+      let k = steps stored keeps tied start tells s r id v words (upd r.drafts p (slice_set (r.drafts p) j x)) [] [] did (drafted_view p j x v) (Store id f j x) there live number refl refl (store-shows stored keeps tied start tells s r id v there live p f j x lf lj d.1) in (
         w,
         k.0,
         record {
-          own = λ owns. absurd (no-draft stored keeps tied start tells s r id v there live p f owns d);
-          page = λ q e. record { brings = subst (λ n. Brings (did_store (places.Content f i) x) [] [] v (drafted_view n i x v) w) (one-place s r id v there live p q f d e) k.1 };
+          own = λ owns. absurd (apart p owns d.1);
+          page = λ q e. record { brings = subst (λ n. Brings did [] [] v (drafted_view n j x v) w) (one-place stored keeps tied start tells s r id v there live p q f d.1 e) k.1 };
         },
-      )
-
-  -- into a frame of the pass
-  fill-keeps : (s : Table (Option B) (View X)) (r : Ruled stored keeps tied start tells s) (id : ℕ) (v : View X) → get_elem? s.views id ≡ some v → v.live ≡ true → 0 < length v.used → (f i x : ℕ) → f < start.frames → i < 64 → has f v.frames ≡ true → (w : View X) × Ruled stored keeps tied start tells (became stored keeps tied start tells s (slice_set s.words (index_of start (places.Content f i)) x) id w) × StoresTold f i x v w
-  fill-keeps s r id v there live number f i x lf li owns =
-      let words : List ℕ = slice_set s.words (index_of start (places.Content f i)) x in
-      let k = steps stored keeps tied start tells s r id v words r.drafts [] [] (did_store (places.Content f i) x) (filled_view f i x v) (Store id f i x) there live number refl refl
-      (fill-shows stored keeps tied start tells s r id v there live f i x lf li owns) in (
-        after_step stored keeps tied start tells s r words [] [] (did_store (places.Content f i) x) (filled_view f i x v),
-        k.0,
-        record { own = λ _. record { brings = k.1; size = ap length ((r.known id v there live).contents f owns) ∙ r.inv.words f }; page = λ q e. absurd (no-draft stored keeps tied start tells s r id v there live q f owns e) },
-      )
-
-module _ {X B : Type 0} (stored : B → Stored) (keeps : Start → Kept X → Type 0) (tied : Start → ℕ → List ℕ → ℕ → List ℕ → Type 0) (shape : Shape) (tells : Bool) where
-  -- the same of every table of the shape
-  pub store-allows : (slots id : ℕ) (v : View X) (i : ℕ) (f j x : ℕ) → v.live ≡ true → 0 < length v.used → f < shape.frames → j < 64 → PassMayStore v f → IsPlacedAt shape (places.Content f j) i
-      → AllowsStep (Stands stored keeps tied shape tells) slots id v i (λ _. x) (told_of shape tells (λ _. StoresTold f j x))
-  store-allows slots id v i f j x live number lf lj may is =
-      allows stored keeps tied shape tells slots id v i (places.Content f j) (λ _. x) (λ _. x) (λ _. StoresTold f j x) live is (λ _. refl)
-      (λ _ w t. ⊎_elim (λ owns. fit (t.own owns).brings live) (λ d. fit (t.page d.0 d.1).brings live) may)
-      (λ start has s r there _.
-      let low : f < start.frames = subst (λ n. f < n) (sym has.frames) lf in
-      ⊎_elim
-      (λ owns. fill-keeps stored keeps tied start tells s r id v there live number f j x low lj owns)
-      (λ d. draft-keeps stored keeps tied start tells s r id v there live number f j x low lj d.0 d.1)
+      ))
       may)
 
 module _ {X B : Type 0} (stored : B → Stored) (start : Origin) (keeps : Start → Kept X → Type 0) (tied : Start → ℕ → List ℕ → ℕ → List ℕ → Type 0) (tells : Bool) where
@@ -350,19 +275,18 @@ module _ {X B : Type 0} (stored : B → Stored) (start : Origin) (keeps : Start 
       record { legal = legal; core = store-core stored start s id v w f i x pass.rule.wide.0 lf li pass.there out frames seats; sees = refl }
 
 module _ {X B : Type 0} (stored : B → Stored) (keeps : Start → Kept X → Type 0) (tied : Start → ℕ → List ℕ → ℕ → List ℕ → Type 0) (tells : Bool) where
-  pub store_event : StoreIsItsEvent stored keeps tied tells
-  store_event start s id p f i x v w pass lf li d told =
+  pub store-event : StoreIsItsEvent stored keeps tied tells
+  store-event start s id p f i x v w pass lf li d told =
       let view = told.brings.view in
       stored-event stored start keeps tied tells s id f i x v w pass lf li (store-legal stored keeps tied start tells s pass.rule id v pass.there pass.live p f i x lf li d) (ap (λ (y : View X). y.out) view) (ap (λ (y : View X). y.frames) view) (ap (λ (y : View X). y.seats) view)
 
-  pub fill_event : FillIsItsEvent stored keeps tied tells
-  fill_event start s id f i x v w pass lf li owns told =
+  pub fill-event : FillIsItsEvent stored keeps tied tells
+  fill-event start s id f i x v w pass lf li owns told =
       let view = told.brings.view in
       stored-event stored start keeps tied tells s id f i x v w pass lf li (fill-legal stored keeps tied start tells s pass.rule id v pass.there pass.live f i x lf li owns) (ap (λ (y : View X). y.out) view) (ap (λ (y : View X). y.frames) view) (ap (λ (y : View X). y.seats) view)
 
-module _ {X B : Type 0} (stored : B → Stored) (keeps : Start → Kept X → Type 0) (tied : Start → ℕ → List ℕ → ℕ → List ℕ → Type 0) (tells : Bool) where
-  pub load_event : LoadIsItsEvent stored keeps tied tells
-  load_event start s id p f i found v w pass finds l by told =
+  pub load-event : LoadIsItsEvent stored keeps tied tells
+  load-event start s id p f i found v w pass finds l by told =
       let view = told.brings.view in
       let c : State = core_shown stored start s in
       let reads : load_frame (c.pages p) id ≡ Some f = reads-known stored start s id p v l pass.there ((pass.rule.known id v pass.there pass.live).knows p) ∙ by in
@@ -375,17 +299,11 @@ module _ {X B : Type 0} (stored : B → Stored) (keeps : Start → Kept X → Ty
       }
 
 module _ {X : Type 0} {p f i x : ℕ} {v w : View X} (t : StoreTold p f i x v w) where
-  abbrev pub store-did : Did
-  store-did = did_store (places.Content f i) x
-
-  pub store-others : (touched : ℕ → Type 0) → touched p → LeavesOthers touched (store-did ∷ []) [] v w
-  store-others touched at = others-from t.brings tt (λ q ne. refl) (λ q ne. refl) (λ q ne. refl) (λ q ne. upd-other (put_at [] v.drafts) p _ q (apart touched at q ne))
+  pub store-others : (touched : ℕ → Type 0) → touched p → LeavesOthers touched ((did_store (places.Content f i) x) ∷ []) [] v w
+  store-others touched at = others-tied t.brings ([], refl) tt (λ q ne. refl) (λ q ne. refl) (λ q ne. refl) (λ q ne. upd-other (put_at [] v.drafts) p _ q (apart touched at q ne))
 
   pub store-own : LeavesOwn v w
   store-own = own-from t.brings refl (refl, refl, refl)
-
-  pub store-leaves : LeavesRest p (store-did ∷ []) v w
-  store-leaves = rest-of (store-others (λ q. q ≡ p) refl) store-own
 
   pub store-seat : (q : ℕ) → seat_of w q ≡ seat_of v q
   store-seat q = ap (λ (y : View X). seat_of y q) t.brings.view
@@ -402,35 +320,12 @@ module _ {X : Type 0} {p f i x : ℕ} {v w : View X} (t : StoreTold p f i x v w)
   pub store-last : (q : ℕ) → IsLocking (seat_of v q) → last_of w q ≡ last_of v q
   store-last = last-still t.brings refl
 
-module _ {X : Type 0} {f i x : ℕ} {v w : View X} (t : FillTold f i x v w) where
-  abbrev pub fill-did : Did
-  fill-did = did_store (places.Content f i) x
-
-  -- it speaks of no page
-  pub fill-works : (p : ℕ) → Works p (fill-did ∷ []) v w
-  fill-works p = works-one p fill-did None v v.held v.frames _ v.out v.notes w (λ q ne. refl) t.brings
-
-  pub fill-held : (q : ℕ) → held_at w q ≡ held_at v q
-  fill-held q = ap (λ (y : View X). held_at y q) t.brings.view
-
-  pub fill-frames : w.frames ≡ v.frames
-  fill-frames = ap (λ (y : View X). y.frames) t.brings.view
-
-  pub fill-words : contents_at w f ≡ slice_set (contents_at v f) i x
-  fill-words = ap (λ (y : View X). contents_at y f) t.brings.view ∙ upd-same (put_at [] v.contents) f _
-
 module _ {X : Type 0} {p f i found : ℕ} {v w : View X} (t : LoadTold p f i found v w) where
-  abbrev pub loaded-did : Did
-  loaded-did = did_load (places.Content f i) found
-
-  pub load-others : (touched : ℕ → Type 0) → touched p → LeavesOthers touched (loaded-did ∷ []) [] v w
-  load-others touched at = others-from t.brings tt (λ q ne. refl) (λ q ne. upd-other (put_at [] v.loads) p _ q (apart touched at q ne)) (λ q ne. refl) (λ q ne. refl)
+  pub load-others : (touched : ℕ → Type 0) → touched p → LeavesOthers touched (did_load (places.Content f i) found ∷ []) [] v w
+  load-others touched at = others-tied t.brings ([], refl) tt (λ q ne. refl) (λ q ne. upd-other (put_at [] v.loads) p _ q (apart touched at q ne)) (λ q ne. refl) (λ q ne. refl)
 
   pub load-own : LeavesOwn v w
   load-own = own-from t.brings refl (refl, refl, refl)
-
-  pub load-leaves : LeavesRest p (loaded-did ∷ []) v w
-  load-leaves = rest-of (load-others (λ q. q ≡ p) refl) load-own
 
   pub load-seat : (q : ℕ) → seat_of w q ≡ seat_of v q
   load-seat q = ap (λ (x : View X). seat_of x q) t.brings.view
@@ -445,9 +340,9 @@ module _ {X : Type 0} {p f i found : ℕ} {v w : View X} (t : LoadTold p f i fou
   load-knows = knows-still t.brings refl refl refl
 
   -- of a page without an open read it changes nothing
-  pub load-works : (seat_of v p).reading ≡ None → Works p (loaded-did ∷ []) v w
+  pub load-works : (seat_of v p).reading ≡ None → Works p (did_load (places.Content f i) found ∷ []) v w
   load-works closed = record {
-    leaves = load-leaves;
+    leaves = rest-of (load-others (λ q. q ≡ p) refl) load-own;
     seat = load-seat p;
     loads = load-loads ∙ ap (λ (o : Option Open). loads_more (open_frame o) (loads_at v p) i found) closed;
     draft = ap (λ (x : View X). put_at [] x.drafts p) t.brings.view;

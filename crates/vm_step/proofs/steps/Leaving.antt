@@ -1,14 +1,11 @@
 -- What a step of a pass leaves, whatever it does to the pages that it speaks of: said once of a step of any kind, and of several steps in a row.
 -- The files of the kinds beside this one say of each which pages it speaks of, and what it leaves of them.
-use Rattle.std.proofs.Common.{[], ◌++◌, ◌∙◌, ◌∷◌, ◌≡◌, ◌≢◌, ap, append_assoc, List, None, Option, refl, subst, sym, ℕ}
-use Rattle.vm_core.specs.Prelude.{History, no_seat}
-use Rattle.vm_rule.specs.Prelude.{BringsWith, draft_of, Each, Entry, held_at, IsLocking, last_in, last_of, loads_at, no_held, put_at, Seat, seat_of}
-use Rattle.vm_rule.specs.Prelude.{StartsWith, Stored}
-use Rattle.vm_rule.specs.declared.view.Held.{Held}
-use Rattle.vm_rule.proofs.{Entries.append-none, Worlds.last-is, Worlds.release-else}
-use Rattle.vm_step.specs.Prelude.{Did, HoldsPage, KeepsFrames, KnowsAsBefore, LeavesRest, Origin, Put, Release, RunsAlone, Tie, Translation, View}
 use Rattle.vm_step.proofs.Alone.{runs-one, runs-self, runs-then}
-use Rattle.vm_step.proofs.Asides.{keeps-self, keeps-then, starts-then}
+use Rattle.vm_step.proofs.Asides.{alone-self, keeps-self, keeps-then, OnlyReads, starts-then}
+use Rattle.vm_step.proofs.Prelude.{[], ap, append-none, append_assoc, BringsWith, Did, draft_of, Each, Entry, Held, held_at, History, HoldsPage}
+use Rattle.vm_step.proofs.Prelude.{IsAsideOf, IsLocking, KeepsFrames, KnowsAsBefore, last-is, last_in, last_of, LeavesRest, List, loads_at, no_held}
+use Rattle.vm_step.proofs.Prelude.{no_seat, None, Option, Origin, Put, put_at, refl, Release, release-else, RunsAlone, Seat, seat_of, StartsWith}
+use Rattle.vm_step.proofs.Prelude.{StaysAlone, Stored, subst, sym, Tie, Translation, View, ℕ, ◌++◌, ◌∙◌, ◌∷◌, ◌≡◌, ◌≢◌}
 
 -- a page that is none of those touched is not page p, which is one
 pub apart : (touched : ℕ → Type 0) {p : ℕ} → touched p → (q : ℕ) → (touched q → ⊥) → q ≢ p
@@ -113,7 +110,7 @@ module _ {X : Type 0} where
   -- ---- one step
 
   -- a step that releases nothing leaves the last version of each page that the pass has locked
-  pub last-still : {did : Did} {entries : List (Entry X)} {v inner w : View X} → BringsWith did None [] entries v inner w → inner.start ≡ v.start → (q : ℕ) → IsLocking (seat_of v q) → last_of w q ≡ last_of v q
+  pub last-still : {did : Did} {block : Option (ℕ × Stored)} {entries : List (Entry X)} {v inner w : View X} → BringsWith did block [] entries v inner w → inner.start ≡ v.start → (q : ℕ) → IsLocking (seat_of v q) → last_of w q ≡ last_of v q
   last-still {v = v} b start q l =
       ap (λ (x : View X). last_in x.start x.releases q) b.view
       ∙ ap (λ (s : Origin). last_in s ((v.releases ++ b.between) ++ []) q) start
@@ -149,21 +146,9 @@ module _ {X : Type 0} where
     runs = runs-one did None own entries v _ w b;
   }
 
-  -- the same, where nothing is tied
-  pub others-from : {touched : ℕ → Type 0} {did : Did} {own : List Release} {entries : List (Entry X)} {v w : View X} {seats : List (Put Seat)} {loads : List (Put (List (ℕ × ℕ)))} {held : List (Put Held)} {drafts : List (Put (List ℕ))}
-      {translations : List Translation} {pending owed : List ℕ} {next : Option ℕ} {mine : List (Entry X)}
-      → BringsWith did None own entries v (record v { seats = seats; loads = loads; held = held; drafts = drafts; translations = translations; pending = pending; owed = owed; next = next; mine = mine }) w
-      → Each (λ r. touched r.page) own
-      → ((q : ℕ) → (touched q → ⊥) → put_at no_seat seats q ≡ seat_of v q)
-      → ((q : ℕ) → (touched q → ⊥) → put_at [] loads q ≡ loads_at v q)
-      → ((q : ℕ) → (touched q → ⊥) → put_at no_held held q ≡ held_at v q)
-      → ((q : ℕ) → (touched q → ⊥) → put_at [] drafts q ≡ draft_of v q)
-      → LeavesOthers touched (did ∷ []) own v w
-  others-from b released seats loads held drafts = others-tied b ([], refl) released seats loads held drafts
-
   -- a step that changes nothing
   pub others-still : {touched : ℕ → Type 0} {did : Did} {v w : View X} → BringsWith did None [] [] v v w → LeavesOthers touched (did ∷ []) [] v w
-  others-still b = others-from b tt (λ q ne. refl) (λ q ne. refl) (λ q ne. refl) (λ q ne. refl)
+  others-still b = others-tied b ([], refl) tt (λ q ne. refl) (λ q ne. refl) (λ q ne. refl) (λ q ne. refl)
 
   -- what the pass knows of a page that it has locked stays, where the step changes neither that nor a draft, and releases nothing
   pub knows-still : {did : Did} {entries : List (Entry X)} {v inner w : View X} → BringsWith did None [] entries v inner w → inner.start ≡ v.start → inner.held ≡ v.held → inner.drafts ≡ v.drafts
@@ -214,3 +199,31 @@ module _ {X : Type 0} where
     drafts = f.drafts;
     last = f.last;
   }
+
+  -- they leave all but the open reads of the pages touched, where the locks stay, and what is known under them
+  pub only-of : {touched : ℕ → Type 0} {done : List Did} {own : List Release} {v w : View X} → LeavesOthers touched done own v w → LeavesOwn v w
+      → ((q : ℕ) → HoldsPage v w q) → ((q : ℕ) → IsLocking (seat_of v q) → KnowsAsBefore v w q) → StaysAlone v w → OnlyReads touched done v w
+  only-of f o holds knows alone = record {
+    aside = record {
+      log = f.log;
+      live = f.live;
+      start = f.start;
+      parts = f.parts;
+      mine = o.mine;
+      seen = f.seen;
+      releases = f.releases;
+      out = f.out;
+      ties = f.ties;
+      group = o.group;
+      holds = holds;
+      knows = knows;
+      others = λ q ne. record { reading = ap (λ (s : Seat). s.reading) (f.seats q ne); loads = f.loads q ne };
+      alone = alone;
+    };
+    keeps = f.keeps;
+  }
+
+  -- no step does
+  pub aside-self : (touched : ℕ → Type 0) (v : View X) → IsAsideOf touched [] v v
+  aside-self touched v =
+      (only-of {touched = touched} (others-none v) (record { mine = refl; group = (refl, refl, refl) }) (λ q. holds-still q refl) (λ q l. record { held = refl; draft = refl; last = refl }) (alone-self v)).aside

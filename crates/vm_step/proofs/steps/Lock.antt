@@ -2,25 +2,17 @@
 --
 -- What an exclusive lock leaves that was taken: it speaks of one page, whose open read is closed, whose draft is its last words, and which the
 -- pass knows from then on.
-use Rattle.std.proofs.Common.{[], ⊎_elim, ◌<◌, ◌∙◌, ◌∷◌, ◌≡◌, ◌≢◌, ap, arith, Bool, eqb, if◌then◌else◌, length, List, None, Option, refl, slice_index}
-use Rattle.std.proofs.Common.{slice_set, subst, sym, true, ℕ}
-use Rattle.std.proofs.lemmas.Bool.Decides.{nat_tests}
-use prog.Atomic.{either}
-use Rattle.vm_core.specs.Prelude.{get_elem?, LOCKED, locked, MayLock, no_seat, Page, page_at, share_count, some, state_of, Version, version_of}
-use Rattle.vm_core.specs.Prelude.{word_of}
-use Rattle.vm_core.specs.declared.event.Event.TheVariants.{LockX}
-use Rattle.vm_core.proofs.Upd.{upd-other, upd-same}
-use Rattle.vm_rule.specs.Prelude.{Brings, did_exchange, draft_of, held_at, IsHeldAt, IsLocking, Kept, last_of, loads_at, locked_view, LockTold}
-use Rattle.vm_rule.specs.Prelude.{no_held, put, put_at, Ruled, Seat, seat_of, Stands, stands_dirty, Start, Stored, Table, TranslationHolds}
-use Rattle.vm_rule.specs.declared.view.Held.{Held}
 use Rattle.vm_rule.specs.declared.view.Place.TheVariants as places
-use Rattle.vm_rule.proofs.{Adding.became, Entries.each-map, Found.state-here, Found.version-here}
-use Rattle.vm_step.specs.Prelude.{AllowsStep, Did, IsPlacedAt, LeavesRest, Origin, Shape, told_of, View}
-use Rattle.vm_step.specs.steps.Lock.{LockExclusiveIsItsEvent}
 use Rattle.vm_step.proofs.{Evidenced.taken-view, Fit.either-lives, Fit.fit, Here.last, Here.world, Quiet.ShowsQuiet, Standing.allows}
-use Rattle.vm_step.proofs.Exchange.{exchange-event, exchange_words, free-member, free-unheld, held-at, IsExchange, known-held, lockx-exchange, opened}
-use Rattle.vm_step.proofs.Exchange.{owner-shows, page_held, tried, tried-validates}
-use Rattle.vm_step.proofs.steps.Leaving.{apart, last-still, LeavesOthers, LeavesOwn, others-from, own-from, rest-of}
+use Rattle.vm_step.proofs.Exchange.{exchange-event, free-member, free-unheld, held-at, IsExchange, known-held, lockx-exchange, opened, owner-shows}
+use Rattle.vm_step.proofs.Exchange.{page_held, tried, tried-validates}
+use Rattle.vm_step.proofs.Prelude.{[], AllowsStep, ap, arith, Bool, Brings, Did, did_exchange, draft_of, each-map, either, eqb, get_elem?, Held}
+use Rattle.vm_step.proofs.Prelude.{held_at, if◌then◌else◌, IsHeldAt, IsPlacedAt, Kept, last_of, LeavesRest, length, List, LOCKED, locked, locked_view}
+use Rattle.vm_step.proofs.Prelude.{LockExclusiveIsItsEvent, LockTold, LockX, MayLock, nat_tests, no_held, no_seat, None, Option, Origin, Page}
+use Rattle.vm_step.proofs.Prelude.{page_at, put, put_at, refl, Ruled, Seat, seat_of, Shape, share_count, slice_index, slice_set, some, Stands}
+use Rattle.vm_step.proofs.Prelude.{stands_dirty, Start, state-here, state_of, Stored, subst, sym, Table, told_of, TranslationHolds, true, upd-other}
+use Rattle.vm_step.proofs.Prelude.{upd-same, Version, version-here, version_of, View, word_of, ℕ, ⊎_elim, ◌<◌, ◌∙◌, ◌∷◌, ◌≡◌, ◌≢◌}
+use Rattle.vm_step.proofs.steps.Leaving.{apart, LeavesOthers, LeavesOwn, others-tied, own-from, rest-of}
 
 -- a word that may be locked is of a page that nobody has locked
 pub lockable : (expects : ℕ) → MayLock expects → (state_of expects ≢ LOCKED) × (share_count (state_of expects) ≡ 0)
@@ -46,63 +38,53 @@ module _ {X B : Type 0} (stored : B → Stored) (keeps : Start → Kept X → Ty
   lock-shows hit free =
       let y : Page = locked ((world stored keeps tied start tells s r).core.pages p) id in
       let seat : Seat = record (seat_of v p) { exclusive = true; reading = None } in
-      owner-shows stored keeps tied start tells s r id v there live p expects (word_of LOCKED (version_of expects)) l hit (LockX id p expects) y seat (put p (page_held stored keeps tied start tells s r p) v.held) lock-is refl free
+      owner-shows stored keeps tied start tells s r id v there live p l expects (word_of LOCKED (version_of expects)) hit (LockX id p expects) y seat (put p (page_held stored keeps tied start tells s r p) v.held) lock-is refl free
       (λ q ne. upd-other (put_at no_held v.held) p (page_held stored keeps tied start tells s r p) q ne)
       (known-held stored keeps tied start tells s r p l seat v.held y refl refl refl refl)
 
-module _ {X B : Type 0} (stored : B → Stored) (keeps : Start → Kept X → Type 0) (tied : Start → ℕ → List ℕ → ℕ → List ℕ → Type 0) (start : Origin) (tells : Bool)
-    (law : (start : Start) (kept : Kept X) (q p : ℕ) → keeps start kept → q < length kept.pages → p < length kept.pages → tied start q (page_at kept.pages q) p (page_at kept.pages p)) where
-  module _ (s : Table (Option B) (View X)) (r : Ruled stored keeps tied start tells s) (id : ℕ) (v : View X) (there : get_elem? s.views id ≡ some v) (live : v.live ≡ true) (p expects : ℕ) (l : p < start.pages) (may : MayLock expects) (number : 0 < length v.used) where
-    found-state : slice_index s.words p ≡ expects → ((world stored keeps tied start tells s r).core.pages p).state ≡ state_of expects
-    found-state hit = state-here stored start s p l ∙ ap state_of hit
-
-    free : slice_index s.words p ≡ expects → ((world stored keeps tied start tells s r).core.pages p).state ≢ LOCKED
-    free hit e = (lockable expects may).0 (sym (found-state hit) ∙ e)
-
-    -- taken or lost, it keeps the rule and tells what it is to tell
-    pub lock-tells : (w : View X) × Ruled stored keeps tied start tells (became stored keeps tied start tells s (exchange_words stored keeps tied start tells s r id v there live number p expects (word_of LOCKED (version_of expects)) l) id w) × LockTold tied p expects (slice_index s.words p) v w
-    lock-tells =
-        let held : Held = page_held stored keeps tied start tells s r p in
-        let k = tried stored keeps tied start tells s r id v there live number p expects (word_of LOCKED (version_of expects)) l (opened stored keeps tied start tells s r p) (locked_inner stored keeps tied start tells s r id v there live p expects l may) (LockX id p expects) _ refl
-        (lock-is stored keeps tied start tells s r id v there live p expects l may)
-        (λ hit. lock-shows stored keeps tied start tells s r id v there live p expects l may hit (free hit)) in (
-          k.0,
-          k.1.rule,
-          record {
-            held = held;
-            brings = subst (λ (y : Version). Brings (did_exchange (places.State p) expects (slice_index s.words p) (word_of LOCKED (version_of expects))) [] [] v (if eqb (slice_index s.words p) expects then locked_view p held y.words v else v) k.0) (sym k.1.last) k.1.brings;
-            version = k.1.version;
-            since = k.1.since;
-            older = k.1.older;
-            size = k.1.size;
-            stands = λ hit. subst (λ (y : Version). IsHeldAt expects v.start.frames v.start.tells y.words held) (sym k.1.last)
-                (held-at stored keeps tied start tells s r id v there p l (free hit) (ap share_count (found-state hit) ∙ (lockable expects may).1) live expects hit);
-            free = λ hit. free-member stored keeps tied start tells s r id v there p l (free hit);
-            unheld = λ hit. free-unheld stored keeps tied start tells s r id v there p l (free hit) (ap share_count (found-state hit) ∙ (lockable expects may).1) live;
-            clean = λ hit stays. each-map (TranslationHolds (world stored keeps tied start tells s r).core.pages) _
-                (λ t h here version dirty.
-                let at : t.version ≡ ((world stored keeps tied start tells s r).core.pages t.page).version =
-                version ∙ ap version_of (sym hit) ∙ sym (version-here stored start s p l) ∙ ap (λ q. ((world stored keeps tied start tells s r).core.pages q).version) (sym here) in
-                let state : ((world stored keeps tied start tells s r).core.pages t.page).state ≡ ((world stored keeps tied start tells s r).core.pages p).state = ap (λ q. ((world stored keeps tied start tells s r).core.pages q).state) here in
-                h.2 at (λ e. free hit (sym state ∙ e)) (λ e. stays (sym (found-state hit) ∙ sym state ∙ e)) (ap (λ q. stands_dirty ((world stored keeps tied start tells s r).core.pages q).trans) here ∙ dirty))
-                v.translations (r.known id v there live).translations;
-            validates = λ t hit. tried-validates stored keeps tied start tells s r id v there live number p expects (word_of LOCKED (version_of expects)) l law _ k.0 k.1 (free hit) t hit;
-          },
-        )
-
 module _ {X B : Type 0} (stored : B → Stored) (keeps : Start → Kept X → Type 0) (tied : Start → ℕ → List ℕ → ℕ → List ℕ → Type 0) (shape : Shape) (tells : Bool)
     (law : (start : Start) (kept : Kept X) (q p : ℕ) → keeps start kept → q < length kept.pages → p < length kept.pages → tied start q (page_at kept.pages q) p (page_at kept.pages p)) where
-  -- so it does of every table that stands
-  pub lock_allows : (slots id : ℕ) (v : View X) (i : ℕ) (p expects x : ℕ) → v.live ≡ true → 0 < length v.used → p < shape.pages → MayLock expects → x ≡ (word_of LOCKED (version_of expects)) → IsPlacedAt shape (places.State p) i
+  -- taken or lost, it keeps the rule of every table and tells what it is to tell
+  pub lock_exclusive-allows : (slots id : ℕ) (v : View X) (i : ℕ) (p expects x : ℕ) → v.live ≡ true → 0 < length v.used → p < shape.pages → MayLock expects → x ≡ (word_of LOCKED (version_of expects)) → IsPlacedAt shape (places.State p) i
       → AllowsStep (Stands stored keeps tied shape tells) slots id v i (λ n. either (eqb n expects) x n) (told_of shape tells (LockTold tied p expects))
-  lock_allows slots id v i p expects x live number l may spells is =
+  lock_exclusive-allows slots id v i p expects x live number l' may spells is =
       allows stored keeps tied shape tells slots id v i (places.State p) (λ n. either (eqb n expects) x n) (λ n. either (eqb n expects) (word_of LOCKED (version_of expects)) n) (LockTold tied p expects) live is (λ n. ap (λ z. either (eqb n expects) z n) spells) (λ n w t. fit t.brings (either-lives _ _ v live live))
-      (λ start has s r there _. lock-tells stored keeps tied start tells law s r id v there live p expects (subst (λ n. p < n) (sym has.pages) l) may number)
+      (λ start has s r there _.
+      let l : p < start.pages = subst (λ n. p < n) (sym has.pages) l' in
+      let pages : ℕ → Page = (world stored keeps tied start tells s r).core.pages in
+      let found-state : slice_index s.words p ≡ expects → (pages p).state ≡ state_of expects = (λ hit. state-here stored start s p l ∙ ap state_of hit) in
+      let free : slice_index s.words p ≡ expects → (pages p).state ≢ LOCKED = (λ hit e. (lockable expects may).0 (sym (found-state hit) ∙ e)) in
+      let none : slice_index s.words p ≡ expects → share_count (pages p).state ≡ 0 = (λ hit. ap share_count (found-state hit) ∙ (lockable expects may).1) in
+      let held : Held = page_held stored keeps tied start tells s r p in
+      let k = tried stored keeps tied start tells s r id v there live number p expects (word_of LOCKED (version_of expects)) l (opened stored keeps tied start tells s r p) (locked_inner stored keeps tied start tells s r id v there live p expects l may) (LockX id p expects) _ refl
+      (lock-is stored keeps tied start tells s r id v there live p expects l may)
+      (λ hit. lock-shows stored keeps tied start tells s r id v there live p expects l may hit (free hit)) in (
+        k.0,
+        k.1.rule,
+        record {
+          held = held;
+          brings = subst (λ (y : Version). Brings (did_exchange (places.State p) expects (slice_index s.words p) (word_of LOCKED (version_of expects))) [] [] v (if eqb (slice_index s.words p) expects then locked_view p held y.words v else v) k.0) (sym k.1.last) k.1.brings;
+          version = k.1.version;
+          since = k.1.since;
+          older = k.1.older;
+          size = k.1.size;
+          stands = λ hit. subst (λ (y : Version). IsHeldAt expects v.start.frames v.start.tells y.words held) (sym k.1.last) (held-at stored keeps tied start tells s r id v there p l (free hit) (none hit) live expects hit);
+          free = λ hit. free-member stored keeps tied start tells s r id v there p l (free hit);
+          unheld = λ hit. free-unheld stored keeps tied start tells s r id v there p l (free hit) (none hit) live;
+          clean = λ hit stays. each-map (TranslationHolds pages) _
+              (λ t h here version dirty.
+              let at : t.version ≡ (pages t.page).version = version ∙ ap version_of (sym hit) ∙ sym (version-here stored start s p l) ∙ ap (λ q. (pages q).version) (sym here) in
+              let state : (pages t.page).state ≡ (pages p).state = ap (λ q. (pages q).state) here in
+              h.2 at (λ e. free hit (sym state ∙ e)) (λ e. stays (sym (found-state hit) ∙ sym state ∙ e)) (ap (λ q. stands_dirty (pages q).trans) here ∙ dirty))
+              v.translations (r.known id v there live).translations;
+          validates = λ t hit. tried-validates stored keeps tied start tells s r id v there live number p expects (word_of LOCKED (version_of expects)) l law _ k.0 k.1 (free hit) t hit;
+        },
+      ))
 
 module _ {X B : Type 0} (stored : B → Stored) (keeps : Start → Kept X → Type 0) (tied : Start → ℕ → List ℕ → ℕ → List ℕ → Type 0) (tells : Bool) where
-  pub lock_exclusive_event : LockExclusiveIsItsEvent stored keeps tied tells
-  lock_exclusive_event start s id p expects found v w pass at may told =
-      exchange-event stored start keeps tied tells s id p expects found _ _ _ v _ w _ _ pass at (lockx-exchange stored start s [] (λ _. []) id v p expects pass.rule.wide.0 at.0 pass.there may told.held (last_of w p).words) told.brings
+  pub lock_exclusive-event : LockExclusiveIsItsEvent stored keeps tied tells
+  lock_exclusive-event start s id p expects found v w pass at may told =
+      exchange-event stored start keeps tied tells s id p expects found _ _ _ v _ w _ _ pass at (lockx-exchange stored start s [] (λ _. []) id v p expects pass.rule.wide.0 at.0 pass.there may told.held (last_of w p).words) told.brings refl
 
 module _ {X : Type 0} {tied : Start → ℕ → List ℕ → ℕ → List ℕ → Type 0} {p expects found : ℕ} {v w : View X} (e : found ≡ expects) (t : LockTold tied p expects found v w) where
   abbrev pub lock-did : Did
@@ -113,7 +95,7 @@ module _ {X : Type 0} {tied : Start → ℕ → List ℕ → ℕ → List ℕ �
 
   pub lock-others : (touched : ℕ → Type 0) → touched p → LeavesOthers touched (lock-did ∷ []) [] v w
   lock-others touched at =
-      others-from lock-brings tt
+      others-tied lock-brings ([], refl) tt
       (λ q ne. upd-other (put_at no_seat v.seats) p _ q (apart touched at q ne))
       (λ q ne. upd-other (put_at [] v.loads) p _ q (apart touched at q ne))
       (λ q ne. upd-other (put_at no_held v.held) p _ q (apart touched at q ne))
@@ -128,14 +110,8 @@ module _ {X : Type 0} {tied : Start → ℕ → List ℕ → ℕ → List ℕ �
   pub lock-seat : seat_of w p ≡ record (seat_of v p) { exclusive = true; reading = None }
   lock-seat = ap (λ (x : View X). seat_of x p) lock-brings.view ∙ upd-same (put_at no_seat v.seats) p _
 
-  pub lock-loads : loads_at w p ≡ []
-  lock-loads = ap (λ (x : View X). loads_at x p) lock-brings.view ∙ upd-same (put_at [] v.loads) p _
-
   pub lock-held : held_at w p ≡ t.held
   lock-held = ap (λ (x : View X). held_at x p) lock-brings.view ∙ upd-same (put_at no_held v.held) p _
 
   pub lock-draft : draft_of w p ≡ (last_of w p).words
   lock-draft = ap (λ (x : View X). draft_of x p) lock-brings.view ∙ upd-same (put_at [] v.drafts) p _
-
-  pub lock-last : (q : ℕ) → IsLocking (seat_of v q) → last_of w q ≡ last_of v q
-  lock-last = last-still lock-brings refl

@@ -2,42 +2,29 @@
 -- knows; that the table allows it, and that it is its event.
 --
 -- What a look leaves: it speaks of the open read of one page, and says at most one entry. Under a lock of the page nothing changes.
-use Rattle.std.proofs.Common.{[], ⊎_elim, ◌++◌, ◌+◌, ◌<◌, ◌∙◌, ◌∷◌, ◌≡◌, ◌≢◌, ◌≤◌, ◌⊎◌, ap, arith, Bool, eq-eqb, eqb, eqb-true, false, if◌then◌else◌}
-use Rattle.std.proofs.Common.{inl, inr, length, List, ne_eqb, None, Option, refl, slice_index, slice_set, Some, subst, suc, sym, true, true≢false}
-use Rattle.std.proofs.Common.{zero, ℕ}
-use Rattle.std.proofs.lemmas.Bool.{cases_Bool, cases_eq, cond-false, cond-true}
-use Rattle.std.proofs.lemmas.Bool.Decides.{nat_tests}
-use mathlib.Core.Path.{fun_ext}
-use Rattle.atomic_table.proofs.Lists.{set_here}
-use Rattle.vm_core.specs.Prelude.{EVICTED, frame_of, get_elem?, is_readable, kept_loads, left_of, left_open, LOCKED, looked, mapping_of, MARKED}
-use Rattle.vm_core.specs.Prelude.{no_seat, open_after, open_frame, Page, page_at, some, State, state_of, UNLOCKED, Version, version_of, World}
-use Rattle.vm_core.specs.Prelude.{world_after}
-use Rattle.vm_core.specs.declared.event.Event.TheVariants.{Look}
-use Rattle.vm_core.specs.declared.event.ReadIs.TheVariants.{Closed, Moved, Opened, Same}
+use Rattle.std.proofs.Common.{eq-eqb, ne_eqb}
 use Rattle.vm_core.specs.declared.event.ReadIs.TheVariants as read
 use Rattle.vm_core.specs.declared.event.Seen.TheVariants as sights
-use Rattle.vm_core.proofs.PageFacts.{some-is}
-use Rattle.vm_core.proofs.Upd.{each-upd2, upd-keeps, upd-other, upd-same}
-use Rattle.vm_owner.specs.Kept.{IsTurn, told}
-use Rattle.vm_rule.specs.Prelude.{began_of, Brings, chosen, core_shown, did_load, Each, entries_of, entries_under, Entry, entry_of, has, histories_of}
-use Rattle.vm_rule.specs.Prelude.{index_of, is_owed, is_pending, IsLocking, Kept, kept_of, KnowsLists, KnowsPage, KnowsPages, last_in, left_at}
-use Rattle.vm_rule.specs.Prelude.{listed, loads_at, logical, LookTold, Mapping, may_call, no_held, Open, put_at, ReadIs, Ruled, Seat, seat_of, Stands}
-use Rattle.vm_rule.specs.Prelude.{Start, Stored, Table, TieHolds, ties_below, TranslationHolds, where_same, world_of}
 use Rattle.vm_rule.specs.declared.view.Place.TheVariants as places
-use Rattle.vm_rule.specs.Looks.{looked_view, NamesFrame, tie_of}
-use Rattle.vm_rule.proofs.{Beside.page-open, Bringing.steps, Facts.any-here, Views.any-same, Views.at-bound}
-use Rattle.vm_rule.proofs.Adding.{after_step, became, Shows}
-use Rattle.vm_rule.proofs.Entries.{append-none, each-map, mine-in}
-use Rattle.vm_rule.proofs.Found.{next-here, same-word, seat-here, state-here, version-here, word-here}
-use Rattle.vm_rule.proofs.Heard.{calls-by, each-both, has-first}
-use Rattle.vm_rule.proofs.Worlds.{draft-is, last-is, look-step}
-use Rattle.vm_step.specs.Prelude.{AllowsStep, Did, HoldsPage, IsKeptNow, IsPlacedAt, KnowsAsBefore, KnowsUnheld, LeavesRest, LocksNone, LookTells}
-use Rattle.vm_step.specs.Prelude.{MayTell, Origin, Release, Shape, Tie, told_of, Translation, View}
-use Rattle.vm_step.specs.steps.Look.{LookIsItsEvent}
-use Rattle.vm_step.proofs.{Fit.fit, Standing.allows, Unclaimed.logical-zero}
+use Rattle.vm_step.proofs.{Asides.alone-silent, Asides.OnlyReads, Fit.fit, Keeping.kept-now, Quiet.event-shows, Standing.allows}
+use Rattle.vm_step.proofs.{Unclaimed.logical-zero, Written.word-loaded}
 use Rattle.vm_step.proofs.Here.{frame-inside, last-told, older, read-valid, reads, since, size-told, tied-itself, ties-hold, version-told}
-use Rattle.vm_step.proofs.Logical.{length-listed, logical-draft, logical-last, not-pending, page-kept, page-listed, pages-kept, tied-now}
-use Rattle.vm_step.proofs.steps.Leaving.{apart, knows-still, LeavesOthers, LeavesOwn, others-tied, own-from, rest-of}
+use Rattle.vm_step.proofs.Logical.{not-pending, page-kept, pages-kept, tied-now}
+use Rattle.vm_step.proofs.Prelude.{[], after_step, AllowsStep, any-here, any-same, ap, append-none, arith, at-bound, became, began_of, Bool, Brings}
+use Rattle.vm_step.proofs.Prelude.{calls-by, cases_Bool, cases_eq, chosen, Closed, cond-false, cond-true, core_shown, Did, did_load, draft-is, Each}
+use Rattle.vm_step.proofs.Prelude.{each-both, each-map, each-upd2, entries_of, entries_under, Entry, entry_of, eqb, eqb-true, EVICTED, false}
+use Rattle.vm_step.proofs.Prelude.{frame_of, fun_ext, get_elem?, has, has-first, histories_of, HoldsPage, if◌then◌else◌, index_of, inl, inr, is_owed}
+use Rattle.vm_step.proofs.Prelude.{is_pending, is_readable, IsKeptNow, IsLocking, IsPlacedAt, IsTurn, Kept, kept_loads, kept_of, KnowsAsBefore}
+use Rattle.vm_step.proofs.Prelude.{KnowsLists, KnowsPage, KnowsPages, KnowsUnheld, last_in, LeavesRest, left_at, left_of, left_open, length, List}
+use Rattle.vm_step.proofs.Prelude.{loads_at, LOCKED, LocksNone, logical, Look, look-step, looked, looked_view, LookIsItsEvent, LookTells, LookTold}
+use Rattle.vm_step.proofs.Prelude.{Mapping, mapping_of, MARKED, may_call, MayTell, mine-in, Moved, NamesFrame, nat_tests, next-here, no_held, no_seat}
+use Rattle.vm_step.proofs.Prelude.{None, Open, open_after, open_frame, Option, Origin, Page, page-open, page_at, put_at, ReadIs, refl, Release, Ruled}
+use Rattle.vm_step.proofs.Prelude.{Same, same-word, Seat, seat-here, seat_of, set_here, Shape, Shows, slice_index, slice_set, Some, some, some-is}
+use Rattle.vm_step.proofs.Prelude.{Stands, Start, state-here, state_of, steps, Stored, subst, suc, sym, Table, Tie, tie_of, TieHolds, ties_below}
+use Rattle.vm_step.proofs.Prelude.{told, told_of, Translation, TranslationHolds, true, UNLOCKED, upd-keeps, upd-other, upd-same, Version}
+use Rattle.vm_step.proofs.Prelude.{version-here, version_of, View, where_same, word-here, World, world_after, world_of, zero, ℕ, ⊎_elim, ◌++◌, ◌+◌}
+use Rattle.vm_step.proofs.Prelude.{◌<◌, ◌∙◌, ◌∷◌, ◌≡◌, ◌≢◌, ◌≤◌, ◌⊎◌}
+use Rattle.vm_step.proofs.steps.Leaving.{apart, knows-still, LeavesOthers, LeavesOwn, only-of, others-tied, own-from, rest-of}
 
 same-version : (n : ℕ) (o : Option Open) → left_open o n ≡ Same → (x : Open) × (o ≡ Some x) × (x.version ≡ n)
 same-version n None e = cc
@@ -64,17 +51,13 @@ free-here stored start s p l o same e = (readable (state_of (slice_index s.words
 -- what comes only where the read stays: it is so with nothing, and where the read stays with what comes
 where-same-keeps : {A : Type 0} (P : List A → Type 0) (left : ReadIs) (l : List A) → P [] → (left ≡ Same → P l) → P (where_same left l [])
 where-same-keeps P Same l none some' = some' refl
-where-same-keeps P Opened l none some' = none
-where-same-keeps P Moved l none some' = none
-where-same-keeps P Closed l none some' = none
+where-same-keeps P _ l none some' = none
 
 -- the entry, if there is one
 pub said-entry : {X : Type 0} (v : View X) (left : ReadIs) (said : Option X) → (where_same left (entries_of v said) [] ≡ []) ⊎ ((x : X) × (where_same left (entries_of v said) [] ≡ entry_of v x ∷ []))
-said-entry v Same None = inl refl
 said-entry v Same (Some x) = inr (x, refl)
-said-entry v Opened said = inl refl
-said-entry v Moved said = inl refl
-said-entry v Closed said = inl refl
+said-entry v Same None = inl refl
+said-entry v _ said = inl refl
 
 module _ {X : Type 0} where
   -- what is said is the next entry of the pass's first number
@@ -128,10 +111,7 @@ module _ {X B : Type 0} (stored : B → Stored) (keeps : Start → Kept X → Ty
 
 -- what comes only where the read stays
 pub each-same : {A : Type 0} (P : A → Type 0) (left : ReadIs) (l : List A) → (left ≡ Same → Each P l) → Each P (where_same left l [])
-each-same P Same l f = f refl
-each-same P Opened l f = tt
-each-same P Moved l f = tt
-each-same P Closed l f = tt
+each-same P left l = where-same-keeps (Each P) left l tt
 
 tie-each : (P : Tie → Type 0) (q : ℕ) (words : List ℕ) (k : ℕ) (o : Option Open) → ((x : Open) → o ≡ Some x → P (record { page = k; version = x.version; of = q; words = words })) → Each P (tie_of q words k o)
 tie-each P q words k None f = tt
@@ -179,10 +159,6 @@ module _ {X B : Type 0} (stored : B → Stored) (keeps : Start → Kept X → Ty
             (tied-now stored keeps tied start tells s r law t p q l inside free none),
       )))
 
--- a look changes what the pass has of a page by its open read alone
-knows-looked : (a : ℕ) (seat : Seat) (r : Page) (h : _) (o : Option Open) → KnowsPage seat h r → KnowsPage (record seat { reading = o }) h (looked r a)
-knows-looked a seat r h o k = record { calls = k.calls; shares = k.shares }
-
 module _ {X B : Type 0} (stored : B → Stored) (keeps : Start → Kept X → Type 0) (tied : Start → ℕ → List ℕ → ℕ → List ℕ → Type 0) (start : Origin) (tells : Bool) (s : Table (Option B) (View X)) (r : Ruled stored keeps tied start tells s) (id : ℕ) (v : View X) (p : ℕ) (said : Option X) where
   abbrev pub look-left : ReadIs
   look-left = left_at (slice_index s.words p) (seat_of v p).reading
@@ -206,14 +182,10 @@ module _ {X B : Type 0} (stored : B → Stored) (keeps : Start → Kept X → Ty
   look-before = world_of stored start r.releases r.drafts s
 
   module _ (there : get_elem? s.views id ≡ some v) (live : v.live ≡ true) (l : p < start.pages) where
-    world-looked : world_of stored start (r.releases ++ []) r.drafts (became stored keeps tied start tells s s.words id look-after) ≡ world_after look-before (Look id p)
+    world-looked : world_of stored start r.releases r.drafts (became stored keeps tied start tells s s.words id look-after) ≡ world_after look-before (Look id p)
     world-looked =
-        ap (λ rs. world_of stored start rs r.drafts (became stored keeps tied start tells s s.words id look-after)) (append-none r.releases)
-        ∙ look-step stored start s r.releases r.drafts id v look-after p (record ((core_shown stored start s).pages p) { state = state_of (slice_index s.words p); version = version_of (slice_index s.words p) }) l there refl refl
+        look-step stored start s r.releases r.drafts id v look-after p (record ((core_shown stored start s).pages p) { state = state_of (slice_index s.words p); version = version_of (slice_index s.words p) }) l there refl refl
         (sym (state-here stored start s p l)) (sym (version-here stored start s p l)) refl refl
-
-    core-looked : core_shown stored start (became stored keeps tied start tells s s.words id look-after) ≡ (world_after look-before (Look id p)).core
-    core-looked = ap (λ (w : World). w.core) world-looked
 
     pub pending-looked : is_pending (slice_set s.views id look-after) ≡ is_pending s.views
     pending-looked = fun_ext (λ q. any-same (λ y. has q y.pending) s.views id v look-after there refl)
@@ -228,75 +200,32 @@ module _ {X B : Type 0} (stored : B → Stored) (keeps : Start → Kept X → Ty
     pub same-shares : (q : ℕ) → (seat_of look-inner q).shares ≡ (seat_of v q).shares
     same-shares q = upd-keeps (λ y. y.shares) (put_at no_seat v.seats) p (record (seat_of v p) { reading = open_after look-left (seat_of v p).reading (version_of (slice_index s.words p)) }) refl q
 
-    same-calls : (q : ℕ) → may_call (seat_of look-inner q) ≡ may_call (seat_of v q)
-    same-calls q = upd-keeps may_call (put_at no_seat v.seats) p (record (seat_of v p) { reading = open_after look-left (seat_of v p).reading (version_of (slice_index s.words p)) }) refl q
-
-    look-knows : (q : ℕ) → KnowsPage (seat_of look-inner q) (put_at no_held look-inner.held q) ((core_shown stored start (became stored keeps tied start tells s s.words id look-after)).pages q)
-    look-knows q =
-        let k : KnowsPages tied start look-before (is_pending s.views) v = r.known id v there live in
-        subst (λ (c : State). KnowsPage (seat_of look-inner q) (put_at no_held v.held q) (c.pages q)) (sym core-looked)
-        (each-upd2 (λ j seat y. KnowsPage seat (put_at no_held v.held j) y) (put_at no_seat v.seats) look-before.core.pages p _ (looked (look-before.core.pages p) id)
-        (knows-looked id (seat_of v p) (look-before.core.pages p) (put_at no_held v.held p) _ (k.knows p))
-        (λ j _. k.knows j)
-        q)
-
     module _ (may_read : Start → ℕ → List ℕ → List (Entry X) → Type 0) (reads : (start : Start) (kept : Kept X) (q : ℕ) (entries : List (Entry X)) → keeps start kept → q < length kept.pages → IsTurn kept.history entries → may_read start q (page_at kept.pages q) entries → keeps start (told entries kept))
         (ties : (start : Start) (kept : Kept X) (q p : ℕ) → keeps start kept → q < length kept.pages → p < length kept.pages → tied start q (page_at kept.pages q) p (page_at kept.pages p)) (may : MayTell tied may_read p said v) (number : 0 < length v.used) where
       pub look-shows : Shows stored keeps tied start tells s r id v s.words r.drafts [] look-entries look-did look-inner (Look id p)
       look-shows =
           let k : KnowsPages tied start look-before (is_pending s.views) v = r.known id v there live in
-          let releases : r.releases ++ [] ≡ r.releases = append-none r.releases in
-          record {
-            wide = r.wide.0;
-            spelled = r.spelled;
+          event-shows stored keeps tied start tells s r id v s.words r.drafts look-entries look-did look-inner (Look id p) there live
+          (record {
+            word = word-loaded start s.words (places.State p) r.wide.0 r.spelled l;
             legal = (record { actor = at-bound s.views id v there; page = l }, tt);
-            world = world-looked;
-            at = l;
-            found = refl;
-            wrote = tt;
-            live = refl;
-            same_start = refl;
-            used = refl;
-            fresh = refl;
-            notes = refl;
-            log = refl;
-            out = refl;
-            calls = λ o x. same-calls o.page ∙ (r.blocks.away id v o there x).1;
-            entry = said-entry v look-left said;
-            mine = refl;
-            next_versions = tt;
-            zero = λ t q le lq. ap (λ y. (histories_of start y r.drafts q).last.words) releases ∙ r.zero t q le lq;
-            knows = look-knows;
+            leads = record { world = world-looked; pending = refl; members = λ q _. refl; up = omega arith };
+            same = (refl, refl, refl, refl, refl, refl, refl);
+            calls = λ o x. (upd-keeps may_call (put_at no_seat v.seats) p (record (seat_of v p) { reading = open_after look-left (seat_of v p).reading (version_of (slice_index s.words p)) }) refl o.page) ∙ (r.blocks.away id v o there x).1;
+            holds = λ q x. same-exclusive q ∙ x;
+            knows = each-upd2 (λ j seat y. KnowsPage seat (put_at no_held v.held j) y) (put_at no_seat v.seats) look-before.core.pages p _ (looked (look-before.core.pages p) id)
+                (record { calls = (k.knows p).calls; shares = (k.knows p).shares })
+                (λ j _. k.knows j);
             contents = k.contents;
             drafted = λ q x. k.drafts q (sym (same-exclusive q) ∙ x) ∙ draft-is start r.releases r.drafts q;
-            pending = λ q x. (
-              same-exclusive q ∙ (k.pending q x).0,
-              λ t le. sym (draft-is start r.releases r.drafts q) ∙ (k.pending q x).1 t le ∙ sym (ap (λ y. (histories_of start y r.drafts q).last.words) releases),
-            );
-            owed = λ q x. (same-exclusive q ∙ (k.owed q x).0, (k.owed q x).1, (k.owed q x).2, (k.owed q x).3);
+            owes = λ q x. (same-exclusive q ∙ (k.owed q x).0, (k.owed q x).1, (k.owed q x).2, (k.owed q x).3);
             next = λ q x. (same-exclusive q ∙ (k.next q x).0, (k.next q x).1);
             loaded = ([], refl, tt);
-            tying = (
-              where_same look-left (ties_below v.start.pages v p look-last) [],
-              refl,
-              λ t.
-                  subst (λ (w : World). Each (TieHolds tied (began_of start) w (is_pending (slice_set s.views id look-after))) (where_same look-left (ties_below v.start.pages v p look-last) [])) (sym world-looked)
-                  (subst (λ (f : ℕ → Bool). Each (TieHolds tied (began_of start) (world_after look-before (Look id p)) f) (where_same look-left (ties_below v.start.pages v p look-last) [])) (sym pending-looked)
-                  (look-ties stored keeps tied start tells s r id v there live p l ties t)),
-            );
-            members = λ q was gone. absurd (true≢false (sym was ∙ gone));
-            owner = λ t kept. subst (keeps (began_of start)) (λ i. record {
-              pages = listed start.pages (logical (sym world-looked i).histories (sym pending-looked i));
-              next = (sym world-looked i).core.next;
-              owed = chosen start.pages (sym owed-looked i);
-              history = r.history ++ look-entries;
-            })
+            tying = (where_same look-left (ties_below v.start.pages v p look-last) [], refl, look-ties stored keeps tied start tells s r id v there live p l ties);
+            says = (said-entry v look-left said, refl);
+            owner = λ t kept. subst (keeps (began_of start)) (λ i. record (kept_of look-before r.history s.views) { owed = chosen start.pages (sym owed-looked i); history = r.history ++ look-entries })
                 (keeps-said stored keeps tied start tells s r id v there live p l said may_read reads ties may number t kept);
-          }
-
--- the frame of an open read that has one
-open-is : (o : Option Open) (x : Open) → o ≡ Some x → (g : ℕ) → open_frame o ≡ Some g → x.frame ≡ Some g
-open-is o x e g f = ap open_frame (sym e) ∙ f
+          })
 
 module _ {X B : Type 0} (stored : B → Stored) (keeps : Start → Kept X → Type 0) (tied : Start → ℕ → List ℕ → ℕ → List ℕ → Type 0) (start : Origin) (tells : Bool) (s : Table (Option B) (View X)) (r : Ruled stored keeps tied start tells s) (id : ℕ) (v : View X) (p : ℕ) (said : Option X) (there : get_elem? s.views id ≡ some v) (live : v.live ≡ true) (l : p < start.pages) where
   abbrev look-world : World
@@ -316,7 +245,7 @@ module _ {X B : Type 0} (stored : B → Stored) (keeps : Start → Kept X → Ty
         frame = m.0.frame;
         names = word ∙ ap frame_of m.1;
         inside = subst (λ (y : Origin). m.0.frame < y.frames) (sym (r.heard id v there live).same_start) (frame-inside stored keeps tied start tells s r p m.0 m.1);
-        same = λ g f. ((reads stored keeps tied start tells s r id v there live p l).current not_locked not_evicted o e (same ∙ sym (version-here stored start s p l))).at_frame g (open-is _ o e g f) m.0 m.1;
+        same = λ g f. ((reads stored keeps tied start tells s r id v there live p l).current not_locked not_evicted o e (same ∙ sym (version-here stored start s p l))).at_frame g (ap open_frame (sym e) ∙ f) m.0 m.1;
       }
 
   module _ (ties : (start : Start) (kept : Kept X) (q p : ℕ) → keeps start kept → q < length kept.pages → p < length kept.pages → tied start q (page_at kept.pages q) p (page_at kept.pages p)) where
@@ -358,33 +287,18 @@ module _ {X B : Type 0} (stored : B → Stored) (keeps : Start → Kept X → Ty
       let w : View X = look-after stored keeps tied start tells s r id v p said in
       let telling : start.tells ≡ true = r.telling ∙ t in
       let same : w.start ≡ start = (r.heard id v there live).same_start in
-      let after : World = world_of stored start (r.releases ++ []) r.drafts (became stored keeps tied start tells s s.words id w) in
-      let kept : Kept X = kept_of after (r.history ++ look-entries stored keeps tied start tells s r id v p said) (slice_set s.views id w) in
-      record {
-        kept = kept;
-        holds = subst (λ (o : Origin). keeps (began_of o) kept) (sym same) ((look-shows stored keeps tied start tells s r id v p said there live l may_read reads ties may number).owner telling (r.owner telling));
-        history = refl;
-        pages = length-listed start.pages _ ∙ ap (λ (o : Origin). o.pages) (sym same);
-        page = λ stays.
-            page-listed start.pages _ p l
-            ∙ logical-last after.histories (is_pending (slice_set s.views id w)) p
-            (ap (λ (f : ℕ → Bool). f p) (pending-looked stored keeps tied start tells s r id v p said there live l)
-            ∙ not-pending stored keeps tied start tells s r p l (free-here stored start s p l (seat_of v p).reading stays))
-            ∙ ap (λ (x : Version). x.words) (sym (last-is start (r.releases ++ []) r.drafts p))
-            ∙ ap (λ (o : Origin). (last_in o (r.releases ++ []) p).words) (sym same);
-        members = λ q inside e.
-            page-listed start.pages _ q (subst (λ (o : Origin). q < o.pages) same inside)
-            ∙ logical-draft after.histories (is_pending (slice_set s.views id w)) q (any-here (λ (u : View X). has q u.pending) (slice_set s.views id w) id w (set_here s.views id w (at-bound s.views id v there)) e)
-            ∙ draft-is start (r.releases ++ []) r.drafts q
-            ∙ sym (draft-is start r.releases r.drafts q)
-            ∙ sym ((r.known id v there live).drafts q (((r.known id v there live).pending q e).0));
-        zero = λ q le inside.
-            let l' : q < start.pages = subst (λ (o : Origin). q < o.pages) same inside in
-            page-listed start.pages _ q l'
-            ∙ (λ i. logical (histories_of start (append-none r.releases i) r.drafts) (pending-looked stored keeps tied start tells s r id v p said there live l i) q)
-            ∙ logical-zero stored keeps tied start tells s r telling q le l';
-        next = λ _. ap (λ (o : Origin). slice_index s.words (index_of o places.Next)) same ∙ sym (next-here stored start s);
-      }
+      let pending : (q : ℕ) → is_pending (slice_set s.views id w) q ≡ is_pending s.views q = λ q. ap (λ (f : ℕ → Bool). f q) (pending-looked stored keeps tied start tells s r id v p said there live l) in
+      kept-now stored keeps start (became stored keeps tied start tells s s.words id w) r.drafts w p (look-left stored keeps tied start tells s r id v p said ≡ Same) l same
+      ((look-shows stored keeps tied start tells s r id v p said there live l may_read reads ties may number).owner telling (r.owner telling))
+      (λ stays. pending p ∙ not-pending stored keeps tied start tells s r p l (free-here stored start s p l (seat_of v p).reading stays))
+      (λ q e. (
+        any-here (λ (u : View X). has q u.pending) (slice_set s.views id w) id w (set_here s.views id w (at-bound s.views id v there)) e,
+        sym ((r.known id v there live).drafts q (((r.known id v there live).pending q e).0) ∙ draft-is start r.releases r.drafts q),
+      ))
+      (λ q le l'.
+      (λ i. logical (histories_of start (append-none r.releases i) r.drafts) (pending-looked stored keeps tied start tells s r id v p said there live l i) q)
+      ∙ logical-zero stored keeps tied start tells s r telling q le l')
+      (λ _. ap (λ (o : Origin). slice_index s.words (index_of o places.Next)) same ∙ sym (next-here stored start s))
 
 module _ {X B : Type 0} (stored : B → Stored) (keeps : Start → Kept X → Type 0) (tied : Start → ℕ → List ℕ → ℕ → List ℕ → Type 0) (start : Origin) (tells : Bool) (s : Table (Option B) (View X)) (r : Ruled stored keeps tied start tells s) (id : ℕ) (v : View X) (p : ℕ) (said : Option X) (there : get_elem? s.views id ≡ some v) (live : v.live ≡ true) (l : p < start.pages) where
   pub look-unheld : KnowsUnheld (look-after stored keeps tied start tells s r id v p said)
@@ -400,9 +314,9 @@ module _ {X B : Type 0} (stored : B → Stored) (keeps : Start → Kept X → Ty
 module _ {X B : Type 0} (stored : B → Stored) (keeps : Start → Kept X → Type 0) (tied : Start → ℕ → List ℕ → ℕ → List ℕ → Type 0) (tells : Bool) (may_read : Start → ℕ → List ℕ → List (Entry X) → Type 0)
     (reads : (start : Start) (kept : Kept X) (q : ℕ) (entries : List (Entry X)) → keeps start kept → q < length kept.pages → IsTurn kept.history entries → may_read start q (page_at kept.pages q) entries → keeps start (told entries kept))
     (ties : (start : Start) (kept : Kept X) (q p : ℕ) → keeps start kept → q < length kept.pages → p < length kept.pages → tied start q (page_at kept.pages q) p (page_at kept.pages p)) where
-  pub look_allows : (shape : Shape) (slots id : ℕ) (v : View X) (i : ℕ) (p : ℕ) (said : Option X) → v.live ≡ true → 0 < length v.used → p < shape.pages → MayTell tied may_read p said v → IsPlacedAt shape (places.State p) i
+  pub look-allows : (shape : Shape) (slots id : ℕ) (v : View X) (i : ℕ) (p : ℕ) (said : Option X) → v.live ≡ true → 0 < length v.used → p < shape.pages → MayTell tied may_read p said v → IsPlacedAt shape (places.State p) i
       → AllowsStep (Stands stored keeps tied shape tells) slots id v i (λ n. n) (told_of shape tells (LookTells keeps tied tells p said))
-  look_allows shape slots id v i p said live number l may is =
+  look-allows shape slots id v i p said live number l may is =
       allows stored keeps tied shape tells slots id v i (places.State p) (λ n. n) (λ n. n) (LookTells keeps tied tells p said) live is (λ n. refl) (λ n w t. fit t.0.brings live)
       (λ start has s r there _.
       let low : p < start.pages = subst (λ n. p < n) (sym has.pages) l in
@@ -416,8 +330,8 @@ module _ {X B : Type 0} (stored : B → Stored) (keeps : Start → Kept X → Ty
       ))
 
 module _ {X B : Type 0} (stored : B → Stored) (keeps : Start → Kept X → Type 0) (tied : Start → ℕ → List ℕ → ℕ → List ℕ → Type 0) (tells : Bool) where
-  pub look_event : LookIsItsEvent stored keeps tied tells
-  look_event start s id p found said v w pass finds told =
+  pub look-event : LookIsItsEvent stored keeps tied tells
+  look-event start s id p found said v w pass finds told =
       let page : Page = (core_shown stored start s).pages p in
       let view = told.brings.view in
       let state : state_of found ≡ page.state = ap state_of finds.1 ∙ sym (state-here stored start s p finds.0) in
@@ -433,15 +347,10 @@ module _ {X B : Type 0} (stored : B → Stored) (keeps : Start → Kept X → Ty
 -- one choice of both
 pub same-both : {A : Type 0} (left : ReadIs) (x : A) → where_same left x x ≡ x
 same-both read.Same x = refl
-same-both read.Opened x = refl
-same-both read.Moved x = refl
-same-both read.Closed x = refl
+same-both _ x = refl
 
 module _ {X : Type 0} {tied : Start → ℕ → List ℕ → ℕ → List ℕ → Type 0} {p found : ℕ} {said : Option X} {v w : View X} (t : LookTold tied p said found v w) where
-  abbrev pub looked-did : Did
-  looked-did = did_load (places.State p) found
-
-  pub look-others : (touched : ℕ → Type 0) → touched p → LeavesOthers touched (looked-did ∷ []) [] v w
+  pub look-others : (touched : ℕ → Type 0) → touched p → LeavesOthers touched ((did_load (places.State p) found) ∷ []) [] v w
   look-others touched at =
       others-tied t.brings (_, refl) tt
       (λ q ne. upd-other (put_at no_seat v.seats) p _ q (apart touched at q ne))
@@ -477,3 +386,7 @@ module _ {X : Type 0} {tied : Start → ℕ → List ℕ → ℕ → List ℕ �
 
   pub look-leaves : LeavesRest p (did_load (places.State p) found ∷ []) v w
   look-leaves = rest-of (look-others t (λ q. q ≡ p) refl) look-own
+
+-- it changes no more than an open read
+pub look-only : {X : Type 0} (touched : ℕ → Type 0) (tied : Start → ℕ → List ℕ → ℕ → List ℕ → Type 0) (p found : ℕ) (v w : View X) → touched p → LookTold tied p None found v w → OnlyReads touched (did_load (places.State p) found ∷ []) v w
+look-only touched tied p found v w at t = only-of (look-others t touched at) (look-own t) (look-holds t) (looked-knows t) (alone-silent _ None _ v _ w t.brings refl)

@@ -4,43 +4,48 @@
 -- What a page leaves that is made dirty in its frame, or clean: the step works on that page, which is locked meanwhile.
 --
 -- What a page leaves that is put into a frame of the pass, or taken out of its frame: the steps work on that page, which is locked meanwhile.
-use Rattle.std.proofs.Common.{[], ⊎_elim, ◌%◌, ◌+◌, ◌-◌, ◌<◌, ◌==◌, ◌^◌, ◌||◌, ◌∙◌, ◌∷◌, ◌≡◌, ◌≢◌, ◌≤◌, ap, arith, Bool, false, if◌then◌else◌, inr}
-use Rattle.std.proofs.Common.{IsSome, length, length-set, List, nat_lt, None, Option, refl, slice_set, Some, subst, sym, true, true≢false, ℕ}
-use Rattle.std.proofs.lemmas.Bool.{cases_Bool, cases_eq, eq-eqb, ne_eqb, or_right}
-use Rattle.std.proofs.lemmas.Bool.Decides.{nat_tests}
-use Rattle.vm_core.specs.Prelude.{frame_in, gains, get_elem?, is_dirty, Legal, LOCKED, mapping_at, mapping_of, Page, some, stands_in, State}
-use Rattle.vm_core.specs.Prelude.{trans_word, upd, Version, with_dirty, World, world_after}
-use Rattle.vm_core.specs.declared.event.Event.TheVariants.{Clean, Clear, Dirty, Install}
 use Rattle.vm_core.specs.declared.event.Seen.TheVariants as sights
-use Rattle.vm_core.proofs.PageFacts.{some-same}
-use Rattle.vm_core.proofs.Upd.{each-upd2, upd-other, upd-same}
-use Rattle.vm_owner.proofs.NumberLemmas.{has-without}
-use Rattle.vm_rule.specs.Prelude.{actor_of, Brings, clean_in, CleanTold, ClearTold, contents_at, core_shown, did_store, dirty_in, DirtyTold, Event}
-use Rattle.vm_rule.specs.Prelude.{has, HasShape, held_at, index_of, InstallTold, is_pending, IsWritten, Kept, KnowsPage, KnowsPages, Mapping}
-use Rattle.vm_rule.specs.Prelude.{may_call, MayPutInto, no_held, put, put_at, Ruled, Seat, seat_of, Stands, StandsClean, StandsIn, Start, Stored}
-use Rattle.vm_rule.specs.Prelude.{Table, without, world_of}
-use Rattle.vm_rule.specs.declared.view.Held.{Held}
 use Rattle.vm_rule.specs.declared.view.Place.TheVariants as places
-use Rattle.vm_rule.specs.Mappings.{clean_view, cleared_view, dirty_view, installed_view, mapped}
-use Rattle.vm_rule.proofs.{Bringing.steps, Views.at-bound, Worlds.draft-is}
-use Rattle.vm_rule.proofs.Adding.{after_step, became, Shows}
-use Rattle.vm_rule.proofs.Facts.{either-way, has-left, shared-here}
-use Rattle.vm_rule.proofs.Found.{held-here, seat-here, translation-here}
-use Rattle.vm_rule.proofs.FrameWorlds.{clean-step, clear-step, dirty-step, install-step, stands-nowhere}
-use Rattle.vm_rule.proofs.WordFacts.{mapping-clean, mapping-dirty, mapping-none}
-use Rattle.vm_step.specs.Prelude.{AllowsStep, Did, IsEvent, IsFit, IsPassOf, IsPlacedAt, Origin, Put, Shape, table_after, told_of, View, Works}
-use Rattle.vm_step.proofs.{Fit.fit, Here.frame-inside, Leaves.works-one, Mine.stands-called, Quiet.lock-quiet, Quiet.moved-shows, Standing.allows}
-use Rattle.vm_step.proofs.{Written.spelled-now, Written.stands-there}
-use Rattle.vm_step.proofs.steps.Leaving.{apart, LeavesOthers, LeavesOwn, others-from, own-from}
+use Rattle.vm_rule.proofs.Facts.{has-left}
+use Rattle.vm_step.proofs.{Fit.fit, Here.frame-inside, Leaves.works-one, Mine.stands-called, Quiet.held-shows, Standing.allows, Written.spelled-now}
+use Rattle.vm_step.proofs.{Written.stands-there}
+use Rattle.vm_step.proofs.Prelude.{[], actor_of, after_step, AllowsStep, ap, arith, at-bound, became, Bool, Brings, cases_eq, Clean, clean-step}
+use Rattle.vm_step.proofs.Prelude.{clean_in, clean_view, CleanTold, Clear, clear-step, cleared_view, ClearTold, core_shown, Did, did_store, Dirty}
+use Rattle.vm_step.proofs.Prelude.{dirty-step, dirty_in, dirty_view, DirtyTold, each-upd2, either-way, eq-eqb, Event, false, false_from_ne_true}
+use Rattle.vm_step.proofs.Prelude.{frame_in, gains, get_elem?, has, has-without, HasShape, Held, held-here, held_at, if◌then◌else◌, index_of, inr}
+use Rattle.vm_step.proofs.Prelude.{Install, install-step, installed_view, InstallTold, is_dirty, is_pending, IsEvent, IsFit, IsPassOf, IsPlacedAt}
+use Rattle.vm_step.proofs.Prelude.{IsSome, IsWritten, Kept, KnowsPage, KnowsPages, Legal, length, length-set, List, LOCKED, mapped, Mapping}
+use Rattle.vm_step.proofs.Prelude.{mapping-clean, mapping-dirty, mapping-none, mapping_at, mapping_of, may_call, MayPutInto, nat_lt, nat_tests}
+use Rattle.vm_step.proofs.Prelude.{ne_eqb, no_held, None, Option, or_right, Origin, Page, Put, put, put_at, refl, Ruled, Seat, seat-here, seat_of}
+use Rattle.vm_step.proofs.Prelude.{Shape, shared-here, Shows, slice_set, Some, some, some-same, Stands, stands-nowhere, stands_in, StandsClean}
+use Rattle.vm_step.proofs.Prelude.{StandsIn, Start, State, steps, Stored, subst, sym, Table, table_after, told_of, trans_word, translation-here, true}
+use Rattle.vm_step.proofs.Prelude.{true≢false, upd, upd-other, upd-same, Version, View, with_dirty, without, Works, World, world_after, world_of, ℕ}
+use Rattle.vm_step.proofs.Prelude.{⊎_elim, ◌%◌, ◌+◌, ◌-◌, ◌<◌, ◌==◌, ◌^◌, ◌||◌, ◌∙◌, ◌∷◌, ◌≡◌, ◌≢◌, ◌≤◌}
+use Rattle.vm_step.proofs.steps.Leaving.{apart, LeavesOthers, others-tied}
 
 -- the word of a page's translation says it
 pub fits : (f : ℕ) (dirty : Bool) → f < 2 ^ 32 → mapping_of (trans_word (Some (record { frame = f; dirty = dirty }))) ≡ Some (record { frame = f; dirty = dirty })
 fits f true small = mapping-dirty f small
 fits f false small = let e : f + 1 + 0 ≡ f + 1 = omega arith in ap mapping_of e ∙ mapping-clean f small
 
--- a translation names one frame
-pub same-frame : (m n : Mapping) → Some m ≡ Some n → m.frame ≡ n.frame
-same-frame m n e = ap (λ (y : Mapping). y.frame) (some-same m n e)
+-- another number than the first stands behind it
+has-other : (g f : ℕ) (l : List ℕ) → g ≢ f → has g (f ∷ l) ≡ has g l
+has-other g f l ne = rw (ne_eqb g f ne) refl
+
+-- the frame that a word names has 32 bits
+named-small : (b : Bool) (low f : ℕ) (dirty was : Bool) → (low == 0 || nat_lt (2 ^ 32) low) ≡ b → mapping_at (if b then None else Some (low - 1)) dirty ≡ Some (record { frame = f; dirty = was }) → f < 2 ^ 32
+named-small true low f dirty was test e = absurd (cc)
+named-small false low f dirty was test e =
+    let frame : low - 1 ≡ f = ap (λ (y : Mapping). y.frame) (some-same (record { frame = low - 1; dirty = dirty }) (record { frame = f; dirty = was }) e) in
+    grind (arith, nat_tests, test, frame)
+
+frame-small : (word f : ℕ) (was : Bool) → mapping_of word ≡ Some (record { frame = f; dirty = was }) → f < 2 ^ 32
+unfolding frame_in
+frame-small word f was e = named-small (word % 2 ^ 63 == 0 || nat_lt (2 ^ 32) (word % 2 ^ 63)) (word % 2 ^ 63) f (is_dirty word) was refl e
+
+-- the page stands in this frame
+abbrev in_frame : ℕ → Bool → Option Mapping
+in_frame f dirty = Some (record { frame = f; dirty = dirty })
 
 module _ {X B : Type 0} (stored : B → Stored) (keeps : Start → Kept X → Type 0) (tied : Start → ℕ → List ℕ → ℕ → List ℕ → Type 0) (start : Origin) (tells : Bool) (s : Table (Option B) (View X)) (r : Ruled stored keeps tied start tells s) (id : ℕ) (v : View X) (p : ℕ) where
   abbrev pub core : State
@@ -79,294 +84,216 @@ module _ {X B : Type 0} (stored : B → Stored) (keeps : Start → Kept X → Ty
         → ((f : ℕ) → has f frames ≡ true → put_at [] contents f ≡ (world_after old e).core.words f)
         → Shows stored keeps tied start tells s r id v (words_with t) r.drafts [] [] (did_store (places.Translation p) (trans_word t)) (view_with t frames contents) e
     mapping-shows l t frames contents e fits legal world pages next words =
-        moved-shows stored keeps tied start tells s r id v (words_with t) r.drafts (did_store (places.Translation p) (trans_word t)) (view_with t frames contents) e there live
+        held-shows stored keeps tied start tells s r id v (words_with t) (did_store (places.Translation p) (trans_word t)) (mapped p t v) frames contents e there live
         (record {
           wide = length-set s.words (index_of start (places.Translation p)) (trans_word t) ∙ r.wide.0;
           spelled = spelled-now start s.words p t r.wide.0 l fits r.spelled;
-          legal = legal;
-          world = world;
           at = l;
           found = tt;
           wrote = stands-there start s.words (places.Translation p) (trans_word t) r.wide.0 l;
-          leaves = lock-quiet v v.seats v.loads (mapped p t v) v.drafts;
-          calls = λ o x. (r.blocks.away id v o there x).1;
-          holds = λ q owns. owns;
-          members = λ q _. refl;
-          next = next;
-          contents = words;
-          knows = λ q. subst (λ (y : ℕ → Page). KnowsPage (seat_of v q) (upd (put_at no_held v.held) p (record (held_at v p) { mapping = t }) q) (y q)) (sym pages) (knows-mapped t q);
-          drafted = λ q owns. known.drafts q owns ∙ draft-is start r.releases r.drafts q;
-          loaded = ([], refl, tt);
         })
+        legal world next
+        (λ q. subst (λ (y : ℕ → Page). KnowsPage (seat_of v q) (upd (put_at no_held v.held) p (record (held_at v p) { mapping = t }) q) (y q)) (sym pages) (knows-mapped t q))
+        words
 
-    -- the table's start is the one that the pass knows
-    pub telling : v.start.tells ≡ true → start.tells ≡ true
-    telling t = sym (ap (λ (o : Origin). o.tells) (r.heard id v there live).same_start) ∙ t
+    -- ---- a page is put into a frame of the pass
 
-    pub tells-told : start.tells ≡ true → v.start.tells ≡ true
-    tells-told t = ap (λ (o : Origin). o.tells) (r.heard id v there live).same_start ∙ t
+    module _ (f : ℕ) (may : MayPutInto v p f) where
+      pub install-legal : p < start.pages → f < start.frames → Legal core (Install id p f)
+      install-legal l lf =
+          let calls : may_call (seat_of v p) ≡ true = rw may.owns refl in
+          let k = (known.knows p).calls calls in
+          record {
+            names = record { actor = at-bound s.views id v there; page = l };
+            frame = lf;
+            holds = held-here stored start s id f v there ∙ may.holds;
+            page = record {
+              owns = ap (λ (y : Seat). y.exclusive) (seat-here stored start s id p v l there) ∙ may.owns;
+              empty = sym k.0 ∙ may.empty;
+              loaded = λ t. sym (known.contents f may.holds) ∙ may.loaded (ap (λ (o : Origin). o.tells) (r.heard id v there live).same_start ∙ t) ∙ k.2;
+            };
+          }
 
--- another number than the first stands behind it
-has-other : (g f : ℕ) (l : List ℕ) → g ≢ f → has g (f ∷ l) ≡ has g l
-has-other g f l ne = rw (ne_eqb g f ne) refl
+      pub install-shows : p < start.pages → f < start.frames → f < 2 ^ 32
+          → Shows stored keeps tied start tells s r id v (words_with (Some (clean_in f))) r.drafts [] [] (did_store (places.Translation p) (trans_word (Some (clean_in f)))) (installed_view p f v) (Install id p f)
+      install-shows l lf small =
+          let t : Option Mapping = Some (clean_in f) in
+          let inner : View X = installed_view p f v in
+          mapping-shows l t (without f v.frames) v.contents (Install id p f) (fits f false small) (install-legal l lf)
+          (install-step stored start s r.releases r.drafts id v (view_then t inner) p f (trans_word t) r.wide.0 l there refl refl refl (fits f false small) (λ h. has-left f h v.frames))
+          refl refl
+          (λ g x. known.contents g (has-without f g v.frames x))
 
-module _ {X B : Type 0} (stored : B → Stored) (keeps : Start → Kept X → Type 0) (tied : Start → ℕ → List ℕ → ℕ → List ℕ → Type 0) (start : Origin) (tells : Bool) (s : Table (Option B) (View X)) (r : Ruled stored keeps tied start tells s) (id : ℕ) (v : View X) (p : ℕ) (there : get_elem? s.views id ≡ some v) (live : v.live ≡ true) where
-  abbrev install-core : State
-  install-core = core_shown stored start s
+    -- ---- a clean page is taken out of its frame
 
-  abbrev install-old : World
-  install-old = world_of stored start r.releases r.drafts s
+    module _ (f : ℕ) (stands : StandsClean v p f) where
+      pub clear-known : (p < start.pages) × ((core.pages p).trans ≡ Some (clean_in f))
+      clear-known = stands-called stored keeps tied start tells s r id v there live p (clean_in f) (rw stands.owns refl) stands.stands
 
-  install-known : KnowsPages tied start install-old (is_pending s.views) v
-  install-known = r.known id v there live
+      pub clear-legal : Legal core (Clear id p)
+      clear-legal = (
+        record { actor = at-bound s.views id v there; page = clear-known.0 },
+        (f, record { owns = ap (λ (y : Seat). y.exclusive) (seat-here stored start s id p v clear-known.0 there) ∙ stands.owns; stands = clear-known.1 }),
+      )
 
-  -- ---- a page is put into a frame of the pass
+      -- the frames held, with the one that comes
+      pub frames-gained : (h : ℕ) → has h (f ∷ v.frames) ≡ gains (λ k. has k v.frames) (core.pages p).trans h
+      unfolding upd
+      frames-gained h = either-way (h == f) (has h v.frames) ∙ ap (λ o. gains (λ k. has k v.frames) o h) (sym clear-known.1)
 
-  module _ (f : ℕ) (may : MayPutInto v p f) where
-    pub install-legal : p < start.pages → f < start.frames → Legal install-core (Install id p f)
-    install-legal l lf =
-        let calls : may_call (seat_of v p) ≡ true = rw may.owns refl in
-        let k = (install-known.knows p).calls calls in
+      pub clear-shows : Shows stored keeps tied start tells s r id v (words_with None) r.drafts [] [] (did_store (places.Translation p) (trans_word None)) (cleared_view p f (core.words f) v) (Clear id p)
+      clear-shows =
+          let inner : View X = cleared_view p f (core.words f) v in
+          mapping-shows clear-known.0 None (f ∷ v.frames) (put f (core.words f) v.contents) (Clear id p) mapping-none clear-legal
+          (clear-step stored start s r.releases r.drafts id v (view_then None inner) p 0 r.wide.0 clear-known.0 there refl refl refl mapping-none frames-gained)
+          refl refl
+          (λ g x. ⊎_elim
+          (λ e. ap (upd (put_at [] v.contents) f (core.words f)) e ∙ upd-same (put_at [] v.contents) f (core.words f) ∙ ap core.words (sym e))
+          (λ ne. upd-other (put_at [] v.contents) f (core.words f) g ne ∙ known.contents g (sym (has-other g f v.frames ne) ∙ x))
+          (cases_eq g f))
+
+      -- it tells of the one frame that the page can stand in
+      pub clear-told : Brings (did_store (places.Translation p) (trans_word None)) [] [] v (cleared_view p f (core.words f) v) (view_then None (cleared_view p f (core.words f) v))
+          → (g : ℕ) → StandsClean v p g → ClearTold p g v (view_then None (cleared_view p f (core.words f) v))
+      clear-told brings g also =
+          let w : View X = view_then None (cleared_view p f (core.words f) v) in
+          let calls : may_call (seat_of v p) ≡ true = rw stands.owns refl in
+          let told : ClearTold p f v w = record {
+            words = core.words f;
+            brings = brings;
+            size = r.inv.words f;
+            stood = λ t. ((r.inv.pages p).contents (sym (ap (λ (o : Origin). o.tells) (r.heard id v there live).same_start) ∙ t)).clean (clean_in f) clear-known.1 refl ∙ sym ((known.knows p).calls calls).2;
+            inside = subst (λ (o : Origin). f < o.frames) (sym (r.heard id v there live).same_start) (frame-inside stored keeps tied start tells s r p (clean_in f) clear-known.1);
+            new = false_from_ne_true (has f v.frames) (λ mine. true≢false (sym (ap (λ o. stands_in o f) clear-known.1 ∙ eq-eqb f f refl) ∙ stands-nowhere old f id p r.inv (held-here stored start s id f v there ∙ mine)));
+          } in
+          subst (λ h. ClearTold p h v w) (ap (λ (y : Mapping). y.frame) (some-same (clean_in f) (clean_in g) (sym stands.stands ∙ also.stands))) told
+
+    -- the word that is written says so of the frame that it stands in
+    pub remaps : (f : ℕ) (was dirty : Bool) → p < start.pages → (core.pages p).trans ≡ in_frame f was
+        → (mapping_of (trans_word (in_frame f dirty)) ≡ in_frame f dirty) × (mapping_of (trans_word (in_frame f dirty)) ≡ with_dirty dirty (core.pages p).trans)
+    remaps f was dirty l stood =
+        let says : mapping_of (trans_word (in_frame f dirty)) ≡ in_frame f dirty = fits f dirty (frame-small _ f was (sym (translation-here stored start s p l) ∙ stood)) in
+        (says, says ∙ sym (ap (with_dirty dirty) stood))
+
+    -- it stays in its frame
+    remapped-shows : (f : ℕ) (was dirty : Bool) (e : Event) → p < start.pages → (core.pages p).trans ≡ in_frame f was → Legal core e
+        → (mapping_of (trans_word (in_frame f dirty)) ≡ with_dirty dirty (core.pages p).trans
+        → world_of stored start r.releases r.drafts (became stored keeps tied start tells s (words_with (in_frame f dirty)) id (view_then (in_frame f dirty) (view_with (in_frame f dirty) v.frames v.contents))) ≡ world_after old e)
+        → (world_after old e).core.pages ≡ upd core.pages p (record (core.pages p) { trans = with_dirty dirty (core.pages p).trans })
+        → (world_after old e).core.next ≡ core.next
+        → ((g : ℕ) → (world_after old e).core.words g ≡ core.words g)
+        → Shows stored keeps tied start tells s r id v (words_with (in_frame f dirty)) r.drafts [] [] (did_store (places.Translation p) (trans_word (in_frame f dirty))) (view_with (in_frame f dirty) v.frames v.contents) e
+    remapped-shows f was dirty e l stood legal world pages next words =
+        let says = remaps f was dirty l stood in
+        mapping-shows l (in_frame f dirty) v.frames v.contents e says.0 legal (world says.1)
+        (pages ∙ ap (λ o. upd core.pages p (record (core.pages p) { trans = o })) (ap (with_dirty dirty) stood))
+        next
+        (λ g x. known.contents g x ∙ sym (words g))
+
+    module _ (f : ℕ) (stands : StandsIn v p f) where
+      pub dirty-known : (p < start.pages) × ((core.pages p).trans ≡ in_frame f stands.dirty)
+      dirty-known = stands-called stored keeps tied start tells s r id v there live p (record { frame = f; dirty = stands.dirty }) (rw stands.owns refl) stands.stands
+
+      pub dirty-legal : Legal core (Dirty id p)
+      dirty-legal = (
+        record { actor = at-bound s.views id v there; page = dirty-known.0 },
+        record { owns = ap (λ (y : Seat). y.exclusive) (seat-here stored start s id p v dirty-known.0 there) ∙ stands.owns; resident = subst IsSome (sym dirty-known.1) refl },
+      )
+
+      pub dirty-shows : Shows stored keeps tied start tells s r id v (words_with (Some (dirty_in f))) r.drafts [] [] (did_store (places.Translation p) (trans_word (Some (dirty_in f)))) (dirty_view p f v) (Dirty id p)
+      dirty-shows =
+          remapped-shows f stands.dirty true (Dirty id p) dirty-known.0 dirty-known.1 dirty-legal
+          (dirty-step stored start s r.releases r.drafts id v (view_then (Some (dirty_in f)) (dirty_view p f v)) p (trans_word (Some (dirty_in f))) r.wide.0 dirty-known.0 there refl refl refl refl)
+          refl refl (λ g. refl)
+
+    module _ (f : ℕ) (may : IsWritten v p f) where
+      -- the pass has a share of it, so it is not locked and its last words stand in its frame
+      pub clean-known : (p < start.pages) × ((core.pages p).trans ≡ in_frame f may.dirty)
+      clean-known = stands-called stored keeps tied start tells s r id v there live p (record { frame = f; dirty = may.dirty }) (or_right (seat_of v p).exclusive (seat_of v p).writing may.writes) may.stands
+
+      writes-here : ((core.pages p).seats id).writing ≡ true
+      writes-here = ap (λ (y : Seat). y.writing) (seat-here stored start s id p v clean-known.0 there) ∙ may.writes
+
+      shares : 1 ≤ (seat_of v p).shares
+      shares = subst (λ (y : Seat). 1 ≤ y.shares) (seat-here stored start s id p v clean-known.0 there) ((r.inv.pages p).locks.writer id writes-here).0
+
+      stored-words : start.tells ≡ true → (core.pages p).block ≡ core.words f
+      stored-words t =
+          let unlocked : (core.pages p).state ≢ LOCKED = (λ e. let below : (core.pages p).state < LOCKED = (shared-here stored start s id p v (r.inv.pages p).locks clean-known.0 there shares).1 in omega (arith, below, e)) in
+          sym ((known.knows p).calls (or_right (seat_of v p).exclusive (seat_of v p).writing may.writes)).2
+          ∙ may.stored (ap (λ (o : Origin). o.tells) (r.heard id v there live).same_start ∙ t)
+          ∙ ap (λ (y : Version). y.words) (known.latest p (inr shares))
+          ∙ sym (((r.inv.pages p).contents t).logical unlocked (record { frame = f; dirty = may.dirty }) clean-known.1)
+
+      pub clean-legal : Legal core (Clean id p)
+      clean-legal = (
+        record { actor = at-bound s.views id v there; page = clean-known.0 },
         record {
-          names = record { actor = at-bound s.views id v there; page = l };
-          frame = lf;
-          holds = held-here stored start s id f v there ∙ may.holds;
-          page = record {
-            owns = ap (λ (y : Seat). y.exclusive) (seat-here stored start s id p v l there) ∙ may.owns;
-            empty = sym k.0 ∙ may.empty;
-            loaded = λ t. sym (install-known.contents f may.holds) ∙ may.loaded (tells-told stored keeps tied start tells s r id v p there live t) ∙ k.2;
-          };
-        }
+          writes = writes-here;
+          resident = subst IsSome (sym clean-known.1) refl;
+          stored = λ t m e. stored-words t ∙ ap core.words (ap (λ (y : Mapping). y.frame) (some-same (record { frame = f; dirty = may.dirty }) m (sym clean-known.1 ∙ e)));
+        },
+      )
 
-    pub install-shows : p < start.pages → f < start.frames → f < 2 ^ 32
-        → Shows stored keeps tied start tells s r id v (words_with stored keeps tied start tells s r id v p (Some (clean_in f))) r.drafts [] [] (did_store (places.Translation p) (trans_word (Some (clean_in f)))) (installed_view p f v) (Install id p f)
-    install-shows l lf small =
-        let t : Option Mapping = Some (clean_in f) in
-        let inner : View X = installed_view p f v in
-        mapping-shows stored keeps tied start tells s r id v p there live l t (without f v.frames) v.contents (Install id p f) (fits f false small) (install-legal l lf)
-        (install-step stored start s r.releases r.drafts id v (view_then stored keeps tied start tells s r id v p t inner) p f (trans_word t) r.wide.0 l there refl refl refl (fits f false small) (λ h. has-left f h v.frames))
-        refl refl
-        (λ g x. install-known.contents g (has-without f g v.frames x))
+      pub clean-shows : Shows stored keeps tied start tells s r id v (words_with (Some (clean_in f))) r.drafts [] [] (did_store (places.Translation p) (trans_word (Some (clean_in f)))) (clean_view p f v) (Clean id p)
+      clean-shows =
+          remapped-shows f may.dirty false (Clean id p) clean-known.0 clean-known.1 clean-legal
+          (clean-step stored start s r.releases r.drafts id v (view_then (Some (clean_in f)) (clean_view p f v)) p (trans_word (Some (clean_in f))) r.wide.0 clean-known.0 there refl refl refl refl)
+          refl refl (λ g. refl)
 
-  -- ---- a clean page is taken out of its frame
+module _ {X B : Type 0} (stored : B → Stored) (keeps : Start → Kept X → Type 0) (tied : Start → ℕ → List ℕ → ℕ → List ℕ → Type 0) (tells : Bool) (shape : Shape) (slots id : ℕ) (v : View X) (i : ℕ) (p x : ℕ) (live : v.live ≡ true) (number : 0 < length v.used) (is : IsPlacedAt shape (places.Translation p) i) where
+  -- the step that leaves this word, on a table that meets the rule: the view and the event that it shows, and that it tells what it is to tell
+  pub record Remaps (t : Option Mapping) (Told : View X → View X → Type 0) (start : Origin) (s : Table (Option B) (View X)) (r : Ruled stored keeps tied start tells s) : Type 0 where
+    pub inner : View X
+    pub event : Event
+    pub actor : actor_of event ≡ id
+    pub shows : Shows stored keeps tied start tells s r id v (words_with stored keeps tied start tells s r id v p t) r.drafts [] [] (did_store (places.Translation p) (trans_word t)) inner event
+    pub tells_it : Brings (did_store (places.Translation p) (trans_word t)) [] [] v inner (view_then stored keeps tied start tells s r id v p t inner) → Told v (view_then stored keeps tied start tells s r id v p t inner)
 
-  module _ (f : ℕ) (stands : StandsClean v p f) where
-    pub clear-known : (p < start.pages) × ((install-core.pages p).trans ≡ Some (clean_in f))
-    clear-known = stands-called stored keeps tied start tells s r id v there live p (clean_in f) (rw stands.owns refl) stands.stands
+  -- so it is allowed on every table that stands
+  mapping-allows : (t : Option Mapping) (Told : View X → View X → Type 0) → x ≡ trans_word t → ((w : View X) → Told v w → IsFit w)
+      → ((start : Origin) → HasShape shape start → (s : Table (Option B) (View X)) (r : Ruled stored keeps tied start tells s) → get_elem? s.views id ≡ some v → Remaps t Told start s r)
+      → AllowsStep (Stands stored keeps tied shape tells) slots id v i (λ _. x) (told_of shape tells (λ _. Told))
+  mapping-allows t Told spells fits remaps =
+      allows stored keeps tied shape tells slots id v i (places.Translation p) (λ _. x) (λ _. trans_word t) (λ _. Told) live is (λ _. spells) (λ _. fits)
+      (λ start has s r there _.
+      let m = remaps start has s r there in
+      let k = steps stored keeps tied start tells s r id v (words_with stored keeps tied start tells s r id v p t) r.drafts [] [] (did_store (places.Translation p) (trans_word t)) m.inner m.event there live number m.actor refl m.shows in
+      (view_then stored keeps tied start tells s r id v p t m.inner, k.0, m.tells_it k.1))
 
-    pub clear-legal : Legal install-core (Clear id p)
-    clear-legal = (
-      record { actor = at-bound s.views id v there; page = clear-known.0 },
-      (f, record { owns = ap (λ (y : Seat). y.exclusive) (seat-here stored start s id p v clear-known.0 there) ∙ stands.owns; stands = clear-known.1 }),
-    )
+  pub install-allows : (f : ℕ) → p < shape.pages → f < shape.frames → f < 2 ^ 32 → MayPutInto v p f → x ≡ trans_word (Some (clean_in f)) → AllowsStep (Stands stored keeps tied shape tells) slots id v i (λ _. x) (told_of shape tells (λ _. InstallTold p f))
+  install-allows f l lf small may spells =
+      mapping-allows (Some (clean_in f)) (InstallTold p f) spells (λ w t. fit t.brings live)
+      (λ start has s r there. record {
+        inner = installed_view p f v;
+        event = Install id p f;
+        actor = refl;
+        shows = install-shows stored keeps tied start tells s r id v p there live f may (subst (λ n. p < n) (sym has.pages) l) (subst (λ n. f < n) (sym has.frames) lf) small;
+        tells_it = λ b. record { brings = b };
+      })
 
-    -- the frames held, with the one that comes
-    pub frames-gained : (h : ℕ) → has h (f ∷ v.frames) ≡ gains (λ k. has k v.frames) (install-core.pages p).trans h
-    unfolding upd
-    frames-gained h = either-way (h == f) (has h v.frames) ∙ ap (λ o. gains (λ k. has k v.frames) o h) (sym clear-known.1)
+  pub clear-allows : (f : ℕ) → StandsClean v p f → x ≡ trans_word None → AllowsStep (Stands stored keeps tied shape tells) slots id v i (λ _. x) (told_of shape tells (λ _ v w. (g : ℕ) → StandsClean v p g → ClearTold p g v w))
+  clear-allows f stands spells =
+      mapping-allows None (λ v w. (g : ℕ) → StandsClean v p g → ClearTold p g v w) spells (λ w t. fit (t f stands).brings live)
+      (λ start has s r there. record { inner = _; event = Clear id p; actor = refl; shows = clear-shows stored keeps tied start tells s r id v p there live f stands; tells_it = clear-told stored keeps tied start tells s r id v p there live f stands })
 
-    pub clear-shows : Shows stored keeps tied start tells s r id v (words_with stored keeps tied start tells s r id v p None) r.drafts [] [] (did_store (places.Translation p) (trans_word None)) (cleared_view p f (install-core.words f) v) (Clear id p)
-    clear-shows =
-        let inner : View X = cleared_view p f (install-core.words f) v in
-        mapping-shows stored keeps tied start tells s r id v p there live clear-known.0 None (f ∷ v.frames) (put f (install-core.words f) v.contents) (Clear id p) mapping-none clear-legal
-        (clear-step stored start s r.releases r.drafts id v (view_then stored keeps tied start tells s r id v p None inner) p 0 r.wide.0 clear-known.0 there refl refl refl mapping-none frames-gained)
-        refl refl
-        (λ g x. ⊎_elim
-        (λ e. ap (upd (put_at [] v.contents) f (install-core.words f)) e ∙ upd-same (put_at [] v.contents) f (install-core.words f) ∙ ap install-core.words (sym e))
-        (λ ne. upd-other (put_at [] v.contents) f (install-core.words f) g ne ∙ install-known.contents g (sym (has-other g f v.frames ne) ∙ x))
-        (cases_eq g f))
+  pub set_dirty-allows : (f : ℕ) → StandsIn v p f → x ≡ trans_word (Some (dirty_in f)) → AllowsStep (Stands stored keeps tied shape tells) slots id v i (λ _. x) (told_of shape tells (λ _. DirtyTold p f))
+  set_dirty-allows f stands spells =
+      mapping-allows (Some (dirty_in f)) (DirtyTold p f) spells (λ w t. fit t.brings live)
+      (λ start has s r there. record { inner = dirty_view p f v; event = Dirty id p; actor = refl; shows = dirty-shows stored keeps tied start tells s r id v p there live f stands; tells_it = λ b. record { brings = b } })
 
-    -- the frame was not one of the pass's
-    frame-new : has f v.frames ≡ false
-    frame-new =
-        ⊎_elim
-        (λ mine. absurd (true≢false (sym (ap (λ o. stands_in o f) clear-known.1 ∙ eq-eqb f f refl) ∙ stands-nowhere install-old f id p r.inv (held-here stored start s id f v there ∙ mine))))
-        (λ none. none)
-        (cases_Bool (has f v.frames))
-
-    -- it tells of the one frame that the page can stand in
-    pub clear-told : Brings (did_store (places.Translation p) (trans_word None)) [] [] v (cleared_view p f (install-core.words f) v) (view_then stored keeps tied start tells s r id v p None (cleared_view p f (install-core.words f) v))
-        → (g : ℕ) → StandsClean v p g → ClearTold p g v (view_then stored keeps tied start tells s r id v p None (cleared_view p f (install-core.words f) v))
-    clear-told brings g also =
-        let w : View X = view_then stored keeps tied start tells s r id v p None (cleared_view p f (install-core.words f) v) in
-        let calls : may_call (seat_of v p) ≡ true = rw stands.owns refl in
-        let told : ClearTold p f v w = record {
-          words = install-core.words f;
-          brings = brings;
-          size = r.inv.words f;
-          stood = λ t. ((r.inv.pages p).contents (telling stored keeps tied start tells s r id v p there live t)).clean (clean_in f) clear-known.1 refl ∙ sym ((install-known.knows p).calls calls).2;
-          inside = subst (λ (o : Origin). f < o.frames) (sym (r.heard id v there live).same_start) (frame-inside stored keeps tied start tells s r p (clean_in f) clear-known.1);
-          new = frame-new;
-        } in
-        subst (λ h. ClearTold p h v w) (same-frame (clean_in f) (clean_in g) (sym stands.stands ∙ also.stands)) told
-
--- the frame that a word names has 32 bits
-named-small : (b : Bool) (low f : ℕ) (dirty was : Bool) → (low == 0 || nat_lt (2 ^ 32) low) ≡ b → mapping_at (if b then None else Some (low - 1)) dirty ≡ Some (record { frame = f; dirty = was }) → f < 2 ^ 32
-named-small true low f dirty was test e = absurd (cc)
-named-small false low f dirty was test e =
-    let frame : low - 1 ≡ f = ap (λ (y : Mapping). y.frame) (some-same (record { frame = low - 1; dirty = dirty }) (record { frame = f; dirty = was }) e) in
-    grind (arith, nat_tests, test, frame)
-
-frame-small : (word f : ℕ) (was : Bool) → mapping_of word ≡ Some (record { frame = f; dirty = was }) → f < 2 ^ 32
-unfolding frame_in
-frame-small word f was e = named-small (word % 2 ^ 63 == 0 || nat_lt (2 ^ 32) (word % 2 ^ 63)) (word % 2 ^ 63) f (is_dirty word) was refl e
-
--- who has a page under write-back may call its device
-writes-calls : (y : Seat) → y.writing ≡ true → may_call y ≡ true
-writes-calls y e = or_right y.exclusive y.writing e
-
--- the page stands in this frame
-abbrev in_frame : ℕ → Bool → Option Mapping
-in_frame f dirty = Some (record { frame = f; dirty = dirty })
-
-module _ {X B : Type 0} (stored : B → Stored) (keeps : Start → Kept X → Type 0) (tied : Start → ℕ → List ℕ → ℕ → List ℕ → Type 0) (start : Origin) (tells : Bool) (s : Table (Option B) (View X)) (r : Ruled stored keeps tied start tells s) (id : ℕ) (v : View X) (p : ℕ) (there : get_elem? s.views id ≡ some v) (live : v.live ≡ true) where
-  abbrev remap-core : State
-  remap-core = core_shown stored start s
-
-  abbrev remap-old : World
-  remap-old = world_of stored start r.releases r.drafts s
-
-  remap-known : KnowsPages tied start remap-old (is_pending s.views) v
-  remap-known = r.known id v there live
-
-  -- the word that is written says so of the frame that it stands in
-  pub remaps : (f : ℕ) (was dirty : Bool) → p < start.pages → (remap-core.pages p).trans ≡ in_frame f was
-      → (mapping_of (trans_word (in_frame f dirty)) ≡ in_frame f dirty) × (mapping_of (trans_word (in_frame f dirty)) ≡ with_dirty dirty (remap-core.pages p).trans)
-  remaps f was dirty l stood =
-      let says : mapping_of (trans_word (in_frame f dirty)) ≡ in_frame f dirty = fits f dirty (frame-small _ f was (sym (translation-here stored start s p l) ∙ stood)) in
-      (says, says ∙ sym (ap (with_dirty dirty) stood))
-
-  -- it stays in its frame
-  remapped-shows : (f : ℕ) (was dirty : Bool) (e : Event) → p < start.pages → (remap-core.pages p).trans ≡ in_frame f was → Legal remap-core e
-      → (mapping_of (trans_word (in_frame f dirty)) ≡ with_dirty dirty (remap-core.pages p).trans
-      → world_of stored start r.releases r.drafts (became stored keeps tied start tells s (words_with stored keeps tied start tells s r id v p (in_frame f dirty)) id (view_then stored keeps tied start tells s r id v p (in_frame f dirty) (view_with stored keeps tied start tells s r id v p (in_frame f dirty) v.frames v.contents))) ≡ world_after remap-old e)
-      → (world_after remap-old e).core.pages ≡ upd remap-core.pages p (record (remap-core.pages p) { trans = with_dirty dirty (remap-core.pages p).trans })
-      → (world_after remap-old e).core.next ≡ remap-core.next
-      → ((g : ℕ) → (world_after remap-old e).core.words g ≡ remap-core.words g)
-      → Shows stored keeps tied start tells s r id v (words_with stored keeps tied start tells s r id v p (in_frame f dirty)) r.drafts [] [] (did_store (places.Translation p) (trans_word (in_frame f dirty))) (view_with stored keeps tied start tells s r id v p (in_frame f dirty) v.frames v.contents) e
-  remapped-shows f was dirty e l stood legal world pages next words =
-      let says = remaps f was dirty l stood in
-      mapping-shows stored keeps tied start tells s r id v p there live l (in_frame f dirty) v.frames v.contents e says.0 legal (world says.1)
-      (pages ∙ ap (λ o. upd remap-core.pages p (record (remap-core.pages p) { trans = o })) (ap (with_dirty dirty) stood))
-      next
-      (λ g x. remap-known.contents g x ∙ sym (words g))
-
-  module _ (f : ℕ) (stands : StandsIn v p f) where
-    pub dirty-known : (p < start.pages) × ((remap-core.pages p).trans ≡ in_frame f stands.dirty)
-    dirty-known = stands-called stored keeps tied start tells s r id v there live p (record { frame = f; dirty = stands.dirty }) (rw stands.owns refl) stands.stands
-
-    pub dirty-legal : Legal remap-core (Dirty id p)
-    dirty-legal = (
-      record { actor = at-bound s.views id v there; page = dirty-known.0 },
-      record { owns = ap (λ (y : Seat). y.exclusive) (seat-here stored start s id p v dirty-known.0 there) ∙ stands.owns; resident = subst IsSome (sym dirty-known.1) refl },
-    )
-
-    pub dirty-shows : Shows stored keeps tied start tells s r id v (words_with stored keeps tied start tells s r id v p (Some (dirty_in f))) r.drafts [] [] (did_store (places.Translation p) (trans_word (Some (dirty_in f)))) (dirty_view p f v) (Dirty id p)
-    dirty-shows =
-        remapped-shows f stands.dirty true (Dirty id p) dirty-known.0 dirty-known.1 dirty-legal
-        (dirty-step stored start s r.releases r.drafts id v (view_then stored keeps tied start tells s r id v p (Some (dirty_in f)) (dirty_view p f v)) p (trans_word (Some (dirty_in f))) r.wide.0 dirty-known.0 there refl refl refl refl)
-        refl refl (λ g. refl)
-
-  module _ (f : ℕ) (may : IsWritten v p f) where
-    -- the pass has a share of it, so it is not locked and its last words stand in its frame
-    pub clean-known : (p < start.pages) × ((remap-core.pages p).trans ≡ in_frame f may.dirty)
-    clean-known = stands-called stored keeps tied start tells s r id v there live p (record { frame = f; dirty = may.dirty }) (writes-calls (seat_of v p) may.writes) may.stands
-
-    writes-here : ((remap-core.pages p).seats id).writing ≡ true
-    writes-here = ap (λ (y : Seat). y.writing) (seat-here stored start s id p v clean-known.0 there) ∙ may.writes
-
-    shares : 1 ≤ (seat_of v p).shares
-    shares = subst (λ (y : Seat). 1 ≤ y.shares) (seat-here stored start s id p v clean-known.0 there) ((r.inv.pages p).locks.writer id writes-here).0
-
-    unlocked : (remap-core.pages p).state ≢ LOCKED
-    unlocked e = let below : (remap-core.pages p).state < LOCKED = (shared-here stored start s id p v (r.inv.pages p).locks clean-known.0 there shares).1 in omega (arith, below, e)
-
-    stored-words : start.tells ≡ true → (remap-core.pages p).block ≡ remap-core.words f
-    stored-words t =
-        sym ((remap-known.knows p).calls (writes-calls (seat_of v p) may.writes)).2
-        ∙ may.stored (tells-told stored keeps tied start tells s r id v p there live t)
-        ∙ ap (λ (y : Version). y.words) (remap-known.latest p (inr shares))
-        ∙ sym (((r.inv.pages p).contents t).logical unlocked (record { frame = f; dirty = may.dirty }) clean-known.1)
-
-    pub clean-legal : Legal remap-core (Clean id p)
-    clean-legal = (
-      record { actor = at-bound s.views id v there; page = clean-known.0 },
-      record {
-        writes = writes-here;
-        resident = subst IsSome (sym clean-known.1) refl;
-        stored = λ t m e. stored-words t ∙ ap remap-core.words (same-frame (record { frame = f; dirty = may.dirty }) m (sym clean-known.1 ∙ e));
-      },
-    )
-
-    pub clean-shows : Shows stored keeps tied start tells s r id v (words_with stored keeps tied start tells s r id v p (Some (clean_in f))) r.drafts [] [] (did_store (places.Translation p) (trans_word (Some (clean_in f)))) (clean_view p f v) (Clean id p)
-    clean-shows =
-        remapped-shows f may.dirty false (Clean id p) clean-known.0 clean-known.1 clean-legal
-        (clean-step stored start s r.releases r.drafts id v (view_then stored keeps tied start tells s r id v p (Some (clean_in f)) (clean_view p f v)) p (trans_word (Some (clean_in f))) r.wide.0 clean-known.0 there refl refl refl refl)
-        refl refl (λ g. refl)
-
-module _ {X B : Type 0} (stored : B → Stored) (keeps : Start → Kept X → Type 0) (tied : Start → ℕ → List ℕ → ℕ → List ℕ → Type 0) (tells : Bool) where
-  -- the table with a translation word written, meets the rule, and the step tells
-  abbrev Keeps : (start : Origin) → Table (Option B) (View X) → ℕ → View X → ℕ → Option Mapping → (View X → View X → Type 0) → Type 0
-  Keeps start s id v p t Told =
-      (w : View X) × Ruled stored keeps tied start tells (became stored keeps tied start tells s (slice_set s.words (index_of start (places.Translation p)) (trans_word t)) id w) × Told v w
-
-  module _ (start : Origin) (s : Table (Option B) (View X)) (r : Ruled stored keeps tied start tells s) (id : ℕ) (v : View X) (p : ℕ) (there : get_elem? s.views id ≡ some v) (live : v.live ≡ true) (number : 0 < length v.used) where
-    -- a step that shows itself
-    mapping-keeps : (t : Option Mapping) (inner : View X) (e : Event) (Told : View X → View X → Type 0) → actor_of e ≡ id
-        → Shows stored keeps tied start tells s r id v (words_with stored keeps tied start tells s r id v p t) r.drafts [] [] (did_store (places.Translation p) (trans_word t)) inner e
-        → (Brings (did_store (places.Translation p) (trans_word t)) [] [] v inner (view_then stored keeps tied start tells s r id v p t inner) → Told v (view_then stored keeps tied start tells s r id v p t inner))
-        → Keeps start s id v p t Told
-    mapping-keeps t inner e Told actor sh told =
-        let k = steps stored keeps tied start tells s r id v (words_with stored keeps tied start tells s r id v p t) r.drafts [] [] (did_store (places.Translation p) (trans_word t)) inner e there live number actor refl sh in
-        (view_then stored keeps tied start tells s r id v p t inner, k.0, told k.1)
-
-    install-keeps : (f : ℕ) → p < start.pages → f < start.frames → f < 2 ^ 32 → MayPutInto v p f → Keeps start s id v p (Some (clean_in f)) (InstallTold p f)
-    install-keeps f l lf small may =
-        mapping-keeps (Some (clean_in f)) (installed_view p f v) (Install id p f) (InstallTold p f) refl (install-shows stored keeps tied start tells s r id v p there live f may l lf small) (λ b. record { brings = b })
-
-    clear-keeps : (f : ℕ) → StandsClean v p f → Keeps start s id v p None (λ v w. (g : ℕ) → StandsClean v p g → ClearTold p g v w)
-    clear-keeps f stands =
-        mapping-keeps None (cleared_view p f ((core_shown stored start s).words f) v) (Clear id p) (λ v w. (g : ℕ) → StandsClean v p g → ClearTold p g v w) refl (clear-shows stored keeps tied start tells s r id v p there live f stands)
-        (clear-told stored keeps tied start tells s r id v p there live f stands)
-
-    dirty-keeps : (f : ℕ) → StandsIn v p f → Keeps start s id v p (Some (dirty_in f)) (DirtyTold p f)
-    dirty-keeps f stands =
-        mapping-keeps (Some (dirty_in f)) (dirty_view p f v) (Dirty id p) (DirtyTold p f) refl (dirty-shows stored keeps tied start tells s r id v p there live f stands) (λ b. record { brings = b })
-
-    clean-keeps : (f : ℕ) → IsWritten v p f → Keeps start s id v p (Some (clean_in f)) (CleanTold p f)
-    clean-keeps f may =
-        mapping-keeps (Some (clean_in f)) (clean_view p f v) (Clean id p) (CleanTold p f) refl (clean-shows stored keeps tied start tells s r id v p there live f may) (λ b. record { brings = b })
-
-  module _ (shape : Shape) (slots id : ℕ) (v : View X) (i : ℕ) (p x : ℕ) (live : v.live ≡ true) (number : 0 < length v.used) (is : IsPlacedAt shape (places.Translation p) i) where
-    -- and so of every table that stands
-    mapping-allows : (t : Option Mapping) (Told : View X → View X → Type 0) → x ≡ trans_word t → ((w : View X) → Told v w → IsFit w)
-        → ((start : Origin) → HasShape shape start → (s : Table (Option B) (View X)) → Ruled stored keeps tied start tells s → get_elem? s.views id ≡ some v → Keeps start s id v p t Told)
-        → AllowsStep (Stands stored keeps tied shape tells) slots id v i (λ _. x) (told_of shape tells (λ _. Told))
-    mapping-allows t Told spells fits keeps' =
-        allows stored keeps tied shape tells slots id v i (places.Translation p) (λ _. x) (λ _. trans_word t) (λ _. Told) live is (λ _. spells) (λ _. fits) (λ start has s r there _. keeps' start has s r there)
-
-    pub install-allows : (f : ℕ) → p < shape.pages → f < shape.frames → f < 2 ^ 32 → MayPutInto v p f → x ≡ trans_word (Some (clean_in f)) → AllowsStep (Stands stored keeps tied shape tells) slots id v i (λ _. x) (told_of shape tells (λ _. InstallTold p f))
-    install-allows f l lf small may spells =
-        mapping-allows (Some (clean_in f)) (InstallTold p f) spells (λ w t. fit t.brings live)
-        (λ start has s r there. install-keeps start s r id v p there live number f (subst (λ n. p < n) (sym has.pages) l) (subst (λ n. f < n) (sym has.frames) lf) small may)
-
-    pub clear-allows : (f : ℕ) → StandsClean v p f → x ≡ trans_word None → AllowsStep (Stands stored keeps tied shape tells) slots id v i (λ _. x) (told_of shape tells (λ _ v w. (g : ℕ) → StandsClean v p g → ClearTold p g v w))
-    clear-allows f stands spells =
-        mapping-allows None (λ v w. (g : ℕ) → StandsClean v p g → ClearTold p g v w) spells (λ w t. fit (t f stands).brings live) (λ start has s r there. clear-keeps start s r id v p there live number f stands)
-
-    pub dirty-allows : (f : ℕ) → StandsIn v p f → x ≡ trans_word (Some (dirty_in f)) → AllowsStep (Stands stored keeps tied shape tells) slots id v i (λ _. x) (told_of shape tells (λ _. DirtyTold p f))
-    dirty-allows f stands spells = mapping-allows (Some (dirty_in f)) (DirtyTold p f) spells (λ w t. fit t.brings live) (λ start has s r there. dirty-keeps start s r id v p there live number f stands)
-
-    pub clean-allows : (f : ℕ) → IsWritten v p f → x ≡ trans_word (Some (clean_in f)) → AllowsStep (Stands stored keeps tied shape tells) slots id v i (λ _. x) (told_of shape tells (λ _. CleanTold p f))
-    clean-allows f may spells = mapping-allows (Some (clean_in f)) (CleanTold p f) spells (λ w t. fit t.brings live) (λ start has s r there. clean-keeps start s r id v p there live number f may)
+  pub set_clean-allows : (f : ℕ) → IsWritten v p f → x ≡ trans_word (Some (clean_in f)) → AllowsStep (Stands stored keeps tied shape tells) slots id v i (λ _. x) (told_of shape tells (λ _. CleanTold p f))
+  set_clean-allows f may spells =
+      mapping-allows (Some (clean_in f)) (CleanTold p f) spells (λ w t. fit t.brings live)
+      (λ start has s r there. record { inner = clean_view p f v; event = Clean id p; actor = refl; shows = clean-shows stored keeps tied start tells s r id v p there live f may; tells_it = λ b. record { brings = b } })
 
 module _ {X B : Type 0} (stored : B → Stored) (start : Origin) (keeps : Start → Kept X → Type 0) (tied : Start → ℕ → List ℕ → ℕ → List ℕ → Type 0) (tells : Bool) (s : Table (Option B) (View X)) (id p f : ℕ) (v w : View X) (pass : IsPassOf stored start keeps tied tells s id v) where
   -- the table with this translation of the page
   abbrev then_with : Option Mapping → Table (Option B) (View X)
   then_with t = table_after s (slice_set s.words (index_of start (places.Translation p)) (trans_word t)) id w
 
-  pub install_event : p < start.pages → f < start.frames → f < 2 ^ 32 → MayPutInto v p f → InstallTold p f v w → IsEvent stored start s (then_with (Some (clean_in f))) (Install id p f) sights.Done
-  install_event l lf small may told =
+  pub install-event : p < start.pages → f < start.frames → f < 2 ^ 32 → MayPutInto v p f → InstallTold p f v w → IsEvent stored start s (then_with (Some (clean_in f))) (Install id p f) sights.Done
+  install-event l lf small may told =
       let view = told.brings.view in
       record {
         legal = install-legal stored keeps tied start tells s pass.rule id v p pass.there pass.live f may l lf;
@@ -376,8 +303,8 @@ module _ {X B : Type 0} (stored : B → Stored) (start : Origin) (keeps : Start 
         sees = refl;
       }
 
-  pub clear_event : StandsClean v p f → ClearTold p f v w → IsEvent stored start s (then_with None) (Clear id p) sights.Done
-  clear_event stands told =
+  pub clear-event : StandsClean v p f → ClearTold p f v w → IsEvent stored start s (then_with None) (Clear id p) sights.Done
+  clear-event stands told =
       let view = told.brings.view in
       record {
         legal = clear-legal stored keeps tied start tells s pass.rule id v p pass.there pass.live f stands;
@@ -387,8 +314,8 @@ module _ {X B : Type 0} (stored : B → Stored) (start : Origin) (keeps : Start 
         sees = refl;
       }
 
-  pub dirty_event : StandsIn v p f → DirtyTold p f v w → IsEvent stored start s (then_with (Some (dirty_in f))) (Dirty id p) sights.Done
-  dirty_event stands told =
+  pub set_dirty-event : StandsIn v p f → DirtyTold p f v w → IsEvent stored start s (then_with (Some (dirty_in f))) (Dirty id p) sights.Done
+  set_dirty-event stands told =
       let view = told.brings.view in
       let known = dirty-known stored keeps tied start tells s pass.rule id v p pass.there pass.live f stands in
       record {
@@ -399,8 +326,8 @@ module _ {X B : Type 0} (stored : B → Stored) (start : Origin) (keeps : Start 
         sees = refl;
       }
 
-  pub clean_event : IsWritten v p f → CleanTold p f v w → IsEvent stored start s (then_with (Some (clean_in f))) (Clean id p) sights.Done
-  clean_event may told =
+  pub set_clean-event : IsWritten v p f → CleanTold p f v w → IsEvent stored start s (then_with (Some (clean_in f))) (Clean id p) sights.Done
+  set_clean-event may told =
       let view = told.brings.view in
       let known = clean-known stored keeps tied start tells s pass.rule id v p pass.there pass.live f may in
       record {
@@ -412,30 +339,18 @@ module _ {X B : Type 0} (stored : B → Stored) (start : Origin) (keeps : Start 
       }
 
 module _ {X : Type 0} {p f : ℕ} {v w : View X} (t : DirtyTold p f v w) where
-  abbrev pub dirty-did : Did
-  dirty-did = did_store (places.Translation p) (trans_word (Some (dirty_in f)))
+  pub dirty-others : (touched : ℕ → Type 0) → touched p → LeavesOthers touched (did_store (places.Translation p) (trans_word (Some (dirty_in f))) ∷ []) [] v w
+  dirty-others touched at = others-tied t.brings ([], refl) tt (λ q ne. refl) (λ q ne. refl) (λ q ne. upd-other (put_at no_held v.held) p _ q (apart touched at q ne)) (λ q ne. refl)
 
-  pub dirty-others : (touched : ℕ → Type 0) → touched p → LeavesOthers touched (dirty-did ∷ []) [] v w
-  dirty-others touched at = others-from t.brings tt (λ q ne. refl) (λ q ne. refl) (λ q ne. upd-other (put_at no_held v.held) p _ q (apart touched at q ne)) (λ q ne. refl)
-
-  pub dirty-own : LeavesOwn v w
-  dirty-own = own-from t.brings refl (refl, refl, refl)
-
-  pub dirty-works : Works p (dirty-did ∷ []) v w
-  dirty-works = works-one p dirty-did None v _ v.frames v.contents v.out v.notes w (λ q ne. upd-other (put_at no_held v.held) p _ q ne) t.brings
+  pub dirty-works : Works p (did_store (places.Translation p) (trans_word (Some (dirty_in f))) ∷ []) v w
+  dirty-works = works-one p (did_store (places.Translation p) (trans_word (Some (dirty_in f)))) None v _ v.frames v.contents v.out v.notes w (λ q ne. upd-other (put_at no_held v.held) p _ q ne) t.brings
 
   pub dirty-held : held_at w p ≡ record (held_at v p) { mapping = Some (dirty_in f) }
   dirty-held = ap (λ (x : View X). held_at x p) t.brings.view ∙ upd-same (put_at no_held v.held) p _
 
 module _ {X : Type 0} {p f : ℕ} {v w : View X} (t : CleanTold p f v w) where
-  abbrev pub clean-did : Did
-  clean-did = did_store (places.Translation p) (trans_word (Some (clean_in f)))
-
-  pub clean-others : (touched : ℕ → Type 0) → touched p → LeavesOthers touched (clean-did ∷ []) [] v w
-  clean-others touched at = others-from t.brings tt (λ q ne. refl) (λ q ne. refl) (λ q ne. upd-other (put_at no_held v.held) p _ q (apart touched at q ne)) (λ q ne. refl)
-
-  pub clean-works : Works p (clean-did ∷ []) v w
-  clean-works = works-one p clean-did None v _ v.frames v.contents v.out v.notes w (λ q ne. upd-other (put_at no_held v.held) p _ q ne) t.brings
+  pub clean-works : Works p (did_store (places.Translation p) (trans_word (Some (clean_in f))) ∷ []) v w
+  clean-works = works-one p (did_store (places.Translation p) (trans_word (Some (clean_in f)))) None v _ v.frames v.contents v.out v.notes w (λ q ne. upd-other (put_at no_held v.held) p _ q ne) t.brings
 
   pub clean-held : held_at w p ≡ record (held_at v p) { mapping = Some (clean_in f) }
   clean-held = ap (λ (x : View X). held_at x p) t.brings.view ∙ upd-same (put_at no_held v.held) p _
@@ -454,17 +369,8 @@ module _ {X : Type 0} {p f : ℕ} {v w : View X} (t : InstallTold p f v w) where
   install-frames = ap (λ (x : View X). x.frames) t.brings.view
 
 module _ {X : Type 0} {p f : ℕ} {v w : View X} (t : ClearTold p f v w) where
-  abbrev pub clear-did : Did
-  clear-did = did_store (places.Translation p) (trans_word None)
-
-  pub clear-works : Works p (clear-did ∷ []) v w
-  clear-works = works-one p clear-did None v _ _ _ v.out v.notes w (λ q ne. upd-other (put_at no_held v.held) p _ q ne) t.brings
+  pub clear-works : Works p (did_store (places.Translation p) (trans_word None) ∷ []) v w
+  clear-works = works-one p (did_store (places.Translation p) (trans_word None)) None v _ _ _ v.out v.notes w (λ q ne. upd-other (put_at no_held v.held) p _ q ne) t.brings
 
   pub clear-held : held_at w p ≡ record (held_at v p) { mapping = None }
   clear-held = ap (λ (x : View X). held_at x p) t.brings.view ∙ upd-same (put_at no_held v.held) p _
-
-  pub clear-frames : w.frames ≡ f ∷ v.frames
-  clear-frames = ap (λ (x : View X). x.frames) t.brings.view
-
-  pub clear-words : contents_at w f ≡ t.words
-  clear-words = ap (λ (x : View X). contents_at x f) t.brings.view ∙ upd-same (put_at [] v.contents) f _

@@ -1,17 +1,12 @@
 -- A mark that is set or taken away: it leaves all that the pass has and knows; that the table allows it, and that it is its event.
-use Rattle.std.proofs.Common.{[], ◌<◌, ◌≡◌, ap, Bool, eqb, false, if◌then◌else◌, length, List, Option, refl, slice_index, subst, sym, true, ℕ}
-use prog.Atomic.{either}
-use Rattle.vm_core.specs.Prelude.{get_elem?, MARKED, Page, some, state_of, UNLOCKED, version_of, word_of}
-use Rattle.vm_core.specs.declared.event.Event.TheVariants.{Mark, Unmark}
-use Rattle.vm_core.proofs.Upd.{each-upd}
-use Rattle.vm_rule.specs.Prelude.{actor_of, Brings, did_exchange, Event, Kept, KnowsPage, MarkTold, no_held, put_at, Ruled, seat_of, Stands, Start}
-use Rattle.vm_rule.specs.Prelude.{Stored, Table}
 use Rattle.vm_rule.specs.declared.view.Place.TheVariants as places
-use Rattle.vm_rule.proofs.Adding.{became}
-use Rattle.vm_step.specs.Prelude.{AllowsStep, IsPlacedAt, Origin, Shape, told_of, View}
-use Rattle.vm_step.specs.steps.Mark.{MarkIsItsEvent, UnmarkIsItsEvent}
 use Rattle.vm_step.proofs.{Fit.fit, Here.world, Standing.allows}
-use Rattle.vm_step.proofs.Exchange.{draft-stays, exchange-event, exchange_words, IsExchange, mark-exchange, tried, unmark-exchange, word-shows}
+use Rattle.vm_step.proofs.Exchange.{draft-stays, exchange-event, exchange-settles, exchanged_at, IsExchange, mark-exchange, tried, unmark-exchange}
+use Rattle.vm_step.proofs.Exchange.{word-shows}
+use Rattle.vm_step.proofs.Prelude.{[], actor_of, AllowsStep, ap, became, Bool, Brings, did_exchange, each-upd, either, eqb, Event, false, get_elem?}
+use Rattle.vm_step.proofs.Prelude.{if◌then◌else◌, IsPlacedAt, Kept, KnowsPage, length, List, Mark, MARKED, MarkIsItsEvent, MarkTold, no_held, Option}
+use Rattle.vm_step.proofs.Prelude.{Origin, Page, put_at, refl, Ruled, seat_of, Shape, slice_index, some, Stands, Start, state_of, Stored, subst, sym}
+use Rattle.vm_step.proofs.Prelude.{Table, told_of, true, UNLOCKED, Unmark, UnmarkIsItsEvent, version_of, View, word_of, ℕ, ◌<◌, ◌≡◌}
 
 -- taken or lost, it leaves the view
 pub same-either : {A : Type 0} (x : A) (b : Bool) → (if b then x else x) ≡ x
@@ -22,18 +17,19 @@ module _ {X B : Type 0} (stored : B → Stored) (keeps : Start → Kept X → Ty
     (id : ℕ) (v : View X) (there : get_elem? s.views id ≡ some v) (live : v.live ≡ true) (number : 0 < length v.used) (p expects : ℕ) (l : p < start.pages) where
   -- an event that changes the state of the page alone, taken or lost, keeps the rule and tells what it is to tell
   pub mark-tells : (x state : ℕ) (e : Event) → actor_of e ≡ id → IsExchange stored start s r.releases r.drafts id p expects x r.drafts v e (record ((world stored keeps tied start tells s r).core.pages p) { state = state })
-      → (w : View X) × Ruled stored keeps tied start tells (became stored keeps tied start tells s (exchange_words stored keeps tied start tells s r id v there live number p expects x l) id w) × MarkTold p expects (slice_index s.words p) x v w
+      → (w : View X) × Ruled stored keeps tied start tells (became stored keeps tied start tells s (exchanged_at stored keeps tied start tells s r id v there live number (places.State p) expects x l) id w) × MarkTold p expects (slice_index s.words p) x v w
   mark-tells x state e actor is =
       let y : Page = record ((world stored keeps tied start tells s r).core.pages p) { state = state } in
       let k = tried stored keeps tied start tells s r id v there live number p expects x l r.drafts v e y actor is
-      (λ hit. word-shows stored keeps tied start tells s r id v there live p expects x l hit e y v.seats v.loads v.held v.drafts r.drafts is
+      (λ hit. word-shows stored keeps tied start tells s r id v there live p l (did_exchange (places.State p) expects (slice_index s.words p) x) x r.drafts e y v.seats v.loads v.held v.drafts
+      (exchange-settles stored keeps tied start tells s r id v there live p l expects x hit r.drafts v e y is)
       (λ o out. (r.blocks.away id v o there out).1)
       (λ q m. m)
       (each-upd (λ q z. KnowsPage (seat_of v q) (put_at no_held v.held q) z) (world stored keeps tied start tells s r).core.pages p y
       (let known = (r.known id v there live).knows p in record { calls = known.calls; shares = known.shares })
       (λ q ne. (r.known id v there live).knows q))
       (λ q m. refl)
-      (draft-stays stored keeps tied start tells s r id v there live p expects x l hit)) in (
+      (draft-stays stored keeps tied start tells s r id v there live p l)) in (
         k.0,
         k.1.rule,
         record { brings = subst (λ (y : View X). Brings (did_exchange (places.State p) expects (slice_index s.words p) x) [] [] v y k.0) (same-either v (eqb (slice_index s.words p) expects)) k.1.brings; version = k.1.version; since = k.1.since; older = k.1.older },
@@ -41,27 +37,27 @@ module _ {X B : Type 0} (stored : B → Stored) (keeps : Start → Kept X → Ty
 
 module _ {X B : Type 0} (stored : B → Stored) (keeps : Start → Kept X → Type 0) (tied : Start → ℕ → List ℕ → ℕ → List ℕ → Type 0) (shape : Shape) (tells : Bool) where
   -- so it does of every table that stands: where the mark is set, and where it is taken away
-  pub mark_allows : (slots id : ℕ) (v : View X) (i : ℕ) (p expects x : ℕ) → v.live ≡ true → 0 < length v.used → p < shape.pages → state_of expects ≡ UNLOCKED → x ≡ (word_of MARKED (version_of expects)) → IsPlacedAt shape (places.State p) i
+  pub mark-allows : (slots id : ℕ) (v : View X) (i : ℕ) (p expects x : ℕ) → v.live ≡ true → 0 < length v.used → p < shape.pages → state_of expects ≡ UNLOCKED → x ≡ (word_of MARKED (version_of expects)) → IsPlacedAt shape (places.State p) i
       → AllowsStep (Stands stored keeps tied shape tells) slots id v i (λ n. either (eqb n expects) x n) (told_of shape tells (λ n v w. MarkTold p expects n (word_of MARKED (version_of expects)) v w))
-  mark_allows slots id v i p expects x live number l may spells is =
+  mark-allows slots id v i p expects x live number l may spells is =
       allows stored keeps tied shape tells slots id v i (places.State p) (λ n. either (eqb n expects) x n) (λ n. either (eqb n expects) (word_of MARKED (version_of expects)) n) (λ n v w. MarkTold p expects n (word_of MARKED (version_of expects)) v w) live is (λ n. ap (λ z. either (eqb n expects) z n) spells) (λ n w t. fit t.brings live)
       (λ start has s r there _.
       mark-tells stored keeps tied start tells s r id v there live number p expects (subst (λ n. p < n) (sym has.pages) l) (word_of MARKED (version_of expects)) MARKED (Mark id p expects) refl
       (mark-exchange stored start s r.releases r.drafts id v p expects r.wide.0 (subst (λ n. p < n) (sym has.pages) l) there may))
 
-  pub unmark_allows : (slots id : ℕ) (v : View X) (i : ℕ) (p expects x : ℕ) → v.live ≡ true → 0 < length v.used → p < shape.pages → state_of expects ≡ MARKED → x ≡ (word_of UNLOCKED (version_of expects)) → IsPlacedAt shape (places.State p) i
+  pub unmark-allows : (slots id : ℕ) (v : View X) (i : ℕ) (p expects x : ℕ) → v.live ≡ true → 0 < length v.used → p < shape.pages → state_of expects ≡ MARKED → x ≡ (word_of UNLOCKED (version_of expects)) → IsPlacedAt shape (places.State p) i
       → AllowsStep (Stands stored keeps tied shape tells) slots id v i (λ n. either (eqb n expects) x n) (told_of shape tells (λ n v w. MarkTold p expects n (word_of UNLOCKED (version_of expects)) v w))
-  unmark_allows slots id v i p expects x live number l may spells is =
+  unmark-allows slots id v i p expects x live number l may spells is =
       allows stored keeps tied shape tells slots id v i (places.State p) (λ n. either (eqb n expects) x n) (λ n. either (eqb n expects) (word_of UNLOCKED (version_of expects)) n) (λ n v w. MarkTold p expects n (word_of UNLOCKED (version_of expects)) v w) live is (λ n. ap (λ z. either (eqb n expects) z n) spells) (λ n w t. fit t.brings live)
       (λ start has s r there _.
       mark-tells stored keeps tied start tells s r id v there live number p expects (subst (λ n. p < n) (sym has.pages) l) (word_of UNLOCKED (version_of expects)) UNLOCKED (Unmark id p expects) refl
       (unmark-exchange stored start s r.releases r.drafts id v p expects r.wide.0 (subst (λ n. p < n) (sym has.pages) l) there may))
 
 module _ {X B : Type 0} (stored : B → Stored) (keeps : Start → Kept X → Type 0) (tied : Start → ℕ → List ℕ → ℕ → List ℕ → Type 0) (tells : Bool) where
-  pub mark_event : MarkIsItsEvent stored keeps tied tells
-  mark_event start s id p expects found v w pass at may told =
-      exchange-event stored start keeps tied tells s id p expects found _ _ _ v _ w _ _ pass at (mark-exchange stored start s [] (λ _. []) id v p expects pass.rule.wide.0 at.0 pass.there may) (subst (λ (y : View X). Brings (did_exchange (places.State p) expects found (word_of MARKED (version_of expects))) [] [] v y w) (sym (same-either v (eqb found expects))) told.brings)
+  pub mark-event : MarkIsItsEvent stored keeps tied tells
+  mark-event start s id p expects found v w pass at may told =
+      exchange-event stored start keeps tied tells s id p expects found _ _ _ v _ w _ _ pass at (mark-exchange stored start s [] (λ _. []) id v p expects pass.rule.wide.0 at.0 pass.there may) (subst (λ (y : View X). Brings (did_exchange (places.State p) expects found (word_of MARKED (version_of expects))) [] [] v y w) (sym (same-either v (eqb found expects))) told.brings) refl
 
-  pub unmark_event : UnmarkIsItsEvent stored keeps tied tells
-  unmark_event start s id p expects found v w pass at may told =
-      exchange-event stored start keeps tied tells s id p expects found _ _ _ v _ w _ _ pass at (unmark-exchange stored start s [] (λ _. []) id v p expects pass.rule.wide.0 at.0 pass.there may) (subst (λ (y : View X). Brings (did_exchange (places.State p) expects found (word_of UNLOCKED (version_of expects))) [] [] v y w) (sym (same-either v (eqb found expects))) told.brings)
+  pub unmark-event : UnmarkIsItsEvent stored keeps tied tells
+  unmark-event start s id p expects found v w pass at may told =
+      exchange-event stored start keeps tied tells s id p expects found _ _ _ v _ w _ _ pass at (unmark-exchange stored start s [] (λ _. []) id v p expects pass.rule.wide.0 at.0 pass.there may) (subst (λ (y : View X). Brings (did_exchange (places.State p) expects found (word_of UNLOCKED (version_of expects))) [] [] v y w) (sym (same-either v (eqb found expects))) told.brings) refl

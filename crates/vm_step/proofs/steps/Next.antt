@@ -2,154 +2,34 @@
 -- their events.
 --
 -- What a step on the next word leaves: it speaks of no page. A load tells the next page to who holds it; a claim owes pages.
-use Rattle.std.specs.Int.{div_ceil}
-use Rattle.std.proofs.Common.{[], ⊎_elim, ◌*◌, ◌++◌, ◌+◌, ◌<◌, ◌||◌, ◌∙◌, ◌∷◌, ◌≡◌, ◌≤◌, ◌⊎◌, ap, arith, Bool, eq-eqb, eqb, false, if◌then◌else◌, inl}
-use Rattle.std.proofs.Common.{inr, IsSome, length, length-set, List, ne_eqb, None, Option, refl, replicate, slice_index, slice_set, Some, subst, sym}
-use Rattle.std.proofs.Common.{true, true≢false, ℕ}
-use Rattle.std.proofs.lemmas.Bool.{cases_Bool, cases_eq, false≢true}
-use mathlib.Core.Path.{fun_ext}
-use prog.Atomic.{either}
-use Rattle.atomic_table.proofs.Lists.{set_here}
-use Rattle.vm_core.specs.Prelude.{after_event, get_elem?, Legal, Page, some, State, Version, World, world_after}
-use Rattle.vm_core.specs.{declared.event.Event.TheVariants.Claim, declared.event.Event.TheVariants.NLoad, declared.event.Seen.Seen}
+use Rattle.std.proofs.Common.{eq-eqb}
 use Rattle.vm_core.specs.declared.event.Seen.TheVariants as sights
-use Rattle.vm_owner.specs.Kept.{AreZero}
 use Rattle.vm_owner.proofs.NumberLemmas.{has-both}
-use Rattle.vm_rule.specs.Prelude.{ArePlain, at_next, began_of, Brings, bundles_of, chosen, claimed, claimed_view, ClaimTold, core_shown, did_exchange}
-use Rattle.vm_rule.specs.Prelude.{did_load, Event, has, histories_of, index_of, is_owed, is_pending, IsFoundAt, Kept, kept_of, KnowsPage, KnowsPages}
-use Rattle.vm_rule.specs.Prelude.{last_in, listed, logical, may_call, next_view, NextTold, no_held, numbers, put_at, Ruled, Seat, seat_of, Stands}
-use Rattle.vm_rule.specs.Prelude.{Start, Stored, Table, WasNext, WereWords, width, Within, world_of}
-use Rattle.vm_rule.specs.{declared.view.Place.Place, Nexts.IsLatest, Nexts.NextStepTold}
 use Rattle.vm_rule.specs.declared.view.Place.TheVariants as places
-use Rattle.vm_rule.proofs.{Bringing.steps, Entries.append-none, Entries.each-map, Facts.any-here, Facts.any-true, FrameWorlds.claim-step}
-use Rattle.vm_rule.proofs.{FrameWorlds.lost-claim, Views.any-same, Views.at-bound}
-use Rattle.vm_rule.proofs.Adding.{after_step, became, Shows}
-use Rattle.vm_rule.proofs.Found.{next-here, same-word, seat-here}
-use Rattle.vm_rule.proofs.Worlds.{core-still, draft-is, world-still}
-use Rattle.vm_step.specs.Prelude.{AllowsStep, Did, exchange_sees, exchanged, IsEvent, IsPassOf, IsPlacedAt, Origin, PassMayClaim, Shape, table_after}
-use Rattle.vm_step.specs.Prelude.{told_of, View}
-use Rattle.vm_step.specs.{Events.FindsAt, steps.CatchUp.CatchUpIsItsEvent, steps.Next.ClaimIsItsEvent, steps.Next.NloadIsItsEvent}
-use Rattle.vm_step.specs.{steps.Pass.FollowIsItsEvent}
-use Rattle.vm_step.proofs.{Evidenced.taken-view, Fit.either-lives, Fit.fit, Here.last-told, Here.world, Logical.page-kept, Logical.pages-kept}
-use Rattle.vm_step.proofs.{Mine.member-mine, OwedPages.claimed-chosen, Standing.allows, steps.Leaving.LeavesOthers, steps.Leaving.others-from}
-use Rattle.vm_step.proofs.{Written.spelled-still, Written.stands-there}
-use Rattle.vm_step.proofs.Exchange.{exchanged_at, lost-at, taken-at}
+use Rattle.vm_step.proofs.{Evidenced.taken-view, Exchange.exchange-tells, Exchange.tried-event, Fit.either-lives, Fit.fit, Here.last-told, Here.world}
+use Rattle.vm_step.proofs.{Logical.page-kept, Logical.pages-kept, Mine.member-mine, OwedPages.claimed-chosen, Quiet.event-shows, Standing.allows}
+use Rattle.vm_step.proofs.{Standing.allows-load, steps.Leaving.LeavesOthers, steps.Leaving.others-tied, Written.word-left, Written.word-loaded}
 use Rattle.vm_step.proofs.Numbers.{all-zeros, claimed-is, has-numbers, numbers-has}
-
-module _ {X B : Type 0} (stored : B → Stored) (keeps : Start → Kept X → Type 0) (tied : Start → ℕ → List ℕ → ℕ → List ℕ → Type 0) (start : Origin) (tells : Bool) (s : Table (Option B) (View X)) (r : Ruled stored keeps tied start tells s) (id : ℕ) (v : View X) (words : List ℕ) (did : Did) (owed : List ℕ) (next : Option ℕ) (e : Event) where
-  abbrev inner : View X
-  inner = record v { owed = owed; next = next }
-
-  abbrev after : View X
-  after = after_step stored keeps tied start tells s r words [] [] did inner
-
-  abbrev new : Table (Option B) (View X)
-  new = became stored keeps tied start tells s words id after
-
-  abbrev old : World
-  old = world_of stored start r.releases r.drafts s
-
-  -- what is to be shown of it
-  pub record ShowsNext : Type 0 where
-    pub wide : length words ≡ width start
-    pub spelled : ArePlain start words
-    pub legal : Legal old.core e
-    pub world : world_of stored start r.releases r.drafts new ≡ world_after old e
-    pub at : Within start did.at
-    pub found : IsFoundAt did.found (index_of start did.at) s.words
-    pub wrote : IsFoundAt did.wrote (index_of start did.at) words
-    pub pages : (world_after old e).core.pages ≡ old.core.pages
-    pub frames : (world_after old e).core.words ≡ old.core.words
-    pub up : old.core.next ≤ (world_after old e).core.next
-    pub owes : (p : ℕ) → has p owed ≡ true → ((seat_of v p).exclusive ≡ true) × (start.next ≤ p) × (p < (world_after old e).core.next) × (has p v.pending ≡ false)
-    pub knows_next : (x : ℕ) → next ≡ Some x → ((seat_of v x).exclusive ≡ true) × ((world_after old e).core.next ≡ x)
-    pub owner : start.tells ≡ true → keeps (began_of start) (kept_of old r.history s.views)
-        → keeps (began_of start) (record (kept_of old r.history s.views) { next = (world_after old e).core.next; owed = chosen start.pages (is_owed (slice_set s.views id after)) })
-
-  module _ (there : get_elem? s.views id ≡ some v) (live : v.live ≡ true) (sh : ShowsNext) where
-    world-told : world_of stored start (r.releases ++ []) r.drafts new ≡ world_after old e
-    world-told = ap (λ l. world_of stored start l r.drafts new) (append-none r.releases) ∙ sh.world
-
-    pages-told : (core_shown stored start new).pages ≡ old.core.pages
-    pages-told = ap (λ (w : World). w.core.pages) sh.world ∙ sh.pages
-
-    next-told : (core_shown stored start new).next ≡ (world_after old e).core.next
-    next-told = ap (λ (w : World). w.core.next) sh.world
-
-    pending-told : is_pending (slice_set s.views id after) ≡ is_pending s.views
-    pending-told = fun_ext (λ q. any-same (λ (y : View X). has q y.pending) s.views id v after there refl)
-
-    kept-told : kept_of (world_of stored start (r.releases ++ []) r.drafts new) (r.history ++ []) (slice_set s.views id after)
-        ≡ record (kept_of old r.history s.views) { next = (world_after old e).core.next; owed = chosen start.pages (is_owed (slice_set s.views id after)) }
-    kept-told i = record {
-      pages = listed start.pages (logical (histories_of start (append-none r.releases i) r.drafts) (pending-told i));
-      next = next-told i;
-      owed = chosen start.pages (is_owed (slice_set s.views id after));
-      history = append-none r.history i;
-    }
-
-    past : (q : ℕ) → (core_shown stored start new).next ≤ q → old.core.next ≤ q
-    past q le = let up = sh.up in let same = next-told in omega (arith, up, same, le)
-
-    pub next-shows : Shows stored keeps tied start tells s r id v words r.drafts [] [] did inner e
-    next-shows =
-        let k : KnowsPages tied start old (is_pending s.views) v = r.known id v there live in
-        record {
-          wide = sh.wide;
-          spelled = sh.spelled;
-          legal = sh.legal;
-          world = world-told;
-          at = sh.at;
-          found = sh.found;
-          wrote = sh.wrote;
-          live = refl;
-          same_start = refl;
-          used = refl;
-          fresh = refl;
-          notes = refl;
-          log = refl;
-          out = refl;
-          calls = λ o is. (r.blocks.away id v o there is).1;
-          entry = inl refl;
-          mine = sym (append-none v.mine);
-          next_versions = tt;
-          zero = λ t q le l. ap (λ y. (histories_of start y r.drafts q).last.words) (append-none r.releases) ∙ r.zero t q (past q le) l;
-          knows = λ q. subst (λ (y : ℕ → Page). KnowsPage (seat_of v q) (put_at no_held v.held q) (y q)) (sym pages-told) (k.knows q);
-          contents = λ f x. k.contents f x ∙ sym (ap (λ (w : World). w.core.words f) sh.world ∙ ap (λ (g : ℕ → List ℕ). g f) sh.frames);
-          drafted = λ q x. k.drafts q x ∙ draft-is start r.releases r.drafts q;
-          pending = λ q x.
-              let m = k.pending q x in (
-                m.0,
-                λ t le. sym (draft-is start r.releases r.drafts q) ∙ m.1 t (past q le) ∙ sym (ap (λ y. (histories_of start y r.drafts q).last.words) (append-none r.releases)),
-              );
-          owed = λ q x. let m = sh.owes q x in (m.0, m.1, subst (λ n. q < n) (sym next-told) m.2, m.3);
-          next = λ x is. let m = sh.knows_next x is in (m.0, next-told ∙ m.1);
-          loaded = ([], refl, tt);
-          tying = ([], refl, λ _. tt);
-          members = λ q was gone. absurd (true≢false (sym was ∙ gone));
-          owner = λ t kept. subst (keeps (began_of start)) (sym kept-told) (sh.owner t kept);
-        }
-
--- the place of the next word, behind the words of the bundles
-abbrev next-place : ℕ → ℕ → ℕ → ℕ
-next-place pages frames bundles = 3 * pages + 64 * frames + bundles
-
--- the bundles of so many frames
-bundles-are : (frames : ℕ) → div_ceil frames 64 ≡ bundles_of frames
-bundles-are frames = omega arith
+use Rattle.vm_step.proofs.Prelude.{[], after_event, after_step, AllowsStep, any-here, any-same, any-true, ap, append-none, AreZero, arith, at-bound}
+use Rattle.vm_step.proofs.Prelude.{at_next, began_of, Bool, Brings, cases_Bool, CatchUpIsItsEvent, chosen, Claim, claim-step, claimed, claimed_view}
+use Rattle.vm_step.proofs.Prelude.{ClaimIsItsEvent, ClaimTold, core-still, core_shown, Did, did_exchange, did_load, draft-is, each-map, either, eqb}
+use Rattle.vm_step.proofs.Prelude.{false, false_from_ne_true, false≢true, FindsAt, FollowIsItsEvent, fun_ext, get_elem?, has, if◌then◌else◌, index_of}
+use Rattle.vm_step.proofs.Prelude.{inl, inr, is_owed, is_pending, IsEvent, IsPassOf, IsPlacedAt, IsSome, Kept, kept_of, KnowsPage, KnowsPages}
+use Rattle.vm_step.proofs.Prelude.{last_in, Legal, length, List, lost-claim, may_call, next-here, next_view, NextStepTold, NextTold, NLoad}
+use Rattle.vm_step.proofs.Prelude.{NloadIsItsEvent, no_held, None, numbers, Option, or_cases, Origin, PassMayClaim, Place, put_at, refl, Ruled, Seat}
+use Rattle.vm_step.proofs.Prelude.{seat-here, seat_of, Seen, set_here, Shape, Shows, slice_index, slice_set, Some, some, Stands, Start, State, steps}
+use Rattle.vm_step.proofs.Prelude.{Stored, subst, sym, Table, table_after, told_of, true, true≢false, Version, View, WasNext, WereWords, World}
+use Rattle.vm_step.proofs.Prelude.{world-still, world_after, world_of, ℕ, ⊎_elim, ◌++◌, ◌+◌, ◌<◌, ◌||◌, ◌∙◌, ◌∷◌, ◌≡◌, ◌≤◌, ◌⊎◌}
 
 -- what is said of the next word
 next-each : (x : Place) (P Q : Type 0) → (P → Q) → at_next x P → at_next x Q
-next-each (places.State p) P Q f h = tt
-next-each (places.Translation p) P Q f h = tt
-next-each (places.Fault p) P Q f h = tt
-next-each (places.Content g i) P Q f h = tt
-next-each (places.Bundle g) P Q f h = tt
 next-each places.Next P Q f h = f h
-next-each places.Hand P Q f h = tt
+next-each _ P Q f h = tt
 
-was-latest : (n found : ℕ) (o : Option ℕ) → n ≡ found → WasNext n o → WasNext found o
-was-latest n found o e h = subst (λ k. WasNext k o) e h
+-- who holds the page that was found knows it for the next one; who does not knows what it knew
+next-either : (owns : Bool) (found x : ℕ) (o : Option ℕ) → (if owns then Some found else o) ≡ Some x → ((owns ≡ true) × (found ≡ x)) ⊎ (o ≡ Some x)
+next-either true found x o e = inl (refl, cc)
+next-either false found x o e = inr e
 
 module _ {X B : Type 0} (stored : B → Stored) (keeps : Start → Kept X → Type 0) (tied : Start → ℕ → List ℕ → ℕ → List ℕ → Type 0) (start : Origin) (tells : Bool) (s : Table (Option B) (View X)) (r : Ruled stored keeps tied start tells s)
     (id : ℕ) (v : View X) (there : get_elem? s.views id ≡ some v) (live : v.live ≡ true) where
@@ -160,107 +40,73 @@ module _ {X B : Type 0} (stored : B → Stored) (keeps : Start → Kept X → Ty
   pub next-is-found : (world stored keeps tied start tells s r).core.next ≡ next_found
   next-is-found = next-here stored start s
 
-  found-known : (x : ℕ) → v.next ≡ Some x → next_found ≡ x
-  found-known x e = sym next-is-found ∙ ((r.known id v there live).next x e).1
-
-  found-risen : v.start.next ≤ next_found
-  found-risen = (let same = ap (λ (o : Origin). o.next) (r.heard id v there live).same_start in let here = next-is-found in let risen = r.risen in omega (arith, same, here, risen))
-
-  found-inside : next_found ≤ v.start.pages
-  found-inside = (let same = ap (λ (o : Origin). o.pages) (r.heard id v there live).same_start in let here = next-is-found in let inside = r.inv.next in omega (arith, same, here, inside))
-
-  -- pages that were never claimed have zero words
-  found-zero : v.start.tells ≡ true → (p : ℕ) → next_found ≤ p → p < v.start.pages → (last_in v.start (r.releases ++ []) p).words ≡ replicate 64 0
-  found-zero t p le l =
-      let same = (r.heard id v there live).same_start in
-      ap (λ (x : Version). x.words) (last-told stored keeps tied start tells s r id v there live p)
-      ∙ r.zero (ap (λ (o : Origin). o.tells) (sym same) ∙ t) p (subst (λ n. n ≤ p) (sym next-is-found) le) (subst (λ (o : Origin). p < o.pages) same l)
-
-  -- the word is no lower than those that the pass saw before
-  found-latest : IsLatest next_found v.log
-  found-latest =
-      each-map (WereWords (world stored keeps tied start tells s r)) (λ (d : Did). at_next d.at (WasNext next_found d.found × WasNext next_found d.wrote))
-      (λ d h. next-each d.at _ _ (λ k. (was-latest _ next_found d.found next-is-found k.0, was-latest _ next_found d.wrote next-is-found k.1)) h.1)
-      v.log
-      (r.known id v there live).words
-
   -- what a step tells that found it and brings this
   pub told-next : (did : Did) (inner w : View X) → w.start ≡ v.start → w.releases ≡ r.releases ++ [] → Brings did [] [] v inner w → NextStepTold did inner next_found v w
   told-next did inner w start_is releases_are brings = record {
     brings = brings;
-    known = found-known;
+    known = λ x e. sym next-is-found ∙ ((r.known id v there live).next x e).1;
     holds = λ x e. ((r.known id v there live).next x e).0;
-    risen = found-risen;
-    inside = found-inside;
-    zero = λ t p le l. (λ i. (last_in (start_is i) (releases_are i) p).words) ∙ found-zero t p le l;
-    since = found-latest;
+    risen = (let same = ap (λ (o : Origin). o.next) (r.heard id v there live).same_start in let here = next-is-found in let risen = r.risen in omega (arith, same, here, risen));
+    inside = (let same = ap (λ (o : Origin). o.pages) (r.heard id v there live).same_start in let here = next-is-found in let inside = r.inv.next in omega (arith, same, here, inside));
+    -- pages that were never claimed have zero words
+    zero = λ t p le l.
+        let same = (r.heard id v there live).same_start in
+        (λ i. (last_in (start_is i) (releases_are i) p).words)
+        ∙ ap (λ (x : Version). x.words) (last-told stored keeps tied start tells s r id v there live p)
+        ∙ r.zero (ap (λ (o : Origin). o.tells) (sym same) ∙ t) p (subst (λ n. n ≤ p) (sym next-is-found) le) (subst (λ (o : Origin). p < o.pages) same l);
+    -- the word is no lower than those that the pass saw before
+    since =
+        each-map (WereWords (world stored keeps tied start tells s r)) (λ (d : Did). at_next d.at (WasNext next_found d.found × WasNext next_found d.wrote))
+        (λ d h. next-each d.at _ _ (λ k. ((subst (λ k. WasNext k d.found) next-is-found k.0), (subst (λ k. WasNext k d.wrote) next-is-found k.1))) h.1)
+        v.log
+        (r.known id v there live).words;
   }
 
-some-same : (x y : ℕ) → Some x ≡ Some y → x ≡ y
-some-same x y e = cc
-
--- who holds the page that was found knows it for the next one; who does not knows what it knew
-next-either : (owns : Bool) (found x : ℕ) (o : Option ℕ) → (if owns then Some found else o) ≡ Some x → ((owns ≡ true) × (found ≡ x)) ⊎ (o ≡ Some x)
-next-either true found x o e = inl (refl, some-same found x e)
-next-either false found x o e = inr e
-
-module _ {X B : Type 0} (stored : B → Stored) (keeps : Start → Kept X → Type 0) (tied : Start → ℕ → List ℕ → ℕ → List ℕ → Type 0) (start : Origin) (tells : Bool) (s : Table (Option B) (View X)) (r : Ruled stored keeps tied start tells s)
-    (id : ℕ) (v : View X) (there : get_elem? s.views id ≡ some v) (live : v.live ≡ true) where
-  abbrev found : ℕ
-  found = slice_index s.words (index_of start places.Next)
-
-  abbrev load_did : Did
-  load_did = did_load places.Next found
+  abbrev nload-found : ℕ
+  nload-found = slice_index s.words (index_of start places.Next)
 
   abbrev nload-after : View X
-  nload-after = after_step stored keeps tied start tells s r s.words [] [] load_did (next_view found v)
+  nload-after = after_step stored keeps tied start tells s r s.words [] [] (did_load places.Next nload-found) (next_view nload-found v)
 
-  owed-same : is_owed (slice_set s.views id nload-after) ≡ is_owed s.views
-  owed-same = fun_ext (λ q. any-same (λ (y : View X). has q y.owed) s.views id v nload-after there refl)
-
-  load-shows : ShowsNext stored keeps tied start tells s r id v s.words load_did v.owed (next_view found v).next (NLoad id)
-  load-shows =
-      let k = r.known id v there live in
-      record {
-        wide = r.wide.0;
-        spelled = r.spelled;
+  pub nload-shows : Shows stored keeps tied start tells s r id v s.words r.drafts [] [] (did_load places.Next nload-found) (next_view nload-found v) (NLoad id)
+  nload-shows =
+      let k : KnowsPages tied start (world stored keeps tied start tells s r) (is_pending s.views) v = r.known id v there live in
+      let owed-same : is_owed (slice_set s.views id nload-after) ≡ is_owed s.views = fun_ext (λ q. any-same (λ (y : View X). has q y.owed) s.views id v nload-after there refl) in
+      event-shows stored keeps tied start tells s r id v s.words r.drafts [] (did_load places.Next nload-found) (next_view nload-found v) (NLoad id) there live
+      (record {
+        word = word-loaded start s.words places.Next r.wide.0 r.spelled tt;
         legal = at-bound s.views id v there;
-        world = world-still stored start s r.releases r.drafts id v nload-after there refl refl refl refl;
-        at = tt;
-        found = refl;
-        wrote = tt;
-        pages = refl;
-        frames = refl;
-        up = omega arith;
+        leads = record { world = world-still stored start s r.releases r.drafts id v nload-after there refl refl refl refl; pending = refl; members = λ q _. refl; up = omega arith };
+        same = (refl, refl, refl, refl, refl, refl, refl);
+        calls = λ o is. (r.blocks.away id v o there is).1;
+        holds = λ q x. x;
+        knows = k.knows;
+        contents = k.contents;
+        drafted = λ q x. k.drafts q x ∙ draft-is start r.releases r.drafts q;
         owes = k.owed;
-        knows_next = λ x e.
+        next = λ x e.
             ⊎_elim
-            (λ (t : ((seat_of v found).exclusive ≡ true) × (found ≡ x)). (ap (λ n. (seat_of v n).exclusive) (sym t.1) ∙ t.0, next-is-found stored keeps tied start tells s r id v there live ∙ t.1))
+            (λ (t : ((seat_of v nload-found).exclusive ≡ true) × (nload-found ≡ x)). (ap (λ n. (seat_of v n).exclusive) (sym t.1) ∙ t.0, next-is-found ∙ t.1))
             (λ was. k.next x was)
-            (next-either (seat_of v found).exclusive found x v.next e);
-        owner = λ t kept. subst (λ f. keeps (began_of start) (record (kept_of (world stored keeps tied start tells s r) r.history s.views) { owed = chosen start.pages f })) (sym owed-same) kept;
-      }
-
-  nload-tells : 0 < length v.used → (w : View X) × Ruled stored keeps tied start tells (became stored keeps tied start tells s (slice_set s.words (index_of start places.Next) found) id w) × NextTold found v w
-  nload-tells number =
-      let k = steps stored keeps tied start tells s r id v s.words r.drafts [] [] load_did (next_view found v) (NLoad id) there live number refl refl
-      (next-shows stored keeps tied start tells s r id v s.words load_did v.owed (next_view found v).next (NLoad id) there live load-shows) in (
-        nload-after,
-        subst (λ ws. Ruled stored keeps tied start tells (became stored keeps tied start tells s ws id nload-after)) (sym (same-word s.words (index_of start places.Next))) k.0,
-        told-next stored keeps tied start tells s r id v there live load_did (next_view found v) nload-after refl refl k.1,
-      )
+            (next-either (seat_of v nload-found).exclusive nload-found x v.next e);
+        loaded = ([], refl, tt);
+        tying = ([], refl, λ _. tt);
+        says = (inl refl, sym (append-none v.mine));
+        owner = λ t. subst (keeps (began_of start)) (λ i. record (kept_of (world stored keeps tied start tells s r) r.history s.views) {
+          owed = chosen start.pages (sym owed-same i);
+          history = sym (append-none r.history) i;
+        });
+      })
 
 module _ {X B : Type 0} (stored : B → Stored) (keeps : Start → Kept X → Type 0) (tied : Start → ℕ → List ℕ → ℕ → List ℕ → Type 0) (shape : Shape) (tells : Bool) where
-  -- so it does of every table that stands
+  -- it keeps the rule of every table and tells what it is to tell
   pub nload-allows : (slots id : ℕ) (v : View X) (i : ℕ) → v.live ≡ true → 0 < length v.used → IsPlacedAt shape places.Next i
       → AllowsStep (Stands stored keeps tied shape tells) slots id v i (λ n. n) (told_of shape tells NextTold)
   nload-allows slots id v i live number is =
-      allows stored keeps tied shape tells slots id v i places.Next (λ n. n) (λ n. n) NextTold live is (λ n. refl) (λ n w t. fit t.brings live)
-      (λ start has s r there _. nload-tells stored keeps tied start tells s r id v there live number)
-
-or-either : (a b : Bool) → (a || b) ≡ true → (a ≡ true) ⊎ (b ≡ true)
-or-either true b e = inl refl
-or-either false b e = inr e
+      allows-load stored keeps tied shape tells slots id v i places.Next NextTold live is (λ n w t. fit t.brings live)
+      (λ start has s r there.
+      let k = steps stored keeps tied start tells s r id v s.words r.drafts [] [] _ (next_view _ v) (NLoad id) there live number refl refl (nload-shows stored keeps tied start tells s r id v there live) in
+      (_, k.0, told-next stored keeps tied start tells s r id v there live _ _ _ refl refl k.1))
 
 module _ {X B : Type 0} (stored : B → Stored) (keeps : Start → Kept X → Type 0) (tied : Start → ℕ → List ℕ → ℕ → List ℕ → Type 0) (start : Origin) (tells : Bool) (s : Table (Option B) (View X)) (r : Ruled stored keeps tied start tells s)
     (id : ℕ) (v : View X) (there : get_elem? s.views id ≡ some v) (live : v.live ≡ true) (x n : ℕ) (may : PassMayClaim v x n) where
@@ -314,10 +160,7 @@ module _ {X B : Type 0} (stored : B → Stored) (keeps : Start → Kept X → Ty
     -- a page that is claimed is no member of a group, and has zero words
     not-member : (p : ℕ) → x ≤ p → p < x + n → is_pending s.views p ≡ false
     not-member p low high =
-        ⊎_elim
-        (λ t. absurd (true≢false (sym (member-mine stored keeps tied start tells s r id v there live p (within p high) (may.owns p low high) t) ∙ may.free p low high)))
-        (λ f. f)
-        (cases_Bool (is_pending s.views p))
+        false_from_ne_true (is_pending s.views p) (λ t. true≢false (sym (member-mine stored keeps tied start tells s r id v there live p (within p high) (may.owns p low high) t) ∙ may.free p low high))
 
     are-zero : start.tells ≡ true → AreZero before n
     are-zero t = record {
@@ -350,15 +193,9 @@ module _ {X B : Type 0} (stored : B → Stored) (keeps : Start → Kept X → Ty
     owed-else : (q : ℕ) → has q (numbers x n) ≡ false → owes' q ≡ owes q
     owed-else q none = any-same (λ (u : View X). has q u.owed) s.views id v w there (has-both q (numbers x n) v.owed ∙ ap (λ b. b || has q v.owed) none)
 
-    owed-here : (q : ℕ) → has q (numbers x n) ≡ true → owes' q ≡ true
-    owed-here q e = any-here (λ (u : View X). has q u.owed) (slice_set s.views id w) id w (set_here s.views id w (at-bound s.views id v there)) (has-both q (numbers x n) v.owed ∙ ap (λ b. b || has q v.owed) e)
-
     not-claimed : (q : ℕ) → (q < x) ⊎ (x + n ≤ q) → has q (numbers x n) ≡ false
     not-claimed q out =
-        ⊎_elim
-        (λ t. let k = has-numbers n x q t in absurd (let low = k.0 in let high = k.1 in ⊎_elim (λ l. omega (arith, l, low)) (λ le. omega (arith, le, high)) out))
-        (λ f. f)
-        (cases_Bool (has q (numbers x n)))
+        false_from_ne_true (has q (numbers x n)) (λ t. let k = has-numbers n x q t in let low = k.0 in let high = k.1 in ⊎_elim (λ l. omega (arith, l, low)) (λ le. omega (arith, le, high)) out)
 
     -- they are those that were, and then the pages claimed
     owed-claimed : (claimed n before).owed ≡ chosen start.pages owes'
@@ -367,153 +204,106 @@ module _ {X B : Type 0} (stored : B → Stored) (keeps : Start → Kept X → Ty
         claimed-chosen n start.pages before owes owes' refl (let le = inside in omega (arith, is, le))
         (λ q l. owed-else q (not-claimed q (inl (omega (arith, is, l)))))
         (λ q le l. none-owed q (omega (arith, is, le)))
-        (λ q le l. owed-here q (numbers-has n x q (omega (arith, is, le)) (omega (arith, is, l))))
+        (λ q le l. (any-here (λ (u : View X). has q u.owed) (slice_set s.views id w) id w (set_here s.views id w (at-bound s.views id v there)) (has-both q (numbers x n) v.owed ∙ ap (λ b. b || has q v.owed) (numbers-has n x q (omega (arith, is, le)) (omega (arith, is, l))))))
         (λ q le l. owed-else q (not-claimed q (inr (omega (arith, is, le)))) ∙ none-owed q (omega (arith, is, le)))
 
-    kept-claimed : claimed n before ≡ record before { next = (world_after claim-old (Claim id x n)).core.next; owed = chosen start.pages owes' }
+    kept-claimed : claimed n before ≡ record before { next = (world_after claim-old (Claim id x n)).core.next; owed = chosen start.pages owes'; history = r.history ++ [] }
     kept-claimed =
         let same : before.next + n ≡ (world_after claim-old (Claim id x n)).core.next = ap (λ k. k + n) finds ∙ sym next-after in
-        claimed-is n before ∙ (λ i. record before { next = same i; owed = owed-claimed i })
+        claimed-is n before ∙ (λ i. record before { next = same i; owed = owed-claimed i; history = sym (append-none r.history) i })
 
-    module _ (law : (start : Start) (kept : Kept X) (n : ℕ) → keeps start kept → AreZero kept n → keeps start (claimed n kept)) where
-      claim-shows : ShowsNext stored keeps tied start tells s r id v claim_words claim_did (numbers x n ++ v.owed) None (Claim id x n)
-      claim-shows =
-          let k = r.known id v there live in
-          record {
-            wide = length-set s.words (index_of start places.Next) (x + n) ∙ r.wide.0;
-            spelled = spelled-still start s.words places.Next (x + n) r.wide.0 tt refl r.spelled;
-            legal = claim-legal;
+    pub claim-shows : ((start : Start) (kept : Kept X) (n : ℕ) → keeps start kept → AreZero kept n → keeps start (claimed n kept)) → Shows stored keeps tied start tells s r id v claim_words r.drafts [] [] claim_did (claimed_view x n v) (Claim id x n)
+    claim-shows law =
+        let k : KnowsPages tied start claim-old (is_pending s.views) v = r.known id v there live in
+        event-shows stored keeps tied start tells s r id v claim_words r.drafts [] claim_did (claimed_view x n v) (Claim id x n) there live
+        (record {
+          word = word-left start s.words claim_did (x + n) r.wide.0 r.spelled tt refl refl (ap {B = Option ℕ} (λ b. if b then Some (x + n) else None) (eq-eqb claim_found x hit));
+          legal = claim-legal;
+          leads = record {
             world = claim-step stored start s r.releases r.drafts id v w x n (x + n) r.wide.0 there refl refl refl refl finds refl;
-            at = tt;
-            found = refl;
-            wrote = rw (eq-eqb claim_found x hit) (stands-there start s.words places.Next (x + n) r.wide.0 tt);
-            pages = ap (λ (c : State). c.pages) core-claimed;
-            frames = ap (λ (c : State). c.words) core-claimed;
+            pending = refl;
+            members = λ q _. refl;
             up = (let is = finds in let after_event = next-after in omega (arith, is, after_event));
-            owes = λ p e.
-                ⊎_elim
-                (λ claims.
-                let in-it = has-numbers n x p claims in
-                let high : p < x + n = in-it.1 in (
-                  may.owns p in-it.0 high,
-                  (let low = in-it.0 in let is = finds in let risen = r.risen in omega (arith, low, is, risen)),
-                  subst (λ m. p < m) (sym next-after) high,
-                  may.free p in-it.0 high,
-                ))
-                (λ was. let o = k.owed p was in (o.0, o.1, (let below = o.2 in let is = finds in let after_event = next-after in omega (arith, below, is, after_event)), o.3))
-                (or-either (has p (numbers x n)) (has p v.owed) (sym (has-both p (numbers x n) v.owed) ∙ e));
-            knows_next = λ y e. absurd (cc);
-            owner = λ t kept. subst (keeps (began_of start)) kept-claimed (law (began_of start) before n kept (are-zero t));
-          }
-
-  module _
-      (law : (start : Start) (kept : Kept X) (n : ℕ) → keeps start kept → AreZero kept n → keeps start (claimed n kept))
-      (number : 0 < length v.used) where
-    -- claimed or lost, it keeps the rule and tells what it is to tell
-    pub claim-tells : (w : View X) × Ruled stored keeps tied start tells (became stored keeps tied start tells s (exchanged_at stored keeps tied start tells s r id v there live number places.Next x (x + n) tt) id w) × ClaimTold x n claim_found v w
-    claim-tells =
-        let inner : View X = claimed_view x n v in
-        ⊎_elim
-        (λ hit.
-        let k = taken-at stored keeps tied start tells s r id v there live number places.Next x (x + n) tt r.drafts inner (Claim id x n) hit refl
-        (next-shows stored keeps tied start tells s r id v claim_words claim_did (numbers x n ++ v.owed) None (Claim id x n) there live (claim-shows hit law)) in
-        (_, k.0, told-next stored keeps tied start tells s r id v there live claim_did _ _ refl refl k.1))
-        (λ miss.
-        let k = lost-at stored keeps tied start tells s r id v there live number places.Next x (x + n) tt inner (Claim id x n) miss refl claim-legal
-        (lost-claim claim-old id x n (λ q. miss (sym (next-is-found stored keeps tied start tells s r id v there live) ∙ q))) in
-        (_, k.0, told-next stored keeps tied start tells s r id v there live claim_did _ _ refl refl k.1))
-        (cases_eq claim_found x)
+          };
+          same = (refl, refl, refl, refl, refl, refl, refl);
+          calls = λ o is. (r.blocks.away id v o there is).1;
+          holds = λ q e. e;
+          knows = λ q. subst (λ (c : State). KnowsPage (seat_of v q) (put_at no_held v.held q) (c.pages q)) (sym core-claimed) (k.knows q);
+          contents = λ f e. k.contents f e ∙ sym (ap (λ (c : State). c.words f) core-claimed);
+          drafted = λ q e. k.drafts q e ∙ draft-is start r.releases r.drafts q;
+          owes = λ p e.
+              ⊎_elim
+              (λ claims.
+              let in-it = has-numbers n x p claims in
+              let high : p < x + n = in-it.1 in (
+                may.owns p in-it.0 high,
+                (let low = in-it.0 in let is = finds in let risen = r.risen in omega (arith, low, is, risen)),
+                subst (λ m. p < m) (sym next-after) high,
+                may.free p in-it.0 high,
+              ))
+              (λ was. let o = k.owed p was in (o.0, o.1, (let below = o.2 in let is = finds in let after_event = next-after in omega (arith, below, is, after_event)), o.3))
+              (or_cases (has p (numbers x n)) (has p v.owed) (sym (has-both p (numbers x n) v.owed) ∙ e));
+          next = λ y e. absurd (cc);
+          loaded = ([], refl, tt);
+          tying = ([], refl, λ _. tt);
+          says = (inl refl, sym (append-none v.mine));
+          owner = λ t kept. subst (keeps (began_of start)) kept-claimed (law (began_of start) before n kept (are-zero t));
+        })
 
 module _ {X B : Type 0} (stored : B → Stored) (keeps : Start → Kept X → Type 0) (tied : Start → ℕ → List ℕ → ℕ → List ℕ → Type 0) (shape : Shape) (tells : Bool)
     (law : (start : Start) (kept : Kept X) (n : ℕ) → keeps start kept → AreZero kept n → keeps start (claimed n kept)) where
-  -- so it does of every table that stands
+  -- claimed or lost, it keeps the rule of every table and tells what it is to tell
   pub claim-allows : (slots id : ℕ) (v : View X) (i : ℕ) (x n : ℕ) → v.live ≡ true → 0 < length v.used → PassMayClaim v x n → IsPlacedAt shape places.Next i
       → AllowsStep (Stands stored keeps tied shape tells) slots id v i (λ k. either (eqb k x) (x + n) k) (told_of shape tells (ClaimTold x n))
   claim-allows slots id v i x n live number may is =
       allows stored keeps tied shape tells slots id v i places.Next (λ k. either (eqb k x) (x + n) k) (λ k. either (eqb k x) (x + n) k) (ClaimTold x n) live is (λ n. refl) (λ n w t. fit t.brings (either-lives _ _ v live live))
-      (λ start has s r there _. claim-tells stored keeps tied start tells s r id v there live x n may law number)
+      (λ start has s r there _.
+      let k = exchange-tells stored keeps tied start tells s r id v there live number places.Next x (x + n) tt r.drafts (claimed_view x n v) (Claim id x n) refl
+      (claim-legal stored keeps tied start tells s r id v there live x n may)
+      (λ hit. claim-shows stored keeps tied start tells s r id v there live x n may hit law)
+      (λ miss. lost-claim (world stored keeps tied start tells s r) id x n (λ q. miss (sym (next-is-found stored keeps tied start tells s r id v there live) ∙ q))) in
+      (k.0, k.1, told-next stored keeps tied start tells s r id v there live _ _ k.0 k.3 k.4 k.2))
 
 module _ {X B : Type 0} (stored : B → Stored) (start : Origin) (keeps : Start → Kept X → Type 0) (tied : Start → ℕ → List ℕ → ℕ → List ℕ → Type 0) (tells : Bool) (s : Table (Option B) (View X)) (id : ℕ) where
   -- a load that leaves the pass its frames, its seats and its block
-  load_event : (found : ℕ) (v w : View X) → IsPassOf stored start keeps tied tells s id v → FindsAt start s places.Next found → w.out ≡ v.out → w.frames ≡ v.frames → w.seats ≡ v.seats
+  load-event : (found : ℕ) (v w : View X) → IsPassOf stored start keeps tied tells s id v → FindsAt start s places.Next found → w.out ≡ v.out → w.frames ≡ v.frames → w.seats ≡ v.seats
       → IsEvent stored start s (table_after s s.words id w) (NLoad id) (sights.Word found)
-  load_event found v w pass at out frames seats = record {
+  load-event found v w pass at out frames seats = record {
     legal = at-bound s.views id v pass.there;
     core = core-still stored start s id v w pass.there out frames seats;
     sees = ap sights.Word (next-here stored start s ∙ sym at.1);
   }
 
 module _ {X B : Type 0} (stored : B → Stored) (keeps : Start → Kept X → Type 0) (tied : Start → ℕ → List ℕ → ℕ → List ℕ → Type 0) (tells : Bool) where
-  pub nload_event : NloadIsItsEvent stored keeps tied tells
-  nload_event start s id found v w pass at told =
-      let view = told.brings.view in load_event stored start keeps tied tells s id found v w pass at (ap (λ (y : View X). y.out) view) (ap (λ (y : View X). y.frames) view) (ap (λ (y : View X). y.seats) view)
+  pub nload-event : NloadIsItsEvent stored keeps tied tells
+  nload-event start s id found v w pass at told =
+      let view = told.brings.view in load-event stored start keeps tied tells s id found v w pass at (ap (λ (y : View X). y.out) view) (ap (λ (y : View X). y.frames) view) (ap (λ (y : View X). y.seats) view)
 
-  pub caught_event : CatchUpIsItsEvent stored keeps tied tells
-  caught_event start s id v w c pass at =
-      let view = c.brings.view in load_event stored start keeps tied tells s id c.found v w pass at (ap (λ (y : View X). y.out) view) (ap (λ (y : View X). y.frames) view) (ap (λ (y : View X). y.seats) view)
+  pub catch_up-event : CatchUpIsItsEvent stored keeps tied tells
+  catch_up-event start s id v w c pass at =
+      let view = c.brings.view in load-event stored start keeps tied tells s id c.found v w pass at (ap (λ (y : View X). y.out) view) (ap (λ (y : View X). y.frames) view) (ap (λ (y : View X). y.seats) view)
 
-  pub follow_event : FollowIsItsEvent stored keeps tied tells
-  follow_event start s id v w f pass at = load_event stored start keeps tied tells s id f.found v w pass at (ap (λ (y : View X). y.out) f.view) (ap (λ (y : View X). y.frames) f.view) (ap (λ (y : View X). y.seats) f.view)
+  pub follow-event : FollowIsItsEvent stored keeps tied tells
+  follow-event start s id v w f pass at = load-event stored start keeps tied tells s id f.found v w pass at (ap (λ (y : View X). y.out) f.view) (ap (λ (y : View X). y.frames) f.view) (ap (λ (y : View X). y.seats) f.view)
 
   -- a claim sees whether the word was the one expected, and the word where it was not
-  pub claim_event : ClaimIsItsEvent stored keeps tied tells
-  claim_event start s id x n found v w pass at may told =
-      let c : State = core_shown stored start s in
-      let i : ℕ = index_of start places.Next in
-      let inner : View X = claimed_view x n v in
-      let word : c.next ≡ found = next-here stored start s ∙ sym at.1 in
-      let legal = claim-legal stored keeps tied start tells s pass.rule id v pass.there pass.live x n may in
-      let as-is : (b : Bool) → eqb found x ≡ b → core_shown stored start (table_after s (exchanged s.words i x found (x + n)) id w) ≡ core_shown stored start (table_after s (slice_set s.words i (if b then x + n else found)) id w) =
-      (λ b is. ap (λ k. core_shown stored start (table_after s (slice_set s.words i (if k then x + n else found)) id w)) is) in
-      let seen-as : (if eqb c.next x then sights.Taken else sights.Lost c.next) ≡ exchange_sees x found = ap {B = Seen} (λ n. if eqb n x then sights.Taken else sights.Lost n) word in
-      ⊎_elim
-      (λ hit.
-      let is : eqb found x ≡ true = eq-eqb found x hit in
-      let view = told.brings.view in
-      let mine = ap {B = View X} (λ b. if b then inner else v) is in
-      record {
-        legal = legal;
-        core = as-is true is
-            ∙ ap (λ (y : World). y.core)
-            (claim-step stored start s [] (λ _. []) id v w x n (x + n) pass.rule.wide.0 pass.there
-            (ap (λ (y : View X). y.out) view ∙ ap (λ (y : View X). y.out) mine)
-            (ap (λ (y : View X). y.frames) view ∙ ap (λ (y : View X). y.frames) mine)
-            (ap (λ (y : View X). y.seats) view ∙ ap (λ (y : View X). y.seats) mine)
-            (ap (λ (y : View X). y.loads) view ∙ ap (λ (y : View X). y.loads) mine)
-            (word ∙ hit)
-            refl);
-        sees = seen-as;
-      })
-      (λ miss.
-      let is : eqb found x ≡ false = ne_eqb found x miss in
-      let view = told.brings.view in
-      let mine = ap {B = View X} (λ b. if b then inner else v) is in
-      record {
-        legal = legal;
-        core = as-is false is
-            ∙ ap (λ l. core_shown stored start (table_after s l id w)) (ap (slice_set s.words i) at.1 ∙ same-word s.words i)
-            ∙ core-still stored start s id v w pass.there
-            (ap (λ (y : View X). y.out) view ∙ ap (λ (y : View X). y.out) mine)
-            (ap (λ (y : View X). y.frames) view ∙ ap (λ (y : View X). y.frames) mine)
-            (ap (λ (y : View X). y.seats) view ∙ ap (λ (y : View X). y.seats) mine)
-            ∙ sym (ap (λ (y : World). y.core) (lost-claim (world_of stored start [] (λ _. []) s) id x n (λ q. miss (sym word ∙ q))));
-        sees = seen-as;
-      })
-      (cases_eq found x)
+  pub claim-event : ClaimIsItsEvent stored keeps tied tells
+  claim-event start s id x n found v w pass at may told =
+      let word : (core_shown stored start s).next ≡ found = next-here stored start s ∙ sym at.1 in
+      tried-event stored start keeps tied tells s id places.Next x found (x + n) _ v (claimed_view x n v) w (Claim id x n) pass at told.brings
+      (claim-legal stored keeps tied start tells s pass.rule id v pass.there pass.live x n may)
+      (λ hit b. ap (λ (y : World). y.core)
+      (claim-step stored start s [] (λ _. []) id v w x n (x + n) pass.rule.wide.0 pass.there (ap (λ (y : View X). y.out) b.view) (ap (λ (y : View X). y.frames) b.view) (ap (λ (y : View X). y.seats) b.view) (ap (λ (y : View X). y.loads) b.view) (word ∙ hit) refl))
+      (λ miss. ap (λ (y : World). y.core) (lost-claim (world_of stored start [] (λ _. []) s) id x n (λ q. miss (sym word ∙ q))))
+      (ap {B = Seen} (λ n. if eqb n x then sights.Taken else sights.Lost n) word)
 
 module _ {X : Type 0} {found : ℕ} {v w : View X} (t : NextTold found v w) where
-  abbrev pub nload-did : Did
-  nload-did = did_load places.Next found
-
-  pub nload-others : (touched : ℕ → Type 0) → LeavesOthers touched (nload-did ∷ []) [] v w
-  nload-others touched = others-from t.brings tt (λ q ne. refl) (λ q ne. refl) (λ q ne. refl) (λ q ne. refl)
+  pub nload-others : (touched : ℕ → Type 0) → LeavesOthers touched ((did_load places.Next found) ∷ []) [] v w
+  nload-others touched = others-tied t.brings ([], refl) tt (λ q ne. refl) (λ q ne. refl) (λ q ne. refl) (λ q ne. refl)
 
 module _ {X : Type 0} (x n : ℕ) {found : ℕ} {v w : View X} (e : found ≡ x) (t : ClaimTold x n found v w) where
-  abbrev pub claim-did : Did
-  claim-did = did_exchange places.Next x found (x + n)
+  pub claim-brings : Brings (did_exchange places.Next x found (x + n)) [] [] v (claimed_view x n v) w
+  claim-brings = taken-view (did_exchange places.Next x found (x + n)) x found v (claimed_view x n v) w e t.brings
 
-  pub claim-brings : Brings claim-did [] [] v (claimed_view x n v) w
-  claim-brings = taken-view claim-did x found v (claimed_view x n v) w e t.brings
-
-  pub claim-others : (touched : ℕ → Type 0) → LeavesOthers touched (claim-did ∷ []) [] v w
-  claim-others touched = others-from claim-brings tt (λ q ne. refl) (λ q ne. refl) (λ q ne. refl) (λ q ne. refl)
+  pub claim-others : (touched : ℕ → Type 0) → LeavesOthers touched (did_exchange places.Next x found (x + n) ∷ []) [] v w
+  claim-others touched = others-tied claim-brings ([], refl) tt (λ q ne. refl) (λ q ne. refl) (λ q ne. refl) (λ q ne. refl)

@@ -1,53 +1,36 @@
 -- Passes that are split, joined, or told by one another: that the table allows it, what the load behind it tells, and that it is no event.
-use Rattle.std.proofs.Common.{[], ⊎_elim, ◌++◌, ◌+◌, ◌<◌, ◌||◌, ◌∙◌, ◌≡◌, ◌≢◌, ap, arith, Bool, false, if◌then◌else◌, inl, length, length-append}
-use Rattle.std.proofs.Common.{length-set, List, None, Option, refl, slice_index, slice_set, subst, sym, true, ℕ}
-use Rattle.std.proofs.lemmas.Bool.{cases_Bool, cases_eq, cases_lt}
-use mathlib.Core.Path.{fun_ext}
-use Rattle.atomic_table.specs.Table.{Joins, Splits}
-use Rattle.atomic_table.proofs.Lists.{set_else}
-use Rattle.vm_core.specs.Prelude.{at, get_elem?, no_seat, outside_page, Page, some, upd, World}
-use Rattle.vm_core.proofs.Upd.{upd-other, upd-same, upd-self}
 use Rattle.vm_owner.proofs.NumberLemmas.{has-both}
-use Rattle.vm_rule.specs.Prelude.{block_of, CaughtUp, core_shown, did_load, entries_by, frames_held, giver, has, hearer, Hears, histories_of}
-use Rattle.vm_rule.specs.Prelude.{HoldsNoPage, HoldsNothing, index_of, joined, JoinTold, Kept, loads_at, loads_of, newcomer, OnlyKnows, page_from}
-use Rattle.vm_rule.specs.Prelude.{pages_from, Ruled, seat_of, seats_of, spent, Stands, Start, StartsWith, Stored, Table, table_words, TakesOver}
-use Rattle.vm_rule.specs.Prelude.{world_of}
-use Rattle.vm_rule.specs.{Hearing.follower, Joins.knows_more}
 use Rattle.vm_rule.specs.declared.view.Place.TheVariants as places
-use Rattle.vm_rule.proofs.{Adding.became, Found.same-word, Pages.page-in, Pages.page-out, Views.at-there, Views.block-same}
-use Rattle.vm_rule.proofs.Entries.{append-none, entries-both, entries-within}
-use Rattle.vm_rule.proofs.Joining.{at-first, at-neither, at-second, has-left, has-right, joins-past, joins-ruled, once-second, twice}
-use Rattle.vm_rule.proofs.Meeting.{follows-ruled, hears-past, hears-ruled}
-use Rattle.vm_rule.proofs.Resettling.{at-past, Resettles, settled-blocks}
-use Rattle.vm_rule.proofs.Splitting.{same-field, split-resettles, split-views, splits-past, splits-ruled}
-use Rattle.vm_step.specs.Prelude.{AllowsStep, IsPassOf, IsPlacedAt, Origin, Shape, told_of, View}
-use Rattle.vm_step.specs.NoEvents.{HasNone, IsSplitOff, IsTakenIn, table_heard, table_joined, table_split, taken_in, with_actor}
-use Rattle.vm_step.proofs.Standing.{allows, born}
+use Rattle.vm_step.proofs.Prelude.{[], AllowsStep, ap, append-none, arith, at, at-first, at-neither, at-past, at-second, at-there, block-same}
+use Rattle.vm_step.proofs.Prelude.{block_of, Bool, cases_Bool, cases_eq, cases_lt, CaughtUp, core_shown, did_load, entries-both, entries-within}
+use Rattle.vm_step.proofs.Prelude.{entries_by, false, follower, follows-ruled, frames_held, fun_ext, get_elem?, giver, has, has-left, has-right}
+use Rattle.vm_step.proofs.Prelude.{HasNone, hearer, Hears, hears-past, hears-ruled, histories_of, HoldsNoPage, HoldsNothing, if◌then◌else◌, index_of}
+use Rattle.vm_step.proofs.Prelude.{inl, IsPassOf, IsPlacedAt, IsSplitOff, IsTakenIn, joined, Joins, joins-past, joins-ruled, JoinTold, Kept}
+use Rattle.vm_step.proofs.Prelude.{knows_more, length, length-append, length-set, List, loads_at, loads_of, newcomer, no_seat, None, once-second}
+use Rattle.vm_step.proofs.Prelude.{OnlyKnows, Option, Origin, outside_page, Page, page-in, page-out, page_from, pages_from, refl, Ruled, same-field}
+use Rattle.vm_step.proofs.Prelude.{seat_of, seats_of, set_else, settled-blocks, Shape, slice_index, slice_set, some, spent, split-resettles}
+use Rattle.vm_step.proofs.Prelude.{split-views, Splits, splits-past, splits-ruled, Stands, Start, StartsWith, Stored, subst, sym, Table, table_heard}
+use Rattle.vm_step.proofs.Prelude.{table_joined, table_split, table_words, taken_in, TakesOver, told_of, true, twice, upd, upd-other, upd-same}
+use Rattle.vm_step.proofs.Prelude.{upd-self, View, with_actor, World, world_of, ℕ, ⊎_elim, ◌++◌, ◌+◌, ◌<◌, ◌||◌, ◌∙◌, ◌≡◌, ◌≢◌}
+use Rattle.vm_step.proofs.Standing.{allows-load, born}
 
 module _ {X B : Type 0} (stored : B → Stored) (keeps : Start → Kept X → Type 0) (tied : Start → ℕ → List ℕ → ℕ → List ℕ → Type 0) (shape : Shape) (tells : Bool) where
-  pub splits-any : (id : ℕ) (part : Bool) (v : View X) → v.live ≡ true → 0 < length v.used → Splits (Stands stored keeps tied shape tells) id v (giver part v) (newcomer part v)
-  splits-any id part v live number s stands at =
+  -- what a live pass does to every table that meets the rule it does to every table that stands
+  by-rule : (id : ℕ) (v : View X) (s t : Table (Option B) (View X)) → v.live ≡ true → Stands stored keeps tied shape tells s → get_elem? s.views id ≡ some v
+      → ((start : Origin) → Ruled stored keeps tied start tells s → Ruled stored keeps tied start tells t) → Stands stored keeps tied shape tells t
+  by-rule id v s t live stands at moves =
       ⊎_elim
-      (λ r. record {
-        start = stands.start;
-        is_shape = stands.is_shape;
-        rule = inl (splits-ruled stored keeps tied stands.start tells s r id part v at live number);
-      })
+      (λ r. record { start = stands.start; is_shape = stands.is_shape; rule = inl (moves stands.start r) })
       (λ u. absurd (born shape id v (subst (λ views. get_elem? views id ≡ some v) u.0 at) live))
       stands.rule
 
-module _ {X B : Type 0} (stored : B → Stored) (keeps : Start → Kept X → Type 0) (tied : Start → ℕ → List ℕ → ℕ → List ℕ → Type 0) (shape : Shape) (tells : Bool) where
+  pub splits-any : (id : ℕ) (part : Bool) (v : View X) → v.live ≡ true → 0 < length v.used → Splits (Stands stored keeps tied shape tells) id v (giver part v) (newcomer part v)
+  splits-any id part v live number s stands at = by-rule id v s _ live stands at (λ start r. splits-ruled stored keeps tied start tells s r id part v at live number)
+
   pub joins-any : (id : ℕ) (v : View X) (other : ℕ) (w : View X) → v.live ≡ true → w.live ≡ true → (v.told_releases ≡ []) × (v.told ≡ []) → (w.told_releases ≡ []) × (w.told ≡ []) → HoldsNoPage w
       → Joins (Stands stored keeps tied shape tells) id v other w (joined v w) spent
   joins-any id v other w live live' here there nothing s stands at apart at' =
-      ⊎_elim
-      (λ r. record {
-        start = stands.start;
-        is_shape = stands.is_shape;
-        rule = inl (joins-ruled stored keeps tied stands.start tells s r id other v w at apart (sym (set_else s.views id other (joined v w) apart) ∙ at') live live' here there nothing);
-      })
-      (λ u. absurd (born shape id v (subst (λ views. get_elem? views id ≡ some v) u.0 at) live))
-      stands.rule
+      by-rule id v s _ live stands at (λ start r. joins-ruled stored keeps tied start tells s r id other v w at apart (sym (set_else s.views id other (joined v w) apart) ∙ at') live live' here there nothing)
 
 module _ {X : Type 0} where
   pub more-used : (v w : View X) → 0 < length v.used → 0 < length (joined v w).used
@@ -87,36 +70,13 @@ module _ {X B : Type 0} (stored : B → Stored) (keeps : Start → Kept X → Ty
   pub hears-any : (shape : Shape) (tells : Bool) (id : ℕ) (v : View X) (other : ℕ) (w : View X) → v.live ≡ true → w.live ≡ true → (v.told_releases ≡ []) × (v.told ≡ []) → (w.told_releases ≡ []) × (w.told ≡ []) → OnlyKnows w
       → Joins (Stands stored keeps tied shape tells) id v other w (hearer v w) spent
   hears-any shape tells id v other w live live' here there only s stands at apart at' =
-      ⊎_elim
-      (λ r. record {
-        start = stands.start;
-        is_shape = stands.is_shape;
-        rule = inl (hears-ruled stored keeps tied stands.start tells s r id other v w at apart (sym (set_else s.views id other (hearer v w) apart) ∙ at') live live' here there only);
-      })
-      (λ u. absurd (born shape id v (subst (λ views. get_elem? views id ≡ some v) u.0 at) live))
-      stands.rule
-
-  follow-keeps : (tells : Bool) (start : Origin) (s : Table (Option B) (View X)) → Ruled stored keeps tied start tells s → (id : ℕ) (v : View X) → get_elem? s.views id ≡ some v → v.live ≡ true → StartsWith v.told_releases v.releases → StartsWith v.told v.seen
-      → (w : View X)
-      × Ruled stored keeps tied start tells (became stored keeps tied start tells s (slice_set s.words (index_of start places.Next) (slice_index s.words (index_of start places.Next))) id w)
-      × TakesOver v w
-  follow-keeps tells start s r id v there live on-releases on-seen =
-      let k = follows-ruled stored keeps tied start tells s r id v there live on-releases on-seen in
-      let w : View X = follower v (did_load places.Next (slice_index s.words (index_of start places.Next))) in (
-        w,
-        subst (λ ws. Ruled stored keeps tied start tells (became stored keeps tied start tells s ws id w)) (sym (same-word s.words (index_of start places.Next))) k.0,
-        k.1,
-      )
+      by-rule stored keeps tied shape tells id v s _ live stands at (λ start r. hears-ruled stored keeps tied start tells s r id other v w at apart (sym (set_else s.views id other (hearer v w) apart) ∙ at') live live' here there only)
 
   pub follow-allows : (tells : Bool) (shape : Shape) (slots id : ℕ) (v : View X) (i : ℕ) → v.live ≡ true → StartsWith v.told_releases v.releases → StartsWith v.told v.seen → IsPlacedAt shape places.Next i
       → AllowsStep (Stands stored keeps tied shape tells) slots id v i (λ n. n) (told_of shape tells (λ n. TakesOver))
   follow-allows tells shape slots id v i live on-releases on-seen is =
-      allows stored keeps tied shape tells slots id v i places.Next (λ n. n) (λ n. n) (λ n. TakesOver) live is (λ n. refl) (λ n w t. record { live = ap (λ y. y.live) t.view ∙ live; learned = (ap (λ y. y.told_releases) t.view, ap (λ y. y.told) t.view); sound = t.sound })
-      (λ start has s r there _. follow-keeps tells start s r id v there live on-releases on-seen)
-
--- nothing changes where nothing was
-none-still : (b : ℕ) → upd (λ (_ : ℕ). no_seat) b no_seat ≡ (λ _. no_seat)
-none-still b = upd-self (λ (_ : ℕ). no_seat) b
+      allows-load stored keeps tied shape tells slots id v i places.Next (λ n. TakesOver) live is (λ n w t. record { live = ap (λ y. y.live) t.view ∙ live; learned = (ap (λ y. y.told_releases) t.view, ap (λ y. y.told) t.view); sound = t.sound })
+      (λ start has s r there. let k = follows-ruled stored keeps tied start tells s r id v there live on-releases on-seen in (follower v (did_load places.Next (slice_index s.words (index_of start places.Next))), k.0, k.1))
 
 module _ {X B : Type 0} (stored : B → Stored) (keeps : Start → Kept X → Type 0) (tied : Start → ℕ → List ℕ → ℕ → List ℕ → Type 0) (start : Origin) (tells : Bool) (s : Table (Option B) (View X)) (id : ℕ) (v : View X) (is : IsPassOf stored start keeps tied tells s id v) where
   abbrev r : Ruled stored keeps tied start tells s
@@ -131,37 +91,21 @@ module _ {X B : Type 0} (stored : B → Stored) (keeps : Start → Kept X → Ty
     abbrev views' : List (View X)
     views' = split-views s.views id part v is.there
 
-    abbrev late : Table (Option B) (View X)
-    late = table_split s id part v
-
-    parted : Resettles s.views views' 1 (length s.views) id
-    parted = split-resettles s.views id part v is.there
-
-    one-more : length views' ≡ length s.views + 1
-    one-more = let n = parted.count in omega (arith, n)
-
-    blocks-same : block_of stored s.homes views' ≡ block_of stored s.homes s.views
-    blocks-same = settled-blocks stored start r.releases r.drafts s views' 1 (length s.views) id parted
-
-    seats-same : seats_of views' ≡ seats_of s.views
-    seats-same = fun_ext (λ p. fun_ext (λ a. same-field s.views id part v is.there (λ y. seat_of y p) refl refl a))
-
-    held-same : frames_held views' ≡ frames_held s.views
-    held-same = fun_ext (λ a. fun_ext (λ f. same-field s.views id part v is.there (λ y. has f y.frames) refl refl a))
-
-    loads-same : loads_of views' ≡ loads_of s.views
-    loads-same = fun_ext (λ p. fun_ext (λ a. same-field s.views id part v is.there (λ y. loads_at y p) refl refl a))
-
-    split-world : world_of stored start r.releases r.drafts late ≡ with_actor before
-    split-world i = record {
-      core = record (core_shown stored start s) {
-        shape = record { pages = start.pages; frames = start.frames; actors = one-more i; next = start.next };
-        pages = pages_from start.pages (table_words start s.words) (blocks-same i) (seats-same i);
-        held = held-same i;
-      };
-      histories = histories_of start r.releases r.drafts;
-      loads = loads-same i;
-    }
+    split-world : world_of stored start r.releases r.drafts (table_split s id part v) ≡ with_actor before
+    split-world =
+        let one-more : length views' ≡ length s.views + 1 = (let n = (split-resettles s.views id part v is.there).count in omega (arith, n)) in
+        let seats-same : seats_of views' ≡ seats_of s.views = fun_ext (λ p. fun_ext (λ a. same-field s.views id part v is.there (λ y. seat_of y p) refl refl a)) in
+        let held-same : frames_held views' ≡ frames_held s.views = fun_ext (λ a. fun_ext (λ f. same-field s.views id part v is.there (λ y. has f y.frames) refl refl a)) in
+        let loads-same : loads_of views' ≡ loads_of s.views = fun_ext (λ p. fun_ext (λ a. same-field s.views id part v is.there (λ y. loads_at y p) refl refl a)) in
+        (λ i. record {
+          core = record (core_shown stored start s) {
+            shape = record { pages = start.pages; frames = start.frames; actors = one-more i; next = start.next };
+            pages = pages_from start.pages (table_words start s.words) ((settled-blocks stored start r.releases r.drafts s views' 1 (length s.views) id (split-resettles s.views id part v is.there)) i) (seats-same i);
+            held = held-same i;
+          };
+          histories = histories_of start r.releases r.drafts;
+          loads = loads-same i;
+        })
 
     -- past the last actor nobody has anything
     none-past : HasNone before (length s.views)
@@ -174,7 +118,7 @@ module _ {X B : Type 0} (stored : B → Stored) (keeps : Start → Kept X → Ty
       loads = λ p. ap (λ (y : View X). loads_at y p) (at-past spent s.views (length s.views) (omega arith));
     }
 
-    pub split-no-event : IsSplitOff stored keeps tied start tells s r late
+    pub split-no-event : IsSplitOff stored keeps tied start tells s r (table_split s id part v)
     split-no-event =
         let past = splits-past stored keeps tied start tells s r id part v is.there is.live number in
         record {
@@ -197,21 +141,15 @@ module _ {X B : Type 0} (stored : B → Stored) (keeps : Start → Kept X → Ty
     here : at spent both' id ≡ took
     here = at-first s.views id other v w took spent is.there apart at-other
 
-    gone : at spent both' other ≡ spent
-    gone = at-second s.views id other v w took spent is.there apart at-other
-
-    neither : (a : ℕ) → a ≢ id → a ≢ other → at spent both' a ≡ at spent s.views a
-    neither = at-neither s.views id other v w took spent is.there apart at-other
-
     -- a field of the views, of which a spent one has this, and the one that takes in another has what it had
     field-taken : {A : Type 0} (f : View X → A) (none : A) → f spent ≡ none → f took ≡ f v → (λ a. f (at spent both' a)) ≡ upd (λ a. f (at spent s.views a)) other none
     field-taken f none nothing same =
         fun_ext (λ a. ⊎_elim
-        (λ (e : a ≡ other). ap (λ n. f (at spent both' n)) e ∙ ap f gone ∙ nothing ∙ sym (ap (upd (λ n. f (at spent s.views n)) other none) e ∙ upd-same (λ n. f (at spent s.views n)) other none))
+        (λ (e : a ≡ other). ap (λ n. f (at spent both' n)) e ∙ ap f (at-second s.views id other v w took spent is.there apart at-other) ∙ nothing ∙ sym (ap (upd (λ n. f (at spent s.views n)) other none) e ∙ upd-same (λ n. f (at spent s.views n)) other none))
         (λ (m : a ≢ other).
         ⊎_elim
         (λ (e : a ≡ id). ap (λ n. f (at spent both' n)) e ∙ ap f here ∙ same ∙ sym (ap (λ n. f (at spent s.views n)) e ∙ ap f (at-there spent s.views id v is.there)))
-        (λ (n : a ≢ id). ap f (neither a n m))
+        (λ (n : a ≢ id). ap f ((at-neither s.views id other v w took spent is.there apart at-other) a n m))
         (cases_eq a id)
         ∙ sym (upd-other (λ n. f (at spent s.views n)) other none a m))
         (cases_eq a other))
@@ -229,7 +167,7 @@ module _ {X B : Type 0} (stored : B → Stored) (keeps : Start → Kept X → Ty
         ∙ sym (ap (λ (y : Page). record y { seats = upd y.seats other no_seat }) (page-in start.pages (table_words start s.words) (block_of stored s.homes s.views) (seats_of s.views) p l)))
         (λ le.
         page-out start.pages (table_words start s.words) (block_of stored s.homes both') (seats_of both') p le
-        ∙ sym (ap (λ (y : Page). record y { seats = upd y.seats other no_seat }) (page-out start.pages (table_words start s.words) (block_of stored s.homes s.views) (seats_of s.views) p le) ∙ (λ i. record outside_page { seats = none-still other i })))
+        ∙ sym (ap (λ (y : Page). record y { seats = upd y.seats other no_seat }) (page-out start.pages (table_words start s.words) (block_of stored s.homes s.views) (seats_of s.views) p le) ∙ (λ i. record outside_page { seats = (upd-self (λ (_ : ℕ). no_seat) other) i })))
         (cases_lt p start.pages))
 
     -- the frames of both, and none
@@ -243,7 +181,7 @@ module _ {X B : Type 0} (stored : B → Stored) (keeps : Start → Kept X → Ty
     held-taken = fun_ext (λ a. ⊎_elim
         (λ (e : a ≡ other).
         ap (frames_held both') e
-        ∙ ap (λ (y : View X). (λ f. has f y.frames)) gone
+        ∙ ap (λ (y : View X). (λ f. has f y.frames)) (at-second s.views id other v w took spent is.there apart at-other)
         ∙ sym (ap (upd (upd (frames_held s.views) id two) other none) e ∙ upd-same (upd (frames_held s.views) id two) other none))
         (λ (m : a ≢ other).
         ⊎_elim
@@ -253,7 +191,7 @@ module _ {X B : Type 0} (stored : B → Stored) (keeps : Start → Kept X → Ty
         ∙ fun_ext (λ f. frames f ∙ (λ i. has f (sym (at-there spent s.views other w at-other) i).frames || has f (sym (at-there spent s.views id v is.there) i).frames))
         ∙ sym (ap (upd (frames_held s.views) id two) e ∙ upd-same (frames_held s.views) id two))
         (λ (n : a ≢ id).
-        ap (λ (y : View X). (λ f. has f y.frames)) (neither a n m)
+        ap (λ (y : View X). (λ f. has f y.frames)) ((at-neither s.views id other v w took spent is.there apart at-other) a n m)
         ∙ sym (upd-other (frames_held s.views) id two a n))
         (cases_eq a id)
         ∙ sym (upd-other (upd (frames_held s.views) id two) other none a m))

@@ -1,24 +1,17 @@
 -- A fault word that is raised to the count of the page's block: a count that it rises to was noted by nobody before; that the table allows it.
 --
 -- What a raise of a page's fault word leaves: the step works on that page, which is locked meanwhile; a count that the word rises to is noted.
-use Rattle.std.proofs.Common.{[], ⊎_elim, ◌++◌, ◌+◌, ◌<◌, ◌∙◌, ◌∷◌, ◌≡◌, ◌≢◌, ◌≤◌, ◌⊎◌, ap, arith, Bool, eq-eqb, inl, inr, length, length-set, List}
-use Rattle.std.proofs.Common.{ne_eqb, None, Option, refl, slice_set, subst, suc, sym, true, ℕ}
-use Rattle.std.proofs.lemmas.Bool.{cases_eq, cases_lt, le-ltb, lt-ltb}
-use Rattle.atomic_table.proofs.Lists.{at_set}
-use Rattle.vm_core.specs.Prelude.{get_elem?, Legal, MAX_COUNT, Page, raised, some, upd, World, world_after}
-use Rattle.vm_core.specs.declared.event.Event.TheVariants.{Raise}
-use Rattle.vm_core.proofs.Upd.{upd-other, upd-same}
-use Rattle.vm_laws_others.proofs.Laws.{leave_others}
-use Rattle.vm_rule.specs.Prelude.{block_of, core_shown, did_store, FaultsFit, held_at, index_of, is_pending, Kept, KnowsPage, KnowsPages, Leaves}
-use Rattle.vm_rule.specs.Prelude.{listed, may_call, no_held, notes_of, put, put_at, RaiseTold, Ruled, seat_of, Stands, Start, Stored, Table}
-use Rattle.vm_rule.specs.Prelude.{times_noted, total, world_of}
-use Rattle.vm_rule.specs.{declared.view.Held.Held, Faults.raised_view}
+use Rattle.std.proofs.Common.{eq-eqb, ne_eqb}
 use Rattle.vm_rule.specs.declared.view.Place.TheVariants as places
-use Rattle.vm_rule.proofs.{Adding.after_more, Adding.became_more, Bringing.steps_more, Facts.blocks-still, FrameWorlds.raise-step, Runs.event_law}
-use Rattle.vm_rule.proofs.Views.{at-bound, block-same, total-set}
-use Rattle.vm_step.specs.Prelude.{AllowsStep, Did, IsPlacedAt, MayRaise, Note, Origin, Shape, told_of, View, Works}
-use Rattle.vm_step.proofs.{Fit.fit, Leaves.works-one, Slots.device-shows, Slots.may-call, Standing.allows, Written.spelled-still}
-use Rattle.vm_step.proofs.{Written.stands-there}
+use Rattle.vm_step.proofs.{Fit.fit, Leaves.works-one, Slots.device-shows, Slots.may-call, Standing.allows, Written.word-left}
+use Rattle.vm_step.proofs.Prelude.{[], after_more, AllowsStep, ap, arith, at-bound, at_set, became_more, block-same, block_of, blocks-still, Bool}
+use Rattle.vm_step.proofs.Prelude.{cases_eq, cases_lt, core_shown, Did, did_store, each-upd2, event_law, FaultsFit, get_elem?, Held, held_at}
+use Rattle.vm_step.proofs.Prelude.{index_of, inl, inr, is_pending, IsPlacedAt, Kept, KnowsPage, KnowsPages, le-ltb, leave_others, Leaves, Legal}
+use Rattle.vm_step.proofs.Prelude.{length, List, listed, lt-ltb, MAX_COUNT, may_call, MayRaise, no_held, None, Note, notes_of, Option, Origin, Page}
+use Rattle.vm_step.proofs.Prelude.{put, put_at, Raise, raise-step, raised, raised_view, RaiseTold, refl, Ruled, seat_of, Shape, slice_set, some}
+use Rattle.vm_step.proofs.Prelude.{Stands, Start, steps_more, Stored, subst, suc, sym, Table, times_noted, told_of, total, total-set, true, upd}
+use Rattle.vm_step.proofs.Prelude.{upd-other, upd-same, View, Works, World, world_after, world_of, ℕ, ⊎_elim, ◌++◌, ◌+◌, ◌<◌, ◌∙◌, ◌∷◌, ◌≡◌, ◌≢◌, ◌≤◌}
+use Rattle.vm_step.proofs.Prelude.{◌⊎◌}
 
 -- ---- notes
 
@@ -29,38 +22,25 @@ noted-both p count (n ∷ ns) m = let rest : times_noted p count (ns ++ m) ≡ t
 abbrev note : ℕ → ℕ → Note
 note p count = record { page = p; count = count }
 
--- one note is of one count of one page
-noted-one : (p count q n : ℕ) → (times_noted q n (note p count ∷ []) ≡ 0) ⊎ ((times_noted q n (note p count ∷ []) ≡ 1) × (p ≡ q) × (count ≡ n))
-noted-one p count q n =
-    ⊎_elim
-    (λ (e : p ≡ q). ⊎_elim
-    (λ (e' : count ≡ n). inr (rw (eq-eqb p q e, eq-eqb count n e') refl, e, e'))
-    (λ (ne : count ≢ n). inl (rw (eq-eqb p q e, ne_eqb count n ne) refl))
-    (cases_eq count n))
-    (λ (ne : p ≢ q). inl (rw (ne_eqb p q ne) refl))
-    (cases_eq p q)
-
--- what is noted at a raise: nothing, or the count, which the fault word rises to or which is the last
-noted-raise : (p fault count : ℕ) → (notes_of p fault count ≡ []) ⊎ ((notes_of p fault count ≡ note p count ∷ []) × ((fault < count) ⊎ (count ≡ MAX_COUNT)))
-noted-raise p fault count =
-    ⊎_elim
-    (λ lt. inr (rw (lt-ltb fault count lt) refl, inl lt))
-    (λ le. ⊎_elim
-    (λ e. inr (rw (le-ltb fault count le, eq-eqb count MAX_COUNT e) refl, inr e))
-    (λ ne. inl (rw (le-ltb fault count le, ne_eqb count MAX_COUNT ne) refl))
-    (cases_eq count MAX_COUNT))
-    (cases_lt fault count)
-
--- so of any count of any page: it is not among the new notes, or it is the one
+-- what is noted at a raise is nothing, or the count, which the fault word rises to or which is the last: so of any count of any page, it is not among the new notes, or is the one
 noted-new : (p fault count q n : ℕ) → (times_noted q n (notes_of p fault count) ≡ 0) ⊎ ((times_noted q n (notes_of p fault count) ≡ 1) × (p ≡ q) × (count ≡ n) × ((fault < count) ⊎ (count ≡ MAX_COUNT)))
 noted-new p fault count q n =
     ⊎_elim
-    (λ none. inl (ap (times_noted q n) none))
-    (λ k. ⊎_elim
-    (λ z. inl (ap (times_noted q n) k.0 ∙ z))
-    (λ o. inr (ap (times_noted q n) k.0 ∙ o.0, o.1, o.2, k.1))
-    (noted-one p count q n))
-    (noted-raise p fault count)
+    (λ lt. one (rw (lt-ltb fault count lt) refl) (inl lt))
+    (λ le. ⊎_elim
+    (λ e. one (rw (le-ltb fault count le, eq-eqb count MAX_COUNT e) refl) (inr e))
+    (λ ne. inl (rw (le-ltb fault count le, ne_eqb count MAX_COUNT ne) refl))
+    (cases_eq count MAX_COUNT))
+    (cases_lt fault count)
+  where
+    one : notes_of p fault count ≡ note p count ∷ [] → (fault < count) ⊎ (count ≡ MAX_COUNT) → (times_noted q n (notes_of p fault count) ≡ 0) ⊎ ((times_noted q n (notes_of p fault count) ≡ 1) × (p ≡ q) × (count ≡ n) × ((fault < count) ⊎ (count ≡ MAX_COUNT)))
+    one is up = ⊎_elim
+        (λ (e : p ≡ q). ⊎_elim
+        (λ (e' : count ≡ n). inr (ap (times_noted q n) is ∙ rw (eq-eqb p q e, eq-eqb count n e') refl, e, e', up))
+        (λ (ne : count ≢ n). inl (ap (times_noted q n) is ∙ rw (eq-eqb p q e, ne_eqb count n ne) refl))
+        (cases_eq count n))
+        (λ (ne : p ≢ q). inl (ap (times_noted q n) is ∙ rw (ne_eqb p q ne) refl))
+        (cases_eq p q)
 
 total-none : {X : Type 0} (f : View X → ℕ) (views : List (View X)) → ((j : ℕ) (u : View X) → get_elem? views j ≡ some u → f u ≡ 0) → total f views ≡ 0
 total-none f [] k = refl
@@ -95,15 +75,9 @@ module _ {X B : Type 0} (stored : B → Stored) (keeps : Start → Kept X → Ty
   abbrev pub raise-view : ℕ → ℕ → View X
   raise-view p count = after_more stored keeps tied start tells s r id v (raise-words p count) s.homes blocks r.drafts [] [] (raise-did p count) (raised_view p count v)
 
-  abbrev pub raise-table : ℕ → ℕ → Table (Option B) (View X)
-  raise-table p count = became_more stored keeps tied start tells s r id v (raise-words p count) s.homes blocks r.drafts [] [] (raise-did p count) (raised_view p count v)
-
   module _ (p count : ℕ) (l : p < start.pages) (may : MayRaise v p count) where
     abbrev fault : ℕ
     fault = (held_at v p).fault
-
-    fault-is : fault ≡ (page p).fault
-    fault-is = ((mine.knows p).calls may.calls).1
 
     raise-left : Leaves id world (world_after world (Raise id p))
     raise-left = leave_others world (Raise id p) r.inv (raise-legal p l may.calls)
@@ -145,7 +119,7 @@ module _ {X B : Type 0} (stored : B → Stored) (keeps : Start → Kept X → Ty
         let none : total f s.views ≡ 0 = total-none f s.views (λ j u at. ⊎_elim
         (λ (le : 1 ≤ f u). absurd (
         let below : n ≤ (page q).fault = (r.faults.noted j u at q n le).1 in
-        let here : fault ≡ (page q).fault = fault-is ∙ ap (λ m. (page m).fault) k.1 in
+        let here : fault ≡ (page q).fault = (((mine.knows p).calls may.calls).1) ∙ ap (λ m. (page m).fault) k.1 in
         omega arith))
         (λ (lt : f u < 1). omega arith)
         (⊎_elim (λ lt. inr lt) (λ le. inl le) (cases_lt (f u) 1))) in
@@ -163,19 +137,17 @@ module _ {X B : Type 0} (stored : B → Stored) (keeps : Start → Kept X → Ty
       once = once-after;
     }
 
-    pub raise-keeps : 0 < length v.used → Ruled stored keeps tied start tells (raise-table p count) × RaiseTold p count v (raise-view p count)
+    pub raise-keeps : 0 < length v.used → Ruled stored keeps tied start tells (became_more stored keeps tied start tells s r id v (raise-words p count) s.homes blocks r.drafts [] [] (raise-did p count) (raised_view p count v)) × RaiseTold p count v (raise-view p count)
     raise-keeps number =
         let h : Held = record (held_at v p) { fault = count } in
         let w : View X = raise-view p count in
-        let place : ℕ = index_of start (places.Fault p) in
         let y : Page = raised (page p) in
         let knows = (mine.knows p).calls may.calls in
         let done = steps_more stored keeps tied start tells s r id v (raise-words p count) s.homes blocks None r.drafts [] [] (raise-did p count) (raised_view p count v) there live number refl refl
         (device-shows stored keeps tied start tells s r id v (raise-words p count) s.homes blocks (raise-did p count) v.out (put p h v.held) (v.notes ++ notes_of p fault count) (world_after world (Raise id p)).core there live
         (record {
-          wide = length-set s.words place count ∙ r.wide.0;
+          word = word-left start s.words (raise-did p count) count r.wide.0 r.spelled l refl tt refl;
           slots = r.wide.1;
-          spelled = spelled-still start s.words (places.Fault p) count r.wide.0 l refl r.spelled;
           core_is = ap (λ (x : World). x.core) (raise-step stored start s r.releases r.drafts id v w p count r.wide.0 l there refl refl refl refl (count-known p count may));
           inv = event_law world (Raise id p) r.inv (raise-legal p l may.calls);
           left = raise-left;
@@ -184,15 +156,9 @@ module _ {X B : Type 0} (stored : B → Stored) (keeps : Start → Kept X → Ty
           told = ap (listed start.pages) (block-same stored s.homes s.views id v w there refl);
           fit = blocks-still stored start s.homes s.views id v w there refl (λ o x. (r.blocks.away id v o there x).1) r.blocks;
           faults = raise-faults;
-          at = l;
-          found = tt;
-          wrote = stands-there start s.words (places.Fault p) count r.wide.0 l;
-          knows = λ q. ⊎_elim
-              (λ e. subst (λ m. KnowsPage (seat_of v m) (put_at no_held (put p h v.held) m) (upd world.core.pages p y m)) (sym e)
-              (rw (upd-same world.core.pages p y, upd-same (put_at no_held v.held) p h)
-              (record { calls = λ _. (knows.0, count-known p count may, knows.2, knows.3); shares = (mine.knows p).shares })))
-              (λ ne. rw (upd-other world.core.pages p y q ne, upd-other (put_at no_held v.held) p h q ne) (mine.knows q))
-              (cases_eq q p);
+          knows = each-upd2 (λ q (x : Held) (z : Page). KnowsPage (seat_of v q) x z) (put_at no_held v.held) world.core.pages p h y
+              (record { calls = λ _. (knows.0, count-known p count may, knows.2, knows.3); shares = (mine.knows p).shares })
+              (λ q _. mine.knows q);
         })) in
         (done.0, record { brings = done.1 })
 
@@ -208,14 +174,8 @@ module _ {X B : Type 0} (stored : B → Stored) (keeps : Start → Kept X → Ty
       (raise-view stored keeps tied start tells s r id v there live p count, k.0, k.1))
 
 module _ {X : Type 0} {p count : ℕ} {v w : View X} (t : RaiseTold p count v w) where
-  abbrev pub raised-did : Did
-  raised-did = did_store (places.Fault p) count
-
-  pub raise-works : Works p (raised-did ∷ []) v w
-  raise-works = works-one p raised-did None v _ v.frames v.contents v.out _ w (λ q ne. upd-other (put_at no_held v.held) p _ q ne) t.brings
+  pub raise-works : Works p (did_store (places.Fault p) count ∷ []) v w
+  raise-works = works-one p (did_store (places.Fault p) count) None v _ v.frames v.contents v.out _ w (λ q ne. upd-other (put_at no_held v.held) p _ q ne) t.brings
 
   pub raise-held : held_at w p ≡ record (held_at v p) { fault = count }
   raise-held = ap (λ (x : View X). held_at x p) t.brings.view ∙ upd-same (put_at no_held v.held) p _
-
-  pub raise-notes : w.notes ≡ v.notes ++ notes_of p (held_at v p).fault count
-  raise-notes = ap (λ (x : View X). x.notes) t.brings.view

@@ -3,44 +3,47 @@
 --
 -- What a release leaves: it speaks of one page, whose exclusive lock it gives up, of what the pass says, and of the group. So do a release of a
 -- page that is not resident, and a release to a share, which say nothing.
-use Rattle.std.proofs.Common.{[], ⊎_elim, ◌++◌, ◌+◌, ◌<◌, ◌||◌, ◌∙◌, ◌∷◌, ◌≡◌, ◌≢◌, ◌≤◌, ap, arith, Bool, eqb, false, length, length-set, List, None}
-use Rattle.std.proofs.Common.{Option, refl, replicate, slice_index, slice_set, Some, subst, suc, sym, true, true≢false, ℕ}
-use Rattle.std.proofs.lemmas.Bool.{cases_Bool, cases_eq, cond-false, eq-eqb, false≢true, ne_eqb}
-use mathlib.Core.Path.{fun_ext}
-use Rattle.atomic_table.proofs.Lists.{at_set, set_here}
-use Rattle.vm_core.specs.Prelude.{EVICTED, frame_of, get_elem?, History, LOCKED, MAX_VERSION, no_seat, Page, some, Version, word_of, World}
 use Rattle.vm_core.specs.declared.event.Seen.TheVariants as sights
-use Rattle.vm_core.proofs.Upd.{upd-other, upd-same}
-use Rattle.vm_owner.specs.Kept.{after_release, after_release as released_kept, Agrees, AreSized, Fits, IsTurn, owed_after}
-use Rattle.vm_owner.proofs.{NumberLemmas.without-none, Unchanged.released_same}
-use Rattle.vm_rule.specs.Prelude.{AreApart, AreUnchanged, began_of, Brings, BringsWith, Change, changes_of, chosen, core_shown, did_store}
-use Rattle.vm_rule.specs.Prelude.{DowngradeTold, draft_of, Each, entries_of, Entry, EvictTold, has, held_at, histories_of, index_of, is_owed}
-use Rattle.vm_rule.specs.Prelude.{is_pending, Kept, kept_of, KnowsPage, last_in, last_of, loads_at, logical, may_call, no_held, put, put_at}
-use Rattle.vm_rule.specs.Prelude.{ReleaseTold, Ruled, Seat, seat_of, Stands, Start, Stored, without, world_of}
+use Rattle.vm_owner.specs.Kept.{after_release as released_kept}
 use Rattle.vm_rule.specs.declared.view.Place.TheVariants as places
-use Rattle.vm_rule.proofs.{Adding.Shows, Bringing.steps, Entries.append-none, Found.next-here, Parts.listed-same, Views.any-same, Views.at-bound}
-use Rattle.vm_rule.proofs.Facts.{any-here, any-true, locked-here}
-use Rattle.vm_rule.proofs.Worlds.{draft-is, last-is, release-here}
-use Rattle.vm_step.specs.Prelude.{AllowsStep, Did, IsEvent, IsFirst, IsKeptNow, IsMember, IsPlacedAt, LeavesRest, MayDowngrade, MayEvict, MayGiveUp}
-use Rattle.vm_step.specs.Prelude.{Origin, Release, ReleaseTells, Shape, StaysAlone, table_after, told_of, View}
-use Rattle.vm_step.specs.steps.Release.{DowngradeIsItsEvent, IsLater, ReleaseEvictedIsItsEvent, ReleaseIsItsEvent}
-use Rattle.vm_step.proofs.{Asides.alone-release, Evidenced.next-stays, Fit.fit, OwedPages.owed_after-chosen, Standing.allows, steps.Look.is-turn}
-use Rattle.vm_step.proofs.{Unclaimed.draft-unclaimed, Written.spelled-still, Written.stands-there}
+use Rattle.vm_step.proofs.{Asides.alone-release, Evidenced.next-stays, Fit.fit, Keeping.kept-now, OwedPages.owed_after-chosen, Releasing.Way.Evicts}
+use Rattle.vm_step.proofs.{Standing.allows, steps.Look.is-turn, Unclaimed.draft-unclaimed, Written.spelled-still, Written.stands-there}
 use Rattle.vm_step.proofs.Groups.{changed-listed, chosen-has, has-without_all, has-without_all_other, has-without_all_same, listed-agrees}
-use Rattle.vm_step.proofs.Logical.{length-listed, logical-draft, logical-last, logical-same, not-pending, page-listed}
+use Rattle.vm_step.proofs.Logical.{logical-draft, logical-last, logical-same, not-pending}
 use Rattle.vm_step.proofs.Mine.{member-mine, not-member, not-owed, owed-mine}
+use Rattle.vm_step.proofs.Prelude.{[], after_release, Agrees, AllowsStep, any-here, any-same, any-true, ap, append-none, AreApart, AreSized}
+use Rattle.vm_step.proofs.Prelude.{AreUnchanged, arith, at-bound, at_set, began_of, Bool, Brings, BringsWith, cases_Bool, cases_eq, Change}
+use Rattle.vm_step.proofs.Prelude.{changes_of, chosen, cond-false, core_shown, Did, did_store, DowngradeIsItsEvent, DowngradeTold, draft-is, draft_of}
+use Rattle.vm_step.proofs.Prelude.{Each, entries_of, Entry, eq-eqb, eqb, EVICTED, EvictTold, false, false_from_ne_true, false≢true, Fits, frame_of}
+use Rattle.vm_step.proofs.Prelude.{fun_ext, get_elem?, has, histories_of, History, index_of, is_owed, is_pending, IsEvent, IsFirst, IsKeptNow}
+use Rattle.vm_step.proofs.Prelude.{IsLater, IsMember, IsPlacedAt, IsTurn, Kept, kept_of, KnowsPage, last-is, last_in, last_of, LeavesRest, length}
+use Rattle.vm_step.proofs.Prelude.{length-set, List, listed-same, loads_at, LOCKED, locked-here, logical, MAX_VERSION, may_call, MayDowngrade}
+use Rattle.vm_step.proofs.Prelude.{MayEvict, MayGiveUp, ne_eqb, next-here, no_held, no_seat, None, Option, or_parts, Origin, owed_after, Page, put}
+use Rattle.vm_step.proofs.Prelude.{put_at, refl, Release, release-here, released_same, ReleaseEvictedIsItsEvent, ReleaseIsItsEvent, ReleaseTells}
+use Rattle.vm_step.proofs.Prelude.{ReleaseTold, replicate, Ruled, Seat, seat_of, set_here, Shape, Shows, slice_index, slice_set, Some, some, Stands}
+use Rattle.vm_step.proofs.Prelude.{Start, StaysAlone, steps, Stored, subst, suc, sym, table_after, told_of, true, true≢false, upd-other, upd-same}
+use Rattle.vm_step.proofs.Prelude.{View, without, without-none, word_of, World, world_of, ℕ, ⊎_elim, ◌++◌, ◌+◌, ◌<◌, ◌||◌, ◌∙◌, ◌∷◌, ◌≡◌, ◌≢◌, ◌≤◌}
 use Rattle.vm_step.proofs.Releasing.{calls-p, changes-each, changes-pages, claimed, downgraded-is, downgrading, draft-known, each-has, entries-one}
 use Rattle.vm_step.proofs.Releasing.{event, evicted-is, evicted-same, evicting, frames-are, giving-up, history-else, inner, last-here, last-known}
 use Rattle.vm_step.proofs.Releasing.{left, left-actor, left-exclusive, left-sees, left-step, member-is, member-page, Members, members-are, mine, new}
 use Rattle.vm_step.proofs.Releasing.{next-is, next-kept, next-version, old, own, page-else, page-here, release-legal, released-state}
 use Rattle.vm_step.proofs.Releasing.{released-version, releases, Releasing, seat-else, seat-p, seat_left, state_left, still-owns, unwritten, Way}
 use Rattle.vm_step.proofs.Releasing.{word, words, world-is}
-use Rattle.vm_step.proofs.Releasing.Way.{Evicts, Shares, Unlocks}
-use Rattle.vm_step.proofs.steps.Leaving.{apart, LeavesOthers, LeavesOwn, others-from, own-from, rest-of}
+use Rattle.vm_step.proofs.steps.Leaving.{apart, LeavesOthers, LeavesOwn, others-tied, own-from, rest-of}
 
-or-true : (a b : Bool) → b ≡ true → (a || b) ≡ true
-or-true true b e = refl
-or-true false b e = e
+-- no release leaves the page locked exclusively
+left-free : (way : Way) → state_left way ≢ LOCKED
+left-free Evicts e = omega (arith, e)
+left-free _ e = omega (arith, e)
+
+-- changes of pages that keep their length
+sized-each : (cs : List Change) → Each (λ c. length c.new ≡ length c.old) cs → AreSized cs
+sized-each [] e = tt
+sized-each (c ∷ cs) e = (e.0, sized-each cs e.1)
+
+changes-many : {X : Type 0} (v : View X) (qs : List ℕ) → length (changes_of v qs) ≡ length qs
+changes-many v [] = refl
+changes-many v (q ∷ qs) = ap suc (changes-many v qs)
 
 module _ {X B : Type 0} {stored : B → Stored} {keeps : Start → Kept X → Type 0} {tied : Start → ℕ → List ℕ → ℕ → List ℕ → Type 0} {start : Origin} {tells : Bool} {may_release : Start → List ℕ → List Change → List (Entry X) → Type 0} (rel : Releasing stored keeps tied start tells may_release) where
   still-pending : (q : ℕ) → has q (inner rel).pending ≡ true → ((seat_of (inner rel) q).exclusive ≡ true) × (start.tells ≡ true → (core_shown stored start (new rel)).next ≤ q → rel.r.drafts q ≡ (histories_of start (releases rel) rel.r.drafts q).last.words)
@@ -56,14 +59,9 @@ module _ {X B : Type 0} {stored : B → Stored} {keeps : Start → Kept X → Ty
   still-owed q e =
       let k = has-without_all (rel.p ∷ rel.rest) rel.v.owed q e in
       let o = (mine rel).owed q k.0 in
-      let ne : q ≢ rel.p = (λ h. true≢false (sym (first q (eq-eqb q rel.p h)) ∙ k.1)) in
-      (still-owns rel q ne o.0, o.1, subst (λ n. q < n) (sym (next-is rel)) o.2, (members-are rel).others q ne (tail q k.1) ∙ o.3)
-    where
-      first : (q : ℕ) → eqb q rel.p ≡ true → has q (rel.p ∷ rel.rest) ≡ true
-      first q t = rw t refl
-
-      tail : (q : ℕ) → has q (rel.p ∷ rel.rest) ≡ false → has q rel.rest ≡ false
-      tail q none = ⊎_elim (λ t. absurd (true≢false (sym (or-true (eqb q rel.p) (has q rel.rest) t) ∙ none))) (λ f. f) (cases_Bool (has q rel.rest))
+      let none = or_parts (eqb q rel.p) (has q rel.rest) k.1 in
+      let ne : q ≢ rel.p = (λ h. true≢false (sym (eq-eqb q rel.p h) ∙ none.0)) in
+      (still-owns rel q ne o.0, o.1, subst (λ n. q < n) (sym (next-is rel)) o.2, (members-are rel).others q ne none.1 ∙ o.3)
 
   pub release-shows : (start.tells ≡ true → keeps (began_of start) (kept_of (old rel) rel.r.history rel.s.views) → keeps (began_of start) (kept_of (world_of stored start (releases rel) rel.r.drafts (new rel)) (rel.r.history ++ entries_of rel.v rel.said) (slice_set rel.s.views rel.id (left rel))))
       → Shows stored keeps tied start tells rel.s rel.r rel.id rel.v (words rel) rel.r.drafts (own rel ∷ []) (entries_of rel.v rel.said) (did_store (places.State rel.p) (word rel)) (inner rel) (event rel)
@@ -121,17 +119,6 @@ module _ {X B : Type 0} {stored : B → Stored} {keeps : Start → Kept X → Ty
     owner = owner;
   }
 
--- no release leaves the page locked exclusively
-left-free : (way : Way) → state_left way ≢ LOCKED
-left-free Evicts e = omega (arith, e)
-left-free Unlocks e = omega (arith, e)
-left-free Shares e = omega (arith, e)
-
-module _ {X B : Type 0} {stored : B → Stored} {keeps : Start → Kept X → Type 0} {tied : Start → ℕ → List ℕ → ℕ → List ℕ → Type 0} {start : Origin} {tells : Bool} {may_release : Start → List ℕ → List Change → List (Entry X) → Type 0} (rel : Releasing stored keeps tied start tells may_release) where
-  -- who is a member still to be released then, the pass holds
-  member-held : (q : ℕ) → has q (left rel).pending ≡ true → (seat_of rel.v q).exclusive ≡ true
-  member-held q e = ⊎_elim (λ was. ((mine rel).pending q was).0) (λ comes. (member-is rel q comes).owns) ((members-are rel).among q e).1
-
   -- a page that was never claimed has logical words of zeros after it
   release-zero : Shows stored keeps tied start tells rel.s rel.r rel.id rel.v (words rel) rel.r.drafts (own rel ∷ []) (entries_of rel.v rel.said) (did_store (places.State rel.p) (word rel)) (inner rel) (event rel)
       → start.tells ≡ true → (q : ℕ) → (core_shown stored start (new rel)).next ≤ q → q < start.pages
@@ -158,41 +145,16 @@ module _ {X B : Type 0} {stored : B → Stored} {keeps : Start → Kept X → Ty
   release-kept ruled owner t =
       let telling : start.tells ≡ true = rel.r.telling ∙ t in
       let same : (left rel).start ≡ start = (rel.r.heard rel.id rel.v rel.there rel.live).same_start in
-      let after : World = world_of stored start (releases rel) rel.r.drafts (new rel) in
-      let kept : Kept X = kept_of after (rel.r.history ++ entries_of rel.v rel.said) (slice_set rel.s.views rel.id (left rel)) in
       let free : ((core_shown stored start (new rel)).pages rel.p).state ≢ LOCKED = (λ e. left-free rel.way (sym (ap (λ (y : Page). y.state) (page-here rel)) ∙ e)) in
-      record {
-        kept = kept;
-        holds = subst (λ (o : Origin). keeps (began_of o) kept) (sym same) (owner telling (rel.r.owner telling));
-        history = refl;
-        pages = length-listed start.pages _ ∙ ap (λ (o : Origin). o.pages) (sym same);
-        page = λ _.
-            page-listed start.pages _ rel.p rel.inside
-            ∙ logical-last after.histories (is_pending (slice_set rel.s.views rel.id (left rel))) rel.p (not-pending stored keeps tied start tells (new rel) ruled rel.p rel.inside free)
-            ∙ ap (λ (x : Version). x.words) (sym (last-is start (releases rel) rel.r.drafts rel.p))
-            ∙ ap (λ (o : Origin). (last_in o (releases rel) rel.p).words) (sym same);
-        members = λ q l e.
-            page-listed start.pages _ q (subst (λ (o : Origin). q < o.pages) same l)
-            ∙ logical-draft after.histories (is_pending (slice_set rel.s.views rel.id (left rel))) q
-            (any-here (λ (u : View X). has q u.pending) (slice_set rel.s.views rel.id (left rel)) rel.id (left rel) (set_here rel.s.views rel.id (left rel) (at-bound rel.s.views rel.id rel.v rel.there)) e)
-            ∙ draft-is start (releases rel) rel.r.drafts q
-            ∙ sym (draft-known rel q (member-held q e));
-        zero = λ q le l.
-            let l' : q < start.pages = subst (λ (o : Origin). q < o.pages) same l in
-            page-listed start.pages _ q l' ∙ release-zero (release-shows rel owner) telling q le l';
-        next = λ _. ap (λ (o : Origin). slice_index (words rel) (index_of o places.Next)) same ∙ sym (next-here stored start (new rel));
-      }
+      kept-now stored keeps start (new rel) rel.r.drafts (left rel) rel.p (Unit {0}) rel.inside same (owner telling (rel.r.owner telling))
+      (λ _. not-pending stored keeps tied start tells (new rel) ruled rel.p rel.inside free)
+      (λ q e. (
+        any-here (λ (u : View X). has q u.pending) (slice_set rel.s.views rel.id (left rel)) rel.id (left rel) (set_here rel.s.views rel.id (left rel) (at-bound rel.s.views rel.id rel.v rel.there)) e,
+        sym (draft-known rel q (⊎_elim (λ was. ((mine rel).pending q was).0) (λ comes. (member-is rel q comes).owns) ((members-are rel).among q e).1)),
+      ))
+      (release-zero (release-shows owner) telling)
+      (λ _. ap (λ (o : Origin). slice_index (words rel) (index_of o places.Next)) same ∙ sym (next-here stored start (new rel)))
 
--- changes of pages that keep their length
-sized-each : (cs : List Change) → Each (λ c. length c.new ≡ length c.old) cs → AreSized cs
-sized-each [] e = tt
-sized-each (c ∷ cs) e = (e.0, sized-each cs e.1)
-
-changes-many : {X : Type 0} (v : View X) (qs : List ℕ) → length (changes_of v qs) ≡ length qs
-changes-many v [] = refl
-changes-many v (q ∷ qs) = ap suc (changes-many v qs)
-
-module _ {X B : Type 0} {stored : B → Stored} {keeps : Start → Kept X → Type 0} {tied : Start → ℕ → List ℕ → ℕ → List ℕ → Type 0} {start : Origin} {tells : Bool} {may_release : Start → List ℕ → List Change → List (Entry X) → Type 0} (rel : Releasing stored keeps tied start tells may_release) where
   abbrev before : Kept X
   before = kept_of (old rel) rel.r.history rel.s.views
 
@@ -218,9 +180,6 @@ module _ {X B : Type 0} {stored : B → Stored} {keeps : Start → Kept X → Ty
   draft : (q : ℕ) → (seat_of rel.v q).exclusive ≡ true → draft_of rel.v q ≡ rel.r.drafts q
   draft q owns = draft-known rel q owns
 
-  else : (q : ℕ) → q ≢ rel.p → h' q ≡ h q
-  else q ne = history-else rel q ne
-
   -- ---- the logical words
 
   -- the released page's are the words that were its draft
@@ -240,8 +199,8 @@ module _ {X B : Type 0} {stored : B → Stored} {keeps : Start → Kept X → Ty
   logical-else : (q : ℕ) → q ≢ rel.p → has q rel.rest ≡ false → logical h' m' q ≡ logical h (is_pending rel.s.views) q
   logical-else q ne none =
       logical-same h' h m' (is_pending rel.s.views) q (any-same (λ (u : View X). has q u.pending) rel.s.views rel.id rel.v w rel.there (group.others q ne none))
-      (λ _. ap (λ (y : History). y.draft) (else q ne))
-      (λ _. ap (λ (y : History). y.last.words) (else q ne))
+      (λ _. ap (λ (y : History). y.draft) (history-else rel q ne))
+      (λ _. ap (λ (y : History). y.last.words) (history-else rel q ne))
 
   -- ---- the first of a group
 
@@ -255,18 +214,14 @@ module _ {X B : Type 0} {stored : B → Stored} {keeps : Start → Kept X → Ty
     -- a member was none before
     free : (q : ℕ) → has q (rel.p ∷ rel.rest) ≡ true → is_pending rel.s.views q ≡ false
     free q e =
-        ⊎_elim (λ t. absurd (true≢false (sym (member-mine stored keeps tied start tells rel.s rel.r rel.id rel.v rel.there rel.live q (page q e) (member q e).owns t) ∙ (member q e).free))) (λ f. f)
-        (cases_Bool (is_pending rel.s.views q))
+        false_from_ne_true (is_pending rel.s.views q) (λ t. true≢false (sym (member-mine stored keeps tied start tells rel.s rel.r rel.id rel.v rel.there rel.live q (page q e) (member q e).owns t) ∙ (member q e).free))
 
     new-words : (q : ℕ) → has q (rel.p ∷ rel.rest) ≡ true → logical h' m' q ≡ draft_of rel.v q
     new-words q e =
         ⊎_elim (λ (same : q ≡ rel.p). ap (logical h' m') same ∙ logical-here ∙ ap (draft_of rel.v) (sym same)) (λ ne. logical-member q (sym (ap (λ b. b || has q rel.rest) (ne_eqb q rel.p ne)) ∙ e)) (cases_eq q rel.p)
 
-    old-words : (q : ℕ) → has q (rel.p ∷ rel.rest) ≡ true → logical h (is_pending rel.s.views) q ≡ (last_of rel.v q).words
-    old-words q e = logical-last h (is_pending rel.s.views) q (free q e) ∙ sym (last-known rel q (member q e).owns)
-
     agrees : Agrees before.pages (changes_of rel.v (rel.p ∷ rel.rest))
-    agrees = listed-agrees start.pages (logical h (is_pending rel.s.views)) (changes_of rel.v (rel.p ∷ rel.rest)) (changes-each rel.v (λ c. (c.page < start.pages) × (logical h (is_pending rel.s.views) c.page ≡ c.old)) (rel.p ∷ rel.rest) (λ q e. (page q e, old-words q e)))
+    agrees = listed-agrees start.pages (logical h (is_pending rel.s.views)) (changes_of rel.v (rel.p ∷ rel.rest)) (changes-each rel.v (λ c. (c.page < start.pages) × (logical h (is_pending rel.s.views) c.page ≡ c.old)) (rel.p ∷ rel.rest) (λ q e. (page q e, (logical-last h (is_pending rel.s.views) q (free q e) ∙ sym (last-known rel q (member q e).owns)))))
 
     fits : Fits before rel.v.owed (changes_of rel.v (rel.p ∷ rel.rest))
     fits = record {
@@ -283,9 +238,6 @@ module _ {X B : Type 0} {stored : B → Stored} {keeps : Start → Kept X → Ty
           let l : q < start.pages = (let lt = o.2 in omega (arith, lt, inside)) in
           chosen-has start.pages (is_owed rel.s.views) q l ∙ any-here (λ (u : View X). has q u.owed) rel.s.views rel.id rel.v rel.there e;
     }
-
-    turn : 0 < length rel.v.used → IsTurn rel.r.history (entries_of rel.v rel.said)
-    turn number = is-turn start rel.r.releases rel.r.history rel.v rel.said (rel.r.heard rel.id rel.v rel.there rel.live) number
 
     -- the pages that are owed after it
     owed-released : owed_after (changes_of rel.v (rel.p ∷ rel.rest)) before.owed ≡ chosen start.pages (is_owed (slice_set rel.s.views rel.id w))
@@ -305,11 +257,7 @@ module _ {X B : Type 0} {stored : B → Stored} {keeps : Start → Kept X → Ty
     }
       where
         apart-of : (q : ℕ) → has q (rel.p ∷ rel.rest) ≡ false → (q ≢ rel.p) × (has q rel.rest ≡ false)
-        apart-of q e = ((λ same. true≢false (sym (ap (λ b. b || has q rel.rest) (eq-eqb q rel.p same)) ∙ e)), tail (eqb q rel.p) (has q rel.rest) e)
-          where
-            tail : (a b : Bool) → (a || b) ≡ false → b ≡ false
-            tail true b x = absurd (true≢false x)
-            tail false b x = x
+        apart-of q e = let none = or_parts (eqb q rel.p) (has q rel.rest) e in ((λ same. true≢false (sym (eq-eqb q rel.p same) ∙ none.0)), none.1)
 
     -- without an entry and a change, all is as before
     unchanged : rel.said ≡ None → AreUnchanged rel.v.owed (changes_of rel.v (rel.p ∷ rel.rest)) → released_kept (changes_of rel.v (rel.p ∷ rel.rest)) (entries_of rel.v rel.said) before ≡ before
@@ -318,7 +266,7 @@ module _ {X B : Type 0} {stored : B → Stored} {keeps : Start → Kept X → Ty
         ∙ released_same before rel.v.owed (changes_of rel.v (rel.p ∷ rel.rest)) agrees
         (λ q e due. let e' : has q (rel.p ∷ rel.rest) ≡ true = sym (ap (has q) (changes-pages rel.v (rel.p ∷ rel.rest))) ∙ e in
         chosen-has start.pages (is_owed rel.s.views) q (page q e')
-        ∙ ⊎_elim (λ t. absurd (true≢false (sym (owed-mine stored keeps tied start tells rel.s rel.r rel.id rel.v rel.there rel.live q (page q e') (member q e').owns t) ∙ due))) (λ f. f) (cases_Bool (is_owed rel.s.views q)))
+        ∙ false_from_ne_true (is_owed rel.s.views q) (λ t. true≢false (sym (owed-mine stored keeps tied start tells rel.s rel.r rel.id rel.v rel.there rel.live q (page q e') (member q e').owns t) ∙ due)))
         same
 
     module _
@@ -329,7 +277,7 @@ module _ {X B : Type 0} {stored : B → Stored} {keeps : Start → Kept X → Ty
           subst (keeps (began_of start)) after-is
           (⊎_elim
           (λ k. subst (keeps (began_of start)) (sym (unchanged k.0 k.1)) kept)
-          (λ may. law (began_of start) before rel.v.owed (changes_of rel.v (rel.p ∷ rel.rest)) (entries_of rel.v rel.said) kept fits (turn number) (subst (λ (o : Origin). may_release (began_of o) rel.v.owed (changes_of rel.v (rel.p ∷ rel.rest)) (entries_of rel.v rel.said)) same may))
+          (λ may. law (began_of start) before rel.v.owed (changes_of rel.v (rel.p ∷ rel.rest)) (entries_of rel.v rel.said) kept fits (is-turn start rel.r.releases rel.r.history rel.v rel.said (rel.r.heard rel.id rel.v rel.there rel.live) number) (subst (λ (o : Origin). may_release (began_of o) rel.v.owed (changes_of rel.v (rel.p ∷ rel.rest)) (entries_of rel.v rel.said)) same may))
           (first.owner (ap (λ (o : Origin). o.tells) same ∙ t)))
 
   -- ---- a later member
@@ -343,7 +291,7 @@ module _ {X B : Type 0} {stored : B → Stored} {keeps : Start → Kept X → Ty
       (λ (e : q ≡ rel.p). ap (logical h (is_pending rel.s.views)) e ∙ logical-draft h (is_pending rel.s.views) rel.p member ∙ draft-is start rel.r.releases rel.r.drafts rel.p ∙ sym (draft rel.p rel.owns) ∙ sym logical-here ∙ ap (logical h' m') (sym e))
       (λ ne. sym (logical-else q ne (none q)))
       (cases_eq q rel.p) in
-      let due : has rel.p rel.v.owed ≡ false = ⊎_elim (λ e. absurd (true≢false (sym later.pending ∙ ((mine rel).owed rel.p e).3))) (λ f. f) (cases_Bool (has rel.p rel.v.owed)) in
+      let due : has rel.p rel.v.owed ≡ false = false_from_ne_true (has rel.p rel.v.owed) (λ e. true≢false (sym later.pending ∙ ((mine rel).owed rel.p e).3)) in
       let owed-same : (q : ℕ) → has q w.owed ≡ has q rel.v.owed = λ q.
       ⊎_elim
       (λ (e : q ≡ rel.p). has-without_all_same (rel.p ∷ rel.rest) rel.v.owed q (ap (λ b. b || has q rel.rest) (eq-eqb q rel.p e)) ∙ sym due ∙ ap (λ n. has n rel.v.owed) (sym e))
@@ -383,9 +331,9 @@ module _ {X B : Type 0} (stored : B → Stored) (keeps : Start → Kept X → Ty
       (left rel, k.0, (record { brings = k.1 }, release-kept rel k.0 (release-owner start tells rel number))))
 
   -- a page that is not resident becomes Evicted, with the words that it had
-  pub evict-allows : (shape : Shape) (tells : Bool) (slots id : ℕ) (v : View X) (i : ℕ) (p version x : ℕ) → v.live ≡ true → 0 < length v.used → p < shape.pages → version < MAX_VERSION → MayEvict v p version → x ≡ word_of EVICTED (version + 1) → IsPlacedAt shape (places.State p) i
+  pub release_evicted-allows : (shape : Shape) (tells : Bool) (slots id : ℕ) (v : View X) (i : ℕ) (p version x : ℕ) → v.live ≡ true → 0 < length v.used → p < shape.pages → version < MAX_VERSION → MayEvict v p version → x ≡ word_of EVICTED (version + 1) → IsPlacedAt shape (places.State p) i
       → AllowsStep (Stands stored keeps tied shape tells) slots id v i (λ _. x) (told_of shape tells (λ _. ReleaseTells keeps tells p (EvictTold p version)))
-  evict-allows shape tells slots id v i p version x live number l below g spells is =
+  release_evicted-allows shape tells slots id v i p version x live number l below g spells is =
       allows stored keeps tied shape tells slots id v i (places.State p) (λ _. x) (λ _. word_of EVICTED (version + 1)) (λ _. ReleaseTells keeps tells p (EvictTold p version)) live is (λ _. spells) (λ _ w t. fit t.0.brings live)
       (λ start has s r there _.
       let low : p < start.pages = subst (λ n. p < n) (sym has.pages) l in
@@ -417,18 +365,18 @@ module _ {X B : Type 0} (stored : B → Stored) (start : Origin) (keeps : Start 
       }
 
 module _ {X B : Type 0} (stored : B → Stored) (keeps : Start → Kept X → Type 0) (tied : Start → ℕ → List ℕ → ℕ → List ℕ → Type 0) (tells : Bool) where
-  pub release_event : (may_release : Start → List ℕ → List Change → List (Entry X) → Type 0) → ReleaseIsItsEvent stored keeps tied tells may_release
-  release_event may_release start s id p version rest said v w pass lp below g told =
+  pub release-event : (may_release : Start → List ℕ → List Change → List (Entry X) → Type 0) → ReleaseIsItsEvent stored keeps tied tells may_release
+  release-event may_release start s id p version rest said v w pass lp below g told =
       let view = told.brings.view in
       left-event stored start keeps tied may_release tells (giving-up s pass.rule id v pass.there pass.live p version rest said lp below g) w (ap (λ (y : View X). y.out) view) (ap (λ (y : View X). y.frames) view) (ap (λ (y : View X). y.loads) view) (ap (λ (y : View X). y.seats) view)
 
-  pub evict_event : (may_release : Start → List ℕ → List Change → List (Entry X) → Type 0) → ReleaseEvictedIsItsEvent stored keeps tied tells
-  evict_event may_release start s id p version v w pass lp below g told =
+  pub release_evicted-event : (may_release : Start → List ℕ → List Change → List (Entry X) → Type 0) → ReleaseEvictedIsItsEvent stored keeps tied tells
+  release_evicted-event may_release start s id p version v w pass lp below g told =
       let view = told.brings.view in
       left-event stored start keeps tied may_release tells (evicting s pass.rule id v pass.there pass.live p version lp below g) w (ap (λ (y : View X). y.out) view) (ap (λ (y : View X). y.frames) view) (ap (λ (y : View X). y.loads) view) (ap (λ (y : View X). y.seats) view)
 
-  pub downgrade_event : (may_release : Start → List ℕ → List Change → List (Entry X) → Type 0) → DowngradeIsItsEvent stored keeps tied tells may_release
-  downgrade_event may_release start s id p version v w pass lp below g told =
+  pub downgrade-event : (may_release : Start → List ℕ → List Change → List (Entry X) → Type 0) → DowngradeIsItsEvent stored keeps tied tells may_release
+  downgrade-event may_release start s id p version v w pass lp below g told =
       let view = told.brings.view in
       left-event stored start keeps tied may_release tells (downgrading s pass.rule id v pass.there pass.live p version lp below g) w (ap (λ (y : View X). y.out) view) (ap (λ (y : View X). y.frames) view) (ap (λ (y : View X). y.loads) view) (ap (λ (y : View X). y.seats) view)
 
@@ -445,23 +393,17 @@ module _ {X : Type 0} {did : Did} {r : Release} {entries : List _} {v inner w : 
 -- ---- resident
 
 module _ {X : Type 0} {p version : ℕ} {rest : List ℕ} {said : Option X} {v w : View X} (t : ReleaseTold p version rest said v w) where
-  abbrev pub release-did : Did
-  release-did = did_store (places.State p) (version + 1)
-
   abbrev pub release-own : Release
   release-own = record { page = p; version = version + 1; words = draft_of v p }
 
-  pub release-others : (touched : ℕ → Type 0) → touched p → LeavesOthers touched (release-did ∷ []) (release-own ∷ []) v w
-  release-others touched at = others-from t.brings (at, tt) (λ q ne. upd-other (put_at no_seat v.seats) p _ q (apart touched at q ne)) (λ q ne. refl) (λ q ne. refl) (λ q ne. refl)
+  pub release-others : (touched : ℕ → Type 0) → touched p → LeavesOthers touched (did_store (places.State p) (version + 1) ∷ []) (release-own ∷ []) v w
+  release-others touched at = others-tied t.brings ([], refl) (at, tt) (λ q ne. upd-other (put_at no_seat v.seats) p _ q (apart touched at q ne)) (λ q ne. refl) (λ q ne. refl) (λ q ne. refl)
 
   pub release-seat : seat_of w p ≡ record (seat_of v p) { exclusive = false }
   release-seat = ap (λ (x : View X). seat_of x p) t.brings.view ∙ upd-same (put_at no_seat v.seats) p _
 
   pub release-loads : (q : ℕ) → loads_at w q ≡ loads_at v q
   release-loads q = ap (λ (x : View X). loads_at x q) t.brings.view
-
-  pub release-held : (q : ℕ) → held_at w q ≡ held_at v q
-  release-held q = ap (λ (x : View X). held_at x q) t.brings.view
 
   pub release-last : last_of w p ≡ record { version = version + 1; words = draft_of v p }
   release-last = released-last t.brings refl
@@ -473,29 +415,20 @@ module _ {X : Type 0} {p version : ℕ} {v w : View X} (t : ReleaseTold p versio
       own-from t.brings (append-none v.mine)
       (cond-false (has p v.pending) (without p v.pending) v.pending free, without-none p v.owed paid, next-stays p v.next next)
 
-  pub release-leaves : LeavesOwn v w → LeavesRest p (release-did t ∷ []) v w
-  release-leaves = rest-of (release-others t (λ q. q ≡ p) refl)
-
   -- a pass that is alone finds the words as they were, where the draft had them
   pub release-alone : draft_of v p ≡ (last_of v p).words → StaysAlone v w
-  release-alone = alone-release (release-did t) p (version + 1) (draft_of v p) _ v _ w t.brings refl
+  release-alone = alone-release (did_store (places.State p) (version + 1)) p (version + 1) (draft_of v p) _ v _ w t.brings refl
 
 -- ---- not resident
 
 module _ {X : Type 0} {p version : ℕ} {v w : View X} (t : EvictTold p version v w) where
-  abbrev pub evict-did : Did
-  evict-did = did_store (places.State p) (word_of EVICTED (version + 1))
-
-  abbrev pub evict-own : Release
-  evict-own = record { page = p; version = version + 1; words = draft_of v p }
-
-  pub evict-others : (touched : ℕ → Type 0) → touched p → LeavesOthers touched (evict-did ∷ []) (evict-own ∷ []) v w
-  evict-others touched at = others-from t.brings (at, tt) (λ q ne. upd-other (put_at no_seat v.seats) p _ q (apart touched at q ne)) (λ q ne. refl) (λ q ne. refl) (λ q ne. refl)
+  pub evict-others : (touched : ℕ → Type 0) → touched p → LeavesOthers touched (did_store (places.State p) (word_of EVICTED (version + 1)) ∷ []) ((record { page = p; version = version + 1; words = draft_of v p }) ∷ []) v w
+  evict-others touched at = others-tied t.brings ([], refl) (at, tt) (λ q ne. upd-other (put_at no_seat v.seats) p _ q (apart touched at q ne)) (λ q ne. refl) (λ q ne. refl) (λ q ne. refl)
 
   pub evict-silent : v.next ≢ Some p → LeavesOwn v w
   evict-silent next = own-from t.brings refl (refl, refl, next-stays p v.next next)
 
-  pub evict-leaves : v.next ≢ Some p → LeavesRest p (evict-did ∷ []) v w
+  pub evict-leaves : v.next ≢ Some p → LeavesRest p (did_store (places.State p) (word_of EVICTED (version + 1)) ∷ []) v w
   evict-leaves next = rest-of (evict-others (λ q. q ≡ p) refl) (evict-silent next)
 
   pub evict-seat : seat_of w p ≡ record (seat_of v p) { exclusive = false }
@@ -505,28 +438,16 @@ module _ {X : Type 0} {p version : ℕ} {v w : View X} (t : EvictTold p version 
   evict-last = released-last t.brings refl
 
   pub evict-alone : draft_of v p ≡ (last_of v p).words → StaysAlone v w
-  evict-alone = alone-release evict-did p (version + 1) (draft_of v p) [] v _ w t.brings refl
+  evict-alone = alone-release (did_store (places.State p) (word_of EVICTED (version + 1))) p (version + 1) (draft_of v p) [] v _ w t.brings refl
 
 -- ---- to a share
 
 module _ {X : Type 0} {p version : ℕ} {v w : View X} (t : DowngradeTold p version v w) where
-  abbrev pub downgrade-did : Did
-  downgrade-did = did_store (places.State p) (word_of 1 (version + 1))
-
-  abbrev pub downgrade-own : Release
-  downgrade-own = record { page = p; version = version + 1; words = draft_of v p }
-
-  pub downgrade-others : (touched : ℕ → Type 0) → touched p → LeavesOthers touched (downgrade-did ∷ []) (downgrade-own ∷ []) v w
-  downgrade-others touched at = others-from t.brings (at, tt) (λ q ne. upd-other (put_at no_seat v.seats) p _ q (apart touched at q ne)) (λ q ne. refl) (λ q ne. refl) (λ q ne. refl)
-
-  pub downgrade-silent : has p v.owed ≡ false → v.next ≢ Some p → LeavesOwn v w
-  downgrade-silent paid next = own-from t.brings refl (refl, without-none p v.owed paid, next-stays p v.next next)
+  pub downgrade-others : (touched : ℕ → Type 0) → touched p → LeavesOthers touched ((did_store (places.State p) (word_of 1 (version + 1))) ∷ []) ((record { page = p; version = version + 1; words = draft_of v p }) ∷ []) v w
+  downgrade-others touched at = others-tied t.brings ([], refl) (at, tt) (λ q ne. upd-other (put_at no_seat v.seats) p _ q (apart touched at q ne)) (λ q ne. refl) (λ q ne. refl) (λ q ne. refl)
 
   pub downgrade-seat : seat_of w p ≡ record (seat_of v p) { shares = 1; exclusive = false }
   downgrade-seat = ap (λ (x : View X). seat_of x p) t.brings.view ∙ upd-same (put_at no_seat v.seats) p _
 
   pub downgrade-last : last_of w p ≡ record { version = version + 1; words = draft_of v p }
   downgrade-last = released-last t.brings refl
-
-  pub downgrade-alone : draft_of v p ≡ (last_of v p).words → StaysAlone v w
-  downgrade-alone = alone-release downgrade-did p (version + 1) (draft_of v p) [] v _ w t.brings refl

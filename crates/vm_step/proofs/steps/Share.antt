@@ -1,33 +1,24 @@
 -- A share that is taken, and one that is given up: what each shows of itself and tells; that the table allows them, and that they are their events.
 --
 -- What a share leaves that was taken, or given up: it speaks of one page, of whose shares the pass has one more, or one less.
-use Rattle.std.proofs.Common.{[], ⊎_elim, ◌%◌, ◌+◌, ◌-◌, ◌<◌, ◌^◌, ◌||◌, ◌∙◌, ◌∷◌, ◌≡◌, ◌≢◌, ◌≤◌, ◌⊎◌, ap, arith, Bool, eq-eqb, eqb, false}
-use Rattle.std.proofs.Common.{if◌then◌else◌, inl, inr, IsSome, length, List, nat_lt, None, Option, refl, slice_index, slice_set, Some, subst, sym}
-use Rattle.std.proofs.Common.{true, ℕ}
-use Rattle.std.proofs.lemmas.Bool.Decides.{nat_tests}
-use prog.Atomic.{either}
-use Rattle.vm_core.specs.Prelude.{EVICTED, frame_of, get_elem?, LOCKED, MayShare, MayUnlock, no_seat, one_share_more, Page, page_at, shared, some}
-use Rattle.vm_core.specs.Prelude.{state_of, unshared, version_of, word_of, World}
-use Rattle.vm_core.specs.declared.event.Event.TheVariants.{LockS, UnlockS}
+use Rattle.std.proofs.Common.{eq-eqb}
 use Rattle.vm_core.specs.declared.event.Seen.TheVariants as sights
-use Rattle.vm_core.proofs.PageFacts.{some-same}
-use Rattle.vm_core.proofs.Upd.{upd-keeps, upd-other, upd-same}
-use Rattle.vm_rule.specs.Prelude.{Brings, did_change, did_exchange, has_lock, held_at, IsLocking, Kept, KnowsPage, last_of, loads_at, Mapping}
-use Rattle.vm_rule.specs.Prelude.{may_call, no_held, put, put_at, Ruled, Seat, seat_of, shared_view, ShareTold, Stands, Start, Stored, Table}
-use Rattle.vm_rule.specs.Prelude.{UnshareTold}
-use Rattle.vm_rule.specs.{declared.view.Held.Held, Locks.unshared_view}
 use Rattle.vm_rule.specs.declared.view.Place.TheVariants as places
-use Rattle.vm_rule.proofs.{Adding.became, Bringing.steps, Facts.shared-here, WordFacts.less-state, WordFacts.less-version, Worlds.draft-is}
-use Rattle.vm_rule.proofs.{Worlds.unlocks-step}
-use Rattle.vm_rule.proofs.Found.{block-here, seat-here, state-here, version-here, word-here}
-use Rattle.vm_step.specs.Prelude.{AllowsStep, Did, IsPlacedAt, KnowsAsBefore, LeavesRest, MayUnshare, Origin, Put, Shape, told_of, View}
-use Rattle.vm_step.specs.steps.Share.{LockSharedIsItsEvent, UnlockSharedIsItsEvent}
-use Rattle.vm_step.proofs.{Evidenced.taken-view, Fit.either-lives, Fit.fit, Standing.allows}
-use Rattle.vm_step.proofs.Exchange.{calls-still, exchange-event, exchange_words, IsExchange, knows-one, locks-exchange, names, page_held, seats-keep}
-use Rattle.vm_step.proofs.Exchange.{sharer-shows, spelled-after, tried, tried-validates, wide-after, wrote-there}
+use Rattle.vm_step.proofs.{Evidenced.taken-view, Fit.either-lives, Fit.fit, Quiet.quiet-shows, Quiet.ShowsQuiet, Standing.allows, Written.word-left}
+use Rattle.vm_step.proofs.Exchange.{draft-stays, exchange-event, IsExchange, locks-exchange, names, page_held, seat-shows, sharer-shows, tried}
+use Rattle.vm_step.proofs.Exchange.{tried-validates}
 use Rattle.vm_step.proofs.Here.{frame-inside, version-told, world}
-use Rattle.vm_step.proofs.Quiet.{lock-quiet, quiet-shows, ShowsQuiet}
-use Rattle.vm_step.proofs.steps.Leaving.{apart, knows-still, last-still, LeavesOthers, LeavesOwn, others-from, own-from, rest-of}
+use Rattle.vm_step.proofs.Prelude.{[], after_step, AllowsStep, ap, arith, became, block-here, Bool, Brings, Did, did_change, did_exchange, either}
+use Rattle.vm_step.proofs.Prelude.{eqb, EVICTED, false, frame_of, get_elem?, has_lock, Held, if◌then◌else◌, inl, inr, IsLocking, IsPlacedAt, IsSome}
+use Rattle.vm_step.proofs.Prelude.{Kept, KnowsAsBefore, KnowsPage, last_of, LeavesRest, length, less-state, less-version, List, loads_at, LOCKED}
+use Rattle.vm_step.proofs.Prelude.{LockS, LockSharedIsItsEvent, ltb-true, Mapping, may_call, MayShare, MayUnlock, MayUnshare, nat_lt, no_held}
+use Rattle.vm_step.proofs.Prelude.{no_seat, None, one_share_more, Option, or_cases, or_left, or_right, Origin, Page, page_at, Put, put, put_at, refl}
+use Rattle.vm_step.proofs.Prelude.{Ruled, Seat, seat-here, seat_of, Shape, shared, shared-here, shared_view, ShareTold, slice_index, slice_set, Some}
+use Rattle.vm_step.proofs.Prelude.{some, some-same, Stands, Start, state-here, state_of, steps, Stored, subst, sym, Table, told_of, true, UnlockS}
+use Rattle.vm_step.proofs.Prelude.{unlocks-step, UnlockSharedIsItsEvent, unshared, unshared_view, UnshareTold, upd-keeps, upd-other, upd-same}
+use Rattle.vm_step.proofs.Prelude.{version-here, version_of, View, word-here, word_of, World, ℕ, ⊎_elim, ◌%◌, ◌+◌, ◌-◌, ◌<◌, ◌^◌, ◌||◌, ◌∙◌, ◌∷◌, ◌≡◌}
+use Rattle.vm_step.proofs.Prelude.{◌≢◌, ◌≤◌, ◌⊎◌}
+use Rattle.vm_step.proofs.steps.Leaving.{apart, knows-still, last-still, LeavesOthers, LeavesOwn, others-tied, own-from, rest-of}
 
 -- a word that may be shared is of a page that is neither locked nor evicted
 pub shareable : (expects : ℕ) → MayShare expects → (state_of expects ≢ LOCKED) × (state_of expects ≢ EVICTED)
@@ -39,12 +30,11 @@ shareable expects may =
 
 -- who has a page locked may call its device, or has a share
 lock-ways : (k : Seat) → has_lock k ≡ true → (may_call k ≡ true) ⊎ (1 ≤ k.shares)
-lock-ways k e = ways k.exclusive k.writing k.shares e
-  where
-    ways : (x w : Bool) (n : ℕ) → (x || (w || nat_lt 0 n)) ≡ true → ((x || w) ≡ true) ⊎ (1 ≤ n)
-    ways true w n e' = inl refl
-    ways false true n e' = inl refl
-    ways false false n e' = inr (grind (arith, nat_tests, e'))
+lock-ways k e =
+    ⊎_elim
+    (λ x. inl (or_left k.exclusive k.writing x))
+    (λ y. ⊎_elim (λ w. inl (or_right k.exclusive k.writing w)) (λ n. inr (let lt = ltb-true 0 k.shares n in omega (arith, lt))) (or_cases k.writing (nat_lt 0 k.shares) y))
+    (or_cases k.exclusive (k.writing || nat_lt 0 k.shares) e)
 
 -- what the pass knows of the page, whether or not it had it locked before
 put-else : (known : Bool) (p q : ℕ) (h : Held) (hs : List (Put Held)) → q ≢ p → put_at no_held (if known then hs else put p h hs) q ≡ put_at no_held hs q
@@ -79,17 +69,10 @@ module _ {X B : Type 0} (stored : B → Stored) (keeps : Start → Kept X → Ty
   pub unlocked-page : slice_index s.words p ≡ expects → ((world stored keeps tied start tells s r).core.pages p).state ≢ LOCKED
   unlocked-page hit e = (shareable expects may).0 (sym (state-here stored start s p l ∙ ap state_of hit) ∙ e)
 
-  pub resident-page : slice_index s.words p ≡ expects → IsSome ((world stored keeps tied start tells s r).core.pages p).trans
-  resident-page hit = (r.inv.pages p).stands.resident (unlocked-page hit) (λ e. (shareable expects may).1 (sym (state-here stored start s p l ∙ ap state_of hit) ∙ e))
-
-  knows-here : KnowsPage (record (seat_of v p) { shares = (seat_of v p).shares + 1; reading = None }) (put_at no_held shared_inner.held p) (shared ((world stored keeps tied start tells s r).core.pages p) id)
+  pub knows-here : KnowsPage (record (seat_of v p) { shares = (seat_of v p).shares + 1; reading = None }) (put_at no_held shared_inner.held p) (shared ((world stored keeps tied start tells s r).core.pages p) id)
   knows-here =
       knows-shared (has_lock (seat_of v p)) p id (seat_of v p) (page_held stored keeps tied start tells s r p) v.held ((world stored keeps tied start tells s r).core.pages p) refl ((r.known id v there live).knows p)
       (refl, refl, sym (block-here stored start s p l).0, sym (block-here stored start s p l).1)
-
-  -- the frame that the pass knows is the page's
-  pub frame-known : frame_of (put_at no_held shared_inner.held p).mapping ≡ frame_of ((world stored keeps tied start tells s r).core.pages p).trans
-  frame-known = knows-here.shares (omega arith)
 
   abbrev pub share-is : IsExchange stored start s r.releases r.drafts id p expects (word_of (one_share_more (state_of expects)) (version_of expects)) r.drafts shared_inner (LockS id p expects) (shared ((world stored keeps tied start tells s r).core.pages p) id)
   share-is = locks-exchange stored start s r.releases r.drafts id v p expects r.wide.0 l there may (page_held stored keeps tied start tells s r p)
@@ -98,49 +81,45 @@ module _ {X B : Type 0} (stored : B → Stored) (keeps : Start → Kept X → Ty
       → ShowsQuiet stored keeps tied start tells s r id v (slice_set s.words p (word_of (one_share_more (state_of expects)) (version_of expects))) r.drafts (did_exchange (places.State p) expects (slice_index s.words p) (word_of (one_share_more (state_of expects)) (version_of expects))) shared_inner (LockS id p expects)
   share-shows hit =
       let seat : Seat = record (seat_of v p) { shares = (seat_of v p).shares + 1; reading = None } in
-      sharer-shows stored keeps tied start tells s r id v there live p expects (word_of (one_share_more (state_of expects)) (version_of expects)) l hit (LockS id p expects) (shared ((world stored keeps tied start tells s r).core.pages p) id) seat shared_inner.held share-is
+      sharer-shows stored keeps tied start tells s r id v there live p l expects (word_of (one_share_more (state_of expects)) (version_of expects)) hit (LockS id p expects) (shared ((world stored keeps tied start tells s r).core.pages p) id) seat shared_inner.held share-is
       (λ m. m) refl
       (λ q ne. put-else (has_lock (seat_of v p)) p q (page_held stored keeps tied start tells s r p) v.held ne)
       knows-here
 
 module _ {X B : Type 0} (stored : B → Stored) (keeps : Start → Kept X → Type 0) (tied : Start → ℕ → List ℕ → ℕ → List ℕ → Type 0) (tells : Bool)
     (law : (start : Start) (kept : Kept X) (q p : ℕ) → keeps start kept → q < length kept.pages → p < length kept.pages → tied start q (page_at kept.pages q) p (page_at kept.pages p)) where
-  module _ (start : Origin) where
-    -- taken or lost, it keeps the rule and tells what it is to tell
-    share-tells : (s : Table (Option B) (View X)) (r : Ruled stored keeps tied start tells s) (id : ℕ) (v : View X) (there : get_elem? s.views id ≡ some v) (live : v.live ≡ true) (p expects : ℕ) (l : p < start.pages) (may : MayShare expects) (number : 0 < length v.used)
-        → (w : View X) × Ruled stored keeps tied start tells (became stored keeps tied start tells s (exchange_words stored keeps tied start tells s r id v there live number p expects (word_of (one_share_more (state_of expects)) (version_of expects)) l) id w) × ShareTold tied p expects (slice_index s.words p) v w
-    share-tells s r id v there live p expects l may number =
-        let page : Page = (world stored keeps tied start tells s r).core.pages p in
-        let known : Held = put_at no_held (shared_inner stored keeps tied start tells s r id v there live p expects l may).held p in
-        let frame : frame_of known.mapping ≡ frame_of page.trans = frame-known stored keeps tied start tells s r id v there live p expects l may in
-        let k = tried stored keeps tied start tells s r id v there live number p expects (word_of (one_share_more (state_of expects)) (version_of expects)) l r.drafts (shared_inner stored keeps tied start tells s r id v there live p expects l may) (LockS id p expects) _ refl
-        (share-is stored keeps tied start tells s r id v there live p expects l may)
-        (share-shows stored keeps tied start tells s r id v there live p expects l may) in
-        let held : slice_index s.words p ≡ expects → put_at no_held k.0.held p ≡ known = (λ hit. ap (λ (y : View X). put_at no_held y.held p) k.1.brings.view ∙ ap {B = Held} (λ b. put_at no_held (if b then shared_inner stored keeps tied start tells s r id v there live p expects l may else v).held p) (eq-eqb (slice_index s.words p) expects hit)) in (
-          k.0,
-          k.1.rule,
-          record {
-            held = page_held stored keeps tied start tells s r p;
-            brings = k.1.brings;
-            version = k.1.version;
-            since = k.1.since;
-            older = k.1.older;
-            size = k.1.size;
-            resident = λ hit. framed-some _ page.trans (ap (λ (h : Held). frame_of h.mapping) (held hit) ∙ frame) (resident-page stored keeps tied start tells s r id v there live p expects l may hit);
-            inside = λ hit m e.
-                let n : (n : Mapping) × (page.trans ≡ Some n) × (m.frame ≡ n.frame) = framed-same _ page.trans m (ap (λ (h : Held). frame_of h.mapping) (held hit) ∙ frame) e in
-                subst (λ (o : Origin). m.frame < o.frames) (sym (r.heard id v there live).same_start)
-                (subst (λ f. f < start.frames) (sym n.2) (frame-inside stored keeps tied start tells s r p n.0 n.1));
-            validates = λ t hit. tried-validates stored keeps tied start tells s r id v there live number p expects (word_of (one_share_more (state_of expects)) (version_of expects)) l law _ k.0 k.1 (unlocked-page stored keeps tied start tells s r id v there live p expects l may hit) t hit;
-          },
-        )
-
-  -- so it does of every table that stands
-  pub share_allows : (shape : Shape) (slots id : ℕ) (v : View X) (i : ℕ) (p expects x : ℕ) → v.live ≡ true → 0 < length v.used → p < shape.pages → MayShare expects → x ≡ (word_of (one_share_more (state_of expects)) (version_of expects)) → IsPlacedAt shape (places.State p) i
+  -- taken or lost, it keeps the rule of every table and tells what it is to tell
+  pub lock_shared-allows : (shape : Shape) (slots id : ℕ) (v : View X) (i : ℕ) (p expects x : ℕ) → v.live ≡ true → 0 < length v.used → p < shape.pages → MayShare expects → x ≡ (word_of (one_share_more (state_of expects)) (version_of expects)) → IsPlacedAt shape (places.State p) i
       → AllowsStep (Stands stored keeps tied shape tells) slots id v i (λ n. either (eqb n expects) x n) (told_of shape tells (ShareTold tied p expects))
-  share_allows shape slots id v i p expects x live number l may spells is =
+  lock_shared-allows shape slots id v i p expects x live number l' may spells is =
       allows stored keeps tied shape tells slots id v i (places.State p) (λ n. either (eqb n expects) x n) (λ n. either (eqb n expects) (word_of (one_share_more (state_of expects)) (version_of expects)) n) (ShareTold tied p expects) live is (λ n. ap (λ z. either (eqb n expects) z n) spells) (λ n w t. fit t.brings (either-lives _ _ v live live))
-      (λ start has s r there _. share-tells start s r id v there live p expects (subst (λ n. p < n) (sym has.pages) l) may number)
+      (λ start has s r there _.
+      let l : p < start.pages = subst (λ n. p < n) (sym has.pages) l' in
+      let page : Page = (world stored keeps tied start tells s r).core.pages p in
+      let inner : View X = shared_inner stored keeps tied start tells s r id v there live p expects l may in
+      let known : Held = put_at no_held inner.held p in
+      let frame : frame_of known.mapping ≡ frame_of page.trans = (knows-here stored keeps tied start tells s r id v there live p expects l may).shares (omega arith) in
+      let k = tried stored keeps tied start tells s r id v there live number p expects (word_of (one_share_more (state_of expects)) (version_of expects)) l r.drafts inner (LockS id p expects) _ refl
+      (share-is stored keeps tied start tells s r id v there live p expects l may)
+      (share-shows stored keeps tied start tells s r id v there live p expects l may) in
+      let held : slice_index s.words p ≡ expects → put_at no_held k.0.held p ≡ known = (λ hit. ap (λ (y : View X). put_at no_held y.held p) k.1.brings.view ∙ ap {B = Held} (λ b. put_at no_held (if b then inner else v).held p) (eq-eqb (slice_index s.words p) expects hit)) in (
+        k.0,
+        k.1.rule,
+        record {
+          held = page_held stored keeps tied start tells s r p;
+          brings = k.1.brings;
+          version = k.1.version;
+          since = k.1.since;
+          older = k.1.older;
+          size = k.1.size;
+          resident = λ hit. framed-some _ page.trans (ap (λ (h : Held). frame_of h.mapping) (held hit) ∙ frame) ((r.inv.pages p).stands.resident (unlocked-page stored keeps tied start tells s r id v there live p expects l may hit) (λ e. (shareable expects may).1 (sym (state-here stored start s p l ∙ ap state_of hit) ∙ e)));
+          inside = λ hit m e.
+              let n : (n : Mapping) × (page.trans ≡ Some n) × (m.frame ≡ n.frame) = framed-same _ page.trans m (ap (λ (h : Held). frame_of h.mapping) (held hit) ∙ frame) e in
+              subst (λ (o : Origin). m.frame < o.frames) (sym (r.heard id v there live).same_start)
+              (subst (λ f. f < start.frames) (sym n.2) (frame-inside stored keeps tied start tells s r p n.0 n.1));
+          validates = λ t hit. tried-validates stored keeps tied start tells s r id v there live number p expects (word_of (one_share_more (state_of expects)) (version_of expects)) l law _ k.0 k.1 (unlocked-page stored keeps tied start tells s r id v there live p expects l may hit) t hit;
+        },
+      ))
 
 -- who may call the device with a share less could call it before
 unshared-calls : (k : Seat) → may_call (unshared k) ≡ true → may_call k ≡ true
@@ -170,42 +149,27 @@ module _ {X B : Type 0} (stored : B → Stored) (keeps : Start → Kept X → Ty
         has = subst (λ (k : Seat). 1 ≤ k.shares) (sym here) may.has;
         told = λ w one.
             let writes : (seat_of v p).writing ≡ true = sym (ap (λ (k : Seat). k.writing) here) ∙ w in
-            let known = ((r.known id v there live).knows p).calls (rw writes (or-true (seat_of v p).exclusive)) in
+            let known = ((r.known id v there live).knows p).calls (or_right (seat_of v p).exclusive (seat_of v p).writing writes) in
             sym known.1 ∙ may.told writes (sym (ap (λ (k : Seat). k.shares) here) ∙ one) ∙ known.3;
       }
-    where
-      or-true : (x : Bool) → (x || true) ≡ true
-      or-true true = refl
-      or-true false = refl
 
-  pub unshare-shows : ShowsQuiet stored keeps tied start tells s r id v (slice_set s.words p less_word) r.drafts unshared_did (unshared_view p v) (UnlockS id p)
+  unshare-shows : ShowsQuiet stored keeps tied start tells s r id v (slice_set s.words p less_word) r.drafts unshared_did (unshared_view p v) (UnlockS id p)
   unshare-shows =
-      let old : World = world stored keeps tied start tells s r in
-      let seat : Seat = unshared (seat_of v p) in
       let known = (r.known id v there live).knows p in
-      record {
-        wide = wide-after start s.words p less_word r.wide.0;
-        spelled = spelled-after start s.words p less_word r.wide.0 l r.spelled;
+      seat-shows stored keeps tied start tells s r id v there live p l unshared_did less_word r.drafts (UnlockS id p) _ (unshared (seat_of v p)) v.loads v.held v.drafts
+      (record {
+        word = word-left start s.words unshared_did less_word r.wide.0 r.spelled l refl refl refl;
         legal = (names stored keeps tied start tells s r id v there p l, may-unlock);
         world =
             unlocks-step stored start s r.releases r.drafts id v _ p less_word r.wide.0 l there refl refl refl refl
             (less-state (slice_index s.words p) some-shares ∙ ap (λ n. n - 1) (sym (state-here stored start s p l)))
             (less-version (slice_index s.words p) some-shares ∙ sym (version-here stored start s p l));
-        at = l;
-        found = refl;
-        wrote = wrote-there start s.words p less_word r.wide.0 l;
-        leaves = lock-quiet v (unshared_view p v).seats (unshared_view p v).loads (unshared_view p v).held (unshared_view p v).drafts;
-        calls = calls-still stored keeps tied start tells s r id v there p seat (λ o x e m. absurd (may.home o x e));
-        holds = seats-keep (λ k. k.exclusive ≡ true) v p seat (λ x. x);
-        members = λ q t. refl;
-        next = refl;
-        frames = λ f x. refl;
-        knows =
-            knows-one v old.core.pages p seat v.held _ (r.known id v there live).knows (λ q ne. refl)
-            (record { calls = λ m. known.calls (unshared-calls (seat_of v p) m); shares = λ some'. known.shares (omega (arith, some')) });
-        drafted = λ q x. (r.known id v there live).drafts q (sym (upd-keeps (λ (k : Seat). k.exclusive) (λ n. seat_of v n) p seat refl q) ∙ x) ∙ draft-is start r.releases r.drafts q;
-        loaded = ([], refl, tt);
-      }
+        core = refl;
+      })
+      (λ o x e m. absurd (may.home o x e)) (λ x. x) (λ q ne. refl)
+      (record { calls = λ m. known.calls (unshared-calls (seat_of v p) m); shares = λ some'. known.shares (omega (arith, some')) })
+      (λ q t. refl)
+      (λ q x. draft-stays stored keeps tied start tells s r id v there live p l q (sym (upd-keeps (λ (k : Seat). k.exclusive) (λ n. seat_of v n) p (unshared (seat_of v p)) refl q) ∙ x))
 
 -- a share less, as the machine counts
 less-wraps : (n : ℕ) → n < 18446744073709551616 → 1 ≤ state_of n → (n + (2 ^ 64 - 2 ^ 56)) % 2 ^ 64 ≡ n - 2 ^ 56
@@ -213,43 +177,30 @@ unfolding state_of
 less-wraps n below some' = omega (arith, below, some')
 
 module _ {X B : Type 0} (stored : B → Stored) (keeps : Start → Kept X → Type 0) (tied : Start → ℕ → List ℕ → ℕ → List ℕ → Type 0) (tells : Bool) where
-  module _ (start : Origin) where
-    -- it keeps the rule and tells what it is to tell
-    unshare-tells : (s : Table (Option B) (View X)) (r : Ruled stored keeps tied start tells s) (id : ℕ) (v : View X) → get_elem? s.views id ≡ some v → v.live ≡ true → (p : ℕ) → p < start.pages → MayUnshare v p → 0 < length v.used
-        → (w : View X) × Ruled stored keeps tied start tells (became stored keeps tied start tells s (slice_set s.words p (slice_index s.words p - 2 ^ 56)) id w) × UnshareTold p (slice_index s.words p) v w
-    unshare-tells s r id v there live p l may number =
-        let words : List ℕ = slice_set s.words p (slice_index s.words p - 2 ^ 56) in
-        let did = unshared_did stored keeps tied start tells s r id v there live p l may in
-        let k = steps stored keeps tied start tells s r id v words r.drafts [] [] did (unshared_view p v) (UnlockS id p) there live number refl refl
-        (quiet-shows stored keeps tied start tells s r id v words r.drafts did (unshared_view p v) (UnlockS id p) there live (unshare-shows stored keeps tied start tells s r id v there live p l may)) in (
-          _,
-          k.0,
-          record {
-            brings = k.1;
-            version = version-told stored keeps tied start tells s r id v there live p l;
-            shared = some-shares stored keeps tied start tells s r id v there live p l may;
-          },
-        )
-
-  -- so it does of every table that stands
-  pub unshare_allows : (shape : Shape) (slots id : ℕ) (v : View X) (i : ℕ) (p : ℕ) → v.live ≡ true → 0 < length v.used → p < shape.pages → MayUnshare v p → IsPlacedAt shape (places.State p) i
+  -- it keeps the rule of every table and tells what it is to tell
+  pub unlock_shared-allows : (shape : Shape) (slots id : ℕ) (v : View X) (i : ℕ) (p : ℕ) → v.live ≡ true → 0 < length v.used → p < shape.pages → MayUnshare v p → IsPlacedAt shape (places.State p) i
       → AllowsStep (Stands stored keeps tied shape tells) slots id v i (λ n. (n + (2 ^ 64 - 2 ^ 56)) % 2 ^ 64) (told_of shape tells (UnshareTold p))
-  unshare_allows shape slots id v i p live number l may is =
+  unlock_shared-allows shape slots id v i p live number l' may is =
       allows stored keeps tied shape tells slots id v i (places.State p) (λ n. (n + (2 ^ 64 - 2 ^ 56)) % 2 ^ 64) (λ n. (n + (2 ^ 64 - 2 ^ 56)) % 2 ^ 64) (UnshareTold p) live is (λ n. refl) (λ n w t. fit t.brings live)
       (λ start has s r there below.
-      let k = unshare-tells start s r id v there live p (subst (λ n. p < n) (sym has.pages) l) may number in (
-        k.0,
-        subst (λ x. Ruled stored keeps tied start tells (became stored keeps tied start tells s (slice_set s.words p x) id k.0)) (sym (less-wraps (slice_index s.words p) below k.2.shared)) k.1,
-        k.2,
+      let l : p < start.pages = subst (λ n. p < n) (sym has.pages) l' in
+      let words : List ℕ = slice_set s.words p (less_word stored keeps tied start tells s r id v there live p l may) in
+      let did : Did = unshared_did stored keeps tied start tells s r id v there live p l may in
+      let shared = some-shares stored keeps tied start tells s r id v there live p l may in
+      let k = steps stored keeps tied start tells s r id v words r.drafts [] [] did (unshared_view p v) (UnlockS id p) there live number refl refl
+      (quiet-shows stored keeps tied start tells s r id v words r.drafts did (unshared_view p v) (UnlockS id p) there live (unshare-shows stored keeps tied start tells s r id v there live p l may)) in
+      let w : View X = after_step stored keeps tied start tells s r words [] [] did (unshared_view p v) in (
+        w,
+        subst (λ x. Ruled stored keeps tied start tells (became stored keeps tied start tells s (slice_set s.words p x) id w)) (sym (less-wraps (slice_index s.words p) below shared)) k.0,
+        record { brings = k.1; version = version-told stored keeps tied start tells s r id v there live p l; shared = shared },
       ))
 
-module _ {X B : Type 0} (stored : B → Stored) (keeps : Start → Kept X → Type 0) (tied : Start → ℕ → List ℕ → ℕ → List ℕ → Type 0) (tells : Bool) where
-  pub lock_shared_event : LockSharedIsItsEvent stored keeps tied tells
-  lock_shared_event start s id p expects found v w pass at may told =
-      exchange-event stored start keeps tied tells s id p expects found _ _ _ v _ w _ _ pass at (locks-exchange stored start s [] (λ _. []) id v p expects pass.rule.wide.0 at.0 pass.there may told.held) told.brings
+  pub lock_shared-event : LockSharedIsItsEvent stored keeps tied tells
+  lock_shared-event start s id p expects found v w pass at may told =
+      exchange-event stored start keeps tied tells s id p expects found _ _ _ v _ w _ _ pass at (locks-exchange stored start s [] (λ _. []) id v p expects pass.rule.wide.0 at.0 pass.there may told.held) told.brings refl
 
-  pub unlock_shared_event : UnlockSharedIsItsEvent stored keeps tied tells
-  unlock_shared_event start s id p found v w pass at may told =
+  pub unlock_shared-event : UnlockSharedIsItsEvent stored keeps tied tells
+  unlock_shared-event start s id p found v w pass at may told =
       let r = pass.rule in
       let view = told.brings.view in
       record {
@@ -267,10 +218,6 @@ module _ {X B : Type 0} (stored : B → Stored) (keeps : Start → Kept X → Ty
 
 -- ---- taken
 
-held-else : {X : Type 0} (known : Bool) (v : View X) (p : ℕ) (h : Held) (q : ℕ) → q ≢ p → put_at no_held (if known then v.held else put p h v.held) q ≡ held_at v q
-held-else true v p h q ne = refl
-held-else false v p h q ne = upd-other (put_at no_held v.held) p h q ne
-
 module _ {X : Type 0} {tied : Start → ℕ → List ℕ → ℕ → List ℕ → Type 0} {p expects found : ℕ} {v w : View X} (e : found ≡ expects) (t : ShareTold tied p expects found v w) where
   abbrev pub share-did : Did
   share-did = did_exchange (places.State p) expects found (word_of (one_share_more (state_of expects)) (version_of expects))
@@ -280,23 +227,17 @@ module _ {X : Type 0} {tied : Start → ℕ → List ℕ → ℕ → List ℕ �
 
   pub share-others : (touched : ℕ → Type 0) → touched p → LeavesOthers touched (share-did ∷ []) [] v w
   share-others touched at =
-      others-from share-brings tt
+      others-tied share-brings ([], refl) tt
       (λ q ne. upd-other (put_at no_seat v.seats) p _ q (apart touched at q ne))
       (λ q ne. upd-other (put_at [] v.loads) p _ q (apart touched at q ne))
-      (λ q ne. held-else (has_lock (seat_of v p)) v p t.held q (apart touched at q ne))
+      (λ q ne. put-else (has_lock (seat_of v p)) p q t.held v.held (apart touched at q ne))
       (λ q ne. refl)
 
   pub share-own : LeavesOwn v w
   share-own = own-from share-brings refl (refl, refl, refl)
 
-  pub share-leaves : LeavesRest p (share-did ∷ []) v w
-  share-leaves = rest-of (share-others (λ q. q ≡ p) refl) share-own
-
   pub share-seat : seat_of w p ≡ record (seat_of v p) { shares = (seat_of v p).shares + 1; reading = None }
   share-seat = ap (λ (x : View X). seat_of x p) share-brings.view ∙ upd-same (put_at no_seat v.seats) p _
-
-  pub share-loads : loads_at w p ≡ []
-  share-loads = ap (λ (x : View X). loads_at x p) share-brings.view ∙ upd-same (put_at [] v.loads) p _
 
   pub share-last : (q : ℕ) → IsLocking (seat_of v q) → last_of w q ≡ last_of v q
   share-last = last-still share-brings refl
@@ -308,7 +249,7 @@ module _ {X : Type 0} {p found : ℕ} {v w : View X} (t : UnshareTold p found v 
   unshare-did = did_change (places.State p) found (found - 2 ^ 56)
 
   pub unshare-others : (touched : ℕ → Type 0) → touched p → LeavesOthers touched (unshare-did ∷ []) [] v w
-  unshare-others touched at = others-from t.brings tt (λ q ne. upd-other (put_at no_seat v.seats) p _ q (apart touched at q ne)) (λ q ne. refl) (λ q ne. refl) (λ q ne. refl)
+  unshare-others touched at = others-tied t.brings ([], refl) tt (λ q ne. upd-other (put_at no_seat v.seats) p _ q (apart touched at q ne)) (λ q ne. refl) (λ q ne. refl) (λ q ne. refl)
 
   pub unshare-own : LeavesOwn v w
   unshare-own = own-from t.brings refl (refl, refl, refl)

@@ -1,24 +1,18 @@
 -- A load of a page's translation word: an open read without a frame gets the one that it names; that the table allows it, and that it is its event.
 --
 -- What a load of a translation word leaves: it speaks of the open read of one page. Under a lock of the page nothing changes.
-use Rattle.std.proofs.Common.{[], ◌+◌, ◌<◌, ◌∙◌, ◌∷◌, ◌≡◌, ◌≤◌, ap, Bool, length, List, None, Option, refl, slice_index, slice_set, Some, subst, sym}
-use Rattle.std.proofs.Common.{true, ℕ}
-use Rattle.vm_core.specs.Prelude.{frame_of, frame_read, framed, get_elem?, mapping_of, no_seat, Page, some, State, trans_word, upd, World}
-use Rattle.vm_core.specs.declared.event.Event.TheVariants.{TLoad}
 use Rattle.vm_core.specs.declared.event.Seen.TheVariants as sights
-use Rattle.vm_core.proofs.Upd.{each-upd2, upd-keeps, upd-other, upd-same}
-use Rattle.vm_rule.specs.Prelude.{Brings, core_shown, did_load, Each, is_pending, IsLocking, Kept, KnowsPage, KnowsPages, loads_at, may_call, no_held}
-use Rattle.vm_rule.specs.Prelude.{Open, put_at, Ruled, Seat, seat_of, Stands, stands_dirty, Start, Stored, Table, translation_of, TranslationHolds}
-use Rattle.vm_rule.specs.Prelude.{TranslationTold, world_of}
 use Rattle.vm_rule.specs.declared.view.Place.TheVariants as places
-use Rattle.vm_rule.specs.Loads.{tloaded_view}
-use Rattle.vm_rule.proofs.{Bringing.steps, Views.at-bound, Worlds.draft-is, Worlds.tload-step}
-use Rattle.vm_rule.proofs.Adding.{after_step, became, Shows}
-use Rattle.vm_rule.proofs.Found.{part-found, same-word, seat-here, translation-here}
-use Rattle.vm_step.specs.Prelude.{AllowsStep, Did, HoldsPage, IsPlacedAt, KnowsAsBefore, LeavesRest, Origin, Shape, told_of, View, Works}
-use Rattle.vm_step.specs.steps.Translate.{TloadIsItsEvent}
-use Rattle.vm_step.proofs.{Fit.fit, Here.frame-inside, Quiet.quiet-shows, Standing.allows, steps.Content.frame-known}
-use Rattle.vm_step.proofs.steps.Leaving.{apart, knows-still, LeavesOthers, LeavesOwn, others-from, own-from, rest-of}
+use Rattle.vm_step.proofs.{Asides.alone-silent, Asides.OnlyReads, Fit.fit, Here.frame-inside, Quiet.quiet-shows, Standing.allows-load}
+use Rattle.vm_step.proofs.{steps.Content.frame-known, Written.word-loaded}
+use Rattle.vm_step.proofs.Prelude.{[], after_step, AllowsStep, ap, at-bound, Bool, Brings, core_shown, Did, did_load, draft-is, Each, each-upd2}
+use Rattle.vm_step.proofs.Prelude.{frame_of, frame_read, framed, get_elem?, HoldsPage, is_pending, IsLocking, IsPlacedAt, Kept, KnowsAsBefore}
+use Rattle.vm_step.proofs.Prelude.{KnowsPage, KnowsPages, length, List, loads_at, mapping_of, may_call, no_held, no_seat, None, Open, Option, Origin}
+use Rattle.vm_step.proofs.Prelude.{Page, part-found, put_at, refl, Ruled, Seat, seat-here, seat_of, Shape, Shows, slice_index, Some, some, Stands}
+use Rattle.vm_step.proofs.Prelude.{stands_dirty, Start, State, steps, Stored, subst, sym, Table, TLoad, tload-step, tloaded_view, TloadIsItsEvent}
+use Rattle.vm_step.proofs.Prelude.{told_of, trans_word, translation-here, translation_of, TranslationHolds, TranslationTold, true, upd, upd-keeps}
+use Rattle.vm_step.proofs.Prelude.{upd-other, upd-same, View, Works, World, world_of, ℕ, ◌+◌, ◌<◌, ◌∙◌, ◌∷◌, ◌≡◌, ◌≤◌}
+use Rattle.vm_step.proofs.steps.Leaving.{apart, knows-still, LeavesOthers, LeavesOwn, only-of, others-tied, own-from, rest-of}
 
 -- the translation that an open read got holds: the word is the page's now
 translation-now : (pages : ℕ → Page) (p found : ℕ) (o : Option Open) → ((x : Open) → o ≡ Some x → x.version ≤ (pages p).version) → mapping_of found ≡ (pages p).trans
@@ -50,20 +44,16 @@ module _ {X B : Type 0} (stored : B → Stored) (keeps : Start → Kept X → Ty
         let owns : (q : ℕ) → (seat_of tload-inner q).exclusive ≡ (seat_of v q).exclusive = upd-keeps (λ (y : Seat). y.exclusive) (seat_of v) p seat refl in
         quiet-shows stored keeps tied start tells s r id v s.words r.drafts tload-did tload-inner (TLoad id p) there live
         (record {
-          wide = r.wide.0;
-          spelled = r.spelled;
+          word = word-loaded start s.words (places.Translation p) r.wide.0 r.spelled l;
           legal = (record { actor = at-bound s.views id v there; page = l }, tt);
           world = tload-step stored start s r.releases r.drafts id v tload-after p (mapping_of tload-found) l there refl refl refl (translation-here stored start s p l) refl;
-          at = l;
-          found = refl;
-          wrote = tt;
-          leaves = record { live = refl; start = refl; used = refl; fresh = refl; notes = refl; log = refl; out = refl; mine = refl; frames = refl; contents = refl; pending = refl; owed = refl; next = refl; ties = refl };
+          leaves = refl;
           calls = λ o x. upd-keeps may_call (seat_of v) p seat refl o.page ∙ (r.blocks.away id v o there x).1;
           holds = λ q x. owns q ∙ x;
           members = λ q _. refl;
           next = refl;
-          frames = λ f _. refl;
           knows = each-upd2 (λ q (y : Seat) (z : Page). KnowsPage y (put_at no_held v.held q) z) (seat_of v) c.pages p seat page (record { calls = (k.knows p).calls; shares = (k.knows p).shares }) (λ q _. k.knows q);
+          contents = k.contents;
           drafted = λ q x. k.drafts q (sym (owns q) ∙ x) ∙ draft-is start r.releases r.drafts q;
           loaded = (
             translation_of p tload-found (seat_of v p).reading,
@@ -85,28 +75,18 @@ module _ {X B : Type 0} (stored : B → Stored) (keeps : Start → Kept X → Ty
         }
 
 module _ {X B : Type 0} (stored : B → Stored) (keeps : Start → Kept X → Type 0) (tied : Start → ℕ → List ℕ → ℕ → List ℕ → Type 0) (tells : Bool) where
-  -- of every table that meets the rule
-  tload-keeps : (start : Origin) (s : Table (Option B) (View X)) → Ruled stored keeps tied start tells s → (id : ℕ) (v : View X) (p : ℕ) → get_elem? s.views id ≡ some v → v.live ≡ true → 0 < length v.used → p < start.pages
-      → (w : View X) × Ruled stored keeps tied start tells (became stored keeps tied start tells s (slice_set s.words (start.pages + p) (slice_index s.words (start.pages + p))) id w) × TranslationTold p (slice_index s.words (start.pages + p)) v w
-  tload-keeps start s r id v p there live number l =
-      let w : View X = tload-after stored keeps tied start tells s r id v p in
-      let k = steps stored keeps tied start tells s r id v s.words r.drafts [] [] (tload-did stored keeps tied start tells s r id v p) (tload-inner stored keeps tied start tells s r id v p) (TLoad id p) there live number refl refl
-      (tload-shows stored keeps tied start tells s r id v p there live l) in (
-        w,
-        subst (λ ws. Ruled stored keeps tied start tells (became stored keeps tied start tells s ws id w)) (sym (same-word s.words (start.pages + p))) k.0,
-        tload-told stored keeps tied start tells s r id v p there live l k.1,
-      )
-
-  -- and so of every table that stands
+  -- it keeps the rule of every table and tells what it is to tell
   pub tload-allows : (shape : Shape) (slots id : ℕ) (v : View X) (i : ℕ) (p : ℕ) → v.live ≡ true → 0 < length v.used → p < shape.pages → IsPlacedAt shape (places.Translation p) i
       → AllowsStep (Stands stored keeps tied shape tells) slots id v i (λ n. n) (told_of shape tells (TranslationTold p))
-  tload-allows shape slots id v i p live number l is =
-      allows stored keeps tied shape tells slots id v i (places.Translation p) (λ n. n) (λ n. n) (TranslationTold p) live is (λ n. refl) (λ n w t. fit t.brings live)
-      (λ start has s r there _. tload-keeps start s r id v p there live number (subst (λ n. p < n) (sym has.pages) l))
+  tload-allows shape slots id v i p live number l' is =
+      allows-load stored keeps tied shape tells slots id v i (places.Translation p) (TranslationTold p) live is (λ n w t. fit t.brings live)
+      (λ start has s r there.
+      let l : p < start.pages = subst (λ n. p < n) (sym has.pages) l' in
+      let k = steps stored keeps tied start tells s r id v s.words r.drafts [] [] _ _ (TLoad id p) there live number refl refl (tload-shows stored keeps tied start tells s r id v p there live l) in
+      (_, k.0, tload-told stored keeps tied start tells s r id v p there live l k.1))
 
-module _ {X B : Type 0} (stored : B → Stored) (keeps : Start → Kept X → Type 0) (tied : Start → ℕ → List ℕ → ℕ → List ℕ → Type 0) (tells : Bool) where
-  pub tload_event : TloadIsItsEvent stored keeps tied tells
-  tload_event start s id p found v w pass finds told =
+  pub tload-event : TloadIsItsEvent stored keeps tied tells
+  tload-event start s id p found v w pass finds told =
       let l : p < start.pages = finds.0 in
       let view = told.brings.view in
       let spelled : slice_index s.words (start.pages + p) ≡ trans_word (mapping_of (slice_index s.words (start.pages + p))) =
@@ -120,17 +100,11 @@ module _ {X B : Type 0} (stored : B → Stored) (keeps : Start → Kept X → Ty
       }
 
 module _ {X : Type 0} {p found : ℕ} {v w : View X} (t : TranslationTold p found v w) where
-  abbrev pub tloaded-did : Did
-  tloaded-did = did_load (places.Translation p) found
-
-  pub tload-others : (touched : ℕ → Type 0) → touched p → LeavesOthers touched (tloaded-did ∷ []) [] v w
-  tload-others touched at = others-from t.brings tt (λ q ne. upd-other (put_at no_seat v.seats) p _ q (apart touched at q ne)) (λ q ne. refl) (λ q ne. refl) (λ q ne. refl)
+  pub tload-others : (touched : ℕ → Type 0) → touched p → LeavesOthers touched (did_load (places.Translation p) found ∷ []) [] v w
+  tload-others touched at = others-tied t.brings ([], refl) tt (λ q ne. upd-other (put_at no_seat v.seats) p _ q (apart touched at q ne)) (λ q ne. refl) (λ q ne. refl) (λ q ne. refl)
 
   pub tload-own : LeavesOwn v w
   tload-own = own-from t.brings refl (refl, refl, refl)
-
-  pub tload-leaves : LeavesRest p (tloaded-did ∷ []) v w
-  tload-leaves = rest-of (tload-others (λ q. q ≡ p) refl) tload-own
 
   -- an open read without a frame gets the frame that the word names
   pub tload-seat : seat_of w p ≡ record (seat_of v p) { reading = framed (seat_of v p).reading (mapping_of found) }
@@ -151,12 +125,16 @@ module _ {X : Type 0} {p found : ℕ} {v w : View X} (t : TranslationTold p foun
   tload-knows = knows-still t.brings refl refl refl
 
   -- of a page without an open read it changes nothing
-  pub tload-works : (seat_of v p).reading ≡ None → Works p (tloaded-did ∷ []) v w
+  pub tload-works : (seat_of v p).reading ≡ None → Works p (did_load (places.Translation p) found ∷ []) v w
   tload-works closed = record {
-    leaves = tload-leaves;
+    leaves = rest-of (tload-others (λ q. q ≡ p) refl) tload-own;
     seat = tload-seat ∙ (λ i. record (seat_of v p) { reading = framed (closed i) (mapping_of found) }) ∙ sym (λ i. record (seat_of v p) { reading = closed i });
     loads = tload-loads p;
     draft = ap (λ (x : View X). put_at [] x.drafts p) t.brings.view;
     last = λ l. (tload-knows p l).last;
     alone = (tload-others (λ q. q ≡ p) refl).runs;
   }
+
+-- it changes no more than an open read
+pub translation-only : {X : Type 0} (touched : ℕ → Type 0) (p found : ℕ) (v w : View X) → touched p → TranslationTold p found v w → OnlyReads touched (did_load (places.Translation p) found ∷ []) v w
+translation-only touched p found v w at t = only-of (tload-others t touched at) (tload-own t) (tload-holds t) (tload-knows t) (alone-silent _ None _ v _ w t.brings refl)

@@ -1,18 +1,14 @@
 -- What a step leaves that changes nothing of the view: a mark set or taken away, an exchange of any kind that was lost, a load of a bundle's
 -- word, the hand moved on.
-use Rattle.std.proofs.Common.{[], ◌==◌, ◌∷◌, ◌≡◌, ◌≢◌, ap, if◌then◌else◌, refl, ℕ}
-use Rattle.vm_rule.specs.Prelude.{Brings, did_exchange, draft_of, IsLocking, loads_at, MarkTold, seat_of}
 use Rattle.vm_rule.specs.declared.view.Place.TheVariants as places
-use Rattle.vm_step.specs.Prelude.{Did, HoldsPage, KnowsAsBefore, LeavesRest, View, Works}
-use Rattle.vm_step.proofs.Evidenced.{lost-view}
-use Rattle.vm_step.proofs.steps.Leaving.{holds-still, knows-still, LeavesOthers, LeavesOwn, others-still, own-from, rest-of}
+use Rattle.vm_step.proofs.{Asides.alone-silent, Asides.OnlyReads, Evidenced.lost-view}
+use Rattle.vm_step.proofs.Prelude.{[], ap, Brings, Did, did_change, did_exchange, draft_of, hand_more, HandTold, HoldsPage, if◌then◌else◌, IsLocking}
+use Rattle.vm_step.proofs.Prelude.{KnowsAsBefore, loads_at, MarkTold, None, refl, seat_of, View, Works, ℕ, ◌==◌, ◌∷◌, ◌≡◌, ◌≢◌}
+use Rattle.vm_step.proofs.steps.Leaving.{holds-still, knows-still, LeavesOwn, only-of, others-still, own-from, rest-of}
 
 module _ {X : Type 0} {did : Did} {v w : View X} (b : Brings did [] [] v v w) where
   pub still-own : LeavesOwn v w
   still-own = own-from b refl (refl, refl, refl)
-
-  pub still-leaves : (p : ℕ) → LeavesRest p (did ∷ []) v w
-  still-leaves p = rest-of (others-still b) still-own
 
   pub still-seat : (q : ℕ) → seat_of w q ≡ seat_of v q
   still-seat q = ap (λ (x : View X). seat_of x q) b.view
@@ -28,7 +24,7 @@ module _ {X : Type 0} {did : Did} {v w : View X} (b : Brings did [] [] v v w) wh
 
   pub still-works : (p : ℕ) → Works p (did ∷ []) v w
   still-works p = record {
-    leaves = still-leaves p;
+    leaves = rest-of (others-still b) still-own;
     seat = still-seat p;
     loads = still-loads p;
     draft = ap (λ (x : View X). draft_of x p) b.view;
@@ -36,22 +32,20 @@ module _ {X : Type 0} {did : Did} {v w : View X} (b : Brings did [] [] v v w) wh
     alone = (others-still {touched = λ q. q ≡ p} b).runs;
   }
 
-module _ {X : Type 0} {p expects found new : ℕ} {v w : View X} (t : MarkTold p expects found new v w) where
-  abbrev pub mark-did : Did
-  mark-did = did_exchange (places.State p) expects found new
-
-  pub mark-others : (touched : ℕ → Type 0) → LeavesOthers touched (mark-did ∷ []) [] v w
-  mark-others touched = others-still t.brings
-
-  pub mark-own : LeavesOwn v w
-  mark-own = still-own t.brings
-
-  pub mark-leaves : (q : ℕ) → LeavesRest q (mark-did ∷ []) v w
-  mark-leaves = still-leaves t.brings
-
-  pub mark-works : (q : ℕ) → Works q (mark-did ∷ []) v w
-  mark-works = still-works t.brings
-
 -- an exchange of any kind that was lost: with this, all of the above holds of it
 pub lost-brings : {X : Type 0} {did : Did} {expects found : ℕ} {v w : View X} (inner : View X) → found ≢ expects → Brings did [] [] v (if found == expects then inner else v) w → Brings did [] [] v v w
 lost-brings {did = did} {expects = expects} {found = found} {v = v} {w = w} inner ne b = lost-view did expects found v inner w ne b
+
+-- so such a step changes no more than open reads: the hand that is moved, a mark that is tried, an exchange of any kind that was lost
+module _ {X : Type 0} (touched : ℕ → Type 0) where
+  still-only : (did : Did) (v w : View X) → Brings did [] [] v v w → OnlyReads touched (did ∷ []) v w
+  still-only did v w b = only-of (others-still b) (still-own b) (still-holds b) (still-knows b) (alone-silent did None [] v v w b refl)
+
+  pub hand-only : (found : ℕ) (v w : View X) → HandTold found v w → OnlyReads touched (did_change places.Hand found (hand_more found) ∷ []) v w
+  hand-only found v w t = still-only _ v w t.brings
+
+  pub mark-only : (p expects found new : ℕ) (v w : View X) → MarkTold p expects found new v w → OnlyReads touched (did_exchange (places.State p) expects found new ∷ []) v w
+  mark-only p expects found new v w t = still-only _ v w t.brings
+
+  pub lost-only : (did : Did) (expects found : ℕ) (v inner w : View X) → found ≢ expects → Brings did [] [] v (if found == expects then inner else v) w → OnlyReads touched (did ∷ []) v w
+  lost-only did expects found v inner w ne b = still-only did v w (lost-brings inner ne b)

@@ -2,141 +2,121 @@
 -- their events.
 --
 -- What a lock for write-back leaves that was taken, and one that became exclusive: both speak of one page, whose open read is closed.
-use Rattle.std.proofs.Common.{[], ◌<◌, ◌∙◌, ◌∷◌, ◌≡◌, ◌≢◌, ap, arith, Bool, eqb, false, if◌then◌else◌, length, List, None, Option, refl, slice_index}
-use Rattle.std.proofs.Common.{slice_set, subst, sym, true, ℕ}
-use Rattle.std.proofs.lemmas.Bool.{or_right}
-use prog.Atomic.{either}
-use Rattle.vm_core.specs.Prelude.{get_elem?, LOCKED, MARKED, no_seat, Page, page_at, share_count, some, state_of, upgraded, Version, version_of}
-use Rattle.vm_core.specs.Prelude.{word_of, write_locked}
-use Rattle.vm_core.specs.declared.event.Event.TheVariants.{LockW, Upgrade}
-use Rattle.vm_core.proofs.Upd.{upd-other, upd-same}
-use Rattle.vm_rule.specs.Prelude.{Brings, did_exchange, draft_of, held_at, IsHeldAt, IsLocking, Kept, last_of, loads_at, MayRaiseLock, no_held, put}
-use Rattle.vm_rule.specs.Prelude.{put_at, Ruled, Seat, seat_of, Stands, Start, Stored, Table, upgraded_view, UpgradeTold, WriteLockTold}
-use Rattle.vm_rule.specs.{declared.view.Held.Held, Locks.write_locked_view}
 use Rattle.vm_rule.specs.declared.view.Place.TheVariants as places
-use Rattle.vm_rule.proofs.{Adding.became, Found.state-here}
-use Rattle.vm_step.specs.Prelude.{AllowsStep, Did, IsPlacedAt, LeavesRest, Origin, Shape, told_of, View}
-use Rattle.vm_step.specs.steps.WriteBack.{LockWriteBackIsItsEvent, UpgradeIsItsEvent}
 use Rattle.vm_step.proofs.{Evidenced.taken-view, Fit.either-lives, Fit.fit, Here.last, Here.world, Quiet.ShowsQuiet, Standing.allows}
-use Rattle.vm_step.proofs.Exchange.{exchange-event, exchange_words, free-debt, free-member, free-unheld, held-at, IsExchange, known-held}
-use Rattle.vm_step.proofs.Exchange.{lockw-exchange, opened, owner-shows, page_held, sharer-shows, tried, tried-validates, upgrade-exchange}
-use Rattle.vm_step.proofs.steps.Leaving.{apart, last-still, LeavesOthers, LeavesOwn, others-from, own-from, rest-of}
-
-module _ {X B : Type 0} (stored : B → Stored) (keeps : Start → Kept X → Type 0) (tied : Start → ℕ → List ℕ → ℕ → List ℕ → Type 0) (start : Origin) (tells : Bool)
-    (law : (start : Start) (kept : Kept X) (q p : ℕ) → keeps start kept → q < length kept.pages → p < length kept.pages → tied start q (page_at kept.pages q) p (page_at kept.pages p)) where
-  module _ (s : Table (Option B) (View X)) (r : Ruled stored keeps tied start tells s) (id : ℕ) (v : View X) (there : get_elem? s.views id ≡ some v) (live : v.live ≡ true) (p expects : ℕ) (l : p < start.pages) (may : state_of expects ≡ MARKED) where
-    found-state : slice_index s.words p ≡ expects → ((world stored keeps tied start tells s r).core.pages p).state ≡ MARKED
-    found-state hit = state-here stored start s p l ∙ ap state_of hit ∙ may
-
-    free : slice_index s.words p ≡ expects → ((world stored keeps tied start tells s r).core.pages p).state ≢ LOCKED
-    free hit e = let is : ((world stored keeps tied start tells s r).core.pages p).state ≡ MARKED = found-state hit in omega (arith, is, e)
-
-    none : slice_index s.words p ≡ expects → share_count ((world stored keeps tied start tells s r).core.pages p).state ≡ 0
-    none hit = ap share_count (found-state hit)
-
-    abbrev write_inner : View X
-    write_inner = write_locked_view p (page_held stored keeps tied start tells s r p) v
-
-    abbrev write-is : IsExchange stored start s r.releases r.drafts id p expects (word_of 1 (version_of expects)) r.drafts write_inner (LockW id p expects) (write_locked ((world stored keeps tied start tells s r).core.pages p) id)
-    write-is = lockw-exchange stored start s r.releases r.drafts id v p expects r.wide.0 l there may (page_held stored keeps tied start tells s r p)
-
-    write-shows : (hit : slice_index s.words p ≡ expects)
-        → ShowsQuiet stored keeps tied start tells s r id v (slice_set s.words p (word_of 1 (version_of expects))) r.drafts (did_exchange (places.State p) expects (slice_index s.words p) (word_of 1 (version_of expects))) write_inner (LockW id p expects)
-    write-shows hit =
-        let y : Page = write_locked ((world stored keeps tied start tells s r).core.pages p) id in
-        let seat : Seat = record (seat_of v p) { shares = 1; writing = true; reading = None } in
-        sharer-shows stored keeps tied start tells s r id v there live p expects (word_of 1 (version_of expects)) l hit (LockW id p expects) y seat (put p (page_held stored keeps tied start tells s r p) v.held) write-is
-        (λ m. or_right (seat_of v p).exclusive true refl) refl
-        (λ q ne. upd-other (put_at no_held v.held) p (page_held stored keeps tied start tells s r p) q ne)
-        (known-held stored keeps tied start tells s r p l seat v.held y refl refl refl refl)
-
-    -- taken or lost, it keeps the rule and tells what it is to tell
-    pub write-tells : (number : 0 < length v.used)
-        → (w : View X) × Ruled stored keeps tied start tells (became stored keeps tied start tells s (exchange_words stored keeps tied start tells s r id v there live number p expects (word_of 1 (version_of expects)) l) id w) × WriteLockTold tied p expects (slice_index s.words p) v w
-    write-tells number =
-        let held : Held = page_held stored keeps tied start tells s r p in
-        let k = tried stored keeps tied start tells s r id v there live number p expects (word_of 1 (version_of expects)) l r.drafts write_inner (LockW id p expects) _ refl write-is write-shows in (
-          k.0,
-          k.1.rule,
-          record {
-            held = held;
-            brings = k.1.brings;
-            version = k.1.version;
-            since = k.1.since;
-            older = k.1.older;
-            size = k.1.size;
-            stands = λ hit. subst (λ (y : Version). IsHeldAt expects v.start.frames v.start.tells y.words held) (sym k.1.last) (held-at stored keeps tied start tells s r id v there p l (free hit) (none hit) live expects hit);
-            free = λ hit. free-member stored keeps tied start tells s r id v there p l (free hit);
-            unheld = λ hit. free-unheld stored keeps tied start tells s r id v there p l (free hit) (none hit) live;
-            validates = λ t hit. tried-validates stored keeps tied start tells s r id v there live number p expects (word_of 1 (version_of expects)) l law _ k.0 k.1 (free hit) t hit;
-          },
-        )
-
-module _ {X B : Type 0} (stored : B → Stored) (keeps : Start → Kept X → Type 0) (tied : Start → ℕ → List ℕ → ℕ → List ℕ → Type 0) (shape : Shape) (tells : Bool)
-    (law : (start : Start) (kept : Kept X) (q p : ℕ) → keeps start kept → q < length kept.pages → p < length kept.pages → tied start q (page_at kept.pages q) p (page_at kept.pages p)) where
-  -- so it does of every table that stands
-  pub write_lock_allows : (slots id : ℕ) (v : View X) (i : ℕ) (p expects x : ℕ) → v.live ≡ true → 0 < length v.used → p < shape.pages → state_of expects ≡ MARKED → x ≡ (word_of 1 (version_of expects)) → IsPlacedAt shape (places.State p) i
-      → AllowsStep (Stands stored keeps tied shape tells) slots id v i (λ n. either (eqb n expects) x n) (told_of shape tells (WriteLockTold tied p expects))
-  write_lock_allows slots id v i p expects x live number l may spells is =
-      allows stored keeps tied shape tells slots id v i (places.State p) (λ n. either (eqb n expects) x n) (λ n. either (eqb n expects) (word_of 1 (version_of expects)) n) (WriteLockTold tied p expects) live is (λ n. ap (λ z. either (eqb n expects) z n) spells) (λ n w t. fit t.brings (either-lives _ _ v live live))
-      (λ start has s r there _. write-tells stored keeps tied start tells law s r id v there live p expects (subst (λ n. p < n) (sym has.pages) l) may number)
+use Rattle.vm_step.proofs.Exchange.{exchange-event, free-debt, free-member, free-unheld, held-at, IsExchange, known-held, lockw-exchange, opened}
+use Rattle.vm_step.proofs.Exchange.{owner-shows, page_held, sharer-shows, tried, tried-validates, upgrade-exchange}
+use Rattle.vm_step.proofs.Prelude.{[], AllowsStep, ap, arith, Bool, Brings, Did, did_exchange, draft_of, either, eqb, false, get_elem?, Held, held_at}
+use Rattle.vm_step.proofs.Prelude.{if◌then◌else◌, IsHeldAt, IsLocking, IsPlacedAt, Kept, last_of, LeavesRest, length, List, LOCKED, LockW}
+use Rattle.vm_step.proofs.Prelude.{LockWriteBackIsItsEvent, MARKED, MayRaiseLock, no_held, no_seat, None, Option, or_right, Origin, Page, page_at}
+use Rattle.vm_step.proofs.Prelude.{put, put_at, refl, Ruled, Seat, seat_of, Shape, share_count, slice_index, slice_set, some, Stands, Start}
+use Rattle.vm_step.proofs.Prelude.{state-here, state_of, Stored, subst, sym, Table, told_of, true, upd-other, upd-same, Upgrade, upgraded}
+use Rattle.vm_step.proofs.Prelude.{upgraded_view, UpgradeIsItsEvent, UpgradeTold, Version, version_of, View, word_of, write_locked, write_locked_view}
+use Rattle.vm_step.proofs.Prelude.{WriteLockTold, ℕ, ◌<◌, ◌∙◌, ◌∷◌, ◌≡◌, ◌≢◌}
+use Rattle.vm_step.proofs.steps.Leaving.{apart, last-still, LeavesOthers, LeavesOwn, others-tied, own-from, rest-of}
 
 module _ {X B : Type 0} (stored : B → Stored) (keeps : Start → Kept X → Type 0) (tied : Start → ℕ → List ℕ → ℕ → List ℕ → Type 0) (start : Origin) (tells : Bool) (s : Table (Option B) (View X)) (r : Ruled stored keeps tied start tells s)
-    (id : ℕ) (v : View X) (there : get_elem? s.views id ≡ some v) (p expects : ℕ) (l : p < start.pages) (may : MayRaiseLock v p expects) where
-  module _ (live : v.live ≡ true) where
-    upgrade-free : slice_index s.words p ≡ expects → ((world stored keeps tied start tells s r).core.pages p).state ≢ LOCKED
-    upgrade-free hit e = let is : ((world stored keeps tied start tells s r).core.pages p).state ≡ 1 = state-here stored start s p l ∙ ap state_of hit ∙ may.state in omega (arith, is, e)
+    (id : ℕ) (v : View X) (there : get_elem? s.views id ≡ some v) (live : v.live ≡ true) (p expects : ℕ) (l : p < start.pages) where
+  -- ---- for write-back
 
-    abbrev upgraded_inner : View X
-    upgraded_inner = upgraded_view p (last stored keeps tied start tells s r p).words v
+  abbrev write_inner : View X
+  write_inner = write_locked_view p (page_held stored keeps tied start tells s r p) v
 
-    abbrev upgrade-is : IsExchange stored start s r.releases r.drafts id p expects (word_of LOCKED (version_of expects)) (opened stored keeps tied start tells s r p) upgraded_inner (Upgrade id p expects) (upgraded ((world stored keeps tied start tells s r).core.pages p) id)
-    upgrade-is = upgrade-exchange stored start s r.releases r.drafts id v p expects r.wide.0 l there may (last stored keeps tied start tells s r p).words
+  abbrev write-is : state_of expects ≡ MARKED → IsExchange stored start s r.releases r.drafts id p expects (word_of 1 (version_of expects)) r.drafts write_inner (LockW id p expects) (write_locked ((world stored keeps tied start tells s r).core.pages p) id)
+  write-is may = lockw-exchange stored start s r.releases r.drafts id v p expects r.wide.0 l there may (page_held stored keeps tied start tells s r p)
 
-    upgrade-shows : (hit : slice_index s.words p ≡ expects)
-        → ShowsQuiet stored keeps tied start tells s r id v (slice_set s.words p (word_of LOCKED (version_of expects))) (opened stored keeps tied start tells s r p) (did_exchange (places.State p) expects (slice_index s.words p) (word_of LOCKED (version_of expects))) upgraded_inner (Upgrade id p expects)
-    upgrade-shows hit =
-        owner-shows stored keeps tied start tells s r id v there live p expects (word_of LOCKED (version_of expects)) l hit (Upgrade id p expects) (upgraded ((world stored keeps tied start tells s r).core.pages p) id) (record { shares = 0; exclusive = true; writing = false; reading = None }) v.held upgrade-is
-        refl (upgrade-free hit)
-        (λ q ne. refl)
-        (record { calls = λ m. ((r.known id v there live).knows p).calls (or_right (seat_of v p).exclusive (seat_of v p).writing may.writes); shares = λ some'. absurd (omega arith) })
+  write-shows : state_of expects ≡ MARKED → slice_index s.words p ≡ expects
+      → ShowsQuiet stored keeps tied start tells s r id v (slice_set s.words p (word_of 1 (version_of expects))) r.drafts (did_exchange (places.State p) expects (slice_index s.words p) (word_of 1 (version_of expects))) write_inner (LockW id p expects)
+  write-shows may hit =
+      let y : Page = write_locked ((world stored keeps tied start tells s r).core.pages p) id in
+      let seat : Seat = record (seat_of v p) { shares = 1; writing = true; reading = None } in
+      sharer-shows stored keeps tied start tells s r id v there live p l expects (word_of 1 (version_of expects)) hit (LockW id p expects) y seat (put p (page_held stored keeps tied start tells s r p) v.held) (write-is may)
+      (λ m. or_right (seat_of v p).exclusive true refl) refl
+      (λ q ne. upd-other (put_at no_held v.held) p (page_held stored keeps tied start tells s r p) q ne)
+      (known-held stored keeps tied start tells s r p l seat v.held y refl refl refl refl)
 
-    -- taken or lost, it keeps the rule and tells what it is to tell
-    pub upgrade-tells : (law : (start : Start) (kept : Kept X) (q p : ℕ) → keeps start kept → q < length kept.pages → p < length kept.pages → tied start q (page_at kept.pages q) p (page_at kept.pages p)) (number : 0 < length v.used)
-        → (w : View X) × Ruled stored keeps tied start tells (became stored keeps tied start tells s (exchange_words stored keeps tied start tells s r id v there live number p expects (word_of LOCKED (version_of expects)) l) id w) × UpgradeTold tied p expects (slice_index s.words p) v w
-    upgrade-tells law number =
-        let k = tried stored keeps tied start tells s r id v there live number p expects (word_of LOCKED (version_of expects)) l (opened stored keeps tied start tells s r p) upgraded_inner (Upgrade id p expects) _ refl upgrade-is upgrade-shows in (
-          k.0,
-          k.1.rule,
-          record {
-            brings = subst (λ (y : Version). Brings (did_exchange (places.State p) expects (slice_index s.words p) (word_of LOCKED (version_of expects))) [] [] v (if eqb (slice_index s.words p) expects then upgraded_view p y.words v else v) k.0) (sym k.1.last) k.1.brings;
-            version = k.1.version;
-            since = k.1.since;
-            older = k.1.older;
-            size = k.1.size;
-            free = λ hit. free-member stored keeps tied start tells s r id v there p l (upgrade-free hit);
-            paid = λ hit. free-debt stored keeps tied start tells s r id v there p l (upgrade-free hit) live;
-            validates = λ t hit. tried-validates stored keeps tied start tells s r id v there live number p expects (word_of LOCKED (version_of expects)) l law _ k.0 k.1 (upgrade-free hit) t hit;
-          },
-        )
+  -- ---- exclusive then
+
+  upgrade-free : MayRaiseLock v p expects → slice_index s.words p ≡ expects → ((world stored keeps tied start tells s r).core.pages p).state ≢ LOCKED
+  upgrade-free may hit e = let is : ((world stored keeps tied start tells s r).core.pages p).state ≡ 1 = state-here stored start s p l ∙ ap state_of hit ∙ may.state in omega (arith, is, e)
+
+  abbrev upgraded_inner : View X
+  upgraded_inner = upgraded_view p (last stored keeps tied start tells s r p).words v
+
+  abbrev upgrade-is : MayRaiseLock v p expects → IsExchange stored start s r.releases r.drafts id p expects (word_of LOCKED (version_of expects)) (opened stored keeps tied start tells s r p) upgraded_inner (Upgrade id p expects) (upgraded ((world stored keeps tied start tells s r).core.pages p) id)
+  upgrade-is may = upgrade-exchange stored start s r.releases r.drafts id v p expects r.wide.0 l there may (last stored keeps tied start tells s r p).words
+
+  upgrade-shows : MayRaiseLock v p expects → slice_index s.words p ≡ expects
+      → ShowsQuiet stored keeps tied start tells s r id v (slice_set s.words p (word_of LOCKED (version_of expects))) (opened stored keeps tied start tells s r p) (did_exchange (places.State p) expects (slice_index s.words p) (word_of LOCKED (version_of expects))) upgraded_inner (Upgrade id p expects)
+  upgrade-shows may hit =
+      owner-shows stored keeps tied start tells s r id v there live p l expects (word_of LOCKED (version_of expects)) hit (Upgrade id p expects) (upgraded ((world stored keeps tied start tells s r).core.pages p) id) (record { shares = 0; exclusive = true; writing = false; reading = None }) v.held (upgrade-is may)
+      refl (upgrade-free may hit)
+      (λ q ne. refl)
+      (record { calls = λ m. ((r.known id v there live).knows p).calls (or_right (seat_of v p).exclusive (seat_of v p).writing may.writes); shares = λ some'. absurd (omega arith) })
 
 module _ {X B : Type 0} (stored : B → Stored) (keeps : Start → Kept X → Type 0) (tied : Start → ℕ → List ℕ → ℕ → List ℕ → Type 0) (shape : Shape) (tells : Bool)
     (law : (start : Start) (kept : Kept X) (q p : ℕ) → keeps start kept → q < length kept.pages → p < length kept.pages → tied start q (page_at kept.pages q) p (page_at kept.pages p)) where
-  -- so it does of every table that stands
-  pub upgrade_allows : (slots id : ℕ) (v : View X) (i : ℕ) (p expects x : ℕ) → v.live ≡ true → 0 < length v.used → p < shape.pages → MayRaiseLock v p expects → x ≡ (word_of LOCKED (version_of expects)) → IsPlacedAt shape (places.State p) i
+  -- taken or lost, either keeps the rule of every table and tells what it is to tell
+  pub lock_write_back-allows : (slots id : ℕ) (v : View X) (i : ℕ) (p expects x : ℕ) → v.live ≡ true → 0 < length v.used → p < shape.pages → state_of expects ≡ MARKED → x ≡ (word_of 1 (version_of expects)) → IsPlacedAt shape (places.State p) i
+      → AllowsStep (Stands stored keeps tied shape tells) slots id v i (λ n. either (eqb n expects) x n) (told_of shape tells (WriteLockTold tied p expects))
+  lock_write_back-allows slots id v i p expects x live number l' may spells is =
+      allows stored keeps tied shape tells slots id v i (places.State p) (λ n. either (eqb n expects) x n) (λ n. either (eqb n expects) (word_of 1 (version_of expects)) n) (WriteLockTold tied p expects) live is (λ n. ap (λ z. either (eqb n expects) z n) spells) (λ n w t. fit t.brings (either-lives _ _ v live live))
+      (λ start has s r there _.
+      let l : p < start.pages = subst (λ n. p < n) (sym has.pages) l' in
+      let found-state : slice_index s.words p ≡ expects → ((world stored keeps tied start tells s r).core.pages p).state ≡ MARKED = (λ hit. state-here stored start s p l ∙ ap state_of hit ∙ may) in
+      let free : slice_index s.words p ≡ expects → ((world stored keeps tied start tells s r).core.pages p).state ≢ LOCKED = (λ hit e. let is = found-state hit in omega (arith, is, e)) in
+      let held : Held = page_held stored keeps tied start tells s r p in
+      let k = tried stored keeps tied start tells s r id v there live number p expects (word_of 1 (version_of expects)) l r.drafts (write_inner stored keeps tied start tells s r id v there live p expects l) (LockW id p expects) _ refl
+      (write-is stored keeps tied start tells s r id v there live p expects l may)
+      (write-shows stored keeps tied start tells s r id v there live p expects l may) in (
+        k.0,
+        k.1.rule,
+        record {
+          held = held;
+          brings = k.1.brings;
+          version = k.1.version;
+          since = k.1.since;
+          older = k.1.older;
+          size = k.1.size;
+          stands = λ hit. subst (λ (y : Version). IsHeldAt expects v.start.frames v.start.tells y.words held) (sym k.1.last) (held-at stored keeps tied start tells s r id v there p l (free hit) (ap share_count (found-state hit)) live expects hit);
+          free = λ hit. free-member stored keeps tied start tells s r id v there p l (free hit);
+          unheld = λ hit. free-unheld stored keeps tied start tells s r id v there p l (free hit) (ap share_count (found-state hit)) live;
+          validates = λ t hit. tried-validates stored keeps tied start tells s r id v there live number p expects (word_of 1 (version_of expects)) l law _ k.0 k.1 (free hit) t hit;
+        },
+      ))
+
+  pub upgrade-allows : (slots id : ℕ) (v : View X) (i : ℕ) (p expects x : ℕ) → v.live ≡ true → 0 < length v.used → p < shape.pages → MayRaiseLock v p expects → x ≡ (word_of LOCKED (version_of expects)) → IsPlacedAt shape (places.State p) i
       → AllowsStep (Stands stored keeps tied shape tells) slots id v i (λ n. either (eqb n expects) x n) (told_of shape tells (UpgradeTold tied p expects))
-  upgrade_allows slots id v i p expects x live number l may spells is =
+  upgrade-allows slots id v i p expects x live number l' may spells is =
       allows stored keeps tied shape tells slots id v i (places.State p) (λ n. either (eqb n expects) x n) (λ n. either (eqb n expects) (word_of LOCKED (version_of expects)) n) (UpgradeTold tied p expects) live is (λ n. ap (λ z. either (eqb n expects) z n) spells) (λ n w t. fit t.brings (either-lives _ _ v live live))
-      (λ start has s r there _. upgrade-tells stored keeps tied start tells s r id v there p expects (subst (λ n. p < n) (sym has.pages) l) may live law number)
+      (λ start has s r there _.
+      let l : p < start.pages = subst (λ n. p < n) (sym has.pages) l' in
+      let free : slice_index s.words p ≡ expects → ((world stored keeps tied start tells s r).core.pages p).state ≢ LOCKED = upgrade-free stored keeps tied start tells s r id v there live p expects l may in
+      let k = tried stored keeps tied start tells s r id v there live number p expects (word_of LOCKED (version_of expects)) l (opened stored keeps tied start tells s r p) (upgraded_inner stored keeps tied start tells s r id v there live p expects l) (Upgrade id p expects) _ refl
+      (upgrade-is stored keeps tied start tells s r id v there live p expects l may)
+      (upgrade-shows stored keeps tied start tells s r id v there live p expects l may) in (
+        k.0,
+        k.1.rule,
+        record {
+          brings = subst (λ (y : Version). Brings (did_exchange (places.State p) expects (slice_index s.words p) (word_of LOCKED (version_of expects))) [] [] v (if eqb (slice_index s.words p) expects then upgraded_view p y.words v else v) k.0) (sym k.1.last) k.1.brings;
+          version = k.1.version;
+          since = k.1.since;
+          older = k.1.older;
+          size = k.1.size;
+          free = λ hit. free-member stored keeps tied start tells s r id v there p l (free hit);
+          paid = λ hit. free-debt stored keeps tied start tells s r id v there p l (free hit) live;
+          validates = λ t hit. tried-validates stored keeps tied start tells s r id v there live number p expects (word_of LOCKED (version_of expects)) l law _ k.0 k.1 (free hit) t hit;
+        },
+      ))
 
 module _ {X B : Type 0} (stored : B → Stored) (keeps : Start → Kept X → Type 0) (tied : Start → ℕ → List ℕ → ℕ → List ℕ → Type 0) (tells : Bool) where
-  pub lock_write_back_event : LockWriteBackIsItsEvent stored keeps tied tells
-  lock_write_back_event start s id p expects found v w pass at may told =
-      exchange-event stored start keeps tied tells s id p expects found _ _ _ v _ w _ _ pass at (lockw-exchange stored start s [] (λ _. []) id v p expects pass.rule.wide.0 at.0 pass.there may told.held) told.brings
+  pub lock_write_back-event : LockWriteBackIsItsEvent stored keeps tied tells
+  lock_write_back-event start s id p expects found v w pass at may told =
+      exchange-event stored start keeps tied tells s id p expects found _ _ _ v _ w _ _ pass at (lockw-exchange stored start s [] (λ _. []) id v p expects pass.rule.wide.0 at.0 pass.there may told.held) told.brings refl
 
-  pub upgrade_event : UpgradeIsItsEvent stored keeps tied tells
-  upgrade_event start s id p expects found v w pass at may told =
-      exchange-event stored start keeps tied tells s id p expects found _ _ _ v _ w _ _ pass at (upgrade-exchange stored start s [] (λ _. []) id v p expects pass.rule.wide.0 at.0 pass.there may (last_of w p).words) told.brings
+  pub upgrade-event : UpgradeIsItsEvent stored keeps tied tells
+  upgrade-event start s id p expects found v w pass at may told =
+      exchange-event stored start keeps tied tells s id p expects found _ _ _ v _ w _ _ pass at (upgrade-exchange stored start s [] (λ _. []) id v p expects pass.rule.wide.0 at.0 pass.there may (last_of w p).words) told.brings refl
 
 -- ---- for write-back
 
@@ -149,7 +129,7 @@ module _ {X : Type 0} {tied : Start → ℕ → List ℕ → ℕ → List ℕ �
 
   pub write_lock-others : (touched : ℕ → Type 0) → touched p → LeavesOthers touched (write_lock-did ∷ []) [] v w
   write_lock-others touched at =
-      others-from write_lock-brings tt
+      others-tied write_lock-brings ([], refl) tt
       (λ q ne. upd-other (put_at no_seat v.seats) p _ q (apart touched at q ne))
       (λ q ne. upd-other (put_at [] v.loads) p _ q (apart touched at q ne))
       (λ q ne. upd-other (put_at no_held v.held) p _ q (apart touched at q ne))
@@ -164,14 +144,8 @@ module _ {X : Type 0} {tied : Start → ℕ → List ℕ → ℕ → List ℕ �
   pub write_lock-seat : seat_of w p ≡ record (seat_of v p) { shares = 1; writing = true; reading = None }
   write_lock-seat = ap (λ (x : View X). seat_of x p) write_lock-brings.view ∙ upd-same (put_at no_seat v.seats) p _
 
-  pub write_lock-loads : loads_at w p ≡ []
-  write_lock-loads = ap (λ (x : View X). loads_at x p) write_lock-brings.view ∙ upd-same (put_at [] v.loads) p _
-
   pub write_lock-held : held_at w p ≡ t.held
   write_lock-held = ap (λ (x : View X). held_at x p) write_lock-brings.view ∙ upd-same (put_at no_held v.held) p _
-
-  pub write_lock-last : (q : ℕ) → IsLocking (seat_of v q) → last_of w q ≡ last_of v q
-  write_lock-last = last-still write_lock-brings refl
 
 -- ---- exclusive then
 
@@ -184,7 +158,7 @@ module _ {X : Type 0} {tied : Start → ℕ → List ℕ → ℕ → List ℕ �
 
   pub upgrade-others : (touched : ℕ → Type 0) → touched p → LeavesOthers touched (upgrade-did ∷ []) [] v w
   upgrade-others touched at =
-      others-from upgrade-brings tt
+      others-tied upgrade-brings ([], refl) tt
       (λ q ne. upd-other (put_at no_seat v.seats) p _ q (apart touched at q ne))
       (λ q ne. upd-other (put_at [] v.loads) p _ q (apart touched at q ne))
       (λ q ne. refl)
@@ -193,14 +167,8 @@ module _ {X : Type 0} {tied : Start → ℕ → List ℕ → ℕ → List ℕ �
   pub upgrade-own : LeavesOwn v w
   upgrade-own = own-from upgrade-brings refl (refl, refl, refl)
 
-  pub upgrade-leaves : LeavesRest p (upgrade-did ∷ []) v w
-  upgrade-leaves = rest-of (upgrade-others (λ q. q ≡ p) refl) upgrade-own
-
   pub upgrade-seat : seat_of w p ≡ record { shares = 0; exclusive = true; writing = false; reading = None }
   upgrade-seat = ap (λ (x : View X). seat_of x p) upgrade-brings.view ∙ upd-same (put_at no_seat v.seats) p _
-
-  pub upgrade-loads : loads_at w p ≡ []
-  upgrade-loads = ap (λ (x : View X). loads_at x p) upgrade-brings.view ∙ upd-same (put_at [] v.loads) p _
 
   pub upgrade-held : (q : ℕ) → held_at w q ≡ held_at v q
   upgrade-held q = ap (λ (x : View X). held_at x q) upgrade-brings.view

@@ -30,4 +30,5 @@ module _ {X : Type 0} where
     abbrev pub lift_play : ℕ → Step (Option S) → Me (Option S) (View X) → ℕ → Me (Option S) (View X) → Type 0
     lift_play p st m found m' =
         IsOf shape tells m.0
-        × ((b : Stored) → m.0.out ≡ Some (out_at p false b) → ShiftTold p true b found m.0 m'.0 × (m'.1 ≡ (p, None) ∷ m.1) × ((new : Stored) → DeviceDid m.0 p b new → DeviceDid m'.0 p b new))
+        × ((b : Stored) → m.0.out ≡ Some (out_at p false b) → ShiftTold p true b found m.0 m'.0 × (m'.1 ≡ (p, None) ∷ m.1)
+        × ((new : Stored) → DeviceDid m.0 p b new → DeviceDid m'.0 p b new))

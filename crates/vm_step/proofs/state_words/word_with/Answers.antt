@@ -1,5 +1,4 @@
-use Rattle.std.proofs.Common.{◌<◌, ◌^◌, arith, ℕ}
-use Rattle.vm_core.specs.Prelude.{version_of}
+use Rattle.vm_step.proofs.Prelude.{arith, version_of, ℕ, ◌<◌, ◌^◌}
 use Rattle.vm_step.proofs.state_words.word_with.Goals as goal
 
 fits : (word : ℕ) → version_of word < 2 ^ 56

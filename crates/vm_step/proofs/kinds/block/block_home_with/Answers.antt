@@ -1,7 +1,5 @@
-use Rattle.std.proofs.Common.{◌<◌, ◌∙◌, ◌∷◌, ◌≡◌, ap, length, None, rules, Some, subst, sym, true}
-use Rattle.vm_rule.specs.Prelude.{rest, ReturnTold, Sound, view_of}
-use Rattle.vm_rule.proofs.Views.{has-view}
-use Rattle.vm_step.specs.Prelude.{view}
+use Rattle.vm_step.proofs.Prelude.{ap, has-view, length, None, rest, ReturnTold, rules, Some, Sound, subst, sym, true, view, view_of, ◌<◌, ◌∙◌, ◌∷◌}
+use Rattle.vm_step.proofs.Prelude.{◌≡◌}
 use Rattle.vm_step.proofs.kinds.block.block_home_with.Goals as goal
 use Rattle.vm_step.proofs.steps.Block.{back-home, lift-allows, lifted, loaded, one-slot, return-allows, view-put}
 

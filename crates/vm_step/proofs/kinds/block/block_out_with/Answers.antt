@@ -1,8 +1,5 @@
-use Rattle.std.proofs.Common.{◌<◌, ◌∙◌, ◌∷◌, ◌≡◌, ap, false, length, None, rules, Some, subst, sym, true}
-use Rattle.vm_core.proofs.PageFacts.{some-same}
-use Rattle.vm_rule.specs.Prelude.{may_call, rest, seat_of, ShiftTold, SlotTold, Sound, view_of}
-use Rattle.vm_rule.proofs.Views.{has-view}
-use Rattle.vm_step.specs.Prelude.{view}
+use Rattle.vm_step.proofs.Prelude.{ap, false, has-view, length, may_call, None, rest, rules, seat_of, ShiftTold, SlotTold, Some, some-same, Sound}
+use Rattle.vm_step.proofs.Prelude.{subst, sym, true, view, view_of, ◌<◌, ◌∙◌, ◌∷◌, ◌≡◌}
 use Rattle.vm_step.proofs.kinds.block.block_out_with.Goals as goal
 use Rattle.vm_step.proofs.steps.Block.{emptied, empty-allows, empty-home, one-slot, out-allows, taken, view-put}
 

@@ -1,5 +1,4 @@
-use Rattle.vm_rule.specs.Prelude.{BundleTold}
-use Rattle.vm_step.specs.Prelude.{told_of}
+use Rattle.vm_step.proofs.Prelude.{BundleTold, told_of}
 use Rattle.vm_step.proofs.kinds.bundle.bload.Given as goal
 
 abbrev pub ghosts-load : goal.ghosts-load

@@ -1,5 +1,4 @@
-use Rattle.vm_rule.specs.Prelude.{GiveTold}
-use Rattle.vm_step.specs.Prelude.{told_of}
+use Rattle.vm_step.proofs.Prelude.{GiveTold, told_of}
 use Rattle.vm_step.proofs.kinds.bundle.give.Given as goal
 
 abbrev pub ghosts-fetch_or : goal.ghosts-fetch_or

@@ -1,5 +1,4 @@
-use Rattle.vm_rule.specs.Prelude.{TakeTold}
-use Rattle.vm_step.specs.Prelude.{told_of}
+use Rattle.vm_step.proofs.Prelude.{TakeTold, told_of}
 use Rattle.vm_step.proofs.kinds.bundle.take.Given as goal
 
 abbrev pub ghosts-compare_exchange : goal.ghosts-compare_exchange

@@ -1,4 +1,4 @@
-use Rattle.vm_step.specs.Prelude.{CatchTold, told_of}
+use Rattle.vm_step.proofs.Prelude.{CatchTold, told_of}
 use Rattle.vm_step.proofs.kinds.catch_up.catch_up.Given as goal
 
 abbrev pub ghosts-load : goal.ghosts-load

@@ -1,8 +1,6 @@
-use Rattle.std.proofs.Common.{[], ◌++◌, ◌+◌, ◌<◌, ◌∙◌, ◌∷◌, ◌≡◌, ap, arith, inl, length, List, subst, sym, take, ℕ}
-use Rattle.std.proofs.lemmas.List.{length-take-le, take_more}
-use Rattle.vm_rule.specs.Prelude.{FillTold, has}
-use Rattle.vm_step.specs.Prelude.{view}
 use Rattle.vm_step.proofs.{Filling.fills, Filling.stores-more, Leaves.ready-after}
+use Rattle.vm_step.proofs.Prelude.{[], ap, arith, FillTold, has, inl, length, length-take-le, List, subst, sym, take, take_more, view, ℕ, ◌++◌, ◌+◌}
+use Rattle.vm_step.proofs.Prelude.{◌<◌, ◌∙◌, ◌∷◌, ◌≡◌}
 use Rattle.vm_step.proofs.kinds.content.fill.Goals as goal
 
 pub store-requires-clause-pass : goal.store-requires-clause-pass

@@ -1,5 +1,4 @@
-use Rattle.std.proofs.Common.{take}
-use Rattle.vm_step.specs.Prelude.{IsSamePass, Stores, view}
+use Rattle.vm_step.proofs.Prelude.{IsSamePass, Stores, take, view}
 use Rattle.vm_step.proofs.kinds.content.fill.Given as goal
 
 -- the words below i were stored

@@ -1,5 +1,4 @@
-use Rattle.vm_rule.specs.Prelude.{LoadTold}
-use Rattle.vm_step.specs.Prelude.{told_of}
+use Rattle.vm_step.proofs.Prelude.{LoadTold, told_of}
 use Rattle.vm_step.proofs.kinds.content.load.Given as goal
 
 abbrev pub ghosts-load : goal.ghosts-load

@@ -1,5 +1,5 @@
 use Rattle.vm_step.proofs.kinds.content.load_is_its_event.Goals as goal
-use Rattle.vm_step.proofs.steps.Content.{load_event}
+use Rattle.vm_step.proofs.steps.Content.{load-event}
 
 pub returns : goal.returns
-returns g c = load_event _ _ _ _
+returns g c = load-event _ _ _ _

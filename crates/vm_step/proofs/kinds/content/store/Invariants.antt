@@ -1,5 +1,4 @@
-use Rattle.vm_rule.specs.Prelude.{StoresTold}
-use Rattle.vm_step.specs.Prelude.{told_of}
+use Rattle.vm_step.proofs.Prelude.{StoresTold, told_of}
 use Rattle.vm_step.proofs.kinds.content.store.Given as goal
 
 abbrev pub ghosts-store : goal.ghosts-store

@@ -1,5 +1,4 @@
-use Rattle.vm_rule.specs.Prelude.{HandTold}
-use Rattle.vm_step.specs.Prelude.{told_of}
+use Rattle.vm_step.proofs.Prelude.{HandTold, told_of}
 use Rattle.vm_step.proofs.kinds.hand.hand.Given as goal
 
 abbrev pub ghosts-fetch_add : goal.ghosts-fetch_add

@@ -1,5 +1,5 @@
 use Rattle.vm_step.proofs.kinds.hand.hand_is_its_event.Goals as goal
-use Rattle.vm_step.proofs.steps.Bundle.{hand_event}
+use Rattle.vm_step.proofs.steps.Bundle.{hand-event}
 
 pub returns : goal.returns
-returns g c = hand_event _ _ _ _
+returns g c = hand-event _ _ _ _

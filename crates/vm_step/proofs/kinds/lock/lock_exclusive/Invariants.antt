@@ -1,5 +1,4 @@
-use Rattle.vm_rule.specs.Prelude.{LockTold}
-use Rattle.vm_step.specs.Prelude.{told_of}
+use Rattle.vm_step.proofs.Prelude.{LockTold, told_of}
 use Rattle.vm_step.proofs.kinds.lock.lock_exclusive.Given as goal
 
 abbrev pub ghosts-compare_exchange : goal.ghosts-compare_exchange

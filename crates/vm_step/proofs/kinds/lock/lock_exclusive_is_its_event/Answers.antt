@@ -1,5 +1,5 @@
 use Rattle.vm_step.proofs.kinds.lock.lock_exclusive_is_its_event.Goals as goal
-use Rattle.vm_step.proofs.steps.Lock.{lock_exclusive_event}
+use Rattle.vm_step.proofs.steps.Lock.{lock_exclusive-event}
 
 pub returns : goal.returns
-returns g c = lock_exclusive_event _ _ _ _
+returns g c = lock_exclusive-event _ _ _ _

@@ -1,5 +1,4 @@
-use Rattle.std.specs.Prelude.{option_map}
-use Rattle.vm_step.specs.Prelude.{LookTells, told_of}
+use Rattle.vm_step.proofs.Prelude.{LookTells, option_map, told_of}
 use Rattle.vm_step.proofs.kinds.look.look.Given as goal
 
 abbrev pub ghosts-load : goal.ghosts-load

@@ -1,5 +1,4 @@
-use Rattle.vm_rule.specs.Prelude.{ClearTold, StandsClean}
-use Rattle.vm_step.specs.Prelude.{told_of}
+use Rattle.vm_step.proofs.Prelude.{ClearTold, StandsClean, told_of}
 use Rattle.vm_step.proofs.kinds.mapping.clear.Given as goal
 
 abbrev pub ghosts-store : goal.ghosts-store

@@ -1,5 +1,5 @@
 use Rattle.vm_step.proofs.kinds.mapping.clear_is_its_event.Goals as goal
-use Rattle.vm_step.proofs.steps.Mapping.{clear_event}
+use Rattle.vm_step.proofs.steps.Mapping.{clear-event}
 
 pub returns : goal.returns
-returns g c start s id p f v w = clear_event _ start _ _ _ s id p f v w
+returns g c start s id p f v w = clear-event _ start _ _ _ s id p f v w

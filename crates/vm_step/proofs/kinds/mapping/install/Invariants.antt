@@ -1,5 +1,4 @@
-use Rattle.vm_rule.specs.Prelude.{InstallTold}
-use Rattle.vm_step.specs.Prelude.{told_of}
+use Rattle.vm_step.proofs.Prelude.{InstallTold, told_of}
 use Rattle.vm_step.proofs.kinds.mapping.install.Given as goal
 
 abbrev pub ghosts-store : goal.ghosts-store

@@ -1,5 +1,5 @@
 use Rattle.vm_step.proofs.kinds.mapping.install_is_its_event.Goals as goal
-use Rattle.vm_step.proofs.steps.Mapping.{install_event}
+use Rattle.vm_step.proofs.steps.Mapping.{install-event}
 
 pub returns : goal.returns
-returns g c start s id p f v w = install_event _ start _ _ _ s id p f v w
+returns g c start s id p f v w = install-event _ start _ _ _ s id p f v w

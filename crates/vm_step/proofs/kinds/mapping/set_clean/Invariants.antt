@@ -1,5 +1,4 @@
-use Rattle.vm_rule.specs.Prelude.{CleanTold}
-use Rattle.vm_step.specs.Prelude.{told_of}
+use Rattle.vm_step.proofs.Prelude.{CleanTold, told_of}
 use Rattle.vm_step.proofs.kinds.mapping.set_clean.Given as goal
 
 abbrev pub ghosts-store : goal.ghosts-store

@@ -1,5 +1,4 @@
-use Rattle.vm_rule.specs.Prelude.{DirtyTold}
-use Rattle.vm_step.specs.Prelude.{told_of}
+use Rattle.vm_step.proofs.Prelude.{DirtyTold, told_of}
 use Rattle.vm_step.proofs.kinds.mapping.set_dirty.Given as goal
 
 abbrev pub ghosts-store : goal.ghosts-store

@@ -1,6 +1,4 @@
-use Rattle.vm_core.specs.Prelude.{MARKED, version_of, word_of}
-use Rattle.vm_rule.specs.Prelude.{MarkTold}
-use Rattle.vm_step.specs.Prelude.{told_of}
+use Rattle.vm_step.proofs.Prelude.{MARKED, MarkTold, told_of, version_of, word_of}
 use Rattle.vm_step.proofs.kinds.mark.mark.Given as goal
 
 abbrev pub ghosts-compare_exchange : goal.ghosts-compare_exchange

@@ -1,6 +1,4 @@
-use Rattle.vm_core.specs.Prelude.{UNLOCKED, version_of, word_of}
-use Rattle.vm_rule.specs.Prelude.{MarkTold}
-use Rattle.vm_step.specs.Prelude.{told_of}
+use Rattle.vm_step.proofs.Prelude.{MarkTold, told_of, UNLOCKED, version_of, word_of}
 use Rattle.vm_step.proofs.kinds.mark.unmark.Given as goal
 
 abbrev pub ghosts-compare_exchange : goal.ghosts-compare_exchange

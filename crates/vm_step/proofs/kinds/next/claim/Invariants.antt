@@ -1,5 +1,4 @@
-use Rattle.vm_rule.specs.Prelude.{ClaimTold}
-use Rattle.vm_step.specs.Prelude.{told_of}
+use Rattle.vm_step.proofs.Prelude.{ClaimTold, told_of}
 use Rattle.vm_step.proofs.kinds.next.claim.Given as goal
 
 abbrev pub ghosts-compare_exchange : goal.ghosts-compare_exchange

@@ -1,5 +1,4 @@
-use Rattle.vm_rule.specs.Prelude.{NextTold}
-use Rattle.vm_step.specs.Prelude.{told_of}
+use Rattle.vm_step.proofs.Prelude.{NextTold, told_of}
 use Rattle.vm_step.proofs.kinds.next.nload.Given as goal
 
 abbrev pub ghosts-load : goal.ghosts-load

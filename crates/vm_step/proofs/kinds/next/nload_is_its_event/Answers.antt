@@ -1,5 +1,5 @@
 use Rattle.vm_step.proofs.kinds.next.nload_is_its_event.Goals as goal
-use Rattle.vm_step.proofs.steps.Next.{nload_event}
+use Rattle.vm_step.proofs.steps.Next.{nload-event}
 
 pub returns : goal.returns
-returns g c = nload_event _ _ _ _
+returns g c = nload-event _ _ _ _

@@ -1,5 +1,4 @@
-use Rattle.vm_rule.specs.Prelude.{TakesOver}
-use Rattle.vm_step.specs.Prelude.{told_of}
+use Rattle.vm_step.proofs.Prelude.{TakesOver, told_of}
 use Rattle.vm_step.proofs.kinds.pass.follow_pass.Given as goal
 
 abbrev pub ghosts-take_in : goal.ghosts-take_in

@@ -1,4 +1,4 @@
-use Rattle.vm_step.specs.Prelude.{CatchTold, told_of}
+use Rattle.vm_step.proofs.Prelude.{CatchTold, told_of}
 use Rattle.vm_step.proofs.kinds.pass.hear_pass.Given as goal
 
 abbrev pub ghosts-take_in : goal.ghosts-take_in

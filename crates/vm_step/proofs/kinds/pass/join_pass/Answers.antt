@@ -1,10 +1,9 @@
-use Rattle.vm_step.specs.Prelude.{view}
+use Rattle.vm_step.proofs.{Prelude.view, steps.CatchUp.catch_up-allows}
 use Rattle.vm_step.proofs.kinds.pass.join_pass.Goals as goal
-use Rattle.vm_step.proofs.steps.CatchUp.{catch-allows}
 use Rattle.vm_step.proofs.steps.Pass.{join-told, joins-any, more-used}
 
 pub take_in-requires-clause-allows : goal.take_in-requires-clause-allows
-take_in-requires-clause-allows g c = catch-allows _ _ _ _ _ _ _ _ _ c.args.pass.now.live (more-used (view c.args.pass.now) (view c.args.other) c.requires.pass.1) c.next_place-at.ensures.place
+take_in-requires-clause-allows g c = catch_up-allows _ _ _ _ _ _ _ _ _ c.args.pass.now.live (more-used (view c.args.pass.now) (view c.args.other) c.requires.pass.1) c.next_place-at.ensures.place
 
 pub take_in-requires-clause-joins : goal.take_in-requires-clause-joins
 take_in-requires-clause-joins g c = joins-any _ _ _ _ _ _ _ _ _ c.args.pass.now.live c.args.other.live c.args.pass.now.settled c.args.other.settled c.requires.nothing

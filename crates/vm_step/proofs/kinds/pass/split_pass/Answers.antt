@@ -1,7 +1,5 @@
-use Rattle.std.proofs.Common.{◌<◌, ◌∙◌, ◌≡◌, ap, arith, false, length, subst, sym, true}
-use Rattle.vm_rule.specs.Prelude.{Sound, view_of}
-use Rattle.vm_rule.proofs.SplitSound.{giver-sound, newcomer-sound}
 use Rattle.vm_step.proofs.{kinds.pass.split_pass.Goals.else-part, kinds.pass.split_pass.Goals.then-part, steps.Pass.splits-any}
+use Rattle.vm_step.proofs.Prelude.{ap, arith, false, giver-sound, length, newcomer-sound, Sound, subst, sym, true, view_of, ◌<◌, ◌∙◌, ◌≡◌}
 use Rattle.vm_step.proofs.kinds.pass.split_pass.Goals as goal
 
 pub split_seat-other-requires : goal.split_seat-other-requires

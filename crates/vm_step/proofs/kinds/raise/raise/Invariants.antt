@@ -1,5 +1,4 @@
-use Rattle.vm_rule.specs.Prelude.{RaiseTold}
-use Rattle.vm_step.specs.Prelude.{told_of}
+use Rattle.vm_step.proofs.Prelude.{RaiseTold, told_of}
 use Rattle.vm_step.proofs.kinds.raise.raise.Given as goal
 
 abbrev pub ghosts-store : goal.ghosts-store

@@ -1,5 +1,4 @@
-use Rattle.vm_rule.specs.Prelude.{DowngradeTold}
-use Rattle.vm_step.specs.Prelude.{ReleaseTells, told_of}
+use Rattle.vm_step.proofs.Prelude.{DowngradeTold, ReleaseTells, told_of}
 use Rattle.vm_step.proofs.kinds.release.downgrade.Given as goal
 
 abbrev pub ghosts-store : goal.ghosts-store

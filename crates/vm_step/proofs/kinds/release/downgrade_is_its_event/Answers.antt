@@ -1,5 +1,5 @@
 use Rattle.vm_step.proofs.kinds.release.downgrade_is_its_event.Goals as goal
-use Rattle.vm_step.proofs.steps.Release.{downgrade_event}
+use Rattle.vm_step.proofs.steps.Release.{downgrade-event}
 
 pub returns : goal.returns
-returns g c = downgrade_event _ _ _ _ g.U.Owner.may_release
+returns g c = downgrade-event _ _ _ _ g.U.Owner.may_release

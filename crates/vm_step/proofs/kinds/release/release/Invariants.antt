@@ -1,6 +1,4 @@
-use Rattle.std.specs.Prelude.{option_map}
-use Rattle.vm_rule.specs.Prelude.{ReleaseTold}
-use Rattle.vm_step.specs.Prelude.{ReleaseTells, told_of}
+use Rattle.vm_step.proofs.Prelude.{option_map, ReleaseTells, ReleaseTold, told_of}
 use Rattle.vm_step.proofs.kinds.release.release.Given as goal
 
 abbrev pub ghosts-store : goal.ghosts-store

@@ -1,5 +1,4 @@
-use Rattle.vm_rule.specs.Prelude.{EvictTold}
-use Rattle.vm_step.specs.Prelude.{ReleaseTells, told_of}
+use Rattle.vm_step.proofs.Prelude.{EvictTold, ReleaseTells, told_of}
 use Rattle.vm_step.proofs.kinds.release.release_evicted.Given as goal
 
 abbrev pub ghosts-store : goal.ghosts-store

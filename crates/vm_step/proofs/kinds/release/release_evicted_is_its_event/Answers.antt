@@ -1,5 +1,5 @@
 use Rattle.vm_step.proofs.kinds.release.release_evicted_is_its_event.Goals as goal
-use Rattle.vm_step.proofs.steps.Release.{evict_event}
+use Rattle.vm_step.proofs.steps.Release.{release_evicted-event}
 
 pub returns : goal.returns
-returns g c = evict_event _ _ _ _ g.U.Owner.may_release
+returns g c = release_evicted-event _ _ _ _ g.U.Owner.may_release

@@ -1,6 +1,5 @@
 use Rattle.std.specs.Prelude.{[], None}
-use Rattle.vm_rule.specs.Prelude.{ReleaseTold}
-use Rattle.vm_step.specs.Prelude.{ReleaseTells, told_of}
+use Rattle.vm_step.proofs.Prelude.{ReleaseTells, ReleaseTold, told_of}
 use Rattle.vm_step.proofs.kinds.release.release_silently.Given as goal
 
 abbrev pub ghosts-store : goal.ghosts-store

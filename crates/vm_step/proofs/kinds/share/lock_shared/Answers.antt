@@ -1,5 +1,5 @@
 use Rattle.vm_step.proofs.kinds.share.lock_shared.Goals as goal
-use Rattle.vm_step.proofs.steps.Share.{share_allows}
+use Rattle.vm_step.proofs.steps.Share.{lock_shared-allows}
 
 pub compare_exchange-requires-clause-allows : goal.compare_exchange-requires-clause-allows
-compare_exchange-requires-clause-allows g c = share_allows _ _ _ _ g.U.Owner.ties _ _ _ _ _ c.args.p c.args.expects _ c.args.pass.now.live c.requires.pass.1 c.requires.page c.requires.legal c.shared_word-new.ensures c.state_place-at.ensures.place
+compare_exchange-requires-clause-allows g c = lock_shared-allows _ _ _ _ g.U.Owner.ties _ _ _ _ _ c.args.p c.args.expects _ c.args.pass.now.live c.requires.pass.1 c.requires.page c.requires.legal c.shared_word-new.ensures c.state_place-at.ensures.place

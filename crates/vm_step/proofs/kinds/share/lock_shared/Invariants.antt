@@ -1,5 +1,4 @@
-use Rattle.vm_rule.specs.Prelude.{ShareTold}
-use Rattle.vm_step.specs.Prelude.{told_of}
+use Rattle.vm_step.proofs.Prelude.{ShareTold, told_of}
 use Rattle.vm_step.proofs.kinds.share.lock_shared.Given as goal
 
 abbrev pub ghosts-compare_exchange : goal.ghosts-compare_exchange

@@ -1,5 +1,4 @@
-use Rattle.vm_rule.specs.Prelude.{UnshareTold}
-use Rattle.vm_step.specs.Prelude.{told_of}
+use Rattle.vm_step.proofs.Prelude.{told_of, UnshareTold}
 use Rattle.vm_step.proofs.kinds.share.unlock_shared.Given as goal
 
 abbrev pub ghosts-fetch_sub : goal.ghosts-fetch_sub

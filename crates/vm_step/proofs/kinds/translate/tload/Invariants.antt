@@ -1,5 +1,4 @@
-use Rattle.vm_rule.specs.Prelude.{TranslationTold}
-use Rattle.vm_step.specs.Prelude.{told_of}
+use Rattle.vm_step.proofs.Prelude.{told_of, TranslationTold}
 use Rattle.vm_step.proofs.kinds.translate.tload.Given as goal
 
 abbrev pub ghosts-load : goal.ghosts-load

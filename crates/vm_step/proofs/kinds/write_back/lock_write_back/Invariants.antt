@@ -1,5 +1,4 @@
-use Rattle.vm_rule.specs.Prelude.{WriteLockTold}
-use Rattle.vm_step.specs.Prelude.{told_of}
+use Rattle.vm_step.proofs.Prelude.{told_of, WriteLockTold}
 use Rattle.vm_step.proofs.kinds.write_back.lock_write_back.Given as goal
 
 abbrev pub ghosts-compare_exchange : goal.ghosts-compare_exchange

@@ -1,5 +1,5 @@
 use Rattle.vm_step.proofs.kinds.write_back.lock_write_back_is_its_event.Goals as goal
-use Rattle.vm_step.proofs.steps.WriteBack.{lock_write_back_event}
+use Rattle.vm_step.proofs.steps.WriteBack.{lock_write_back-event}
 
 pub returns : goal.returns
-returns g c = lock_write_back_event _ _ _ _
+returns g c = lock_write_back-event _ _ _ _

@@ -1,5 +1,4 @@
-use Rattle.vm_rule.specs.Prelude.{UpgradeTold}
-use Rattle.vm_step.specs.Prelude.{told_of}
+use Rattle.vm_step.proofs.Prelude.{told_of, UpgradeTold}
 use Rattle.vm_step.proofs.kinds.write_back.upgrade.Given as goal
 
 abbrev pub ghosts-compare_exchange : goal.ghosts-compare_exchange

@@ -1,5 +1,5 @@
 use Rattle.vm_step.proofs.kinds.write_back.upgrade_is_its_event.Goals as goal
-use Rattle.vm_step.proofs.steps.WriteBack.{upgrade_event}
+use Rattle.vm_step.proofs.steps.WriteBack.{upgrade-event}
 
 pub returns : goal.returns
-returns g c = upgrade_event _ _ _ _
+returns g c = upgrade-event _ _ _ _

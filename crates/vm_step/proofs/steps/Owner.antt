@@ -1,0 +1,110 @@
+-- The steps on a frame's owner word: they change nothing of what a pass knows or holds; that the table allows them, and that they are their events.
+use Rattle.vm_core.specs.FrameActs.{frame_of}
+use Rattle.vm_core.specs.declared.event.Seen.TheVariants as sights
+use Rattle.vm_rule.specs.declared.view.Place.TheVariants as places
+use Rattle.vm_step.proofs.{Fit.fit, Here.frame-inside, Mine.stands-called, Quiet.held-shows, Standing.allows, Standing.allows-load, Written.word-left}
+use Rattle.vm_step.proofs.Prelude.{[], actor_of, after_step, AllowsStep, ap, at-bound, Bool, core-still, core_shown, Did, did_store, Disown}
+use Rattle.vm_step.proofs.Prelude.{DisownIsItsEvent, Event, get_elem?, index_of, IsOwnerEvent, IsPlacedAt, IsSome, Kept, KnowsPage, Legal, length}
+use Rattle.vm_step.proofs.Prelude.{List, MayOwn, no_held, OLoad, OloadIsItsEvent, Option, Origin, Own, owned, owner-here, owner-step, OwnerLoadTold}
+use Rattle.vm_step.proofs.Prelude.{OwnerTold, OwnIsItsEvent, put_at, refl, rested, Ruled, Seat, seat-here, seat_of, seen, Shape, Shows, slice_set}
+use Rattle.vm_step.proofs.Prelude.{Some, some, Stands, StandsIn, Start, State, steps, Stored, subst, sym, Table, told_of, true, View, World}
+use Rattle.vm_step.proofs.Prelude.{world_after, world_of, ℕ, ◌+◌, ◌<◌, ◌∙◌, ◌≡◌}
+
+module _ {X B : Type 0} (stored : B → Stored) (keeps : Start → Kept X → Type 0) (tied : Start → ℕ → List ℕ → ℕ → List ℕ → Type 0) (start : Origin) (tells : Bool) (s : Table (Option B) (View X)) (r : Ruled stored keeps tied start tells s)
+    (id : ℕ) (v : View X) (there : get_elem? s.views id ≡ some v) (live : v.live ≡ true) where
+  abbrev core : State
+  core = core_shown stored start s
+
+  abbrev old : World
+  old = world_of stored start r.releases r.drafts s
+
+  module _ (p f : ℕ) (stands : StandsIn v p f) where
+    -- the page stands there
+    standing : (p < start.pages) × ((core.pages p).trans ≡ Some (record { frame = f; dirty = stands.dirty }))
+    standing = stands-called stored keeps tied start tells s r id v there live p (record { frame = f; dirty = stands.dirty }) (rw stands.owns refl) stands.stands
+
+    pub stands-there-now : frame_of (core.pages p).trans ≡ Some f
+    stands-there-now = ap frame_of standing.1
+
+    pub may-own : MayOwn core id p
+    may-own = record {
+      names = record { actor = at-bound s.views id v there; page = standing.0 };
+      page = record { owns = ap (λ (y : Seat). y.exclusive) (seat-here stored start s id p v standing.0 there) ∙ stands.owns; resident = subst IsSome (sym standing.1) refl };
+    }
+
+    -- the step shows itself, where it is this event: nothing is another but the word
+    owner-shows : (word : ℕ) (e : Event) → f < start.frames → Legal core e → world_after old e ≡ record old { core = owned core p word }
+        → Shows stored keeps tied start tells s r id v (slice_set s.words (index_of start (places.Owner f)) word) r.drafts [] [] (did_store (places.Owner f) word) v e
+    owner-shows word e lf legal is =
+        let did : Did = did_store (places.Owner f) word in
+        let words : List ℕ = slice_set s.words (index_of start (places.Owner f)) word in
+        let known = r.known id v there live in
+        held-shows stored keeps tied start tells s r id v words did v.held v.frames v.contents e there live (word-left start s.words did word r.wide.0 r.spelled lf refl tt refl) legal
+        (owner-step stored start s r.releases r.drafts id v (after_step stored keeps tied start tells s r words [] [] did v) p f word r.wide.0 lf there refl refl refl refl stands-there-now ∙ sym is)
+        (ap (λ (y : World). y.core.next) is)
+        (λ q. subst (λ (y : World). KnowsPage (seat_of v q) (put_at no_held v.held q) (y.core.pages q)) (sym is) (known.knows q))
+        (λ g x. known.contents g x ∙ sym (ap (λ (y : World). y.core.words g) is))
+
+module _ {X B : Type 0} (stored : B → Stored) (keeps : Start → Kept X → Type 0) (tied : Start → ℕ → List ℕ → ℕ → List ℕ → Type 0) (shape : Shape) (tells : Bool) where
+  -- so every table that stands allows them
+  owner-allows : (event : ℕ → ℕ → Event) (slots id : ℕ) (v : View X) (i p f word : ℕ)
+      → ((start : Origin) (s : Table (Option B) (View X)) (r : Ruled stored keeps tied start tells s) → MayOwn (core_shown stored start s) id p → Legal (core_shown stored start s) (event id p))
+      → actor_of (event id p) ≡ id
+      → ((old : World) → world_after old (event id p) ≡ record old { core = owned old.core p word })
+      → v.live ≡ true → 0 < length v.used → f < shape.frames → StandsIn v p f → IsPlacedAt shape (places.Owner f) i
+      → AllowsStep (Stands stored keeps tied shape tells) slots id v i (λ _. word) (told_of shape tells (λ _. OwnerTold f word))
+  owner-allows event slots id v i p f word legal actor is live number lf stands at =
+      allows stored keeps tied shape tells slots id v i (places.Owner f) (λ _. word) (λ _. word) (λ _. OwnerTold f word) live at (λ n. refl) (λ n w t. fit t.brings live)
+      (λ start has s r there _.
+      let k = steps stored keeps tied start tells s r id v _ r.drafts [] [] _ v (event id p) there live number actor refl
+      (owner-shows stored keeps tied start tells s r id v there live p f stands word (event id p) (subst (λ n. f < n) (sym has.frames) lf) (legal start s r (may-own stored keeps tied start tells s r id v there live p f stands)) (is _)) in
+      (_, k.0, record { brings = k.1 }))
+
+  pub own-allows : (slots id : ℕ) (v : View X) (i p f : ℕ) → v.live ≡ true → 0 < length v.used → f < shape.frames → StandsIn v p f → IsPlacedAt shape (places.Owner f) i
+      → AllowsStep (Stands stored keeps tied shape tells) slots id v i (λ _. p + 1) (told_of shape tells (λ _. OwnerTold f (p + 1)))
+  own-allows slots id v i p f = owner-allows Own slots id v i p f (p + 1) (λ start s r may. may) refl (λ old. refl)
+
+  pub disown-allows : (slots id : ℕ) (v : View X) (i p f : ℕ) → v.live ≡ true → 0 < length v.used → f < shape.frames → StandsIn v p f → IsPlacedAt shape (places.Owner f) i
+      → AllowsStep (Stands stored keeps tied shape tells) slots id v i (λ _. 0) (told_of shape tells (λ _. OwnerTold f 0))
+  disown-allows slots id v i p f = owner-allows Disown slots id v i p f 0 (λ start s r may. may) refl (λ old. refl)
+
+  pub oload-allows : (slots id : ℕ) (v : View X) (i f : ℕ) → v.live ≡ true → 0 < length v.used → f < shape.frames → IsPlacedAt shape (places.Owner f) i
+      → AllowsStep (Stands stored keeps tied shape tells) slots id v i (λ n. n) (told_of shape tells (OwnerLoadTold f))
+  oload-allows slots id v i f live number lf at =
+      allows-load stored keeps tied shape tells slots id v i (places.Owner f) (OwnerLoadTold f) live at (λ n w t. fit t.brings live)
+      (λ start has s r there.
+      let inside : f < start.frames = subst (λ n. f < n) (sym has.frames) lf in
+      let k = rested stored keeps tied start tells s r id v _ (OLoad id f) there live number refl (record { actor = at-bound s.views id v there; frame = inside }) refl inside refl refl in
+      (_, k.0, record { brings = k.1 }))
+
+module _ {X B : Type 0} (stored : B → Stored) (keeps : Start → Kept X → Type 0) (tied : Start → ℕ → List ℕ → ℕ → List ℕ → Type 0) (tells : Bool) where
+  -- each is its event
+  owner-event : (word : ℕ → ℕ) (event : ℕ → ℕ → Event) → ((c : State) (id p : ℕ) → MayOwn c id p → Legal c (event id p)) → ((old : World) (id p : ℕ) → (world_after old (event id p)).core ≡ owned old.core p (word p))
+      → ((c : State) (id p : ℕ) → seen c (event id p) ≡ sights.Done)
+      → IsOwnerEvent stored keeps tied tells word event
+  owner-event word event legal is sees start s id p f v w pass stands told =
+      let view = told.brings.view in
+      let inside : f < start.frames = frame-inside stored keeps tied start tells s pass.rule p (record { frame = f; dirty = stands.dirty }) (standing stored keeps tied start tells s pass.rule id v pass.there pass.live p f stands).1 in
+      record {
+        legal = legal (core_shown stored start s) id p (may-own stored keeps tied start tells s pass.rule id v pass.there pass.live p f stands);
+        core = ap (λ (y : World). y.core)
+            (owner-step stored start s [] (λ _. []) id v w p f (word p) pass.rule.wide.0 inside pass.there (ap (λ (y : View X). y.out) view) (ap (λ (y : View X). y.frames) view) (ap (λ (y : View X). y.seats) view) (ap (λ (y : View X). y.loads) view)
+            (stands-there-now stored keeps tied start tells s pass.rule id v pass.there pass.live p f stands))
+            ∙ sym (is (world_of stored start [] (λ _. []) s) id p);
+        sees = sees (core_shown stored start s) id p;
+      }
+
+  pub own-event : OwnIsItsEvent stored keeps tied tells
+  own-event = owner-event (λ p. p + 1) Own (λ c id p may. may) (λ old id p. refl) (λ c id p. refl)
+
+  pub disown-event : DisownIsItsEvent stored keeps tied tells
+  disown-event = owner-event (λ p. 0) Disown (λ c id p may. may) (λ old id p. refl) (λ c id p. refl)
+
+  pub oload-event : OloadIsItsEvent stored keeps tied tells
+  oload-event start s id f found v w pass at told =
+      let view = told.brings.view in
+      record {
+        legal = record { actor = at-bound s.views id v pass.there; frame = at.0 };
+        core = core-still stored start s id v w pass.there (ap (λ (y : View X). y.out) view) (ap (λ (y : View X). y.frames) view) (ap (λ (y : View X). y.seats) view);
+        sees = ap sights.Word (owner-here stored start s f at.0 ∙ sym at.1);
+      }
