@@ -1,16 +1,13 @@
--- What steps leave that work on some pages alone, and that this holds of several in a row.
-use Rattle.std.proofs.Common.{[], ⊎_elim, ◌++◌, ◌+◌, ◌<◌, ◌∙◌, ◌∷◌, ◌≡◌, ◌≢◌, ap, append_assoc, false, List, refl, subst, sym, true, true≢false, ℕ}
-use Rattle.std.proofs.lemmas.Bool.{cases_Bool}
-use Rattle.vm_rule.specs.Prelude.{ClaimTold, did_exchange, did_load, Each, has, IsLocking, NextTold, Seat}
-use Rattle.vm_rule.specs.declared.view.Place.{Place}
+-- What steps leave that work on some pages alone, that this holds of several in a row, and what a pass that is alone knows of the table then.
 use Rattle.vm_rule.specs.declared.view.Place.TheVariants as places
-use Rattle.vm_rule.proofs.{Entries.each-map, Heard.each-both}
-use Rattle.vm_step.specs.Prelude.{Did, LeavesRest, Origin, Release, RunsAlone, StaysAlone, Tie, View}
-use Rattle.vm_step.proofs.{Alone.runs-then, Alone.stays-alone, steps.Leaving.LeavesOthers, steps.Leaving.others-none}
-use Rattle.vm_step.proofs.Asides.{alone-then, knows-then, starts-then}
-use Rattle.vm_step.proofs.steps.Next.{claim-brings, claim-others, nload-others}
-use Rattle.vm_guard.specs.{Fresh.IsAmid, FreshPlaces.IsPlaceOf, Quiet.IsQuiet}
-use Rattle.vm_guard.proofs.{Groups.same-seat, QuietSteps.alone-of}
+use Rattle.vm_guard.proofs.{Groups.has-not, Groups.same-seat, QuietSteps.alone-of}
+use Rattle.vm_guard.proofs.Prelude.{[], alone-then, ap, append_assoc, at-then, cases_Bool, claim-brings, claim-others, ClaimTold, Did, did_exchange}
+use Rattle.vm_guard.proofs.Prelude.{did_load, Each, each-both, each-map, else-knows, false, follows-length, get_or-set_same, has, index_of, inr}
+use Rattle.vm_guard.proofs.Prelude.{IsAlone, IsAmid, IsLocking, IsPlaceOf, IsQuiet, known_word_at, knows-after, knows-then, KnowsAt, KnowsOthers}
+use Rattle.vm_guard.proofs.Prelude.{KnowsStates, LeavesOthers, LeavesRest, length, length-set, List, NextTold, nload-others, None, Origin}
+use Rattle.vm_guard.proofs.Prelude.{others-none, Place, refl, Release, runs-then, RunsAlone, Seat, slice_index, slice_set, starts-then, stays-alone}
+use Rattle.vm_guard.proofs.Prelude.{StaysAlone, still-alone, subst, sym, Tie, true, true≢false, View, Within, WritesNone, ℕ, ⊎_elim, ◌++◌, ◌+◌, ◌<◌}
+use Rattle.vm_guard.proofs.Prelude.{◌∙◌, ◌∷◌, ◌≡◌, ◌≢◌, ◌⊎◌}
 
 -- a page that is not among several is another one than each of them
 pub other : (p q : ℕ) (pages : List ℕ) → has p pages ≡ true → has q pages ≡ false → q ≢ p
@@ -20,11 +17,11 @@ other p q pages e none same = true≢false (sym e ∙ ap (λ n. has n pages) (sy
 place-within : (start : Origin) (less pages : List ℕ) (at : Place) → ((q : ℕ) → has q pages ≡ false → has q less ≡ false) → IsPlaceOf start less at → IsPlaceOf start pages at
 place-within start less pages (places.State p) in-it is = (is.0, ⊎_elim (λ e. e) (λ none. absurd (true≢false (sym is.1 ∙ in-it p none))) (cases_Bool (has p pages)))
 place-within start less pages (places.Translation p) in-it is = (is.0, ⊎_elim (λ e. e) (λ none. absurd (true≢false (sym is.1 ∙ in-it p none))) (cases_Bool (has p pages)))
-place-within start less pages (places.Fault p) in-it is = is
-place-within start less pages (places.Content f i) in-it is = is
-place-within start less pages (places.Bundle g) in-it is = is
-place-within start less pages places.Next in-it is = is
-place-within start less pages places.Hand in-it is = is
+place-within start less pages at in-it is = is
+
+-- a pass that was alone is so after the call
+pub amid-alone : {X : Type 0} {pages : List ℕ} {done : List Did} {v w : View X} → IsAmid pages done v w → IsAlone v → IsAlone w
+amid-alone {v = v} {w = w} f a = still-alone v w f.parts f.alone.current a
 
 module _ {X : Type 0} (pages : List ℕ) where
   pub amid-then : (a b : List Did) (u v w : View X) → IsAmid pages a u v → IsAmid pages b v w → IsAmid pages (a ++ b) u w
@@ -136,7 +133,7 @@ module _ {X : Type 0} (pages : List ℕ) where
   -- ---- by what steps leave of other pages
 
   -- steps that speak of some of the pages, say nothing, and leave the group's members
-  amid-of : {done : List Did} {own : List Release} {v w : View X} → LeavesOthers (λ q. has q pages ≡ true) done own v w → w.mine ≡ v.mine → w.pending ≡ v.pending → StaysAlone v w → Each (λ (d : Did). IsPlaceOf v.start pages d.at) done
+  pub amid-of : {done : List Did} {own : List Release} {v w : View X} → LeavesOthers (λ q. has q pages ≡ true) done own v w → w.mine ≡ v.mine → w.pending ≡ v.pending → StaysAlone v w → Each (λ (d : Did). IsPlaceOf v.start pages d.at) done
       → (f : IsAmid pages done v w) × (f.own ≡ own)
   amid-of {own = own} f mine pending alone at = (
     record {
@@ -151,9 +148,9 @@ module _ {X : Type 0} (pages : List ℕ) where
       notes = f.keeps.notes;
       ties = f.ties;
       pending = pending;
-      seats = λ q none. f.seats q (missing q none);
-      loads = λ q none. f.loads q (missing q none);
-      knows = λ q none l. record { held = f.held q (missing q none); draft = f.drafts q (missing q none); last = f.last q (missing q none) l };
+      seats = λ q none. f.seats q (has-not q pages none);
+      loads = λ q none. f.loads q (has-not q pages none);
+      knows = λ q none l. record { held = f.held q (has-not q pages none); draft = f.drafts q (has-not q pages none); last = f.last q (has-not q pages none) l };
       alone = alone;
       places_are = at;
       own = own;
@@ -161,9 +158,6 @@ module _ {X : Type 0} (pages : List ℕ) where
     },
     refl,
   )
-    where
-      missing : (q : ℕ) → has q pages ≡ false → has q pages ≡ true → ⊥
-      missing q none e = true≢false (sym e ∙ none)
 
   -- and release none
   pub silent-of : {done : List Did} {v w : View X} → LeavesOthers (λ q. has q pages ≡ true) done [] v w → w.mine ≡ v.mine → w.pending ≡ v.pending → Each (λ (d : Did). IsPlaceOf v.start pages d.at) done → IsSilent done v w
@@ -172,11 +166,6 @@ module _ {X : Type 0} (pages : List ℕ) where
   -- no step at all
   pub none-silent : (v : View X) → IsSilent [] v v
   none-silent v = silent-of (others-none v) refl refl tt
-
-  -- or release one of them, with the words that it had
-  pub amid-released : {done : List Did} {own : List Release} {v w : View X} → LeavesOthers (λ q. has q pages ≡ true) done own v w → w.mine ≡ v.mine → w.pending ≡ v.pending → StaysAlone v w → Each (λ (d : Did). IsPlaceOf v.start pages d.at) done
-      → IsAmid pages done v w
-  amid-released f mine pending alone at = (amid-of f mine pending alone at).0
 
   -- ---- each kind of step
 
@@ -193,3 +182,35 @@ module _ {X : Type 0} (pages : List ℕ) where
 
   pub claim-amid : (x n found : ℕ) (v w : View X) → found ≡ x → ClaimTold x n found v w → IsAmid pages (did_exchange places.Next x found (x + n) ∷ []) v w
   claim-amid x n found v w e t = (claim-silent x n found v w e t).0
+
+-- ---- what a pass that is alone knows
+
+module _ {X : Type 0} where
+  -- the words at all places but the call's
+  pub others-known : (pages : List ℕ) (done : List Did) (v w : View X) → IsAmid pages done v w → KnowsOthers pages v w
+  others-known pages done v w f = else-knows (IsPlaceOf v.start pages) done f.own v w f.start f.runs (both done f.runs.inside f.places_are)
+    where
+      both : (ds : List Did) → Each (λ (d : Did). Within v.start d.at) ds → Each (λ (d : Did). IsPlaceOf v.start pages d.at) ds → Each (λ (d : Did). Within v.start d.at × ((d.wrote ≡ None) ⊎ IsPlaceOf v.start pages d.at)) ds
+      both [] inside are = tt
+      both (d ∷ ds) inside are = ((inside.0, inr are.0), both ds inside.1 are.1)
+
+  -- the next word, where no step left another
+  pub next-known : (pages : List ℕ) (done : List Did) (v w : View X) → IsAmid pages done v w → WritesNone places.Next done → IsAlone v → known_word_at w places.Next ≡ known_word_at v places.Next
+  next-known pages done v w f none a = (knows-after done f.own v w f.start f.runs).kept a places.Next tt none
+
+  -- what is known of the word of a page that is none of these is known on
+  pub known-on : (pages : List ℕ) (done : List Did) (v w : View X) (q word : ℕ) → IsAmid pages done v w → IsAlone v → q < v.start.pages → has q pages ≡ false → KnowsAt (places.State q) word v → KnowsAt (places.State q) word w
+  known-on pages done v w q word f a page none k = at-then (IsPlaceOf v.start pages) (places.State q) word v w f.start (others-known pages done v w f a) page (λ t. true≢false (sym t.1 ∙ none)) k
+
+  -- of a state word too, where the steps leave those
+  pub known-states : (pages : List ℕ) (done : List Did) (v w : View X) (p word : ℕ) → IsAmid pages done v w → KnowsStates v w → IsAlone v → p < v.start.pages → KnowsAt (places.State p) word v → KnowsAt (places.State p) word w
+  known-states pages done v w p word f same a page k l = same a p page ∙ k (subst (λ (n : ℕ). p < n) (follows-length v.start done v.snapshot.words w.snapshot.words (f.runs.words a.0 a.1)) l)
+
+  -- the word that was put at a place
+  pub put-known : (place : Place) (word : ℕ) (v w : View X) → w.start ≡ v.start → w.snapshot.words ≡ slice_set v.snapshot.words (index_of v.start place) word → KnowsAt place word w
+  put-known place word v w start k l =
+      ap (λ (o : Origin). slice_index w.snapshot.words (index_of o place)) start
+      ∙ ap (λ (t : List ℕ). slice_index t (index_of v.start place)) k
+      ∙ get_or-set_same v.snapshot.words (index_of v.start place) word 0
+      (let less : index_of v.start place < length w.snapshot.words = subst (λ (o : Origin). index_of o place < length w.snapshot.words) start l in
+      subst (λ (n : ℕ). index_of v.start place < n) (ap length k ∙ length-set v.snapshot.words (index_of v.start place) word) less)

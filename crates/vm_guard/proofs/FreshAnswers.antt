@@ -1,26 +1,127 @@
--- What a call for fresh pages answers, for one page and for two.
-use Rattle.std.proofs.Common.{[], ◌++◌, ◌+◌, ◌<◌, ◌||◌, ◌∙◌, ◌∷◌, ◌≡◌, ◌≢◌, ◌≤◌, ap, append_assoc, arith, Bool, false, inl, length, List, None}
-use Rattle.std.proofs.Common.{Option, refl, replicate, reverse, subst, sym, true, ℕ}
-use Rattle.std.proofs.lemmas.Bool.{ne_eqb}
-use Rattle.std.proofs.lemmas.List.{length-append, length-reverse}
-use Rattle.std.proofs.lemmas.Option.{none-some}
-use Rattle.vm_rule.specs.Prelude.{did_load, has, last_of, Mapping, next_view, NextTold, numbers, Seat, seat_of, TableId}
+-- What a call for one or two fresh pages answers where it gives none: why it is to be tried again, or that a page is worn or too few are left.
 use Rattle.vm_rule.specs.declared.view.Place.TheVariants as places
-use Rattle.vm_rule.proofs.{Entries.append-none, Entries.each-map, Heard.each-both}
-use Rattle.vm_step.specs.Prelude.{AreHeld, Did, IsReady, IsSamePass, IsSaw, NoWord, Origin, Pass, Shape, UnlockedExpected, View, view}
 use Rattle.vm_step.specs.declared.saw.At.TheVariants as ats
-use Rattle.vm_step.specs.declared.saw.Saw.{Saw}
-use Rattle.vm_step.proofs.{Alone.words-known, HeldFrames.held-on, Leaves.ready-on, Numbers.numbers-has, steps.Next.nload-others}
-use Rattle.vm_guard.specs.{declared.deny.Deny.Deny, declared.given.Fresh.Fresh, Denied.AgainOrWorn, Quiet.IsQuiet}
 use Rattle.vm_guard.specs.declared.deny.Deny.TheVariants as denies
 use Rattle.vm_guard.specs.declared.given.Fresh.TheVariants as answers
-use Rattle.vm_guard.specs.Fresh.{Furnishes, GivesBack, IsBegun, IsFreshAnswer, IsFull, IsNil, IsNotSeized, IsSeized, IsSpared, IsToTry, IsWornOut}
-use Rattle.vm_guard.specs.Fresh.{Seizes}
-use Rattle.vm_guard.proofs.{Amid.amid-reads, Amid.nload-amid, Seizing.self-has}
-use Rattle.vm_guard.proofs.FreshNone.{bracket, denied-nil, nload-nil, not-next, not-state, seized-on}
-use Rattle.vm_guard.proofs.FreshNumbers.{apart-first, apart-second, both-first, both-second, numbers-one, numbers-two, within-second}
-use Rattle.vm_guard.proofs.FreshSpared.{answers-denied, next-else, next-none, next-saw, next-some, none-known, spared-first, spared-locked}
-use Rattle.vm_guard.proofs.FreshSpared.{spared-none}
+use Rattle.vm_guard.proofs.Amid.{amid-reads, next-known, nload-amid, others-known}
+use Rattle.vm_guard.proofs.FreshNone.{bracket, denied-nil, nil-then, nload-nil, not-next, not-state, saw-within, seized-on, worn-within}
+use Rattle.vm_guard.proofs.FreshNumbers.{apart-first, both-first, both-second, numbers-one, numbers-two, within-second}
+use Rattle.vm_guard.proofs.Prelude.{[], AgainOrWorn, ap, append-none, append_assoc, AreHeld, arith, Bool, cases_eq, cond-false, cond-true, Deny, Did}
+use Rattle.vm_guard.proofs.Prelude.{did_load, Each, each-both, each-map, eq-eqb, eqb, false, Fresh, GivesBack, has, held-on, if◌then◌else◌, inl, inr}
+use Rattle.vm_guard.proofs.Prelude.{IsAmid, IsBegun, IsEvidence, IsFreshAnswer, IsFull, IsNil, IsNotSeized, IsQuiet, IsReady, IsSamePass, IsSaw}
+use Rattle.vm_guard.proofs.Prelude.{IsSeized, IsSpared, IsToTry, IsWornOut, List, Mapping, ne_eqb, next_after, next_view, NextTold, nload-others}
+use Rattle.vm_guard.proofs.Prelude.{None, none-some, NoWord, numbers, numbers-has, Option, Origin, Pass, read, ready-on, refl, same_Some, Saw, Seat}
+use Rattle.vm_guard.proofs.Prelude.{seat_of, Seizes, Shape, Some, subst, sym, TableId, true, true≢false, UnlockedExpected, View, view, words-known, ℕ}
+use Rattle.vm_guard.proofs.Prelude.{⊎_elim, ◌++◌, ◌+◌, ◌<◌, ◌||◌, ◌∙◌, ◌∷◌, ◌≡◌, ◌≢◌, ◌≤◌, ◌⊎◌}
+use Rattle.vm_guard.proofs.Seizing.{self-has}
+
+-- two loads of the next word that differ
+pub next-saw : (found again : ℕ) (mid post : List Did) → found ≢ again → Each (λ (d : Did). d.at ≢ places.Next) mid
+    → IsSaw NoWord UnlockedExpected (did_load places.Next found ∷ (mid ++ did_load places.Next again ∷ post)) (record { at = ats.Next; first = found; seen = again })
+next-saw found again mid post ne apart = record {
+  earlier = did_load places.Next found ∷ mid;
+  last = did_load places.Next again;
+  later = post;
+  cut = refl;
+  gives = (refl, refl);
+  since = mid;
+  begins = read [] (did_load places.Next found) refl (refl, refl);
+  quiet = each-map _ _ (λ d other here. absurd (other here)) mid apart;
+  foreign = ((λ at e. none-some again e), each-map _ _ (λ d other here. absurd (other here)) mid apart);
+  why = ne;
+}
+
+-- after a page is given up
+pub next-else : (p q : ℕ) (o : Option ℕ) → next_after p o ≡ Some q → (q ≢ p) × (o ≡ Some q)
+next-else p q None e = absurd (none-some q e)
+next-else p q (Some y) e =
+    ⊎_elim
+    (λ (s : y ≡ p). absurd (none-some q (sym (cond-true (eqb y p) None (Some y) (eq-eqb y p s)) ∙ e)))
+    (λ (ne : y ≢ p). let is : Some y ≡ Some q = sym (cond-false (eqb y p) None (Some y) (ne_eqb y p ne)) ∙ e in ((λ s. ne (same_Some y q is ∙ s)), is))
+    (cases_eq y p)
+
+-- what the call answers where a lock was denied so
+abbrev pub Answers : Deny → Fresh → Type 0
+Answers d r = ((saw : Saw) → d ≡ denies.Again saw → r ≡ answers.Again saw) × ((q : ℕ) → d ≡ denies.Worn q → r ≡ answers.Worn q)
+
+-- who holds the page that was found knows it for the next one; who does not knows what it knew
+next-either : (owns : Bool) (found q : ℕ) (o : Option ℕ) → (if owns then Some found else o) ≡ Some q → ((owns ≡ true) × (q ≡ found)) ⊎ (o ≡ Some q)
+next-either true found q o e = inl (refl, sym (same_Some found q e))
+next-either false found q o e = inr e
+
+module _ {X : Type 0} where
+  -- a page that the pass knows for the next one after a load of the next word it held before
+  pub next-kept : (found q : ℕ) (v u : View X) → NextTold found v u → u.next ≡ Some q → (seat_of v q).exclusive ≡ true
+  next-kept found q v u told e =
+      ⊎_elim
+      (λ (t : ((seat_of v found).exclusive ≡ true) × (q ≡ found)). ap (λ n. (seat_of v n).exclusive) t.1 ∙ t.0)
+      (λ was. told.holds q was)
+      (next-either (seat_of v found).exclusive found q v.next (sym (ap (λ (y : View X). y.next) told.brings.view) ∙ e))
+
+  -- a pass that could lock the next page knew none for the next one
+  pub none-known : (found : ℕ) (v u : View X) → NextTold found v u → (seat_of u found).exclusive ≡ false → v.next ≡ None
+  none-known found v u t free = from v.next refl
+    where
+      from : (o : Option ℕ) → v.next ≡ o → v.next ≡ None
+      from None e = e
+      from (Some q) e =
+          let owned : (seat_of v found).exclusive ≡ true = ap (λ n. (seat_of v n).exclusive) (t.known q e) ∙ t.holds q e in
+          absurd (true≢false (sym owned ∙ sym (ap (λ (y : View X). (seat_of y found).exclusive) t.brings.view) ∙ free))
+
+  -- what a pass that is alone knows then
+  spares : (pages : List ℕ) (x : ℕ) (done : List Did) (v w : View X) → IsNil pages done v w → (more : List Did) × (done ≡ did_load places.Next x ∷ more) → ((q : ℕ) → w.next ≡ Some q → (seat_of v q).exclusive ≡ true) → w.current ≡ true → IsSpared pages x done v w
+  spares pages x done v w nil loaded next current = record {
+    nil = nil;
+    loaded = loaded;
+    next = next;
+    same_next = next-known pages done v w nil.amid nil.unmoved;
+    others = others-known pages done v w nil.amid;
+    current = current;
+  }
+
+  -- ---- the first page could not be locked
+
+  pub spared-first : (pages : List ℕ) (x p : ℕ) (done : List Did) (v u w : View X) → NextTold x v u → has p pages ≡ true → p < u.start.pages → Each (λ (d : Did). d.at ≡ places.State p) done → IsQuiet p done u w
+      → IsSpared pages x (did_load places.Next x ∷ done) v w
+  spared-first pages x p done v u w t e l at f =
+      spares pages x (did_load places.Next x ∷ done) v w (nil-then pages (did_load places.Next x ∷ []) done v u w (nload-nil pages x v u t) (denied-nil pages p done u w e l at f))
+      (done, refl)
+      (λ q k. next-kept x q v u t (sym f.group.2 ∙ k))
+      (f.steady.alone.current (ap (λ (y : View X). y.current) t.brings.view))
+
+  -- no page was asked for
+  pub spared-none : (x : ℕ) (v u : View X) → NextTold x v u → IsSpared [] x (did_load places.Next x ∷ []) v u
+  spared-none x v u t =
+      spares [] x (did_load places.Next x ∷ []) v u (nload-nil [] x v u t) ([], refl)
+      (λ q k. next-kept x q v u t k)
+      (ap (λ (y : View X). y.current) t.brings.view)
+
+  -- ---- a page was locked, and given up
+
+  -- after steps on other pages that know the next page only where it is another one that the pass held
+  pub spared-locked : (pages less : List ℕ) (x version : ℕ) (stands : Option Mapping) (done : List Did) (v v1 u z w : View X) → v.next ≡ None → NextTold x v v1 → has x pages ≡ true → has x less ≡ false → ((q : ℕ) → has q pages ≡ false → has q less ≡ false)
+      → (s : Seizes x version stands v1 u) → IsNil less done u z → (g : GivesBack x z w) → ((q : ℕ) → q ≢ x → z.next ≡ Some q → (seat_of v q).exclusive ≡ true)
+      → IsSpared pages x (did_load places.Next x ∷ (s.done ++ (done ++ g.done))) v w
+  spared-locked pages less x version stands done v v1 u z w none t e apart within s f g knows =
+      spares pages x (did_load places.Next x ∷ (s.done ++ (done ++ g.done))) v w
+      (nil-then pages (did_load places.Next x ∷ []) (s.done ++ (done ++ g.done)) v v1 w (nload-nil pages x v v1 t) (bracket pages less x version stands done v1 u z w e apart within s f g))
+      (s.done ++ (done ++ g.done), refl)
+      (λ q k. let m = next-else x q z.next (sym g.group.1 ∙ k) in knows q m.0 m.1)
+      (g.amid.alone.current (f.amid.alone.current (s.amid.alone.current (ap (λ (y : View X). y.current) t.brings.view))))
+
+  -- ---- the answer to a page that could not be locked
+
+  pub answers-denied : (pages : List ℕ) (x n p : ℕ) (frames : List ℕ) (pre done post : List Did) (v w : View X) (d : Deny) (r : Fresh) → pages ≡ numbers x n → x + n ≤ v.start.pages → has p pages ≡ true
+      → Each (λ (k : Did). k.at ≢ places.State p) pre → IsSpared pages x (pre ++ (done ++ post)) v w → AgainOrWorn d → IsEvidence NoWord UnlockedExpected done p d → Answers d r → IsFreshAnswer n frames frames v w r
+  answers-denied pages x n p frames pre done post v w (denies.Again saw) r same inside e apart spared kind ev is =
+      let to : IsToTry pages x n saw v w = record { inside = inside; done = pre ++ (done ++ post); spared = spared; at = inr (p, ev.0, e); saw_is = saw-within p saw pre done post ev.0 apart ev.1 } in
+      subst (IsFreshAnswer n frames frames v w) (sym (is.0 saw refl)) (refl, (x, subst (λ (l : List ℕ). IsToTry l x n saw v w) same to))
+  answers-denied pages x n p frames pre done post v w (denies.Worn q) r same inside e apart spared kind ev is =
+      let out : IsWornOut pages x n p v w = record { inside = inside; among = e; done = pre ++ (done ++ post); spared = spared; worn = worn-within p pre done post apart ev.1 } in
+      subst (IsFreshAnswer n frames frames v w) (sym (is.1 q refl)) (refl, (x, subst (λ (k : ℕ). IsWornOut (numbers x n) x n k v w) (sym ev.0) (subst (λ (l : List ℕ). IsWornOut l x n p v w) same out)))
+  answers-denied pages x n p frames pre done post v w d r same inside e apart spared kind ev is = absurd kind
+
+-- ---- one page, and two
 
 module _ {X : Type 0} where
   -- the next page was loaded, and then it was locked
@@ -29,7 +130,10 @@ module _ {X : Type 0} where
       subst (λ (n : ℕ). IsBegun n version stands v w) (sym taken.0) (record { none = none-known x v u told taken.1.unheld.exclusive; between = u; loaded = told; seizes = taken.1 })
 
   begun-none : (x version : ℕ) (stands : Option Mapping) (v u : View X) → IsBegun x version stands v u → u.next ≡ None
-  begun-none x version stands v u b = b.seizes.group.1 ∙ next-none x v b.between b.none b.loaded b.seizes.unheld.exclusive
+  begun-none x version stands v u b =
+      let view = b.loaded.brings.view in
+      let free : (seat_of v x).exclusive ≡ false = sym (ap (λ (y : View X). (seat_of y x).exclusive) view) ∙ b.seizes.unheld.exclusive in
+      b.seizes.group.1 ∙ ap (λ (y : View X). y.next) view ∙ cond-false (seat_of v x).exclusive (Some x) v.next free ∙ b.none
 
   begun-start : (x version : ℕ) (stands : Option Mapping) (v u : View X) → IsBegun x version stands v u → u.start ≡ v.start
   begun-start x version stands v u b = b.seizes.amid.start ∙ (nload-amid [] x v b.between b.loaded).start
@@ -45,18 +149,17 @@ module _ {X : Type 0} where
   pub out-after : {again : ℕ} {u z : View X} → NextTold again u z → u.out ≡ None → z.out ≡ None
   out-after t home = (nload-others t (λ q. ⊥)).out ∙ home
 
-  pub seized-after : (p version again : ℕ) (stands : Option Mapping) (u z : View X) → IsSeized p version stands u → NextTold again u z → IsSeized p version stands z
-  seized-after p version again stands u z s t = seized-on p version stands [] (did_load places.Next again ∷ []) u z s (nload-amid [] again u z t) refl (ap (λ (k : View X). k.owed) t.brings.view)
+  pub seized-after : {p version again : ℕ} {stands : Option Mapping} {u z : View X} → IsSeized p version stands u → NextTold again u z → IsSeized p version stands z
+  seized-after {again = again} {u = u} {z = z} s t = seized-on s (nload-amid [] again u z t) refl (ap (λ (k : View X). k.owed) t.brings.view)
 
   pub held-after : (frames : List ℕ) (again : ℕ) (u z : View X) → NextTold again u z → AreHeld frames u → AreHeld frames z
   held-after frames again u z t o = held-on frames u z o (nload-amid [] again u z t).start (ap (λ (k : View X). k.frames) t.brings.view)
 
-  -- a page that was never claimed, as far as this load tells, has zero words
-  pub zero-after : (p again : ℕ) (u z : View X) → NextTold again u z → again ≤ p → p < u.start.pages → z.start.tells ≡ true → (last_of z p).words ≡ replicate 64 0
-  zero-after p again u z t le l tells = t.zero (ap (λ (o : Origin). o.tells) (sym (nload-amid [] again u z t).start) ∙ tells) p le l
+  pub room : (x : ℕ) (version : ℕ) (stands : Option Mapping) (v u : View X) (n : ℕ) → IsBegun x version stands v u → x + n ≤ u.start.pages → x + n ≤ v.start.pages
+  room x version stands v u n b l = subst (λ (o : Origin). x + n ≤ o.pages) (begun-start x version stands v u b) l
 
   pub room-one : (x version : ℕ) (stands : Option Mapping) (v u : View X) → IsBegun x version stands v u → x + 1 ≤ v.start.pages
-  room-one x version stands v u b = (let l : x < v.start.pages = subst (λ (o : Origin). x < o.pages) (begun-start x version stands v u b) b.seizes.seized.page in omega (arith, l))
+  room-one x version stands v u b = room x version stands v u 1 b (let l = b.seizes.seized.page in omega (arith, l))
 
   pub again-one : (x version again : ℕ) (stands : Option Mapping) (v u z w : View X) → IsBegun x version stands v u → NextTold again u z → again ≢ x → GivesBack x z w
       → IsToTry (numbers x 1) x 1 (record { at = ats.Next; first = x; seen = again }) v w
@@ -65,46 +168,26 @@ module _ {X : Type 0} where
         inside = room-one x version stands v u b;
         done = did_load places.Next x ∷ (b.seizes.done ++ (did_load places.Next again ∷ g.done));
         spared = spared-locked (x ∷ []) [] x version stands (did_load places.Next again ∷ []) v b.between u z w b.none b.loaded (self-has x) refl (λ q none. refl) b.seizes (nload-nil [] again u z t) g
-            (λ q other e.
-            let k = next-some again q u (begun-none x version stands v u b) (sym (ap (λ (y : View X). y.next) t.brings.view) ∙ e) in
-            ap (λ (s : Seat). s.exclusive) (sym (begun-else x version stands v u b q other)) ∙ k.1);
+            (λ q other e. ap (λ (s : Seat). s.exclusive) (sym (begun-else x version stands v u b q other)) ∙ next-kept again q u z t e);
         at = inl refl;
         saw_is = next-saw x again b.seizes.done g.done (λ e. ne (sym e)) (each-map _ _ (not-next x) b.seizes.done b.seizes.places_are);
       })
 
-  -- what the second page's lock leaves of the first one
-  pub seized-beside : (x version : ℕ) (stands : Option Mapping) (e2 : ℕ) (s2 : Option Mapping) (u z : View X) → IsSeized x version stands u → Seizes (x + 1) e2 s2 u z → IsSeized x version stands z
-  seized-beside x version stands e2 s2 u z s a = seized-on x version stands ((x + 1) ∷ []) a.done u z s a.amid (apart-first x) a.group.0
-
-  -- and where it was denied
-  pub seized-denied : (x version : ℕ) (stands : Option Mapping) (d : Deny) (u z : View X) → IsSeized x version stands u → IsNotSeized (x + 1) d u z → IsSeized x version stands z
-  seized-denied x version stands d u z s f =
-      let done : List Did = f.denied.done in
-      seized-on x version stands ((x + 1) ∷ []) done u z s (amid-reads ((x + 1) ∷ []) (x + 1) done u z (self-has (x + 1)) f.page f.places_are f.denied.quiet) (apart-first x) f.denied.quiet.group.1
-
-  -- and where it was given up again
-  pub seized-returned : (x version : ℕ) (stands : Option Mapping) (u z : View X) → IsSeized x version stands u → GivesBack (x + 1) u z → IsSeized x version stands z
-  seized-returned x version stands u z s g = seized-on x version stands ((x + 1) ∷ []) g.done u z s g.amid (apart-first x) g.group.0
-
-  -- the second page, while the first is furnished
-  pub seized-furnished : (x version : ℕ) (stands : Option Mapping) (frame v1 : ℕ) (dirty : Bool) (before after : List ℕ) (u z : View X) → IsSeized (x + 1) version stands u → Furnishes x frame v1 dirty before after u z → IsSeized (x + 1) version stands z
-  seized-furnished x version stands frame v1 dirty before after u z s f = seized-on (x + 1) version stands (x ∷ []) f.done u z s f.amid (apart-second x) f.group.0
-
-  pub room : (x : ℕ) (version : ℕ) (stands : Option Mapping) (v u : View X) (n : ℕ) → IsBegun x version stands v u → x + n ≤ u.start.pages → x + n ≤ v.start.pages
-  room x version stands v u n b l = subst (λ (o : Origin). x + n ≤ o.pages) (begun-start x version stands v u b) l
+  -- a page that could not be locked
+  pub amid-denied : {p : ℕ} {d : Deny} {u z : View X} → (f : IsNotSeized p d u z) → IsAmid (p ∷ []) f.denied.done u z
+  amid-denied {p = p} {u = u} {z = z} f = amid-reads (p ∷ []) p f.denied.done u z (self-has p) f.page f.places_are f.denied.quiet
 
   -- the second page could not be locked
-  pub second-denied : (x version : ℕ) (stands : Option Mapping) (v u z w : View X) (d : Deny) → IsBegun x version stands v u → x + 2 ≤ u.start.pages → IsNotSeized (x + 1) d u z → GivesBack x z w
-      → ((saw : Saw) → d ≡ denies.Again saw → IsToTry (numbers x 2) x 2 saw v w) × ((q : ℕ) → d ≡ denies.Worn q → IsWornOut (numbers x 2) x 2 q v w)
-  second-denied x version stands v u z w d b l n g =
+  pub second-denied : (x version : ℕ) (stands : Option Mapping) (frames : List ℕ) (v u z w : View X) (d : Deny) (r : Fresh) → IsBegun x version stands v u → x + 2 ≤ u.start.pages → IsNotSeized (x + 1) d u z → GivesBack x z w → Answers d r
+      → IsFreshAnswer 2 frames frames v w r
+  second-denied x version stands frames v u z w d r b l n g is =
       let done : List Did = n.denied.done in
       let f : IsQuiet (x + 1) done u z = n.denied.quiet in
-      subst (λ (ps : List ℕ). ((saw : Saw) → d ≡ denies.Again saw → IsToTry ps x 2 saw v w) × ((q : ℕ) → d ≡ denies.Worn q → IsWornOut ps x 2 q v w)) (sym (numbers-two x))
-      (answers-denied (x ∷ (x + 1) ∷ []) x 2 (x + 1) (did_load places.Next x ∷ b.seizes.done) done g.done v w d (room x version stands v u 2 b l) (both-second x)
+      answers-denied (x ∷ (x + 1) ∷ []) x 2 (x + 1) frames (did_load places.Next x ∷ b.seizes.done) done g.done v w d r (sym (numbers-two x)) (room x version stands v u 2 b l) (both-second x)
       ((λ e. absurd (cc)), each-map _ _ (not-state x (x + 1) (λ e. absurd (omega (arith, e)))) b.seizes.done b.seizes.places_are)
       (spared-locked (x ∷ (x + 1) ∷ []) ((x + 1) ∷ []) x version stands done v b.between u z w b.none b.loaded (both-first x) (apart-first x) (within-second x) b.seizes (denied-nil ((x + 1) ∷ []) (x + 1) done u z (self-has (x + 1)) n.page n.places_are f) g
       (λ q ne e. absurd (none-some q (sym (f.group.2 ∙ begun-none x version stands v u b) ∙ e))))
-      n.denied.kind n.denied.evidence)
+      n.denied.kind n.denied.evidence is
 
   -- the next word was another one, once both pages were locked
   pub again-two : (x version again : ℕ) (stands : Option Mapping) (e2 : ℕ) (s2 : Option Mapping) (v u u2 z w1 w : View X) → IsBegun x version stands v u → x + 2 ≤ u.start.pages → Seizes (x + 1) e2 s2 u u2 → NextTold again u2 z → again ≢ x → GivesBack (x + 1) z w1 → GivesBack x w1 w
@@ -118,22 +201,13 @@ module _ {X : Type 0} where
         spared = spared-locked (x ∷ (x + 1) ∷ []) ((x + 1) ∷ []) x version stands mid v b.between u w1 w b.none b.loaded (both-first x) (apart-first x) (within-second x) b.seizes inner g
             (λ q other e.
             let m = next-else (x + 1) q z.next (sym g1.group.1 ∙ e) in
-            let k = next-some again q u2 (a.group.1 ∙ begun-none x version stands v u b) (sym (ap (λ (y : View X). y.next) t.brings.view) ∙ m.1) in
-            ap (λ (s : Seat). s.exclusive) (sym (a.amid.seats q (ap (λ (o : Bool). o || false) (ne_eqb q (x + 1) m.0)) ∙ begun-else x version stands v u b q other)) ∙ k.1);
+            ap (λ (s : Seat). s.exclusive) (sym (a.amid.seats q (ap (λ (o : Bool). o || false) (ne_eqb q (x + 1) m.0)) ∙ begun-else x version stands v u b q other)) ∙ next-kept again q u2 z t m.1);
         at = inl refl;
         saw_is = subst (λ (l : List Did). IsSaw NoWord UnlockedExpected (did_load places.Next x ∷ l) (record { at = ats.Next; first = x; seen = again }))
             (append_assoc b.seizes.done a.done (did_load places.Next again ∷ (g1.done ++ g.done)) ∙ ap (λ (l : List Did). b.seizes.done ++ l) (sym (append_assoc a.done (did_load places.Next again ∷ g1.done) g.done)))
             (next-saw x again (b.seizes.done ++ a.done) (g1.done ++ g.done) (λ e. ne (sym e))
             (each-both _ b.seizes.done a.done (each-map _ _ (not-next x) b.seizes.done b.seizes.places_are) (each-map _ _ (not-next (x + 1)) a.done a.places_are)));
       })
-
-  -- a frame is left for the second page
-  pub frame-left : (x frame version : ℕ) (dirty : Bool) (before after : List ℕ) (u z : View X) → Furnishes x frame version dirty before after u z → 2 ≤ length before → 0 < length after
-  frame-left x frame version dirty before after u z f l =
-      let long : length before ≡ length after + length (reverse f.taken) = ap length f.cut ∙ length-append after (reverse f.taken) in
-      let same = length-reverse f.taken in
-      let few = f.few in
-      omega (arith, l, long, same, few)
 
   -- ---- the answer
 
@@ -142,19 +216,10 @@ module _ {X : Type 0} where
   is-full n x v u t l = record { asked = refl; there = refl; full = l; done = did_load places.Next x ∷ []; spared = spared-none x v u t; table = words-known (did_load places.Next x) None [] [] v (next_view x v) u t.brings refl }
 
   -- the first page could not be locked
-  pub first-denied : (n x : ℕ) (v u w : View X) (d : Deny) → NextTold x v u → 1 ≤ n → x + n ≤ v.start.pages → IsNotSeized x d u w
-      → ((saw : Saw) → d ≡ denies.Again saw → IsToTry (numbers x n) x n saw v w) × ((q : ℕ) → d ≡ denies.Worn q → IsWornOut (numbers x n) x n q v w)
-  first-denied n x v u w d t some inside f =
+  pub first-denied : (n x : ℕ) (frames : List ℕ) (v u w : View X) (d : Deny) (r : Fresh) → NextTold x v u → 1 ≤ n → x + n ≤ v.start.pages → IsNotSeized x d u w → Answers d r → IsFreshAnswer n frames frames v w r
+  first-denied n x frames v u w d r t some inside f is =
       let done : List Did = f.denied.done in
       let e : has x (numbers x n) ≡ true = numbers-has n x x (omega arith) (omega (arith, some)) in
-      answers-denied (numbers x n) x n x (did_load places.Next x ∷ []) done [] v w d inside e ((λ k. absurd (cc)), tt)
+      answers-denied (numbers x n) x n x frames (did_load places.Next x ∷ []) done [] v w d r refl inside e ((λ k. absurd (cc)), tt)
       (subst (λ (l : List Did). IsSpared (numbers x n) x (did_load places.Next x ∷ l) v w) (sym (append-none done)) (spared-first (numbers x n) x x done v u w t e f.page f.places_are f.denied.quiet))
-      f.denied.kind f.denied.evidence
-
-  -- what the call answers then
-  pub answered : (n x : ℕ) (frames : List ℕ) (v w : View X) (d : Deny) (r : Fresh) → AgainOrWorn d → ((saw : Saw) → d ≡ denies.Again saw → r ≡ answers.Again saw) → ((q : ℕ) → d ≡ denies.Worn q → r ≡ answers.Worn q)
-      → ((saw : Saw) → d ≡ denies.Again saw → IsToTry (numbers x n) x n saw v w) × ((q : ℕ) → d ≡ denies.Worn q → IsWornOut (numbers x n) x n q v w) → IsFreshAnswer n frames frames v w r
-  answered n x frames v w (denies.Again saw) r kind again worn k = subst (IsFreshAnswer n frames frames v w) (sym (again saw refl)) (refl, (x, k.0 saw refl))
-  answered n x frames v w (denies.Worn q) r kind again worn k = subst (IsFreshAnswer n frames frames v w) (sym (worn q refl)) (refl, (x, k.1 q refl))
-  answered n x frames v w (denies.Need q) r kind again worn k = absurd kind
-  answered n x frames v w (denies.Crowded q) r kind again worn k = absurd kind
+      f.denied.kind f.denied.evidence is

@@ -1,21 +1,14 @@
 -- A call for fresh pages that ends without them: a page that was locked and given up again leaves nothing, and the evidence of the call is that of
 -- its steps.
-use Rattle.std.proofs.Common.{[], ⊎_elim, ◌++◌, ◌<◌, ◌||◌, ◌∙◌, ◌∷◌, ◌≡◌, ◌≢◌, ◌≤◌, ◌⊎◌, ap, append_assoc, arith, Bool, false, inl, inr, length, List}
-use Rattle.std.proofs.Common.{None, Option, refl, subst, sym, true, true≢false, ℕ}
-use Rattle.std.proofs.lemmas.Bool.{cases_eq, ne_eqb}
-use Rattle.vm_core.specs.Prelude.{Version}
-use Rattle.vm_rule.specs.Prelude.{did_load, Each, has, IsLocking, Mapping, NextTold, Seat, seat_of}
-use Rattle.vm_rule.specs.{declared.view.Held.Held, declared.view.Place.Place}
 use Rattle.vm_rule.specs.declared.view.Place.TheVariants as places
-use Rattle.vm_rule.proofs.{Entries.each-map, Heard.each-both}
-use Rattle.vm_step.specs.Prelude.{Begins, Did, HoldsPage, IsSaw, IsWorn, NoWord, Origin, place_at, UnlockedExpected, View}
+use Rattle.vm_step.specs.Evidence.{guarded}
 use Rattle.vm_step.specs.declared.saw.At.TheVariants as ats
-use Rattle.vm_step.specs.declared.saw.Saw.{Saw}
-use Rattle.vm_step.specs.Evidence.{asked, expected, guarded, read, same}
-use Rattle.vm_step.proofs.Asides.{holds-then, keeps-then, knows-then}
-use Rattle.vm_guard.specs.Fresh.{GivesBack, IsAmid, IsNil, IsSeized, Seizes}
-use Rattle.vm_guard.specs.Quiet.{IsQuiet}
 use Rattle.vm_guard.proofs.Amid.{amid-reads, amid-then, amid-within, nload-amid, other}
+use Rattle.vm_guard.proofs.Prelude.{[], ap, append_assoc, arith, asked, Begins, Bool, cases_eq, Did, did_load, Each, each-both, each-map, expected}
+use Rattle.vm_guard.proofs.Prelude.{false, GivesBack, has, Held, holds-still, holds-then, HoldsPage, inl, inr, IsAmid, IsLocking, IsNil, IsQuiet}
+use Rattle.vm_guard.proofs.Prelude.{IsSaw, IsSeized, IsWorn, keeps-then, knows-then, length, List, Mapping, ne_eqb, NextTold, nload-others, None}
+use Rattle.vm_guard.proofs.Prelude.{NoWord, Option, Origin, Place, place_at, read, refl, same, Saw, Seat, seat_of, Seizes, still-locking, subst, sym}
+use Rattle.vm_guard.proofs.Prelude.{true, true≢false, UnlockedExpected, Version, View, ℕ, ⊎_elim, ◌++◌, ◌<◌, ◌||◌, ◌∙◌, ◌∷◌, ◌≡◌, ◌≢◌, ◌⊎◌}
 
 -- ---- evidence in a longer list of steps
 
@@ -62,19 +55,12 @@ not-next p d (inl a) e = absurd (let no : places.State p ≡ places.Next = sym a
 not-next p d (inr a) e = absurd (let no : places.Translation p ≡ places.Next = sym a ∙ e in cc)
 
 pub not-state : (p q : ℕ) → p ≢ q → (d : Did) → (d.at ≡ places.State p) ⊎ (d.at ≡ places.Translation p) → d.at ≢ places.State q
-not-state p q ne d (inl a) e = ne (inside (sym a ∙ e))
-  where
-    inside : places.State p ≡ places.State q → p ≡ q
-    inside k = cc
+not-state p q ne d (inl a) e = let k : places.State p ≡ places.State q = sym a ∙ e in let same : p ≡ q = cc in ne same
 not-state p q ne d (inr a) e = absurd (let no : places.Translation p ≡ places.State q = sym a ∙ e in cc)
 
 -- so they leave the next word
 pub unmoved-at : (p : ℕ) (ds : List Did) → Each (λ (d : Did). (d.at ≡ places.State p) ⊎ (d.at ≡ places.Translation p)) ds → Each (λ (d : Did). d.at ≡ places.Next → d.wrote ≡ None) ds
 unmoved-at p ds e = each-map _ _ (λ (d : Did) is. λ next. absurd (not-next p d is next)) ds e
-
--- steps on state words too
-unmoved-state : (p : ℕ) (ds : List Did) → Each (λ (d : Did). d.at ≡ places.State p) ds → Each (λ (d : Did). d.at ≡ places.Next → d.wrote ≡ None) ds
-unmoved-state p ds e = each-map _ _ (λ (d : Did) is. λ next. absurd (not-next p d (inl is) next)) ds e
 
 -- ---- calls that leave nothing
 
@@ -85,12 +71,9 @@ module _ {X : Type 0} where
     keeps = keeps-then u v w f.keeps g.keeps;
     owed = g.owed ∙ f.owed;
     holds = λ q. holds-then u v w q (f.holds q) (g.holds q);
-    knows = λ q l. knows-then u v w q (f.knows q l) (g.knows q (still (f.holds q) l));
+    knows = λ q l. knows-then u v w q (f.knows q l) (g.knows q (still-locking u v q (f.holds q) l));
     unmoved = each-both _ a b f.unmoved g.unmoved;
   }
-    where
-      still : {q : ℕ} → HoldsPage u v q → IsLocking (seat_of u q) → IsLocking (seat_of v q)
-      still h l = ⊎_elim (λ e. inl (h.exclusive ∙ e)) (λ s. inr (subst (λ n. 1 ≤ n) (sym h.shares) s)) l
 
   -- a load of the next word
   pub nload-nil : (pages : List ℕ) (found : ℕ) (v w : View X) → NextTold found v w → IsNil pages (did_load places.Next found ∷ []) v w
@@ -99,9 +82,9 @@ module _ {X : Type 0} where
       let f = nload-amid [] found v w t in
       record {
         amid = nload-amid pages found v w t;
-        keeps = record { frames = ap (λ (y : View X). y.frames) b.view; contents = ap (λ (y : View X). y.contents) b.view; notes = ap (λ (y : View X). y.notes) b.view };
+        keeps = (nload-others t (λ q. ⊥)).keeps;
         owed = ap (λ (y : View X). y.owed) b.view;
-        holds = λ q. let e = f.seats q refl in record { shares = ap (λ (k : Seat). k.shares) e; exclusive = ap (λ (k : Seat). k.exclusive) e; writing = ap (λ (k : Seat). k.writing) e };
+        holds = λ q. holds-still q (f.seats q refl);
         knows = λ q l. f.knows q refl l;
         unmoved = ((λ _. refl), tt);
       }
@@ -114,7 +97,7 @@ module _ {X : Type 0} where
     owed = f.group.1;
     holds = f.holds;
     knows = f.knows;
-    unmoved = unmoved-state p done at;
+    unmoved = each-map _ _ (λ (d : Did) is. λ next. absurd (not-next p d (inl is) next)) done at;
   }
 
   -- a page that was locked, and given up after steps on other pages
@@ -132,23 +115,18 @@ module _ {X : Type 0} where
         holds = λ q.
             ⊎_elim
             (λ (h : q ≡ p). subst (λ n. HoldsPage v w n) (sym h) (record { shares = ap (λ (k : Seat). k.shares) last; exclusive = ap (λ (k : Seat). k.exclusive) last ∙ sym s.unheld.exclusive; writing = ap (λ (k : Seat). k.writing) last }))
-            (λ (ne : q ≢ p). let a = s.amid.seats q (alone q ne) in let b = g.amid.seats q (alone q ne) in let h = f.holds q in record {
-              shares = ap (λ (k : Seat). k.shares) b ∙ h.shares ∙ ap (λ (k : Seat). k.shares) a;
-              exclusive = ap (λ (k : Seat). k.exclusive) b ∙ h.exclusive ∙ ap (λ (k : Seat). k.exclusive) a;
-              writing = ap (λ (k : Seat). k.writing) b ∙ h.writing ∙ ap (λ (k : Seat). k.writing) a;
-            })
+            (λ (ne : q ≢ p). holds-then v u w q (holds-still q (s.amid.seats q (alone q ne))) (holds-then u z w q (f.holds q) (holds-still q (g.amid.seats q (alone q ne)))))
             (cases_eq q p);
         knows = λ q l.
             ⊎_elim
             (λ (h : q ≡ p). absurd (held-by (subst (λ n. IsLocking (seat_of v n)) h l)))
             (λ (ne : q ≢ p).
             let l1 : IsLocking (seat_of u q) = subst (λ (k : Seat). IsLocking k) (sym (s.amid.seats q (alone q ne))) l in
-            let h = f.holds q in
-            let l2 : IsLocking (seat_of z q) = ⊎_elim (λ e. inl (h.exclusive ∙ e)) (λ x. inr (subst (λ n. 1 ≤ n) (sym h.shares) x)) l1 in
+            let l2 : IsLocking (seat_of z q) = still-locking u z q (f.holds q) l1 in
             knows-then v u w q (s.amid.knows q (alone q ne) l) (knows-then u z w q (f.knows q l1) (g.amid.knows q (alone q ne) l2)))
             (cases_eq q p);
         unmoved = each-both _ s.done (done ++ g.done) (unmoved-at p s.done s.places_are)
-            (each-both _ done g.done f.unmoved (unmoved-state p g.done g.places_are));
+            (each-both _ done g.done f.unmoved (each-map _ _ (λ (d : Did) is. λ next. absurd (not-next p d (inl is) next)) g.done g.places_are));
       }
     where
       alone : (q : ℕ) → q ≢ p → has q (p ∷ []) ≡ false
@@ -158,8 +136,8 @@ module _ {X : Type 0} where
       held-by l = ⊎_elim (λ e. true≢false (sym e ∙ s.unheld.exclusive)) (λ x. let none = s.unheld.shares in absurd (omega (arith, x, none))) l
 
   -- a page that was locked stays so while the call works on others
-  pub seized-on : (p version : ℕ) (stands : Option Mapping) (pages : List ℕ) (done : List Did) (v w : View X) → IsSeized p version stands v → IsAmid pages done v w → has p pages ≡ false → w.owed ≡ v.owed → IsSeized p version stands w
-  seized-on p version stands pages done v w s f none owed =
+  pub seized-on : {p version : ℕ} {stands : Option Mapping} {pages : List ℕ} {done : List Did} {v w : View X} → IsSeized p version stands v → IsAmid pages done v w → has p pages ≡ false → w.owed ≡ v.owed → IsSeized p version stands w
+  seized-on {p = p} s f none owed =
       let k = f.knows p none (inl s.owns) in
       record {
         page = subst (λ (o : Origin). p < o.pages) (sym f.start) s.page;

@@ -1,11 +1,6 @@
 -- The numbers of one page, and of two that follow each other.
-use Rattle.std.proofs.Common.{[], ⊎_elim, ◌+◌, ◌||◌, ◌∙◌, ◌∷◌, ◌≡◌, ◌⊎◌, ap, arith, Bool, false, inl, inr, refl, suc, sym, true, ℕ}
-use Rattle.std.proofs.lemmas.Bool.{cases_eq, eq-eqb, false≢true, ne_eqb}
-use Rattle.vm_rule.specs.Prelude.{has, numbers}
 use Rattle.vm_guard.proofs.{Amid.other, Seizing.self-has}
-
-pub one-page : (x q : ℕ) → has q (x ∷ []) ≡ true → q ≡ x
-one-page x q e = ⊎_elim (λ s. s) (λ ne. absurd (false≢true (sym (ap (λ (b : Bool). b || false) (ne_eqb q x ne)) ∙ e))) (cases_eq q x)
+use Rattle.vm_guard.proofs.Prelude.{[], ap, arith, Bool, eq-eqb, false, has, ne_eqb, numbers, refl, suc, true, ℕ, ◌+◌, ◌||◌, ◌∙◌, ◌∷◌, ◌≡◌}
 
 pub numbers-one : (x : ℕ) → numbers x 1 ≡ x ∷ []
 unfolding numbers
@@ -14,9 +9,6 @@ numbers-one x = refl
 pub numbers-two : (x : ℕ) → numbers x 2 ≡ x ∷ (x + 1) ∷ []
 unfolding numbers
 numbers-two x = (let e : suc x ≡ x + 1 = omega arith in λ i. x ∷ e i ∷ [])
-
-pub two-pages : (x q : ℕ) → has q (x ∷ (x + 1) ∷ []) ≡ true → (q ≡ x) ⊎ (q ≡ x + 1)
-two-pages x q e = ⊎_elim (λ s. inl s) (λ ne. inr (one-page (x + 1) q (sym (ap (λ (b : Bool). b || has q ((x + 1) ∷ [])) (ne_eqb q x ne)) ∙ e))) (cases_eq q x)
 
 -- the first page is not the second, nor the second the first
 pub apart-first : (x : ℕ) → has x ((x + 1) ∷ []) ≡ false

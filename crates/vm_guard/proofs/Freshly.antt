@@ -1,31 +1,25 @@
--- The fresh page that a call for one gives: it is locked, put into a frame, and claimed.
-use Rattle.std.proofs.Common.{[], ◌++◌, ◌+◌, ◌<◌, ◌∙◌, ◌∷◌, ◌≡◌, ◌≤◌, ap, arith, Bool, eqb, false, inl, IsSome, List, None, Option, refl, replicate}
-use Rattle.std.proofs.Common.{Some, subst, sym, true, ℕ}
-use Rattle.std.proofs.lemmas.Bool.{cond-true, eq-eqb}
-use Rattle.std.proofs.lemmas.Option.{none-some}
-use Rattle.vm_core.specs.Prelude.{LOCKED, Version, word_of}
-use Rattle.vm_rule.specs.Prelude.{Brings, claimed_view, ClaimTold, contents_at, did_exchange, did_load, draft_of, has, held_at, index_of, IsUnheld}
-use Rattle.vm_rule.specs.Prelude.{last_of, Mapping, NextTold, numbers, put_at, Seat, seat_of, set_if, without_all}
+-- The fresh pages that a call gives, one or two: each is locked, put into a frame, and all are claimed together.
 use Rattle.vm_rule.specs.declared.view.Place.TheVariants as places
-use Rattle.vm_step.specs.Prelude.{Did, HasWritten, IsAlone, known_word_at, KnowsAt, Origin, PassMayClaim, View}
-use Rattle.vm_step.proofs.{Alone.still-alone, Evidenced.taken-view, Evidenced.written-behind, HeldFrames.held-on}
-use Rattle.vm_guard.specs.{declared.exclusive.ExclusiveGuard.ExclusiveGuard, Guards.IsHolding}
-use Rattle.vm_guard.specs.Fresh.{AreFresh, Furnishes, IsAmid, IsSeized, Seizes}
-use Rattle.vm_guard.proofs.{FreshNone.seized-on, FreshNumbers.numbers-one, FreshNumbers.one-page, GuardSteps.still-held}
-use Rattle.vm_guard.proofs.Amid.{claim-amid, claim-silent, IsSilent, nload-amid, nload-silent, silent-then}
-use Rattle.vm_guard.proofs.FreshKnown.{known-on, known-states, known-there, others-known, put-known}
+use Rattle.vm_guard.proofs.{FreshNone.seized-on, Groups.each-page, Groups.or-none, GuardSteps.still-held, Lockings.unheld-same}
+use Rattle.vm_guard.proofs.Amid.{amid-alone, amid-then, claim-amid, claim-silent, IsSilent, known-on, known-states, nload-amid, nload-silent}
+use Rattle.vm_guard.proofs.Amid.{others-known, put-known, silent-then, silent-within}
+use Rattle.vm_guard.proofs.FreshNumbers.{apart-first, apart-second, numbers-one, numbers-two, within-first, within-second}
+use Rattle.vm_guard.proofs.Prelude.{[], ap, append_assoc, AreFresh, AreHeld, arith, Bool, cases_eq, claim-brings, claimed_view, ClaimTold, cond-true}
+use Rattle.vm_guard.proofs.Prelude.{contents_at, Did, did_exchange, did_load, draft_of, Each, each-map, eq-eqb, eqb, ExclusiveGuard, false, Furnishes}
+use Rattle.vm_guard.proofs.Prelude.{has, has-both, held-on, held_at, holds-still, if◌then◌else◌, index-below, inl, inr, IsAlone, IsAmid, IsHolding}
+use Rattle.vm_guard.proofs.Prelude.{IsSeized, IsSome, IsUnheld, keeps-then, KeepsFrames, known_word_at, KnowsAt, last-known, last_of, List, LOCKED}
+use Rattle.vm_guard.proofs.Prelude.{Mapping, NextTold, nload-others, None, none-some, numbers, Option, Origin, PassMayClaim, pids_of, Place, put_at}
+use Rattle.vm_guard.proofs.Prelude.{refl, replicate, reverse, reverse-append, Seat, seat_of, Seizes, Some, subst, sym, true, Version, View}
+use Rattle.vm_guard.proofs.Prelude.{wide-after, Within, without, without_all, word_of, written-behind, ℕ, ⊎_elim, ◌++◌, ◌+◌, ◌<◌, ◌==◌, ◌∙◌, ◌∷◌, ◌≡◌}
+use Rattle.vm_guard.proofs.Prelude.{◌≢◌, ◌≤◌}
 
 module _ {X : Type 0} where
   -- a page that is held stays so while the call works on others
   pub holding-on : (p frame version : ℕ) (dirty : Bool) (pages : List ℕ) (done : List Did) (v w : View X) → IsHolding p frame version dirty v → IsAmid pages done v w → has p pages ≡ false → IsHolding p frame version dirty w
   holding-on p frame version dirty pages done v w h f none = still-held h f.start (ap (λ (x : Seat). x.exclusive) (f.seats p none)) (f.knows p none (inl h.owns)) f.pending
 
-  -- who holds the next page knows it
-  pub next-held : (x : ℕ) (u z : View X) → NextTold x u z → (seat_of u x).exclusive ≡ true → z.next ≡ Some x
-  next-held x u z t owns = ap (λ (y : View X). y.next) t.brings.view ∙ cond-true (seat_of u x).exclusive (Some x) u.next owns
-
   -- a page that was not known before the first load
-  pub unheld-before : (x : ℕ) (v v1 : View X) → v.next ≡ None → NextTold x v v1 → (p : ℕ) → IsUnheld v1 p → IsUnheld v p
+  unheld-before : (x : ℕ) (v v1 : View X) → v.next ≡ None → NextTold x v v1 → (p : ℕ) → IsUnheld v1 p → IsUnheld v p
   unheld-before x v v1 none t p h =
       let e : seat_of v1 p ≡ seat_of v p = ap (λ (y : View X). seat_of y p) t.brings.view in
       record {
@@ -36,136 +30,188 @@ module _ {X : Type 0} where
         next = λ k. none-some p (sym none ∙ k);
       }
 
-  pub may-claim-one : (x frame version : ℕ) (dirty : Bool) (v : View X) → IsHolding x frame version dirty v → PassMayClaim v x 1
-  may-claim-one x frame version dirty v h = record {
-    few = inl refl;
-    inside = (let l = h.page in omega (arith, l));
-    owns = λ p low high. subst (λ n. (seat_of v n).exclusive ≡ true) (is p low high) h.owns;
-    resident = λ p low high. subst (λ n. IsSome (held_at v n).mapping) (is p low high) (subst (λ (o : Option Mapping). IsSome o) (sym h.stands) refl);
-    free = λ p low high. subst (λ n. has n v.pending ≡ false) (is p low high) h.free;
+  -- ---- the claim
+
+  -- lost or not, it leaves the start and the numbers
+  pub claim-keeps : (x n found : ℕ) (y w : View X) → ClaimTold x n found y w → (w.start ≡ y.start) × (w.used ≡ y.used)
+  claim-keeps x n found y w t = (ap (λ (k : View X). k.start) t.brings.view ∙ (keeps (found == x)).0, ap (λ (k : View X). k.used) t.brings.view ∙ (keeps (found == x)).1)
+    where
+      keeps : (b : Bool) → ((if b then claimed_view x n y else y).start ≡ y.start) × ((if b then claimed_view x n y else y).used ≡ y.used)
+      keeps true = (refl, refl)
+      keeps false = (refl, refl)
+
+  -- it finds the next page that was loaded, whose lock the pass holds
+  finds-next : (n : ℕ) {x c : ℕ} {u z y w : View X} → NextTold x u z → (seat_of u x).exclusive ≡ true → y.next ≡ z.next → ClaimTold x n c y w → c ≡ x
+  finds-next n {x = x} {u = u} t owns same claim = claim.known x (same ∙ ap (λ (k : View X). k.next) t.brings.view ∙ cond-true (seat_of u x).exclusive (Some x) u.next owns)
+
+  -- a page of a claim
+  abbrev MayClaim : View X → ℕ → Type 0
+  MayClaim v p = ((seat_of v p).exclusive ≡ true) × IsSome (held_at v p).mapping × (has p v.pending ≡ false)
+
+  pub may-claim-two : (x f1 f2 v1 v2 : ℕ) (d1 d2 : Bool) (v : View X) → IsHolding x f1 v1 d1 v → IsHolding (x + 1) f2 v2 d2 v → PassMayClaim v x 2
+  may-claim-two x f1 f2 v1 v2 d1 d2 v h k = record { few = inr refl; inside = (let l = k.page in omega (arith, l)); owns = λ p low high. (each p low high).0; resident = λ p low high. (each p low high).1; free = λ p low high. (each p low high).2 }
+    where
+      may : {p f version : ℕ} {dirty : Bool} → IsHolding p f version dirty v → MayClaim v p
+      may i = (i.owns, subst (λ (o : Option Mapping). IsSome o) (sym i.stands) refl, i.free)
+
+      each : (p : ℕ) → x ≤ p → p < x + 2 → MayClaim v p
+      each p low high = ⊎_elim (λ (e : p ≡ x). subst (MayClaim v) (sym e) (may h)) (λ (ne : p ≢ x). subst (MayClaim v) (omega (arith, low, high, ne)) (may k)) (cases_eq p x)
+
+  -- ---- frames
+
+  -- pages were put into frames of zeros, where they stood in none
+  record ArePut (before after : List ℕ) (z y : View X) : Type 0 where
+    pub taken : List ℕ
+    pub cut : before ≡ after ++ reverse taken
+    pub frames : y.frames ≡ without_all taken z.frames
+    pub own : AreHeld after y
+    pub contents : (f : ℕ) → has f taken ≡ false → contents_at y f ≡ contents_at z f
+    pub group : (y.owed ≡ z.owed) × (y.next ≡ z.next)
+
+  put-one : {p frame version : ℕ} {dirty : Bool} {before after : List ℕ} {z y : View X} → Furnishes p frame version dirty before after z y → ArePut before after z y
+  put-one f = record { taken = f.taken; cut = f.cut; frames = f.frames; own = f.own; contents = f.contents; group = f.group }
+
+  put-then : {before mid after : List ℕ} {z y w : View X} → ArePut before mid z y → ArePut mid after y w → ArePut before after z w
+  put-then {after = after} {z = z} f g = record {
+    taken = f.taken ++ g.taken;
+    cut = f.cut ∙ ap (λ (l : List ℕ). l ++ reverse f.taken) g.cut ∙ append_assoc after (reverse g.taken) (reverse f.taken) ∙ ap (λ (l : List ℕ). after ++ l) (sym (reverse-append f.taken g.taken));
+    frames = g.frames ∙ ap (without_all g.taken) f.frames ∙ both f.taken g.taken z.frames;
+    own = g.own;
+    contents = λ q left. let none = or-none (has q f.taken) (has q g.taken) (sym (has-both q f.taken g.taken) ∙ left) in g.contents q none.1 ∙ f.contents q none.0;
+    group = (g.group.0 ∙ f.group.0, g.group.1 ∙ f.group.1);
   }
     where
-      is : (p : ℕ) → x ≤ p → p < x + 1 → x ≡ p
-      is p low high = omega (arith, low, high)
+      both : (ps qs l : List ℕ) → without_all qs (without_all ps l) ≡ without_all (ps ++ qs) l
+      both [] qs l = refl
+      both (p ∷ ps) qs l = both ps qs (without p l)
 
-  module _ (x version : ℕ) (stands : Option Mapping) (g : ExclusiveGuard) (before after : List ℕ) (c : ℕ) (v v1 u z y w : View X) (none : v.next ≡ None) (first : NextTold x v v1) (s : Seizes x version stands v1 u) (second : NextTold x u z)
-      (f : Furnishes x g.frame g.version g.dirty before after z y) (claim : ClaimTold x 1 c y w) (pid : g.pid ≡ x) (inside : x + 1 ≤ v.start.pages) where
-    is-next : c ≡ x
-    is-next = claim.known x (f.group.1 ∙ next-held x u z second s.seized.owns)
+  -- ---- one of the pages
 
-    claims : Brings (did_exchange places.Next x c (x + 1)) [] [] y (claimed_view x 1 y) w
-    claims = taken-view (did_exchange places.Next x c (x + 1)) x c y (claimed_view x 1 y) w is-next claim.brings
+  -- what the call, from its start on, made of a page that it gives
+  record IsGiven (p frame version : ℕ) (dirty : Bool) (v w : View X) : Type 0 where
+    pub unheld : IsUnheld v p
+    pub seat : seat_of w p ≡ record (seat_of v p) { exclusive = true; reading = None }
+    pub held : IsHolding p frame version dirty w
+    pub zero : v.start.tells ≡ true → (draft_of w p ≡ replicate 64 0) × ((last_of w p).words ≡ replicate 64 0)
+    pub locked : IsAlone v → KnowsAt (places.State p) (word_of LOCKED version) w
 
-    at-first : IsAmid [] (did_load places.Next x ∷ []) v v1
-    at-first = nload-amid [] x v v1 first
+  -- it was locked after steps on other pages, put into a frame after more of them, and then others were
+  given : {p e : ℕ} {stands : Option Mapping} (g : ExclusiveGuard) {before after ps qs rs : List ℕ} {da db dc : List Did} {v x u z y w : View X}
+      → IsAmid ps da v x → Seizes p e stands x u → IsAmid qs db u z → Furnishes p g.frame g.version g.dirty before after z y → IsAmid rs dc y w
+      → has p ps ≡ false → has p qs ≡ false → has p rs ≡ false → z.owed ≡ u.owed → g.pid ≡ p → IsUnheld v p → (v.start.tells ≡ true → (last_of z p).words ≡ replicate 64 0)
+      → IsGiven g.pid g.frame g.version g.dirty v w
+  given {p = p} {e = e} {stands = stands} g {ps = ps} {qs = qs} {rs = rs} {da = da} {db = db} {dc = dc} {v = v} {x = x} {u = u} {z = z} {y = y} {w = w} a s b f c na nb nc owed pid unheld zero =
+      let locked : IsSeized p e stands z = seized-on s.seized b nb owed in
+      let k = c.knows p nc (inl f.holding.owns) in
+      let word : ℕ = word_of LOCKED e in
+      let same : e ≡ g.version = sym (sym f.holding.at ∙ ap (λ (o : Version). o.version) f.last ∙ locked.at) in
+      subst (λ n. IsGiven n g.frame g.version g.dirty v w) (sym pid) (record {
+        unheld = unheld;
+        seat = c.seats p nc ∙ f.seat ∙ b.seats p nb ∙ s.seat ∙ ap (λ (o : Seat). record o { exclusive = true; reading = None }) (a.seats p na);
+        held = holding-on p g.frame g.version g.dirty rs dc y w f.holding c nc;
+        zero = λ t. (k.draft ∙ f.draft ∙ locked.draft ∙ zero t, ap (λ (o : Version). o.words) (k.last ∙ f.last) ∙ zero t);
+        locked = λ alone.
+            let alone-x = amid-alone a alone in
+            let alone-u = amid-alone s.amid alone-x in
+            let alone-z = amid-alone b alone-u in
+            subst (λ n. KnowsAt (places.State p) (word_of LOCKED n) w) same
+            (known-on rs dc y w p word c (amid-alone f.amid alone-z) f.holding.page nc
+            (known-states (p ∷ []) f.done z y p word f.amid f.states alone-z locked.page
+            (known-on qs db u z p word b alone-u s.seized.page nb
+            (put-known (places.State p) word x u s.amid.start (s.table alone-x)))));
+      })
 
-    at-second : IsAmid [] (did_load places.Next x ∷ []) u z
-    at-second = nload-amid [] x u z second
+  -- ---- all of them
 
-    at-claim : IsAmid [] (did_exchange places.Next x c (x + 1) ∷ []) y w
-    at-claim = claim-amid [] x 1 c y w is-next claim
+  -- a page that was never claimed, as far as the second load tells, has zero words
+  zero-at : (v : View X) {x : ℕ} {u z : View X} → NextTold x u z → u.start ≡ v.start → (p : ℕ) → x ≤ p → p < v.start.pages → v.start.tells ≡ true → (last_of z p).words ≡ replicate 64 0
+  zero-at v t same p low page tells = t.zero (ap (λ (o : Origin). o.tells) same ∙ tells) p low (subst (λ (o : Origin). p < o.pages) (sym same) page)
 
-    abbrev rest-done : List Did
-    rest-done = s.done ++ (did_load places.Next x ∷ (f.done ++ did_exchange places.Next x c (x + 1) ∷ []))
+  fresh-of : (x n : ℕ) (pages : List ℕ) (gs : List ExclusiveGuard) (before after : List ℕ) (c : ℕ) (mid : List Did) (v v1 z y w : View X) → NextTold x v v1 → ClaimTold x n c y w → c ≡ x → pages ≡ numbers x n → pids_of gs ≡ pages
+      → x + n ≤ v.start.pages → IsSilent pages mid v1 y → Each (λ (g : ExclusiveGuard). IsGiven g.pid g.frame g.version g.dirty v w) gs → KeepsFrames v z → z.owed ≡ v.owed → ArePut before after z y
+      → AreFresh (numbers x n) x n gs before after v w
+  fresh-of x n pages gs before after c mid v v1 z y w first claim is same pids inside steps each keeps owed put =
+      let load : Did = did_load places.Next x in
+      let did : Did = did_exchange places.Next x c (x + n) in
+      let rest : List Did = mid ++ did ∷ [] in
+      let view = (claim-brings x n is claim).view in
+      let written : did.wrote ≡ Some (x + n) = cond-true (eqb c x) (Some (x + n)) None (eq-eqb c x is) in
+      let all : IsSilent pages (load ∷ rest) v w = silent-then pages (load ∷ []) rest v v1 w (nload-silent pages x v v1 first) (silent-then pages mid (did ∷ []) v1 y w steps (claim-silent pages x n c y w is claim)) in
+      let now : (at : Place) (word : ℕ) → IsAlone v → Within w.start at → KnowsAt at word w → known_word_at w at ≡ word =
+      λ at word a l k. k (let below = index-below w.start at l in let long = wide-after load rest all.0.own v w all.0.start all.0.runs a in omega (arith, below, long)) in
+      subst (λ (l : List ℕ). AreFresh l x n gs before after v w) same (record {
+        done = load ∷ rest;
+        amid = all.0;
+        guards = pids;
+        inside = (first.risen, inside);
+        unheld = page (λ p. IsUnheld v p) (λ g k. k.unheld);
+        seats = page (λ p. seat_of w p ≡ record (seat_of v p) { exclusive = true; reading = None }) (λ g k. k.seat);
+        held = each-map _ _ (λ (g : ExclusiveGuard) k. k.held) gs each;
+        zero = λ t. page (λ p. (draft_of w p ≡ replicate 64 0) × ((last_of w p).words ≡ replicate 64 0)) (λ g k. k.zero t);
+        owed = ap (λ (k : View X). k.owed) view ∙ (λ i. sym same i ++ (put.group.0 ∙ owed) i);
+        next = ap (λ (k : View X). k.next) view;
+        taken = put.taken;
+        cut = put.cut;
+        frames = ap (λ (k : View X). k.frames) view ∙ put.frames ∙ ap (without_all put.taken) keeps.frames;
+        own = held-on after y w put.own (ap (λ (k : View X). k.start) view) (ap (λ (k : View X). k.frames) view);
+        contents = λ f left. ap (λ (k : View X). contents_at k f) view ∙ put.contents f left ∙ ap (λ l. put_at [] l f) keeps.contents;
+        loaded = (rest, refl);
+        claimed = written-behind (load ∷ mid) (did ∷ []) places.Next (x + n) (record { earlier = []; step = did; later = []; cut = refl; place = refl; wrote = written });
+        silent = all.1;
+        locked = λ a. each-map _ _ (λ (g : ExclusiveGuard) k. now (places.State g.pid) (word_of LOCKED g.version) a k.held.page (k.locked a)) gs each;
+        moved = λ a. now places.Next (x + n) a tt (last-known (load ∷ mid) did (x + n) all.0.own v w all.0.start all.0.runs written a);
+        others = others-known pages (load ∷ rest) v w all.0;
+        current = ap (λ (k : View X). k.current) view;
+      })
+    where
+      page : (P : ℕ → Type 0) → ((g : ExclusiveGuard) → IsGiven g.pid g.frame g.version g.dirty v w → P g.pid) → (q : ℕ) → has q pages ≡ true → P q
+      page P so q e = each-page P gs q (ap (has q) pids ∙ e) (each-map _ _ so gs each)
 
-    abbrev all-done : List Did
-    all-done = did_load places.Next x ∷ rest-done
+  pub fresh-one : (x version : ℕ) (stands : Option Mapping) (g : ExclusiveGuard) (before after : List ℕ) (c : ℕ) (v v1 u z y w : View X) → v.next ≡ None → NextTold x v v1 → Seizes x version stands v1 u → NextTold x u z
+      → Furnishes x g.frame g.version g.dirty before after z y → ClaimTold x 1 c y w → g.pid ≡ x → x + 1 ≤ v.start.pages → AreFresh (numbers x 1) x 1 (g ∷ []) before after v w
+  fresh-one x version stands g before after c v v1 u z y w none first s second f claim pid inside =
+      let all : List ℕ = x ∷ [] in
+      let load : List Did = did_load places.Next x ∷ [] in
+      let is : c ≡ x = finds-next 1 second s.seized.owns f.group.1 claim in
+      let at-first = nload-amid [] x v v1 first in
+      let at-second = nload-amid [] x u z second in
+      let owed : z.owed ≡ u.owed = ap (λ (k : View X). k.owed) second.brings.view in
+      let page = given g at-first s at-second f (claim-amid [] x 1 c y w is claim) refl refl refl owed pid (unheld-before x v v1 none first x s.unheld)
+      (zero-at v second (s.amid.start ∙ at-first.start) x (omega arith) (omega (arith, inside))) in
+      fresh-of x 1 all (g ∷ []) before after c (s.done ++ (load ++ f.done)) v v1 z y w first claim is (sym (numbers-one x)) (ap (λ (n : ℕ). n ∷ []) pid) inside
+      (silent-then all s.done (load ++ f.done) v1 u y (s.amid, s.silent) (silent-then all load f.done u z y (nload-silent all x u z second) (f.amid, f.silent)))
+      (page, tt)
+      (keeps-then v v1 z (nload-others first (λ q. ⊥)).keeps (keeps-then v1 u z s.keeps (nload-others second (λ q. ⊥)).keeps))
+      (owed ∙ s.group.0 ∙ ap (λ (k : View X). k.owed) first.brings.view)
+      (put-one f)
 
-    seized : IsSeized x version stands z
-    seized = seized-on x version stands [] (did_load places.Next x ∷ []) u z s.seized at-second refl (ap (λ (k : View X). k.owed) second.brings.view)
-
-    tells-u : v.start.tells ≡ true → u.start.tells ≡ true
-    tells-u t = ap (λ (o : Origin). o.tells) (s.amid.start ∙ at-first.start) ∙ t
-
-    page-u : x < u.start.pages
-    page-u = subst (λ (o : Origin). x < o.pages) (sym (s.amid.start ∙ at-first.start)) (let l = inside in omega (arith, l))
-
-    last-zero : v.start.tells ≡ true → (last_of z x).words ≡ replicate 64 0
-    last-zero t = second.zero (tells-u t) x (omega arith) page-u
-
-    owns-y : (seat_of y x).exclusive ≡ true
-    owns-y = f.holding.owns
-
-    last-w : last_of w x ≡ last_of z x
-    last-w = (at-claim.knows x refl (inl owns-y)).last ∙ f.last
-
-    draft-w : draft_of w x ≡ draft_of z x
-    draft-w = (at-claim.knows x refl (inl owns-y)).draft ∙ f.draft
-
-    seat-w : seat_of w x ≡ record (seat_of v x) { exclusive = true; reading = None }
-    seat-w = at-claim.seats x refl ∙ f.seat ∙ at-second.seats x refl ∙ s.seat ∙ ap (λ (k : Seat). record k { exclusive = true; reading = None }) (at-first.seats x refl)
-
-    wrote-it : HasWritten (did_exchange places.Next x c (x + 1) ∷ []) places.Next (x + 1)
-    wrote-it = record { earlier = []; step = did_exchange places.Next x c (x + 1); later = []; cut = refl; place = refl; wrote = cond-true (eqb c x) (Some (x + 1)) None (eq-eqb c x is-next) }
-
-    alone-u : IsAlone v → IsAlone u
-    alone-u a = still-alone v1 u s.amid.parts s.amid.alone.current (still-alone v v1 at-first.parts at-first.alone.current a)
-
-    alone-z : IsAlone v → IsAlone z
-    alone-z a = still-alone u z at-second.parts at-second.alone.current (alone-u a)
-
-    alone-y : IsAlone v → IsAlone y
-    alone-y a = still-alone z y f.amid.parts f.amid.alone.current (alone-z a)
-
-    same-version : g.version ≡ version
-    same-version = sym f.holding.at ∙ ap (λ (k : Version). k.version) f.last ∙ seized.at
-
-    -- the page's word is known from its lock on
-    known-one : IsAlone v → KnowsAt (places.State x) (word_of LOCKED version) w
-    known-one a =
-        known-on [] (did_exchange places.Next x c (x + 1) ∷ []) y w x (word_of LOCKED version) at-claim (alone-y a) f.holding.page refl
-        (known-states (x ∷ []) f.done z y x (word_of LOCKED version) f.amid f.states (alone-z a) seized.page
-        (known-on [] (did_load places.Next x ∷ []) u z x (word_of LOCKED version) at-second (alone-u a) page-u refl
-        (put-known (places.State x) (word_of LOCKED version) v1 u s.amid.start (s.table (still-alone v v1 at-first.parts at-first.alone.current a)))))
-
-    steps-one : IsSilent (x ∷ []) all-done v w
-    steps-one =
-        silent-then (x ∷ []) (did_load places.Next x ∷ []) (s.done ++ (did_load places.Next x ∷ (f.done ++ did_exchange places.Next x c (x + 1) ∷ []))) v v1 w (nload-silent (x ∷ []) x v v1 first)
-        (silent-then (x ∷ []) s.done (did_load places.Next x ∷ (f.done ++ did_exchange places.Next x c (x + 1) ∷ [])) v1 u w (s.amid, s.silent)
-        (silent-then (x ∷ []) (did_load places.Next x ∷ []) (f.done ++ did_exchange places.Next x c (x + 1) ∷ []) u z w (nload-silent (x ∷ []) x u z second)
-        (silent-then (x ∷ []) f.done (did_exchange places.Next x c (x + 1) ∷ []) z y w (f.amid, f.silent) (claim-silent (x ∷ []) x 1 c y w is-next claim))))
-
-    page-w : x < w.start.pages
-    page-w = subst (λ (o : Origin). x < o.pages) (sym steps-one.0.start) (let l = inside in omega (arith, l))
-
-    pub fresh-one : AreFresh (numbers x 1) x 1 (g ∷ []) before after v w
-    fresh-one = subst (λ (l : List ℕ). AreFresh l x 1 (g ∷ []) before after v w) (sym (numbers-one x)) (record {
-      done = all-done;
-      amid = steps-one.0;
-      guards = ap (λ (n : ℕ). n ∷ []) pid;
-      inside = (first.risen, inside);
-      unheld = λ q e. unheld-before x v v1 none first q (subst (λ n. IsUnheld v1 n) (sym (one-page x q e)) s.unheld);
-      seats = λ q e. subst (λ n. seat_of w n ≡ record (seat_of v n) { exclusive = true; reading = None }) (sym (one-page x q e)) seat-w;
-      held = (subst (λ n. IsHolding n g.frame g.version g.dirty w) (sym pid) (holding-on x g.frame g.version g.dirty [] (did_exchange places.Next x c (x + 1) ∷ []) y w f.holding at-claim refl), tt);
-      zero = λ t q e. subst (λ n. (draft_of w n ≡ replicate 64 0) × ((last_of w n).words ≡ replicate 64 0)) (sym (one-page x q e))
-          (draft-w ∙ seized.draft ∙ last-zero t, ap (λ (k : Version). k.words) last-w ∙ last-zero t);
-      owed =
-          ap (λ (k : View X). k.owed) claims.view
-          ∙ (λ i. numbers-one x i ++ (f.group.0 ∙ ap (λ (k : View X). k.owed) second.brings.view ∙ s.group.0 ∙ ap (λ (k : View X). k.owed) first.brings.view) i);
-      next = ap (λ (k : View X). k.next) claims.view;
-      taken = f.taken;
-      cut = f.cut;
-      frames =
-          ap (λ (k : View X). k.frames) claims.view
-          ∙ f.frames
-          ∙ ap (without_all f.taken) (ap (λ (k : View X). k.frames) second.brings.view ∙ s.keeps.frames ∙ ap (λ (k : View X). k.frames) first.brings.view);
-      own = held-on after y w f.own at-claim.start (ap (λ (k : View X). k.frames) claims.view);
-      contents = λ q left.
-          ap (λ (k : View X). contents_at k q) claims.view
-          ∙ f.contents q left
-          ∙ ap (λ l. put_at [] l q) (ap (λ (k : View X). k.contents) second.brings.view ∙ s.keeps.contents ∙ ap (λ (k : View X). k.contents) first.brings.view);
-      loaded = (s.done ++ (did_load places.Next x ∷ (f.done ++ did_exchange places.Next x c (x + 1) ∷ [])), refl);
-      claimed = written-behind (did_load places.Next x ∷ []) _ places.Next (x + 1) (written-behind s.done _ places.Next (x + 1) (written-behind (did_load places.Next x ∷ []) _ places.Next (x + 1) (written-behind f.done _ places.Next (x + 1) wrote-it)));
-      silent = steps-one.1;
-      locked = λ a. (
-        ap (λ n. known_word_at w (places.State n)) pid
-            ∙ known-there (x ∷ []) (did_load places.Next x) rest-done v w (places.State x) (word_of LOCKED version) steps-one.0 a page-w (known-one a)
-            ∙ ap (word_of LOCKED) (sym same-version),
-        tt,
-      );
-      moved = λ a. known-there (x ∷ []) (did_load places.Next x) rest-done v w places.Next (x + 1) steps-one.0 a tt (put-known places.Next (x + 1) y w at-claim.start
-          ((at-claim.runs.words (alone-y a).0 (alone-y a).1).1
-          ∙ ap (λ (o : Option ℕ). set_if o (index_of y.start places.Next) y.snapshot.words) (cond-true (eqb c x) (Some (x + 1)) None (eq-eqb c x is-next))));
-      others = others-known (x ∷ []) all-done v w steps-one.0;
-      current = ap (λ (k : View X). k.current) claims.view;
-    })
+  pub fresh-two : (x e1 e2 : ℕ) (s1 s2 : Option Mapping) (g1 g2 : ExclusiveGuard) (before mid after : List ℕ) (c : ℕ) (v v1 u1 u2 z y1 y w : View X) → v.next ≡ None → NextTold x v v1 → Seizes x e1 s1 v1 u1 → Seizes (x + 1) e2 s2 u1 u2 → NextTold x u2 z
+      → Furnishes x g1.frame g1.version g1.dirty before mid z y1 → Furnishes (x + 1) g2.frame g2.version g2.dirty mid after y1 y → ClaimTold x 2 c y w → g1.pid ≡ x → g2.pid ≡ x + 1 → x + 2 ≤ v.start.pages
+      → AreFresh (numbers x 2) x 2 (g1 ∷ g2 ∷ []) before after v w
+  fresh-two x e1 e2 s1 s2 g1 g2 before mid after c v v1 u1 u2 z y1 y w none first a b second f h claim pid1 pid2 inside =
+      let one : List ℕ = x ∷ [] in
+      let two : List ℕ = (x + 1) ∷ [] in
+      let all : List ℕ = x ∷ (x + 1) ∷ [] in
+      let load : List Did = did_load places.Next x ∷ [] in
+      let did : List Did = did_exchange places.Next x c (x + 2) ∷ [] in
+      let is : c ≡ x = finds-next 2 second (ap (λ (k : Seat). k.exclusive) (b.amid.seats x (apart-first x)) ∙ a.seized.owns) (h.group.1 ∙ f.group.1) claim in
+      let at-first = nload-amid [] x v v1 first in
+      let at-second = nload-amid [] x u2 z second in
+      let start : u2.start ≡ v.start = b.amid.start ∙ a.amid.start ∙ at-first.start in
+      let owed : z.owed ≡ u2.owed = ap (λ (k : View X). k.owed) second.brings.view in
+      let unheld : IsUnheld v1 (x + 1) = unheld-same (x + 1) v1 u1 (holds-still (x + 1) (a.amid.seats (x + 1) (apart-second x))) a.group.0 a.group.1 b.unheld in
+      let page-one = given g1 at-first a (amid-then two b.done load u1 u2 z b.amid (nload-amid two x u2 z second)) f (amid-then two h.done did y1 y w h.amid (claim-amid two x 2 c y w is claim)) refl (apart-first x) (apart-first x)
+      (owed ∙ b.group.0) pid1 (unheld-before x v v1 none first x a.unheld) (zero-at v second start x (omega arith) (omega (arith, inside))) in
+      let page-two = given g2 (amid-then one load a.done v v1 u1 (nload-amid one x v v1 first) a.amid) b (amid-then one load f.done u2 z y1 (nload-amid one x u2 z second) f.amid) h (claim-amid [] x 2 c y w is claim) (apart-second x) (apart-second x) refl
+      (f.group.0 ∙ owed) pid2 (unheld-before x v v1 none first (x + 1) unheld)
+      (λ t. ap (λ (o : Version). o.words) (f.amid.knows (x + 1) (apart-second x) (inl (ap (λ (k : Seat). k.exclusive) (at-second.seats (x + 1) refl) ∙ b.seized.owns))).last
+      ∙ zero-at v second start (x + 1) (omega arith) (omega (arith, inside)) t) in
+      fresh-of x 2 all (g1 ∷ g2 ∷ []) before after c (a.done ++ (b.done ++ (load ++ (f.done ++ h.done)))) v v1 z y w first claim is (sym (numbers-two x)) (λ i. pid1 i ∷ pid2 i ∷ []) inside
+      (silent-then all a.done (b.done ++ (load ++ (f.done ++ h.done))) v1 u1 y (silent-within all one a.done v1 u1 (within-first x) a.amid a.silent)
+      (silent-then all b.done (load ++ (f.done ++ h.done)) u1 u2 y (silent-within all two b.done u1 u2 (within-second x) b.amid b.silent)
+      (silent-then all load (f.done ++ h.done) u2 z y (nload-silent all x u2 z second)
+      (silent-then all f.done h.done z y1 y (silent-within all one f.done z y1 (within-first x) f.amid f.silent) (silent-within all two h.done y1 y (within-second x) h.amid h.silent)))))
+      (page-one, (page-two, tt))
+      (keeps-then v v1 z (nload-others first (λ q. ⊥)).keeps (keeps-then v1 u1 z a.keeps (keeps-then u1 u2 z b.keeps (nload-others second (λ q. ⊥)).keeps)))
+      (owed ∙ b.group.0 ∙ a.group.0 ∙ ap (λ (k : View X). k.owed) first.brings.view)
+      (put-then (put-one f) (put-one h))

@@ -1,26 +1,61 @@
--- A group is released: what its releases leave together.
-use Rattle.std.proofs.Common.{[], ⊎_elim, ◌++◌, ◌+◌, ◌∙◌, ◌∷◌, ◌≡◌, ◌≢◌, ◌≤◌, ap, eqb, false, List, Option, slice_index, subst, sym, true, ℕ}
-use Rattle.std.proofs.lemmas.Bool.{cond-false, false≢true, or_right}
-use Rattle.vm_core.specs.Prelude.{Version, version_of}
-use Rattle.vm_rule.specs.Prelude.{Change, Each, Entry, has, Kept, last_in, ReleaseTold, Start, without, without_all}
-use Rattle.vm_rule.proofs.Entries.{each-map}
-use Rattle.vm_step.specs.Prelude.{IsKeptNow, View}
-use Rattle.vm_step.proofs.Groups.{has-without_all_same}
-use Rattle.vm_guard.specs.{declared.exclusive.ExclusiveGuard.ExclusiveGuard, Sure.IsUnlockedWord}
-use Rattle.vm_guard.specs.Groups.{AreGivenUp, AreReleased, GuardsHeld, IsGroupReleased, MayReleaseAll, next_after_all, pids_of}
-use Rattle.vm_guard.proofs.Groups.{all-beside, all-pending, all-then, AreAllGiven, first-or-rest, given-up, IsRest, without-absent, without-front}
-use Rattle.vm_guard.proofs.GroupsAlone.{free-each, last-each, last-else, words-released}
+-- A group is released: what its releases leave together, and what a pass that is alone knows then: the words of the table, and the last versions.
+use Rattle.vm_guard.proofs.Groups.{all-beside, all-then, among, AreAllGiven, each-page, given-up, IsRest, lacks, without-absent, without-front}
+use Rattle.vm_guard.proofs.Prelude.{[], ap, append_assoc, AreApart, AreGivenUp, AreReleased, arith, Change, cond-false, draft_of, Each, each-map}
+use Rattle.vm_guard.proofs.Prelude.{Entry, eqb, ExclusiveGuard, false, Follows, get_or-set_other, has, has-left_of, has-without_all_same, History}
+use Rattle.vm_guard.proofs.Prelude.{IsGroupReleased, IsKeptNow, IsUnlockedWord, Kept, last-is, last_in, List, MAX_VERSION, MayReleaseAll}
+use Rattle.vm_guard.proofs.Prelude.{next_after_all, Option, or_right, Origin, pids_of, refl, Release, release-here, release_steps, released_words}
+use Rattle.vm_guard.proofs.Prelude.{releases-else, releases_of, ReleaseTold, slice_index, slice_set, Start, subst, sym, true, Version, version_of}
+use Rattle.vm_guard.proofs.Prelude.{View, without, without_all, words_with, ℕ, ◌++◌, ◌+◌, ◌<◌, ◌∙◌, ◌∷◌, ◌≡◌, ◌≢◌, ◌≤◌}
+use Rattle.vm_guard.proofs.Sure.{free-after}
+
+-- the words after the releases
+pub words-released : (start : Origin) (gs : List ExclusiveGuard) (old new : List ℕ) → Follows start (release_steps gs) old new → new ≡ words_with start (released_words gs) old
+words-released start [] old new f = f
+words-released start (g ∷ gs) old new f = words-released start gs (slice_set old g.pid (g.version + 1)) new f.1
+
+-- another page has the word that it had
+words-else : (start : Origin) (gs : List ExclusiveGuard) (words : List ℕ) (q : ℕ) → has q (pids_of gs) ≡ false → slice_index (words_with start (released_words gs) words) q ≡ slice_index words q
+words-else start [] words q none = refl
+words-else start (g ∷ gs) words q none =
+    let k = lacks q g.pid (pids_of gs) none in
+    words-else start gs (slice_set words g.pid (g.version + 1)) q k.1 ∙ get_or-set_other words g.pid q (g.version + 1) 0 k.0
+
+-- each page is free
+pub free-each : (start : Origin) (gs : List ExclusiveGuard) (words : List ℕ) → AreApart (pids_of gs) → Each (λ (g : ExclusiveGuard). g.version < MAX_VERSION) gs
+    → Each (λ (g : ExclusiveGuard). IsUnlockedWord (slice_index (words_with start (released_words gs) words) g.pid) × (version_of (slice_index (words_with start (released_words gs) words) g.pid) ≤ g.version + 1)) gs
+free-each start [] words apart below = tt
+free-each start (g ∷ gs) words apart below = (
+  subst (λ (n : ℕ). IsUnlockedWord n × (version_of n ≤ g.version + 1)) (sym (words-else start gs (slice_set words g.pid (g.version + 1)) g.pid apart.0))
+      (free-after g.pid (g.version + 1) words (let low : g.version < MAX_VERSION = below.0 in omega (arith, low))),
+  free-each start gs (slice_set words g.pid (g.version + 1)) apart.1 below.1,
+)
 
 module _ {X : Type 0} where
-  -- no guard's page is a member of another group
-  all-free : (v : View X) (gs : List ExclusiveGuard) → GuardsHeld v gs → (q : ℕ) → has q (pids_of gs) ≡ true → has q v.pending ≡ false
-  all-free v [] held q e = absurd (false≢true e)
-  all-free v (g ∷ gs) held q e =
-      ⊎_elim
-      (λ (same : q ≡ g.pid). ap (λ n. has n v.pending) same ∙ held.0.free)
-      (λ (t : (q ≢ g.pid) × (has q (pids_of gs) ≡ true)). all-free v gs held.1 q t.1)
-      (first-or-rest q g.pid (pids_of gs) e)
+  -- another page has the last version that it had
+  pub last-else : (v : View X) (gs : List ExclusiveGuard) (rs : List Release) (q : ℕ) → has q (pids_of gs) ≡ false → last_in v.start (rs ++ releases_of v gs) q ≡ last_in v.start rs q
+  last-else v gs rs q none = releases-else v.start rs (releases_of v gs) q (apart gs none)
+    where
+      apart : (hs : List ExclusiveGuard) → has q (pids_of hs) ≡ false → Each (λ (r : Release). q ≢ r.page) (releases_of v hs)
+      apart [] none = tt
+      apart (h ∷ hs) none = let k = lacks q h.pid (pids_of hs) none in (k.0, apart hs k.1)
 
+  -- each page has the version that it was released at
+  pub last-each : (v : View X) (gs : List ExclusiveGuard) (rs : List Release) → AreApart (pids_of gs)
+      → Each (λ (g : ExclusiveGuard). last_in v.start (rs ++ releases_of v gs) g.pid ≡ record { version = g.version + 1; words = draft_of v g.pid }) gs
+  last-each v [] rs apart = tt
+  last-each v (g ∷ gs) rs apart =
+      let r : Release = record { page = g.pid; version = g.version + 1; words = draft_of v g.pid } in (
+        ap (λ (l : List Release). last_in v.start l g.pid) (sym (append_assoc rs (r ∷ []) (releases_of v gs)))
+            ∙ last-else v gs (rs ++ r ∷ []) g.pid apart.0
+            ∙ last-is v.start (rs ++ r ∷ []) (λ k. []) g.pid
+            ∙ ap (λ (h : History). h.last) (release-here v.start rs (λ k. []) r),
+        subst (λ (l : List Release). Each (λ (h : ExclusiveGuard). last_in v.start l h.pid ≡ record { version = h.version + 1; words = draft_of v h.pid }) gs) (append_assoc rs (r ∷ []) (releases_of v gs))
+            (last-each v gs (rs ++ r ∷ []) apart.1),
+      )
+
+-- ---- what the releases leave
+
+module _ {X : Type 0} where
   released : (may_release : Start → List ℕ → List Change → List (Entry X) → Type 0) (g : ExclusiveGuard) (gs : List ExclusiveGuard) (said : Option X) (v u w : View X) → MayReleaseAll may_release (g ∷ gs) said v
       → ReleaseTold g.pid g.version (pids_of gs) said v u → AreGivenUp gs u w → AreReleased g gs said v w
   released may_release g gs said v u w may t k =
@@ -28,7 +63,7 @@ module _ {X : Type 0} where
       let ps : List ℕ = pids_of gs in
       let view = t.brings.view in
       let pending : u.pending ≡ ps ++ v.pending = ap (λ (y : View X). y.pending) view ∙ cond-false (has p v.pending) (without p v.pending) (ps ++ v.pending) may.held.0.free in
-      let rest : IsRest gs u w = given-up gs u w may.apart.1 (subst (λ (l : List ℕ). Each (λ (x : ExclusiveGuard). has x.pid l ≡ true) gs) (sym pending) (all-pending p v.pending gs ps (λ q x. x))) k in
+      let rest : IsRest gs u w = given-up gs u w may.apart.1 (subst (λ (l : List ℕ). Each (λ (x : ExclusiveGuard). has x.pid l ≡ true) gs) (sym pending) (each-map _ _ (λ (x : ExclusiveGuard) m. has-left_of x.pid ps v.pending m.1) gs (among p gs may.apart.0))) k in
       let all : AreAllGiven (g ∷ gs) v w = all-then g gs ps said v u w t may.apart.0 rest.all in
       let seen = rest.all.steps.seen in
       let run = all.steps.runs in
@@ -44,7 +79,7 @@ module _ {X : Type 0} where
           seen.1 ∙ ap (λ (y : View X). y.seen ++ seen.0) view,
         );
         group = (
-          rest.group.0 ∙ ap (without_all ps) pending ∙ without-front ps v.pending may.apart.1 (all-free v gs may.held.1),
+          rest.group.0 ∙ ap (without_all ps) pending ∙ without-front ps v.pending may.apart.1 (λ q e. each-page (λ p. has p v.pending ≡ false) gs q e (each-map _ _ (λ (x : ExclusiveGuard) h. h.free) gs may.held.1)),
           rest.group.1 ∙ ap (λ (y : View X). without_all ps y.owed) view ∙ without-absent ps (without_all (p ∷ ps) v.owed) (λ q x. has-without_all_same (p ∷ ps) v.owed q (or_right (eqb q p) (has q ps) x)),
           rest.group.2 ∙ ap (λ (y : View X). next_after_all ps y.next) view,
         );

@@ -1,36 +1,37 @@
--- What the calls on a page that is locked already leave of the view: a word read, a word set, a share given up, a release.
-use Rattle.std.proofs.Common.{[], ◌*◌, ◌++◌, ◌+◌, ◌-◌, ◌<◌, ◌^◌, ◌∙◌, ◌∷◌, ◌≡◌, ◌≢◌, ◌≤◌, ap, arith, Bool, false, get_or-set_other, get_or-set_same}
-use Rattle.std.proofs.Common.{inl, inr, IsSome, length, length-set, List, Option, refl, slice_index, slice_set, Some, subst, sym, true, ℕ}
-use Rattle.std.proofs.lemmas.Bool.{cond-false}
-use Rattle.vm_core.specs.Prelude.{MAX_VERSION, state_of, trans_word, Version, version_of}
-use Rattle.vm_rule.specs.Prelude.{Change, did_change, did_store, dirty_in, DirtyTold, draft_of, Drafts, Entry, has, HasShape, index_of, last_in}
-use Rattle.vm_rule.specs.Prelude.{last_of, Mapping, no_held, put_at, ReleaseTold, seat_of, StandsIn, Start, StoresTold, StoreTold, UnshareTold}
-use Rattle.vm_rule.specs.Prelude.{without}
-use Rattle.vm_rule.specs.{declared.view.Held.Held, declared.view.Place.Place}
+-- What the calls on a page that is locked already leave of the view: a word read, a word set, a share given up, a release, and one to a share.
+use Rattle.std.proofs.Common.{get_or-set_other, get_or-set_same, length-set}
 use Rattle.vm_rule.specs.declared.view.Place.TheVariants as places
-use Rattle.vm_step.specs.Prelude.{Did, HoldsPage, IsAlone, IsClaimed, IsFirst, IsNotOut, IsOf, KnowsAsBefore, MayGiveUp, Origin, Release, RunsAlone}
-use Rattle.vm_step.specs.Prelude.{Shape, View}
-use Rattle.vm_step.proofs.Alone.{still-alone}
-use Rattle.vm_step.proofs.Asides.{alone-self, alone-then, holds-then, reads-then}
-use Rattle.vm_step.proofs.steps.Content.{store-draft, store-held, store-last, store-loads, store-others, store-own, store-seat}
-use Rattle.vm_step.proofs.steps.Leaving.{holds-still, LeavesOwn, own-then, releases-else}
-use Rattle.vm_step.proofs.steps.Mapping.{dirty-held, dirty-others, dirty-works}
-use Rattle.vm_step.proofs.steps.Release.{release-last, release-loads, release-others, release-own, release-seat}
-use Rattle.vm_step.proofs.steps.Share.{unshare-knows, unshare-loads, unshare-others, unshare-own, unshare-seat}
-use Rattle.vm_guard.specs.{Quiet.IsSteady, Sure.IsUnlockedWord, Sure.known_word, Takes.PassMayRelease}
-use Rattle.vm_guard.specs.Guards.{dirty_steps, IsDirtied, IsHolding, IsReleased, IsSet, IsUnshared}
+use Rattle.vm_guard.proofs.Prelude.{[], alone-self, alone-then, ap, arith, Bool, Change, cond-false, Did, did_change, did_store, dirty-held}
+use Rattle.vm_guard.proofs.Prelude.{dirty-others, dirty-works, dirty_in, dirty_steps, DirtyTold, downgrade-last, downgrade-others, downgrade-seat}
+use Rattle.vm_guard.proofs.Prelude.{DowngradeTold, draft_of, Drafts, Entry, false, has, HasShape, Held, held_at, holds-still, holds-then, HoldsPage}
+use Rattle.vm_guard.proofs.Prelude.{index_of, inl, inr, IsAlone, IsClaimed, IsDirtied, IsDowngraded, IsFirst, IsHolding, IsNotOut, IsOf, IsReady}
+use Rattle.vm_guard.proofs.Prelude.{IsReleased, IsSamePass, IsSet, IsSome, IsSteady, IsUnlockedWord, IsUnshared, known_word, KnowsAsBefore, last_in}
+use Rattle.vm_guard.proofs.Prelude.{last_of, LeavesOwn, length, List, loads_at, Mapping, MAX_VERSION, MayDowngrade, MayGiveUp, MayStep, no_held, None}
+use Rattle.vm_guard.proofs.Prelude.{Option, Origin, own-then, Pass, PassMayRelease, Place, put_at, reads-then, refl, Release, release-last}
+use Rattle.vm_guard.proofs.Prelude.{release-loads, release-others, release-own, release-seat, releases-else, ReleaseTold, RunsAlone, Seat, seat_of}
+use Rattle.vm_guard.proofs.Prelude.{Shape, slice_index, slice_set, Some, Start, state_of, still-alone, store-draft, store-held, store-last}
+use Rattle.vm_guard.proofs.Prelude.{store-loads, store-others, store-own, store-seat, StoresTold, StoreTold, subst, sym, TableId, trans_word, true}
+use Rattle.vm_guard.proofs.Prelude.{unshare-knows, unshare-loads, unshare-others, unshare-own, unshare-seat, UnshareTold, Version, version_of, View}
+use Rattle.vm_guard.proofs.Prelude.{view, without, word_of, ℕ, ◌*◌, ◌++◌, ◌+◌, ◌-◌, ◌<◌, ◌^◌, ◌∙◌, ◌∷◌, ◌≡◌, ◌≢◌, ◌≤◌}
 use Rattle.vm_guard.proofs.QuietSteps.{alone-of, elsewhere-of, elsewhere-then, quiet-elsewhere, quiet-none}
 use Rattle.vm_guard.proofs.Sure.{free-after, state-inside}
 
+-- ---- the pass is ready for its next call
+
+module _ {U X : Type 0} {o : _} {shape : Shape} {tells : Bool} {t : TableId} (a : Pass U X o) {b : Pass U X o} {done : List Did} {own : List Release} where
+  pub ready-from : MayStep t a → IsOf shape tells (view a) → b.badge.table_id ≡ a.badge.table_id → IsSteady done own (view a) (view b) → IsReady shape tells t b
+  ready-from may is same f = record {
+    may = (same ∙ may.0, subst (λ (ns : List ℕ). 0 < length ns) (sym f.parts.0) may.1);
+    table = record { is_shape = subst (HasShape shape) (sym f.start) is.is_shape; tells_is = ap (λ (s : Origin). s.tells) f.start ∙ is.tells_is };
+  }
+
+pub ready-then : {U X : Type 0} {o : _} {shape : Shape} {tells : Bool} {t : TableId} {a b : Pass U X o} {done : List Did} {own : List Release} → IsReady shape tells t a → IsSamePass a b → IsSteady done own (view a) (view b)
+    → IsReady shape tells t b
+ready-then {a = a} r same f = ready-from a r.may r.table same.0 f
+
+-- ---- each call
+
 module _ {X : Type 0} where
-  -- a view of the table is one after the call too
-  pub still-of : (shape : Shape) (tells : Bool) (v w : View X) → w.start ≡ v.start → IsOf shape tells v → IsOf shape tells w
-  still-of shape tells v w same is = record { is_shape = subst (HasShape shape) (sym same) is.is_shape; tells_is = ap (λ (o : Origin). o.tells) same ∙ is.tells_is }
-
-  -- and the pass has a part
-  pub parts-on : (done : List Did) {own : List Release} (v w : View X) → IsSteady done own v w → 0 < length v.used → 0 < length w.used
-  parts-on done v w steady l = subst (λ (ns : List ℕ). 0 < length ns) (sym steady.parts.0) l
-
   pub gives-up : (p found : ℕ) (v w : View X) → 1 ≤ (seat_of v p).shares → UnshareTold p found v w → IsUnshared p v w
   gives-up p found v w shares t =
       let f = unshare-others t (λ q. q ≡ p) refl in
@@ -59,37 +60,31 @@ module _ {X : Type 0} where
   pub drafts-of : (p f version : ℕ) (v : View X) → IsHolding p f version true v → Drafts v p f
   drafts-of p f version v h = record { owns = h.owns; stands = h.stands; free = h.free }
 
-  pub stands-in : (p f version : ℕ) (dirty : Bool) (v : View X) → IsHolding p f version dirty v → StandsIn v p f
-  stands-in p f version dirty v h = record { owns = h.owns; dirty = dirty; stands = h.stands }
-
-  -- a page that is held stays so, where what is known of it under its lock does
-  pub still-held : {p f version : ℕ} {dirty : Bool} {v w : View X} → IsHolding p f version dirty v → w.start ≡ v.start → (seat_of w p).exclusive ≡ (seat_of v p).exclusive → KnowsAsBefore v w p → w.pending ≡ v.pending → IsHolding p f version dirty w
-  still-held {p = p} {f = f} h start owns k pending = record {
+  -- a page that is held stays so, dirty or not, where it stays locked in its frame with the words that it had or as many others
+  held-still : {p f version : ℕ} {dirty now : Bool} {v w : View X} → IsHolding p f version dirty v → w.start ≡ v.start → (seat_of w p).exclusive ≡ (seat_of v p).exclusive → (held_at w p).mapping ≡ Some (record { frame = f; dirty = now })
+      → (held_at w p).fault ≡ (held_at v p).fault → (held_at w p).block.count ≡ (held_at v p).block.count → last_of w p ≡ last_of v p → length (draft_of w p) ≡ length (draft_of v p) → w.pending ≡ v.pending → IsHolding p f version now w
+  held-still {p = p} {f = f} h start owns stands fault count last size pending = record {
     page = subst (λ (o : Origin). p < o.pages) (sym start) h.page;
     frame_is = subst (λ (o : Origin). f < o.frames) (sym start) h.frame_is;
     below = h.below;
     owns = owns ∙ h.owns;
-    stands = ap (λ (y : Held). y.mapping) k.held ∙ h.stands;
-    told = ap (λ (y : Held). y.fault) k.held ∙ h.told ∙ ap (λ (y : Held). y.block.count) (sym k.held);
-    at = ap (λ (y : Version). y.version) k.last ∙ h.at;
-    size = ap (λ (l : List ℕ). length l) k.draft ∙ h.size;
-    free = ap (has p) pending ∙ h.free;
-  }
-
-  -- a page that is held is held dirty, where it was made so and as many words are its draft
-  holding-on : (p f version : ℕ) (dirty : Bool) (v w : View X) → IsHolding p f version dirty v → w.start ≡ v.start → HoldsPage v w p → put_at no_held w.held p ≡ record (put_at no_held v.held p) { mapping = Some (dirty_in f) }
-      → last_of w p ≡ last_of v p → length (draft_of w p) ≡ length (draft_of v p) → w.pending ≡ v.pending → IsHolding p f version true w
-  holding-on p f version dirty v w h start holds held last size pending = record {
-    page = subst (λ (o : Origin). p < o.pages) (sym start) h.page;
-    frame_is = subst (λ (o : Origin). f < o.frames) (sym start) h.frame_is;
-    below = h.below;
-    owns = holds.exclusive ∙ h.owns;
-    stands = ap (λ (y : Held). y.mapping) held;
-    told = ap (λ (y : Held). y.fault) held ∙ h.told ∙ ap (λ (y : Held). y.block.count) (sym held);
+    stands = stands;
+    told = fault ∙ h.told ∙ sym count;
     at = ap (λ (y : Version). y.version) last ∙ h.at;
     size = size ∙ h.size;
     free = ap (has p) pending ∙ h.free;
   }
+
+  -- so where what is known of it under its lock does
+  pub still-held : {p f version : ℕ} {dirty : Bool} {v w : View X} → IsHolding p f version dirty v → w.start ≡ v.start → (seat_of w p).exclusive ≡ (seat_of v p).exclusive → KnowsAsBefore v w p → w.pending ≡ v.pending → IsHolding p f version dirty w
+  still-held h start owns k pending =
+      held-still h start owns (ap (λ (y : Held). y.mapping) k.held ∙ h.stands) (ap (λ (y : Held). y.fault) k.held) (ap (λ (y : Held). y.block.count) k.held) k.last (ap (λ (l : List ℕ). length l) k.draft) pending
+
+  -- and where it was made dirty
+  holding-on : (p f version : ℕ) (dirty : Bool) (v w : View X) → IsHolding p f version dirty v → w.start ≡ v.start → HoldsPage v w p → put_at no_held w.held p ≡ record (put_at no_held v.held p) { mapping = Some (dirty_in f) }
+      → last_of w p ≡ last_of v p → length (draft_of w p) ≡ length (draft_of v p) → w.pending ≡ v.pending → IsHolding p f version true w
+  holding-on p f version dirty v w h start holds held last size pending =
+      held-still h start holds.exclusive (ap (λ (y : Held). y.mapping) held) (ap (λ (y : Held). y.fault) held) (ap (λ (y : Held). y.block.count) held) last size pending
 
   -- a page that is dirty already is left so
   pub was-dirty : (p f version : ℕ) (dirty : Bool) (v : View X) → IsHolding p f version dirty v → dirty ≡ true → IsDirtied p f dirty v v
@@ -171,16 +166,9 @@ module _ {X : Type 0} where
       → IsFirst may_release p [] said v
   alone-first h claimed owner = record { members = (record { page = h.page; owns = h.owns; free = h.free; claimed = claimed }, tt); apart = (refl, tt); few = omega arith; owner = owner }
 
-  pub may-give_up : (may_release : Start → List ℕ → List Change → List (Entry X) → Type 0) (p f version : ℕ) (dirty : Bool) (said : Option X) (v : View X) → IsHolding p f version dirty v
-      → IsNotOut v p → (v.start.tells ≡ true → IsClaimed v p) → PassMayRelease may_release p said v → MayGiveUp may_release p version [] said v
-  may-give_up may_release p f version dirty said v h home claimed owner = record {
-    owns = h.owns;
-    resident = subst (λ (o : Option Mapping). IsSome o) (sym h.stands) refl;
-    told = h.told;
-    home = home;
-    at = sym h.at;
-    group = inl (alone-first h claimed owner);
-  }
+  pub first-may : {may_release : Start → List ℕ → List Change → List (Entry X) → Type 0} {p f version : ℕ} {dirty : Bool} {rest : List ℕ} {said : Option X} {v : View X} → IsHolding p f version dirty v → IsNotOut v p
+      → IsFirst may_release p rest said v → MayGiveUp may_release p version rest said v
+  first-may h home first = record { owns = h.owns; resident = subst (λ (o : Option Mapping). IsSome o) (sym h.stands) refl; told = h.told; home = home; at = sym h.at; group = inl first }
 
   pub releases : (p f version : ℕ) (dirty : Bool) (said : Option X) (v w : View X) → IsHolding p f version dirty v → ReleaseTold p version [] said v w → IsReleased p version said v w
   releases p f version dirty said v w h t =
@@ -210,5 +198,43 @@ module _ {X : Type 0} where
             let below : version < MAX_VERSION = h.below in
             subst (λ (l : List ℕ). IsUnlockedWord (slice_index l p) × (version_of (slice_index l p) ≤ version + 1)) (sym (e.runs.words a.0 a.1).1)
             (free-after p (version + 1) v.snapshot.words (omega (arith, below)));
+        current = ap (λ (y : View X). y.current) view;
+      }
+
+-- ---- a release to a share
+
+module _ {X : Type 0} where
+  pub may-downgrade : (may_release : Start → List ℕ → List Change → List (Entry X) → Type 0) (p f version : ℕ) (dirty : Bool) (v : View X) → IsHolding p f version dirty v
+      → IsNotOut v p → (v.start.tells ≡ true → IsClaimed v p) → PassMayRelease may_release p None v → MayDowngrade may_release v p version
+  may-downgrade may_release p f version dirty v h home claimed owner = record {
+    owns = h.owns;
+    resident = subst (λ (o : Option _). IsSome o) (sym h.stands) refl;
+    told = h.told;
+    home = home;
+    at = sym h.at;
+    first = alone-first h claimed owner;
+  }
+
+  pub downgrades : (p f version : ℕ) (dirty : Bool) (v w : View X) → IsHolding p f version dirty v → DowngradeTold p version v w → IsDowngraded p f version v w
+  downgrades p f version dirty v w h t =
+      let e = downgrade-others t (λ q. q ≡ p) refl in
+      let view = t.brings.view in
+      record {
+        done = did_store (places.State p) (word_of 1 (version + 1)) ∷ [];
+        elsewhere = elsewhere-of e;
+        mine = ap (λ (y : View X). y.mine) view;
+        group = (ap (λ (y : View X). y.pending) view, ap (λ (y : View X). y.owed) view, ap (λ (y : View X). y.next) view);
+        seat = downgrade-seat t;
+        loads = ap (λ (y : View X). loads_at y p) view;
+        sharing = record {
+          page = subst (λ (o : Origin). p < o.pages) (sym e.start) h.page;
+          frame_is = subst (λ (o : Origin). f < o.frames) (sym e.start) h.frame_is;
+          has_share = subst (λ (k : Seat). 1 ≤ k.shares) (sym (downgrade-seat t)) (omega arith);
+          stands = (record { frame = f; dirty = dirty }, ap (λ (y : View X). (put_at no_held y.held p).mapping) view ∙ h.stands, refl);
+        };
+        last = downgrade-last t;
+        steps = refl;
+        held = ap (λ (y : View X). put_at no_held y.held p) view;
+        table = λ a. (e.runs.words a.0 a.1).1;
         current = ap (λ (y : View X). y.current) view;
       }

@@ -1,12 +1,7 @@
 -- A pass that locks a page exclusively which it was reading optimistically has left that read behind.
-use Rattle.std.proofs.Common.{⊎_elim, ◌++◌, ◌<◌, ◌∙◌, ◌∷◌, ◌≡◌, ◌≤◌, ap, append_assoc, arith, Bool, inl, inr, List, None, Option, Some, subst, sym, ℕ}
-use Rattle.std.proofs.lemmas.Bool.{cases_eq}
-use Rattle.vm_core.specs.Prelude.{LOCKED, MAX_VERSION, version_of, word_of}
-use Rattle.vm_rule.specs.Prelude.{IsOlder, Open, Start}
-use Rattle.vm_rule.proofs.WordFacts.{word-state, word-version}
-use Rattle.vm_step.specs.Prelude.{Did, Release, View}
-use Rattle.vm_guard.specs.Guards.{HasLeft, IsLocked, IsReading}
-use Rattle.vm_guard.specs.Quiet.{IsSteady}
+use Rattle.vm_guard.proofs.Prelude.{ap, append_assoc, arith, Bool, cases_eq, Did, HasLeft, inl, inr, IsLocked, IsOlder, IsReading, IsSteady, List}
+use Rattle.vm_guard.proofs.Prelude.{LOCKED, MAX_VERSION, None, Open, Option, Release, Some, Start, subst, sym, version_of, View, word-state}
+use Rattle.vm_guard.proofs.Prelude.{word-version, word_of, ℕ, ⊎_elim, ◌++◌, ◌<◌, ◌∙◌, ◌∷◌, ◌≡◌, ◌≤◌}
 
 -- an open read is of no later version than the word found
 pub older-read : (found : ℕ) (o : Option Open) → IsOlder found o → (x : Open) → o ≡ Some x → x.version ≤ version_of found

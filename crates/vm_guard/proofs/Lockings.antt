@@ -1,20 +1,16 @@
--- An exclusive lock that was taken: the look, the exchange, and the load of the translation word.
-use Rattle.std.proofs.Common.{[], ◌++◌, ◌<◌, ◌∙◌, ◌∷◌, ◌≡◌, ◌≢◌, ◌≤◌, ap, eqb, inl, inr, IsSome, length, List, None, refl, Some, subst, sym, true, ℕ}
-use Rattle.std.proofs.lemmas.Bool.{cond-true, eq-eqb, or_left}
-use Rattle.vm_core.specs.Prelude.{framed, LOCKED, mapping_of, MAX_VERSION, state_of, Version, version_of, word_of}
-use Rattle.vm_rule.specs.Prelude.{did_exchange, did_load, Each, has, held_at, IsUnheld, last_of, LockTold, LockValidates, LookTold, Mapping, Open}
-use Rattle.vm_rule.specs.Prelude.{Seat, seat_of, set_if, Start, TranslationTold}
-use Rattle.vm_rule.specs.declared.view.Held.{Held}
+-- A lock or a share that was taken: the look, the exchange, and the load of the translation word.
 use Rattle.vm_rule.specs.declared.view.Place.TheVariants as places
-use Rattle.vm_rule.proofs.{Entries.each-map, Heard.each-both}
-use Rattle.vm_step.specs.Prelude.{Did, HoldsPage, IsAlone, KnowsAsBefore, KnowsSame, Origin, View}
-use Rattle.vm_step.proofs.Alone.{still-alone}
-use Rattle.vm_step.proofs.steps.Leaving.{LeavesOthers, LeavesOwn, others-then, own-then}
-use Rattle.vm_step.proofs.steps.Lock.{lock-draft, lock-held, lock-others, lock-own, lock-seat}
-use Rattle.vm_step.proofs.steps.Look.{look-holds, look-others, look-own}
-use Rattle.vm_step.proofs.steps.Translate.{tload-holds, tload-knows, tload-others, tload-own, tload-seat}
-use Rattle.vm_guard.specs.{Guards.IsHolding, Guards.IsLocked, Takes.IsToExpect}
-use Rattle.vm_guard.proofs.{Leaving.older-read, QuietSteps.alone-of, QuietSteps.elsewhere-of, Seats.validates-before}
+use Rattle.vm_guard.proofs.{Leaving.older-read, QuietSteps.alone-of, QuietSteps.elsewhere-of}
+use Rattle.vm_guard.proofs.OpenReads.{frame-some, has-lock, validates-before}
+use Rattle.vm_guard.proofs.Prelude.{[], ap, arith, cond-true, Did, did_exchange, did_load, draft_of, Each, each-both, each-map, eq-eqb, eqb, frame_of}
+use Rattle.vm_guard.proofs.Prelude.{framed, has, has_lock, HasRoom, Held, held_at, HoldsPage, inl, inr, IsAlone, IsHolding, IsLocked, IsLocking}
+use Rattle.vm_guard.proofs.Prelude.{IsSeized, IsShared, IsSome, IsToExpect, IsUnheld, knows-then, KnowsAsBefore, KnowsSame, last_of, LeavesOthers}
+use Rattle.vm_guard.proofs.Prelude.{LeavesOwn, length, List, lock-draft, lock-held, lock-others, lock-own, lock-seat, LOCKED, LockTold, LockValidates}
+use Rattle.vm_guard.proofs.Prelude.{look-holds, look-others, look-own, looked-knows, LookTold, Mapping, mapping_of, MAX_VERSION, no_held, None}
+use Rattle.vm_guard.proofs.Prelude.{none-some, one_share_more, Open, Option, or_left, Origin, others-then, own-then, put, put_at, refl, Seat, seat_of}
+use Rattle.vm_guard.proofs.Prelude.{set_if, share-brings, share-last, share-others, share-own, share-seat, ShareTold, Some, Start, state_of}
+use Rattle.vm_guard.proofs.Prelude.{still-alone, still-locking, subst, sym, tload-holds, tload-knows, tload-others, tload-own, tload-seat}
+use Rattle.vm_guard.proofs.Prelude.{TranslationTold, true, Version, version_of, View, word_of, ℕ, ◌++◌, ◌+◌, ◌<◌, ◌∙◌, ◌∷◌, ◌≡◌, ◌≢◌, ◌≤◌}
 
 -- a page of which the pass has no lock after a call that left its locks was so before
 pub unheld-same : {X : Type 0} (p : ℕ) (v u : View X) → HoldsPage v u p → u.owed ≡ v.owed → u.next ≡ v.next → IsUnheld u p → IsUnheld v p
@@ -33,70 +29,85 @@ module _ {X : Type 0} {tied : Start → ℕ → List ℕ → ℕ → List ℕ �
   pub lock-resident : state_of expects ≢ 255 → IsSome (held_at x p).mapping
   lock-resident resident = subst (λ (h : Held). IsSome h.mapping) (sym (lock-held refl t)) ((t.stands refl).resident resident)
 
--- the page is held, once its translation word was loaded
-module _ {X : Type 0} {tied : Start → ℕ → List ℕ → ℕ → List ℕ → Type 0} {p expects word found : ℕ} {m : Mapping} {u x w : View X} (to : IsToExpect word expects) (t : LockTold tied p expects expects u x) (load : TranslationTold p found x w)
-    (named : mapping_of found ≡ Some m) where
+-- a page that was locked where it stands in a frame is held
+pub seized-holding : {X : Type 0} {p version : ℕ} {m : Mapping} {v : View X} → IsSeized p version (Some m) v → IsHolding p m.frame version m.dirty v
+seized-holding {m = m} s = record { page = s.page; frame_is = s.inside m refl; below = s.below; owns = s.owns; stands = s.mapping; told = s.told; at = s.at; size = ap length s.draft ∙ s.size; free = s.free }
+
+-- the exchange that locks the page, where it was not lost
+abbrev pub lock-did : ℕ → ℕ → Did
+lock-did p expects = did_exchange (places.State p) expects expects (word_of LOCKED (version_of expects))
+
+-- what the exchange and the load of the translation word leave
+module _ {X : Type 0} {tied : Start → ℕ → List ℕ → ℕ → List ℕ → Type 0} {p expects found : ℕ} {u x w : View X} (word : ℕ) (version : version_of word ≡ version_of expects) (below : version_of expects < MAX_VERSION) (t : LockTold tied p expects expects u x)
+    (load : TranslationTold p found x w) where
+  pub lock-wrote : (lock-did p expects).wrote ≡ Some (word_of LOCKED (version_of word))
+  lock-wrote = cond-true (eqb expects expects) (Some (word_of LOCKED (version_of expects))) None (eq-eqb expects expects refl) ∙ ap (λ (n : ℕ). Some (word_of LOCKED n)) (sym version)
+
   lock-known : KnowsAsBefore x w p
   lock-known = tload-knows load p (inl (lock-owns t))
-
-  start-then : w.start ≡ x.start
-  start-then = (tload-others load (λ q. q ≡ p) refl).start
 
   held-then : held_at w p ≡ t.held
   held-then = lock-known.held ∙ lock-held refl t
 
-  holding : p < x.start.pages → IsHolding p m.frame (version_of word) m.dirty w
-  holding page = record {
-    page = subst (λ (o : Origin). p < o.pages) (sym start-then) page;
-    frame_is = subst (λ (o : Origin). m.frame < o.frames) (sym start-then) (load.inside m named);
-    below = subst (λ (n : ℕ). n < MAX_VERSION) (sym to.version) to.may_lock.version;
+  maps-then : (held_at w p).mapping ≡ mapping_of found
+  maps-then = ap (λ (h : Held). h.mapping) lock-known.held ∙ sym (load.called (or_left (seat_of x p).exclusive (seat_of x p).writing (lock-owns t)))
+
+  lock-steps : LeavesOthers (λ q. q ≡ p) (lock-did p expects ∷ did_load (places.Translation p) found ∷ []) [] u w
+  lock-steps = others-then (lock-others refl t (λ q. q ≡ p) refl) (tload-others load (λ q. q ≡ p) refl)
+
+  pub seat-then : {v : View X} → HoldsPage v u p → seat_of w p ≡ record (seat_of v p) { exclusive = true; reading = None }
+  seat-then h =
+      tload-seat load
+      ∙ ap (λ (s : Seat). record s { reading = framed s.reading (mapping_of found) }) (lock-seat refl t)
+      ∙ (λ i. record { shares = h.shares i; exclusive = true; writing = h.writing i; reading = None })
+
+  pub lock-seized : p < u.start.pages → IsSeized p (version_of word) (mapping_of found) w
+  lock-seized page = record {
+    page = subst (λ (o : Origin). p < o.pages) (sym lock-steps.start) page;
+    below = subst (λ (n : ℕ). n < MAX_VERSION) (sym version) below;
     owns = (tload-holds load p).exclusive ∙ lock-owns t;
-    stands =
-        ap (λ (h : Held). h.mapping) lock-known.held
-        ∙ sym (load.called (or_left (seat_of x p).exclusive (seat_of x p).writing (lock-owns t)))
-        ∙ named;
+    mapping = maps-then;
+    inside = λ m e. subst (λ (o : Origin). m.frame < o.frames) (sym (tload-others load (λ q. q ≡ p) refl).start) (load.inside m e);
     told = subst (λ (h : Held). h.fault ≡ h.block.count) (sym held-then) (t.stands refl).told;
-    at = ap (λ (y : Version). y.version) lock-known.last ∙ t.version ∙ sym to.version;
-    size = ap (λ (l : List ℕ). length l) (lock-known.draft ∙ lock-draft refl t) ∙ t.size;
+    at = ap (λ (y : Version). y.version) lock-known.last ∙ t.version ∙ sym version;
+    draft = lock-known.draft ∙ lock-draft refl t ∙ ap (λ (y : Version). y.words) (sym lock-known.last);
+    size = ap (λ (y : Version). length y.words) lock-known.last ∙ t.size;
+    device = λ tells none.
+        let empty : t.held.mapping ≡ None = ap (λ (h : Held). h.mapping) (sym held-then) ∙ maps-then ∙ none in
+        ap (λ (h : Held). h.block.words) held-then
+        ∙ (t.stands refl).device (ap (λ (o : Origin). o.tells) (sym lock-steps.start) ∙ tells) (λ m e. absurd (none-some m (sym empty ∙ e)))
+        ∙ ap (λ (y : Version). y.words) (sym lock-known.last);
     free = ap (has p) ((tload-own load).group.0 ∙ (lock-own refl t).group.0) ∙ t.free refl;
+    paid = ap (has p) ((tload-own load).group.1 ∙ (lock-own refl t).group.1) ∙ (t.unheld refl).paid;
   }
 
   -- behind steps that left the locks and the words, and at most another open read of the page
-  pub locked-after : {pre : List Did} {v : View X} → LeavesOthers (λ q. q ≡ p) pre [] v u → LeavesOwn v u → HoldsPage v u p → KnowsSame v u → p < v.start.pages → ((o : Open) → (seat_of v p).reading ≡ Some o → o.version ≤ version_of word)
-      → (v.start.tells ≡ true → LockValidates tied p (version_of word) (last_of x p).words v) → Each (λ (d : Did). d.at ≡ places.State p) pre → IsLocked tied p m.frame (version_of word) m.dirty v w
-  locked-after {pre = pre} {v = v} before o h same page older validates at =
-      let second : Did = did_exchange (places.State p) expects expects (word_of LOCKED (version_of expects)) in
+  pub locked-after : {m : Mapping} {pre : List Did} {v : View X} → mapping_of found ≡ Some m → LeavesOthers (λ q. q ≡ p) pre [] v u → LeavesOwn v u → HoldsPage v u p → KnowsSame v u → p < v.start.pages
+      → ((o : Open) → (seat_of v p).reading ≡ Some o → o.version ≤ version_of word) → (v.start.tells ≡ true → LockValidates tied p (version_of word) (last_of x p).words v) → Each (λ (d : Did). d.at ≡ places.State p) pre
+      → IsLocked tied p m.frame (version_of word) m.dirty v w
+  locked-after {pre = pre} {v = v} named before o h same page older validates at =
       let third : Did = did_load (places.Translation p) found in
-      let f = others-then (lock-others refl t (λ q. q ≡ p) refl) (tload-others load (λ q. q ≡ p) refl) in
-      let all = others-then before f in
+      let all = others-then before lock-steps in
       let own : LeavesOwn v w = own-then o (own-then (lock-own refl t) (tload-own load)) in
-      let written : second.wrote ≡ Some (word_of LOCKED (version_of word)) =
-      cond-true (eqb expects expects) (Some (word_of LOCKED (version_of expects))) None (eq-eqb expects expects refl) ∙ ap (λ (n : ℕ). Some (word_of LOCKED n)) (sym to.version) in
+      let seized = lock-seized (subst (λ (o : Origin). p < o.pages) (sym before.start) page) in
       record {
-        done = pre ++ second ∷ third ∷ [];
+        done = pre ++ lock-did p expects ∷ third ∷ [];
         elsewhere = elsewhere-of all;
         mine = own.mine;
         group = own.group;
         alone = alone-of all;
         before = unheld-same p v u h o.group.1 o.group.2 (t.unheld refl);
-        seat = tload-seat load ∙ ap (λ (s : Seat). record s { reading = framed s.reading (mapping_of found) }) (lock-seat refl t) ∙ (λ i. record { shares = h.shares i; exclusive = true; writing = h.writing i; reading = None });
-        holding = holding (subst (λ (o : Origin). p < o.pages) (sym ((lock-others refl t (λ q. q ≡ p) refl).start ∙ before.start)) page);
-        draft = lock-known.draft ∙ lock-draft refl t ∙ ap (λ (y : Version). y.words) (sym lock-known.last);
+        seat = seat-then h;
+        holding = seized-holding (subst (λ (o : Option Mapping). IsSeized p (version_of word) o w) named seized);
+        draft = seized.draft;
         validates = λ tells. subst (λ (y : Version). LockValidates tied p (version_of word) y.words v) (sym lock-known.last) (validates tells);
         older = older;
-        wrote = record {
-          earlier = pre;
-          step = second;
-          later = third ∷ [];
-          cut = refl;
-          place = refl;
-          wrote = written;
-        };
+        wrote = record { earlier = pre; step = lock-did p expects; later = third ∷ []; cut = refl; place = refl; wrote = lock-wrote };
         table = λ a.
             let b : IsAlone u = still-alone v u before.parts before.runs.current a in
-            (f.runs.words b.0 b.1).1.1 ∙ (λ i. set_if (written i) p (same a i));
+            (lock-steps.runs.words b.0 b.1).1.1 ∙ (λ i. set_if (lock-wrote i) p (same a i));
         current = ap (λ (y : View X). y.current) load.brings.view;
-        places_are = each-both _ pre (second ∷ third ∷ []) (each-map _ _ (λ (d : Did) is. inl is) pre at) (inl refl, (inr refl, tt));
+        places_are = each-both _ pre (lock-did p expects ∷ third ∷ []) (each-map _ _ (λ (d : Did) is. inl is) pre at) (inl refl, (inr refl, tt));
       }
 
 module _ {X : Type 0} (tied : Start → ℕ → List ℕ → ℕ → List ℕ → Type 0) where
@@ -104,7 +115,64 @@ module _ {X : Type 0} (tied : Start → ℕ → List ℕ → ℕ → List ℕ �
       → mapping_of found ≡ Some m → p < v.start.pages → IsLocked tied p m.frame (version_of word) m.dirty v w
   locked p word expects found m v u x w look to t load named page =
       let before : LeavesOthers (λ q. q ≡ p) (did_load (places.State p) word ∷ []) [] v u = look-others look (λ q. q ≡ p) refl in
-      locked-after to t load named before (look-own look) (look-holds look p) (λ a. (before.runs.words a.0 a.1).1) page (older-read word (seat_of v p).reading look.older)
+      locked-after word to.version to.may_lock.version t load named before (look-own look) (look-holds look p) (λ a. (before.runs.words a.0 a.1).1) page (older-read word (seat_of v p).reading look.older)
       (λ tells. validates-before tied p word v u look to.open_word (last_of x p).words
       (subst (λ (n : ℕ). LockValidates tied p n (last_of x p).words u) (sym to.version) (t.validates (ap (λ (o : Origin). o.tells) before.start ∙ tells) refl)))
       (refl, tt)
+
+-- ---- a share
+
+module _ {X : Type 0} {tied : Start → ℕ → List ℕ → ℕ → List ℕ → Type 0} {p word : ℕ} {u x : View X} (t : ShareTold tied p word word u x) where
+  pub share-locking : IsLocking (seat_of x p)
+  share-locking = inr (subst (λ (n : ℕ). 1 ≤ n) (sym (ap (λ (s : Seat). s.shares) (share-seat refl t))) (omega arith))
+
+  -- what the pass knew of the page, under a lock of its own, it still knows
+  share-knows : IsLocking (seat_of u p) → KnowsAsBefore u x p
+  share-knows l =
+      let view = (share-brings refl t).view in
+      record {
+        held = ap (λ (y : View X). put_at no_held y.held p) view ∙ ap (λ h. put_at no_held h p) (cond-true (has_lock (seat_of u p)) u.held (put p t.held u.held) (has-lock (seat_of u p) l));
+        draft = ap (λ (y : View X). draft_of y p) view;
+        last = share-last refl t p l;
+      }
+
+module _ {X : Type 0} (tied : Start → ℕ → List ℕ → ℕ → List ℕ → Type 0) where
+  pub shared : (p word found : ℕ) (m : Mapping) (v u x w : View X) → LookTold tied p None word v u → HasRoom word → ShareTold tied p word word u x → TranslationTold p found x w → mapping_of found ≡ Some m
+      → p < v.start.pages → IsShared tied p m.frame v w
+  shared p word found m v u x w look room t load named page =
+      let all = others-then (look-others look (λ q. q ≡ p) refl) (others-then (share-others refl t (λ q. q ≡ p) refl) (tload-others load (λ q. q ≡ p) refl)) in
+      let own : LeavesOwn v w = own-then (look-own look) (own-then (share-own refl t) (tload-own load)) in
+      let before : HoldsPage v u p = look-holds look p in
+      let locking : IsLocking (seat_of x p) = share-locking t in
+      let known : KnowsAsBefore x w p = tload-knows load p locking in
+      let seat-w : seat_of w p ≡ record (seat_of v p) { shares = (seat_of v p).shares + 1; reading = None } =
+      tload-seat load
+      ∙ ap (λ (s : Seat). record s { reading = framed s.reading (mapping_of found) }) (share-seat refl t)
+      ∙ (λ i. record { shares = before.shares i + 1; exclusive = before.exclusive i; writing = before.writing i; reading = None }) in
+      let framed-w : frame_of (put_at no_held w.held p).mapping ≡ Some m.frame = ap (λ (h : Held). frame_of h.mapping) known.held ∙ sym (load.locked locking) ∙ ap frame_of named in
+      record {
+        done = _;
+        elsewhere = elsewhere-of all;
+        mine = own.mine;
+        group = own.group;
+        alone = alone-of all;
+        seat = seat-w;
+        knows = λ l. knows-then v u w p (looked-knows look p l) (knows-then u x w p (share-knows t (still-locking v u p before l)) known);
+        sharing = record {
+          page = subst (λ (o : Origin). p < o.pages) (sym all.start) page;
+          frame_is = subst (λ (o : Origin). m.frame < o.frames) (sym (tload-others load (λ q. q ≡ p) refl).start) (load.inside m named);
+          has_share = subst (λ (n : ℕ). 1 ≤ n) (sym (ap (λ (s : Seat). s.shares) seat-w)) (omega arith);
+          stands = frame-some (put_at no_held w.held p).mapping m.frame framed-w;
+        };
+        size = ap (λ (y : Version). length y.words) known.last ∙ t.size;
+        validates = λ tells.
+            subst (λ (y : Version). LockValidates tied p y.version y.words v) (sym known.last)
+            (subst (λ (n : ℕ). LockValidates tied p n (last_of x p).words v) (sym t.version)
+            (validates-before tied p word v u look room.open_word (last_of x p).words (t.validates (ap (λ (o : Origin). o.tells) (look-others look (λ q. q ≡ p) refl).start ∙ tells) refl)));
+        current = ap (λ (y : View X). y.current) load.brings.view;
+        table = λ a.
+            let steps = all.runs.words a.0 a.1 in
+            steps.1.1.1
+            ∙ ap (λ (o : Option ℕ). set_if o p v.snapshot.words)
+            (cond-true (eqb word word) (Some (word_of (one_share_more (state_of word)) (version_of word))) None (eq-eqb word word refl) ∙ ap (λ (n : ℕ). Some (word_of (one_share_more (state_of n)) (version_of n))) steps.0);
+      }

@@ -1,18 +1,14 @@
--- What looks and loads leave of the open read of their page, and when a look leaves it in place.
-use Rattle.std.proofs.Common.{[], ⊎_elim, ◌&&◌, ◌++◌, ◌<◌, ◌||◌, ◌∙◌, ◌∷◌, ◌≡◌, ◌≢◌, ◌⊎◌, ap, arith, Bool, eqb, false, if◌then◌else◌, inl, inr}
-use Rattle.std.proofs.Common.{is_some, List, nat_lt, None, Option, refl, Some, subst, sym, true, true≢false, ℕ}
-use Rattle.std.proofs.lemmas.Bool.{cases_Bool, cases_eq, cond-false, cond-true, eq-eqb, ne_eqb}
-use Rattle.std.proofs.lemmas.Bool.Decides.{nat_tests}
-use Rattle.vm_core.specs.Prelude.{EVICTED, frame_in, frame_of, framed, is_dirty, is_readable, left_open, loads_more, LOCKED, mapping_at, mapping_of}
-use Rattle.vm_core.specs.Prelude.{open_after, open_frame, state_of, version_of}
+-- What looks and loads leave of the open read of their page, when a look leaves it in place, and which frame a load under a lock reads.
 use Rattle.vm_core.specs.declared.event.ReadIs.TheVariants as read
-use Rattle.vm_core.specs.FrameActs.{frame_or}
-use Rattle.vm_core.proofs.PageFacts.{none-some, some-same}
-use Rattle.vm_rule.specs.Prelude.{Each, frame_read_by, IsLocking, left_at, loads_at, LoadTold, LookTold, Mapping, no_held, Open, put_at, Seat}
-use Rattle.vm_rule.specs.Prelude.{seat_of, Start, translation_of, TranslationTold}
-use Rattle.vm_rule.specs.Looks.{NamesFrame}
-use Rattle.vm_step.specs.Prelude.{HoldsPage, Translation, View}
-use Rattle.vm_step.proofs.{steps.Content.load-loads, steps.Look.look-seat, steps.Translate.tload-seat}
+use Rattle.vm_core.proofs.PageFacts.{none-some}
+use Rattle.vm_guard.proofs.Prelude.{[], and_from, ap, arith, began_of, Bool, cases_Bool, cases_eq, cond-false, cond-true, Each, eq-eqb, eqb, EVICTED}
+use Rattle.vm_guard.proofs.Prelude.{false, frame_in, frame_of, frame_or, frame_read_by, framed, has_lock, HoldsPage, if◌then◌else◌, inl, inr}
+use Rattle.vm_guard.proofs.Prelude.{is_dirty, is_readable, is_some, IsLocking, kept_loads, left_at, left_open, List, loads_at, LoadsAre, LOCKED}
+use Rattle.vm_guard.proofs.Prelude.{LockValidates, look-loads, look-others, look-seat, LookTold, Mapping, mapping_at, mapping_of, NamesFrame, nat_lt}
+use Rattle.vm_guard.proofs.Prelude.{nat_tests, ne_eqb, no_held, None, Open, open_after, open_frame, Option, or_left, or_right, Origin, put_at, ReadIs}
+use Rattle.vm_guard.proofs.Prelude.{refl, Same, Seat, seat_of, Some, some-same, Start, state_of, subst, sym, Tie, tload-seat, Translation}
+use Rattle.vm_guard.proofs.Prelude.{translation_of, TranslationTold, true, true≢false, version_of, View, ℕ, ⊎_elim, ◌&&◌, ◌++◌, ◌<◌, ◌||◌, ◌∙◌, ◌∷◌}
+use Rattle.vm_guard.proofs.Prelude.{◌≡◌, ◌≢◌, ◌⊎◌}
 
 -- ---- open reads alone
 
@@ -57,12 +53,6 @@ framed-at o (Some m) = (record o { frame = frame_or o.frame m.frame }, refl, ref
 frame-or : (g : Option ℕ) (f : ℕ) → ((h : ℕ) → frame_or g f ≡ Some h → h ≡ f) → frame_or g f ≡ Some f
 frame-or None f same = refl
 frame-or (Some g) f same = ap (λ (n : ℕ). Some n) (same g refl)
-
-pub open-is : (y : Open) (version frame : ℕ) → y.version ≡ version → y.frame ≡ Some frame → Some y ≡ Some (record { version = version; frame = Some frame })
-open-is y version frame v f = λ i. Some (record { version = v i; frame = f i })
-
-pub mapped : (word frame : ℕ) → frame_in word ≡ Some frame → mapping_of word ≡ Some (record { frame = frame; dirty = is_dirty word })
-mapped word frame e = ap (λ o. mapping_at o (is_dirty word)) e
 
 pub mapped-frame : (word : ℕ) → frame_of (mapping_of word) ≡ frame_in word
 mapped-frame word = at-frame (frame_in word) (is_dirty word)
@@ -132,11 +122,6 @@ module _ {X : Type 0} where
     pub looked-same : (said : Option X) (found : ℕ) (v w : View X) → LookTold tied p said found v w → left_at found (seat_of v p).reading ≡ read.Same → (seat_of w p).reading ≡ (seat_of v p).reading
     looked-same said found v w t same = looked-reading said found v w t ∙ ap (λ l. open_after l (seat_of v p).reading (version_of found)) same
 
-  -- a word that is loaded through an open read with a frame is the last of its loads
-  pub loaded-loads : (p f i found g : ℕ) (v w : View X) → LoadTold p f i found v w → open_frame (seat_of v p).reading ≡ Some g → loads_at w p ≡ loads_at v p ++ (i, found) ∷ []
-  loaded-loads p f i found g v w t frame =
-      load-loads t ∙ ap (λ o. loads_more o (loads_at v p) i found) frame
-
   -- the open read after its page's translation word was loaded, and the frame that a later look at the same version ties it to
   pub translated-reading : (p word : ℕ) (v w : View X) (o : Open) → TranslationTold p word v w → (seat_of v p).reading ≡ Some o
       → (y : Open) × ((seat_of w p).reading ≡ Some y) × (y.version ≡ o.version) × ((k : Mapping) → mapping_of word ≡ Some k → y.frame ≡ frame_or o.frame k.frame)
@@ -161,10 +146,6 @@ module _ {X : Type 0} where
       keeps None = refl
       keeps (Some k) = refl
 
-  pub translated-list : (p word : ℕ) (v w : View X) (o : Open) → TranslationTold p word v w → (seat_of v p).reading ≡ Some o → w.translations ≡ record { page = p; version = o.version; word = word } ∷ v.translations
-  translated-list p word v w o t e =
-      ap (λ (x : View X). x.translations) t.brings.view ∙ ap (λ r. translation_of p word r ++ v.translations) e
-
   -- an open read at the version found gets the frame that the translation word names, and a look at that version finds it in place
   pub named : (tied : Start → ℕ → List ℕ → ℕ → List ℕ → Type 0) (p word seen : ℕ) (v w z : View X) (o : Open) → (seat_of v p).reading ≡ Some o → TranslationTold p word v w → LookTold tied p None seen w z
       → is_readable (state_of seen) ≡ true → o.version ≡ version_of seen
@@ -173,10 +154,58 @@ module _ {X : Type 0} where
       let y = translated-reading p word v w o t reading in
       let same : left_at seen (seat_of w p).reading ≡ read.Same = ap (left_at seen) y.1 ∙ left-same seen y.0 readable (y.2 ∙ at) in
       let all : Each (λ (t : Translation). t.page ≡ p → t.version ≡ version_of seen → NamesFrame w.start.frames t.word (seat_of w p).reading) (record { page = p; version = o.version; word = word } ∷ v.translations)
-      = subst (λ ts. Each (λ (t : Translation). t.page ≡ p → t.version ≡ version_of seen → NamesFrame w.start.frames t.word (seat_of w p).reading) ts) (translated-list p word v w o t reading) (l.frames same) in
+      = subst (λ ts. Each (λ (t : Translation). t.page ≡ p → t.version ≡ version_of seen → NamesFrame w.start.frames t.word (seat_of w p).reading) ts) (ap (λ (x : View X). x.translations) t.brings.view ∙ ap (λ r. translation_of p word r ++ v.translations) reading) (l.frames same) in
       let n : NamesFrame w.start.frames word (seat_of w p).reading = all.0 refl at in
       let is : frame_in word ≡ Some n.frame = sym (mapped-frame word) ∙ n.names in
       let own : (h : ℕ) → y.0.frame ≡ Some h → h ≡ n.frame = λ h e. n.same h (ap open_frame y.1 ∙ e) in
-      let got : y.0.frame ≡ frame_or o.frame n.frame = y.3 (record { frame = n.frame; dirty = is_dirty word }) (mapped word n.frame is) in
+      let got : y.0.frame ≡ frame_or o.frame n.frame = y.3 (record { frame = n.frame; dirty = is_dirty word }) (ap (λ m. mapping_at m (is_dirty word)) is) in
       let frame : y.0.frame ≡ Some n.frame = got ∙ frame-or o.frame n.frame (λ h e. own h (got ∙ e)) in
-      (n.frame, is, n.inside, looked-same tied p None seen w z l same ∙ y.1 ∙ open-is y.0 (version_of seen) n.frame (y.2 ∙ at) frame)
+      (n.frame, is, n.inside, looked-same tied p None seen w z l same ∙ y.1 ∙ (λ i. Some (record { version = (y.2 ∙ at) i; frame = frame i })))
+
+-- ---- under a lock
+
+-- what holds of each of both parts
+pub each-parts : {A : Type 0} (P : A → Type 0) (l m : List A) → Each P (l ++ m) → Each P l × Each P m
+each-parts P [] m h = (tt, h)
+each-parts P (x ∷ l) m h = let k = each-parts P l m h.1 in ((h.0, k.0), k.1)
+
+-- a frame is that of a mapping
+pub frame-some : (o : Option Mapping) (f : ℕ) → frame_of o ≡ Some f → (m : Mapping) × (o ≡ Some m) × (m.frame ≡ f)
+frame-some None f e = cc
+frame-some (Some m) f e = (m, refl, cc)
+
+pub has-lock : (s : Seat) → IsLocking s → has_lock s ≡ true
+has-lock s l =
+    ⊎_elim
+    (λ e. or_left s.exclusive (s.writing || nat_lt 0 s.shares) e)
+    (λ k. or_right s.exclusive (s.writing || nat_lt 0 s.shares) (or_right s.writing (nat_lt 0 s.shares) (grind (arith, nat_tests))))
+    l
+
+module _ {X : Type 0} where
+  -- a load of a page that the pass has locked reads the page's frame
+  pub frame-read : (v : View X) (p : ℕ) (m : Mapping) → IsLocking (seat_of v p) → (put_at no_held v.held p).mapping ≡ Some m → frame_read_by v p ≡ Some m.frame
+  frame-read v p m l e =
+      cond-true (((seat_of v p).exclusive || nat_lt 0 (seat_of v p).shares) && is_some (put_at no_held v.held p).mapping) (frame_of (put_at no_held v.held p).mapping) (open_frame (seat_of v p).reading)
+      (and_from ((seat_of v p).exclusive || nat_lt 0 (seat_of v p).shares) (is_some (put_at no_held v.held p).mapping) (⊎_elim (λ e. or_left (seat_of v p).exclusive (nat_lt 0 (seat_of v p).shares) e) (λ k. or_right (seat_of v p).exclusive (nat_lt 0 (seat_of v p).shares) (grind (arith, nat_tests))) l) (ap is_some e))
+      ∙ ap frame_of e
+
+  module _ (tied : Start → ℕ → List ℕ → ℕ → List ℕ → Type 0) (p found : ℕ) (v w : View X) (t : LookTold tied p None found v w) where
+    module _ (open_word : is_readable (state_of found) ≡ true) where
+      -- an open read at the version found is as it was
+      read-stays : (o : Open) → (seat_of v p).reading ≡ Some o → o.version ≡ version_of found → ((seat_of w p).reading ≡ Some o) × (loads_at w p ≡ loads_at v p)
+      read-stays o e n =
+          let same : left_at found (seat_of v p).reading ≡ Same = ap (left_at found) e ∙ left-same found o open_word n in
+          (looked-same tied p None found v w t same ∙ e, look-loads t ∙ ap (λ (r : ReadIs). kept_loads r (loads_at v p)) same)
+
+      -- what is validated after the look was there before it
+      pub validates-before : (words : List ℕ) → LockValidates tied p (version_of found) words w → LockValidates tied p (version_of found) words v
+      validates-before words val =
+          let f = look-others t (λ q. q ≡ p) refl in
+          record {
+            valid = λ o e n. let k : ((seat_of w p).reading ≡ Some o) × (loads_at w p ≡ loads_at v p) = read-stays o e n in subst (LoadsAre words) k.1 (val.valid o k.0 n);
+            holds =
+                subst (λ (o : Origin). Each (λ (d : Tie). d.page ≡ p → d.version ≡ version_of found → tied (began_of o) d.of d.words p words) v.ties) f.start
+                (each-parts (λ (d : Tie). d.page ≡ p → d.version ≡ version_of found → tied (began_of w.start) d.of d.words p words) f.ties.0 v.ties
+                (subst (Each (λ (d : Tie). d.page ≡ p → d.version ≡ version_of found → tied (began_of w.start) d.of d.words p words)) f.ties.1 val.holds)).1;
+            itself = subst (λ (o : Origin). tied (began_of o) p words p words) f.start val.itself;
+          }

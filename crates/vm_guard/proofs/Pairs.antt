@@ -1,17 +1,9 @@
 -- A caller of fresh pages and groups: which guards it got, that it may release them, and what the pages have then.
-use Rattle.std.proofs.Common.{[], ◌++◌, ◌+◌, ◌||◌, ◌∙◌, ◌∷◌, ◌≡◌, ◌≢◌, ap, arith, Bool, false, inl, inr, length, List, None, refl, replicate}
-use Rattle.std.proofs.Common.{slice_set, subst, suc, sym, true, ℕ}
-use Rattle.std.proofs.lemmas.Bool.{ne_eqb}
-use Rattle.std.proofs.lemmas.List.{length-append}
-use Rattle.std.proofs.lemmas.Option.{none-some}
-use Rattle.vm_core.specs.Prelude.{Version}
-use Rattle.vm_rule.specs.Prelude.{began_of, Change, changes_of, draft_of, Entry, has, numbers, Start}
-use Rattle.vm_rule.proofs.Facts.{has-both}
-use Rattle.vm_step.specs.Prelude.{IsAlone, View}
-use Rattle.vm_step.proofs.{Alone.still-alone, Numbers.numbers-has}
-use Rattle.vm_guard.specs.{declared.exclusive.ExclusiveGuard.ExclusiveGuard, Fresh.AreFresh, Guards.IsHolding, Guards.IsSet, Pairs.HasFirst}
-use Rattle.vm_guard.specs.Groups.{AreReleased, MayReleaseAll, pids_of}
-use Rattle.vm_guard.proofs.GuardSteps.{still-held}
+use Rattle.vm_guard.proofs.{Amid.amid-alone, GuardSteps.still-held}
+use Rattle.vm_guard.proofs.Prelude.{[], ap, AreFresh, AreReleased, arith, began_of, Bool, Change, changes_of, draft_of, Entry, ExclusiveGuard, false}
+use Rattle.vm_guard.proofs.Prelude.{has, has-both, HasFirst, inl, inr, IsAlone, IsHolding, IsSet, length, length-append, List, MayReleaseAll, ne_eqb}
+use Rattle.vm_guard.proofs.Prelude.{None, none-some, numbers, numbers-has, pids_of, refl, replicate, slice_set, Start, still-alone, subst, suc, sym}
+use Rattle.vm_guard.proofs.Prelude.{true, Version, View, ℕ, ◌++◌, ◌+◌, ◌||◌, ◌∙◌, ◌∷◌, ◌≡◌, ◌≢◌}
 
 pids-many : (gs : List ExclusiveGuard) → length (pids_of gs) ≡ length gs
 pids-many [] = refl
@@ -56,8 +48,8 @@ module _ {X : Type 0} where
     pids : (g1.pid ≡ x) × (g2.pid ≡ x + 1)
     pids = pids-both x g1 g2 f.guards
 
-    pub apart-pair : g1.pid ≢ g2.pid
-    apart-pair e = absurd (let p = pids.0 in let q = pids.1 in omega (arith, e, p, q))
+    apart-pair : g1.pid ≢ g2.pid
+    apart-pair e = apart-of x g1 g2 f.guards (sym e)
 
     in-first : has g1.pid (numbers x 2) ≡ true
     in-first = numbers-has 2 x g1.pid (let p = pids.0 in omega (arith, p)) (let p = pids.0 in omega (arith, p))
@@ -65,44 +57,26 @@ module _ {X : Type 0} where
     in-second : has g2.pid (numbers x 2) ≡ true
     in-second = numbers-has 2 x g2.pid (let q = pids.1 in omega (arith, q)) (let q = pids.1 in omega (arith, q))
 
-    owed-3 : (p : ℕ) → has p (numbers x 2) ≡ true → has p w3.owed ≡ true
-    owed-3 p e = ap (has p) (s2.group.1 ∙ s1.group.1 ∙ f.owed) ∙ has-both p (numbers x 2) v.owed ∙ ap (λ k. k || has p v.owed) e
-
-    pub out-3 : v.out ≡ None → w3.out ≡ None
-    out-3 none = s2.elsewhere.steady.out ∙ s1.elsewhere.steady.out ∙ f.amid.out ∙ none
-
     pub may-pair : (may_release : Start → List ℕ → List Change → List (Entry X) → Type 0) → IsHolding g1.pid g1.frame g1.version true w2 → IsHolding g2.pid g2.frame g2.version true w3 → v.out ≡ None → may_release (began_of w3.start) w3.owed (changes_of w3 (g1.pid ∷ g2.pid ∷ [])) [] → MayReleaseAll may_release (record g1 { dirty = true } ∷ record g2 { dirty = true } ∷ []) None w3
-    may-pair may_release h1 h2 none owner = record {
-      held = (holding-beside g1.pid g1.frame g1.version true g2.pid g2.frame g2.dirty 0 b w2 w3 h1 apart-pair s2, (h2, tt));
-      apart = (ap (λ k. k || false) (ne_eqb g1.pid g2.pid apart-pair), (refl, tt));
-      home = ((λ o e. absurd (none-some o (sym (out-3 none) ∙ e))), ((λ o e. absurd (none-some o (sym (out-3 none) ∙ e))), tt));
-      claimed = λ t. (inr (inr (inr (owed-3 g1.pid in-first))), (inr (inr (inr (owed-3 g2.pid in-second))), tt));
-      owner = λ t. inr owner;
-    }
+    may-pair may_release h1 h2 none owner =
+        let out : w3.out ≡ None = s2.elsewhere.steady.out ∙ s1.elsewhere.steady.out ∙ f.amid.out ∙ none in
+        let owed : (p : ℕ) → has p (numbers x 2) ≡ true → has p w3.owed ≡ true = λ p e. ap (has p) (s2.group.1 ∙ s1.group.1 ∙ f.owed) ∙ has-both p (numbers x 2) v.owed ∙ ap (λ k. k || has p v.owed) e in
+        record {
+          held = (holding-beside g1.pid g1.frame g1.version true g2.pid g2.frame g2.dirty 0 b w2 w3 h1 apart-pair s2, (h2, tt));
+          apart = (ap (λ k. k || false) (ne_eqb g1.pid g2.pid apart-pair), (refl, tt));
+          home = ((λ o e. absurd (none-some o (sym out ∙ e))), ((λ o e. absurd (none-some o (sym out ∙ e))), tt));
+          claimed = λ t. (inr (inr (inr (owed g1.pid in-first))), (inr (inr (inr (owed g2.pid in-second))), tt));
+          owner = λ t. inr owner;
+        }
 
-    module _ (w : View X) (r : AreReleased (record g1 { dirty = true }) (record g2 { dirty = true } ∷ []) None w3 w) (tells : v.start.tells ≡ true) (alone : IsAlone v) where
-      alone-1 : IsAlone w1
-      alone-1 = still-alone v w1 f.amid.parts f.amid.alone.current alone
-
-      alone-2 : IsAlone w2
-      alone-2 = still-alone w1 w2 s1.elsewhere.steady.parts s1.elsewhere.steady.alone.current alone-1
-
-      alone-3 : IsAlone w3
-      alone-3 = still-alone w2 w3 s2.elsewhere.steady.parts s2.elsewhere.steady.alone.current alone-2
-
-      first-draft : draft_of w3 g1.pid ≡ slice_set (replicate 64 0) 0 a
-      first-draft =
-          (s2.elsewhere.knows g1.pid apart-pair (inl (s1.holds.exclusive ∙ f.held.0.owns))).draft
-          ∙ s1.draft
-          ∙ ap (λ (l : List ℕ). slice_set l 0 a) (f.zero tells g1.pid in-first).0
-
-      second-draft : draft_of w3 g2.pid ≡ slice_set (replicate 64 0) 0 b
-      second-draft =
-          s2.draft
-          ∙ ap (λ (l : List ℕ). slice_set l 0 b) ((s1.elsewhere.knows g2.pid (λ e. apart-pair (sym e)) (inl f.held.1.0.owns)).draft ∙ (f.zero tells g2.pid in-second).0)
-
-      pub written-pair : HasFirst g1.pid a w × HasFirst (g1.pid + 1) b w
-      written-pair = (
-        ap (λ (k : Version). k.words) (r.last alone-3).0 ∙ first-draft,
-        subst (λ n. HasFirst n b w) (let p = pids.0 in let q = pids.1 in omega (arith, p, q)) (ap (λ (k : Version). k.words) (r.last alone-3).1.0 ∙ second-draft),
-      )
+    pub written-pair : (w : View X) → AreReleased (record g1 { dirty = true }) (record g2 { dirty = true } ∷ []) None w3 w → v.start.tells ≡ true → IsAlone v → HasFirst g1.pid a w × HasFirst (g1.pid + 1) b w
+    written-pair w r tells alone =
+        let alone-2 = still-alone w1 w2 s1.elsewhere.steady.parts s1.elsewhere.steady.alone.current (amid-alone f.amid alone) in
+        let last = r.last (still-alone w2 w3 s2.elsewhere.steady.parts s2.elsewhere.steady.alone.current alone-2) in
+        let first : draft_of w3 g1.pid ≡ slice_set (replicate 64 0) 0 a =
+        (s2.elsewhere.knows g1.pid apart-pair (inl (s1.holds.exclusive ∙ f.held.0.owns))).draft ∙ s1.draft ∙ ap (λ (l : List ℕ). slice_set l 0 a) (f.zero tells g1.pid in-first).0 in
+        let second : draft_of w3 g2.pid ≡ slice_set (replicate 64 0) 0 b =
+        s2.draft ∙ ap (λ (l : List ℕ). slice_set l 0 b) ((s1.elsewhere.knows g2.pid (λ e. apart-pair (sym e)) (inl f.held.1.0.owns)).draft ∙ (f.zero tells g2.pid in-second).0) in (
+          ap (λ (k : Version). k.words) last.0 ∙ first,
+          subst (λ n. HasFirst n b w) (let p = pids.0 in let q = pids.1 in omega (arith, p, q)) (ap (λ (k : Version). k.words) last.1.0 ∙ second),
+        )

@@ -1,26 +1,19 @@
 -- What each kind of step leaves of a view that it does not speak of, in the words of the guards, and that this holds of several steps in a row.
-use Rattle.std.proofs.Common.{[], ◌++◌, ◌∙◌, ◌∷◌, ◌≡◌, ◌≢◌, ap, append_assoc, List, None, Option, refl, sym, ℕ}
-use Rattle.vm_core.specs.Prelude.{LOCKED, one_share_more, state_of, version_of, word_of}
 use Rattle.vm_core.specs.declared.event.ReadIs.TheVariants as read
-use Rattle.vm_rule.specs.Prelude.{Brings, did_exchange, did_load, entries_of, IsLocking, last_of, left_at, LoadTold, locked_view, LockTold, LookTold}
-use Rattle.vm_rule.specs.Prelude.{MarkTold, ReadIs, seat_of, shared_view, ShareTold, Start, TranslationTold, where_same}
 use Rattle.vm_rule.specs.declared.view.Place.TheVariants as places
-use Rattle.vm_step.specs.Prelude.{Did, HoldsPage, KnowsAsBefore, Release, StaysAlone, Tie, View}
-use Rattle.vm_step.proofs.Alone.{runs-then, stays-alone}
-use Rattle.vm_step.proofs.Asides.{alone-then, holds-then, knows-then, reads-then, starts-then, still-locking}
-use Rattle.vm_step.proofs.steps.Content.{load-holds, load-knows, load-others, load-own}
-use Rattle.vm_step.proofs.steps.Leaving.{holds-still, LeavesOthers, LeavesOwn, others-none, others-still}
-use Rattle.vm_step.proofs.steps.Look.{look-holds, look-others, look-own, look-says, looked-knows}
-use Rattle.vm_step.proofs.steps.Translate.{tload-holds, tload-knows, tload-others, tload-own}
-use Rattle.vm_step.proofs.steps.Unchanged.{lost-brings, still-holds, still-knows, still-own}
-use Rattle.vm_guard.specs.{Guards.IsElsewhere, Quiet.IsQuiet, Quiet.IsSteady}
+use Rattle.vm_guard.proofs.Prelude.{[], alone-then, ap, append_assoc, Brings, Did, did_exchange, did_load, entries_of, holds-still, holds-then}
+use Rattle.vm_guard.proofs.Prelude.{HoldsPage, IsElsewhere, IsLocking, IsQuiet, IsSteady, knows-then, KnowsAsBefore, last_of, LeavesOthers, LeavesOwn}
+use Rattle.vm_guard.proofs.Prelude.{left_at, List, load-holds, load-knows, load-others, load-own, LoadTold, LOCKED, locked_view, LockTold, look-holds}
+use Rattle.vm_guard.proofs.Prelude.{look-others, look-own, look-says, looked-knows, LookTold, lost-brings, None, one_share_more, Option, others-none}
+use Rattle.vm_guard.proofs.Prelude.{others-still, ReadIs, reads-then, refl, Release, runs-then, seat_of, shared_view, ShareTold, Start, starts-then}
+use Rattle.vm_guard.proofs.Prelude.{state_of, stays-alone, StaysAlone, still-holds, still-knows, still-locking, still-own, sym, Tie, tload-holds}
+use Rattle.vm_guard.proofs.Prelude.{tload-knows, tload-others, tload-own, TranslationTold, version_of, View, where_same, word_of, ℕ, ◌++◌, ◌∙◌, ◌∷◌}
+use Rattle.vm_guard.proofs.Prelude.{◌≡◌, ◌≢◌}
 
 -- the other one, where the read does not stay
 pub where-other : {A : Type 0} (left : ReadIs) (x y : A) → left ≢ read.Same → where_same left x y ≡ y
 where-other read.Same x y ne = absurd (ne refl)
-where-other read.Opened x y ne = refl
-where-other read.Moved x y ne = refl
-where-other read.Closed x y ne = refl
+where-other left x y ne = refl
 
 module _ {X : Type 0} where
   -- ---- one after the other
@@ -118,12 +111,8 @@ module _ {X : Type 0} where
   load-quiet p f i found v w t = quiet-of (load-others t (λ q. q ≡ p) refl) (load-own t) (load-holds t) (load-knows t)
 
   -- a step that changes nothing
-  still-quiet : {p : ℕ} {did : Did} {v w : View X} → Brings did [] [] v v w → IsQuiet p (did ∷ []) v w
+  pub still-quiet : {p : ℕ} {did : Did} {v w : View X} → Brings did [] [] v v w → IsQuiet p (did ∷ []) v w
   still-quiet b = quiet-of (others-still b) (still-own b) (still-holds b) (still-knows b)
-
-  -- a mark is taken away, or is not since the word was another
-  pub mark-quiet : (p expects found new : ℕ) (v w : View X) → MarkTold p expects found new v w → IsQuiet p (did_exchange (places.State p) expects found new ∷ []) v w
-  mark-quiet p expects found new v w t = still-quiet t.brings
 
   -- a lock that was lost
   pub lock-lost : (tied : Start → ℕ → List ℕ → ℕ → List ℕ → Type 0) (p expects found : ℕ) (v w : View X) → found ≢ expects → LockTold tied p expects found v w

@@ -1,16 +1,10 @@
 -- An open read stays as it is over steps that leave its page, and over loads of its words.
-use Rattle.std.proofs.Common.{[], ◌++◌, ◌+◌, ◌<◌, ◌∙◌, ◌∷◌, ◌≡◌, ◌≢◌, ap, append_assoc, arith, length, List, None, refl, slice_set, subst, suc, sym}
-use Rattle.std.proofs.Common.{take, ℕ}
-use Rattle.std.proofs.lemmas.List.{length-take-le, take_more_set}
-use Rattle.vm_core.specs.Prelude.{open_frame}
-use Rattle.vm_rule.specs.Prelude.{did_load, IsLocking, loads_at, LoadTold, no_held, put_at, seat_of}
 use Rattle.vm_rule.specs.declared.view.Place.TheVariants as places
-use Rattle.vm_rule.proofs.{Entries.append-none, Heard.each-both}
-use Rattle.vm_step.specs.Prelude.{Did, HoldsPage, Release, View}
-use Rattle.vm_step.proofs.{Alone.still-alone, steps.Content.load-seat}
-use Rattle.vm_guard.specs.Guards.{IsElsewhere, IsReading, Loads, placed}
-use Rattle.vm_guard.specs.Quiet.{IsQuiet}
-use Rattle.vm_guard.proofs.OpenReads.{loaded-loads, still-read}
+use Rattle.vm_guard.proofs.OpenReads.{still-read}
+use Rattle.vm_guard.proofs.Prelude.{[], ap, append-none, append_assoc, arith, Did, did_load, each-both, HoldsPage, IsElsewhere, IsLocking, IsQuiet}
+use Rattle.vm_guard.proofs.Prelude.{IsReading, length, length-take-le, List, load-loads, load-seat, Loads, loads_at, loads_more, LoadTold, no_held}
+use Rattle.vm_guard.proofs.Prelude.{None, open_frame, placed, put_at, refl, Release, seat_of, slice_set, still-alone, subst, suc, sym, take}
+use Rattle.vm_guard.proofs.Prelude.{take_more_set, View, ℕ, ◌++◌, ◌+◌, ◌<◌, ◌∙◌, ◌∷◌, ◌≡◌, ◌≢◌}
 use Rattle.vm_guard.proofs.QuietSteps.{load-quiet, quiet-none, quiet-then}
 
 -- ---- words with their places
@@ -51,7 +45,7 @@ module _ {X : Type 0} (p word frame : ℕ) where
         done = did_load (places.Content frame i) found ∷ [];
         quiet = quiet;
         reads = reading-kept v w r quiet.steady.start (quiet.holds p) (λ l. (quiet.knows p l).held) (ap (λ s. s.reading) (load-seat t p));
-        loads = loaded-loads p frame i found frame v w t (ap open_frame r.reading);
+        loads = load-loads t ∙ ap (λ o. loads_more o (loads_at v p) i found) (ap open_frame r.reading);
         table = λ a. (quiet.steady.alone.words a.0 a.1).1;
         leaves = (refl, tt);
       }

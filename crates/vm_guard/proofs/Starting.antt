@@ -1,22 +1,17 @@
 -- The start of an optimistic guard: what its looks, the mark that it takes away and its load of the translation word prove of each answer.
-use Rattle.std.proofs.Common.{[], ⊎_elim, ◌++◌, ◌<◌, ◌∙◌, ◌∷◌, ◌≡◌, ◌≢◌, ◌≤◌, ◌⊎◌, ap, append_assoc, arith, inl, inr, List, None, refl, Some, subst}
-use Rattle.std.proofs.Common.{sym, true, ℕ}
-use Rattle.std.proofs.lemmas.Bool.{cases_eq}
-use Rattle.vm_core.specs.Prelude.{EVICTED, frame_in, frame_of, is_readable, kept_loads, LOCKED, open_frame, state_of, version_of}
 use Rattle.vm_core.specs.declared.event.ReadIs.TheVariants as opens
-use Rattle.vm_core.proofs.PageFacts.{none-some, some-same}
-use Rattle.vm_rule.specs.Prelude.{at_state, did_load, Each, IsLocking, IsOlder, IsSince, left_at, loads_at, LookTold, Open, seat_of, Start}
-use Rattle.vm_rule.specs.Prelude.{TranslationTold}
+use Rattle.vm_core.proofs.PageFacts.{none-some}
 use Rattle.vm_rule.specs.declared.view.Place.TheVariants as places
-use Rattle.vm_step.specs.Prelude.{AreQuiet, Did, NoneExpected, NoWord, View}
-use Rattle.vm_step.specs.declared.saw.At.TheVariants as ats
 use Rattle.vm_step.specs.Evidence.Begins.{read}
-use Rattle.vm_step.proofs.{Asides.still-locking, steps.Look.look-loads, steps.Translate.tload-loads}
-use Rattle.vm_guard.specs.{Denied.AgainOrNeed, Denied.IsDenied, Quiet.IsQuiet}
+use Rattle.vm_step.specs.declared.saw.At.TheVariants as ats
 use Rattle.vm_guard.specs.declared.deny.Deny.TheVariants as denies
-use Rattle.vm_guard.specs.Guards.{BeginsReading, HasLeft, IsReading, IsUnmarked}
-use Rattle.vm_guard.proofs.OpenReads.{holds-back, left-same, looked-open, looked-same, mapped-frame, named, reads-by, translated-keeps}
-use Rattle.vm_guard.proofs.OpenReads.{translated-reading}
+use Rattle.vm_guard.proofs.OpenReads.{each-parts, holds-back, left-same, looked-open, looked-same, mapped-frame, named, readable-state, reads-by}
+use Rattle.vm_guard.proofs.OpenReads.{translated-keeps, translated-reading}
+use Rattle.vm_guard.proofs.Prelude.{[], AgainOrNeed, ap, append_assoc, AreQuiet, arith, at_state, BeginsReading, cases_eq, Did, did_load, Each}
+use Rattle.vm_guard.proofs.Prelude.{EVICTED, frame_in, frame_of, HasLeft, inl, inr, is_readable, IsDenied, IsLocking, IsOlder, IsQuiet, IsReading}
+use Rattle.vm_guard.proofs.Prelude.{IsSince, IsUnmarked, kept_loads, left_at, List, loads_at, LOCKED, look-loads, LookTold, None, NoneExpected}
+use Rattle.vm_guard.proofs.Prelude.{NoWord, Open, open_frame, refl, seat_of, Some, some-same, Start, state_of, still-locking, subst, sym, tload-loads}
+use Rattle.vm_guard.proofs.Prelude.{TranslationTold, true, version_of, View, ℕ, ⊎_elim, ◌++◌, ◌<◌, ◌∙◌, ◌∷◌, ◌≡◌, ◌≢◌, ◌≤◌, ◌⊎◌}
 use Rattle.vm_guard.proofs.QuietSteps.{look-quiet, quiet-then, translation-quiet}
 use Rattle.vm_guard.proofs.Reading.{reading-kept}
 use Rattle.vm_guard.proofs.Sure.{look-current, moved-words, start-known, start-words}
@@ -24,13 +19,7 @@ use Rattle.vm_guard.proofs.Unmarking.{load-unmarks, quiet-foreign, unmarking-qui
 
 -- a fact of a step in the middle
 pub each-at : {A : Type 0} (P : A → Type 0) (l : List A) (d : A) (m : List A) → Each P (l ++ d ∷ m) → P d
-each-at P [] d m h = h.0
-each-at P (x ∷ l) d m h = each-at P l d m h.1
-
--- and of those before
-each-front : {A : Type 0} (P : A → Type 0) (l m : List A) → Each P (l ++ m) → Each P l
-each-front P [] m h = tt
-each-front P (d ∷ l) m h = (h.0, each-front P l m h.1)
+each-at P l d m h = (each-parts P l (d ∷ m) h).1.0
 
 -- the word seen agrees with those that the step found and left
 abbrev Agrees : ℕ → ℕ → Did → Type 0
@@ -79,17 +68,23 @@ module _ {X : Type 0} (tied : Start → ℕ → List ℕ → ℕ → List ℕ �
         }
 
     -- a page that was not Evicted is not at the same version later
-    pub still-resident : state_of first ≢ EVICTED → version_of seen ≡ version_of first → state_of seen ≢ EVICTED
+    still-resident : state_of first ≢ EVICTED → version_of seen ≡ version_of first → state_of seen ≢ EVICTED
     still-resident resident at gone =
         let before : x.log ≡ ((u.log ++ did_load (places.State p) first ∷ []) ++ c.done) ++ did_load (places.Translation p) word ∷ []
         = (translation-quiet p word y x t).steady.log
         ∙ ap (λ (g : List Did). g ++ did_load (places.Translation p) word ∷ []) (c.quiet.steady.log ∙ ap (λ (g : List Did). g ++ c.done) (look-quiet tied p first u v l).steady.log) in
         let all = subst (λ g. Each (Agrees p seen) g) before m.since in
-        let near = each-front (Agrees p seen) (u.log ++ did_load (places.State p) first ∷ []) c.done (each-front (Agrees p seen) ((u.log ++ did_load (places.State p) first ∷ []) ++ c.done) (did_load (places.Translation p) word ∷ []) all) in
+        let near = (each-parts (Agrees p seen) (u.log ++ did_load (places.State p) first ∷ []) c.done (each-parts (Agrees p seen) ((u.log ++ did_load (places.State p) first ∷ []) ++ c.done) (did_load (places.Translation p) word ∷ []) all).0).0 in
         let since = each-at (Agrees p seen) u.log (did_load (places.State p) first) [] near in
         resident ((since refl).0.2 gone (sym at))
 
-    module _ (readable : is_readable (state_of first) ≡ true) (still : is_readable (state_of seen) ≡ true) (at : version_of seen ≡ version_of first) where
+    module _ (small : state_of first < 256) (unlocked : state_of first ≢ LOCKED) (resident : state_of first ≢ EVICTED) (small-seen : state_of seen < 256) (unlocked-seen : state_of seen ≢ LOCKED) (at : version_of seen ≡ version_of first) where
+      readable : is_readable (state_of first) ≡ true
+      readable = readable-state (state_of first) small unlocked resident
+
+      still : is_readable (state_of seen) ≡ true
+      still = readable-state (state_of seen) small-seen unlocked-seen (still-resident resident at)
+
       names : (f : ℕ) × (frame_in word ≡ Some f) × (f < x.start.frames) × ((seat_of w p).reading ≡ Some (record { version = version_of seen; frame = Some f }))
       names =
           let o = looked-open tied p None first u v l readable in

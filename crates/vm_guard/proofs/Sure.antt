@@ -1,74 +1,52 @@
 -- A pass that is alone finds the words that it knows, so its calls are denied for no other reason than these words.
-use Rattle.std.proofs.Common.{[], ⊎_elim, ◌<◌, ◌∙◌, ◌∷◌, ◌≡◌, ◌≢◌, ◌≤◌, ◌⊎◌, ap, arith, eqb, inl, inr, length, List, None, Option, refl, slice_index}
-use Rattle.std.proofs.Common.{slice_set, Some, subst, sym, true, true≢false, ℕ}
-use Rattle.std.proofs.lemmas.Bool.{cases_lt, cond-false, cond-true, eq-eqb, ne_eqb}
-use Rattle.std.proofs.lemmas.List.{get_or-set_same, get_or_past, length-set, set-get_or}
-use Rattle.vm_core.specs.Prelude.{is_readable, LOCKED, MARKED, MAX_VERSION, MayLock, MayShare, state_of, UNLOCKED, version_of, word_of}
-use Rattle.vm_rule.specs.Prelude.{did_exchange, did_load, LockTold, LookTold, set_if, ShareTold, Start, TranslationTold}
 use Rattle.vm_rule.specs.declared.view.Place.TheVariants as places
-use Rattle.vm_rule.proofs.WordFacts.{bare-state, bare-version, version-within, word-state, word-version}
-use Rattle.vm_step.specs.Prelude.{Did, Follows, IsAlone, Origin, View}
-use Rattle.vm_step.proofs.Alone.{found-known, same-word, still-alone, words-known}
-use Rattle.vm_guard.specs.{declared.deny.Deny.Deny, Guards.AreUnmarking, Guards.IsUnmarked, Quiet.IsQuiet, Takes.SaysWhy}
 use Rattle.vm_guard.specs.declared.deny.Deny.TheVariants as denies
-use Rattle.vm_guard.specs.Denied.{NotCrowded, NotWorn, SameOrUnlocked}
-use Rattle.vm_guard.specs.Sure.{IsKnownAt, IsKnownFree, IsUnlockedWord, known_word, unmarked_word}
 use Rattle.vm_guard.proofs.{OpenReads.locked-unreadable, QuietSteps.look-quiet, QuietSteps.translation-quiet}
+use Rattle.vm_guard.proofs.Prelude.{[], AgainOrWorn, ap, AreUnmarking, arith, bare-state, bare-version, cases_lt, cond-false, cond-true, Deny, Did}
+use Rattle.vm_guard.proofs.Prelude.{did_exchange, did_load, eq-eqb, eqb, Follows, found-known, get_or-set_same, get_or_past, inl, inr, is_readable}
+use Rattle.vm_guard.proofs.Prelude.{IsAlone, IsKnownAt, IsKnownFree, IsQuiet, IsUnlockedWord, IsUnmarked, known_word, length, length-set, List}
+use Rattle.vm_guard.proofs.Prelude.{LOCKED, LocksNone, LockTold, LookTold, MARKED, MAX_VERSION, MayBeSeized, MayLock, MayShare, ne_eqb, None}
+use Rattle.vm_guard.proofs.Prelude.{NotCrowded, NotWorn, OnlyWorn, Option, Origin, refl, same-word, SameOrUnlocked, SaysWhy, set-get_or, set_if}
+use Rattle.vm_guard.proofs.Prelude.{ShareTold, slice_index, slice_set, Some, Start, state_of, still-alone, subst, sym, TranslationTold, true}
+use Rattle.vm_guard.proofs.Prelude.{true≢false, UNLOCKED, unmarked_word, version-within, version_of, View, word-state, word-version, word_of}
+use Rattle.vm_guard.proofs.Prelude.{words-known, ℕ, ⊎_elim, ◌<◌, ◌∙◌, ◌∷◌, ◌≡◌, ◌≢◌, ◌≤◌, ◌⊎◌}
 
 -- a free page below the last version is no page that a lock is refused of at once
 pub free-refused : (p word : ℕ) (d : Deny) → SaysWhy p word d → NotCrowded d → IsUnlockedWord word → version_of word < MAX_VERSION → ⊥
-free-refused p word (denies.Again saw) why kind free below =
-    let full : state_of word ≡ 253 = why.1 in ⊎_elim (λ (e : state_of word ≡ 0). omega (arith, e, full)) (λ (e : state_of word ≡ 254). omega (arith, e, full)) free
-free-refused p word (denies.Need q) why kind free below =
-    let gone : state_of word ≡ 255 = why.1 in ⊎_elim (λ (e : state_of word ≡ 0). omega (arith, e, gone)) (λ (e : state_of word ≡ 254). omega (arith, e, gone)) free
 free-refused p word (denies.Crowded q) why kind free below = kind
-free-refused p word (denies.Worn q) why kind free below =
-    let last : version_of word ≡ 72057594037927935 = why.1 in omega (arith, below, last)
+free-refused p word d why kind free below = omega (arith, why.1)
 
 -- a page with room for a share is no page that a share is refused of at once
 pub room-refused : (p word : ℕ) (d : Deny) → SaysWhy p word d → NotWorn d → MayShare word → ⊥
-room-refused p word (denies.Again saw) why kind room =
-    let full : state_of word ≡ 253 = why.1 in ⊎_elim (λ (l : state_of word ≤ 251). omega (arith, l, full)) (λ (e : state_of word ≡ 254). omega (arith, e, full)) room
-room-refused p word (denies.Need q) why kind room =
-    let gone : state_of word ≡ 255 = why.1 in ⊎_elim (λ (l : state_of word ≤ 251). omega (arith, l, gone)) (λ (e : state_of word ≡ 254). omega (arith, e, gone)) room
-room-refused p word (denies.Crowded q) why kind room =
-    let most : state_of word ≡ 252 = why.1 in ⊎_elim (λ (l : state_of word ≤ 251). omega (arith, l, most)) (λ (e : state_of word ≡ 254). omega (arith, e, most)) room
 room-refused p word (denies.Worn q) why kind room = kind
+room-refused p word d why kind room = omega (arith, why.1)
 
--- a word that the look found free is the one that the lock expects
-pub free-expected : (word expects : ℕ) → SameOrUnlocked word expects → IsUnlockedWord word → expects ≡ word
-free-expected word expects kept free =
-    ⊎_elim
-    (λ (e : expects ≡ word). e)
-    (λ h. let some : 1 ≤ state_of word = h.0 in
-    let few : state_of word < 253 = h.1 in
-    absurd (⊎_elim (λ (e : state_of word ≡ 0). omega (arith, e, some)) (λ (e : state_of word ≡ 254). omega (arith, e, few)) free))
-    kept
+-- a page that can be locked is not refused at once
+pub seize-refused : (p word : ℕ) (d : Deny) → SaysWhy p word d → AgainOrWorn d → MayBeSeized word → ⊥
+seize-refused p word (denies.Again saw) why kind may = omega (arith, why.1, may.0)
+seize-refused p word (denies.Worn q) why kind may = omega (arith, why.1, may.1)
+seize-refused p word d why kind may = kind
 
--- the word of a page that may be locked has no shares
-lock-bare : (word : ℕ) → MayLock word → 1 ≤ state_of word → state_of word < 253 → ⊥
-lock-bare word may some few =
-    ⊎_elim
-    (λ (e : state_of word ≡ 0). omega (arith, e, some))
-    (λ h. ⊎_elim (λ (e : state_of word ≡ 254). omega (arith, e, few)) (λ (e : state_of word ≡ 255). omega (arith, e, few)) h)
-    may.state
+-- one that is locked by nobody is refused at once where it is worn alone
+pub refused-worn : (p word : ℕ) (d : Deny) → SaysWhy p word d → AgainOrWorn d → LocksNone word → OnlyWorn d
+refused-worn p word (denies.Again saw) why kind none = omega (arith, why.1)
+refused-worn p word (denies.Worn q) why kind none = tt
+refused-worn p word d why kind none = kind
+
+-- a word that the look found to be locked by nobody is the one that the lock expects
+pub none-expected : (word expects : ℕ) → SameOrUnlocked word expects → LocksNone word → expects ≡ word
+none-expected word expects kept none = omega arith
+
+-- a page that is free is locked by nobody, and so is one that can be locked
+pub free-none : (word : ℕ) → IsUnlockedWord word → LocksNone word
+free-none word free = ⊎_elim (λ e. inl e) (λ e. inr (inl e)) free
+
+pub seized-none : (word : ℕ) → MayBeSeized word → LocksNone word
+seized-none word may = ⊎_elim (λ free. free-none word free) (λ e. inr (inr e)) may.0
 
 -- of the guard's word, and of the unlocked one in its place, an upgrade expects the one that the page has, where that is free
-same-expected : (word expects known : ℕ) → SameOrUnlocked word expects → MayLock expects → IsUnlockedWord known → SameOrUnlocked word known → expects ≡ known
-same-expected word expects known kept may free is =
-    ⊎_elim
-    (λ (e : expects ≡ word). ⊎_elim
-    (λ (k : known ≡ word). e ∙ sym k)
-    (λ h. absurd (lock-bare word (subst MayLock e may) h.0 h.1))
-    is)
-    (λ h. ⊎_elim
-    (λ (k : known ≡ word). let free-word : IsUnlockedWord word = subst IsUnlockedWord k free in
-    let some : 1 ≤ state_of word = h.0 in
-    let few : state_of word < 253 = h.1 in
-    absurd (⊎_elim (λ (e : state_of word ≡ 0). omega (arith, e, some)) (λ (e : state_of word ≡ 254). omega (arith, e, few)) free-word))
-    (λ k. h.2 ∙ sym k.2)
-    is)
-    kept
+pub same-expected : (word expects known : ℕ) → SameOrUnlocked word expects → MayLock expects → IsUnlockedWord known → SameOrUnlocked word known → expects ≡ known
+same-expected word expects known kept may free is = grind (arith, may.state)
 
 -- an exchange that was lost leaves the words
 pub lost-leaves : {X : Type 0} (p expects found new : ℕ) (v w : View X) → IsQuiet p (did_exchange (places.State p) expects found new ∷ []) v w → found ≢ expects → IsAlone v → w.snapshot.words ≡ v.snapshot.words
@@ -99,11 +77,6 @@ state-inside p words some =
     (λ (l : length words ≤ p). let none : state_of (slice_index words p) ≡ 0 = ap state_of (get_or_past words p 0 l) ∙ bare-state 0 (omega arith) in
     absurd (omega (arith, none, some)))
     (cases_lt p (length words))
-
-marked-inside : (p : ℕ) (words : List ℕ) → state_of (slice_index words p) ≡ MARKED → p < length words
-marked-inside p words marked =
-    let is : state_of (slice_index words p) ≡ 254 = marked in
-    state-inside p words (omega (arith, is))
 
 -- a word that is a version is a free page's
 free-at : (n x : ℕ) → x ≡ n → n ≤ MAX_VERSION → IsUnlockedWord x × (version_of x ≤ n)
@@ -138,7 +111,7 @@ unmarks start p word done old new steps follows is =
     let told : (found ≡ slice_index old p) × (new ≡ set_if (did_exchange (places.State p) word found bare).wrote p old) = subst (λ (d : List Did). Follows start d old new) y.1.1 follows in
     let wrote : (did_exchange (places.State p) word found bare).wrote ≡ Some bare = cond-true (eqb found word) (Some bare) None (eq-eqb found word (told.0 ∙ sym is)) in
     let changed : new ≡ slice_set old p bare = told.1 ∙ ap (λ (o : Option ℕ). set_if o p old) wrote in
-    let there : slice_index new p ≡ bare = ap (λ (l : List ℕ). slice_index l p) changed ∙ get_or-set_same old p bare 0 (marked-inside p old (ap state_of (sym is) ∙ y.0)) in (
+    let there : slice_index new p ≡ bare = ap (λ (l : List ℕ). slice_index l p) changed ∙ get_or-set_same old p bare 0 (state-inside p old (let marked : state_of (slice_index old p) ≡ 254 = ap state_of (sym is) ∙ y.0 in omega (arith, marked))) in (
       inr there,
       changed ∙ ap (λ (x : ℕ). slice_set old p x) (sym there),
       there ∙ sym (cond-true (eqb (state_of word) MARKED) bare word (eq-eqb (state_of word) MARKED y.0)),
@@ -180,13 +153,14 @@ module _ {X : Type 0} (tied : Start → ℕ → List ℕ → ℕ → List ℕ �
     finds-again : (found : ℕ) → found ≡ known_word p u → found ≡ word
     finds-again found e = e ∙ same-word v u after-look.steady.start (look-leaves None word v u look a) (places.State p) ∙ sym (look-finds None word v u look a)
 
-    -- a lock finds the word that the look found
-    pub lock-finds : (expects found : ℕ) (w : View X) → LockTold tied p expects found u w → found ≡ word
-    lock-finds expects found w t = finds-again found (found-known _ found None [] [] u _ w t.brings refl alone-on)
+    -- what is known of the page's word holds of the word that the look found
+    pub found-as : (P : ℕ → Type 0) → P (known_word p v) → P word
+    found-as P h = subst P (sym (look-finds None word v u look a)) h
 
-    -- a lock of a free page is not lost
-    pub lock-sure : (expects found : ℕ) (w : View X) → LockTold tied p expects found u w → SameOrUnlocked word expects → found ≢ expects → IsUnlockedWord word → ⊥
-    lock-sure expects found w t kept ne free = ne (lock-finds expects found w t ∙ sym (free-expected word expects kept free))
+    -- a lock of a page that nobody has locked is not lost
+    pub lock-sure : (expects found : ℕ) (w : View X) → LockTold tied p expects found u w → SameOrUnlocked word expects → found ≢ expects → LocksNone (known_word p v) → ⊥
+    lock-sure expects found w t kept ne none =
+        ne (finds-again found (found-known _ found None [] [] u _ w t.brings refl alone-on) ∙ sym (none-expected word expects kept (found-as LocksNone none)))
 
     -- nor is a share
     pub share-sure : (found : ℕ) (w : View X) → ShareTold tied p word found u w → found ≢ word → ⊥

@@ -1,26 +1,21 @@
 -- The mark of a page is taken away, or was not there: one exchange, or no step. It leaves the view, and the word that it leaves is none that
 -- a later look denies a call by; and which steps leave at most an Unlocked word on the page.
-use Rattle.std.proofs.Common.{[], ⊎_elim, ◌++◌, ◌∙◌, ◌∷◌, ◌≡◌, ◌≢◌, ◌⊎◌, ap, arith, eqb, inl, inr, List, None, refl, Some, subst, sym, ℕ}
-use Rattle.std.proofs.lemmas.Bool.{cases_eq, cond-false, cond-true, eq-eqb, ne_eqb}
-use Rattle.vm_core.specs.Prelude.{LOCKED, MARKED, state_of, UNLOCKED, version_of, word_of}
-use Rattle.vm_core.proofs.PageFacts.{none-some, some-same}
-use Rattle.vm_rule.specs.Prelude.{did_exchange, did_load, Each, MarkTold}
-use Rattle.vm_rule.specs.declared.view.Place.{Place}
+use Rattle.vm_core.proofs.PageFacts.{none-some}
 use Rattle.vm_rule.specs.declared.view.Place.TheVariants as places
-use Rattle.vm_rule.proofs.{Entries.each-map, Heard.each-both}
-use Rattle.vm_rule.proofs.WordFacts.{version-within, word-state, word-version}
-use Rattle.vm_step.specs.Prelude.{AreQuiet, Did, View}
-use Rattle.vm_step.proofs.steps.Unchanged.{still-loads, still-seat}
-use Rattle.vm_guard.specs.Guards.{AreUnmarking, BeginsReading, IsUnmarked}
-use Rattle.vm_guard.specs.Quiet.{LeavesNone, OnlyUnmarks}
-use Rattle.vm_guard.proofs.QuietSteps.{mark-quiet, quiet-none}
+use Rattle.vm_step.specs.declared.saw.At.TheVariants as ats
+use Rattle.vm_guard.proofs.Prelude.{[], ap, AreQuiet, AreUnmarking, arith, Begins, BeginsReading, cases_eq, cond-false, cond-true, Did, did_exchange}
+use Rattle.vm_guard.proofs.Prelude.{did_load, Each, each-both, eq-eqb, eqb, Gives, inl, inr, IsSaw, IsUnmarked, List, LOCKED, MARKED, MarkTold}
+use Rattle.vm_guard.proofs.Prelude.{ne_eqb, None, OnlyUnmarks, Place, refl, Some, some-same, state_of, still-loads, still-seat, subst, sym, UNLOCKED}
+use Rattle.vm_guard.proofs.Prelude.{version-within, version_of, View, WhyAgain, word-state, word-version, word_of, ℕ, ⊎_elim, ◌++◌, ◌∙◌, ◌∷◌, ◌≡◌}
+use Rattle.vm_guard.proofs.Prelude.{◌≢◌, ◌⊎◌}
+use Rattle.vm_guard.proofs.QuietSteps.{quiet-none, still-quiet}
 
 -- an exchange leaves no word but the new one
-exchange-leaves : (expects found new other : ℕ) → new ≢ other → (did_exchange (places.Next) expects found new).wrote ≢ Some other
-exchange-leaves expects found new other ne e =
+exchange-left : (at : Place) (expects found new x : ℕ) → (did_exchange at expects found new).wrote ≡ Some x → new ≡ x
+exchange-left at expects found new x e =
     ⊎_elim
-    (λ same. ne (some-same new other (sym (cond-true (eqb found expects) (Some new) None (eq-eqb found expects same)) ∙ e)))
-    (λ apart. none-some other (sym (cond-false (eqb found expects) (Some new) None (ne_eqb found expects apart)) ∙ e))
+    (λ same. some-same new x (sym (cond-true (eqb found expects) (Some new) None (eq-eqb found expects same)) ∙ e))
+    (λ apart. absurd (none-some x (sym (cond-false (eqb found expects) (Some new) None (ne_eqb found expects apart)) ∙ e)))
     (cases_eq found expects)
 
 -- the unlocked word at one version is neither a locked word nor one of another version
@@ -41,13 +36,18 @@ unmarking-quiet p first seen done more steps why quiet =
     (λ y. let found : ℕ = y.1.0 in
     let new : ℕ = word_of UNLOCKED (version_of first) in
     subst (λ (d : List Did). AreQuiet (places.State p) seen (d ++ more)) (sym y.1.1)
-    (λ here. (exchange-leaves first found new seen (unlocked-other first seen why), λ none. absurd (none-some found (sym none))), quiet))
+    (λ here. ((λ e. unlocked-other first seen why (exchange-left (places.State p) first found new seen e)), λ none. absurd (none-some found (sym none))), quiet))
     steps
 
 -- steps that wrote no such word, and stored no next version, left no such word
 pub quiet-foreign : (at : Place) (seen : ℕ) (done : List Did) → AreQuiet at seen done → Each (λ (d : Did). d.at ≡ at → d.wrote ≢ Some seen) done
 quiet-foreign at seen [] quiet = tt
 quiet-foreign at seen (d ∷ ds) quiet = ((λ here. (quiet.0 here).0), quiet-foreign at seen ds quiet.1)
+
+-- one step that gave the word seen, which tells why a call may be tried again
+pub one-saw : (kept : ℕ → Type 0) (instead : ℕ → ℕ → Type 0) (p first seen : ℕ) (d : Did) → Gives d (places.State p) seen → Begins kept instead (places.State p) first seen d [] [] → WhyAgain (ats.Page p) first seen d
+    → IsSaw kept instead (d ∷ []) (record { at = ats.Page p; first = first; seen = seen })
+one-saw kept instead p first seen d gives begins why = record { earlier = []; last = d; later = []; cut = refl; gives = gives; since = []; begins = begins; quiet = tt; foreign = tt; why = why }
 
 -- ---- steps that leave at most an Unlocked word
 
@@ -62,27 +62,14 @@ lost-unmarks p expects found new ne = ((λ x e. absurd (none-some x (sym (cond-f
 pub unmarks-both : (p : ℕ) (a b : List Did) → OnlyUnmarks p a → OnlyUnmarks p b → OnlyUnmarks p (a ++ b)
 unmarks-both p = each-both (λ d. (x : ℕ) → d.wrote ≡ Some x → (d.at ≡ places.State p) × (state_of x ≡ UNLOCKED))
 
--- steps that leave no word
-pub none-unmarks : (p : ℕ) (done : List Did) → LeavesNone done → OnlyUnmarks p done
-none-unmarks p done f = each-map _ _ (λ (d : Did) none. λ x e. absurd (none-some x (sym none ∙ e))) done f
-
 -- the steps that take a mark away
 pub unmarking-unmarks : (p first : ℕ) (done : List Did) → AreUnmarking p first done → OnlyUnmarks p done
 unmarking-unmarks p first done steps =
     ⊎_elim
     (λ n. subst (λ (d : List Did). OnlyUnmarks p d) (sym n.1) tt)
-    (λ y. subst (λ (d : List Did). OnlyUnmarks p d) (sym y.1.1) ((λ x e. (refl, exchanged y.1.0 x e)), tt))
+    (λ y. subst (λ (d : List Did). OnlyUnmarks p d) (sym y.1.1)
+    ((λ x e. (refl, ap state_of (sym (exchange-left (places.State p) first y.1.0 (word_of UNLOCKED (version_of first)) x e)) ∙ word-state UNLOCKED (version_of first) (version-within first))), tt))
     steps
-  where
-    new : ℕ
-    new = word_of UNLOCKED (version_of first)
-
-    exchanged : (found x : ℕ) → (did_exchange (places.State p) first found new).wrote ≡ Some x → state_of x ≡ UNLOCKED
-    exchanged found x e =
-        ⊎_elim
-        (λ same. ap state_of (sym (some-same new x (sym (cond-true (eqb found first) (Some new) None (eq-eqb found first same)) ∙ e))) ∙ word-state UNLOCKED (version_of first) (version-within first))
-        (λ apart. absurd (none-some x (sym (cond-false (eqb found first) (Some new) None (ne_eqb found first apart)) ∙ e)))
-        (cases_eq found first)
 
 -- so the steps of an optimistic guard that begins
 pub begun-unmarks : {X : Type 0} (p word frame : ℕ) (v w : View X) (b : BeginsReading p word frame v w) → OnlyUnmarks p b.done
@@ -98,7 +85,7 @@ module _ {X : Type 0} where
   pub unmarked : (p word found : ℕ) (v w : View X) → state_of word ≡ MARKED → MarkTold p word found (word_of UNLOCKED (version_of word)) v w → IsUnmarked p word v w
   unmarked p word found v w is t = record {
     done = did_exchange (places.State p) word found (word_of UNLOCKED (version_of word)) ∷ [];
-    quiet = mark-quiet p word found (word_of UNLOCKED (version_of word)) v w t;
+    quiet = still-quiet t.brings;
     reads = record { reading = ap (λ s. s.reading) (still-seat t.brings p); loads = still-loads t.brings p };
     clears = inr (is, (found, refl));
   }

@@ -1,20 +1,15 @@
 -- An optimistic guard that becomes an exclusive one: what each answer proves.
-use Rattle.std.proofs.Common.{[], ⊎_elim, ◌<◌, ◌∙◌, ◌∷◌, ◌≡◌, ◌≢◌, ◌≤◌, ◌⊎◌, ap, arith, eqb, inl, inr, List, None, refl, Some, subst, sym, true, ℕ}
-use Rattle.std.proofs.lemmas.Bool.{cond-false, ne_eqb}
-use Rattle.vm_core.specs.Prelude.{is_readable, LOCKED, mapping_of, MAX_VERSION, state_of, UNLOCKED, version_of, word_of}
-use Rattle.vm_rule.specs.Prelude.{did_exchange, IsOlder, IsSince, last_of, locked_view, LockTold, LookTold, Mapping, seat_of, Start, TranslationTold}
 use Rattle.vm_rule.specs.declared.view.Place.TheVariants as places
-use Rattle.vm_rule.proofs.WordFacts.{version-within, word-state, word-version}
-use Rattle.vm_step.specs.Prelude.{Did, UnlockedExpected, View}
+use Rattle.vm_step.specs.Evidence.Begins.{asked}
 use Rattle.vm_step.specs.declared.saw.At.TheVariants as ats
-use Rattle.vm_step.specs.Evidence.Begins.{asked, guarded}
-use Rattle.vm_step.proofs.{steps.Leaving.others-none, steps.Unchanged.lost-brings}
 use Rattle.vm_guard.specs.declared.deny.Deny.TheVariants as denies
-use Rattle.vm_guard.specs.Denied.{AgainOrWorn, IsDenied, KeptWord, SameOrUnlocked}
-use Rattle.vm_guard.specs.Guards.{HasLeft, IsLocked, IsReading}
-use Rattle.vm_guard.specs.Takes.{IsToExpect}
 use Rattle.vm_guard.proofs.{Denials.denied-at-once, Expecting.expect-same, Leaving.older-read, Lockings.locked-after, QuietSteps.lock-lost}
-use Rattle.vm_guard.proofs.{Sure.lost-leaves, Unmarking.lost-unmarks, Validating.left-since}
+use Rattle.vm_guard.proofs.{Sure.lost-leaves, Unmarking.lost-unmarks, Unmarking.one-saw, Validating.left-since}
+use Rattle.vm_guard.proofs.Prelude.{[], AgainOrWorn, ap, arith, cond-false, Did, did_exchange, eqb, guarded, HasLeft, inl, inr, IsDenied, IsLocked}
+use Rattle.vm_guard.proofs.Prelude.{IsOlder, IsReading, IsSince, IsToExpect, KeptWord, last_of, List, LOCKED, locked_view, LockTold, LookTold}
+use Rattle.vm_guard.proofs.Prelude.{lost-brings, Mapping, mapping_of, MAX_VERSION, ne_eqb, None, others-none, refl, SameOrUnlocked, seat_of, Some}
+use Rattle.vm_guard.proofs.Prelude.{Start, subst, sym, TranslationTold, UNLOCKED, UnlockedExpected, version-within, version_of, View, WhyAgain}
+use Rattle.vm_guard.proofs.Prelude.{word-state, word-version, word_of, ℕ, ⊎_elim, ◌<◌, ◌∙◌, ◌∷◌, ◌≡◌, ◌≢◌, ◌≤◌, ◌⊎◌}
 
 -- the unlocked word at a version below the last may be expected
 pub unlocked-word : (word : ℕ) → version_of word < MAX_VERSION → IsToExpect (word_of UNLOCKED (version_of word)) (word_of UNLOCKED (version_of word))
@@ -33,40 +28,23 @@ module _ {X : Type 0} (tied : Start → ℕ → List ℕ → ℕ → List ℕ �
       ⊎_elim (λ less. omega (arith, less, within)) (λ l. let same : version_of h.other ≡ version_of word = l.1 in omega (arith, same, within)) h.gone)
       may
 
-  -- the guard's word could be read
-  pub was-readable : (v : View X) → IsReading p word frame v ⊎ HasLeft p word v → is_readable (state_of word) ≡ true
-  was-readable v may = ⊎_elim (λ r. r.open_word) (λ h. h.open_word) may
-
   -- the guard is at the last version, so the page is
   pub worn : (found : ℕ) (v w : View X) → LookTold tied p None found v w → IsReading p word frame v ⊎ HasLeft p word v → version_of word ≡ MAX_VERSION → IsDenied AgainOrWorn (KeptWord word) UnlockedExpected p (denies.Worn p) v w
   worn found v w t may last =
       let low : version_of word ≤ version_of found = not-lower found v w t may in
       let high : version_of found ≤ MAX_VERSION = version-within found in
-      denied-at-once tied AgainOrWorn UnlockedExpected p found (denies.Worn p) v w t (refl, omega (arith, low, high, last)) tt
+      (denied-at-once tied AgainOrWorn UnlockedExpected p found (denies.Worn p) v w t (refl, omega (arith, low, high, last)) tt).0
 
   -- another word was found than the one expected
   pub lost : (expects found : ℕ) (v w : View X) → LockTold tied p expects found v w → found ≢ expects → SameOrUnlocked word expects
       → IsDenied AgainOrWorn (KeptWord word) UnlockedExpected p (denies.Again (record { at = ats.Page p; first = expects; seen = found })) v w
   lost expects found v w t ne kept =
       let did : Did = did_exchange (places.State p) expects found (word_of LOCKED (version_of expects)) in
+      let why : WhyAgain (ats.Page p) expects found did = inr (inr record { gives = (refl, refl); expected = refl; other = ne; left = cond-false (eqb found expects) (Some (word_of LOCKED (version_of expects))) None (ne_eqb found expects ne) }) in
       record {
         done = did ∷ [];
         quiet = lock-lost tied p expects found v w ne t;
-        evidence = (
-          refl,
-          record {
-            earlier = [];
-            last = did;
-            later = [];
-            cut = refl;
-            gives = (refl, refl);
-            since = [];
-            begins = ⊎_elim (λ (same : expects ≡ word). guarded same refl) (λ other. asked word refl refl other refl) kept;
-            quiet = tt;
-            foreign = tt;
-            why = inr (inr record { gives = (refl, refl); expected = refl; other = ne; left = cond-false (eqb found expects) (Some (word_of LOCKED (version_of expects))) None (ne_eqb found expects ne) });
-          },
-        );
+        evidence = (refl, one-saw (KeptWord word) UnlockedExpected p expects found did (refl, refl) (⊎_elim (λ (same : expects ≡ word). guarded same refl) (λ other. asked word refl refl other refl) kept) why);
         kind = tt;
         table = lost-leaves p expects found (word_of LOCKED (version_of expects)) v w (lock-lost tied p expects found v w ne t) ne;
         leaves = lost-unmarks p expects found (word_of LOCKED (version_of expects)) ne;
@@ -77,5 +55,5 @@ module _ {X : Type 0} (tied : Start → ℕ → List ℕ → ℕ → List ℕ �
   -- the page is locked at the version expected, and stands where its translation word says
   pub upgraded : IsToExpect expects expects → LockTold tied p expects expects v x → TranslationTold p found x w → mapping_of found ≡ Some m → p < v.start.pages → IsLocked tied p m.frame (version_of expects) m.dirty v w
   upgraded to t load named page =
-      locked-after to t load named (others-none v) (record { mine = refl; group = (refl, refl, refl) }) (record { shares = refl; exclusive = refl; writing = refl }) (λ _. refl) page
+      locked-after expects to.version to.may_lock.version t load named (others-none v) (record { mine = refl; group = (refl, refl, refl) }) (record { shares = refl; exclusive = refl; writing = refl }) (λ _. refl) page
       (older-read expects (seat_of v p).reading t.older) (λ tells. t.validates tells refl) tt

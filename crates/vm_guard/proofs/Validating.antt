@@ -1,21 +1,17 @@
--- The look that validates an optimistic guard: what it proves of each answer.
-use Rattle.std.proofs.Common.{[], ⊎_elim, ◌++◌, ◌<◌, ◌∙◌, ◌∷◌, ◌≡◌, ◌≢◌, ◌≤◌, ◌⊎◌, ap, arith, false, inl, inr, List, None, Option, refl, Some, subst}
-use Rattle.std.proofs.Common.{sym, true, true≢false, ℕ}
-use Rattle.std.proofs.lemmas.Bool.{cases_eq}
-use Rattle.vm_core.specs.Prelude.{EVICTED, is_readable, kept_loads, LOCKED, state_of, version_of}
+-- The look that validates an optimistic guard: what it proves of each answer, and of a word that was loaded through the guard before.
 use Rattle.vm_core.specs.declared.event.ReadIs.TheVariants as opens
-use Rattle.vm_rule.specs.Prelude.{at_state, began_of, did_load, Each, entries_of, Entry, IsOlder, IsSince, IsSinceAll, Kept, last_of, left_at}
-use Rattle.vm_rule.specs.Prelude.{loads_at, LookTold, seat_of, Start, ties_below, where_same}
 use Rattle.vm_rule.specs.declared.view.Place.TheVariants as places
-use Rattle.vm_step.specs.Prelude.{Did, IsKeptNow, NoneExpected, ReadsAsBefore, Tie, View}
 use Rattle.vm_step.specs.declared.saw.At.TheVariants as ats
-use Rattle.vm_step.specs.Evidence.Begins.{guarded}
-use Rattle.vm_step.proofs.steps.Look.{look-holds, look-loads, look-others, looked-knows, same-both}
 use Rattle.vm_guard.specs.declared.deny.Deny.TheVariants as denies
-use Rattle.vm_guard.specs.Denied.{AgainOrNeed, IsDenied, KeptWord}
-use Rattle.vm_guard.specs.Guards.{HasLeft, IsReading, IsValid}
-use Rattle.vm_guard.proofs.{Reading.reading-kept, Starting.each-at, Sure.look-current, Sure.look-leaves, Unmarking.load-unmarks}
+use Rattle.vm_guard.proofs.{Reading.reading-kept, Starting.each-at, Sure.look-current, Sure.look-leaves, Unmarking.load-unmarks, Unmarking.one-saw}
 use Rattle.vm_guard.proofs.OpenReads.{left-other, left-same, locked-unreadable, looked-same, readable-state}
+use Rattle.vm_guard.proofs.Prelude.{[], AgainOrNeed, alone-then, ap, arith, at_state, began_of, BeginsReading, cases_eq, Did, did_load, Each}
+use Rattle.vm_guard.proofs.Prelude.{entries_of, Entry, Err, EVICTED, false, guarded, HasLeft, IfErr, inl, inr, is_readable, IsAlone, IsDenied}
+use Rattle.vm_guard.proofs.Prelude.{IsKeptNow, IsKnownAt, IsOk, IsOlder, IsQuiet, IsReading, IsSince, IsSinceAll, IsValid, Kept, kept_loads, KeptWord}
+use Rattle.vm_guard.proofs.Prelude.{known_word, last_of, left_at, List, Loads, loads_at, LoadsAre, LOCKED, look-holds, look-loads, look-others}
+use Rattle.vm_guard.proofs.Prelude.{looked-knows, LookTold, None, NoneExpected, Ok, Option, ReadsAsBefore, refl, Result, same-both, seat_of}
+use Rattle.vm_guard.proofs.Prelude.{slice_index, Some, Start, state_of, StaysAlone, still-alone, subst, sym, Tie, ties_below, true, true≢false}
+use Rattle.vm_guard.proofs.Prelude.{version_of, View, where_same, ℕ, ⊎_elim, ◌++◌, ◌<◌, ◌∙◌, ◌∷◌, ◌≡◌, ◌≢◌, ◌≤◌, ◌⊎◌}
 use Rattle.vm_guard.proofs.QuietSteps.{alone-of, elsewhere-of, look-unsaid, steady-of, where-other}
 
 -- the word found agrees with the one that a step of the pass found or left since the guard began
@@ -44,21 +40,7 @@ module _ {X : Type 0} (tied : Start → ℕ → List ℕ → ℕ → List ℕ �
   refused may why = record {
     done = did_load (places.State p) seen ∷ [];
     quiet = look-unsaid tied p said seen v w t (unsaid may (⊎_elim (λ ne. inl ne) (λ e. inr (locked-unreadable (state_of seen) e)) why));
-    evidence = (
-      refl,
-      record {
-        earlier = [];
-        last = did_load (places.State p) seen;
-        later = [];
-        cut = refl;
-        gives = (refl, refl);
-        since = [];
-        begins = guarded refl refl;
-        quiet = tt;
-        foreign = tt;
-        why = ⊎_elim (λ ne. inl (λ e. ne (sym e))) (λ e. inr (inl e)) why;
-      },
-    );
+    evidence = (refl, one-saw (KeptWord word) NoneExpected p word seen (did_load (places.State p) seen) (refl, refl) (guarded refl refl) (⊎_elim (λ ne. inl (λ e. ne (sym e))) (λ e. inr (inl e)) why));
     kind = tt;
     table = look-leaves tied p said seen v w t;
     leaves = (load-unmarks p (places.State p) seen, tt);
@@ -83,17 +65,20 @@ module _ {X : Type 0} (tied : Start → ℕ → List ℕ → ℕ → List ℕ �
         true≢false (sym (readable-state (state_of seen) small unlocked resident) ∙ h.1 (locked-unreadable (state_of other) l.0) same))
         gone
 
-    not-left : HasLeft p word v → ⊥
-    not-left h = since-left h.other (left-since p word seen v h t.since) h.gone
-
     pub in-place : MayValidate → IsReading p word frame v
-    in-place may = ⊎_elim (λ r. r) (λ h. absurd (not-left h.0)) may
+    in-place may = ⊎_elim (λ r. r) (λ h. absurd (since-left h.0.other (left-since p word seen v h.0 t.since) h.0.gone)) may
+
+    -- the look leaves the read open
+    pub stays-open : MayValidate → left_at seen (seat_of v p).reading ≡ opens.Same
+    stays-open may =
+        let r : IsReading p word frame v = in-place may in
+        ap (left_at seen) r.reading
+        ∙ left-same seen (record { version = version_of word; frame = Some frame }) (readable-state (state_of seen) small unlocked (reading-resident r)) (sym at)
 
     pub validated : MayValidate → IsValid tied p word frame said v w
     validated may =
         let r : IsReading p word frame v = in-place may in
-        let readable : is_readable (state_of seen) ≡ true = readable-state (state_of seen) small unlocked (reading-resident r) in
-        let same : left_at seen (seat_of v p).reading ≡ opens.Same = ap (left_at seen) r.reading ∙ left-same seen (record { version = version_of word; frame = Some frame }) readable (sym at) in
+        let same : left_at seen (seat_of v p).reading ≡ opens.Same = stays-open may in
         let k = look-others t (λ q. q ≡ p) refl in
         let reading : (seat_of w p).reading ≡ (seat_of v p).reading = looked-same tied p said seen v w t same in
         let entries : where_same (left_at seen (seat_of v p).reading) (entries_of v said) [] ≡ entries_of v said = ap (λ l. where_same l (entries_of v said) []) same in
@@ -124,17 +109,34 @@ module _ {X : Type 0} (tied : Start → ℕ → List ℕ → ℕ → List ℕ �
           current = look-current tied p said seen v w t;
         }
 
-    -- the look that validated the read left it open
-    pub stays-open : MayValidate → left_at seen (seat_of v p).reading ≡ opens.Same
-    stays-open may =
-        let r : IsReading p word frame v = in-place may in
-        let readable : is_readable (state_of seen) ≡ true = readable-state (state_of seen) small unlocked (reading-resident r) in
-        ap (left_at seen) r.reading ∙ left-same seen (record { version = version_of word; frame = Some frame }) readable (sym at)
+-- what says why a call failed, and can't be, leaves that it did not fail
+pub ok-unless : {T E : Type 0} (r : Result T E) (P : E → Type 0) → ((e : E) → P e → ⊥) → IfErr r P → IsOk r
+ok-unless (Ok x) P never h = refl
+ok-unless (Err e) P never h = absurd (never e h)
 
 -- what is told where the read stays open is told on a condition by which it does
 pub kept-as : {X : Type 0} (keeps : Start → Kept X → Type 0) (p : ℕ) (free when : Type 0) (w : View X) → (when → free) → IsKeptNow keeps p free w → IsKeptNow keeps p when w
 kept-as keeps p free when w so k = record { kept = k.kept; holds = k.holds; history = k.history; pages = k.pages; page = λ x. k.page (so x); members = k.members; zero = k.zero; next = k.next }
 
--- so it is told where the read did stay open
-pub kept-valid : {X : Type 0} (keeps : Start → Kept X → Type 0) (p : ℕ) (free : Type 0) (w : View X) → free → IsKeptNow keeps p free w → IsKeptNow keeps p (Unit {0}) w
-kept-valid keeps p free w is k = kept-as keeps p free (Unit {0}) w (λ _. is) k
+-- ---- a word that was loaded and validated
+
+loads-last : (words : List ℕ) (l : List (ℕ × ℕ)) (i x : ℕ) → LoadsAre words (l ++ (i, x) ∷ []) → slice_index words i ≡ x
+loads-last words [] i x h = h.0
+loads-last words (y ∷ l) i x h = loads-last words l i x h.1
+
+pub word-valid : {X : Type 0} (tied : Start → ℕ → List ℕ → ℕ → List ℕ → Type 0) (p word frame i x : ℕ) (v w z : View X) → Loads p word frame ((i, x) ∷ []) v w → IsValid tied p word frame None w z → w.start.tells ≡ true → x ≡ slice_index (last_of z p).words i
+word-valid tied p word frame i x v w z loads valid tells =
+    sym (loads-last (last_of z p).words (loads_at v p) i x (subst (LoadsAre (last_of z p).words) loads.loads ((valid.validates tells).valid _ loads.reads.reading refl)))
+
+-- a pass that was alone is so after calls that say nothing and lock nothing
+pub quiet-alone : {X : Type 0} (p q : ℕ) (a b : List Did) (u v w z : View X) → IsQuiet p a u v → IsQuiet q b v w → StaysAlone w z → StaysAlone u z
+quiet-alone p q a b u v w z f g h = alone-then u v z f.steady.parts f.alone (alone-then v w z g.steady.parts g.alone h)
+
+-- a pass that is alone knows the page at the guard's word, once words were loaded through it
+pub known-at : {X : Type 0} (p word frame : ℕ) (loaded : List (ℕ × ℕ)) (u v w : View X) → BeginsReading p word frame u v → Loads p word frame loaded v w → IsAlone u → IsAlone w × IsKnownAt p word w
+known-at p word frame loaded u v w begins loads a =
+    let after : IsAlone v = still-alone u v begins.quiet.steady.parts begins.quiet.alone.current a in
+    let there : known_word p w ≡ word = ap (λ (s : List ℕ). slice_index s p) (loads.table after) ∙ (begins.known a).0 in (
+      still-alone v w loads.quiet.steady.parts loads.quiet.alone.current after,
+      (ap version_of there, λ e. true≢false (sym begins.reads.open_word ∙ locked-unreadable (state_of word) (sym (ap state_of there) ∙ e))),
+    )

@@ -26,36 +26,28 @@ SameOrUnlocked word expects = (expects ≡ word) ⊎ UnlockedExpected word expec
 abbrev pub AgainOrNeed : Deny → Type 0
 AgainOrNeed (denies.Again saw) = Unit {0}
 AgainOrNeed (denies.Need q) = Unit {0}
-AgainOrNeed (denies.Crowded q) = ⊥
-AgainOrNeed (denies.Worn q) = ⊥
+AgainOrNeed d = ⊥
 
 -- of a shared guard: Again, Need or Crowded
 abbrev pub NotWorn : Deny → Type 0
-NotWorn (denies.Again saw) = Unit {0}
-NotWorn (denies.Need q) = Unit {0}
-NotWorn (denies.Crowded q) = Unit {0}
 NotWorn (denies.Worn q) = ⊥
+NotWorn d = Unit {0}
 
 -- of an exclusive guard: Again, Need or Worn
 abbrev pub NotCrowded : Deny → Type 0
-NotCrowded (denies.Again saw) = Unit {0}
-NotCrowded (denies.Need q) = Unit {0}
 NotCrowded (denies.Crowded q) = ⊥
-NotCrowded (denies.Worn q) = Unit {0}
+NotCrowded d = Unit {0}
 
 -- of an upgrade: Again or Worn
 abbrev pub AgainOrWorn : Deny → Type 0
 AgainOrWorn (denies.Again saw) = Unit {0}
-AgainOrWorn (denies.Need q) = ⊥
-AgainOrWorn (denies.Crowded q) = ⊥
 AgainOrWorn (denies.Worn q) = Unit {0}
+AgainOrWorn d = ⊥
 
 -- nothing but that the page is worn
 abbrev pub OnlyWorn : Deny → Type 0
-OnlyWorn (denies.Again saw) = ⊥
-OnlyWorn (denies.Need q) = ⊥
-OnlyWorn (denies.Crowded q) = ⊥
 OnlyWorn (denies.Worn q) = Unit {0}
+OnlyWorn d = ⊥
 
 module _ {X : Type 0} where
   -- the call of page p was denied, with evidence, by an answer of an allowed kind

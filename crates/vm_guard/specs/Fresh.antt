@@ -198,20 +198,15 @@ module _ {X : Type 0} where
 -- pages were given
 abbrev pub IsPages : Fresh → Type 0
 IsPages (answers.Pages group) = Unit {0}
-IsPages (answers.Again saw) = ⊥
-IsPages (answers.Worn p) = ⊥
-IsPages (answers.Full pages next need) = ⊥
+IsPages f = ⊥
 
 -- pages were given, or one is worn
 abbrev pub IsPagesOrWorn : Fresh → Type 0
 IsPagesOrWorn (answers.Pages group) = Unit {0}
-IsPagesOrWorn (answers.Again saw) = ⊥
 IsPagesOrWorn (answers.Worn p) = Unit {0}
-IsPagesOrWorn (answers.Full pages next need) = ⊥
+IsPagesOrWorn f = ⊥
 
 -- fewer pages were left
 abbrev pub IsFullAnswer : Fresh → Type 0
-IsFullAnswer (answers.Pages group) = ⊥
-IsFullAnswer (answers.Again saw) = ⊥
-IsFullAnswer (answers.Worn p) = ⊥
 IsFullAnswer (answers.Full pages next need) = Unit {0}
+IsFullAnswer f = ⊥

@@ -3,7 +3,7 @@ use Rattle.std.specs.Prelude.{◌<◌, ◌≡◌, List, true, ℕ}
 use Rattle.vm_core.specs.Prelude.{WORDS}
 use Rattle.vm_rule.specs.Prelude.{has}
 use Rattle.vm_rule.specs.declared.view.Place.{Place}
-use Rattle.vm_rule.specs.declared.view.Place.TheVariants.{Bundle, Content, Fault, Hand, Next, State, Translation}
+use Rattle.vm_rule.specs.declared.view.Place.TheVariants.{Content, Next, State, Translation}
 use Rattle.vm_step.specs.Prelude.{IsAlone, KnowsElse, Origin, View}
 
 -- A step of a call for these pages is at the state or translation word of one of them, at the next word, or at a word of a frame. So the call
@@ -11,11 +11,9 @@ use Rattle.vm_step.specs.Prelude.{IsAlone, KnowsElse, Origin, View}
 abbrev pub IsPlaceOf : Origin → List ℕ → Place → Type 0
 IsPlaceOf start pages (State p) = (p < start.pages) × (has p pages ≡ true)
 IsPlaceOf start pages (Translation p) = (p < start.pages) × (has p pages ≡ true)
-IsPlaceOf start pages (Fault p) = ⊥
 IsPlaceOf start pages (Content f i) = (f < start.frames) × (i < WORDS)
-IsPlaceOf start pages (Bundle g) = ⊥
 IsPlaceOf start pages Next = Unit {0}
-IsPlaceOf start pages Hand = ⊥
+IsPlaceOf start pages at = ⊥
 
 module _ {X : Type 0} where
   -- a pass that was alone knows the words at all other places as they were

@@ -1,6 +1,6 @@
 // Optimistic guards: a page is read without a lock, and a later look at its word tells whether all words read were of one version.
-ghost use Rattle.std.specs.Prelude.{[], ◌<◌, ◌∷◌, ◌≡◌, ◌⊎◌, IfErr, IfOk, IsOk, length, None, option_map, true};
-ghost use Rattle.vm_core.specs.Prelude.{is_readable, MAX_VERSION, state_of, version_of};
+ghost use Rattle.std.specs.Prelude.{[], ◌<◌, ◌∷◌, ◌≡◌, ◌≢◌, ◌⊎◌, IfErr, IfOk, IsOk, length, None, option_map, true};
+ghost use Rattle.vm_core.specs.Prelude.{is_readable, LOCKED, MAX_VERSION, state_of, version_of};
 ghost use Rattle.vm_step.specs.Prelude.{IsAlone, IsKeptNow, IsReady, IsSamePass, KnowsUnheld, MayStep, MayTell, NoneExpected, NoWord};
 ghost use Rattle.vm_step.specs.Prelude.{UnlockedExpected, view};
 ghost use Rattle.vm_guard.specs.Denied.{AgainOrNeed, AgainOrWorn, IsDenied, KeptWord, SameOrUnlocked};
@@ -159,13 +159,7 @@ impl OptGuard {
         ensures sure { IsAlone (view pass.old) → IsKnownAt self.now.pid self.now.word (view pass.old) → IsOk result }
     {
         let seen = look(words, pass, self.pid, said);
-        if StateWord::version(seen) != StateWord::version(self.word) {
-            return Err(self.saw(seen));
-        }
-        if StateWord::state(seen) == StateWord::LOCKED {
-            return Err(self.saw(seen));
-        }
-        Ok(())
+        self.judge(seen)
     }
 
     /// Validates all that was read through the guard, with nothing to say.
@@ -186,13 +180,7 @@ impl OptGuard {
         ensures sure { IsAlone (view pass.old) → IsKnownAt self.now.pid self.now.word (view pass.old) → IsOk result }
     {
         let seen = look_silently(words, pass, self.pid);
-        if StateWord::version(seen) != StateWord::version(self.word) {
-            return Err(self.saw(seen));
-        }
-        if StateWord::state(seen) == StateWord::LOCKED {
-            return Err(self.saw(seen));
-        }
-        Ok(())
+        self.judge(seen)
     }
 
     /// Locks the page exclusively at the guard's version, which proves of all that was read through the guard what a validation would.
@@ -239,14 +227,21 @@ impl OptGuard {
         }
     }
 
-    /// The evidence that the page's word is not the guard's any more.
-    fn saw(&self, seen: u64) -> Saw
-        ensures { result ≡ record { at = At.Page self.now.pid; first = self.now.word; seen = seen } }
+    /// Whether the word seen is of the guard's version, and not Locked; else the evidence that the page's word is not the guard's any more.
+    fn judge(&self, seen: u64) -> Result<(), Saw>
+        ensures ok { IfOk result (λ _. (version_of seen ≡ version_of self.now.word) × (state_of seen ≢ LOCKED) × (state_of seen < 256)) }
+        ensures err { IfErr result (λ saw. (saw ≡ record { at = At.Page self.now.pid; first = self.now.word; seen = seen })
+            × ((version_of seen ≢ version_of self.now.word) ⊎ (state_of seen ≡ LOCKED))) }
     {
-        Saw {
-            at: At::Page(self.pid),
-            first: self.word,
-            seen,
+        if StateWord::version(seen) != StateWord::version(self.word)
+            || StateWord::state(seen) == StateWord::LOCKED
+        {
+            return Err(Saw {
+                at: At::Page(self.pid),
+                first: self.word,
+                seen,
+            });
         }
+        Ok(())
     }
 }

@@ -1,9 +1,6 @@
-use Rattle.std.specs.Option.{option_to_list}
-use Rattle.std.proofs.Common.{◌++◌, ◌∙◌, ap, List, subst, ℕ}
-use Rattle.vm_step.specs.Prelude.{Stores, view}
-use Rattle.vm_guard.specs.Fresh.{IsSeized}
-use Rattle.vm_guard.proofs.fresh_pages.furnish.Goals as goal
 use Rattle.vm_guard.proofs.Furnishing.{furnish-empty, furnish-resident, may-install}
+use Rattle.vm_guard.proofs.Prelude.{ap, IsSeized, List, option_to_list, Stores, subst, view, ℕ, ◌++◌, ◌∙◌}
+use Rattle.vm_guard.proofs.fresh_pages.furnish.Goals as goal
 
 pub install-requires-clause-legal : goal.install-requires-clause-legal
 install-requires-clause-legal g c =

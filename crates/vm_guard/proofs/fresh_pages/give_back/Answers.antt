@@ -1,8 +1,6 @@
-use Rattle.std.proofs.Common.{subst}
-use Rattle.vm_step.specs.Prelude.{view}
-use Rattle.vm_guard.specs.Fresh.{IsSeized}
-use Rattle.vm_guard.proofs.fresh_pages.give_back.Goals as goal
+use Rattle.vm_guard.proofs.Prelude.{IsSeized, subst, view}
 use Rattle.vm_guard.proofs.Seizing.{gives-evicted, gives-released}
+use Rattle.vm_guard.proofs.fresh_pages.give_back.Goals as goal
 
 pub returns-in-Some-clause-given : goal.returns-in-Some-clause-given
 returns-in-Some-clause-given g c = gives-released _ _ _ _ _ c.requires.seized c.release_silently.ensures.told

@@ -1,9 +1,7 @@
-use Rattle.std.proofs.Common.{◌<◌, ◌∙◌, length, List, refl, subst, sym, ℕ}
-use Rattle.vm_rule.specs.Prelude.{NextTold}
-use Rattle.vm_step.specs.Prelude.{found_by, view}
-use Rattle.vm_guard.proofs.{Freshly.fresh-one, FreshSure.next-found, FreshTwo.claim-keeps, GuardSteps.still-of}
-use Rattle.vm_guard.proofs.fresh_pages.give_one.Goals as goal
+use Rattle.vm_guard.proofs.{Freshly.claim-keeps, Freshly.fresh-one, FreshSure.next-found}
 use Rattle.vm_guard.proofs.FreshAnswers.{again-one, held-after, out-after, ready-after, room-one, seized-after}
+use Rattle.vm_guard.proofs.Prelude.{found_by, NextTold, ready-on, refl, subst, view, ◌∙◌}
+use Rattle.vm_guard.proofs.fresh_pages.give_one.Goals as goal
 
 pub returns-then-again-x-clause-answer : goal.returns-then-again-x-clause-answer
 returns-then-again-x-clause-answer g c v b =
@@ -13,10 +11,7 @@ pub furnish-first-requires-clause-frames : goal.furnish-first-requires-clause-fr
 furnish-first-requires-clause-frames g c = (held-after _ c.nload-again.result _ _ c.nload-again.ensures.told c.requires.frames.0, c.requires.frames.1)
 
 pub returns-clause-ready : goal.returns-clause-ready
-returns-clause-ready g c =
-    let ready = c.furnish-first.ensures.ready in
-    let kept = claim-keeps c.args.one.pid 1 _ _ _ c.claim.ensures.told in
-    record { may = (c.claim.ensures.pass.0 ∙ ready.may.0, subst (λ (ns : List ℕ). 0 < length ns) (sym kept.1) ready.may.1); table = still-of _ _ _ _ kept.0 ready.table }
+returns-clause-ready g c = let kept = claim-keeps c.args.one.pid 1 _ _ _ c.claim.ensures.told in ready-on _ _ _ _ _ c.claim.ensures.pass kept.0 kept.1 c.furnish-first.ensures.ready
 
 pub returns-clause-answer : goal.returns-clause-answer
 returns-clause-answer g c v b = (
@@ -27,13 +22,13 @@ returns-clause-answer g c v b = (
 )
 
 pub returns-then-again-x-clause-sure : goal.returns-then-again-x-clause-sure
-returns-then-again-x-clause-sure g c a is = absurd (c.if-again-x.true (next-found c.nload-again.result _ _ c.nload-again.ensures.told a ∙ is))
+returns-then-again-x-clause-sure g c a is = absurd (c.if-again-x.true (next-found c.nload-again.ensures.told a ∙ is))
 
 pub give_back-requires-clause-ready : goal.give_back-requires-clause-ready
 give_back-requires-clause-ready g c = ready-after c.nload-again.ensures.pass c.nload-again.ensures.told c.requires.ready
 
 pub give_back-requires-clause-seized : goal.give_back-requires-clause-seized
-give_back-requires-clause-seized g c = seized-after _ _ _ _ _ _ c.requires.begun.1.seizes.seized c.nload-again.ensures.told
+give_back-requires-clause-seized g c = seized-after c.requires.begun.1.seizes.seized c.nload-again.ensures.told
 
 pub give_back-requires-clause-home : goal.give_back-requires-clause-home
 give_back-requires-clause-home g c = out-after c.nload-again.ensures.told c.requires.home
@@ -42,4 +37,4 @@ pub furnish-first-requires-clause-ready : goal.furnish-first-requires-clause-rea
 furnish-first-requires-clause-ready g c = ready-after c.nload-again.ensures.pass c.nload-again.ensures.told c.requires.ready
 
 pub furnish-first-requires-clause-seized : goal.furnish-first-requires-clause-seized
-furnish-first-requires-clause-seized g c = seized-after _ _ _ _ _ _ c.requires.begun.1.seizes.seized c.nload-again.ensures.told
+furnish-first-requires-clause-seized g c = seized-after c.requires.begun.1.seizes.seized c.nload-again.ensures.told

@@ -1,6 +1,5 @@
-use Rattle.std.proofs.Common.{◌∙◌, sym}
+use Rattle.vm_guard.proofs.{Prelude.sym, Prelude.◌∙◌, Unmarking.not-marked, Unmarking.unmarked}
 use Rattle.vm_guard.proofs.opt.clear_mark.Goals as goal
-use Rattle.vm_guard.proofs.Unmarking.{not-marked, unmarked}
 
 pub returns-then-state-eq-MARKED-clause-clears : goal.returns-then-state-eq-MARKED-clause-clears
 returns-then-state-eq-MARKED-clause-clears g c = unmarked _ _ _ _ _ (sym c.state.ensures ∙ c.if-state-eq-MARKED.true) c.unmark.ensures.told

@@ -1,8 +1,6 @@
-use Rattle.std.proofs.Common.{◌∙◌, ◌≡◌, ◌≢◌, ap, arith, inr, subst, sym, ℕ}
-use Rattle.vm_core.specs.Prelude.{state_of, UNLOCKED, version_of, word_of}
-use Rattle.vm_rule.proofs.WordFacts.{version-within, word-version}
-use Rattle.vm_guard.specs.Takes.{IsToExpect}
 use Rattle.vm_guard.proofs.{Expecting.has-shares, Upgrading.unlocked-word}
+use Rattle.vm_guard.proofs.Prelude.{ap, arith, inr, IsToExpect, state_of, subst, sym, UNLOCKED, version-within, version_of, word-version, word_of, ℕ}
+use Rattle.vm_guard.proofs.Prelude.{◌∙◌, ◌≡◌}
 use Rattle.vm_guard.proofs.opt.unlocked.Goals as goal
 
 pub returns-in_default-clause-expects : goal.returns-in_default-clause-expects
@@ -16,7 +14,5 @@ returns-in_default-clause-version c =
 
 pub returns-in_default-clause-kept : goal.returns-in_default-clause-kept
 returns-in_default-clause-kept c =
-    let bare : state_of c.args.word ≢ 0 = λ (e : state_of c.args.word ≡ 0). omega (arith, c.state.ensures, e) in
-    let marked : state_of c.args.word ≢ 254 = λ (e : state_of c.args.word ≡ 254). omega (arith, c.state.ensures, e) in
-    let shares = has-shares (state_of c.args.word) c.requires.readable bare marked in
+    let shares = has-shares (state_of c.args.word) c.requires.readable (λ e. omega (arith, c.state.ensures, e)) (λ e. omega (arith, c.state.ensures, e)) in
     inr (shares.0, shares.1, c.of.ensures ∙ ap (λ (n : ℕ). word_of UNLOCKED n) c.version.ensures)

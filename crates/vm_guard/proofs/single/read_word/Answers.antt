@@ -1,9 +1,6 @@
-use Rattle.std.proofs.Common.{◌∙◌, ◌≡◌, slice_index, subst, sym, true≢false}
-use Rattle.vm_rule.specs.Prelude.{last_of}
-use Rattle.vm_step.specs.Prelude.{view}
-use Rattle.vm_guard.specs.Guards.{BeginsReading}
+use Rattle.vm_guard.proofs.Prelude.{BeginsReading, last_of, slice_index, subst, sym, true≢false, view, ◌∙◌, ◌≡◌}
+use Rattle.vm_guard.proofs.Validating.{known-at, quiet-alone, word-valid}
 use Rattle.vm_guard.proofs.single.read_word.Goals as goal
-use Rattle.vm_guard.proofs.Singles.{known-at, quiet-alone, word-valid}
 
 pub returns-in-Ok-validate_silently-clause-word : goal.returns-in-Ok-validate_silently-clause-word
 returns-in-Ok-validate_silently-clause-word g c = λ tells.

@@ -1,5 +1,5 @@
-use Rattle.std.proofs.Common.{◌<◌, ◌∙◌, subst}
-use Rattle.vm_guard.proofs.{Downgrading.downgrades, Downgrading.may-downgrade, GuardSteps.parts-on, GuardSteps.still-of}
+use Rattle.vm_guard.proofs.GuardSteps.{downgrades, may-downgrade, ready-then}
+use Rattle.vm_guard.proofs.Prelude.{subst, ◌<◌}
 use Rattle.vm_guard.proofs.exclusive.ExclusiveGuard.downgrade.Goals as goal
 
 pub downgrade-requires-clause-page : goal.downgrade-requires-clause-page
@@ -12,7 +12,4 @@ pub returns-clause-downgraded : goal.returns-clause-downgraded
 returns-clause-downgraded g c = downgrades _ _ _ _ _ _ c.requires.holds c.downgrade.ensures.told
 
 pub returns-clause-ready : goal.returns-clause-ready
-returns-clause-ready g c =
-    let ready = c.requires.ready in
-    let steady = (downgrades _ _ _ _ _ _ c.requires.holds c.downgrade.ensures.told).elsewhere.steady in
-    record { may = (c.downgrade.ensures.pass.0 ∙ ready.may.0, parts-on _ _ _ steady ready.may.1); table = still-of _ _ _ _ steady.start ready.table }
+returns-clause-ready g c = ready-then c.requires.ready c.downgrade.ensures.pass (returns-clause-downgraded g c).elsewhere.steady

@@ -1,6 +1,5 @@
-use Rattle.std.proofs.Common.{◌<◌, ◌∙◌, inl, IsSome, refl, subst, sym}
-use Rattle.vm_step.specs.Prelude.{view}
-use Rattle.vm_guard.proofs.{GuardSteps.parts-on, GuardSteps.still-of, QuietSteps.load-quiet, Seats.frame-read}
+use Rattle.vm_guard.proofs.{GuardSteps.ready-then, OpenReads.frame-read, QuietSteps.load-quiet}
+use Rattle.vm_guard.proofs.Prelude.{inl, IsSome, refl, subst, sym, view, ◌<◌}
 use Rattle.vm_guard.proofs.exclusive.ExclusiveGuard.read.Goals as goal
 
 pub load-requires-clause-page : goal.load-requires-clause-page
@@ -24,10 +23,7 @@ returns-clause-value g c tells =
     c.load.ensures.told.drafted tells h.owns (subst (λ o. IsSome o) (sym h.stands) refl)
 
 pub returns-clause-ready : goal.returns-clause-ready
-returns-clause-ready g c =
-    let ready = c.requires.ready in
-    let steady = (load-quiet _ _ _ _ _ _ c.load.ensures.told).steady in
-    record { may = (c.load.ensures.pass.0 ∙ ready.may.0, parts-on _ _ _ steady ready.may.1); table = still-of _ _ _ _ steady.start ready.table }
+returns-clause-ready g c = ready-then c.requires.ready c.load.ensures.pass (returns-clause-quiet g c).1.steady
 
 pub returns-clause-table : goal.returns-clause-table
 returns-clause-table g c a = ((load-quiet _ _ _ _ _ _ c.load.ensures.told).steady.alone.words a.0 a.1).1

@@ -1,6 +1,5 @@
-use Rattle.std.proofs.Common.{◌<◌, ◌∙◌, ◌≡◌, refl, subst}
-use Rattle.vm_step.proofs.steps.Release.{release-others}
-use Rattle.vm_guard.proofs.{Groups.later-may, GuardSteps.parts-on, GuardSteps.still-of, QuietSteps.steady-of}
+use Rattle.vm_guard.proofs.{Groups.later-may, GuardSteps.ready-then, QuietSteps.steady-of}
+use Rattle.vm_guard.proofs.Prelude.{refl, release-others, subst, ◌<◌, ◌≡◌}
 use Rattle.vm_guard.proofs.exclusive.ExclusiveGuard.release_later.Goals as goal
 
 pub release_silently-requires-clause-page : goal.release_silently-requires-clause-page
@@ -10,7 +9,4 @@ pub release_silently-requires-clause-legal : goal.release_silently-requires-clau
 release_silently-requires-clause-legal g c = later-may _ _ _ _ c.requires.due
 
 pub returns-clause-ready : goal.returns-clause-ready
-returns-clause-ready g c =
-    let ready = c.requires.ready in
-    let steady = steady-of (release-others c.release_silently.ensures.told (λ q. q ≡ c.args.self.pid) refl) in
-    record { may = (c.release_silently.ensures.pass.0 ∙ ready.may.0, parts-on _ _ _ steady ready.may.1); table = still-of _ _ _ _ steady.start ready.table }
+returns-clause-ready g c = ready-then c.requires.ready c.release_silently.ensures.pass (steady-of (release-others c.release_silently.ensures.told (λ q. q ≡ c.args.self.pid) refl))

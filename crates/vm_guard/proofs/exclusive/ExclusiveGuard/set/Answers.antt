@@ -1,9 +1,7 @@
 -- The page is made dirty, and then the word is stored.
-use Rattle.std.proofs.Common.{◌<◌, ◌∙◌, inr, subst}
-use Rattle.vm_rule.specs.Prelude.{StoresTold}
-use Rattle.vm_step.specs.Prelude.{view}
+use Rattle.vm_guard.proofs.GuardSteps.{drafts-of, holds-dirty, ready-from, sets, still-holding}
+use Rattle.vm_guard.proofs.Prelude.{inr, StoresTold, subst, view, ◌<◌, ◌∙◌}
 use Rattle.vm_guard.proofs.exclusive.ExclusiveGuard.set.Goals as goal
-use Rattle.vm_guard.proofs.GuardSteps.{drafts-of, holds-dirty, parts-on, sets, still-holding, still-of}
 
 pub store-requires-clause-frame : goal.store-requires-clause-frame
 store-requires-clause-frame g c =
@@ -22,7 +20,4 @@ pub returns-clause-holds : goal.returns-clause-holds
 returns-clause-holds g c = still-holding _ _ _ _ _ _ _ _ c.requires.holds (returns-clause-set g c)
 
 pub returns-clause-ready : goal.returns-clause-ready
-returns-clause-ready g c =
-    let ready = c.requires.ready in
-    let steady = (returns-clause-set g c).elsewhere.steady in
-    record { may = (c.store.ensures.pass.0 ∙ c.make_dirty.ensures.ready.may.0, parts-on _ _ _ steady ready.may.1); table = still-of _ _ _ _ steady.start ready.table }
+returns-clause-ready g c = ready-from c.args.pass.now c.requires.ready.may c.requires.ready.table (c.store.ensures.pass.0 ∙ c.make_dirty.ensures.pass.0) (returns-clause-set g c).elsewhere.steady

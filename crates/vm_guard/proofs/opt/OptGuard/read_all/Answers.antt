@@ -1,7 +1,6 @@
-use Rattle.std.proofs.Common.{[], ◌++◌, ◌+◌, ◌<◌, ◌∙◌, ◌∷◌, ◌≡◌, ap, List, refl, subst, sym, take, ℕ}
-use Rattle.vm_guard.specs.Guards.{placed}
-use Rattle.vm_guard.proofs.opt.OptGuard.read_all.Goals as goal
+use Rattle.vm_guard.proofs.Prelude.{[], ap, List, placed, refl, subst, sym, take, ℕ, ◌++◌, ◌+◌, ◌<◌, ◌∙◌, ◌∷◌, ◌≡◌}
 use Rattle.vm_guard.proofs.Reading.{loaded-then, none-loaded, placed-taken}
+use Rattle.vm_guard.proofs.opt.OptGuard.read_all.Goals as goal
 
 pub loop-i-init : goal.loop-i-init
 loop-i-init g c = record { same = (refl, refl); ready = c.requires.ready; size = c.requires.size; loads = none-loaded _ _ _ _ c.requires.reading }

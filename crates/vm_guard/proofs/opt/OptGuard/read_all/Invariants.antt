@@ -1,6 +1,4 @@
-use Rattle.std.proofs.Common.{◌≡◌, length, take}
-use Rattle.vm_step.specs.Prelude.{IsReady, IsSamePass, view}
-use Rattle.vm_guard.specs.Guards.{Loads, placed}
+use Rattle.vm_guard.proofs.Prelude.{IsReady, IsSamePass, length, Loads, placed, take, view, ◌≡◌}
 use Rattle.vm_guard.proofs.opt.OptGuard.read_all.Given as goal
 
 -- the words below i were loaded, and stand in the page

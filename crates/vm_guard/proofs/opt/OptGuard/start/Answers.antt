@@ -1,19 +1,16 @@
 -- The looks, the mark that is taken away and the load of the translation word give each answer.
-use Rattle.std.proofs.Common.{◌<◌, ◌∙◌, ◌≡◌, ◌≢◌, ap, inl, inr, None, refl, subst, sym, true≢false}
-use Rattle.std.proofs.lemmas.Bool.{false≢true}
-use Rattle.vm_core.specs.Prelude.{EVICTED, is_readable, state_of}
-use Rattle.vm_step.specs.Prelude.{NoneExpected}
-use Rattle.vm_guard.specs.Denied.{AgainOrNeed}
-use Rattle.vm_guard.proofs.{Denials.denied-at-once, OpenReads.locked-unreadable, OpenReads.readable-state, Validating.kept-as}
-use Rattle.vm_guard.proofs.opt.OptGuard.start.Goals as goal
-use Rattle.vm_guard.proofs.Starting.{began, looks-same, moved, names-frame, still-resident}
+use Rattle.vm_guard.proofs.{Denials.denied-at-once, OpenReads.locked-unreadable, Validating.kept-as}
+use Rattle.vm_guard.proofs.Prelude.{AgainOrNeed, ap, EVICTED, false≢true, inl, inr, is_readable, None, NoneExpected, refl, state_of, subst, sym}
+use Rattle.vm_guard.proofs.Prelude.{true≢false, ◌<◌, ◌∙◌, ◌≡◌}
+use Rattle.vm_guard.proofs.Starting.{began, looks-same, moved, names-frame}
 use Rattle.vm_guard.proofs.Sure.{look-finds, start-open, start-version}
+use Rattle.vm_guard.proofs.opt.OptGuard.start.Goals as goal
 
 pub returns-then-state-clause-err : goal.returns-then-state-clause-err
-returns-then-state-clause-err g c = denied-at-once _ AgainOrNeed NoneExpected _ _ _ _ _ c.look_silently-first.ensures.told (refl, sym c.state.ensures ∙ c.if-state.true) tt
+returns-then-state-clause-err g c = (denied-at-once _ AgainOrNeed NoneExpected _ _ _ _ _ c.look_silently-first.ensures.told (refl, sym c.state.ensures ∙ c.if-state.true) tt).0
 
 pub returns-then-state-2-clause-err : goal.returns-then-state-2-clause-err
-returns-then-state-2-clause-err g c = denied-at-once _ AgainOrNeed NoneExpected _ _ _ _ _ c.look_silently-first.ensures.told (refl, sym c.state-2.ensures ∙ c.if-state-2.true) tt
+returns-then-state-2-clause-err g c = (denied-at-once _ AgainOrNeed NoneExpected _ _ _ _ _ c.look_silently-first.ensures.told (refl, sym c.state-2.ensures ∙ c.if-state-2.true) tt).0
 
 pub returns-then-version-clause-err : goal.returns-then-version-clause-err
 returns-then-version-clause-err g c =
@@ -26,29 +23,19 @@ returns-then-state-3-clause-err g c =
 
 pub unreachable-requires : goal.unreachable-requires
 unreachable-requires g c =
-    let at = sym c.version.ensures ∙ c.if-version.false ∙ c.version-2.ensures in
-    let resident : state_of c.look_silently-first.result ≢ EVICTED = λ e. c.if-state.false (c.state.ensures ∙ e) in
     names-frame _ _ _ _ _ _ _ _ _ _ c.look_silently-first.ensures.told c.clear_mark.ensures.clears c.tload-translation.ensures.told c.look_silently-seen.ensures.told
-    (readable-state _ (subst (λ n. n < 256) c.state.ensures c.state.type_inv) (λ e. c.if-state-2.false (c.state-2.ensures ∙ e)) resident)
-    (readable-state _ (subst (λ n. n < 256) c.state-3.ensures c.state-3.type_inv) (λ e. c.if-state-3.false (c.state-3.ensures ∙ e))
-    (still-resident _ _ _ _ _ _ _ _ _ _ c.look_silently-first.ensures.told c.clear_mark.ensures.clears c.tload-translation.ensures.told c.look_silently-seen.ensures.told resident at))
-    at
+    (subst (λ n. n < 256) c.state.ensures c.state.type_inv) (λ e. c.if-state-2.false (c.state-2.ensures ∙ e)) (λ e. c.if-state.false (c.state.ensures ∙ e))
+    (subst (λ n. n < 256) c.state-3.ensures c.state-3.type_inv) (λ e. c.if-state-3.false (c.state-3.ensures ∙ e)) (sym c.version.ensures ∙ c.if-version.false ∙ c.version-2.ensures)
     (sym c.frame.ensures ∙ c.in-None.is)
 
 pub returns-clause-ok : goal.returns-clause-ok
-returns-clause-ok g c =
-    let at = sym c.version.ensures ∙ c.if-version.false ∙ c.version-2.ensures in
-    let resident : state_of c.look_silently-first.result ≢ EVICTED = λ e. c.if-state.false (c.state.ensures ∙ e) in (
-      refl,
-      began _ _ _ _ _ _ _ _ _ _ c.look_silently-first.ensures.told c.clear_mark.ensures.clears c.tload-translation.ensures.told c.look_silently-seen.ensures.told
-          (readable-state _ (subst (λ n. n < 256) c.state.ensures c.state.type_inv) (λ e. c.if-state-2.false (c.state-2.ensures ∙ e)) resident)
-          (readable-state _ (subst (λ n. n < 256) c.state-3.ensures c.state-3.type_inv) (λ e. c.if-state-3.false (c.state-3.ensures ∙ e))
-          (still-resident _ _ _ _ _ _ _ _ _ _ c.look_silently-first.ensures.told c.clear_mark.ensures.clears c.tload-translation.ensures.told c.look_silently-seen.ensures.told resident at))
-          at
-          _
-          (subst (λ n. c.args.pid < n) (sym c.look_silently-first.ensures.table.is_shape.pages) c.requires.page)
-          (sym c.frame.ensures ∙ c.in-Some.is),
-    )
+returns-clause-ok g c = (
+  refl,
+  began _ _ _ _ _ _ _ _ _ _ c.look_silently-first.ensures.told c.clear_mark.ensures.clears c.tload-translation.ensures.told c.look_silently-seen.ensures.told
+      (subst (λ n. n < 256) c.state.ensures c.state.type_inv) (λ e. c.if-state-2.false (c.state-2.ensures ∙ e)) (λ e. c.if-state.false (c.state.ensures ∙ e))
+      (subst (λ n. n < 256) c.state-3.ensures c.state-3.type_inv) (λ e. c.if-state-3.false (c.state-3.ensures ∙ e)) (sym c.version.ensures ∙ c.if-version.false ∙ c.version-2.ensures)
+      _ (subst (λ n. c.args.pid < n) (sym c.look_silently-first.ensures.table.is_shape.pages) c.requires.page) (sym c.frame.ensures ∙ c.in-Some.is),
+)
 
 pub returns-then-state-clause-sure : goal.returns-then-state-clause-sure
 returns-then-state-clause-sure g c a open_word =
@@ -88,12 +75,8 @@ returns-then-state-3-clause-kept g c tells = kept-as g.U.Owner.keeps c.args.pid 
 
 pub returns-clause-kept : goal.returns-clause-kept
 returns-clause-kept g c tells =
-    let at = sym c.version.ensures ∙ c.if-version.false ∙ c.version-2.ensures in
-    let resident : state_of c.look_silently-first.result ≢ EVICTED = λ e. c.if-state.false (c.state.ensures ∙ e) in
     kept-as g.U.Owner.keeps c.args.pid _ _ _
     (λ _. looks-same _ _ _ _ _ _ _ _ _ _ c.look_silently-first.ensures.told c.clear_mark.ensures.clears c.tload-translation.ensures.told c.look_silently-seen.ensures.told
-    (readable-state _ (subst (λ n. n < 256) c.state.ensures c.state.type_inv) (λ e. c.if-state-2.false (c.state-2.ensures ∙ e)) resident)
-    (readable-state _ (subst (λ n. n < 256) c.state-3.ensures c.state-3.type_inv) (λ e. c.if-state-3.false (c.state-3.ensures ∙ e))
-    (still-resident _ _ _ _ _ _ _ _ _ _ c.look_silently-first.ensures.told c.clear_mark.ensures.clears c.tload-translation.ensures.told c.look_silently-seen.ensures.told resident at))
-    at)
+    (subst (λ n. n < 256) c.state.ensures c.state.type_inv) (λ e. c.if-state-2.false (c.state-2.ensures ∙ e)) (λ e. c.if-state.false (c.state.ensures ∙ e))
+    (subst (λ n. n < 256) c.state-3.ensures c.state-3.type_inv) (λ e. c.if-state-3.false (c.state-3.ensures ∙ e)) (sym c.version.ensures ∙ c.if-version.false ∙ c.version-2.ensures))
     (c.look_silently-seen.ensures.kept tells)

@@ -1,16 +1,14 @@
-use Rattle.std.proofs.Common.{◌<◌, ◌∙◌, ◌≡◌, ◌≢◌, ◌≤◌, arith, inl, refl, subst, sym}
-use Rattle.vm_core.specs.Prelude.{version_of}
-use Rattle.vm_rule.proofs.WordFacts.{version-within}
-use Rattle.vm_guard.proofs.{GuardSteps.parts-on, GuardSteps.still-of, Lockings.lock-owns, Lockings.lock-resident, Sure.upgrade-sure}
+use Rattle.vm_guard.proofs.{GuardSteps.ready-from, GuardSteps.ready-then, Lockings.lock-owns, Lockings.lock-resident, Sure.upgrade-sure}
+use Rattle.vm_guard.proofs.Prelude.{arith, inl, refl, subst, sym, version-within, version_of, ⊎_elim, ◌<◌, ◌∙◌, ◌≡◌, ◌≢◌, ◌≤◌}
+use Rattle.vm_guard.proofs.Upgrading.{lost, upgraded, worn}
 use Rattle.vm_guard.proofs.opt.OptGuard.upgrade.Goals as goal
-use Rattle.vm_guard.proofs.Upgrading.{lost, upgraded, was-readable, worn}
 
 pub returns-then-version-eq-MAX_VERSION-clause-denied : goal.returns-then-version-eq-MAX_VERSION-clause-denied
 returns-then-version-eq-MAX_VERSION-clause-denied g c =
     worn g.U.Owner.tied _ _ c.args.self.frame _ _ _ c.look_silently.ensures.told c.requires.reading (sym c.version.ensures ∙ c.if-version-eq-MAX_VERSION.true)
 
 pub unlocked-expects-requires-clause-readable : goal.unlocked-expects-requires-clause-readable
-unlocked-expects-requires-clause-readable g c = was-readable g.U.Owner.tied c.args.self.pid c.args.self.word c.args.self.frame _ c.requires.reading
+unlocked-expects-requires-clause-readable g c = ⊎_elim (λ r. r.open_word) (λ h. h.open_word) c.requires.reading
 
 pub unlocked-expects-requires-clause-below : goal.unlocked-expects-requires-clause-below
 unlocked-expects-requires-clause-below g c =
@@ -48,11 +46,7 @@ returns-in-Lost-clause-sure g c a free known below =
     absurd (upgrade-sure g.U.Owner.tied c.args.self.pid c.args.self.word _ _ _ _ lost.told c.unlocked-expects.ensures.kept c.unlocked-expects.ensures.expects.may_lock (lost.lost _ refl) a free known)
 
 pub returns-in-Lost-clause-ready : goal.returns-in-Lost-clause-ready
-returns-in-Lost-clause-ready g c =
-    let steady = (returns-in-Lost-clause-denied g c).quiet.steady in
-    record { may = (c.in-Lost.ensures.pass.0 ∙ c.requires.ready.may.0, parts-on _ _ _ steady c.requires.ready.may.1); table = still-of _ _ _ _ steady.start c.requires.ready.table }
+returns-in-Lost-clause-ready g c = ready-then c.requires.ready c.in-Lost.ensures.pass (returns-in-Lost-clause-denied g c).quiet.steady
 
 pub returns-in-Taken-clause-ready : goal.returns-in-Taken-clause-ready
-returns-in-Taken-clause-ready g c =
-    let steady = (returns-in-Taken-clause-taken g c).2.elsewhere.steady in
-    record { may = (c.standing-stands.ensures.pass.0 ∙ c.in-Taken.ensures.pass.0 ∙ c.requires.ready.may.0, parts-on _ _ _ steady c.requires.ready.may.1); table = still-of _ _ _ _ steady.start c.requires.ready.table }
+returns-in-Taken-clause-ready g c = ready-from c.args.pass.now c.requires.ready.may c.requires.ready.table (c.standing-stands.ensures.pass.0 ∙ c.in-Taken.ensures.pass.0) (returns-in-Taken-clause-taken g c).2.elsewhere.steady

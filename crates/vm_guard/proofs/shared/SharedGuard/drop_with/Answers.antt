@@ -1,5 +1,4 @@
-use Rattle.std.proofs.Common.{◌<◌, ◌∙◌, subst}
-use Rattle.vm_guard.proofs.GuardSteps.{gives-up, parts-on, still-of}
+use Rattle.vm_guard.proofs.{GuardSteps.gives-up, GuardSteps.ready-then, Prelude.subst, Prelude.◌<◌}
 use Rattle.vm_guard.proofs.shared.SharedGuard.drop_with.Goals as goal
 
 pub unlock_shared-requires-clause-page : goal.unlock_shared-requires-clause-page
@@ -9,7 +8,4 @@ pub returns-clause-given_up : goal.returns-clause-given_up
 returns-clause-given_up g c = gives-up _ _ _ _ c.requires.legal.has c.unlock_shared.ensures.told
 
 pub returns-clause-ready : goal.returns-clause-ready
-returns-clause-ready g c =
-    let ready = c.requires.ready in
-    let steady = (gives-up _ _ _ _ c.requires.legal.has c.unlock_shared.ensures.told).elsewhere.steady in
-    record { may = (c.unlock_shared.ensures.pass.0 ∙ ready.may.0, parts-on _ _ _ steady ready.may.1); table = still-of _ _ _ _ steady.start ready.table }
+returns-clause-ready g c = ready-then c.requires.ready c.unlock_shared.ensures.pass (returns-clause-given_up g c).elsewhere.steady
