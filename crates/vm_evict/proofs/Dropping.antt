@@ -1,26 +1,20 @@
--- A clean page that the pass holds exclusively is taken out of its frame, which is the pass's then.
-use Rattle.std.proofs.Common.{[], ◌++◌, ◌<◌, ◌==◌, ◌∙◌, ◌∷◌, ◌≡◌, ◌≢◌, ap, append_assoc, Bool, false, inl, inr, List, None, refl, Some, subst, sym}
-use Rattle.std.proofs.Common.{true, ℕ}
-use Rattle.std.proofs.lemmas.Bool.{false≢true, or_left}
-use Rattle.std.proofs.lemmas.Option.{none-some, same_Some}
-use Rattle.vm_core.specs.Prelude.{frame_in, frame_of, LOCKED, mapping_of, trans_word, Version, version_of}
-use Rattle.vm_core.proofs.Upd.{upd-other}
-use Rattle.vm_rule.specs.Prelude.{clean_in, ClearTold, contents_at, did_load, did_store, has, held_at, IsLocking, put_at, Seat, seat_of, StandsClean}
-use Rattle.vm_rule.specs.Prelude.{translation_of, TranslationTold}
-use Rattle.vm_rule.specs.declared.view.Held.{Held}
+-- A clean page that the pass holds exclusively is taken out of its frame, which is the pass's then, and released as evicted.
 use Rattle.vm_rule.specs.declared.view.Place.TheVariants as places
-use Rattle.vm_rule.proofs.{Entries.append-none, Heard.each-both}
-use Rattle.vm_step.specs.Prelude.{Did, IsAlone, Origin, StaysHome, View, Works}
-use Rattle.vm_step.proofs.{Alone.stays-alone, DeviceCalls.home-both, DeviceCalls.no-fault, Leaves.works-then, steps.Mapping.clear-held}
-use Rattle.vm_step.proofs.{steps.Mapping.clear-works, steps.Translate.tload-works}
-use Rattle.vm_evict.specs.{Evictions.FramesCome, Tables.KnowsStage}
 use Rattle.vm_evict.specs.declared.candidate.Phase.TheVariants as phases
 use Rattle.vm_evict.specs.declared.candidate.Stage.TheVariants as stages
-use Rattle.vm_evict.specs.Stages.{Advances, IsEmptied, IsOwning, one, owning_seat}
-use Rattle.vm_evict.proofs.Evidenced.{locks-front, no-state, none-kept, not-emptied, not-fault, saved-front}
-use Rattle.vm_evict.proofs.Gathering.{or-none}
-use Rattle.vm_evict.proofs.Tables.{kept-at, left-at, left-last, locked-on}
-use Rattle.vm_evict.proofs.Taken.{frame-said, locks-now, taken-works}
+use Rattle.vm_evict.proofs.Evidenced.{locks-front, no-mapping, no-state, none-kept, not-emptied, not-fault, out-front, saved-front}
+use Rattle.vm_evict.proofs.Moving.{come-still}
+use Rattle.vm_evict.proofs.Prelude.{[], Advances, ap, append-none, append_assoc, arith, Bool, clean_in, clear-held, clear-works, ClearTold}
+use Rattle.vm_evict.proofs.Prelude.{contents_at, Did, did_load, did_store, Does, draft_of, Each, each-both, evict-alone, evict-leaves, evict-seat}
+use Rattle.vm_evict.proofs.Prelude.{EVICTED, evicted_view, EvictTold, false, false≢true, frame_in, frame_of, FramesCome, has, HasReleased, Held}
+use Rattle.vm_evict.proofs.Prelude.{held_at, home-both, inl, inr, IsAlone, IsEmptied, IsLocking, IsOwning, IsPageFreed, KnowsStage, last_in, last_of}
+use Rattle.vm_evict.proofs.Prelude.{LeavesRest, List, LOCKED, mapping_of, MARKED, MAX_VERSION, MayEvict, Moves, nat_tests, no-fault, None, none-some}
+use Rattle.vm_evict.proofs.Prelude.{or_left, Origin, owning_seat, put_at, refl, Release, release_at, rules, runs-one, same_Some, Seat, seat_of, Some}
+use Rattle.vm_evict.proofs.Prelude.{StandsClean, state_of, stays-alone, StaysHome, subst, sym, tload-works, trans_word, translation_of}
+use Rattle.vm_evict.proofs.Prelude.{TranslationTold, true, upd-other, Version, version_of, View, word-state, word_of, Works, works-then, ℕ, ◌++◌, ◌+◌}
+use Rattle.vm_evict.proofs.Prelude.{◌<◌, ◌||◌, ◌∙◌, ◌∷◌, ◌≡◌, ◌≢◌, ◌≤◌}
+use Rattle.vm_evict.proofs.Tables.{kept-at, left-at, left-last, locked-on, state-left}
+use Rattle.vm_evict.proofs.Taken.{frame-said, free-rests, locks-now, taken-works}
 
 module _ {X : Type 0} (p word frame : ℕ) (written : Bool) (done : List Did) (v x : View X) (h : IsOwning p word frame written done v x) where
   locks : IsLocking (seat_of x p)
@@ -78,20 +72,22 @@ module _ {X : Type 0} (p word frame : ℕ) (written : Bool) (done : List Did) (v
       emptied : IsEmptied p word frame written all v b
       emptied = record {
         taken = taken-works p word owning_seat (inl refl) v x h.taken worked b work (subst (λ (k : Held). k.fault ≡ k.block.count) (sym held-cleared) h.taken.told);
-        locked = locks-front p word done worked h.locked;
-        foreign =
-            each-both (λ (d : Did). d.at ≡ places.State p → d.wrote ≢ Some word) done worked h.foreign
-            ((λ here. absurd (no-state p (places.Translation p) refl here)), ((λ here. absurd (no-state p (places.Translation p) refl here)), tt));
+        out = record {
+          locked = locks-front p word done worked h.locked;
+          foreign =
+              each-both (λ (d : Did). d.at ≡ places.State p → d.wrote ≢ Some word) done worked h.foreign
+              ((λ here. absurd (no-state p (places.Translation p) refl here)), ((λ here. absurd (no-state p (places.Translation p) refl here)), tt));
+          stood = (t, record { earlier = done; step = load-did; later = clear-did ∷ []; cut = refl; gives = (refl, refl) }, said);
+          cleaned = λ e. saved-front p word frame done worked (h.cleaned e) home-worked;
+          unwritten = λ e. (
+            each-both leaves-it done worked (none-kept done (places.Translation p) (trans_word (Some (clean_in frame))) (h.kept e).kept)
+                ((λ here is. none-some (trans_word (Some (clean_in frame))) is), ((λ here is. not-emptied frame (same_Some (trans_word None) (trans_word (Some (clean_in frame))) is)), tt)),
+            home-both p done worked (h.kept e).home home-worked,
+          );
+          emptied = record { earlier = done ++ load-did ∷ []; step = clear-did; later = []; cut = sym (append_assoc done (load-did ∷ []) (clear-did ∷ [])); place = refl; wrote = refl };
+        };
         empty = ap (λ (k : Held). k.mapping) held-cleared;
         draft = work.draft ∙ h.draft ∙ ap (λ (r : Version). r.words) (sym (work.last locks));
-        stood = (t, record { earlier = done; step = load-did; later = clear-did ∷ []; cut = refl; gives = (refl, refl) }, said);
-        cleaned = λ e. saved-front p word frame done worked (h.cleaned e) home-worked;
-        unwritten = λ e. (
-          each-both leaves-it done worked (none-kept done (places.Translation p) (trans_word (Some (clean_in frame))) (h.kept e).kept)
-              ((λ here is. none-some (trans_word (Some (clean_in frame))) is), ((λ here is. not-emptied frame (same_Some (trans_word None) (trans_word (Some (clean_in frame))) is)), tt)),
-          home-both p done worked (h.kept e).home home-worked,
-        );
-        emptied = record { earlier = done ++ load-did ∷ []; step = clear-did; later = []; cut = sym (append_assoc done (load-did ∷ []) (clear-did ∷ [])); place = refl; wrote = refl };
       }
 
       frames-now : b.frames ≡ frame ∷ x.frames
@@ -101,17 +97,12 @@ module _ {X : Type 0} (p word frame : ℕ) (written : Bool) (done : List Did) (v
       was-none = ap (has frame) (sym (ap (λ (y : View X). y.frames) l.brings.view)) ∙ c.new
 
       come : FramesCome (frame ∷ []) x b
-      come = record {
-        apart = (refl, tt);
-        inside = (subst (λ (o : Origin). frame < o.frames) loaded.leaves.start c.inside, tt);
-        new = (was-none, tt);
-        all = λ f. ap (has f) frames-now ∙ or-none (f == frame) (has f x.frames);
-        words = λ f here.
-            let ne : f ≢ frame = λ is. false≢true (sym was-none ∙ subst (λ (n : ℕ). has n x.frames ≡ true) is here) in
-            ap (λ (y : View X). contents_at y f) c.brings.view
-            ∙ upd-other (put_at [] a.contents) frame c.words f ne
-            ∙ ap (λ (y : View X). contents_at y f) l.brings.view;
-      }
+      come =
+          let words : (f : ℕ) → has f x.frames ≡ true → contents_at b f ≡ contents_at x f = λ f here.
+          let ne : f ≢ frame = λ is. false≢true (sym was-none ∙ subst (λ (n : ℕ). has n x.frames ≡ true) is here) in
+          ap (λ (y : View X). contents_at y f) c.brings.view ∙ upd-other (put_at [] a.contents) frame c.words f ne ∙ ap (λ (y : View X). contents_at y f) l.brings.view in
+          let all : (f : ℕ) → has f b.frames ≡ (has f (frame ∷ []) || has f x.frames) = λ f. (let now = ap (has f) frames-now in grind (arith, nat_tests, now)) in
+          search (rules, subst (λ (o : Origin). frame < o.frames) loaded.leaves.start c.inside, was-none, all, words)
 
       emptied-known : IsAlone x → p < x.start.pages → KnowsStage (p, word) (stages.Owned written) v x → KnowsStage (p, word) (stages.Emptied frame written) v b
       emptied-known alone page k =
@@ -123,26 +114,86 @@ module _ {X : Type 0} (p word frame : ℕ) (written : Bool) (done : List Did) (v
           )
 
       pub emptied-so : Advances phases.Empty (p, word) (stages.Owned written) (stages.Emptied frame written) done v x b
-      emptied-so = record {
-        more = worked;
-        moves = record {
-          leaves = work.leaves;
-          does = (inl (t, refl), (inr refl, tt));
-          home = λ e. ap (λ (y : View X). y.out) c.brings.view ∙ ap (λ (y : View X). y.out) l.brings.view ∙ e;
-          newer = translation_of p t (seat_of x p).reading;
-          reads = ap (λ (y : View X). y.translations) c.brings.view ∙ ap (λ (y : View X). y.translations) l.brings.view;
-        };
-        at = emptied;
-        ends = tt;
-        own = [];
-        runs = work.alone;
-        alone = stays-alone worked x b work.leaves.start work.alone;
-        releases = record { is = refl; when = inl refl };
-        notes = [];
-        noted = ap (λ (y : View X). y.notes) c.brings.view ∙ ap (λ (y : View X). y.notes) l.brings.view ∙ sym (append-none x.notes);
-        notes_are = record { is = refl; when = inl refl };
-        frames = frame ∷ [];
-        come = one frame refl come;
-        frames_are = record { is = refl; when = inr refl };
-        table = emptied-known;
-      }
+      emptied-so =
+          let out : x.out ≡ None → b.out ≡ None = λ e. ap (λ (y : View X). y.out) c.brings.view ∙ ap (λ (y : View X). y.out) l.brings.view ∙ e in
+          let reads : b.translations ≡ translation_of p t (seat_of x p).reading ++ x.translations = ap (λ (y : View X). y.translations) c.brings.view ∙ ap (λ (y : View X). y.translations) l.brings.view in
+          let notes : b.notes ≡ x.notes ++ [] = ap (λ (y : View X). y.notes) c.brings.view ∙ ap (λ (y : View X). y.notes) l.brings.view ∙ sym (append-none x.notes) in
+          let does : Each (Does phases.Empty (p, word)) worked = (inl (t, refl), (inr refl, tt)) in
+          let moves : Moves phases.Empty (p, word) worked x b = search (rules, work.leaves, does, out, reads) in
+          search (rules, moves, emptied, work.alone, stays-alone worked x b work.leaves.start work.alone, notes, come, emptied-known)
+
+-- ---- A page that the pass holds exclusively, and that was taken out of its frame, is released as evicted: nothing but its version is another then.
+
+module _ {X : Type 0} (p word frame : ℕ) (written : Bool) (marked : state_of word ≡ MARKED) (below : version_of word < MAX_VERSION) (done : List Did) (v b : View X) (h : IsEmptied p word frame written done v b) where
+  locked-now : IsLocking (seat_of b p)
+  locked-now = locks-now p word owning_seat (inl refl) v b h.taken
+
+  owns : (seat_of b p).exclusive ≡ true
+  owns = ap (λ (s : Seat). s.exclusive) h.taken.now
+
+  pub may-evict : (version : ℕ) → version ≡ version_of word → b.out ≡ None → MayEvict b p version
+  may-evict version is home = grind arith
+
+  evicted-else : word_of EVICTED (version_of word + 1) ≢ word
+  evicted-else e =
+      let within : version_of word + 1 ≤ MAX_VERSION = omega (arith, below) in
+      let same : EVICTED ≡ MARKED = sym (word-state EVICTED (version_of word + 1) within) ∙ ap state_of e ∙ marked in
+      absurd (omega (arith, same))
+
+  module _ (w : View X) (e : EvictTold p (version_of word) b w) where
+    abbrev end-did : Did
+    end-did = did_store (places.State p) (word_of EVICTED (version_of word + 1))
+
+    abbrev end-release : Release
+    end-release = record { page = p; version = version_of word + 1; words = draft_of b p }
+
+    abbrev end-all : List Did
+    end-all = done ++ end-did ∷ []
+
+    seat-now : seat_of w p ≡ record { shares = 0; exclusive = false; writing = false; reading = None }
+    seat-now = evict-seat e ∙ ap (λ (s : Seat). record s { exclusive = false }) h.taken.now
+
+    changes : LeavesRest p (end-did ∷ []) b w
+    changes = evict-leaves e h.taken.next
+
+    abbrev since : List Release
+    since = h.taken.since.0 ++ e.brings.between
+
+    known : b.releases ++ e.brings.between ≡ v.releases ++ since
+    known = ap (λ (r : List Release). r ++ e.brings.between) h.taken.since.1 ∙ append_assoc v.releases h.taken.since.0 e.brings.between
+
+    released : HasReleased p word v w
+    released =
+        let item : List ℕ → Release = λ k. record { page = p; version = version_of word + 1; words = k } in
+        let first = ap (λ (y : View X). y.releases) e.brings.view ∙ ap (λ (r : List Release). r ++ end-release ∷ []) known in
+        let now : w.releases ≡ ((v.releases ++ since) ++ item (last_of b p).words ∷ []) ++ [] = first ∙ ap (λ (k : List ℕ). (v.releases ++ since) ++ item k ∷ []) h.draft ∙ sym (append-none ((v.releases ++ since) ++ item (last_of b p).words ∷ [])) in
+        let same : last_in v.start (v.releases ++ since) p ≡ record { version = version_of word; words = (last_of b p).words } =
+        ap (λ (r : List Release). last_in v.start r p) (sym known) ∙ ap (λ (o : Origin). last_in o (b.releases ++ e.brings.between) p) (sym h.taken.start) ∙ e.brings.kept p locked-now
+        ∙ ap (λ (n : ℕ). record { version = n; words = (last_of b p).words }) {x = (last_of b p).version} {y = version_of word} h.taken.at in
+        search (rules, now, same)
+
+    freed : IsPageFreed p word frame written end-all v w
+    freed = record {
+      out =
+          out-front p word frame written done (end-did ∷ []) h.out ((λ here is. evicted-else (same_Some (word_of EVICTED (version_of word + 1)) word is)), tt)
+          (none-kept (end-did ∷ []) (places.Translation p) (trans_word (Some (clean_in frame))) (no-mapping p end-did refl, tt)) ((λ here. refl), tt);
+      left = record { earlier = done; step = end-did; later = []; cut = refl; place = refl; wrote = refl };
+      released = released;
+    }
+
+    freed-known : IsAlone b → p < b.start.pages → KnowsStage (p, word) (stages.Emptied frame written) v b → KnowsStage (p, word) (stages.Freed frame written) v w
+    freed-known alone page k =
+        let runs = runs-one end-did _ (end-release ∷ []) [] b (evicted_view p b) w e.brings in
+        let l = state-left end-did (end-release ∷ []) b w changes.start runs alone p page refl (word_of EVICTED (version_of word + 1)) refl in
+        (record { before = k.0.before; now = l.0 }, l.1 ∙ k.1, l.2 ∙ k.2)
+
+    pub freed-so : Advances phases.Leave (p, word) (stages.Emptied frame written) (stages.Freed frame written) done v b w
+    freed-so =
+        let runs = runs-one end-did _ (end-release ∷ []) [] b (evicted_view p b) w e.brings in
+        let out : b.out ≡ None → w.out ≡ None = λ none. ap (λ (y : View X). y.out) e.brings.view ∙ none in
+        let reads : w.translations ≡ [] ++ b.translations = ap (λ (y : View X). y.translations) e.brings.view in
+        let notes : w.notes ≡ b.notes ++ [] = ap (λ (y : View X). y.notes) e.brings.view ∙ sym (append-none b.notes) in
+        let moves : Moves phases.Leave (p, word) (end-did ∷ []) b w = search (rules, changes, out, reads) in
+        let left : release_at b (p, word) (stages.Freed frame written) ≡ end-release ∷ [] = ap (λ (k : List ℕ). record { page = p; version = version_of word + 1; words = k } ∷ []) (sym h.draft) in
+        let come : FramesCome [] b w = come-still b w (ap (λ (y : View X). y.frames) e.brings.view) (ap (λ (y : View X). y.contents) e.brings.view) in
+        search (rules, moves, freed, free-rests p v w h.taken.before seat-now, runs, evict-alone e h.draft, left, notes, come, freed-known)

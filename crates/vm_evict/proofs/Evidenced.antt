@@ -1,18 +1,12 @@
 -- Evidence in a longer list of steps, and what a pass leaves of a page that it locked and gave up again.
-use Rattle.std.proofs.Common.{[], ⊎_elim, ◌++◌, ◌+◌, ◌==◌, ◌∙◌, ◌∷◌, ◌≡◌, ◌≢◌, ◌≤◌, ap, append_assoc, arith, Bool, eqb, false, if◌then◌else◌, List}
-use Rattle.std.proofs.Common.{None, Option, refl, Some, sym, true, ℕ}
-use Rattle.std.proofs.lemmas.Bool.{cond-false, cond-true, eq-eqb, false≢true, ne_eqb}
-use Rattle.std.proofs.lemmas.Option.{none-some, same_Some}
-use Rattle.vm_core.specs.Prelude.{frame_of, LOCKED, trans_word, version_of, word_of}
-use Rattle.vm_rule.specs.Prelude.{clean_in, did_exchange, did_load, Each, IsLocking, IsUnheld, Mapping, seat_of}
-use Rattle.vm_rule.specs.declared.view.Place.{Place}
 use Rattle.vm_rule.specs.declared.view.Place.TheVariants as places
-use Rattle.vm_rule.proofs.{Entries.each-map, Heard.each-both}
-use Rattle.vm_step.specs.Prelude.{Did, GoesOnce, IsLost, StaysHome, View, WritesNone}
-use Rattle.vm_step.proofs.DeviceCalls.{home-both, is-fault, no-fault, once-behind, once-front}
-use Rattle.vm_step.proofs.Evidenced.{given-behind, given-front}
-use Rattle.vm_evict.specs.Evictions.{by_share, HasLost, HasTaken, IsSavedFrom, IsSharedToSave, LocksFrom, once}
-use Rattle.vm_evict.specs.Writes.{HasNotSaved, HasSaved, IsFoundDirty}
+use Rattle.vm_evict.proofs.Prelude.{[], ap, append_assoc, arith, Bool, by_share, clean_in, cond-false, cond-true, Did, did_exchange, did_load, Each}
+use Rattle.vm_evict.proofs.Prelude.{each-both, each-map, eq-eqb, eqb, false, false≢true, frame_of, given-behind, given-front, GoesOnce, HasLost}
+use Rattle.vm_evict.proofs.Prelude.{HasNotSaved, HasSaved, HasStep, HasTaken, holds-then, HoldsPage, home-both, if◌then◌else◌, is-fault, IsFoundDirty}
+use Rattle.vm_evict.proofs.Prelude.{IsLocking, IsLost, IsSavedFrom, IsSharedToSave, IsTakenOut, knows-then, KnowsAsBefore, List, LocksFrom, Mapping}
+use Rattle.vm_evict.proofs.Prelude.{ne_eqb, no-fault, None, none-some, once, once-behind, once-front, Option, Place, refl, Rests, same_Some, Seat}
+use Rattle.vm_evict.proofs.Prelude.{seat_of, Some, StaysHome, still-locking, sym, trans_word, true, View, WritesNone, written-front, ℕ, ⊎_elim, ◌++◌}
+use Rattle.vm_evict.proofs.Prelude.{◌+◌, ◌==◌, ◌∙◌, ◌∷◌, ◌≡◌, ◌≢◌, ◌≤◌}
 
 pub dirty-front : (p frame : ℕ) (a b : List Did) → IsFoundDirty p frame a → IsFoundDirty p frame (a ++ b)
 dirty-front p frame a b d = (d.0, given-front a b (places.Translation p) d.0 d.1, d.2)
@@ -23,15 +17,7 @@ lost-one at expects found new ne = record { gives = (refl, refl); expected = ref
 
 -- such an exchange, behind steps that had not left there the word that it found
 abbrev pub has-lost : (a b : List Did) (at : Place) (expects found new : ℕ) → found ≢ expects → Each (λ d. d.at ≡ at → d.wrote ≢ Some found) a → HasLost (a ++ did_exchange at expects found new ∷ b) at expects
-has-lost a b at expects found new ne foreign = record {
-  earlier = a;
-  step = did_exchange at expects found new;
-  later = b;
-  cut = refl;
-  found = found;
-  lost = lost-one at expects found new ne;
-  foreign = foreign;
-}
+has-lost a b at expects found new ne foreign = record { earlier = a; step = did_exchange at expects found new; later = b; cut = refl; is = (found, lost-one at expects found new ne, foreign) }
 
 -- an exchange that took left the new word
 pub wrote-taken : (expects new : ℕ) → (if expects == expects then Some new else None) ≡ Some new
@@ -39,39 +25,19 @@ wrote-taken expects new = cond-true (eqb expects expects) (Some new) None (eq-eq
 
 -- ---- evidence in front of more steps
 
-abbrev pub taken-front : (a b : List Did) (at : Place) (expects new : ℕ) → HasTaken a at expects new → HasTaken (a ++ b) at expects new
-taken-front a b at expects new h = record {
-  earlier = h.earlier;
-  step = h.step;
-  later = h.later ++ b;
-  cut = ap (λ (t : List Did). t ++ b) h.cut ∙ append_assoc h.earlier (h.step ∷ h.later) b;
-  place = h.place;
-  expected = h.expected;
-  found = h.found;
-  wrote = h.wrote;
-}
+abbrev pub step-front : {kind : List Did → Did → Type 0} (a b : List Did) → HasStep kind a → HasStep kind (a ++ b)
+step-front a b h = record { earlier = h.earlier; step = h.step; later = h.later ++ b; cut = ap (λ (t : List Did). t ++ b) h.cut ∙ append_assoc h.earlier (h.step ∷ h.later) b; is = h.is }
 
 -- an exchange that took, behind these steps
 abbrev pub has-taken : (a : List Did) (at : Place) (expects new : ℕ) → HasTaken (a ++ did_exchange at expects expects new ∷ []) at expects new
-has-taken a at expects new = record { earlier = a; step = did_exchange at expects expects new; later = []; cut = refl; place = refl; expected = refl; found = refl; wrote = wrote-taken expects new }
+has-taken a at expects new = record { earlier = a; step = did_exchange at expects expects new; later = []; cut = refl; is = (refl, refl, refl, wrote-taken expects new) }
 
 abbrev pub shared-front : (p word : ℕ) (a b : List Did) → IsSharedToSave p word a → IsSharedToSave p word (a ++ b)
-shared-front p word a b h = record { taken = taken-front a b (places.State p) word (word_of 1 (version_of word)) h.taken; why = h.why }
-
-abbrev pub lost-front : (a b : List Did) (at : Place) (expects : ℕ) → HasLost a at expects → HasLost (a ++ b) at expects
-lost-front a b at expects h = record {
-  earlier = h.earlier;
-  step = h.step;
-  later = h.later ++ b;
-  cut = ap (λ (t : List Did). t ++ b) h.cut ∙ append_assoc h.earlier (h.step ∷ h.later) b;
-  found = h.found;
-  lost = h.lost;
-  foreign = h.foreign;
-}
+shared-front p word a b h = record { taken = step-front a b h.taken; why = h.why }
 
 pub locks-front : (p word : ℕ) (a b : List Did) → LocksFrom p word a → LocksFrom p word (a ++ b)
-locks-front p word a b (once h) = once (taken-front a b (places.State p) word (word_of LOCKED (version_of word)) h)
-locks-front p word a b (by_share l h) = by_share (taken-front a b (places.State p) (word_of 1 (version_of word)) (word_of LOCKED (version_of word)) l) h
+locks-front p word a b (once h) = once (step-front a b h)
+locks-front p word a b (by_share l h) = by_share (step-front a b l) h
 
 -- what was written under the share, by more steps under it
 pub saved-under : (p frame : ℕ) (under b done all : List Did) → HasSaved p frame under done → GoesOnce p all → HasSaved p frame (under ++ b) all
@@ -163,6 +129,18 @@ unsaved-one p d mapping fault = record { kept = (no-mapping p d mapping, tt); ho
 pub unsaved-load : (p found : ℕ) → HasNotSaved p (did_load (places.Translation p) found ∷ [])
 unsaved-load p found = record { kept = ((λ here. refl), tt); home = (no-fault p (did_load (places.Translation p) found) refl, tt) }
 
+-- a page that was taken out, by more steps that neither put the word of the mark there nor make it clean, and move no block
+pub out-front : (p word frame : ℕ) (written : Bool) (a b : List Did) → IsTakenOut p word frame written a → Each (λ d. d.at ≡ places.State p → d.wrote ≢ Some word) b
+    → Each (λ d. d.at ≡ places.Translation p → d.wrote ≢ Some (trans_word (Some (clean_in frame)))) b → StaysHome p b → IsTakenOut p word frame written (a ++ b)
+out-front p word frame written a b h foreign uncleaned home = record {
+  locked = locks-front p word a b h.locked;
+  foreign = each-both (λ (d : Did). d.at ≡ places.State p → d.wrote ≢ Some word) a b h.foreign foreign;
+  stood = (h.stood.0, given-front a b (places.Translation p) h.stood.0 h.stood.1, h.stood.2);
+  cleaned = λ e. saved-front p word frame a b (h.cleaned e) home;
+  unwritten = λ e. (each-both (λ (d : Did). d.at ≡ places.Translation p → d.wrote ≢ Some (trans_word (Some (clean_in frame)))) a b (h.unwritten e).0 uncleaned, home-both p a b (h.unwritten e).1 home);
+  emptied = written-front a b (places.Translation p) (trans_word None) h.emptied;
+}
+
 -- a page stands in one frame
 pub frame-one : (f g : ℕ) → ◌≡◌ {A = Option Mapping} (Some (clean_in f)) (Some (clean_in g)) → f ≡ g
 frame-one f g is = same_Some f g (ap frame_of is)
@@ -171,8 +149,14 @@ frame-one f g is = same_Some f g (ap frame_of is)
 pub not-emptied : (f : ℕ) → trans_word None ≢ trans_word (Some (clean_in f))
 not-emptied f is = let none : 0 ≡ f + 1 + 0 = is in absurd (omega (arith, none))
 
-module _ {X : Type 0} where
-  -- a page that is not held is not locked
-  pub not-locking : (v : View X) (p : ℕ) → IsUnheld v p → IsLocking (seat_of v p) → ⊥
-  not-locking v p h l =
-      ⊎_elim (λ (e : (seat_of v p).exclusive ≡ true). false≢true (sym h.exclusive ∙ e)) (λ (s : 1 ≤ (seat_of v p).shares). let none : (seat_of v p).shares ≡ 0 = h.shares in absurd (omega (arith, s, none))) l
+-- a seat without a share, and not exclusive, locks nothing
+pub unlocked : (s : Seat) → s.shares ≡ 0 → s.exclusive ≡ false → IsLocking s → ⊥
+unlocked s none free l = ⊎_elim (λ (e : s.exclusive ≡ true). false≢true (sym free ∙ e)) (λ (some : 1 ≤ s.shares). absurd (omega (arith, some, none))) l
+
+module _ {X : Type 0} (p : ℕ) where
+  pub holds-same : (v w : View X) → seat_of w p ≡ seat_of v p → HoldsPage v w p
+  holds-same v w e = record { shares = ap (λ (s : Seat). s.shares) e; exclusive = ap (λ (s : Seat). s.exclusive) e; writing = ap (λ (s : Seat). s.writing) e }
+
+  -- a page that the pass rests on, over steps that leave what it holds and knows of it
+  pub rests-on : (v x y : View X) → HoldsPage x y p → (IsLocking (seat_of x p) → KnowsAsBefore x y p) → Rests p v x → Rests p v y
+  rests-on v x y holds knows r = record { holds = holds-then v x y p r.holds holds; knows = λ l. knows-then v x y p (r.knows l) (knows (still-locking v x p r.holds l)) }

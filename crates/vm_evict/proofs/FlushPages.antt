@@ -1,27 +1,16 @@
 -- The pages of a flush, one after another: what they come to together.
-use Rattle.std.proofs.Common.{[], ⊎_elim, ◌++◌, ◌+◌, ◌<◌, ◌||◌, ◌∙◌, ◌∷◌, ◌≡◌, ◌≢◌, ◌≤◌, ◌⊎◌, ap, append_assoc, arith, Bool, eqb, false, inl, inr}
-use Rattle.std.proofs.Common.{length, List, Option, refl, Some, subst, suc, sym, true, ℕ}
-use Rattle.std.proofs.lemmas.Bool.{cases_Bool, cases_eq, eq-eqb, false≢true}
-use Rattle.vm_core.specs.Prelude.{EVICTED, LOCKED, mapping_of, MARKED, state_of, UNLOCKED}
-use Rattle.vm_core.proofs.PageFacts.{some-is}
-use Rattle.vm_rule.specs.Prelude.{Each, has, Mapping, seat_of, stands_dirty}
 use Rattle.vm_rule.specs.declared.view.Place.TheVariants as places
-use Rattle.vm_rule.proofs.{Entries.append-none, Entries.each-map, Heard.each-both}
-use Rattle.vm_rule_laws.specs.Standing.{mapping_in, PageStands, state_in}
-use Rattle.vm_step.specs.Prelude.{Did, first_or, IsAlone, IsAside, IsAsideOf, IsCalledOnce, Note, Origin, RunsAlone, StaysHome, View}
-use Rattle.vm_step.proofs.Asides.{aside-self, aside-then, aside-within, whole-then}
-use Rattle.vm_step.proofs.DeviceCalls.{called-behind, called-front, home-else}
-use Rattle.vm_evict.specs.{declared.flushing.Flushed.Flushed, Tables.KnowsKept}
-use Rattle.vm_evict.specs.Flushes.{clean, done_of, failed, first_noted, FlushVisits, gone, HasNoLock, held, IsFlushedAlone, IsFlushedTo, IsLeft}
-use Rattle.vm_evict.specs.Flushes.{IsNoted, IsSaved, IsSettled, IsUnwritten, IsVisit, lost, noted_pages, nothing_flushed, RisesFrom, written}
-use Rattle.vm_evict.specs.Writes.{IsAllowed, IsOwnPlace, StaysOn}
-use Rattle.vm_evict.proofs.{FlushAlone.mapping-shown, FlushAlone.state-shown, Moving.own-else, Tables.else-page}
+use Rattle.vm_evict.proofs.{FlushMarks.mapping-shown, FlushMarks.state-shown, Moving.own-else, Tables.else-page}
+use Rattle.vm_evict.proofs.Prelude.{[], ap, append-none, append_assoc, arith, aside-then, aside-within, called-behind, called-front, cases_eq, clean}
+use Rattle.vm_evict.proofs.Prelude.{Did, done_of, Each, each-both, each-map, EVICTED, failed, false, first_noted, first_or, Flushed, FlushVisits}
+use Rattle.vm_evict.proofs.Prelude.{gone, has, has-last, has-left, HasNoLock, held, home-else, inl, inr, IsAllowed, IsAlone, IsAsideOf, IsCalledOnce}
+use Rattle.vm_evict.proofs.Prelude.{IsFlushedAlone, IsFlushedTo, IsNoted, IsOwnPlace, IsSaved, IsSettled, IsUnwritten, IsVisit, KeepsPage, KnowsKept}
+use Rattle.vm_evict.proofs.Prelude.{length-append, List, LOCKED, lost, Mapping, mapping_in, mapping_of, MARKED, Note, noted_pages, nothing_flushed}
+use Rattle.vm_evict.proofs.Prelude.{Option, Origin, PageStands, refl, RisesFrom, rules, seat_of, Some, some-is, stands_dirty, state_in, state_of}
+use Rattle.vm_evict.proofs.Prelude.{StaysHome, StaysOn, subst, suc, sym, true, UNLOCKED, View, whole-then, written, ℕ, ⊎_elim, ◌++◌, ◌+◌, ◌<◌, ◌∙◌}
+use Rattle.vm_evict.proofs.Prelude.{◌∷◌, ◌≡◌, ◌≢◌, ◌≤◌, ◌⊎◌}
 
 -- ---- notes by rising page
-
-rises-bound : (low high : ℕ) (ns : List Note) → RisesFrom low high ns → low ≤ high
-rises-bound low high [] r = r
-rises-bound low high (n ∷ ns) r = let a : low ≤ n.page = r.0 in let b : n.page < high = r.1 in omega (arith, a, b)
 
 rises-more : (low high : ℕ) (ns : List Note) → RisesFrom low high ns → RisesFrom low (suc high) ns
 rises-more low high [] r = omega (arith, r)
@@ -36,21 +25,9 @@ first-end : (p count : ℕ) (ns : List Note) → first_or (first_noted ns) p ≡
 first-end p count [] = refl
 first-end p count (n ∷ ns) = refl
 
-length-end : (ns : List Note) (n : Note) → length (ns ++ n ∷ []) ≡ length ns + 1
-length-end [] n = refl
-length-end (m ∷ ms) n = let e : length (ms ++ n ∷ []) ≡ length ms + 1 = length-end ms n in omega (arith, e)
-
-has-kept : (p : ℕ) (ns : List Note) (m : Note) → has p (noted_pages ns) ≡ true → has p (noted_pages (ns ++ m ∷ [])) ≡ true
-has-kept p [] m h = absurd (false≢true h)
-has-kept p (n ∷ ns) m h =
-    ⊎_elim
-    (λ t. rw t refl)
-    (λ f. rw f (has-kept p ns m (ap (λ (b : Bool). b || has p (noted_pages ns)) (sym f) ∙ h)))
-    (cases_Bool (eqb p n.page))
-
-has-last : (p count : ℕ) (ns : List Note) → has p (noted_pages (ns ++ record { page = p; count = count } ∷ [])) ≡ true
-has-last p count [] = rw (eq-eqb p p refl) refl
-has-last p count (n ∷ ns) = ⊎_elim (λ t. rw t refl) (λ f. rw f (has-last p count ns)) (cases_Bool (eqb p n.page))
+pages-end : (ns : List Note) (m : Note) → noted_pages (ns ++ m ∷ []) ≡ noted_pages ns ++ m.page ∷ []
+pages-end [] m = refl
+pages-end (n ∷ ns) m = ap (λ (l : List ℕ). n.page ∷ l) (pages-end ns m)
 
 not-more : (old new : Flushed) → new.failed ≡ old.failed → new.failed ≡ old.failed + 1 → ⊥
 not-more old new same more = omega (arith, same, more)
@@ -83,44 +60,40 @@ once-more n done more below once own next q =
     (cases_eq q n)
 
 module _ {X : Type 0} where
-  -- what every visit leaves of the view
-  pub record IsPassedBy (p : ℕ) (v w : View X) : Type 0 where
-    pub done : List Did
-    pub own : StaysOn p done
-    pub once : IsCalledOnce p done
-    pub aside : IsAside p done v w
-    pub frames : (w.frames ≡ v.frames) × (w.contents ≡ v.contents)
-    pub alone : RunsAlone done [] v w
-
   -- what a visit that did not fail counts, and which notes it leaves
-  pub record IsCalm (v w : View X) (old new : Flushed) : Type 0 where
-    pub counted : done_of new ≤ done_of old + 1
-    pub failed : new.failed ≡ old.failed
-    pub first : new.first ≡ old.first
-    pub notes : w.notes ≡ v.notes
+  record IsCalm (v w : View X) (old new : Flushed) : Type 0 where
+    counted : done_of new ≤ done_of old + 1
+    failed : new.failed ≡ old.failed
+    first : new.first ≡ old.first
+    notes : w.notes ≡ v.notes
 
-  -- the page's write failed, or the visit was calm
-  abbrev pub FailsOrNot : ℕ → View X → View X → Flushed → Flushed → Type 0
-  FailsOrNot p v w old new = IsPassedBy p v w × (((word : ℕ) × (count : ℕ) × IsUnwritten p word count v w × (new ≡ record old { failed = old.failed + 1; first = first_or old.first p })) ⊎ IsCalm v w old new)
+  -- every visit leaves the page; its write failed, or the visit was calm
+  record FailsOrNot (p : ℕ) (v w : View X) (old new : Flushed) : Type 0 where
+    done : List Did
+    keeps : KeepsPage p done v w
+    once : IsCalledOnce p done
+    ends : ((word : ℕ) × (count : ℕ) × IsUnwritten p word count done v w × (new ≡ record old { failed = old.failed + 1; first = first_or old.first p })) ⊎ IsCalm v w old new
 
-  calm : (p : ℕ) (done : List Did) (v w : View X) (old new to : Flushed) → IsLeft p done v w → IsCalledOnce p done → new ≡ to → done_of to ≤ done_of old + 1 → to.failed ≡ old.failed → to.first ≡ old.first → FailsOrNot p v w old new
-  calm p done v w old new to l once e counted fails first = (
-    record { done = done; own = l.own; once = once; aside = l.aside; frames = (l.keeps.frames, l.keeps.contents); alone = l.alone },
-    inr record { counted = subst (λ (f : Flushed). done_of f ≤ done_of old + 1) (sym e) counted; failed = ap (λ (f : Flushed). f.failed) e ∙ fails; first = ap (λ (f : Flushed). f.first) e ∙ first; notes = l.keeps.notes },
-  )
+  calm : (p : ℕ) (done : List Did) (v w : View X) (old new to : Flushed) → KeepsPage p done v w → w.notes ≡ v.notes → IsCalledOnce p done → new ≡ to → done_of to ≤ done_of old + 1 → to.failed ≡ old.failed → to.first ≡ old.first → FailsOrNot p v w old new
+  calm p done v w old new to k notes once e counted fails first = record {
+    done = done;
+    keeps = k;
+    once = once;
+    ends = inr record { counted = subst (λ (f : Flushed). done_of f ≤ done_of old + 1) (sym e) counted; failed = ap (λ (f : Flushed). f.failed) e ∙ fails; first = ap (λ (f : Flushed). f.first) e ∙ first; notes = notes };
+  }
 
-  pub passed-by : (p : ℕ) (v w : View X) (old new : Flushed) → FlushVisits p v w old new → FailsOrNot p v w old new
-  passed-by p v w old new (gone done x l m q g s e) = calm p done v w old new old l (inl m.home) e (omega arith) refl refl
-  passed-by p v w old new (clean done x l m g s seen shows none q e) = calm p done v w old new old l (inl m.home) e (omega arith) refl refl
-  passed-by p v w old new (held done x l m q g s e) = calm p done v w old new (record old { busy = old.busy + 1 }) l (inl m.home) e (omega arith) refl refl
-  passed-by p v w old new (lost done x l m g d e) = calm p done v w old new (record old { busy = old.busy + 1 }) l (inl m.home) e (omega arith) refl refl
-  passed-by p v w old new (written done x word l s m e) = calm p done v w old new (record old { written = old.written + 1 }) l (inr m.block) e (omega arith) refl refl
-  passed-by p v w old new (failed word count u e) = (record { done = u.done; own = u.own; once = inr u.block; aside = u.aside; frames = u.frames; alone = u.alone }, inl (word, count, u, e))
+  passed-by : (p : ℕ) (v w : View X) (old new : Flushed) → FlushVisits p v w old new → FailsOrNot p v w old new
+  passed-by p v w old new (gone done x l q g s e) = calm p done v w old new old l.keeps l.notes (inl l.unsaved.home) e (omega arith) refl refl
+  passed-by p v w old new (clean done x l g s seen shows none q e) = calm p done v w old new old l.keeps l.notes (inl l.unsaved.home) e (omega arith) refl refl
+  passed-by p v w old new (held done x l q g s e) = calm p done v w old new (record old { busy = old.busy + 1 }) l.keeps l.notes (inl l.unsaved.home) e (omega arith) refl refl
+  passed-by p v w old new (lost done x l g d e) = calm p done v w old new (record old { busy = old.busy + 1 }) l.keeps l.notes (inl l.unsaved.home) e (omega arith) refl refl
+  passed-by p v w old new (written done x word k same s m e) = calm p done v w old new (record old { written = old.written + 1 }) k same (inr m.block) e (omega arith) refl refl
+  passed-by p v w old new (failed done word count k u e) = record { done = done; keeps = k; once = inr u.block; ends = inl (word, count, u, e) }
 
   -- one page more counts once at most
   counted : (p n : ℕ) (v w : View X) (old new : Flushed) → FailsOrNot p v w old new → done_of old ≤ n → done_of new ≤ suc n
   counted p n v w old new by c =
-      ⊎_elim (λ r. subst (λ (f : Flushed). done_of f ≤ suc n) (sym r.3) (omega (arith, c))) (λ r. let one = r.counted in omega (arith, c, one)) by.1
+      ⊎_elim (λ r. subst (λ (f : Flushed). done_of f ≤ suc n) (sym r.3) (omega (arith, c))) (λ r. let one = r.counted in omega (arith, c, one)) by.ends
 
   -- what the notes are then, and that the page is noted where its write failed, and those noted before still
   record NotedOn (n : ℕ) (u v w : View X) (old new : Flushed) (before : IsNoted n old u v) : Type 0 where
@@ -134,48 +107,32 @@ module _ {X : Type 0} where
       (λ r.
       let note : Note = record { page = n; count = r.1 } in
       record {
-        now = record {
-          notes = k.notes ++ note ∷ [];
-          after = r.2.noted ∙ ap (λ (ns : List Note). ns ++ note ∷ []) k.after ∙ append_assoc u.notes k.notes (note ∷ []);
-          each = length-end k.notes note ∙ ap (λ (m : ℕ). m + 1) k.each ∙ sym (ap (λ (f : Flushed). f.failed) r.3);
-          rises = rises-end 0 n r.1 k.notes k.rises;
-          first = ap (λ (f : Flushed). f.first) r.3 ∙ ap (λ (o : Option ℕ). first_or o n) k.first ∙ first-end n r.1 k.notes;
-          allowed = each-both (λ (m : Note). IsAllowed u.start m.page m.count) k.notes (note ∷ []) k.allowed (subst (λ (o : Origin). IsAllowed o n r.1) start r.2.allowed, tt);
-        };
-        failed = λ more. has-last n r.1 k.notes;
-        still = λ p h. has-kept p k.notes note h;
+        now =
+            let after : w.notes ≡ u.notes ++ (k.notes ++ note ∷ []) = r.2.noted ∙ ap (λ (ns : List Note). ns ++ note ∷ []) k.after ∙ append_assoc u.notes k.notes (note ∷ []) in
+            let allowed = each-both (λ (m : Note). IsAllowed u.start m.page m.count) k.notes (note ∷ []) k.allowed (subst (λ (o : Origin). IsAllowed o n r.1) start r.2.allowed, tt) in
+            let first = ap (λ (f : Flushed). f.first) r.3 ∙ ap (λ (o : Option ℕ). first_or o n) k.first ∙ first-end n r.1 k.notes in
+            search (rules, after, length-append k.notes (note ∷ []) ∙ ap (λ (m : ℕ). m + 1) k.each ∙ sym (ap (λ (f : Flushed). f.failed) r.3), rises-end 0 n r.1 k.notes k.rises, first, allowed);
+        failed = λ more. rw (pages-end k.notes note) (has-last (noted_pages k.notes) n);
+        still = λ p h. rw (pages-end k.notes note) (has-left p (noted_pages k.notes) (n ∷ []) h);
       })
       (λ r. record {
         now = record { notes = k.notes; after = r.notes ∙ k.after; each = k.each ∙ sym r.failed; rises = rises-more 0 n k.notes k.rises; first = r.first ∙ k.first; allowed = k.allowed };
         failed = λ more. absurd (not-more old new r.failed more);
         still = λ p h. h;
       })
-      by.1
+      by.ends
 
   -- ---- all pages below n
 
   pub flushed-none : (v : View X) → IsFlushedTo 0 nothing_flushed v v
-  flushed-none v = record {
-    each = (refl, refl);
-    all = omega arith;
-    done = [];
-    own = tt;
-    once = λ p. inl tt;
-    aside = aside-self (λ p. p < v.start.pages) v;
-    frames = (refl, refl);
-    noted = record { notes = []; after = sym (append-none v.notes); each = refl; rises = omega arith; first = refl; allowed = tt };
-    alone = λ a free. record { busy = refl; releases = refl; pages = λ p l. absurd (omega (arith, l)) };
-  }
+  flushed-none v = search (rules, append-none)
 
   -- ---- a pass that is alone
 
   -- a page is saved as before after steps on another one
-  saved-still : (n p : ℕ) (v w : View X) → IsPassedBy n v w → IsAlone v → p < v.start.pages → p ≢ n → IsSaved v p → IsSaved w p
-  saved-still n p v w by a page ne saved =
-      let else-own : (d : Did) → IsOwnPlace n d.at → (d.at ≢ places.State p) × (d.at ≢ places.Translation p) × (d.at ≢ places.Fault p) = λ d own. own-else n p d.at (λ e. ne (sym e)) own in
-      let on : (P : Did → Type 0) → ((d : Did) → IsOwnPlace n d.at → P d) → Each P by.done = λ P f. each-map (λ (d : Did). IsOwnPlace n d.at) P f by.done by.own in
-      let same : KnowsKept p v w =
-      else-page by.done [] v w by.aside.start by.alone a p page (on (λ d. d.at ≢ places.State p) (λ d own. (else-own d own).0)) (on (λ d. d.at ≢ places.Translation p) (λ d own. (else-own d own).1)) (on (λ d. d.at ≢ places.Fault p) (λ d own. (else-own d own).2)) in
+  saved-still : (n p : ℕ) (v w : View X) (done : List Did) → KeepsPage n done v w → IsAlone v → p < v.start.pages → p ≢ n → IsSaved v p → IsSaved w p
+  saved-still n p v w done by a page ne saved =
+      let same : KnowsKept p v w = else-page done [] v w by.aside.start by.alone a p page (each-map (λ (d : Did). IsOwnPlace n d.at) _ (λ d own. own-else n p d.at (λ e. ne (sym e)) own) done by.own) in
       let then : p < w.start.pages = subst (λ (o : Origin). p < o.pages) (sym by.aside.start) page in
       let state : state_in w.start w.snapshot p ≡ state_in v.start v.snapshot p = state-shown p w then ∙ ap state_of same.state ∙ sym (state-shown p v page) in
       let mapping : mapping_in w.start w.snapshot p ≡ mapping_in v.start v.snapshot p = mapping-shown p w then ∙ ap mapping_of same.translation ∙ sym (mapping-shown p v page) in
@@ -187,29 +144,26 @@ module _ {X : Type 0} where
   -- a page that is saved, as pages stand, is evicted, or in a frame and clean
   pub saved-stands : (v : View X) (p : ℕ) → PageStands v.start v.releases v.snapshot (seat_of v p) p → IsSaved v p → (state_in v.start v.snapshot p ≡ EVICTED) ⊎ ((m : Mapping) × (mapping_in v.start v.snapshot p ≡ Some m) × (m.dirty ≡ false))
   saved-stands v p stands saved =
-      ⊎_elim
-      (λ out. inl out)
+      ⊎_elim (λ out. inl out)
       (λ c.
-      let there = some-is (mapping_in v.start v.snapshot p) (stands.resident (not-in LOCKED (omega arith) (omega arith) c.0) (not-in EVICTED (omega arith) (omega arith) c.0)) in
+      let other : (state : ℕ) → state ≢ UNLOCKED → state ≢ MARKED → state_in v.start v.snapshot p ≢ state = λ state a b is. ⊎_elim (λ u. a (sym is ∙ u)) (λ m. b (sym is ∙ m)) c.0 in
+      let there = some-is (mapping_in v.start v.snapshot p) (stands.resident (other LOCKED (omega arith) (omega arith)) (other EVICTED (omega arith) (omega arith))) in
       inr (there.0, there.1, ap stands_dirty (sym there.1) ∙ c.1))
       saved
-    where
-      not-in : (state : ℕ) → state ≢ UNLOCKED → state ≢ MARKED → (state_in v.start v.snapshot p ≡ UNLOCKED) ⊎ (state_in v.start v.snapshot p ≡ MARKED) → state_in v.start v.snapshot p ≢ state
-      not-in state a b e is = ⊎_elim (λ u. a (sym is ∙ u)) (λ m. b (sym is ∙ m)) e
 
   pub flushed-more : (n : ℕ) (u v w : View X) (old new : Flushed) → n < u.start.pages → IsFlushedTo n old u v → IsVisit n v w old new → IsFlushedTo (suc n) new u w
   flushed-more n u v w old new page f x =
       let fails : FailsOrNot n v w old new = passed-by n v w old new x.ends in
-      let by : IsPassedBy n v w = fails.0 in
-      let wide : IsAsideOf (λ p. p < u.start.pages) by.done v w = aside-within (λ q. q ≡ n) (λ p. p < u.start.pages) by.done v w (λ q e. subst (λ (k : ℕ). k < u.start.pages) (sym e) page) by.aside in
+      let by : KeepsPage n fails.done v w = fails.keeps in
+      let wide : IsAsideOf (λ p. p < u.start.pages) fails.done v w = aside-within (λ q. q ≡ n) (λ p. p < u.start.pages) fails.done v w (λ q e. subst (λ (k : ℕ). k < u.start.pages) (sym e) page) by.aside in
       let notes : NotedOn n u v w old new f.noted = noted-on n u v w old new f.aside.start f.noted fails in
       record {
         each = (v, old, f.each, x.ends);
         all = counted n n v w old new fails f.all;
-        done = f.done ++ by.done;
-        own = each-both (OnBelow (suc n)) f.done by.done (below-more n f.done f.own) (on-below n by.done by.own);
-        once = once-more n f.done by.done f.own f.once by.own by.once;
-        aside = aside-then (λ p. p < u.start.pages) f.done by.done u v w f.aside wide;
+        done = f.done ++ fails.done;
+        own = each-both (OnBelow (suc n)) f.done fails.done (below-more n f.done f.own) (on-below n fails.done by.own);
+        once = once-more n f.done fails.done f.own f.once by.own fails.once;
+        aside = aside-then (λ p. p < u.start.pages) f.done fails.done u v w f.aside wide;
         frames = (by.frames.0 ∙ f.frames.0, by.frames.1 ∙ f.frames.1);
         noted = notes.now;
         alone = λ a free.
@@ -227,7 +181,7 @@ module _ {X : Type 0} where
                   (⊎_elim (λ saved. inl saved) (λ more. inr (notes.failed more)) settled.saved))
                   (λ (ne : p ≢ n).
                   ⊎_elim
-                  (λ saved. inl (saved-still n p v w by now (subst (λ (o : Origin). p < o.pages) (sym f.aside.start) (omega (arith, l, page))) ne saved))
+                  (λ saved. inl (saved-still n p v w fails.done by now (subst (λ (o : Origin). p < o.pages) (sym f.aside.start) (omega (arith, l, page))) ne saved))
                   (λ h. inr (notes.still p h))
                   (before.pages p (omega (arith, l, ne))))
                   (cases_eq p n);

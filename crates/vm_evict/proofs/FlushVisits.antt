@@ -1,280 +1,294 @@
--- The visit of one page by a flush, by the words that its steps found.
-use Rattle.std.proofs.Common.{[], ⊎_elim, ◌++◌, ◌+◌, ◌∙◌, ◌∷◌, ◌≡◌, ◌≢◌, ◌⊎◌, ap, Bool, Err, false, inl, inr, List, None, Ok, refl, Result, Some}
-use Rattle.std.proofs.Common.{subst, sym, true, ℕ}
-use Rattle.vm_core.specs.Prelude.{EVICTED, mapping_of, MARKED, no_seat, state_of, UNLOCKED, version_of, word_of}
-use Rattle.vm_rule.specs.Prelude.{did_exchange, did_load, dirty_in, Each, IsUnheld, LookTold, Seat, seat_of, stands_dirty, Start, TranslationTold}
-use Rattle.vm_rule.specs.Prelude.{UnshareTold, WriteLockTold}
+-- The visit of one page by a flush, by the words that its steps found. To a pass that is alone each step gives the word that the step before left, so no
+-- exchange is lost, and the page is saved.
 use Rattle.vm_rule.specs.declared.view.Place.TheVariants as places
-use Rattle.vm_rule.proofs.Heard.{each-both}
-use Rattle.vm_rule.proofs.WordFacts.{version-within, word-made, word-version}
-use Rattle.vm_step.specs.Prelude.{Did, GoesOnce, HasGiven, HasWritten, IsAside, IsHeld, LeavesRest, Origin, RunsAlone, View, WritesNone}
-use Rattle.vm_step.specs.declared.took.Took.TheVariants.{Lost, Taken}
-use Rattle.vm_step.proofs.Alone.{runs-one, runs-then, stays-alone}
-use Rattle.vm_step.proofs.Asides.{aside-then, look-only, lost-only, only-then, OnlyReads, translation-only}
-use Rattle.vm_step.proofs.DeviceCalls.{home-both, once-behind, once-front}
-use Rattle.vm_step.proofs.Evidenced.{given-behind, given-front, written-behind, written-front}
-use Rattle.vm_step.proofs.Leaves.{aside-of, leaves-then}
-use Rattle.vm_step.proofs.steps.Share.{unshare-did, unshare-leaves, unshare-others}
-use Rattle.vm_step.proofs.steps.WriteBack.{write_lock-did, write_lock-leaves, write_lock-others}
-use Rattle.vm_evict.specs.declared.flushing.Flushed.{Flushed}
-use Rattle.vm_evict.specs.Flushes.{clean, failed, FlushVisits, gone, held, IsCounted, IsLeft, lost, Marks, SharesSeen, written}
-use Rattle.vm_evict.specs.Writes.{EndsWrite, HasNotSaved, IsAllowed, IsFoundDirty, IsOwnPlace, IsStillLocked, StaysOn}
-use Rattle.vm_evict.proofs.{Copying.stays-on, WriteLocks.lock-now, WriteLocks.unlocked-seat}
-use Rattle.vm_evict.proofs.Evidenced.{dirty-front, none-both, none-kept, none-silent, not-locking, saved-under, unsaved-both, unsaved-load}
+use Rattle.vm_evict.proofs.{Taken.lock-now, Taken.unlocked-seat, Writing.no-state-written, Writing.stays-on}
+use Rattle.vm_evict.proofs.Evidenced.{dirty-front, has-lost, no-mapping, none-both, none-kept, none-silent, saved-under, unlocked, unsaved-load}
 use Rattle.vm_evict.proofs.Evidenced.{unsaved-one, wrote-taken}
-use Rattle.vm_evict.proofs.FlushMarks.{left-of, loses-seen, mark-did, marked-from, marked-only}
+use Rattle.vm_evict.proofs.FlushMarks.{left-one, left-then, mark-did, marked-from, marked-only, page-then, saved-clean, Stands, stands-left}
+use Rattle.vm_evict.proofs.FlushMarks.{stands-on, state-shown}
+use Rattle.vm_evict.proofs.Prelude.{[], ap, arith, aside-of, Bool, clean, Did, did_exchange, did_load, dirty_in, Each, each-both, EndsWrite, Err}
+use Rattle.vm_evict.proofs.Prelude.{EVICTED, failed, false, Flushed, given-behind, given-front, GoesOnce, gone, HasGiven, HasNotSaved, HasWritten}
+use Rattle.vm_evict.proofs.Prelude.{held, home-both, inl, inr, IsAllowed, IsAlone, IsCounted, IsFoundDirty, IsHeld, IsLeft, IsOwnPlace, IsSaved}
+use Rattle.vm_evict.proofs.Prelude.{IsStillLocked, IsUnheld, IsVisit, KeepsPage, known_word_at, KnowsClean, leaves-then, LeavesLast, LeavesRest, List}
+use Rattle.vm_evict.proofs.Prelude.{look-only, LookTold, Lost, lost, lost-only, mapping_of, MARKED, Marks, no_seat, None, Ok, once-behind, once-front}
+use Rattle.vm_evict.proofs.Prelude.{Origin, refl, Result, rules, runs-one, runs-then, RunsAlone, seat_of, SharesSeen, Some, stands_dirty, Start}
+use Rattle.vm_evict.proofs.Prelude.{state_of, stays-alone, StaysOn, subst, sym, Taken, translation-only, TranslationTold, true, UNLOCKED, unshare-did}
+use Rattle.vm_evict.proofs.Prelude.{unshare-leaves, unshare-others, UnshareTold, version-within, version_of, View, word-made, word-state}
+use Rattle.vm_evict.proofs.Prelude.{word-version, word_of, write_lock-did, write_lock-leaves, write_lock-others, WriteLockTold, WritesNone, written}
+use Rattle.vm_evict.proofs.Prelude.{written-behind, written-front, ℕ, ⊎_elim, ◌++◌, ◌+◌, ◌-◌, ◌<◌, ◌^◌, ◌∙◌, ◌∷◌, ◌≡◌, ◌≢◌, ◌⊎◌}
+use Rattle.vm_evict.proofs.Tables.{found-first, kept-at, left-last, share-gone}
 
-module _ {X : Type 0} (p : ℕ) where
-  -- ---- the look, and the load of the translation word
+module _ {X : Type 0} (p : ℕ) (tied : Start → ℕ → List ℕ → ℕ → List ℕ → Type 0) (word : ℕ) (v v1 : View X) (look : LookTold tied p None word v v1) (old : Flushed) where
+  abbrev busy : Flushed
+  busy = record old { busy = old.busy + 1 }
 
-  module _ (tied : Start → ℕ → List ℕ → ℕ → List ℕ → Type 0) (word : ℕ) (v v1 : View X) (look : LookTold tied p None word v v1) (old : Flushed) where
-    abbrev pub look-did : List Did
-    look-did = did_load (places.State p) word ∷ []
+  -- ---- the look
 
-    pub looked : OnlyReads (λ q. q ≡ p) look-did v v1
-    looked = look-only (λ q. q ≡ p) tied p word v v1 refl look
+  abbrev look-is : Did
+  look-is = did_load (places.State p) word
 
-    pub looked-runs : RunsAlone look-did [] v v1
-    looked-runs = runs-one (did_load (places.State p) word) _ [] _ v _ v1 look.brings
+  looked : IsLeft p (look-is ∷ []) v v1
+  looked = left-one p look-is v v1 (look-only (λ q. q ≡ p) tied p word v v1 refl look) (runs-one look-is _ [] _ v _ v1 look.brings) refl (unsaved-one p look-is refl refl)
 
-    seen : HasGiven look-did (places.State p) word
-    seen = record { earlier = []; step = did_load (places.State p) word; later = []; cut = refl; gives = (refl, refl) }
+  abbrev seen : (later : List Did) → HasGiven (look-is ∷ later) (places.State p) word
+  seen later = record { earlier = []; step = look-is; later = later; cut = refl; gives = (refl, refl) }
 
-    look-unsaved : HasNotSaved p look-did
-    look-unsaved = unsaved-one p (did_load (places.State p) word) refl refl
+  pub page-before : p < v1.start.pages → p < v.start.pages
+  page-before page = subst (λ (o : Origin). p < o.pages) looked.keeps.aside.start page
 
-    pub by-look-gone : state_of word ≡ EVICTED → FlushVisits p v v1 old old
-    by-look-gone e = gone look-did word (left-of p look-did v v1 looked looked-runs (inl refl, tt)) look-unsaved ((λ here. refl), tt) seen e refl
+  module _ (page : p < v.start.pages) where
+    stands1 : IsAlone v → Stands p word v1
+    stands1 a =
+        let s : Stands p word v = record { alone = a; page = page; state = sym (found-first look-is [] [] v v1 looked.keeps.alone a word refl) } in
+        stands-on p word (look-is ∷ []) v v1 s looked.keeps.aside.start looked.keeps.aside.parts looked.keeps.alone ((λ here. refl), tt)
 
-    pub by-look-held : IsHeld word → FlushVisits p v v1 old (record old { busy = old.busy + 1 })
-    unfolding seen
-    by-look-held e =
-        held look-did word (left-of p look-did v v1 looked looked-runs (inl refl, tt)) look-unsaved ((λ here. refl), tt) (record { given = seen; foreign = tt }) e refl
+    pub by-look-gone : state_of word ≡ EVICTED → IsVisit p v v1 old old
+    by-look-gone e = record {
+      ends = gone (look-is ∷ []) word looked ((λ here. refl), tt) (seen []) e refl;
+      settles = λ a h. (let s = stands1 a in record { busy = refl; saved = inl (inl (state-shown p v1 s.page ∙ ap state_of s.state ∙ e)) });
+    }
 
-    module _ (tr : ℕ) (v2 : View X) (load : TranslationTold p tr v1 v2) where
-      abbrev pub reads-did : List Did
-      reads-did = look-did ++ did_load (places.Translation p) tr ∷ []
+    pub by-look-held : IsHeld word → IsVisit p v v1 old busy
+    by-look-held held-so = record {
+      ends = held (look-is ∷ []) word looked ((λ here. refl), tt) (record { given = seen []; foreign = tt }) held-so refl;
+      settles = λ a h.
+          (let free = look.unlocked a.0 h.0 h.1 in let low = held-so.0 in let high = held-so.1 in absurd (grind (arith, free, low, high)));
+    }
 
-      pub reads : OnlyReads (λ q. q ≡ p) reads-did v v2
-      reads = only-then (λ q. q ≡ p) look-did (did_load (places.Translation p) tr ∷ []) v v1 v2 looked (translation-only (λ q. q ≡ p) p tr v1 v2 refl load)
+    -- ---- the load of the translation word
 
-      pub load-runs : RunsAlone (did_load (places.Translation p) tr ∷ []) [] v1 v2
-      load-runs = runs-one (did_load (places.Translation p) tr) _ [] [] v1 _ v2 load.brings
+    module _ (tr : ℕ) (v2 : View X) (load : TranslationTold p tr v1 v2) (none : (state_of word ≡ UNLOCKED) ⊎ (state_of word ≡ MARKED)) where
+      abbrev load-is : Did
+      load-is = did_load (places.Translation p) tr
 
-      reads-runs : RunsAlone reads-did [] v v2
-      reads-runs = runs-then look-did (did_load (places.Translation p) tr ∷ []) [] [] v v1 v2 looked.aside.start looked.aside.parts looked-runs load-runs
+      abbrev reads-did : List Did
+      reads-did = look-is ∷ load-is ∷ []
 
-      reads-own : StaysOn p reads-did
-      reads-own = (inl refl, (inl refl, tt))
+      loaded : IsLeft p (load-is ∷ []) v1 v2
+      loaded = left-one p load-is v1 v2 (translation-only (λ q. q ≡ p) p tr v1 v2 refl load) (runs-one load-is _ [] [] v1 _ v2 load.brings) refl (unsaved-load p tr)
 
-      reads-kept : HasNotSaved p reads-did
-      reads-kept = unsaved-both p look-did (did_load (places.Translation p) tr ∷ []) look-unsaved (unsaved-load p tr)
+      reads : IsLeft p reads-did v v2
+      reads = left-then p (look-is ∷ []) (load-is ∷ []) v v1 v2 looked loaded
 
-      pub by-load-clean : (state_of word ≡ UNLOCKED) ⊎ (state_of word ≡ MARKED) → stands_dirty (mapping_of tr) ≡ false → FlushVisits p v v2 old old
-      by-load-clean none e =
-          clean reads-did tr (left-of p reads-did v v2 reads reads-runs reads-own) reads-kept
-          (record { earlier = look-did; step = did_load (places.Translation p) tr; later = []; cut = refl; gives = (refl, refl) })
-          e word (given-front look-did (did_load (places.Translation p) tr ∷ []) (places.State p) word seen) none (inl ((λ here. refl), ((λ here. refl), tt))) refl
+      stands2 : IsAlone v → Stands p word v2
+      stands2 a = stands-on p word (load-is ∷ []) v1 v2 (stands1 a) loaded.keeps.aside.start loaded.keeps.aside.parts loaded.keeps.alone ((λ here. refl), tt)
 
-      -- where it found the page dirty, so did a step before those behind
-      dirty-before : (behind : List Did) → (frame : ℕ) × (mapping_of tr ≡ Some (dirty_in frame)) → (frame : ℕ) × IsFoundDirty p frame (reads-did ++ behind)
-      dirty-before behind d = (d.0, (tr, record { earlier = look-did; step = did_load (places.Translation p) tr; later = behind; cut = refl; gives = (refl, refl) }, d.1))
+      abbrev given : (later : List Did) → HasGiven (reads-did ++ later) (places.Translation p) tr
+      given later = record { earlier = look-is ∷ []; step = load-is; later = later; cut = refl; gives = (refl, refl) }
 
-      none-written : (found : ℕ) → Each (λ d. d.at ≡ places.State p → d.wrote ≢ Some found) reads-did
-      none-written found = none-kept reads-did (places.State p) found ((λ here. refl), ((λ here. refl), tt))
+      pub by-load-clean : stands_dirty (mapping_of tr) ≡ false → IsVisit p v v2 old old
+      by-load-clean e = record {
+        ends = clean reads-did tr reads (given []) e word (seen (load-is ∷ [])) none (inl ((λ here. refl), ((λ here. refl), tt))) refl;
+        settles = λ a h.
+            let there : tr ≡ known_word_at v1 (places.Translation p) = found-first load-is [] [] v1 v2 loaded.keeps.alone (stands1 a).alone tr refl in
+            let kept = kept-at (load-is ∷ []) [] v1 v2 loaded.keeps.aside.start loaded.keeps.alone (stands1 a).alone (places.Translation p) (stands1 a).page ((λ here. refl), tt) in
+            record { busy = refl; saved = inl (saved-clean p word v2 (stands2 a) none (ap (λ (n : ℕ). stands_dirty (mapping_of n)) (kept ∙ sym there) ∙ e)) };
+      }
 
-      -- an exchange on the page's state word writes no page
-      exchange-kept : (expects found new : ℕ) → HasNotSaved p (did_exchange (places.State p) expects found new ∷ [])
-      exchange-kept expects found new = unsaved-one p (did_exchange (places.State p) expects found new) refl refl
+      module _ (d : (frame : ℕ) × (mapping_of tr ≡ Some (dirty_in frame))) where
+        dirty-before : (later : List Did) → (frame : ℕ) × IsFoundDirty p frame (reads-did ++ later)
+        dirty-before later = (d.0, (tr, given later, d.1))
 
-      pub by-mark-lost : (found : ℕ) (v3 : View X) → Marks p word v2 v3 (Lost found) → (frame : ℕ) × (mapping_of tr ≡ Some (dirty_in frame)) → FlushVisits p v v3 old (record old { busy = old.busy + 1 })
-      by-mark-lost found v3 m d =
-          lost (reads-did ++ mark-did p word found ∷ []) word
-          (left-of p (reads-did ++ mark-did p word found ∷ []) v v3 (only-then (λ q. q ≡ p) reads-did (mark-did p word found ∷ []) v v2 v3 reads (record { aside = m.1.aside; keeps = m.1.keeps }))
-          (runs-then reads-did (mark-did p word found ∷ []) [] [] v v2 v3 reads.aside.start reads.aside.parts reads-runs m.1.alone)
-          (each-both (λ (d : Did). IsOwnPlace p d.at) reads-did (mark-did p word found ∷ []) reads-own m.1.own))
-          (unsaved-both p reads-did (mark-did p word found ∷ []) reads-kept (exchange-kept word found (word_of MARKED (version_of word))))
-          (loses-seen reads-did (places.State p) word word found (word_of MARKED (version_of word)) m.0 (none-written found) (given-front look-did (did_load (places.Translation p) tr ∷ []) (places.State p) word seen) (inl refl))
-          (dirty-before [] d)
-          refl
+        none-written : (found : ℕ) → Each (λ d. d.at ≡ places.State p → d.wrote ≢ Some found) reads-did
+        none-written found = none-kept reads-did (places.State p) found ((λ here. refl), ((λ here. refl), tt))
 
-      -- ---- the page was marked
+        pub by-mark-lost : (found : ℕ) (v3 : View X) → Marks p word v2 v3 (Lost found) → IsVisit p v v3 old busy
+        by-mark-lost found v3 m =
+            let did : Did = mark-did p word found in
+            record {
+              ends =
+                  lost (reads-did ++ did ∷ []) word (left-then p reads-did (did ∷ []) v v2 v3 reads m.1)
+                  (record { lost = has-lost reads-did [] (places.State p) word found (word_of MARKED (version_of word)) m.0 (none-written found); seen = word; given = seen (load-is ∷ []); expected = inl refl })
+                  (dirty-before []) refl;
+              settles = λ a h. absurd (m.0 (found-first did [] [] v2 v3 m.1.keeps.alone (stands2 a).alone found refl ∙ (stands2 a).state));
+            }
 
-      module _ (v3 : View X) (m : Marks p word v2 v3 Taken) where
-        abbrev pub front-did : List Did
-        front-did = reads-did ++ m.0
+        -- ---- the page is marked
 
-        front-runs : RunsAlone front-did [] v v3
-        front-runs = runs-then reads-did m.0 [] [] v v2 v3 reads.aside.start reads.aside.parts reads-runs m.1.alone
+        module _ (v3 : View X) (m : Marks p word v2 v3 Taken) where
+          abbrev marked : ℕ
+          marked = word_of MARKED (version_of word)
 
-        pub front : OnlyReads (λ q. q ≡ p) front-did v v3
-        front = only-then (λ q. q ≡ p) reads-did m.0 v v2 v3 reads (record { aside = m.1.aside; keeps = m.1.keeps })
+          abbrev front-did : List Did
+          front-did = reads-did ++ m.0
 
-        front-own : StaysOn p front-did
-        front-own = each-both (λ (d : Did). IsOwnPlace p d.at) reads-did m.0 reads-own m.1.own
+          front : IsLeft p front-did v v3
+          front = left-then p reads-did m.0 v v2 v3 reads m.1
 
-        front-kept : HasNotSaved p front-did
-        front-kept =
-            unsaved-both p reads-did m.0 reads-kept
-            (⊎_elim
-            (λ none. subst (λ (t : List Did). HasNotSaved p t) (sym none.0) record { kept = tt; home = tt })
-            (λ one. subst (λ (t : List Did). HasNotSaved p t) (sym one) (exchange-kept word word (word_of MARKED (version_of word))))
-            m.2)
+          pub home-front : v1.out ≡ None → v3.out ≡ None
+          home-front home = m.1.keeps.aside.out ∙ loaded.keeps.aside.out ∙ home
 
-        pub home-front : v1.out ≡ None → v3.out ≡ None
-        home-front home = m.1.aside.out ∙ (translation-only (λ q. q ≡ p) p tr v1 v2 refl load).aside.out ∙ home
-
-        module _ (expects : ℕ) (is : expects ≡ word_of MARKED (version_of word)) where
-          -- the word that the lock expects is the one found, where that was a mark, or else the mark that was put in its place
-          own-mark : (expects ≡ word) ⊎ ((expects ≡ word_of MARKED (version_of word)) × HasWritten front-did (places.State p) expects)
-          own-mark =
+          stands3 : IsAlone v → Stands p marked v3
+          stands3 a =
               ⊎_elim
-              (λ none. inl (is ∙ ap (λ (s : ℕ). word_of s (version_of word)) (sym none.1) ∙ word-made word))
-              (λ one. inr (
-                is,
-                record {
-                  earlier = reads-did;
-                  step = mark-did p word word;
-                  later = [];
-                  cut = ap (λ (t : List Did). reads-did ++ t) one;
-                  place = refl;
-                  wrote = wrote-taken word (word_of MARKED (version_of word)) ∙ ap (λ (n : ℕ). Some n) (sym is);
-                },
-              ))
+              (λ unmarked.
+              subst (λ (n : ℕ). Stands p n v3) (sym (word-made word) ∙ ap (λ (s : ℕ). word_of s (version_of word)) unmarked.1)
+              (stands-on p word m.0 v2 v3 (stands2 a) m.1.keeps.aside.start m.1.keeps.aside.parts m.1.keeps.alone (subst (λ (ds : List Did). WritesNone (places.State p) ds) (sym unmarked.0) tt)))
+              (λ one.
+              stands-left p word m.0 v2 v3 (stands2 a) m.1.keeps.aside.start m.1.keeps.aside.parts m.1.keeps.alone marked
+              (subst (λ (ds : List Did). LeavesLast ds (places.State p) marked) (sym one) (left-last [] (mark-did p word word) marked (wrote-taken word marked))))
               m.2
 
-          pub by-lock-lost : (found : ℕ) (v4 : View X) → found ≢ expects → WriteLockTold tied p expects found v3 v4 → (frame : ℕ) × (mapping_of tr ≡ Some (dirty_in frame)) → FlushVisits p v v4 old (record old { busy = old.busy + 1 })
-          by-lock-lost found v4 ne l d =
-              let did : Did = did_exchange (places.State p) expects found (word_of 1 (version_of expects)) in
-              lost (front-did ++ did ∷ []) expects
-              (left-of p (front-did ++ did ∷ []) v v4 (only-then (λ q. q ≡ p) front-did (did ∷ []) v v3 v4 front (lost-only (λ q. q ≡ p) did expects found v3 _ v4 ne l.brings))
-              (runs-then front-did (did ∷ []) [] [] v v3 v4 front.aside.start front.aside.parts front-runs (runs-one did _ [] [] v3 _ v4 l.brings))
-              (each-both (λ (d : Did). IsOwnPlace p d.at) front-did (did ∷ []) front-own (inl refl, tt)))
-              (unsaved-both p front-did (did ∷ []) front-kept (exchange-kept expects found (word_of 1 (version_of expects))))
-              (loses-seen front-did (places.State p) word expects found (word_of 1 (version_of expects)) ne
-              (each-both (λ (d : Did). d.at ≡ places.State p → d.wrote ≢ Some found) reads-did m.0 (none-written found) (marked-only p word v2 v3 m found (λ e. ne (e ∙ sym is))))
-              (given-front look-did (did_load (places.Translation p) tr ∷ m.0) (places.State p) word seen) own-mark)
-              (dirty-before m.0 d)
-              refl
+          module _ (expects : ℕ) (is : expects ≡ marked) where
+            -- the word that the lock expects is the one found, where that was a mark, or else the mark that was put in its place
+            own-mark : (expects ≡ word) ⊎ ((expects ≡ marked) × HasWritten front-did (places.State p) expects)
+            own-mark =
+                ⊎_elim
+                (λ unmarked. inl (is ∙ ap (λ (s : ℕ). word_of s (version_of word)) (sym unmarked.1) ∙ word-made word))
+                (λ one. inr (
+                  is,
+                  record { earlier = reads-did; step = mark-did p word word; later = []; cut = ap (λ (t : List Did). reads-did ++ t) one; place = refl; wrote = wrote-taken word marked ∙ ap (λ (n : ℕ). Some n) (sym is) },
+                ))
+                m.2
 
-          -- ---- it was locked, and given up again
+            pub by-lock-lost : (found : ℕ) (v4 : View X) → found ≢ expects → WriteLockTold tied p expects found v3 v4 → IsVisit p v v4 old busy
+            by-lock-lost found v4 ne l =
+                let did : Did = did_exchange (places.State p) expects found (word_of 1 (version_of expects)) in
+                let runs : RunsAlone (did ∷ []) [] v3 v4 = runs-one did _ [] [] v3 _ v4 l.brings in
+                let here : IsLeft p (did ∷ []) v3 v4 = left-one p did v3 v4 (lost-only (λ q. q ≡ p) did expects found v3 _ v4 ne l.brings) runs refl (unsaved-one p did refl refl) in
+                let foreign : Each (λ d. d.at ≡ places.State p → d.wrote ≢ Some found) front-did
+                = each-both (λ (d : Did). d.at ≡ places.State p → d.wrote ≢ Some found) reads-did m.0 (none-written found) (marked-only p word v2 v3 m found (λ e. ne (e ∙ sym is))) in
+                record {
+                  ends =
+                      lost (front-did ++ did ∷ []) expects (left-then p front-did (did ∷ []) v v3 v4 front here)
+                      (record { lost = has-lost front-did [] (places.State p) expects found (word_of 1 (version_of expects)) ne foreign; seen = word; given = seen (load-is ∷ m.0); expected = own-mark })
+                      (dirty-before m.0) refl;
+                  settles = λ a h. absurd (ne (found-first did [] [] v3 v4 runs (stands3 a).alone found refl ∙ (stands3 a).state ∙ sym is));
+                }
 
-          module _ (home : v3.out ≡ None) (v4 : View X) (l : WriteLockTold tied p expects expects v3 v4) (v5 : View X) (found : ℕ) (v6 : View X) (u : UnshareTold p found v5 v6) where
-            module _ (done : List Did) (k : IsStillLocked p done v4 v5) where
-              abbrev lock : List Did
-              lock = write_lock-did refl l ∷ []
+            -- ---- it was locked, and given up again
 
-              abbrev end : List Did
-              end = unshare-did u ∷ []
+            module _ (home : v3.out ≡ None) (v4 : View X) (l : WriteLockTold tied p expects expects v3 v4) (v5 : View X) (found : ℕ) (v6 : View X) (u : UnshareTold p found v5 v6) where
+              abbrev shared : ℕ
+              shared = word_of 1 (version_of expects)
 
-              abbrev all-did : List Did
-              all-did = front-did ++ (lock ++ (done ++ end))
+              module _ (done : List Did) (k : IsStillLocked p done v4 v5) where
+                abbrev lock : List Did
+                lock = write_lock-did refl l ∷ []
 
-              lock-rest : LeavesRest p lock v3 v4
-              lock-rest = write_lock-leaves refl l
+                abbrev end : List Did
+                end = unshare-did u ∷ []
 
-              back-leaves : LeavesRest p (lock ++ (done ++ end)) v3 v6
-              back-leaves = leaves-then p lock (done ++ end) v3 v4 v6 lock-rest (leaves-then p done end v4 v5 v6 k.works.leaves (unshare-leaves u))
+                abbrev back-did : List Did
+                back-did = lock ++ (done ++ end)
 
-              back-runs : RunsAlone (lock ++ (done ++ end)) [] v3 v6
-              back-runs =
-                  runs-then lock (done ++ end) [] [] v3 v4 v6 lock-rest.start lock-rest.parts (write_lock-others refl l (λ q. q ≡ p) refl).runs
-                  (runs-then done end [] [] v4 v5 v6 k.works.leaves.start k.works.leaves.parts k.works.alone (unshare-others u (λ q. q ≡ p) refl).runs)
+                abbrev all-did : List Did
+                all-did = front-did ++ back-did
 
-              back-aside : IsAside p (lock ++ (done ++ end)) v3 v6
-              back-aside =
-                  let seat : seat_of v6 p ≡ no_seat = unlocked-seat u (k.works.seat ∙ lock-now l) in
-                  let un : IsUnheld v3 p = l.unheld refl in
-                  aside-of p (lock ++ (done ++ end)) v3 v6 back-leaves (ap (λ (x : View X). x.out) u.brings.view ∙ k.home ∙ sym home)
+                lock-rest : LeavesRest p lock v3 v4
+                lock-rest = write_lock-leaves refl l
+
+                back : KeepsPage p back-did v3 v6
+                back =
+                    let before = write_lock-others refl l (λ q. q ≡ p) refl in
+                    let after = unshare-others u (λ q. q ≡ p) refl in
+                    let leaves : LeavesRest p back-did v3 v6 = leaves-then p lock (done ++ end) v3 v4 v6 lock-rest (leaves-then p done end v4 v5 v6 k.works.leaves (unshare-leaves u)) in
+                    let runs : RunsAlone back-did [] v3 v6 = runs-then lock (done ++ end) [] [] v3 v4 v6 before.start before.parts before.runs (runs-then done end [] [] v4 v5 v6 k.works.leaves.start k.works.leaves.parts k.works.alone after.runs) in
+                    let seat : seat_of v6 p ≡ no_seat = unlocked-seat u (k.works.seat ∙ lock-now l) in
+                    let un : IsUnheld v3 p = l.unheld refl in
+                    let own : StaysOn p back-did = (inl refl, each-both (λ (d : Did). IsOwnPlace p d.at) done end (stays-on p done k.does) (inl refl, tt)) in
+                    let aside = aside-of p back-did v3 v6 leaves (after.out ∙ k.home ∙ sym home) (grind arith) (λ locking. absurd (unlocked (seat_of v3 p) un.shares un.exclusive locking)) (stays-alone back-did v3 v6 leaves.start runs) in
+                    search (rules, own, aside, runs, after.keeps.frames ∙ k.frames.0 ∙ before.keeps.frames, after.keeps.contents ∙ k.frames.1 ∙ before.keeps.contents)
+
+                all : KeepsPage p all-did v v6
+                all = page-then p front-did back-did v v3 v6 front.keeps back
+
+                notes-before : v4.notes ≡ v.notes
+                notes-before = (write_lock-others refl l (λ q. q ≡ p) refl).keeps.notes ∙ front.notes
+
+                notes-same : v5.notes ≡ v4.notes → v6.notes ≡ v.notes
+                notes-same same = (unshare-others u (λ q. q ≡ p) refl).keeps.notes ∙ same ∙ notes-before
+
+                lock-kept : HasNotSaved p lock
+                lock-kept = unsaved-one p (write_lock-did refl l) refl refl
+
+                end-kept : HasNotSaved p end
+                end-kept = unsaved-one p (unshare-did u) refl refl
+
+                -- the block moves in the write alone
+                once-in : GoesOnce p done → GoesOnce p all-did
+                once-in o = once-behind p front-did back-did front.unsaved.home (once-behind p lock (done ++ end) lock-kept.home (once-front p done end o end-kept.home))
+
+                all-kept : WritesNone (places.Translation p) done → WritesNone (places.Translation p) all-did
+                all-kept kept =
+                    none-both (places.Translation p) front-did back-did front.unsaved.kept
+                    (none-both (places.Translation p) lock (done ++ end) lock-kept.kept (none-both (places.Translation p) done end kept end-kept.kept))
+
+                abbrev share : SharesSeen p word all-did
+                share = record {
+                  taken = record {
+                    earlier = front-did;
+                    step = write_lock-did refl l;
+                    later = done ++ end;
+                    cut = refl;
+                    is = (refl, ap (λ (n : ℕ). Some n) is, ap (λ (n : ℕ). Some n) is, wrote-taken expects shared ∙ ap (λ (n : ℕ). Some (word_of 1 n)) (ap version_of is ∙ word-version MARKED (version_of word) (version-within word)));
+                  };
+                  looked = record { given = seen (load-is ∷ m.0); foreign = tt };
+                  why = dirty-before m.0;
+                  from = marked-from p word v2 v3 m reads-did none;
+                }
+
+                -- the pass that is alone finds its share, and the page unlocked afterwards
+                module _ (a : IsAlone v) where
+                  stands4 : Stands p shared v4
+                  stands4 =
+                      let f = write_lock-others refl l (λ q. q ≡ p) refl in
+                      stands-left p marked lock v3 v4 (stands3 a) f.start f.parts f.runs shared (left-last [] (write_lock-did refl l) shared (wrote-taken expects shared))
+
+                  stands5 : Stands p shared v5
+                  stands5 = stands-on p shared done v4 v5 stands4 k.works.leaves.start k.works.leaves.parts k.works.alone (no-state-written p done k.does)
+
+                  saved-now : KnowsClean p v4 v5 → IsSaved v6 p
+                  saved-now known =
+                      let f = unshare-others u (λ q. q ≡ p) refl in
+                      let there : found ≡ known_word_at v5 (places.State p) = found-first (unshare-did u) [] [] v5 v6 f.runs stands5.alone found refl in
+                      let free : Stands p (word_of UNLOCKED (version_of expects)) v6
+                      = subst (λ (n : ℕ). Stands p n v6) (ap (λ (n : ℕ). n - 2 ^ 56) (there ∙ stands5.state) ∙ share-gone (version_of expects))
+                      (stands-left p shared end v5 v6 stands5 f.start f.parts f.runs (found - 2 ^ 56) (left-last [] (unshare-did u) (found - 2 ^ 56) refl)) in
+                      let kept = kept-at end [] v5 v6 f.start f.runs stands5.alone (places.Translation p) stands5.page (no-mapping p (unshare-did u) refl, tt) in
+                      saved-clean p (word_of UNLOCKED (version_of expects)) v6 free (inl (word-state UNLOCKED (version_of expects) (version-within expects)))
+                      (ap (λ (n : ℕ). stands_dirty (mapping_of n)) kept ∙ known stands4.alone stands4.page)
+
+              pub by-write : (wrote : Result Bool ℕ) → EndsWrite p v4 v5 wrote → (new : Flushed) → IsCounted p wrote old new → IsVisit p v v6 old new
+              by-write (Ok false) e new counted =
+                  let k = e.locked in
                   record {
-                    shares = ap (λ (s : Seat). s.shares) seat ∙ sym un.shares;
-                    exclusive = ap (λ (s : Seat). s.exclusive) seat ∙ sym un.exclusive;
-                    writing = ap (λ (s : Seat). s.writing) seat ∙ sym un.writing;
+                    ends =
+                        clean (all-did e.done k) e.word
+                        record {
+                          keeps = all e.done k;
+                          notes = notes-same e.done k e.notes;
+                          unsaved = record {
+                            kept = all-kept e.done k (none-silent (places.Translation p) e.done e.silent);
+                            home = home-both p front-did _ front.unsaved.home (home-both p (lock e.done k) _ (lock-kept e.done k).home (home-both p e.done (end e.done k) e.stays (end-kept e.done k).home));
+                          };
+                        }
+                        (given-behind front-did _ (places.Translation p) e.word (given-behind (lock e.done k) _ (places.Translation p) e.word (given-front e.done (end e.done k) (places.Translation p) e.word e.given)))
+                        e.clean word (seen (load-is ∷ (m.0 ++ back-did e.done k))) none (inr (share e.done k)) counted;
+                    settles = λ a h. record { busy = ap (λ (f : Flushed). f.busy) counted; saved = inl (saved-now e.done k a e.known) };
                   }
-                  (λ locking. absurd (not-locking v3 p un locking)) (stays-alone (lock ++ (done ++ end)) v3 v6 back-leaves.start back-runs)
-
-              all-aside : IsAside p all-did v v6
-              all-aside = aside-then (λ q. q ≡ p) front-did (lock ++ (done ++ end)) v v3 v6 front.aside back-aside
-
-              all-runs : RunsAlone all-did [] v v6
-              all-runs = runs-then front-did (lock ++ (done ++ end)) [] [] v v3 v6 front.aside.start front.aside.parts front-runs back-runs
-
-              all-own : StaysOn p all-did
-              all-own = each-both (λ (d : Did). IsOwnPlace p d.at) front-did (lock ++ (done ++ end)) front-own (inl refl, each-both (λ (d : Did). IsOwnPlace p d.at) done end (stays-on p done k.does) (inl refl, tt))
-
-              all-frames : (v6.frames ≡ v.frames) × (v6.contents ≡ v.contents)
-              all-frames =
-                  let a = (unshare-others u (λ q. q ≡ p) refl).keeps in
-                  let b = (write_lock-others refl l (λ q. q ≡ p) refl).keeps in
-                  (a.frames ∙ k.frames.0 ∙ b.frames ∙ front.keeps.frames, a.contents ∙ k.frames.1 ∙ b.contents ∙ front.keeps.contents)
-
-              notes-before : v4.notes ≡ v.notes
-              notes-before = (write_lock-others refl l (λ q. q ≡ p) refl).keeps.notes ∙ front.keeps.notes
-
-              all-left : v5.notes ≡ v4.notes → IsLeft p all-did v v6
-              all-left same = record { own = all-own; aside = all-aside; keeps = record { frames = all-frames.0; contents = all-frames.1; notes = (unshare-others u (λ q. q ≡ p) refl).keeps.notes ∙ same ∙ notes-before }; alone = all-runs }
-
-              lock-kept : HasNotSaved p lock
-              lock-kept = exchange-kept expects expects (word_of 1 (version_of expects))
-
-              end-kept : HasNotSaved p end
-              end-kept = unsaved-one p (unshare-did u) refl refl
-
-              -- the block moves in the write alone
-              once-in : GoesOnce p done → GoesOnce p all-did
-              once-in o = once-behind p front-did (lock ++ (done ++ end)) front-kept.home (once-behind p lock (done ++ end) lock-kept.home (once-front p done end o end-kept.home))
-
-              all-kept : WritesNone (places.Translation p) done → WritesNone (places.Translation p) all-did
-              all-kept kept =
-                  none-both (places.Translation p) front-did (lock ++ (done ++ end)) front-kept.kept
-                  (none-both (places.Translation p) lock (done ++ end) lock-kept.kept (none-both (places.Translation p) done end kept end-kept.kept))
-
-              abbrev share : (state_of word ≡ UNLOCKED) ⊎ (state_of word ≡ MARKED) → (frame : ℕ) × (mapping_of tr ≡ Some (dirty_in frame)) → SharesSeen p word all-did
-              share unheld d = record {
-                taken = record {
-                  earlier = front-did;
-                  step = write_lock-did refl l;
-                  later = done ++ end;
-                  cut = refl;
-                  place = refl;
-                  expected = ap (λ (n : ℕ). Some n) is;
-                  found = ap (λ (n : ℕ). Some n) is;
-                  wrote = wrote-taken expects (word_of 1 (version_of expects)) ∙ ap (λ (n : ℕ). Some (word_of 1 n)) (ap version_of is ∙ word-version MARKED (version_of word) (version-within word));
-                };
-                looked = record { given = record { earlier = []; step = did_load (places.State p) word; later = did_load (places.Translation p) tr ∷ m.0; cut = refl; gives = (refl, refl) }; foreign = tt };
-                why = dirty-before m.0 d;
-                from = marked-from p word v2 v3 m reads-did unheld;
-              }
-
-            pub by-write : (state_of word ≡ UNLOCKED) ⊎ (state_of word ≡ MARKED) → (frame : ℕ) × (mapping_of tr ≡ Some (dirty_in frame)) → (wrote : Result Bool ℕ) → EndsWrite p v4 v5 wrote → (new : Flushed) → IsCounted p wrote old new → FlushVisits p v v6 old new
-            by-write none d (Ok false) e new counted =
-                let k = e.locked in
-                clean (all-did e.done k) e.word (all-left e.done k e.notes)
-                record {
-                  kept = all-kept e.done k (none-silent (places.Translation p) e.done e.silent);
-                  home = home-both p front-did _ front-kept.home (home-both p (lock e.done k) _ (lock-kept e.done k).home (home-both p e.done (end e.done k) e.stays (end-kept e.done k).home));
-                }
-                (given-behind front-did _ (places.Translation p) e.word (given-behind (lock e.done k) _ (places.Translation p) e.word (given-front e.done (end e.done k) (places.Translation p) e.word e.given)))
-                e.clean word (given-front front-did _ (places.State p) word (given-front look-did (did_load (places.Translation p) tr ∷ m.0) (places.State p) word seen)) none (inr (share e.done k none d)) counted
-            by-write none d (Ok true) e new counted =
-                let k = e.locked in
-                written (all-did e.done k) e.frame word (all-left e.done k e.notes) (share e.done k none d)
-                (saved-under p e.frame e.done (end e.done k) e.done (all-did e.done k) e.saved (once-in e.done k e.saved.block)) counted
-            by-write none d (Err count) e new counted =
-                let k = e.locked in
-                failed word count
-                record {
-                  done = all-did e.done k;
-                  own = all-own e.done k;
-                  aside = all-aside e.done k;
-                  alone = all-runs e.done k;
-                  shared = share e.done k none d;
-                  dirty = (e.frame, dirty-front p e.frame e.done (end e.done k) e.dirty);
-                  block = once-in e.done k e.block;
-                  kept = all-kept e.done k e.kept;
-                  raised = written-behind front-did _ (places.Fault p) count (written-behind (lock e.done k) _ (places.Fault p) count (written-front e.done (end e.done k) (places.Fault p) count e.raised));
-                  noted = (unshare-others u (λ q. q ≡ p) refl).keeps.notes ∙ e.noted ∙ ap (λ ns. ns ++ record { page = p; count = count } ∷ []) (notes-before e.done k);
-                  allowed = subst (λ (o : Origin). IsAllowed o p count) ((lock-rest e.done k).start ∙ front.aside.start) e.allowed;
-                  frames = all-frames e.done k;
-                }
-                counted
+              by-write (Ok true) e new counted =
+                  let k = e.locked in
+                  record {
+                    ends =
+                        written (all-did e.done k) e.frame word (all e.done k) (notes-same e.done k e.notes) (share e.done k)
+                        (saved-under p e.frame e.done (end e.done k) e.done (all-did e.done k) e.saved (once-in e.done k e.saved.block)) counted;
+                    settles = λ a h. record { busy = ap (λ (f : Flushed). f.busy) counted; saved = inl (saved-now e.done k a e.known) };
+                  }
+              by-write (Err count) e new counted =
+                  let k = e.locked in
+                  record {
+                    ends =
+                        failed (all-did e.done k) word count (all e.done k)
+                        record {
+                          shared = share e.done k;
+                          dirty = (e.frame, dirty-front p e.frame e.done (end e.done k) e.dirty);
+                          block = once-in e.done k e.block;
+                          kept = all-kept e.done k e.kept;
+                          raised = written-behind front-did _ (places.Fault p) count (written-behind (lock e.done k) _ (places.Fault p) count (written-front e.done (end e.done k) (places.Fault p) count e.raised));
+                          noted = (unshare-others u (λ q. q ≡ p) refl).keeps.notes ∙ e.noted ∙ ap (λ ns. ns ++ record { page = p; count = count } ∷ []) (notes-before e.done k);
+                          allowed = subst (λ (o : Origin). IsAllowed o p count) ((lock-rest e.done k).start ∙ front.keeps.aside.start) e.allowed;
+                        }
+                        counted;
+                    settles = λ a h. record { busy = ap (λ (f : Flushed). f.busy) counted; saved = inr (ap (λ (f : Flushed). f.failed) counted) };
+                  }

@@ -1,26 +1,9 @@
 -- Lists by places: the candidates of a list are apart, and what the first of them give together, as one stage comes in the place of another.
-use Rattle.std.proofs.Common.{[], ⊎_elim, ◌++◌, ◌<◌, ◌==◌, ◌||◌, ◌∙◌, ◌∷◌, ◌≡◌, ◌≢◌, ◌≤◌, ◌⊎◌, ap, append_assoc, arith, Bool, false, inl, inr, length}
-use Rattle.std.proofs.Common.{List, refl, slice_set, subst, suc, sym, true, zero, ℕ}
-use Rattle.std.proofs.lemmas.Bool.{cases_eq, cases_lt, eq-eqb, false≢true, ne_eqb, or_left, or_right}
-use Rattle.std.proofs.lemmas.List.{get_or-set_other, get_or-set_same, length-append}
-use Rattle.vm_rule.specs.Prelude.{AreApart, Each, has}
-use Rattle.vm_rule.proofs.Heard.{each-both}
-use Rattle.vm_step.specs.Prelude.{candidate_pages}
-use Rattle.vm_evict.specs.declared.candidate.Stage.{Stage}
 use Rattle.vm_evict.specs.declared.candidate.Stage.TheVariants as stages
-use Rattle.vm_evict.specs.Evictions.{candidate_at, gathered, stage_at}
-
--- one or more
-pub or-none : (a b : Bool) → (a || b) ≡ ((a || false) || b)
-or-none true b = refl
-or-none false b = refl
-
-or-rest : (a b : Bool) → a ≡ false → (a || b) ≡ true → b ≡ true
-or-rest true b f e = absurd (false≢true (sym f))
-or-rest false b f e = e
-
-either : (i j : ℕ) → i ≢ j → (i < j) ⊎ (j < i)
-either i j ne = ⊎_elim (λ (l : i < j). inl l) (λ (l : j ≤ i). inr (omega (arith, l, ne))) (cases_lt i j)
+use Rattle.vm_evict.proofs.Prelude.{[], ap, append_assoc, AreApart, arith, candidate_at, candidate_pages, cases_eq, cases_lt, Each, each-both, eq-eqb}
+use Rattle.vm_evict.proofs.Prelude.{false, false≢true, gathered, get_or-set_other, get_or-set_same, has, has-both, inl, inr, length, length-append}
+use Rattle.vm_evict.proofs.Prelude.{List, nat_tests, or_left, or_right, refl, slice_set, Stage, stage_at, subst, suc, sym, true, zero, ℕ, ⊎_elim}
+use Rattle.vm_evict.proofs.Prelude.{◌++◌, ◌<◌, ◌==◌, ◌||◌, ◌∙◌, ◌∷◌, ◌≡◌, ◌≢◌, ◌≤◌}
 
 -- ---- the candidates
 
@@ -42,7 +25,7 @@ page-at [] q e = absurd (false≢true e)
 page-at (x ∷ xs) q e =
     ⊎_elim
     (λ (is : q ≡ x.0). (0, omega arith, sym is))
-    (λ (ne : q ≢ x.0). let r = page-at xs q (or-rest (q == x.0) (has q (candidate_pages xs)) (ne_eqb q x.0 ne) e) in (suc r.0, (let b = r.1 in omega (arith, b)), r.2))
+    (λ (ne : q ≢ x.0). let r = page-at xs q (grind (arith, nat_tests, ne, e)) in (suc r.0, (let b = r.1 in omega (arith, b)), r.2))
     (cases_eq q x.0)
 
 -- two places, two pages
@@ -55,7 +38,15 @@ apart-up (x ∷ xs) (suc i) (suc j) up below apart e = apart-up xs i j (omega (a
 
 pub apart-at : (list : List (ℕ × ℕ)) (i j : ℕ) → i ≢ j → i < length list → j < length list → AreApart (candidate_pages list) → (candidate_at list i).0 ≢ (candidate_at list j).0
 apart-at list i j ne bi bj apart =
-    ⊎_elim (λ (up : i < j). apart-up list i j up bj apart) (λ (down : j < i). λ e. apart-up list j i down bi apart (sym e)) (either i j ne)
+    ⊎_elim (λ (up : i < j). apart-up list i j up bj apart) (λ (down : j < i). λ e. apart-up list j i down bi apart (sym e)) (⊎_elim (λ (l : i < j). inl l) (λ (l : j ≤ i). inr (omega (arith, l, ne))) (cases_lt i j))
+
+-- what is apart, and not in the one where it is in the other
+pub apart-join : (l m : List ℕ) → AreApart l → AreApart m → ((f : ℕ) → has f l ≡ true → has f m ≡ false) → AreApart (l ++ m)
+apart-join [] m a b none = b
+apart-join (x ∷ xs) m a b none = (
+  has-both x xs m ∙ (λ i. a.0 i || none x (or_left (x == x) (has x xs) (eq-eqb x x refl)) i),
+  apart-join xs m a.1 b (λ f e. none f (or_right (f == x) (has f xs) e)),
+)
 
 -- ---- what the first of them give
 

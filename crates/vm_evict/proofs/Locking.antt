@@ -1,30 +1,26 @@
--- The first lock of a candidate: for write-back, or exclusive where the page was seen to be clean; or the exchange was lost.
-use Rattle.std.proofs.Common.{[], ◌++◌, ◌<◌, ◌==◌, ◌∙◌, ◌∷◌, ◌≡◌, ◌≢◌, ◌≤◌, ap, arith, Bool, false, if◌then◌else◌, inl, IsSome, length, List, None}
-use Rattle.std.proofs.Common.{Option, refl, Some, subst, sym, true, ℕ}
-use Rattle.std.proofs.lemmas.Bool.{false≢true}
-use Rattle.std.proofs.lemmas.Option.{none-some, same_Some}
-use Rattle.vm_core.specs.Prelude.{EVICTED, LOCKED, mapping_of, MARKED, MAX_VERSION, state_of, version_of, word_of, WORDS}
-use Rattle.vm_rule.specs.Prelude.{Brings, clean_in, did_exchange, Each, has, held_at, IsUnheld, last_of, LockTold, Mapping, Seat, seat_of}
-use Rattle.vm_rule.specs.Prelude.{stands_dirty, Start, WriteLockTold}
-use Rattle.vm_rule.specs.declared.view.Held.{Held}
+-- The locks of a candidate: the first, for write-back, or exclusive where the page was seen to be clean; the one for write-back as it becomes exclusive; or the
+-- exchange was lost.
 use Rattle.vm_rule.specs.declared.view.Place.TheVariants as places
-use Rattle.vm_rule.proofs.{Heard.each-both, WordFacts.version-within, WordFacts.word-state}
-use Rattle.vm_step.specs.Prelude.{Did, IsAlone, IsToldOf, known_word_at, LeavesRest, RunsAlone, Translation, View, Works}
-use Rattle.vm_step.proofs.{Asides.starts-then, Evidenced.lost-view, steps.Unchanged.still-works}
-use Rattle.vm_step.proofs.steps.Lock.{lock-brings, lock-did, lock-draft, lock-held, lock-others, lock-own, lock-seat}
-use Rattle.vm_step.proofs.steps.WriteBack.{write_lock-brings, write_lock-did, write_lock-held, write_lock-others, write_lock-own}
-use Rattle.vm_evict.specs.{declared.candidate.Phase.Phase, declared.candidate.Stage.Stage, Phases.Does, Phases.shares, Writes.writing_seat}
 use Rattle.vm_evict.specs.declared.candidate.Phase.TheVariants as phases
 use Rattle.vm_evict.specs.declared.candidate.Stage.TheVariants as stages
-use Rattle.vm_evict.specs.Evictions.{IsMissed, IsToShare, once}
-use Rattle.vm_evict.specs.Stages.{Advances, HasLockTaken, IsOwning, IsSeenClean, IsWaiting, IsWriting, MayEnd, owning_seat}
-use Rattle.vm_evict.specs.Tables.{KnowsKept, KnowsLocked, KnowsOn, KnowsStage}
-use Rattle.vm_evict.proofs.Evidenced.{has-lost, has-taken, lost-one, no-mapping, none-kept, none-stored, not-fault, unsaved-both, unsaved-one}
+use Rattle.vm_evict.proofs.Evidenced.{frame-one, has-lost, has-taken, lost-one, none-kept, none-stored, saved-front, unsaved-both, unsaved-one}
 use Rattle.vm_evict.proofs.Evidenced.{wrote-taken}
-use Rattle.vm_evict.proofs.Moving.{gives-nothing, GivesNothing, Quietly, quietly-to}
-use Rattle.vm_evict.proofs.Tables.{found-first, kept-at, kept-then, left-at, left-last, silent-page}
-use Rattle.vm_evict.proofs.Taken.{lost-quiet, quiet-one, was-free, works-rests}
-use Rattle.vm_evict.proofs.WriteLocks.{lock-now}
+use Rattle.vm_evict.proofs.Moving.{gives-nothing, GivesNothing, Quietly, quietly-then, quietly-to}
+use Rattle.vm_evict.proofs.Prelude.{[], Advances, ap, arith, Bool, Brings, by_share, cases_Bool, clean_in, Did, did_exchange, Does, Each, each-both}
+use Rattle.vm_evict.proofs.Prelude.{EVICTED, false, false≢true, has, HasLockTaken, HasLost, Held, held_at, if◌then◌else◌, inl, inr, IsAlone}
+use Rattle.vm_evict.proofs.Prelude.{IsLocking, IsLost, IsMissed, IsOwning, IsSavedFrom, IsSeenClean, IsSome, IsToldOf, IsToShare, IsUnheld, IsWaiting}
+use Rattle.vm_evict.proofs.Prelude.{IsWriting, known_word_at, KnowsKept, KnowsLocked, KnowsOn, KnowsStage, last_of, LeavesRest, length, List}
+use Rattle.vm_evict.proofs.Prelude.{lock-brings, lock-did, lock-draft, lock-held, lock-others, lock-own, lock-seat, LOCKED, LocksFrom, LockTold}
+use Rattle.vm_evict.proofs.Prelude.{lost-view, Mapping, mapping_of, MARKED, MAX_VERSION, MayEnd, MayRaiseLock, MayUnshare, no-fault, None, none-some}
+use Rattle.vm_evict.proofs.Prelude.{once, Option, owning_seat, Phase, Raises, refl, rules, RunsAlone, same_Some, Seat, seat_of, shares, Some, Stage}
+use Rattle.vm_evict.proofs.Prelude.{stands_dirty, Start, starts-then, state_of, still-works, subst, sym, Translation, true, Unreleased, unshare-did}
+use Rattle.vm_evict.proofs.Prelude.{UnshareTold, upgrade-brings, upgrade-did, upgrade-draft, upgrade-held, upgrade-last, upgrade-others, upgrade-own}
+use Rattle.vm_evict.proofs.Prelude.{upgrade-seat, upgraded_view, UpgradeTold, version-within, version_of, View, word-state, word-version, word_of}
+use Rattle.vm_evict.proofs.Prelude.{WORDS, Works, write_lock-brings, write_lock-did, write_lock-held, write_lock-others, write_lock-own}
+use Rattle.vm_evict.proofs.Prelude.{WriteLockTold, writing_seat, ℕ, ⊎_elim, ◌++◌, ◌<◌, ◌==◌, ◌∙◌, ◌∷◌, ◌≡◌, ◌≢◌, ◌≤◌}
+use Rattle.vm_evict.proofs.Tables.{found-first, kept-then, silent-page, state-left}
+use Rattle.vm_evict.proofs.Taken.{given-quiet, given-rests, lock-now, locks-now, lost-quiet, may-unshare, quiet-one, taken-on, taken-works, was-free}
+use Rattle.vm_evict.proofs.Taken.{works-rests}
 
 -- a word with a smaller state is not the marked one
 pub not-marked : (word state version : ℕ) → state_of word ≡ MARKED → state < MARKED → version ≤ MAX_VERSION → word ≢ word_of state version
@@ -47,12 +43,9 @@ module _ {X : Type 0} (phase : Phase) (old : Stage) (p word found new : ℕ) (do
   work = still-works still-brings p
 
   missed : IsMissed p word false (done ++ tried ∷ [])
-  missed = record {
-    why = inl (has-lost done [] (places.State p) word found new ne (none-kept done (places.State p) found h.quiet));
-    cleaned = λ e. absurd (false≢true e);
-    unwritten = λ _. unsaved-both p done (tried ∷ []) h.kept (unsaved-one p tried refl refl);
-    unreleased = each-both (λ (d : Did). d.at ≡ places.State p → d.found ≡ None → d.wrote ≡ None) done (tried ∷ []) (none-stored (places.State p) done h.quiet) ((λ here none. absurd (none-some found (sym none))), tt);
-  }
+  missed =
+      let unreleased : Unreleased p (done ++ tried ∷ []) = each-both (λ (d : Did). d.at ≡ places.State p → d.found ≡ None → d.wrote ≡ None) done (tried ∷ []) (none-stored (places.State p) done h.quiet) ((λ here none. absurd (none-some found (sym none))), tt) in
+      search (rules, has-lost done [] (places.State p) word found new ne (none-kept done (places.State p) found h.quiet), unsaved-both p done (tried ∷ []) h.kept (unsaved-one p tried refl refl), unreleased)
 
   -- a pass that is alone lost it only where it knew another word
   lost-known : IsAlone x → p < x.start.pages → KnowsKept p v x → KnowsStage (p, word) (stages.Lost false) v y
@@ -79,25 +72,12 @@ module _ {X : Type 0} (p word state : ℕ) (v x y : View X) where
   exchange-known : LeavesRest p (exchanged ∷ []) x y → RunsAlone (exchanged ∷ []) [] x y → IsAlone x → p < x.start.pages → KnowsKept p v x
       → KnowsLocked (p, word) state (version_of word) v y × KnowsOn (places.Fault p) v y × KnowsOn (places.Translation p) v y
   exchange-known leaves runs alone page k =
-      let there : word ≡ known_word_at x (places.State p) = found-first exchanged [] [] x y runs alone word refl in (
-        record { before = sym (there ∙ k.state); now = left-at (exchanged ∷ []) [] x y leaves.start runs alone (places.State p) (word_of state (version_of word)) (left-last [] exchanged (word_of state (version_of word)) (wrote-taken word (word_of state (version_of word)))) },
-        kept-at (exchanged ∷ []) [] x y leaves.start runs alone (places.Fault p) page ((λ here. absurd (not-fault p (places.State p) refl here)), tt) ∙ k.fault,
-        kept-at (exchanged ∷ []) [] x y leaves.start runs alone (places.Translation p) page (no-mapping p exchanged refl, tt) ∙ k.translation,
-      )
+      let there : word ≡ known_word_at x (places.State p) = found-first exchanged [] [] x y runs alone word refl in
+      let l = state-left exchanged [] x y leaves.start runs alone p page refl (word_of state (version_of word)) (wrote-taken word (word_of state (version_of word))) in
+      (record { before = sym (there ∙ k.state); now = l.0 }, l.1 ∙ k.fault, l.2 ∙ k.translation)
 
   lock-taken : (seat : Seat) (done : List Did) → IsWaiting p done v x → LeavesRest p (exchanged ∷ []) x y → IsUnheld x p → has p x.pending ≡ false → seat_of y p ≡ seat → (last_of y p).version ≡ version_of word → length (last_of y p).words ≡ WORDS → IsToldOf y p → HasLockTaken p word seat v y
-  lock-taken seat done h leaves un free now at size told = record {
-    before = was-free p v x h.rests un;
-    start = leaves.start ∙ h.start;
-    since = starts-then v.releases x.releases y.releases h.since leaves.releases;
-    free = ap (has p) leaves.group.0 ∙ free;
-    paid = ap (has p) leaves.group.1 ∙ un.paid;
-    next = λ e. un.next (sym leaves.group.2 ∙ e);
-    now = now;
-    at = at;
-    size = size;
-    told = told;
-  }
+  lock-taken seat done h leaves un free now at size told = search (rules, ap, was-free p v x h.rests un, starts-then v.releases x.releases y.releases h.since leaves.releases)
 
 -- ---- for write-back
 
@@ -131,10 +111,6 @@ pub clean-of : (m : Option Mapping) → IsSome m → stands_dirty m ≡ false �
 clean-of None some clean = absurd (false≢true some)
 clean-of (Some m) some clean = (m.frame, ap (λ (b : Bool). Some (record { frame = m.frame; dirty = b })) {x = m.dirty} {y = false} clean)
 
-not-dirty : (a b : Bool) → (a ≡ true → b ≡ true) → b ≡ false → a ≡ false
-not-dirty true b f e = absurd (false≢true (sym e ∙ f refl))
-not-dirty false b f e = refl
-
 -- what holds of all holds of the last of them
 each-behind : {A : Type 0} (P : A → Type 0) (a b : List A) → Each P (a ++ b) → Each P b
 each-behind P [] b e = e
@@ -155,7 +131,7 @@ module _ {X : Type 0} (tied : Start → ℕ → List ℕ → ℕ → List ℕ �
   is-clean =
       let each = t.clean refl (not-evicted word marked) in
       let first = each-behind (λ (r : Translation). r.page ≡ p → r.version ≡ version_of word → stands_dirty t.held.mapping ≡ true → stands_dirty (mapping_of r.word) ≡ true) seen.newer _ (subst (λ (l : List Translation). Each (λ r. r.page ≡ p → r.version ≡ version_of word → stands_dirty t.held.mapping ≡ true → stands_dirty (mapping_of r.word) ≡ true) l) seen.loaded each) in
-      not-dirty (stands_dirty t.held.mapping) (stands_dirty (mapping_of seen.translation)) (first.0 refl refl) seen.clean
+      ⊎_elim (λ (e : stands_dirty t.held.mapping ≡ true). absurd (false≢true (sym seen.clean ∙ first.0 refl refl e))) (λ (e : stands_dirty t.held.mapping ≡ false). e) (cases_Bool (stands_dirty t.held.mapping))
 
   pub clean-frame : (frame : ℕ) × (t.held.mapping ≡ Some (clean_in frame))
   clean-frame = clean-of t.held.mapping ((t.stands refl).resident (not-evicted word marked)) is-clean
@@ -183,3 +159,143 @@ module _ {X : Type 0} (tied : Start → ℕ → List ℕ → ℕ → List ℕ �
   locked-so =
       quietly-to phases.Lock (p, word) stages.Clean (stages.Owned false) done (own-did ∷ []) v x y lock-quiet (clean-frame.0, owning) tt (gives-nothing refl refl refl)
       lock-known
+
+-- ---- A page under write-back, which is clean, becomes held exclusively; or the exchange is lost, and the share is given up.
+
+module _ {X : Type 0} (tied : Start → ℕ → List ℕ → ℕ → List ℕ → Type 0) (p word : ℕ) (written : Bool) (done : List Did) (v x : View X) (h : IsWriting p word written done v x) where
+  abbrev version : ℕ
+  version = version_of word
+
+  locks : IsLocking (seat_of x p)
+  locks = locks-now p word writing_seat (inr (omega arith)) v x h.taken
+
+  pub may-raise : (expects : ℕ) → expects ≡ word_of 1 version → version < MAX_VERSION → MayRaiseLock x p expects
+  may-raise expects is below = (let state = word-state 1 version (version-within word) in let at = word-version 1 version (version-within word) in grind (arith, state, at))
+
+  same-version : (expects : ℕ) → expects ≡ word_of 1 version → version_of expects ≡ version
+  same-version expects is = ap version_of is ∙ word-version 1 version (version-within word)
+
+  -- the exchange is one of the phase
+  raises-so : (expects found : ℕ) → expects ≡ word_of 1 version → Raises (p, word) (did_exchange (places.State p) expects found (word_of LOCKED (version_of expects)))
+  raises-so expects found is =
+      inl (
+        found,
+        ap (λ (n : ℕ). did_exchange (places.State p) expects found (word_of LOCKED n)) (same-version expects is) ∙ ap (λ (e : ℕ). did_exchange (places.State p) e found (word_of LOCKED version)) is,
+      )
+
+  -- ---- it was taken
+
+  module _ (marked : state_of word ≡ MARKED) (frame : ℕ) (stands : (held_at x p).mapping ≡ Some (clean_in frame)) (expects : ℕ) (is : expects ≡ word_of 1 version) (y : View X) (t : UpgradeTold tied p expects expects x y) where
+    abbrev took : Did
+    took = upgrade-did refl t
+
+    last-now : last_of y p ≡ last_of x p
+    last-now = upgrade-last refl t p locks
+
+    quiet : Quietly phases.Raise (p, word) (took ∷ []) x y
+    quiet = quiet-one p phases.Raise word (upgrade-others refl t (λ q. q ≡ p) refl) (upgrade-own refl t) [] (ap (λ (z : View X). z.translations) (upgrade-brings refl t).view) (raises-so expects expects is)
+
+    changes : LeavesRest p (took ∷ []) x y
+    changes = quiet.moves.leaves
+
+    locked : LocksFrom p word (done ++ took ∷ [])
+    locked =
+        by_share
+        record {
+          earlier = done;
+          step = took;
+          later = [];
+          cut = refl;
+          is = (refl, ap (λ (n : ℕ). Some n) is, ap (λ (n : ℕ). Some n) is, wrote-taken expects (word_of LOCKED (version_of expects)) ∙ ap (λ (n : ℕ). Some (word_of LOCKED n)) (same-version expects is));
+        }
+        h.shared
+
+    owning-raised : IsOwning p word frame written (done ++ took ∷ []) v y
+    owning-raised = record {
+      taken = taken-on p p word writing_seat owning_seat (took ∷ []) v x y h.taken changes last-now (upgrade-seat refl t) (subst (λ (k : Held). k.fault ≡ k.block.count) (sym (upgrade-held refl t p)) h.taken.told);
+      locked = locked;
+      foreign =
+          each-both (λ (d : Did). d.at ≡ places.State p → d.wrote ≢ Some word) done (took ∷ []) (h.foreign word (not-marked word 1 version marked (omega arith) (version-within word)))
+          ((λ here e. not-marked word LOCKED (version_of expects) marked (omega arith) (version-within expects) (same_Some word (word_of LOCKED (version_of expects)) (sym e ∙ wrote-taken expects (word_of LOCKED (version_of expects))))), tt);
+      stands = ap (λ (k : Held). k.mapping) (upgrade-held refl t p) ∙ stands;
+      draft = upgrade-draft refl t;
+      cleaned = λ e.
+          let there = h.cleaned e in
+          let same : there.0 ≡ frame = frame-one there.0 frame (sym there.1 ∙ stands) in
+          saved-front p word frame done (took ∷ []) (subst (λ (n : ℕ). IsSavedFrom p word n done) same there.2) (no-fault p took refl, tt);
+      kept = λ e. unsaved-both p done (took ∷ []) (h.kept e) (unsaved-one p took refl refl);
+    }
+
+    raised-known : IsAlone x → p < x.start.pages → KnowsStage (p, word) (stages.Shared written) v x → KnowsStage (p, word) (stages.Owned written) v y
+    raised-known alone page k =
+        let l = state-left took [] x y changes.start quiet.runs alone p page refl (word_of LOCKED (version_of expects)) (wrote-taken expects (word_of LOCKED (version_of expects))) in
+        (record { before = k.0.before; now = l.0 ∙ ap (word_of LOCKED) (same-version expects is) }, l.1 ∙ k.1)
+
+    pub raised-so : Advances phases.Raise (p, word) (stages.Shared written) (stages.Owned written) done v x y
+    raised-so = quietly-to phases.Raise (p, word) (stages.Shared written) (stages.Owned written) done (took ∷ []) v x y quiet (frame, owning-raised) tt (gives-nothing refl refl refl)
+        raised-known
+
+  -- ---- it was lost
+
+  module _ (expects found : ℕ) (is : expects ≡ word_of 1 version) (ne : found ≢ expects) (y : View X) (t : UpgradeTold tied p expects found x y) where
+    abbrev raise-tried : Did
+    raise-tried = did_exchange (places.State p) expects found (word_of LOCKED (version_of expects))
+
+    raise-brings : Brings raise-tried [] [] x x y
+    raise-brings = lost-view raise-tried expects found x (upgraded_view p (last_of y p).words x) y ne t.brings
+
+    raise-work : Works p (raise-tried ∷ []) x y
+    raise-work = still-works raise-brings p
+
+    raise-tried-quiet : Quietly phases.Raise (p, word) (raise-tried ∷ []) x y
+    raise-tried-quiet = lost-quiet p phases.Raise word raise-tried x y raise-brings (raises-so expects found is)
+
+    -- a pass that is alone has the one share that it knows of
+    not-lost : IsAlone x → KnowsStage (p, word) (stages.Shared written) v x → ⊥
+    not-lost alone k = ne (found-first raise-tried [] [] x y raise-work.alone alone found refl ∙ k.0.now ∙ sym is)
+
+    held-on : HasLockTaken p word writing_seat v y
+    held-on =
+        taken-works p word writing_seat (inr (omega arith)) v x h.taken (raise-tried ∷ []) y raise-work
+        (subst (λ (k : Held). k.fault ≡ k.block.count) (sym (ap (λ (z : View X). held_at z p) raise-brings.view)) h.taken.told)
+
+    pub may-give : x.out ≡ None → MayUnshare y p
+    may-give home = may-unshare p y held-on.now held-on.told (raise-tried-quiet.moves.home home)
+
+    module _ (last : ℕ) (w : View X) (u : UnshareTold p last y w) where
+      abbrev end-did : Did
+      end-did = unshare-did u
+
+      gone : Quietly phases.Raise (p, word) (end-did ∷ []) y w
+      gone = given-quiet p word v y held-on phases.Raise last w u (inr (last, refl))
+
+      abbrev both : List Did
+      both = raise-tried ∷ end-did ∷ []
+
+      -- the exchange found another word than that of the pass's share alone, and no step before had left it there
+      abbrev lost : HasLost (done ++ both) (places.State p) (word_of 1 version)
+      lost = record {
+        earlier = done;
+        step = raise-tried;
+        later = end-did ∷ [];
+        cut = refl;
+        is = (found, subst (λ (n : ℕ). IsLost raise-tried (places.State p) n found) is (lost-one (places.State p) expects found (word_of LOCKED (version_of expects)) ne), h.foreign found (λ e. ne (e ∙ sym is)));
+      }
+
+      missed-raise : IsMissed p word written (done ++ both)
+      missed-raise = record {
+        why = inr (lost, h.shared);
+        cleaned = λ e. let there = h.cleaned e in (there.0, saved-front p word there.0 done both there.2 (no-fault p raise-tried refl, (no-fault p end-did refl, tt)));
+        unwritten = λ e. unsaved-both p done both (h.kept e) (unsaved-both p (raise-tried ∷ []) (end-did ∷ []) (unsaved-one p raise-tried refl refl) (unsaved-one p end-did refl refl));
+        unreleased =
+            each-both (λ (d : Did). d.at ≡ places.State p → d.found ≡ None → d.wrote ≡ None) done both h.unreleased
+            ((λ here none. absurd (none-some found (sym none))), ((λ here none. absurd (none-some last (sym none))), tt));
+      }
+
+      pub raise-lost : Advances phases.Raise (p, word) (stages.Shared written) (stages.Lost written) done v x w
+      raise-lost =
+          quietly-to phases.Raise (p, word) (stages.Shared written) (stages.Lost written) done both v x w
+          (quietly-then phases.Raise (p, word) (raise-tried ∷ []) (end-did ∷ []) x y w raise-tried-quiet gone)
+          (missed-raise, given-rests p word v y held-on phases.Raise last w u)
+          tt (gives-nothing refl refl refl)
+          (λ alone page k. absurd (not-lost alone k))

@@ -1,20 +1,15 @@
 -- The steps of a phase on one candidate: they are on the candidate's own words, and one run of them behind another is one run.
-use Rattle.std.proofs.Common.{[], ⊎_elim, ◌++◌, ◌<◌, ◌||◌, ◌∙◌, ◌∷◌, ◌≡◌, ◌≢◌, ap, append_assoc, Bool, false, inl, List, refl, subst, sym, ℕ}
-use Rattle.vm_rule.specs.Prelude.{Each, has, put_at}
-use Rattle.vm_rule.specs.declared.view.Place.{Place}
+use Rattle.std.proofs.lemmas.Bool.{true≢false}
 use Rattle.vm_rule.specs.declared.view.Place.TheVariants as places
-use Rattle.vm_rule.proofs.{Entries.append-none, Heard.each-both}
-use Rattle.vm_step.specs.Prelude.{Did, IsAlone, IsOfPage, KeepsFrames, Note, Origin, Release, RunsAlone, Translation, View}
-use Rattle.vm_step.proofs.Alone.{runs-self, runs-then, stays-alone, still-alone}
-use Rattle.vm_step.proofs.Asides.{alone-then, keeps-self, keeps-then}
-use Rattle.vm_step.proofs.Leaves.{leaves-then, works-none}
-use Rattle.vm_evict.specs.{declared.candidate.Phase.Phase, declared.candidate.Stage.Stage, Tables.KnowsStage, Writes.IsOwnPlace, Writes.WritesPage}
 use Rattle.vm_evict.specs.declared.candidate.Phase.TheVariants as phases
 use Rattle.vm_evict.specs.declared.candidate.Stage.TheVariants as stages
-use Rattle.vm_evict.specs.Evictions.{frame_at, FramesCome, note_at, release_at}
-use Rattle.vm_evict.specs.Phases.{Does, gives_up, GivesUp, Saves, shares, writes}
-use Rattle.vm_evict.specs.Stages.{Adds, Advances, Comes, IsAt, MayBeginPhase, MayEnd, Moves, one, still}
-use Rattle.vm_evict.proofs.Copying.{written-own}
+use Rattle.vm_evict.proofs.{Gathering.apart-join, Writing.written-own}
+use Rattle.vm_evict.proofs.Prelude.{[], Adds, Advances, alone-then, ap, append-none, append_assoc, arith, Bool, cases_Bool, Did, Does, Each}
+use Rattle.vm_evict.proofs.Prelude.{each-both, each-has, each-map, false, frame_at, FramesCome, gives_up, GivesUp, has, has-both, inl, IsAlone, IsAt}
+use Rattle.vm_evict.proofs.Prelude.{IsOfPage, IsOwnPlace, keeps-self, keeps-then, KeepsFrames, KnowsStage, leaves-then, List, MayBeginPhase, MayEnd}
+use Rattle.vm_evict.proofs.Prelude.{Moves, nat_tests, Note, note_at, or_right, Origin, Phase, Place, put_at, refl, Release, release_at, rules}
+use Rattle.vm_evict.proofs.Prelude.{runs-self, runs-then, RunsAlone, Saves, shares, Stage, stays-alone, still-alone, subst, sym, Translation, true}
+use Rattle.vm_evict.proofs.Prelude.{View, works-none, writes, WritesPage, ℕ, ⊎_elim, ◌++◌, ◌<◌, ◌∙◌, ◌≡◌, ◌≢◌}
 
 -- ---- the words that a phase steps on
 
@@ -53,35 +48,38 @@ module _ (phase : Phase) (c : ℕ × ℕ) (q : ℕ) (ne : q ≢ c.0) where
   else-of : (d : Did) → Does phase c d → (d.at ≢ places.State q) × (d.at ≢ places.Translation q) × (d.at ≢ places.Fault q)
   else-of d s = own-else c.0 q d.at (λ e. ne (sym e)) (does-own phase c d s)
 
-  pub no-state-of : (more : List Did) → Each (Does phase c) more → Each (λ d. d.at ≢ places.State q) more
-  no-state-of [] s = tt
-  no-state-of (d ∷ ds) s = ((else-of d s.0).0, no-state-of ds s.1)
-
-  pub no-translation-of : (more : List Did) → Each (Does phase c) more → Each (λ d. d.at ≢ places.Translation q) more
-  no-translation-of [] s = tt
-  no-translation-of (d ∷ ds) s = ((else-of d s.0).1, no-translation-of ds s.1)
-
-  pub no-fault-of : (more : List Did) → Each (Does phase c) more → Each (λ d. d.at ≢ places.Fault q) more
-  no-fault-of [] s = tt
-  no-fault-of (d ∷ ds) s = ((else-of d s.0).2, no-fault-of ds s.1)
+  pub no-words-of : (more : List Did) → Each (Does phase c) more → Each (λ d. (d.at ≢ places.State q) × (d.at ≢ places.Translation q) × (d.at ≢ places.Fault q)) more
+  no-words-of more s = each-map (Does phase c) _ else-of more s
 
 -- steps of a write-back are steps of the first phase
 pub saves-all : (c : ℕ × ℕ) (done : List Did) → Each (WritesPage c.0) done → Each (Does phases.Save c) done
-saves-all c [] e = tt
-saves-all c (d ∷ ds) e = (writes e.0, saves-all c ds e.1)
+saves-all c done e = each-map (WritesPage c.0) (Saves c) (λ d w. writes w) done e
 
 module _ {X : Type 0} where
   pub moves-none : (phase : Phase) (c : ℕ × ℕ) (x : View X) → Moves phase c [] x x
   moves-none phase c x = record { leaves = (works-none c.0 x).leaves; does = tt; home = λ e. e; newer = []; reads = refl }
 
   pub moves-then : (phase : Phase) (c : ℕ × ℕ) (a b : List Did) (x y z : View X) → Moves phase c a x y → Moves phase c b y z → Moves phase c (a ++ b) x z
-  moves-then phase c a b x y z f g = record {
-    leaves = leaves-then c.0 a b x y z f.leaves g.leaves;
-    does = each-both (Does phase c) a b f.does g.does;
-    home = λ e. g.home (f.home e);
-    newer = g.newer ++ f.newer;
-    reads = g.reads ∙ ap (λ (t : List Translation). g.newer ++ t) f.reads ∙ sym (append_assoc g.newer f.newer x.translations);
-  }
+  moves-then phase c a b x y z f g =
+      search (rules, leaves-then c.0 a b x y z f.leaves g.leaves, each-both (Does phase c) a b f.does g.does, g.reads ∙ ap (λ (t : List Translation). g.newer ++ t) f.reads ∙ sym (append_assoc g.newer f.newer x.translations))
+
+  -- ---- frames
+
+  pub come-still : (v w : View X) → w.frames ≡ v.frames → w.contents ≡ v.contents → FramesCome [] v w
+  come-still v w frames contents = record { apart = tt; inside = tt; new = tt; all = λ f. ap (has f) frames; words = λ f here. ap (λ l. put_at [] l f) contents }
+
+  -- frames came, and then more
+  pub come-then : (a b : List ℕ) (u v w : View X) → v.start ≡ u.start → FramesCome a u v → FramesCome b v w → FramesCome (a ++ b) u w
+  come-then a b u v w start f g =
+      let neither : (n : ℕ) → has n v.frames ≡ false → (has n a ≡ false) × (has n u.frames ≡ false) = λ n e. (let all = f.all n in (grind (arith, nat_tests, all, e), grind (arith, nat_tests, all, e))) in
+      record {
+        apart = apart-join a b f.apart g.apart
+            (λ n here. ⊎_elim (λ (e : has n b ≡ true). absurd (true≢false (sym here ∙ (neither n (each-has (λ k. has k v.frames ≡ false) b n g.new e)).0))) (λ (e : has n b ≡ false). e) (cases_Bool (has n b)));
+        inside = each-both (λ (n : ℕ). n < u.start.frames) a b f.inside (subst (λ (s : Origin). Each (λ n. n < s.frames) b) start g.inside);
+        new = each-both (λ (n : ℕ). has n u.frames ≡ false) a b f.new (each-map (λ n. has n v.frames ≡ false) (λ n. has n u.frames ≡ false) (λ n e. (neither n e).1) b g.new);
+        all = λ n. (let first = f.all n in let then = g.all n in let both = has-both n a b in grind (arith, nat_tests, first, then, both));
+        words = λ n here. g.words n (f.all n ∙ or_right (has n a) (has n u.frames) here) ∙ f.words n here;
+      }
 
   -- steps that release nothing, and leave frames and notes
   pub record Quietly (phase : Phase) (c : ℕ × ℕ) (more : List Did) (x y : View X) : Type 0 where
@@ -90,11 +88,7 @@ module _ {X : Type 0} where
     pub keeps : KeepsFrames x y
 
   pub quietly-then : (phase : Phase) (c : ℕ × ℕ) (a b : List Did) (x y z : View X) → Quietly phase c a x y → Quietly phase c b y z → Quietly phase c (a ++ b) x z
-  quietly-then phase c a b x y z f g = record {
-    moves = moves-then phase c a b x y z f.moves g.moves;
-    runs = runs-then a b [] [] x y z f.moves.leaves.start f.moves.leaves.parts f.runs g.runs;
-    keeps = keeps-then x y z f.keeps g.keeps;
-  }
+  quietly-then phase c a b x y z f g = search (rules, moves-then phase c a b x y z f.moves g.moves, runs-then a b [] [] x y z f.moves.leaves.start f.moves.leaves.parts f.runs g.runs, keeps-then x y z f.keeps g.keeps)
 
   -- the new stage gives what the old one gave
   pub record GivesNothing (phase : Phase) (c : ℕ × ℕ) (x : View X) (old new : Stage) : Type 0 where
@@ -111,23 +105,7 @@ module _ {X : Type 0} where
 
   -- a candidate that such steps bring to another stage, which gives nothing
   pub quietly-to : (phase : Phase) (c : ℕ × ℕ) (old new : Stage) (done more : List Did) (v x y : View X) → Quietly phase c more x y → IsAt c new (done ++ more) v y → MayEnd phase new → GivesNothing phase c x old new → KnowsOver c old new v x y → Advances phase c old new done v x y
-  quietly-to phase c old new done more v x y q at ends gives table = record {
-    more = more;
-    moves = q.moves;
-    at = at;
-    ends = ends;
-    own = [];
-    runs = q.runs;
-    alone = stays-alone more x y q.moves.leaves.start q.runs;
-    releases = gives.releases;
-    notes = [];
-    noted = q.keeps.notes ∙ sym (append-none x.notes);
-    notes_are = gives.notes;
-    frames = [];
-    come = still refl q.keeps.frames q.keeps.contents;
-    frames_are = gives.frames;
-    table = table;
-  }
+  quietly-to phase c old new done more v x y q at ends gives table = search (rules, q.keeps.notes ∙ sym (append-none x.notes), stays-alone more x y q.moves.leaves.start q.runs, come-still x y q.keeps.frames q.keeps.contents)
 
   -- no step: the stage stays
   pub stays-so : (phase : Phase) (c : ℕ × ℕ) (s : Stage) (done : List Did) (v x : View X) → IsAt c s done v x → MayEnd phase s → Advances phase c s s done v x x
@@ -142,54 +120,21 @@ module _ {X : Type 0} where
   none-given x c (stages.Freed frame written) e = absurd e
   none-given x c s e = refl
 
-  -- frames that came to a pass whose frames were as they were before
-  come-after : (batch : List ℕ) (u v w : View X) → v.start ≡ u.start → KeepsFrames u v → FramesCome batch v w → FramesCome batch u w
-  come-after batch u v w start k f = record {
-    apart = f.apart;
-    inside = subst (λ (s : Origin). Each (λ n. n < s.frames) batch) start f.inside;
-    new = subst (λ (l : List ℕ). Each (λ n. has n l ≡ false) batch) k.frames f.new;
-    all = λ n. f.all n ∙ ap (λ (l : List ℕ). has n batch || has n l) k.frames;
-    words = λ n here. f.words n (ap (has n) k.frames ∙ here) ∙ ap (λ l. put_at [] l n) k.contents;
-  }
-
-  comes-after : (frames : List ℕ) (u v w : View X) → v.start ≡ u.start → KeepsFrames u v → Comes frames v w → Comes frames u w
-  comes-after frames u v w start k (still none f c) = still none (f ∙ k.frames) (c ∙ k.contents)
-  comes-after frames u v w start k (one f is come) = one f is (come-after (f ∷ []) u v w start k come)
-
-  -- a stage that gives nothing
-  pub record GivesNone (x : View X) (c : ℕ × ℕ) (s : Stage) : Type 0 where
-    pub releases : release_at x c s ≡ []
-    pub notes : note_at c s ≡ []
-    pub frames : frame_at c s ≡ []
-
-  pub none-waiting : (x : View X) (c : ℕ × ℕ) → GivesNone x c stages.Waiting
-  none-waiting x c = record { releases = refl; notes = refl; frames = refl }
-
-  pub none-shared : (x : View X) (c : ℕ × ℕ) (written : Bool) → GivesNone x c (stages.Shared written)
-  none-shared x c written = record { releases = refl; notes = refl; frames = refl }
-
   -- quiet steps in front, in the first phase, from a stage that gives nothing to another one
-  pub advances-after : (c : ℕ × ℕ) (old mid new : Stage) (done a : List Did) (v x y z : View X) → Quietly phases.Save c a x y → GivesNone x c old → GivesNone y c mid → KnowsOver c old mid v x y → Advances phases.Save c mid new (done ++ a) v y z → Advances phases.Save c old new done v x z
-  advances-after c old mid new done a v x y z q from to table t = record {
-    more = a ++ t.more;
-    moves = moves-then phases.Save c a t.more x y z q.moves t.moves;
-    at = subst (λ (l : List Did). IsAt c new l v z) (append_assoc done a t.more) t.at;
-    ends = t.ends;
-    own = t.own;
-    runs = runs-then a t.more [] t.own x y z q.moves.leaves.start q.moves.leaves.parts q.runs t.runs;
-    alone = alone-then x y z q.moves.leaves.parts (stays-alone a x y q.moves.leaves.start q.runs) t.alone;
-    releases = record {
-      is = none-given x c new t.ends ∙ sym (none-given y c new t.ends) ∙ t.releases.is ∙ ap (λ (l : List Release). l ++ t.own) (to.releases ∙ sym from.releases);
-      when = t.releases.when;
-    };
-    notes = t.notes;
-    noted = t.noted ∙ ap (λ (l : List Note). l ++ t.notes) q.keeps.notes;
-    notes_are = record { is = t.notes_are.is ∙ ap (λ (l : List Note). l ++ t.notes) (to.notes ∙ sym from.notes); when = t.notes_are.when };
-    frames = t.frames;
-    come = comes-after t.frames x y z q.moves.leaves.start q.keeps t.come;
-    frames_are = record { is = t.frames_are.is ∙ ap (λ (l : List ℕ). l ++ t.frames) (to.frames ∙ sym from.frames); when = t.frames_are.when };
-    table = λ alone page k. t.table (still-alone x y q.moves.leaves.parts q.runs.current alone) (subst (λ (o : Origin). c.0 < o.pages) (sym q.moves.leaves.start) page) (table alone page k);
-  }
+  pub advances-after : (c : ℕ × ℕ) (old mid new : Stage) (done a : List Did) (v x y z : View X) → Quietly phases.Save c a x y → release_at y c mid ≡ release_at x c old → note_at c mid ≡ note_at c old → frame_at c mid ≡ frame_at c old → KnowsOver c old mid v x y → Advances phases.Save c mid new (done ++ a) v y z → Advances phases.Save c old new done v x z
+  advances-after c old mid new done a v x y z q releases notes frames table t =
+      let moves = moves-then phases.Save c a t.more x y z q.moves t.moves in
+      let at : IsAt c new (done ++ (a ++ t.more)) v z = subst (λ (l : List Did). IsAt c new l v z) (append_assoc done a t.more) t.at in
+      let runs = runs-then a t.more [] t.own x y z q.moves.leaves.start q.moves.leaves.parts q.runs t.runs in
+      let alone = alone-then x y z q.moves.leaves.parts (stays-alone a x y q.moves.leaves.start q.runs) t.alone in
+      let own : Adds (release_at x c) phases.Save phases.Leave old new t.own
+      = record { is = none-given x c new t.ends ∙ sym (none-given y c new t.ends) ∙ t.releases.is ∙ ap (λ (l : List Release). l ++ t.own) releases; when = t.releases.when } in
+      let noted : Adds (note_at c) phases.Save phases.Save old new t.notes = record { is = t.notes_are.is ∙ ap (λ (l : List Note). l ++ t.notes) notes; when = t.notes_are.when } in
+      let framed : Adds (frame_at c) phases.Save phases.Empty old new t.frames = record { is = t.frames_are.is ∙ ap (λ (l : List ℕ). l ++ t.frames) frames; when = t.frames_are.when } in
+      let after : z.notes ≡ x.notes ++ t.notes = t.noted ∙ ap (λ (l : List Note). l ++ t.notes) q.keeps.notes in
+      let come = come-then [] t.frames x y z q.moves.leaves.start (come-still x y q.keeps.frames q.keeps.contents) t.come in
+      let known : KnowsOver c old new v x z = λ alone page k. t.table (still-alone x y q.moves.leaves.parts q.runs.current alone) (subst (λ (o : Origin). c.0 < o.pages) (sym q.moves.leaves.start) page) (table alone page k) in
+      search (rules, moves, at, t.ends, runs, alone, own, noted, framed, after, come, known)
 
   -- a step from a stage is one from the stage that it equals
   pub comes-from : (phase k : Phase) (c : ℕ × ℕ) (s t new : Stage) (done : List Did) (v x y : View X) → phase ≡ k → s ≡ t → (IsAt c t done v x → Advances k c t new done v x y) → IsAt c s done v x → Advances phase c s new done v x y
@@ -203,37 +148,26 @@ pub begins-waiting : (s : Stage) → MayBeginPhase phases.Save s → s ≡ stage
 begins-waiting stages.Waiting b = refl
 begins-waiting s b = absurd b
 
-lock-leaves : (s : Stage) → (s ≡ stages.Clean → ⊥) → MayBeginPhase phases.Lock s → MayEnd phases.Lock s
+pub lock-leaves : (s : Stage) → (s ≡ stages.Clean → ⊥) → MayBeginPhase phases.Lock s → MayEnd phases.Lock s
 lock-leaves stages.Clean ne b = absurd (ne refl)
 lock-leaves (stages.Owned written) ne b = tt
 lock-leaves s ne b = b
 
-raise-leaves : (s : Stage) → ((written : Bool) → s ≡ stages.Shared written → ⊥) → MayBeginPhase phases.Raise s → MayEnd phases.Raise s
+pub raise-leaves : (s : Stage) → ((written : Bool) → s ≡ stages.Shared written → ⊥) → MayBeginPhase phases.Raise s → MayEnd phases.Raise s
 raise-leaves (stages.Shared written) ne b = absurd (ne written refl)
 raise-leaves s ne b = b
 
-empty-leaves : (s : Stage) → ((written : Bool) → s ≡ stages.Owned written → ⊥) → MayBeginPhase phases.Empty s → MayEnd phases.Empty s
+pub empty-leaves : (s : Stage) → ((written : Bool) → s ≡ stages.Owned written → ⊥) → MayBeginPhase phases.Empty s → MayEnd phases.Empty s
 empty-leaves (stages.Owned written) ne b = absurd (ne written refl)
 empty-leaves (stages.Emptied frame written) ne b = tt
 empty-leaves s ne b = b
 
-leave-leaves : (s : Stage) → ((frame : ℕ) (written : Bool) → s ≡ stages.Emptied frame written → ⊥) → MayBeginPhase phases.Leave s → MayEnd phases.Leave s
+pub leave-leaves : (s : Stage) → ((frame : ℕ) (written : Bool) → s ≡ stages.Emptied frame written → ⊥) → MayBeginPhase phases.Leave s → MayEnd phases.Leave s
 leave-leaves (stages.Emptied frame written) ne b = absurd (ne frame written refl)
 leave-leaves (stages.Freed frame written) ne b = tt
 leave-leaves s ne b = b
 
 module _ {X : Type 0} (phase : Phase) (c : ℕ × ℕ) (s : Stage) (done : List Did) (v x : View X) (b : MayBeginPhase phase s) (h : IsAt c s done v x) where
-  left-by : (k : Phase) → phase ≡ k → (MayBeginPhase k s → MayEnd k s) → Advances phase c s s done v x x
-  left-by k is f = stays-so phase c s done v x h (subst (λ (j : Phase). MayEnd j s) (sym is) (f (subst (λ (j : Phase). MayBeginPhase j s) is b)))
-
-  pub lock-skips : phase ≡ phases.Lock → (s ≡ stages.Clean → ⊥) → Advances phase c s s done v x x
-  lock-skips is ne = left-by phases.Lock is (lock-leaves s ne)
-
-  pub raise-skips : phase ≡ phases.Raise → ((written : Bool) → s ≡ stages.Shared written → ⊥) → Advances phase c s s done v x x
-  raise-skips is ne = left-by phases.Raise is (raise-leaves s ne)
-
-  pub empty-skips : phase ≡ phases.Empty → ((written : Bool) → s ≡ stages.Owned written → ⊥) → Advances phase c s s done v x x
-  empty-skips is ne = left-by phases.Empty is (empty-leaves s ne)
-
-  pub leave-skips : phase ≡ phases.Leave → ((frame : ℕ) (written : Bool) → s ≡ stages.Emptied frame written → ⊥) → Advances phase c s s done v x x
-  leave-skips is ne = left-by phases.Leave is (leave-leaves s ne)
+  -- a stage with which the phase has nothing to do stays
+  pub skips : (k : Phase) → phase ≡ k → (MayBeginPhase k s → MayEnd k s) → Advances phase c s s done v x x
+  skips k is f = stays-so phase c s done v x h (subst (λ (j : Phase). MayEnd j s) (sym is) (f (subst (λ (j : Phase). MayBeginPhase j s) is b)))

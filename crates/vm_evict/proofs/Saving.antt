@@ -1,30 +1,106 @@
--- A page under write-back is written where it is dirty; where the write fails the share is given up.
-use Rattle.std.proofs.Common.{[], ◌++◌, ◌-◌, ◌<◌, ◌^◌, ◌∙◌, ◌∷◌, ◌≡◌, ◌≢◌, ap, arith, Bool, false, inl, inr, IsSome, List, None, Ok, Option, refl}
-use Rattle.std.proofs.Common.{Some, subst, sym, true, ℕ}
-use Rattle.std.proofs.lemmas.Bool.{false≢true}
-use Rattle.std.proofs.lemmas.Option.{none-some}
-use Rattle.vm_core.specs.Prelude.{version_of}
-use Rattle.vm_rule.specs.Prelude.{clean_in, held_at, Mapping, stands_dirty, UnshareTold}
-use Rattle.vm_rule.specs.declared.view.Held.{Held}
+-- The first phase: the look at a candidate and its translation word, and the write of one that is shared.
 use Rattle.vm_rule.specs.declared.view.Place.TheVariants as places
-use Rattle.vm_rule.proofs.Heard.{each-both}
-use Rattle.vm_step.specs.Prelude.{Did, IsAlone, known_word_at, Origin, View, WritesNone}
-use Rattle.vm_step.proofs.{Asides.alone-then, steps.Share.unshare-did}
-use Rattle.vm_step.proofs.Alone.{runs-then, stays-alone, still-alone}
-use Rattle.vm_step.proofs.DeviceCalls.{no-fault, once-behind, once-front}
-use Rattle.vm_step.proofs.Evidenced.{given-behind, written-behind, written-front}
-use Rattle.vm_evict.specs.{Evictions.IsWriteFailed, Phases.gives_up, Tables.KnowsLocked, Tables.KnowsStage}
 use Rattle.vm_evict.specs.declared.candidate.Phase.TheVariants as phases
 use Rattle.vm_evict.specs.declared.candidate.Stage.TheVariants as stages
-use Rattle.vm_evict.specs.Stages.{Advances, HasLockTaken, IsCleanAt, IsWriting, Moves, still}
-use Rattle.vm_evict.specs.Writes.{EndsWrite, HasNotSaved, HasSaved, IsAllowed, IsFoundClean, IsFoundDirty, IsLeftDirty, IsSavedNow, IsStillLocked}
-use Rattle.vm_evict.specs.Writes.{writing_seat}
-use Rattle.vm_evict.proofs.{Copying.no-state-written, Locking.clean-of}
-use Rattle.vm_evict.proofs.Evidenced.{dirty-front, no-mapping, none-both, none-kept, none-silent, none-stored, not-fault, saved-behind, shared-front}
-use Rattle.vm_evict.proofs.Evidenced.{unsaved-both}
-use Rattle.vm_evict.proofs.Moving.{gives-nothing, moves-then, Quietly, quietly-to, saves-all}
-use Rattle.vm_evict.proofs.Tables.{found-first, kept-at, left-at, left-last, locked-on, share-gone, silent-page, stays-known}
-use Rattle.vm_evict.proofs.Taken.{given-quiet, given-rests, taken-works}
+use Rattle.vm_evict.proofs.{Locking.clean-of, Writing.no-state-written}
+use Rattle.vm_evict.proofs.Evidenced.{dirty-front, no-mapping, none-both, none-kept, none-silent, none-stored, rests-on, saved-behind, shared-front}
+use Rattle.vm_evict.proofs.Evidenced.{unsaved-both, unsaved-load, unsaved-one}
+use Rattle.vm_evict.proofs.Moving.{come-still, gives-nothing, moves-then, Quietly, quietly-then, quietly-to, saves-all}
+use Rattle.vm_evict.proofs.Prelude.{[], Advances, alone-then, ap, append_assoc, arith, Bool, cases_eq, clean_in, Closed, cond-false, cond-true, Did}
+use Rattle.vm_evict.proofs.Prelude.{did_load, each-both, EndsWrite, eq-eqb, eqb, false, false≢true, given-behind, gives_up, HasLockTaken, HasNotSaved}
+use Rattle.vm_evict.proofs.Prelude.{HasSaved, Held, held_at, inl, inr, is_readable, is_some, IsAllowed, IsAlone, IsCleanAt, IsDirtyFrame}
+use Rattle.vm_evict.proofs.Prelude.{IsFoundClean, IsFoundDirty, IsLeftDirty, IsSavedNow, IsSeenClean, IsSome, IsStillLocked, IsToShare, IsWaiting}
+use Rattle.vm_evict.proofs.Prelude.{IsWriteFailed, IsWriting, known_word_at, KnowsKept, KnowsLocked, KnowsStage, left_at, left_open, List, look-only}
+use Rattle.vm_evict.proofs.Prelude.{look-others, look-own, LookTold, Mapping, mapping_of, MARKED, Moved, Moves, ne_eqb, no-fault, no_seat, None}
+use Rattle.vm_evict.proofs.Prelude.{none-some, Ok, once-behind, once-front, only-then, OnlyReads, Open, open_after, Opened, Option, Origin, put_at}
+use Rattle.vm_evict.proofs.Prelude.{ReadIs, reads, refl, rules, runs-then, Same, Seat, seat_of, Some, stands_dirty, Start, starts-then, state_of}
+use Rattle.vm_evict.proofs.Prelude.{stays-alone, still-alone, subst, sym, tload-others, tload-own, Translation, translation-only, translation_of}
+use Rattle.vm_evict.proofs.Prelude.{TranslationTold, true, unshare-did, UnshareTold, upd-same, version_of, View, writes, WritesNone, writing_seat}
+use Rattle.vm_evict.proofs.Prelude.{written-behind, written-front, ℕ, ⊎_elim, ◌++◌, ◌-◌, ◌<◌, ◌^◌, ◌∙◌, ◌∷◌, ◌≡◌, ◌≢◌}
+use Rattle.vm_evict.proofs.Tables.{found-first, kept-at, kept-then, left-at, locked-on, share-gone, silent-page, state-left, stays-known}
+use Rattle.vm_evict.proofs.Taken.{given-quiet, given-rests, quiet-one, taken-works}
+
+-- a look at a page that can be read leaves an open read at the version found
+opened-at : (found : ℕ) (o : Option Open) → is_readable (state_of found) ≡ true → (r : Open) × (open_after (left_at found o) o (version_of found) ≡ Some r) × (r.version ≡ version_of found)
+opened-at found None open_word =
+    (record { version = version_of found; frame = None }, ap (λ (l : ReadIs). open_after l None (version_of found)) (cond-true (is_readable (state_of found)) Opened Closed open_word), refl)
+opened-at found (Some o) open_word =
+    let left : left_at found (Some o) ≡ left_open (Some o) (version_of found) = cond-true (is_readable (state_of found)) (left_open (Some o) (version_of found)) Closed open_word in
+    ⊎_elim
+    (λ (e : o.version ≡ version_of found). (o, ap (λ (l : ReadIs). open_after l (Some o) (version_of found)) (left ∙ cond-true (eqb o.version (version_of found)) Same Moved (eq-eqb o.version (version_of found) e)), e))
+    (λ (ne : o.version ≢ version_of found).
+    (record { version = version_of found; frame = None }, ap (λ (l : ReadIs). open_after l (Some o) (version_of found)) (left ∙ cond-false (eqb o.version (version_of found)) Same Moved (ne_eqb o.version (version_of found) ne)), refl))
+    (cases_eq o.version (version_of found))
+
+module _ {X : Type 0} (tied : Start → ℕ → List ℕ → ℕ → List ℕ → Type 0) (p word found t : ℕ) (done : List Did) (v x a b : View X) (h : IsWaiting p done v x) (look : LookTold tied p None found x a) (load : TranslationTold p t a b) where
+  abbrev pub look-did : Did
+  look-did = did_load (places.State p) found
+
+  abbrev pub load-did : Did
+  load-did = did_load (places.Translation p) t
+
+  abbrev left : ReadIs
+  left = left_at found (seat_of x p).reading
+
+  look-quiet : Quietly phases.Save (p, word) (look-did ∷ []) x a
+  look-quiet = quiet-one p phases.Save word (look-others look (λ q. q ≡ p) refl) (look-own look) [] (ap (λ (y : View X). y.translations) look.brings.view) (writes (reads (inl refl) refl refl))
+
+  load-quiet : Quietly phases.Save (p, word) (load-did ∷ []) a b
+  load-quiet = quiet-one p phases.Save word (tload-others load (λ q. q ≡ p) refl) (tload-own load) (translation_of p t (seat_of a p).reading) (ap (λ (y : View X). y.translations) load.brings.view) (writes (reads (inl refl) refl refl))
+
+  pub looked : Quietly phases.Save (p, word) (look-did ∷ load-did ∷ []) x b
+  looked = quietly-then phases.Save (p, word) (look-did ∷ []) (load-did ∷ []) x a b look-quiet load-quiet
+
+  -- the page waits on
+  pub waits-on : IsWaiting p (done ++ look-did ∷ load-did ∷ []) v b
+  waits-on =
+      let only : OnlyReads (λ q. q ≡ p) (look-did ∷ load-did ∷ []) x b
+      = only-then (λ q. q ≡ p) (look-did ∷ []) (load-did ∷ []) x a b (look-only (λ q. q ≡ p) tied p found x a refl look) (translation-only (λ q. q ≡ p) p t a b refl load) in
+      record {
+        quiet = each-both (λ (d : Did). d.at ≡ places.State p → d.wrote ≡ None) done (look-did ∷ load-did ∷ []) h.quiet ((λ here. refl), ((λ here. refl), tt));
+        kept = unsaved-both p done (look-did ∷ load-did ∷ []) h.kept (unsaved-both p (look-did ∷ []) (load-did ∷ []) (unsaved-one p look-did refl refl) (unsaved-load p t));
+        start = only.aside.start ∙ h.start;
+        since = starts-then v.releases x.releases b.releases h.since only.aside.releases;
+        rests = rests-on p v x b (only.aside.holds p) (only.aside.knows p) h.rests;
+      }
+
+  -- a pass that is alone knows its words as before
+  pub waits-known : IsAlone x → p < x.start.pages → KnowsKept p v x → KnowsKept p v b
+  waits-known alone page k = kept-then p v x b k (silent-page (look-did ∷ load-did ∷ []) [] x b looked.moves.leaves.start looked.runs alone p page (refl, (refl, tt)))
+
+  -- it is to be shared where the look found another word, or the load a dirty page
+  pub shares-another : found ≢ word → IsToShare p word (done ++ look-did ∷ load-did ∷ [])
+  shares-another ne = inr (found, record { earlier = done; step = look-did; later = load-did ∷ []; cut = refl; gives = (refl, refl) }, (refl, refl), ne)
+
+  pub shares-dirty : (o : Option ℕ) → IsDirtyFrame t o → is_some o ≡ true → IsToShare p word (done ++ look-did ∷ load-did ∷ [])
+  shares-dirty None d some = absurd (false≢true some)
+  shares-dirty (Some f) d some =
+      inl (f, (t, record { earlier = done ++ look-did ∷ []; step = load-did; later = []; cut = sym (append_assoc done (look-did ∷ []) (load-did ∷ [])); gives = (refl, refl) }, d))
+
+  module _ (same : found ≡ word) (marked : state_of word ≡ MARKED) (clean : stands_dirty (mapping_of t) ≡ false) where
+    read : (r : Open) × (open_after left (seat_of x p).reading (version_of found) ≡ Some r) × (r.version ≡ version_of found)
+    read = opened-at found (seat_of x p).reading (ap (λ (n : ℕ). is_readable (state_of n)) same ∙ ap is_readable marked)
+
+    reading : (seat_of a p).reading ≡ Some read.0
+    reading =
+        ap (λ (y : View X). (seat_of y p).reading) look.brings.view
+        ∙ ap (λ (s : Seat). s.reading) (upd-same (put_at no_seat x.seats) p (record (seat_of x p) { reading = open_after left (seat_of x p).reading (version_of found) }))
+        ∙ read.1
+
+    seen-clean : IsSeenClean p word (done ++ look-did ∷ load-did ∷ []) v b
+    seen-clean =
+        let item : ℕ → Translation = λ n. record { page = p; version = n; word = t } in
+        let read-at : b.translations ≡ item read.0.version ∷ a.translations = ap (λ (y : View X). y.translations) load.brings.view ∙ ap (λ (o : Option Open). translation_of p t o ++ a.translations) reading in
+        let loaded : b.translations ≡ [] ++ item (version_of word) ∷ a.translations = read-at ∙ ap (λ (n : ℕ). item n ∷ a.translations) (read.2 ∙ ap version_of same) in
+        search (rules, waits-on, loaded, clean)
+
+    -- it is clean, and left for the next phase
+    pub clean-so : Advances phases.Save (p, word) stages.Waiting stages.Clean done v x b
+    clean-so =
+        quietly-to phases.Save (p, word) stages.Waiting stages.Clean done (look-did ∷ load-did ∷ []) v x b looked seen-clean tt (gives-nothing refl refl refl)
+        waits-known
+
+-- ---- A page under write-back is written where it is dirty; where the write fails the share is given up.
 
 module _ {X : Type 0} (p word : ℕ) (done : List Did) (v x y : View X) (h : IsWriting p word false done v x) where
   moves-write : (more : List Did) → IsStillLocked p more x y → Moves phases.Save (p, word) more x y
@@ -121,38 +197,20 @@ module _ {X : Type 0} (p word : ℕ) (done : List Did) (v x y : View X) (h : IsW
           let alone-then : IsAlone y = still-alone x y r.locked.works.leaves.parts runs.current alone in
           let page-then : p < y.start.pages = subst (λ (o : Origin). p < o.pages) (sym start) page in
           let end-start = gone.moves.leaves.start in
-          let found : last ≡ known_word_at y (places.State p) = found-first end-did [] [] y w gone.runs alone-then last refl in (
-            record {
-              before = shared.before;
-              now =
-                  left-at (end-did ∷ []) [] y w end-start gone.runs alone-then (places.State p) (last - 2 ^ 56) (left-last [] end-did (last - 2 ^ 56) refl)
-                  ∙ ap (λ (n : ℕ). n - 2 ^ 56) (found ∙ shared.now)
-                  ∙ share-gone (version_of word);
-            },
-            kept-at (end-did ∷ []) [] y w end-start gone.runs alone-then (places.Translation p) page-then (no-mapping p end-did refl, tt)
-                ∙ kept-at r.done [] x y start runs alone (places.Translation p) page r.kept
-                ∙ k.2 refl,
-            kept-at (end-did ∷ []) [] y w end-start gone.runs alone-then (places.Fault p) page-then ((λ here. absurd (not-fault p (places.State p) refl here)), tt) ∙ raised,
+          let found : last ≡ known_word_at y (places.State p) = found-first end-did [] [] y w gone.runs alone-then last refl in
+          let end = state-left end-did [] y w end-start gone.runs alone-then p page-then refl (last - 2 ^ 56) refl in (
+            record { before = shared.before; now = end.0 ∙ ap (λ (n : ℕ). n - 2 ^ 56) (found ∙ shared.now) ∙ share-gone (version_of word) },
+            end.2 ∙ kept-at r.done [] x y start runs alone (places.Translation p) page r.kept ∙ k.2 refl,
+            end.1 ∙ raised,
           )
 
       pub failed-so : Advances phases.Save (p, word) (stages.Shared false) (stages.Failed count) done v x w
-      failed-so = record {
-        more = both;
-        moves = moves-then phases.Save (p, word) r.done (end-did ∷ []) x y w (moves-write r.done r.locked) gone.moves;
-        at = (failed, given-rests p word v y held-on phases.Save last w u);
-        ends = tt;
-        own = [];
-        runs = runs-then r.done (end-did ∷ []) [] [] x y w r.locked.works.leaves.start r.locked.works.leaves.parts r.locked.works.alone gone.runs;
-        alone = alone-then x y w r.locked.works.leaves.parts (stays-alone r.done x y r.locked.works.leaves.start r.locked.works.alone) (stays-alone (end-did ∷ []) y w gone.moves.leaves.start gone.runs);
-        releases = record { is = refl; when = inl refl };
-        notes = record { page = p; count = count } ∷ [];
-        noted = gone.keeps.notes ∙ r.noted;
-        notes_are = record { is = refl; when = inr refl };
-        frames = [];
-        come = still refl (gone.keeps.frames ∙ r.locked.frames.0) (gone.keeps.contents ∙ r.locked.frames.1);
-        frames_are = record { is = refl; when = inl refl };
-        table = failed-known;
-      }
+      failed-so =
+          let runs = runs-then r.done (end-did ∷ []) [] [] x y w r.locked.works.leaves.start r.locked.works.leaves.parts r.locked.works.alone gone.runs in
+          let alone = alone-then x y w r.locked.works.leaves.parts (stays-alone r.done x y r.locked.works.leaves.start r.locked.works.alone) (stays-alone (end-did ∷ []) y w gone.moves.leaves.start gone.runs) in
+          let moves = moves-then phases.Save (p, word) r.done (end-did ∷ []) x y w (moves-write r.done r.locked) gone.moves in
+          let notes : w.notes ≡ x.notes ++ record { page = p; count = count } ∷ [] = gone.keeps.notes ∙ r.noted in
+          search (rules, moves, failed, given-rests p word v y held-on phases.Save last w u, runs, alone, notes, come-still x w (gone.keeps.frames ∙ r.locked.frames.0) (gone.keeps.contents ∙ r.locked.frames.1), failed-known)
 
   -- whether it was written or not
   pub written-so : (written : Bool) → EndsWrite p x y (Ok written) → Advances phases.Save (p, word) (stages.Shared false) (stages.Shared written) done v x y

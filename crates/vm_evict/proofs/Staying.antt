@@ -1,52 +1,34 @@
 -- What is known of a candidate stays over steps on another one.
-use Rattle.std.proofs.Common.{[], ⊎_elim, ◌++◌, ◌+◌, ◌∙◌, ◌∷◌, ◌≡◌, ◌≢◌, ap, append_assoc, arith, Bool, inl, inr, IsSome, List, None, refl, Some}
-use Rattle.std.proofs.Common.{subst, sym, ℕ}
-use Rattle.vm_core.specs.Prelude.{EVICTED, trans_word, Version, version_of, word_of}
-use Rattle.vm_rule.specs.Prelude.{clean_in, Each, IsLocking, Seat}
-use Rattle.vm_rule.specs.declared.view.Held.{Held}
 use Rattle.vm_rule.specs.declared.view.Place.TheVariants as places
-use Rattle.vm_step.specs.Prelude.{Did, LeavesRest, Release, StaysHome, Translation, View}
-use Rattle.vm_step.proofs.{Asides.starts-then, Asides.still-locking, Evidenced.given-front, Evidenced.written-front}
-use Rattle.vm_step.proofs.DeviceCalls.{home-both, home-else, once-front}
-use Rattle.vm_evict.specs.{declared.candidate.Phase.Phase, declared.candidate.Stage.Stage, Writes.HasNotSaved, Writes.writing_seat}
 use Rattle.vm_evict.specs.declared.candidate.Stage.TheVariants as stages
-use Rattle.vm_evict.specs.Evictions.{HasReleased, IsMissed, IsPageFreed, IsWriteFailed}
-use Rattle.vm_evict.specs.Stages.{HasLockTaken, IsAt, IsCleanAt, IsEmptied, IsOwning, IsSeenClean, IsWaiting, IsWriting, Moves, owning_seat, Rests}
-use Rattle.vm_evict.proofs.Evidenced.{dirty-front, each-else, locks-front, lost-front, saved-front, shared-front}
-use Rattle.vm_evict.proofs.Moving.{no-fault-of, no-state-of, no-translation-of}
-use Rattle.vm_evict.proofs.Taken.{taken-on}
+use Rattle.vm_evict.proofs.{Moving.no-words-of, Taken.taken-on}
+use Rattle.vm_evict.proofs.Evidenced.{dirty-front, each-else, holds-same, locks-front, out-front, rests-on, saved-front, shared-front, step-front}
+use Rattle.vm_evict.proofs.Prelude.{[], ap, append_assoc, arith, Bool, Did, Each, each-map, EVICTED, false, HasLockTaken, HasNotSaved, HasReleased}
+use Rattle.vm_evict.proofs.Prelude.{Held, home-both, home-else, inl, inr, IsAt, IsCleanAt, IsEmptied, IsLocking, IsMissed, IsOwning, IsPageFreed}
+use Rattle.vm_evict.proofs.Prelude.{IsSeenClean, IsSome, IsTakenOut, IsWaiting, IsWriteFailed, IsWriting, LeavesRest, List, Moves, None, once-front}
+use Rattle.vm_evict.proofs.Prelude.{owning_seat, Phase, refl, Release, Rests, rules, Seat, Some, Stage, starts-then, StaysHome, subst, sym}
+use Rattle.vm_evict.proofs.Prelude.{Translation, true, version_of, View, word_of, writing_seat, written-front, ℕ, ⊎_elim, ◌++◌, ◌+◌, ◌∙◌, ◌∷◌, ◌≡◌}
+use Rattle.vm_evict.proofs.Prelude.{◌≢◌}
 
 module _ {X : Type 0} where
   pub rests-stay : (p q : ℕ) (more : List Did) (v x y : View X) → LeavesRest p more x y → q ≢ p → Rests q v x → Rests q v y
-  rests-stay p q more v x y m ne r = record {
-    holds = record {
-      shares = ap (λ (s : Seat). s.shares) (m.seats q ne) ∙ r.holds.shares;
-      exclusive = ap (λ (s : Seat). s.exclusive) (m.seats q ne) ∙ r.holds.exclusive;
-      writing = ap (λ (s : Seat). s.writing) (m.seats q ne) ∙ r.holds.writing;
-    };
-    knows = λ l.
-        let k = r.knows l in
-        record { held = m.held q ne ∙ k.held; draft = m.drafts q ne ∙ k.draft; last = m.last q ne (still-locking v x q r.holds l) ∙ k.last };
-  }
+  rests-stay p q more v x y m ne r = rests-on q v x y (holds-same q x y (m.seats q ne)) (λ l. record { held = m.held q ne; draft = m.drafts q ne; last = m.last q ne l }) r
 
 module _ {X : Type 0} (phase : Phase) (c : ℕ × ℕ) (more : List Did) (x y : View X) (m : Moves phase c more x y) (q word : ℕ) (ne : q ≢ c.0) (v : View X) (done : List Did) where
   rests : Rests q v x → Rests q v y
   rests r = rests-stay c.0 q more v x y m.leaves ne r
 
-  no-state-more : Each (λ d. d.at ≢ places.State q) more
-  no-state-more = no-state-of phase c q ne more m.does
-
-  no-translation-more : Each (λ d. d.at ≢ places.Translation q) more
-  no-translation-more = no-translation-of phase c q ne more m.does
+  none-more : Each (λ d. (d.at ≢ places.State q) × (d.at ≢ places.Translation q) × (d.at ≢ places.Fault q)) more
+  none-more = no-words-of phase c q ne more m.does
 
   on-state : (P : Did → Type 0) → Each (λ d. d.at ≡ places.State q → P d) done → Each (λ d. d.at ≡ places.State q → P d) (done ++ more)
-  on-state P h = each-else (places.State q) P done more no-state-more h
+  on-state P h = each-else (places.State q) P done more (each-map _ _ (λ d n. n.0) more none-more) h
 
   on-translation : (P : Did → Type 0) → Each (λ d. d.at ≡ places.Translation q → P d) done → Each (λ d. d.at ≡ places.Translation q → P d) (done ++ more)
-  on-translation P h = each-else (places.Translation q) P done more no-translation-more h
+  on-translation P h = each-else (places.Translation q) P done more (each-map _ _ (λ d n. n.1) more none-more) h
 
   home-more : StaysHome q more
-  home-more = home-else q more (no-fault-of phase c q ne more m.does)
+  home-more = home-else q more (each-map _ _ (λ d n. n.2) more none-more)
 
   unsaved : HasNotSaved q done → HasNotSaved q (done ++ more)
   unsaved h = record { kept = on-translation (λ d. d.wrote ≡ None) h.kept; home = home-both q done more h.home home-more }
@@ -55,14 +37,10 @@ module _ {X : Type 0} (phase : Phase) (c : ℕ × ℕ) (more : List Did) (x y : 
   waiting h = record { quiet = on-state (λ d. d.wrote ≡ None) h.quiet; kept = unsaved h.kept; rests = rests h.rests; start = m.leaves.start ∙ h.start; since = starts-then v.releases x.releases y.releases h.since m.leaves.releases }
 
   seen : IsSeenClean q word done v x → IsSeenClean q word (done ++ more) v y
-  seen h = record {
-    waits = waiting h.waits;
-    translation = h.translation;
-    newer = m.newer ++ h.newer;
-    older = h.older;
-    loaded = m.reads ∙ ap (λ (t : List Translation). m.newer ++ t) h.loaded ∙ sym (append_assoc m.newer h.newer (record { page = q; version = version_of word; word = h.translation } ∷ h.older));
-    clean = h.clean;
-  }
+  seen h =
+      let item : Translation = record { page = q; version = version_of word; word = h.translation } in
+      let loaded : y.translations ≡ (m.newer ++ h.newer) ++ item ∷ h.older = m.reads ∙ ap (λ (t : List Translation). m.newer ++ t) h.loaded ∙ sym (append_assoc m.newer h.newer (item ∷ h.older)) in
+      search (rules, waiting h.waits, loaded, h.clean)
 
   taken : (seat : Seat) → IsLocking seat → HasLockTaken q word seat v x → HasLockTaken q word seat v y
   taken seat locks h =
@@ -84,51 +62,29 @@ module _ {X : Type 0} (phase : Phase) (c : ℕ × ℕ) (more : List Did) (x y : 
   }
 
   owning : (frame : ℕ) (written : Bool) → IsOwning q word frame written done v x → IsOwning q word frame written (done ++ more) v y
-  owning frame written h = record {
-    taken = taken owning_seat (inl refl) h.taken;
-    locked = locks-front q word done more h.locked;
-    foreign = on-state (λ d. d.wrote ≢ Some word) h.foreign;
-    stands = ap (λ (k : Held). k.mapping) (m.leaves.held q ne) ∙ h.stands;
-    draft = m.leaves.drafts q ne ∙ h.draft ∙ ap (λ (r : Version). r.words) (sym (m.leaves.last q ne (subst (λ (s : Seat). IsLocking s) (sym h.taken.now) (inl refl))));
-    cleaned = λ e. saved-front q word frame done more (h.cleaned e) home-more;
-    kept = λ e. unsaved (h.kept e);
-  }
+  owning frame written h =
+      let cleaned = λ (e : written ≡ true). saved-front q word frame done more (h.cleaned e) home-more in
+      let kept = λ (e : written ≡ false). unsaved (h.kept e) in
+      let last = m.leaves.last q ne (subst (λ (s : Seat). IsLocking s) (sym h.taken.now) (inl refl)) in
+      search (rules, taken owning_seat (inl refl) h.taken, locks-front q word done more h.locked, on-state (λ d. d.wrote ≢ Some word) h.foreign, m.leaves.held q ne, m.leaves.drafts q ne, last, cleaned, kept)
+
+  out : (frame : ℕ) (written : Bool) → IsTakenOut q word frame written done → IsTakenOut q word frame written (done ++ more)
+  out frame written h =
+      out-front q word frame written done more h (each-map _ _ (λ d n here. absurd (n.0 here)) more none-more) (each-map _ _ (λ d n here. absurd (n.1 here)) more none-more) home-more
 
   emptied : (frame : ℕ) (written : Bool) → IsEmptied q word frame written done v x → IsEmptied q word frame written (done ++ more) v y
-  emptied frame written h = record {
-    taken = taken owning_seat (inl refl) h.taken;
-    locked = locks-front q word done more h.locked;
-    foreign = on-state (λ d. d.wrote ≢ Some word) h.foreign;
-    empty = ap (λ (k : Held). k.mapping) (m.leaves.held q ne) ∙ h.empty;
-    draft = m.leaves.drafts q ne ∙ h.draft ∙ ap (λ (r : Version). r.words) (sym (m.leaves.last q ne (subst (λ (s : Seat). IsLocking s) (sym h.taken.now) (inl refl))));
-    stood = (h.stood.0, given-front done more (places.Translation q) h.stood.0 h.stood.1, h.stood.2);
-    cleaned = λ e. saved-front q word frame done more (h.cleaned e) home-more;
-    unwritten = λ e. (on-translation (λ d. d.wrote ≢ Some (trans_word (Some (clean_in frame)))) (h.unwritten e).0, home-both q done more (h.unwritten e).1 home-more);
-    emptied = written-front done more (places.Translation q) (trans_word None) h.emptied;
-  }
+  emptied frame written h =
+      let last = m.leaves.last q ne (subst (λ (s : Seat). IsLocking s) (sym h.taken.now) (inl refl)) in
+      search (rules, taken owning_seat (inl refl) h.taken, out frame written h.out, m.leaves.held q ne, m.leaves.drafts q ne, last)
 
   released : HasReleased q word v x → HasReleased q word v y
   released h =
       let next : List Release = (v.releases ++ h.before) ++ record { page = q; version = version_of word + 1; words = h.words } ∷ [] in
-      record {
-        words = h.words;
-        before = h.before;
-        after = h.after ++ m.leaves.releases.0;
-        releases = m.leaves.releases.1 ∙ ap (λ (t : List Release). t ++ m.leaves.releases.0) h.releases ∙ append_assoc next h.after m.leaves.releases.0;
-        same = h.same;
-      }
+      let now : y.releases ≡ next ++ (h.after ++ m.leaves.releases.0) = m.leaves.releases.1 ∙ ap (λ (t : List Release). t ++ m.leaves.releases.0) h.releases ∙ append_assoc next h.after m.leaves.releases.0 in
+      search (rules, now, h.same)
 
   freed : (frame : ℕ) (written : Bool) → IsPageFreed q word frame written done v x → IsPageFreed q word frame written (done ++ more) v y
-  freed frame written h = record {
-    locked = locks-front q word done more h.locked;
-    foreign = on-state (λ d. d.wrote ≢ Some word) h.foreign;
-    stood = (h.stood.0, given-front done more (places.Translation q) h.stood.0 h.stood.1, h.stood.2);
-    cleaned = λ e. saved-front q word frame done more (h.cleaned e) home-more;
-    unwritten = λ e. (on-translation (λ d. d.wrote ≢ Some (trans_word (Some (clean_in frame)))) (h.unwritten e).0, home-both q done more (h.unwritten e).1 home-more);
-    emptied = written-front done more (places.Translation q) (trans_word None) h.emptied;
-    left = written-front done more (places.State q) (word_of EVICTED (version_of word + 1)) h.left;
-    released = released h.released;
-  }
+  freed frame written h = record { out = out frame written h.out; left = written-front done more (places.State q) (word_of EVICTED (version_of word + 1)) h.left; released = released h.released }
 
   failed : (count : ℕ) → IsWriteFailed q word count done v → IsWriteFailed q word count (done ++ more) v
   failed count h = record {
@@ -144,8 +100,8 @@ module _ {X : Type 0} (phase : Phase) (c : ℕ × ℕ) (more : List Did) (x y : 
   missed : (written : Bool) → IsMissed q word written done → IsMissed q word written (done ++ more)
   missed written h = record {
     why = ⊎_elim
-        (λ l. inl (lost-front done more (places.State q) word l))
-        (λ l. inr (lost-front done more (places.State q) (word_of 1 (version_of word)) l.0, l.1))
+        (λ l. inl (step-front done more l))
+        (λ l. inr (step-front done more l.0, l.1))
         h.why;
     cleaned = λ e. let t = h.cleaned e in (t.0, saved-front q word t.0 done more t.1 home-more);
     unwritten = λ e. unsaved (h.unwritten e);

@@ -1,20 +1,13 @@
 -- What a pass that is alone knows of a candidate's words over some steps: where none of them left a word it knows the word that it knew.
-use Rattle.std.proofs.Common.{[], ⊎_elim, ◌++◌, ◌-◌, ◌<◌, ◌^◌, ◌∙◌, ◌∷◌, ◌≡◌, ◌≢◌, ◌⊎◌, ap, arith, inl, inr, List, None, Option, refl, Some, subst}
-use Rattle.std.proofs.Common.{sym, true, ℕ}
-use Rattle.vm_core.specs.Prelude.{UNLOCKED, word_of}
-use Rattle.vm_rule.specs.Prelude.{Each, has, index_of, IsFoundAt, Within}
-use Rattle.vm_rule.specs.declared.view.Place.{Place}
 use Rattle.vm_rule.specs.declared.view.Place.TheVariants as places
-use Rattle.vm_rule.proofs.Heard.{each-both}
-use Rattle.vm_step.specs.Prelude.{candidate_pages, Did, IsAlone, known_word_at, LeavesLast, Release, RunsAlone, View, WritesNone}
-use Rattle.vm_step.proofs.After.{knows-after}
-use Rattle.vm_evict.specs.{declared.candidate.Phase.Phase, declared.candidate.Stage.Stage, Evictions.candidate_at}
 use Rattle.vm_evict.specs.declared.candidate.Phase.TheVariants as phases
 use Rattle.vm_evict.specs.declared.candidate.Stage.TheVariants as stages
-use Rattle.vm_evict.specs.Phases.{Does, DoesOne, gives_up, GivesUp, InPhases, Saves, shares, writes}
-use Rattle.vm_evict.specs.Tables.{IsOfAny, KnowsKept, KnowsLocked, KnowsOn, KnowsStage}
-use Rattle.vm_evict.specs.Writes.{cleans, raises, reads}
 use Rattle.vm_evict.proofs.{Evidenced.none-else, Evidenced.none-silent, Gathering.has-page}
+use Rattle.vm_evict.proofs.Prelude.{[], ap, arith, candidate_at, candidate_pages, cleans, Did, Does, DoesOne, Each, each-both, each-map, gives_up}
+use Rattle.vm_evict.proofs.Prelude.{GivesUp, has, index_of, inl, InPhases, inr, IsAlone, IsFoundAt, IsOfAny, known_word_at, knows-after, KnowsKept}
+use Rattle.vm_evict.proofs.Prelude.{KnowsLocked, KnowsOn, KnowsStage, LeavesLast, List, None, Option, Phase, Place, raises, reads, refl, Release}
+use Rattle.vm_evict.proofs.Prelude.{RunsAlone, Saves, shares, Some, Stage, subst, sym, true, UNLOCKED, View, Within, word_of, writes, WritesNone, ℕ}
+use Rattle.vm_evict.proofs.Prelude.{⊎_elim, ◌++◌, ◌-◌, ◌<◌, ◌^◌, ◌∙◌, ◌∷◌, ◌≡◌, ◌≢◌, ◌⊎◌}
 
 pub each-two : {A : Type 0} (P Q : A → Type 0) (l : List A) → Each P l → Each Q l → Each (λ x. P x × Q x) l
 each-two P Q [] f g = tt
@@ -51,8 +44,19 @@ module _ {X : Type 0} where
       pub silent-page : Each (λ d. d.wrote ≡ None) done → KnowsKept p x y
       silent-page e = kept-page (none-silent (places.State p) done e) (none-silent (places.Translation p) done e) (none-silent (places.Fault p) done e)
 
-      pub else-page : Each (λ d. d.at ≢ places.State p) done → Each (λ d. d.at ≢ places.Translation p) done → Each (λ d. d.at ≢ places.Fault p) done → KnowsKept p x y
-      else-page s t f = kept-page (none-else (places.State p) done s) (none-else (places.Translation p) done t) (none-else (places.Fault p) done f)
+      pub else-page : Each (λ d. (d.at ≢ places.State p) × (d.at ≢ places.Translation p) × (d.at ≢ places.Fault p)) done → KnowsKept p x y
+      else-page e =
+          kept-page (none-else (places.State p) done (each-map _ _ (λ d n. n.0) done e)) (none-else (places.Translation p) done (each-map _ _ (λ d n. n.1) done e))
+          (none-else (places.Fault p) done (each-map _ _ (λ d n. n.2) done e))
+
+  -- after one step that left a word at the page's state word, it knows this word, and the page's others as before
+  pub state-left : (d : Did) (own : List Release) (x y : View X) → y.start ≡ x.start → RunsAlone (d ∷ []) own x y → IsAlone x → (p : ℕ) → p < x.start.pages → d.at ≡ places.State p → (word : ℕ) → d.wrote ≡ Some word
+      → (known_word_at y (places.State p) ≡ word) × KnowsOn (places.Fault p) x y × KnowsOn (places.Translation p) x y
+  state-left d own x y start r a p page at word wrote = (
+    left-at (d ∷ []) own x y start r a (places.State p) word (subst (λ (q : Place). LeavesLast (d ∷ []) q word) at (left-last [] d word wrote)),
+    kept-at (d ∷ []) own x y start r a (places.Fault p) page ((λ here. (let no : places.State p ≡ places.Fault p = sym at ∙ here in cc)), tt),
+    kept-at (d ∷ []) own x y start r a (places.Translation p) page ((λ here. (let no : places.State p ≡ places.Translation p = sym at ∙ here in cc)), tt),
+  )
 
   -- ---- a candidate
 

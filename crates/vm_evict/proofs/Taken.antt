@@ -1,17 +1,28 @@
--- A candidate that the pass has locked, as it works on it, and as it gives the lock up.
-use Rattle.std.proofs.Common.{[], ⊎_elim, ◌++◌, ◌∙◌, ◌∷◌, ◌≡◌, ◌≤◌, ap, arith, Bool, false, length, List, None, Option, refl, Some, subst, sym, true}
-use Rattle.std.proofs.Common.{ℕ}
-use Rattle.std.proofs.lemmas.Bool.{false≢true}
-use Rattle.std.proofs.lemmas.Option.{none-some}
-use Rattle.vm_core.specs.Prelude.{frame_in, frame_of, is_dirty, mapping_at, mapping_of, Version}
-use Rattle.vm_rule.specs.Prelude.{Brings, has, held_at, IsLocking, IsUnheld, last_of, Seat, seat_of, UnshareTold}
-use Rattle.vm_step.specs.Prelude.{Did, IsNotOut, IsToldOf, LeavesRest, Translation, View, Works}
-use Rattle.vm_step.proofs.{Asides.starts-then, Asides.still-locking, steps.Unchanged.still-own}
-use Rattle.vm_step.proofs.steps.Leaving.{LeavesOthers, LeavesOwn, others-still, rest-of}
-use Rattle.vm_step.proofs.steps.Share.{unshare-did, unshare-others, unshare-own}
-use Rattle.vm_evict.specs.{declared.candidate.Phase.Phase, Phases.Does, Writes.writing_seat}
-use Rattle.vm_evict.specs.Stages.{HasLockTaken, HasNoLockOf, Rests}
-use Rattle.vm_evict.proofs.{Moving.Quietly, WriteLocks.unlocked-seat}
+-- A candidate that the pass has locked: as the lock leaves it, as the pass works on it, and once the lock is given up.
+use Rattle.vm_evict.proofs.Evidenced.{holds-same, rests-on, unlocked}
+use Rattle.vm_evict.proofs.Moving.{Quietly}
+use Rattle.vm_evict.proofs.Prelude.{[], ap, arith, Bool, Brings, Did, Does, false, frame_in, frame_of, has, HasLockTaken, HasNoLockOf, held_at}
+use Rattle.vm_evict.proofs.Prelude.{is_dirty, IsLocking, IsNotOut, IsToldOf, IsUnderWriteBack, IsUnheld, last_of, LeavesOthers, LeavesOwn, LeavesRest}
+use Rattle.vm_evict.proofs.Prelude.{List, mapping_at, mapping_of, MayUnshare, no_seat, None, none-some, Option, others-still, Phase, refl, rest-of}
+use Rattle.vm_evict.proofs.Prelude.{Rests, rules, Seat, seat_of, Some, Start, starts-then, still-own, subst, sym, Translation, true, unshare-did}
+use Rattle.vm_evict.proofs.Prelude.{unshare-others, unshare-own, unshare-seat, unshared, UnshareTold, View, Works, write_lock-brings, write_lock-held}
+use Rattle.vm_evict.proofs.Prelude.{write_lock-seat, WriteLockTold, writing_seat, ℕ, ◌++◌, ◌∙◌, ◌∷◌, ◌≡◌}
+
+module _ {X : Type 0} {tied : Start → ℕ → List ℕ → ℕ → List ℕ → Type 0} {p expects : ℕ} {v w : View X} (t : WriteLockTold tied p expects expects v w) where
+  pub lock-now : seat_of w p ≡ writing_seat
+  lock-now = write_lock-seat refl t ∙ ap (λ (e : Bool). record { shares = 1; exclusive = e; writing = true; reading = None }) {x = (seat_of v p).exclusive} {y = false} (t.unheld refl).exclusive
+
+  pub under-write-back : v.out ≡ None → IsUnderWriteBack p w
+  under-write-back home = search (rules, ap, lock-now, write_lock-held refl t, write_lock-brings refl t, t.stands refl)
+
+-- it may be given up, and nothing of the lock is left then
+pub may-unshare : {X : Type 0} (p : ℕ) (v : View X) → seat_of v p ≡ writing_seat → IsToldOf v p → v.out ≡ None → MayUnshare v p
+may-unshare p v seat told home = grind arith
+
+pub unlocked-seat : {X : Type 0} {p found : ℕ} {v w : View X} → UnshareTold p found v w → seat_of v p ≡ writing_seat → seat_of w p ≡ no_seat
+unlocked-seat t seat = unshare-seat t ∙ ap unshared seat
+
+-- ---- A candidate that the pass has locked, as it works on it, and as it gives the lock up.
 
 frame-of-parts : (o : Option ℕ) (dirty : Bool) → frame_of (mapping_at o dirty) ≡ o
 frame-of-parts None dirty = refl
@@ -28,38 +39,15 @@ module _ {X : Type 0} (p : ℕ) where
 
   -- what the pass holds of a page that it may rest on
   pub works-rests : (more : List Did) (v x y : View X) → Works p more x y → held_at y p ≡ held_at x p → Rests p v x → Rests p v y
-  works-rests more v x y k same r = record {
-    holds = record {
-      shares = ap (λ (s : Seat). s.shares) k.seat ∙ r.holds.shares;
-      exclusive = ap (λ (s : Seat). s.exclusive) k.seat ∙ r.holds.exclusive;
-      writing = ap (λ (s : Seat). s.writing) k.seat ∙ r.holds.writing;
-    };
-    knows = λ l.
-        let b = r.knows l in
-        record { held = same ∙ b.held; draft = k.draft ∙ b.draft; last = k.last (still-locking v x p r.holds l) ∙ b.last };
-  }
+  works-rests more v x y k same r = rests-on p v x y (holds-same p x y k.seat) (λ l. record { held = same; draft = k.draft; last = k.last l }) r
 
   -- a page that the pass has not locked, and had not at v
   pub was-free : (v x : View X) → Rests p v x → IsUnheld x p → HasNoLockOf v p
   was-free v x r u = record { shares = sym r.holds.shares ∙ u.shares; exclusive = sym r.holds.exclusive ∙ u.exclusive; writing = sym r.holds.writing ∙ u.writing }
 
-  free-unlocked : (v : View X) → HasNoLockOf v p → IsLocking (seat_of v p) → ⊥
-  free-unlocked v f l =
-      ⊎_elim
-      (λ (e : (seat_of v p).exclusive ≡ true). false≢true (sym f.exclusive ∙ e))
-      (λ (s : 1 ≤ (seat_of v p).shares). let none : (seat_of v p).shares ≡ 0 = f.shares in absurd (omega (arith, s, none)))
-      l
-
   -- it has no lock of it again
   pub free-rests : (v x : View X) → HasNoLockOf v p → seat_of x p ≡ record { shares = 0; exclusive = false; writing = false; reading = None } → Rests p v x
-  free-rests v x f now = record {
-    holds = record {
-      shares = ap (λ (s : Seat). s.shares) now ∙ sym f.shares;
-      exclusive = ap (λ (s : Seat). s.exclusive) now ∙ sym f.exclusive;
-      writing = ap (λ (s : Seat). s.writing) now ∙ sym f.writing;
-    };
-    knows = λ l. absurd (free-unlocked v f l);
-  }
+  free-rests v x f now = (let none = unlocked (seat_of v p) f.shares f.exclusive in grind (arith, none))
 
   -- one step that is one of the phase
   pub quiet-one : (phase : Phase) (word : ℕ) {did : Did} {x y : View X} → LeavesOthers (λ q. q ≡ p) (did ∷ []) [] x y → LeavesOwn x y → (newer : List Translation) → y.translations ≡ newer ++ x.translations → Does phase (p, word) did
@@ -76,18 +64,7 @@ module _ {X : Type 0} (p : ℕ) where
 
   -- a page that was locked, after steps that speak of one page, so that the pass has this seat then
   pub taken-on : (r word : ℕ) (seat now : Seat) (more : List Did) (v x y : View X) → HasLockTaken p word seat v x → LeavesRest r more x y → last_of y p ≡ last_of x p → seat_of y p ≡ now → IsToldOf y p → HasLockTaken p word now v y
-  taken-on r word seat now more v x y h leaves same is told = record {
-    before = h.before;
-    start = leaves.start ∙ h.start;
-    since = starts-then v.releases x.releases y.releases h.since leaves.releases;
-    free = ap (has p) leaves.group.0 ∙ h.free;
-    paid = ap (has p) leaves.group.1 ∙ h.paid;
-    next = λ e. h.next (sym leaves.group.2 ∙ e);
-    now = is;
-    at = ap (λ (r : Version). r.version) same ∙ h.at;
-    size = ap (λ (r : Version). length r.words) same ∙ h.size;
-    told = told;
-  }
+  taken-on r word seat now more v x y h leaves same is told = search (rules, ap, starts-then v.releases x.releases y.releases h.since leaves.releases)
 
   module _ (word : ℕ) (seat : Seat) (locks : IsLocking seat) (v x : View X) (h : HasLockTaken p word seat v x) where
     pub locks-now : IsLocking (seat_of x p)

@@ -1,39 +1,34 @@
 -- What becomes of the candidates for eviction. A candidate is freed: locked from the very word at which it was marked, written before if it was
 -- dirty, taken out of its frame, and released as evicted at its next version with the words that it had. Or its write failed, and it stays
 -- resident and dirty, at its version. Or it changed before it could be locked.
-use Rattle.std.specs.Prelude.{[], ◌++◌, ◌+◌, ◌<◌, ◌||◌, ◌∷◌, ◌≡◌, ◌≢◌, ◌⊎◌, Bool, false, if◌then◌else◌, length, List, None, Option, slice_index_or}
-use Rattle.std.specs.Prelude.{Some, suc, true, zero, ℕ}
+use Rattle.std.specs.Prelude.{[], Bool, false, if◌then◌else◌, length, List, None, Option, slice_index_or, Some, suc, true, zero, ℕ, ◌++◌, ◌+◌, ◌<◌}
+use Rattle.std.specs.Prelude.{◌||◌, ◌∷◌, ◌≡◌, ◌≢◌, ◌⊎◌}
 use Rattle.vm_core.specs.Prelude.{EVICTED, LOCKED, mapping_of, trans_word, version_of, word_of}
 use Rattle.vm_rule.specs.Prelude.{AreApart, clean_in, contents_at, Each, has, last_in, last_of}
 use Rattle.vm_rule.specs.declared.view.Place.{Place}
 use Rattle.vm_rule.specs.declared.view.Place.TheVariants as places
+use Rattle.vm_step.specs.{declared.choice.Looks.Looks, Evidence.IsLoad}
 use Rattle.vm_step.specs.Prelude.{candidate_pages, Did, GoesOnce, HasGiven, HasWritten, IsAlone, IsAsideOf, IsLost, KnowsElse, Note, Release}
 use Rattle.vm_step.specs.Prelude.{RunsAlone, StaysHome, View, WritesNone}
-use Rattle.vm_step.specs.{declared.choice.Looks.Looks, Evidence.IsLoad}
 use Rattle.vm_evict.specs.{declared.candidate.Stage.Stage, declared.report.Report.Report, Phases.InPhases, Tables.IsOfAny, Tables.KnowsStage}
-use Rattle.vm_evict.specs.declared.candidate.Stage.TheVariants as stages
 use Rattle.vm_evict.specs.Writes.{HasNotSaved, HasSaved, IsAllowed, IsFoundDirty}
+use Rattle.vm_evict.specs.declared.candidate.Stage.TheVariants as stages
+
+-- one of these steps is of this kind, after those before it
+pub record HasStep (kind : List Did → Did → Type 0) (done : List Did) : Type 0 where
+  pub earlier : List Did
+  pub step : Did
+  pub later : List Did
+  pub cut : done ≡ earlier ++ step ∷ later
+  pub is : kind earlier step
 
 -- an exchange of these steps expected this word, and found another, which none of the steps before had left there
-pub record HasLost (done : List Did) (at : Place) (expects : ℕ) : Type 0 where
-  pub earlier : List Did
-  pub step : Did
-  pub later : List Did
-  pub cut : done ≡ earlier ++ step ∷ later
-  pub found : ℕ
-  pub lost : IsLost step at expects found
-  pub foreign : Each (λ d. d.at ≡ at → d.wrote ≢ Some found) earlier
+abbrev pub HasLost : List Did → Place → ℕ → Type 0
+HasLost done at expects = HasStep (λ earlier d. (found : ℕ) × IsLost d at expects found × Each (λ e. e.at ≡ at → e.wrote ≢ Some found) earlier) done
 
 -- an exchange of these steps found the word that it expected, and put another in its place
-pub record HasTaken (done : List Did) (at : Place) (expects new : ℕ) : Type 0 where
-  pub earlier : List Did
-  pub step : Did
-  pub later : List Did
-  pub cut : done ≡ earlier ++ step ∷ later
-  pub place : step.at ≡ at
-  pub expected : step.expects ≡ Some expects
-  pub found : step.found ≡ Some expects
-  pub wrote : step.wrote ≡ Some new
+abbrev pub HasTaken : List Did → Place → ℕ → ℕ → Type 0
+HasTaken done at expects new = HasStep (λ earlier d. (d.at ≡ at) × (d.expects ≡ Some expects) × (d.found ≡ Some expects) × (d.wrote ≡ Some new)) done
 
 -- why a page is shared from its word: a step found it dirty, or a look found another word than that
 abbrev pub IsToShare : ℕ → ℕ → List Did → Type 0
@@ -109,14 +104,19 @@ written_at c (stages.Lost written) = if written then c.0 ∷ [] else []
 written_at c (stages.Freed frame written) = if written then c.0 ∷ [] else []
 written_at c s = []
 
--- the report has the counts of the first n, and the looks that found them
-pub record Counts (n : ℕ) (list : List (ℕ × ℕ)) (looks : Looks) (ends : List Stage) (report : Report) : Type 0 where
-  pub freed : report.freed ≡ length (gathered frame_at n list ends)
-  pub written : report.written ≡ length (gathered written_at n list ends)
-  pub failed : report.failed ≡ length (gathered note_at n list ends)
-  pub lost : report.lost ≡ length (gathered lost_at n list ends)
-  pub first : report.first_failed ≡ first_of (gathered note_at n list ends)
+-- the report has the counts of these lists, and the looks that found the candidates
+pub record Tallies (evicted saved : List ℕ) (notes : List Note) (missed : List ℕ) (looks : Looks) (report : Report) : Type 0 where
+  pub freed : report.freed ≡ length evicted
+  pub written : report.written ≡ length saved
+  pub failed : report.failed ≡ length notes
+  pub lost : report.lost ≡ length missed
+  pub first : report.first_failed ≡ first_of notes
   pub looks_are : report.looks ≡ looks
+
+-- the report has the counts of the first n
+abbrev pub Counts : ℕ → List (ℕ × ℕ) → Looks → List Stage → Report → Type 0
+Counts n list looks ends report =
+    Tallies (gathered frame_at n list ends) (gathered written_at n list ends) (gathered note_at n list ends) (gathered lost_at n list ends) looks report
 
 -- an exchange on it was lost: one that expected the word, or one that expected the pass's share alone at its version, which a step before had
 -- taken from the word; where it was written it had been dirty under the share, and where it was not, its device was not called
@@ -125,6 +125,17 @@ pub record IsMissed (p word : ℕ) (written : Bool) (done : List Did) : Type 0 w
   pub cleaned : written ≡ true → (frame : ℕ) × IsSavedFrom p word frame done
   pub unwritten : written ≡ false → HasNotSaved p done
   pub unreleased : Unreleased p done
+
+-- page p was locked from this word, which no step put there, stood clean in this frame, and was taken out of it; where it was written it had been
+-- dirty under the pass's share, and where it was not, its device was not called
+pub record IsTakenOut (p word frame : ℕ) (written : Bool) (done : List Did) : Type 0 where
+  pub locked : LocksFrom p word done
+  pub foreign : Each (λ d. d.at ≡ places.State p → d.wrote ≢ Some word) done
+  -- a step found that it stands in this frame, clean
+  pub stood : (found : ℕ) × HasGiven done (places.Translation p) found × (mapping_of found ≡ Some (clean_in frame))
+  pub cleaned : written ≡ true → IsSavedFrom p word frame done
+  pub unwritten : written ≡ false → Each (λ d. d.at ≡ places.Translation p → d.wrote ≢ Some (trans_word (Some (clean_in frame)))) done × StaysHome p done
+  pub emptied : HasWritten done (places.Translation p) (trans_word None)
 
 module _ {X : Type 0} where
   -- the release of a page that was freed, with the words that it had at v
@@ -150,17 +161,9 @@ module _ {X : Type 0} where
 
   -- ---- one candidate, by the steps of the call
 
-  -- it went evicted, and its frame came to the pass; where it was written it had been dirty under the pass's share, and where it was not, its device
-  -- was not called
+  -- it was taken out of its frame, which came to the pass, and went evicted
   pub record IsPageFreed (p word frame : ℕ) (written : Bool) (done : List Did) (v w : View X) : Type 0 where
-    pub locked : LocksFrom p word done
-    -- no step marked it anew
-    pub foreign : Each (λ d. d.at ≡ places.State p → d.wrote ≢ Some word) done
-    -- a step found that it stands in this frame, clean
-    pub stood : (found : ℕ) × HasGiven done (places.Translation p) found × (mapping_of found ≡ Some (clean_in frame))
-    pub cleaned : written ≡ true → IsSavedFrom p word frame done
-    pub unwritten : written ≡ false → Each (λ d. d.at ≡ places.Translation p → d.wrote ≢ Some (trans_word (Some (clean_in frame)))) done × StaysHome p done
-    pub emptied : HasWritten done (places.Translation p) (trans_word None)
+    pub out : IsTakenOut p word frame written done
     pub left : HasWritten done (places.State p) (word_of EVICTED (version_of word + 1))
     pub released : HasReleased p word v w
 

@@ -1,15 +1,15 @@
 -- What a flush does with each page, by rising number. A page that is evicted or clean it leaves; one that somebody has locked, or that changed
 -- before it could be locked, is busy; any other is written under a share, and is clean then, or its write failed and it stays dirty.
-use Rattle.std.specs.Prelude.{[], ◌++◌, ◌+◌, ◌<◌, ◌∷◌, ◌≡◌, ◌≢◌, ◌≤◌, ◌⊎◌, Bool, Err, false, length, List, None, Ok, Option, Result, Some, suc, true}
-use Rattle.std.specs.Prelude.{zero, ℕ}
+use Rattle.std.specs.Prelude.{[], Bool, Err, false, length, List, None, Ok, Option, Result, Some, suc, true, zero, ℕ, ◌++◌, ◌+◌, ◌<◌, ◌∷◌, ◌≡◌, ◌≢◌}
+use Rattle.std.specs.Prelude.{◌≤◌, ◌⊎◌}
 use Rattle.vm_core.specs.Prelude.{EVICTED, mapping_of, MARKED, state_of, UNLOCKED, version_of, word_of}
 use Rattle.vm_rule.specs.Prelude.{did_exchange, Each, has, seat_of, stands_dirty}
 use Rattle.vm_rule.specs.declared.view.Place.{Place}
 use Rattle.vm_rule.specs.declared.view.Place.TheVariants as places
 use Rattle.vm_rule_laws.specs.Standing.{mapping_in, state_in}
-use Rattle.vm_step.specs.Prelude.{Did, first_or, GoesOnce, HasGiven, HasWritten, IsAlone, IsAside, IsAsideOf, IsCalledOnce, IsHeld, KeepsFrames, Note}
-use Rattle.vm_step.specs.Prelude.{RunsAlone, View, WritesNone}
 use Rattle.vm_step.specs.{declared.took.Took.TheVariants.Lost, declared.took.Took.TheVariants.Taken, declared.took.Took.Took}
+use Rattle.vm_step.specs.Prelude.{Did, first_or, GoesOnce, HasGiven, HasWritten, IsAlone, IsAside, IsAsideOf, IsCalledOnce, IsHeld, Note, RunsAlone}
+use Rattle.vm_step.specs.Prelude.{View, WritesNone}
 use Rattle.vm_evict.specs.{declared.flushing.Flushed.Flushed, Evictions.HasLost, Evictions.HasTaken}
 use Rattle.vm_evict.specs.Writes.{HasNotSaved, HasSaved, IsAllowed, IsFoundDirty, IsOwnPlace, StaysOn}
 
@@ -56,13 +56,16 @@ noted_pages [] = []
 noted_pages (n ∷ ns) = n.page ∷ noted_pages ns
 
 module _ {X : Type 0} where
-  -- its write failed: it was shared at the version of the look, and found dirty under the share, which was given up; its block went out once;
-  -- its translation word stays, and it was not released; the fault was noted, with the count that the fault word was raised to
-  pub record IsUnwritten (p word count : ℕ) (v w : View X) : Type 0 where
-    pub done : List Did
+  -- all steps are on words of page p; nothing of the page changed but its open read, the pass's frames are as they were, and nothing was released
+  pub record KeepsPage (p : ℕ) (done : List Did) (v w : View X) : Type 0 where
     pub own : StaysOn p done
     pub aside : IsAside p done v w
+    pub frames : (w.frames ≡ v.frames) × (w.contents ≡ v.contents)
     pub alone : RunsAlone done [] v w
+
+  -- its write failed: it was shared at the version of the look, and found dirty under the share, which was given up; its block went out once;
+  -- its translation word stays; the fault was noted, with the count that the fault word was raised to
+  pub record IsUnwritten (p word count : ℕ) (done : List Did) (v w : View X) : Type 0 where
     pub shared : SharesSeen p word done
     pub dirty : (frame : ℕ) × IsFoundDirty p frame shared.taken.later
     pub block : GoesOnce p done
@@ -70,39 +73,35 @@ module _ {X : Type 0} where
     pub raised : HasWritten done (places.Fault p) count
     pub noted : w.notes ≡ v.notes ++ record { page = p; count = count } ∷ []
     pub allowed : IsAllowed v.start p count
-    pub frames : (w.frames ≡ v.frames) × (w.contents ≡ v.contents)
 
-  -- nothing of page p changed but its open read
+  -- page p was not written, and no fault was noted
   pub record IsLeft (p : ℕ) (done : List Did) (v w : View X) : Type 0 where
-    pub own : StaysOn p done
-    pub aside : IsAside p done v w
-    pub keeps : KeepsFrames v w
-    pub alone : RunsAlone done [] v w
+    pub keeps : KeepsPage p done v w
+    pub notes : w.notes ≡ v.notes
+    pub unsaved : HasNotSaved p done
 
   -- what the visit of page p comes to; one that is left as clean was seen locked by nobody, and its state word was not written, or it was shared for
   -- the dirty word found first; an exchange is lost only on a page that was found dirty
   pub data FlushVisits (p : ℕ) (v w : View X) (old new : Flushed) : Type 0 where
     gone :
-        (done : List Did) (word : ℕ) → IsLeft p done v w → HasNotSaved p done → WritesNone (places.State p) done
+        (done : List Did) (word : ℕ) → IsLeft p done v w → WritesNone (places.State p) done
         → HasGiven done (places.State p) word → state_of word ≡ EVICTED → new ≡ old → FlushVisits p v w old new
     clean :
-        (done : List Did) (word : ℕ) → IsLeft p done v w → HasNotSaved p done
-        → HasGiven done (places.Translation p) word → stands_dirty (mapping_of word) ≡ false
+        (done : List Did) (word : ℕ) → IsLeft p done v w → HasGiven done (places.Translation p) word → stands_dirty (mapping_of word) ≡ false
         → (seen : ℕ) → HasGiven done (places.State p) seen → (state_of seen ≡ UNLOCKED) ⊎ (state_of seen ≡ MARKED)
         → WritesNone (places.State p) done ⊎ SharesSeen p seen done → new ≡ old → FlushVisits p v w old new
     held :
-        (done : List Did) (word : ℕ) → IsLeft p done v w → HasNotSaved p done → WritesNone (places.State p) done
+        (done : List Did) (word : ℕ) → IsLeft p done v w → WritesNone (places.State p) done
         → HasFound done (places.State p) word → IsHeld word → new ≡ record old { busy = old.busy + 1 } → FlushVisits p v w old new
     lost :
-        (done : List Did) (word : ℕ) → IsLeft p done v w → HasNotSaved p done
-        → (l : LosesSeen done (places.State p) word) → (frame : ℕ) × IsFoundDirty p frame l.lost.earlier
+        (done : List Did) (word : ℕ) → IsLeft p done v w → (l : LosesSeen done (places.State p) word) → (frame : ℕ) × IsFoundDirty p frame l.lost.earlier
         → new ≡ record old { busy = old.busy + 1 } → FlushVisits p v w old new
     written :
-        (done : List Did) (frame word : ℕ) → IsLeft p done v w
+        (done : List Did) (frame word : ℕ) → KeepsPage p done v w → w.notes ≡ v.notes
         → (s : SharesSeen p word done) → HasSaved p frame s.taken.later done
         → new ≡ record old { written = old.written + 1 } → FlushVisits p v w old new
     failed :
-        (word count : ℕ) → IsUnwritten p word count v w
+        (done : List Did) (word count : ℕ) → KeepsPage p done v w → IsUnwritten p word count done v w
         → new ≡ record old { failed = old.failed + 1; first = first_or old.first p } → FlushVisits p v w old new
 
   -- the first n pages, one after another

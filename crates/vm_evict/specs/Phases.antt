@@ -1,7 +1,7 @@
 -- The phases of an eviction, by the steps of the call: all dirty candidates are shared from their word and written; then the clean ones are locked
 -- exclusively; then the written ones become exclusive from one share; then all are taken out of their frames; then all are released as evicted.
 -- No step is on another word than those of the candidates.
-use Rattle.std.specs.Prelude.{◌++◌, ◌+◌, ◌-◌, ◌<◌, ◌^◌, ◌≡◌, ◌⊎◌, length, List, None, slice_index_or, ℕ}
+use Rattle.std.specs.Prelude.{length, List, None, slice_index_or, ℕ, ◌++◌, ◌+◌, ◌-◌, ◌<◌, ◌^◌, ◌≡◌, ◌⊎◌}
 use Rattle.vm_core.specs.Prelude.{EVICTED, LOCKED, trans_word, version_of, word_of}
 use Rattle.vm_rule.specs.Prelude.{did_change, did_exchange, did_load, did_store, Each}
 use Rattle.vm_rule.specs.declared.view.Place.TheVariants as places

@@ -1,18 +1,18 @@
 -- How far an eviction is with a candidate: what is known of it at each stage, by the steps of the call so far and the pass's view now; and what the
 -- steps of a phase on one candidate come to.
-use Rattle.std.specs.Prelude.{[], ◌++◌, ◌+◌, ◌<◌, ◌∷◌, ◌≡◌, ◌≢◌, ◌⊎◌, Bool, false, IsSome, length, List, None, Some, true, ℕ}
-use Rattle.vm_core.specs.Prelude.{mapping_of, trans_word, version_of, word_of, WORDS}
+use Rattle.std.specs.Prelude.{[], Bool, false, IsSome, length, List, None, Some, true, ℕ, ◌++◌, ◌+◌, ◌<◌, ◌∷◌, ◌≡◌, ◌≢◌, ◌⊎◌}
+use Rattle.vm_core.specs.Prelude.{mapping_of, version_of, word_of, WORDS}
 use Rattle.vm_rule.specs.Prelude.{clean_in, draft_of, Each, has, held_at, IsLocking, last_of, Seat, seat_of, stands_dirty, StartsWith}
 use Rattle.vm_rule.specs.declared.view.Place.TheVariants as places
-use Rattle.vm_step.specs.Prelude.{candidate_pages, Did, HasGiven, HasWritten, HoldsPage, IsAlone, IsToldOf, KnowsAsBefore, LeavesRest, Note}
-use Rattle.vm_step.specs.Prelude.{ReadsAsBefore, Release, RunsAlone, StaysAlone, StaysHome, Tie, Translation, View}
+use Rattle.vm_step.specs.Prelude.{candidate_pages, Did, HoldsPage, IsAlone, IsToldOf, KnowsAsBefore, LeavesRest, Note, ReadsAsBefore, Release}
+use Rattle.vm_step.specs.Prelude.{RunsAlone, StaysAlone, Tie, Translation, View}
 use Rattle.vm_step.specs.declared.choice.Looks.{Looks}
 use Rattle.vm_evict.specs.{declared.candidate.Phase.Phase, declared.candidate.Stage.Stage, declared.report.Evicted.Evicted}
 use Rattle.vm_evict.specs.{declared.report.Report.Report, Phases.Does, Phases.DoesOne, Tables.KnowsStage, Writes.HasNotSaved, Writes.writing_seat}
+use Rattle.vm_evict.specs.Evictions.{candidate_at, first_pair, frame_at, FramesCome, gathered, IsMissed, IsPageFreed, IsSavedFrom, IsSharedToSave}
+use Rattle.vm_evict.specs.Evictions.{IsTakenOut, IsWriteFailed, LocksFrom, note_at, one_if, release_at, stage_at, Unreleased}
 use Rattle.vm_evict.specs.declared.candidate.Phase.TheVariants as phases
 use Rattle.vm_evict.specs.declared.candidate.Stage.TheVariants as stages
-use Rattle.vm_evict.specs.Evictions.{candidate_at, first_pair, frame_at, FramesCome, gathered, IsMissed, IsPageFreed, IsSavedFrom, IsSharedToSave}
-use Rattle.vm_evict.specs.Evictions.{IsWriteFailed, LocksFrom, note_at, one_if, release_at, stage_at, Unreleased}
 
 -- the pass's locks of a page held exclusively
 abbrev pub owning_seat : Seat
@@ -142,14 +142,9 @@ module _ {X : Type 0} where
   -- it is held exclusively, and was taken out of this frame
   pub record IsEmptied (p word frame : ℕ) (written : Bool) (done : List Did) (v x : View X) : Type 0 where
     pub taken : HasLockTaken p word owning_seat v x
-    pub locked : LocksFrom p word done
-    pub foreign : Each (λ d. d.at ≡ places.State p → d.wrote ≢ Some word) done
+    pub out : IsTakenOut p word frame written done
     pub empty : (held_at x p).mapping ≡ None
     pub draft : draft_of x p ≡ (last_of x p).words
-    pub stood : (found : ℕ) × HasGiven done (places.Translation p) found × (mapping_of found ≡ Some (clean_in frame))
-    pub cleaned : written ≡ true → IsSavedFrom p word frame done
-    pub unwritten : written ≡ false → Each (λ d. d.at ≡ places.Translation p → d.wrote ≢ Some (trans_word (Some (clean_in frame)))) done × StaysHome p done
-    pub emptied : HasWritten done (places.Translation p) (trans_word None)
 
   -- what is known of a candidate at its stage, after these steps since v
   abbrev pub IsAt : ℕ × ℕ → Stage → List Did → View X → View X → Type 0
@@ -172,11 +167,6 @@ module _ {X : Type 0} where
     pub newer : List Translation
     pub reads : y.translations ≡ newer ++ x.translations
 
-  -- no frame came, or one
-  pub data Comes (frames : List ℕ) (x y : View X) : Type 0 where
-    still : frames ≡ [] → y.frames ≡ x.frames → y.contents ≡ x.contents → Comes frames x y
-    one : (f : ℕ) → frames ≡ f ∷ [] → FramesCome (f ∷ []) x y → Comes frames x y
-
   -- the candidate comes from one stage to another
   pub record Advances (phase : Phase) (c : ℕ × ℕ) (old new : Stage) (done : List Did) (v x y : View X) : Type 0 where
     pub more : List Did
@@ -191,7 +181,7 @@ module _ {X : Type 0} where
     pub noted : y.notes ≡ x.notes ++ notes
     pub notes_are : Adds (note_at c) phase phases.Save old new notes
     pub frames : List ℕ
-    pub come : Comes frames x y
+    pub come : FramesCome frames x y
     pub frames_are : Adds (frame_at c) phase phases.Empty old new frames
     -- what a pass that is alone knew of its words at the one stage it knows at the other
     pub table : IsAlone x → c.0 < x.start.pages → KnowsStage c old v x → KnowsStage c new v y

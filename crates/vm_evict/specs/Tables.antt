@@ -1,9 +1,8 @@
 -- What a pass that is alone knows of the words of one candidate for eviction, by how far the eviction is with it. Such a pass loses a candidate only
 -- where it knew another word of the page than the one at which the page was marked; and it has written none of those that it lost.
-use Rattle.std.specs.Prelude.{◌+◌, ◌≡◌, ◌≢◌, false, List, None, true, ℕ}
+use Rattle.std.specs.Prelude.{false, List, None, true, ℕ, ◌+◌, ◌≡◌, ◌≢◌}
 use Rattle.vm_core.specs.Prelude.{EVICTED, LOCKED, trans_word, UNLOCKED, version_of, word_of}
-use Rattle.vm_rule.specs.Prelude.{has}
-use Rattle.vm_rule.specs.declared.view.Place.{Place}
+use Rattle.vm_rule.specs.{declared.view.Place.Place, Prelude.has}
 use Rattle.vm_rule.specs.declared.view.Place.TheVariants as places
 use Rattle.vm_step.specs.Prelude.{known_word_at, View}
 use Rattle.vm_evict.specs.declared.candidate.Stage.{Stage}
@@ -14,10 +13,7 @@ abbrev pub IsOfAny : List ℕ → Place → Type 0
 IsOfAny pages (places.State p) = has p pages ≡ true
 IsOfAny pages (places.Translation p) = has p pages ≡ true
 IsOfAny pages (places.Fault p) = has p pages ≡ true
-IsOfAny pages (places.Content f i) = ⊥
-IsOfAny pages (places.Bundle g) = ⊥
-IsOfAny pages places.Next = ⊥
-IsOfAny pages places.Hand = ⊥
+IsOfAny pages at = ⊥
 
 module _ {X : Type 0} where
   -- the word at this place is as it was

@@ -1,8 +1,8 @@
 -- Writing a page back, which the pass has locked for that: where it is dirty, its last words go to its block, and it becomes clean; or the write
 -- fails, and its fault is noted. The page stays locked, and in its frame.
-use Rattle.std.specs.Prelude.{[], ◌++◌, ◌<◌, ◌∷◌, ◌≡◌, ◌≤◌, ◌⊎◌, Bool, Err, false, length, List, None, Ok, Option, Result, Some, true, ℕ}
+use Rattle.std.specs.Prelude.{[], Bool, Err, false, length, List, None, Ok, Option, Result, Some, true, ℕ, ◌++◌, ◌<◌, ◌∷◌, ◌≡◌, ◌≤◌, ◌⊎◌}
 use Rattle.vm_core.specs.Prelude.{at, mapping_of, trans_word, WORDS}
-use Rattle.vm_rule.specs.Prelude.{clean_in, did_load, did_store, dirty_in, Each, held_at, last_of, Seat, seat_of, stands_dirty}
+use Rattle.vm_rule.specs.Prelude.{clean_in, did_load, did_store, dirty_in, Each, held_at, last_of, Seat, seat_of, stands_dirty, TranslationTold}
 use Rattle.vm_rule.specs.declared.view.Place.{Place}
 use Rattle.vm_rule.specs.declared.view.Place.TheVariants as places
 use Rattle.vm_step.specs.Prelude.{Did, GoesOnce, HasGiven, HasWritten, IsAlone, IsOfPage, IsToldOf, KeepsFrames, known_word_at, Origin, StaysHome}
@@ -63,16 +63,12 @@ module _ {X : Type 0} where
     pub size : length (last_of v p).words ≡ WORDS
     pub home : v.out ≡ None
 
-  -- the pass has page p under write-back and reads it by no open read; p stands dirty in frame f; no block is out
-  pub record IsToWrite (p f : ℕ) (v : View X) : Type 0 where
-    pub writes : (seat_of v p).writing ≡ true
-    pub shared : 1 ≤ (seat_of v p).shares
-    pub owns : (seat_of v p).exclusive ≡ false
-    pub closed : (seat_of v p).reading ≡ None
-    pub stands : (held_at v p).mapping ≡ Some (dirty_in f)
-    pub told : IsToldOf v p
-    pub size : length (last_of v p).words ≡ WORDS
-    pub home : v.out ≡ None
+  -- the pass had page p under write-back at v, and a load of its translation word, which led on from there, found it dirty in frame f
+  pub record IsFoundToWrite (p f : ℕ) (v w : View X) : Type 0 where
+    pub under : IsUnderWriteBack p v
+    pub word : ℕ
+    pub load : TranslationTold p word v w
+    pub dirty : mapping_of word ≡ Some (dirty_in f)
 
   -- the pass still has page p under write-back, after these steps of a write-back, and may give it up
   pub record IsStillLocked (p : ℕ) (done : List Did) (v w : View X) : Type 0 where
@@ -83,50 +79,20 @@ module _ {X : Type 0} where
     pub home : w.out ≡ None
     pub frames : (w.frames ≡ v.frames) × (w.contents ≡ v.contents)
 
-  -- the words of page p, which is shared and read by no open read, were loaded from its frame; all else is as it was
-  pub record IsCopied (p : ℕ) (words : List ℕ) (v w : View X) : Type 0 where
+  -- words of a frame were loaded, of page p, which is shared and read by no open read; all else is as it was
+  pub record LoadsWords (p : ℕ) (v w : View X) : Type 0 where
     pub done : List Did
     pub works : Works p done v w
     pub loads : Each IsFrameLoad done
     pub reads : w.translations ≡ v.translations
-    pub same : v.start.tells ≡ true → words ≡ (last_of v p).words
     pub held : held_at w p ≡ held_at v p
     pub keeps : KeepsFrames v w
     pub out : w.out ≡ v.out
 
-  -- ---- a dirty page
-
-  -- it was written and made clean: its block, which went out once, has its last words
-  pub record IsCleaned (p f : ℕ) (v w : View X) : Type 0 where
-    pub done : List Did
-    pub locked : IsStillLocked p done v w
-    pub block : GoesOnce p done
-    pub cleaned : HasWritten done (places.Translation p) (trans_word (Some (clean_in f)))
-    pub ends : cleaned.later ≡ []
-    pub unraised : WritesNone (places.Fault p) done
-    pub stands : (held_at w p).mapping ≡ Some (clean_in f)
-    pub stored : v.start.tells ≡ true → (held_at w p).block.words ≡ (last_of w p).words
-    pub notes : w.notes ≡ v.notes
-
-  -- the write failed, and the block went out once: the page is as dirty as it was, and the fault was noted, with the count that the fault word was
-  -- raised to
-  pub record IsWriteRefused (p f count : ℕ) (v w : View X) : Type 0 where
-    pub done : List Did
-    pub locked : IsStillLocked p done v w
-    pub block : GoesOnce p done
-    pub kept : WritesNone (places.Translation p) done
-    pub raised : HasWritten done (places.Fault p) count
-    pub ends : raised.later ≡ []
-    pub noted : w.notes ≡ v.notes ++ record { page = p; count = count } ∷ []
-    pub allowed : IsAllowed v.start p count
-    pub stands : (held_at w p).mapping ≡ Some (dirty_in f)
-
-  -- how its write-back ends
-  abbrev pub WritesBack : ℕ → ℕ → View X → View X → Result (Unit {0}) ℕ → Type 0
-  WritesBack p f v w (Ok u) = IsCleaned p f v w
-  WritesBack p f v w (Err count) = IsWriteRefused p f count v w
-
-  -- ---- a page under write-back, dirty or not
+  -- so were the page's last words
+  pub record IsCopied (p : ℕ) (words : List ℕ) (v w : View X) : Type 0 where
+    pub from : LoadsWords p v w
+    pub same : v.start.tells ≡ true → words ≡ (last_of v p).words
 
   -- a pass that is alone knows that the page is clean
   abbrev pub KnowsClean : ℕ → View X → View X → Type 0
@@ -157,7 +123,7 @@ module _ {X : Type 0} where
     pub known : KnowsClean p v w
     pub notes : w.notes ≡ v.notes
 
-  -- it was found dirty, and its write failed
+  -- it was found dirty, and its write failed: the fault was noted, with the count that the fault word was raised to
   pub record IsLeftDirty (p count : ℕ) (v w : View X) : Type 0 where
     pub done : List Did
     pub locked : IsStillLocked p done v w
@@ -169,6 +135,11 @@ module _ {X : Type 0} where
     pub ends : raised.later ≡ []
     pub noted : w.notes ≡ v.notes ++ record { page = p; count = count } ∷ []
     pub allowed : IsAllowed v.start p count
+
+  -- how the write of a dirty page ends
+  abbrev pub WritesBack : ℕ → View X → View X → Result (Unit {0}) ℕ → Type 0
+  WritesBack p v w (Ok u) = IsSavedNow p v w
+  WritesBack p v w (Err count) = IsLeftDirty p count v w
 
   -- how the write of a page under write-back ends: whether it was written, or the count of the fault
   abbrev pub EndsWrite : ℕ → View X → View X → Result Bool ℕ → Type 0

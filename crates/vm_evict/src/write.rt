@@ -2,7 +2,7 @@
 ghost use Rattle.std.specs.Prelude.{◌<◌, ◌≡◌, ◌≤◌, length, None, Some};
 ghost use Rattle.vm_rule.specs.Prelude.{frame_read_by, last_of, seat_of};
 ghost use Rattle.vm_step.specs.Prelude.{IsReady, IsSamePass, view};
-ghost use Rattle.vm_evict.specs.Writes.{EndsWrite, IsCopied, IsDirtyFrame, IsToWrite, IsUnderWriteBack, WritesBack};
+ghost use Rattle.vm_evict.specs.Writes.{EndsWrite, IsCopied, IsDirtyFrame, IsFoundToWrite, IsUnderWriteBack, WritesBack};
 
 use vm_block::Block;
 use vm_core::TransWord;
@@ -45,7 +45,7 @@ fn copy_page<U: Owner, B: Block>(
     page
 }
 
-/// Writes a dirty page to its block and makes it clean: the pass has it under write-back, and it stands in this frame. Where the write
+/// Writes a dirty page to its block and makes it clean: the pass has it under write-back, and a load found it in this frame. Where the write
 /// fails, the page stays as it is, and the answer is the count of the fault, which the fault word is raised to.
 fn write_back<U: Owner, B: Block>(
     words: &Words<U, B>,
@@ -55,10 +55,10 @@ fn write_back<U: Owner, B: Block>(
 ) -> Result<(), u64>
     requires ready { IsReady words.now.table.shared.key B.tells words.now.table.shared.table_id pass.old }
     requires page { (p < words.now.table.shared.key.pages) × (frame < words.now.table.shared.key.frames) }
-    requires legal { IsToWrite p frame (view pass.old) }
+    requires legal { (v : _) × IsFoundToWrite p frame v (view pass.old) }
     ensures pass { IsSamePass pass.old pass.new }
     ensures ready { IsReady words.now.table.shared.key B.tells words.now.table.shared.table_id pass.new }
-    ensures written { WritesBack p frame (view pass.old) (view pass.new) result }
+    ensures written { (v : _) → IsFoundToWrite p frame v (view pass.old) → WritesBack p v (view pass.new) result }
 {
     let mut block = block_out(words, pass, p);
     let page = copy_page(words, pass, p, frame);

@@ -1,16 +1,9 @@
 -- The bits of a bundle's word and the frames that they are of, gathered one at a time: the bits of a mask into a list, and a list into a
 -- mask. Some bits are asked of a word that is not 0.
-use Rattle.std.specs.Int.{bit_at}
-use Rattle.std.proofs.Common.{[], ⊎_elim, ◌%◌, ◌&&◌, ◌*◌, ◌++◌, ◌+◌, ◌/◌, ◌<◌, ◌^◌, ◌||◌, ◌∙◌, ◌∷◌, ◌≡◌, ◌≢◌, ◌≤◌, ap, arith, bit_or, Bool, eqb}
-use Rattle.std.proofs.Common.{false, if◌then◌else◌, length, length-append, List, max, refl, suc, sym, true, zero, ℕ}
-use Rattle.std.proofs.lemmas.Bool.{and_left, cases_eq, eq-eqb, ne_eqb, or_right}
-use Rattle.std.proofs.lemmas.Nat.Bits.{bit_at-lt, bit_at-pow_other, bit_at-pow_same, bit_at-zero, bit_at_or, same_from_bits_below}
-use Rattle.vm_core.specs.Prelude.{AreLowest, in_mask, sum_below}
-use Rattle.vm_core.specs.Words.{bit_count}
-use Rattle.vm_core.proofs.Locks.{sum_below-at}
-use Rattle.vm_rule.specs.Prelude.{frames_below, frames_in, has}
-use Rattle.vm_rule.proofs.Facts.{has-both}
-use Rattle.vm_exmap.specs.Returns.{is_of}
+use Rattle.vm_exmap.proofs.Prelude.{[], ap, AreLowest, arith, bit_at, bit_at-lt, bit_at-pow_other, bit_at-pow_same, bit_at-zero, bit_at_or, bit_count}
+use Rattle.vm_exmap.proofs.Prelude.{bit_or, cases_eq, eq-eqb, eqb, false, frames_below, frames_in, has, has-both, if◌then◌else◌, in_mask, is_of}
+use Rattle.vm_exmap.proofs.Prelude.{length, length-append, List, max, nat_tests, ne_eqb, refl, same_from_bits_below, suc, sum_below, sum_below-at}
+use Rattle.vm_exmap.proofs.Prelude.{sym, zero, ℕ, ⊎_elim, ◌%◌, ◌&&◌, ◌*◌, ◌++◌, ◌+◌, ◌/◌, ◌<◌, ◌^◌, ◌||◌, ◌∙◌, ◌∷◌, ◌≡◌, ◌≢◌, ◌≤◌}
 
 -- ---- from a mask into a list
 
@@ -38,47 +31,33 @@ all-below g mask = refl
 has-last : (f x : ℕ) (l : List ℕ) → has f (l ++ x ∷ []) ≡ (has f l || (eqb f x || false))
 has-last f x l = has-both f l (x ∷ [])
 
-or-false : (b : Bool) → (b || false) ≡ b
-or-false true = refl
-or-false false = refl
-
-has-other : (f x : ℕ) (l : List ℕ) → f ≢ x → has f (l ++ x ∷ []) ≡ has f l
-has-other f x l ne = has-last f x l ∙ ap (λ b. has f l || (b || false)) (ne_eqb f x ne) ∙ or-false (has f l)
-
 -- one more frame of the bundle: its bit is set
 pub mask-more : (g mask x : ℕ) (l : List ℕ) → x / 64 ≡ g → ((f : ℕ) → in_mask g mask f ≡ is_of g l f) → (f : ℕ) → in_mask g (bit_or mask (2 ^ (x % 64))) f ≡ is_of g (l ++ x ∷ []) f
 unfolding in_mask
 mask-more g mask x l of same f =
-    ⊎_elim
-    (λ (here : f / 64 ≡ g).
-    let before : eqb (bit_at mask (f % 64)) 1 ≡ has f l = sym (ap (λ b. b && eqb (bit_at mask (f % 64)) 1) (eq-eqb _ _ here)) ∙ same f ∙ ap (λ b. b && has f l) (eq-eqb _ _ here) in
     let both : bit_at (bit_or mask (2 ^ (x % 64))) (f % 64) ≡ max (bit_at mask (f % 64)) (bit_at (2 ^ (x % 64)) (f % 64)) = bit_at_or mask (2 ^ (x % 64)) (f % 64) in
-    let bits : eqb (bit_at (bit_or mask (2 ^ (x % 64))) (f % 64)) 1 ≡ has f (l ++ x ∷ []) =
+    let small : bit_at mask (f % 64) < 2 = bit_at-lt mask (f % 64) in
+    let last = has-last f x l in
+    let was = same f in
     ⊎_elim
     (λ (e : f ≡ x).
-    let small : bit_at mask (f % 64) < 2 = bit_at-lt mask (f % 64) in
     let set : bit_at (2 ^ (x % 64)) (f % 64) ≡ 1 = ap (λ n. bit_at (2 ^ (x % 64)) (n % 64)) e ∙ bit_at-pow_same (x % 64) in
-    eq-eqb _ _ (let one : bit_at (bit_or mask (2 ^ (x % 64))) (f % 64) ≡ 1 = omega (arith, small, set, both) in one)
-    ∙ sym (has-last f x l ∙ or_right (has f l) (eqb f x || false) (ap (λ b. b || false) (eq-eqb f x e))))
-    (λ ne.
-    let other : f % 64 ≢ x % 64 = λ m. ne (omega (arith, m, here, of)) in
-    let clear : bit_at (2 ^ (x % 64)) (f % 64) ≡ 0 = bit_at-pow_other (x % 64) (f % 64) other in
-    ap (λ b. eqb b 1) (let kept : bit_at (bit_or mask (2 ^ (x % 64))) (f % 64) ≡ bit_at mask (f % 64) = omega (arith, clear, both) in kept)
-    ∙ before
-    ∙ sym (has-other f x l ne))
-    (cases_eq f x) in
-    ap (λ b. eqb (f / 64) g && b) bits)
-    (λ ne. and_left _ _ (ne_eqb _ _ ne) ∙ sym (and_left _ _ (ne_eqb _ _ ne)))
-    (cases_eq (f / 64) g)
+    grind (arith, nat_tests, both, small, last, was, set, e, of))
+    (λ (ne : f ≢ x).
+    ⊎_elim
+    (λ (here : f / 64 ≡ g).
+    let clear : bit_at (2 ^ (x % 64)) (f % 64) ≡ 0 = bit_at-pow_other (x % 64) (f % 64) (λ m. ne (omega (arith, m, here, of))) in
+    grind (arith, nat_tests, both, small, last, was, clear, ne, here))
+    (λ (other : f / 64 ≢ g). grind (arith, nat_tests, other))
+    (cases_eq (f / 64) g))
+    (cases_eq f x)
 
 -- a frame of another bundle
 pub mask-same : (g mask x : ℕ) (l : List ℕ) → x / 64 ≢ g → ((f : ℕ) → in_mask g mask f ≡ is_of g l f) → (f : ℕ) → in_mask g mask f ≡ is_of g (l ++ x ∷ []) f
 mask-same g mask x l of same f =
-    same f
-    ∙ ⊎_elim
-    (λ (here : f / 64 ≡ g). ap (λ b. eqb (f / 64) g && b) (sym (has-other f x l (λ e. of (ap (λ n. n / 64) (sym e) ∙ here)))))
-    (λ ne. and_left _ _ (ne_eqb _ _ ne) ∙ sym (and_left _ _ (ne_eqb _ _ ne)))
-    (cases_eq (f / 64) g)
+    let last = has-last f x l in
+    let was = same f in
+    ⊎_elim (λ (e : f ≡ x). (let other : f / 64 ≢ g = λ here. of (ap (λ n. n / 64) (sym e) ∙ here) in grind (arith, nat_tests, was, other))) (λ (ne : f ≢ x). grind (arith, nat_tests, last, was, ne)) (cases_eq f x)
 
 -- no bit is set in the mask of no frame
 pub mask-none : (g f : ℕ) → in_mask g 0 f ≡ is_of g [] f

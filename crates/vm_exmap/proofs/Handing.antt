@@ -1,26 +1,16 @@
 -- Frames that a pass holds, as a list that is split: each part is held too, and what is in the one is not in the other.
-use Rattle.std.proofs.Common.{[], ⊎_elim, ◌++◌, ◌<◌, ◌||◌, ◌∙◌, ◌∷◌, ◌≡◌, ap, eqb, false, if◌then◌else◌, List, refl, subst, sym, true, ℕ}
-use Rattle.std.proofs.lemmas.Bool.{cases_Bool, cases_eq, eq-eqb, ne_eqb, or_left, or_parts, or_right, true≢false}
-use Rattle.vm_rule.specs.Prelude.{AreApart, Each, has}
-use Rattle.vm_rule.proofs.Facts.{has-both}
-use Rattle.vm_step.specs.Prelude.{View}
+use Rattle.vm_exmap.proofs.Prelude.{[], ap, AreApart, AreGiven, AreHeld, cases_Bool, cases_eq, Each, eq-eqb, eqb, false, has, has-both, if◌then◌else◌}
+use Rattle.vm_exmap.proofs.Prelude.{List, ne_eqb, or_left, or_parts, or_right, refl, rules, subst, sym, true, true≢false, View, ℕ, ⊎_elim, ◌++◌, ◌<◌}
+use Rattle.vm_exmap.proofs.Prelude.{◌||◌, ◌∙◌, ◌∷◌, ◌≡◌}
 pub use Rattle.vm_step.proofs.HeldFrames.{held-on}
-use Rattle.vm_step.specs.Prelude.{AreHeld}
-use Rattle.vm_exmap.specs.Returns.{AreGiven}
+pub use Rattle.vm_step.proofs.Releasing.{each-has as each-of}
+pub use Rattle.vm_rule.proofs.Heard.{each-both as each-join}
 
 -- ---- what holds of each number of a list
 
 pub each-has : (P : ℕ → Type 0) (l : List ℕ) → ((f : ℕ) → has f l ≡ true → P f) → Each P l
 each-has P [] h = tt
 each-has P (x ∷ xs) h = (h x (or_left (eqb x x) (has x xs) (eq-eqb x x refl)), each-has P xs (λ f e. h f (or_right (eqb f x) (has f xs) e)))
-
-pub each-of : (P : ℕ → Type 0) (l : List ℕ) (f : ℕ) → Each P l → has f l ≡ true → P f
-each-of P [] f h e = absurd (true≢false (sym e))
-each-of P (x ∷ xs) f h e =
-    ⊎_elim
-    (λ (same : f ≡ x). subst P (sym same) h.0)
-    (λ ne. each-of P xs f h.1 (sym (ap (λ b. b || has f xs) (ne_eqb f x ne)) ∙ e))
-    (cases_eq f x)
 
 pub each-left : (P : ℕ → Type 0) (l m : List ℕ) → Each P (l ++ m) → Each P l
 each-left P [] m h = tt
@@ -56,13 +46,9 @@ module _ {X : Type 0} (l m : List ℕ) (v : View X) (h : AreHeld (l ++ m) v) whe
 
   -- the first part is held once the second went back
   pub held-still : (w : View X) → AreGiven m v w → AreHeld l w
-  held-still w g = record {
-    apart = apart-left l m h.apart;
-    inside = subst (λ start. Each (λ f. f < start.frames) l) (sym g.moves.start) (each-left (λ f. f < v.start.frames) l m h.inside);
-    held = each-has (λ f. has f w.frames ≡ true) l
-        (λ f e.
-        g.left f ∙ ap (λ b. if b then false else has f v.frames) (apart-not l m f h.apart e) ∙ each-of (λ n. has n v.frames ≡ true) l f (each-left (λ n. has n v.frames ≡ true) l m h.held) e);
-  }
+  held-still w g =
+      let held = λ (f : ℕ) (e : has f l ≡ true). g.left f ∙ ap (λ b. if b then false else has f v.frames) (apart-not l m f h.apart e) ∙ each-of (λ n. has n v.frames ≡ true) l f (each-left (λ n. has n v.frames ≡ true) l m h.held) e in
+      search (rules, apart-left l m h.apart, subst (λ start. Each (λ f. f < start.frames) l) (sym g.moves.start) (each-left (λ f. f < v.start.frames) l m h.inside), each-has (λ f. has f w.frames ≡ true) l held)
 
 pub apart-join : (l m : List ℕ) → AreApart l → AreApart m → ((f : ℕ) → has f l ≡ true → has f m ≡ false) → AreApart (l ++ m)
 apart-join [] m a b none = b
@@ -70,10 +56,6 @@ apart-join (x ∷ xs) m a b none = (
   has-both x xs m ∙ (λ i. a.0 i || none x (or_left (eqb x x) (has x xs) (eq-eqb x x refl)) i),
   apart-join xs m a.1 b (λ f e. none f (or_right (eqb f x) (has f xs) e)),
 )
-
-pub each-join : (P : ℕ → Type 0) (l m : List ℕ) → Each P l → Each P m → Each P (l ++ m)
-each-join P [] m a b = b
-each-join P (x ∷ xs) m a b = (a.0, each-join P xs m a.1 b)
 
 module _ {X : Type 0} where
   -- the parts may stand the other way round

@@ -1,6 +1,6 @@
+pub mod Prelude
 pub mod BundleBits
 pub mod FrameMoves
 pub mod Handing
-pub mod Visiting
 pub mod Walking
 pub mod Returning

@@ -1,20 +1,12 @@
 -- Frames that go back to their bundles, a bundle at a time: those of the first bundles are given, the others are still held.
-use Rattle.std.specs.Int.{bit_at}
-use Rattle.std.proofs.Common.{[], ⊎_elim, ◌%◌, ◌&&◌, ◌++◌, ◌+◌, ◌/◌, ◌<◌, ◌∙◌, ◌∷◌, ◌≡◌, ◌≢◌, ◌≤◌, ap, arith, bit_or, Bool, eqb, false, if◌then◌else◌}
-use Rattle.std.proofs.Common.{inl, inr, List, ltb, None, refl, subst, suc, sym, true, ℕ}
-use Rattle.std.proofs.lemmas.Bool.{and_left, and_parts, and_right, cases_Bool, cases_eq, cases_lt, eq-eqb, eqb-true, le-ltb, lt-ltb, ne_eqb}
-use Rattle.std.proofs.lemmas.Bool.{true≢false}
-use Rattle.std.proofs.lemmas.Nat.Bits.{bit_at-zero}
-use Rattle.vm_core.specs.Prelude.{in_mask}
-use Rattle.vm_rule.specs.Prelude.{bundles_of, did_change, frames_in, GiveTold, has, without_all}
 use Rattle.vm_rule.specs.declared.view.Place.TheVariants as places
-use Rattle.vm_rule.proofs.{Bundled.has-frames_in, Bundled.has-without_all, Entries.append-none}
-use Rattle.vm_step.specs.Prelude.{AreHeld, Did, IsAlone, known_word_at, KnowsElse, Origin, PassMayGive, View}
-use Rattle.vm_step.proofs.Alone.{found-known, still-alone}
-use Rattle.vm_step.proofs.Tables.{at-then, else-knows, last-known}
-use Rattle.vm_exmap.specs.{Frames.MovesFrames, Returns.GivesTo.none, Returns.GivesTo.some}
-use Rattle.vm_exmap.specs.Returns.{AreGiven, GivesFromFirst, is_of, KnowsGiven}
 use Rattle.vm_exmap.proofs.{FrameMoves.moved-by, FrameMoves.moved-then, Handing.each-of}
+use Rattle.vm_exmap.proofs.Prelude.{[], and_left, and_parts, and_right, ap, append-none, AreGiven, AreHeld, arith, at-then, bit_at, bit_at-zero}
+use Rattle.vm_exmap.proofs.Prelude.{bit_or, Bool, bundles_of, cases_Bool, cases_lt, Did, did_change, else-knows, eqb, eqb-true, false, found-known}
+use Rattle.vm_exmap.proofs.Prelude.{frames_in, GivesFromFirst, GiveTold, has, has-frames_in, has-without_all, if◌then◌else◌, in_mask, inl, inr, is_of}
+use Rattle.vm_exmap.proofs.Prelude.{IsAlone, known_word_at, KnowsElse, KnowsGiven, last-known, le-ltb, List, ltb, MovesFrames, nat_tests, none, None}
+use Rattle.vm_exmap.proofs.Prelude.{Origin, PassMayGive, refl, rules, some, still-alone, subst, suc, sym, true, View, without_all, ℕ, ⊎_elim, ◌%◌}
+use Rattle.vm_exmap.proofs.Prelude.{◌&&◌, ◌++◌, ◌+◌, ◌/◌, ◌<◌, ◌∙◌, ◌∷◌, ◌≡◌, ◌≢◌, ◌≤◌}
 
 -- the frame is one of these, and of the first `count` bundles
 abbrev pub is_below : ℕ → List ℕ → ℕ → Bool
@@ -22,25 +14,7 @@ is_below count frames f = ltb (f / 64) count && has f frames
 
 -- one bundle more: what is of it is below then
 below-more : (g : ℕ) (frames : List ℕ) (f : ℕ) (old : Bool) → (if is_of g frames f then false else (if is_below g frames f then false else old)) ≡ (if is_below (g + 1) frames f then false else old)
-below-more g frames f old =
-    ⊎_elim
-    (λ (here : f / 64 ≡ g).
-    let low : f / 64 < g + 1 = omega (arith, here) in
-    let of : is_of g frames f ≡ has f frames = ap (λ b. b && has f frames) (eq-eqb (f / 64) g here) in
-    let before : is_below g frames f ≡ false = and_left (ltb (f / 64) g) (has f frames) (le-ltb (f / 64) g (omega (arith, here))) in
-    let after : is_below (g + 1) frames f ≡ has f frames = ap (λ b. b && has f frames) (lt-ltb (f / 64) (g + 1) low) in
-    (λ i. if of i then false else (if before i then false else old)) ∙ sym (ap (λ b. if b then false else old) after))
-    (λ ne.
-    let of : is_of g frames f ≡ false = and_left (eqb (f / 64) g) (has f frames) (ne_eqb (f / 64) g ne) in
-    ap (λ b. if b then false else (if is_below g frames f then false else old)) of ∙ ap (λ b. if b && has f frames then false else old) (same-side ne))
-    (cases_eq (f / 64) g)
-  where
-    same-side : f / 64 ≢ g → ltb (f / 64) g ≡ ltb (f / 64) (g + 1)
-    same-side ne =
-        ⊎_elim
-        (λ (l : f / 64 < g). lt-ltb (f / 64) g l ∙ sym (lt-ltb (f / 64) (g + 1) (omega (arith, l))))
-        (λ (h : g ≤ f / 64). le-ltb (f / 64) g h ∙ sym (le-ltb (f / 64) (g + 1) (omega (arith, h, ne))))
-        (cases_lt (f / 64) g)
+below-more g frames f old = grind (arith, nat_tests)
 
 -- a mask without a bit is that of no frame
 no-frame : (g mask f : ℕ) → mask ≡ 0 → in_mask g mask f ≡ false
@@ -94,7 +68,7 @@ module _ {X : Type 0} (frames : List ℕ) (g mask : ℕ) (u v : View X) (below :
       let now : IsAlone u → IsAlone v = still-alone u v below.moves.parts below.moves.alone.current in
       record {
         done = done;
-        moves = moved-then below.done (did ∷ []) u v w below.moves moves (λ f a b. had (is_of g frames f) (has f v.frames) (sym (left f) ∙ b));
+        moves = moved-then below.done (did ∷ []) u v w below.moves moves (λ f a b. (let was = left f in grind (arith, nat_tests, was, b)));
         gives = subst (λ n. GivesFromFirst frames n done) next (below.done, did ∷ [], refl, below.gives, some mask found bits refl);
         left = λ f. left f ∙ ap (λ b. if is_of g frames f then false else b) (below.left f) ∙ below-more g frames f (has f u.frames);
         table = λ a j low in'.
@@ -110,10 +84,6 @@ module _ {X : Type 0} (frames : List ℕ) (g mask : ℕ) (u v : View X) (below :
             let ne : places.Bundle j ≡ places.Bundle g → ⊥ = λ e. (let same : j ≡ g = cc in omega (arith, high, same)) in
             (others (now a)).words (places.Bundle j) (subst (λ (o : Origin). j < bundles_of o.frames) (sym below.moves.start) in') ne ∙ below.rest a j (omega (arith, high)) in';
       }
-    where
-      had : (gone old : Bool) → (if gone then false else old) ≡ true → old ≡ true
-      had true old e = absurd (true≢false (sym e))
-      had false old e = e
 
   -- or there are none, and no step is made
   pub given-none : mask ≡ 0 → AreGivenBelow frames (g + 1) u v
@@ -139,19 +109,13 @@ module _ {X : Type 0} (frames : List ℕ) (g mask : ℕ) (u v : View X) (below :
 module _ {X : Type 0} (frames : List ℕ) (n : ℕ) (u w : View X) (all : n ≡ bundles_of u.start.frames) where
   -- all of them went back
   pub all-given : AreHeld frames u → AreGivenBelow frames n u w → AreGiven frames u w
-  all-given held below = record {
-    done = below.done;
-    moves = below.moves;
-    gives = subst (λ k. GivesFromFirst frames k below.done) all below.gives;
-    table = λ a g low. below.table a g (subst (λ k. g < k) (sym all) low) low;
-    left = λ f. below.left f ∙ ap (λ b. if b then false else has f u.frames) (same f);
-  }
+  all-given held below =
+      let gives = subst (λ k. GivesFromFirst frames k below.done) all below.gives in
+      let table = λ (a : IsAlone u) (g : ℕ) (low : g < bundles_of u.start.frames). below.table a g (subst (λ k. g < k) (sym all) low) low in
+      let left = λ (f : ℕ). below.left f ∙ ap (λ b. if b then false else has f u.frames) (same f) in
+      search (rules, below.moves, gives, table, left)
     where
       same : (f : ℕ) → is_below n frames f ≡ has f frames
       same f =
-          ⊎_elim
-          (λ (e : has f frames ≡ true).
-          let low : f < u.start.frames = each-of (λ k. k < u.start.frames) frames f held.inside e in
-          ap (λ b. b && has f frames) (lt-ltb (f / 64) n (omega (arith, low, all))))
-          (λ e. and_right (ltb (f / 64) n) (has f frames) e ∙ sym e)
+          ⊎_elim (λ (e : has f frames ≡ true). (let low : f < u.start.frames = each-of (λ k. k < u.start.frames) frames f held.inside e in grind (arith, nat_tests, low, all, e))) (λ (e : has f frames ≡ false). grind (arith, nat_tests, e))
           (cases_Bool (has f frames))

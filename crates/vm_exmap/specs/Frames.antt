@@ -1,5 +1,5 @@
 -- Frames that a pass holds or knows to be free, and what a call leaves that moves free frames alone.
-use Rattle.std.specs.Prelude.{[], ◌++◌, ◌<◌, ◌≡◌, ◌≢◌, ◌⊎◌, List, true, ℕ}
+use Rattle.std.specs.Prelude.{[], List, true, ℕ, ◌++◌, ◌<◌, ◌≡◌, ◌≢◌, ◌⊎◌}
 use Rattle.vm_rule.specs.Prelude.{bundles_of, contents_at, Each, has, IsLocking, last_of, seat_of, StartsWith}
 use Rattle.vm_rule.specs.declared.view.Place.{Place}
 use Rattle.vm_rule.specs.declared.view.Place.TheVariants as places
@@ -8,13 +8,8 @@ pub use Rattle.vm_step.specs.HeldFrames.{AreHeld}
 
 -- the place is a bundle's word
 abbrev pub IsBundleOf : Origin → Place → Type 0
-IsBundleOf start (places.State p) = ⊥
-IsBundleOf start (places.Translation p) = ⊥
-IsBundleOf start (places.Fault p) = ⊥
-IsBundleOf start (places.Content f i) = ⊥
 IsBundleOf start (places.Bundle g) = g < bundles_of start.frames
-IsBundleOf start places.Next = ⊥
-IsBundleOf start places.Hand = ⊥
+IsBundleOf start at = ⊥
 
 module _ {X : Type 0} where
   -- the interface has a frame, or some bundle has one, as the pass knows the table

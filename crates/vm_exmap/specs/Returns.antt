@@ -1,5 +1,5 @@
 -- How frames go back to the bundles: for each bundle that has some of them, by rising number, one step that sets their bits.
-use Rattle.std.specs.Prelude.{[], ◌&&◌, ◌++◌, ◌-◌, ◌/◌, ◌<◌, ◌==◌, ◌∷◌, ◌≡◌, ◌⊎◌, bit_or, Bool, false, if◌then◌else◌, length, List, min, suc, zero, ℕ}
+use Rattle.std.specs.Prelude.{[], bit_or, Bool, false, if◌then◌else◌, length, List, min, suc, zero, ℕ, ◌&&◌, ◌++◌, ◌-◌, ◌/◌, ◌<◌, ◌==◌, ◌∷◌, ◌≡◌, ◌⊎◌}
 use Rattle.vm_core.specs.Prelude.{in_mask}
 use Rattle.vm_rule.specs.Prelude.{bundles_of, did_change, FRAMES, has}
 use Rattle.vm_rule.specs.declared.view.Place.TheVariants as places

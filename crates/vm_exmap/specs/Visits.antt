@@ -1,14 +1,14 @@
 -- What comes of a visit to one bundle on a walk, and of the walk: the parts of an allocation from an interface without a frame.
-use Rattle.std.specs.Prelude.{[], ◌++◌, ◌∷◌, ◌≡◌, ◌≢◌, ◌≤◌, bit_xor, false, length, List, ℕ}
-use Rattle.vm_rule.specs.Prelude.{bundles_of, did_exchange, did_load, Each, frames_in, has}
+use Rattle.std.specs.Prelude.{[], bit_xor, false, length, List, ℕ, ◌++◌, ◌∷◌, ◌≡◌, ◌≢◌, ◌≤◌}
+use Rattle.vm_rule.specs.Prelude.{did_exchange, did_load, Each, frames_in, has}
 use Rattle.vm_rule.specs.declared.view.Place.TheVariants as places
-use Rattle.vm_step.specs.Prelude.{AreHeld, Did, IsAlone, IsSaw, known_word_at, NoneExpected, NoWord, View}
+use Rattle.vm_step.specs.Prelude.{AreHeld, Did, IsAlone, known_word_at, View}
 use Rattle.vm_step.specs.declared.saw.At.TheVariants as ats
 use Rattle.vm_step.specs.declared.saw.Saw.{Saw}
 use Rattle.vm_exmap.specs.{declared.interface.Alloc.Alloc, declared.walk.Visited.Visited, Frames.MovesFrames}
+use Rattle.vm_exmap.specs.Walks.{Asks, IsDry, IsLostOut, TakesBits, TakesFrom}
 use Rattle.vm_exmap.specs.declared.interface.Alloc.TheVariants as allocs
 use Rattle.vm_exmap.specs.declared.walk.Visited.TheVariants as visits
-use Rattle.vm_exmap.specs.Walks.{Asks, IsDry, TakesBits, TakesFrom, TakesNone, Walks}
 
 module _ {X : Type 0} where
   -- ---- one bundle
@@ -64,18 +64,8 @@ module _ {X : Type 0} where
     pub held : AreHeld frames w
     pub some : 1 ≤ length frames
 
-  -- each bundle was passed by, and the bits of one were lost: the evidence is that exchange
-  pub record IsLostWalk (most home : ℕ) (saw : Saw) (v w : View X) : Type 0 where
-    pub done : List Did
-    pub refused : TakesNone done [] [] v w
-    pub walk : Walks most home (bundles_of v.start.frames) (bundles_of v.start.frames) done
-    pub g : ℕ
-    pub at : saw.at ≡ ats.Bundle g
-    pub evidence : IsSaw NoWord NoneExpected done saw
-    pub others : IsAlone v → ⊥
-
   -- what a walk over the bundles comes to
   abbrev pub IsWalk : ℕ → ℕ → View X → View X → Alloc → Type 0
   IsWalk most home v w (allocs.Batch frames) = IsFound most home frames v w
   IsWalk most home v w allocs.Dry = IsDry home [] [] v w
-  IsWalk most home v w (allocs.Again saw) = IsLostWalk most home saw v w
+  IsWalk most home v w (allocs.Again saw) = IsLostOut home most [] [] saw v w

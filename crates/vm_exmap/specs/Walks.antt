@@ -1,5 +1,5 @@
 -- How an interface comes to frames: from its own, or by a walk over the bundles, from its home bundle on and round.
-use Rattle.std.specs.Prelude.{[], ◌%◌, ◌++◌, ◌+◌, ◌<◌, ◌∷◌, ◌≡◌, ◌≢◌, ◌⊎◌, bit_xor, false, length, List, max, min, suc, zero, ℕ}
+use Rattle.std.specs.Prelude.{[], bit_xor, false, length, List, max, min, suc, zero, ℕ, ◌%◌, ◌++◌, ◌+◌, ◌<◌, ◌∷◌, ◌≡◌, ◌≢◌, ◌⊎◌}
 use Rattle.vm_core.specs.Prelude.{AreLowest}
 use Rattle.vm_rule.specs.Prelude.{bundles_of, did_exchange, did_load, Each, frames_in, has}
 use Rattle.vm_rule.specs.declared.view.Place.TheVariants as places
@@ -104,10 +104,10 @@ module _ {X : Type 0} where
     pub known : IsAlone v → (g : ℕ) → g < bundles_of v.start.frames → known_word_at v (places.Bundle g) ≡ 0
 
   -- each bundle was passed by, and the bits of one were lost: the evidence is that exchange
-  pub record IsLostOut (home cap n : ℕ) (old new : List ℕ) (saw : Saw) (v w : View X) : Type 0 where
+  pub record IsLostOut (home most : ℕ) (old new : List ℕ) (saw : Saw) (v w : View X) : Type 0 where
     pub done : List Did
     pub refused : TakesNone done old new v w
-    pub walk : Walks (max n cap) home (bundles_of v.start.frames) (bundles_of v.start.frames) done
+    pub walk : Walks most home (bundles_of v.start.frames) (bundles_of v.start.frames) done
     pub g : ℕ
     pub at : saw.at ≡ ats.Bundle g
     pub evidence : IsSaw NoWord NoneExpected done saw
@@ -118,4 +118,4 @@ module _ {X : Type 0} where
   abbrev pub IsAlloc : ℕ → ℕ → ℕ → List ℕ → List ℕ → View X → View X → Alloc → Type 0
   IsAlloc home cap n old new v w (allocs.Batch batch) = IsOwn n old batch new v w ⊎ TakesFromBundle home cap n old batch new v w
   IsAlloc home cap n old new v w allocs.Dry = IsDry home old new v w
-  IsAlloc home cap n old new v w (allocs.Again saw) = IsLostOut home cap n old new saw v w
+  IsAlloc home cap n old new v w (allocs.Again saw) = IsLostOut home (max n cap) old new saw v w

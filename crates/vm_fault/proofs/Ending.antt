@@ -1,20 +1,174 @@
--- The release of a page that was found evicted and locked: nothing but its version is another then, and the pass holds what it held.
-use Rattle.std.proofs.Common.{[], ⊎_elim, ◌++◌, ◌+◌, ◌<◌, ◌∙◌, ◌∷◌, ◌≡◌, ◌≢◌, ◌≤◌, ap, append_assoc, arith, false, inl, inr, length, List, None, refl}
-use Rattle.std.proofs.Common.{Some, subst, sym, true, ℕ}
-use Rattle.std.proofs.lemmas.Bool.{false≢true}
-use Rattle.vm_core.specs.Prelude.{EVICTED, MAX_VERSION, UNLOCKED, Version, word_of}
-use Rattle.vm_rule.specs.Prelude.{Brings, did_store, draft_of, Each, EvictTold, has, IsLocking, last_in, last_of, ReleaseTold, Seat, seat_of, Within}
-use Rattle.vm_rule.specs.declared.view.Place.{Place}
+-- A page that was found evicted and locked: what the pass knows of it as it works on it, its release, and the places of all steps; and a page that could not be
+-- brought.
 use Rattle.vm_rule.specs.declared.view.Place.TheVariants as places
-use Rattle.vm_rule.proofs.Entries.{each-map}
-use Rattle.vm_step.specs.Prelude.{Did, HasGiven, IsAlone, IsAside, KnowsElse, LeavesRest, Origin, Release, RunsAlone, StaysAlone, View, Works}
-use Rattle.vm_step.proofs.{Alone.runs-then, Alone.stays-alone, Asides.alone-then, Evidenced.given-front, Leaves.aside-of, Leaves.leaves-then}
-use Rattle.vm_step.proofs.steps.Leaving.{LeavesOthers, LeavesOwn, rest-of}
-use Rattle.vm_step.proofs.steps.Release.{evict-alone, evict-last, evict-others, evict-seat, evict-silent, release-alone, release-last, release-others}
-use Rattle.vm_step.proofs.steps.Release.{release-seat, release-silent}
-use Rattle.vm_step.proofs.Tables.{else-knows, follows-inside, last-known}
-use Rattle.vm_fault.specs.Fetches.{IsReleasedAs, KnowsReleased}
-use Rattle.vm_fault.proofs.Evicted.{IsHeldEmpty}
+use Rattle.vm_step.specs.declared.saw.At.TheVariants as ats
+use Rattle.vm_fault.proofs.Prelude.{[], alone-then, ap, append_assoc, arith, aside-of, Brings, cases_eq, cond-false, Did, did_exchange, did_load}
+use Rattle.vm_fault.proofs.Prelude.{did_store, draft_of, Each, each-both, each-map, else-knows, eqb, evict-alone, evict-last, evict-others}
+use Rattle.vm_fault.proofs.Prelude.{evict-seat, evict-silent, EVICTED, EvictedExpected, EvictTold, false, false≢true, follows-inside, found-known}
+use Rattle.vm_fault.proofs.Prelude.{given-front, has, HasGiven, HasWritten, Held, held_at, home-both, home-else, inl, inr, IsAlone, IsAside}
+use Rattle.vm_fault.proofs.Prelude.{IsFetchToTry, IsFetchWorn, IsFoundEvicted, IsHeldAt, IsLocking, IsOfBoth, IsOfPage, IsReleasedAs, IsUnheld}
+use Rattle.vm_fault.proofs.Prelude.{KeepsFrames, known_word_at, KnowsElse, KnowsReleased, last-known, last_in, last_of, leaves-then, LeavesOthers}
+use Rattle.vm_fault.proofs.Prelude.{LeavesOwn, LeavesRest, length, List, lock-brings, lock-draft, lock-held, lock-leaves, lock-others, lock-seat}
+use Rattle.vm_fault.proofs.Prelude.{LOCKED, locked_view, LockTold, look-leaves, look-only, LookTold, lost-only, lost-saw, Mapping, MAX_VERSION}
+use Rattle.vm_fault.proofs.Prelude.{ne_eqb, None, none-some, only-then, OnlyReads, Origin, Place, ReadsOnce, refl, Release, release-alone}
+use Rattle.vm_fault.proofs.Prelude.{release-last, release-others, release-seat, release-silent, ReleaseTold, rest-of, rules, runs-one, runs-then}
+use Rattle.vm_fault.proofs.Prelude.{RunsAlone, same-word, Seat, seat_of, Some, Start, state_of, stays-alone, StaysAlone, StaysHome, still-alone}
+use Rattle.vm_fault.proofs.Prelude.{stores-did, subst, sym, true, two-loads, UNLOCKED, Version, version-within, version_of, View, Within, word-made}
+use Rattle.vm_fault.proofs.Prelude.{word-state, word-version, word_of, words-known, Works, ℕ, ⊎_elim, ◌++◌, ◌+◌, ◌<◌, ◌∙◌, ◌∷◌, ◌≡◌, ◌≢◌, ◌≤◌, ◌⊎◌}
+
+module _ {X : Type 0} where
+  -- the pass, which had none of page p at v, holds it exclusively at x: it is not resident, its draft is its last words, and its block has them
+  pub record IsHeldEmpty (p version : ℕ) (words : List ℕ) (done : List Did) (v x : View X) : Type 0 where
+    pub leaves : LeavesRest p done v x
+    pub runs : RunsAlone done [] v x
+    pub steps : Each (λ d. d.at ≡ places.State p) done
+    pub known : IsAlone v → known_word_at v (places.State p) ≡ word_of EVICTED version
+    pub found : HasGiven done (places.State p) (word_of EVICTED version)
+    pub before : ((seat_of v p).exclusive ≡ false) × ((seat_of v p).shares ≡ 0)
+    pub shares : (seat_of x p).shares ≡ (seat_of v p).shares
+    pub writing : (seat_of x p).writing ≡ (seat_of v p).writing
+    pub owns : (seat_of x p).exclusive ≡ true
+    pub draft : draft_of x p ≡ words
+    pub last : last_of x p ≡ record { version = version; words = words }
+    pub free : has p x.pending ≡ false
+    pub paid : has p x.owed ≡ false
+    pub next : x.next ≢ Some p
+    pub empty : (held_at x p).mapping ≡ None
+    pub told : (held_at x p).fault ≡ (held_at x p).block.count
+    pub device : x.start.tells ≡ true → (held_at x p).block.words ≡ words
+    pub keeps : KeepsFrames v x
+    pub out : x.out ≡ v.out
+
+  module _ (tied : Start → ℕ → List ℕ → ℕ → List ℕ → Type 0) (p version : ℕ) (v x : View X) (within : version ≤ MAX_VERSION) (f : IsFoundEvicted tied p version v x) where
+    abbrev expects : ℕ
+    expects = word_of EVICTED version
+
+    abbrev words : List ℕ
+    words = (last_of x p).words
+
+    abbrev look-did : Did
+    look-did = did_load (places.State p) f.word
+
+    abbrev lock-did : Did
+    lock-did = did_exchange (places.State p) expects expects (word_of LOCKED (version_of expects))
+
+    looked : OnlyReads (λ q. q ≡ p) (look-did ∷ []) v f.between
+    looked = look-only (λ q. q ≡ p) tied p f.word v f.between refl f.look
+
+    brings : Brings lock-did [] [] f.between (locked_view p f.lock.held words f.between) x
+    brings = lock-brings refl f.lock
+
+    unheld : IsUnheld f.between p
+    unheld = f.lock.unheld refl
+
+    stands : IsHeldAt expects f.between.start.frames f.between.start.tells words f.lock.held
+    stands = f.lock.stands refl
+
+    gone : state_of expects ≡ EVICTED
+    gone = word-state EVICTED version within
+
+    start-locked : x.start ≡ f.between.start
+    start-locked = ap (λ (y : View X). y.start) brings.view
+
+    clean : (m : Mapping) → f.lock.held.mapping ≡ Some m → m.dirty ≡ false
+    clean m e = absurd (none-some m (sym (stands.empty gone) ∙ e))
+
+    pub held-empty : IsHeldEmpty p version words (look-did ∷ lock-did ∷ []) v x
+    held-empty =
+        let runs = runs-then (look-did ∷ []) (lock-did ∷ []) [] [] v f.between x looked.aside.start looked.aside.parts (runs-one look-did None [] _ v _ f.between f.look.brings) (lock-others refl f.lock (λ q. q ≡ p) refl).runs in
+        let known = λ (a : IsAlone v).
+        let now : IsAlone f.between = still-alone v f.between looked.aside.parts looked.aside.alone.current a in
+        let there : expects ≡ known_word_at f.between (places.State p) = found-known lock-did expects None [] [] f.between _ x brings refl now in
+        sym (there ∙ same-word v f.between looked.aside.start (words-known look-did None [] _ v _ f.between f.look.brings refl a) (places.State p)) in
+        let found : HasGiven (look-did ∷ lock-did ∷ []) (places.State p) (word_of EVICTED version) = record { earlier = look-did ∷ []; step = lock-did; later = []; cut = refl; gives = (refl, refl) } in
+        let last : last_of x p ≡ record { version = version; words = words } = ap (λ (n : ℕ). record { version = n; words = words }) {x = (last_of x p).version} {y = version} (f.lock.version ∙ word-version EVICTED version within) in
+        let device = λ (tells : x.start.tells ≡ true). ap (λ (h : Held). h.block.words) (lock-held refl f.lock) ∙ stands.device (ap (λ (o : Origin). o.tells) (sym start-locked) ∙ tells) clean in
+        let next = λ (e : x.next ≡ Some p). unheld.next (sym (ap (λ (y : View X). y.next) brings.view) ∙ e) in
+        let leaves = leaves-then p (look-did ∷ []) (lock-did ∷ []) v f.between x (look-leaves f.look) (lock-leaves refl f.lock) in
+        let seat = lock-seat refl f.lock in
+        let held = lock-held refl f.lock in
+        search (rules, ap, leaves, runs, known, found, looked.aside.holds p, unheld, seat, lock-draft refl f.lock, last, f.lock.free refl, brings.view, next, held, stands.empty gone, stands.told, device, looked.keeps, looked.aside.out)
+
+-- ---- A page that could not be brought: it was found in another state, or at the last version, or another came before with its lock.
+
+-- a word at this version that is not the evicted one is of another state
+other-state : (word version : ℕ) → version_of word ≡ version → word ≢ word_of EVICTED version → state_of word ≢ EVICTED
+other-state word version e ne gone = ne (sym (word-made word) ∙ ap (λ (s : ℕ). word_of s (version_of word)) gone ∙ ap (word_of EVICTED) e)
+
+module _ {X : Type 0} (tied : Start → ℕ → List ℕ → ℕ → List ℕ → Type 0) (p word : ℕ) (v u : View X) (look : LookTold tied p None word v u) where
+  abbrev try-did : Did
+  try-did = did_load (places.State p) word
+
+  tried : OnlyReads (λ q. q ≡ p) (try-did ∷ []) v u
+  tried = look-only (λ q. q ≡ p) tied p word v u refl look
+
+  -- a pass that is alone finds the word that it knew
+  look-known : IsAlone v → (word ≡ known_word_at v (places.State p)) × (u.snapshot.words ≡ v.snapshot.words)
+  look-known a = (found-known try-did word None [] _ v _ u look.brings refl a, words-known try-did None [] _ v _ u look.brings refl a)
+
+  look-runs : RunsAlone (try-did ∷ []) [] v u
+  look-runs = runs-one try-did None [] _ v _ u look.brings
+
+  pub worn-out : word ≡ word_of EVICTED MAX_VERSION → IsFetchWorn p v u
+  worn-out e = record {
+    done = try-did ∷ [];
+    aside = tried.aside;
+    keeps = tried.keeps;
+    steps = (refl, tt);
+    alone = look-runs;
+    table = λ a. (look-known a).1;
+    found = record { earlier = []; step = try-did; later = []; cut = refl; gives = (refl, ap (λ (n : ℕ). Some n) e) };
+    foreign = tt;
+    known = λ a. sym (look-known a).0 ∙ e;
+  }
+
+  pub worn-in : (first : ℕ) → first ≡ word_of EVICTED MAX_VERSION → version_of word ≡ MAX_VERSION → word ≢ first → IsFetchToTry p (record { at = ats.Page p; first = first; seen = word }) v u
+  worn-in first is last ne = record {
+    done = try-did ∷ [];
+    aside = tried.aside;
+    keeps = tried.keeps;
+    steps = (refl, tt);
+    alone = look-runs;
+    table = λ a. (look-known a).1;
+    at = refl;
+    why = inr record { given = record { earlier = []; step = try-did; later = []; cut = refl; gives = (refl, refl) }; foreign = tt; last = last; other = other-state word MAX_VERSION last (λ e. ne (e ∙ sym is)); first = is };
+    known = λ a. ((look-known a).0, other-state word MAX_VERSION last (λ e. ne (e ∙ sym is)));
+  }
+
+  pub lost : (first found n : ℕ) (w : View X) → first ≡ word_of EVICTED n → version_of word ≡ n → found ≢ first → LockTold tied p first found u w → IsFetchToTry p (record { at = ats.Page p; first = first; seen = found }) v w
+  lost first found n w is at ne lock =
+      let did : Did = did_exchange (places.State p) first found (word_of LOCKED (version_of first)) in
+      let as-evicted : word_of EVICTED (version_of word) ≡ first = ap (word_of EVICTED) at ∙ sym is in
+      let from : (word ≡ first) ⊎ EvictedExpected word first
+      = ⊎_elim (λ (gone : state_of word ≡ EVICTED). inl (sym (word-made word) ∙ ap (λ (s : ℕ). word_of s (version_of word)) gone ∙ as-evicted)) (λ not. inr (not, sym as-evicted)) (cases_eq (state_of word) EVICTED) in
+      let k : OnlyReads (λ q. q ≡ p) (try-did ∷ did ∷ []) v w
+      = only-then (λ q. q ≡ p) (try-did ∷ []) (did ∷ []) v u w tried (lost-only (λ q. q ≡ p) did first found u (locked_view p lock.held (last_of w p).words u) w ne lock.brings) in
+      record {
+        done = try-did ∷ did ∷ [];
+        aside = k.aside;
+        keeps = k.keeps;
+        steps = (refl, (refl, tt));
+        alone = runs-then (try-did ∷ []) (did ∷ []) [] [] v u w tried.aside.start tried.aside.parts look-runs (runs-one did None [] [] u _ w lock.brings);
+        table = λ a.
+            words-known did None [] [] u _ w lock.brings (cond-false (eqb found first) _ _ (ne_eqb found first ne)) (still-alone v u tried.aside.parts tried.aside.alone.current a) ∙ (look-known a).1;
+        at = refl;
+        why = inl record {
+          evidence = lost-saw EvictedExpected p word first found (word_of LOCKED (version_of first)) from ne;
+          earlier = try-did ∷ [];
+          step = did;
+          later = [];
+          cut = refl;
+          lost = record { gives = (refl, refl); expected = refl; other = ne; left = cond-false (eqb found first) _ _ (ne_eqb found first ne) };
+          first = ap state_of is ∙ word-state EVICTED n (subst (λ (k : ℕ). k ≤ MAX_VERSION) at (version-within word));
+        };
+        known = λ a.
+            let now : IsAlone u = still-alone v u tried.aside.parts tried.aside.alone.current a in
+            let there : found ≡ known_word_at v (places.State p) = found-known did found None [] [] u _ w lock.brings refl now ∙ same-word v u tried.aside.start (look-known a).1 (places.State p) in
+            let same : version_of found ≡ n = ap version_of (there ∙ sym (look-known a).0) ∙ at in
+            (there, other-state found n same (λ e. ne (e ∙ sym is)));
+      }
+
+-- ---- The release of a page that was found evicted and locked: nothing but its version is another then, and the pass holds what it held.
 
 -- an unlocked word is its version
 pub unlocked-is : (version : ℕ) → version ≡ word_of UNLOCKED version
@@ -95,35 +249,23 @@ module _ {X : Type 0} (p version : ℕ) (words : List ℕ) (before more : List D
       known : f.releases ++ b.between ≡ v.releases ++ since
       known = ap (λ (t : List Release). t ++ b.between) so-far.releases.1 ∙ append_assoc v.releases so-far.releases.0 b.between
 
+      released : IsReleasedAs state p version words all v w
+      released =
+          let left : HasWritten all (places.State p) (word_of state (version + 1)) = record { earlier = all-before; step = end-did; later = []; cut = refl; place = refl; wrote = ap (λ (n : ℕ). Some n) spelled } in
+          let releases = ap (λ (y : View X). y.releases) b.view ∙ ap (λ (t : List Release). t ++ end-release ∷ []) known ∙ ap (λ (l : List ℕ). (v.releases ++ since) ++ record { page = p; version = version + 1; words = l } ∷ []) still-draft in
+          let same = ap (λ (t : List Release). last_in v.start t p) (sym known) ∙ ap (λ (o : Origin). last_in o (f.releases ++ b.between) p) (sym so-far.start) ∙ b.kept p (inl still-owns) ∙ still-last in
+          search (rules, below, given, left, releases, same, last ∙ ap (λ (l : List ℕ). record { version = version + 1; words = l }) still-draft)
+
       ends : EndsAs state all w
       ends = record {
         aside = λ stays.
             aside-of p all v w (leaves-then p all-before (end-did ∷ []) v f w so-far (rest-of others own)) (out ∙ stays)
-            record {
-              shares = ap (λ (s : Seat). s.shares) (seat ∙ ap (λ (s : Seat). record s { exclusive = false }) k.seat) ∙ h.shares;
-              exclusive = ap (λ (s : Seat). s.exclusive) seat ∙ sym h.before.0;
-              writing = ap (λ (s : Seat). s.writing) (seat ∙ ap (λ (s : Seat). record s { exclusive = false }) k.seat) ∙ h.writing;
-            }
+            (grind arith)
             (λ l. absurd (not-before l))
             (alone-then v x w h.leaves.parts (stays-alone before v x h.leaves.start h.runs)
             (alone-then x f w k.leaves.parts (stays-alone more x f k.leaves.start k.alone)
             (alone (still-draft ∙ ap (λ (y : Version). y.words) (sym still-last)))));
-        released = record {
-          below = below;
-          found = given;
-          left = record { earlier = all-before; step = end-did; later = []; cut = refl; place = refl; wrote = ap (λ (n : ℕ). Some n) spelled };
-          between = since;
-          releases =
-              ap (λ (y : View X). y.releases) b.view
-              ∙ ap (λ (t : List Release). t ++ end-release ∷ []) known
-              ∙ ap (λ (l : List ℕ). (v.releases ++ since) ++ record { page = p; version = version + 1; words = l } ∷ []) still-draft;
-          same =
-              ap (λ (t : List Release). last_in v.start t p) (sym known)
-              ∙ ap (λ (o : Origin). last_in o (f.releases ++ b.between) p) (sym so-far.start)
-              ∙ b.kept p (inl still-owns)
-              ∙ still-last;
-          last = last ∙ ap (λ (l : List ℕ). record { version = version + 1; words = l }) still-draft;
-        };
+        released = released;
         runs = ends-runs;
         knows = λ touched inside steps a.
             let others : KnowsElse touched v w =
@@ -146,3 +288,76 @@ module _ {X : Type 0} (p version : ℕ) (words : List ℕ) (before more : List D
     pub evicted-ends : EvictTold p version f w → EndsAs EVICTED (all-before ++ did_store (places.State p) (word_of EVICTED (version + 1)) ∷ []) w
     evicted-ends t =
         ends EVICTED (word_of EVICTED (version + 1)) refl below _ w t.brings (ap (λ (y : View X). y.out) t.brings.view) (evict-silent t still-next) (evict-others t (λ q. q ≡ p) refl) (evict-seat t) (evict-last t) (evict-alone t)
+
+-- ---- The places of the steps that bring a page: each is one of the page or of the frame, and the block goes out and comes home once.
+
+-- these are places of the table
+pub page-within : (start : Origin) (p : ℕ) → p < start.pages → (at : Place) → IsOfPage p at → Within start at
+page-within start p l (places.State q) e = subst (λ (n : ℕ). n < start.pages) (sym e) l
+page-within start p l (places.Translation q) e = subst (λ (n : ℕ). n < start.pages) (sym e) l
+page-within start p l (places.Fault q) e = subst (λ (n : ℕ). n < start.pages) (sym e) l
+page-within start p l _ e = absurd e
+
+pub both-within : (start : Origin) (p f : ℕ) → p < start.pages → f < start.frames → (at : Place) → IsOfBoth p f at → Within start at
+both-within start p f l k at o = ⊎_elim (λ e. page-within start p l at e) (λ c. subst (Within start) (sym c.2) (k, c.1)) o
+
+stores-at : (p f i : ℕ) (xs : List ℕ) → i + length xs ≤ 64 → Each (λ (d : Did). IsOfBoth p f d.at) (stores-did f i xs)
+stores-at p f i [] l = tt
+stores-at p f i (x ∷ xs) l = (inr (i, omega (arith, l), refl), stores-at p f (i + 1) xs (omega (arith, l)))
+
+-- neither the stores into a frame nor the steps on the page's state word move the block
+stores-home : (p f i : ℕ) (xs : List ℕ) → StaysHome p (stores-did f i xs)
+stores-home p f i [] = tt
+stores-home p f i (x ∷ xs) = ((λ _. refl), stores-home p f (i + 1) xs)
+
+state-home : (p : ℕ) (done : List Did) → Each (λ (d : Did). d.at ≡ places.State p) done → StaysHome p done
+state-home p done steps = home-else p done (each-map (λ (d : Did). d.at ≡ places.State p) (λ (d : Did). d.at ≢ places.Fault p) (λ d at here. (let no : places.State p ≡ places.Fault p = sym at ∙ here in cc)) done steps)
+
+module _ (p : ℕ) (before : List Did) (steps : Each (λ (d : Did). d.at ≡ places.State p) before) (a b c d : ℕ) where
+  abbrev calls : List Did
+  calls = two-loads p a b ++ two-loads p c d
+
+  -- the block went out once, and came home with no step between
+  read-once : (done later : List Did) → done ≡ before ++ (calls ++ later) → StaysHome p later → ReadsOnce p done
+  read-once done later cut home = (record { earlier = before; out = (a, b); between = []; home = (c, d); later = later; cut = cut; none = (state-home p before steps, tt, home) }, refl)
+
+  -- the block was read, its words stored, the frame put into the page, and the page released with this word
+  module _ (f trans word : ℕ) (page : List ℕ) (long : length page ≡ 64) where
+    abbrev brought-did : List Did
+    brought-did = (before ++ ((calls ++ stores-did f 0 page) ++ did_store (places.Translation p) trans ∷ [])) ++ did_store (places.State p) word ∷ []
+
+    pub brought-at : Each (λ (d : Did). IsOfBoth p f d.at) brought-did
+    brought-at =
+        let P : Did → Type 0 = λ d. IsOfBoth p f d.at in
+        let install : List Did = did_store (places.Translation p) trans ∷ [] in
+        let end : List Did = did_store (places.State p) word ∷ [] in
+        let filled : List Did = calls ++ stores-did f 0 page in
+        each-both P (before ++ (filled ++ install)) end
+        (each-both P before (filled ++ install) (each-map _ P (λ (d : Did) e. inl (subst (IsOfPage p) (sym e) refl)) before steps)
+        (each-both P filled install (each-both P calls (stores-did f 0 page) (inl refl, (inl refl, (inl refl, (inl refl, tt)))) (stores-at p f 0 page (omega (arith, long)))) (inl refl, tt)))
+        (inl refl, tt)
+
+    pub brought-once : ReadsOnce p brought-did
+    brought-once =
+        let install : List Did = did_store (places.Translation p) trans ∷ [] in
+        let end : List Did = did_store (places.State p) word ∷ [] in
+        let home = home-both p (stores-did f 0 page ++ install) end (home-both p (stores-did f 0 page) install (stores-home p f 0 page) ((λ _. refl), tt)) ((λ _. refl), tt) in
+        read-once brought-did ((stores-did f 0 page ++ install) ++ end) (append_assoc before ((calls ++ stores-did f 0 page) ++ install) end) home
+
+  -- the read failed: the fault word was raised, and the page released with this word
+  module _ (count word : ℕ) where
+    abbrev failed-did : List Did
+    failed-did = (before ++ (calls ++ did_store (places.Fault p) count ∷ [])) ++ did_store (places.State p) word ∷ []
+
+    pub failed-at : Each (λ (d : Did). IsOfPage p d.at) failed-did
+    failed-at =
+        let P : Did → Type 0 = λ d. IsOfPage p d.at in
+        let raised : List Did = calls ++ did_store (places.Fault p) count ∷ [] in
+        each-both P (before ++ raised) (did_store (places.State p) word ∷ [])
+        (each-both P before raised (each-map _ P (λ (d : Did) e. subst (IsOfPage p) (sym e) refl) before steps) (refl, (refl, (refl, (refl, (refl, tt))))))
+        (refl, tt)
+
+    pub failed-once : ReadsOnce p failed-did
+    failed-once =
+        read-once failed-did (did_store (places.Fault p) count ∷ did_store (places.State p) word ∷ [])
+        (append_assoc before (calls ++ did_store (places.Fault p) count ∷ []) (did_store (places.State p) word ∷ [])) ((λ _. refl), ((λ _. refl), tt))

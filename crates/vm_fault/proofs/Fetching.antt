@@ -1,24 +1,16 @@
 -- The page was found evicted and locked, and its block was read: it is installed with the block's words and released, or released as evicted.
-use Rattle.std.proofs.Common.{[], ◌++◌, ◌+◌, ◌<◌, ◌∙◌, ◌∷◌, ◌≡◌, ◌≤◌, ap, arith, Bool, Err, false, if◌then◌else◌, inl, is_ok, IsSome, length, List}
-use Rattle.std.proofs.Common.{None, Ok, OnOk, refl, Result, slice_index, Some, subst, sym, true, ℕ}
-use Rattle.std.proofs.lemmas.Bool.{or_left}
-use Rattle.std.proofs.lemmas.Option.{none-some}
-use Rattle.vm_block.specs.Blocks.{Reads}
-use Rattle.vm_core.specs.Prelude.{count_more, EVICTED, MAX_VERSION, trans_word, UNLOCKED, Version, word_of}
 use Rattle.vm_core.specs.Fn as fns
-use Rattle.vm_rule.specs.Prelude.{Change, clean_in, did_store, Each, Entry, EvictTold, has, held_at, HomeTold, InstallTold, MayBring, MayPutInto}
-use Rattle.vm_rule.specs.Prelude.{no_held, notes_of, out_at, OutTold, put_at, RaiseTold, ReleaseTold, Seat, seat_of, Start, Stored, without}
-use Rattle.vm_rule.specs.declared.view.Held.{Held}
 use Rattle.vm_rule.specs.declared.view.Place.TheVariants as places
-use Rattle.vm_step.specs.Prelude.{Did, HasWritten, IsNotOut, IsOfPage, MayEvict, MayGiveUp, MayRaise, MayTakeOut, Origin, Stores, View, Works}
-use Rattle.vm_step.proofs.{Evidenced.written-behind, Evidenced.written-front, Leaves.works-then, steps.Mapping.install-held}
-use Rattle.vm_step.proofs.{steps.Mapping.install-works, steps.Raise.raise-held, steps.Raise.raise-works}
-use Rattle.vm_step.proofs.Device.{call-did, called, counts-one, goes-out, may-bring, Moves, noted-more, two-loads}
-use Rattle.vm_step.proofs.Filling.{all-stored, filled, Fills, fills, stores-did}
-use Rattle.vm_fault.specs.Fetches.{IsBrought, IsFailed, IsOfBoth}
-use Rattle.vm_fault.proofs.Ending.{EndsAs, evicted-ends, still-draft, still-free, still-last, still-owns, still-paid, unlocked-ends}
-use Rattle.vm_fault.proofs.Evicted.{IsHeldEmpty}
-use Rattle.vm_fault.proofs.StepPlaces.{both-within, brought-at, brought-once, failed-at, failed-once, page-within}
+use Rattle.vm_fault.proofs.Ending.{both-within, brought-at, brought-once, EndsAs, evicted-ends, failed-at, failed-once, IsHeldEmpty, page-within}
+use Rattle.vm_fault.proofs.Ending.{still-draft, still-free, still-last, still-owns, still-paid, unlocked-ends}
+use Rattle.vm_fault.proofs.Prelude.{[], all-stored, ap, arith, Bool, call-did, called, Change, clean_in, count_more, counts-one, Did, did_store, Each}
+use Rattle.vm_fault.proofs.Prelude.{Entry, Err, EVICTED, EvictTold, false, filled, fills, Fills, goes-out, has, HasWritten, Held, held_at, HomeTold}
+use Rattle.vm_fault.proofs.Prelude.{if◌then◌else◌, inl, install-held, install-works, InstallTold, is_ok, IsBrought, IsFailed, IsNotOut, IsOfBoth}
+use Rattle.vm_fault.proofs.Prelude.{IsOfPage, IsSome, length, List, MAX_VERSION, may-bring, MayBring, MayEvict, MayGiveUp, MayPutInto, MayRaise}
+use Rattle.vm_fault.proofs.Prelude.{MayTakeOut, Moves, no_held, None, none-some, noted-more, notes_of, Ok, OnOk, or_left, Origin, out_at, OutTold}
+use Rattle.vm_fault.proofs.Prelude.{put_at, raise-held, raise-works, RaiseTold, Reads, refl, ReleaseTold, Result, rules, Seat, seat_of, slice_index}
+use Rattle.vm_fault.proofs.Prelude.{Some, Start, Stored, Stores, stores-did, subst, sym, trans_word, true, two-loads, UNLOCKED, Version, View}
+use Rattle.vm_fault.proofs.Prelude.{without, word_of, Works, works-then, written-behind, written-front, ℕ, ◌++◌, ◌+◌, ◌<◌, ◌∙◌, ◌∷◌, ◌≡◌, ◌≤◌}
 
 module _ {X : Type 0} (p version : ℕ) (words : List ℕ) (before : List Did) (v x : View X) (h : IsHeldEmpty p version words before v x) where
   -- the block may be taken out
@@ -120,11 +112,9 @@ module _ {X : Type 0} (p version : ℕ) (words : List ℕ) (before : List Did) (
         pub may-give_up : (may_release : Start → List ℕ → List Change → List (Entry X) → Type 0) → p < x.start.pages → MayGiveUp may_release p version [] None i
         may-give_up may_release inside =
             let owns = still-owns p version words before worked-did v x i h work-installed in
-            let draft = still-draft p version words before worked-did v x i h work-installed in
             let last = still-last p version words before worked-did v x i h work-installed in
-            let free = still-free p version words before worked-did v x i h work-installed in
             let paid = still-paid p version words before worked-did v x i h work-installed in
-            let unchanged = draft ∙ ap (λ (y : Version). y.words) (sym last) in
+            let unchanged = still-draft p version words before worked-did v x i h work-installed ∙ ap (λ (y : Version). y.words) (sym last) in
             record {
               owns = owns;
               resident = subst (λ (y : Held). IsSome y.mapping) (sym held-installed) refl;
@@ -132,7 +122,7 @@ module _ {X : Type 0} (p version : ℕ) (words : List ℕ) (before : List Did) (
               home = not-out i out-installed;
               at = ap (λ (y : Version). y.version) (sym last);
               group = inl record {
-                members = (record { page = subst (λ (y : Origin). p < y.pages) (sym work-installed.leaves.start) inside; owns = owns; free = free; claimed = λ tells. inl unchanged }, tt);
+                members = (record { page = subst (λ (y : Origin). p < y.pages) (sym work-installed.leaves.start) inside; owns = owns; free = still-free p version words before worked-did v x i h work-installed; claimed = λ tells. inl unchanged }, tt);
                 apart = (refl, tt);
                 few = omega arith;
                 owner = λ tells. inl (refl, (unchanged, paid, tt));
@@ -204,15 +194,9 @@ module _ {X : Type 0} (p version : ℕ) (words : List ℕ) (before : List Did) (
       out-raised = ap (λ (z : View X). z.out) t.brings.view ∙ moved.away
 
       pub may-evict : MayEvict y p version
-      may-evict = record {
-        owns = still-owns p version words before raised-did v x y h work-raised;
-        empty = ap (λ (z : Held). z.mapping) held-raised ∙ h.empty;
-        told = subst (λ (z : Held). z.fault ≡ z.block.count) (sym held-raised) is;
-        home = not-out y out-raised;
-        at = ap (λ (z : Version). z.version) (sym (still-last p version words before raised-did v x y h work-raised));
-        free = still-free p version words before raised-did v x y h work-raised;
-        paid = still-paid p version words before raised-did v x y h work-raised;
-      }
+      may-evict =
+          let last = still-last p version words before raised-did v x y h work-raised in
+          search (rules, ap, still-owns p version words before raised-did v x y h work-raised, held-raised, h.empty, not-out y out-raised, last, still-free p version words before raised-did v x y h work-raised, still-paid p version words before raised-did v x y h work-raised)
 
       module _ (u : E) (err : result ≡ Err u) (bounded : new.count ≤ new.bound) (below : version < MAX_VERSION) (none : x.out ≡ None) (w : View X) (r : EvictTold p version y w) (inside : p < x.start.pages) where
         abbrev evict-did : Did

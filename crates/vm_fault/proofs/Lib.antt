@@ -1,5 +1,3 @@
-pub mod Evicted
-pub mod Ending
-pub mod StepPlaces
+pub mod Prelude
 pub mod Fetching
-pub mod Tries
+pub mod Ending

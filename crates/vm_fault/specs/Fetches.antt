@@ -1,14 +1,14 @@
 -- What bringing a page into a frame answers. A page that was evicted is released at its next version with the words that it had: resident in
 -- the frame, or evicted again where its block could not be read.
-use Rattle.std.specs.Prelude.{[], ◌++◌, ◌+◌, ◌<◌, ◌∷◌, ◌≡◌, ◌≢◌, ◌≤◌, ◌⊎◌, List, None, slice_index, Some, true, ℕ}
-use Rattle.vm_core.specs.Prelude.{EVICTED, MAX_VERSION, state_of, trans_word, UNLOCKED, version_of, word_of, WORDS}
+use Rattle.std.specs.Prelude.{[], List, None, slice_index, Some, true, ℕ, ◌++◌, ◌+◌, ◌<◌, ◌∷◌, ◌≡◌, ◌≢◌, ◌≤◌, ◌⊎◌}
 use Rattle.vm_core.specs.Fn as fns
+use Rattle.vm_core.specs.Prelude.{EVICTED, MAX_VERSION, state_of, trans_word, UNLOCKED, version_of, word_of, WORDS}
 use Rattle.vm_rule.specs.Prelude.{clean_in, Each, last_in, last_of, LockTold, LookTold, Start, without}
 use Rattle.vm_rule.specs.declared.view.Place.{Place}
 use Rattle.vm_rule.specs.declared.view.Place.TheVariants as places
+use Rattle.vm_step.specs.{declared.saw.Saw.Saw, Evidence.EvictedExpected}
 use Rattle.vm_step.specs.Prelude.{Did, GoesOnce, HasGiven, HasWritten, IsAlone, IsAside, IsLost, IsOfPage, IsSaw, KeepsFrames, known_word_at}
 use Rattle.vm_step.specs.Prelude.{KnowsElse, KnowsSame, NoWord, Release, RunsAlone, View}
-use Rattle.vm_step.specs.{declared.saw.Saw.Saw, Evidence.EvictedExpected}
 use Rattle.vm_step.specs.declared.saw.At.TheVariants as ats
 use Rattle.vm_fault.specs.declared.fault.Fetch.{Fetch}
 use Rattle.vm_fault.specs.declared.fault.Fetch.TheVariants as fetches

@@ -1,11 +1,7 @@
-use Rattle.std.proofs.Common.{[], ◌<◌, ◌≡◌, List, subst, sym, ℕ}
-use Rattle.vm_rule.specs.Prelude.{Each}
-use Rattle.vm_step.specs.Prelude.{IsCandidate, view}
-use Rattle.vm_evict.specs.{declared.candidate.Stage.Stage, Stages.MayBeginPhase}
 use Rattle.vm_evict.specs.declared.candidate.Phase.TheVariants as phases
 use Rattle.vm_evict.specs.declared.candidate.Stage.TheVariants as stages
-use Rattle.vm_evict.specs.Evictions.{candidate_at, IsBatch, stage_at}
 use Rattle.vm_evict.proofs.{Ended.ended, Ended.waiting-all, Gathering.each-at}
+use Rattle.vm_evict.proofs.Prelude.{[], candidate_at, Each, IsBatch, IsCandidate, List, MayBeginPhase, Stage, stage_at, subst, sym, view, ℕ, ◌<◌, ◌≡◌}
 use Rattle.vm_evict.proofs.evict.Goals as goal
 
 -- a candidate that waits may be saved

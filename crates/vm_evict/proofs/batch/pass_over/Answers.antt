@@ -1,9 +1,7 @@
-use Rattle.std.proofs.Common.{◌<◌, ◌∙◌, ◌≡◌, ◌≤◌, arith, length, refl, subst, sym, ℕ}
-use Rattle.std.proofs.lemmas.List.{length-set}
-use Rattle.vm_step.specs.Prelude.{IsCandidate, view}
-use Rattle.vm_evict.proofs.batch.pass_over.Goals as goal
 use Rattle.vm_evict.proofs.Gathering.{each-at}
 use Rattle.vm_evict.proofs.Passing.{back-more, front-more, passed-more, passed-none}
+use Rattle.vm_evict.proofs.Prelude.{arith, IsCandidate, length, length-set, refl, subst, sym, view, ℕ, ◌<◌, ◌∙◌, ◌≡◌, ◌≤◌}
+use Rattle.vm_evict.proofs.batch.pass_over.Goals as goal
 
 -- there is a stage for each candidate
 fits : (n m : ℕ) → n ≤ 64 → m ≡ 64 → n ≤ m
@@ -34,9 +32,6 @@ loop-i-init g c = record {
   back = λ j le b. c.requires.begins j b;
 }
 
-pub advance-requires-clause-ready : goal.advance-requires-clause-ready
-advance-requires-clause-ready g c = c.loop-i.invariant.ready
-
 pub advance-requires-clause-candidate : goal.advance-requires-clause-candidate
 advance-requires-clause-candidate g c = each-at (IsCandidate c.args.words.now.table.shared.key.pages) c.args.list.now c.loop-i.i c.loop-i-test.true c.requires.list.each
 
@@ -65,15 +60,6 @@ loop-i-preserved g c =
       front = front-more c.args.phase c.loop-i.stages c.loop-i.i c.advance.result (subst (λ (n : ℕ). c.loop-i.i < n) (sym inv.long) below) one.ends inv.front;
       back = back-more c.args.phase c.loop-i.stages c.loop-i.i c.advance.result (length c.args.list.now) inv.back;
     }
-
-pub returns-clause-pass : goal.returns-clause-pass
-returns-clause-pass g c = c.loop-i.invariant.same
-
-pub returns-clause-ready : goal.returns-clause-ready
-returns-clause-ready g c = c.loop-i.invariant.ready
-
-pub returns-clause-passed : goal.returns-clause-passed
-returns-clause-passed g c = c.loop-i.invariant.passed
 
 pub returns-clause-ends : goal.returns-clause-ends
 returns-clause-ends g c n b = c.loop-i.invariant.front n (after-all n c.loop-i.i _ c.loop-i-test.false b)

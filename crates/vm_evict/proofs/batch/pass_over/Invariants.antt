@@ -1,8 +1,6 @@
-use Rattle.std.proofs.Common.{◌<◌, ◌≡◌, ◌≤◌, length, ℕ}
-use Rattle.vm_step.specs.Prelude.{IsReady, IsSamePass, view}
-use Rattle.vm_evict.specs.{Evictions.stage_at, Stages.MayBeginPhase, Stages.MayEnd}
-use Rattle.vm_evict.proofs.batch.pass_over.Given as goal
 use Rattle.vm_evict.proofs.Passing.{Passes}
+use Rattle.vm_evict.proofs.Prelude.{IsReady, IsSamePass, length, MayBeginPhase, MayEnd, stage_at, view, ℕ, ◌<◌, ◌≡◌, ◌≤◌}
+use Rattle.vm_evict.proofs.batch.pass_over.Given as goal
 
 -- the candidates below i have passed the phase
 abbrev pub invariant-loop-i : goal.invariant-loop-i

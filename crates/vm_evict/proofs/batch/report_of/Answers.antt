@@ -1,6 +1,6 @@
-use Rattle.std.proofs.Common.{◌≡◌, ◌≤◌, arith, length, refl, subst, ℕ}
+use Rattle.vm_evict.proofs.Ended.{counts-fit, Reports, reports-more, reports-none}
+use Rattle.vm_evict.proofs.Prelude.{arith, length, refl, subst, ℕ, ◌≡◌, ◌≤◌}
 use Rattle.vm_evict.proofs.batch.report_of.Goals as goal
-use Rattle.vm_evict.proofs.Counting.{counts-fit, Reports, reports-more, reports-none}
 
 end : (n m : ℕ) → m ≤ n → n ≤ m → n ≡ m
 end n m ge le = omega (arith, ge, le)

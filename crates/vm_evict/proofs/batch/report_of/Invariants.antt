@@ -1,5 +1,5 @@
+use Rattle.vm_evict.proofs.Ended.{Reports}
 use Rattle.vm_evict.proofs.batch.report_of.Given as goal
-use Rattle.vm_evict.proofs.Counting.{Reports}
 
 -- the candidates below i are counted
 abbrev pub invariant-loop-i : goal.invariant-loop-i

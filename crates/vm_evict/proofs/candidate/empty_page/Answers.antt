@@ -1,12 +1,8 @@
-use Rattle.std.proofs.Common.{◌∙◌, ◌≡◌, subst, sym, ℕ}
-use Rattle.std.proofs.lemmas.Option.{same_Some}
-use Rattle.vm_step.specs.Prelude.{view}
-use Rattle.vm_step.proofs.Leaves.{ready-after}
 use Rattle.vm_evict.specs.declared.candidate.Phase.TheVariants as phases
 use Rattle.vm_evict.specs.declared.candidate.Stage.TheVariants as stages
-use Rattle.vm_evict.specs.Stages.{Advances}
-use Rattle.vm_evict.proofs.candidate.empty_page.Goals as goal
 use Rattle.vm_evict.proofs.Dropping.{emptied-so, may-clear, names}
+use Rattle.vm_evict.proofs.Prelude.{Advances, ready-after, same_Some, subst, sym, view, ℕ, ◌∙◌, ◌≡◌}
+use Rattle.vm_evict.proofs.candidate.empty_page.Goals as goal
 
 pub clear-requires-clause-legal : goal.clear-requires-clause-legal
 clear-requires-clause-legal g c = (c.requires.at.2.0, may-clear c.args.p c.args.word c.requires.at.2.0 c.args.written c.requires.at.1 c.requires.at.0 (view c.args.pass.now) c.requires.at.2.1 c.tload-translation.result (view c.tload-translation.new.pass) c.tload-translation.ensures.told)

@@ -1,8 +1,6 @@
-use Rattle.std.proofs.Common.{subst, ℕ}
-use Rattle.vm_rule.specs.Prelude.{EvictTold}
-use Rattle.vm_step.specs.Prelude.{view}
+use Rattle.vm_evict.proofs.Dropping.{freed-so, may-evict}
+use Rattle.vm_evict.proofs.Prelude.{EvictTold, subst, view, ℕ}
 use Rattle.vm_evict.proofs.candidate.leave_page.Goals as goal
-use Rattle.vm_evict.proofs.Releasing.{freed-so, may-evict}
 
 pub release_evicted-requires-clause-legal : goal.release_evicted-requires-clause-legal
 release_evicted-requires-clause-legal g c = may-evict c.args.p c.args.word c.args.frame c.args.written c.requires.candidate.marked c.requires.candidate.below c.requires.at.1 c.requires.at.0 (view c.args.pass.now) c.requires.at.2 c.version.result c.version.ensures c.requires.home

@@ -1,8 +1,6 @@
-use Rattle.std.proofs.Common.{refl}
-use Rattle.vm_step.specs.Prelude.{view}
 use Rattle.vm_evict.specs.declared.candidate.Phase.TheVariants as phases
 use Rattle.vm_evict.specs.declared.candidate.Stage.TheVariants as stages
-use Rattle.vm_evict.proofs.{Locking.locked-so, Locking.lost-so, Moving.gives-nothing}
+use Rattle.vm_evict.proofs.{Locking.locked-so, Locking.lost-so, Moving.gives-nothing, Prelude.refl, Prelude.view}
 use Rattle.vm_evict.proofs.candidate.lock_clean.Goals as goal
 
 pub returns-in-Lost-clause-moved : goal.returns-in-Lost-clause-moved

@@ -1,8 +1,6 @@
-use Rattle.std.proofs.Common.{◌∙◌, ap}
-use Rattle.vm_core.specs.Prelude.{word_of}
-use Rattle.vm_step.specs.Prelude.{view}
+use Rattle.vm_evict.proofs.Locking.{may-give, may-raise, raise-lost, raised-so}
+use Rattle.vm_evict.proofs.Prelude.{ap, view, word_of, ◌∙◌}
 use Rattle.vm_evict.proofs.candidate.raise_shared.Goals as goal
-use Rattle.vm_evict.proofs.Owning.{lost-so, may-give, may-raise, raised-so}
 
 pub upgrade-requires-clause-legal : goal.upgrade-requires-clause-legal
 upgrade-requires-clause-legal g c = may-raise g.U.Owner.tied c.args.p c.args.word c.args.written c.requires.at.1 c.requires.at.0 (view c.args.pass.now) c.requires.at.2.0 c.of-shared.result (c.of-shared.ensures ∙ ap (word_of 1) c.version.ensures) c.requires.candidate.below
@@ -14,4 +12,4 @@ pub unlock_shared-requires-clause-legal : goal.unlock_shared-requires-clause-leg
 unlock_shared-requires-clause-legal g c = may-give g.U.Owner.tied c.args.p c.args.word c.args.written c.requires.at.1 c.requires.at.0 (view c.args.pass.now) c.requires.at.2.0 c.of-shared.result c.in-Lost.field-0 (c.of-shared.ensures ∙ ap (word_of 1) c.version.ensures) (c.upgrade.ensures.lost c.in-Lost.field-0 c.in-Lost.is) (view c.upgrade.new.pass) c.in-Lost.ensures.told c.requires.home
 
 pub returns-in-Lost-clause-moved : goal.returns-in-Lost-clause-moved
-returns-in-Lost-clause-moved g c v done h = lost-so g.U.Owner.tied c.args.p c.args.word c.args.written done v (view c.args.pass.now) h.0 c.of-shared.result c.in-Lost.field-0 (c.of-shared.ensures ∙ ap (word_of 1) c.version.ensures) (c.upgrade.ensures.lost c.in-Lost.field-0 c.in-Lost.is) (view c.upgrade.new.pass) c.in-Lost.ensures.told c.unlock_shared.result (view c.unlock_shared.new.pass) c.unlock_shared.ensures.told
+returns-in-Lost-clause-moved g c v done h = raise-lost g.U.Owner.tied c.args.p c.args.word c.args.written done v (view c.args.pass.now) h.0 c.of-shared.result c.in-Lost.field-0 (c.of-shared.ensures ∙ ap (word_of 1) c.version.ensures) (c.upgrade.ensures.lost c.in-Lost.field-0 c.in-Lost.is) (view c.upgrade.new.pass) c.in-Lost.ensures.told c.unlock_shared.result (view c.unlock_shared.new.pass) c.unlock_shared.ensures.told

@@ -1,13 +1,10 @@
-use Rattle.std.proofs.Common.{◌∙◌, false, refl}
-use Rattle.vm_step.specs.Prelude.{view}
 use Rattle.vm_evict.specs.declared.candidate.Phase.TheVariants as phases
 use Rattle.vm_evict.specs.declared.candidate.Stage.TheVariants as stages
-use Rattle.vm_evict.specs.Phases.{shares}
-use Rattle.vm_evict.proofs.candidate.save_marked.Goals as goal
+use Rattle.vm_evict.proofs.{Moving.advances-after, Moving.gives-nothing, Saving.failed-so, Saving.written-so}
 use Rattle.vm_evict.proofs.Locking.{lost-so, share-known, share-quiet, writing}
-use Rattle.vm_evict.proofs.Moving.{advances-after, gives-nothing, none-shared, none-waiting}
-use Rattle.vm_evict.proofs.Saving.{failed-so, written-so}
-use Rattle.vm_evict.proofs.WriteLocks.{lock-now, may-unshare, under-write-back}
+use Rattle.vm_evict.proofs.Prelude.{false, refl, shares, view, ◌∙◌}
+use Rattle.vm_evict.proofs.Taken.{lock-now, may-unshare, under-write-back}
+use Rattle.vm_evict.proofs.candidate.save_marked.Goals as goal
 
 pub returns-in-Lost-clause-moved : goal.returns-in-Lost-clause-moved
 returns-in-Lost-clause-moved g c v done h why =
@@ -26,7 +23,7 @@ pub returns-in-Ok-clause-moved : goal.returns-in-Ok-clause-moved
 returns-in-Ok-clause-moved g c v done h why =
     advances-after (c.args.p, c.args.word) stages.Waiting (stages.Shared false) (stages.Shared c.in-Ok.written) done _ v (view c.args.pass.now) (view c.lock_write_back.new.pass) (view c.write_where_dirty.new.pass)
     (share-quiet g.U.Owner.tied c.args.p c.args.word c.requires.candidate.marked done v (view c.args.pass.now) (view c.lock_write_back.new.pass) h c.in_default.ensures.told)
-    (none-waiting (view c.args.pass.now) (c.args.p, c.args.word)) (none-shared (view c.lock_write_back.new.pass) (c.args.p, c.args.word) false)
+    refl refl refl
     (share-known g.U.Owner.tied c.args.p c.args.word c.requires.candidate.marked done v (view c.args.pass.now) (view c.lock_write_back.new.pass) h c.in_default.ensures.told)
     (written-so c.args.p c.args.word _ v (view c.lock_write_back.new.pass) (view c.write_where_dirty.new.pass) (writing g.U.Owner.tied c.args.p c.args.word c.requires.candidate.marked done v (view c.args.pass.now) (view c.lock_write_back.new.pass) h c.in_default.ensures.told why) c.in-Ok.written c.in-Ok.ensures.written)
 
@@ -34,6 +31,6 @@ pub returns-in-Err-clause-moved : goal.returns-in-Err-clause-moved
 returns-in-Err-clause-moved g c v done h why =
     advances-after (c.args.p, c.args.word) stages.Waiting (stages.Shared false) (stages.Failed c.in-Err.count) done _ v (view c.args.pass.now) (view c.lock_write_back.new.pass) (view c.unlock_shared.new.pass)
     (share-quiet g.U.Owner.tied c.args.p c.args.word c.requires.candidate.marked done v (view c.args.pass.now) (view c.lock_write_back.new.pass) h c.in_default.ensures.told)
-    (none-waiting (view c.args.pass.now) (c.args.p, c.args.word)) (none-shared (view c.lock_write_back.new.pass) (c.args.p, c.args.word) false)
+    refl refl refl
     (share-known g.U.Owner.tied c.args.p c.args.word c.requires.candidate.marked done v (view c.args.pass.now) (view c.lock_write_back.new.pass) h c.in_default.ensures.told)
     (failed-so c.args.p c.args.word _ v (view c.lock_write_back.new.pass) (view c.write_where_dirty.new.pass) (writing g.U.Owner.tied c.args.p c.args.word c.requires.candidate.marked done v (view c.args.pass.now) (view c.lock_write_back.new.pass) h c.in_default.ensures.told why) c.in-Err.count c.in-Err.ensures.written c.unlock_shared.result (view c.unlock_shared.new.pass) c.unlock_shared.ensures.told)

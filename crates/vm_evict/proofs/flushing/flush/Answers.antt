@@ -1,15 +1,10 @@
 -- Page after page gives each clause.
-use Rattle.std.proofs.Common.{◌+◌, ◌<◌, ◌∙◌, ◌≡◌, ◌≤◌, arith, refl, subst, suc, sym}
-use Rattle.vm_step.specs.Prelude.{view}
-use Rattle.vm_evict.specs.Flushes.{done_of, IsFlushedTo}
-use Rattle.vm_evict.proofs.flushing.flush.Goals as goal
 use Rattle.vm_evict.proofs.FlushPages.{flushed-more, flushed-none}
+use Rattle.vm_evict.proofs.Prelude.{arith, done_of, IsFlushedTo, refl, subst, suc, sym, view, ◌+◌, ◌<◌, ◌∙◌, ◌≡◌, ◌≤◌}
+use Rattle.vm_evict.proofs.flushing.flush.Goals as goal
 
 pub loop-p-init : goal.loop-p-init
 loop-p-init g c = record { same = (refl, refl); ready = c.requires.ready; flushed = flushed-none (view c.args.pass.now) }
-
-pub visit-requires-clause-ready : goal.visit-requires-clause-ready
-visit-requires-clause-ready g c = c.loop-p.invariant.ready
 
 pub visit-requires-clause-home : goal.visit-requires-clause-home
 visit-requires-clause-home g c = c.loop-p.invariant.flushed.aside.out ∙ c.requires.home
@@ -31,12 +26,6 @@ loop-p-preserved g c =
       flushed = subst (λ n. IsFlushedTo n c.visit.new.flushed (view c.args.pass.now) (view c.visit.new.pass)) next
           (flushed-more _ _ _ _ _ _ (subst (λ n. c.loop-p.p < n) pages c.loop-p-test.true) c.loop-p.invariant.flushed c.visit.ensures.visited);
     }
-
-pub returns-clause-pass : goal.returns-clause-pass
-returns-clause-pass g c = c.loop-p.invariant.same
-
-pub returns-clause-ready : goal.returns-clause-ready
-returns-clause-ready g c = c.loop-p.invariant.ready
 
 pub returns-clause-flushed : goal.returns-clause-flushed
 returns-clause-flushed g c =

@@ -1,5 +1,4 @@
-use Rattle.vm_step.specs.Prelude.{IsReady, IsSamePass, view}
-use Rattle.vm_evict.specs.Flushes.{IsFlushedTo}
+use Rattle.vm_evict.proofs.Prelude.{IsFlushedTo, IsReady, IsSamePass, view}
 use Rattle.vm_evict.proofs.flushing.flush.Given as goal
 
 -- the pages below p were visited

@@ -1,30 +1,28 @@
-use Rattle.std.proofs.Common.{◌<◌, ◌∙◌, refl, subst, sym}
-use Rattle.vm_evict.proofs.FlushAlone.{page-before, settles-clean, settles-lock-lost, settles-mark-lost, settles-write}
+-- What the steps tell, in the order of the visit: the page that the look is at is one of the table.
+use Rattle.vm_evict.proofs.{FlushMarks.dirty-there, FlushMarks.not-dirty, Writing.still-locked}
+use Rattle.vm_evict.proofs.FlushVisits.{by-load-clean, by-lock-lost, by-mark-lost, by-write, home-front, page-before}
+use Rattle.vm_evict.proofs.Prelude.{ap, MARKED, MAX_VERSION, refl, state_of, subst, sym, version-within, word-state, word_of, ℕ, ◌<◌, ◌∙◌, ◌≤◌}
+use Rattle.vm_evict.proofs.Taken.{lock-now, may-unshare, under-write-back}
 use Rattle.vm_evict.proofs.flushing.visit_unheld.Goals as goal
-use Rattle.vm_evict.proofs.FlushMarks.{dirty-there, marked-is, marked-state, none-there, not-dirty}
-use Rattle.vm_evict.proofs.FlushVisits.{by-load-clean, by-lock-lost, by-mark-lost, by-write, home-front}
-use Rattle.vm_evict.proofs.WriteEnds.{still-locked}
-use Rattle.vm_evict.proofs.WriteLocks.{lock-now, may-unshare, under-write-back}
 
 pub returns-then-is_none-clause-visited : goal.returns-then-is_none-clause-visited
 returns-then-is_none-clause-visited g c v look =
-    let clean = not-dirty _ _ (none-there _ c.if-is_none.ensures) c.dirty_frame.ensures in
-    record {
-      ends = by-load-clean c.args.p g.U.Owner.tied _ v _ look c.args.flushed.now _ _ c.tload.ensures.told c.requires.unheld clean;
-      settles = settles-clean c.args.p g.U.Owner.tied _ v _ look c.args.flushed.now (page-before c.args.p g.U.Owner.tied _ v _ look c.args.flushed.now (subst (λ n. c.args.p < n) (sym c.requires.ready.table.is_shape.pages) c.requires.page)) _ _ c.tload.ensures.told c.requires.unheld clean;
-    }
+    let page = page-before c.args.p g.U.Owner.tied _ v _ look c.args.flushed.now (subst (λ n. c.args.p < n) (sym c.requires.ready.table.is_shape.pages) c.requires.page) in
+    by-load-clean c.args.p g.U.Owner.tied _ v _ look c.args.flushed.now page _ _ c.tload.ensures.told c.requires.unheld (not-dirty _ _ c.dirty_frame.ensures c.if-is_none.ensures)
 
 pub returns-in-Lost-clause-visited : goal.returns-in-Lost-clause-visited
-returns-in-Lost-clause-visited g c v look = record {
-  ends = by-mark-lost c.args.p g.U.Owner.tied _ v _ look c.args.flushed.now _ _ c.tload.ensures.told c.in-Lost.field-0 _ c.in-Lost.ensures.marks (dirty-there _ _ c.dirty_frame.ensures c.if-is_none.ensures);
-  settles = settles-mark-lost c.args.p g.U.Owner.tied _ v _ look c.args.flushed.now (page-before c.args.p g.U.Owner.tied _ v _ look c.args.flushed.now (subst (λ n. c.args.p < n) (sym c.requires.ready.table.is_shape.pages) c.requires.page)) _ _ c.tload.ensures.told c.requires.unheld _ c.in-Lost.field-0 _ c.in-Lost.ensures.marks;
-}
+returns-in-Lost-clause-visited g c v look =
+    let page = page-before c.args.p g.U.Owner.tied _ v _ look c.args.flushed.now (subst (λ n. c.args.p < n) (sym c.requires.ready.table.is_shape.pages) c.requires.page) in
+    by-mark-lost c.args.p g.U.Owner.tied _ v _ look c.args.flushed.now page _ _ c.tload.ensures.told c.requires.unheld (dirty-there _ _ c.dirty_frame.ensures c.if-is_none.ensures) c.in-Lost.field-0 _ c.in-Lost.ensures.marks
 
 pub lock_write_back-requires-clause-legal : goal.lock_write_back-requires-clause-legal
-lock_write_back-requires-clause-legal g c = marked-state _ _ c.args.word c.of-marked.ensures c.version.ensures
+lock_write_back-requires-clause-legal g c = ap state_of c.of-marked.ensures ∙ word-state MARKED c.version.result (subst (λ (n : ℕ). n ≤ MAX_VERSION) (sym c.version.ensures) (version-within c.args.word))
 
 pub write_where_dirty-wrote-requires-clause-legal : goal.write_where_dirty-wrote-requires-clause-legal
-write_where_dirty-wrote-requires-clause-legal g c = under-write-back c.in-Taken.ensures.told (home-front c.args.p g.U.Owner.tied _ _ _ c.requires.looked.1 c.args.flushed.now _ _ c.tload.ensures.told _ c.in_default.ensures.marks c.requires.home)
+write_where_dirty-wrote-requires-clause-legal g c =
+    let page = page-before c.args.p g.U.Owner.tied _ _ _ c.requires.looked.1 c.args.flushed.now (subst (λ n. c.args.p < n) (sym c.requires.ready.table.is_shape.pages) c.requires.page) in
+    under-write-back c.in-Taken.ensures.told
+    (home-front c.args.p g.U.Owner.tied _ _ _ c.requires.looked.1 c.args.flushed.now page _ _ c.tload.ensures.told c.requires.unheld (dirty-there _ _ c.dirty_frame.ensures c.if-is_none.ensures) _ c.in_default.ensures.marks c.requires.home)
 
 pub unlock_shared-requires-clause-legal : goal.unlock_shared-requires-clause-legal
 unlock_shared-requires-clause-legal g c =
@@ -33,17 +31,12 @@ unlock_shared-requires-clause-legal g c =
 
 pub returns-in-Lost-lock_write_back-clause-visited : goal.returns-in-Lost-lock_write_back-clause-visited
 returns-in-Lost-lock_write_back-clause-visited g c v look =
-    let other = c.in-Lost-lock_write_back.ensures.lost _ refl in
-    let told = c.in-Lost-lock_write_back.ensures.told in
-    record {
-      ends = by-lock-lost c.args.p g.U.Owner.tied _ v _ look c.args.flushed.now _ _ c.tload.ensures.told _ c.in_default.ensures.marks _ (marked-is _ _ _ c.of-marked.ensures c.version.ensures) _ _ other told (dirty-there _ _ c.dirty_frame.ensures c.if-is_none.ensures);
-      settles = settles-lock-lost c.args.p g.U.Owner.tied _ v _ look c.args.flushed.now (page-before c.args.p g.U.Owner.tied _ v _ look c.args.flushed.now (subst (λ n. c.args.p < n) (sym c.requires.ready.table.is_shape.pages) c.requires.page)) _ _ c.tload.ensures.told c.requires.unheld _ c.in_default.ensures.marks _ (marked-is _ _ _ c.of-marked.ensures c.version.ensures) _ _ _ other told;
-    }
+    let page = page-before c.args.p g.U.Owner.tied _ v _ look c.args.flushed.now (subst (λ n. c.args.p < n) (sym c.requires.ready.table.is_shape.pages) c.requires.page) in
+    by-lock-lost c.args.p g.U.Owner.tied _ v _ look c.args.flushed.now page _ _ c.tload.ensures.told c.requires.unheld (dirty-there _ _ c.dirty_frame.ensures c.if-is_none.ensures) _ c.in_default.ensures.marks _ (c.of-marked.ensures ∙ ap (word_of MARKED) c.version.ensures) _ _ (c.in-Lost-lock_write_back.ensures.lost _ refl) c.in-Lost-lock_write_back.ensures.told
 
 pub returns-in-Taken-clause-visited : goal.returns-in-Taken-clause-visited
 returns-in-Taken-clause-visited g c v look =
-    let wrote = c.write_where_dirty-wrote.ensures.written in
-    record {
-      ends = by-write c.args.p g.U.Owner.tied _ v _ look c.args.flushed.now _ _ c.tload.ensures.told _ c.in_default.ensures.marks _ (marked-is _ _ _ c.of-marked.ensures c.version.ensures) (home-front c.args.p g.U.Owner.tied _ _ _ c.requires.looked.1 c.args.flushed.now _ _ c.tload.ensures.told _ c.in_default.ensures.marks c.requires.home) _ c.in-Taken.ensures.told _ _ _ c.unlock_shared.ensures.told c.requires.unheld (dirty-there _ _ c.dirty_frame.ensures c.if-is_none.ensures) _ wrote _ c.count.ensures.counted;
-      settles = settles-write c.args.p g.U.Owner.tied _ v _ look c.args.flushed.now (page-before c.args.p g.U.Owner.tied _ v _ look c.args.flushed.now (subst (λ n. c.args.p < n) (sym c.requires.ready.table.is_shape.pages) c.requires.page)) _ _ c.tload.ensures.told c.requires.unheld _ c.in_default.ensures.marks _ (marked-is _ _ _ c.of-marked.ensures c.version.ensures) _ c.in-Taken.ensures.told _ _ _ c.unlock_shared.ensures.told _ wrote _ c.count.ensures.counted;
-    }
+    let page = page-before c.args.p g.U.Owner.tied _ v _ look c.args.flushed.now (subst (λ n. c.args.p < n) (sym c.requires.ready.table.is_shape.pages) c.requires.page) in
+    let there = dirty-there _ _ c.dirty_frame.ensures c.if-is_none.ensures in
+    let home = home-front c.args.p g.U.Owner.tied _ v _ look c.args.flushed.now page _ _ c.tload.ensures.told c.requires.unheld there _ c.in_default.ensures.marks c.requires.home in
+    by-write c.args.p g.U.Owner.tied _ v _ look c.args.flushed.now page _ _ c.tload.ensures.told c.requires.unheld there _ c.in_default.ensures.marks _ (c.of-marked.ensures ∙ ap (word_of MARKED) c.version.ensures) home _ c.in-Taken.ensures.told _ _ _ c.unlock_shared.ensures.told _ c.write_where_dirty-wrote.ensures.written _ c.count.ensures.counted

@@ -1,7 +1,5 @@
-use Rattle.std.proofs.Common.{◌∙◌, ◌≡◌, ◌≤◌, ap, arith, length, refl, ℕ}
-use Rattle.vm_step.specs.Prelude.{view}
-use Rattle.vm_step.proofs.Leaves.{ready-after}
-use Rattle.vm_evict.proofs.Copying.{copied, copies-more, copies-none, reads-same}
+use Rattle.vm_evict.proofs.Prelude.{ap, arith, length, ready-after, refl, view, ℕ, ◌∙◌, ◌≡◌, ◌≤◌}
+use Rattle.vm_evict.proofs.Writing.{copied, copies-more, copies-none, reads-same}
 use Rattle.vm_evict.proofs.write.copy_page.Goals as goal
 
 sixty-four : (i : ℕ) → 64 ≤ i → i ≤ 64 → i ≡ 64
@@ -9,11 +7,11 @@ sixty-four i ge le = omega (arith, ge, le)
 
 pub load-requires-clause-pass : goal.load-requires-clause-pass
 load-requires-clause-pass g c =
-    (ready-after _ _ _ c.args.pass.now c.loop-i.pass c.args.p _ c.loop-i.invariant.same c.loop-i.invariant.copies.works.leaves c.requires.ready).may
+    (ready-after _ _ _ c.args.pass.now c.loop-i.pass c.args.p _ c.loop-i.invariant.same c.loop-i.invariant.copies.from.works.leaves c.requires.ready).may
 
 pub load-requires-clause-frame : goal.load-requires-clause-frame
 load-requires-clause-frame g c =
-    reads-same c.args.p (view c.args.pass.now) (view c.loop-i.pass) c.loop-i.invariant.copies.works.seat c.loop-i.invariant.copies.held ∙ c.requires.frame
+    reads-same c.args.p (view c.args.pass.now) (view c.loop-i.pass) c.loop-i.invariant.copies.from.works.seat c.loop-i.invariant.copies.from.held ∙ c.requires.frame
 
 pub loop-i-init : goal.loop-i-init
 loop-i-init g c = record { same = (refl, refl); copies = copies-none c.args.p c.zero-page.result (view c.args.pass.now) (ap length c.zero-page.ensures) }
@@ -27,7 +25,7 @@ loop-i-preserved g c = record {
 }
 
 pub returns-clause-ready : goal.returns-clause-ready
-returns-clause-ready g c = ready-after _ _ _ c.args.pass.now c.loop-i.pass c.args.p _ c.loop-i.invariant.same c.loop-i.invariant.copies.works.leaves c.requires.ready
+returns-clause-ready g c = ready-after _ _ _ c.args.pass.now c.loop-i.pass c.args.p _ c.loop-i.invariant.same c.loop-i.invariant.copies.from.works.leaves c.requires.ready
 
 pub returns-clause-copied : goal.returns-clause-copied
 returns-clause-copied g c =

@@ -1,5 +1,4 @@
-use Rattle.vm_step.specs.Prelude.{IsSamePass, view}
-use Rattle.vm_evict.proofs.Copying.{Copies}
+use Rattle.vm_evict.proofs.{Prelude.IsSamePass, Prelude.view, Writing.Copies}
 use Rattle.vm_evict.proofs.write.copy_page.Given as goal
 
 -- the words below i were loaded

@@ -1,10 +1,8 @@
-use Rattle.std.specs.Int.{bit_at}
-use Rattle.std.proofs.Common.{[], ◌*◌, ◌++◌, ◌+◌, ◌∙◌, ◌∷◌, ◌≡◌, ap, arith, bit_and, length, length-append, List, sym, ℕ}
-use Rattle.std.proofs.lemmas.Nat.Bits.{shr_and_one}
-use Rattle.vm_rule.specs.Prelude.{frames_below}
-use Rattle.vm_exmap.proofs.bits.frames_of.Goals.{else-mask-i-eq1, then-mask-i-eq1}
-use Rattle.vm_exmap.proofs.bits.frames_of.Goals as goal
 use Rattle.vm_exmap.proofs.BundleBits.{all-below, below-clear, below-set}
+use Rattle.vm_exmap.proofs.Prelude.{[], ap, arith, bit_and, bit_at, frames_below, length, length-append, List, shr_and_one, sym, ℕ, ◌*◌, ◌++◌, ◌+◌}
+use Rattle.vm_exmap.proofs.Prelude.{◌∙◌, ◌∷◌, ◌≡◌}
+use Rattle.vm_exmap.proofs.bits.frames_of.Goals as goal
+use Rattle.vm_exmap.proofs.bits.frames_of.Goals.{else-mask-i-eq1, then-mask-i-eq1}
 
 pub loop-i-preserved : goal.loop-i-preserved
 loop-i-preserved c =

@@ -1,5 +1,4 @@
-use Rattle.std.proofs.Common.{◌≡◌, ◌≤◌, length}
-use Rattle.vm_rule.specs.Prelude.{frames_below}
+use Rattle.vm_exmap.proofs.Prelude.{frames_below, length, ◌≡◌, ◌≤◌}
 use Rattle.vm_exmap.proofs.bits.frames_of.Given as goal
 
 -- the frames of the first i bits

@@ -1,11 +1,8 @@
-use Rattle.std.proofs.Common.{[], ◌%◌, ◌++◌, ◌+◌, ◌^◌, ◌∙◌, ◌∷◌, ◌≡◌, ap, arith, bit_or, get_or, suc, sym, take, ℕ}
-use Rattle.std.proofs.lemmas.Nat.{one_shl}
-use Rattle.std.proofs.Math.Seq.{take-suc}
-use Rattle.vm_core.specs.Prelude.{in_mask}
-use Rattle.vm_exmap.specs.Returns.{is_of}
-use Rattle.vm_exmap.proofs.bits.mask_of.Goals.{else-frame-g, then-frame-g}
-use Rattle.vm_exmap.proofs.bits.mask_of.Goals as goal
 use Rattle.vm_exmap.proofs.BundleBits.{mask-more, mask-none, mask-same}
+use Rattle.vm_exmap.proofs.Prelude.{[], ap, arith, bit_or, get_or, in_mask, is_of, one_shl, suc, sym, take, take-suc, ℕ, ◌%◌, ◌++◌, ◌+◌, ◌^◌, ◌∙◌}
+use Rattle.vm_exmap.proofs.Prelude.{◌∷◌, ◌≡◌}
+use Rattle.vm_exmap.proofs.bits.mask_of.Goals as goal
+use Rattle.vm_exmap.proofs.bits.mask_of.Goals.{else-frame-g, then-frame-g}
 
 pub loop-frame-init : goal.loop-frame-init
 loop-frame-init c f = mask-none c.args.g f

@@ -1,6 +1,4 @@
-use Rattle.std.proofs.Common.{◌≡◌, take, ℕ}
-use Rattle.vm_core.specs.Prelude.{in_mask}
-use Rattle.vm_exmap.specs.Returns.{is_of}
+use Rattle.vm_exmap.proofs.Prelude.{in_mask, is_of, take, ℕ, ◌≡◌}
 use Rattle.vm_exmap.proofs.bits.mask_of.Given as goal
 
 -- the bits of the first frames

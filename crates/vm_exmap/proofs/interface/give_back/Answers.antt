@@ -1,10 +1,9 @@
 -- The bits of each bundle are those of the frames that are left there.
-use Rattle.std.proofs.Common.{◌<◌, ◌∙◌, ◌≡◌, arith, subst}
-use Rattle.vm_step.specs.Prelude.{IsSamePass, view}
 use Rattle.vm_exmap.proofs.{FrameMoves.ready-after, interface.give_back.Goals.else-mask-ne0, interface.give_back.Goals.then-mask-ne0}
 use Rattle.vm_exmap.proofs.{Walking.bundle-count}
-use Rattle.vm_exmap.proofs.interface.give_back.Goals as goal
+use Rattle.vm_exmap.proofs.Prelude.{arith, IsSamePass, subst, view, ◌<◌, ◌∙◌, ◌≡◌}
 use Rattle.vm_exmap.proofs.Returning.{all-given, given-more, given-none, may-give}
+use Rattle.vm_exmap.proofs.interface.give_back.Goals as goal
 
 pub give-requires-clause-legal : goal.give-requires-clause-legal
 give-requires-clause-legal g c =

@@ -1,6 +1,6 @@
-use Rattle.vm_step.specs.Prelude.{IsReady, IsSamePass, view}
-use Rattle.vm_exmap.proofs.interface.give_back.Given as goal
+use Rattle.vm_exmap.proofs.Prelude.{IsReady, IsSamePass, view}
 use Rattle.vm_exmap.proofs.Returning.{AreGivenBelow}
+use Rattle.vm_exmap.proofs.interface.give_back.Given as goal
 
 -- the frames of the first g bundles went back
 abbrev pub invariant-loop-g : goal.invariant-loop-g

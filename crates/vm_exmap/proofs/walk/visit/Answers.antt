@@ -1,7 +1,6 @@
 -- The lowest bits of a word that is not 0 are some; taken or lost, the load and the exchange are the visit.
-use Rattle.std.proofs.Common.{refl}
-use Rattle.vm_exmap.proofs.BundleBits.{some-lowest, some-taken}
-use Rattle.vm_exmap.proofs.Visiting.{bundle-inside, empty-visit, lost-visit, taken-visit}
+use Rattle.vm_exmap.proofs.{BundleBits.some-lowest, BundleBits.some-taken, Prelude.refl}
+use Rattle.vm_exmap.proofs.Walking.{bundle-inside, empty-visit, lost-visit, taken-visit}
 use Rattle.vm_exmap.proofs.walk.visit.Goals as goal
 
 pub take-requires-clause-legal : goal.take-requires-clause-legal

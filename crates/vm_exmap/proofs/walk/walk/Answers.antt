@@ -1,9 +1,8 @@
 -- Each visit is to the next bundle of the walk: it is passed by, or the walk ends there.
-use Rattle.std.proofs.Common.{◌+◌, ◌<◌, ◌∙◌, ◌≡◌, arith, subst, sym}
-use Rattle.vm_step.specs.Prelude.{IsSamePass, view}
-use Rattle.vm_exmap.proofs.walk.walk.Goals.{in-Empty, in-Lost}
-use Rattle.vm_exmap.proofs.walk.walk.Goals as goal
+use Rattle.vm_exmap.proofs.Prelude.{arith, IsSamePass, subst, sym, view, ◌+◌, ◌<◌, ◌∙◌, ◌≡◌}
 use Rattle.vm_exmap.proofs.Walking.{bundle-count, comes-to, finds, IsUnderWay, pass-empty, pass-lost, walked-dry}
+use Rattle.vm_exmap.proofs.walk.walk.Goals as goal
+use Rattle.vm_exmap.proofs.walk.walk.Goals.{in-Empty, in-Lost}
 
 pub returns-in-Taken-clause-walk : goal.returns-in-Taken-clause-walk
 returns-in-Taken-clause-walk g c =

@@ -1,6 +1,6 @@
-use Rattle.vm_step.specs.Prelude.{IsReady, IsSamePass, view}
-use Rattle.vm_exmap.proofs.walk.walk.Given as goal
+use Rattle.vm_exmap.proofs.Prelude.{IsReady, IsSamePass, view}
 use Rattle.vm_exmap.proofs.Walking.{IsUnderWay}
+use Rattle.vm_exmap.proofs.walk.walk.Given as goal
 
 -- the first k bundles of the walk were passed by
 abbrev pub invariant-loop-k : goal.invariant-loop-k

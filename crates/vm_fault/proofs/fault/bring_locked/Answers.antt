@@ -1,12 +1,9 @@
-use Rattle.std.proofs.Common.{◌<◌, ◌∙◌, ◌≤◌, ap, arith, refl, subst, sym, ℕ}
-use Rattle.vm_core.specs.Prelude.{MAX_VERSION}
-use Rattle.vm_rule.specs.Prelude.{has, Seat}
-use Rattle.vm_step.specs.Prelude.{Origin, View}
-use Rattle.vm_step.proofs.{Device.goes-out, Device.may-bring, Leaves.ready-after, Leaves.ready-on}
-use Rattle.vm_fault.proofs.Evicted.{held-empty}
-use Rattle.vm_fault.proofs.fault.bring_locked.Goals as goal
+use Rattle.vm_fault.proofs.Ending.{held-empty}
 use Rattle.vm_fault.proofs.Fetching.{brought, failed, frames-called, may-evict, may-give_up, may-put, may-raise, may-take-out, work-called}
 use Rattle.vm_fault.proofs.Fetching.{work-raised}
+use Rattle.vm_fault.proofs.Prelude.{ap, arith, goes-out, has, MAX_VERSION, may-bring, Origin, ready-after, ready-on, refl, Seat, subst, sym, View, ℕ}
+use Rattle.vm_fault.proofs.Prelude.{◌<◌, ◌∙◌, ◌≤◌}
+use Rattle.vm_fault.proofs.fault.bring_locked.Goals as goal
 
 within : (n : ℕ) → n < MAX_VERSION → n ≤ MAX_VERSION
 within n l = omega arith

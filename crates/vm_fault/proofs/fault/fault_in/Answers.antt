@@ -1,11 +1,7 @@
-use Rattle.std.proofs.Common.{◌<◌, ◌∙◌, ◌≡◌, ◌≢◌, ◌≤◌, ap, arith, inr, refl, subst, sym, ℕ}
-use Rattle.vm_core.specs.Prelude.{EVICTED, MAX_VERSION, state_of, version_of, word_of}
-use Rattle.vm_rule.specs.Prelude.{LockTold}
-use Rattle.vm_rule.proofs.WordFacts.{version-within, word-state, word-version}
-use Rattle.vm_step.specs.Prelude.{view}
-use Rattle.vm_fault.specs.Fetches.{IsFetched}
+use Rattle.vm_fault.proofs.Ending.{lost, worn-in, worn-out}
+use Rattle.vm_fault.proofs.Prelude.{ap, arith, EVICTED, inr, IsFetched, LockTold, MAX_VERSION, refl, state_of, subst, sym, version-within, version_of}
+use Rattle.vm_fault.proofs.Prelude.{view, word-state, word-version, word_of, ℕ, ◌<◌, ◌∙◌, ◌≡◌, ◌≢◌, ◌≤◌}
 use Rattle.vm_fault.proofs.fault.fault_in.Goals as goal
-use Rattle.vm_fault.proofs.Tries.{lost, worn-in, worn-out}
 
 -- the version of a word
 fits : (word version : ℕ) → version ≡ version_of word → version < 72057594037927936

@@ -1,7 +1,6 @@
 -- What stays with the interface is part of what it had, or of what was taken, and that is held.
-use Rattle.std.proofs.Common.{List, subst, ℕ}
-use Rattle.vm_step.specs.Prelude.{AreHeld, view}
 use Rattle.vm_exmap.proofs.Handing.{held-rest}
+use Rattle.vm_exmap.proofs.Prelude.{AreHeld, List, subst, view, ℕ}
 use Rattle.vm_exmap.proofs.interface.Interface.alloc.Goals as goal
 
 pub returns-then-not-is_empty-clause-held : goal.returns-then-not-is_empty-clause-held

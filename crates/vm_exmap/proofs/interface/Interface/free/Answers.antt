@@ -1,7 +1,6 @@
 -- What is kept and what is given are the two parts of what was handed in; what the interface had and keeps is still held.
-use Rattle.std.proofs.Common.{◌++◌, ◌∙◌, ◌≡◌, ap, append_assoc, List, subst, sym, ℕ}
-use Rattle.vm_step.specs.Prelude.{AreHeld, view}
 use Rattle.vm_exmap.proofs.Handing.{held-rest, held-still}
+use Rattle.vm_exmap.proofs.Prelude.{ap, append_assoc, AreHeld, List, subst, sym, view, ℕ, ◌++◌, ◌∙◌, ◌≡◌}
 use Rattle.vm_exmap.proofs.interface.Interface.free.Goals as goal
 
 pub give_back-requires-clause-frames : goal.give_back-requires-clause-frames
