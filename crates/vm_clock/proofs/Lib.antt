@@ -1,4 +1,4 @@
-mod Choices
+pub mod Prelude
 mod Passing
 mod Visiting
 mod Walking

@@ -1,18 +1,15 @@
 -- What a walk leaves of the words of a table that nobody else changes: each page passed has its word as the clock leaves it, by the first visit.
-use Rattle.std.proofs.Common.{[], ⊎_elim, ◌%◌, ◌&&◌, ◌*◌, ◌+◌, ◌<◌, ◌||◌, ◌∙◌, ◌∷◌, ◌≡◌, ◌≢◌, ◌≤◌, ◌⊎◌, ap, arith, Bool, eqb, false, inl, inr, length}
-use Rattle.std.proofs.Common.{List, None, refl, slice_index, slice_set, Some, subst, suc, sym, true, zero, ℕ}
-use Rattle.std.proofs.lemmas.Bool.{and_left, and_right, cases_eq, cases_lt, cond-false, cond-true, eq-eqb, le-ltb, lt-ltb, ne_eqb, true≢false}
-use Rattle.std.proofs.lemmas.List.{get_or-set_other, get_or-set_same, length-set}
-use Rattle.std.proofs.Math.Nat.{mod-lt}
-use Rattle.vm_core.specs.Prelude.{hand_more, MARKED, MAX_VERSION, state_of, UNLOCKED, version_of, word_of}
-use Rattle.vm_rule.specs.Prelude.{did_change, Each, has, index_of, set_if, Within}
 use Rattle.vm_rule.specs.declared.view.Place.TheVariants as places
-use Rattle.vm_rule.proofs.{Entries.each-map, Facts.has-both, Heard.each-both, WordFacts.version-within, WordFacts.word-state}
-use Rattle.vm_step.specs.Prelude.{candidate_pages, Did, Follows, IsAlone, IsHeld, Origin, RunsAlone, View}
-use Rattle.vm_step.specs.declared.choice.Looks.{Looks}
-use Rattle.vm_step.proofs.Tables.{else-knows, follows-between, follows-kept, follows-length}
-use Rattle.vm_clock.specs.Clock.{IsPassed, IsWalked, KnowsWalked, passed_word, Visits, Visits as visits, WalksPages}
-use Rattle.vm_clock.proofs.{Choices.pages-end, Visiting.IsVisit, Visiting.visit-of}
+use Rattle.vm_clock.specs.Clock.{Visits as visits}
+use Rattle.vm_clock.proofs.Prelude.{[], add-mod_right, and_left, and_right, ap, arith, candidate_pages, cases_Bool, cases_eq, cases_lt, cond-false}
+use Rattle.vm_clock.proofs.Prelude.{cond-true, Did, did_change, Each, each-both, each-map, else-knows, eq-eqb, eqb, false, Follows, follows-between}
+use Rattle.vm_clock.proofs.Prelude.{follows-kept, follows-length, get_or-set_other, get_or-set_same, hand_more, has, has-both, index_of, inl, inr}
+use Rattle.vm_clock.proofs.Prelude.{IsAlone, IsHeld, IsPassed, IsWalked, KnowsWalked, le-ltb, length, length-set, List, Looks, lt-ltb, MARKED}
+use Rattle.vm_clock.proofs.Prelude.{MAX_VERSION, mod-add-mod, mod-eq_of_lt, mod-lt, nat_tests, ne_eqb, None, Origin, passed_word, refl, RunsAlone}
+use Rattle.vm_clock.proofs.Prelude.{set_if, slice_index, slice_set, Some, state_of, subst, suc, sym, true, true≢false, UNLOCKED, version-within}
+use Rattle.vm_clock.proofs.Prelude.{version_of, View, Visits, WalksPages, Within, word-state, word_of, zero, ℕ, ⊎_elim, ◌%◌, ◌&&◌, ◌*◌, ◌+◌, ◌-◌, ◌<◌}
+use Rattle.vm_clock.proofs.Prelude.{◌||◌, ◌∙◌, ◌∷◌, ◌≡◌, ◌≢◌, ◌≤◌, ◌⊎◌}
+use Rattle.vm_clock.proofs.Visiting.{IsVisit, pages-end, visit-of}
 
 -- ---- the word of one page
 
@@ -28,17 +25,9 @@ leaves-last word e = cond-false _ _ _ (and_right _ _ (le-ltb (version_of word) M
 -- a page that was passed is as it would be left
 pass-twice : (word : ℕ) → passed_word (passed_word word) ≡ passed_word word
 pass-twice word =
-    ⊎_elim
-    (λ (free : state_of word ≡ UNLOCKED).
-    ⊎_elim
-    (λ (low : version_of word < MAX_VERSION).
-    let is : passed_word word ≡ word_of MARKED (version_of word) = marks-it word free low in
-    let state : state_of (passed_word word) ≡ MARKED = ap state_of is ∙ word-state MARKED (version_of word) (version-within word) in
-    leaves-state (passed_word word) (λ e. (let no : MARKED ≡ UNLOCKED = sym state ∙ e in omega (arith, no))))
-    (λ high. let within : version_of word ≤ MAX_VERSION = version-within word in ap passed_word (leaves-last word (omega (arith, high, within))))
-    (cases_lt (version_of word) MAX_VERSION))
-    (λ ne. ap passed_word (leaves-state word ne))
-    (cases_eq (state_of word) UNLOCKED)
+    let state = word-state MARKED (version_of word) (version-within word) in
+    let within = version-within word in
+    grind (arith, nat_tests, state, within)
 
 -- ---- one visit
 
@@ -73,11 +62,6 @@ module _ (start : Origin) where
       let wrote : b ≡ set_if (Some (word_of MARKED (version_of word))) p a = g.1.1 ∙ ap (λ o. set_if o p a) (cond-true (eqb word word) (Some (word_of MARKED (version_of word))) None (eq-eqb word word refl)) in
       marks (wrote ∙ ap (λ n. slice_set a p n) (sym (marks-it word state fresh) ∙ ap passed_word g.0))
 
-  passed-length : (p : ℕ) (chosen : List (ℕ × ℕ)) (a b : List ℕ) → Passes chosen p a b → length b ≡ length a
-  passed-length p chosen a b (again is e) = ap (λ (l : List ℕ). length l) e
-  passed-length p chosen a b (stays is e) = ap (λ (l : List ℕ). length l) e
-  passed-length p chosen a b (marks e) = ap (λ (l : List ℕ). length l) e ∙ length-set a p _
-
   passed-other : (p q : ℕ) (chosen : List (ℕ × ℕ)) (a b : List ℕ) → q ≢ p → Passes chosen p a b → slice_index b q ≡ slice_index a q
   passed-other p q chosen a b ne (again is e) = ap (λ (l : List ℕ). slice_index l q) e
   passed-other p q chosen a b ne (stays is e) = ap (λ (l : List ℕ). slice_index l q) e
@@ -94,6 +78,26 @@ module _ (start : Origin) where
 
 -- ---- the walk
 
+-- a place at or behind the last is round by one
+wraps : (m x : ℕ) → x < m + m → ((x < m) × (x % m ≡ x)) ⊎ ((m ≤ x) × (x % m + m ≡ x))
+wraps m x l =
+    ⊎_elim
+    (λ low. inl (low, mod-eq_of_lt low))
+    (λ high.
+    let n : ℕ = x - m in
+    let is : n + m ≡ x = omega (arith, high) in
+    let round : x % m ≡ n = ap (λ y. y % m) (sym is) ∙ add-mod_right n m ∙ mod-eq_of_lt (omega (arith, l, high)) in
+    inr (high, omega (arith, round, is)))
+    (cases_lt x m)
+
+-- two places of one round are two
+other-place : (m a j k : ℕ) → a < m → j < k → k < m → (a + j) % m ≡ (a + k) % m → ⊥
+other-place m a j k in-it less l same =
+    ⊎_elim
+    (λ x. ⊎_elim (λ y. omega (arith, x.1, y.1, same, less)) (λ y. omega (arith, x.1, y.1, same, less, l)) (wraps m (a + k) (omega (arith, in-it, l))))
+    (λ x. ⊎_elim (λ y. omega (arith, x.0, y.0, less)) (λ y. omega (arith, x.1, y.1, same, less)) (wraps m (a + k) (omega (arith, in-it, l))))
+    (wraps m (a + j) (omega (arith, in-it, less, l)))
+
 pub passed-more : (pages drawn k q : ℕ) → IsPassed pages drawn k q → IsPassed pages drawn (suc k) q
 passed-more pages drawn k q (j, low, is) = (j, omega (arith, low), is)
 
@@ -103,15 +107,8 @@ chosen-more {p = p} {chosen = chosen} v q h =
     (λ same. inl (ap (λ c. has q (candidate_pages c)) (sym same) ∙ h))
     (λ m.
     let both : (has q (candidate_pages chosen) || (eqb q p || false)) ≡ true = sym (has-both q (candidate_pages chosen) (p ∷ [])) ∙ ap (has q) (sym (pages-end chosen (p, m.0))) ∙ ap (λ c. has q (candidate_pages c)) (sym m.4) ∙ h in
-    ⊎_elim
-    (λ (e : q ≡ p). inr e)
-    (λ ne. inl (sym (or-none (has q (candidate_pages chosen))) ∙ ap (λ b. has q (candidate_pages chosen) || (b || false)) (sym (ne_eqb q p ne)) ∙ both))
-    (cases_eq q p))
+    ⊎_elim (λ (e : q ≡ p). inr e) (λ (ne : q ≢ p). inl (grind (arith, nat_tests, both, ne))) (cases_eq q p))
     v.chooses
-  where
-    or-none : (b : Bool) → (b || false) ≡ b
-    or-none true = refl
-    or-none false = refl
 
 module _ (want pages drawn : ℕ) where
   -- each step is at the state word of a page passed
@@ -131,6 +128,16 @@ module _ (want pages drawn : ℕ) where
       (λ c. passed-more pages drawn k q (chosen-passed k q before old chosen walk c))
       (λ e. (k, omega arith, e))
       (chosen-more (visit-of _ _ _ _ _ _ visit) q h)
+
+  -- so none of them is met again in the first round
+  pub first-round : (k : ℕ) (done : List Did) (looks : Looks) (list : List (ℕ × ℕ)) → k < pages → WalksPages want pages drawn k done looks list → has ((drawn + k) % pages) (candidate_pages list) ≡ false
+  first-round k done looks list l walk =
+      ⊎_elim
+      (λ met.
+      let before : IsPassed pages drawn k ((drawn + k) % pages) = chosen-passed k ((drawn + k) % pages) done looks list walk met in
+      absurd (other-place pages (drawn % pages) before.0 k (mod-lt drawn (omega (arith, l))) before.1 l (mod-add-mod drawn pages before.0 ∙ sym before.2 ∙ sym (mod-add-mod drawn pages k))))
+      (λ none. none)
+      (cases_Bool (has ((drawn + k) % pages) (candidate_pages list)))
 
   -- a page that was passed has its word as the clock leaves it, and any page has that or its word
   pub record IsLeftBy (k q : ℕ) (a b : List ℕ) : Type 0 where

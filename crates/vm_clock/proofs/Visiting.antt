@@ -1,14 +1,42 @@
--- What a visit comes to, by the word that its look found and by the exchange that would mark the page.
-use Rattle.std.proofs.Common.{[], ◌++◌, ◌∙◌, ◌∷◌, ◌≡◌, ◌≢◌, ◌≤◌, ◌⊎◌, ap, arith, Bool, false, inl, inr, List, None, refl, subst, suc, sym, ℕ}
-use Rattle.vm_core.specs.Prelude.{MARKED, MAX_VERSION, state_of, version_of, word_of}
-use Rattle.vm_rule.specs.Prelude.{did_exchange, did_load, Each, has, LookTold, MarkTold, Start}
+-- The pages among the candidates, and what a visit comes to.
 use Rattle.vm_rule.specs.declared.view.Place.TheVariants as places
-use Rattle.vm_rule.proofs.WordFacts.{version-within}
-use Rattle.vm_step.specs.Prelude.{candidate_pages, Did, RunsAlone, View}
-use Rattle.vm_step.specs.declared.choice.Looks.{Looks}
-use Rattle.vm_step.proofs.Alone.{runs-one, runs-then}
-use Rattle.vm_step.proofs.Asides.{look-only, mark-only, only-then, OnlyReads}
-use Rattle.vm_clock.specs.Clock.{IsBelowLast, IsPageVisited, looks_counted, LooksAt, Visits, Visits as visits}
+use Rattle.vm_clock.specs.Clock.{Visits as visits}
+use Rattle.vm_clock.proofs.Prelude.{[], ap, apart-end, AreApart, AreCandidates, arith, Bool, candidate_pages, Did, did_exchange, did_load, Each}
+use Rattle.vm_clock.proofs.Prelude.{each-both, eq-eqb, false, has, inl, inr, IsBelowLast, IsCandidate, IsPageVisited, length, List, look-only, Looks}
+use Rattle.vm_clock.proofs.Prelude.{looks_counted, LooksAt, LookTold, mark-only, MARKED, MarkTold, MAX_VERSION, nat_tests, ne_eqb, None, only-then}
+use Rattle.vm_clock.proofs.Prelude.{OnlyReads, refl, runs-one, runs-then, RunsAlone, slice_index_or, Start, state_of, subst, suc, sym, take, true}
+use Rattle.vm_clock.proofs.Prelude.{version-within, version_of, View, Visits, word_of, zero, ℕ, ◌++◌, ◌<◌, ◌∙◌, ◌∷◌, ◌≡◌, ◌≢◌, ◌≤◌, ◌⊎◌}
+
+-- one place further in the list
+pub has-next : (p : ℕ) (l : List (ℕ × ℕ)) (i : ℕ) (d : ℕ × ℕ) → i < length l → (slice_index_or l i d).0 ≢ p → has p (candidate_pages (take i l)) ≡ false → has p (candidate_pages (take (suc i) l)) ≡ false
+has-next p [] i d lt ne none = absurd (omega (arith, lt))
+has-next p (x ∷ xs) zero d lt ne none = rw (ne_eqb p x.0 (λ e. ne (sym e))) refl
+has-next p (x ∷ xs) (suc i) d lt ne none =
+    let other : p ≢ x.0 = grind (arith, nat_tests, none) in
+    let rest : has p (candidate_pages (take i xs)) ≡ false = grind (arith, nat_tests, none) in
+    rw (ne_eqb p x.0 other) (has-next p xs i d (omega (arith, lt)) ne rest)
+
+-- the page at a place of the list is one of it
+pub has-at : (p : ℕ) (l : List (ℕ × ℕ)) (i : ℕ) (d : ℕ × ℕ) → i < length l → (slice_index_or l i d).0 ≡ p → has p (candidate_pages l) ≡ true
+has-at p [] i d lt e = absurd (omega (arith, lt))
+has-at p (x ∷ xs) zero d lt e = rw (eq-eqb p x.0 (sym e)) refl
+has-at p (x ∷ xs) (suc i) d lt e = let there = has-at p xs i d (omega (arith, lt)) e in grind (arith, nat_tests, there)
+
+pub pages-end : (l : List (ℕ × ℕ)) (c : ℕ × ℕ) → candidate_pages (l ++ c ∷ []) ≡ candidate_pages l ++ c.0 ∷ []
+pages-end [] c = refl
+pages-end (x ∷ xs) c = ap (λ (t : List ℕ). x.0 ∷ t) (pages-end xs c)
+
+-- one candidate more, of another page
+pub candidates-end : (pages : ℕ) (l : List (ℕ × ℕ)) (c : ℕ × ℕ) → AreCandidates pages l → has c.0 (candidate_pages l) ≡ false → IsCandidate pages c → AreCandidates pages (l ++ c ∷ [])
+candidates-end pages l c are new is = record {
+  apart = subst AreApart (sym (pages-end l c)) (apart-end (candidate_pages l) c.0 are.apart new);
+  each = each-both (IsCandidate pages) l (c ∷ []) are.each (is, tt);
+}
+
+pub no-candidates : (pages : ℕ) → AreCandidates pages []
+no-candidates pages = record { apart = tt; each = tt }
+
+-- ---- What a visit comes to, by the word that its look found and by the exchange that would mark the page.
 
 -- a version of 56 bits that is not the last is below it
 pub fresh-word : (word : ℕ) → version_of word ≢ MAX_VERSION → IsBelowLast word

@@ -1,17 +1,11 @@
 -- A walk: the next visit makes it longer; each of its looks is counted; its candidates are pages of the table, each another.
-use Rattle.std.proofs.Common.{[], ⊎_elim, ◌%◌, ◌*◌, ◌++◌, ◌+◌, ◌<◌, ◌∙◌, ◌∷◌, ◌≡◌, ◌≤◌, ◌⊎◌, ap, arith, length, List, refl, subst, suc, sym, zero, ℕ}
-use Rattle.std.proofs.lemmas.List.{length-append}
-use Rattle.std.proofs.Math.Nat.{mod-add-mod, mod-lt}
-use Rattle.vm_core.specs.Prelude.{hand_more}
-use Rattle.vm_rule.specs.Prelude.{did_change, HandTold}
 use Rattle.vm_rule.specs.declared.view.Place.TheVariants as places
-use Rattle.vm_step.specs.Prelude.{AreCandidates, Did, RunsAlone, View}
-use Rattle.vm_step.specs.declared.choice.Looks.{Looks}
-use Rattle.vm_step.proofs.Alone.{runs-one, runs-then}
-use Rattle.vm_step.proofs.Asides.{aside-within, hand-only, only-then, OnlyReads}
-use Rattle.vm_clock.specs.Clock.{IsChosen, IsPageVisited, IsPassed, looks_counted, no_looks, Visits, WalksPages}
-use Rattle.vm_clock.proofs.{Choices.candidates-end, Choices.no-candidates, Passing.passed-more, Passing.walked-knows, Visiting.IsVisit}
-use Rattle.vm_clock.proofs.{Visiting.visit-of}
+use Rattle.vm_clock.proofs.Passing.{first-round, passed-more, walked-knows}
+use Rattle.vm_clock.proofs.Prelude.{[], ap, AreCandidates, arith, aside-within, candidate_pages, Did, did_change, false, hand_more, has, IsChosen}
+use Rattle.vm_clock.proofs.Prelude.{IsPageVisited, IsPassed, length, length-append, List, Looks, looks_counted, mod-add-mod, mod-lt, only-then}
+use Rattle.vm_clock.proofs.Prelude.{OnlyReads, refl, runs-then, RunsAlone, subst, suc, sym, View, Visits, WalksPages, zero, ℕ, ⊎_elim, ◌%◌, ◌*◌, ◌++◌}
+use Rattle.vm_clock.proofs.Prelude.{◌+◌, ◌<◌, ◌∙◌, ◌∷◌, ◌≡◌, ◌≤◌, ◌⊎◌}
+use Rattle.vm_clock.proofs.Visiting.{candidates-end, IsVisit, no-candidates, visit-of}
 
 -- ---- one visit
 
@@ -57,14 +51,6 @@ module _ {X : Type 0} (want drawn : ℕ) where
     pub only : OnlyReads (IsPassed v.start.pages drawn k) (did_change places.Hand drawn (hand_more drawn) ∷ steps) v w
     pub alone : RunsAlone (did_change places.Hand drawn (hand_more drawn) ∷ steps) [] v w
 
-  pub walking-none : (v w : View X) → HandTold drawn v w → IsWalking 0 no_looks [] v w
-  walking-none v w t = record {
-    steps = [];
-    walk = (refl, refl, refl);
-    only = hand-only (IsPassed v.start.pages drawn 0) drawn v w t;
-    alone = runs-one (did_change places.Hand drawn (hand_more drawn)) _ [] [] v v w t.brings;
-  }
-
   -- one visit more
   pub walking-on : (k p : ℕ) (old new : Looks) (chosen list : List (ℕ × ℕ)) (v w x : View X) → IsWalking k old chosen v w → length chosen < want → p ≡ (drawn % v.start.pages + k) % v.start.pages
       → IsPageVisited p old chosen new list w x → IsWalking (suc k) new list v x
@@ -80,6 +66,11 @@ module _ {X : Type 0} (want drawn : ℕ) where
             record { aside = aside-within (λ q. q ≡ p) more visited.steps w x (λ q e. (k, omega arith, e ∙ place)) visited.aside; keeps = visited.keeps };
         alone = runs-then all-steps visited.steps [] [] v w x so-far.only.aside.start so-far.only.aside.parts so-far.alone visited.alone;
       }
+
+  -- in the first round no page is one of the candidates that is met
+  pub walking-first : (k p : ℕ) (looks : Looks) (list : List (ℕ × ℕ)) (v w : View X) → IsWalking k looks list v w → k < v.start.pages → p ≡ (drawn % v.start.pages + k) % v.start.pages → has p (candidate_pages list) ≡ false
+  walking-first k p looks list v w so-far l at =
+      subst (λ q. has q (candidate_pages list) ≡ false) (sym (at ∙ mod-add-mod drawn v.start.pages k)) (first-round want v.start.pages drawn k so-far.steps looks list l so-far.walk)
 
   -- what the looks and the candidates of a walk are, in a table of so many pages
   module _ (k : ℕ) (looks : Looks) (list : List (ℕ × ℕ)) (v w : View X) (walking : IsWalking k looks list v w) where

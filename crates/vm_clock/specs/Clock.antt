@@ -1,8 +1,8 @@
 -- How the clock chooses candidates for eviction: from a place drawn from the hand it walks over the pages, round and round, looks at each, and
 -- counts what it sees by the first of these that fits: a page chosen before; an evicted one; one that somebody has locked; one at the last
 -- version; an unlocked one, which it marks; a marked one, which it chooses.
-use Rattle.std.specs.Prelude.{[], ◌%◌, ◌&&◌, ◌*◌, ◌++◌, ◌+◌, ◌<◌, ◌==◌, ◌∷◌, ◌≡◌, ◌≢◌, ◌≤◌, ◌⊎◌, false, if◌then◌else◌, length, List, nat_lt, None}
-use Rattle.std.specs.Prelude.{suc, true, zero, ℕ}
+use Rattle.std.specs.Prelude.{[], false, if◌then◌else◌, length, List, nat_lt, None, suc, true, zero, ℕ, ◌%◌, ◌&&◌, ◌*◌, ◌++◌, ◌+◌, ◌<◌, ◌==◌, ◌∷◌}
+use Rattle.std.specs.Prelude.{◌≡◌, ◌≢◌, ◌≤◌, ◌⊎◌}
 use Rattle.vm_core.specs.Prelude.{EVICTED, hand_more, MARKED, MAX_VERSION, state_of, UNLOCKED, version_of, word_of}
 use Rattle.vm_rule.specs.Prelude.{did_change, did_exchange, did_load, has}
 use Rattle.vm_rule.specs.declared.view.Place.{Place}

@@ -2,7 +2,7 @@
 //! round. Marks are states of the page's word, which a reader takes away.
 #![tactic(auto)]
 
-ghost use Rattle.std.specs.Prelude.{◌*◌, ◌<◌, ◌≡◌, ◌≤◌, length};
+ghost use Rattle.std.specs.Prelude.{◌%◌, ◌*◌, ◌+◌, ◌<◌, ◌≡◌, ◌≤◌, false, length};
 ghost use Rattle.vm_rule.specs.Prelude.{has};
 ghost use Rattle.vm_step.specs.Prelude.{AreCandidates, candidate_pages, IsReady, IsSamePass, view};
 ghost use Rattle.vm_clock.specs.Clock.{IsChosen, IsPageVisited, looks_counted};
@@ -46,14 +46,41 @@ pub fn candidates<U: Owner, B: Block>(
         list: ArrayVec::new(),
         looks: NO_LOOKS,
     };
+    let mut page = first_page(drawn, words.pages);
     for k in 0..2 * words.pages {
         if chosen.list.len() == want as usize {
             return chosen;
         }
-        let page = (drawn % words.pages as u64 + k as u64) % words.pages as u64;
-        visit(words, pass, page as u32, &mut chosen);
+        visit(words, pass, page as u32, k >= words.pages, &mut chosen);
+        page = page_after(page, words.pages);
     }
     chosen
+}
+
+/// The page at the place drawn.
+fn first_page(drawn: u64, pages: usize) -> usize
+    ensures { 0 < pages → result ≡ drawn % pages }
+{
+    if pages == 0 {
+        return 0;
+    }
+    (drawn % pages as u64) as usize
+}
+
+/// The page behind this one, round and round. A walk takes many of these steps, so none of them divides.
+fn page_after(page: usize, pages: usize) -> usize
+    requires { page < pages }
+    ensures { result ≡ (page + 1) % pages }
+{
+    if page + 1 == pages { 0 } else { page + 1 }
+}
+
+/// Whether the page is one of the candidates, which it can be in the walk's second round only: so the first goes through no list.
+fn is_met(list: &[(u32, u64)], p: u32, second: bool) -> bool
+    requires { second ≡ false → has p (candidate_pages list.now) ≡ false }
+    ensures { result ≡ has p (candidate_pages list.now) }
+{
+    second && is_chosen(list, p)
 }
 
 /// Whether the page is one of the candidates.
@@ -68,15 +95,18 @@ fn is_chosen(list: &[(u32, u64)], p: u32) -> bool
     false
 }
 
-/// Looks at the page, and counts what the look came to: the first that fits. An unlocked page is marked, a marked one is chosen.
+/// Looks at the page, in the walk's first or second round, and counts what the look came to: the first that fits. An unlocked page is marked, a
+/// marked one is chosen.
 fn visit<U: Owner, B: Block>(
     words: &Words<U, B>,
     pass: &mut Pass<U>,
     p: u32,
+    second: bool,
     chosen: &mut Candidates,
 )
     requires ready { IsReady words.now.table.shared.key B.tells words.now.table.shared.table_id pass.old }
     requires page { p < words.now.table.shared.key.pages }
+    requires first { second ≡ false → has p (candidate_pages chosen.old.list.items) ≡ false }
     requires room { length chosen.old.list.items < FRAMES }
     requires counts { looks_counted chosen.old.looks < 4294967295 }
     ensures pass { IsSamePass pass.old pass.new }
@@ -85,7 +115,7 @@ fn visit<U: Owner, B: Block>(
 {
     let word = look_silently(words, pass, p);
     let state = StateWord::state(word);
-    if is_chosen(chosen.list.as_slice(), p) {
+    if is_met(chosen.list.as_slice(), p, second) {
         chosen.looks.again += 1;
     } else if state == StateWord::EVICTED {
         chosen.looks.gone += 1;

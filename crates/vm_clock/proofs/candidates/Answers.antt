@@ -1,9 +1,8 @@
 -- The walk so far gives each clause.
-use Rattle.std.proofs.Common.{◌%◌, ◌*◌, ◌+◌, ◌<◌, ◌∙◌, ◌≡◌, ◌≤◌, ap, arith, inl, inr, length, subst, suc, sym}
-use Rattle.vm_step.specs.Prelude.{view}
-use Rattle.vm_clock.specs.Clock.{looks_counted}
+use Rattle.vm_clock.proofs.Prelude.{add_assoc, ap, arith, inl, inr, length, looks_counted, mod-add-mod, nat_tests, subst, suc, sym, view, ◌%◌, ◌*◌}
+use Rattle.vm_clock.proofs.Prelude.{◌+◌, ◌<◌, ◌∙◌, ◌≡◌, ◌≤◌}
+use Rattle.vm_clock.proofs.Walking.{IsWalking, walked-chosen, walked-few, walked-list, walked-looks, walking-first, walking-on}
 use Rattle.vm_clock.proofs.candidates.Goals as goal
-use Rattle.vm_clock.proofs.Walking.{IsWalking, walked-chosen, walked-few, walked-list, walked-looks, walking-on}
 
 pub returns-then-len-want-clause-list : goal.returns-then-len-want-clause-list
 returns-then-len-want-clause-list g c =
@@ -12,6 +11,13 @@ returns-then-len-want-clause-list g c =
 pub returns-then-len-want-clause-looks : goal.returns-then-len-want-clause-looks
 returns-then-len-want-clause-looks g c =
     subst (λ n. n ≤ 2 * c.args.words.now.table.shared.key.pages) (sym (walked-looks _ _ _ _ _ _ _ c.loop-k.invariant.walking)) (subst (λ n. c.loop-k.k ≤ 2 * n) c.args.words.now.shape.0 c.loop-k.auto.k-end)
+
+pub visit-requires-clause-first : goal.visit-requires-clause-first
+visit-requires-clause-first g c first =
+    let low : c.loop-k.k < c.args.words.now.pages = grind (arith, nat_tests, first) in
+    let pages : c.args.words.now.pages ≡ (view c.args.pass.now).start.pages = c.args.words.now.shape.0 ∙ sym c.requires.ready.table.is_shape.pages in
+    walking-first _ _ _ _ _ _ _ _ c.loop-k.invariant.walking (subst (λ n. c.loop-k.k < n) pages low)
+    (c.loop-k.invariant.place (omega (arith, low)) ∙ ap (λ n. (c.hand-drawn.result % n + c.loop-k.k) % n) pages)
 
 pub visit-requires-clause-room : goal.visit-requires-clause-room
 visit-requires-clause-room g c =
@@ -37,12 +43,17 @@ loop-k-preserved g c =
     let len = c.len.ensures.value in
     let room : length c.loop-k.chosen.list.items < c.args.want = omega (arith, few, ne, len) in
     let pages : c.args.words.now.pages ≡ (view c.args.pass.now).start.pages = c.args.words.now.shape.0 ∙ sym c.requires.ready.table.is_shape.pages in
-    let place : (c.hand-drawn.result % c.args.words.now.pages + c.loop-k.k) % c.args.words.now.pages ≡ (c.hand-drawn.result % (view c.args.pass.now).start.pages + c.loop-k.k) % (view c.args.pass.now).start.pages =
-    ap (λ n. (c.hand-drawn.result % n + c.loop-k.k) % n) pages in
+    let some : 0 < c.args.words.now.pages = omega (arith, c.loop-k-test.true) in
+    let place : c.loop-k.page ≡ (c.hand-drawn.result % (view c.args.pass.now).start.pages + c.loop-k.k) % (view c.args.pass.now).start.pages =
+    c.loop-k.invariant.place some ∙ ap (λ n. (c.hand-drawn.result % n + c.loop-k.k) % n) pages in
     let next : suc c.loop-k.k ≡ c.loop-k.k + 1 = omega arith in
     record {
       same = (c.visit.ensures.pass.0 ∙ c.loop-k.invariant.same.0, c.visit.ensures.pass.1 ∙ c.loop-k.invariant.same.1);
       ready = c.visit.ensures.ready;
+      place = λ _.
+          c.page_after-page.ensures ∙ ap (λ n. (n + 1) % c.args.words.now.pages) (c.loop-k.invariant.place some)
+          ∙ mod-add-mod (c.hand-drawn.result % c.args.words.now.pages + c.loop-k.k) c.args.words.now.pages 1
+          ∙ ap (λ n. n % c.args.words.now.pages) (add_assoc (c.hand-drawn.result % c.args.words.now.pages) c.loop-k.k 1);
       walking = subst (λ n. IsWalking c.args.want c.hand-drawn.result n c.visit.new.chosen.looks c.visit.new.chosen.list.items (view c.args.pass.now) (view c.visit.new.pass)) next
           (walking-on _ _ _ _ _ _ _ _ _ _ _ c.loop-k.invariant.walking room place c.visit.ensures.visited);
     }

@@ -1,11 +1,12 @@
-use Rattle.vm_step.specs.Prelude.{IsReady, IsSamePass, view}
-use Rattle.vm_clock.proofs.candidates.Given as goal
+use Rattle.vm_clock.proofs.Prelude.{IsReady, IsSamePass, view, ◌%◌, ◌+◌, ◌<◌, ◌≡◌}
 use Rattle.vm_clock.proofs.Walking.{IsWalking}
+use Rattle.vm_clock.proofs.candidates.Given as goal
 
 -- k visits were made
 abbrev pub invariant-loop-k : goal.invariant-loop-k
 invariant-loop-k g l = record {
   same : IsSamePass l.fn.pass l.pass;
   ready : IsReady l.words.table.shared.key g.B.Block.tells l.words.table.shared.table_id l.pass;
+  place : 0 < l.words.pages → l.page ≡ (l.drawn % l.words.pages + l.k) % l.words.pages;
   walking : IsWalking l.want l.drawn l.k l.chosen.looks l.chosen.list.items (view l.fn.pass) (view l.pass);
 }

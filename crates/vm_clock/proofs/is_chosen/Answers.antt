@@ -1,7 +1,5 @@
-use Rattle.std.proofs.Common.{◌+◌, ◌≡◌, arith, false, subst, suc, sym, take}
-use Rattle.vm_rule.specs.Prelude.{has}
-use Rattle.vm_step.specs.Prelude.{candidate_pages}
-use Rattle.vm_clock.proofs.Choices.{has-at, has-next}
+use Rattle.vm_clock.proofs.Prelude.{arith, candidate_pages, false, has, subst, suc, sym, take, ◌+◌, ◌≡◌}
+use Rattle.vm_clock.proofs.Visiting.{has-at, has-next}
 use Rattle.vm_clock.proofs.is_chosen.Goals as goal
 
 pub returns-then-list-i : goal.returns-then-list-i

@@ -1,6 +1,4 @@
-use Rattle.std.proofs.Common.{◌≡◌, false, take}
-use Rattle.vm_rule.specs.Prelude.{has}
-use Rattle.vm_step.specs.Prelude.{candidate_pages}
+use Rattle.vm_clock.proofs.Prelude.{candidate_pages, false, has, take, ◌≡◌}
 use Rattle.vm_clock.proofs.is_chosen.Given as goal
 
 -- the page is none of the first i
