@@ -1,17 +1,10 @@
 -- Frames of an interface, and one more that is handed out, over the call that brings a page into it; and how a frame is got by way of a sweep.
-use Rattle.std.proofs.Common.{[], ◌++◌, ◌<◌, ◌∙◌, ◌∷◌, ◌≡◌, ◌≢◌, ap, List, refl, subst, sym, true, ℕ}
-use Rattle.std.proofs.lemmas.Bool.{true≢false}
-use Rattle.vm_owner.proofs.NumberLemmas.{has-without_other}
-use Rattle.vm_rule.specs.Prelude.{Each, has, without}
-use Rattle.vm_step.specs.Prelude.{AreHeld, Origin, View}
-use Rattle.vm_step.specs.declared.saw.Saw.{Saw}
-use Rattle.vm_exmap.specs.{declared.interface.Alloc.Alloc, Walks.IsAlloc}
 use Rattle.vm_exmap.specs.declared.interface.Alloc.TheVariants as allocs
-use Rattle.vm_exmap.proofs.Handing.{each-has, each-of, held-on, held-swap}
-use Rattle.vm_evict.specs.declared.report.Report.{Report}
-use Rattle.vm_pool.specs.{declared.bring.Bring.Bring, Sweeps.IsSwept}
-use Rattle.vm_pool.specs.Brings.{counted, Gets, Gets as gets, GetsNone, GetsNone as none, SaysDry}
+use Rattle.vm_pool.specs.Brings.{Gets as gets, GetsNone as none}
 use Rattle.vm_pool.specs.declared.bring.Bring.TheVariants as brings
+use Rattle.vm_pool.proofs.Prelude.{[], Alloc, ap, AreHeld, Bring, counted, Each, each-has, each-of, Gets, GetsNone, has, has-without_other, held-on}
+use Rattle.vm_pool.proofs.Prelude.{held-swap, IsAlloc, IsSwept, List, Origin, refl, Report, Saw, SaysDry, subst, sym, true, true≢false, View, without}
+use Rattle.vm_pool.proofs.Prelude.{ℕ, ◌++◌, ◌<◌, ◌∙◌, ◌∷◌, ◌≡◌, ◌≢◌}
 
 module _ {X : Type 0} (f : ℕ) (frames : List ℕ) (v w : View X) (h : AreHeld (f ∷ frames) v) (start : w.start ≡ v.start) where
   -- the others are held once it is the pass's no more

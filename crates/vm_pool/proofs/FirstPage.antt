@@ -1,17 +1,12 @@
 -- What the first pass of a pool knows: it is alone, each page is evicted at the first version, and the first bundle has frames.
-use Rattle.std.proofs.Common.{[], ⊎_elim, ◌*◌, ◌+◌, ◌-◌, ◌<◌, ◌^◌, ◌∙◌, ◌≡◌, ◌≢◌, ◌≤◌, ap, arith, Bool, inl, inr, length, List, min, None, refl}
-use Rattle.std.proofs.Common.{slice_index, subst, sym, ℕ}
-use Rattle.std.proofs.Math.Nat.{pow-le-pow_right}
-use Rattle.vm_core.specs.Prelude.{at, EVICTED, full_bundle, MAX_VERSION, state_of, version_of, word_of}
-use Rattle.vm_rule.specs.Prelude.{bounds_of, bundles_of, counts_of, index_of, IsStarted, started_origin, started_shape, started_words, Stored, unborn}
-use Rattle.vm_rule.specs.Begun.{begun}
 use Rattle.vm_rule.specs.declared.view.Place.TheVariants as places
-use Rattle.vm_rule.proofs.{Found.part-found, StartedWords.started-bundle, StartedWords.started-state, WordFacts.word-state, WordFacts.word-version}
-use Rattle.vm_step.specs.Prelude.{AreHeld, IsAlone, IsOf, known_word_at, Origin, Shape, View}
-use Rattle.vm_exmap.specs.Frames.{HasFree}
-use Rattle.vm_fault.specs.Fetches.{IsKnownOut}
-use Rattle.vm_pool.specs.{Brings.IsBroughtOrFailed, Brings.IsSure, declared.bring.Bring.Bring}
-use Rattle.vm_pool.proofs.AtOnce.{first-has-all}
+use Rattle.vm_pool.proofs.Asking.{when-free}
+use Rattle.vm_pool.proofs.Prelude.{[], ap, AreHeld, arith, at, begun, Bool, bounds_of, Bring, bundles_of, counts_of, EVICTED, first-whole}
+use Rattle.vm_pool.proofs.Prelude.{full_bundle, HasAskedFirst, HasFree, index_of, inl, inr, IsAlone, IsBroughtOrFailed, IsKnownOut, IsOf, IsStarted}
+use Rattle.vm_pool.proofs.Prelude.{IsSure, IsWhole, KeepsLocks, known_word_at, KnowsAsked, KnowsBring, length, List, MAX_VERSION, min, None, Origin}
+use Rattle.vm_pool.proofs.Prelude.{part-found, pow-le-pow_right, refl, Shape, slice_index, started-bundle, started-state, started_origin}
+use Rattle.vm_pool.proofs.Prelude.{started_shape, started_words, state_of, Stored, subst, sym, unborn, version_of, View, word-state, word-version}
+use Rattle.vm_pool.proofs.Prelude.{word_of, ℕ, ⊎_elim, ◌*◌, ◌+◌, ◌-◌, ◌<◌, ◌^◌, ◌∙◌, ◌≡◌, ◌≢◌, ◌≤◌}
 
 -- the first bundle of a table with frames has some
 pub some-frames : (frames : ℕ) → 1 ≤ frames → full_bundle frames 0 ≢ 0
@@ -44,22 +39,25 @@ module _ {X : Type 0} (tells : Bool) (version next frames : ℕ) (blocks : List 
   first-home = ap (λ (x : View X). x.out) is
 
   pub first-alone : IsAlone v
-  first-alone = (first-has-all _ _ v is, ap (λ (x : View X). x.current) is)
+  first-alone = (subst IsWhole (sym is) (first-whole X (started_origin tells version next frames blocks)), ap (λ (x : View X). x.current) is)
 
-  module _ (fits : IsStarted version next frames (length blocks)) where
-    state-there : (p : ℕ) → p < length blocks → known_word_at v (places.State p) ≡ word_of EVICTED version
-    state-there p l = ap (λ (t : List ℕ). slice_index t p) words-are ∙ sym (part-found 0 (length blocks) words p p l (omega arith)) ∙ started-state tells version next frames blocks p l
+  pub sure-on : (p : ℕ) (u w : View X) (answer : Bring) → u.start ≡ v.start → IsSure p u w answer → IsBroughtOrFailed p (bounds_of blocks) answer
+  sure-on p u w answer same s = ⊎_elim (λ b. inl b) (λ d. inr (d.0, d.1, d.3, subst (λ (o : Origin). d.0 ≤ at 0 o.bounds p) (same ∙ start-is) d.4)) s
 
-    pub first-out : (p : ℕ) → p < length blocks → version < MAX_VERSION → IsKnownOut p v
-    first-out p l below =
-        let within : version ≤ MAX_VERSION = fits.in_range in (
-          ap state_of (state-there p l) ∙ word-state EVICTED version within,
-          subst (λ (n : ℕ). n < MAX_VERSION) (sym (ap version_of (state-there p l) ∙ word-version EVICTED version within)) below,
-        )
+  module _ (pages : ℕ) (long : length blocks ≡ pages) (fits : IsStarted version next frames pages) where
+    state-there : (p : ℕ) → p < pages → known_word_at v (places.State p) ≡ word_of EVICTED version
+    state-there p l =
+        let inside : p < length blocks = omega (arith, l, long) in
+        ap (λ (t : List ℕ). slice_index t p) words-are ∙ sym (part-found 0 (length blocks) words p p inside (omega arith)) ∙ started-state tells version next frames blocks p inside
 
     -- each page is at the first version
-    pub first-version : (p : ℕ) → p < length blocks → version_of (known_word_at v (places.State p)) ≡ version
+    pub first-version : (p : ℕ) → p < pages → version_of (known_word_at v (places.State p)) ≡ version
     first-version p l = let within : version ≤ MAX_VERSION = fits.in_range in ap version_of (state-there p l) ∙ word-version EVICTED version within
+
+    pub first-out : (p : ℕ) → p < pages → version < MAX_VERSION → IsKnownOut p v
+    first-out p l below =
+        let within : version ≤ MAX_VERSION = fits.in_range in
+        (ap state_of (state-there p l) ∙ word-state EVICTED version within, subst (λ (n : ℕ). n < MAX_VERSION) (sym (first-version p l)) below)
 
     pub bundle-there : known_word_at v (places.Bundle 0) ≡ full_bundle frames 0
     bundle-there =
@@ -76,11 +74,16 @@ module _ {X : Type 0} (tells : Bool) (version next frames : ℕ) (blocks : List 
         let inside : 0 < bundles_of frames = omega (arith, some) in
         inr (0, subst (λ (s : Origin). 0 < bundles_of s.frames) (sym start-is) inside, λ none. some-frames frames some (sym bundle-there ∙ none))
 
-  pub sure-on : (p : ℕ) (u w : View X) (answer : Bring) → u.start ≡ v.start → IsSure p u w answer → IsBroughtOrFailed p (bounds_of blocks) answer
-  sure-on p u w answer same s = ⊎_elim (λ b. inl b) (λ d. inr (d.0, d.1, d.3, subst (λ (o : Origin). d.0 ≤ at 0 o.bounds p) (same ∙ start-is) d.4)) s
+    -- ---- it asked for a page
+    pub first-sure : (p : ℕ) → p < pages → version < MAX_VERSION → (old : List ℕ) (w : View X) (answer : Bring) → (IsAlone v → IsKnownOut p v → HasFree old v → IsSure p v w answer) → IsBroughtOrFailed p (bounds_of blocks) answer
+    first-sure p inside below old w answer sure = sure-on p v w answer refl (sure first-alone (first-out p inside below) (first-free old))
 
-  pub sure-then : (p : ℕ) (w : View X) (answer : Bring) → IsSure p v w answer → IsBroughtOrFailed p (bounds_of blocks) answer
-  sure-then p w answer s = sure-on p v w answer refl s
+    -- by an interface for one frame that had none
+    pub has-asked : (p cap : ℕ) (old new : List ℕ) (w : View X) (answer : Bring) → cap ≡ 1 → old ≡ [] → KeepsLocks v w → (IsAlone v → KnowsAsked cap p old new v w answer)
+        → HasAskedFirst p (begun (unborn (started_shape tells version next frames blocks))) new w answer
+    has-asked p cap old new w answer one none keeps table =
+        let knows : KnowsBring cap p [] new v w answer = subst (λ (l : List ℕ). KnowsBring cap p l new v w answer) none (when-free cap p old new v w answer (first-free old) (table first-alone)) in
+        subst (λ (u : View X). HasAskedFirst p u new w answer) is (record { keeps = keeps; knows = subst (λ (n : ℕ). KnowsBring n p [] new v w answer) one knows })
 
 pub none-held : {X : Type 0} (v : View X) (frames : List ℕ) → frames ≡ [] → AreHeld frames v
 none-held v frames none = subst (λ (l : List ℕ). AreHeld l v) (sym none) record { apart = tt; inside = tt; held = tt }

@@ -1,32 +1,40 @@
 -- What a pass that is alone knows of the table after it asked for a page: the words that the frame's coming left, and then those that the
 -- page's coming left, or the frame's going back.
-use Rattle.std.proofs.Common.{[], ⊎_elim, ◌++◌, ◌+◌, ◌-◌, ◌<◌, ◌∙◌, ◌∷◌, ◌≡◌, ◌≢◌, ◌≤◌, ◌⊎◌, ap, arith, inl, inr, length, length-append, List, max}
-use Rattle.std.proofs.Common.{min, refl, subst, sym, true, ℕ}
-use Rattle.std.proofs.Math.Nat.{mod-lt}
-use Rattle.vm_core.specs.Prelude.{EVICTED, MAX_VERSION, UNLOCKED, Version, version_of, word_of}
-use Rattle.vm_rule.specs.Prelude.{bundles_of, frames_in, last_of}
-use Rattle.vm_rule.specs.declared.view.Place.{Place}
 use Rattle.vm_rule.specs.declared.view.Place.TheVariants as places
-use Rattle.vm_rule.proofs.WordFacts.{word-version}
-use Rattle.vm_step.specs.Prelude.{IsAlone, IsOfPage, known_word_at, KnowsElse, KnowsSame, Origin, View}
-use Rattle.vm_step.proofs.Alone.{still-alone}
-use Rattle.vm_step.proofs.Tables.{else-same, else-self, else-then, else-within}
-use Rattle.vm_exmap.specs.{Frames.IsBundleOf, Returns.IsFreed, Walks.IsAlloc, Walks.TakesBits}
 use Rattle.vm_exmap.specs.declared.interface.Alloc.TheVariants as allocs
-use Rattle.vm_fault.specs.Fetches.{IsBrought, IsFailed, IsOfBoth, KnowsReleased}
-use Rattle.vm_pool.specs.{Brings.Fetches, Brings.Fetches as fetches, declared.bring.Bring.Bring}
-use Rattle.vm_pool.specs.Known.{known_version, KnowsBring, KnowsBrought, KnowsBrought as brought, KnowsFailed}
-
--- an interface that gets a frame back keeps it where it has no other
-kept-one : (cap : ℕ) (old kept given new : List ℕ) (f : ℕ) → 1 ≤ cap → f ∷ [] ≡ kept ++ given → new ≡ old ++ kept → length kept ≡ min (cap - length old) 1 → new ≢ []
-kept-one cap old kept given new f some all is count none =
-    let long : length (old ++ kept) ≡ length old + length kept = length-append old kept in
-    let empty : length (old ++ kept) ≡ 0 = ap length (sym is ∙ none) in
-    absurd (omega (arith, long, empty, count, some))
+use Rattle.vm_pool.specs.{Brings.Fetches as fetches, Known.KnowsBrought as brought}
+use Rattle.vm_pool.specs.declared.bring.Bring.TheVariants as brings
+use Rattle.vm_pool.proofs.Prelude.{[], ap, arith, at, Bring, bundles_of, Did, else-same, else-self, else-then, else-within, EVICTED, Fetches}
+use Rattle.vm_pool.proofs.Prelude.{frames_in, inl, inr, is_readable, IsAlloc, IsAlone, IsAside, IsBrought, IsBundleOf, IsFailed, IsFreed, IsKnownOut}
+use Rattle.vm_pool.proofs.Prelude.{IsOfBoth, IsOfPage, IsSure, known_version, known_word_at, KnowsBring, KnowsBrought, KnowsElse, KnowsFailed}
+use Rattle.vm_pool.proofs.Prelude.{KnowsReleased, KnowsSame, last_of, length, length-append, List, max, MAX_VERSION, min, mod-lt, Note, Origin, Place}
+use Rattle.vm_pool.proofs.Prelude.{refl, state_of, still-alone, subst, sym, TakesBits, true, UNLOCKED, Version, version_of, View, word-state}
+use Rattle.vm_pool.proofs.Prelude.{word-version, word_of, ℕ, ⊎_elim, ◌++◌, ◌+◌, ◌-◌, ◌<◌, ◌∙◌, ◌∷◌, ◌≡◌, ◌≢◌, ◌≤◌, ◌⊎◌}
 
 module _ {X : Type 0} where
-  has-one : (cap : ℕ) (old new : List ℕ) (f : ℕ) (v w : View X) → 1 ≤ cap → IsFreed cap old (f ∷ []) new v w → new ≢ []
-  has-one cap old new f v w some r = kept-one cap old r.kept r.given new f some r.all r.new_frames r.count
+  -- an interface that gets frames has some
+  pub has-some : (cap : ℕ) (old batch new : List ℕ) (v w : View X) → 1 ≤ cap → 1 ≤ length batch → IsFreed cap old batch new v w → new ≢ []
+  has-some cap old batch new v w one some r none =
+      let long : length (old ++ r.kept) ≡ length old + length r.kept = length-append old r.kept in
+      let empty : length (old ++ r.kept) ≡ 0 = ap length (sym r.new_frames ∙ none) in
+      let count : length r.kept ≡ min (cap - length old) (length batch) = r.count in
+      absurd (omega (arith, long, empty, count, one, some))
+
+  -- a page that was brought is unlocked, at its next version
+  pub brought-word : {cap p : ℕ} {old new : List ℕ} {v w : View X} → KnowsBrought cap p old new v w → known_word_at w (places.State p) ≡ word_of UNLOCKED (known_version v p + 1)
+  brought-word (brought.own f is r) = r.now
+  brought-word (brought.taken f g mask none are inside low left r) = r.now
+
+  -- so it can be read
+  pub can-be-read : {cap p : ℕ} {old new : List ℕ} {v w : View X} → known_version v p < MAX_VERSION → KnowsBrought cap p old new v w → is_readable (state_of (known_word_at w (places.State p))) ≡ true
+  can-be-read {p = p} {v = v} below k = ap is_readable (ap state_of (brought-word k) ∙ word-state UNLOCKED (known_version v p + 1) (omega (arith, below)))
+
+  -- what the pass that was alone at v knows of an answer for page p that came with a frame
+  pub record IsAnswered (cap p : ℕ) (old new : List ℕ) (v w : View X) (answer : Bring) : Type 0 where
+    pub knows : KnowsBring cap p old new v w answer
+    -- the page's last version is the next one
+    pub version : answer ≡ brings.Brought → (last_of w p).version ≡ known_version v p + 1
+    pub sure : IsKnownOut p v → IsSure p v w answer
 
   -- the pass that was alone at v got frame f, and is alone at x
   data Had (cap f : ℕ) (old kept : List ℕ) (v x : View X) : Type 0 where
@@ -36,11 +44,12 @@ module _ {X : Type 0} where
   record IsHad (v x : View X) : Type 0 where
     pub now : IsAlone x
     pub start : x.start ≡ v.start
+    pub notes : x.notes ≡ v.notes
     pub others : KnowsElse (IsBundleOf v.start) v x
 
 module _ {X : Type 0} (v : View X) (alone : IsAlone v) where
   had-self : IsHad v v
-  had-self = record { now = alone; start = refl; others = else-self (IsBundleOf v.start) v }
+  had-self = record { now = alone; start = refl; notes = refl; others = else-self (IsBundleOf v.start) v }
 
   had : (home cap f : ℕ) (old kept : List ℕ) (x : View X) → IsAlloc home cap 1 old kept v x (allocs.Batch (f ∷ [])) → IsHad v x × Had cap f old kept v x
   had home cap f old kept x a =
@@ -49,7 +58,7 @@ module _ {X : Type 0} (v : View X) (alone : IsAlone v) where
       (λ t.
       let passed : t.takes.passed < bundles_of v.start.frames = t.takes.below in
       let some : 0 < bundles_of v.start.frames = omega (arith, passed) in (
-        record { now = still-alone v x t.moves.parts t.moves.alone.current alone; start = t.moves.start; others = t.moves.table alone },
+        record { now = still-alone v x t.moves.parts t.moves.alone.current alone; start = t.moves.start; notes = t.moves.notes; others = t.moves.table alone },
         from_bundle t.g t.mask t.none t.hands.all (subst (λ n. n < bundles_of v.start.frames) (sym t.takes.bundle) (mod-lt (home + t.takes.passed) some)) (t.table alone),
       ))
       a
@@ -67,12 +76,6 @@ module _ {X : Type 0} (v : View X) (alone : IsAlone v) where
     released touched more state version x w h below wider before k =
         subst (λ n. KnowsReleased more state p n v w) (version-is x version h below k.before)
         (record { before = sym (page-same x h) ∙ k.before; now = k.now; others = else-then more v x w h.start before (else-within touched more x w wider k.others) })
-
-    -- the page's last version is the next one
-    pub brought-at : (home cap f : ℕ) (old kept : List ℕ) (x w : View X) → IsAlloc home cap 1 old kept v x (allocs.Batch (f ∷ [])) → IsBrought p f x w → (last_of w p).version ≡ known_version v p + 1
-    brought-at home cap f old kept x w a b =
-        let h : IsHad v x = (had home cap f old kept x a).0 in
-        ap (λ (l : Version). l.version) b.released.last ∙ ap (λ (n : ℕ). n + 1) (version-is x b.version h b.released.below (b.table h.now).before)
 
     -- a bundle is no place of the page or of the frame
     not-of-both : (g f : ℕ) → g < bundles_of v.start.frames → IsOfBoth p f (places.Bundle g) → ⊥
@@ -94,11 +97,10 @@ module _ {X : Type 0} (v : View X) (alone : IsAlone v) where
     back cap f old new y w a start r = subst (λ (o : Origin). KnowsElse (IsBundleOf o) y w) start (r.back.moves.table a)
 
     -- the page could not be locked, and the frame went back
-    was-refused : (cap f : ℕ) (old new : List ℕ) (x y w : View X) → IsHad v x → y.start ≡ x.start → (y.used ≡ x.used) × (y.fresh ≡ x.fresh) → (x.current ≡ true → y.current ≡ true) → KnowsSame x y → IsFreed cap old (f ∷ []) new y w → KnowsElse (IsBundleOf v.start) v w
-    was-refused cap f old new x y w h start parts current same r =
-        let alone-then : IsAlone y = still-alone x y parts current h.now in
+    was-refused : (cap f : ℕ) (old new : List ℕ) (done : List Did) (x y w : View X) → IsHad v x → IsAside p done x y → KnowsSame x y → IsFreed cap old (f ∷ []) new y w → KnowsElse (IsBundleOf v.start) v w
+    was-refused cap f old new done x y w h a same r =
         else-then (IsBundleOf v.start) v x w h.start h.others
-        (else-then (IsBundleOf v.start) x y w start (else-same (IsBundleOf v.start) x y start (same h.now)) (back cap f old new y w alone-then (start ∙ h.start) r))
+        (else-then (IsBundleOf v.start) x y w a.start (else-same (IsBundleOf v.start) x y a.start (same h.now)) (back cap f old new y w (still-alone x y a.parts a.alone.current h.now) (a.start ∙ h.start) r))
 
     has-failed : (cap f count : ℕ) (old new : List ℕ) (x y w : View X) → IsHad v x → IsFailed p count x y → IsFreed cap old (f ∷ []) new y w → KnowsFailed p v w
     has-failed cap f count old new x y w h t r =
@@ -114,18 +116,37 @@ module _ {X : Type 0} (v : View X) (alone : IsAlone v) where
         }
 
     module _ (cap : ℕ) (some : 1 ≤ cap) where
-      fetched : (f : ℕ) (old kept new : List ℕ) (x w : View X) (answer : Bring) → IsHad v x → Had cap f old kept v x → Fetches cap p f kept new x w answer → KnowsBring cap p old new v w answer
+      fetched : (f : ℕ) (old kept new : List ℕ) (x w : View X) (answer : Bring) → IsHad v x → Had cap f old kept v x → Fetches cap p f kept new x w answer → IsAnswered cap p old new v w answer
       fetched f old kept new x w answer h got (fetches.brought b same is) =
-          subst (KnowsBring cap p old new v w) (sym is) (subst (λ (l : List ℕ). KnowsBrought cap p old l v w) (sym same) (is-brought cap f old kept x w h got b))
+          record {
+            knows = subst (KnowsBring cap p old new v w) (sym is) (subst (λ (l : List ℕ). KnowsBrought cap p old l v w) (sym same) (is-brought cap f old kept x w h got b));
+            version = λ e. ap (λ (l : Version). l.version) b.released.last ∙ ap (λ (n : ℕ). n + 1) (version-is x b.version h b.released.below (b.table h.now).before);
+            sure = λ known. inl is;
+          }
       fetched f old kept new x w answer h got (fetches.again saw y t r is) =
-          subst (KnowsBring cap p old new v w) (sym is) (has-one cap kept new f y w some r, was-refused cap f kept new x y w h t.1.aside.start t.1.aside.parts t.1.aside.alone.current t.1.table r)
+          record {
+            knows = subst (KnowsBring cap p old new v w) (sym is) (has-some cap kept (f ∷ []) new y w some (omega arith) r, was-refused cap f kept new t.1.done x y w h t.1.aside t.1.table r);
+            version = λ e. cc;
+            sure = λ known. let k = t.1.known h.now in absurd (k.1 (ap state_of (k.0 ∙ page-same x h) ∙ known.0));
+          }
       fetched f old kept new x w answer h got (fetches.worn y t r is) =
-          subst (KnowsBring cap p old new v w) (sym is) (has-one cap kept new f y w some r, was-refused cap f kept new x y w h t.2.aside.start t.2.aside.parts t.2.aside.alone.current t.2.table r)
+          record {
+            knows = subst (KnowsBring cap p old new v w) (sym is) (has-some cap kept (f ∷ []) new y w some (omega arith) r, was-refused cap f kept new t.2.done x y w h t.2.aside t.2.table r);
+            version = λ e. cc;
+            sure = λ known.
+                let last : known_version v p ≡ MAX_VERSION = ap version_of (sym (page-same x h) ∙ t.2.known h.now) ∙ word-version EVICTED MAX_VERSION (omega arith) in
+                let low : known_version v p < MAX_VERSION = known.1 in
+                absurd (omega (arith, last, low));
+          }
       fetched f old kept new x w answer h got (fetches.device count y t r is) =
-          subst (KnowsBring cap p old new v w) (sym is) (has-one cap kept new f y w some r, has-failed cap f count kept new x y w h t.2 r)
+          record {
+            knows = subst (KnowsBring cap p old new v w) (sym is) (has-some cap kept (f ∷ []) new y w some (omega arith) r, has-failed cap f count kept new x y w h t.2 r);
+            version = λ e. cc;
+            sure = λ known. inr (count, is, r.back.moves.notes ∙ t.2.noted ∙ ap (λ (l : List Note). l ++ record { page = p; count = count } ∷ []) h.notes, t.2.within.0, subst (λ (s : Origin). count ≤ at 0 s.bounds p) h.start t.2.within.1);
+          }
 
       -- a frame was had at once
-      pub knows-once : (home : ℕ) (f : ℕ) (old kept new : List ℕ) (x w : View X) (answer : Bring) → IsAlloc home cap 1 old kept v x (allocs.Batch (f ∷ [])) → Fetches cap p f kept new x w answer → KnowsBring cap p old new v w answer
-      knows-once home f old kept new x w answer a t =
+      pub answered-once : (home : ℕ) (f : ℕ) (old kept new : List ℕ) (x w : View X) (answer : Bring) → IsAlloc home cap 1 old kept v x (allocs.Batch (f ∷ [])) → Fetches cap p f kept new x w answer → IsAnswered cap p old new v w answer
+      answered-once home f old kept new x w answer a t =
           let got = had home cap f old kept x a in
           fetched f old kept new x w answer got.0 got.1 t

@@ -1,34 +1,24 @@
 -- The last state of a table that was closed with a pass that has all parts and holds no page: every block is at home, and the words and
 -- blocks are those of the pass's snapshot.
-use Rattle.std.proofs.Common.{[], ⊎_elim, ◌*◌, ◌+◌, ◌<◌, ◌∙◌, ◌∷◌, ◌≡◌, ◌≢◌, ◌≤◌, ap, arith, Bool, false, IsSome, length, List, map, None, Option}
-use Rattle.std.proofs.Common.{refl, Some, subst, suc, sym, true, true≢false, zero, ℕ}
-use Rattle.std.proofs.lemmas.Bool.{cases_eq}
+use Rattle.std.proofs.Common.{true≢false}
 use mathlib.Core.Option as maybe
-use Rattle.atomic_table.specs.Table.{Final, Seen}
-use Rattle.vm_core.specs.Prelude.{at, EVICTED, get_elem?, LOCKED, some, some-injective, version_of}
-use Rattle.vm_rule.specs.Prelude.{began_of, block_of, bounds_of, bundles_of, HasShape, HoldsNoPage, index_of, IsWhole, Kept, known, last_of, listed}
-use Rattle.vm_rule.specs.Prelude.{Mapping, no_block, out_of, out_or, Ruled, seat_of, snapshot_of, Stands, stands_dirty, Start, Stored, Table}
-use Rattle.vm_rule.specs.Prelude.{table_words, world_of}
 use Rattle.vm_rule.specs.declared.view.Place.TheVariants as places
-use Rattle.vm_rule.specs.Reading.{at_home}
-use Rattle.vm_rule.proofs.ListFacts.{at-listed, at-map, length-listed, length-mapped, listed-long}
-use Rattle.vm_rule.proofs.Parts.{listed-same}
-use Rattle.vm_rule_laws.specs.{Known.HasStepped, Known.kept_by, Noted.NotesStand}
-use Rattle.vm_rule_laws.specs.Standing.{block_in, mapping_in, PageStands, state_in, version_in}
-use Rattle.vm_rule_laws.proofs.{Alone.others-have-nothing, Alone.without-locks, Begun.begun-ruled, Histories.all-seen, Knowing.table-known}
-use Rattle.vm_rule_laws.proofs.{Knowing.what-is-kept, Noted.notes-stand, Standing.stands-known}
-use Rattle.vm_step.specs.Prelude.{Origin, Out, Shape, Snapshot, View}
-use Rattle.vm_step.proofs.steps.CatchUp.{found-below, version-below}
-use Rattle.vm_pool.specs.Closing.{IsClosed, IsStored}
-use Rattle.vm_pool.proofs.{HomeBlocks.all-home, Traces.version-there}
+use Rattle.vm_pool.proofs.HomeBlocks.{all-home}
+use Rattle.vm_pool.proofs.Prelude.{[], all-seen, ap, arith, at, at-any, at-listed, at-map, at_home, at_index, began_of, begun-ruled, block_in}
+use Rattle.vm_pool.proofs.Prelude.{block_of, Bool, bounds_of, bundles_of, cases_eq, core_shown, EVICTED, false, Final, found-below, get_elem?}
+use Rattle.vm_pool.proofs.Prelude.{HasShape, HasStepped, HoldsNoPage, index_of, IsClosed, IsSome, IsStored, IsWhole, Kept, kept_by, known, last_of}
+use Rattle.vm_pool.proofs.Prelude.{length, length-listed, length-mapped, List, listed, listed-long, listed-same, LOCKED, lt-ltb, map, Mapping}
+use Rattle.vm_pool.proofs.Prelude.{mapping_in, no_block, None, notes-stand, NotesStand, Option, Origin, others-have-nothing, Out, out_of, out_or}
+use Rattle.vm_pool.proofs.Prelude.{pages_from, PageStands, refl, Ruled, seat_of, Seen, Shape, Snapshot, snapshot_of, Some, some, some-injective}
+use Rattle.vm_pool.proofs.Prelude.{Stands, stands-known, stands_dirty, Start, state_in, Stored, subst, suc, sym, Table, table-known, table_words}
+use Rattle.vm_pool.proofs.Prelude.{true, version-below, version_in, version_of, View, what-is-kept, without-locks, world_of, zero, ℕ, ⊎_elim, ◌*◌}
+use Rattle.vm_pool.proofs.Prelude.{◌+◌, ◌<◌, ◌∙◌, ◌∷◌, ◌≡◌, ◌≢◌, ◌≤◌}
 
 -- ---- lists
 
 there-at : {A : Type 0} (d : A) (l : List A) (i : ℕ) → i < length l → get_elem? l i ≡ some (at d l i)
 unfolding at
-there-at d [] i l = absurd (omega arith)
-there-at d (x ∷ xs) zero l = refl
-there-at d (x ∷ xs) (suc i) l = there-at d xs i (omega arith)
+there-at d l i inside = at_index l i (at d l i) inside (at-any d (at d l i) l i inside)
 
 -- two lists of one length that agree at each place
 same-lists : {A : Type 0} (d : A) (xs ys : List A) (n : ℕ) → length xs ≡ n → length ys ≡ n → ((p : ℕ) → p < n → at d xs p ≡ at d ys p) → xs ≡ ys
@@ -51,6 +41,11 @@ home-some (maybe.some (Some b)) is = (b, refl, refl)
 clean-there : (o : Option Mapping) → IsSome o → stands_dirty o ≡ false → (m : Mapping) × (o ≡ Some m) × (m.dirty ≡ false)
 clean-there None is clean = absurd (true≢false (sym is))
 clean-there (Some m) is clean = (m, refl, clean)
+
+-- the version of a page of the table is its state word's
+version-there : {X B : Type 0} (stored : B → Stored) (start : Origin) (s : Table (Option B) (View X)) (p : ℕ) → p < start.pages → ((core_shown stored start s).pages p).version ≡ version_of ((table_words start s.words).states p)
+unfolding pages_from
+version-there stored start s p l = rw (lt-ltb p start.pages l) refl
 
 -- ---- no block is out
 
@@ -113,12 +108,10 @@ module _ {X B : Type 0} (stored : B → Stored) (keeps : Start → Kept X → Ty
       let h = home-at stored keeps tied start tells s rule id v stepped holds k (omega arith) in
       (h.0, last.4 k (Some h.0) h.1))
 
-  -- where the next word stands
-  next-place : (pages frames : ℕ) → pages ≡ shape.pages → frames ≡ shape.frames → 3 * pages + 64 * frames + bundles_of frames ≡ index_of start places.Next
-  next-place pages frames p f = (λ i. 3 * (p ∙ sym is-ruled.0.pages) i + 64 * (f ∙ sym is-ruled.0.frames) i + bundles_of ((f ∙ sym is-ruled.0.frames) i))
-
+  -- the next word
   next-there : (pages frames : ℕ) → pages ≡ shape.pages → frames ≡ shape.frames → at 0 ws (3 * pages + 64 * frames + bundles_of frames) ≡ (table_words start s.words).next
-  next-there pages frames p f = ap (at 0 ws) (next-place pages frames p f) ∙ sym (ap (λ l. at 0 l (index_of start places.Next)) last.2)
+  next-there pages frames p f =
+      (λ i. at 0 ws (3 * (p ∙ sym is-ruled.0.pages) i + 64 * (f ∙ sym is-ruled.0.frames) i + bundles_of ((f ∙ sym is-ruled.0.frames) i))) ∙ sym (ap (λ l. at 0 l (index_of start places.Next)) last.2)
 
   -- it is at most the number of pages
   pub next-small : (pages frames : ℕ) → pages ≡ shape.pages → frames ≡ shape.frames → pages ≤ 65536 → at 0 ws (3 * pages + 64 * frames + bundles_of frames) ≤ 65536
@@ -164,22 +157,17 @@ module _ {X B : Type 0} (stored : B → Stored) (keeps : Start → Kept X → Ty
         let page = page-stands p l in
         let free : state_in v.start v.snapshot p ≢ LOCKED = page.unlocked (holds.exclusive p) in
         ⊎_elim
-        (λ gone. page.device t gone)
-        (λ (clean : stands_dirty (mapping_in v.start v.snapshot p) ≡ false). ⊎_elim
         (λ (gone : state_in v.start v.snapshot p ≡ EVICTED). page.device t gone)
-        (λ here. let in_frame = clean-there (mapping_in v.start v.snapshot p) (page.resident free here) clean in
+        (λ here.
+        let in_frame = clean-there (mapping_in v.start v.snapshot p) (page.resident free here) (⊎_elim (λ gone. absurd (here gone)) (λ clean. clean) is) in
         page.clean t free in_frame.0 in_frame.1 in_frame.2)
-        (cases_eq (state_in v.start v.snapshot p) EVICTED))
-        is
+        (cases_eq (state_in v.start v.snapshot p) EVICTED)
 
     notes : NotesStand v.snapshot v.notes
     notes = notes-stand stored keeps tied start tells s rule id v stepped
 
     none-left : (v.pending ≡ []) × (v.owed ≡ [])
     none-left = without-locks stored keeps tied start tells s rule id v last.1.1 live holds.exclusive
-
-    telling : tells ≡ true → v.start.tells ≡ true
-    telling t = ap (λ (o : Origin). o.tells) same-start ∙ rule.telling ∙ t
 
     pub closes : (pages frames next : ℕ) → pages ≡ shape.pages → frames ≡ shape.frames → next ≡ at 0 ws (3 * pages + 64 * frames + bundles_of frames) → IsClosed tells keeps v blocks next
     closes pages frames next p f n =
@@ -190,7 +178,7 @@ module _ {X B : Type 0} (stored : B → Stored) (keeps : Start → Kept X → Ty
           faults = λ q l. ap (λ k. (at no_block k q).count) all-shown ∙ sym ((page-stands q l).fault (holds.exclusive q) (holds.writing q));
           noted = λ q count some. subst (λ (k : List Stored). (1 ≤ count) × (count ≤ (at no_block k q).count)) (sym all-shown) (notes.noted q count some);
           once = notes.once;
-          words = λ t q l is. ap (λ k. (at no_block k q).words) all-shown ∙ words-stored (telling t) q l is;
+          words = λ t q l is. ap (λ k. (at no_block k q).words) all-shown ∙ words-stored (ap (λ (o : Origin). o.tells) same-start ∙ rule.telling ∙ t) q l is;
           next_is = n ∙ next-there pages frames p f ∙ (λ i. (table_words (sym same-start i) (sym (ap (λ (y : Snapshot). y.words) same-snapshot) i)).next);
           released = none-left.0;
           paid = none-left.1;

@@ -1,14 +1,10 @@
+pub mod Prelude
 pub mod HomeBlocks
 pub mod Sums
-pub mod Traces
 pub mod Parting
 pub mod LastState
-pub mod AtOnce
-pub mod Swept
 pub mod Sweeping
 pub mod Bringing
-pub mod Alone
-pub mod Sure
 pub mod FirstPage
 pub mod Keeping
 pub mod Knowing

@@ -1,44 +1,48 @@
--- A page that is brought, written and released by a pass that is alone, and a sweep behind it: the calls succeed where the page is far enough below
--- the last version, and its block never fails.
-use Rattle.std.proofs.Common.{[], ⊎_elim, ◌+◌, ◌<◌, ◌∙◌, ◌≡◌, ◌≤◌, ap, arith, IfSome, inl, IsSome, List, None, Option, Some, subst, sym, true, ℕ}
-use Rattle.std.proofs.lemmas.Bool.{false≢true}
-use Rattle.vm_core.specs.Prelude.{at, is_readable, MAX_VERSION, state_of, UNLOCKED, version_of, word_of}
-use Rattle.vm_rule.specs.Prelude.{last_in, last_of}
+-- A pass that is alone brings a page, writes and releases it, sweeps, and brings it again: the word that was set is the page's over calls that leave its
+-- last words; and the calls succeed where the page is far enough below the last version, and its block never fails.
 use Rattle.vm_rule.specs.declared.view.Place.TheVariants as places
-use Rattle.vm_rule.proofs.{Entries.append-none, WordFacts.word-state, WordFacts.word-version}
-use Rattle.vm_step.specs.Prelude.{Did, IsAlone, known_word_at, Origin, Release, View}
-use Rattle.vm_step.proofs.Alone.{still-alone}
-use Rattle.vm_exmap.specs.Frames.{HasFree}
-use Rattle.vm_guard.specs.{Quiet.IsSteady, Sure.IsKnownFree}
-use Rattle.vm_fault.specs.Fetches.{IsKnownOut}
-use Rattle.vm_evict.specs.declared.report.Report.{Report}
-use Rattle.vm_pool.specs.{Brings.IsSure, Brings.KeepsLocks, declared.bring.Bring.Bring, Sweeps.IsSwept}
-use Rattle.vm_pool.specs.Known.{known_version, KnowsAsked, KnowsBring, KnowsBrought, KnowsBrought as brought}
-use Rattle.vm_pool.proofs.Asking.{when-free}
+use Rattle.vm_pool.proofs.{Asking.when-free, Keeping.keeps-alone, Knowing.brought-word}
 use Rattle.vm_pool.proofs.OnePage.{asked-reads, is-out, no-fault, out-reads, swept-free}
+use Rattle.vm_pool.proofs.Prelude.{[], alone-then, ap, append-none, arith, at, Bool, Bring, Did, draft_of, false≢true, get_or-set_same, HasFree}
+use Rattle.vm_pool.proofs.Prelude.{IfSome, inl, is_readable, IsAlone, IsKnownFree, IsKnownOut, IsReleased, IsSet, IsSome, IsSteady, IsSure, IsSwept}
+use Rattle.vm_pool.proofs.Prelude.{KeepsLocks, known_version, known_word_at, KnowsAsked, KnowsBring, last_in, last_of, length, List, MAX_VERSION}
+use Rattle.vm_pool.proofs.Prelude.{None, Option, Origin, Release, Report, slice_index, slice_set, Some, state_of, StaysAlone, still-alone, subst, sym}
+use Rattle.vm_pool.proofs.Prelude.{true, UNLOCKED, Version, version_of, View, word-state, word-version, ℕ, ⊎_elim, ◌+◌, ◌<◌, ◌∙◌, ◌≡◌, ◌≤◌}
+
+module _ {X : Type 0} where
+  -- the calls of a guard leave it so
+  pub steady-alone : {done : List Did} {own : List Release} {v w : View X} → IsSteady done own v w → IsAlone v → IsAlone w
+  steady-alone {v = v} {w = w} s = still-alone v w s.parts s.alone.current
+
+  -- the guard's page is p: word i of its draft was set, and the page was released
+  pub set-words : (p i x q n frame version : ℕ) (dirty : Bool) (said : Option X) (v w z : View X) → q ≡ p → n ≡ p → IsSet q frame dirty i x v w → IsReleased n version said w z
+      → (last_of z p).words ≡ slice_set (draft_of v p) i x
+  set-words p i x q n frame version dirty said v w z e f is released =
+      ap (λ (k : ℕ). (last_of z k).words) (sym f)
+      ∙ ap (λ (l : Version). l.words) released.last
+      ∙ ap (draft_of w) (f ∙ sym e)
+      ∙ is.draft
+      ∙ ap (λ (k : ℕ). slice_set (draft_of v k) i x) e
+
+  -- two calls that keep the locks, and a third one, leave the word that was set
+  pub word-back : (p i x : ℕ) (words : List ℕ) (r a b z : View X) → IsAlone r → (last_of r p).words ≡ slice_set words i x → i < length words → KeepsLocks r a → KeepsLocks a b → StaysAlone b z
+      → slice_index (last_of z p).words i ≡ x
+  word-back p i x words r a b z alone is inside sweeps brings reads =
+      let parts : (b.used ≡ r.used) × (b.fresh ≡ r.fresh) = (brings.parts.0 ∙ sweeps.parts.0, brings.parts.1 ∙ sweeps.parts.1) in
+      let stays : StaysAlone r z = alone-then r b z parts (alone-then r a b sweeps.parts sweeps.alone brings.alone) reads in
+      ap (λ (l : List ℕ). slice_index l i) (stays.words alone.0 alone.1 p ∙ is) ∙ get_or-set_same words i x 0 inside
 
 pub some-is : (r : Option ℕ) (x : ℕ) → IsSome r → IfSome r (λ y. y ≡ x) → r ≡ Some x
 some-is None x some is = absurd (false≢true some)
 some-is (Some y) x some is = ap (λ (n : ℕ). Some n) is
 
 module _ {X : Type 0} where
-  -- a page that was brought is unlocked, at its next version
-  pub brought-word : (cap p : ℕ) (old new : List ℕ) (v w : View X) → KnowsBrought cap p old new v w → known_word_at w (places.State p) ≡ word_of UNLOCKED (known_version v p + 1)
-  brought-word cap p old new v w (brought.own f is r) = r.now
-  brought-word cap p old new v w (brought.taken f g mask none are inside low left r) = r.now
-
-  -- so it can be locked
-  pub record CanBeLocked (p version : ℕ) (w : View X) : Type 0 where
-    pub free : IsKnownFree p w
-    pub version_is : version_of (known_word_at w (places.State p)) ≡ version
-
-  pub first-locks : (cap p : ℕ) (old new : List ℕ) (v w : View X) (answer : Bring) → at 0 v.start.bounds p ≡ 0 → known_version v p < MAX_VERSION → IsSure p v w answer → KnowsBring cap p old new v w answer → CanBeLocked p (known_version v p + 1) w
+  -- a page that was brought can be locked
+  pub first-locks : (cap p : ℕ) (old new : List ℕ) (v w : View X) (answer : Bring) → at 0 v.start.bounds p ≡ 0 → known_version v p < MAX_VERSION → IsSure p v w answer → KnowsBring cap p old new v w answer
+      → IsKnownFree p w × (version_of (known_word_at w (places.State p)) ≡ known_version v p + 1)
   first-locks cap p old new v w answer none low s k =
-      let is = brought-word cap p old new v w (subst (λ (b : Bring). KnowsBring cap p old new v w b) (no-fault p v w answer none s) k) in
-      record {
-        free = inl (ap state_of is ∙ word-state UNLOCKED (known_version v p + 1) (omega (arith, low)));
-        version_is = ap version_of is ∙ word-version UNLOCKED (known_version v p + 1) (omega (arith, low));
-      }
+      let is = brought-word (subst (λ (b : Bring). KnowsBring cap p old new v w b) (no-fault p v w answer none s) k) in
+      (inl (ap state_of is ∙ word-state UNLOCKED (known_version v p + 1) (omega (arith, low))), ap version_of is ∙ word-version UNLOCKED (known_version v p + 1) (omega (arith, low)))
 
   -- steps of a pass that is alone, without a release, leave the last version of each page
   pub same-version : (done : List Did) (p : ℕ) (v w : View X) → IsAlone v → IsSteady done [] v w → (last_of w p).version ≡ (last_of v p).version
@@ -51,7 +55,7 @@ module _ {X : Type 0} where
       → at 0 v.start.bounds p ≡ 0 → IsSwept want cap old new report v x → KeepsLocks v x → (IsAlone x → IsKnownOut p x → HasFree new x → IsSure p x w answer) → (IsAlone x → KnowsAsked most p new last x w answer)
       → is_readable (state_of (known_word_at w (places.State p))) ≡ true
   reads-again want cap most p old new last report v x w answer alone one some page free low none s keeps sure table =
-      let still : IsAlone x = still-alone v x keeps.parts keeps.alone.current alone in
+      let still : IsAlone x = keeps-alone keeps alone in
       let bound : at 0 x.start.bounds p ≡ 0 = subst (λ (o : Origin). at 0 o.bounds p ≡ 0) (sym keeps.start) none in
       let there : p < x.start.pages = subst (λ (o : Origin). p < o.pages) (sym keeps.start) page in
       ⊎_elim

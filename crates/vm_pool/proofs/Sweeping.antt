@@ -1,17 +1,59 @@
--- What a sweep knows of an eviction: its report has the looks that found the candidates, and the frames that came stand beside those that the
--- pass holds.
-use Rattle.std.proofs.Common.{⊎_elim, ◌++◌, ◌<◌, ◌∙◌, ◌≡◌, false, List, subst, sym, true, ℕ}
-use Rattle.std.proofs.lemmas.Bool.{cases_Bool, or_left, or_right, true≢false}
-use Rattle.vm_rule.specs.Prelude.{Each, has}
-use Rattle.vm_step.specs.Prelude.{AreCandidates, AreHeld, IsCandidate, Origin, View}
-use Rattle.vm_step.specs.declared.choice.Looks.{Looks}
-use Rattle.vm_exmap.specs.Returns.{IsFreed}
-use Rattle.vm_exmap.proofs.Handing.{apart-join, each-has, each-join, each-of}
-use Rattle.vm_clock.specs.Clock.{IsChosen}
-use Rattle.vm_evict.specs.{declared.report.Report.Report, Evictions.FramesCome, Evictions.IsBatch}
-use Rattle.vm_evict.proofs.Gathering.{each-at}
-use Rattle.vm_pool.specs.Sweeps.{IsSwept}
-use Rattle.vm_pool.proofs.Swept.{knows-swept}
+-- A sweep, by the calls that it makes: its report has the looks that found the candidates; the frames that came stand beside those that the pass
+-- holds; and a pass that is alone knows the words that the walk left, then those that the eviction left, then those that the frames' going back left.
+use Rattle.vm_rule.specs.declared.view.Place.TheVariants as places
+use Rattle.vm_pool.proofs.Prelude.{apart-join, AreCandidates, AreHeld, bit_or, bundles_of, candidate_at, candidate_pages, cases_Bool, Each, each-at}
+use Rattle.vm_pool.proofs.Prelude.{each-has, each-join, each-of, else-then, else-within, false, FramesCome, has, inl, inr, IsAlone, IsBatch}
+use Rattle.vm_pool.proofs.Prelude.{IsBundleOf, IsCandidate, IsChosen, IsFreed, IsOfAny, IsSwept, IsWalked, known_word_at, KnowsAt, KnowsElse}
+use Rattle.vm_pool.proofs.Prelude.{KnowsGiven, KnowsSwept, KnowsWalked, length, List, Looks, or_left, or_right, Origin, Place, Report, stage_at}
+use Rattle.vm_pool.proofs.Prelude.{stays-known, still-alone, subst, sym, true, true≢false, View, ℕ, ⊎_elim, ◌++◌, ◌<◌, ◌∙◌, ◌≡◌, ◌⊎◌}
+
+-- ---- what a pass that is alone knows
+
+-- a walk is on no bundle's word
+not-walked : (start : Origin) (drawn count g : ℕ) → g < bundles_of start.frames → IsWalked start.pages drawn count (places.Bundle g) → ⊥
+not-walked start drawn count g inside (inl e) = subst (IsBundleOf start) e inside
+not-walked start drawn count g inside (inr p) = subst (IsBundleOf start) p.1 inside
+
+module _ {X : Type 0} where
+  -- frames that came back to a bundle's word, told of an earlier view with the same word there
+  given-from : (frames : List ℕ) (g : ℕ) (u v w : View X) → known_word_at v (places.Bundle g) ≡ known_word_at u (places.Bundle g) → KnowsGiven frames g v w → KnowsGiven frames g u w
+  given-from frames g u v w same k =
+      ⊎_elim
+      (λ none. inl (none.0, none.1 ∙ same))
+      (λ some. inr (some.0, some.1, subst (λ (n : ℕ). KnowsAt (places.Bundle g) (bit_or n some.0) w) same some.2))
+      k
+
+  module _ (want cap : ℕ) (old new batch : List ℕ) (list : List (ℕ × ℕ)) (looks : Looks) (report : Report) (v x y w : View X) (chosen : IsChosen want looks list v x) (evicted : IsBatch list looks x y report batch) (freed : IsFreed cap old batch new y w) where
+    pub knows-swept : ((n : ℕ) → n < length list → (candidate_at list n).0 < v.start.pages) → IsAlone v → KnowsSwept chosen.drawn chosen.count list evicted.ends freed.given v x w
+    knows-swept inside a =
+        let walked : KnowsWalked chosen.drawn chosen.count v x = chosen.table a in
+        let ax : IsAlone x = still-alone v x chosen.aside.parts chosen.aside.alone.current a in
+        let ay : IsAlone y = still-alone x y evicted.aside.parts evicted.aside.alone.current ax in
+        let e = evicted.table ax in
+        let start : y.start ≡ v.start = evicted.aside.start ∙ chosen.aside.start in
+        let back : KnowsElse (IsBundleOf y.start) y w = freed.back.moves.table ay in
+        let more : Place → Type 0 = (λ at. IsOfAny (candidate_pages list) at ⊎ IsBundleOf v.start at) in
+        record {
+          walked = walked;
+          each = λ n l.
+              let page : (candidate_at list n).0 < y.start.pages = subst (λ (o : Origin). (candidate_at list n).0 < o.pages) (sym start) (inside n l) in
+              stays-known (candidate_at list n) (stage_at evicted.ends n) x y w
+              record {
+                state = back.words (places.State (candidate_at list n).0) page (λ t. t);
+                translation = back.words (places.Translation (candidate_at list n).0) page (λ t. t);
+                fault = back.words (places.Fault (candidate_at list n).0) page (λ t. t);
+              }
+              (e.each n l);
+          bundles = λ g l.
+              let at-x : g < bundles_of x.start.frames = subst (λ (o : Origin). g < bundles_of o.frames) (sym chosen.aside.start) l in
+              let at-y : g < bundles_of y.start.frames = subst (λ (o : Origin). g < bundles_of o.frames) (sym start) l in
+              given-from freed.given g v y w
+              (e.others.words (places.Bundle g) at-x (λ t. t) ∙ walked.others.words (places.Bundle g) l (not-walked v.start chosen.drawn chosen.count g l))
+              (freed.back.table ay g at-y);
+          others = else-then more x y w evicted.aside.start
+              (else-within (IsOfAny (candidate_pages list)) more x y (λ at t. inl t) e.others)
+              (else-within (IsBundleOf y.start) more y w (λ at t. inr (subst (λ (o : Origin). IsBundleOf o at) start t)) back);
+        }
 
 module _ {X : Type 0} where
   -- ---- the frames

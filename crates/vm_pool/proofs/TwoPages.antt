@@ -1,25 +1,16 @@
 -- What the first pass of a pool with two frames knows after it asked for a page: another page has its word, a frame is free still, and a page
 -- that was brought can be read.
-use Rattle.std.specs.Int.{bit_at}
-use Rattle.std.proofs.Common.{[], ⊎_elim, ◌%◌, ◌*◌, ◌+◌, ◌-◌, ◌<◌, ◌^◌, ◌∙◌, ◌∷◌, ◌≡◌, ◌≢◌, ◌≤◌, ap, arith, bit_xor, Bool, inl, inr, length, List}
-use Rattle.std.proofs.Common.{min, refl, subst, suc, sym, true, zero, ℕ}
-use Rattle.std.proofs.lemmas.Bool.{cases_eq, cases_lt}
-use Rattle.std.proofs.lemmas.Nat.Bits.{bit_at-lt, bit_at-zero, bit_at_ones, bit_at_xor}
-use Rattle.vm_core.specs.Prelude.{AreLowest, full_bundle, is_readable, MAX_VERSION, state_of, sum_below, UNLOCKED, version_of, word_of}
-use Rattle.vm_core.specs.Words.{bit_count}
-use Rattle.vm_core.proofs.Upd.{sum_below-past}
-use Rattle.vm_rule.specs.Prelude.{bundles_of, index_of, IsStarted, started_shape, Stored, unborn}
-use Rattle.vm_rule.specs.Begun.{begun}
 use Rattle.vm_rule.specs.declared.view.Place.TheVariants as places
-use Rattle.vm_rule.proofs.WordFacts.{word-state}
-use Rattle.vm_step.specs.Prelude.{IsAlone, IsOfPage, known_word_at, Origin, View}
-use Rattle.vm_step.proofs.Alone.{still-alone}
-use Rattle.vm_exmap.specs.Frames.{HasFree, IsBundleOf}
-use Rattle.vm_fault.specs.Fetches.{IsKnownOut, IsOfBoth}
-use Rattle.vm_pool.specs.{Brings.KeepsLocks, declared.bring.Bring.Bring}
+use Rattle.vm_pool.specs.Known.{KnowsBrought as brought}
 use Rattle.vm_pool.specs.declared.bring.Bring.TheVariants as brings
-use Rattle.vm_pool.specs.Known.{known_version, KnowsBring, KnowsBrought, KnowsBrought as brought}
-use Rattle.vm_pool.proofs.FirstPage.{bundle-there, first-alone, first-out, some-frames, start-is}
+use Rattle.vm_pool.proofs.{Asking.when-free, Keeping.keeps-alone, Knowing.can-be-read}
+use Rattle.vm_pool.proofs.FirstPage.{bundle-there, first-alone, first-out, some-frames, sure-on}
+use Rattle.vm_pool.proofs.Prelude.{[], ap, AreLowest, arith, begun, bit_at, bit_at-lt, bit_at-zero, bit_at_ones, bit_at_xor, bit_count, bit_xor, Bool}
+use Rattle.vm_pool.proofs.Prelude.{bounds_of, Bring, bundles_of, cases_eq, cases_lt, full_bundle, HasAskedFirst, HasFree, index_of, inl, inr}
+use Rattle.vm_pool.proofs.Prelude.{is_readable, IsAlone, IsBroughtOrFailed, IsBundleOf, IsKnownOut, IsOfBoth, IsOfPage, IsStarted, IsSure, KeepsLocks}
+use Rattle.vm_pool.proofs.Prelude.{known_word_at, KnowsAsked, KnowsBring, KnowsBrought, length, List, MAX_VERSION, min, Origin, refl, started_shape}
+use Rattle.vm_pool.proofs.Prelude.{state_of, Stored, subst, suc, sum_below, sum_below-past, sym, true, unborn, version_of, View, zero, ℕ, ⊎_elim, ◌%◌}
+use Rattle.vm_pool.proofs.Prelude.{◌*◌, ◌+◌, ◌-◌, ◌<◌, ◌^◌, ◌∙◌, ◌∷◌, ◌≡◌, ◌≢◌, ◌≤◌}
 
 -- ---- two bits of a word
 
@@ -79,16 +70,6 @@ module _ {X : Type 0} where
       let same : known_word_at w (places.State q) ≡ known_word_at v (places.State q) = other-page cap p q old new v w answer ne l k in
       (ap state_of same ∙ out.0, subst (λ n. version_of n < MAX_VERSION) (sym same) out.1)
 
-  -- a page that was brought can be read
-  pub can-be-read : (cap p : ℕ) (old new : List ℕ) (v w : View X) → IsKnownOut p v → KnowsBrought cap p old new v w → is_readable (state_of (known_word_at w (places.State p))) ≡ true
-  can-be-read cap p old new v w out k =
-      let below : known_version v p < MAX_VERSION = out.1 in
-      ap is_readable (ap state_of (now k) ∙ word-state UNLOCKED (known_version v p + 1) (omega (arith, below)))
-    where
-      now : KnowsBrought cap p old new v w → known_word_at w (places.State p) ≡ word_of UNLOCKED (known_version v p + 1)
-      now (brought.own f is r) = r.now
-      now (brought.taken f g mask none are inside low left r) = r.now
-
   -- with an interface that had no frame, and two in the first bundle, a frame is free still
   module _ (p : ℕ) (new : List ℕ) (v w : View X) (start : w.start ≡ v.start) (some : 0 < bundles_of v.start.frames) (two : 2 ≤ bit_count (known_word_at v (places.Bundle 0))) (any : known_word_at v (places.Bundle 0) ≢ 0) where
     in-first : known_word_at w (places.Bundle 0) ≢ 0 → HasFree new w
@@ -124,23 +105,30 @@ module _ {X : Type 0} where
     still-free (brings.Worn q) k = inl k.0
     still-free (brings.Dry looks) k = absurd k
 
-  -- what the first pass of a pool with two frames knows after it asked for one page: it is alone, the other page is evicted, and a frame is free
-  pub record IsReadyAgain (b : ℕ) (new : List ℕ) (w : View X) : Type 0 where
-    pub alone : IsAlone w
-    pub out : IsKnownOut b w
-    pub free : HasFree new w
+  -- the first pass of a pool with two frames asked for one page: it is alone, the other page is evicted, and a frame is free
+  module _ (tells : Bool) (version next frames : ℕ) (blocks : List Stored) (pages : ℕ) (long : length blocks ≡ pages) (fits : IsStarted version next frames pages) (below : version < MAX_VERSION) (two : 2 ≤ frames)
+      (a b : ℕ) (ne : a ≢ b) (in-a : a < pages) (in-b : b < pages) (new : List ℕ) (w : View X) (answer : Bring) (asked : HasAskedFirst a (begun (unborn (started_shape tells version next frames blocks))) new w answer) where
+    abbrev first : View X
+    first = begun (unborn (started_shape tells version next frames blocks))
 
-  module _ (tells : Bool) (version next frames : ℕ) (blocks : List Stored) (v : View X) (is : v ≡ begun (unborn (started_shape tells version next frames blocks))) (fits : IsStarted version next frames (length blocks)) (below : version < MAX_VERSION) where
-    pub has-page : (p : ℕ) → p < length blocks → p < v.start.pages
-    has-page p l = subst (λ (o : Origin). p < o.pages) (sym (start-is tells version next frames blocks v is)) l
+    again : IsAlone w × IsKnownOut b w × HasFree new w
+    again =
+        let there : known_word_at first (places.Bundle 0) ≡ full_bundle frames 0 = bundle-there tells version next frames blocks first refl pages long fits in
+        let some : 0 < bundles_of frames = omega (arith, two) in (
+          keeps-alone asked.keeps (first-alone tells version next frames blocks first refl),
+          still-out 1 a b [] new first w answer (λ e. ne (sym e)) (omega (arith, in-b, long)) (first-out tells version next frames blocks first refl pages long fits b in-b below) asked.knows,
+          still-free a new first w asked.keeps.start some (subst (λ n. 2 ≤ bit_count n) (sym there) (two-frames frames two)) (λ none. some-frames frames (omega (arith, two)) (sym there ∙ none)) answer asked.knows,
+        )
 
-    pub ready-again : (a b : ℕ) (new : List ℕ) (w : View X) (answer : Bring) → 2 ≤ frames → b ≢ a → b < length blocks → KeepsLocks v w → KnowsBring 1 a [] new v w answer → IsReadyAgain b new w
-    ready-again a b new w answer two ne l keeps k =
-        let there : known_word_at v (places.Bundle 0) ≡ full_bundle frames 0 = bundle-there tells version next frames blocks v is fits in
-        let some : 0 < bundles_of frames = omega (arith, two) in
-        record {
-          alone = still-alone v w keeps.parts keeps.alone.current (first-alone tells version next frames blocks v is);
-          out = still-out 1 a b [] new v w answer ne (has-page b l) (first-out tells version next frames blocks v is fits b l below) k;
-          free = still-free a new v w keeps.start (subst (λ (o : Origin). 0 < bundles_of o.frames) (sym (start-is tells version next frames blocks v is)) some)
-              (subst (λ n. 2 ≤ bit_count n) (sym there) (two-frames frames two)) (λ none. some-frames frames (omega (arith, two)) (sym there ∙ none)) answer k;
-        }
+    -- it asked for the other page then
+    module _ (cap : ℕ) (last : List ℕ) (z : View X) (r : Bring) where
+      pub second-sure : (IsAlone w → IsKnownOut b w → HasFree new w → IsSure b w z r) → IsBroughtOrFailed b (bounds_of blocks) r
+      second-sure sure = sure-on tells version next frames blocks first refl b w z r asked.keeps.start (sure again.0 again.1 again.2)
+
+      pub reads-first : answer ≡ brings.Brought → KeepsLocks w z → (IsAlone w → KnowsAsked cap b new last w z r) → IsAlone z × (is_readable (state_of (known_word_at z (places.State a))) ≡ true)
+      reads-first brought keeps table = (
+        keeps-alone keeps again.0,
+        ap (λ (n : ℕ). is_readable (state_of n))
+            (other-page cap b a new last w z r ne (subst (λ (o : Origin). a < o.pages) (sym asked.keeps.start) (omega (arith, in-a, long))) (when-free cap b new last w z r again.2 (table again.0)))
+            ∙ can-be-read (first-out tells version next frames blocks first refl pages long fits a in-a below).1 (subst (KnowsBring 1 a [] new first w) brought asked.knows),
+      )

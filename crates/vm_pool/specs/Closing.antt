@@ -2,7 +2,7 @@
 use Rattle.std.specs.List.{sum_by}
 use Rattle.std.specs.Prelude.{[], ◌-◌, ◌<◌, ◌^◌, ◌≡◌, ◌≢◌, ◌≤◌, ◌⊎◌, Bool, false, length, List, min, true, ℕ}
 use Rattle.vm_core.specs.Prelude.{at, EVICTED, MAX_COUNT, version_of}
-use Rattle.vm_rule.specs.Prelude.{began_of, bounds_of, Each, Kept, last_of, no_block, stands_dirty, Start, Stored, table_words, times_noted}
+use Rattle.vm_rule.specs.Prelude.{began_of, bounds_of, Each, Kept, last_of, no_block, stands_dirty, Start, Stored, table_words, times_noted, view_of}
 use Rattle.vm_rule.specs.declared.view.Place.TheVariants as places
 use Rattle.vm_rule_laws.specs.Known.{kept_by}
 use Rattle.vm_rule_laws.specs.Standing.{fault_in, mapping_in, state_in}
@@ -44,7 +44,7 @@ sum_to_max count blocks = min (sum_by count blocks) (2 ^ 64 - 1)
 module _ {U X : Type 0} where
   -- what the pass knew that closed the pool
   abbrev pub view_at_end : Ended U X → View X
-  view_at_end end = end.knew.view
+  view_at_end end = view_of end.knew.value.views
 
   -- the sums of the blocks' reads, writes and faults; no more calls failed than the blocks' bounds say, of each and together
   pub record AreSums (blocks : List Stored) (end : Ended U X) : Type 0 where

@@ -8,7 +8,7 @@ use Rattle.vm_step.specs.Prelude.{IsAlone, IsOfPage, known_word_at, KnowsElse, V
 use Rattle.vm_exmap.specs.Frames.{HasFree, IsBundleOf}
 use Rattle.vm_fault.specs.Fetches.{IsKnownOut, IsOfBoth, KnowsReleased}
 use Rattle.vm_evict.specs.declared.report.Report.{Report}
-use Rattle.vm_pool.specs.{Brings.IsSure, Brings.SaysDry, declared.bring.Bring.Bring, Sweeps.IsSwept}
+use Rattle.vm_pool.specs.{Brings.IsSure, Brings.KeepsLocks, Brings.SaysDry, declared.bring.Bring.Bring, Sweeps.IsSwept}
 use Rattle.vm_pool.specs.declared.bring.Bring.TheVariants as brings
 
 module _ {X : Type 0} where
@@ -38,6 +38,11 @@ module _ {X : Type 0} where
   KnowsBring cap p old new v w (brings.Again saw) = (new ≢ []) × KnowsElse (IsBundleOf v.start) v w
   KnowsBring cap p old new v w (brings.Worn q) = (new ≢ []) × KnowsElse (IsBundleOf v.start) v w
   KnowsBring cap p old new v w (brings.Dry looks) = ⊥
+
+  -- the first pass of a pool, which began with the view `first`, asked for page p, by an interface for one frame that had none
+  pub record HasAskedFirst (p : ℕ) (first : View X) (frames : List ℕ) (v : View X) (answer : Bring) : Type 0 where
+    pub keeps : KeepsLocks first v
+    pub knows : KnowsBring 1 p [] frames first v answer
 
   -- the pass knows that page p is evicted, four versions below the last or more, and that a frame is free; and the page's block never fails
   pub record MayGoRound (p : ℕ) (frames : List ℕ) (v : View X) : Type 0 where

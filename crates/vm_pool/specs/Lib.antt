@@ -1,4 +1,3 @@
-pub mod Holding
 pub mod Parting
 pub mod Closing
 pub mod Sweeps

@@ -112,7 +112,6 @@ impl<U: Owner, B: Block> Pool<U, B> {
         ensures iface { (iface.new.home ≡ iface.old.home) × (iface.new.cap ≡ iface.old.cap) }
         ensures frame { IfOk result (λ frame. AreHeld (frame ∷ iface.new.frames) (view pass.new)) }
         ensures held { AreHeld iface.new.frames (view pass.new) }
-        ensures keeps { KeepsLocks (view pass.old) (view pass.new) }
     {
         match iface.alloc(&self.words, pass, 1) {
             Alloc::Batch(batch) => return Ok(only_frame(&batch)),
@@ -139,7 +138,6 @@ impl<U: Owner, B: Block> Pool<U, B> {
         ensures fetches { Fetches iface.old.cap pid frame iface.old.frames iface.new.frames (view pass.old) (view pass.new) result }
         ensures iface { (iface.new.home ≡ iface.old.home) × (iface.new.cap ≡ iface.old.cap) × (iface.new.swept ≡ iface.old.swept) }
         ensures held { AreHeld iface.new.frames (view pass.new) }
-        ensures keeps { KeepsLocks (view pass.old) (view pass.new) }
     {
         let answer = match fault_in(&self.words, pass, pid, frame) {
             Fetch::Brought => return Bring::Brought,

@@ -5,11 +5,9 @@ ghost use Rattle.std.specs.Prelude.{[], ◌*◌, ◌+◌, ◌≡◌, ◌≤◌, 
 ghost use Rattle.std.specs.Vec.{vec_capacity};
 ghost use Rattle.vm_core.specs.Prelude.{at};
 ghost use Rattle.vm_rule.specs.Prelude.{bundles_of, HoldsNoPage, IsWhole, view_of, width_of};
-ghost use Rattle.vm_step.specs.Prelude.{View};
 ghost use Rattle.vm_pool.specs.Closing.{AreSums, IsClosed, view_at_end};
 
 use crate::ended::{Closed, Ended};
-use crate::told::Told;
 use atomic_table::Closed as ClosedTable;
 use std::alloc::Global;
 use vm_block::Block;
@@ -34,7 +32,7 @@ pub(crate) fn closed<U: Owner, B: Block + Drop>(
     ensures start { (view_of pass.badge.views).start ≡ words.table.shared.key.began.origin }
     ensures told { view_at_end result.ended ≡ view_of pass.badge.views }
 {
-    let knew = told_of(&pass);
+    let knew = pass.knew();
     let (pages, frames) = (words.pages, words.frames);
     let table = words.close_with(pass);
     let next = next_of(&table, pages, frames);
@@ -45,14 +43,6 @@ pub(crate) fn closed<U: Owner, B: Block + Drop>(
         next,
         ended,
     }
-}
-
-/// What the pass knows, for proofs. The caller's proof takes it from the pass.
-fn told_of<U: Owner>(_pass: &Pass<U>) -> Told<U::Said>
-    ghost told: { View U.Said }
-    ensures { result.view ≡ told }
-{
-    Told::new()
 }
 
 /// The next word of a table of so many pages and frames.

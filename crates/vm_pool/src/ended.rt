@@ -2,9 +2,9 @@
 
 ghost use Rattle.std.specs.Prelude.{◌≡◌, map};
 
-use crate::told::Told;
 use vm_block::Block;
 use vm_owner::Owner;
+use vm_rule::words::Knew;
 
 /// A pool that was closed: the blocks in the order of their pages, the least page number that was not claimed, and what is known of the end.
 pub struct Closed<U: Owner, B> {
@@ -17,7 +17,7 @@ pub struct Closed<U: Owner, B> {
 /// Nothing but the end of a pool makes one.
 #[derive(Drop)]
 pub struct Ended<U: Owner> {
-    pub(crate) knew: Told<U::Said>,
+    pub(crate) knew: Knew<U::Said>,
     pub(crate) reads: u64,
     pub(crate) writes: u64,
     pub(crate) faults: u64,
@@ -48,7 +48,7 @@ impl<U: Owner> Ended<U> {
     }
 
     /// The end of a pool with these blocks.
-    pub(crate) fn of<B: Block>(knew: Told<U::Said>, blocks: &[B]) -> Ended<U>
+    pub(crate) fn of<B: Block>(knew: Knew<U::Said>, blocks: &[B]) -> Ended<U>
         ensures knew { result.knew ≡ knew }
         ensures sums { AreSums (map B.stored blocks.now) result }
     {

@@ -2,8 +2,10 @@
 // a pass that is alone can be had: the first pass is such a one, and knows each page to be evicted and each frame to be free.
 ghost use Rattle.std.specs.Prelude.{◌<◌, ◌≡◌, IfOk, length, map, true};
 ghost use Rattle.vm_core.specs.Prelude.{MAX_VERSION};
-ghost use Rattle.vm_rule.specs.Prelude.{block_words, bounds_of, IsStarted, MayBegin};
-ghost use Rattle.vm_pool.specs.Brings.{IsBroughtOrFailed};
+ghost use Rattle.vm_rule.specs.Prelude.{block_words, bounds_of, IsStarted, MayBegin, started_shape, unborn};
+ghost use Rattle.vm_rule.specs.Begun.{begun};
+ghost use Rattle.vm_step.specs.Prelude.{AreHeld, IsReady, view};
+ghost use Rattle.vm_pool.specs.{Brings.IsBroughtOrFailed, Known.HasAskedFirst};
 
 use crate::bring::Bring;
 use crate::pool::{Pool, Shape};
@@ -23,7 +25,7 @@ pub struct Opened<U: Owner, B: Block> {
 }
 
 /// Starts a pool, below the last version, and brings page `pid`: it is brought, or its device failed, as the bound of its block allows. With
-/// a block whose bound is 0 it is brought.
+/// a block whose bound is 0 it is brought. What the pass knows then is enough for its next calls.
 pub fn open_page<U: Owner, B: Block + Drop>(
     alloc: Global,
     shape: Shape,
@@ -36,6 +38,13 @@ pub fn open_page<U: Owner, B: Block + Drop>(
     requires page { pid < shape.pages }
     requires begins { B.tells ≡ true → MayBegin U.keeps shape.next (block_words (map B.stored blocks.items)) }
     ensures answer { IfOk result (λ opened. IsBroughtOrFailed pid (bounds_of (map B.stored blocks.items)) opened.answer) }
+    ensures key { IfOk result (λ opened. opened.pool.words.table.shared.key
+        ≡ started_shape B.tells shape.first_version shape.next shape.frames (map B.stored blocks.items)) }
+    ensures ready { IfOk result (λ opened. IsReady opened.pool.words.table.shared.key B.tells opened.pool.words.table.shared.table_id opened.pass) }
+    ensures held { IfOk result (λ opened. AreHeld opened.iface.frames (view opened.pass)) }
+    ensures asked { IfOk result (λ opened. HasAskedFirst pid
+        (begun (unborn (started_shape B.tells shape.first_version shape.next shape.frames (map B.stored blocks.items))))
+        opened.iface.frames (view opened.pass) opened.answer) }
 {
     let (pool, mut pass) = Pool::start(alloc, shape, blocks)?;
     let mut iface = Interface::new(0, 1);

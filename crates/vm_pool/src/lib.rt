@@ -11,11 +11,9 @@ mod pool;
 pub mod round_trip;
 pub mod save;
 pub mod shared_page;
-mod told;
 pub mod two_pages;
 pub mod whole_again;
 
 pub use bring::{Bring, dry_cause};
 pub use ended::{Closed, Ended};
 pub use pool::{Pool, Shape};
-pub use told::Told;

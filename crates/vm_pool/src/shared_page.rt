@@ -1,4 +1,4 @@
-// A pool is started, a page brought, shared and read: it stands on the contracts of `start`, `bring` and the shared guard alone, and shows that a page
+// A pool is started, a page brought, shared and read: it stands on the contracts of `open_page` and the shared guard alone, and shows that a page
 // that was brought can be shared for sure.
 ghost use Rattle.std.specs.Prelude.{◌<◌, ◌≡◌, IfOk, IsSome, length, map, true};
 ghost use Rattle.vm_core.specs.Prelude.{MAX_VERSION};
@@ -6,6 +6,7 @@ ghost use Rattle.vm_rule.specs.Prelude.{block_words, bounds_of, IsStarted, MayBe
 ghost use Rattle.vm_pool.specs.Brings.{IsBroughtOrFailed};
 
 use crate::bring::Bring;
+use crate::first_page::{Opened, open_page};
 use crate::pool::{Pool, Shape};
 use std::alloc::Global;
 use vm_block::Block;
@@ -42,9 +43,12 @@ pub fn open_shared<U: Owner, B: Block + Drop>(
     ensures answer { IfOk result (λ opened. IsBroughtOrFailed pid (bounds_of (map B.stored blocks.items)) opened.answer) }
     ensures word { IfOk result (λ opened. opened.answer ≡ Bring.Brought → IsSome opened.word) }
 {
-    let (pool, mut pass) = Pool::start(alloc, shape, blocks)?;
-    let mut iface = Interface::new(0, 1);
-    let answer = pool.bring(&mut pass, &mut iface, pid);
+    let Opened {
+        pool,
+        mut pass,
+        iface,
+        answer,
+    } = open_page(alloc, shape, blocks, pid)?;
     let word = match SharedGuard::take(&pool.words, &mut pass, pid) {
         Ok(guard) => {
             let word = guard.read(&pool.words, &mut pass, i);

@@ -1,4 +1,4 @@
-// A pool is started, two pages are brought, and a word of the first is read. It stands on the contracts of `start`, `bring` and `read_word`
+// A pool is started, two pages are brought, and a word of the first is read. It stands on the contracts of `open_page`, `bring` and `read_word`
 // alone, and shows that they can be chained: what a pass that is alone knows after one call is what makes the next one sure.
 ghost use Rattle.std.specs.Prelude.{◌<◌, ◌≡◌, ◌≢◌, ◌≤◌, IfOk, IsSome, length, map, true};
 ghost use Rattle.vm_core.specs.Prelude.{MAX_VERSION};
@@ -6,6 +6,7 @@ ghost use Rattle.vm_rule.specs.Prelude.{block_words, bounds_of, IsStarted, MayBe
 ghost use Rattle.vm_pool.specs.Brings.{IsBroughtOrFailed};
 
 use crate::bring::Bring;
+use crate::first_page::{Opened, open_page};
 use crate::pool::{Pool, Shape};
 use std::alloc::Global;
 use vm_block::Block;
@@ -46,9 +47,12 @@ pub fn open_two<U: Owner, B: Block + Drop>(
     ensures second { IfOk result (λ two. IsBroughtOrFailed b (bounds_of (map B.stored blocks.items)) two.second) }
     ensures word { IfOk result (λ two. two.first ≡ Bring.Brought → IsSome two.word) }
 {
-    let (pool, mut pass) = Pool::start(alloc, shape, blocks)?;
-    let mut iface = Interface::new(0, 1);
-    let first = pool.bring(&mut pass, &mut iface, a);
+    let Opened {
+        pool,
+        mut pass,
+        mut iface,
+        answer: first,
+    } = open_page(alloc, shape, blocks, a)?;
     let second = pool.bring(&mut pass, &mut iface, b);
     let word = read_word(&pool.words, &mut pass, a, i);
     Ok(TwoPages {

@@ -1,9 +1,7 @@
-use Rattle.std.specs.Mem.Slots.{slots_filled, slots_items, slots_len}
-use Rattle.std.specs.Vec.{vec_capacity, vec_len}
-use Rattle.std.proofs.Common.{◌+◌, ◌<◌, ◌∙◌, ◌≡◌, ◌≤◌, ap, arith, false, get_or, if◌then◌else◌, is_ok, sym, true}
-use Rattle.vm_core.specs.Prelude.{get_elem?, some}
-use Rattle.vm_pool.proofs.closing.blocks_of.Goals as goal
 use Rattle.vm_pool.proofs.HomeBlocks.{emptied-next, filled-next, never-none, taken-more}
+use Rattle.vm_pool.proofs.Prelude.{ap, arith, false, get_elem?, get_or, if◌then◌else◌, is_ok, slots_filled, slots_items, slots_len, some, sym, true}
+use Rattle.vm_pool.proofs.Prelude.{vec_capacity, vec_len, ◌+◌, ◌<◌, ◌∙◌, ◌≡◌, ◌≤◌}
+use Rattle.vm_pool.proofs.closing.blocks_of.Goals as goal
 
 pub unreachable-requires : goal.unreachable-requires
 unreachable-requires g c = never-none (slots_items c.args.table.slots) c.requires.home c.loop-p.p c.take-slot.result (ap (λ l. get_elem? l c.loop-p.p) (sym c.loop-p.invariant.1) ∙ c.take-slot.ensures.value) c.in_default.is

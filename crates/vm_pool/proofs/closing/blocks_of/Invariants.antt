@@ -1,7 +1,5 @@
-use Rattle.std.specs.Mem.Slots.{slots_filled, slots_items, slots_len}
-use Rattle.std.specs.Mem.Slots.Ownership.{Filled}
-use Rattle.std.specs.Vec.{vec_capacity, vec_len}
-use Rattle.std.proofs.Common.{◌<◌, ◌≡◌, ◌≤◌, false, get_or, map, Some, take, ℕ}
+use Rattle.vm_pool.proofs.Prelude.{false, Filled, get_or, map, slots_filled, slots_items, slots_len, Some, take, vec_capacity, vec_len, ℕ, ◌<◌, ◌≡◌}
+use Rattle.vm_pool.proofs.Prelude.{◌≤◌}
 use Rattle.vm_pool.proofs.closing.blocks_of.Given as goal
 
 -- the blocks taken so far, and the places that are empty now

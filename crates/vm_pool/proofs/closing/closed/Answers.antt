@@ -1,7 +1,6 @@
-use Rattle.std.specs.Mem.Slots.{slots_items}
-use Rattle.vm_rule.specs.Prelude.{view_of}
-use Rattle.vm_pool.proofs.closing.closed.Goals as goal
 use Rattle.vm_pool.proofs.LastState.{closes, next-small, same-start, slots-home}
+use Rattle.vm_pool.proofs.Prelude.{slots_items, view_of}
+use Rattle.vm_pool.proofs.closing.closed.Goals as goal
 
 pub next_of-next-requires-clause-small : goal.next_of-next-requires-clause-small
 next_of-next-requires-clause-small g c =

@@ -1,8 +1,4 @@
-use Rattle.std.specs.Mem.Slots.{slots_items}
-use Rattle.std.proofs.Common.{◌*◌, ◌+◌, ◌≡◌, ◌≤◌, arith, sym}
-use Rattle.vm_core.specs.Prelude.{at}
-use Rattle.vm_rule.specs.Prelude.{bundles_of}
-use Rattle.vm_rule.proofs.Views.{at-there}
+use Rattle.vm_pool.proofs.Prelude.{arith, at, at-there, bundles_of, slots_items, sym, ◌*◌, ◌+◌, ◌≡◌, ◌≤◌}
 use Rattle.vm_pool.proofs.closing.next_of.Goals as goal
 
 pub overflow_cast-result : goal.overflow_cast-result

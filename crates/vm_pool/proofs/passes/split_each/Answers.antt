@@ -1,9 +1,6 @@
-use Rattle.std.specs.Prelude.{All}
-use Rattle.std.specs.Vec.{vec_capacity, vec_len}
-use Rattle.std.proofs.Common.{[], ◌++◌, ◌+◌, ◌<◌, ◌∙◌, ◌∷◌, ◌≡◌, ◌≤◌, ap, arith, if◌then◌else◌, is_ok, length, length-append, map, subst, sym, true}
-use mathlib.Core.List.{map-append}
-use Rattle.vm_step.specs.Prelude.{IsReady, PassesSplit, view}
-use Rattle.vm_step.proofs.Together.{all-snoc, cut-length, new-number, ready-as, split-step}
+use Rattle.vm_pool.proofs.Prelude.{[], All, all-snoc, ap, arith, cut-length, if◌then◌else◌, is_ok, IsReady, length, length-append, map, map-append}
+use Rattle.vm_pool.proofs.Prelude.{new-number, PassesSplit, ready-as, split-step, subst, sym, true, vec_capacity, vec_len, view, ◌++◌, ◌+◌, ◌<◌, ◌∙◌}
+use Rattle.vm_pool.proofs.Prelude.{◌∷◌, ◌≡◌, ◌≤◌}
 use Rattle.vm_pool.proofs.passes.split_each.Goals as goal
 
 pub loop-i-preserved : goal.loop-i-preserved

@@ -1,6 +1,5 @@
-use Rattle.std.specs.Vec.{vec_capacity, vec_len}
-use Rattle.std.proofs.Common.{◌+◌, ◌≡◌, ◌≤◌, All, length, map}
-use Rattle.vm_step.specs.Prelude.{IsReady, IsSamePass, PassesSplit, View, view}
+use Rattle.std.proofs.Common.{All}
+use Rattle.vm_pool.proofs.Prelude.{IsReady, IsSamePass, length, map, PassesSplit, vec_capacity, vec_len, View, view, ◌+◌, ◌≡◌, ◌≤◌}
 use Rattle.vm_pool.proofs.passes.split_each.Given as goal
 
 abbrev pub invariant-loop-i : goal.invariant-loop-i

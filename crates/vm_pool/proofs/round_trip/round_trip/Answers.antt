@@ -1,19 +1,11 @@
 -- The release made the draft the page's last words; the sweep, the second bringing and the read left them so. A pass that is alone has each call
 -- succeed, by what the calls before told it of the page.
-use Rattle.std.proofs.Common.{◌+◌, ◌<◌, ◌∙◌, ◌≡◌, ◌≤◌, ap, arith, IsOk, length, List, slice_set, subst, sym, true, ℕ}
-use Rattle.std.proofs.lemmas.Bool.{false≢true}
-use Rattle.std.proofs.lemmas.Option.{IfSome_then}
-use Rattle.vm_core.specs.Prelude.{at, is_readable, MAX_VERSION, state_of, version_of}
-use Rattle.vm_rule.specs.Prelude.{draft_of, last_of}
-use Rattle.vm_step.specs.Prelude.{IsAlone, Origin, view}
-use Rattle.vm_step.proofs.Alone.{still-alone}
-use Rattle.vm_exmap.proofs.Handing.{held-on}
-use Rattle.vm_guard.specs.Sure.{IsKnownFree, known_word}
-use Rattle.vm_pool.specs.Known.{known_version}
-use Rattle.vm_pool.proofs.{Asking.asked-version, Asking.when-free, OnePage.no-fault}
-use Rattle.vm_pool.proofs.Alone.{set-alone, set-words, word-back}
+use Rattle.vm_pool.proofs.{Asking.answered-free, Asking.when-free, Keeping.keeps-alone, OnePage.no-fault}
+use Rattle.vm_pool.proofs.Prelude.{ap, arith, at, draft_of, false≢true, held-on, IfSome_then, is_readable, IsAlone, IsKnownFree, IsOk, known_version}
+use Rattle.vm_pool.proofs.Prelude.{known_word, last_of, length, List, MAX_VERSION, Origin, slice_set, state_of, subst, sym, true, version_of, view, ℕ}
+use Rattle.vm_pool.proofs.Prelude.{◌+◌, ◌<◌, ◌∙◌, ◌≡◌, ◌≤◌}
+use Rattle.vm_pool.proofs.RoundTrip.{first-locks, reads-again, same-version, set-words, some-is, steady-alone, word-back}
 use Rattle.vm_pool.proofs.round_trip.round_trip.Goals as goal
-use Rattle.vm_pool.proofs.RoundTrip.{CanBeLocked, first-locks, reads-again, same-version, some-is}
 
 pub returns-in_default-clause-held : goal.returns-in_default-clause-held
 returns-in_default-clause-held g c =
@@ -26,10 +18,8 @@ returns-in_default-clause-sure g c can =
     let v0 = view c.args.pass.now in
     let v1 = view c.bring.new.pass in
     let below : known_version v0 c.args.pid < MAX_VERSION = omega (arith, low) in
-    let locks : CanBeLocked c.args.pid (known_version v0 c.args.pid + 1) v1 =
-    first-locks _ c.args.pid _ _ v0 v1 c.bring.result can.good below (c.bring.ensures.sure c.requires.alone can.out can.free) (when-free _ c.args.pid _ _ v0 v1 c.bring.result can.free (c.bring.ensures.table c.requires.alone)) in
-    let same = locks.version_is in
-    absurd (false≢true (subst (λ r. IsOk r) c.in_default.is (c.take.ensures.sure (still-alone v0 v1 c.bring.ensures.keeps.parts c.bring.ensures.keeps.alone.current c.requires.alone) locks.free (omega (arith, low, same)))))
+    let locks = first-locks _ c.args.pid _ _ v0 v1 c.bring.result can.good below (c.bring.ensures.sure c.requires.alone can.out can.free) (when-free _ c.args.pid _ _ v0 v1 c.bring.result can.free (c.bring.ensures.table c.requires.alone)) in
+    absurd (false≢true (subst (λ r. IsOk r) c.in_default.is (c.take.ensures.sure (keeps-alone c.bring.ensures.keeps c.requires.alone) locks.0 (omega (arith, low, locks.1)))))
 
 pub sweep-requires-clause-frames : goal.sweep-requires-clause-frames
 sweep-requires-clause-frames g c =
@@ -43,7 +33,7 @@ returns-clause-word g c =
     let taken = c.in-Ok.ensures.taken in
     let same : c.set.new.self.pid ≡ c.args.pid = ap (λ s. s.pid) c.set.ensures.guard ∙ taken.0 in
     let alone : IsAlone (view c.release.new.pass) =
-    set-alone _ _ _ _ _ _ _ _ c.requires.alone c.bring.ensures.keeps taken.1.elsewhere.steady c.set.ensures.set.elsewhere.steady c.release.ensures.released.elsewhere.steady in
+    steady-alone c.release.ensures.released.elsewhere.steady (steady-alone c.set.ensures.set.elsewhere.steady (steady-alone taken.1.elsewhere.steady (keeps-alone c.bring.ensures.keeps c.requires.alone))) in
     let draft : List ℕ = draft_of (view c.take.new.pass) c.args.pid in
     let words : (last_of (view c.release.new.pass) c.args.pid).words ≡ slice_set draft c.args.i c.args.w =
     set-words c.args.pid c.args.i c.args.w c.in-Ok.guard.pid c.set.new.self.pid _ _ _ _ (view c.take.new.pass) (view c.set.new.pass) (view c.release.new.pass) taken.0 same c.set.ensures.set c.release.ensures.released in
@@ -70,11 +60,11 @@ returns-clause-sure g c can =
     let steady-set = c.set.ensures.set.elsewhere.steady in
     let steady-end = c.release.ensures.released.elsewhere.steady in
     let same : c.set.new.self.pid ≡ p = ap (λ s. s.pid) c.set.ensures.guard ∙ taken.0 in
-    let one : IsAlone v1 = still-alone v0 v1 c.bring.ensures.keeps.parts c.bring.ensures.keeps.alone.current c.requires.alone in
-    let set : IsAlone (view c.set.new.pass) = still-alone v2 (view c.set.new.pass) steady-set.parts steady-set.alone.current (still-alone v1 v2 steady-take.parts steady-take.alone.current one) in
-    let alone : IsAlone v4 = set-alone _ _ _ _ _ _ _ _ c.requires.alone c.bring.ensures.keeps steady-take steady-set steady-end in
+    let one : IsAlone v1 = keeps-alone c.bring.ensures.keeps c.requires.alone in
+    let set : IsAlone (view c.set.new.pass) = steady-alone steady-set (steady-alone steady-take one) in
+    let alone : IsAlone v4 = steady-alone steady-end set in
     let first : (last_of v1 p).version ≡ known_version v0 p + 1 =
-    asked-version v0 c.requires.alone p page c.args.iface.now.cap c.args.iface.now.fits.0 c.args.iface.now.home _ _ _ _ v1 c.bring.result can.free c.bring.ensures.answer (no-fault p v0 v1 c.bring.result can.good (c.bring.ensures.sure c.requires.alone can.out can.free)) in
+    (answered-free v0 c.requires.alone p page c.args.iface.now.cap c.args.iface.now.fits.0 c.args.iface.now.home _ _ _ _ v1 c.bring.result can.free c.bring.ensures.answer).version (no-fault p v0 v1 c.bring.result can.good (c.bring.ensures.sure c.requires.alone can.out can.free)) in
     let held : (last_of v2 p).version ≡ c.in-Ok.guard.version = taken.1.holding.at in
     let kept : (last_of v2 p).version ≡ (last_of v1 p).version = same-version _ p v1 v2 one steady-take in
     let then : c.set.new.self.version ≡ c.in-Ok.guard.version = ap (λ s. s.version) c.set.ensures.guard in
@@ -85,7 +75,7 @@ returns-clause-sure g c can =
     let reads : is_readable (state_of (known_word p v6)) ≡ true =
     reads-again _ c.bring.new.iface.cap c.sweep.new.iface.cap p _ _ _ c.sweep.result v4 v5 v6 c.bring-2.result alone c.bring.new.iface.fits.0 c.sweep.new.iface.fits.0 (subst (λ (o : Origin). p < o.pages) (sym start-then) page) free-then below
     (subst (λ (o : Origin). at 0 o.bounds p ≡ 0) (sym start-then) can.good) c.sweep.ensures.swept c.sweep.ensures.keeps c.bring-2.ensures.sure c.bring-2.ensures.table in
-    let last : IsAlone v6 = still-alone v5 v6 c.bring-2.ensures.keeps.parts c.bring-2.ensures.keeps.alone.current (still-alone v4 v5 c.sweep.ensures.keeps.parts c.sweep.ensures.keeps.alone.current alone) in
+    let last : IsAlone v6 = keeps-alone c.bring-2.ensures.keeps (keeps-alone c.sweep.ensures.keeps alone) in
     some-is c.read_word.result c.args.w (c.read_word.ensures.sure last reads) (returns-clause-word g c)
 
 pub returns-clause-held : goal.returns-clause-held

@@ -1,6 +1,4 @@
-use Rattle.std.proofs.Common.{◌∙◌}
-use Rattle.vm_step.specs.Prelude.{view}
-use Rattle.vm_step.proofs.Asides.{whole-then}
+use Rattle.vm_pool.proofs.Prelude.{view, whole-then, ◌∙◌}
 use Rattle.vm_pool.proofs.save.flush_and_close.Goals as goal
 
 pub flush-report-requires : goal.flush-report-requires

@@ -1,7 +1,4 @@
-use Rattle.std.proofs.Common.{[], ◌∙◌, ◌∷◌, subst, sym}
-use mathlib.Core.List.{map-append}
-use Rattle.vm_step.specs.Prelude.{HasJoined, view}
-use Rattle.vm_step.proofs.Together.{joined-one}
+use Rattle.vm_pool.proofs.Prelude.{[], HasJoined, joined-one, map-append, subst, sym, view, ◌∙◌, ◌∷◌}
 use Rattle.vm_pool.proofs.whole_again.join_each.Goals as goal
 
 pub loop-other-preserved : goal.loop-other-preserved

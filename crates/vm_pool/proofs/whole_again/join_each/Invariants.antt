@@ -1,5 +1,4 @@
-use Rattle.std.proofs.Common.{map}
-use Rattle.vm_step.specs.Prelude.{HasJoined, IsSamePass, MayStep, view}
+use Rattle.vm_pool.proofs.Prelude.{HasJoined, IsSamePass, map, MayStep, view}
 use Rattle.vm_pool.proofs.whole_again.join_each.Given as goal
 
 abbrev pub invariant-loop-other : goal.invariant-loop-other

@@ -1,6 +1,4 @@
-use Rattle.std.proofs.Common.{◌∷◌, ◌≡◌, ◌≤◌, ap, arith, length}
-use Rattle.vm_step.specs.Prelude.{view}
-use Rattle.vm_step.proofs.{MetPasses.met-still, Still.still-nothing, Together.holds-none, Together.new-nothing}
+use Rattle.vm_pool.proofs.Prelude.{ap, arith, holds-none, length, met-still, new-nothing, still-nothing, view, ◌∷◌, ◌≡◌, ◌≤◌}
 use Rattle.vm_pool.proofs.whole_again.meet_and_join.Goals as goal
 
 pub split_one-second-requires-clause-fresh : goal.split_one-second-requires-clause-fresh

@@ -1,9 +1,7 @@
-use Rattle.std.proofs.Common.{◌∙◌, ◌≡◌, ◌≤◌, ap, arith, length, refl, subst, sym}
-use Rattle.vm_rule.specs.Prelude.{HoldsNoPage}
-use Rattle.vm_step.specs.Prelude.{view}
-use Rattle.vm_step.proofs.Still.{still-nothing}
-use Rattle.vm_step.proofs.Together.{each-at, holds-none, new-nothing, numbers-length, split-current, split-still, whole-again}
-use Rattle.vm_pool.proofs.AtOnce.{first-has-all}
+use Rattle.vm_step.proofs.Together.{each-at}
+use Rattle.vm_pool.proofs.FirstPage.{first-alone}
+use Rattle.vm_pool.proofs.Prelude.{ap, arith, holds-none, HoldsNoPage, length, new-nothing, numbers-length, refl, split-current, split-still}
+use Rattle.vm_pool.proofs.Prelude.{still-nothing, subst, sym, view, whole-again, ◌∙◌, ◌≡◌, ◌≤◌}
 use Rattle.vm_pool.proofs.whole_again.split_and_join.Goals as goal
 
 pub split-requires-clause-parts : goal.split-requires-clause-parts
@@ -16,7 +14,7 @@ pub join_each-requires-clause-nothing : goal.join_each-requires-clause-nothing
 join_each-requires-clause-nothing g c k d l = let new = each-at _ (λ p. view p) c.in_ok-given.given.items c.in_ok-given.ensures.split.each k d l in holds-none _ (new-nothing _ _ _ _ _ new.new)
 
 pub close-requires-clause-whole : goal.close-requires-clause-whole
-close-requires-clause-whole g c = whole-again _ _ _ _ _ c.in_ok-given.ensures.split c.join_each.ensures.joined (λ k. refl) (first-has-all _ _ _ c.in_ok-pool.ensures.view)
+close-requires-clause-whole g c = whole-again _ _ _ _ _ c.in_ok-given.ensures.split c.join_each.ensures.joined (λ k. refl) (first-alone _ _ _ _ _ _ c.in_ok-pool.ensures.view).0
 
 pub close-requires-clause-holds : goal.close-requires-clause-holds
 close-requires-clause-holds g c =

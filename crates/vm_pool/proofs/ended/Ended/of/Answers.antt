@@ -1,5 +1,5 @@
-use Rattle.vm_pool.proofs.ended.Ended.of.Goals as goal
 use Rattle.vm_pool.proofs.Sums.{each-bounded, sum-bounded, sum-whole}
+use Rattle.vm_pool.proofs.ended.Ended.of.Goals as goal
 
 pub returns-clause-sums : goal.returns-clause-sums
 returns-clause-sums g c =

@@ -1,5 +1,4 @@
-use Rattle.std.specs.List.{sum_by}
-use Rattle.std.proofs.Common.{◌-◌, ◌^◌, ◌≡◌, min, take}
+use Rattle.vm_pool.proofs.Prelude.{min, sum_by, take, ◌-◌, ◌^◌, ◌≡◌}
 use Rattle.vm_pool.proofs.ended.Ended.of.Given as goal
 
 abbrev pub invariant-loop-block : goal.invariant-loop-block

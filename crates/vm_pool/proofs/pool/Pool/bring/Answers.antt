@@ -1,8 +1,11 @@
-use Rattle.std.proofs.Common.{◌<◌, subst, sym}
-use Rattle.vm_step.specs.Prelude.{view}
-use Rattle.vm_pool.specs.Brings.{Fetches, Gets, IsBring as is_bring}
-use Rattle.vm_pool.proofs.{Asking.knows-asked, Keeping.keeps-then, Sure.sure}
+use Rattle.vm_pool.specs.Brings.{IsBring as is_bring}
+use Rattle.vm_pool.proofs.Asking.{answered-free, knows-asked}
+use Rattle.vm_pool.proofs.Keeping.{fetches-keeps, framed-keeps, keeps-then}
+use Rattle.vm_pool.proofs.Prelude.{Err, Fetches, Gets, Ok, subst, sym, view, ◌<◌, ◌∙◌}
 use Rattle.vm_pool.proofs.pool.Pool.bring.Goals as goal
+
+pub bring_into-requires-clause-home : goal.bring_into-requires-clause-home
+bring_into-requires-clause-home g c = (framed-keeps _ _ _ _ _ _ _ _ (Ok _) c.in-Ok.ensures.framed).out ∙ c.requires.home
 
 pub returns-in-Ok-clause-answer : goal.returns-in-Ok-clause-answer
 returns-in-Ok-clause-answer g c =
@@ -14,14 +17,18 @@ returns-in-Err-clause-answer g c = is_bring.frameless c.in-Err.ensures.framed
 
 pub returns-in-Ok-clause-sure : goal.returns-in-Ok-clause-sure
 returns-in-Ok-clause-sure g c alone known free =
-    sure (view c.args.pass.now) alone c.args.pid (subst (λ n. c.args.pid < n) (sym c.requires.ready.table.is_shape.pages) c.requires.page) known c.args.iface.now.home c.args.iface.now.cap c.args.iface.now.frames free _ _ _ _ _ (returns-in-Ok-clause-answer g c)
+    (answered-free (view c.args.pass.now) alone c.args.pid (subst (λ n. c.args.pid < n) (sym c.requires.ready.table.is_shape.pages) c.requires.page) c.args.iface.now.cap c.args.iface.now.fits.0 c.args.iface.now.home _ _ c.args.iface.now.frames _ _ _ free (returns-in-Ok-clause-answer g c)).sure known
 
 pub returns-in-Err-clause-sure : goal.returns-in-Err-clause-sure
 returns-in-Err-clause-sure g c alone known free =
-    sure (view c.args.pass.now) alone c.args.pid (subst (λ n. c.args.pid < n) (sym c.requires.ready.table.is_shape.pages) c.requires.page) known c.args.iface.now.home c.args.iface.now.cap c.args.iface.now.frames free _ _ _ _ _ (returns-in-Err-clause-answer g c)
+    (answered-free (view c.args.pass.now) alone c.args.pid (subst (λ n. c.args.pid < n) (sym c.requires.ready.table.is_shape.pages) c.requires.page) c.args.iface.now.cap c.args.iface.now.fits.0 c.args.iface.now.home _ _ c.args.iface.now.frames _ _ _ free (returns-in-Err-clause-answer g c)).sure known
 
 pub returns-in-Ok-clause-keeps : goal.returns-in-Ok-clause-keeps
-returns-in-Ok-clause-keeps g c = keeps-then (view c.args.pass.now) (view c.frame_for.new.pass) (view c.bring_into.new.pass) c.frame_for.ensures.keeps c.bring_into.ensures.keeps
+returns-in-Ok-clause-keeps g c =
+    keeps-then _ _ _ (framed-keeps _ _ _ _ _ _ _ _ (Ok _) c.in-Ok.ensures.framed) (fetches-keeps _ _ _ _ _ _ _ _ c.bring_into.ensures.fetches)
+
+pub returns-in-Err-clause-keeps : goal.returns-in-Err-clause-keeps
+returns-in-Err-clause-keeps g c = framed-keeps _ _ _ _ _ _ _ _ (Err _) c.in-Err.ensures.framed
 
 pub returns-in-Ok-clause-table : goal.returns-in-Ok-clause-table
 returns-in-Ok-clause-table g c alone =

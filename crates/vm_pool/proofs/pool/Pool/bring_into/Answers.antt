@@ -1,12 +1,10 @@
 -- Where the page was not brought, the pass has the frames that it had.
-use Rattle.std.proofs.Common.{[], ◌++◌, ◌∙◌, ◌∷◌, ◌≡◌, ap, List, refl, subst, ℕ}
-use Rattle.vm_step.specs.Prelude.{view}
-use Rattle.vm_exmap.specs.Returns.{IsFreed}
 use Rattle.vm_pool.specs.Brings.{Fetches as fetched}
 use Rattle.vm_pool.specs.declared.bring.Bring.TheVariants as brings
-use Rattle.vm_pool.proofs.{Bringing.held-back, Bringing.held-others, Keeping.fetches-keeps}
-use Rattle.vm_pool.proofs.pool.Pool.bring_into.Goals.{in-Again, in-Device, in-Worn}
+use Rattle.vm_pool.proofs.Bringing.{held-back, held-others}
+use Rattle.vm_pool.proofs.Prelude.{[], ap, IsFreed, List, refl, subst, view, ℕ, ◌++◌, ◌∙◌, ◌∷◌, ◌≡◌}
 use Rattle.vm_pool.proofs.pool.Pool.bring_into.Goals as goal
+use Rattle.vm_pool.proofs.pool.Pool.bring_into.Goals.{in-Again, in-Device, in-Worn}
 
 pub returns-in-Brought-clause-held : goal.returns-in-Brought-clause-held
 returns-in-Brought-clause-held g c = held-others _ _ _ _ c.requires.frames c.in-Brought.ensures.fetched.aside.start c.in-Brought.ensures.fetched.frames
@@ -30,10 +28,3 @@ returns-clause-fetches g c =
       | in-Worn w ↦ fetched.worn _ (refl, refl, w.in-Worn.ensures.fetched.2) freed (w.answer-is ∙ ap brings.Worn w.in-Worn.ensures.fetched.1)
       | in-Device w ↦ fetched.device _ _ (refl, refl, w.in-Device.ensures.fetched.2) freed (w.answer-is ∙ ap (λ (n : ℕ). brings.Device n w.in-Device.count) w.in-Device.ensures.fetched.1)
     ]
-
-pub returns-in-Brought-clause-keeps : goal.returns-in-Brought-clause-keeps
-returns-in-Brought-clause-keeps g c =
-    fetches-keeps c.args.iface.now.cap c.args.pid c.args.frame c.args.iface.now.frames c.args.iface.now.frames (view c.args.pass.now) (view c.fault_in.new.pass) brings.Brought (fetched.brought c.in-Brought.ensures.fetched refl refl)
-
-pub returns-clause-keeps : goal.returns-clause-keeps
-returns-clause-keeps g c = fetches-keeps _ _ _ _ _ _ _ _ (returns-clause-fetches g c)

@@ -1,9 +1,7 @@
 -- Each answer is that of the last allocation; a sweep left home and cap.
-use Rattle.std.proofs.Common.{◌∙◌, ap, Err, Ok, refl}
-use Rattle.vm_exmap.specs.declared.interface.Alloc.TheVariants as allocs
-use Rattle.vm_pool.specs.Brings.{counted, GetsNone as none}
+use Rattle.vm_pool.specs.Brings.{GetsNone as none}
 use Rattle.vm_pool.proofs.Bringing.{dry-then, got-then, lost-then}
-use Rattle.vm_pool.proofs.Keeping.{alloc-keeps, framed-keeps}
+use Rattle.vm_pool.proofs.Prelude.{ap, counted, refl, ◌∙◌}
 use Rattle.vm_pool.proofs.pool.Pool.frame_for.Goals as goal
 
 pub returns-in-Again-clause-framed : goal.returns-in-Again-clause-framed
@@ -20,18 +18,3 @@ returns-in-Again-alloc-clause-framed g c =
 pub returns-in-Dry-alloc-clause-framed : goal.returns-in-Dry-alloc-clause-framed
 returns-in-Dry-alloc-clause-framed g c =
     dry-then _ _ _ _ _ _ (c.alloc.ensures.same.0, c.alloc.ensures.same.1) (c.sweep-report.ensures.iface.0, c.sweep-report.ensures.iface.1) _ _ _ _ _ _ _ (c.alloc-2.ensures.same.2 ∙ c.sweep-report.ensures.iface.2 ∙ ap (λ n. counted n c.sweep-report.result) c.alloc.ensures.same.2) _ _ _ _ c.in-Dry.ensures.answer c.sweep-report.ensures.swept _ c.dry_cause.ensures c.in-Dry-alloc.ensures.answer
-
-pub returns-in-Batch-clause-keeps : goal.returns-in-Batch-clause-keeps
-returns-in-Batch-clause-keeps g c = alloc-keeps _ _ _ _ _ _ _ (allocs.Batch _) c.in-Batch.ensures.answer
-
-pub returns-in-Again-clause-keeps : goal.returns-in-Again-clause-keeps
-returns-in-Again-clause-keeps g c = framed-keeps _ _ _ _ _ _ _ _ (Err _) (returns-in-Again-clause-framed g c)
-
-pub returns-in-Batch-alloc-clause-keeps : goal.returns-in-Batch-alloc-clause-keeps
-returns-in-Batch-alloc-clause-keeps g c = framed-keeps _ _ _ _ _ _ _ _ (Ok _) (returns-in-Batch-alloc-clause-framed g c)
-
-pub returns-in-Again-alloc-clause-keeps : goal.returns-in-Again-alloc-clause-keeps
-returns-in-Again-alloc-clause-keeps g c = framed-keeps _ _ _ _ _ _ _ _ (Err _) (returns-in-Again-alloc-clause-framed g c)
-
-pub returns-in-Dry-alloc-clause-keeps : goal.returns-in-Dry-alloc-clause-keeps
-returns-in-Dry-alloc-clause-keeps g c = framed-keeps _ _ _ _ _ _ _ _ (Err _) (returns-in-Dry-alloc-clause-framed g c)

@@ -1,7 +1,5 @@
-use Rattle.std.proofs.Common.{ap}
-use Rattle.vm_step.specs.Prelude.{view}
-use Rattle.vm_step.proofs.Together.{joined-number, ready-as}
 use Rattle.vm_pool.proofs.Parting.{takes-joins}
+use Rattle.vm_pool.proofs.Prelude.{ap, joined-number, ready-as, view}
 use Rattle.vm_pool.proofs.pool.Pool.join.Goals as goal
 
 pub returns-clause-ready : goal.returns-clause-ready

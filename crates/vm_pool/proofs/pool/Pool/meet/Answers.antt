@@ -1,6 +1,4 @@
-use Rattle.vm_step.specs.Prelude.{view}
-use Rattle.vm_step.proofs.MetPasses.{meets-then}
-use Rattle.vm_pool.proofs.Parting.{have-met}
+use Rattle.vm_pool.proofs.{Parting.have-met, Prelude.meets-then, Prelude.view}
 use Rattle.vm_pool.proofs.pool.Pool.meet.Goals as goal
 
 pub returns-clause-met : goal.returns-clause-met

@@ -1,6 +1,4 @@
-use Rattle.std.proofs.Common.{map, subst, sym}
-use Rattle.vm_step.specs.Prelude.{PassesSplit, view}
-use Rattle.vm_step.proofs.Together.{split-none}
+use Rattle.vm_pool.proofs.Prelude.{map, PassesSplit, split-none, subst, sym, view}
 use Rattle.vm_pool.proofs.pool.Pool.split.Goals as goal
 
 pub returns-clause-split : goal.returns-clause-split

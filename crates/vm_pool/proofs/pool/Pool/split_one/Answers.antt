@@ -1,7 +1,5 @@
-use Rattle.std.proofs.Common.{◌<◌, ◌∙◌, ap, length, List, subst, sym, ℕ}
-use Rattle.vm_step.specs.Prelude.{view}
-use Rattle.vm_step.proofs.Together.{new-number, ready-as}
 use Rattle.vm_pool.proofs.Parting.{splits-off}
+use Rattle.vm_pool.proofs.Prelude.{ap, length, List, new-number, ready-as, subst, sym, view, ℕ, ◌<◌, ◌∙◌}
 use Rattle.vm_pool.proofs.pool.Pool.split_one.Goals as goal
 
 pub returns-clause-ready : goal.returns-clause-ready

@@ -1,8 +1,5 @@
-use Rattle.std.proofs.Common.{List, subst, sym, ℕ}
-use Rattle.vm_step.specs.Prelude.{AreCandidates, view}
-use Rattle.vm_exmap.specs.Returns.{IsFreed}
-use Rattle.vm_exmap.proofs.Handing.{held-on}
 use Rattle.vm_pool.proofs.{Keeping.swept-keeps, Sweeping.held-come, Sweeping.swept}
+use Rattle.vm_pool.proofs.Prelude.{AreCandidates, held-on, IsFreed, List, subst, sym, view, ℕ}
 use Rattle.vm_pool.proofs.pool.Pool.sweep.Goals as goal
 
 pub free-requires-clause-frames : goal.free-requires-clause-frames
