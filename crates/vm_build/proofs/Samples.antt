@@ -1,6 +1,6 @@
 -- The definitions compute the values that the formats give, and each reason of the checker holds of an image that is built and then spoiled in
 -- one word.
-use Rattle.std.proofs.Common.{◌≡◌, ℕ, zero, suc, ◌+◌, List, [], ◌∷◌, take, replicate, set, Some, None, Ok, refl}
+use Rattle.std.proofs.Common.{◌≡◌, ℕ, zero, suc, ◌+◌, List, [], ◌∷◌, map, take, replicate, set, Some, None, Ok, refl}
 use Rattle.vm_map.specs.Map.{Pairs, gather}
 use Rattle.vm_tree_model.specs.Tree.{page_at}
 use Rattle.vm_tree_model.specs.Reason.{walk, walked, reason, used_pages}
@@ -13,27 +13,9 @@ second = refl
 two_numbered : numbered 1 2 ≡ (1, 1) ∷ (7806831264735756412, 2) ∷ []
 two_numbered = refl
 
-needed_none : needed 0 ≡ 2
-needed_none = refl
-
-needed_leaf : needed 20 ≡ 2
-needed_leaf = refl
-
-needed_two : needed 29 ≡ 4
-needed_two = refl
-
--- 20 full leaves under one root; and one pair more: 21 leaves under 2 nodes under one root
-needed_full : needed 400 ≡ 22
-needed_full = refl
-
-needed_over : needed 401 ≡ 25
-needed_over = refl
-
-needed_many : needed 1500 ≡ 81
-needed_many = refl
-
-needed_most : needed 100000 ≡ 5265
-needed_most = refl
+-- no pairs, one full leaf, and two leaves under one root; 20 full leaves under one root, and one pair more: 21 leaves under 2 nodes under one root; more
+pages_needed : map needed (0 ∷ 20 ∷ 29 ∷ 400 ∷ 401 ∷ 1500 ∷ 100000 ∷ []) ≡ 2 ∷ 2 ∷ 4 ∷ 22 ∷ 25 ∷ 81 ∷ 5265 ∷ []
+pages_needed = refl
 
 -- the pairs (k, k) of so many numbers, from k on
 abbrev same_pairs : ℕ → ℕ → Pairs
@@ -48,79 +30,42 @@ empty_is_tree : reason (built 8 []) ≡ None
 unfolding walk
 empty_is_tree = refl
 
-two_rows : walked (built 8 (gather (numbered 1 2))) ≡ Ok ((1, 1) ∷ (7806831264735756412, 2) ∷ [])
+-- two pairs: their rows, and the pages used
+two_pairs : (walked (built 8 (gather (numbered 1 2))) ≡ Ok ((1, 1) ∷ (7806831264735756412, 2) ∷ [])) × (used_pages (built 8 (gather (numbered 1 2))) ≡ 2)
 unfolding walk
-two_rows = refl
-
-two_used : used_pages (built 8 (gather (numbered 1 2))) ≡ 2
-two_used = refl
+two_pairs = (refl, refl)
 
 -- 29 pairs on 5 pages: a leaf of 20, a leaf of 9, a root and a free page
 abbrev two_leaves : List (List ℕ)
 two_leaves = built 5 (same_pairs 29 1)
 
-leaves_rows : walked two_leaves ≡ Ok (same_pairs 29 1)
+leaves_told : (walked two_leaves ≡ Ok (same_pairs 29 1)) × (used_pages two_leaves ≡ 4)
 unfolding walk
-leaves_rows = refl
+leaves_told = (refl, refl)
 
-leaves_used : used_pages two_leaves ≡ 4
-leaves_used = refl
+leaves_begin : map (λ p. take 10 (page_at two_leaves p)) (1 ∷ 2 ∷ []) ≡ (2 ∷ 20 ∷ 0 ∷ 21 ∷ 0 ∷ 0 ∷ 0 ∷ 0 ∷ 1 ∷ 1 ∷ []) ∷ (2 ∷ 9 ∷ 21 ∷ 0 ∷ 1 ∷ 0 ∷ 0 ∷ 0 ∷ 21 ∷ 21 ∷ []) ∷ []
+leaves_begin = refl
 
-first_leaf : take 10 (page_at two_leaves 1) ≡ 2 ∷ 20 ∷ 0 ∷ 21 ∷ 0 ∷ 0 ∷ 0 ∷ 0 ∷ 1 ∷ 1 ∷ []
-first_leaf = refl
-
-second_leaf : take 10 (page_at two_leaves 2) ≡ 2 ∷ 9 ∷ 21 ∷ 0 ∷ 1 ∷ 0 ∷ 0 ∷ 0 ∷ 21 ∷ 21 ∷ []
-second_leaf = refl
-
-root : page_at two_leaves 3 ≡ 3 ∷ 2 ∷ 0 ∷ 0 ∷ 1 ∷ 1 ∷ 0 ∷ 0 ∷ 0 ∷ 1 ∷ 21 ∷ 2 ∷ replicate 52 0
-root = refl
-
-meta : page_at two_leaves 0 ≡ 0x564D434143484531 ∷ 3 ∷ 1 ∷ replicate 61 0
-meta = refl
+root_and_meta : (page_at two_leaves 3 ≡ 3 ∷ 2 ∷ 0 ∷ 0 ∷ 1 ∷ 1 ∷ 0 ∷ 0 ∷ 0 ∷ 1 ∷ 21 ∷ 2 ∷ replicate 52 0) × (page_at two_leaves 0 ≡ 0x564D434143484531 ∷ 3 ∷ 1 ∷ replicate 61 0)
+root_and_meta = (refl, refl)
 
 -- word i of page p is w
 abbrev with_word : List (List ℕ) → ℕ → ℕ → ℕ → List (List ℕ)
 with_word pages p i w = set pages p (set (page_at pages p) i w)
 
-other_magic : reason (with_word two_leaves 0 0 7) ≡ Some (0, 1)
-unfolding walk
-other_magic = refl
+-- a word of the image is another (its page, its place, the word), and the reason is this one (the page, the check)
+abbrev spoiled : List ((ℕ × ℕ × ℕ) × ℕ × ℕ)
+spoiled =
+    -- another magic word; the root is past the end; the height is above the number of pages
+    ((0, 0, 7), 0, 1) ∷ ((0, 1, 5), 0, 2) ∷ ((0, 2, 4), 0, 2) ∷
+    -- a leaf is named twice; an inner node is at level 0; the low fence is above the first key
+    ((3, 11, 1), 1, 3) ∷ ((2, 0, 3), 2, 4) ∷ ((2, 2, 22), 2, 5) ∷
+    -- a word behind the pairs; a key twice; a child is past the end; a word in a free page
+    ((1, 63, 1), 1, 6) ∷ ((1, 10, 1), 1, 7) ∷ ((3, 11, 5), 3, 8) ∷ ((4, 5, 1), 4, 9) ∷ []
 
-root_past_the_end : reason (with_word two_leaves 0 1 5) ≡ Some (0, 2)
+reasons_found : map (λ (s : (ℕ × ℕ × ℕ) × ℕ × ℕ). reason (with_word two_leaves s.0.0 s.0.1 s.0.2)) spoiled ≡ map (λ (s : (ℕ × ℕ × ℕ) × ℕ × ℕ). Some (s.1, s.2)) spoiled
 unfolding walk
-root_past_the_end = refl
-
-height_above_the_pages : reason (with_word two_leaves 0 2 4) ≡ Some (0, 2)
-unfolding walk
-height_above_the_pages = refl
-
-leaf_named_twice : reason (with_word two_leaves 3 11 1) ≡ Some (1, 3)
-unfolding walk
-leaf_named_twice = refl
-
-inner_at_level_0 : reason (with_word two_leaves 2 0 3) ≡ Some (2, 4)
-unfolding walk
-inner_at_level_0 = refl
-
-low_fence_above_the_key : reason (with_word two_leaves 2 2 22) ≡ Some (2, 5)
-unfolding walk
-low_fence_above_the_key = refl
-
-word_past_the_pairs : reason (with_word two_leaves 1 63 1) ≡ Some (1, 6)
-unfolding walk
-word_past_the_pairs = refl
-
-key_twice : reason (with_word two_leaves 1 10 1) ≡ Some (1, 7)
-unfolding walk
-key_twice = refl
-
-child_past_the_end : reason (with_word two_leaves 3 11 5) ≡ Some (3, 8)
-unfolding walk
-child_past_the_end = refl
-
-word_in_a_free_page : reason (with_word two_leaves 4 5 1) ≡ Some (4, 9)
-unfolding walk
-word_in_a_free_page = refl
+reasons_found = refl
 
 -- an inner node that names itself
 names_itself : reason ((0x564D434143484531 ∷ 1 ∷ 1 ∷ replicate 61 0) ∷ (3 ∷ 1 ∷ 0 ∷ 0 ∷ 1 ∷ 1 ∷ 0 ∷ 0 ∷ 0 ∷ 1 ∷ replicate 54 0) ∷ replicate 64 0 ∷ []) ≡ Some (1, 3)

@@ -15,15 +15,6 @@ pub record IsPushed (pairs : Pairs) (before pages : List (List ℕ)) (level : �
   pub pages_fit : length pages + 2 * length entries ≤ 2000001
   pub level_fits : level + length entries ≤ 1000000
 
-pub pushed_none : (pairs : Pairs) (before : List (List ℕ)) → length pairs ≤ 1000000 → length before ≡ 1 → IsPushed pairs before before 0 pairs
-pushed_none pairs before few one = record {
-  levels = length pairs;
-  enough = omega arith;
-  whole = ap (λ page. before ++ levels_from (length pairs) 0 page pairs) one;
-  pages_fit = omega arith;
-  level_fits = omega arith;
-}
-
 -- one node more of a level
 pub node_pushed : (before pages more : List (List ℕ)) (level : ℕ) (entries : Pairs) (n : ℕ) (page : List ℕ) → more ≡ pages ++ page ∷ [] → pages ≡ before ++ level_pages level entries n → page ≡ node_page level entries n
     → more ≡ before ++ level_pages level entries (n + 1)

@@ -1,10 +1,9 @@
 -- The words of a node as they are written: a header over zeros, then two words for each entry.
-use Rattle.std.proofs.Common.{◌≡◌, ℕ, zero, suc, ◌+◌, ◌-◌, ◌*◌, ◌<◌, ◌≤◌, List, [], ◌∷◌, ◌++◌, length, min, take, drop, replicate, get_or, slice_index, slice_set, Bool, true, false, not, Option, Some, None, unwrap_or, is_some, is_none, ◌==◌, if◌then◌else◌, refl, sym, ◌∙◌, ap, subst, arith, inl, inr, length-take, length-drop}
+use Rattle.std.proofs.Common.{◌≡◌, ℕ, zero, suc, ◌+◌, ◌-◌, ◌*◌, ◌<◌, ◌≤◌, List, [], ◌∷◌, ◌++◌, length, take, replicate, get_or, slice_index, slice_set, Bool, true, false, not, Option, Some, None, unwrap_or, is_some, is_none, ◌==◌, if◌then◌else◌, refl, ◌∙◌, ap, subst, arith, length-take}
 use mir.Val.{bool_byte}
-use Rattle.std.proofs.lemmas.Bool.{cases_lt}
-use Rattle.std.proofs.lemmas.List.{append_assoc, take_more, take_all}
+use Rattle.std.proofs.lemmas.List.{append_assoc, take_more}
 use Rattle.vm_map.specs.Map.{Pairs}
-use Rattle.vm_build.specs.Levels.{pair_words, run_of}
+use Rattle.vm_build.specs.Levels.{pair_words}
 use Rattle.vm_build.proofs.Sizes.{length-pair_words}
 
 -- the eight words of a header, and those behind it
@@ -68,12 +67,3 @@ written_more page level low high run i e is lt few at =
     let long : length (headed level low high (length run) done) ≡ 8 + 2 * i = omega (arith, length-pair_words (take i run), length-take i run, lt) in
     let all : pair_words (take (i + 1) run) ≡ done ++ e.0 ∷ e.1 ∷ [] = rw (take_more run i e lt, ← at) (words_of-push (take i run) e) in
     rw (is, free, next, all, append_assoc) (put_two (headed level low high (length run) done) (replicate left 0) (8 + 2 * i) e.0 e.1 0 0 long)
-
--- a node's run, cut at the end of the entries
-pub run_is : (entries : Pairs) (n count : ℕ) → count + 20 * n ≡ min (length entries) (20 * n + 20) → take count (drop (20 * n) entries) ≡ run_of entries n
-run_is entries n count whole = elim (cases_lt (length entries) (20 * n + 20)) [
-  | inl short ↦
-      let left = drop (20 * n) entries in
-      take_all count left (omega (arith, short, whole, length-drop (20 * n) entries)) ∙ sym (take_all 20 left (omega (arith, short, whole, length-drop (20 * n) entries)))
-  | inr full ↦ let twenty : count ≡ 20 = omega (arith, full, whole) in rw twenty refl
-]

@@ -1,5 +1,5 @@
 -- A put without room for a split: a worn page, a full image, or a sweep that made no frame free.
-use Rattle.std.proofs.Common.{[], ⊎_elim, ◌+◌, ◌<◌, ◌∙◌, ◌≡◌, ◌≤◌, ap, arith, Err, List, refl, subst, sym, ℕ}
+use Rattle.std.proofs.Common.{[], ap, arith, Err, List, refl, subst, sym, ℕ, ⊎_elim, ◌+◌, ◌<◌, ◌∙◌, ◌≡◌, ◌≤◌}
 use Rattle.vm_map.specs.{declared.call.Call.Call, declared.call.Call.TheVariants.Put, declared.call.Said.Said}
 use Rattle.vm_rule.specs.Prelude.{did_load, StartsWith}
 use Rattle.vm_rule.specs.declared.view.Place.TheVariants as places
@@ -13,10 +13,11 @@ use Rattle.vm_evict.specs.declared.report.Report.{Report}
 use Rattle.vm_pool.specs.{Brings.SaysDry, declared.bring.Bring.Bring, Sweeps.IsSwept}
 use Rattle.vm_pool.specs.declared.bring.Bring.TheVariants as brings
 use Rattle.vm_tree_rule.specs.declared.fault.TreeFault.{TreeFault}
-use Rattle.vm_tree_write.specs.declared.tries.TrySplit.TheVariants as splits
+use Rattle.vm_tree_read.specs.Waiting.{NamesFault}
 use Rattle.vm_tree_write.specs.Prepares.{IsLockDenied, IsLockDenied as locks, IsNotLocked, IsRefusedPages}
 use Rattle.vm_tree_write.specs.Tries.{IsEnded, IsEnded as ends, IsUnsplit, IsUnsplit as unsplit}
-use Rattle.vm_tree_write.specs.Waiting.{IsRoomFault, IsRoomFault as rooms, NamesFault}
+use Rattle.vm_tree_write.specs.Waiting.{IsRoomFault, IsRoomFault as rooms}
+use Rattle.vm_tree_write.specs.declared.tries.TrySplit.TheVariants as splits
 use Rattle.vm_drive.specs.Calls.{HasFoundNext, HasFoundWorn, IsCalled, KeepsPass}
 use Rattle.vm_drive.proofs.{Bringing.fault-called, Doing.keeps-then, Keeping.all-pass, Keeping.reads-pass, Lists.starts-then, Sweeping.swept-noted}
 use Rattle.vm_drive.proofs.{Sweeping.swept-worn, Tracing.given-more, Tracing.max-later}

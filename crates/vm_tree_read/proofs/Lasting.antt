@@ -1,16 +1,16 @@
 -- Tries and pages brought, one after the other.
-use Rattle.std.proofs.Common.{[], ◌++◌, ◌+◌, ◌∙◌, ◌∷◌, ◌≡◌, ap, append_assoc, List, refl, slice_index, subst, sym}
+use Rattle.std.proofs.Common.{[], ◌++◌, ◌+◌, ◌∙◌, ◌∷◌, ◌≡◌, ap, append_assoc, List, refl, slice_index, subst, sym, ℕ}
 use Rattle.vm_map.specs.declared.call.Said.{Said}
 use Rattle.vm_tree_model.specs.Tree.{map_of}
 use Rattle.vm_rule.specs.Prelude.{entries_under, Entry, entry_of}
 use Rattle.vm_rule.proofs.Entries.{append-none}
 use Rattle.vm_step.specs.Prelude.{Origin, View}
 use Rattle.vm_step.proofs.Asides.{alone-self, alone-then, holds-then, starts-then}
-use Rattle.vm_pool.specs.Brings.{KeepsLocks}
+use Rattle.vm_pool.specs.{Brings.IsBring, Brings.KeepsLocks, declared.bring.Bring.Bring}
+use Rattle.vm_pool.specs.declared.bring.Bring.TheVariants as brings
 use Rattle.vm_tree_laws.specs.History.{IsLegal}
-use Rattle.vm_tree_rule.specs.Leaves.{ReadsOn}
-use Rattle.vm_tree_read.specs.{Reads.IsAnswered, Waiting.IsReplied, Waiting.Waits}
-use Rattle.vm_tree_read.proofs.Seen.{GoesOn}
+use Rattle.vm_tree_rule.specs.{declared.fault.TreeFault.TreeFault, Leaves.ReadsOn}
+use Rattle.vm_tree_read.specs.{Reads.IsAnswered, Waiting.IsBringFault, Waiting.IsReplied, Waiting.NamesFault, Waiting.Waits}
 
 module _ {X : Type 0} where
   pub waits-self : (v : View X) → Waits v v
@@ -44,8 +44,14 @@ module _ {X : Type 0} where
   pub reads-wait : (v w : View X) → ReadsOn v w → Waits v w
   reads-wait v w r = record { holds = r.0.holds; mine = r.1; seen = r.0.seen; notes = ([], r.0.notes ∙ sym (append-none v.notes)); log = (r.0.done, r.0.log); group = r.0.group; out = r.0.out; start = r.0.start; parts = r.0.parts; alone = r.0.alone }
 
-  pub bring-waits : (v w : View X) → KeepsLocks v w → GoesOn v w → Waits v w
-  bring-waits v w k goes = record { holds = k.holds; mine = k.mine; seen = goes.seen; notes = k.notes; log = goes.log; group = goes.group; out = k.out; start = k.start; parts = k.parts; alone = k.alone }
+  pub bring-waits : (v w : View X) → KeepsLocks v w → Waits v w
+  bring-waits v w k = record { holds = k.holds; mine = k.mine; seen = k.seen; notes = k.notes; log = k.log; group = k.group; out = k.out; start = k.start; parts = k.parts; alone = k.alone }
+
+  -- the fault that the answer of a page's bringing names
+  pub names-fault : (home cap p : ℕ) (old new : List ℕ) (before after : ℕ) (v w : View X) (answer : Bring) (fault : TreeFault) → IsBring home cap p old new before after v w answer → NamesFault answer fault → IsBringFault p fault v w
+  names-fault home cap p old new before after v w (brings.Device q count) fault is named = IsBringFault.device home cap before after q count old new is named
+  names-fault home cap p old new before after v w (brings.Worn q) fault is named = IsBringFault.worn home cap before after q old new is named
+  names-fault home cap p old new before after v w answer fault is named = absurd named
 
 -- the entry is the next one of the pass as it was before it waited
 same-entry : (v x : View Said) (said : Said) → Waits v x → entry_of x said ≡ entry_of v said

@@ -1,4 +1,4 @@
 pub mod Answering
-pub mod Seen
 pub mod Lasting
 pub mod Losing
+pub mod Rounds

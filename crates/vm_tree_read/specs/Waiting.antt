@@ -1,15 +1,31 @@
 -- What a read leaves and answers that waits: tries, and pages brought in between, until a try is answered or a page can't be brought.
-use Rattle.std.specs.Prelude.{[], ◌++◌, ◌∷◌, ◌≡◌, ◌⊎◌, false, List, true, ℕ}
-use Rattle.vm_map.specs.declared.call.Said.{Said}
+use Rattle.std.specs.Prelude.{[], ◌++◌, ◌∷◌, ◌≡◌, ◌≤◌, ◌⊎◌, false, List, true, ℕ}
+use Rattle.vm_map.specs.{declared.call.Call.Call, declared.call.Said.Said}
+use Rattle.vm_map.specs.declared.call.Call.TheVariants.{Del, Get, Put, Window}
 use Rattle.vm_tree_model.specs.Tree.{map_of}
 use Rattle.vm_rule.specs.Prelude.{Entry, entry_of, has, StartsWith}
 use Rattle.vm_step.specs.Prelude.{HoldsPage, StaysAlone, View}
-use Rattle.vm_pool.specs.Brings.{IsBring}
+use Rattle.vm_pool.specs.{Brings.IsBring, declared.bring.Bring.Bring}
 use Rattle.vm_pool.specs.declared.bring.Bring.TheVariants as brings
 use Rattle.vm_tree_laws.specs.History.{IsLegal}
 use Rattle.vm_tree_rule.specs.{declared.fault.TreeFault.TreeFault, Leaves.ReadsOn, Turns.IsNeeded}
 use Rattle.vm_tree_rule.specs.declared.fault.TreeFault.TheVariants as faults
 use Rattle.vm_tree_read.specs.Reads.{IsAnswered}
+
+-- the call is a read
+abbrev pub IsReadCall : Call → Type 0
+IsReadCall (Get key) = Unit {0}
+IsReadCall (Window start most) = 1 ≤ most
+IsReadCall (Put key value) = ⊥
+IsReadCall (Del key) = ⊥
+
+-- the fault that such an answer names, where it names one
+abbrev pub NamesFault : Bring → TreeFault → Type 0
+NamesFault (brings.Device p count) fault = fault ≡ faults.Device p count
+NamesFault (brings.Worn p) fault = fault ≡ faults.Worn p
+NamesFault brings.Brought fault = ⊥
+NamesFault (brings.Again saw) fault = ⊥
+NamesFault (brings.Dry looks) fault = ⊥
 
 module _ {X : Type 0} where
   -- the pass holds just the locks that it held, made no entry, and has its block at home; what it has seen, its notes and its steps go on

@@ -9,10 +9,10 @@ use Rattle.vm_rule.specs.Prelude.{Each, frames_in, has, put_at, without_all}
 use Rattle.vm_rule.proofs.{Bundled.has-without_all, Entries.append-none, Facts.has-both}
 use Rattle.vm_step.specs.Prelude.{AreHeld, Did, View}
 use Rattle.vm_step.proofs.Asides.{holds-then, starts-then}
-use Rattle.vm_exmap.specs.{declared.interface.Alloc.Alloc, Frames.MovesFrames, Returns.IsFreed, Walks.IsAlloc, Walks.TakesNone}
+use Rattle.vm_exmap.specs.{declared.interface.Alloc.Alloc, Frames.MovesFrames, Returns.IsFreed, Walks.IsAlloc}
 use Rattle.vm_exmap.specs.declared.interface.Alloc.TheVariants as allocs
 use Rattle.vm_exmap.proofs.FrameMoves.{moved-nothing, moved-then}
-use Rattle.vm_exmap.proofs.Handing.{apart-join, apart-not, each-has, each-join, each-of, held-on, held-rest, held-swap}
+use Rattle.vm_exmap.proofs.Handing.{apart-join, apart-not, each-has, each-join, each-of, held-rest, held-swap}
 use Rattle.vm_tree_write.specs.Splits.{KeepsLocksOnly}
 
 pub keeps-self : (v : View Said) → KeepsLocksOnly v v
@@ -109,12 +109,6 @@ alloc-beside home cap n l old new batch v w h k (inr t) =
       inside = each-join (λ f. f < w.start.frames) l (batch ++ new) (subst (λ o. Each (λ f. f < o.frames) l) (sym t.moves.start) left.inside) k.inside;
       held = each-join (λ f. has f w.frames ≡ true) l (batch ++ new) (each-has (λ f. has f w.frames ≡ true) l (λ f e. more.more f (each-of (λ q. has q v.frames ≡ true) l f left.held e))) k.held;
     })
-
--- they stay so where nothing was handed out
-pub refused-beside : (l old new : List ℕ) (done : List Did) (v w : View Said) → AreHeld (l ++ old) v → TakesNone done old new v w → AreHeld (new ++ l) w
-refused-beside l old new done v w h r =
-    subst (λ (m : List ℕ). AreHeld (m ++ l) w) (sym r.same)
-    (held-on l v w (subst (λ (m : List ℕ). AreHeld m v) (ap (λ (m : List ℕ). l ++ m) r.none ∙ append-none l) h) r.moves.start r.frames)
 
 -- ---- frames that fresh pages took
 

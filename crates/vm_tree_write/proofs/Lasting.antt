@@ -1,15 +1,14 @@
 -- The answer of a write that waited.
-use Rattle.std.proofs.Common.{[], ⊎_elim, ◌++◌, ◌+◌, ◌∙◌, ◌∷◌, ◌≡◌, ◌⊎◌, ap, append_assoc, List, subst, true, ℕ}
+use Rattle.std.proofs.Common.{[], ⊎_elim, ◌++◌, ◌∙◌, ◌∷◌, ◌≡◌, ◌⊎◌, ap, append_assoc, List, subst, true, ℕ}
 use Rattle.vm_map.specs.declared.call.Said.{Said}
 use Rattle.vm_tree_model.specs.Tree.{map_of}
 use Rattle.vm_rule.specs.Prelude.{Entry, entry_of, StartsWith}
 use Rattle.vm_step.specs.Prelude.{HoldsPage, Origin, View}
 use Rattle.vm_step.proofs.Asides.{holds-then}
-use Rattle.vm_evict.specs.declared.report.Report.{Report}
-use Rattle.vm_pool.specs.{Brings.KeepsLocks, Sweeps.IsSwept}
+use Rattle.vm_pool.specs.Brings.{KeepsLocks}
 use Rattle.vm_tree_laws.specs.History.{IsLegal}
 use Rattle.vm_tree_read.specs.{Reads.IsAnswered, Waiting.Waits}
-use Rattle.vm_tree_read.proofs.{Lasting.bring-waits, Seen.swept-goes}
+use Rattle.vm_tree_read.proofs.Lasting.{bring-waits}
 use Rattle.vm_tree_write.specs.{Splits.KeepsLocksOnly, Waiting.IsWriteReplied, Writes.IsVain, Writes.IsWriteDone}
 use Rattle.vm_tree_write.proofs.{Framing.keeps-then, Writing.entry-same}
 
@@ -76,6 +75,5 @@ replied keeps said v x w kept k answered =
     }
 
 -- a sweep after a try
-pub sweep-keeps : (want cap : ℕ) (old new : List ℕ) (report : Report) (v x w : View Said) → KeepsLocksOnly v x → KeepsLocks x w → IsSwept want cap old new report x w → KeepsLocksOnly v w
-sweep-keeps want cap old new report v x w k locks swept =
-    keeps-then v x w k (waits-keep x w (bring-waits x w locks (swept-goes want cap old new report x w swept)))
+pub sweep-keeps : (v x w : View Said) → KeepsLocksOnly v x → KeepsLocks x w → KeepsLocksOnly v w
+sweep-keeps v x w k locks = keeps-then v x w k (waits-keep x w (bring-waits x w locks))

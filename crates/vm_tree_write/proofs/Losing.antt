@@ -1,5 +1,5 @@
 -- No frame is lost by a split: frames that are given back beside others, and frames that fresh pages took.
-use Rattle.std.proofs.Common.{[], ⊎_elim, ◌++◌, ◌∙◌, ◌∷◌, ◌≡◌, ◌⊎◌, ap, false, if◌then◌else◌, inl, inr, List, refl, reverse, sym, true, true≢false, ℕ}
+use Rattle.std.proofs.Common.{[], ⊎_elim, ◌++◌, ◌∙◌, ◌∷◌, ◌≡◌, ap, false, if◌then◌else◌, inl, inr, List, refl, reverse, sym, true, true≢false, ℕ}
 use Rattle.std.proofs.lemmas.Bool.{cases_Bool}
 use Rattle.std.proofs.lemmas.List.{reverse-append}
 use Rattle.vm_map.specs.declared.call.Said.{Said}

@@ -69,21 +69,6 @@ quiet-keeps p done v w q = record {
   holds = q.holds;
 }
 
-pub holding-quiet : (p f version : ℕ) (dirty : Bool) (q : ℕ) (done : List Did) (v w : View Said) → IsHolding p f version dirty v → IsQuiet q done v w → IsHolding p f version dirty w
-holding-quiet p f version dirty q done v w h e =
-    let k : KnowsAsBefore v w p = e.knows p (inl h.owns) in
-    record {
-      page = subst (λ (o : Origin). p < o.pages) (sym e.steady.start) h.page;
-      frame_is = subst (λ (o : Origin). f < o.frames) (sym e.steady.start) h.frame_is;
-      below = h.below;
-      owns = (e.holds p).exclusive ∙ h.owns;
-      stands = ap (λ (y : Held). y.mapping) k.held ∙ h.stands;
-      told = ap (λ (y : Held). y.fault) k.held ∙ h.told ∙ ap (λ (y : Held). y.block.count) (sym k.held);
-      at = ap (λ (y : Version). y.version) k.last ∙ h.at;
-      size = ap length k.draft ∙ h.size;
-      free = ap (has p) e.group.0 ∙ h.free;
-    }
-
 -- ---- a lock that is given up again
 
 -- it was locked, other calls left all, and it was released: all is as before

@@ -1,5 +1,5 @@
 -- Three pages that are held get their new drafts one after the other, and are released together.
-use Rattle.std.proofs.Common.{[], ⊎_elim, ◌<◌, ◌∙◌, ◌∷◌, ◌≡◌, ◌≢◌, ◌⊎◌, ap, arith, Bool, inl, inr, length, List, None, refl, replicate, slice_index}
+use Rattle.std.proofs.Common.{[], ⊎_elim, ◌<◌, ◌∙◌, ◌∷◌, ◌≡◌, ◌≢◌, ap, arith, Bool, inl, inr, length, List, None, refl, replicate, slice_index}
 use Rattle.std.proofs.Common.{Some, subst, sym, true, ℕ}
 use Rattle.std.proofs.lemmas.Bool.{cases_eq}
 use Rattle.vm_map.specs.declared.call.Said.{Said}

@@ -1,5 +1,5 @@
 -- Why a write gave no reply.
-use Rattle.std.proofs.Common.{◌++◌, ◌+◌, ◌∙◌, ◌≡◌, ◌⊎◌, ap, inl, inr, length, List, None, Option, refl, Some, subst, sym, true, ℕ}
+use Rattle.std.proofs.Common.{◌++◌, ◌∙◌, ◌≡◌, ◌⊎◌, ap, inl, inr, length, List, None, Option, refl, Some, subst, sym, true, ℕ}
 use Rattle.vm_map.specs.{declared.call.Call.TheVariants.Del, declared.call.Call.TheVariants.Put, declared.call.Reply.Reply}
 use Rattle.vm_map.specs.{declared.call.Reply.TheVariants.Gone, declared.call.Reply.TheVariants.Was, declared.call.Said.Said}
 use Rattle.vm_map.specs.{declared.window.TheConstants.MOST_PAIRS}

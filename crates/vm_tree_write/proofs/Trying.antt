@@ -1,5 +1,5 @@
 -- The answer of a try of a split has its cause.
-use Rattle.std.proofs.Common.{[], ⊎_elim, ◌∙◌, ◌≡◌, ◌≢◌, ◌⊎◌, ap, inl, inr, List, None, subst, sym, ℕ}
+use Rattle.std.proofs.Common.{[], ⊎_elim, ◌∙◌, ◌≡◌, ◌≢◌, ap, inl, inr, List, None, subst, sym, ℕ}
 use Rattle.vm_map.specs.declared.call.Said.{Said}
 use Rattle.vm_rule.specs.Prelude.{StartsWith}
 use Rattle.vm_rule.proofs.Entries.{append-none}

@@ -6,22 +6,13 @@ use Rattle.vm_rule.specs.Prelude.{Entry, entry_of, StartsWith}
 use Rattle.vm_step.specs.Prelude.{HoldsPage, View}
 use Rattle.vm_evict.specs.declared.report.Report.{Report}
 use Rattle.vm_pool.specs.{Brings.SaysDry, declared.bring.Bring.Bring, Sweeps.IsSwept}
-use Rattle.vm_pool.specs.declared.bring.Bring.TheVariants as brings
 use Rattle.vm_tree_laws.specs.History.{IsLegal}
 use Rattle.vm_tree_rule.specs.{declared.fault.TreeFault.TreeFault, Leaves.ReadsOn, Turns.IsNeeded}
 use Rattle.vm_tree_rule.specs.declared.fault.TreeFault.TheVariants as faults
-use Rattle.vm_tree_read.specs.{Reads.IsAnswered, Waiting.IsBringFault}
+use Rattle.vm_tree_read.specs.{Reads.IsAnswered, Waiting.IsBringFault, Waiting.NamesFault}
 use Rattle.vm_tree_write.specs.{Splits.KeepsLocksOnly, Tries.IsEnded}
 use Rattle.vm_tree_write.specs.declared.tries.TrySplit.TheVariants as splits
 use Rattle.vm_tree_write.specs.Writes.{IsTight, IsVain, IsWornLeaf, IsWriteDone}
-
--- the fault that a sweep without a free frame names
-abbrev pub NamesFault : Bring → TreeFault → Type 0
-NamesFault (brings.Device p count) fault = fault ≡ faults.Device p count
-NamesFault (brings.Worn p) fault = fault ≡ faults.Worn p
-NamesFault brings.Brought fault = ⊥
-NamesFault (brings.Again saw) fault = ⊥
-NamesFault (brings.Dry looks) fault = ⊥
 
 -- The last try was answered, by a write or by a read that shows that there is nothing to write; what was done before made no entry, and left what
 -- `keeps` tells. So the entry is the pass's next one, and stands behind all that the pass had seen; the pass holds what it held

@@ -13,9 +13,9 @@ use std::sync::Wait;
 use vm_block::Block;
 use vm_exmap::Interface;
 use vm_map::call::Reply;
-use vm_pool::{Bring, Pool, dry_cause};
+use vm_pool::{Pool, dry_cause};
 use vm_rule::words::Pass;
-use vm_tree_read::waiting::fetch;
+use vm_tree_read::waiting::{fetch, settle};
 use vm_tree_rule::{Tree, TreeFault};
 
 /// Takes the pair of the key out.
@@ -90,14 +90,7 @@ fn make_room<B: Block>(
         } => Err(TreeFault::Full { pages }),
         TrySplit::Dry => {
             let report = pool.sweep(pass, iface, iface.cap);
-            match dry_cause(&report) {
-                Bring::Device { pid, count } => Err(TreeFault::Device { pid, count }),
-                Bring::Worn(pid) => Err(TreeFault::Worn { pid }),
-                _ => {
-                    backoff.snooze();
-                    Ok(())
-                }
-            }
+            settle(dry_cause(&report), backoff)
         }
     }
 }

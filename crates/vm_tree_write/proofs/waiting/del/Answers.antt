@@ -4,35 +4,22 @@ use Rattle.vm_exmap.proofs.Handing.{held-on}
 use Rattle.vm_tree_read.specs.Waiting.{Waits}
 use Rattle.vm_tree_read.proofs.Lasting.{reads-wait, waits-self, waits-then}
 use Rattle.vm_tree_read.proofs.Losing.{loses-same, loses-then, lost-on, reads-lose}
+use Rattle.vm_tree_read.proofs.Rounds.{tried-call, tried-none, tried-read}
 use Rattle.vm_tree_write.specs.Waiting.{IsWriteFaulted as faulted}
 use Rattle.vm_tree_write.proofs.Lasting.{del-frames, replied, waits-last}
 use Rattle.vm_tree_write.proofs.waiting.del.Goals as goal
 
 pub loop-init : goal.loop-init
-loop-init g c = record {
-  same = (refl, refl);
-  ready = c.requires.ready;
-  held = c.requires.frames;
-  lost = loses-same c.args.iface.now.frames c.args.iface.now.frames (view c.args.pass.now) (view c.args.pass.now) refl (λ f e. e);
-  iface = (refl, refl);
-  waits = waits-self _;
-}
+loop-init g c = tried-none _ _ (waits-self _) c.requires.ready c.requires.frames
 
 pub try_del-requires-clause-home : goal.try_del-requires-clause-home
-try_del-requires-clause-home g c = c.loop.invariant.waits.out ∙ c.requires.home
+try_del-requires-clause-home g c = c.loop.invariant.left.out ∙ c.requires.home
 
 pub loop-preserved-in-Again : goal.loop-preserved-in-Again
 loop-preserved-in-Again g c =
     let i = c.loop.invariant in
     let reads = c.in-Again.ensures.tried.0 in
-    record {
-      same = (c.try_del.ensures.pass.0 ∙ i.same.0, c.try_del.ensures.pass.1 ∙ i.same.1);
-      ready = c.try_del.ensures.ready;
-      held = held-on _ (view c.loop.pass) (view c.try_del.new.pass) i.held reads.0.start reads.0.frames.0;
-      lost = loses-then c.args.iface.now.frames c.loop.iface.frames c.loop.iface.frames (view c.args.pass.now) (view c.loop.pass) (view c.try_del.new.pass) i.lost (reads-lose c.loop.iface.frames (view c.loop.pass) (view c.try_del.new.pass) reads);
-      iface = i.iface;
-      waits = waits-then _ _ _ i.waits (reads-wait _ _ reads);
-    }
+    tried-read i c.try_del.new.pass c.try_del.ensures.pass reads c.try_del.ensures.ready (waits-then _ _ _ i.left (reads-wait _ _ reads))
 
 pub fetch-requires-clause-frames : goal.fetch-requires-clause-frames
 fetch-requires-clause-frames g c =
@@ -42,21 +29,15 @@ pub loop-preserved : goal.loop-preserved
 loop-preserved g c =
     let i = c.loop.invariant in
     let k = c.fetch.ensures in
-    record {
-      same = (k.pass.0 ∙ c.try_del.ensures.pass.0 ∙ i.same.0, k.pass.1 ∙ c.try_del.ensures.pass.1 ∙ i.same.1);
-      ready = k.ready;
-      held = k.held;
-      lost = lost-on c.args.iface.now.frames c.loop.iface.frames c.fetch.new.iface.frames (view c.args.pass.now) (view c.loop.pass) (view c.try_del.new.pass) (view c.fetch.new.pass) i.lost c.in-Need.ensures.tried.0 k.lost;
-      iface = (k.iface.0 ∙ i.iface.0, k.iface.1 ∙ i.iface.1);
-      waits = waits-then _ _ _ i.waits (waits-then _ _ _ (reads-wait _ _ c.in-Need.ensures.tried.0) k.waits);
-    }
+    let reads = c.in-Need.ensures.tried.0 in
+    tried-call i c.try_del.new.pass c.try_del.ensures.pass reads c.fetch.new.pass c.fetch.new.iface k.pass k.ready k.held k.lost k.iface (waits-then _ _ _ i.left (waits-then _ _ _ (reads-wait _ _ reads) k.waits))
 
 pub returns-in-Err-clause-err : goal.returns-in-Err-clause-err
 returns-in-Err-clause-err g c =
     let i = c.loop.invariant in
     let needed = c.in-Need.ensures.tried in
-    faulted.missing (view c.loop.pass) (view c.try_del.new.pass) c.in-Need.pid i.waits needed.0 needed.1 c.in-Err.ensures.err
-    (waits-then _ _ _ i.waits (waits-then _ _ _ (reads-wait _ _ needed.0) c.fetch.ensures.waits))
+    faulted.missing (view c.loop.pass) (view c.try_del.new.pass) c.in-Need.pid i.left needed.0 needed.1 c.in-Err.ensures.err
+    (waits-then _ _ _ i.left (waits-then _ _ _ (reads-wait _ _ needed.0) c.fetch.ensures.waits))
 
 pub returns-in-Worn-clause-held : goal.returns-in-Worn-clause-held
 returns-in-Worn-clause-held g c =
@@ -66,14 +47,14 @@ pub returns-in-Worn-clause-err : goal.returns-in-Worn-clause-err
 returns-in-Worn-clause-err g c =
     let i = c.loop.invariant in
     let worn = c.in-Worn.ensures.tried in
-    faulted.worn (view c.loop.pass) c.in-Worn.pid i.waits worn.0 worn.1 refl (waits-then _ _ _ i.waits (reads-wait _ _ worn.0))
+    faulted.worn (view c.loop.pass) c.in-Worn.pid i.left worn.0 worn.1 refl (waits-then _ _ _ i.left (reads-wait _ _ worn.0))
 
 pub returns-in-Done-clause-held : goal.returns-in-Done-clause-held
 returns-in-Done-clause-held g c =
     let k = del-frames _ _ _ c.in-Done.ensures.tried in held-on _ (view c.loop.pass) (view c.try_del.new.pass) c.loop.invariant.held k.0 k.1
 
 pub returns-in-Done-clause-ok : goal.returns-in-Done-clause-ok
-returns-in-Done-clause-ok g c = let waits = c.loop.invariant.waits in replied Waits _ _ _ _ waits (waits-last _ _ waits) c.in-Done.ensures.tried
+returns-in-Done-clause-ok g c = let waits = c.loop.invariant.left in replied Waits _ _ _ _ waits (waits-last _ _ waits) c.in-Done.ensures.tried
 
 -- ---- no frame is lost
 

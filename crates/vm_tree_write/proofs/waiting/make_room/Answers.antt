@@ -1,8 +1,7 @@
 use Rattle.std.proofs.Common.{◌∙◌, arith, refl}
 use Rattle.std.proofs.lemmas.Result.{IfErr-weaker}
 use Rattle.vm_step.specs.Prelude.{view}
-use Rattle.vm_pool.specs.declared.bring.Bring.TheVariants as brings
-use Rattle.vm_tree_read.specs.Waiting.{IsBringFault}
+use Rattle.vm_tree_read.specs.Waiting.{IsBringFault, NamesFault}
 use Rattle.vm_tree_read.proofs.Losing.{loses-then, swept-loses}
 use Rattle.vm_tree_write.specs.Waiting.{IsRoomFault, IsRoomFault as room_faults}
 use Rattle.vm_tree_write.proofs.{Framing.keeps-then, Lasting.sweep-keeps, Lasting.waits-keep}
@@ -31,22 +30,13 @@ returns-in-Worn-clause-err g c = room_faults.worn c.in-Worn.pid c.in-Worn.ensure
 pub returns-in-Full-clause-err : goal.returns-in-Full-clause-err
 returns-in-Full-clause-err g c = room_faults.full c.in-Full.pages _ _ c.in-Full.ensures.tried.1 refl
 
-pub returns-in-Device-clause-keeps : goal.returns-in-Device-clause-keeps
-returns-in-Device-clause-keeps g c = sweep-keeps _ _ _ _ _ _ _ _ c.in-Dry.ensures.tried.0 c.sweep-report.ensures.keeps c.sweep-report.ensures.swept
+pub returns-in-Dry-clause-keeps : goal.returns-in-Dry-clause-keeps
+returns-in-Dry-clause-keeps g c = sweep-keeps _ _ _ c.in-Dry.ensures.tried.0 c.sweep-report.ensures.keeps
 
-pub returns-in-Device-clause-err : goal.returns-in-Device-clause-err
-returns-in-Device-clause-err g c =
-    room_faults.swept (view c.try_split.new.pass) _ _ _ _ _ (brings.Device c.in-Device.pid c.in-Device.count) c.in-Dry.ensures.tried.1 c.in-Dry.ensures.tried.0 c.sweep-report.ensures.swept c.in-Device.ensures refl
-
-pub returns-in-Worn-dry_cause-clause-keeps : goal.returns-in-Worn-dry_cause-clause-keeps
-returns-in-Worn-dry_cause-clause-keeps g c = sweep-keeps _ _ _ _ _ _ _ _ c.in-Dry.ensures.tried.0 c.sweep-report.ensures.keeps c.sweep-report.ensures.swept
-
-pub returns-in-Worn-dry_cause-clause-err : goal.returns-in-Worn-dry_cause-clause-err
-returns-in-Worn-dry_cause-clause-err g c =
-    room_faults.swept (view c.try_split.new.pass) _ _ _ _ _ (brings.Worn c.in-Worn-dry_cause.pid) c.in-Dry.ensures.tried.1 c.in-Dry.ensures.tried.0 c.sweep-report.ensures.swept c.in-Worn-dry_cause.ensures refl
-
-pub returns-in_default-clause-keeps : goal.returns-in_default-clause-keeps
-returns-in_default-clause-keeps g c = sweep-keeps _ _ _ _ _ _ _ _ c.in-Dry.ensures.tried.0 c.sweep-report.ensures.keeps c.sweep-report.ensures.swept
+pub returns-in-Dry-clause-err : goal.returns-in-Dry-clause-err
+returns-in-Dry-clause-err g c =
+    IfErr-weaker c.settle.result (NamesFault c.dry_cause.result) (λ fault. IsRoomFault c.args.key fault (view c.args.pass.now) (view c.sweep-report.new.pass))
+    (λ fault named. room_faults.swept (view c.try_split.new.pass) _ _ _ _ _ c.dry_cause.result c.in-Dry.ensures.tried.1 c.in-Dry.ensures.tried.0 c.sweep-report.ensures.swept c.dry_cause.ensures named) c.settle.ensures.fault
 
 -- ---- no frame is lost
 
@@ -54,14 +44,6 @@ pub returns-in-Need-clause-lost : goal.returns-in-Need-clause-lost
 returns-in-Need-clause-lost g c =
     loses-then c.args.iface.now.frames c.try_split.new.iface.frames c.fetch.new.iface.frames (view c.args.pass.now) (view c.try_split.new.pass) (view c.fetch.new.pass) c.in-Need.ensures.lost c.fetch.ensures.lost
 
-pub returns-in-Device-clause-lost : goal.returns-in-Device-clause-lost
-returns-in-Device-clause-lost g c =
-    loses-then c.args.iface.now.frames c.try_split.new.iface.frames c.sweep-report.new.iface.frames (view c.args.pass.now) (view c.try_split.new.pass) (view c.sweep-report.new.pass) c.in-Dry.ensures.lost (swept-loses _ _ _ _ _ _ _ c.sweep-report.ensures.swept)
-
-pub returns-in-Worn-dry_cause-clause-lost : goal.returns-in-Worn-dry_cause-clause-lost
-returns-in-Worn-dry_cause-clause-lost g c =
-    loses-then c.args.iface.now.frames c.try_split.new.iface.frames c.sweep-report.new.iface.frames (view c.args.pass.now) (view c.try_split.new.pass) (view c.sweep-report.new.pass) c.in-Dry.ensures.lost (swept-loses _ _ _ _ _ _ _ c.sweep-report.ensures.swept)
-
-pub returns-in_default-clause-lost : goal.returns-in_default-clause-lost
-returns-in_default-clause-lost g c =
+pub returns-in-Dry-clause-lost : goal.returns-in-Dry-clause-lost
+returns-in-Dry-clause-lost g c =
     loses-then c.args.iface.now.frames c.try_split.new.iface.frames c.sweep-report.new.iface.frames (view c.args.pass.now) (view c.try_split.new.pass) (view c.sweep-report.new.pass) c.in-Dry.ensures.lost (swept-loses _ _ _ _ _ _ _ c.sweep-report.ensures.swept)

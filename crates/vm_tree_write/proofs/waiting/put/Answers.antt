@@ -2,32 +2,26 @@ use Rattle.std.proofs.Common.{◌∙◌, inl, refl}
 use Rattle.vm_step.specs.Prelude.{view}
 use Rattle.vm_exmap.proofs.Handing.{held-on}
 use Rattle.vm_tree_read.proofs.Losing.{loses-same, loses-then, lost-on, reads-lose}
+use Rattle.vm_tree_read.proofs.Rounds.{tried-call, tried-none, tried-read}
 use Rattle.vm_tree_write.specs.{Splits.KeepsLocksOnly, Waiting.IsPutFaulted as put_faulted, Waiting.IsWriteFaulted as faulted}
 use Rattle.vm_tree_write.proofs.{Framing.keeps-self, Framing.keeps-then, Telling.put-not, Trying.reads-keep}
 use Rattle.vm_tree_write.proofs.Lasting.{keeps-last, replied, waits-keep}
 use Rattle.vm_tree_write.proofs.waiting.put.Goals as goal
 
 pub loop-init : goal.loop-init
-loop-init g c = record { same = (refl, refl); ready = c.requires.ready; held = c.requires.frames; lost = loses-same c.args.iface.now.frames c.args.iface.now.frames (view c.args.pass.now) (view c.args.pass.now) refl (λ f e. e); iface = (refl, refl); keeps = keeps-self _ }
+loop-init g c = tried-none _ _ (keeps-self _) c.requires.ready c.requires.frames
 
 pub try_put-requires-clause-home : goal.try_put-requires-clause-home
-try_put-requires-clause-home g c = c.loop.invariant.keeps.out ∙ c.requires.home
+try_put-requires-clause-home g c = c.loop.invariant.left.out ∙ c.requires.home
 
 pub loop-preserved-in-Again : goal.loop-preserved-in-Again
 loop-preserved-in-Again g c =
     let i = c.loop.invariant in
     let reads = c.in-Again.ensures.tried.0 in
-    record {
-      same = (c.try_put.ensures.pass.0 ∙ i.same.0, c.try_put.ensures.pass.1 ∙ i.same.1);
-      ready = c.try_put.ensures.ready;
-      held = held-on _ (view c.loop.pass) (view c.try_put.new.pass) i.held reads.0.start reads.0.frames.0;
-      lost = loses-then c.args.iface.now.frames c.loop.iface.frames c.loop.iface.frames (view c.args.pass.now) (view c.loop.pass) (view c.try_put.new.pass) i.lost (reads-lose c.loop.iface.frames (view c.loop.pass) (view c.try_put.new.pass) reads);
-      iface = i.iface;
-      keeps = keeps-then _ _ _ i.keeps (reads-keep _ _ reads);
-    }
+    tried-read i c.try_put.new.pass c.try_put.ensures.pass reads c.try_put.ensures.ready (keeps-then _ _ _ i.left (reads-keep _ _ reads))
 
 pub fetch-requires-clause-home : goal.fetch-requires-clause-home
-fetch-requires-clause-home g c = c.in-Need.ensures.tried.0.0.out ∙ c.loop.invariant.keeps.out ∙ c.requires.home
+fetch-requires-clause-home g c = c.in-Need.ensures.tried.0.0.out ∙ c.loop.invariant.left.out ∙ c.requires.home
 
 pub fetch-requires-clause-frames : goal.fetch-requires-clause-frames
 fetch-requires-clause-frames g c =
@@ -37,22 +31,16 @@ pub loop-preserved-in-Ok : goal.loop-preserved-in-Ok
 loop-preserved-in-Ok g c =
     let i = c.loop.invariant in
     let k = c.fetch.ensures in
-    record {
-      same = (k.pass.0 ∙ c.try_put.ensures.pass.0 ∙ i.same.0, k.pass.1 ∙ c.try_put.ensures.pass.1 ∙ i.same.1);
-      ready = k.ready;
-      held = k.held;
-      lost = lost-on c.args.iface.now.frames c.loop.iface.frames c.fetch.new.iface.frames (view c.args.pass.now) (view c.loop.pass) (view c.try_put.new.pass) (view c.fetch.new.pass) i.lost c.in-Need.ensures.tried.0 k.lost;
-      iface = (k.iface.0 ∙ i.iface.0, k.iface.1 ∙ i.iface.1);
-      keeps = keeps-then _ _ _ i.keeps (keeps-then _ _ _ (reads-keep _ _ c.in-Need.ensures.tried.0) (waits-keep _ _ k.waits));
-    }
+    let reads = c.in-Need.ensures.tried.0 in
+    tried-call i c.try_put.new.pass c.try_put.ensures.pass reads c.fetch.new.pass c.fetch.new.iface k.pass k.ready k.held k.lost k.iface (keeps-then _ _ _ i.left (keeps-then _ _ _ (reads-keep _ _ reads) (waits-keep _ _ k.waits)))
 
 pub returns-in-Err-clause-err : goal.returns-in-Err-clause-err
 returns-in-Err-clause-err g c =
     let i = c.loop.invariant in
     let needed = c.in-Need.ensures.tried in
     put_faulted.faulted
-    (faulted.missing (view c.loop.pass) (view c.try_put.new.pass) c.in-Need.pid i.keeps needed.0 needed.1 c.in-Err.ensures.err
-    (keeps-then _ _ _ i.keeps (keeps-then _ _ _ (reads-keep _ _ needed.0) (waits-keep _ _ c.fetch.ensures.waits))))
+    (faulted.missing (view c.loop.pass) (view c.try_put.new.pass) c.in-Need.pid i.left needed.0 needed.1 c.in-Err.ensures.err
+    (keeps-then _ _ _ i.left (keeps-then _ _ _ (reads-keep _ _ needed.0) (waits-keep _ _ c.fetch.ensures.waits))))
 
 pub returns-in-Worn-clause-held : goal.returns-in-Worn-clause-held
 returns-in-Worn-clause-held g c =
@@ -62,10 +50,10 @@ pub returns-in-Worn-clause-err : goal.returns-in-Worn-clause-err
 returns-in-Worn-clause-err g c =
     let i = c.loop.invariant in
     let worn = c.in-Worn.ensures.tried in
-    put_faulted.faulted (faulted.worn (view c.loop.pass) c.in-Worn.pid i.keeps worn.0 worn.1 refl (keeps-then _ _ _ i.keeps (reads-keep _ _ worn.0)))
+    put_faulted.faulted (faulted.worn (view c.loop.pass) c.in-Worn.pid i.left worn.0 worn.1 refl (keeps-then _ _ _ i.left (reads-keep _ _ worn.0)))
 
 pub make_room-requires-clause-home : goal.make_room-requires-clause-home
-make_room-requires-clause-home g c = c.in-Tight.ensures.tried.0.0.out ∙ c.loop.invariant.keeps.out ∙ c.requires.home
+make_room-requires-clause-home g c = c.in-Tight.ensures.tried.0.0.out ∙ c.loop.invariant.left.out ∙ c.requires.home
 
 pub make_room-requires-clause-frames : goal.make_room-requires-clause-frames
 make_room-requires-clause-frames g c =
@@ -75,21 +63,15 @@ pub loop-preserved : goal.loop-preserved
 loop-preserved g c =
     let i = c.loop.invariant in
     let k = c.make_room.ensures in
-    record {
-      same = (k.pass.0 ∙ c.try_put.ensures.pass.0 ∙ i.same.0, k.pass.1 ∙ c.try_put.ensures.pass.1 ∙ i.same.1);
-      ready = k.ready;
-      held = k.held;
-      lost = lost-on c.args.iface.now.frames c.loop.iface.frames c.make_room.new.iface.frames (view c.args.pass.now) (view c.loop.pass) (view c.try_put.new.pass) (view c.make_room.new.pass) i.lost c.in-Tight.ensures.tried.0 k.lost;
-      iface = (k.iface.0 ∙ i.iface.0, k.iface.1 ∙ i.iface.1);
-      keeps = keeps-then _ _ _ i.keeps (keeps-then _ _ _ (reads-keep _ _ c.in-Tight.ensures.tried.0) k.keeps);
-    }
+    let reads = c.in-Tight.ensures.tried.0 in
+    tried-call i c.try_put.new.pass c.try_put.ensures.pass reads c.make_room.new.pass c.make_room.new.iface k.pass k.ready k.held k.lost k.iface (keeps-then _ _ _ i.left (keeps-then _ _ _ (reads-keep _ _ reads) k.keeps))
 
 pub returns-in-Err-make_room-clause-err : goal.returns-in-Err-make_room-clause-err
 returns-in-Err-make_room-clause-err g c =
     let i = c.loop.invariant in
     let tight = c.in-Tight.ensures.tried in
-    put_faulted.tight (view c.loop.pass) (view c.try_put.new.pass) _ i.keeps tight.0 tight.1 c.in-Err-make_room.ensures.err
-    (keeps-then _ _ _ i.keeps (keeps-then _ _ _ (reads-keep _ _ tight.0) c.make_room.ensures.keeps))
+    put_faulted.tight (view c.loop.pass) (view c.try_put.new.pass) _ i.left tight.0 tight.1 c.in-Err-make_room.ensures.err
+    (keeps-then _ _ _ i.left (keeps-then _ _ _ (reads-keep _ _ tight.0) c.make_room.ensures.keeps))
 
 pub returns-in-Done-clause-held : goal.returns-in-Done-clause-held
 returns-in-Done-clause-held g c =
@@ -98,7 +80,7 @@ returns-in-Done-clause-held g c =
 pub returns-in-Done-clause-ok : goal.returns-in-Done-clause-ok
 returns-in-Done-clause-ok g c =
     let i = c.loop.invariant in
-    replied KeepsLocksOnly _ _ _ _ i.keeps (keeps-last _ _ i.keeps) (inl (c.in-Done.ensures.tried.0, put-not c.args.key c.args.value c.in-Done.reply))
+    replied KeepsLocksOnly _ _ _ _ i.left (keeps-last _ _ i.left) (inl (c.in-Done.ensures.tried.0, put-not c.args.key c.args.value c.in-Done.reply))
 
 -- ---- no frame is lost
 
