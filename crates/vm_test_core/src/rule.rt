@@ -65,8 +65,8 @@ fn a_started_table_has_its_words_by_the_layout(rt: HostRuntime) -> Result<(), Fa
     blocks.push(MemBlock::new(alloc, PageBuf::zero(), &[])?)?;
     let (words, _pass) = Words::<Bare, MemBlock>::started(alloc, 67, 1, 7, blocks)?;
     let table = &words.table.shared;
-    // Two state words, two translations, two fault words, 4288 words of frames, two bundles, the next word, the hand.
-    assert_eq!(rt; words.table.word_count(), 4298);
+    // Two state words, two translations, two fault words, 4288 words of frames, two bundles, the next word, the hand, 67 owner words.
+    assert_eq!(rt; words.table.word_count(), 4365);
     assert_eq!(rt; table.peek(0), EVICTED_AT_7);
     assert_eq!(rt; table.peek(1), EVICTED_AT_7);
     assert_eq!(rt; table.peek(3), 0);
@@ -76,5 +76,7 @@ fn a_started_table_has_its_words_by_the_layout(rt: HostRuntime) -> Result<(), Fa
     assert_eq!(rt; table.peek(4295), 7);
     assert_eq!(rt; table.peek(4296), 1);
     assert_eq!(rt; table.peek(4297), 0);
+    assert_eq!(rt; table.peek(4298), 0);
+    assert_eq!(rt; table.peek(4364), 0);
     Ok(())
 }

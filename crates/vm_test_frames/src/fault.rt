@@ -105,8 +105,8 @@ fn a_table_of_resident_pages_has_its_words_by_the_layout(rt: HostRuntime) -> Res
     blocks.push(MemBlock::new(alloc, last, &[])?)?;
     let (words, _pass) = resident(&rt, alloc, blocks, 7)?;
     let table = &words.table.shared;
-    // Two state words, two translations, two fault words, 128 words of frames, a bundle, the next word, the hand.
-    assert_eq!(rt; words.table.word_count(), 137);
+    // Two state words, two translations, two fault words, 128 words of frames, a bundle, the next word, the hand, two owner words.
+    assert_eq!(rt; words.table.word_count(), 139);
     assert_eq!(rt; table.peek(0), 7);
     assert_eq!(rt; table.peek(1), 7);
     assert_eq!(rt; table.peek(2), 1);
@@ -117,5 +117,7 @@ fn a_table_of_resident_pages_has_its_words_by_the_layout(rt: HostRuntime) -> Res
     assert_eq!(rt; table.peek(134), 0);
     assert_eq!(rt; table.peek(135), 2);
     assert_eq!(rt; table.peek(136), 0);
+    assert_eq!(rt; table.peek(137), 0);
+    assert_eq!(rt; table.peek(138), 0);
     Ok(())
 }
