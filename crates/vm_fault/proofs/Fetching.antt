@@ -102,8 +102,8 @@ module _ {X : Type 0} (p version : ℕ) (words : List ℕ) (before : List Did) (
         work-installed : Works p worked-did x i
         work-installed = works-then p filled-did (install-did ∷ []) x e i work-filled (install-works t)
 
-        held-installed : held_at i p ≡ record held-called { mapping = Some (clean_in f) }
-        held-installed = install-held t ∙ ap (λ (y : Held). record y { mapping = Some (clean_in f) }) held-filled
+        held-installed : held_at i p ≡ record held-called { mapping = Some (clean_in f); owner = t.owner }
+        held-installed = install-held t ∙ ap (λ (y : Held). record y { mapping = Some (clean_in f); owner = t.owner }) held-filled
 
         out-installed : i.out ≡ None
         out-installed = ap (λ (y : View X). y.out) t.brings.view ∙ filled-as.out ∙ moved.away

@@ -108,7 +108,7 @@ module _ {X : Type 0} where
         pub furnish-empty : Furnishes p f version false before after v w
         furnish-empty =
             let apart = apart-front after f (subst AreApart cut own.apart) in
-            let held-w : held_at w p ≡ record (held_at v p) { mapping = Some (clean_in f) } = install-held t ∙ ap (λ (h : Held). record h { mapping = Some (clean_in f) }) held-u in
+            let held-w : held_at w p ≡ record (held_at v p) { mapping = Some (clean_in f); owner = t.owner } = install-held t ∙ ap (λ (h : Held). record h { mapping = Some (clean_in f); owner = t.owner }) held-u in
             let last-w : last_of w p ≡ last_of v p = work.last (inl s.owns) in
             let frames-w : w.frames ≡ without f v.frames = install-frames t ∙ ap (without f) filling.frames in
             record {

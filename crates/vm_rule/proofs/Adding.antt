@@ -118,6 +118,7 @@ module _ {X B : Type 0} (stored : B → Stored) (keeps : Start → Kept X → Ty
         let g : KnowsPages tied start before-world (is_pending s.views) v = r.known id v there live in
         record {
           knows = sh.knows;
+          owners = sh.owners;
           contents = sh.contents;
           drafts = λ p x. sh.drafted p x ∙ sym (draft-is start (r.releases ++ own) drafts p);
           latest = λ p _. ap (λ (o : Origin). last_in o (r.releases ++ own) p) (sh.same_start ∙ heard.same_start) ∙ last-is start (r.releases ++ own) drafts p;
@@ -138,6 +139,7 @@ module _ {X B : Type 0} (stored : B → Stored) (keeps : Start → Kept X → Ty
         known-else tied start before-world next-world (is_pending s.views) pending' id j u sh.left (sh.left.others j (at-bound s.views j u e) ne)
         (λ p l. seat-here stored start s j p u l e)
         (λ p le. (outside-here stored start after-table p le ∙ sym (outside-here stored start s p le), sh.outside p le))
+        (λ p le. ap (λ (y : Page). y.trans) (outside-here stored start s p le))
         (λ f. ap (λ (y : View X). has f y.frames) (at-there spent s.views j u e)) known sh.inv.next ties (r.known j u e on)
 
     -- the step keeps the rule
@@ -202,6 +204,7 @@ module _ {X B : Type 0} (stored : B → Stored) (keeps : Start → Kept X → Ty
         next_versions = sh.next_versions;
         zero = sh.zero;
         knows = sh.knows;
+        owners = sh.owners;
         contents = sh.contents;
         drafted = sh.drafted;
         pending = sh.pending;

@@ -100,6 +100,7 @@ module _ {X B : Type 0} (stored : B → Stored) (keeps : Start → Kept X → Ty
         next_versions = tt;
         zero = λ t p le l. ap (λ y. (histories_of start y r.drafts p).last.words) releases ∙ r.zero t p le l;
         knows = λ p. subst (λ (y : ℕ → Page). KnowsPage (seat_of v p) (put_at no_held v.held p) (y p)) (sym (ap (λ c. c.pages) core)) (k.knows p);
+        owners = subst (λ (f : ℕ → ℕ). KnowsOwners f (seat_of v) (put_at no_held v.held)) (sym (ap (λ c. c.owners) core)) k.owners;
         contents = k.contents;
         drafted = λ p x. k.drafts p x ∙ draft-is start r.releases r.drafts p;
         pending = λ p x. let m = k.pending p x in (m.0, λ t past. sym (draft-is start r.releases r.drafts p) ∙ m.1 t past ∙ sym (ap (λ y. (histories_of start y r.drafts p).last.words) releases));

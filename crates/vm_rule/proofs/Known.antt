@@ -73,6 +73,7 @@ module _ {X : Type 0} (tied : Start → ℕ → List ℕ → ℕ → List ℕ �
   known-with v k contents latest words = record {
     knows = k.knows;
     contents = contents;
+    owners = k.owners;
     drafts = k.drafts;
     latest = latest;
     pending = k.pending;
@@ -88,6 +89,7 @@ module _ {X : Type 0} (tied : Start → ℕ → List ℕ → ℕ → List ℕ �
   known-nothing live began used fresh releases seen = record {
     knows = λ p. record { calls = λ e. absurd (true≢false (sym e)); shares = λ l. absurd (omega (arith, l)) };
     contents = λ f e. absurd (true≢false (sym e));
+    owners = λ p m e. absurd (true≢false (sym e));
     drafts = λ p e. absurd (true≢false (sym e));
     latest = λ p. ⊎_elim (λ e. absurd (true≢false (sym e))) (λ l. absurd (omega (arith, l)));
     pending = λ p e. absurd (true≢false (sym e));
@@ -117,11 +119,12 @@ module _ {X : Type 0} where
         → ((p : ℕ) → p < w.core.shape.pages → (w.core.pages p).seats j ≡ seat_of u p)
         → ((p : ℕ) → w.core.shape.pages ≤ p → (w'.core.pages p ≡ w.core.pages p) × (w'.histories p ≡ w.histories p))
         → ((f : ℕ) → w.core.held j f ≡ has f u.frames)
+        → ((p : ℕ) → w.core.shape.pages ≤ p → (w.core.pages p).trans ≡ None)
         → ((p : ℕ) → (w.core.pages p).state ≤ EVICTED)
         → w'.core.next ≤ w.core.shape.pages
         → ((t : Tie) → TieHolds tied (began_of start) w unreleased t → TieHolds tied (began_of start) w' unreleased' t)
         → KnowsPages tied start w unreleased u → KnowsPages tied start w' unreleased' u
-    known-else w w' unreleased unreleased' a j u left mine seats outside held known inside ties g =
+    known-else w w' unreleased unreleased' a j u left mine seats outside empty held known inside ties g =
         let owns : (p : ℕ) → p < w.core.shape.pages → (seat_of u p).exclusive ≡ true → ((w.core.pages p).seats j).exclusive ≡ true = λ p l x. ap (λ (y : Seat). y.exclusive) (seats p l) ∙ x in
         let shares : (p : ℕ) → p < w.core.shape.pages → 1 ≤ (seat_of u p).shares → 1 ≤ ((w.core.pages p).seats j).shares = λ p l x. subst (λ (y : Seat). 1 ≤ y.shares) (sym (seats p l)) x in
         let histories : (p : ℕ) → (seat_of u p).exclusive ≡ true → w'.histories p ≡ w.histories p = λ p x. ⊎_elim (λ l. mine.owned p (owns p l x)) (λ le. (outside p le).1) (cases_lt p w.core.shape.pages) in
@@ -136,6 +139,12 @@ module _ {X : Type 0} where
                 shares = λ x. (g.knows p).shares x ∙ sym ((mine.untouched p).shares (shares p l x));
               })
               (λ le. subst (KnowsPage (seat_of u p) (put_at no_held u.held p)) (sym (outside p le).0) (g.knows p))
+              (cases_lt p w.core.shape.pages);
+          owners = λ p m x at.
+              let there : (w.core.pages p).trans ≡ Some m = sym ((g.knows p).calls x).0 ∙ at in
+              ⊎_elim
+              (λ l. g.owners p m x at ∙ sym (mine.owners p m (ap may_call (seats p l) ∙ x) there))
+              (λ le. absurd (none-some m (sym (empty p le) ∙ there)))
               (cases_lt p w.core.shape.pages);
           contents = λ f x. g.contents f x ∙ sym (mine.words f (held f ∙ x));
           drafts = λ p x. g.drafts p x ∙ ap (λ (h : History). h.draft) (sym (histories p x));

@@ -132,6 +132,7 @@ module _ {X B : Type 0} (stored : B → Stored) (start : Origin) (releases : Lis
       (subst (λ (y : World). KnowsPages tied start y (is_pending s.views) u) (sym settled-world)
       (record {
         knows = λ p. let h = q.knows p in record { calls = h.calls; shares = h.shares };
+        owners = q.owners;
         contents = q.contents;
         drafts = q.drafts;
         latest = q.latest;

@@ -52,6 +52,7 @@ module _ {X B : Type 0} (stored : B → Stored) (keeps : Start → Kept X → Ty
       pub zero : start.tells ≡ true → (p : ℕ) → world_more.core.next ≤ p → p < start.pages → (world_more.histories p).last.words ≡ replicate 64 0
       -- what it knows of what it holds
       pub knows : (p : ℕ) → KnowsPage (seat_of inner p) (put_at no_held inner.held p) (world_more.core.pages p)
+      pub owners : KnowsOwners world_more.core.owners (seat_of inner) (put_at no_held inner.held)
       pub contents : (f : ℕ) → has f inner.frames ≡ true → put_at [] inner.contents f ≡ world_more.core.words f
       pub drafted : (p : ℕ) → (seat_of inner p).exclusive ≡ true → draft_of inner p ≡ drafts p
       pub pending : (p : ℕ) → has p inner.pending ≡ true → ((seat_of inner p).exclusive ≡ true) × (start.tells ≡ true → world_more.core.next ≤ p → drafts p ≡ (world_more.histories p).last.words)
@@ -101,6 +102,7 @@ module _ {X B : Type 0} (stored : B → Stored) (keeps : Start → Kept X → Ty
     pub zero : start.tells ≡ true → (p : ℕ) → (core_shown stored start (became s words id (after_step s r words own entries did inner))).next ≤ p → p < start.pages → (histories_of start (r.releases ++ own) drafts p).last.words ≡ replicate 64 0
     -- what it knows of what it holds
     pub knows : (p : ℕ) → KnowsPage (seat_of inner p) (put_at no_held inner.held p) ((core_shown stored start (became s words id (after_step s r words own entries did inner))).pages p)
+    pub owners : KnowsOwners (core_shown stored start (became s words id (after_step s r words own entries did inner))).owners (seat_of inner) (put_at no_held inner.held)
     pub contents : (f : ℕ) → has f inner.frames ≡ true → put_at [] inner.contents f ≡ (core_shown stored start (became s words id (after_step s r words own entries did inner))).words f
     pub drafted : (p : ℕ) → (seat_of inner p).exclusive ≡ true → draft_of inner p ≡ drafts p
     pub pending : (p : ℕ) → has p inner.pending ≡ true → ((seat_of inner p).exclusive ≡ true)

@@ -35,12 +35,14 @@ module _ {X : Type 0} where
     pub holds : has f v.frames ≡ true
     pub loaded : v.start.tells ≡ true → contents_at v f ≡ (held_at v p).block.words
 
-  abbrev pub installed_view : ℕ → ℕ → View X → View X
-  installed_view p f v = record v { held = mapped p (Some (clean_in f)) v; frames = without f v.frames }
+  abbrev pub installed_view : ℕ → ℕ → ℕ → View X → View X
+  installed_view p f word v =
+      record v { held = put p (record (held_at v p) { mapping = Some (clean_in f); owner = word }) v.held; frames = without f v.frames }
 
-  -- the page was put into the frame, clean; the frame is the pass's no more
+  -- the page was put into the frame, clean; the frame is the pass's no more, and its owner word is known
   pub record InstallTold (p f : ℕ) (v w : View X) : Type 0 where
-    pub brings : Brings (did_store (places.Translation p) (trans_word (Some (clean_in f)))) [] [] v (installed_view p f v) w
+    pub owner : ℕ
+    pub brings : Brings (did_store (places.Translation p) (trans_word (Some (clean_in f)))) [] [] v (installed_view p f owner v) w
 
   -- ---- clear
 

@@ -32,12 +32,19 @@ AreNext start before (r ∷ rs) = (r.version ≡ (last_in start before r.page).v
 
 -- a page that nobody has locked
 abbrev pub no_held : Held
-no_held = record { mapping = None; fault = 0; block = no_block }
+no_held = record { mapping = None; fault = 0; block = no_block; owner = 0 }
 
 -- what a pass that has the page locked knows of it is what it is: all of it where the pass may call the device, its frame where it has a share
 pub record KnowsPage (seat : Seat) (h : Held) (r : Page) : Type 0 where
   pub calls : may_call seat ≡ true → (h.mapping ≡ r.trans) × (h.fault ≡ r.fault) × (h.block.words ≡ r.block) × (h.block.count ≡ r.count)
   pub shares : 1 ≤ seat.shares → frame_of h.mapping ≡ frame_of r.trans
+
+-- of a page whose device the pass may call, and that stands in a frame, it knows the frame's owner word; and so of each page
+abbrev pub KnowsOwner : (ℕ → ℕ) → Seat → Held → Type 0
+KnowsOwner owners seat h = (m : Mapping) → may_call seat ≡ true → h.mapping ≡ Some m → h.owner ≡ owners m.frame
+
+abbrev pub KnowsOwners : (ℕ → ℕ) → (ℕ → Seat) → (ℕ → Held) → Type 0
+KnowsOwners owners seats held = (p : ℕ) → KnowsOwner owners (seats p) (held p)
 
 -- the word that was loaded names the page's frame, as long as the page has the version of the read and is neither locked nor evicted; a page
 -- that it says to be clean stays clean so long
@@ -136,6 +143,8 @@ module _ {X : Type 0} where
   -- what the pass knows of what it holds and of what it read
   pub record KnowsPages (tied : Start → ℕ → List ℕ → ℕ → List ℕ → Type 0) (start : Origin) (w : World) (unreleased : ℕ → Bool) (v : View X) : Type 0 where
     pub knows : (p : ℕ) → KnowsPage (seat_of v p) (put_at no_held v.held p) (w.core.pages p)
+    -- the owner word of the frame of a page whose device the pass may call
+    pub owners : KnowsOwners w.core.owners (seat_of v) (put_at no_held v.held)
     pub contents : (f : ℕ) → has f v.frames ≡ true → put_at [] v.contents f ≡ w.core.words f
     pub drafts : (p : ℕ) → (seat_of v p).exclusive ≡ true → draft_of v p ≡ (w.histories p).draft
     -- it has seen the last version of each page that it has locked

@@ -11,11 +11,12 @@ pub struct Put<X> {
     pub value: X,
 }
 
-/// What a pass that has a page locked knows of it: where it stands, its fault word and its block.
+/// What a pass that has a page locked knows of it: where it stands, its fault word and its block, and the owner word of its frame.
 pub struct Held {
     pub mapping: Option<Mapping>,
     pub fault: u64,
     pub block: Stored,
+    pub owner: u64,
 }
 
 /// What a table is told when it is made: its numbers of pages and frames, the first version of every page, and the least page number

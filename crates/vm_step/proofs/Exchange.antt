@@ -109,6 +109,15 @@ module _ {X : Type 0} where
       subst (λ k. KnowsPage k (put_at no_held held q) (pages q)) (sym (upd-other (put_at no_seat v.seats) p seat q ne))
       (subst (λ h. KnowsPage (seat_of v q) h (pages q)) (sym (others q ne)) (known q)))
 
+-- the owner word of the frame that a page stands in
+abbrev pub owner_at : (ℕ → ℕ) → Option Mapping → ℕ
+owner_at owners None = 0
+owner_at owners (Some m) = owners m.frame
+
+-- who knows it of the page's frame knows it of the frame that the page is said to stand in
+pub knows-owner : (owners : ℕ → ℕ) (seat : Seat) (h : Held) → h.owner ≡ owner_at owners h.mapping → KnowsOwner owners seat h
+knows-owner owners seat h is m calls at = is ∙ ap (owner_at owners) at
+
 module _ {X B : Type 0} (stored : B → Stored) (keeps : Start → Kept X → Type 0) (tied : Start → ℕ → List ℕ → ℕ → List ℕ → Type 0) (start : Origin) (tells : Bool) (s : Table (Option B) (View X)) (r : Ruled stored keeps tied start tells s) (id : ℕ) (v : View X) (there : get_elem? s.views id ≡ some v) where
   -- the pass and the page are the core's
   pub names : (p : ℕ) → p < start.pages → NamesActorAndPage (core_shown stored start s) id p
@@ -262,6 +271,7 @@ module _ {X B : Type 0} (stored : B → Stored) (keeps : Start → Kept X → Ty
         mapping = ((world stored keeps tied start tells s r).core.pages p).trans;
         fault = ((world stored keeps tied start tells s r).core.pages p).fault;
         block = block_of stored s.homes s.views p;
+        owner = owner_at (world stored keeps tied start tells s r).core.owners ((world stored keeps tied start tells s r).core.pages p).trans;
       }
 
   -- by a seat of its own, it knows a page that differs from this one in its state and its seats alone
@@ -270,6 +280,10 @@ module _ {X B : Type 0} (stored : B → Stored) (keeps : Start → Kept X → Ty
   known-held p l seat hs y trans fault block count =
       let here = block-here stored start s p l in
       rw (upd-same (put_at no_held hs) p (page_held p)) (record { calls = λ m. (sym trans, sym fault, sym here.0 ∙ sym block, sym here.1 ∙ sym count); shares = λ m. ap frame_of (sym trans) })
+
+  -- and the owner word of its frame
+  pub known-owner : (p : ℕ) (seat : Seat) (hs : List (Put Held)) → KnowsOwner (world stored keeps tied start tells s r).core.owners seat (put_at no_held (put p (page_held p) hs) p)
+  known-owner p seat hs = rw (upd-same (put_at no_held hs) p (page_held p)) (knows-owner (world stored keeps tied start tells s r).core.owners seat (page_held p) refl)
 
   module _ (id : ℕ) (v : View X) (there : get_elem? s.views id ≡ some v) (p : ℕ) (l : p < start.pages) (free : ((world stored keeps tied start tells s r).core.pages p).state ≢ LOCKED) where
     -- the page is no member still to be released of the pass, which does not hold it exclusively
@@ -363,10 +377,11 @@ module _ {X B : Type 0} (stored : B → Stored) (keeps : Start → Kept X → Ty
         → ((o : Out) → v.out ≡ Some o → may_call (put_at no_seat seats o.page) ≡ true)
         → ((q : ℕ) → (seat_of v q).exclusive ≡ true → (put_at no_seat seats q).exclusive ≡ true)
         → ((q : ℕ) → KnowsPage (put_at no_seat seats q) (put_at no_held held q) (upd old'.core.pages p y q))
+        → KnowsOwners old'.core.owners (put_at no_seat seats) (put_at no_held held)
         → ((q : ℕ) → is_pending s.views q ≡ true → drafts q ≡ r.drafts q)
         → ((q : ℕ) → (put_at no_seat seats q).exclusive ≡ true → put_at [] own q ≡ drafts q)
         → ShowsQuiet stored keeps tied start tells s r id v (slice_set s.words p x) drafts did (locking v seats loads held own) e
-    word-shows seats loads held own is calls holds knows members drafted = record {
+    word-shows seats loads held own is calls holds knows owners members drafted = record {
       word = is.word;
       legal = is.legal;
       world = is.world;
@@ -376,6 +391,7 @@ module _ {X B : Type 0} (stored : B → Stored) (keeps : Start → Kept X → Ty
       members = members;
       next = ap (λ (c : State). c.next) is.core;
       knows = λ q. subst (λ (c : State). KnowsPage (put_at no_seat seats q) (put_at no_held held q) (c.pages q)) (sym is.core) (knows q);
+      owners = λ q m h at. owners q m h at ∙ sym (ap (λ (c : State). c.owners m.frame) is.core);
       contents = λ f h. (r.known id v there live).contents f h ∙ sym (ap (λ (c : State). c.words f) is.core);
       drafted = drafted;
       loaded = ([], refl, tt);
@@ -384,15 +400,16 @@ module _ {X B : Type 0} (stored : B → Stored) (keeps : Start → Kept X → Ty
     -- the same, where the pass has this seat of the page, and knows the page, if the seat says so
     pub seat-shows : (seat : Seat) (loads : List (Put (List (ℕ × ℕ)))) (held : List (Put Held)) (own : List (Put (List ℕ))) → Settles (locking v (put p seat v.seats) loads held own)
         → ((o : Out) → v.out ≡ Some o → o.page ≡ p → may_call (seat_of v p) ≡ true → may_call seat ≡ true) → ((seat_of v p).exclusive ≡ true → seat.exclusive ≡ true)
-        → ((q : ℕ) → q ≢ p → put_at no_held held q ≡ put_at no_held v.held q) → KnowsPage seat (put_at no_held held p) y
+        → ((q : ℕ) → q ≢ p → put_at no_held held q ≡ put_at no_held v.held q) → KnowsPage seat (put_at no_held held p) y → KnowsOwner old'.core.owners seat (put_at no_held held p)
         → ((q : ℕ) → is_pending s.views q ≡ true → drafts q ≡ r.drafts q)
         → ((q : ℕ) → (put_at no_seat (put p seat v.seats) q).exclusive ≡ true → put_at [] own q ≡ drafts q)
         → ShowsQuiet stored keeps tied start tells s r id v (slice_set s.words p x) drafts did (locking v (put p seat v.seats) loads held own) e
-    seat-shows seat loads held own is calls holds others here =
+    seat-shows seat loads held own is calls holds others here owner =
         word-shows (put p seat v.seats) loads held own is
         (λ o x. each-upd (λ q y. o.page ≡ q → may_call (seat_of v q) ≡ true → may_call y ≡ true) (put_at no_seat v.seats) p seat (calls o x) (λ q ne e k. k) o.page refl (r.blocks.away id v o there x).1)
         (each-upd (λ q y. (seat_of v q).exclusive ≡ true → y.exclusive ≡ true) (put_at no_seat v.seats) p seat holds (λ q ne k. k))
         (knows-one v old'.core.pages p seat held y (r.known id v there live).knows others here)
+        (each-upd (λ q k. KnowsOwner old'.core.owners k (put_at no_held held q)) (put_at no_seat v.seats) p seat owner (λ q ne. subst (KnowsOwner old'.core.owners (seat_of v q)) (sym (others q ne)) ((r.known id v there live).owners q)))
 
   -- ---- a lock
 
@@ -414,10 +431,10 @@ module _ {X B : Type 0} (stored : B → Stored) (keeps : Start → Kept X → Ty
     -- an exclusive lock of a page that was not locked: its draft is opened
     pub owner-shows : (e : Event) (y : Page) (seat : Seat) (held : List (Put Held)) → IsExchange stored start s r.releases r.drafts id p expects x (opened stored keeps tied start tells s r p) (locking v (put p seat v.seats) (put p [] v.loads) held (put p (last stored keeps tied start tells s r p).words v.drafts)) e y
         → seat.exclusive ≡ true → (old'.core.pages p).state ≢ LOCKED
-        → ((q : ℕ) → q ≢ p → put_at no_held held q ≡ put_at no_held v.held q) → KnowsPage seat (put_at no_held held p) y
+        → ((q : ℕ) → q ≢ p → put_at no_held held q ≡ put_at no_held v.held q) → KnowsPage seat (put_at no_held held p) y → KnowsOwner old'.core.owners seat (put_at no_held held p)
         → ShowsQuiet stored keeps tied start tells s r id v (slice_set s.words p x) (opened stored keeps tied start tells s r p) taken_did (locking v (put p seat v.seats) (put p [] v.loads) held (put p (last stored keeps tied start tells s r p).words v.drafts)) e
-    owner-shows e y seat held is owns free others here =
-        seat-shows taken_did x (opened stored keeps tied start tells s r p) e y seat (put p [] v.loads) held (put p (last stored keeps tied start tells s r p).words v.drafts) (exchange-settles (opened stored keeps tied start tells s r p) _ e y is) (λ o h same m. rw owns refl) (λ m. owns) others here
+    owner-shows e y seat held is owns free others here owner =
+        seat-shows taken_did x (opened stored keeps tied start tells s r p) e y seat (put p [] v.loads) held (put p (last stored keeps tied start tells s r p).words v.drafts) (exchange-settles (opened stored keeps tied start tells s r p) _ e y is) (λ o h same m. rw owns refl) (λ m. owns) others here owner
         (λ q t.
         ⊎_elim
         (λ e'. absurd (true≢false (sym t ∙ ap (is_pending s.views) e' ∙ not-pending stored keeps tied start tells s r p l free)))
@@ -439,10 +456,10 @@ module _ {X B : Type 0} (stored : B → Stored) (keeps : Start → Kept X → Ty
     -- a lock that is not exclusive
     pub sharer-shows : (e : Event) (y : Page) (seat : Seat) (held : List (Put Held)) → IsExchange stored start s r.releases r.drafts id p expects x r.drafts (locking v (put p seat v.seats) (put p [] v.loads) held v.drafts) e y
         → (may_call (seat_of v p) ≡ true → may_call seat ≡ true) → seat.exclusive ≡ (seat_of v p).exclusive
-        → ((q : ℕ) → q ≢ p → put_at no_held held q ≡ put_at no_held v.held q) → KnowsPage seat (put_at no_held held p) y
+        → ((q : ℕ) → q ≢ p → put_at no_held held q ≡ put_at no_held v.held q) → KnowsPage seat (put_at no_held held p) y → KnowsOwner old'.core.owners seat (put_at no_held held p)
         → ShowsQuiet stored keeps tied start tells s r id v (slice_set s.words p x) r.drafts taken_did (locking v (put p seat v.seats) (put p [] v.loads) held v.drafts) e
-    sharer-shows e y seat held is calls same others here =
-        seat-shows taken_did x r.drafts e y seat (put p [] v.loads) held v.drafts (exchange-settles r.drafts _ e y is) (λ o h at. calls) (λ m. same ∙ m) others here (λ q t. refl)
+    sharer-shows e y seat held is calls same others here owner =
+        seat-shows taken_did x r.drafts e y seat (put p [] v.loads) held v.drafts (exchange-settles r.drafts _ e y is) (λ o h at. calls) (λ m. same ∙ m) others here owner (λ q t. refl)
         (λ q m. draft-stays q (sym (upd-keeps (λ (k : Seat). k.exclusive) (λ n. seat_of v n) p seat same q) ∙ m))
 
 -- what an exchange sees, by whether the page has the word expected

@@ -101,6 +101,7 @@ module _ {X B : Type 0} (stored : B → Stored) (keeps : Start → Kept X → Ty
     pub calls : (o : Out) → v.out ≡ Some o → may_call (seat_of inner o.page) ≡ true
     pub holds : (q : ℕ) → (seat_of v q).exclusive ≡ true → (seat_of inner q).exclusive ≡ true
     pub knows : (q : ℕ) → KnowsPage (seat_of inner q) (put_at no_held inner.held q) (then.core.pages q)
+    pub owners : KnowsOwners then.core.owners (seat_of inner) (put_at no_held inner.held)
     pub contents : (f : ℕ) → has f inner.frames ≡ true → put_at [] inner.contents f ≡ then.core.words f
     pub drafted : (q : ℕ) → (seat_of inner q).exclusive ≡ true → draft_of inner q ≡ drafts q
     pub owes : (q : ℕ) → has q inner.owed ≡ true → ((seat_of inner q).exclusive ≡ true) × (start.next ≤ q) × (q < then.core.next) × (has q inner.pending ≡ false)
@@ -137,6 +138,7 @@ module _ {X B : Type 0} (stored : B → Stored) (keeps : Start → Kept X → Ty
         next_versions = tt;
         zero = led.zero;
         knows = λ q. subst (λ (c : State). KnowsPage (seat_of inner q) (put_at no_held inner.held q) (c.pages q)) (sym core) (sh.knows q);
+        owners = λ q m x at. sh.owners q m x at ∙ sym (ap (λ (c : State). c.owners m.frame) core);
         contents = λ f x. sh.contents f x ∙ sym (ap (λ (c : State). c.words f) core);
         drafted = sh.drafted;
         pending = λ q x. let m = led.members q x in (sh.holds q m.0, m.1);
@@ -173,6 +175,7 @@ module _ {X B : Type 0} (stored : B → Stored) (keeps : Start → Kept X → Ty
     pub members : (q : ℕ) → is_pending s.views q ≡ true → drafts q ≡ r.drafts q
     pub next : (world_after before e).core.next ≡ before.core.next
     pub knows : (q : ℕ) → KnowsPage (seat_of inner q) (put_at no_held inner.held q) ((world_after before e).core.pages q)
+    pub owners : KnowsOwners (world_after before e).core.owners (seat_of inner) (put_at no_held inner.held)
     pub contents : (f : ℕ) → has f inner.frames ≡ true → put_at [] inner.contents f ≡ (world_after before e).core.words f
     pub drafted : (q : ℕ) → (seat_of inner q).exclusive ≡ true → draft_of inner q ≡ drafts q
     pub loaded : (l : List Translation) × (inner.translations ≡ l ++ v.translations) × Each (TranslationHolds (world_after before e).core.pages) l
@@ -193,6 +196,7 @@ module _ {X B : Type 0} (stored : B → Stored) (keeps : Start → Kept X → Ty
           calls = sh.calls;
           holds = sh.holds;
           knows = sh.knows;
+          owners = sh.owners;
           contents = sh.contents;
           drafted = sh.drafted;
           owes = λ q x. let m = k.owed q (sym (ap (has q) owed) ∙ x) in (sh.holds q m.0, m.1, subst (λ n. q < n) (sym sh.next) m.2, ap (has q) pending ∙ m.3);
@@ -219,9 +223,10 @@ module _ {X B : Type 0} (stored : B → Stored) (keeps : Start → Kept X → Ty
       → world_of stored start r.releases r.drafts (became stored keeps tied start tells s words id (after_step stored keeps tied start tells s r words [] [] did with_these)) ≡ world_after was e
       → (world_after was e).core.next ≡ was.core.next
       → ((q : ℕ) → KnowsPage (seat_of v q) (put_at no_held held q) ((world_after was e).core.pages q))
+      → KnowsOwners (world_after was e).core.owners (seat_of v) (put_at no_held held)
       → ((f : ℕ) → has f frames ≡ true → put_at [] contents f ≡ (world_after was e).core.words f)
       → Shows stored keeps tied start tells s r id v words r.drafts [] [] did with_these e
-  held-shows word legal world next knows contents' =
+  held-shows word legal world next knows owners contents' =
       quiet-shows stored keeps tied start tells s r id v words r.drafts did with_these e there live
       (record {
         word = word;
@@ -233,6 +238,7 @@ module _ {X B : Type 0} (stored : B → Stored) (keeps : Start → Kept X → Ty
         members = λ q _. refl;
         next = next;
         knows = knows;
+        owners = owners;
         contents = contents';
         drafted = λ q x. (r.known id v there live).drafts q x ∙ draft-is start r.releases r.drafts q;
         loaded = ([], refl, tt);

@@ -270,6 +270,9 @@ module _ {X B : Type 0} {stored : B → Stored} {keeps : Start → Kept X → Ty
   pub next-is : (core_shown stored start new).next ≡ old.core.next
   next-is = ap (λ (c : State). c.next) core-is
 
+  pub owners-are : (f : ℕ) → (core_shown stored start new).owners f ≡ old.core.owners f
+  owners-are f = ap (λ (c : State). c.owners f) core-is
+
   pub frames-are : (f : ℕ) → (core_shown stored start new).words f ≡ old.core.words f
   frames-are f = ap (λ (c : State). c.words f) core-is
 

@@ -107,6 +107,7 @@ module _ {X B : Type 0} (stored : B → Stored) (keeps : Start → Kept X → Ty
     pub left : Leaves id old later
     pub next : core.next ≡ old.core.next
     pub contents : core.words ≡ old.core.words
+    pub owners : KnowsOwners core.owners (seat_of v) (put_at no_held held)
     pub told : listed start.pages (block_of stored homes (slice_set s.views id after)) ≡ blocks
     pub fit : BlocksFit stored start homes (slice_set s.views id after)
     pub faults : FaultsFit core.pages (slice_set s.views id after)
@@ -147,6 +148,7 @@ module _ {X B : Type 0} (stored : B → Stored) (keeps : Start → Kept X → Ty
         next_versions = tt;
         zero = led.zero;
         knows = λ q. subst (λ (c : State). KnowsPage (seat_of v q) (put_at no_held held q) (c.pages q)) (sym sh.core_is) (sh.knows q);
+        owners = λ q m x at. sh.owners q m x at ∙ sym (ap (λ (c : State). c.owners m.frame) sh.core_is);
         contents = λ f x. k.contents f x ∙ sym (ap (λ (y : ℕ → List ℕ). y f) (ap (λ (c : State). c.words) sh.core_is ∙ sh.contents));
         drafted = λ q x. k.drafts q x ∙ draft-is start r.releases r.drafts q;
         pending = led.members;
@@ -215,6 +217,7 @@ module _ {X B : Type 0} (stored : B → Stored) (keeps : Start → Kept X → Ty
         left = rests-left;
         next = refl;
         contents = refl;
+        owners = (r.known id v there live).owners;
         told = ap (listed start.pages) same;
         fit = record {
           away = λ j u o' e x. ⊎_elim
@@ -484,6 +487,7 @@ module _ {X B : Type 0} (stored : B → Stored) (keeps : Start → Kept X → Ty
           left = left;
           next = refl;
           contents = refl;
+          owners = each-upd (λ q (x : Held). KnowsOwner world.core.owners (seat_of v q) x) (put_at no_held v.held) p h (mine.owners p) (λ q _. mine.owners q);
           told = ap (listed start.pages) (blocks-home (home-after p b) refl) ∙ listed-upd start.pages (block_of stored s.homes s.views) p (stored b) k.0;
           fit = fit-home bound;
           faults = faults-still stored keeps tied start tells s r id v (home-after p b) (record world { core = on_page world.core p y }) there refl left;

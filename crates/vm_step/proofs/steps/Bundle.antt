@@ -66,6 +66,7 @@ module _ {X B : Type 0} (stored : B → Stored) (keeps : Start → Kept X → Ty
         (take-step stored start s r.releases r.drafts id v (after_step stored keeps tied start tells s r words [] [] take_did take_inner) g expects mask r.wide.0 (bundle-within start g l) there refl refl refl (frames-with g mask v.frames) bundle-finds)
         (ap (λ (c : State). c.next) core)
         (λ q. subst (λ (c : State). KnowsPage (seat_of v q) (put_at no_held v.held q) (c.pages q)) (sym core) ((r.known id v there live).knows q))
+        (λ q m x at. (r.known id v there live).owners q m x at ∙ sym (ap (λ (c : State). c.owners m.frame) core))
         (λ f e. take-contents f e ∙ sym (ap (λ (c : State). c.words f) core))
 
 module _ {X B : Type 0} (stored : B → Stored) (keeps : Start → Kept X → Type 0) (tied : Start → ℕ → List ℕ → ℕ → List ℕ → Type 0) (shape : Shape) (tells : Bool) where
@@ -132,7 +133,7 @@ module _ {X B : Type 0} (stored : B → Stored) (keeps : Start → Kept X → Ty
       (word-left start s.words give_did (bit_or give-found mask) r.wide.0 r.spelled (bundle-within start g l) refl refl refl) give-legal
       (give-step stored start s r.releases r.drafts id v (after_step stored keeps tied start tells s r words [] [] give_did (given_view g mask v)) g mask (bit_or give-found mask) r.wide.0 (bundle-within start g l) there refl refl refl (frames-without g mask v.frames)
       (ap (λ n. bit_or n mask) (sym (bundle-here stored start s g (bundle-within start g l)))))
-      refl (r.known id v there live).knows
+      refl (r.known id v there live).knows (r.known id v there live).owners
       (λ f e. (r.known id v there live).contents f (left-there (in_mask g mask f) (has f v.frames) (sym (frames-without g mask v.frames f) ∙ e)))
 
 -- the hand as the machine adds to it
@@ -168,7 +169,7 @@ module _ {X B : Type 0} (stored : B → Stored) (keeps : Start → Kept X → Ty
       let k = steps stored keeps tied start tells s r id v words r.drafts [] [] did v (Hand id) there live number refl refl
       (held-shows stored keeps tied start tells s r id v words did v.held v.frames v.contents (Hand id) there live (word-left start s.words did (hand_more found) r.wide.0 r.spelled tt refl refl refl) (at-bound s.views id v there)
       (hand-step stored start s r.releases r.drafts id v (after_step stored keeps tied start tells s r words [] [] did v) (hand_more found) r.wide.0 there refl refl refl refl (ap hand_more (sym (hand-here stored start s))))
-      refl (r.known id v there live).knows (r.known id v there live).contents) in
+      refl (r.known id v there live).knows (r.known id v there live).owners (r.known id v there live).contents) in
       (_, k.0, record { brings = k.1 }))
 
 module _ {X B : Type 0} (stored : B → Stored) (keeps : Start → Kept X → Type 0) (tied : Start → ℕ → List ℕ → ℕ → List ℕ → Type 0) (tells : Bool) where

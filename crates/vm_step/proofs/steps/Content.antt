@@ -108,6 +108,7 @@ module _ {X B : Type 0} (stored : B → Stored) (keeps : Start → Kept X → Ty
           members = λ q _. refl;
           next = refl;
           knows = known.knows;
+          owners = known.owners;
           contents = known.contents;
           drafted = λ q x. known.drafts q x ∙ draft-is start r.releases r.drafts q;
           loaded = ([], refl, tt);
@@ -188,6 +189,7 @@ module _ {X B : Type 0} (stored : B → Stored) (keeps : Start → Kept X → Ty
             (λ e. true≢false (sym (member-mine stored keeps tied start tells s r id v there live p known.0 d.owns (ap (is_pending s.views) (sym e) ∙ some')) ∙ d.free));
         next = refl;
         knows = k.knows;
+        owners = k.owners;
         contents = λ g e.
             let nowhere : stands_in (c.pages p).trans g ≡ false = stands-nowhere old g id p r.inv (held-here stored start s id g v there ∙ e) in
             k.contents g e ∙ sym (upd-other c.words f (slice_set (c.words f) i x) g (λ h. true≢false (sym (ap (λ t. stands_in t g) known.1 ∙ eq-eqb f g (sym h)) ∙ nowhere)));
@@ -222,7 +224,7 @@ module _ {X B : Type 0} (stored : B → Stored) (keeps : Start → Kept X → Ty
       (word-left start s.words (did_store (places.Content f i) x) x r.wide.0 r.spelled (lf, li) refl tt refl)
       (fill-legal f i x lf li owns)
       (fill-step stored start s r.releases r.drafts id v w f i x r.inv r.wide.0 lf li there refl refl refl refl owns)
-      refl k.knows
+      refl k.knows k.owners
       (λ g e.
       ⊎_elim
       (λ e'. ap (put_at [] inner.contents) e' ∙ upd-same contents f (slice_set (contents f) i x) ∙ ap (λ l. slice_set l i x) (k.contents f owns)

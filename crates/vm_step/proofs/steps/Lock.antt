@@ -41,6 +41,7 @@ module _ {X B : Type 0} (stored : B → Stored) (keeps : Start → Kept X → Ty
       owner-shows stored keeps tied start tells s r id v there live p l expects (word_of LOCKED (version_of expects)) hit (LockX id p expects) y seat (put p (page_held stored keeps tied start tells s r p) v.held) lock-is refl free
       (λ q ne. upd-other (put_at no_held v.held) p (page_held stored keeps tied start tells s r p) q ne)
       (known-held stored keeps tied start tells s r p l seat v.held y refl refl refl refl)
+      (known-owner stored keeps tied start tells s r p seat v.held)
 
 module _ {X B : Type 0} (stored : B → Stored) (keeps : Start → Kept X → Type 0) (tied : Start → ℕ → List ℕ → ℕ → List ℕ → Type 0) (shape : Shape) (tells : Bool)
     (law : (start : Start) (kept : Kept X) (q p : ℕ) → keeps start kept → q < length kept.pages → p < length kept.pages → tied start q (page_at kept.pages q) p (page_at kept.pages p)) where

@@ -216,6 +216,7 @@ module _ {X B : Type 0} (stored : B → Stored) (keeps : Start → Kept X → Ty
             knows = each-upd2 (λ j seat y. KnowsPage seat (put_at no_held v.held j) y) (put_at no_seat v.seats) look-before.core.pages p _ (looked (look-before.core.pages p) id)
                 (record { calls = (k.knows p).calls; shares = (k.knows p).shares })
                 (λ j _. k.knows j);
+            owners = λ q m x. k.owners q m (sym (upd-keeps may_call (put_at no_seat v.seats) p (record (seat_of v p) { reading = open_after look-left (seat_of v p).reading (version_of (slice_index s.words p)) }) refl q) ∙ x);
             contents = k.contents;
             drafted = λ q x. k.drafts q (sym (same-exclusive q) ∙ x) ∙ draft-is start r.releases r.drafts q;
             owes = λ q x. (same-exclusive q ∙ (k.owed q x).0, (k.owed q x).1, (k.owed q x).2, (k.owed q x).3);

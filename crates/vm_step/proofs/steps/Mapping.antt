@@ -59,8 +59,11 @@ module _ {X B : Type 0} (stored : B → Stored) (keeps : Start → Kept X → Ty
   words_with t = slice_set s.words (index_of start (places.Translation p)) (trans_word t)
 
   -- the view that says so, with these frames
-  abbrev pub view_with : Option Mapping → List ℕ → List (Put (List ℕ)) → View X
-  view_with t frames contents = record v { held = mapped p t v; frames = frames; contents = contents }
+  abbrev held_with : Option Mapping → ℕ → Held
+  held_with t owner = record (held_at v p) { mapping = t; owner = owner }
+
+  abbrev pub view_with : Option Mapping → ℕ → List ℕ → List (Put (List ℕ)) → View X
+  view_with t owner frames contents = record v { held = put p (held_with t owner) v.held; frames = frames; contents = contents }
 
   abbrev pub view_then : Option Mapping → View X → View X
   view_then t inner = after_step stored keeps tied start tells s r (words_with t) [] [] (did_store (places.Translation p) (trans_word t)) inner
@@ -70,21 +73,23 @@ module _ {X B : Type 0} (stored : B → Stored) (keeps : Start → Kept X → Ty
     known = r.known id v there live
 
     -- the page with another translation is as the pass knows it then
-    knows-mapped : (t : Option Mapping) (q : ℕ) → KnowsPage (seat_of v q) (upd (put_at no_held v.held) p (record (held_at v p) { mapping = t }) q) (upd core.pages p (record (core.pages p) { trans = t }) q)
-    knows-mapped t =
-        each-upd2 (λ q (h : Held) (y : Page). KnowsPage (seat_of v q) h y) (put_at no_held v.held) core.pages p (record (held_at v p) { mapping = t }) (record (core.pages p) { trans = t })
+    knows-mapped : (t : Option Mapping) (owner q : ℕ) → KnowsPage (seat_of v q) (upd (put_at no_held v.held) p (held_with t owner) q) (upd core.pages p (record (core.pages p) { trans = t }) q)
+    knows-mapped t owner =
+        each-upd2 (λ q (h : Held) (y : Page). KnowsPage (seat_of v q) h y) (put_at no_held v.held) core.pages p (held_with t owner) (record (core.pages p) { trans = t })
         (record { calls = λ x. let k = (known.knows p).calls x in (refl, k.1, k.2, k.3); shares = λ _. refl })
         (λ q _. known.knows q)
 
     -- the step shows itself, where it is this event and the pass knows the words of the frames that it holds then
-    pub mapping-shows : (l : p < start.pages) (t : Option Mapping) (frames : List ℕ) (contents : List (Put (List ℕ))) (e : Event) → mapping_of (trans_word t) ≡ t → Legal core e
-        → world_of stored start r.releases r.drafts (became stored keeps tied start tells s (words_with t) id (view_then t (view_with t frames contents))) ≡ world_after old e
+    pub mapping-shows : (l : p < start.pages) (t : Option Mapping) (owner : ℕ) (frames : List ℕ) (contents : List (Put (List ℕ))) (e : Event) → mapping_of (trans_word t) ≡ t → Legal core e
+        → world_of stored start r.releases r.drafts (became stored keeps tied start tells s (words_with t) id (view_then t (view_with t owner frames contents))) ≡ world_after old e
         → (world_after old e).core.pages ≡ upd core.pages p (record (core.pages p) { trans = t })
         → (world_after old e).core.next ≡ core.next
+        → (world_after old e).core.owners ≡ core.owners
+        → KnowsOwner core.owners (seat_of v p) (held_with t owner)
         → ((f : ℕ) → has f frames ≡ true → put_at [] contents f ≡ (world_after old e).core.words f)
-        → Shows stored keeps tied start tells s r id v (words_with t) r.drafts [] [] (did_store (places.Translation p) (trans_word t)) (view_with t frames contents) e
-    mapping-shows l t frames contents e fits legal world pages next words =
-        held-shows stored keeps tied start tells s r id v (words_with t) (did_store (places.Translation p) (trans_word t)) (mapped p t v) frames contents e there live
+        → Shows stored keeps tied start tells s r id v (words_with t) r.drafts [] [] (did_store (places.Translation p) (trans_word t)) (view_with t owner frames contents) e
+    mapping-shows l t owner frames contents e fits legal world pages next owners here words =
+        held-shows stored keeps tied start tells s r id v (words_with t) (did_store (places.Translation p) (trans_word t)) (put p (held_with t owner) v.held) frames contents e there live
         (record {
           wide = length-set s.words (index_of start (places.Translation p)) (trans_word t) ∙ r.wide.0;
           spelled = spelled-now start s.words p t r.wide.0 l fits r.spelled;
@@ -93,7 +98,8 @@ module _ {X B : Type 0} (stored : B → Stored) (keeps : Start → Kept X → Ty
           wrote = stands-there start s.words (places.Translation p) (trans_word t) r.wide.0 l;
         })
         legal world next
-        (λ q. subst (λ (y : ℕ → Page). KnowsPage (seat_of v q) (upd (put_at no_held v.held) p (record (held_at v p) { mapping = t }) q) (y q)) (sym pages) (knows-mapped t q))
+        (λ q. subst (λ (y : ℕ → Page). KnowsPage (seat_of v q) (upd (put_at no_held v.held) p (held_with t owner) q) (y q)) (sym pages) (knows-mapped t owner q))
+        (subst (λ (o : ℕ → ℕ). KnowsOwners o (seat_of v) (upd (put_at no_held v.held) p (held_with t owner))) (sym owners) (each-upd (λ q (h : Held). KnowsOwner core.owners (seat_of v q) h) (put_at no_held v.held) p (held_with t owner) here (λ q _. known.owners q)))
         words
 
     -- ---- a page is put into a frame of the pass
@@ -115,13 +121,13 @@ module _ {X B : Type 0} (stored : B → Stored) (keeps : Start → Kept X → Ty
           }
 
       pub install-shows : p < start.pages → f < start.frames → f < 2 ^ 32
-          → Shows stored keeps tied start tells s r id v (words_with (Some (clean_in f))) r.drafts [] [] (did_store (places.Translation p) (trans_word (Some (clean_in f)))) (installed_view p f v) (Install id p f)
+          → Shows stored keeps tied start tells s r id v (words_with (Some (clean_in f))) r.drafts [] [] (did_store (places.Translation p) (trans_word (Some (clean_in f)))) (installed_view p f (core.owners f) v) (Install id p f)
       install-shows l lf small =
           let t : Option Mapping = Some (clean_in f) in
-          let inner : View X = installed_view p f v in
-          mapping-shows l t (without f v.frames) v.contents (Install id p f) (fits f false small) (install-legal l lf)
+          let inner : View X = installed_view p f (core.owners f) v in
+          mapping-shows l t (core.owners f) (without f v.frames) v.contents (Install id p f) (fits f false small) (install-legal l lf)
           (install-step stored start s r.releases r.drafts id v (view_then t inner) p f (trans_word t) r.wide.0 l there refl refl refl (fits f false small) (λ h. has-left f h v.frames))
-          refl refl
+          refl refl refl (λ m _ at. ap (λ (y : Mapping). core.owners y.frame) (some-same (clean_in f) m at))
           (λ g x. known.contents g (has-without f g v.frames x))
 
     -- ---- a clean page is taken out of its frame
@@ -144,9 +150,9 @@ module _ {X B : Type 0} (stored : B → Stored) (keeps : Start → Kept X → Ty
       pub clear-shows : Shows stored keeps tied start tells s r id v (words_with None) r.drafts [] [] (did_store (places.Translation p) (trans_word None)) (cleared_view p f (core.words f) v) (Clear id p)
       clear-shows =
           let inner : View X = cleared_view p f (core.words f) v in
-          mapping-shows clear-known.0 None (f ∷ v.frames) (put f (core.words f) v.contents) (Clear id p) mapping-none clear-legal
+          mapping-shows clear-known.0 None (held_at v p).owner (f ∷ v.frames) (put f (core.words f) v.contents) (Clear id p) mapping-none clear-legal
           (clear-step stored start s r.releases r.drafts id v (view_then None inner) p 0 r.wide.0 clear-known.0 there refl refl refl mapping-none frames-gained)
-          refl refl
+          refl refl refl (λ m _ at. absurd (none-some m at))
           (λ g x. ⊎_elim
           (λ e. ap (upd (put_at [] v.contents) f (core.words f)) e ∙ upd-same (put_at [] v.contents) f (core.words f) ∙ ap core.words (sym e))
           (λ ne. upd-other (put_at [] v.contents) f (core.words f) g ne ∙ known.contents g (sym (has-other g f v.frames ne) ∙ x))
@@ -178,16 +184,19 @@ module _ {X B : Type 0} (stored : B → Stored) (keeps : Start → Kept X → Ty
     -- it stays in its frame
     remapped-shows : (f : ℕ) (was dirty : Bool) (e : Event) → p < start.pages → (core.pages p).trans ≡ in_frame f was → Legal core e
         → (mapping_of (trans_word (in_frame f dirty)) ≡ with_dirty dirty (core.pages p).trans
-        → world_of stored start r.releases r.drafts (became stored keeps tied start tells s (words_with (in_frame f dirty)) id (view_then (in_frame f dirty) (view_with (in_frame f dirty) v.frames v.contents))) ≡ world_after old e)
+        → world_of stored start r.releases r.drafts (became stored keeps tied start tells s (words_with (in_frame f dirty)) id (view_then (in_frame f dirty) (view_with (in_frame f dirty) (held_at v p).owner v.frames v.contents))) ≡ world_after old e)
         → (world_after old e).core.pages ≡ upd core.pages p (record (core.pages p) { trans = with_dirty dirty (core.pages p).trans })
         → (world_after old e).core.next ≡ core.next
+        → (world_after old e).core.owners ≡ core.owners
+        → (held_at v p).mapping ≡ in_frame f was
         → ((g : ℕ) → (world_after old e).core.words g ≡ core.words g)
-        → Shows stored keeps tied start tells s r id v (words_with (in_frame f dirty)) r.drafts [] [] (did_store (places.Translation p) (trans_word (in_frame f dirty))) (view_with (in_frame f dirty) v.frames v.contents) e
-    remapped-shows f was dirty e l stood legal world pages next words =
+        → Shows stored keeps tied start tells s r id v (words_with (in_frame f dirty)) r.drafts [] [] (did_store (places.Translation p) (trans_word (in_frame f dirty))) (view_with (in_frame f dirty) (held_at v p).owner v.frames v.contents) e
+    remapped-shows f was dirty e l stood legal world pages next owners held words =
         let says = remaps f was dirty l stood in
-        mapping-shows l (in_frame f dirty) v.frames v.contents e says.0 legal (world says.1)
+        mapping-shows l (in_frame f dirty) (held_at v p).owner v.frames v.contents e says.0 legal (world says.1)
         (pages ∙ ap (λ o. upd core.pages p (record (core.pages p) { trans = o })) (ap (with_dirty dirty) stood))
-        next
+        next owners
+        (λ m calls at. known.owners p (record { frame = f; dirty = was }) calls held ∙ ap (λ (y : Mapping). core.owners y.frame) (some-same (record { frame = f; dirty = dirty }) m at))
         (λ g x. known.contents g x ∙ sym (words g))
 
     module _ (f : ℕ) (stands : StandsIn v p f) where
@@ -204,7 +213,7 @@ module _ {X B : Type 0} (stored : B → Stored) (keeps : Start → Kept X → Ty
       dirty-shows =
           remapped-shows f stands.dirty true (Dirty id p) dirty-known.0 dirty-known.1 dirty-legal
           (dirty-step stored start s r.releases r.drafts id v (view_then (Some (dirty_in f)) (dirty_view p f v)) p (trans_word (Some (dirty_in f))) r.wide.0 dirty-known.0 there refl refl refl refl)
-          refl refl (λ g. refl)
+          refl refl refl stands.stands (λ g. refl)
 
     module _ (f : ℕ) (may : IsWritten v p f) where
       -- the pass has a share of it, so it is not locked and its last words stand in its frame
@@ -239,7 +248,7 @@ module _ {X B : Type 0} (stored : B → Stored) (keeps : Start → Kept X → Ty
       clean-shows =
           remapped-shows f may.dirty false (Clean id p) clean-known.0 clean-known.1 clean-legal
           (clean-step stored start s r.releases r.drafts id v (view_then (Some (clean_in f)) (clean_view p f v)) p (trans_word (Some (clean_in f))) r.wide.0 clean-known.0 there refl refl refl refl)
-          refl refl (λ g. refl)
+          refl refl refl may.stands (λ g. refl)
 
 module _ {X B : Type 0} (stored : B → Stored) (keeps : Start → Kept X → Type 0) (tied : Start → ℕ → List ℕ → ℕ → List ℕ → Type 0) (tells : Bool) (shape : Shape) (slots id : ℕ) (v : View X) (i : ℕ) (p x : ℕ) (live : v.live ≡ true) (number : 0 < length v.used) (is : IsPlacedAt shape (places.Translation p) i) where
   -- the step that leaves this word, on a table that meets the rule: the view and the event that it shows, and that it tells what it is to tell
@@ -265,11 +274,11 @@ module _ {X B : Type 0} (stored : B → Stored) (keeps : Start → Kept X → Ty
   install-allows f l lf small may spells =
       mapping-allows (Some (clean_in f)) (InstallTold p f) spells (λ w t. fit t.brings live)
       (λ start has s r there. record {
-        inner = installed_view p f v;
+        inner = installed_view p f ((core_shown stored start s).owners f) v;
         event = Install id p f;
         actor = refl;
         shows = install-shows stored keeps tied start tells s r id v p there live f may (subst (λ n. p < n) (sym has.pages) l) (subst (λ n. f < n) (sym has.frames) lf) small;
-        tells_it = λ b. record { brings = b };
+        tells_it = λ b. record { owner = _; brings = b };
       })
 
   pub clear-allows : (f : ℕ) → StandsClean v p f → x ≡ trans_word None → AllowsStep (Stands stored keeps tied shape tells) slots id v i (λ _. x) (told_of shape tells (λ _ v w. (g : ℕ) → StandsClean v p g → ClearTold p g v w))
@@ -362,7 +371,7 @@ module _ {X : Type 0} {p f : ℕ} {v w : View X} (t : InstallTold p f v w) where
   pub install-works : Works p (install-did ∷ []) v w
   install-works = works-one p install-did None v _ _ v.contents v.out v.notes w (λ q ne. upd-other (put_at no_held v.held) p _ q ne) t.brings
 
-  pub install-held : held_at w p ≡ record (held_at v p) { mapping = Some (clean_in f) }
+  pub install-held : held_at w p ≡ record (held_at v p) { mapping = Some (clean_in f); owner = t.owner }
   install-held = ap (λ (x : View X). held_at x p) t.brings.view ∙ upd-same (put_at no_held v.held) p _
 
   pub install-frames : w.frames ≡ without f v.frames

@@ -28,6 +28,7 @@ module _ {X B : Type 0} (stored : B → Stored) (keeps : Start → Kept X → Ty
       (each-upd (λ q z. KnowsPage (seat_of v q) (put_at no_held v.held q) z) (world stored keeps tied start tells s r).core.pages p y
       (let known = (r.known id v there live).knows p in record { calls = known.calls; shares = known.shares })
       (λ q ne. (r.known id v there live).knows q))
+      (r.known id v there live).owners
       (λ q m. refl)
       (draft-stays stored keeps tied start tells s r id v there live p l)) in (
         k.0,

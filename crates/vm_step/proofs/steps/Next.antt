@@ -81,6 +81,7 @@ module _ {X B : Type 0} (stored : B → Stored) (keeps : Start → Kept X → Ty
         calls = λ o is. (r.blocks.away id v o there is).1;
         holds = λ q x. x;
         knows = k.knows;
+        owners = k.owners;
         contents = k.contents;
         drafted = λ q x. k.drafts q x ∙ draft-is start r.releases r.drafts q;
         owes = k.owed;
@@ -229,6 +230,7 @@ module _ {X B : Type 0} (stored : B → Stored) (keeps : Start → Kept X → Ty
           calls = λ o is. (r.blocks.away id v o there is).1;
           holds = λ q e. e;
           knows = λ q. subst (λ (c : State). KnowsPage (seat_of v q) (put_at no_held v.held q) (c.pages q)) (sym core-claimed) (k.knows q);
+          owners = λ q m x at. k.owners q m x at ∙ sym (ap (λ (c : State). c.owners m.frame) core-claimed);
           contents = λ f e. k.contents f e ∙ sym (ap (λ (c : State). c.words f) core-claimed);
           drafted = λ q e. k.drafts q e ∙ draft-is start r.releases r.drafts q;
           owes = λ p e.

@@ -34,15 +34,20 @@ module _ {X B : Type 0} (stored : B → Stored) (keeps : Start → Kept X → Ty
 
     -- the step shows itself, where it is this event: nothing is another but the word
     owner-shows : (word : ℕ) (e : Event) → f < start.frames → Legal core e → world_after old e ≡ record old { core = owned core p word }
-        → Shows stored keeps tied start tells s r id v (slice_set s.words (index_of start (places.Owner f)) word) r.drafts [] [] (did_store (places.Owner f) word) v e
+        → Shows stored keeps tied start tells s r id v (slice_set s.words (index_of start (places.Owner f)) word) r.drafts [] [] (did_store (places.Owner f) word) (owned_view p word v) e
     owner-shows word e lf legal is =
         let did : Did = did_store (places.Owner f) word in
         let words : List ℕ = slice_set s.words (index_of start (places.Owner f)) word in
         let known = r.known id v there live in
-        held-shows stored keeps tied start tells s r id v words did v.held v.frames v.contents e there live (word-left start s.words did word r.wide.0 r.spelled lf refl tt refl) legal
-        (owner-step stored start s r.releases r.drafts id v (after_step stored keeps tied start tells s r words [] [] did v) p f word r.wide.0 lf there refl refl refl refl stands-there-now ∙ sym is)
+        held-shows stored keeps tied start tells s r id v words did (owned_view p word v).held v.frames v.contents e there live (word-left start s.words did word r.wide.0 r.spelled lf refl tt refl) legal
+        (owner-step stored start s r.releases r.drafts id v (after_step stored keeps tied start tells s r words [] [] did (owned_view p word v)) p f word r.wide.0 lf there refl refl refl refl stands-there-now ∙ sym is)
         (ap (λ (y : World). y.core.next) is)
-        (λ q. subst (λ (y : World). KnowsPage (seat_of v q) (put_at no_held v.held q) (y.core.pages q)) (sym is) (known.knows q))
+        (λ q. subst (λ (y : World). KnowsPage (seat_of v q) (put_at no_held (owned_view p word v).held q) (y.core.pages q)) (sym is)
+        (each-upd (λ k (h : Held). KnowsPage (seat_of v k) h (core.pages k)) (put_at no_held v.held) p (record (held_at v p) { owner = word }) (record { calls = (known.knows p).calls; shares = (known.knows p).shares }) (λ k _. known.knows k) q))
+        (subst (λ (y : World). KnowsOwners y.core.owners (seat_of v) (put_at no_held (owned_view p word v).held)) (sym is)
+        (each-upd (λ k (h : Held). KnowsOwner (owned core p word).owners (seat_of v k) h) (put_at no_held v.held) p (record (held_at v p) { owner = word })
+        (λ m _ at. sym (ap (λ g. g m.frame) (word-written core.owners (core.pages p).trans m word (standing.1 ∙ sym stands.stands ∙ at)) ∙ upd-same core.owners m.frame word))
+        (λ q ne m calls at. known.owners q m calls at ∙ sym (word-elsewhere old p q word _ m r.inv standing.1 (sym ((known.knows q).calls calls).0 ∙ at) ne))))
         (λ g x. known.contents g x ∙ sym (ap (λ (y : World). y.core.words g) is))
 
 module _ {X B : Type 0} (stored : B → Stored) (keeps : Start → Kept X → Type 0) (tied : Start → ℕ → List ℕ → ℕ → List ℕ → Type 0) (shape : Shape) (tells : Bool) where
@@ -52,20 +57,20 @@ module _ {X B : Type 0} (stored : B → Stored) (keeps : Start → Kept X → Ty
       → actor_of (event id p) ≡ id
       → ((old : World) → world_after old (event id p) ≡ record old { core = owned old.core p word })
       → v.live ≡ true → 0 < length v.used → f < shape.frames → StandsIn v p f → IsPlacedAt shape (places.Owner f) i
-      → AllowsStep (Stands stored keeps tied shape tells) slots id v i (λ _. word) (told_of shape tells (λ _. OwnerTold f word))
+      → AllowsStep (Stands stored keeps tied shape tells) slots id v i (λ _. word) (told_of shape tells (λ _. OwnerTold p f word))
   owner-allows event slots id v i p f word legal actor is live number lf stands at =
-      allows stored keeps tied shape tells slots id v i (places.Owner f) (λ _. word) (λ _. word) (λ _. OwnerTold f word) live at (λ n. refl) (λ n w t. fit t.brings live)
+      allows stored keeps tied shape tells slots id v i (places.Owner f) (λ _. word) (λ _. word) (λ _. OwnerTold p f word) live at (λ n. refl) (λ n w t. fit t.brings live)
       (λ start has s r there _.
-      let k = steps stored keeps tied start tells s r id v _ r.drafts [] [] _ v (event id p) there live number actor refl
+      let k = steps stored keeps tied start tells s r id v _ r.drafts [] [] _ (owned_view p word v) (event id p) there live number actor refl
       (owner-shows stored keeps tied start tells s r id v there live p f stands word (event id p) (subst (λ n. f < n) (sym has.frames) lf) (legal start s r (may-own stored keeps tied start tells s r id v there live p f stands)) (is _)) in
       (_, k.0, record { brings = k.1 }))
 
   pub own-allows : (slots id : ℕ) (v : View X) (i p f : ℕ) → v.live ≡ true → 0 < length v.used → f < shape.frames → StandsIn v p f → IsPlacedAt shape (places.Owner f) i
-      → AllowsStep (Stands stored keeps tied shape tells) slots id v i (λ _. p + 1) (told_of shape tells (λ _. OwnerTold f (p + 1)))
+      → AllowsStep (Stands stored keeps tied shape tells) slots id v i (λ _. p + 1) (told_of shape tells (λ _. OwnerTold p f (p + 1)))
   own-allows slots id v i p f = owner-allows Own slots id v i p f (p + 1) (λ start s r may. may) refl (λ old. refl)
 
   pub disown-allows : (slots id : ℕ) (v : View X) (i p f : ℕ) → v.live ≡ true → 0 < length v.used → f < shape.frames → StandsIn v p f → IsPlacedAt shape (places.Owner f) i
-      → AllowsStep (Stands stored keeps tied shape tells) slots id v i (λ _. 0) (told_of shape tells (λ _. OwnerTold f 0))
+      → AllowsStep (Stands stored keeps tied shape tells) slots id v i (λ _. 0) (told_of shape tells (λ _. OwnerTold p f 0))
   disown-allows slots id v i p f = owner-allows Disown slots id v i p f 0 (λ start s r may. may) refl (λ old. refl)
 
   pub oload-allows : (slots id : ℕ) (v : View X) (i f : ℕ) → v.live ≡ true → 0 < length v.used → f < shape.frames → IsPlacedAt shape (places.Owner f) i

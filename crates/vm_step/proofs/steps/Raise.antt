@@ -153,6 +153,7 @@ module _ {X B : Type 0} (stored : B → Stored) (keeps : Start → Kept X → Ty
           left = raise-left;
           next = refl;
           contents = refl;
+          owners = each-upd (λ q (x : Held). KnowsOwner world.core.owners (seat_of v q) x) (put_at no_held v.held) p h (mine.owners p) (λ q _. mine.owners q);
           told = ap (listed start.pages) (block-same stored s.homes s.views id v w there refl);
           fit = blocks-still stored start s.homes s.views id v w there refl (λ o x. (r.blocks.away id v o there x).1) r.blocks;
           faults = raise-faults;

@@ -99,6 +99,9 @@ module _ {X B : Type 0} {stored : B → Stored} {keeps : Start → Kept X → Ty
         (λ ne. subst (λ y. KnowsPage y (put_at no_held rel.v.held q) ((core_shown stored start (new rel)).pages q)) (sym (seat-else rel q ne))
         (subst (λ y. KnowsPage (seat_of rel.v q) (put_at no_held rel.v.held q) y) (sym (page-else rel q ne)) ((mine rel).knows q)))
         (cases_eq q rel.p);
+    owners = λ q m x at.
+        let calls : may_call (seat_of rel.v q) ≡ true = ⊎_elim (λ (e : q ≡ rel.p). ap (λ n. may_call (seat_of rel.v n)) e ∙ calls-p rel) (λ ne. sym (ap may_call (seat-else rel q ne)) ∙ x) (cases_eq q rel.p) in
+        (mine rel).owners q m calls at ∙ sym (owners-are rel m.frame);
     contents = λ f e. (mine rel).contents f e ∙ sym (frames-are rel f);
     drafted = λ q owns.
         ⊎_elim

@@ -51,6 +51,12 @@ knows-shared true p id k h hs y e knows is =
 knows-shared false p id k h hs y e knows is =
     rw (upd-same (put_at no_held hs) p h) (record { calls = λ _. is; shares = λ _. ap frame_of is.0 })
 
+-- and the owner word of its frame
+owner-shared : (known : Bool) (p : ℕ) (k : Seat) (h : Held) (hs : List (Put Held)) (owners : ℕ → ℕ) → h.owner ≡ owner_at owners h.mapping → KnowsOwner owners k (put_at no_held hs p)
+    → KnowsOwner owners (record k { shares = k.shares + 1; reading = None }) (put_at no_held (if known then hs else put p h hs) p)
+owner-shared true p k h hs owners is knows = knows
+owner-shared false p k h hs owners is knows = rw (upd-same (put_at no_held hs) p h) (knows-owner owners (record k { shares = k.shares + 1; reading = None }) h is)
+
 -- two pages in one frame
 pub framed-some : (o t : Option Mapping) → frame_of o ≡ frame_of t → IsSome t → IsSome o
 framed-some None None e x = x
@@ -85,6 +91,7 @@ module _ {X B : Type 0} (stored : B → Stored) (keeps : Start → Kept X → Ty
       (λ m. m) refl
       (λ q ne. put-else (has_lock (seat_of v p)) p q (page_held stored keeps tied start tells s r p) v.held ne)
       knows-here
+      (owner-shared (has_lock (seat_of v p)) p (seat_of v p) (page_held stored keeps tied start tells s r p) v.held (world stored keeps tied start tells s r).core.owners refl ((r.known id v there live).owners p))
 
 module _ {X B : Type 0} (stored : B → Stored) (keeps : Start → Kept X → Type 0) (tied : Start → ℕ → List ℕ → ℕ → List ℕ → Type 0) (tells : Bool)
     (law : (start : Start) (kept : Kept X) (q p : ℕ) → keeps start kept → q < length kept.pages → p < length kept.pages → tied start q (page_at kept.pages q) p (page_at kept.pages p)) where
@@ -168,6 +175,7 @@ module _ {X B : Type 0} (stored : B → Stored) (keeps : Start → Kept X → Ty
       })
       (λ o x e m. absurd (may.home o x e)) (λ x. x) (λ q ne. refl)
       (record { calls = λ m. known.calls (unshared-calls (seat_of v p) m); shares = λ some'. known.shares (omega (arith, some')) })
+      (λ m calls. (r.known id v there live).owners p m (unshared-calls (seat_of v p) calls))
       (λ q t. refl)
       (λ q x. draft-stays stored keeps tied start tells s r id v there live p l q (sym (upd-keeps (λ (k : Seat). k.exclusive) (λ n. seat_of v n) p (unshared (seat_of v p)) refl q) ∙ x))
 

@@ -53,6 +53,7 @@ module _ {X B : Type 0} (stored : B → Stored) (keeps : Start → Kept X → Ty
           members = λ q _. refl;
           next = refl;
           knows = each-upd2 (λ q (y : Seat) (z : Page). KnowsPage y (put_at no_held v.held q) z) (seat_of v) c.pages p seat page (record { calls = (k.knows p).calls; shares = (k.knows p).shares }) (λ q _. k.knows q);
+          owners = λ q m x. k.owners q m (sym (upd-keeps may_call (seat_of v) p seat refl q) ∙ x);
           contents = k.contents;
           drafted = λ q x. k.drafts q (sym (owns q) ∙ x) ∙ draft-is start r.releases r.drafts q;
           loaded = (

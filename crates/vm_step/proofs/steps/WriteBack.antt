@@ -34,6 +34,7 @@ module _ {X B : Type 0} (stored : B → Stored) (keeps : Start → Kept X → Ty
       (λ m. or_right (seat_of v p).exclusive true refl) refl
       (λ q ne. upd-other (put_at no_held v.held) p (page_held stored keeps tied start tells s r p) q ne)
       (known-held stored keeps tied start tells s r p l seat v.held y refl refl refl refl)
+      (known-owner stored keeps tied start tells s r p seat v.held)
 
   -- ---- exclusive then
 
@@ -53,6 +54,7 @@ module _ {X B : Type 0} (stored : B → Stored) (keeps : Start → Kept X → Ty
       refl (upgrade-free may hit)
       (λ q ne. refl)
       (record { calls = λ m. ((r.known id v there live).knows p).calls (or_right (seat_of v p).exclusive (seat_of v p).writing may.writes); shares = λ some'. absurd (omega arith) })
+      (λ m _. (r.known id v there live).owners p m (or_right (seat_of v p).exclusive (seat_of v p).writing may.writes))
 
 module _ {X B : Type 0} (stored : B → Stored) (keeps : Start → Kept X → Type 0) (tied : Start → ℕ → List ℕ → ℕ → List ℕ → Type 0) (shape : Shape) (tells : Bool)
     (law : (start : Start) (kept : Kept X) (q p : ℕ) → keeps start kept → q < length kept.pages → p < length kept.pages → tied start q (page_at kept.pages q) p (page_at kept.pages p)) where

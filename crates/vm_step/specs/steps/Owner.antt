@@ -9,9 +9,13 @@ use Rattle.vm_step.specs.Prelude.{IsEvent, IsPassOf, Origin, table_after, View}
 use Rattle.vm_step.specs.Events.{FindsAt}
 
 module _ {X : Type 0} where
-  -- frame f has this owner word now
-  pub record OwnerTold (f word : ℕ) (v w : View X) : Type 0 where
-    pub brings : Brings (did_store (places.Owner f) word) [] [] v v w
+  -- the pass knows this of the owner word of page p's frame
+  abbrev pub owned_view : ℕ → ℕ → View X → View X
+  owned_view p word v = record v { held = put p (record (held_at v p) { owner = word }) v.held }
+
+  -- the owner word of frame f, in which page p stands, was stored
+  pub record OwnerTold (p f word : ℕ) (v w : View X) : Type 0 where
+    pub brings : Brings (did_store (places.Owner f) word) [] [] v (owned_view p word v) w
 
   -- a load of frame f's owner word
   pub record OwnerLoadTold (f found : ℕ) (v w : View X) : Type 0 where
@@ -22,7 +26,7 @@ module _ {X B : Type 0} (stored : B → Stored) (keeps : Start → Kept X → Ty
   abbrev pub IsOwnerEvent : (ℕ → ℕ) → (ℕ → ℕ → Event) → Type 0
   IsOwnerEvent word event =
       (start : Origin) (s : Table (Option B) (View X)) (id p f : ℕ) (v w : View X) → IsPassOf stored start keeps tied tells s id v → StandsIn v p f
-      → OwnerTold f (word p) v w
+      → OwnerTold p f (word p) v w
       → IsEvent stored start s (table_after s (slice_set s.words (index_of start (places.Owner f)) (word p)) id w) (event id p) sights.Done
 
   -- a page that is said to own its frame: the frame's owner word is the page's number, and one more

@@ -18,7 +18,7 @@ pub fn own<U: Owner, B: Block>(words: &Words<U, B>, pass: &mut Pass<U>, p: u32, 
     requires legal { StandsIn (view pass.old) p f }
     ensures pass { IsSamePass pass.old pass.new }
     ensures table { IsOf words.now.table.shared.key B.tells (view pass.old) }
-    ensures told { OwnerTold f (p + 1) (view pass.old) (view pass.new) }
+    ensures told { OwnerTold p f (p + 1) (view pass.old) (view pass.new) }
 {
     let at = owner_place(words, f);
     store::<U, B, (u32, u32), Brand>(words, pass, at, p as u64 + 1, (p, f));
@@ -31,7 +31,7 @@ pub fn disown<U: Owner, B: Block>(words: &Words<U, B>, pass: &mut Pass<U>, p: u3
     requires legal { StandsIn (view pass.old) p f }
     ensures pass { IsSamePass pass.old pass.new }
     ensures table { IsOf words.now.table.shared.key B.tells (view pass.old) }
-    ensures told { OwnerTold f 0 (view pass.old) (view pass.new) }
+    ensures told { OwnerTold p f 0 (view pass.old) (view pass.new) }
 {
     let at = owner_place(words, f);
     store::<U, B, (u32, u32), Brand>(words, pass, at, 0, (p, f));
