@@ -4,6 +4,7 @@ pub mod Locks
 pub mod PageFacts
 pub mod PageMoves
 pub mod Whole
+pub mod OwnerWords
 pub mod At
 pub mod Masks
 pub mod Owned

@@ -1,13 +1,14 @@
 -- The invariant of the core: what holds between any two events. Page by page: the state word tells the locks; a page that is neither locked
 -- nor evicted is resident; its words stand in its frame, and where it is clean or evicted in its block too; the fault word is the block's
 -- count where nobody may call the device; an open read at the page's version has read the page's frame. Over the frames: each stands in one
--- place. Over the words: each frame, block, version and draft has 64.
+-- place, and its owner word names no page but the one in it, and names that one where it is not locked. Over the words: each frame, block,
+-- version and draft has 64.
 use Rattle.std.specs.List.{AllByRecursion}
-use Rattle.std.specs.Prelude.{[], ◌<◌, ◌==◌, ◌∷◌, ◌≡◌, ◌≢◌, ◌≤◌, Bool, false, if◌then◌else◌, IsSome, length, List, nat_lt, None, Option, slice_index}
+use Rattle.std.specs.Prelude.{[], ◌+◌, ◌<◌, ◌==◌, ◌∷◌, ◌≡◌, ◌≢◌, ◌≤◌, Bool, false, if◌then◌else◌, IsSome, length, List, nat_lt, None, Option, slice_index}
 use Rattle.std.specs.Prelude.{Some, true, ℕ}
 use Rattle.vm_page.specs.declared.buf.TheConstants.{WORDS}
 use Rattle.vm_core.specs.{declared.event.Event.Event, declared.event.Mapping.Mapping, declared.event.Open.Open, declared.event.Seat.Seat}
-use Rattle.vm_core.specs.{Fn.sum_below, FrameActs.stands_in, State.Page, State.State, Step.Legal}
+use Rattle.vm_core.specs.{Fn.sum_below, FrameActs.stands_in, State.Page, State.State, Step.IsOwned, Step.Legal}
 use Rattle.vm_core.specs.History.{History, World, world_after}
 use Rattle.vm_core.specs.Words.{EVICTED, has_free_bit, LOCKED, MAX_VERSION}
 
@@ -136,13 +137,20 @@ abbrev pub FrameIsAt : State → ℕ → Place → Type 0
 FrameIsAt c f x =
     FrameInv c.shape.actors c.shape.pages c.shape.frames f (has_free_bit c.bundles f) (λ a. c.held a f) (λ p. stands_in (c.pages p).trans f) x
 
--- the invariant: each frame stands in one place and has 64 words, the next word is no more than the pages, and each page is in order
+-- an owner word that names a page is that of the page's frame; and each page that stands in a frame and is not locked is named by its frame's word
+pub record OwnersInv (c : State) : Type 0 where
+  pub named : (f p : ℕ) → c.owners f ≡ p + 1 → stands_in (c.pages p).trans f ≡ true
+  pub owned : (p : ℕ) → (c.pages p).state ≢ LOCKED → IsOwned c p (p + 1)
+
+-- the invariant: each frame stands in one place and has 64 words, the next word is no more than the pages, each page is in order, and so are
+-- the owner words
 pub record Inv (w : World) : Type 0 where
   pub place : ℕ → Place
   pub frames : (f : ℕ) → FrameIsAt w.core f (place f)
   pub words : (f : ℕ) → length (w.core.words f) ≡ WORDS
   pub next : w.core.next ≤ w.core.shape.pages
   pub pages : (p : ℕ) → PageInv w.core.shape.actors w.core.tells w.core.words (w.core.pages p) (w.histories p) (w.loads p)
+  pub owners : OwnersInv w.core
 
 -- where the event is legal, it keeps the invariant
 abbrev pub Keeps : World → Event → Type 0

@@ -11,8 +11,8 @@ unfoldable pub use Rattle.vm_core.specs.Fn.{at, sum_below, upd}
 pub use Rattle.vm_core.specs.FrameActs.{cleared, frame_of, frame_read, framed, gains, HoldsAt, installed, load_frame, mapping_at, mapping_of}
 pub use Rattle.vm_core.specs.FrameActs.{MayClean, MayDirty, MayInstall, open_frame, stands_in, trans_word, with_dirty}
 pub use Rattle.vm_core.specs.History.{appended, drafted, History, kept_loads, loads_more, Version, World, world_after, world_run}
-pub use Rattle.vm_core.specs.Inv.{at_actor, at_free, at_page, FrameInv, FrameIsAt, Inv, Keeps, LoadsAre, LocksInv, OneHolder, PageInv, ReadInv}
-pub use Rattle.vm_core.specs.Inv.{ReadsPage, share_count, StandsInv, WordsInv}
+pub use Rattle.vm_core.specs.Inv.{at_actor, at_free, at_page, FrameInv, FrameIsAt, Inv, Keeps, LoadsAre, LocksInv, OneHolder, OwnersInv, PageInv}
+pub use Rattle.vm_core.specs.Inv.{ReadInv, ReadsPage, share_count, StandsInv, WordsInv}
 pub use Rattle.vm_core.specs.Inv.Place.{Free, Mapped, Nowhere}
 pub use Rattle.vm_core.specs.Making.{StartBundles, StartPages}
 pub use Rattle.vm_core.specs.OneVersion.{Validates}
@@ -26,7 +26,7 @@ pub use Rattle.vm_core.specs.StateActs.{finds, is_readable, left_of, left_open, 
 pub use Rattle.vm_core.specs.StateActs.{MayUnlock, MayUpgrade, one_share_more, open_after, page_word, shared, unlocked, unmarked, unshared, upgraded}
 pub use Rattle.vm_core.specs.StateActs.{write_locked}
 pub use Rattle.vm_core.specs.Step.{after_event, AllLegal, Legal, NamesActorAndPage, NamesBundle, on_page, run, RunsTo, seen, sees, stored_at, taken}
-pub use Rattle.vm_core.specs.Step.{word_at}
+pub use Rattle.vm_core.specs.Step.{IsOwned, MayLeave, word_at}
 pub use Rattle.vm_core.specs.Told.{FrameOnce, Told}
 pub use Rattle.vm_core.specs.Words.{AreLowest, EVICTED, LOCKED, MARKED, MAX_VERSION, UNLOCKED}
 unfoldable pub use Rattle.vm_core.specs.Words.{frame_in, hand_more, has_free_bit, in_mask, is_dirty, state_of, version_of, word_of}

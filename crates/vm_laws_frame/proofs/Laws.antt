@@ -1,26 +1,27 @@
 -- Each event on translations, frames and owner words keeps the invariant.
-use Rattle.std.proofs.Common.{⊎_elim, ◌∙◌, ◌≡◌, ap, Bool, cond, eqb, false, length, refl, subst, sym, true, ℕ}
-use Rattle.std.proofs.lemmas.Bool.{and_from, and_right, cases_Bool, eq-eqb, eqb-true, ne_eqb, true≢false}
+use Rattle.std.proofs.Common.{⊎_elim, ◌+◌, ◌∙◌, ◌≡◌, ap, arith, Bool, cond, eqb, false, length, refl, subst, sym, true, ℕ}
+use Rattle.std.proofs.lemmas.Bool.{and_from, and_right, cases_Bool, eq-eqb, eqb-true, false≢true, ne_eqb, true≢false}
 use Rattle.std.proofs.lemmas.List.{length-set}
 use Rattle.vm_core.specs.Prelude.{at_actor, at_page, cleared, FrameInv, Free, gains, has_free_bit, HoldsAt, in_mask, installed, Inv, Keeps, Legal}
-use Rattle.vm_core.specs.Prelude.{Mapped, Page, PageInv, stands_in, State, upd, World}
+use Rattle.vm_core.specs.Prelude.{Mapped, MayDirty, Page, PageInv, stands_in, State, upd, World}
 use Rattle.vm_core.specs.declared.event.Event.TheVariants.{BLoad, Clean, Clear, Dirty, Disown, Give, Install, Load, OLoad, Own, Store, Take, TLoad}
-use Rattle.vm_core.specs.Inv.Place.{Held}
+use Rattle.vm_core.specs.{Inv.Place.Held, Step.owned}
 use Rattle.vm_core.proofs.Upd.{each-upd, upd-keeps, upd-map, upd-other, upd-same}
 use Rattle.vm_core.proofs.Whole.{frame-same, page-alone, pages-page}
 use Rattle.vm_laws_frame.proofs.{Bits.given-free, Bits.taken-free, Put.cleared-keeps, Put.installed-keeps, Read.frame_read-keeps, Read.loaded-keeps}
 use Rattle.vm_laws_frame.proofs.{Store.store-elsewhere, Store.store-here}
 use Rattle.vm_laws_frame.proofs.Dirty.{cleaned-keeps, dirtied-keeps, dirty-stands}
+use Rattle.vm_laws_frame.proofs.Owners.{held-owners, word-owners}
 use Rattle.vm_laws_frame.proofs.Places.{frame-clear, frame-give, frame-install, frame-take, mapped-place}
 
 pub translation_load_law : (w : World) (a p : ℕ) → Keeps w (TLoad a p)
-translation_load_law w a p i m = page-alone w p _ i (λ _. refl) (frame_read-keeps a (i.pages p))
+translation_load_law w a p i m = page-alone w p _ i (λ _. refl) (i.owners.owned p) (frame_read-keeps a (i.pages p))
 
 pub dirty_law : (w : World) (a p : ℕ) → Keeps w (Dirty a p)
-dirty_law w a p i m = page-alone w p _ i (dirty-stands true (w.core.pages p).trans) (dirtied-keeps a (i.pages p) m.1)
+dirty_law w a p i m = page-alone w p _ i (dirty-stands true (w.core.pages p).trans) (i.owners.owned p) (dirtied-keeps a (i.pages p) m.1)
 
 pub clean_law : (w : World) (a p : ℕ) → Keeps w (Clean a p)
-clean_law w a p i m = page-alone w p _ i (dirty-stands false (w.core.pages p).trans) (cleaned-keeps a (i.pages p) m.1)
+clean_law w a p i m = page-alone w p _ i (dirty-stands false (w.core.pages p).trans) (i.owners.owned p) (cleaned-keeps a (i.pages p) m.1)
 
 pub load_law : (w : World) (a p n : ℕ) → Keeps w (Load a p n)
 load_law w a p n i m =
@@ -30,6 +31,7 @@ load_law w a p n i m =
       words = i.words;
       next = i.next;
       pages = each-upd (λ q y. PageInv w.core.shape.actors w.core.tells w.core.words (w.core.pages q) (w.histories q) y) w.loads p _ (loaded-keeps a n (i.pages p)) (λ q _. i.pages q);
+      owners = i.owners;
     }
 
 pub bundle_load_law : (w : World) (a g : ℕ) → Keeps w (BLoad a g)
@@ -48,6 +50,7 @@ install_law w a p f i m =
     let c : State = w.core in
     let row : ℕ → Bool = upd (c.held a) f false in
     let r : Page = installed (c.pages p) f in
+    let o = held-owners w i a p r m.page.owns refl (λ g e. absurd (false≢true (ap (λ t. stands_in t g) (sym m.page.empty) ∙ i.owners.named g p e))) in
     record {
       place = upd i.place f (Mapped p);
       frames = each-upd (λ g x. FrameInv c.shape.actors c.shape.pages c.shape.frames g (has_free_bit c.bundles g) (λ b. upd c.held a row b g) (λ q. stands_in (upd c.pages p r q).trans g) x) i.place f (Mapped p)
@@ -60,6 +63,7 @@ install_law w a p f i m =
       words = i.words;
       next = i.next;
       pages = pages-page c w.histories w.loads p r i.pages (installed-keeps a f (i.pages p) m.page);
+      owners = record { named = o.named; owned = o.owned };
     }
 
 pub clear_law : (w : World) (a p : ℕ) → Keeps w (Clear a p)
@@ -70,6 +74,8 @@ clear_law w a p i m =
     let row : ℕ → Bool = gains (c.held a) (c.pages p).trans in
     let row-is : row ≡ upd (c.held a) f true = ap (gains (c.held a)) at.stands in
     let r : Page = cleared (c.pages p) in
+    let unnamed : (g : ℕ) → c.owners g ≡ p + 1 → f ≡ g = λ g e. eqb-true f g (ap (λ t. stands_in t g) (sym at.stands) ∙ i.owners.named g p e) in
+    let o = held-owners w i a p r at.owns refl (λ g e. let none : c.owners g ≡ 0 = ap c.owners (sym (unnamed g e)) ∙ m.2 _ at.stands in absurd (omega (arith, none, e))) in
     record {
       place = upd i.place f (Held a);
       frames = each-upd (λ g x. FrameInv c.shape.actors c.shape.pages c.shape.frames g (has_free_bit c.bundles g) (λ b. upd c.held a row b g) (λ q. stands_in (upd c.pages p r q).trans g) x) i.place f (Held a)
@@ -82,6 +88,7 @@ clear_law w a p i m =
       words = i.words;
       next = i.next;
       pages = pages-page c w.histories w.loads p r i.pages (cleared-keeps a (i.pages p) m.1);
+      owners = record { named = o.named; owned = o.owned };
     }
 
 -- a page whose holder may store into the frame
@@ -110,6 +117,7 @@ store_law w a f n x i m =
           (λ s. rw (and_right ((w.core.pages q).seats a).exclusive (stands_in (w.core.pages q).trans f) s)
           (store-elsewhere f _ s (i.pages q)))
           (cases_Bool (stands_in (w.core.pages q).trans f));
+      owners = record { named = i.owners.named; owned = i.owners.owned };
     }
 
 pub take_law : (w : World) (a g expects mask : ℕ) → Keeps w (Take a g expects mask)
@@ -126,6 +134,7 @@ take_law w a g expects mask i m =
       words = i.words;
       next = i.next;
       pages = i.pages;
+      owners = record { named = i.owners.named; owned = i.owners.owned };
     }))
     (λ e. rw e i)
     (cases_Bool (eqb (c.bundles g) expects))
@@ -142,19 +151,20 @@ give_law w a g mask i m =
       words = i.words;
       next = i.next;
       pages = i.pages;
+      owners = record { named = i.owners.named; owned = i.owners.owned };
     }
 
 -- ---- owner words
 
--- the invariant says nothing of the owner words
-owners-keep : (w : World) (owners : ℕ → ℕ) → Inv w → Inv (record w { core = record w.core { owners = owners } })
-owners-keep w owners i = record { place = i.place; frames = i.frames; words = i.words; next = i.next; pages = i.pages }
+-- the owner word of a page that an actor holds is written: it names the page, or none
+word-law : (w : World) (a p word : ℕ) → Inv w → MayDirty (w.core.pages p) a → ((q : ℕ) → word ≡ q + 1 → q ≡ p) → Inv (record w { core = owned w.core p word })
+word-law w a p word i may names = record { place = i.place; frames = i.frames; words = i.words; next = i.next; pages = i.pages; owners = word-owners w i a p word may names }
 
 pub own_law : (w : World) (a p : ℕ) → Keeps w (Own a p)
-own_law w a p i m = owners-keep w _ i
+own_law w a p i m = word-law w a p (p + 1) i m.page (λ q e. omega (arith, e))
 
 pub disown_law : (w : World) (a p : ℕ) → Keeps w (Disown a p)
-disown_law w a p i m = owners-keep w _ i
+disown_law w a p i m = word-law w a p 0 i m.page (λ q e. absurd (omega (arith, e)))
 
 pub owner_load_law : (w : World) (a f : ℕ) → Keeps w (OLoad a f)
 owner_load_law w a f i m = i

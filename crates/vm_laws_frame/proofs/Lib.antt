@@ -4,5 +4,6 @@ pub mod Dirty
 pub mod Store
 pub mod Places
 pub mod Bits
+pub mod Owners
 pub mod Laws
 pub mod Translations

@@ -6,7 +6,7 @@ use Rattle.vm_core.specs.Prelude.{at_actor, at_page, frame_of, Free, History, Ho
 use Rattle.vm_core.specs.{declared.event.Mapping.Mapping, FrameActs.MayDirty, History.stored, History.writes_to, Inv.Place, Inv.Place.Held}
 use Rattle.vm_core.specs.declared.event.Event.TheVariants.{BLoad, Claim, Disown, Give, Hand, Load, NLoad, OLoad, Own, Store, Take}
 use Rattle.vm_core.specs.Step.{changed_at, given_by, MayStore, owned, taken_by}
-use Rattle.vm_core.proofs.{PageFacts.some-is, Upd.upd-other}
+use Rattle.vm_core.proofs.{OwnerWords.word-elsewhere, PageFacts.some-is, Upd.upd-other}
 use Rattle.vm_laws_others.specs.Leaves.{Leaves, LeavesOthers}
 use Rattle.vm_laws_others.proofs.Alone.{one-caller, one-holder}
 use Rattle.vm_laws_others.proofs.Page.{loads-other, page-same, PageLeaves}
@@ -81,31 +81,6 @@ pub hand-leaves : (w : World) (a : ℕ) → LeavesOthers w (Hand a)
 hand-leaves w a inv m = own-leaves w a w.core.bundles w.core.held _ w.loads (λ b p ne. refl) (λ b f ne. refl)
 
 -- ---- owner words
-
--- one page alone stands in a frame
-one-page : (x : Place) (p q : ℕ) → at_page x p ≡ true → at_page x q ≡ true → p ≡ q
-one-page Nowhere p q e e' = absurd (false≢true e)
-one-page Free p q e e' = absurd (false≢true e)
-one-page (Held a) p q e e' = absurd (false≢true e)
-one-page (Mapped r) p q e e' = eqb-true p r e ∙ sym (eqb-true q r e')
-
--- two pages that stand in one frame are one
-pub same-page : (w : World) (p q f : ℕ) → Inv w → stands_in (w.core.pages p).trans f ≡ true → stands_in (w.core.pages q).trans f ≡ true → p ≡ q
-same-page w p q f inv here there = one-page (inv.place f) p q (sym ((inv.frames f).mapped p) ∙ here) (sym ((inv.frames f).mapped q) ∙ there)
-
-pub stands-in : (t : Option Mapping) (m : Mapping) → t ≡ Some m → stands_in t m.frame ≡ true
-stands-in t m at = ap (λ x. stands_in x m.frame) at ∙ eq-eqb m.frame m.frame refl
-
--- the owner word of the frame is written
-pub word-written : (owners : ℕ → ℕ) (t : Option Mapping) (m : Mapping) (word : ℕ) → t ≡ Some m → changed_at owners (frame_of t) word ≡ upd owners m.frame word
-word-written owners t m word at = ap (λ x. changed_at owners (frame_of x) word) at
-
--- the word of the frame of another page stays
-pub word-elsewhere : (w : World) (p q word : ℕ) (m n : Mapping) → Inv w → (w.core.pages p).trans ≡ Some m → (w.core.pages q).trans ≡ Some n → q ≢ p → changed_at w.core.owners (frame_of (w.core.pages p).trans) word n.frame ≡ w.core.owners n.frame
-word-elsewhere w p q word m n inv here there ne =
-    ap (λ h. h n.frame) (word-written w.core.owners (w.core.pages p).trans m word here)
-    ∙ upd-other w.core.owners m.frame word n.frame
-    (λ e. ne (same-page w q p n.frame inv (stands-in (w.core.pages q).trans n there) (ap (stands_in (w.core.pages p).trans) e ∙ stands-in (w.core.pages p).trans m here)))
 
 word-leaves : (w : World) (a p word : ℕ) → Inv w → MayDirty (w.core.pages p) a → Leaves a w (record { core = owned w.core p word; histories = w.histories; loads = w.loads })
 word-leaves w a p word inv may =

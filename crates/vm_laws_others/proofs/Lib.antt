@@ -5,4 +5,3 @@ pub mod Device
 pub mod Seats
 pub mod Frames
 pub mod Laws
-pub mod Owners

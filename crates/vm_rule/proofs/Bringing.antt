@@ -7,7 +7,7 @@ use Rattle.vm_rule.proofs.Prelude.{Did, Entry, Event, fun_ext, get_elem?, has, H
 use Rattle.vm_rule.proofs.Prelude.{IsStepOf, Kept, KnowsLists, KnowsPage, KnowsPages, last_in, leave_others, Leaves, Legal, length, List, listed}
 use Rattle.vm_rule.proofs.Prelude.{logical, no_held, None, Option, Origin, Page, put_at, refl, Release, Ruled, seat_of, set_block, set_here, set_if}
 use Rattle.vm_rule.proofs.Prelude.{slice_set, Snapshot, some, Start, StartsWith, Stored, subst, sym, Table, true, true≢false, View, Within, World}
-use Rattle.vm_rule.proofs.Prelude.{world_after, world_of, ℕ, ◌++◌, ◌<◌, ◌∙◌, ◌≡◌}
+use Rattle.vm_rule.proofs.Prelude.{KnowsOwners, world_after, world_of, ℕ, ◌++◌, ◌<◌, ◌∙◌, ◌≡◌}
 use Rattle.vm_rule.proofs.Worlds.{core-still, draft-is, last-is, world-still}
 
 -- who has seen all has nothing behind it

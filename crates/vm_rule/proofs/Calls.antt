@@ -30,7 +30,7 @@ called-keeps {actors} {tells} {words} {r} {h} {l} a count block len i m k =
 
 pub called-inv : (w : World) (a p count : ℕ) (block : List ℕ) → Inv w → MayCall (w.core.pages p) a → IsCalled w.core.tells w.core.words (w.core.pages p) count block
     → Inv (record w { core = on_page w.core p (called (w.core.pages p) count block) })
-called-inv w a p count block i m k = page-alone w p _ i (λ _. refl) (called-keeps a count block i.words (i.pages p) m k)
+called-inv w a p count block i m k = page-alone w p _ i (λ _. refl) (i.owners.owned p) (called-keeps a count block i.words (i.pages p) m k)
 
 -- the count moves on
 counts-called : (r : Page) (count : ℕ) (block : List ℕ) → (count ≡ r.count) ⊎ (count ≡ count_more r.count) → CountsMove r (called r count block)

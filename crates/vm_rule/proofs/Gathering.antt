@@ -126,4 +126,5 @@ module _ (w : World) (k from to : ℕ) (seats : ℕ → ℕ → Seat) (held : �
     words = i.words;
     next = i.next;
     pages = λ p. less-page w.core.shape.actors k w.core.tells w.core.words (w.core.pages p) (w.histories p) (w.loads p) (loads p) (seats p) (g.less p) (g.past p) (i.pages p);
+    owners = record { named = i.owners.named; owned = i.owners.owned };
   }

@@ -2,12 +2,12 @@
 use Rattle.vm_core.specs.declared.event.Event.TheVariants.{Release}
 use Rattle.vm_rule.specs.declared.view.Release.{Release as Released}
 use Rattle.vm_rule.proofs.{Entries.each-map, Facts.any-here, Facts.any-true, Heard.not-true, Views.at-bound, Were.were-moves}
-use Rattle.vm_rule.proofs.Prelude.{[], any, ap, arith, began_of, Bool, cases_eq, cases_lt, Did, Downgrade, Each, Entry, Event, EVICTED, false}
+use Rattle.vm_rule.proofs.Prelude.{[], any, ap, arith, began_of, Bool, cases_eq, cases_lt, Did, Downgrade, Each, Entry, Event, EVICTED, false, None}
 use Rattle.vm_rule.proofs.Prelude.{get_elem?, has, histories_after, History, IsLocking, KnowsPage, KnowsPages, last_in, Leaves, LeavesActor, Legal}
-use Rattle.vm_rule.proofs.Prelude.{List, LockX, may_call, no_held, Note, Origin, Page, PageMoves, Put, put_at, refl, ReleaseE, Seat, seat_of}
+use Rattle.vm_rule.proofs.Prelude.{List, LockX, may_call, no_held, Note, Origin, Page, PageMoves, Put, put_at, refl, ReleaseE, Seat, seat_of, Some}
 use Rattle.vm_rule.proofs.Prelude.{set_else, set_here, slice_set, some, some-injective, Start, Store, subst, sym, Tie, TieHolds, Translation}
 use Rattle.vm_rule.proofs.Prelude.{TranslationHolds, true, true≢false, upd-other, Upgrade, Version, View, view_from, WereWords, World, ℕ, ⊎_elim, ◌<◌}
-use Rattle.vm_rule.proofs.Prelude.{◌∙◌, ◌≡◌, ◌≤◌}
+use Rattle.vm_rule.proofs.Prelude.{none-some, ◌∙◌, ◌≡◌, ◌≤◌}
 
 -- the versions and drafts of a page past the last one, which nobody holds, stay
 pub histories-outside : (w : World) (e : Event) → Legal w.core e → (p : ℕ) → w.core.shape.pages ≤ p → ((a : ℕ) → ((w.core.pages p).seats a).exclusive ≡ false) → histories_after w e p ≡ w.histories p
@@ -118,8 +118,8 @@ module _ {X : Type 0} where
     pub known-else : (w w' : World) (unreleased unreleased' : ℕ → Bool) (a j : ℕ) (u : View X) → Leaves a w w' → LeavesActor j w w'
         → ((p : ℕ) → p < w.core.shape.pages → (w.core.pages p).seats j ≡ seat_of u p)
         → ((p : ℕ) → w.core.shape.pages ≤ p → (w'.core.pages p ≡ w.core.pages p) × (w'.histories p ≡ w.histories p))
-        → ((f : ℕ) → w.core.held j f ≡ has f u.frames)
         → ((p : ℕ) → w.core.shape.pages ≤ p → (w.core.pages p).trans ≡ None)
+        → ((f : ℕ) → w.core.held j f ≡ has f u.frames)
         → ((p : ℕ) → (w.core.pages p).state ≤ EVICTED)
         → w'.core.next ≤ w.core.shape.pages
         → ((t : Tie) → TieHolds tied (began_of start) w unreleased t → TieHolds tied (began_of start) w' unreleased' t)

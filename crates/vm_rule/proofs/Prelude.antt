@@ -26,7 +26,7 @@ pub use Rattle.vm_core.specs.Step.{changed_at, given_by, owned, taken_by}
 pub use Rattle.vm_core.specs.declared.event.Event.TheVariants.{BLoad, Claim, Clean, Clear, Dirty, Disown, Downgrade, Give, Hand, Install, Load, LockS}
 pub use Rattle.vm_core.specs.declared.event.Event.TheVariants.{LockW, LockX, Look, Mark, NLoad, OLoad, Own, Raise, Read, ReleaseE, RFail, Store, Take}
 pub use Rattle.vm_core.specs.declared.event.Event.TheVariants.{TLoad, UnlockS, Unmark, Upgrade, WFail, Write}
-pub use Rattle.vm_core.proofs.{At.at-get, PageFacts.found, Starting.locks-none, Whole.page-alone}
+pub use Rattle.vm_core.proofs.{At.at-get, PageFacts.found, PageFacts.none-some, Starting.locks-none, Whole.page-alone}
 pub use Rattle.vm_core.proofs.Locks.{locked-from_owner, shared-state, sum_below-at}
 pub use Rattle.vm_core.proofs.Upd.{each-upd, sum_below-past, upd-keeps, upd-map, upd-other, upd-same, upd-self}
 pub use Rattle.vm_core.proofs.WordBits.{frame-of, top-clear, top-set}
@@ -56,6 +56,7 @@ pub use Rattle.vm_rule.specs.Prelude.{BlocksFit, Brings, BringsWith, brought, bu
 pub use Rattle.vm_rule.specs.Prelude.{did_load, draft_of, Each, entries_by, entries_under, Entry, entry_of, Event, FaultsFit, first_history, first_part}
 pub use Rattle.vm_rule.specs.Prelude.{first_view, frames_below, frames_held, giver, has, HasShape, hearer, Hears, HoldsNoPage, HoldsNothing, home}
 pub use Rattle.vm_rule.specs.Prelude.{index_of, is_owed, is_pending, IsFoundAt, IsLocking, IsStarted, IsWhole, joined, Kept, kept_of, known, KnowsLists}
+pub use Rattle.vm_rule.specs.Prelude.{KnowsOwner, KnowsOwners}
 pub use Rattle.vm_rule.specs.Prelude.{KnowsPage, KnowsPages, last_in, Leaves, loads_at, loads_of, Mapping, may_call, MayBegin, Me, newcomer, no_block}
 pub use Rattle.vm_rule.specs.Prelude.{no_held, one_part, OnlyKnows, Open, opening, other_parts, out_of, out_or, owns, page_from, PARTS, PartsFit, pushed}
 pub use Rattle.vm_rule.specs.Prelude.{put, put_at, Ruled, Seat, seat_of, seats_of, set_if, slot_of, snapshot_of, Sound, spent, Stands, Start}

@@ -5,7 +5,7 @@ use Rattle.vm_rule.proofs.Prelude.{[], AreNext, ArePlain, began_of, block_of, Bl
 use Rattle.vm_rule.proofs.Prelude.{entry_of, Event, false, FaultsFit, has, histories_of, index_of, Inv, is_pending, IsFoundAt, Kept, kept_of}
 use Rattle.vm_rule.proofs.Prelude.{KnowsPage, Leaves, Legal, length, List, listed, may_call, no_held, Option, Origin, Out, put_at, Release, replicate}
 use Rattle.vm_rule.proofs.Prelude.{Ruled, seat_of, slice_set, Some, Start, Stored, Table, Tie, TieHolds, Translation, TranslationHolds, true, View}
-use Rattle.vm_rule.proofs.Prelude.{width, Within, World, world_after, world_of, ℕ, ◌++◌, ◌<◌, ◌∷◌, ◌≡◌, ◌≢◌, ◌≤◌, ◌⊎◌}
+use Rattle.vm_rule.proofs.Prelude.{KnowsOwners, width, Within, World, world_after, world_of, ℕ, ◌++◌, ◌<◌, ◌∷◌, ◌≡◌, ◌≢◌, ◌≤◌, ◌⊎◌}
 
 module _ {X B : Type 0} (stored : B → Stored) (keeps : Start → Kept X → Type 0) (tied : Start → ℕ → List ℕ → ℕ → List ℕ → Type 0) (start : Origin) (tells : Bool) where
   module _ (s : Table (Option B) (View X)) (r : Ruled stored keeps tied start tells s) (id : ℕ) (v : View X) (words : List ℕ) (homes : List (maybe.Option (Option B))) (blocks : List Stored) (drafts : ℕ → List ℕ) (own : List Release) (entries : List (Entry X)) (did : Did) (inner : View X) where

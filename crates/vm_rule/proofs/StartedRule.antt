@@ -5,7 +5,7 @@ use Rattle.vm_core.specs.Prelude.{start as start_of}
 use Rattle.vm_rule.proofs.{Known.known-nothing, Pages.page-in, Pages.page-out, Parted.opened, Parts.listed-same, Starts.evicted-inv}
 use Rattle.vm_rule.proofs.{Starts.start-frames}
 use Rattle.vm_rule.proofs.ListFacts.{at-any, at-map, length-mapped, listed-long}
-use Rattle.vm_rule.proofs.Prelude.{[], ap, arith, at, began_of, block_of, block_words, BlocksFit, Bool, cases_Bool, cases_lt, chosen, cond}
+use Rattle.vm_rule.proofs.Prelude.{[], ap, arith, at, began_of, block_of, block_words, BlocksFit, Bool, cases_Bool, cases_lt, chosen, cond, none-some}
 use Rattle.vm_rule.proofs.Prelude.{contents_of, core_shown, CoreStart, counts_of, EVICTED, evicted_page, false, first_kept, first_view, FrameIsAt}
 use Rattle.vm_rule.proofs.Prelude.{Free, fun_ext, get_elem?, has, has_free_bit, histories_of, home, if◌then◌else◌, inl, inr, Inv, is_owed, is_pending}
 use Rattle.vm_rule.proofs.Prelude.{IsSome, IsStarted, IsWhole, Kept, kept_of, known, KnowsLists, KnowsPages, le-ltb, length, length-replicate, List}
@@ -15,6 +15,7 @@ use Rattle.vm_rule.proofs.Prelude.{some-injective, spent, Stands, stands_in, Sta
 use Rattle.vm_rule.proofs.Prelude.{Stored, subst, subst₃, suc, sym, Table, table_words, times_noted, trans_word, true, true≢false, unborn, version_of}
 use Rattle.vm_rule.proofs.Prelude.{View, width_of, world_of, zero, ℕ, ⊎_elim, ◌++◌, ◌-◌, ◌<◌, ◌^◌, ◌∙◌, ◌∷◌, ◌≡◌, ◌≤◌}
 use Rattle.vm_rule.proofs.StartedWords.{started-bundle, started-fault, started-frame, started-next, started-state, started-translation, started-wide}
+use Rattle.vm_rule.proofs.StartedWords.{started-owner}
 use Rattle.vm_rule.proofs.WordFacts.{mapping-none, word-state, word-version}
 
 -- what the first view has as a spent one has it, each has
@@ -98,6 +99,14 @@ module _ (X : Type 0) {B : Type 0} (stored : B → Stored) (tells : Bool) (whole
       (evicted-inv 1 tells (core_shown stored start table).words 0 (replicate 64 0) (replicate 64 0) 0 (omega arith) (length-replicate {A = ℕ} 64 0) (λ _. refl)))
       (cases_lt p (length blocks))
 
+  -- no page stands in a frame
+  empty : (p : ℕ) → ((core_shown stored start table).pages p).trans ≡ None
+  empty p =
+      ⊎_elim
+      (λ l. ap (λ (r : Page). r.trans) (page-evicted p l))
+      (λ le. ap (λ (r : Page). r.trans) (page-out (length blocks) (table_words start words) (block_of stored table.homes table.views) (seats_of table.views) p le))
+      (cases_lt p (length blocks))
+
   -- the frames stand as in a core's start
   frame-free : (f : ℕ) → FrameIsAt (core_shown stored start table) f (cond (ltb f frames) Free Nowhere)
   frame-free f =
@@ -108,10 +117,7 @@ module _ (X : Type 0) {B : Type 0} (stored : B → Stored) (tells : Bool) (whole
         outside = s.outside;
         free = ap (λ b. has_free_bit b f) (fun_ext (started-bundle tells version next frames blocks)) ∙ s.free;
         holds = λ a. lone {X = X} (λ y. has f y.frames) start refl a ∙ s.holds a;
-        mapped = λ p. ⊎_elim
-            (λ l. ap (λ (r : Page). stands_in r.trans f) (page-evicted p l))
-            (λ le. ap (λ (r : Page). stands_in r.trans f) (page-out (length blocks) (table_words start words) (block_of stored table.homes table.views) (seats_of table.views) p le))
-            (cases_lt p (length blocks)) ∙ s.mapped p;
+        mapped = λ p. ap (λ t. stands_in t f) (empty p) ∙ s.mapped p;
       }
 
   started-inv : Inv (world_of stored start [] (λ p. []) table)
@@ -121,6 +127,10 @@ module _ (X : Type 0) {B : Type 0} (stored : B → Stored) (tells : Bool) (whole
     words = λ f. ap length (started-frame tells version next frames blocks f) ∙ length-replicate {A = ℕ} 64 0;
     next = (let is : (table_words start words).next ≡ next = started-next tells version next frames blocks in let le : next ≤ length items = ok.claimed in omega (arith, is, le, many));
     pages = λ p. subst (PageInv 1 tells (core_shown stored start table).words ((core_shown stored start table).pages p) (histories_of start [] (λ q. []) p)) (sym (fun_ext (lone {X = X} (λ y. loads_at y p) start refl))) (page-inv p);
+    owners = record {
+      named = λ f p e. let none : (table_words start words).owners f ≡ 0 = started-owner tells version next frames blocks f in absurd (omega (arith, none, e));
+      owned = λ p free m at. absurd (none-some m (sym (empty p) ∙ at));
+    };
   }
 
   -- ---- the rule

@@ -129,6 +129,12 @@ module _ (tells : Bool) (version next frames : ℕ) (blocks : List Stored) where
       (λ k below. from4 (3 * length blocks + 64 * frames + k) k refl ∙ at-left 0 bundles (next ∷ (0 ∷ owners)) k (omega (arith, below, long.4))) g
       ∙ ⊎_elim (λ l. at-listed 0 (bundles_of frames) (full_bundle frames) g l) (λ le. at-past 0 bundles g (omega (arith, long.4, le)) ∙ sym (empty-bundle frames g le)) (cases_lt g (bundles_of frames))
 
+  pub started-owner : (f : ℕ) → (table_words start words).owners f ≡ 0
+  started-owner f =
+      part-is words owners (3 * length blocks + 64 * frames + bundles_of frames + 2) frames long.5
+      (λ k below. from5 (3 * length blocks + 64 * frames + bundles_of frames + 2 + k) (2 + k) (omega arith) ∙ at-right 0 (next ∷ (0 ∷ [])) owners (2 + k) k refl) f
+      ∙ at-zeros frames f
+
   pub started-next : (table_words start words).next ≡ next
   unfolding at
   started-next = from5 (3 * length blocks + 64 * frames + bundles_of frames) 0 (omega arith)

@@ -1,5 +1,5 @@
 -- The start meets the invariant.
-use Rattle.vm_rule.proofs.Prelude.{[], ap, arith, at_free, begin, bit_at, bit_at_ones, bit_at_ones_above, Bool, cases_Bool, cases_lt, cond}
+use Rattle.vm_rule.proofs.Prelude.{[], ap, arith, at_free, begin, bit_at, bit_at_ones, bit_at_ones_above, Bool, cases_Bool, cases_lt, cond, none-some}
 use Rattle.vm_rule.proofs.Prelude.{core_block, core_start, CoreShape, CoreStart, eq-eqb, evicted_page, FrameIsAt, Free, full_bundle, has_free_bit}
 use Rattle.vm_rule.proofs.Prelude.{Inv, IsStart, le-ltb, length, length-map-range_with_len, length-replicate, List, locks-none, lt-ltb, ltb}
 use Rattle.vm_rule.proofs.Prelude.{MAX_VERSION, min, ne_eqb, Nowhere, PageInv, refl, replicate, start, true, ℕ, ⊎_elim, ◌%◌, ◌*◌, ◌+◌, ◌-◌, ◌/◌, ◌^◌}
@@ -55,6 +55,7 @@ start_law s ok =
       words = λ f. numbers-long 64 0;
       next = ok.next;
       pages = λ p. evicted-inv s.shape.actors s.tells (λ f. replicate 64 0) s.first (s.blocks p) (s.blocks p) (s.counts p) ok.first (ok.blocks p) (λ _. refl);
+      owners = record { named = λ f p e. absurd (omega (arith, e)); owned = λ p free m at. absurd (none-some m at) };
     }
 
 block-long : (next p : ℕ) → length (core_block next p) ≡ 64

@@ -42,7 +42,7 @@ pub use Rattle.vm_rule.specs.Reading.{no_block, out_of, out_or, page_from, pushe
 unfoldable pub use Rattle.vm_rule.specs.Reading.{block_of, frame_words, histories_of, pages_from}
 pub use Rattle.vm_rule.specs.Releases.{change_of, changes_of, DowngradeTold, EvictTold, next_after, ReleaseTold, without_all}
 pub use Rattle.vm_rule.specs.Rule.{AreNext, ArePlain, began_of, BlocksFit, FaultsFit, HoldsNothing, is_owed, is_pending, kept_of, KnowsLists}
-pub use Rattle.vm_rule.specs.Rule.{KnowsPage, KnowsPages, ListsFit, no_held, PartsFit, Ruled, slot_of, snapshot_of, TieHolds, TranslationHolds}
+pub use Rattle.vm_rule.specs.Rule.{KnowsOwner, KnowsOwners, KnowsPage, KnowsPages, ListsFit, no_held, PartsFit, Ruled, slot_of, snapshot_of, TieHolds, TranslationHolds}
 pub use Rattle.vm_rule.specs.Rule.{WasNext, WasWord, WereWords}
 unfoldable pub use Rattle.vm_rule.specs.Rule.{logical}
 pub use Rattle.vm_rule.specs.Slots.{DeviceDid, HomeTold, MayBring, out_at, OutTold, ReturnTold, ShiftTold, SlotTold, words_held}

@@ -6,7 +6,7 @@ use Rattle.atomic_table.specs.Table.{State as Table}
 use Rattle.vm_block.specs.declared.stored.Stored.{Stored}
 use Rattle.vm_core.specs.Prelude.{at, EVICTED, frame_of, get_elem?, History, Inv, is_readable, LOCKED, mapping_of, MAX_COUNT, Page, state_of}
 use Rattle.vm_core.specs.Prelude.{trans_word, version_of, WORDS, World}
-use Rattle.vm_core.specs.declared.event.Seat.{Seat}
+use Rattle.vm_core.specs.declared.event.{Mapping.Mapping, Seat.Seat}
 use Rattle.vm_laws_others.specs.Leaves.{stands_dirty}
 use Rattle.vm_owner.specs.{declared.Entry.Entry, Numbers.has}
 use Rattle.vm_owner.specs.Kept.{AreCounted, Kept, Start}

@@ -46,6 +46,7 @@ pub use Rattle.vm_rule.specs.Prelude.{entries_of, entries_under, Entry, entry_of
 pub use Rattle.vm_rule.specs.Prelude.{frame_read_by, frames_held, giver, GiveTold, HandTold, has, has_lock, HasShape, hearer, Hears, held_at, HoldsNoPage}
 pub use Rattle.vm_rule.specs.Prelude.{HoldsNothing, home, HomeTold, index_of, InstallTold, is_owed, is_pending, IsFoundAt, IsHeldAt, IsLocking, IsOlder}
 pub use Rattle.vm_rule.specs.Prelude.{IsSince, IsSinceAll, IsUnheld, IsWhole, IsWritten, joined, JoinTold, Kept, kept_of, known, KnowsLists, KnowsPage}
+pub use Rattle.vm_rule.specs.Prelude.{KnowsOwner, KnowsOwners}
 pub use Rattle.vm_rule.specs.Prelude.{KnowsPages, last_in, last_of, Leaves, left_at, loads_at, loads_of, LoadTold, locked_view, LockTold, LockValidates}
 pub use Rattle.vm_rule.specs.Prelude.{LookTold, Mapping, MarkTold, may_call, MayBring, MayPutInto, MayRaiseLock, Me, newcomer, next_after, next_view}
 pub use Rattle.vm_rule.specs.Prelude.{NextTold, no_held, notes_of, OnlyKnows, Open, other_parts, out_at, out_of, out_or, OutTold, owns, page_from, pushed}

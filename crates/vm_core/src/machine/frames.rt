@@ -72,7 +72,7 @@ impl Core {
         row.insert(f);
     }
 
-    /// The frame of a page goes to the actor, where it may.
+    /// The frame of a page goes to the actor, where it may: the frame's owner word names no page.
     pub(super) fn clear(&mut self, a: u32, p: u32) -> Result<Seen, Illegal>
         ensures { Steps self.old (Event.Clear a p) result self.new }
     {
@@ -82,6 +82,9 @@ impl Core {
         let Some(f) = self.clear_frame(a, p) else {
             return Err(Illegal);
         };
+        if !self.is_owned(p, 0) {
+            return Err(Illegal);
+        }
         self.unmap_frame(a, p, f);
         Ok(Seen::Done)
     }

@@ -1,12 +1,12 @@
 //! The events on owner words: who holds a page exclusively writes into the word of the page's frame whether the frame is the page's, and
-//! anyone loads such a word, to find the page of a frame.
+//! anyone loads such a word, to find the page of a frame. A page that is given up in its frame is named by it.
 
 ghost use Rattle.std.specs.Prelude.{◌<◌, ◌↔◌, ◌≡◌, IsTrue};
-ghost use Rattle.vm_core.specs.Prelude.{core_of, NamesActorAndPage, Steps, upd};
-ghost use Rattle.vm_core.specs.CoreOf.{OwnedFrame};
+ghost use Rattle.vm_core.specs.Prelude.{core_of, IsOwned, NamesActorAndPage, Steps, upd};
+ghost use Rattle.vm_core.specs.CoreOf.{LeaveSteps, OwnedFrame};
 ghost use Rattle.vm_core.specs.Step.{NamesActorAndFrame};
 
-use crate::event::{Event, Illegal, Seen};
+use crate::event::{Event, Illegal, PageAct, Seen};
 use crate::machine::Core;
 
 impl Core {
@@ -26,6 +26,27 @@ impl Core {
             return None;
         }
         self.held_frame(a, p)
+    }
+
+    /// Whether the owner word of the page's frame is this one, where the page stands in a frame.
+    pub(super) fn is_owned(&self, p: u32, word: u64) -> bool
+        requires { p < (core_of self.now).shape.pages }
+        ensures { IsTrue result ↔ IsOwned (core_of self.now) p word }
+    {
+        match self.pages[p as usize].mapping() {
+            Some(mapping) => self.owners[mapping.frame as usize] == word,
+            None => true,
+        }
+    }
+
+    /// An event on one page alone that gives it up and leaves it in its frame, whose owner word names it.
+    pub(super) fn leave(&mut self, a: u32, p: u32, act: PageAct) -> Result<Seen, Illegal>
+        ensures { LeaveSteps self.old a p act result self.new }
+    {
+        if !self.names(a, p) || !self.is_owned(p, u64::from(p) + 1) {
+            return Err(Illegal);
+        }
+        self.on_page(a, p, act)
     }
 
     /// The owner word of a frame is written.

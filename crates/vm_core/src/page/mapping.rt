@@ -55,6 +55,13 @@ impl PageCell {
         }
     }
 
+    /// Where the page stands.
+    pub fn mapping(&self) -> Option<Mapping>
+        ensures { result ≡ self.now.trans }
+    {
+        self.trans
+    }
+
     /// The page is taken out of its frame.
     pub fn clear(&mut self)
         ensures page { page_of self.new ≡ cleared (page_of self.old) }
