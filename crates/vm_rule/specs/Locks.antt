@@ -11,12 +11,13 @@ use Rattle.vm_rule.specs.{Looks.IsSinceAll, Puts.put, Puts.put_at, Reading.last_
 use Rattle.vm_rule.specs.declared.view.Place.TheVariants as places
 use Rattle.vm_rule.specs.Views.{Each, loads_at, seat_of}
 
--- what a lock tells that was taken at this word, while the page had these last words: whether the page is resident, and where; its fault
--- word; and that the block of a page that is clean or not resident has its last words
-pub record IsHeldAt (expects frames : ℕ) (tells : Bool) (words : List ℕ) (h : Held) : Type 0 where
+-- what a lock of page p tells that was taken at this word, while the page had these last words: whether the page is resident, and where; that
+-- its frame's owner word names it; its fault word; and that the block of a page that is clean or not resident has its last words
+pub record IsHeldAt (p expects frames : ℕ) (tells : Bool) (words : List ℕ) (h : Held) : Type 0 where
   pub empty : state_of expects ≡ EVICTED → h.mapping ≡ None
   pub resident : state_of expects ≢ EVICTED → IsSome h.mapping
   pub inside : (m : Mapping) → h.mapping ≡ Some m → m.frame < frames
+  pub owned : state_of expects ≢ EVICTED → h.owner ≡ p + 1
   pub told : h.fault ≡ h.block.count
   pub device : tells ≡ true → ((m : Mapping) → h.mapping ≡ Some m → m.dirty ≡ false) → h.block.words ≡ words
 
@@ -58,7 +59,7 @@ module _ {X : Type 0} where
     pub since : IsSinceAll p found v.log
     pub older : IsOlder found (seat_of v p).reading
     pub size : length (last_of w p).words ≡ WORDS
-    pub stands : found ≡ expects → IsHeldAt expects v.start.frames v.start.tells (last_of w p).words held
+    pub stands : found ≡ expects → IsHeldAt p expects v.start.frames v.start.tells (last_of w p).words held
     -- a page that was not locked is no member still to be released
     pub free : found ≡ expects → has p v.pending ≡ false
     pub unheld : found ≡ expects → IsUnheld v p
@@ -129,7 +130,7 @@ module _ {X : Type 0} where
     pub since : IsSinceAll p found v.log
     pub older : IsOlder found (seat_of v p).reading
     pub size : length (last_of w p).words ≡ WORDS
-    pub stands : found ≡ expects → IsHeldAt expects v.start.frames v.start.tells (last_of w p).words held
+    pub stands : found ≡ expects → IsHeldAt p expects v.start.frames v.start.tells (last_of w p).words held
     -- nobody had the page locked
     pub free : found ≡ expects → has p v.pending ≡ false
     pub unheld : found ≡ expects → IsUnheld v p

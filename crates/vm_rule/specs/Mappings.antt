@@ -35,21 +35,20 @@ module _ {X : Type 0} where
     pub holds : has f v.frames ≡ true
     pub loaded : v.start.tells ≡ true → contents_at v f ≡ (held_at v p).block.words
 
-  abbrev pub installed_view : ℕ → ℕ → ℕ → View X → View X
-  installed_view p f word v =
-      record v { held = put p (record (held_at v p) { mapping = Some (clean_in f); owner = word }) v.held; frames = without f v.frames }
+  abbrev pub installed_view : ℕ → ℕ → View X → View X
+  installed_view p f v = record v { held = put p (record (held_at v p) { mapping = Some (clean_in f); owner = 0 }) v.held; frames = without f v.frames }
 
-  -- the page was put into the frame, clean; the frame is the pass's no more, and its owner word is known
+  -- the page was put into the frame, clean; the frame is the pass's no more, and its owner word names no page
   pub record InstallTold (p f : ℕ) (v w : View X) : Type 0 where
-    pub owner : ℕ
-    pub brings : Brings (did_store (places.Translation p) (trans_word (Some (clean_in f)))) [] [] v (installed_view p f owner v) w
+    pub brings : Brings (did_store (places.Translation p) (trans_word (Some (clean_in f)))) [] [] v (installed_view p f v) w
 
   -- ---- clear
 
-  -- p stands clean in this frame, and is held exclusively
+  -- p stands clean in this frame, whose owner word names no page, and is held exclusively
   pub record StandsClean (v : View X) (p f : ℕ) : Type 0 where
     pub owns : (seat_of v p).exclusive ≡ true
     pub stands : (held_at v p).mapping ≡ Some (clean_in f)
+    pub disowned : (held_at v p).owner ≡ 0
 
   abbrev pub cleared_view : ℕ → ℕ → List ℕ → View X → View X
   cleared_view p f words v = record v { held = mapped p None v; frames = f ∷ v.frames; contents = put f words v.contents }

@@ -1,6 +1,6 @@
 -- An exchange, found there or not: at any place, the rule after it, and that it is an event of the core; on a page's state word, what the pass knows of
 -- pages afterwards, what it shows of itself where it is taken, and what it tells either way.
-use Rattle.std.proofs.Common.{eq-eqb, ne_eqb}
+use Rattle.std.proofs.Common.{eq-eqb, IsSome, ne_eqb}
 use Rattle.vm_core.specs.declared.event.Seen.TheVariants as sights
 use Rattle.vm_rule.specs.declared.view.Place.TheVariants as places
 use Rattle.vm_step.proofs.{Evidenced.lost-view, Evidenced.taken-view, Logical.not-pending, Quiet.quiet-shows, Quiet.ShowsQuiet, Written.IsWordOf}
@@ -8,7 +8,7 @@ use Rattle.vm_step.proofs.{Written.word-left}
 use Rattle.vm_step.proofs.Here.{frame-inside, last, last-told, older, since, validates, world}
 use Rattle.vm_step.proofs.Prelude.{[], actor_of, after_event, after_step, any-here, ap, arith, at-bound, became, block-here, block-is_last, block_of}
 use Rattle.vm_step.proofs.Prelude.{Bool, Brings, cases_Bool, cases_eq, core-still, core_shown, Did, did_exchange, draft-is, draft_of, each-upd}
-use Rattle.vm_step.proofs.Prelude.{either, eqb, Event, exchange_seen, exchange_sees, exchanged, false, false_from_ne_true, finds, finds-hit}
+use Rattle.vm_step.proofs.Prelude.{either, eqb, Event, exchange_seen, exchange_sees, exchanged, false, false_from_ne_true, finds, finds-hit, Mapping}
 use Rattle.vm_step.proofs.Prelude.{finds-miss, FindsAt, frame_of, get_elem?, has, Held, if◌then◌else◌, index_of, is_pending, IsEvent, IsHeldAt}
 use Rattle.vm_step.proofs.Prelude.{IsOlder, IsPassOf, IsSinceAll, IsUnheld, Kept, KnowsPage, last-is, last_in, last_of, Legal, length, List, LOCKED}
 use Rattle.vm_step.proofs.Prelude.{locked, locked_view, LockS, locks-step, LockValidates, LockW, lockw-step, LockX, lockx-step, lost-locks}
@@ -20,7 +20,7 @@ use Rattle.vm_step.proofs.Prelude.{State, state-here, state_of, steps, Stored, s
 use Rattle.vm_step.proofs.Prelude.{true≢false, unheld, UNLOCKED, Unmark, unmark-step, unmarked, upd, upd-keeps, upd-other, upd-same, Upgrade}
 use Rattle.vm_step.proofs.Prelude.{upgrade-step, upgraded, upgraded_view, Version, version-here, version-within, version_of, View, width, Within}
 use Rattle.vm_step.proofs.Prelude.{word-here, word-state, word-version, word_of, World, world_after, world_of, write_locked, write_locked_view, wrote}
-use Rattle.vm_step.proofs.Prelude.{ℕ, ⊎_elim, ◌++◌, ◌<◌, ◌∙◌, ◌≡◌, ◌≢◌, ◌≤◌}
+use Rattle.vm_step.proofs.Prelude.{false≢true, KnowsOwner, KnowsOwners, ℕ, ⊎_elim, ◌++◌, ◌+◌, ◌<◌, ◌∙◌, ◌≡◌, ◌≢◌, ◌≤◌}
 
 -- ---- at any place
 
@@ -113,6 +113,11 @@ module _ {X : Type 0} where
 abbrev pub owner_at : (ℕ → ℕ) → Option Mapping → ℕ
 owner_at owners None = 0
 owner_at owners (Some m) = owners m.frame
+
+-- where it stands in one, and its owner word is this one
+owner-named : (owners : ℕ → ℕ) (p : ℕ) (t : Option Mapping) → IsSome t → ((m : Mapping) → t ≡ Some m → owners m.frame ≡ p + 1) → owner_at owners t ≡ p + 1
+owner-named owners p None is owned = absurd (false≢true is)
+owner-named owners p (Some m) is owned = owned m refl
 
 -- who knows it of the page's frame knows it of the frame that the page is said to stand in
 pub knows-owner : (owners : ℕ → ℕ) (seat : Seat) (h : Held) → h.owner ≡ owner_at owners h.mapping → KnowsOwner owners seat h
@@ -338,15 +343,17 @@ module _ {X B : Type 0} (stored : B → Stored) (keeps : Start → Kept X → Ty
           (cases_Bool (y.seats a).writing))
 
       -- so it knows of the page what a lock tells that was taken at this word
-      pub held-at : (live : v.live ≡ true) (expects : ℕ) → slice_index s.words p ≡ expects → IsHeldAt expects v.start.frames v.start.tells (last stored keeps tied start tells s r p).words (page_held p)
+      pub held-at : (live : v.live ≡ true) (expects : ℕ) → slice_index s.words p ≡ expects → IsHeldAt p expects v.start.frames v.start.tells (last stored keeps tied start tells s r p).words (page_held p)
       held-at live expects hit =
           let state : ((world stored keeps tied start tells s r).core.pages p).state ≡ state_of expects = state-here stored start s p l ∙ ap state_of hit in
           let block = block-here stored start s p l in
-          subst (λ (o : Origin). IsHeldAt expects o.frames o.tells (last stored keeps tied start tells s r p).words (page_held p)) (sym (r.heard id v there live).same_start)
+          subst (λ (o : Origin). IsHeldAt p expects o.frames o.tells (last stored keeps tied start tells s r p).words (page_held p)) (sym (r.heard id v there live).same_start)
           (record {
             empty = λ e. (r.inv.pages p).stands.evicted (state ∙ e);
             resident = λ ne. (r.inv.pages p).stands.resident free (λ e. ne (sym state ∙ e));
             inside = frame-inside stored keeps tied start tells s r p;
+            owned = λ ne. owner-named (world stored keeps tied start tells s r).core.owners p ((world stored keeps tied start tells s r).core.pages p).trans
+                ((r.inv.pages p).stands.resident free (λ e. ne (sym state ∙ e))) (r.inv.owners.owned p free);
             told = fault-told ∙ block.1;
             device = λ t clean. sym block.0 ∙ block-is_last (r.inv.pages p).stands ((r.inv.pages p).contents t) free clean;
           })

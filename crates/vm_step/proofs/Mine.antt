@@ -1,8 +1,8 @@
 -- What the rule says of the pages that a pass holds exclusively: where they stand, what is known of them, and that no other view says a thing of them.
-use Rattle.vm_step.proofs.Prelude.{any, any-true, ap, at_set, Bool, caller-here, cases_Bool, cases_lt, core_shown, false, false_from_ne_true}
+use Rattle.vm_step.proofs.Prelude.{any, any-true, ap, at_set, Bool, caller-here, cases_Bool, cases_lt, core_shown, false, false_from_ne_true, held_at}
 use Rattle.vm_step.proofs.Prelude.{false≢true, get_elem?, has, is_owed, is_pending, Kept, le-ltb, List, Mapping, may_call, no_held, None, Option}
 use Rattle.vm_step.proofs.Prelude.{Origin, outside_page, Page, pages_from, put_at, refl, Ruled, seat_of, slice_set, Some, some, some-injective, spent}
-use Rattle.vm_step.proofs.Prelude.{Start, Stored, sym, Table, true, true≢false, View, ℕ, ⊎_elim, ◌<◌, ◌∙◌, ◌≡◌, ◌≢◌, ◌≤◌}
+use Rattle.vm_step.proofs.Prelude.{IsOwned, Start, Stored, sym, Table, true, true≢false, View, ℕ, ⊎_elim, ◌<◌, ◌∙◌, ◌≡◌, ◌≢◌, ◌≤◌}
 
 module _ {X B : Type 0} (stored : B → Stored) (keeps : Start → Kept X → Type 0) (tied : Start → ℕ → List ℕ → ℕ → List ℕ → Type 0) (start : Origin) (tells : Bool) (s : Table (Option B) (View X)) (r : Ruled stored keeps tied start tells s) (id : ℕ) (v : View X) (there : get_elem? s.views id ≡ some v) (live : v.live ≡ true) where
   -- past the last page stands a page that is always the same
@@ -21,6 +21,10 @@ module _ {X B : Type 0} (stored : B → Stored) (keeps : Start → Kept X → Ty
   -- and so of a page that it holds exclusively
   pub stands-known : (p : ℕ) (m : Mapping) → (seat_of v p).exclusive ≡ true → (put_at no_held v.held p).mapping ≡ Some m → (p < start.pages) × (((core_shown stored start s).pages p).trans ≡ Some m)
   stands-known p m owns at = stands-called p m (rw owns refl) at
+
+  -- the owner word of the frame that such a page stands in is the one that the pass knows
+  pub owner-known : (p word : ℕ) → may_call (seat_of v p) ≡ true → (held_at v p).owner ≡ word → IsOwned (core_shown stored start s) p word
+  owner-known p word calls is m at = let k = r.known id v there live in sym (k.owners p m calls (((k.knows p).calls calls).0 ∙ at)) ∙ is
 
   -- where a view says so only of a page that it holds exclusively, and some view says it of this page, it is the pass's
   pub holder-says : (f : View X → Bool) (p : ℕ) → p < start.pages → (seat_of v p).exclusive ≡ true → f spent ≡ false

@@ -46,6 +46,7 @@ pub use Rattle.vm_rule.specs.Prelude.{entries_of, entries_under, Entry, entry_of
 pub use Rattle.vm_rule.specs.Prelude.{frame_read_by, frames_held, giver, GiveTold, HandTold, has, has_lock, HasShape, hearer, Hears, held_at, HoldsNoPage}
 pub use Rattle.vm_rule.specs.Prelude.{HoldsNothing, home, HomeTold, index_of, InstallTold, is_owed, is_pending, IsFoundAt, IsHeldAt, IsLocking, IsOlder}
 pub use Rattle.vm_rule.specs.Prelude.{IsSince, IsSinceAll, IsUnheld, IsWhole, IsWritten, joined, JoinTold, Kept, kept_of, known, KnowsLists, KnowsPage}
+pub use Rattle.vm_core.specs.Prelude.{IsOwned}
 pub use Rattle.vm_rule.specs.Prelude.{KnowsOwner, KnowsOwners}
 pub use Rattle.vm_rule.specs.Prelude.{KnowsPages, last_in, last_of, Leaves, left_at, loads_at, loads_of, LoadTold, locked_view, LockTold, LockValidates}
 pub use Rattle.vm_rule.specs.Prelude.{LookTold, Mapping, MarkTold, may_call, MayBring, MayPutInto, MayRaiseLock, Me, newcomer, next_after, next_view}
@@ -105,7 +106,7 @@ pub use Rattle.vm_step.specs.Together.{all_notes, all_used, HasPiece}
 pub use Rattle.vm_step.specs.steps.Block.{empty_play, lift_play, return_play, slot_play}
 pub use Rattle.vm_step.specs.steps.Bundle.{BloadIsItsEvent, GiveIsItsEvent, IsMaskOf, TakeIsItsEvent}
 pub use Rattle.vm_step.specs.steps.Content.{FillIsItsEvent, LoadIsItsEvent, StoreIsItsEvent}
-pub use Rattle.vm_step.specs.steps.Owner.{DisownIsItsEvent, IsOwnerEvent, OloadIsItsEvent, OwnerLoadTold, OwnerTold, OwnIsItsEvent}
+pub use Rattle.vm_step.specs.steps.Owner.{DisownIsItsEvent, IsOwnerEvent, OloadIsItsEvent, OwnerLoadTold, OwnerTold, OwnIsItsEvent, owned_view}
 pub use Rattle.vm_step.specs.steps.Release.{DowngradeIsItsEvent, IsLater, ReleaseEvictedIsItsEvent, ReleaseIsItsEvent}
 unfoldable pub use Rattle.vm_core.specs.Prelude.{at, count_more, frame_in, hand_more, in_mask, is_dirty, state_of, sum_below, upd, version_of, word_of}
 unfoldable pub use Rattle.vm_rule.specs.Prelude.{block_of, chosen, frames_in, histories_of, listed, logical, numbers, pages_from}

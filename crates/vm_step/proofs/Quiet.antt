@@ -7,7 +7,7 @@ use Rattle.vm_step.proofs.Prelude.{Bool, chosen, core_shown, Did, draft-is, draf
 use Rattle.vm_step.proofs.Prelude.{Held, histories_of, inl, is_owed, is_pending, Kept, kept_of, KnowsPage, KnowsPages, last-same, Legal, List, listed}
 use Rattle.vm_step.proofs.Prelude.{logical, may_call, no_held, Option, Origin, Out, Put, put_at, refl, replicate, Ruled, seat_of, Shows, slice_set}
 use Rattle.vm_step.proofs.Prelude.{Some, some, Start, State, Stored, subst, sym, Table, Tie, TieHolds, Translation, TranslationHolds, true}
-use Rattle.vm_step.proofs.Prelude.{true≢false, View, World, world_after, world_of, ℕ, ◌++◌, ◌<◌, ◌∙◌, ◌∷◌, ◌≡◌, ◌≤◌, ◌⊎◌}
+use Rattle.vm_step.proofs.Prelude.{KnowsOwners, true≢false, View, World, world_after, world_of, ℕ, ◌++◌, ◌<◌, ◌∙◌, ◌∷◌, ◌≡◌, ◌≤◌, ◌⊎◌}
 
 -- ---- what follows of any such step
 

@@ -5,16 +5,17 @@ use Rattle.vm_rule.specs.declared.view.Place.TheVariants as places
 use Rattle.vm_step.specs.Prelude.{Release as Released}
 use Rattle.vm_step.proofs.Prelude.{[], actor_of, after_step, ap, append-none, arith, at-bound, bare-state, bare-version, became, Bool, cases_eq}
 use Rattle.vm_step.proofs.Prelude.{Change, change_of, changed_pages, changes_of, core_shown, did_store, Downgrade, downgrade-step, downgraded_view}
-use Rattle.vm_step.proofs.Prelude.{draft-is, draft_of, Each, entries_of, Entry, entry_of, eq-eqb, eqb, Event, EVICTED, evicted_view, false}
+use Rattle.vm_step.proofs.Prelude.{draft-is, draft_of, Each, entries_of, Entry, entry_of, eq-eqb, eqb, Event, EVICTED, evicted_view, false, IsOwned}
 use Rattle.vm_step.proofs.Prelude.{false≢true, get_elem?, has, has-both, has-without, has-without_other, has-without_same, histories_of, History}
 use Rattle.vm_step.proofs.Prelude.{if◌then◌else◌, index_of, inl, inr, is_pending, IsClaimed, IsFirst, IsLater, IsMember, IsNotOut, IsSome, IsToldOf}
 use Rattle.vm_step.proofs.Prelude.{Kept, known, KnowsPages, last-is, last_in, last_of, Legal, length, List, locked-here, Mapping, MAX_VERSION}
-use Rattle.vm_step.proofs.Prelude.{may_call, MayDowngrade, MayEvict, MayGiveUp, ne_eqb, next_after, no_held, None, on_page, Option, or_cases}
+use Rattle.vm_step.proofs.Prelude.{held_at, may_call, MayDowngrade, MayEvict, MayGiveUp, ne_eqb, next_after, no_held, None, on_page, Option, or_cases}
 use Rattle.vm_step.proofs.Prelude.{or_right, Origin, Page, put, put_at, refl, release-else, release-here, release-step, release_of, released_view}
 use Rattle.vm_step.proofs.Prelude.{ReleaseE, releasee-step, Ruled, Seat, seat-here, seat_of, seen, slice_set, Some, some, Start, State, state_of}
 use Rattle.vm_step.proofs.Prelude.{Stored, subst, sym, Table, true, true≢false, UNLOCKED, upd, upd-other, upd-same, Version, version_of, View, width}
 use Rattle.vm_step.proofs.Prelude.{without, without-none, word-state, word-version, word_of, World, world_after, world_of, wrote, ℕ, ⊎_elim, ◌++◌}
 use Rattle.vm_step.proofs.Prelude.{◌+◌, ◌<◌, ◌||◌, ◌∙◌, ◌∷◌, ◌≡◌, ◌≢◌, ◌≤◌, ◌⊎◌}
+use Rattle.vm_step.proofs.Mine.{owner-known}
 use Rattle.vm_step.proofs.steps.CatchUp.{found-below, written-below}
 
 -- p is no member any more; the other members still are, and those of `rest` come to them
@@ -97,6 +98,20 @@ StandsFor Evicts m = m ≡ None
 StandsFor Unlocks m = IsSome m
 StandsFor Shares m = IsSome m
 
+-- what its frame's owner word must be: a page that is left in its frame is named
+abbrev pub OwnedFor : Way → ℕ → ℕ → Type 0
+OwnedFor Evicts p word = Unit {0}
+OwnedFor _ p word = word ≡ p + 1
+
+-- so it is in a state where the word is this one
+abbrev NamedFor : Way → State → ℕ → Type 0
+NamedFor Evicts c p = Unit {0}
+NamedFor _ c p = IsOwned c p (p + 1)
+
+named-for : (way : Way) (c : State) (p word : ℕ) → IsOwned c p word → OwnedFor way p word → NamedFor way c p
+named-for Evicts c p word is owned = tt
+named-for _ c p word is owned = subst (IsOwned c p) owned is
+
 -- the state that is left, and the word, at this version; and what the pass has of the page then
 abbrev pub state_left : Way → ℕ
 state_left Evicts = EVICTED
@@ -150,9 +165,9 @@ left-core Evicts w a p = refl
 left-core _ w a p = refl
 
 pub left-legal : (way : Way) (c : State) (a p : ℕ) → a < c.shape.actors → p < c.shape.pages → ((c.pages p).seats a).exclusive ≡ true → StandsFor way (c.pages p).trans → (c.pages p).fault ≡ (c.pages p).count
-    → Legal c (event_left way a p)
-left-legal Evicts c a p actor page owns stands told = (record { actor = actor; page = page }, record { owns = owns; empty = stands; told = told })
-left-legal _ c a p actor page owns stands told = (record { actor = actor; page = page }, record { owns = owns; resident = stands; told = told })
+    → NamedFor way c p → Legal c (event_left way a p)
+left-legal Evicts c a p actor page owns stands told named = (record { actor = actor; page = page }, record { owns = owns; empty = stands; told = told })
+left-legal _ c a p actor page owns stands told named = (record { actor = actor; page = page }, record { owns = owns; resident = stands; told = told }, named)
 
 -- the view after it, of a page that is alone, first of a group, or a later member
 abbrev pub left_view : {X : Type 0} → Way → ℕ → List ℕ → Option X → View X → View X
@@ -186,6 +201,7 @@ pub record Releasing {X B : Type 0} (stored : B → Stored) (keeps : Start → K
   pub way : Way
   pub owns : (seat_of v p).exclusive ≡ true
   pub stands : StandsFor way (put_at no_held v.held p).mapping
+  pub owned : OwnedFor way p (held_at v p).owner
   pub told : IsToldOf v p
   pub home : IsNotOut v p
   pub at_last : version ≡ (last_of v p).version
@@ -308,6 +324,8 @@ module _ {X B : Type 0} {stored : B → Stored} {keeps : Start → Kept X → Ty
       (ap (λ (y : Seat). y.exclusive) (seat-here stored start rel.s rel.id rel.p rel.v rel.inside rel.there) ∙ rel.owns)
       (subst (StandsFor rel.way) ((mine.knows rel.p).calls calls-p).0 rel.stands)
       (sym ((mine.knows rel.p).calls calls-p).1 ∙ rel.told ∙ ((mine.knows rel.p).calls calls-p).3)
+      (named-for rel.way old.core rel.p (held_at rel.v rel.p).owner
+      (owner-known stored keeps tied start tells rel.s rel.r rel.id rel.v rel.there rel.live rel.p (held_at rel.v rel.p).owner calls-p refl) rel.owned)
 
   -- the group
   pub members-are : Members rel.p rel.rest rel.v.pending inner.pending
@@ -375,11 +393,11 @@ module _ {X B : Type 0} {stored : B → Stored} {keeps : Start → Kept X → Ty
     -- a release as Unlocked, and one as Evicted
     abbrev pub giving-up : (rest : List ℕ) (said : Option X) → p < start.pages → version < MAX_VERSION → MayGiveUp may_release p version rest said v → Releasing stored keeps tied start tells may_release
     giving-up rest said inside below g =
-        record { s = s; r = r; id = id; v = v; there = there; live = live; p = p; version = version; rest = rest; said = said; inside = inside; below = below; way = Unlocks; owns = g.owns; stands = g.resident; told = g.told; home = g.home; at_last = g.at; group = g.group }
+        record { s = s; r = r; id = id; v = v; there = there; live = live; p = p; version = version; rest = rest; said = said; inside = inside; below = below; way = Unlocks; owns = g.owns; stands = g.resident; owned = g.owned; told = g.told; home = g.home; at_last = g.at; group = g.group }
 
     abbrev pub downgrading : p < start.pages → version < MAX_VERSION → MayDowngrade may_release v p version → Releasing stored keeps tied start tells may_release
     downgrading inside below g =
-        record { s = s; r = r; id = id; v = v; there = there; live = live; p = p; version = version; rest = []; said = None; inside = inside; below = below; way = Shares; owns = g.owns; stands = g.resident; told = g.told; home = g.home; at_last = g.at; group = inl g.first }
+        record { s = s; r = r; id = id; v = v; there = there; live = live; p = p; version = version; rest = []; said = None; inside = inside; below = below; way = Shares; owns = g.owns; stands = g.resident; owned = g.owned; told = g.told; home = g.home; at_last = g.at; group = inl g.first }
 
     abbrev pub evicting : p < start.pages → version < MAX_VERSION → MayEvict v p version → Releasing stored keeps tied start tells may_release
     evicting inside below g =
@@ -390,4 +408,4 @@ module _ {X B : Type 0} {stored : B → Stored} {keeps : Start → Kept X → Ty
           few = omega arith;
           owner = λ t. inl (refl, (evicted-same inside g t, g.paid, tt));
         } in
-        record { s = s; r = r; id = id; v = v; there = there; live = live; p = p; version = version; rest = []; said = None; inside = inside; below = below; way = Evicts; owns = g.owns; stands = g.empty; told = g.told; home = g.home; at_last = g.at; group = inl group }
+        record { s = s; r = r; id = id; v = v; there = there; live = live; p = p; version = version; rest = []; said = None; inside = inside; below = below; way = Evicts; owns = g.owns; stands = g.empty; owned = tt; told = g.told; home = g.home; at_last = g.at; group = inl group }

@@ -17,7 +17,7 @@ use Rattle.vm_step.proofs.Prelude.{out_at, out_of, out_or, out_view, Page, Put, 
 use Rattle.vm_step.proofs.Prelude.{seats-still, seats_of, shared-here, ShiftTold, ShowsMore, slice_index, slice_set, slot_of, SlotTold, Some, some}
 use Rattle.vm_step.proofs.Prelude.{some-injective, some-is, some-same, Start, State, steps_more, Stored, subst, suc, sym, Table, table_words, true}
 use Rattle.vm_step.proofs.Prelude.{true≢false, upd, upd-is, upd-other, upd-same, Version, View, words_held, World, world_of, zero, ℕ, ⊎_elim, ◌<◌}
-use Rattle.vm_step.proofs.Prelude.{◌||◌, ◌∙◌, ◌∷◌, ◌≡◌, ◌≢◌, ◌≤◌}
+use Rattle.vm_step.proofs.Prelude.{each-upd, KnowsOwner, KnowsOwners, ◌||◌, ◌∙◌, ◌∷◌, ◌≡◌, ◌≢◌, ◌≤◌}
 
 -- an element in range, by its function
 pub get-at : {A : Type 0} (d : A) (l : List A) (i : ℕ) (a : A) → i < length l → at d l i ≡ a → get_elem? l i ≡ some a

@@ -5,7 +5,7 @@
 use Rattle.vm_rule.specs.declared.view.Place.TheVariants as places
 use Rattle.vm_step.proofs.{Evidenced.taken-view, Fit.either-lives, Fit.fit, Here.last, Here.world, Quiet.ShowsQuiet, Standing.allows}
 use Rattle.vm_step.proofs.Exchange.{exchange-event, free-member, free-unheld, held-at, IsExchange, known-held, lockx-exchange, opened, owner-shows}
-use Rattle.vm_step.proofs.Exchange.{page_held, tried, tried-validates}
+use Rattle.vm_step.proofs.Exchange.{known-owner, page_held, tried, tried-validates}
 use Rattle.vm_step.proofs.Prelude.{[], AllowsStep, ap, arith, Bool, Brings, Did, did_exchange, draft_of, each-map, either, eqb, get_elem?, Held}
 use Rattle.vm_step.proofs.Prelude.{held_at, if◌then◌else◌, IsHeldAt, IsPlacedAt, Kept, last_of, LeavesRest, length, List, LOCKED, locked, locked_view}
 use Rattle.vm_step.proofs.Prelude.{LockExclusiveIsItsEvent, LockTold, LockX, MayLock, nat_tests, no_held, no_seat, None, Option, Origin, Page}
@@ -69,7 +69,7 @@ module _ {X B : Type 0} (stored : B → Stored) (keeps : Start → Kept X → Ty
           since = k.1.since;
           older = k.1.older;
           size = k.1.size;
-          stands = λ hit. subst (λ (y : Version). IsHeldAt expects v.start.frames v.start.tells y.words held) (sym k.1.last) (held-at stored keeps tied start tells s r id v there p l (free hit) (none hit) live expects hit);
+          stands = λ hit. subst (λ (y : Version). IsHeldAt p expects v.start.frames v.start.tells y.words held) (sym k.1.last) (held-at stored keeps tied start tells s r id v there p l (free hit) (none hit) live expects hit);
           free = λ hit. free-member stored keeps tied start tells s r id v there p l (free hit);
           unheld = λ hit. free-unheld stored keeps tied start tells s r id v there p l (free hit) (none hit) live;
           clean = λ hit stays. each-map (TranslationHolds pages) _

@@ -7,20 +7,20 @@
 use Rattle.vm_core.specs.declared.event.Seen.TheVariants as sights
 use Rattle.vm_rule.specs.declared.view.Place.TheVariants as places
 use Rattle.vm_rule.proofs.Facts.{has-left}
-use Rattle.vm_step.proofs.{Fit.fit, Here.frame-inside, Leaves.works-one, Mine.stands-called, Quiet.held-shows, Standing.allows, Written.spelled-now}
+use Rattle.vm_step.proofs.{Fit.fit, Here.frame-inside, Leaves.works-one, Mine.owner-known, Mine.stands-called, Quiet.held-shows, Standing.allows, Written.spelled-now}
 use Rattle.vm_step.proofs.{Written.stands-there}
 use Rattle.vm_step.proofs.Prelude.{[], actor_of, after_step, AllowsStep, ap, arith, at-bound, became, Bool, Brings, cases_eq, Clean, clean-step}
 use Rattle.vm_step.proofs.Prelude.{clean_in, clean_view, CleanTold, Clear, clear-step, cleared_view, ClearTold, core_shown, Did, did_store, Dirty}
 use Rattle.vm_step.proofs.Prelude.{dirty-step, dirty_in, dirty_view, DirtyTold, each-upd2, either-way, eq-eqb, Event, false, false_from_ne_true}
 use Rattle.vm_step.proofs.Prelude.{frame_in, gains, get_elem?, has, has-without, HasShape, Held, held-here, held_at, if◌then◌else◌, index_of, inr}
 use Rattle.vm_step.proofs.Prelude.{Install, install-step, installed_view, InstallTold, is_dirty, is_pending, IsEvent, IsFit, IsPassOf, IsPlacedAt}
-use Rattle.vm_step.proofs.Prelude.{IsSome, IsWritten, Kept, KnowsPage, KnowsPages, Legal, length, length-set, List, LOCKED, mapped, Mapping}
+use Rattle.vm_step.proofs.Prelude.{each-upd, IsSome, IsWritten, Kept, KnowsPage, KnowsPages, Legal, length, length-set, List, LOCKED, mapped, Mapping}
 use Rattle.vm_step.proofs.Prelude.{mapping-clean, mapping-dirty, mapping-none, mapping_at, mapping_of, may_call, MayPutInto, nat_lt, nat_tests}
 use Rattle.vm_step.proofs.Prelude.{ne_eqb, no_held, None, Option, or_right, Origin, Page, Put, put, put_at, refl, Ruled, Seat, seat-here, seat_of}
 use Rattle.vm_step.proofs.Prelude.{Shape, shared-here, Shows, slice_set, Some, some, some-same, Stands, stands-nowhere, stands_in, StandsClean}
 use Rattle.vm_step.proofs.Prelude.{StandsIn, Start, State, steps, Stored, subst, sym, Table, table_after, told_of, trans_word, translation-here, true}
 use Rattle.vm_step.proofs.Prelude.{true≢false, upd, upd-other, upd-same, Version, View, with_dirty, without, Works, World, world_after, world_of, ℕ}
-use Rattle.vm_step.proofs.Prelude.{⊎_elim, ◌%◌, ◌+◌, ◌-◌, ◌<◌, ◌==◌, ◌^◌, ◌||◌, ◌∙◌, ◌∷◌, ◌≡◌, ◌≢◌, ◌≤◌}
+use Rattle.vm_step.proofs.Prelude.{KnowsOwner, KnowsOwners, none-some, ⊎_elim, ◌%◌, ◌+◌, ◌-◌, ◌<◌, ◌==◌, ◌^◌, ◌||◌, ◌∙◌, ◌∷◌, ◌≡◌, ◌≢◌, ◌≤◌}
 use Rattle.vm_step.proofs.steps.Leaving.{apart, LeavesOthers, others-tied}
 
 -- the word of a page's translation says it
@@ -42,6 +42,10 @@ named-small false low f dirty was test e =
 frame-small : (word f : ℕ) (was : Bool) → mapping_of word ≡ Some (record { frame = f; dirty = was }) → f < 2 ^ 32
 unfolding frame_in
 frame-small word f was e = named-small (word % 2 ^ 63 == 0 || nat_lt (2 ^ 32) (word % 2 ^ 63)) (word % 2 ^ 63) f (is_dirty word) was refl e
+
+-- a word that names no page is 0
+named-none : (word : ℕ) → ((q : ℕ) → word ≡ q + 1 → ⊥) → word ≡ 0
+named-none word none = ⊎_elim (λ e. e) (λ ne. absurd (none (word - 1) (omega (arith, ne)))) (cases_eq word 0)
 
 -- the page stands in this frame
 abbrev in_frame : ℕ → Bool → Option Mapping
@@ -120,14 +124,18 @@ module _ {X B : Type 0} (stored : B → Stored) (keeps : Start → Kept X → Ty
             };
           }
 
+      -- a frame of the pass is no page's, so its owner word names none
+      unowned : core.owners f ≡ 0
+      unowned = named-none (core.owners f) (λ q e. true≢false (sym (r.inv.owners.named f q e) ∙ stands-nowhere old f id q r.inv (held-here stored start s id f v there ∙ may.holds)))
+
       pub install-shows : p < start.pages → f < start.frames → f < 2 ^ 32
-          → Shows stored keeps tied start tells s r id v (words_with (Some (clean_in f))) r.drafts [] [] (did_store (places.Translation p) (trans_word (Some (clean_in f)))) (installed_view p f (core.owners f) v) (Install id p f)
+          → Shows stored keeps tied start tells s r id v (words_with (Some (clean_in f))) r.drafts [] [] (did_store (places.Translation p) (trans_word (Some (clean_in f)))) (installed_view p f v) (Install id p f)
       install-shows l lf small =
           let t : Option Mapping = Some (clean_in f) in
-          let inner : View X = installed_view p f (core.owners f) v in
-          mapping-shows l t (core.owners f) (without f v.frames) v.contents (Install id p f) (fits f false small) (install-legal l lf)
+          let inner : View X = installed_view p f v in
+          mapping-shows l t 0 (without f v.frames) v.contents (Install id p f) (fits f false small) (install-legal l lf)
           (install-step stored start s r.releases r.drafts id v (view_then t inner) p f (trans_word t) r.wide.0 l there refl refl refl (fits f false small) (λ h. has-left f h v.frames))
-          refl refl refl (λ m _ at. ap (λ (y : Mapping). core.owners y.frame) (some-same (clean_in f) m at))
+          refl refl refl (λ m _ at. sym unowned ∙ ap (λ (y : Mapping). core.owners y.frame) (some-same (clean_in f) m at))
           (λ g x. known.contents g (has-without f g v.frames x))
 
     -- ---- a clean page is taken out of its frame
@@ -140,6 +148,7 @@ module _ {X B : Type 0} (stored : B → Stored) (keeps : Start → Kept X → Ty
       clear-legal = (
         record { actor = at-bound s.views id v there; page = clear-known.0 },
         (f, record { owns = ap (λ (y : Seat). y.exclusive) (seat-here stored start s id p v clear-known.0 there) ∙ stands.owns; stands = clear-known.1 }),
+        owner-known stored keeps tied start tells s r id v there live p 0 (rw stands.owns refl) stands.disowned,
       )
 
       -- the frames held, with the one that comes
@@ -274,11 +283,11 @@ module _ {X B : Type 0} (stored : B → Stored) (keeps : Start → Kept X → Ty
   install-allows f l lf small may spells =
       mapping-allows (Some (clean_in f)) (InstallTold p f) spells (λ w t. fit t.brings live)
       (λ start has s r there. record {
-        inner = installed_view p f ((core_shown stored start s).owners f) v;
+        inner = installed_view p f v;
         event = Install id p f;
         actor = refl;
         shows = install-shows stored keeps tied start tells s r id v p there live f may (subst (λ n. p < n) (sym has.pages) l) (subst (λ n. f < n) (sym has.frames) lf) small;
-        tells_it = λ b. record { owner = _; brings = b };
+        tells_it = λ b. record { brings = b };
       })
 
   pub clear-allows : (f : ℕ) → StandsClean v p f → x ≡ trans_word None → AllowsStep (Stands stored keeps tied shape tells) slots id v i (λ _. x) (told_of shape tells (λ _ v w. (g : ℕ) → StandsClean v p g → ClearTold p g v w))
@@ -371,7 +380,7 @@ module _ {X : Type 0} {p f : ℕ} {v w : View X} (t : InstallTold p f v w) where
   pub install-works : Works p (install-did ∷ []) v w
   install-works = works-one p install-did None v _ _ v.contents v.out v.notes w (λ q ne. upd-other (put_at no_held v.held) p _ q ne) t.brings
 
-  pub install-held : held_at w p ≡ record (held_at v p) { mapping = Some (clean_in f); owner = t.owner }
+  pub install-held : held_at w p ≡ record (held_at v p) { mapping = Some (clean_in f); owner = 0 }
   install-held = ap (λ (x : View X). held_at x p) t.brings.view ∙ upd-same (put_at no_held v.held) p _
 
   pub install-frames : w.frames ≡ without f v.frames

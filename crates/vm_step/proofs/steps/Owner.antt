@@ -3,12 +3,13 @@ use Rattle.vm_core.specs.FrameActs.{frame_of}
 use Rattle.vm_core.specs.declared.event.Seen.TheVariants as sights
 use Rattle.vm_rule.specs.declared.view.Place.TheVariants as places
 use Rattle.vm_step.proofs.{Fit.fit, Here.frame-inside, Mine.stands-called, Quiet.held-shows, Standing.allows, Standing.allows-load, Written.word-left}
-use Rattle.vm_step.proofs.Prelude.{[], actor_of, after_step, AllowsStep, ap, at-bound, Bool, core-still, core_shown, Did, did_store, Disown}
+use Rattle.vm_core.proofs.OwnerWords.{word-elsewhere, word-written}
+use Rattle.vm_step.proofs.Prelude.{[], actor_of, after_step, AllowsStep, ap, at-bound, Bool, core-still, core_shown, Did, did_store, Disown, each-upd}
 use Rattle.vm_step.proofs.Prelude.{DisownIsItsEvent, Event, get_elem?, index_of, IsOwnerEvent, IsPlacedAt, IsSome, Kept, KnowsPage, Legal, length}
 use Rattle.vm_step.proofs.Prelude.{List, MayOwn, no_held, OLoad, OloadIsItsEvent, Option, Origin, Own, owned, owner-here, owner-step, OwnerLoadTold}
 use Rattle.vm_step.proofs.Prelude.{OwnerTold, OwnIsItsEvent, put_at, refl, rested, Ruled, Seat, seat-here, seat_of, seen, Shape, Shows, slice_set}
-use Rattle.vm_step.proofs.Prelude.{Some, some, Stands, StandsIn, Start, State, steps, Stored, subst, sym, Table, told_of, true, View, World}
-use Rattle.vm_step.proofs.Prelude.{world_after, world_of, ℕ, ◌+◌, ◌<◌, ◌∙◌, ◌≡◌}
+use Rattle.vm_step.proofs.Prelude.{Held, Some, some, Stands, StandsIn, Start, State, steps, Stored, subst, sym, Table, told_of, true, View, World}
+use Rattle.vm_step.proofs.Prelude.{held_at, KnowsOwner, KnowsOwners, owned_view, upd-same, world_after, world_of, ℕ, ◌+◌, ◌<◌, ◌∙◌, ◌≡◌}
 
 module _ {X B : Type 0} (stored : B → Stored) (keeps : Start → Kept X → Type 0) (tied : Start → ℕ → List ℕ → ℕ → List ℕ → Type 0) (start : Origin) (tells : Bool) (s : Table (Option B) (View X)) (r : Ruled stored keeps tied start tells s)
     (id : ℕ) (v : View X) (there : get_elem? s.views id ≡ some v) (live : v.live ≡ true) where

@@ -11,7 +11,7 @@ use Rattle.vm_step.proofs.Prelude.{length, List, listed, lt-ltb, MAX_COUNT, may_
 use Rattle.vm_step.proofs.Prelude.{put, put_at, Raise, raise-step, raised, raised_view, RaiseTold, refl, Ruled, seat_of, Shape, slice_set, some}
 use Rattle.vm_step.proofs.Prelude.{Stands, Start, steps_more, Stored, subst, suc, sym, Table, times_noted, told_of, total, total-set, true, upd}
 use Rattle.vm_step.proofs.Prelude.{upd-other, upd-same, View, Works, World, world_after, world_of, ℕ, ⊎_elim, ◌++◌, ◌+◌, ◌<◌, ◌∙◌, ◌∷◌, ◌≡◌, ◌≢◌, ◌≤◌}
-use Rattle.vm_step.proofs.Prelude.{◌⊎◌}
+use Rattle.vm_step.proofs.Prelude.{each-upd, KnowsOwner, ◌⊎◌}
 
 -- ---- notes
 

@@ -26,7 +26,7 @@ use Rattle.vm_step.proofs.Prelude.{View, without, without-none, word_of, World, 
 use Rattle.vm_step.proofs.Releasing.{calls-p, changes-each, changes-pages, claimed, downgraded-is, downgrading, draft-known, each-has, entries-one}
 use Rattle.vm_step.proofs.Releasing.{event, evicted-is, evicted-same, evicting, frames-are, giving-up, history-else, inner, last-here, last-known}
 use Rattle.vm_step.proofs.Releasing.{left, left-actor, left-exclusive, left-sees, left-step, member-is, member-page, Members, members-are, mine, new}
-use Rattle.vm_step.proofs.Releasing.{next-is, next-kept, next-version, old, own, page-else, page-here, release-legal, released-state}
+use Rattle.vm_step.proofs.Releasing.{next-is, next-kept, next-version, old, own, owners-are, page-else, page-here, release-legal, released-state}
 use Rattle.vm_step.proofs.Releasing.{released-version, releases, Releasing, seat-else, seat-p, seat_left, state_left, still-owns, unwritten, Way}
 use Rattle.vm_step.proofs.Releasing.{word, words, world-is}
 use Rattle.vm_step.proofs.steps.Leaving.{apart, LeavesOthers, LeavesOwn, others-tied, own-from, rest-of}

@@ -6,7 +6,7 @@ use Rattle.vm_core.specs.declared.event.Seen.TheVariants as sights
 use Rattle.vm_rule.specs.declared.view.Place.TheVariants as places
 use Rattle.vm_step.proofs.{Evidenced.taken-view, Fit.either-lives, Fit.fit, Quiet.quiet-shows, Quiet.ShowsQuiet, Standing.allows, Written.word-left}
 use Rattle.vm_step.proofs.Exchange.{draft-stays, exchange-event, IsExchange, locks-exchange, names, page_held, seat-shows, sharer-shows, tried}
-use Rattle.vm_step.proofs.Exchange.{tried-validates}
+use Rattle.vm_step.proofs.Exchange.{knows-owner, owner_at, tried-validates}
 use Rattle.vm_step.proofs.Here.{frame-inside, version-told, world}
 use Rattle.vm_step.proofs.Prelude.{[], after_step, AllowsStep, ap, arith, became, block-here, Bool, Brings, Did, did_change, did_exchange, either}
 use Rattle.vm_step.proofs.Prelude.{eqb, EVICTED, false, frame_of, get_elem?, has_lock, Held, if◌then◌else◌, inl, inr, IsLocking, IsPlacedAt, IsSome}
@@ -17,7 +17,7 @@ use Rattle.vm_step.proofs.Prelude.{Ruled, Seat, seat-here, seat_of, Shape, share
 use Rattle.vm_step.proofs.Prelude.{some, some-same, Stands, Start, state-here, state_of, steps, Stored, subst, sym, Table, told_of, true, UnlockS}
 use Rattle.vm_step.proofs.Prelude.{unlocks-step, UnlockSharedIsItsEvent, unshared, unshared_view, UnshareTold, upd-keeps, upd-other, upd-same}
 use Rattle.vm_step.proofs.Prelude.{version-here, version_of, View, word-here, word_of, World, ℕ, ⊎_elim, ◌%◌, ◌+◌, ◌-◌, ◌<◌, ◌^◌, ◌||◌, ◌∙◌, ◌∷◌, ◌≡◌}
-use Rattle.vm_step.proofs.Prelude.{◌≢◌, ◌≤◌, ◌⊎◌}
+use Rattle.vm_step.proofs.Prelude.{KnowsOwner, ◌≢◌, ◌≤◌, ◌⊎◌}
 use Rattle.vm_step.proofs.steps.Leaving.{apart, knows-still, last-still, LeavesOthers, LeavesOwn, others-tied, own-from, rest-of}
 
 -- a word that may be shared is of a page that is neither locked nor evicted

@@ -5,7 +5,7 @@
 use Rattle.vm_rule.specs.declared.view.Place.TheVariants as places
 use Rattle.vm_step.proofs.{Evidenced.taken-view, Fit.either-lives, Fit.fit, Here.last, Here.world, Quiet.ShowsQuiet, Standing.allows}
 use Rattle.vm_step.proofs.Exchange.{exchange-event, free-debt, free-member, free-unheld, held-at, IsExchange, known-held, lockw-exchange, opened}
-use Rattle.vm_step.proofs.Exchange.{owner-shows, page_held, sharer-shows, tried, tried-validates, upgrade-exchange}
+use Rattle.vm_step.proofs.Exchange.{known-owner, owner-shows, page_held, sharer-shows, tried, tried-validates, upgrade-exchange}
 use Rattle.vm_step.proofs.Prelude.{[], AllowsStep, ap, arith, Bool, Brings, Did, did_exchange, draft_of, either, eqb, false, get_elem?, Held, held_at}
 use Rattle.vm_step.proofs.Prelude.{if◌then◌else◌, IsHeldAt, IsLocking, IsPlacedAt, Kept, last_of, LeavesRest, length, List, LOCKED, LockW}
 use Rattle.vm_step.proofs.Prelude.{LockWriteBackIsItsEvent, MARKED, MayRaiseLock, no_held, no_seat, None, Option, or_right, Origin, Page, page_at}
@@ -80,7 +80,7 @@ module _ {X B : Type 0} (stored : B → Stored) (keeps : Start → Kept X → Ty
           since = k.1.since;
           older = k.1.older;
           size = k.1.size;
-          stands = λ hit. subst (λ (y : Version). IsHeldAt expects v.start.frames v.start.tells y.words held) (sym k.1.last) (held-at stored keeps tied start tells s r id v there p l (free hit) (ap share_count (found-state hit)) live expects hit);
+          stands = λ hit. subst (λ (y : Version). IsHeldAt p expects v.start.frames v.start.tells y.words held) (sym k.1.last) (held-at stored keeps tied start tells s r id v there p l (free hit) (ap share_count (found-state hit)) live expects hit);
           free = λ hit. free-member stored keeps tied start tells s r id v there p l (free hit);
           unheld = λ hit. free-unheld stored keeps tied start tells s r id v there p l (free hit) (ap share_count (found-state hit)) live;
           validates = λ t hit. tried-validates stored keeps tied start tells s r id v there live number p expects (word_of 1 (version_of expects)) l law _ k.0 k.1 (free hit) t hit;

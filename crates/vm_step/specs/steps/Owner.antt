@@ -3,7 +3,7 @@
 use Rattle.std.specs.Prelude.{[], ◌+◌, Bool, List, Option, slice_set, ℕ}
 use Rattle.vm_core.specs.declared.event.Event.TheVariants.{Disown, OLoad, Own}
 use Rattle.vm_core.specs.declared.event.Seen.TheVariants as sights
-use Rattle.vm_rule.specs.Prelude.{Brings, did_load, did_store, Event, index_of, Kept, StandsIn, Start, Stored, Table}
+use Rattle.vm_rule.specs.Prelude.{Brings, did_load, did_store, Event, held_at, index_of, Kept, put, StandsIn, Start, Stored, Table}
 use Rattle.vm_rule.specs.declared.view.Place.TheVariants as places
 use Rattle.vm_step.specs.Prelude.{IsEvent, IsPassOf, Origin, table_after, View}
 use Rattle.vm_step.specs.Events.{FindsAt}

@@ -46,6 +46,7 @@ module _ {X : Type 0} where
       (v : View X) : Type 0 where
     pub owns : (seat_of v p).exclusive ≡ true
     pub resident : IsSome (put_at no_held v.held p).mapping
+    pub owned : (held_at v p).owner ≡ p + 1
     pub told : IsToldOf v p
     pub home : IsNotOut v p
     pub at : version ≡ (last_of v p).version
@@ -55,6 +56,7 @@ module _ {X : Type 0} where
   pub record MayDowngrade (may_release : Start → List ℕ → List Change → List (Entry X) → Type 0) (v : View X) (p version : ℕ) : Type 0 where
     pub owns : (seat_of v p).exclusive ≡ true
     pub resident : IsSome (held_at v p).mapping
+    pub owned : (held_at v p).owner ≡ p + 1
     pub told : IsToldOf v p
     pub home : IsNotOut v p
     pub at : version ≡ (last_of v p).version
