@@ -61,7 +61,7 @@ module _ {X : Type 0} where
     unheld : IsUnheld f.between p
     unheld = f.lock.unheld refl
 
-    stands : IsHeldAt expects f.between.start.frames f.between.start.tells words f.lock.held
+    stands : IsHeldAt p expects f.between.start.frames f.between.start.tells words f.lock.held
     stands = f.lock.stands refl
 
     gone : state_of expects ≡ EVICTED
@@ -299,11 +299,11 @@ page-within start p l (places.Fault q) e = subst (λ (n : ℕ). n < start.pages)
 page-within start p l _ e = absurd e
 
 pub both-within : (start : Origin) (p f : ℕ) → p < start.pages → f < start.frames → (at : Place) → IsOfBoth p f at → Within start at
-both-within start p f l k at o = ⊎_elim (λ e. page-within start p l at e) (λ c. subst (Within start) (sym c.2) (k, c.1)) o
+both-within start p f l k at o = ⊎_elim (λ e. page-within start p l at e) (λ c. ⊎_elim (λ (e : at ≡ places.Owner f). subst (Within start) (sym e) k) (λ w. subst (Within start) (sym w.2) (k, w.1)) c) o
 
 stores-at : (p f i : ℕ) (xs : List ℕ) → i + length xs ≤ 64 → Each (λ (d : Did). IsOfBoth p f d.at) (stores-did f i xs)
 stores-at p f i [] l = tt
-stores-at p f i (x ∷ xs) l = (inr (i, omega (arith, l), refl), stores-at p f (i + 1) xs (omega (arith, l)))
+stores-at p f i (x ∷ xs) l = (inr (inr (i, omega (arith, l), refl)), stores-at p f (i + 1) xs (omega (arith, l)))
 
 -- neither the stores into a frame nor the steps on the page's state word move the block
 stores-home : (p f i : ℕ) (xs : List ℕ) → StaysHome p (stores-did f i xs)
@@ -321,27 +321,27 @@ module _ (p : ℕ) (before : List Did) (steps : Each (λ (d : Did). d.at ≡ pla
   read-once : (done later : List Did) → done ≡ before ++ (calls ++ later) → StaysHome p later → ReadsOnce p done
   read-once done later cut home = (record { earlier = before; out = (a, b); between = []; home = (c, d); later = later; cut = cut; none = (state-home p before steps, tt, home) }, refl)
 
-  -- the block was read, its words stored, the frame put into the page, and the page released with this word
-  module _ (f trans word : ℕ) (page : List ℕ) (long : length page ≡ 64) where
+  -- the block was read, its words stored, the page put into the frame and named as its owner, and released with this word
+  module _ (f trans owner word : ℕ) (page : List ℕ) (long : length page ≡ 64) where
     abbrev brought-did : List Did
-    brought-did = (before ++ ((calls ++ stores-did f 0 page) ++ did_store (places.Translation p) trans ∷ [])) ++ did_store (places.State p) word ∷ []
+    brought-did = (before ++ ((calls ++ stores-did f 0 page) ++ did_store (places.Translation p) trans ∷ did_store (places.Owner f) owner ∷ [])) ++ did_store (places.State p) word ∷ []
 
     pub brought-at : Each (λ (d : Did). IsOfBoth p f d.at) brought-did
     brought-at =
         let P : Did → Type 0 = λ d. IsOfBoth p f d.at in
-        let install : List Did = did_store (places.Translation p) trans ∷ [] in
+        let install : List Did = did_store (places.Translation p) trans ∷ did_store (places.Owner f) owner ∷ [] in
         let end : List Did = did_store (places.State p) word ∷ [] in
         let filled : List Did = calls ++ stores-did f 0 page in
         each-both P (before ++ (filled ++ install)) end
         (each-both P before (filled ++ install) (each-map _ P (λ (d : Did) e. inl (subst (IsOfPage p) (sym e) refl)) before steps)
-        (each-both P filled install (each-both P calls (stores-did f 0 page) (inl refl, (inl refl, (inl refl, (inl refl, tt)))) (stores-at p f 0 page (omega (arith, long)))) (inl refl, tt)))
+        (each-both P filled install (each-both P calls (stores-did f 0 page) (inl refl, (inl refl, (inl refl, (inl refl, tt)))) (stores-at p f 0 page (omega (arith, long)))) (inl refl, (inr (inl refl), tt))))
         (inl refl, tt)
 
     pub brought-once : ReadsOnce p brought-did
     brought-once =
-        let install : List Did = did_store (places.Translation p) trans ∷ [] in
+        let install : List Did = did_store (places.Translation p) trans ∷ did_store (places.Owner f) owner ∷ [] in
         let end : List Did = did_store (places.State p) word ∷ [] in
-        let home = home-both p (stores-did f 0 page ++ install) end (home-both p (stores-did f 0 page) install (stores-home p f 0 page) ((λ _. refl), tt)) ((λ _. refl), tt) in
+        let home = home-both p (stores-did f 0 page ++ install) end (home-both p (stores-did f 0 page) install (stores-home p f 0 page) ((λ _. refl), ((λ _. refl), tt))) ((λ _. refl), tt) in
         read-once brought-did ((stores-did f 0 page ++ install) ++ end) (append_assoc before ((calls ++ stores-did f 0 page) ++ install) end) home
 
   -- the read failed: the fault word was raised, and the page released with this word

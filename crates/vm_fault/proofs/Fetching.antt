@@ -3,6 +3,9 @@ use Rattle.vm_core.specs.Fn as fns
 use Rattle.vm_rule.specs.declared.view.Place.TheVariants as places
 use Rattle.vm_fault.proofs.Ending.{both-within, brought-at, brought-once, EndsAs, evicted-ends, failed-at, failed-once, IsHeldEmpty, page-within}
 use Rattle.vm_fault.proofs.Ending.{still-draft, still-free, still-last, still-owns, still-paid, unlocked-ends}
+use Rattle.vm_step.specs.steps.Owner.{OwnerTold}
+use Rattle.vm_step.proofs.steps.Owner.{settle-did, settle-frames, settle-held, settle-notes, settle-out, settle-works, stands-installed}
+use Rattle.vm_rule.specs.Prelude.{StandsIn}
 use Rattle.vm_fault.proofs.Prelude.{[], all-stored, ap, arith, Bool, call-did, called, Change, clean_in, count_more, counts-one, Did, did_store, Each}
 use Rattle.vm_fault.proofs.Prelude.{Entry, Err, EVICTED, EvictTold, false, filled, fills, Fills, goes-out, has, HasWritten, Held, held_at, HomeTold}
 use Rattle.vm_fault.proofs.Prelude.{if◌then◌else◌, inl, install-held, install-works, InstallTold, is_ok, IsBrought, IsFailed, IsNotOut, IsOfBoth}
@@ -11,6 +14,7 @@ use Rattle.vm_fault.proofs.Prelude.{MayTakeOut, Moves, no_held, None, none-some,
 use Rattle.vm_fault.proofs.Prelude.{put_at, raise-held, raise-works, RaiseTold, Reads, refl, ReleaseTold, Result, rules, Seat, seat_of, slice_index}
 use Rattle.vm_fault.proofs.Prelude.{Some, Start, Stored, Stores, stores-did, subst, sym, trans_word, true, two-loads, UNLOCKED, Version, View}
 use Rattle.vm_fault.proofs.Prelude.{without, word_of, Works, works-then, written-behind, written-front, ℕ, ◌++◌, ◌+◌, ◌<◌, ◌∙◌, ◌∷◌, ◌≡◌, ◌≤◌}
+use Rattle.vm_fault.proofs.Prelude.{append_assoc}
 
 module _ {X : Type 0} (p version : ℕ) (words : List ℕ) (before : List Did) (v x : View X) (h : IsHeldEmpty p version words before v x) where
   -- the block may be taken out
@@ -92,21 +96,21 @@ module _ {X : Type 0} (p version : ℕ) (words : List ℕ) (before : List Did) (
             filled f page d e (long u ok) s ∙ given u ok told ∙ sym (same u ok told) ∙ ap (λ (y : Held). y.block.words) (sym held-filled);
       }
 
-      module _ (i : View X) (t : InstallTold p f e i) where
-        abbrev install-did : Did
-        install-did = did_store (places.Translation p) (trans_word (Some (clean_in f)))
+      pub may-own : (i : View X) → InstallTold p f e i → StandsIn i p f
+      may-own i t = stands-installed may-put.owns t
 
+      module _ (j : View X) (t : InstallTold p f e j) (i : View X) (named : OwnerTold p f (p + 1) j i) where
         abbrev worked-did : List Did
-        worked-did = filled-did ++ install-did ∷ []
+        worked-did = filled-did ++ settle-did t named
 
         work-installed : Works p worked-did x i
-        work-installed = works-then p filled-did (install-did ∷ []) x e i work-filled (install-works t)
+        work-installed = works-then p filled-did (settle-did t named) x e i work-filled (settle-works t named)
 
-        held-installed : held_at i p ≡ record held-called { mapping = Some (clean_in f); owner = t.owner }
-        held-installed = install-held t ∙ ap (λ (y : Held). record y { mapping = Some (clean_in f); owner = t.owner }) held-filled
+        held-installed : held_at i p ≡ record held-called { mapping = Some (clean_in f); owner = p + 1 }
+        held-installed = settle-held t named ∙ ap (λ (y : Held). record y { mapping = Some (clean_in f); owner = p + 1 }) held-filled
 
         out-installed : i.out ≡ None
-        out-installed = ap (λ (y : View X). y.out) t.brings.view ∙ filled-as.out ∙ moved.away
+        out-installed = settle-out t named ∙ filled-as.out ∙ moved.away
 
         -- the page's words are those that it had, and it is owed to nobody
         pub may-give_up : (may_release : Start → List ℕ → List Change → List (Entry X) → Type 0) → p < x.start.pages → MayGiveUp may_release p version [] None i
@@ -118,6 +122,7 @@ module _ {X : Type 0} (p version : ℕ) (words : List ℕ) (before : List Did) (
             record {
               owns = owns;
               resident = subst (λ (y : Held). IsSome y.mapping) (sym held-installed) refl;
+              owned = ap (λ (y : Held). y.owner) held-installed;
               told = subst (λ (y : Held). y.fault ≡ y.block.count) (sym held-installed) (h.told ∙ sym o.slot.block.count ∙ sym (count-same u ok));
               home = not-out i out-installed;
               at = ap (λ (y : Version). y.version) (sym last);
@@ -137,7 +142,7 @@ module _ {X : Type 0} (p version : ℕ) (words : List ℕ) (before : List Did) (
           ends = unlocked-ends p version words before worked-did v x i h work-installed below w r
 
           steps-are : Each (λ (d : Did). IsOfBoth p f d.at) ((before ++ worked-did) ++ end-did ∷ [])
-          steps-are = brought-at p before h.steps o.first o.second m.first m.second f (trans_word (Some (clean_in f))) (version + 1) page (long u ok)
+          steps-are = brought-at p before h.steps o.first o.second m.first m.second f (trans_word (Some (clean_in f))) (p + 1) (version + 1) page (long u ok)
 
           pub brought : IsBrought p f v w
           brought = record {
@@ -147,26 +152,30 @@ module _ {X : Type 0} (p version : ℕ) (words : List ℕ) (before : List Did) (
             words = words;
             released = ends.released;
             steps = steps-are;
-            block = brought-once p before h.steps o.first o.second m.first m.second f (trans_word (Some (clean_in f))) (version + 1) page (long u ok);
+            block = brought-once p before h.steps o.first o.second m.first m.second f (trans_word (Some (clean_in f))) (p + 1) (version + 1) page (long u ok);
             alone = ends.runs;
             table = ends.knows (IsOfBoth p f)
                 (both-within v.start p f (subst (λ (y : Origin). p < y.pages) h.leaves.start inside) (subst (λ (y : Origin). f < y.frames) h.leaves.start frame)) steps-are;
             mapped =
                 written-front (before ++ worked-did) (end-did ∷ []) (places.Translation p) (trans_word (Some (clean_in f)))
                 (written-behind before worked-did (places.Translation p) (trans_word (Some (clean_in f)))
-                record { earlier = filled-did; step = install-did; later = []; cut = refl; place = refl; wrote = refl });
+                record { earlier = filled-did; step = did_store (places.Translation p) (trans_word (Some (clean_in f))); later = did_store (places.Owner f) (p + 1) ∷ []; cut = refl; place = refl; wrote = refl });
+            owned =
+                written-front (before ++ worked-did) (end-did ∷ []) (places.Owner f) (p + 1)
+                (written-behind before worked-did (places.Owner f) (p + 1)
+                record { earlier = filled-did ++ did_store (places.Translation p) (trans_word (Some (clean_in f))) ∷ []; step = did_store (places.Owner f) (p + 1); later = []; cut = sym (append_assoc filled-did (did_store (places.Translation p) (trans_word (Some (clean_in f))) ∷ []) (did_store (places.Owner f) (p + 1) ∷ [])); place = refl; wrote = refl });
             stored = λ tells k l.
                 let told : x.start.tells ≡ true = ap (λ (y : Origin). y.tells) h.leaves.start ∙ tells in
                 subst (λ (ws : List ℕ). HasWritten ((before ++ worked-did) ++ end-did ∷ []) (places.Content f k) (slice_index ws k)) (given u ok told ∙ had-words told)
                 (written-front (before ++ worked-did) (end-did ∷ []) (places.Content f k) (slice_index page k)
                 (written-behind before worked-did (places.Content f k) (slice_index page k)
-                (written-front filled-did (install-did ∷ []) (places.Content f k) (slice_index page k)
+                (written-front filled-did (settle-did t named) (places.Content f k) (slice_index page k)
                 (written-behind called-did (stores-did f 0 page) (places.Content f k) (slice_index page k) (all-stored f page k (long u ok) l)))));
             frames =
                 ap (λ (y : View X). y.frames) r.brings.view
-                ∙ ap (λ (y : View X). y.frames) t.brings.view
+                ∙ settle-frames t named
                 ∙ ap (without f) (filled-as.frames ∙ moved.keeps.frames ∙ h.keeps.frames);
-            notes = ap (λ (y : View X). y.notes) r.brings.view ∙ ap (λ (y : View X). y.notes) t.brings.view ∙ filled-as.notes ∙ moved.keeps.notes ∙ h.keeps.notes;
+            notes = ap (λ (y : View X). y.notes) r.brings.view ∙ settle-notes t named ∙ filled-as.notes ∙ moved.keeps.notes ∙ h.keeps.notes;
           }
 
     -- ---- the read failed

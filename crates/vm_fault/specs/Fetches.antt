@@ -31,9 +31,9 @@ pub record IsLostTo (done : List Did) (p : ℕ) (saw : Saw) : Type 0 where
   pub lost : IsLost step (places.State p) saw.first saw.seen
   pub first : state_of saw.first ≡ EVICTED
 
--- a place of page p, or one of frame f
+-- a place of page p, or one of frame f: its owner word, or one of its words
 abbrev pub IsOfBoth : ℕ → ℕ → Place → Type 0
-IsOfBoth p f at = IsOfPage p at ⊎ ((i : ℕ) × (i < WORDS) × (at ≡ places.Content f i))
+IsOfBoth p f at = IsOfPage p at ⊎ ((at ≡ places.Owner f) ⊎ ((i : ℕ) × (i < WORDS) × (at ≡ places.Content f i)))
 
 -- the block of page p went out once and came home once, with no step between: so its device was called once at most
 abbrev pub ReadsOnce : ℕ → List Did → Type 0
@@ -68,7 +68,7 @@ module _ {X : Type 0} where
     pub same : last_in v.start (v.releases ++ between) p ≡ record { version = version; words = words }
     pub last : last_of w p ≡ record { version = version + 1; words = words }
 
-  -- page p is resident in frame f, which is the pass's no more; where blocks tell, all words of the frame were stored, the page's last ones
+  -- page p is resident in frame f, which is the pass's no more, and whose owner word names the page; where blocks tell, all words of the frame were stored, the page's last ones
   pub record IsBrought (p f : ℕ) (v w : View X) : Type 0 where
     pub done : List Did
     pub aside : IsAside p done v w
@@ -81,6 +81,7 @@ module _ {X : Type 0} where
     pub alone : RunsAlone done (record { page = p; version = version + 1; words = words } ∷ []) v w
     pub table : IsAlone v → KnowsReleased (IsOfBoth p f) UNLOCKED p version v w
     pub mapped : HasWritten done (places.Translation p) (trans_word (Some (clean_in f)))
+    pub owned : HasWritten done (places.Owner f) (p + 1)
     pub stored : v.start.tells ≡ true → (i : ℕ) → i < WORDS → HasWritten done (places.Content f i) (slice_index words i)
     pub frames : w.frames ≡ without f v.frames
     pub notes : w.notes ≡ v.notes

@@ -11,7 +11,7 @@ use vm_owner::Owner;
 use vm_page::PageBuf;
 use vm_rule::words::{Pass, Words};
 use vm_step::{
-    At, Saw, Took, block_home, block_out, fill, install, lock_exclusive, look_silently, raise,
+    At, Saw, Took, block_home, block_out, fill, install, lock_exclusive, look_silently, own, raise,
     release_evicted, release_silently,
 };
 
@@ -69,6 +69,7 @@ fn bring_locked<U: Owner, B: Block>(
         Ok(()) => {
             fill(words, pass, frame, &page);
             install(words, pass, pid, frame);
+            own(words, pass, pid, frame);
             release_silently(words, pass, pid, version);
             Fetch::Brought
         }

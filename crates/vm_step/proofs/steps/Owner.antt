@@ -1,15 +1,18 @@
 -- The steps on a frame's owner word: they change nothing of what a pass knows or holds; that the table allows them, and that they are their events.
-use Rattle.vm_core.specs.FrameActs.{frame_of}
+use Rattle.vm_core.specs.FrameActs.{frame_of, trans_word}
 use Rattle.vm_core.specs.declared.event.Seen.TheVariants as sights
 use Rattle.vm_rule.specs.declared.view.Place.TheVariants as places
 use Rattle.vm_step.proofs.{Fit.fit, Here.frame-inside, Mine.stands-called, Quiet.held-shows, Standing.allows, Standing.allows-load, Written.word-left}
 use Rattle.vm_core.proofs.OwnerWords.{word-elsewhere, word-written}
+use Rattle.vm_step.proofs.Leaves.{works-one, works-then}
+use Rattle.vm_step.proofs.steps.Mapping.{install-frames, install-held, install-works}
 use Rattle.vm_step.proofs.Prelude.{[], actor_of, after_step, AllowsStep, ap, at-bound, Bool, core-still, core_shown, Did, did_store, Disown, each-upd}
 use Rattle.vm_step.proofs.Prelude.{DisownIsItsEvent, Event, get_elem?, index_of, IsOwnerEvent, IsPlacedAt, IsSome, Kept, KnowsPage, Legal, length}
 use Rattle.vm_step.proofs.Prelude.{List, MayOwn, no_held, OLoad, OloadIsItsEvent, Option, Origin, Own, owned, owner-here, owner-step, OwnerLoadTold}
 use Rattle.vm_step.proofs.Prelude.{OwnerTold, OwnIsItsEvent, put_at, refl, rested, Ruled, Seat, seat-here, seat_of, seen, Shape, Shows, slice_set}
 use Rattle.vm_step.proofs.Prelude.{Held, Some, some, Stands, StandsIn, Start, State, steps, Stored, subst, sym, Table, told_of, true, View, World}
-use Rattle.vm_step.proofs.Prelude.{held_at, KnowsOwner, KnowsOwners, owned_view, upd-same, world_after, world_of, ℕ, ◌+◌, ◌<◌, ◌∙◌, ◌≡◌}
+use Rattle.vm_step.proofs.Prelude.{held_at, InstallTold, KnowsOwner, KnowsOwners, owned_view, upd-same, world_after, world_of, ℕ, ◌+◌, ◌<◌, ◌∙◌, ◌≡◌}
+use Rattle.vm_step.proofs.Prelude.{clean_in, false, None, upd-other, without, Works, ◌∷◌}
 
 module _ {X B : Type 0} (stored : B → Stored) (keeps : Start → Kept X → Type 0) (tied : Start → ℕ → List ℕ → ℕ → List ℕ → Type 0) (start : Origin) (tells : Bool) (s : Table (Option B) (View X)) (r : Ruled stored keeps tied start tells s)
     (id : ℕ) (v : View X) (there : get_elem? s.views id ≡ some v) (live : v.live ≡ true) where
@@ -114,3 +117,40 @@ module _ {X B : Type 0} (stored : B → Stored) (keeps : Start → Kept X → Ty
         core = core-still stored start s id v w pass.there (ap (λ (y : View X). y.out) view) (ap (λ (y : View X). y.frames) view) (ap (λ (y : View X). y.seats) view);
         sees = ap sights.Word (owner-here stored start s f at.0 ∙ sym at.1);
       }
+
+-- ---- what the steps leave
+
+module _ {X : Type 0} {p f word : ℕ} {v w : View X} (t : OwnerTold p f word v w) where
+  pub owner-works : Works p (did_store (places.Owner f) word ∷ []) v w
+  owner-works = works-one p (did_store (places.Owner f) word) None v _ v.frames v.contents v.out v.notes w (λ q ne. upd-other (put_at no_held v.held) p _ q ne) t.brings
+
+  pub owner-held : held_at w p ≡ record (held_at v p) { owner = word }
+  owner-held = ap (λ (x : View X). held_at x p) t.brings.view ∙ upd-same (put_at no_held v.held) p _
+
+-- a page is put into a frame of the pass, and owns it then
+module _ {X : Type 0} {p f : ℕ} {v i w : View X} (t : InstallTold p f v i) (o : OwnerTold p f (p + 1) i w) where
+  abbrev pub settle-did : List Did
+  settle-did = did_store (places.Translation p) (trans_word (Some (clean_in f))) ∷ did_store (places.Owner f) (p + 1) ∷ []
+
+  pub settle-works : Works p settle-did v w
+  settle-works = works-then p (did_store (places.Translation p) (trans_word (Some (clean_in f))) ∷ []) (did_store (places.Owner f) (p + 1) ∷ []) v i w (install-works t) (owner-works o)
+
+  pub settle-held : held_at w p ≡ record (held_at v p) { mapping = Some (clean_in f); owner = p + 1 }
+  settle-held = owner-held o ∙ ap (λ (h : Held). record h { owner = p + 1 }) (install-held t)
+
+  pub settle-frames : w.frames ≡ without f v.frames
+  settle-frames = ap (λ (x : View X). x.frames) o.brings.view ∙ install-frames t
+
+  pub settle-out : w.out ≡ v.out
+  settle-out = ap (λ (x : View X). x.out) o.brings.view ∙ ap (λ (x : View X). x.out) t.brings.view
+
+  pub settle-notes : w.notes ≡ v.notes
+  settle-notes = ap (λ (x : View X). x.notes) o.brings.view ∙ ap (λ (x : View X). x.notes) t.brings.view
+
+-- a page stands in the frame that it is to own
+pub stands-installed : {X : Type 0} {p f : ℕ} {v i : View X} → (seat_of v p).exclusive ≡ true → InstallTold p f v i → StandsIn i p f
+stands-installed {X} {p} {f} {v} {i} owns t = record {
+  owns = ap (λ (x : View X). (seat_of x p).exclusive) t.brings.view ∙ owns;
+  dirty = false;
+  stands = ap (λ (h : Held). h.mapping) (install-held t);
+}

@@ -1,5 +1,5 @@
 use Rattle.vm_fault.proofs.Ending.{held-empty}
-use Rattle.vm_fault.proofs.Fetching.{brought, failed, frames-called, may-evict, may-give_up, may-put, may-raise, may-take-out, work-called}
+use Rattle.vm_fault.proofs.Fetching.{brought, failed, frames-called, may-evict, may-give_up, may-own, may-put, may-raise, may-take-out, work-called}
 use Rattle.vm_fault.proofs.Fetching.{work-raised}
 use Rattle.vm_fault.proofs.Prelude.{ap, arith, goes-out, has, MAX_VERSION, may-bring, Origin, ready-after, ready-on, refl, Seat, subst, sym, View, ℕ}
 use Rattle.vm_fault.proofs.Prelude.{◌<◌, ◌∙◌, ◌≤◌}
@@ -33,9 +33,13 @@ pub install-requires-clause-legal : goal.install-requires-clause-legal
 install-requires-clause-legal g c =
     may-put _ _ _ _ _ _ (held-empty g.U.Owner.tied c.args.pid c.args.version c.requires.locked.0 _ (within _ c.requires.below) c.requires.locked.1) _ _ _ _ c.block_out-block.ensures.told g.B.Block.tells c.requires.ready.table.tells_is c.read-read.new.into c.read-read.result c.read-read.ensures c.block_home.ensures.told _ c.in-Ok.is c.args.frame c.requires.frame.1 _ c.fill.ensures.stores
 
+pub own-requires-clause-legal : goal.own-requires-clause-legal
+own-requires-clause-legal g c =
+    may-own _ _ _ _ _ _ (held-empty g.U.Owner.tied c.args.pid c.args.version c.requires.locked.0 _ (within _ c.requires.below) c.requires.locked.1) _ _ _ _ c.block_out-block.ensures.told g.B.Block.tells c.requires.ready.table.tells_is c.read-read.new.into c.read-read.result c.read-read.ensures c.block_home.ensures.told _ c.in-Ok.is c.args.frame c.requires.frame.1 _ c.fill.ensures.stores _ c.install.ensures.told
+
 pub release_silently-requires-clause-legal : goal.release_silently-requires-clause-legal
 release_silently-requires-clause-legal g c =
-    may-give_up _ _ _ _ _ _ (held-empty g.U.Owner.tied c.args.pid c.args.version c.requires.locked.0 _ (within _ c.requires.below) c.requires.locked.1) _ _ _ _ c.block_out-block.ensures.told g.B.Block.tells c.requires.ready.table.tells_is c.read-read.new.into c.read-read.result c.read-read.ensures c.block_home.ensures.told _ c.in-Ok.is c.args.frame c.requires.frame.1 _ c.fill.ensures.stores _ c.install.ensures.told g.U.Owner.may_release (subst (λ n. c.args.pid < n) (sym c.requires.ready.table.is_shape.pages) c.requires.page)
+    may-give_up _ _ _ _ _ _ (held-empty g.U.Owner.tied c.args.pid c.args.version c.requires.locked.0 _ (within _ c.requires.below) c.requires.locked.1) _ _ _ _ c.block_out-block.ensures.told g.B.Block.tells c.requires.ready.table.tells_is c.read-read.new.into c.read-read.result c.read-read.ensures c.block_home.ensures.told _ c.in-Ok.is c.args.frame c.requires.frame.1 _ c.fill.ensures.stores _ c.install.ensures.told _ c.own.ensures.told g.U.Owner.may_release (subst (λ n. c.args.pid < n) (sym c.requires.ready.table.is_shape.pages) c.requires.page)
 
 pub raise-requires-clause-pass : goal.raise-requires-clause-pass
 raise-requires-clause-pass g c =
@@ -55,7 +59,7 @@ release_evicted-requires-clause-legal g c =
 
 pub returns-in-Ok-clause-fetched : goal.returns-in-Ok-clause-fetched
 returns-in-Ok-clause-fetched g c first found =
-    brought _ _ _ _ _ _ (held-empty g.U.Owner.tied c.args.pid c.args.version first _ (within _ c.requires.below) found) _ _ _ _ c.block_out-block.ensures.told g.B.Block.tells c.requires.ready.table.tells_is c.read-read.new.into c.read-read.result c.read-read.ensures c.block_home.ensures.told _ c.in-Ok.is c.args.frame c.requires.frame.1 _ c.fill.ensures.stores _ c.install.ensures.told c.requires.below c.requires.home _ c.release_silently.ensures.told (subst (λ n. c.args.pid < n) (sym c.requires.ready.table.is_shape.pages) c.requires.page) (subst (λ n. c.args.frame < n) (sym c.requires.ready.table.is_shape.frames) c.requires.frame.0)
+    brought _ _ _ _ _ _ (held-empty g.U.Owner.tied c.args.pid c.args.version first _ (within _ c.requires.below) found) _ _ _ _ c.block_out-block.ensures.told g.B.Block.tells c.requires.ready.table.tells_is c.read-read.new.into c.read-read.result c.read-read.ensures c.block_home.ensures.told _ c.in-Ok.is c.args.frame c.requires.frame.1 _ c.fill.ensures.stores _ c.install.ensures.told _ c.own.ensures.told c.requires.below c.requires.home _ c.release_silently.ensures.told (subst (λ n. c.args.pid < n) (sym c.requires.ready.table.is_shape.pages) c.requires.page) (subst (λ n. c.args.frame < n) (sym c.requires.ready.table.is_shape.frames) c.requires.frame.0)
 
 pub returns-in-Err-clause-ready : goal.returns-in-Err-clause-ready
 returns-in-Err-clause-ready g c =
