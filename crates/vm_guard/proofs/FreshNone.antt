@@ -145,6 +145,7 @@ module _ {X : Type 0} where
         owns = ap (λ (x : Seat). x.exclusive) (f.seats p none) ∙ s.owns;
         mapping = ap (λ (h : Held). h.mapping) k.held ∙ s.mapping;
         inside = λ m e. subst (λ (o : Origin). m.frame < o.frames) (sym f.start) (s.inside m e);
+        owned = λ m e. ap (λ (h : Held). h.owner) k.held ∙ s.owned m e;
         told = ap (λ (h : Held). h.fault) k.held ∙ s.told ∙ ap (λ (h : Held). h.block.count) (sym k.held);
         at = ap (λ (x : Version). x.version) k.last ∙ s.at;
         draft = k.draft ∙ s.draft ∙ ap (λ (x : Version). x.words) (sym k.last);

@@ -3,6 +3,9 @@ use Rattle.vm_rule.specs.declared.view.Place.TheVariants as places
 use Rattle.vm_guard.proofs.{Lockings.seized-holding, OpenReads.each-parts, Seizing.self-has}
 use Rattle.vm_guard.proofs.Amid.{IsSilent, leaves-silent, none-silent, other}
 use Rattle.vm_guard.proofs.Groups.{each-with, lacks, or-none}
+use Rattle.vm_rule.specs.Prelude.{StandsIn}
+use Rattle.vm_step.specs.steps.Owner.{OwnerTold}
+use Rattle.vm_step.proofs.steps.Owner.{settle-did, settle-frames, settle-held, settle-notes, settle-out, settle-works, stands-installed}
 use Rattle.vm_guard.proofs.Prelude.{[], ap, append-none, AreApart, AreHeld, arith, clean_in, contents_at, Did, Each, each-both, each-map, false}
 use Rattle.vm_guard.proofs.Prelude.{false≢true, filled, fills, Fills, FillTold, Furnishes, has, has-both, has-without_other, Held, held_at, inl}
 use Rattle.vm_guard.proofs.Prelude.{install-did, install-frames, install-held, install-works, InstallTold, IsPlaceOf, IsSeized, knows-after}
@@ -84,33 +87,36 @@ module _ {X : Type 0} where
             filled f zeros v u (length-replicate {A = ℕ} 64 0) stores ∙ sym (zero told) ∙ sym (s.device told refl) ∙ ap (λ (h : Held). h.block.words) (sym held-u);
       }
 
-      module _ (w : View X) (t : InstallTold p f u w) where
+      pub may-own : (i : View X) → InstallTold p f u i → StandsIn i p f
+      may-own i t = stands-installed may-install.owns t
+
+      module _ (i : View X) (t : InstallTold p f u i) (w : View X) (named : OwnerTold p f (p + 1) i w) where
         abbrev done : List Did
-        done = stores-did f 0 zeros ++ install-did t ∷ []
+        done = stores-did f 0 zeros ++ settle-did t named
 
         work : Works p done v w
-        work = works-then p (stores-did f 0 zeros) (install-did t ∷ []) v u w filling.works (install-works t)
+        work = works-then p (stores-did f 0 zeros) (settle-did t named) v u w filling.works (settle-works t named)
 
         steps : IsSilent (p ∷ []) done v w
         steps =
             leaves-silent (p ∷ []) p done v w (self-has p) work.leaves
-            (ap (λ (y : View X). y.out) t.brings.view ∙ filling.out) (ap (λ (y : View X). y.notes) t.brings.view ∙ filling.notes) work.alone
-            (each-both (λ (d : Did). IsPlaceOf v.start (p ∷ []) d.at) (stores-did f 0 zeros) (install-did t ∷ []) (stores-places v.start (p ∷ []) f frame-own.0 0 zeros (omega arith)) ((s.page, self-has p), tt))
+            (settle-out t named ∙ filling.out) (settle-notes t named ∙ filling.notes) work.alone
+            (each-both (λ (d : Did). IsPlaceOf v.start (p ∷ []) d.at) (stores-did f 0 zeros) (settle-did t named) (stores-places v.start (p ∷ []) f frame-own.0 0 zeros (omega arith)) ((s.page, self-has p), (frame-own.0, tt)))
 
         -- no step is at a state word
         states-w : KnowsStates v w
         states-w a q l =
             (knows-after done [] v w work.leaves.start work.alone).kept a (places.State q) l
-            (each-both (λ (d : Did). d.at ≡ places.State q → d.wrote ≡ None) (stores-did f 0 zeros) (install-did t ∷ [])
+            (each-both (λ (d : Did). d.at ≡ places.State q → d.wrote ≡ None) (stores-did f 0 zeros) (settle-did t named)
             (each-map (λ (d : Did). IsPlaceOf v.start [] d.at) (λ (d : Did). d.at ≡ places.State q → d.wrote ≡ None) (λ (d : Did) is at. absurd (false≢true (subst (IsPlaceOf v.start []) at is).1)) (stores-did f 0 zeros) (stores-places v.start [] f frame-own.0 0 zeros (omega arith)))
-            ((λ e. absurd (let no : places.Translation p ≡ places.State q = e in cc)), tt))
+            ((λ e. absurd (let no : places.Translation p ≡ places.State q = e in cc)), ((λ e. absurd (let no : places.Owner f ≡ places.State q = e in cc)), tt)))
 
         pub furnish-empty : Furnishes p f version false before after v w
         furnish-empty =
             let apart = apart-front after f (subst AreApart cut own.apart) in
-            let held-w : held_at w p ≡ record (held_at v p) { mapping = Some (clean_in f); owner = t.owner } = install-held t ∙ ap (λ (h : Held). record h { mapping = Some (clean_in f); owner = t.owner }) held-u in
+            let held-w : held_at w p ≡ record (held_at v p) { mapping = Some (clean_in f); owner = p + 1 } = settle-held t named ∙ ap (λ (h : Held). record h { mapping = Some (clean_in f); owner = p + 1 }) held-u in
             let last-w : last_of w p ≡ last_of v p = work.last (inl s.owns) in
-            let frames-w : w.frames ≡ without f v.frames = install-frames t ∙ ap (without f) filling.frames in
+            let frames-w : w.frames ≡ without f v.frames = settle-frames t named ∙ ap (without f) filling.frames in
             record {
               done = done;
               amid = steps.0;
@@ -122,6 +128,7 @@ module _ {X : Type 0} where
                 below = s.below;
                 owns = ap (λ (k : Seat). k.exclusive) work.seat ∙ s.owns;
                 stands = ap (λ (h : Held). h.mapping) held-w;
+                owned = ap (λ (h : Held). h.owner) held-w;
                 told = ap (λ (h : Held). h.fault) held-w ∙ s.told ∙ ap (λ (h : Held). h.block.count) (sym held-w);
                 at = ap (λ (y : Version). y.version) last-w ∙ s.at;
                 size = ap (λ (l : List ℕ). length l) work.draft ∙ ap length s.draft ∙ s.size;
@@ -138,7 +145,7 @@ module _ {X : Type 0} where
                 inside = subst (λ (o : Origin). Each (λ g. g < o.frames) after) (sym work.leaves.start) inside.0;
                 held = each-map _ _ (λ g k. ap (has g) frames-w ∙ has-without_other f g v.frames k.0 ∙ k.1) after (each-with _ _ after apart.1 held.0);
               };
-              contents = λ g none. ap (λ (y : View X). contents_at y g) t.brings.view ∙ stores-elsewhere f 0 zeros v u stores g (other f g (f ∷ []) (self-has f) none);
+              contents = λ g none. ap (λ (y : View X). contents_at y g) named.brings.view ∙ ap (λ (y : View X). contents_at y g) t.brings.view ∙ stores-elsewhere f 0 zeros v u stores g (other f g (f ∷ []) (self-has f) none);
               silent = steps.1;
               states = states-w;
             }

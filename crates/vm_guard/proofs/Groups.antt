@@ -73,6 +73,7 @@ module _ {X : Type 0} where
   later-may may_release p version v d = record {
     owns = d.owns;
     resident = d.resident;
+    owned = d.owned;
     told = d.told;
     home = d.home;
     at = d.at;
@@ -83,8 +84,8 @@ module _ {X : Type 0} where
 
   -- what it is to the view after the release of another page
   due-else : (q version p other : ℕ) (rest : List ℕ) (said : Option X) (v w : View X) → ReleaseTold p other rest said v w → q ≢ p
-      → q < v.start.pages → version < MAX_VERSION → (seat_of v q).exclusive ≡ true → IsSome (held_at v q).mapping → IsToldOf v q → IsNotOut v q → version ≡ (last_of v q).version → has q w.pending ≡ true → IsDue q version w
-  due-else q version p other rest said v w t ne page below owns resident told home at pending =
+      → q < v.start.pages → version < MAX_VERSION → (seat_of v q).exclusive ≡ true → IsSome (held_at v q).mapping → (held_at v q).owner ≡ q + 1 → IsToldOf v q → IsNotOut v q → version ≡ (last_of v q).version → has q w.pending ≡ true → IsDue q version w
+  due-else q version p other rest said v w t ne page below owns resident owned told home at pending =
       let e = elsewhere-of (release-others t (λ q. q ≡ p) refl) in
       let k = e.knows q ne (inl owns) in
       record {
@@ -92,6 +93,7 @@ module _ {X : Type 0} where
         below = below;
         owns = (e.holds q ne).exclusive ∙ owns;
         resident = subst (λ (h : Held). IsSome h.mapping) (sym k.held) resident;
+        owned = ap (λ (h : Held). h.owner) k.held ∙ owned;
         told = ap (λ (h : Held). h.fault) k.held ∙ told ∙ ap (λ (h : Held). h.block.count) (sym k.held);
         home = λ o is. home o (sym e.steady.out ∙ is);
         at = at ∙ ap (λ (x : Version). x.version) (sym k.last);
@@ -185,7 +187,7 @@ module _ {X : Type 0} where
       → Each (λ (g : ExclusiveGuard). IsDue g.pid g.version u) gs
   dues-first may_release a gs said v u may t =
       each-map _ _ (λ (h : ExclusiveGuard) m. let k = m.1.0 in
-      due-else h.pid h.version a.pid a.version (pids_of gs) said v u t m.0.0 k.page k.below k.owns (subst (λ (o : Option _). IsSome o) (sym k.stands) refl) k.told m.1.1 (sym k.at)
+      due-else h.pid h.version a.pid a.version (pids_of gs) said v u t m.0.0 k.page k.below k.owns (subst (λ (o : Option _). IsSome o) (sym k.stands) refl) k.owned k.told m.1.1 (sym k.at)
       (ap (λ (y : View X). has h.pid y.pending) t.brings.view ∙ ap (has h.pid) (cond-false (has a.pid v.pending) (without a.pid v.pending) (pids_of gs ++ v.pending) may.held.0.free) ∙ has-left_of h.pid (pids_of gs) v.pending m.0.1)) gs
       (each-with _ _ gs (among a.pid gs may.apart.0) (each-with _ _ gs may.held.1 may.home.1))
 
@@ -193,6 +195,6 @@ module _ {X : Type 0} where
   pub dues-later : (b : ExclusiveGuard) (gs : List ExclusiveGuard) (u w : View X) → has b.pid (pids_of gs) ≡ false → Each (λ (g : ExclusiveGuard). IsDue g.pid g.version u) (b ∷ gs) → ReleaseTold b.pid b.version [] None u w → Each (λ (g : ExclusiveGuard). IsDue g.pid g.version w) gs
   dues-later b gs u w apart dues t =
       each-map _ _ (λ (h : ExclusiveGuard) m. let d = m.1 in
-      due-else h.pid h.version b.pid b.version [] None u w t m.0.0 d.page d.below d.owns d.resident d.told d.home d.at
+      due-else h.pid h.version b.pid b.version [] None u w t m.0.0 d.page d.below d.owns d.resident d.owned d.told d.home d.at
       (ap (λ (y : View X). has h.pid y.pending) t.brings.view ∙ ap (has h.pid) (cond-true (has b.pid u.pending) (without b.pid u.pending) u.pending dues.0.pending) ∙ has-without_other b.pid h.pid u.pending m.0.0 ∙ d.pending)) gs
       (each-with _ _ gs (among b.pid gs apart) dues.1)

@@ -62,13 +62,14 @@ module _ {X : Type 0} where
 
   -- a page that is held stays so, dirty or not, where it stays locked in its frame with the words that it had or as many others
   held-still : {p f version : ℕ} {dirty now : Bool} {v w : View X} → IsHolding p f version dirty v → w.start ≡ v.start → (seat_of w p).exclusive ≡ (seat_of v p).exclusive → (held_at w p).mapping ≡ Some (record { frame = f; dirty = now })
-      → (held_at w p).fault ≡ (held_at v p).fault → (held_at w p).block.count ≡ (held_at v p).block.count → last_of w p ≡ last_of v p → length (draft_of w p) ≡ length (draft_of v p) → w.pending ≡ v.pending → IsHolding p f version now w
-  held-still {p = p} {f = f} h start owns stands fault count last size pending = record {
+      → (held_at w p).owner ≡ (held_at v p).owner → (held_at w p).fault ≡ (held_at v p).fault → (held_at w p).block.count ≡ (held_at v p).block.count → last_of w p ≡ last_of v p → length (draft_of w p) ≡ length (draft_of v p) → w.pending ≡ v.pending → IsHolding p f version now w
+  held-still {p = p} {f = f} h start owns stands owner fault count last size pending = record {
     page = subst (λ (o : Origin). p < o.pages) (sym start) h.page;
     frame_is = subst (λ (o : Origin). f < o.frames) (sym start) h.frame_is;
     below = h.below;
     owns = owns ∙ h.owns;
     stands = stands;
+    owned = owner ∙ h.owned;
     told = fault ∙ h.told ∙ sym count;
     at = ap (λ (y : Version). y.version) last ∙ h.at;
     size = size ∙ h.size;
@@ -78,13 +79,13 @@ module _ {X : Type 0} where
   -- so where what is known of it under its lock does
   pub still-held : {p f version : ℕ} {dirty : Bool} {v w : View X} → IsHolding p f version dirty v → w.start ≡ v.start → (seat_of w p).exclusive ≡ (seat_of v p).exclusive → KnowsAsBefore v w p → w.pending ≡ v.pending → IsHolding p f version dirty w
   still-held h start owns k pending =
-      held-still h start owns (ap (λ (y : Held). y.mapping) k.held ∙ h.stands) (ap (λ (y : Held). y.fault) k.held) (ap (λ (y : Held). y.block.count) k.held) k.last (ap (λ (l : List ℕ). length l) k.draft) pending
+      held-still h start owns (ap (λ (y : Held). y.mapping) k.held ∙ h.stands) (ap (λ (y : Held). y.owner) k.held) (ap (λ (y : Held). y.fault) k.held) (ap (λ (y : Held). y.block.count) k.held) k.last (ap (λ (l : List ℕ). length l) k.draft) pending
 
   -- and where it was made dirty
   holding-on : (p f version : ℕ) (dirty : Bool) (v w : View X) → IsHolding p f version dirty v → w.start ≡ v.start → HoldsPage v w p → put_at no_held w.held p ≡ record (put_at no_held v.held p) { mapping = Some (dirty_in f) }
       → last_of w p ≡ last_of v p → length (draft_of w p) ≡ length (draft_of v p) → w.pending ≡ v.pending → IsHolding p f version true w
   holding-on p f version dirty v w h start holds held last size pending =
-      held-still h start holds.exclusive (ap (λ (y : Held). y.mapping) held) (ap (λ (y : Held). y.fault) held) (ap (λ (y : Held). y.block.count) held) last size pending
+      held-still h start holds.exclusive (ap (λ (y : Held). y.mapping) held) (ap (λ (y : Held). y.owner) held) (ap (λ (y : Held). y.fault) held) (ap (λ (y : Held). y.block.count) held) last size pending
 
   -- a page that is dirty already is left so
   pub was-dirty : (p f version : ℕ) (dirty : Bool) (v : View X) → IsHolding p f version dirty v → dirty ≡ true → IsDirtied p f dirty v v
@@ -168,7 +169,7 @@ module _ {X : Type 0} where
 
   pub first-may : {may_release : Start → List ℕ → List Change → List (Entry X) → Type 0} {p f version : ℕ} {dirty : Bool} {rest : List ℕ} {said : Option X} {v : View X} → IsHolding p f version dirty v → IsNotOut v p
       → IsFirst may_release p rest said v → MayGiveUp may_release p version rest said v
-  first-may h home first = record { owns = h.owns; resident = subst (λ (o : Option Mapping). IsSome o) (sym h.stands) refl; told = h.told; home = home; at = sym h.at; group = inl first }
+  first-may h home first = record { owns = h.owns; resident = subst (λ (o : Option Mapping). IsSome o) (sym h.stands) refl; owned = h.owned; told = h.told; home = home; at = sym h.at; group = inl first }
 
   pub releases : (p f version : ℕ) (dirty : Bool) (said : Option X) (v w : View X) → IsHolding p f version dirty v → ReleaseTold p version [] said v w → IsReleased p version said v w
   releases p f version dirty said v w h t =
@@ -209,6 +210,7 @@ module _ {X : Type 0} where
   may-downgrade may_release p f version dirty v h home claimed owner = record {
     owns = h.owns;
     resident = subst (λ (o : Option _). IsSome o) (sym h.stands) refl;
+    owned = h.owned;
     told = h.told;
     home = home;
     at = sym h.at;

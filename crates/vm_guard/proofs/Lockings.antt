@@ -31,7 +31,7 @@ module _ {X : Type 0} {tied : Start → ℕ → List ℕ → ℕ → List ℕ �
 
 -- a page that was locked where it stands in a frame is held
 pub seized-holding : {X : Type 0} {p version : ℕ} {m : Mapping} {v : View X} → IsSeized p version (Some m) v → IsHolding p m.frame version m.dirty v
-seized-holding {m = m} s = record { page = s.page; frame_is = s.inside m refl; below = s.below; owns = s.owns; stands = s.mapping; told = s.told; at = s.at; size = ap length s.draft ∙ s.size; free = s.free }
+seized-holding {m = m} s = record { page = s.page; frame_is = s.inside m refl; below = s.below; owns = s.owns; stands = s.mapping; owned = s.owned m refl; told = s.told; at = s.at; size = ap length s.draft ∙ s.size; free = s.free }
 
 -- the exchange that locks the page, where it was not lost
 abbrev pub lock-did : ℕ → ℕ → Did
@@ -68,6 +68,9 @@ module _ {X : Type 0} {tied : Start → ℕ → List ℕ → ℕ → List ℕ �
     owns = (tload-holds load p).exclusive ∙ lock-owns t;
     mapping = maps-then;
     inside = λ m e. subst (λ (o : Origin). m.frame < o.frames) (sym (tload-others load (λ q. q ≡ p) refl).start) (load.inside m e);
+    owned = λ m e.
+        let stood : t.held.mapping ≡ Some m = ap (λ (h : Held). h.mapping) (sym held-then) ∙ maps-then ∙ e in
+        ap (λ (h : Held). h.owner) held-then ∙ (t.stands refl).owned (λ gone. none-some m (sym ((t.stands refl).empty gone) ∙ stood));
     told = subst (λ (h : Held). h.fault ≡ h.block.count) (sym held-then) (t.stands refl).told;
     at = ap (λ (y : Version). y.version) lock-known.last ∙ t.version ∙ sym version;
     draft = lock-known.draft ∙ lock-draft refl t ∙ ap (λ (y : Version). y.words) (sym lock-known.last);

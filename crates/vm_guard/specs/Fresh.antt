@@ -51,6 +51,7 @@ module _ {X : Type 0} where
     pub owns : (seat_of v p).exclusive ≡ true
     pub mapping : (held_at v p).mapping ≡ stands
     pub inside : (m : Mapping) → stands ≡ Some m → m.frame < v.start.frames
+    pub owned : (m : Mapping) → stands ≡ Some m → (held_at v p).owner ≡ p + 1
     pub told : IsToldOf v p
     pub at : (last_of v p).version ≡ version
     pub draft : draft_of v p ≡ (last_of v p).words

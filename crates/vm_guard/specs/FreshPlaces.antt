@@ -3,15 +3,16 @@ use Rattle.std.specs.Prelude.{◌<◌, ◌≡◌, List, true, ℕ}
 use Rattle.vm_core.specs.Prelude.{WORDS}
 use Rattle.vm_rule.specs.Prelude.{has}
 use Rattle.vm_rule.specs.declared.view.Place.{Place}
-use Rattle.vm_rule.specs.declared.view.Place.TheVariants.{Content, Next, State, Translation}
+use Rattle.vm_rule.specs.declared.view.Place.TheVariants.{Content, Next, Owner, State, Translation}
 use Rattle.vm_step.specs.Prelude.{IsAlone, KnowsElse, Origin, View}
 
--- A step of a call for these pages is at the state or translation word of one of them, at the next word, or at a word of a frame. So the call
+-- A step of a call for these pages is at the state or translation word of one of them, at the next word, or at a word of a frame or its owner word. So the call
 -- reads no block: a block is moved by steps at a page's fault word.
 abbrev pub IsPlaceOf : Origin → List ℕ → Place → Type 0
 IsPlaceOf start pages (State p) = (p < start.pages) × (has p pages ≡ true)
 IsPlaceOf start pages (Translation p) = (p < start.pages) × (has p pages ≡ true)
 IsPlaceOf start pages (Content f i) = (f < start.frames) × (i < WORDS)
+IsPlaceOf start pages (Owner f) = f < start.frames
 IsPlaceOf start pages Next = Unit {0}
 IsPlaceOf start pages at = ⊥
 

@@ -65,6 +65,7 @@ module _ {X : Type 0} where
     pub below : version < MAX_VERSION
     pub owns : (seat_of v p).exclusive ≡ true
     pub resident : IsSome (held_at v p).mapping
+    pub owned : (held_at v p).owner ≡ p + 1
     pub told : IsToldOf v p
     pub home : IsNotOut v p
     pub at : version ≡ (last_of v p).version

@@ -121,6 +121,7 @@ module _ {X : Type 0} where
     pub below : version < MAX_VERSION
     pub owns : (seat_of v p).exclusive ≡ true
     pub stands : (put_at no_held v.held p).mapping ≡ Some (record { frame = frame; dirty = dirty })
+    pub owned : (put_at no_held v.held p).owner ≡ p + 1
     pub told : (put_at no_held v.held p).fault ≡ (put_at no_held v.held p).block.count
     pub at : (last_of v p).version ≡ version
     pub size : length (draft_of v p) ≡ WORDS

@@ -20,7 +20,7 @@ use vm_owner::Owner;
 use vm_page::{PageBuf, WORDS};
 use vm_rule::words::{Pass, Words};
 use vm_step::{
-    At, Batch, Saw, Took, claim, fill, install, lock_exclusive, look_silently, nload,
+    At, Batch, Saw, Took, claim, fill, install, lock_exclusive, look_silently, nload, own,
     release_evicted, release_silently, tload,
 };
 
@@ -155,6 +155,7 @@ fn furnish<U: Owner, B: Block>(
             };
             fill(words, pass, frame, &PageBuf::zero());
             install(words, pass, pid, frame);
+            own(words, pass, pid, frame);
             ExclusiveGuard {
                 pid,
                 version,

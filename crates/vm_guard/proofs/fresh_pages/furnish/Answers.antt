@@ -1,4 +1,4 @@
-use Rattle.vm_guard.proofs.Furnishing.{furnish-empty, furnish-resident, may-install}
+use Rattle.vm_guard.proofs.Furnishing.{furnish-empty, furnish-resident, may-install, may-own}
 use Rattle.vm_guard.proofs.Prelude.{ap, IsSeized, List, option_to_list, Stores, subst, view, ℕ, ◌++◌, ◌∙◌}
 use Rattle.vm_guard.proofs.fresh_pages.furnish.Goals as goal
 
@@ -9,6 +9,15 @@ install-requires-clause-legal g c =
     (c.pop.ensures.frames ∙ ap (λ o. c.pop.new.self ++ option_to_list o) c.in-Some-pop.is)
     (view c.fill.new.pass)
     (subst (λ (l : List ℕ). Stores c.in-Some-pop.frame 0 l (view c.args.pass.now) (view c.fill.new.pass)) c.zero.ensures c.fill.ensures.stores)
+
+pub own-requires-clause-legal : goal.own-requires-clause-legal
+own-requires-clause-legal g c =
+    may-own c.args.page.pid c.args.page.version c.in-Some-pop.frame c.args.frames.now c.pop.new.self (view c.args.pass.now)
+    (subst (λ o. IsSeized c.args.page.pid c.args.page.version o (view c.args.pass.now)) c.in-None.is c.requires.seized) c.requires.zero c.requires.frames.0
+    (c.pop.ensures.frames ∙ ap (λ o. c.pop.new.self ++ option_to_list o) c.in-Some-pop.is)
+    (view c.fill.new.pass)
+    (subst (λ (l : List ℕ). Stores c.in-Some-pop.frame 0 l (view c.args.pass.now) (view c.fill.new.pass)) c.zero.ensures c.fill.ensures.stores)
+    (view c.install.new.pass) c.install.ensures.told
 
 pub returns-in-Some-clause-furnished : goal.returns-in-Some-clause-furnished
 returns-in-Some-clause-furnished g c =
@@ -22,4 +31,4 @@ returns-in-Some-pop-clause-furnished g c =
     (c.pop.ensures.frames ∙ ap (λ o. c.pop.new.self ++ option_to_list o) c.in-Some-pop.is)
     (view c.fill.new.pass)
     (subst (λ (l : List ℕ). Stores c.in-Some-pop.frame 0 l (view c.args.pass.now) (view c.fill.new.pass)) c.zero.ensures c.fill.ensures.stores)
-    (view c.install.new.pass) c.install.ensures.told
+    (view c.install.new.pass) c.install.ensures.told (view c.own.new.pass) c.own.ensures.told
