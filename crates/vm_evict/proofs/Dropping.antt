@@ -4,10 +4,12 @@ use Rattle.vm_evict.specs.declared.candidate.Phase.TheVariants as phases
 use Rattle.vm_evict.specs.declared.candidate.Stage.TheVariants as stages
 use Rattle.vm_evict.proofs.Evidenced.{locks-front, no-mapping, no-state, none-kept, not-emptied, not-fault, out-front, saved-front}
 use Rattle.vm_evict.proofs.Moving.{come-still}
+use Rattle.vm_step.specs.steps.Owner.{OwnerTold}
+use Rattle.vm_step.proofs.steps.Owner.{owner-held, owner-works}
 use Rattle.vm_evict.proofs.Prelude.{[], Advances, ap, append-none, append_assoc, arith, Bool, clean_in, clear-held, clear-works, ClearTold}
 use Rattle.vm_evict.proofs.Prelude.{contents_at, Did, did_load, did_store, Does, draft_of, Each, each-both, evict-alone, evict-leaves, evict-seat}
 use Rattle.vm_evict.proofs.Prelude.{EVICTED, evicted_view, EvictTold, false, false≢true, frame_in, frame_of, FramesCome, has, HasReleased, Held}
-use Rattle.vm_evict.proofs.Prelude.{held_at, home-both, inl, inr, IsAlone, IsEmptied, IsLocking, IsOwning, IsPageFreed, KnowsStage, last_in, last_of}
+use Rattle.vm_evict.proofs.Prelude.{held_at, home-both, inl, IsAlone, IsEmptied, IsLocking, IsOwning, IsPageFreed, KnowsStage, last_in, last_of}
 use Rattle.vm_evict.proofs.Prelude.{LeavesRest, List, LOCKED, mapping_of, MARKED, MAX_VERSION, MayEvict, Moves, nat_tests, no-fault, None, none-some}
 use Rattle.vm_evict.proofs.Prelude.{or_left, Origin, owning_seat, put_at, refl, Release, release_at, rules, runs-one, same_Some, Seat, seat_of, Some}
 use Rattle.vm_evict.proofs.Prelude.{StandsClean, state_of, stays-alone, StaysHome, subst, sym, tload-works, trans_word, translation_of}
@@ -15,6 +17,8 @@ use Rattle.vm_evict.proofs.Prelude.{TranslationTold, true, upd-other, Version, v
 use Rattle.vm_evict.proofs.Prelude.{◌<◌, ◌||◌, ◌∙◌, ◌∷◌, ◌≡◌, ◌≢◌, ◌≤◌}
 use Rattle.vm_evict.proofs.Tables.{kept-at, left-at, left-last, locked-on, state-left}
 use Rattle.vm_evict.proofs.Taken.{frame-said, free-rests, locks-now, taken-works}
+use Rattle.vm_evict.specs.Phases.Empties.{clears, disowns, loads}
+use Rattle.vm_rule.specs.Prelude.{StandsIn}
 
 module _ {X : Type 0} (p word frame : ℕ) (written : Bool) (done : List Did) (v x : View X) (h : IsOwning p word frame written done v x) where
   locks : IsLocking (seat_of x p)
@@ -36,91 +40,114 @@ module _ {X : Type 0} (p word frame : ℕ) (written : Bool) (done : List Did) (v
     pub names : frame_in t ≡ Some frame
     names = sym (frame-said t) ∙ ap frame_of said
 
+    -- the frame is the one that the word names
+    pub owning-there : (f : ℕ) → frame_in t ≡ Some f → IsOwning p word f written done v x
+    owning-there f is = subst (λ (n : ℕ). IsOwning p word n written done v x) (same_Some frame f (sym names ∙ is)) h
+
     held-loaded : held_at a p ≡ held_at x p
     held-loaded = ap (λ (y : View X). held_at y p) l.brings.view
 
-    pub may-clear : StandsClean a p frame
-    may-clear = record { owns = owns-then (load-did ∷ []) a loaded; stands = ap (λ (k : Held). k.mapping) held-loaded ∙ h.stands }
+    -- the frame's owner word may be zeroed
+    pub may-disown : StandsIn a p frame
+    may-disown = record { owns = owns-then (load-did ∷ []) a loaded; dirty = false; stands = ap (λ (k : Held). k.mapping) held-loaded ∙ h.stands }
 
-    module _ (b : View X) (c : ClearTold p frame a b) where
-      abbrev clear-did : Did
-      clear-did = did_store (places.Translation p) (trans_word None)
+    module _ (u : View X) (o : OwnerTold p frame 0 a u) where
+      abbrev disown-did : Did
+      disown-did = did_store (places.Owner frame) 0
 
-      abbrev worked : List Did
-      worked = load-did ∷ clear-did ∷ []
+      disowned : Works p (load-did ∷ disown-did ∷ []) x u
+      disowned = works-then p (load-did ∷ []) (disown-did ∷ []) x a u loaded (owner-works o)
 
-      work : Works p worked x b
-      work =
-          works-then p (load-did ∷ []) (clear-did ∷ []) x a b loaded (clear-works c)
+      held-disowned : held_at u p ≡ record (held_at x p) { owner = 0 }
+      held-disowned = owner-held o ∙ ap (λ (k : Held). record k { owner = 0 }) held-loaded
 
-      held-cleared : held_at b p ≡ record (held_at x p) { mapping = None }
-      held-cleared =
-          clear-held c
-          ∙ ap (λ (k : Held). record k { mapping = None }) held-loaded
-
-      abbrev all : List Did
-      all = done ++ worked
-
-      -- the steps did not make it clean
-      abbrev leaves-it : Did → Type 0
-      leaves-it d = d.at ≡ places.Translation p → d.wrote ≢ Some (trans_word (Some (clean_in frame)))
-
-      -- nor did they move its block
-      home-worked : StaysHome p worked
-      home-worked = (no-fault p load-did refl, ((λ here. refl), tt))
-
-      emptied : IsEmptied p word frame written all v b
-      emptied = record {
-        taken = taken-works p word owning_seat (inl refl) v x h.taken worked b work (subst (λ (k : Held). k.fault ≡ k.block.count) (sym held-cleared) h.taken.told);
-        out = record {
-          locked = locks-front p word done worked h.locked;
-          foreign =
-              each-both (λ (d : Did). d.at ≡ places.State p → d.wrote ≢ Some word) done worked h.foreign
-              ((λ here. absurd (no-state p (places.Translation p) refl here)), ((λ here. absurd (no-state p (places.Translation p) refl here)), tt));
-          stood = (t, record { earlier = done; step = load-did; later = clear-did ∷ []; cut = refl; gives = (refl, refl) }, said);
-          cleaned = λ e. saved-front p word frame done worked (h.cleaned e) home-worked;
-          unwritten = λ e. (
-            each-both leaves-it done worked (none-kept done (places.Translation p) (trans_word (Some (clean_in frame))) (h.kept e).kept)
-                ((λ here is. none-some (trans_word (Some (clean_in frame))) is), ((λ here is. not-emptied frame (same_Some (trans_word None) (trans_word (Some (clean_in frame))) is)), tt)),
-            home-both p done worked (h.kept e).home home-worked,
-          );
-          emptied = record { earlier = done ++ load-did ∷ []; step = clear-did; later = []; cut = sym (append_assoc done (load-did ∷ []) (clear-did ∷ [])); place = refl; wrote = refl };
-        };
-        empty = ap (λ (k : Held). k.mapping) held-cleared;
-        draft = work.draft ∙ h.draft ∙ ap (λ (r : Version). r.words) (sym (work.last locks));
+      pub may-clear : StandsClean u p frame
+      may-clear = record {
+        owns = owns-then (load-did ∷ disown-did ∷ []) u disowned;
+        stands = ap (λ (k : Held). k.mapping) held-disowned ∙ h.stands;
+        disowned = ap (λ (k : Held). k.owner) held-disowned;
       }
 
-      frames-now : b.frames ≡ frame ∷ x.frames
-      frames-now = ap (λ (y : View X). y.frames) c.brings.view ∙ ap (λ (k : List ℕ). frame ∷ k) (ap (λ (y : View X). y.frames) l.brings.view)
+      module _ (b : View X) (c : ClearTold p frame u b) where
+        abbrev clear-did : Did
+        clear-did = did_store (places.Translation p) (trans_word None)
 
-      was-none : has frame x.frames ≡ false
-      was-none = ap (has frame) (sym (ap (λ (y : View X). y.frames) l.brings.view)) ∙ c.new
+        abbrev worked : List Did
+        worked = load-did ∷ disown-did ∷ clear-did ∷ []
 
-      come : FramesCome (frame ∷ []) x b
-      come =
-          let words : (f : ℕ) → has f x.frames ≡ true → contents_at b f ≡ contents_at x f = λ f here.
-          let ne : f ≢ frame = λ is. false≢true (sym was-none ∙ subst (λ (n : ℕ). has n x.frames ≡ true) is here) in
-          ap (λ (y : View X). contents_at y f) c.brings.view ∙ upd-other (put_at [] a.contents) frame c.words f ne ∙ ap (λ (y : View X). contents_at y f) l.brings.view in
-          let all : (f : ℕ) → has f b.frames ≡ (has f (frame ∷ []) || has f x.frames) = λ f. (let now = ap (has f) frames-now in grind (arith, nat_tests, now)) in
-          search (rules, subst (λ (o : Origin). frame < o.frames) loaded.leaves.start c.inside, was-none, all, words)
+        work : Works p worked x b
+        work = works-then p (load-did ∷ disown-did ∷ []) (clear-did ∷ []) x u b disowned (clear-works c)
 
-      emptied-known : IsAlone x → p < x.start.pages → KnowsStage (p, word) (stages.Owned written) v x → KnowsStage (p, word) (stages.Emptied frame written) v b
-      emptied-known alone page k =
-          let start = work.leaves.start in (
-            locked-on (p, word) LOCKED (version_of word) v x b
-                (kept-at worked [] x b start work.alone alone (places.State p) page ((λ here. refl), ((λ here. absurd (no-state p (places.Translation p) refl here)), tt))) k.0,
-            kept-at worked [] x b start work.alone alone (places.Fault p) page ((λ here. refl), ((λ here. absurd (not-fault p (places.Translation p) refl here)), tt)) ∙ k.1,
-            left-at worked [] x b start work.alone alone (places.Translation p) (trans_word None) (left-last (load-did ∷ []) clear-did (trans_word None) refl),
-          )
+        held-cleared : held_at b p ≡ record (held_at x p) { mapping = None; owner = 0 }
+        held-cleared = clear-held c ∙ ap (λ (k : Held). record k { mapping = None }) held-disowned
 
-      pub emptied-so : Advances phases.Empty (p, word) (stages.Owned written) (stages.Emptied frame written) done v x b
-      emptied-so =
-          let out : x.out ≡ None → b.out ≡ None = λ e. ap (λ (y : View X). y.out) c.brings.view ∙ ap (λ (y : View X). y.out) l.brings.view ∙ e in
-          let reads : b.translations ≡ translation_of p t (seat_of x p).reading ++ x.translations = ap (λ (y : View X). y.translations) c.brings.view ∙ ap (λ (y : View X). y.translations) l.brings.view in
-          let notes : b.notes ≡ x.notes ++ [] = ap (λ (y : View X). y.notes) c.brings.view ∙ ap (λ (y : View X). y.notes) l.brings.view ∙ sym (append-none x.notes) in
-          let does : Each (Does phases.Empty (p, word)) worked = (inl (t, refl), (inr refl, tt)) in
-          let moves : Moves phases.Empty (p, word) worked x b = search (rules, work.leaves, does, out, reads) in
-          search (rules, moves, emptied, work.alone, stays-alone worked x b work.leaves.start work.alone, notes, come, emptied-known)
+        abbrev all : List Did
+        all = done ++ worked
+
+        -- the steps did not make it clean
+        abbrev leaves-it : Did → Type 0
+        leaves-it d = d.at ≡ places.Translation p → d.wrote ≢ Some (trans_word (Some (clean_in frame)))
+
+        -- nor did they move its block
+        home-worked : StaysHome p worked
+        home-worked = (no-fault p load-did refl, ((λ here. refl), ((λ here. refl), tt)))
+
+        emptied : IsEmptied p word frame written all v b
+        emptied = record {
+          taken = taken-works p word owning_seat (inl refl) v x h.taken worked b work (subst (λ (k : Held). k.fault ≡ k.block.count) (sym held-cleared) h.taken.told);
+          out = record {
+            locked = locks-front p word done worked h.locked;
+            foreign =
+                each-both (λ (d : Did). d.at ≡ places.State p → d.wrote ≢ Some word) done worked h.foreign
+                ((λ here. absurd (no-state p (places.Translation p) refl here)), ((λ here. absurd (let no : places.Owner frame ≡ places.State p = here in cc)), ((λ here. absurd (no-state p (places.Translation p) refl here)), tt)));
+            stood = (t, record { earlier = done; step = load-did; later = disown-did ∷ clear-did ∷ []; cut = refl; gives = (refl, refl) }, said);
+            cleaned = λ e. saved-front p word frame done worked (h.cleaned e) home-worked;
+            unwritten = λ e. (
+              each-both leaves-it done worked (none-kept done (places.Translation p) (trans_word (Some (clean_in frame))) (h.kept e).kept)
+                  ((λ here is. none-some (trans_word (Some (clean_in frame))) is), ((λ here. absurd (let no : places.Owner frame ≡ places.Translation p = here in cc)), ((λ here is. not-emptied frame (same_Some (trans_word None) (trans_word (Some (clean_in frame))) is)), tt))),
+              home-both p done worked (h.kept e).home home-worked,
+            );
+            disowned = record { earlier = done ++ load-did ∷ []; step = disown-did; later = clear-did ∷ []; cut = sym (append_assoc done (load-did ∷ []) (disown-did ∷ clear-did ∷ [])); place = refl; wrote = refl };
+            emptied = record { earlier = done ++ load-did ∷ disown-did ∷ []; step = clear-did; later = []; cut = sym (append_assoc done (load-did ∷ disown-did ∷ []) (clear-did ∷ [])); place = refl; wrote = refl };
+          };
+          empty = ap (λ (k : Held). k.mapping) held-cleared;
+          draft = work.draft ∙ h.draft ∙ ap (λ (r : Version). r.words) (sym (work.last locks));
+        }
+
+        frames-before : u.frames ≡ x.frames
+        frames-before = ap (λ (y : View X). y.frames) o.brings.view ∙ ap (λ (y : View X). y.frames) l.brings.view
+
+        frames-now : b.frames ≡ frame ∷ x.frames
+        frames-now = ap (λ (y : View X). y.frames) c.brings.view ∙ ap (λ (k : List ℕ). frame ∷ k) frames-before
+
+        was-none : has frame x.frames ≡ false
+        was-none = ap (has frame) (sym frames-before) ∙ c.new
+
+        come : FramesCome (frame ∷ []) x b
+        come =
+            let words : (f : ℕ) → has f x.frames ≡ true → contents_at b f ≡ contents_at x f = λ f here.
+            let ne : f ≢ frame = λ is. false≢true (sym was-none ∙ subst (λ (n : ℕ). has n x.frames ≡ true) is here) in
+            ap (λ (y : View X). contents_at y f) c.brings.view ∙ upd-other (put_at [] u.contents) frame c.words f ne ∙ ap (λ (y : View X). contents_at y f) o.brings.view ∙ ap (λ (y : View X). contents_at y f) l.brings.view in
+            let all : (f : ℕ) → has f b.frames ≡ (has f (frame ∷ []) || has f x.frames) = λ f. (let now = ap (has f) frames-now in grind (arith, nat_tests, now)) in
+            search (rules, subst (λ (y : Origin). frame < y.frames) disowned.leaves.start c.inside, was-none, all, words)
+
+        emptied-known : IsAlone x → p < x.start.pages → KnowsStage (p, word) (stages.Owned written) v x → KnowsStage (p, word) (stages.Emptied frame written) v b
+        emptied-known alone page k =
+            let start = work.leaves.start in (
+              locked-on (p, word) LOCKED (version_of word) v x b
+                  (kept-at worked [] x b start work.alone alone (places.State p) page ((λ here. refl), ((λ here. absurd (let no : places.Owner frame ≡ places.State p = here in cc)), ((λ here. absurd (no-state p (places.Translation p) refl here)), tt)))) k.0,
+              kept-at worked [] x b start work.alone alone (places.Fault p) page ((λ here. refl), ((λ here. absurd (let no : places.Owner frame ≡ places.Fault p = here in cc)), ((λ here. absurd (not-fault p (places.Translation p) refl here)), tt))) ∙ k.1,
+              left-at worked [] x b start work.alone alone (places.Translation p) (trans_word None) (left-last (load-did ∷ disown-did ∷ []) clear-did (trans_word None) refl),
+            )
+
+        pub emptied-so : Advances phases.Empty (p, word) (stages.Owned written) (stages.Emptied frame written) done v x b
+        emptied-so =
+            let out : x.out ≡ None → b.out ≡ None = λ e. ap (λ (y : View X). y.out) c.brings.view ∙ ap (λ (y : View X). y.out) o.brings.view ∙ ap (λ (y : View X). y.out) l.brings.view ∙ e in
+            let reads : b.translations ≡ translation_of p t (seat_of x p).reading ++ x.translations = ap (λ (y : View X). y.translations) c.brings.view ∙ ap (λ (y : View X). y.translations) o.brings.view ∙ ap (λ (y : View X). y.translations) l.brings.view in
+            let notes : b.notes ≡ x.notes ++ [] = ap (λ (y : View X). y.notes) c.brings.view ∙ ap (λ (y : View X). y.notes) o.brings.view ∙ ap (λ (y : View X). y.notes) l.brings.view ∙ sym (append-none x.notes) in
+            let does : Each (Does phases.Empty (p, word)) worked = (loads t refl, (disowns frame refl, (clears refl, tt))) in
+            let moves : Moves phases.Empty (p, word) worked x b = search (rules, work.leaves, does, out, reads) in
+            search (rules, moves, emptied, work.alone, stays-alone worked x b work.leaves.start work.alone, notes, come, emptied-known)
 
 -- ---- A page that the pass holds exclusively, and that was taken out of its frame, is released as evicted: nothing but its version is another then.
 

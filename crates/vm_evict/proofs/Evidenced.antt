@@ -138,6 +138,7 @@ out-front p word frame written a b h foreign uncleaned home = record {
   stood = (h.stood.0, given-front a b (places.Translation p) h.stood.0 h.stood.1, h.stood.2);
   cleaned = λ e. saved-front p word frame a b (h.cleaned e) home;
   unwritten = λ e. (each-both (λ (d : Did). d.at ≡ places.Translation p → d.wrote ≢ Some (trans_word (Some (clean_in frame)))) a b (h.unwritten e).0 uncleaned, home-both p a b (h.unwritten e).1 home);
+  disowned = written-front a b (places.Owner frame) 0 h.disowned;
   emptied = written-front a b (places.Translation p) (trans_word None) h.emptied;
 }
 

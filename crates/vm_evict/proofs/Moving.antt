@@ -4,12 +4,15 @@ use Rattle.vm_rule.specs.declared.view.Place.TheVariants as places
 use Rattle.vm_evict.specs.declared.candidate.Phase.TheVariants as phases
 use Rattle.vm_evict.specs.declared.candidate.Stage.TheVariants as stages
 use Rattle.vm_evict.proofs.{Gathering.apart-join, Writing.written-own}
-use Rattle.vm_evict.proofs.Prelude.{[], Adds, Advances, alone-then, ap, append-none, append_assoc, arith, Bool, cases_Bool, Did, Does, Each}
+use Rattle.vm_evict.proofs.Prelude.{[], Adds, Advances, alone-then, ap, append-none, append_assoc, arith, Bool, cases_Bool, Did, Does, Each, inr, ◌⊎◌}
 use Rattle.vm_evict.proofs.Prelude.{each-both, each-has, each-map, false, frame_at, FramesCome, gives_up, GivesUp, has, has-both, inl, IsAlone, IsAt}
 use Rattle.vm_evict.proofs.Prelude.{IsOfPage, IsOwnPlace, keeps-self, keeps-then, KeepsFrames, KnowsStage, leaves-then, List, MayBeginPhase, MayEnd}
 use Rattle.vm_evict.proofs.Prelude.{Moves, nat_tests, Note, note_at, or_right, Origin, Phase, Place, put_at, refl, Release, release_at, rules}
 use Rattle.vm_evict.proofs.Prelude.{runs-self, runs-then, RunsAlone, Saves, shares, Stage, stays-alone, still-alone, subst, sym, Translation, true}
 use Rattle.vm_evict.proofs.Prelude.{View, works-none, writes, WritesPage, ℕ, ⊎_elim, ◌++◌, ◌<◌, ◌∙◌, ◌≡◌, ◌≢◌}
+use Rattle.vm_evict.specs.declared.candidate.Stage.TheVariants.{Emptied}
+use Rattle.vm_evict.specs.Phases.{Empties}
+use Rattle.vm_evict.specs.Phases.Empties.{clears, disowns, loads}
 
 -- ---- the words that a phase steps on
 
@@ -21,12 +24,21 @@ saved-own c d (writes w) = written-own c.0 d w
 saved-own c d (shares found is) = inl (subst (λ (e : Did). IsOfPage c.0 e.at) (sym is) refl)
 saved-own c d (gives_up g) = given-own c.0 d g
 
-does-own : (phase : Phase) (c : ℕ × ℕ) (d : Did) → Does phase c d → IsOwnPlace c.0 d.at
-does-own phases.Save c d s = saved-own c d s
-does-own phases.Lock c d s = inl (subst (λ (e : Did). IsOfPage c.0 e.at) (sym s.1) refl)
-does-own phases.Raise c d s = ⊎_elim (λ t. inl (subst (λ (e : Did). IsOfPage c.0 e.at) (sym t.1) refl)) (λ g. given-own c.0 d g) s
-does-own phases.Empty c d s = ⊎_elim (λ t. inl (subst (λ (e : Did). IsOfPage c.0 e.at) (sym t.1) refl)) (λ is. inl (subst (λ (e : Did). IsOfPage c.0 e.at) (sym is) refl)) s
-does-own phases.Leave c d s = inl (subst (λ (e : Did). IsOfPage c.0 e.at) (sym s) refl)
+-- a place of the page or of a frame, or an owner word
+abbrev IsEvicted : ℕ → Place → Type 0
+IsEvicted p at = IsOwnPlace p at ⊎ ((f : ℕ) × (at ≡ places.Owner f))
+
+emptied-own : (c : ℕ × ℕ) (d : Did) → Empties c d → IsEvicted c.0 d.at
+emptied-own c d (loads found is) = inl (inl (subst (λ (e : Did). IsOfPage c.0 e.at) (sym is) refl))
+emptied-own c d (disowns frame is) = inr (frame, ap (λ (e : Did). e.at) is)
+emptied-own c d (clears is) = inl (inl (subst (λ (e : Did). IsOfPage c.0 e.at) (sym is) refl))
+
+does-own : (phase : Phase) (c : ℕ × ℕ) (d : Did) → Does phase c d → IsEvicted c.0 d.at
+does-own phases.Save c d s = inl (saved-own c d s)
+does-own phases.Lock c d s = inl (inl (subst (λ (e : Did). IsOfPage c.0 e.at) (sym s.1) refl))
+does-own phases.Raise c d s = inl (⊎_elim (λ t. inl (subst (λ (e : Did). IsOfPage c.0 e.at) (sym t.1) refl)) (λ g. given-own c.0 d g) s)
+does-own phases.Empty c d s = emptied-own c d s
+does-own phases.Leave c d s = inl (inl (subst (λ (e : Did). IsOfPage c.0 e.at) (sym s) refl))
 
 -- a word of page q that is one of page p
 own-state : (p q : ℕ) → IsOwnPlace p (places.State q) → p ≡ q
@@ -46,7 +58,10 @@ own-else p q at ne own =
 
 module _ (phase : Phase) (c : ℕ × ℕ) (q : ℕ) (ne : q ≢ c.0) where
   else-of : (d : Did) → Does phase c d → (d.at ≢ places.State q) × (d.at ≢ places.Translation q) × (d.at ≢ places.Fault q)
-  else-of d s = own-else c.0 q d.at (λ e. ne (sym e)) (does-own phase c d s)
+  else-of d s =
+      ⊎_elim (own-else c.0 q d.at (λ e. ne (sym e)))
+      (λ o. ((λ e. let no : places.Owner o.0 ≡ places.State q = sym o.1 ∙ e in cc), (λ e. let no : places.Owner o.0 ≡ places.Translation q = sym o.1 ∙ e in cc), (λ e. let no : places.Owner o.0 ≡ places.Fault q = sym o.1 ∙ e in cc)))
+      (does-own phase c d s)
 
   pub no-words-of : (more : List Did) → Each (Does phase c) more → Each (λ d. (d.at ≢ places.State q) × (d.at ≢ places.Translation q) × (d.at ≢ places.Fault q)) more
   no-words-of more s = each-map (Does phase c) _ else-of more s

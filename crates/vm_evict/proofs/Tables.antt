@@ -8,6 +8,9 @@ use Rattle.vm_evict.proofs.Prelude.{GivesUp, has, index_of, inl, InPhases, inr, 
 use Rattle.vm_evict.proofs.Prelude.{KnowsLocked, KnowsOn, KnowsStage, LeavesLast, List, None, Option, Phase, Place, raises, reads, refl, Release}
 use Rattle.vm_evict.proofs.Prelude.{RunsAlone, Saves, shares, Some, Stage, subst, sym, true, UNLOCKED, View, Within, word_of, writes, WritesNone, ℕ}
 use Rattle.vm_evict.proofs.Prelude.{⊎_elim, ◌++◌, ◌-◌, ◌<◌, ◌^◌, ◌∙◌, ◌∷◌, ◌≡◌, ◌≢◌, ◌⊎◌}
+use Rattle.vm_evict.specs.declared.candidate.Stage.TheVariants.{Emptied}
+use Rattle.vm_evict.specs.Phases.{Empties}
+use Rattle.vm_evict.specs.Phases.Empties.{clears, disowns, loads}
 
 pub each-two : {A : Type 0} (P Q : A → Type 0) (l : List A) → Each P l → Each Q l → Each (λ x. P x × Q x) l
 each-two P Q [] f g = tt
@@ -97,11 +100,16 @@ module _ (pages : List ℕ) (c : ℕ × ℕ) (among : has c.0 pages ≡ true) wh
   saves-there d (shares found is) = inr (subst (λ (e : Did). IsOfAny pages e.at) (sym is) among)
   saves-there d (gives_up g) = gives-up-there d g
 
+  empties-there : (d : Did) → Empties c d → Touches pages d
+  empties-there d (loads found is) = inl (ap (λ (e : Did). e.wrote) is)
+  empties-there d (disowns frame is) = inr (subst (λ (e : Did). IsOfAny pages e.at) (sym is) tt)
+  empties-there d (clears is) = inr (subst (λ (e : Did). IsOfAny pages e.at) (sym is) among)
+
   does-there : (phase : Phase) (d : Did) → Does phase c d → Touches pages d
   does-there phases.Save d s = saves-there d s
   does-there phases.Lock d s = inr (subst (λ (e : Did). IsOfAny pages e.at) (sym s.1) among)
   does-there phases.Raise d s = ⊎_elim (λ t. inr (subst (λ (e : Did). IsOfAny pages e.at) (sym t.1) among)) (λ g. gives-up-there d g) s
-  does-there phases.Empty d s = ⊎_elim (λ t. inl (ap (λ (e : Did). e.wrote) t.1)) (λ e. inr (subst (λ (f : Did). IsOfAny pages f.at) (sym e) among)) s
+  does-there phases.Empty d s = empties-there d s
   does-there phases.Leave d s = inr (subst (λ (e : Did). IsOfAny pages e.at) (sym s) among)
 
 phase-there : (phase : Phase) (list : List (ℕ × ℕ)) (done : List Did) → Each (DoesOne phase list) done → Each (Touches (candidate_pages list)) done

@@ -1,7 +1,7 @@
 -- A candidate that the pass has locked: as the lock leaves it, as the pass works on it, and once the lock is given up.
 use Rattle.vm_evict.proofs.Evidenced.{holds-same, rests-on, unlocked}
 use Rattle.vm_evict.proofs.Moving.{Quietly}
-use Rattle.vm_evict.proofs.Prelude.{[], ap, arith, Bool, Brings, Did, Does, false, frame_in, frame_of, has, HasLockTaken, HasNoLockOf, held_at}
+use Rattle.vm_evict.proofs.Prelude.{[], ap, arith, Bool, Brings, Did, Does, false, frame_in, frame_of, HasLockTaken, HasNoLockOf, held_at}
 use Rattle.vm_evict.proofs.Prelude.{is_dirty, IsLocking, IsNotOut, IsToldOf, IsUnderWriteBack, IsUnheld, last_of, LeavesOthers, LeavesOwn, LeavesRest}
 use Rattle.vm_evict.proofs.Prelude.{List, mapping_at, mapping_of, MayUnshare, no_seat, None, none-some, Option, others-still, Phase, refl, rest-of}
 use Rattle.vm_evict.proofs.Prelude.{Rests, rules, Seat, seat_of, Some, Start, starts-then, still-own, subst, sym, Translation, true, unshare-did}

@@ -135,6 +135,8 @@ pub record IsTakenOut (p word frame : ℕ) (written : Bool) (done : List Did) : 
   pub stood : (found : ℕ) × HasGiven done (places.Translation p) found × (mapping_of found ≡ Some (clean_in frame))
   pub cleaned : written ≡ true → IsSavedFrom p word frame done
   pub unwritten : written ≡ false → Each (λ d. d.at ≡ places.Translation p → d.wrote ≢ Some (trans_word (Some (clean_in frame)))) done × StaysHome p done
+  -- the frame's owner word names no page, and then the translation names no frame
+  pub disowned : HasWritten done (places.Owner frame) 0
   pub emptied : HasWritten done (places.Translation p) (trans_word None)
 
 module _ {X : Type 0} where

@@ -8,11 +8,12 @@ use Rattle.vm_step.specs.Prelude.{known_word_at, View}
 use Rattle.vm_evict.specs.declared.candidate.Stage.{Stage}
 use Rattle.vm_evict.specs.declared.candidate.Stage.TheVariants as stages
 
--- the place is the state word, the translation word or the fault word of one of these pages
+-- the place is the state word, the translation word or the fault word of one of these pages, or the owner word of a frame
 abbrev pub IsOfAny : List ℕ → Place → Type 0
 IsOfAny pages (places.State p) = has p pages ≡ true
 IsOfAny pages (places.Translation p) = has p pages ≡ true
 IsOfAny pages (places.Fault p) = has p pages ≡ true
+IsOfAny pages (places.Owner f) = Unit {0}
 IsOfAny pages at = ⊥
 
 module _ {X : Type 0} where

@@ -12,7 +12,7 @@ use vm_core::{StateWord, TransWord};
 use vm_owner::Owner;
 use vm_rule::words::{Pass, Words};
 use vm_step::{
-    Took, clear, lock_exclusive, lock_write_back, look_silently, release_evicted, tload,
+    Took, clear, disown, lock_exclusive, lock_write_back, look_silently, release_evicted, tload,
     unlock_shared, upgrade,
 };
 
@@ -150,7 +150,7 @@ fn raise_shared<U: Owner, B: Block>(
     }
 }
 
-/// Takes a clean page, which is held exclusively, out of its frame. The frame comes to the pass.
+/// Takes a clean page, which is held exclusively, out of its frame, whose owner word names it no more. The frame comes to the pass.
 fn empty_page<U: Owner, B: Block>(
     words: &Words<U, B>,
     pass: &mut Pass<U>,
@@ -169,6 +169,7 @@ fn empty_page<U: Owner, B: Block>(
     let Some(frame) = TransWord::frame(translation) else {
         unreachable!()
     };
+    disown(words, pass, p, frame);
     clear(words, pass, p);
     Stage::Emptied { frame, written }
 }

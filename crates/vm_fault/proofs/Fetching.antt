@@ -8,7 +8,7 @@ use Rattle.vm_step.proofs.steps.Owner.{settle-did, settle-frames, settle-held, s
 use Rattle.vm_rule.specs.Prelude.{StandsIn}
 use Rattle.vm_fault.proofs.Prelude.{[], all-stored, ap, arith, Bool, call-did, called, Change, clean_in, count_more, counts-one, Did, did_store, Each}
 use Rattle.vm_fault.proofs.Prelude.{Entry, Err, EVICTED, EvictTold, false, filled, fills, Fills, goes-out, has, HasWritten, Held, held_at, HomeTold}
-use Rattle.vm_fault.proofs.Prelude.{if◌then◌else◌, inl, install-held, install-works, InstallTold, is_ok, IsBrought, IsFailed, IsNotOut, IsOfBoth}
+use Rattle.vm_fault.proofs.Prelude.{if◌then◌else◌, inl, InstallTold, is_ok, IsBrought, IsFailed, IsNotOut, IsOfBoth}
 use Rattle.vm_fault.proofs.Prelude.{IsOfPage, IsSome, length, List, MAX_VERSION, may-bring, MayBring, MayEvict, MayGiveUp, MayPutInto, MayRaise}
 use Rattle.vm_fault.proofs.Prelude.{MayTakeOut, Moves, no_held, None, none-some, noted-more, notes_of, Ok, OnOk, or_left, Origin, out_at, OutTold}
 use Rattle.vm_fault.proofs.Prelude.{put_at, raise-held, raise-works, RaiseTold, Reads, refl, ReleaseTold, Result, rules, Seat, seat_of, slice_index}

@@ -8,7 +8,7 @@ use Rattle.vm_step.specs.steps.Owner.{OwnerTold}
 use Rattle.vm_step.proofs.steps.Owner.{settle-did, settle-frames, settle-held, settle-notes, settle-out, settle-works, stands-installed}
 use Rattle.vm_guard.proofs.Prelude.{[], ap, append-none, AreApart, AreHeld, arith, clean_in, contents_at, Did, Each, each-both, each-map, false}
 use Rattle.vm_guard.proofs.Prelude.{false≢true, filled, fills, Fills, FillTold, Furnishes, has, has-both, has-without_other, Held, held_at, inl}
-use Rattle.vm_guard.proofs.Prelude.{install-did, install-frames, install-held, install-works, InstallTold, IsPlaceOf, IsSeized, knows-after}
+use Rattle.vm_guard.proofs.Prelude.{InstallTold, IsPlaceOf, IsSeized, knows-after}
 use Rattle.vm_guard.proofs.Prelude.{KnowsStates, last_of, length, length-replicate, List, Mapping, MayPutInto, no_held, None, Origin, put_at, refl}
 use Rattle.vm_guard.proofs.Prelude.{replicate, Seat, slice_set, Some, Stores, stores-did, subst, suc, sym, true, upd-other, Version, View, without}
 use Rattle.vm_guard.proofs.Prelude.{Works, works-then, ℕ, ◌++◌, ◌+◌, ◌<◌, ◌∙◌, ◌∷◌, ◌≡◌, ◌≢◌, ◌≤◌}

@@ -1,11 +1,11 @@
 -- What the events beside the pages leave: loads and stores of words, bundles, the next word, the hand and the owner words.
-use Rattle.std.proofs.Common.{⊎_elim, ◌&&◌, ◌+◌, ◌||◌, ◌∙◌, ◌≡◌, ◌≢◌, ◌≤◌, ap, arith, Bool, cond, eqb, false, inl, List, Option, refl, slice_set, Some}
+use Rattle.std.proofs.Common.{⊎_elim, ◌&&◌, ◌+◌, ◌||◌, ◌∙◌, ◌≡◌, ◌≢◌, ◌≤◌, ap, arith, Bool, cond, eqb, false, inl, List, refl, slice_set, Some}
 use Rattle.std.proofs.Common.{subst, sym, true, ℕ}
 use Rattle.std.proofs.lemmas.Bool.{and_left, cases_Bool, cond-false, eq-eqb, eqb-true, false≢true, ne_eqb}
-use Rattle.vm_core.specs.Prelude.{at_actor, at_page, frame_of, Free, History, HoldsAt, in_mask, Inv, Mapped, Nowhere, Page, stands_in, upd, World}
+use Rattle.vm_core.specs.Prelude.{at_actor, at_page, Free, History, HoldsAt, in_mask, Inv, Mapped, Nowhere, Page, stands_in, upd, World}
 use Rattle.vm_core.specs.{declared.event.Mapping.Mapping, FrameActs.MayDirty, History.stored, History.writes_to, Inv.Place, Inv.Place.Held}
 use Rattle.vm_core.specs.declared.event.Event.TheVariants.{BLoad, Claim, Disown, Give, Hand, Load, NLoad, OLoad, Own, Store, Take}
-use Rattle.vm_core.specs.Step.{changed_at, given_by, MayStore, owned, taken_by}
+use Rattle.vm_core.specs.Step.{given_by, MayStore, owned, taken_by}
 use Rattle.vm_core.proofs.{OwnerWords.word-elsewhere, PageFacts.some-is, Upd.upd-other}
 use Rattle.vm_laws_others.specs.Leaves.{Leaves, LeavesOthers}
 use Rattle.vm_laws_others.proofs.Alone.{one-caller, one-holder}

@@ -1,8 +1,9 @@
 -- What the rule says of the pages that a pass holds exclusively: where they stand, what is known of them, and that no other view says a thing of them.
 use Rattle.vm_step.proofs.Prelude.{any, any-true, ap, at_set, Bool, caller-here, cases_Bool, cases_lt, core_shown, false, false_from_ne_true, held_at}
-use Rattle.vm_step.proofs.Prelude.{false≢true, get_elem?, has, is_owed, is_pending, Kept, le-ltb, List, Mapping, may_call, no_held, None, Option}
+use Rattle.vm_step.proofs.Prelude.{false≢true, get_elem?, has, is_owed, is_pending, Kept, le-ltb, List, Mapping, may_call, no_held, None, Option, ◌-◌}
 use Rattle.vm_step.proofs.Prelude.{Origin, outside_page, Page, pages_from, put_at, refl, Ruled, seat_of, slice_set, Some, some, some-injective, spent}
-use Rattle.vm_step.proofs.Prelude.{IsOwned, Start, Stored, sym, Table, true, true≢false, View, ℕ, ⊎_elim, ◌<◌, ◌∙◌, ◌≡◌, ◌≢◌, ◌≤◌}
+use Rattle.vm_step.proofs.Prelude.{arith, IsOwned, stands_in, Start, Stored, sym, Table, true, true≢false, View, ℕ, ⊎_elim, ◌<◌, ◌∙◌, ◌≡◌, ◌≢◌, ◌≤◌}
+use Rattle.vm_step.proofs.Prelude.{cases_eq, ◌+◌}
 
 module _ {X B : Type 0} (stored : B → Stored) (keeps : Start → Kept X → Type 0) (tied : Start → ℕ → List ℕ → ℕ → List ℕ → Type 0) (start : Origin) (tells : Bool) (s : Table (Option B) (View X)) (r : Ruled stored keeps tied start tells s) (id : ℕ) (v : View X) (there : get_elem? s.views id ≡ some v) (live : v.live ≡ true) where
   -- past the last page stands a page that is always the same
@@ -25,6 +26,23 @@ module _ {X B : Type 0} (stored : B → Stored) (keeps : Start → Kept X → Ty
   -- the owner word of the frame that such a page stands in is the one that the pass knows
   pub owner-known : (p word : ℕ) → may_call (seat_of v p) ≡ true → (held_at v p).owner ≡ word → IsOwned (core_shown stored start s) p word
   owner-known p word calls is m at = let k = r.known id v there live in sym (k.owners p m calls (((k.knows p).calls calls).0 ∙ at)) ∙ is
+
+  -- a page that stands in a frame is one of the table's
+  stands-inside : (p f : ℕ) → stands_in ((core_shown stored start s).pages p).trans f ≡ true → p < start.pages
+  stands-inside p f e = ⊎_elim (λ l. l) (λ le. absurd (false≢true (ap (λ (y : Page). stands_in y.trans f) (sym (outside p le)) ∙ e))) (cases_lt p start.pages)
+
+  -- so an owner word names one, or none
+  pub owner-inside : (f : ℕ) → (core_shown stored start s).owners f ≤ v.start.pages
+  owner-inside f =
+      let word : ℕ = (core_shown stored start s).owners f in
+      let same : v.start.pages ≡ start.pages = ap (λ (o : Origin). o.pages) (r.heard id v there live).same_start in
+      ⊎_elim
+      (λ (e : word ≡ 0). omega (arith, e))
+      (λ ne.
+      let is : word ≡ (word - 1) + 1 = omega (arith, ne) in
+      let l : word - 1 < start.pages = stands-inside (word - 1) f (r.inv.owners.named f (word - 1) is) in
+      omega (arith, l, same, ne))
+      (cases_eq word 0)
 
   -- where a view says so only of a page that it holds exclusively, and some view says it of this page, it is the pass's
   pub holder-says : (f : View X → Bool) (p : ℕ) → p < start.pages → (seat_of v p).exclusive ≡ true → f spent ≡ false

@@ -15,7 +15,7 @@ pub struct Looks {
     pub lost: u32,
     /// Pages that somebody had locked.
     pub held: u32,
-    /// Evicted pages.
+    /// Evicted pages, and frames in which no page stands.
     pub gone: u32,
     /// Pages at the last version, which can't be evicted.
     pub worn: u32,

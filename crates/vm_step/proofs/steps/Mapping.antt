@@ -14,7 +14,7 @@ use Rattle.vm_step.proofs.Prelude.{clean_in, clean_view, CleanTold, Clear, clear
 use Rattle.vm_step.proofs.Prelude.{dirty-step, dirty_in, dirty_view, DirtyTold, each-upd2, either-way, eq-eqb, Event, false, false_from_ne_true}
 use Rattle.vm_step.proofs.Prelude.{frame_in, gains, get_elem?, has, has-without, HasShape, Held, held-here, held_at, if◌then◌else◌, index_of, inr}
 use Rattle.vm_step.proofs.Prelude.{Install, install-step, installed_view, InstallTold, is_dirty, is_pending, IsEvent, IsFit, IsPassOf, IsPlacedAt}
-use Rattle.vm_step.proofs.Prelude.{each-upd, IsSome, IsWritten, Kept, KnowsPage, KnowsPages, Legal, length, length-set, List, LOCKED, mapped, Mapping}
+use Rattle.vm_step.proofs.Prelude.{each-upd, IsSome, IsWritten, Kept, KnowsPage, KnowsPages, Legal, length, length-set, List, LOCKED, Mapping}
 use Rattle.vm_step.proofs.Prelude.{mapping-clean, mapping-dirty, mapping-none, mapping_at, mapping_of, may_call, MayPutInto, nat_lt, nat_tests}
 use Rattle.vm_step.proofs.Prelude.{ne_eqb, no_held, None, Option, or_right, Origin, Page, Put, put, put_at, refl, Ruled, Seat, seat-here, seat_of}
 use Rattle.vm_step.proofs.Prelude.{Shape, shared-here, Shows, slice_set, Some, some, some-same, Stands, stands-nowhere, stands_in, StandsClean}

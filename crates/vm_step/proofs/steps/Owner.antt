@@ -5,6 +5,7 @@ use Rattle.vm_rule.specs.declared.view.Place.TheVariants as places
 use Rattle.vm_step.proofs.{Fit.fit, Here.frame-inside, Mine.stands-called, Quiet.held-shows, Standing.allows, Standing.allows-load, Written.word-left}
 use Rattle.vm_core.proofs.OwnerWords.{word-elsewhere, word-written}
 use Rattle.vm_step.proofs.Leaves.{works-one, works-then}
+use Rattle.vm_step.proofs.Mine.{owner-inside}
 use Rattle.vm_step.proofs.steps.Mapping.{install-frames, install-held, install-works}
 use Rattle.vm_step.proofs.Prelude.{[], actor_of, after_step, AllowsStep, ap, at-bound, Bool, core-still, core_shown, Did, did_store, Disown, each-upd}
 use Rattle.vm_step.proofs.Prelude.{DisownIsItsEvent, Event, get_elem?, index_of, IsOwnerEvent, IsPlacedAt, IsSome, Kept, KnowsPage, Legal, length}
@@ -12,7 +13,7 @@ use Rattle.vm_step.proofs.Prelude.{List, MayOwn, no_held, OLoad, OloadIsItsEvent
 use Rattle.vm_step.proofs.Prelude.{OwnerTold, OwnIsItsEvent, put_at, refl, rested, Ruled, Seat, seat-here, seat_of, seen, Shape, Shows, slice_set}
 use Rattle.vm_step.proofs.Prelude.{Held, Some, some, Stands, StandsIn, Start, State, steps, Stored, subst, sym, Table, told_of, true, View, World}
 use Rattle.vm_step.proofs.Prelude.{held_at, InstallTold, KnowsOwner, KnowsOwners, owned_view, upd-same, world_after, world_of, ℕ, ◌+◌, ◌<◌, ◌∙◌, ◌≡◌}
-use Rattle.vm_step.proofs.Prelude.{clean_in, false, None, upd-other, without, Works, ◌∷◌}
+use Rattle.vm_step.proofs.Prelude.{clean_in, false, None, upd-other, without, Works, ◌∷◌, ◌≤◌}
 
 module _ {X B : Type 0} (stored : B → Stored) (keeps : Start → Kept X → Type 0) (tied : Start → ℕ → List ℕ → ℕ → List ℕ → Type 0) (start : Origin) (tells : Bool) (s : Table (Option B) (View X)) (r : Ruled stored keeps tied start tells s)
     (id : ℕ) (v : View X) (there : get_elem? s.views id ≡ some v) (live : v.live ≡ true) where
@@ -84,7 +85,7 @@ module _ {X B : Type 0} (stored : B → Stored) (keeps : Start → Kept X → Ty
       (λ start has s r there.
       let inside : f < start.frames = subst (λ n. f < n) (sym has.frames) lf in
       let k = rested stored keeps tied start tells s r id v _ (OLoad id f) there live number refl (record { actor = at-bound s.views id v there; frame = inside }) refl inside refl refl in
-      (_, k.0, record { brings = k.1 }))
+      (_, k.0, record { brings = k.1; inside = subst (λ n. n ≤ v.start.pages) (owner-here stored start s f inside) (owner-inside stored keeps tied start tells s r id v there live f) }))
 
 module _ {X B : Type 0} (stored : B → Stored) (keeps : Start → Kept X → Type 0) (tied : Start → ℕ → List ℕ → ℕ → List ℕ → Type 0) (tells : Bool) where
   -- each is its event

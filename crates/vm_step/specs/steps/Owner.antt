@@ -1,6 +1,6 @@
 -- The owner word of a frame: it is stored for a page that stands there, which the pass has locked exclusively, or loaded. What the steps tell, and
 -- their events.
-use Rattle.std.specs.Prelude.{[], ◌+◌, Bool, List, Option, slice_set, ℕ}
+use Rattle.std.specs.Prelude.{[], ◌+◌, ◌≤◌, Bool, List, Option, slice_set, ℕ}
 use Rattle.vm_core.specs.declared.event.Event.TheVariants.{Disown, OLoad, Own}
 use Rattle.vm_core.specs.declared.event.Seen.TheVariants as sights
 use Rattle.vm_rule.specs.Prelude.{Brings, did_load, did_store, Event, held_at, index_of, Kept, put, StandsIn, Start, Stored, Table}
@@ -17,9 +17,10 @@ module _ {X : Type 0} where
   pub record OwnerTold (p f word : ℕ) (v w : View X) : Type 0 where
     pub brings : Brings (did_store (places.Owner f) word) [] [] v (owned_view p word v) w
 
-  -- a load of frame f's owner word
+  -- a load of frame f's owner word, which names a page of the table, or none
   pub record OwnerLoadTold (f found : ℕ) (v w : View X) : Type 0 where
     pub brings : Brings (did_load (places.Owner f) found) [] [] v v w
+    pub inside : found ≤ v.start.pages
 
 module _ {X B : Type 0} (stored : B → Stored) (keeps : Start → Kept X → Type 0) (tied : Start → ℕ → List ℕ → ℕ → List ℕ → Type 0) (tells : Bool) where
   -- this word is stored as the owner word of the page's frame, by this event, and nothing is seen
