@@ -80,7 +80,8 @@ module _ {X : Type 0} (v : View X) (alone : IsAlone v) where
     -- a bundle is no place of the page or of the frame
     not-of-both : (g f : ℕ) → g < bundles_of v.start.frames → IsOfBoth p f (places.Bundle g) → ⊥
     not-of-both g f inside (inl page-is) = page-is
-    not-of-both g f inside (inr c) = subst (IsBundleOf v.start) c.2 inside
+    not-of-both g f inside (inr (inl e)) = subst (IsBundleOf v.start) e inside
+    not-of-both g f inside (inr (inr c)) = subst (IsBundleOf v.start) c.2 inside
 
     is-brought : (most f : ℕ) (old kept : List ℕ) (x w : View X) → IsHad v x → Had most f old kept v x → IsBrought p f x w → KnowsBrought most p old kept v w
     is-brought most f old kept x w h (from_own one same) b =

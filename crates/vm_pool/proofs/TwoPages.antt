@@ -51,7 +51,8 @@ one-left word mask two low none =
 -- the state word of another page is no place of the page or of its frame
 not-of-other : (p q f : ℕ) → q ≢ p → IsOfBoth p f (places.State q) → ⊥
 not-of-other p q f ne (inl e) = ne e
-not-of-other p q f ne (inr c) = subst (IsOfPage q) c.2 refl
+not-of-other p q f ne (inr (inl e)) = subst (IsOfPage q) e refl
+not-of-other p q f ne (inr (inr c)) = subst (IsOfPage q) c.2 refl
 
 module _ {X : Type 0} where
   -- ---- after a page was asked for
@@ -82,7 +83,8 @@ module _ {X : Type 0} where
     -- nor a place of the page or of the frame
     not-of-first : (f : ℕ) → IsOfBoth p f (places.Bundle 0) → ⊥
     not-of-first f (inl page-is) = page-is
-    not-of-first f (inr c) = subst (IsBundleOf v.start) c.2 some
+    not-of-first f (inr (inl e)) = subst (IsBundleOf v.start) e some
+    not-of-first f (inr (inr c)) = subst (IsBundleOf v.start) c.2 some
 
     one-is-left : KnowsBrought 1 p [] new v w → HasFree new w
     one-is-left (brought.own f is r) = let n : 0 ≡ length (f ∷ new) = ap length is in absurd (omega (arith, n))
