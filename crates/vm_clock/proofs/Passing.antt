@@ -1,14 +1,17 @@
 -- What a walk leaves of the words of a table that nobody else changes: each page passed has its word as the clock leaves it, by the first visit.
 use Rattle.vm_rule.specs.declared.view.Place.TheVariants as places
-use Rattle.vm_clock.specs.Clock.{Visits as visits}
-use Rattle.vm_clock.proofs.Prelude.{[], add-mod_right, and_left, and_right, ap, arith, candidate_pages, cases_Bool, cases_eq, cases_lt, cond-false}
+use Rattle.vm_clock.specs.Clock.{Visits as visits, VisitsFrame as frames}
+use Rattle.std.proofs.lemmas.List.{get_or_past}
+use Rattle.vm_step.specs.Prelude.{known_word_at}
+use Rattle.vm_step.proofs.Evidenced.{given-behind, given-front}
+use Rattle.vm_clock.proofs.Prelude.{[], and_left, and_right, ap, arith, candidate_pages, cases_eq, cases_lt, cond-false}
 use Rattle.vm_clock.proofs.Prelude.{cond-true, Did, did_change, Each, each-both, each-map, else-knows, eq-eqb, eqb, false, Follows, follows-between}
 use Rattle.vm_clock.proofs.Prelude.{follows-kept, follows-length, get_or-set_other, get_or-set_same, hand_more, has, has-both, index_of, inl, inr}
-use Rattle.vm_clock.proofs.Prelude.{IsAlone, IsHeld, IsPassed, IsWalked, KnowsWalked, le-ltb, length, length-set, List, Looks, lt-ltb, MARKED}
-use Rattle.vm_clock.proofs.Prelude.{MAX_VERSION, mod-add-mod, mod-eq_of_lt, mod-lt, nat_tests, ne_eqb, None, Origin, passed_word, refl, RunsAlone}
-use Rattle.vm_clock.proofs.Prelude.{set_if, slice_index, slice_set, Some, state_of, subst, suc, sym, true, true≢false, UNLOCKED, version-within}
-use Rattle.vm_clock.proofs.Prelude.{version_of, View, Visits, WalksPages, Within, word-state, word_of, zero, ℕ, ⊎_elim, ◌%◌, ◌&&◌, ◌*◌, ◌+◌, ◌-◌, ◌<◌}
-use Rattle.vm_clock.proofs.Prelude.{◌||◌, ◌∙◌, ◌∷◌, ◌≡◌, ◌≢◌, ◌≤◌, ◌⊎◌}
+use Rattle.vm_clock.proofs.Prelude.{IsAlone, IsHeld, IsPassed, IsWalked, IsNamed, KnowsWalked, le-ltb, length, length-set, List, Looks, lt-ltb, MARKED}
+use Rattle.vm_clock.proofs.Prelude.{MAX_VERSION, mod-lt, nat_tests, ne_eqb, None, Origin, passed_word, refl, RunsAlone}
+use Rattle.vm_clock.proofs.Prelude.{set_if, slice_index, slice_set, Some, state_of, subst, suc, sym, true, true≢false, UNLOCKED, version-within, ◌++◌}
+use Rattle.vm_clock.proofs.Prelude.{version_of, View, Visits, VisitsFrame, WalksFrames, Within, word-state, word_of, zero, ℕ, ⊎_elim, ◌%◌, ◌&&◌, ◌*◌, ◌+◌, ◌<◌}
+use Rattle.vm_clock.proofs.Prelude.{did_load, ◌||◌, ◌∙◌, ◌∷◌, ◌≡◌, ◌≢◌, ◌≤◌, ◌⊎◌}
 use Rattle.vm_clock.proofs.Visiting.{IsVisit, pages-end, visit-of}
 
 -- ---- the word of one page
@@ -78,29 +81,14 @@ module _ (start : Origin) where
 
 -- ---- the walk
 
--- a place at or behind the last is round by one
-wraps : (m x : ℕ) → x < m + m → ((x < m) × (x % m ≡ x)) ⊎ ((m ≤ x) × (x % m + m ≡ x))
-wraps m x l =
-    ⊎_elim
-    (λ low. inl (low, mod-eq_of_lt low))
-    (λ high.
-    let n : ℕ = x - m in
-    let is : n + m ≡ x = omega (arith, high) in
-    let round : x % m ≡ n = ap (λ y. y % m) (sym is) ∙ add-mod_right n m ∙ mod-eq_of_lt (omega (arith, l, high)) in
-    inr (high, omega (arith, round, is)))
-    (cases_lt x m)
+-- a page named by some of the steps is named by them all
+pub named-left : (a b : List Did) (p : ℕ) → IsNamed a p → IsNamed (a ++ b) p
+named-left a b p (f, h) = (f, given-front a b (places.Owner f) (p + 1) h)
 
--- two places of one round are two
-other-place : (m a j k : ℕ) → a < m → j < k → k < m → (a + j) % m ≡ (a + k) % m → ⊥
-other-place m a j k in-it less l same =
-    ⊎_elim
-    (λ x. ⊎_elim (λ y. omega (arith, x.1, y.1, same, less)) (λ y. omega (arith, x.1, y.1, same, less, l)) (wraps m (a + k) (omega (arith, in-it, l))))
-    (λ x. ⊎_elim (λ y. omega (arith, x.0, y.0, less)) (λ y. omega (arith, x.1, y.1, same, less)) (wraps m (a + k) (omega (arith, in-it, l))))
-    (wraps m (a + j) (omega (arith, in-it, less, l)))
+pub named-right : (a b : List Did) (p : ℕ) → IsNamed b p → IsNamed (a ++ b) p
+named-right a b p (f, h) = (f, given-behind a b (places.Owner f) (p + 1) h)
 
-pub passed-more : (pages drawn k q : ℕ) → IsPassed pages drawn k q → IsPassed pages drawn (suc k) q
-passed-more pages drawn k q (j, low, is) = (j, omega (arith, low), is)
-
+-- a candidate was one before, or is the page that was visited
 chosen-more : {p : ℕ} {steps : List Did} {chosen list : List (ℕ × ℕ)} {old new : Looks} → IsVisit chosen p steps old new list → (q : ℕ) → has q (candidate_pages list) ≡ true → (has q (candidate_pages chosen) ≡ true) ⊎ (q ≡ p)
 chosen-more {p = p} {chosen = chosen} v q h =
     ⊎_elim
@@ -110,72 +98,138 @@ chosen-more {p = p} {chosen = chosen} v q h =
     ⊎_elim (λ (e : q ≡ p). inr e) (λ (ne : q ≢ p). inl (grind (arith, nat_tests, both, ne))) (cases_eq q p))
     v.chooses
 
-module _ (want pages drawn : ℕ) where
-  -- each step is at the state word of a page passed
-  pub walk-at : (k : ℕ) (done : List Did) (looks : Looks) (list : List (ℕ × ℕ)) → WalksPages want pages drawn k done looks list → Each (λ (d : Did). (q : ℕ) × (d.at ≡ places.State q) × IsPassed pages drawn k q) done
-  walk-at zero done looks list w = subst (Each (λ (d : Did). (q : ℕ) × (d.at ≡ places.State q) × IsPassed pages drawn 0 q)) (sym w.0) tt
-  walk-at (suc k) done looks list (before, steps, old, chosen, cut, walk, room, visit) =
-      let P : Did → Type 0 = λ d. (q : ℕ) × (d.at ≡ places.State q) × IsPassed pages drawn (suc k) q in
-      subst (Each P) (sym cut)
-      (each-both P before steps (each-map _ P (λ (d : Did) h. (h.0, h.1, passed-more pages drawn k h.0 h.2)) before (walk-at k before old chosen walk))
-      (each-map _ P (λ (d : Did) h. ((drawn + k) % pages, h, (k, omega arith, refl))) steps (visit-of _ _ _ _ _ _ visit).there))
+-- ---- the pages passed, by the words of the table before the walk
 
-  -- the candidates are pages that were passed
-  chosen-passed : (k q : ℕ) (done : List Did) (looks : Looks) (list : List (ℕ × ℕ)) → WalksPages want pages drawn k done looks list → has q (candidate_pages list) ≡ true → IsPassed pages drawn k q
-  chosen-passed zero q done looks list w h = absurd (true≢false (sym h ∙ ap (λ c. has q (candidate_pages c)) w.2))
-  chosen-passed (suc k) q done looks list (before, steps, old, chosen, cut, walk, room, visit) h =
-      ⊎_elim
-      (λ c. passed-more pages drawn k q (chosen-passed k q before old chosen walk c))
-      (λ e. (k, omega arith, e))
-      (chosen-more (visit-of _ _ _ _ _ _ visit) q h)
+-- the frame at one of the first places is page p's, by these words
+abbrev IsOwnedAt : Origin → List ℕ → ℕ → ℕ → ℕ → Type 0
+IsOwnedAt start words drawn count p = (k : ℕ) × (k < count) × (slice_index words (index_of start (places.Owner ((drawn + k) % start.frames))) ≡ p + 1)
 
-  -- so none of them is met again in the first round
-  pub first-round : (k : ℕ) (done : List Did) (looks : Looks) (list : List (ℕ × ℕ)) → k < pages → WalksPages want pages drawn k done looks list → has ((drawn + k) % pages) (candidate_pages list) ≡ false
-  first-round k done looks list l walk =
-      ⊎_elim
-      (λ met.
-      let before : IsPassed pages drawn k ((drawn + k) % pages) = chosen-passed k ((drawn + k) % pages) done looks list walk met in
-      absurd (other-place pages (drawn % pages) before.0 k (mod-lt drawn (omega (arith, l))) before.1 l (mod-add-mod drawn pages before.0 ∙ sym before.2 ∙ sym (mod-add-mod drawn pages k))))
-      (λ none. none)
-      (cases_Bool (has ((drawn + k) % pages) (candidate_pages list)))
+owned-more : (start : Origin) (words : List ℕ) (drawn k q : ℕ) → IsOwnedAt start words drawn k q → IsOwnedAt start words drawn (suc k) q
+owned-more start words drawn k q (j, low, is) = (j, omega (arith, low), is)
 
-  -- a page that was passed has its word as the clock leaves it, and any page has that or its word
-  pub record IsLeftBy (k q : ℕ) (a b : List ℕ) : Type 0 where
-    pub passed : IsPassed pages drawn k q → slice_index b q ≡ passed_word (slice_index a q)
-    pub either : (slice_index b q ≡ slice_index a q) ⊎ (slice_index b q ≡ passed_word (slice_index a q))
+-- the place of an owner word is that of no state word
+owner-apart : (start : Origin) (f q : ℕ) → q < start.pages → index_of start (places.Owner f) ≢ q
+owner-apart start f q l e = omega (arith, e, l)
 
-  pub walk-words : (start : Origin) (k q : ℕ) (done : List Did) (looks : Looks) (list : List (ℕ × ℕ)) (a b : List ℕ) → q < length a → WalksPages want pages drawn k done looks list → Follows start done a b → IsLeftBy k q a b
-  walk-words start zero q done looks list a b inside w f =
+module _ (want drawn : ℕ) (start : Origin) where
+  -- each step loads an owner word, or is at the state word of a page passed
+  abbrev IsWalkStep : List ℕ → ℕ → Did → Type 0
+  IsWalkStep a k d = ((f : ℕ) × (f < start.frames) × (d.at ≡ places.Owner f) × (d.wrote ≡ None)) ⊎ ((q : ℕ) × (q < start.pages) × (d.at ≡ places.State q) × IsOwnedAt start a drawn k q)
+
+  -- what a walk leaves of the words of a table that nobody else changes
+  pub record IsLeft (k : ℕ) (done : List Did) (list : List (ℕ × ℕ)) (a b : List ℕ) : Type 0 where
+    pub steps : Each (IsWalkStep a k) done
+    -- the owner words are as they were
+    pub owners : (f : ℕ) → slice_index b (index_of start (places.Owner f)) ≡ slice_index a (index_of start (places.Owner f))
+    -- a page that was passed has its word as the clock leaves it, and any page has that or its word
+    pub passed : (q : ℕ) → q < start.pages → q < length a → IsOwnedAt start a drawn k q → slice_index b q ≡ passed_word (slice_index a q)
+    pub either : (q : ℕ) → q < start.pages → (slice_index b q ≡ slice_index a q) ⊎ (slice_index b q ≡ passed_word (slice_index a q))
+    -- the candidates are pages that were passed
+    pub chosen : (q : ℕ) → has q (candidate_pages list) ≡ true → IsOwnedAt start a drawn k q
+
+  -- one visit more, of a frame whose page is looked at
+  module _ (k p : ℕ) (before more : List Did) (chosen list : List (ℕ × ℕ)) (old new : Looks) (a mid b : List ℕ) (page : p < start.pages) (so-far : IsLeft k before chosen a mid)
+      (named : slice_index mid (index_of start (places.Owner ((drawn + k) % start.frames))) ≡ p + 1) (visits : Visits chosen p more old new list) (f : Follows start more mid b) (long : length mid ≡ length a) where
+    was : slice_index a (index_of start (places.Owner ((drawn + k) % start.frames))) ≡ p + 1
+    was = sym (so-far.owners ((drawn + k) % start.frames)) ∙ named
+
+    here : IsOwnedAt start a drawn (suc k) p
+    here = (k, omega arith, was)
+
+    passes : Passes chosen p mid b
+    passes = visit-words start p more chosen list old new mid b visits f
+
+    -- a page passed by now is this one, or was passed before
+    this-or : (q : ℕ) → IsOwnedAt start a drawn (suc k) q → (q ≡ p) ⊎ IsOwnedAt start a drawn k q
+    this-or q (j, low, is) =
+        ⊎_elim
+        (λ (l : j < k). inr (j, l, is))
+        (λ (h : k ≤ j).
+        let same : j ≡ k = omega (arith, low, h) in
+        let two : q + 1 ≡ p + 1 = sym is ∙ ap (λ n. slice_index a (index_of start (places.Owner ((drawn + n) % start.frames)))) same ∙ was in
+        inl (omega (arith, two)))
+        (cases_lt j k)
+
+    now : (q : ℕ) → q ≡ p → q < length a → slice_index b q ≡ passed_word (slice_index a q)
+    now q same inside =
+        let at-mid : q < length mid = subst (λ n. q < n) (sym long) inside in
+        passed-here start q (slice_index a q) chosen mid b at-mid (so-far.either q (subst (λ n. n < start.pages) (sym same) page))
+        (λ c. so-far.passed q (subst (λ n. n < start.pages) (sym same) page) inside (so-far.chosen q c)) (subst (λ n. Passes chosen n mid b) (sym same) passes)
+
+    pub left-more : (owner : Did) → (drawn + k) % start.frames < start.frames → owner.at ≡ places.Owner ((drawn + k) % start.frames) → owner.wrote ≡ None → IsLeft (suc k) (before ++ owner ∷ more) list a b
+    left-more owner frame at none = record {
+      steps =
+          each-both (IsWalkStep a (suc k)) before (owner ∷ more)
+          (each-map (IsWalkStep a k) (IsWalkStep a (suc k)) (λ d s. ⊎_elim (λ o. inl o) (λ t. inr (t.0, t.1, t.2, owned-more start a drawn k t.0 t.3)) s) before so-far.steps)
+          (inl ((drawn + k) % start.frames, frame, at, none), each-map _ (IsWalkStep a (suc k)) (λ (d : Did) is. inr (p, page, is, here)) more (visit-of p more chosen list old new visits).there);
+      owners = λ g. passed-other start p (index_of start (places.Owner g)) chosen mid b (owner-apart start g p page) passes ∙ so-far.owners g;
+      passed = λ q l inside own.
+          ⊎_elim (λ same. now q same inside)
+          (λ earlier. ⊎_elim (λ same. now q same inside) (λ ne. passed-other start p q chosen mid b ne passes ∙ so-far.passed q l inside earlier) (cases_eq q p))
+          (this-or q own);
+      either = λ q l.
+          ⊎_elim
+          (λ same. passed-either q same l)
+          (λ ne. ⊎_elim (λ e. inl (passed-other start p q chosen mid b ne passes ∙ e)) (λ e. inr (passed-other start p q chosen mid b ne passes ∙ e)) (so-far.either q l))
+          (cases_eq q p);
+      chosen = λ q c. ⊎_elim (λ old. owned-more start a drawn k q (so-far.chosen q old)) (λ e. subst (IsOwnedAt start a drawn (suc k)) (sym e) here) (chosen-more (visit-of p more chosen list old new visits) q c);
+    }
+      where
+        passed-either : (q : ℕ) → q ≡ p → q < start.pages → (slice_index b q ≡ slice_index a q) ⊎ (slice_index b q ≡ passed_word (slice_index a q))
+        passed-either q same l =
+            ⊎_elim
+            (λ inside. inr (now q same inside))
+            (λ past. inl (get_or_past b q 0 (omega (arith, past, follows-length start more mid b f, long)) ∙ sym (get_or_past a q 0 past)))
+            (cases_lt q (length a))
+
+  pub walk-left : (k : ℕ) (done : List Did) (looks : Looks) (list : List (ℕ × ℕ)) (a b : List ℕ) → k ≤ 2 * start.frames → WalksFrames want start.pages start.frames drawn k done looks list → Follows start done a b → IsLeft k done list a b
+  walk-left zero done looks list a b most w f =
       let same : b ≡ a = subst (λ ds. Follows start ds a b) w.0 f in
-      record { passed = λ p. absurd (let low : p.0 < 0 = p.1 in omega (arith, low)); either = inl (ap (λ (l : List ℕ). slice_index l q) same) }
-  walk-words start (suc k) q done looks list a b inside (before, steps, old, chosen, cut, walk, room, visit) f =
-      let g = follows-between start before steps a b (subst (λ ds. Follows start ds a b) cut f) in
-      let mid : List ℕ = g.0 in
-      let so-far : IsLeftBy k q a mid = walk-words start k q before old chosen a mid inside walk g.1 in
-      let p : ℕ = (drawn + k) % pages in
-      let passes : Passes chosen p mid b = visit-words start p steps chosen list old looks mid b visit g.2 in
-      ⊎_elim
-      (λ (here : q ≡ p).
-      let there : q < length mid = subst (λ n. q < n) (sym (follows-length start before a mid g.1)) inside in
-      let now : slice_index b q ≡ passed_word (slice_index a q) =
-      passed-here start q (slice_index a q) chosen mid b there so-far.either (λ c. so-far.passed (chosen-passed k q before old chosen walk c)) (subst (λ n. Passes chosen n mid b) (sym here) passes) in
-      record { passed = λ _. now; either = inr now })
-      (λ (ne : q ≢ p).
-      let same : slice_index b q ≡ slice_index mid q = passed-other start p q chosen mid b ne passes in
       record {
-        passed = λ (h : IsPassed pages drawn (suc k) q). same ∙ so-far.passed (earlier h ne);
-        either = ⊎_elim (λ e. inl (same ∙ e)) (λ e. inr (same ∙ e)) so-far.either;
-      })
-      (cases_eq q p)
+        steps = subst (Each (IsWalkStep a 0)) (sym w.0) tt;
+        owners = λ g. ap (λ (l : List ℕ). slice_index l (index_of start (places.Owner g))) same;
+        passed = λ q l inside own. absurd (let low : own.0 < 0 = own.1 in omega (arith, low));
+        either = λ q l. inl (ap (λ (l : List ℕ). slice_index l q) same);
+        chosen = λ q c. absurd (true≢false (sym c ∙ ap (λ l. has q (candidate_pages l)) w.2));
+      }
+  walk-left (suc k) done looks list a b most (before, steps, old, chosen, cut, walk, room, visit) f =
+      let g = follows-between start before steps a b (subst (λ ds. Follows start ds a b) cut f) in
+      let so-far = walk-left k before old chosen a g.0 (omega (arith, most)) walk g.1 in
+      subst (λ ds. IsLeft (suc k) ds list a b) (sym cut) (by-frame k before steps chosen list old looks a g.0 b so-far visit g.2 (follows-length start before a g.0 g.1) (mod-lt (drawn + k) (omega (arith, most))))
     where
-      earlier : IsPassed pages drawn (suc k) q → q ≢ (drawn + k) % pages → IsPassed pages drawn k q
-      earlier (j, low, is) ne =
-          ⊎_elim (λ (l : j < k). (j, l, is)) (λ (h : k ≤ j). let same : j ≡ k = omega (arith, low, h) in absurd (ne (is ∙ ap (λ n. (drawn + n) % pages) same))) (cases_lt j k)
+      by-frame : (k : ℕ) (before steps : List Did) (chosen list : List (ℕ × ℕ)) (old new : Looks) (a mid b : List ℕ) → IsLeft k before chosen a mid → VisitsFrame start.pages chosen ((drawn + k) % start.frames) steps old new list
+          → Follows start steps mid b → length mid ≡ length a → (drawn + k) % start.frames < start.frames → IsLeft (suc k) (before ++ steps) list a b
+      by-frame k before steps chosen list old new a mid b so-far (frames.empty are e l) f long frame =
+          let g = subst (λ ds. Follows start ds mid b) are f in
+          let none : slice_index a (index_of start (places.Owner ((drawn + k) % start.frames))) ≡ 0 = sym (so-far.owners ((drawn + k) % start.frames)) ∙ sym g.0 in
+          let before-or : (q : ℕ) → IsOwnedAt start a drawn (suc k) q → IsOwnedAt start a drawn k q = λ q own.
+          ⊎_elim (λ low. (own.0, low, own.2))
+          (λ (past : k ≤ own.0).
+          let lt : own.0 < suc k = own.1 in
+          let same : own.0 ≡ k = omega (arith, past, lt) in
+          let zero' : 0 ≡ q + 1 = sym none ∙ ap (λ n. slice_index a (index_of start (places.Owner ((drawn + n) % start.frames)))) (sym same) ∙ own.2 in
+          absurd (omega (arith, zero')))
+          (cases_lt own.0 k) in
+          subst (λ (c : List (ℕ × ℕ)). IsLeft (suc k) (before ++ steps) c a b) (sym l)
+          (subst (IsLeft (suc k) (before ++ steps) chosen a) (sym g.1)
+          record {
+            steps = each-both (IsWalkStep a (suc k)) before steps
+                (each-map (IsWalkStep a k) (IsWalkStep a (suc k)) (λ d s. ⊎_elim (λ o. inl o) (λ t. inr (t.0, t.1, t.2, owned-more start a drawn k t.0 t.3)) s) before so-far.steps)
+                (subst (Each (IsWalkStep a (suc k))) (sym are) (inl ((drawn + k) % start.frames, frame, refl, refl), tt));
+            owners = so-far.owners;
+            passed = λ q l inside own. so-far.passed q l inside (before-or q own);
+            either = so-far.either;
+            chosen = λ q c. owned-more start a drawn k q (so-far.chosen q c);
+          })
+      by-frame k before steps chosen list old new a mid b so-far (frames.named p more page are visits) f long frame =
+          let g = subst (λ ds. Follows start ds mid b) are f in
+          subst (λ ds. IsLeft (suc k) (before ++ ds) list a b) (sym are)
+          (left-more k p before more chosen list old new a mid b page so-far (sym g.0) visits g.1 long (did_load (places.Owner ((drawn + k) % start.frames)) (p + 1)) frame refl refl)
 
 -- ---- the table
 
-module _ {X : Type 0} (want drawn count : ℕ) (steps : List Did) (looks : Looks) (list : List (ℕ × ℕ)) (v w : View X) (same : w.start ≡ v.start) (walk : WalksPages want v.start.pages drawn count steps looks list) (most : count ≤ 2 * v.start.pages)
-    (runs : RunsAlone (did_change places.Hand drawn (hand_more drawn) ∷ steps) [] v w) (alone : IsAlone v) where
+module _ {X : Type 0} (want drawn count : ℕ) (steps : List Did) (looks : Looks) (list : List (ℕ × ℕ)) (v w : View X) (same : w.start ≡ v.start) (walk : WalksFrames want v.start.pages v.start.frames drawn count steps looks list)
+    (most : count ≤ 2 * v.start.frames) (runs : RunsAlone (did_change places.Hand drawn (hand_more drawn) ∷ steps) [] v w) (alone : IsAlone v) where
   abbrev hand-did : Did
   hand-did = did_change places.Hand drawn (hand_more drawn)
 
@@ -186,22 +240,29 @@ module _ {X : Type 0} (want drawn count : ℕ) (steps : List Did) (looks : Looks
   abbrev pages : ℕ
   pages = v.start.pages
 
-  page-of : (q : ℕ) → IsPassed pages drawn count q → q < pages
-  page-of q (k, low, is) = subst (λ n. n < pages) (sym is) (mod-lt (drawn + k) (omega (arith, low, most)))
-
-  walked : Each (λ (d : Did). (q : ℕ) × (d.at ≡ places.State q) × IsPassed pages drawn count q) steps
-  walked = walk-at want pages drawn count steps looks list walk
-
   follows : Follows v.start (hand-did ∷ steps) v.snapshot.words w.snapshot.words
   follows = runs.words alone.0 alone.1
 
   long : length w.snapshot.words ≡ length v.snapshot.words
   long = follows-length v.start (hand-did ∷ steps) v.snapshot.words w.snapshot.words follows
 
+  left : IsLeft want drawn v.start count steps list moved w.snapshot.words
+  left = walk-left want drawn v.start count steps looks list moved w.snapshot.words most walk follows.1
+
+  -- the hand is no owner word, so they are those that the pass knew
+  was-owned : (f : ℕ) → slice_index moved (index_of v.start (places.Owner f)) ≡ known_word_at v (places.Owner f)
+  was-owned f = get_or-set_other v.snapshot.words (index_of v.start places.Hand) (index_of v.start (places.Owner f)) (hand_more drawn) 0 (omega arith)
+
+  owned-so : (q : ℕ) → IsOwnedAt v.start moved drawn count q → IsPassed v drawn count q
+  owned-so q (k, low, is) = (k, low, sym (was-owned ((drawn + k) % v.start.frames)) ∙ is)
+
+  walked : Each (λ (d : Did). ((f : ℕ) × (f < v.start.frames) × (d.at ≡ places.Owner f) × (d.wrote ≡ None)) ⊎ ((q : ℕ) × (q < pages) × (d.at ≡ places.State q) × IsPassed v drawn count q)) steps
+  walked = each-map _ _ (λ d s. ⊎_elim (λ o. inl o) (λ t. inr (t.0, t.1, t.2, owned-so t.0 t.3)) s) steps left.steps
+
   hand-stays : slice_index w.snapshot.words (index_of v.start places.Hand) ≡ slice_index moved (index_of v.start places.Hand)
   hand-stays =
       follows-kept v.start places.Hand steps moved w.snapshot.words follows.1
-      (each-map _ _ (λ (d : Did) h. inr (λ e. (let at : index_of v.start places.Hand ≡ h.0 = e ∙ ap (index_of v.start) h.1 in let low : h.0 < pages = page-of h.0 h.2 in omega (arith, at, low)))) steps walked)
+      (each-map _ _ (λ (d : Did) h. ⊎_elim (λ o. inl o.3) (λ t. inr (λ e. (let at : index_of v.start places.Hand ≡ t.0 = e ∙ ap (index_of v.start) t.2 in let low = t.1 in omega (arith, at, low)))) h) steps walked)
 
   pub walked-knows : KnowsWalked drawn count v w
   walked-knows = record {
@@ -212,9 +273,12 @@ module _ {X : Type 0} (want drawn count : ℕ) (steps : List Did) (looks : Looks
     passed = λ p page is inside.
         let there : p < length v.snapshot.words = subst (λ n. p < n) long inside in
         let other : p ≢ index_of v.start places.Hand = omega (arith, page) in
-        (walk-words want pages drawn v.start count p steps looks list moved w.snapshot.words (subst (λ n. p < n) (sym (length-set v.snapshot.words (index_of v.start places.Hand) (hand_more drawn))) there) walk follows.1).passed is
+        left.passed p page (subst (λ n. p < n) (sym (length-set v.snapshot.words (index_of v.start places.Hand) (hand_more drawn))) there) (is.0, is.1, was-owned ((drawn + is.0) % v.start.frames) ∙ is.2)
         ∙ ap passed_word (get_or-set_other v.snapshot.words (index_of v.start places.Hand) p (hand_more drawn) 0 other);
     others =
-        else-knows (IsWalked pages drawn count) (hand-did ∷ steps) [] v w same runs
-        ((tt, inr (inl refl)), each-map _ _ (λ (d : Did) h. (subst (Within v.start) (sym h.1) (page-of h.0 h.2), inr (inr (h.0, h.1, h.2)))) steps walked) alone;
+        else-knows (IsWalked v drawn count) (hand-did ∷ steps) [] v w same runs
+        ((tt, inr (inl refl)), each-map _ _ (λ (d : Did) h. (there d h, ⊎_elim (λ o. inl o.3) (λ t. inr (inr (t.0, t.2, t.3))) h)) steps walked) alone;
   }
+    where
+      there : (d : Did) → ((f : ℕ) × (f < v.start.frames) × (d.at ≡ places.Owner f) × (d.wrote ≡ None)) ⊎ ((q : ℕ) × (q < pages) × (d.at ≡ places.State q) × IsPassed v drawn count q) → Within v.start d.at
+      there d h = ⊎_elim (λ o. subst (Within v.start) (sym o.2) o.1) (λ t. subst (Within v.start) (sym t.2) t.1) h

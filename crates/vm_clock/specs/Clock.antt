@@ -1,13 +1,13 @@
--- How the clock chooses candidates for eviction: from a place drawn from the hand it walks over the pages, round and round, looks at each, and
--- counts what it sees by the first of these that fits: a page chosen before; an evicted one; one that somebody has locked; one at the last
--- version; an unlocked one, which it marks; a marked one, which it chooses.
+-- How the clock chooses candidates for eviction: from a place drawn from the hand it walks over the frames, round and round, loads each frame's
+-- owner word, looks at the page that the word names, and counts what it sees by the first of these that fits: a frame with no page; a page chosen
+-- before; an evicted one; one that somebody has locked; one at the last version; an unlocked one, which it marks; a marked one, which it chooses.
 use Rattle.std.specs.Prelude.{[], false, if◌then◌else◌, length, List, nat_lt, None, suc, true, zero, ℕ, ◌%◌, ◌&&◌, ◌*◌, ◌++◌, ◌+◌, ◌<◌, ◌==◌, ◌∷◌}
 use Rattle.std.specs.Prelude.{◌≡◌, ◌≢◌, ◌≤◌, ◌⊎◌}
 use Rattle.vm_core.specs.Prelude.{EVICTED, hand_more, MARKED, MAX_VERSION, state_of, UNLOCKED, version_of, word_of}
 use Rattle.vm_rule.specs.Prelude.{did_change, did_exchange, did_load, has}
 use Rattle.vm_rule.specs.declared.view.Place.{Place}
 use Rattle.vm_rule.specs.declared.view.Place.TheVariants as places
-use Rattle.vm_step.specs.Prelude.{candidate_pages, Did, first_or, IsAlone, IsAside, IsAsideOf, IsHeld, KeepsFrames, known_word_at, KnowsAt, KnowsElse}
+use Rattle.vm_step.specs.Prelude.{candidate_pages, Did, first_or, HasGiven, IsAlone, IsAside, IsAsideOf, IsHeld, KeepsFrames, known_word_at, KnowsAt, KnowsElse}
 use Rattle.vm_step.specs.Prelude.{RunsAlone, View}
 use Rattle.vm_step.specs.declared.choice.Looks.{Looks}
 
@@ -56,48 +56,60 @@ pub data Visits (chosen : List (ℕ × ℕ)) (p : ℕ) (steps : List Did) (old :
       (word : ℕ) → LooksAt chosen p word steps [] → state_of word ≡ MARKED → IsBelowLast word → new ≡ record old { found = old.found + 1 }
       → list ≡ chosen ++ (p, word) ∷ [] → Visits chosen p steps old new list
 
--- the first `count` looks of a walk from the place drawn: each was made because candidates were still wanted
-abbrev pub WalksPages : ℕ → ℕ → ℕ → ℕ → List Did → Looks → List (ℕ × ℕ) → Type 0
-WalksPages want pages drawn zero done looks list = (done ≡ []) × (looks ≡ no_looks) × (list ≡ [])
-WalksPages want pages drawn (suc k) done looks list =
-    (before : List Did) × (steps : List Did) × (old : Looks) × (chosen : List (ℕ × ℕ))
-    × (done ≡ before ++ steps) × WalksPages want pages drawn k before old chosen × (length chosen < want)
-    × Visits chosen ((drawn + k) % pages) steps old looks list
+-- what the visit of frame f comes to: no page stands there, or its owner word names a page of the table, which is looked at
+pub data VisitsFrame (pages : ℕ) (chosen : List (ℕ × ℕ)) (f : ℕ) (steps : List Did) (old : Looks) (new : Looks) (list : List (ℕ × ℕ)) : Type 0 where
+  empty :
+      steps ≡ did_load (places.Owner f) 0 ∷ [] → new ≡ record old { gone = old.gone + 1 } → list ≡ chosen → VisitsFrame pages chosen f steps old new list
+  named :
+      (p : ℕ) (more : List Did) → p < pages → steps ≡ did_load (places.Owner f) (p + 1) ∷ more → Visits chosen p more old new list
+      → VisitsFrame pages chosen f steps old new list
 
--- page p is at one of the first `count` places of a walk from the place drawn
-abbrev pub IsPassed : ℕ → ℕ → ℕ → ℕ → Type 0
-IsPassed pages drawn count p = (k : ℕ) × (k < count) × (p ≡ (drawn + k) % pages)
+-- the first `count` looks of a walk from the place drawn: each was made because candidates were still wanted
+abbrev pub WalksFrames : ℕ → ℕ → ℕ → ℕ → ℕ → List Did → Looks → List (ℕ × ℕ) → Type 0
+WalksFrames want pages frames drawn zero done looks list = (done ≡ []) × (looks ≡ no_looks) × (list ≡ [])
+WalksFrames want pages frames drawn (suc k) done looks list =
+    (before : List Did) × (steps : List Did) × (old : Looks) × (chosen : List (ℕ × ℕ))
+    × (done ≡ before ++ steps) × WalksFrames want pages frames drawn k before old chosen × (length chosen < want)
+    × VisitsFrame pages chosen ((drawn + k) % frames) steps old looks list
+
+-- one of the steps found an owner word that names page p
+abbrev pub IsNamed : List Did → ℕ → Type 0
+IsNamed done p = (f : ℕ) × HasGiven done (places.Owner f) (p + 1)
 
 -- the word of a page once the clock has passed it, where nobody else changes it: an unlocked page below the last version is marked
 abbrev pub passed_word : ℕ → ℕ
 passed_word word = if (state_of word == UNLOCKED) && nat_lt (version_of word) MAX_VERSION then word_of MARKED (version_of word) else word
 
--- the places that a walk writes: the hand, and the state words of the pages that it passed
-abbrev pub IsWalked : ℕ → ℕ → ℕ → Place → Type 0
-IsWalked pages drawn count at = (at ≡ places.Hand) ⊎ ((p : ℕ) × (at ≡ places.State p) × IsPassed pages drawn count p)
-
 module _ {X : Type 0} where
+  -- the frame at one of the first `count` places of a walk from the place drawn is page p's, as the pass knew
+  abbrev pub IsPassed : View X → ℕ → ℕ → ℕ → Type 0
+  IsPassed v drawn count p = (k : ℕ) × (k < count) × (known_word_at v (places.Owner ((drawn + k) % v.start.frames)) ≡ p + 1)
+
+  -- the places that a walk writes: the hand, and the state words of the pages that it passed
+  abbrev pub IsWalked : View X → ℕ → ℕ → Place → Type 0
+  IsWalked v drawn count at = (at ≡ places.Hand) ⊎ ((p : ℕ) × (at ≡ places.State p) × IsPassed v drawn count p)
+
   -- what a pass that was alone knows after a walk: the hand went on once from the place drawn, the pages passed have their words (`passed_word`),
   -- and all other words are as before
   pub record KnowsWalked (drawn count : ℕ) (v w : View X) : Type 0 where
     pub drawn_is : drawn ≡ known_word_at v places.Hand
     pub hand : KnowsAt places.Hand (hand_more drawn) w
     pub passed :
-        (p : ℕ) → p < v.start.pages → IsPassed v.start.pages drawn count p
+        (p : ℕ) → p < v.start.pages → IsPassed v drawn count p
         → KnowsAt (places.State p) (passed_word (known_word_at v (places.State p))) w
-    pub others : KnowsElse (IsWalked v.start.pages drawn count) v w
+    pub others : KnowsElse (IsWalked v drawn count) v w
 
   -- the walk that chose these candidates, and what it left of the view: no lock, no frame and no entry changed; nor did an open read but of
-  -- the pages that it passed
+  -- the pages that the owner words named which it found
   pub record IsChosen (want : ℕ) (looks : Looks) (list : List (ℕ × ℕ)) (v w : View X) : Type 0 where
     pub drawn : ℕ
     pub count : ℕ
     pub steps : List Did
-    pub walk : WalksPages want v.start.pages drawn count steps looks list
-    pub most : count ≤ 2 * v.start.pages
-    pub ends : (length list ≡ want) ⊎ (count ≡ 2 * v.start.pages)
+    pub walk : WalksFrames want v.start.pages v.start.frames drawn count steps looks list
+    pub most : count ≤ 2 * v.start.frames
+    pub ends : (length list ≡ want) ⊎ (count ≡ 2 * v.start.frames)
     pub counted : looks_counted looks ≡ count
-    pub aside : IsAsideOf (IsPassed v.start.pages drawn count) (did_change places.Hand drawn (hand_more drawn) ∷ steps) v w
+    pub aside : IsAsideOf (IsNamed steps) (did_change places.Hand drawn (hand_more drawn) ∷ steps) v w
     pub keeps : KeepsFrames v w
     -- nothing was released; of a pass that is alone the steps made all that happened to the table's words
     pub alone : RunsAlone (did_change places.Hand drawn (hand_more drawn) ∷ steps) [] v w
@@ -108,5 +120,13 @@ module _ {X : Type 0} where
     pub steps : List Did
     pub visits : Visits chosen p steps old new list
     pub aside : IsAside p steps v w
+    pub keeps : KeepsFrames v w
+    pub alone : RunsAlone steps [] v w
+
+  -- frame f was visited: what the visit came to, and what it left of the view
+  pub record IsFrameVisited (f : ℕ) (old : Looks) (chosen : List (ℕ × ℕ)) (new : Looks) (list : List (ℕ × ℕ)) (v w : View X) : Type 0 where
+    pub steps : List Did
+    pub visits : VisitsFrame v.start.pages chosen f steps old new list
+    pub aside : IsAsideOf (IsNamed steps) steps v w
     pub keeps : KeepsFrames v w
     pub alone : RunsAlone steps [] v w

@@ -1,18 +1,21 @@
-//! The clock that chooses pages for eviction: it marks the pages that it passes, and chooses those that still have their mark when it comes
-//! round. Marks are states of the page's word, which a reader takes away.
+//! The clock that chooses pages for eviction: it walks over the frames and looks at the page in each; it marks the pages that it passes, and chooses
+//! those that still have their mark when it comes round. Marks are states of the page's word, which a reader takes away.
 #![tactic(auto)]
 
-ghost use Rattle.std.specs.Prelude.{◌%◌, ◌*◌, ◌+◌, ◌<◌, ◌≡◌, ◌≤◌, false, length};
-ghost use Rattle.vm_rule.specs.Prelude.{has};
-ghost use Rattle.vm_step.specs.Prelude.{AreCandidates, candidate_pages, IsReady, IsSamePass, view};
-ghost use Rattle.vm_clock.specs.Clock.{IsChosen, IsPageVisited, looks_counted};
+ghost use Rattle.std.specs.Prelude.{◌%◌, ◌*◌, ◌+◌, ◌<◌, ◌≡◌, ◌≤◌, length};
+ghost use Rattle.vm_step.specs.Prelude.{AreCandidates, IsReady, IsSamePass, view};
+ghost use Rattle.vm_clock.specs.Clock.{IsChosen, IsFrameVisited, IsPageVisited, looks_counted};
+ghost use Rattle.vm_clock.specs.Met.{Covers};
 
+mod met;
+
+use crate::met::{MASKS, is_met, no_pages, note};
 use arrayvec::ArrayVec;
 use vm_block::Block;
 use vm_core::{FRAMES, MAX_VERSION, StateWord};
 use vm_owner::Owner;
 use vm_rule::words::{Pass, Words};
-use vm_step::{Candidates, Looks, Took, hand, look_silently, mark};
+use vm_step::{Candidates, Looks, Took, hand, look_silently, mark, oload};
 
 /// No look yet.
 const NO_LOOKS: Looks = Looks {
@@ -26,7 +29,7 @@ const NO_LOOKS: Looks = Looks {
     first_worn: None,
 };
 
-/// Chooses up to `want` (1 to 64) candidates, with at most two looks at each page of the table.
+/// Chooses up to `want` (1 to 64) candidates, with at most two looks at each frame of the table.
 pub fn candidates<U: Owner, B: Block>(
     words: &Words<U, B>,
     pass: &mut Pass<U>,
@@ -38,7 +41,7 @@ pub fn candidates<U: Owner, B: Block>(
     ensures ready { IsReady words.now.table.shared.key B.tells words.now.table.shared.table_id pass.new }
     ensures chosen { IsChosen want result.looks result.list.items (view pass.old) (view pass.new) }
     ensures list { AreCandidates words.now.table.shared.key.pages result.list.items }
-    ensures looks { looks_counted result.looks ≤ 2 * words.now.table.shared.key.pages }
+    ensures looks { looks_counted result.looks ≤ 2 * words.now.table.shared.key.frames }
     ensures few { length result.list.items ≤ want }
 {
     let drawn = hand(words, pass);
@@ -46,76 +49,83 @@ pub fn candidates<U: Owner, B: Block>(
         list: ArrayVec::new(),
         looks: NO_LOOKS,
     };
-    let mut page = first_page(drawn, words.pages);
-    for k in 0..2 * words.pages {
+    let mut met = no_pages();
+    let mut frame = first_frame(drawn, words.frames);
+    for k in 0..2 * words.frames {
         if chosen.list.len() == want as usize {
             return chosen;
         }
-        visit(words, pass, page as u32, k >= words.pages, &mut chosen);
-        page = page_after(page, words.pages);
+        visit_frame(words, pass, frame as u32, &mut met, &mut chosen);
+        frame = frame_after(frame, words.frames);
     }
     chosen
 }
 
-/// The page at the place drawn.
-fn first_page(drawn: u64, pages: usize) -> usize
-    ensures { 0 < pages → result ≡ drawn % pages }
+/// The frame at the place drawn.
+fn first_frame(drawn: u64, frames: usize) -> usize
+    ensures { 0 < frames → result ≡ drawn % frames }
 {
-    if pages == 0 {
+    if frames == 0 {
         return 0;
     }
-    (drawn % pages as u64) as usize
+    (drawn % frames as u64) as usize
 }
 
-/// The page behind this one, round and round. A walk takes many of these steps, so none of them divides.
-fn page_after(page: usize, pages: usize) -> usize
-    requires { page < pages }
-    ensures { result ≡ (page + 1) % pages }
+/// The frame behind this one, round and round. A walk takes many of these steps, so none of them divides.
+fn frame_after(frame: usize, frames: usize) -> usize
+    requires { frame < frames }
+    ensures { result ≡ (frame + 1) % frames }
 {
-    if page + 1 == pages { 0 } else { page + 1 }
+    if frame + 1 == frames { 0 } else { frame + 1 }
 }
 
-/// Whether the page is one of the candidates, which it can be in the walk's second round only: so the first goes through no list.
-fn is_met(list: &[(u32, u64)], p: u32, second: bool) -> bool
-    requires { second ≡ false → has p (candidate_pages list.now) ≡ false }
-    ensures { result ≡ has p (candidate_pages list.now) }
-{
-    second && is_chosen(list, p)
-}
-
-/// Whether the page is one of the candidates.
-fn is_chosen(list: &[(u32, u64)], p: u32) -> bool
-    ensures { result ≡ has p (candidate_pages list.now) }
-{
-    for i in 0..list.len() {
-        if list[i].0 == p {
-            return true;
-        }
-    }
-    false
-}
-
-/// Looks at the page, in the walk's first or second round, and counts what the look came to: the first that fits. An unlocked page is marked, a
-/// marked one is chosen.
-fn visit<U: Owner, B: Block>(
+/// Looks at the page that stands in the frame, where its owner word names one, and counts what the look came to.
+fn visit_frame<U: Owner, B: Block>(
     words: &Words<U, B>,
     pass: &mut Pass<U>,
-    p: u32,
-    second: bool,
+    f: u32,
+    met: &mut [u64; MASKS],
     chosen: &mut Candidates,
 )
     requires ready { IsReady words.now.table.shared.key B.tells words.now.table.shared.table_id pass.old }
-    requires page { p < words.now.table.shared.key.pages }
-    requires first { second ≡ false → has p (candidate_pages chosen.old.list.items) ≡ false }
+    requires frame { f < words.now.table.shared.key.frames }
+    requires covers { Covers met.old chosen.old.list.items }
     requires room { length chosen.old.list.items < FRAMES }
     requires counts { looks_counted chosen.old.looks < 4294967295 }
     ensures pass { IsSamePass pass.old pass.new }
     ensures ready { IsReady words.now.table.shared.key B.tells words.now.table.shared.table_id pass.new }
+    ensures covers { Covers met.new chosen.new.list.items }
+    ensures visited { IsFrameVisited f chosen.old.looks chosen.old.list.items chosen.new.looks chosen.new.list.items (view pass.old) (view pass.new) }
+{
+    let owner = oload(words, pass, f);
+    if owner == 0 {
+        chosen.looks.gone += 1;
+        return;
+    }
+    visit(words, pass, (owner - 1) as u32, met, chosen);
+}
+
+/// Looks at the page and counts what the look came to: the first that fits. An unlocked page is marked, a marked one is chosen.
+fn visit<U: Owner, B: Block>(
+    words: &Words<U, B>,
+    pass: &mut Pass<U>,
+    p: u32,
+    met: &mut [u64; MASKS],
+    chosen: &mut Candidates,
+)
+    requires ready { IsReady words.now.table.shared.key B.tells words.now.table.shared.table_id pass.old }
+    requires page { p < words.now.table.shared.key.pages }
+    requires covers { Covers met.old chosen.old.list.items }
+    requires room { length chosen.old.list.items < FRAMES }
+    requires counts { looks_counted chosen.old.looks < 4294967295 }
+    ensures pass { IsSamePass pass.old pass.new }
+    ensures ready { IsReady words.now.table.shared.key B.tells words.now.table.shared.table_id pass.new }
+    ensures covers { Covers met.new chosen.new.list.items }
     ensures visited { IsPageVisited p chosen.old.looks chosen.old.list.items chosen.new.looks chosen.new.list.items (view pass.old) (view pass.new) }
 {
     let word = look_silently(words, pass, p);
     let state = StateWord::state(word);
-    if is_met(chosen.list.as_slice(), p, second) {
+    if is_met(chosen.list.as_slice(), met, p) {
         chosen.looks.again += 1;
     } else if state == StateWord::EVICTED {
         chosen.looks.gone += 1;
@@ -127,6 +137,7 @@ fn visit<U: Owner, B: Block>(
     } else if state == StateWord::MARKED {
         chosen.looks.found += 1;
         chosen.list.push((p, word));
+        note(met, p);
     } else {
         match mark(words, pass, p, word) {
             Took::Taken => chosen.looks.marked += 1,

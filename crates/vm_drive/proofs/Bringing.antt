@@ -56,7 +56,7 @@ module _ {X : Type 0} where
       let start : dry.start ≡ v.start = (alloc-keeps home cap 1 old emptied v dry allocs.Dry a).start in
       let last = alloc-keeps home cap 1 filled new clean w allocs.Dry b in
       max-later clean w q last.start last.log
-      (swept-worn cap cap emptied filled report dry clean q s (subst (λ (o : Origin). 1 ≤ o.pages) (sym start) some') says.2.first)
+      (swept-worn cap cap emptied filled report dry clean q s says.2.first)
 
   pub bring-worn : (home cap p : ℕ) (old new : List ℕ) (before after : ℕ) (v w : View X) (q : ℕ) → p < v.start.pages → IsBring home cap p old new before after v w (brings.Worn q) → HasFoundWorn q w
   bring-worn home cap p old new before after v w q inside (is_bring.framed f kept x g t) =

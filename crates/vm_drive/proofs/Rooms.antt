@@ -138,7 +138,7 @@ swept-called call fault u v w want cap old new report (brings.Dry looks) k mine 
 swept-called call fault u v w want cap old new report (brings.Device p count) k mine some' s says names =
     subst (λ (f : TreeFault). IsCalled call (Err f) u w) (sym names) (mine, noted-before p count u v w k.notes (swept-noted want cap old new report v w p count s says.1))
 swept-called call fault u v w want cap old new report (brings.Worn p) k mine some' s says names =
-    subst (λ (f : TreeFault). IsCalled call (Err f) u w) (sym names) (mine, swept-worn want cap old new report v w p s (subst (λ (o : Origin). 1 ≤ o.pages) (sym k.start) some') says.2.first)
+    subst (λ (f : TreeFault). IsCalled call (Err f) u w) (sym names) (mine, swept-worn want cap old new report v w p s says.2.first)
 
 pub room-called : (key value : ℕ) (fault : TreeFault) (u v w : View Said) → KeepsPass u v → w.mine ≡ u.mine → 1 ≤ u.start.pages → IsRoomFault key fault v w → IsCalled (Put key value) (Err fault) u w
 room-called key value fault u v w k mine some' (rooms.missing found page reads needed fault_is) =

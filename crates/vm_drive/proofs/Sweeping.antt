@@ -1,13 +1,12 @@
 -- What a sweep tells of worn pages and of writes that failed.
 use Rattle.std.proofs.Common.{[], ⊎_elim, ◌%◌, ◌++◌, ◌+◌, ◌<◌, ◌∙◌, ◌∷◌, ◌≡◌, ◌≤◌, ◌⊎◌, ap, append_assoc, inl, inr, List, None, Option, refl, Some}
 use Rattle.std.proofs.Common.{subst, suc, sym, zero, ℕ}
-use Rattle.std.proofs.Math.Nat.{mod-lt}
 use Rattle.vm_core.specs.Prelude.{hand_more, MAX_VERSION, version_of}
 use Rattle.vm_rule.specs.Prelude.{did_change, did_load, StartsWith}
 use Rattle.vm_rule.specs.declared.view.Place.TheVariants as places
 use Rattle.vm_step.specs.Prelude.{Did, first_or, HasGiven, Note, Origin, View}
 use Rattle.vm_step.specs.declared.choice.Looks.{Looks}
-use Rattle.vm_clock.specs.Clock.{Visits, Visits as visits, WalksPages}
+use Rattle.vm_clock.specs.Clock.{Visits, Visits as visits, VisitsFrame, VisitsFrame as frames, WalksFrames}
 use Rattle.vm_evict.specs.{declared.report.Report.Report, Evictions.first_of}
 use Rattle.vm_pool.specs.Sweeps.{IsSwept}
 use Rattle.vm_pool.proofs.Keeping.{swept-keeps}
@@ -53,15 +52,24 @@ met-right pages p before steps m =
       last = m.last;
     }
 
+-- the same of a visit of a frame
+frame-worn : (pages f : ℕ) (chosen : List (ℕ × ℕ)) (steps : List Did) (old new : Looks) (list : List (ℕ × ℕ)) (p : ℕ) → VisitsFrame pages chosen f steps old new list → new.first_worn ≡ Some p → (old.first_worn ≡ Some p) ⊎ IsMetWorn pages p steps
+frame-worn pages f chosen steps old new list p (frames.empty are now then) e = inl (sym (ap (λ (l : Looks). l.first_worn) now) ∙ e)
+frame-worn pages f chosen steps old new list p (frames.named q more inside are visits) e =
+    ⊎_elim
+    (λ before. inl before)
+    (λ met. inr (subst (IsMetWorn pages p) (sym are) (met-right pages p (did_load (places.Owner f) (q + 1) ∷ []) more met)))
+    (visit-worn chosen q more old new list pages p inside visits e)
+
 -- the first worn page of a walk was found so by one of its steps
-walk-worn : (want pages drawn count : ℕ) (done : List Did) (looks : Looks) (list : List (ℕ × ℕ)) (p : ℕ) → 1 ≤ pages → WalksPages want pages drawn count done looks list → looks.first_worn ≡ Some p → IsMetWorn pages p done
-walk-worn want pages drawn zero done looks list p some' w e = absurd (let no : None ≡ Some p = sym (ap (λ (l : Looks). l.first_worn) w.1) ∙ e in cc)
-walk-worn want pages drawn (suc k) done looks list p some' w e =
+walk-worn : (want pages frames drawn count : ℕ) (done : List Did) (looks : Looks) (list : List (ℕ × ℕ)) (p : ℕ) → WalksFrames want pages frames drawn count done looks list → looks.first_worn ≡ Some p → IsMetWorn pages p done
+walk-worn want pages frames drawn zero done looks list p w e = absurd (let no : None ≡ Some p = sym (ap (λ (l : Looks). l.first_worn) w.1) ∙ e in cc)
+walk-worn want pages frames drawn (suc k) done looks list p w e =
     subst (λ (l : List Did). IsMetWorn pages p l) (sym w.4)
     (⊎_elim
-    (λ before. met-left pages p w.0 w.1 (walk-worn want pages drawn k w.0 w.2 w.3 p some' w.5 before))
+    (λ before. met-left pages p w.0 w.1 (walk-worn want pages frames drawn k w.0 w.2 w.3 p w.5 before))
     (λ now. met-right pages p w.0 w.1 now)
-    (visit-worn w.3 ((drawn + k) % pages) w.1 w.2 looks list pages p (mod-lt (drawn + k) some') w.7 e))
+    (frame-worn pages ((drawn + k) % frames) w.3 w.1 w.2 looks list p w.7 e))
 
 abbrev pair_in : Option (ℕ × ℕ) → ℕ × ℕ
 pair_in None = (0, 0)
@@ -81,11 +89,11 @@ module _ {X : Type 0} where
   )
 
   -- a sweep that met only worn pages found the first of them at the last version
-  pub swept-worn : (want cap : ℕ) (old new : List ℕ) (report : Report) (v w : View X) (p : ℕ) → IsSwept want cap old new report v w → 1 ≤ v.start.pages → report.looks.first_worn ≡ Some p → HasFoundWorn p w
-  swept-worn want cap old new report v w p s some' e =
+  pub swept-worn : (want cap : ℕ) (old new : List ℕ) (report : Report) (v w : View X) (p : ℕ) → IsSwept want cap old new report v w → report.looks.first_worn ≡ Some p → HasFoundWorn p w
+  swept-worn want cap old new report v w p s e =
       let c = s.chosen in
       let met : IsMetWorn v.start.pages p (did_change places.Hand c.drawn (hand_more c.drawn) ∷ c.steps) =
-      met-right v.start.pages p (did_change places.Hand c.drawn (hand_more c.drawn) ∷ []) c.steps (walk-worn want v.start.pages c.drawn c.count c.steps report.looks s.list p some' c.walk e) in
+      met-right v.start.pages p (did_change places.Hand c.drawn (hand_more c.drawn) ∷ []) c.steps (walk-worn want v.start.pages v.start.frames c.drawn c.count c.steps report.looks s.list p c.walk e) in
       let start : w.start ≡ v.start = (swept-keeps want cap old new report v w s).start in
       record {
         inside = subst (λ (o : Origin). p < o.pages) (sym start) met.inside;

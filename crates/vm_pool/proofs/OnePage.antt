@@ -37,16 +37,16 @@ passed-free word f =
     ]
 
 -- a page is one of those that a walk passed, or none of them
-passed-or : (pages drawn p count : ℕ) → IsPassed pages drawn count p ⊎ (IsPassed pages drawn count p → ⊥)
-passed-or pages drawn p zero = inr (λ h. absurd (omega arith))
-passed-or pages drawn p (suc n) =
+passed-or : {X : Type 0} (v : View X) (drawn p count : ℕ) → IsPassed v drawn count p ⊎ (IsPassed v drawn count p → ⊥)
+passed-or v drawn p zero = inr (λ h. absurd (omega arith))
+passed-or v drawn p (suc n) =
     ⊎_elim
     (λ h. inl (h.0, omega arith, h.2))
     (λ none. ⊎_elim
     (λ e. inl (n, omega arith, e))
-    (λ ne. inr (λ h. ⊎_elim (λ low. none (h.0, low, h.2)) (λ past. let same : h.0 ≡ n = omega arith in ne (h.2 ∙ ap (λ (k : ℕ). (drawn + k) % pages) same)) (cases_lt h.0 n)))
-    (cases_eq p ((drawn + n) % pages)))
-    (passed-or pages drawn p n)
+    (λ ne. inr (λ h. ⊎_elim (λ low. none (h.0, low, h.2)) (λ past. let same : h.0 ≡ n = omega arith in ne (ap (λ (k : ℕ). known_word_at v (places.Owner ((drawn + k) % v.start.frames))) (sym same) ∙ h.2)) (cases_lt h.0 n)))
+    (cases_eq (known_word_at v (places.Owner ((drawn + n) % v.start.frames))) (p + 1)))
+    (passed-or v drawn p n)
 
 -- one candidate that gives something
 some-gathered : (list : List (ℕ × ℕ)) (ends : List Stage) (n j : ℕ) → j < n → 1 ≤ length (frame_at (candidate_at list j) (stage_at ends j)) → 1 ≤ length (gathered frame_at n list ends)
@@ -71,11 +71,11 @@ module _ {X : Type 0} where
       ⊎_elim
       (λ h. subst (IsFreeAs before) (sym (k.passed p page h inside)) (passed-free before f))
       (λ none. subst (IsFreeAs before) (sym (k.others.words (places.State p) page (λ t. not-there none t))) (f, refl))
-      (passed-or v.start.pages drawn p count)
+      (passed-or v drawn p count)
     where
-      not-there : (IsPassed v.start.pages drawn count p → ⊥) → IsWalked v.start.pages drawn count (places.State p) → ⊥
+      not-there : (IsPassed v drawn count p → ⊥) → IsWalked v drawn count (places.State p) → ⊥
       not-there none (inl e) = subst (IsOfPage p) e refl
-      not-there none (inr q) = none (subst (λ (n : ℕ). IsPassed v.start.pages drawn count n) (subst (IsOfPage p) q.1 refl) q.2)
+      not-there none (inr q) = none (subst (λ (n : ℕ). IsPassed v drawn count n) (subst (IsOfPage p) q.1 refl) q.2)
 
   -- ---- over a sweep
 

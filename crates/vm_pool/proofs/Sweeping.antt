@@ -10,9 +10,9 @@ use Rattle.vm_pool.proofs.Prelude.{stays-known, still-alone, subst, sym, true, t
 -- ---- what a pass that is alone knows
 
 -- a walk is on no bundle's word
-not-walked : (start : Origin) (drawn count g : ℕ) → g < bundles_of start.frames → IsWalked start.pages drawn count (places.Bundle g) → ⊥
-not-walked start drawn count g inside (inl e) = subst (IsBundleOf start) e inside
-not-walked start drawn count g inside (inr p) = subst (IsBundleOf start) p.1 inside
+not-walked : {X : Type 0} (v : View X) (drawn count g : ℕ) → g < bundles_of v.start.frames → IsWalked v drawn count (places.Bundle g) → ⊥
+not-walked v drawn count g inside (inl e) = subst (IsBundleOf v.start) e inside
+not-walked v drawn count g inside (inr p) = subst (IsBundleOf v.start) p.1 inside
 
 module _ {X : Type 0} where
   -- frames that came back to a bundle's word, told of an earlier view with the same word there
@@ -48,7 +48,7 @@ module _ {X : Type 0} where
               let at-x : g < bundles_of x.start.frames = subst (λ (o : Origin). g < bundles_of o.frames) (sym chosen.aside.start) l in
               let at-y : g < bundles_of y.start.frames = subst (λ (o : Origin). g < bundles_of o.frames) (sym start) l in
               given-from freed.given g v y w
-              (e.others.words (places.Bundle g) at-x (λ t. t) ∙ walked.others.words (places.Bundle g) l (not-walked v.start chosen.drawn chosen.count g l))
+              (e.others.words (places.Bundle g) at-x (λ t. t) ∙ walked.others.words (places.Bundle g) l (not-walked v chosen.drawn chosen.count g l))
               (freed.back.table ay g at-y);
           others = else-then more x y w evicted.aside.start
               (else-within (IsOfAny (candidate_pages list)) more x y (λ at t. inl t) e.others)

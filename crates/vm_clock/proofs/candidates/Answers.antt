@@ -1,39 +1,31 @@
 -- The walk so far gives each clause.
-use Rattle.vm_clock.proofs.Prelude.{add_assoc, ap, arith, inl, inr, length, looks_counted, mod-add-mod, nat_tests, subst, suc, sym, view, ◌%◌, ◌*◌}
+use Rattle.vm_clock.proofs.Prelude.{add_assoc, ap, arith, inl, inr, length, looks_counted, mod-add-mod, subst, suc, sym, view, ◌%◌, ◌*◌}
 use Rattle.vm_clock.proofs.Prelude.{◌+◌, ◌<◌, ◌∙◌, ◌≡◌, ◌≤◌}
-use Rattle.vm_clock.proofs.Walking.{IsWalking, walked-chosen, walked-few, walked-list, walked-looks, walking-first, walking-on}
+use Rattle.vm_clock.proofs.Walking.{IsWalking, walked-chosen, walked-few, walked-list, walked-looks, walking-on}
 use Rattle.vm_clock.proofs.candidates.Goals as goal
 
 pub returns-then-len-want-clause-list : goal.returns-then-len-want-clause-list
-returns-then-len-want-clause-list g c =
-    walked-list _ _ _ _ _ _ _ c.loop-k.invariant.walking _ c.requires.ready.table.is_shape.pages (subst (λ n. c.loop-k.k ≤ 2 * n) c.args.words.now.shape.0 c.loop-k.auto.k-end)
+returns-then-len-want-clause-list g c = walked-list _ _ _ _ _ _ _ c.loop-k.invariant.walking _ c.requires.ready.table.is_shape.pages
 
 pub returns-then-len-want-clause-looks : goal.returns-then-len-want-clause-looks
 returns-then-len-want-clause-looks g c =
-    subst (λ n. n ≤ 2 * c.args.words.now.table.shared.key.pages) (sym (walked-looks _ _ _ _ _ _ _ c.loop-k.invariant.walking)) (subst (λ n. c.loop-k.k ≤ 2 * n) c.args.words.now.shape.0 c.loop-k.auto.k-end)
+    subst (λ n. n ≤ 2 * c.args.words.now.table.shared.key.frames) (sym (walked-looks _ _ _ _ _ _ _ c.loop-k.invariant.walking)) (subst (λ n. c.loop-k.k ≤ 2 * n) c.args.words.now.shape.1 c.loop-k.auto.k-end)
 
-pub visit-requires-clause-first : goal.visit-requires-clause-first
-visit-requires-clause-first g c first =
-    let low : c.loop-k.k < c.args.words.now.pages = grind (arith, nat_tests, first) in
-    let pages : c.args.words.now.pages ≡ (view c.args.pass.now).start.pages = c.args.words.now.shape.0 ∙ sym c.requires.ready.table.is_shape.pages in
-    walking-first _ _ _ _ _ _ _ _ c.loop-k.invariant.walking (subst (λ n. c.loop-k.k < n) pages low)
-    (c.loop-k.invariant.place (omega (arith, low)) ∙ ap (λ n. (c.hand-drawn.result % n + c.loop-k.k) % n) pages)
-
-pub visit-requires-clause-room : goal.visit-requires-clause-room
-visit-requires-clause-room g c =
+pub visit_frame-requires-clause-room : goal.visit_frame-requires-clause-room
+visit_frame-requires-clause-room g c =
     let few : length c.loop-k.chosen.list.items ≤ c.args.want = walked-few _ _ _ _ _ _ _ c.loop-k.invariant.walking in
     let ne = c.if-len-want.false in
     let len = c.len.ensures.value in
     let most = c.requires.want.1 in
     omega (arith, few, ne, len, most)
 
-pub visit-requires-clause-counts : goal.visit-requires-clause-counts
-visit-requires-clause-counts g c =
+pub visit_frame-requires-clause-counts : goal.visit_frame-requires-clause-counts
+visit_frame-requires-clause-counts g c =
     let counted : looks_counted c.loop-k.chosen.looks ≡ c.loop-k.k = walked-looks _ _ _ _ _ _ _ c.loop-k.invariant.walking in
     let most : c.loop-k.k < 4294967295 =
     let test = c.loop-k-test.true in
-    let pages = c.args.words.now.shape.2 in
-    omega (arith, test, pages) in
+    let frames = c.args.words.now.shape.3 in
+    omega (arith, test, frames) in
     subst (λ n. n < 4294967295) (sym counted) most
 
 pub loop-k-preserved : goal.loop-k-preserved
@@ -42,41 +34,41 @@ loop-k-preserved g c =
     let ne = c.if-len-want.false in
     let len = c.len.ensures.value in
     let room : length c.loop-k.chosen.list.items < c.args.want = omega (arith, few, ne, len) in
-    let pages : c.args.words.now.pages ≡ (view c.args.pass.now).start.pages = c.args.words.now.shape.0 ∙ sym c.requires.ready.table.is_shape.pages in
-    let some : 0 < c.args.words.now.pages = omega (arith, c.loop-k-test.true) in
-    let place : c.loop-k.page ≡ (c.hand-drawn.result % (view c.args.pass.now).start.pages + c.loop-k.k) % (view c.args.pass.now).start.pages =
-    c.loop-k.invariant.place some ∙ ap (λ n. (c.hand-drawn.result % n + c.loop-k.k) % n) pages in
+    let frames : c.args.words.now.frames ≡ (view c.args.pass.now).start.frames = c.args.words.now.shape.1 ∙ sym c.requires.ready.table.is_shape.frames in
+    let some : 0 < c.args.words.now.frames = omega (arith, c.loop-k-test.true) in
+    let place : c.loop-k.frame ≡ (c.hand-drawn.result % (view c.args.pass.now).start.frames + c.loop-k.k) % (view c.args.pass.now).start.frames =
+    c.loop-k.invariant.place some ∙ ap (λ n. (c.hand-drawn.result % n + c.loop-k.k) % n) frames in
     let next : suc c.loop-k.k ≡ c.loop-k.k + 1 = omega arith in
     record {
-      same = (c.visit.ensures.pass.0 ∙ c.loop-k.invariant.same.0, c.visit.ensures.pass.1 ∙ c.loop-k.invariant.same.1);
-      ready = c.visit.ensures.ready;
+      same = (c.visit_frame.ensures.pass.0 ∙ c.loop-k.invariant.same.0, c.visit_frame.ensures.pass.1 ∙ c.loop-k.invariant.same.1);
+      ready = c.visit_frame.ensures.ready;
+      covers = c.visit_frame.ensures.covers;
       place = λ _.
-          c.page_after-page.ensures ∙ ap (λ n. (n + 1) % c.args.words.now.pages) (c.loop-k.invariant.place some)
-          ∙ mod-add-mod (c.hand-drawn.result % c.args.words.now.pages + c.loop-k.k) c.args.words.now.pages 1
-          ∙ ap (λ n. n % c.args.words.now.pages) (add_assoc (c.hand-drawn.result % c.args.words.now.pages) c.loop-k.k 1);
-      walking = subst (λ n. IsWalking c.args.want c.hand-drawn.result n c.visit.new.chosen.looks c.visit.new.chosen.list.items (view c.args.pass.now) (view c.visit.new.pass)) next
-          (walking-on _ _ _ _ _ _ _ _ _ _ _ c.loop-k.invariant.walking room place c.visit.ensures.visited);
+          c.frame_after-frame.ensures ∙ ap (λ n. (n + 1) % c.args.words.now.frames) (c.loop-k.invariant.place some)
+          ∙ mod-add-mod (c.hand-drawn.result % c.args.words.now.frames + c.loop-k.k) c.args.words.now.frames 1
+          ∙ ap (λ n. n % c.args.words.now.frames) (add_assoc (c.hand-drawn.result % c.args.words.now.frames) c.loop-k.k 1);
+      walking = subst (λ n. IsWalking c.args.want c.hand-drawn.result n c.visit_frame.new.chosen.looks c.visit_frame.new.chosen.list.items (view c.args.pass.now) (view c.visit_frame.new.pass)) next
+          (walking-on _ _ _ _ _ _ _ _ _ _ _ c.loop-k.invariant.walking room place c.visit_frame.ensures.visited);
     }
 
 pub returns-clause-list : goal.returns-clause-list
-returns-clause-list g c =
-    walked-list _ _ _ _ _ _ _ c.loop-k.invariant.walking _ c.requires.ready.table.is_shape.pages (subst (λ n. c.loop-k.k ≤ 2 * n) c.args.words.now.shape.0 c.loop-k.auto.k-end)
+returns-clause-list g c = walked-list _ _ _ _ _ _ _ c.loop-k.invariant.walking _ c.requires.ready.table.is_shape.pages
 
 pub returns-clause-looks : goal.returns-clause-looks
 returns-clause-looks g c =
-    subst (λ n. n ≤ 2 * c.args.words.now.table.shared.key.pages) (sym (walked-looks _ _ _ _ _ _ _ c.loop-k.invariant.walking)) (subst (λ n. c.loop-k.k ≤ 2 * n) c.args.words.now.shape.0 c.loop-k.auto.k-end)
+    subst (λ n. n ≤ 2 * c.args.words.now.table.shared.key.frames) (sym (walked-looks _ _ _ _ _ _ _ c.loop-k.invariant.walking)) (subst (λ n. c.loop-k.k ≤ 2 * n) c.args.words.now.shape.1 c.loop-k.auto.k-end)
 
 pub returns-clause-few : goal.returns-clause-few
 returns-clause-few g c = walked-few _ _ _ _ _ _ _ c.loop-k.invariant.walking
 
 pub returns-then-len-want-clause-chosen : goal.returns-then-len-want-clause-chosen
 returns-then-len-want-clause-chosen g c =
-    let pages : c.args.words.now.pages ≡ (view c.args.pass.now).start.pages = c.args.words.now.shape.0 ∙ sym c.requires.ready.table.is_shape.pages in
+    let frames : c.args.words.now.frames ≡ (view c.args.pass.now).start.frames = c.args.words.now.shape.1 ∙ sym c.requires.ready.table.is_shape.frames in
     let enough : length c.loop-k.chosen.list.items ≡ c.args.want = omega (arith, c.len.ensures.value, c.if-len-want.true) in
-    walked-chosen _ _ _ _ _ _ _ c.loop-k.invariant.walking (subst (λ n. c.loop-k.k ≤ 2 * n) pages c.loop-k.auto.k-end) (inl enough)
+    walked-chosen _ _ _ _ _ _ _ c.loop-k.invariant.walking (subst (λ n. c.loop-k.k ≤ 2 * n) frames c.loop-k.auto.k-end) (inl enough)
 
 pub returns-clause-chosen : goal.returns-clause-chosen
 returns-clause-chosen g c =
-    let pages : c.args.words.now.pages ≡ (view c.args.pass.now).start.pages = c.args.words.now.shape.0 ∙ sym c.requires.ready.table.is_shape.pages in
-    let all : c.loop-k.k ≡ 2 * c.args.words.now.pages = omega (arith, c.loop-k.auto.k-end, c.loop-k-test.false) in
-    walked-chosen _ _ _ _ _ _ _ c.loop-k.invariant.walking (subst (λ n. c.loop-k.k ≤ 2 * n) pages c.loop-k.auto.k-end) (inr (all ∙ ap (λ n. 2 * n) pages))
+    let frames : c.args.words.now.frames ≡ (view c.args.pass.now).start.frames = c.args.words.now.shape.1 ∙ sym c.requires.ready.table.is_shape.frames in
+    let all : c.loop-k.k ≡ 2 * c.args.words.now.frames = omega (arith, c.loop-k.auto.k-end, c.loop-k-test.false) in
+    walked-chosen _ _ _ _ _ _ _ c.loop-k.invariant.walking (subst (λ n. c.loop-k.k ≤ 2 * n) frames c.loop-k.auto.k-end) (inr (all ∙ ap (λ n. 2 * n) frames))

@@ -1,8 +1,9 @@
 -- What the look found, and the exchange, give each count.
 use Rattle.vm_clock.specs.Clock.{Visits as visits}
+use Rattle.vm_clock.proofs.Prelude.{Covers}
 use Rattle.vm_clock.proofs.Prelude.{[], ap, false, first-or, held-state, inl, inr, MARKED, refl, state_of, subst, sym, true, UNLOCKED, ◌+◌, ◌<◌, ◌∙◌}
 use Rattle.vm_clock.proofs.Prelude.{◌≡◌, ◌⊎◌}
-use Rattle.vm_clock.proofs.Visiting.{by-look, by-mark, fresh-word, looks-at, told-of}
+use Rattle.vm_clock.proofs.Visiting.{by-look, by-mark, covers-more, fresh-word, looks-at, told-of}
 use Rattle.vm_clock.proofs.visit.Goals as goal
 use Rattle.vm_clock.proofs.visit.Goals.{else-state-ne-UNLOCKED-via-else-state-ne-UNLOCKED}
 use Rattle.vm_clock.proofs.visit.Goals.{else-state-ne-UNLOCKED-via-then-state-ne-UNLOCKED+else-state-2}
@@ -63,3 +64,7 @@ returns-in-Lost-clause-visited g c =
     ] in
     let lost = c.in-Lost.ensures in
     by-mark _ _ _ _ _ c.look_silently-word.ensures.told _ _ _ _ lost.told _ _ (visits.lost _ c.in-Lost.field-0 (lost.lost c.in-Lost.field-0 refl) (looks-at _ _ _ _ new) unlocked fresh refl refl)
+
+pub returns-then-state-3-clause-covers : goal.returns-then-state-3-clause-covers
+returns-then-state-3-clause-covers g c =
+    subst (Covers c.note.new.met) (sym c.push.ensures.items) (covers-more _ _ _ (c.args.p, c.look_silently-word.result) c.note.ensures c.requires.covers)

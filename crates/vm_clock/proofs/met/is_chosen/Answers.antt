@@ -1,6 +1,6 @@
 use Rattle.vm_clock.proofs.Prelude.{arith, candidate_pages, false, has, subst, suc, sym, take, ◌+◌, ◌≡◌}
 use Rattle.vm_clock.proofs.Visiting.{has-at, has-next}
-use Rattle.vm_clock.proofs.is_chosen.Goals as goal
+use Rattle.vm_clock.proofs.met.is_chosen.Goals as goal
 
 pub returns-then-list-i : goal.returns-then-list-i
 returns-then-list-i c = sym (has-at _ _ _ _ c.loop-i-test.true c.if-list-i.true)

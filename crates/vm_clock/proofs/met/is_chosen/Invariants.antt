@@ -1,5 +1,5 @@
 use Rattle.vm_clock.proofs.Prelude.{candidate_pages, false, has, take, ◌≡◌}
-use Rattle.vm_clock.proofs.is_chosen.Given as goal
+use Rattle.vm_clock.proofs.met.is_chosen.Given as goal
 
 -- the page is none of the first i
 abbrev pub invariant-loop-i : goal.invariant-loop-i
