@@ -140,6 +140,7 @@ class Machine:
     def leave(self, a, p, resident, state, shares=0):
         page, seat = self.pages[p], self.seats[a][p]
         may(seat.exclusive, (page.frame is not None) == resident, page.fault == page.count)
+        may(not resident or self.owners[page.frame] == p + 1)
         page.state, page.version = state, page.version + 1
         seat.exclusive, seat.shares = False, shares
         return "done"
@@ -173,6 +174,7 @@ class Machine:
     def clear(self, a, p):
         page = self.pages[p]
         may(self.seats[a][p].exclusive, page.frame is not None, not page.dirty)
+        may(self.owners[page.frame] == 0)
         self.held[a].add(page.frame)
         page.frame = None
         return "done"

@@ -78,11 +78,11 @@ write-faulted keeps pass mine call key fault v w (faulted.worn tried page k read
   subst (λ (f : TreeFault). IsCalled call (Err f) v w) (sym is) (mine v w all, leaf-worn key page tried w leaf),
 )
 
-pub put-faulted : (key value : ℕ) (fault : TreeFault) (v w : View Said) → 1 ≤ v.start.pages → IsPutFaulted key fault v w → KeepsPass v w × IsCalled (Put key value) (Err fault) v w
-put-faulted key value fault v w some' (put_faulted.faulted f) = write-faulted KeepsLocksOnly all-pass (λ x y k. k.mine) (Put key value) key fault v w f
-put-faulted key value fault v w some' (put_faulted.tight tried found page k reads t room all) = (
+pub put-faulted : (key value : ℕ) (fault : TreeFault) (v w : View Said) → IsPutFaulted key fault v w → KeepsPass v w × IsCalled (Put key value) (Err fault) v w
+put-faulted key value fault v w (put_faulted.faulted f) = write-faulted KeepsLocksOnly all-pass (λ x y k. k.mine) (Put key value) key fault v w f
+put-faulted key value fault v w (put_faulted.tight tried found page k reads t room all) = (
   all-pass v w all,
-  room-called key value fault v found w (keeps-then v tried found (all-pass v tried k) (reads-pass tried found reads.0)) all.mine some' room,
+  room-called key value fault v found w (keeps-then v tried found (all-pass v tried k) (reads-pass tried found reads.0)) all.mine room,
 )
 
 -- ---- answers
@@ -95,6 +95,6 @@ pub del-called : (key : ℕ) (r : Result Reply TreeFault) (v w : View Said) → 
 del-called key (Ok reply) v w ok err = (write-replied Waits waits-pass (record { call = Del key; reply = reply }) v w ok, (ok.mine, tt))
 del-called key (Err fault) v w ok err = write-faulted Waits waits-pass (λ x y k. k.mine) (Del key) key fault v w err
 
-pub put-called : (key value : ℕ) (r : Result Reply TreeFault) (v w : View Said) → 1 ≤ v.start.pages → IfOk r (λ reply. IsWriteReplied KeepsLocksOnly (record { call = Put key value; reply = reply }) v w) → IfErr r (λ fault. IsPutFaulted key fault v w) → KeepsPass v w × IsCalled (Put key value) r v w
-put-called key value (Ok reply) v w some' ok err = (write-replied KeepsLocksOnly all-pass (record { call = Put key value; reply = reply }) v w ok, (ok.mine, tt))
-put-called key value (Err fault) v w some' ok err = put-faulted key value fault v w some' err
+pub put-called : (key value : ℕ) (r : Result Reply TreeFault) (v w : View Said) → IfOk r (λ reply. IsWriteReplied KeepsLocksOnly (record { call = Put key value; reply = reply }) v w) → IfErr r (λ fault. IsPutFaulted key fault v w) → KeepsPass v w × IsCalled (Put key value) r v w
+put-called key value (Ok reply) v w ok err = (write-replied KeepsLocksOnly all-pass (record { call = Put key value; reply = reply }) v w ok, (ok.mine, tt))
+put-called key value (Err fault) v w ok err = put-faulted key value fault v w err

@@ -49,10 +49,10 @@ module _ {X : Type 0} where
       subst (λ n. HasFoundWorn n w) (sym page)
       (record { inside = subst (λ (s : Origin). p < s.pages) (sym m.start) here.inside; word = here.word; given = given-more w.log x.log (places.State p) here.word (r.back.done, m.log) here.given; last = here.last })
 
-  none-worn : (home cap : ℕ) (old new : List ℕ) (before after : ℕ) (v w : View X) (q : ℕ) → 1 ≤ v.start.pages → GetsNone home cap old new before after v w (brings.Worn q) → HasFoundWorn q w
-  none-worn home cap old new before after v w q some' (none.lost saw a same is) = absurd (let no : brings.Worn q ≡ brings.Again saw = is in cc)
-  none-worn home cap old new before after v w q some' (none.lost_then saw dry clean emptied filled report a s b same is) = absurd (let no : brings.Worn q ≡ brings.Again saw = is in cc)
-  none-worn home cap old new before after v w q some' (none.dry dry clean emptied filled report a s b same says) =
+  none-worn : (home cap : ℕ) (old new : List ℕ) (before after : ℕ) (v w : View X) (q : ℕ) → GetsNone home cap old new before after v w (brings.Worn q) → HasFoundWorn q w
+  none-worn home cap old new before after v w q (none.lost saw a same is) = absurd (let no : brings.Worn q ≡ brings.Again saw = is in cc)
+  none-worn home cap old new before after v w q (none.lost_then saw dry clean emptied filled report a s b same is) = absurd (let no : brings.Worn q ≡ brings.Again saw = is in cc)
+  none-worn home cap old new before after v w q (none.dry dry clean emptied filled report a s b same says) =
       let start : dry.start ≡ v.start = (alloc-keeps home cap 1 old emptied v dry allocs.Dry a).start in
       let last = alloc-keeps home cap 1 filled new clean w allocs.Dry b in
       max-later clean w q last.start last.log
@@ -62,7 +62,7 @@ module _ {X : Type 0} where
   bring-worn home cap p old new before after v w q inside (is_bring.framed f kept x g t) =
       let start : x.start ≡ v.start = (framed-keeps home cap old kept before after v x (Ok f) g).start in
       fetch-worn cap p f kept new x w q (subst (λ (o : Origin). p < o.pages) (sym start) inside) t
-  bring-worn home cap p old new before after v w q inside (is_bring.frameless g) = none-worn home cap old new before after v w q (omega (arith, inside)) g
+  bring-worn home cap p old new before after v w q inside (is_bring.frameless g) = none-worn home cap old new before after v w q g
 
 -- a page could not be brought, by a call that began with the view u
 pub fault-called : (call : Call) (fault : TreeFault) (p : ℕ) (u v w : View Said) → KeepsPass u v → w.mine ≡ u.mine → p < v.start.pages → IsBringFault p fault v w → IsCalled call (Err fault) u w

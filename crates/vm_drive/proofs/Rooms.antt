@@ -131,22 +131,22 @@ ended-full key pages next need v w (ends.below parent node over page x reads ful
     end
 
 -- a sweep for a split made no frame free
-swept-called : (call : Call) (fault : TreeFault) (u v w : View Said) (want cap : ℕ) (old new : List ℕ) (report : Report) (answer : Bring) → KeepsPass u v → w.mine ≡ u.mine → 1 ≤ u.start.pages → IsSwept want cap old new report v w → SaysDry report answer → NamesFault answer fault → IsCalled call (Err fault) u w
-swept-called call fault u v w want cap old new report brings.Brought k mine some' s says names = absurd names
-swept-called call fault u v w want cap old new report (brings.Again saw) k mine some' s says names = absurd names
-swept-called call fault u v w want cap old new report (brings.Dry looks) k mine some' s says names = absurd names
-swept-called call fault u v w want cap old new report (brings.Device p count) k mine some' s says names =
+swept-called : (call : Call) (fault : TreeFault) (u v w : View Said) (want cap : ℕ) (old new : List ℕ) (report : Report) (answer : Bring) → KeepsPass u v → w.mine ≡ u.mine → IsSwept want cap old new report v w → SaysDry report answer → NamesFault answer fault → IsCalled call (Err fault) u w
+swept-called call fault u v w want cap old new report brings.Brought k mine s says names = absurd names
+swept-called call fault u v w want cap old new report (brings.Again saw) k mine s says names = absurd names
+swept-called call fault u v w want cap old new report (brings.Dry looks) k mine s says names = absurd names
+swept-called call fault u v w want cap old new report (brings.Device p count) k mine s says names =
     subst (λ (f : TreeFault). IsCalled call (Err f) u w) (sym names) (mine, noted-before p count u v w k.notes (swept-noted want cap old new report v w p count s says.1))
-swept-called call fault u v w want cap old new report (brings.Worn p) k mine some' s says names =
+swept-called call fault u v w want cap old new report (brings.Worn p) k mine s says names =
     subst (λ (f : TreeFault). IsCalled call (Err f) u w) (sym names) (mine, swept-worn want cap old new report v w p s says.2.first)
 
-pub room-called : (key value : ℕ) (fault : TreeFault) (u v w : View Said) → KeepsPass u v → w.mine ≡ u.mine → 1 ≤ u.start.pages → IsRoomFault key fault v w → IsCalled (Put key value) (Err fault) u w
-room-called key value fault u v w k mine some' (rooms.missing found page reads needed fault_is) =
+pub room-called : (key value : ℕ) (fault : TreeFault) (u v w : View Said) → KeepsPass u v → w.mine ≡ u.mine → IsRoomFault key fault v w → IsCalled (Put key value) (Err fault) u w
+room-called key value fault u v w k mine (rooms.missing found page reads needed fault_is) =
     fault-called (Put key value) fault page u found w (keeps-then u v found k (reads-pass v found reads.0)) mine (subst (λ (o : Origin). page < o.pages) (sym reads.0.start) needed.inside) fault_is
-room-called key value fault u v w k mine some' (rooms.worn p end is) =
+room-called key value fault u v w k mine (rooms.worn p end is) =
     subst (λ (f : TreeFault). IsCalled (Put key value) (Err f) u w) (sym is) (mine, ended-worn key p v w end)
-room-called key value fault u v w k mine some' (rooms.full pages next need end is) =
+room-called key value fault u v w k mine (rooms.full pages next need end is) =
     let f = ended-full key pages next need v w end in
     subst (λ (f : TreeFault). IsCalled (Put key value) (Err f) u w) (sym is) (mine, tt, f.0 ∙ ap (λ (o : Origin). o.pages) k.start, f.1)
-room-called key value fault u v w k mine some' (rooms.swept dry want cap old new report answer end kept s says names) =
-    swept-called (Put key value) fault u dry w want cap old new report answer (keeps-then u v dry k (all-pass v dry kept)) mine some' s says names
+room-called key value fault u v w k mine (rooms.swept dry want cap old new report answer end kept s says names) =
+    swept-called (Put key value) fault u dry w want cap old new report answer (keeps-then u v dry k (all-pass v dry kept)) mine s says names

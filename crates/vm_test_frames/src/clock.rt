@@ -73,7 +73,7 @@ fn a_shared_page_counts_as_held(rt: HostRuntime) -> Result<(), Fail> {
 
 /// The hand was moved by 64 in between, and 64 is 1 beyond a multiple of 3.
 #[test]
-fn a_walk_makes_two_looks_at_each_page(rt: HostRuntime) -> Result<(), Fail> {
+fn a_walk_makes_two_looks_at_each_frame(rt: HostRuntime) -> Result<(), Fail> {
     let (words, mut pass) = zero_pages(&rt, rt.alloc(), 3, 7)?;
     let first = candidates(&words, &mut pass, 64);
     let mut list = ArrayVec::new();
@@ -115,7 +115,7 @@ fn pages_at_the_last_version_are_not_chosen(rt: HostRuntime) -> Result<(), Fail>
 }
 
 #[test]
-fn evicted_pages_are_gone(rt: HostRuntime) -> Result<(), Fail> {
+fn frames_without_a_page_are_gone(rt: HostRuntime) -> Result<(), Fail> {
     let (words, mut pass) = evicted_page(rt.alloc())?;
     let chosen = candidates(&words, &mut pass, 1);
     let list = ArrayVec::new();

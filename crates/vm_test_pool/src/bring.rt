@@ -110,7 +110,7 @@ fn no_frame_is_free_while_another_interface_has_it(rt: HostRuntime) -> Result<()
         marked: 0,
         lost: 0,
         held: 0,
-        gone: 4,
+        gone: 2,
         worn: 0,
         first_worn: None,
     };

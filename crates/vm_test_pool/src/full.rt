@@ -105,24 +105,20 @@ fn share_first<B: Block>(rt: &impl Abort, pool: &Pool<Bare, B>, pass: &mut Pass<
     }
 }
 
-/// Two looks at each page found it held; two at each of the other two pages found it evicted.
+/// Two looks at each frame found its page held.
 #[test]
 fn no_frame_comes_free_of_shared_pages(rt: HostRuntime) -> Result<(), Fail> {
     let (pool, mut pass) = pool_at(rt.alloc(), 0)?;
     let mut iface = Interface::new(0, 1);
     bring_first(&rt, &pool, &mut pass, &mut iface, 64);
     share_first(&rt, &pool, &mut pass, 64);
-    let looks = Looks {
-        held: 128,
-        gone: 4,
-        ..NONE
-    };
+    let looks = Looks { held: 128, ..NONE };
     let answer = pool.bring(&mut pass, &mut iface, 64);
     assert_eq!(rt; answer, Bring::Dry { looks });
     Ok(())
 }
 
-/// The first look at each page marks it and the second chooses it; in between the walk passes two evicted ones.
+/// The first look at each frame marks its page and the second chooses it.
 #[test]
 fn dirty_pages_are_all_written_and_evicted(rt: HostRuntime) -> Result<(), Fail> {
     let (pool, mut pass) = pool_at(rt.alloc(), 0)?;
@@ -140,7 +136,6 @@ fn dirty_pages_are_all_written_and_evicted(rt: HostRuntime) -> Result<(), Fail> 
         looks: Looks {
             found: 64,
             marked: 64,
-            gone: 2,
             ..NONE
         },
     };

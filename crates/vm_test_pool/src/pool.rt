@@ -367,7 +367,7 @@ fn a_held_page_is_no_candidate(rt: HostRuntime) -> Result<(), Fail> {
         marked: 0,
         lost: 0,
         held: 2,
-        gone: 2,
+        gone: 0,
         worn: 0,
         first_worn: None,
     };

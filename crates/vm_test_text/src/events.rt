@@ -10,7 +10,7 @@ use vm_script::seen::seen_text;
 /// A frame is taken from one page for another while it is read optimistically: the words read are the other page's, and the look that
 /// would validate the read finds page 0 evicted.
 const REUSED: &[u8] =
-    b"shape 2 2 2 2\ntake 0 0 3 1\nlockx 0 0 e:0\nread 0 0\nfill 0 0 0\ninstall 0 0 0\nrelease 0 0\nlook 1 0\ntload 1 0\nlockx 0 0 u:1\nclear 0 0\nreleasee 0 0\nlockx 0 1 e:0\nread 0 1\nfill 0 1 0\ninstall 0 1 0\nrelease 0 1\nloads 1 0\nlook 1 0\n";
+    b"shape 2 2 2 2\ntake 0 0 3 1\nlockx 0 0 e:0\nread 0 0\nfill 0 0 0\ninstall 0 0 0\nown 0 0\nrelease 0 0\nlook 1 0\ntload 1 0\nlockx 0 0 u:1\ndisown 0 0\nclear 0 0\nreleasee 0 0\nlockx 0 1 e:0\nread 0 1\nfill 0 1 0\ninstall 0 1 0\nown 0 1\nrelease 0 1\nloads 1 0\nlook 1 0\n";
 
 const EVERY_VERB: &[u8] =
     b"shape 64 256 64 64\nlook 63 63\nlockx 0 63 x:72057594037927935\nlocks 0 0 252:0\nunlocks 0 0\nmark 0 0 1:1\nunmark 0 0 m:0\nlockw 0 0 m:0\nupgrade 0 0 1:0\nrelease 0 0\nreleasee 0 0\ndowngrade 0 0\ntload 0 0\ninstall 0 0 255\nclear 0 0\ndirty 0 0\nclean 0 0\nload 0 0 63\nstore 0 0 63 18446744073709551615\nbload 0 3\ntake 0 3 18446744073709551615 0\ngive 0 0 1\nread 0 0\nrfail 0 0\nwrite 0 0\nwfail 0 0\nraise 0 0\nnload 0\nclaim 0 18446744073709551615 4294967295\nhand 0\nown 0 0\ndisown 0 63\noload 0 255\nfill 0 0 255\nloads 0 0";
@@ -22,7 +22,7 @@ fn reads_event_lists(rt: HostRuntime) -> Result<(), Fail> {
         (shape.pages, shape.frames, shape.actors, shape.next),
         (2, 2, 2, 2)
     );
-    assert_eq!(rt; lines.len(), 18);
+    assert_eq!(rt; lines.len(), 21);
     assert!(rt;
         matches!(
             lines[0],
@@ -46,7 +46,7 @@ fn reads_event_lists(rt: HostRuntime) -> Result<(), Fail> {
     );
     assert!(rt;
         matches!(
-            lines[8],
+            lines[9],
             EventLine::One(Event::LockX {
                 a: 0,
                 p: 0,
@@ -54,9 +54,9 @@ fn reads_event_lists(rt: HostRuntime) -> Result<(), Fail> {
             })
         )
     );
-    assert!(rt; matches!(lines[13], EventLine::Fill { a: 0, p: 1, f: 0 }));
-    assert!(rt; matches!(lines[16], EventLine::Loads { a: 1, p: 0 }));
-    assert!(rt; matches!(lines[17], EventLine::One(Event::Look { a: 1, p: 0 })));
+    assert!(rt; matches!(lines[15], EventLine::Fill { a: 0, p: 1, f: 0 }));
+    assert!(rt; matches!(lines[19], EventLine::Loads { a: 1, p: 0 }));
+    assert!(rt; matches!(lines[20], EventLine::One(Event::Look { a: 1, p: 0 })));
     let (_, lines) = read_events(rt.alloc(), EVERY_VERB)?;
     assert_eq!(rt; lines.len(), 34);
     assert!(rt; matches!(lines[31], EventLine::One(Event::OLoad { a: 0, f: 255 })));

@@ -120,6 +120,7 @@ holding-nil p f version dirty pages done v w h n =
       below = h.below;
       owns = (n.holds p).exclusive ∙ h.owns;
       stands = ap (λ (y : Held). y.mapping) k.held ∙ h.stands;
+      owned = ap (λ (y : Held). y.owner) k.held ∙ h.owned;
       told = ap (λ (y : Held). y.fault) k.held ∙ h.told ∙ ap (λ (y : Held). y.block.count) (sym k.held);
       at = ap (λ (y : Version). y.version) k.last ∙ h.at;
       size = ap length k.draft ∙ h.size;

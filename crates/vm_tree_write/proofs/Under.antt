@@ -70,6 +70,7 @@ holding-else p f version dirty q done {own = own} v w ne pending h e =
       below = h.below;
       owns = (e.holds p ne).exclusive ∙ h.owns;
       stands = ap (λ (y : Held). y.mapping) k.held ∙ h.stands;
+      owned = ap (λ (y : Held). y.owner) k.held ∙ h.owned;
       told = ap (λ (y : Held). y.fault) k.held ∙ h.told ∙ ap (λ (y : Held). y.block.count) (sym k.held);
       at = ap (λ (y : Version). y.version) k.last ∙ h.at;
       size = ap length k.draft ∙ h.size;

@@ -5,12 +5,13 @@ use std::alloc::Global;
 use std::test::Fail;
 use vm_core::{Event, ReplayFault, replay};
 
-/// Actor 0 takes frame 0, locks page 1, whose block has zeros as the frame has, puts the frame under it, writes into it, releases it, and
-/// has it under write-back at last. A case begins with so many of these events.
-const WAY: [Event; 8] = [
+/// Actor 0 takes frame 0, locks page 1, whose block has zeros as the frame has, puts the frame under it, says that it is the page's, writes into it,
+/// releases it, and has it under write-back at last. A case begins with so many of these events.
+const WAY: [Event; 9] = [
     event!(Take, a = 0, g = 0, expects = 3, mask = 1),
     event!(LockX, a = 0, p = 1, expects = EVICTED),
     event!(Install, a = 0, p = 1, f = 0),
+    event!(Own, a = 0, p = 1),
     event!(Dirty, a = 0, p = 1),
     event!(Store, a = 0, f = 0, i = 5, w = 7),
     event!(Release, a = 0, p = 1),
@@ -26,12 +27,14 @@ const FRAME: usize = 1;
 const LOCK: usize = 2;
 /// The frame is under the page.
 const CLEAN: usize = 3;
+/// The frame is the page's.
+const OWNED: usize = 4;
 /// The page is dirty.
-const DIRTY: usize = 4;
+const DIRTY: usize = 5;
 /// The page is unlocked, with a word written.
-const RELEASED: usize = 6;
+const RELEASED: usize = 7;
 /// The page is under write-back.
-const WRITING: usize = 8;
+const WRITING: usize = 9;
 
 /// How many events of the way come first, perhaps one more event, and the event that may not happen then.
 type Case = (usize, Option<Event>, Event);
@@ -62,20 +65,24 @@ const ON_WORDS: [Case; 15] = [
     case!(WRITING; LockS, a = 0, p = 1, expects = SHARE + 1; Upgrade, a = 0, p = 1, expects = SHARE + 1),
 ];
 /// The ends of an exclusive lock.
-const ON_RELEASES: [Case; 10] = [
+const ON_RELEASES: [Case; 14] = [
     case!(NOTHING; Release, a = 0, p = 0),
     case!(RELEASED; Release, a = 0, p = 1),
     case!(LOCK; Release, a = 0, p = 1),
-    case!(CLEAN; RFail, a = 0, p = 1; Release, a = 0, p = 1),
+    case!(OWNED; RFail, a = 0, p = 1; Release, a = 0, p = 1),
+    case!(CLEAN; Release, a = 0, p = 1),
+    case!(OWNED; Disown, a = 0, p = 1; Release, a = 0, p = 1),
     case!(NOTHING; ReleaseE, a = 0, p = 1),
     case!(CLEAN; ReleaseE, a = 0, p = 1),
     case!(LOCK; RFail, a = 0, p = 1; ReleaseE, a = 0, p = 1),
     case!(RELEASED; Downgrade, a = 0, p = 1),
     case!(LOCK; Downgrade, a = 0, p = 1),
-    case!(CLEAN; RFail, a = 0, p = 1; Downgrade, a = 0, p = 1),
+    case!(OWNED; RFail, a = 0, p = 1; Downgrade, a = 0, p = 1),
+    case!(CLEAN; Downgrade, a = 0, p = 1),
+    case!(OWNED; Disown, a = 0, p = 1; Downgrade, a = 0, p = 1),
 ];
 /// Events on a page's frame. The block of page 0 has other words than a frame of zeros.
-const ON_FRAMES: [Case; 20] = [
+const ON_FRAMES: [Case; 21] = [
     case!(FRAME; Install, a = 0, p = 1, f = 0),
     case!(LOCK; Install, a = 0, p = 1, f = 1),
     case!(CLEAN; Take, a = 0, g = 0, expects = 2, mask = 2; Install, a = 0, p = 1, f = 1),
@@ -83,7 +90,8 @@ const ON_FRAMES: [Case; 20] = [
     case!(LOCK; Install, a = 0, p = 1, f = 2),
     case!(RELEASED; Clear, a = 0, p = 1),
     case!(LOCK; Clear, a = 0, p = 1),
-    case!(DIRTY; Clear, a = 0, p = 1),
+    case!(DIRTY; Disown, a = 0, p = 1; Clear, a = 0, p = 1),
+    case!(OWNED; Clear, a = 0, p = 1),
     case!(RELEASED; Dirty, a = 0, p = 1),
     case!(LOCK; Dirty, a = 0, p = 1),
     case!(CLEAN; Clean, a = 0, p = 1),

@@ -22,24 +22,27 @@ const READS_PAGE_0: [Row; 3] = [
     row!(Seen::Taken; LockX, a = 0, p = 0, expects = EVICTED),
     row!(Seen::Done; Read, a = 0, p = 0),
 ];
-/// It puts the frame that it has filled under the page, and releases it. Actor 1 begins an optimistic read.
-const SHOWS_PAGE_0: [Row; 4] = [
+/// It puts the frame that it has filled under the page, whose it is then, and releases it. Actor 1 begins an optimistic read.
+const SHOWS_PAGE_0: [Row; 5] = [
     row!(Seen::Done; Install, a = 0, p = 0, f = 0),
+    row!(Seen::Done; Own, a = 0, p = 0),
     row!(Seen::Done; Release, a = 0, p = 0),
     row!(saw 1, Opened; Look, a = 1, p = 0),
     row!(Seen::Word(1); TLoad, a = 1, p = 0),
 ];
 /// Actor 0 evicts page 0, locks page 1 and reads its block.
-const READS_PAGE_1: [Row; 5] = [
+const READS_PAGE_1: [Row; 6] = [
     row!(Seen::Taken; LockX, a = 0, p = 0, expects = 1),
+    row!(Seen::Done; Disown, a = 0, p = 0),
     row!(Seen::Done; Clear, a = 0, p = 0),
     row!(Seen::Done; ReleaseE, a = 0, p = 0),
     row!(Seen::Taken; LockX, a = 0, p = 1, expects = EVICTED),
     row!(Seen::Done; Read, a = 0, p = 1),
 ];
 /// It puts the same frame under page 1.
-const SHOWS_PAGE_1: [Row; 2] = [
+const SHOWS_PAGE_1: [Row; 3] = [
     row!(Seen::Done; Install, a = 0, p = 1, f = 0),
+    row!(Seen::Done; Own, a = 0, p = 1),
     row!(Seen::Done; Release, a = 0, p = 1),
 ];
 /// The open read of actor 1 ends.
@@ -82,7 +85,7 @@ fn a_frame_is_reused_under_a_read(rt: HostRuntime) -> Result<(), Fail> {
         rows.push(row!(Seen::Word(64 + u64::from(i)); Load, a = 1, p = 0, i = i))?;
     }
     rows.extend_from_slice(&ENDS)?;
-    assert_eq!(rt; rows.len(), 207);
+    assert_eq!(rt; rows.len(), 210);
     let mut core = core(alloc, 2, 2, 2)?;
     plays(&rt, alloc, &mut core, &rows)
 }
@@ -104,7 +107,7 @@ fn what_changes_nothing(rt: HostRuntime) -> Result<(), Fail> {
 }
 
 /// Actor 0 brings page 1, whose block has zeros as the frame has, after a read that failed, and writes a word. Actor 1 shares its lock.
-const WRITES: [Row; 13] = [
+const WRITES: [Row; 14] = [
     row!(Seen::Word(3); BLoad, a = 1, g = 0),
     row!(Seen::Lost(3); Take, a = 0, g = 0, expects = 1, mask = 1),
     row!(Seen::Taken; Take, a = 0, g = 0, expects = 3, mask = 3),
@@ -113,6 +116,7 @@ const WRITES: [Row; 13] = [
     row!(Seen::Word(1); RFail, a = 0, p = 1),
     row!(Seen::Done; Raise, a = 0, p = 1),
     row!(Seen::Done; Install, a = 0, p = 1, f = 0),
+    row!(Seen::Done; Own, a = 0, p = 1),
     row!(Seen::Done; Dirty, a = 0, p = 1),
     row!(Seen::Done; Store, a = 0, f = 0, i = 9, w = 77),
     row!(Seen::Word(0x8000_0000_0000_0001); TLoad, a = 1, p = 1),
@@ -150,16 +154,16 @@ const CLAIMS: [Row; 11] = [
     row!(Seen::Word(64); Hand, a = 1),
 ];
 
-/// Actor 0 locks the page and says that the frame is the page's, and then that it is no page's. Both read that.
+/// Actor 0 locks the page and says that the frame is no page's, and then that it is the page's. Both read that.
 const OWNS: [Row; 8] = [
-    row!(Seen::Word(0); OLoad, a = 1, f = 0),
+    row!(Seen::Word(2); OLoad, a = 1, f = 0),
     row!(Seen::Taken; LockX, a = 0, p = 1, expects = 3),
+    row!(Seen::Done; Disown, a = 0, p = 1),
+    row!(Seen::Word(0); OLoad, a = 1, f = 0),
     row!(Seen::Done; Own, a = 0, p = 1),
     row!(Seen::Word(2); OLoad, a = 1, f = 0),
     row!(Seen::Word(0); OLoad, a = 1, f = 1),
     row!(Seen::Word(2); OLoad, a = 0, f = 0),
-    row!(Seen::Done; Disown, a = 0, p = 1),
-    row!(Seen::Word(0); OLoad, a = 1, f = 0),
 ];
 
 /// Each event that the first script lacks.
