@@ -12,10 +12,10 @@ pub returns-in-Get-clause-call : goal.returns-in-Get-clause-call
 returns-in-Get-clause-call g c = subst (λ (call : Call). IsCalled call c.get.result (view c.args.pass.now) (view c.get.new.pass)) (sym c.in-Get.is) ((read-called (Get c.in-Get.key) c.in-Get.key c.get.result (view c.args.pass.now) (view c.get.new.pass) c.get.ensures.ok c.get.ensures.err).1)
 
 pub returns-in-Put-clause-keeps : goal.returns-in-Put-clause-keeps
-returns-in-Put-clause-keeps g c = (put-called c.in-Put.key c.in-Put.value c.put.result (view c.args.pass.now) (view c.put.new.pass) (subst (λ n. 1 ≤ n) (sym c.requires.ready.table.is_shape.pages) c.requires.pages) c.put.ensures.ok c.put.ensures.err).0
+returns-in-Put-clause-keeps g c = (put-called c.in-Put.key c.in-Put.value c.put.result (view c.args.pass.now) (view c.put.new.pass) c.put.ensures.ok c.put.ensures.err).0
 
 pub returns-in-Put-clause-call : goal.returns-in-Put-clause-call
-returns-in-Put-clause-call g c = subst (λ (call : Call). IsCalled call c.put.result (view c.args.pass.now) (view c.put.new.pass)) (sym c.in-Put.is) ((put-called c.in-Put.key c.in-Put.value c.put.result (view c.args.pass.now) (view c.put.new.pass) (subst (λ n. 1 ≤ n) (sym c.requires.ready.table.is_shape.pages) c.requires.pages) c.put.ensures.ok c.put.ensures.err).1)
+returns-in-Put-clause-call g c = subst (λ (call : Call). IsCalled call c.put.result (view c.args.pass.now) (view c.put.new.pass)) (sym c.in-Put.is) ((put-called c.in-Put.key c.in-Put.value c.put.result (view c.args.pass.now) (view c.put.new.pass) c.put.ensures.ok c.put.ensures.err).1)
 
 pub returns-in-Del-clause-keeps : goal.returns-in-Del-clause-keeps
 returns-in-Del-clause-keeps g c = (del-called c.in-Del.key c.del.result (view c.args.pass.now) (view c.del.new.pass) c.del.ensures.ok c.del.ensures.err).0
