@@ -28,6 +28,9 @@ const EVICTED_AT_8: u64 = 0xff00_0000_0000_0008;
 /// The translation word of a dirty page in frame 0.
 pub(crate) const DIRTY_IN_0: u64 = 0x8000_0000_0000_0001;
 
+/// The place of the frame's owner word, behind a word of each kind of the page, 64 words of the frame, a bundle's word, the next word and the hand.
+const OWNER_OF_0: usize = 70;
+
 /// Nothing became of any candidate.
 const NOTHING: Report = Report {
     freed: 0,
@@ -161,10 +164,11 @@ fn a_page_whose_write_failed_is_evicted_later(rt: HostRuntime) -> Result<(), Fai
             report: failed
         }
     );
-    // The page's state word, its translation word and its fault word.
+    // The page's state word, its translation word and its fault word, and the owner word of its frame.
     assert_eq!(rt; words.table.shared.peek(0), 7);
     assert_eq!(rt; words.table.shared.peek(1), DIRTY_IN_0);
     assert_eq!(rt; words.table.shared.peek(2), 1);
+    assert_eq!(rt; words.table.shared.peek(OWNER_OF_0), 1);
     mark_first(&rt, &words, &mut pass);
     let mut frames = Batch::new();
     frames.push(0);
@@ -183,6 +187,7 @@ fn a_page_whose_write_failed_is_evicted_later(rt: HostRuntime) -> Result<(), Fai
     );
     assert_eq!(rt; words.table.shared.peek(0), EVICTED_AT_8);
     assert_eq!(rt; words.table.shared.peek(1), 0);
+    assert_eq!(rt; words.table.shared.peek(OWNER_OF_0), 0);
     let word = last_in_block(&rt, &words, &mut pass);
     assert_eq!(rt; word, 5);
     Ok(())

@@ -14,3 +14,5 @@ mod flush;
 mod full;
 #[cfg(test)]
 mod pool;
+#[cfg(test)]
+mod sparse;

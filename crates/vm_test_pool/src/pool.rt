@@ -23,7 +23,7 @@ use vm_step::{At, Looks, Saw, look_silently};
 const EVICTED_AT_2: u64 = 0xff00_0000_0000_0002;
 
 /// A pool of these blocks and so many frames (1 to 65536), whose pages are all claimed, at version 0, and its first pass.
-fn pool_of(
+pub(crate) fn pool_of(
     alloc: Global,
     frames: u32,
     blocks: Vec<MemBlock>,
