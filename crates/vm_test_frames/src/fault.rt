@@ -117,7 +117,7 @@ fn a_table_of_resident_pages_has_its_words_by_the_layout(rt: HostRuntime) -> Res
     assert_eq!(rt; table.peek(134), 0);
     assert_eq!(rt; table.peek(135), 2);
     assert_eq!(rt; table.peek(136), 0);
-    assert_eq!(rt; table.peek(137), 0);
-    assert_eq!(rt; table.peek(138), 0);
+    assert_eq!(rt; table.peek(137), 1);
+    assert_eq!(rt; table.peek(138), 2);
     Ok(())
 }
