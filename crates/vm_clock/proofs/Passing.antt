@@ -4,14 +4,14 @@ use Rattle.vm_clock.specs.Clock.{Visits as visits, VisitsFrame as frames}
 use Rattle.std.proofs.lemmas.List.{get_or_past}
 use Rattle.vm_step.specs.Prelude.{known_word_at}
 use Rattle.vm_step.proofs.Evidenced.{given-behind, given-front}
-use Rattle.vm_clock.proofs.Prelude.{[], and_left, and_right, ap, arith, candidate_pages, cases_eq, cases_lt, cond-false}
-use Rattle.vm_clock.proofs.Prelude.{cond-true, Did, did_change, Each, each-both, each-map, else-knows, eq-eqb, eqb, false, Follows, follows-between}
+use Rattle.vm_clock.proofs.Prelude.{[], and_left, and_right, ap, arith, candidate_pages, cases_eq, cases_lt, cond-false, cond-true, Did, did_change}
+use Rattle.vm_clock.proofs.Prelude.{did_load, Each, each-both, each-map, else-knows, eq-eqb, eqb, false, FindsOwner, Follows, follows-between}
 use Rattle.vm_clock.proofs.Prelude.{follows-kept, follows-length, get_or-set_other, get_or-set_same, hand_more, has, has-both, index_of, inl, inr}
-use Rattle.vm_clock.proofs.Prelude.{IsAlone, IsHeld, IsPassed, IsWalked, IsNamed, KnowsWalked, le-ltb, length, length-set, List, Looks, lt-ltb, MARKED}
-use Rattle.vm_clock.proofs.Prelude.{MAX_VERSION, mod-lt, nat_tests, ne_eqb, None, Origin, passed_word, refl, RunsAlone}
-use Rattle.vm_clock.proofs.Prelude.{set_if, slice_index, slice_set, Some, state_of, subst, suc, sym, true, true≢false, UNLOCKED, version-within, ◌++◌}
-use Rattle.vm_clock.proofs.Prelude.{version_of, View, Visits, VisitsFrame, WalksFrames, Within, word-state, word_of, zero, ℕ, ⊎_elim, ◌%◌, ◌&&◌, ◌*◌, ◌+◌, ◌<◌}
-use Rattle.vm_clock.proofs.Prelude.{did_load, ◌||◌, ◌∙◌, ◌∷◌, ◌≡◌, ◌≢◌, ◌≤◌, ◌⊎◌}
+use Rattle.vm_clock.proofs.Prelude.{IsAlone, IsHeld, IsPassed, IsWalked, KnowsWalked, le-ltb, length, length-set, List, Looks, lt-ltb, MARKED}
+use Rattle.vm_clock.proofs.Prelude.{MAX_VERSION, mod-lt, nat_tests, ne_eqb, None, Origin, passed_word, refl, RunsAlone, set_if, slice_index}
+use Rattle.vm_clock.proofs.Prelude.{slice_set, Some, state_of, subst, suc, sym, true, true≢false, UNLOCKED, version-within, version_of, View, Visits}
+use Rattle.vm_clock.proofs.Prelude.{VisitsFrame, WalksFrames, Within, word-state, word_of, zero, ℕ, ⊎_elim, ◌%◌, ◌&&◌, ◌*◌, ◌++◌, ◌+◌, ◌<◌, ◌||◌, ◌∙◌}
+use Rattle.vm_clock.proofs.Prelude.{◌∷◌, ◌≡◌, ◌≢◌, ◌≤◌, ◌⊎◌}
 use Rattle.vm_clock.proofs.Visiting.{IsVisit, pages-end, visit-of}
 
 -- ---- the word of one page
@@ -82,10 +82,10 @@ module _ (start : Origin) where
 -- ---- the walk
 
 -- a page named by some of the steps is named by them all
-pub named-left : (a b : List Did) (p : ℕ) → IsNamed a p → IsNamed (a ++ b) p
+pub named-left : (a b : List Did) (p : ℕ) → FindsOwner a p → FindsOwner (a ++ b) p
 named-left a b p (f, h) = (f, given-front a b (places.Owner f) (p + 1) h)
 
-pub named-right : (a b : List Did) (p : ℕ) → IsNamed b p → IsNamed (a ++ b) p
+pub named-right : (a b : List Did) (p : ℕ) → FindsOwner b p → FindsOwner (a ++ b) p
 named-right a b p (f, h) = (f, given-behind a b (places.Owner f) (p + 1) h)
 
 -- a candidate was one before, or is the page that was visited

@@ -17,7 +17,7 @@ pub use Rattle.vm_step.proofs.{Alone.runs-one, Alone.runs-then, Evidenced.first-
 pub use Rattle.vm_step.proofs.{steps.Unchanged.mark-only}
 pub use Rattle.vm_step.proofs.Asides.{aside-within, only-then, OnlyReads}
 pub use Rattle.vm_step.proofs.Tables.{else-knows, follows-between, follows-kept, follows-length}
-pub use Rattle.vm_clock.specs.Clock.{IsBelowLast, IsChosen, IsFrameVisited, IsNamed, IsPageVisited, IsPassed, IsWalked, KnowsWalked, looks_counted}
+pub use Rattle.vm_clock.specs.Clock.{IsBelowLast, IsChosen, IsFrameVisited, FindsOwner, IsPageVisited, IsPassed, IsWalked, KnowsWalked, looks_counted}
 pub use Rattle.vm_clock.specs.Clock.{LooksAt, passed_word, Visits, VisitsFrame, WalksFrames}
-pub use Rattle.vm_clock.specs.Met.{Covers, may_hold}
+pub use Rattle.vm_clock.specs.Met.{HoldsChosen, may_hold}
 unfoldable pub use Rattle.vm_core.specs.Prelude.{hand_more, state_of, version_of, word_of}

@@ -8,13 +8,13 @@ use Rattle.vm_core.proofs.Upd.{upd-other, upd-same}
 use Rattle.vm_step.specs.steps.Owner.{OwnerLoadTold}
 use Rattle.vm_step.proofs.{Asides.alone-silent, steps.Leaving.only-of, steps.Leaving.others-still}
 use Rattle.vm_step.proofs.steps.Unchanged.{still-holds, still-knows, still-own}
-use Rattle.vm_clock.proofs.Prelude.{Covers, IsFrameVisited, IsNamed, VisitsFrame, ⊎_elim, ◌%◌, ◌+◌, ◌||◌, eqb, cases_eq, has-both, aside-within, each-map}
-use Rattle.vm_clock.proofs.Prelude.{[], ap, apart-end, AreApart, AreCandidates, arith, Bool, candidate_pages, Did, did_exchange, did_load, Each}
-use Rattle.vm_clock.proofs.Prelude.{each-both, eq-eqb, false, has, inl, inr, IsBelowLast, IsCandidate, IsPageVisited, length, List, look-only, Looks}
-use Rattle.vm_clock.proofs.Prelude.{looks_counted, LooksAt, LookTold, mark-only, MARKED, MarkTold, MAX_VERSION, nat_tests, ne_eqb, None, only-then}
-use Rattle.vm_clock.proofs.Prelude.{OnlyReads, refl, runs-one, runs-then, RunsAlone, slice_index_or, Start, state_of, subst, suc, sym, take, true}
-use Rattle.vm_clock.proofs.Prelude.{Covers, version-within, version_of, View, Visits, word_of, zero, ℕ, ◌++◌, ◌<◌, ◌∙◌, ◌∷◌, ◌≡◌, ◌≢◌, ◌≤◌, ◌⊎◌}
-use Rattle.vm_clock.proofs.Prelude.{Covers, IsFrameVisited, IsNamed}
+use Rattle.vm_clock.proofs.Prelude.{[], ap, apart-end, AreApart, AreCandidates, arith, aside-within, Bool, candidate_pages, cases_eq, Did}
+use Rattle.vm_clock.proofs.Prelude.{did_exchange, did_load, Each, each-both, each-map, eq-eqb, eqb, false, FindsOwner, has, has-both, HoldsChosen}
+use Rattle.vm_clock.proofs.Prelude.{inl, inr, IsBelowLast, IsCandidate, IsFrameVisited, IsPageVisited, length, List, look-only, Looks, looks_counted}
+use Rattle.vm_clock.proofs.Prelude.{LooksAt, LookTold, mark-only, MARKED, MarkTold, MAX_VERSION, nat_tests, ne_eqb, None, only-then, OnlyReads, refl}
+use Rattle.vm_clock.proofs.Prelude.{runs-one, runs-then, RunsAlone, slice_index_or, Start, state_of, subst, suc, sym, take, true, version-within}
+use Rattle.vm_clock.proofs.Prelude.{version_of, View, Visits, VisitsFrame, word_of, zero, ℕ, ⊎_elim, ◌%◌, ◌++◌, ◌+◌, ◌<◌, ◌||◌, ◌∙◌, ◌∷◌, ◌≡◌, ◌≢◌}
+use Rattle.vm_clock.proofs.Prelude.{◌≤◌, ◌⊎◌}
 
 -- one place further in the list
 pub has-next : (p : ℕ) (l : List (ℕ × ℕ)) (i : ℕ) (d : ℕ × ℕ) → i < length l → (slice_index_or l i d).0 ≢ p → has p (candidate_pages (take i l)) ≡ false → has p (candidate_pages (take (suc i) l)) ≡ false
@@ -114,14 +114,14 @@ module _ {X : Type 0} (tied : Start → ℕ → List ℕ → ℕ → List ℕ �
 -- no page, or one that is named
 pub record IsFrameVisit (pages : ℕ) (chosen : List (ℕ × ℕ)) (steps : List Did) (old new : Looks) (list : List (ℕ × ℕ)) : Type 0 where
   pub counted : looks_counted new ≡ suc (looks_counted old)
-  pub there : Each (λ d. ((f : ℕ) × (d.at ≡ places.Owner f) × (d.wrote ≡ None)) ⊎ ((p : ℕ) × (p < pages) × (d.at ≡ places.State p) × IsNamed steps p)) steps
+  pub there : Each (λ d. ((f : ℕ) × (d.at ≡ places.Owner f) × (d.wrote ≡ None)) ⊎ ((p : ℕ) × (p < pages) × (d.at ≡ places.State p) × FindsOwner steps p)) steps
   pub chooses :
       (list ≡ chosen)
-      ⊎ ((p word : ℕ) × (p < pages) × IsNamed steps p × (has p (candidate_pages chosen) ≡ false) × (state_of word ≡ MARKED) × IsBelowLast word
+      ⊎ ((p word : ℕ) × (p < pages) × FindsOwner steps p × (has p (candidate_pages chosen) ≡ false) × (state_of word ≡ MARKED) × IsBelowLast word
       × (list ≡ chosen ++ (p, word) ∷ []))
 
 -- a page is named by the load of the word that names it
-pub named-first : (f p : ℕ) (more : List Did) → IsNamed (did_load (places.Owner f) (p + 1) ∷ more) p
+pub named-first : (f p : ℕ) (more : List Did) → FindsOwner (did_load (places.Owner f) (p + 1) ∷ more) p
 named-first f p more = (f, record { earlier = []; step = did_load (places.Owner f) (p + 1); later = more; cut = refl; gives = (refl, refl) })
 
 pub frame-visit : (pages f : ℕ) (steps : List Did) (chosen list : List (ℕ × ℕ)) (old new : Looks) → VisitsFrame pages chosen f steps old new list → IsFrameVisit pages chosen steps old new list
@@ -132,10 +132,10 @@ frame-visit pages f steps chosen list old new (frames.empty are e l) = record {
 }
 frame-visit pages f steps chosen list old new (frames.named p more page are visits) =
     let v : IsVisit chosen p more old new list = visit-of p more chosen list old new visits in
-    let is : IsNamed steps p = subst (λ ds. IsNamed ds p) (sym are) (named-first f p more) in
+    let is : FindsOwner steps p = subst (λ ds. FindsOwner ds p) (sym are) (named-first f p more) in
     record {
       counted = v.counted;
-      there = subst (Each (λ (d : Did). ((g : ℕ) × (d.at ≡ places.Owner g) × (d.wrote ≡ None)) ⊎ ((q : ℕ) × (q < pages) × (d.at ≡ places.State q) × IsNamed steps q))) (sym are)
+      there = subst (Each (λ (d : Did). ((g : ℕ) × (d.at ≡ places.Owner g) × (d.wrote ≡ None)) ⊎ ((q : ℕ) × (q < pages) × (d.at ≡ places.State q) × FindsOwner steps q))) (sym are)
           (inl (f, refl, refl), each-map _ _ (λ (d : Did) at. inr (p, page, at, is)) more v.there);
       chooses = ⊎_elim (λ same. inl same) (λ m. inr (p, m.0, page, is, m.1, m.2, m.3, m.4)) v.chooses;
     }
@@ -153,7 +153,7 @@ module _ {X : Type 0} (f found : ℕ) (v w : View X) (t : OwnerLoadTold f found 
   -- the frame is nobody's
   pub by-none : found ≡ 0 → (chosen : List (ℕ × ℕ)) (old : Looks) → IsFrameVisited f old chosen (record old { gone = old.gone + 1 }) chosen v w
   by-none none chosen old =
-      let o = owner-only (IsNamed (owner-did ∷ [])) in
+      let o = owner-only (FindsOwner (owner-did ∷ [])) in
       record {
         steps = owner-did ∷ [];
         visits = frames.empty (ap (λ n. did_load (places.Owner f) n ∷ []) none) refl refl;
@@ -166,9 +166,9 @@ module _ {X : Type 0} (f found : ℕ) (v w : View X) (t : OwnerLoadTold f found 
   pub by-page : (p : ℕ) → found ≡ p + 1 → (chosen list : List (ℕ × ℕ)) (old new : Looks) (x : View X) → IsPageVisited p old chosen new list w x → IsFrameVisited f old chosen new list v x
   by-page p is chosen list old new x s =
       let steps : List Did = owner-did ∷ s.steps in
-      let named : IsNamed steps p = subst (λ n. IsNamed (did_load (places.Owner f) n ∷ s.steps) p) (sym is) (named-first f p s.steps) in
-      let own : OnlyReads (IsNamed steps) steps v x = only-then (IsNamed steps) (owner-did ∷ []) s.steps v w x (owner-only (IsNamed steps))
-      record { aside = aside-within (λ q. q ≡ p) (IsNamed steps) s.steps w x (λ q e. subst (IsNamed steps) (sym e) named) s.aside; keeps = s.keeps } in
+      let named : FindsOwner steps p = subst (λ n. FindsOwner (did_load (places.Owner f) n ∷ s.steps) p) (sym is) (named-first f p s.steps) in
+      let own : OnlyReads (FindsOwner steps) steps v x = only-then (FindsOwner steps) (owner-did ∷ []) s.steps v w x (owner-only (FindsOwner steps))
+      record { aside = aside-within (λ q. q ≡ p) (FindsOwner steps) s.steps w x (λ q e. subst (FindsOwner steps) (sym e) named) s.aside; keeps = s.keeps } in
       let inside : found ≤ v.start.pages = t.inside in
       record {
         steps = steps;
@@ -180,11 +180,11 @@ module _ {X : Type 0} (f found : ℕ) (v w : View X) (t : OwnerLoadTold f found 
 
 -- ---- the filter
 
-pub covers-none : Covers (replicate 16 0) []
+pub covers-none : HoldsChosen (replicate 16 0) []
 covers-none p e = absurd (false≢true e)
 
 -- one more is noted
-pub covers-more : (masks masks' : List ℕ) (list : List (ℕ × ℕ)) (c : ℕ × ℕ) → has_free_bit (at 0 masks') ≡ upd (has_free_bit (at 0 masks)) (c.0 % 1024) true → Covers masks list → Covers masks' (list ++ c ∷ [])
+pub covers-more : (masks masks' : List ℕ) (list : List (ℕ × ℕ)) (c : ℕ × ℕ) → has_free_bit (at 0 masks') ≡ upd (has_free_bit (at 0 masks)) (c.0 % 1024) true → HoldsChosen masks list → HoldsChosen masks' (list ++ c ∷ [])
 covers-more masks masks' list c noted covers p e =
     let both : (has p (candidate_pages list) || (eqb p c.0 || false)) ≡ true = sym (has-both p (candidate_pages list) (c.0 ∷ [])) ∙ ap (has p) (sym (pages-end list c)) ∙ e in
     ap (λ g. g (p % 1024)) noted

@@ -1,10 +1,10 @@
 -- A walk: the next visit makes it longer; each of its looks is counted; its candidates are pages of the table, each another.
 use Rattle.vm_rule.specs.declared.view.Place.TheVariants as places
 use Rattle.vm_clock.proofs.Passing.{named-left, named-right, walked-knows}
-use Rattle.vm_clock.proofs.Prelude.{[], ap, AreCandidates, arith, aside-within, Did, did_change, hand_more, IsChosen}
-use Rattle.vm_clock.proofs.Prelude.{IsFrameVisited, IsNamed, length, length-append, List, Looks, looks_counted, mod-add-mod, only-then}
-use Rattle.vm_clock.proofs.Prelude.{OnlyReads, refl, runs-then, RunsAlone, subst, suc, sym, View, VisitsFrame, WalksFrames, zero, ℕ, ⊎_elim, ◌%◌, ◌*◌, ◌++◌}
-use Rattle.vm_clock.proofs.Prelude.{Origin, ◌+◌, ◌<◌, ◌∙◌, ◌∷◌, ◌≡◌, ◌≤◌, ◌⊎◌}
+use Rattle.vm_clock.proofs.Prelude.{[], ap, AreCandidates, arith, aside-within, Did, did_change, FindsOwner, hand_more, IsChosen, IsFrameVisited}
+use Rattle.vm_clock.proofs.Prelude.{length, length-append, List, Looks, looks_counted, mod-add-mod, only-then, OnlyReads, Origin, refl, runs-then}
+use Rattle.vm_clock.proofs.Prelude.{RunsAlone, subst, suc, sym, View, VisitsFrame, WalksFrames, zero, ℕ, ⊎_elim, ◌%◌, ◌*◌, ◌++◌, ◌+◌, ◌<◌, ◌∙◌, ◌∷◌}
+use Rattle.vm_clock.proofs.Prelude.{◌≡◌, ◌≤◌, ◌⊎◌}
 use Rattle.vm_clock.proofs.Visiting.{candidates-end, frame-visit, IsFrameVisit, no-candidates}
 
 -- ---- one visit
@@ -47,14 +47,14 @@ module _ {X : Type 0} (want drawn : ℕ) where
   pub record IsWalking (k : ℕ) (looks : Looks) (list : List (ℕ × ℕ)) (v w : View X) : Type 0 where
     pub steps : List Did
     pub walk : WalksFrames want v.start.pages v.start.frames drawn k steps looks list
-    pub only : OnlyReads (IsNamed steps) (did_change places.Hand drawn (hand_more drawn) ∷ steps) v w
+    pub only : OnlyReads (FindsOwner steps) (did_change places.Hand drawn (hand_more drawn) ∷ steps) v w
     pub alone : RunsAlone (did_change places.Hand drawn (hand_more drawn) ∷ steps) [] v w
 
   -- one visit more
   pub walking-on : (k f : ℕ) (old new : Looks) (chosen list : List (ℕ × ℕ)) (v w x : View X) → IsWalking k old chosen v w → length chosen < want → f ≡ (drawn % v.start.frames + k) % v.start.frames
       → IsFrameVisited f old chosen new list w x → IsWalking (suc k) new list v x
   walking-on k f old new chosen list v w x so-far room at visited =
-      let more : ℕ → Type 0 = IsNamed (so-far.steps ++ visited.steps) in
+      let more : ℕ → Type 0 = FindsOwner (so-far.steps ++ visited.steps) in
       let all-steps : List Did = did_change places.Hand drawn (hand_more drawn) ∷ so-far.steps in
       let place : f ≡ (drawn + k) % v.start.frames = at ∙ mod-add-mod drawn v.start.frames k in
       record {
@@ -70,8 +70,8 @@ module _ {X : Type 0} (want drawn : ℕ) where
           subst (λ g. VisitsFrame v.start.pages chosen g visited.steps old new list) place (subst (λ (o : Origin). VisitsFrame o.pages chosen f visited.steps old new list) so-far.only.aside.start visited.visits),
         );
         only = only-then more all-steps visited.steps v w x
-            record { aside = aside-within (IsNamed so-far.steps) more all-steps v w (λ q. named-left so-far.steps visited.steps q) so-far.only.aside; keeps = so-far.only.keeps }
-            record { aside = aside-within (IsNamed visited.steps) more visited.steps w x (λ q. named-right so-far.steps visited.steps q) visited.aside; keeps = visited.keeps };
+            record { aside = aside-within (FindsOwner so-far.steps) more all-steps v w (λ q. named-left so-far.steps visited.steps q) so-far.only.aside; keeps = so-far.only.keeps }
+            record { aside = aside-within (FindsOwner visited.steps) more visited.steps w x (λ q. named-right so-far.steps visited.steps q) visited.aside; keeps = visited.keeps };
         alone = runs-then all-steps visited.steps [] [] v w x so-far.only.aside.start so-far.only.aside.parts so-far.alone visited.alone;
       }
 

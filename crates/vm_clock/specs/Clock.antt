@@ -73,8 +73,8 @@ WalksFrames want pages frames drawn (suc k) done looks list =
     × VisitsFrame pages chosen ((drawn + k) % frames) steps old looks list
 
 -- one of the steps found an owner word that names page p
-abbrev pub IsNamed : List Did → ℕ → Type 0
-IsNamed done p = (f : ℕ) × HasGiven done (places.Owner f) (p + 1)
+abbrev pub FindsOwner : List Did → ℕ → Type 0
+FindsOwner done p = (f : ℕ) × HasGiven done (places.Owner f) (p + 1)
 
 -- the word of a page once the clock has passed it, where nobody else changes it: an unlocked page below the last version is marked
 abbrev pub passed_word : ℕ → ℕ
@@ -109,7 +109,7 @@ module _ {X : Type 0} where
     pub most : count ≤ 2 * v.start.frames
     pub ends : (length list ≡ want) ⊎ (count ≡ 2 * v.start.frames)
     pub counted : looks_counted looks ≡ count
-    pub aside : IsAsideOf (IsNamed steps) (did_change places.Hand drawn (hand_more drawn) ∷ steps) v w
+    pub aside : IsAsideOf (FindsOwner steps) (did_change places.Hand drawn (hand_more drawn) ∷ steps) v w
     pub keeps : KeepsFrames v w
     -- nothing was released; of a pass that is alone the steps made all that happened to the table's words
     pub alone : RunsAlone (did_change places.Hand drawn (hand_more drawn) ∷ steps) [] v w
@@ -127,6 +127,6 @@ module _ {X : Type 0} where
   pub record IsFrameVisited (f : ℕ) (old : Looks) (chosen : List (ℕ × ℕ)) (new : Looks) (list : List (ℕ × ℕ)) (v w : View X) : Type 0 where
     pub steps : List Did
     pub visits : VisitsFrame v.start.pages chosen f steps old new list
-    pub aside : IsAsideOf (IsNamed steps) steps v w
+    pub aside : IsAsideOf (FindsOwner steps) steps v w
     pub keeps : KeepsFrames v w
     pub alone : RunsAlone steps [] v w

@@ -9,5 +9,5 @@ abbrev pub may_hold : List ℕ → ℕ → Bool
 may_hold masks p = has_free_bit (at 0 masks) (p % 1024)
 
 -- each page chosen has its bit set
-abbrev pub Covers : List ℕ → List (ℕ × ℕ) → Type 0
-Covers masks list = (p : ℕ) → has p (candidate_pages list) ≡ true → may_hold masks p ≡ true
+abbrev pub HoldsChosen : List ℕ → List (ℕ × ℕ) → Type 0
+HoldsChosen masks list = (p : ℕ) → has p (candidate_pages list) ≡ true → may_hold masks p ≡ true

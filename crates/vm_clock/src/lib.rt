@@ -5,7 +5,7 @@
 ghost use Rattle.std.specs.Prelude.{◌%◌, ◌*◌, ◌+◌, ◌<◌, ◌≡◌, ◌≤◌, length};
 ghost use Rattle.vm_step.specs.Prelude.{AreCandidates, IsReady, IsSamePass, view};
 ghost use Rattle.vm_clock.specs.Clock.{IsChosen, IsFrameVisited, IsPageVisited, looks_counted};
-ghost use Rattle.vm_clock.specs.Met.{Covers};
+ghost use Rattle.vm_clock.specs.Met.{HoldsChosen};
 
 mod met;
 
@@ -89,12 +89,12 @@ fn visit_frame<U: Owner, B: Block>(
 )
     requires ready { IsReady words.now.table.shared.key B.tells words.now.table.shared.table_id pass.old }
     requires frame { f < words.now.table.shared.key.frames }
-    requires covers { Covers met.old chosen.old.list.items }
+    requires covers { HoldsChosen met.old chosen.old.list.items }
     requires room { length chosen.old.list.items < FRAMES }
     requires counts { looks_counted chosen.old.looks < 4294967295 }
     ensures pass { IsSamePass pass.old pass.new }
     ensures ready { IsReady words.now.table.shared.key B.tells words.now.table.shared.table_id pass.new }
-    ensures covers { Covers met.new chosen.new.list.items }
+    ensures covers { HoldsChosen met.new chosen.new.list.items }
     ensures visited { IsFrameVisited f chosen.old.looks chosen.old.list.items chosen.new.looks chosen.new.list.items (view pass.old) (view pass.new) }
 {
     let owner = oload(words, pass, f);
@@ -115,12 +115,12 @@ fn visit<U: Owner, B: Block>(
 )
     requires ready { IsReady words.now.table.shared.key B.tells words.now.table.shared.table_id pass.old }
     requires page { p < words.now.table.shared.key.pages }
-    requires covers { Covers met.old chosen.old.list.items }
+    requires covers { HoldsChosen met.old chosen.old.list.items }
     requires room { length chosen.old.list.items < FRAMES }
     requires counts { looks_counted chosen.old.looks < 4294967295 }
     ensures pass { IsSamePass pass.old pass.new }
     ensures ready { IsReady words.now.table.shared.key B.tells words.now.table.shared.table_id pass.new }
-    ensures covers { Covers met.new chosen.new.list.items }
+    ensures covers { HoldsChosen met.new chosen.new.list.items }
     ensures visited { IsPageVisited p chosen.old.looks chosen.old.list.items chosen.new.looks chosen.new.list.items (view pass.old) (view pass.new) }
 {
     let word = look_silently(words, pass, p);

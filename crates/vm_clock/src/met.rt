@@ -4,7 +4,7 @@ ghost use Rattle.std.specs.Prelude.{◌%◌, ◌≡◌, replicate, true};
 ghost use Rattle.vm_core.specs.Prelude.{at, has_free_bit, upd};
 ghost use Rattle.vm_rule.specs.Prelude.{has};
 ghost use Rattle.vm_step.specs.Prelude.{candidate_pages};
-ghost use Rattle.vm_clock.specs.Met.{Covers, may_hold};
+ghost use Rattle.vm_clock.specs.Met.{HoldsChosen, may_hold};
 
 /// The masks of a filter.
 pub(crate) const MASKS: usize = 16;
@@ -37,7 +37,7 @@ pub(crate) fn note(met: &mut [u64; MASKS], p: u32)
 
 /// Whether the page is one of the candidates.
 pub(crate) fn is_met(list: &[(u32, u64)], met: &[u64; MASKS], p: u32) -> bool
-    requires { Covers met.now list.now }
+    requires { HoldsChosen met.now list.now }
     ensures { result ≡ has p (candidate_pages list.now) }
 {
     may_hold(met, p) && is_chosen(list, p)

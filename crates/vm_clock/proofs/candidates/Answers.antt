@@ -1,6 +1,6 @@
 -- The walk so far gives each clause.
-use Rattle.vm_clock.proofs.Prelude.{add_assoc, ap, arith, inl, inr, length, looks_counted, mod-add-mod, subst, suc, sym, view, ◌%◌, ◌*◌}
-use Rattle.vm_clock.proofs.Prelude.{◌+◌, ◌<◌, ◌∙◌, ◌≡◌, ◌≤◌}
+use Rattle.vm_clock.proofs.Prelude.{add_assoc, ap, arith, inl, inr, length, looks_counted, mod-add-mod, subst, suc, sym, view, ◌%◌, ◌*◌, ◌+◌, ◌<◌}
+use Rattle.vm_clock.proofs.Prelude.{◌∙◌, ◌≡◌, ◌≤◌}
 use Rattle.vm_clock.proofs.Walking.{IsWalking, walked-chosen, walked-few, walked-list, walked-looks, walking-on}
 use Rattle.vm_clock.proofs.candidates.Goals as goal
 

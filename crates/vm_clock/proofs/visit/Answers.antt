@@ -1,8 +1,7 @@
 -- What the look found, and the exchange, give each count.
 use Rattle.vm_clock.specs.Clock.{Visits as visits}
-use Rattle.vm_clock.proofs.Prelude.{Covers}
-use Rattle.vm_clock.proofs.Prelude.{[], ap, false, first-or, held-state, inl, inr, MARKED, refl, state_of, subst, sym, true, UNLOCKED, ◌+◌, ◌<◌, ◌∙◌}
-use Rattle.vm_clock.proofs.Prelude.{◌≡◌, ◌⊎◌}
+use Rattle.vm_clock.proofs.Prelude.{[], ap, false, first-or, held-state, HoldsChosen, inl, inr, MARKED, refl, state_of, subst, sym, true, UNLOCKED}
+use Rattle.vm_clock.proofs.Prelude.{◌+◌, ◌<◌, ◌∙◌, ◌≡◌, ◌⊎◌}
 use Rattle.vm_clock.proofs.Visiting.{by-look, by-mark, covers-more, fresh-word, looks-at, told-of}
 use Rattle.vm_clock.proofs.visit.Goals as goal
 use Rattle.vm_clock.proofs.visit.Goals.{else-state-ne-UNLOCKED-via-else-state-ne-UNLOCKED}
@@ -67,4 +66,4 @@ returns-in-Lost-clause-visited g c =
 
 pub returns-then-state-3-clause-covers : goal.returns-then-state-3-clause-covers
 returns-then-state-3-clause-covers g c =
-    subst (Covers c.note.new.met) (sym c.push.ensures.items) (covers-more _ _ _ (c.args.p, c.look_silently-word.result) c.note.ensures c.requires.covers)
+    subst (HoldsChosen c.note.new.met) (sym c.push.ensures.items) (covers-more _ _ _ (c.args.p, c.look_silently-word.result) c.note.ensures c.requires.covers)
