@@ -13,7 +13,7 @@ use Rattle.vm_evict.specs.declared.report.Report.{Report}
 use Rattle.vm_pool.specs.{declared.bring.Bring.Bring, Sweeps.IsSwept}
 use Rattle.vm_pool.specs.declared.bring.Bring.TheVariants as brings
 
--- a walk that met only pages at the last version, of which this is the first, and evicted ones
+-- a walk that met only pages at the last version, of which this is the first, evicted ones, and frames without a page
 pub record MeetsOnlyWorn (looks : Looks) (p : ℕ) : Type 0 where
   pub first : looks.first_worn ≡ Some p
   pub found : looks.found ≡ 0

@@ -34,7 +34,7 @@ pub enum Bring {
     Dry { looks: Looks },
 }
 
-/// The page that `Worn` names: the first page at the last version, where a walk met only such pages and evicted ones.
+/// The page that `Worn` names: the first page at the last version, where a walk met only such pages, evicted ones, and frames without a page.
 fn only_worn(looks: &Looks) -> Option<u32>
     ensures { NamesWorn looks.now result }
 {
