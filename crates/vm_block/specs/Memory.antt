@@ -8,7 +8,7 @@ use Rattle.vm_block.specs.declared.memory.MemBlock.{MemBlock}
 
 -- the words held
 abbrev pub words_of : MemBlock → List ℕ
-words_of block = block.words
+words_of block = block.words.value
 
 -- the numbers of the calls that fail
 abbrev pub planned_calls : MemBlock → List ℕ
@@ -20,7 +20,7 @@ calls_made block = block.plan.calls
 
 -- what contracts see of a block in memory: its bound is the count that it started at and how many different numbers its plan has
 abbrev pub stored_of : MemBlock → Stored
-stored_of block = record { words = block.words; count = block.plan.faults; bound = most_counted block.plan.first block.plan.numbers.items; reads = block.reads; writes = block.writes }
+stored_of block = record { words = block.words.value; count = block.plan.faults; bound = most_counted block.plan.first block.plan.numbers.items; reads = block.reads; writes = block.writes }
 
 -- whether the next call is to fail
 abbrev pub fails_next : MemBlock → Bool

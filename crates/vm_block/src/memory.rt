@@ -8,12 +8,13 @@ mod calls;
 use crate::plan::Plan;
 use vm_page::PageBuf;
 
-/// The storage of a page in memory, which fails exactly the calls of its plan.
+/// The storage of a page in memory, which fails exactly the calls of its plan. A block goes out of its slot and home for each call of its device, and
+/// its words stay where they are.
 #[derive(Drop)]
 pub struct MemBlock {
-    words: PageBuf,
+    words: Box<PageBuf>,
     plan: Plan,
     reads: u64,
     writes: u64,
-    ghost whole: { length words ≡ WORDS },
+    ghost whole: { length words.value ≡ WORDS },
 }

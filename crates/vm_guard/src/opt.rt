@@ -1,7 +1,7 @@
 // Optimistic guards: a page is read without a lock, and a later look at its word tells whether all words read were of one version.
 ghost use Rattle.std.specs.Prelude.{[], ◌<◌, ◌∷◌, ◌≡◌, ◌≢◌, ◌⊎◌, IfErr, IfOk, IsOk, length, None, option_map, true};
 ghost use Rattle.vm_core.specs.Prelude.{is_readable, LOCKED, MAX_VERSION, state_of, version_of};
-ghost use Rattle.vm_step.specs.Prelude.{IsAlone, IsKeptNow, IsReady, IsSamePass, KnowsUnheld, MayStep, MayTell, NoneExpected, NoWord};
+ghost use Rattle.vm_step.specs.Prelude.{IsAlone, IsFrameAt, IsKeptNow, IsReady, IsSamePass, KnowsUnheld, MayStep, MayTell, NoneExpected, NoWord};
 ghost use Rattle.vm_step.specs.Prelude.{UnlockedExpected, view};
 ghost use Rattle.vm_guard.specs.Denied.{AgainOrNeed, AgainOrWorn, IsDenied, KeptWord, SameOrUnlocked};
 ghost use Rattle.vm_guard.specs.Guards.{BeginsReading, HasLeft, IsLocked, IsReading, IsUnmarked, IsValid, Loads, placed};
@@ -16,7 +16,12 @@ use vm_core::{MAX_VERSION, StateWord, TransWord};
 use vm_owner::Owner;
 use vm_page::{PageBuf, WORDS};
 use vm_rule::words::{Pass, Words};
-use vm_step::{At, Saw, Took, load, lock_exclusive, look, look_silently, tload, unmark};
+use vm_step::{
+    At, Saw, Took, frame_place, load_at, lock_exclusive, look, look_silently, tload, unmark,
+};
+
+/// How many words are loaded in a turn.
+const TURN: usize = 8;
 
 /// A page that is read optimistically: the word that the read began at, and the frame that it reads. It holds no lock, and may be dropped.
 #[derive(Drop)]
@@ -112,7 +117,26 @@ impl OptGuard {
         ensures ready { IsReady words.now.table.shared.key B.tells words.now.table.shared.table_id pass.new }
         ensures loads { Loads self.now.pid self.now.word self.now.frame ((i, result) ∷ []) (view pass.old) (view pass.new) }
     {
-        load(words, pass, self.pid, self.frame, i)
+        self.word_at(words, pass, frame_place(words, self.frame), i)
+    }
+
+    /// The same, where the place of the frame's first word is known.
+    fn word_at<U: Owner, B: Block>(
+        &self,
+        words: &Words<U, B>,
+        pass: &mut Pass<U>,
+        first: usize,
+        i: usize,
+    ) -> u64
+        requires ready { IsReady words.now.table.shared.key B.tells words.now.table.shared.table_id pass.old }
+        requires reading { IsReading self.now.pid self.now.word self.now.frame (view pass.old) }
+        requires first { IsFrameAt words.now.table.shared.key words.now.table.shared.table_id.words self.now.frame first }
+        requires place { i < WORDS }
+        ensures pass { IsSamePass pass.old pass.new }
+        ensures ready { IsReady words.now.table.shared.key B.tells words.now.table.shared.table_id pass.new }
+        ensures loads { Loads self.now.pid self.now.word self.now.frame ((i, result) ∷ []) (view pass.old) (view pass.new) }
+    {
+        load_at(words, pass, self.pid, self.frame, first, i)
     }
 
     /// All 64 words of the page, through the guard's open read.
@@ -130,9 +154,13 @@ impl OptGuard {
         ensures size { length into.new ≡ WORDS }
         ensures loads { Loads self.now.pid self.now.word self.now.frame (placed 0 into.new) (view pass.old) (view pass.new) }
     {
-        for i in 0..WORDS {
-            let word = self.word(words, pass, i);
-            into.set(i, word);
+        let first = frame_place(words, self.frame);
+        for turn in 0..WORDS / TURN {
+            for k in 0..TURN {
+                let i = TURN * turn + k;
+                let word = self.word_at(words, pass, first, i);
+                into.set(i, word);
+            }
         }
     }
 

@@ -1,7 +1,9 @@
 -- One operation on a word of the table, by a pass that has no slot out: what the table is asked, and what the operation tells. Each kind of step
 -- says the second for itself: of the number found (at a store, the number stored), of the pass's view before, and of its view afterwards.
-use Rattle.std.specs.Prelude.{[], ◌≡◌, Bool, true, ℕ}
+use Rattle.std.specs.Prelude.{[], ◌+◌, ◌≡◌, ◌≤◌, Bool, true, ℕ}
+use Rattle.vm_core.specs.Prelude.{WORDS}
 use Rattle.vm_rule.specs.Prelude.{Allows, HasShape, index_of, Me, Sound, Step, Table}
+use Rattle.vm_rule.specs.declared.view.Place.TheVariants.{Content}
 use Rattle.vm_rule.specs.{declared.view.Origin.Origin, declared.view.Place.Place, declared.view.Shape.Shape, declared.view.View.View}
 
 module _ {X : Type 0} where
@@ -31,3 +33,8 @@ module _ {X : Type 0} where
 -- the place stands here, in each table of this shape
 abbrev pub IsPlacedAt : Shape → Place → ℕ → Type 0
 IsPlacedAt shape place i = (start : Origin) → HasShape shape start → index_of start place ≡ i
+
+-- the words of frame f begin here, and stand among so many words
+pub record IsFrameAt (shape : Shape) (all f first : ℕ) : Type 0 where
+  pub place : IsPlacedAt shape (Content f 0) first
+  pub inside : first + WORDS ≤ all

@@ -24,7 +24,7 @@ pub use Rattle.vm_step.specs.Fills.{Stores}
 pub use Rattle.vm_step.specs.HeldFrames.{AreHeld}
 pub use Rattle.vm_step.specs.Keeping.{IsKeptNow}
 pub use Rattle.vm_step.specs.Meeting.{Meets}
-pub use Rattle.vm_step.specs.Operations.{AllowsStep, IsFit, IsOf, IsPlacedAt, told_of}
+pub use Rattle.vm_step.specs.Operations.{AllowsStep, IsFit, IsFrameAt, IsOf, IsPlacedAt, told_of}
 pub use Rattle.vm_step.specs.Passes.{found_by, IsSamePass, MayStep, view}
 pub use Rattle.vm_step.specs.Ready.{IsReady}
 pub use Rattle.vm_step.specs.steps.Block.{MayTakeOut}

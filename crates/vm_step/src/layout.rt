@@ -1,7 +1,7 @@
 // Where a word stands among the words of a table: those of the pages, the frames and the bundles, the next word, the hand's word, and the owner words.
 ghost use Rattle.std.specs.Prelude.{◌*◌, ◌+◌, ◌<◌};
 ghost use Rattle.vm_rule.specs.declared.view.Place.TheVariants as places;
-ghost use Rattle.vm_step.specs.Prelude.{IsPlacedAt};
+ghost use Rattle.vm_step.specs.Prelude.{IsFrameAt, IsPlacedAt};
 
 use vm_block::Block;
 use vm_core::FRAMES;
@@ -34,6 +34,14 @@ pub(crate) fn fault_place<U: Owner, B: Block>(words: &Words<U, B>, p: u32) -> us
     ensures inside { result < words.now.table.shared.table_id.words }
 {
     2 * words.pages + p as usize
+}
+
+/// The place of a frame's first word, worked out once for many steps on the frame's words.
+pub fn frame_place<U: Owner, B: Block>(words: &Words<U, B>, f: u32) -> usize
+    requires frame { f < words.now.table.shared.key.frames }
+    ensures { IsFrameAt words.now.table.shared.key words.now.table.shared.table_id.words f result }
+{
+    3 * words.pages + WORDS * f as usize
 }
 
 /// The place of a word of a frame.

@@ -32,7 +32,7 @@ impl MemBlock {
         // A page has 64 words.
         let _ = words.get(0);
         Ok(MemBlock {
-            words,
+            words: Box::new(alloc, words)?,
             plan: Plan::new(alloc, plan, count)?,
             reads: 0,
             writes: 0,

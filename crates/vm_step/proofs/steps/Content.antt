@@ -52,6 +52,10 @@ frame-mapped b t m d locks is = rw (locks, is) refl
 pub frame-known : (y : Seat) (h : Held) (r : Page) → KnowsPage y h r → IsLocking y → frame_of h.mapping ≡ frame_of r.trans
 frame-known y h r k = ⊎_elim (λ x. ap frame_of (k.calls (rw x refl)).0) (λ x. k.shares x)
 
+-- a frame's words stand one behind another
+pub placed-from : (shape : Shape) (f first i : ℕ) → IsPlacedAt shape (places.Content f 0) first → IsPlacedAt shape (places.Content f i) (first + i)
+placed-from shape f first i is start has = let here = is start has in omega (arith, here)
+
 module _ {X B : Type 0} (stored : B → Stored) (start : Origin) (s : Table (Option B) (View X)) (id p : ℕ) (v : View X) (l : p < start.pages) (there : get_elem? s.views id ≡ some v) where
   abbrev page : Page
   page = (core_shown stored start s).pages p

@@ -2,10 +2,10 @@
 ghost use Rattle.std.specs.Prelude.{◌<◌, ◌≡◌, length, Some, true};
 ghost use Rattle.vm_rule.specs.Prelude.{frame_read_by, has, LoadTold, StoresTold};
 ghost use Rattle.vm_rule.specs.Stores.{PassMayStore};
-ghost use Rattle.vm_step.specs.Prelude.{IsOf, IsReady, IsSamePass, MayStep, Stores, view};
+ghost use Rattle.vm_step.specs.Prelude.{IsFrameAt, IsOf, IsReady, IsSamePass, MayStep, Stores, view};
 ghost use Rattle.vm_step.specs.steps.Content.{FillIsItsEvent, LoadIsItsEvent, StoreIsItsEvent};
 
-use crate::layout::content_place;
+use crate::layout::{content_place, frame_place};
 use crate::operation;
 use std::marker::Brand;
 use vm_block::Block;
@@ -28,8 +28,27 @@ pub fn load<U: Owner, B: Block>(
     ensures table { IsOf words.now.table.shared.key B.tells (view pass.old) }
     ensures told { LoadTold p f i result (view pass.old) (view pass.new) }
 {
-    let at = content_place(words, f, i);
-    operation::load::<U, B, (u32, u32, usize), Brand>(words, pass, at, (p, f, i))
+    load_at(words, pass, p, f, frame_place(words, f), i)
+}
+
+/// The same, where the place of the frame's first word is known.
+pub fn load_at<U: Owner, B: Block>(
+    words: &Words<U, B>,
+    pass: &mut Pass<U>,
+    p: u32,
+    f: u32,
+    first: usize,
+    i: usize,
+) -> u64
+    requires pass { MayStep words.now.table.shared.table_id pass.old }
+    requires page { (p < words.now.table.shared.key.pages) × (f < words.now.table.shared.key.frames) × (i < WORDS) }
+    requires first { IsFrameAt words.now.table.shared.key words.now.table.shared.table_id.words f first }
+    requires frame { frame_read_by (view pass.old) p ≡ Some f }
+    ensures pass { IsSamePass pass.old pass.new }
+    ensures table { IsOf words.now.table.shared.key B.tells (view pass.old) }
+    ensures told { LoadTold p f i result (view pass.old) (view pass.new) }
+{
+    operation::load::<U, B, (u32, u32, usize), Brand>(words, pass, first + i, (p, f, i))
 }
 
 /// Stores word `i` (0 to 63) of a frame: one that the pass holds, or that of a dirty page which the pass has locked exclusively, where it

@@ -1,17 +1,21 @@
-use Rattle.vm_guard.proofs.Prelude.{[], ap, List, placed, refl, subst, sym, take, ℕ, ◌++◌, ◌+◌, ◌<◌, ◌∙◌, ◌∷◌, ◌≡◌}
+use Rattle.vm_guard.proofs.Prelude.{[], ap, arith, List, Loads, placed, refl, subst, sym, take, view, ℕ, ◌*◌, ◌++◌, ◌+◌, ◌<◌, ◌∙◌, ◌∷◌, ◌≡◌}
 use Rattle.vm_guard.proofs.Reading.{loaded-then, none-loaded, placed-taken}
 use Rattle.vm_guard.proofs.opt.OptGuard.read_all.Goals as goal
 
-pub loop-i-init : goal.loop-i-init
-loop-i-init g c = record { same = (refl, refl); ready = c.requires.ready; size = c.requires.size; loads = none-loaded _ _ _ _ c.requires.reading }
+pub loop-turn-init : goal.loop-turn-init
+loop-turn-init g c = record { same = (refl, refl); ready = c.requires.ready; size = c.requires.size; loads = none-loaded _ _ _ _ c.requires.reading }
 
-pub loop-i-preserved : goal.loop-i-preserved
-loop-i-preserved g c =
-    let into : placed 0 (take (c.loop-i.i + 1) c.set.new.self) ≡ placed 0 (take c.loop-i.i c.loop-i.into) ++ (c.loop-i.i, c.word-word.result) ∷ []
-    = ap (λ (l : List ℕ). placed 0 (take (c.loop-i.i + 1) l)) c.set.ensures.words ∙ placed-taken c.loop-i.i c.loop-i.into c.word-word.result (subst (λ n. c.loop-i.i < n) (sym c.loop-i.invariant.size) c.loop-i-test.true) in
+pub loop-k-preserved : goal.loop-k-preserved
+loop-k-preserved g c =
+    let i : ℕ = 8 * c.loop-turn.turn + c.loop-k.k in
+    let next : i + 1 ≡ 8 * c.loop-turn.turn + (c.loop-k.k + 1) = omega arith in
+    let low : i < 64 = omega (arith, c.loop-turn-test.true, c.loop-k-test.true) in
+    let into : placed 0 (take (i + 1) c.set.new.self) ≡ placed 0 (take i c.loop-k.into) ++ (i, c.word_at-word.result) ∷ []
+    = ap (λ (l : List ℕ). placed 0 (take (i + 1) l)) c.set.ensures.words ∙ placed-taken i c.loop-k.into c.word_at-word.result (subst (λ n. i < n) (sym c.loop-k.invariant.size) low) in
     record {
-      same = (c.word-word.ensures.pass.0 ∙ c.loop-i.invariant.same.0, c.word-word.ensures.pass.1 ∙ c.loop-i.invariant.same.1);
-      ready = c.word-word.ensures.ready;
+      same = (c.word_at-word.ensures.pass.0 ∙ c.loop-k.invariant.same.0, c.word_at-word.ensures.pass.1 ∙ c.loop-k.invariant.same.1);
+      ready = c.word_at-word.ensures.ready;
       size = c.set.ensures.length;
-      loads = rw into (loaded-then _ _ _ _ _ _ _ _ c.loop-i.invariant.loads c.word-word.ensures.loads);
+      loads = subst (λ n. Loads c.args.self.now.pid c.args.self.now.word c.args.self.now.frame (placed 0 (take n c.set.new.self)) (view c.args.pass.now) (view c.word_at-word.new.pass)) next
+          (rw into (loaded-then _ _ _ _ _ _ _ _ c.loop-k.invariant.loads c.word_at-word.ensures.loads));
     }

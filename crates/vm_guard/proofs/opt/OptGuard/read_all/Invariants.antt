@@ -1,11 +1,20 @@
-use Rattle.vm_guard.proofs.Prelude.{IsReady, IsSamePass, length, Loads, placed, take, view, ◌≡◌}
+use Rattle.vm_guard.proofs.Prelude.{IsReady, IsSamePass, length, Loads, placed, take, view, ◌*◌, ◌+◌, ◌≡◌}
 use Rattle.vm_guard.proofs.opt.OptGuard.read_all.Given as goal
 
--- the words below i were loaded, and stand in the page
-abbrev pub invariant-loop-i : goal.invariant-loop-i
-invariant-loop-i g l = record {
+-- the words of the turns so far were loaded, and stand in the page
+abbrev pub invariant-loop-turn : goal.invariant-loop-turn
+invariant-loop-turn g l = record {
   same : IsSamePass l.fn.pass l.pass;
   ready : IsReady l.words.table.shared.key g.B.Block.tells l.words.table.shared.table_id l.pass;
   size : length l.into ≡ 64;
-  loads : Loads l.self.pid l.self.word l.self.frame (placed 0 (take l.i l.into)) (view l.fn.pass) (view l.pass);
+  loads : Loads l.self.pid l.self.word l.self.frame (placed 0 (take (8 * l.turn) l.into)) (view l.fn.pass) (view l.pass);
+}
+
+-- and k words of this turn
+abbrev pub invariant-loop-k : goal.invariant-loop-k
+invariant-loop-k g l = record {
+  same : IsSamePass l.fn.pass l.pass;
+  ready : IsReady l.words.table.shared.key g.B.Block.tells l.words.table.shared.table_id l.pass;
+  size : length l.into ≡ 64;
+  loads : Loads l.self.pid l.self.word l.self.frame (placed 0 (take (8 * l.turn + l.k) l.into)) (view l.fn.pass) (view l.pass);
 }

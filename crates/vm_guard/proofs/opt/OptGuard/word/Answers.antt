@@ -1,5 +1,0 @@
-use Rattle.vm_guard.proofs.Reading.{word-loaded}
-use Rattle.vm_guard.proofs.opt.OptGuard.word.Goals as goal
-
-pub returns-clause-loads : goal.returns-clause-loads
-returns-clause-loads g c = word-loaded _ _ _ _ _ _ _ c.requires.reading c.load.ensures.told
