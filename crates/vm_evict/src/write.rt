@@ -9,7 +9,7 @@ use vm_core::TransWord;
 use vm_owner::Owner;
 use vm_page::{PageBuf, WORDS};
 use vm_rule::words::{Pass, Words};
-use vm_step::{block_home, block_out, load, raise, set_clean, tload};
+use vm_step::{block_home, block_out, frame_place, load_at, raise, set_clean, tload};
 
 /// The frame of a dirty page, by its translation word.
 pub(crate) fn dirty_frame(word: u64) -> Option<u32>
@@ -39,8 +39,9 @@ fn copy_page<U: Owner, B: Block>(
     ensures copied { IsCopied p result (view pass.old) (view pass.new) }
 {
     let mut page = PageBuf::zero();
+    let first = frame_place(words, frame);
     for i in 0..WORDS {
-        page.set(i, load(words, pass, p, frame, i));
+        page.set(i, load_at(words, pass, p, frame, first, i));
     }
     page
 }

@@ -5,12 +5,12 @@ use Rattle.vm_evict.proofs.write.copy_page.Goals as goal
 sixty-four : (i : ℕ) → 64 ≤ i → i ≤ 64 → i ≡ 64
 sixty-four i ge le = omega (arith, ge, le)
 
-pub load-requires-clause-pass : goal.load-requires-clause-pass
-load-requires-clause-pass g c =
+pub load_at-requires-clause-pass : goal.load_at-requires-clause-pass
+load_at-requires-clause-pass g c =
     (ready-after _ _ _ c.args.pass.now c.loop-i.pass c.args.p _ c.loop-i.invariant.same c.loop-i.invariant.copies.from.works.leaves c.requires.ready).may
 
-pub load-requires-clause-frame : goal.load-requires-clause-frame
-load-requires-clause-frame g c =
+pub load_at-requires-clause-frame : goal.load_at-requires-clause-frame
+load_at-requires-clause-frame g c =
     reads-same c.args.p (view c.args.pass.now) (view c.loop-i.pass) c.loop-i.invariant.copies.from.works.seat c.loop-i.invariant.copies.from.held ∙ c.requires.frame
 
 pub loop-i-init : goal.loop-i-init
@@ -18,10 +18,10 @@ loop-i-init g c = record { same = (refl, refl); copies = copies-none c.args.p c.
 
 pub loop-i-preserved : goal.loop-i-preserved
 loop-i-preserved g c = record {
-  same = (c.load.ensures.pass.0 ∙ c.loop-i.invariant.same.0, c.load.ensures.pass.1 ∙ c.loop-i.invariant.same.1);
+  same = (c.load_at.ensures.pass.0 ∙ c.loop-i.invariant.same.0, c.load_at.ensures.pass.1 ∙ c.loop-i.invariant.same.1);
   copies =
       rw c.set.ensures.words
-      (copies-more c.args.p c.args.frame c.loop-i.i c.load.result c.loop-i.page (view c.args.pass.now) (view c.loop-i.pass) (view c.load.new.pass) c.loop-i.invariant.copies c.requires.shared.0 c.requires.shared.1 c.loop-i-test.true c.load.ensures.told);
+      (copies-more c.args.p c.args.frame c.loop-i.i c.load_at.result c.loop-i.page (view c.args.pass.now) (view c.loop-i.pass) (view c.load_at.new.pass) c.loop-i.invariant.copies c.requires.shared.0 c.requires.shared.1 c.loop-i-test.true c.load_at.ensures.told);
 }
 
 pub returns-clause-ready : goal.returns-clause-ready
