@@ -5,27 +5,39 @@ ghost use Rattle.vm_map.specs.Map.{Rises};
 ghost use Rattle.vm_tree_model.specs.Node.{Covers};
 ghost use Rattle.vm_tree_model.specs.Page.{pairs_of, node_of, IsInner};
 ghost use Rattle.vm_tree_model.specs.Edits.{IsFullFor, AddsPair, IsRefused, IsSplit};
+ghost use Rattle.vm_node.specs.Loads.{Tells};
 ghost use Rattle.vm_inner.specs.Found.{FindsChild, FindsNoChild};
 
 use vm_map::window::MOST_PAIRS;
-use vm_node::pairs::{count_of, key_at, lower_bound, value_at};
-use vm_node::{Full, put, split};
+use vm_node::pairs::{count_at, lower_bound_at};
+use vm_node::{Full, Place, in_buffer, put, split};
 use vm_page::PageBuf;
 
 /// The page of the child whose range has the key, of any page whose keys rise: that of the last pair whose key is not above. Of other
-/// pages it is that of a pair whose key is not above, or none where the first pair's key is. An inner node that covers the key has such a child.
+/// pages it is that of a pair whose key is not above, or none where the first pair's key is. From at most 7 words loaded.
+pub fn child_at<P: Place>(place: &mut P, key: u64) -> Option<u64>
+    requires ready { P.ready place.old }
+    ensures ready { P.ready place.new }
+    ensures told { Tells P.loads place.old 7 place.new (λ words. MatchOption result (FindsNoChild words key) (FindsChild words key)) }
+{
+    let count = count_at(place);
+    let above = match key.checked_add(1) {
+        Some(next) => lower_bound_at(place, count, next),
+        None => count,
+    };
+    if above == 0 {
+        return None;
+    }
+    Some(place.word(7 + 2 * above))
+}
+
+/// The same, of a page in a buffer. An inner node that covers the key has such a child.
 pub fn child(page: &PageBuf, key: u64) -> Option<u64>
     ensures child { MatchOption result (FindsNoChild page.now key) (FindsChild page.now key) }
     ensures there { IsInner page.now → Covers (node_of page.now) key → result ≢ None }
 {
-    let at = lower_bound(page, key);
-    if at < count_of(page) && key_at(page, at) == key {
-        return Some(value_at(page, at));
-    }
-    if at == 0 {
-        return None;
-    }
-    Some(value_at(page, at - 1))
+    let mut place = in_buffer(page);
+    child_at(&mut place, key)
 }
 
 /// Puts a child's page at its lowest key, over the one that is there, in any page whose keys rise. `Full` comes exactly where the node has 28 pairs

@@ -1,3 +1,4 @@
 pub mod Places
 pub mod Takes
 pub mod Shows
+pub mod Loads

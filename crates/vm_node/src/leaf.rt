@@ -5,12 +5,26 @@ ghost use Rattle.vm_map.specs.Map.{Rises, lookup_at, del_pair};
 ghost use Rattle.vm_tree_model.specs.Node.{Covers};
 ghost use Rattle.vm_tree_model.specs.Page.{pairs_of, node_of, IsLeaf};
 ghost use Rattle.vm_tree_model.specs.Edits.{IsFullFor, AddsPair, IsRefused, PutsInLeaf, IsLeafWith};
+ghost use Rattle.vm_node.specs.Loads.{Tells};
 ghost use Rattle.vm_node.specs.Takes.{TakesPair};
 
 use crate::full::Full;
-use crate::pairs::{count_of, index_of, key_at, lower_bound, shift_in, shift_out, value_at};
+use crate::pairs::{
+    count_at, count_of, index_of, key_at, lower_bound, lower_bound_at, shift_in, shift_out,
+    value_at,
+};
+use crate::place::{Place, in_buffer};
 use vm_map::window::MOST_PAIRS;
 use vm_page::PageBuf;
+
+/// Whether the page has a leaf's tag, from one word loaded.
+pub fn is_leaf_at<P: Place>(place: &mut P) -> bool
+    requires ready { P.ready place.old }
+    ensures ready { P.ready place.new }
+    ensures told { Tells P.loads place.old 1 place.new (λ words. (result ≡ true → (node_of words).tag ≡ 2) × (result ≡ false → (node_of words).tag ≢ 2)) }
+{
+    place.word(0) == 2
+}
 
 /// Whether the page has a leaf's tag.
 pub fn is_leaf(page: &PageBuf) -> bool
@@ -20,22 +34,44 @@ pub fn is_leaf(page: &PageBuf) -> bool
     page.get(0) == 2
 }
 
+/// Whether the key lies in the page's fences, from the low one on and below the high one; from at most 3 words loaded.
+pub fn covers_at<P: Place>(place: &mut P, key: u64) -> bool
+    requires ready { P.ready place.old }
+    ensures ready { P.ready place.new }
+    ensures told { Tells P.loads place.old 3 place.new (λ words. (result ≡ true → Covers (node_of words) key) × (result ≡ false → ¬ (Covers (node_of words) key))) }
+{
+    place.word(2) <= key && (place.word(4) != 0 || key < place.word(3))
+}
+
 /// Whether the key lies in the page's fences, from the low one on and below the high one.
 pub fn covers(page: &PageBuf, key: u64) -> bool
     ensures yes { result ≡ true → Covers (node_of page.now) key }
     ensures no { result ≡ false → ¬ (Covers (node_of page.now) key) }
 {
-    page.get(2) <= key && (page.get(4) != 0 || key < page.get(3))
+    let mut place = in_buffer(page);
+    covers_at(&mut place, key)
+}
+
+/// The value at the key, of any page whose keys rise, from at most 8 words loaded. Of other pages it is the value of a pair with the key, or none.
+pub fn find_at<P: Place>(place: &mut P, key: u64) -> Option<u64>
+    requires ready { P.ready place.old }
+    ensures ready { P.ready place.new }
+    ensures told { Tells P.loads place.old 8 place.new (λ words. (low high : ℕ) → Rises low high (pairs_of words) → result ≡ lookup_at (pairs_of words) key) }
+{
+    let count = count_at(place);
+    let at = lower_bound_at(place, count, key);
+    if at < count && place.word(8 + 2 * at) == key {
+        return Some(place.word(9 + 2 * at));
+    }
+    None
 }
 
 /// The value at the key, of any page whose keys rise. Of other pages it is the value of a pair with the key, or none.
 pub fn find(page: &PageBuf, key: u64) -> Option<u64>
     ensures { (low high : ℕ) → Rises low high (pairs_of page.now) → result ≡ lookup_at (pairs_of page.now) key }
 {
-    let Some(at) = index_of(page, key) else {
-        return None;
-    };
-    Some(value_at(page, at))
+    let mut place = in_buffer(page);
+    find_at(&mut place, key)
 }
 
 /// Puts a value at the key of any page whose keys rise, and gives the old value. `Full` comes exactly where the leaf has 28

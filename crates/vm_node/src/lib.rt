@@ -13,7 +13,7 @@
 //!
 //! Every call works on any 64 words, also on words that no one validated: a count above 28 is read as 28. Searches go by
 //! halves, so what is found is told of pages whose keys rise. None takes
-//! memory.
+//! memory. A call named `.._at` loads the words that it needs of a page where it stands; what it answers it tells of each page that has them.
 #![tactic(auto)]
 
 mod full;
@@ -21,9 +21,11 @@ mod halves;
 pub mod header;
 mod leaf;
 pub mod pairs;
+mod place;
 mod shown;
 
 pub use full::Full;
 pub use halves::split;
-pub use leaf::{covers, del, find, is_leaf, put};
-pub use shown::window;
+pub use leaf::{covers, covers_at, del, find, find_at, is_leaf, is_leaf_at, put};
+pub use place::{Place, in_buffer};
+pub use shown::{window, window_at};

@@ -4,10 +4,22 @@ ghost use Rattle.std.specs.Prelude.{◌≡◌, ℕ, ◌+◌, ◌*◌, ◌<◌, �
 ghost use Rattle.std.specs.List.{insert};
 ghost use Rattle.vm_map.specs.Map.{Rises, lookup_at};
 ghost use Rattle.vm_tree_model.specs.Page.{places, pairs_of};
+ghost use Rattle.vm_node.specs.Loads.{Tells};
 ghost use Rattle.vm_node.specs.Places.{HasKeyAt, IsBound, IsIndexOf, place_of};
 
+use crate::place::{Place, in_buffer};
 use vm_map::window::MOST_PAIRS;
 use vm_page::{PageBuf, WORDS};
+
+/// How many pairs the page has, at most 28, from one word loaded.
+pub fn count_at<P: Place>(place: &mut P) -> usize
+    requires ready { P.ready place.old }
+    ensures ready { P.ready place.new }
+    ensures few { result ≤ MOST_PAIRS }
+    ensures told { Tells P.loads place.old 1 place.new (λ words. result ≡ length (pairs_of words)) }
+{
+    place.word(1).min(MOST_PAIRS as u64) as usize
+}
 
 /// How many pairs the page has, at most 28.
 pub fn count_of(page: &PageBuf) -> usize
@@ -36,23 +48,36 @@ pub fn value_at(page: &PageBuf, i: usize) -> u64
     page.get(9 + 2 * i)
 }
 
-/// Where the keys stop being lower than this one, found by halves: the pair before the place has a lower key, and the one at
-/// the place has none. Among keys that rise that is the number of pairs with a lower key.
-pub fn lower_bound(page: &PageBuf, key: u64) -> usize
-    ensures bound { IsBound (pairs_of page.now) key result }
-    ensures place { (low high : ℕ) → Rises low high (pairs_of page.now) → result ≡ place_of (pairs_of page.now) key }
+/// Where the keys of these first pairs stop being lower than this one, found by halves from at most 5 words loaded: the pair before the place has a
+/// lower key, and the one at the place has none. Among keys that rise that is the number of pairs with a lower key.
+pub fn lower_bound_at<P: Place>(place: &mut P, count: usize, key: u64) -> usize
+    requires ready { P.ready place.old }
+    requires count { count ≤ MOST_PAIRS }
+    ensures ready { P.ready place.new }
+    ensures inside { result ≤ count }
+    ensures told { Tells P.loads place.old 5 place.new (λ words. count ≡ length (pairs_of words) → IsBound (pairs_of words) key result) }
 {
     let mut from = 0;
-    let mut upto = count_of(page);
+    let mut upto = count;
     'halves: while from < upto {
         let middle = from + (upto - from) / 2;
-        if key_at(page, middle) < key {
+        if place.word(8 + 2 * middle) < key {
             from = middle + 1;
         } else {
             upto = middle;
         }
     }
     from
+}
+
+/// The same, of the pairs of a buffer.
+pub fn lower_bound(page: &PageBuf, key: u64) -> usize
+    ensures bound { IsBound (pairs_of page.now) key result }
+    ensures place { (low high : ℕ) → Rises low high (pairs_of page.now) → result ≡ place_of (pairs_of page.now) key }
+{
+    let count = count_of(page);
+    let mut place = in_buffer(page);
+    lower_bound_at(&mut place, count, key)
 }
 
 /// The place of a pair that has the key, found by halves: among keys that rise, where there is one.

@@ -1,0 +1,21 @@
+-- What words that were loaded of a page, one after the other, tell of that page.
+use Rattle.std.specs.Prelude.{◌≡◌, ℕ, ◌≤◌, List, length, slice_index}
+use Rattle.std.specs.List.{All}
+use Rattle.vm_page.specs.declared.buf.TheConstants.{WORDS}
+
+-- a page that has each of these words at its place
+pub record IsPageWith (loaded : List (ℕ × ℕ)) (words : List ℕ) : Type 0 where
+  pub size : length words ≡ WORDS
+  pub has : All (λ l. slice_index words l.0 ≡ l.1) loaded
+
+-- Between one value of a place and another words were loaded, this many at most; and what is claimed holds of each page that has them
+pub record Tells {P : Type 0} (loads : P → List (ℕ × ℕ) → P → Type 0) (p : P) (most : ℕ) (q : P) (claim : List ℕ → Type 0) : Type 0 where
+  pub loaded : List (ℕ × ℕ)
+  pub through : loads p loaded q
+  pub few : length loaded ≤ most
+  pub claims : (words : List ℕ) → IsPageWith loaded words → claim words
+
+-- the page of a buffer, which loads leave as it is
+pub record IsBuffer (page : List ℕ) (loaded : List (ℕ × ℕ)) (after : List ℕ) : Type 0 where
+  pub same : after ≡ page
+  pub has : All (λ l. slice_index page l.0 ≡ l.1) loaded

@@ -1,0 +1,57 @@
+//! A page whose words are loaded one by one: a buffer, or a page that stands in a frame and may change while it is read.
+
+ghost use Rattle.std.specs.Prelude.{[], ◌∷◌, ◌≡◌, length, refl, slice_index};
+ghost use Rattle.std.specs.List.{All};
+ghost use Rattle.std.proofs.Common.{subst, ◌∙◌};
+ghost use Rattle.std.proofs.lemmas.List.Elements.{All-append, All-nil};
+ghost use Rattle.vm_page.specs.declared.buf.TheConstants.{WORDS};
+ghost use Rattle.vm_node.specs.Loads.{IsBuffer};
+
+use vm_page::{PageBuf, WORDS};
+
+/// A page of 64 words, of which each is loaded when it is asked for.
+pub trait Place {
+    ghost use Rattle.std.specs.Prelude.{[], ◌++◌, ◌<◌, ◌∷◌, List, ℕ};
+    ghost use Rattle.vm_page.specs.declared.buf.TheConstants.{WORDS};
+
+    // When its words can be loaded.
+    ghost ready: { Self → Type 0 };
+
+    // Between one value and another these words were loaded, each with its place, and nothing else was done.
+    ghost loads: { Self → List (ℕ × ℕ) → Self → Type 0 };
+
+    /// Word `i`, for `i` from 0 to 63.
+    fn word(&mut self, i: usize) -> u64
+        requires ready { ready self.old }
+        requires place { i < WORDS }
+        ensures ready { ready self.new }
+        ensures loads { loads self.old ((i, result) ∷ []) self.new };
+
+    ghost none: { (p : Self) → ready p → loads p [] p };
+
+    ghost join: { (p q r : Self) (first then : List (ℕ × ℕ)) → loads p first q → loads q then r → loads p (first ++ then) r };
+}
+
+impl Place for &PageBuf {
+    ghost ready = { λ p. length p.now ≡ WORDS };
+
+    ghost loads = { λ p loaded q. IsBuffer p.now loaded q.now };
+
+    fn word(&mut self, i: usize) -> u64 {
+        self.get(i)
+    }
+
+    ghost none = { λ p ready. record { same = refl; has = All-nil _ } };
+
+    ghost join = { λ p q r first then a b. record { same = b.same ∙ a.same; has = All-append _ first then a.has (subst (λ w. All (λ l. slice_index w l.0 ≡ l.1) then) a.same b.has) } };
+}
+
+/// The page of a buffer as a place.
+pub fn in_buffer(page: &PageBuf) -> &PageBuf
+    ensures same { result.now ≡ page.now }
+    ensures size { length result.now ≡ WORDS }
+{
+    // A page has 64 words.
+    let _ = page.get(0);
+    page
+}
