@@ -23,3 +23,4 @@ pub mod Freshly
 pub mod FreshSure
 pub mod FreshAnswers
 pub mod Pairs
+pub mod PageLoads

@@ -1,4 +1,5 @@
 pub mod Quiet
+pub mod PageWords
 pub mod Guards
 pub mod Denied
 pub mod Takes

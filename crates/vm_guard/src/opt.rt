@@ -5,7 +5,7 @@ ghost use Rattle.vm_step.specs.Prelude.{IsAlone, IsFrameAt, IsKeptNow, IsReady, 
 ghost use Rattle.vm_step.specs.Prelude.{UnlockedExpected, view};
 ghost use Rattle.vm_guard.specs.Denied.{AgainOrNeed, AgainOrWorn, IsDenied, KeptWord, SameOrUnlocked};
 ghost use Rattle.vm_guard.specs.Guards.{BeginsReading, HasLeft, IsLocked, IsReading, IsUnmarked, IsValid, Loads, placed};
-ghost use Rattle.vm_guard.specs.Sure.{IsKnownAt, IsKnownFree, known_word};
+ghost use Rattle.vm_guard.specs.{PageWords.LoadsWords, Sure.IsKnownAt, Sure.IsKnownFree, Sure.known_word};
 ghost use Rattle.vm_guard.specs.Takes.{IsToExpect};
 
 use crate::deny::Deny;
@@ -76,6 +76,7 @@ impl OptGuard {
         ensures sure { IsAlone (view pass.old) → is_readable (state_of (known_word pid (view pass.old))) ≡ true → IsOk result }
         ensures kept { B.tells ≡ true → IsKeptNow U.keeps pid (IsOk result) (view pass.new) }
         ensures unheld { KnowsUnheld (view pass.new) }
+        ensures words { LoadsWords [] (view pass.old) (view pass.new) }
     {
         let first = look_silently(words, pass, pid);
         if StateWord::state(first) == StateWord::EVICTED {
@@ -116,12 +117,13 @@ impl OptGuard {
         ensures pass { IsSamePass pass.old pass.new }
         ensures ready { IsReady words.now.table.shared.key B.tells words.now.table.shared.table_id pass.new }
         ensures loads { Loads self.now.pid self.now.word self.now.frame ((i, result) ∷ []) (view pass.old) (view pass.new) }
+        ensures words { LoadsWords (result ∷ []) (view pass.old) (view pass.new) }
     {
         self.word_at(words, pass, frame_place(words, self.frame), i)
     }
 
-    /// The same, where the place of the frame's first word is known.
-    fn word_at<U: Owner, B: Block>(
+    /// The same, where the place of the frame's first word is known (`vm_step::frame_place`).
+    pub fn word_at<U: Owner, B: Block>(
         &self,
         words: &Words<U, B>,
         pass: &mut Pass<U>,
@@ -135,6 +137,7 @@ impl OptGuard {
         ensures pass { IsSamePass pass.old pass.new }
         ensures ready { IsReady words.now.table.shared.key B.tells words.now.table.shared.table_id pass.new }
         ensures loads { Loads self.now.pid self.now.word self.now.frame ((i, result) ∷ []) (view pass.old) (view pass.new) }
+        ensures words { LoadsWords (result ∷ []) (view pass.old) (view pass.new) }
     {
         load_at(words, pass, self.pid, self.frame, first, i)
     }
@@ -185,6 +188,7 @@ impl OptGuard {
         ensures err { IfErr result
             (λ saw. IsDenied AgainOrNeed (KeptWord self.now.word) NoneExpected self.now.pid (Deny.Again saw) (view pass.old) (view pass.new)) }
         ensures sure { IsAlone (view pass.old) → IsKnownAt self.now.pid self.now.word (view pass.old) → IsOk result }
+        ensures words { LoadsWords [] (view pass.old) (view pass.new) }
     {
         let seen = look(words, pass, self.pid, said);
         self.judge(seen)
@@ -206,6 +210,7 @@ impl OptGuard {
         ensures err { IfErr result
             (λ saw. IsDenied AgainOrNeed (KeptWord self.now.word) NoneExpected self.now.pid (Deny.Again saw) (view pass.old) (view pass.new)) }
         ensures sure { IsAlone (view pass.old) → IsKnownAt self.now.pid self.now.word (view pass.old) → IsOk result }
+        ensures words { LoadsWords [] (view pass.old) (view pass.new) }
     {
         let seen = look_silently(words, pass, self.pid);
         self.judge(seen)

@@ -4,6 +4,7 @@ use Rattle.vm_guard.proofs.Prelude.{AgainOrNeed, ap, EVICTED, false≢true, inl,
 use Rattle.vm_guard.proofs.Prelude.{true≢false, ◌<◌, ◌∙◌, ◌≡◌}
 use Rattle.vm_guard.proofs.Starting.{began, looks-same, moved, names-frame}
 use Rattle.vm_guard.proofs.Sure.{look-finds, start-open, start-version}
+use Rattle.vm_guard.proofs.PageLoads.{looked-words, started-words}
 use Rattle.vm_guard.proofs.opt.OptGuard.start.Goals as goal
 
 pub returns-then-state-clause-err : goal.returns-then-state-clause-err
@@ -80,3 +81,18 @@ returns-clause-kept g c tells =
     (subst (λ n. n < 256) c.state.ensures c.state.type_inv) (λ e. c.if-state-2.false (c.state-2.ensures ∙ e)) (λ e. c.if-state.false (c.state.ensures ∙ e))
     (subst (λ n. n < 256) c.state-3.ensures c.state-3.type_inv) (λ e. c.if-state-3.false (c.state-3.ensures ∙ e)) (sym c.version.ensures ∙ c.if-version.false ∙ c.version-2.ensures))
     (c.look_silently-seen.ensures.kept tells)
+
+pub returns-then-state-clause-words : goal.returns-then-state-clause-words
+returns-then-state-clause-words g c = looked-words _ _ _ _ _ _ c.look_silently-first.ensures.told
+
+pub returns-then-state-2-clause-words : goal.returns-then-state-2-clause-words
+returns-then-state-2-clause-words g c = looked-words _ _ _ _ _ _ c.look_silently-first.ensures.told
+
+pub returns-then-version-clause-words : goal.returns-then-version-clause-words
+returns-then-version-clause-words g c = started-words _ _ _ _ _ _ _ _ _ _ c.look_silently-first.ensures.told c.clear_mark.ensures.clears c.tload-translation.ensures.told c.look_silently-seen.ensures.told
+
+pub returns-then-state-3-clause-words : goal.returns-then-state-3-clause-words
+returns-then-state-3-clause-words g c = started-words _ _ _ _ _ _ _ _ _ _ c.look_silently-first.ensures.told c.clear_mark.ensures.clears c.tload-translation.ensures.told c.look_silently-seen.ensures.told
+
+pub returns-clause-words : goal.returns-clause-words
+returns-clause-words g c = started-words _ _ _ _ _ _ _ _ _ _ c.look_silently-first.ensures.told c.clear_mark.ensures.clears c.tload-translation.ensures.told c.look_silently-seen.ensures.told

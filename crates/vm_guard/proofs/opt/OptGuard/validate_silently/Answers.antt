@@ -1,6 +1,7 @@
 use Rattle.vm_guard.proofs.Prelude.{IfErr-weaker, IfOk-weaker, inl, inr, refl, ⊎_elim}
 use Rattle.vm_guard.proofs.Sure.{valid-sure}
 use Rattle.vm_guard.proofs.Validating.{kept-as, ok-unless, refused, stays-open, validated}
+use Rattle.vm_guard.proofs.PageLoads.{looked-words}
 use Rattle.vm_guard.proofs.opt.OptGuard.validate_silently.Goals as goal
 
 pub returns-clause-ok : goal.returns-clause-ok
@@ -16,3 +17,6 @@ returns-clause-err g c = IfErr-weaker c.judge.result _ _ (λ saw k. rw k.0 (refu
 
 pub returns-clause-sure : goal.returns-clause-sure
 returns-clause-sure g c a at = ok-unless c.judge.result _ (λ saw k. valid-sure g.U.Owner.tied c.args.self.now.pid _ _ c.args.self.now.word _ _ c.look_silently-seen.ensures.told a k.1 at) c.judge.ensures.err
+
+pub returns-clause-words : goal.returns-clause-words
+returns-clause-words g c = looked-words _ _ _ _ _ _ c.look_silently-seen.ensures.told
