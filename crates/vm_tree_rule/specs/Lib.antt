@@ -1,3 +1,4 @@
+pub mod Few
 pub mod Leaves
 pub mod Resident
 pub mod Seeks

@@ -11,9 +11,13 @@ use Rattle.vm_tree_rule.specs.{declared.seek.Met.Met, Leaves.ReadsOn, Resident.I
 use Rattle.vm_tree_rule.specs.declared.seek.Met.TheVariants as met
 
 module _ {X : Type 0} where
-  -- the words of page p were read whole, and last, through its open read
+  -- these words of page p, each with its place, were loaded last through its open read
+  abbrev pub HasLoaded : View X → ℕ → List (ℕ × ℕ) → Type 0
+  HasLoaded v p loaded = (before : List (ℕ × ℕ)) × (loads_at v p ≡ before ++ loaded)
+
+  -- the words of page p were read whole, and last
   abbrev pub HasRead : View X → ℕ → List ℕ → Type 0
-  HasRead v p page = (before : List (ℕ × ℕ)) × (loads_at v p ≡ before ++ placed 0 page)
+  HasRead v p page = HasLoaded v p (placed 0 page)
 
   -- page 0 was read, and names this root, at this level, which is below the number of pages
   pub record IsMetaRead (p word frame root level : ℕ) (v w : View X) : Type 0 where

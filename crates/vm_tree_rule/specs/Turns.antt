@@ -1,6 +1,7 @@
 -- Why a descent ended without its leaf, by the steps of its call.
 use Rattle.std.specs.Prelude.{[], ◌++◌, ◌<◌, ◌∷◌, ◌≡◌, ◌≢◌, ◌≤◌, ◌⊎◌, false, List, None, true, ℕ}
 use Rattle.vm_tree_model.specs.{Node.Covers, Page.node_of}
+use Rattle.vm_node.specs.Loads.{IsPageWith}
 use Rattle.vm_inner.specs.Found.{FindsChild, FindsNoChild}
 use Rattle.vm_rule.specs.Prelude.{last_of, loads_at}
 use Rattle.vm_step.specs.Prelude.{Did, NeedsPage, NoneExpected, NoWord, View}
@@ -10,7 +11,7 @@ use Rattle.vm_guard.specs.{declared.deny.Deny.Deny, Guards.IsValid}
 use Rattle.vm_guard.specs.declared.deny.Deny.TheVariants as denies
 use Rattle.vm_guard.specs.Denied.{AgainOrNeed, IsDenied, KeptWord}
 use Rattle.vm_tree_laws.specs.Tied.{Tied}
-use Rattle.vm_tree_rule.specs.{declared.turn.Turn.Turn, Leaves.LeavesWord, Leaves.ReadsOn, Seeks.HasRead, Shown.IsAgain}
+use Rattle.vm_tree_rule.specs.{declared.turn.Turn.Turn, Leaves.LeavesWord, Leaves.ReadsOn, Seeks.HasLoaded, Shown.IsAgain}
 use Rattle.vm_tree_rule.specs.declared.turn.Turn.TheVariants as turns
 use Rattle.vm_tree_rule.specs.Standing.{IsOpened, NamesForKey, Sees}
 
@@ -25,11 +26,27 @@ IsTurnOf (denies.Worn p) turn = ⊥
 abbrev pub IsNoChild : ℕ → ℕ → ℕ → Type 0
 IsNoChild pages r named = (named ≡ 0) ⊎ ((pages ≤ named) ⊎ (named ≡ r))
 
+-- the words loaded name this page for the key: a search finds it in each page that has them
+abbrev pub TellChild : List (ℕ × ℕ) → ℕ → ℕ → Type 0
+TellChild loaded key named = (words : List ℕ) → IsPageWith loaded words → FindsChild words key named
+
+-- they name none: a search finds no child in any page that has them
+abbrev pub TellNoChild : List (ℕ × ℕ) → ℕ → Type 0
+TellNoChild loaded key = (words : List ℕ) → IsPageWith loaded words → FindsNoChild words key
+
+-- each page that has the words loaded is a leaf that covers the key
+abbrev pub TellLeaf : List (ℕ × ℕ) → ℕ → Type 0
+TellLeaf loaded key = (words : List ℕ) → IsPageWith loaded words → ((node_of words).tag ≡ 2) × Covers (node_of words) key
+
+-- none of them is
+abbrev pub TellNoLeaf : List (ℕ × ℕ) → ℕ → Type 0
+TellNoLeaf loaded key = (words : List ℕ) → IsPageWith loaded words → ((node_of words).tag ≢ 2) ⊎ (¬ (Covers (node_of words) key))
+
 module _ {X : Type 0} where
-  -- what was loaded of page r names page p for the key: words 1 and 2 of page 0, or the words of a node, in which a search finds it
+  -- what was loaded of page r names page p for the key: words 1 and 2 of page 0, or words of a node, in which a search finds it
   abbrev pub LoadsName : View X → ℕ → ℕ → ℕ → Type 0
   LoadsName w r key p =
-      ((r ≡ 0) × ((before : List (ℕ × ℕ)) × (level : ℕ) × (loads_at w r ≡ before ++ (1, p) ∷ (2, level) ∷ []))) ⊎ ((words : List ℕ) × HasRead w r words × FindsChild words key p)
+      ((r ≡ 0) × ((before : List (ℕ × ℕ)) × (level : ℕ) × (loads_at w r ≡ before ++ (1, p) ∷ (2, level) ∷ []))) ⊎ ((loaded : List (ℕ × ℕ)) × HasLoaded w r loaded × TellChild loaded key p)
 
   -- the call ended with the validation of a page: what was loaded of it names page p for the key, and so do its words where blocks tell theirs
   pub record IsNamed (v : View X) (key p : ℕ) (w : View X) : Type 0 where
@@ -55,8 +72,8 @@ module _ {X : Type 0} where
   pub data IsNoTree (key p : ℕ) (w : View X) : Type 0 where
     nowhere : (named : ℕ) → LoadsName w p key named → IsNoChild w.start.pages p named → IsNoTree key p w
     high : (before : List (ℕ × ℕ)) (root level : ℕ) → p ≡ 0 → loads_at w p ≡ before ++ (1, root) ∷ (2, level) ∷ [] → w.start.pages ≤ level → IsNoTree key p w
-    childless : (words : List ℕ) → HasRead w p words → FindsNoChild words key → IsNoTree key p w
-    leafless : (words : List ℕ) → HasRead w p words → ((node_of words).tag ≢ 2) ⊎ (¬ (Covers (node_of words) key)) → IsNoTree key p w
+    childless : (loaded : List (ℕ × ℕ)) → HasLoaded w p loaded → TellNoChild loaded key → IsNoTree key p w
+    leafless : (loaded : List (ℕ × ℕ)) → HasLoaded w p loaded → TellNoLeaf loaded key → IsNoTree key p w
 
   -- Blocks do not tell their words, and those of a page are not what the way to it says, for this reason. The page was read in this call, at the word
   -- that stands for both words, and then validated

@@ -6,11 +6,13 @@ ghost use Rattle.vm_tree_laws.proofs.{Claims.claims_keep, Laws.reads_keep, Laws.
 
 pub mod descent;
 mod fault;
+mod in_place;
 pub mod seek;
 mod turn;
 
 pub use descent::descend;
 pub use fault::TreeFault;
+pub use in_place::InPlace;
 pub use seek::{Met, seek_full};
 pub use turn::Turn;
 use vm_map::call::Said;
