@@ -7,5 +7,6 @@ pub mod Dels
 pub mod CutPairs
 pub mod Leaves
 mod WindowSteps
+pub mod Telling
 pub mod LeafWindows
 pub mod SplitWords
