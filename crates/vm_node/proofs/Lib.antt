@@ -8,5 +8,7 @@ pub mod CutPairs
 pub mod Leaves
 mod WindowSteps
 pub mod Telling
+pub mod ReadPairs
+pub mod Searches
 pub mod LeafWindows
 pub mod SplitWords

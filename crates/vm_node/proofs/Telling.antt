@@ -40,6 +40,6 @@ told_then {p = p} {q = q} {r = r} join a b = record {
 pub told_so : {P : Type 0} {loads : P → List (ℕ × ℕ) → P → Type 0} {p q : P} {m n : ℕ} {A B : List ℕ → Type 0} → m ≤ n → Tells loads p m q A → ((words : List ℕ) → length words ≡ 64 → A words → B words) → Tells loads p n q B
 told_so le told so = record { loaded = told.loaded; through = told.through; few = omega (arith, told.few, le); claims = λ words is. so words is.size (told.claims words is) }
 
--- of the page in a buffer
-pub told_buffer : {p q : List ℕ} {most : ℕ} {claim : List ℕ → Type 0} → length p ≡ 64 → Tells IsBuffer p most q claim → claim p
-told_buffer {p} size told = told.claims p (record { size = size; has = told.through.has })
+-- of a page that stands in a buffer, which loads leave as it is
+pub told_buffer : {P : Type 0} {loads : P → List (ℕ × ℕ) → P → Type 0} {p q : P} {most : ℕ} {claim : List ℕ → Type 0} {page buffer after : List ℕ} (told : Tells loads p most q claim) → IsBuffer buffer told.loaded after → buffer ≡ page → length buffer ≡ 64 → claim page
+told_buffer {claim = claim} {buffer = buffer} told is same size = subst claim same (told.claims buffer (record { size = size; has = is.has }))
