@@ -1,5 +1,5 @@
 -- A search by halves of at most 28 pairs looks at five keys at most.
-use Rattle.std.proofs.Common.{◌≡◌, ℕ, zero, suc, ◌+◌, ◌-◌, ◌*◌, ◌/◌, ◌<◌, ◌≤◌, List, [], ◌∷◌, length, get_or, subst, arith, add-one}
+use Rattle.std.proofs.Common.{◌≡◌, ℕ, zero, suc, ◌+◌, ◌-◌, ◌*◌, ◌/◌, ◌<◌, ◌≤◌, List, [], ◌∷◌, length, get_or, subst, ◌∙◌, arith, add-one}
 use Rattle.vm_map.specs.Map.{Pairs}
 use Rattle.vm_tree_model.specs.Page.{pairs_of}
 use Rattle.vm_node.specs.Loads.{Tells}
@@ -67,7 +67,7 @@ module _ {P : Type 0} {loads : P → List (ℕ × ℕ) → P → Type 0} {p q r 
     few = look_left is.looks is.few (omega (arith, is.left));
     left = omega (arith, half_left is.looks (upto - from) is.left);
     told = told_so (omega arith) (told_then join is.told (told_word look)) (λ words size told all. record {
-      before = λ i e. let at : i ≡ middle = omega arith in rw at (rw (key_is words size middle x (omega (arith, all)) told.1) below);
+      before = λ i e. let at : i ≡ middle = omega arith in rw at (rw (key_is words size middle (omega (arith, all)) ∙ told.1) below);
       here = (told.0 all).here;
     });
   }
@@ -79,6 +79,6 @@ module _ {P : Type 0} {loads : P → List (ℕ × ℕ) → P → Type 0} {p q r 
     left = omega (arith, half_left is.looks (upto - from) is.left);
     told = told_so (omega arith) (told_then join is.told (told_word look)) (λ words size told all. record {
       before = (told.0 all).before;
-      here = λ lt. rw (key_is words size middle x lt told.1) from_here;
+      here = λ lt. rw (key_is words size middle lt ∙ told.1) from_here;
     });
   }

@@ -15,8 +15,8 @@ module _ (words : List ℕ) (size : length words ≡ 64) (key count at : ℕ) (a
   found first value lt read_first read_value same low high rises =
       let inside : at < length (pairs_of words) = omega (arith, lt, all) in
       let place = bound_place (pairs_of words) low high key at rises bound in
-      let is = index_is (pairs_of words) low high key at rises place (record { there = inside; has = key_is words size at first inside read_first ∙ same }) in
-      ap Some (sym (value_is words size at value inside read_value)) ∙ sym (found_at (pairs_of words) key at is)
+      let is = index_is (pairs_of words) low high key at rises place (record { there = inside; has = key_is words size at inside ∙ read_first ∙ same }) in
+      ap Some (sym (value_is words size at inside ∙ read_value)) ∙ sym (found_at (pairs_of words) key at is)
 
   none_found : (at < length (pairs_of words) → (get_or (pairs_of words) at (0, 0)).0 ≢ key) → (low high : ℕ) → Rises low high (pairs_of words) → None ≡ lookup_at (pairs_of words) key
   none_found other low high rises = sym (no_index (pairs_of words) low high key at rises (bound_place (pairs_of words) low high key at rises bound) other)
@@ -33,7 +33,7 @@ returns-clause-told g c =
     let begun = told_then join c.count_at-count.ensures.told c.lower_bound_at-at.ensures.told in
     elim c.else-at-count.branch [
       | else-at-count-via-then-at-count+else-word-key w ↦ rw w.place-is (told_so (omega arith) (told_then join begun (told_word w.word.ensures.loads))
-          (λ words size read. none_found words size c.args.key _ _ read.0.0 (read.0.1 read.0.0) (λ inside same. w.if-word-key.false (sym (key_is words size _ _ inside read.1) ∙ same))))
+          (λ words size read. none_found words size c.args.key _ _ read.0.0 (read.0.1 read.0.0) (λ inside same. w.if-word-key.false (sym (key_is words size _ inside ∙ read.1) ∙ same))))
       | else-at-count-via-else-at-count w ↦ rw w.place-is (told_so (omega arith) begun
           (λ words size read. none_found words size c.args.key _ _ read.0 (read.1 read.0) (λ inside same. let past = w.if-at-count.false in omega (arith, inside, read.0, past))))
     ]
