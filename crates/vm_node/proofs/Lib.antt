@@ -7,5 +7,8 @@ pub mod Dels
 pub mod CutPairs
 pub mod Leaves
 mod WindowSteps
+pub mod Telling
+pub mod ReadPairs
+pub mod Searches
 pub mod LeafWindows
 pub mod SplitWords

@@ -1,6 +1,8 @@
 -- What words that were loaded of a page, one after the other, tell of that page.
-use Rattle.std.specs.Prelude.{◌≡◌, ℕ, ◌≤◌, List, length, slice_index}
+use Rattle.std.specs.Prelude.{◌≡◌, ℕ, ◌≤◌, List, ◌++◌, length, slice_index}
 use Rattle.std.specs.List.{All}
+use Rattle.std.proofs.Common.{subst, ◌∙◌}
+use Rattle.std.proofs.lemmas.List.Elements.{All-append}
 use Rattle.vm_page.specs.declared.buf.TheConstants.{WORDS}
 
 -- a page that has each of these words at its place
@@ -19,3 +21,9 @@ pub record Tells {P : Type 0} (loads : P → List (ℕ × ℕ) → P → Type 0)
 pub record IsBuffer (page : List ℕ) (loaded : List (ℕ × ℕ)) (after : List ℕ) : Type 0 where
   pub same : after ≡ page
   pub has : All (λ l. slice_index page l.0 ≡ l.1) loaded
+
+pub IsBuffer-join : (p q r : List ℕ) (first then : List (ℕ × ℕ)) → IsBuffer p first q → IsBuffer q then r → IsBuffer p (first ++ then) r
+IsBuffer-join p q r first then a b = record {
+  same = b.same ∙ a.same;
+  has = All-append (λ l. slice_index p l.0 ≡ l.1) first then a.has (subst (λ w. All (λ l. slice_index w l.0 ≡ l.1) then) a.same b.has);
+}

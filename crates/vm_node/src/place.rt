@@ -1,11 +1,9 @@
 //! A page whose words are loaded one by one: a buffer, or a page that stands in a frame and may change while it is read.
 
-ghost use Rattle.std.specs.Prelude.{[], ◌∷◌, ◌≡◌, length, refl, slice_index};
-ghost use Rattle.std.specs.List.{All};
-ghost use Rattle.std.proofs.Common.{subst, ◌∙◌};
-ghost use Rattle.std.proofs.lemmas.List.Elements.{All-append, All-nil};
+ghost use Rattle.std.specs.Prelude.{◌≡◌, length, refl};
+ghost use Rattle.std.proofs.lemmas.List.Elements.{All-nil};
 ghost use Rattle.vm_page.specs.declared.buf.TheConstants.{WORDS};
-ghost use Rattle.vm_node.specs.Loads.{IsBuffer};
+ghost use Rattle.vm_node.specs.Loads.{IsBuffer, IsBuffer-join};
 
 use vm_page::{PageBuf, WORDS};
 
@@ -43,7 +41,7 @@ impl Place for &PageBuf {
 
     ghost none = { λ p ready. record { same = refl; has = All-nil _ } };
 
-    ghost join = { λ p q r first then a b. record { same = b.same ∙ a.same; has = All-append _ first then a.has (subst (λ w. All (λ l. slice_index w l.0 ≡ l.1) then) a.same b.has) } };
+    ghost join = { λ p q r first then a b. IsBuffer-join p.now q.now r.now first then a b };
 }
 
 /// The page of a buffer as a place.

@@ -1,6 +1,6 @@
 //! What a leaf shows from a key on.
 
-ghost use Rattle.std.specs.Prelude.{◌≡◌, ℕ, ◌≤◌, min};
+ghost use Rattle.std.specs.Prelude.{◌≡◌, ℕ, ◌+◌, ◌*◌, ◌≤◌, min};
 ghost use Rattle.vm_map.specs.History.{bound_of};
 ghost use Rattle.vm_map.specs.Map.{Rises};
 ghost use Rattle.vm_map.specs.Windows.{IsWindow};

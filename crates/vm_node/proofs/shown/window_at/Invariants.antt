@@ -1,0 +1,14 @@
+-- What was taken and the pairs from place i on are the pairs from the first place on.
+use Rattle.std.proofs.Common.{◌≡◌, ℕ, ◌+◌, ◌*◌, ◌≤◌, ◌++◌, length, drop, min}
+use Rattle.vm_tree_model.specs.Page.{pairs_of}
+use Rattle.vm_node.specs.Loads.{Tells}
+use Rattle.vm_node.specs.Places.{IsBound}
+use Rattle.vm_node.proofs.WindowSteps.{IsTaking}
+use Rattle.vm_node.proofs.shown.window_at.Given as goal
+
+abbrev pub invariant-loop-i : goal.invariant-loop-i
+invariant-loop-i g l = record {
+  ready : g.P.Place.ready l.place;
+  few : length l.pairs ≤ min l.most 28;
+  told : Tells g.P.Place.loads l.fn.place (6 + 2 * length l.pairs) l.place (IsTaking l.start l.count l.i l.pairs);
+}
