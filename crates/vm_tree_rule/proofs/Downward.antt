@@ -1,4 +1,4 @@
--- A step down: the words that were loaded are those that the validation proves, and so they name the next page.
+-- The step down from page 0: the words that were loaded are those that the validation proves, and so they name the root.
 use Rattle.std.proofs.Common.{[], ⊎_elim, ◌++◌, ◌+◌, ◌<◌, ◌^◌, ◌∙◌, ◌∷◌, ◌≡◌, ◌≤◌, ap, append_assoc, arith, inl, inr, length, List, None, refl}
 use Rattle.std.proofs.Common.{slice_index, Some, subst, suc, sym, true, ℕ}
 use Rattle.std.proofs.lemmas.Bool.Decides.{nat_tests}
@@ -23,13 +23,6 @@ itself-not pages p words level key reached inner itself names =
 pub inner-here : (pages p : ℕ) (words : List ℕ) (level key : ℕ) → IsReached pages p words (suc level) key → IsInner words
 inner-here pages p words level key reached = ⊎_elim (λ leaf. absurd (omega (arith, leaf.0))) (λ inner. inner.1) (kind_by_level pages p words (suc level) key reached)
 
--- a search finds the child of an inner node
-pub child-is : (words page : List ℕ) (key named : ℕ) → words ≡ page → IsInner words → FindsChild page key named → child_of words key ≡ Some named
-child-is words page key named same inner found = let here : FindsChild words key named = subst (λ (l : List ℕ). FindsChild l key named) (sym same) found in here.child _ _ inner.node.rises
-
-pub child-none : (words page : List ℕ) (key : ℕ) → words ≡ page → IsInner words → FindsNoChild page key → child_of words key ≡ None
-child-none words page key same inner found = let here : FindsNoChild words key = subst (λ (l : List ℕ). FindsNoChild l key) (sym same) found in here.child _ _ inner.node.rises
-
 pub same-some : (a b : ℕ) → Some a ≡ Some b → a ≡ b
 same-some a b e = grind (arith, nat_tests, e)
 
@@ -41,58 +34,6 @@ module _ {X : Type 0} where
       (subst (λ (s : Origin). Each (λ (t : Tie). t.page ≡ p → t.version ≡ version_of word → Tied (began_of s) t.of t.words p words) v.ties) reads.start
       (each-behind (λ (t : Tie). t.page ≡ p → t.version ≡ version_of word → Tied (began_of w.start) t.of t.words p words) reads.ties.0 v.ties
       (subst (λ (l : List Tie). Each (λ (t : Tie). t.page ≡ p → t.version ≡ version_of word → Tied (began_of w.start) t.of t.words p words) l) reads.ties.1 all))))
-
-  module _ (p word frame level key : ℕ) (page : List ℕ) (v y : View X) (long : length page ≡ 64) (loads : Loads p word frame (placed 0 page) v y) (awaits : Awaits v p word (suc level) key) where
-    -- the words that a validation would prove are those of the page buffer
-    pub words-are : (words : List ℕ) → length words ≡ 64 → Sees y p word words → words ≡ page
-    words-are words size sees =
-        placed-are words page (size ∙ sym long) (loads-behind words (loads_at v p) (placed 0 page) (subst (LoadsAre words) loads.loads (sees.valid _ loads.reads.reading refl)))
-
-    here : y.start.tells ≡ true → (words : List ℕ) → Sees y p word words → IsReached (tree_pages y) p words (suc level) key
-    here tells words sees = awaits-later p word (suc level) key v y (loads-reads p word frame (placed 0 page) v y loads).0 awaits tells words sees.holds
-
-    pub names-child : (named : ℕ) → FindsChild page key named → NamesPage y p word named
-    names-child named is tells words size sees =
-        let reached = here tells words sees in
-        let inner = inner-here (tree_pages y) p words level key reached in
-        let there = child_there (tree_pages y) p words (suc level) key reached sees.itself.sound inner in
-        let names : child_of words key ≡ Some named = child-is words page key named (words-are words size sees) inner is in
-        let same : there.0 ≡ named = same-some there.0 named (sym there.1 ∙ names) in
-        record {
-          low = subst (λ n. 1 ≤ n) same there.2;
-          high = subst (λ n. n < tree_pages y) same there.3;
-          apart = λ e. itself-not (tree_pages y) p words level key reached inner sees.itself (names ∙ ap (λ (n : ℕ). Some n) e);
-          node = λ child tied. (reached_child (tree_pages y) p words (suc level) key reached named child inner names tied level (omega arith)).kind;
-        }
-
-    pub child-named : (named : ℕ) → FindsChild page key named → y.start.tells ≡ true → (words : List ℕ) → length words ≡ 64 → Sees y p word words → NamesForKey p words key named
-    child-named named is tells words size sees =
-        let reached = here tells words sees in
-        let inner = inner-here (tree_pages y) p words level key reached in
-        inr (reached.from_one, inner.node.tag, reached.covers, child-is words page key named (words-are words size sees) inner is)
-
-    -- so do the words that were loaded
-    pub child-loaded : (named : ℕ) → FindsChild page key named → LoadsName y p key named
-    child-loaded named is = inr (page, (loads_at v p, loads.loads), is)
-
-    pub child-missing : FindsNoChild page key → y.start.tells ≡ true → (words : List ℕ) → length words ≡ 64 → Sees y p word words → ⊥
-    child-missing none tells words size sees =
-        let reached = here tells words sees in
-        let inner = inner-here (tree_pages y) p words level key reached in
-        let there = child_there (tree_pages y) p words (suc level) key reached sees.itself.sound inner in
-        let no : Some there.0 ≡ None = sym there.1 ∙ child-none words page key (words-are words size sees) inner none in cc
-
-    pub awaits-child : (named q word' frame' : ℕ) (w : View X) → FindsChild page key named → q ≡ named → HasSteppedDown p word frame q word' frame' y w → Awaits w q word' level key
-    awaits-child named q word' frame' w is same s told words all =
-        let tells : y.start.tells ≡ true = ap (λ (o : Origin). o.tells) (sym s.reads.0.start) ∙ told in
-        let reached = here tells (last_of w p).words (s.sees tells) in
-        let inner = inner-here (tree_pages y) p (last_of w p).words level key reached in
-        let names : child_of (last_of w p).words key ≡ Some q = child-is (last_of w p).words page key named (words-are (last_of w p).words s.valid.size (s.sees tells)) inner is ∙ ap (λ (n : ℕ). Some n) (sym same) in
-        let tie : Tied (began_of w.start) p (last_of w p).words q words =
-        each-at (λ (t : Tie). t.page ≡ q → t.version ≡ version_of word' → Tied (began_of w.start) t.of t.words q words) s.tied.0 _ s.tied.1
-        (subst (λ (l : List Tie). Each (λ (t : Tie). t.page ≡ q → t.version ≡ version_of word' → Tied (began_of w.start) t.of t.words q words) l) s.tied.2 all) refl refl in
-        subst (λ (o : Origin). IsReached (length o.contents) q words level key) (sym s.reads.0.start)
-        (reached_child (tree_pages y) p (last_of w p).words (suc level) key reached q words inner names (subst (λ (o : Origin). IsTied (length o.contents) p (last_of w p).words q words) s.reads.0.start tie) level (omega arith))
 
   module _ (p word frame root level key : ℕ) (v a b y : View X) (zero : p ≡ 0) (begins : BeginsReading 0 word frame v a) (first : Loads p word frame ((1, root) ∷ []) a b) (second : Loads p word frame ((2, level) ∷ []) b y) where
     loads-front : (words : List ℕ) (l m : List (ℕ × ℕ)) → LoadsAre words (l ++ m) → LoadsAre words l

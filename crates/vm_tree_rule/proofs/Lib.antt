@@ -5,3 +5,4 @@ pub mod Entering
 pub mod Downward
 pub mod Onward
 pub mod Surely
+pub mod Counting

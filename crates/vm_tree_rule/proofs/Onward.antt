@@ -1,7 +1,8 @@
--- A step down from a node whose words were read before: they name the next page.
+-- A step down from a node of which words were loaded before: they name the next page.
 use Rattle.std.proofs.Common.{[], ◌++◌, ◌<◌, ◌∙◌, ◌∷◌, ◌≡◌, ◌≢◌, ◌≤◌, ap, append_assoc, arith, inr, length, List, None, refl, slice_index, Some}
 use Rattle.std.proofs.Common.{subst, suc, sym, true, ℕ}
-use Rattle.vm_tree_model.specs.{Edits.child_of, Page.pairs_of}
+use Rattle.vm_tree_model.specs.{Edits.child_of, Page.IsInner, Page.pairs_of}
+use Rattle.vm_node.specs.Loads.{IsPageWith}
 use Rattle.vm_inner.specs.Found.{FindsChild, FindsNoChild}
 use Rattle.vm_core.specs.Prelude.{LoadsAre, version_of}
 use Rattle.vm_rule.specs.Prelude.{began_of, Each, last_of, loads_at}
@@ -12,11 +13,12 @@ use Rattle.vm_guard.proofs.Starting.{each-at}
 use Rattle.vm_tree_laws.specs.{Descent.IsReached, Tied.IsTied, Tied.Tied}
 use Rattle.vm_tree_laws.proofs.Descents.{child_there, reached_child}
 use Rattle.vm_tree_rule.specs.Leaves.{ReadsOn}
-use Rattle.vm_tree_rule.specs.Seeks.{ArePassed, HasRead, IsMetaRead, IsNamedRoot, IsPassedBy, LeadsTo}
+use Rattle.vm_tree_rule.specs.Seeks.{ArePassed, HasLoaded, HasRead, IsMetaRead, IsNamedRoot, IsPassedBy, LeadsTo}
+use Rattle.vm_tree_rule.specs.Turns.{TellChild, TellNoChild}
 use Rattle.vm_tree_rule.specs.Standing.{Awaits, HasSteppedDown, IsOpened, NamesForKey, NamesPage, Sees, StaysOpen, tree_pages}
-use Rattle.vm_tree_rule.proofs.Downward.{child-is, child-none, inner-here, itself-not, same-some}
+use Rattle.vm_tree_rule.proofs.Downward.{inner-here, itself-not, same-some}
 use Rattle.vm_tree_rule.proofs.Entering.{opened-reads}
-use Rattle.vm_tree_rule.proofs.Readings.{begins-leave, leaves-then, loads-behind, loads-leave, loads-reads, opened-later, placed-are, reading-beside}
+use Rattle.vm_tree_rule.proofs.Readings.{begins-leave, leaves-then, each-loaded, loads-behind, loads-leave, loads-reads, opened-later, reading-beside, same-page}
 use Rattle.vm_tree_rule.proofs.Readings.{reads-self, reads-then, valid-leave}
 
 module _ {X : Type 0} where
@@ -24,18 +26,18 @@ module _ {X : Type 0} where
   pub leads-from : (v w : View X) (words : List ℕ) (key next : ℕ) → w.start ≡ v.start → LeadsTo w words key next → LeadsTo v words key next
   leads-from v w words key next start k = record { found = k.found; told = λ tells. k.told (ap (λ (o : Origin). o.tells) start ∙ tells) }
 
-  module _ (p word frame level key : ℕ) (page : List ℕ) (y : View X) (long : length page ≡ 64) (r : IsReading p word frame y) (read : HasRead y p page) where
-    -- the words that a validation would prove are those of the page buffer
-    pub read-are : (words : List ℕ) → length words ≡ 64 → Sees y p word words → words ≡ page
-    read-are words size sees = placed-are words page (size ∙ sym long) (loads-behind words read.0 (placed 0 page) (subst (LoadsAre words) read.1 (sees.valid _ r.reading refl)))
+  module _ (p word frame level key : ℕ) (loaded : List (ℕ × ℕ)) (y : View X) (r : IsReading p word frame y) (read : HasLoaded y p loaded) where
+    -- the words that a validation would prove are a page that has what was loaded
+    pub has-loaded : (words : List ℕ) → length words ≡ 64 → Sees y p word words → IsPageWith loaded words
+    has-loaded words size sees = record { size = size; has = each-loaded words loaded (loads-behind words read.0 loaded (subst (LoadsAre words) read.1 (sees.valid _ r.reading refl))) }
 
     module _ (awaits : Awaits y p word (suc level) key) where
-      pub goes-on : (named : ℕ) → FindsChild page key named → NamesPage y p word named
+      pub goes-on : (named : ℕ) → TellChild loaded key named → NamesPage y p word named
       goes-on named is tells words size sees =
           let reached = awaits tells words sees.holds in
           let inner = inner-here (tree_pages y) p words level key reached in
           let there = child_there (tree_pages y) p words (suc level) key reached sees.itself.sound inner in
-          let names : child_of words key ≡ Some named = child-is words page key named (read-are words size sees) inner is in
+          let names : child_of words key ≡ Some named = (is words (has-loaded words size sees)).child _ _ inner.node.rises in
           let same : there.0 ≡ named = same-some there.0 named (sym there.1 ∙ names) in
           record {
             low = subst (λ n. 1 ≤ n) same there.2;
@@ -44,41 +46,56 @@ module _ {X : Type 0} where
             node = λ child tied. (reached_child (tree_pages y) p words (suc level) key reached named child inner names tied level (omega arith)).kind;
           }
 
-      pub goes-to : (named : ℕ) → FindsChild page key named → y.start.tells ≡ true → (words : List ℕ) → length words ≡ 64 → Sees y p word words → NamesForKey p words key named
+      pub goes-to : (named : ℕ) → TellChild loaded key named → y.start.tells ≡ true → (words : List ℕ) → length words ≡ 64 → Sees y p word words → NamesForKey p words key named
       goes-to named is tells words size sees =
           let reached = awaits tells words sees.holds in
           let inner = inner-here (tree_pages y) p words level key reached in
-          inr (reached.from_one, inner.node.tag, reached.covers, child-is words page key named (read-are words size sees) inner is)
+          inr (reached.from_one, inner.node.tag, reached.covers, (is words (has-loaded words size sees)).child _ _ inner.node.rises)
 
-      pub goes-nowhere : FindsNoChild page key → y.start.tells ≡ true → (words : List ℕ) → length words ≡ 64 → Sees y p word words → ⊥
+      pub goes-nowhere : TellNoChild loaded key → y.start.tells ≡ true → (words : List ℕ) → length words ≡ 64 → Sees y p word words → ⊥
       goes-nowhere none tells words size sees =
           let reached = awaits tells words sees.holds in
           let inner = inner-here (tree_pages y) p words level key reached in
           let there = child_there (tree_pages y) p words (suc level) key reached sees.itself.sound inner in
-          let no : Some there.0 ≡ None = sym there.1 ∙ child-none words page key (read-are words size sees) inner none in cc
+          let no : Some there.0 ≡ None = sym there.1 ∙ (none words (has-loaded words size sees)).child _ _ inner.node.rises in cc
 
-      pub awaits-next : (named q word' frame' : ℕ) (w : View X) → FindsChild page key named → q ≡ named → HasSteppedDown p word frame q word' frame' y w → Awaits w q word' level key
+      pub awaits-next : (named q word' frame' : ℕ) (w : View X) → TellChild loaded key named → q ≡ named → HasSteppedDown p word frame q word' frame' y w → Awaits w q word' level key
       awaits-next named q word' frame' w is same s told words all =
           let tells : y.start.tells ≡ true = ap (λ (o : Origin). o.tells) (sym s.reads.0.start) ∙ told in
-          let reached = awaits tells (last_of w p).words (s.sees tells).holds in
-          let inner = inner-here (tree_pages y) p (last_of w p).words level key reached in
-          let names : child_of (last_of w p).words key ≡ Some q = child-is (last_of w p).words page key named (read-are (last_of w p).words s.valid.size (s.sees tells)) inner is ∙ ap (λ (n : ℕ). Some n) (sym same) in
-          let tie : Tied (began_of w.start) p (last_of w p).words q words =
+          let above = (last_of w p).words in
+          let reached = awaits tells above (s.sees tells).holds in
+          let inner = inner-here (tree_pages y) p above level key reached in
+          let names : child_of above key ≡ Some q = (is above (has-loaded above s.valid.size (s.sees tells))).child _ _ inner.node.rises ∙ ap (λ (n : ℕ). Some n) (sym same) in
+          let tie : Tied (began_of w.start) p above q words =
           each-at (λ (t : Tie). t.page ≡ q → t.version ≡ version_of word' → Tied (began_of w.start) t.of t.words q words) s.tied.0 _ s.tied.1
           (subst (λ (l : List Tie). Each (λ (t : Tie). t.page ≡ q → t.version ≡ version_of word' → Tied (began_of w.start) t.of t.words q words) l) s.tied.2 all) refl refl in
           subst (λ (o : Origin). IsReached (length o.contents) q words level key) (sym s.reads.0.start)
-          (reached_child (tree_pages y) p (last_of w p).words (suc level) key reached q words inner names (subst (λ (o : Origin). IsTied (length o.contents) p (last_of w p).words q words) s.reads.0.start tie) level (omega arith))
+          (reached_child (tree_pages y) p above (suc level) key reached q words inner names (subst (λ (o : Origin). IsTied (length o.contents) p above q words) s.reads.0.start tie) level (omega arith))
 
-      -- the page that was found and entered is the key's child
-      pub leads : (named q word' frame' : ℕ) (w : View X) → FindsChild page key named → q ≡ named → HasSteppedDown p word frame q word' frame' y w → LeadsTo y page key q
-      leads named q word' frame' w is same s = record {
-        found = subst (FindsChild page key) (sym same) is;
-        told = λ tells.
-            let valid = s.sees tells in
-            let here = read-are (last_of w p).words s.valid.size valid in
-            let inner = inner-here (tree_pages y) p (last_of w p).words level key (awaits tells (last_of w p).words valid.holds) in
-            ap (λ (l : List ℕ). child_of l key) (sym here) ∙ child-is (last_of w p).words page key named here inner is ∙ ap (λ (n : ℕ). Some n) (sym same);
-      }
+  -- ---- a page that was read whole
+
+  -- what a search finds in the page it finds in each page that has all its words
+  pub tells-whole : (page : List ℕ) (key named : ℕ) → length page ≡ 64 → FindsChild page key named → TellChild (placed 0 page) key named
+  tells-whole page key named long is words with = subst (λ (l : List ℕ). FindsChild l key named) (sym (same-page words page long with)) is
+
+  pub tells-none : (page : List ℕ) (key : ℕ) → length page ≡ 64 → FindsNoChild page key → TellNoChild (placed 0 page) key
+  tells-none page key long is words with = subst (λ (l : List ℕ). FindsNoChild l key) (sym (same-page words page long with)) is
+
+  module _ (p word frame level key : ℕ) (page : List ℕ) (y : View X) (long : length page ≡ 64) (r : IsReading p word frame y) (read : HasRead y p page) where
+    -- the words that a validation would prove are those of the page buffer
+    pub read-are : (words : List ℕ) → length words ≡ 64 → Sees y p word words → words ≡ page
+    read-are words size sees = same-page words page long (has-loaded p word frame level key (placed 0 page) y r read words size sees)
+
+    -- the page that was found and entered is the key's child
+    pub leads : (awaits : Awaits y p word (suc level) key) (named q word' frame' : ℕ) (w : View X) → FindsChild page key named → q ≡ named → HasSteppedDown p word frame q word' frame' y w → LeadsTo y page key q
+    leads awaits named q word' frame' w is same s = record {
+      found = subst (FindsChild page key) (sym same) is;
+      told = λ tells.
+          let valid = s.sees tells in
+          let here = read-are (last_of w p).words s.valid.size valid in
+          let inner = subst IsInner here (inner-here (tree_pages y) p (last_of w p).words level key (awaits tells (last_of w p).words valid.holds)) in
+          is.child _ _ inner.node.rises ∙ ap (λ (n : ℕ). Some n) (sym same);
+    }
 
     -- the node was validated with these words as the next one was entered
     pub passes : (q word' frame' : ℕ) (u w : View X) → IsOpened u p word frame y → length (pairs_of page) < 28 → LeadsTo y page key q → HasSteppedDown p word frame q word' frame' y w → IsPassedBy u key p page q w

@@ -2,6 +2,8 @@
 use Rattle.std.proofs.Common.{[], ◌++◌, ◌+◌, ◌<◌, ◌∙◌, ◌∷◌, ◌≡◌, ◌≢◌, ap, append_assoc, arith, Err, IfErr, IfOk, length, List, None, Ok, Option, refl}
 use Rattle.std.proofs.Common.{Result, slice_index, Some, subst, suc, sym, zero, ℕ}
 use Rattle.std.proofs.lemmas.Grind.{same_number_lists}
+use Rattle.std.specs.List.{All}
+use Rattle.vm_node.specs.Loads.{IsPageWith}
 use Rattle.vm_core.specs.Prelude.{LoadsAre, state_of, UNLOCKED, version_of}
 use Rattle.vm_rule.specs.Prelude.{began_of, Each, LockValidates, Start}
 use Rattle.vm_rule.specs.declared.view.Place.TheVariants as places
@@ -27,6 +29,20 @@ placed-are words xs long h = same_number_lists words xs long (λ k l. ap (slice_
 pub loads-behind : (words : List ℕ) (l m : List (ℕ × ℕ)) → LoadsAre words (l ++ m) → LoadsAre words m
 loads-behind words [] m h = h
 loads-behind words (x ∷ l) m h = loads-behind words l m h.1
+
+-- as a list whose elements are each so, and back
+pub each-loaded : (words : List ℕ) (l : List (ℕ × ℕ)) → LoadsAre words l → All (λ e. slice_index words e.0 ≡ e.1) l
+each-loaded words [] h k d lt = absurd (omega (arith, lt))
+each-loaded words (x ∷ l) h zero d lt = h.0
+each-loaded words (x ∷ l) h (suc k) d lt = each-loaded words l h.1 k d (omega (arith, lt))
+
+are-loaded : (words : List ℕ) (l : List (ℕ × ℕ)) → All (λ e. slice_index words e.0 ≡ e.1) l → LoadsAre words l
+are-loaded words [] h = tt
+are-loaded words (x ∷ l) h = (h 0 x (omega arith), are-loaded words l (λ k d lt. h (suc k) d (omega (arith, lt))))
+
+-- a page that has all words of another one is that
+pub same-page : (words page : List ℕ) → length page ≡ 64 → IsPageWith (placed 0 page) words → words ≡ page
+same-page words page long with = placed-are words page (with.size ∙ sym long) (are-loaded words (placed 0 page) with.has)
 
 pub each-behind : {A : Type 0} (Q : A → Type 0) (l m : List A) → Each Q (l ++ m) → Each Q m
 each-behind Q [] m all = all

@@ -17,5 +17,14 @@ module _ {X : Type 0} where
     pub tells : claim loaded
 
   -- the call loaded at most so many words of pages, by the height that it loaded
-  abbrev pub LoadsWithin : (ℕ → ℕ) → View X → View X → Type 0
-  LoadsWithin most v w = (loaded : List ℕ) × LoadsWords loaded v w × (length loaded ≤ most (height_in loaded))
+  pub record LoadsWithin (most : ℕ → ℕ) (v w : View X) : Type 0 where
+    pub loaded : List ℕ
+    pub words : LoadsWords loaded v w
+    pub few : length loaded ≤ most (height_in loaded)
+
+  -- it did, and came as far as the height
+  pub record LoadsHeight (most : ℕ → ℕ) (v w : View X) : Type 0 where
+    pub loaded : List ℕ
+    pub words : LoadsWords loaded v w
+    pub two : 2 ≤ length loaded
+    pub few : length loaded ≤ most (height_in loaded)

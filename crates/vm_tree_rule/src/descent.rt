@@ -3,7 +3,7 @@ ghost use Rattle.std.specs.Prelude.{[], ◌*◌, ◌+◌, ◌<◌, ◌∷◌, �
 ghost use Rattle.vm_step.specs.Prelude.{IsReady, IsSamePass, MayStep, view};
 ghost use Rattle.vm_guard.specs.{Guards.IsReading, PageWords.LoadsWords};
 ghost use Rattle.vm_tree_rule.specs.{Leaves.ReadsOn, Seeks.IsMetaRead, Seeks.IsNamedRoot};
-ghost use Rattle.vm_tree_rule.specs.Few.{height_in, LoadsWithin, ReadsInPlace};
+ghost use Rattle.vm_tree_rule.specs.Few.{LoadsHeight, LoadsWithin, ReadsInPlace};
 ghost use Rattle.vm_tree_rule.specs.Resident.{IsKnownNow, KnowsLocks, KnowsResident};
 ghost use Rattle.vm_tree_rule.specs.Standing.{Awaits, HasSteppedDown, IsOpened, NamesPage, StaysOpen, tree_pages};
 ghost use Rattle.vm_tree_rule.specs.Turns.{IsStopped, IsTurnedBack, TellChild, TellNoChild};
@@ -134,7 +134,7 @@ pub(crate) fn enter_root<B: Block>(
     ensures named { IfOk result (λ top. IsNamedRoot (view pass.old) top.guard.pid (view pass.new)) }
     ensures meta { IfOk result (λ top. IsMetaRead top.meta.pid top.meta.word top.meta.frame top.guard.pid top.level (view pass.old) (view pass.new)) }
     ensures err { IfErr result (λ turn. IsTurnedBack (view pass.old) key turn (view pass.new)) }
-    ensures words { IfOk result (λ top. (root : ℕ) × LoadsWords (root ∷ top.level ∷ []) (view pass.old) (view pass.new)) }
+    ensures words { IfOk result (λ top. LoadsWords (top.guard.pid ∷ top.level ∷ []) (view pass.old) (view pass.new)) }
     ensures few { LoadsWithin (λ _. 2) (view pass.old) (view pass.new) }
 {
     let meta = match OptGuard::start(words, pass, 0) {
@@ -170,7 +170,7 @@ pub fn descend<B: Block>(
     ensures sure { B.tells ≡ true → KnowsResident (view pass.old) → IsOk result }
     ensures known { B.tells ≡ true → KnowsResident (view pass.old) → IfOk result (λ guard. IsKnownNow guard.pid guard.word (view pass.new)) }
     ensures few { LoadsWithin (λ h. 2 + 7 * h) (view pass.old) (view pass.new) }
-    ensures two { IfOk result (λ _. (loaded : List ℕ) × LoadsWords loaded (view pass.old) (view pass.new) × (2 ≤ length loaded) × (length loaded ≤ 2 + 7 * height_in loaded)) }
+    ensures height { IfOk result (λ _. LoadsHeight (λ h. 2 + 7 * h) (view pass.old) (view pass.new)) }
 {
     let top = match enter_root(words, pass, key) {
         Ok(top) => top,

@@ -1,9 +1,9 @@
-use Rattle.std.proofs.Common.{◌+◌, ◌-◌, ◌<◌, ◌∙◌, ◌≡◌, ◌≤◌, arith, subst, suc, ℕ}
+use Rattle.std.proofs.Common.{[], ◌*◌, ◌+◌, ◌-◌, ◌<◌, ◌∙◌, ◌∷◌, ◌≡◌, ◌≤◌, arith, refl, subst, suc, ℕ}
 use Rattle.vm_step.specs.Prelude.{view}
 use Rattle.vm_tree_rule.specs.Standing.{Awaits}
-use Rattle.vm_tree_rule.proofs.{Downward.awaits-later, Surely.known-same}
+use Rattle.vm_tree_rule.proofs.Counting.{height-at, height-more, height-stays, height-wider, height-within, within-wider}
 use Rattle.vm_tree_rule.proofs.descent.descend.Goals as goal
-use Rattle.vm_tree_rule.proofs.Readings.{loads-reads, opened-earlier, opened-loads, reads-then}
+use Rattle.vm_tree_rule.proofs.Readings.{opened-earlier, reads-then}
 
 whole : (n : ℕ) → n ≡ n - 0
 whole n = omega arith
@@ -18,10 +18,10 @@ pub loop-init : goal.loop-init
 loop-init g c = record {
   same = c.in-Ok.ensures.pass;
   ready = c.in-Ok.ensures.ready;
-  size = c.requires.size;
   reads = c.in-Ok.ensures.reads;
   opened = c.in-Ok.ensures.ok.0;
   left = omega arith;
+  words = (record { loaded = c.in-Ok.top.guard.pid ∷ c.in-Ok.top.level ∷ []; words = c.in-Ok.ensures.words; two = omega arith; few = omega arith }, refl);
   known = λ tells k. (c.in-Ok.ensures.known tells k).0;
   awaits = subst (λ n. Awaits (view c.enter_root.new.pass) c.in-Ok.top.guard.pid c.in-Ok.top.guard.word n c.args.key) (whole c.in-Ok.top.level) c.in-Ok.ensures.ok.1;
 }
@@ -32,6 +32,9 @@ go_down-requires-clause-awaits g c = (
   subst (λ n. Awaits (view c.loop.pass) c.loop.guard.pid c.loop.guard.word n c.args.key) (one-less c.in-Ok.top.level c.loop.counter c.loop-test.true) c.loop.invariant.awaits,
 )
 
+one-more : (i : ℕ) → 2 + 7 * i + 7 ≤ 2 + 7 * (i + 1)
+one-more i = omega arith
+
 pub loop-preserved : goal.loop-preserved
 loop-preserved g c =
     let k = c.in-Ok-go_down.ensures in
@@ -40,10 +43,13 @@ loop-preserved g c =
     record {
       same = (k.pass.0 ∙ i.same.0, k.pass.1 ∙ i.same.1);
       ready = k.ready;
-      size = k.size;
       reads = reads-then _ _ _ i.reads k.reads.0;
       opened = opened-earlier _ _ _ _ _ _ i.reads k.reads.1;
       left = omega (arith, less);
+      words = (
+        height-wider _ _ _ _ (λ _. one-more c.loop.counter) (height-more _ 7 _ _ _ i.words.0 k.few),
+        height-stays i.words.0.loaded k.few.loaded i.words.0.two ∙ i.words.1,
+      );
       known = λ tells r. k.known tells (i.known tells r);
       awaits =
           k.awaits (c.in-Ok.top.level - (c.loop.counter + 1))
@@ -51,19 +57,25 @@ loop-preserved g c =
     }
 
 pub returns-clause-reads : goal.returns-clause-reads
-returns-clause-reads g c =
-    let loads = c.read_all.ensures.loads in
-    (reads-then _ _ _ c.loop.invariant.reads (loads-reads _ _ _ _ _ _ loads), opened-loads _ _ _ _ _ _ _ c.loop.invariant.opened loads)
+returns-clause-reads g c = (c.loop.invariant.reads, c.loop.invariant.opened)
 
 pub returns-clause-awaits : goal.returns-clause-awaits
-returns-clause-awaits g c =
-    awaits-later _ _ _ _ _ _ (loads-reads _ _ _ _ _ _ c.read_all.ensures.loads).0
-    (subst (λ n. Awaits (view c.loop.pass) c.loop.guard.pid c.loop.guard.word n c.args.key) (none-left c.in-Ok.top.level c.loop.counter c.loop-test.false) c.loop.invariant.awaits)
+returns-clause-awaits g c = subst (λ n. Awaits (view c.loop.pass) c.loop.guard.pid c.loop.guard.word n c.args.key) (none-left c.in-Ok.top.level c.loop.counter c.loop-test.false) c.loop.invariant.awaits
 
 pub returns-clause-known : goal.returns-clause-known
-returns-clause-known g c tells k =
-    let loads = c.read_all.ensures.loads in
-    known-same _ _ _ _ (loads-reads _ _ _ _ _ _ loads).0 loads.table (c.loop.invariant.known tells k)
+returns-clause-known g c tells k = c.loop.invariant.known tells k
+
+pub returns-clause-height : goal.returns-clause-height
+returns-clause-height g c =
+    let i = c.loop.invariant in
+    let left = i.left in
+    height-at (λ h. 2 + 7 * h) (2 + 7 * c.loop.counter) c.in-Ok.top.level _ _ i.words.0 i.words.1 (omega (arith, left))
+
+pub returns-clause-few : goal.returns-clause-few
+returns-clause-few g c = height-within _ _ _ (returns-clause-height g c)
+
+pub returns-in-Err-clause-few : goal.returns-in-Err-clause-few
+returns-in-Err-clause-few g c = within-wider _ _ _ _ (λ h. omega arith) c.in-Err.ensures.few
 
 pub returns-in-Err-clause-sure : goal.returns-in-Err-clause-sure
 returns-in-Err-clause-sure g c tells k = c.in-Err.ensures.sure tells k
@@ -73,3 +85,10 @@ returns-in-Err-go_down-clause-err g c = c.in-Err-go_down.ensures.err _ c.loop.in
 
 pub returns-in-Err-go_down-clause-sure : goal.returns-in-Err-go_down-clause-sure
 returns-in-Err-go_down-clause-sure g c tells k = c.in-Err-go_down.ensures.sure tells (c.loop.invariant.known tells k)
+
+pub returns-in-Err-go_down-clause-few : goal.returns-in-Err-go_down-clause-few
+returns-in-Err-go_down-clause-few g c =
+    let i = c.loop.invariant in
+    let k = c.in-Err-go_down.ensures.few in
+    let less = c.loop-test.true in
+    height-within _ _ _ (height-at (λ h. 2 + 7 * h) (2 + 7 * c.loop.counter + 7) c.in-Ok.top.level _ _ (height-more _ 7 _ _ _ i.words.0 k) (height-stays i.words.0.loaded k.loaded i.words.0.two ∙ i.words.1) (omega (arith, less)))

@@ -1,5 +1,6 @@
-use Rattle.std.proofs.Common.{◌-◌, ◌≡◌, ◌≤◌, length, true}
+use Rattle.std.proofs.Common.{◌*◌, ◌+◌, ◌-◌, ◌≡◌, ◌≤◌, true}
 use Rattle.vm_step.specs.Prelude.{IsReady, IsSamePass, view}
+use Rattle.vm_tree_rule.specs.Few.{height_in, LoadsHeight}
 use Rattle.vm_tree_rule.specs.{Leaves.ReadsOn, Resident.IsKnownNow, Resident.KnowsResident, Standing.Awaits, Standing.IsOpened}
 use Rattle.vm_tree_rule.proofs.descent.descend.Given as goal
 
@@ -8,10 +9,10 @@ abbrev pub invariant-loop : goal.invariant-loop
 invariant-loop g l = record {
   same : IsSamePass l.fn.pass l.pass;
   ready : IsReady l.words.table.shared.key g.B.Block.tells l.words.table.shared.table_id l.pass;
-  size : length l.page ≡ 64;
   reads : ReadsOn (view l.fn.pass) (view l.pass);
   opened : IsOpened (view l.fn.pass) l.guard.pid l.guard.word l.guard.frame (view l.pass);
   left : l.counter ≤ l.end;
+  words : (k : LoadsHeight (λ _. 2 + 7 * l.counter) (view l.fn.pass) (view l.pass)) × (height_in k.loaded ≡ l.end);
   known : g.B.Block.tells ≡ true → KnowsResident (view l.fn.pass) → IsKnownNow l.guard.pid l.guard.word (view l.pass);
   awaits : Awaits (view l.pass) l.guard.pid l.guard.word (l.end - l.counter) l.key;
 }

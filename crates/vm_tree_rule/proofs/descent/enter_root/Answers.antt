@@ -1,4 +1,6 @@
-use Rattle.std.proofs.Common.{◌+◌, ◌<◌, ◌∙◌, ◌≡◌, ◌≤◌, ap, arith, length, subst, sym, ℕ}
+use Rattle.std.proofs.Common.{[], ◌+◌, ◌<◌, ◌∙◌, ◌∷◌, ◌≡◌, ◌≤◌, ap, arith, length, subst, sym, ℕ}
+use Rattle.vm_guard.specs.PageWords.{LoadsWords}
+use Rattle.vm_tree_rule.proofs.Counting.{meta-loaded, meta-within}
 use Rattle.vm_rule.specs.Prelude.{last_of}
 use Rattle.vm_step.specs.Prelude.{Origin, view}
 use Rattle.vm_tree_rule.specs.Turns.{IsNoTree as no_tree, IsTurnedBack}
@@ -103,3 +105,18 @@ returns-clause-named g c =
     (root-opened _ _ _ _ _ c.args.key _ _ _ _ c.in-Ok.ensures.ok.0 c.in-Ok.ensures.ok.1 c.word-root.ensures.loads c.word-level.ensures.loads)
     (meta-loads _ _ _ _ _ c.args.key _ _ _ _ c.in-Ok.ensures.ok.0 c.in-Ok.ensures.ok.1 c.word-root.ensures.loads c.word-level.ensures.loads) s.0 s.1
     (λ tells. (meta-words _ _ _ _ _ c.args.key _ _ _ _ c.in-Ok.ensures.ok.0 c.in-Ok.ensures.ok.1 c.word-root.ensures.loads c.word-level.ensures.loads (last_of (view c.enter.new.pass) c.in-Ok.guard.pid).words (s.1.sees tells)).0)
+
+pub returns-clause-words : goal.returns-clause-words
+returns-clause-words g c = subst (λ n. LoadsWords (n ∷ c.word-level.result ∷ []) (view c.args.pass.now) (view c.enter.new.pass)) (sym c.in-Ok-enter.ensures.ok.0) (meta-loaded _ _ _ _ _ _ _ c.in-Ok.ensures.words c.word-root.ensures.words c.word-level.ensures.words c.in-Ok-enter.ensures.words)
+
+pub returns-clause-few : goal.returns-clause-few
+returns-clause-few g c = meta-within _ _ _ _ _ _ _ c.in-Ok.ensures.words c.word-root.ensures.words c.word-level.ensures.words c.in-Ok-enter.ensures.words
+
+pub returns-then-level-words-clause-few : goal.returns-then-level-words-clause-few
+returns-then-level-words-clause-few g c = meta-within _ _ _ _ _ _ _ c.in-Ok.ensures.words c.word-root.ensures.words c.word-level.ensures.words c.in-Ok-enter.ensures.words
+
+pub returns-in-Err-enter-clause-few : goal.returns-in-Err-enter-clause-few
+returns-in-Err-enter-clause-few g c = meta-within _ _ _ _ _ _ _ c.in-Ok.ensures.words c.word-root.ensures.words c.word-level.ensures.words c.in-Err-enter.ensures.words
+
+pub returns-in-Err-clause-few : goal.returns-in-Err-clause-few
+returns-in-Err-clause-few g c = record { loaded = []; words = c.in-Err.ensures.words; few = omega arith }
