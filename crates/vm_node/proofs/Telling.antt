@@ -1,9 +1,9 @@
 -- What words that were loaded one after the other tell of a page.
-use Rattle.std.proofs.Common.{◌≡◌, ℕ, ◌+◌, ◌≤◌, List, [], ◌∷◌, ◌++◌, length, get_or, sym, subst, ◌∙◌, arith, length-append}
+use Rattle.std.proofs.Common.{◌≡◌, ℕ, ◌+◌, ◌≤◌, List, [], ◌∷◌, ◌++◌, length, get_or, subst, arith, length-append}
 use Rattle.std.specs.List.{All}
 use Rattle.std.proofs.Math.Seq.{take-append_seam}
 use Rattle.std.proofs.lemmas.List.Elements.{All-head, All-tail, All-take}
-use Rattle.vm_node.specs.Loads.{IsPageWith, Tells, IsBuffer}
+use Rattle.vm_node.specs.Loads.{Tells, IsBuffer}
 
 -- this word stands at its place
 abbrev Has : List ℕ → ℕ × ℕ → Type 0
