@@ -31,9 +31,9 @@ pub returns-then-len-room-clause-told : goal.returns-then-len-room-clause-told
 returns-then-len-room-clause-told g c =
     let long : length c.loop-i.pairs ≡ min c.args.most 28 = omega (arith, c.loop-i.invariant.few, c.min-room.ensures, c.len.ensures.value, c.if-len-room.true) in
     told_so (omega (arith, long)) (told_then g.met.P.Place.join c.loop-i.invariant.told (told_word c.word-key.ensures.loads)) (λ words size read low high rises.
-        let ends = taking_stops _ _ _ _ words read.0 size _ c.loop-i-test.true read.1 _ low high long rises in record { shows = ends.0; ends = ends.1 })
+    let ends = taking_stops _ _ _ _ words read.0 size _ c.loop-i-test.true read.1 _ low high long rises in record { shows = ends.0; ends = ends.1 })
 
 pub returns-clause-told : goal.returns-clause-told
 returns-clause-told g c =
     told_so (omega (arith, c.loop-i.invariant.few)) (told_then g.met.P.Place.join c.loop-i.invariant.told c.high_bound_at.ensures.told) (λ words size read low high rises.
-        let ends = taking_ends _ _ _ _ words read.0 _ _ low high c.loop-i-test.false read.1 c.loop-i.invariant.few rises in record { shows = ends.0; ends = ends.1 })
+    let ends = taking_ends _ _ _ _ words read.0 _ _ low high c.loop-i-test.false read.1 c.loop-i.invariant.few rises in record { shows = ends.0; ends = ends.1 })
