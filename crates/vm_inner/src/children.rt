@@ -9,7 +9,7 @@ ghost use Rattle.vm_node.specs.Loads.{Tells};
 ghost use Rattle.vm_inner.specs.Found.{FindsChild, FindsNoChild};
 
 use vm_map::window::MOST_PAIRS;
-use vm_node::pairs::{count_at, lower_bound_at};
+use vm_node::pairs::{count_at, upper_bound_at};
 use vm_node::{Full, Place, in_buffer, put, split};
 use vm_page::PageBuf;
 
@@ -21,10 +21,7 @@ pub fn child_at<P: Place>(place: &mut P, key: u64) -> Option<u64>
     ensures told { Tells P.loads place.old 7 place.new (λ words. MatchOption result (FindsNoChild words key) (FindsChild words key)) }
 {
     let count = count_at(place);
-    let above = match key.checked_add(1) {
-        Some(next) => lower_bound_at(place, count, next),
-        None => count,
-    };
+    let above = upper_bound_at(place, count, key);
     if above == 0 {
         return None;
     }

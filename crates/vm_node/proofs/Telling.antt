@@ -1,9 +1,9 @@
 -- What words that were loaded one after the other tell of a page.
-use Rattle.std.proofs.Common.{◌≡◌, ℕ, ◌+◌, ◌≤◌, List, [], ◌∷◌, ◌++◌, length, get_or, sym, subst, ◌∙◌, arith, length-append}
+use Rattle.std.proofs.Common.{◌≡◌, ℕ, ◌+◌, ◌≤◌, List, [], ◌∷◌, ◌++◌, length, get_or, subst, arith, length-append}
 use Rattle.std.specs.List.{All}
 use Rattle.std.proofs.Math.Seq.{take-append_seam}
 use Rattle.std.proofs.lemmas.List.Elements.{All-head, All-tail, All-take}
-use Rattle.vm_node.specs.Loads.{IsPageWith, Tells, IsBuffer}
+use Rattle.vm_node.specs.Loads.{Tells, IsBuffer}
 
 -- this word stands at its place
 abbrev Has : List ℕ → ℕ × ℕ → Type 0
@@ -20,26 +20,42 @@ all_then : (words : List ℕ) (first then : List (ℕ × ℕ)) → All (Has word
 all_then words [] then all = all
 all_then words (l ∷ ls) then all = all_then words ls then (All-tail (Has words) l (ls ++ then) all)
 
--- nothing was loaded
-pub told_none : {P : Type 0} {loads : P → List (ℕ × ℕ) → P → Type 0} {p : P} {most : ℕ} {claim : List ℕ → Type 0} → loads p [] p → ((words : List ℕ) → length words ≡ 64 → claim words) → Tells loads p most p claim
-told_none through all = record { loaded = []; through = through; few = omega arith; claims = λ words is. all words is.size }
+module _ {P : Type 0} {loads : P → List (ℕ × ℕ) → P → Type 0} where
+  -- nothing was loaded
+  pub told_none : {p : P} {most : ℕ} {claim : List ℕ → Type 0} → loads p [] p → ((words : List ℕ) → length words ≡ 64 → claim words) → Tells loads p most p claim
+  told_none through all = record { loaded = []; through = through; few = omega arith; claims = λ words is. all words is.size }
 
--- one word was
-pub told_word : {P : Type 0} {loads : P → List (ℕ × ℕ) → P → Type 0} {p q : P} {i x : ℕ} → loads p ((i, x) ∷ []) q → Tells loads p 1 q (λ words. get_or words i 0 ≡ x)
-told_word {i = i} {x = x} through = record { loaded = (i, x) ∷ []; through = through; few = omega arith; claims = λ words is. All-head (Has words) (i, x) [] is.has }
+  -- one word was
+  pub told_word : {p q : P} {i x : ℕ} → loads p ((i, x) ∷ []) q → Tells loads p 1 q (λ words. get_or words i 0 ≡ x)
+  told_word {i = i} {x = x} through = record {
+    loaded = (i, x) ∷ [];
+    through = through;
+    few = omega arith;
+    claims = λ words is. All-head (Has words) (i, x) [] is.has;
+  }
 
-pub told_then : {P : Type 0} {loads : P → List (ℕ × ℕ) → P → Type 0} {p q r : P} {m n : ℕ} {A B : List ℕ → Type 0} → Joins loads → Tells loads p m q A → Tells loads q n r B → Tells loads p (m + n) r (λ words. A words × B words)
-told_then {p = p} {q = q} {r = r} join a b = record {
-  loaded = a.loaded ++ b.loaded;
-  through = join p q r a.loaded b.loaded a.through b.through;
-  few = simp length-append (omega (arith, a.few, b.few));
-  claims = λ words is. (a.claims words (record { size = is.size; has = all_first words a.loaded b.loaded is.has }), b.claims words (record { size = is.size; has = all_then words a.loaded b.loaded is.has }));
-}
+  -- some words were, and then others
+  pub told_then : {p q r : P} {m n : ℕ} {A B : List ℕ → Type 0} → Joins loads → Tells loads p m q A → Tells loads q n r B → Tells loads p (m + n) r (λ words. A words × B words)
+  told_then {p = p} {q = q} {r = r} join a b = record {
+    loaded = a.loaded ++ b.loaded;
+    through = join p q r a.loaded b.loaded a.through b.through;
+    few = simp length-append (omega (arith, a.few, b.few));
+    claims = λ words is. (
+      a.claims words (record { size = is.size; has = all_first words a.loaded b.loaded is.has }),
+      b.claims words (record { size = is.size; has = all_then words a.loaded b.loaded is.has }),
+    );
+  }
 
--- what follows from what was told
-pub told_so : {P : Type 0} {loads : P → List (ℕ × ℕ) → P → Type 0} {p q : P} {m n : ℕ} {A B : List ℕ → Type 0} → m ≤ n → Tells loads p m q A → ((words : List ℕ) → length words ≡ 64 → A words → B words) → Tells loads p n q B
-told_so le told so = record { loaded = told.loaded; through = told.through; few = omega (arith, told.few, le); claims = λ words is. so words is.size (told.claims words is) }
+  -- what follows from what was told
+  pub told_so : {p q : P} {m n : ℕ} {A B : List ℕ → Type 0} → m ≤ n → Tells loads p m q A → ((words : List ℕ) → length words ≡ 64 → A words → B words) → Tells loads p n q B
+  told_so le told so = record {
+    loaded = told.loaded;
+    through = told.through;
+    few = omega (arith, told.few, le);
+    claims = λ words is. so words is.size (told.claims words is);
+  }
 
--- of a page that stands in a buffer, which loads leave as it is
-pub told_buffer : {P : Type 0} {loads : P → List (ℕ × ℕ) → P → Type 0} {p q : P} {most : ℕ} {claim : List ℕ → Type 0} {page buffer after : List ℕ} (told : Tells loads p most q claim) → IsBuffer buffer told.loaded after → buffer ≡ page → length buffer ≡ 64 → claim page
-told_buffer {claim = claim} {buffer = buffer} told is same size = subst claim same (told.claims buffer (record { size = size; has = is.has }))
+  -- of a page that stands in a buffer, which loads leave as it is
+  module _ {p q : P} {most : ℕ} {claim : List ℕ → Type 0} {page buffer after : List ℕ} where
+    pub told_buffer : (told : Tells loads p most q claim) → IsBuffer buffer told.loaded after → buffer ≡ page → length buffer ≡ 64 → claim page
+    told_buffer told is same size = subst claim same (told.claims buffer (record { size = size; has = is.has }))

@@ -1,5 +1,5 @@
 -- What words that were loaded of a page, one after the other, tell of that page.
-use Rattle.std.specs.Prelude.{◌≡◌, ℕ, ◌≤◌, List, ◌++◌, length, slice_index}
+use Rattle.std.specs.Prelude.{◌≡◌, ℕ, ◌≤◌, Bool, true, false, List, ◌++◌, length, slice_index}
 use Rattle.std.specs.List.{All}
 use Rattle.std.proofs.Common.{subst, ◌∙◌}
 use Rattle.std.proofs.lemmas.List.Elements.{All-append}
@@ -16,6 +16,10 @@ pub record Tells {P : Type 0} (loads : P → List (ℕ × ℕ) → P → Type 0)
   pub through : loads p loaded q
   pub few : length loaded ≤ most
   pub claims : (words : List ℕ) → IsPageWith loaded words → claim words
+
+-- the answer to whether something holds
+abbrev pub IsAnswer : Bool → Type 0 → Type 0
+IsAnswer answer claim = (answer ≡ true → claim) × (answer ≡ false → ¬ claim)
 
 -- the page of a buffer, which loads leave as it is
 pub record IsBuffer (page : List ℕ) (loaded : List (ℕ × ℕ)) (after : List ℕ) : Type 0 where

@@ -1,8 +1,15 @@
--- What a window shows of the leaf that covers its start.
-use Rattle.std.specs.Prelude.{◌≡◌, ℕ, ◌<◌, ◌≤◌, List, length}
+-- What a window shows of a page.
+use Rattle.std.specs.Prelude.{◌≡◌, ℕ, ◌<◌, ◌≤◌, List, length, min}
 use Rattle.vm_map.specs.History.{bound_of, between}
+use Rattle.vm_map.specs.Map.{Rises}
+use Rattle.vm_map.specs.Windows.{IsWindow}
+use Rattle.vm_map.specs.declared.window.TheConstants.{MOST_PAIRS}
 use Rattle.vm_map.specs.declared.window.Window.{Window}
 use Rattle.vm_tree_model.specs.Page.{pairs_of, high_of}
+
+-- where the keys rise, the first pairs from the start on; `most` above 28 is read as 28
+abbrev pub ShowsFirst : List ℕ → ℕ → ℕ → Window → Type 0
+ShowsFirst words start most window = (low high : ℕ) → Rises low high (pairs_of words) → IsWindow (pairs_of words) (high_of words) start (min most MOST_PAIRS) window
 
 -- all pairs of the leaf from the start up to a bound, which lies above the start and not above the high fence
 pub record IsLeafWindow (words : List ℕ) (start most : ℕ) (window : Window) : Type 0 where

@@ -5,7 +5,7 @@ ghost use Rattle.vm_map.specs.Map.{Rises, lookup_at, del_pair};
 ghost use Rattle.vm_tree_model.specs.Node.{Covers};
 ghost use Rattle.vm_tree_model.specs.Page.{pairs_of, node_of, IsLeaf};
 ghost use Rattle.vm_tree_model.specs.Edits.{IsFullFor, AddsPair, IsRefused, PutsInLeaf, IsLeafWith};
-ghost use Rattle.vm_node.specs.Loads.{Tells};
+ghost use Rattle.vm_node.specs.Loads.{IsAnswer, Tells};
 ghost use Rattle.vm_node.specs.Takes.{TakesPair};
 
 use crate::full::Full;
@@ -21,7 +21,7 @@ use vm_page::PageBuf;
 pub fn is_leaf_at<P: Place>(place: &mut P) -> bool
     requires ready { P.ready place.old }
     ensures ready { P.ready place.new }
-    ensures told { Tells P.loads place.old 1 place.new (λ words. (result ≡ true → (node_of words).tag ≡ 2) × (result ≡ false → (node_of words).tag ≢ 2)) }
+    ensures told { Tells P.loads place.old 1 place.new (λ words. IsAnswer result ((node_of words).tag ≡ 2)) }
 {
     place.word(0) == 2
 }
@@ -38,7 +38,7 @@ pub fn is_leaf(page: &PageBuf) -> bool
 pub fn covers_at<P: Place>(place: &mut P, key: u64) -> bool
     requires ready { P.ready place.old }
     ensures ready { P.ready place.new }
-    ensures told { Tells P.loads place.old 3 place.new (λ words. (result ≡ true → Covers (node_of words) key) × (result ≡ false → ¬ (Covers (node_of words) key))) }
+    ensures told { Tells P.loads place.old 3 place.new (λ words. IsAnswer result (Covers (node_of words) key)) }
 {
     place.word(2) <= key && (place.word(4) != 0 || key < place.word(3))
 }

@@ -12,8 +12,8 @@
 //! | the rest | 0 |
 //!
 //! Every call works on any 64 words, also on words that no one validated: a count above 28 is read as 28. Searches go by
-//! halves, so what is found is told of pages whose keys rise. None takes
-//! memory. A call named `.._at` loads the words that it needs of a page where it stands; what it answers it tells of each page that has them.
+//! halves, so what is found is told of pages whose keys rise. None takes memory. A call named `.._at` loads the words that it needs of a page
+//! where it stands; what it answers it tells of each page that has them.
 #![tactic(auto)]
 
 mod full;

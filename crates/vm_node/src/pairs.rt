@@ -48,8 +48,30 @@ pub fn value_at(page: &PageBuf, i: usize) -> u64
     page.get(9 + 2 * i)
 }
 
-/// Where the keys of these first pairs stop being lower than this one, found by halves from at most 5 words loaded: the pair before the place has a
-/// lower key, and the one at the place has none. Among keys that rise that is the number of pairs with a lower key.
+/// Where the keys of these first pairs begin to be above this one, found by halves from at most 5 words loaded: the pair before the place has no
+/// key above, and the one at the place has one.
+pub fn upper_bound_at<P: Place>(place: &mut P, count: usize, key: u64) -> usize
+    requires ready { P.ready place.old }
+    requires count { count ≤ MOST_PAIRS }
+    ensures ready { P.ready place.new }
+    ensures inside { result ≤ count }
+    ensures told { Tells P.loads place.old 5 place.new (λ words. count ≡ length (pairs_of words) → IsBound (pairs_of words) (key + 1) result) }
+{
+    let mut from = 0;
+    let mut upto = count;
+    'halves: while from < upto {
+        let middle = from + (upto - from) / 2;
+        if place.word(8 + 2 * middle) <= key {
+            from = middle + 1;
+        } else {
+            upto = middle;
+        }
+    }
+    from
+}
+
+/// Where the keys of these first pairs stop being lower than this one, from at most 5 words loaded: the pair before the place has a lower key, and
+/// the one at the place has none. Among keys that rise that is the number of pairs with a lower key.
 pub fn lower_bound_at<P: Place>(place: &mut P, count: usize, key: u64) -> usize
     requires ready { P.ready place.old }
     requires count { count ≤ MOST_PAIRS }
@@ -57,17 +79,10 @@ pub fn lower_bound_at<P: Place>(place: &mut P, count: usize, key: u64) -> usize
     ensures inside { result ≤ count }
     ensures told { Tells P.loads place.old 5 place.new (λ words. count ≡ length (pairs_of words) → IsBound (pairs_of words) key result) }
 {
-    let mut from = 0;
-    let mut upto = count;
-    'halves: while from < upto {
-        let middle = from + (upto - from) / 2;
-        if place.word(8 + 2 * middle) < key {
-            from = middle + 1;
-        } else {
-            upto = middle;
-        }
-    }
-    from
+    let Some(before) = key.checked_sub(1) else {
+        return 0;
+    };
+    upper_bound_at(place, count, before)
 }
 
 /// The same, of the pairs of a buffer.

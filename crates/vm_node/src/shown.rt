@@ -6,7 +6,7 @@ ghost use Rattle.vm_map.specs.Map.{Rises};
 ghost use Rattle.vm_map.specs.Windows.{IsWindow};
 ghost use Rattle.vm_tree_model.specs.Node.{Covers};
 ghost use Rattle.vm_tree_model.specs.Page.{pairs_of, high_of, node_of, IsLeaf};
-ghost use Rattle.vm_node.specs.{Loads.Tells, Shows.IsLeafWindow};
+ghost use Rattle.vm_node.specs.{Loads.Tells, Shows.IsLeafWindow, Shows.ShowsFirst};
 
 use crate::pairs::{count_at, lower_bound_at};
 use crate::place::{Place, in_buffer};
@@ -14,11 +14,12 @@ use vm_map::window::{Bound, MOST_PAIRS, Pairs, Window};
 use vm_page::PageBuf;
 
 /// The first `most` pairs from the key `start` on, or all of them, of any page whose keys rise; a `most` above 28 is read as
-/// 28. The bound is the key of the next pair where there is one, else the page's high fence, else the end. At most two words a pair and nine more are loaded.
+/// 28. The bound is the key of the next pair where there is one, else the page's high fence, else the end. At most two words a pair and nine more
+/// are loaded.
 pub fn window_at<P: Place>(place: &mut P, start: u64, most: u32) -> Window
     requires ready { P.ready place.old }
     ensures ready { P.ready place.new }
-    ensures told { Tells P.loads place.old (2 * min most MOST_PAIRS + 9) place.new (λ words. (low high : ℕ) → Rises low high (pairs_of words) → IsWindow (pairs_of words) (high_of words) start (min most MOST_PAIRS) result) }
+    ensures told { Tells P.loads place.old (2 * min most MOST_PAIRS + 9) place.new (λ words. ShowsFirst words start most result) }
 {
     let room = most.min(MOST_PAIRS as u32) as usize;
     let count = count_at(place);

@@ -1,5 +1,5 @@
 -- The count is the page's second word, or 28 where that is more.
-use Rattle.std.proofs.Common.{◌≡◌, arith}
+use Rattle.std.proofs.Common.{arith}
 use Rattle.vm_tree_model.proofs.PairWords.{length-pairs_of}
 use Rattle.vm_node.proofs.Telling.{told_word, told_so}
 use Rattle.vm_node.proofs.pairs.count_at.Goals as goal

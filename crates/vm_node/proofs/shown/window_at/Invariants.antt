@@ -1,8 +1,6 @@
 -- What was taken and the pairs from place i on are the pairs from the first place on.
-use Rattle.std.proofs.Common.{◌≡◌, ℕ, ◌+◌, ◌*◌, ◌≤◌, ◌++◌, length, drop, min}
-use Rattle.vm_tree_model.specs.Page.{pairs_of}
+use Rattle.std.proofs.Common.{◌+◌, ◌*◌, ◌≤◌, length, min}
 use Rattle.vm_node.specs.Loads.{Tells}
-use Rattle.vm_node.specs.Places.{IsBound}
 use Rattle.vm_node.proofs.WindowSteps.{IsTaking}
 use Rattle.vm_node.proofs.shown.window_at.Given as goal
 

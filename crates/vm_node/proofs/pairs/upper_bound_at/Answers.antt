@@ -1,7 +1,7 @@
 -- Each look halves what is left.
 use Rattle.std.proofs.Common.{refl, arith}
 use Rattle.vm_node.proofs.Searches.{search_begins, search_ends, search_right, search_left}
-use Rattle.vm_node.proofs.pairs.lower_bound_at.Goals as goal
+use Rattle.vm_node.proofs.pairs.upper_bound_at.Goals as goal
 
 pub halves-init : goal.halves-init
 halves-init g c = record {
@@ -16,7 +16,7 @@ halves-preserved-then-word-key g c = record {
   ready = c.word.ensures.ready;
   order = omega arith;
   inside = c.halves.invariant.inside;
-  searched = search_right g.met.P.Place.join c.halves.invariant.searched c.halves-test.true c.halves.invariant.inside refl c.word.ensures.loads c.if-word-key.true;
+  searched = search_right g.met.P.Place.join c.halves.invariant.searched c.halves-test.true c.halves.invariant.inside refl c.word.ensures.loads (omega (arith, c.if-word-key.true));
 }
 
 pub halves-preserved : goal.halves-preserved
@@ -24,7 +24,7 @@ halves-preserved g c = record {
   ready = c.word.ensures.ready;
   order = omega arith;
   inside = omega arith;
-  searched = search_left g.met.P.Place.join c.halves.invariant.searched c.halves-test.true c.halves.invariant.inside refl c.word.ensures.loads c.if-word-key.false;
+  searched = search_left g.met.P.Place.join c.halves.invariant.searched c.halves-test.true c.halves.invariant.inside refl c.word.ensures.loads (omega (arith, c.if-word-key.false));
 }
 
 pub returns-clause-told : goal.returns-clause-told
