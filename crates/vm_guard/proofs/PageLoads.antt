@@ -17,22 +17,22 @@ unmarking-loads p word done clears = ⊎_elim (λ l. ap page_words l.1) (λ r. a
 module _ {X : Type 0} where
   -- one call after the other
   pub words-then : (a b : List ℕ) (u v w : View X) → LoadsWords a u v → LoadsWords b v w → LoadsWords (a ++ b) u w
-  words-then a b u v w f g = (
-    f.0 ++ g.0,
-    g.1 ∙ ap (λ (l : List Did). l ++ g.0) f.1 ∙ append_assoc u.log f.0 g.0,
-    page_words-append f.0 g.0 ∙ ap (λ (l : List ℕ). l ++ page_words g.0) f.2 ∙ ap (λ (l : List ℕ). a ++ l) g.2,
-  )
+  words-then a b u v w f g = record {
+    done = f.done ++ g.done;
+    log = g.log ∙ ap (λ (l : List Did). l ++ g.done) f.log ∙ append_assoc u.log f.done g.done;
+    words = page_words-append f.done g.done ∙ ap (λ (l : List ℕ). l ++ page_words g.done) f.words ∙ ap (λ (l : List ℕ). a ++ l) g.words;
+  }
 
   pub looked-words : (tied : Start → ℕ → List ℕ → ℕ → List ℕ → Type 0) (p : ℕ) (said : Option X) (found : ℕ) (v w : View X) → LookTold tied p said found v w → LoadsWords [] v w
-  looked-words tied p said found v w t = (did_load (places.State p) found ∷ [], (steady-of (look-others t (λ q. q ≡ p) refl)).log, refl)
+  looked-words tied p said found v w t = record { done = did_load (places.State p) found ∷ []; log = (steady-of (look-others t (λ q. q ≡ p) refl)).log; words = refl }
 
   pub loaded-words : (p frame i found : ℕ) (v w : View X) → LoadTold p frame i found v w → LoadsWords (found ∷ []) v w
-  loaded-words p frame i found v w t = (did_load (places.Content frame i) found ∷ [], (load-quiet p frame i found v w t).steady.log, refl)
+  loaded-words p frame i found v w t = record { done = did_load (places.Content frame i) found ∷ []; log = (load-quiet p frame i found v w t).steady.log; words = refl }
 
   -- the start of a guard: a look, a mark taken away, the translation word loaded, and a look again
   pub started-words : (tied : Start → ℕ → List ℕ → ℕ → List ℕ → Type 0) (p first word seen : ℕ) (u v y x w : View X)
       → LookTold tied p None first u v → IsUnmarked p first v y → TranslationTold p word y x → LookTold tied p None seen x w → LoadsWords [] u w
   started-words tied p first word seen u v y x w l c t m =
       words-then [] [] u v w (looked-words tied p None first u v l) (words-then [] [] v y w
-      (c.done, c.quiet.steady.log, unmarking-loads p first c.done c.clears)
-      (words-then [] [] y x w (did_load (places.Translation p) word ∷ [], (translation-quiet p word y x t).steady.log, refl) (looked-words tied p None seen x w m)))
+      (record { done = c.done; log = c.quiet.steady.log; words = unmarking-loads p first c.done c.clears })
+      (words-then [] [] y x w (record { done = did_load (places.Translation p) word ∷ []; log = (translation-quiet p word y x t).steady.log; words = refl }) (looked-words tied p None seen x w m)))

@@ -16,5 +16,7 @@ page_words [] = []
 page_words (d ∷ ds) = found_in_page d.at d.found ++ page_words ds
 
 -- these words of pages the call loaded, in this order, and no others
-abbrev pub LoadsWords : {X : Type 0} → List ℕ → View X → View X → Type 0
-LoadsWords loaded v w = (done : List Did) × (w.log ≡ v.log ++ done) × (page_words done ≡ loaded)
+pub record LoadsWords {X : Type 0} (loaded : List ℕ) (v w : View X) : Type 0 where
+  pub done : List Did
+  pub log : w.log ≡ v.log ++ done
+  pub words : page_words done ≡ loaded

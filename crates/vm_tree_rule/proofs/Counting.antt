@@ -8,7 +8,7 @@ use Rattle.vm_guard.proofs.PageLoads.{words-then}
 use Rattle.vm_tree_rule.specs.Few.{height_in, LoadsHeight, LoadsWithin, ReadsInPlace}
 
 -- words that are loaded later leave the height
-pub height-stays : (a b : List ℕ) → 2 ≤ length a → height_in (a ++ b) ≡ height_in a
+height-stays : (a b : List ℕ) → 2 ≤ length a → height_in (a ++ b) ≡ height_in a
 height-stays [] b l = absurd (omega (arith, l))
 height-stays (x ∷ []) b l = absurd (omega (arith, l))
 height-stays (x ∷ y ∷ a) b l = refl
@@ -26,10 +26,9 @@ module _ {X : Type 0} where
       }
 
   -- more was loaded behind the height
-  pub height-more : (most : ℕ → ℕ) (n : ℕ) (u v w : View X) → LoadsHeight most u v → LoadsWithin (λ _. n) v w → LoadsHeight (λ h. most h + n) u w
-  height-more most n u v w f g =
+  pub height-more : (most n all h : ℕ) (u v w : View X) → LoadsHeight most h u v → LoadsWithin (λ _. n) v w → most + n ≤ all → LoadsHeight all h u w
+  height-more most n all h u v w f g le =
       let long : length (f.loaded ++ g.loaded) ≡ length f.loaded + length g.loaded = length-append f.loaded g.loaded in
-      let same : most (height_in (f.loaded ++ g.loaded)) ≡ most (height_in f.loaded) = ap most (height-stays f.loaded g.loaded f.two) in
       let two = f.two in
       let few = f.few in
       let more = g.few in
@@ -37,23 +36,24 @@ module _ {X : Type 0} where
         loaded = f.loaded ++ g.loaded;
         words = words-then f.loaded g.loaded u v w f.words g.words;
         two = omega (arith, long, two);
-        few = omega (arith, long, same, few, more);
+        is = height-stays f.loaded g.loaded f.two ∙ f.is;
+        few = omega (arith, long, few, more, le);
       }
 
   -- nothing more was
-  pub height-same : (most : ℕ → ℕ) (u v w : View X) → LoadsHeight most u v → LoadsWords [] v w → LoadsHeight most u w
-  height-same most u v w f none = record { loaded = f.loaded; words = subst (λ l. LoadsWords l u w) (append-none f.loaded) (words-then f.loaded [] u v w f.words none); two = f.two; few = f.few }
+  pub height-same : (most h : ℕ) (u v w : View X) → LoadsHeight most h u v → LoadsWords [] v w → LoadsHeight most h u w
+  height-same most h u v w f none = height-more most 0 most h u v w f (record { loaded = []; words = none; few = omega arith }) (omega arith)
 
-  pub height-within : (most : ℕ → ℕ) (v w : View X) → LoadsHeight most v w → LoadsWithin most v w
-  height-within most v w f = record { loaded = f.loaded; words = f.words; few = f.few }
+  pub height-wider : (most all h : ℕ) (v w : View X) → LoadsHeight most h v w → most ≤ all → LoadsHeight all h v w
+  height-wider most all h v w f le = let few = f.few in record { loaded = f.loaded; words = f.words; two = f.two; is = f.is; few = omega (arith, few, le) }
 
-  -- the bounds may be higher
-  pub height-wider : (most wider : ℕ → ℕ) (v w : View X) → ((h : ℕ) → most h ≤ wider h) → LoadsHeight most v w → LoadsHeight wider v w
-  height-wider most wider v w le f =
+  pub height-within : (most : ℕ → ℕ) (n h : ℕ) (v w : View X) → LoadsHeight n h v w → n ≤ most h → LoadsWithin most v w
+  height-within most n h v w f le =
       let few = f.few in
-      let le' = le (height_in f.loaded) in
-      record { loaded = f.loaded; words = f.words; two = f.two; few = omega (arith, few, le') }
+      let same : most (height_in f.loaded) ≡ most h = ap most f.is in
+      record { loaded = f.loaded; words = f.words; few = omega (arith, few, same, le) }
 
+  -- the bound may be higher
   pub within-wider : (most wider : ℕ → ℕ) (v w : View X) → ((h : ℕ) → most h ≤ wider h) → LoadsWithin most v w → LoadsWithin wider v w
   within-wider most wider v w le f =
       let few = f.few in
@@ -63,13 +63,6 @@ module _ {X : Type 0} where
   -- these words were loaded, and then nothing more
   pub words-same : (a : List ℕ) (u v w : View X) → LoadsWords a u v → LoadsWords [] v w → LoadsWords a u w
   words-same a u v w f none = subst (λ l. LoadsWords l u w) (append-none a) (words-then a [] u v w f none)
-
-  -- by the height that was loaded
-  pub height-at : (most : ℕ → ℕ) (n h : ℕ) (v w : View X) (k : LoadsHeight (λ _. n) v w) → height_in k.loaded ≡ h → n ≤ most h → LoadsHeight most v w
-  height-at most n h v w k at le =
-      let few = k.few in
-      let same : most (height_in k.loaded) ≡ most h = ap most at in
-      record { loaded = k.loaded; words = k.words; two = k.two; few = omega (arith, few, same, le) }
 
   -- page 0 was looked at, its two words loaded, and the page that it names entered
   pub meta-loaded : (root level : ℕ) (u a b y w : View X) → LoadsWords [] u a → LoadsWords (root ∷ []) a b → LoadsWords (level ∷ []) b y → LoadsWords [] y w → LoadsWords (root ∷ level ∷ []) u w

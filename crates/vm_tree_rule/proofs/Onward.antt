@@ -21,6 +21,13 @@ use Rattle.vm_tree_rule.proofs.Entering.{opened-reads}
 use Rattle.vm_tree_rule.proofs.Readings.{begins-leave, leaves-then, each-loaded, loads-behind, loads-leave, loads-reads, opened-later, reading-beside, same-page}
 use Rattle.vm_tree_rule.proofs.Readings.{reads-self, reads-then, valid-leave}
 
+-- what a search finds in the page it finds in each page that has all its words
+pub tells-whole : (page : List ℕ) (key named : ℕ) → length page ≡ 64 → FindsChild page key named → TellChild (placed 0 page) key named
+tells-whole page key named long is words with = subst (λ (l : List ℕ). FindsChild l key named) (sym (same-page words page long with)) is
+
+pub tells-none : (page : List ℕ) (key : ℕ) → length page ≡ 64 → FindsNoChild page key → TellNoChild (placed 0 page) key
+tells-none page key long is words with = subst (λ (l : List ℕ). FindsNoChild l key) (sym (same-page words page long with)) is
+
 module _ {X : Type 0} where
   -- the call began before
   pub leads-from : (v w : View X) (words : List ℕ) (key next : ℕ) → w.start ≡ v.start → LeadsTo w words key next → LeadsTo v words key next
@@ -73,13 +80,6 @@ module _ {X : Type 0} where
           (reached_child (tree_pages y) p above (suc level) key reached q words inner names (subst (λ (o : Origin). IsTied (length o.contents) p above q words) s.reads.0.start tie) level (omega arith))
 
   -- ---- a page that was read whole
-
-  -- what a search finds in the page it finds in each page that has all its words
-  pub tells-whole : (page : List ℕ) (key named : ℕ) → length page ≡ 64 → FindsChild page key named → TellChild (placed 0 page) key named
-  tells-whole page key named long is words with = subst (λ (l : List ℕ). FindsChild l key named) (sym (same-page words page long with)) is
-
-  pub tells-none : (page : List ℕ) (key : ℕ) → length page ≡ 64 → FindsNoChild page key → TellNoChild (placed 0 page) key
-  tells-none page key long is words with = subst (λ (l : List ℕ). FindsNoChild l key) (sym (same-page words page long with)) is
 
   module _ (p word frame level key : ℕ) (page : List ℕ) (y : View X) (long : length page ≡ 64) (r : IsReading p word frame y) (read : HasRead y p page) where
     -- the words that a validation would prove are those of the page buffer

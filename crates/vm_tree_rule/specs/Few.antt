@@ -1,5 +1,5 @@
 -- What a call on the tree loads of a page where it stands, and how many words of pages in all.
-use Rattle.std.specs.Prelude.{◌≤◌, length, List, map, slice_index_or, ℕ}
+use Rattle.std.specs.Prelude.{◌≡◌, ◌≤◌, length, List, map, slice_index_or, ℕ}
 use Rattle.vm_step.specs.Prelude.{View}
 use Rattle.vm_guard.specs.{Guards.Loads, PageWords.LoadsWords}
 
@@ -22,9 +22,10 @@ module _ {X : Type 0} where
     pub words : LoadsWords loaded v w
     pub few : length loaded ≤ most (height_in loaded)
 
-  -- it did, and came as far as the height
-  pub record LoadsHeight (most : ℕ → ℕ) (v w : View X) : Type 0 where
+  -- it loaded this height, and at most so many words
+  pub record LoadsHeight (most height : ℕ) (v w : View X) : Type 0 where
     pub loaded : List ℕ
     pub words : LoadsWords loaded v w
     pub two : 2 ≤ length loaded
-    pub few : length loaded ≤ most (height_in loaded)
+    pub is : height_in loaded ≡ height
+    pub few : length loaded ≤ most

@@ -170,7 +170,7 @@ pub fn descend<B: Block>(
     ensures sure { B.tells ≡ true → KnowsResident (view pass.old) → IsOk result }
     ensures known { B.tells ≡ true → KnowsResident (view pass.old) → IfOk result (λ guard. IsKnownNow guard.pid guard.word (view pass.new)) }
     ensures few { LoadsWithin (λ h. 2 + 7 * h) (view pass.old) (view pass.new) }
-    ensures height { IfOk result (λ _. LoadsHeight (λ h. 2 + 7 * h) (view pass.old) (view pass.new)) }
+    ensures height { IfOk result (λ _. (h : ℕ) × LoadsHeight (2 + 7 * h) h (view pass.old) (view pass.new)) }
 {
     let top = match enter_root(words, pass, key) {
         Ok(top) => top,

@@ -41,7 +41,7 @@ impl<B: Block> Place for InPlace<'_, B> {
         self.guard.word_at(self.words, self.pass, self.first, i)
     }
 
-    ghost none = { λ p ready. (refl, refl, refl, (refl, refl), none-loaded _ _ _ _ ready.1, ([], sym (append-none _), refl)) };
+    ghost none = { λ p ready. (refl, refl, refl, (refl, refl), none-loaded _ _ _ _ ready.1, record { done = []; log = sym (append-none _); words = refl }) };
 
     ghost join = { λ p q r first then a b. (
         b.0 ∙ a.0, b.1 ∙ a.1, b.2 ∙ a.2, (b.3.0 ∙ a.3.0, b.3.1 ∙ a.3.1),

@@ -1,7 +1,7 @@
 use Rattle.std.proofs.Common.{[], ◌*◌, ◌+◌, ◌-◌, ◌<◌, ◌∙◌, ◌∷◌, ◌≡◌, ◌≤◌, arith, refl, subst, suc, ℕ}
 use Rattle.vm_step.specs.Prelude.{view}
 use Rattle.vm_tree_rule.specs.Standing.{Awaits}
-use Rattle.vm_tree_rule.proofs.Counting.{height-at, height-more, height-stays, height-wider, height-within, within-wider}
+use Rattle.vm_tree_rule.proofs.Counting.{height-more, height-wider, height-within, within-wider}
 use Rattle.vm_tree_rule.proofs.descent.descend.Goals as goal
 use Rattle.vm_tree_rule.proofs.Readings.{opened-earlier, reads-then}
 
@@ -21,7 +21,7 @@ loop-init g c = record {
   reads = c.in-Ok.ensures.reads;
   opened = c.in-Ok.ensures.ok.0;
   left = omega arith;
-  words = (record { loaded = c.in-Ok.top.guard.pid ∷ c.in-Ok.top.level ∷ []; words = c.in-Ok.ensures.words; two = omega arith; few = omega arith }, refl);
+  words = record { loaded = c.in-Ok.top.guard.pid ∷ c.in-Ok.top.level ∷ []; words = c.in-Ok.ensures.words; two = omega arith; is = refl; few = omega arith };
   known = λ tells k. (c.in-Ok.ensures.known tells k).0;
   awaits = subst (λ n. Awaits (view c.enter_root.new.pass) c.in-Ok.top.guard.pid c.in-Ok.top.guard.word n c.args.key) (whole c.in-Ok.top.level) c.in-Ok.ensures.ok.1;
 }
@@ -46,10 +46,7 @@ loop-preserved g c =
       reads = reads-then _ _ _ i.reads k.reads.0;
       opened = opened-earlier _ _ _ _ _ _ i.reads k.reads.1;
       left = omega (arith, less);
-      words = (
-        height-wider _ _ _ _ (λ _. one-more c.loop.counter) (height-more _ 7 _ _ _ i.words.0 k.few),
-        height-stays i.words.0.loaded k.few.loaded i.words.0.two ∙ i.words.1,
-      );
+      words = height-more (2 + 7 * c.loop.counter) 7 (2 + 7 * (c.loop.counter + 1)) _ _ _ _ i.words k.few (one-more c.loop.counter);
       known = λ tells r. k.known tells (i.known tells r);
       awaits =
           k.awaits (c.in-Ok.top.level - (c.loop.counter + 1))
@@ -65,14 +62,14 @@ returns-clause-awaits g c = subst (λ n. Awaits (view c.loop.pass) c.loop.guard.
 pub returns-clause-known : goal.returns-clause-known
 returns-clause-known g c tells k = c.loop.invariant.known tells k
 
+left-over : (i n : ℕ) → i ≤ n → 2 + 7 * i ≤ 2 + 7 * n
+left-over i n l = omega (arith, l)
+
 pub returns-clause-height : goal.returns-clause-height
-returns-clause-height g c =
-    let i = c.loop.invariant in
-    let left = i.left in
-    height-at (λ h. 2 + 7 * h) (2 + 7 * c.loop.counter) c.in-Ok.top.level _ _ i.words.0 i.words.1 (omega (arith, left))
+returns-clause-height g c = (c.in-Ok.top.level, height-wider _ _ _ _ _ c.loop.invariant.words (left-over c.loop.counter c.in-Ok.top.level c.loop.invariant.left))
 
 pub returns-clause-few : goal.returns-clause-few
-returns-clause-few g c = height-within _ _ _ (returns-clause-height g c)
+returns-clause-few g c = height-within (λ h. 2 + 7 * h) _ c.in-Ok.top.level _ _ c.loop.invariant.words (left-over c.loop.counter c.in-Ok.top.level c.loop.invariant.left)
 
 pub returns-in-Err-clause-few : goal.returns-in-Err-clause-few
 returns-in-Err-clause-few g c = within-wider _ _ _ _ (λ h. omega arith) c.in-Err.ensures.few
@@ -86,9 +83,10 @@ returns-in-Err-go_down-clause-err g c = c.in-Err-go_down.ensures.err _ c.loop.in
 pub returns-in-Err-go_down-clause-sure : goal.returns-in-Err-go_down-clause-sure
 returns-in-Err-go_down-clause-sure g c tells k = c.in-Err-go_down.ensures.sure tells (c.loop.invariant.known tells k)
 
+failed-last : (i n : ℕ) → i < n → 2 + 7 * i + 7 ≤ 2 + 7 * n
+failed-last i n l = omega (arith, l)
+
 pub returns-in-Err-go_down-clause-few : goal.returns-in-Err-go_down-clause-few
 returns-in-Err-go_down-clause-few g c =
-    let i = c.loop.invariant in
-    let k = c.in-Err-go_down.ensures.few in
-    let less = c.loop-test.true in
-    height-within _ _ _ (height-at (λ h. 2 + 7 * h) (2 + 7 * c.loop.counter + 7) c.in-Ok.top.level _ _ (height-more _ 7 _ _ _ i.words.0 k) (height-stays i.words.0.loaded k.loaded i.words.0.two ∙ i.words.1) (omega (arith, less)))
+    height-within (λ h. 2 + 7 * h) (2 + 7 * c.loop.counter + 7) c.in-Ok.top.level _ _ (height-more _ 7 _ _ _ _ _ c.loop.invariant.words c.in-Err-go_down.ensures.few (omega arith))
+    (failed-last c.loop.counter c.in-Ok.top.level c.loop-test.true)

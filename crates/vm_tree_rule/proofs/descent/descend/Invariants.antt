@@ -1,6 +1,6 @@
 use Rattle.std.proofs.Common.{◌*◌, ◌+◌, ◌-◌, ◌≡◌, ◌≤◌, true}
 use Rattle.vm_step.specs.Prelude.{IsReady, IsSamePass, view}
-use Rattle.vm_tree_rule.specs.Few.{height_in, LoadsHeight}
+use Rattle.vm_tree_rule.specs.Few.{LoadsHeight}
 use Rattle.vm_tree_rule.specs.{Leaves.ReadsOn, Resident.IsKnownNow, Resident.KnowsResident, Standing.Awaits, Standing.IsOpened}
 use Rattle.vm_tree_rule.proofs.descent.descend.Given as goal
 
@@ -12,7 +12,7 @@ invariant-loop g l = record {
   reads : ReadsOn (view l.fn.pass) (view l.pass);
   opened : IsOpened (view l.fn.pass) l.guard.pid l.guard.word l.guard.frame (view l.pass);
   left : l.counter ≤ l.end;
-  words : (k : LoadsHeight (λ _. 2 + 7 * l.counter) (view l.fn.pass) (view l.pass)) × (height_in k.loaded ≡ l.end);
+  words : LoadsHeight (2 + 7 * l.counter) l.end (view l.fn.pass) (view l.pass);
   known : g.B.Block.tells ≡ true → KnowsResident (view l.fn.pass) → IsKnownNow l.guard.pid l.guard.word (view l.pass);
   awaits : Awaits (view l.pass) l.guard.pid l.guard.word (l.end - l.counter) l.key;
 }

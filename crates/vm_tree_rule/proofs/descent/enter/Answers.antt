@@ -2,6 +2,7 @@ use Rattle.std.proofs.Common.{◌∙◌, ◌≡◌, arith, Err, IfErr, IfOk, inl
 use Rattle.vm_map.specs.declared.call.Said.{Said}
 use Rattle.vm_step.specs.Prelude.{NoneExpected, NoWord, View, view}
 use Rattle.vm_guard.specs.{declared.deny.Deny.Deny, declared.opt.OptGuard.OptGuard, Denied.AgainOrNeed, Denied.IsDenied, Guards.BeginsReading}
+use Rattle.vm_guard.proofs.PageLoads.{words-then}
 use Rattle.vm_tree_rule.specs.{Resident.IsKnownNow, Standing.HasSteppedDown, Standing.StaysOpen}
 use Rattle.vm_tree_rule.proofs.descent.enter.Goals as goal
 use Rattle.vm_tree_rule.proofs.Entering.{ended, lost, stepped}
@@ -82,3 +83,12 @@ returns-in-Err-started-clause-sure g c tells k =
     let pages = c.requires.ready.table.is_shape.pages in
     let below = named-below _ _ _ c.args.named (view c.args.pass.now) (view c.start-started.new.pass) (view c.validate_silently-2.new.pass) l.reads l.same (l.next a) c.in-Ok-validate_silently.ensures.ok (c.in-Ok-validate_silently.ensures.kept tells) c.requires.names (c.requires.ready.table.tells_is ∙ tells) a in
     subst (λ r. IsOk r) c.in-Err-started.is (c.start-started.ensures.sure a (free-below c.args.named (view c.args.pass.now) k.resident below (omega (arith, high, same, pages))))
+
+pub returns-in-Ok-started-clause-words : goal.returns-in-Ok-started-clause-words
+returns-in-Ok-started-clause-words g c = words-then _ _ _ _ _ c.start-started.ensures.words c.validate_silently-2.ensures.words
+
+pub returns-in-Err-started-clause-words : goal.returns-in-Err-started-clause-words
+returns-in-Err-started-clause-words g c = words-then _ _ _ _ _ c.start-started.ensures.words c.validate_silently-2.ensures.words
+
+pub returns-in-Err-validate_silently-clause-words : goal.returns-in-Err-validate_silently-clause-words
+returns-in-Err-validate_silently-clause-words g c = words-then _ _ _ _ _ c.start-started.ensures.words c.validate_silently-2.ensures.words
