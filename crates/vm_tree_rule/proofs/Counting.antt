@@ -17,7 +17,7 @@ module _ {X : Type 0} where
   -- a page was read in place, and then nothing more was loaded
   pub place-within : (p word frame n : ℕ) (C : List (ℕ × ℕ) → Type 0) (v w z : View X) → ReadsInPlace p word frame n v w C → LoadsWords [] w z → LoadsWithin (λ _. n) v z
   place-within p word frame n C v w z r none =
-      let long : length (map (λ (l : ℕ × ℕ). l.1) r.loaded) ≡ length r.loaded = length-map (λ (l : ℕ × ℕ). l.1) r.loaded in
+      let long : length (map (λ (l : ℕ × ℕ). l.1) r.loaded) ≡ length r.loaded = length-map r.loaded (λ (l : ℕ × ℕ). l.1) in
       let few = r.few in
       record {
         loaded = map (λ (l : ℕ × ℕ). l.1) r.loaded;
