@@ -3,8 +3,10 @@
 //! An inner node is its tag, count, low fence, high fence, 1 where there is no high fence, level, two zeros, and then
 //! the lowest key and the page of each child.
 
+use crate::counted::none_loaded;
 use crate::words::{page_of, words_of};
-use vm_inner::{Full, add, child, new_root, split_inner};
+use std::process::Abort;
+use vm_inner::{Full, add, child, child_at, new_root, split_inner};
 use vm_node::pairs::count_of;
 use vm_page::PageBuf;
 
@@ -22,6 +24,14 @@ fn node_words(header: [u64; 8], first: u64, count: u64) -> [u64; 64] {
     words
 }
 
+// The child, in a buffer and in place, where seven words at most are loaded.
+fn leads_to(rt: &impl Abort, page: &PageBuf, key: u64, found: Option<u64>) {
+    assert_eq!(rt; child(page, key), found, "at {key}");
+    let mut place = none_loaded(page);
+    assert_eq!(rt; child_at(&mut place, key), found, "in place, at {key}");
+    assert!(rt; place.loaded <= 7);
+}
+
 #[test]
 fn a_new_root_has_two_children(rt: HostRuntime) {
     let mut page = page_of([7; 64]);
@@ -30,7 +40,7 @@ fn a_new_root_has_two_children(rt: HostRuntime) {
     wanted[0..12].copy_from_slice(&[3, 2, 0, 0, 1, 1, 0, 0, 0, 1, 15, 2]);
     assert_eq!(rt; words_of(&page), wanted);
     for (key, page_of_child) in [(0, 1), (14, 1), (15, 2), (u64::MAX, 2)] {
-        assert_eq!(rt; child(&page, key), Some(page_of_child), "at {key}");
+        leads_to(&rt, &page, key, Some(page_of_child));
     }
 
     // A third child, and the second one on another page.
@@ -40,7 +50,7 @@ fn a_new_root_has_two_children(rt: HostRuntime) {
     wanted[11..14].copy_from_slice(&[5, 29, 4]);
     assert_eq!(rt; words_of(&page), wanted);
     for (key, page_of_child) in [(15, 5), (28, 5), (29, 4)] {
-        assert_eq!(rt; child(&page, key), Some(page_of_child), "at {key}");
+        leads_to(&rt, &page, key, Some(page_of_child));
     }
 }
 
@@ -51,6 +61,12 @@ fn a_full_node_is_split(rt: HostRuntime) {
     assert_eq!(rt; add(&mut page, 1270, 1370), Ok(()));
     let whole = node_words([3, 28, 1000, 2000, 0, 2, 0, 0], 1000, 28);
     assert_eq!(rt; words_of(&page), whole);
+    leads_to(&rt, &page, 999, None);
+    for i in 0..28 {
+        leads_to(&rt, &page, 1000 + 10 * i, Some(1100 + 10 * i));
+        leads_to(&rt, &page, 1009 + 10 * i, Some(1100 + 10 * i));
+    }
+    leads_to(&rt, &page, u64::MAX, Some(1370));
     assert_eq!(rt; add(&mut page, 1275, 9), Err(Full));
     assert_eq!(rt; words_of(&page), whole);
 
@@ -65,17 +81,17 @@ fn a_full_node_is_split(rt: HostRuntime) {
         words_of(&right),
         node_words([3, 14, 1140, 2000, 0, 2, 0, 0], 1140, 14)
     );
-    assert_eq!(rt; child(&page, 1139), Some(1230));
-    assert_eq!(rt; child(&right, 1140), Some(1240));
+    leads_to(&rt, &page, 1139, Some(1230));
+    leads_to(&rt, &right, 1140, Some(1240));
 }
 
 #[test]
 fn any_words_are_safe(rt: HostRuntime) {
-    assert_eq!(rt; child(&PageBuf::zero(), 5), None);
+    leads_to(&rt, &PageBuf::zero(), 5, None);
     // The count is read as 28, and each of the 28 keys is the same.
     let mut page = page_of([u64::MAX; 64]);
-    assert_eq!(rt; child(&page, 5), None);
-    assert_eq!(rt; child(&page, u64::MAX), Some(u64::MAX));
+    leads_to(&rt, &page, 5, None);
+    leads_to(&rt, &page, u64::MAX, Some(u64::MAX));
     assert_eq!(rt; add(&mut page, 5, 5), Err(Full));
     assert_eq!(rt; words_of(&page), [u64::MAX; 64]);
 }

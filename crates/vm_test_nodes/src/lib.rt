@@ -7,6 +7,8 @@ mod block;
 #[cfg(test)]
 mod built;
 #[cfg(test)]
+mod counted;
+#[cfg(test)]
 mod image;
 #[cfg(test)]
 mod inner;

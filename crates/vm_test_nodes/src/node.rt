@@ -2,12 +2,16 @@
 //!
 //! A node is its tag, count, low fence, high fence, 1 where there is no high fence, level, two zeros, and then its pairs.
 
+use crate::counted::none_loaded;
 use crate::words::{page_of, words_of};
 use std::process::Abort;
 use vm_map::call::Pair;
 use vm_map::window::{Bound, Window};
-use vm_node::pairs::count_of;
-use vm_node::{Full, covers, del, find, is_leaf, put, split, window};
+use vm_node::pairs::{count_at, count_of, lower_bound_at, upper_bound_at};
+use vm_node::{
+    Full, covers, covers_at, del, find, find_at, in_buffer, is_leaf, is_leaf_at, put, split,
+    window, window_at,
+};
 use vm_page::PageBuf;
 
 // The words of a node with this header and the pairs (first, first), (first + 1, first + 1), .. and zeros behind them.
@@ -26,6 +30,33 @@ fn node_words(header: [u64; 8], first: u64, count: u64) -> [u64; 64] {
 // An empty leaf of the whole range.
 fn empty_leaf() -> PageBuf {
     page_of(node_words([2, 0, 0, 0, 1, 0, 0, 0], 0, 0))
+}
+
+// A look-up in place gives this, from eight words at most.
+fn finds(rt: &impl Abort, page: &PageBuf, key: u64, found: Option<u64>) {
+    let mut place = none_loaded(page);
+    assert_eq!(rt; find_at(&mut place, key), found, "at {key}");
+    assert!(rt; place.loaded <= 8);
+}
+
+// Whether the key is covered, in place, from three words at most.
+fn is_covered(rt: &impl Abort, page: &PageBuf, key: u64, covered: bool) {
+    let mut place = none_loaded(page);
+    assert_eq!(rt; covers_at(&mut place, key), covered, "at {key}");
+    assert!(rt; place.loaded <= 3);
+}
+
+// A window ends and shows this, in a buffer and in place, where two words a pair and nine at most are loaded.
+fn shows(rt: &impl Abort, page: &PageBuf, start: u64, most: u32, bound: Bound, pairs: &[Pair]) {
+    let mut place = none_loaded(page);
+    for shown in [
+        window(page, start, most),
+        window_at(&mut place, start, most),
+    ] {
+        assert_eq!(rt; shown.bound, bound);
+        assert_eq!(rt; shown.pairs.as_slice(), pairs);
+    }
+    assert!(rt; place.loaded <= most.min(28) * 2 + 9);
 }
 
 #[test]
@@ -76,6 +107,7 @@ fn pairs_stand_by_rising_key(rt: HostRuntime) {
     assert_eq!(rt; words_of(&page), wanted);
     for (key, found) in [(0, None), (1, Some(10)), (3, Some(31)), (last, Some(1))] {
         assert_eq!(rt; find(&page, key), found, "at {key}");
+        finds(&rt, &page, key, found);
     }
 
     assert_eq!(rt; del(&mut page, 2), Some(20));
@@ -101,39 +133,63 @@ fn fences_part_the_keys(rt: HostRuntime) {
     ] {
         assert_eq!(rt; covers(&bounded, key), in_bounded, "at {key}");
         assert_eq!(rt; covers(&endless, key), in_endless, "at {key}");
+        is_covered(&rt, &bounded, key, in_bounded);
+        is_covered(&rt, &endless, key, in_endless);
     }
-}
-
-fn shows(rt: &impl Abort, window: &Window, bound: Bound, pairs: &[Pair]) {
-    assert_eq!(rt; window.bound, bound);
-    assert_eq!(rt; window.pairs.as_slice(), pairs);
 }
 
 #[test]
 fn windows_end_before_a_pair_or_at_the_fence(rt: HostRuntime) {
     let pair = |key| Pair { key, value: key };
     let bounded = page_of(node_words([2, 14, 0, 15, 0, 0, 0, 0], 1, 14));
-    shows(
-        &rt,
-        &window(&bounded, 3, 2),
-        Bound::Key(5),
-        &[pair(3), pair(4)],
-    );
-    shows(
-        &rt,
-        &window(&bounded, 13, 2),
-        Bound::Key(15),
-        &[pair(13), pair(14)],
-    );
-    shows(&rt, &window(&bounded, 14, 5), Bound::Key(15), &[pair(14)]);
+    shows(&rt, &bounded, 3, 2, Bound::Key(5), &[pair(3), pair(4)]);
+    shows(&rt, &bounded, 13, 2, Bound::Key(15), &[pair(13), pair(14)]);
+    shows(&rt, &bounded, 14, 5, Bound::Key(15), &[pair(14)]);
 
     let mut endless = page_of(node_words([2, 2, 15, 0, 1, 0, 0, 0], 15, 2));
-    shows(&rt, &window(&endless, 16, 1), Bound::End, &[pair(16)]);
-    shows(&rt, &window(&endless, 17, 28), Bound::End, &[]);
+    shows(&rt, &endless, 16, 1, Bound::End, &[pair(16)]);
+    shows(&rt, &endless, 17, 28, Bound::End, &[]);
     let last = u64::MAX;
     assert_eq!(rt; put(&mut endless, last, last), Ok(None));
-    shows(&rt, &window(&endless, 17, 0), Bound::Key(last), &[]);
-    shows(&rt, &window(&endless, last, 1), Bound::End, &[pair(last)]);
+    shows(&rt, &endless, 17, 0, Bound::Key(last), &[]);
+    shows(&rt, &endless, last, 1, Bound::End, &[pair(last)]);
+}
+
+#[test]
+fn a_full_leaf_is_read_in_place(rt: HostRuntime) {
+    let page = page_of(node_words([2, 28, 0, 29, 0, 0, 0, 0], 1, 28));
+    finds(&rt, &page, 0, None);
+    for key in 1..29 {
+        finds(&rt, &page, key, Some(key));
+    }
+    finds(&rt, &page, 29, None);
+    finds(&rt, &page, u64::MAX, None);
+
+    // All 28 pairs, then none of them.
+    let mut place = none_loaded(&page);
+    let shown = window_at(&mut place, 0, 100);
+    assert_eq!(rt; shown.bound, Bound::Key(29));
+    assert_eq!(rt; shown.pairs.len(), 28);
+    assert!(rt; place.loaded <= 65);
+    shows(
+        &rt,
+        &page,
+        28,
+        28,
+        Bound::Key(29),
+        &[Pair { key: 28, value: 28 }],
+    );
+    shows(&rt, &page, 14, 0, Bound::Key(14), &[]);
+
+    let mut place = in_buffer(&page);
+    assert!(rt; is_leaf_at(&mut place));
+    assert_eq!(rt; count_at(&mut place), 28);
+    assert_eq!(rt; lower_bound_at(&mut place, 28, 0), 0);
+    assert_eq!(rt; lower_bound_at(&mut place, 28, 14), 13);
+    assert_eq!(rt; upper_bound_at(&mut place, 28, 14), 14);
+    assert_eq!(rt; lower_bound_at(&mut place, 28, u64::MAX), 28);
+    assert_eq!(rt; upper_bound_at(&mut place, 28, u64::MAX), 28);
+    assert_eq!(rt; find_at(&mut place, 28), Some(28));
 }
 
 #[test]
@@ -142,8 +198,14 @@ fn any_words_are_safe(rt: HostRuntime) {
     let mut page = page_of([u64::MAX; 64]);
     assert_eq!(rt; find(&page, u64::MAX), Some(u64::MAX));
     assert_eq!(rt; find(&page, 5), None);
+    finds(&rt, &page, u64::MAX, Some(u64::MAX));
+    finds(&rt, &page, 5, None);
     assert!(rt; !covers(&page, 5));
+    is_covered(&rt, &page, 5, false);
     assert_eq!(rt; window(&page, 5, 100).pairs.len(), 28);
+    let mut place = none_loaded(&page);
+    assert_eq!(rt; window_at(&mut place, 5, 100).pairs.len(), 28);
+    assert!(rt; place.loaded <= 65);
     assert_eq!(rt; put(&mut page, 5, 5), Err(Full));
     assert_eq!(rt; words_of(&page), [u64::MAX; 64]);
     assert_eq!(rt; del(&mut page, u64::MAX), Some(u64::MAX));
