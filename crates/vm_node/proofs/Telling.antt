@@ -3,7 +3,7 @@ use Rattle.std.proofs.Common.{◌≡◌, ℕ, ◌+◌, ◌≤◌, List, [], ◌�
 use Rattle.std.specs.List.{All}
 use Rattle.std.proofs.Math.Seq.{take-append_seam}
 use Rattle.std.proofs.lemmas.List.Elements.{All-head, All-tail, All-take}
-use Rattle.vm_node.specs.Loads.{Tells, IsBuffer}
+use Rattle.vm_node.specs.Loads.{Tells, IsBuffer, IsPageWith}
 
 -- this word stands at its place
 abbrev Has : List ℕ → ℕ × ℕ → Type 0
@@ -19,6 +19,13 @@ all_first words first then all = subst (All (Has words)) (take-append_seam first
 all_then : (words : List ℕ) (first then : List (ℕ × ℕ)) → All (Has words) (first ++ then) → All (Has words) then
 all_then words [] then all = all
 all_then words (l ∷ ls) then all = all_then words ls then (All-tail (Has words) l (ls ++ then) all)
+
+-- a page that has all words loaded has the first ones, and those behind them
+pub page_first : (first then : List (ℕ × ℕ)) (words : List ℕ) → IsPageWith (first ++ then) words → IsPageWith first words
+page_first first then words is = record { size = is.size; has = all_first words first then is.has }
+
+pub page_then : (first then : List (ℕ × ℕ)) (words : List ℕ) → IsPageWith (first ++ then) words → IsPageWith then words
+page_then first then words is = record { size = is.size; has = all_then words first then is.has }
 
 module _ {P : Type 0} {loads : P → List (ℕ × ℕ) → P → Type 0} where
   -- nothing was loaded
@@ -41,8 +48,8 @@ module _ {P : Type 0} {loads : P → List (ℕ × ℕ) → P → Type 0} where
     through = join p q r a.loaded b.loaded a.through b.through;
     few = simp length-append (omega (arith, a.few, b.few));
     claims = λ words is. (
-      a.claims words (record { size = is.size; has = all_first words a.loaded b.loaded is.has }),
-      b.claims words (record { size = is.size; has = all_then words a.loaded b.loaded is.has }),
+      a.claims words (page_first a.loaded b.loaded words is),
+      b.claims words (page_then a.loaded b.loaded words is),
     );
   }
 

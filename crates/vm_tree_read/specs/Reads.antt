@@ -3,11 +3,12 @@ use Rattle.std.specs.Prelude.{[], ◌++◌, ◌∷◌, ◌≡◌, ◌⊎◌, Lis
 use Rattle.vm_map.specs.{declared.call.Call.Call, declared.call.Said.Said, Map.Rises}
 use Rattle.vm_map.specs.declared.call.Call.TheVariants.{Del, Get, Put, Window}
 use Rattle.vm_tree_model.specs.{Node.Covers, Page.node_of, Page.pairs_of, Tree.map_of}
+use Rattle.vm_node.specs.Loads.{IsPageWith}
 use Rattle.vm_core.specs.Prelude.{page_at}
 use Rattle.vm_rule.specs.Prelude.{began_of, Entry, entry_of, Kept, last_of}
 use Rattle.vm_step.specs.Prelude.{View}
 use Rattle.vm_tree_laws.specs.{History.IsLegal, Keeps.KeepsTree, May.IsProved}
-use Rattle.vm_tree_rule.specs.{Leaves.OnlyReads, Leaves.ReadsOn, Seeks.HasRead, Shown.IsAgain, Turns.IsAstray, Turns.IsNeeded}
+use Rattle.vm_tree_rule.specs.{Leaves.OnlyReads, Leaves.ReadsOn, Seeks.HasLoaded, Shown.IsAgain, Turns.IsAstray, Turns.IsNeeded}
 use Rattle.vm_tree_read.specs.declared.read.TryRead.{TryRead}
 use Rattle.vm_tree_read.specs.declared.read.TryRead.TheVariants as tries
 
@@ -24,28 +25,32 @@ pub record ProvesReply (words : List ℕ) (said : Said) : Type 0 where
   pub covers : Covers (node_of words) (key_of said.call)
   pub reply : (low high : ℕ) → Rises low high (pairs_of words) → IsProved words said.call said.reply
 
+-- each page that has the words loaded proves the reply
+abbrev pub TellReply : List (ℕ × ℕ) → Said → Type 0
+TellReply loaded said = (words : List ℕ) → IsPageWith loaded words → ProvesReply words said
+
 -- At the step that made the entry the pages of the tree were such that their map is the start's map after the whole history; the history is legal
--- for the start's map; and the tree's page has these words, which are the last ones of the table's page
-pub record IsBorneOut (page : ℕ) (words : List ℕ) (v w : View Said) : Type 0 where
+-- for the start's map; and the tree's page, whose words are the last ones of the table's page, has the words that were loaded, and proves the reply
+pub record IsBorneOut (page : ℕ) (loaded : List (ℕ × ℕ)) (said : Said) (v w : View Said) : Type 0 where
   pub legal : IsLegal (map_of v.start.contents) w.seen
   pub kept : Kept Said
   pub keeps : KeepsTree (began_of v.start) kept
   pub history : kept.history ≡ w.seen
-  pub here : page_at kept.pages page ≡ words
-  pub last : (last_of w page).words ≡ words
+  pub last : page_at kept.pages page ≡ (last_of w page).words
+  pub has : IsPageWith loaded (page_at kept.pages page)
+  pub proved : IsProved (page_at kept.pages page) said.call said.reply
 
--- The call with its reply became the last entry, under the pass's first number and its next count. A page was read whole whose words are a leaf's that
--- covers the call's key, and prove the reply if their keys rise; where blocks tell their words they do, and the words are borne out
+-- The call with its reply became the last entry, under the pass's first number and its next count. Words of a page were loaded, and each page that
+-- has them is a leaf that covers the call's key, and proves the reply if its keys rise; where blocks tell their words one is borne out
 pub record IsAnswered (said : Said) (v w : View Said) : Type 0 where
   pub reads : OnlyReads v w
   pub mine : w.mine ≡ v.mine ++ entry_of v said ∷ []
   pub entry : (others : List (Entry Said)) × (w.seen ≡ (v.seen ++ others) ++ entry_of v said ∷ [])
   pub page : ℕ
-  pub words : List ℕ
-  pub read : HasRead w page words
-  pub proves : ProvesReply words said
-  pub proved : v.start.tells ≡ true → IsProved words said.call said.reply
-  pub told : v.start.tells ≡ true → IsBorneOut page words v w
+  pub loaded : List (ℕ × ℕ)
+  pub read : HasLoaded w page loaded
+  pub proves : TellReply loaded said
+  pub told : v.start.tells ≡ true → IsBorneOut page loaded said v w
 
 -- a try of this call, whose key this is: answered; or to be tried again; or for a page that is needed. Without an answer the pass has no
 -- further entry

@@ -1,24 +1,105 @@
-// The leaf of a key, and the answer that its validation makes an entry of the history.
-ghost use Rattle.std.specs.Prelude.{◌++◌, ◌≡◌, ◌≤◌, IfErr, IfOk, IsOk, length, Some, true};
+// The leaf of a key, in place or in a buffer, and the answer that its validation makes an entry of the history.
+ghost use Rattle.std.specs.Prelude.{[], ◌*◌, ◌+◌, ◌≡◌, ◌≢◌, ◌≤◌, ◌⊎◌, false, IfErr, IfOk, IsOk, length, List, Some, true, ℕ};
 ghost use Rattle.vm_tree_model.specs.{Node.Covers, Page.node_of};
-ghost use Rattle.vm_rule.specs.Prelude.{loads_at};
+ghost use Rattle.vm_node.specs.Loads.{Tells};
 ghost use Rattle.vm_step.specs.Prelude.{IsReady, IsSamePass, MayStep, NoneExpected, view};
+ghost use Rattle.vm_guard.specs.{Guards.IsReading, PageWords.LoadsWords};
 ghost use Rattle.vm_guard.specs.Denied.{AgainOrNeed, IsDenied, KeptWord};
-ghost use Rattle.vm_guard.specs.Guards.{IsReading, placed};
 ghost use Rattle.vm_tree_rule.specs.{Leaves.ReadsOn, Resident.IsKnownNow, Resident.KnowsResident, Standing.Awaits, Standing.IsOpened};
-ghost use Rattle.vm_tree_rule.specs.{Turns.IsTurnedBack};
-ghost use Rattle.vm_tree_read.specs.Reads.{IsAnswered, ProvesReply};
+ghost use Rattle.vm_tree_rule.specs.Few.{LoadsHeight, LoadsWithin, ReadsInPlace};
+ghost use Rattle.vm_tree_rule.specs.Seeks.{HasLoaded, HasRead};
+ghost use Rattle.vm_tree_rule.specs.Turns.{IsTurnedBack, TellLeaf, TellNoLeaf};
+ghost use Rattle.vm_tree_read.specs.Reads.{IsAnswered, TellReply};
 
 use vm_block::Block;
 use vm_guard::{Deny, OptGuard};
 use vm_map::call::{Reply, Said};
-use vm_node::{covers, is_leaf};
+use vm_node::{Place, covers, covers_at, is_leaf, is_leaf_at};
 use vm_page::{PageBuf, WORDS};
 use vm_rule::words::{Pass, Words};
-use vm_step::Saw;
-use vm_tree_rule::{Tree, Turn, descend};
+use vm_step::{Saw, frame_place};
+use vm_tree_rule::{InPlace, Tree, Turn, descend};
 
-/// Descends to the leaf that covers the key, and reads its words into the page. They are a leaf's that covers the key, and its guard is still
+/// Whether the page is a leaf that covers the key, from at most 4 words loaded.
+fn is_leaf_for<P: Place>(place: &mut P, key: u64) -> bool
+    requires ready { P.ready place.old }
+    ensures ready { P.ready place.new }
+    ensures told { Tells P.loads place.old 4 place.new (λ words.
+        (result ≡ true → ((node_of words).tag ≡ 2) × Covers (node_of words) key) × (result ≡ false → ((node_of words).tag ≢ 2) ⊎ (¬ (Covers (node_of words) key)))) }
+{
+    is_leaf_at(place) && covers_at(place, key)
+}
+
+/// Whether the page under the guard is that, found where it stands.
+fn is_leaf_in_place<B: Block>(
+    words: &Words<Tree, B>,
+    pass: &mut Pass<Tree>,
+    guard: &OptGuard,
+    key: u64,
+) -> bool
+    requires ready { IsReady words.now.table.shared.key B.tells words.now.table.shared.table_id pass.old }
+    requires reading { IsReading guard.now.pid guard.now.word guard.now.frame (view pass.old) }
+    ensures pass { IsSamePass pass.old pass.new }
+    ensures ready { IsReady words.now.table.shared.key B.tells words.now.table.shared.table_id pass.new }
+    ensures found { ReadsInPlace guard.now.pid guard.now.word guard.now.frame 4 (view pass.old) (view pass.new) (λ loaded. (result ≡ true → TellLeaf loaded key) × (result ≡ false → TellNoLeaf loaded key)) }
+{
+    let mut place = InPlace {
+        words,
+        pass: &mut *pass,
+        guard,
+        first: frame_place(words, guard.frame),
+    };
+    is_leaf_for(&mut place, key)
+}
+
+/// Ends a descent at a page that is no leaf of its key: where it is validated so, blocks do not tell their words.
+fn no_leaf<B: Block>(words: &Words<Tree, B>, pass: &mut Pass<Tree>, guard: &OptGuard) -> Turn
+    requires ready { IsReady words.now.table.shared.key B.tells words.now.table.shared.table_id pass.old }
+    requires reading { IsReading guard.now.pid guard.now.word guard.now.frame (view pass.old) }
+    ensures pass { IsSamePass pass.old pass.new }
+    ensures ready { IsReady words.now.table.shared.key B.tells words.now.table.shared.table_id pass.new }
+    ensures turn { (v : _) (key : ℕ) (loaded : _) → IsOpened v guard.now.pid guard.now.word guard.now.frame (view pass.old) → Awaits (view pass.old) guard.now.pid guard.now.word 0 key
+        → HasLoaded (view pass.old) guard.now.pid loaded → TellNoLeaf loaded key → IsTurnedBack v key result (view pass.new) }
+    ensures sure { (key : ℕ) (loaded : _) → B.tells ≡ true → IsKnownNow guard.now.pid guard.now.word (view pass.old) → Awaits (view pass.old) guard.now.pid guard.now.word 0 key
+        → HasLoaded (view pass.old) guard.now.pid loaded → TellNoLeaf loaded key → ⊥ }
+    ensures words { LoadsWords [] (view pass.old) (view pass.new) }
+{
+    match guard.validate_silently(words, pass) {
+        Ok(()) => Turn::astray_at(guard),
+        Err(saw) => Turn::Again(saw),
+    }
+}
+
+/// Descends to the leaf that covers the key, and looks at its tag and its fences where it stands. Its guard is still open: what is loaded of it has to
+/// be validated.
+pub fn leaf_at<B: Block>(
+    words: &Words<Tree, B>,
+    pass: &mut Pass<Tree>,
+    key: u64,
+) -> Result<OptGuard, Turn>
+    requires pass { MayStep words.now.table.shared.table_id pass.old }
+    requires pages { 1 ≤ words.now.table.shared.key.pages }
+    ensures pass { IsSamePass pass.old pass.new }
+    ensures ready { IsReady words.now.table.shared.key B.tells words.now.table.shared.table_id pass.new }
+    ensures reads { IfOk result (λ guard. ReadsOn (view pass.old) (view pass.new) × IsOpened (view pass.old) guard.pid guard.word guard.frame (view pass.new)) }
+    ensures leaf { IfOk result (λ guard. (loaded : List (ℕ × ℕ)) × HasLoaded (view pass.new) guard.pid loaded × TellLeaf loaded key) }
+    ensures err { IfErr result (λ turn. IsTurnedBack (view pass.old) key turn (view pass.new)) }
+    ensures sure { B.tells ≡ true → KnowsResident (view pass.old) → IsOk result }
+    ensures known { B.tells ≡ true → KnowsResident (view pass.old) → IfOk result (λ guard. IsKnownNow guard.pid guard.word (view pass.new)) }
+    ensures few { LoadsWithin (λ h. 2 + 7 * h + 4) (view pass.old) (view pass.new) }
+    ensures height { IfOk result (λ _. (h : ℕ) × LoadsHeight (2 + 7 * h + 4) h (view pass.old) (view pass.new)) }
+{
+    let guard = match descend(words, pass, key) {
+        Ok(guard) => guard,
+        Err(turn) => return Err(turn),
+    };
+    if is_leaf_in_place(words, pass, &guard, key) {
+        return Ok(guard);
+    }
+    Err(no_leaf(words, pass, &guard))
+}
+
+/// Descends to the leaf that covers the key, and reads its words into the page, for a writer. They are a leaf's that covers the key, and its guard is still
 /// open: they have to be validated.
 pub fn leaf_of<B: Block>(
     words: &Words<Tree, B>,
@@ -33,41 +114,34 @@ pub fn leaf_of<B: Block>(
     ensures pass { IsSamePass pass.old pass.new }
     ensures ready { IsReady words.now.table.shared.key B.tells words.now.table.shared.table_id pass.new }
     ensures reads { IfOk result (λ guard. ReadsOn (view pass.old) (view pass.new) × IsOpened (view pass.old) guard.pid guard.word guard.frame (view pass.new)) }
-    ensures loads { IfOk result (λ guard. (before : _) × (loads_at (view pass.new) guard.pid ≡ before ++ placed 0 page.new)) }
+    ensures loads { IfOk result (λ guard. HasRead (view pass.new) guard.pid page.new) }
     ensures leaf { IfOk result (λ _. ((node_of page.new).tag ≡ 2) × Covers (node_of page.new) key) }
     ensures awaits { IfOk result (λ guard. Awaits (view pass.new) guard.pid guard.word 0 key) }
     ensures err { IfErr result (λ turn. IsTurnedBack (view pass.old) key turn (view pass.new)) }
     ensures sure { B.tells ≡ true → KnowsResident (view pass.old) → IsOk result }
     ensures known { B.tells ≡ true → KnowsResident (view pass.old) → IfOk result (λ guard. IsKnownNow guard.pid guard.word (view pass.new)) }
 {
-    let guard = match descend(words, pass, key, page) {
+    let guard = match descend(words, pass, key) {
         Ok(guard) => guard,
         Err(turn) => return Err(turn),
     };
-    if is_leaf(page) {
-        if covers(page, key) {
-            return Ok(guard);
-        }
+    guard.read_all(words, pass, page);
+    if is_leaf(page) && covers(page, key) {
+        return Ok(guard);
     }
-    match guard.validate_silently(words, pass) {
-        Ok(()) => Err(Turn::astray_at(&guard)),
-        Err(saw) => Err(Turn::Again(saw)),
-    }
+    Err(no_leaf(words, pass, &guard))
 }
 
-/// Validates the leaf whose words stand in the page, and makes what they prove an entry of the history.
+/// Validates the leaf of which words were loaded, and makes what they prove an entry of the history.
 pub fn answer<B: Block>(
     words: &Words<Tree, B>,
     pass: &mut Pass<Tree>,
     guard: &OptGuard,
-    page: &PageBuf,
     said: Said,
 ) -> Result<Reply, Saw>
     requires ready { IsReady words.now.table.shared.key B.tells words.now.table.shared.table_id pass.old }
     requires reading { IsReading guard.now.pid guard.now.word guard.now.frame (view pass.old) }
-    requires size { length page.now ≡ WORDS }
-    requires loads { (before : _) × (loads_at (view pass.old) guard.now.pid ≡ before ++ placed 0 page.now) }
-    requires proves { ProvesReply page.now said }
+    requires proves { (loaded : List (ℕ × ℕ)) × HasLoaded (view pass.old) guard.now.pid loaded × TellReply loaded said }
     ensures pass { IsSamePass pass.old pass.new }
     ensures ready { IsReady words.now.table.shared.key B.tells words.now.table.shared.table_id pass.new }
     ensures reply { IfOk result (λ reply. reply ≡ said.reply) }
@@ -75,6 +149,7 @@ pub fn answer<B: Block>(
     ensures err { IfErr result (λ saw. IsDenied AgainOrNeed (KeptWord guard.now.word) NoneExpected guard.now.pid (Deny.Again saw) (view pass.old) (view pass.new)) }
     ensures sure { IsKnownNow guard.now.pid guard.now.word (view pass.old) → IsOk result }
     ensures known { IsKnownNow guard.now.pid guard.now.word (view pass.old) → KnowsResident (view pass.new) }
+    ensures words { LoadsWords [] (view pass.old) (view pass.new) }
 {
     match guard.validate(words, pass, Some(&said)) {
         Ok(()) => {

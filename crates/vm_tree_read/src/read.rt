@@ -1,18 +1,24 @@
 // The reads that never wait: each answers, or says why it is to be tried again.
-ghost use Rattle.std.specs.Prelude.{◌<◌, ◌≡◌, ◌≤◌, true};
+ghost use Rattle.std.specs.Prelude.{◌*◌, ◌+◌, ◌≡◌, ◌≤◌, List, min, true, ℕ};
+ghost use Rattle.vm_map.specs.Map.{lookup_at, Rises};
 ghost use Rattle.vm_map.specs.declared.call.Call.TheVariants.{Get, Window as ForWindow};
+ghost use Rattle.vm_tree_model.specs.Page.{pairs_of};
+ghost use Rattle.vm_node.specs.{Loads.IsPageWith, Shows.ShowsFirst};
 ghost use Rattle.vm_step.specs.Prelude.{IsReady, IsSamePass, MayStep, view};
+ghost use Rattle.vm_guard.specs.Guards.{IsReading};
 ghost use Rattle.vm_tree_rule.specs.{Resident.KnowsResident, Turns.IsTurnedBack};
+ghost use Rattle.vm_tree_rule.specs.Few.{LoadsWithin, ReadsInPlace};
 ghost use Rattle.vm_tree_read.specs.Reads.{IsDone, IsTried};
 
-use crate::answer::{answer, leaf_of};
+use crate::answer::{answer, leaf_at};
 use vm_block::Block;
+use vm_guard::OptGuard;
 use vm_map::call::{Call, Reply, Said};
-use vm_node::{find, window};
-use vm_page::PageBuf;
+use vm_map::window::{MOST_PAIRS, Window};
+use vm_node::{find_at, window_at};
 use vm_rule::words::{Pass, Words};
-use vm_step::Saw;
-use vm_tree_rule::{Tree, Turn};
+use vm_step::{Saw, frame_place};
+use vm_tree_rule::{InPlace, Tree, Turn};
 
 /// What a try of a read answers.
 #[derive(Debug, Drop)]
@@ -37,7 +43,54 @@ fn not_yet(turn: Turn) -> TryRead
     }
 }
 
-/// The value at the key.
+/// The value at the key in the page under the guard, found where it stands.
+fn find_in_place<B: Block>(
+    words: &Words<Tree, B>,
+    pass: &mut Pass<Tree>,
+    guard: &OptGuard,
+    key: u64,
+) -> Option<u64>
+    requires ready { IsReady words.now.table.shared.key B.tells words.now.table.shared.table_id pass.old }
+    requires reading { IsReading guard.now.pid guard.now.word guard.now.frame (view pass.old) }
+    ensures pass { IsSamePass pass.old pass.new }
+    ensures ready { IsReady words.now.table.shared.key B.tells words.now.table.shared.table_id pass.new }
+    ensures found { ReadsInPlace guard.now.pid guard.now.word guard.now.frame 8 (view pass.old) (view pass.new) (λ loaded.
+        (page : List ℕ) → IsPageWith loaded page → (low high : ℕ) → Rises low high (pairs_of page) → result ≡ lookup_at (pairs_of page) key) }
+{
+    let mut place = InPlace {
+        words,
+        pass: &mut *pass,
+        guard,
+        first: frame_place(words, guard.frame),
+    };
+    find_at(&mut place, key)
+}
+
+/// What the page under the guard shows from the key `start` on, found where it stands.
+fn window_in_place<B: Block>(
+    words: &Words<Tree, B>,
+    pass: &mut Pass<Tree>,
+    guard: &OptGuard,
+    start: u64,
+    most: u32,
+) -> Window
+    requires ready { IsReady words.now.table.shared.key B.tells words.now.table.shared.table_id pass.old }
+    requires reading { IsReading guard.now.pid guard.now.word guard.now.frame (view pass.old) }
+    ensures pass { IsSamePass pass.old pass.new }
+    ensures ready { IsReady words.now.table.shared.key B.tells words.now.table.shared.table_id pass.new }
+    ensures found { ReadsInPlace guard.now.pid guard.now.word guard.now.frame (2 * min most MOST_PAIRS + 9) (view pass.old) (view pass.new) (λ loaded.
+        (page : List ℕ) → IsPageWith loaded page → ShowsFirst page start most result) }
+{
+    let mut place = InPlace {
+        words,
+        pass: &mut *pass,
+        guard,
+        first: frame_place(words, guard.frame),
+    };
+    window_at(&mut place, start, most)
+}
+
+/// The value at the key. At most 2 + 11 h + 12 words of pages are loaded, h the height that page 0 tells.
 pub fn try_get<B: Block>(words: &Words<Tree, B>, pass: &mut Pass<Tree>, key: u64) -> TryRead
     requires pass { MayStep words.now.table.shared.table_id pass.old }
     requires pages { 1 ≤ words.now.table.shared.key.pages }
@@ -46,23 +99,25 @@ pub fn try_get<B: Block>(words: &Words<Tree, B>, pass: &mut Pass<Tree>, key: u64
     ensures tried { IsTried (Get key) key result (view pass.old) (view pass.new) }
     ensures sure { B.tells ≡ true → KnowsResident (view pass.old) → IsDone result }
     ensures known { B.tells ≡ true → KnowsResident (view pass.old) → KnowsResident (view pass.new) }
+    ensures few { LoadsWithin (λ h. 2 + 11 * h + 12) (view pass.old) (view pass.new) }
 {
-    let mut page = PageBuf::zero();
-    let guard = match leaf_of(words, pass, key, &mut page) {
+    let guard = match leaf_at(words, pass, key) {
         Ok(guard) => guard,
         Err(turn) => return not_yet(turn),
     };
+    let value = find_in_place(words, pass, &guard, key);
     let said = Said {
         call: Call::Get { key },
-        reply: Reply::Got(find(&page, key)),
+        reply: Reply::Got(value),
     };
-    match answer(words, pass, &guard, &page, said) {
+    match answer(words, pass, &guard, said) {
         Ok(reply) => TryRead::Done(reply),
         Err(saw) => TryRead::Again(saw),
     }
 }
 
-/// The first pairs from the key `start` on, at most `most` (1 or more) of them and at most those of one leaf.
+/// The first pairs from the key `start` on, at most `most` (1 or more) of them and at most those of one leaf. At most 2 + 11 h + 13 words of pages and two
+/// for each pair are loaded, h the height that page 0 tells.
 pub fn try_window<B: Block>(
     words: &Words<Tree, B>,
     pass: &mut Pass<Tree>,
@@ -77,17 +132,18 @@ pub fn try_window<B: Block>(
     ensures tried { IsTried (ForWindow start most) start result (view pass.old) (view pass.new) }
     ensures sure { B.tells ≡ true → KnowsResident (view pass.old) → IsDone result }
     ensures known { B.tells ≡ true → KnowsResident (view pass.old) → KnowsResident (view pass.new) }
+    ensures few { LoadsWithin (λ h. 2 + 11 * h + (2 * min most MOST_PAIRS + 13)) (view pass.old) (view pass.new) }
 {
-    let mut page = PageBuf::zero();
-    let guard = match leaf_of(words, pass, start, &mut page) {
+    let guard = match leaf_at(words, pass, start) {
         Ok(guard) => guard,
         Err(turn) => return not_yet(turn),
     };
+    let shown = window_in_place(words, pass, &guard, start, most);
     let said = Said {
         call: Call::Window { start, most },
-        reply: Reply::Win(window(&page, start, most)),
+        reply: Reply::Win(shown),
     };
-    match answer(words, pass, &guard, &page, said) {
+    match answer(words, pass, &guard, said) {
         Ok(reply) => TryRead::Done(reply),
         Err(saw) => TryRead::Again(saw),
     }
