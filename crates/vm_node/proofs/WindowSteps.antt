@@ -18,7 +18,7 @@ from_all (e ∷ es) low high start r le =
     let test : leb start e.0 ≡ true = grind (arith, nat_tests, r.0, le) in
     rw test (ap (λ (l : Pairs). e ∷ l) (from_all es (e.0 + 1) high start r.2 (omega (arith, r.0, le))))
 
-pub from_place : (m : Pairs) (low high start : ℕ) → Rises low high m → drop (place_of m start) m ≡ from_key start m
+from_place : (m : Pairs) (low high start : ℕ) → Rises low high m → drop (place_of m start) m ≡ from_key start m
 from_place [] low high start r = refl
 from_place (e ∷ es) low high start r = elim (cases_lt e.0 start) [
   | inl below ↦
@@ -32,11 +32,11 @@ from_place (e ∷ es) low high start r = elim (cases_lt e.0 start) [
 ]
 
 module _ (pairs : Pairs) (i k v : ℕ) (lt : i < length pairs) (here : get_or pairs i (0, 0) ≡ (k, v)) where
-  pub next : drop i pairs ≡ (k, v) ∷ drop (i + 1) pairs
+  next : drop i pairs ≡ (k, v) ∷ drop (i + 1) pairs
   next = drop_more pairs i (0, 0) lt ∙ ap (λ (e : ℕ × ℕ). e ∷ drop (i + 1) pairs) here
 
--- no pair is left
-pub none_left : (taken all pairs : Pairs) (i : ℕ) → length pairs ≤ i → taken ++ drop i pairs ≡ all → taken ≡ all
+-- where no pair is left
+none_left : (taken all pairs : Pairs) (i : ℕ) → length pairs ≤ i → taken ++ drop i pairs ≡ all → taken ≡ all
 none_left taken all pairs i le whole = sym (append-nil taken) ∙ rw (drop_all i pairs le) at whole
 
 -- ---- what is known of a page while its pairs are taken
