@@ -49,8 +49,8 @@ answered-shown (Window start most) reply x w a = λ told.
       step = b.history ∙ a.entry.1;
       says = refl;
       page = a.page;
-      leaf = subst (λ (l : List ℕ). (node_of l).tag ≡ 2) (sym b.here) a.proves.leaf;
-      proved = subst (λ (l : List ℕ). IsProved l (Window start most) reply) (sym b.here) (a.proved tells);
+      leaf = (a.proves _ b.has).leaf;
+      proved = b.proved;
     }
 
 -- ---- reads

@@ -1,5 +1,5 @@
 -- The leaf's validation answers the call.
-use Rattle.std.proofs.Common.{[], ⊎_elim, ◌++◌, ◌+◌, ◌∙◌, ◌∷◌, ◌≡◌, ◌⊎◌, ap, append_assoc, arith, inl, inr, length, List, refl, slice_index, Some}
+use Rattle.std.proofs.Common.{[], ⊎_elim, ◌++◌, ◌+◌, ◌∙◌, ◌∷◌, ◌≡◌, ◌≢◌, ◌⊎◌, ap, append_assoc, arith, inl, inr, length, List, refl, slice_index, Some}
 use Rattle.std.proofs.Common.{subst, sym, true, ℕ}
 use Rattle.vm_map.specs.{declared.call.Said.Said, Map.Rises}
 use Rattle.vm_tree_model.specs.{Node.Covers, Page.node_of, Page.pairs_of, Tree.map_of}
@@ -9,7 +9,7 @@ use Rattle.vm_step.specs.Prelude.{IsKeptNow, MayTell, NoneExpected, Origin, View
 use Rattle.vm_step.specs.declared.saw.Saw.{Saw}
 use Rattle.vm_guard.specs.declared.deny.Deny.TheVariants as denies
 use Rattle.vm_guard.specs.Denied.{AgainOrNeed, IsDenied, KeptWord}
-use Rattle.vm_guard.specs.Guards.{IsReading, IsValid, Loads}
+use Rattle.vm_guard.specs.Guards.{IsReading, IsValid, Loads, placed}
 use Rattle.vm_tree_laws.specs.{Descent.IsReached, History.IsLegal, Keeps.KeepsTree, May.IsProved, May.MayRead, Tied.Tied}
 use Rattle.vm_tree_laws.proofs.Descents.{kind_by_level}
 use Rattle.vm_tree_rule.specs.{Leaves.ReadsOn, Seeks.HasLoaded, Shown.IsAgain, Turns.IsAstray, Turns.TellLeaf, Turns.TellNoLeaf}
@@ -17,8 +17,8 @@ use Rattle.vm_node.specs.Loads.{IsPageWith}
 use Rattle.vm_node.proofs.Telling.{page_first, page_then}
 use Rattle.vm_tree_rule.specs.Standing.{Awaits, IsOpened, tree_pages}
 use Rattle.vm_tree_rule.proofs.Entering.{refused-turn}
-use Rattle.vm_tree_rule.proofs.Readings.{each-loaded, leaves-self, loads-behind, only-then, reads-self, valid-only}
-use Rattle.vm_tree_read.specs.Reads.{IsAnswered, key_of, TellReply}
+use Rattle.vm_tree_rule.proofs.Readings.{each-loaded, leaves-self, loads-behind, only-then, reads-self, same-page, valid-only}
+use Rattle.vm_tree_read.specs.Reads.{IsAnswered, key_of, ProvesReply, TellReply}
 
 -- the words that a validation proves are a page that has what was loaded
 page-with : (p : ℕ) (loaded : List (ℕ × ℕ)) (v : View Said) (words : List ℕ) → HasLoaded v p loaded → length words ≡ 64 → LoadsAre words (loads_at v p) → IsPageWith loaded words
@@ -90,6 +90,14 @@ leaf-must p word frame key loaded v words r has awaits tells size sees none =
     let reached : IsReached (tree_pages v) p words 0 key = awaits tells words sees.holds in
     let not = none words (page-with p loaded v words has size (sees.valid _ r.reading refl)) in
     ⊎_elim (λ leaf. ⊎_elim (λ n. n leaf.1.node.tag) (λ n. n reached.covers) not) (λ inner. absurd (omega (arith, inner.0))) (kind_by_level (tree_pages v) p words 0 key reached)
+
+-- a page that was read whole is no leaf of the key
+pub none-whole : (page : List ℕ) (key : ℕ) → length page ≡ 64 → ((node_of page).tag ≢ 2) ⊎ (¬ (Covers (node_of page) key)) → TellNoLeaf (placed 0 page) key
+none-whole page key long none words with = subst (λ (l : List ℕ). ((node_of l).tag ≢ 2) ⊎ (¬ (Covers (node_of l) key))) (sym (same-page words page long with)) none
+
+-- one that was, and what it says
+pub reply-whole : (page : List ℕ) (said : Said) → length page ≡ 64 → ProvesReply page said → TellReply (placed 0 page) said
+reply-whole page said long proves words with = subst (λ (l : List ℕ). ProvesReply l said) (sym (same-page words page long with)) proves
 
 -- more words were loaded of the page
 pub loaded-more : (p word frame : ℕ) (before loaded : List (ℕ × ℕ)) (v w : View Said) → HasLoaded v p before → Loads p word frame loaded v w → HasLoaded w p (before ++ loaded)

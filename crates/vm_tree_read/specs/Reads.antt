@@ -1,5 +1,5 @@
 -- What a read of the tree answers: the reply at one step of the history, or why it is to be tried again.
-use Rattle.std.specs.Prelude.{[], ◌++◌, ◌∷◌, ◌≡◌, ◌⊎◌, List, true, ℕ}
+use Rattle.std.specs.Prelude.{[], ◌++◌, ◌∷◌, ◌≡◌, ◌≢◌, ◌⊎◌, Bool, false, List, true, ℕ}
 use Rattle.vm_map.specs.{declared.call.Call.Call, declared.call.Said.Said, Map.Rises}
 use Rattle.vm_map.specs.declared.call.Call.TheVariants.{Del, Get, Put, Window}
 use Rattle.vm_tree_model.specs.{Node.Covers, Page.node_of, Page.pairs_of, Tree.map_of}
@@ -24,6 +24,11 @@ pub record ProvesReply (words : List ℕ) (said : Said) : Type 0 where
   pub leaf : (node_of words).tag ≡ 2
   pub covers : Covers (node_of words) (key_of said.call)
   pub reply : (low high : ℕ) → Rises low high (pairs_of words) → IsProved words said.call said.reply
+
+-- the answer to whether these words are a leaf's that covers the key
+pub record IsLeafAnswer (words : List ℕ) (key : ℕ) (answer : Bool) : Type 0 where
+  pub yes : answer ≡ true → ((node_of words).tag ≡ 2) × Covers (node_of words) key
+  pub no : answer ≡ false → ((node_of words).tag ≢ 2) ⊎ (¬ (Covers (node_of words) key))
 
 -- each page that has the words loaded proves the reply
 abbrev pub TellReply : List (ℕ × ℕ) → Said → Type 0

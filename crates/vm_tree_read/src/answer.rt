@@ -1,7 +1,7 @@
 // The leaf of a key, in place or in a buffer, and the answer that its validation makes an entry of the history.
 ghost use Rattle.std.specs.Prelude.{[], ◌*◌, ◌+◌, ◌≡◌, ◌≢◌, ◌≤◌, ◌⊎◌, false, IfErr, IfOk, IsOk, length, List, Some, true, ℕ};
 ghost use Rattle.vm_tree_model.specs.{Node.Covers, Page.node_of};
-ghost use Rattle.vm_node.specs.Loads.{Tells};
+ghost use Rattle.vm_node.specs.Loads.{IsPageWith, Tells};
 ghost use Rattle.vm_step.specs.Prelude.{IsReady, IsSamePass, MayStep, NoneExpected, view};
 ghost use Rattle.vm_guard.specs.{Guards.IsReading, PageWords.LoadsWords};
 ghost use Rattle.vm_guard.specs.Denied.{AgainOrNeed, IsDenied, KeptWord};
@@ -9,7 +9,7 @@ ghost use Rattle.vm_tree_rule.specs.{Leaves.ReadsOn, Resident.IsKnownNow, Reside
 ghost use Rattle.vm_tree_rule.specs.Few.{LoadsHeight, LoadsWithin, ReadsInPlace};
 ghost use Rattle.vm_tree_rule.specs.Seeks.{HasLoaded, HasRead};
 ghost use Rattle.vm_tree_rule.specs.Turns.{IsTurnedBack, TellLeaf, TellNoLeaf};
-ghost use Rattle.vm_tree_read.specs.Reads.{IsAnswered, TellReply};
+ghost use Rattle.vm_tree_read.specs.Reads.{IsAnswered, IsLeafAnswer, TellReply};
 
 use vm_block::Block;
 use vm_guard::{Deny, OptGuard};
@@ -24,8 +24,7 @@ use vm_tree_rule::{InPlace, Tree, Turn, descend};
 fn is_leaf_for<P: Place>(place: &mut P, key: u64) -> bool
     requires ready { P.ready place.old }
     ensures ready { P.ready place.new }
-    ensures told { Tells P.loads place.old 4 place.new (λ words.
-        (result ≡ true → ((node_of words).tag ≡ 2) × Covers (node_of words) key) × (result ≡ false → ((node_of words).tag ≢ 2) ⊎ (¬ (Covers (node_of words) key)))) }
+    ensures told { Tells P.loads place.old 4 place.new (λ page. IsLeafAnswer page key result) }
 {
     is_leaf_at(place) && covers_at(place, key)
 }
@@ -41,7 +40,7 @@ fn is_leaf_in_place<B: Block>(
     requires reading { IsReading guard.now.pid guard.now.word guard.now.frame (view pass.old) }
     ensures pass { IsSamePass pass.old pass.new }
     ensures ready { IsReady words.now.table.shared.key B.tells words.now.table.shared.table_id pass.new }
-    ensures found { ReadsInPlace guard.now.pid guard.now.word guard.now.frame 4 (view pass.old) (view pass.new) (λ loaded. (result ≡ true → TellLeaf loaded key) × (result ≡ false → TellNoLeaf loaded key)) }
+    ensures found { ReadsInPlace guard.now.pid guard.now.word guard.now.frame 4 (view pass.old) (view pass.new) (λ loaded. (page : List ℕ) → IsPageWith loaded page → IsLeafAnswer page key result) }
 {
     let mut place = InPlace {
         words,

@@ -44,7 +44,11 @@ impl<B: Block> Place for InPlace<'_, B> {
     ghost none = { λ p ready. (refl, refl, refl, (refl, refl), none-loaded _ _ _ _ ready.1, record { done = []; log = sym (append-none _); words = refl }) };
 
     ghost join = { λ p q r first then a b. (
-        b.0 ∙ a.0, b.1 ∙ a.1, b.2 ∙ a.2, (b.3.0 ∙ a.3.0, b.3.1 ∙ a.3.1),
-        loaded-then _ _ _ first then _ _ _ a.4 (subst (λ g. Loads g.pid g.word g.frame then (view q.pass.now) (view r.pass.now)) a.2 b.4),
-        subst (λ l. LoadsWords l (view p.pass.now) (view r.pass.now)) (sym (map-append (λ l. l.1) first then)) (words-then _ _ _ _ _ a.5 b.5)) };
+      b.0 ∙ a.0,
+      b.1 ∙ a.1,
+      b.2 ∙ a.2,
+      (b.3.0 ∙ a.3.0, b.3.1 ∙ a.3.1),
+      loaded-then _ _ _ first then _ _ _ a.4 (subst (λ g. Loads g.pid g.word g.frame then (view q.pass.now) (view r.pass.now)) a.2 b.4),
+      subst (λ l. LoadsWords l (view p.pass.now) (view r.pass.now)) (sym (map-append (λ l. l.1) first then)) (words-then _ _ _ _ _ a.5 b.5),
+    ) };
 }

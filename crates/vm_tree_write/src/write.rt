@@ -128,7 +128,7 @@ pub fn try_del<B: Block>(words: &Words<Tree, B>, pass: &mut Pass<Tree>, key: u64
                 call: Call::Del { key },
                 reply: Reply::Gone(None),
             };
-            match answer(words, pass, &guard, &page, said) {
+            match answer(words, pass, &guard, said) {
                 Ok(reply) => TryWrite::Done(reply),
                 Err(saw) => TryWrite::Again(saw),
             }

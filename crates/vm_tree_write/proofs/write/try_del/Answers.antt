@@ -3,6 +3,8 @@ use Rattle.std.proofs.lemmas.Bool.{false≢true}
 use Rattle.vm_map.specs.Map.{del_pair, lookup_at, Rises}
 use Rattle.vm_tree_model.specs.{Edits.IsLeafWith, Page.IsLeaf, Page.pairs_of}
 use Rattle.vm_step.specs.Prelude.{view}
+use Rattle.vm_guard.specs.Guards.{placed}
+use Rattle.vm_tree_read.proofs.Answering.{reply-whole}
 use Rattle.vm_tree_write.proofs.Telling.{del-done, del-edit, del-missed, not-valid}
 use Rattle.vm_tree_write.proofs.write.try_del.Goals as goal
 
@@ -11,13 +13,16 @@ returns-in-Err-clause-tried g c = c.not_yet.ensures.del _ _ _ c.in-Err.ensures.e
 
 pub answer-requires-clause-proves : goal.answer-requires-clause-proves
 answer-requires-clause-proves g c =
-    let same = c.copy_from.ensures.words in
-    record {
-      leaf = c.in-Ok.ensures.leaf.0;
-      covers = c.in-Ok.ensures.leaf.1;
-      reply = λ low high rises.
-          (c.in-Ok.ensures.leaf.1, refl, ap (λ (l : List ℕ). lookup_at (pairs_of l) c.args.key) (sym same) ∙ sym (c.del.ensures.was low high (subst (λ (l : List ℕ). Rises low high (pairs_of l)) (sym same) rises)) ∙ c.in-None.is);
-    }
+    let same = c.copy_from.ensures.words in (
+      placed 0 c.leaf_of.new.page,
+      c.in-Ok.ensures.loads,
+      reply-whole c.leaf_of.new.page _ c.in-Ok.ensures.size (record {
+        leaf = c.in-Ok.ensures.leaf.0;
+        covers = c.in-Ok.ensures.leaf.1;
+        reply = λ low high rises.
+            (c.in-Ok.ensures.leaf.1, refl, ap (λ (l : List ℕ). lookup_at (pairs_of l) c.args.key) (sym same) ∙ sym (c.del.ensures.was low high (subst (λ (l : List ℕ). Rises low high (pairs_of l)) (sym same) rises)) ∙ c.in-None.is);
+      }),
+    )
 
 pub returns-in-Ok-answer-clause-tried : goal.returns-in-Ok-answer-clause-tried
 returns-in-Ok-answer-clause-tried g c = del-missed c.args.key c.in-Ok-answer.reply _ _ _ c.in-Ok-answer.ensures.reply c.in-Ok.ensures.reads.0 c.in-Ok-answer.ensures.ok

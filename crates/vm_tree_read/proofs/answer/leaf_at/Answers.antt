@@ -1,0 +1,58 @@
+use Rattle.std.proofs.Common.{◌*◌, ◌+◌, arith}
+use Rattle.vm_step.specs.Prelude.{view}
+use Rattle.vm_tree_rule.proofs.{Downward.awaits-later, Surely.known-same}
+use Rattle.vm_tree_rule.proofs.Counting.{height-more, height-same, height-within, within-wider}
+use Rattle.vm_tree_rule.proofs.Readings.{loads-reads, opened-loads, reads-then}
+use Rattle.vm_tree_read.proofs.Reckoning.{place-few}
+use Rattle.vm_tree_read.proofs.answer.leaf_at.Goals as goal
+
+pub returns-in-Err-clause-sure : goal.returns-in-Err-clause-sure
+returns-in-Err-clause-sure g c tells k = c.in-Err.ensures.sure tells k
+
+pub returns-in-Err-clause-few : goal.returns-in-Err-clause-few
+returns-in-Err-clause-few g c = within-wider _ _ _ _ (λ h. omega arith) c.in-Err.ensures.few
+
+pub returns-then-is_leaf_in_place-clause-reads : goal.returns-then-is_leaf_in_place-clause-reads
+returns-then-is_leaf_in_place-clause-reads g c =
+    let loads = c.is_leaf_in_place.ensures.found.loads in
+    (reads-then _ _ _ c.in-Ok.ensures.reads.0 (loads-reads _ _ _ _ _ _ loads), opened-loads _ _ _ _ _ _ _ c.in-Ok.ensures.reads.1 loads)
+
+pub returns-then-is_leaf_in_place-clause-leaf : goal.returns-then-is_leaf_in_place-clause-leaf
+returns-then-is_leaf_in_place-clause-leaf g c =
+    let f = c.is_leaf_in_place.ensures.found in
+    (f.loaded, (_, f.loads.loads), λ page with. (f.tells page with).yes c.if-is_leaf_in_place.true)
+
+pub returns-then-is_leaf_in_place-clause-known : goal.returns-then-is_leaf_in_place-clause-known
+returns-then-is_leaf_in_place-clause-known g c tells k =
+    let loads = c.is_leaf_in_place.ensures.found.loads in
+    known-same _ _ _ _ (loads-reads _ _ _ _ _ _ loads).0 loads.table (c.in-Ok.ensures.known tells k)
+
+pub returns-then-is_leaf_in_place-clause-height : goal.returns-then-is_leaf_in_place-clause-height
+returns-then-is_leaf_in_place-clause-height g c =
+    let h = c.in-Ok.ensures.height in
+    (h.0, height-more (2 + 7 * h.0) 4 (2 + 7 * h.0 + 4) h.0 _ _ _ h.1 (place-few _ _ _ _ _ _ _ c.is_leaf_in_place.ensures.found) (omega arith))
+
+pub returns-then-is_leaf_in_place-clause-few : goal.returns-then-is_leaf_in_place-clause-few
+returns-then-is_leaf_in_place-clause-few g c =
+    let h = returns-then-is_leaf_in_place-clause-height g c in
+    height-within (λ n. 2 + 7 * n + 4) _ h.0 _ _ h.1 (omega arith)
+
+pub returns-clause-err : goal.returns-clause-err
+returns-clause-err g c =
+    let f = c.is_leaf_in_place.ensures.found in
+    c.no_leaf.ensures.turn _ c.args.key f.loaded (opened-loads _ _ _ _ _ _ _ c.in-Ok.ensures.reads.1 f.loads) (awaits-later _ _ _ _ _ _ (loads-reads _ _ _ _ _ _ f.loads).0 c.in-Ok.ensures.awaits)
+    (_, f.loads.loads) (λ page with. (f.tells page with).no c.if-is_leaf_in_place.false)
+
+pub returns-clause-sure : goal.returns-clause-sure
+returns-clause-sure g c tells k =
+    let f = c.is_leaf_in_place.ensures.found in
+    let reads = (loads-reads _ _ _ _ _ _ f.loads).0 in
+    absurd (c.no_leaf.ensures.sure c.args.key f.loaded tells (known-same _ _ _ _ reads f.loads.table (c.in-Ok.ensures.known tells k)) (awaits-later _ _ _ _ _ _ reads c.in-Ok.ensures.awaits)
+    (_, f.loads.loads) (λ page with. (f.tells page with).no c.if-is_leaf_in_place.false))
+
+pub returns-clause-few : goal.returns-clause-few
+returns-clause-few g c =
+    let h = c.in-Ok.ensures.height in
+    height-within (λ n. 2 + 7 * n + 4) _ h.0 _ _
+    (height-same _ _ _ _ _ (height-more (2 + 7 * h.0) 4 (2 + 7 * h.0 + 4) h.0 _ _ _ h.1 (place-few _ _ _ _ _ _ _ c.is_leaf_in_place.ensures.found) (omega arith)) c.no_leaf.ensures.words)
+    (omega arith)
