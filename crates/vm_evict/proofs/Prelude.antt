@@ -62,5 +62,5 @@ pub use Rattle.vm_evict.specs.Stages.{IsSeenClean, IsUnderWay, IsWaiting, IsWrit
 pub use Rattle.vm_evict.specs.Tables.{IsOfAny, KnowsKept, KnowsLocked, KnowsOn, KnowsStage}
 pub use Rattle.vm_evict.specs.Writes.{cleans, EndsWrite, HasNotSaved, HasSaved, IsAllowed, IsCopied, IsDirtyFrame, IsFoundClean, IsFoundDirty}
 pub use Rattle.vm_evict.specs.Writes.{IsFoundToWrite, IsFrameLoad, IsLeftDirty, IsOwnPlace, IsSavedNow, IsStillLocked, IsUnderWriteBack, KnowsClean}
-pub use Rattle.vm_evict.specs.Writes.{LoadsWords, raises, reads, StaysOn, WritesPage, writing_seat}
+pub use Rattle.vm_evict.specs.Writes.{CopiesWords, raises, reads, StaysOn, WritesPage, writing_seat}
 unfoldable pub use Rattle.vm_core.specs.Prelude.{at, count_more, frame_in, is_dirty, state_of, version_of, word_of}

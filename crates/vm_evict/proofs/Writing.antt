@@ -8,7 +8,7 @@ use Rattle.vm_evict.proofs.Prelude.{ext_get_or, false, frame_of, frame_read_by, 
 use Rattle.vm_evict.proofs.Prelude.{HasGiven, Held, held_at, home-else, HomeTold, if◌then◌else◌, inl, inr, is_ok, is_some, IsAllowed, IsCopied}
 use Rattle.vm_evict.proofs.Prelude.{IsFoundDirty, IsFoundToWrite, IsFrameLoad, IsLeftDirty, IsOfPage, IsOwnPlace, IsSavedNow, IsSome, IsStillLocked}
 use Rattle.vm_evict.proofs.Prelude.{IsToldOf, IsUnderWriteBack, IsWritten, keeps-self, keeps-then, KeepsFrames, KnowsClean, last_of, length}
-use Rattle.vm_evict.proofs.Prelude.{length-set, List, load-works, LoadsWords, LoadTold, Mapping, mapping-clean, mapping_of, may-bring-written}
+use Rattle.vm_evict.proofs.Prelude.{length-set, List, load-works, CopiesWords, LoadTold, Mapping, mapping-clean, mapping_of, may-bring-written}
 use Rattle.vm_evict.proofs.Prelude.{may_call, MayBring, MayRaise, MayTakeOut, nat_lt, no-fault, None, noted-more, notes_of, Ok, once-behind}
 use Rattle.vm_evict.proofs.Prelude.{open_frame, Option, or_right, Origin, out_at, OutTold, raise-held, raise-works, raises, RaiseTold, reads, refl}
 use Rattle.vm_evict.proofs.Prelude.{Result, rules, Seat, seat_of, slice_index, slice_set, Some, stands_dirty, StaysHome, StaysOn, Stored, subst, sym}
@@ -58,7 +58,7 @@ module _ {X : Type 0} (p : ℕ) where
 
   -- the words below i were loaded
   pub record Copies (i : ℕ) (page : List ℕ) (v w : View X) : Type 0 where
-    pub from : LoadsWords p v w
+    pub from : CopiesWords p v w
     pub long : length page ≡ 64
     pub front : v.start.tells ≡ true → (k : ℕ) → k < i → slice_index page k ≡ slice_index (last_of v p).words k
 

@@ -80,7 +80,7 @@ module _ {X : Type 0} where
     pub frames : (w.frames ≡ v.frames) × (w.contents ≡ v.contents)
 
   -- words of a frame were loaded, of page p, which is shared and read by no open read; all else is as it was
-  pub record LoadsWords (p : ℕ) (v w : View X) : Type 0 where
+  pub record CopiesWords (p : ℕ) (v w : View X) : Type 0 where
     pub done : List Did
     pub works : Works p done v w
     pub loads : Each IsFrameLoad done
@@ -91,7 +91,7 @@ module _ {X : Type 0} where
 
   -- so were the page's last words
   pub record IsCopied (p : ℕ) (words : List ℕ) (v w : View X) : Type 0 where
-    pub from : LoadsWords p v w
+    pub from : CopiesWords p v w
     pub same : v.start.tells ≡ true → words ≡ (last_of v p).words
 
   -- a pass that is alone knows that the page is clean

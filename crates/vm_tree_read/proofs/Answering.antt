@@ -24,6 +24,10 @@ use Rattle.vm_tree_read.specs.Reads.{IsAnswered, key_of, ProvesReply, TellReply}
 page-with : (p : ℕ) (loaded : List (ℕ × ℕ)) (v : View Said) (words : List ℕ) → HasLoaded v p loaded → length words ≡ 64 → LoadsAre words (loads_at v p) → IsPageWith loaded words
 page-with p loaded v words has size are = record { size = size; has = each-loaded words loaded (loads-behind words has.0 loaded (subst (LoadsAre words) has.1 are)) }
 
+-- those of the page buffer, where that was read whole
+pub words-are : (p : ℕ) (v : View Said) (before : List (ℕ × ℕ)) (page words : List ℕ) → length page ≡ 64 → loads_at v p ≡ before ++ placed 0 page → length words ≡ 64 → LoadsAre words (loads_at v p) → words ≡ page
+words-are p v before page words long loads size are = same-page words page long (page-with p (placed 0 page) v words (before, loads) size are)
+
 -- so they prove what is said, where their keys rise
 pub may-tell : (p : ℕ) (v : View Said) (said : Said) (loaded : List (ℕ × ℕ)) → HasLoaded v p loaded → TellReply loaded said → MayTell Tied MayRead p (Some said) v
 may-tell p v said loaded has proves =
