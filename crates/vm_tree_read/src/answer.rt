@@ -13,7 +13,7 @@ ghost use Rattle.vm_tree_read.specs.Reads.{IsAnswered, IsLeafAnswer, TellReply};
 
 use vm_block::Block;
 use vm_guard::{Deny, OptGuard};
-use vm_map::call::{Reply, Said};
+use vm_map::call::Said;
 use vm_node::{Place, covers, covers_at, is_leaf, is_leaf_at};
 use vm_page::{PageBuf, WORDS};
 use vm_rule::words::{Pass, Words};
@@ -136,25 +136,21 @@ pub fn answer<B: Block>(
     words: &Words<Tree, B>,
     pass: &mut Pass<Tree>,
     guard: &OptGuard,
-    said: Said,
-) -> Result<Reply, Saw>
+    said: &Said,
+) -> Result<(), Saw>
     requires ready { IsReady words.now.table.shared.key B.tells words.now.table.shared.table_id pass.old }
     requires reading { IsReading guard.now.pid guard.now.word guard.now.frame (view pass.old) }
-    requires proves { (loaded : List (ℕ × ℕ)) × HasLoaded (view pass.old) guard.now.pid loaded × TellReply loaded said }
+    requires proves { (loaded : List (ℕ × ℕ)) × HasLoaded (view pass.old) guard.now.pid loaded × TellReply loaded said.now }
     ensures pass { IsSamePass pass.old pass.new }
     ensures ready { IsReady words.now.table.shared.key B.tells words.now.table.shared.table_id pass.new }
-    ensures reply { IfOk result (λ reply. reply ≡ said.reply) }
-    ensures ok { IfOk result (λ _. IsAnswered said (view pass.old) (view pass.new)) }
+    ensures ok { IfOk result (λ _. IsAnswered said.now (view pass.old) (view pass.new)) }
     ensures err { IfErr result (λ saw. IsDenied AgainOrNeed (KeptWord guard.now.word) NoneExpected guard.now.pid (Deny.Again saw) (view pass.old) (view pass.new)) }
     ensures sure { IsKnownNow guard.now.pid guard.now.word (view pass.old) → IsOk result }
     ensures known { IsKnownNow guard.now.pid guard.now.word (view pass.old) → KnowsResident (view pass.new) }
     ensures words { LoadsWords [] (view pass.old) (view pass.new) }
 {
-    match guard.validate(words, pass, Some(&said)) {
-        Ok(()) => {
-            let Said { call: _, reply } = said;
-            Ok(reply)
-        }
+    match guard.validate(words, pass, Some(said)) {
+        Ok(()) => Ok(()),
         Err(saw) => Err(saw),
     }
 }

@@ -110,8 +110,8 @@ pub fn try_get<B: Block>(words: &Words<Tree, B>, pass: &mut Pass<Tree>, key: u64
         call: Call::Get { key },
         reply: Reply::Got(value),
     };
-    match answer(words, pass, &guard, said) {
-        Ok(reply) => TryRead::Done(reply),
+    match answer(words, pass, &guard, &said) {
+        Ok(()) => TryRead::Done(said.reply),
         Err(saw) => TryRead::Again(saw),
     }
 }
@@ -143,8 +143,8 @@ pub fn try_window<B: Block>(
         call: Call::Window { start, most },
         reply: Reply::Win(shown),
     };
-    match answer(words, pass, &guard, said) {
-        Ok(reply) => TryRead::Done(reply),
+    match answer(words, pass, &guard, &said) {
+        Ok(()) => TryRead::Done(said.reply),
         Err(saw) => TryRead::Again(saw),
     }
 }

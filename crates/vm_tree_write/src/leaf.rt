@@ -12,7 +12,7 @@ ghost use Rattle.vm_tree_write.specs.Writes.{IsWriteDone, SaysWorn};
 use crate::draft::redraft;
 use vm_block::Block;
 use vm_guard::{Deny, OptGuard};
-use vm_map::call::{Reply, Said};
+use vm_map::call::Said;
 use vm_page::{PageBuf, WORDS};
 use vm_rule::words::{Pass, Words};
 use vm_tree_rule::Tree;
@@ -24,19 +24,18 @@ pub fn write_leaf<B: Block>(
     guard: OptGuard,
     before: &PageBuf,
     after: &PageBuf,
-    said: Said,
-) -> Result<Reply, Deny>
+    said: &Said,
+) -> Result<(), Deny>
     requires ready { IsReady words.now.table.shared.key B.tells words.now.table.shared.table_id pass.old }
     requires reading { IsReading guard.pid guard.word guard.frame (view pass.old) }
     requires home { (view pass.old).out ≡ None }
     requires size { length before.now ≡ WORDS }
     requires loads { (earlier : _) × (loads_at (view pass.old) guard.pid ≡ earlier ++ placed 0 before.now) }
     requires leaf { (node_of before.now).tag ≡ 2 }
-    requires edit { IsLeaf before.now → IsEdit before.now after.now said.call said.reply }
+    requires edit { IsLeaf before.now → IsEdit before.now after.now said.now.call said.now.reply }
     ensures pass { IsSamePass pass.old pass.new }
     ensures ready { IsReady words.now.table.shared.key B.tells words.now.table.shared.table_id pass.new }
-    ensures reply { IfOk result (λ reply. reply ≡ said.reply) }
-    ensures ok { IfOk result (λ _. (a : IsWriteDone said (view pass.old) (view pass.new)) × (a.old ≡ before.now)) }
+    ensures ok { IfOk result (λ _. (a : IsWriteDone said.now (view pass.old) (view pass.new)) × (a.old ≡ before.now)) }
     ensures err { IfErr result (λ deny. IsDenied AgainOrWorn (KeptWord guard.word) UnlockedExpected guard.pid deny (view pass.old) (view pass.new)) }
     ensures sure { IsKnownNow guard.pid guard.word (view pass.old) → IfErr result SaysWorn }
     ensures known { IsKnownNow guard.pid guard.word (view pass.old) → KnowsResident (view pass.new) }
@@ -46,7 +45,6 @@ pub fn write_leaf<B: Block>(
         Err(deny) => return Err(deny),
     };
     redraft(words, pass, &mut held, before, after);
-    held.release(words, pass, Some(&said));
-    let Said { call: _, reply } = said;
-    Ok(reply)
+    held.release(words, pass, Some(said));
+    Ok(())
 }

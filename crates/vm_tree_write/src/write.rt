@@ -96,8 +96,8 @@ pub fn try_put<B: Block>(
                 call: Call::Put { key, value },
                 reply: Reply::Was(was),
             };
-            match write_leaf(words, pass, guard, &page, &after, said) {
-                Ok(reply) => TryWrite::Done(reply),
+            match write_leaf(words, pass, guard, &page, &after, &said) {
+                Ok(()) => TryWrite::Done(said.reply),
                 Err(deny) => unwritten(deny),
             }
         }
@@ -128,8 +128,8 @@ pub fn try_del<B: Block>(words: &Words<Tree, B>, pass: &mut Pass<Tree>, key: u64
                 call: Call::Del { key },
                 reply: Reply::Gone(None),
             };
-            match answer(words, pass, &guard, said) {
-                Ok(reply) => TryWrite::Done(reply),
+            match answer(words, pass, &guard, &said) {
+                Ok(()) => TryWrite::Done(said.reply),
                 Err(saw) => TryWrite::Again(saw),
             }
         }
@@ -138,8 +138,8 @@ pub fn try_del<B: Block>(words: &Words<Tree, B>, pass: &mut Pass<Tree>, key: u64
                 call: Call::Del { key },
                 reply: Reply::Gone(Some(was)),
             };
-            match write_leaf(words, pass, guard, &page, &after, said) {
-                Ok(reply) => TryWrite::Done(reply),
+            match write_leaf(words, pass, guard, &page, &after, &said) {
+                Ok(()) => TryWrite::Done(said.reply),
                 Err(deny) => unwritten(deny),
             }
         }

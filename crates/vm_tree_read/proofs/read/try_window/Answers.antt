@@ -1,7 +1,5 @@
-use Rattle.std.proofs.Common.{◌*◌, ◌+◌, ◌++◌, arith, min, subst, sym, true≢false}
-use Rattle.vm_map.specs.declared.call.Call.TheVariants.{Window as ForWindow}
+use Rattle.std.proofs.Common.{◌*◌, ◌+◌, ◌++◌, arith, min, sym, true≢false}
 use Rattle.vm_step.specs.Prelude.{view}
-use Rattle.vm_tree_read.specs.Reads.{IsAnswered}
 use Rattle.vm_tree_rule.proofs.{Counting.within-wider, Surely.known-same}
 use Rattle.vm_tree_rule.proofs.Readings.{loads-reads, opened-loads, reads-then}
 use Rattle.vm_tree_read.proofs.Answering.{answered-later, loaded-more, refused, reply-told}
@@ -36,9 +34,7 @@ pub returns-in-Err-answer-clause-few : goal.returns-in-Err-answer-clause-few
 returns-in-Err-answer-clause-few g c = let k = c.in-Ok.ensures.height in leaf-few (λ h. 2 + 11 * h + (2 * min c.args.most 28 + 13)) (2 * min c.args.most 28 + 9) k.0 _ _ _ _ k.1 (place-few _ _ _ _ _ _ _ c.window_in_place-shown.ensures.found) c.in-Err-answer.ensures.words (omega arith)
 
 pub returns-in-Ok-answer-clause-tried : goal.returns-in-Ok-answer-clause-tried
-returns-in-Ok-answer-clause-tried g c =
-    subst (λ r. IsAnswered (record { call = ForWindow c.args.start c.args.most; reply = r }) (view c.args.pass.now) (view c.answer.new.pass)) (sym c.in-Ok-answer.ensures.reply)
-    (answered-later _ _ _ _ (reads-then _ _ _ c.in-Ok.ensures.reads.0 (loads-reads _ _ _ _ _ _ c.window_in_place-shown.ensures.found.loads)) c.in-Ok-answer.ensures.ok)
+returns-in-Ok-answer-clause-tried g c = answered-later _ _ _ _ (reads-then _ _ _ c.in-Ok.ensures.reads.0 (loads-reads _ _ _ _ _ _ c.window_in_place-shown.ensures.found.loads)) c.in-Ok-answer.ensures.ok
 
 pub returns-in-Ok-answer-clause-known : goal.returns-in-Ok-answer-clause-known
 returns-in-Ok-answer-clause-known g c tells k = c.in-Ok-answer.ensures.known (known-same _ _ _ _ (loads-reads _ _ _ _ _ _ c.window_in_place-shown.ensures.found.loads).0 c.window_in_place-shown.ensures.found.loads.table (c.in-Ok.ensures.known tells k))

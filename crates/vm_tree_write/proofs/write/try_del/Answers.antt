@@ -25,7 +25,7 @@ answer-requires-clause-proves g c =
     )
 
 pub returns-in-Ok-answer-clause-tried : goal.returns-in-Ok-answer-clause-tried
-returns-in-Ok-answer-clause-tried g c = del-missed c.args.key c.in-Ok-answer.reply _ _ _ c.in-Ok-answer.ensures.reply c.in-Ok.ensures.reads.0 c.in-Ok-answer.ensures.ok
+returns-in-Ok-answer-clause-tried g c = del-missed c.args.key _ _ _ _ refl c.in-Ok.ensures.reads.0 c.in-Ok-answer.ensures.ok
 
 pub returns-in-Err-answer-clause-tried : goal.returns-in-Err-answer-clause-tried
 returns-in-Err-answer-clause-tried g c = not-valid _ _ _ c.args.key _ _ _ _ c.in-Ok.ensures.reads.1 c.in-Err-answer.ensures.err
@@ -41,7 +41,7 @@ write_leaf-requires-clause-edit g c =
 
 pub returns-in-Ok-write_leaf-clause-tried : goal.returns-in-Ok-write_leaf-clause-tried
 returns-in-Ok-write_leaf-clause-tried g c =
-    del-done c.args.key c.in-Ok-write_leaf.reply c.in-Some.was c.leaf_of.new.page _ _ _ c.in-Ok-write_leaf.ensures.reply c.in-Ok.ensures.reads.0 c.in-Ok-write_leaf.ensures.ok
+    del-done c.args.key _ c.in-Some.was c.leaf_of.new.page _ _ _ refl c.in-Ok.ensures.reads.0 c.in-Ok-write_leaf.ensures.ok
 
 pub returns-in-Err-write_leaf-clause-tried : goal.returns-in-Err-write_leaf-clause-tried
 returns-in-Err-write_leaf-clause-tried g c =

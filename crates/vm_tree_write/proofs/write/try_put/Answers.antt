@@ -1,4 +1,4 @@
-use Rattle.std.proofs.Common.{◌∙◌, ◌≡◌, length, List, subst, sym, ℕ}
+use Rattle.std.proofs.Common.{◌∙◌, ◌≡◌, length, List, refl, subst, sym, ℕ}
 use Rattle.std.proofs.lemmas.Bool.{false≢true}
 use Rattle.vm_map.specs.declared.window.TheConstants.{MOST_PAIRS}
 use Rattle.vm_tree_model.specs.{Edits.IsFullFor, Edits.PutsInLeaf, Node.Covers}
@@ -32,9 +32,9 @@ write_leaf-requires-clause-edit g c =
 
 pub returns-in-Ok-write_leaf-clause-tried : goal.returns-in-Ok-write_leaf-clause-tried
 returns-in-Ok-write_leaf-clause-tried g c =
-    put-done c.args.key c.args.value c.in-Ok-write_leaf.reply c.in-Ok-put.was c.leaf_of.new.page (view c.args.pass.now) (view c.leaf_of.new.pass) (view c.write_leaf.new.pass)
+    put-done c.args.key c.args.value _ c.in-Ok-put.was c.leaf_of.new.page (view c.args.pass.now) (view c.leaf_of.new.pass) (view c.write_leaf.new.pass)
     (λ full. c.in-Ok-put.ensures.room (subst (λ (l : List ℕ). IsFullFor l c.args.key) (sym c.copy_from.ensures.words) full))
-    c.in-Ok-write_leaf.ensures.reply c.in-Ok.ensures.reads.0 c.in-Ok-write_leaf.ensures.ok
+    refl c.in-Ok.ensures.reads.0 c.in-Ok-write_leaf.ensures.ok
 
 pub returns-in-Err-write_leaf-clause-tried : goal.returns-in-Err-write_leaf-clause-tried
 returns-in-Err-write_leaf-clause-tried g c =
