@@ -84,8 +84,11 @@ answered-later said v x w reads a = record {
 }
 
 -- the leaf was not validated
+pub unproved : (p word frame key : ℕ) (saw : Saw) (v x w : View Said) → IsOpened v p word frame x → IsDenied AgainOrNeed (KeptWord word) NoneExpected p (denies.Again saw) x w → ReadsOn v w × IsAgain v saw w
+unproved p word frame key saw v x w o d = refused-turn p word frame key saw v x x w o (reads-self x) (leaves-self p x) d
+
 pub refused : (p word frame key : ℕ) (saw : Saw) (v x w : View Said) → IsOpened v p word frame x → IsDenied AgainOrNeed (KeptWord word) NoneExpected p (denies.Again saw) x w → ReadsOn v w × (IsAgain v saw w ⊎ IsAstray v key saw w)
-refused p word frame key saw v x w o d = let turn = refused-turn p word frame key saw v x x w o (reads-self x) (leaves-self p x) d in (turn.0, inl turn.1)
+refused p word frame key saw v x w o d = let turn = unproved p word frame key saw v x w o d in (turn.0, inl turn.1)
 
 -- the words of a page that was reached at level 0 are a leaf's that covers the key
 pub leaf-must : (p word frame key : ℕ) (loaded : List (ℕ × ℕ)) (v : View Said) (words : List ℕ) → IsReading p word frame v → HasLoaded v p loaded → Awaits v p word 0 key → v.start.tells ≡ true → length words ≡ 64

@@ -9,7 +9,8 @@ use Rattle.vm_step.proofs.Asides.{alone-self, alone-then, holds-then, starts-the
 use Rattle.vm_pool.specs.{Brings.IsBring, Brings.KeepsLocks, declared.bring.Bring.Bring}
 use Rattle.vm_pool.specs.declared.bring.Bring.TheVariants as brings
 use Rattle.vm_tree_laws.specs.History.{IsLegal}
-use Rattle.vm_tree_rule.specs.{declared.fault.TreeFault.TreeFault, Leaves.ReadsOn}
+use Rattle.vm_tree_rule.specs.{declared.fault.TreeFault.TreeFault, declared.turn.Turn.Turn, Leaves.ReadsOn, Turns.IsTurnedBack}
+use Rattle.vm_tree_rule.specs.declared.turn.Turn.TheVariants as turns
 use Rattle.vm_tree_read.specs.{Reads.IsAnswered, Waiting.IsBringFault, Waiting.IsReplied, Waiting.NamesFault, Waiting.Waits}
 
 module _ {X : Type 0} where
@@ -43,6 +44,12 @@ module _ {X : Type 0} where
 
   pub reads-wait : (v w : View X) → ReadsOn v w → Waits v w
   reads-wait v w r = record { holds = r.0.holds; mine = r.1; seen = r.0.seen; notes = ([], r.0.notes ∙ sym (append-none v.notes)); log = (r.0.done, r.0.log); group = r.0.group; out = r.0.out; start = r.0.start; parts = r.0.parts; alone = r.0.alone }
+
+  -- a call that was turned back only read
+  pub turned-reads : (v : View X) (key : ℕ) (turn : Turn) (w : View X) → IsTurnedBack v key turn w → ReadsOn v w
+  turned-reads v key (turns.Again saw) w t = t.0
+  turned-reads v key (turns.Need p) w t = t.0
+  turned-reads v key (turns.Astray saw) w t = t.0
 
   pub bring-waits : (v w : View X) → KeepsLocks v w → Waits v w
   bring-waits v w k = record { holds = k.holds; mine = k.mine; seen = k.seen; notes = k.notes; log = k.log; group = k.group; out = k.out; start = k.start; parts = k.parts; alone = k.alone }

@@ -1,7 +1,6 @@
 -- What a read leaves and answers that waits: tries, and pages brought in between, until a try is answered or a page can't be brought.
-use Rattle.std.specs.Prelude.{[], ◌++◌, ◌∷◌, ◌≡◌, ◌≤◌, ◌⊎◌, false, List, true, ℕ}
-use Rattle.vm_map.specs.{declared.call.Call.Call, declared.call.Said.Said}
-use Rattle.vm_map.specs.declared.call.Call.TheVariants.{Del, Get, Put, Window}
+use Rattle.std.specs.Prelude.{[], ◌++◌, ◌∷◌, ◌≡◌, ◌⊎◌, false, List, true, ℕ}
+use Rattle.vm_map.specs.{declared.call.Said.Said}
 use Rattle.vm_tree_model.specs.Tree.{map_of}
 use Rattle.vm_rule.specs.Prelude.{Entry, entry_of, has, StartsWith}
 use Rattle.vm_step.specs.Prelude.{HoldsPage, StaysAlone, View}
@@ -12,13 +11,6 @@ use Rattle.vm_tree_rule.specs.{declared.fault.TreeFault.TreeFault, Leaves.ReadsO
 use Rattle.vm_tree_rule.specs.declared.fault.TreeFault.TheVariants as faults
 use Rattle.vm_tree_read.specs.Reads.{IsAnswered}
 
--- the call is a read
-abbrev pub IsReadCall : Call → Type 0
-IsReadCall (Get key) = Unit {0}
-IsReadCall (Window start most) = 1 ≤ most
-IsReadCall (Put key value) = ⊥
-IsReadCall (Del key) = ⊥
-
 -- the fault that such an answer names, where it names one
 abbrev pub NamesFault : Bring → TreeFault → Type 0
 NamesFault (brings.Device p count) fault = fault ≡ faults.Device p count
@@ -26,6 +18,10 @@ NamesFault (brings.Worn p) fault = fault ≡ faults.Worn p
 NamesFault brings.Brought fault = ⊥
 NamesFault (brings.Again saw) fault = ⊥
 NamesFault (brings.Dry looks) fault = ⊥
+
+-- it names none: the page was brought, or others came before, or no frame was free
+abbrev pub NamesNone : Bring → Type 0
+NamesNone answer = (fault : TreeFault) → ¬ (NamesFault answer fault)
 
 module _ {X : Type 0} where
   -- the pass holds just the locks that it held, made no entry, and has its block at home; what it has seen, its notes and its steps go on
@@ -49,6 +45,18 @@ module _ {X : Type 0} where
   pub data IsBringFault (p : ℕ) (fault : TreeFault) (v w : View X) : Type 0 where
     device : (home cap before after q count : ℕ) (old new : List ℕ) → IsBring home cap p old new before after v w (brings.Device q count) → fault ≡ faults.Device q count → IsBringFault p fault v w
     worn : (home cap before after q : ℕ) (old new : List ℕ) → IsBring home cap p old new before after v w (brings.Worn q) → fault ≡ faults.Worn q → IsBringFault p fault v w
+
+  -- page p was to be brought, once, and the answer names no fault
+  pub record IsFetched (p : ℕ) (v w : View X) : Type 0 where
+    pub home : ℕ
+    pub cap : ℕ
+    pub old : List ℕ
+    pub new : List ℕ
+    pub before : ℕ
+    pub after : ℕ
+    pub answer : Bring
+    pub brings : IsBring home cap p old new before after v w answer
+    pub none : NamesNone answer
 
 -- the last try was answered; those before it, and the pages brought, made no entry. So the entry is the pass's next one, and stands behind all
 -- that the pass had seen; the pass holds what it held

@@ -1,14 +1,15 @@
 // The reads that never wait: each answers, or says why it is to be tried again.
-ghost use Rattle.std.specs.Prelude.{◌*◌, ◌+◌, ◌≡◌, ◌≤◌, List, min, true, ℕ};
+ghost use Rattle.std.specs.Prelude.{◌*◌, ◌+◌, ◌≡◌, ◌≤◌, IfErr, IfOk, IsOk, List, min, true, ℕ};
 ghost use Rattle.vm_map.specs.Map.{lookup_at, Rises};
 ghost use Rattle.vm_map.specs.declared.call.Call.TheVariants.{Get, Window as ForWindow};
+ghost use Rattle.vm_map.specs.declared.call.Reply.TheVariants.{Got};
 ghost use Rattle.vm_tree_model.specs.Page.{pairs_of};
 ghost use Rattle.vm_node.specs.{Loads.IsPageWith, Shows.ShowsFirst};
 ghost use Rattle.vm_step.specs.Prelude.{IsReady, IsSamePass, MayStep, view};
 ghost use Rattle.vm_guard.specs.Guards.{IsReading};
 ghost use Rattle.vm_tree_rule.specs.{Resident.KnowsResident, Turns.IsTurnedBack};
 ghost use Rattle.vm_tree_rule.specs.Few.{LoadsWithin, ReadsInPlace};
-ghost use Rattle.vm_tree_read.specs.Reads.{IsDone, IsTried};
+ghost use Rattle.vm_tree_read.specs.Reads.{IsAnswered, IsDone, IsTried};
 
 use crate::answer::{answer, leaf_at};
 use vm_block::Block;
@@ -90,6 +91,37 @@ fn window_in_place<B: Block>(
     window_at(&mut place, start, most)
 }
 
+/// The value at the key, or why there is none to tell yet. A reply has room for a window's pairs, so it is made where it is handed on, and not here.
+pub(crate) fn look_up<B: Block>(
+    words: &Words<Tree, B>,
+    pass: &mut Pass<Tree>,
+    key: u64,
+) -> Result<Option<u64>, Turn>
+    requires pass { MayStep words.now.table.shared.table_id pass.old }
+    requires pages { 1 ≤ words.now.table.shared.key.pages }
+    ensures pass { IsSamePass pass.old pass.new }
+    ensures ready { IsReady words.now.table.shared.key B.tells words.now.table.shared.table_id pass.new }
+    ensures ok { IfOk result (λ value. IsAnswered (record { call = Get key; reply = Got value }) (view pass.old) (view pass.new)) }
+    ensures err { IfErr result (λ turn. IsTurnedBack (view pass.old) key turn (view pass.new)) }
+    ensures sure { B.tells ≡ true → KnowsResident (view pass.old) → IsOk result }
+    ensures known { B.tells ≡ true → KnowsResident (view pass.old) → KnowsResident (view pass.new) }
+    ensures few { LoadsWithin (λ h. 2 + 11 * h + 12) (view pass.old) (view pass.new) }
+{
+    let guard = match leaf_at(words, pass, key) {
+        Ok(guard) => guard,
+        Err(turn) => return Err(turn),
+    };
+    let value = find_in_place(words, pass, &guard, key);
+    let said = Said {
+        call: Call::Get { key },
+        reply: Reply::Got(value),
+    };
+    match answer(words, pass, &guard, &said) {
+        Ok(()) => Ok(value),
+        Err(saw) => Err(Turn::Again(saw)),
+    }
+}
+
 /// The value at the key. At most 2 + 11 h + 12 words of pages are loaded, h the height that page 0 tells.
 pub fn try_get<B: Block>(words: &Words<Tree, B>, pass: &mut Pass<Tree>, key: u64) -> TryRead
     requires pass { MayStep words.now.table.shared.table_id pass.old }
@@ -101,18 +133,9 @@ pub fn try_get<B: Block>(words: &Words<Tree, B>, pass: &mut Pass<Tree>, key: u64
     ensures known { B.tells ≡ true → KnowsResident (view pass.old) → KnowsResident (view pass.new) }
     ensures few { LoadsWithin (λ h. 2 + 11 * h + 12) (view pass.old) (view pass.new) }
 {
-    let guard = match leaf_at(words, pass, key) {
-        Ok(guard) => guard,
-        Err(turn) => return not_yet(turn),
-    };
-    let value = find_in_place(words, pass, &guard, key);
-    let said = Said {
-        call: Call::Get { key },
-        reply: Reply::Got(value),
-    };
-    match answer(words, pass, &guard, &said) {
-        Ok(()) => TryRead::Done(said.reply),
-        Err(saw) => TryRead::Again(saw),
+    match look_up(words, pass, key) {
+        Ok(value) => TryRead::Done(Reply::Got(value)),
+        Err(turn) => not_yet(turn),
     }
 }
 

@@ -1,24 +1,24 @@
 // The reads that wait: they try again until they are answered, and bring the pages that they need.
 ghost use Rattle.std.specs.Prelude.{◌<◌, ◌≡◌, ◌≤◌, IfErr, IfOk, None};
 ghost use Rattle.vm_map.specs.declared.call.Call.TheVariants.{Get, Window as ForWindow};
-ghost use Rattle.vm_step.specs.Prelude.{AreHeld, IsReady, IsSamePass, MayStep, view};
-ghost use Rattle.vm_tree_read.specs.Reads.{IsTried, key_of};
-ghost use Rattle.vm_tree_read.specs.Waiting.{IsBringFault, IsFaulted, IsReadCall, IsReplied, LosesNone, NamesFault, Waits};
+ghost use Rattle.vm_step.specs.Prelude.{AreHeld, IsReady, IsSamePass, view};
+ghost use Rattle.vm_tree_read.specs.Waiting.{IsBringFault, IsFaulted, IsFetched, IsReplied, LosesNone, NamesFault, NamesNone, Waits};
 
-use crate::read::{TryRead, try_get, try_window};
+use crate::read::{TryRead, look_up, try_window};
 use crossbeam_utils::Backoff;
 use std::sync::Wait;
 use vm_block::Block;
 use vm_exmap::Interface;
-use vm_map::call::{Call, Reply};
+use vm_map::call::Reply;
 use vm_pool::{Bring, Pool};
-use vm_rule::words::{Pass, Words};
-use vm_tree_rule::{Tree, TreeFault};
+use vm_rule::words::Pass;
+use vm_tree_rule::{Tree, TreeFault, Turn};
 
 /// Why a page can't be brought, by what bringing it answered: a device failed, or a page is at the last version. After any other answer there is
 /// no fault, and it has backed off where others came before or no frame was free.
 pub fn settle(answer: Bring, backoff: &Backoff) -> Result<(), TreeFault>
     ensures fault { IfErr result (λ fault. NamesFault answer fault) }
+    ensures none { IfOk result (λ _. NamesNone answer) }
 {
     match answer {
         Bring::Brought => Ok(()),
@@ -53,61 +53,11 @@ pub fn fetch<B: Block>(
     ensures iface { (iface.new.home ≡ iface.old.home) × (iface.new.cap ≡ iface.old.cap) }
     ensures lost { LosesNone iface.old.frames (view pass.old) iface.new.frames (view pass.new) }
     ensures waits { Waits (view pass.old) (view pass.new) }
+    ensures ok { IfOk result (λ _. IsFetched pid (view pass.old) (view pass.new)) }
     ensures err { IfErr result (λ fault. IsBringFault pid fault (view pass.old) (view pass.new)) }
 {
     let answer = pool.bring(pass, iface, pid);
     settle(answer, backoff)
-}
-
-/// A try of this read.
-fn try_read<B: Block>(words: &Words<Tree, B>, pass: &mut Pass<Tree>, call: &Call) -> TryRead
-    requires pass { MayStep words.now.table.shared.table_id pass.old }
-    requires pages { 1 ≤ words.now.table.shared.key.pages }
-    requires reads { IsReadCall call.now }
-    ensures pass { IsSamePass pass.old pass.new }
-    ensures ready { IsReady words.now.table.shared.key B.tells words.now.table.shared.table_id pass.new }
-    ensures tried { IsTried call.now (key_of call.now) result (view pass.old) (view pass.new) }
-{
-    match call {
-        Call::Get { key } => try_get(words, pass, *key),
-        Call::Window { start, most } => try_window(words, pass, *start, *most),
-        _ => unreachable!(),
-    }
-}
-
-/// The reply to this read.
-fn read<R: Wait, B: Block>(
-    rt: &R,
-    pool: &Pool<Tree, B>,
-    pass: &mut Pass<Tree>,
-    iface: &mut Interface,
-    call: &Call,
-) -> Result<Reply, TreeFault>
-    requires ready { IsReady pool.now.words.table.shared.key B.tells pool.now.words.table.shared.table_id pass.old }
-    requires pages { 1 ≤ pool.now.words.table.shared.key.pages }
-    requires reads { IsReadCall call.now }
-    requires home { (view pass.old).out ≡ None }
-    requires frames { AreHeld iface.old.frames (view pass.old) }
-    ensures pass { IsSamePass pass.old pass.new }
-    ensures ready { IsReady pool.now.words.table.shared.key B.tells pool.now.words.table.shared.table_id pass.new }
-    ensures held { AreHeld iface.new.frames (view pass.new) }
-    ensures iface { (iface.new.home ≡ iface.old.home) × (iface.new.cap ≡ iface.old.cap) }
-    ensures lost { LosesNone iface.old.frames (view pass.old) iface.new.frames (view pass.new) }
-    ensures ok { IfOk result (λ reply. IsReplied (record { call = call.now; reply = reply }) (view pass.old) (view pass.new)) }
-    ensures err { IfErr result (λ fault. IsFaulted (key_of call.now) fault (view pass.old) (view pass.new)) }
-{
-    let backoff = Backoff::new();
-    for _ in rt.forever() {
-        match try_read(&pool.words, pass, call) {
-            TryRead::Done(reply) => return Ok(reply),
-            TryRead::Again(_) => backoff.snooze(),
-            TryRead::Need(pid) => match fetch(pool, pass, iface, pid, &backoff) {
-                Ok(()) => {}
-                Err(fault) => return Err(fault),
-            },
-        }
-    }
-    unreachable!()
 }
 
 /// The value at the key.
@@ -130,7 +80,19 @@ pub fn get<R: Wait, B: Block>(
     ensures ok { IfOk result (λ reply. IsReplied (record { call = Get key; reply = reply }) (view pass.old) (view pass.new)) }
     ensures err { IfErr result (λ fault. IsFaulted key fault (view pass.old) (view pass.new)) }
 {
-    read(rt, pool, pass, iface, &Call::Get { key })
+    let backoff = Backoff::new();
+    for _ in rt.forever() {
+        match look_up(&pool.words, pass, key) {
+            Ok(value) => return Ok(Reply::Got(value)),
+            Err(Turn::Again(_)) => backoff.snooze(),
+            Err(Turn::Astray(_)) => backoff.snooze(),
+            Err(Turn::Need(pid)) => match fetch(pool, pass, iface, pid, &backoff) {
+                Ok(()) => {}
+                Err(fault) => return Err(fault),
+            },
+        }
+    }
+    unreachable!()
 }
 
 /// The first pairs from the key `start` on, at most `most` (1 or more) of them and at most those of one leaf.
@@ -155,5 +117,16 @@ pub fn window<R: Wait, B: Block>(
     ensures ok { IfOk result (λ reply. IsReplied (record { call = ForWindow start most; reply = reply }) (view pass.old) (view pass.new)) }
     ensures err { IfErr result (λ fault. IsFaulted start fault (view pass.old) (view pass.new)) }
 {
-    read(rt, pool, pass, iface, &Call::Window { start, most })
+    let backoff = Backoff::new();
+    for _ in rt.forever() {
+        match try_window(&pool.words, pass, start, most) {
+            TryRead::Done(reply) => return Ok(reply),
+            TryRead::Again(_) => backoff.snooze(),
+            TryRead::Need(pid) => match fetch(pool, pass, iface, pid, &backoff) {
+                Ok(()) => {}
+                Err(fault) => return Err(fault),
+            },
+        }
+    }
+    unreachable!()
 }

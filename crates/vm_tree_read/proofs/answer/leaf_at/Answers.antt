@@ -1,5 +1,4 @@
 use Rattle.std.proofs.Common.{◌*◌, ◌+◌, arith}
-use Rattle.vm_step.specs.Prelude.{view}
 use Rattle.vm_tree_rule.proofs.{Downward.awaits-later, Surely.known-same}
 use Rattle.vm_tree_rule.proofs.Counting.{height-more, height-same, height-within, within-wider}
 use Rattle.vm_tree_rule.proofs.Readings.{loads-reads, opened-loads, reads-then}

@@ -1,8 +1,5 @@
-use Rattle.std.proofs.Common.{inl, inr, List, ℕ, ◌⊎◌, ◌≢◌}
-use Rattle.vm_tree_model.specs.{Node.Covers, Page.node_of}
-use Rattle.vm_step.specs.Prelude.{view}
+use Rattle.std.proofs.Common.{inl, inr}
 use Rattle.vm_guard.specs.Guards.{placed}
-use Rattle.vm_tree_rule.specs.Turns.{TellNoLeaf}
 use Rattle.vm_tree_rule.proofs.{Downward.awaits-later, Surely.known-same}
 use Rattle.vm_tree_rule.proofs.Readings.{loads-reads, opened-loads, reads-then}
 use Rattle.vm_tree_read.proofs.Answering.{none-whole}

@@ -1,5 +1,4 @@
 use Rattle.std.proofs.Common.{◌*◌, ◌+◌, ◌++◌, arith, min, sym, true≢false}
-use Rattle.vm_step.specs.Prelude.{view}
 use Rattle.vm_tree_rule.proofs.{Counting.within-wider, Surely.known-same}
 use Rattle.vm_tree_rule.proofs.Readings.{loads-reads, opened-loads, reads-then}
 use Rattle.vm_tree_read.proofs.Answering.{answered-later, loaded-more, refused, reply-told}

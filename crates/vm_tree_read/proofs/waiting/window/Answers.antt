@@ -3,7 +3,7 @@ use Rattle.vm_exmap.proofs.Handing.{held-on}
 use Rattle.vm_tree_read.proofs.Lasting.{reads-wait, replied, waits-self, waits-then}
 use Rattle.vm_tree_read.proofs.Losing.{loses-same, loses-then, lost-on}
 use Rattle.vm_tree_read.proofs.Rounds.{tried-call, tried-none, tried-read}
-use Rattle.vm_tree_read.proofs.waiting.read.Goals as goal
+use Rattle.vm_tree_read.proofs.waiting.window.Goals as goal
 
 pub loop-init : goal.loop-init
 loop-init g c = tried-none _ _ (waits-self _) c.requires.ready c.requires.frames
@@ -12,18 +12,18 @@ pub loop-preserved-in-Again : goal.loop-preserved-in-Again
 loop-preserved-in-Again g c =
     let i = c.loop.invariant in
     let reads = c.in-Again.ensures.tried.0 in
-    tried-read i c.try_read.new.pass c.try_read.ensures.pass reads c.try_read.ensures.ready (waits-then _ _ _ i.left (reads-wait _ _ reads))
+    tried-read i c.try_window.new.pass c.try_window.ensures.pass reads c.try_window.ensures.ready (waits-then _ _ _ i.left (reads-wait _ _ reads))
 
 pub fetch-requires-clause-frames : goal.fetch-requires-clause-frames
 fetch-requires-clause-frames g c =
-    let reads = c.in-Need.ensures.tried.0 in held-on _ (view c.loop.pass) (view c.try_read.new.pass) c.loop.invariant.held reads.0.start reads.0.frames.0
+    let reads = c.in-Need.ensures.tried.0 in held-on _ (view c.loop.pass) (view c.try_window.new.pass) c.loop.invariant.held reads.0.start reads.0.frames.0
 
 pub loop-preserved : goal.loop-preserved
 loop-preserved g c =
     let i = c.loop.invariant in
     let k = c.fetch.ensures in
     let reads = c.in-Need.ensures.tried.0 in
-    tried-call i c.try_read.new.pass c.try_read.ensures.pass reads c.fetch.new.pass c.fetch.new.iface k.pass k.ready k.held k.lost k.iface (waits-then _ _ _ i.left (waits-then _ _ _ (reads-wait _ _ reads) k.waits))
+    tried-call i c.try_window.new.pass c.try_window.ensures.pass reads c.fetch.new.pass c.fetch.new.iface k.pass k.ready k.held k.lost k.iface (waits-then _ _ _ i.left (waits-then _ _ _ (reads-wait _ _ reads) k.waits))
 
 pub returns-in-Err-clause-err : goal.returns-in-Err-clause-err
 returns-in-Err-clause-err g c =
@@ -31,7 +31,7 @@ returns-in-Err-clause-err g c =
     let needed = c.in-Need.ensures.tried in
     record {
       tried = view c.loop.pass;
-      found = view c.try_read.new.pass;
+      found = view c.try_window.new.pass;
       waits = i.left;
       page = c.in-Need.pid;
       reads = needed.0;
@@ -47,9 +47,9 @@ returns-in-Done-clause-ok g c = replied _ _ _ _ c.loop.invariant.left c.in-Done.
 
 pub returns-in-Err-clause-lost : goal.returns-in-Err-clause-lost
 returns-in-Err-clause-lost g c =
-    lost-on c.args.iface.now.frames c.loop.iface.frames c.fetch.new.iface.frames (view c.args.pass.now) (view c.loop.pass) (view c.try_read.new.pass) (view c.fetch.new.pass) c.loop.invariant.lost c.in-Need.ensures.tried.0 c.fetch.ensures.lost
+    lost-on c.args.iface.now.frames c.loop.iface.frames c.fetch.new.iface.frames (view c.args.pass.now) (view c.loop.pass) (view c.try_window.new.pass) (view c.fetch.new.pass) c.loop.invariant.lost c.in-Need.ensures.tried.0 c.fetch.ensures.lost
 
 pub returns-in-Done-clause-lost : goal.returns-in-Done-clause-lost
 returns-in-Done-clause-lost g c =
     let k = c.in-Done.ensures.tried.reads in
-    loses-then c.args.iface.now.frames c.loop.iface.frames c.loop.iface.frames (view c.args.pass.now) (view c.loop.pass) (view c.try_read.new.pass) c.loop.invariant.lost (loses-same c.loop.iface.frames c.loop.iface.frames (view c.loop.pass) (view c.try_read.new.pass) k.frames.0 (λ f e. e))
+    loses-then c.args.iface.now.frames c.loop.iface.frames c.loop.iface.frames (view c.args.pass.now) (view c.loop.pass) (view c.try_window.new.pass) c.loop.invariant.lost (loses-same c.loop.iface.frames c.loop.iface.frames (view c.loop.pass) (view c.try_window.new.pass) k.frames.0 (λ f e. e))

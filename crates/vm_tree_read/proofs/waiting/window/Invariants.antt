@@ -1,6 +1,6 @@
 use Rattle.vm_tree_read.specs.Waiting.{Waits}
 use Rattle.vm_tree_read.proofs.Rounds.{HasTried}
-use Rattle.vm_tree_read.proofs.waiting.read.Given as goal
+use Rattle.vm_tree_read.proofs.waiting.window.Given as goal
 
 -- no try was answered yet
 abbrev pub invariant-loop : goal.invariant-loop

@@ -1,0 +1,63 @@
+use Rattle.std.proofs.Common.{subst}
+use Rattle.vm_step.specs.Prelude.{view}
+use Rattle.vm_exmap.proofs.Handing.{held-on}
+use Rattle.vm_tree_rule.specs.Turns.{IsTurnedBack}
+use Rattle.vm_tree_read.proofs.Lasting.{reads-wait, replied, turned-reads, waits-self, waits-then}
+use Rattle.vm_tree_read.proofs.Losing.{loses-same, loses-then, lost-on}
+use Rattle.vm_tree_read.proofs.Rounds.{tried-call, tried-none, tried-read}
+use Rattle.vm_tree_read.proofs.waiting.get.Goals as goal
+
+pub loop-init : goal.loop-init
+loop-init g c = tried-none _ _ (waits-self _) c.requires.ready c.requires.frames
+
+pub loop-preserved-in-Err-Again : goal.loop-preserved-in-Err-Again
+loop-preserved-in-Err-Again g c =
+    let i = c.loop.invariant in
+    let reads = turned-reads _ _ _ _ c.in-Err-Again.ensures.err in
+    tried-read i c.look_up.new.pass c.look_up.ensures.pass reads c.look_up.ensures.ready (waits-then _ _ _ i.left (reads-wait _ _ reads))
+
+pub loop-preserved-in-Err-Astray : goal.loop-preserved-in-Err-Astray
+loop-preserved-in-Err-Astray g c =
+    let i = c.loop.invariant in
+    let reads = turned-reads _ _ _ _ c.in-Err-Astray.ensures.err in
+    tried-read i c.look_up.new.pass c.look_up.ensures.pass reads c.look_up.ensures.ready (waits-then _ _ _ i.left (reads-wait _ _ reads))
+
+pub fetch-requires-clause-frames : goal.fetch-requires-clause-frames
+fetch-requires-clause-frames g c =
+    let reads = turned-reads _ _ _ _ c.in-Err-Need.ensures.err in held-on _ (view c.loop.pass) (view c.look_up.new.pass) c.loop.invariant.held reads.0.start reads.0.frames.0
+
+pub loop-preserved : goal.loop-preserved
+loop-preserved g c =
+    let i = c.loop.invariant in
+    let k = c.fetch.ensures in
+    let reads = turned-reads _ _ _ _ c.in-Err-Need.ensures.err in
+    tried-call i c.look_up.new.pass c.look_up.ensures.pass reads c.fetch.new.pass c.fetch.new.iface k.pass k.ready k.held k.lost k.iface (waits-then _ _ _ i.left (waits-then _ _ _ (reads-wait _ _ reads) k.waits))
+
+pub returns-in-Err-clause-err : goal.returns-in-Err-clause-err
+returns-in-Err-clause-err g c =
+    let i = c.loop.invariant in
+    let needed = subst (λ t. IsTurnedBack (view c.loop.pass) c.args.key t (view c.look_up.new.pass)) c.in-Err-Need.field-0-is c.in-Err-Need.ensures.err in
+    record {
+      tried = view c.loop.pass;
+      found = view c.look_up.new.pass;
+      waits = i.left;
+      page = c.in-Err-Need.pid;
+      reads = needed.0;
+      needed = needed.1;
+      fault_is = c.in-Err.ensures.err;
+      leaves = waits-then _ _ _ i.left (waits-then _ _ _ (reads-wait _ _ needed.0) c.fetch.ensures.waits);
+    }
+
+pub returns-in-Ok-clause-ok : goal.returns-in-Ok-clause-ok
+returns-in-Ok-clause-ok g c = replied _ _ _ _ c.loop.invariant.left c.in-Ok.ensures.ok
+
+-- ---- no frame is lost
+
+pub returns-in-Err-clause-lost : goal.returns-in-Err-clause-lost
+returns-in-Err-clause-lost g c =
+    lost-on c.args.iface.now.frames c.loop.iface.frames c.fetch.new.iface.frames (view c.args.pass.now) (view c.loop.pass) (view c.look_up.new.pass) (view c.fetch.new.pass) c.loop.invariant.lost (turned-reads _ _ _ _ c.in-Err-Need.ensures.err) c.fetch.ensures.lost
+
+pub returns-in-Ok-clause-lost : goal.returns-in-Ok-clause-lost
+returns-in-Ok-clause-lost g c =
+    let k = c.in-Ok.ensures.ok.reads in
+    loses-then c.args.iface.now.frames c.loop.iface.frames c.loop.iface.frames (view c.args.pass.now) (view c.loop.pass) (view c.look_up.new.pass) c.loop.invariant.lost (loses-same c.loop.iface.frames c.loop.iface.frames (view c.loop.pass) (view c.look_up.new.pass) k.frames.0 (λ f e. e))
