@@ -92,12 +92,10 @@ tight p word frame key before page v x w o long loads leaf count full k =
 pub put-edit : (key value : ℕ) (was : Option ℕ) (page after : List ℕ) → Covers (node_of page) key → (IsLeaf page → Covers (node_of page) key → PutsInLeaf page after key value was) → IsLeaf page → IsEdit page after (Put key value) (Was was)
 put-edit key value was page after covers puts leaf = let k = puts leaf covers in (covers, k.was_there, k.after)
 
-pub put-done : (key value : ℕ) (reply : Reply) (was : Option ℕ) (page : List ℕ) (v x w : View Said) → ¬ (IsFullFor page key) → reply ≡ Was was → ReadsOn v x → (a : IsWriteDone (record { call = Put key value; reply = Was was }) x w) × (a.old ≡ page)
-    → (a : IsWriteDone (record { call = Put key value; reply = reply }) v w) × ¬ (IsFullFor a.old key)
-put-done key value reply was page v x w room is reads a =
-    let later = written-later (record { call = Put key value; reply = Was was }) v x w reads a.0 in
-    subst (λ (r : Reply). (b : IsWriteDone (record { call = Put key value; reply = r }) v w) × ¬ (IsFullFor b.old key)) (sym is)
-    (later.0, subst (λ (l : List ℕ). ¬ (IsFullFor l key)) (sym (later.1 ∙ a.1)) room)
+pub put-done : (key value : ℕ) (was : Option ℕ) (page : List ℕ) (v x w : View Said) → ¬ (IsFullFor page key) → ReadsOn v x → (a : IsWriteDone (record { call = Put key value; reply = Was was }) x w) × (a.old ≡ page)
+    → (a : IsWriteDone (record { call = Put key value; reply = Was was }) v w) × ¬ (IsFullFor a.old key)
+put-done key value was page v x w room reads a =
+    let later = written-later (record { call = Put key value; reply = Was was }) v x w reads a.0 in (later.0, subst (λ (l : List ℕ). ¬ (IsFullFor l key)) (sym (later.1 ∙ a.1)) room)
 
 -- the del of a leaf that has the key edits it
 pub del-edit : (key : ℕ) (was : Option ℕ) (page after : List ℕ) → Covers (node_of page) key → ((low high : ℕ) → Rises low high (pairs_of page) → was ≡ lookup_at (pairs_of page) key) → (IsLeaf page → IsLeafWith page after (del_pair (pairs_of page) key)) → IsLeaf page → IsEdit page after (Del key) (Gone was)
@@ -107,17 +105,14 @@ del-edit key was page after covers is dels leaf = (covers, is _ _ leaf.node.rise
 had-not : (key was : ℕ) → ¬ (IsVain (record { call = Del key; reply = Gone (Some was) }))
 had-not key was k = let no : Gone (Some was) ≡ Gone None = ap (λ (s : Said). s.reply) k.1 in absurd (cc)
 
-pub del-done : (key : ℕ) (reply : Reply) (was : ℕ) (page : List ℕ) (v x w : View Said) → reply ≡ Gone (Some was) → ReadsOn v x → (a : IsWriteDone (record { call = Del key; reply = Gone (Some was) }) x w) × (a.old ≡ page)
-    → (IsWriteDone (record { call = Del key; reply = reply }) v w × ¬ (IsVain (record { call = Del key; reply = reply }))) ⊎ (IsAnswered (record { call = Del key; reply = reply }) v w × IsVain (record { call = Del key; reply = reply }))
-del-done key reply was page v x w is reads a =
-    let later = written-later (record { call = Del key; reply = Gone (Some was) }) v x w reads a.0 in
-    inl (subst (λ (r : Reply). IsWriteDone (record { call = Del key; reply = r }) v w × ¬ (IsVain (record { call = Del key; reply = r }))) (sym is) (later.0, had-not key was))
+pub del-done : (key was : ℕ) (page : List ℕ) (v x w : View Said) → ReadsOn v x → (a : IsWriteDone (record { call = Del key; reply = Gone (Some was) }) x w) × (a.old ≡ page)
+    → (IsWriteDone (record { call = Del key; reply = Gone (Some was) }) v w × ¬ (IsVain (record { call = Del key; reply = Gone (Some was) }))) ⊎ (IsAnswered (record { call = Del key; reply = Gone (Some was) }) v w × IsVain (record { call = Del key; reply = Gone (Some was) }))
+del-done key was page v x w reads a = inl ((written-later (record { call = Del key; reply = Gone (Some was) }) v x w reads a.0).0, had-not key was)
 
 -- a put is no del
 pub put-not : (key value : ℕ) (reply : Reply) → ¬ (IsVain (record { call = Put key value; reply = reply }))
 put-not key value reply k = let no : Put key value ≡ Del k.0 = ap (λ (s : Said). s.call) k.1 in absurd (cc)
 
-pub del-missed : (key : ℕ) (reply : Reply) (v x w : View Said) → reply ≡ Gone None → ReadsOn v x → IsAnswered (record { call = Del key; reply = Gone None }) x w
-    → (IsWriteDone (record { call = Del key; reply = reply }) v w × ¬ (IsVain (record { call = Del key; reply = reply }))) ⊎ (IsAnswered (record { call = Del key; reply = reply }) v w × IsVain (record { call = Del key; reply = reply }))
-del-missed key reply v x w is reads a =
-    inr (subst (λ (r : Reply). IsAnswered (record { call = Del key; reply = r }) v w × IsVain (record { call = Del key; reply = r })) (sym is) (answered-later (record { call = Del key; reply = Gone None }) v x w reads a, (key, refl)))
+pub del-missed : (key : ℕ) (v x w : View Said) → ReadsOn v x → IsAnswered (record { call = Del key; reply = Gone None }) x w
+    → (IsWriteDone (record { call = Del key; reply = Gone None }) v w × ¬ (IsVain (record { call = Del key; reply = Gone None }))) ⊎ (IsAnswered (record { call = Del key; reply = Gone None }) v w × IsVain (record { call = Del key; reply = Gone None }))
+del-missed key v x w reads a = inr (answered-later (record { call = Del key; reply = Gone None }) v x w reads a, (key, refl))

@@ -1,7 +1,7 @@
 -- What a write of the tree answers: the reply at the release of the leaf, or why it is to be tried again.
-use Rattle.std.specs.Prelude.{[], ◌++◌, ◌+◌, ◌∷◌, ◌≡◌, ◌≢◌, ◌⊎◌, length, List, None, slice_index, Some, true, ℕ}
+use Rattle.std.specs.Prelude.{[], ◌++◌, ◌+◌, ◌∷◌, ◌≡◌, ◌≢◌, ◌⊎◌, length, List, None, Option, slice_index, Some, true, ℕ}
 use Rattle.vm_map.specs.{declared.call.Call.TheVariants.Del, declared.call.Call.TheVariants.Put, declared.call.Reply.TheVariants.Gone}
-use Rattle.vm_map.specs.{declared.call.Said.Said, declared.window.TheConstants.MOST_PAIRS}
+use Rattle.vm_map.specs.{declared.call.Reply.Reply, declared.call.Said.Said, declared.window.TheConstants.MOST_PAIRS}
 use Rattle.vm_tree_model.specs.{Edits.IsFullFor, Node.Covers, Tree.map_of}
 use Rattle.vm_tree_model.specs.Page.{IsLeaf, node_of, pairs_of}
 use Rattle.vm_core.specs.Prelude.{LOCKED, page_at, version_of, word_of}
@@ -15,7 +15,8 @@ use Rattle.vm_guard.specs.Denied.{AgainOrWorn, IsDenied, KeptWord}
 use Rattle.vm_tree_laws.specs.{History.IsLegal, Keeps.KeepsTree, May.IsEdit, Tied.Tied}
 use Rattle.vm_tree_rule.specs.{Leaves.ReadsOn, Seeks.HasRead, Shown.IsShown, Standing.Awaits, Standing.IsOpened, Turns.IsAstray, Turns.IsNeeded}
 use Rattle.vm_tree_read.specs.Reads.{IsAnswered}
-use Rattle.vm_tree_write.specs.declared.write.TryWrite.{TryWrite}
+use Rattle.vm_tree_write.specs.{declared.write.Tried.Tried, declared.write.TryWrite.TryWrite}
+use Rattle.vm_tree_write.specs.declared.write.Tried.TheVariants as onces
 use Rattle.vm_tree_write.specs.declared.write.TryWrite.TheVariants as tries
 
 module _ {X : Type 0} where
@@ -137,6 +138,14 @@ IsDel key (tries.Again saw) v w = ReadsOn v w × IsWriteToTry v key saw w
 IsDel key (tries.Need p) v w = ReadsOn v w × IsNeeded v key p w
 IsDel key (tries.Worn p) v w = ReadsOn v w × IsWornLeaf v key p w
 IsDel key (tries.Tight p) v w = ⊥
+
+-- a try with its reply, which is made of the value that the key had
+abbrev pub with_reply : (Option ℕ → Reply) → Tried → TryWrite
+with_reply reply (onces.Done was) = tries.Done (reply was)
+with_reply reply (onces.Again saw) = tries.Again saw
+with_reply reply (onces.Need p) = tries.Need p
+with_reply reply (onces.Worn p) = tries.Worn p
+with_reply reply (onces.Tight p) = tries.Tight p
 
 -- the call was answered, or no try can answer it before a split, or ever
 abbrev pub IsFinal : TryWrite → Type 0

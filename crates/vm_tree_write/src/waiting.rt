@@ -7,7 +7,7 @@ ghost use Rattle.vm_tree_write.specs.Splits.{KeepsLocksOnly};
 ghost use Rattle.vm_tree_write.specs.Waiting.{IsPutFaulted, IsRoomFault, IsWriteFaulted, IsWriteReplied};
 
 use crate::tries::{TrySplit, try_split};
-use crate::write::{TryWrite, try_del, try_put};
+use crate::write::{Tried, del_once, put_once};
 use crossbeam_utils::Backoff;
 use std::sync::Wait;
 use vm_block::Block;
@@ -40,15 +40,15 @@ pub fn del<R: Wait, B: Block>(
 {
     let backoff = Backoff::new();
     for _ in rt.forever() {
-        match try_del(&pool.words, pass, key) {
-            TryWrite::Done(reply) => return Ok(reply),
-            TryWrite::Again(_) => backoff.snooze(),
-            TryWrite::Need(pid) => match fetch(pool, pass, iface, pid, &backoff) {
+        match del_once(&pool.words, pass, key) {
+            Tried::Done(was) => return Ok(Reply::Gone(was)),
+            Tried::Again(_) => backoff.snooze(),
+            Tried::Need(pid) => match fetch(pool, pass, iface, pid, &backoff) {
                 Ok(()) => {}
                 Err(fault) => return Err(fault),
             },
-            TryWrite::Worn(pid) => return Err(TreeFault::Worn { pid }),
-            TryWrite::Tight(_) => unreachable!(),
+            Tried::Worn(pid) => return Err(TreeFault::Worn { pid }),
+            Tried::Tight(_) => unreachable!(),
         }
     }
     unreachable!()
@@ -118,15 +118,15 @@ pub fn put<R: Wait, B: Block>(
 {
     let backoff = Backoff::new();
     for _ in rt.forever() {
-        match try_put(&pool.words, pass, key, value) {
-            TryWrite::Done(reply) => return Ok(reply),
-            TryWrite::Again(_) => backoff.snooze(),
-            TryWrite::Need(pid) => match fetch(pool, pass, iface, pid, &backoff) {
+        match put_once(&pool.words, pass, key, value) {
+            Tried::Done(was) => return Ok(Reply::Was(was)),
+            Tried::Again(_) => backoff.snooze(),
+            Tried::Need(pid) => match fetch(pool, pass, iface, pid, &backoff) {
                 Ok(()) => {}
                 Err(fault) => return Err(fault),
             },
-            TryWrite::Worn(pid) => return Err(TreeFault::Worn { pid }),
-            TryWrite::Tight(_) => match make_room(pool, pass, iface, key, &backoff) {
+            Tried::Worn(pid) => return Err(TreeFault::Worn { pid }),
+            Tried::Tight(_) => match make_room(pool, pass, iface, key, &backoff) {
                 Ok(()) => {}
                 Err(fault) => return Err(fault),
             },

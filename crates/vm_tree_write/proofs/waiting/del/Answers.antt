@@ -12,36 +12,36 @@ use Rattle.vm_tree_write.proofs.waiting.del.Goals as goal
 pub loop-init : goal.loop-init
 loop-init g c = tried-none _ _ (waits-self _) c.requires.ready c.requires.frames
 
-pub try_del-requires-clause-home : goal.try_del-requires-clause-home
-try_del-requires-clause-home g c = c.loop.invariant.left.out ∙ c.requires.home
+pub del_once-requires-clause-home : goal.del_once-requires-clause-home
+del_once-requires-clause-home g c = c.loop.invariant.left.out ∙ c.requires.home
 
 pub loop-preserved-in-Again : goal.loop-preserved-in-Again
 loop-preserved-in-Again g c =
     let i = c.loop.invariant in
     let reads = c.in-Again.ensures.tried.0 in
-    tried-read i c.try_del.new.pass c.try_del.ensures.pass reads c.try_del.ensures.ready (waits-then _ _ _ i.left (reads-wait _ _ reads))
+    tried-read i c.del_once.new.pass c.del_once.ensures.pass reads c.del_once.ensures.ready (waits-then _ _ _ i.left (reads-wait _ _ reads))
 
 pub fetch-requires-clause-frames : goal.fetch-requires-clause-frames
 fetch-requires-clause-frames g c =
-    let reads = c.in-Need.ensures.tried.0 in held-on _ (view c.loop.pass) (view c.try_del.new.pass) c.loop.invariant.held reads.0.start reads.0.frames.0
+    let reads = c.in-Need.ensures.tried.0 in held-on _ (view c.loop.pass) (view c.del_once.new.pass) c.loop.invariant.held reads.0.start reads.0.frames.0
 
 pub loop-preserved : goal.loop-preserved
 loop-preserved g c =
     let i = c.loop.invariant in
     let k = c.fetch.ensures in
     let reads = c.in-Need.ensures.tried.0 in
-    tried-call i c.try_del.new.pass c.try_del.ensures.pass reads c.fetch.new.pass c.fetch.new.iface k.pass k.ready k.held k.lost k.iface (waits-then _ _ _ i.left (waits-then _ _ _ (reads-wait _ _ reads) k.waits))
+    tried-call i c.del_once.new.pass c.del_once.ensures.pass reads c.fetch.new.pass c.fetch.new.iface k.pass k.ready k.held k.lost k.iface (waits-then _ _ _ i.left (waits-then _ _ _ (reads-wait _ _ reads) k.waits))
 
 pub returns-in-Err-clause-err : goal.returns-in-Err-clause-err
 returns-in-Err-clause-err g c =
     let i = c.loop.invariant in
     let needed = c.in-Need.ensures.tried in
-    faulted.missing (view c.loop.pass) (view c.try_del.new.pass) c.in-Need.pid i.left needed.0 needed.1 c.in-Err.ensures.err
+    faulted.missing (view c.loop.pass) (view c.del_once.new.pass) c.in-Need.pid i.left needed.0 needed.1 c.in-Err.ensures.err
     (waits-then _ _ _ i.left (waits-then _ _ _ (reads-wait _ _ needed.0) c.fetch.ensures.waits))
 
 pub returns-in-Worn-clause-held : goal.returns-in-Worn-clause-held
 returns-in-Worn-clause-held g c =
-    let reads = c.in-Worn.ensures.tried.0 in held-on _ (view c.loop.pass) (view c.try_del.new.pass) c.loop.invariant.held reads.0.start reads.0.frames.0
+    let reads = c.in-Worn.ensures.tried.0 in held-on _ (view c.loop.pass) (view c.del_once.new.pass) c.loop.invariant.held reads.0.start reads.0.frames.0
 
 pub returns-in-Worn-clause-err : goal.returns-in-Worn-clause-err
 returns-in-Worn-clause-err g c =
@@ -51,7 +51,7 @@ returns-in-Worn-clause-err g c =
 
 pub returns-in-Done-clause-held : goal.returns-in-Done-clause-held
 returns-in-Done-clause-held g c =
-    let k = del-frames _ _ _ c.in-Done.ensures.tried in held-on _ (view c.loop.pass) (view c.try_del.new.pass) c.loop.invariant.held k.0 k.1
+    let k = del-frames _ _ _ c.in-Done.ensures.tried in held-on _ (view c.loop.pass) (view c.del_once.new.pass) c.loop.invariant.held k.0 k.1
 
 pub returns-in-Done-clause-ok : goal.returns-in-Done-clause-ok
 returns-in-Done-clause-ok g c = let waits = c.loop.invariant.left in replied Waits _ _ _ _ waits (waits-last _ _ waits) c.in-Done.ensures.tried
@@ -60,13 +60,13 @@ returns-in-Done-clause-ok g c = let waits = c.loop.invariant.left in replied Wai
 
 pub returns-in-Err-clause-lost : goal.returns-in-Err-clause-lost
 returns-in-Err-clause-lost g c =
-    lost-on c.args.iface.now.frames c.loop.iface.frames c.fetch.new.iface.frames (view c.args.pass.now) (view c.loop.pass) (view c.try_del.new.pass) (view c.fetch.new.pass) c.loop.invariant.lost c.in-Need.ensures.tried.0 c.fetch.ensures.lost
+    lost-on c.args.iface.now.frames c.loop.iface.frames c.fetch.new.iface.frames (view c.args.pass.now) (view c.loop.pass) (view c.del_once.new.pass) (view c.fetch.new.pass) c.loop.invariant.lost c.in-Need.ensures.tried.0 c.fetch.ensures.lost
 
 pub returns-in-Worn-clause-lost : goal.returns-in-Worn-clause-lost
 returns-in-Worn-clause-lost g c =
-    loses-then c.args.iface.now.frames c.loop.iface.frames c.loop.iface.frames (view c.args.pass.now) (view c.loop.pass) (view c.try_del.new.pass) c.loop.invariant.lost (reads-lose c.loop.iface.frames (view c.loop.pass) (view c.try_del.new.pass) c.in-Worn.ensures.tried.0)
+    loses-then c.args.iface.now.frames c.loop.iface.frames c.loop.iface.frames (view c.args.pass.now) (view c.loop.pass) (view c.del_once.new.pass) c.loop.invariant.lost (reads-lose c.loop.iface.frames (view c.loop.pass) (view c.del_once.new.pass) c.in-Worn.ensures.tried.0)
 
 pub returns-in-Done-clause-lost : goal.returns-in-Done-clause-lost
 returns-in-Done-clause-lost g c =
     let k = del-frames _ _ _ c.in-Done.ensures.tried in
-    loses-then c.args.iface.now.frames c.loop.iface.frames c.loop.iface.frames (view c.args.pass.now) (view c.loop.pass) (view c.try_del.new.pass) c.loop.invariant.lost (loses-same c.loop.iface.frames c.loop.iface.frames (view c.loop.pass) (view c.try_del.new.pass) k.1 (λ f e. e))
+    loses-then c.args.iface.now.frames c.loop.iface.frames c.loop.iface.frames (view c.args.pass.now) (view c.loop.pass) (view c.del_once.new.pass) c.loop.invariant.lost (loses-same c.loop.iface.frames c.loop.iface.frames (view c.loop.pass) (view c.del_once.new.pass) k.1 (λ f e. e))

@@ -11,40 +11,40 @@ use Rattle.vm_tree_write.proofs.waiting.put.Goals as goal
 pub loop-init : goal.loop-init
 loop-init g c = tried-none _ _ (keeps-self _) c.requires.ready c.requires.frames
 
-pub try_put-requires-clause-home : goal.try_put-requires-clause-home
-try_put-requires-clause-home g c = c.loop.invariant.left.out ∙ c.requires.home
+pub put_once-requires-clause-home : goal.put_once-requires-clause-home
+put_once-requires-clause-home g c = c.loop.invariant.left.out ∙ c.requires.home
 
 pub loop-preserved-in-Again : goal.loop-preserved-in-Again
 loop-preserved-in-Again g c =
     let i = c.loop.invariant in
     let reads = c.in-Again.ensures.tried.0 in
-    tried-read i c.try_put.new.pass c.try_put.ensures.pass reads c.try_put.ensures.ready (keeps-then _ _ _ i.left (reads-keep _ _ reads))
+    tried-read i c.put_once.new.pass c.put_once.ensures.pass reads c.put_once.ensures.ready (keeps-then _ _ _ i.left (reads-keep _ _ reads))
 
 pub fetch-requires-clause-home : goal.fetch-requires-clause-home
 fetch-requires-clause-home g c = c.in-Need.ensures.tried.0.0.out ∙ c.loop.invariant.left.out ∙ c.requires.home
 
 pub fetch-requires-clause-frames : goal.fetch-requires-clause-frames
 fetch-requires-clause-frames g c =
-    let reads = c.in-Need.ensures.tried.0 in held-on _ (view c.loop.pass) (view c.try_put.new.pass) c.loop.invariant.held reads.0.start reads.0.frames.0
+    let reads = c.in-Need.ensures.tried.0 in held-on _ (view c.loop.pass) (view c.put_once.new.pass) c.loop.invariant.held reads.0.start reads.0.frames.0
 
 pub loop-preserved-in-Ok : goal.loop-preserved-in-Ok
 loop-preserved-in-Ok g c =
     let i = c.loop.invariant in
     let k = c.fetch.ensures in
     let reads = c.in-Need.ensures.tried.0 in
-    tried-call i c.try_put.new.pass c.try_put.ensures.pass reads c.fetch.new.pass c.fetch.new.iface k.pass k.ready k.held k.lost k.iface (keeps-then _ _ _ i.left (keeps-then _ _ _ (reads-keep _ _ reads) (waits-keep _ _ k.waits)))
+    tried-call i c.put_once.new.pass c.put_once.ensures.pass reads c.fetch.new.pass c.fetch.new.iface k.pass k.ready k.held k.lost k.iface (keeps-then _ _ _ i.left (keeps-then _ _ _ (reads-keep _ _ reads) (waits-keep _ _ k.waits)))
 
 pub returns-in-Err-clause-err : goal.returns-in-Err-clause-err
 returns-in-Err-clause-err g c =
     let i = c.loop.invariant in
     let needed = c.in-Need.ensures.tried in
     put_faulted.faulted
-    (faulted.missing (view c.loop.pass) (view c.try_put.new.pass) c.in-Need.pid i.left needed.0 needed.1 c.in-Err.ensures.err
+    (faulted.missing (view c.loop.pass) (view c.put_once.new.pass) c.in-Need.pid i.left needed.0 needed.1 c.in-Err.ensures.err
     (keeps-then _ _ _ i.left (keeps-then _ _ _ (reads-keep _ _ needed.0) (waits-keep _ _ c.fetch.ensures.waits))))
 
 pub returns-in-Worn-clause-held : goal.returns-in-Worn-clause-held
 returns-in-Worn-clause-held g c =
-    let reads = c.in-Worn.ensures.tried.0 in held-on _ (view c.loop.pass) (view c.try_put.new.pass) c.loop.invariant.held reads.0.start reads.0.frames.0
+    let reads = c.in-Worn.ensures.tried.0 in held-on _ (view c.loop.pass) (view c.put_once.new.pass) c.loop.invariant.held reads.0.start reads.0.frames.0
 
 pub returns-in-Worn-clause-err : goal.returns-in-Worn-clause-err
 returns-in-Worn-clause-err g c =
@@ -57,46 +57,46 @@ make_room-requires-clause-home g c = c.in-Tight.ensures.tried.0.0.out ∙ c.loop
 
 pub make_room-requires-clause-frames : goal.make_room-requires-clause-frames
 make_room-requires-clause-frames g c =
-    let reads = c.in-Tight.ensures.tried.0 in held-on _ (view c.loop.pass) (view c.try_put.new.pass) c.loop.invariant.held reads.0.start reads.0.frames.0
+    let reads = c.in-Tight.ensures.tried.0 in held-on _ (view c.loop.pass) (view c.put_once.new.pass) c.loop.invariant.held reads.0.start reads.0.frames.0
 
 pub loop-preserved : goal.loop-preserved
 loop-preserved g c =
     let i = c.loop.invariant in
     let k = c.make_room.ensures in
     let reads = c.in-Tight.ensures.tried.0 in
-    tried-call i c.try_put.new.pass c.try_put.ensures.pass reads c.make_room.new.pass c.make_room.new.iface k.pass k.ready k.held k.lost k.iface (keeps-then _ _ _ i.left (keeps-then _ _ _ (reads-keep _ _ reads) k.keeps))
+    tried-call i c.put_once.new.pass c.put_once.ensures.pass reads c.make_room.new.pass c.make_room.new.iface k.pass k.ready k.held k.lost k.iface (keeps-then _ _ _ i.left (keeps-then _ _ _ (reads-keep _ _ reads) k.keeps))
 
 pub returns-in-Err-make_room-clause-err : goal.returns-in-Err-make_room-clause-err
 returns-in-Err-make_room-clause-err g c =
     let i = c.loop.invariant in
     let tight = c.in-Tight.ensures.tried in
-    put_faulted.tight (view c.loop.pass) (view c.try_put.new.pass) _ i.left tight.0 tight.1 c.in-Err-make_room.ensures.err
+    put_faulted.tight (view c.loop.pass) (view c.put_once.new.pass) _ i.left tight.0 tight.1 c.in-Err-make_room.ensures.err
     (keeps-then _ _ _ i.left (keeps-then _ _ _ (reads-keep _ _ tight.0) c.make_room.ensures.keeps))
 
 pub returns-in-Done-clause-held : goal.returns-in-Done-clause-held
 returns-in-Done-clause-held g c =
-    let k = c.in-Done.ensures.tried.0.writes in held-on _ (view c.loop.pass) (view c.try_put.new.pass) c.loop.invariant.held k.start k.frames.0
+    let k = c.in-Done.ensures.tried.0.writes in held-on _ (view c.loop.pass) (view c.put_once.new.pass) c.loop.invariant.held k.start k.frames.0
 
 pub returns-in-Done-clause-ok : goal.returns-in-Done-clause-ok
 returns-in-Done-clause-ok g c =
     let i = c.loop.invariant in
-    replied KeepsLocksOnly _ _ _ _ i.left (keeps-last _ _ i.left) (inl (c.in-Done.ensures.tried.0, put-not c.args.key c.args.value c.in-Done.reply))
+    replied KeepsLocksOnly _ _ _ _ i.left (keeps-last _ _ i.left) (inl (c.in-Done.ensures.tried.0, put-not c.args.key c.args.value _))
 
 -- ---- no frame is lost
 
 pub returns-in-Err-clause-lost : goal.returns-in-Err-clause-lost
 returns-in-Err-clause-lost g c =
-    lost-on c.args.iface.now.frames c.loop.iface.frames c.fetch.new.iface.frames (view c.args.pass.now) (view c.loop.pass) (view c.try_put.new.pass) (view c.fetch.new.pass) c.loop.invariant.lost c.in-Need.ensures.tried.0 c.fetch.ensures.lost
+    lost-on c.args.iface.now.frames c.loop.iface.frames c.fetch.new.iface.frames (view c.args.pass.now) (view c.loop.pass) (view c.put_once.new.pass) (view c.fetch.new.pass) c.loop.invariant.lost c.in-Need.ensures.tried.0 c.fetch.ensures.lost
 
 pub returns-in-Worn-clause-lost : goal.returns-in-Worn-clause-lost
 returns-in-Worn-clause-lost g c =
-    loses-then c.args.iface.now.frames c.loop.iface.frames c.loop.iface.frames (view c.args.pass.now) (view c.loop.pass) (view c.try_put.new.pass) c.loop.invariant.lost (reads-lose c.loop.iface.frames (view c.loop.pass) (view c.try_put.new.pass) c.in-Worn.ensures.tried.0)
+    loses-then c.args.iface.now.frames c.loop.iface.frames c.loop.iface.frames (view c.args.pass.now) (view c.loop.pass) (view c.put_once.new.pass) c.loop.invariant.lost (reads-lose c.loop.iface.frames (view c.loop.pass) (view c.put_once.new.pass) c.in-Worn.ensures.tried.0)
 
 pub returns-in-Err-make_room-clause-lost : goal.returns-in-Err-make_room-clause-lost
 returns-in-Err-make_room-clause-lost g c =
-    lost-on c.args.iface.now.frames c.loop.iface.frames c.make_room.new.iface.frames (view c.args.pass.now) (view c.loop.pass) (view c.try_put.new.pass) (view c.make_room.new.pass) c.loop.invariant.lost c.in-Tight.ensures.tried.0 c.make_room.ensures.lost
+    lost-on c.args.iface.now.frames c.loop.iface.frames c.make_room.new.iface.frames (view c.args.pass.now) (view c.loop.pass) (view c.put_once.new.pass) (view c.make_room.new.pass) c.loop.invariant.lost c.in-Tight.ensures.tried.0 c.make_room.ensures.lost
 
 pub returns-in-Done-clause-lost : goal.returns-in-Done-clause-lost
 returns-in-Done-clause-lost g c =
     let k = c.in-Done.ensures.tried.0.writes in
-    loses-then c.args.iface.now.frames c.loop.iface.frames c.loop.iface.frames (view c.args.pass.now) (view c.loop.pass) (view c.try_put.new.pass) c.loop.invariant.lost (loses-same c.loop.iface.frames c.loop.iface.frames (view c.loop.pass) (view c.try_put.new.pass) k.frames.0 (λ f e. e))
+    loses-then c.args.iface.now.frames c.loop.iface.frames c.loop.iface.frames (view c.args.pass.now) (view c.loop.pass) (view c.put_once.new.pass) c.loop.invariant.lost (loses-same c.loop.iface.frames c.loop.iface.frames (view c.loop.pass) (view c.put_once.new.pass) k.frames.0 (λ f e. e))
