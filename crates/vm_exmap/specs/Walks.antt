@@ -6,8 +6,9 @@ use Rattle.vm_rule.specs.declared.view.Place.TheVariants as places
 use Rattle.vm_step.specs.Prelude.{Did, IsAlone, IsSaw, known_word_at, KnowsElse, KnowsSame, NoneExpected, NoWord, View}
 use Rattle.vm_step.specs.declared.saw.At.TheVariants as ats
 use Rattle.vm_step.specs.declared.saw.Saw.{Saw}
-use Rattle.vm_exmap.specs.{declared.interface.Alloc.Alloc, Frames.MovesFrames}
+use Rattle.vm_exmap.specs.{declared.interface.Alloc.Alloc, declared.interface.AllocOne.AllocOne, Frames.MovesFrames}
 use Rattle.vm_exmap.specs.declared.interface.Alloc.TheVariants as allocs
+use Rattle.vm_exmap.specs.declared.interface.AllocOne.TheVariants as singles
 
 -- the k-th bundle of the walk
 abbrev pub bundle_at : ℕ → ℕ → ℕ → ℕ
@@ -40,6 +41,12 @@ Dry home bundles (suc k) done = (before : List Did) × (done ≡ before ++ did_l
 pub record HandsOut (n : ℕ) (frames batch new : List ℕ) : Type 0 where
   pub all : frames ≡ batch ++ new
   pub count : length batch ≡ min n (length frames)
+
+-- the answer to one frame asked for, as a batch of it
+abbrev pub as_batch : AllocOne → Alloc
+as_batch (singles.Frame f) = allocs.Batch (f ∷ [])
+as_batch singles.Dry = allocs.Dry
+as_batch (singles.Again saw) = allocs.Again saw
 
 -- the answer is a batch, or that there is none
 abbrev pub NotLost : Alloc → Type 0

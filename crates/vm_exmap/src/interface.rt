@@ -1,10 +1,10 @@
 // A pass's own store of free frames over the bundles that all passes share: frames are taken from a bundle and given back in batches, each
 // by one step on the bundle's word.
-ghost use Rattle.std.specs.Prelude.{[], ◌++◌, ◌+◌, ◌-◌, ◌^◌, ◌≡◌, ◌≤◌, length, min};
+ghost use Rattle.std.specs.Prelude.{[], ◌++◌, ◌+◌, ◌-◌, ◌^◌, ◌∷◌, ◌≡◌, ◌≤◌, length, min};
 ghost use Rattle.vm_rule.specs.Prelude.{FRAMES};
 ghost use Rattle.vm_step.specs.Prelude.{AreHeld, IsAlone, IsReady, IsSamePass, view};
 ghost use Rattle.vm_exmap.specs.Returns.{AreGiven, IsFreed};
-ghost use Rattle.vm_exmap.specs.Walks.{HandsOut, IsAlloc, NotLost};
+ghost use Rattle.vm_exmap.specs.Walks.{HandsOut, IsAlloc, NotLost, as_batch};
 
 use crate::bits::mask_of;
 use crate::walk::walk;
@@ -22,6 +22,14 @@ pub enum Alloc {
     /// No frame was free: the interface was empty, and each bundle's word was 0 when it was loaded.
     Dry,
     /// The bits asked for were lost to others in some bundle, and none were taken.
+    Again(Saw),
+}
+
+/// What the allocation of one frame answers: the same, with the frame in place of a batch.
+#[derive(Drop)]
+pub enum AllocOne {
+    Frame(u32),
+    Dry,
     Again(Saw),
 }
 
@@ -79,6 +87,47 @@ impl Interface {
             }
             Alloc::Dry => Alloc::Dry,
             Alloc::Again(saw) => Alloc::Again(saw),
+        }
+    }
+
+    /// One frame, as `alloc` of one answers: the first that the interface has, which holds no batch beside its own.
+    pub fn alloc_one<U: Owner, B: Block>(
+        &mut self,
+        words: &Words<U, B>,
+        pass: &mut Pass<U>,
+    ) -> AllocOne
+        requires ready { IsReady words.now.table.shared.key B.tells words.now.table.shared.table_id pass.old }
+        requires frames { AreHeld self.old.frames (view pass.old) }
+        ensures pass { IsSamePass pass.old pass.new }
+        ensures ready { IsReady words.now.table.shared.key B.tells words.now.table.shared.table_id pass.new }
+        ensures same { (self.new.home ≡ self.old.home) × (self.new.cap ≡ self.old.cap) × (self.new.swept ≡ self.old.swept) }
+        ensures answer { IsAlloc self.old.home self.old.cap 1 self.old.frames self.new.frames (view pass.old) (view pass.new) (as_batch result) }
+        ensures frame { (frame : _) → result ≡ AllocOne.Frame frame → AreHeld (frame ∷ self.new.frames) (view pass.new) }
+        ensures held { AreHeld self.new.frames (view pass.new) }
+        ensures sure { IsAlone (view pass.old) → NotLost (as_batch result) }
+    {
+        if !self.frames.is_empty() {
+            return AllocOne::Frame(self.first());
+        }
+        match walk(words, pass, self.home, 1u32.max(self.cap)) {
+            Alloc::Batch(frames) => {
+                self.frames = frames;
+                AllocOne::Frame(self.first())
+            }
+            Alloc::Dry => AllocOne::Dry,
+            Alloc::Again(saw) => AllocOne::Again(saw),
+        }
+    }
+
+    /// Hands out the first of its frames. There must be one.
+    fn first(&mut self) -> u32
+        requires { 1 ≤ length self.old.frames }
+        ensures hands { HandsOut 1 self.old.frames (result ∷ []) self.new.frames }
+        ensures same { (self.new.home ≡ self.old.home) × (self.new.cap ≡ self.old.cap) × (self.new.swept ≡ self.old.swept) }
+    {
+        match self.frames.pop_first() {
+            Some(frame) => frame,
+            None => unreachable!(),
         }
     }
 

@@ -5,4 +5,4 @@ mod bits;
 mod interface;
 mod walk;
 
-pub use interface::{Alloc, Interface};
+pub use interface::{Alloc, AllocOne, Interface};

@@ -32,9 +32,8 @@ module _ {X : Type 0} (home cap home_dry cap_dry home_then cap_then : ℕ) (kept
   again_there answer a = subst (λ n. IsAlloc n cap 1 filled new clean w answer) (still.0 ∙ kept.0) (subst (λ n. IsAlloc home_then n 1 filled new clean w answer) (still.1 ∙ kept.1) a)
 
   -- it has a frame now
-  pub got-then : (f : ℕ) (batch : List ℕ) → batch ≡ f ∷ [] → IsAlloc home_then cap_then 1 filled new clean w (allocs.Batch batch) → Gets home cap f old new before after v w
-  got-then f batch one a =
-      gets.swept dry clean emptied filled report first with_cap (subst (λ (l : List ℕ). IsAlloc home cap 1 filled new clean w (allocs.Batch l)) one (again_there (allocs.Batch batch) a)) counts
+  pub got-then : (f : ℕ) → IsAlloc home_then cap_then 1 filled new clean w (allocs.Batch (f ∷ [])) → Gets home cap f old new before after v w
+  got-then f a = gets.swept dry clean emptied filled report first with_cap (again_there (allocs.Batch (f ∷ [])) a) counts
 
   -- the bits asked for were lost
   pub lost-then : (saw : Saw) → IsAlloc home_then cap_then 1 filled new clean w (allocs.Again saw) → GetsNone home cap old new before after v w (brings.Again saw)

@@ -12,7 +12,7 @@ use vm_clock::candidates;
 use vm_core::FRAMES;
 use vm_evict::evict;
 use vm_evict::report::Report;
-use vm_exmap::{Alloc, Interface};
+use vm_exmap::{AllocOne, Interface};
 use vm_fault::{Fetch, fault_in};
 use vm_owner::Owner;
 use vm_rule::words::Pass;
@@ -69,14 +69,6 @@ pub fn dry_cause(report: &Report) -> Bring
     }
 }
 
-/// The frame of a batch of one.
-fn only_frame(batch: &Batch) -> u32
-    requires { length batch.now ≡ 1 }
-    ensures { batch.now ≡ result ∷ [] }
-{
-    batch.as_slice()[0]
-}
-
 impl<U: Owner, B: Block> Pool<U, B> {
     /// Evicts up to `want` (1 to 64) pages that the clock chooses, and gives their frames to the interface.
     pub fn sweep(&self, pass: &mut Pass<U>, iface: &mut Interface, want: u32) -> Report
@@ -113,17 +105,17 @@ impl<U: Owner, B: Block> Pool<U, B> {
         ensures frame { IfOk result (λ frame. AreHeld (frame ∷ iface.new.frames) (view pass.new)) }
         ensures held { AreHeld iface.new.frames (view pass.new) }
     {
-        match iface.alloc(&self.words, pass, 1) {
-            Alloc::Batch(batch) => return Ok(only_frame(&batch)),
-            Alloc::Again(saw) => return Err(Bring::Again(saw)),
-            Alloc::Dry => {}
+        match iface.alloc_one(&self.words, pass) {
+            AllocOne::Frame(frame) => return Ok(frame),
+            AllocOne::Again(saw) => return Err(Bring::Again(saw)),
+            AllocOne::Dry => {}
         }
         let cap = iface.cap;
         let report = self.sweep(pass, iface, cap);
-        match iface.alloc(&self.words, pass, 1) {
-            Alloc::Batch(batch) => Ok(only_frame(&batch)),
-            Alloc::Again(saw) => Err(Bring::Again(saw)),
-            Alloc::Dry => Err(dry_cause(&report)),
+        match iface.alloc_one(&self.words, pass) {
+            AllocOne::Frame(frame) => Ok(frame),
+            AllocOne::Again(saw) => Err(Bring::Again(saw)),
+            AllocOne::Dry => Err(dry_cause(&report)),
         }
     }
 

@@ -76,6 +76,14 @@ impl Batch {
         }
     }
 
+    /// Takes the first frame, if there is one.
+    pub fn pop_first(&mut self) -> Option<u32>
+        ensures frames { self.old ≡ option_to_list result ++ self.new }
+        ensures some { IsSome result ↔ (0 < length self.old) }
+    {
+        self.items.pop_at(0)
+    }
+
     /// Takes the frame that was appended last, if there is one.
     pub fn pop(&mut self) -> Option<u32>
         ensures frames { self.old ≡ self.new ++ option_to_list result }

@@ -6,7 +6,7 @@ ghost use Rattle.vm_step.specs.Prelude.{IsReady};
 use std::alloc::Global;
 use std::test::Fail;
 use vm_block::{Block, MemBlock};
-use vm_exmap::{Alloc, Interface};
+use vm_exmap::{Alloc, AllocOne, Interface};
 use vm_owner::Bare;
 use vm_page::PageBuf;
 use vm_rule::words::{Pass, Words};
@@ -58,5 +58,40 @@ fn a_walk_begins_at_its_home_and_takes_the_lowest_bits(rt: HostRuntime) -> Resul
     };
     let next = others.as_slice() == [66, 67].as_slice();
     assert!(rt; next);
+    Ok(())
+}
+
+#[test]
+fn one_frame_is_the_first_that_a_batch_would_have(rt: HostRuntime) -> Result<(), Fail> {
+    let (words, mut pass) = free_frames(rt.alloc(), 128)?;
+    let mut frames = Interface::new(3, 2);
+    let AllocOne::Frame(first) = frames.alloc_one(&words, &mut pass) else {
+        panic!(rt; "frames are free");
+    };
+    assert_eq!(rt; first, 64);
+    let AllocOne::Frame(second) = frames.alloc_one(&words, &mut pass) else {
+        panic!(rt; "the interface has one more");
+    };
+    assert_eq!(rt; second, 65);
+    let AllocOne::Frame(third) = frames.alloc_one(&words, &mut pass) else {
+        panic!(rt; "frames are left");
+    };
+    assert_eq!(rt; third, 66);
+    let kept = frames.frames.as_slice() == [67].as_slice();
+    assert!(rt; kept);
+    Ok(())
+}
+
+#[test]
+fn no_frame_is_left_after_the_only_one(rt: HostRuntime) -> Result<(), Fail> {
+    let (words, mut pass) = free_frames(rt.alloc(), 1)?;
+    let mut frames = Interface::new(0, 64);
+    let AllocOne::Frame(only) = frames.alloc_one(&words, &mut pass) else {
+        panic!(rt; "one frame is free");
+    };
+    assert_eq!(rt; only, 0);
+    let AllocOne::Dry = frames.alloc_one(&words, &mut pass) else {
+        panic!(rt; "no frame is left");
+    };
     Ok(())
 }
