@@ -6,21 +6,20 @@ use Rattle.vm_rule.specs.declared.view.Place.TheVariants as places
 use Rattle.vm_step.proofs.{Evidenced.lost-view, Evidenced.taken-view, Logical.not-pending, Quiet.quiet-shows, Quiet.ShowsQuiet, Written.IsWordOf}
 use Rattle.vm_step.proofs.{Written.word-left}
 use Rattle.vm_step.proofs.Here.{frame-inside, last, last-told, older, since, validates, world}
-use Rattle.vm_step.proofs.Prelude.{[], actor_of, after_event, after_step, any-here, ap, arith, at-bound, became, block-here, block-is_last, block_of}
-use Rattle.vm_step.proofs.Prelude.{Bool, Brings, cases_Bool, cases_eq, core-still, core_shown, Did, did_exchange, draft-is, draft_of, each-upd}
-use Rattle.vm_step.proofs.Prelude.{either, eqb, Event, exchange_seen, exchange_sees, exchanged, false, false_from_ne_true, finds, finds-hit, Mapping}
-use Rattle.vm_step.proofs.Prelude.{finds-miss, FindsAt, frame_of, get_elem?, has, Held, if◌then◌else◌, index_of, is_pending, IsEvent, IsHeldAt}
-use Rattle.vm_step.proofs.Prelude.{IsOlder, IsPassOf, IsSinceAll, IsUnheld, Kept, KnowsPage, last-is, last_in, last_of, Legal, length, List, LOCKED}
-use Rattle.vm_step.proofs.Prelude.{locked, locked_view, LockS, locks-step, LockValidates, LockW, lockw-step, LockX, lockx-step, lost-locks}
-use Rattle.vm_step.proofs.Prelude.{lost-lockw, lost-lockx, lost-mark, lost-unmark, lost-upgrade, Mark, mark-step, marked, MARKED, may_call, MayLock}
-use Rattle.vm_step.proofs.Prelude.{MayRaiseLock, MayShare, NamesActorAndPage, no_held, no_seat, None, on_page, one_share_more, Option, Origin, Out}
-use Rattle.vm_step.proofs.Prelude.{Page, page_at, page_word, Place, Put, put, put_at, refl, Release, rested, Ruled, same-word, Seat, seat-here}
-use Rattle.vm_step.proofs.Prelude.{seat_of, Seen, seen, set_if, share_count, shared, shared_view, Shows, slice_index, slice_set, Some, some, Start}
-use Rattle.vm_step.proofs.Prelude.{State, state-here, state_of, steps, Stored, subst, sum_below, sum_below-at, sym, Table, table_after, true}
-use Rattle.vm_step.proofs.Prelude.{true≢false, unheld, UNLOCKED, Unmark, unmark-step, unmarked, upd, upd-keeps, upd-other, upd-same, Upgrade}
-use Rattle.vm_step.proofs.Prelude.{upgrade-step, upgraded, upgraded_view, Version, version-here, version-within, version_of, View, width, Within}
-use Rattle.vm_step.proofs.Prelude.{word-here, word-state, word-version, word_of, World, world_after, world_of, write_locked, write_locked_view, wrote}
-use Rattle.vm_step.proofs.Prelude.{false≢true, KnowsOwner, KnowsOwners, ℕ, ⊎_elim, ◌++◌, ◌+◌, ◌<◌, ◌∙◌, ◌≡◌, ◌≢◌, ◌≤◌}
+use Rattle.vm_step.proofs.Prelude.{[], actor_of, after_event, after_step, any-here, ap, arith, at-bound, became, block-here, block-is_last, block_of, Bool}
+use Rattle.vm_step.proofs.Prelude.{Brings, cases_eq, core-still, core_shown, Did, did_exchange, draft-is, draft_of, Each, each-upd, each-upd2, either, eqb}
+use Rattle.vm_step.proofs.Prelude.{Event, exchange_seen, exchange_sees, exchanged, false, false_from_ne_true, false≢true, finds, finds-hit, finds-miss, FindsAt}
+use Rattle.vm_step.proofs.Prelude.{frame_of, get_elem?, has, Held, if◌then◌else◌, index_of, is_pending, IsEvent, IsHeldAt, IsOlder, IsPassOf, IsSinceAll}
+use Rattle.vm_step.proofs.Prelude.{IsUnheld, Kept, KnowsOwner, KnowsOwners, KnowsPage, last-is, last_in, last_of, Legal, length, List, LOCKED, locked}
+use Rattle.vm_step.proofs.Prelude.{locked_view, LockS, locks-step, LockValidates, LockW, lockw-step, LockX, lockx-step, lost-locks, lost-lockw, lost-lockx}
+use Rattle.vm_step.proofs.Prelude.{lost-mark, lost-unmark, lost-upgrade, Mapping, Mark, mark-step, MARKED, marked, may_call, MayLock, MayRaiseLock, MayShare}
+use Rattle.vm_step.proofs.Prelude.{NamesActorAndPage, no_held, no_seat, None, on_page, one_share_more, Option, Origin, Out, Page, page_at, page_word, Place}
+use Rattle.vm_step.proofs.Prelude.{Put, put, put_at, refl, Release, rested, Ruled, same-word, Seat, seat-here, seat_of, Seen, seen, set_if, share_count, shared}
+use Rattle.vm_step.proofs.Prelude.{shared_view, Shows, slice_index, slice_set, Some, some, Start, State, state-here, state_of, steps, Stored, subst, sum_below}
+use Rattle.vm_step.proofs.Prelude.{sum_below-at, sym, Table, table_after, Translation, TranslationHolds, true, true≢false, unheld, UNLOCKED, Unmark}
+use Rattle.vm_step.proofs.Prelude.{unmark-step, unmarked, upd, upd-keeps, upd-other, upd-same, Upgrade, upgrade-step, upgraded, upgraded_view, Version}
+use Rattle.vm_step.proofs.Prelude.{version-here, version-within, version_of, View, width, Within, word-here, word-state, word-version, word_of, World}
+use Rattle.vm_step.proofs.Prelude.{world_after, world_of, write_locked, write_locked_view, wrote, ℕ, ⊎_elim, ◌++◌, ◌+◌, ◌<◌, ◌∙◌, ◌≡◌, ◌≢◌, ◌≤◌}
 
 -- ---- at any place
 
@@ -103,11 +102,7 @@ module _ {X : Type 0} where
       → ((q : ℕ) → q ≢ p → put_at no_held held q ≡ put_at no_held v.held q) → KnowsPage seat (put_at no_held held p) y
       → (q : ℕ) → KnowsPage (put_at no_seat (put p seat v.seats) q) (put_at no_held held q) (upd pages p y q)
   knows-one v pages p seat held y known others here =
-      each-upd (λ q z. KnowsPage (put_at no_seat (put p seat v.seats) q) (put_at no_held held q) z) pages p y
-      (subst (λ k. KnowsPage k (put_at no_held held p) y) (sym (upd-same (put_at no_seat v.seats) p seat)) here)
-      (λ q ne.
-      subst (λ k. KnowsPage k (put_at no_held held q) (pages q)) (sym (upd-other (put_at no_seat v.seats) p seat q ne))
-      (subst (λ h. KnowsPage (seat_of v q) h (pages q)) (sym (others q ne)) (known q)))
+      each-upd2 (λ q k z. KnowsPage k (put_at no_held held q) z) (put_at no_seat v.seats) pages p seat y here (λ q ne. subst (λ h. KnowsPage (seat_of v q) h (pages q)) (sym (others q ne)) (known q))
 
 -- the owner word of the frame that a page stands in
 abbrev pub owner_at : (ℕ → ℕ) → Option Mapping → ℕ
@@ -152,76 +147,45 @@ module _ {X B : Type 0} (stored : B → Stored) (start : Origin) (s : Table (Opt
     named : NamesActorAndPage old.core id p
     named = record { actor = at-bound s.views id v there; page = l }
 
-    made : (state : ℕ) → (state_of (word_of state (version_of expects)) ≡ state) × (version_of (word_of state (version_of expects)) ≡ version_of expects)
-    made state = (word-state state (version_of expects) (version-within expects), word-version state (version_of expects) (version-within expects))
+    -- an exchange for a word of this state at the version expected, by what it is as a step
+    exchange-of : (state : ℕ) (drafts' : ℕ → List ℕ) (inner : View X) (e : Event) (y : Page) → Legal old.core e
+        → ((w : View X) → w.out ≡ inner.out → w.frames ≡ inner.frames → w.seats ≡ inner.seats → w.loads ≡ inner.loads
+        → state_of (word_of state (version_of expects)) ≡ state → version_of (word_of state (version_of expects)) ≡ version_of expects → finds (old.core.pages p) expects ≡ true
+        → world_of stored start releases drafts' (wrote stored start s id (places.State p) (word_of state (version_of expects)) w) ≡ world_after old e)
+        → (finds (old.core.pages p) expects ≡ true → (world_after old e).core ≡ on_page old.core p y)
+        → (finds (old.core.pages p) expects ≡ false → world_after old e ≡ old) → IsExchange p expects (word_of state (version_of expects)) drafts' inner e y
+    exchange-of state drafts' inner e y legal leads core none =
+        let low = version-within expects in
+        record { legal = legal; leads = λ w out frames seats loads. leads w out frames seats loads (word-state state (version_of expects) low) (word-version state (version_of expects) low); core = core; none = none }
 
     -- an exclusive lock
     pub lockx-exchange : MayLock expects → (held : Held) (words : List ℕ) → IsExchange p expects (word_of LOCKED (version_of expects)) (upd drafts p (last_in start releases p).words) (locked_view p held words v) (LockX id p expects) (locked (old.core.pages p) id)
-    lockx-exchange may held words =
-        record {
-          legal = (named, may);
-          leads = λ w out frames seats loads. lockx-step stored start s releases drafts id v w p expects (word_of LOCKED (version_of expects)) wide l there out frames seats loads (made LOCKED).0 (made LOCKED).1;
-          core = λ f. rw f refl;
-          none = lost-lockx old id p expects;
-        }
+    lockx-exchange may held words = exchange-of LOCKED _ _ _ _ (named, may) (λ w. lockx-step stored start s releases drafts id v w p expects (word_of LOCKED (version_of expects)) wide l there) (λ f. rw f refl) (lost-lockx old id p expects)
 
     -- a share
     pub locks-exchange : MayShare expects → (held : Held) → IsExchange p expects (word_of (one_share_more (state_of expects)) (version_of expects)) drafts (shared_view p held v) (LockS id p expects) (shared (old.core.pages p) id)
     locks-exchange may held =
-        record {
-          legal = (named, may);
-          leads = λ w out frames seats loads. locks-step stored start s releases drafts id v w p expects (word_of (one_share_more (state_of expects)) (version_of expects)) wide l there out frames seats loads (made (one_share_more (state_of expects))).0 (made (one_share_more (state_of expects))).1;
-          core = λ f. rw f refl;
-          none = lost-locks old id p expects;
-        }
+        exchange-of (one_share_more (state_of expects)) _ _ _ _ (named, may)
+        (λ w. locks-step stored start s releases drafts id v w p expects (word_of (one_share_more (state_of expects)) (version_of expects)) wide l there) (λ f. rw f refl) (lost-locks old id p expects)
 
     -- a lock for write-back
     pub lockw-exchange : state_of expects ≡ MARKED → (held : Held) → IsExchange p expects (word_of 1 (version_of expects)) drafts (write_locked_view p held v) (LockW id p expects) (write_locked (old.core.pages p) id)
-    lockw-exchange may held =
-        record {
-          legal = (named, may);
-          leads = λ w out frames seats loads. lockw-step stored start s releases drafts id v w p expects (word_of 1 (version_of expects)) wide l there out frames seats loads (made 1).0 (made 1).1;
-          core = λ f. rw f refl;
-          none = lost-lockw old id p expects;
-        }
+    lockw-exchange may held = exchange-of 1 _ _ _ _ (named, may) (λ w. lockw-step stored start s releases drafts id v w p expects (word_of 1 (version_of expects)) wide l there) (λ f. rw f refl) (lost-lockw old id p expects)
 
     -- a lock for write-back that becomes exclusive
     pub upgrade-exchange : MayRaiseLock v p expects → (words : List ℕ) → IsExchange p expects (word_of LOCKED (version_of expects)) (upd drafts p (last_in start releases p).words) (upgraded_view p words v) (Upgrade id p expects) (upgraded (old.core.pages p) id)
     upgrade-exchange may words =
-        record {
-          legal = (
-            named,
-            record {
-              state = may.state;
-              version = may.below;
-              writes = ap (λ (k : Seat). k.writing) (seat-here stored start s id p v l there) ∙ may.writes;
-              one = ap (λ (k : Seat). k.shares) (seat-here stored start s id p v l there) ∙ may.one;
-            },
-          );
-          leads = λ w out frames seats loads. upgrade-step stored start s releases drafts id v w p expects (word_of LOCKED (version_of expects)) wide l there out frames seats loads (made LOCKED).0 (made LOCKED).1;
-          core = λ f. rw f refl;
-          none = lost-upgrade old id p expects;
-        }
+        let here = seat-here stored start s id p v l there in
+        let legal : Legal old.core (Upgrade id p expects) = (named, record { state = may.state; version = may.below; writes = ap (λ (k : Seat). k.writing) here ∙ may.writes; one = ap (λ (k : Seat). k.shares) here ∙ may.one }) in
+        exchange-of LOCKED _ _ _ _ legal (λ w. upgrade-step stored start s releases drafts id v w p expects (word_of LOCKED (version_of expects)) wide l there) (λ f. rw f refl) (lost-upgrade old id p expects)
 
     -- a mark
     pub mark-exchange : state_of expects ≡ UNLOCKED → IsExchange p expects (word_of MARKED (version_of expects)) drafts v (Mark id p expects) (marked (old.core.pages p))
-    mark-exchange may =
-        record {
-          legal = (named, may);
-          leads = λ w out frames seats loads. mark-step stored start s releases drafts id v w p expects (word_of MARKED (version_of expects)) wide l there out frames seats loads (made MARKED).0 (made MARKED).1;
-          core = λ f. rw f refl;
-          none = lost-mark old id p expects;
-        }
+    mark-exchange may = exchange-of MARKED _ _ _ _ (named, may) (λ w. mark-step stored start s releases drafts id v w p expects (word_of MARKED (version_of expects)) wide l there) (λ f. rw f refl) (lost-mark old id p expects)
 
     -- a mark that is taken away
     pub unmark-exchange : state_of expects ≡ MARKED → IsExchange p expects (word_of UNLOCKED (version_of expects)) drafts v (Unmark id p expects) (unmarked (old.core.pages p))
-    unmark-exchange may =
-        record {
-          legal = (named, may);
-          leads = λ w out frames seats loads. unmark-step stored start s releases drafts id v w p expects (word_of UNLOCKED (version_of expects)) wide l there out frames seats loads (made UNLOCKED).0 (made UNLOCKED).1;
-          core = λ f. rw f refl;
-          none = lost-unmark old id p expects;
-        }
+    unmark-exchange may = exchange-of UNLOCKED _ _ _ _ (named, may) (λ w. unmark-step stored start s releases drafts id v w p expects (word_of UNLOCKED (version_of expects)) wide l there) (λ f. rw f refl) (lost-unmark old id p expects)
 
 -- ---- on a page's state word
 
@@ -312,35 +276,25 @@ module _ {X B : Type 0} (stored : B → Stored) (keeps : Start → Kept X → Ty
           let sum : sum_below (length s.views) (λ b. (y.seats b).shares) ≡ share_count y.state = (r.inv.pages p).locks.shares in
           omega (arith, below, sum, none)
 
+      writes-none : (a : ℕ) → (((world stored keeps tied start tells s r).core.pages p).seats a).writing ≡ false
+      writes-none a =
+          false_from_ne_true (((world stored keeps tied start tells s r).core.pages p).seats a).writing
+          (λ t. let w = (r.inv.pages p).locks.writer a t in let one = w.0 in let zero' = shares-none a w.1 in omega (arith, one, zero'))
+
       pub free-unheld : v.live ≡ true → IsUnheld v p
       free-unheld live =
+          let here = sym (seat-here stored start s id p v l there) in
           record {
             exclusive = free-owner;
-            shares = ap (λ (k : Seat). k.shares) (sym (seat-here stored start s id p v l there)) ∙ shares-none id (at-bound s.views id v there);
-            writing = ⊎_elim
-                (λ t.
-                let one : 1 ≤ (((world stored keeps tied start tells s r).core.pages p).seats id).shares = ((r.inv.pages p).locks.writer id (ap (λ (k : Seat). k.writing) (seat-here stored start s id p v l there) ∙ t)).0 in
-                let zero' = shares-none id (at-bound s.views id v there) in
-                absurd (omega (arith, one, zero')))
-                (λ f. f)
-                (cases_Bool (seat_of v p).writing);
+            shares = ap (λ (k : Seat). k.shares) here ∙ shares-none id (at-bound s.views id v there);
+            writing = ap (λ (k : Seat). k.writing) here ∙ writes-none id;
             paid = free-debt live;
             next = λ e. true≢false (sym ((r.known id v there live).next p e).0 ∙ free-owner);
           }
 
       -- nobody writes the page back, so its fault word is its block's count
       fault-told : ((world stored keeps tied start tells s r).core.pages p).fault ≡ ((world stored keeps tied start tells s r).core.pages p).count
-      fault-told =
-          let y : Page = (world stored keeps tied start tells s r).core.pages p in
-          (r.inv.pages p).faults free
-          (λ a. ⊎_elim
-          (λ t.
-          let w = (r.inv.pages p).locks.writer a t in
-          let one : 1 ≤ (y.seats a).shares = w.0 in
-          let zero' : (y.seats a).shares ≡ 0 = shares-none a w.1 in
-          absurd (omega (arith, one, zero')))
-          (λ f. f)
-          (cases_Bool (y.seats a).writing))
+      fault-told = (r.inv.pages p).faults free writes-none
 
       -- so it knows of the page what a lock tells that was taken at this word
       pub held-at : (live : v.live ≡ true) (expects : ℕ) → slice_index s.words p ≡ expects → IsHeldAt p expects v.start.frames v.start.tells (last stored keeps tied start tells s r p).words (page_held p)
@@ -388,21 +342,11 @@ module _ {X B : Type 0} (stored : B → Stored) (keeps : Start → Kept X → Ty
         → ((q : ℕ) → is_pending s.views q ≡ true → drafts q ≡ r.drafts q)
         → ((q : ℕ) → (put_at no_seat seats q).exclusive ≡ true → put_at [] own q ≡ drafts q)
         → ShowsQuiet stored keeps tied start tells s r id v (slice_set s.words p x) drafts did (locking v seats loads held own) e
-    word-shows seats loads held own is calls holds knows owners members drafted = record {
-      word = is.word;
-      legal = is.legal;
-      world = is.world;
-      leaves = refl;
-      calls = calls;
-      holds = holds;
-      members = members;
-      next = ap (λ (c : State). c.next) is.core;
-      knows = λ q. subst (λ (c : State). KnowsPage (put_at no_seat seats q) (put_at no_held held q) (c.pages q)) (sym is.core) (knows q);
-      owners = λ q m h at. owners q m h at ∙ sym (ap (λ (c : State). c.owners m.frame) is.core);
-      contents = λ f h. (r.known id v there live).contents f h ∙ sym (ap (λ (c : State). c.words f) is.core);
-      drafted = drafted;
-      loaded = ([], refl, tt);
-    }
+    word-shows seats loads held own is calls holds knows owners members drafted =
+        let known = subst (λ (c : State). (c.next ≡ old'.core.next) × ((q : ℕ) → KnowsPage (put_at no_seat seats q) (put_at no_held held q) (c.pages q))
+        × KnowsOwners c.owners (put_at no_seat seats) (put_at no_held held) × ((f : ℕ) → has f v.frames ≡ true → put_at [] v.contents f ≡ c.words f)) (sym is.core) (refl, knows, owners, (r.known id v there live).contents) in
+        let loaded : (l : List Translation) × (v.translations ≡ l ++ v.translations) × Each (TranslationHolds (world_after old' e).core.pages) l = ([], refl, tt) in
+        assumption
 
     -- the same, where the pass has this seat of the page, and knows the page, if the seat says so
     pub seat-shows : (seat : Seat) (loads : List (Put (List (ℕ × ℕ)))) (held : List (Put Held)) (own : List (Put (List ℕ))) → Settles (locking v (put p seat v.seats) loads held own)
@@ -442,23 +386,9 @@ module _ {X B : Type 0} (stored : B → Stored) (keeps : Start → Kept X → Ty
         → ShowsQuiet stored keeps tied start tells s r id v (slice_set s.words p x) (opened stored keeps tied start tells s r p) taken_did (locking v (put p seat v.seats) (put p [] v.loads) held (put p (last stored keeps tied start tells s r p).words v.drafts)) e
     owner-shows e y seat held is owns free others here owner =
         seat-shows taken_did x (opened stored keeps tied start tells s r p) e y seat (put p [] v.loads) held (put p (last stored keeps tied start tells s r p).words v.drafts) (exchange-settles (opened stored keeps tied start tells s r p) _ e y is) (λ o h same m. rw owns refl) (λ m. owns) others here owner
-        (λ q t.
-        ⊎_elim
-        (λ e'. absurd (true≢false (sym t ∙ ap (is_pending s.views) e' ∙ not-pending stored keeps tied start tells s r p l free)))
-        (λ ne. upd-other r.drafts p _ q ne)
-        (cases_eq q p))
-        (λ q m.
-        ⊎_elim
-        (λ e'.
-        ap (put_at [] (put p (last stored keeps tied start tells s r p).words v.drafts)) e'
-        ∙ upd-same (put_at [] v.drafts) p _
-        ∙ ap (λ (k : Version). k.words) (sym (last-is start r.releases r.drafts p))
-        ∙ sym (ap (opened stored keeps tied start tells s r p) e' ∙ upd-same r.drafts p _))
-        (λ ne.
-        upd-other (put_at [] v.drafts) p _ q ne
-        ∙ draft-stays q (sym (ap (λ (k : Seat). k.exclusive) (upd-other (λ n. seat_of v n) p seat q ne)) ∙ m)
-        ∙ sym (upd-other r.drafts p _ q ne))
-        (cases_eq q p))
+        (each-upd (λ q words. is_pending s.views q ≡ true → words ≡ r.drafts q) r.drafts p _ (λ t. absurd (true≢false (sym t ∙ not-pending stored keeps tied start tells s r p l free))) (λ q ne t. refl))
+        (each-upd2 (λ q mine words. (put_at no_seat (put p seat v.seats) q).exclusive ≡ true → mine ≡ words) (put_at [] v.drafts) r.drafts p _ _ (λ m. ap (λ (k : Version). k.words) (sym (last-is start r.releases r.drafts p)))
+        (λ q ne m. draft-stays q (sym (ap (λ (k : Seat). k.exclusive) (upd-other (λ n. seat_of v n) p seat q ne)) ∙ m)))
 
     -- a lock that is not exclusive
     pub sharer-shows : (e : Event) (y : Page) (seat : Seat) (held : List (Put Held)) → IsExchange stored start s r.releases r.drafts id p expects x r.drafts (locking v (put p seat v.seats) (put p [] v.loads) held v.drafts) e y
