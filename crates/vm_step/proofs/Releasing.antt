@@ -3,18 +3,17 @@ use Rattle.vm_core.specs.declared.event.Event.TheVariants.{Release}
 use Rattle.vm_core.specs.declared.event.Seen.TheVariants as sights
 use Rattle.vm_rule.specs.declared.view.Place.TheVariants as places
 use Rattle.vm_step.specs.Prelude.{Release as Released}
-use Rattle.vm_step.proofs.Prelude.{[], actor_of, after_step, ap, append-none, arith, at-bound, bare-state, bare-version, became, Bool, cases_eq}
-use Rattle.vm_step.proofs.Prelude.{Change, change_of, changed_pages, changes_of, core_shown, did_store, Downgrade, downgrade-step, downgraded_view}
-use Rattle.vm_step.proofs.Prelude.{draft-is, draft_of, Each, entries_of, Entry, entry_of, eq-eqb, eqb, Event, EVICTED, evicted_view, false, IsOwned}
-use Rattle.vm_step.proofs.Prelude.{false≢true, get_elem?, has, has-both, has-without, has-without_other, has-without_same, histories_of, History}
-use Rattle.vm_step.proofs.Prelude.{if◌then◌else◌, index_of, inl, inr, is_pending, IsClaimed, IsFirst, IsLater, IsMember, IsNotOut, IsSome, IsToldOf}
-use Rattle.vm_step.proofs.Prelude.{Kept, known, KnowsPages, last-is, last_in, last_of, Legal, length, List, locked-here, Mapping, MAX_VERSION}
-use Rattle.vm_step.proofs.Prelude.{held_at, may_call, MayDowngrade, MayEvict, MayGiveUp, ne_eqb, next_after, no_held, None, on_page, Option, or_cases}
-use Rattle.vm_step.proofs.Prelude.{or_right, Origin, Page, put, put_at, refl, release-else, release-here, release-step, release_of, released_view}
-use Rattle.vm_step.proofs.Prelude.{ReleaseE, releasee-step, Ruled, Seat, seat-here, seat_of, seen, slice_set, Some, some, Start, State, state_of}
-use Rattle.vm_step.proofs.Prelude.{Stored, subst, sym, Table, true, true≢false, UNLOCKED, upd, upd-other, upd-same, Version, version_of, View, width}
-use Rattle.vm_step.proofs.Prelude.{without, without-none, word-state, word-version, word_of, World, world_after, world_of, wrote, ℕ, ⊎_elim, ◌++◌}
-use Rattle.vm_step.proofs.Prelude.{◌+◌, ◌<◌, ◌||◌, ◌∙◌, ◌∷◌, ◌≡◌, ◌≢◌, ◌≤◌, ◌⊎◌}
+use Rattle.vm_step.proofs.Prelude.{[], actor_of, after_step, ap, append-none, arith, at-bound, bare-state, bare-version, became, Bool, cases_eq, Change}
+use Rattle.vm_step.proofs.Prelude.{change_of, changed_pages, changes_of, core_shown, did_store, Downgrade, downgrade-step, downgraded_view, draft-is, draft_of}
+use Rattle.vm_step.proofs.Prelude.{Each, entries_of, Entry, entry_of, eq-eqb, eqb, Event, EVICTED, evicted_view, false, false≢true, get_elem?, has, has-both}
+use Rattle.vm_step.proofs.Prelude.{has-without_other, has-without_same, held_at, histories_of, History, if◌then◌else◌, index_of, inl, inr, is_pending}
+use Rattle.vm_step.proofs.Prelude.{IsClaimed, IsFirst, IsLater, IsMember, IsNotOut, IsOwned, IsSome, IsToldOf, Kept, known, KnowsPages, last-is, last_in}
+use Rattle.vm_step.proofs.Prelude.{last_of, Legal, length, List, locked-here, Mapping, MAX_VERSION, may_call, MayDowngrade, MayEvict, MayGiveUp, nat_tests}
+use Rattle.vm_step.proofs.Prelude.{ne_eqb, next_after, no_held, None, on_page, Option, or_cases, or_right, Origin, Page, put, put_at, refl, release-else}
+use Rattle.vm_step.proofs.Prelude.{release-here, release-step, release_of, released_view, ReleaseE, releasee-step, Ruled, Seat, seat-here, seat_of, seen}
+use Rattle.vm_step.proofs.Prelude.{slice_set, Some, some, Start, State, state_of, Stored, subst, sym, Table, true, true≢false, UNLOCKED, upd, upd-other}
+use Rattle.vm_step.proofs.Prelude.{upd-same, Version, version_of, View, width, without, without-none, word-state, word-version, word_of, World, world_after}
+use Rattle.vm_step.proofs.Prelude.{world_of, wrote, ℕ, ⊎_elim, ◌++◌, ◌+◌, ◌<◌, ◌||◌, ◌∙◌, ◌∷◌, ◌≡◌, ◌≢◌, ◌≤◌, ◌⊎◌}
 use Rattle.vm_step.proofs.Mine.{owner-known}
 use Rattle.vm_step.proofs.steps.CatchUp.{found-below, written-below}
 
@@ -26,33 +25,24 @@ pub record Members (p : ℕ) (rest before after : List ℕ) : Type 0 where
   pub among : (q : ℕ) → has q after ≡ true → (q ≢ p) × ((has q before ≡ true) ⊎ (has q rest ≡ true))
   pub others : (q : ℕ) → q ≢ p → has q rest ≡ false → has q after ≡ has q before
 
+-- so it is, where those of `rest` come to the others
+members-of : (p : ℕ) (rest before after : List ℕ) → has p rest ≡ false → has p after ≡ false → ((q : ℕ) → q ≢ p → has q after ≡ (has q rest || has q before)) → Members p rest before after
+members-of p rest before after apart gone counts =
+    record {
+      gone = gone;
+      stays = λ q ne e. counts q ne ∙ or_right (has q rest) (has q before) e;
+      comes = λ q e. counts q (λ s. true≢false (sym e ∙ ap (λ n. has n rest) s ∙ apart)) ∙ rw e refl;
+      among = λ q e. let ne : q ≢ p = λ s. true≢false (sym e ∙ ap (λ n. has n after) s ∙ gone) in (ne, ⊎_elim inr inl (or_cases (has q rest) (has q before) (sym (counts q ne) ∙ e)));
+      others = λ q ne e. counts q ne ∙ rw e refl;
+    }
+
 -- p is the first of its group
 pub first-members : (p : ℕ) (rest before : List ℕ) → has p before ≡ false → has p rest ≡ false → Members p rest before (if has p before then without p before else rest ++ before)
-first-members p rest before free apart =
-    rw free (record {
-      gone = both p ∙ rw apart free;
-      stays = λ q ne e. both q ∙ or_right (has q rest) (has q before) e;
-      comes = λ q e. both q ∙ rw e refl;
-      among = λ q e. (
-        (λ s. true≢false (sym e ∙ ap (λ n. has n (rest ++ before)) s ∙ both p ∙ rw apart free)),
-        ⊎_elim (λ new. inr new) (λ old. inl old) (or_cases (has q rest) (has q before) (sym (both q) ∙ e)),
-      );
-      others = λ q ne e. both q ∙ rw e refl;
-    })
-  where
-    both : (q : ℕ) → has q (rest ++ before) ≡ (has q rest || has q before)
-    both q = has-both q rest before
+first-members p rest before free apart = rw free (members-of p rest before (rest ++ before) apart (has-both p rest before ∙ rw (apart, free) refl) (λ q _. has-both q rest before))
 
 -- p is a later member
 pub later-members : (p : ℕ) (before : List ℕ) → has p before ≡ true → Members p [] before (if has p before then without p before else [] ++ before)
-later-members p before member =
-    rw member (record {
-      gone = has-without_same p before;
-      stays = λ q ne e. has-without_other p q before ne ∙ e;
-      comes = λ q e. absurd (false≢true e);
-      among = λ q e. ((λ s. false≢true (sym (has-without_same p before) ∙ ap (λ n. has n (without p before)) (sym s) ∙ e)), inl (has-without p q before e));
-      others = λ q ne e. has-without_other p q before ne;
-    })
+later-members p before member = rw member (members-of p [] before (without p before) refl (has-without_same p before) (λ q ne. has-without_other p q before ne))
 
 -- a fact of each of the list, of one that stands in it
 pub each-has : (P : ℕ → Type 0) (qs : List ℕ) (q : ℕ) → Each P qs → has q qs ≡ true → P q
@@ -63,14 +53,7 @@ each-has P (x ∷ xs) q e some' =
 -- the loaded next word stays known where another page is given up
 pub next-kept : (p : ℕ) (o : Option ℕ) (x : ℕ) → next_after p o ≡ Some x → (x ≢ p) × (o ≡ Some x)
 next-kept p None x e = absurd (cc)
-next-kept p (Some y) x e =
-    ⊎_elim
-    (λ s. absurd (let none : None ≡ Some x = sym (ap (λ (b : Bool). if b then None else Some y) (eq-eqb y p s)) ∙ e in cc))
-    (λ ne. let is : Some y ≡ Some x = sym (ap (λ (b : Bool). if b then None else Some y) (ne_eqb y p ne)) ∙ e in ((λ s. ne (inside y x is ∙ s)), is))
-    (cases_eq y p)
-  where
-    inside : (a b : ℕ) → Some a ≡ Some b → a ≡ b
-    inside a b k = cc
+next-kept p (Some y) x e = grind (arith, nat_tests)
 
 module _ {X : Type 0} where
   pub entries-one : (v : View X) (said : Option X) → (entries_of v said ≡ []) ⊎ ((x : X) × (entries_of v said ≡ entry_of v x ∷ []))
@@ -95,8 +78,7 @@ pub data Way : Type 0 where
 -- where the page must stand, for each
 abbrev pub StandsFor : Way → Option Mapping → Type 0
 StandsFor Evicts m = m ≡ None
-StandsFor Unlocks m = IsSome m
-StandsFor Shares m = IsSome m
+StandsFor _ m = IsSome m
 
 -- what its frame's owner word must be: a page that is left in its frame is named
 abbrev pub OwnedFor : Way → ℕ → ℕ → Type 0
@@ -119,27 +101,23 @@ state_left Unlocks = UNLOCKED
 state_left Shares = 1
 
 abbrev pub word_left : Way → ℕ → ℕ
-word_left Evicts version = word_of EVICTED version
 word_left Unlocks version = version
-word_left Shares version = word_of 1 version
+word_left way version = word_of (state_left way) version
 
 abbrev pub seat_left : Way → Seat → Seat
-seat_left Evicts k = record k { exclusive = false }
-seat_left Unlocks k = record k { exclusive = false }
 seat_left Shares k = record k { shares = 1; exclusive = false }
+seat_left _ k = record k { exclusive = false }
 
 pub left-state : (way : Way) (version : ℕ) → version ≤ MAX_VERSION → state_of (word_left way version) ≡ state_left way
-left-state Evicts version l = word-state EVICTED version l
 left-state Unlocks version l = bare-state version l
-left-state Shares version l = word-state 1 version l
+left-state way version l = word-state (state_left way) version l
 
 pub left-version : (way : Way) (version : ℕ) → version ≤ MAX_VERSION → version_of (word_left way version) ≡ version
-left-version Evicts version l = word-version EVICTED version l
 left-version Unlocks version l = bare-version version l
-left-version Shares version l = word-version 1 version l
+left-version way version l = word-version (state_left way) version l
 
 pub left-exclusive : (way : Way) (k : Seat) → (seat_left way k).exclusive ≡ false
-left-exclusive Evicts k = refl
+left-exclusive Shares k = refl
 left-exclusive _ k = refl
 
 -- the event, and the page after it

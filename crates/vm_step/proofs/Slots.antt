@@ -6,18 +6,18 @@ use Rattle.vm_core.proofs.{At.at_set, PageFacts.none-some}
 use Rattle.vm_rule.specs.Slots.DeviceDid.{failed, read, wrote}
 use Rattle.vm_rule.specs.declared.view.Place.TheVariants as places
 use Rattle.vm_step.proofs.{Here.last-told, Quiet.has-led, Quiet.HasLed, Written.IsWordOf, Written.word-loaded}
-use Rattle.vm_step.proofs.Prelude.{[], after_more, any-same, ap, append-none, arith, at, at-bound, at_home, became_more, began_of, block-here}
-use Rattle.vm_step.proofs.Prelude.{block_after, block_of, BlocksFit, Bool, Brings, called, called-inv, called-left, caller-here, cases_Bool, cases_eq}
-use Rattle.vm_step.proofs.Prelude.{chosen, core-block, core_from, core_shown, count_more, DeviceDid, Did, did_load, draft-is, each-upd2, eqb, false}
-use Rattle.vm_step.proofs.Prelude.{faults-still, FaultsFit, frames_held, fun_ext, get_elem?, has, Held, held-still, held_at, histories_of, home}
-use Rattle.vm_step.proofs.Prelude.{home_view, idle, index_of, inl, inr, Inv, is_owed, is_pending, IsBlockOf, IsCalled, IsSome, Kept, kept_of, known}
-use Rattle.vm_step.proofs.Prelude.{KnowsPage, KnowsPages, leave_others, Leaves, length, length-set, List, listed, listed-upd, loads-still, LOCKED}
-use Rattle.vm_step.proofs.Prelude.{locked-here, Mapping, may_call, MayCall, NLoad, no_held, None, Note, on_page, Option, or_cases, Origin, Out}
-use Rattle.vm_step.proofs.Prelude.{out_at, out_of, out_or, out_view, Page, Put, put, put_at, refl, ReturnTold, Ruled, Seat, seat-here, seat_of}
-use Rattle.vm_step.proofs.Prelude.{seats-still, seats_of, shared-here, ShiftTold, ShowsMore, slice_index, slice_set, slot_of, SlotTold, Some, some}
-use Rattle.vm_step.proofs.Prelude.{some-injective, some-is, some-same, Start, State, steps_more, Stored, subst, suc, sym, Table, table_words, true}
-use Rattle.vm_step.proofs.Prelude.{true≢false, upd, upd-is, upd-other, upd-same, Version, View, words_held, World, world_of, zero, ℕ, ⊎_elim, ◌<◌}
-use Rattle.vm_step.proofs.Prelude.{each-upd, KnowsOwner, KnowsOwners, ◌||◌, ◌∙◌, ◌∷◌, ◌≡◌, ◌≢◌, ◌≤◌}
+use Rattle.vm_step.proofs.Prelude.{[], after_more, any-same, ap, append-none, arith, at, at-bound, at_home, became_more, began_of, block-here, block_after}
+use Rattle.vm_step.proofs.Prelude.{block_of, BlocksFit, Bool, Brings, called, called-inv, called-left, caller-here, cases_Bool, cases_eq, chosen, core-block}
+use Rattle.vm_step.proofs.Prelude.{core_from, core_shown, count_more, DeviceDid, Did, did_load, draft-is, Each, each-upd, each-upd2, eqb, false, faults-still}
+use Rattle.vm_step.proofs.Prelude.{FaultsFit, frames_held, fun_ext, get_elem?, has, Held, held-still, held_at, histories_of, home, home_view, idle, index_of}
+use Rattle.vm_step.proofs.Prelude.{inl, inr, Inv, is_owed, is_pending, IsBlockOf, IsCalled, IsSome, Kept, kept_of, known, KnowsOwner, KnowsOwners, KnowsPage}
+use Rattle.vm_step.proofs.Prelude.{KnowsPages, leave_others, Leaves, length, length-set, List, listed, listed-upd, loads-still, LOCKED, locked-here, Mapping}
+use Rattle.vm_step.proofs.Prelude.{may_call, MayCall, NLoad, no_held, None, Note, on_page, Option, or_cases, Origin, Out, out_at, out_of, out_or, out_view}
+use Rattle.vm_step.proofs.Prelude.{Page, Put, put, put_at, refl, ReturnTold, Ruled, rules, Seat, seat-here, seat_of, seats-still, seats_of, shared-here}
+use Rattle.vm_step.proofs.Prelude.{ShiftTold, ShowsMore, slice_index, slice_set, slot_of, SlotTold, Some, some, some-injective, some-is, some-same, Start}
+use Rattle.vm_step.proofs.Prelude.{State, steps_more, Stored, subst, suc, sym, Table, table_words, Tie, TieHolds, Translation, TranslationHolds, true}
+use Rattle.vm_step.proofs.Prelude.{true≢false, upd, upd-is, upd-other, upd-same, Version, View, words_held, World, world_of, zero, ℕ, ⊎_elim, ◌++◌, ◌<◌, ◌||◌}
+use Rattle.vm_step.proofs.Prelude.{◌∙◌, ◌∷◌, ◌≡◌, ◌≢◌, ◌≤◌}
 
 -- an element in range, by its function
 pub get-at : {A : Type 0} (d : A) (l : List A) (i : ℕ) (a : A) → i < length l → at d l i ≡ a → get_elem? l i ≡ some a
@@ -123,46 +123,26 @@ module _ {X B : Type 0} (stored : B → Stored) (keeps : Start → Kept X → Ty
         members = λ q _. refl;
         up = let same = sh.next in omega (arith, same);
       }) in
-      let next-stays : (core_shown stored start new).next ≡ old.core.next = ap (λ (c : State). c.next) sh.core_is ∙ sh.next in
       let owed-stays : is_owed (slice_set s.views id after) ≡ is_owed s.views = fun_ext (λ q. any-same (λ (y : View X). has q y.owed) s.views id v after there refl) in
-      record {
-        wide = sh.word.wide;
-        slots = sh.slots;
-        spelled = sh.word.spelled;
-        inv = subst Inv (sym led.world) sh.inv;
-        left = subst (Leaves id old) (sym led.world) sh.left;
-        outside = λ q _. ap (λ (w : World). w.histories q) led.world;
-        told = sh.told;
-        fit = sh.fit;
-        faults = subst (λ (c : State). FaultsFit c.pages (slice_set s.views id after)) (sym sh.core_is) sh.faults;
-        at = sh.word.at;
-        found = sh.word.found;
-        wrote = sh.word.wrote;
-        live = refl;
-        same_start = refl;
-        used = refl;
-        fresh = refl;
-        log = refl;
-        entry = inl refl;
-        mine = sym (append-none v.mine);
-        next_versions = tt;
-        zero = led.zero;
-        knows = λ q. subst (λ (c : State). KnowsPage (seat_of v q) (put_at no_held held q) (c.pages q)) (sym sh.core_is) (sh.knows q);
-        owners = λ q m x at. sh.owners q m x at ∙ sym (ap (λ (c : State). c.owners m.frame) sh.core_is);
-        contents = λ f x. k.contents f x ∙ sym (ap (λ (y : ℕ → List ℕ). y f) (ap (λ (c : State). c.words) sh.core_is ∙ sh.contents));
-        drafted = λ q x. k.drafts q x ∙ draft-is start r.releases r.drafts q;
-        pending = led.members;
-        owed = λ q x. let m = k.owed q x in (m.0, m.1, subst (λ n. q < n) (sym next-stays) m.2, m.3);
-        next = λ x e. let m = k.next x e in (m.0, next-stays ∙ m.1);
-        loaded = ([], refl, tt);
-        tying = ([], refl, λ _. tt);
-        members = λ q was gone. absurd (true≢false (sym was ∙ gone));
-        owner = λ t kept. subst (keeps (began_of start)) (sym led.kept) (subst (keeps (began_of start)) (λ i. record (kept_of old r.history s.views) {
-          next = sym sh.next i;
-          owed = chosen start.pages (sym owed-stays i);
-          history = sym (append-none r.history) i;
-        }) kept);
-      }
+      let known = subst (λ (c : State). ((q : ℕ) → KnowsPage (seat_of v q) (put_at no_held held q) (c.pages q)) × KnowsOwners c.owners (seat_of v) (put_at no_held held)
+      × ((f : ℕ) → has f v.frames ≡ true → put_at [] v.contents f ≡ c.words f) × FaultsFit c.pages (slice_set s.views id after)
+      × ((q : ℕ) → has q v.owed ≡ true → ((seat_of v q).exclusive ≡ true) × (start.next ≤ q) × (q < c.next) × (has q v.pending ≡ false))
+      × ((x : ℕ) → v.next ≡ Some x → ((seat_of v x).exclusive ≡ true) × (c.next ≡ x))) (sym sh.core_is) (
+        sh.knows,
+        sh.owners,
+        λ f x. k.contents f x ∙ sym (ap (λ (y : ℕ → List ℕ). y f) sh.contents),
+        sh.faults,
+        λ q x. let m = k.owed q x in (m.0, m.1, subst (λ n. q < n) (sym sh.next) m.2, m.3),
+        λ x e. let m = k.next x e in (m.0, sh.next ∙ m.1),
+      ) in
+      let outside = λ (q : ℕ) (past : start.pages ≤ q). ap (λ (w : World). w.histories q) led.world in
+      let drafted = λ (q : ℕ) (x : (seat_of v q).exclusive ≡ true). k.drafts q x ∙ draft-is start r.releases r.drafts q in
+      let loaded : (l : List Translation) × (v.translations ≡ l ++ v.translations) × Each (TranslationHolds (core_shown stored start new).pages) l = ([], refl, tt) in
+      let tying : (l : List Tie) × (v.ties ≡ l ++ v.ties) × (start.tells ≡ true → Each (TieHolds tied (began_of start) (world_of stored start (r.releases ++ []) r.drafts new) (is_pending (slice_set s.views id after))) l) = ([], refl, λ _. tt) in
+      let members : (q : ℕ) → has q v.pending ≡ true → has q v.pending ≡ false → ((core_shown stored start new).pages q).version ≢ (old.core.pages q).version = λ q was gone. absurd (true≢false (sym was ∙ gone)) in
+      let owner = λ (t : start.tells ≡ true) (kept : keeps (began_of start) (kept_of old r.history s.views)). subst (keeps (began_of start)) (sym led.kept)
+      (subst (keeps (began_of start)) (λ i. record (kept_of old r.history s.views) { next = sym sh.next i; owed = chosen start.pages (sym owed-stays i); history = sym (append-none r.history) i }) kept) in
+      search (rules, inl, sh.word, subst Inv (sym led.world) sh.inv, subst (Leaves id old) (sym led.world) sh.left, outside, sym (append-none v.mine), known, drafted, loaded, tying, members, owner)
 
 -- an empty slot, or one that is with a pass, has no block at home
 pub slot-empty : {B : Type 0} (stored : B → Stored) (o : Out) (d : Option Stored) → known stored (at_home (slot_of o)) d ≡ known stored None d

@@ -1,12 +1,11 @@
 -- One pass more is taken in.
 use Rattle.vm_rule.specs.declared.view.Place.TheVariants as places
-use Rattle.vm_step.proofs.Prelude.{[], All, all_notes, all_used, any, ap, append-none, append_assoc, AreApart, arith, Bool, CaughtUp, Did, did_load}
-use Rattle.vm_step.proofs.Prelude.{Each, each-both, each-map, entries-both, entries-within, entries_by, Entry, false, first_part, giver, has}
-use Rattle.vm_step.proofs.Prelude.{has-joined, has-left, has-right, HasJoined, HasPiece, HasShape, HasStill, Hears, HoldsNoPage, HoldsNothing}
-use Rattle.vm_step.proofs.Prelude.{IsReady, IsWhole, joined, JoinTold, length, length-append, List, map, newcomer, numbers, or-false, or_assoc}
-use Rattle.vm_step.proofs.Prelude.{Origin, other_parts, owns, parts-cut, Pass, PassesSplit, refl, Release, Shape, StartsWith, subst, suc, sym}
-use Rattle.vm_step.proofs.Prelude.{TableId, times, times-joined, total, true, View, view, view_from, zero, ℕ, ◌++◌, ◌+◌, ◌<◌, ◌||◌, ◌∙◌, ◌∷◌, ◌≡◌}
-use Rattle.vm_step.proofs.Prelude.{◌≤◌}
+use Rattle.vm_step.proofs.Prelude.{[], All, all_notes, all_used, any, ap, append-none, append_assoc, AreApart, arith, Bool, CaughtUp, Did, did_load, Each}
+use Rattle.vm_step.proofs.Prelude.{each-both, each-map, entries-both, entries-within, entries_by, Entry, first_part, giver, has, has-joined, has-left}
+use Rattle.vm_step.proofs.Prelude.{has-right, HasJoined, HasPiece, HasShape, HasStill, Hears, HoldsNoPage, HoldsNothing, IsReady, IsWhole, joined, JoinTold}
+use Rattle.vm_step.proofs.Prelude.{length, length-append, List, map, newcomer, numbers, or-false, or_assoc, Origin, other_parts, owns, parts-cut, Pass}
+use Rattle.vm_step.proofs.Prelude.{PassesSplit, refl, Release, Shape, StartsWith, subst, suc, sym, TableId, times, times-joined, total, true, View, view}
+use Rattle.vm_step.proofs.Prelude.{view_from, zero, ℕ, ◌++◌, ◌+◌, ◌<◌, ◌||◌, ◌∙◌, ◌∷◌, ◌≡◌, ◌≤◌}
 use Rattle.vm_step.proofs.Still.{caught-still, still-fresh}
 
 pub starts-on : {A : Type 0} (l m n : List A) → StartsWith l m → StartsWith m n → StartsWith l n
@@ -42,10 +41,7 @@ numbers-length a zero = refl
 numbers-length a (suc n) = let rest : length (numbers (suc a) n) ≡ n = numbers-length (suc a) n in omega (arith, rest)
 
 or-turn : (a b c : Bool) → (a || (b || c)) ≡ ((b || a) || c)
-or-turn true true c = refl
-or-turn true false c = refl
-or-turn false true c = refl
-or-turn false false c = refl
+or-turn a b c = grind arith
 
 module _ {U X : Type 0} {o : _} where
   -- another pass of the table, or the same with another view
