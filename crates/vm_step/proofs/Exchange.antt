@@ -14,9 +14,9 @@ use Rattle.vm_step.proofs.Prelude.{IsUnheld, Kept, KnowsOwner, KnowsOwners, Know
 use Rattle.vm_step.proofs.Prelude.{locked_view, LockS, locks-step, LockValidates, LockW, lockw-step, LockX, lockx-step, lost-locks, lost-lockw, lost-lockx}
 use Rattle.vm_step.proofs.Prelude.{lost-mark, lost-unmark, lost-upgrade, Mapping, Mark, mark-step, MARKED, marked, may_call, MayLock, MayRaiseLock, MayShare}
 use Rattle.vm_step.proofs.Prelude.{NamesActorAndPage, no_held, no_seat, None, on_page, one_share_more, Option, Origin, Out, Page, page_at, page_word, Place}
-use Rattle.vm_step.proofs.Prelude.{Put, put, put_at, refl, Release, rested, Ruled, same-word, Seat, seat-here, seat_of, Seen, seen, set_if, share_count, shared}
-use Rattle.vm_step.proofs.Prelude.{shared_view, Shows, slice_index, slice_set, Some, some, Start, State, state-here, state_of, steps, Stored, subst, sum_below}
-use Rattle.vm_step.proofs.Prelude.{sum_below-at, sym, Table, table_after, Translation, TranslationHolds, true, true≢false, unheld, UNLOCKED, Unmark}
+use Rattle.vm_step.proofs.Prelude.{Put, put, put_at, refl, Release, rested, Ruled, rules, same-word, Seat, seat-here, seat_of, Seen, seen, set_if, share_count}
+use Rattle.vm_step.proofs.Prelude.{shared, shared_view, Shows, slice_index, slice_set, Some, some, Start, State, state-here, state_of, steps, Stored, subst}
+use Rattle.vm_step.proofs.Prelude.{sum_below, sum_below-at, sym, Table, table_after, Translation, TranslationHolds, true, true≢false, unheld, UNLOCKED, Unmark}
 use Rattle.vm_step.proofs.Prelude.{unmark-step, unmarked, upd, upd-keeps, upd-other, upd-same, Upgrade, upgrade-step, upgraded, upgraded_view, Version}
 use Rattle.vm_step.proofs.Prelude.{version-here, version-within, version_of, View, width, Within, word-here, word-state, word-version, word_of, World}
 use Rattle.vm_step.proofs.Prelude.{world_after, world_of, write_locked, write_locked_view, wrote, ℕ, ⊎_elim, ◌++◌, ◌+◌, ◌<◌, ◌∙◌, ◌≡◌, ◌≢◌, ◌≤◌}
@@ -209,18 +209,10 @@ module _ {X B : Type 0} (stored : B → Stored) (keeps : Start → Kept X → Ty
       let k = exchange-tells stored keeps tied start tells s r id v there live number (places.State p) expects x l drafts inner e actor is.legal
       (λ hit. quiet-shows stored keeps tied start tells s r id v (slice_set s.words p x) drafts (did_exchange (places.State p) expects (slice_index s.words p) x) inner e there live (shows hit))
       (λ miss. is.none (missing stored keeps tied start tells s r id v there p expects l miss)) in
-      let told : last_of k.0 p ≡ last stored keeps tied start tells s r p = (λ i. last_in (k.3 i) (k.4 i) p) ∙ last-told stored keeps tied start tells s r id v there live p in (
-        k.0,
-        record {
-          rule = k.1;
-          brings = k.2;
-          last = told;
-          version = ap (λ (y : Version). y.version) told ∙ (r.inv.pages p).stands.last ∙ version-here stored start s p l;
-          since = since stored keeps tied start tells s r id v there live p l;
-          older = older stored keeps tied start tells s r id v there live p l;
-          size = ap (λ (y : Version). length y.words) told ∙ (r.inv.pages p).sizes.last;
-        },
-      )
+      let told : last_of k.0 p ≡ last stored keeps tied start tells s r p = (λ i. last_in (k.3 i) (k.4 i) p) ∙ last-told stored keeps tied start tells s r id v there live p in
+      let version = ap (λ (y : Version). y.version) told ∙ (r.inv.pages p).stands.last ∙ version-here stored start s p l in
+      let size = ap (λ (y : Version). length y.words) told ∙ (r.inv.pages p).sizes.last in
+      (k.0, search (rules, k.1, k.2, told, version, since stored keeps tied start tells s r id v there live p l, older stored keeps tied start tells s r id v there live p l, size))
 
   -- where nobody has the page locked exclusively, the exchange validates the open read and the ties
   pub tried-validates : (law : (start : Start) (kept : Kept X) (q p : ℕ) → keeps start kept → q < length kept.pages → p < length kept.pages → tied start q (page_at kept.pages q) p (page_at kept.pages p))
