@@ -42,30 +42,22 @@ module _ {X B : Type 0} (stored : B → Stored) (keeps : Start → Kept X → Ty
       → (finding_at ≢ expects → world_after (world stored keeps tied start tells s r) e ≡ world stored keeps tied start tells s r)
       → (w : View X) × Ruled stored keeps tied start tells (became stored keeps tied start tells s exchanged_at id w) × Brings exchange_did [] [] v (if eqb finding_at expects then inner else v) w × (w.start ≡ v.start) × (w.releases ≡ r.releases ++ [])
   exchange-tells drafts inner e actor legal shows none =
+      let i : ℕ = index_of start at in
+      let told : Bool → View X → Type 0 = λ b w. Ruled stored keeps tied start tells (became stored keeps tied start tells s (slice_set s.words i (either b x finding_at)) id w) × Brings exchange_did [] [] v (if b then inner else v) w in
       ⊎_elim
       (λ hit.
       let is : eqb finding_at expects ≡ true = eq-eqb finding_at expects hit in
-      let words : List ℕ = slice_set s.words (index_of start at) x in
+      let words : List ℕ = slice_set s.words i x in
       let w : View X = after_step stored keeps tied start tells s r words [] [] exchange_did inner in
-      let k = steps stored keeps tied start tells s r id v words drafts [] [] exchange_did inner e there live number actor
-      (subst (λ b. words ≡ set_if (if b then Some x else None) (index_of start at) s.words) (sym is) refl) (shows hit) in (
-        w,
-        subst (λ b. Ruled stored keeps tied start tells (became stored keeps tied start tells s (slice_set s.words (index_of start at) (either b x finding_at)) id w)) (sym is) k.0,
-        subst (λ (b : Bool). Brings exchange_did [] [] v (if b then inner else v) w) (sym is) k.1,
-        (shows hit).same_start,
-        refl,
-      ))
+      let k = subst (λ (b : Bool). told b w) (sym is) (steps stored keeps tied start tells s r id v words drafts [] [] exchange_did inner e there live number actor
+      (subst (λ b. words ≡ set_if (if b then Some x else None) i s.words) (sym is) refl) (shows hit)) in
+      (w, k.0, k.1, (shows hit).same_start, refl))
       (λ miss.
       let is : eqb finding_at expects ≡ false = ne_eqb finding_at expects miss in
       let w : View X = after_step stored keeps tied start tells s r s.words [] [] exchange_did v in
-      let k = rested stored keeps tied start tells s r id v exchange_did e there live number actor legal (none miss) l refl (ap {B = Option ℕ} (λ b. if b then Some x else None) is) in (
-        w,
-        subst (λ b. Ruled stored keeps tied start tells (became stored keeps tied start tells s (slice_set s.words (index_of start at) (either b x finding_at)) id w)) (sym is)
-            (subst (λ words. Ruled stored keeps tied start tells (became stored keeps tied start tells s words id w)) (sym (same-word s.words (index_of start at))) k.0),
-        subst (λ (b : Bool). Brings exchange_did [] [] v (if b then inner else v) w) (sym is) k.1,
-        refl,
-        refl,
-      ))
+      let m = rested stored keeps tied start tells s r id v exchange_did e there live number actor legal (none miss) l refl (ap {B = Option ℕ} (λ b. if b then Some x else None) is) in
+      let k = subst (λ (b : Bool). told b w) (sym is) (subst (λ words. Ruled stored keeps tied start tells (became stored keeps tied start tells s words id w)) (sym (same-word s.words i)) m.0, m.1) in
+      (w, k.0, k.1, refl, refl))
       (cases_eq finding_at expects)
 
 module _ {X B : Type 0} (stored : B → Stored) (start : Origin) (keeps : Start → Kept X → Type 0) (tied : Start → ℕ → List ℕ → ℕ → List ℕ → Type 0) (tells : Bool) (s : Table (Option B) (View X)) (id : ℕ) where

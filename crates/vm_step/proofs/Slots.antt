@@ -8,14 +8,14 @@ use Rattle.vm_rule.specs.declared.view.Place.TheVariants as places
 use Rattle.vm_step.proofs.{Here.last-told, Quiet.has-led, Quiet.HasLed, Written.IsWordOf, Written.word-loaded}
 use Rattle.vm_step.proofs.Prelude.{[], after_more, any-same, ap, append-none, arith, at, at-bound, at_home, became_more, began_of, block-here, block_after}
 use Rattle.vm_step.proofs.Prelude.{block_of, BlocksFit, Bool, Brings, called, called-inv, called-left, caller-here, cases_Bool, cases_eq, chosen, core-block}
-use Rattle.vm_step.proofs.Prelude.{core_from, core_shown, count_more, DeviceDid, Did, did_load, draft-is, Each, each-upd, each-upd2, eqb, false, faults-still}
+use Rattle.vm_step.proofs.Prelude.{core_from, core_shown, count_more, DeviceDid, Did, did_load, draft-is, Each, each-upd, each-upd2, false, faults-still}
 use Rattle.vm_step.proofs.Prelude.{FaultsFit, frames_held, fun_ext, get_elem?, has, Held, held-still, held_at, histories_of, home, home_view, idle, index_of}
 use Rattle.vm_step.proofs.Prelude.{inl, inr, Inv, is_owed, is_pending, IsBlockOf, IsCalled, IsSome, Kept, kept_of, known, KnowsOwner, KnowsOwners, KnowsPage}
 use Rattle.vm_step.proofs.Prelude.{KnowsPages, leave_others, Leaves, length, length-set, List, listed, listed-upd, loads-still, LOCKED, locked-here, Mapping}
-use Rattle.vm_step.proofs.Prelude.{may_call, MayCall, NLoad, no_held, None, Note, on_page, Option, or_cases, Origin, Out, out_at, out_of, out_or, out_view}
-use Rattle.vm_step.proofs.Prelude.{Page, Put, put, put_at, refl, ReturnTold, Ruled, rules, Seat, seat-here, seat_of, seats-still, seats_of, shared-here}
-use Rattle.vm_step.proofs.Prelude.{ShiftTold, ShowsMore, slice_index, slice_set, slot_of, SlotTold, Some, some, some-injective, some-is, some-same, Start}
-use Rattle.vm_step.proofs.Prelude.{State, steps_more, Stored, subst, suc, sym, Table, table_words, Tie, TieHolds, Translation, TranslationHolds, true}
+use Rattle.vm_step.proofs.Prelude.{may_call, MayCall, nat_tests, NLoad, no_held, None, Note, on_page, Option, or_cases, Origin, Out, out_at, out_of, out_or}
+use Rattle.vm_step.proofs.Prelude.{out_view, Page, Put, put, put_at, refl, ReturnTold, Ruled, rules, Seat, seat-here, seat_of, seats-still, seats_of}
+use Rattle.vm_step.proofs.Prelude.{shared-here, ShiftTold, ShowsMore, slice_index, slice_set, slot_of, SlotTold, Some, some, some-injective, some-is, some-same}
+use Rattle.vm_step.proofs.Prelude.{Start, State, steps_more, Stored, subst, suc, sym, Table, table_words, Tie, TieHolds, Translation, TranslationHolds, true}
 use Rattle.vm_step.proofs.Prelude.{true≢false, upd, upd-is, upd-other, upd-same, Version, View, words_held, World, world_of, zero, ℕ, ⊎_elim, ◌++◌, ◌<◌, ◌||◌}
 use Rattle.vm_step.proofs.Prelude.{◌∙◌, ◌∷◌, ◌≡◌, ◌≢◌, ◌≤◌}
 
@@ -49,8 +49,7 @@ out-at_page o d = rw (eq-eqb o.page o.page refl) refl
 -- nothing is out, so not this
 none-before : (x : Option Out) (p : ℕ) (d : Option Stored) → out_or x p d ≡ None → (d ≡ None) × ((d' : Option Stored) → out_or x p d' ≡ d')
 none-before None p d e = (e, λ _. refl)
-none-before (Some o) p d e =
-    ⊎_elim (λ t. absurd (let h : out_or (Some o) p d ≡ Some o.block = rw t refl in cc)) (λ f. ((let h : out_or (Some o) p d ≡ d = rw f refl in sym h ∙ e), λ d'. rw f refl)) (cases_Bool (eqb o.page p))
+none-before (Some o) p d e = grind (arith, nat_tests)
 
 passes-by : (x : Option Out) (p : ℕ) (d : Option Stored) → ((o : Out) → x ≡ Some o → o.page ≢ p) → out_or x p d ≡ d
 passes-by None p d k = refl
@@ -187,34 +186,34 @@ module _ {X B : Type 0} (stored : B → Stored) (keeps : Start → Kept X → Ty
       let homes : List (maybe.Option (Option B)) = slice_set s.homes p (slot_of o) in
       let w : View X = slot-view homes p moving b in
       let inside : p < length s.homes = subst (λ n. p < n) (sym r.wide.1) l in
+      let fit : BlocksFit stored start homes (slice_set s.views id w) = record {
+        away = λ j u o' e x. ⊎_elim
+            (λ (t : (j ≡ id) × (w ≡ u)). let is : o ≡ o' = some-same o o' (ap (λ (y : View X). y.out) t.1 ∙ x) in
+            subst (λ (y : Out). (y.page < start.pages) × (may_call (seat_of u y.page) ≡ true) × (at maybe.none homes y.page ≡ slot_of y)) is
+            (l, subst (λ (y : View X). may_call (seat_of y p) ≡ true) t.1 calls, slot-here s.homes p (slot_of o) inside))
+            (λ (t : (j ≢ id) × (get_elem? s.views j ≡ some u)). let a = r.blocks.away j u o' t.1 x in (a.0, a.1, slot-else s.homes p o'.page (slot_of o) inside (others j u o' t.0 t.1 x) ∙ a.2))
+            (list-set s.views id j w u e);
+        home = λ q lq e. ⊎_elim
+            (λ here. absurd (none-some b (sym e ∙ ap (out_of (slice_set s.views id w)) here ∙ now)))
+            (λ ne. subst (λ x. IsSome (at_home x)) (sym (slot-else s.homes p q (slot_of o) inside ne)) (r.blocks.home q lq (sym (elsewhere q ne) ∙ e)))
+            (cases_eq q p);
+        bounds = λ q lq. ap (λ (y : ℕ → Stored). (y q).bound) same ∙ r.blocks.bounds q lq;
+      } in
       steps_more stored keeps tied start tells s r id v s.words homes blocks-now None r.drafts [] [] (fault-load p) (out_view p moving b v) there live number refl refl
       (device-shows stored keeps tied start tells s r id v s.words homes blocks-now (fault-load p) (Some o) v.held v.notes (core_shown stored start s) there live
-      (record {
-        word = word-loaded start s.words (places.Fault p) r.wide.0 r.spelled l;
-        slots = length-set s.homes p (slot_of o) ∙ r.wide.1;
-        core_is = core-slots stored start s homes id v w (block_of stored s.homes s.views) there refl refl same;
-        inv = r.inv;
-        left = rests-left;
-        next = refl;
-        contents = refl;
-        owners = (r.known id v there live).owners;
-        told = ap (listed start.pages) same;
-        fit = record {
-          away = λ j u o' e x. ⊎_elim
-              (λ (t : (j ≡ id) × (w ≡ u)). let is : o ≡ o' = some-same o o' (ap (λ (y : View X). y.out) t.1 ∙ x) in
-              subst (λ (y : Out). (y.page < start.pages) × (may_call (seat_of u y.page) ≡ true) × (at maybe.none homes y.page ≡ slot_of y)) is
-              (l, subst (λ (y : View X). may_call (seat_of y p) ≡ true) t.1 calls, slot-here s.homes p (slot_of o) inside))
-              (λ (t : (j ≢ id) × (get_elem? s.views j ≡ some u)). let a = r.blocks.away j u o' t.1 x in (a.0, a.1, slot-else s.homes p o'.page (slot_of o) inside (others j u o' t.0 t.1 x) ∙ a.2))
-              (list-set s.views id j w u e);
-          home = λ q lq e. ⊎_elim
-              (λ here. absurd (none-some b (sym e ∙ ap (out_of (slice_set s.views id w)) here ∙ now)))
-              (λ ne. subst (λ x. IsSome (at_home x)) (sym (slot-else s.homes p q (slot_of o) inside ne)) (r.blocks.home q lq (sym (elsewhere q ne) ∙ e)))
-              (cases_eq q p);
-          bounds = λ q lq. ap (λ (y : ℕ → Stored). (y q).bound) same ∙ r.blocks.bounds q lq;
-        };
-        faults = faults-still stored keeps tied start tells s r id v w (world_of stored start r.releases r.drafts s) there refl rests-left;
-        knows = k.knows;
-      }))
+      (search (
+        rules,
+        word-loaded start s.words (places.Fault p) r.wide.0 r.spelled l,
+        length-set s.homes p (slot_of o) ∙ r.wide.1,
+        core-slots stored start s homes id v w (block_of stored s.homes s.views) there refl refl same,
+        r.inv,
+        rests-left,
+        k.owners,
+        ap (listed start.pages) same,
+        fit,
+        faults-still stored keeps tied start tells s r id v w (world_of stored start r.releases r.drafts s) there refl rests-left,
+        k.knows,
+      )))
 
   -- a pass that may call the page's device and does not hold it exclusively has a share of it
   pub has-share : (p : ℕ) → p < start.pages → may_call (seat_of v p) ≡ true → (seat_of v p).exclusive ≡ false → 1 ≤ (seat_of v p).shares
@@ -457,22 +456,22 @@ module _ {X B : Type 0} (stored : B → Stored) (keeps : Start → Kept X → Ty
         let y : Page = called (page p) (stored b).count (stored b).words in
         let is : IsCalled start.tells world.core.words (page p) (stored b).count (stored b).words = is-called o (stored b) out did in
         let left = called-left world id p (stored b).count (stored b).words r.inv (may-call p k.0 k.1) is in
+        let known : (q : ℕ) → KnowsPage (seat_of v q) (put_at no_held (put p h v.held) q) (upd world.core.pages p y q) = each-upd2 (λ q (x : Held) (z : Page). KnowsPage (seat_of v q) x z) (put_at no_held v.held) world.core.pages p h y
+        (let knows = (mine.knows p).calls k.1 in record { calls = λ _. (knows.0, knows.1, refl, refl); shares = (mine.knows p).shares }) (λ q _. mine.knows q) in
+        let owners = each-upd (λ q (x : Held). KnowsOwner world.core.owners (seat_of v q) x) (put_at no_held v.held) p h (mine.owners p) (λ q _. mine.owners q) in
         let done = steps_more stored keeps tied start tells s r id v s.words (home-slots p b) (home-blocks p b) (Some (p, stored b)) r.drafts [] [] (fault-load p) (home_view p (stored b) v) there live number refl refl
         (device-shows stored keeps tied start tells s r id v s.words (home-slots p b) (home-blocks p b) (fault-load p) None (put p h v.held) v.notes (on_page world.core p y) there live
-        (record {
-          word = word-loaded start s.words (places.Fault p) r.wide.0 r.spelled k.0;
-          slots = length-set s.homes p (maybe.some (Some b)) ∙ r.wide.1;
-          core_is = core-home (home-after p b) refl refl refl;
-          inv = called-inv world id p (stored b).count (stored b).words r.inv (may-call p k.0 k.1) is;
-          left = left;
-          next = refl;
-          contents = refl;
-          owners = each-upd (λ q (x : Held). KnowsOwner world.core.owners (seat_of v q) x) (put_at no_held v.held) p h (mine.owners p) (λ q _. mine.owners q);
-          told = ap (listed start.pages) (blocks-home (home-after p b) refl) ∙ listed-upd start.pages (block_of stored s.homes s.views) p (stored b) k.0;
-          fit = fit-home bound;
-          faults = faults-still stored keeps tied start tells s r id v (home-after p b) (record world { core = on_page world.core p y }) there refl left;
-          knows = each-upd2 (λ q (x : Held) (z : Page). KnowsPage (seat_of v q) x z) (put_at no_held v.held) world.core.pages p h y
-              (let knows = (mine.knows p).calls k.1 in record { calls = λ _. (knows.0, knows.1, refl, refl); shares = (mine.knows p).shares })
-              (λ q _. mine.knows q);
-        })) in
+        (search (
+          rules,
+          word-loaded start s.words (places.Fault p) r.wide.0 r.spelled k.0,
+          length-set s.homes p (maybe.some (Some b)) ∙ r.wide.1,
+          core-home (home-after p b) refl refl refl,
+          called-inv world id p (stored b).count (stored b).words r.inv (may-call p k.0 k.1) is,
+          left,
+          owners,
+          ap (listed start.pages) (blocks-home (home-after p b) refl) ∙ listed-upd start.pages (block_of stored s.homes s.views) p (stored b) k.0,
+          fit-home bound,
+          faults-still stored keeps tied start tells s r id v (home-after p b) (record world { core = on_page world.core p y }) there refl left,
+          known,
+        ))) in
         (done.0, record { brings = done.1 })

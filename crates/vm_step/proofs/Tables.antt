@@ -2,53 +2,31 @@
 use Rattle.std.proofs.lemmas.List.{length-set}
 use Rattle.vm_rule.specs.declared.view.Place.TheVariants as places
 use Rattle.vm_step.proofs.Alone.{set-else}
-use Rattle.vm_step.proofs.Prelude.{[], ap, arith, bundle_count, cases_lt, cond-false, cond-true, Did, Each, each-map, Follows, get_or-set_same, get_or_past}
-use Rattle.vm_step.proofs.Prelude.{HasGiven, if◌then◌else◌, index_of, inl, inr, IsAlone, IsFoundAt, KnowsAt, KnowsElse, le-ltb, length, List, lt-ltb, nat_lt}
-use Rattle.vm_step.proofs.Prelude.{nat_tests, None, Option, Origin, Place, refl, Release, RunsAlone, set_if, slice_index, slice_set, Some, subst, sym, View}
-use Rattle.vm_step.proofs.Prelude.{Within, ℕ, ⊎_elim, ◌%◌, ◌*◌, ◌++◌, ◌+◌, ◌-◌, ◌/◌, ◌<◌, ◌==◌, ◌∙◌, ◌∷◌, ◌≡◌, ◌≢◌, ◌≤◌, ◌⊎◌}
+use Rattle.vm_step.proofs.Prelude.{[], ap, arith, bundle_count, cases_lt, Did, Each, each-map, Follows, get_or-set_same, get_or_past, HasGiven, if◌then◌else◌}
+use Rattle.vm_step.proofs.Prelude.{index_of, inl, inr, IsAlone, IsFoundAt, KnowsAt, KnowsElse, length, List, nat_lt, nat_tests, None, Option, Origin, Place}
+use Rattle.vm_step.proofs.Prelude.{refl, Release, RunsAlone, set_if, slice_index, slice_set, Some, subst, sym, View, Within, ℕ, ⊎_elim, ◌%◌, ◌*◌, ◌++◌, ◌+◌}
+use Rattle.vm_step.proofs.Prelude.{◌-◌, ◌/◌, ◌<◌, ◌==◌, ◌∙◌, ◌∷◌, ◌≡◌, ◌≢◌, ◌⊎◌}
 
 -- ---- a place and its index
 
--- the place with this index, from the bundles on; and from the first word on
-unfoldable late_place : Origin → ℕ → Place
-late_place start i =
-    if nat_lt i (3 * start.pages + 64 * start.frames + bundle_count start) then places.Bundle (i - (3 * start.pages + 64 * start.frames))
-    else if i == 3 * start.pages + 64 * start.frames + bundle_count start then places.Next
-    else if i == 3 * start.pages + 64 * start.frames + bundle_count start + 1 then places.Hand
-    else places.Owner (i - (3 * start.pages + 64 * start.frames + bundle_count start + 2))
-
+-- the place with this index
 unfoldable place_at : Origin → ℕ → Place
 place_at start i =
     if nat_lt i start.pages then places.State i
     else if nat_lt i (2 * start.pages) then places.Translation (i - start.pages)
     else if nat_lt i (3 * start.pages) then places.Fault (i - 2 * start.pages)
     else if nat_lt i (3 * start.pages + 64 * start.frames) then places.Content ((i - 3 * start.pages) / 64) ((i - 3 * start.pages) % 64)
-    else late_place start i
-
-before-bundles : (start : Origin) (i : ℕ) → 3 * start.pages + 64 * start.frames ≤ i → place_at start i ≡ late_place start i
-unfolding place_at
-before-bundles start i l =
-    cond-false _ _ _ (le-ltb i start.pages (omega (arith, l)))
-    ∙ cond-false _ _ _ (le-ltb i (2 * start.pages) (omega (arith, l)))
-    ∙ cond-false _ _ _ (le-ltb i (3 * start.pages) (omega (arith, l)))
-    ∙ cond-false _ _ _ (le-ltb i (3 * start.pages + 64 * start.frames) l)
+    else if nat_lt i (3 * start.pages + 64 * start.frames + bundle_count start) then places.Bundle (i - (3 * start.pages + 64 * start.frames))
+    else if i == 3 * start.pages + 64 * start.frames + bundle_count start then places.Next
+    else if i == 3 * start.pages + 64 * start.frames + bundle_count start + 1 then places.Hand
+    else places.Owner (i - (3 * start.pages + 64 * start.frames + bundle_count start + 2))
 
 place-at : (start : Origin) (at : Place) → Within start at → place_at start (index_of start at) ≡ at
-unfolding place_at late_place
+unfolding place_at
 place-at start (places.State p) l = grind (arith, nat_tests)
 place-at start (places.Translation p) l = grind (arith, nat_tests)
 place-at start (places.Fault p) l = grind (arith, nat_tests)
-place-at start (places.Content f i) l =
-    let j : ℕ = 3 * start.pages + (64 * f + i) in
-    let frame : f < start.frames = l.0 in
-    let small : i < 64 = l.1 in
-    let high : (j - 3 * start.pages) / 64 ≡ f = omega (arith, small) in
-    let low : (j - 3 * start.pages) % 64 ≡ i = omega (arith, small) in
-    cond-false _ _ _ (le-ltb j start.pages (omega arith))
-    ∙ cond-false _ _ _ (le-ltb j (2 * start.pages) (omega arith))
-    ∙ cond-false _ _ _ (le-ltb j (3 * start.pages) (omega arith))
-    ∙ cond-true _ _ _ (lt-ltb j (3 * start.pages + 64 * start.frames) (omega (arith, frame, small)))
-    ∙ (λ k. places.Content (high k) (low k))
+place-at start (places.Content f i) l = grind (arith, nat_tests)
 place-at start (places.Bundle g) l = grind (arith, nat_tests)
 place-at start places.Next l = grind (arith, nat_tests)
 place-at start places.Hand l = grind (arith, nat_tests)

@@ -4,8 +4,8 @@ use Rattle.vm_step.proofs.Prelude.{[], All, all_notes, all_used, any, ap, append
 use Rattle.vm_step.proofs.Prelude.{each-both, each-map, entries-both, entries-within, entries_by, Entry, first_part, giver, has, has-joined, has-left}
 use Rattle.vm_step.proofs.Prelude.{has-right, HasJoined, HasPiece, HasShape, HasStill, Hears, HoldsNoPage, HoldsNothing, IsReady, IsWhole, joined, JoinTold}
 use Rattle.vm_step.proofs.Prelude.{length, length-append, List, map, newcomer, numbers, or-false, or_assoc, Origin, other_parts, owns, parts-cut, Pass}
-use Rattle.vm_step.proofs.Prelude.{PassesSplit, refl, Release, Shape, StartsWith, subst, suc, sym, TableId, times, times-joined, total, true, View, view}
-use Rattle.vm_step.proofs.Prelude.{view_from, zero, ℕ, ◌++◌, ◌+◌, ◌<◌, ◌||◌, ◌∙◌, ◌∷◌, ◌≡◌, ◌≤◌}
+use Rattle.vm_step.proofs.Prelude.{PassesSplit, refl, Release, Shape, StartsWith, subst, suc, sym, TableId, times-joined, total, true, View, view, view_from}
+use Rattle.vm_step.proofs.Prelude.{zero, ℕ, ◌++◌, ◌+◌, ◌<◌, ◌||◌, ◌∙◌, ◌∷◌, ◌≡◌}
 use Rattle.vm_step.proofs.Still.{caught-still, still-fresh}
 
 pub starts-on : {A : Type 0} (l m n : List A) → StartsWith l m → StartsWith m n → StartsWith l n
@@ -134,14 +134,7 @@ module _ {X : Type 0} where
         start = ap (λ (u : View X). u.start) is ∙ h.start;
         used = ap (λ (u : View X). u.used) is ∙ (λ i. h.used i ++ same i) ∙ append_assoc v.used (all_used others) w.used ∙ ap (λ l. v.used ++ l) (sym (used-snoc others w));
         notes = ap (λ (u : View X). u.notes) is ∙ (λ i. h.notes i ++ (ap (λ (u : View X). u.notes) was) i) ∙ append_assoc v.notes (all_notes others) w.notes ∙ ap (λ l. v.notes ++ l) (sym (notes-snoc others w));
-        parts = λ k.
-            let a : times k (x.used ++ w'.used) ≡ times k x.used + times k w'.used = times-joined k x.used w'.used in
-            let b : times k (x.fresh ++ w'.fresh) ≡ times k x.fresh + times k w'.fresh = times-joined k x.fresh w'.fresh in
-            let now : owns k y ≡ times k (x.used ++ w'.used) + times k (x.fresh ++ w'.fresh) = ap (owns k) is in
-            let kept : owns k w' ≡ owns k w = ap (owns k) was in
-            let before : owns k x ≡ owns k v + total (owns k) others = h.parts k in
-            let all : total (owns k) (others ++ w ∷ []) ≡ total (owns k) others + owns k w = total-snoc (owns k) others w in
-            omega (arith, a, b, now, kept, before, all);
+        parts = λ k. omega (arith, times-joined k x.used w'.used, times-joined k x.fresh w'.fresh, ap (owns k) is, ap (owns k) was, h.parts k, total-snoc (owns k) others w);
         frames = λ f.
             ap (λ (u : View X). has f u.frames) is
             ∙ has-joined f w'.frames x.frames
@@ -167,9 +160,7 @@ module _ {X : Type 0} where
   -- a pass that takes in another keeps its number
   pub joined-number : (v w x : View X) → JoinTold v w x → 0 < length v.used → 0 < length x.used
   joined-number v w x j l =
-      let now : length x.used ≡ length (v.used ++ w.used) = ap (λ (u : View X). length u.used) j.caught.brings.view in
-      let both : length (v.used ++ w.used) ≡ length v.used + length w.used = length-append v.used w.used in
-      omega (arith, now, both, l)
+      omega (arith, ap (λ (u : View X). length u.used) j.caught.brings.view, length-append v.used w.used, l)
 
   -- ---- split
 
@@ -191,7 +182,7 @@ module _ {X : Type 0} where
         left = refl;
         fresh = ap (λ (u : View X). u.fresh) is;
         apart = subst AreApart (λ i. (ap (λ (u : View X). u.used) is) i ++ (ap (λ (u : View X). u.fresh) is) i) b.sound.apart;
-        parts = λ k. let same : owns k x ≡ owns k v = ap (owns k) is in omega (arith, same);
+        parts = λ k. omega (arith, ap (owns k) is);
         each = tt;
       }
 
@@ -205,11 +196,7 @@ module _ {X : Type 0} where
         left = ap (λ (y : View X). record y { fresh = other_parts x.fresh }) h.left;
         fresh = ap (λ l. l ++ other_parts x.fresh) (used-snoc others (newcomer true x)) ∙ append_assoc (all_used others) (first_part x.fresh) (other_parts x.fresh) ∙ ap (λ l. all_used others ++ l) cut.0 ∙ h.fresh;
         apart = h.apart;
-        parts = λ k.
-            let before : owns k v ≡ owns k x + total (owns k) others = h.parts k in
-            let all : total (owns k) (others ++ newcomer true x ∷ []) ≡ total (owns k) others + owns k (newcomer true x) = total-snoc (owns k) others (newcomer true x) in
-            let both : owns k (giver true x) + owns k (newcomer true x) ≡ owns k x = parts-cut true x k in
-            omega (arith, before, all, both);
+        parts = λ k. omega (arith, h.parts k, total-snoc (owns k) others (newcomer true x), parts-cut true x k);
         each = each-both _ others (newcomer true x ∷ []) (each-map _ _ (λ w n. record { number = n.number; new = n.new }) others h.each)
             (record { number = cut.1; new = refl }, tt);
       }
@@ -227,15 +214,10 @@ module _ {X : Type 0} where
   split-current v others x h = ap (λ (y : View X). y.current) h.left ∙ ap (λ (y : View X). y.current) h.caught.brings.view
 
   pub new-number : (x : View X) → 0 < length x.fresh → 0 < length (newcomer true x).used
-  new-number x room = let one : length (first_part x.fresh) ≡ 1 = (cut-first x.fresh room).1 in omega (arith, one)
+  new-number x room = omega (arith, (cut-first x.fresh room).1)
 
   -- ---- whole again
 
   -- a whole pass that split others off and took in passes with the same parts is whole
   pub whole-again : (v x y : View X) (others joined : List (View X)) → PassesSplit v others x → HasJoined x joined y → ((k : ℕ) → total (owns k) joined ≡ total (owns k) others) → IsWhole v → IsWhole y
-  whole-again v x y others joined s j same whole k l =
-      let a : owns k v ≡ owns k x + total (owns k) others = s.parts k in
-      let b : owns k y ≡ owns k x + total (owns k) joined = j.parts k in
-      let c : total (owns k) joined ≡ total (owns k) others = same k in
-      let d : 1 ≤ owns k v = whole k l in
-      omega (arith, a, b, c, d)
+  whole-again v x y others joined s j same whole k l = omega (arith, s.parts k, j.parts k, same k, whole k l)
