@@ -70,18 +70,15 @@ module _ {X B : Type 0} (stored : B → Stored) (start : Origin) (keeps : Start 
       → IsEvent stored start s (table_after s (exchanged s.words (index_of start at) expects found x) id w) e (exchange_sees expects found)
   tried-event at expects found x did v inner w e pass finds brings legal taken lost sees =
       let i : ℕ = index_of start at in
-      let by : (b : Bool) → eqb found expects ≡ b → core_shown stored start (table_after s (exchanged s.words i expects found x) id w) ≡ core_shown stored start (table_after s (slice_set s.words i (if b then x else found)) id w) =
-      (λ b is. ap (λ k. core_shown stored start (table_after s (slice_set s.words i (if k then x else found)) id w)) is) in
       record {
         legal = legal;
         core = ⊎_elim
-            (λ hit. by true (eq-eqb found expects hit) ∙ taken hit (taken-view did expects found v inner w hit brings))
-            (λ miss.
-            let view = (lost-view did expects found v inner w miss brings).view in
-            by false (ne_eqb found expects miss)
-            ∙ ap (λ l. core_shown stored start (table_after s l id w)) (ap (slice_set s.words i) finds.1 ∙ same-word s.words i)
+            (λ hit. rw (eq-eqb found expects hit) (taken hit (taken-view did expects found v inner w hit brings)))
+            (λ miss. let view = (lost-view did expects found v inner w miss brings).view in
+            rw (ne_eqb found expects miss)
+            (ap (λ l. core_shown stored start (table_after s l id w)) (ap (slice_set s.words i) finds.1 ∙ same-word s.words i)
             ∙ core-still stored start s id v w pass.there (ap (λ (k : View X). k.out) view) (ap (λ (k : View X). k.frames) view) (ap (λ (k : View X). k.seats) view)
-            ∙ sym (lost miss))
+            ∙ sym (lost miss)))
             (cases_eq found expects);
         sees = sees;
       }

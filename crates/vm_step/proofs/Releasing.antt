@@ -36,14 +36,6 @@ members-of p rest before after apart gone counts =
       others = λ q ne e. counts q ne ∙ rw e refl;
     }
 
--- p is the first of its group
-pub first-members : (p : ℕ) (rest before : List ℕ) → has p before ≡ false → has p rest ≡ false → Members p rest before (if has p before then without p before else rest ++ before)
-first-members p rest before free apart = rw free (members-of p rest before (rest ++ before) apart (has-both p rest before ∙ rw (apart, free) refl) (λ q _. has-both q rest before))
-
--- p is a later member
-pub later-members : (p : ℕ) (before : List ℕ) → has p before ≡ true → Members p [] before (if has p before then without p before else [] ++ before)
-later-members p before member = rw member (members-of p [] before (without p before) refl (has-without_same p before) (λ q ne. has-without_other p q before ne))
-
 -- a fact of each of the list, of one that stands in it
 pub each-has : (P : ℕ → Type 0) (qs : List ℕ) (q : ℕ) → Each P qs → has q qs ≡ true → P q
 each-has P [] q e some' = absurd (false≢true some')
@@ -84,15 +76,6 @@ StandsFor _ m = IsSome m
 abbrev pub OwnedFor : Way → ℕ → ℕ → Type 0
 OwnedFor Evicts p word = Unit {0}
 OwnedFor _ p word = word ≡ p + 1
-
--- so it is in a state where the word is this one
-abbrev NamedFor : Way → State → ℕ → Type 0
-NamedFor Evicts c p = Unit {0}
-NamedFor _ c p = IsOwned c p (p + 1)
-
-named-for : (way : Way) (c : State) (p word : ℕ) → IsOwned c p word → OwnedFor way p word → NamedFor way c p
-named-for Evicts c p word is owned = tt
-named-for _ c p word is owned = subst (IsOwned c p) owned is
 
 -- the state that is left, and the word, at this version; and what the pass has of the page then
 abbrev pub state_left : Way → ℕ
@@ -143,9 +126,9 @@ left-core Evicts w a p = refl
 left-core _ w a p = refl
 
 pub left-legal : (way : Way) (c : State) (a p : ℕ) → a < c.shape.actors → p < c.shape.pages → ((c.pages p).seats a).exclusive ≡ true → StandsFor way (c.pages p).trans → (c.pages p).fault ≡ (c.pages p).count
-    → NamedFor way c p → Legal c (event_left way a p)
-left-legal Evicts c a p actor page owns stands told named = (record { actor = actor; page = page }, record { owns = owns; empty = stands; told = told })
-left-legal _ c a p actor page owns stands told named = (record { actor = actor; page = page }, record { owns = owns; resident = stands; told = told }, named)
+    → (word : ℕ) → IsOwned c p word → OwnedFor way p word → Legal c (event_left way a p)
+left-legal Evicts c a p actor page owns stands told word is owned = (record { actor = actor; page = page }, record { owns = owns; empty = stands; told = told })
+left-legal _ c a p actor page owns stands told word is owned = (record { actor = actor; page = page }, record { owns = owns; resident = stands; told = told }, subst (IsOwned c p) owned is)
 
 -- the view after it, of a page that is alone, first of a group, or a later member
 abbrev pub left_view : {X : Type 0} → Way → ℕ → List ℕ → Option X → View X → View X
@@ -204,12 +187,10 @@ module _ {X B : Type 0} {stored : B → Stored} {keeps : Start → Kept X → Ty
   unclaimed q l owns (inl same) t le = same ∙ last-known q owns
   unclaimed q l owns (inr (inl written)) t le = absurd (written (last-known q owns ∙ rel.r.zero t q le l))
   unclaimed q l owns (inr (inr (inl (inr known)))) t le =
-      let high : known.0 ≤ old.core.next = ⊎_elim (λ given. found-below old rel.v.log known.0 mine.words given) (λ written. written-below old rel.v.log known.0 mine.words written) known.1 in
-      let under = known.2 in
-      absurd (omega (arith, high, under, le))
+      absurd (omega (arith, ⊎_elim (λ given. found-below old rel.v.log known.0 mine.words given) (λ written. written-below old rel.v.log known.0 mine.words written) known.1, known.2, le))
   unclaimed q l owns (inr (inr (inl (inl early)))) t le =
       absurd (let same = ap (λ (o : Origin). o.next) (rel.r.heard rel.id rel.v rel.there rel.live).same_start in let risen = rel.r.risen in omega (arith, early, same, risen, le))
-  unclaimed q l owns (inr (inr (inr due))) t le = absurd (let under = (mine.owed q due).2 in omega (arith, under, le))
+  unclaimed q l owns (inr (inr (inr due))) t le = absurd (omega (arith, (mine.owed q due).2, le))
 
   -- the word that it leaves
   abbrev pub word : ℕ
@@ -302,15 +283,16 @@ module _ {X B : Type 0} {stored : B → Stored} {keeps : Start → Kept X → Ty
       (ap (λ (y : Seat). y.exclusive) (seat-here stored start rel.s rel.id rel.p rel.v rel.inside rel.there) ∙ rel.owns)
       (subst (StandsFor rel.way) ((mine.knows rel.p).calls calls-p).0 rel.stands)
       (sym ((mine.knows rel.p).calls calls-p).1 ∙ rel.told ∙ ((mine.knows rel.p).calls calls-p).3)
-      (named-for rel.way old.core rel.p (held_at rel.v rel.p).owner
-      (owner-known stored keeps tied start tells rel.s rel.r rel.id rel.v rel.there rel.live rel.p (held_at rel.v rel.p).owner calls-p refl) rel.owned)
+      (held_at rel.v rel.p).owner (owner-known stored keeps tied start tells rel.s rel.r rel.id rel.v rel.there rel.live rel.p (held_at rel.v rel.p).owner calls-p refl) rel.owned
 
   -- the group
   pub members-are : Members rel.p rel.rest rel.v.pending inner.pending
   members-are =
       ⊎_elim
-      (λ (f : IsFirst may_release rel.p rel.rest rel.said rel.v). first-members rel.p rel.rest rel.v.pending f.members.0.free f.apart.0)
-      (λ (k : IsLater rel.p rel.rest rel.said rel.v). subst (λ l. Members rel.p l rel.v.pending (released_view rel.p l rel.said rel.v).pending) (sym k.alone) (later-members rel.p rel.v.pending k.pending))
+      (λ (f : IsFirst may_release rel.p rel.rest rel.said rel.v).
+      rw f.members.0.free (members-of rel.p rel.rest rel.v.pending (rel.rest ++ rel.v.pending) f.apart.0 (has-both rel.p rel.rest rel.v.pending ∙ rw (f.apart.0, f.members.0.free) refl) (λ q _. has-both q rel.rest rel.v.pending)))
+      (λ (k : IsLater rel.p rel.rest rel.said rel.v).
+      rw (k.alone, k.pending) (members-of rel.p [] rel.v.pending (without rel.p rel.v.pending) refl (has-without_same rel.p rel.v.pending) (λ q ne. has-without_other rel.p q rel.v.pending ne)))
       rel.group
 
   pub member-is : (q : ℕ) → has q rel.rest ≡ true → IsMember rel.v q
