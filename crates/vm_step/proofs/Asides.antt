@@ -40,10 +40,8 @@ module _ {X : Type 0} where
   alone-step did block own entries v inner w b same kept = record {
     current = λ _. ap (λ (x : View X). x.current) b.view;
     words = λ all e q.
-        let none : b.between ≡ [] = (b.alone all e).0 in
         ap (λ (x : View X). (last_in x.start x.releases q).words) b.view
-        ∙ ap (λ s. (last_in s ((v.releases ++ b.between) ++ own) q).words) same
-        ∙ ap (λ (t : List Release). (last_in v.start ((v.releases ++ t) ++ own) q).words) none
+        ∙ (λ i. (last_in (same i) ((v.releases ++ (b.alone all e).0 i) ++ own) q).words)
         ∙ ap (λ (t : List Release). (last_in v.start (t ++ own) q).words) (append-none v.releases)
         ∙ kept q;
   }

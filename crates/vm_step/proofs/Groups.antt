@@ -1,9 +1,9 @@
 -- Lists of pages: those that are chosen, those without some, and the pages after a group's changes.
 use Rattle.vm_rule.proofs.Bundled.{has-without_all as without_all-has}
-use Rattle.vm_step.proofs.Logical.{length-listed, page-listed}
+use Rattle.vm_step.proofs.Logical.{page-listed}
 use Rattle.vm_step.proofs.Prelude.{[], Agrees, ap, arith, Bool, cases_eq, Change, changed, changed_pages, chosen, Each, false, has, has-both, if◌then◌else◌}
-use Rattle.vm_step.proofs.Prelude.{List, listed, listed-same, listed-upd, nat_tests, ne_eqb, refl, suc, sym, true, upd, upd-other, upd-same, without_all, zero}
-use Rattle.vm_step.proofs.Prelude.{ℕ, ⊎_elim, ◌++◌, ◌<◌, ◌∙◌, ◌∷◌, ◌≡◌, ◌≤◌}
+use Rattle.vm_step.proofs.Prelude.{length-listed, List, listed, listed-same, listed-upd, nat_tests, ne_eqb, refl, suc, sym, true, upd, upd-other, upd-same}
+use Rattle.vm_step.proofs.Prelude.{without_all, zero, ℕ, ⊎_elim, ◌++◌, ◌<◌, ◌∙◌, ◌∷◌, ◌≡◌, ◌≤◌}
 pub use Rattle.vm_owner.proofs.NumberLemmas.{has-end, apart-end}
 
 -- ---- lists of numbers

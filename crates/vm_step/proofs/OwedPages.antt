@@ -1,6 +1,6 @@
 -- The pages owed, by rising number: a claim adds its pages at the end, and a release takes its pages out.
 use Rattle.vm_step.proofs.Groups.{chosen-same}
-use Rattle.vm_step.proofs.Prelude.{[], ap, append-none, arith, Bool, cases_eq, cases_lt, Change, changed_pages, chosen, claimed, each-upd, eq-eqb, false, has}
+use Rattle.vm_step.proofs.Prelude.{[], ap, append-none, arith, Bool, cases_lt, Change, changed_pages, chosen, claimed, each-upd, eq-eqb, false, has}
 use Rattle.vm_step.proofs.Prelude.{if◌then◌else◌, Kept, List, nat_tests, ne_eqb, or_right, owed_after, refl, suc, sym, true, upd, upd-other, upd-same, without}
 use Rattle.vm_step.proofs.Prelude.{without-both, zero, ℕ, ⊎_elim, ◌++◌, ◌+◌, ◌<◌, ◌==◌, ◌∙◌, ◌∷◌, ◌≡◌, ◌≢◌, ◌≤◌}
 
@@ -16,19 +16,12 @@ chosen-more : (n : ℕ) (f g : ℕ → Bool) (k : ℕ) → k < n → ((q : ℕ) 
 unfolding chosen
 chosen-more zero f g k l low here none after = absurd (omega (arith, l))
 chosen-more (suc n) f g k l low here none after =
-    let before : chosen n f ++ one (f n) n ≡ chosen n f = ap (λ b. chosen n f ++ one b n) (none n (omega (arith, l)) (omega arith)) ∙ append-none (chosen n f) in
-    ⊎_elim
-    (λ (e : k ≡ n).
-    ap (λ b. chosen n g ++ one b n) (ap g (sym e) ∙ here)
-    ∙ ap (λ l. l ++ n ∷ []) (chosen-same n g f (λ q lt. low q (omega (arith, lt, e))))
-    ∙ ap (λ y. chosen n f ++ y ∷ []) (sym e)
-    ∙ sym (ap (λ l. l ++ k ∷ []) before))
-    (λ ne.
-    ap (λ b. chosen n g ++ one b n) (after n (omega (arith, l, ne)) (omega arith))
-    ∙ append-none (chosen n g)
-    ∙ chosen-more n f g k (omega (arith, l, ne)) low here (λ q le lt. none q le (omega (arith, lt))) (λ q le lt. after q le (omega (arith, lt)))
-    ∙ sym (ap (λ l. l ++ k ∷ []) before))
-    (cases_eq k n)
+    let same : k ≡ n → chosen n g ≡ chosen n f = λ e. chosen-same n g f (λ q lt. low q (omega (arith, lt, e))) in
+    let more : k < n → chosen n g ≡ chosen n f ++ k ∷ [] = λ lt. chosen-more n f g k lt low here (λ q le lt'. none q le (omega (arith, lt'))) (λ q le lt'. after q le (omega (arith, lt'))) in
+    let no : f n ≡ false = none n (omega (arith, l)) (omega arith) in
+    let past : k < n → g n ≡ false = λ lt. after n lt (omega arith) in
+    let is : k ≡ n → g n ≡ true = λ e. ap g (sym e) ∙ here in
+    grind (arith, append-none)
 
 module _ {S : Type 0} where
   -- the numbers for which f says so are owed, all below the next one; then those for which g does, which are the next n more

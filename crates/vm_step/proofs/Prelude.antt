@@ -54,10 +54,10 @@ pub use Rattle.vm_rule.specs.Prelude.{TranslationTold, unborn, UnshareTold, upgr
 pub use Rattle.vm_rule.specs.Prelude.{where_same, width, with_word, Within, without, without_all, Words, words_held, world_of, WriteLockTold}
 pub use Rattle.vm_rule.proofs.{Beside.page-open, Bringing.rested, Bringing.steps, Bringing.steps_more, Calls.called, Calls.called-inv, Calls.called-left}
 pub use Rattle.vm_rule.proofs.{Calls.IsCalled, Cores.core-block, Cores.held-still, Cores.loads-still, Cores.seats-still, Heard.calls-by, Heard.each-both}
-pub use Rattle.vm_rule.proofs.{Heard.has-first, Meeting.follows-ruled, Meeting.hears-past, Meeting.hears-ruled, Pages.page-in, Pages.page-out}
-pub use Rattle.vm_rule.proofs.{Parts.listed-same, Parts.listed-upd, Parts.upd-is, Parts.words-written, Resettling.at-past, Resettling.settled-blocks}
-pub use Rattle.vm_rule.proofs.{Runs.event_law, SplitSound.giver-sound, SplitSound.newcomer-sound, Views.any-same, Views.at-bound, Views.at-there}
-pub use Rattle.vm_rule.proofs.{Views.block-same, Views.has-view, Views.total-set}
+pub use Rattle.vm_rule.proofs.{Heard.has-first, ListFacts.at-listed, ListFacts.length-listed, Meeting.follows-ruled, Meeting.hears-past, Meeting.hears-ruled}
+pub use Rattle.vm_rule.proofs.{Pages.page-in, Pages.page-out, Parts.listed-same, Parts.listed-upd, Parts.upd-is, Parts.words-written, Resettling.at-past}
+pub use Rattle.vm_rule.proofs.{Resettling.settled-blocks, Runs.event_law, SplitSound.giver-sound, SplitSound.newcomer-sound, Views.any-same, Views.at-bound}
+pub use Rattle.vm_rule.proofs.{Views.at-there, Views.block-same, Views.has-view, Views.total-set}
 pub use Rattle.vm_rule.proofs.Adding.{after_more, after_step, became, became_more, faults-still, Shows, ShowsMore}
 pub use Rattle.vm_rule.proofs.Bundled.{given-bits, has-frames_in, has-without_all, taken-frames, with_contents-at}
 pub use Rattle.vm_rule.proofs.Entries.{append-none, each-map, entries-both, entries-within, has-joined, mine-in}

@@ -16,8 +16,8 @@ use Rattle.vm_step.proofs.Prelude.{may_call, MayCall, nat_tests, NLoad, no_held,
 use Rattle.vm_step.proofs.Prelude.{out_view, Page, Put, put, put_at, refl, ReturnTold, Ruled, rules, Seat, seat-here, seat_of, seats-still, seats_of}
 use Rattle.vm_step.proofs.Prelude.{shared-here, ShiftTold, ShowsMore, slice_index, slice_set, slot_of, SlotTold, Some, some, some-injective, some-is, some-same}
 use Rattle.vm_step.proofs.Prelude.{Start, State, steps_more, Stored, subst, suc, sym, Table, table_words, Tie, TieHolds, Translation, TranslationHolds, true}
-use Rattle.vm_step.proofs.Prelude.{true≢false, upd, upd-is, upd-other, upd-same, Version, View, words_held, World, world_of, zero, ℕ, ⊎_elim, ◌++◌, ◌<◌, ◌||◌}
-use Rattle.vm_step.proofs.Prelude.{◌∙◌, ◌∷◌, ◌≡◌, ◌≢◌, ◌≤◌}
+use Rattle.vm_step.proofs.Prelude.{true≢false, upd, upd-is, upd-other, upd-same, upd-self, Version, View, words_held, World, world_of, zero, ℕ, ⊎_elim, ◌++◌}
+use Rattle.vm_step.proofs.Prelude.{◌<◌, ◌||◌, ◌∙◌, ◌∷◌, ◌≡◌, ◌≢◌, ◌≤◌}
 
 -- an element in range, by its function
 pub get-at : {A : Type 0} (d : A) (l : List A) (i : ℕ) (a : A) → i < length l → at d l i ≡ a → get_elem? l i ≡ some a
@@ -264,24 +264,25 @@ module _ {X B : Type 0} (stored : B → Stored) (keeps : Start → Kept X → Ty
         bound = ap (λ (y : Stored). y.bound) (sym same) ∙ r.blocks.bounds p l ∙ ap (λ (o : Origin). at 0 o.bounds p) (sym (r.heard id v there live).same_start);
       }
 
-  block-moved : (hs hs' : List (maybe.Option (Option B))) (vs vs' : List (View X)) (p : ℕ)
-      → known stored (home hs' p) (out_of vs' p) ≡ known stored (home hs p) (out_of vs p)
-      → ((q : ℕ) → q ≢ p → known stored (home hs' q) (out_of vs' q) ≡ known stored (home hs q) (out_of vs q)) → block_of stored hs' vs' ≡ block_of stored hs vs
+  -- only the block of page p is another, where its slot and what is out of it changed
+  moved-blocks : (p : ℕ) (x : maybe.Option (Option B)) (w : View X) → p < start.pages → ((q : ℕ) → q ≢ p → out_of (slice_set s.views id w) q ≡ out_of s.views q)
+      → block_of stored (slice_set s.homes p x) (slice_set s.views id w) ≡ upd (block_of stored s.homes s.views) p (known stored (at_home x) (out_of (slice_set s.views id w) p))
   unfolding block_of
-  block-moved hs hs' vs vs' p here else = fun_ext (λ q. ⊎_elim (λ e. subst (λ k. known stored (home hs' k) (out_of vs' k) ≡ known stored (home hs k) (out_of vs k)) (sym e) here) (λ ne. else q ne) (cases_eq q p))
+  moved-blocks p x w l outs =
+      let inside : p < length s.homes = subst (λ k. p < k) (sym r.wide.1) l in
+      let views : List (View X) = slice_set s.views id w in
+      upd-is (block_of stored s.homes s.views) (block_of stored (slice_set s.homes p x) views) p _ (ap (λ y. known stored (at_home y) (out_of views p)) (slot-here s.homes p x inside))
+      (λ q ne. ap (λ y. known stored (at_home y) (out_of views q)) (slot-else s.homes p q x inside ne) ∙ ap (known stored (home s.homes q)) (outs q ne))
 
   -- the block that is read stays, where the slot is taken and the block is out with the pass
   pub taken-blocks : (p : ℕ) (b : B) (w : View X) → p < start.pages → may_call (seat_of v p) ≡ true → v.out ≡ None → at maybe.none s.homes p ≡ some (Some b) → w.out ≡ Some (out_at p true (stored b))
       → block_of stored (slice_set s.homes p maybe.none) (slice_set s.views id w) ≡ block_of stored s.homes s.views
   taken-blocks p b w l calls none at-p out =
-      let empty : out_of s.views p ≡ None = out-none s.views p (nobody-out p l calls none) in
-      let inside : p < length s.homes = subst (λ k. p < k) (sym r.wide.1) l in
       let o : Out = out_at p true (stored b) in
-      let views : List (View X) = slice_set s.views id w in
-      block-moved s.homes (slice_set s.homes p maybe.none) s.views views p
-      (ap (λ x. known stored (at_home x) (out_of views p)) (slot-here s.homes p maybe.none inside) ∙ ap (known stored None) (out-new s.views id v w o there out empty) ∙ sym (ap (λ x. known stored (at_home x) (out_of s.views p)) at-p))
-      (λ q ne. ap (λ x. known stored (at_home x) (out_of views q)) (slot-else s.homes p q maybe.none inside ne)
-      ∙ ap (known stored (home s.homes q)) (out-else s.views id v w q there (λ d. ap (λ y. out_or y q d) out ∙ out-of_page o q d ne ∙ ap (λ y. out_or y q d) (sym none))))
+      let same : known stored None (out_of (slice_set s.views id w) p) ≡ block_of stored s.homes s.views p = ap (known stored None) (out-new s.views id v w o there out (out-none s.views p (nobody-out p l calls none))) ∙ sym (block-home-is p b at-p) in
+      moved-blocks p maybe.none w l (λ q ne. out-else s.views id v w q there (λ d. ap (λ y. out_or y q d) out ∙ out-of_page o q d ne ∙ ap (λ y. out_or y q d) (sym none)))
+      ∙ ap (upd (block_of stored s.homes s.views) p) same
+      ∙ upd-self (block_of stored s.homes s.views) p
 
   pub takes-slot : 0 < length v.used → (p : ℕ) (b : B) → p < start.pages → may_call (seat_of v p) ≡ true → v.out ≡ None → at maybe.none s.homes p ≡ some (Some b)
       → Ruled stored keeps tied start tells (slot-table (slice_set s.homes p maybe.none) p true (stored b)) × SlotTold p (stored b) (slice_index s.words (index_of start (places.Fault p))) v (slot-view (slice_set s.homes p maybe.none) p true (stored b))
@@ -305,17 +306,16 @@ module _ {X B : Type 0} (stored : B → Stored) (keeps : Start → Kept X → Ty
   -- the block that is read stays, where the slot goes home or is taken
   pub shifted-blocks : (o : Out) (moving : Bool) (w : View X) → v.out ≡ Some o → w.out ≡ Some (out_at o.page moving o.block)
       → block_of stored (slice_set s.homes o.page (slot_of (out_at o.page moving o.block))) (slice_set s.views id w) ≡ block_of stored s.homes s.views
+  unfolding block_of
   shifted-blocks o moving w out now =
       let p : ℕ = o.page in
       let o' : Out = out_at p moving o.block in
-      let views : List (View X) = slice_set s.views id w in
       let k = r.blocks.away id v o there out in
-      let inside : p < length s.homes = subst (λ m. p < m) (sym r.wide.1) k.0 in
-      let outs : (q : ℕ) → out_of views q ≡ out_of s.views q = λ q. out-else s.views id v w q there (λ d. ap (λ y. out_or y q d) now ∙ ap (λ y. out_or y q d) (sym out)) in
-      block-moved s.homes (slice_set s.homes p (slot_of o')) s.views views p
-      (ap (λ x. known stored (at_home x) (out_of views p)) (slot-here s.homes p (slot_of o') inside) ∙ slot-empty stored o' (out_of views p) ∙ ap (known stored None) (outs p)
-      ∙ sym (ap (λ x. known stored (at_home x) (out_of s.views p)) k.2 ∙ slot-empty stored o (out_of s.views p)))
-      (λ q ne. ap (λ x. known stored (at_home x) (out_of views q)) (slot-else s.homes p q (slot_of o') inside ne) ∙ ap (known stored (home s.homes q)) (outs q))
+      let outs : (q : ℕ) → out_of (slice_set s.views id w) q ≡ out_of s.views q = λ q. out-else s.views id v w q there (λ d. ap (λ y. out_or y q d) now ∙ ap (λ y. out_or y q d) (sym out)) in
+      let was : block_of stored s.homes s.views p ≡ known stored None (out_of s.views p) = ap (λ x. known stored (at_home x) (out_of s.views p)) k.2 ∙ slot-empty stored o (out_of s.views p) in
+      moved-blocks p (slot_of o') w k.0 (λ q _. outs q)
+      ∙ ap (upd (block_of stored s.homes s.views) p) (slot-empty stored o' (out_of (slice_set s.views id w) p) ∙ ap (known stored None) (outs p) ∙ sym was)
+      ∙ upd-self (block_of stored s.homes s.views) p
 
   -- it goes home, or is taken
   pub shifts-slot : 0 < length v.used → (o : Out) (moving : Bool) → v.out ≡ Some o
@@ -415,10 +415,7 @@ module _ {X B : Type 0} (stored : B → Stored) (keeps : Start → Kept X → Ty
 
     -- the page's block is this one now, and every other page's is as it was
     pub blocks-home : (w : View X) → w.out ≡ None → block_of stored (home-slots p b) (slice_set s.views id w) ≡ upd (block_of stored s.homes s.views) p (stored b)
-    unfolding block_of
-    blocks-home w none = upd-is (block_of stored s.homes s.views) (block_of stored (home-slots p b) (slice_set s.views id w)) p (stored b)
-        (ap (λ x. known stored (at_home x) (out_of (slice_set s.views id w) p)) (slot-here s.homes p (maybe.some (Some b)) inside))
-        (λ q ne. ap (λ x. known stored (at_home x) (out_of (slice_set s.views id w) q)) (slot-else s.homes p q (maybe.some (Some b)) inside ne) ∙ ap (known stored (home s.homes q)) (elsewhere w none q ne))
+    blocks-home w none = moved-blocks p (maybe.some (Some b)) w (r.blocks.away id v o there out).0 (elsewhere w none)
 
     fit-home : (stored b).bound ≡ o.block.bound → BlocksFit stored start (home-slots p b) (slice_set s.views id (home-after p b))
     fit-home bound =
