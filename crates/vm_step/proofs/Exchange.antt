@@ -1,22 +1,21 @@
 -- An exchange, found there or not: at any place, the rule after it, and that it is an event of the core; on a page's state word, what the pass knows of
 -- pages afterwards, what it shows of itself where it is taken, and what it tells either way.
-use Rattle.std.proofs.Common.{eq-eqb, IsSome, ne_eqb}
+use Rattle.std.proofs.Common.{eq-eqb, ne_eqb}
 use Rattle.vm_core.specs.declared.event.Seen.TheVariants as sights
 use Rattle.vm_rule.specs.declared.view.Place.TheVariants as places
-use Rattle.vm_step.proofs.{Evidenced.lost-view, Evidenced.taken-view, Logical.not-pending, Quiet.quiet-shows, Quiet.ShowsQuiet, Written.IsWordOf}
-use Rattle.vm_step.proofs.{Written.word-left}
-use Rattle.vm_step.proofs.Here.{frame-inside, last, last-told, older, since, validates, world}
+use Rattle.vm_step.proofs.{Evidenced.lost-view, Evidenced.taken-view, Here.frame-inside, Here.last, Here.last-told, Here.older, Here.since, Here.validates}
+use Rattle.vm_step.proofs.{Here.world, Logical.not-pending, Quiet.quiet-shows, Quiet.ShowsQuiet, Written.IsWordOf, Written.word-left}
 use Rattle.vm_step.proofs.Prelude.{[], actor_of, after_event, after_step, any-here, ap, arith, at-bound, became, block-here, block-is_last, block_of, Bool}
 use Rattle.vm_step.proofs.Prelude.{Brings, cases_eq, core-still, core_shown, Did, did_exchange, draft-is, draft_of, Each, each-upd, each-upd2, either, eqb}
-use Rattle.vm_step.proofs.Prelude.{Event, exchange_seen, exchange_sees, exchanged, false, false_from_ne_true, false≢true, finds, finds-hit, finds-miss, FindsAt}
-use Rattle.vm_step.proofs.Prelude.{frame_of, get_elem?, has, Held, if◌then◌else◌, index_of, is_pending, IsEvent, IsHeldAt, IsOlder, IsPassOf, IsSinceAll}
-use Rattle.vm_step.proofs.Prelude.{IsUnheld, Kept, KnowsOwner, KnowsOwners, KnowsPage, last-is, last_in, last_of, Legal, length, List, LOCKED, locked}
-use Rattle.vm_step.proofs.Prelude.{locked_view, LockS, locks-step, LockValidates, LockW, lockw-step, LockX, lockx-step, lost-locks, lost-lockw, lost-lockx}
-use Rattle.vm_step.proofs.Prelude.{lost-mark, lost-unmark, lost-upgrade, Mapping, Mark, mark-step, MARKED, marked, may_call, MayLock, MayRaiseLock, MayShare}
-use Rattle.vm_step.proofs.Prelude.{NamesActorAndPage, no_held, no_seat, None, on_page, one_share_more, Option, Origin, Out, Page, page_at, page_word, Place}
-use Rattle.vm_step.proofs.Prelude.{Put, put, put_at, refl, Release, rested, Ruled, rules, same-word, Seat, seat-here, seat_of, Seen, seen, set_if, share_count}
-use Rattle.vm_step.proofs.Prelude.{shared, shared_view, Shows, slice_index, slice_set, Some, some, Start, State, state-here, state_of, steps, Stored, subst}
-use Rattle.vm_step.proofs.Prelude.{sum_below, sum_below-at, sym, Table, table_after, Translation, TranslationHolds, true, true≢false, unheld, UNLOCKED, Unmark}
+use Rattle.vm_step.proofs.Prelude.{Event, exchange_seen, exchange_sees, exchanged, false, false_from_ne_true, finds, finds-hit, finds-miss, FindsAt, frame_of}
+use Rattle.vm_step.proofs.Prelude.{get_elem?, has, Held, if◌then◌else◌, index_of, is_pending, IsEvent, IsHeldAt, IsOlder, IsPassOf, IsSinceAll, IsUnheld, Kept}
+use Rattle.vm_step.proofs.Prelude.{KnowsOwner, KnowsOwners, KnowsPage, last-is, last_in, last_of, Legal, length, List, LOCKED, locked, locked_view, LockS}
+use Rattle.vm_step.proofs.Prelude.{locks-step, LockValidates, LockW, lockw-step, LockX, lockx-step, lost-locks, lost-lockw, lost-lockx, lost-mark, lost-unmark}
+use Rattle.vm_step.proofs.Prelude.{lost-upgrade, Mapping, Mark, mark-step, MARKED, marked, may_call, MayLock, MayRaiseLock, MayShare, NamesActorAndPage}
+use Rattle.vm_step.proofs.Prelude.{no_held, no_seat, None, on_page, one_share_more, Option, Origin, Out, Page, page_at, page_word, Place, Put, put, put_at}
+use Rattle.vm_step.proofs.Prelude.{refl, Release, rested, Ruled, rules, same-word, Seat, seat-here, seat_of, seen, set_if, share_count, shared, shared_view}
+use Rattle.vm_step.proofs.Prelude.{Shows, slice_index, slice_set, Some, some, some-is, Start, State, state-here, state_of, steps, Stored, subst, sum_below}
+use Rattle.vm_step.proofs.Prelude.{sum_below-at, sym, Table, table_after, Translation, TranslationHolds, true, true≢false, unheld, UNLOCKED, Unmark}
 use Rattle.vm_step.proofs.Prelude.{unmark-step, unmarked, upd, upd-keeps, upd-other, upd-same, Upgrade, upgrade-step, upgraded, upgraded_view, Version}
 use Rattle.vm_step.proofs.Prelude.{version-here, version-within, version_of, View, width, Within, word-here, word-state, word-version, word_of, World}
 use Rattle.vm_step.proofs.Prelude.{world_after, world_of, write_locked, write_locked_view, wrote, ℕ, ⊎_elim, ◌++◌, ◌+◌, ◌<◌, ◌∙◌, ◌≡◌, ◌≢◌, ◌≤◌}
@@ -97,11 +96,6 @@ module _ {X : Type 0} where
 abbrev pub owner_at : (ℕ → ℕ) → Option Mapping → ℕ
 owner_at owners None = 0
 owner_at owners (Some m) = owners m.frame
-
--- where it stands in one, and its owner word is this one
-owner-named : (owners : ℕ → ℕ) (p : ℕ) (t : Option Mapping) → IsSome t → ((m : Mapping) → t ≡ Some m → owners m.frame ≡ p + 1) → owner_at owners t ≡ p + 1
-owner-named owners p None is owned = absurd (false≢true is)
-owner-named owners p (Some m) is owned = owned m refl
 
 -- who knows it of the page's frame knows it of the frame that the page is said to stand in
 pub knows-owner : (owners : ℕ → ℕ) (seat : Seat) (h : Held) → h.owner ≡ owner_at owners h.mapping → KnowsOwner owners seat h
@@ -287,8 +281,7 @@ module _ {X B : Type 0} (stored : B → Stored) (keeps : Start → Kept X → Ty
             empty = λ e. (r.inv.pages p).stands.evicted (state ∙ e);
             resident = λ ne. (r.inv.pages p).stands.resident free (λ e. ne (sym state ∙ e));
             inside = frame-inside stored keeps tied start tells s r p;
-            owned = λ ne. owner-named (world stored keeps tied start tells s r).core.owners p ((world stored keeps tied start tells s r).core.pages p).trans
-                ((r.inv.pages p).stands.resident free (λ e. ne (sym state ∙ e))) (r.inv.owners.owned p free);
+            owned = λ ne. let m = some-is ((world stored keeps tied start tells s r).core.pages p).trans ((r.inv.pages p).stands.resident free (λ e. ne (sym state ∙ e))) in ap (owner_at (world stored keeps tied start tells s r).core.owners) m.1 ∙ r.inv.owners.owned p free m.0 m.1;
             told = fault-told ∙ block.1;
             device = λ t clean. sym block.0 ∙ block-is_last (r.inv.pages p).stands ((r.inv.pages p).contents t) free clean;
           })
@@ -380,11 +373,6 @@ module _ {X B : Type 0} (stored : B → Stored) (keeps : Start → Kept X → Ty
         seat-shows taken_did x r.drafts e y seat (put p [] v.loads) held v.drafts (exchange-settles r.drafts _ e y is) (λ o h at. calls) (λ m. same ∙ m) others here owner (λ q t. refl)
         (λ q m. draft-stays q (sym (upd-keeps (λ (k : Seat). k.exclusive) (λ n. seat_of v n) p seat same q) ∙ m))
 
--- what an exchange sees, by whether the page has the word expected
-seen-as : (y : Page) (expects found : ℕ) (b : Bool) → finds y expects ≡ b → eqb found expects ≡ b → page_word y ≡ found → exchange_seen y expects ≡ exchange_sees expects found
-seen-as y expects found b at is word =
-    ap {B = Seen} (λ x. if x then sights.Taken else sights.Lost (page_word y)) (at ∙ sym is) ∙ (λ i. if eqb found expects then sights.Taken else sights.Lost (word i))
-
 module _ {X B : Type 0} (stored : B → Stored) (start : Origin) (keeps : Start → Kept X → Type 0) (tied : Start → ℕ → List ℕ → ℕ → List ℕ → Type 0) (tells : Bool) (s : Table (Option B) (View X)) (id p : ℕ) where
   -- what an exchange on a page's state word tells, of a kind whose view where it was taken is `inner`: the event is this one
   pub exchange-event : (expects found x : ℕ) (drafts : ℕ → List ℕ) (did : Did) (v inner w : View X) (e : Event) (z : Page) → IsPassOf stored start keeps tied tells s id v → FindsAt start s (places.State p) found
@@ -399,6 +387,6 @@ module _ {X B : Type 0} (stored : B → Stored) (start : Origin) (keeps : Start 
       (λ hit b. ap (λ (k : World). k.core) (event.leads w (ap (λ (k : View X). k.out) b.view) (ap (λ (k : View X). k.frames) b.view) (ap (λ (k : View X). k.seats) b.view) (ap (λ (k : View X). k.loads) b.view) (hits hit)))
       (λ miss. ap (λ (k : World). k.core) (event.none (misses miss)))
       (sees ∙ ⊎_elim
-      (λ hit. seen-as y expects found true (hits hit) (eq-eqb found expects hit) word)
-      (λ miss. seen-as y expects found false (misses miss) (ne_eqb found expects miss) word)
+      (λ hit. rw (hits hit, eq-eqb found expects hit) refl)
+      (λ miss. rw (misses miss, ne_eqb found expects miss) (ap sights.Lost word))
       (cases_eq found expects))

@@ -1,6 +1,5 @@
 -- A pass is fit to step again after a step: what the step brings says so.
-use Rattle.vm_step.proofs.Prelude.{ap, Bool, BringsWith, Did, Entry, false, if◌then◌else◌, IsFit, List, Option, Release, Stored, true, View, ℕ, ◌∙◌}
-use Rattle.vm_step.proofs.Prelude.{◌≡◌}
+use Rattle.vm_step.proofs.Prelude.{ap, Bool, BringsWith, Did, Entry, false, if◌then◌else◌, IsFit, List, Option, Release, Stored, true, View, ℕ, ◌∙◌, ◌≡◌}
 
 module _ {X : Type 0} where
   pub fit : {did : Did} → {block : Option (ℕ × Stored)} → {own : List Release} → {entries : List (Entry X)} → {v inner w : View X} → BringsWith did block own entries v inner w → inner.live ≡ true → IsFit w

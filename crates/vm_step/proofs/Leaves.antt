@@ -1,11 +1,9 @@
 -- What the steps of a call that speaks of one page leave of a view, and that this holds of several steps in a row.
-use Rattle.vm_step.proofs.Alone.{runs-one, runs-self, runs-then}
-use Rattle.vm_step.proofs.{Asides.starts-then, Together.ready-as}
+use Rattle.vm_step.proofs.{Alone.runs-one, Alone.runs-self, Alone.runs-then, Asides.starts-then, steps.Leaving.last-still, Together.ready-as}
 use Rattle.vm_step.proofs.Prelude.{[], ap, append-none, append_assoc, Bool, BringsWith, cases_eq, Did, Held, held_at, HoldsPage, IsAside, IsLocking, IsReady}
 use Rattle.vm_step.proofs.Prelude.{IsSamePass, KnowsAsBefore, last_of, LeavesRest, length, List, no_held, Note, Option, Out, Pass, Put, put_at, ReadsAsBefore}
 use Rattle.vm_step.proofs.Prelude.{refl, rules, Seat, seat_of, Shape, StartsWith, StaysAlone, Stored, subst, sym, TableId, Tie, View, view, Works, ℕ, ⊎_elim}
 use Rattle.vm_step.proofs.Prelude.{◌++◌, ◌<◌, ◌∙◌, ◌∷◌, ◌≡◌, ◌≢◌}
-use Rattle.vm_step.proofs.steps.Leaving.{last-still}
 
 module _ {X : Type 0} (p : ℕ) where
   pub leaves-then : (a b : List Did) (u v w : View X) → LeavesRest p a u v → LeavesRest p b v w → LeavesRest p (a ++ b) u w

@@ -1,7 +1,7 @@
 -- What the rule says of the pages that a pass holds exclusively: where they stand, what is known of them, and that no other view says a thing of them.
-use Rattle.vm_step.proofs.Prelude.{any, any-same, any-true, ap, arith, at_set, Bool, caller-here, cases_Bool, cases_eq, cases_lt, core_shown, false}
+use Rattle.vm_step.proofs.Prelude.{any, any-same, any-true, ap, arith, at_set, Bool, caller-here, cases_Bool, cases_eq, cases_lt, core_shown, eq-eqb, false}
 use Rattle.vm_step.proofs.Prelude.{false_from_ne_true, false≢true, get_elem?, has, held_at, is_owed, is_pending, IsOwned, Kept, le-ltb, List, Mapping, may_call}
-use Rattle.vm_step.proofs.Prelude.{no_held, None, Option, Origin, outside_page, Page, pages_from, put_at, refl, Ruled, seat_of, slice_set, Some, some, spent}
+use Rattle.vm_step.proofs.Prelude.{no_held, Option, Origin, outside_page, Page, pages_from, put_at, refl, Ruled, seat_of, slice_set, Some, some, spent}
 use Rattle.vm_step.proofs.Prelude.{stands_in, Start, Stored, sym, Table, true, true≢false, View, ℕ, ⊎_elim, ◌+◌, ◌-◌, ◌<◌, ◌∙◌, ◌≡◌, ◌≢◌, ◌≤◌}
 
 module _ {X B : Type 0} (stored : B → Stored) (keeps : Start → Kept X → Type 0) (tied : Start → ℕ → List ℕ → ℕ → List ℕ → Type 0) (start : Origin) (tells : Bool) (s : Table (Option B) (View X)) (r : Ruled stored keeps tied start tells s) (id : ℕ) (v : View X) (there : get_elem? s.views id ≡ some v) (live : v.live ≡ true) where
@@ -10,13 +10,15 @@ module _ {X B : Type 0} (stored : B → Stored) (keeps : Start → Kept X → Ty
   unfolding pages_from
   outside p le = rw (le-ltb p start.pages le) refl
 
+  -- a page that stands in a frame is one of the table's
+  stands-inside : (p f : ℕ) → stands_in ((core_shown stored start s).pages p).trans f ≡ true → p < start.pages
+  stands-inside p f e = ⊎_elim (λ l. l) (λ le. absurd (false≢true (ap (λ (y : Page). stands_in y.trans f) (sym (outside p le)) ∙ e))) (cases_lt p start.pages)
+
   -- a page whose device the pass may call, and that it knows to stand in a frame, is one of the table's, and stands there
   pub stands-called : (p : ℕ) (m : Mapping) → may_call (seat_of v p) ≡ true → (put_at no_held v.held p).mapping ≡ Some m → (p < start.pages) × (((core_shown stored start s).pages p).trans ≡ Some m)
   stands-called p m calls at =
-      let is : ((core_shown stored start s).pages p).trans ≡ Some m = sym (((r.known id v there live).knows p).calls calls).0 ∙ at in (
-        ⊎_elim (λ l. l) (λ le. absurd (let none : None ≡ Some m = sym (ap (λ (y : Page). y.trans) (outside p le)) ∙ is in cc)) (cases_lt p start.pages),
-        is,
-      )
+      let is : ((core_shown stored start s).pages p).trans ≡ Some m = sym (((r.known id v there live).knows p).calls calls).0 ∙ at in
+      (stands-inside p m.frame (ap (λ x. stands_in x m.frame) is ∙ eq-eqb m.frame m.frame refl), is)
 
   -- and so of a page that it holds exclusively
   pub stands-known : (p : ℕ) (m : Mapping) → (seat_of v p).exclusive ≡ true → (put_at no_held v.held p).mapping ≡ Some m → (p < start.pages) × (((core_shown stored start s).pages p).trans ≡ Some m)
@@ -26,11 +28,7 @@ module _ {X B : Type 0} (stored : B → Stored) (keeps : Start → Kept X → Ty
   pub owner-known : (p word : ℕ) → may_call (seat_of v p) ≡ true → (held_at v p).owner ≡ word → IsOwned (core_shown stored start s) p word
   owner-known p word calls is m at = let k = r.known id v there live in sym (k.owners p m calls (((k.knows p).calls calls).0 ∙ at)) ∙ is
 
-  -- a page that stands in a frame is one of the table's
-  stands-inside : (p f : ℕ) → stands_in ((core_shown stored start s).pages p).trans f ≡ true → p < start.pages
-  stands-inside p f e = ⊎_elim (λ l. l) (λ le. absurd (false≢true (ap (λ (y : Page). stands_in y.trans f) (sym (outside p le)) ∙ e))) (cases_lt p start.pages)
-
-  -- so an owner word names one, or none
+  -- an owner word names a page of the table, or none
   pub owner-inside : (f : ℕ) → (core_shown stored start s).owners f ≤ v.start.pages
   owner-inside f =
       let word : ℕ = (core_shown stored start s).owners f in

@@ -3,6 +3,7 @@ use Rattle.vm_core.specs.declared.event.Event.TheVariants.{Release}
 use Rattle.vm_core.specs.declared.event.Seen.TheVariants as sights
 use Rattle.vm_rule.specs.declared.view.Place.TheVariants as places
 use Rattle.vm_step.specs.Prelude.{Release as Released}
+use Rattle.vm_step.proofs.{Mine.owner-known, steps.CatchUp.found-below, steps.CatchUp.written-below}
 use Rattle.vm_step.proofs.Prelude.{[], actor_of, after_step, ap, append-none, arith, at-bound, bare-state, bare-version, became, Bool, cases_eq, Change}
 use Rattle.vm_step.proofs.Prelude.{change_of, changed_pages, changes_of, core_shown, did_store, Downgrade, downgrade-step, downgraded_view, draft-is, draft_of}
 use Rattle.vm_step.proofs.Prelude.{Each, entries_of, Entry, entry_of, eq-eqb, eqb, Event, EVICTED, evicted_view, false, false≢true, get_elem?, has, has-both}
@@ -14,8 +15,6 @@ use Rattle.vm_step.proofs.Prelude.{release-here, release-step, release_of, relea
 use Rattle.vm_step.proofs.Prelude.{slice_set, Some, some, Start, State, state_of, Stored, subst, sym, Table, true, true≢false, UNLOCKED, upd, upd-other}
 use Rattle.vm_step.proofs.Prelude.{upd-same, Version, version_of, View, width, without, without-none, word-state, word-version, word_of, World, world_after}
 use Rattle.vm_step.proofs.Prelude.{world_of, wrote, ℕ, ⊎_elim, ◌++◌, ◌+◌, ◌<◌, ◌||◌, ◌∙◌, ◌∷◌, ◌≡◌, ◌≢◌, ◌≤◌, ◌⊎◌}
-use Rattle.vm_step.proofs.Mine.{owner-known}
-use Rattle.vm_step.proofs.steps.CatchUp.{found-below, written-below}
 
 -- p is no member any more; the other members still are, and those of `rest` come to them
 pub record Members (p : ℕ) (rest before after : List ℕ) : Type 0 where

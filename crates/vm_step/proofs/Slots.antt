@@ -431,11 +431,8 @@ module _ {X B : Type 0} (stored : B → Stored) (keeps : Start → Kept X → Ty
               (λ here. subst (λ x. IsSome (at_home x)) (sym (ap (at maybe.none (home-slots p b)) here ∙ slot-here s.homes p (maybe.some (Some b)) inside)) refl)
               (λ ne. subst (λ x. IsSome (at_home x)) (sym (slot-else s.homes p q (maybe.some (Some b)) inside ne)) (r.blocks.home q lq (sym (elsewhere (home-after p b) refl q ne) ∙ e)))
               (cases_eq q p);
-          bounds = λ q lq. ap (λ (y : ℕ → Stored). (y q).bound) (blocks-home (home-after p b) refl) ∙ ⊎_elim
-              (λ here. ap (λ m. (upd (block_of stored s.homes s.views) p (stored b) m).bound) here ∙ ap (λ (y : Stored). y.bound) (upd-same (block_of stored s.homes s.views) p (stored b)) ∙ bound
-              ∙ ap (λ (y : Stored). y.bound) (sym (block-out-is o out)) ∙ r.blocks.bounds p k.0 ∙ ap (at 0 start.bounds) (sym here))
-              (λ ne. ap (λ (y : Stored). y.bound) (upd-other (block_of stored s.homes s.views) p (stored b) q ne) ∙ r.blocks.bounds q lq)
-              (cases_eq q p);
+          bounds = λ q lq. ap (λ (y : ℕ → Stored). (y q).bound) (blocks-home (home-after p b) refl) ∙ each-upd (λ n (y : Stored). n < start.pages → y.bound ≡ at 0 start.bounds n) (block_of stored s.homes s.views) p (stored b)
+              (λ l. bound ∙ ap (λ (y : Stored). y.bound) (sym (block-out-is o out)) ∙ r.blocks.bounds p l) (λ n _. r.blocks.bounds n) q lq;
         }
 
     -- the core that is read then
