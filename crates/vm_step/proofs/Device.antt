@@ -2,10 +2,10 @@
 use Rattle.vm_rule.specs.Slots.{wrote}
 use Rattle.vm_rule.specs.declared.view.Place.TheVariants as places
 use Rattle.vm_step.proofs.Leaves.{works-one, works-then}
-use Rattle.vm_step.proofs.Prelude.{[], ap, arith, Bool, cond-true, count_more, DeviceDid, Did, did_load, Err, failed, false, Held, held_at, HomeTold, IsSome}
-use Rattle.vm_step.proofs.Prelude.{KeepsFrames, List, MAX_COUNT, MayBring, nat_lt, nat_tests, no_held, None, notes_of, Ok, Option, Out, out_at, OutTold, put}
-use Rattle.vm_step.proofs.Prelude.{put_at, read, Reads, refl, Result, ReturnTold, rules, seat_of, ShiftTold, Some, Stored, sym, true, upd-other, upd-same, View}
-use Rattle.vm_step.proofs.Prelude.{words_held, Works, Writes, ℕ, ◌++◌, ◌+◌, ◌==◌, ◌||◌, ◌∙◌, ◌∷◌, ◌≡◌, ◌≤◌}
+use Rattle.vm_step.proofs.Prelude.{[], ap, arith, Bool, count_more, DeviceDid, Did, did_load, Err, failed, false, Held, held_at, HomeTold, IsSome, KeepsFrames}
+use Rattle.vm_step.proofs.Prelude.{List, MayBring, nat_tests, no_held, None, notes_of, Ok, Option, Out, out_at, OutTold, put, put_at, read, Reads, refl, Result}
+use Rattle.vm_step.proofs.Prelude.{ReturnTold, rules, seat_of, ShiftTold, Some, Stored, sym, true, upd-other, upd-same, View, words_held, Works, Writes, ℕ}
+use Rattle.vm_step.proofs.Prelude.{◌++◌, ◌+◌, ◌∙◌, ◌∷◌, ◌≡◌, ◌≤◌}
 
 abbrev pub two-loads : ℕ → ℕ → ℕ → List Did
 two-loads p first second = did_load (places.Fault p) first ∷ did_load (places.Fault p) second ∷ []
@@ -59,19 +59,15 @@ module _ {X : Type 0} (p : ℕ) where
 
 -- ---- what a read does
 
--- a count that a fault raises is higher, or the last one
-higher : (n : ℕ) → (nat_lt n (count_more n) || count_more n == MAX_COUNT) ≡ true
-unfolding count_more
-higher n = grind (arith, nat_tests)
-
 -- a fault counts at least one
 pub counts-one : (n : ℕ) → 1 ≤ count_more n
 unfolding count_more
 counts-one n = omega arith
 
--- the fault of a call is noted
+-- the fault of a call is noted: the count that it raises is higher, or the last one
 pub noted-more : (p count : ℕ) → notes_of p count (count_more count) ≡ record { page = p; count = count_more count } ∷ []
-noted-more p count = cond-true (nat_lt count (count_more count) || count_more count == MAX_COUNT) (record { page = p; count = count_more count } ∷ []) [] (higher count)
+unfolding count_more
+noted-more p count = grind (arith, nat_tests)
 
 module _ {X E : Type 0} (p : ℕ) (tells : Bool) (v : View X) (old new : Stored) (into : List ℕ) (telling : v.start.tells ≡ tells) (owns : (seat_of v p).exclusive ≡ true) where
   -- a read leaves the words, and is counted, or its fault

@@ -84,14 +84,6 @@ module _ {X B : Type 0} (stored : B → Stored) (start : Origin) (keeps : Start 
 
 -- ---- what the pass has of pages
 
-module _ {X : Type 0} where
-  -- it knows its pages, where one page, its seat there and what it knows of that page have changed
-  pub knows-one : (v : View X) (pages : ℕ → Page) (p : ℕ) (seat : Seat) (held : List (Put Held)) (y : Page) → ((q : ℕ) → KnowsPage (seat_of v q) (put_at no_held v.held q) (pages q))
-      → ((q : ℕ) → q ≢ p → put_at no_held held q ≡ put_at no_held v.held q) → KnowsPage seat (put_at no_held held p) y
-      → (q : ℕ) → KnowsPage (put_at no_seat (put p seat v.seats) q) (put_at no_held held q) (upd pages p y q)
-  knows-one v pages p seat held y known others here =
-      each-upd2 (λ q k z. KnowsPage k (put_at no_held held q) z) (put_at no_seat v.seats) pages p seat y here (λ q ne. subst (λ h. KnowsPage (seat_of v q) h (pages q)) (sym (others q ne)) (known q))
-
 -- the owner word of the frame that a page stands in
 abbrev pub owner_at : (ℕ → ℕ) → Option Mapping → ℕ
 owner_at owners None = 0
@@ -333,7 +325,7 @@ module _ {X B : Type 0} (stored : B → Stored) (keeps : Start → Kept X → Ty
         word-shows (put p seat v.seats) loads held own is
         (λ o x. each-upd (λ q y. o.page ≡ q → may_call (seat_of v q) ≡ true → may_call y ≡ true) (put_at no_seat v.seats) p seat (calls o x) (λ q ne e k. k) o.page refl (r.blocks.away id v o there x).1)
         (each-upd (λ q y. (seat_of v q).exclusive ≡ true → y.exclusive ≡ true) (put_at no_seat v.seats) p seat holds (λ q ne k. k))
-        (knows-one v old'.core.pages p seat held y (r.known id v there live).knows others here)
+        (each-upd2 (λ q k z. KnowsPage k (put_at no_held held q) z) (put_at no_seat v.seats) old'.core.pages p seat y here (λ q ne. subst (λ h. KnowsPage (seat_of v q) h (old'.core.pages q)) (sym (others q ne)) ((r.known id v there live).knows q)))
         (each-upd (λ q k. KnowsOwner old'.core.owners k (put_at no_held held q)) (put_at no_seat v.seats) p seat owner (λ q ne. subst (KnowsOwner old'.core.owners (seat_of v q)) (sym (others q ne)) ((r.known id v there live).owners q)))
 
   -- ---- a lock

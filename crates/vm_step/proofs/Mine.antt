@@ -1,5 +1,5 @@
 -- What the rule says of the pages that a pass holds exclusively: where they stand, what is known of them, and that no other view says a thing of them.
-use Rattle.vm_step.proofs.Prelude.{any, any-same, any-true, ap, arith, at_set, Bool, caller-here, cases_Bool, cases_eq, cases_lt, core_shown, eq-eqb, false}
+use Rattle.vm_step.proofs.Prelude.{any, any-same, any-true, ap, arith, at_set, Bool, caller-here, cases_Bool, cases_lt, core_shown, eq-eqb, false}
 use Rattle.vm_step.proofs.Prelude.{false_from_ne_true, false≢true, get_elem?, has, held_at, is_owed, is_pending, IsOwned, Kept, le-ltb, List, Mapping, may_call}
 use Rattle.vm_step.proofs.Prelude.{no_held, Option, Origin, outside_page, Page, pages_from, put_at, refl, Ruled, seat_of, slice_set, Some, some, spent}
 use Rattle.vm_step.proofs.Prelude.{stands_in, Start, Stored, sym, Table, true, true≢false, View, ℕ, ⊎_elim, ◌+◌, ◌-◌, ◌<◌, ◌∙◌, ◌≡◌, ◌≢◌, ◌≤◌}
@@ -31,15 +31,9 @@ module _ {X B : Type 0} (stored : B → Stored) (keeps : Start → Kept X → Ty
   -- an owner word names a page of the table, or none
   pub owner-inside : (f : ℕ) → (core_shown stored start s).owners f ≤ v.start.pages
   owner-inside f =
-      let word : ℕ = (core_shown stored start s).owners f in
       let same : v.start.pages ≡ start.pages = ap (λ (o : Origin). o.pages) (r.heard id v there live).same_start in
-      ⊎_elim
-      (λ (e : word ≡ 0). omega (arith, e))
-      (λ ne.
-      let is : word ≡ (word - 1) + 1 = omega (arith, ne) in
-      let l : word - 1 < start.pages = stands-inside (word - 1) f (r.inv.owners.named f (word - 1) is) in
-      omega (arith, l, same, ne))
-      (cases_eq word 0)
+      let inside : (p : ℕ) → (core_shown stored start s).owners f ≡ p + 1 → p < start.pages = λ p e. stands-inside p f (r.inv.owners.named f p e) in
+      grind (arith, same, inside ((core_shown stored start s).owners f - 1))
 
   -- where a view says so only of a page that it holds exclusively, and some view says it of this page after a step of the pass, its own does
   pub holder-said : (f : View X → Bool) (p : ℕ) (w : View X) → p < start.pages → (seat_of v p).exclusive ≡ true → f spent ≡ false

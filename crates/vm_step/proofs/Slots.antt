@@ -236,13 +236,14 @@ module _ {X B : Type 0} (stored : B → Stored) (keeps : Start → Kept X → Ty
 
   -- ---- the slot is taken with the block in it
 
-  -- nobody has the block of the page out
+  -- the other passes have other blocks out
+  pub others-out : (p : ℕ) → p < start.pages → may_call (seat_of v p) ≡ true → (j : ℕ) (u : View X) (o : Out) → j ≢ id → get_elem? s.views j ≡ some u → u.out ≡ Some o → o.page ≢ p
+  others-out p l calls j u o ne at x e =
+      let a = r.blocks.away j u o at x in ne (caller-here stored start s id j p v u (r.inv.pages p).locks l there calls at (subst (λ q. may_call (seat_of u q) ≡ true) e a.1))
+
+  -- nobody has the block of the page out, where the pass has none
   nobody-out : (p : ℕ) → p < start.pages → may_call (seat_of v p) ≡ true → v.out ≡ None → (j : ℕ) (u : View X) (o : Out) → get_elem? s.views j ≡ some u → u.out ≡ Some o → o.page ≢ p
-  nobody-out p l calls none j u o at x e =
-      let k = r.blocks.away j u o at x in
-      let same : j ≡ id = caller-here stored start s id j p v u (r.inv.pages p).locks l there calls at (subst (λ q. may_call (seat_of u q) ≡ true) e k.1) in
-      let is : u ≡ v = some-injective u v (sym at ∙ ap (get_elem? s.views) same ∙ there) in
-      none-some o (sym none ∙ sym (ap (λ (y : View X). y.out) is) ∙ x)
+  nobody-out p l calls none j u o at x = others-out p l calls j u o (λ same. none-some o (sym none ∙ sym (ap (λ (y : View X). y.out) (some-injective u v (sym at ∙ ap (get_elem? s.views) same ∙ there))) ∙ x)) at x
 
   -- so it is at home
   pub at-home : (p : ℕ) → p < start.pages → may_call (seat_of v p) ≡ true → v.out ≡ None → (b : B) × (at maybe.none s.homes p ≡ some (Some b))
@@ -297,11 +298,6 @@ module _ {X B : Type 0} (stored : B → Stored) (keeps : Start → Kept X → Ty
       (k.0, record { brings = k.1; block = is-block p b l calls at-p })
 
   -- ---- the empty slot of a block that is out
-
-  -- the other passes have other blocks out
-  pub others-out : (p : ℕ) → p < start.pages → may_call (seat_of v p) ≡ true → (j : ℕ) (u : View X) (o : Out) → j ≢ id → get_elem? s.views j ≡ some u → u.out ≡ Some o → o.page ≢ p
-  others-out p l calls j u o ne at x e =
-      let a = r.blocks.away j u o at x in ne (caller-here stored start s id j p v u (r.inv.pages p).locks l there calls at (subst (λ q. may_call (seat_of u q) ≡ true) e a.1))
 
   -- the block that is read stays, where the slot goes home or is taken
   pub shifted-blocks : (o : Out) (moving : Bool) (w : View X) → v.out ≡ Some o → w.out ≡ Some (out_at o.page moving o.block)

@@ -187,24 +187,20 @@ module _ {X : Type 0} where
       }
 
   -- one pass more is split off
-  pub split-one : (v : View X) (others : List (View X)) (x : View X) → PassesSplit v others x → 0 < length x.fresh → x.live ≡ true → PassesSplit v (others ++ newcomer true x ∷ []) (giver true x)
-  split-one v others x h room live =
+  pub split-step : (v : View X) (others : List (View X)) (x y given : View X) → PassesSplit v others x → 0 < length x.fresh → x.live ≡ true → y ≡ giver true x → given ≡ newcomer true x → PassesSplit v (others ++ given ∷ []) y
+  split-step v others x y given h room live is new =
       let cut = cut-first x.fresh room in
-      record {
+      rw (is, new)
+      (record {
         middle = h.middle;
         caught = h.caught;
-        left = ap (λ (y : View X). record y { fresh = other_parts x.fresh }) h.left;
+        left = ap (λ (u : View X). record u { fresh = other_parts x.fresh }) h.left;
         fresh = ap (λ l. l ++ other_parts x.fresh) (used-snoc others (newcomer true x)) ∙ append_assoc (all_used others) (first_part x.fresh) (other_parts x.fresh) ∙ ap (λ l. all_used others ++ l) cut.0 ∙ h.fresh;
         apart = h.apart;
         parts = λ k. omega (arith, h.parts k, total-snoc (owns k) others (newcomer true x), parts-cut true x k);
         each = each-both _ others (newcomer true x ∷ []) (each-map _ _ (λ w n. record { number = n.number; new = n.new }) others h.each)
             (record { number = cut.1; new = refl }, tt);
-      }
-
-  -- the same, of the views that the call left
-  pub split-step : (v : View X) (others : List (View X)) (x y given : View X) → PassesSplit v others x → 0 < length x.fresh → x.live ≡ true → y ≡ giver true x → given ≡ newcomer true x → PassesSplit v (others ++ given ∷ []) y
-  split-step v others x y given h room live is new =
-      subst (λ w. PassesSplit v (others ++ w ∷ []) y) (sym new) (subst (λ u. PassesSplit v (others ++ newcomer true x ∷ []) u) (sym is) (split-one v others x h room live))
+      })
 
   -- beside the parts the pass has what it had, and it knows the table
   pub split-still : (v : View X) (others : List (View X)) (x : View X) → PassesSplit v others x → HasStill v x
