@@ -1,9 +1,9 @@
 -- Lists of pages: those that are chosen, those without some, and the pages after a group's changes.
 use Rattle.vm_rule.proofs.Bundled.{has-without_all as without_all-has}
 use Rattle.vm_step.proofs.Logical.{page-listed}
-use Rattle.vm_step.proofs.Prelude.{[], Agrees, ap, arith, Bool, cases_eq, Change, changed, changed_pages, chosen, Each, false, has, has-both, if◌then◌else◌}
-use Rattle.vm_step.proofs.Prelude.{length-listed, List, listed, listed-same, listed-upd, nat_tests, ne_eqb, refl, suc, sym, true, upd, upd-other, upd-same}
-use Rattle.vm_step.proofs.Prelude.{without_all, zero, ℕ, ⊎_elim, ◌++◌, ◌<◌, ◌∙◌, ◌∷◌, ◌≡◌, ◌≤◌}
+use Rattle.vm_step.proofs.Prelude.{[], Agrees, ap, arith, Bool, Change, changed, changed_pages, chosen, Each, each-upd, false, has, has-both, if◌then◌else◌}
+use Rattle.vm_step.proofs.Prelude.{length-listed, List, listed, listed-same, listed-upd, nat_tests, ne_eqb, refl, suc, sym, true, upd, without_all, zero, ℕ}
+use Rattle.vm_step.proofs.Prelude.{◌++◌, ◌<◌, ◌∙◌, ◌∷◌, ◌≡◌, ◌≤◌}
 pub use Rattle.vm_owner.proofs.NumberLemmas.{has-end, apart-end}
 
 -- ---- lists of numbers
@@ -54,7 +54,4 @@ changed-listed n f g [] new old = listed-same n f g (λ q l. sym (old q l refl))
 changed-listed n f g (c ∷ cs) new old =
     ap (changed cs) (sym (listed-upd n f c.page c.new new.0.0))
     ∙ changed-listed n (upd f c.page c.new) g cs new.1
-    (λ q l none. ⊎_elim
-    (λ e. ap g e ∙ new.0.1 ∙ sym (ap (upd f c.page c.new) e ∙ upd-same f c.page c.new))
-    (λ ne. old q l (rw (ne_eqb q c.page ne) none) ∙ sym (upd-other f c.page c.new q ne))
-    (cases_eq q c.page))
+    (each-upd (λ q words. q < n → has q (changed_pages cs) ≡ false → g q ≡ words) f c.page c.new (λ _ _. new.0.1) (λ q ne l none. old q l (rw (ne_eqb q c.page ne) none)))

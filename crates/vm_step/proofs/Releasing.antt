@@ -43,8 +43,7 @@ each-has P (x ∷ xs) q e some' =
 
 -- the loaded next word stays known where another page is given up
 pub next-kept : (p : ℕ) (o : Option ℕ) (x : ℕ) → next_after p o ≡ Some x → (x ≢ p) × (o ≡ Some x)
-next-kept p None x e = absurd (cc)
-next-kept p (Some y) x e = grind (arith, nat_tests)
+next-kept p o x e = grind (arith, nat_tests)
 
 module _ {X : Type 0} where
   pub entries-one : (v : View X) (said : Option X) → (entries_of v said ≡ []) ⊎ ((x : X) × (entries_of v said ≡ entry_of v x ∷ []))
@@ -99,8 +98,7 @@ left-version Unlocks version l = bare-version version l
 left-version way version l = word-version (state_left way) version l
 
 pub left-exclusive : (way : Way) (k : Seat) → (seat_left way k).exclusive ≡ false
-left-exclusive Shares k = refl
-left-exclusive _ k = refl
+left-exclusive way k = grind arith
 
 -- the event, and the page after it
 abbrev pub event_left : Way → ℕ → ℕ → Event
@@ -113,16 +111,13 @@ page_left way r a =
     record r { state = state_left way; version = r.version + 1; seats = upd r.seats a (seat_left way (r.seats a)) }
 
 pub left-actor : (way : Way) (a p : ℕ) → actor_of (event_left way a p) ≡ a
-left-actor Evicts a p = refl
-left-actor _ a p = refl
+left-actor way a p = grind arith
 
 pub left-sees : (way : Way) (c : State) (a p : ℕ) → seen c (event_left way a p) ≡ sights.Done
-left-sees Evicts c a p = refl
-left-sees _ c a p = refl
+left-sees way c a p = grind arith
 
 pub left-core : (way : Way) (w : World) (a p : ℕ) → (world_after w (event_left way a p)).core ≡ on_page w.core p (page_left way (w.core.pages p) a)
-left-core Evicts w a p = refl
-left-core _ w a p = refl
+left-core way w a p = grind arith
 
 pub left-legal : (way : Way) (c : State) (a p : ℕ) → a < c.shape.actors → p < c.shape.pages → ((c.pages p).seats a).exclusive ≡ true → StandsFor way (c.pages p).trans → (c.pages p).fault ≡ (c.pages p).count
     → (word : ℕ) → IsOwned c p word → OwnedFor way p word → Legal c (event_left way a p)

@@ -48,12 +48,10 @@ out-at_page o d = rw (eq-eqb o.page o.page refl) refl
 
 -- nothing is out, so not this
 none-before : (x : Option Out) (p : ℕ) (d : Option Stored) → out_or x p d ≡ None → (d ≡ None) × ((d' : Option Stored) → out_or x p d' ≡ d')
-none-before None p d e = (e, λ _. refl)
-none-before (Some o) p d e = grind (arith, nat_tests)
+none-before x p d e = grind (arith, nat_tests)
 
 passes-by : (x : Option Out) (p : ℕ) (d : Option Stored) → ((o : Out) → x ≡ Some o → o.page ≢ p) → out_or x p d ≡ d
-passes-by None p d k = refl
-passes-by (Some o) p d k = rw (ne_eqb o.page p (k o refl)) refl
+passes-by x p d k = grind (arith, nat_tests)
 
 module _ {X : Type 0} where
   -- what is out of another page stays

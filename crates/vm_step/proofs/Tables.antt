@@ -23,14 +23,7 @@ place_at start i =
 
 place-at : (start : Origin) (at : Place) → Within start at → place_at start (index_of start at) ≡ at
 unfolding place_at
-place-at start (places.State p) l = grind (arith, nat_tests)
-place-at start (places.Translation p) l = grind (arith, nat_tests)
-place-at start (places.Fault p) l = grind (arith, nat_tests)
-place-at start (places.Content f i) l = grind (arith, nat_tests)
-place-at start (places.Bundle g) l = grind (arith, nat_tests)
-place-at start places.Next l = grind (arith, nat_tests)
-place-at start places.Hand l = grind (arith, nat_tests)
-place-at start (places.Owner f) l = grind (arith, nat_tests)
+place-at start at l = grind (arith, nat_tests)
 
 -- two places of the table with one index are one
 pub index-same : (start : Origin) (a b : Place) → Within start a → Within start b → index_of start a ≡ index_of start b → a ≡ b
@@ -39,8 +32,7 @@ index-same start a b in-a in-b e = sym (place-at start a in-a) ∙ ap (place_at 
 -- ---- lists of words
 
 pub set-length : (o : Option ℕ) (i : ℕ) (words : List ℕ) → length (set_if o i words) ≡ length words
-set-length None i words = refl
-set-length (Some x) i words = length-set words i x
+set-length o i words = grind (arith, length-set)
 
 -- the table has as many words after steps as before
 pub follows-length : (start : Origin) (ds : List Did) (old new : List ℕ) → Follows start ds old new → length new ≡ length old

@@ -16,12 +16,10 @@ piece-on l m n s p =
     record { before = p.before; behind = p.behind ++ s.0; cut = s.1 ∙ ap (λ y. y ++ s.0) p.cut ∙ append_assoc p.before (n ++ p.behind) s.0 ∙ ap (λ y. p.before ++ y) (append_assoc n p.behind s.0) }
 
 cut-first : (l : List ℕ) → 0 < length l → (first_part l ++ other_parts l ≡ l) × (length (first_part l) ≡ 1)
-cut-first [] h = absurd (omega (arith, h))
-cut-first (n ∷ l) h = (refl, refl)
+cut-first l h = grind arith
 
 pub cut-length : (l : List ℕ) → 0 < length l → length (other_parts l) + 1 ≡ length l
-cut-length [] h = absurd (omega (arith, h))
-cut-length (n ∷ l) h = omega arith
+cut-length l h = grind arith
 
 -- all of a list, with one more at its end; and each of a mapped list
 pub all-snoc : {A : Type 0} (P : A → Type 0) (xs : List A) (x : A) → All P xs → P x → All P (xs ++ x ∷ [])

@@ -6,10 +6,7 @@ use Rattle.vm_step.proofs.Prelude.{width, with_word, Within, Words, words-writte
 
 -- the place is one of the table's words
 pub index-below : (start : Origin) (w : Place) → Within start w → index_of start w < width start
-index-below start (places.Content f i) l = omega (arith, l.0, l.1)
-index-below start places.Next l = omega arith
-index-below start places.Hand l = omega arith
-index-below start _ l = omega (arith, l)
+index-below start w l = grind arith
 
 -- the number that was written stands there
 pub stands-there : (start : Origin) (words : List ℕ) (w : Place) (x : ℕ) → length words ≡ width start → Within start w → x ≡ slice_index (slice_set words (index_of start w) x) (index_of start w)
