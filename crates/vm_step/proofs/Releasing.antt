@@ -7,14 +7,14 @@ use Rattle.vm_step.proofs.{Mine.owner-known, steps.CatchUp.found-below, steps.Ca
 use Rattle.vm_step.proofs.Prelude.{[], actor_of, after_step, ap, append-none, arith, at-bound, bare-state, bare-version, became, Bool, cases_eq, Change}
 use Rattle.vm_step.proofs.Prelude.{change_of, changed_pages, changes_of, core_shown, did_store, Downgrade, downgrade-step, downgraded_view, draft-is, draft_of}
 use Rattle.vm_step.proofs.Prelude.{Each, entries_of, Entry, entry_of, eq-eqb, eqb, Event, EVICTED, evicted_view, false, false≢true, get_elem?, has, has-both}
-use Rattle.vm_step.proofs.Prelude.{has-without_other, has-without_same, held_at, histories_of, History, if◌then◌else◌, index_of, inl, inr, is_pending}
-use Rattle.vm_step.proofs.Prelude.{IsClaimed, IsFirst, IsLater, IsMember, IsNotOut, IsOwned, IsSome, IsToldOf, Kept, known, KnowsPages, last-is, last_in}
-use Rattle.vm_step.proofs.Prelude.{last_of, Legal, length, List, locked-here, Mapping, MAX_VERSION, may_call, MayDowngrade, MayEvict, MayGiveUp, nat_tests}
-use Rattle.vm_step.proofs.Prelude.{ne_eqb, next_after, no_held, None, on_page, Option, or_cases, or_right, Origin, Page, put, put_at, refl, release-else}
-use Rattle.vm_step.proofs.Prelude.{release-here, release-step, release_of, released_view, ReleaseE, releasee-step, Ruled, Seat, seat-here, seat_of, seen}
-use Rattle.vm_step.proofs.Prelude.{slice_set, Some, some, Start, State, state_of, Stored, subst, sym, Table, true, true≢false, UNLOCKED, upd, upd-other}
-use Rattle.vm_step.proofs.Prelude.{upd-same, Version, version_of, View, width, without, without-none, word-state, word-version, word_of, World, world_after}
-use Rattle.vm_step.proofs.Prelude.{world_of, wrote, ℕ, ⊎_elim, ◌++◌, ◌+◌, ◌<◌, ◌||◌, ◌∙◌, ◌∷◌, ◌≡◌, ◌≢◌, ◌≤◌, ◌⊎◌}
+use Rattle.vm_step.proofs.Prelude.{has-without_other, has-without_same, held_at, histories_of, History, index_of, inl, inr, is_pending, IsClaimed, IsFirst}
+use Rattle.vm_step.proofs.Prelude.{IsLater, IsMember, IsNotOut, IsOwned, IsSome, IsToldOf, Kept, known, KnowsPages, last-is, last_in, last_of, Legal, length}
+use Rattle.vm_step.proofs.Prelude.{List, locked-here, Mapping, MAX_VERSION, may_call, MayDowngrade, MayEvict, MayGiveUp, nat_tests, ne_eqb, next_after, no_held}
+use Rattle.vm_step.proofs.Prelude.{None, on_page, Option, or_cases, or_right, Origin, Page, put, put_at, refl, release-else, release-here, release-step}
+use Rattle.vm_step.proofs.Prelude.{release_of, released_view, ReleaseE, releasee-step, Ruled, Seat, seat-here, seat_of, seen, slice_set, Some, some, Start}
+use Rattle.vm_step.proofs.Prelude.{State, state_of, Stored, subst, sym, Table, true, true≢false, UNLOCKED, upd, upd-other, upd-same, Version, version_of, View}
+use Rattle.vm_step.proofs.Prelude.{width, without, without-none, word-state, word-version, word_of, World, world_after, world_of, wrote, ℕ, ⊎_elim, ◌++◌, ◌+◌}
+use Rattle.vm_step.proofs.Prelude.{◌<◌, ◌||◌, ◌∙◌, ◌∷◌, ◌≡◌, ◌≢◌, ◌≤◌, ◌⊎◌}
 
 -- p is no member any more; the other members still are, and those of `rest` come to them
 pub record Members (p : ℕ) (rest before after : List ℕ) : Type 0 where
@@ -312,23 +312,11 @@ module _ {X B : Type 0} {stored : B → Stored} {keeps : Start → Kept X → Ty
 
 -- its view after the second is that after the first, where the page is no member of a group and not owed
 pub evicted-is : {X : Type 0} (v : View X) (p version : ℕ) → MayEvict v p version → released_view p [] None v ≡ evicted_view p v
-evicted-is v p version g i = record v {
-  seats = put p (record (seat_of v p) { exclusive = false }) v.seats;
-  pending = ap (λ (b : Bool). if b then without p v.pending else v.pending) g.free i;
-  owed = without-none p v.owed g.paid i;
-  next = next_after p v.next;
-  mine = append-none v.mine i;
-}
+evicted-is v p version g = rw (g.free, without-none p v.owed g.paid, append-none v.mine) refl
 
 -- and so after a release to a share
 pub downgraded-is : {X : Type 0} {may_release : Start → List ℕ → List Change → List (Entry X) → Type 0} (v : View X) (p version : ℕ) → MayDowngrade may_release v p version → left_view Shares p [] None v ≡ downgraded_view p v
-downgraded-is v p version g i = record v {
-  seats = put p (record (seat_of v p) { shares = 1; exclusive = false }) v.seats;
-  pending = ap (λ (b : Bool). if b then without p v.pending else v.pending) g.first.members.0.free i;
-  owed = without p v.owed;
-  next = next_after p v.next;
-  mine = append-none v.mine i;
-}
+downgraded-is v p version g = rw (g.first.members.0.free, append-none v.mine) refl
 
 module _ {X B : Type 0} {stored : B → Stored} {keeps : Start → Kept X → Type 0} {tied : Start → ℕ → List ℕ → ℕ → List ℕ → Type 0} {start : Origin} {tells : Bool} (s : Table (Option B) (View X)) (r : Ruled stored keeps tied start tells s) (id : ℕ) (v : View X) (there : get_elem? s.views id ≡ some v) (live : v.live ≡ true) (p version : ℕ) where
   -- the draft of a page that is not resident is its last words

@@ -37,9 +37,4 @@ module _ {X : Type 0} where
   still-fresh v x fresh h = search (rules, h)
 
   pub still-nothing : (v x : View X) → HasStill v x → HoldsNoPage v → HoldsNoPage x
-  still-nothing v x h m = record {
-    shares = λ p. ap (λ l. (seat_of (record v { seats = l }) p).shares) h.locks.0 ∙ m.shares p;
-    exclusive = λ p. ap (λ l. (seat_of (record v { seats = l }) p).exclusive) h.locks.0 ∙ m.exclusive p;
-    writing = λ p. ap (λ l. (seat_of (record v { seats = l }) p).writing) h.locks.0 ∙ m.writing p;
-    out = h.locks.3 ∙ m.out;
-  }
+  still-nothing v x h m = search (rules, h.locks.0, h.locks.3, m.shares, m.exclusive, m.writing, m.out)
