@@ -251,13 +251,8 @@ module _ {X B : Type 0} (stored : B → Stored) (keeps : Start → Kept X → Ty
       pub free-unheld : v.live ≡ true → IsUnheld v p
       free-unheld live =
           let here = sym (seat-here stored start s id p v l there) in
-          record {
-            exclusive = free-owner;
-            shares = ap (λ (k : Seat). k.shares) here ∙ shares-none id (at-bound s.views id v there);
-            writing = ap (λ (k : Seat). k.writing) here ∙ writes-none id;
-            paid = free-debt live;
-            next = λ e. true≢false (sym ((r.known id v there live).next p e).0 ∙ free-owner);
-          }
+          let next = λ (e : v.next ≡ Some p). true≢false (sym ((r.known id v there live).next p e).0 ∙ free-owner) in
+          search (rules, free-owner, ap (λ (k : Seat). k.shares) here ∙ shares-none id (at-bound s.views id v there), ap (λ (k : Seat). k.writing) here ∙ writes-none id, free-debt live, next)
 
       -- nobody writes the page back, so its fault word is its block's count
       fault-told : ((world stored keeps tied start tells s r).core.pages p).fault ≡ ((world stored keeps tied start tells s r).core.pages p).count

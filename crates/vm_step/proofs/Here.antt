@@ -4,9 +4,9 @@ use Rattle.vm_rule.specs.declared.view.Place.TheVariants as places
 use Rattle.vm_step.proofs.Logical.{not-pending, tied-now}
 use Rattle.vm_step.proofs.Prelude.{[], ap, append-none, arith, at_page, at_state, began_of, Bool, cases_eq, cases_lt, Did, Each, each-map, EVICTED, false}
 use Rattle.vm_step.proofs.Prelude.{get_elem?, HasShape, is_pending, IsOf, IsOlder, IsSince, IsSinceAll, Kept, last-is, last_in, length, List, loads-here}
-use Rattle.vm_step.proofs.Prelude.{loads_at, LoadsAre, LOCKED, LockValidates, Mapping, Open, Option, Origin, Page, page_at, Place, ReadInv, refl, Ruled, Seat}
-use Rattle.vm_step.proofs.Prelude.{seat-here, seat_of, Shape, slice_index, Some, some, some-is, stands_in, Start, state-here, state_of, Stored, subst, sym}
-use Rattle.vm_step.proofs.Prelude.{Table, Tie, TieHolds, true, true≢false, Version, version-here, version_of, View, WasWord, WereWords, World, world_of, ℕ}
+use Rattle.vm_step.proofs.Prelude.{loads_at, LoadsAre, LOCKED, LockValidates, Mapping, Open, Option, Origin, Page, page_at, Place, ReadInv, refl, Ruled, rules}
+use Rattle.vm_step.proofs.Prelude.{Seat, seat-here, seat_of, Shape, slice_index, Some, some, some-is, stands_in, Start, state-here, state_of, Stored, subst}
+use Rattle.vm_step.proofs.Prelude.{sym, Table, Tie, TieHolds, true, true≢false, Version, version-here, version_of, View, WasWord, WereWords, World, world_of, ℕ}
 use Rattle.vm_step.proofs.Prelude.{⊎_elim, ◌++◌, ◌<◌, ◌∙◌, ◌≡◌, ◌≢◌, ◌≤◌}
 
 -- what is said of the page of a state word
@@ -43,10 +43,7 @@ module _ {X B : Type 0} (stored : B → Stored) (keeps : Start → Kept X → Ty
   module _ (id : ℕ) (v : View X) (there : get_elem? s.views id ≡ some v) (live : v.live ≡ true) where
     -- the pass is one of a table of this shape
     pub is-of : (shape : Shape) → HasShape shape start → IsOf shape tells v
-    is-of shape h = record {
-      is_shape = subst (HasShape shape) (sym (r.heard id v there live).same_start) h;
-      tells_is = ap (λ (o : Origin). o.tells) (r.heard id v there live).same_start ∙ r.telling;
-    }
+    is-of shape h = search (rules, subst (HasShape shape) (sym (r.heard id v there live).same_start) h, ap (λ (o : Origin). o.tells) (r.heard id v there live).same_start ∙ r.telling)
 
     -- the last version of a page, as the pass knows it once its list of releases is brought up to date
     pub last-told : (p : ℕ) → last_in v.start (r.releases ++ []) p ≡ last p

@@ -4,8 +4,8 @@ use Rattle.vm_step.proofs.Prelude.{[], All, all_notes, all_used, any, ap, append
 use Rattle.vm_step.proofs.Prelude.{each-both, each-map, entries-both, entries-within, entries_by, Entry, first_part, giver, has, has-joined, has-left}
 use Rattle.vm_step.proofs.Prelude.{has-right, HasJoined, HasPiece, HasShape, HasStill, Hears, HoldsNoPage, HoldsNothing, IsReady, IsWhole, joined, JoinTold}
 use Rattle.vm_step.proofs.Prelude.{length, length-append, List, map, newcomer, numbers, or-false, or_assoc, Origin, other_parts, owns, parts-cut, Pass}
-use Rattle.vm_step.proofs.Prelude.{PassesSplit, refl, Release, Shape, StartsWith, subst, suc, sym, TableId, times-joined, total, true, View, view, view_from}
-use Rattle.vm_step.proofs.Prelude.{zero, ℕ, ◌++◌, ◌+◌, ◌<◌, ◌||◌, ◌∙◌, ◌∷◌, ◌≡◌}
+use Rattle.vm_step.proofs.Prelude.{PassesSplit, refl, Release, rules, Shape, StartsWith, subst, suc, sym, TableId, times-joined, total, true, View, view}
+use Rattle.vm_step.proofs.Prelude.{view_from, zero, ℕ, ◌++◌, ◌+◌, ◌<◌, ◌||◌, ◌∙◌, ◌∷◌, ◌≡◌}
 use Rattle.vm_step.proofs.Still.{caught-still, still-fresh}
 
 pub starts-on : {A : Type 0} (l m n : List A) → StartsWith l m → StartsWith m n → StartsWith l n
@@ -38,16 +38,10 @@ unfolding numbers
 numbers-length a zero = refl
 numbers-length a (suc n) = let rest : length (numbers (suc a) n) ≡ n = numbers-length (suc a) n in omega (arith, rest)
 
-or-turn : (a b c : Bool) → (a || (b || c)) ≡ ((b || a) || c)
-or-turn a b c = grind arith
-
 module _ {U X : Type 0} {o : _} where
   -- another pass of the table, or the same with another view
   pub ready-as : (shape : Shape) (tells : Bool) (t : TableId) (p q : Pass U X o) → IsReady shape tells t p → q.badge.table_id ≡ p.badge.table_id → 0 < length (view q).used → (view q).start ≡ (view p).start → IsReady shape tells t q
-  ready-as shape tells t p q r same number start = record {
-    may = (same ∙ r.may.0, number);
-    table = record { is_shape = subst (HasShape shape) (sym start) r.table.is_shape; tells_is = ap (λ (s : Origin). s.tells) start ∙ r.table.tells_is };
-  }
+  ready-as shape tells t p q r same number start = search (rules, same ∙ r.may.0, number, subst (HasShape shape) (sym start) r.table.is_shape, ap (λ (s : Origin). s.tells) start ∙ r.table.tells_is)
 
 module _ {X : Type 0} where
   -- what was heard of a shorter history is heard of a longer one, where the numbers made no entry between
@@ -134,12 +128,7 @@ module _ {X : Type 0} where
         notes = ap (λ (u : View X). u.notes) is ∙ (λ i. h.notes i ++ (ap (λ (u : View X). u.notes) was) i) ∙ append_assoc v.notes (all_notes others) w.notes ∙ ap (λ l. v.notes ++ l) (sym (notes-snoc others w));
         parts = λ k. omega (arith, times-joined k x.used w'.used, times-joined k x.fresh w'.fresh, ap (owns k) is, ap (owns k) was, h.parts k, total-snoc (owns k) others w);
         frames = λ f.
-            ap (λ (u : View X). has f u.frames) is
-            ∙ has-joined f w'.frames x.frames
-            ∙ ap (λ (u : View X). has f u.frames || has f x.frames) was
-            ∙ ap (λ (b : Bool). has f w.frames || b) (h.frames f)
-            ∙ or-turn (has f w.frames) (any (λ (u : View X). has f u.frames) others) (has f v.frames)
-            ∙ ap (λ (b : Bool). b || has f v.frames) (sym (any-more (λ (u : View X). has f u.frames) others w));
+            grind (arith, ap (λ (u : View X). has f u.frames) is, has-joined f w'.frames x.frames, ap (λ (u : View X). has f u.frames) was, h.frames f, any-more (λ (u : View X). has f u.frames) others w);
         log = starts-on y.log x.log v.log on h.log;
         logs = each-both (λ (u : View X). HasPiece y.log u.log) others (w ∷ [])
             (each-map _ _ (λ (u : View X) p. piece-on y.log x.log u.log on p) others h.logs)
