@@ -1,9 +1,8 @@
 -- What a pass that is alone knows after its steps: each place of the table has the word that was left there last, or the one that it had.
-use Rattle.vm_step.proofs.Prelude.{[], ap, arith, cases_eq, Did, Each, Follows, get_or-set_same, index_of, inl, inr, IsAlone, known_word_at}
-use Rattle.vm_step.proofs.Prelude.{KnowsAfter, LeavesLast, length, List, None, Origin, Place, Release, RunsAlone, set_if, slice_index, slice_set}
-use Rattle.vm_step.proofs.Prelude.{subst, sym, View, width, Within, WritesNone, ℕ, ⊎_elim, ◌++◌, ◌<◌, ◌∙◌, ◌∷◌, ◌≡◌, ◌≢◌, ◌⊎◌}
-use Rattle.vm_step.proofs.Tables.{follows-between, follows-kept, follows-length, index-same}
-use Rattle.vm_step.proofs.Written.{index-below}
+use Rattle.vm_step.proofs.{Tables.follows-between, Tables.follows-kept, Tables.follows-length, Tables.index-same, Written.index-below}
+use Rattle.vm_step.proofs.Prelude.{[], ap, arith, cases_eq, Did, Each, Follows, get_or-set_same, index_of, inl, inr, IsAlone, known_word_at, KnowsAfter}
+use Rattle.vm_step.proofs.Prelude.{LeavesLast, length, List, None, Origin, Place, Release, RunsAlone, set_if, slice_index, slice_set, subst, sym, View, width}
+use Rattle.vm_step.proofs.Prelude.{Within, WritesNone, ℕ, ⊎_elim, ◌++◌, ◌<◌, ◌∙◌, ◌∷◌, ◌≡◌, ◌≢◌, ◌⊎◌}
 
 -- ---- the words after some steps
 

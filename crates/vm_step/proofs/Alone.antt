@@ -1,9 +1,8 @@
 -- The steps of a pass that is alone, one after another: each finds the word that the step before left.
 use Rattle.vm_step.proofs.Asides.{whole-then}
-use Rattle.vm_step.proofs.Prelude.{[], ap, append-none, append_assoc, arith, BringsWith, Did, Each, each-both, Entry, Follows, get_or-set_other}
-use Rattle.vm_step.proofs.Prelude.{index_of, inl, inr, IsAlone, IsFoundAt, known_word_at, last_in, length, List, None, none-some, Option, Origin}
-use Rattle.vm_step.proofs.Prelude.{Place, refl, Release, RunsAlone, set_if, slice_index, Some, StaysAlone, Stored, subst, sym, true, View, width}
-use Rattle.vm_step.proofs.Prelude.{Within, ℕ, ⊎_elim, ◌++◌, ◌∙◌, ◌∷◌, ◌≡◌, ◌≢◌, ◌⊎◌}
+use Rattle.vm_step.proofs.Prelude.{[], ap, append-none, append_assoc, arith, BringsWith, Did, Each, each-both, Entry, Follows, get_or-set_other, index_of, inl}
+use Rattle.vm_step.proofs.Prelude.{inr, IsAlone, IsFoundAt, known_word_at, last_in, length, List, None, Option, Origin, Place, refl, Release, RunsAlone, set_if}
+use Rattle.vm_step.proofs.Prelude.{slice_index, Some, StaysAlone, Stored, subst, sym, true, View, width, Within, ℕ, ⊎_elim, ◌++◌, ◌∙◌, ◌∷◌, ◌≡◌, ◌≢◌, ◌⊎◌}
 
 pub follows-then : (start : Origin) (a b : List Did) (x y z : List ℕ) → Follows start a x y → Follows start b y z → Follows start (a ++ b) x z
 follows-then start [] b x y z f g = subst (λ (t : List ℕ). Follows start b t z) f g
@@ -11,8 +10,7 @@ follows-then start (d ∷ ds) b x y z f g = (f.0, follows-then start ds b (set_i
 
 -- a place where no word was written
 pub set-else : (o : Option ℕ) (i j : ℕ) (ws : List ℕ) → (o ≡ None) ⊎ (j ≢ i) → slice_index (set_if o i ws) j ≡ slice_index ws j
-set-else None i j ws h = refl
-set-else (Some x) i j ws h = ⊎_elim (λ e. absurd (none-some x (sym e))) (λ ne. get_or-set_other ws i j x 0 ne) h
+set-else o i j ws h = grind (arith, get_or-set_other)
 
 -- steps, and then more: a table that is known whole before the first of them is known so before all
 wide-then : (a b : List Did) (start : Origin) (x y : List ℕ) → Follows start a x y → (a ≡ []) ⊎ (length x ≡ width start) → (b ≡ []) ⊎ (length y ≡ width start) → (a ++ b ≡ []) ⊎ (length x ≡ width start)

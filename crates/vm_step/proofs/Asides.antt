@@ -1,9 +1,9 @@
 -- Calls that say nothing and change no lock, one after another; `OnlyReads` is what the steps of such calls leave that change nothing of the view but
 -- open reads. The files of the kinds of steps say which do.
-use Rattle.vm_step.proofs.Prelude.{[], after_releases, ap, append-none, append_assoc, BringsWith, cases_eq, Did, Entry, eq-eqb, first_history}
-use Rattle.vm_step.proofs.Prelude.{History, HoldsPage, if◌then◌else◌, inl, inr, IsAsideOf, IsLocking, IsWhole, KeepsFrames, KnowsAsBefore, last_in}
-use Rattle.vm_step.proofs.Prelude.{last_of, List, ne_eqb, None, Option, pushed, ReadsAsBefore, refl, Release, seat_of, StartsWith, StaysAlone, Stored}
-use Rattle.vm_step.proofs.Prelude.{subst, sym, Tie, times, View, ℕ, ⊎_elim, ◌++◌, ◌+◌, ◌==◌, ◌∙◌, ◌∷◌, ◌≡◌, ◌≤◌}
+use Rattle.vm_step.proofs.Prelude.{[], after_releases, ap, append-none, append_assoc, BringsWith, cases_eq, Did, Entry, eq-eqb, first_history, History}
+use Rattle.vm_step.proofs.Prelude.{HoldsPage, if◌then◌else◌, inl, inr, IsAsideOf, IsLocking, IsWhole, KeepsFrames, KnowsAsBefore, last_in, last_of, List}
+use Rattle.vm_step.proofs.Prelude.{ne_eqb, None, Option, pushed, ReadsAsBefore, refl, Release, rules, seat_of, StartsWith, StaysAlone, Stored, subst, sym, Tie}
+use Rattle.vm_step.proofs.Prelude.{times, View, ℕ, ⊎_elim, ◌++◌, ◌+◌, ◌==◌, ◌∙◌, ◌∷◌, ◌≡◌, ◌≤◌}
 
 -- what begins with what begins with it
 pub starts-then : {A : Type 0} (k l m : List A) → StartsWith l k → StartsWith m l → StartsWith m k
@@ -40,10 +40,8 @@ module _ {X : Type 0} where
   alone-step did block own entries v inner w b same kept = record {
     current = λ _. ap (λ (x : View X). x.current) b.view;
     words = λ all e q.
-        let none : b.between ≡ [] = (b.alone all e).0 in
         ap (λ (x : View X). (last_in x.start x.releases q).words) b.view
-        ∙ ap (λ s. (last_in s ((v.releases ++ b.between) ++ own) q).words) same
-        ∙ ap (λ (t : List Release). (last_in v.start ((v.releases ++ t) ++ own) q).words) none
+        ∙ (λ i. (last_in (same i) ((v.releases ++ (b.alone all e).0 i) ++ own) q).words)
         ∙ ap (λ (t : List Release). (last_in v.start (t ++ own) q).words) (append-none v.releases)
         ∙ kept q;
   }
@@ -72,41 +70,18 @@ module _ {X : Type 0} where
   reads-then u v w q f g = record { reading = g.reading ∙ f.reading; loads = g.loads ∙ f.loads }
 
   pub aside-then : (touched : ℕ → Type 0) (a b : List Did) (u v w : View X) → IsAsideOf touched a u v → IsAsideOf touched b v w → IsAsideOf touched (a ++ b) u w
-  aside-then touched a b u v w f g = record {
-    log = g.log ∙ ap (λ (t : List Did). t ++ b) f.log ∙ append_assoc u.log a b;
-    live = g.live ∙ f.live;
-    start = g.start ∙ f.start;
-    parts = (g.parts.0 ∙ f.parts.0, g.parts.1 ∙ f.parts.1);
-    mine = g.mine ∙ f.mine;
-    seen = starts-then u.seen v.seen w.seen f.seen g.seen;
-    releases = starts-then u.releases v.releases w.releases f.releases g.releases;
-    out = g.out ∙ f.out;
-    ties = (g.ties.0 ++ f.ties.0, g.ties.1 ∙ ap (λ (t : List Tie). g.ties.0 ++ t) f.ties.1 ∙ sym (append_assoc g.ties.0 f.ties.0 u.ties));
-    group = (g.group.0 ∙ f.group.0, g.group.1 ∙ f.group.1, g.group.2 ∙ f.group.2);
-    holds = λ q. holds-then u v w q (f.holds q) (g.holds q);
-    knows = λ q l. knows-then u v w q (f.knows q l) (g.knows q (still-locking u v q (f.holds q) l));
-    others = λ q ne. reads-then u v w q (f.others q ne) (g.others q ne);
-    alone = alone-then u v w f.parts f.alone g.alone;
-  }
+  aside-then touched a b u v w f g =
+      let log : w.log ≡ u.log ++ (a ++ b) = g.log ∙ ap (λ (t : List Did). t ++ b) f.log ∙ append_assoc u.log a b in
+      let ties : (more : List Tie) × (w.ties ≡ more ++ u.ties) = (g.ties.0 ++ f.ties.0, g.ties.1 ∙ ap (λ (t : List Tie). g.ties.0 ++ t) f.ties.1 ∙ sym (append_assoc g.ties.0 f.ties.0 u.ties)) in
+      let knows : (q : ℕ) → IsLocking (seat_of u q) → KnowsAsBefore u w q = λ q l. knows-then u v w q (f.knows q l) (g.knows q (still-locking u v q (f.holds q) l)) in
+      let others : (q : ℕ) → (touched q → ⊥) → ReadsAsBefore u w q = λ q ne. reads-then u v w q (f.others q ne) (g.others q ne) in
+      search (rules, log, starts-then u.seen v.seen w.seen f.seen g.seen, starts-then u.releases v.releases w.releases f.releases g.releases, ties, holds-then u v w, knows, others, alone-then u v w f.parts f.alone g.alone)
 
   -- what leaves all but the open reads of some pages leaves all but those of more pages
   pub aside-within : (touched more : ℕ → Type 0) (done : List Did) (v w : View X) → ((q : ℕ) → touched q → more q) → IsAsideOf touched done v w → IsAsideOf more done v w
-  aside-within touched more done v w within f = record {
-    log = f.log;
-    live = f.live;
-    start = f.start;
-    parts = f.parts;
-    mine = f.mine;
-    seen = f.seen;
-    releases = f.releases;
-    out = f.out;
-    ties = f.ties;
-    group = f.group;
-    holds = f.holds;
-    knows = f.knows;
-    others = λ q ne. f.others q (λ t. ne (within q t));
-    alone = f.alone;
-  }
+  aside-within touched more done v w within f =
+      let others : (q : ℕ) → (more q → ⊥) → ReadsAsBefore v w q = λ q ne. f.others q (λ t. ne (within q t)) in
+      search (rules, f, others)
 
   pub keeps-self : (v : View X) → KeepsFrames v v
   keeps-self v = record { frames = refl; contents = refl; notes = refl }

@@ -2,11 +2,10 @@
 use Rattle.vm_rule.specs.Slots.{wrote}
 use Rattle.vm_rule.specs.declared.view.Place.TheVariants as places
 use Rattle.vm_step.proofs.Leaves.{works-one, works-then}
-use Rattle.vm_step.proofs.Prelude.{[], ap, arith, Bool, cases_lt, cond-true, count_more, DeviceDid, Did, did_load, eq-eqb, Err, failed, false, Held}
-use Rattle.vm_step.proofs.Prelude.{held_at, HomeTold, IsSome, KeepsFrames, List, lt-ltb, MAX_COUNT, MayBring, min, nat_lt, no_held, None, notes_of}
-use Rattle.vm_step.proofs.Prelude.{Ok, Option, or_left, or_right, Out, out_at, OutTold, put, put_at, read, Reads, refl, Result, ReturnTold, seat_of}
-use Rattle.vm_step.proofs.Prelude.{ShiftTold, Some, Stored, sym, true, upd-other, upd-same, View, words_held, Works, Writes, ℕ, ⊎_elim, ◌++◌, ◌+◌}
-use Rattle.vm_step.proofs.Prelude.{◌==◌, ◌||◌, ◌∙◌, ◌∷◌, ◌≡◌, ◌≤◌}
+use Rattle.vm_step.proofs.Prelude.{[], ap, arith, Bool, count_more, DeviceDid, Did, did_load, Err, failed, false, Held, held_at, HomeTold, IsSome, KeepsFrames}
+use Rattle.vm_step.proofs.Prelude.{List, MayBring, nat_tests, no_held, None, notes_of, Ok, Option, Out, out_at, OutTold, put, put_at, read, Reads, refl, Result}
+use Rattle.vm_step.proofs.Prelude.{ReturnTold, rules, seat_of, ShiftTold, Some, Stored, sym, true, upd-other, upd-same, View, words_held, Works, Writes, ℕ}
+use Rattle.vm_step.proofs.Prelude.{◌++◌, ◌+◌, ◌∙◌, ◌∷◌, ◌≡◌, ◌≤◌}
 
 abbrev pub two-loads : ℕ → ℕ → ℕ → List Did
 two-loads p first second = did_load (places.Fault p) first ∷ did_load (places.Fault p) second ∷ []
@@ -20,21 +19,11 @@ module _ {X : Type 0} (p : ℕ) where
     pub away : w.out ≡ o
 
   moves-then : (a b : List Did) (held held' : Held) (out out' : Option Out) (u v w : View X) → Moves a held out u v → Moves b held' out' v w → Moves (a ++ b) held' out' u w
-  moves-then a b held held' out out' u v w f g = record {
-    works = works-then p a b u v w f.works g.works;
-    keeps = record { frames = g.keeps.frames ∙ f.keeps.frames; contents = g.keeps.contents ∙ f.keeps.contents; notes = g.keeps.notes ∙ f.keeps.notes };
-    known = g.known;
-    away = g.away;
-  }
+  moves-then a b held held' out out' u v w f g = search (rules, works-then p a b u v w f.works g.works)
 
   -- the slot moves, and the pass knows what it knew
   shifts : (moving : Bool) (b : Stored) (found : ℕ) (v w : View X) → ShiftTold p moving b found v w → Moves (did_load (places.Fault p) found ∷ []) (held_at v p) (Some (out_at p moving b)) v w
-  shifts moving b found v w t = record {
-    works = works-one p (did_load (places.Fault p) found) None v v.held v.frames v.contents (Some (out_at p moving b)) v.notes w (λ q ne. refl) t.brings;
-    keeps = record { frames = ap (λ (x : View X). x.frames) t.brings.view; contents = ap (λ (x : View X). x.contents) t.brings.view; notes = ap (λ (x : View X). x.notes) t.brings.view };
-    known = ap (λ (x : View X). held_at x p) t.brings.view;
-    away = ap (λ (x : View X). x.out) t.brings.view;
-  }
+  shifts moving b found v w t = search (rules, works-one p (did_load (places.Fault p) found) None v v.held v.frames v.contents (Some (out_at p moving b)) v.notes w (λ q ne. refl) t.brings, t.brings.view)
 
   pub goes-out : (b : Stored) (v w : View X) (t : OutTold p b v w) → Moves (two-loads p t.first t.second) (held_at v p) (Some (out_at p false b)) v w
   goes-out b v w t =
@@ -45,13 +34,10 @@ module _ {X : Type 0} (p : ℕ) where
       record { works = g.works; keeps = g.keeps; known = g.known ∙ f.known; away = g.away }
 
   returns : (new : Stored) (found : ℕ) (v w : View X) → ReturnTold p new found v w → Moves (did_load (places.Fault p) found ∷ []) (record (held_at v p) { block = new }) None v w
-  returns new found v w t = record {
-    works = works-one p (did_load (places.Fault p) found) (Some (p, new)) v (put p (record (held_at v p) { block = new }) v.held) v.frames v.contents None v.notes w
-        (λ q ne. upd-other (put_at no_held v.held) p (record (held_at v p) { block = new }) q ne) t.brings;
-    keeps = record { frames = ap (λ (x : View X). x.frames) t.brings.view; contents = ap (λ (x : View X). x.contents) t.brings.view; notes = ap (λ (x : View X). x.notes) t.brings.view };
-    known = ap (λ (x : View X). held_at x p) t.brings.view ∙ upd-same (put_at no_held v.held) p (record (held_at v p) { block = new });
-    away = ap (λ (x : View X). x.out) t.brings.view;
-  }
+  returns new found v w t =
+      let h : Held = record (held_at v p) { block = new } in
+      let known : held_at w p ≡ h = ap (λ (x : View X). held_at x p) t.brings.view ∙ upd-same (put_at no_held v.held) p h in
+      search (rules, works-one p (did_load (places.Fault p) found) (Some (p, new)) v (put p h v.held) v.frames v.contents None v.notes w (λ q ne. upd-other (put_at no_held v.held) p h q ne) t.brings, known, t.brings.view)
 
   pub comes-home : (old new : Stored) (v w : View X) (t : HomeTold p old new v w) → Moves (two-loads p t.first t.second) (record (held_at v p) { block = new }) None v w
   comes-home old new v w t =
@@ -73,23 +59,15 @@ module _ {X : Type 0} (p : ℕ) where
 
 -- ---- what a read does
 
--- a count that a fault raises is higher, or the last one
-higher : (n : ℕ) → (nat_lt n (count_more n) || count_more n == MAX_COUNT) ≡ true
-unfolding count_more
-higher n =
-    ⊎_elim
-    (λ l. or_left (nat_lt n (min (n + 1) MAX_COUNT)) (min (n + 1) MAX_COUNT == MAX_COUNT) (lt-ltb n (min (n + 1) MAX_COUNT) (omega (arith, l))))
-    (λ le. or_right (nat_lt n (min (n + 1) MAX_COUNT)) (min (n + 1) MAX_COUNT == MAX_COUNT) (eq-eqb (min (n + 1) MAX_COUNT) MAX_COUNT (omega (arith, le))))
-    (cases_lt n MAX_COUNT)
-
 -- a fault counts at least one
 pub counts-one : (n : ℕ) → 1 ≤ count_more n
 unfolding count_more
 counts-one n = omega arith
 
--- the fault of a call is noted
+-- the fault of a call is noted: the count that it raises is higher, or the last one
 pub noted-more : (p count : ℕ) → notes_of p count (count_more count) ≡ record { page = p; count = count_more count } ∷ []
-noted-more p count = cond-true (nat_lt count (count_more count) || count_more count == MAX_COUNT) (record { page = p; count = count_more count } ∷ []) [] (higher count)
+unfolding count_more
+noted-more p count = grind (arith, nat_tests)
 
 module _ {X E : Type 0} (p : ℕ) (tells : Bool) (v : View X) (old new : Stored) (into : List ℕ) (telling : v.start.tells ≡ tells) (owns : (seat_of v p).exclusive ≡ true) where
   -- a read leaves the words, and is counted, or its fault

@@ -1,8 +1,8 @@
 -- The moves of a page's block among more steps: steps that are not on its fault word move it not, in front of others and behind them.
 use Rattle.vm_rule.specs.declared.view.Place.TheVariants as places
 use Rattle.vm_step.proofs.Device.{two-loads}
-use Rattle.vm_step.proofs.Prelude.{[], ap, append_assoc, Bool, Did, Each, each-both, false, false≢true, GoesOnce, inl, inr, IsCalledOnce, List, None}
-use Rattle.vm_step.proofs.Prelude.{Place, StaysHome, sym, true, ℕ, ⊎_elim, ◌++◌, ◌∙◌, ◌∷◌, ◌≡◌, ◌≢◌}
+use Rattle.vm_step.proofs.Prelude.{[], ap, append_assoc, Bool, Did, Each, each-both, false, false≢true, GoesOnce, inl, inr, IsCalledOnce, List, None, Place}
+use Rattle.vm_step.proofs.Prelude.{StaysHome, sym, true, ℕ, ⊎_elim, ◌++◌, ◌∙◌, ◌∷◌, ◌≡◌, ◌≢◌}
 
 abbrev pub is-fault : Place → Bool
 is-fault (places.Fault p) = true
@@ -23,8 +23,6 @@ module _ (p : ℕ) where
 
   pub once-front : (a b : List Did) → GoesOnce p a → StaysHome p b → GoesOnce p (a ++ b)
   once-front a b o h =
-      let moved : List Did = two-loads p o.out.0 o.out.1 ++ (o.between ++ (two-loads p o.home.0 o.home.1 ++ o.later)) in
-      let back : List Did = two-loads p o.home.0 o.home.1 ++ o.later in
       record {
         earlier = o.earlier;
         out = o.out;
@@ -33,21 +31,20 @@ module _ (p : ℕ) where
         later = o.later ++ b;
         cut =
             ap (λ (t : List Did). t ++ b) o.cut
-            ∙ append_assoc o.earlier moved b
-            ∙ ap (λ (t : List Did). o.earlier ++ (two-loads p o.out.0 o.out.1 ++ t)) (append_assoc o.between back b);
+            ∙ append_assoc o.earlier _ b
+            ∙ ap (λ (t : List Did). o.earlier ++ (two-loads p o.out.0 o.out.1 ++ t)) (append_assoc o.between _ b);
         none = (o.none.0, o.none.1, home-both o.later b o.none.2 h);
       }
 
   pub once-behind : (a b : List Did) → StaysHome p a → GoesOnce p b → GoesOnce p (a ++ b)
   once-behind a b h o =
-      let moved : List Did = two-loads p o.out.0 o.out.1 ++ (o.between ++ (two-loads p o.home.0 o.home.1 ++ o.later)) in
       record {
         earlier = a ++ o.earlier;
         out = o.out;
         between = o.between;
         home = o.home;
         later = o.later;
-        cut = ap (λ (t : List Did). a ++ t) o.cut ∙ sym (append_assoc a o.earlier moved);
+        cut = ap (λ (t : List Did). a ++ t) o.cut ∙ sym (append_assoc a o.earlier _);
         none = (home-both a o.earlier h o.none.0, o.none.1, o.none.2);
       }
 

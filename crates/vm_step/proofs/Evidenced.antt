@@ -1,7 +1,7 @@
 -- Evidence in a longer list of steps, the view after an exchange, and what a look counts of a page.
-use Rattle.vm_step.proofs.Prelude.{[], ap, append_assoc, arith, Brings, cond-false, cond-true, Did, eq-eqb, eqb, first_or, HasGiven, HasWritten}
-use Rattle.vm_step.proofs.Prelude.{if◌then◌else◌, IsHeld, List, ne_eqb, next_after, None, Option, option_or, Place, refl, Some, state_of, subst, sym}
-use Rattle.vm_step.proofs.Prelude.{View, ℕ, ◌++◌, ◌<◌, ◌==◌, ◌∙◌, ◌∷◌, ◌≡◌, ◌≢◌}
+use Rattle.vm_step.proofs.Prelude.{[], ap, append_assoc, arith, Brings, cond-false, cond-true, Did, eq-eqb, eqb, first_or, HasGiven, HasWritten, if◌then◌else◌}
+use Rattle.vm_step.proofs.Prelude.{IsHeld, List, nat_tests, ne_eqb, next_after, Option, option_or, Place, Some, state_of, subst, sym, View, ℕ, ◌++◌, ◌<◌, ◌==◌}
+use Rattle.vm_step.proofs.Prelude.{◌∙◌, ◌∷◌, ◌≡◌, ◌≢◌}
 
 -- ---- evidence in a longer list of steps
 
@@ -24,8 +24,7 @@ written-behind a b at word h =
 
 -- the next word is known on where it was another page
 pub next-stays : (p : ℕ) (o : Option ℕ) → o ≢ Some p → next_after p o ≡ o
-next-stays p None ne = refl
-next-stays p (Some x) ne = cond-false (eqb x p) None (Some x) (ne_eqb x p (λ e. ne (ap (λ (y : ℕ). Some y) e)))
+next-stays p o ne = grind (arith, nat_tests)
 
 module _ {X : Type 0} where
   -- the view after an exchange that was lost, and after one that took
@@ -39,8 +38,7 @@ module _ {X : Type 0} where
 
 -- the first such page, or this one
 pub first-or : (first : Option ℕ) (p : ℕ) → option_or first (Some p) ≡ first_or first p
-first-or None p = refl
-first-or (Some q) p = refl
+first-or first p = grind arith
 
 -- a state of 8 bits that is none of three is that of a page that somebody has locked
 pub held-state : (word : ℕ) → state_of word < 256 → state_of word ≢ 255 → state_of word ≢ 0 → state_of word ≢ 254 → IsHeld word

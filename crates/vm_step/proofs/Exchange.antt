@@ -1,26 +1,24 @@
 -- An exchange, found there or not: at any place, the rule after it, and that it is an event of the core; on a page's state word, what the pass knows of
 -- pages afterwards, what it shows of itself where it is taken, and what it tells either way.
-use Rattle.std.proofs.Common.{eq-eqb, IsSome, ne_eqb}
+use Rattle.std.proofs.Common.{eq-eqb, ne_eqb}
 use Rattle.vm_core.specs.declared.event.Seen.TheVariants as sights
 use Rattle.vm_rule.specs.declared.view.Place.TheVariants as places
-use Rattle.vm_step.proofs.{Evidenced.lost-view, Evidenced.taken-view, Logical.not-pending, Quiet.quiet-shows, Quiet.ShowsQuiet, Written.IsWordOf}
-use Rattle.vm_step.proofs.{Written.word-left}
-use Rattle.vm_step.proofs.Here.{frame-inside, last, last-told, older, since, validates, world}
-use Rattle.vm_step.proofs.Prelude.{[], actor_of, after_event, after_step, any-here, ap, arith, at-bound, became, block-here, block-is_last, block_of}
-use Rattle.vm_step.proofs.Prelude.{Bool, Brings, cases_Bool, cases_eq, core-still, core_shown, Did, did_exchange, draft-is, draft_of, each-upd}
-use Rattle.vm_step.proofs.Prelude.{either, eqb, Event, exchange_seen, exchange_sees, exchanged, false, false_from_ne_true, finds, finds-hit, Mapping}
-use Rattle.vm_step.proofs.Prelude.{finds-miss, FindsAt, frame_of, get_elem?, has, Held, if◌then◌else◌, index_of, is_pending, IsEvent, IsHeldAt}
-use Rattle.vm_step.proofs.Prelude.{IsOlder, IsPassOf, IsSinceAll, IsUnheld, Kept, KnowsPage, last-is, last_in, last_of, Legal, length, List, LOCKED}
-use Rattle.vm_step.proofs.Prelude.{locked, locked_view, LockS, locks-step, LockValidates, LockW, lockw-step, LockX, lockx-step, lost-locks}
-use Rattle.vm_step.proofs.Prelude.{lost-lockw, lost-lockx, lost-mark, lost-unmark, lost-upgrade, Mark, mark-step, marked, MARKED, may_call, MayLock}
-use Rattle.vm_step.proofs.Prelude.{MayRaiseLock, MayShare, NamesActorAndPage, no_held, no_seat, None, on_page, one_share_more, Option, Origin, Out}
-use Rattle.vm_step.proofs.Prelude.{Page, page_at, page_word, Place, Put, put, put_at, refl, Release, rested, Ruled, same-word, Seat, seat-here}
-use Rattle.vm_step.proofs.Prelude.{seat_of, Seen, seen, set_if, share_count, shared, shared_view, Shows, slice_index, slice_set, Some, some, Start}
-use Rattle.vm_step.proofs.Prelude.{State, state-here, state_of, steps, Stored, subst, sum_below, sum_below-at, sym, Table, table_after, true}
-use Rattle.vm_step.proofs.Prelude.{true≢false, unheld, UNLOCKED, Unmark, unmark-step, unmarked, upd, upd-keeps, upd-other, upd-same, Upgrade}
-use Rattle.vm_step.proofs.Prelude.{upgrade-step, upgraded, upgraded_view, Version, version-here, version-within, version_of, View, width, Within}
-use Rattle.vm_step.proofs.Prelude.{word-here, word-state, word-version, word_of, World, world_after, world_of, write_locked, write_locked_view, wrote}
-use Rattle.vm_step.proofs.Prelude.{false≢true, KnowsOwner, KnowsOwners, ℕ, ⊎_elim, ◌++◌, ◌+◌, ◌<◌, ◌∙◌, ◌≡◌, ◌≢◌, ◌≤◌}
+use Rattle.vm_step.proofs.{Evidenced.lost-view, Evidenced.taken-view, Here.frame-inside, Here.last, Here.last-told, Here.older, Here.since, Here.validates}
+use Rattle.vm_step.proofs.{Here.world, Logical.not-pending, Quiet.quiet-shows, Quiet.ShowsQuiet, Written.IsWordOf, Written.word-left}
+use Rattle.vm_step.proofs.Prelude.{[], actor_of, after_event, after_step, any-here, ap, arith, at-bound, became, block-here, block-is_last, block_of, Bool}
+use Rattle.vm_step.proofs.Prelude.{Brings, cases_eq, core-still, core_shown, Did, did_exchange, draft-is, draft_of, Each, each-upd, each-upd2, either, eqb}
+use Rattle.vm_step.proofs.Prelude.{Event, exchange_seen, exchange_sees, exchanged, false, false_from_ne_true, finds, finds-hit, finds-miss, FindsAt, frame_of}
+use Rattle.vm_step.proofs.Prelude.{get_elem?, has, Held, if◌then◌else◌, index_of, is_pending, IsEvent, IsHeldAt, IsOlder, IsPassOf, IsSinceAll, IsUnheld, Kept}
+use Rattle.vm_step.proofs.Prelude.{KnowsOwner, KnowsOwners, KnowsPage, last-is, last_in, last_of, Legal, length, List, LOCKED, locked, locked_view, LockS}
+use Rattle.vm_step.proofs.Prelude.{locks-step, LockValidates, LockW, lockw-step, LockX, lockx-step, lost-locks, lost-lockw, lost-lockx, lost-mark, lost-unmark}
+use Rattle.vm_step.proofs.Prelude.{lost-upgrade, Mapping, Mark, mark-step, MARKED, marked, may_call, MayLock, MayRaiseLock, MayShare, NamesActorAndPage}
+use Rattle.vm_step.proofs.Prelude.{no_held, no_seat, None, on_page, one_share_more, Option, Origin, Out, Page, page_at, page_word, Place, Put, put, put_at}
+use Rattle.vm_step.proofs.Prelude.{refl, Release, rested, Ruled, rules, same-word, Seat, seat-here, seat_of, seen, set_if, share_count, shared, shared_view}
+use Rattle.vm_step.proofs.Prelude.{Shows, slice_index, slice_set, Some, some, some-is, Start, State, state-here, state_of, steps, Stored, subst, sum_below}
+use Rattle.vm_step.proofs.Prelude.{sum_below-at, sym, Table, table_after, Translation, TranslationHolds, true, true≢false, unheld, UNLOCKED, Unmark}
+use Rattle.vm_step.proofs.Prelude.{unmark-step, unmarked, upd, upd-keeps, upd-other, upd-same, Upgrade, upgrade-step, upgraded, upgraded_view, Version}
+use Rattle.vm_step.proofs.Prelude.{version-here, version-within, version_of, View, width, Within, word-here, word-state, word-version, word_of, World}
+use Rattle.vm_step.proofs.Prelude.{world_after, world_of, write_locked, write_locked_view, wrote, ℕ, ⊎_elim, ◌++◌, ◌+◌, ◌<◌, ◌∙◌, ◌≡◌, ◌≢◌, ◌≤◌}
 
 -- ---- at any place
 
@@ -43,30 +41,22 @@ module _ {X B : Type 0} (stored : B → Stored) (keeps : Start → Kept X → Ty
       → (finding_at ≢ expects → world_after (world stored keeps tied start tells s r) e ≡ world stored keeps tied start tells s r)
       → (w : View X) × Ruled stored keeps tied start tells (became stored keeps tied start tells s exchanged_at id w) × Brings exchange_did [] [] v (if eqb finding_at expects then inner else v) w × (w.start ≡ v.start) × (w.releases ≡ r.releases ++ [])
   exchange-tells drafts inner e actor legal shows none =
+      let i : ℕ = index_of start at in
+      let told : Bool → View X → Type 0 = λ b w. Ruled stored keeps tied start tells (became stored keeps tied start tells s (slice_set s.words i (either b x finding_at)) id w) × Brings exchange_did [] [] v (if b then inner else v) w in
       ⊎_elim
       (λ hit.
       let is : eqb finding_at expects ≡ true = eq-eqb finding_at expects hit in
-      let words : List ℕ = slice_set s.words (index_of start at) x in
+      let words : List ℕ = slice_set s.words i x in
       let w : View X = after_step stored keeps tied start tells s r words [] [] exchange_did inner in
-      let k = steps stored keeps tied start tells s r id v words drafts [] [] exchange_did inner e there live number actor
-      (subst (λ b. words ≡ set_if (if b then Some x else None) (index_of start at) s.words) (sym is) refl) (shows hit) in (
-        w,
-        subst (λ b. Ruled stored keeps tied start tells (became stored keeps tied start tells s (slice_set s.words (index_of start at) (either b x finding_at)) id w)) (sym is) k.0,
-        subst (λ (b : Bool). Brings exchange_did [] [] v (if b then inner else v) w) (sym is) k.1,
-        (shows hit).same_start,
-        refl,
-      ))
+      let k = subst (λ (b : Bool). told b w) (sym is) (steps stored keeps tied start tells s r id v words drafts [] [] exchange_did inner e there live number actor
+      (subst (λ b. words ≡ set_if (if b then Some x else None) i s.words) (sym is) refl) (shows hit)) in
+      (w, k.0, k.1, (shows hit).same_start, refl))
       (λ miss.
       let is : eqb finding_at expects ≡ false = ne_eqb finding_at expects miss in
       let w : View X = after_step stored keeps tied start tells s r s.words [] [] exchange_did v in
-      let k = rested stored keeps tied start tells s r id v exchange_did e there live number actor legal (none miss) l refl (ap {B = Option ℕ} (λ b. if b then Some x else None) is) in (
-        w,
-        subst (λ b. Ruled stored keeps tied start tells (became stored keeps tied start tells s (slice_set s.words (index_of start at) (either b x finding_at)) id w)) (sym is)
-            (subst (λ words. Ruled stored keeps tied start tells (became stored keeps tied start tells s words id w)) (sym (same-word s.words (index_of start at))) k.0),
-        subst (λ (b : Bool). Brings exchange_did [] [] v (if b then inner else v) w) (sym is) k.1,
-        refl,
-        refl,
-      ))
+      let m = rested stored keeps tied start tells s r id v exchange_did e there live number actor legal (none miss) l refl (ap {B = Option ℕ} (λ b. if b then Some x else None) is) in
+      let k = subst (λ (b : Bool). told b w) (sym is) (subst (λ words. Ruled stored keeps tied start tells (became stored keeps tied start tells s words id w)) (sym (same-word s.words i)) m.0, m.1) in
+      (w, k.0, k.1, refl, refl))
       (cases_eq finding_at expects)
 
 module _ {X B : Type 0} (stored : B → Stored) (start : Origin) (keeps : Start → Kept X → Type 0) (tied : Start → ℕ → List ℕ → ℕ → List ℕ → Type 0) (tells : Bool) (s : Table (Option B) (View X)) (id : ℕ) where
@@ -79,45 +69,25 @@ module _ {X B : Type 0} (stored : B → Stored) (start : Origin) (keeps : Start 
       → IsEvent stored start s (table_after s (exchanged s.words (index_of start at) expects found x) id w) e (exchange_sees expects found)
   tried-event at expects found x did v inner w e pass finds brings legal taken lost sees =
       let i : ℕ = index_of start at in
-      let by : (b : Bool) → eqb found expects ≡ b → core_shown stored start (table_after s (exchanged s.words i expects found x) id w) ≡ core_shown stored start (table_after s (slice_set s.words i (if b then x else found)) id w) =
-      (λ b is. ap (λ k. core_shown stored start (table_after s (slice_set s.words i (if k then x else found)) id w)) is) in
       record {
         legal = legal;
         core = ⊎_elim
-            (λ hit. by true (eq-eqb found expects hit) ∙ taken hit (taken-view did expects found v inner w hit brings))
-            (λ miss.
-            let view = (lost-view did expects found v inner w miss brings).view in
-            by false (ne_eqb found expects miss)
-            ∙ ap (λ l. core_shown stored start (table_after s l id w)) (ap (slice_set s.words i) finds.1 ∙ same-word s.words i)
+            (λ hit. rw (eq-eqb found expects hit) (taken hit (taken-view did expects found v inner w hit brings)))
+            (λ miss. let view = (lost-view did expects found v inner w miss brings).view in
+            rw (ne_eqb found expects miss)
+            (ap (λ l. core_shown stored start (table_after s l id w)) (ap (slice_set s.words i) finds.1 ∙ same-word s.words i)
             ∙ core-still stored start s id v w pass.there (ap (λ (k : View X). k.out) view) (ap (λ (k : View X). k.frames) view) (ap (λ (k : View X). k.seats) view)
-            ∙ sym (lost miss))
+            ∙ sym (lost miss)))
             (cases_eq found expects);
         sees = sees;
       }
 
 -- ---- what the pass has of pages
 
-module _ {X : Type 0} where
-  -- it knows its pages, where one page, its seat there and what it knows of that page have changed
-  pub knows-one : (v : View X) (pages : ℕ → Page) (p : ℕ) (seat : Seat) (held : List (Put Held)) (y : Page) → ((q : ℕ) → KnowsPage (seat_of v q) (put_at no_held v.held q) (pages q))
-      → ((q : ℕ) → q ≢ p → put_at no_held held q ≡ put_at no_held v.held q) → KnowsPage seat (put_at no_held held p) y
-      → (q : ℕ) → KnowsPage (put_at no_seat (put p seat v.seats) q) (put_at no_held held q) (upd pages p y q)
-  knows-one v pages p seat held y known others here =
-      each-upd (λ q z. KnowsPage (put_at no_seat (put p seat v.seats) q) (put_at no_held held q) z) pages p y
-      (subst (λ k. KnowsPage k (put_at no_held held p) y) (sym (upd-same (put_at no_seat v.seats) p seat)) here)
-      (λ q ne.
-      subst (λ k. KnowsPage k (put_at no_held held q) (pages q)) (sym (upd-other (put_at no_seat v.seats) p seat q ne))
-      (subst (λ h. KnowsPage (seat_of v q) h (pages q)) (sym (others q ne)) (known q)))
-
 -- the owner word of the frame that a page stands in
 abbrev pub owner_at : (ℕ → ℕ) → Option Mapping → ℕ
 owner_at owners None = 0
 owner_at owners (Some m) = owners m.frame
-
--- where it stands in one, and its owner word is this one
-owner-named : (owners : ℕ → ℕ) (p : ℕ) (t : Option Mapping) → IsSome t → ((m : Mapping) → t ≡ Some m → owners m.frame ≡ p + 1) → owner_at owners t ≡ p + 1
-owner-named owners p None is owned = absurd (false≢true is)
-owner-named owners p (Some m) is owned = owned m refl
 
 -- who knows it of the page's frame knows it of the frame that the page is said to stand in
 pub knows-owner : (owners : ℕ → ℕ) (seat : Seat) (h : Held) → h.owner ≡ owner_at owners h.mapping → KnowsOwner owners seat h
@@ -152,76 +122,45 @@ module _ {X B : Type 0} (stored : B → Stored) (start : Origin) (s : Table (Opt
     named : NamesActorAndPage old.core id p
     named = record { actor = at-bound s.views id v there; page = l }
 
-    made : (state : ℕ) → (state_of (word_of state (version_of expects)) ≡ state) × (version_of (word_of state (version_of expects)) ≡ version_of expects)
-    made state = (word-state state (version_of expects) (version-within expects), word-version state (version_of expects) (version-within expects))
+    -- an exchange for a word of this state at the version expected, by what it is as a step
+    exchange-of : (state : ℕ) (drafts' : ℕ → List ℕ) (inner : View X) (e : Event) (y : Page) → Legal old.core e
+        → ((w : View X) → w.out ≡ inner.out → w.frames ≡ inner.frames → w.seats ≡ inner.seats → w.loads ≡ inner.loads
+        → state_of (word_of state (version_of expects)) ≡ state → version_of (word_of state (version_of expects)) ≡ version_of expects → finds (old.core.pages p) expects ≡ true
+        → world_of stored start releases drafts' (wrote stored start s id (places.State p) (word_of state (version_of expects)) w) ≡ world_after old e)
+        → (finds (old.core.pages p) expects ≡ true → (world_after old e).core ≡ on_page old.core p y)
+        → (finds (old.core.pages p) expects ≡ false → world_after old e ≡ old) → IsExchange p expects (word_of state (version_of expects)) drafts' inner e y
+    exchange-of state drafts' inner e y legal leads core none =
+        let low = version-within expects in
+        record { legal = legal; leads = λ w out frames seats loads. leads w out frames seats loads (word-state state (version_of expects) low) (word-version state (version_of expects) low); core = core; none = none }
 
     -- an exclusive lock
     pub lockx-exchange : MayLock expects → (held : Held) (words : List ℕ) → IsExchange p expects (word_of LOCKED (version_of expects)) (upd drafts p (last_in start releases p).words) (locked_view p held words v) (LockX id p expects) (locked (old.core.pages p) id)
-    lockx-exchange may held words =
-        record {
-          legal = (named, may);
-          leads = λ w out frames seats loads. lockx-step stored start s releases drafts id v w p expects (word_of LOCKED (version_of expects)) wide l there out frames seats loads (made LOCKED).0 (made LOCKED).1;
-          core = λ f. rw f refl;
-          none = lost-lockx old id p expects;
-        }
+    lockx-exchange may held words = exchange-of LOCKED _ _ _ _ (named, may) (λ w. lockx-step stored start s releases drafts id v w p expects (word_of LOCKED (version_of expects)) wide l there) (λ f. rw f refl) (lost-lockx old id p expects)
 
     -- a share
     pub locks-exchange : MayShare expects → (held : Held) → IsExchange p expects (word_of (one_share_more (state_of expects)) (version_of expects)) drafts (shared_view p held v) (LockS id p expects) (shared (old.core.pages p) id)
     locks-exchange may held =
-        record {
-          legal = (named, may);
-          leads = λ w out frames seats loads. locks-step stored start s releases drafts id v w p expects (word_of (one_share_more (state_of expects)) (version_of expects)) wide l there out frames seats loads (made (one_share_more (state_of expects))).0 (made (one_share_more (state_of expects))).1;
-          core = λ f. rw f refl;
-          none = lost-locks old id p expects;
-        }
+        exchange-of (one_share_more (state_of expects)) _ _ _ _ (named, may)
+        (λ w. locks-step stored start s releases drafts id v w p expects (word_of (one_share_more (state_of expects)) (version_of expects)) wide l there) (λ f. rw f refl) (lost-locks old id p expects)
 
     -- a lock for write-back
     pub lockw-exchange : state_of expects ≡ MARKED → (held : Held) → IsExchange p expects (word_of 1 (version_of expects)) drafts (write_locked_view p held v) (LockW id p expects) (write_locked (old.core.pages p) id)
-    lockw-exchange may held =
-        record {
-          legal = (named, may);
-          leads = λ w out frames seats loads. lockw-step stored start s releases drafts id v w p expects (word_of 1 (version_of expects)) wide l there out frames seats loads (made 1).0 (made 1).1;
-          core = λ f. rw f refl;
-          none = lost-lockw old id p expects;
-        }
+    lockw-exchange may held = exchange-of 1 _ _ _ _ (named, may) (λ w. lockw-step stored start s releases drafts id v w p expects (word_of 1 (version_of expects)) wide l there) (λ f. rw f refl) (lost-lockw old id p expects)
 
     -- a lock for write-back that becomes exclusive
     pub upgrade-exchange : MayRaiseLock v p expects → (words : List ℕ) → IsExchange p expects (word_of LOCKED (version_of expects)) (upd drafts p (last_in start releases p).words) (upgraded_view p words v) (Upgrade id p expects) (upgraded (old.core.pages p) id)
     upgrade-exchange may words =
-        record {
-          legal = (
-            named,
-            record {
-              state = may.state;
-              version = may.below;
-              writes = ap (λ (k : Seat). k.writing) (seat-here stored start s id p v l there) ∙ may.writes;
-              one = ap (λ (k : Seat). k.shares) (seat-here stored start s id p v l there) ∙ may.one;
-            },
-          );
-          leads = λ w out frames seats loads. upgrade-step stored start s releases drafts id v w p expects (word_of LOCKED (version_of expects)) wide l there out frames seats loads (made LOCKED).0 (made LOCKED).1;
-          core = λ f. rw f refl;
-          none = lost-upgrade old id p expects;
-        }
+        let here = seat-here stored start s id p v l there in
+        let legal : Legal old.core (Upgrade id p expects) = (named, record { state = may.state; version = may.below; writes = ap (λ (k : Seat). k.writing) here ∙ may.writes; one = ap (λ (k : Seat). k.shares) here ∙ may.one }) in
+        exchange-of LOCKED _ _ _ _ legal (λ w. upgrade-step stored start s releases drafts id v w p expects (word_of LOCKED (version_of expects)) wide l there) (λ f. rw f refl) (lost-upgrade old id p expects)
 
     -- a mark
     pub mark-exchange : state_of expects ≡ UNLOCKED → IsExchange p expects (word_of MARKED (version_of expects)) drafts v (Mark id p expects) (marked (old.core.pages p))
-    mark-exchange may =
-        record {
-          legal = (named, may);
-          leads = λ w out frames seats loads. mark-step stored start s releases drafts id v w p expects (word_of MARKED (version_of expects)) wide l there out frames seats loads (made MARKED).0 (made MARKED).1;
-          core = λ f. rw f refl;
-          none = lost-mark old id p expects;
-        }
+    mark-exchange may = exchange-of MARKED _ _ _ _ (named, may) (λ w. mark-step stored start s releases drafts id v w p expects (word_of MARKED (version_of expects)) wide l there) (λ f. rw f refl) (lost-mark old id p expects)
 
     -- a mark that is taken away
     pub unmark-exchange : state_of expects ≡ MARKED → IsExchange p expects (word_of UNLOCKED (version_of expects)) drafts v (Unmark id p expects) (unmarked (old.core.pages p))
-    unmark-exchange may =
-        record {
-          legal = (named, may);
-          leads = λ w out frames seats loads. unmark-step stored start s releases drafts id v w p expects (word_of UNLOCKED (version_of expects)) wide l there out frames seats loads (made UNLOCKED).0 (made UNLOCKED).1;
-          core = λ f. rw f refl;
-          none = lost-unmark old id p expects;
-        }
+    unmark-exchange may = exchange-of UNLOCKED _ _ _ _ (named, may) (λ w. unmark-step stored start s releases drafts id v w p expects (word_of UNLOCKED (version_of expects)) wide l there) (λ f. rw f refl) (lost-unmark old id p expects)
 
 -- ---- on a page's state word
 
@@ -245,18 +184,10 @@ module _ {X B : Type 0} (stored : B → Stored) (keeps : Start → Kept X → Ty
       let k = exchange-tells stored keeps tied start tells s r id v there live number (places.State p) expects x l drafts inner e actor is.legal
       (λ hit. quiet-shows stored keeps tied start tells s r id v (slice_set s.words p x) drafts (did_exchange (places.State p) expects (slice_index s.words p) x) inner e there live (shows hit))
       (λ miss. is.none (missing stored keeps tied start tells s r id v there p expects l miss)) in
-      let told : last_of k.0 p ≡ last stored keeps tied start tells s r p = (λ i. last_in (k.3 i) (k.4 i) p) ∙ last-told stored keeps tied start tells s r id v there live p in (
-        k.0,
-        record {
-          rule = k.1;
-          brings = k.2;
-          last = told;
-          version = ap (λ (y : Version). y.version) told ∙ (r.inv.pages p).stands.last ∙ version-here stored start s p l;
-          since = since stored keeps tied start tells s r id v there live p l;
-          older = older stored keeps tied start tells s r id v there live p l;
-          size = ap (λ (y : Version). length y.words) told ∙ (r.inv.pages p).sizes.last;
-        },
-      )
+      let told : last_of k.0 p ≡ last stored keeps tied start tells s r p = (λ i. last_in (k.3 i) (k.4 i) p) ∙ last-told stored keeps tied start tells s r id v there live p in
+      let version = ap (λ (y : Version). y.version) told ∙ (r.inv.pages p).stands.last ∙ version-here stored start s p l in
+      let size = ap (λ (y : Version). length y.words) told ∙ (r.inv.pages p).sizes.last in
+      (k.0, search (rules, k.1, k.2, told, version, since stored keeps tied start tells s r id v there live p l, older stored keeps tied start tells s r id v there live p l, size))
 
   -- where nobody has the page locked exclusively, the exchange validates the open read and the ties
   pub tried-validates : (law : (start : Start) (kept : Kept X) (q p : ℕ) → keeps start kept → q < length kept.pages → p < length kept.pages → tied start q (page_at kept.pages q) p (page_at kept.pages p))
@@ -312,35 +243,20 @@ module _ {X B : Type 0} (stored : B → Stored) (keeps : Start → Kept X → Ty
           let sum : sum_below (length s.views) (λ b. (y.seats b).shares) ≡ share_count y.state = (r.inv.pages p).locks.shares in
           omega (arith, below, sum, none)
 
+      writes-none : (a : ℕ) → (((world stored keeps tied start tells s r).core.pages p).seats a).writing ≡ false
+      writes-none a =
+          false_from_ne_true (((world stored keeps tied start tells s r).core.pages p).seats a).writing
+          (λ t. let w = (r.inv.pages p).locks.writer a t in let one = w.0 in let zero' = shares-none a w.1 in omega (arith, one, zero'))
+
       pub free-unheld : v.live ≡ true → IsUnheld v p
       free-unheld live =
-          record {
-            exclusive = free-owner;
-            shares = ap (λ (k : Seat). k.shares) (sym (seat-here stored start s id p v l there)) ∙ shares-none id (at-bound s.views id v there);
-            writing = ⊎_elim
-                (λ t.
-                let one : 1 ≤ (((world stored keeps tied start tells s r).core.pages p).seats id).shares = ((r.inv.pages p).locks.writer id (ap (λ (k : Seat). k.writing) (seat-here stored start s id p v l there) ∙ t)).0 in
-                let zero' = shares-none id (at-bound s.views id v there) in
-                absurd (omega (arith, one, zero')))
-                (λ f. f)
-                (cases_Bool (seat_of v p).writing);
-            paid = free-debt live;
-            next = λ e. true≢false (sym ((r.known id v there live).next p e).0 ∙ free-owner);
-          }
+          let here = sym (seat-here stored start s id p v l there) in
+          let next = λ (e : v.next ≡ Some p). true≢false (sym ((r.known id v there live).next p e).0 ∙ free-owner) in
+          search (rules, free-owner, ap (λ (k : Seat). k.shares) here ∙ shares-none id (at-bound s.views id v there), ap (λ (k : Seat). k.writing) here ∙ writes-none id, free-debt live, next)
 
       -- nobody writes the page back, so its fault word is its block's count
       fault-told : ((world stored keeps tied start tells s r).core.pages p).fault ≡ ((world stored keeps tied start tells s r).core.pages p).count
-      fault-told =
-          let y : Page = (world stored keeps tied start tells s r).core.pages p in
-          (r.inv.pages p).faults free
-          (λ a. ⊎_elim
-          (λ t.
-          let w = (r.inv.pages p).locks.writer a t in
-          let one : 1 ≤ (y.seats a).shares = w.0 in
-          let zero' : (y.seats a).shares ≡ 0 = shares-none a w.1 in
-          absurd (omega (arith, one, zero')))
-          (λ f. f)
-          (cases_Bool (y.seats a).writing))
+      fault-told = (r.inv.pages p).faults free writes-none
 
       -- so it knows of the page what a lock tells that was taken at this word
       pub held-at : (live : v.live ≡ true) (expects : ℕ) → slice_index s.words p ≡ expects → IsHeldAt p expects v.start.frames v.start.tells (last stored keeps tied start tells s r p).words (page_held p)
@@ -352,8 +268,7 @@ module _ {X B : Type 0} (stored : B → Stored) (keeps : Start → Kept X → Ty
             empty = λ e. (r.inv.pages p).stands.evicted (state ∙ e);
             resident = λ ne. (r.inv.pages p).stands.resident free (λ e. ne (sym state ∙ e));
             inside = frame-inside stored keeps tied start tells s r p;
-            owned = λ ne. owner-named (world stored keeps tied start tells s r).core.owners p ((world stored keeps tied start tells s r).core.pages p).trans
-                ((r.inv.pages p).stands.resident free (λ e. ne (sym state ∙ e))) (r.inv.owners.owned p free);
+            owned = λ ne. let m = some-is ((world stored keeps tied start tells s r).core.pages p).trans ((r.inv.pages p).stands.resident free (λ e. ne (sym state ∙ e))) in ap (owner_at (world stored keeps tied start tells s r).core.owners) m.1 ∙ r.inv.owners.owned p free m.0 m.1;
             told = fault-told ∙ block.1;
             device = λ t clean. sym block.0 ∙ block-is_last (r.inv.pages p).stands ((r.inv.pages p).contents t) free clean;
           })
@@ -388,21 +303,11 @@ module _ {X B : Type 0} (stored : B → Stored) (keeps : Start → Kept X → Ty
         → ((q : ℕ) → is_pending s.views q ≡ true → drafts q ≡ r.drafts q)
         → ((q : ℕ) → (put_at no_seat seats q).exclusive ≡ true → put_at [] own q ≡ drafts q)
         → ShowsQuiet stored keeps tied start tells s r id v (slice_set s.words p x) drafts did (locking v seats loads held own) e
-    word-shows seats loads held own is calls holds knows owners members drafted = record {
-      word = is.word;
-      legal = is.legal;
-      world = is.world;
-      leaves = refl;
-      calls = calls;
-      holds = holds;
-      members = members;
-      next = ap (λ (c : State). c.next) is.core;
-      knows = λ q. subst (λ (c : State). KnowsPage (put_at no_seat seats q) (put_at no_held held q) (c.pages q)) (sym is.core) (knows q);
-      owners = λ q m h at. owners q m h at ∙ sym (ap (λ (c : State). c.owners m.frame) is.core);
-      contents = λ f h. (r.known id v there live).contents f h ∙ sym (ap (λ (c : State). c.words f) is.core);
-      drafted = drafted;
-      loaded = ([], refl, tt);
-    }
+    word-shows seats loads held own is calls holds knows owners members drafted =
+        let known = subst (λ (c : State). (c.next ≡ old'.core.next) × ((q : ℕ) → KnowsPage (put_at no_seat seats q) (put_at no_held held q) (c.pages q))
+        × KnowsOwners c.owners (put_at no_seat seats) (put_at no_held held) × ((f : ℕ) → has f v.frames ≡ true → put_at [] v.contents f ≡ c.words f)) (sym is.core) (refl, knows, owners, (r.known id v there live).contents) in
+        let loaded : (l : List Translation) × (v.translations ≡ l ++ v.translations) × Each (TranslationHolds (world_after old' e).core.pages) l = ([], refl, tt) in
+        assumption
 
     -- the same, where the pass has this seat of the page, and knows the page, if the seat says so
     pub seat-shows : (seat : Seat) (loads : List (Put (List (ℕ × ℕ)))) (held : List (Put Held)) (own : List (Put (List ℕ))) → Settles (locking v (put p seat v.seats) loads held own)
@@ -415,7 +320,7 @@ module _ {X B : Type 0} (stored : B → Stored) (keeps : Start → Kept X → Ty
         word-shows (put p seat v.seats) loads held own is
         (λ o x. each-upd (λ q y. o.page ≡ q → may_call (seat_of v q) ≡ true → may_call y ≡ true) (put_at no_seat v.seats) p seat (calls o x) (λ q ne e k. k) o.page refl (r.blocks.away id v o there x).1)
         (each-upd (λ q y. (seat_of v q).exclusive ≡ true → y.exclusive ≡ true) (put_at no_seat v.seats) p seat holds (λ q ne k. k))
-        (knows-one v old'.core.pages p seat held y (r.known id v there live).knows others here)
+        (each-upd2 (λ q k z. KnowsPage k (put_at no_held held q) z) (put_at no_seat v.seats) old'.core.pages p seat y here (λ q ne. subst (λ h. KnowsPage (seat_of v q) h (old'.core.pages q)) (sym (others q ne)) ((r.known id v there live).knows q)))
         (each-upd (λ q k. KnowsOwner old'.core.owners k (put_at no_held held q)) (put_at no_seat v.seats) p seat owner (λ q ne. subst (KnowsOwner old'.core.owners (seat_of v q)) (sym (others q ne)) ((r.known id v there live).owners q)))
 
   -- ---- a lock
@@ -442,23 +347,9 @@ module _ {X B : Type 0} (stored : B → Stored) (keeps : Start → Kept X → Ty
         → ShowsQuiet stored keeps tied start tells s r id v (slice_set s.words p x) (opened stored keeps tied start tells s r p) taken_did (locking v (put p seat v.seats) (put p [] v.loads) held (put p (last stored keeps tied start tells s r p).words v.drafts)) e
     owner-shows e y seat held is owns free others here owner =
         seat-shows taken_did x (opened stored keeps tied start tells s r p) e y seat (put p [] v.loads) held (put p (last stored keeps tied start tells s r p).words v.drafts) (exchange-settles (opened stored keeps tied start tells s r p) _ e y is) (λ o h same m. rw owns refl) (λ m. owns) others here owner
-        (λ q t.
-        ⊎_elim
-        (λ e'. absurd (true≢false (sym t ∙ ap (is_pending s.views) e' ∙ not-pending stored keeps tied start tells s r p l free)))
-        (λ ne. upd-other r.drafts p _ q ne)
-        (cases_eq q p))
-        (λ q m.
-        ⊎_elim
-        (λ e'.
-        ap (put_at [] (put p (last stored keeps tied start tells s r p).words v.drafts)) e'
-        ∙ upd-same (put_at [] v.drafts) p _
-        ∙ ap (λ (k : Version). k.words) (sym (last-is start r.releases r.drafts p))
-        ∙ sym (ap (opened stored keeps tied start tells s r p) e' ∙ upd-same r.drafts p _))
-        (λ ne.
-        upd-other (put_at [] v.drafts) p _ q ne
-        ∙ draft-stays q (sym (ap (λ (k : Seat). k.exclusive) (upd-other (λ n. seat_of v n) p seat q ne)) ∙ m)
-        ∙ sym (upd-other r.drafts p _ q ne))
-        (cases_eq q p))
+        (each-upd (λ q words. is_pending s.views q ≡ true → words ≡ r.drafts q) r.drafts p _ (λ t. absurd (true≢false (sym t ∙ not-pending stored keeps tied start tells s r p l free))) (λ q ne t. refl))
+        (each-upd2 (λ q mine words. (put_at no_seat (put p seat v.seats) q).exclusive ≡ true → mine ≡ words) (put_at [] v.drafts) r.drafts p _ _ (λ m. ap (λ (k : Version). k.words) (sym (last-is start r.releases r.drafts p)))
+        (λ q ne m. draft-stays q (sym (ap (λ (k : Seat). k.exclusive) (upd-other (λ n. seat_of v n) p seat q ne)) ∙ m)))
 
     -- a lock that is not exclusive
     pub sharer-shows : (e : Event) (y : Page) (seat : Seat) (held : List (Put Held)) → IsExchange stored start s r.releases r.drafts id p expects x r.drafts (locking v (put p seat v.seats) (put p [] v.loads) held v.drafts) e y
@@ -468,11 +359,6 @@ module _ {X B : Type 0} (stored : B → Stored) (keeps : Start → Kept X → Ty
     sharer-shows e y seat held is calls same others here owner =
         seat-shows taken_did x r.drafts e y seat (put p [] v.loads) held v.drafts (exchange-settles r.drafts _ e y is) (λ o h at. calls) (λ m. same ∙ m) others here owner (λ q t. refl)
         (λ q m. draft-stays q (sym (upd-keeps (λ (k : Seat). k.exclusive) (λ n. seat_of v n) p seat same q) ∙ m))
-
--- what an exchange sees, by whether the page has the word expected
-seen-as : (y : Page) (expects found : ℕ) (b : Bool) → finds y expects ≡ b → eqb found expects ≡ b → page_word y ≡ found → exchange_seen y expects ≡ exchange_sees expects found
-seen-as y expects found b at is word =
-    ap {B = Seen} (λ x. if x then sights.Taken else sights.Lost (page_word y)) (at ∙ sym is) ∙ (λ i. if eqb found expects then sights.Taken else sights.Lost (word i))
 
 module _ {X B : Type 0} (stored : B → Stored) (start : Origin) (keeps : Start → Kept X → Type 0) (tied : Start → ℕ → List ℕ → ℕ → List ℕ → Type 0) (tells : Bool) (s : Table (Option B) (View X)) (id p : ℕ) where
   -- what an exchange on a page's state word tells, of a kind whose view where it was taken is `inner`: the event is this one
@@ -488,6 +374,6 @@ module _ {X B : Type 0} (stored : B → Stored) (start : Origin) (keeps : Start 
       (λ hit b. ap (λ (k : World). k.core) (event.leads w (ap (λ (k : View X). k.out) b.view) (ap (λ (k : View X). k.frames) b.view) (ap (λ (k : View X). k.seats) b.view) (ap (λ (k : View X). k.loads) b.view) (hits hit)))
       (λ miss. ap (λ (k : World). k.core) (event.none (misses miss)))
       (sees ∙ ⊎_elim
-      (λ hit. seen-as y expects found true (hits hit) (eq-eqb found expects hit) word)
-      (λ miss. seen-as y expects found false (misses miss) (ne_eqb found expects miss) word)
+      (λ hit. rw (hits hit, eq-eqb found expects hit) refl)
+      (λ miss. rw (misses miss, ne_eqb found expects miss) (ap sights.Lost word))
       (cases_eq found expects))

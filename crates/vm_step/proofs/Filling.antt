@@ -2,8 +2,8 @@
 -- these are the page's.
 use Rattle.std.proofs.lemmas.List.{length-append}
 use Rattle.vm_rule.specs.declared.view.Place.TheVariants as places
-use Rattle.vm_step.proofs.Leaves.{works-none, works-one, works-then}
-use Rattle.vm_step.proofs.Prelude.{[], ap, append_assoc, arith, contents_at, Did, did_store, FillTold, HasWritten, length, List, put, put_at, refl}
+use Rattle.vm_step.proofs.{Evidenced.written-behind, Leaves.works-none, Leaves.works-one, Leaves.works-then}
+use Rattle.vm_step.proofs.Prelude.{[], ap, append_assoc, arith, contents_at, Did, did_store, FillTold, HasWritten, length, List, put, put_at, refl, rules}
 use Rattle.vm_step.proofs.Prelude.{slice_index, slice_set, Stores, subst, suc, sym, upd-same, View, Works, zero, ℕ, ◌++◌, ◌+◌, ◌<◌, ◌∙◌, ◌∷◌, ◌≡◌}
 
 -- ---- words written over others, from the i-th on
@@ -53,17 +53,17 @@ module _ {X : Type 0} (f : ℕ) where
   pub fills : (p i : ℕ) (xs : List ℕ) (v w : View X) → Stores f i xs v w → Fills p (stores-did f i xs) v w
   fills p i [] v w s = subst (λ (y : View X). Fills p [] v y) (sym s) record { works = works-none p v; held = refl; frames = refl; out = refl; notes = refl }
   fills p i (x ∷ xs) v w s =
-      let t : FillTold f i x v s.0 = s.1 in
-      let b = t.brings in
+      let b = s.1.brings in
       let rest : Fills p (stores-did f (i + 1) xs) s.0 w = fills p (i + 1) xs s.0 w s.2 in
       let one : Works p (did_store (places.Content f i) x ∷ []) v s.0 = works-one p (did_store (places.Content f i) x) _ v v.held v.frames (put f (slice_set (contents_at v f) i x) v.contents) v.out v.notes s.0 (λ q ne. refl) b in
-      record {
-        works = works-then p (did_store (places.Content f i) x ∷ []) (stores-did f (i + 1) xs) v s.0 w one rest.works;
-        held = rest.held ∙ ap (λ (y : View X). y.held) b.view;
-        frames = rest.frames ∙ ap (λ (y : View X). y.frames) b.view;
-        out = rest.out ∙ ap (λ (y : View X). y.out) b.view;
-        notes = rest.notes ∙ ap (λ (y : View X). y.notes) b.view;
-      }
+      search (
+        rules,
+        works-then p (did_store (places.Content f i) x ∷ []) (stores-did f (i + 1) xs) v s.0 w one rest.works,
+        rest.held ∙ ap (λ (y : View X). y.held) b.view,
+        rest.frames ∙ ap (λ (y : View X). y.frames) b.view,
+        rest.out ∙ ap (λ (y : View X). y.out) b.view,
+        rest.notes ∙ ap (λ (y : View X). y.notes) b.view,
+      )
 
   fills-contents : (i : ℕ) (xs : List ℕ) (v w : View X) → Stores f i xs v w → contents_at w f ≡ written i xs (contents_at v f)
   unfolding written
@@ -82,24 +82,16 @@ module _ {X : Type 0} (f : ℕ) where
   pub filled : (xs : List ℕ) (v w : View X) → length xs ≡ 64 → Stores f 0 xs v w → contents_at w f ≡ xs
   filled xs v w long s = fills-contents 0 xs v w s ∙ (written-over 0 xs [] (contents_at v f) refl (fills-size xs v w long s ∙ sym long))
 
-plus-none : (i : ℕ) → i ≡ i + 0
-plus-none i = omega arith
-
 -- each word was stored
 stored-at : (f i : ℕ) (xs : List ℕ) (k : ℕ) → k < length xs → HasWritten (stores-did f i xs) (places.Content f (i + k)) (slice_index xs k)
 stored-at f i [] k l = absurd (omega (arith, l))
-stored-at f i (x ∷ xs) zero l = record { earlier = []; step = did_store (places.Content f i) x; later = stores-did f (i + 1) xs; cut = refl; place = ap (λ (n : ℕ). places.Content f n) (plus-none i); wrote = refl }
+stored-at f i (x ∷ xs) zero l =
+    let here : i ≡ i + 0 = omega arith in
+    record { earlier = []; step = did_store (places.Content f i) x; later = stores-did f (i + 1) xs; cut = refl; place = ap (λ (n : ℕ). places.Content f n) here; wrote = refl }
 stored-at f i (x ∷ xs) (suc k) l =
-    let h : HasWritten (stores-did f (i + 1) xs) (places.Content f (i + 1 + k)) (slice_index xs k) = stored-at f (i + 1) xs k (omega (arith, l)) in
     let moved : i + 1 + k ≡ i + suc k = omega arith in
-    record {
-      earlier = did_store (places.Content f i) x ∷ h.earlier;
-      step = h.step;
-      later = h.later;
-      cut = ap (λ (t : List Did). did_store (places.Content f i) x ∷ t) h.cut;
-      place = h.place ∙ ap (λ (n : ℕ). places.Content f n) moved;
-      wrote = h.wrote;
-    }
+    subst (λ (n : ℕ). HasWritten (stores-did f i (x ∷ xs)) (places.Content f n) (slice_index xs k)) moved
+    (written-behind (did_store (places.Content f i) x ∷ []) (stores-did f (i + 1) xs) (places.Content f (i + 1 + k)) (slice_index xs k) (stored-at f (i + 1) xs k (omega (arith, l))))
 
 pub all-stored : (f : ℕ) (xs : List ℕ) (k : ℕ) → length xs ≡ 64 → k < 64 → HasWritten (stores-did f 0 xs) (places.Content f k) (slice_index xs k)
 all-stored f xs k long l =

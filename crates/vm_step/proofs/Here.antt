@@ -2,12 +2,12 @@
 use Rattle.std.proofs.Common.{eq-eqb}
 use Rattle.vm_rule.specs.declared.view.Place.TheVariants as places
 use Rattle.vm_step.proofs.Logical.{not-pending, tied-now}
-use Rattle.vm_step.proofs.Prelude.{[], ap, append-none, arith, at_page, at_state, began_of, Bool, cases_eq, cases_lt, Did, Each, each-map, EVICTED}
-use Rattle.vm_step.proofs.Prelude.{false, get_elem?, HasShape, is_pending, is_readable, IsOf, IsOlder, IsSince, IsSinceAll, Kept, last-is, last_in}
-use Rattle.vm_step.proofs.Prelude.{length, List, loads-here, loads_at, LoadsAre, LOCKED, LockValidates, Mapping, None, Open, Option, Origin, Page}
-use Rattle.vm_step.proofs.Prelude.{page_at, Place, ReadInv, refl, Ruled, Seat, seat-here, seat_of, Shape, slice_index, Some, some, some-is, stands_in}
-use Rattle.vm_step.proofs.Prelude.{Start, state-here, state_of, Stored, subst, sym, Table, Tie, TieHolds, true, true≢false, Version, version-here}
-use Rattle.vm_step.proofs.Prelude.{version_of, View, WasWord, WereWords, World, world_of, ℕ, ⊎_elim, ◌++◌, ◌<◌, ◌∙◌, ◌≡◌, ◌≢◌, ◌≤◌}
+use Rattle.vm_step.proofs.Prelude.{[], ap, append-none, arith, at_page, at_state, began_of, Bool, cases_eq, cases_lt, Did, Each, each-map, EVICTED, false}
+use Rattle.vm_step.proofs.Prelude.{get_elem?, HasShape, is_pending, IsOf, IsOlder, IsSince, IsSinceAll, Kept, last-is, last_in, length, List, loads-here}
+use Rattle.vm_step.proofs.Prelude.{loads_at, LoadsAre, LOCKED, LockValidates, Mapping, Open, Option, Origin, Page, page_at, Place, ReadInv, refl, Ruled, rules}
+use Rattle.vm_step.proofs.Prelude.{Seat, seat-here, seat_of, Shape, slice_index, Some, some, some-is, stands_in, Start, state-here, state_of, Stored, subst}
+use Rattle.vm_step.proofs.Prelude.{sym, Table, Tie, TieHolds, true, true≢false, Version, version-here, version_of, View, WasWord, WereWords, World, world_of, ℕ}
+use Rattle.vm_step.proofs.Prelude.{⊎_elim, ◌++◌, ◌<◌, ◌∙◌, ◌≡◌, ◌≢◌, ◌≤◌}
 
 -- what is said of the page of a state word
 state-each : (x : Place) (P Q : ℕ → Type 0) → ((q : ℕ) → P q → Q q) → at_state x P → at_state x Q
@@ -15,12 +15,10 @@ state-each (places.State p) P Q f h = f p h
 state-each _ P Q f h = tt
 
 was-since : (y : Page) (found : ℕ) (o : Option ℕ) → y.state ≡ state_of found → y.version ≡ version_of found → WasWord y o → IsSince found o
-was-since y found None s v h = tt
-was-since y found (Some word) s v h = (subst (λ n. version_of word ≤ n) v h.0, λ no e. ap is_readable (sym s) ∙ h.1 no (e ∙ sym v), λ gone e. h.2 (s ∙ gone) (e ∙ sym v))
+was-since y found o s v h = grind arith
 
 older-of : (found : ℕ) (o : Option Open) → ((x : Open) → o ≡ Some x → x.version ≤ version_of found) → (state_of found ≡ EVICTED → (x : Open) → o ≡ Some x → x.version < version_of found) → IsOlder found o
-older-of found None old evicted = tt
-older-of found (Some x) old evicted = (old x refl, λ e. evicted e x refl)
+older-of found o old evicted = grind arith
 
 module _ {X B : Type 0} (stored : B → Stored) (keeps : Start → Kept X → Type 0) (tied : Start → ℕ → List ℕ → ℕ → List ℕ → Type 0) (start : Origin) (tells : Bool) (s : Table (Option B) (View X)) (r : Ruled stored keeps tied start tells s) where
   abbrev pub world : World
@@ -45,10 +43,7 @@ module _ {X B : Type 0} (stored : B → Stored) (keeps : Start → Kept X → Ty
   module _ (id : ℕ) (v : View X) (there : get_elem? s.views id ≡ some v) (live : v.live ≡ true) where
     -- the pass is one of a table of this shape
     pub is-of : (shape : Shape) → HasShape shape start → IsOf shape tells v
-    is-of shape h = record {
-      is_shape = subst (HasShape shape) (sym (r.heard id v there live).same_start) h;
-      tells_is = ap (λ (o : Origin). o.tells) (r.heard id v there live).same_start ∙ r.telling;
-    }
+    is-of shape h = search (rules, subst (HasShape shape) (sym (r.heard id v there live).same_start) h, ap (λ (o : Origin). o.tells) (r.heard id v there live).same_start ∙ r.telling)
 
     -- the last version of a page, as the pass knows it once its list of releases is brought up to date
     pub last-told : (p : ℕ) → last_in v.start (r.releases ++ []) p ≡ last p

@@ -1,9 +1,9 @@
 -- What the layer above keeps after a step of a pass, as the step tells it: it has the relation, the pages with their logical words, and the next page.
 use Rattle.vm_rule.specs.declared.view.Place.TheVariants as places
-use Rattle.vm_step.proofs.Logical.{length-listed, logical-draft, logical-last, page-listed}
-use Rattle.vm_step.proofs.Prelude.{ap, began_of, draft-is, draft_of, false, has, is_pending, IsAlone, IsKeptNow, Kept, kept_of, known_word_at}
-use Rattle.vm_step.proofs.Prelude.{last-is, last_in, List, logical, Option, Origin, refl, replicate, Start, Stored, subst, sym, Table, true, Version}
-use Rattle.vm_step.proofs.Prelude.{View, World, world_of, ℕ, ◌<◌, ◌∙◌, ◌≡◌, ◌≤◌}
+use Rattle.vm_step.proofs.Logical.{logical-draft, logical-last, page-listed}
+use Rattle.vm_step.proofs.Prelude.{ap, began_of, draft-is, draft_of, false, has, is_pending, IsAlone, IsKeptNow, Kept, kept_of, known_word_at, last-is, last_in}
+use Rattle.vm_step.proofs.Prelude.{length-listed, List, logical, Option, Origin, refl, replicate, Start, Stored, subst, sym, Table, true, Version, View, World}
+use Rattle.vm_step.proofs.Prelude.{world_of, ℕ, ◌<◌, ◌∙◌, ◌≡◌, ◌≤◌}
 
 module _ {X B : Type 0} (stored : B → Stored) (keeps : Start → Kept X → Type 0) (start : Origin) (t : Table (Option B) (View X)) (drafts : ℕ → List ℕ) (w : View X) where
   -- the pages as the table shows them, by what the pass has seen of the releases

@@ -1,18 +1,11 @@
 -- The logical words of pages, as the layer above knows them: of a page that is not locked they are its last words.
-use Rattle.vm_step.proofs.Prelude.{ap, arith, began_of, Bool, cases_Bool, core_shown, false, false_from_ne_true, History, is_pending, Kept, kept_of}
-use Rattle.vm_step.proofs.Prelude.{length, List, listed, LOCKED, locked-here, logical, Option, Origin, page_at, pending-held, refl, Ruled, Start}
-use Rattle.vm_step.proofs.Prelude.{Stored, subst, suc, sym, Table, true, View, world_of, zero, ℕ, ⊎_elim, ◌<◌, ◌∙◌, ◌≡◌, ◌≢◌}
+use Rattle.vm_step.proofs.Prelude.{[], at, at-listed, began_of, Bool, cases_Bool, core_shown, false, false_from_ne_true, History, is_pending, Kept, kept_of}
+use Rattle.vm_step.proofs.Prelude.{length, length-listed, List, listed, LOCKED, locked-here, logical, Option, Origin, page_at, pending-held, refl, Ruled, Start}
+use Rattle.vm_step.proofs.Prelude.{Stored, subst, sym, Table, true, View, world_of, ℕ, ⊎_elim, ◌<◌, ◌∙◌, ◌≡◌, ◌≢◌}
 
 pub page-listed : (n : ℕ) (f : ℕ → List ℕ) (k : ℕ) → k < n → page_at (listed n f) k ≡ f k
-unfolding listed
-page-listed zero f k l = absurd (omega arith)
-page-listed (suc n) f zero l = refl
-page-listed (suc n) f (suc k) l = page-listed n (λ j. f (suc j)) k (omega arith)
-
-pub length-listed : {A : Type 0} (n : ℕ) (f : ℕ → A) → length (listed n f) ≡ n
-unfolding listed
-length-listed zero f = refl
-length-listed (suc n) f = ap suc (length-listed n (λ j. f (suc j)))
+unfolding at
+page-listed n f k l = at-listed [] n f k l
 
 -- the logical words of a page, as a member still to be released or not
 pub logical-draft : (h : ℕ → History) (members : ℕ → Bool) (q : ℕ) → members q ≡ true → logical h members q ≡ (h q).draft

@@ -1,26 +1,17 @@
 -- The pages from a number on, and a claim of them.
-use Rattle.vm_step.proofs.Prelude.{[], ap, arith, cases_eq, cases_lt, claimed, eq-eqb, false≢true, get_or-eq_default, get_or-replicate, has, Kept}
-use Rattle.vm_step.proofs.Prelude.{length-replicate, ne_eqb, numbers, replicate, slice_index, suc, sym, true, zero, ℕ, ⊎_elim, ◌++◌, ◌+◌, ◌<◌, ◌||◌}
-use Rattle.vm_step.proofs.Prelude.{◌∙◌, ◌∷◌, ◌≡◌, ◌≤◌}
+use Rattle.vm_step.proofs.Prelude.{[], arith, cases_lt, claimed, false≢true, get_or-eq_default, get_or-replicate, has, Kept, length-replicate, nat_tests}
+use Rattle.vm_step.proofs.Prelude.{numbers, replicate, slice_index, suc, true, zero, ℕ, ⊎_elim, ◌++◌, ◌+◌, ◌<◌, ◌∙◌, ◌∷◌, ◌≡◌, ◌≤◌}
 
 -- the list has the numbers from x on, n of them
 pub has-numbers : (n x p : ℕ) → has p (numbers x n) ≡ true → (x ≤ p) × (p < x + n)
 unfolding numbers
 has-numbers zero x p e = absurd (false≢true e)
-has-numbers (suc n) x p e =
-    ⊎_elim
-    (λ (s : p ≡ x). (omega (arith, s), omega (arith, s)))
-    (λ ne. let rest = has-numbers n (suc x) p (sym (ap (λ b. b || has p (numbers (suc x) n)) (ne_eqb p x ne)) ∙ e) in let low = rest.0 in let high = rest.1 in (omega (arith, low), omega (arith, high)))
-    (cases_eq p x)
+has-numbers (suc n) x p e = grind (arith, nat_tests, has-numbers n (suc x) p)
 
 pub numbers-has : (n x p : ℕ) → x ≤ p → p < x + n → has p (numbers x n) ≡ true
 unfolding numbers
 numbers-has zero x p low high = absurd (omega (arith, low, high))
-numbers-has (suc n) x p low high =
-    ⊎_elim
-    (λ (s : p ≡ x). ap (λ b. b || has p (numbers (suc x) n)) (eq-eqb p x s))
-    (λ ne. ap (λ b. b || has p (numbers (suc x) n)) (ne_eqb p x ne) ∙ numbers-has n (suc x) p (omega (arith, low, ne)) (omega (arith, high)))
-    (cases_eq p x)
+numbers-has (suc n) x p low high = grind (arith, nat_tests, numbers-has n (suc x) p)
 
 -- a page of zeros has only zeros
 pub all-zeros : (n i : ℕ) → slice_index (replicate n 0) i ≡ 0

@@ -2,12 +2,12 @@
 -- knows of pages and of the frames that it holds.
 use mathlib.Core.Option as maybe
 use Rattle.vm_step.proofs.{Logical.logical-same, Written.IsWordOf}
-use Rattle.vm_step.proofs.Prelude.{[], after_more, after_step, any-here, any-same, ap, append-none, arith, became, became_more, began_of, block_of}
-use Rattle.vm_step.proofs.Prelude.{Bool, chosen, core_shown, Did, draft-is, draft_of, Each, Entry, entry_of, Event, false, fun_ext, get_elem?, has}
-use Rattle.vm_step.proofs.Prelude.{Held, histories_of, inl, is_owed, is_pending, Kept, kept_of, KnowsPage, KnowsPages, last-same, Legal, List, listed}
-use Rattle.vm_step.proofs.Prelude.{logical, may_call, no_held, Option, Origin, Out, Put, put_at, refl, replicate, Ruled, seat_of, Shows, slice_set}
-use Rattle.vm_step.proofs.Prelude.{Some, some, Start, State, Stored, subst, sym, Table, Tie, TieHolds, Translation, TranslationHolds, true}
-use Rattle.vm_step.proofs.Prelude.{KnowsOwners, true≢false, View, World, world_after, world_of, ℕ, ◌++◌, ◌<◌, ◌∙◌, ◌∷◌, ◌≡◌, ◌≤◌, ◌⊎◌}
+use Rattle.vm_step.proofs.Prelude.{[], after_more, after_step, any-here, any-same, ap, append-none, arith, became, became_more, began_of, block_of, Bool}
+use Rattle.vm_step.proofs.Prelude.{chosen, core_shown, Did, draft-is, draft_of, Each, Entry, entry_of, Event, false, fun_ext, get_elem?, has, Held}
+use Rattle.vm_step.proofs.Prelude.{histories_of, inl, is_owed, is_pending, Kept, kept_of, KnowsOwners, KnowsPage, KnowsPages, last-same, Legal, List, listed}
+use Rattle.vm_step.proofs.Prelude.{logical, may_call, no_held, Option, Origin, Out, Put, put_at, refl, replicate, Ruled, rules, seat_of, Shows, slice_set, Some}
+use Rattle.vm_step.proofs.Prelude.{some, Start, State, Stored, subst, sym, Table, Tie, TieHolds, Translation, TranslationHolds, true, true≢false, View, World}
+use Rattle.vm_step.proofs.Prelude.{world_after, world_of, ℕ, ◌++◌, ◌<◌, ◌∙◌, ◌∷◌, ◌≡◌, ◌≢◌, ◌≤◌, ◌⊎◌}
 
 -- ---- what follows of any such step
 
@@ -116,44 +116,21 @@ module _ {X B : Type 0} (stored : B → Stored) (keeps : Start → Kept X → Ty
   event-shows there live sh =
       let led : HasLed stored keeps tied start tells s r id v words s.homes (listed start.pages (block_of stored s.homes s.views)) drafts entries did inner then =
       has-led stored keeps tied start tells s r id v words s.homes (listed start.pages (block_of stored s.homes s.views)) drafts entries did inner then there live sh.leads in
-      let core : core_shown stored start (became stored keeps tied start tells s words id (after_step stored keeps tied start tells s r words [] entries did inner)) ≡ then.core = ap (λ (w : World). w.core) sh.leads.world in
-      record {
-        wide = sh.word.wide;
-        spelled = sh.word.spelled;
-        legal = sh.legal;
-        world = led.world;
-        at = sh.word.at;
-        found = sh.word.found;
-        wrote = sh.word.wrote;
-        live = sh.same.0;
-        same_start = sh.same.1;
-        used = sh.same.2;
-        fresh = sh.same.3;
-        notes = sh.same.4;
-        log = sh.same.5;
-        out = sh.same.6;
-        calls = sh.calls;
-        entry = sh.says.0;
-        mine = sh.says.1;
-        next_versions = tt;
-        zero = led.zero;
-        knows = λ q. subst (λ (c : State). KnowsPage (seat_of inner q) (put_at no_held inner.held q) (c.pages q)) (sym core) (sh.knows q);
-        owners = λ q m x at. sh.owners q m x at ∙ sym (ap (λ (c : State). c.owners m.frame) core);
-        contents = λ f x. sh.contents f x ∙ sym (ap (λ (c : State). c.words f) core);
-        drafted = sh.drafted;
-        pending = λ q x. let m = led.members q x in (sh.holds q m.0, m.1);
-        owed = λ q x. let m = sh.owes q x in (m.0, m.1, subst (λ n. q < n) (sym (ap (λ (c : State). c.next) core)) m.2, m.3);
-        next = λ x is. let m = sh.next x is in (m.0, ap (λ (c : State). c.next) core ∙ m.1);
-        loaded = subst (λ (c : State). (l : List Translation) × (inner.translations ≡ l ++ v.translations) × Each (TranslationHolds c.pages) l) (sym core) sh.loaded;
-        tying = (
-          sh.tying.0,
-          sh.tying.1,
-          λ t. subst (λ (w : World). Each (TieHolds tied (began_of start) w (is_pending views)) sh.tying.0) (sym led.world)
-              (subst (λ (f : ℕ → Bool). Each (TieHolds tied (began_of start) then f) sh.tying.0) (sym led.pending) (sh.tying.2 t)),
-        );
-        members = λ q was gone. absurd (true≢false (sym was ∙ sym (ap (has q) sh.leads.pending) ∙ gone));
-        owner = λ t kept. subst (keeps (began_of start)) (sym led.kept) (sh.owner t kept);
-      }
+      let new : Table (Option B) (View X) = record { words = words; homes = s.homes; views = views } in
+      let core : core_shown stored start new ≡ then.core = ap (λ (w : World). w.core) sh.leads.world in
+      let known = subst (λ (c : State). ((q : ℕ) → KnowsPage (seat_of inner q) (put_at no_held inner.held q) (c.pages q)) × KnowsOwners c.owners (seat_of inner) (put_at no_held inner.held)
+      × ((f : ℕ) → has f inner.frames ≡ true → put_at [] inner.contents f ≡ c.words f)
+      × ((q : ℕ) → has q inner.owed ≡ true → ((seat_of inner q).exclusive ≡ true) × (start.next ≤ q) × (q < c.next) × (has q inner.pending ≡ false))
+      × ((x : ℕ) → inner.next ≡ Some x → ((seat_of inner x).exclusive ≡ true) × (c.next ≡ x))
+      × ((l : List Translation) × (inner.translations ≡ l ++ v.translations) × Each (TranslationHolds c.pages) l)) (sym core) (sh.knows, sh.owners, sh.contents, sh.owes, sh.next, sh.loaded) in
+      let pending : (q : ℕ) → has q inner.pending ≡ true → ((seat_of inner q).exclusive ≡ true) × (start.tells ≡ true → (core_shown stored start new).next ≤ q → drafts q ≡ (histories_of start (r.releases ++ []) drafts q).last.words)
+      = λ q x. let m = led.members q x in (sh.holds q m.0, m.1) in
+      let ties = λ (t : start.tells ≡ true). subst (λ (w : World). Each (TieHolds tied (began_of start) w (is_pending views)) sh.tying.0) (sym led.world)
+      (subst (λ (f : ℕ → Bool). Each (TieHolds tied (began_of start) then f) sh.tying.0) (sym led.pending) (sh.tying.2 t)) in
+      let tying : (l : List Tie) × (inner.ties ≡ l ++ v.ties) × (start.tells ≡ true → Each (TieHolds tied (began_of start) (world_of stored start (r.releases ++ []) drafts new) (is_pending views)) l) = (sh.tying.0, sh.tying.1, ties) in
+      let members : (q : ℕ) → has q v.pending ≡ true → has q inner.pending ≡ false → ((core_shown stored start new).pages q).version ≢ (now.core.pages q).version = λ q was gone. absurd (true≢false (sym was ∙ sym (ap (has q) sh.leads.pending) ∙ gone)) in
+      let owner = λ (t : start.tells ≡ true) (kept : keeps (began_of start) (kept_of now r.history s.views)). subst (keeps (began_of start)) (sym led.kept) (sh.owner t kept) in
+      search (rules, sh, led, known, pending, tying, members, owner)
 
 -- ---- where nothing is said, and the pages owed and the next page are as they were
 
@@ -187,29 +164,17 @@ module _ {X B : Type 0} (stored : B → Stored) (keeps : Start → Kept X → Ty
         let pending : inner.pending ≡ v.pending = ap (λ (x : View X). x.pending) sh.leaves in
         let owed : inner.owed ≡ v.owed = ap (λ (x : View X). x.owed) sh.leaves in
         let owed-stays : is_owed (slice_set s.views id behind) ≡ is_owed s.views = fun_ext (λ q. any-same (λ (y : View X). has q y.owed) s.views id v behind there (ap (has q) owed)) in
+        let leads : LeadsTo stored keeps tied start tells s r id v words s.homes (listed start.pages (block_of stored s.homes s.views)) drafts [] did inner (world_after before e)
+        = record { world = sh.world; pending = pending; members = sh.members; up = let same = sh.next in omega (arith, same) } in
+        let owes : (q : ℕ) → has q inner.owed ≡ true → ((seat_of inner q).exclusive ≡ true) × (start.next ≤ q) × (q < (world_after before e).core.next) × (has q inner.pending ≡ false)
+        = λ q x. let m = k.owed q (sym (ap (has q) owed) ∙ x) in (sh.holds q m.0, m.1, subst (λ n. q < n) (sym sh.next) m.2, ap (has q) pending ∙ m.3) in
+        let next : (x : ℕ) → inner.next ≡ Some x → ((seat_of inner x).exclusive ≡ true) × ((world_after before e).core.next ≡ x)
+        = λ x is. let m = k.next x (sym (ap (λ (y : View X). y.next) sh.leaves) ∙ is) in (sh.holds x m.0, sh.next ∙ m.1) in
+        let tying : (l : List Tie) × (inner.ties ≡ l ++ v.ties) × (start.tells ≡ true → Each (TieHolds tied (began_of start) (world_after before e) (is_pending s.views)) l) = ([], ap (λ (x : View X). x.ties) sh.leaves, λ _. tt) in
+        let owner = λ (t : start.tells ≡ true). subst (keeps (began_of start))
+        (λ i. record (kept_of before r.history s.views) { next = sym sh.next i; owed = chosen start.pages (sym owed-stays i); history = sym (append-none r.history) i }) in
         event-shows stored keeps tied start tells s r id v words drafts [] did inner e there live
-        (record {
-          word = sh.word;
-          legal = sh.legal;
-          leads = record { world = sh.world; pending = pending; members = sh.members; up = let same = sh.next in omega (arith, same) };
-          same = (ap (λ (x : View X). x.live) sh.leaves, ap (λ (x : View X). x.start) sh.leaves, ap (λ (x : View X). x.used) sh.leaves, ap (λ (x : View X). x.fresh) sh.leaves, ap (λ (x : View X). x.notes) sh.leaves, ap (λ (x : View X). x.log) sh.leaves, ap (λ (x : View X). x.out) sh.leaves);
-          calls = sh.calls;
-          holds = sh.holds;
-          knows = sh.knows;
-          owners = sh.owners;
-          contents = sh.contents;
-          drafted = sh.drafted;
-          owes = λ q x. let m = k.owed q (sym (ap (has q) owed) ∙ x) in (sh.holds q m.0, m.1, subst (λ n. q < n) (sym sh.next) m.2, ap (has q) pending ∙ m.3);
-          next = λ x is. let m = k.next x (sym (ap (λ (y : View X). y.next) sh.leaves) ∙ is) in (sh.holds x m.0, sh.next ∙ m.1);
-          loaded = sh.loaded;
-          tying = ([], ap (λ (x : View X). x.ties) sh.leaves, λ _. tt);
-          says = (inl refl, ap (λ (x : View X). x.mine) sh.leaves ∙ sym (append-none v.mine));
-          owner = λ t. subst (keeps (began_of start)) (λ i. record (kept_of before r.history s.views) {
-            next = sym sh.next i;
-            owed = chosen start.pages (sym owed-stays i);
-            history = sym (append-none r.history) i;
-          });
-        })
+        (search (rules, inl, leads, owes, next, tying, ap (λ (x : View X). x.mine) sh.leaves ∙ sym (append-none v.mine), owner))
 
 -- where seats, drafts and reads stay as well: what is known of pages may change, and the frames and their words
 module _ {X B : Type 0} (stored : B → Stored) (keeps : Start → Kept X → Type 0) (tied : Start → ℕ → List ℕ → ℕ → List ℕ → Type 0) (start : Origin) (tells : Bool) (s : Table (Option B) (View X)) (r : Ruled stored keeps tied start tells s) (id : ℕ) (v : View X) (words : List ℕ) (did : Did) (held : List (Put Held)) (frames : List ℕ) (contents : List (Put (List ℕ))) (e : Event) (there : get_elem? s.views id ≡ some v) (live : v.live ≡ true) where
@@ -227,19 +192,7 @@ module _ {X B : Type 0} (stored : B → Stored) (keeps : Start → Kept X → Ty
       → ((f : ℕ) → has f frames ≡ true → put_at [] contents f ≡ (world_after was e).core.words f)
       → Shows stored keeps tied start tells s r id v words r.drafts [] [] did with_these e
   held-shows word legal world next knows owners contents' =
-      quiet-shows stored keeps tied start tells s r id v words r.drafts did with_these e there live
-      (record {
-        word = word;
-        legal = legal;
-        world = world;
-        leaves = refl;
-        calls = λ o x. (r.blocks.away id v o there x).1;
-        holds = λ q x. x;
-        members = λ q _. refl;
-        next = next;
-        knows = knows;
-        owners = owners;
-        contents = contents';
-        drafted = λ q x. (r.known id v there live).drafts q x ∙ draft-is start r.releases r.drafts q;
-        loaded = ([], refl, tt);
-      })
+      let calls = λ (o : Out) (x : v.out ≡ Some o). (r.blocks.away id v o there x).1 in
+      let drafted = λ (q : ℕ) (x : (seat_of v q).exclusive ≡ true). (r.known id v there live).drafts q x ∙ draft-is start r.releases r.drafts q in
+      let loaded : (l : List Translation) × (v.translations ≡ l ++ v.translations) × Each (TranslationHolds (world_after was e).core.pages) l = ([], refl, tt) in
+      quiet-shows stored keeps tied start tells s r id v words r.drafts did with_these e there live (search (rules, calls, drafted, loaded))

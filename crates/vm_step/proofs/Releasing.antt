@@ -3,20 +3,18 @@ use Rattle.vm_core.specs.declared.event.Event.TheVariants.{Release}
 use Rattle.vm_core.specs.declared.event.Seen.TheVariants as sights
 use Rattle.vm_rule.specs.declared.view.Place.TheVariants as places
 use Rattle.vm_step.specs.Prelude.{Release as Released}
-use Rattle.vm_step.proofs.Prelude.{[], actor_of, after_step, ap, append-none, arith, at-bound, bare-state, bare-version, became, Bool, cases_eq}
-use Rattle.vm_step.proofs.Prelude.{Change, change_of, changed_pages, changes_of, core_shown, did_store, Downgrade, downgrade-step, downgraded_view}
-use Rattle.vm_step.proofs.Prelude.{draft-is, draft_of, Each, entries_of, Entry, entry_of, eq-eqb, eqb, Event, EVICTED, evicted_view, false, IsOwned}
-use Rattle.vm_step.proofs.Prelude.{false≢true, get_elem?, has, has-both, has-without, has-without_other, has-without_same, histories_of, History}
-use Rattle.vm_step.proofs.Prelude.{if◌then◌else◌, index_of, inl, inr, is_pending, IsClaimed, IsFirst, IsLater, IsMember, IsNotOut, IsSome, IsToldOf}
-use Rattle.vm_step.proofs.Prelude.{Kept, known, KnowsPages, last-is, last_in, last_of, Legal, length, List, locked-here, Mapping, MAX_VERSION}
-use Rattle.vm_step.proofs.Prelude.{held_at, may_call, MayDowngrade, MayEvict, MayGiveUp, ne_eqb, next_after, no_held, None, on_page, Option, or_cases}
-use Rattle.vm_step.proofs.Prelude.{or_right, Origin, Page, put, put_at, refl, release-else, release-here, release-step, release_of, released_view}
-use Rattle.vm_step.proofs.Prelude.{ReleaseE, releasee-step, Ruled, Seat, seat-here, seat_of, seen, slice_set, Some, some, Start, State, state_of}
-use Rattle.vm_step.proofs.Prelude.{Stored, subst, sym, Table, true, true≢false, UNLOCKED, upd, upd-other, upd-same, Version, version_of, View, width}
-use Rattle.vm_step.proofs.Prelude.{without, without-none, word-state, word-version, word_of, World, world_after, world_of, wrote, ℕ, ⊎_elim, ◌++◌}
-use Rattle.vm_step.proofs.Prelude.{◌+◌, ◌<◌, ◌||◌, ◌∙◌, ◌∷◌, ◌≡◌, ◌≢◌, ◌≤◌, ◌⊎◌}
-use Rattle.vm_step.proofs.Mine.{owner-known}
-use Rattle.vm_step.proofs.steps.CatchUp.{found-below, written-below}
+use Rattle.vm_step.proofs.{Mine.owner-known, steps.CatchUp.found-below, steps.CatchUp.written-below}
+use Rattle.vm_step.proofs.Prelude.{[], actor_of, after_step, ap, append-none, arith, at-bound, bare-state, bare-version, became, Bool, cases_eq, Change}
+use Rattle.vm_step.proofs.Prelude.{change_of, changed_pages, changes_of, core_shown, did_store, Downgrade, downgrade-step, downgraded_view, draft-is, draft_of}
+use Rattle.vm_step.proofs.Prelude.{Each, entries_of, Entry, entry_of, eq-eqb, eqb, Event, EVICTED, evicted_view, false, false≢true, get_elem?, has, has-both}
+use Rattle.vm_step.proofs.Prelude.{has-without_other, has-without_same, held_at, histories_of, History, index_of, inl, inr, is_pending, IsClaimed, IsFirst}
+use Rattle.vm_step.proofs.Prelude.{IsLater, IsMember, IsNotOut, IsOwned, IsSome, IsToldOf, Kept, known, KnowsPages, last-is, last_in, last_of, Legal, length}
+use Rattle.vm_step.proofs.Prelude.{List, locked-here, Mapping, MAX_VERSION, may_call, MayDowngrade, MayEvict, MayGiveUp, nat_tests, ne_eqb, next_after, no_held}
+use Rattle.vm_step.proofs.Prelude.{None, on_page, Option, or_cases, or_right, Origin, Page, put, put_at, refl, release-else, release-here, release-step}
+use Rattle.vm_step.proofs.Prelude.{release_of, released_view, ReleaseE, releasee-step, Ruled, Seat, seat-here, seat_of, seen, slice_set, Some, some, Start}
+use Rattle.vm_step.proofs.Prelude.{State, state_of, Stored, subst, sym, Table, true, true≢false, UNLOCKED, upd, upd-other, upd-same, Version, version_of, View}
+use Rattle.vm_step.proofs.Prelude.{width, without, without-none, word-state, word-version, word_of, World, world_after, world_of, wrote, ℕ, ⊎_elim, ◌++◌, ◌+◌}
+use Rattle.vm_step.proofs.Prelude.{◌<◌, ◌||◌, ◌∙◌, ◌∷◌, ◌≡◌, ◌≢◌, ◌≤◌, ◌⊎◌}
 
 -- p is no member any more; the other members still are, and those of `rest` come to them
 pub record Members (p : ℕ) (rest before after : List ℕ) : Type 0 where
@@ -26,33 +24,16 @@ pub record Members (p : ℕ) (rest before after : List ℕ) : Type 0 where
   pub among : (q : ℕ) → has q after ≡ true → (q ≢ p) × ((has q before ≡ true) ⊎ (has q rest ≡ true))
   pub others : (q : ℕ) → q ≢ p → has q rest ≡ false → has q after ≡ has q before
 
--- p is the first of its group
-pub first-members : (p : ℕ) (rest before : List ℕ) → has p before ≡ false → has p rest ≡ false → Members p rest before (if has p before then without p before else rest ++ before)
-first-members p rest before free apart =
-    rw free (record {
-      gone = both p ∙ rw apart free;
-      stays = λ q ne e. both q ∙ or_right (has q rest) (has q before) e;
-      comes = λ q e. both q ∙ rw e refl;
-      among = λ q e. (
-        (λ s. true≢false (sym e ∙ ap (λ n. has n (rest ++ before)) s ∙ both p ∙ rw apart free)),
-        ⊎_elim (λ new. inr new) (λ old. inl old) (or_cases (has q rest) (has q before) (sym (both q) ∙ e)),
-      );
-      others = λ q ne e. both q ∙ rw e refl;
-    })
-  where
-    both : (q : ℕ) → has q (rest ++ before) ≡ (has q rest || has q before)
-    both q = has-both q rest before
-
--- p is a later member
-pub later-members : (p : ℕ) (before : List ℕ) → has p before ≡ true → Members p [] before (if has p before then without p before else [] ++ before)
-later-members p before member =
-    rw member (record {
-      gone = has-without_same p before;
-      stays = λ q ne e. has-without_other p q before ne ∙ e;
-      comes = λ q e. absurd (false≢true e);
-      among = λ q e. ((λ s. false≢true (sym (has-without_same p before) ∙ ap (λ n. has n (without p before)) (sym s) ∙ e)), inl (has-without p q before e));
-      others = λ q ne e. has-without_other p q before ne;
-    })
+-- so it is, where those of `rest` come to the others
+members-of : (p : ℕ) (rest before after : List ℕ) → has p rest ≡ false → has p after ≡ false → ((q : ℕ) → q ≢ p → has q after ≡ (has q rest || has q before)) → Members p rest before after
+members-of p rest before after apart gone counts =
+    record {
+      gone = gone;
+      stays = λ q ne e. counts q ne ∙ or_right (has q rest) (has q before) e;
+      comes = λ q e. counts q (λ s. true≢false (sym e ∙ ap (λ n. has n rest) s ∙ apart)) ∙ rw e refl;
+      among = λ q e. let ne : q ≢ p = λ s. true≢false (sym e ∙ ap (λ n. has n after) s ∙ gone) in (ne, ⊎_elim inr inl (or_cases (has q rest) (has q before) (sym (counts q ne) ∙ e)));
+      others = λ q ne e. counts q ne ∙ rw e refl;
+    }
 
 -- a fact of each of the list, of one that stands in it
 pub each-has : (P : ℕ → Type 0) (qs : List ℕ) (q : ℕ) → Each P qs → has q qs ≡ true → P q
@@ -62,15 +43,7 @@ each-has P (x ∷ xs) q e some' =
 
 -- the loaded next word stays known where another page is given up
 pub next-kept : (p : ℕ) (o : Option ℕ) (x : ℕ) → next_after p o ≡ Some x → (x ≢ p) × (o ≡ Some x)
-next-kept p None x e = absurd (cc)
-next-kept p (Some y) x e =
-    ⊎_elim
-    (λ s. absurd (let none : None ≡ Some x = sym (ap (λ (b : Bool). if b then None else Some y) (eq-eqb y p s)) ∙ e in cc))
-    (λ ne. let is : Some y ≡ Some x = sym (ap (λ (b : Bool). if b then None else Some y) (ne_eqb y p ne)) ∙ e in ((λ s. ne (inside y x is ∙ s)), is))
-    (cases_eq y p)
-  where
-    inside : (a b : ℕ) → Some a ≡ Some b → a ≡ b
-    inside a b k = cc
+next-kept p o x e = grind (arith, nat_tests)
 
 module _ {X : Type 0} where
   pub entries-one : (v : View X) (said : Option X) → (entries_of v said ≡ []) ⊎ ((x : X) × (entries_of v said ≡ entry_of v x ∷ []))
@@ -95,22 +68,12 @@ pub data Way : Type 0 where
 -- where the page must stand, for each
 abbrev pub StandsFor : Way → Option Mapping → Type 0
 StandsFor Evicts m = m ≡ None
-StandsFor Unlocks m = IsSome m
-StandsFor Shares m = IsSome m
+StandsFor _ m = IsSome m
 
 -- what its frame's owner word must be: a page that is left in its frame is named
 abbrev pub OwnedFor : Way → ℕ → ℕ → Type 0
 OwnedFor Evicts p word = Unit {0}
 OwnedFor _ p word = word ≡ p + 1
-
--- so it is in a state where the word is this one
-abbrev NamedFor : Way → State → ℕ → Type 0
-NamedFor Evicts c p = Unit {0}
-NamedFor _ c p = IsOwned c p (p + 1)
-
-named-for : (way : Way) (c : State) (p word : ℕ) → IsOwned c p word → OwnedFor way p word → NamedFor way c p
-named-for Evicts c p word is owned = tt
-named-for _ c p word is owned = subst (IsOwned c p) owned is
 
 -- the state that is left, and the word, at this version; and what the pass has of the page then
 abbrev pub state_left : Way → ℕ
@@ -119,28 +82,23 @@ state_left Unlocks = UNLOCKED
 state_left Shares = 1
 
 abbrev pub word_left : Way → ℕ → ℕ
-word_left Evicts version = word_of EVICTED version
 word_left Unlocks version = version
-word_left Shares version = word_of 1 version
+word_left way version = word_of (state_left way) version
 
 abbrev pub seat_left : Way → Seat → Seat
-seat_left Evicts k = record k { exclusive = false }
-seat_left Unlocks k = record k { exclusive = false }
 seat_left Shares k = record k { shares = 1; exclusive = false }
+seat_left _ k = record k { exclusive = false }
 
 pub left-state : (way : Way) (version : ℕ) → version ≤ MAX_VERSION → state_of (word_left way version) ≡ state_left way
-left-state Evicts version l = word-state EVICTED version l
 left-state Unlocks version l = bare-state version l
-left-state Shares version l = word-state 1 version l
+left-state way version l = word-state (state_left way) version l
 
 pub left-version : (way : Way) (version : ℕ) → version ≤ MAX_VERSION → version_of (word_left way version) ≡ version
-left-version Evicts version l = word-version EVICTED version l
 left-version Unlocks version l = bare-version version l
-left-version Shares version l = word-version 1 version l
+left-version way version l = word-version (state_left way) version l
 
 pub left-exclusive : (way : Way) (k : Seat) → (seat_left way k).exclusive ≡ false
-left-exclusive Evicts k = refl
-left-exclusive _ k = refl
+left-exclusive way k = grind arith
 
 -- the event, and the page after it
 abbrev pub event_left : Way → ℕ → ℕ → Event
@@ -153,21 +111,18 @@ page_left way r a =
     record r { state = state_left way; version = r.version + 1; seats = upd r.seats a (seat_left way (r.seats a)) }
 
 pub left-actor : (way : Way) (a p : ℕ) → actor_of (event_left way a p) ≡ a
-left-actor Evicts a p = refl
-left-actor _ a p = refl
+left-actor way a p = grind arith
 
 pub left-sees : (way : Way) (c : State) (a p : ℕ) → seen c (event_left way a p) ≡ sights.Done
-left-sees Evicts c a p = refl
-left-sees _ c a p = refl
+left-sees way c a p = grind arith
 
 pub left-core : (way : Way) (w : World) (a p : ℕ) → (world_after w (event_left way a p)).core ≡ on_page w.core p (page_left way (w.core.pages p) a)
-left-core Evicts w a p = refl
-left-core _ w a p = refl
+left-core way w a p = grind arith
 
 pub left-legal : (way : Way) (c : State) (a p : ℕ) → a < c.shape.actors → p < c.shape.pages → ((c.pages p).seats a).exclusive ≡ true → StandsFor way (c.pages p).trans → (c.pages p).fault ≡ (c.pages p).count
-    → NamedFor way c p → Legal c (event_left way a p)
-left-legal Evicts c a p actor page owns stands told named = (record { actor = actor; page = page }, record { owns = owns; empty = stands; told = told })
-left-legal _ c a p actor page owns stands told named = (record { actor = actor; page = page }, record { owns = owns; resident = stands; told = told }, named)
+    → (word : ℕ) → IsOwned c p word → OwnedFor way p word → Legal c (event_left way a p)
+left-legal Evicts c a p actor page owns stands told word is owned = (record { actor = actor; page = page }, record { owns = owns; empty = stands; told = told })
+left-legal _ c a p actor page owns stands told word is owned = (record { actor = actor; page = page }, record { owns = owns; resident = stands; told = told }, subst (IsOwned c p) owned is)
 
 -- the view after it, of a page that is alone, first of a group, or a later member
 abbrev pub left_view : {X : Type 0} → Way → ℕ → List ℕ → Option X → View X → View X
@@ -226,12 +181,10 @@ module _ {X B : Type 0} {stored : B → Stored} {keeps : Start → Kept X → Ty
   unclaimed q l owns (inl same) t le = same ∙ last-known q owns
   unclaimed q l owns (inr (inl written)) t le = absurd (written (last-known q owns ∙ rel.r.zero t q le l))
   unclaimed q l owns (inr (inr (inl (inr known)))) t le =
-      let high : known.0 ≤ old.core.next = ⊎_elim (λ given. found-below old rel.v.log known.0 mine.words given) (λ written. written-below old rel.v.log known.0 mine.words written) known.1 in
-      let under = known.2 in
-      absurd (omega (arith, high, under, le))
+      absurd (omega (arith, ⊎_elim (λ given. found-below old rel.v.log known.0 mine.words given) (λ written. written-below old rel.v.log known.0 mine.words written) known.1, known.2, le))
   unclaimed q l owns (inr (inr (inl (inl early)))) t le =
       absurd (let same = ap (λ (o : Origin). o.next) (rel.r.heard rel.id rel.v rel.there rel.live).same_start in let risen = rel.r.risen in omega (arith, early, same, risen, le))
-  unclaimed q l owns (inr (inr (inr due))) t le = absurd (let under = (mine.owed q due).2 in omega (arith, under, le))
+  unclaimed q l owns (inr (inr (inr due))) t le = absurd (omega (arith, (mine.owed q due).2, le))
 
   -- the word that it leaves
   abbrev pub word : ℕ
@@ -324,15 +277,16 @@ module _ {X B : Type 0} {stored : B → Stored} {keeps : Start → Kept X → Ty
       (ap (λ (y : Seat). y.exclusive) (seat-here stored start rel.s rel.id rel.p rel.v rel.inside rel.there) ∙ rel.owns)
       (subst (StandsFor rel.way) ((mine.knows rel.p).calls calls-p).0 rel.stands)
       (sym ((mine.knows rel.p).calls calls-p).1 ∙ rel.told ∙ ((mine.knows rel.p).calls calls-p).3)
-      (named-for rel.way old.core rel.p (held_at rel.v rel.p).owner
-      (owner-known stored keeps tied start tells rel.s rel.r rel.id rel.v rel.there rel.live rel.p (held_at rel.v rel.p).owner calls-p refl) rel.owned)
+      (held_at rel.v rel.p).owner (owner-known stored keeps tied start tells rel.s rel.r rel.id rel.v rel.there rel.live rel.p (held_at rel.v rel.p).owner calls-p refl) rel.owned
 
   -- the group
   pub members-are : Members rel.p rel.rest rel.v.pending inner.pending
   members-are =
       ⊎_elim
-      (λ (f : IsFirst may_release rel.p rel.rest rel.said rel.v). first-members rel.p rel.rest rel.v.pending f.members.0.free f.apart.0)
-      (λ (k : IsLater rel.p rel.rest rel.said rel.v). subst (λ l. Members rel.p l rel.v.pending (released_view rel.p l rel.said rel.v).pending) (sym k.alone) (later-members rel.p rel.v.pending k.pending))
+      (λ (f : IsFirst may_release rel.p rel.rest rel.said rel.v).
+      rw f.members.0.free (members-of rel.p rel.rest rel.v.pending (rel.rest ++ rel.v.pending) f.apart.0 (has-both rel.p rel.rest rel.v.pending ∙ rw (f.apart.0, f.members.0.free) refl) (λ q _. has-both q rel.rest rel.v.pending)))
+      (λ (k : IsLater rel.p rel.rest rel.said rel.v).
+      rw (k.alone, k.pending) (members-of rel.p [] rel.v.pending (without rel.p rel.v.pending) refl (has-without_same rel.p rel.v.pending) (λ q ne. has-without_other rel.p q rel.v.pending ne)))
       rel.group
 
   pub member-is : (q : ℕ) → has q rel.rest ≡ true → IsMember rel.v q
@@ -358,23 +312,11 @@ module _ {X B : Type 0} {stored : B → Stored} {keeps : Start → Kept X → Ty
 
 -- its view after the second is that after the first, where the page is no member of a group and not owed
 pub evicted-is : {X : Type 0} (v : View X) (p version : ℕ) → MayEvict v p version → released_view p [] None v ≡ evicted_view p v
-evicted-is v p version g i = record v {
-  seats = put p (record (seat_of v p) { exclusive = false }) v.seats;
-  pending = ap (λ (b : Bool). if b then without p v.pending else v.pending) g.free i;
-  owed = without-none p v.owed g.paid i;
-  next = next_after p v.next;
-  mine = append-none v.mine i;
-}
+evicted-is v p version g = rw (g.free, without-none p v.owed g.paid, append-none v.mine) refl
 
 -- and so after a release to a share
 pub downgraded-is : {X : Type 0} {may_release : Start → List ℕ → List Change → List (Entry X) → Type 0} (v : View X) (p version : ℕ) → MayDowngrade may_release v p version → left_view Shares p [] None v ≡ downgraded_view p v
-downgraded-is v p version g i = record v {
-  seats = put p (record (seat_of v p) { shares = 1; exclusive = false }) v.seats;
-  pending = ap (λ (b : Bool). if b then without p v.pending else v.pending) g.first.members.0.free i;
-  owed = without p v.owed;
-  next = next_after p v.next;
-  mine = append-none v.mine i;
-}
+downgraded-is v p version g = rw (g.first.members.0.free, append-none v.mine) refl
 
 module _ {X B : Type 0} {stored : B → Stored} {keeps : Start → Kept X → Type 0} {tied : Start → ℕ → List ℕ → ℕ → List ℕ → Type 0} {start : Origin} {tells : Bool} (s : Table (Option B) (View X)) (r : Ruled stored keeps tied start tells s) (id : ℕ) (v : View X) (there : get_elem? s.views id ≡ some v) (live : v.live ≡ true) (p version : ℕ) where
   -- the draft of a page that is not resident is its last words

@@ -6,18 +6,18 @@ use Rattle.vm_core.proofs.{At.at_set, PageFacts.none-some}
 use Rattle.vm_rule.specs.Slots.DeviceDid.{failed, read, wrote}
 use Rattle.vm_rule.specs.declared.view.Place.TheVariants as places
 use Rattle.vm_step.proofs.{Here.last-told, Quiet.has-led, Quiet.HasLed, Written.IsWordOf, Written.word-loaded}
-use Rattle.vm_step.proofs.Prelude.{[], after_more, any-same, ap, append-none, arith, at, at-bound, at_home, became_more, began_of, block-here}
-use Rattle.vm_step.proofs.Prelude.{block_after, block_of, BlocksFit, Bool, Brings, called, called-inv, called-left, caller-here, cases_Bool, cases_eq}
-use Rattle.vm_step.proofs.Prelude.{chosen, core-block, core_from, core_shown, count_more, DeviceDid, Did, did_load, draft-is, each-upd2, eqb, false}
-use Rattle.vm_step.proofs.Prelude.{faults-still, FaultsFit, frames_held, fun_ext, get_elem?, has, Held, held-still, held_at, histories_of, home}
-use Rattle.vm_step.proofs.Prelude.{home_view, idle, index_of, inl, inr, Inv, is_owed, is_pending, IsBlockOf, IsCalled, IsSome, Kept, kept_of, known}
-use Rattle.vm_step.proofs.Prelude.{KnowsPage, KnowsPages, leave_others, Leaves, length, length-set, List, listed, listed-upd, loads-still, LOCKED}
-use Rattle.vm_step.proofs.Prelude.{locked-here, Mapping, may_call, MayCall, NLoad, no_held, None, Note, on_page, Option, or_cases, Origin, Out}
-use Rattle.vm_step.proofs.Prelude.{out_at, out_of, out_or, out_view, Page, Put, put, put_at, refl, ReturnTold, Ruled, Seat, seat-here, seat_of}
-use Rattle.vm_step.proofs.Prelude.{seats-still, seats_of, shared-here, ShiftTold, ShowsMore, slice_index, slice_set, slot_of, SlotTold, Some, some}
-use Rattle.vm_step.proofs.Prelude.{some-injective, some-is, some-same, Start, State, steps_more, Stored, subst, suc, sym, Table, table_words, true}
-use Rattle.vm_step.proofs.Prelude.{true≢false, upd, upd-is, upd-other, upd-same, Version, View, words_held, World, world_of, zero, ℕ, ⊎_elim, ◌<◌}
-use Rattle.vm_step.proofs.Prelude.{each-upd, KnowsOwner, KnowsOwners, ◌||◌, ◌∙◌, ◌∷◌, ◌≡◌, ◌≢◌, ◌≤◌}
+use Rattle.vm_step.proofs.Prelude.{[], after_more, any-same, ap, append-none, arith, at, at-bound, at_home, became_more, began_of, block-here, block_after}
+use Rattle.vm_step.proofs.Prelude.{block_of, BlocksFit, Bool, Brings, called, called-inv, called-left, caller-here, cases_Bool, cases_eq, chosen, core-block}
+use Rattle.vm_step.proofs.Prelude.{core_from, core_shown, count_more, DeviceDid, Did, did_load, draft-is, Each, each-upd, each-upd2, false, faults-still}
+use Rattle.vm_step.proofs.Prelude.{FaultsFit, frames_held, fun_ext, get_elem?, has, Held, held-still, held_at, histories_of, home, home_view, idle, index_of}
+use Rattle.vm_step.proofs.Prelude.{inl, inr, Inv, is_owed, is_pending, IsBlockOf, IsCalled, IsSome, Kept, kept_of, known, KnowsOwner, KnowsOwners, KnowsPage}
+use Rattle.vm_step.proofs.Prelude.{KnowsPages, leave_others, Leaves, length, length-set, List, listed, listed-upd, loads-still, LOCKED, locked-here, Mapping}
+use Rattle.vm_step.proofs.Prelude.{may_call, MayCall, nat_tests, NLoad, no_held, None, Note, on_page, Option, or_cases, Origin, Out, out_at, out_of, out_or}
+use Rattle.vm_step.proofs.Prelude.{out_view, Page, Put, put, put_at, refl, ReturnTold, Ruled, rules, Seat, seat-here, seat_of, seats-still, seats_of}
+use Rattle.vm_step.proofs.Prelude.{shared-here, ShiftTold, ShowsMore, slice_index, slice_set, slot_of, SlotTold, Some, some, some-injective, some-is, some-same}
+use Rattle.vm_step.proofs.Prelude.{Start, State, steps_more, Stored, subst, suc, sym, Table, table_words, Tie, TieHolds, Translation, TranslationHolds, true}
+use Rattle.vm_step.proofs.Prelude.{true≢false, upd, upd-is, upd-other, upd-same, upd-self, Version, View, words_held, World, world_of, zero, ℕ, ⊎_elim, ◌++◌}
+use Rattle.vm_step.proofs.Prelude.{◌<◌, ◌||◌, ◌∙◌, ◌∷◌, ◌≡◌, ◌≢◌, ◌≤◌}
 
 -- an element in range, by its function
 pub get-at : {A : Type 0} (d : A) (l : List A) (i : ℕ) (a : A) → i < length l → at d l i ≡ a → get_elem? l i ≡ some a
@@ -48,13 +48,10 @@ out-at_page o d = rw (eq-eqb o.page o.page refl) refl
 
 -- nothing is out, so not this
 none-before : (x : Option Out) (p : ℕ) (d : Option Stored) → out_or x p d ≡ None → (d ≡ None) × ((d' : Option Stored) → out_or x p d' ≡ d')
-none-before None p d e = (e, λ _. refl)
-none-before (Some o) p d e =
-    ⊎_elim (λ t. absurd (let h : out_or (Some o) p d ≡ Some o.block = rw t refl in cc)) (λ f. ((let h : out_or (Some o) p d ≡ d = rw f refl in sym h ∙ e), λ d'. rw f refl)) (cases_Bool (eqb o.page p))
+none-before x p d e = grind (arith, nat_tests)
 
 passes-by : (x : Option Out) (p : ℕ) (d : Option Stored) → ((o : Out) → x ≡ Some o → o.page ≢ p) → out_or x p d ≡ d
-passes-by None p d k = refl
-passes-by (Some o) p d k = rw (ne_eqb o.page p (k o refl)) refl
+passes-by x p d k = grind (arith, nat_tests)
 
 module _ {X : Type 0} where
   -- what is out of another page stays
@@ -123,46 +120,26 @@ module _ {X B : Type 0} (stored : B → Stored) (keeps : Start → Kept X → Ty
         members = λ q _. refl;
         up = let same = sh.next in omega (arith, same);
       }) in
-      let next-stays : (core_shown stored start new).next ≡ old.core.next = ap (λ (c : State). c.next) sh.core_is ∙ sh.next in
       let owed-stays : is_owed (slice_set s.views id after) ≡ is_owed s.views = fun_ext (λ q. any-same (λ (y : View X). has q y.owed) s.views id v after there refl) in
-      record {
-        wide = sh.word.wide;
-        slots = sh.slots;
-        spelled = sh.word.spelled;
-        inv = subst Inv (sym led.world) sh.inv;
-        left = subst (Leaves id old) (sym led.world) sh.left;
-        outside = λ q _. ap (λ (w : World). w.histories q) led.world;
-        told = sh.told;
-        fit = sh.fit;
-        faults = subst (λ (c : State). FaultsFit c.pages (slice_set s.views id after)) (sym sh.core_is) sh.faults;
-        at = sh.word.at;
-        found = sh.word.found;
-        wrote = sh.word.wrote;
-        live = refl;
-        same_start = refl;
-        used = refl;
-        fresh = refl;
-        log = refl;
-        entry = inl refl;
-        mine = sym (append-none v.mine);
-        next_versions = tt;
-        zero = led.zero;
-        knows = λ q. subst (λ (c : State). KnowsPage (seat_of v q) (put_at no_held held q) (c.pages q)) (sym sh.core_is) (sh.knows q);
-        owners = λ q m x at. sh.owners q m x at ∙ sym (ap (λ (c : State). c.owners m.frame) sh.core_is);
-        contents = λ f x. k.contents f x ∙ sym (ap (λ (y : ℕ → List ℕ). y f) (ap (λ (c : State). c.words) sh.core_is ∙ sh.contents));
-        drafted = λ q x. k.drafts q x ∙ draft-is start r.releases r.drafts q;
-        pending = led.members;
-        owed = λ q x. let m = k.owed q x in (m.0, m.1, subst (λ n. q < n) (sym next-stays) m.2, m.3);
-        next = λ x e. let m = k.next x e in (m.0, next-stays ∙ m.1);
-        loaded = ([], refl, tt);
-        tying = ([], refl, λ _. tt);
-        members = λ q was gone. absurd (true≢false (sym was ∙ gone));
-        owner = λ t kept. subst (keeps (began_of start)) (sym led.kept) (subst (keeps (began_of start)) (λ i. record (kept_of old r.history s.views) {
-          next = sym sh.next i;
-          owed = chosen start.pages (sym owed-stays i);
-          history = sym (append-none r.history) i;
-        }) kept);
-      }
+      let known = subst (λ (c : State). ((q : ℕ) → KnowsPage (seat_of v q) (put_at no_held held q) (c.pages q)) × KnowsOwners c.owners (seat_of v) (put_at no_held held)
+      × ((f : ℕ) → has f v.frames ≡ true → put_at [] v.contents f ≡ c.words f) × FaultsFit c.pages (slice_set s.views id after)
+      × ((q : ℕ) → has q v.owed ≡ true → ((seat_of v q).exclusive ≡ true) × (start.next ≤ q) × (q < c.next) × (has q v.pending ≡ false))
+      × ((x : ℕ) → v.next ≡ Some x → ((seat_of v x).exclusive ≡ true) × (c.next ≡ x))) (sym sh.core_is) (
+        sh.knows,
+        sh.owners,
+        λ f x. k.contents f x ∙ sym (ap (λ (y : ℕ → List ℕ). y f) sh.contents),
+        sh.faults,
+        λ q x. let m = k.owed q x in (m.0, m.1, subst (λ n. q < n) (sym sh.next) m.2, m.3),
+        λ x e. let m = k.next x e in (m.0, sh.next ∙ m.1),
+      ) in
+      let outside = λ (q : ℕ) (past : start.pages ≤ q). ap (λ (w : World). w.histories q) led.world in
+      let drafted = λ (q : ℕ) (x : (seat_of v q).exclusive ≡ true). k.drafts q x ∙ draft-is start r.releases r.drafts q in
+      let loaded : (l : List Translation) × (v.translations ≡ l ++ v.translations) × Each (TranslationHolds (core_shown stored start new).pages) l = ([], refl, tt) in
+      let tying : (l : List Tie) × (v.ties ≡ l ++ v.ties) × (start.tells ≡ true → Each (TieHolds tied (began_of start) (world_of stored start (r.releases ++ []) r.drafts new) (is_pending (slice_set s.views id after))) l) = ([], refl, λ _. tt) in
+      let members : (q : ℕ) → has q v.pending ≡ true → has q v.pending ≡ false → ((core_shown stored start new).pages q).version ≢ (old.core.pages q).version = λ q was gone. absurd (true≢false (sym was ∙ gone)) in
+      let owner = λ (t : start.tells ≡ true) (kept : keeps (began_of start) (kept_of old r.history s.views)). subst (keeps (began_of start)) (sym led.kept)
+      (subst (keeps (began_of start)) (λ i. record (kept_of old r.history s.views) { next = sym sh.next i; owed = chosen start.pages (sym owed-stays i); history = sym (append-none r.history) i }) kept) in
+      search (rules, inl, sh.word, subst Inv (sym led.world) sh.inv, subst (Leaves id old) (sym led.world) sh.left, outside, sym (append-none v.mine), known, drafted, loaded, tying, members, owner)
 
 -- an empty slot, or one that is with a pass, has no block at home
 pub slot-empty : {B : Type 0} (stored : B → Stored) (o : Out) (d : Option Stored) → known stored (at_home (slot_of o)) d ≡ known stored None d
@@ -207,34 +184,34 @@ module _ {X B : Type 0} (stored : B → Stored) (keeps : Start → Kept X → Ty
       let homes : List (maybe.Option (Option B)) = slice_set s.homes p (slot_of o) in
       let w : View X = slot-view homes p moving b in
       let inside : p < length s.homes = subst (λ n. p < n) (sym r.wide.1) l in
+      let fit : BlocksFit stored start homes (slice_set s.views id w) = record {
+        away = λ j u o' e x. ⊎_elim
+            (λ (t : (j ≡ id) × (w ≡ u)). let is : o ≡ o' = some-same o o' (ap (λ (y : View X). y.out) t.1 ∙ x) in
+            subst (λ (y : Out). (y.page < start.pages) × (may_call (seat_of u y.page) ≡ true) × (at maybe.none homes y.page ≡ slot_of y)) is
+            (l, subst (λ (y : View X). may_call (seat_of y p) ≡ true) t.1 calls, slot-here s.homes p (slot_of o) inside))
+            (λ (t : (j ≢ id) × (get_elem? s.views j ≡ some u)). let a = r.blocks.away j u o' t.1 x in (a.0, a.1, slot-else s.homes p o'.page (slot_of o) inside (others j u o' t.0 t.1 x) ∙ a.2))
+            (list-set s.views id j w u e);
+        home = λ q lq e. ⊎_elim
+            (λ here. absurd (none-some b (sym e ∙ ap (out_of (slice_set s.views id w)) here ∙ now)))
+            (λ ne. subst (λ x. IsSome (at_home x)) (sym (slot-else s.homes p q (slot_of o) inside ne)) (r.blocks.home q lq (sym (elsewhere q ne) ∙ e)))
+            (cases_eq q p);
+        bounds = λ q lq. ap (λ (y : ℕ → Stored). (y q).bound) same ∙ r.blocks.bounds q lq;
+      } in
       steps_more stored keeps tied start tells s r id v s.words homes blocks-now None r.drafts [] [] (fault-load p) (out_view p moving b v) there live number refl refl
       (device-shows stored keeps tied start tells s r id v s.words homes blocks-now (fault-load p) (Some o) v.held v.notes (core_shown stored start s) there live
-      (record {
-        word = word-loaded start s.words (places.Fault p) r.wide.0 r.spelled l;
-        slots = length-set s.homes p (slot_of o) ∙ r.wide.1;
-        core_is = core-slots stored start s homes id v w (block_of stored s.homes s.views) there refl refl same;
-        inv = r.inv;
-        left = rests-left;
-        next = refl;
-        contents = refl;
-        owners = (r.known id v there live).owners;
-        told = ap (listed start.pages) same;
-        fit = record {
-          away = λ j u o' e x. ⊎_elim
-              (λ (t : (j ≡ id) × (w ≡ u)). let is : o ≡ o' = some-same o o' (ap (λ (y : View X). y.out) t.1 ∙ x) in
-              subst (λ (y : Out). (y.page < start.pages) × (may_call (seat_of u y.page) ≡ true) × (at maybe.none homes y.page ≡ slot_of y)) is
-              (l, subst (λ (y : View X). may_call (seat_of y p) ≡ true) t.1 calls, slot-here s.homes p (slot_of o) inside))
-              (λ (t : (j ≢ id) × (get_elem? s.views j ≡ some u)). let a = r.blocks.away j u o' t.1 x in (a.0, a.1, slot-else s.homes p o'.page (slot_of o) inside (others j u o' t.0 t.1 x) ∙ a.2))
-              (list-set s.views id j w u e);
-          home = λ q lq e. ⊎_elim
-              (λ here. absurd (none-some b (sym e ∙ ap (out_of (slice_set s.views id w)) here ∙ now)))
-              (λ ne. subst (λ x. IsSome (at_home x)) (sym (slot-else s.homes p q (slot_of o) inside ne)) (r.blocks.home q lq (sym (elsewhere q ne) ∙ e)))
-              (cases_eq q p);
-          bounds = λ q lq. ap (λ (y : ℕ → Stored). (y q).bound) same ∙ r.blocks.bounds q lq;
-        };
-        faults = faults-still stored keeps tied start tells s r id v w (world_of stored start r.releases r.drafts s) there refl rests-left;
-        knows = k.knows;
-      }))
+      (search (
+        rules,
+        word-loaded start s.words (places.Fault p) r.wide.0 r.spelled l,
+        length-set s.homes p (slot_of o) ∙ r.wide.1,
+        core-slots stored start s homes id v w (block_of stored s.homes s.views) there refl refl same,
+        r.inv,
+        rests-left,
+        k.owners,
+        ap (listed start.pages) same,
+        fit,
+        faults-still stored keeps tied start tells s r id v w (world_of stored start r.releases r.drafts s) there refl rests-left,
+        k.knows,
+      )))
 
   -- a pass that may call the page's device and does not hold it exclusively has a share of it
   pub has-share : (p : ℕ) → p < start.pages → may_call (seat_of v p) ≡ true → (seat_of v p).exclusive ≡ false → 1 ≤ (seat_of v p).shares
@@ -257,13 +234,14 @@ module _ {X B : Type 0} (stored : B → Stored) (keeps : Start → Kept X → Ty
 
   -- ---- the slot is taken with the block in it
 
-  -- nobody has the block of the page out
+  -- the other passes have other blocks out
+  pub others-out : (p : ℕ) → p < start.pages → may_call (seat_of v p) ≡ true → (j : ℕ) (u : View X) (o : Out) → j ≢ id → get_elem? s.views j ≡ some u → u.out ≡ Some o → o.page ≢ p
+  others-out p l calls j u o ne at x e =
+      let a = r.blocks.away j u o at x in ne (caller-here stored start s id j p v u (r.inv.pages p).locks l there calls at (subst (λ q. may_call (seat_of u q) ≡ true) e a.1))
+
+  -- nobody has the block of the page out, where the pass has none
   nobody-out : (p : ℕ) → p < start.pages → may_call (seat_of v p) ≡ true → v.out ≡ None → (j : ℕ) (u : View X) (o : Out) → get_elem? s.views j ≡ some u → u.out ≡ Some o → o.page ≢ p
-  nobody-out p l calls none j u o at x e =
-      let k = r.blocks.away j u o at x in
-      let same : j ≡ id = caller-here stored start s id j p v u (r.inv.pages p).locks l there calls at (subst (λ q. may_call (seat_of u q) ≡ true) e k.1) in
-      let is : u ≡ v = some-injective u v (sym at ∙ ap (get_elem? s.views) same ∙ there) in
-      none-some o (sym none ∙ sym (ap (λ (y : View X). y.out) is) ∙ x)
+  nobody-out p l calls none j u o at x = others-out p l calls j u o (λ same. none-some o (sym none ∙ sym (ap (λ (y : View X). y.out) (some-injective u v (sym at ∙ ap (get_elem? s.views) same ∙ there))) ∙ x)) at x
 
   -- so it is at home
   pub at-home : (p : ℕ) → p < start.pages → may_call (seat_of v p) ≡ true → v.out ≡ None → (b : B) × (at maybe.none s.homes p ≡ some (Some b))
@@ -285,24 +263,25 @@ module _ {X B : Type 0} (stored : B → Stored) (keeps : Start → Kept X → Ty
         bound = ap (λ (y : Stored). y.bound) (sym same) ∙ r.blocks.bounds p l ∙ ap (λ (o : Origin). at 0 o.bounds p) (sym (r.heard id v there live).same_start);
       }
 
-  block-moved : (hs hs' : List (maybe.Option (Option B))) (vs vs' : List (View X)) (p : ℕ)
-      → known stored (home hs' p) (out_of vs' p) ≡ known stored (home hs p) (out_of vs p)
-      → ((q : ℕ) → q ≢ p → known stored (home hs' q) (out_of vs' q) ≡ known stored (home hs q) (out_of vs q)) → block_of stored hs' vs' ≡ block_of stored hs vs
+  -- only the block of page p is another, where its slot and what is out of it changed
+  moved-blocks : (p : ℕ) (x : maybe.Option (Option B)) (w : View X) → p < start.pages → ((q : ℕ) → q ≢ p → out_of (slice_set s.views id w) q ≡ out_of s.views q)
+      → block_of stored (slice_set s.homes p x) (slice_set s.views id w) ≡ upd (block_of stored s.homes s.views) p (known stored (at_home x) (out_of (slice_set s.views id w) p))
   unfolding block_of
-  block-moved hs hs' vs vs' p here else = fun_ext (λ q. ⊎_elim (λ e. subst (λ k. known stored (home hs' k) (out_of vs' k) ≡ known stored (home hs k) (out_of vs k)) (sym e) here) (λ ne. else q ne) (cases_eq q p))
+  moved-blocks p x w l outs =
+      let inside : p < length s.homes = subst (λ k. p < k) (sym r.wide.1) l in
+      let views : List (View X) = slice_set s.views id w in
+      upd-is (block_of stored s.homes s.views) (block_of stored (slice_set s.homes p x) views) p _ (ap (λ y. known stored (at_home y) (out_of views p)) (slot-here s.homes p x inside))
+      (λ q ne. ap (λ y. known stored (at_home y) (out_of views q)) (slot-else s.homes p q x inside ne) ∙ ap (known stored (home s.homes q)) (outs q ne))
 
   -- the block that is read stays, where the slot is taken and the block is out with the pass
   pub taken-blocks : (p : ℕ) (b : B) (w : View X) → p < start.pages → may_call (seat_of v p) ≡ true → v.out ≡ None → at maybe.none s.homes p ≡ some (Some b) → w.out ≡ Some (out_at p true (stored b))
       → block_of stored (slice_set s.homes p maybe.none) (slice_set s.views id w) ≡ block_of stored s.homes s.views
   taken-blocks p b w l calls none at-p out =
-      let empty : out_of s.views p ≡ None = out-none s.views p (nobody-out p l calls none) in
-      let inside : p < length s.homes = subst (λ k. p < k) (sym r.wide.1) l in
       let o : Out = out_at p true (stored b) in
-      let views : List (View X) = slice_set s.views id w in
-      block-moved s.homes (slice_set s.homes p maybe.none) s.views views p
-      (ap (λ x. known stored (at_home x) (out_of views p)) (slot-here s.homes p maybe.none inside) ∙ ap (known stored None) (out-new s.views id v w o there out empty) ∙ sym (ap (λ x. known stored (at_home x) (out_of s.views p)) at-p))
-      (λ q ne. ap (λ x. known stored (at_home x) (out_of views q)) (slot-else s.homes p q maybe.none inside ne)
-      ∙ ap (known stored (home s.homes q)) (out-else s.views id v w q there (λ d. ap (λ y. out_or y q d) out ∙ out-of_page o q d ne ∙ ap (λ y. out_or y q d) (sym none))))
+      let same : known stored None (out_of (slice_set s.views id w) p) ≡ block_of stored s.homes s.views p = ap (known stored None) (out-new s.views id v w o there out (out-none s.views p (nobody-out p l calls none))) ∙ sym (block-home-is p b at-p) in
+      moved-blocks p maybe.none w l (λ q ne. out-else s.views id v w q there (λ d. ap (λ y. out_or y q d) out ∙ out-of_page o q d ne ∙ ap (λ y. out_or y q d) (sym none)))
+      ∙ ap (upd (block_of stored s.homes s.views) p) same
+      ∙ upd-self (block_of stored s.homes s.views) p
 
   pub takes-slot : 0 < length v.used → (p : ℕ) (b : B) → p < start.pages → may_call (seat_of v p) ≡ true → v.out ≡ None → at maybe.none s.homes p ≡ some (Some b)
       → Ruled stored keeps tied start tells (slot-table (slice_set s.homes p maybe.none) p true (stored b)) × SlotTold p (stored b) (slice_index s.words (index_of start (places.Fault p))) v (slot-view (slice_set s.homes p maybe.none) p true (stored b))
@@ -318,25 +297,19 @@ module _ {X B : Type 0} (stored : B → Stored) (keeps : Start → Kept X → Ty
 
   -- ---- the empty slot of a block that is out
 
-  -- the other passes have other blocks out
-  pub others-out : (p : ℕ) → p < start.pages → may_call (seat_of v p) ≡ true → (j : ℕ) (u : View X) (o : Out) → j ≢ id → get_elem? s.views j ≡ some u → u.out ≡ Some o → o.page ≢ p
-  others-out p l calls j u o ne at x e =
-      let a = r.blocks.away j u o at x in ne (caller-here stored start s id j p v u (r.inv.pages p).locks l there calls at (subst (λ q. may_call (seat_of u q) ≡ true) e a.1))
-
   -- the block that is read stays, where the slot goes home or is taken
   pub shifted-blocks : (o : Out) (moving : Bool) (w : View X) → v.out ≡ Some o → w.out ≡ Some (out_at o.page moving o.block)
       → block_of stored (slice_set s.homes o.page (slot_of (out_at o.page moving o.block))) (slice_set s.views id w) ≡ block_of stored s.homes s.views
+  unfolding block_of
   shifted-blocks o moving w out now =
       let p : ℕ = o.page in
       let o' : Out = out_at p moving o.block in
-      let views : List (View X) = slice_set s.views id w in
       let k = r.blocks.away id v o there out in
-      let inside : p < length s.homes = subst (λ m. p < m) (sym r.wide.1) k.0 in
-      let outs : (q : ℕ) → out_of views q ≡ out_of s.views q = λ q. out-else s.views id v w q there (λ d. ap (λ y. out_or y q d) now ∙ ap (λ y. out_or y q d) (sym out)) in
-      block-moved s.homes (slice_set s.homes p (slot_of o')) s.views views p
-      (ap (λ x. known stored (at_home x) (out_of views p)) (slot-here s.homes p (slot_of o') inside) ∙ slot-empty stored o' (out_of views p) ∙ ap (known stored None) (outs p)
-      ∙ sym (ap (λ x. known stored (at_home x) (out_of s.views p)) k.2 ∙ slot-empty stored o (out_of s.views p)))
-      (λ q ne. ap (λ x. known stored (at_home x) (out_of views q)) (slot-else s.homes p q (slot_of o') inside ne) ∙ ap (known stored (home s.homes q)) (outs q))
+      let outs : (q : ℕ) → out_of (slice_set s.views id w) q ≡ out_of s.views q = λ q. out-else s.views id v w q there (λ d. ap (λ y. out_or y q d) now ∙ ap (λ y. out_or y q d) (sym out)) in
+      let was : block_of stored s.homes s.views p ≡ known stored None (out_of s.views p) = ap (λ x. known stored (at_home x) (out_of s.views p)) k.2 ∙ slot-empty stored o (out_of s.views p) in
+      moved-blocks p (slot_of o') w k.0 (λ q _. outs q)
+      ∙ ap (upd (block_of stored s.homes s.views) p) (slot-empty stored o' (out_of (slice_set s.views id w) p) ∙ ap (known stored None) (outs p) ∙ sym was)
+      ∙ upd-self (block_of stored s.homes s.views) p
 
   -- it goes home, or is taken
   pub shifts-slot : 0 < length v.used → (o : Out) (moving : Bool) → v.out ≡ Some o
@@ -436,10 +409,7 @@ module _ {X B : Type 0} (stored : B → Stored) (keeps : Start → Kept X → Ty
 
     -- the page's block is this one now, and every other page's is as it was
     pub blocks-home : (w : View X) → w.out ≡ None → block_of stored (home-slots p b) (slice_set s.views id w) ≡ upd (block_of stored s.homes s.views) p (stored b)
-    unfolding block_of
-    blocks-home w none = upd-is (block_of stored s.homes s.views) (block_of stored (home-slots p b) (slice_set s.views id w)) p (stored b)
-        (ap (λ x. known stored (at_home x) (out_of (slice_set s.views id w) p)) (slot-here s.homes p (maybe.some (Some b)) inside))
-        (λ q ne. ap (λ x. known stored (at_home x) (out_of (slice_set s.views id w) q)) (slot-else s.homes p q (maybe.some (Some b)) inside ne) ∙ ap (known stored (home s.homes q)) (elsewhere w none q ne))
+    blocks-home w none = moved-blocks p (maybe.some (Some b)) w (r.blocks.away id v o there out).0 (elsewhere w none)
 
     fit-home : (stored b).bound ≡ o.block.bound → BlocksFit stored start (home-slots p b) (slice_set s.views id (home-after p b))
     fit-home bound =
@@ -455,11 +425,8 @@ module _ {X B : Type 0} (stored : B → Stored) (keeps : Start → Kept X → Ty
               (λ here. subst (λ x. IsSome (at_home x)) (sym (ap (at maybe.none (home-slots p b)) here ∙ slot-here s.homes p (maybe.some (Some b)) inside)) refl)
               (λ ne. subst (λ x. IsSome (at_home x)) (sym (slot-else s.homes p q (maybe.some (Some b)) inside ne)) (r.blocks.home q lq (sym (elsewhere (home-after p b) refl q ne) ∙ e)))
               (cases_eq q p);
-          bounds = λ q lq. ap (λ (y : ℕ → Stored). (y q).bound) (blocks-home (home-after p b) refl) ∙ ⊎_elim
-              (λ here. ap (λ m. (upd (block_of stored s.homes s.views) p (stored b) m).bound) here ∙ ap (λ (y : Stored). y.bound) (upd-same (block_of stored s.homes s.views) p (stored b)) ∙ bound
-              ∙ ap (λ (y : Stored). y.bound) (sym (block-out-is o out)) ∙ r.blocks.bounds p k.0 ∙ ap (at 0 start.bounds) (sym here))
-              (λ ne. ap (λ (y : Stored). y.bound) (upd-other (block_of stored s.homes s.views) p (stored b) q ne) ∙ r.blocks.bounds q lq)
-              (cases_eq q p);
+          bounds = λ q lq. ap (λ (y : ℕ → Stored). (y q).bound) (blocks-home (home-after p b) refl) ∙ each-upd (λ n (y : Stored). n < start.pages → y.bound ≡ at 0 start.bounds n) (block_of stored s.homes s.views) p (stored b)
+              (λ l. bound ∙ ap (λ (y : Stored). y.bound) (sym (block-out-is o out)) ∙ r.blocks.bounds p l) (λ n _. r.blocks.bounds n) q lq;
         }
 
     -- the core that is read then
@@ -477,22 +444,22 @@ module _ {X B : Type 0} (stored : B → Stored) (keeps : Start → Kept X → Ty
         let y : Page = called (page p) (stored b).count (stored b).words in
         let is : IsCalled start.tells world.core.words (page p) (stored b).count (stored b).words = is-called o (stored b) out did in
         let left = called-left world id p (stored b).count (stored b).words r.inv (may-call p k.0 k.1) is in
+        let known : (q : ℕ) → KnowsPage (seat_of v q) (put_at no_held (put p h v.held) q) (upd world.core.pages p y q) = each-upd2 (λ q (x : Held) (z : Page). KnowsPage (seat_of v q) x z) (put_at no_held v.held) world.core.pages p h y
+        (let knows = (mine.knows p).calls k.1 in record { calls = λ _. (knows.0, knows.1, refl, refl); shares = (mine.knows p).shares }) (λ q _. mine.knows q) in
+        let owners = each-upd (λ q (x : Held). KnowsOwner world.core.owners (seat_of v q) x) (put_at no_held v.held) p h (mine.owners p) (λ q _. mine.owners q) in
         let done = steps_more stored keeps tied start tells s r id v s.words (home-slots p b) (home-blocks p b) (Some (p, stored b)) r.drafts [] [] (fault-load p) (home_view p (stored b) v) there live number refl refl
         (device-shows stored keeps tied start tells s r id v s.words (home-slots p b) (home-blocks p b) (fault-load p) None (put p h v.held) v.notes (on_page world.core p y) there live
-        (record {
-          word = word-loaded start s.words (places.Fault p) r.wide.0 r.spelled k.0;
-          slots = length-set s.homes p (maybe.some (Some b)) ∙ r.wide.1;
-          core_is = core-home (home-after p b) refl refl refl;
-          inv = called-inv world id p (stored b).count (stored b).words r.inv (may-call p k.0 k.1) is;
-          left = left;
-          next = refl;
-          contents = refl;
-          owners = each-upd (λ q (x : Held). KnowsOwner world.core.owners (seat_of v q) x) (put_at no_held v.held) p h (mine.owners p) (λ q _. mine.owners q);
-          told = ap (listed start.pages) (blocks-home (home-after p b) refl) ∙ listed-upd start.pages (block_of stored s.homes s.views) p (stored b) k.0;
-          fit = fit-home bound;
-          faults = faults-still stored keeps tied start tells s r id v (home-after p b) (record world { core = on_page world.core p y }) there refl left;
-          knows = each-upd2 (λ q (x : Held) (z : Page). KnowsPage (seat_of v q) x z) (put_at no_held v.held) world.core.pages p h y
-              (let knows = (mine.knows p).calls k.1 in record { calls = λ _. (knows.0, knows.1, refl, refl); shares = (mine.knows p).shares })
-              (λ q _. mine.knows q);
-        })) in
+        (search (
+          rules,
+          word-loaded start s.words (places.Fault p) r.wide.0 r.spelled k.0,
+          length-set s.homes p (maybe.some (Some b)) ∙ r.wide.1,
+          core-home (home-after p b) refl refl refl,
+          called-inv world id p (stored b).count (stored b).words r.inv (may-call p k.0 k.1) is,
+          left,
+          owners,
+          ap (listed start.pages) (blocks-home (home-after p b) refl) ∙ listed-upd start.pages (block_of stored s.homes s.views) p (stored b) k.0,
+          fit-home bound,
+          faults-still stored keeps tied start tells s r id v (home-after p b) (record world { core = on_page world.core p y }) there refl left,
+          known,
+        ))) in
         (done.0, record { brings = done.1 })

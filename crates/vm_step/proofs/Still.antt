@@ -1,7 +1,7 @@
 -- Steps after which a pass has what it had.
 use Rattle.vm_rule.specs.declared.view.Place.TheVariants as places
-use Rattle.vm_step.proofs.Prelude.{[], ap, append-none, Bool, CaughtUp, Did, did_load, Entry, HasStill, hearer, HoldsNoPage, IsLocking, last_in}
-use Rattle.vm_step.proofs.Prelude.{last_of, List, refl, Release, seat_of, Snapshot, subst, sym, TakesOver, true, View, ℕ, ◌++◌, ◌∙◌, ◌∷◌, ◌≡◌}
+use Rattle.vm_step.proofs.Prelude.{[], ap, append-none, Bool, CaughtUp, Did, did_load, Entry, HasStill, hearer, HoldsNoPage, IsLocking, last_in, last_of, List}
+use Rattle.vm_step.proofs.Prelude.{refl, Release, rules, seat_of, Snapshot, StartsWith, subst, sym, TakesOver, true, View, ℕ, ◌++◌, ◌∙◌, ◌∷◌, ◌≡◌}
 
 module _ {X : Type 0} where
   -- the pass with other lists, another snapshot and more steps
@@ -12,27 +12,8 @@ module _ {X : Type 0} where
   still-with : (v x : View X) (releases : List Release) (seen : List (Entry X)) (current : Bool) (snapshot : Snapshot) (did : Did) → x ≡ relisted v releases seen current snapshot did
       → ((p : ℕ) → IsLocking (seat_of v p) → last_in v.start releases p ≡ last_of v p) → HasStill v x
   still-with v x releases seen current snapshot did is kept =
-      subst (HasStill v) (sym is)
-      (record {
-        live = refl;
-        start = refl;
-        used = refl;
-        mine = refl;
-        notes = refl;
-        frames = (refl, refl);
-        locks = (refl, refl, refl, refl);
-        reads = (refl, refl, refl);
-        group = (refl, refl, refl);
-        log = (did ∷ [], refl);
-        kept = kept;
-      })
-
-  -- a pass that was told, and then was brought up to date
-  pub heard-still : (v n x : View X) → CaughtUp (hearer v n) x → HasStill v x
-  heard-still v n x c =
-      let b = c.brings in
-      still-with v x ((v.releases ++ b.between) ++ []) ((v.seen ++ b.others) ++ []) true b.snapshot (did_load places.Next c.found) b.view
-      (λ p locks. ap (λ l. last_in v.start l p) (append-none (v.releases ++ b.between)) ∙ b.kept p locks)
+      let log : StartsWith (v.log ++ did ∷ []) v.log = (did ∷ [], refl) in
+      subst (HasStill v) (sym is) (search (rules, log, kept))
 
   -- one that was brought up to date
   pub caught-still : (v x : View X) → CaughtUp v x → HasStill v x
@@ -40,6 +21,10 @@ module _ {X : Type 0} where
       let b = c.brings in
       still-with v x ((v.releases ++ b.between) ++ []) ((v.seen ++ b.others) ++ []) true b.snapshot (did_load places.Next c.found) b.view
       (λ p locks. ap (λ l. last_in v.start l p) (append-none (v.releases ++ b.between)) ∙ b.kept p locks)
+
+  -- a pass that was told, and then was brought up to date
+  pub heard-still : (v n x : View X) → CaughtUp (hearer v n) x → HasStill v x
+  heard-still v n x c = search (rules, caught-still (hearer v n) x c)
 
   -- one that took over what it was told
   pub followed-still : (v n x : View X) → TakesOver (hearer v n) x → HasStill v x
@@ -49,24 +34,7 @@ module _ {X : Type 0} where
 
   -- and one that gave fresh parts away then
   pub still-fresh : (v x : View X) (fresh : List ℕ) → HasStill v x → HasStill v (record x { fresh = fresh })
-  still-fresh v x fresh h = record {
-    live = h.live;
-    start = h.start;
-    used = h.used;
-    mine = h.mine;
-    notes = h.notes;
-    frames = h.frames;
-    locks = h.locks;
-    reads = h.reads;
-    group = h.group;
-    log = h.log;
-    kept = h.kept;
-  }
+  still-fresh v x fresh h = search (rules, h)
 
   pub still-nothing : (v x : View X) → HasStill v x → HoldsNoPage v → HoldsNoPage x
-  still-nothing v x h m = record {
-    shares = λ p. ap (λ l. (seat_of (record v { seats = l }) p).shares) h.locks.0 ∙ m.shares p;
-    exclusive = λ p. ap (λ l. (seat_of (record v { seats = l }) p).exclusive) h.locks.0 ∙ m.exclusive p;
-    writing = λ p. ap (λ l. (seat_of (record v { seats = l }) p).writing) h.locks.0 ∙ m.writing p;
-    out = h.locks.3 ∙ m.out;
-  }
+  still-nothing v x h m = search (rules, h.locks.0, h.locks.3, m.shares, m.exclusive, m.writing, m.out)

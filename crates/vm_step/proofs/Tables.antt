@@ -2,80 +2,28 @@
 use Rattle.std.proofs.lemmas.List.{length-set}
 use Rattle.vm_rule.specs.declared.view.Place.TheVariants as places
 use Rattle.vm_step.proofs.Alone.{set-else}
-use Rattle.vm_step.proofs.Prelude.{[], ap, arith, bundle_count, cases_lt, cond-false, cond-true, Did, Each, each-map, eq-eqb, Follows}
-use Rattle.vm_step.proofs.Prelude.{get_or-set_same, get_or_past, HasGiven, if◌then◌else◌, index_of, inl, inr, IsAlone, IsFoundAt, KnowsAt, KnowsElse}
-use Rattle.vm_step.proofs.Prelude.{le-ltb, length, List, lt-ltb, nat_lt, ne_eqb, None, Option, Origin, Place, refl, Release, RunsAlone, set_if}
-use Rattle.vm_step.proofs.Prelude.{slice_index, slice_set, Some, subst, sym, View, Within, ℕ, ⊎_elim, ◌%◌, ◌*◌, ◌++◌, ◌+◌, ◌-◌, ◌/◌, ◌<◌, ◌==◌, ◌∙◌}
-use Rattle.vm_step.proofs.Prelude.{◌∷◌, ◌≡◌, ◌≢◌, ◌≤◌, ◌⊎◌}
+use Rattle.vm_step.proofs.Prelude.{[], ap, arith, bundle_count, cases_lt, Did, Each, each-map, Follows, get_or-set_same, get_or_past, HasGiven, if◌then◌else◌}
+use Rattle.vm_step.proofs.Prelude.{index_of, inl, inr, IsAlone, IsFoundAt, KnowsAt, KnowsElse, length, List, nat_lt, nat_tests, None, Option, Origin, Place}
+use Rattle.vm_step.proofs.Prelude.{refl, Release, RunsAlone, set_if, slice_index, slice_set, Some, subst, sym, View, Within, ℕ, ⊎_elim, ◌%◌, ◌*◌, ◌++◌, ◌+◌}
+use Rattle.vm_step.proofs.Prelude.{◌-◌, ◌/◌, ◌<◌, ◌==◌, ◌∙◌, ◌∷◌, ◌≡◌, ◌≢◌, ◌⊎◌}
 
 -- ---- a place and its index
 
--- the place with this index, from the bundles on; and from the first word on
-unfoldable late_place : Origin → ℕ → Place
-late_place start i =
-    if nat_lt i (3 * start.pages + 64 * start.frames + bundle_count start) then places.Bundle (i - (3 * start.pages + 64 * start.frames))
-    else if i == 3 * start.pages + 64 * start.frames + bundle_count start then places.Next
-    else if i == 3 * start.pages + 64 * start.frames + bundle_count start + 1 then places.Hand
-    else places.Owner (i - (3 * start.pages + 64 * start.frames + bundle_count start + 2))
-
+-- the place with this index
 unfoldable place_at : Origin → ℕ → Place
 place_at start i =
     if nat_lt i start.pages then places.State i
     else if nat_lt i (2 * start.pages) then places.Translation (i - start.pages)
     else if nat_lt i (3 * start.pages) then places.Fault (i - 2 * start.pages)
     else if nat_lt i (3 * start.pages + 64 * start.frames) then places.Content ((i - 3 * start.pages) / 64) ((i - 3 * start.pages) % 64)
-    else late_place start i
-
-before-bundles : (start : Origin) (i : ℕ) → 3 * start.pages + 64 * start.frames ≤ i → place_at start i ≡ late_place start i
-unfolding place_at
-before-bundles start i l =
-    cond-false _ _ _ (le-ltb i start.pages (omega (arith, l)))
-    ∙ cond-false _ _ _ (le-ltb i (2 * start.pages) (omega (arith, l)))
-    ∙ cond-false _ _ _ (le-ltb i (3 * start.pages) (omega (arith, l)))
-    ∙ cond-false _ _ _ (le-ltb i (3 * start.pages + 64 * start.frames) l)
+    else if nat_lt i (3 * start.pages + 64 * start.frames + bundle_count start) then places.Bundle (i - (3 * start.pages + 64 * start.frames))
+    else if i == 3 * start.pages + 64 * start.frames + bundle_count start then places.Next
+    else if i == 3 * start.pages + 64 * start.frames + bundle_count start + 1 then places.Hand
+    else places.Owner (i - (3 * start.pages + 64 * start.frames + bundle_count start + 2))
 
 place-at : (start : Origin) (at : Place) → Within start at → place_at start (index_of start at) ≡ at
-unfolding place_at late_place
-place-at start (places.State p) l = cond-true _ _ _ (lt-ltb p start.pages l)
-place-at start (places.Translation p) l =
-    cond-false _ _ _ (le-ltb (start.pages + p) start.pages (omega arith)) ∙ cond-true _ _ _ (lt-ltb (start.pages + p) (2 * start.pages) (omega (arith, l))) ∙ ap (λ (n : ℕ). places.Translation n) (let e : start.pages + p - start.pages ≡ p = omega arith in e)
-place-at start (places.Fault p) l =
-    let i : ℕ = 2 * start.pages + p in
-    cond-false _ _ _ (le-ltb i start.pages (omega arith))
-    ∙ cond-false _ _ _ (le-ltb i (2 * start.pages) (omega arith))
-    ∙ cond-true _ _ _ (lt-ltb i (3 * start.pages) (omega (arith, l)))
-    ∙ ap (λ (n : ℕ). places.Fault n) (let e : 2 * start.pages + p - 2 * start.pages ≡ p = omega arith in e)
-place-at start (places.Content f i) l =
-    let j : ℕ = 3 * start.pages + (64 * f + i) in
-    let frame : f < start.frames = l.0 in
-    let small : i < 64 = l.1 in
-    let high : (j - 3 * start.pages) / 64 ≡ f = omega (arith, small) in
-    let low : (j - 3 * start.pages) % 64 ≡ i = omega (arith, small) in
-    cond-false _ _ _ (le-ltb j start.pages (omega arith))
-    ∙ cond-false _ _ _ (le-ltb j (2 * start.pages) (omega arith))
-    ∙ cond-false _ _ _ (le-ltb j (3 * start.pages) (omega arith))
-    ∙ cond-true _ _ _ (lt-ltb j (3 * start.pages + 64 * start.frames) (omega (arith, frame, small)))
-    ∙ (λ k. places.Content (high k) (low k))
-place-at start (places.Bundle g) l =
-    let i : ℕ = 3 * start.pages + 64 * start.frames + g in
-    let bundle : g < bundle_count start = l in
-    before-bundles start i (omega arith)
-    ∙ cond-true _ _ _ (lt-ltb i (3 * start.pages + 64 * start.frames + bundle_count start) (omega (arith, bundle)))
-    ∙ ap (λ (n : ℕ). places.Bundle n) (let e : i - (3 * start.pages + 64 * start.frames) ≡ g = omega arith in e)
-place-at start places.Next l =
-    let i : ℕ = 3 * start.pages + 64 * start.frames + bundle_count start in
-    before-bundles start i (omega arith) ∙ cond-false _ _ _ (le-ltb i i (omega arith)) ∙ cond-true _ _ _ (eq-eqb i i refl)
-place-at start places.Hand l =
-    let n : ℕ = 3 * start.pages + 64 * start.frames + bundle_count start in
-    before-bundles start (n + 1) (omega arith) ∙ cond-false _ _ _ (le-ltb (n + 1) n (omega arith)) ∙ cond-false _ _ _ (ne_eqb (n + 1) n (λ e. omega (arith, e))) ∙ cond-true _ _ _ (eq-eqb (n + 1) (n + 1) refl)
-place-at start (places.Owner f) l =
-    let n : ℕ = 3 * start.pages + 64 * start.frames + bundle_count start in
-    let i : ℕ = n + 2 + f in
-    before-bundles start i (omega arith)
-    ∙ cond-false _ _ _ (le-ltb i n (omega arith))
-    ∙ cond-false _ _ _ (ne_eqb i n (λ e. omega (arith, e)))
-    ∙ cond-false _ _ _ (ne_eqb i (n + 1) (λ e. omega (arith, e)))
-    ∙ ap (λ (k : ℕ). places.Owner k) (let e : i - (n + 2) ≡ f = omega arith in e)
+unfolding place_at
+place-at start at l = grind (arith, nat_tests)
 
 -- two places of the table with one index are one
 pub index-same : (start : Origin) (a b : Place) → Within start a → Within start b → index_of start a ≡ index_of start b → a ≡ b
@@ -84,8 +32,7 @@ index-same start a b in-a in-b e = sym (place-at start a in-a) ∙ ap (place_at 
 -- ---- lists of words
 
 pub set-length : (o : Option ℕ) (i : ℕ) (words : List ℕ) → length (set_if o i words) ≡ length words
-set-length None i words = refl
-set-length (Some x) i words = length-set words i x
+set-length o i words = grind (arith, length-set)
 
 -- the table has as many words after steps as before
 pub follows-length : (start : Origin) (ds : List Did) (old new : List ℕ) → Follows start ds old new → length new ≡ length old

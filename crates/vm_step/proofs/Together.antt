@@ -1,12 +1,11 @@
 -- One pass more is taken in.
 use Rattle.vm_rule.specs.declared.view.Place.TheVariants as places
-use Rattle.vm_step.proofs.Prelude.{[], All, all_notes, all_used, any, ap, append-none, append_assoc, AreApart, arith, Bool, CaughtUp, Did, did_load}
-use Rattle.vm_step.proofs.Prelude.{Each, each-both, each-map, entries-both, entries-within, entries_by, Entry, false, first_part, giver, has}
-use Rattle.vm_step.proofs.Prelude.{has-joined, has-left, has-right, HasJoined, HasPiece, HasShape, HasStill, Hears, HoldsNoPage, HoldsNothing}
-use Rattle.vm_step.proofs.Prelude.{IsReady, IsWhole, joined, JoinTold, length, length-append, List, map, newcomer, numbers, or-false, or_assoc}
-use Rattle.vm_step.proofs.Prelude.{Origin, other_parts, owns, parts-cut, Pass, PassesSplit, refl, Release, Shape, StartsWith, subst, suc, sym}
-use Rattle.vm_step.proofs.Prelude.{TableId, times, times-joined, total, true, View, view, view_from, zero, ℕ, ◌++◌, ◌+◌, ◌<◌, ◌||◌, ◌∙◌, ◌∷◌, ◌≡◌}
-use Rattle.vm_step.proofs.Prelude.{◌≤◌}
+use Rattle.vm_step.proofs.Prelude.{[], All, all_notes, all_used, any, ap, append-none, append_assoc, AreApart, arith, Bool, CaughtUp, Did, did_load, Each}
+use Rattle.vm_step.proofs.Prelude.{each-both, each-map, entries-both, entries-within, entries_by, Entry, first_part, giver, has, has-joined, has-left}
+use Rattle.vm_step.proofs.Prelude.{has-right, HasJoined, HasPiece, HasShape, HasStill, Hears, HoldsNoPage, HoldsNothing, IsReady, IsWhole, joined, JoinTold}
+use Rattle.vm_step.proofs.Prelude.{length, length-append, List, map, newcomer, numbers, or-false, or_assoc, Origin, other_parts, owns, parts-cut, Pass}
+use Rattle.vm_step.proofs.Prelude.{PassesSplit, refl, Release, rules, Shape, StartsWith, subst, suc, sym, TableId, times-joined, total, true, View, view}
+use Rattle.vm_step.proofs.Prelude.{view_from, zero, ℕ, ◌++◌, ◌+◌, ◌<◌, ◌||◌, ◌∙◌, ◌∷◌, ◌≡◌}
 use Rattle.vm_step.proofs.Still.{caught-still, still-fresh}
 
 pub starts-on : {A : Type 0} (l m n : List A) → StartsWith l m → StartsWith m n → StartsWith l n
@@ -17,12 +16,10 @@ piece-on l m n s p =
     record { before = p.before; behind = p.behind ++ s.0; cut = s.1 ∙ ap (λ y. y ++ s.0) p.cut ∙ append_assoc p.before (n ++ p.behind) s.0 ∙ ap (λ y. p.before ++ y) (append_assoc n p.behind s.0) }
 
 cut-first : (l : List ℕ) → 0 < length l → (first_part l ++ other_parts l ≡ l) × (length (first_part l) ≡ 1)
-cut-first [] h = absurd (omega (arith, h))
-cut-first (n ∷ l) h = (refl, refl)
+cut-first l h = grind arith
 
 pub cut-length : (l : List ℕ) → 0 < length l → length (other_parts l) + 1 ≡ length l
-cut-length [] h = absurd (omega (arith, h))
-cut-length (n ∷ l) h = omega arith
+cut-length l h = grind arith
 
 -- all of a list, with one more at its end; and each of a mapped list
 pub all-snoc : {A : Type 0} (P : A → Type 0) (xs : List A) (x : A) → All P xs → P x → All P (xs ++ x ∷ [])
@@ -41,19 +38,10 @@ unfolding numbers
 numbers-length a zero = refl
 numbers-length a (suc n) = let rest : length (numbers (suc a) n) ≡ n = numbers-length (suc a) n in omega (arith, rest)
 
-or-turn : (a b c : Bool) → (a || (b || c)) ≡ ((b || a) || c)
-or-turn true true c = refl
-or-turn true false c = refl
-or-turn false true c = refl
-or-turn false false c = refl
-
 module _ {U X : Type 0} {o : _} where
   -- another pass of the table, or the same with another view
   pub ready-as : (shape : Shape) (tells : Bool) (t : TableId) (p q : Pass U X o) → IsReady shape tells t p → q.badge.table_id ≡ p.badge.table_id → 0 < length (view q).used → (view q).start ≡ (view p).start → IsReady shape tells t q
-  ready-as shape tells t p q r same number start = record {
-    may = (same ∙ r.may.0, number);
-    table = record { is_shape = subst (HasShape shape) (sym start) r.table.is_shape; tells_is = ap (λ (s : Origin). s.tells) start ∙ r.table.tells_is };
-  }
+  ready-as shape tells t p q r same number start = search (rules, same ∙ r.may.0, number, subst (HasShape shape) (sym start) r.table.is_shape, ap (λ (s : Origin). s.tells) start ∙ r.table.tells_is)
 
 module _ {X : Type 0} where
   -- what was heard of a shorter history is heard of a longer one, where the numbers made no entry between
@@ -138,21 +126,9 @@ module _ {X : Type 0} where
         start = ap (λ (u : View X). u.start) is ∙ h.start;
         used = ap (λ (u : View X). u.used) is ∙ (λ i. h.used i ++ same i) ∙ append_assoc v.used (all_used others) w.used ∙ ap (λ l. v.used ++ l) (sym (used-snoc others w));
         notes = ap (λ (u : View X). u.notes) is ∙ (λ i. h.notes i ++ (ap (λ (u : View X). u.notes) was) i) ∙ append_assoc v.notes (all_notes others) w.notes ∙ ap (λ l. v.notes ++ l) (sym (notes-snoc others w));
-        parts = λ k.
-            let a : times k (x.used ++ w'.used) ≡ times k x.used + times k w'.used = times-joined k x.used w'.used in
-            let b : times k (x.fresh ++ w'.fresh) ≡ times k x.fresh + times k w'.fresh = times-joined k x.fresh w'.fresh in
-            let now : owns k y ≡ times k (x.used ++ w'.used) + times k (x.fresh ++ w'.fresh) = ap (owns k) is in
-            let kept : owns k w' ≡ owns k w = ap (owns k) was in
-            let before : owns k x ≡ owns k v + total (owns k) others = h.parts k in
-            let all : total (owns k) (others ++ w ∷ []) ≡ total (owns k) others + owns k w = total-snoc (owns k) others w in
-            omega (arith, a, b, now, kept, before, all);
+        parts = λ k. omega (arith, times-joined k x.used w'.used, times-joined k x.fresh w'.fresh, ap (owns k) is, ap (owns k) was, h.parts k, total-snoc (owns k) others w);
         frames = λ f.
-            ap (λ (u : View X). has f u.frames) is
-            ∙ has-joined f w'.frames x.frames
-            ∙ ap (λ (u : View X). has f u.frames || has f x.frames) was
-            ∙ ap (λ (b : Bool). has f w.frames || b) (h.frames f)
-            ∙ or-turn (has f w.frames) (any (λ (u : View X). has f u.frames) others) (has f v.frames)
-            ∙ ap (λ (b : Bool). b || has f v.frames) (sym (any-more (λ (u : View X). has f u.frames) others w));
+            grind (arith, ap (λ (u : View X). has f u.frames) is, has-joined f w'.frames x.frames, ap (λ (u : View X). has f u.frames) was, h.frames f, any-more (λ (u : View X). has f u.frames) others w);
         log = starts-on y.log x.log v.log on h.log;
         logs = each-both (λ (u : View X). HasPiece y.log u.log) others (w ∷ [])
             (each-map _ _ (λ (u : View X) p. piece-on y.log x.log u.log on p) others h.logs)
@@ -171,9 +147,7 @@ module _ {X : Type 0} where
   -- a pass that takes in another keeps its number
   pub joined-number : (v w x : View X) → JoinTold v w x → 0 < length v.used → 0 < length x.used
   joined-number v w x j l =
-      let now : length x.used ≡ length (v.used ++ w.used) = ap (λ (u : View X). length u.used) j.caught.brings.view in
-      let both : length (v.used ++ w.used) ≡ length v.used + length w.used = length-append v.used w.used in
-      omega (arith, now, both, l)
+      omega (arith, ap (λ (u : View X). length u.used) j.caught.brings.view, length-append v.used w.used, l)
 
   -- ---- split
 
@@ -195,33 +169,25 @@ module _ {X : Type 0} where
         left = refl;
         fresh = ap (λ (u : View X). u.fresh) is;
         apart = subst AreApart (λ i. (ap (λ (u : View X). u.used) is) i ++ (ap (λ (u : View X). u.fresh) is) i) b.sound.apart;
-        parts = λ k. let same : owns k x ≡ owns k v = ap (owns k) is in omega (arith, same);
+        parts = λ k. omega (arith, ap (owns k) is);
         each = tt;
       }
 
   -- one pass more is split off
-  pub split-one : (v : View X) (others : List (View X)) (x : View X) → PassesSplit v others x → 0 < length x.fresh → x.live ≡ true → PassesSplit v (others ++ newcomer true x ∷ []) (giver true x)
-  split-one v others x h room live =
-      let cut = cut-first x.fresh room in
-      record {
-        middle = h.middle;
-        caught = h.caught;
-        left = ap (λ (y : View X). record y { fresh = other_parts x.fresh }) h.left;
-        fresh = ap (λ l. l ++ other_parts x.fresh) (used-snoc others (newcomer true x)) ∙ append_assoc (all_used others) (first_part x.fresh) (other_parts x.fresh) ∙ ap (λ l. all_used others ++ l) cut.0 ∙ h.fresh;
-        apart = h.apart;
-        parts = λ k.
-            let before : owns k v ≡ owns k x + total (owns k) others = h.parts k in
-            let all : total (owns k) (others ++ newcomer true x ∷ []) ≡ total (owns k) others + owns k (newcomer true x) = total-snoc (owns k) others (newcomer true x) in
-            let both : owns k (giver true x) + owns k (newcomer true x) ≡ owns k x = parts-cut true x k in
-            omega (arith, before, all, both);
-        each = each-both _ others (newcomer true x ∷ []) (each-map _ _ (λ w n. record { number = n.number; new = n.new }) others h.each)
-            (record { number = cut.1; new = refl }, tt);
-      }
-
-  -- the same, of the views that the call left
   pub split-step : (v : View X) (others : List (View X)) (x y given : View X) → PassesSplit v others x → 0 < length x.fresh → x.live ≡ true → y ≡ giver true x → given ≡ newcomer true x → PassesSplit v (others ++ given ∷ []) y
   split-step v others x y given h room live is new =
-      subst (λ w. PassesSplit v (others ++ w ∷ []) y) (sym new) (subst (λ u. PassesSplit v (others ++ newcomer true x ∷ []) u) (sym is) (split-one v others x h room live))
+      let cut = cut-first x.fresh room in
+      rw (is, new)
+      (record {
+        middle = h.middle;
+        caught = h.caught;
+        left = ap (λ (u : View X). record u { fresh = other_parts x.fresh }) h.left;
+        fresh = ap (λ l. l ++ other_parts x.fresh) (used-snoc others (newcomer true x)) ∙ append_assoc (all_used others) (first_part x.fresh) (other_parts x.fresh) ∙ ap (λ l. all_used others ++ l) cut.0 ∙ h.fresh;
+        apart = h.apart;
+        parts = λ k. omega (arith, h.parts k, total-snoc (owns k) others (newcomer true x), parts-cut true x k);
+        each = each-both _ others (newcomer true x ∷ []) (each-map _ _ (λ w n. record { number = n.number; new = n.new }) others h.each)
+            (record { number = cut.1; new = refl }, tt);
+      })
 
   -- beside the parts the pass has what it had, and it knows the table
   pub split-still : (v : View X) (others : List (View X)) (x : View X) → PassesSplit v others x → HasStill v x
@@ -231,15 +197,10 @@ module _ {X : Type 0} where
   split-current v others x h = ap (λ (y : View X). y.current) h.left ∙ ap (λ (y : View X). y.current) h.caught.brings.view
 
   pub new-number : (x : View X) → 0 < length x.fresh → 0 < length (newcomer true x).used
-  new-number x room = let one : length (first_part x.fresh) ≡ 1 = (cut-first x.fresh room).1 in omega (arith, one)
+  new-number x room = omega (arith, (cut-first x.fresh room).1)
 
   -- ---- whole again
 
   -- a whole pass that split others off and took in passes with the same parts is whole
   pub whole-again : (v x y : View X) (others joined : List (View X)) → PassesSplit v others x → HasJoined x joined y → ((k : ℕ) → total (owns k) joined ≡ total (owns k) others) → IsWhole v → IsWhole y
-  whole-again v x y others joined s j same whole k l =
-      let a : owns k v ≡ owns k x + total (owns k) others = s.parts k in
-      let b : owns k y ≡ owns k x + total (owns k) joined = j.parts k in
-      let c : total (owns k) joined ≡ total (owns k) others = same k in
-      let d : 1 ≤ owns k v = whole k l in
-      omega (arith, a, b, c, d)
+  whole-again v x y others joined s j same whole k l = omega (arith, s.parts k, j.parts k, same k, whole k l)

@@ -1,15 +1,12 @@
 -- One word of the table is written: the number that stands there then, and what of the table it leaves.
 use Rattle.vm_rule.specs.declared.view.Place.TheVariants as places
-use Rattle.vm_step.proofs.Prelude.{ap, ArePlain, arith, Did, did_load, each-upd, get_or-set_same, index_of, IsFoundAt, length, length-set, List}
-use Rattle.vm_step.proofs.Prelude.{Mapping, mapping_of, Option, Origin, Place, refl, slice_index, slice_set, Some, subst, sym, table_words}
-use Rattle.vm_step.proofs.Prelude.{trans_word, upd, width, with_word, Within, Words, words-written, ℕ, ◌<◌, ◌∙◌, ◌≡◌}
+use Rattle.vm_step.proofs.Prelude.{ap, ArePlain, arith, Did, did_load, each-upd, get_or-set_same, index_of, IsFoundAt, length, length-set, List, Mapping}
+use Rattle.vm_step.proofs.Prelude.{mapping_of, Option, Origin, Place, refl, rules, slice_index, slice_set, Some, subst, sym, table_words, trans_word, upd}
+use Rattle.vm_step.proofs.Prelude.{width, with_word, Within, Words, words-written, ℕ, ◌<◌, ◌∙◌, ◌≡◌}
 
 -- the place is one of the table's words
 pub index-below : (start : Origin) (w : Place) → Within start w → index_of start w < width start
-index-below start (places.Content f i) l = omega (arith, l.0, l.1)
-index-below start places.Next l = omega arith
-index-below start places.Hand l = omega arith
-index-below start _ l = omega (arith, l)
+index-below start w l = grind arith
 
 -- the number that was written stands there
 pub stands-there : (start : Origin) (words : List ℕ) (w : Place) (x : ℕ) → length words ≡ width start → Within start w → x ≡ slice_index (slice_set words (index_of start w) x) (index_of start w)
@@ -49,10 +46,10 @@ word-loaded start words at wide plain l = record { wide = wide; spelled = plain;
 -- another step leaves one word, which is no translation
 pub word-left : (start : Origin) (words : List ℕ) (did : Did) (x : ℕ) → length words ≡ width start → ArePlain start words → Within start did.at → (with_word (table_words start words) did.at x).translations ≡ (table_words start words).translations
     → IsFoundAt did.found (index_of start did.at) words → did.wrote ≡ Some x → IsWordOf start words (slice_set words (index_of start did.at) x) did
-word-left start words did x wide plain l same found wrote = record {
-  wide = length-set words (index_of start did.at) x ∙ wide;
-  spelled = spelled-still start words did.at x wide l same plain;
-  at = l;
-  found = found;
-  wrote = subst (λ o. IsFoundAt o (index_of start did.at) (slice_set words (index_of start did.at) x)) (sym wrote) (stands-there start words did.at x wide l);
-}
+word-left start words did x wide plain l same found wrote =
+    search (
+      rules,
+      length-set words (index_of start did.at) x ∙ wide,
+      spelled-still start words did.at x wide l same plain,
+      subst (λ o. IsFoundAt o (index_of start did.at) (slice_set words (index_of start did.at) x)) (sym wrote) (stands-there start words did.at x wide l),
+    )

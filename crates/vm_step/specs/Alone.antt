@@ -1,9 +1,8 @@
 -- A pass that is alone knows the whole table: what a run of its steps leaves of the table as it knows it.
 use Rattle.std.specs.Prelude.{[], ◌++◌, ◌<◌, ◌∷◌, ◌≡◌, ◌⊎◌, false, length, List, None, slice_index, true, ℕ}
 use Rattle.vm_core.specs.Prelude.{EVICTED, MARKED, state_of, UNLOCKED}
+use Rattle.vm_rule.specs.{declared.view.Did.Did, declared.view.Origin.Origin, declared.view.Place.Place, declared.view.Release.Release, declared.view.View.View}
 use Rattle.vm_rule.specs.Prelude.{Each, index_of, IsFoundAt, IsWhole, seat_of, set_if, width, Within}
-use Rattle.vm_rule.specs.{declared.view.Did.Did, declared.view.Origin.Origin, declared.view.Place.Place, declared.view.Release.Release}
-use Rattle.vm_rule.specs.{declared.view.View.View}
 use Rattle.vm_rule.specs.declared.view.Place.TheVariants as places
 use Rattle.vm_step.specs.Evidence.{HasWritten}
 

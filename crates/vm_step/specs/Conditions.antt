@@ -1,7 +1,6 @@
 -- What a pass must know before a step of several kinds: conditions over its own view alone. Those of one kind stand with the kind, in specs/steps.
 use Rattle.std.specs.Prelude.{◌≡◌, ◌≢◌, Some, ℕ}
-use Rattle.vm_rule.specs.Prelude.{no_held, put_at}
-use Rattle.vm_rule.specs.{declared.view.Out.Out, declared.view.View.View}
+use Rattle.vm_rule.specs.{declared.view.Out.Out, declared.view.View.View, Prelude.no_held, Prelude.put_at}
 
 module _ {X : Type 0} where
   -- the block of page p is not out with the pass

@@ -1,10 +1,9 @@
 -- A step of the table is an event of the core.
 use Rattle.std.specs.Prelude.{◌==◌, ◌≡◌, Bool, if◌then◌else◌, List, Option, slice_index, slice_set, true, ℕ}
-use Rattle.vm_core.specs.Prelude.{after_event, get_elem?, Legal, seen, some}
-use Rattle.vm_core.specs.declared.event.Seen.{Seen}
+use Rattle.vm_core.specs.{declared.event.Seen.Seen, Prelude.after_event, Prelude.get_elem?, Prelude.Legal, Prelude.seen, Prelude.some}
 use Rattle.vm_core.specs.declared.event.Seen.TheVariants as sights
-use Rattle.vm_rule.specs.Prelude.{core_shown, Event, index_of, Kept, Ruled, Start, Stored, Table, Within}
 use Rattle.vm_rule.specs.{declared.view.Origin.Origin, declared.view.Place.Place, declared.view.View.View}
+use Rattle.vm_rule.specs.Prelude.{core_shown, Event, index_of, Kept, Ruled, Start, Stored, Table, Within}
 
 -- an exchange at a word: it leaves the new number where it found the one expected, and sees whether it did
 abbrev pub exchanged : List ℕ → ℕ → ℕ → ℕ → ℕ → List ℕ

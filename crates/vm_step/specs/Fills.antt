@@ -1,7 +1,6 @@
 -- Words that are stored into a frame of the pass, one after the other.
 use Rattle.std.specs.Prelude.{[], ◌+◌, ◌∷◌, ◌≡◌, List, ℕ}
-use Rattle.vm_rule.specs.Prelude.{FillTold}
-use Rattle.vm_rule.specs.declared.view.View.{View}
+use Rattle.vm_rule.specs.{declared.view.View.View, Prelude.FillTold}
 
 module _ {X : Type 0} where
   -- stores of these words into frame f, from word i on, led from v to w

@@ -1,7 +1,6 @@
 -- Frames that a pass holds.
 use Rattle.std.specs.Prelude.{◌<◌, ◌≡◌, List, true, ℕ}
-use Rattle.vm_rule.specs.Prelude.{AreApart, Each, has}
-use Rattle.vm_rule.specs.declared.view.View.{View}
+use Rattle.vm_rule.specs.{declared.view.View.View, Prelude.AreApart, Prelude.Each, Prelude.has}
 
 module _ {X : Type 0} where
   -- these are frames of the table, each once, which the pass holds

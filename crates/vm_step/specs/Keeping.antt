@@ -1,9 +1,8 @@
 -- What a step tells of the layer above: at the step it keeps its relation, and its history is the one that the pass has seen then.
 use Rattle.std.specs.Prelude.{◌<◌, ◌≡◌, ◌≤◌, length, replicate, true, ℕ}
 use Rattle.vm_core.specs.Prelude.{page_at, WORDS}
-use Rattle.vm_rule.specs.Prelude.{began_of, draft_of, has, Kept, last_of, Start}
+use Rattle.vm_rule.specs.{declared.view.View.View, Prelude.began_of, Prelude.draft_of, Prelude.has, Prelude.Kept, Prelude.last_of, Prelude.Start}
 use Rattle.vm_rule.specs.declared.view.Place.TheVariants as places
-use Rattle.vm_rule.specs.declared.view.View.{View}
 use Rattle.vm_step.specs.Alone.{IsAlone, known_word_at}
 
 module _ {X : Type 0} where

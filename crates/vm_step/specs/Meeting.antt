@@ -1,6 +1,5 @@
 -- Two passes that meet: what the step tells by which one takes over what it was told, and what both have afterwards.
-use Rattle.vm_rule.specs.Prelude.{CaughtUp, hearer, TakesOver}
-use Rattle.vm_rule.specs.declared.view.View.{View}
+use Rattle.vm_rule.specs.{declared.view.View.View, Prelude.CaughtUp, Prelude.hearer, Prelude.TakesOver}
 
 module _ {X : Type 0} where
   -- The passes with the views v and w met, and have the views x and y: the first was told what the second had seen of the two lists, and was brought

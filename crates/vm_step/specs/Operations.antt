@@ -2,9 +2,8 @@
 -- says the second for itself: of the number found (at a store, the number stored), of the pass's view before, and of its view afterwards.
 use Rattle.std.specs.Prelude.{[], ◌+◌, ◌≡◌, ◌≤◌, Bool, true, ℕ}
 use Rattle.vm_core.specs.Prelude.{WORDS}
-use Rattle.vm_rule.specs.Prelude.{Allows, HasShape, index_of, Me, Sound, Step, Table}
-use Rattle.vm_rule.specs.declared.view.Place.TheVariants.{Content}
-use Rattle.vm_rule.specs.{declared.view.Origin.Origin, declared.view.Place.Place, declared.view.Shape.Shape, declared.view.View.View}
+use Rattle.vm_rule.specs.{declared.view.Origin.Origin, declared.view.Place.Place, declared.view.Place.TheVariants.Content, declared.view.Shape.Shape}
+use Rattle.vm_rule.specs.{declared.view.View.View, Prelude.Allows, Prelude.HasShape, Prelude.index_of, Prelude.Me, Prelude.Sound, Prelude.Step, Prelude.Table}
 
 module _ {X : Type 0} where
   -- the pass is one of a table of this shape, with blocks that tell their words or do not

@@ -1,7 +1,6 @@
 -- What a pass that was alone knows of the table's words after a call.
 use Rattle.std.specs.Prelude.{◌<◌, ◌≡◌, length, ℕ}
-use Rattle.vm_rule.specs.Prelude.{index_of, Within}
-use Rattle.vm_rule.specs.{declared.view.Place.Place, declared.view.View.View}
+use Rattle.vm_rule.specs.{declared.view.Place.Place, declared.view.View.View, Prelude.index_of, Prelude.Within}
 use Rattle.vm_step.specs.Alone.{IsAlone, known_word_at}
 
 module _ {X : Type 0} where

@@ -4,8 +4,7 @@ use Rattle.vm_core.specs.declared.event.Event.TheVariants.{NLoad}
 use Rattle.vm_core.specs.declared.event.Seen.TheVariants as sights
 use Rattle.vm_rule.specs.Prelude.{CaughtUp, Kept, Start, Stored, Table}
 use Rattle.vm_rule.specs.declared.view.Place.TheVariants as places
-use Rattle.vm_step.specs.Prelude.{IsEvent, IsPassOf, Origin, table_after, View}
-use Rattle.vm_step.specs.Events.{FindsAt}
+use Rattle.vm_step.specs.{Events.FindsAt, Prelude.IsEvent, Prelude.IsPassOf, Prelude.Origin, Prelude.table_after, Prelude.View}
 
 module _ {X B : Type 0} (stored : B → Stored) (keeps : Start → Kept X → Type 0) (tied : Start → ℕ → List ℕ → ℕ → List ℕ → Type 0) (tells : Bool) where
   -- the load by which a pass is brought up to date sees the next word

@@ -1,12 +1,10 @@
 -- A load or a store of a word of a frame: their events. `LoadTold` stands in vm_rule/specs/Loads, `StoresTold` and `PassMayStore` in vm_rule/specs/Stores.
 use Rattle.std.specs.Prelude.{◌<◌, ◌≡◌, Bool, List, Option, slice_set, Some, true, ℕ}
-use Rattle.vm_core.specs.Prelude.{WORDS}
-use Rattle.vm_core.specs.declared.event.Event.TheVariants.{Load, Store}
+use Rattle.vm_core.specs.{declared.event.Event.TheVariants.Load, declared.event.Event.TheVariants.Store, Prelude.WORDS}
 use Rattle.vm_core.specs.declared.event.Seen.TheVariants as sights
 use Rattle.vm_rule.specs.Prelude.{Drafts, FillTold, frame_read_by, has, index_of, Kept, LoadTold, Start, Stored, StoreTold, Table}
 use Rattle.vm_rule.specs.declared.view.Place.TheVariants as places
-use Rattle.vm_step.specs.Prelude.{IsEvent, IsPassOf, Origin, table_after, View}
-use Rattle.vm_step.specs.Events.{FindsAt}
+use Rattle.vm_step.specs.{Events.FindsAt, Prelude.IsEvent, Prelude.IsPassOf, Prelude.Origin, Prelude.table_after, Prelude.View}
 
 module _ {X B : Type 0} (stored : B → Stored) (keeps : Start → Kept X → Type 0) (tied : Start → ℕ → List ℕ → ℕ → List ℕ → Type 0) (tells : Bool) where
   -- a load of a word of a page's frame sees the word

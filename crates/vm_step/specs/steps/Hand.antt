@@ -1,12 +1,10 @@
 -- The clock's hand that is moved on: its event. What it tells, `HandTold`, stands in vm_rule/specs/Bundles.
 use Rattle.std.specs.Prelude.{Bool, List, Option, slice_set, ℕ}
-use Rattle.vm_core.specs.Prelude.{hand_more}
-use Rattle.vm_core.specs.declared.event.Event.TheVariants.{Hand}
+use Rattle.vm_core.specs.{declared.event.Event.TheVariants.Hand, Prelude.hand_more}
 use Rattle.vm_core.specs.declared.event.Seen.TheVariants as sights
 use Rattle.vm_rule.specs.Prelude.{HandTold, index_of, Kept, Start, Stored, Table}
 use Rattle.vm_rule.specs.declared.view.Place.TheVariants as places
-use Rattle.vm_step.specs.Prelude.{IsEvent, IsPassOf, Origin, table_after, View}
-use Rattle.vm_step.specs.Events.{FindsAt}
+use Rattle.vm_step.specs.{Events.FindsAt, Prelude.IsEvent, Prelude.IsPassOf, Prelude.Origin, Prelude.table_after, Prelude.View}
 
 module _ {X B : Type 0} (stored : B → Stored) (keeps : Start → Kept X → Type 0) (tied : Start → ℕ → List ℕ → ℕ → List ℕ → Type 0) (tells : Bool) where
   -- a move of the hand sees where it was

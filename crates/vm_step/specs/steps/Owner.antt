@@ -5,8 +5,7 @@ use Rattle.vm_core.specs.declared.event.Event.TheVariants.{Disown, OLoad, Own}
 use Rattle.vm_core.specs.declared.event.Seen.TheVariants as sights
 use Rattle.vm_rule.specs.Prelude.{Brings, did_load, did_store, Event, held_at, index_of, Kept, put, StandsIn, Start, Stored, Table}
 use Rattle.vm_rule.specs.declared.view.Place.TheVariants as places
-use Rattle.vm_step.specs.Prelude.{IsEvent, IsPassOf, Origin, table_after, View}
-use Rattle.vm_step.specs.Events.{FindsAt}
+use Rattle.vm_step.specs.{Events.FindsAt, Prelude.IsEvent, Prelude.IsPassOf, Prelude.Origin, Prelude.table_after, Prelude.View}
 
 module _ {X : Type 0} where
   -- the pass knows this of the owner word of page p's frame

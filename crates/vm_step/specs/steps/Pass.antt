@@ -1,12 +1,10 @@
 -- Passes that are split, joined, or meet: their events, and what is none. What they tell stands in vm_rule/specs/Joins and Hearing, and in specs/NoEvents.
 use Rattle.std.specs.Prelude.{[], ◌<◌, ◌≡◌, ◌≢◌, Bool, length, List, Option, true, ℕ}
-use Rattle.vm_core.specs.Prelude.{get_elem?, some}
-use Rattle.vm_core.specs.declared.event.Event.TheVariants.{NLoad}
+use Rattle.vm_core.specs.{declared.event.Event.TheVariants.NLoad, Prelude.get_elem?, Prelude.some}
 use Rattle.vm_core.specs.declared.event.Seen.TheVariants as sights
 use Rattle.vm_rule.specs.Prelude.{HoldsNoPage, Kept, OnlyKnows, Start, Stored, Table, TakesOver}
 use Rattle.vm_rule.specs.declared.view.Place.TheVariants as places
-use Rattle.vm_step.specs.Prelude.{IsEvent, IsPassOf, Origin, table_after, View}
-use Rattle.vm_step.specs.Events.{FindsAt}
+use Rattle.vm_step.specs.{Events.FindsAt, Prelude.IsEvent, Prelude.IsPassOf, Prelude.Origin, Prelude.table_after, Prelude.View}
 use Rattle.vm_step.specs.NoEvents.{IsSplitOff, IsTakenIn, table_heard, table_joined, table_split}
 
 module _ {X B : Type 0} (stored : B → Stored) (keeps : Start → Kept X → Type 0) (tied : Start → ℕ → List ℕ → ℕ → List ℕ → Type 0) (tells : Bool) where
