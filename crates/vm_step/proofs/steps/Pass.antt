@@ -1,17 +1,16 @@
 -- Passes that are split, joined, or told by one another: that the table allows it, what the load behind it tells, and that it is no event.
 use Rattle.vm_owner.proofs.NumberLemmas.{has-both}
 use Rattle.vm_rule.specs.declared.view.Place.TheVariants as places
-use Rattle.vm_step.proofs.Prelude.{[], AllowsStep, ap, append-none, arith, at, at-first, at-neither, at-past, at-second, at-there, block-same}
-use Rattle.vm_step.proofs.Prelude.{block_of, Bool, cases_Bool, cases_eq, cases_lt, CaughtUp, core_shown, did_load, entries-both, entries-within}
-use Rattle.vm_step.proofs.Prelude.{entries_by, false, follower, follows-ruled, frames_held, fun_ext, get_elem?, giver, has, has-left, has-right}
-use Rattle.vm_step.proofs.Prelude.{HasNone, hearer, Hears, hears-past, hears-ruled, histories_of, HoldsNoPage, HoldsNothing, if◌then◌else◌, index_of}
-use Rattle.vm_step.proofs.Prelude.{inl, IsPassOf, IsPlacedAt, IsSplitOff, IsTakenIn, joined, Joins, joins-past, joins-ruled, JoinTold, Kept}
-use Rattle.vm_step.proofs.Prelude.{knows_more, length, length-append, length-set, List, loads_at, loads_of, newcomer, no_seat, None, once-second}
-use Rattle.vm_step.proofs.Prelude.{OnlyKnows, Option, Origin, outside_page, Page, page-in, page-out, page_from, pages_from, refl, Ruled, same-field}
-use Rattle.vm_step.proofs.Prelude.{seat_of, seats_of, set_else, settled-blocks, Shape, slice_index, slice_set, some, spent, split-resettles}
-use Rattle.vm_step.proofs.Prelude.{split-views, Splits, splits-past, splits-ruled, Stands, Start, StartsWith, Stored, subst, sym, Table, table_heard}
-use Rattle.vm_step.proofs.Prelude.{table_joined, table_split, table_words, taken_in, TakesOver, told_of, true, twice, upd, upd-other, upd-same}
-use Rattle.vm_step.proofs.Prelude.{upd-self, View, with_actor, World, world_of, ℕ, ⊎_elim, ◌++◌, ◌+◌, ◌<◌, ◌||◌, ◌∙◌, ◌≡◌, ◌≢◌}
+use Rattle.vm_step.proofs.Prelude.{[], AllowsStep, ap, append-none, arith, at, at-first, at-neither, at-past, at-second, at-there, block-same, block_of, Bool}
+use Rattle.vm_step.proofs.Prelude.{cases_Bool, cases_lt, CaughtUp, core_shown, did_load, each-upd, entries-both, entries-within, entries_by, false, follower}
+use Rattle.vm_step.proofs.Prelude.{follows-ruled, frames_held, fun_ext, get_elem?, giver, has, has-left, has-right, HasNone, hearer, Hears, hears-past}
+use Rattle.vm_step.proofs.Prelude.{hears-ruled, histories_of, HoldsNoPage, HoldsNothing, if◌then◌else◌, index_of, inl, IsPassOf, IsPlacedAt, IsSplitOff}
+use Rattle.vm_step.proofs.Prelude.{IsTakenIn, joined, Joins, joins-past, joins-ruled, JoinTold, Kept, knows_more, length, length-append, length-set, List}
+use Rattle.vm_step.proofs.Prelude.{loads_at, loads_of, newcomer, no_seat, None, once-second, OnlyKnows, Option, Origin, outside_page, Page, page-in, page-out}
+use Rattle.vm_step.proofs.Prelude.{page_from, pages_from, refl, Ruled, same-field, seat_of, seats_of, set_else, settled-blocks, Shape, slice_index, slice_set}
+use Rattle.vm_step.proofs.Prelude.{some, spent, split-resettles, split-views, Splits, splits-past, splits-ruled, Stands, Start, StartsWith, Stored, subst, sym}
+use Rattle.vm_step.proofs.Prelude.{Table, table_heard, table_joined, table_split, table_words, taken_in, TakesOver, told_of, true, twice, upd, upd-self, View}
+use Rattle.vm_step.proofs.Prelude.{with_actor, World, world_of, ℕ, ⊎_elim, ◌++◌, ◌+◌, ◌<◌, ◌||◌, ◌∙◌, ◌≡◌, ◌≢◌}
 use Rattle.vm_step.proofs.Standing.{allows-load, born}
 
 module _ {X B : Type 0} (stored : B → Stored) (keeps : Start → Kept X → Type 0) (tied : Start → ℕ → List ℕ → ℕ → List ℕ → Type 0) (shape : Shape) (tells : Bool) where
@@ -141,18 +140,18 @@ module _ {X B : Type 0} (stored : B → Stored) (keeps : Start → Kept X → Ty
     here : at spent both' id ≡ took
     here = at-first s.views id other v w took spent is.there apart at-other
 
-    -- a field of the views, of which a spent one has this, and the one that takes in another has what it had
-    field-taken : {A : Type 0} (f : View X → A) (none : A) → f spent ≡ none → f took ≡ f v → (λ a. f (at spent both' a)) ≡ upd (λ a. f (at spent s.views a)) other none
-    field-taken f none nothing same =
-        fun_ext (λ a. ⊎_elim
-        (λ (e : a ≡ other). ap (λ n. f (at spent both' n)) e ∙ ap f (at-second s.views id other v w took spent is.there apart at-other) ∙ nothing ∙ sym (ap (upd (λ n. f (at spent s.views n)) other none) e ∙ upd-same (λ n. f (at spent s.views n)) other none))
-        (λ (m : a ≢ other).
-        ⊎_elim
-        (λ (e : a ≡ id). ap (λ n. f (at spent both' n)) e ∙ ap f here ∙ same ∙ sym (ap (λ n. f (at spent s.views n)) e ∙ ap f (at-there spent s.views id v is.there)))
-        (λ (n : a ≢ id). ap f ((at-neither s.views id other v w took spent is.there apart at-other) a n m))
-        (cases_eq a id)
-        ∙ sym (upd-other (λ n. f (at spent s.views n)) other none a m))
-        (cases_eq a other))
+    -- a field of the views, of which a spent one has `none`, and the one that takes in another has `own`
+    field-taken : {A : Type 0} (f : View X → A) (none own : A) → f spent ≡ none → f took ≡ own → (λ a. f (at spent both' a)) ≡ upd (upd (λ a. f (at spent s.views a)) id own) other none
+    field-taken f none own nothing same =
+        fun_ext (each-upd (λ a y. f (at spent both' a) ≡ y) (upd (λ a. f (at spent s.views a)) id own) other none
+        (ap f (at-second s.views id other v w took spent is.there apart at-other) ∙ nothing)
+        (λ a. each-upd (λ b y. b ≢ other → f (at spent both' b) ≡ y) (λ b. f (at spent s.views b)) id own (λ _. ap f here ∙ same) (λ b n m. ap f (at-neither s.views id other v w took spent is.there apart at-other b n m)) a))
+
+    -- one of which it has what it had
+    field-kept : {A : Type 0} (f : View X → A) (none : A) → f spent ≡ none → f took ≡ f v → (λ a. f (at spent both' a)) ≡ upd (λ a. f (at spent s.views a)) other none
+    field-kept f none nothing same =
+        field-taken f none (f (at spent s.views id)) nothing (same ∙ ap f (sym (at-there spent s.views id v is.there)))
+        ∙ ap (λ g. upd g other none) (upd-self (λ a. f (at spent s.views a)) id)
 
     blocks-stay : block_of stored s.homes both' ≡ block_of stored s.homes s.views
     blocks-stay =
@@ -163,42 +162,20 @@ module _ {X B : Type 0} (stored : B → Stored) (keeps : Start → Kept X → Ty
     pages-taken = fun_ext (λ p. ⊎_elim
         (λ l.
         page-in start.pages (table_words start s.words) (block_of stored s.homes both') (seats_of both') p l
-        ∙ (λ i. record (page_from (table_words start s.words) (blocks-stay i) (seats_of s.views) p) { seats = field-taken (λ y. seat_of y p) no_seat refl (seats p) i })
+        ∙ (λ i. record (page_from (table_words start s.words) (blocks-stay i) (seats_of s.views) p) { seats = field-kept (λ y. seat_of y p) no_seat refl (seats p) i })
         ∙ sym (ap (λ (y : Page). record y { seats = upd y.seats other no_seat }) (page-in start.pages (table_words start s.words) (block_of stored s.homes s.views) (seats_of s.views) p l)))
         (λ le.
         page-out start.pages (table_words start s.words) (block_of stored s.homes both') (seats_of both') p le
         ∙ sym (ap (λ (y : Page). record y { seats = upd y.seats other no_seat }) (page-out start.pages (table_words start s.words) (block_of stored s.homes s.views) (seats_of s.views) p le) ∙ (λ i. record outside_page { seats = (upd-self (λ (_ : ℕ). no_seat) other) i })))
         (cases_lt p start.pages))
 
-    -- the frames of both, and none
-    abbrev two : ℕ → Bool
-    two f = frames_held s.views other f || frames_held s.views id f
-
-    abbrev none : ℕ → Bool
-    none f = false
-
     held-taken : frames_held both' ≡ upd (upd (frames_held s.views) id (λ f. frames_held s.views other f || frames_held s.views id f)) other (λ f. false)
-    held-taken = fun_ext (λ a. ⊎_elim
-        (λ (e : a ≡ other).
-        ap (frames_held both') e
-        ∙ ap (λ (y : View X). (λ f. has f y.frames)) (at-second s.views id other v w took spent is.there apart at-other)
-        ∙ sym (ap (upd (upd (frames_held s.views) id two) other none) e ∙ upd-same (upd (frames_held s.views) id two) other none))
-        (λ (m : a ≢ other).
-        ⊎_elim
-        (λ (e : a ≡ id).
-        ap (frames_held both') e
-        ∙ ap (λ (y : View X). (λ f. has f y.frames)) here
-        ∙ fun_ext (λ f. frames f ∙ (λ i. has f (sym (at-there spent s.views other w at-other) i).frames || has f (sym (at-there spent s.views id v is.there) i).frames))
-        ∙ sym (ap (upd (frames_held s.views) id two) e ∙ upd-same (frames_held s.views) id two))
-        (λ (n : a ≢ id).
-        ap (λ (y : View X). (λ f. has f y.frames)) ((at-neither s.views id other v w took spent is.there apart at-other) a n m)
-        ∙ sym (upd-other (frames_held s.views) id two a n))
-        (cases_eq a id)
-        ∙ sym (upd-other (upd (frames_held s.views) id two) other none a m))
-        (cases_eq a other))
+    held-taken =
+        field-taken (λ y f. has f y.frames) (λ f. false) (λ f. frames_held s.views other f || frames_held s.views id f) refl
+        (fun_ext (λ f. frames f ∙ (λ i. has f (sym (at-there spent s.views other w at-other) i).frames || has f (sym (at-there spent s.views id v is.there) i).frames)))
 
     loads-taken : loads_of both' ≡ (λ p. upd (loads_of s.views p) other [])
-    loads-taken = fun_ext (λ p. field-taken (λ y. loads_at y p) [] refl (loads p))
+    loads-taken = fun_ext (λ p. field-kept (λ y. loads_at y p) [] refl (loads p))
 
     taken-world : world_of stored start r.releases r.drafts (record { words = s.words; homes = s.homes; views = both' }) ≡ taken_in id other before
     taken-world i = record {
