@@ -7,16 +7,16 @@ use Rattle.vm_core.specs.declared.event.Seen.TheVariants as sights
 use Rattle.vm_rule.specs.declared.view.Place.TheVariants as places
 use Rattle.vm_step.proofs.{Here.is-of, Standing.allows-any, steps.Raise.count-known, steps.Raise.raise-legal}
 use Rattle.vm_step.proofs.Prelude.{[], Allows, ap, arith, at-bound, at-there, block-here, block_of, Bool, BringsWith, brought_to, called, cases_Bool}
-use Rattle.vm_step.proofs.Prelude.{core_shown, count_more, DeviceDid, Did, did_load, empty_play, Entry, false, gives, HasShape, held_at, home_view}
-use Rattle.vm_step.proofs.Prelude.{index_of, inl, inr, IsCall, IsEvent, IsHome, IsOf, IsPassOf, IsPlacedAt, IsSome, Kept, length, lift_play, List}
-use Rattle.vm_step.proofs.Prelude.{LOCKED, may_call, MayBring, MayRaise, MayTakeOut, Me, NamesActorAndPage, None, on_page, Option, Origin, Out}
-use Rattle.vm_step.proofs.Prelude.{out_at, out_view, Page, put_back, Raise, raise-step, RaiseTold, Read, refl, Release, rest, return_play, ReturnTold}
-use Rattle.vm_step.proofs.Prelude.{RFail, Ruled, same-word, seat-here, seat_of, Shape, shared-here, ShiftTold, ShowsBut, ShowsSame, slice_index}
-use Rattle.vm_step.proofs.Prelude.{slice_set, slot_play, SlotTold, Some, some, some-same, Sound, Stands, Start, State, Step, step, Stored, subst, sym}
-use Rattle.vm_step.proofs.Prelude.{Table, table_after, taken_from, true, upd, upd-is, upd-other, upd-same, upd-self, View, WFail, with_block}
-use Rattle.vm_step.proofs.Prelude.{words_held, World, Write, written, ℕ, ⊎_elim, ◌<◌, ◌∙◌, ◌∷◌, ◌≡◌, ◌≤◌, ◌⊎◌}
+use Rattle.vm_step.proofs.Prelude.{core_shown, count_more, DeviceDid, Did, did_load, empty_play, Entry, false, gives, HasShape, held_at, home_view, index_of}
+use Rattle.vm_step.proofs.Prelude.{inl, inr, IsCall, IsEvent, IsHome, IsOf, IsPassOf, IsPlacedAt, IsSome, Kept, length, lift_play, List, LOCKED, may_call}
+use Rattle.vm_step.proofs.Prelude.{MayBring, MayRaise, MayTakeOut, Me, NamesActorAndPage, None, on_page, Option, Origin, Out, out_at, out_view, Page, put_back}
+use Rattle.vm_step.proofs.Prelude.{Raise, raise-step, RaiseTold, Read, refl, Release, rest, return_play, ReturnTold, RFail, Ruled, same-word, seat-here}
+use Rattle.vm_step.proofs.Prelude.{seat_of, Shape, shared-here, ShiftTold, ShowsBut, ShowsSame, slice_index, slice_set, slot_play, SlotTold, Some, some}
+use Rattle.vm_step.proofs.Prelude.{some-same, Sound, Stands, Start, State, Step, step, Stored, subst, sym, Table, table_after, taken_from, true, upd, upd-is}
+use Rattle.vm_step.proofs.Prelude.{upd-other, upd-same, upd-self, View, WFail, with_block, words_held, Write, written, ℕ, ⊎_elim, ◌<◌, ◌∙◌, ◌∷◌, ◌≡◌, ◌≤◌, ◌⊎◌}
 use Rattle.vm_step.proofs.Slots.{at-home, block-out-is, core-home, core-slots, did-stays, get-at, has-share, home-after, may-call, returns-home}
 use Rattle.vm_step.proofs.Slots.{shifted-blocks, shifts-slot, slot-view, taken-blocks, takes-slot, written-held}
+use Rattle.vm_step.proofs.steps.Event.{is-event}
 
 -- one block is out at a page
 pub one-out : (p : ℕ) (moving : Bool) (o : Option Out) (b c : Stored) → o ≡ Some (out_at p moving b) → o ≡ Some (out_at p moving c) → b ≡ c
@@ -252,13 +252,10 @@ module _ {X B : Type 0} (stored : B → Stored) (start : Origin) (keeps : Start 
       → IsEvent stored start s (table_after s (slice_set s.words (index_of start (places.Fault p)) count) id w) (Raise id p) sights.Done
   raise-event count v w pass l may told =
       let view = told.brings.view in
-      record {
-        legal = raise-legal stored keeps tied start tells s pass.rule id v pass.there pass.live p l may.calls;
-        core = ap (λ (x : World). x.core)
-            (raise-step stored start s pass.rule.releases pass.rule.drafts id v w p count pass.rule.wide.0 l pass.there (ap (λ (y : View X). y.out) view) (ap (λ (y : View X). y.frames) view) (ap (λ (y : View X). y.seats) view) (ap (λ (y : View X). y.loads) view)
-            (count-known stored keeps tied start tells s pass.rule id v pass.there pass.live p count may));
-        sees = refl;
-      }
+      is-event (raise-legal stored keeps tied start tells s pass.rule id v pass.there pass.live p l may.calls)
+      (raise-step stored start s [] (λ _. []) id v w p count pass.rule.wide.0 l pass.there (ap (λ (y : View X). y.out) view) (ap (λ (y : View X). y.frames) view) (ap (λ (y : View X). y.seats) view) (ap (λ (y : View X). y.loads) view)
+      (count-known stored keeps tied start tells s pass.rule id v pass.there pass.live p count may))
+      refl
 
   -- ---- moves that change no block
 

@@ -7,15 +7,16 @@ use Rattle.vm_core.specs.declared.event.Seen.TheVariants as sights
 use Rattle.vm_rule.specs.declared.view.Place.TheVariants as places
 use Rattle.vm_step.proofs.{Exchange.exchange-tells, Exchange.tried-event, Fit.either-lives, Fit.fit, Here.world, Quiet.held-shows, Standing.allows}
 use Rattle.vm_step.proofs.{Standing.allows-load, Written.word-left}
-use Rattle.vm_step.proofs.Prelude.{[], after_event, after_step, AllowsStep, ap, arith, at-bound, bit_and, bit_or, bit_xor, BLoad, BloadIsItsEvent}
-use Rattle.vm_step.proofs.Prelude.{Bool, bundle-here, BundleTold, cases_Bool, core-still, core_shown, Did, did_change, did_exchange, did_load, either}
-use Rattle.vm_step.proofs.Prelude.{either-way, eqb, false, frames_in, get_elem?, Give, give-step, GiveIsItsEvent, given-bits, given_view, GiveTold}
-use Rattle.vm_step.proofs.Prelude.{Hand, hand-here, hand-step, hand_more, HandIsItsEvent, HandTold, has, has-both, has-frames_in, has-without_all}
-use Rattle.vm_step.proofs.Prelude.{held-here, if◌then◌else◌, in_mask, index_of, IsMaskOf, IsPlacedAt, Kept, KnowsPage, Legal, length, List, lost-take}
-use Rattle.vm_step.proofs.Prelude.{NamesBundle, no_held, None, Option, Origin, PassMayGive, put_at, refl, rested, Ruled, seat_of, Seen, Shape, Shows}
-use Rattle.vm_step.proofs.Prelude.{slice_index, slice_set, Some, some, Stands, Start, State, steps, Stored, subst, sym, Table, Take, take-step}
-use Rattle.vm_step.proofs.Prelude.{TakeIsItsEvent, taken, taken-frames, taken_view, TakeTold, told_of, true, View, with_contents-at, Within}
-use Rattle.vm_step.proofs.Prelude.{without_all, World, world_of, ℕ, ⊎_elim, ◌%◌, ◌*◌, ◌++◌, ◌+◌, ◌<◌, ◌^◌, ◌||◌, ◌∙◌, ◌≡◌}
+use Rattle.vm_step.proofs.Prelude.{[], after_event, after_step, AllowsStep, ap, arith, at-bound, bit_and, bit_or, bit_xor, BLoad, BloadIsItsEvent, Bool}
+use Rattle.vm_step.proofs.Prelude.{bundle-here, BundleTold, cases_Bool, core-still, core_shown, Did, did_change, did_exchange, did_load, either, either-way}
+use Rattle.vm_step.proofs.Prelude.{eqb, false, frames_in, get_elem?, Give, give-step, GiveIsItsEvent, given-bits, given_view, GiveTold, Hand, hand-here}
+use Rattle.vm_step.proofs.Prelude.{hand-step, hand_more, HandIsItsEvent, HandTold, has, has-both, has-frames_in, has-without_all, held-here, if◌then◌else◌}
+use Rattle.vm_step.proofs.Prelude.{in_mask, index_of, IsMaskOf, IsPlacedAt, Kept, KnowsPage, Legal, length, List, lost-take, NamesBundle, no_held, None, Option}
+use Rattle.vm_step.proofs.Prelude.{Origin, PassMayGive, put_at, refl, rested, Ruled, seat_of, Seen, Shape, Shows, slice_index, slice_set, Some, some, Stands}
+use Rattle.vm_step.proofs.Prelude.{Start, State, steps, Stored, subst, sym, Table, Take, take-step, TakeIsItsEvent, taken, taken-frames, taken_view, TakeTold}
+use Rattle.vm_step.proofs.Prelude.{told_of, true, View, with_contents-at, Within, without_all, World, world_of, ℕ, ⊎_elim, ◌%◌, ◌*◌, ◌++◌, ◌+◌, ◌<◌, ◌^◌, ◌||◌}
+use Rattle.vm_step.proofs.Prelude.{◌∙◌, ◌≡◌}
+use Rattle.vm_step.proofs.steps.Event.{is-event}
 
 pub bundle-within : (start : Origin) (g : ℕ) → g * 64 < start.frames → Within start (places.Bundle g)
 bundle-within start g l = omega (arith, l)
@@ -69,11 +70,11 @@ module _ {X B : Type 0} (stored : B → Stored) (keeps : Start → Kept X → Ty
         (λ q m x at. (r.known id v there live).owners q m x at ∙ sym (ap (λ (c : State). c.owners m.frame) core))
         (λ f e. take-contents f e ∙ sym (ap (λ (c : State). c.words f) core))
 
-module _ {X B : Type 0} (stored : B → Stored) (keeps : Start → Kept X → Type 0) (tied : Start → ℕ → List ℕ → ℕ → List ℕ → Type 0) (shape : Shape) (tells : Bool) where
+module _ {X B : Type 0} (stored : B → Stored) (keeps : Start → Kept X → Type 0) (tied : Start → ℕ → List ℕ → ℕ → List ℕ → Type 0) (tells : Bool) where
   -- a load keeps the rule of every table and tells what it is to tell
-  pub bload-allows : (slots id : ℕ) (v : View X) (i : ℕ) (g : ℕ) → v.live ≡ true → 0 < length v.used → g * 64 < shape.frames → IsPlacedAt shape (places.Bundle g) i
+  pub bload-allows : (shape : Shape) (slots id : ℕ) (v : View X) (i : ℕ) (g : ℕ) → v.live ≡ true → 0 < length v.used → g * 64 < shape.frames → IsPlacedAt shape (places.Bundle g) i
       → AllowsStep (Stands stored keeps tied shape tells) slots id v i (λ n. n) (told_of shape tells (BundleTold g))
-  bload-allows slots id v i g live number l' is =
+  bload-allows shape slots id v i g live number l' is =
       allows-load stored keeps tied shape tells slots id v i (places.Bundle g) (BundleTold g) live is (λ n w t. fit t.brings live)
       (λ start has s r there.
       let l : g * 64 < start.frames = subst (λ n. g * 64 < n) (sym has.frames) l' in
@@ -81,9 +82,9 @@ module _ {X B : Type 0} (stored : B → Stored) (keeps : Start → Kept X → Ty
       (_, k.0, record { brings = k.1 }))
 
   -- taken or lost, so does a take: a frame that was taken was free
-  pub take-allows : (slots id : ℕ) (v : View X) (i : ℕ) (g expects mask : ℕ) → v.live ≡ true → 0 < length v.used → g * 64 < shape.frames → IsMaskOf expects mask → IsPlacedAt shape (places.Bundle g) i
+  pub take-allows : (shape : Shape) (slots id : ℕ) (v : View X) (i : ℕ) (g expects mask : ℕ) → v.live ≡ true → 0 < length v.used → g * 64 < shape.frames → IsMaskOf expects mask → IsPlacedAt shape (places.Bundle g) i
       → AllowsStep (Stands stored keeps tied shape tells) slots id v i (λ n. either (eqb n expects) (bit_xor expects mask) n) (told_of shape tells (TakeTold g expects mask))
-  take-allows slots id v i g expects mask live number l' may is =
+  take-allows shape slots id v i g expects mask live number l' may is =
       allows stored keeps tied shape tells slots id v i (places.Bundle g) (λ n. either (eqb n expects) (bit_xor expects mask) n) (λ n. either (eqb n expects) (bit_xor expects mask) n) (TakeTold g expects mask) live is (λ n. refl) (λ n w t. fit t.brings (either-lives _ _ v live live))
       (λ start has s r there _.
       let l : g * 64 < start.frames = subst (λ n. g * 64 < n) (sym has.frames) l' in
@@ -141,11 +142,11 @@ hand-adds : (n : ℕ) → (n + 64) % 18446744073709551616 ≡ hand_more n
 unfolding hand_more
 hand-adds n = refl
 
-module _ {X B : Type 0} (stored : B → Stored) (keeps : Start → Kept X → Type 0) (tied : Start → ℕ → List ℕ → ℕ → List ℕ → Type 0) (shape : Shape) (tells : Bool) where
+module _ {X B : Type 0} (stored : B → Stored) (keeps : Start → Kept X → Type 0) (tied : Start → ℕ → List ℕ → ℕ → List ℕ → Type 0) (tells : Bool) where
   -- a give, and a move of the hand, keep the rule of every table and tell what they are to tell
-  pub give-allows : (slots id : ℕ) (v : View X) (i : ℕ) (g mask : ℕ) → v.live ≡ true → 0 < length v.used → g * 64 < shape.frames → PassMayGive v g mask → mask < 2 ^ 64 → IsPlacedAt shape (places.Bundle g) i
+  pub give-allows : (shape : Shape) (slots id : ℕ) (v : View X) (i : ℕ) (g mask : ℕ) → v.live ≡ true → 0 < length v.used → g * 64 < shape.frames → PassMayGive v g mask → mask < 2 ^ 64 → IsPlacedAt shape (places.Bundle g) i
       → AllowsStep (Stands stored keeps tied shape tells) slots id v i (λ n. bit_or n mask) (told_of shape tells (GiveTold g mask))
-  give-allows slots id v i g mask live number l' may small is =
+  give-allows shape slots id v i g mask live number l' may small is =
       allows stored keeps tied shape tells slots id v i (places.Bundle g) (λ n. bit_or n mask) (λ n. bit_or n mask) (GiveTold g mask) live is (λ n. refl) (λ n w t. fit t.brings live)
       (λ start has s r there _.
       let l : g * 64 < start.frames = subst (λ n. g * 64 < n) (sym has.frames) l' in
@@ -158,9 +159,9 @@ module _ {X B : Type 0} (stored : B → Stored) (keeps : Start → Kept X → Ty
         },
       ))
 
-  pub hand-allows : (slots id : ℕ) (v : View X) (i : ℕ) → v.live ≡ true → 0 < length v.used → IsPlacedAt shape places.Hand i
+  pub hand-allows : (shape : Shape) (slots id : ℕ) (v : View X) (i : ℕ) → v.live ≡ true → 0 < length v.used → IsPlacedAt shape places.Hand i
       → AllowsStep (Stands stored keeps tied shape tells) slots id v i (λ n. (n + 64) % 18446744073709551616) (told_of shape tells HandTold)
-  hand-allows slots id v i live number is =
+  hand-allows shape slots id v i live number is =
       allows stored keeps tied shape tells slots id v i places.Hand (λ n. (n + 64) % 18446744073709551616) hand_more HandTold live is hand-adds (λ n w t. fit t.brings live)
       (λ start has s r there _.
       let found : ℕ = slice_index s.words (index_of start places.Hand) in
@@ -172,7 +173,6 @@ module _ {X B : Type 0} (stored : B → Stored) (keeps : Start → Kept X → Ty
       refl (r.known id v there live).knows (r.known id v there live).owners (r.known id v there live).contents) in
       (_, k.0, record { brings = k.1 }))
 
-module _ {X B : Type 0} (stored : B → Stored) (keeps : Start → Kept X → Type 0) (tied : Start → ℕ → List ℕ → ℕ → List ℕ → Type 0) (tells : Bool) where
   -- a load
   pub bload-event : BloadIsItsEvent stored keeps tied tells
   bload-event start s id g found v w pass at told =
@@ -200,24 +200,18 @@ module _ {X B : Type 0} (stored : B → Stored) (keeps : Start → Kept X → Ty
   give-event start s id g mask found v w pass at may told =
       let view = told.brings.view in
       let word : (core_shown stored start s).bundles g ≡ found = bundle-here stored start s g at.0 ∙ sym at.1 in
-      record {
-        legal = give-legal stored keeps tied start tells s pass.rule id v pass.there pass.live g mask (omega (arith, at.0)) may;
-        core = ap (λ (y : World). y.core)
-            (give-step stored start s [] (λ _. []) id v w g mask (bit_or found mask) pass.rule.wide.0 at.0 pass.there (ap (λ (y : View X). y.out) view) (ap (λ (y : View X). y.seats) view) (ap (λ (y : View X). y.loads) view)
-            (λ h. ap (λ (y : View X). has h y.frames) view ∙ frames-without g mask v.frames h)
-            (ap (λ n. bit_or n mask) (sym word)));
-        sees = ap sights.Word word;
-      }
+      is-event (give-legal stored keeps tied start tells s pass.rule id v pass.there pass.live g mask (omega (arith, at.0)) may)
+      (give-step stored start s [] (λ _. []) id v w g mask (bit_or found mask) pass.rule.wide.0 at.0 pass.there (ap (λ (y : View X). y.out) view) (ap (λ (y : View X). y.seats) view) (ap (λ (y : View X). y.loads) view)
+      (λ h. ap (λ (y : View X). has h y.frames) view ∙ frames-without g mask v.frames h)
+      (ap (λ n. bit_or n mask) (sym word)))
+      (ap sights.Word word)
 
   -- a move of the hand sees where it was
   pub hand-event : HandIsItsEvent stored keeps tied tells
   hand-event start s id found v w pass at told =
       let view = told.brings.view in
       let word : (core_shown stored start s).hand ≡ found = hand-here stored start s ∙ sym at.1 in
-      record {
-        legal = at-bound s.views id v pass.there;
-        core = ap (λ (y : World). y.core)
-            (hand-step stored start s [] (λ _. []) id v w (hand_more found) pass.rule.wide.0 pass.there (ap (λ (y : View X). y.out) view) (ap (λ (y : View X). y.frames) view) (ap (λ (y : View X). y.seats) view) (ap (λ (y : View X). y.loads) view)
-            (ap hand_more (sym word)));
-        sees = ap sights.Word word;
-      }
+      is-event (at-bound s.views id v pass.there)
+      (hand-step stored start s [] (λ _. []) id v w (hand_more found) pass.rule.wide.0 pass.there (ap (λ (y : View X). y.out) view) (ap (λ (y : View X). y.frames) view) (ap (λ (y : View X). y.seats) view) (ap (λ (y : View X). y.loads) view)
+      (ap hand_more (sym word)))
+      (ap sights.Word word)

@@ -9,17 +9,17 @@ use Rattle.vm_core.specs.declared.event.Seen.TheVariants as sights
 use Rattle.vm_rule.specs.declared.view.Place.TheVariants as places
 use Rattle.vm_step.proofs.{Fit.fit, Mine.member-mine, Mine.stands-known, Quiet.held-shows, Quiet.quiet-shows, Standing.allows, Standing.allows-load}
 use Rattle.vm_step.proofs.{Written.word-left, Written.word-loaded}
-use Rattle.vm_step.proofs.Prelude.{[], after_step, AllowsStep, ap, arith, at-bound, Bool, Brings, cases_eq, content-here, core_shown, Did, did_load}
-use Rattle.vm_step.proofs.Prelude.{did_store, draft-is, draft_of, drafted_view, Drafts, eq-eqb, EVICTED, false, fill-step, filled_view}
-use Rattle.vm_step.proofs.Prelude.{FillIsItsEvent, frame_of, frame_read_by, get_elem?, has, Held, held-here, held_at, HoldsPage, if◌then◌else◌}
-use Rattle.vm_step.proofs.Prelude.{index_of, inl, inr, is_pending, is_some, IsEvent, IsLocking, IsPassOf, IsPlacedAt, IsSome, Kept, KnowsAsBefore}
-use Rattle.vm_step.proofs.Prelude.{KnowsPage, KnowsPages, last_of, Legal, length, List, Load, load-step, load_frame, loaded_view, LoadIsItsEvent}
-use Rattle.vm_step.proofs.Prelude.{loads_at, loads_more, LoadTold, LOCKED, locked-here, lt-ltb, ltb-true, Mapping, nat_lt, no_held, None, Open}
-use Rattle.vm_step.proofs.Prelude.{open_frame, Option, or_cases, or_left, or_right, Origin, Page, PassMayStore, put_at, refl, Ruled, Seat, seat-here}
-use Rattle.vm_step.proofs.Prelude.{seat_of, Shape, shared-here, Shows, slice_index, slice_set, Some, some, some-is, some-same, Stands, stands-nowhere}
-use Rattle.vm_step.proofs.Prelude.{stands-one, stands_in, Start, State, steps, Store, store-core, store-step, Stored, StoreIsItsEvent, StoresTold}
-use Rattle.vm_step.proofs.Prelude.{StoreTold, subst, sym, Table, table_after, told_of, true, true≢false, upd, upd-other, upd-same, Version, View}
-use Rattle.vm_step.proofs.Prelude.{word_at, Works, World, world_of, ℕ, ⊎_elim, ◌&&◌, ◌*◌, ◌+◌, ◌<◌, ◌||◌, ◌∙◌, ◌∷◌, ◌≡◌, ◌≢◌, ◌≤◌}
+use Rattle.vm_step.proofs.Prelude.{[], after_step, AllowsStep, ap, arith, at-bound, Bool, Brings, cases_eq, content-here, core_shown, Did, did_load, did_store}
+use Rattle.vm_step.proofs.Prelude.{draft-is, draft_of, drafted_view, Drafts, eq-eqb, EVICTED, false, fill-step, filled_view, FillIsItsEvent, frame_of}
+use Rattle.vm_step.proofs.Prelude.{frame_read_by, get_elem?, has, Held, held-here, held_at, HoldsPage, if◌then◌else◌, index_of, inl, inr, is_pending, is_some}
+use Rattle.vm_step.proofs.Prelude.{IsLocking, IsPlacedAt, IsSome, Kept, KnowsAsBefore, KnowsPage, KnowsPages, last_of, Legal, length, List, Load, load-step}
+use Rattle.vm_step.proofs.Prelude.{load_frame, loaded_view, LoadIsItsEvent, loads_at, loads_more, LoadTold, LOCKED, locked-here, lt-ltb, ltb-true, Mapping}
+use Rattle.vm_step.proofs.Prelude.{nat_lt, no_held, None, Open, open_frame, Option, or_cases, or_left, or_right, Origin, Page, PassMayStore, put_at, refl}
+use Rattle.vm_step.proofs.Prelude.{Ruled, Seat, seat-here, seat_of, Shape, shared-here, Shows, slice_index, slice_set, Some, some, some-is, some-same, Stands}
+use Rattle.vm_step.proofs.Prelude.{stands-nowhere, stands-one, stands_in, Start, State, steps, Store, store-core, store-step, Stored, StoreIsItsEvent}
+use Rattle.vm_step.proofs.Prelude.{StoresTold, StoreTold, subst, sym, Table, told_of, true, true≢false, upd, upd-other, upd-same, Version, View, word_at, Works}
+use Rattle.vm_step.proofs.Prelude.{World, world_of, ℕ, ⊎_elim, ◌&&◌, ◌*◌, ◌+◌, ◌<◌, ◌||◌, ◌∙◌, ◌∷◌, ◌≡◌, ◌≢◌, ◌≤◌}
+use Rattle.vm_step.proofs.steps.Event.{is-event}
 use Rattle.vm_step.proofs.steps.Leaving.{apart, holds-still, knows-still, last-still, LeavesOthers, LeavesOwn, others-tied, own-from, rest-of}
 
 -- ---- who has a page locked
@@ -141,18 +141,6 @@ module _ {X B : Type 0} (stored : B → Stored) (keeps : Start → Kept X → Ty
           ∙ ap (λ ws. slice_index ws i) (((r.inv.pages p).contents (ap (λ (o : Origin). o.tells) (sym (r.heard id v there live).same_start) ∙ t)).logical free m.0 m.1 ∙ ap (λ (y : Version). y.words) (sym (known.latest p (inr has-share))));
     }
 
-module _ {X B : Type 0} (stored : B → Stored) (keeps : Start → Kept X → Type 0) (tied : Start → ℕ → List ℕ → ℕ → List ℕ → Type 0) (tells : Bool) where
-  -- a load keeps the rule of every table and tells what it is to tell
-  pub load-allows : (shape : Shape) (slots id : ℕ) (v : View X) (i : ℕ) (p f j : ℕ) → v.live ≡ true → 0 < length v.used → p < shape.pages → f < shape.frames → j < 64 → frame_read_by v p ≡ Some f → IsPlacedAt shape (places.Content f j) i
-      → AllowsStep (Stands stored keeps tied shape tells) slots id v i (λ n. n) (told_of shape tells (LoadTold p f j))
-  load-allows shape slots id v i p f j live number l' lf' lj by is =
-      allows-load stored keeps tied shape tells slots id v i (places.Content f j) (LoadTold p f j) live is (λ n w t. fit t.brings live)
-      (λ start has s r there.
-      let l : p < start.pages = subst (λ n. p < n) (sym has.pages) l' in
-      let lf : f < start.frames = subst (λ n. f < n) (sym has.frames) lf' in
-      let k = steps stored keeps tied start tells s r id v s.words r.drafts [] [] _ _ (Load id p j) there live number refl refl (load-shows stored keeps tied start tells s r id v p f j there live l lf lj by) in
-      (_, k.0, load-told stored keeps tied start tells s r id v p f j there live l lf lj by k.1))
-
 module _ {X B : Type 0} (stored : B → Stored) (keeps : Start → Kept X → Type 0) (tied : Start → ℕ → List ℕ → ℕ → List ℕ → Type 0) (start : Origin) (tells : Bool) (s : Table (Option B) (View X)) (r : Ruled stored keeps tied start tells s) (id : ℕ) (v : View X) (there : get_elem? s.views id ≡ some v) (live : v.live ≡ true) where
   -- the page stands in the frame
   pub stands-drafted : (p f : ℕ) → Drafts v p f → stands_in ((core_shown stored start s).pages p).trans f ≡ true
@@ -243,11 +231,22 @@ module _ {X B : Type 0} (stored : B → Stored) (keeps : Start → Kept X → Ty
       (λ ne. absurd (true≢false (sym (stands-drafted p f d) ∙ stands-one (world_of stored start r.releases r.drafts s) f q p r.inv (stands-drafted q f e) ne)))
       (cases_eq p q)
 
-module _ {X B : Type 0} (stored : B → Stored) (keeps : Start → Kept X → Type 0) (tied : Start → ℕ → List ℕ → ℕ → List ℕ → Type 0) (shape : Shape) (tells : Bool) where
+module _ {X B : Type 0} (stored : B → Stored) (keeps : Start → Kept X → Type 0) (tied : Start → ℕ → List ℕ → ℕ → List ℕ → Type 0) (tells : Bool) where
+  -- a load keeps the rule of every table and tells what it is to tell
+  pub load-allows : (shape : Shape) (slots id : ℕ) (v : View X) (i : ℕ) (p f j : ℕ) → v.live ≡ true → 0 < length v.used → p < shape.pages → f < shape.frames → j < 64 → frame_read_by v p ≡ Some f → IsPlacedAt shape (places.Content f j) i
+      → AllowsStep (Stands stored keeps tied shape tells) slots id v i (λ n. n) (told_of shape tells (LoadTold p f j))
+  load-allows shape slots id v i p f j live number l' lf' lj by is =
+      allows-load stored keeps tied shape tells slots id v i (places.Content f j) (LoadTold p f j) live is (λ n w t. fit t.brings live)
+      (λ start has s r there.
+      let l : p < start.pages = subst (λ n. p < n) (sym has.pages) l' in
+      let lf : f < start.frames = subst (λ n. f < n) (sym has.frames) lf' in
+      let k = steps stored keeps tied start tells s r id v s.words r.drafts [] [] _ _ (Load id p j) there live number refl refl (load-shows stored keeps tied start tells s r id v p f j there live l lf lj by) in
+      (_, k.0, load-told stored keeps tied start tells s r id v p f j there live l lf lj by k.1))
+
   -- a store into the frame of a page, or into a frame of the pass, keeps the rule of every table and tells what it is to tell
-  pub store-allows : (slots id : ℕ) (v : View X) (i : ℕ) (f j x : ℕ) → v.live ≡ true → 0 < length v.used → f < shape.frames → j < 64 → PassMayStore v f → IsPlacedAt shape (places.Content f j) i
+  pub store-allows : (shape : Shape) (slots id : ℕ) (v : View X) (i : ℕ) (f j x : ℕ) → v.live ≡ true → 0 < length v.used → f < shape.frames → j < 64 → PassMayStore v f → IsPlacedAt shape (places.Content f j) i
       → AllowsStep (Stands stored keeps tied shape tells) slots id v i (λ _. x) (told_of shape tells (λ _. StoresTold f j x))
-  store-allows slots id v i f j x live number lf' lj may is =
+  store-allows shape slots id v i f j x live number lf' lj may is =
       allows stored keeps tied shape tells slots id v i (places.Content f j) (λ _. x) (λ _. x) (λ _. StoresTold f j x) live is (λ _. refl)
       (λ _ w t. ⊎_elim (λ owns. fit (t.own owns).brings live) (λ d. fit (t.page d.0 d.1).brings live) may)
       (λ start shaped s r there _.
@@ -272,37 +271,25 @@ module _ {X B : Type 0} (stored : B → Stored) (keeps : Start → Kept X → Ty
       ))
       may)
 
-module _ {X B : Type 0} (stored : B → Stored) (start : Origin) (keeps : Start → Kept X → Type 0) (tied : Start → ℕ → List ℕ → ℕ → List ℕ → Type 0) (tells : Bool) where
-  -- a store that is legal, by a pass that has out, holds and locks what it did
-  stored-event : (s : Table (Option B) (View X)) (id f i x : ℕ) (v w : View X) → IsPassOf stored start keeps tied tells s id v → f < start.frames → i < 64 → Legal (core_shown stored start s) (Store id f i x)
-      → w.out ≡ v.out → w.frames ≡ v.frames → w.seats ≡ v.seats
-      → IsEvent stored start s (table_after s (slice_set s.words (index_of start (places.Content f i)) x) id w) (Store id f i x) sights.Done
-  stored-event s id f i x v w pass lf li legal out frames seats =
-      record { legal = legal; core = store-core stored start s id v w f i x pass.rule.wide.0 lf li pass.there out frames seats; sees = refl }
-
-module _ {X B : Type 0} (stored : B → Stored) (keeps : Start → Kept X → Type 0) (tied : Start → ℕ → List ℕ → ℕ → List ℕ → Type 0) (tells : Bool) where
   pub store-event : StoreIsItsEvent stored keeps tied tells
   store-event start s id p f i x v w pass lf li d told =
       let view = told.brings.view in
-      stored-event stored start keeps tied tells s id f i x v w pass lf li (store-legal stored keeps tied start tells s pass.rule id v pass.there pass.live p f i x lf li d) (ap (λ (y : View X). y.out) view) (ap (λ (y : View X). y.frames) view) (ap (λ (y : View X). y.seats) view)
+      record { legal = store-legal stored keeps tied start tells s pass.rule id v pass.there pass.live p f i x lf li d; core = store-core stored start s id v w f i x pass.rule.wide.0 lf li pass.there (ap (λ (y : View X). y.out) view) (ap (λ (y : View X). y.frames) view) (ap (λ (y : View X). y.seats) view); sees = refl }
 
   pub fill-event : FillIsItsEvent stored keeps tied tells
   fill-event start s id f i x v w pass lf li owns told =
       let view = told.brings.view in
-      stored-event stored start keeps tied tells s id f i x v w pass lf li (fill-legal stored keeps tied start tells s pass.rule id v pass.there pass.live f i x lf li owns) (ap (λ (y : View X). y.out) view) (ap (λ (y : View X). y.frames) view) (ap (λ (y : View X). y.seats) view)
+      record { legal = fill-legal stored keeps tied start tells s pass.rule id v pass.there pass.live f i x lf li owns; core = store-core stored start s id v w f i x pass.rule.wide.0 lf li pass.there (ap (λ (y : View X). y.out) view) (ap (λ (y : View X). y.frames) view) (ap (λ (y : View X). y.seats) view); sees = refl }
 
   pub load-event : LoadIsItsEvent stored keeps tied tells
   load-event start s id p f i found v w pass finds l by told =
       let view = told.brings.view in
       let c : State = core_shown stored start s in
       let reads : load_frame (c.pages p) id ≡ Some f = reads-known stored start s id p v l pass.there ((pass.rule.known id v pass.there pass.live).knows p) ∙ by in
-      record {
-        legal = record { names = record { actor = at-bound s.views id v pass.there; page = l }; place = finds.0.1; frame = subst IsSome (sym reads) refl };
-        core = ap (λ (y : World). y.core)
-            (load-step stored start s [] (λ _. []) id v w p i f found l finds.0.0 finds.0.1 pass.there (ap (λ (y : View X). y.out) view) (ap (λ (y : View X). y.frames) view) (ap (λ (y : View X). y.seats) view)
-            reads finds.1 (ap (λ (y : View X). y.loads) view));
-        sees = ap sights.Word (ap (λ o. word_at c.words o i) reads ∙ content-here stored start s f i finds.0.0 finds.0.1 ∙ sym finds.1);
-      }
+      is-event (record { names = record { actor = at-bound s.views id v pass.there; page = l }; place = finds.0.1; frame = subst IsSome (sym reads) refl })
+      (load-step stored start s [] (λ _. []) id v w p i f found l finds.0.0 finds.0.1 pass.there (ap (λ (y : View X). y.out) view) (ap (λ (y : View X). y.frames) view) (ap (λ (y : View X). y.seats) view)
+      reads finds.1 (ap (λ (y : View X). y.loads) view))
+      (ap sights.Word (ap (λ o. word_at c.words o i) reads ∙ content-here stored start s f i finds.0.0 finds.0.1 ∙ sym finds.1))
 
 module _ {X : Type 0} {p f i x : ℕ} {v w : View X} (t : StoreTold p f i x v w) where
   pub store-others : (touched : ℕ → Type 0) → touched p → LeavesOthers touched ((did_store (places.Content f i) x) ∷ []) [] v w

@@ -2,10 +2,10 @@
 -- The files of the kinds beside this one say of each which pages it speaks of, and what it leaves of them.
 use Rattle.vm_step.proofs.Alone.{runs-one, runs-self, runs-then}
 use Rattle.vm_step.proofs.Asides.{alone-self, keeps-self, keeps-then, OnlyReads, starts-then}
-use Rattle.vm_step.proofs.Prelude.{[], ap, append-none, append_assoc, BringsWith, Did, draft_of, Each, Entry, Held, held_at, History, HoldsPage}
-use Rattle.vm_step.proofs.Prelude.{IsAsideOf, IsLocking, KeepsFrames, KnowsAsBefore, last-is, last_in, last_of, LeavesRest, List, loads_at, no_held}
-use Rattle.vm_step.proofs.Prelude.{no_seat, None, Option, Origin, Put, put_at, refl, Release, release-else, RunsAlone, Seat, seat_of, StartsWith}
-use Rattle.vm_step.proofs.Prelude.{StaysAlone, Stored, subst, sym, Tie, Translation, View, ℕ, ◌++◌, ◌∙◌, ◌∷◌, ◌≡◌, ◌≢◌}
+use Rattle.vm_step.proofs.Prelude.{[], ap, append-none, append_assoc, BringsWith, Did, draft_of, Each, Entry, Held, held_at, History, HoldsPage, IsAsideOf}
+use Rattle.vm_step.proofs.Prelude.{IsLocking, KeepsFrames, KnowsAsBefore, last-is, last_in, last_of, LeavesRest, List, loads_at, no_held, no_seat, None, Option}
+use Rattle.vm_step.proofs.Prelude.{Origin, Put, put_at, refl, Release, release-else, RunsAlone, Seat, seat_of, StartsWith, StaysAlone, Stored, subst, sym, Tie}
+use Rattle.vm_step.proofs.Prelude.{Translation, View, ℕ, ◌++◌, ◌∙◌, ◌∷◌, ◌≡◌, ◌≢◌}
 
 -- a page that is none of those touched is not page p, which is one
 pub apart : (touched : ℕ → Type 0) {p : ℕ} → touched p → (q : ℕ) → (touched q → ⊥) → q ≢ p

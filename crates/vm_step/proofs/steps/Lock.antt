@@ -6,12 +6,12 @@ use Rattle.vm_rule.specs.declared.view.Place.TheVariants as places
 use Rattle.vm_step.proofs.{Evidenced.taken-view, Fit.either-lives, Fit.fit, Here.last, Here.world, Quiet.ShowsQuiet, Standing.allows}
 use Rattle.vm_step.proofs.Exchange.{exchange-event, free-member, free-unheld, held-at, IsExchange, known-held, lockx-exchange, opened, owner-shows}
 use Rattle.vm_step.proofs.Exchange.{known-owner, page_held, tried, tried-validates}
-use Rattle.vm_step.proofs.Prelude.{[], AllowsStep, ap, arith, Bool, Brings, Did, did_exchange, draft_of, each-map, either, eqb, get_elem?, Held}
-use Rattle.vm_step.proofs.Prelude.{held_at, if◌then◌else◌, IsHeldAt, IsPlacedAt, Kept, last_of, LeavesRest, length, List, LOCKED, locked, locked_view}
-use Rattle.vm_step.proofs.Prelude.{LockExclusiveIsItsEvent, LockTold, LockX, MayLock, nat_tests, no_held, no_seat, None, Option, Origin, Page}
-use Rattle.vm_step.proofs.Prelude.{page_at, put, put_at, refl, Ruled, Seat, seat_of, Shape, share_count, slice_index, slice_set, some, Stands}
-use Rattle.vm_step.proofs.Prelude.{stands_dirty, Start, state-here, state_of, Stored, subst, sym, Table, told_of, TranslationHolds, true, upd-other}
-use Rattle.vm_step.proofs.Prelude.{upd-same, Version, version-here, version_of, View, word_of, ℕ, ⊎_elim, ◌<◌, ◌∙◌, ◌∷◌, ◌≡◌, ◌≢◌}
+use Rattle.vm_step.proofs.Prelude.{[], AllowsStep, ap, arith, Bool, Brings, Did, did_exchange, draft_of, each-map, either, eqb, get_elem?, Held, held_at}
+use Rattle.vm_step.proofs.Prelude.{if◌then◌else◌, IsHeldAt, IsPlacedAt, Kept, last_of, LeavesRest, length, List, LOCKED, locked, locked_view}
+use Rattle.vm_step.proofs.Prelude.{LockExclusiveIsItsEvent, LockTold, LockX, MayLock, nat_tests, no_held, no_seat, None, Option, Origin, Page, page_at, put}
+use Rattle.vm_step.proofs.Prelude.{put_at, refl, Ruled, Seat, seat_of, Shape, share_count, slice_index, slice_set, some, Stands, stands_dirty, Start}
+use Rattle.vm_step.proofs.Prelude.{state-here, state_of, Stored, subst, sym, Table, told_of, TranslationHolds, true, upd-other, upd-same, Version, version-here}
+use Rattle.vm_step.proofs.Prelude.{version_of, View, word_of, ℕ, ⊎_elim, ◌<◌, ◌∙◌, ◌∷◌, ◌≡◌, ◌≢◌}
 use Rattle.vm_step.proofs.steps.Leaving.{apart, LeavesOthers, LeavesOwn, others-tied, own-from, rest-of}
 
 -- a word that may be locked is of a page that nobody has locked

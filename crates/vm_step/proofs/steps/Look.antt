@@ -23,6 +23,7 @@ use Rattle.vm_step.proofs.Prelude.{slice_index, slice_set, Some, some, some-is, 
 use Rattle.vm_step.proofs.Prelude.{tie_of, TieHolds, ties_below, told, told_of, Translation, TranslationHolds, true, UNLOCKED, upd-keeps, upd-other, upd-same}
 use Rattle.vm_step.proofs.Prelude.{Version, version-here, version_of, View, where_same, word-here, World, world_after, world_of, zero, ℕ, ⊎_elim, ◌++◌, ◌+◌}
 use Rattle.vm_step.proofs.Prelude.{◌<◌, ◌∙◌, ◌∷◌, ◌≡◌, ◌≢◌, ◌≤◌, ◌⊎◌}
+use Rattle.vm_step.proofs.steps.Event.{is-event}
 use Rattle.vm_step.proofs.steps.Leaving.{apart, knows-still, LeavesOthers, LeavesOwn, only-of, others-tied, own-from, rest-of}
 
 same-version : (n : ℕ) (o : Option Open) → left_open o n ≡ Same → (x : Open) × (o ≡ Some x) × (x.version ≡ n)
@@ -302,13 +303,10 @@ module _ {X B : Type 0} (stored : B → Stored) (keeps : Start → Kept X → Ty
       let view = told.brings.view in
       let state : state_of found ≡ page.state = ap state_of finds.1 ∙ sym (state-here stored start s p finds.0) in
       let version : version_of found ≡ page.version = ap version_of finds.1 ∙ sym (version-here stored start s p finds.0) in
-      record {
-        legal = (record { actor = at-bound s.views id v pass.there; page = finds.0 }, tt);
-        core = ap (λ (y : World). y.core)
-            (look-step stored start s [] (λ _. []) id v w p (record page { state = state_of found; version = version_of found }) finds.0 pass.there (ap (λ (y : View X). y.out) view) (ap (λ (y : View X). y.frames) view) state version (ap (λ (y : View X). y.seats) view)
-            (ap (λ (y : View X). y.loads) view));
-        sees = λ i. sights.Look ((word-here stored start s p finds.0 ∙ sym finds.1) i) (left_of (record page { state = sym state i; version = sym version i }) (seat-here stored start s id p v finds.0 pass.there i).reading);
-      }
+      is-event (record { actor = at-bound s.views id v pass.there; page = finds.0 }, tt)
+      (look-step stored start s [] (λ _. []) id v w p (record page { state = state_of found; version = version_of found }) finds.0 pass.there (ap (λ (y : View X). y.out) view) (ap (λ (y : View X). y.frames) view) state version (ap (λ (y : View X). y.seats) view)
+      (ap (λ (y : View X). y.loads) view))
+      (λ i. sights.Look ((word-here stored start s p finds.0 ∙ sym finds.1) i) (left_of (record page { state = sym state i; version = sym version i }) (seat-here stored start s id p v finds.0 pass.there i).reading))
 
 -- one choice of both
 pub same-both : {A : Type 0} (left : ReadIs) (x : A) → where_same left x x ≡ x

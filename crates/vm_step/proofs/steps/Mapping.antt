@@ -9,18 +9,18 @@ use Rattle.vm_rule.specs.declared.view.Place.TheVariants as places
 use Rattle.vm_rule.proofs.Facts.{has-left}
 use Rattle.vm_step.proofs.{Fit.fit, Here.frame-inside, Leaves.works-one, Mine.owner-known, Mine.stands-called, Quiet.held-shows, Standing.allows, Written.spelled-now}
 use Rattle.vm_step.proofs.{Written.stands-there}
-use Rattle.vm_step.proofs.Prelude.{[], actor_of, after_step, AllowsStep, ap, arith, at-bound, became, Bool, Brings, cases_eq, Clean, clean-step}
-use Rattle.vm_step.proofs.Prelude.{clean_in, clean_view, CleanTold, Clear, clear-step, cleared_view, ClearTold, core_shown, Did, did_store, Dirty}
-use Rattle.vm_step.proofs.Prelude.{dirty-step, dirty_in, dirty_view, DirtyTold, each-upd2, either-way, eq-eqb, Event, false, false_from_ne_true}
-use Rattle.vm_step.proofs.Prelude.{frame_in, gains, get_elem?, has, has-without, HasShape, Held, held-here, held_at, if◌then◌else◌, index_of, inr}
-use Rattle.vm_step.proofs.Prelude.{Install, install-step, installed_view, InstallTold, is_dirty, is_pending, IsEvent, IsFit, IsPassOf, IsPlacedAt}
-use Rattle.vm_step.proofs.Prelude.{each-upd, IsSome, IsWritten, Kept, KnowsPage, KnowsPages, Legal, length, length-set, List, LOCKED, Mapping}
-use Rattle.vm_step.proofs.Prelude.{mapping-clean, mapping-dirty, mapping-none, mapping_at, mapping_of, may_call, MayPutInto, nat_lt, nat_tests}
-use Rattle.vm_step.proofs.Prelude.{ne_eqb, no_held, None, Option, or_right, Origin, Page, Put, put, put_at, refl, Ruled, Seat, seat-here, seat_of}
-use Rattle.vm_step.proofs.Prelude.{Shape, shared-here, Shows, slice_set, Some, some, some-same, Stands, stands-nowhere, stands_in, StandsClean}
-use Rattle.vm_step.proofs.Prelude.{StandsIn, Start, State, steps, Stored, subst, sym, Table, table_after, told_of, trans_word, translation-here, true}
-use Rattle.vm_step.proofs.Prelude.{true≢false, upd, upd-other, upd-same, Version, View, with_dirty, without, Works, World, world_after, world_of, ℕ}
-use Rattle.vm_step.proofs.Prelude.{KnowsOwner, KnowsOwners, none-some, ⊎_elim, ◌%◌, ◌+◌, ◌-◌, ◌<◌, ◌==◌, ◌^◌, ◌||◌, ◌∙◌, ◌∷◌, ◌≡◌, ◌≢◌, ◌≤◌}
+use Rattle.vm_step.proofs.Prelude.{[], actor_of, after_step, AllowsStep, ap, arith, at-bound, became, Bool, Brings, cases_eq, Clean, clean-step, clean_in}
+use Rattle.vm_step.proofs.Prelude.{clean_view, CleanTold, Clear, clear-step, cleared_view, ClearTold, core_shown, Did, did_store, Dirty, dirty-step, dirty_in}
+use Rattle.vm_step.proofs.Prelude.{dirty_view, DirtyTold, each-upd, each-upd2, either-way, eq-eqb, Event, false, false_from_ne_true, frame_in, gains, get_elem?}
+use Rattle.vm_step.proofs.Prelude.{has, has-without, HasShape, Held, held-here, held_at, if◌then◌else◌, index_of, inr, Install, install-step, installed_view}
+use Rattle.vm_step.proofs.Prelude.{InstallTold, is_dirty, is_pending, IsEvent, IsFit, IsPassOf, IsPlacedAt, IsSome, IsWritten, Kept, KnowsOwner, KnowsOwners}
+use Rattle.vm_step.proofs.Prelude.{KnowsPage, KnowsPages, Legal, length, length-set, List, LOCKED, Mapping, mapping-clean, mapping-dirty, mapping-none}
+use Rattle.vm_step.proofs.Prelude.{mapping_at, mapping_of, may_call, MayPutInto, nat_lt, nat_tests, ne_eqb, no_held, None, none-some, Option, or_right, Origin}
+use Rattle.vm_step.proofs.Prelude.{Page, Put, put, put_at, refl, Ruled, Seat, seat-here, seat_of, Shape, shared-here, Shows, slice_set, Some, some, some-same}
+use Rattle.vm_step.proofs.Prelude.{Stands, stands-nowhere, stands_in, StandsClean, StandsIn, Start, State, steps, Stored, subst, sym, Table, table_after}
+use Rattle.vm_step.proofs.Prelude.{told_of, trans_word, translation-here, true, true≢false, upd, upd-other, upd-same, Version, View, with_dirty, without, Works}
+use Rattle.vm_step.proofs.Prelude.{World, world_after, world_of, ℕ, ⊎_elim, ◌%◌, ◌+◌, ◌-◌, ◌<◌, ◌==◌, ◌^◌, ◌||◌, ◌∙◌, ◌∷◌, ◌≡◌, ◌≢◌, ◌≤◌}
+use Rattle.vm_step.proofs.steps.Event.{is-event}
 use Rattle.vm_step.proofs.steps.Leaving.{apart, LeavesOthers, others-tied}
 
 -- the word of a page's translation says it
@@ -313,48 +313,36 @@ module _ {X B : Type 0} (stored : B → Stored) (start : Origin) (keeps : Start 
   pub install-event : p < start.pages → f < start.frames → f < 2 ^ 32 → MayPutInto v p f → InstallTold p f v w → IsEvent stored start s (then_with (Some (clean_in f))) (Install id p f) sights.Done
   install-event l lf small may told =
       let view = told.brings.view in
-      record {
-        legal = install-legal stored keeps tied start tells s pass.rule id v p pass.there pass.live f may l lf;
-        core = ap (λ (y : World). y.core)
-            (install-step stored start s [] (λ _. []) id v w p f (trans_word (Some (clean_in f))) pass.rule.wide.0 l pass.there (ap (λ (y : View X). y.out) view) (ap (λ (y : View X). y.seats) view) (ap (λ (y : View X). y.loads) view)
-            (fits f false small) (λ h. ap (λ (y : View X). has h y.frames) view ∙ has-left f h v.frames));
-        sees = refl;
-      }
+      is-event (install-legal stored keeps tied start tells s pass.rule id v p pass.there pass.live f may l lf)
+      (install-step stored start s [] (λ _. []) id v w p f (trans_word (Some (clean_in f))) pass.rule.wide.0 l pass.there (ap (λ (y : View X). y.out) view) (ap (λ (y : View X). y.seats) view) (ap (λ (y : View X). y.loads) view)
+      (fits f false small) (λ h. ap (λ (y : View X). has h y.frames) view ∙ has-left f h v.frames))
+      refl
 
   pub clear-event : StandsClean v p f → ClearTold p f v w → IsEvent stored start s (then_with None) (Clear id p) sights.Done
   clear-event stands told =
       let view = told.brings.view in
-      record {
-        legal = clear-legal stored keeps tied start tells s pass.rule id v p pass.there pass.live f stands;
-        core = ap (λ (y : World). y.core)
-            (clear-step stored start s [] (λ _. []) id v w p 0 pass.rule.wide.0 (clear-known stored keeps tied start tells s pass.rule id v p pass.there pass.live f stands).0 pass.there (ap (λ (y : View X). y.out) view) (ap (λ (y : View X). y.seats) view) (ap (λ (y : View X). y.loads) view)
-            mapping-none (λ h. ap (λ (y : View X). has h y.frames) view ∙ frames-gained stored keeps tied start tells s pass.rule id v p pass.there pass.live f stands h));
-        sees = refl;
-      }
+      is-event (clear-legal stored keeps tied start tells s pass.rule id v p pass.there pass.live f stands)
+      (clear-step stored start s [] (λ _. []) id v w p 0 pass.rule.wide.0 (clear-known stored keeps tied start tells s pass.rule id v p pass.there pass.live f stands).0 pass.there (ap (λ (y : View X). y.out) view) (ap (λ (y : View X). y.seats) view) (ap (λ (y : View X). y.loads) view)
+      mapping-none (λ h. ap (λ (y : View X). has h y.frames) view ∙ frames-gained stored keeps tied start tells s pass.rule id v p pass.there pass.live f stands h))
+      refl
 
   pub set_dirty-event : StandsIn v p f → DirtyTold p f v w → IsEvent stored start s (then_with (Some (dirty_in f))) (Dirty id p) sights.Done
   set_dirty-event stands told =
       let view = told.brings.view in
       let known = dirty-known stored keeps tied start tells s pass.rule id v p pass.there pass.live f stands in
-      record {
-        legal = dirty-legal stored keeps tied start tells s pass.rule id v p pass.there pass.live f stands;
-        core = ap (λ (y : World). y.core)
-            (dirty-step stored start s [] (λ _. []) id v w p (trans_word (Some (dirty_in f))) pass.rule.wide.0 known.0 pass.there (ap (λ (y : View X). y.out) view) (ap (λ (y : View X). y.frames) view) (ap (λ (y : View X). y.seats) view) (ap (λ (y : View X). y.loads) view)
-            (remaps stored keeps tied start tells s pass.rule id v p pass.there pass.live f stands.dirty true known.0 known.1).1);
-        sees = refl;
-      }
+      is-event (dirty-legal stored keeps tied start tells s pass.rule id v p pass.there pass.live f stands)
+      (dirty-step stored start s [] (λ _. []) id v w p (trans_word (Some (dirty_in f))) pass.rule.wide.0 known.0 pass.there (ap (λ (y : View X). y.out) view) (ap (λ (y : View X). y.frames) view) (ap (λ (y : View X). y.seats) view) (ap (λ (y : View X). y.loads) view)
+      (remaps stored keeps tied start tells s pass.rule id v p pass.there pass.live f stands.dirty true known.0 known.1).1)
+      refl
 
   pub set_clean-event : IsWritten v p f → CleanTold p f v w → IsEvent stored start s (then_with (Some (clean_in f))) (Clean id p) sights.Done
   set_clean-event may told =
       let view = told.brings.view in
       let known = clean-known stored keeps tied start tells s pass.rule id v p pass.there pass.live f may in
-      record {
-        legal = clean-legal stored keeps tied start tells s pass.rule id v p pass.there pass.live f may;
-        core = ap (λ (y : World). y.core)
-            (clean-step stored start s [] (λ _. []) id v w p (trans_word (Some (clean_in f))) pass.rule.wide.0 known.0 pass.there (ap (λ (y : View X). y.out) view) (ap (λ (y : View X). y.frames) view) (ap (λ (y : View X). y.seats) view) (ap (λ (y : View X). y.loads) view)
-            (remaps stored keeps tied start tells s pass.rule id v p pass.there pass.live f may.dirty false known.0 known.1).1);
-        sees = refl;
-      }
+      is-event (clean-legal stored keeps tied start tells s pass.rule id v p pass.there pass.live f may)
+      (clean-step stored start s [] (λ _. []) id v w p (trans_word (Some (clean_in f))) pass.rule.wide.0 known.0 pass.there (ap (λ (y : View X). y.out) view) (ap (λ (y : View X). y.frames) view) (ap (λ (y : View X). y.seats) view) (ap (λ (y : View X). y.loads) view)
+      (remaps stored keeps tied start tells s pass.rule id v p pass.there pass.live f may.dirty false known.0 known.1).1)
+      refl
 
 module _ {X : Type 0} {p f : ℕ} {v w : View X} (t : DirtyTold p f v w) where
   pub dirty-others : (touched : ℕ → Type 0) → touched p → LeavesOthers touched (did_store (places.Translation p) (trans_word (Some (dirty_in f))) ∷ []) [] v w

@@ -4,14 +4,13 @@
 use Rattle.std.proofs.Common.{eq-eqb, ne_eqb}
 use Rattle.vm_rule.specs.declared.view.Place.TheVariants as places
 use Rattle.vm_step.proofs.{Fit.fit, Leaves.works-one, Slots.device-shows, Slots.may-call, Standing.allows, Written.word-left}
-use Rattle.vm_step.proofs.Prelude.{[], after_more, AllowsStep, ap, arith, at-bound, at_set, became_more, block-same, block_of, blocks-still, Bool}
-use Rattle.vm_step.proofs.Prelude.{cases_eq, cases_lt, core_shown, Did, did_store, each-upd2, event_law, FaultsFit, get_elem?, Held, held_at}
-use Rattle.vm_step.proofs.Prelude.{index_of, inl, inr, is_pending, IsPlacedAt, Kept, KnowsPage, KnowsPages, le-ltb, leave_others, Leaves, Legal}
-use Rattle.vm_step.proofs.Prelude.{length, List, listed, lt-ltb, MAX_COUNT, may_call, MayRaise, no_held, None, Note, notes_of, Option, Origin, Page}
-use Rattle.vm_step.proofs.Prelude.{put, put_at, Raise, raise-step, raised, raised_view, RaiseTold, refl, Ruled, seat_of, Shape, slice_set, some}
-use Rattle.vm_step.proofs.Prelude.{Stands, Start, steps_more, Stored, subst, suc, sym, Table, times_noted, told_of, total, total-set, true, upd}
-use Rattle.vm_step.proofs.Prelude.{upd-other, upd-same, View, Works, World, world_after, world_of, ℕ, ⊎_elim, ◌++◌, ◌+◌, ◌<◌, ◌∙◌, ◌∷◌, ◌≡◌, ◌≢◌, ◌≤◌}
-use Rattle.vm_step.proofs.Prelude.{each-upd, KnowsOwner, ◌⊎◌}
+use Rattle.vm_step.proofs.Prelude.{[], after_more, AllowsStep, ap, arith, at-bound, at_set, became_more, block-same, block_of, blocks-still, Bool, cases_eq}
+use Rattle.vm_step.proofs.Prelude.{cases_lt, core_shown, Did, did_store, each-upd, each-upd2, event_law, FaultsFit, get_elem?, Held, held_at, index_of, inl}
+use Rattle.vm_step.proofs.Prelude.{inr, is_pending, IsPlacedAt, Kept, KnowsOwner, KnowsPage, KnowsPages, le-ltb, leave_others, Leaves, Legal, length, List}
+use Rattle.vm_step.proofs.Prelude.{listed, lt-ltb, MAX_COUNT, may_call, MayRaise, no_held, None, Note, notes_of, Option, Origin, Page, put, put_at, Raise}
+use Rattle.vm_step.proofs.Prelude.{raise-step, raised, raised_view, RaiseTold, refl, Ruled, seat_of, Shape, slice_set, some, Stands, Start, steps_more, Stored}
+use Rattle.vm_step.proofs.Prelude.{subst, suc, sym, Table, times_noted, told_of, total, total-set, true, upd, upd-other, upd-same, View, Works, World}
+use Rattle.vm_step.proofs.Prelude.{world_after, world_of, ℕ, ⊎_elim, ◌++◌, ◌+◌, ◌<◌, ◌∙◌, ◌∷◌, ◌≡◌, ◌≢◌, ◌≤◌, ◌⊎◌}
 
 -- ---- notes
 

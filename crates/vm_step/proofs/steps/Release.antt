@@ -11,24 +11,25 @@ use Rattle.vm_step.proofs.{Standing.allows, steps.Look.is-turn, Unclaimed.draft-
 use Rattle.vm_step.proofs.Groups.{changed-listed, chosen-has, has-without_all, has-without_all_other, has-without_all_same, listed-agrees}
 use Rattle.vm_step.proofs.Logical.{logical-draft, logical-last, logical-same, not-pending}
 use Rattle.vm_step.proofs.Mine.{member-mine, not-member, not-owed, owed-mine}
-use Rattle.vm_step.proofs.Prelude.{[], after_release, Agrees, AllowsStep, any-here, any-same, any-true, ap, append-none, AreApart, AreSized}
-use Rattle.vm_step.proofs.Prelude.{AreUnchanged, arith, at-bound, at_set, began_of, Bool, Brings, BringsWith, cases_Bool, cases_eq, Change}
-use Rattle.vm_step.proofs.Prelude.{changes_of, chosen, cond-false, core_shown, Did, did_store, DowngradeIsItsEvent, DowngradeTold, draft-is, draft_of}
-use Rattle.vm_step.proofs.Prelude.{Each, entries_of, Entry, eq-eqb, eqb, EVICTED, EvictTold, false, false_from_ne_true, false≢true, Fits, frame_of}
-use Rattle.vm_step.proofs.Prelude.{fun_ext, get_elem?, has, histories_of, History, index_of, is_owed, is_pending, IsEvent, IsFirst, IsKeptNow}
-use Rattle.vm_step.proofs.Prelude.{IsLater, IsMember, IsPlacedAt, IsTurn, Kept, kept_of, KnowsPage, last-is, last_in, last_of, LeavesRest, length}
-use Rattle.vm_step.proofs.Prelude.{length-set, List, listed-same, loads_at, LOCKED, locked-here, logical, MAX_VERSION, may_call, MayDowngrade}
-use Rattle.vm_step.proofs.Prelude.{MayEvict, MayGiveUp, ne_eqb, next-here, no_held, no_seat, None, Option, or_parts, Origin, owed_after, Page, put}
-use Rattle.vm_step.proofs.Prelude.{put_at, refl, Release, release-here, released_same, ReleaseEvictedIsItsEvent, ReleaseIsItsEvent, ReleaseTells}
-use Rattle.vm_step.proofs.Prelude.{ReleaseTold, replicate, Ruled, Seat, seat_of, set_here, Shape, Shows, slice_index, slice_set, Some, some, Stands}
-use Rattle.vm_step.proofs.Prelude.{Start, StaysAlone, steps, Stored, subst, suc, sym, table_after, told_of, true, true≢false, upd-other, upd-same}
-use Rattle.vm_step.proofs.Prelude.{View, without, without-none, word_of, World, world_of, ℕ, ⊎_elim, ◌++◌, ◌+◌, ◌<◌, ◌||◌, ◌∙◌, ◌∷◌, ◌≡◌, ◌≢◌, ◌≤◌}
+use Rattle.vm_step.proofs.Prelude.{[], after_release, Agrees, AllowsStep, any-here, any-same, any-true, ap, append-none, AreApart, AreSized, AreUnchanged}
+use Rattle.vm_step.proofs.Prelude.{arith, at-bound, at_set, began_of, Bool, Brings, BringsWith, cases_Bool, cases_eq, Change, changes_of, chosen, cond-false}
+use Rattle.vm_step.proofs.Prelude.{core_shown, Did, did_store, DowngradeIsItsEvent, DowngradeTold, draft-is, draft_of, Each, entries_of, Entry, eq-eqb, eqb}
+use Rattle.vm_step.proofs.Prelude.{EVICTED, EvictTold, false, false_from_ne_true, false≢true, Fits, frame_of, fun_ext, get_elem?, has, histories_of, History}
+use Rattle.vm_step.proofs.Prelude.{index_of, is_owed, is_pending, IsEvent, IsFirst, IsKeptNow, IsLater, IsMember, IsPlacedAt, IsTurn, Kept, kept_of, KnowsPage}
+use Rattle.vm_step.proofs.Prelude.{last-is, last_in, last_of, LeavesRest, length, length-set, List, listed-same, loads_at, LOCKED, locked-here, logical}
+use Rattle.vm_step.proofs.Prelude.{MAX_VERSION, may_call, MayDowngrade, MayEvict, MayGiveUp, ne_eqb, next-here, no_held, no_seat, None, Option, or_parts}
+use Rattle.vm_step.proofs.Prelude.{Origin, owed_after, Page, put, put_at, refl, Release, release-here, released_same, ReleaseEvictedIsItsEvent}
+use Rattle.vm_step.proofs.Prelude.{ReleaseIsItsEvent, ReleaseTells, ReleaseTold, replicate, Ruled, Seat, seat_of, set_here, Shape, Shows, slice_index}
+use Rattle.vm_step.proofs.Prelude.{slice_set, Some, some, Stands, Start, StaysAlone, steps, Stored, subst, suc, sym, table_after, told_of, true, true≢false}
+use Rattle.vm_step.proofs.Prelude.{upd-other, upd-same, View, without, without-none, word_of, world_of, ℕ, ⊎_elim, ◌++◌, ◌+◌, ◌<◌, ◌||◌, ◌∙◌, ◌∷◌, ◌≡◌, ◌≢◌}
+use Rattle.vm_step.proofs.Prelude.{◌≤◌}
 use Rattle.vm_step.proofs.Releasing.{calls-p, changes-each, changes-pages, claimed, downgraded-is, downgrading, draft-known, each-has, entries-one}
 use Rattle.vm_step.proofs.Releasing.{event, evicted-is, evicted-same, evicting, frames-are, giving-up, history-else, inner, last-here, last-known}
 use Rattle.vm_step.proofs.Releasing.{left, left-actor, left-exclusive, left-sees, left-step, member-is, member-page, Members, members-are, mine, new}
 use Rattle.vm_step.proofs.Releasing.{next-is, next-kept, next-version, old, own, owners-are, page-else, page-here, release-legal, released-state}
 use Rattle.vm_step.proofs.Releasing.{released-version, releases, Releasing, seat-else, seat-p, seat_left, state_left, still-owns, unwritten, Way}
 use Rattle.vm_step.proofs.Releasing.{word, words, world-is}
+use Rattle.vm_step.proofs.steps.Event.{is-event}
 use Rattle.vm_step.proofs.steps.Leaving.{apart, LeavesOthers, LeavesOwn, others-tied, own-from, rest-of}
 
 -- no release leaves the page locked exclusively
@@ -360,12 +361,9 @@ module _ {X B : Type 0} (stored : B → Stored) (start : Origin) (keeps : Start 
   left-event : (rel : Releasing stored keeps tied start tells may_release) (w : View X) → w.out ≡ rel.v.out → w.frames ≡ rel.v.frames → w.loads ≡ rel.v.loads → w.seats ≡ put rel.p (seat_left rel.way (seat_of rel.v rel.p)) rel.v.seats
       → IsEvent stored start rel.s (table_after rel.s (words rel) rel.id w) (event rel) sights.Done
   left-event rel w out frames loads seats =
-      record {
-        legal = release-legal rel;
-        core = ap (λ (y : World). y.core)
-            (left-step stored start rel.way rel.s rel.r.releases rel.r.drafts rel.id rel.v w rel.p (word rel) rel.r.wide.0 rel.inside rel.there out frames loads seats (released-state rel) (released-version rel));
-        sees = left-sees rel.way (core_shown stored start rel.s) rel.id rel.p;
-      }
+      is-event (release-legal rel)
+      (left-step stored start rel.way rel.s [] (λ _. []) rel.id rel.v w rel.p (word rel) rel.r.wide.0 rel.inside rel.there out frames loads seats (released-state rel) (released-version rel))
+      (left-sees rel.way (core_shown stored start rel.s) rel.id rel.p)
 
 module _ {X B : Type 0} (stored : B → Stored) (keeps : Start → Kept X → Type 0) (tied : Start → ℕ → List ℕ → ℕ → List ℕ → Type 0) (tells : Bool) where
   pub release-event : (may_release : Start → List ℕ → List Change → List (Entry X) → Type 0) → ReleaseIsItsEvent stored keeps tied tells may_release

@@ -8,16 +8,16 @@ use Rattle.vm_step.proofs.{Evidenced.taken-view, Fit.either-lives, Fit.fit, Quie
 use Rattle.vm_step.proofs.Exchange.{draft-stays, exchange-event, IsExchange, locks-exchange, names, page_held, seat-shows, sharer-shows, tried}
 use Rattle.vm_step.proofs.Exchange.{knows-owner, owner_at, tried-validates}
 use Rattle.vm_step.proofs.Here.{frame-inside, version-told, world}
-use Rattle.vm_step.proofs.Prelude.{[], after_step, AllowsStep, ap, arith, became, block-here, Bool, Brings, Did, did_change, did_exchange, either}
-use Rattle.vm_step.proofs.Prelude.{eqb, EVICTED, false, frame_of, get_elem?, has_lock, Held, if◌then◌else◌, inl, inr, IsLocking, IsPlacedAt, IsSome}
-use Rattle.vm_step.proofs.Prelude.{Kept, KnowsAsBefore, KnowsPage, last_of, LeavesRest, length, less-state, less-version, List, loads_at, LOCKED}
-use Rattle.vm_step.proofs.Prelude.{LockS, LockSharedIsItsEvent, ltb-true, Mapping, may_call, MayShare, MayUnlock, MayUnshare, nat_lt, no_held}
-use Rattle.vm_step.proofs.Prelude.{no_seat, None, one_share_more, Option, or_cases, or_left, or_right, Origin, Page, page_at, Put, put, put_at, refl}
-use Rattle.vm_step.proofs.Prelude.{Ruled, Seat, seat-here, seat_of, Shape, shared, shared-here, shared_view, ShareTold, slice_index, slice_set, Some}
-use Rattle.vm_step.proofs.Prelude.{some, some-same, Stands, Start, state-here, state_of, steps, Stored, subst, sym, Table, told_of, true, UnlockS}
-use Rattle.vm_step.proofs.Prelude.{unlocks-step, UnlockSharedIsItsEvent, unshared, unshared_view, UnshareTold, upd-keeps, upd-other, upd-same}
-use Rattle.vm_step.proofs.Prelude.{version-here, version_of, View, word-here, word_of, World, ℕ, ⊎_elim, ◌%◌, ◌+◌, ◌-◌, ◌<◌, ◌^◌, ◌||◌, ◌∙◌, ◌∷◌, ◌≡◌}
-use Rattle.vm_step.proofs.Prelude.{KnowsOwner, ◌≢◌, ◌≤◌, ◌⊎◌}
+use Rattle.vm_step.proofs.Prelude.{[], after_step, AllowsStep, ap, arith, became, block-here, Bool, Brings, Did, did_change, did_exchange, either, eqb, EVICTED}
+use Rattle.vm_step.proofs.Prelude.{false, frame_of, get_elem?, has_lock, Held, if◌then◌else◌, inl, inr, IsLocking, IsPlacedAt, IsSome, Kept, KnowsAsBefore}
+use Rattle.vm_step.proofs.Prelude.{KnowsOwner, KnowsPage, last_of, LeavesRest, length, less-state, less-version, List, loads_at, LOCKED, LockS}
+use Rattle.vm_step.proofs.Prelude.{LockSharedIsItsEvent, ltb-true, Mapping, may_call, MayShare, MayUnlock, MayUnshare, nat_lt, no_held, no_seat, None}
+use Rattle.vm_step.proofs.Prelude.{one_share_more, Option, or_cases, or_left, or_right, Origin, Page, page_at, Put, put, put_at, refl, Ruled, Seat, seat-here}
+use Rattle.vm_step.proofs.Prelude.{seat_of, Shape, shared, shared-here, shared_view, ShareTold, slice_index, slice_set, Some, some, some-same, Stands, Start}
+use Rattle.vm_step.proofs.Prelude.{state-here, state_of, steps, Stored, subst, sym, Table, told_of, true, UnlockS, unlocks-step, UnlockSharedIsItsEvent}
+use Rattle.vm_step.proofs.Prelude.{unshared, unshared_view, UnshareTold, upd-keeps, upd-other, upd-same, version-here, version_of, View, word-here, word_of, ℕ}
+use Rattle.vm_step.proofs.Prelude.{⊎_elim, ◌%◌, ◌+◌, ◌-◌, ◌<◌, ◌^◌, ◌||◌, ◌∙◌, ◌∷◌, ◌≡◌, ◌≢◌, ◌≤◌, ◌⊎◌}
+use Rattle.vm_step.proofs.steps.Event.{is-event}
 use Rattle.vm_step.proofs.steps.Leaving.{apart, knows-still, last-still, LeavesOthers, LeavesOwn, others-tied, own-from, rest-of}
 
 -- a word that may be shared is of a page that is neither locked nor evicted
@@ -211,18 +211,15 @@ module _ {X B : Type 0} (stored : B → Stored) (keeps : Start → Kept X → Ty
   unlock_shared-event start s id p found v w pass at may told =
       let r = pass.rule in
       let view = told.brings.view in
-      record {
-        legal = (names stored keeps tied start tells s r id v pass.there p at.0, may-unlock stored keeps tied start tells s r id v pass.there pass.live p at.0 may);
-        core = ap (λ (k : World). k.core)
-            (unlocks-step stored start s [] (λ _. []) id v w p (found - 2 ^ 56) r.wide.0 at.0 pass.there
-            (ap (λ (k : View X). k.out) view)
-            (ap (λ (k : View X). k.frames) view)
-            (ap (λ (k : View X). k.loads) view)
-            (ap (λ (k : View X). k.seats) view)
-            (less-state found told.shared ∙ ap (λ n. state_of n - 1) at.1 ∙ ap (λ n. n - 1) (sym (state-here stored start s p at.0)))
-            (less-version found told.shared ∙ ap version_of at.1 ∙ sym (version-here stored start s p at.0)));
-        sees = ap sights.Word (word-here stored start s p at.0 ∙ sym at.1);
-      }
+      is-event (names stored keeps tied start tells s r id v pass.there p at.0, may-unlock stored keeps tied start tells s r id v pass.there pass.live p at.0 may)
+      (unlocks-step stored start s [] (λ _. []) id v w p (found - 2 ^ 56) r.wide.0 at.0 pass.there
+      (ap (λ (k : View X). k.out) view)
+      (ap (λ (k : View X). k.frames) view)
+      (ap (λ (k : View X). k.loads) view)
+      (ap (λ (k : View X). k.seats) view)
+      (less-state found told.shared ∙ ap (λ n. state_of n - 1) at.1 ∙ ap (λ n. n - 1) (sym (state-here stored start s p at.0)))
+      (less-version found told.shared ∙ ap version_of at.1 ∙ sym (version-here stored start s p at.0)))
+      (ap sights.Word (word-here stored start s p at.0 ∙ sym at.1))
 
 -- ---- taken
 

@@ -5,13 +5,14 @@ use Rattle.vm_core.specs.declared.event.Seen.TheVariants as sights
 use Rattle.vm_rule.specs.declared.view.Place.TheVariants as places
 use Rattle.vm_step.proofs.{Asides.alone-silent, Asides.OnlyReads, Fit.fit, Here.frame-inside, Quiet.quiet-shows, Standing.allows-load}
 use Rattle.vm_step.proofs.{steps.Content.frame-known, Written.word-loaded}
-use Rattle.vm_step.proofs.Prelude.{[], after_step, AllowsStep, ap, at-bound, Bool, Brings, core_shown, Did, did_load, draft-is, Each, each-upd2}
-use Rattle.vm_step.proofs.Prelude.{frame_of, frame_read, framed, get_elem?, HoldsPage, is_pending, IsLocking, IsPlacedAt, Kept, KnowsAsBefore}
-use Rattle.vm_step.proofs.Prelude.{KnowsPage, KnowsPages, length, List, loads_at, mapping_of, may_call, no_held, no_seat, None, Open, Option, Origin}
-use Rattle.vm_step.proofs.Prelude.{Page, part-found, put_at, refl, Ruled, Seat, seat-here, seat_of, Shape, Shows, slice_index, Some, some, Stands}
-use Rattle.vm_step.proofs.Prelude.{stands_dirty, Start, State, steps, Stored, subst, sym, Table, TLoad, tload-step, tloaded_view, TloadIsItsEvent}
-use Rattle.vm_step.proofs.Prelude.{told_of, trans_word, translation-here, translation_of, TranslationHolds, TranslationTold, true, upd, upd-keeps}
-use Rattle.vm_step.proofs.Prelude.{upd-other, upd-same, View, Works, World, world_of, ℕ, ◌+◌, ◌<◌, ◌∙◌, ◌∷◌, ◌≡◌, ◌≤◌}
+use Rattle.vm_step.proofs.Prelude.{[], after_step, AllowsStep, ap, at-bound, Bool, Brings, core_shown, Did, did_load, draft-is, Each, each-upd2, frame_of}
+use Rattle.vm_step.proofs.Prelude.{frame_read, framed, get_elem?, HoldsPage, is_pending, IsLocking, IsPlacedAt, Kept, KnowsAsBefore, KnowsPage, KnowsPages}
+use Rattle.vm_step.proofs.Prelude.{length, List, loads_at, mapping_of, may_call, no_held, no_seat, None, Open, Option, Origin, Page, part-found, put_at, refl}
+use Rattle.vm_step.proofs.Prelude.{Ruled, Seat, seat-here, seat_of, Shape, Shows, slice_index, Some, some, Stands, stands_dirty, Start, State, steps, Stored}
+use Rattle.vm_step.proofs.Prelude.{subst, sym, Table, TLoad, tload-step, tloaded_view, TloadIsItsEvent, told_of, trans_word, translation-here, translation_of}
+use Rattle.vm_step.proofs.Prelude.{TranslationHolds, TranslationTold, true, upd, upd-keeps, upd-other, upd-same, View, Works, world_of, ℕ, ◌+◌, ◌<◌, ◌∙◌, ◌∷◌}
+use Rattle.vm_step.proofs.Prelude.{◌≡◌, ◌≤◌}
+use Rattle.vm_step.proofs.steps.Event.{is-event}
 use Rattle.vm_step.proofs.steps.Leaving.{apart, knows-still, LeavesOthers, LeavesOwn, only-of, others-tied, own-from, rest-of}
 
 -- the translation that an open read got holds: the word is the page's now
@@ -92,13 +93,10 @@ module _ {X B : Type 0} (stored : B → Stored) (keeps : Start → Kept X → Ty
       let view = told.brings.view in
       let spelled : slice_index s.words (start.pages + p) ≡ trans_word (mapping_of (slice_index s.words (start.pages + p))) =
       subst (λ n. n ≡ trans_word (mapping_of n)) (part-found start.pages start.pages s.words p (start.pages + p) l refl) (pass.rule.spelled p l) in
-      record {
-        legal = (record { actor = at-bound s.views id v pass.there; page = l }, tt);
-        core = ap (λ (y : World). y.core)
-            (tload-step stored start s [] (λ _. []) id v w p (mapping_of found) l pass.there (ap (λ (y : View X). y.out) view) (ap (λ (y : View X). y.frames) view) (ap (λ (y : View X). y.loads) view)
-            (translation-here stored start s p l ∙ ap mapping_of (sym finds.1)) (ap (λ (y : View X). y.seats) view));
-        sees = ap sights.Word (ap trans_word (translation-here stored start s p l) ∙ sym spelled ∙ sym finds.1);
-      }
+      is-event (record { actor = at-bound s.views id v pass.there; page = l }, tt)
+      (tload-step stored start s [] (λ _. []) id v w p (mapping_of found) l pass.there (ap (λ (y : View X). y.out) view) (ap (λ (y : View X). y.frames) view) (ap (λ (y : View X). y.loads) view)
+      (translation-here stored start s p l ∙ ap mapping_of (sym finds.1)) (ap (λ (y : View X). y.seats) view))
+      (ap sights.Word (ap trans_word (translation-here stored start s p l) ∙ sym spelled ∙ sym finds.1))
 
 module _ {X : Type 0} {p found : ℕ} {v w : View X} (t : TranslationTold p found v w) where
   pub tload-others : (touched : ℕ → Type 0) → touched p → LeavesOthers touched (did_load (places.Translation p) found ∷ []) [] v w

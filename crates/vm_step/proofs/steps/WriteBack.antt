@@ -8,11 +8,10 @@ use Rattle.vm_step.proofs.Exchange.{exchange-event, free-debt, free-member, free
 use Rattle.vm_step.proofs.Exchange.{known-owner, owner-shows, page_held, sharer-shows, tried, tried-validates, upgrade-exchange}
 use Rattle.vm_step.proofs.Prelude.{[], AllowsStep, ap, arith, Bool, Brings, Did, did_exchange, draft_of, either, eqb, false, get_elem?, Held, held_at}
 use Rattle.vm_step.proofs.Prelude.{if◌then◌else◌, IsHeldAt, IsLocking, IsPlacedAt, Kept, last_of, LeavesRest, length, List, LOCKED, LockW}
-use Rattle.vm_step.proofs.Prelude.{LockWriteBackIsItsEvent, MARKED, MayRaiseLock, no_held, no_seat, None, Option, or_right, Origin, Page, page_at}
-use Rattle.vm_step.proofs.Prelude.{put, put_at, refl, Ruled, Seat, seat_of, Shape, share_count, slice_index, slice_set, some, Stands, Start}
-use Rattle.vm_step.proofs.Prelude.{state-here, state_of, Stored, subst, sym, Table, told_of, true, upd-other, upd-same, Upgrade, upgraded}
-use Rattle.vm_step.proofs.Prelude.{upgraded_view, UpgradeIsItsEvent, UpgradeTold, Version, version_of, View, word_of, write_locked, write_locked_view}
-use Rattle.vm_step.proofs.Prelude.{WriteLockTold, ℕ, ◌<◌, ◌∙◌, ◌∷◌, ◌≡◌, ◌≢◌}
+use Rattle.vm_step.proofs.Prelude.{LockWriteBackIsItsEvent, MARKED, MayRaiseLock, no_held, no_seat, None, Option, or_right, Origin, Page, page_at, put, put_at}
+use Rattle.vm_step.proofs.Prelude.{refl, Ruled, Seat, seat_of, Shape, share_count, slice_index, slice_set, some, Stands, Start, state-here, state_of, Stored}
+use Rattle.vm_step.proofs.Prelude.{subst, sym, Table, told_of, true, upd-other, upd-same, Upgrade, upgraded, upgraded_view, UpgradeIsItsEvent, UpgradeTold}
+use Rattle.vm_step.proofs.Prelude.{Version, version_of, View, word_of, write_locked, write_locked_view, WriteLockTold, ℕ, ◌<◌, ◌∙◌, ◌∷◌, ◌≡◌, ◌≢◌}
 use Rattle.vm_step.proofs.steps.Leaving.{apart, last-still, LeavesOthers, LeavesOwn, others-tied, own-from, rest-of}
 
 module _ {X B : Type 0} (stored : B → Stored) (keeps : Start → Kept X → Type 0) (tied : Start → ℕ → List ℕ → ℕ → List ℕ → Type 0) (start : Origin) (tells : Bool) (s : Table (Option B) (View X)) (r : Ruled stored keeps tied start tells s)
