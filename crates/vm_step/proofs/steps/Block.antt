@@ -150,10 +150,6 @@ module _ {X B : Type 0} (stored : B → Stored) (keeps : Start → Kept X → Ty
         )),
       ))
 
--- a write into the slot that the seat took last leaves the view
-pub view-put : {X B : Type 0} (m n : Me (Option B) (View X)) (l : List (ℕ × Option B)) → n ≡ (m.0, l) → n.0 ≡ m.0
-view-put m n l e = ap (λ (y : Me (Option _) (View _)). y.0) e
-
 module _ {X B : Type 0} (stored : B → Stored) where
   -- ---- out
 

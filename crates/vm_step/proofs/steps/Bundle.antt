@@ -7,6 +7,7 @@ use Rattle.vm_core.specs.declared.event.Seen.TheVariants as sights
 use Rattle.vm_rule.specs.declared.view.Place.TheVariants as places
 use Rattle.vm_step.proofs.{Exchange.exchange-tells, Exchange.tried-event, Fit.either-lives, Fit.fit, Here.world, Quiet.held-shows, Standing.allows}
 use Rattle.vm_step.proofs.{Standing.allows-load, Written.word-left}
+use Rattle.vm_step.proofs.Groups.{has-without_all as still-has}
 use Rattle.vm_step.proofs.Prelude.{[], after_event, after_step, AllowsStep, ap, arith, at-bound, bit_and, bit_or, bit_xor, BLoad, BloadIsItsEvent, Bool}
 use Rattle.vm_step.proofs.Prelude.{bundle-here, BundleTold, cases_Bool, core-still, core_shown, Did, did_change, did_exchange, did_load, either, either-way}
 use Rattle.vm_step.proofs.Prelude.{eqb, false, frames_in, get_elem?, Give, give-step, GiveIsItsEvent, given-bits, given_view, GiveTold, Hand, hand-here}
@@ -111,11 +112,6 @@ module _ {X B : Type 0} (stored : B → Stored) (keeps : Start → Kept X → Ty
 pub frames-without : (g mask : ℕ) (frames : List ℕ) (f : ℕ) → has f (without_all (frames_in g mask) frames) ≡ (if in_mask g mask f then false else has f frames)
 frames-without g mask frames f = has-without_all f (frames_in g mask) frames ∙ ap (λ b. if b then false else has f frames) (has-frames_in g mask f)
 
--- those that are left were there
-left-there : (b c : Bool) → (if b then false else c) ≡ true → c ≡ true
-left-there true c e = cc
-left-there false c e = e
-
 module _ {X B : Type 0} (stored : B → Stored) (keeps : Start → Kept X → Type 0) (tied : Start → ℕ → List ℕ → ℕ → List ℕ → Type 0) (start : Origin) (tells : Bool) (s : Table (Option B) (View X)) (r : Ruled stored keeps tied start tells s)
     (id : ℕ) (v : View X) (there : get_elem? s.views id ≡ some v) (live : v.live ≡ true) (g mask : ℕ) (l : g * 64 < start.frames) (may : PassMayGive v g mask) where
   abbrev give-found : ℕ
@@ -135,7 +131,7 @@ module _ {X B : Type 0} (stored : B → Stored) (keeps : Start → Kept X → Ty
       (give-step stored start s r.releases r.drafts id v (after_step stored keeps tied start tells s r words [] [] give_did (given_view g mask v)) g mask (bit_or give-found mask) r.wide.0 (bundle-within start g l) there refl refl refl (frames-without g mask v.frames)
       (ap (λ n. bit_or n mask) (sym (bundle-here stored start s g (bundle-within start g l)))))
       refl (r.known id v there live).knows (r.known id v there live).owners
-      (λ f e. (r.known id v there live).contents f (left-there (in_mask g mask f) (has f v.frames) (sym (frames-without g mask v.frames f) ∙ e)))
+      (λ f e. (r.known id v there live).contents f (still-has (frames_in g mask) v.frames f e).0)
 
 -- the hand as the machine adds to it
 hand-adds : (n : ℕ) → (n + 64) % 18446744073709551616 ≡ hand_more n

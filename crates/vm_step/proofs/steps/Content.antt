@@ -80,15 +80,6 @@ module _ {X B : Type 0} (stored : B → Stored) (keeps : Start → Kept X → Ty
   abbrev pub load-found : ℕ
   load-found = slice_index s.words (3 * start.pages + (64 * f + i))
 
-  abbrev pub load-did : Did
-  load-did = did_load (places.Content f i) load-found
-
-  abbrev pub load-inner : View X
-  load-inner = loaded_view p i load-found v
-
-  abbrev pub load-after : View X
-  load-after = after_step stored keeps tied start tells s r s.words [] [] load-did load-inner
-
   module _ (there : get_elem? s.views id ≡ some v) (live : v.live ≡ true) (l : p < start.pages) (lf : f < start.frames) (li : i < 64) (by : frame_read_by v p ≡ Some f) where
     abbrev core : State
     core = core_shown stored start s
@@ -99,13 +90,13 @@ module _ {X B : Type 0} (stored : B → Stored) (keeps : Start → Kept X → Ty
     reads : load_frame (core.pages p) id ≡ Some f
     reads = reads-known stored start s id p v l there (known.knows p) ∙ by
 
-    pub load-shows : Shows stored keeps tied start tells s r id v s.words r.drafts [] [] load-did load-inner (Load id p i)
+    pub load-shows : Shows stored keeps tied start tells s r id v s.words r.drafts [] [] (did_load (places.Content f i) load-found) (loaded_view p i load-found v) (Load id p i)
     load-shows =
-        quiet-shows stored keeps tied start tells s r id v s.words r.drafts load-did load-inner (Load id p i) there live
+        quiet-shows stored keeps tied start tells s r id v s.words r.drafts (did_load (places.Content f i) load-found) (loaded_view p i load-found v) (Load id p i) there live
         (record {
           word = word-loaded start s.words (places.Content f i) r.wide.0 r.spelled (lf, li);
           legal = record { names = record { actor = at-bound s.views id v there; page = l }; place = li; frame = subst IsSome (sym reads) refl };
-          world = load-step stored start s r.releases r.drafts id v load-after p i f load-found l lf li there refl refl refl reads refl refl;
+          world = load-step stored start s r.releases r.drafts id v _ p i f load-found l lf li there refl refl refl reads refl refl;
           leaves = refl;
           calls = λ o x. (r.blocks.away id v o there x).1;
           holds = λ q x. x;
@@ -124,8 +115,8 @@ module _ {X B : Type 0} (stored : B → Stored) (keeps : Start → Kept X → Ty
         sym (content-here stored start s f i lf li)
         ∙ ap (λ n. slice_index (core.words n) i) (sym (reads-mapped stored start s id p v l there m f is locks reads))
 
-    pub load-told : Brings load-did [] [] v load-inner load-after → LoadTold p f i load-found v load-after
-    load-told brings = record {
+    pub load-told : (w : View X) → Brings (did_load (places.Content f i) load-found) [] [] v (loaded_view p i load-found v) w → LoadTold p f i load-found v w
+    load-told w brings = record {
       brings = brings;
       drafted = λ t owns resident.
           let m : (m : Mapping) × ((put_at no_held v.held p).mapping ≡ Some m) = some-is (put_at no_held v.held p).mapping resident in
@@ -241,7 +232,7 @@ module _ {X B : Type 0} (stored : B → Stored) (keeps : Start → Kept X → Ty
       let l : p < start.pages = subst (λ n. p < n) (sym has.pages) l' in
       let lf : f < start.frames = subst (λ n. f < n) (sym has.frames) lf' in
       let k = steps stored keeps tied start tells s r id v s.words r.drafts [] [] _ _ (Load id p j) there live number refl refl (load-shows stored keeps tied start tells s r id v p f j there live l lf lj by) in
-      (_, k.0, load-told stored keeps tied start tells s r id v p f j there live l lf lj by k.1))
+      (_, k.0, load-told stored keeps tied start tells s r id v p f j there live l lf lj by _ k.1))
 
   -- a store into the frame of a page, or into a frame of the pass, keeps the rule of every table and tells what it is to tell
   pub store-allows : (shape : Shape) (slots id : ℕ) (v : View X) (i : ℕ) (f j x : ℕ) → v.live ≡ true → 0 < length v.used → f < shape.frames → j < 64 → PassMayStore v f → IsPlacedAt shape (places.Content f j) i

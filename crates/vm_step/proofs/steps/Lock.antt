@@ -11,19 +11,12 @@ use Rattle.vm_step.proofs.Prelude.{if◌then◌else◌, IsHeldAt, IsPlacedAt, Ke
 use Rattle.vm_step.proofs.Prelude.{LockExclusiveIsItsEvent, LockTold, LockX, MayLock, nat_tests, no_held, no_seat, None, Option, Origin, Page, page_at, put}
 use Rattle.vm_step.proofs.Prelude.{put_at, refl, Ruled, Seat, seat_of, Shape, share_count, slice_index, slice_set, some, Stands, stands_dirty, Start}
 use Rattle.vm_step.proofs.Prelude.{state-here, state_of, Stored, subst, sym, Table, told_of, TranslationHolds, true, upd-other, upd-same, Version, version-here}
-use Rattle.vm_step.proofs.Prelude.{version_of, View, word_of, ℕ, ⊎_elim, ◌<◌, ◌∙◌, ◌∷◌, ◌≡◌, ◌≢◌}
+use Rattle.vm_step.proofs.Prelude.{version_of, View, word_of, ℕ, ◌<◌, ◌∙◌, ◌∷◌, ◌≡◌, ◌≢◌}
 use Rattle.vm_step.proofs.steps.Leaving.{apart, LeavesOthers, LeavesOwn, others-tied, own-from, rest-of}
 
 -- a word that may be locked is of a page that nobody has locked
 pub lockable : (expects : ℕ) → MayLock expects → (state_of expects ≢ LOCKED) × (share_count (state_of expects) ≡ 0)
-lockable expects may =
-    ⊎_elim
-    (λ (a : state_of expects ≡ 0). ((λ e. omega (arith, a, e)), grind (arith, nat_tests, a)))
-    (λ k. ⊎_elim
-    (λ (a : state_of expects ≡ 254). ((λ e. omega (arith, a, e)), grind (arith, nat_tests, a)))
-    (λ (a : state_of expects ≡ 255). ((λ e. omega (arith, a, e)), grind (arith, nat_tests, a)))
-    k)
-    may.state
+lockable expects may = ((λ e. grind (arith, may.state, e)), grind (arith, nat_tests, may.state))
 
 module _ {X B : Type 0} (stored : B → Stored) (keeps : Start → Kept X → Type 0) (tied : Start → ℕ → List ℕ → ℕ → List ℕ → Type 0) (start : Origin) (tells : Bool) (s : Table (Option B) (View X)) (r : Ruled stored keeps tied start tells s)
     (id : ℕ) (v : View X) (there : get_elem? s.views id ≡ some v) (live : v.live ≡ true) (p expects : ℕ) (l : p < start.pages) (may : MayLock expects) where

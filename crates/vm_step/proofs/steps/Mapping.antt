@@ -43,10 +43,6 @@ frame-small : (word f : ℕ) (was : Bool) → mapping_of word ≡ Some (record {
 unfolding frame_in
 frame-small word f was e = named-small (word % 2 ^ 63 == 0 || nat_lt (2 ^ 32) (word % 2 ^ 63)) (word % 2 ^ 63) f (is_dirty word) was refl e
 
--- a word that names no page is 0
-named-none : (word : ℕ) → ((q : ℕ) → word ≡ q + 1 → ⊥) → word ≡ 0
-named-none word none = ⊎_elim (λ e. e) (λ ne. absurd (none (word - 1) (omega (arith, ne)))) (cases_eq word 0)
-
 -- the page stands in this frame
 abbrev in_frame : ℕ → Bool → Option Mapping
 in_frame f dirty = Some (record { frame = f; dirty = dirty })
@@ -126,7 +122,10 @@ module _ {X B : Type 0} (stored : B → Stored) (keeps : Start → Kept X → Ty
 
       -- a frame of the pass is no page's, so its owner word names none
       unowned : core.owners f ≡ 0
-      unowned = named-none (core.owners f) (λ q e. true≢false (sym (r.inv.owners.named f q e) ∙ stands-nowhere old f id q r.inv (held-here stored start s id f v there ∙ may.holds)))
+      unowned =
+          ⊎_elim (λ e. e)
+          (λ ne. absurd (true≢false (sym (r.inv.owners.named f (core.owners f - 1) (omega (arith, ne))) ∙ stands-nowhere old f id (core.owners f - 1) r.inv (held-here stored start s id f v there ∙ may.holds))))
+          (cases_eq (core.owners f) 0)
 
       pub install-shows : p < start.pages → f < start.frames → f < 2 ^ 32
           → Shows stored keeps tied start tells s r id v (words_with (Some (clean_in f))) r.drafts [] [] (did_store (places.Translation p) (trans_word (Some (clean_in f)))) (installed_view p f v) (Install id p f)
@@ -260,50 +259,38 @@ module _ {X B : Type 0} (stored : B → Stored) (keeps : Start → Kept X → Ty
           refl refl refl may.stands (λ g. refl)
 
 module _ {X B : Type 0} (stored : B → Stored) (keeps : Start → Kept X → Type 0) (tied : Start → ℕ → List ℕ → ℕ → List ℕ → Type 0) (tells : Bool) (shape : Shape) (slots id : ℕ) (v : View X) (i : ℕ) (p x : ℕ) (live : v.live ≡ true) (number : 0 < length v.used) (is : IsPlacedAt shape (places.Translation p) i) where
-  -- the step that leaves this word, on a table that meets the rule: the view and the event that it shows, and that it tells what it is to tell
-  pub record Remaps (t : Option Mapping) (Told : View X → View X → Type 0) (start : Origin) (s : Table (Option B) (View X)) (r : Ruled stored keeps tied start tells s) : Type 0 where
-    pub inner : View X
-    pub event : Event
-    pub actor : actor_of event ≡ id
-    pub shows : Shows stored keeps tied start tells s r id v (words_with stored keeps tied start tells s r id v p t) r.drafts [] [] (did_store (places.Translation p) (trans_word t)) inner event
-    pub tells_it : Brings (did_store (places.Translation p) (trans_word t)) [] [] v inner (view_then stored keeps tied start tells s r id v p t inner) → Told v (view_then stored keeps tied start tells s r id v p t inner)
-
-  -- so it is allowed on every table that stands
-  mapping-allows : (t : Option Mapping) (Told : View X → View X → Type 0) → x ≡ trans_word t → ((w : View X) → Told v w → IsFit w)
-      → ((start : Origin) → HasShape shape start → (s : Table (Option B) (View X)) (r : Ruled stored keeps tied start tells s) → get_elem? s.views id ≡ some v → Remaps t Told start s r)
+  -- the step that leaves this word is allowed on every table that stands, where on each that meets the rule it shows this event, and tells what it is to tell
+  mapping-allows : (t : Option Mapping) (event : Event) (Told : View X → View X → Type 0) → actor_of event ≡ id → x ≡ trans_word t → ((w : View X) → Told v w → IsFit w)
+      → ((start : Origin) → HasShape shape start → (s : Table (Option B) (View X)) (r : Ruled stored keeps tied start tells s) → get_elem? s.views id ≡ some v
+      → (inner : View X) × Shows stored keeps tied start tells s r id v (words_with stored keeps tied start tells s r id v p t) r.drafts [] [] (did_store (places.Translation p) (trans_word t)) inner event
+      × (Brings (did_store (places.Translation p) (trans_word t)) [] [] v inner (view_then stored keeps tied start tells s r id v p t inner) → Told v (view_then stored keeps tied start tells s r id v p t inner)))
       → AllowsStep (Stands stored keeps tied shape tells) slots id v i (λ _. x) (told_of shape tells (λ _. Told))
-  mapping-allows t Told spells fits remaps =
+  mapping-allows t event Told actor spells fits shows =
       allows stored keeps tied shape tells slots id v i (places.Translation p) (λ _. x) (λ _. trans_word t) (λ _. Told) live is (λ _. spells) (λ _. fits)
       (λ start has s r there _.
-      let m = remaps start has s r there in
-      let k = steps stored keeps tied start tells s r id v (words_with stored keeps tied start tells s r id v p t) r.drafts [] [] (did_store (places.Translation p) (trans_word t)) m.inner m.event there live number m.actor refl m.shows in
-      (view_then stored keeps tied start tells s r id v p t m.inner, k.0, m.tells_it k.1))
+      let m = shows start has s r there in
+      let k = steps stored keeps tied start tells s r id v (words_with stored keeps tied start tells s r id v p t) r.drafts [] [] (did_store (places.Translation p) (trans_word t)) m.0 event there live number actor refl m.1 in
+      (view_then stored keeps tied start tells s r id v p t m.0, k.0, m.2 k.1))
 
   pub install-allows : (f : ℕ) → p < shape.pages → f < shape.frames → f < 2 ^ 32 → MayPutInto v p f → x ≡ trans_word (Some (clean_in f)) → AllowsStep (Stands stored keeps tied shape tells) slots id v i (λ _. x) (told_of shape tells (λ _. InstallTold p f))
   install-allows f l lf small may spells =
-      mapping-allows (Some (clean_in f)) (InstallTold p f) spells (λ w t. fit t.brings live)
-      (λ start has s r there. record {
-        inner = installed_view p f v;
-        event = Install id p f;
-        actor = refl;
-        shows = install-shows stored keeps tied start tells s r id v p there live f may (subst (λ n. p < n) (sym has.pages) l) (subst (λ n. f < n) (sym has.frames) lf) small;
-        tells_it = λ b. record { brings = b };
-      })
+      mapping-allows (Some (clean_in f)) (Install id p f) (InstallTold p f) refl spells (λ w t. fit t.brings live)
+      (λ start has s r there. (_, install-shows stored keeps tied start tells s r id v p there live f may (subst (λ n. p < n) (sym has.pages) l) (subst (λ n. f < n) (sym has.frames) lf) small, λ b. record { brings = b }))
 
   pub clear-allows : (f : ℕ) → StandsClean v p f → x ≡ trans_word None → AllowsStep (Stands stored keeps tied shape tells) slots id v i (λ _. x) (told_of shape tells (λ _ v w. (g : ℕ) → StandsClean v p g → ClearTold p g v w))
   clear-allows f stands spells =
-      mapping-allows None (λ v w. (g : ℕ) → StandsClean v p g → ClearTold p g v w) spells (λ w t. fit (t f stands).brings live)
-      (λ start has s r there. record { inner = _; event = Clear id p; actor = refl; shows = clear-shows stored keeps tied start tells s r id v p there live f stands; tells_it = clear-told stored keeps tied start tells s r id v p there live f stands })
+      mapping-allows None (Clear id p) (λ v w. (g : ℕ) → StandsClean v p g → ClearTold p g v w) refl spells (λ w t. fit (t f stands).brings live)
+      (λ start has s r there. (_, clear-shows stored keeps tied start tells s r id v p there live f stands, clear-told stored keeps tied start tells s r id v p there live f stands))
 
   pub set_dirty-allows : (f : ℕ) → StandsIn v p f → x ≡ trans_word (Some (dirty_in f)) → AllowsStep (Stands stored keeps tied shape tells) slots id v i (λ _. x) (told_of shape tells (λ _. DirtyTold p f))
   set_dirty-allows f stands spells =
-      mapping-allows (Some (dirty_in f)) (DirtyTold p f) spells (λ w t. fit t.brings live)
-      (λ start has s r there. record { inner = dirty_view p f v; event = Dirty id p; actor = refl; shows = dirty-shows stored keeps tied start tells s r id v p there live f stands; tells_it = λ b. record { brings = b } })
+      mapping-allows (Some (dirty_in f)) (Dirty id p) (DirtyTold p f) refl spells (λ w t. fit t.brings live)
+      (λ start has s r there. (_, dirty-shows stored keeps tied start tells s r id v p there live f stands, λ b. record { brings = b }))
 
   pub set_clean-allows : (f : ℕ) → IsWritten v p f → x ≡ trans_word (Some (clean_in f)) → AllowsStep (Stands stored keeps tied shape tells) slots id v i (λ _. x) (told_of shape tells (λ _. CleanTold p f))
   set_clean-allows f may spells =
-      mapping-allows (Some (clean_in f)) (CleanTold p f) spells (λ w t. fit t.brings live)
-      (λ start has s r there. record { inner = clean_view p f v; event = Clean id p; actor = refl; shows = clean-shows stored keeps tied start tells s r id v p there live f may; tells_it = λ b. record { brings = b } })
+      mapping-allows (Some (clean_in f)) (Clean id p) (CleanTold p f) refl spells (λ w t. fit t.brings live)
+      (λ start has s r there. (_, clean-shows stored keeps tied start tells s r id v p there live f may, λ b. record { brings = b }))
 
 module _ {X B : Type 0} (stored : B → Stored) (start : Origin) (keeps : Start → Kept X → Type 0) (tied : Start → ℕ → List ℕ → ℕ → List ℕ → Type 0) (tells : Bool) (s : Table (Option B) (View X)) (id p f : ℕ) (v w : View X) (pass : IsPassOf stored start keeps tied tells s id v) where
   -- the table with this translation of the page

@@ -159,6 +159,14 @@ module _ {X B : Type 0} {stored : B → Stored} {keeps : Start → Kept X → Ty
       (release-zero (release-shows owner) telling)
       (λ _. ap (λ (o : Origin). slice_index (words rel) (index_of o places.Next)) same ∙ sym (next-here stored start (new rel)))
 
+  -- it is its event, after which the pass holds the page no more
+  left-event : (w : View X) → w.out ≡ rel.v.out → w.frames ≡ rel.v.frames → w.loads ≡ rel.v.loads → w.seats ≡ put rel.p (seat_left rel.way (seat_of rel.v rel.p)) rel.v.seats
+      → IsEvent stored start rel.s (table_after rel.s (words rel) rel.id w) (event rel) sights.Done
+  left-event w out frames loads seats =
+      is-event (release-legal rel)
+      (left-step stored start rel.way rel.s [] (λ _. []) rel.id rel.v w rel.p (word rel) rel.r.wide.0 rel.inside rel.there out frames loads seats (released-state rel) (released-version rel))
+      (left-sees rel.way (core_shown stored start rel.s) rel.id rel.p)
+
   abbrev before : Kept X
   before = kept_of (old rel) rel.r.history rel.s.views
 
@@ -356,30 +364,21 @@ module _ {X B : Type 0} (stored : B → Stored) (keeps : Start → Kept X → Ty
       let k = release-steps start tells rel number in
       (left rel, k.0, (record { brings = subst (λ y. Brings (did_store (places.State p) (word_of 1 (version + 1))) (own rel ∷ []) [] v y (left rel)) (downgraded-is v p version g) k.1 }, release-kept rel k.0 (release-owner start tells rel number))))
 
-module _ {X B : Type 0} (stored : B → Stored) (start : Origin) (keeps : Start → Kept X → Type 0) (tied : Start → ℕ → List ℕ → ℕ → List ℕ → Type 0) (may_release : Start → List ℕ → List Change → List (Entry X) → Type 0) (tells : Bool) where
-  -- any of the three, after which the pass holds the page no more
-  left-event : (rel : Releasing stored keeps tied start tells may_release) (w : View X) → w.out ≡ rel.v.out → w.frames ≡ rel.v.frames → w.loads ≡ rel.v.loads → w.seats ≡ put rel.p (seat_left rel.way (seat_of rel.v rel.p)) rel.v.seats
-      → IsEvent stored start rel.s (table_after rel.s (words rel) rel.id w) (event rel) sights.Done
-  left-event rel w out frames loads seats =
-      is-event (release-legal rel)
-      (left-step stored start rel.way rel.s [] (λ _. []) rel.id rel.v w rel.p (word rel) rel.r.wide.0 rel.inside rel.there out frames loads seats (released-state rel) (released-version rel))
-      (left-sees rel.way (core_shown stored start rel.s) rel.id rel.p)
-
 module _ {X B : Type 0} (stored : B → Stored) (keeps : Start → Kept X → Type 0) (tied : Start → ℕ → List ℕ → ℕ → List ℕ → Type 0) (tells : Bool) where
   pub release-event : (may_release : Start → List ℕ → List Change → List (Entry X) → Type 0) → ReleaseIsItsEvent stored keeps tied tells may_release
   release-event may_release start s id p version rest said v w pass lp below g told =
       let view = told.brings.view in
-      left-event stored start keeps tied may_release tells (giving-up s pass.rule id v pass.there pass.live p version rest said lp below g) w (ap (λ (y : View X). y.out) view) (ap (λ (y : View X). y.frames) view) (ap (λ (y : View X). y.loads) view) (ap (λ (y : View X). y.seats) view)
+      left-event (giving-up s pass.rule id v pass.there pass.live p version rest said lp below g) w (ap (λ (y : View X). y.out) view) (ap (λ (y : View X). y.frames) view) (ap (λ (y : View X). y.loads) view) (ap (λ (y : View X). y.seats) view)
 
   pub release_evicted-event : (may_release : Start → List ℕ → List Change → List (Entry X) → Type 0) → ReleaseEvictedIsItsEvent stored keeps tied tells
   release_evicted-event may_release start s id p version v w pass lp below g told =
       let view = told.brings.view in
-      left-event stored start keeps tied may_release tells (evicting s pass.rule id v pass.there pass.live p version lp below g) w (ap (λ (y : View X). y.out) view) (ap (λ (y : View X). y.frames) view) (ap (λ (y : View X). y.loads) view) (ap (λ (y : View X). y.seats) view)
+      left-event {may_release = may_release} (evicting s pass.rule id v pass.there pass.live p version lp below g) w (ap (λ (y : View X). y.out) view) (ap (λ (y : View X). y.frames) view) (ap (λ (y : View X). y.loads) view) (ap (λ (y : View X). y.seats) view)
 
   pub downgrade-event : (may_release : Start → List ℕ → List Change → List (Entry X) → Type 0) → DowngradeIsItsEvent stored keeps tied tells may_release
   downgrade-event may_release start s id p version v w pass lp below g told =
       let view = told.brings.view in
-      left-event stored start keeps tied may_release tells (downgrading s pass.rule id v pass.there pass.live p version lp below g) w (ap (λ (y : View X). y.out) view) (ap (λ (y : View X). y.frames) view) (ap (λ (y : View X). y.loads) view) (ap (λ (y : View X). y.seats) view)
+      left-event (downgrading s pass.rule id v pass.there pass.live p version lp below g) w (ap (λ (y : View X). y.out) view) (ap (λ (y : View X). y.frames) view) (ap (λ (y : View X). y.loads) view) (ap (λ (y : View X). y.seats) view)
 
 -- ---- the last version of the page
 

@@ -12,7 +12,7 @@ use Rattle.vm_step.proofs.Prelude.{[], after_step, AllowsStep, ap, arith, became
 use Rattle.vm_step.proofs.Prelude.{false, frame_of, get_elem?, has_lock, Held, if◌then◌else◌, inl, inr, IsLocking, IsPlacedAt, IsSome, Kept, KnowsAsBefore}
 use Rattle.vm_step.proofs.Prelude.{KnowsOwner, KnowsPage, last_of, LeavesRest, length, less-state, less-version, List, loads_at, LOCKED, LockS}
 use Rattle.vm_step.proofs.Prelude.{LockSharedIsItsEvent, ltb-true, Mapping, may_call, MayShare, MayUnlock, MayUnshare, nat_lt, no_held, no_seat, None}
-use Rattle.vm_step.proofs.Prelude.{one_share_more, Option, or_cases, or_left, or_right, Origin, Page, page_at, Put, put, put_at, refl, Ruled, Seat, seat-here}
+use Rattle.vm_step.proofs.Prelude.{one_share_more, Option, or_assoc, or_cases, or_right, Origin, Page, page_at, Put, put, put_at, refl, Ruled, Seat, seat-here}
 use Rattle.vm_step.proofs.Prelude.{seat_of, Shape, shared, shared-here, shared_view, ShareTold, slice_index, slice_set, Some, some, some-same, Stands, Start}
 use Rattle.vm_step.proofs.Prelude.{state-here, state_of, steps, Stored, subst, sym, Table, told_of, true, UnlockS, unlocks-step, UnlockSharedIsItsEvent}
 use Rattle.vm_step.proofs.Prelude.{unshared, unshared_view, UnshareTold, upd-keeps, upd-other, upd-same, version-here, version_of, View, word-here, word_of, ℕ}
@@ -22,19 +22,14 @@ use Rattle.vm_step.proofs.steps.Leaving.{apart, knows-still, last-still, LeavesO
 
 -- a word that may be shared is of a page that is neither locked nor evicted
 pub shareable : (expects : ℕ) → MayShare expects → (state_of expects ≢ LOCKED) × (state_of expects ≢ EVICTED)
-shareable expects may =
-    ⊎_elim
-    (λ (a : state_of expects ≤ 251). ((λ e. omega (arith, a, e)), (λ e. omega (arith, a, e))))
-    (λ (a : state_of expects ≡ 254). ((λ e. omega (arith, a, e)), (λ e. omega (arith, a, e))))
-    may
+shareable expects may = ((λ e. grind (arith, may, e)), (λ e. grind (arith, may, e)))
 
 -- who has a page locked may call its device, or has a share
 lock-ways : (k : Seat) → has_lock k ≡ true → (may_call k ≡ true) ⊎ (1 ≤ k.shares)
 lock-ways k e =
-    ⊎_elim
-    (λ x. inl (or_left k.exclusive k.writing x))
-    (λ y. ⊎_elim (λ w. inl (or_right k.exclusive k.writing w)) (λ n. inr (let lt = ltb-true 0 k.shares n in omega (arith, lt))) (or_cases k.writing (nat_lt 0 k.shares) y))
-    (or_cases k.exclusive (k.writing || nat_lt 0 k.shares) e)
+    ⊎_elim (λ x. inl x)
+    (λ n. inr (let lt = ltb-true 0 k.shares n in omega (arith, lt)))
+    (or_cases (k.exclusive || k.writing) (nat_lt 0 k.shares) (or_assoc k.exclusive k.writing (nat_lt 0 k.shares) ∙ e))
 
 -- what the pass knows of the page, whether or not it had it locked before
 put-else : (known : Bool) (p q : ℕ) (h : Held) (hs : List (Put Held)) → q ≢ p → put_at no_held (if known then hs else put p h hs) q ≡ put_at no_held hs q

@@ -5,13 +5,12 @@ use Rattle.vm_core.specs.declared.event.Seen.TheVariants as sights
 use Rattle.vm_rule.specs.declared.view.Place.TheVariants as places
 use Rattle.vm_step.proofs.{Asides.alone-silent, Asides.OnlyReads, Fit.fit, Here.frame-inside, Quiet.quiet-shows, Standing.allows-load}
 use Rattle.vm_step.proofs.{steps.Content.frame-known, Written.word-loaded}
-use Rattle.vm_step.proofs.Prelude.{[], after_step, AllowsStep, ap, at-bound, Bool, Brings, core_shown, Did, did_load, draft-is, Each, each-upd2, frame_of}
-use Rattle.vm_step.proofs.Prelude.{frame_read, framed, get_elem?, HoldsPage, is_pending, IsLocking, IsPlacedAt, Kept, KnowsAsBefore, KnowsPage, KnowsPages}
-use Rattle.vm_step.proofs.Prelude.{length, List, loads_at, mapping_of, may_call, no_held, no_seat, None, Open, Option, Origin, Page, part-found, put_at, refl}
-use Rattle.vm_step.proofs.Prelude.{Ruled, Seat, seat-here, seat_of, Shape, Shows, slice_index, Some, some, Stands, stands_dirty, Start, State, steps, Stored}
-use Rattle.vm_step.proofs.Prelude.{subst, sym, Table, TLoad, tload-step, tloaded_view, TloadIsItsEvent, told_of, trans_word, translation-here, translation_of}
-use Rattle.vm_step.proofs.Prelude.{TranslationHolds, TranslationTold, true, upd, upd-keeps, upd-other, upd-same, View, Works, world_of, ℕ, ◌+◌, ◌<◌, ◌∙◌, ◌∷◌}
-use Rattle.vm_step.proofs.Prelude.{◌≡◌, ◌≤◌}
+use Rattle.vm_step.proofs.Prelude.{[], AllowsStep, ap, at-bound, Bool, Brings, core_shown, did_load, draft-is, Each, each-upd2, frame_of, frame_read, framed}
+use Rattle.vm_step.proofs.Prelude.{get_elem?, HoldsPage, is_pending, IsLocking, IsPlacedAt, Kept, KnowsAsBefore, KnowsPage, KnowsPages, length, List, loads_at}
+use Rattle.vm_step.proofs.Prelude.{mapping_of, may_call, no_held, no_seat, None, Open, Option, Origin, Page, part-found, put_at, refl, Ruled, Seat, seat-here}
+use Rattle.vm_step.proofs.Prelude.{seat_of, Shape, Shows, slice_index, Some, some, Stands, stands_dirty, Start, State, steps, Stored, subst, sym, Table, TLoad}
+use Rattle.vm_step.proofs.Prelude.{tload-step, tloaded_view, TloadIsItsEvent, told_of, trans_word, translation-here, translation_of, TranslationHolds}
+use Rattle.vm_step.proofs.Prelude.{TranslationTold, true, upd, upd-keeps, upd-other, upd-same, View, Works, world_of, ℕ, ◌+◌, ◌<◌, ◌∙◌, ◌∷◌, ◌≡◌, ◌≤◌}
 use Rattle.vm_step.proofs.steps.Event.{is-event}
 use Rattle.vm_step.proofs.steps.Leaving.{apart, knows-still, LeavesOthers, LeavesOwn, only-of, others-tied, own-from, rest-of}
 
@@ -26,28 +25,19 @@ module _ {X B : Type 0} (stored : B → Stored) (keeps : Start → Kept X → Ty
   abbrev pub tload-found : ℕ
   tload-found = slice_index s.words (start.pages + p)
 
-  abbrev pub tload-did : Did
-  tload-did = did_load (places.Translation p) tload-found
-
-  abbrev pub tload-inner : View X
-  tload-inner = tloaded_view p tload-found v
-
-  abbrev pub tload-after : View X
-  tload-after = after_step stored keeps tied start tells s r s.words [] [] tload-did tload-inner
-
   module _ (there : get_elem? s.views id ≡ some v) (live : v.live ≡ true) (l : p < start.pages) where
-    pub tload-shows : Shows stored keeps tied start tells s r id v s.words r.drafts [] [] tload-did tload-inner (TLoad id p)
+    pub tload-shows : Shows stored keeps tied start tells s r id v s.words r.drafts [] [] (did_load (places.Translation p) tload-found) (tloaded_view p tload-found v) (TLoad id p)
     tload-shows =
         let c : State = core_shown stored start s in
         let k : KnowsPages tied start (world_of stored start r.releases r.drafts s) (is_pending s.views) v = r.known id v there live in
         let seat : Seat = record (seat_of v p) { reading = framed (seat_of v p).reading (mapping_of tload-found) } in
         let page : Page = frame_read (c.pages p) id in
-        let owns : (q : ℕ) → (seat_of tload-inner q).exclusive ≡ (seat_of v q).exclusive = upd-keeps (λ (y : Seat). y.exclusive) (seat_of v) p seat refl in
-        quiet-shows stored keeps tied start tells s r id v s.words r.drafts tload-did tload-inner (TLoad id p) there live
+        let owns : (q : ℕ) → (seat_of (tloaded_view p tload-found v) q).exclusive ≡ (seat_of v q).exclusive = upd-keeps (λ (y : Seat). y.exclusive) (seat_of v) p seat refl in
+        quiet-shows stored keeps tied start tells s r id v s.words r.drafts (did_load (places.Translation p) tload-found) (tloaded_view p tload-found v) (TLoad id p) there live
         (record {
           word = word-loaded start s.words (places.Translation p) r.wide.0 r.spelled l;
           legal = (record { actor = at-bound s.views id v there; page = l }, tt);
-          world = tload-step stored start s r.releases r.drafts id v tload-after p (mapping_of tload-found) l there refl refl refl (translation-here stored start s p l) refl;
+          world = tload-step stored start s r.releases r.drafts id v _ p (mapping_of tload-found) l there refl refl refl (translation-here stored start s p l) refl;
           leaves = refl;
           calls = λ o x. upd-keeps may_call (seat_of v) p seat refl o.page ∙ (r.blocks.away id v o there x).1;
           holds = λ q x. owns q ∙ x;
@@ -66,8 +56,8 @@ module _ {X B : Type 0} (stored : B → Stored) (keeps : Start → Kept X → Ty
           );
         })
 
-    pub tload-told : Brings tload-did [] [] v tload-inner tload-after → TranslationTold p tload-found v tload-after
-    tload-told brings =
+    pub tload-told : (w : View X) → Brings (did_load (places.Translation p) tload-found) [] [] v (tloaded_view p tload-found v) w → TranslationTold p tload-found v w
+    tload-told w brings =
         let trans : ((core_shown stored start s).pages p).trans ≡ mapping_of tload-found = translation-here stored start s p l in
         record {
           brings = brings;
@@ -85,7 +75,7 @@ module _ {X B : Type 0} (stored : B → Stored) (keeps : Start → Kept X → Ty
       (λ start has s r there.
       let l : p < start.pages = subst (λ n. p < n) (sym has.pages) l' in
       let k = steps stored keeps tied start tells s r id v s.words r.drafts [] [] _ _ (TLoad id p) there live number refl refl (tload-shows stored keeps tied start tells s r id v p there live l) in
-      (_, k.0, tload-told stored keeps tied start tells s r id v p there live l k.1))
+      (_, k.0, tload-told stored keeps tied start tells s r id v p there live l _ k.1))
 
   pub tload-event : TloadIsItsEvent stored keeps tied tells
   tload-event start s id p found v w pass finds told =
