@@ -11,9 +11,10 @@ use Rattle.vm_step.proofs.Prelude.{core_shown, count_more, DeviceDid, Did, did_l
 use Rattle.vm_step.proofs.Prelude.{inl, inr, IsCall, IsEvent, IsHome, IsOf, IsPassOf, IsPlacedAt, IsSome, Kept, length, lift_play, List, LOCKED, may_call}
 use Rattle.vm_step.proofs.Prelude.{MayBring, MayRaise, MayTakeOut, Me, NamesActorAndPage, None, on_page, Option, Origin, Out, out_at, out_view, Page, put_back}
 use Rattle.vm_step.proofs.Prelude.{Raise, raise-step, RaiseTold, Read, refl, Release, rest, return_play, ReturnTold, RFail, Ruled, same-word, seat-here}
-use Rattle.vm_step.proofs.Prelude.{seat_of, Shape, shared-here, ShiftTold, ShowsBut, ShowsSame, slice_index, slice_set, slot_play, SlotTold, Some, some}
-use Rattle.vm_step.proofs.Prelude.{some-same, Sound, Stands, Start, State, Step, step, Stored, subst, sym, Table, table_after, taken_from, true, upd, upd-is}
-use Rattle.vm_step.proofs.Prelude.{upd-other, upd-same, upd-self, View, WFail, with_block, words_held, Write, written, ℕ, ⊎_elim, ◌<◌, ◌∙◌, ◌∷◌, ◌≡◌, ◌≤◌, ◌⊎◌}
+use Rattle.vm_step.proofs.Prelude.{seat_of, Shape, shared-here, ShiftTold, ShowsBut, ShowsSame, slice_index, slice_set, slot_of, slot_play, SlotTold, Some}
+use Rattle.vm_step.proofs.Prelude.{some, some-same, Sound, Stands, Start, State, Step, step, Stored, subst, sym, Table, table_after, taken_from, true, upd}
+use Rattle.vm_step.proofs.Prelude.{upd-is, upd-other, upd-same, upd-self, View, WFail, with_block, words_held, Write, written, ℕ, ⊎_elim, ◌<◌, ◌∙◌, ◌∷◌, ◌≡◌}
+use Rattle.vm_step.proofs.Prelude.{◌≤◌, ◌⊎◌}
 use Rattle.vm_step.proofs.Slots.{at-home, block-out-is, core-home, core-slots, did-stays, get-at, has-share, home-after, may-call, returns-home}
 use Rattle.vm_step.proofs.Slots.{shifted-blocks, shifts-slot, slot-view, taken-blocks, takes-slot, written-held}
 use Rattle.vm_step.proofs.steps.Event.{is-event}
@@ -261,17 +262,12 @@ module _ {X B : Type 0} (stored : B → Stored) (start : Origin) (keeps : Start 
       core-slots stored start s (slice_set s.homes p maybe.none) id v w (block_of stored s.homes s.views) pass.there (ap (λ (y : View X). y.seats) view) (ap (λ (y : View X). y.frames) view)
       (taken-blocks stored keeps tied start tells s pass.rule id v pass.there pass.live p b w l may.calls may.none (at-there maybe.none s.homes p (some (Some b)) here) (ap (λ (y : View X). y.out) view))
 
-  pub emptied_same : (found : ℕ) (b : Stored) (v w : View X) → IsPassOf stored start keeps tied tells s id v → v.out ≡ Some (out_at p true b) → ShiftTold p false b found v w → ShowsSame stored start s (brought_to s p None id w)
-  emptied_same found b v w pass out told =
+  pub shifted_same : (was moving : Bool) (found : ℕ) (b : Stored) (v w : View X) → IsPassOf stored start keeps tied tells s id v → v.out ≡ Some (out_at p was b) → ShiftTold p moving b found v w
+      → ShowsSame stored start s (record { words = s.words; homes = slice_set s.homes p (slot_of (out_at p moving b)); views = slice_set s.views id w })
+  shifted_same was moving found b v w pass out told =
       let view = told.brings.view in
-      core-slots stored start s (slice_set s.homes p (some None)) id v w (block_of stored s.homes s.views) pass.there (ap (λ (y : View X). y.seats) view) (ap (λ (y : View X). y.frames) view)
-      (shifted-blocks stored keeps tied start tells s pass.rule id v pass.there pass.live (out_at p true b) false w out (ap (λ (y : View X). y.out) view))
-
-  pub lifted_same : (found : ℕ) (b : Stored) (v w : View X) → IsPassOf stored start keeps tied tells s id v → v.out ≡ Some (out_at p false b) → ShiftTold p true b found v w → ShowsSame stored start s (taken_from s p id w)
-  lifted_same found b v w pass out told =
-      let view = told.brings.view in
-      core-slots stored start s (slice_set s.homes p maybe.none) id v w (block_of stored s.homes s.views) pass.there (ap (λ (y : View X). y.seats) view) (ap (λ (y : View X). y.frames) view)
-      (shifted-blocks stored keeps tied start tells s pass.rule id v pass.there pass.live (out_at p false b) true w out (ap (λ (y : View X). y.out) view))
+      core-slots stored start s (slice_set s.homes p (slot_of (out_at p moving b))) id v w (block_of stored s.homes s.views) pass.there (ap (λ (y : View X). y.seats) view) (ap (λ (y : View X). y.frames) view)
+      (shifted-blocks stored keeps tied start tells s pass.rule id v pass.there pass.live (out_at p was b) moving w out (ap (λ (y : View X). y.out) view))
 
   -- ---- a block that comes home
 

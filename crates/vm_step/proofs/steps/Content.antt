@@ -20,7 +20,7 @@ use Rattle.vm_step.proofs.Prelude.{stands-nowhere, stands-one, stands_in, Start,
 use Rattle.vm_step.proofs.Prelude.{StoresTold, StoreTold, subst, sym, Table, told_of, true, true≢false, upd, upd-other, upd-same, Version, View, word_at, Works}
 use Rattle.vm_step.proofs.Prelude.{World, world_of, ℕ, ⊎_elim, ◌&&◌, ◌*◌, ◌+◌, ◌<◌, ◌||◌, ◌∙◌, ◌∷◌, ◌≡◌, ◌≢◌, ◌≤◌}
 use Rattle.vm_step.proofs.steps.Event.{is-event}
-use Rattle.vm_step.proofs.steps.Leaving.{apart, holds-still, knows-still, last-still, LeavesOthers, LeavesOwn, others-tied, own-from, rest-of}
+use Rattle.vm_step.proofs.steps.Leaving.{apart, holds-still, knows-still, last-still, LeavesOthers, LeavesOwn, others-tied, own-from, works-of}
 
 -- ---- who has a page locked
 
@@ -325,11 +325,7 @@ module _ {X : Type 0} {p f i found : ℕ} {v w : View X} (t : LoadTold p f i fou
 
   -- of a page without an open read it changes nothing
   pub load-works : (seat_of v p).reading ≡ None → Works p (did_load (places.Content f i) found ∷ []) v w
-  load-works closed = record {
-    leaves = rest-of (load-others (λ q. q ≡ p) refl) load-own;
-    seat = load-seat p;
-    loads = load-loads ∙ ap (λ (o : Option Open). loads_more (open_frame o) (loads_at v p) i found) closed;
-    draft = ap (λ (x : View X). put_at [] x.drafts p) t.brings.view;
-    last = λ l. (load-knows p l).last;
-    alone = (load-others (λ q. q ≡ p) refl).runs;
-  }
+  load-works closed =
+      works-of (load-others (λ q. q ≡ p) refl) load-own (load-seat p)
+      (load-loads ∙ ap (λ (o : Option Open). loads_more (open_frame o) (loads_at v p) i found) closed)
+      (ap (λ (x : View X). draft_of x p) t.brings.view) (λ l. (load-knows p l).last)

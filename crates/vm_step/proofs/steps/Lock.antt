@@ -4,7 +4,7 @@
 -- pass knows from then on.
 use Rattle.vm_rule.specs.declared.view.Place.TheVariants as places
 use Rattle.vm_step.proofs.{Evidenced.taken-view, Fit.either-lives, Fit.fit, Here.last, Here.world, Quiet.ShowsQuiet, Standing.allows}
-use Rattle.vm_step.proofs.Exchange.{exchange-event, free-member, free-unheld, held-at, IsExchange, known-held, lockx-exchange, opened, owner-shows}
+use Rattle.vm_step.proofs.Exchange.{exchange-event, free-member, free-unheld, held-at, known-held, lockx-exchange, opened, owner-shows}
 use Rattle.vm_step.proofs.Exchange.{known-owner, page_held, tried, tried-validates}
 use Rattle.vm_step.proofs.Prelude.{[], AllowsStep, ap, arith, Bool, Brings, Did, did_exchange, draft_of, each-map, either, eqb, get_elem?, Held, held_at}
 use Rattle.vm_step.proofs.Prelude.{if◌then◌else◌, IsHeldAt, IsPlacedAt, Kept, last_of, LeavesRest, length, List, LOCKED, locked, locked_view}
@@ -23,25 +23,21 @@ module _ {X B : Type 0} (stored : B → Stored) (keeps : Start → Kept X → Ty
   abbrev pub locked_inner : View X
   locked_inner = locked_view p (page_held stored keeps tied start tells s r p) (last stored keeps tied start tells s r p).words v
 
-  abbrev pub lock-is : IsExchange stored start s r.releases r.drafts id p expects (word_of LOCKED (version_of expects)) (opened stored keeps tied start tells s r p) locked_inner (LockX id p expects) (locked ((world stored keeps tied start tells s r).core.pages p) id)
-  lock-is = lockx-exchange stored start s r.releases r.drafts id v p expects r.wide.0 l there may (page_held stored keeps tied start tells s r p) (last stored keeps tied start tells s r p).words
-
   pub lock-shows : (hit : slice_index s.words p ≡ expects) → ((world stored keeps tied start tells s r).core.pages p).state ≢ LOCKED
       → ShowsQuiet stored keeps tied start tells s r id v (slice_set s.words p (word_of LOCKED (version_of expects))) (opened stored keeps tied start tells s r p) (did_exchange (places.State p) expects (slice_index s.words p) (word_of LOCKED (version_of expects))) locked_inner (LockX id p expects)
   lock-shows hit free =
       let y : Page = locked ((world stored keeps tied start tells s r).core.pages p) id in
       let seat : Seat = record (seat_of v p) { exclusive = true; reading = None } in
-      owner-shows stored keeps tied start tells s r id v there live p l expects (word_of LOCKED (version_of expects)) hit (LockX id p expects) y seat (put p (page_held stored keeps tied start tells s r p) v.held) lock-is refl free
+      owner-shows stored keeps tied start tells s r id v there live p l expects (word_of LOCKED (version_of expects)) hit (LockX id p expects) y seat (put p (page_held stored keeps tied start tells s r p) v.held) (lockx-exchange stored start s r.releases r.drafts id v p expects r.wide.0 l there may (page_held stored keeps tied start tells s r p) (last stored keeps tied start tells s r p).words) refl free
       (λ q ne. upd-other (put_at no_held v.held) p (page_held stored keeps tied start tells s r p) q ne)
       (known-held stored keeps tied start tells s r p l seat v.held y refl refl refl refl)
       (known-owner stored keeps tied start tells s r p seat v.held)
 
-module _ {X B : Type 0} (stored : B → Stored) (keeps : Start → Kept X → Type 0) (tied : Start → ℕ → List ℕ → ℕ → List ℕ → Type 0) (shape : Shape) (tells : Bool)
-    (law : (start : Start) (kept : Kept X) (q p : ℕ) → keeps start kept → q < length kept.pages → p < length kept.pages → tied start q (page_at kept.pages q) p (page_at kept.pages p)) where
+module _ {X B : Type 0} (stored : B → Stored) (keeps : Start → Kept X → Type 0) (tied : Start → ℕ → List ℕ → ℕ → List ℕ → Type 0) (tells : Bool) where
   -- taken or lost, it keeps the rule of every table and tells what it is to tell
-  pub lock_exclusive-allows : (slots id : ℕ) (v : View X) (i : ℕ) (p expects x : ℕ) → v.live ≡ true → 0 < length v.used → p < shape.pages → MayLock expects → x ≡ (word_of LOCKED (version_of expects)) → IsPlacedAt shape (places.State p) i
+  pub lock_exclusive-allows : (law : (start : Start) (kept : Kept X) (q p : ℕ) → keeps start kept → q < length kept.pages → p < length kept.pages → tied start q (page_at kept.pages q) p (page_at kept.pages p)) (shape : Shape) (slots id : ℕ) (v : View X) (i : ℕ) (p expects x : ℕ) → v.live ≡ true → 0 < length v.used → p < shape.pages → MayLock expects → x ≡ (word_of LOCKED (version_of expects)) → IsPlacedAt shape (places.State p) i
       → AllowsStep (Stands stored keeps tied shape tells) slots id v i (λ n. either (eqb n expects) x n) (told_of shape tells (LockTold tied p expects))
-  lock_exclusive-allows slots id v i p expects x live number l' may spells is =
+  lock_exclusive-allows law shape slots id v i p expects x live number l' may spells is =
       allows stored keeps tied shape tells slots id v i (places.State p) (λ n. either (eqb n expects) x n) (λ n. either (eqb n expects) (word_of LOCKED (version_of expects)) n) (LockTold tied p expects) live is (λ n. ap (λ z. either (eqb n expects) z n) spells) (λ n w t. fit t.brings (either-lives _ _ v live live))
       (λ start has s r there _.
       let l : p < start.pages = subst (λ n. p < n) (sym has.pages) l' in
@@ -51,7 +47,7 @@ module _ {X B : Type 0} (stored : B → Stored) (keeps : Start → Kept X → Ty
       let none : slice_index s.words p ≡ expects → share_count (pages p).state ≡ 0 = (λ hit. ap share_count (found-state hit) ∙ (lockable expects may).1) in
       let held : Held = page_held stored keeps tied start tells s r p in
       let k = tried stored keeps tied start tells s r id v there live number p expects (word_of LOCKED (version_of expects)) l (opened stored keeps tied start tells s r p) (locked_inner stored keeps tied start tells s r id v there live p expects l may) (LockX id p expects) _ refl
-      (lock-is stored keeps tied start tells s r id v there live p expects l may)
+      (lockx-exchange stored start s r.releases r.drafts id v p expects r.wide.0 l there may held (last stored keeps tied start tells s r p).words)
       (λ hit. lock-shows stored keeps tied start tells s r id v there live p expects l may hit (free hit)) in (
         k.0,
         k.1.rule,
@@ -75,7 +71,6 @@ module _ {X B : Type 0} (stored : B → Stored) (keeps : Start → Kept X → Ty
         },
       ))
 
-module _ {X B : Type 0} (stored : B → Stored) (keeps : Start → Kept X → Type 0) (tied : Start → ℕ → List ℕ → ℕ → List ℕ → Type 0) (tells : Bool) where
   pub lock_exclusive-event : LockExclusiveIsItsEvent stored keeps tied tells
   lock_exclusive-event start s id p expects found v w pass at may told =
       exchange-event stored start keeps tied tells s id p expects found _ _ _ v _ w _ _ pass at (lockx-exchange stored start s [] (λ _. []) id v p expects pass.rule.wide.0 at.0 pass.there may told.held (last_of w p).words) told.brings refl

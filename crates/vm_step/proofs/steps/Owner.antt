@@ -29,9 +29,6 @@ module _ {X B : Type 0} (stored : B → Stored) (keeps : Start → Kept X → Ty
     standing : (p < start.pages) × ((core.pages p).trans ≡ Some (record { frame = f; dirty = stands.dirty }))
     standing = stands-called stored keeps tied start tells s r id v there live p (record { frame = f; dirty = stands.dirty }) (rw stands.owns refl) stands.stands
 
-    pub stands-there-now : frame_of (core.pages p).trans ≡ Some f
-    stands-there-now = ap frame_of standing.1
-
     pub may-own : MayOwn core id p
     may-own = record {
       names = record { actor = at-bound s.views id v there; page = standing.0 };
@@ -46,7 +43,7 @@ module _ {X B : Type 0} (stored : B → Stored) (keeps : Start → Kept X → Ty
         let words : List ℕ = slice_set s.words (index_of start (places.Owner f)) word in
         let known = r.known id v there live in
         held-shows stored keeps tied start tells s r id v words did (owned_view p word v).held v.frames v.contents e there live (word-left start s.words did word r.wide.0 r.spelled lf refl tt refl) legal
-        (owner-step stored start s r.releases r.drafts id v (after_step stored keeps tied start tells s r words [] [] did (owned_view p word v)) p f word r.wide.0 lf there refl refl refl refl stands-there-now ∙ sym is)
+        (owner-step stored start s r.releases r.drafts id v (after_step stored keeps tied start tells s r words [] [] did (owned_view p word v)) p f word r.wide.0 lf there refl refl refl refl (ap frame_of standing.1) ∙ sym is)
         (ap (λ (y : World). y.core.next) is)
         (λ q. subst (λ (y : World). KnowsPage (seat_of v q) (put_at no_held (owned_view p word v).held q) (y.core.pages q)) (sym is)
         (each-upd (λ k (h : Held). KnowsPage (seat_of v k) h (core.pages k)) (put_at no_held v.held) p (record (held_at v p) { owner = word }) (record { calls = (known.knows p).calls; shares = (known.knows p).shares }) (λ k _. known.knows k) q))
@@ -97,7 +94,7 @@ module _ {X B : Type 0} (stored : B → Stored) (keeps : Start → Kept X → Ty
       let inside : f < start.frames = frame-inside stored keeps tied start tells s pass.rule p (record { frame = f; dirty = stands.dirty }) (standing stored keeps tied start tells s pass.rule id v pass.there pass.live p f stands).1 in
       is-event (legal (core_shown stored start s) id p (may-own stored keeps tied start tells s pass.rule id v pass.there pass.live p f stands))
       ((owner-step stored start s [] (λ _. []) id v w p f (word p) pass.rule.wide.0 inside pass.there (ap (λ (y : View X). y.out) view) (ap (λ (y : View X). y.frames) view) (ap (λ (y : View X). y.seats) view) (ap (λ (y : View X). y.loads) view)
-      (stands-there-now stored keeps tied start tells s pass.rule id v pass.there pass.live p f stands))
+      (ap frame_of (standing stored keeps tied start tells s pass.rule id v pass.there pass.live p f stands).1))
       ∙ sym (is (world_of stored start [] (λ _. []) s) id p))
       (sees (core_shown stored start s) id p)
 

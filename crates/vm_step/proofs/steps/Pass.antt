@@ -107,7 +107,7 @@ module _ {X B : Type 0} (stored : B → Stored) (keeps : Start → Kept X → Ty
         })
 
     -- past the last actor nobody has anything
-    none-past : HasNone before (length s.views)
+    none-past : HasNone (with_actor before) (length s.views)
     none-past = record {
       seats = λ p. ⊎_elim
           (λ l. ap (λ (y : Page). y.seats (length s.views)) (page-in start.pages (table_words start s.words) (block_of stored s.homes s.views) (seats_of s.views) p l) ∙ ap (λ (y : View X). seat_of y p) (at-past spent s.views (length s.views) (omega arith)))
@@ -123,11 +123,7 @@ module _ {X B : Type 0} (stored : B → Stored) (keeps : Start → Kept X → Ty
         record {
           goes = record { rule = splits-ruled stored keeps tied start tells s r id part v is.there is.live number; releases = past.0; history = past.1; drafts = past.2 };
           core = split-world;
-          new = record {
-            seats = λ p. ap (λ (y : World). (y.core.pages p).seats (length s.views)) split-world ∙ none-past.seats p;
-            held = λ f. ap (λ (y : World). y.core.held (length s.views) f) split-world ∙ none-past.held f;
-            loads = λ p. ap (λ (y : World). y.loads p (length s.views)) split-world ∙ none-past.loads p;
-          };
+          new = subst (λ y. HasNone y (length s.views)) (sym split-world) none-past;
         }
 
   -- ---- the pass takes in another, and has the view `took` then

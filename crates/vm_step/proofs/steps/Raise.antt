@@ -18,9 +18,6 @@ noted-both : (p count : ℕ) (l m : List Note) → times_noted p count (l ++ m) 
 noted-both p count [] m = omega arith
 noted-both p count (n ∷ ns) m = let rest : times_noted p count (ns ++ m) ≡ times_noted p count ns + times_noted p count m = noted-both p count ns m in omega arith
 
-abbrev note : ℕ → ℕ → Note
-note p count = record { page = p; count = count }
-
 -- what is noted at a raise is nothing, or the count, which the fault word rises to or which is the last: so of any count of any page, it is not among the new notes, or is the one
 noted-new : (p fault count q n : ℕ) → (times_noted q n (notes_of p fault count) ≡ 0) ⊎ ((times_noted q n (notes_of p fault count) ≡ 1) × (p ≡ q) × (count ≡ n) × ((fault < count) ⊎ (count ≡ MAX_COUNT)))
 noted-new p fault count q n =
@@ -32,7 +29,7 @@ noted-new p fault count q n =
     (cases_eq count MAX_COUNT))
     (cases_lt fault count)
   where
-    one : notes_of p fault count ≡ note p count ∷ [] → (fault < count) ⊎ (count ≡ MAX_COUNT) → (times_noted q n (notes_of p fault count) ≡ 0) ⊎ ((times_noted q n (notes_of p fault count) ≡ 1) × (p ≡ q) × (count ≡ n) × ((fault < count) ⊎ (count ≡ MAX_COUNT)))
+    one : notes_of p fault count ≡ record { page = p; count = count } ∷ [] → (fault < count) ⊎ (count ≡ MAX_COUNT) → (times_noted q n (notes_of p fault count) ≡ 0) ⊎ ((times_noted q n (notes_of p fault count) ≡ 1) × (p ≡ q) × (count ≡ n) × ((fault < count) ⊎ (count ≡ MAX_COUNT)))
     one is up = ⊎_elim
         (λ (e : p ≡ q). ⊎_elim
         (λ (e' : count ≡ n). inr (ap (times_noted q n) is ∙ rw (eq-eqb p q e, eq-eqb count n e') refl, e, e', up))

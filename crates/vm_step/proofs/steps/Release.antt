@@ -25,7 +25,7 @@ use Rattle.vm_step.proofs.Prelude.{upd-other, upd-same, View, without, without-n
 use Rattle.vm_step.proofs.Prelude.{◌≤◌}
 use Rattle.vm_step.proofs.Releasing.{calls-p, changes-each, changes-pages, claimed, downgraded-is, downgrading, draft-known, each-has, entries-one}
 use Rattle.vm_step.proofs.Releasing.{event, evicted-is, evicted-same, evicting, frames-are, giving-up, history-else, inner, last-here, last-known}
-use Rattle.vm_step.proofs.Releasing.{left, left-actor, left-exclusive, left-sees, left-step, member-is, member-page, Members, members-are, mine, new}
+use Rattle.vm_step.proofs.Releasing.{left, left-actor, left-exclusive, left-sees, left-step, member-is, member-page, members-are, mine, new}
 use Rattle.vm_step.proofs.Releasing.{next-is, next-kept, next-version, old, own, owners-are, page-else, page-here, release-legal, released-state}
 use Rattle.vm_step.proofs.Releasing.{released-version, releases, Releasing, seat-else, seat-p, seat_left, state_left, still-owns, unwritten, Way}
 use Rattle.vm_step.proofs.Releasing.{word, words, world-is}
@@ -186,31 +186,25 @@ module _ {X B : Type 0} {stored : B → Stored} {keeps : Start → Kept X → Ty
   abbrev after : Kept X
   after = kept_of (world_of stored start (releases rel) rel.r.drafts (new rel)) (rel.r.history ++ entries_of rel.v rel.said) (slice_set rel.s.views rel.id w)
 
-  group : Members rel.p rel.rest rel.v.pending w.pending
-  group = members-are rel
-
-  draft : (q : ℕ) → (seat_of rel.v q).exclusive ≡ true → draft_of rel.v q ≡ rel.r.drafts q
-  draft q owns = draft-known rel q owns
-
   -- ---- the logical words
 
   -- the released page's are the words that were its draft
   logical-here : logical h' m' rel.p ≡ draft_of rel.v rel.p
   logical-here =
-      logical-last h' m' rel.p (not-member stored keeps tied start tells rel.s rel.r rel.id rel.v rel.there rel.live rel.p w rel.inside rel.owns group.gone)
+      logical-last h' m' rel.p (not-member stored keeps tied start tells rel.s rel.r rel.id rel.v rel.there rel.live rel.p w rel.inside rel.owns (members-are rel).gone)
       ∙ last-here rel
 
   -- so are the drafts of the members that are still to be released
   logical-member : (q : ℕ) → has q rel.rest ≡ true → logical h' m' q ≡ draft_of rel.v q
   logical-member q e =
-      logical-draft h' m' q (any-here (λ (u : View X). has q u.pending) (slice_set rel.s.views rel.id w) rel.id w (set_here rel.s.views rel.id w (at-bound rel.s.views rel.id rel.v rel.there)) (group.comes q e))
+      logical-draft h' m' q (any-here (λ (u : View X). has q u.pending) (slice_set rel.s.views rel.id w) rel.id w (set_here rel.s.views rel.id w (at-bound rel.s.views rel.id rel.v rel.there)) ((members-are rel).comes q e))
       ∙ draft-is start (releases rel) rel.r.drafts q
-      ∙ sym (draft q (member-is rel q e).owns)
+      ∙ sym (draft-known rel q (member-is rel q e).owns)
 
   -- no other page's change
   logical-else : (q : ℕ) → q ≢ rel.p → has q rel.rest ≡ false → logical h' m' q ≡ logical h (is_pending rel.s.views) q
   logical-else q ne none =
-      logical-same h' h m' (is_pending rel.s.views) q (any-same (λ (u : View X). has q u.pending) rel.s.views rel.id rel.v w rel.there (group.others q ne none))
+      logical-same h' h m' (is_pending rel.s.views) q (any-same (λ (u : View X). has q u.pending) rel.s.views rel.id rel.v w rel.there ((members-are rel).others q ne none))
       (λ _. ap (λ (y : History). y.draft) (history-else rel q ne))
       (λ _. ap (λ (y : History). y.last.words) (history-else rel q ne))
 
@@ -240,7 +234,7 @@ module _ {X B : Type 0} {stored : B → Stored} {keeps : Start → Kept X → Ty
       agrees = agrees;
       apart = subst AreApart (sym (changes-pages rel.v (rel.p ∷ rel.rest))) first.apart;
       sized = sized-each (changes_of rel.v (rel.p ∷ rel.rest)) (changes-each rel.v (λ c. length c.new ≡ length c.old) (rel.p ∷ rel.rest) (λ q e.
-          ap length (draft q (member q e).owns ∙ sym (draft-is start rel.r.releases rel.r.drafts q))
+          ap length (draft-known rel q (member q e).owns ∙ sym (draft-is start rel.r.releases rel.r.drafts q))
           ∙ (rel.r.inv.pages q).sizes.draft (locked-here stored start rel.s rel.id q rel.v (rel.r.inv.pages q).locks (page q e) rel.there (member q e).owns)
           ∙ sym (ap length (last-known rel q (member q e).owns) ∙ (rel.r.inv.pages q).sizes.last)));
       few = (let few = first.few in let many = changes-many rel.v rel.rest in omega (arith, few, many));
@@ -300,7 +294,7 @@ module _ {X B : Type 0} {stored : B → Stored} {keeps : Start → Kept X → Ty
       let none : (q : ℕ) → has q rel.rest ≡ false = λ q. ap (has q) later.alone in
       let same-words : (q : ℕ) → logical h (is_pending rel.s.views) q ≡ logical h' m' q = λ q.
       ⊎_elim
-      (λ (e : q ≡ rel.p). ap (logical h (is_pending rel.s.views)) e ∙ logical-draft h (is_pending rel.s.views) rel.p member ∙ draft-is start rel.r.releases rel.r.drafts rel.p ∙ sym (draft rel.p rel.owns) ∙ sym logical-here ∙ ap (logical h' m') (sym e))
+      (λ (e : q ≡ rel.p). ap (logical h (is_pending rel.s.views)) e ∙ logical-draft h (is_pending rel.s.views) rel.p member ∙ draft-is start rel.r.releases rel.r.drafts rel.p ∙ sym (draft-known rel rel.p rel.owns) ∙ sym logical-here ∙ ap (logical h' m') (sym e))
       (λ ne. sym (logical-else q ne (none q)))
       (cases_eq q rel.p) in
       let due : has rel.p rel.v.owed ≡ false = false_from_ne_true (has rel.p rel.v.owed) (λ e. true≢false (sym later.pending ∙ ((mine rel).owed rel.p e).3)) in

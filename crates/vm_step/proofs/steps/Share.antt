@@ -5,18 +5,18 @@ use Rattle.std.proofs.Common.{eq-eqb}
 use Rattle.vm_core.specs.declared.event.Seen.TheVariants as sights
 use Rattle.vm_rule.specs.declared.view.Place.TheVariants as places
 use Rattle.vm_step.proofs.{Evidenced.taken-view, Fit.either-lives, Fit.fit, Quiet.quiet-shows, Quiet.ShowsQuiet, Standing.allows, Written.word-left}
-use Rattle.vm_step.proofs.Exchange.{draft-stays, exchange-event, IsExchange, locks-exchange, names, page_held, seat-shows, sharer-shows, tried}
+use Rattle.vm_step.proofs.Exchange.{draft-stays, exchange-event, locks-exchange, names, page_held, seat-shows, sharer-shows, tried}
 use Rattle.vm_step.proofs.Exchange.{knows-owner, owner_at, tried-validates}
 use Rattle.vm_step.proofs.Here.{frame-inside, version-told, world}
 use Rattle.vm_step.proofs.Prelude.{[], after_step, AllowsStep, ap, arith, became, block-here, Bool, Brings, Did, did_change, did_exchange, either, eqb, EVICTED}
 use Rattle.vm_step.proofs.Prelude.{false, frame_of, get_elem?, has_lock, Held, if◌then◌else◌, inl, inr, IsLocking, IsPlacedAt, IsSome, Kept, KnowsAsBefore}
 use Rattle.vm_step.proofs.Prelude.{KnowsOwner, KnowsPage, last_of, LeavesRest, length, less-state, less-version, List, loads_at, LOCKED, LockS}
-use Rattle.vm_step.proofs.Prelude.{LockSharedIsItsEvent, ltb-true, Mapping, may_call, MayShare, MayUnlock, MayUnshare, nat_lt, no_held, no_seat, None}
-use Rattle.vm_step.proofs.Prelude.{one_share_more, Option, or_assoc, or_cases, or_right, Origin, Page, page_at, Put, put, put_at, refl, Ruled, Seat, seat-here}
-use Rattle.vm_step.proofs.Prelude.{seat_of, Shape, shared, shared-here, shared_view, ShareTold, slice_index, slice_set, Some, some, some-same, Stands, Start}
-use Rattle.vm_step.proofs.Prelude.{state-here, state_of, steps, Stored, subst, sym, Table, told_of, true, UnlockS, unlocks-step, UnlockSharedIsItsEvent}
-use Rattle.vm_step.proofs.Prelude.{unshared, unshared_view, UnshareTold, upd-keeps, upd-other, upd-same, version-here, version_of, View, word-here, word_of, ℕ}
-use Rattle.vm_step.proofs.Prelude.{⊎_elim, ◌%◌, ◌+◌, ◌-◌, ◌<◌, ◌^◌, ◌||◌, ◌∙◌, ◌∷◌, ◌≡◌, ◌≢◌, ◌≤◌, ◌⊎◌}
+use Rattle.vm_step.proofs.Prelude.{LockSharedIsItsEvent, ltb-true, Mapping, may_call, MayShare, MayUnlock, MayUnshare, nat_lt, nat_tests, no_held, no_seat}
+use Rattle.vm_step.proofs.Prelude.{None, one_share_more, Option, or_assoc, or_cases, or_right, Origin, Page, page_at, Put, put, put_at, refl, Ruled, Seat}
+use Rattle.vm_step.proofs.Prelude.{seat-here, seat_of, Shape, shared, shared-here, shared_view, ShareTold, slice_index, slice_set, Some, some, some-same}
+use Rattle.vm_step.proofs.Prelude.{Stands, Start, state-here, state_of, steps, Stored, subst, sym, Table, told_of, true, UnlockS, unlocks-step}
+use Rattle.vm_step.proofs.Prelude.{UnlockSharedIsItsEvent, unshared, unshared_view, UnshareTold, upd-keeps, upd-other, upd-same, version-here, version_of, View}
+use Rattle.vm_step.proofs.Prelude.{word-here, word_of, ℕ, ⊎_elim, ◌%◌, ◌+◌, ◌-◌, ◌<◌, ◌^◌, ◌||◌, ◌∙◌, ◌∷◌, ◌≡◌, ◌≢◌, ◌≤◌, ◌⊎◌}
 use Rattle.vm_step.proofs.steps.Event.{is-event}
 use Rattle.vm_step.proofs.steps.Leaving.{apart, knows-still, last-still, LeavesOthers, LeavesOwn, others-tied, own-from, rest-of}
 
@@ -75,62 +75,19 @@ module _ {X B : Type 0} (stored : B → Stored) (keeps : Start → Kept X → Ty
       knows-shared (has_lock (seat_of v p)) p id (seat_of v p) (page_held stored keeps tied start tells s r p) v.held ((world stored keeps tied start tells s r).core.pages p) refl ((r.known id v there live).knows p)
       (refl, refl, sym (block-here stored start s p l).0, sym (block-here stored start s p l).1)
 
-  abbrev pub share-is : IsExchange stored start s r.releases r.drafts id p expects (word_of (one_share_more (state_of expects)) (version_of expects)) r.drafts shared_inner (LockS id p expects) (shared ((world stored keeps tied start tells s r).core.pages p) id)
-  share-is = locks-exchange stored start s r.releases r.drafts id v p expects r.wide.0 l there may (page_held stored keeps tied start tells s r p)
-
   pub share-shows : slice_index s.words p ≡ expects
       → ShowsQuiet stored keeps tied start tells s r id v (slice_set s.words p (word_of (one_share_more (state_of expects)) (version_of expects))) r.drafts (did_exchange (places.State p) expects (slice_index s.words p) (word_of (one_share_more (state_of expects)) (version_of expects))) shared_inner (LockS id p expects)
   share-shows hit =
       let seat : Seat = record (seat_of v p) { shares = (seat_of v p).shares + 1; reading = None } in
-      sharer-shows stored keeps tied start tells s r id v there live p l expects (word_of (one_share_more (state_of expects)) (version_of expects)) hit (LockS id p expects) (shared ((world stored keeps tied start tells s r).core.pages p) id) seat shared_inner.held share-is
+      sharer-shows stored keeps tied start tells s r id v there live p l expects (word_of (one_share_more (state_of expects)) (version_of expects)) hit (LockS id p expects) (shared ((world stored keeps tied start tells s r).core.pages p) id) seat shared_inner.held (locks-exchange stored start s r.releases r.drafts id v p expects r.wide.0 l there may (page_held stored keeps tied start tells s r p))
       (λ m. m) refl
       (λ q ne. put-else (has_lock (seat_of v p)) p q (page_held stored keeps tied start tells s r p) v.held ne)
       knows-here
       (owner-shared (has_lock (seat_of v p)) p (seat_of v p) (page_held stored keeps tied start tells s r p) v.held (world stored keeps tied start tells s r).core.owners refl ((r.known id v there live).owners p))
 
-module _ {X B : Type 0} (stored : B → Stored) (keeps : Start → Kept X → Type 0) (tied : Start → ℕ → List ℕ → ℕ → List ℕ → Type 0) (tells : Bool)
-    (law : (start : Start) (kept : Kept X) (q p : ℕ) → keeps start kept → q < length kept.pages → p < length kept.pages → tied start q (page_at kept.pages q) p (page_at kept.pages p)) where
-  -- taken or lost, it keeps the rule of every table and tells what it is to tell
-  pub lock_shared-allows : (shape : Shape) (slots id : ℕ) (v : View X) (i : ℕ) (p expects x : ℕ) → v.live ≡ true → 0 < length v.used → p < shape.pages → MayShare expects → x ≡ (word_of (one_share_more (state_of expects)) (version_of expects)) → IsPlacedAt shape (places.State p) i
-      → AllowsStep (Stands stored keeps tied shape tells) slots id v i (λ n. either (eqb n expects) x n) (told_of shape tells (ShareTold tied p expects))
-  lock_shared-allows shape slots id v i p expects x live number l' may spells is =
-      allows stored keeps tied shape tells slots id v i (places.State p) (λ n. either (eqb n expects) x n) (λ n. either (eqb n expects) (word_of (one_share_more (state_of expects)) (version_of expects)) n) (ShareTold tied p expects) live is (λ n. ap (λ z. either (eqb n expects) z n) spells) (λ n w t. fit t.brings (either-lives _ _ v live live))
-      (λ start has s r there _.
-      let l : p < start.pages = subst (λ n. p < n) (sym has.pages) l' in
-      let page : Page = (world stored keeps tied start tells s r).core.pages p in
-      let inner : View X = shared_inner stored keeps tied start tells s r id v there live p expects l may in
-      let known : Held = put_at no_held inner.held p in
-      let frame : frame_of known.mapping ≡ frame_of page.trans = (knows-here stored keeps tied start tells s r id v there live p expects l may).shares (omega arith) in
-      let k = tried stored keeps tied start tells s r id v there live number p expects (word_of (one_share_more (state_of expects)) (version_of expects)) l r.drafts inner (LockS id p expects) _ refl
-      (share-is stored keeps tied start tells s r id v there live p expects l may)
-      (share-shows stored keeps tied start tells s r id v there live p expects l may) in
-      let held : slice_index s.words p ≡ expects → put_at no_held k.0.held p ≡ known = (λ hit. ap (λ (y : View X). put_at no_held y.held p) k.1.brings.view ∙ ap {B = Held} (λ b. put_at no_held (if b then inner else v).held p) (eq-eqb (slice_index s.words p) expects hit)) in (
-        k.0,
-        k.1.rule,
-        record {
-          held = page_held stored keeps tied start tells s r p;
-          brings = k.1.brings;
-          version = k.1.version;
-          since = k.1.since;
-          older = k.1.older;
-          size = k.1.size;
-          resident = λ hit. framed-some _ page.trans (ap (λ (h : Held). frame_of h.mapping) (held hit) ∙ frame) ((r.inv.pages p).stands.resident (unlocked-page stored keeps tied start tells s r id v there live p expects l may hit) (λ e. (shareable expects may).1 (sym (state-here stored start s p l ∙ ap state_of hit) ∙ e)));
-          inside = λ hit m e.
-              let n : (n : Mapping) × (page.trans ≡ Some n) × (m.frame ≡ n.frame) = framed-same _ page.trans m (ap (λ (h : Held). frame_of h.mapping) (held hit) ∙ frame) e in
-              subst (λ (o : Origin). m.frame < o.frames) (sym (r.heard id v there live).same_start)
-              (subst (λ f. f < start.frames) (sym n.2) (frame-inside stored keeps tied start tells s r p n.0 n.1));
-          validates = λ t hit. tried-validates stored keeps tied start tells s r id v there live number p expects (word_of (one_share_more (state_of expects)) (version_of expects)) l law _ k.0 k.1 (unlocked-page stored keeps tied start tells s r id v there live p expects l may hit) t hit;
-        },
-      ))
-
 -- who may call the device with a share less could call it before
 unshared-calls : (k : Seat) → may_call (unshared k) ≡ true → may_call k ≡ true
-unshared-calls k m = less k.exclusive (eqb k.shares 1) k.writing m
-  where
-    less : (x one w : Bool) → (x || (if one then false else w)) ≡ true → (x || w) ≡ true
-    less true one w e = refl
-    less false true w e = cc
-    less false false w e = e
+unshared-calls k m = grind (arith, nat_tests, m)
 
 module _ {X B : Type 0} (stored : B → Stored) (keeps : Start → Kept X → Type 0) (tied : Start → ℕ → List ℕ → ℕ → List ℕ → Type 0) (start : Origin) (tells : Bool) (s : Table (Option B) (View X)) (r : Ruled stored keeps tied start tells s)
     (id : ℕ) (v : View X) (there : get_elem? s.views id ≡ some v) (live : v.live ≡ true) (p : ℕ) (l : p < start.pages) (may : MayUnshare v p) where
@@ -180,6 +137,39 @@ unfolding state_of
 less-wraps n below some' = omega (arith, below, some')
 
 module _ {X B : Type 0} (stored : B → Stored) (keeps : Start → Kept X → Type 0) (tied : Start → ℕ → List ℕ → ℕ → List ℕ → Type 0) (tells : Bool) where
+  -- taken or lost, it keeps the rule of every table and tells what it is to tell
+  pub lock_shared-allows : (law : (start : Start) (kept : Kept X) (q p : ℕ) → keeps start kept → q < length kept.pages → p < length kept.pages → tied start q (page_at kept.pages q) p (page_at kept.pages p)) (shape : Shape) (slots id : ℕ) (v : View X) (i : ℕ) (p expects x : ℕ) → v.live ≡ true → 0 < length v.used → p < shape.pages → MayShare expects → x ≡ (word_of (one_share_more (state_of expects)) (version_of expects)) → IsPlacedAt shape (places.State p) i
+      → AllowsStep (Stands stored keeps tied shape tells) slots id v i (λ n. either (eqb n expects) x n) (told_of shape tells (ShareTold tied p expects))
+  lock_shared-allows law shape slots id v i p expects x live number l' may spells is =
+      allows stored keeps tied shape tells slots id v i (places.State p) (λ n. either (eqb n expects) x n) (λ n. either (eqb n expects) (word_of (one_share_more (state_of expects)) (version_of expects)) n) (ShareTold tied p expects) live is (λ n. ap (λ z. either (eqb n expects) z n) spells) (λ n w t. fit t.brings (either-lives _ _ v live live))
+      (λ start has s r there _.
+      let l : p < start.pages = subst (λ n. p < n) (sym has.pages) l' in
+      let page : Page = (world stored keeps tied start tells s r).core.pages p in
+      let inner : View X = shared_inner stored keeps tied start tells s r id v there live p expects l may in
+      let known : Held = put_at no_held inner.held p in
+      let frame : frame_of known.mapping ≡ frame_of page.trans = (knows-here stored keeps tied start tells s r id v there live p expects l may).shares (omega arith) in
+      let k = tried stored keeps tied start tells s r id v there live number p expects (word_of (one_share_more (state_of expects)) (version_of expects)) l r.drafts inner (LockS id p expects) _ refl
+      (locks-exchange stored start s r.releases r.drafts id v p expects r.wide.0 l there may (page_held stored keeps tied start tells s r p))
+      (share-shows stored keeps tied start tells s r id v there live p expects l may) in
+      let held : slice_index s.words p ≡ expects → put_at no_held k.0.held p ≡ known = (λ hit. ap (λ (y : View X). put_at no_held y.held p) k.1.brings.view ∙ ap {B = Held} (λ b. put_at no_held (if b then inner else v).held p) (eq-eqb (slice_index s.words p) expects hit)) in (
+        k.0,
+        k.1.rule,
+        record {
+          held = page_held stored keeps tied start tells s r p;
+          brings = k.1.brings;
+          version = k.1.version;
+          since = k.1.since;
+          older = k.1.older;
+          size = k.1.size;
+          resident = λ hit. framed-some _ page.trans (ap (λ (h : Held). frame_of h.mapping) (held hit) ∙ frame) ((r.inv.pages p).stands.resident (unlocked-page stored keeps tied start tells s r id v there live p expects l may hit) (λ e. (shareable expects may).1 (sym (state-here stored start s p l ∙ ap state_of hit) ∙ e)));
+          inside = λ hit m e.
+              let n : (n : Mapping) × (page.trans ≡ Some n) × (m.frame ≡ n.frame) = framed-same _ page.trans m (ap (λ (h : Held). frame_of h.mapping) (held hit) ∙ frame) e in
+              subst (λ (o : Origin). m.frame < o.frames) (sym (r.heard id v there live).same_start)
+              (subst (λ f. f < start.frames) (sym n.2) (frame-inside stored keeps tied start tells s r p n.0 n.1));
+          validates = λ t hit. tried-validates stored keeps tied start tells s r id v there live number p expects (word_of (one_share_more (state_of expects)) (version_of expects)) l law _ k.0 k.1 (unlocked-page stored keeps tied start tells s r id v there live p expects l may hit) t hit;
+        },
+      ))
+
   -- it keeps the rule of every table and tells what it is to tell
   pub unlock_shared-allows : (shape : Shape) (slots id : ℕ) (v : View X) (i : ℕ) (p : ℕ) → v.live ≡ true → 0 < length v.used → p < shape.pages → MayUnshare v p → IsPlacedAt shape (places.State p) i
       → AllowsStep (Stands stored keeps tied shape tells) slots id v i (λ n. (n + (2 ^ 64 - 2 ^ 56)) % 2 ^ 64) (told_of shape tells (UnshareTold p))

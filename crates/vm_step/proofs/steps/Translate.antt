@@ -5,14 +5,15 @@ use Rattle.vm_core.specs.declared.event.Seen.TheVariants as sights
 use Rattle.vm_rule.specs.declared.view.Place.TheVariants as places
 use Rattle.vm_step.proofs.{Asides.alone-silent, Asides.OnlyReads, Fit.fit, Here.frame-inside, Quiet.quiet-shows, Standing.allows-load}
 use Rattle.vm_step.proofs.{steps.Content.frame-known, Written.word-loaded}
-use Rattle.vm_step.proofs.Prelude.{[], AllowsStep, ap, at-bound, Bool, Brings, core_shown, did_load, draft-is, Each, each-upd2, frame_of, frame_read, framed}
-use Rattle.vm_step.proofs.Prelude.{get_elem?, HoldsPage, is_pending, IsLocking, IsPlacedAt, Kept, KnowsAsBefore, KnowsPage, KnowsPages, length, List, loads_at}
-use Rattle.vm_step.proofs.Prelude.{mapping_of, may_call, no_held, no_seat, None, Open, Option, Origin, Page, part-found, put_at, refl, Ruled, Seat, seat-here}
-use Rattle.vm_step.proofs.Prelude.{seat_of, Shape, Shows, slice_index, Some, some, Stands, stands_dirty, Start, State, steps, Stored, subst, sym, Table, TLoad}
-use Rattle.vm_step.proofs.Prelude.{tload-step, tloaded_view, TloadIsItsEvent, told_of, trans_word, translation-here, translation_of, TranslationHolds}
-use Rattle.vm_step.proofs.Prelude.{TranslationTold, true, upd, upd-keeps, upd-other, upd-same, View, Works, world_of, ℕ, ◌+◌, ◌<◌, ◌∙◌, ◌∷◌, ◌≡◌, ◌≤◌}
+use Rattle.vm_step.proofs.Prelude.{[], AllowsStep, ap, at-bound, Bool, Brings, core_shown, did_load, draft-is, draft_of, Each, each-upd2, frame_of, frame_read}
+use Rattle.vm_step.proofs.Prelude.{framed, get_elem?, HoldsPage, is_pending, IsLocking, IsPlacedAt, Kept, KnowsAsBefore, KnowsPage, KnowsPages, length, List}
+use Rattle.vm_step.proofs.Prelude.{loads_at, mapping_of, may_call, no_held, no_seat, None, Open, Option, Origin, Page, part-found, put_at, refl, Ruled, Seat}
+use Rattle.vm_step.proofs.Prelude.{seat-here, seat_of, Shape, Shows, slice_index, Some, some, Stands, stands_dirty, Start, State, steps, Stored, subst, sym}
+use Rattle.vm_step.proofs.Prelude.{Table, TLoad, tload-step, tloaded_view, TloadIsItsEvent, told_of, trans_word, translation-here, translation_of}
+use Rattle.vm_step.proofs.Prelude.{TranslationHolds, TranslationTold, true, upd, upd-keeps, upd-other, upd-same, View, Works, world_of, ℕ, ◌+◌, ◌<◌, ◌∙◌, ◌∷◌}
+use Rattle.vm_step.proofs.Prelude.{◌≡◌, ◌≤◌}
 use Rattle.vm_step.proofs.steps.Event.{is-event}
-use Rattle.vm_step.proofs.steps.Leaving.{apart, knows-still, LeavesOthers, LeavesOwn, only-of, others-tied, own-from, rest-of}
+use Rattle.vm_step.proofs.steps.Leaving.{apart, knows-still, LeavesOthers, LeavesOwn, only-of, others-tied, own-from, works-of}
 
 -- the translation that an open read got holds: the word is the page's now
 translation-now : (pages : ℕ → Page) (p found : ℕ) (o : Option Open) → ((x : Open) → o ≡ Some x → x.version ≤ (pages p).version) → mapping_of found ≡ (pages p).trans
@@ -115,14 +116,10 @@ module _ {X : Type 0} {p found : ℕ} {v w : View X} (t : TranslationTold p foun
 
   -- of a page without an open read it changes nothing
   pub tload-works : (seat_of v p).reading ≡ None → Works p (did_load (places.Translation p) found ∷ []) v w
-  tload-works closed = record {
-    leaves = rest-of (tload-others (λ q. q ≡ p) refl) tload-own;
-    seat = tload-seat ∙ (λ i. record (seat_of v p) { reading = framed (closed i) (mapping_of found) }) ∙ sym (λ i. record (seat_of v p) { reading = closed i });
-    loads = tload-loads p;
-    draft = ap (λ (x : View X). put_at [] x.drafts p) t.brings.view;
-    last = λ l. (tload-knows p l).last;
-    alone = (tload-others (λ q. q ≡ p) refl).runs;
-  }
+  tload-works closed =
+      works-of (tload-others (λ q. q ≡ p) refl) tload-own (tload-seat ∙ (λ i. record (seat_of v p) { reading = framed (closed i) (mapping_of found) }) ∙ sym (λ i. record (seat_of v p) { reading = closed i }))
+      (tload-loads p)
+      (ap (λ (x : View X). draft_of x p) t.brings.view) (λ l. (tload-knows p l).last)
 
 -- it changes no more than an open read
 pub translation-only : {X : Type 0} (touched : ℕ → Type 0) (p found : ℕ) (v w : View X) → touched p → TranslationTold p found v w → OnlyReads touched (did_load (places.Translation p) found ∷ []) v w

@@ -4,7 +4,7 @@ use Rattle.vm_rule.specs.declared.view.Place.TheVariants as places
 use Rattle.vm_step.proofs.{Asides.alone-silent, Asides.OnlyReads, Evidenced.lost-view}
 use Rattle.vm_step.proofs.Prelude.{[], ap, Brings, Did, did_exchange, draft_of, HoldsPage, if◌then◌else◌, IsLocking, KnowsAsBefore, loads_at, MarkTold, None}
 use Rattle.vm_step.proofs.Prelude.{refl, seat_of, View, Works, ℕ, ◌==◌, ◌∷◌, ◌≡◌, ◌≢◌}
-use Rattle.vm_step.proofs.steps.Leaving.{holds-still, knows-still, LeavesOwn, only-of, others-still, own-from, rest-of}
+use Rattle.vm_step.proofs.steps.Leaving.{holds-still, knows-still, LeavesOwn, only-of, others-still, own-from, works-of}
 
 module _ {X : Type 0} {did : Did} {v w : View X} (b : Brings did [] [] v v w) where
   pub still-own : LeavesOwn v w
@@ -23,14 +23,7 @@ module _ {X : Type 0} {did : Did} {v w : View X} (b : Brings did [] [] v v w) wh
   still-knows = knows-still b refl refl refl
 
   pub still-works : (p : ℕ) → Works p (did ∷ []) v w
-  still-works p = record {
-    leaves = rest-of (others-still b) still-own;
-    seat = still-seat p;
-    loads = still-loads p;
-    draft = ap (λ (x : View X). draft_of x p) b.view;
-    last = λ l. (still-knows p l).last;
-    alone = (others-still {touched = λ q. q ≡ p} b).runs;
-  }
+  still-works p = works-of (others-still b) still-own (still-seat p) (still-loads p) (ap (λ x. draft_of x p) b.view) (λ l. (still-knows p l).last)
 
 -- an exchange of any kind that was lost: with this, all of the above holds of it
 pub lost-brings : {X : Type 0} {did : Did} {expects found : ℕ} {v w : View X} (inner : View X) → found ≢ expects → Brings did [] [] v (if found == expects then inner else v) w → Brings did [] [] v v w
