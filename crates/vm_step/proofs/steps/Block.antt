@@ -66,17 +66,16 @@ module _ {X B : Type 0} (stored : B → Stored) (keeps : Start → Kept X → Ty
       at-fault shape slots id me p i (λ st. slot_play shape tells stored p st me) live is
       (λ start has s r many there below.
       let l : p < start.pages = subst (λ n. p < n) (sym has.pages) l' in
-      let v : View X = me.0 in
       let place : ℕ = index_of start (places.Fault p) in
-      let h = at-home stored keeps tied start tells s r id v there live p l calls none in
-      let w : View X = slot-view stored keeps tied start tells s r id v there live (slice_set s.homes p maybe.none) p true (stored h.0) in
-      let k = takes-slot stored keeps tied start tells s r id v there live number p h.0 l calls none h.1 in
+      let h = at-home stored keeps tied start tells s r id me.0 there live p l calls none in
+      let w : View X = slot-view stored keeps tied start tells s r id me.0 there live (slice_set s.homes p maybe.none) p true (stored h.0) in
+      let k = takes-slot stored keeps tied start tells s r id me.0 there live number p h.0 l calls none h.1 in
       let inside : p < length s.homes = subst (λ n. p < n) (sym r.wide.1) l in (
         w,
         picks p (Some h.0),
         get-at maybe.none s.homes p (maybe.some (Some h.0)) inside h.1,
         subst (λ ws. Ruled stored keeps tied start tells (record { words = ws; homes = slice_set s.homes p maybe.none; views = slice_set s.views id w })) (sym (same-word s.words place)) k.0,
-        (is-of stored keeps tied start tells s r id v there live shape has, (h.0, k.1, refl)),
+        (is-of stored keeps tied start tells s r id me.0 there live shape has, (h.0, k.1, refl)),
       ))
 
   -- the empty slot of a block that is out goes home
@@ -85,18 +84,16 @@ module _ {X B : Type 0} (stored : B → Stored) (keeps : Start → Kept X → Ty
   empty-allows shape slots id me p i b live number is out carried =
       at-fault shape slots id me p i (λ st. empty_play shape tells p st me) live is
       (λ start has s r many there below.
-      let v : View X = me.0 in
       let place : ℕ = index_of start (places.Fault p) in
-      let o : Out = out_at p true b in
       let homes : List (maybe.Option (Option B)) = slice_set s.homes p (maybe.some None) in
-      let w : View X = slot-view stored keeps tied start tells s r id v there live homes p false b in
-      let k = shifts-slot stored keeps tied start tells s r id v there live number o false out in (
+      let w : View X = slot-view stored keeps tied start tells s r id me.0 there live homes p false b in
+      let k = shifts-slot stored keeps tied start tells s r id me.0 there live number (out_at p true b) false out in (
         w,
         gives,
         tt,
         subst (λ hs. Ruled stored keeps tied start tells (record { words = slice_set s.words place (slice_index s.words place); homes = hs; views = slice_set s.views id w })) (ap (put_back s.homes) (sym carried))
             (subst (λ ws. Ruled stored keeps tied start tells (record { words = ws; homes = homes; views = slice_set s.views id w })) (sym (same-word s.words place)) k.0),
-        (λ c e. (subst (λ y. ShiftTold p false y (slice_index s.words place) v w) (one-out p true me.0.out b c out e) k.1, ap rest carried)),
+        (λ c e. (subst (λ y. ShiftTold p false y (slice_index s.words place) me.0 w) (one-out p true me.0.out b c out e) k.1, ap rest carried)),
       ))
 
   -- it is taken
@@ -105,24 +102,23 @@ module _ {X B : Type 0} (stored : B → Stored) (keeps : Start → Kept X → Ty
   lift-allows shape slots id me p i b live number is out =
       at-fault shape slots id me p i (λ st. lift_play shape tells p st me) live is
       (λ start has s r many there below.
-      let v : View X = me.0 in
       let place : ℕ = index_of start (places.Fault p) in
       let o : Out = out_at p false b in
       let homes : List (maybe.Option (Option B)) = slice_set s.homes p maybe.none in
-      let w : View X = slot-view stored keeps tied start tells s r id v there live homes p true b in
-      let k = shifts-slot stored keeps tied start tells s r id v there live number o true out in
-      let away = r.blocks.away id v o there out in
+      let w : View X = slot-view stored keeps tied start tells s r id me.0 there live homes p true b in
+      let k = shifts-slot stored keeps tied start tells s r id me.0 there live number o true out in
+      let away = r.blocks.away id me.0 o there out in
       let inside : p < length s.homes = subst (λ n. p < n) (sym r.wide.1) away.0 in (
         w,
         picks p None,
         get-at maybe.none s.homes p (maybe.some None) inside away.2,
         subst (λ ws. Ruled stored keeps tied start tells (record { words = ws; homes = homes; views = slice_set s.views id w })) (sym (same-word s.words place)) k.0,
         (
-          is-of stored keeps tied start tells s r id v there live shape has,
+          is-of stored keeps tied start tells s r id me.0 there live shape has,
           (λ c e. (
-            subst (λ y. ShiftTold p true y (slice_index s.words place) v w) (one-out p false me.0.out b c out e) k.1,
+            subst (λ y. ShiftTold p true y (slice_index s.words place) me.0 w) (one-out p false me.0.out b c out e) k.1,
             refl,
-            λ new did. did-stays stored keeps tied start tells s r id v there live homes p true b c new away.0 away.1 did,
+            λ new did. did-stays stored keeps tied start tells s r id me.0 there live homes p true b c new away.0 away.1 did,
           )),
         ),
       ))
@@ -135,18 +131,17 @@ module _ {X B : Type 0} (stored : B → Stored) (keeps : Start → Kept X → Ty
   return-allows shape slots id me p i b old live number is out carried did bound =
       at-fault shape slots id me p i (λ st. return_play shape tells stored p st me) live is
       (λ start has s r many there below.
-      let v : View X = me.0 in
       let place : ℕ = index_of start (places.Fault p) in
-      let w : View X = home-after stored keeps tied start tells s r id v there live p b in
-      let k = returns-home stored keeps tied start tells s r id v there live (out_at p true old) b out number did bound in (
+      let w : View X = home-after stored keeps tied start tells s r id me.0 there live p b in
+      let k = returns-home stored keeps tied start tells s r id me.0 there live (out_at p true old) b out number did bound in (
         w,
         gives,
         tt,
         subst (λ hs. Ruled stored keeps tied start tells (record { words = slice_set s.words place (slice_index s.words place); homes = hs; views = slice_set s.views id w })) (ap (put_back s.homes) (sym carried))
             (subst (λ ws. Ruled stored keeps tied start tells (record { words = ws; homes = slice_set s.homes p (maybe.some (Some b)); views = slice_set s.views id w })) (sym (same-word s.words place)) k.0),
         (λ c old' e out' did' bound'. (
-          is-of stored keeps tied start tells s r id v there live shape has,
-          subst (λ y. ReturnTold p (stored y) (slice_index s.words place) v w) (some-same b c (one-slot p p (Some b) (Some c) [] [] (sym carried ∙ e))) k.1,
+          is-of stored keeps tied start tells s r id me.0 there live shape has,
+          subst (λ y. ReturnTold p (stored y) (slice_index s.words place) me.0 w) (some-same b c (one-slot p p (Some b) (Some c) [] [] (sym carried ∙ e))) k.1,
           ap rest carried,
         )),
       ))

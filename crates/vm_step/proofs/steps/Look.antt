@@ -113,11 +113,6 @@ module _ {X B : Type 0} (stored : B → Stored) (keeps : Start → Kept X → Ty
   look-after = after_step stored keeps tied start tells s r s.words [] look-entries look-did look-inner
 
   module _ (there : get_elem? s.views id ≡ some v) (live : v.live ≡ true) (l : p < start.pages) where
-    world-looked : world_of stored start r.releases r.drafts (became stored keeps tied start tells s s.words id look-after) ≡ world_after old (Look id p)
-    world-looked =
-        look-step stored start s r.releases r.drafts id v look-after p (record ((core_shown stored start s).pages p) { state = state_of (slice_index s.words p); version = version_of (slice_index s.words p) }) l there refl refl
-        (sym (state-here stored start s p l)) (sym (version-here stored start s p l)) refl refl
-
     pub pending-looked : is_pending (slice_set s.views id look-after) ≡ is_pending s.views
     pending-looked = fun_ext (λ q. any-same (λ y. has q y.pending) s.views id v look-after there refl)
 
@@ -237,11 +232,12 @@ module _ {X B : Type 0} (stored : B → Stored) (keeps : Start → Kept X → Ty
         pub look-shows : Shows stored keeps tied start tells s r id v s.words r.drafts [] look-entries look-did look-inner (Look id p)
         look-shows =
             let k : KnowsPages tied start old (is_pending s.views) v = r.known id v there live in
+            let page : Page = record (old.core.pages p) { state = state_of (slice_index s.words p); version = version_of (slice_index s.words p) } in
             event-shows stored keeps tied start tells s r id v s.words r.drafts look-entries look-did look-inner (Look id p) there live
             (record {
               word = word-loaded start s.words (places.State p) r.wide.0 r.spelled l;
               legal = (record { actor = at-bound s.views id v there; page = l }, tt);
-              leads = record { world = world-looked; pending = refl; members = λ q _. refl; up = omega arith };
+              leads = record { world = look-step stored start s r.releases r.drafts id v look-after p page l there refl refl (sym (state-here stored start s p l)) (sym (version-here stored start s p l)) refl refl; pending = refl; members = λ q _. refl; up = omega arith };
               same = (refl, refl, refl, refl, refl, refl, refl);
               calls = λ o x. seat-keeps may_call refl o.page ∙ (r.blocks.away id v o there x).1;
               holds = λ q x. seat-keeps (λ y. y.exclusive) refl q ∙ x;
@@ -262,15 +258,13 @@ module _ {X B : Type 0} (stored : B → Stored) (keeps : Start → Kept X → Ty
 
         pub look-kept : tells ≡ true → IsKeptNow keeps p (look-left ≡ Same) look-after
         look-kept t =
-            let w : View X = look-after in
             let telling : start.tells ≡ true = r.telling ∙ t in
-            let same : w.start ≡ start = (r.heard id v there live).same_start in
-            let pending : (q : ℕ) → is_pending (slice_set s.views id w) q ≡ is_pending s.views q = λ q. ap (λ (f : ℕ → Bool). f q) pending-looked in
-            kept-now stored keeps start (became stored keeps tied start tells s s.words id w) r.drafts w p (look-left ≡ Same) l same
+            let same : look-after.start ≡ start = (r.heard id v there live).same_start in
+            kept-now stored keeps start (became stored keeps tied start tells s s.words id look-after) r.drafts look-after p (look-left ≡ Same) l same
             (look-shows.owner telling (r.owner telling))
-            (λ stays. pending p ∙ not-pending stored keeps tied start tells s r p l (free-here stored start s p l (seat_of v p).reading stays))
+            (λ stays. ap (λ (f : ℕ → Bool). f p) pending-looked ∙ not-pending stored keeps tied start tells s r p l (free-here stored start s p l (seat_of v p).reading stays))
             (λ q e. (
-              any-here (λ (u : View X). has q u.pending) (slice_set s.views id w) id w (set_here s.views id w (at-bound s.views id v there)) e,
+              any-here (λ (u : View X). has q u.pending) (slice_set s.views id look-after) id look-after (set_here s.views id look-after (at-bound s.views id v there)) e,
               sym ((r.known id v there live).drafts q (((r.known id v there live).pending q e).0) ∙ draft-is start r.releases r.drafts q),
             ))
             (λ q le l'.

@@ -47,6 +47,25 @@ changes-many v [] = refl
 changes-many v (q ∷ qs) = ap suc (changes-many v qs)
 
 module _ {X B : Type 0} {stored : B → Stored} {keeps : Start → Kept X → Type 0} {tied : Start → ℕ → List ℕ → ℕ → List ℕ → Type 0} {start : Origin} {tells : Bool} {may_release : Start → List ℕ → List Change → List (Entry X) → Type 0} (rel : Releasing stored keeps tied start tells may_release) where
+  abbrev before : Kept X
+  before = kept_of (old rel) rel.r.history rel.s.views
+
+  abbrev w : View X
+  w = left rel
+
+  -- the histories, and who is a member still to be released, before and after
+  abbrev h : ℕ → History
+  h = histories_of start rel.r.releases rel.r.drafts
+
+  abbrev h' : ℕ → History
+  h' = histories_of start (releases rel) rel.r.drafts
+
+  abbrev m' : ℕ → Bool
+  m' = is_pending (slice_set rel.s.views rel.id w)
+
+  abbrev after : Kept X
+  after = kept_of (world_of stored start (releases rel) rel.r.drafts (new rel)) (rel.r.history ++ entries_of rel.v rel.said) (slice_set rel.s.views rel.id w)
+
   still-pending : (q : ℕ) → has q (inner rel).pending ≡ true → ((seat_of (inner rel) q).exclusive ≡ true) × (start.tells ≡ true → (core_shown stored start (new rel)).next ≤ q → rel.r.drafts q ≡ (histories_of start (releases rel) rel.r.drafts q).last.words)
   still-pending q e =
       let m = (members-are rel).among q e in
@@ -64,7 +83,7 @@ module _ {X B : Type 0} {stored : B → Stored} {keeps : Start → Kept X → Ty
       let ne : q ≢ rel.p = (λ h. true≢false (sym (eq-eqb q rel.p h) ∙ none.0)) in
       (still-owns rel q ne o.0, o.1, subst (λ n. q < n) (sym (next-is rel)) o.2, (members-are rel).others q ne none.1 ∙ o.3)
 
-  pub release-shows : (start.tells ≡ true → keeps (began_of start) (kept_of (old rel) rel.r.history rel.s.views) → keeps (began_of start) (kept_of (world_of stored start (releases rel) rel.r.drafts (new rel)) (rel.r.history ++ entries_of rel.v rel.said) (slice_set rel.s.views rel.id (left rel))))
+  pub release-shows : (start.tells ≡ true → keeps (began_of start) before → keeps (began_of start) after)
       → Shows stored keeps tied start tells rel.s rel.r rel.id rel.v (words rel) rel.r.drafts (own rel ∷ []) (entries_of rel.v rel.said) (did_store (places.State rel.p) (word rel)) (inner rel) (event rel)
   release-shows owner = record {
     wide = length-set rel.s.words (index_of start (places.State rel.p)) (word rel) ∙ rel.r.wide.0;
@@ -128,23 +147,21 @@ module _ {X B : Type 0} {stored : B → Stored} {keeps : Start → Kept X → Ty
       → start.tells ≡ true → (q : ℕ) → (core_shown stored start (new rel)).next ≤ q → q < start.pages
       → logical (histories_of start (releases rel) rel.r.drafts) (is_pending (slice_set rel.s.views rel.id (left rel))) q ≡ replicate 64 0
   release-zero shows t q le l =
-      let h : ℕ → History = histories_of start (releases rel) rel.r.drafts in
-      let members : ℕ → Bool = is_pending (slice_set rel.s.views rel.id (left rel)) in
       let early : (old rel).core.next ≤ q = subst (λ n. n ≤ q) (next-is rel) le in
       ⊎_elim
       (λ e. let k = any-true (λ (u : View X). has q u.pending) (slice_set rel.s.views rel.id (left rel)) e in
-      logical-draft h members q e
+      logical-draft h' m' q e
       ∙ draft-is start (releases rel) rel.r.drafts q
       ∙ ⊎_elim
       (λ (own_page : (k.0 ≡ rel.id) × (left rel ≡ k.1)). (shows.pending q (subst (λ (u : View X). has q u.pending ≡ true) (sym own_page.1) k.3)).1 t le ∙ shows.zero t q le l)
       (λ (other : (k.0 ≢ rel.id) × (get_elem? rel.s.views k.0 ≡ some k.1)).
       sym (draft-is start rel.r.releases rel.r.drafts q) ∙ draft-unclaimed stored keeps tied start tells rel.s rel.r t k.0 k.1 q other.1 k.3 early ∙ rel.r.zero t q early l)
       (at_set rel.s.views rel.id k.0 (left rel) k.1 k.2))
-      (λ none. logical-last h members q none ∙ shows.zero t q le l)
-      (cases_Bool (members q))
+      (λ none. logical-last h' m' q none ∙ shows.zero t q le l)
+      (cases_Bool (m' q))
 
   pub release-kept : Ruled stored keeps tied start tells (new rel)
-      → (start.tells ≡ true → keeps (began_of start) (kept_of (old rel) rel.r.history rel.s.views) → keeps (began_of start) (kept_of (world_of stored start (releases rel) rel.r.drafts (new rel)) (rel.r.history ++ entries_of rel.v rel.said) (slice_set rel.s.views rel.id (left rel))))
+      → (start.tells ≡ true → keeps (began_of start) before → keeps (began_of start) after)
       → tells ≡ true → IsKeptNow keeps rel.p (Unit {0}) (left rel)
   release-kept ruled owner t =
       let telling : start.tells ≡ true = rel.r.telling ∙ t in
@@ -160,31 +177,15 @@ module _ {X B : Type 0} {stored : B → Stored} {keeps : Start → Kept X → Ty
       (λ _. ap (λ (o : Origin). slice_index (words rel) (index_of o places.Next)) same ∙ sym (next-here stored start (new rel)))
 
   -- it is its event, after which the pass holds the page no more
-  left-event : (w : View X) → w.out ≡ rel.v.out → w.frames ≡ rel.v.frames → w.loads ≡ rel.v.loads → w.seats ≡ put rel.p (seat_left rel.way (seat_of rel.v rel.p)) rel.v.seats
+  left-event : {did : Did} {released : List Release} {entries : List (Entry X)} {y w : View X} → BringsWith did None released entries rel.v y w
+      → y.out ≡ rel.v.out → y.frames ≡ rel.v.frames → y.loads ≡ rel.v.loads → y.seats ≡ put rel.p (seat_left rel.way (seat_of rel.v rel.p)) rel.v.seats
       → IsEvent stored start rel.s (table_after rel.s (words rel) rel.id w) (event rel) sights.Done
-  left-event w out frames loads seats =
+  left-event {w = w} b out frames loads seats =
       is-event (release-legal rel)
-      (left-step stored start rel.way rel.s [] (λ _. []) rel.id rel.v w rel.p (word rel) rel.r.wide.0 rel.inside rel.there out frames loads seats (released-state rel) (released-version rel))
+      (left-step stored start rel.way rel.s [] (λ _. []) rel.id rel.v w rel.p (word rel) rel.r.wide.0 rel.inside rel.there
+      (ap (λ (x : View X). x.out) b.view ∙ out) (ap (λ (x : View X). x.frames) b.view ∙ frames) (ap (λ (x : View X). x.loads) b.view ∙ loads) (ap (λ (x : View X). x.seats) b.view ∙ seats)
+      (released-state rel) (released-version rel))
       (left-sees rel.way (core_shown stored start rel.s) rel.id rel.p)
-
-  abbrev before : Kept X
-  before = kept_of (old rel) rel.r.history rel.s.views
-
-  abbrev w : View X
-  w = left rel
-
-  -- the histories, and who is a member still to be released, before and after
-  abbrev h : ℕ → History
-  h = histories_of start rel.r.releases rel.r.drafts
-
-  abbrev h' : ℕ → History
-  h' = histories_of start (releases rel) rel.r.drafts
-
-  abbrev m' : ℕ → Bool
-  m' = is_pending (slice_set rel.s.views rel.id w)
-
-  abbrev after : Kept X
-  after = kept_of (world_of stored start (releases rel) rel.r.drafts (new rel)) (rel.r.history ++ entries_of rel.v rel.said) (slice_set rel.s.views rel.id w)
 
   -- ---- the logical words
 
@@ -361,18 +362,15 @@ module _ {X B : Type 0} (stored : B → Stored) (keeps : Start → Kept X → Ty
 module _ {X B : Type 0} (stored : B → Stored) (keeps : Start → Kept X → Type 0) (tied : Start → ℕ → List ℕ → ℕ → List ℕ → Type 0) (tells : Bool) where
   pub release-event : (may_release : Start → List ℕ → List Change → List (Entry X) → Type 0) → ReleaseIsItsEvent stored keeps tied tells may_release
   release-event may_release start s id p version rest said v w pass lp below g told =
-      let view = told.brings.view in
-      left-event (giving-up s pass.rule id v pass.there pass.live p version rest said lp below g) w (ap (λ (y : View X). y.out) view) (ap (λ (y : View X). y.frames) view) (ap (λ (y : View X). y.loads) view) (ap (λ (y : View X). y.seats) view)
+      left-event (giving-up s pass.rule id v pass.there pass.live p version rest said lp below g) told.brings refl refl refl refl
 
   pub release_evicted-event : (may_release : Start → List ℕ → List Change → List (Entry X) → Type 0) → ReleaseEvictedIsItsEvent stored keeps tied tells
   release_evicted-event may_release start s id p version v w pass lp below g told =
-      let view = told.brings.view in
-      left-event {may_release = may_release} (evicting s pass.rule id v pass.there pass.live p version lp below g) w (ap (λ (y : View X). y.out) view) (ap (λ (y : View X). y.frames) view) (ap (λ (y : View X). y.loads) view) (ap (λ (y : View X). y.seats) view)
+      left-event {may_release = may_release} (evicting s pass.rule id v pass.there pass.live p version lp below g) told.brings refl refl refl refl
 
   pub downgrade-event : (may_release : Start → List ℕ → List Change → List (Entry X) → Type 0) → DowngradeIsItsEvent stored keeps tied tells may_release
   downgrade-event may_release start s id p version v w pass lp below g told =
-      let view = told.brings.view in
-      left-event (downgrading s pass.rule id v pass.there pass.live p version lp below g) w (ap (λ (y : View X). y.out) view) (ap (λ (y : View X). y.frames) view) (ap (λ (y : View X). y.loads) view) (ap (λ (y : View X). y.seats) view)
+      left-event (downgrading s pass.rule id v pass.there pass.live p version lp below g) told.brings refl refl refl refl
 
 -- ---- the last version of the page
 
