@@ -114,24 +114,8 @@ frames-without g mask frames f = has-without_all f (frames_in g mask) frames ∙
 
 module _ {X B : Type 0} (stored : B → Stored) (keeps : Start → Kept X → Type 0) (tied : Start → ℕ → List ℕ → ℕ → List ℕ → Type 0) (start : Origin) (tells : Bool) (s : Table (Option B) (View X)) (r : Ruled stored keeps tied start tells s)
     (id : ℕ) (v : View X) (there : get_elem? s.views id ≡ some v) (live : v.live ≡ true) (g mask : ℕ) (l : g * 64 < start.frames) (may : PassMayGive v g mask) where
-  abbrev give-found : ℕ
-  give-found = slice_index s.words (index_of start (places.Bundle g))
-
-  abbrev give_did : Did
-  give_did = did_change (places.Bundle g) give-found (bit_or give-found mask)
-
   pub give-legal : Legal (core_shown stored start s) (Give id g mask)
   give-legal = record { names = names-bundle stored start s id v there g l; some = may.some; holds = (λ f e. held-here stored start s id f v there ∙ may.holds f e) }
-
-  pub give-shows : Shows stored keeps tied start tells s r id v (slice_set s.words (index_of start (places.Bundle g)) (bit_or give-found mask)) r.drafts [] [] give_did (given_view g mask v) (Give id g mask)
-  give-shows =
-      let words : List ℕ = slice_set s.words (index_of start (places.Bundle g)) (bit_or give-found mask) in
-      held-shows stored keeps tied start tells s r id v words give_did v.held (given_view g mask v).frames v.contents (Give id g mask) there live
-      (word-left start s.words give_did (bit_or give-found mask) r.wide.0 r.spelled (bundle-within start g l) refl refl refl) give-legal
-      (give-step stored start s r.releases r.drafts id v (after_step stored keeps tied start tells s r words [] [] give_did (given_view g mask v)) g mask (bit_or give-found mask) r.wide.0 (bundle-within start g l) there refl refl refl (frames-without g mask v.frames)
-      (ap (λ n. bit_or n mask) (sym (bundle-here stored start s g (bundle-within start g l)))))
-      refl (r.known id v there live).knows (r.known id v there live).owners
-      (λ f e. (r.known id v there live).contents f (still-has (frames_in g mask) v.frames f e).0)
 
 -- the hand as the machine adds to it
 hand-adds : (n : ℕ) → (n + 64) % 18446744073709551616 ≡ hand_more n
@@ -146,12 +130,22 @@ module _ {X B : Type 0} (stored : B → Stored) (keeps : Start → Kept X → Ty
       allows stored keeps tied shape tells slots id v i (places.Bundle g) (λ n. bit_or n mask) (λ n. bit_or n mask) (GiveTold g mask) live is (λ n. refl) (λ n w t. fit t.brings live)
       (λ start has s r there _.
       let l : g * 64 < start.frames = subst (λ n. g * 64 < n) (sym has.frames) l' in
-      let k = steps stored keeps tied start tells s r id v _ r.drafts [] [] _ (given_view g mask v) (Give id g mask) there live number refl refl (give-shows stored keeps tied start tells s r id v there live g mask l may) in (
+      let at : Within start (places.Bundle g) = bundle-within start g l in
+      let found : ℕ = slice_index s.words (index_of start (places.Bundle g)) in
+      let did : Did = did_change (places.Bundle g) found (bit_or found mask) in
+      let words : List ℕ = slice_set s.words (index_of start (places.Bundle g)) (bit_or found mask) in
+      let known = r.known id v there live in
+      let k = steps stored keeps tied start tells s r id v words r.drafts [] [] did (given_view g mask v) (Give id g mask) there live number refl refl
+      (held-shows stored keeps tied start tells s r id v words did v.held (given_view g mask v).frames v.contents (Give id g mask) there live
+      (word-left start s.words did (bit_or found mask) r.wide.0 r.spelled at refl refl refl) (give-legal stored keeps tied start tells s r id v there live g mask l may)
+      (give-step stored start s r.releases r.drafts id v _ g mask (bit_or found mask) r.wide.0 at there refl refl refl (frames-without g mask v.frames) (ap (λ n. bit_or n mask) (sym (bundle-here stored start s g at))))
+      refl known.knows known.owners
+      (λ f e. known.contents f (still-has (frames_in g mask) v.frames f e).0)) in (
         _,
         k.0,
         record {
           brings = k.1;
-          unset = ap (λ n. bit_and n mask) (sym (bundle-here stored start s g (bundle-within start g l))) ∙ given-bits (world stored keeps tied start tells s r) g mask r.inv id small (λ f e. held-here stored start s id f v there ∙ may.holds f e);
+          unset = ap (λ n. bit_and n mask) (sym (bundle-here stored start s g at)) ∙ given-bits (world stored keeps tied start tells s r) g mask r.inv id small (λ f e. held-here stored start s id f v there ∙ may.holds f e);
         },
       ))
 

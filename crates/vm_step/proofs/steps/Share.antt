@@ -62,29 +62,6 @@ pub framed-same : (o t : Option Mapping) (m : Mapping) → frame_of o ≡ frame_
 framed-same o None m e x = cc
 framed-same o (Some n) m e x = (n, refl, some-same m.frame n.frame (sym (ap frame_of x) ∙ e))
 
-module _ {X B : Type 0} (stored : B → Stored) (keeps : Start → Kept X → Type 0) (tied : Start → ℕ → List ℕ → ℕ → List ℕ → Type 0) (start : Origin) (tells : Bool) (s : Table (Option B) (View X)) (r : Ruled stored keeps tied start tells s)
-    (id : ℕ) (v : View X) (there : get_elem? s.views id ≡ some v) (live : v.live ≡ true) (p expects : ℕ) (l : p < start.pages) (may : MayShare expects) where
-  abbrev pub shared_inner : View X
-  shared_inner = shared_view p (page_held stored keeps tied start tells s r p) v
-
-  pub unlocked-page : slice_index s.words p ≡ expects → ((world stored keeps tied start tells s r).core.pages p).state ≢ LOCKED
-  unlocked-page hit e = (shareable expects may).0 (sym (state-here stored start s p l ∙ ap state_of hit) ∙ e)
-
-  pub knows-here : KnowsPage (record (seat_of v p) { shares = (seat_of v p).shares + 1; reading = None }) (put_at no_held shared_inner.held p) (shared ((world stored keeps tied start tells s r).core.pages p) id)
-  knows-here =
-      knows-shared (has_lock (seat_of v p)) p id (seat_of v p) (page_held stored keeps tied start tells s r p) v.held ((world stored keeps tied start tells s r).core.pages p) refl ((r.known id v there live).knows p)
-      (refl, refl, sym (block-here stored start s p l).0, sym (block-here stored start s p l).1)
-
-  pub share-shows : slice_index s.words p ≡ expects
-      → ShowsQuiet stored keeps tied start tells s r id v (slice_set s.words p (word_of (one_share_more (state_of expects)) (version_of expects))) r.drafts (did_exchange (places.State p) expects (slice_index s.words p) (word_of (one_share_more (state_of expects)) (version_of expects))) shared_inner (LockS id p expects)
-  share-shows hit =
-      let seat : Seat = record (seat_of v p) { shares = (seat_of v p).shares + 1; reading = None } in
-      sharer-shows stored keeps tied start tells s r id v there live p l expects (word_of (one_share_more (state_of expects)) (version_of expects)) hit (LockS id p expects) (shared ((world stored keeps tied start tells s r).core.pages p) id) seat shared_inner.held (locks-exchange stored start s r.releases r.drafts id v p expects r.wide.0 l there may (page_held stored keeps tied start tells s r p))
-      (λ m. m) refl
-      (λ q ne. put-else (has_lock (seat_of v p)) p q (page_held stored keeps tied start tells s r p) v.held ne)
-      knows-here
-      (owner-shared (has_lock (seat_of v p)) p (seat_of v p) (page_held stored keeps tied start tells s r p) v.held (world stored keeps tied start tells s r).core.owners refl ((r.known id v there live).owners p))
-
 -- who may call the device with a share less could call it before
 unshared-calls : (k : Seat) → may_call (unshared k) ≡ true → may_call k ≡ true
 unshared-calls k m = grind (arith, nat_tests, m)
@@ -145,28 +122,39 @@ module _ {X B : Type 0} (stored : B → Stored) (keeps : Start → Kept X → Ty
       (λ start has s r there _.
       let l : p < start.pages = subst (λ n. p < n) (sym has.pages) l' in
       let page : Page = (world stored keeps tied start tells s r).core.pages p in
-      let inner : View X = shared_inner stored keeps tied start tells s r id v there live p expects l may in
+      let owners : ℕ → ℕ = (world stored keeps tied start tells s r).core.owners in
+      let held : Held = page_held stored keeps tied start tells s r p in
+      let inner : View X = shared_view p held v in
       let known : Held = put_at no_held inner.held p in
-      let frame : frame_of known.mapping ≡ frame_of page.trans = (knows-here stored keeps tied start tells s r id v there live p expects l may).shares (omega arith) in
-      let k = tried stored keeps tied start tells s r id v there live number p expects (word_of (one_share_more (state_of expects)) (version_of expects)) l r.drafts inner (LockS id p expects) _ refl
-      (locks-exchange stored start s r.releases r.drafts id v p expects r.wide.0 l there may (page_held stored keeps tied start tells s r p))
-      (share-shows stored keeps tied start tells s r id v there live p expects l may) in
-      let held : slice_index s.words p ≡ expects → put_at no_held k.0.held p ≡ known = (λ hit. ap (λ (y : View X). put_at no_held y.held p) k.1.brings.view ∙ ap {B = Held} (λ b. put_at no_held (if b then inner else v).held p) (eq-eqb (slice_index s.words p) expects hit)) in (
+      let locks : Bool = has_lock (seat_of v p) in
+      let seat : Seat = record (seat_of v p) { shares = (seat_of v p).shares + 1; reading = None } in
+      let unlocked : slice_index s.words p ≡ expects → page.state ≢ LOCKED = (λ hit e. (shareable expects may).0 (sym (state-here stored start s p l ∙ ap state_of hit) ∙ e)) in
+      let knows : KnowsPage seat known (shared page id) =
+      knows-shared locks p id (seat_of v p) held v.held page refl ((r.known id v there live).knows p) (refl, refl, sym (block-here stored start s p l).0, sym (block-here stored start s p l).1) in
+      let frame : frame_of known.mapping ≡ frame_of page.trans = knows.shares (omega arith) in
+      let taken = locks-exchange stored start s r.releases r.drafts id v p expects r.wide.0 l there may held in
+      let k = tried stored keeps tied start tells s r id v there live number p expects (word_of (one_share_more (state_of expects)) (version_of expects)) l r.drafts inner (LockS id p expects) _ refl taken
+      (λ hit. sharer-shows stored keeps tied start tells s r id v there live p l expects (word_of (one_share_more (state_of expects)) (version_of expects)) hit (LockS id p expects) (shared page id) seat inner.held taken
+      (λ m. m) refl
+      (λ q ne. put-else locks p q held v.held ne)
+      knows
+      (owner-shared locks p (seat_of v p) held v.held owners refl ((r.known id v there live).owners p))) in
+      let mine : slice_index s.words p ≡ expects → put_at no_held k.0.held p ≡ known = (λ hit. ap (λ (y : View X). put_at no_held y.held p) k.1.brings.view ∙ ap {B = Held} (λ b. put_at no_held (if b then inner else v).held p) (eq-eqb (slice_index s.words p) expects hit)) in (
         k.0,
         k.1.rule,
         record {
-          held = page_held stored keeps tied start tells s r p;
+          held = held;
           brings = k.1.brings;
           version = k.1.version;
           since = k.1.since;
           older = k.1.older;
           size = k.1.size;
-          resident = λ hit. framed-some _ page.trans (ap (λ (h : Held). frame_of h.mapping) (held hit) ∙ frame) ((r.inv.pages p).stands.resident (unlocked-page stored keeps tied start tells s r id v there live p expects l may hit) (λ e. (shareable expects may).1 (sym (state-here stored start s p l ∙ ap state_of hit) ∙ e)));
+          resident = λ hit. framed-some _ page.trans (ap (λ (h : Held). frame_of h.mapping) (mine hit) ∙ frame) ((r.inv.pages p).stands.resident (unlocked hit) (λ e. (shareable expects may).1 (sym (state-here stored start s p l ∙ ap state_of hit) ∙ e)));
           inside = λ hit m e.
-              let n : (n : Mapping) × (page.trans ≡ Some n) × (m.frame ≡ n.frame) = framed-same _ page.trans m (ap (λ (h : Held). frame_of h.mapping) (held hit) ∙ frame) e in
+              let n : (n : Mapping) × (page.trans ≡ Some n) × (m.frame ≡ n.frame) = framed-same _ page.trans m (ap (λ (h : Held). frame_of h.mapping) (mine hit) ∙ frame) e in
               subst (λ (o : Origin). m.frame < o.frames) (sym (r.heard id v there live).same_start)
               (subst (λ f. f < start.frames) (sym n.2) (frame-inside stored keeps tied start tells s r p n.0 n.1));
-          validates = λ t hit. tried-validates stored keeps tied start tells s r id v there live number p expects (word_of (one_share_more (state_of expects)) (version_of expects)) l law _ k.0 k.1 (unlocked-page stored keeps tied start tells s r id v there live p expects l may hit) t hit;
+          validates = λ t hit. tried-validates stored keeps tied start tells s r id v there live number p expects (word_of (one_share_more (state_of expects)) (version_of expects)) l law _ k.0 k.1 (unlocked hit) t hit;
         },
       ))
 
