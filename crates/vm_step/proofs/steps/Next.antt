@@ -62,18 +62,16 @@ module _ {X B : Type 0} (stored : B → Stored) (keeps : Start → Kept X → Ty
         (r.known id v there live).words;
   }
 
-  abbrev nload-after : View X
-  nload-after = after_step stored keeps tied start tells s r s.words [] [] (did_load places.Next next_found) (next_view next_found v)
-
   pub nload-shows : Shows stored keeps tied start tells s r id v s.words r.drafts [] [] (did_load places.Next next_found) (next_view next_found v) (NLoad id)
   nload-shows =
       let k : KnowsPages tied start (world stored keeps tied start tells s r) (is_pending s.views) v = r.known id v there live in
-      let owed-same : is_owed (slice_set s.views id nload-after) ≡ is_owed s.views = fun_ext (λ q. any-same (λ (y : View X). has q y.owed) s.views id v nload-after there refl) in
+      let w : View X = after_step stored keeps tied start tells s r s.words [] [] (did_load places.Next next_found) (next_view next_found v) in
+      let owed-same : is_owed (slice_set s.views id w) ≡ is_owed s.views = fun_ext (λ q. any-same (λ (y : View X). has q y.owed) s.views id v w there refl) in
       event-shows stored keeps tied start tells s r id v s.words r.drafts [] (did_load places.Next next_found) (next_view next_found v) (NLoad id) there live
       (record {
         word = word-loaded start s.words places.Next r.wide.0 r.spelled tt;
         legal = at-bound s.views id v there;
-        leads = record { world = world-still stored start s r.releases r.drafts id v nload-after there refl refl refl refl; pending = refl; members = λ q _. refl; up = omega arith };
+        leads = record { world = world-still stored start s r.releases r.drafts id v w there refl refl refl refl; pending = refl; members = λ q _. refl; up = omega arith };
         same = (refl, refl, refl, refl, refl, refl, refl);
         calls = λ o is. (r.blocks.away id v o there is).1;
         holds = λ q x. x;

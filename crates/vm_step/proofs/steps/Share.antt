@@ -4,7 +4,7 @@
 use Rattle.std.proofs.Common.{eq-eqb}
 use Rattle.vm_core.specs.declared.event.Seen.TheVariants as sights
 use Rattle.vm_rule.specs.declared.view.Place.TheVariants as places
-use Rattle.vm_step.proofs.{Evidenced.taken-view, Fit.either-lives, Fit.fit, Quiet.quiet-shows, Quiet.ShowsQuiet, Standing.allows, Written.word-left}
+use Rattle.vm_step.proofs.{Evidenced.taken-view, Fit.either-lives, Fit.fit, Quiet.quiet-shows, Standing.allows, Written.word-left}
 use Rattle.vm_step.proofs.Exchange.{draft-stays, exchange-event, locks-exchange, names, page_held, seat-shows, sharer-shows, tried}
 use Rattle.vm_step.proofs.Exchange.{knows-owner, owner_at, tried-validates}
 use Rattle.vm_step.proofs.Here.{frame-inside, version-told, world}
@@ -68,16 +68,6 @@ unshared-calls k m = grind (arith, nat_tests, m)
 
 module _ {X B : Type 0} (stored : B → Stored) (keeps : Start → Kept X → Type 0) (tied : Start → ℕ → List ℕ → ℕ → List ℕ → Type 0) (start : Origin) (tells : Bool) (s : Table (Option B) (View X)) (r : Ruled stored keeps tied start tells s)
     (id : ℕ) (v : View X) (there : get_elem? s.views id ≡ some v) (live : v.live ≡ true) (p : ℕ) (l : p < start.pages) (may : MayUnshare v p) where
-  abbrev pub less_word : ℕ
-  less_word = slice_index s.words p - 2 ^ 56
-
-  abbrev pub unshared_did : Did
-  unshared_did = did_change (places.State p) (slice_index s.words p) less_word
-
-  -- the state word counts the share
-  pub some-shares : 1 ≤ state_of (slice_index s.words p)
-  some-shares = subst (λ n. 1 ≤ n) (state-here stored start s p l) (shared-here stored start s id p v (r.inv.pages p).locks l there may.has).0
-
   pub may-unlock : MayUnlock ((world stored keeps tied start tells s r).core.pages p) id
   may-unlock =
       let here = seat-here stored start s id p v l there in
@@ -88,25 +78,6 @@ module _ {X B : Type 0} (stored : B → Stored) (keeps : Start → Kept X → Ty
             let known = ((r.known id v there live).knows p).calls (or_right (seat_of v p).exclusive (seat_of v p).writing writes) in
             sym known.1 ∙ may.told writes (sym (ap (λ (k : Seat). k.shares) here) ∙ one) ∙ known.3;
       }
-
-  unshare-shows : ShowsQuiet stored keeps tied start tells s r id v (slice_set s.words p less_word) r.drafts unshared_did (unshared_view p v) (UnlockS id p)
-  unshare-shows =
-      let known = (r.known id v there live).knows p in
-      seat-shows stored keeps tied start tells s r id v there live p l unshared_did less_word r.drafts (UnlockS id p) _ (unshared (seat_of v p)) v.loads v.held v.drafts
-      (record {
-        word = word-left start s.words unshared_did less_word r.wide.0 r.spelled l refl refl refl;
-        legal = (names stored keeps tied start tells s r id v there p l, may-unlock);
-        world =
-            unlocks-step stored start s r.releases r.drafts id v _ p less_word r.wide.0 l there refl refl refl refl
-            (less-state (slice_index s.words p) some-shares ∙ ap (λ n. n - 1) (sym (state-here stored start s p l)))
-            (less-version (slice_index s.words p) some-shares ∙ sym (version-here stored start s p l));
-        core = refl;
-      })
-      (λ o x e m. absurd (may.home o x e)) (λ x. x) (λ q ne. refl)
-      (record { calls = λ m. known.calls (unshared-calls (seat_of v p) m); shares = λ some'. known.shares (omega (arith, some')) })
-      (λ m calls. (r.known id v there live).owners p m (unshared-calls (seat_of v p) calls))
-      (λ q t. refl)
-      (λ q x. draft-stays stored keeps tied start tells s r id v there live p l q (sym (upd-keeps (λ (k : Seat). k.exclusive) (λ n. seat_of v n) p (unshared (seat_of v p)) refl q) ∙ x))
 
 -- a share less, as the machine counts
 less-wraps : (n : ℕ) → n < 18446744073709551616 → 1 ≤ state_of n → (n + (2 ^ 64 - 2 ^ 56)) % 2 ^ 64 ≡ n - 2 ^ 56
@@ -165,14 +136,33 @@ module _ {X B : Type 0} (stored : B → Stored) (keeps : Start → Kept X → Ty
       allows stored keeps tied shape tells slots id v i (places.State p) (λ n. (n + (2 ^ 64 - 2 ^ 56)) % 2 ^ 64) (λ n. (n + (2 ^ 64 - 2 ^ 56)) % 2 ^ 64) (UnshareTold p) live is (λ n. refl) (λ n w t. fit t.brings live)
       (λ start has s r there below.
       let l : p < start.pages = subst (λ n. p < n) (sym has.pages) l' in
-      let words : List ℕ = slice_set s.words p (less_word stored keeps tied start tells s r id v there live p l may) in
-      let did : Did = unshared_did stored keeps tied start tells s r id v there live p l may in
-      let shared = some-shares stored keeps tied start tells s r id v there live p l may in
+      let found : ℕ = slice_index s.words p in
+      let less : ℕ = found - 2 ^ 56 in
+      let words : List ℕ = slice_set s.words p less in
+      let did : Did = did_change (places.State p) found less in
+      let known = r.known id v there live in
+      -- the state word counts the share
+      let shared : 1 ≤ state_of found = subst (λ n. 1 ≤ n) (state-here stored start s p l) (shared-here stored start s id p v (r.inv.pages p).locks l there may.has).0 in
       let k = steps stored keeps tied start tells s r id v words r.drafts [] [] did (unshared_view p v) (UnlockS id p) there live number refl refl
-      (quiet-shows stored keeps tied start tells s r id v words r.drafts did (unshared_view p v) (UnlockS id p) there live (unshare-shows stored keeps tied start tells s r id v there live p l may)) in
+      (quiet-shows stored keeps tied start tells s r id v words r.drafts did (unshared_view p v) (UnlockS id p) there live
+      (seat-shows stored keeps tied start tells s r id v there live p l did less r.drafts (UnlockS id p) _ (unshared (seat_of v p)) v.loads v.held v.drafts
+      (record {
+        word = word-left start s.words did less r.wide.0 r.spelled l refl refl refl;
+        legal = (names stored keeps tied start tells s r id v there p l, may-unlock stored keeps tied start tells s r id v there live p l may);
+        world =
+            unlocks-step stored start s r.releases r.drafts id v _ p less r.wide.0 l there refl refl refl refl
+            (less-state found shared ∙ ap (λ n. n - 1) (sym (state-here stored start s p l)))
+            (less-version found shared ∙ sym (version-here stored start s p l));
+        core = refl;
+      })
+      (λ o x e m. absurd (may.home o x e)) (λ x. x) (λ q ne. refl)
+      (record { calls = λ m. (known.knows p).calls (unshared-calls (seat_of v p) m); shares = λ some'. (known.knows p).shares (omega (arith, some')) })
+      (λ m calls. known.owners p m (unshared-calls (seat_of v p) calls))
+      (λ q t. refl)
+      (λ q x. draft-stays stored keeps tied start tells s r id v there live p l q (sym (upd-keeps (λ (k : Seat). k.exclusive) (λ n. seat_of v n) p (unshared (seat_of v p)) refl q) ∙ x)))) in
       let w : View X = after_step stored keeps tied start tells s r words [] [] did (unshared_view p v) in (
         w,
-        subst (λ x. Ruled stored keeps tied start tells (became stored keeps tied start tells s (slice_set s.words p x) id w)) (sym (less-wraps (slice_index s.words p) below shared)) k.0,
+        subst (λ x. Ruled stored keeps tied start tells (became stored keeps tied start tells s (slice_set s.words p x) id w)) (sym (less-wraps found below shared)) k.0,
         record { brings = k.1; version = version-told stored keeps tied start tells s r id v there live p l; shared = shared },
       ))
 
