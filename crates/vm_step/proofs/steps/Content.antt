@@ -75,63 +75,6 @@ module _ {X B : Type 0} (stored : B → Stored) (start : Origin) (s : Table (Opt
   reads-mapped m f is locks reads =
       some-same m.frame f (sym (frame-mapped ((seat_of v p).exclusive || nat_lt 0 (seat_of v p).shares) page.trans m (open_frame (seat_of v p).reading) (is-locking (seat_of v p) locks) is) ∙ sym seat-reads ∙ reads)
 
-module _ {X B : Type 0} (stored : B → Stored) (keeps : Start → Kept X → Type 0) (tied : Start → ℕ → List ℕ → ℕ → List ℕ → Type 0) (start : Origin) (tells : Bool) (s : Table (Option B) (View X)) (r : Ruled stored keeps tied start tells s) (id : ℕ) (v : View X) (p f i : ℕ) where
-  -- the word that stands there
-  abbrev pub load-found : ℕ
-  load-found = slice_index s.words (3 * start.pages + (64 * f + i))
-
-  module _ (there : get_elem? s.views id ≡ some v) (live : v.live ≡ true) (l : p < start.pages) (lf : f < start.frames) (li : i < 64) (by : frame_read_by v p ≡ Some f) where
-    abbrev core : State
-    core = core_shown stored start s
-
-    abbrev known : KnowsPages tied start (world_of stored start r.releases r.drafts s) (is_pending s.views) v
-    known = r.known id v there live
-
-    reads : load_frame (core.pages p) id ≡ Some f
-    reads = reads-known stored start s id p v l there (known.knows p) ∙ by
-
-    pub load-shows : Shows stored keeps tied start tells s r id v s.words r.drafts [] [] (did_load (places.Content f i) load-found) (loaded_view p i load-found v) (Load id p i)
-    load-shows =
-        quiet-shows stored keeps tied start tells s r id v s.words r.drafts (did_load (places.Content f i) load-found) (loaded_view p i load-found v) (Load id p i) there live
-        (record {
-          word = word-loaded start s.words (places.Content f i) r.wide.0 r.spelled (lf, li);
-          legal = record { names = record { actor = at-bound s.views id v there; page = l }; place = li; frame = subst IsSome (sym reads) refl };
-          world = load-step stored start s r.releases r.drafts id v _ p i f load-found l lf li there refl refl refl reads refl refl;
-          leaves = refl;
-          calls = λ o x. (r.blocks.away id v o there x).1;
-          holds = λ q x. x;
-          members = λ q _. refl;
-          next = refl;
-          knows = known.knows;
-          owners = known.owners;
-          contents = known.contents;
-          drafted = λ q x. known.drafts q x ∙ draft-is start r.releases r.drafts q;
-          loaded = ([], refl, tt);
-        })
-
-    -- the word is that of the page's frame, where the pass has the page locked and it is resident
-    mapped-word : (m : Mapping) → (core.pages p).trans ≡ Some m → IsLocking (seat_of v p) → load-found ≡ slice_index (core.words m.frame) i
-    mapped-word m is locks =
-        sym (content-here stored start s f i lf li)
-        ∙ ap (λ n. slice_index (core.words n) i) (sym (reads-mapped stored start s id p v l there m f is locks reads))
-
-    pub load-told : (w : View X) → Brings (did_load (places.Content f i) load-found) [] [] v (loaded_view p i load-found v) w → LoadTold p f i load-found v w
-    load-told w brings = record {
-      brings = brings;
-      drafted = λ t owns resident.
-          let m : (m : Mapping) × ((put_at no_held v.held p).mapping ≡ Some m) = some-is (put_at no_held v.held p).mapping resident in
-          let trans : (core.pages p).trans ≡ Some m.0 = sym ((known.knows p).calls (rw owns refl)).0 ∙ m.1 in
-          mapped-word m.0 trans (inl owns)
-          ∙ ap (λ ws. slice_index ws i) (((r.inv.pages p).contents (ap (λ (o : Origin). o.tells) (sym (r.heard id v there live).same_start) ∙ t)).draft (locked-here stored start s id p v (r.inv.pages p).locks l there owns) m.0 trans ∙ sym (known.drafts p owns));
-      shared = λ t has-share.
-          let state : (1 ≤ (core.pages p).state) × ((core.pages p).state < LOCKED) = shared-here stored start s id p v (r.inv.pages p).locks l there has-share in
-          let free : (core.pages p).state ≢ LOCKED = (λ e. absurd (omega (arith, state.1, e))) in
-          let stays : (core.pages p).state ≢ EVICTED = (λ e. absurd (omega (arith, state.1, e))) in
-          let m : (m : Mapping) × ((core.pages p).trans ≡ Some m) = some-is (core.pages p).trans ((r.inv.pages p).stands.resident free stays) in
-          mapped-word m.0 m.1 (inr has-share)
-          ∙ ap (λ ws. slice_index ws i) (((r.inv.pages p).contents (ap (λ (o : Origin). o.tells) (sym (r.heard id v there live).same_start) ∙ t)).logical free m.0 m.1 ∙ ap (λ (y : Version). y.words) (sym (known.latest p (inr has-share))));
-    }
-
 module _ {X B : Type 0} (stored : B → Stored) (keeps : Start → Kept X → Type 0) (tied : Start → ℕ → List ℕ → ℕ → List ℕ → Type 0) (start : Origin) (tells : Bool) (s : Table (Option B) (View X)) (r : Ruled stored keeps tied start tells s) (id : ℕ) (v : View X) (there : get_elem? s.views id ≡ some v) (live : v.live ≡ true) where
   -- the page stands in the frame
   pub stands-drafted : (p f : ℕ) → Drafts v p f → stands_in ((core_shown stored start s).pages p).trans f ≡ true
@@ -231,8 +174,51 @@ module _ {X B : Type 0} (stored : B → Stored) (keeps : Start → Kept X → Ty
       (λ start has s r there.
       let l : p < start.pages = subst (λ n. p < n) (sym has.pages) l' in
       let lf : f < start.frames = subst (λ n. f < n) (sym has.frames) lf' in
-      let k = steps stored keeps tied start tells s r id v s.words r.drafts [] [] _ _ (Load id p j) there live number refl refl (load-shows stored keeps tied start tells s r id v p f j there live l lf lj by) in
-      (_, k.0, load-told stored keeps tied start tells s r id v p f j there live l lf lj by _ k.1))
+      let core : State = core_shown stored start s in
+      let found : ℕ = slice_index s.words (3 * start.pages + (64 * f + j)) in
+      let did : Did = did_load (places.Content f j) found in
+      let inner : View X = loaded_view p j found v in
+      let known = r.known id v there live in
+      let reads : load_frame (core.pages p) id ≡ Some f = reads-known stored start s id p v l there (known.knows p) ∙ by in
+      -- the word is that of the page's frame, where the pass has the page locked and it is resident
+      let mapped : (m : Mapping) → (core.pages p).trans ≡ Some m → IsLocking (seat_of v p) → found ≡ slice_index (core.words m.frame) j = (λ m is locks.
+      sym (content-here stored start s f j lf lj)
+      ∙ ap (λ n. slice_index (core.words n) j) (sym (reads-mapped stored start s id p v l there m f is locks reads))) in
+      let k = steps stored keeps tied start tells s r id v s.words r.drafts [] [] did inner (Load id p j) there live number refl refl
+      (quiet-shows stored keeps tied start tells s r id v s.words r.drafts did inner (Load id p j) there live
+      (record {
+        word = word-loaded start s.words (places.Content f j) r.wide.0 r.spelled (lf, lj);
+        legal = record { names = record { actor = at-bound s.views id v there; page = l }; place = lj; frame = subst IsSome (sym reads) refl };
+        world = load-step stored start s r.releases r.drafts id v _ p j f found l lf lj there refl refl refl reads refl refl;
+        leaves = refl;
+        calls = λ o x. (r.blocks.away id v o there x).1;
+        holds = λ q x. x;
+        members = λ q _. refl;
+        next = refl;
+        knows = known.knows;
+        owners = known.owners;
+        contents = known.contents;
+        drafted = λ q x. known.drafts q x ∙ draft-is start r.releases r.drafts q;
+        loaded = ([], refl, tt);
+      })) in (
+        _,
+        k.0,
+        record {
+          brings = k.1;
+          drafted = λ t owns resident.
+              let m : (m : Mapping) × ((put_at no_held v.held p).mapping ≡ Some m) = some-is (put_at no_held v.held p).mapping resident in
+              let trans : (core.pages p).trans ≡ Some m.0 = sym ((known.knows p).calls (rw owns refl)).0 ∙ m.1 in
+              mapped m.0 trans (inl owns)
+              ∙ ap (λ ws. slice_index ws j) (((r.inv.pages p).contents (ap (λ (o : Origin). o.tells) (sym (r.heard id v there live).same_start) ∙ t)).draft (locked-here stored start s id p v (r.inv.pages p).locks l there owns) m.0 trans ∙ sym (known.drafts p owns));
+          shared = λ t has-share.
+              let state : (1 ≤ (core.pages p).state) × ((core.pages p).state < LOCKED) = shared-here stored start s id p v (r.inv.pages p).locks l there has-share in
+              let free : (core.pages p).state ≢ LOCKED = (λ e. absurd (omega (arith, state.1, e))) in
+              let stays : (core.pages p).state ≢ EVICTED = (λ e. absurd (omega (arith, state.1, e))) in
+              let m : (m : Mapping) × ((core.pages p).trans ≡ Some m) = some-is (core.pages p).trans ((r.inv.pages p).stands.resident free stays) in
+              mapped m.0 m.1 (inr has-share)
+              ∙ ap (λ ws. slice_index ws j) (((r.inv.pages p).contents (ap (λ (o : Origin). o.tells) (sym (r.heard id v there live).same_start) ∙ t)).logical free m.0 m.1 ∙ ap (λ (y : Version). y.words) (sym (known.latest p (inr has-share))));
+        },
+      ))
 
   -- a store into the frame of a page, or into a frame of the pass, keeps the rule of every table and tells what it is to tell
   pub store-allows : (shape : Shape) (slots id : ℕ) (v : View X) (i : ℕ) (f j x : ℕ) → v.live ≡ true → 0 < length v.used → f < shape.frames → j < 64 → PassMayStore v f → IsPlacedAt shape (places.Content f j) i
