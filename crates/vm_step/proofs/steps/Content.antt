@@ -10,13 +10,13 @@ use Rattle.vm_rule.specs.declared.view.Place.TheVariants as places
 use Rattle.vm_step.proofs.{Fit.fit, Mine.member-mine, Mine.stands-known, Quiet.held-shows, Quiet.quiet-shows, Standing.allows, Standing.allows-load}
 use Rattle.vm_step.proofs.{Written.word-left, Written.word-loaded}
 use Rattle.vm_step.proofs.Prelude.{[], after_step, AllowsStep, ap, arith, at-bound, Bool, Brings, cases_eq, content-here, core_shown, Did, did_load, did_store}
-use Rattle.vm_step.proofs.Prelude.{draft-is, draft_of, drafted_view, Drafts, eq-eqb, EVICTED, false, fill-step, filled_view, FillIsItsEvent, frame_of}
-use Rattle.vm_step.proofs.Prelude.{frame_read_by, get_elem?, has, Held, held-here, held_at, HoldsPage, if◌then◌else◌, index_of, inl, inr, is_pending, is_some}
-use Rattle.vm_step.proofs.Prelude.{IsLocking, IsPlacedAt, IsSome, Kept, KnowsAsBefore, KnowsPage, KnowsPages, last_of, Legal, length, List, Load, load-step}
-use Rattle.vm_step.proofs.Prelude.{load_frame, loaded_view, LoadIsItsEvent, loads_at, loads_more, LoadTold, LOCKED, locked-here, lt-ltb, ltb-true, Mapping}
-use Rattle.vm_step.proofs.Prelude.{nat_lt, no_held, None, Open, open_frame, Option, or_cases, or_left, or_right, Origin, Page, PassMayStore, put_at, refl}
-use Rattle.vm_step.proofs.Prelude.{Ruled, Seat, seat-here, seat_of, Shape, shared-here, Shows, slice_index, slice_set, Some, some, some-is, some-same, Stands}
-use Rattle.vm_step.proofs.Prelude.{stands-nowhere, stands-one, stands_in, Start, State, steps, Store, store-core, store-step, Stored, StoreIsItsEvent}
+use Rattle.vm_step.proofs.Prelude.{draft-is, draft_of, drafted_view, Drafts, each-upd2, eq-eqb, EVICTED, false, fill-step, filled_view, FillIsItsEvent}
+use Rattle.vm_step.proofs.Prelude.{frame_of, frame_read_by, get_elem?, has, Held, held-here, held_at, HoldsPage, if◌then◌else◌, index_of, inl, inr, is_pending}
+use Rattle.vm_step.proofs.Prelude.{is_some, IsLocking, IsPlacedAt, IsSome, Kept, KnowsAsBefore, KnowsPage, KnowsPages, last_of, Legal, length, List, Load}
+use Rattle.vm_step.proofs.Prelude.{load-step, load_frame, loaded_view, LoadIsItsEvent, loads_at, loads_more, LoadTold, LOCKED, locked-here, lt-ltb, ltb-true}
+use Rattle.vm_step.proofs.Prelude.{Mapping, nat_lt, no_held, None, Open, open_frame, Option, or_cases, or_left, or_right, Origin, Page, PassMayStore, put_at}
+use Rattle.vm_step.proofs.Prelude.{refl, Ruled, Seat, seat-here, seat_of, Shape, shared-here, Shows, slice_index, slice_set, Some, some, some-is, some-same}
+use Rattle.vm_step.proofs.Prelude.{Stands, stands-nowhere, stands-one, stands_in, Start, State, steps, Store, store-core, store-step, Stored, StoreIsItsEvent}
 use Rattle.vm_step.proofs.Prelude.{StoresTold, StoreTold, subst, sym, Table, told_of, true, true≢false, upd, upd-other, upd-same, Version, View, word_at, Works}
 use Rattle.vm_step.proofs.Prelude.{World, world_of, ℕ, ⊎_elim, ◌&&◌, ◌*◌, ◌+◌, ◌<◌, ◌||◌, ◌∙◌, ◌∷◌, ◌≡◌, ◌≢◌, ◌≤◌}
 use Rattle.vm_step.proofs.steps.Event.{is-event}
@@ -97,7 +97,6 @@ module _ {X B : Type 0} (stored : B → Stored) (keeps : Start → Kept X → Ty
       let words : List ℕ = slice_set s.words (index_of start (places.Content f i)) x in
       let drafts : ℕ → List ℕ = upd r.drafts p (slice_set (r.drafts p) i x) in
       let inner : View X = drafted_view p i x v in
-      let w : View X = after_step stored keeps tied start tells s r words [] [] (did_store (places.Content f i) x) inner in
       let c : State = core_shown stored start s in
       let old : World = world_of stored start r.releases r.drafts s in
       let m : Mapping = record { frame = f; dirty = true } in
@@ -107,7 +106,7 @@ module _ {X B : Type 0} (stored : B → Stored) (keeps : Start → Kept X → Ty
       (record {
         word = word-left start s.words (did_store (places.Content f i) x) x r.wide.0 r.spelled (lf, li) refl tt refl;
         legal = store-legal p f i x lf li d;
-        world = store-step stored start s r.releases r.drafts id v w p f i x true r.inv r.wide.0 known.0 lf li there refl refl refl refl d.owns known.1;
+        world = store-step stored start s r.releases r.drafts id v _ p f i x true r.inv r.wide.0 known.0 lf li there refl refl refl refl d.owns known.1;
         leaves = refl;
         calls = λ o e. (r.blocks.away id v o there e).1;
         holds = λ q owns. owns;
@@ -119,12 +118,9 @@ module _ {X B : Type 0} (stored : B → Stored) (keeps : Start → Kept X → Ty
         contents = λ g e.
             let nowhere : stands_in (c.pages p).trans g ≡ false = stands-nowhere old g id p r.inv (held-here stored start s id g v there ∙ e) in
             k.contents g e ∙ sym (upd-other c.words f (slice_set (c.words f) i x) g (λ h. true≢false (sym (ap (λ t. stands_in t g) known.1 ∙ eq-eqb f g (sym h)) ∙ nowhere)));
-        drafted = λ q owns.
-            ⊎_elim
-            (λ e. ap (draft_of inner) e ∙ upd-same (draft_of v) p (slice_set (draft_of v p) i x) ∙ ap (λ l. slice_set l i x) (k.drafts p d.owns ∙ draft-is start r.releases r.drafts p)
-            ∙ sym (ap drafts e ∙ upd-same r.drafts p (slice_set (r.drafts p) i x)))
-            (λ ne. upd-other (draft_of v) p (slice_set (draft_of v p) i x) q ne ∙ k.drafts q owns ∙ draft-is start r.releases r.drafts q ∙ sym (upd-other r.drafts p (slice_set (r.drafts p) i x) q ne))
-            (cases_eq q p);
+        drafted = each-upd2 (λ q l m. (seat_of v q).exclusive ≡ true → l ≡ m) (draft_of v) r.drafts p (slice_set (draft_of v p) i x) (slice_set (r.drafts p) i x)
+            (λ owns. ap (λ l. slice_set l i x) (k.drafts p owns ∙ draft-is start r.releases r.drafts p))
+            (λ q _ owns. k.drafts q owns ∙ draft-is start r.releases r.drafts q);
         loaded = ([], refl, tt);
       })
 
@@ -142,21 +138,15 @@ module _ {X B : Type 0} (stored : B → Stored) (keeps : Start → Kept X → Ty
   fill-shows f i x lf li owns =
       let words : List ℕ = slice_set s.words (index_of start (places.Content f i)) x in
       let inner : View X = filled_view f i x v in
-      let w : View X = after_step stored keeps tied start tells s r words [] [] (did_store (places.Content f i) x) inner in
       let c : State = core_shown stored start s in
       let k : KnowsPages tied start (world_of stored start r.releases r.drafts s) (is_pending s.views) v = r.known id v there live in
       let contents : ℕ → List ℕ = put_at [] v.contents in
       held-shows stored keeps tied start tells s r id v words (did_store (places.Content f i) x) v.held v.frames inner.contents (Store id f i x) there live
       (word-left start s.words (did_store (places.Content f i) x) x r.wide.0 r.spelled (lf, li) refl tt refl)
       (fill-legal f i x lf li owns)
-      (fill-step stored start s r.releases r.drafts id v w f i x r.inv r.wide.0 lf li there refl refl refl refl owns)
+      (fill-step stored start s r.releases r.drafts id v _ f i x r.inv r.wide.0 lf li there refl refl refl refl owns)
       refl k.knows k.owners
-      (λ g e.
-      ⊎_elim
-      (λ e'. ap (put_at [] inner.contents) e' ∙ upd-same contents f (slice_set (contents f) i x) ∙ ap (λ l. slice_set l i x) (k.contents f owns)
-      ∙ sym (ap (upd c.words f (slice_set (c.words f) i x)) e' ∙ upd-same c.words f (slice_set (c.words f) i x)))
-      (λ ne. upd-other contents f (slice_set (contents f) i x) g ne ∙ k.contents g e ∙ sym (upd-other c.words f (slice_set (c.words f) i x) g ne))
-      (cases_eq g f))
+      (each-upd2 (λ g l m. has g v.frames ≡ true → l ≡ m) contents c.words f (slice_set (contents f) i x) (slice_set (c.words f) i x) (λ _. ap (λ l. slice_set l i x) (k.contents f owns)) (λ g _. k.contents g))
 
   -- one page alone stands in the frame
   pub one-place : (p q f : ℕ) → Drafts v p f → Drafts v q f → p ≡ q

@@ -59,14 +59,13 @@ said-entry v Same (Some x) = inr (x, refl)
 said-entry v Same None = inl refl
 said-entry v _ said = inl refl
 
-module _ {X : Type 0} where
-  -- what is said is the next entry of the pass's first number
-  pub is-turn : (start : Origin) (releases : List Release) (history : List (Entry X)) (v : View X) (said : Option X) → KnowsLists start releases history v → 0 < length v.used → IsTurn history (entries_of v said)
-  is-turn start releases history v None g number = tt
-  is-turn start releases history v (Some x) g number = (
-    ap (λ k. k + 1) (ap (entries_under (slice_index v.used 0)) (mine-in v.used history v.seen v.mine g.mine g.heard) ∙ calls-by (slice_index v.used 0) v.used history (has-first v.used number)),
-    refl,
-  )
+-- what is said is the next entry of the pass's first number
+pub is-turn : {X : Type 0} (start : Origin) (releases : List Release) (history : List (Entry X)) (v : View X) (said : Option X) → KnowsLists start releases history v → 0 < length v.used → IsTurn history (entries_of v said)
+is-turn start releases history v None g number = tt
+is-turn start releases history v (Some x) g number = (
+  ap (λ k. k + 1) (ap (entries_under (slice_index v.used 0)) (mine-in v.used history v.seen v.mine g.mine g.heard) ∙ calls-by (slice_index v.used 0) v.used history (has-first v.used number)),
+  refl,
+)
 
 tie-each : (P : Tie → Type 0) (q : ℕ) (words : List ℕ) (k : ℕ) (o : Option Open) → ((x : Open) → o ≡ Some x → P (record { page = k; version = x.version; of = q; words = words })) → Each P (tie_of q words k o)
 tie-each P q words k None f = tt

@@ -161,10 +161,7 @@ module _ {X B : Type 0} (stored : B → Stored) (keeps : Start → Kept X → Ty
           mapping-shows clear-known.0 None (held_at v p).owner (f ∷ v.frames) (put f (core.words f) v.contents) (Clear id p) mapping-none clear-legal
           (clear-step stored start s r.releases r.drafts id v (view_then None inner) p 0 r.wide.0 clear-known.0 there refl refl refl mapping-none frames-gained)
           refl refl refl (λ m _ at. absurd (none-some m at))
-          (λ g x. ⊎_elim
-          (λ e. ap (upd (put_at [] v.contents) f (core.words f)) e ∙ upd-same (put_at [] v.contents) f (core.words f) ∙ ap core.words (sym e))
-          (λ ne. upd-other (put_at [] v.contents) f (core.words f) g ne ∙ known.contents g (sym (has-other g f v.frames ne) ∙ x))
-          (cases_eq g f))
+          (each-upd (λ g l. has g (f ∷ v.frames) ≡ true → l ≡ core.words g) (put_at [] v.contents) f (core.words f) (λ _. refl) (λ g ne x. known.contents g (sym (has-other g f v.frames ne) ∙ x)))
 
       -- it tells of the one frame that the page can stand in
       pub clear-told : Brings (did_store (places.Translation p) (trans_word None)) [] [] v (cleared_view p f (core.words f) v) (view_then None (cleared_view p f (core.words f) v))

@@ -288,9 +288,8 @@ module _ {X B : Type 0} (stored : B → Stored) (keeps : Start → Kept X → Ty
       (λ miss. ap (λ (y : World). y.core) (lost-claim (world_of stored start [] (λ _. []) s) id x n (λ q. miss (sym word ∙ q))))
       (ap {B = Seen} (λ n. if eqb n x then sights.Taken else sights.Lost n) word)
 
-module _ {X : Type 0} {found : ℕ} {v w : View X} (t : NextTold found v w) where
-  pub nload-others : (touched : ℕ → Type 0) → LeavesOthers touched ((did_load places.Next found) ∷ []) [] v w
-  nload-others touched = others-tied t.brings ([], refl) tt (λ q ne. refl) (λ q ne. refl) (λ q ne. refl) (λ q ne. refl)
+pub nload-others : {X : Type 0} {found : ℕ} {v w : View X} → NextTold found v w → (touched : ℕ → Type 0) → LeavesOthers touched ((did_load places.Next found) ∷ []) [] v w
+nload-others t touched = others-tied t.brings ([], refl) tt (λ q ne. refl) (λ q ne. refl) (λ q ne. refl) (λ q ne. refl)
 
 module _ {X : Type 0} (x n : ℕ) {found : ℕ} {v w : View X} (e : found ≡ x) (t : ClaimTold x n found v w) where
   pub claim-brings : Brings (did_exchange places.Next x found (x + n)) [] [] v (claimed_view x n v) w

@@ -276,16 +276,14 @@ module _ {X B : Type 0} {stored : B → Stored} {keeps : Start → Kept X → Ty
         ∙ false_from_ne_true (is_owed rel.s.views q) (λ t. true≢false (sym (owed-mine stored keeps tied start tells rel.s rel.r rel.id rel.v rel.there rel.live q (page q e') (member q e').owns t) ∙ due)))
         same
 
-    module _
-        (law : (start : Start) (kept : Kept X) (due : List ℕ) (changes : List Change) (entries : List (Entry X)) → keeps start kept → Fits kept due changes → IsTurn kept.history entries → may_release start due changes entries → keeps start (released_kept changes entries kept)) where
-      pub first-keeps : 0 < length rel.v.used → start.tells ≡ true → keeps (began_of start) before → keeps (began_of start) after
-      first-keeps number t kept =
-          let same = (rel.r.heard rel.id rel.v rel.there rel.live).same_start in
-          subst (keeps (began_of start)) after-is
-          (⊎_elim
-          (λ k. subst (keeps (began_of start)) (sym (unchanged k.0 k.1)) kept)
-          (λ may. law (began_of start) before rel.v.owed (changes_of rel.v (rel.p ∷ rel.rest)) (entries_of rel.v rel.said) kept fits (is-turn start rel.r.releases rel.r.history rel.v rel.said (rel.r.heard rel.id rel.v rel.there rel.live) number) (subst (λ (o : Origin). may_release (began_of o) rel.v.owed (changes_of rel.v (rel.p ∷ rel.rest)) (entries_of rel.v rel.said)) same may))
-          (first.owner (ap (λ (o : Origin). o.tells) same ∙ t)))
+    pub first-keeps : (law : (start : Start) (kept : Kept X) (due : List ℕ) (changes : List Change) (entries : List (Entry X)) → keeps start kept → Fits kept due changes → IsTurn kept.history entries → may_release start due changes entries → keeps start (released_kept changes entries kept)) → 0 < length rel.v.used → start.tells ≡ true → keeps (began_of start) before → keeps (began_of start) after
+    first-keeps law number t kept =
+        let same = (rel.r.heard rel.id rel.v rel.there rel.live).same_start in
+        subst (keeps (began_of start)) after-is
+        (⊎_elim
+        (λ k. subst (keeps (began_of start)) (sym (unchanged k.0 k.1)) kept)
+        (λ may. law (began_of start) before rel.v.owed (changes_of rel.v (rel.p ∷ rel.rest)) (entries_of rel.v rel.said) kept fits (is-turn start rel.r.releases rel.r.history rel.v rel.said (rel.r.heard rel.id rel.v rel.there rel.live) number) (subst (λ (o : Origin). may_release (began_of o) rel.v.owed (changes_of rel.v (rel.p ∷ rel.rest)) (entries_of rel.v rel.said)) same may))
+        (first.owner (ap (λ (o : Origin). o.tells) same ∙ t)))
 
   -- ---- a later member
 
@@ -374,13 +372,12 @@ module _ {X B : Type 0} (stored : B → Stored) (keeps : Start → Kept X → Ty
 
 -- ---- the last version of the page
 
-module _ {X : Type 0} {did : Did} {r : Release} {entries : List _} {v inner w : View X} (b : BringsWith did None (r ∷ []) entries v inner w) (start : inner.start ≡ v.start) where
-  pub released-last : last_of w r.page ≡ record { version = r.version; words = r.words }
-  released-last =
-      ap (λ (x : View X). last_in x.start x.releases r.page) b.view
-      ∙ ap (λ s. last_in s ((v.releases ++ b.between) ++ r ∷ []) r.page) start
-      ∙ last-is v.start ((v.releases ++ b.between) ++ r ∷ []) (λ k. []) r.page
-      ∙ ap (λ (h : History). h.last) (release-here v.start (v.releases ++ b.between) (λ k. []) r)
+pub released-last : {X : Type 0} {did : Did} {r : Release} {entries : List _} {v inner w : View X} → BringsWith did None (r ∷ []) entries v inner w → inner.start ≡ v.start → last_of w r.page ≡ record { version = r.version; words = r.words }
+released-last {X = X} {r = r} {v = v} b start =
+    ap (λ (x : View X). last_in x.start x.releases r.page) b.view
+    ∙ ap (λ s. last_in s ((v.releases ++ b.between) ++ r ∷ []) r.page) start
+    ∙ last-is v.start ((v.releases ++ b.between) ++ r ∷ []) (λ k. []) r.page
+    ∙ ap (λ (h : History). h.last) (release-here v.start (v.releases ++ b.between) (λ k. []) r)
 
 -- ---- resident
 
