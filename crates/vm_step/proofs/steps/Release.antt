@@ -32,6 +32,10 @@ use Rattle.vm_step.proofs.Releasing.{word, words, world-is}
 use Rattle.vm_step.proofs.steps.Event.{is-event}
 use Rattle.vm_step.proofs.steps.Leaving.{apart, LeavesOthers, LeavesOwn, others-tied, own-from, rest-of}
 
+-- what holds of page p, and of each other page, holds of all
+at-page : (P : ℕ → Type 0) (p : ℕ) → P p → ((q : ℕ) → q ≢ p → P q) → (q : ℕ) → P q
+at-page P p here else' q = ⊎_elim (λ e. subst P (sym e) here) (else' q) (cases_eq q p)
+
 -- no release leaves the page locked exclusively
 left-free : (way : Way) → state_left way ≢ LOCKED
 left-free Evicts e = omega (arith, e)
@@ -104,41 +108,30 @@ module _ {X B : Type 0} {stored : B → Stored} {keeps : Start → Kept X → Ty
     entry = entries-one rel.v rel.said;
     mine = refl;
     next_versions = (ap (λ n. n + 1) (next-version rel), tt);
-    zero = λ t q le l.
-        ⊎_elim
-        (λ (e : q ≡ rel.p). ap (λ n. (histories_of start (releases rel) rel.r.drafts n).last.words) e ∙ last-here rel ∙ unwritten rel t (subst (λ n. (old rel).core.next ≤ n) e (subst (λ n. n ≤ q) (next-is rel) le))
-        ∙ rel.r.zero t rel.p (subst (λ n. (old rel).core.next ≤ n) e (subst (λ n. n ≤ q) (next-is rel) le)) rel.inside)
-        (λ ne. ap (λ (h : History). h.last.words) (history-else rel q ne) ∙ rel.r.zero t q (subst (λ n. n ≤ q) (next-is rel) le) l)
-        (cases_eq q rel.p);
-    knows = λ q.
-        ⊎_elim
-        (λ (e : q ≡ rel.p). subst (λ n. KnowsPage (seat_of (inner rel) n) (put_at no_held (inner rel).held n) ((core_shown stored start (new rel)).pages n)) (sym e)
+    zero = λ t. at-page (λ q. (core_shown stored start (new rel)).next ≤ q → q < start.pages → (h' q).last.words ≡ replicate 64 0) rel.p
+        (λ le l. let early = subst (λ n. n ≤ rel.p) (next-is rel) le in last-here rel ∙ unwritten rel t early ∙ rel.r.zero t rel.p early rel.inside)
+        (λ q ne le l. ap (λ (y : History). y.last.words) (history-else rel q ne) ∙ rel.r.zero t q (subst (λ n. n ≤ q) (next-is rel) le) l);
+    knows = at-page (λ q. KnowsPage (seat_of (inner rel) q) (put_at no_held rel.v.held q) ((core_shown stored start (new rel)).pages q)) rel.p
         (subst (λ y. KnowsPage y (put_at no_held rel.v.held rel.p) ((core_shown stored start (new rel)).pages rel.p)) (sym (seat-p rel))
         (subst (λ y. KnowsPage (seat_left rel.way (seat_of rel.v rel.p)) (put_at no_held rel.v.held rel.p) y) (sym (page-here rel))
-        (record { calls = λ _. ((mine rel).knows rel.p).calls (calls-p rel); shares = λ _. ap frame_of (((mine rel).knows rel.p).calls (calls-p rel)).0 }))))
-        (λ ne. subst (λ y. KnowsPage y (put_at no_held rel.v.held q) ((core_shown stored start (new rel)).pages q)) (sym (seat-else rel q ne))
-        (subst (λ y. KnowsPage (seat_of rel.v q) (put_at no_held rel.v.held q) y) (sym (page-else rel q ne)) ((mine rel).knows q)))
-        (cases_eq q rel.p);
+        (record { calls = λ _. ((mine rel).knows rel.p).calls (calls-p rel); shares = λ _. ap frame_of (((mine rel).knows rel.p).calls (calls-p rel)).0 })))
+        (λ q ne. subst (λ y. KnowsPage y (put_at no_held rel.v.held q) ((core_shown stored start (new rel)).pages q)) (sym (seat-else rel q ne))
+        (subst (λ y. KnowsPage (seat_of rel.v q) (put_at no_held rel.v.held q) y) (sym (page-else rel q ne)) ((mine rel).knows q)));
     owners = λ q m x at.
         let calls : may_call (seat_of rel.v q) ≡ true = ⊎_elim (λ (e : q ≡ rel.p). ap (λ n. may_call (seat_of rel.v n)) e ∙ calls-p rel) (λ ne. sym (ap may_call (seat-else rel q ne)) ∙ x) (cases_eq q rel.p) in
         (mine rel).owners q m calls at ∙ sym (owners-are rel m.frame);
     contents = λ f e. (mine rel).contents f e ∙ sym (frames-are rel f);
-    drafted = λ q owns.
-        ⊎_elim
-        (λ (e : q ≡ rel.p). absurd (false≢true (sym (ap (λ n. (seat_of (inner rel) n).exclusive) e ∙ ap (λ (y : Seat). y.exclusive) (seat-p rel) ∙ left-exclusive rel.way (seat_of rel.v rel.p)) ∙ owns)))
-        (λ ne. draft-known rel q (sym (ap (λ (y : Seat). y.exclusive) (seat-else rel q ne)) ∙ owns))
-        (cases_eq q rel.p);
+    drafted = at-page (λ q. (seat_of (inner rel) q).exclusive ≡ true → draft_of rel.v q ≡ rel.r.drafts q) rel.p
+        (λ owns. absurd (false≢true (sym (ap (λ (y : Seat). y.exclusive) (seat-p rel) ∙ left-exclusive rel.way (seat_of rel.v rel.p)) ∙ owns)))
+        (λ q ne owns. draft-known rel q (sym (ap (λ (y : Seat). y.exclusive) (seat-else rel q ne)) ∙ owns));
     pending = still-pending;
     owed = still-owed;
     next = λ n e. let k = next-kept rel.p rel.v.next n e in let o = (mine rel).next n k.1 in (still-owns rel n k.0 o.0, (next-is rel) ∙ o.1);
     loaded = ([], refl, tt);
     tying = ([], refl, λ _. tt);
-    members = λ q was gone.
-        ⊎_elim
-        (λ (e : q ≡ rel.p). subst (λ n. ((core_shown stored start (new rel)).pages n).version ≢ ((old rel).core.pages n).version) (sym e)
-        (λ same. absurd (let more = ap (λ (y : Page). y.version) (page-here rel) in omega (arith, more, same))))
-        (λ ne. absurd (true≢false (sym ((members-are rel).stays q ne was) ∙ gone)))
-        (cases_eq q rel.p);
+    members = at-page (λ q. has q rel.v.pending ≡ true → has q (inner rel).pending ≡ false → ((core_shown stored start (new rel)).pages q).version ≢ ((old rel).core.pages q).version) rel.p
+        (λ _ _ same. let more = ap (λ (y : Page). y.version) (page-here rel) in omega (arith, more, same))
+        (λ q ne was gone. absurd (true≢false (sym ((members-are rel).stays q ne was) ∙ gone)));
     owner = owner;
   }
 
@@ -291,17 +284,13 @@ module _ {X B : Type 0} {stored : B → Stored} {keeps : Start → Kept X → Ty
   later-keeps later t =
       let member : is_pending rel.s.views rel.p ≡ true = any-here (λ (u : View X). has rel.p u.pending) rel.s.views rel.id rel.v rel.there later.pending in
       let none : (q : ℕ) → has q rel.rest ≡ false = λ q. ap (has q) later.alone in
-      let same-words : (q : ℕ) → logical h (is_pending rel.s.views) q ≡ logical h' m' q = λ q.
-      ⊎_elim
-      (λ (e : q ≡ rel.p). ap (logical h (is_pending rel.s.views)) e ∙ logical-draft h (is_pending rel.s.views) rel.p member ∙ draft-is start rel.r.releases rel.r.drafts rel.p ∙ sym (draft-known rel rel.p rel.owns) ∙ sym logical-here ∙ ap (logical h' m') (sym e))
-      (λ ne. sym (logical-else q ne (none q)))
-      (cases_eq q rel.p) in
+      let same-words : (q : ℕ) → logical h (is_pending rel.s.views) q ≡ logical h' m' q = at-page (λ q. logical h (is_pending rel.s.views) q ≡ logical h' m' q) rel.p
+      (logical-draft h (is_pending rel.s.views) rel.p member ∙ draft-is start rel.r.releases rel.r.drafts rel.p ∙ sym (draft-known rel rel.p rel.owns) ∙ sym logical-here)
+      (λ q ne. sym (logical-else q ne (none q))) in
       let due : has rel.p rel.v.owed ≡ false = false_from_ne_true (has rel.p rel.v.owed) (λ e. true≢false (sym later.pending ∙ ((mine rel).owed rel.p e).3)) in
-      let owed-same : (q : ℕ) → has q w.owed ≡ has q rel.v.owed = λ q.
-      ⊎_elim
-      (λ (e : q ≡ rel.p). has-without_all_same (rel.p ∷ rel.rest) rel.v.owed q (ap (λ b. b || has q rel.rest) (eq-eqb q rel.p e)) ∙ sym due ∙ ap (λ n. has n rel.v.owed) (sym e))
-      (λ ne. has-without_all_other (rel.p ∷ rel.rest) rel.v.owed q (ap (λ b. b || has q rel.rest) (ne_eqb q rel.p ne) ∙ none q))
-      (cases_eq q rel.p) in
+      let owed-same : (q : ℕ) → has q w.owed ≡ has q rel.v.owed = at-page (λ q. has q w.owed ≡ has q rel.v.owed) rel.p
+      (has-without_all_same (rel.p ∷ rel.rest) rel.v.owed rel.p (ap (λ b. b || has rel.p rel.rest) (eq-eqb rel.p rel.p refl)) ∙ sym due)
+      (λ q ne. has-without_all_other (rel.p ∷ rel.rest) rel.v.owed q (ap (λ b. b || has q rel.rest) (ne_eqb q rel.p ne) ∙ none q)) in
       subst (keeps (began_of start)) (λ i. record {
         pages = listed-same start.pages (logical h (is_pending rel.s.views)) (logical h' m') (λ q _. same-words q) i;
         next = sym (next-is rel) i;
