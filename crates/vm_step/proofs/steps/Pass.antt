@@ -31,6 +31,17 @@ module _ {X B : Type 0} (stored : B → Stored) (keeps : Start → Kept X → Ty
   joins-any id v other w live live' here there nothing s stands at apart at' =
       by-rule id v s _ live stands at (λ start r. joins-ruled stored keeps tied start tells s r id other v w at apart (sym (set_else s.views id other (joined v w) apart) ∙ at') live live' here there nothing)
 
+  pub hears-any : (id : ℕ) (v : View X) (other : ℕ) (w : View X) → v.live ≡ true → w.live ≡ true → (v.told_releases ≡ []) × (v.told ≡ []) → (w.told_releases ≡ []) × (w.told ≡ []) → OnlyKnows w
+      → Joins (Stands stored keeps tied shape tells) id v other w (hearer v w) spent
+  hears-any id v other w live live' here there only s stands at apart at' =
+      by-rule id v s _ live stands at (λ start r. hears-ruled stored keeps tied start tells s r id other v w at apart (sym (set_else s.views id other (hearer v w) apart) ∙ at') live live' here there only)
+
+  pub follow-allows : (slots id : ℕ) (v : View X) (i : ℕ) → v.live ≡ true → StartsWith v.told_releases v.releases → StartsWith v.told v.seen → IsPlacedAt shape places.Next i
+      → AllowsStep (Stands stored keeps tied shape tells) slots id v i (λ n. n) (told_of shape tells (λ n. TakesOver))
+  follow-allows slots id v i live on-releases on-seen is =
+      allows-load stored keeps tied shape tells slots id v i places.Next (λ n. TakesOver) live is (λ n w t. record { live = ap (λ y. y.live) t.view ∙ live; learned = (ap (λ y. y.told_releases) t.view, ap (λ y. y.told) t.view); sound = t.sound })
+      (λ start has s r there. let k = follows-ruled stored keeps tied start tells s r id v there live on-releases on-seen in (follower v (did_load places.Next (slice_index s.words (index_of start places.Next))), k.0, k.1))
+
 module _ {X : Type 0} where
   pub more-used : (v w : View X) → 0 < length v.used → 0 < length (joined v w).used
   more-used v w l = let both : length (v.used ++ w.used) ≡ length v.used + length w.used = length-append v.used w.used in omega (arith, l, both)
@@ -64,18 +75,6 @@ module _ {X : Type 0} where
         );
         mine = ap (λ (y : View X). y.mine) b.view ∙ sym (ap (entries_by (v.used ++ w.used)) seen ∙ entries-both (v.used ++ w.used) (joined v w).seen b.others ∙ (λ i. entries_by (v.used ++ w.used) (joined v w).seen ++ b.foreign i) ∙ append-none (entries_by (v.used ++ w.used) (joined v w).seen));
       }
-
-module _ {X B : Type 0} (stored : B → Stored) (keeps : Start → Kept X → Type 0) (tied : Start → ℕ → List ℕ → ℕ → List ℕ → Type 0) where
-  pub hears-any : (shape : Shape) (tells : Bool) (id : ℕ) (v : View X) (other : ℕ) (w : View X) → v.live ≡ true → w.live ≡ true → (v.told_releases ≡ []) × (v.told ≡ []) → (w.told_releases ≡ []) × (w.told ≡ []) → OnlyKnows w
-      → Joins (Stands stored keeps tied shape tells) id v other w (hearer v w) spent
-  hears-any shape tells id v other w live live' here there only s stands at apart at' =
-      by-rule stored keeps tied shape tells id v s _ live stands at (λ start r. hears-ruled stored keeps tied start tells s r id other v w at apart (sym (set_else s.views id other (hearer v w) apart) ∙ at') live live' here there only)
-
-  pub follow-allows : (tells : Bool) (shape : Shape) (slots id : ℕ) (v : View X) (i : ℕ) → v.live ≡ true → StartsWith v.told_releases v.releases → StartsWith v.told v.seen → IsPlacedAt shape places.Next i
-      → AllowsStep (Stands stored keeps tied shape tells) slots id v i (λ n. n) (told_of shape tells (λ n. TakesOver))
-  follow-allows tells shape slots id v i live on-releases on-seen is =
-      allows-load stored keeps tied shape tells slots id v i places.Next (λ n. TakesOver) live is (λ n w t. record { live = ap (λ y. y.live) t.view ∙ live; learned = (ap (λ y. y.told_releases) t.view, ap (λ y. y.told) t.view); sound = t.sound })
-      (λ start has s r there. let k = follows-ruled stored keeps tied start tells s r id v there live on-releases on-seen in (follower v (did_load places.Next (slice_index s.words (index_of start places.Next))), k.0, k.1))
 
 module _ {X B : Type 0} (stored : B → Stored) (keeps : Start → Kept X → Type 0) (tied : Start → ℕ → List ℕ → ℕ → List ℕ → Type 0) (start : Origin) (tells : Bool) (s : Table (Option B) (View X)) (id : ℕ) (v : View X) (is : IsPassOf stored start keeps tied tells s id v) where
   abbrev r : Ruled stored keeps tied start tells s
