@@ -1,3 +1,4 @@
+pub mod Event
 pub mod Leaving
 pub mod Unchanged
 pub mod Look

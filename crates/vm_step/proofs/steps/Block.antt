@@ -7,16 +7,17 @@ use Rattle.vm_core.specs.declared.event.Seen.TheVariants as sights
 use Rattle.vm_rule.specs.declared.view.Place.TheVariants as places
 use Rattle.vm_step.proofs.{Here.is-of, Standing.allows-any, steps.Raise.count-known, steps.Raise.raise-legal}
 use Rattle.vm_step.proofs.Prelude.{[], Allows, ap, arith, at-bound, at-there, block-here, block_of, Bool, BringsWith, brought_to, called, cases_Bool}
-use Rattle.vm_step.proofs.Prelude.{core_shown, count_more, DeviceDid, Did, did_load, empty_play, Entry, false, gives, HasShape, held_at, home_view}
-use Rattle.vm_step.proofs.Prelude.{index_of, inl, inr, IsCall, IsEvent, IsHome, IsOf, IsPassOf, IsPlacedAt, IsSome, Kept, length, lift_play, List}
-use Rattle.vm_step.proofs.Prelude.{LOCKED, may_call, MayBring, MayRaise, MayTakeOut, Me, NamesActorAndPage, None, on_page, Option, Origin, Out}
-use Rattle.vm_step.proofs.Prelude.{out_at, out_view, Page, put_back, Raise, raise-step, RaiseTold, Read, refl, Release, rest, return_play, ReturnTold}
-use Rattle.vm_step.proofs.Prelude.{RFail, Ruled, same-word, seat-here, seat_of, Shape, shared-here, ShiftTold, ShowsBut, ShowsSame, slice_index}
-use Rattle.vm_step.proofs.Prelude.{slice_set, slot_play, SlotTold, Some, some, some-same, Sound, Stands, Start, State, Step, step, Stored, subst, sym}
-use Rattle.vm_step.proofs.Prelude.{Table, table_after, taken_from, true, upd, upd-is, upd-other, upd-same, upd-self, View, WFail, with_block}
-use Rattle.vm_step.proofs.Prelude.{words_held, World, Write, written, ℕ, ⊎_elim, ◌<◌, ◌∙◌, ◌∷◌, ◌≡◌, ◌≤◌, ◌⊎◌}
+use Rattle.vm_step.proofs.Prelude.{core_shown, count_more, DeviceDid, Did, did_load, empty_play, Entry, false, gives, HasShape, held_at, home_view, index_of}
+use Rattle.vm_step.proofs.Prelude.{inl, inr, IsCall, IsEvent, IsHome, IsOf, IsPassOf, IsPlacedAt, IsSome, Kept, length, lift_play, List, LOCKED, may_call}
+use Rattle.vm_step.proofs.Prelude.{MayBring, MayRaise, MayTakeOut, Me, NamesActorAndPage, None, on_page, Option, Origin, Out, out_at, out_view, Page, put_back}
+use Rattle.vm_step.proofs.Prelude.{Raise, raise-step, RaiseTold, Read, refl, Release, rest, return_play, ReturnTold, RFail, Ruled, same-word, seat-here}
+use Rattle.vm_step.proofs.Prelude.{seat_of, Shape, shared-here, ShiftTold, ShowsBut, ShowsSame, slice_index, slice_set, slot_of, slot_play, SlotTold, Some}
+use Rattle.vm_step.proofs.Prelude.{some, some-same, Sound, Stands, Start, State, Step, step, Stored, subst, sym, Table, table_after, taken_from, true, upd}
+use Rattle.vm_step.proofs.Prelude.{upd-is, upd-other, upd-same, upd-self, View, WFail, with_block, words_held, Write, written, ℕ, ⊎_elim, ◌<◌, ◌∙◌, ◌∷◌, ◌≡◌}
+use Rattle.vm_step.proofs.Prelude.{◌≤◌, ◌⊎◌}
 use Rattle.vm_step.proofs.Slots.{at-home, block-out-is, core-home, core-slots, did-stays, get-at, has-share, home-after, may-call, returns-home}
 use Rattle.vm_step.proofs.Slots.{shifted-blocks, shifts-slot, slot-view, taken-blocks, takes-slot, written-held}
+use Rattle.vm_step.proofs.steps.Event.{is-event}
 
 -- one block is out at a page
 pub one-out : (p : ℕ) (moving : Bool) (o : Option Out) (b c : Stored) → o ≡ Some (out_at p moving b) → o ≡ Some (out_at p moving c) → b ≡ c
@@ -65,17 +66,16 @@ module _ {X B : Type 0} (stored : B → Stored) (keeps : Start → Kept X → Ty
       at-fault shape slots id me p i (λ st. slot_play shape tells stored p st me) live is
       (λ start has s r many there below.
       let l : p < start.pages = subst (λ n. p < n) (sym has.pages) l' in
-      let v : View X = me.0 in
       let place : ℕ = index_of start (places.Fault p) in
-      let h = at-home stored keeps tied start tells s r id v there live p l calls none in
-      let w : View X = slot-view stored keeps tied start tells s r id v there live (slice_set s.homes p maybe.none) p true (stored h.0) in
-      let k = takes-slot stored keeps tied start tells s r id v there live number p h.0 l calls none h.1 in
+      let h = at-home stored keeps tied start tells s r id me.0 there live p l calls none in
+      let w : View X = slot-view stored keeps tied start tells s r id me.0 there live (slice_set s.homes p maybe.none) p true (stored h.0) in
+      let k = takes-slot stored keeps tied start tells s r id me.0 there live number p h.0 l calls none h.1 in
       let inside : p < length s.homes = subst (λ n. p < n) (sym r.wide.1) l in (
         w,
         picks p (Some h.0),
         get-at maybe.none s.homes p (maybe.some (Some h.0)) inside h.1,
         subst (λ ws. Ruled stored keeps tied start tells (record { words = ws; homes = slice_set s.homes p maybe.none; views = slice_set s.views id w })) (sym (same-word s.words place)) k.0,
-        (is-of stored keeps tied start tells s r id v there live shape has, (h.0, k.1, refl)),
+        (is-of stored keeps tied start tells s r id me.0 there live shape has, (h.0, k.1, refl)),
       ))
 
   -- the empty slot of a block that is out goes home
@@ -84,18 +84,16 @@ module _ {X B : Type 0} (stored : B → Stored) (keeps : Start → Kept X → Ty
   empty-allows shape slots id me p i b live number is out carried =
       at-fault shape slots id me p i (λ st. empty_play shape tells p st me) live is
       (λ start has s r many there below.
-      let v : View X = me.0 in
       let place : ℕ = index_of start (places.Fault p) in
-      let o : Out = out_at p true b in
       let homes : List (maybe.Option (Option B)) = slice_set s.homes p (maybe.some None) in
-      let w : View X = slot-view stored keeps tied start tells s r id v there live homes p false b in
-      let k = shifts-slot stored keeps tied start tells s r id v there live number o false out in (
+      let w : View X = slot-view stored keeps tied start tells s r id me.0 there live homes p false b in
+      let k = shifts-slot stored keeps tied start tells s r id me.0 there live number (out_at p true b) false out in (
         w,
         gives,
         tt,
         subst (λ hs. Ruled stored keeps tied start tells (record { words = slice_set s.words place (slice_index s.words place); homes = hs; views = slice_set s.views id w })) (ap (put_back s.homes) (sym carried))
             (subst (λ ws. Ruled stored keeps tied start tells (record { words = ws; homes = homes; views = slice_set s.views id w })) (sym (same-word s.words place)) k.0),
-        (λ c e. (subst (λ y. ShiftTold p false y (slice_index s.words place) v w) (one-out p true me.0.out b c out e) k.1, ap rest carried)),
+        (λ c e. (subst (λ y. ShiftTold p false y (slice_index s.words place) me.0 w) (one-out p true me.0.out b c out e) k.1, ap rest carried)),
       ))
 
   -- it is taken
@@ -104,24 +102,23 @@ module _ {X B : Type 0} (stored : B → Stored) (keeps : Start → Kept X → Ty
   lift-allows shape slots id me p i b live number is out =
       at-fault shape slots id me p i (λ st. lift_play shape tells p st me) live is
       (λ start has s r many there below.
-      let v : View X = me.0 in
       let place : ℕ = index_of start (places.Fault p) in
       let o : Out = out_at p false b in
       let homes : List (maybe.Option (Option B)) = slice_set s.homes p maybe.none in
-      let w : View X = slot-view stored keeps tied start tells s r id v there live homes p true b in
-      let k = shifts-slot stored keeps tied start tells s r id v there live number o true out in
-      let away = r.blocks.away id v o there out in
+      let w : View X = slot-view stored keeps tied start tells s r id me.0 there live homes p true b in
+      let k = shifts-slot stored keeps tied start tells s r id me.0 there live number o true out in
+      let away = r.blocks.away id me.0 o there out in
       let inside : p < length s.homes = subst (λ n. p < n) (sym r.wide.1) away.0 in (
         w,
         picks p None,
         get-at maybe.none s.homes p (maybe.some None) inside away.2,
         subst (λ ws. Ruled stored keeps tied start tells (record { words = ws; homes = homes; views = slice_set s.views id w })) (sym (same-word s.words place)) k.0,
         (
-          is-of stored keeps tied start tells s r id v there live shape has,
+          is-of stored keeps tied start tells s r id me.0 there live shape has,
           (λ c e. (
-            subst (λ y. ShiftTold p true y (slice_index s.words place) v w) (one-out p false me.0.out b c out e) k.1,
+            subst (λ y. ShiftTold p true y (slice_index s.words place) me.0 w) (one-out p false me.0.out b c out e) k.1,
             refl,
-            λ new did. did-stays stored keeps tied start tells s r id v there live homes p true b c new away.0 away.1 did,
+            λ new did. did-stays stored keeps tied start tells s r id me.0 there live homes p true b c new away.0 away.1 did,
           )),
         ),
       ))
@@ -134,25 +131,20 @@ module _ {X B : Type 0} (stored : B → Stored) (keeps : Start → Kept X → Ty
   return-allows shape slots id me p i b old live number is out carried did bound =
       at-fault shape slots id me p i (λ st. return_play shape tells stored p st me) live is
       (λ start has s r many there below.
-      let v : View X = me.0 in
       let place : ℕ = index_of start (places.Fault p) in
-      let w : View X = home-after stored keeps tied start tells s r id v there live p b in
-      let k = returns-home stored keeps tied start tells s r id v there live (out_at p true old) b out number did bound in (
+      let w : View X = home-after stored keeps tied start tells s r id me.0 there live p b in
+      let k = returns-home stored keeps tied start tells s r id me.0 there live (out_at p true old) b out number did bound in (
         w,
         gives,
         tt,
         subst (λ hs. Ruled stored keeps tied start tells (record { words = slice_set s.words place (slice_index s.words place); homes = hs; views = slice_set s.views id w })) (ap (put_back s.homes) (sym carried))
             (subst (λ ws. Ruled stored keeps tied start tells (record { words = ws; homes = slice_set s.homes p (maybe.some (Some b)); views = slice_set s.views id w })) (sym (same-word s.words place)) k.0),
         (λ c old' e out' did' bound'. (
-          is-of stored keeps tied start tells s r id v there live shape has,
-          subst (λ y. ReturnTold p (stored y) (slice_index s.words place) v w) (some-same b c (one-slot p p (Some b) (Some c) [] [] (sym carried ∙ e))) k.1,
+          is-of stored keeps tied start tells s r id me.0 there live shape has,
+          subst (λ y. ReturnTold p (stored y) (slice_index s.words place) me.0 w) (some-same b c (one-slot p p (Some b) (Some c) [] [] (sym carried ∙ e))) k.1,
           ap rest carried,
         )),
       ))
-
--- a write into the slot that the seat took last leaves the view
-pub view-put : {X B : Type 0} (m n : Me (Option B) (View X)) (l : List (ℕ × Option B)) → n ≡ (m.0, l) → n.0 ≡ m.0
-view-put m n l e = ap (λ (y : Me (Option _) (View _)). y.0) e
 
 module _ {X B : Type 0} (stored : B → Stored) where
   -- ---- out
@@ -252,13 +244,10 @@ module _ {X B : Type 0} (stored : B → Stored) (start : Origin) (keeps : Start 
       → IsEvent stored start s (table_after s (slice_set s.words (index_of start (places.Fault p)) count) id w) (Raise id p) sights.Done
   raise-event count v w pass l may told =
       let view = told.brings.view in
-      record {
-        legal = raise-legal stored keeps tied start tells s pass.rule id v pass.there pass.live p l may.calls;
-        core = ap (λ (x : World). x.core)
-            (raise-step stored start s pass.rule.releases pass.rule.drafts id v w p count pass.rule.wide.0 l pass.there (ap (λ (y : View X). y.out) view) (ap (λ (y : View X). y.frames) view) (ap (λ (y : View X). y.seats) view) (ap (λ (y : View X). y.loads) view)
-            (count-known stored keeps tied start tells s pass.rule id v pass.there pass.live p count may));
-        sees = refl;
-      }
+      is-event (raise-legal stored keeps tied start tells s pass.rule id v pass.there pass.live p l may.calls)
+      (raise-step stored start s [] (λ _. []) id v w p count pass.rule.wide.0 l pass.there (ap (λ (y : View X). y.out) view) (ap (λ (y : View X). y.frames) view) (ap (λ (y : View X). y.seats) view) (ap (λ (y : View X). y.loads) view)
+      (count-known stored keeps tied start tells s pass.rule id v pass.there pass.live p count may))
+      refl
 
   -- ---- moves that change no block
 
@@ -268,17 +257,12 @@ module _ {X B : Type 0} (stored : B → Stored) (start : Origin) (keeps : Start 
       core-slots stored start s (slice_set s.homes p maybe.none) id v w (block_of stored s.homes s.views) pass.there (ap (λ (y : View X). y.seats) view) (ap (λ (y : View X). y.frames) view)
       (taken-blocks stored keeps tied start tells s pass.rule id v pass.there pass.live p b w l may.calls may.none (at-there maybe.none s.homes p (some (Some b)) here) (ap (λ (y : View X). y.out) view))
 
-  pub emptied_same : (found : ℕ) (b : Stored) (v w : View X) → IsPassOf stored start keeps tied tells s id v → v.out ≡ Some (out_at p true b) → ShiftTold p false b found v w → ShowsSame stored start s (brought_to s p None id w)
-  emptied_same found b v w pass out told =
+  pub shifted_same : (was moving : Bool) (found : ℕ) (b : Stored) (v w : View X) → IsPassOf stored start keeps tied tells s id v → v.out ≡ Some (out_at p was b) → ShiftTold p moving b found v w
+      → ShowsSame stored start s (record { words = s.words; homes = slice_set s.homes p (slot_of (out_at p moving b)); views = slice_set s.views id w })
+  shifted_same was moving found b v w pass out told =
       let view = told.brings.view in
-      core-slots stored start s (slice_set s.homes p (some None)) id v w (block_of stored s.homes s.views) pass.there (ap (λ (y : View X). y.seats) view) (ap (λ (y : View X). y.frames) view)
-      (shifted-blocks stored keeps tied start tells s pass.rule id v pass.there pass.live (out_at p true b) false w out (ap (λ (y : View X). y.out) view))
-
-  pub lifted_same : (found : ℕ) (b : Stored) (v w : View X) → IsPassOf stored start keeps tied tells s id v → v.out ≡ Some (out_at p false b) → ShiftTold p true b found v w → ShowsSame stored start s (taken_from s p id w)
-  lifted_same found b v w pass out told =
-      let view = told.brings.view in
-      core-slots stored start s (slice_set s.homes p maybe.none) id v w (block_of stored s.homes s.views) pass.there (ap (λ (y : View X). y.seats) view) (ap (λ (y : View X). y.frames) view)
-      (shifted-blocks stored keeps tied start tells s pass.rule id v pass.there pass.live (out_at p false b) true w out (ap (λ (y : View X). y.out) view))
+      core-slots stored start s (slice_set s.homes p (slot_of (out_at p moving b))) id v w (block_of stored s.homes s.views) pass.there (ap (λ (y : View X). y.seats) view) (ap (λ (y : View X). y.frames) view)
+      (shifted-blocks stored keeps tied start tells s pass.rule id v pass.there pass.live (out_at p was b) moving w out (ap (λ (y : View X). y.out) view))
 
   -- ---- a block that comes home
 

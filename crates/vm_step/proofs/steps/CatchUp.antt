@@ -1,12 +1,12 @@
 -- A load of the next word that brings a pass up to date: a pass with all parts knows the table then; that the table allows it.
 use Rattle.vm_rule.specs.declared.view.Place.TheVariants as places
 use Rattle.vm_step.proofs.{Fit.fit, Standing.allows-load}
-use Rattle.vm_step.proofs.Prelude.{[], after_step, all-seen, AllowsStep, ap, arith, at-bound, at_next, at_state, became, began_of, Bool, CatchTold}
-use Rattle.vm_step.proofs.Prelude.{Did, did_load, Each, get_elem?, HasGiven, HasStepped, HasWritten, index_of, IsPlacedAt, IsWhole, Kept, kept_by}
-use Rattle.vm_step.proofs.Prelude.{KnowsAll, KnowsTable, last-is, last_in, last_of, length, List, NLoad, Option, Origin, Place, refl, rested, Ruled}
-use Rattle.vm_step.proofs.Prelude.{set_here, Shape, slice_index, Some, some, Stands, Start, Stored, subst, sym, Table, table-known, table_words}
-use Rattle.vm_step.proofs.Prelude.{told_of, true, Version, version_of, View, WasNext, WasWord, WereWords, what-is-kept, without-locks, World}
-use Rattle.vm_step.proofs.Prelude.{world_of, ℕ, ◌++◌, ◌<◌, ◌∙◌, ◌∷◌, ◌≡◌, ◌≤◌}
+use Rattle.vm_step.proofs.Prelude.{[], after_step, all-seen, AllowsStep, ap, arith, at-bound, at_next, at_state, became, began_of, Bool, CatchTold, Did}
+use Rattle.vm_step.proofs.Prelude.{did_load, Each, get_elem?, HasGiven, HasStepped, HasWritten, index_of, IsPlacedAt, IsWhole, Kept, kept_by, KnowsAll}
+use Rattle.vm_step.proofs.Prelude.{KnowsTable, last-is, last_in, last_of, length, List, NLoad, Option, Origin, Place, refl, rested, Ruled, set_here, Shape}
+use Rattle.vm_step.proofs.Prelude.{slice_index, Some, some, Stands, Start, Stored, subst, sym, Table, table-known, table_words, told_of, true, Version}
+use Rattle.vm_step.proofs.Prelude.{version_of, View, WasNext, WasWord, WereWords, what-is-kept, without-locks, World, world_of, ℕ, ◌++◌, ◌<◌, ◌∙◌, ◌∷◌, ◌≡◌}
+use Rattle.vm_step.proofs.Prelude.{◌≤◌}
 
 each-there : {A : Type 0} (P : A → Type 0) (l : List A) (x : A) (m : List A) → Each P (l ++ x ∷ m) → P x
 each-there P [] x m e = e.0

@@ -9,18 +9,18 @@ use Rattle.vm_core.specs.declared.event.Seen.TheVariants as sights
 use Rattle.vm_rule.specs.declared.view.Place.TheVariants as places
 use Rattle.vm_step.proofs.{Fit.fit, Mine.member-mine, Mine.stands-known, Quiet.held-shows, Quiet.quiet-shows, Standing.allows, Standing.allows-load}
 use Rattle.vm_step.proofs.{Written.word-left, Written.word-loaded}
-use Rattle.vm_step.proofs.Prelude.{[], after_step, AllowsStep, ap, arith, at-bound, Bool, Brings, cases_eq, content-here, core_shown, Did, did_load}
-use Rattle.vm_step.proofs.Prelude.{did_store, draft-is, draft_of, drafted_view, Drafts, eq-eqb, EVICTED, false, fill-step, filled_view}
-use Rattle.vm_step.proofs.Prelude.{FillIsItsEvent, frame_of, frame_read_by, get_elem?, has, Held, held-here, held_at, HoldsPage, if◌then◌else◌}
-use Rattle.vm_step.proofs.Prelude.{index_of, inl, inr, is_pending, is_some, IsEvent, IsLocking, IsPassOf, IsPlacedAt, IsSome, Kept, KnowsAsBefore}
-use Rattle.vm_step.proofs.Prelude.{KnowsPage, KnowsPages, last_of, Legal, length, List, Load, load-step, load_frame, loaded_view, LoadIsItsEvent}
-use Rattle.vm_step.proofs.Prelude.{loads_at, loads_more, LoadTold, LOCKED, locked-here, lt-ltb, ltb-true, Mapping, nat_lt, no_held, None, Open}
-use Rattle.vm_step.proofs.Prelude.{open_frame, Option, or_cases, or_left, or_right, Origin, Page, PassMayStore, put_at, refl, Ruled, Seat, seat-here}
-use Rattle.vm_step.proofs.Prelude.{seat_of, Shape, shared-here, Shows, slice_index, slice_set, Some, some, some-is, some-same, Stands, stands-nowhere}
-use Rattle.vm_step.proofs.Prelude.{stands-one, stands_in, Start, State, steps, Store, store-core, store-step, Stored, StoreIsItsEvent, StoresTold}
-use Rattle.vm_step.proofs.Prelude.{StoreTold, subst, sym, Table, table_after, told_of, true, true≢false, upd, upd-other, upd-same, Version, View}
-use Rattle.vm_step.proofs.Prelude.{word_at, Works, World, world_of, ℕ, ⊎_elim, ◌&&◌, ◌*◌, ◌+◌, ◌<◌, ◌||◌, ◌∙◌, ◌∷◌, ◌≡◌, ◌≢◌, ◌≤◌}
-use Rattle.vm_step.proofs.steps.Leaving.{apart, holds-still, knows-still, last-still, LeavesOthers, LeavesOwn, others-tied, own-from, rest-of}
+use Rattle.vm_step.proofs.Prelude.{[], after_step, AllowsStep, ap, arith, at-bound, Bool, Brings, cases_eq, content-here, core_shown, Did, did_load, did_store}
+use Rattle.vm_step.proofs.Prelude.{draft-is, draft_of, drafted_view, Drafts, each-upd2, eq-eqb, EVICTED, false, fill-step, filled_view, FillIsItsEvent}
+use Rattle.vm_step.proofs.Prelude.{frame_of, frame_read_by, get_elem?, has, Held, held-here, held_at, HoldsPage, if◌then◌else◌, index_of, inl, inr, is_pending}
+use Rattle.vm_step.proofs.Prelude.{is_some, IsLocking, IsPlacedAt, IsSome, Kept, KnowsAsBefore, KnowsPage, KnowsPages, last_of, Legal, length, List, Load}
+use Rattle.vm_step.proofs.Prelude.{load-step, load_frame, loaded_view, LoadIsItsEvent, loads_at, loads_more, LoadTold, LOCKED, locked-here, lt-ltb, ltb-true}
+use Rattle.vm_step.proofs.Prelude.{Mapping, nat_lt, no_held, None, Open, open_frame, Option, or_cases, or_left, or_right, Origin, Page, PassMayStore, put_at}
+use Rattle.vm_step.proofs.Prelude.{refl, Ruled, Seat, seat-here, seat_of, Shape, shared-here, Shows, slice_index, slice_set, Some, some, some-is, some-same}
+use Rattle.vm_step.proofs.Prelude.{Stands, stands-nowhere, stands-one, stands_in, Start, State, steps, Store, store-core, store-step, Stored, StoreIsItsEvent}
+use Rattle.vm_step.proofs.Prelude.{StoresTold, StoreTold, subst, sym, Table, told_of, true, true≢false, upd, upd-other, upd-same, Version, View, word_at, Works}
+use Rattle.vm_step.proofs.Prelude.{World, world_of, ℕ, ⊎_elim, ◌&&◌, ◌*◌, ◌+◌, ◌<◌, ◌||◌, ◌∙◌, ◌∷◌, ◌≡◌, ◌≢◌, ◌≤◌}
+use Rattle.vm_step.proofs.steps.Event.{is-event}
+use Rattle.vm_step.proofs.steps.Leaving.{apart, holds-still, knows-still, last-still, LeavesOthers, LeavesOwn, others-tied, own-from, works-of}
 
 -- ---- who has a page locked
 
@@ -75,84 +75,6 @@ module _ {X B : Type 0} (stored : B → Stored) (start : Origin) (s : Table (Opt
   reads-mapped m f is locks reads =
       some-same m.frame f (sym (frame-mapped ((seat_of v p).exclusive || nat_lt 0 (seat_of v p).shares) page.trans m (open_frame (seat_of v p).reading) (is-locking (seat_of v p) locks) is) ∙ sym seat-reads ∙ reads)
 
-module _ {X B : Type 0} (stored : B → Stored) (keeps : Start → Kept X → Type 0) (tied : Start → ℕ → List ℕ → ℕ → List ℕ → Type 0) (start : Origin) (tells : Bool) (s : Table (Option B) (View X)) (r : Ruled stored keeps tied start tells s) (id : ℕ) (v : View X) (p f i : ℕ) where
-  -- the word that stands there
-  abbrev pub load-found : ℕ
-  load-found = slice_index s.words (3 * start.pages + (64 * f + i))
-
-  abbrev pub load-did : Did
-  load-did = did_load (places.Content f i) load-found
-
-  abbrev pub load-inner : View X
-  load-inner = loaded_view p i load-found v
-
-  abbrev pub load-after : View X
-  load-after = after_step stored keeps tied start tells s r s.words [] [] load-did load-inner
-
-  module _ (there : get_elem? s.views id ≡ some v) (live : v.live ≡ true) (l : p < start.pages) (lf : f < start.frames) (li : i < 64) (by : frame_read_by v p ≡ Some f) where
-    abbrev core : State
-    core = core_shown stored start s
-
-    abbrev known : KnowsPages tied start (world_of stored start r.releases r.drafts s) (is_pending s.views) v
-    known = r.known id v there live
-
-    reads : load_frame (core.pages p) id ≡ Some f
-    reads = reads-known stored start s id p v l there (known.knows p) ∙ by
-
-    pub load-shows : Shows stored keeps tied start tells s r id v s.words r.drafts [] [] load-did load-inner (Load id p i)
-    load-shows =
-        quiet-shows stored keeps tied start tells s r id v s.words r.drafts load-did load-inner (Load id p i) there live
-        (record {
-          word = word-loaded start s.words (places.Content f i) r.wide.0 r.spelled (lf, li);
-          legal = record { names = record { actor = at-bound s.views id v there; page = l }; place = li; frame = subst IsSome (sym reads) refl };
-          world = load-step stored start s r.releases r.drafts id v load-after p i f load-found l lf li there refl refl refl reads refl refl;
-          leaves = refl;
-          calls = λ o x. (r.blocks.away id v o there x).1;
-          holds = λ q x. x;
-          members = λ q _. refl;
-          next = refl;
-          knows = known.knows;
-          owners = known.owners;
-          contents = known.contents;
-          drafted = λ q x. known.drafts q x ∙ draft-is start r.releases r.drafts q;
-          loaded = ([], refl, tt);
-        })
-
-    -- the word is that of the page's frame, where the pass has the page locked and it is resident
-    mapped-word : (m : Mapping) → (core.pages p).trans ≡ Some m → IsLocking (seat_of v p) → load-found ≡ slice_index (core.words m.frame) i
-    mapped-word m is locks =
-        sym (content-here stored start s f i lf li)
-        ∙ ap (λ n. slice_index (core.words n) i) (sym (reads-mapped stored start s id p v l there m f is locks reads))
-
-    pub load-told : Brings load-did [] [] v load-inner load-after → LoadTold p f i load-found v load-after
-    load-told brings = record {
-      brings = brings;
-      drafted = λ t owns resident.
-          let m : (m : Mapping) × ((put_at no_held v.held p).mapping ≡ Some m) = some-is (put_at no_held v.held p).mapping resident in
-          let trans : (core.pages p).trans ≡ Some m.0 = sym ((known.knows p).calls (rw owns refl)).0 ∙ m.1 in
-          mapped-word m.0 trans (inl owns)
-          ∙ ap (λ ws. slice_index ws i) (((r.inv.pages p).contents (ap (λ (o : Origin). o.tells) (sym (r.heard id v there live).same_start) ∙ t)).draft (locked-here stored start s id p v (r.inv.pages p).locks l there owns) m.0 trans ∙ sym (known.drafts p owns));
-      shared = λ t has-share.
-          let state : (1 ≤ (core.pages p).state) × ((core.pages p).state < LOCKED) = shared-here stored start s id p v (r.inv.pages p).locks l there has-share in
-          let free : (core.pages p).state ≢ LOCKED = (λ e. absurd (omega (arith, state.1, e))) in
-          let stays : (core.pages p).state ≢ EVICTED = (λ e. absurd (omega (arith, state.1, e))) in
-          let m : (m : Mapping) × ((core.pages p).trans ≡ Some m) = some-is (core.pages p).trans ((r.inv.pages p).stands.resident free stays) in
-          mapped-word m.0 m.1 (inr has-share)
-          ∙ ap (λ ws. slice_index ws i) (((r.inv.pages p).contents (ap (λ (o : Origin). o.tells) (sym (r.heard id v there live).same_start) ∙ t)).logical free m.0 m.1 ∙ ap (λ (y : Version). y.words) (sym (known.latest p (inr has-share))));
-    }
-
-module _ {X B : Type 0} (stored : B → Stored) (keeps : Start → Kept X → Type 0) (tied : Start → ℕ → List ℕ → ℕ → List ℕ → Type 0) (tells : Bool) where
-  -- a load keeps the rule of every table and tells what it is to tell
-  pub load-allows : (shape : Shape) (slots id : ℕ) (v : View X) (i : ℕ) (p f j : ℕ) → v.live ≡ true → 0 < length v.used → p < shape.pages → f < shape.frames → j < 64 → frame_read_by v p ≡ Some f → IsPlacedAt shape (places.Content f j) i
-      → AllowsStep (Stands stored keeps tied shape tells) slots id v i (λ n. n) (told_of shape tells (LoadTold p f j))
-  load-allows shape slots id v i p f j live number l' lf' lj by is =
-      allows-load stored keeps tied shape tells slots id v i (places.Content f j) (LoadTold p f j) live is (λ n w t. fit t.brings live)
-      (λ start has s r there.
-      let l : p < start.pages = subst (λ n. p < n) (sym has.pages) l' in
-      let lf : f < start.frames = subst (λ n. f < n) (sym has.frames) lf' in
-      let k = steps stored keeps tied start tells s r id v s.words r.drafts [] [] _ _ (Load id p j) there live number refl refl (load-shows stored keeps tied start tells s r id v p f j there live l lf lj by) in
-      (_, k.0, load-told stored keeps tied start tells s r id v p f j there live l lf lj by k.1))
-
 module _ {X B : Type 0} (stored : B → Stored) (keeps : Start → Kept X → Type 0) (tied : Start → ℕ → List ℕ → ℕ → List ℕ → Type 0) (start : Origin) (tells : Bool) (s : Table (Option B) (View X)) (r : Ruled stored keeps tied start tells s) (id : ℕ) (v : View X) (there : get_elem? s.views id ≡ some v) (live : v.live ≡ true) where
   -- the page stands in the frame
   pub stands-drafted : (p f : ℕ) → Drafts v p f → stands_in ((core_shown stored start s).pages p).trans f ≡ true
@@ -175,7 +97,6 @@ module _ {X B : Type 0} (stored : B → Stored) (keeps : Start → Kept X → Ty
       let words : List ℕ = slice_set s.words (index_of start (places.Content f i)) x in
       let drafts : ℕ → List ℕ = upd r.drafts p (slice_set (r.drafts p) i x) in
       let inner : View X = drafted_view p i x v in
-      let w : View X = after_step stored keeps tied start tells s r words [] [] (did_store (places.Content f i) x) inner in
       let c : State = core_shown stored start s in
       let old : World = world_of stored start r.releases r.drafts s in
       let m : Mapping = record { frame = f; dirty = true } in
@@ -185,7 +106,7 @@ module _ {X B : Type 0} (stored : B → Stored) (keeps : Start → Kept X → Ty
       (record {
         word = word-left start s.words (did_store (places.Content f i) x) x r.wide.0 r.spelled (lf, li) refl tt refl;
         legal = store-legal p f i x lf li d;
-        world = store-step stored start s r.releases r.drafts id v w p f i x true r.inv r.wide.0 known.0 lf li there refl refl refl refl d.owns known.1;
+        world = store-step stored start s r.releases r.drafts id v _ p f i x true r.inv r.wide.0 known.0 lf li there refl refl refl refl d.owns known.1;
         leaves = refl;
         calls = λ o e. (r.blocks.away id v o there e).1;
         holds = λ q owns. owns;
@@ -197,12 +118,9 @@ module _ {X B : Type 0} (stored : B → Stored) (keeps : Start → Kept X → Ty
         contents = λ g e.
             let nowhere : stands_in (c.pages p).trans g ≡ false = stands-nowhere old g id p r.inv (held-here stored start s id g v there ∙ e) in
             k.contents g e ∙ sym (upd-other c.words f (slice_set (c.words f) i x) g (λ h. true≢false (sym (ap (λ t. stands_in t g) known.1 ∙ eq-eqb f g (sym h)) ∙ nowhere)));
-        drafted = λ q owns.
-            ⊎_elim
-            (λ e. ap (draft_of inner) e ∙ upd-same (draft_of v) p (slice_set (draft_of v p) i x) ∙ ap (λ l. slice_set l i x) (k.drafts p d.owns ∙ draft-is start r.releases r.drafts p)
-            ∙ sym (ap drafts e ∙ upd-same r.drafts p (slice_set (r.drafts p) i x)))
-            (λ ne. upd-other (draft_of v) p (slice_set (draft_of v p) i x) q ne ∙ k.drafts q owns ∙ draft-is start r.releases r.drafts q ∙ sym (upd-other r.drafts p (slice_set (r.drafts p) i x) q ne))
-            (cases_eq q p);
+        drafted = each-upd2 (λ q l m. (seat_of v q).exclusive ≡ true → l ≡ m) (draft_of v) r.drafts p (slice_set (draft_of v p) i x) (slice_set (r.drafts p) i x)
+            (λ owns. ap (λ l. slice_set l i x) (k.drafts p owns ∙ draft-is start r.releases r.drafts p))
+            (λ q _ owns. k.drafts q owns ∙ draft-is start r.releases r.drafts q);
         loaded = ([], refl, tt);
       })
 
@@ -220,21 +138,15 @@ module _ {X B : Type 0} (stored : B → Stored) (keeps : Start → Kept X → Ty
   fill-shows f i x lf li owns =
       let words : List ℕ = slice_set s.words (index_of start (places.Content f i)) x in
       let inner : View X = filled_view f i x v in
-      let w : View X = after_step stored keeps tied start tells s r words [] [] (did_store (places.Content f i) x) inner in
       let c : State = core_shown stored start s in
       let k : KnowsPages tied start (world_of stored start r.releases r.drafts s) (is_pending s.views) v = r.known id v there live in
       let contents : ℕ → List ℕ = put_at [] v.contents in
       held-shows stored keeps tied start tells s r id v words (did_store (places.Content f i) x) v.held v.frames inner.contents (Store id f i x) there live
       (word-left start s.words (did_store (places.Content f i) x) x r.wide.0 r.spelled (lf, li) refl tt refl)
       (fill-legal f i x lf li owns)
-      (fill-step stored start s r.releases r.drafts id v w f i x r.inv r.wide.0 lf li there refl refl refl refl owns)
+      (fill-step stored start s r.releases r.drafts id v _ f i x r.inv r.wide.0 lf li there refl refl refl refl owns)
       refl k.knows k.owners
-      (λ g e.
-      ⊎_elim
-      (λ e'. ap (put_at [] inner.contents) e' ∙ upd-same contents f (slice_set (contents f) i x) ∙ ap (λ l. slice_set l i x) (k.contents f owns)
-      ∙ sym (ap (upd c.words f (slice_set (c.words f) i x)) e' ∙ upd-same c.words f (slice_set (c.words f) i x)))
-      (λ ne. upd-other contents f (slice_set (contents f) i x) g ne ∙ k.contents g e ∙ sym (upd-other c.words f (slice_set (c.words f) i x) g ne))
-      (cases_eq g f))
+      (each-upd2 (λ g l m. has g v.frames ≡ true → l ≡ m) contents c.words f (slice_set (contents f) i x) (slice_set (c.words f) i x) (λ _. ap (λ l. slice_set l i x) (k.contents f owns)) (λ g _. k.contents g))
 
   -- one page alone stands in the frame
   pub one-place : (p q f : ℕ) → Drafts v p f → Drafts v q f → p ≡ q
@@ -243,11 +155,65 @@ module _ {X B : Type 0} (stored : B → Stored) (keeps : Start → Kept X → Ty
       (λ ne. absurd (true≢false (sym (stands-drafted p f d) ∙ stands-one (world_of stored start r.releases r.drafts s) f q p r.inv (stands-drafted q f e) ne)))
       (cases_eq p q)
 
-module _ {X B : Type 0} (stored : B → Stored) (keeps : Start → Kept X → Type 0) (tied : Start → ℕ → List ℕ → ℕ → List ℕ → Type 0) (shape : Shape) (tells : Bool) where
+module _ {X B : Type 0} (stored : B → Stored) (keeps : Start → Kept X → Type 0) (tied : Start → ℕ → List ℕ → ℕ → List ℕ → Type 0) (tells : Bool) where
+  -- a load keeps the rule of every table and tells what it is to tell
+  pub load-allows : (shape : Shape) (slots id : ℕ) (v : View X) (i : ℕ) (p f j : ℕ) → v.live ≡ true → 0 < length v.used → p < shape.pages → f < shape.frames → j < 64 → frame_read_by v p ≡ Some f → IsPlacedAt shape (places.Content f j) i
+      → AllowsStep (Stands stored keeps tied shape tells) slots id v i (λ n. n) (told_of shape tells (LoadTold p f j))
+  load-allows shape slots id v i p f j live number l' lf' lj by is =
+      allows-load stored keeps tied shape tells slots id v i (places.Content f j) (LoadTold p f j) live is (λ n w t. fit t.brings live)
+      (λ start has s r there.
+      let l : p < start.pages = subst (λ n. p < n) (sym has.pages) l' in
+      let lf : f < start.frames = subst (λ n. f < n) (sym has.frames) lf' in
+      let core : State = core_shown stored start s in
+      let found : ℕ = slice_index s.words (3 * start.pages + (64 * f + j)) in
+      let did : Did = did_load (places.Content f j) found in
+      let inner : View X = loaded_view p j found v in
+      let known = r.known id v there live in
+      let reads : load_frame (core.pages p) id ≡ Some f = reads-known stored start s id p v l there (known.knows p) ∙ by in
+      -- the word is that of the page's frame, where the pass has the page locked and it is resident
+      let mapped : (m : Mapping) → (core.pages p).trans ≡ Some m → IsLocking (seat_of v p) → found ≡ slice_index (core.words m.frame) j = (λ m is locks.
+      sym (content-here stored start s f j lf lj)
+      ∙ ap (λ n. slice_index (core.words n) j) (sym (reads-mapped stored start s id p v l there m f is locks reads))) in
+      let k = steps stored keeps tied start tells s r id v s.words r.drafts [] [] did inner (Load id p j) there live number refl refl
+      (quiet-shows stored keeps tied start tells s r id v s.words r.drafts did inner (Load id p j) there live
+      (record {
+        word = word-loaded start s.words (places.Content f j) r.wide.0 r.spelled (lf, lj);
+        legal = record { names = record { actor = at-bound s.views id v there; page = l }; place = lj; frame = subst IsSome (sym reads) refl };
+        world = load-step stored start s r.releases r.drafts id v _ p j f found l lf lj there refl refl refl reads refl refl;
+        leaves = refl;
+        calls = λ o x. (r.blocks.away id v o there x).1;
+        holds = λ q x. x;
+        members = λ q _. refl;
+        next = refl;
+        knows = known.knows;
+        owners = known.owners;
+        contents = known.contents;
+        drafted = λ q x. known.drafts q x ∙ draft-is start r.releases r.drafts q;
+        loaded = ([], refl, tt);
+      })) in (
+        _,
+        k.0,
+        record {
+          brings = k.1;
+          drafted = λ t owns resident.
+              let m : (m : Mapping) × ((put_at no_held v.held p).mapping ≡ Some m) = some-is (put_at no_held v.held p).mapping resident in
+              let trans : (core.pages p).trans ≡ Some m.0 = sym ((known.knows p).calls (rw owns refl)).0 ∙ m.1 in
+              mapped m.0 trans (inl owns)
+              ∙ ap (λ ws. slice_index ws j) (((r.inv.pages p).contents (ap (λ (o : Origin). o.tells) (sym (r.heard id v there live).same_start) ∙ t)).draft (locked-here stored start s id p v (r.inv.pages p).locks l there owns) m.0 trans ∙ sym (known.drafts p owns));
+          shared = λ t has-share.
+              let state : (1 ≤ (core.pages p).state) × ((core.pages p).state < LOCKED) = shared-here stored start s id p v (r.inv.pages p).locks l there has-share in
+              let free : (core.pages p).state ≢ LOCKED = (λ e. absurd (omega (arith, state.1, e))) in
+              let stays : (core.pages p).state ≢ EVICTED = (λ e. absurd (omega (arith, state.1, e))) in
+              let m : (m : Mapping) × ((core.pages p).trans ≡ Some m) = some-is (core.pages p).trans ((r.inv.pages p).stands.resident free stays) in
+              mapped m.0 m.1 (inr has-share)
+              ∙ ap (λ ws. slice_index ws j) (((r.inv.pages p).contents (ap (λ (o : Origin). o.tells) (sym (r.heard id v there live).same_start) ∙ t)).logical free m.0 m.1 ∙ ap (λ (y : Version). y.words) (sym (known.latest p (inr has-share))));
+        },
+      ))
+
   -- a store into the frame of a page, or into a frame of the pass, keeps the rule of every table and tells what it is to tell
-  pub store-allows : (slots id : ℕ) (v : View X) (i : ℕ) (f j x : ℕ) → v.live ≡ true → 0 < length v.used → f < shape.frames → j < 64 → PassMayStore v f → IsPlacedAt shape (places.Content f j) i
+  pub store-allows : (shape : Shape) (slots id : ℕ) (v : View X) (i : ℕ) (f j x : ℕ) → v.live ≡ true → 0 < length v.used → f < shape.frames → j < 64 → PassMayStore v f → IsPlacedAt shape (places.Content f j) i
       → AllowsStep (Stands stored keeps tied shape tells) slots id v i (λ _. x) (told_of shape tells (λ _. StoresTold f j x))
-  store-allows slots id v i f j x live number lf' lj may is =
+  store-allows shape slots id v i f j x live number lf' lj may is =
       allows stored keeps tied shape tells slots id v i (places.Content f j) (λ _. x) (λ _. x) (λ _. StoresTold f j x) live is (λ _. refl)
       (λ _ w t. ⊎_elim (λ owns. fit (t.own owns).brings live) (λ d. fit (t.page d.0 d.1).brings live) may)
       (λ start shaped s r there _.
@@ -272,37 +238,25 @@ module _ {X B : Type 0} (stored : B → Stored) (keeps : Start → Kept X → Ty
       ))
       may)
 
-module _ {X B : Type 0} (stored : B → Stored) (start : Origin) (keeps : Start → Kept X → Type 0) (tied : Start → ℕ → List ℕ → ℕ → List ℕ → Type 0) (tells : Bool) where
-  -- a store that is legal, by a pass that has out, holds and locks what it did
-  stored-event : (s : Table (Option B) (View X)) (id f i x : ℕ) (v w : View X) → IsPassOf stored start keeps tied tells s id v → f < start.frames → i < 64 → Legal (core_shown stored start s) (Store id f i x)
-      → w.out ≡ v.out → w.frames ≡ v.frames → w.seats ≡ v.seats
-      → IsEvent stored start s (table_after s (slice_set s.words (index_of start (places.Content f i)) x) id w) (Store id f i x) sights.Done
-  stored-event s id f i x v w pass lf li legal out frames seats =
-      record { legal = legal; core = store-core stored start s id v w f i x pass.rule.wide.0 lf li pass.there out frames seats; sees = refl }
-
-module _ {X B : Type 0} (stored : B → Stored) (keeps : Start → Kept X → Type 0) (tied : Start → ℕ → List ℕ → ℕ → List ℕ → Type 0) (tells : Bool) where
   pub store-event : StoreIsItsEvent stored keeps tied tells
   store-event start s id p f i x v w pass lf li d told =
       let view = told.brings.view in
-      stored-event stored start keeps tied tells s id f i x v w pass lf li (store-legal stored keeps tied start tells s pass.rule id v pass.there pass.live p f i x lf li d) (ap (λ (y : View X). y.out) view) (ap (λ (y : View X). y.frames) view) (ap (λ (y : View X). y.seats) view)
+      record { legal = store-legal stored keeps tied start tells s pass.rule id v pass.there pass.live p f i x lf li d; core = store-core stored start s id v w f i x pass.rule.wide.0 lf li pass.there (ap (λ (y : View X). y.out) view) (ap (λ (y : View X). y.frames) view) (ap (λ (y : View X). y.seats) view); sees = refl }
 
   pub fill-event : FillIsItsEvent stored keeps tied tells
   fill-event start s id f i x v w pass lf li owns told =
       let view = told.brings.view in
-      stored-event stored start keeps tied tells s id f i x v w pass lf li (fill-legal stored keeps tied start tells s pass.rule id v pass.there pass.live f i x lf li owns) (ap (λ (y : View X). y.out) view) (ap (λ (y : View X). y.frames) view) (ap (λ (y : View X). y.seats) view)
+      record { legal = fill-legal stored keeps tied start tells s pass.rule id v pass.there pass.live f i x lf li owns; core = store-core stored start s id v w f i x pass.rule.wide.0 lf li pass.there (ap (λ (y : View X). y.out) view) (ap (λ (y : View X). y.frames) view) (ap (λ (y : View X). y.seats) view); sees = refl }
 
   pub load-event : LoadIsItsEvent stored keeps tied tells
   load-event start s id p f i found v w pass finds l by told =
       let view = told.brings.view in
       let c : State = core_shown stored start s in
       let reads : load_frame (c.pages p) id ≡ Some f = reads-known stored start s id p v l pass.there ((pass.rule.known id v pass.there pass.live).knows p) ∙ by in
-      record {
-        legal = record { names = record { actor = at-bound s.views id v pass.there; page = l }; place = finds.0.1; frame = subst IsSome (sym reads) refl };
-        core = ap (λ (y : World). y.core)
-            (load-step stored start s [] (λ _. []) id v w p i f found l finds.0.0 finds.0.1 pass.there (ap (λ (y : View X). y.out) view) (ap (λ (y : View X). y.frames) view) (ap (λ (y : View X). y.seats) view)
-            reads finds.1 (ap (λ (y : View X). y.loads) view));
-        sees = ap sights.Word (ap (λ o. word_at c.words o i) reads ∙ content-here stored start s f i finds.0.0 finds.0.1 ∙ sym finds.1);
-      }
+      is-event (record { names = record { actor = at-bound s.views id v pass.there; page = l }; place = finds.0.1; frame = subst IsSome (sym reads) refl })
+      (load-step stored start s [] (λ _. []) id v w p i f found l finds.0.0 finds.0.1 pass.there (ap (λ (y : View X). y.out) view) (ap (λ (y : View X). y.frames) view) (ap (λ (y : View X). y.seats) view)
+      reads finds.1 (ap (λ (y : View X). y.loads) view))
+      (ap sights.Word (ap (λ o. word_at c.words o i) reads ∙ content-here stored start s f i finds.0.0 finds.0.1 ∙ sym finds.1))
 
 module _ {X : Type 0} {p f i x : ℕ} {v w : View X} (t : StoreTold p f i x v w) where
   pub store-others : (touched : ℕ → Type 0) → touched p → LeavesOthers touched ((did_store (places.Content f i) x) ∷ []) [] v w
@@ -347,11 +301,7 @@ module _ {X : Type 0} {p f i found : ℕ} {v w : View X} (t : LoadTold p f i fou
 
   -- of a page without an open read it changes nothing
   pub load-works : (seat_of v p).reading ≡ None → Works p (did_load (places.Content f i) found ∷ []) v w
-  load-works closed = record {
-    leaves = rest-of (load-others (λ q. q ≡ p) refl) load-own;
-    seat = load-seat p;
-    loads = load-loads ∙ ap (λ (o : Option Open). loads_more (open_frame o) (loads_at v p) i found) closed;
-    draft = ap (λ (x : View X). put_at [] x.drafts p) t.brings.view;
-    last = λ l. (load-knows p l).last;
-    alone = (load-others (λ q. q ≡ p) refl).runs;
-  }
+  load-works closed =
+      works-of (load-others (λ q. q ≡ p) refl) load-own (load-seat p)
+      (load-loads ∙ ap (λ (o : Option Open). loads_more (open_frame o) (loads_at v p) i found) closed)
+      (ap (λ (x : View X). draft_of x p) t.brings.view) (λ l. (load-knows p l).last)

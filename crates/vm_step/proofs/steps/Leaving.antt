@@ -2,10 +2,10 @@
 -- The files of the kinds beside this one say of each which pages it speaks of, and what it leaves of them.
 use Rattle.vm_step.proofs.Alone.{runs-one, runs-self, runs-then}
 use Rattle.vm_step.proofs.Asides.{alone-self, keeps-self, keeps-then, OnlyReads, starts-then}
-use Rattle.vm_step.proofs.Prelude.{[], ap, append-none, append_assoc, BringsWith, Did, draft_of, Each, Entry, Held, held_at, History, HoldsPage}
-use Rattle.vm_step.proofs.Prelude.{IsAsideOf, IsLocking, KeepsFrames, KnowsAsBefore, last-is, last_in, last_of, LeavesRest, List, loads_at, no_held}
-use Rattle.vm_step.proofs.Prelude.{no_seat, None, Option, Origin, Put, put_at, refl, Release, release-else, RunsAlone, Seat, seat_of, StartsWith}
-use Rattle.vm_step.proofs.Prelude.{StaysAlone, Stored, subst, sym, Tie, Translation, View, ℕ, ◌++◌, ◌∙◌, ◌∷◌, ◌≡◌, ◌≢◌}
+use Rattle.vm_step.proofs.Prelude.{[], ap, append-none, append_assoc, BringsWith, Did, draft_of, Each, Entry, Held, held_at, History, HoldsPage, IsAsideOf}
+use Rattle.vm_step.proofs.Prelude.{IsLocking, KeepsFrames, KnowsAsBefore, last-is, last_in, last_of, LeavesRest, List, loads_at, no_held, no_seat, None, Option}
+use Rattle.vm_step.proofs.Prelude.{Origin, Put, put_at, refl, Release, release-else, RunsAlone, Seat, seat_of, StartsWith, StaysAlone, Stored, subst, sym, Tie}
+use Rattle.vm_step.proofs.Prelude.{Translation, View, Works, ℕ, ◌++◌, ◌∙◌, ◌∷◌, ◌≡◌, ◌≢◌}
 
 -- a page that is none of those touched is not page p, which is one
 pub apart : (touched : ℕ → Type 0) {p : ℕ} → touched p → (q : ℕ) → (touched q → ⊥) → q ≢ p
@@ -199,6 +199,11 @@ module _ {X : Type 0} where
     drafts = f.drafts;
     last = f.last;
   }
+
+  -- they work on page p, where they leave of it what the pass has of it
+  pub works-of : {p : ℕ} {done : List Did} {v w : View X} → LeavesOthers (λ q. q ≡ p) done [] v w → LeavesOwn v w → seat_of w p ≡ seat_of v p → loads_at w p ≡ loads_at v p → draft_of w p ≡ draft_of v p
+      → (IsLocking (seat_of v p) → last_of w p ≡ last_of v p) → Works p done v w
+  works-of f o seat loads draft last = record { leaves = rest-of f o; seat = seat; loads = loads; draft = draft; last = last; alone = f.runs }
 
   -- they leave all but the open reads of the pages touched, where the locks stay, and what is known under them
   pub only-of : {touched : ℕ → Type 0} {done : List Did} {own : List Release} {v w : View X} → LeavesOthers touched done own v w → LeavesOwn v w

@@ -3,52 +3,25 @@
 -- What an exclusive lock leaves that was taken: it speaks of one page, whose open read is closed, whose draft is its last words, and which the
 -- pass knows from then on.
 use Rattle.vm_rule.specs.declared.view.Place.TheVariants as places
-use Rattle.vm_step.proofs.{Evidenced.taken-view, Fit.either-lives, Fit.fit, Here.last, Here.world, Quiet.ShowsQuiet, Standing.allows}
-use Rattle.vm_step.proofs.Exchange.{exchange-event, free-member, free-unheld, held-at, IsExchange, known-held, lockx-exchange, opened, owner-shows}
+use Rattle.vm_step.proofs.{Evidenced.taken-view, Fit.either-lives, Fit.fit, Here.last, Here.world, Standing.allows}
+use Rattle.vm_step.proofs.Exchange.{exchange-event, free-member, free-unheld, held-at, known-held, lockx-exchange, opened, owner-shows}
 use Rattle.vm_step.proofs.Exchange.{known-owner, page_held, tried, tried-validates}
-use Rattle.vm_step.proofs.Prelude.{[], AllowsStep, ap, arith, Bool, Brings, Did, did_exchange, draft_of, each-map, either, eqb, get_elem?, Held}
-use Rattle.vm_step.proofs.Prelude.{held_at, if◌then◌else◌, IsHeldAt, IsPlacedAt, Kept, last_of, LeavesRest, length, List, LOCKED, locked, locked_view}
-use Rattle.vm_step.proofs.Prelude.{LockExclusiveIsItsEvent, LockTold, LockX, MayLock, nat_tests, no_held, no_seat, None, Option, Origin, Page}
-use Rattle.vm_step.proofs.Prelude.{page_at, put, put_at, refl, Ruled, Seat, seat_of, Shape, share_count, slice_index, slice_set, some, Stands}
-use Rattle.vm_step.proofs.Prelude.{stands_dirty, Start, state-here, state_of, Stored, subst, sym, Table, told_of, TranslationHolds, true, upd-other}
-use Rattle.vm_step.proofs.Prelude.{upd-same, Version, version-here, version_of, View, word_of, ℕ, ⊎_elim, ◌<◌, ◌∙◌, ◌∷◌, ◌≡◌, ◌≢◌}
+use Rattle.vm_step.proofs.Prelude.{[], AllowsStep, ap, arith, Bool, Brings, Did, did_exchange, draft_of, each-map, either, eqb, Held, held_at, if◌then◌else◌}
+use Rattle.vm_step.proofs.Prelude.{IsHeldAt, IsPlacedAt, Kept, last_of, LeavesRest, length, List, LOCKED, locked, locked_view, LockExclusiveIsItsEvent}
+use Rattle.vm_step.proofs.Prelude.{LockTold, LockX, MayLock, nat_tests, no_held, no_seat, None, Page, page_at, put, put_at, refl, Seat, seat_of, Shape}
+use Rattle.vm_step.proofs.Prelude.{share_count, slice_index, Stands, stands_dirty, Start, state-here, state_of, Stored, subst, sym, told_of, TranslationHolds}
+use Rattle.vm_step.proofs.Prelude.{true, upd-other, upd-same, Version, version-here, version_of, View, word_of, ℕ, ◌<◌, ◌∙◌, ◌∷◌, ◌≡◌, ◌≢◌}
 use Rattle.vm_step.proofs.steps.Leaving.{apart, LeavesOthers, LeavesOwn, others-tied, own-from, rest-of}
 
 -- a word that may be locked is of a page that nobody has locked
 pub lockable : (expects : ℕ) → MayLock expects → (state_of expects ≢ LOCKED) × (share_count (state_of expects) ≡ 0)
-lockable expects may =
-    ⊎_elim
-    (λ (a : state_of expects ≡ 0). ((λ e. omega (arith, a, e)), grind (arith, nat_tests, a)))
-    (λ k. ⊎_elim
-    (λ (a : state_of expects ≡ 254). ((λ e. omega (arith, a, e)), grind (arith, nat_tests, a)))
-    (λ (a : state_of expects ≡ 255). ((λ e. omega (arith, a, e)), grind (arith, nat_tests, a)))
-    k)
-    may.state
+lockable expects may = ((λ e. grind (arith, may.state, e)), grind (arith, nat_tests, may.state))
 
-module _ {X B : Type 0} (stored : B → Stored) (keeps : Start → Kept X → Type 0) (tied : Start → ℕ → List ℕ → ℕ → List ℕ → Type 0) (start : Origin) (tells : Bool) (s : Table (Option B) (View X)) (r : Ruled stored keeps tied start tells s)
-    (id : ℕ) (v : View X) (there : get_elem? s.views id ≡ some v) (live : v.live ≡ true) (p expects : ℕ) (l : p < start.pages) (may : MayLock expects) where
-  abbrev pub locked_inner : View X
-  locked_inner = locked_view p (page_held stored keeps tied start tells s r p) (last stored keeps tied start tells s r p).words v
-
-  abbrev pub lock-is : IsExchange stored start s r.releases r.drafts id p expects (word_of LOCKED (version_of expects)) (opened stored keeps tied start tells s r p) locked_inner (LockX id p expects) (locked ((world stored keeps tied start tells s r).core.pages p) id)
-  lock-is = lockx-exchange stored start s r.releases r.drafts id v p expects r.wide.0 l there may (page_held stored keeps tied start tells s r p) (last stored keeps tied start tells s r p).words
-
-  pub lock-shows : (hit : slice_index s.words p ≡ expects) → ((world stored keeps tied start tells s r).core.pages p).state ≢ LOCKED
-      → ShowsQuiet stored keeps tied start tells s r id v (slice_set s.words p (word_of LOCKED (version_of expects))) (opened stored keeps tied start tells s r p) (did_exchange (places.State p) expects (slice_index s.words p) (word_of LOCKED (version_of expects))) locked_inner (LockX id p expects)
-  lock-shows hit free =
-      let y : Page = locked ((world stored keeps tied start tells s r).core.pages p) id in
-      let seat : Seat = record (seat_of v p) { exclusive = true; reading = None } in
-      owner-shows stored keeps tied start tells s r id v there live p l expects (word_of LOCKED (version_of expects)) hit (LockX id p expects) y seat (put p (page_held stored keeps tied start tells s r p) v.held) lock-is refl free
-      (λ q ne. upd-other (put_at no_held v.held) p (page_held stored keeps tied start tells s r p) q ne)
-      (known-held stored keeps tied start tells s r p l seat v.held y refl refl refl refl)
-      (known-owner stored keeps tied start tells s r p seat v.held)
-
-module _ {X B : Type 0} (stored : B → Stored) (keeps : Start → Kept X → Type 0) (tied : Start → ℕ → List ℕ → ℕ → List ℕ → Type 0) (shape : Shape) (tells : Bool)
-    (law : (start : Start) (kept : Kept X) (q p : ℕ) → keeps start kept → q < length kept.pages → p < length kept.pages → tied start q (page_at kept.pages q) p (page_at kept.pages p)) where
+module _ {X B : Type 0} (stored : B → Stored) (keeps : Start → Kept X → Type 0) (tied : Start → ℕ → List ℕ → ℕ → List ℕ → Type 0) (tells : Bool) where
   -- taken or lost, it keeps the rule of every table and tells what it is to tell
-  pub lock_exclusive-allows : (slots id : ℕ) (v : View X) (i : ℕ) (p expects x : ℕ) → v.live ≡ true → 0 < length v.used → p < shape.pages → MayLock expects → x ≡ (word_of LOCKED (version_of expects)) → IsPlacedAt shape (places.State p) i
+  pub lock_exclusive-allows : (law : (start : Start) (kept : Kept X) (q p : ℕ) → keeps start kept → q < length kept.pages → p < length kept.pages → tied start q (page_at kept.pages q) p (page_at kept.pages p)) (shape : Shape) (slots id : ℕ) (v : View X) (i : ℕ) (p expects x : ℕ) → v.live ≡ true → 0 < length v.used → p < shape.pages → MayLock expects → x ≡ (word_of LOCKED (version_of expects)) → IsPlacedAt shape (places.State p) i
       → AllowsStep (Stands stored keeps tied shape tells) slots id v i (λ n. either (eqb n expects) x n) (told_of shape tells (LockTold tied p expects))
-  lock_exclusive-allows slots id v i p expects x live number l' may spells is =
+  lock_exclusive-allows law shape slots id v i p expects x live number l' may spells is =
       allows stored keeps tied shape tells slots id v i (places.State p) (λ n. either (eqb n expects) x n) (λ n. either (eqb n expects) (word_of LOCKED (version_of expects)) n) (LockTold tied p expects) live is (λ n. ap (λ z. either (eqb n expects) z n) spells) (λ n w t. fit t.brings (either-lives _ _ v live live))
       (λ start has s r there _.
       let l : p < start.pages = subst (λ n. p < n) (sym has.pages) l' in
@@ -57,9 +30,14 @@ module _ {X B : Type 0} (stored : B → Stored) (keeps : Start → Kept X → Ty
       let free : slice_index s.words p ≡ expects → (pages p).state ≢ LOCKED = (λ hit e. (lockable expects may).0 (sym (found-state hit) ∙ e)) in
       let none : slice_index s.words p ≡ expects → share_count (pages p).state ≡ 0 = (λ hit. ap share_count (found-state hit) ∙ (lockable expects may).1) in
       let held : Held = page_held stored keeps tied start tells s r p in
-      let k = tried stored keeps tied start tells s r id v there live number p expects (word_of LOCKED (version_of expects)) l (opened stored keeps tied start tells s r p) (locked_inner stored keeps tied start tells s r id v there live p expects l may) (LockX id p expects) _ refl
-      (lock-is stored keeps tied start tells s r id v there live p expects l may)
-      (λ hit. lock-shows stored keeps tied start tells s r id v there live p expects l may hit (free hit)) in (
+      let words : List ℕ = (last stored keeps tied start tells s r p).words in
+      let seat : Seat = record (seat_of v p) { exclusive = true; reading = None } in
+      let taken = lockx-exchange stored start s r.releases r.drafts id v p expects r.wide.0 l there may held words in
+      let k = tried stored keeps tied start tells s r id v there live number p expects (word_of LOCKED (version_of expects)) l (opened stored keeps tied start tells s r p) (locked_view p held words v) (LockX id p expects) _ refl taken
+      (λ hit. owner-shows stored keeps tied start tells s r id v there live p l expects (word_of LOCKED (version_of expects)) hit (LockX id p expects) (locked (pages p) id) seat (put p held v.held) taken refl (free hit)
+      (λ q ne. upd-other (put_at no_held v.held) p held q ne)
+      (known-held stored keeps tied start tells s r p l seat v.held (locked (pages p) id) refl refl refl refl)
+      (known-owner stored keeps tied start tells s r p seat v.held)) in (
         k.0,
         k.1.rule,
         record {
@@ -82,7 +60,6 @@ module _ {X B : Type 0} (stored : B → Stored) (keeps : Start → Kept X → Ty
         },
       ))
 
-module _ {X B : Type 0} (stored : B → Stored) (keeps : Start → Kept X → Type 0) (tied : Start → ℕ → List ℕ → ℕ → List ℕ → Type 0) (tells : Bool) where
   pub lock_exclusive-event : LockExclusiveIsItsEvent stored keeps tied tells
   lock_exclusive-event start s id p expects found v w pass at may told =
       exchange-event stored start keeps tied tells s id p expects found _ _ _ v _ w _ _ pass at (lockx-exchange stored start s [] (λ _. []) id v p expects pass.rule.wide.0 at.0 pass.there may told.held (last_of w p).words) told.brings refl

@@ -10,20 +10,20 @@ use Rattle.vm_step.proofs.{Asides.alone-silent, Asides.OnlyReads, Fit.fit, Keepi
 use Rattle.vm_step.proofs.{Unclaimed.logical-zero, Written.word-loaded}
 use Rattle.vm_step.proofs.Here.{frame-inside, last-told, older, read-valid, reads, since, size-told, tied-itself, ties-hold, version-told}
 use Rattle.vm_step.proofs.Logical.{not-pending, page-kept, pages-kept, tied-now}
-use Rattle.vm_step.proofs.Prelude.{[], after_step, AllowsStep, any-here, any-same, ap, append-none, arith, at-bound, became, began_of, Bool, Brings}
-use Rattle.vm_step.proofs.Prelude.{calls-by, cases_Bool, cases_eq, chosen, Closed, cond-false, cond-true, core_shown, Did, did_load, draft-is, Each}
-use Rattle.vm_step.proofs.Prelude.{each-both, each-map, each-upd2, entries_of, entries_under, Entry, entry_of, eqb, eqb-true, EVICTED, false}
-use Rattle.vm_step.proofs.Prelude.{frame_of, fun_ext, get_elem?, has, has-first, histories_of, HoldsPage, if◌then◌else◌, index_of, inl, inr, is_owed}
-use Rattle.vm_step.proofs.Prelude.{is_pending, is_readable, IsKeptNow, IsLocking, IsPlacedAt, IsTurn, Kept, kept_loads, kept_of, KnowsAsBefore}
-use Rattle.vm_step.proofs.Prelude.{KnowsLists, KnowsPage, KnowsPages, KnowsUnheld, last_in, LeavesRest, left_at, left_of, left_open, length, List}
-use Rattle.vm_step.proofs.Prelude.{loads_at, LOCKED, LocksNone, logical, Look, look-step, looked, looked_view, LookIsItsEvent, LookTells, LookTold}
-use Rattle.vm_step.proofs.Prelude.{Mapping, mapping_of, MARKED, may_call, MayTell, mine-in, Moved, NamesFrame, nat_tests, next-here, no_held, no_seat}
-use Rattle.vm_step.proofs.Prelude.{None, Open, open_after, open_frame, Option, Origin, Page, page-open, page_at, put_at, ReadIs, refl, Release, Ruled}
-use Rattle.vm_step.proofs.Prelude.{Same, same-word, Seat, seat-here, seat_of, set_here, Shape, Shows, slice_index, slice_set, Some, some, some-is}
-use Rattle.vm_step.proofs.Prelude.{Stands, Start, state-here, state_of, steps, Stored, subst, suc, sym, Table, Tie, tie_of, TieHolds, ties_below}
-use Rattle.vm_step.proofs.Prelude.{told, told_of, Translation, TranslationHolds, true, UNLOCKED, upd-keeps, upd-other, upd-same, Version}
-use Rattle.vm_step.proofs.Prelude.{version-here, version_of, View, where_same, word-here, World, world_after, world_of, zero, ℕ, ⊎_elim, ◌++◌, ◌+◌}
+use Rattle.vm_step.proofs.Prelude.{[], after_step, AllowsStep, any-here, any-same, ap, append-none, arith, at-bound, became, began_of, Bool, Brings, calls-by}
+use Rattle.vm_step.proofs.Prelude.{cases_Bool, cases_eq, chosen, Closed, cond-false, cond-true, core_shown, Did, did_load, draft-is, Each, each-both, each-map}
+use Rattle.vm_step.proofs.Prelude.{each-upd2, entries_of, entries_under, Entry, entry_of, eqb, eqb-true, EVICTED, false, frame_of, fun_ext, get_elem?, has}
+use Rattle.vm_step.proofs.Prelude.{has-first, histories_of, HoldsPage, if◌then◌else◌, index_of, inl, inr, is_owed, is_pending, is_readable, IsKeptNow}
+use Rattle.vm_step.proofs.Prelude.{IsLocking, IsPlacedAt, IsTurn, Kept, kept_loads, kept_of, KnowsAsBefore, KnowsLists, KnowsPage, KnowsPages, KnowsUnheld}
+use Rattle.vm_step.proofs.Prelude.{last_in, LeavesRest, left_at, left_of, left_open, length, List, loads_at, LOCKED, LocksNone, logical, Look, look-step}
+use Rattle.vm_step.proofs.Prelude.{looked, looked_view, LookIsItsEvent, LookTells, LookTold, Mapping, mapping_of, MARKED, may_call, MayTell, mine-in, Moved}
+use Rattle.vm_step.proofs.Prelude.{NamesFrame, nat_tests, next-here, no_held, no_seat, None, Open, open_after, open_frame, Option, Origin, Page, page-open}
+use Rattle.vm_step.proofs.Prelude.{page_at, put_at, ReadIs, refl, Release, Ruled, Same, same-word, Seat, seat-here, seat_of, set_here, Shape, Shows}
+use Rattle.vm_step.proofs.Prelude.{slice_index, slice_set, Some, some, some-is, Stands, Start, state-here, state_of, steps, Stored, subst, suc, sym, Table, Tie}
+use Rattle.vm_step.proofs.Prelude.{tie_of, TieHolds, ties_below, told, told_of, Translation, TranslationHolds, true, UNLOCKED, upd-keeps, upd-other, upd-same}
+use Rattle.vm_step.proofs.Prelude.{Version, version-here, version_of, View, where_same, word-here, World, world_after, world_of, zero, ℕ, ⊎_elim, ◌++◌, ◌+◌}
 use Rattle.vm_step.proofs.Prelude.{◌<◌, ◌∙◌, ◌∷◌, ◌≡◌, ◌≢◌, ◌≤◌, ◌⊎◌}
+use Rattle.vm_step.proofs.steps.Event.{is-event}
 use Rattle.vm_step.proofs.steps.Leaving.{apart, knows-still, LeavesOthers, LeavesOwn, only-of, others-tied, own-from, rest-of}
 
 same-version : (n : ℕ) (o : Option Open) → left_open o n ≡ Same → (x : Open) × (o ≡ Some x) × (x.version ≡ n)
@@ -59,59 +59,13 @@ said-entry v Same (Some x) = inr (x, refl)
 said-entry v Same None = inl refl
 said-entry v _ said = inl refl
 
-module _ {X : Type 0} where
-  -- what is said is the next entry of the pass's first number
-  pub is-turn : (start : Origin) (releases : List Release) (history : List (Entry X)) (v : View X) (said : Option X) → KnowsLists start releases history v → 0 < length v.used → IsTurn history (entries_of v said)
-  is-turn start releases history v None g number = tt
-  is-turn start releases history v (Some x) g number = (
-    ap (λ k. k + 1) (ap (entries_under (slice_index v.used 0)) (mine-in v.used history v.seen v.mine g.mine g.heard) ∙ calls-by (slice_index v.used 0) v.used history (has-first v.used number)),
-    refl,
-  )
-
-module _ {X B : Type 0} (stored : B → Stored) (keeps : Start → Kept X → Type 0) (tied : Start → ℕ → List ℕ → ℕ → List ℕ → Type 0) (start : Origin) (tells : Bool) (s : Table (Option B) (View X)) (r : Ruled stored keeps tied start tells s) (id : ℕ) (v : View X) (there : get_elem? s.views id ≡ some v) (live : v.live ≡ true) (p : ℕ) (l : p < start.pages) (said : Option X)
-    (may_read : Start → ℕ → List ℕ → List (Entry X) → Type 0) (reads : (start : Start) (kept : Kept X) (q : ℕ) (entries : List (Entry X)) → keeps start kept → q < length kept.pages → IsTurn kept.history entries → may_read start q (page_at kept.pages q) entries → keeps start (told entries kept))
-    (ties : (start : Start) (kept : Kept X) (q p : ℕ) → keeps start kept → q < length kept.pages → p < length kept.pages → tied start q (page_at kept.pages q) p (page_at kept.pages p))
-    (may : MayTell tied may_read p said v) (number : 0 < length v.used) where
-  abbrev world : World
-  world = world_of stored start r.releases r.drafts s
-
-  abbrev left : ReadIs
-  left = left_at (slice_index s.words p) (seat_of v p).reading
-
-  abbrev kept : Kept X
-  kept = kept_of world r.history s.views
-
-  -- the page's words prove what is said, if anything is said
-  proved-here : left ≡ Same → start.tells ≡ true → may_read (began_of start) p (page_at kept.pages p) (entries_of v said) ⊎ (said ≡ None)
-  proved-here same t =
-      let same_start = (r.heard id v there live).same_start in
-      let k = stays (slice_index s.words p) (seat_of v p).reading same in
-      let free = free-here stored start s p l (seat_of v p).reading same in
-      ⊎_elim (λ none. inr none)
-      (λ proves. inl
-      (subst (λ words. may_read (began_of start) p words (entries_of v said)) (sym (page-kept stored keeps tied start tells s r p l (not-pending stored keeps tied start tells s r p l free)))
-      (subst (λ (o : Origin). may_read (began_of o) p (world.histories p).last.words (entries_of v said)) same_start
-      (proves (ap (λ (o : Origin). o.tells) same_start ∙ t) k.0 k.1 (world.histories p).last.words (r.inv.pages p).sizes.last
-      (read-valid stored keeps tied start tells s r id v there live p l t free k.0 k.1 (k.2 ∙ sym (version-here stored start s p l)))
-      (tied-itself stored keeps tied start tells s r id v there live ties p l t free)
-      (each-map _ _ (λ d h e n. h e (n ∙ k.2 ∙ sym (version-here stored start s p l))) v.ties (ties-hold stored keeps tied start tells s r id v there live p l t free))))))
-      may
-
-  keeps-none : keeps (began_of start) kept → keeps (began_of start) (told [] kept)
-  keeps-none = subst (λ h. keeps (began_of start) (record kept { history = h })) (sym (append-none r.history))
-
-  -- the layer above keeps its relation with what is said, where the open read stays
-  pub keeps-said : start.tells ≡ true → keeps (began_of start) kept → keeps (began_of start) (told (where_same left (entries_of v said) []) kept)
-  keeps-said t is =
-      where-same-keeps (λ es. keeps (began_of start) (told es kept)) left (entries_of v said) (keeps-none is)
-      (λ same. ⊎_elim
-      (reads (began_of start) kept p (entries_of v said) is (subst (λ n. p < n) (sym (pages-kept stored keeps tied start tells s r)) l) (is-turn start r.releases r.history v said (r.heard id v there live) number))
-      (λ none. subst (λ x. keeps (began_of start) (told (entries_of v x) kept)) (sym none) (keeps-none is))
-      (proved-here same t))
-
--- what comes only where the read stays
-pub each-same : {A : Type 0} (P : A → Type 0) (left : ReadIs) (l : List A) → (left ≡ Same → Each P l) → Each P (where_same left l [])
-each-same P left l = where-same-keeps (Each P) left l tt
+-- what is said is the next entry of the pass's first number
+pub is-turn : {X : Type 0} (start : Origin) (releases : List Release) (history : List (Entry X)) (v : View X) (said : Option X) → KnowsLists start releases history v → 0 < length v.used → IsTurn history (entries_of v said)
+is-turn start releases history v None g number = tt
+is-turn start releases history v (Some x) g number = (
+  ap (λ k. k + 1) (ap (entries_under (slice_index v.used 0)) (mine-in v.used history v.seen v.mine g.mine g.heard) ∙ calls-by (slice_index v.used 0) v.used history (has-first v.used number)),
+  refl,
+)
 
 tie-each : (P : Tie → Type 0) (q : ℕ) (words : List ℕ) (k : ℕ) (o : Option Open) → ((x : Open) → o ≡ Some x → P (record { page = k; version = x.version; of = q; words = words })) → Each P (tie_of q words k o)
 tie-each P q words k None f = tt
@@ -134,35 +88,14 @@ tie-looked tied began w a p pending t h =
     let same = upd-keeps (λ y. y.version) w.core.pages p (looked (w.core.pages p) a) refl t.page in
     (h.0, subst (λ n. t.version ≤ n) (sym same) h.1, λ e. h.2 (e ∙ same))
 
-module _ {X B : Type 0} (stored : B → Stored) (keeps : Start → Kept X → Type 0) (tied : Start → ℕ → List ℕ → ℕ → List ℕ → Type 0) (start : Origin) (tells : Bool) (s : Table (Option B) (View X)) (r : Ruled stored keeps tied start tells s) (id : ℕ) (v : View X) (there : get_elem? s.views id ≡ some v) (live : v.live ≡ true) (p : ℕ) (l : p < start.pages)
-    (law : (start : Start) (kept : Kept X) (q p : ℕ) → keeps start kept → q < length kept.pages → p < length kept.pages → tied start q (page_at kept.pages q) p (page_at kept.pages p)) where
-  abbrev ties-world : World
-  ties-world = world_of stored start r.releases r.drafts s
-
-  -- the page's last words, as the pass knows them after the look
-  abbrev words : List ℕ
-  words = (last_in v.start (r.releases ++ []) p).words
-
-  -- they hold after the look, which is where the pass gets them
-  pub look-ties : start.tells ≡ true → Each (TieHolds tied (began_of start) (world_after ties-world (Look id p)) (is_pending s.views)) (where_same (left_at (slice_index s.words p) (seat_of v p).reading) (ties_below v.start.pages v p words) [])
-  look-ties t =
-      let pages : v.start.pages ≡ start.pages = ap (λ (o : Origin). o.pages) (r.heard id v there live).same_start in
-      each-same (TieHolds tied (began_of start) (world_after ties-world (Look id p)) (is_pending s.views)) (left_at (slice_index s.words p) (seat_of v p).reading) (ties_below v.start.pages v p words)
-      (λ same. ties-each (TieHolds tied (began_of start) (world_after ties-world (Look id p)) (is_pending s.views)) v p words v.start.pages
-      (λ q lq ne o e.
-      let inside : q < start.pages = subst (λ n. q < n) pages lq in
-      let free : is_pending s.views p ≡ false = not-pending stored keeps tied start tells s r p l (free-here stored start s p l (seat_of v p).reading same) in
-      tie-looked tied (began_of start) ties-world id p (is_pending s.views) (record { page = q; version = o.version; of = p; words = words }) (
-        inside,
-        ((r.inv.pages q).reads id).old o (ap (λ (y : Seat). y.reading) (seat-here stored start s id q v inside there) ∙ e),
-        λ _ none. subst (λ ws. tied (began_of start) p ws q (ties-world.histories q).last.words) (sym (ap (λ (y : Version). y.words) (last-told stored keeps tied start tells s r id v there live p)))
-            (tied-now stored keeps tied start tells s r law t p q l inside free none),
-      )))
-
 module _ {X B : Type 0} (stored : B → Stored) (keeps : Start → Kept X → Type 0) (tied : Start → ℕ → List ℕ → ℕ → List ℕ → Type 0) (start : Origin) (tells : Bool) (s : Table (Option B) (View X)) (r : Ruled stored keeps tied start tells s) (id : ℕ) (v : View X) (p : ℕ) (said : Option X) where
+  abbrev old : World
+  old = world_of stored start r.releases r.drafts s
+
   abbrev pub look-left : ReadIs
   look-left = left_at (slice_index s.words p) (seat_of v p).reading
 
+  -- the page's last words, as the pass knows them after the look
   abbrev pub look-last : List ℕ
   look-last = (last_in v.start (r.releases ++ []) p).words
 
@@ -178,15 +111,7 @@ module _ {X B : Type 0} (stored : B → Stored) (keeps : Start → Kept X → Ty
   abbrev pub look-after : View X
   look-after = after_step stored keeps tied start tells s r s.words [] look-entries look-did look-inner
 
-  abbrev pub look-before : World
-  look-before = world_of stored start r.releases r.drafts s
-
   module _ (there : get_elem? s.views id ≡ some v) (live : v.live ≡ true) (l : p < start.pages) where
-    world-looked : world_of stored start r.releases r.drafts (became stored keeps tied start tells s s.words id look-after) ≡ world_after look-before (Look id p)
-    world-looked =
-        look-step stored start s r.releases r.drafts id v look-after p (record ((core_shown stored start s).pages p) { state = state_of (slice_index s.words p); version = version_of (slice_index s.words p) }) l there refl refl
-        (sym (state-here stored start s p l)) (sym (version-here stored start s p l)) refl refl
-
     pub pending-looked : is_pending (slice_set s.views id look-after) ≡ is_pending s.views
     pending-looked = fun_ext (λ q. any-same (λ y. has q y.pending) s.views id v look-after there refl)
 
@@ -194,123 +119,157 @@ module _ {X B : Type 0} (stored : B → Stored) (keeps : Start → Kept X → Ty
     owed-looked = fun_ext (λ q. any-same (λ y. has q y.owed) s.views id v look-after there refl)
 
     -- the pass has of each page what it had, but for its open read
-    pub same-exclusive : (q : ℕ) → (seat_of look-inner q).exclusive ≡ (seat_of v q).exclusive
-    same-exclusive q = upd-keeps (λ y. y.exclusive) (put_at no_seat v.seats) p (record (seat_of v p) { reading = open_after look-left (seat_of v p).reading (version_of (slice_index s.words p)) }) refl q
+    seat-keeps : {A : Type 0} (f : Seat → A) → f (record (seat_of v p) { reading = open_after look-left (seat_of v p).reading (version_of (slice_index s.words p)) }) ≡ f (seat_of v p) → (q : ℕ) → f (seat_of look-inner q) ≡ f (seat_of v q)
+    seat-keeps f = upd-keeps f (put_at no_seat v.seats) p _
 
-    pub same-shares : (q : ℕ) → (seat_of look-inner q).shares ≡ (seat_of v q).shares
-    same-shares q = upd-keeps (λ y. y.shares) (put_at no_seat v.seats) p (record (seat_of v p) { reading = open_after look-left (seat_of v p).reading (version_of (slice_index s.words p)) }) refl q
-
-    module _ (may_read : Start → ℕ → List ℕ → List (Entry X) → Type 0) (reads : (start : Start) (kept : Kept X) (q : ℕ) (entries : List (Entry X)) → keeps start kept → q < length kept.pages → IsTurn kept.history entries → may_read start q (page_at kept.pages q) entries → keeps start (told entries kept))
-        (ties : (start : Start) (kept : Kept X) (q p : ℕ) → keeps start kept → q < length kept.pages → p < length kept.pages → tied start q (page_at kept.pages q) p (page_at kept.pages p)) (may : MayTell tied may_read p said v) (number : 0 < length v.used) where
-      pub look-shows : Shows stored keeps tied start tells s r id v s.words r.drafts [] look-entries look-did look-inner (Look id p)
-      look-shows =
-          let k : KnowsPages tied start look-before (is_pending s.views) v = r.known id v there live in
-          event-shows stored keeps tied start tells s r id v s.words r.drafts look-entries look-did look-inner (Look id p) there live
-          (record {
-            word = word-loaded start s.words (places.State p) r.wide.0 r.spelled l;
-            legal = (record { actor = at-bound s.views id v there; page = l }, tt);
-            leads = record { world = world-looked; pending = refl; members = λ q _. refl; up = omega arith };
-            same = (refl, refl, refl, refl, refl, refl, refl);
-            calls = λ o x. (upd-keeps may_call (put_at no_seat v.seats) p (record (seat_of v p) { reading = open_after look-left (seat_of v p).reading (version_of (slice_index s.words p)) }) refl o.page) ∙ (r.blocks.away id v o there x).1;
-            holds = λ q x. same-exclusive q ∙ x;
-            knows = each-upd2 (λ j seat y. KnowsPage seat (put_at no_held v.held j) y) (put_at no_seat v.seats) look-before.core.pages p _ (looked (look-before.core.pages p) id)
-                (record { calls = (k.knows p).calls; shares = (k.knows p).shares })
-                (λ j _. k.knows j);
-            owners = λ q m x. k.owners q m (sym (upd-keeps may_call (put_at no_seat v.seats) p (record (seat_of v p) { reading = open_after look-left (seat_of v p).reading (version_of (slice_index s.words p)) }) refl q) ∙ x);
-            contents = k.contents;
-            drafted = λ q x. k.drafts q (sym (same-exclusive q) ∙ x) ∙ draft-is start r.releases r.drafts q;
-            owes = λ q x. (same-exclusive q ∙ (k.owed q x).0, (k.owed q x).1, (k.owed q x).2, (k.owed q x).3);
-            next = λ q x. (same-exclusive q ∙ (k.next q x).0, (k.next q x).1);
-            loaded = ([], refl, tt);
-            tying = (where_same look-left (ties_below v.start.pages v p look-last) [], refl, look-ties stored keeps tied start tells s r id v there live p l ties);
-            says = (said-entry v look-left said, refl);
-            owner = λ t kept. subst (keeps (began_of start)) (λ i. record (kept_of look-before r.history s.views) { owed = chosen start.pages (sym owed-looked i); history = r.history ++ look-entries })
-                (keeps-said stored keeps tied start tells s r id v there live p l said may_read reads ties may number t kept);
-          })
-
-module _ {X B : Type 0} (stored : B → Stored) (keeps : Start → Kept X → Type 0) (tied : Start → ℕ → List ℕ → ℕ → List ℕ → Type 0) (start : Origin) (tells : Bool) (s : Table (Option B) (View X)) (r : Ruled stored keeps tied start tells s) (id : ℕ) (v : View X) (p : ℕ) (said : Option X) (there : get_elem? s.views id ≡ some v) (live : v.live ≡ true) (l : p < start.pages) where
-  abbrev look-world : World
-  look-world = world_of stored start r.releases r.drafts s
-
-  -- a translation word that was loaded at the page's version names the page's frame, where the page is readable, and so does the open read
-  names-frame : (state_of (slice_index s.words p) ≢ LOCKED) → (state_of (slice_index s.words p) ≢ EVICTED) → (o : Open) → (seat_of v p).reading ≡ Some o → o.version ≡ version_of (slice_index s.words p)
-      → (t : Translation) → TranslationHolds look-world.core.pages t → t.page ≡ p → t.version ≡ version_of (slice_index s.words p) → NamesFrame v.start.frames t.word (seat_of v p).reading
-  names-frame free stays' o e same t h page at =
-      let not_locked : (look-world.core.pages p).state ≢ LOCKED = λ q. free (sym (state-here stored start s p l) ∙ q) in
-      let not_evicted : (look-world.core.pages p).state ≢ EVICTED = λ q. stays' (sym (state-here stored start s p l) ∙ q) in
-      let m : (m : Mapping) × ((look-world.core.pages p).trans ≡ Some m) = some-is (look-world.core.pages p).trans ((r.inv.pages p).stands.resident not_locked not_evicted) in
-      let word : frame_of (mapping_of t.word) ≡ frame_of (look-world.core.pages p).trans =
-      subst (λ q. t.version ≡ (look-world.core.pages q).version → (look-world.core.pages q).state ≢ LOCKED → (look-world.core.pages q).state ≢ EVICTED → frame_of (mapping_of t.word) ≡ frame_of (look-world.core.pages q).trans) page h.1
-      (at ∙ sym (version-here stored start s p l)) not_locked not_evicted in
-      record {
-        frame = m.0.frame;
-        names = word ∙ ap frame_of m.1;
-        inside = subst (λ (y : Origin). m.0.frame < y.frames) (sym (r.heard id v there live).same_start) (frame-inside stored keeps tied start tells s r p m.0 m.1);
-        same = λ g f. ((reads stored keeps tied start tells s r id v there live p l).current not_locked not_evicted o e (same ∙ sym (version-here stored start s p l))).at_frame g (ap open_frame (sym e) ∙ f) m.0 m.1;
-      }
-
-  module _ (ties : (start : Start) (kept : Kept X) (q p : ℕ) → keeps start kept → q < length kept.pages → p < length kept.pages → tied start q (page_at kept.pages q) p (page_at kept.pages p)) where
-    pub look-told : Brings (look-did stored keeps tied start tells s r id v p said) [] (look-entries stored keeps tied start tells s r id v p said) v (look-inner stored keeps tied start tells s r id v p said) (look-after stored keeps tied start tells s r id v p said)
-        → LookTold tied p said (slice_index s.words p) v (look-after stored keeps tied start tells s r id v p said)
-    look-told brings =
-        let last : _ = last-told stored keeps tied start tells s r id v there live p in
-        let same_tells : v.start.tells ≡ start.tells = ap (λ (o : Origin). o.tells) (r.heard id v there live).same_start in
-        let version : (look-world.core.pages p).version ≡ version_of (slice_index s.words p) = version-here stored start s p l in
+    -- a translation word that was loaded at the page's version names the page's frame, where the page is readable, and so does the open read
+    names-frame : (state_of (slice_index s.words p) ≢ LOCKED) → (state_of (slice_index s.words p) ≢ EVICTED) → (o : Open) → (seat_of v p).reading ≡ Some o → o.version ≡ version_of (slice_index s.words p)
+        → (t : Translation) → TranslationHolds old.core.pages t → t.page ≡ p → t.version ≡ version_of (slice_index s.words p) → NamesFrame v.start.frames t.word (seat_of v p).reading
+    names-frame free stays' o e same t h page at =
+        let not_locked : (old.core.pages p).state ≢ LOCKED = λ q. free (sym (state-here stored start s p l) ∙ q) in
+        let not_evicted : (old.core.pages p).state ≢ EVICTED = λ q. stays' (sym (state-here stored start s p l) ∙ q) in
+        let m : (m : Mapping) × ((old.core.pages p).trans ≡ Some m) = some-is (old.core.pages p).trans ((r.inv.pages p).stands.resident not_locked not_evicted) in
+        let word : frame_of (mapping_of t.word) ≡ frame_of (old.core.pages p).trans =
+        subst (λ q. t.version ≡ (old.core.pages q).version → (old.core.pages q).state ≢ LOCKED → (old.core.pages q).state ≢ EVICTED → frame_of (mapping_of t.word) ≡ frame_of (old.core.pages q).trans) page h.1
+        (at ∙ sym (version-here stored start s p l)) not_locked not_evicted in
         record {
-          brings = brings;
-          version = version-told stored keeps tied start tells s r id v there live p l;
-          size = size-told stored keeps tied start tells s r id v there live p;
-          valid = λ t same.
-              let k = stays (slice_index s.words p) (seat_of v p).reading same in
-              subst (λ (y : Version). Rattle.vm_core.specs.Inv.LoadsAre y.words (loads_at v p)) (sym last)
-              (read-valid stored keeps tied start tells s r id v there live p l (sym same_tells ∙ t) (free-here stored start s p l (seat_of v p).reading same) k.0 k.1 (k.2 ∙ sym version));
-          holds = λ t same.
-              subst (λ (y : Version). Each (λ (d : Tie). d.page ≡ p → d.version ≡ version_of (slice_index s.words p) → tied (began_of v.start) d.of d.words p y.words) v.ties) (sym last)
-              (each-map _ _ (λ d h e n. h e (n ∙ sym version)) v.ties (ties-hold stored keeps tied start tells s r id v there live p l (sym same_tells ∙ t) (free-here stored start s p l (seat_of v p).reading same)));
-          itself = λ t same.
-              subst (λ (y : Version). tied (began_of v.start) p y.words p y.words) (sym last)
-              (tied-itself stored keeps tied start tells s r id v there live ties p l (sym same_tells ∙ t) (free-here stored start s p l (seat_of v p).reading same));
-          frames = λ same.
-              let k = stays (slice_index s.words p) (seat_of v p).reading same in
-              let may = readable (state_of (slice_index s.words p)) k.3 in
-              each-map (TranslationHolds look-world.core.pages) _ (names-frame may.0 may.1 k.0 k.1 k.2) v.translations (r.known id v there live).translations;
-          since = since stored keeps tied start tells s r id v there live p l;
-          older = older stored keeps tied start tells s r id v there live p l;
-          unlocked = λ whole alone none. subst (λ n. (n ≡ UNLOCKED) ⊎ ((n ≡ MARKED) ⊎ (n ≡ EVICTED))) (state-here stored start s p l) (page-open stored keeps tied start tells s r id v there whole p l alone none);
+          frame = m.0.frame;
+          names = word ∙ ap frame_of m.1;
+          inside = subst (λ (y : Origin). m.0.frame < y.frames) (sym (r.heard id v there live).same_start) (frame-inside stored keeps tied start tells s r p m.0 m.1);
+          same = λ g f. ((reads stored keeps tied start tells s r id v there live p l).current not_locked not_evicted o e (same ∙ sym (version-here stored start s p l))).at_frame g (ap open_frame (sym e) ∙ f) m.0 m.1;
         }
 
-module _ {X B : Type 0} (stored : B → Stored) (keeps : Start → Kept X → Type 0) (tied : Start → ℕ → List ℕ → ℕ → List ℕ → Type 0) (start : Origin) (tells : Bool) (s : Table (Option B) (View X)) (r : Ruled stored keeps tied start tells s) (id : ℕ) (v : View X) (p : ℕ) (said : Option X) (there : get_elem? s.views id ≡ some v) (live : v.live ≡ true) (l : p < start.pages)
-    (may_read : Start → ℕ → List ℕ → List (Entry X) → Type 0)
-    (reads : (start : Start) (kept : Kept X) (q : ℕ) (entries : List (Entry X)) → keeps start kept → q < length kept.pages → IsTurn kept.history entries → may_read start q (page_at kept.pages q) entries → keeps start (told entries kept))
-    (ties : (start : Start) (kept : Kept X) (q p : ℕ) → keeps start kept → q < length kept.pages → p < length kept.pages → tied start q (page_at kept.pages q) p (page_at kept.pages p)) (may : MayTell tied may_read p said v) (number : 0 < length v.used) where
-  pub look-kept : tells ≡ true → IsKeptNow keeps p (look-left stored keeps tied start tells s r id v p said ≡ Same) (look-after stored keeps tied start tells s r id v p said)
-  look-kept t =
-      let w : View X = look-after stored keeps tied start tells s r id v p said in
-      let telling : start.tells ≡ true = r.telling ∙ t in
-      let same : w.start ≡ start = (r.heard id v there live).same_start in
-      let pending : (q : ℕ) → is_pending (slice_set s.views id w) q ≡ is_pending s.views q = λ q. ap (λ (f : ℕ → Bool). f q) (pending-looked stored keeps tied start tells s r id v p said there live l) in
-      kept-now stored keeps start (became stored keeps tied start tells s s.words id w) r.drafts w p (look-left stored keeps tied start tells s r id v p said ≡ Same) l same
-      ((look-shows stored keeps tied start tells s r id v p said there live l may_read reads ties may number).owner telling (r.owner telling))
-      (λ stays. pending p ∙ not-pending stored keeps tied start tells s r p l (free-here stored start s p l (seat_of v p).reading stays))
-      (λ q e. (
-        any-here (λ (u : View X). has q u.pending) (slice_set s.views id w) id w (set_here s.views id w (at-bound s.views id v there)) e,
-        sym ((r.known id v there live).drafts q (((r.known id v there live).pending q e).0) ∙ draft-is start r.releases r.drafts q),
-      ))
-      (λ q le l'.
-      (λ i. logical (histories_of start (append-none r.releases i) r.drafts) (pending-looked stored keeps tied start tells s r id v p said there live l i) q)
-      ∙ logical-zero stored keeps tied start tells s r telling q le l')
-      (λ _. ap (λ (o : Origin). slice_index s.words (index_of o places.Next)) same ∙ sym (next-here stored start s))
+    pub look-unheld : KnowsUnheld look-after
+    look-unheld alone q inside free none =
+        let same : v.start ≡ start = (r.heard id v there live).same_start in
+        let l' : q < start.pages = subst (λ (o : Origin). q < o.pages) same inside in
+        subst (λ (o : Origin). LocksNone (slice_index s.words (index_of o (places.State q)))) (sym same)
+        (subst (λ n. (n ≡ UNLOCKED) ⊎ ((n ≡ MARKED) ⊎ (n ≡ EVICTED))) (state-here stored start s q l')
+        (page-open stored keeps tied start tells s r id v there alone.0 q l'
+        (sym (seat-keeps (λ y. y.exclusive) refl q) ∙ free)
+        (sym (seat-keeps (λ y. y.shares) refl q) ∙ none)))
 
-module _ {X B : Type 0} (stored : B → Stored) (keeps : Start → Kept X → Type 0) (tied : Start → ℕ → List ℕ → ℕ → List ℕ → Type 0) (start : Origin) (tells : Bool) (s : Table (Option B) (View X)) (r : Ruled stored keeps tied start tells s) (id : ℕ) (v : View X) (p : ℕ) (said : Option X) (there : get_elem? s.views id ≡ some v) (live : v.live ≡ true) (l : p < start.pages) where
-  pub look-unheld : KnowsUnheld (look-after stored keeps tied start tells s r id v p said)
-  look-unheld alone q inside free none =
-      let same : v.start ≡ start = (r.heard id v there live).same_start in
-      let l' : q < start.pages = subst (λ (o : Origin). q < o.pages) same inside in
-      subst (λ (o : Origin). LocksNone (slice_index s.words (index_of o (places.State q)))) (sym same)
-      (subst (λ n. (n ≡ UNLOCKED) ⊎ ((n ≡ MARKED) ⊎ (n ≡ EVICTED))) (state-here stored start s q l')
-      (page-open stored keeps tied start tells s r id v there alone.0 q l'
-      (sym (same-exclusive stored keeps tied start tells s r id v p said there live l q) ∙ free)
-      (sym (same-shares stored keeps tied start tells s r id v p said there live l q) ∙ none)))
+    module _ (ties : (start : Start) (kept : Kept X) (q p : ℕ) → keeps start kept → q < length kept.pages → p < length kept.pages → tied start q (page_at kept.pages q) p (page_at kept.pages p)) where
+      -- what they say of the pages that were read holds after the look, which is where the pass gets it
+      pub look-ties : start.tells ≡ true → Each (TieHolds tied (began_of start) (world_after old (Look id p)) (is_pending s.views)) (where_same look-left (ties_below v.start.pages v p look-last) [])
+      look-ties t =
+          let pages : v.start.pages ≡ start.pages = ap (λ (o : Origin). o.pages) (r.heard id v there live).same_start in
+          where-same-keeps (Each (TieHolds tied (began_of start) (world_after old (Look id p)) (is_pending s.views))) look-left (ties_below v.start.pages v p look-last) tt
+          (λ same. ties-each (TieHolds tied (began_of start) (world_after old (Look id p)) (is_pending s.views)) v p look-last v.start.pages
+          (λ q lq ne o e.
+          let inside : q < start.pages = subst (λ n. q < n) pages lq in
+          let free : is_pending s.views p ≡ false = not-pending stored keeps tied start tells s r p l (free-here stored start s p l (seat_of v p).reading same) in
+          tie-looked tied (began_of start) old id p (is_pending s.views) (record { page = q; version = o.version; of = p; words = look-last }) (
+            inside,
+            ((r.inv.pages q).reads id).old o (ap (λ (y : Seat). y.reading) (seat-here stored start s id q v inside there) ∙ e),
+            λ _ none. subst (λ ws. tied (began_of start) p ws q (old.histories q).last.words) (sym (ap (λ (y : Version). y.words) (last-told stored keeps tied start tells s r id v there live p)))
+                (tied-now stored keeps tied start tells s r ties t p q l inside free none),
+          )))
+
+      pub look-told : Brings look-did [] look-entries v look-inner look-after
+          → LookTold tied p said (slice_index s.words p) v look-after
+      look-told brings =
+          let last : _ = last-told stored keeps tied start tells s r id v there live p in
+          let same_tells : v.start.tells ≡ start.tells = ap (λ (o : Origin). o.tells) (r.heard id v there live).same_start in
+          let version : (old.core.pages p).version ≡ version_of (slice_index s.words p) = version-here stored start s p l in
+          record {
+            brings = brings;
+            version = version-told stored keeps tied start tells s r id v there live p l;
+            size = size-told stored keeps tied start tells s r id v there live p;
+            valid = λ t same.
+                let k = stays (slice_index s.words p) (seat_of v p).reading same in
+                subst (λ (y : Version). Rattle.vm_core.specs.Inv.LoadsAre y.words (loads_at v p)) (sym last)
+                (read-valid stored keeps tied start tells s r id v there live p l (sym same_tells ∙ t) (free-here stored start s p l (seat_of v p).reading same) k.0 k.1 (k.2 ∙ sym version));
+            holds = λ t same.
+                subst (λ (y : Version). Each (λ (d : Tie). d.page ≡ p → d.version ≡ version_of (slice_index s.words p) → tied (began_of v.start) d.of d.words p y.words) v.ties) (sym last)
+                (each-map _ _ (λ d h e n. h e (n ∙ sym version)) v.ties (ties-hold stored keeps tied start tells s r id v there live p l (sym same_tells ∙ t) (free-here stored start s p l (seat_of v p).reading same)));
+            itself = λ t same.
+                subst (λ (y : Version). tied (began_of v.start) p y.words p y.words) (sym last)
+                (tied-itself stored keeps tied start tells s r id v there live ties p l (sym same_tells ∙ t) (free-here stored start s p l (seat_of v p).reading same));
+            frames = λ same.
+                let k = stays (slice_index s.words p) (seat_of v p).reading same in
+                let may = readable (state_of (slice_index s.words p)) k.3 in
+                each-map (TranslationHolds old.core.pages) _ (names-frame may.0 may.1 k.0 k.1 k.2) v.translations (r.known id v there live).translations;
+            since = since stored keeps tied start tells s r id v there live p l;
+            older = older stored keeps tied start tells s r id v there live p l;
+            unlocked = λ whole alone none. subst (λ n. (n ≡ UNLOCKED) ⊎ ((n ≡ MARKED) ⊎ (n ≡ EVICTED))) (state-here stored start s p l) (page-open stored keeps tied start tells s r id v there whole p l alone none);
+          }
+
+      module _ (may_read : Start → ℕ → List ℕ → List (Entry X) → Type 0) (reads : (start : Start) (kept : Kept X) (q : ℕ) (entries : List (Entry X)) → keeps start kept → q < length kept.pages → IsTurn kept.history entries → may_read start q (page_at kept.pages q) entries → keeps start (told entries kept))
+          (may : MayTell tied may_read p said v) (number : 0 < length v.used) where
+        abbrev kept : Kept X
+        kept = kept_of old r.history s.views
+
+        -- the page's words prove what is said, if anything is said
+        proved-here : look-left ≡ Same → start.tells ≡ true → may_read (began_of start) p (page_at kept.pages p) (entries_of v said) ⊎ (said ≡ None)
+        proved-here same t =
+            let same_start = (r.heard id v there live).same_start in
+            let k = stays (slice_index s.words p) (seat_of v p).reading same in
+            let free = free-here stored start s p l (seat_of v p).reading same in
+            ⊎_elim (λ none. inr none)
+            (λ proves. inl
+            (subst (λ words. may_read (began_of start) p words (entries_of v said)) (sym (page-kept stored keeps tied start tells s r p l (not-pending stored keeps tied start tells s r p l free)))
+            (subst (λ (o : Origin). may_read (began_of o) p (old.histories p).last.words (entries_of v said)) same_start
+            (proves (ap (λ (o : Origin). o.tells) same_start ∙ t) k.0 k.1 (old.histories p).last.words (r.inv.pages p).sizes.last
+            (read-valid stored keeps tied start tells s r id v there live p l t free k.0 k.1 (k.2 ∙ sym (version-here stored start s p l)))
+            (tied-itself stored keeps tied start tells s r id v there live ties p l t free)
+            (each-map _ _ (λ d h e n. h e (n ∙ k.2 ∙ sym (version-here stored start s p l))) v.ties (ties-hold stored keeps tied start tells s r id v there live p l t free))))))
+            may
+
+        keeps-none : keeps (began_of start) kept → keeps (began_of start) (told [] kept)
+        keeps-none = subst (λ h. keeps (began_of start) (record kept { history = h })) (sym (append-none r.history))
+
+        -- the layer above keeps its relation with what is said, where the open read stays
+        pub keeps-said : start.tells ≡ true → keeps (began_of start) kept → keeps (began_of start) (told look-entries kept)
+        keeps-said t is =
+            where-same-keeps (λ es. keeps (began_of start) (told es kept)) look-left (entries_of v said) (keeps-none is)
+            (λ same. ⊎_elim
+            (reads (began_of start) kept p (entries_of v said) is (subst (λ n. p < n) (sym (pages-kept stored keeps tied start tells s r)) l) (is-turn start r.releases r.history v said (r.heard id v there live) number))
+            (λ none. subst (λ x. keeps (began_of start) (told (entries_of v x) kept)) (sym none) (keeps-none is))
+            (proved-here same t))
+
+        pub look-shows : Shows stored keeps tied start tells s r id v s.words r.drafts [] look-entries look-did look-inner (Look id p)
+        look-shows =
+            let k : KnowsPages tied start old (is_pending s.views) v = r.known id v there live in
+            let page : Page = record (old.core.pages p) { state = state_of (slice_index s.words p); version = version_of (slice_index s.words p) } in
+            event-shows stored keeps tied start tells s r id v s.words r.drafts look-entries look-did look-inner (Look id p) there live
+            (record {
+              word = word-loaded start s.words (places.State p) r.wide.0 r.spelled l;
+              legal = (record { actor = at-bound s.views id v there; page = l }, tt);
+              leads = record { world = look-step stored start s r.releases r.drafts id v look-after p page l there refl refl (sym (state-here stored start s p l)) (sym (version-here stored start s p l)) refl refl; pending = refl; members = λ q _. refl; up = omega arith };
+              same = (refl, refl, refl, refl, refl, refl, refl);
+              calls = λ o x. seat-keeps may_call refl o.page ∙ (r.blocks.away id v o there x).1;
+              holds = λ q x. seat-keeps (λ y. y.exclusive) refl q ∙ x;
+              knows = each-upd2 (λ j seat y. KnowsPage seat (put_at no_held v.held j) y) (put_at no_seat v.seats) old.core.pages p _ (looked (old.core.pages p) id)
+                  (record { calls = (k.knows p).calls; shares = (k.knows p).shares })
+                  (λ j _. k.knows j);
+              owners = λ q m x. k.owners q m (sym (seat-keeps may_call refl q) ∙ x);
+              contents = k.contents;
+              drafted = λ q x. k.drafts q (sym (seat-keeps (λ y. y.exclusive) refl q) ∙ x) ∙ draft-is start r.releases r.drafts q;
+              owes = λ q x. (seat-keeps (λ y. y.exclusive) refl q ∙ (k.owed q x).0, (k.owed q x).1, (k.owed q x).2, (k.owed q x).3);
+              next = λ q x. (seat-keeps (λ y. y.exclusive) refl q ∙ (k.next q x).0, (k.next q x).1);
+              loaded = ([], refl, tt);
+              tying = (where_same look-left (ties_below v.start.pages v p look-last) [], refl, look-ties);
+              says = (said-entry v look-left said, refl);
+              owner = λ t was. subst (keeps (began_of start)) (λ i. record kept { owed = chosen start.pages (sym owed-looked i); history = r.history ++ look-entries })
+                  (keeps-said t was);
+            })
+
+        pub look-kept : tells ≡ true → IsKeptNow keeps p (look-left ≡ Same) look-after
+        look-kept t =
+            let telling : start.tells ≡ true = r.telling ∙ t in
+            let same : look-after.start ≡ start = (r.heard id v there live).same_start in
+            kept-now stored keeps start (became stored keeps tied start tells s s.words id look-after) r.drafts look-after p (look-left ≡ Same) l same
+            (look-shows.owner telling (r.owner telling))
+            (λ stays. ap (λ (f : ℕ → Bool). f p) pending-looked ∙ not-pending stored keeps tied start tells s r p l (free-here stored start s p l (seat_of v p).reading stays))
+            (λ q e. (
+              any-here (λ (u : View X). has q u.pending) (slice_set s.views id look-after) id look-after (set_here s.views id look-after (at-bound s.views id v there)) e,
+              sym ((r.known id v there live).drafts q (((r.known id v there live).pending q e).0) ∙ draft-is start r.releases r.drafts q),
+            ))
+            (λ q le l'.
+            (λ i. logical (histories_of start (append-none r.releases i) r.drafts) (pending-looked i) q)
+            ∙ logical-zero stored keeps tied start tells s r telling q le l')
+            (λ _. ap (λ (o : Origin). slice_index s.words (index_of o places.Next)) same ∙ sym (next-here stored start s))
 
 module _ {X B : Type 0} (stored : B → Stored) (keeps : Start → Kept X → Type 0) (tied : Start → ℕ → List ℕ → ℕ → List ℕ → Type 0) (tells : Bool) (may_read : Start → ℕ → List ℕ → List (Entry X) → Type 0)
     (reads : (start : Start) (kept : Kept X) (q : ℕ) (entries : List (Entry X)) → keeps start kept → q < length kept.pages → IsTurn kept.history entries → may_read start q (page_at kept.pages q) entries → keeps start (told entries kept))
@@ -324,10 +283,10 @@ module _ {X B : Type 0} (stored : B → Stored) (keeps : Start → Kept X → Ty
       let w : View X = look-after stored keeps tied start tells s r id v p said in
       let k : Ruled stored keeps tied start tells (became stored keeps tied start tells s s.words id w)
       × Brings (look-did stored keeps tied start tells s r id v p said) [] (look-entries stored keeps tied start tells s r id v p said) v (look-inner stored keeps tied start tells s r id v p said) w =
-      steps stored keeps tied start tells s r id v s.words r.drafts [] _ _ _ (Look id p) there live number refl refl (look-shows stored keeps tied start tells s r id v p said there live low may_read reads ties may number) in (
+      steps stored keeps tied start tells s r id v s.words r.drafts [] _ _ _ (Look id p) there live number refl refl (look-shows stored keeps tied start tells s r id v p said there live low ties may_read reads may number) in (
         w,
         subst (λ words. Ruled stored keeps tied start tells (became stored keeps tied start tells s words id w)) (sym (same-word s.words p)) k.0,
-        (look-told stored keeps tied start tells s r id v p said there live low ties k.1, look-kept stored keeps tied start tells s r id v p said there live low may_read reads ties may number, look-unheld stored keeps tied start tells s r id v p said there live low),
+        (look-told stored keeps tied start tells s r id v p said there live low ties k.1, look-kept stored keeps tied start tells s r id v p said there live low ties may_read reads may number, look-unheld stored keeps tied start tells s r id v p said there live low),
       ))
 
 module _ {X B : Type 0} (stored : B → Stored) (keeps : Start → Kept X → Type 0) (tied : Start → ℕ → List ℕ → ℕ → List ℕ → Type 0) (tells : Bool) where
@@ -337,13 +296,10 @@ module _ {X B : Type 0} (stored : B → Stored) (keeps : Start → Kept X → Ty
       let view = told.brings.view in
       let state : state_of found ≡ page.state = ap state_of finds.1 ∙ sym (state-here stored start s p finds.0) in
       let version : version_of found ≡ page.version = ap version_of finds.1 ∙ sym (version-here stored start s p finds.0) in
-      record {
-        legal = (record { actor = at-bound s.views id v pass.there; page = finds.0 }, tt);
-        core = ap (λ (y : World). y.core)
-            (look-step stored start s [] (λ _. []) id v w p (record page { state = state_of found; version = version_of found }) finds.0 pass.there (ap (λ (y : View X). y.out) view) (ap (λ (y : View X). y.frames) view) state version (ap (λ (y : View X). y.seats) view)
-            (ap (λ (y : View X). y.loads) view));
-        sees = λ i. sights.Look ((word-here stored start s p finds.0 ∙ sym finds.1) i) (left_of (record page { state = sym state i; version = sym version i }) (seat-here stored start s id p v finds.0 pass.there i).reading);
-      }
+      is-event (record { actor = at-bound s.views id v pass.there; page = finds.0 }, tt)
+      (look-step stored start s [] (λ _. []) id v w p (record page { state = state_of found; version = version_of found }) finds.0 pass.there (ap (λ (y : View X). y.out) view) (ap (λ (y : View X). y.frames) view) state version (ap (λ (y : View X). y.seats) view)
+      (ap (λ (y : View X). y.loads) view))
+      (λ i. sights.Look ((word-here stored start s p finds.0 ∙ sym finds.1) i) (left_of (record page { state = sym state i; version = sym version i }) (seat-here stored start s id p v finds.0 pass.there i).reading))
 
 -- one choice of both
 pub same-both : {A : Type 0} (left : ReadIs) (x : A) → where_same left x x ≡ x

@@ -9,18 +9,18 @@ use Rattle.vm_rule.specs.declared.view.Place.TheVariants as places
 use Rattle.vm_rule.proofs.Facts.{has-left}
 use Rattle.vm_step.proofs.{Fit.fit, Here.frame-inside, Leaves.works-one, Mine.owner-known, Mine.stands-called, Quiet.held-shows, Standing.allows, Written.spelled-now}
 use Rattle.vm_step.proofs.{Written.stands-there}
-use Rattle.vm_step.proofs.Prelude.{[], actor_of, after_step, AllowsStep, ap, arith, at-bound, became, Bool, Brings, cases_eq, Clean, clean-step}
-use Rattle.vm_step.proofs.Prelude.{clean_in, clean_view, CleanTold, Clear, clear-step, cleared_view, ClearTold, core_shown, Did, did_store, Dirty}
-use Rattle.vm_step.proofs.Prelude.{dirty-step, dirty_in, dirty_view, DirtyTold, each-upd2, either-way, eq-eqb, Event, false, false_from_ne_true}
-use Rattle.vm_step.proofs.Prelude.{frame_in, gains, get_elem?, has, has-without, HasShape, Held, held-here, held_at, if◌then◌else◌, index_of, inr}
-use Rattle.vm_step.proofs.Prelude.{Install, install-step, installed_view, InstallTold, is_dirty, is_pending, IsEvent, IsFit, IsPassOf, IsPlacedAt}
-use Rattle.vm_step.proofs.Prelude.{each-upd, IsSome, IsWritten, Kept, KnowsPage, KnowsPages, Legal, length, length-set, List, LOCKED, Mapping}
-use Rattle.vm_step.proofs.Prelude.{mapping-clean, mapping-dirty, mapping-none, mapping_at, mapping_of, may_call, MayPutInto, nat_lt, nat_tests}
-use Rattle.vm_step.proofs.Prelude.{ne_eqb, no_held, None, Option, or_right, Origin, Page, Put, put, put_at, refl, Ruled, Seat, seat-here, seat_of}
-use Rattle.vm_step.proofs.Prelude.{Shape, shared-here, Shows, slice_set, Some, some, some-same, Stands, stands-nowhere, stands_in, StandsClean}
-use Rattle.vm_step.proofs.Prelude.{StandsIn, Start, State, steps, Stored, subst, sym, Table, table_after, told_of, trans_word, translation-here, true}
-use Rattle.vm_step.proofs.Prelude.{true≢false, upd, upd-other, upd-same, Version, View, with_dirty, without, Works, World, world_after, world_of, ℕ}
-use Rattle.vm_step.proofs.Prelude.{KnowsOwner, KnowsOwners, none-some, ⊎_elim, ◌%◌, ◌+◌, ◌-◌, ◌<◌, ◌==◌, ◌^◌, ◌||◌, ◌∙◌, ◌∷◌, ◌≡◌, ◌≢◌, ◌≤◌}
+use Rattle.vm_step.proofs.Prelude.{[], actor_of, after_step, AllowsStep, ap, arith, at-bound, became, Bool, Brings, cases_eq, Clean, clean-step, clean_in}
+use Rattle.vm_step.proofs.Prelude.{clean_view, CleanTold, Clear, clear-step, cleared_view, ClearTold, core_shown, Did, did_store, Dirty, dirty-step, dirty_in}
+use Rattle.vm_step.proofs.Prelude.{dirty_view, DirtyTold, each-upd, each-upd2, either-way, eq-eqb, Event, false, false_from_ne_true, frame_in, gains, get_elem?}
+use Rattle.vm_step.proofs.Prelude.{has, has-without, HasShape, Held, held-here, held_at, if◌then◌else◌, index_of, inr, Install, install-step, installed_view}
+use Rattle.vm_step.proofs.Prelude.{InstallTold, is_dirty, is_pending, IsEvent, IsFit, IsPassOf, IsPlacedAt, IsSome, IsWritten, Kept, KnowsOwner, KnowsOwners}
+use Rattle.vm_step.proofs.Prelude.{KnowsPage, KnowsPages, Legal, length, length-set, List, LOCKED, Mapping, mapping-clean, mapping-dirty, mapping-none}
+use Rattle.vm_step.proofs.Prelude.{mapping_at, mapping_of, may_call, MayPutInto, nat_lt, nat_tests, ne_eqb, no_held, None, none-some, Option, or_right, Origin}
+use Rattle.vm_step.proofs.Prelude.{Page, Put, put, put_at, refl, Ruled, Seat, seat-here, seat_of, Shape, shared-here, Shows, slice_set, Some, some, some-same}
+use Rattle.vm_step.proofs.Prelude.{Stands, stands-nowhere, stands_in, StandsClean, StandsIn, Start, State, steps, Stored, subst, sym, Table, table_after}
+use Rattle.vm_step.proofs.Prelude.{told_of, trans_word, translation-here, true, true≢false, upd, upd-other, upd-same, Version, View, with_dirty, without, Works}
+use Rattle.vm_step.proofs.Prelude.{World, world_after, world_of, ℕ, ⊎_elim, ◌%◌, ◌+◌, ◌-◌, ◌<◌, ◌==◌, ◌^◌, ◌||◌, ◌∙◌, ◌∷◌, ◌≡◌, ◌≢◌, ◌≤◌}
+use Rattle.vm_step.proofs.steps.Event.{is-event}
 use Rattle.vm_step.proofs.steps.Leaving.{apart, LeavesOthers, others-tied}
 
 -- the word of a page's translation says it
@@ -42,10 +42,6 @@ named-small false low f dirty was test e =
 frame-small : (word f : ℕ) (was : Bool) → mapping_of word ≡ Some (record { frame = f; dirty = was }) → f < 2 ^ 32
 unfolding frame_in
 frame-small word f was e = named-small (word % 2 ^ 63 == 0 || nat_lt (2 ^ 32) (word % 2 ^ 63)) (word % 2 ^ 63) f (is_dirty word) was refl e
-
--- a word that names no page is 0
-named-none : (word : ℕ) → ((q : ℕ) → word ≡ q + 1 → ⊥) → word ≡ 0
-named-none word none = ⊎_elim (λ e. e) (λ ne. absurd (none (word - 1) (omega (arith, ne)))) (cases_eq word 0)
 
 -- the page stands in this frame
 abbrev in_frame : ℕ → Bool → Option Mapping
@@ -126,7 +122,10 @@ module _ {X B : Type 0} (stored : B → Stored) (keeps : Start → Kept X → Ty
 
       -- a frame of the pass is no page's, so its owner word names none
       unowned : core.owners f ≡ 0
-      unowned = named-none (core.owners f) (λ q e. true≢false (sym (r.inv.owners.named f q e) ∙ stands-nowhere old f id q r.inv (held-here stored start s id f v there ∙ may.holds)))
+      unowned =
+          ⊎_elim (λ e. e)
+          (λ ne. absurd (true≢false (sym (r.inv.owners.named f (core.owners f - 1) (omega (arith, ne))) ∙ stands-nowhere old f id (core.owners f - 1) r.inv (held-here stored start s id f v there ∙ may.holds))))
+          (cases_eq (core.owners f) 0)
 
       pub install-shows : p < start.pages → f < start.frames → f < 2 ^ 32
           → Shows stored keeps tied start tells s r id v (words_with (Some (clean_in f))) r.drafts [] [] (did_store (places.Translation p) (trans_word (Some (clean_in f)))) (installed_view p f v) (Install id p f)
@@ -162,10 +161,7 @@ module _ {X B : Type 0} (stored : B → Stored) (keeps : Start → Kept X → Ty
           mapping-shows clear-known.0 None (held_at v p).owner (f ∷ v.frames) (put f (core.words f) v.contents) (Clear id p) mapping-none clear-legal
           (clear-step stored start s r.releases r.drafts id v (view_then None inner) p 0 r.wide.0 clear-known.0 there refl refl refl mapping-none frames-gained)
           refl refl refl (λ m _ at. absurd (none-some m at))
-          (λ g x. ⊎_elim
-          (λ e. ap (upd (put_at [] v.contents) f (core.words f)) e ∙ upd-same (put_at [] v.contents) f (core.words f) ∙ ap core.words (sym e))
-          (λ ne. upd-other (put_at [] v.contents) f (core.words f) g ne ∙ known.contents g (sym (has-other g f v.frames ne) ∙ x))
-          (cases_eq g f))
+          (each-upd (λ g l. has g (f ∷ v.frames) ≡ true → l ≡ core.words g) (put_at [] v.contents) f (core.words f) (λ _. refl) (λ g ne x. known.contents g (sym (has-other g f v.frames ne) ∙ x)))
 
       -- it tells of the one frame that the page can stand in
       pub clear-told : Brings (did_store (places.Translation p) (trans_word None)) [] [] v (cleared_view p f (core.words f) v) (view_then None (cleared_view p f (core.words f) v))
@@ -260,50 +256,38 @@ module _ {X B : Type 0} (stored : B → Stored) (keeps : Start → Kept X → Ty
           refl refl refl may.stands (λ g. refl)
 
 module _ {X B : Type 0} (stored : B → Stored) (keeps : Start → Kept X → Type 0) (tied : Start → ℕ → List ℕ → ℕ → List ℕ → Type 0) (tells : Bool) (shape : Shape) (slots id : ℕ) (v : View X) (i : ℕ) (p x : ℕ) (live : v.live ≡ true) (number : 0 < length v.used) (is : IsPlacedAt shape (places.Translation p) i) where
-  -- the step that leaves this word, on a table that meets the rule: the view and the event that it shows, and that it tells what it is to tell
-  pub record Remaps (t : Option Mapping) (Told : View X → View X → Type 0) (start : Origin) (s : Table (Option B) (View X)) (r : Ruled stored keeps tied start tells s) : Type 0 where
-    pub inner : View X
-    pub event : Event
-    pub actor : actor_of event ≡ id
-    pub shows : Shows stored keeps tied start tells s r id v (words_with stored keeps tied start tells s r id v p t) r.drafts [] [] (did_store (places.Translation p) (trans_word t)) inner event
-    pub tells_it : Brings (did_store (places.Translation p) (trans_word t)) [] [] v inner (view_then stored keeps tied start tells s r id v p t inner) → Told v (view_then stored keeps tied start tells s r id v p t inner)
-
-  -- so it is allowed on every table that stands
-  mapping-allows : (t : Option Mapping) (Told : View X → View X → Type 0) → x ≡ trans_word t → ((w : View X) → Told v w → IsFit w)
-      → ((start : Origin) → HasShape shape start → (s : Table (Option B) (View X)) (r : Ruled stored keeps tied start tells s) → get_elem? s.views id ≡ some v → Remaps t Told start s r)
+  -- the step that leaves this word is allowed on every table that stands, where on each that meets the rule it shows this event, and tells what it is to tell
+  mapping-allows : (t : Option Mapping) (event : Event) (Told : View X → View X → Type 0) → actor_of event ≡ id → x ≡ trans_word t → ((w : View X) → Told v w → IsFit w)
+      → ((start : Origin) → HasShape shape start → (s : Table (Option B) (View X)) (r : Ruled stored keeps tied start tells s) → get_elem? s.views id ≡ some v
+      → (inner : View X) × Shows stored keeps tied start tells s r id v (words_with stored keeps tied start tells s r id v p t) r.drafts [] [] (did_store (places.Translation p) (trans_word t)) inner event
+      × (Brings (did_store (places.Translation p) (trans_word t)) [] [] v inner (view_then stored keeps tied start tells s r id v p t inner) → Told v (view_then stored keeps tied start tells s r id v p t inner)))
       → AllowsStep (Stands stored keeps tied shape tells) slots id v i (λ _. x) (told_of shape tells (λ _. Told))
-  mapping-allows t Told spells fits remaps =
+  mapping-allows t event Told actor spells fits shows =
       allows stored keeps tied shape tells slots id v i (places.Translation p) (λ _. x) (λ _. trans_word t) (λ _. Told) live is (λ _. spells) (λ _. fits)
       (λ start has s r there _.
-      let m = remaps start has s r there in
-      let k = steps stored keeps tied start tells s r id v (words_with stored keeps tied start tells s r id v p t) r.drafts [] [] (did_store (places.Translation p) (trans_word t)) m.inner m.event there live number m.actor refl m.shows in
-      (view_then stored keeps tied start tells s r id v p t m.inner, k.0, m.tells_it k.1))
+      let m = shows start has s r there in
+      let k = steps stored keeps tied start tells s r id v (words_with stored keeps tied start tells s r id v p t) r.drafts [] [] (did_store (places.Translation p) (trans_word t)) m.0 event there live number actor refl m.1 in
+      (view_then stored keeps tied start tells s r id v p t m.0, k.0, m.2 k.1))
 
   pub install-allows : (f : ℕ) → p < shape.pages → f < shape.frames → f < 2 ^ 32 → MayPutInto v p f → x ≡ trans_word (Some (clean_in f)) → AllowsStep (Stands stored keeps tied shape tells) slots id v i (λ _. x) (told_of shape tells (λ _. InstallTold p f))
   install-allows f l lf small may spells =
-      mapping-allows (Some (clean_in f)) (InstallTold p f) spells (λ w t. fit t.brings live)
-      (λ start has s r there. record {
-        inner = installed_view p f v;
-        event = Install id p f;
-        actor = refl;
-        shows = install-shows stored keeps tied start tells s r id v p there live f may (subst (λ n. p < n) (sym has.pages) l) (subst (λ n. f < n) (sym has.frames) lf) small;
-        tells_it = λ b. record { brings = b };
-      })
+      mapping-allows (Some (clean_in f)) (Install id p f) (InstallTold p f) refl spells (λ w t. fit t.brings live)
+      (λ start has s r there. (_, install-shows stored keeps tied start tells s r id v p there live f may (subst (λ n. p < n) (sym has.pages) l) (subst (λ n. f < n) (sym has.frames) lf) small, λ b. record { brings = b }))
 
   pub clear-allows : (f : ℕ) → StandsClean v p f → x ≡ trans_word None → AllowsStep (Stands stored keeps tied shape tells) slots id v i (λ _. x) (told_of shape tells (λ _ v w. (g : ℕ) → StandsClean v p g → ClearTold p g v w))
   clear-allows f stands spells =
-      mapping-allows None (λ v w. (g : ℕ) → StandsClean v p g → ClearTold p g v w) spells (λ w t. fit (t f stands).brings live)
-      (λ start has s r there. record { inner = _; event = Clear id p; actor = refl; shows = clear-shows stored keeps tied start tells s r id v p there live f stands; tells_it = clear-told stored keeps tied start tells s r id v p there live f stands })
+      mapping-allows None (Clear id p) (λ v w. (g : ℕ) → StandsClean v p g → ClearTold p g v w) refl spells (λ w t. fit (t f stands).brings live)
+      (λ start has s r there. (_, clear-shows stored keeps tied start tells s r id v p there live f stands, clear-told stored keeps tied start tells s r id v p there live f stands))
 
   pub set_dirty-allows : (f : ℕ) → StandsIn v p f → x ≡ trans_word (Some (dirty_in f)) → AllowsStep (Stands stored keeps tied shape tells) slots id v i (λ _. x) (told_of shape tells (λ _. DirtyTold p f))
   set_dirty-allows f stands spells =
-      mapping-allows (Some (dirty_in f)) (DirtyTold p f) spells (λ w t. fit t.brings live)
-      (λ start has s r there. record { inner = dirty_view p f v; event = Dirty id p; actor = refl; shows = dirty-shows stored keeps tied start tells s r id v p there live f stands; tells_it = λ b. record { brings = b } })
+      mapping-allows (Some (dirty_in f)) (Dirty id p) (DirtyTold p f) refl spells (λ w t. fit t.brings live)
+      (λ start has s r there. (_, dirty-shows stored keeps tied start tells s r id v p there live f stands, λ b. record { brings = b }))
 
   pub set_clean-allows : (f : ℕ) → IsWritten v p f → x ≡ trans_word (Some (clean_in f)) → AllowsStep (Stands stored keeps tied shape tells) slots id v i (λ _. x) (told_of shape tells (λ _. CleanTold p f))
   set_clean-allows f may spells =
-      mapping-allows (Some (clean_in f)) (CleanTold p f) spells (λ w t. fit t.brings live)
-      (λ start has s r there. record { inner = clean_view p f v; event = Clean id p; actor = refl; shows = clean-shows stored keeps tied start tells s r id v p there live f may; tells_it = λ b. record { brings = b } })
+      mapping-allows (Some (clean_in f)) (Clean id p) (CleanTold p f) refl spells (λ w t. fit t.brings live)
+      (λ start has s r there. (_, clean-shows stored keeps tied start tells s r id v p there live f may, λ b. record { brings = b }))
 
 module _ {X B : Type 0} (stored : B → Stored) (start : Origin) (keeps : Start → Kept X → Type 0) (tied : Start → ℕ → List ℕ → ℕ → List ℕ → Type 0) (tells : Bool) (s : Table (Option B) (View X)) (id p f : ℕ) (v w : View X) (pass : IsPassOf stored start keeps tied tells s id v) where
   -- the table with this translation of the page
@@ -313,48 +297,36 @@ module _ {X B : Type 0} (stored : B → Stored) (start : Origin) (keeps : Start 
   pub install-event : p < start.pages → f < start.frames → f < 2 ^ 32 → MayPutInto v p f → InstallTold p f v w → IsEvent stored start s (then_with (Some (clean_in f))) (Install id p f) sights.Done
   install-event l lf small may told =
       let view = told.brings.view in
-      record {
-        legal = install-legal stored keeps tied start tells s pass.rule id v p pass.there pass.live f may l lf;
-        core = ap (λ (y : World). y.core)
-            (install-step stored start s [] (λ _. []) id v w p f (trans_word (Some (clean_in f))) pass.rule.wide.0 l pass.there (ap (λ (y : View X). y.out) view) (ap (λ (y : View X). y.seats) view) (ap (λ (y : View X). y.loads) view)
-            (fits f false small) (λ h. ap (λ (y : View X). has h y.frames) view ∙ has-left f h v.frames));
-        sees = refl;
-      }
+      is-event (install-legal stored keeps tied start tells s pass.rule id v p pass.there pass.live f may l lf)
+      (install-step stored start s [] (λ _. []) id v w p f (trans_word (Some (clean_in f))) pass.rule.wide.0 l pass.there (ap (λ (y : View X). y.out) view) (ap (λ (y : View X). y.seats) view) (ap (λ (y : View X). y.loads) view)
+      (fits f false small) (λ h. ap (λ (y : View X). has h y.frames) view ∙ has-left f h v.frames))
+      refl
 
   pub clear-event : StandsClean v p f → ClearTold p f v w → IsEvent stored start s (then_with None) (Clear id p) sights.Done
   clear-event stands told =
       let view = told.brings.view in
-      record {
-        legal = clear-legal stored keeps tied start tells s pass.rule id v p pass.there pass.live f stands;
-        core = ap (λ (y : World). y.core)
-            (clear-step stored start s [] (λ _. []) id v w p 0 pass.rule.wide.0 (clear-known stored keeps tied start tells s pass.rule id v p pass.there pass.live f stands).0 pass.there (ap (λ (y : View X). y.out) view) (ap (λ (y : View X). y.seats) view) (ap (λ (y : View X). y.loads) view)
-            mapping-none (λ h. ap (λ (y : View X). has h y.frames) view ∙ frames-gained stored keeps tied start tells s pass.rule id v p pass.there pass.live f stands h));
-        sees = refl;
-      }
+      is-event (clear-legal stored keeps tied start tells s pass.rule id v p pass.there pass.live f stands)
+      (clear-step stored start s [] (λ _. []) id v w p 0 pass.rule.wide.0 (clear-known stored keeps tied start tells s pass.rule id v p pass.there pass.live f stands).0 pass.there (ap (λ (y : View X). y.out) view) (ap (λ (y : View X). y.seats) view) (ap (λ (y : View X). y.loads) view)
+      mapping-none (λ h. ap (λ (y : View X). has h y.frames) view ∙ frames-gained stored keeps tied start tells s pass.rule id v p pass.there pass.live f stands h))
+      refl
 
   pub set_dirty-event : StandsIn v p f → DirtyTold p f v w → IsEvent stored start s (then_with (Some (dirty_in f))) (Dirty id p) sights.Done
   set_dirty-event stands told =
       let view = told.brings.view in
       let known = dirty-known stored keeps tied start tells s pass.rule id v p pass.there pass.live f stands in
-      record {
-        legal = dirty-legal stored keeps tied start tells s pass.rule id v p pass.there pass.live f stands;
-        core = ap (λ (y : World). y.core)
-            (dirty-step stored start s [] (λ _. []) id v w p (trans_word (Some (dirty_in f))) pass.rule.wide.0 known.0 pass.there (ap (λ (y : View X). y.out) view) (ap (λ (y : View X). y.frames) view) (ap (λ (y : View X). y.seats) view) (ap (λ (y : View X). y.loads) view)
-            (remaps stored keeps tied start tells s pass.rule id v p pass.there pass.live f stands.dirty true known.0 known.1).1);
-        sees = refl;
-      }
+      is-event (dirty-legal stored keeps tied start tells s pass.rule id v p pass.there pass.live f stands)
+      (dirty-step stored start s [] (λ _. []) id v w p (trans_word (Some (dirty_in f))) pass.rule.wide.0 known.0 pass.there (ap (λ (y : View X). y.out) view) (ap (λ (y : View X). y.frames) view) (ap (λ (y : View X). y.seats) view) (ap (λ (y : View X). y.loads) view)
+      (remaps stored keeps tied start tells s pass.rule id v p pass.there pass.live f stands.dirty true known.0 known.1).1)
+      refl
 
   pub set_clean-event : IsWritten v p f → CleanTold p f v w → IsEvent stored start s (then_with (Some (clean_in f))) (Clean id p) sights.Done
   set_clean-event may told =
       let view = told.brings.view in
       let known = clean-known stored keeps tied start tells s pass.rule id v p pass.there pass.live f may in
-      record {
-        legal = clean-legal stored keeps tied start tells s pass.rule id v p pass.there pass.live f may;
-        core = ap (λ (y : World). y.core)
-            (clean-step stored start s [] (λ _. []) id v w p (trans_word (Some (clean_in f))) pass.rule.wide.0 known.0 pass.there (ap (λ (y : View X). y.out) view) (ap (λ (y : View X). y.frames) view) (ap (λ (y : View X). y.seats) view) (ap (λ (y : View X). y.loads) view)
-            (remaps stored keeps tied start tells s pass.rule id v p pass.there pass.live f may.dirty false known.0 known.1).1);
-        sees = refl;
-      }
+      is-event (clean-legal stored keeps tied start tells s pass.rule id v p pass.there pass.live f may)
+      (clean-step stored start s [] (λ _. []) id v w p (trans_word (Some (clean_in f))) pass.rule.wide.0 known.0 pass.there (ap (λ (y : View X). y.out) view) (ap (λ (y : View X). y.frames) view) (ap (λ (y : View X). y.seats) view) (ap (λ (y : View X). y.loads) view)
+      (remaps stored keeps tied start tells s pass.rule id v p pass.there pass.live f may.dirty false known.0 known.1).1)
+      refl
 
 module _ {X : Type 0} {p f : ℕ} {v w : View X} (t : DirtyTold p f v w) where
   pub dirty-others : (touched : ℕ → Type 0) → touched p → LeavesOthers touched (did_store (places.Translation p) (trans_word (Some (dirty_in f))) ∷ []) [] v w

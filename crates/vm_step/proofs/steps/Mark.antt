@@ -4,9 +4,9 @@ use Rattle.vm_step.proofs.{Fit.fit, Here.world, Standing.allows}
 use Rattle.vm_step.proofs.Exchange.{draft-stays, exchange-event, exchange-settles, exchanged_at, IsExchange, mark-exchange, tried, unmark-exchange}
 use Rattle.vm_step.proofs.Exchange.{word-shows}
 use Rattle.vm_step.proofs.Prelude.{[], actor_of, AllowsStep, ap, became, Bool, Brings, did_exchange, each-upd, either, eqb, Event, false, get_elem?}
-use Rattle.vm_step.proofs.Prelude.{if◌then◌else◌, IsPlacedAt, Kept, KnowsPage, length, List, Mark, MARKED, MarkIsItsEvent, MarkTold, no_held, Option}
-use Rattle.vm_step.proofs.Prelude.{Origin, Page, put_at, refl, Ruled, seat_of, Shape, slice_index, some, Stands, Start, state_of, Stored, subst, sym}
-use Rattle.vm_step.proofs.Prelude.{Table, told_of, true, UNLOCKED, Unmark, UnmarkIsItsEvent, version_of, View, word_of, ℕ, ◌<◌, ◌≡◌}
+use Rattle.vm_step.proofs.Prelude.{if◌then◌else◌, IsPlacedAt, Kept, KnowsPage, length, List, Mark, MARKED, MarkIsItsEvent, MarkTold, no_held, Option, Origin}
+use Rattle.vm_step.proofs.Prelude.{Page, put_at, refl, Ruled, seat_of, Shape, slice_index, some, Stands, Start, state_of, Stored, subst, sym, Table, told_of}
+use Rattle.vm_step.proofs.Prelude.{true, UNLOCKED, Unmark, UnmarkIsItsEvent, version_of, View, word_of, ℕ, ◌<◌, ◌≡◌}
 
 -- taken or lost, it leaves the view
 pub same-either : {A : Type 0} (x : A) (b : Bool) → (if b then x else x) ≡ x
@@ -36,25 +36,24 @@ module _ {X B : Type 0} (stored : B → Stored) (keeps : Start → Kept X → Ty
         record { brings = subst (λ (y : View X). Brings (did_exchange (places.State p) expects (slice_index s.words p) x) [] [] v y k.0) (same-either v (eqb (slice_index s.words p) expects)) k.1.brings; version = k.1.version; since = k.1.since; older = k.1.older },
       )
 
-module _ {X B : Type 0} (stored : B → Stored) (keeps : Start → Kept X → Type 0) (tied : Start → ℕ → List ℕ → ℕ → List ℕ → Type 0) (shape : Shape) (tells : Bool) where
+module _ {X B : Type 0} (stored : B → Stored) (keeps : Start → Kept X → Type 0) (tied : Start → ℕ → List ℕ → ℕ → List ℕ → Type 0) (tells : Bool) where
   -- so it does of every table that stands: where the mark is set, and where it is taken away
-  pub mark-allows : (slots id : ℕ) (v : View X) (i : ℕ) (p expects x : ℕ) → v.live ≡ true → 0 < length v.used → p < shape.pages → state_of expects ≡ UNLOCKED → x ≡ (word_of MARKED (version_of expects)) → IsPlacedAt shape (places.State p) i
+  pub mark-allows : (shape : Shape) (slots id : ℕ) (v : View X) (i : ℕ) (p expects x : ℕ) → v.live ≡ true → 0 < length v.used → p < shape.pages → state_of expects ≡ UNLOCKED → x ≡ (word_of MARKED (version_of expects)) → IsPlacedAt shape (places.State p) i
       → AllowsStep (Stands stored keeps tied shape tells) slots id v i (λ n. either (eqb n expects) x n) (told_of shape tells (λ n v w. MarkTold p expects n (word_of MARKED (version_of expects)) v w))
-  mark-allows slots id v i p expects x live number l may spells is =
+  mark-allows shape slots id v i p expects x live number l may spells is =
       allows stored keeps tied shape tells slots id v i (places.State p) (λ n. either (eqb n expects) x n) (λ n. either (eqb n expects) (word_of MARKED (version_of expects)) n) (λ n v w. MarkTold p expects n (word_of MARKED (version_of expects)) v w) live is (λ n. ap (λ z. either (eqb n expects) z n) spells) (λ n w t. fit t.brings live)
       (λ start has s r there _.
       mark-tells stored keeps tied start tells s r id v there live number p expects (subst (λ n. p < n) (sym has.pages) l) (word_of MARKED (version_of expects)) MARKED (Mark id p expects) refl
       (mark-exchange stored start s r.releases r.drafts id v p expects r.wide.0 (subst (λ n. p < n) (sym has.pages) l) there may))
 
-  pub unmark-allows : (slots id : ℕ) (v : View X) (i : ℕ) (p expects x : ℕ) → v.live ≡ true → 0 < length v.used → p < shape.pages → state_of expects ≡ MARKED → x ≡ (word_of UNLOCKED (version_of expects)) → IsPlacedAt shape (places.State p) i
+  pub unmark-allows : (shape : Shape) (slots id : ℕ) (v : View X) (i : ℕ) (p expects x : ℕ) → v.live ≡ true → 0 < length v.used → p < shape.pages → state_of expects ≡ MARKED → x ≡ (word_of UNLOCKED (version_of expects)) → IsPlacedAt shape (places.State p) i
       → AllowsStep (Stands stored keeps tied shape tells) slots id v i (λ n. either (eqb n expects) x n) (told_of shape tells (λ n v w. MarkTold p expects n (word_of UNLOCKED (version_of expects)) v w))
-  unmark-allows slots id v i p expects x live number l may spells is =
+  unmark-allows shape slots id v i p expects x live number l may spells is =
       allows stored keeps tied shape tells slots id v i (places.State p) (λ n. either (eqb n expects) x n) (λ n. either (eqb n expects) (word_of UNLOCKED (version_of expects)) n) (λ n v w. MarkTold p expects n (word_of UNLOCKED (version_of expects)) v w) live is (λ n. ap (λ z. either (eqb n expects) z n) spells) (λ n w t. fit t.brings live)
       (λ start has s r there _.
       mark-tells stored keeps tied start tells s r id v there live number p expects (subst (λ n. p < n) (sym has.pages) l) (word_of UNLOCKED (version_of expects)) UNLOCKED (Unmark id p expects) refl
       (unmark-exchange stored start s r.releases r.drafts id v p expects r.wide.0 (subst (λ n. p < n) (sym has.pages) l) there may))
 
-module _ {X B : Type 0} (stored : B → Stored) (keeps : Start → Kept X → Type 0) (tied : Start → ℕ → List ℕ → ℕ → List ℕ → Type 0) (tells : Bool) where
   pub mark-event : MarkIsItsEvent stored keeps tied tells
   mark-event start s id p expects found v w pass at may told =
       exchange-event stored start keeps tied tells s id p expects found _ _ _ v _ w _ _ pass at (mark-exchange stored start s [] (λ _. []) id v p expects pass.rule.wide.0 at.0 pass.there may) (subst (λ (y : View X). Brings (did_exchange (places.State p) expects found (word_of MARKED (version_of expects))) [] [] v y w) (sym (same-either v (eqb found expects))) told.brings) refl

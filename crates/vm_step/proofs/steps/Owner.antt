@@ -7,13 +7,14 @@ use Rattle.vm_core.proofs.OwnerWords.{word-elsewhere, word-written}
 use Rattle.vm_step.proofs.Leaves.{works-one, works-then}
 use Rattle.vm_step.proofs.Mine.{owner-inside}
 use Rattle.vm_step.proofs.steps.Mapping.{install-frames, install-held, install-works}
-use Rattle.vm_step.proofs.Prelude.{[], actor_of, after_step, AllowsStep, ap, at-bound, Bool, core-still, core_shown, Did, did_store, Disown, each-upd}
-use Rattle.vm_step.proofs.Prelude.{DisownIsItsEvent, Event, get_elem?, index_of, IsOwnerEvent, IsPlacedAt, IsSome, Kept, KnowsPage, Legal, length}
-use Rattle.vm_step.proofs.Prelude.{List, MayOwn, no_held, OLoad, OloadIsItsEvent, Option, Origin, Own, owned, owner-here, owner-step, OwnerLoadTold}
-use Rattle.vm_step.proofs.Prelude.{OwnerTold, OwnIsItsEvent, put_at, refl, rested, Ruled, Seat, seat-here, seat_of, seen, Shape, Shows, slice_set}
-use Rattle.vm_step.proofs.Prelude.{Held, Some, some, Stands, StandsIn, Start, State, steps, Stored, subst, sym, Table, told_of, true, View, World}
-use Rattle.vm_step.proofs.Prelude.{held_at, InstallTold, KnowsOwner, KnowsOwners, owned_view, upd-same, world_after, world_of, ℕ, ◌+◌, ◌<◌, ◌∙◌, ◌≡◌}
-use Rattle.vm_step.proofs.Prelude.{clean_in, false, None, upd-other, without, Works, ◌∷◌, ◌≤◌}
+use Rattle.vm_step.proofs.Prelude.{[], actor_of, after_step, AllowsStep, ap, at-bound, Bool, clean_in, core-still, core_shown, Did, did_store, Disown}
+use Rattle.vm_step.proofs.Prelude.{DisownIsItsEvent, each-upd, Event, false, get_elem?, Held, held_at, index_of, InstallTold, IsOwnerEvent, IsPlacedAt, IsSome}
+use Rattle.vm_step.proofs.Prelude.{Kept, KnowsOwner, KnowsOwners, KnowsPage, Legal, length, List, MayOwn, no_held, None, OLoad, OloadIsItsEvent, Option, Origin}
+use Rattle.vm_step.proofs.Prelude.{Own, owned, owned_view, owner-here, owner-step, OwnerLoadTold, OwnerTold, OwnIsItsEvent, put_at, refl, rested, Ruled, Seat}
+use Rattle.vm_step.proofs.Prelude.{seat-here, seat_of, seen, Shape, Shows, slice_set, Some, some, Stands, StandsIn, Start, State, steps, Stored, subst, sym}
+use Rattle.vm_step.proofs.Prelude.{Table, told_of, true, upd-other, upd-same, View, without, Works, World, world_after, world_of, ℕ, ◌+◌, ◌<◌, ◌∙◌, ◌∷◌, ◌≡◌}
+use Rattle.vm_step.proofs.Prelude.{◌≤◌}
+use Rattle.vm_step.proofs.steps.Event.{is-event}
 
 module _ {X B : Type 0} (stored : B → Stored) (keeps : Start → Kept X → Type 0) (tied : Start → ℕ → List ℕ → ℕ → List ℕ → Type 0) (start : Origin) (tells : Bool) (s : Table (Option B) (View X)) (r : Ruled stored keeps tied start tells s)
     (id : ℕ) (v : View X) (there : get_elem? s.views id ≡ some v) (live : v.live ≡ true) where
@@ -27,9 +28,6 @@ module _ {X B : Type 0} (stored : B → Stored) (keeps : Start → Kept X → Ty
     -- the page stands there
     standing : (p < start.pages) × ((core.pages p).trans ≡ Some (record { frame = f; dirty = stands.dirty }))
     standing = stands-called stored keeps tied start tells s r id v there live p (record { frame = f; dirty = stands.dirty }) (rw stands.owns refl) stands.stands
-
-    pub stands-there-now : frame_of (core.pages p).trans ≡ Some f
-    stands-there-now = ap frame_of standing.1
 
     pub may-own : MayOwn core id p
     may-own = record {
@@ -45,7 +43,7 @@ module _ {X B : Type 0} (stored : B → Stored) (keeps : Start → Kept X → Ty
         let words : List ℕ = slice_set s.words (index_of start (places.Owner f)) word in
         let known = r.known id v there live in
         held-shows stored keeps tied start tells s r id v words did (owned_view p word v).held v.frames v.contents e there live (word-left start s.words did word r.wide.0 r.spelled lf refl tt refl) legal
-        (owner-step stored start s r.releases r.drafts id v (after_step stored keeps tied start tells s r words [] [] did (owned_view p word v)) p f word r.wide.0 lf there refl refl refl refl stands-there-now ∙ sym is)
+        (owner-step stored start s r.releases r.drafts id v (after_step stored keeps tied start tells s r words [] [] did (owned_view p word v)) p f word r.wide.0 lf there refl refl refl refl (ap frame_of standing.1) ∙ sym is)
         (ap (λ (y : World). y.core.next) is)
         (λ q. subst (λ (y : World). KnowsPage (seat_of v q) (put_at no_held (owned_view p word v).held q) (y.core.pages q)) (sym is)
         (each-upd (λ k (h : Held). KnowsPage (seat_of v k) h (core.pages k)) (put_at no_held v.held) p (record (held_at v p) { owner = word }) (record { calls = (known.knows p).calls; shares = (known.knows p).shares }) (λ k _. known.knows k) q))
@@ -55,54 +53,50 @@ module _ {X B : Type 0} (stored : B → Stored) (keeps : Start → Kept X → Ty
         (λ q ne m calls at. known.owners q m calls at ∙ sym (word-elsewhere old p q word _ m r.inv standing.1 (sym ((known.knows q).calls calls).0 ∙ at) ne))))
         (λ g x. known.contents g x ∙ sym (ap (λ (y : World). y.core.words g) is))
 
-module _ {X B : Type 0} (stored : B → Stored) (keeps : Start → Kept X → Type 0) (tied : Start → ℕ → List ℕ → ℕ → List ℕ → Type 0) (shape : Shape) (tells : Bool) where
+module _ {X B : Type 0} (stored : B → Stored) (keeps : Start → Kept X → Type 0) (tied : Start → ℕ → List ℕ → ℕ → List ℕ → Type 0) (tells : Bool) where
   -- so every table that stands allows them
-  owner-allows : (event : ℕ → ℕ → Event) (slots id : ℕ) (v : View X) (i p f word : ℕ)
+  owner-allows : (shape : Shape) (event : ℕ → ℕ → Event) (slots id : ℕ) (v : View X) (i p f word : ℕ)
       → ((start : Origin) (s : Table (Option B) (View X)) (r : Ruled stored keeps tied start tells s) → MayOwn (core_shown stored start s) id p → Legal (core_shown stored start s) (event id p))
       → actor_of (event id p) ≡ id
       → ((old : World) → world_after old (event id p) ≡ record old { core = owned old.core p word })
       → v.live ≡ true → 0 < length v.used → f < shape.frames → StandsIn v p f → IsPlacedAt shape (places.Owner f) i
       → AllowsStep (Stands stored keeps tied shape tells) slots id v i (λ _. word) (told_of shape tells (λ _. OwnerTold p f word))
-  owner-allows event slots id v i p f word legal actor is live number lf stands at =
+  owner-allows shape event slots id v i p f word legal actor is live number lf stands at =
       allows stored keeps tied shape tells slots id v i (places.Owner f) (λ _. word) (λ _. word) (λ _. OwnerTold p f word) live at (λ n. refl) (λ n w t. fit t.brings live)
       (λ start has s r there _.
       let k = steps stored keeps tied start tells s r id v _ r.drafts [] [] _ (owned_view p word v) (event id p) there live number actor refl
       (owner-shows stored keeps tied start tells s r id v there live p f stands word (event id p) (subst (λ n. f < n) (sym has.frames) lf) (legal start s r (may-own stored keeps tied start tells s r id v there live p f stands)) (is _)) in
       (_, k.0, record { brings = k.1 }))
 
-  pub own-allows : (slots id : ℕ) (v : View X) (i p f : ℕ) → v.live ≡ true → 0 < length v.used → f < shape.frames → StandsIn v p f → IsPlacedAt shape (places.Owner f) i
+  pub own-allows : (shape : Shape) (slots id : ℕ) (v : View X) (i p f : ℕ) → v.live ≡ true → 0 < length v.used → f < shape.frames → StandsIn v p f → IsPlacedAt shape (places.Owner f) i
       → AllowsStep (Stands stored keeps tied shape tells) slots id v i (λ _. p + 1) (told_of shape tells (λ _. OwnerTold p f (p + 1)))
-  own-allows slots id v i p f = owner-allows Own slots id v i p f (p + 1) (λ start s r may. may) refl (λ old. refl)
+  own-allows shape slots id v i p f = owner-allows shape Own slots id v i p f (p + 1) (λ start s r may. may) refl (λ old. refl)
 
-  pub disown-allows : (slots id : ℕ) (v : View X) (i p f : ℕ) → v.live ≡ true → 0 < length v.used → f < shape.frames → StandsIn v p f → IsPlacedAt shape (places.Owner f) i
+  pub disown-allows : (shape : Shape) (slots id : ℕ) (v : View X) (i p f : ℕ) → v.live ≡ true → 0 < length v.used → f < shape.frames → StandsIn v p f → IsPlacedAt shape (places.Owner f) i
       → AllowsStep (Stands stored keeps tied shape tells) slots id v i (λ _. 0) (told_of shape tells (λ _. OwnerTold p f 0))
-  disown-allows slots id v i p f = owner-allows Disown slots id v i p f 0 (λ start s r may. may) refl (λ old. refl)
+  disown-allows shape slots id v i p f = owner-allows shape Disown slots id v i p f 0 (λ start s r may. may) refl (λ old. refl)
 
-  pub oload-allows : (slots id : ℕ) (v : View X) (i f : ℕ) → v.live ≡ true → 0 < length v.used → f < shape.frames → IsPlacedAt shape (places.Owner f) i
+  pub oload-allows : (shape : Shape) (slots id : ℕ) (v : View X) (i f : ℕ) → v.live ≡ true → 0 < length v.used → f < shape.frames → IsPlacedAt shape (places.Owner f) i
       → AllowsStep (Stands stored keeps tied shape tells) slots id v i (λ n. n) (told_of shape tells (OwnerLoadTold f))
-  oload-allows slots id v i f live number lf at =
+  oload-allows shape slots id v i f live number lf at =
       allows-load stored keeps tied shape tells slots id v i (places.Owner f) (OwnerLoadTold f) live at (λ n w t. fit t.brings live)
       (λ start has s r there.
       let inside : f < start.frames = subst (λ n. f < n) (sym has.frames) lf in
       let k = rested stored keeps tied start tells s r id v _ (OLoad id f) there live number refl (record { actor = at-bound s.views id v there; frame = inside }) refl inside refl refl in
       (_, k.0, record { brings = k.1; inside = subst (λ n. n ≤ v.start.pages) (owner-here stored start s f inside) (owner-inside stored keeps tied start tells s r id v there live f) }))
 
-module _ {X B : Type 0} (stored : B → Stored) (keeps : Start → Kept X → Type 0) (tied : Start → ℕ → List ℕ → ℕ → List ℕ → Type 0) (tells : Bool) where
   -- each is its event
-  owner-event : (word : ℕ → ℕ) (event : ℕ → ℕ → Event) → ((c : State) (id p : ℕ) → MayOwn c id p → Legal c (event id p)) → ((old : World) (id p : ℕ) → (world_after old (event id p)).core ≡ owned old.core p (word p))
+  owner-event : (word : ℕ → ℕ) (event : ℕ → ℕ → Event) → ((c : State) (id p : ℕ) → MayOwn c id p → Legal c (event id p)) → ((old : World) (id p : ℕ) → world_after old (event id p) ≡ record old { core = owned old.core p (word p) })
       → ((c : State) (id p : ℕ) → seen c (event id p) ≡ sights.Done)
       → IsOwnerEvent stored keeps tied tells word event
   owner-event word event legal is sees start s id p f v w pass stands told =
       let view = told.brings.view in
       let inside : f < start.frames = frame-inside stored keeps tied start tells s pass.rule p (record { frame = f; dirty = stands.dirty }) (standing stored keeps tied start tells s pass.rule id v pass.there pass.live p f stands).1 in
-      record {
-        legal = legal (core_shown stored start s) id p (may-own stored keeps tied start tells s pass.rule id v pass.there pass.live p f stands);
-        core = ap (λ (y : World). y.core)
-            (owner-step stored start s [] (λ _. []) id v w p f (word p) pass.rule.wide.0 inside pass.there (ap (λ (y : View X). y.out) view) (ap (λ (y : View X). y.frames) view) (ap (λ (y : View X). y.seats) view) (ap (λ (y : View X). y.loads) view)
-            (stands-there-now stored keeps tied start tells s pass.rule id v pass.there pass.live p f stands))
-            ∙ sym (is (world_of stored start [] (λ _. []) s) id p);
-        sees = sees (core_shown stored start s) id p;
-      }
+      is-event (legal (core_shown stored start s) id p (may-own stored keeps tied start tells s pass.rule id v pass.there pass.live p f stands))
+      ((owner-step stored start s [] (λ _. []) id v w p f (word p) pass.rule.wide.0 inside pass.there (ap (λ (y : View X). y.out) view) (ap (λ (y : View X). y.frames) view) (ap (λ (y : View X). y.seats) view) (ap (λ (y : View X). y.loads) view)
+      (ap frame_of (standing stored keeps tied start tells s pass.rule id v pass.there pass.live p f stands).1))
+      ∙ sym (is (world_of stored start [] (λ _. []) s) id p))
+      (sees (core_shown stored start s) id p)
 
   pub own-event : OwnIsItsEvent stored keeps tied tells
   own-event = owner-event (λ p. p + 1) Own (λ c id p may. may) (λ old id p. refl) (λ c id p. refl)

@@ -1,17 +1,16 @@
 -- Passes that are split, joined, or told by one another: that the table allows it, what the load behind it tells, and that it is no event.
 use Rattle.vm_owner.proofs.NumberLemmas.{has-both}
 use Rattle.vm_rule.specs.declared.view.Place.TheVariants as places
-use Rattle.vm_step.proofs.Prelude.{[], AllowsStep, ap, append-none, arith, at, at-first, at-neither, at-past, at-second, at-there, block-same}
-use Rattle.vm_step.proofs.Prelude.{block_of, Bool, cases_Bool, cases_eq, cases_lt, CaughtUp, core_shown, did_load, entries-both, entries-within}
-use Rattle.vm_step.proofs.Prelude.{entries_by, false, follower, follows-ruled, frames_held, fun_ext, get_elem?, giver, has, has-left, has-right}
-use Rattle.vm_step.proofs.Prelude.{HasNone, hearer, Hears, hears-past, hears-ruled, histories_of, HoldsNoPage, HoldsNothing, if◌then◌else◌, index_of}
-use Rattle.vm_step.proofs.Prelude.{inl, IsPassOf, IsPlacedAt, IsSplitOff, IsTakenIn, joined, Joins, joins-past, joins-ruled, JoinTold, Kept}
-use Rattle.vm_step.proofs.Prelude.{knows_more, length, length-append, length-set, List, loads_at, loads_of, newcomer, no_seat, None, once-second}
-use Rattle.vm_step.proofs.Prelude.{OnlyKnows, Option, Origin, outside_page, Page, page-in, page-out, page_from, pages_from, refl, Ruled, same-field}
-use Rattle.vm_step.proofs.Prelude.{seat_of, seats_of, set_else, settled-blocks, Shape, slice_index, slice_set, some, spent, split-resettles}
-use Rattle.vm_step.proofs.Prelude.{split-views, Splits, splits-past, splits-ruled, Stands, Start, StartsWith, Stored, subst, sym, Table, table_heard}
-use Rattle.vm_step.proofs.Prelude.{table_joined, table_split, table_words, taken_in, TakesOver, told_of, true, twice, upd, upd-other, upd-same}
-use Rattle.vm_step.proofs.Prelude.{upd-self, View, with_actor, World, world_of, ℕ, ⊎_elim, ◌++◌, ◌+◌, ◌<◌, ◌||◌, ◌∙◌, ◌≡◌, ◌≢◌}
+use Rattle.vm_step.proofs.Prelude.{[], AllowsStep, ap, append-none, arith, at, at-first, at-neither, at-past, at-second, at-there, block-same, block_of, Bool}
+use Rattle.vm_step.proofs.Prelude.{cases_Bool, cases_lt, CaughtUp, core_shown, did_load, each-upd, entries-both, entries-within, entries_by, false, follower}
+use Rattle.vm_step.proofs.Prelude.{follows-ruled, frames_held, fun_ext, get_elem?, giver, has, has-left, has-right, HasNone, hearer, Hears, hears-past}
+use Rattle.vm_step.proofs.Prelude.{hears-ruled, histories_of, HoldsNoPage, HoldsNothing, if◌then◌else◌, index_of, inl, IsPassOf, IsPlacedAt, IsSplitOff}
+use Rattle.vm_step.proofs.Prelude.{IsTakenIn, joined, Joins, joins-past, joins-ruled, JoinTold, Kept, knows_more, length, length-append, length-set, List}
+use Rattle.vm_step.proofs.Prelude.{loads_at, loads_of, newcomer, no_seat, None, once-second, OnlyKnows, Option, Origin, outside_page, Page, page-in, page-out}
+use Rattle.vm_step.proofs.Prelude.{page_from, pages_from, refl, Ruled, same-field, seat_of, seats_of, set_else, settled-blocks, Shape, slice_index, slice_set}
+use Rattle.vm_step.proofs.Prelude.{some, spent, split-resettles, split-views, Splits, splits-past, splits-ruled, Stands, Start, StartsWith, Stored, subst, sym}
+use Rattle.vm_step.proofs.Prelude.{Table, table_heard, table_joined, table_split, table_words, taken_in, TakesOver, told_of, true, twice, upd, upd-self, View}
+use Rattle.vm_step.proofs.Prelude.{with_actor, World, world_of, ℕ, ⊎_elim, ◌++◌, ◌+◌, ◌<◌, ◌||◌, ◌∙◌, ◌≡◌, ◌≢◌}
 use Rattle.vm_step.proofs.Standing.{allows-load, born}
 
 module _ {X B : Type 0} (stored : B → Stored) (keeps : Start → Kept X → Type 0) (tied : Start → ℕ → List ℕ → ℕ → List ℕ → Type 0) (shape : Shape) (tells : Bool) where
@@ -31,6 +30,17 @@ module _ {X B : Type 0} (stored : B → Stored) (keeps : Start → Kept X → Ty
       → Joins (Stands stored keeps tied shape tells) id v other w (joined v w) spent
   joins-any id v other w live live' here there nothing s stands at apart at' =
       by-rule id v s _ live stands at (λ start r. joins-ruled stored keeps tied start tells s r id other v w at apart (sym (set_else s.views id other (joined v w) apart) ∙ at') live live' here there nothing)
+
+  pub hears-any : (id : ℕ) (v : View X) (other : ℕ) (w : View X) → v.live ≡ true → w.live ≡ true → (v.told_releases ≡ []) × (v.told ≡ []) → (w.told_releases ≡ []) × (w.told ≡ []) → OnlyKnows w
+      → Joins (Stands stored keeps tied shape tells) id v other w (hearer v w) spent
+  hears-any id v other w live live' here there only s stands at apart at' =
+      by-rule id v s _ live stands at (λ start r. hears-ruled stored keeps tied start tells s r id other v w at apart (sym (set_else s.views id other (hearer v w) apart) ∙ at') live live' here there only)
+
+  pub follow-allows : (slots id : ℕ) (v : View X) (i : ℕ) → v.live ≡ true → StartsWith v.told_releases v.releases → StartsWith v.told v.seen → IsPlacedAt shape places.Next i
+      → AllowsStep (Stands stored keeps tied shape tells) slots id v i (λ n. n) (told_of shape tells (λ n. TakesOver))
+  follow-allows slots id v i live on-releases on-seen is =
+      allows-load stored keeps tied shape tells slots id v i places.Next (λ n. TakesOver) live is (λ n w t. record { live = ap (λ y. y.live) t.view ∙ live; learned = (ap (λ y. y.told_releases) t.view, ap (λ y. y.told) t.view); sound = t.sound })
+      (λ start has s r there. let k = follows-ruled stored keeps tied start tells s r id v there live on-releases on-seen in (follower v (did_load places.Next (slice_index s.words (index_of start places.Next))), k.0, k.1))
 
 module _ {X : Type 0} where
   pub more-used : (v w : View X) → 0 < length v.used → 0 < length (joined v w).used
@@ -66,18 +76,6 @@ module _ {X : Type 0} where
         mine = ap (λ (y : View X). y.mine) b.view ∙ sym (ap (entries_by (v.used ++ w.used)) seen ∙ entries-both (v.used ++ w.used) (joined v w).seen b.others ∙ (λ i. entries_by (v.used ++ w.used) (joined v w).seen ++ b.foreign i) ∙ append-none (entries_by (v.used ++ w.used) (joined v w).seen));
       }
 
-module _ {X B : Type 0} (stored : B → Stored) (keeps : Start → Kept X → Type 0) (tied : Start → ℕ → List ℕ → ℕ → List ℕ → Type 0) where
-  pub hears-any : (shape : Shape) (tells : Bool) (id : ℕ) (v : View X) (other : ℕ) (w : View X) → v.live ≡ true → w.live ≡ true → (v.told_releases ≡ []) × (v.told ≡ []) → (w.told_releases ≡ []) × (w.told ≡ []) → OnlyKnows w
-      → Joins (Stands stored keeps tied shape tells) id v other w (hearer v w) spent
-  hears-any shape tells id v other w live live' here there only s stands at apart at' =
-      by-rule stored keeps tied shape tells id v s _ live stands at (λ start r. hears-ruled stored keeps tied start tells s r id other v w at apart (sym (set_else s.views id other (hearer v w) apart) ∙ at') live live' here there only)
-
-  pub follow-allows : (tells : Bool) (shape : Shape) (slots id : ℕ) (v : View X) (i : ℕ) → v.live ≡ true → StartsWith v.told_releases v.releases → StartsWith v.told v.seen → IsPlacedAt shape places.Next i
-      → AllowsStep (Stands stored keeps tied shape tells) slots id v i (λ n. n) (told_of shape tells (λ n. TakesOver))
-  follow-allows tells shape slots id v i live on-releases on-seen is =
-      allows-load stored keeps tied shape tells slots id v i places.Next (λ n. TakesOver) live is (λ n w t. record { live = ap (λ y. y.live) t.view ∙ live; learned = (ap (λ y. y.told_releases) t.view, ap (λ y. y.told) t.view); sound = t.sound })
-      (λ start has s r there. let k = follows-ruled stored keeps tied start tells s r id v there live on-releases on-seen in (follower v (did_load places.Next (slice_index s.words (index_of start places.Next))), k.0, k.1))
-
 module _ {X B : Type 0} (stored : B → Stored) (keeps : Start → Kept X → Type 0) (tied : Start → ℕ → List ℕ → ℕ → List ℕ → Type 0) (start : Origin) (tells : Bool) (s : Table (Option B) (View X)) (id : ℕ) (v : View X) (is : IsPassOf stored start keeps tied tells s id v) where
   abbrev r : Ruled stored keeps tied start tells s
   r = is.rule
@@ -108,7 +106,7 @@ module _ {X B : Type 0} (stored : B → Stored) (keeps : Start → Kept X → Ty
         })
 
     -- past the last actor nobody has anything
-    none-past : HasNone before (length s.views)
+    none-past : HasNone (with_actor before) (length s.views)
     none-past = record {
       seats = λ p. ⊎_elim
           (λ l. ap (λ (y : Page). y.seats (length s.views)) (page-in start.pages (table_words start s.words) (block_of stored s.homes s.views) (seats_of s.views) p l) ∙ ap (λ (y : View X). seat_of y p) (at-past spent s.views (length s.views) (omega arith)))
@@ -124,11 +122,7 @@ module _ {X B : Type 0} (stored : B → Stored) (keeps : Start → Kept X → Ty
         record {
           goes = record { rule = splits-ruled stored keeps tied start tells s r id part v is.there is.live number; releases = past.0; history = past.1; drafts = past.2 };
           core = split-world;
-          new = record {
-            seats = λ p. ap (λ (y : World). (y.core.pages p).seats (length s.views)) split-world ∙ none-past.seats p;
-            held = λ f. ap (λ (y : World). y.core.held (length s.views) f) split-world ∙ none-past.held f;
-            loads = λ p. ap (λ (y : World). y.loads p (length s.views)) split-world ∙ none-past.loads p;
-          };
+          new = subst (λ y. HasNone y (length s.views)) (sym split-world) none-past;
         }
 
   -- ---- the pass takes in another, and has the view `took` then
@@ -141,18 +135,18 @@ module _ {X B : Type 0} (stored : B → Stored) (keeps : Start → Kept X → Ty
     here : at spent both' id ≡ took
     here = at-first s.views id other v w took spent is.there apart at-other
 
-    -- a field of the views, of which a spent one has this, and the one that takes in another has what it had
-    field-taken : {A : Type 0} (f : View X → A) (none : A) → f spent ≡ none → f took ≡ f v → (λ a. f (at spent both' a)) ≡ upd (λ a. f (at spent s.views a)) other none
-    field-taken f none nothing same =
-        fun_ext (λ a. ⊎_elim
-        (λ (e : a ≡ other). ap (λ n. f (at spent both' n)) e ∙ ap f (at-second s.views id other v w took spent is.there apart at-other) ∙ nothing ∙ sym (ap (upd (λ n. f (at spent s.views n)) other none) e ∙ upd-same (λ n. f (at spent s.views n)) other none))
-        (λ (m : a ≢ other).
-        ⊎_elim
-        (λ (e : a ≡ id). ap (λ n. f (at spent both' n)) e ∙ ap f here ∙ same ∙ sym (ap (λ n. f (at spent s.views n)) e ∙ ap f (at-there spent s.views id v is.there)))
-        (λ (n : a ≢ id). ap f ((at-neither s.views id other v w took spent is.there apart at-other) a n m))
-        (cases_eq a id)
-        ∙ sym (upd-other (λ n. f (at spent s.views n)) other none a m))
-        (cases_eq a other))
+    -- a field of the views, of which a spent one has `none`, and the one that takes in another has `own`
+    field-taken : {A : Type 0} (f : View X → A) (none own : A) → f spent ≡ none → f took ≡ own → (λ a. f (at spent both' a)) ≡ upd (upd (λ a. f (at spent s.views a)) id own) other none
+    field-taken f none own nothing same =
+        fun_ext (each-upd (λ a y. f (at spent both' a) ≡ y) (upd (λ a. f (at spent s.views a)) id own) other none
+        (ap f (at-second s.views id other v w took spent is.there apart at-other) ∙ nothing)
+        (λ a. each-upd (λ b y. b ≢ other → f (at spent both' b) ≡ y) (λ b. f (at spent s.views b)) id own (λ _. ap f here ∙ same) (λ b n m. ap f (at-neither s.views id other v w took spent is.there apart at-other b n m)) a))
+
+    -- one of which it has what it had
+    field-kept : {A : Type 0} (f : View X → A) (none : A) → f spent ≡ none → f took ≡ f v → (λ a. f (at spent both' a)) ≡ upd (λ a. f (at spent s.views a)) other none
+    field-kept f none nothing same =
+        field-taken f none (f (at spent s.views id)) nothing (same ∙ ap f (sym (at-there spent s.views id v is.there)))
+        ∙ ap (λ g. upd g other none) (upd-self (λ a. f (at spent s.views a)) id)
 
     blocks-stay : block_of stored s.homes both' ≡ block_of stored s.homes s.views
     blocks-stay =
@@ -163,42 +157,20 @@ module _ {X B : Type 0} (stored : B → Stored) (keeps : Start → Kept X → Ty
     pages-taken = fun_ext (λ p. ⊎_elim
         (λ l.
         page-in start.pages (table_words start s.words) (block_of stored s.homes both') (seats_of both') p l
-        ∙ (λ i. record (page_from (table_words start s.words) (blocks-stay i) (seats_of s.views) p) { seats = field-taken (λ y. seat_of y p) no_seat refl (seats p) i })
+        ∙ (λ i. record (page_from (table_words start s.words) (blocks-stay i) (seats_of s.views) p) { seats = field-kept (λ y. seat_of y p) no_seat refl (seats p) i })
         ∙ sym (ap (λ (y : Page). record y { seats = upd y.seats other no_seat }) (page-in start.pages (table_words start s.words) (block_of stored s.homes s.views) (seats_of s.views) p l)))
         (λ le.
         page-out start.pages (table_words start s.words) (block_of stored s.homes both') (seats_of both') p le
         ∙ sym (ap (λ (y : Page). record y { seats = upd y.seats other no_seat }) (page-out start.pages (table_words start s.words) (block_of stored s.homes s.views) (seats_of s.views) p le) ∙ (λ i. record outside_page { seats = (upd-self (λ (_ : ℕ). no_seat) other) i })))
         (cases_lt p start.pages))
 
-    -- the frames of both, and none
-    abbrev two : ℕ → Bool
-    two f = frames_held s.views other f || frames_held s.views id f
-
-    abbrev none : ℕ → Bool
-    none f = false
-
     held-taken : frames_held both' ≡ upd (upd (frames_held s.views) id (λ f. frames_held s.views other f || frames_held s.views id f)) other (λ f. false)
-    held-taken = fun_ext (λ a. ⊎_elim
-        (λ (e : a ≡ other).
-        ap (frames_held both') e
-        ∙ ap (λ (y : View X). (λ f. has f y.frames)) (at-second s.views id other v w took spent is.there apart at-other)
-        ∙ sym (ap (upd (upd (frames_held s.views) id two) other none) e ∙ upd-same (upd (frames_held s.views) id two) other none))
-        (λ (m : a ≢ other).
-        ⊎_elim
-        (λ (e : a ≡ id).
-        ap (frames_held both') e
-        ∙ ap (λ (y : View X). (λ f. has f y.frames)) here
-        ∙ fun_ext (λ f. frames f ∙ (λ i. has f (sym (at-there spent s.views other w at-other) i).frames || has f (sym (at-there spent s.views id v is.there) i).frames))
-        ∙ sym (ap (upd (frames_held s.views) id two) e ∙ upd-same (frames_held s.views) id two))
-        (λ (n : a ≢ id).
-        ap (λ (y : View X). (λ f. has f y.frames)) ((at-neither s.views id other v w took spent is.there apart at-other) a n m)
-        ∙ sym (upd-other (frames_held s.views) id two a n))
-        (cases_eq a id)
-        ∙ sym (upd-other (upd (frames_held s.views) id two) other none a m))
-        (cases_eq a other))
+    held-taken =
+        field-taken (λ y f. has f y.frames) (λ f. false) (λ f. frames_held s.views other f || frames_held s.views id f) refl
+        (fun_ext (λ f. frames f ∙ (λ i. has f (sym (at-there spent s.views other w at-other) i).frames || has f (sym (at-there spent s.views id v is.there) i).frames)))
 
     loads-taken : loads_of both' ≡ (λ p. upd (loads_of s.views p) other [])
-    loads-taken = fun_ext (λ p. field-taken (λ y. loads_at y p) [] refl (loads p))
+    loads-taken = fun_ext (λ p. field-kept (λ y. loads_at y p) [] refl (loads p))
 
     taken-world : world_of stored start r.releases r.drafts (record { words = s.words; homes = s.homes; views = both' }) ≡ taken_in id other before
     taken-world i = record {

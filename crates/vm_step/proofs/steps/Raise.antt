@@ -4,23 +4,19 @@
 use Rattle.std.proofs.Common.{eq-eqb, ne_eqb}
 use Rattle.vm_rule.specs.declared.view.Place.TheVariants as places
 use Rattle.vm_step.proofs.{Fit.fit, Leaves.works-one, Slots.device-shows, Slots.may-call, Standing.allows, Written.word-left}
-use Rattle.vm_step.proofs.Prelude.{[], after_more, AllowsStep, ap, arith, at-bound, at_set, became_more, block-same, block_of, blocks-still, Bool}
-use Rattle.vm_step.proofs.Prelude.{cases_eq, cases_lt, core_shown, Did, did_store, each-upd2, event_law, FaultsFit, get_elem?, Held, held_at}
-use Rattle.vm_step.proofs.Prelude.{index_of, inl, inr, is_pending, IsPlacedAt, Kept, KnowsPage, KnowsPages, le-ltb, leave_others, Leaves, Legal}
-use Rattle.vm_step.proofs.Prelude.{length, List, listed, lt-ltb, MAX_COUNT, may_call, MayRaise, no_held, None, Note, notes_of, Option, Origin, Page}
-use Rattle.vm_step.proofs.Prelude.{put, put_at, Raise, raise-step, raised, raised_view, RaiseTold, refl, Ruled, seat_of, Shape, slice_set, some}
-use Rattle.vm_step.proofs.Prelude.{Stands, Start, steps_more, Stored, subst, suc, sym, Table, times_noted, told_of, total, total-set, true, upd}
-use Rattle.vm_step.proofs.Prelude.{upd-other, upd-same, View, Works, World, world_after, world_of, ℕ, ⊎_elim, ◌++◌, ◌+◌, ◌<◌, ◌∙◌, ◌∷◌, ◌≡◌, ◌≢◌, ◌≤◌}
-use Rattle.vm_step.proofs.Prelude.{each-upd, KnowsOwner, ◌⊎◌}
+use Rattle.vm_step.proofs.Prelude.{[], after_more, AllowsStep, ap, arith, at-bound, at_set, block-same, block_of, blocks-still, Bool, cases_eq, cases_lt}
+use Rattle.vm_step.proofs.Prelude.{core_shown, Did, did_store, each-upd, each-upd2, event_law, FaultsFit, get_elem?, Held, held_at, index_of, inl, inr}
+use Rattle.vm_step.proofs.Prelude.{is_pending, IsPlacedAt, Kept, KnowsOwner, KnowsPage, KnowsPages, le-ltb, leave_others, Leaves, Legal, length, List, listed}
+use Rattle.vm_step.proofs.Prelude.{lt-ltb, MAX_COUNT, may_call, MayRaise, no_held, None, Note, notes_of, Option, Origin, Page, put, put_at, Raise, raise-step}
+use Rattle.vm_step.proofs.Prelude.{raised, raised_view, RaiseTold, refl, Ruled, seat_of, Shape, slice_set, some, Stands, Start, steps_more, Stored, subst, suc}
+use Rattle.vm_step.proofs.Prelude.{sym, Table, times_noted, told_of, total, total-set, true, upd, upd-other, upd-same, View, Works, World, world_after}
+use Rattle.vm_step.proofs.Prelude.{world_of, ℕ, ⊎_elim, ◌++◌, ◌+◌, ◌<◌, ◌∙◌, ◌∷◌, ◌≡◌, ◌≢◌, ◌≤◌, ◌⊎◌}
 
 -- ---- notes
 
 noted-both : (p count : ℕ) (l m : List Note) → times_noted p count (l ++ m) ≡ times_noted p count l + times_noted p count m
 noted-both p count [] m = omega arith
 noted-both p count (n ∷ ns) m = let rest : times_noted p count (ns ++ m) ≡ times_noted p count ns + times_noted p count m = noted-both p count ns m in omega arith
-
-abbrev note : ℕ → ℕ → Note
-note p count = record { page = p; count = count }
 
 -- what is noted at a raise is nothing, or the count, which the fault word rises to or which is the last: so of any count of any page, it is not among the new notes, or is the one
 noted-new : (p fault count q n : ℕ) → (times_noted q n (notes_of p fault count) ≡ 0) ⊎ ((times_noted q n (notes_of p fault count) ≡ 1) × (p ≡ q) × (count ≡ n) × ((fault < count) ⊎ (count ≡ MAX_COUNT)))
@@ -33,7 +29,7 @@ noted-new p fault count q n =
     (cases_eq count MAX_COUNT))
     (cases_lt fault count)
   where
-    one : notes_of p fault count ≡ note p count ∷ [] → (fault < count) ⊎ (count ≡ MAX_COUNT) → (times_noted q n (notes_of p fault count) ≡ 0) ⊎ ((times_noted q n (notes_of p fault count) ≡ 1) × (p ≡ q) × (count ≡ n) × ((fault < count) ⊎ (count ≡ MAX_COUNT)))
+    one : notes_of p fault count ≡ record { page = p; count = count } ∷ [] → (fault < count) ⊎ (count ≡ MAX_COUNT) → (times_noted q n (notes_of p fault count) ≡ 0) ⊎ ((times_noted q n (notes_of p fault count) ≡ 1) × (p ≡ q) × (count ≡ n) × ((fault < count) ⊎ (count ≡ MAX_COUNT)))
     one is up = ⊎_elim
         (λ (e : p ≡ q). ⊎_elim
         (λ (e' : count ≡ n). inr (ap (times_noted q n) is ∙ rw (eq-eqb p q e, eq-eqb count n e') refl, e, e', up))
@@ -63,17 +59,8 @@ module _ {X B : Type 0} (stored : B → Stored) (keeps : Start → Kept X → Ty
   pub count-known : (p count : ℕ) → MayRaise v p count → count ≡ (page p).count
   count-known p count may = may.is ∙ ((mine.knows p).calls may.calls).3
 
-  abbrev pub raise-did : ℕ → ℕ → Did
-  raise-did p count = did_store (places.Fault p) count
-
-  abbrev pub raise-words : ℕ → ℕ → List ℕ
-  raise-words p count = slice_set s.words (index_of start (places.Fault p)) count
-
-  abbrev blocks : List Stored
-  blocks = listed start.pages (block_of stored s.homes s.views)
-
   abbrev pub raise-view : ℕ → ℕ → View X
-  raise-view p count = after_more stored keeps tied start tells s r id v (raise-words p count) s.homes blocks r.drafts [] [] (raise-did p count) (raised_view p count v)
+  raise-view p count = after_more stored keeps tied start tells s r id v (slice_set s.words (index_of start (places.Fault p)) count) s.homes (listed start.pages (block_of stored s.homes s.views)) r.drafts [] [] (did_store (places.Fault p) count) (raised_view p count v)
 
   module _ (p count : ℕ) (l : p < start.pages) (may : MayRaise v p count) where
     abbrev fault : ℕ
@@ -137,16 +124,19 @@ module _ {X B : Type 0} (stored : B → Stored) (keeps : Start → Kept X → Ty
       once = once-after;
     }
 
-    pub raise-keeps : 0 < length v.used → Ruled stored keeps tied start tells (became_more stored keeps tied start tells s r id v (raise-words p count) s.homes blocks r.drafts [] [] (raise-did p count) (raised_view p count v)) × RaiseTold p count v (raise-view p count)
+    pub raise-keeps : 0 < length v.used → Ruled stored keeps tied start tells (record { words = slice_set s.words (index_of start (places.Fault p)) count; homes = s.homes; views = slice_set s.views id (raise-view p count) }) × RaiseTold p count v (raise-view p count)
     raise-keeps number =
+        let did : Did = did_store (places.Fault p) count in
+        let words : List ℕ = slice_set s.words (index_of start (places.Fault p)) count in
+        let blocks : List Stored = listed start.pages (block_of stored s.homes s.views) in
         let h : Held = record (held_at v p) { fault = count } in
         let w : View X = raise-view p count in
         let y : Page = raised (page p) in
         let knows = (mine.knows p).calls may.calls in
-        let done = steps_more stored keeps tied start tells s r id v (raise-words p count) s.homes blocks None r.drafts [] [] (raise-did p count) (raised_view p count v) there live number refl refl
-        (device-shows stored keeps tied start tells s r id v (raise-words p count) s.homes blocks (raise-did p count) v.out (put p h v.held) (v.notes ++ notes_of p fault count) (world_after world (Raise id p)).core there live
+        let done = steps_more stored keeps tied start tells s r id v words s.homes blocks None r.drafts [] [] did (raised_view p count v) there live number refl refl
+        (device-shows stored keeps tied start tells s r id v words s.homes blocks did v.out (put p h v.held) (v.notes ++ notes_of p fault count) (world_after world (Raise id p)).core there live
         (record {
-          word = word-left start s.words (raise-did p count) count r.wide.0 r.spelled l refl tt refl;
+          word = word-left start s.words did count r.wide.0 r.spelled l refl tt refl;
           slots = r.wide.1;
           core_is = ap (λ (x : World). x.core) (raise-step stored start s r.releases r.drafts id v w p count r.wide.0 l there refl refl refl refl (count-known p count may));
           inv = event_law world (Raise id p) r.inv (raise-legal p l may.calls);

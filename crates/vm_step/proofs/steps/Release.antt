@@ -11,25 +11,30 @@ use Rattle.vm_step.proofs.{Standing.allows, steps.Look.is-turn, Unclaimed.draft-
 use Rattle.vm_step.proofs.Groups.{changed-listed, chosen-has, has-without_all, has-without_all_other, has-without_all_same, listed-agrees}
 use Rattle.vm_step.proofs.Logical.{logical-draft, logical-last, logical-same, not-pending}
 use Rattle.vm_step.proofs.Mine.{member-mine, not-member, not-owed, owed-mine}
-use Rattle.vm_step.proofs.Prelude.{[], after_release, Agrees, AllowsStep, any-here, any-same, any-true, ap, append-none, AreApart, AreSized}
-use Rattle.vm_step.proofs.Prelude.{AreUnchanged, arith, at-bound, at_set, began_of, Bool, Brings, BringsWith, cases_Bool, cases_eq, Change}
-use Rattle.vm_step.proofs.Prelude.{changes_of, chosen, cond-false, core_shown, Did, did_store, DowngradeIsItsEvent, DowngradeTold, draft-is, draft_of}
-use Rattle.vm_step.proofs.Prelude.{Each, entries_of, Entry, eq-eqb, eqb, EVICTED, EvictTold, false, false_from_ne_true, false≢true, Fits, frame_of}
-use Rattle.vm_step.proofs.Prelude.{fun_ext, get_elem?, has, histories_of, History, index_of, is_owed, is_pending, IsEvent, IsFirst, IsKeptNow}
-use Rattle.vm_step.proofs.Prelude.{IsLater, IsMember, IsPlacedAt, IsTurn, Kept, kept_of, KnowsPage, last-is, last_in, last_of, LeavesRest, length}
-use Rattle.vm_step.proofs.Prelude.{length-set, List, listed-same, loads_at, LOCKED, locked-here, logical, MAX_VERSION, may_call, MayDowngrade}
-use Rattle.vm_step.proofs.Prelude.{MayEvict, MayGiveUp, ne_eqb, next-here, no_held, no_seat, None, Option, or_parts, Origin, owed_after, Page, put}
-use Rattle.vm_step.proofs.Prelude.{put_at, refl, Release, release-here, released_same, ReleaseEvictedIsItsEvent, ReleaseIsItsEvent, ReleaseTells}
-use Rattle.vm_step.proofs.Prelude.{ReleaseTold, replicate, Ruled, Seat, seat_of, set_here, Shape, Shows, slice_index, slice_set, Some, some, Stands}
-use Rattle.vm_step.proofs.Prelude.{Start, StaysAlone, steps, Stored, subst, suc, sym, table_after, told_of, true, true≢false, upd-other, upd-same}
-use Rattle.vm_step.proofs.Prelude.{View, without, without-none, word_of, World, world_of, ℕ, ⊎_elim, ◌++◌, ◌+◌, ◌<◌, ◌||◌, ◌∙◌, ◌∷◌, ◌≡◌, ◌≢◌, ◌≤◌}
+use Rattle.vm_step.proofs.Prelude.{[], after_release, Agrees, AllowsStep, any-here, any-same, any-true, ap, append-none, AreApart, AreSized, AreUnchanged}
+use Rattle.vm_step.proofs.Prelude.{arith, at-bound, at_set, began_of, Bool, Brings, BringsWith, cases_Bool, cases_eq, Change, changes_of, chosen, cond-false}
+use Rattle.vm_step.proofs.Prelude.{core_shown, Did, did_store, DowngradeIsItsEvent, DowngradeTold, draft-is, draft_of, Each, entries_of, Entry, eq-eqb, eqb}
+use Rattle.vm_step.proofs.Prelude.{EVICTED, EvictTold, false, false_from_ne_true, false≢true, Fits, frame_of, fun_ext, get_elem?, has, histories_of, History}
+use Rattle.vm_step.proofs.Prelude.{index_of, is_owed, is_pending, IsEvent, IsFirst, IsKeptNow, IsLater, IsMember, IsPlacedAt, IsTurn, Kept, kept_of, KnowsPage}
+use Rattle.vm_step.proofs.Prelude.{last-is, last_in, last_of, LeavesRest, length, length-set, List, listed-same, loads_at, LOCKED, locked-here, logical}
+use Rattle.vm_step.proofs.Prelude.{MAX_VERSION, may_call, MayDowngrade, MayEvict, MayGiveUp, ne_eqb, next-here, no_held, no_seat, None, Option, or_parts}
+use Rattle.vm_step.proofs.Prelude.{Origin, owed_after, Page, put, put_at, refl, Release, release-here, released_same, ReleaseEvictedIsItsEvent}
+use Rattle.vm_step.proofs.Prelude.{ReleaseIsItsEvent, ReleaseTells, ReleaseTold, replicate, Ruled, Seat, seat_of, set_here, Shape, Shows, slice_index}
+use Rattle.vm_step.proofs.Prelude.{slice_set, Some, some, Stands, Start, StaysAlone, steps, Stored, subst, suc, sym, table_after, told_of, true, true≢false}
+use Rattle.vm_step.proofs.Prelude.{upd-other, upd-same, View, without, without-none, word_of, world_of, ℕ, ⊎_elim, ◌++◌, ◌+◌, ◌<◌, ◌||◌, ◌∙◌, ◌∷◌, ◌≡◌, ◌≢◌}
+use Rattle.vm_step.proofs.Prelude.{◌≤◌}
 use Rattle.vm_step.proofs.Releasing.{calls-p, changes-each, changes-pages, claimed, downgraded-is, downgrading, draft-known, each-has, entries-one}
 use Rattle.vm_step.proofs.Releasing.{event, evicted-is, evicted-same, evicting, frames-are, giving-up, history-else, inner, last-here, last-known}
-use Rattle.vm_step.proofs.Releasing.{left, left-actor, left-exclusive, left-sees, left-step, member-is, member-page, Members, members-are, mine, new}
+use Rattle.vm_step.proofs.Releasing.{left, left-actor, left-exclusive, left-sees, left-step, member-is, member-page, members-are, mine, new}
 use Rattle.vm_step.proofs.Releasing.{next-is, next-kept, next-version, old, own, owners-are, page-else, page-here, release-legal, released-state}
 use Rattle.vm_step.proofs.Releasing.{released-version, releases, Releasing, seat-else, seat-p, seat_left, state_left, still-owns, unwritten, Way}
 use Rattle.vm_step.proofs.Releasing.{word, words, world-is}
+use Rattle.vm_step.proofs.steps.Event.{is-event}
 use Rattle.vm_step.proofs.steps.Leaving.{apart, LeavesOthers, LeavesOwn, others-tied, own-from, rest-of}
+
+-- what holds of page p, and of each other page, holds of all
+at-page : (P : ℕ → Type 0) (p : ℕ) → P p → ((q : ℕ) → q ≢ p → P q) → (q : ℕ) → P q
+at-page P p here else' q = ⊎_elim (λ e. subst P (sym e) here) (else' q) (cases_eq q p)
 
 -- no release leaves the page locked exclusively
 left-free : (way : Way) → state_left way ≢ LOCKED
@@ -46,6 +51,25 @@ changes-many v [] = refl
 changes-many v (q ∷ qs) = ap suc (changes-many v qs)
 
 module _ {X B : Type 0} {stored : B → Stored} {keeps : Start → Kept X → Type 0} {tied : Start → ℕ → List ℕ → ℕ → List ℕ → Type 0} {start : Origin} {tells : Bool} {may_release : Start → List ℕ → List Change → List (Entry X) → Type 0} (rel : Releasing stored keeps tied start tells may_release) where
+  abbrev before : Kept X
+  before = kept_of (old rel) rel.r.history rel.s.views
+
+  abbrev w : View X
+  w = left rel
+
+  -- the histories, and who is a member still to be released, before and after
+  abbrev h : ℕ → History
+  h = histories_of start rel.r.releases rel.r.drafts
+
+  abbrev h' : ℕ → History
+  h' = histories_of start (releases rel) rel.r.drafts
+
+  abbrev m' : ℕ → Bool
+  m' = is_pending (slice_set rel.s.views rel.id w)
+
+  abbrev after : Kept X
+  after = kept_of (world_of stored start (releases rel) rel.r.drafts (new rel)) (rel.r.history ++ entries_of rel.v rel.said) (slice_set rel.s.views rel.id w)
+
   still-pending : (q : ℕ) → has q (inner rel).pending ≡ true → ((seat_of (inner rel) q).exclusive ≡ true) × (start.tells ≡ true → (core_shown stored start (new rel)).next ≤ q → rel.r.drafts q ≡ (histories_of start (releases rel) rel.r.drafts q).last.words)
   still-pending q e =
       let m = (members-are rel).among q e in
@@ -63,7 +87,7 @@ module _ {X B : Type 0} {stored : B → Stored} {keeps : Start → Kept X → Ty
       let ne : q ≢ rel.p = (λ h. true≢false (sym (eq-eqb q rel.p h) ∙ none.0)) in
       (still-owns rel q ne o.0, o.1, subst (λ n. q < n) (sym (next-is rel)) o.2, (members-are rel).others q ne none.1 ∙ o.3)
 
-  pub release-shows : (start.tells ≡ true → keeps (began_of start) (kept_of (old rel) rel.r.history rel.s.views) → keeps (began_of start) (kept_of (world_of stored start (releases rel) rel.r.drafts (new rel)) (rel.r.history ++ entries_of rel.v rel.said) (slice_set rel.s.views rel.id (left rel))))
+  pub release-shows : (start.tells ≡ true → keeps (began_of start) before → keeps (began_of start) after)
       → Shows stored keeps tied start tells rel.s rel.r rel.id rel.v (words rel) rel.r.drafts (own rel ∷ []) (entries_of rel.v rel.said) (did_store (places.State rel.p) (word rel)) (inner rel) (event rel)
   release-shows owner = record {
     wide = length-set rel.s.words (index_of start (places.State rel.p)) (word rel) ∙ rel.r.wide.0;
@@ -84,41 +108,30 @@ module _ {X B : Type 0} {stored : B → Stored} {keeps : Start → Kept X → Ty
     entry = entries-one rel.v rel.said;
     mine = refl;
     next_versions = (ap (λ n. n + 1) (next-version rel), tt);
-    zero = λ t q le l.
-        ⊎_elim
-        (λ (e : q ≡ rel.p). ap (λ n. (histories_of start (releases rel) rel.r.drafts n).last.words) e ∙ last-here rel ∙ unwritten rel t (subst (λ n. (old rel).core.next ≤ n) e (subst (λ n. n ≤ q) (next-is rel) le))
-        ∙ rel.r.zero t rel.p (subst (λ n. (old rel).core.next ≤ n) e (subst (λ n. n ≤ q) (next-is rel) le)) rel.inside)
-        (λ ne. ap (λ (h : History). h.last.words) (history-else rel q ne) ∙ rel.r.zero t q (subst (λ n. n ≤ q) (next-is rel) le) l)
-        (cases_eq q rel.p);
-    knows = λ q.
-        ⊎_elim
-        (λ (e : q ≡ rel.p). subst (λ n. KnowsPage (seat_of (inner rel) n) (put_at no_held (inner rel).held n) ((core_shown stored start (new rel)).pages n)) (sym e)
+    zero = λ t. at-page (λ q. (core_shown stored start (new rel)).next ≤ q → q < start.pages → (h' q).last.words ≡ replicate 64 0) rel.p
+        (λ le l. let early = subst (λ n. n ≤ rel.p) (next-is rel) le in last-here rel ∙ unwritten rel t early ∙ rel.r.zero t rel.p early rel.inside)
+        (λ q ne le l. ap (λ (y : History). y.last.words) (history-else rel q ne) ∙ rel.r.zero t q (subst (λ n. n ≤ q) (next-is rel) le) l);
+    knows = at-page (λ q. KnowsPage (seat_of (inner rel) q) (put_at no_held rel.v.held q) ((core_shown stored start (new rel)).pages q)) rel.p
         (subst (λ y. KnowsPage y (put_at no_held rel.v.held rel.p) ((core_shown stored start (new rel)).pages rel.p)) (sym (seat-p rel))
         (subst (λ y. KnowsPage (seat_left rel.way (seat_of rel.v rel.p)) (put_at no_held rel.v.held rel.p) y) (sym (page-here rel))
-        (record { calls = λ _. ((mine rel).knows rel.p).calls (calls-p rel); shares = λ _. ap frame_of (((mine rel).knows rel.p).calls (calls-p rel)).0 }))))
-        (λ ne. subst (λ y. KnowsPage y (put_at no_held rel.v.held q) ((core_shown stored start (new rel)).pages q)) (sym (seat-else rel q ne))
-        (subst (λ y. KnowsPage (seat_of rel.v q) (put_at no_held rel.v.held q) y) (sym (page-else rel q ne)) ((mine rel).knows q)))
-        (cases_eq q rel.p);
+        (record { calls = λ _. ((mine rel).knows rel.p).calls (calls-p rel); shares = λ _. ap frame_of (((mine rel).knows rel.p).calls (calls-p rel)).0 })))
+        (λ q ne. subst (λ y. KnowsPage y (put_at no_held rel.v.held q) ((core_shown stored start (new rel)).pages q)) (sym (seat-else rel q ne))
+        (subst (λ y. KnowsPage (seat_of rel.v q) (put_at no_held rel.v.held q) y) (sym (page-else rel q ne)) ((mine rel).knows q)));
     owners = λ q m x at.
         let calls : may_call (seat_of rel.v q) ≡ true = ⊎_elim (λ (e : q ≡ rel.p). ap (λ n. may_call (seat_of rel.v n)) e ∙ calls-p rel) (λ ne. sym (ap may_call (seat-else rel q ne)) ∙ x) (cases_eq q rel.p) in
         (mine rel).owners q m calls at ∙ sym (owners-are rel m.frame);
     contents = λ f e. (mine rel).contents f e ∙ sym (frames-are rel f);
-    drafted = λ q owns.
-        ⊎_elim
-        (λ (e : q ≡ rel.p). absurd (false≢true (sym (ap (λ n. (seat_of (inner rel) n).exclusive) e ∙ ap (λ (y : Seat). y.exclusive) (seat-p rel) ∙ left-exclusive rel.way (seat_of rel.v rel.p)) ∙ owns)))
-        (λ ne. draft-known rel q (sym (ap (λ (y : Seat). y.exclusive) (seat-else rel q ne)) ∙ owns))
-        (cases_eq q rel.p);
+    drafted = at-page (λ q. (seat_of (inner rel) q).exclusive ≡ true → draft_of rel.v q ≡ rel.r.drafts q) rel.p
+        (λ owns. absurd (false≢true (sym (ap (λ (y : Seat). y.exclusive) (seat-p rel) ∙ left-exclusive rel.way (seat_of rel.v rel.p)) ∙ owns)))
+        (λ q ne owns. draft-known rel q (sym (ap (λ (y : Seat). y.exclusive) (seat-else rel q ne)) ∙ owns));
     pending = still-pending;
     owed = still-owed;
     next = λ n e. let k = next-kept rel.p rel.v.next n e in let o = (mine rel).next n k.1 in (still-owns rel n k.0 o.0, (next-is rel) ∙ o.1);
     loaded = ([], refl, tt);
     tying = ([], refl, λ _. tt);
-    members = λ q was gone.
-        ⊎_elim
-        (λ (e : q ≡ rel.p). subst (λ n. ((core_shown stored start (new rel)).pages n).version ≢ ((old rel).core.pages n).version) (sym e)
-        (λ same. absurd (let more = ap (λ (y : Page). y.version) (page-here rel) in omega (arith, more, same))))
-        (λ ne. absurd (true≢false (sym ((members-are rel).stays q ne was) ∙ gone)))
-        (cases_eq q rel.p);
+    members = at-page (λ q. has q rel.v.pending ≡ true → has q (inner rel).pending ≡ false → ((core_shown stored start (new rel)).pages q).version ≢ ((old rel).core.pages q).version) rel.p
+        (λ _ _ same. let more = ap (λ (y : Page). y.version) (page-here rel) in omega (arith, more, same))
+        (λ q ne was gone. absurd (true≢false (sym ((members-are rel).stays q ne was) ∙ gone)));
     owner = owner;
   }
 
@@ -127,23 +140,21 @@ module _ {X B : Type 0} {stored : B → Stored} {keeps : Start → Kept X → Ty
       → start.tells ≡ true → (q : ℕ) → (core_shown stored start (new rel)).next ≤ q → q < start.pages
       → logical (histories_of start (releases rel) rel.r.drafts) (is_pending (slice_set rel.s.views rel.id (left rel))) q ≡ replicate 64 0
   release-zero shows t q le l =
-      let h : ℕ → History = histories_of start (releases rel) rel.r.drafts in
-      let members : ℕ → Bool = is_pending (slice_set rel.s.views rel.id (left rel)) in
       let early : (old rel).core.next ≤ q = subst (λ n. n ≤ q) (next-is rel) le in
       ⊎_elim
       (λ e. let k = any-true (λ (u : View X). has q u.pending) (slice_set rel.s.views rel.id (left rel)) e in
-      logical-draft h members q e
+      logical-draft h' m' q e
       ∙ draft-is start (releases rel) rel.r.drafts q
       ∙ ⊎_elim
       (λ (own_page : (k.0 ≡ rel.id) × (left rel ≡ k.1)). (shows.pending q (subst (λ (u : View X). has q u.pending ≡ true) (sym own_page.1) k.3)).1 t le ∙ shows.zero t q le l)
       (λ (other : (k.0 ≢ rel.id) × (get_elem? rel.s.views k.0 ≡ some k.1)).
       sym (draft-is start rel.r.releases rel.r.drafts q) ∙ draft-unclaimed stored keeps tied start tells rel.s rel.r t k.0 k.1 q other.1 k.3 early ∙ rel.r.zero t q early l)
       (at_set rel.s.views rel.id k.0 (left rel) k.1 k.2))
-      (λ none. logical-last h members q none ∙ shows.zero t q le l)
-      (cases_Bool (members q))
+      (λ none. logical-last h' m' q none ∙ shows.zero t q le l)
+      (cases_Bool (m' q))
 
   pub release-kept : Ruled stored keeps tied start tells (new rel)
-      → (start.tells ≡ true → keeps (began_of start) (kept_of (old rel) rel.r.history rel.s.views) → keeps (began_of start) (kept_of (world_of stored start (releases rel) rel.r.drafts (new rel)) (rel.r.history ++ entries_of rel.v rel.said) (slice_set rel.s.views rel.id (left rel))))
+      → (start.tells ≡ true → keeps (began_of start) before → keeps (began_of start) after)
       → tells ≡ true → IsKeptNow keeps rel.p (Unit {0}) (left rel)
   release-kept ruled owner t =
       let telling : start.tells ≡ true = rel.r.telling ∙ t in
@@ -158,50 +169,36 @@ module _ {X B : Type 0} {stored : B → Stored} {keeps : Start → Kept X → Ty
       (release-zero (release-shows owner) telling)
       (λ _. ap (λ (o : Origin). slice_index (words rel) (index_of o places.Next)) same ∙ sym (next-here stored start (new rel)))
 
-  abbrev before : Kept X
-  before = kept_of (old rel) rel.r.history rel.s.views
-
-  abbrev w : View X
-  w = left rel
-
-  -- the histories, and who is a member still to be released, before and after
-  abbrev h : ℕ → History
-  h = histories_of start rel.r.releases rel.r.drafts
-
-  abbrev h' : ℕ → History
-  h' = histories_of start (releases rel) rel.r.drafts
-
-  abbrev m' : ℕ → Bool
-  m' = is_pending (slice_set rel.s.views rel.id w)
-
-  abbrev after : Kept X
-  after = kept_of (world_of stored start (releases rel) rel.r.drafts (new rel)) (rel.r.history ++ entries_of rel.v rel.said) (slice_set rel.s.views rel.id w)
-
-  group : Members rel.p rel.rest rel.v.pending w.pending
-  group = members-are rel
-
-  draft : (q : ℕ) → (seat_of rel.v q).exclusive ≡ true → draft_of rel.v q ≡ rel.r.drafts q
-  draft q owns = draft-known rel q owns
+  -- it is its event, after which the pass holds the page no more
+  left-event : {did : Did} {released : List Release} {entries : List (Entry X)} {y w : View X} → BringsWith did None released entries rel.v y w
+      → y.out ≡ rel.v.out → y.frames ≡ rel.v.frames → y.loads ≡ rel.v.loads → y.seats ≡ put rel.p (seat_left rel.way (seat_of rel.v rel.p)) rel.v.seats
+      → IsEvent stored start rel.s (table_after rel.s (words rel) rel.id w) (event rel) sights.Done
+  left-event {w = w} b out frames loads seats =
+      is-event (release-legal rel)
+      (left-step stored start rel.way rel.s [] (λ _. []) rel.id rel.v w rel.p (word rel) rel.r.wide.0 rel.inside rel.there
+      (ap (λ (x : View X). x.out) b.view ∙ out) (ap (λ (x : View X). x.frames) b.view ∙ frames) (ap (λ (x : View X). x.loads) b.view ∙ loads) (ap (λ (x : View X). x.seats) b.view ∙ seats)
+      (released-state rel) (released-version rel))
+      (left-sees rel.way (core_shown stored start rel.s) rel.id rel.p)
 
   -- ---- the logical words
 
   -- the released page's are the words that were its draft
   logical-here : logical h' m' rel.p ≡ draft_of rel.v rel.p
   logical-here =
-      logical-last h' m' rel.p (not-member stored keeps tied start tells rel.s rel.r rel.id rel.v rel.there rel.live rel.p w rel.inside rel.owns group.gone)
+      logical-last h' m' rel.p (not-member stored keeps tied start tells rel.s rel.r rel.id rel.v rel.there rel.live rel.p w rel.inside rel.owns (members-are rel).gone)
       ∙ last-here rel
 
   -- so are the drafts of the members that are still to be released
   logical-member : (q : ℕ) → has q rel.rest ≡ true → logical h' m' q ≡ draft_of rel.v q
   logical-member q e =
-      logical-draft h' m' q (any-here (λ (u : View X). has q u.pending) (slice_set rel.s.views rel.id w) rel.id w (set_here rel.s.views rel.id w (at-bound rel.s.views rel.id rel.v rel.there)) (group.comes q e))
+      logical-draft h' m' q (any-here (λ (u : View X). has q u.pending) (slice_set rel.s.views rel.id w) rel.id w (set_here rel.s.views rel.id w (at-bound rel.s.views rel.id rel.v rel.there)) ((members-are rel).comes q e))
       ∙ draft-is start (releases rel) rel.r.drafts q
-      ∙ sym (draft q (member-is rel q e).owns)
+      ∙ sym (draft-known rel q (member-is rel q e).owns)
 
   -- no other page's change
   logical-else : (q : ℕ) → q ≢ rel.p → has q rel.rest ≡ false → logical h' m' q ≡ logical h (is_pending rel.s.views) q
   logical-else q ne none =
-      logical-same h' h m' (is_pending rel.s.views) q (any-same (λ (u : View X). has q u.pending) rel.s.views rel.id rel.v w rel.there (group.others q ne none))
+      logical-same h' h m' (is_pending rel.s.views) q (any-same (λ (u : View X). has q u.pending) rel.s.views rel.id rel.v w rel.there ((members-are rel).others q ne none))
       (λ _. ap (λ (y : History). y.draft) (history-else rel q ne))
       (λ _. ap (λ (y : History). y.last.words) (history-else rel q ne))
 
@@ -231,7 +228,7 @@ module _ {X B : Type 0} {stored : B → Stored} {keeps : Start → Kept X → Ty
       agrees = agrees;
       apart = subst AreApart (sym (changes-pages rel.v (rel.p ∷ rel.rest))) first.apart;
       sized = sized-each (changes_of rel.v (rel.p ∷ rel.rest)) (changes-each rel.v (λ c. length c.new ≡ length c.old) (rel.p ∷ rel.rest) (λ q e.
-          ap length (draft q (member q e).owns ∙ sym (draft-is start rel.r.releases rel.r.drafts q))
+          ap length (draft-known rel q (member q e).owns ∙ sym (draft-is start rel.r.releases rel.r.drafts q))
           ∙ (rel.r.inv.pages q).sizes.draft (locked-here stored start rel.s rel.id q rel.v (rel.r.inv.pages q).locks (page q e) rel.there (member q e).owns)
           ∙ sym (ap length (last-known rel q (member q e).owns) ∙ (rel.r.inv.pages q).sizes.last)));
       few = (let few = first.few in let many = changes-many rel.v rel.rest in omega (arith, few, many));
@@ -272,16 +269,14 @@ module _ {X B : Type 0} {stored : B → Stored} {keeps : Start → Kept X → Ty
         ∙ false_from_ne_true (is_owed rel.s.views q) (λ t. true≢false (sym (owed-mine stored keeps tied start tells rel.s rel.r rel.id rel.v rel.there rel.live q (page q e') (member q e').owns t) ∙ due)))
         same
 
-    module _
-        (law : (start : Start) (kept : Kept X) (due : List ℕ) (changes : List Change) (entries : List (Entry X)) → keeps start kept → Fits kept due changes → IsTurn kept.history entries → may_release start due changes entries → keeps start (released_kept changes entries kept)) where
-      pub first-keeps : 0 < length rel.v.used → start.tells ≡ true → keeps (began_of start) before → keeps (began_of start) after
-      first-keeps number t kept =
-          let same = (rel.r.heard rel.id rel.v rel.there rel.live).same_start in
-          subst (keeps (began_of start)) after-is
-          (⊎_elim
-          (λ k. subst (keeps (began_of start)) (sym (unchanged k.0 k.1)) kept)
-          (λ may. law (began_of start) before rel.v.owed (changes_of rel.v (rel.p ∷ rel.rest)) (entries_of rel.v rel.said) kept fits (is-turn start rel.r.releases rel.r.history rel.v rel.said (rel.r.heard rel.id rel.v rel.there rel.live) number) (subst (λ (o : Origin). may_release (began_of o) rel.v.owed (changes_of rel.v (rel.p ∷ rel.rest)) (entries_of rel.v rel.said)) same may))
-          (first.owner (ap (λ (o : Origin). o.tells) same ∙ t)))
+    pub first-keeps : (law : (start : Start) (kept : Kept X) (due : List ℕ) (changes : List Change) (entries : List (Entry X)) → keeps start kept → Fits kept due changes → IsTurn kept.history entries → may_release start due changes entries → keeps start (released_kept changes entries kept)) → 0 < length rel.v.used → start.tells ≡ true → keeps (began_of start) before → keeps (began_of start) after
+    first-keeps law number t kept =
+        let same = (rel.r.heard rel.id rel.v rel.there rel.live).same_start in
+        subst (keeps (began_of start)) after-is
+        (⊎_elim
+        (λ k. subst (keeps (began_of start)) (sym (unchanged k.0 k.1)) kept)
+        (λ may. law (began_of start) before rel.v.owed (changes_of rel.v (rel.p ∷ rel.rest)) (entries_of rel.v rel.said) kept fits (is-turn start rel.r.releases rel.r.history rel.v rel.said (rel.r.heard rel.id rel.v rel.there rel.live) number) (subst (λ (o : Origin). may_release (began_of o) rel.v.owed (changes_of rel.v (rel.p ∷ rel.rest)) (entries_of rel.v rel.said)) same may))
+        (first.owner (ap (λ (o : Origin). o.tells) same ∙ t)))
 
   -- ---- a later member
 
@@ -289,17 +284,13 @@ module _ {X B : Type 0} {stored : B → Stored} {keeps : Start → Kept X → Ty
   later-keeps later t =
       let member : is_pending rel.s.views rel.p ≡ true = any-here (λ (u : View X). has rel.p u.pending) rel.s.views rel.id rel.v rel.there later.pending in
       let none : (q : ℕ) → has q rel.rest ≡ false = λ q. ap (has q) later.alone in
-      let same-words : (q : ℕ) → logical h (is_pending rel.s.views) q ≡ logical h' m' q = λ q.
-      ⊎_elim
-      (λ (e : q ≡ rel.p). ap (logical h (is_pending rel.s.views)) e ∙ logical-draft h (is_pending rel.s.views) rel.p member ∙ draft-is start rel.r.releases rel.r.drafts rel.p ∙ sym (draft rel.p rel.owns) ∙ sym logical-here ∙ ap (logical h' m') (sym e))
-      (λ ne. sym (logical-else q ne (none q)))
-      (cases_eq q rel.p) in
+      let same-words : (q : ℕ) → logical h (is_pending rel.s.views) q ≡ logical h' m' q = at-page (λ q. logical h (is_pending rel.s.views) q ≡ logical h' m' q) rel.p
+      (logical-draft h (is_pending rel.s.views) rel.p member ∙ draft-is start rel.r.releases rel.r.drafts rel.p ∙ sym (draft-known rel rel.p rel.owns) ∙ sym logical-here)
+      (λ q ne. sym (logical-else q ne (none q))) in
       let due : has rel.p rel.v.owed ≡ false = false_from_ne_true (has rel.p rel.v.owed) (λ e. true≢false (sym later.pending ∙ ((mine rel).owed rel.p e).3)) in
-      let owed-same : (q : ℕ) → has q w.owed ≡ has q rel.v.owed = λ q.
-      ⊎_elim
-      (λ (e : q ≡ rel.p). has-without_all_same (rel.p ∷ rel.rest) rel.v.owed q (ap (λ b. b || has q rel.rest) (eq-eqb q rel.p e)) ∙ sym due ∙ ap (λ n. has n rel.v.owed) (sym e))
-      (λ ne. has-without_all_other (rel.p ∷ rel.rest) rel.v.owed q (ap (λ b. b || has q rel.rest) (ne_eqb q rel.p ne) ∙ none q))
-      (cases_eq q rel.p) in
+      let owed-same : (q : ℕ) → has q w.owed ≡ has q rel.v.owed = at-page (λ q. has q w.owed ≡ has q rel.v.owed) rel.p
+      (has-without_all_same (rel.p ∷ rel.rest) rel.v.owed rel.p (ap (λ b. b || has rel.p rel.rest) (eq-eqb rel.p rel.p refl)) ∙ sym due)
+      (λ q ne. has-without_all_other (rel.p ∷ rel.rest) rel.v.owed q (ap (λ b. b || has q rel.rest) (ne_eqb q rel.p ne) ∙ none q)) in
       subst (keeps (began_of start)) (λ i. record {
         pages = listed-same start.pages (logical h (is_pending rel.s.views)) (logical h' m') (λ q _. same-words q) i;
         next = sym (next-is rel) i;
@@ -355,43 +346,27 @@ module _ {X B : Type 0} (stored : B → Stored) (keeps : Start → Kept X → Ty
       let k = release-steps start tells rel number in
       (left rel, k.0, (record { brings = subst (λ y. Brings (did_store (places.State p) (word_of 1 (version + 1))) (own rel ∷ []) [] v y (left rel)) (downgraded-is v p version g) k.1 }, release-kept rel k.0 (release-owner start tells rel number))))
 
-module _ {X B : Type 0} (stored : B → Stored) (start : Origin) (keeps : Start → Kept X → Type 0) (tied : Start → ℕ → List ℕ → ℕ → List ℕ → Type 0) (may_release : Start → List ℕ → List Change → List (Entry X) → Type 0) (tells : Bool) where
-  -- any of the three, after which the pass holds the page no more
-  left-event : (rel : Releasing stored keeps tied start tells may_release) (w : View X) → w.out ≡ rel.v.out → w.frames ≡ rel.v.frames → w.loads ≡ rel.v.loads → w.seats ≡ put rel.p (seat_left rel.way (seat_of rel.v rel.p)) rel.v.seats
-      → IsEvent stored start rel.s (table_after rel.s (words rel) rel.id w) (event rel) sights.Done
-  left-event rel w out frames loads seats =
-      record {
-        legal = release-legal rel;
-        core = ap (λ (y : World). y.core)
-            (left-step stored start rel.way rel.s rel.r.releases rel.r.drafts rel.id rel.v w rel.p (word rel) rel.r.wide.0 rel.inside rel.there out frames loads seats (released-state rel) (released-version rel));
-        sees = left-sees rel.way (core_shown stored start rel.s) rel.id rel.p;
-      }
-
 module _ {X B : Type 0} (stored : B → Stored) (keeps : Start → Kept X → Type 0) (tied : Start → ℕ → List ℕ → ℕ → List ℕ → Type 0) (tells : Bool) where
   pub release-event : (may_release : Start → List ℕ → List Change → List (Entry X) → Type 0) → ReleaseIsItsEvent stored keeps tied tells may_release
   release-event may_release start s id p version rest said v w pass lp below g told =
-      let view = told.brings.view in
-      left-event stored start keeps tied may_release tells (giving-up s pass.rule id v pass.there pass.live p version rest said lp below g) w (ap (λ (y : View X). y.out) view) (ap (λ (y : View X). y.frames) view) (ap (λ (y : View X). y.loads) view) (ap (λ (y : View X). y.seats) view)
+      left-event (giving-up s pass.rule id v pass.there pass.live p version rest said lp below g) told.brings refl refl refl refl
 
   pub release_evicted-event : (may_release : Start → List ℕ → List Change → List (Entry X) → Type 0) → ReleaseEvictedIsItsEvent stored keeps tied tells
   release_evicted-event may_release start s id p version v w pass lp below g told =
-      let view = told.brings.view in
-      left-event stored start keeps tied may_release tells (evicting s pass.rule id v pass.there pass.live p version lp below g) w (ap (λ (y : View X). y.out) view) (ap (λ (y : View X). y.frames) view) (ap (λ (y : View X). y.loads) view) (ap (λ (y : View X). y.seats) view)
+      left-event {may_release = may_release} (evicting s pass.rule id v pass.there pass.live p version lp below g) told.brings refl refl refl refl
 
   pub downgrade-event : (may_release : Start → List ℕ → List Change → List (Entry X) → Type 0) → DowngradeIsItsEvent stored keeps tied tells may_release
   downgrade-event may_release start s id p version v w pass lp below g told =
-      let view = told.brings.view in
-      left-event stored start keeps tied may_release tells (downgrading s pass.rule id v pass.there pass.live p version lp below g) w (ap (λ (y : View X). y.out) view) (ap (λ (y : View X). y.frames) view) (ap (λ (y : View X). y.loads) view) (ap (λ (y : View X). y.seats) view)
+      left-event (downgrading s pass.rule id v pass.there pass.live p version lp below g) told.brings refl refl refl refl
 
 -- ---- the last version of the page
 
-module _ {X : Type 0} {did : Did} {r : Release} {entries : List _} {v inner w : View X} (b : BringsWith did None (r ∷ []) entries v inner w) (start : inner.start ≡ v.start) where
-  pub released-last : last_of w r.page ≡ record { version = r.version; words = r.words }
-  released-last =
-      ap (λ (x : View X). last_in x.start x.releases r.page) b.view
-      ∙ ap (λ s. last_in s ((v.releases ++ b.between) ++ r ∷ []) r.page) start
-      ∙ last-is v.start ((v.releases ++ b.between) ++ r ∷ []) (λ k. []) r.page
-      ∙ ap (λ (h : History). h.last) (release-here v.start (v.releases ++ b.between) (λ k. []) r)
+pub released-last : {X : Type 0} {did : Did} {r : Release} {entries : List _} {v inner w : View X} → BringsWith did None (r ∷ []) entries v inner w → inner.start ≡ v.start → last_of w r.page ≡ record { version = r.version; words = r.words }
+released-last {X = X} {r = r} {v = v} b start =
+    ap (λ (x : View X). last_in x.start x.releases r.page) b.view
+    ∙ ap (λ s. last_in s ((v.releases ++ b.between) ++ r ∷ []) r.page) start
+    ∙ last-is v.start ((v.releases ++ b.between) ++ r ∷ []) (λ k. []) r.page
+    ∙ ap (λ (h : History). h.last) (release-here v.start (v.releases ++ b.between) (λ k. []) r)
 
 -- ---- resident
 

@@ -4,37 +4,32 @@
 use Rattle.std.proofs.Common.{eq-eqb}
 use Rattle.vm_core.specs.declared.event.Seen.TheVariants as sights
 use Rattle.vm_rule.specs.declared.view.Place.TheVariants as places
-use Rattle.vm_step.proofs.{Evidenced.taken-view, Fit.either-lives, Fit.fit, Quiet.quiet-shows, Quiet.ShowsQuiet, Standing.allows, Written.word-left}
-use Rattle.vm_step.proofs.Exchange.{draft-stays, exchange-event, IsExchange, locks-exchange, names, page_held, seat-shows, sharer-shows, tried}
+use Rattle.vm_step.proofs.{Evidenced.taken-view, Fit.either-lives, Fit.fit, Quiet.quiet-shows, Standing.allows, Written.word-left}
+use Rattle.vm_step.proofs.Exchange.{draft-stays, exchange-event, locks-exchange, names, page_held, seat-shows, sharer-shows, tried}
 use Rattle.vm_step.proofs.Exchange.{knows-owner, owner_at, tried-validates}
 use Rattle.vm_step.proofs.Here.{frame-inside, version-told, world}
-use Rattle.vm_step.proofs.Prelude.{[], after_step, AllowsStep, ap, arith, became, block-here, Bool, Brings, Did, did_change, did_exchange, either}
-use Rattle.vm_step.proofs.Prelude.{eqb, EVICTED, false, frame_of, get_elem?, has_lock, Held, if◌then◌else◌, inl, inr, IsLocking, IsPlacedAt, IsSome}
-use Rattle.vm_step.proofs.Prelude.{Kept, KnowsAsBefore, KnowsPage, last_of, LeavesRest, length, less-state, less-version, List, loads_at, LOCKED}
-use Rattle.vm_step.proofs.Prelude.{LockS, LockSharedIsItsEvent, ltb-true, Mapping, may_call, MayShare, MayUnlock, MayUnshare, nat_lt, no_held}
-use Rattle.vm_step.proofs.Prelude.{no_seat, None, one_share_more, Option, or_cases, or_left, or_right, Origin, Page, page_at, Put, put, put_at, refl}
-use Rattle.vm_step.proofs.Prelude.{Ruled, Seat, seat-here, seat_of, Shape, shared, shared-here, shared_view, ShareTold, slice_index, slice_set, Some}
-use Rattle.vm_step.proofs.Prelude.{some, some-same, Stands, Start, state-here, state_of, steps, Stored, subst, sym, Table, told_of, true, UnlockS}
-use Rattle.vm_step.proofs.Prelude.{unlocks-step, UnlockSharedIsItsEvent, unshared, unshared_view, UnshareTold, upd-keeps, upd-other, upd-same}
-use Rattle.vm_step.proofs.Prelude.{version-here, version_of, View, word-here, word_of, World, ℕ, ⊎_elim, ◌%◌, ◌+◌, ◌-◌, ◌<◌, ◌^◌, ◌||◌, ◌∙◌, ◌∷◌, ◌≡◌}
-use Rattle.vm_step.proofs.Prelude.{KnowsOwner, ◌≢◌, ◌≤◌, ◌⊎◌}
+use Rattle.vm_step.proofs.Prelude.{[], after_step, AllowsStep, ap, arith, became, block-here, Bool, Brings, Did, did_change, did_exchange, either, eqb, EVICTED}
+use Rattle.vm_step.proofs.Prelude.{false, frame_of, get_elem?, has_lock, Held, if◌then◌else◌, inl, inr, IsLocking, IsPlacedAt, IsSome, Kept, KnowsAsBefore}
+use Rattle.vm_step.proofs.Prelude.{KnowsOwner, KnowsPage, last_of, LeavesRest, length, less-state, less-version, List, loads_at, LOCKED, LockS}
+use Rattle.vm_step.proofs.Prelude.{LockSharedIsItsEvent, ltb-true, Mapping, may_call, MayShare, MayUnlock, MayUnshare, nat_lt, nat_tests, no_held, no_seat}
+use Rattle.vm_step.proofs.Prelude.{None, one_share_more, Option, or_assoc, or_cases, or_right, Origin, Page, page_at, Put, put, put_at, refl, Ruled, Seat}
+use Rattle.vm_step.proofs.Prelude.{seat-here, seat_of, Shape, shared, shared-here, shared_view, ShareTold, slice_index, slice_set, Some, some, some-same}
+use Rattle.vm_step.proofs.Prelude.{Stands, Start, state-here, state_of, steps, Stored, subst, sym, Table, told_of, true, UnlockS, unlocks-step}
+use Rattle.vm_step.proofs.Prelude.{UnlockSharedIsItsEvent, unshared, unshared_view, UnshareTold, upd-keeps, upd-other, upd-same, version-here, version_of, View}
+use Rattle.vm_step.proofs.Prelude.{word-here, word_of, ℕ, ⊎_elim, ◌%◌, ◌+◌, ◌-◌, ◌<◌, ◌^◌, ◌||◌, ◌∙◌, ◌∷◌, ◌≡◌, ◌≢◌, ◌≤◌, ◌⊎◌}
+use Rattle.vm_step.proofs.steps.Event.{is-event}
 use Rattle.vm_step.proofs.steps.Leaving.{apart, knows-still, last-still, LeavesOthers, LeavesOwn, others-tied, own-from, rest-of}
 
 -- a word that may be shared is of a page that is neither locked nor evicted
 pub shareable : (expects : ℕ) → MayShare expects → (state_of expects ≢ LOCKED) × (state_of expects ≢ EVICTED)
-shareable expects may =
-    ⊎_elim
-    (λ (a : state_of expects ≤ 251). ((λ e. omega (arith, a, e)), (λ e. omega (arith, a, e))))
-    (λ (a : state_of expects ≡ 254). ((λ e. omega (arith, a, e)), (λ e. omega (arith, a, e))))
-    may
+shareable expects may = ((λ e. grind (arith, may, e)), (λ e. grind (arith, may, e)))
 
 -- who has a page locked may call its device, or has a share
 lock-ways : (k : Seat) → has_lock k ≡ true → (may_call k ≡ true) ⊎ (1 ≤ k.shares)
 lock-ways k e =
-    ⊎_elim
-    (λ x. inl (or_left k.exclusive k.writing x))
-    (λ y. ⊎_elim (λ w. inl (or_right k.exclusive k.writing w)) (λ n. inr (let lt = ltb-true 0 k.shares n in omega (arith, lt))) (or_cases k.writing (nat_lt 0 k.shares) y))
-    (or_cases k.exclusive (k.writing || nat_lt 0 k.shares) e)
+    ⊎_elim (λ x. inl x)
+    (λ n. inr (let lt = ltb-true 0 k.shares n in omega (arith, lt)))
+    (or_cases (k.exclusive || k.writing) (nat_lt 0 k.shares) (or_assoc k.exclusive k.writing (nat_lt 0 k.shares) ∙ e))
 
 -- what the pass knows of the page, whether or not it had it locked before
 put-else : (known : Bool) (p q : ℕ) (h : Held) (hs : List (Put Held)) → q ≢ p → put_at no_held (if known then hs else put p h hs) q ≡ put_at no_held hs q
@@ -67,88 +62,12 @@ pub framed-same : (o t : Option Mapping) (m : Mapping) → frame_of o ≡ frame_
 framed-same o None m e x = cc
 framed-same o (Some n) m e x = (n, refl, some-same m.frame n.frame (sym (ap frame_of x) ∙ e))
 
-module _ {X B : Type 0} (stored : B → Stored) (keeps : Start → Kept X → Type 0) (tied : Start → ℕ → List ℕ → ℕ → List ℕ → Type 0) (start : Origin) (tells : Bool) (s : Table (Option B) (View X)) (r : Ruled stored keeps tied start tells s)
-    (id : ℕ) (v : View X) (there : get_elem? s.views id ≡ some v) (live : v.live ≡ true) (p expects : ℕ) (l : p < start.pages) (may : MayShare expects) where
-  abbrev pub shared_inner : View X
-  shared_inner = shared_view p (page_held stored keeps tied start tells s r p) v
-
-  pub unlocked-page : slice_index s.words p ≡ expects → ((world stored keeps tied start tells s r).core.pages p).state ≢ LOCKED
-  unlocked-page hit e = (shareable expects may).0 (sym (state-here stored start s p l ∙ ap state_of hit) ∙ e)
-
-  pub knows-here : KnowsPage (record (seat_of v p) { shares = (seat_of v p).shares + 1; reading = None }) (put_at no_held shared_inner.held p) (shared ((world stored keeps tied start tells s r).core.pages p) id)
-  knows-here =
-      knows-shared (has_lock (seat_of v p)) p id (seat_of v p) (page_held stored keeps tied start tells s r p) v.held ((world stored keeps tied start tells s r).core.pages p) refl ((r.known id v there live).knows p)
-      (refl, refl, sym (block-here stored start s p l).0, sym (block-here stored start s p l).1)
-
-  abbrev pub share-is : IsExchange stored start s r.releases r.drafts id p expects (word_of (one_share_more (state_of expects)) (version_of expects)) r.drafts shared_inner (LockS id p expects) (shared ((world stored keeps tied start tells s r).core.pages p) id)
-  share-is = locks-exchange stored start s r.releases r.drafts id v p expects r.wide.0 l there may (page_held stored keeps tied start tells s r p)
-
-  pub share-shows : slice_index s.words p ≡ expects
-      → ShowsQuiet stored keeps tied start tells s r id v (slice_set s.words p (word_of (one_share_more (state_of expects)) (version_of expects))) r.drafts (did_exchange (places.State p) expects (slice_index s.words p) (word_of (one_share_more (state_of expects)) (version_of expects))) shared_inner (LockS id p expects)
-  share-shows hit =
-      let seat : Seat = record (seat_of v p) { shares = (seat_of v p).shares + 1; reading = None } in
-      sharer-shows stored keeps tied start tells s r id v there live p l expects (word_of (one_share_more (state_of expects)) (version_of expects)) hit (LockS id p expects) (shared ((world stored keeps tied start tells s r).core.pages p) id) seat shared_inner.held share-is
-      (λ m. m) refl
-      (λ q ne. put-else (has_lock (seat_of v p)) p q (page_held stored keeps tied start tells s r p) v.held ne)
-      knows-here
-      (owner-shared (has_lock (seat_of v p)) p (seat_of v p) (page_held stored keeps tied start tells s r p) v.held (world stored keeps tied start tells s r).core.owners refl ((r.known id v there live).owners p))
-
-module _ {X B : Type 0} (stored : B → Stored) (keeps : Start → Kept X → Type 0) (tied : Start → ℕ → List ℕ → ℕ → List ℕ → Type 0) (tells : Bool)
-    (law : (start : Start) (kept : Kept X) (q p : ℕ) → keeps start kept → q < length kept.pages → p < length kept.pages → tied start q (page_at kept.pages q) p (page_at kept.pages p)) where
-  -- taken or lost, it keeps the rule of every table and tells what it is to tell
-  pub lock_shared-allows : (shape : Shape) (slots id : ℕ) (v : View X) (i : ℕ) (p expects x : ℕ) → v.live ≡ true → 0 < length v.used → p < shape.pages → MayShare expects → x ≡ (word_of (one_share_more (state_of expects)) (version_of expects)) → IsPlacedAt shape (places.State p) i
-      → AllowsStep (Stands stored keeps tied shape tells) slots id v i (λ n. either (eqb n expects) x n) (told_of shape tells (ShareTold tied p expects))
-  lock_shared-allows shape slots id v i p expects x live number l' may spells is =
-      allows stored keeps tied shape tells slots id v i (places.State p) (λ n. either (eqb n expects) x n) (λ n. either (eqb n expects) (word_of (one_share_more (state_of expects)) (version_of expects)) n) (ShareTold tied p expects) live is (λ n. ap (λ z. either (eqb n expects) z n) spells) (λ n w t. fit t.brings (either-lives _ _ v live live))
-      (λ start has s r there _.
-      let l : p < start.pages = subst (λ n. p < n) (sym has.pages) l' in
-      let page : Page = (world stored keeps tied start tells s r).core.pages p in
-      let inner : View X = shared_inner stored keeps tied start tells s r id v there live p expects l may in
-      let known : Held = put_at no_held inner.held p in
-      let frame : frame_of known.mapping ≡ frame_of page.trans = (knows-here stored keeps tied start tells s r id v there live p expects l may).shares (omega arith) in
-      let k = tried stored keeps tied start tells s r id v there live number p expects (word_of (one_share_more (state_of expects)) (version_of expects)) l r.drafts inner (LockS id p expects) _ refl
-      (share-is stored keeps tied start tells s r id v there live p expects l may)
-      (share-shows stored keeps tied start tells s r id v there live p expects l may) in
-      let held : slice_index s.words p ≡ expects → put_at no_held k.0.held p ≡ known = (λ hit. ap (λ (y : View X). put_at no_held y.held p) k.1.brings.view ∙ ap {B = Held} (λ b. put_at no_held (if b then inner else v).held p) (eq-eqb (slice_index s.words p) expects hit)) in (
-        k.0,
-        k.1.rule,
-        record {
-          held = page_held stored keeps tied start tells s r p;
-          brings = k.1.brings;
-          version = k.1.version;
-          since = k.1.since;
-          older = k.1.older;
-          size = k.1.size;
-          resident = λ hit. framed-some _ page.trans (ap (λ (h : Held). frame_of h.mapping) (held hit) ∙ frame) ((r.inv.pages p).stands.resident (unlocked-page stored keeps tied start tells s r id v there live p expects l may hit) (λ e. (shareable expects may).1 (sym (state-here stored start s p l ∙ ap state_of hit) ∙ e)));
-          inside = λ hit m e.
-              let n : (n : Mapping) × (page.trans ≡ Some n) × (m.frame ≡ n.frame) = framed-same _ page.trans m (ap (λ (h : Held). frame_of h.mapping) (held hit) ∙ frame) e in
-              subst (λ (o : Origin). m.frame < o.frames) (sym (r.heard id v there live).same_start)
-              (subst (λ f. f < start.frames) (sym n.2) (frame-inside stored keeps tied start tells s r p n.0 n.1));
-          validates = λ t hit. tried-validates stored keeps tied start tells s r id v there live number p expects (word_of (one_share_more (state_of expects)) (version_of expects)) l law _ k.0 k.1 (unlocked-page stored keeps tied start tells s r id v there live p expects l may hit) t hit;
-        },
-      ))
-
 -- who may call the device with a share less could call it before
 unshared-calls : (k : Seat) → may_call (unshared k) ≡ true → may_call k ≡ true
-unshared-calls k m = less k.exclusive (eqb k.shares 1) k.writing m
-  where
-    less : (x one w : Bool) → (x || (if one then false else w)) ≡ true → (x || w) ≡ true
-    less true one w e = refl
-    less false true w e = cc
-    less false false w e = e
+unshared-calls k m = grind (arith, nat_tests, m)
 
 module _ {X B : Type 0} (stored : B → Stored) (keeps : Start → Kept X → Type 0) (tied : Start → ℕ → List ℕ → ℕ → List ℕ → Type 0) (start : Origin) (tells : Bool) (s : Table (Option B) (View X)) (r : Ruled stored keeps tied start tells s)
     (id : ℕ) (v : View X) (there : get_elem? s.views id ≡ some v) (live : v.live ≡ true) (p : ℕ) (l : p < start.pages) (may : MayUnshare v p) where
-  abbrev pub less_word : ℕ
-  less_word = slice_index s.words p - 2 ^ 56
-
-  abbrev pub unshared_did : Did
-  unshared_did = did_change (places.State p) (slice_index s.words p) less_word
-
-  -- the state word counts the share
-  pub some-shares : 1 ≤ state_of (slice_index s.words p)
-  some-shares = subst (λ n. 1 ≤ n) (state-here stored start s p l) (shared-here stored start s id p v (r.inv.pages p).locks l there may.has).0
-
   pub may-unlock : MayUnlock ((world stored keeps tied start tells s r).core.pages p) id
   may-unlock =
       let here = seat-here stored start s id p v l there in
@@ -160,31 +79,56 @@ module _ {X B : Type 0} (stored : B → Stored) (keeps : Start → Kept X → Ty
             sym known.1 ∙ may.told writes (sym (ap (λ (k : Seat). k.shares) here) ∙ one) ∙ known.3;
       }
 
-  unshare-shows : ShowsQuiet stored keeps tied start tells s r id v (slice_set s.words p less_word) r.drafts unshared_did (unshared_view p v) (UnlockS id p)
-  unshare-shows =
-      let known = (r.known id v there live).knows p in
-      seat-shows stored keeps tied start tells s r id v there live p l unshared_did less_word r.drafts (UnlockS id p) _ (unshared (seat_of v p)) v.loads v.held v.drafts
-      (record {
-        word = word-left start s.words unshared_did less_word r.wide.0 r.spelled l refl refl refl;
-        legal = (names stored keeps tied start tells s r id v there p l, may-unlock);
-        world =
-            unlocks-step stored start s r.releases r.drafts id v _ p less_word r.wide.0 l there refl refl refl refl
-            (less-state (slice_index s.words p) some-shares ∙ ap (λ n. n - 1) (sym (state-here stored start s p l)))
-            (less-version (slice_index s.words p) some-shares ∙ sym (version-here stored start s p l));
-        core = refl;
-      })
-      (λ o x e m. absurd (may.home o x e)) (λ x. x) (λ q ne. refl)
-      (record { calls = λ m. known.calls (unshared-calls (seat_of v p) m); shares = λ some'. known.shares (omega (arith, some')) })
-      (λ m calls. (r.known id v there live).owners p m (unshared-calls (seat_of v p) calls))
-      (λ q t. refl)
-      (λ q x. draft-stays stored keeps tied start tells s r id v there live p l q (sym (upd-keeps (λ (k : Seat). k.exclusive) (λ n. seat_of v n) p (unshared (seat_of v p)) refl q) ∙ x))
-
 -- a share less, as the machine counts
 less-wraps : (n : ℕ) → n < 18446744073709551616 → 1 ≤ state_of n → (n + (2 ^ 64 - 2 ^ 56)) % 2 ^ 64 ≡ n - 2 ^ 56
 unfolding state_of
 less-wraps n below some' = omega (arith, below, some')
 
 module _ {X B : Type 0} (stored : B → Stored) (keeps : Start → Kept X → Type 0) (tied : Start → ℕ → List ℕ → ℕ → List ℕ → Type 0) (tells : Bool) where
+  -- taken or lost, it keeps the rule of every table and tells what it is to tell
+  pub lock_shared-allows : (law : (start : Start) (kept : Kept X) (q p : ℕ) → keeps start kept → q < length kept.pages → p < length kept.pages → tied start q (page_at kept.pages q) p (page_at kept.pages p)) (shape : Shape) (slots id : ℕ) (v : View X) (i : ℕ) (p expects x : ℕ) → v.live ≡ true → 0 < length v.used → p < shape.pages → MayShare expects → x ≡ (word_of (one_share_more (state_of expects)) (version_of expects)) → IsPlacedAt shape (places.State p) i
+      → AllowsStep (Stands stored keeps tied shape tells) slots id v i (λ n. either (eqb n expects) x n) (told_of shape tells (ShareTold tied p expects))
+  lock_shared-allows law shape slots id v i p expects x live number l' may spells is =
+      allows stored keeps tied shape tells slots id v i (places.State p) (λ n. either (eqb n expects) x n) (λ n. either (eqb n expects) (word_of (one_share_more (state_of expects)) (version_of expects)) n) (ShareTold tied p expects) live is (λ n. ap (λ z. either (eqb n expects) z n) spells) (λ n w t. fit t.brings (either-lives _ _ v live live))
+      (λ start has s r there _.
+      let l : p < start.pages = subst (λ n. p < n) (sym has.pages) l' in
+      let page : Page = (world stored keeps tied start tells s r).core.pages p in
+      let owners : ℕ → ℕ = (world stored keeps tied start tells s r).core.owners in
+      let held : Held = page_held stored keeps tied start tells s r p in
+      let inner : View X = shared_view p held v in
+      let known : Held = put_at no_held inner.held p in
+      let locks : Bool = has_lock (seat_of v p) in
+      let seat : Seat = record (seat_of v p) { shares = (seat_of v p).shares + 1; reading = None } in
+      let unlocked : slice_index s.words p ≡ expects → page.state ≢ LOCKED = (λ hit e. (shareable expects may).0 (sym (state-here stored start s p l ∙ ap state_of hit) ∙ e)) in
+      let knows : KnowsPage seat known (shared page id) =
+      knows-shared locks p id (seat_of v p) held v.held page refl ((r.known id v there live).knows p) (refl, refl, sym (block-here stored start s p l).0, sym (block-here stored start s p l).1) in
+      let frame : frame_of known.mapping ≡ frame_of page.trans = knows.shares (omega arith) in
+      let taken = locks-exchange stored start s r.releases r.drafts id v p expects r.wide.0 l there may held in
+      let k = tried stored keeps tied start tells s r id v there live number p expects (word_of (one_share_more (state_of expects)) (version_of expects)) l r.drafts inner (LockS id p expects) _ refl taken
+      (λ hit. sharer-shows stored keeps tied start tells s r id v there live p l expects (word_of (one_share_more (state_of expects)) (version_of expects)) hit (LockS id p expects) (shared page id) seat inner.held taken
+      (λ m. m) refl
+      (λ q ne. put-else locks p q held v.held ne)
+      knows
+      (owner-shared locks p (seat_of v p) held v.held owners refl ((r.known id v there live).owners p))) in
+      let mine : slice_index s.words p ≡ expects → put_at no_held k.0.held p ≡ known = (λ hit. ap (λ (y : View X). put_at no_held y.held p) k.1.brings.view ∙ ap {B = Held} (λ b. put_at no_held (if b then inner else v).held p) (eq-eqb (slice_index s.words p) expects hit)) in (
+        k.0,
+        k.1.rule,
+        record {
+          held = held;
+          brings = k.1.brings;
+          version = k.1.version;
+          since = k.1.since;
+          older = k.1.older;
+          size = k.1.size;
+          resident = λ hit. framed-some _ page.trans (ap (λ (h : Held). frame_of h.mapping) (mine hit) ∙ frame) ((r.inv.pages p).stands.resident (unlocked hit) (λ e. (shareable expects may).1 (sym (state-here stored start s p l ∙ ap state_of hit) ∙ e)));
+          inside = λ hit m e.
+              let n : (n : Mapping) × (page.trans ≡ Some n) × (m.frame ≡ n.frame) = framed-same _ page.trans m (ap (λ (h : Held). frame_of h.mapping) (mine hit) ∙ frame) e in
+              subst (λ (o : Origin). m.frame < o.frames) (sym (r.heard id v there live).same_start)
+              (subst (λ f. f < start.frames) (sym n.2) (frame-inside stored keeps tied start tells s r p n.0 n.1));
+          validates = λ t hit. tried-validates stored keeps tied start tells s r id v there live number p expects (word_of (one_share_more (state_of expects)) (version_of expects)) l law _ k.0 k.1 (unlocked hit) t hit;
+        },
+      ))
+
   -- it keeps the rule of every table and tells what it is to tell
   pub unlock_shared-allows : (shape : Shape) (slots id : ℕ) (v : View X) (i : ℕ) (p : ℕ) → v.live ≡ true → 0 < length v.used → p < shape.pages → MayUnshare v p → IsPlacedAt shape (places.State p) i
       → AllowsStep (Stands stored keeps tied shape tells) slots id v i (λ n. (n + (2 ^ 64 - 2 ^ 56)) % 2 ^ 64) (told_of shape tells (UnshareTold p))
@@ -192,14 +136,33 @@ module _ {X B : Type 0} (stored : B → Stored) (keeps : Start → Kept X → Ty
       allows stored keeps tied shape tells slots id v i (places.State p) (λ n. (n + (2 ^ 64 - 2 ^ 56)) % 2 ^ 64) (λ n. (n + (2 ^ 64 - 2 ^ 56)) % 2 ^ 64) (UnshareTold p) live is (λ n. refl) (λ n w t. fit t.brings live)
       (λ start has s r there below.
       let l : p < start.pages = subst (λ n. p < n) (sym has.pages) l' in
-      let words : List ℕ = slice_set s.words p (less_word stored keeps tied start tells s r id v there live p l may) in
-      let did : Did = unshared_did stored keeps tied start tells s r id v there live p l may in
-      let shared = some-shares stored keeps tied start tells s r id v there live p l may in
+      let found : ℕ = slice_index s.words p in
+      let less : ℕ = found - 2 ^ 56 in
+      let words : List ℕ = slice_set s.words p less in
+      let did : Did = did_change (places.State p) found less in
+      let known = r.known id v there live in
+      -- the state word counts the share
+      let shared : 1 ≤ state_of found = subst (λ n. 1 ≤ n) (state-here stored start s p l) (shared-here stored start s id p v (r.inv.pages p).locks l there may.has).0 in
       let k = steps stored keeps tied start tells s r id v words r.drafts [] [] did (unshared_view p v) (UnlockS id p) there live number refl refl
-      (quiet-shows stored keeps tied start tells s r id v words r.drafts did (unshared_view p v) (UnlockS id p) there live (unshare-shows stored keeps tied start tells s r id v there live p l may)) in
+      (quiet-shows stored keeps tied start tells s r id v words r.drafts did (unshared_view p v) (UnlockS id p) there live
+      (seat-shows stored keeps tied start tells s r id v there live p l did less r.drafts (UnlockS id p) _ (unshared (seat_of v p)) v.loads v.held v.drafts
+      (record {
+        word = word-left start s.words did less r.wide.0 r.spelled l refl refl refl;
+        legal = (names stored keeps tied start tells s r id v there p l, may-unlock stored keeps tied start tells s r id v there live p l may);
+        world =
+            unlocks-step stored start s r.releases r.drafts id v _ p less r.wide.0 l there refl refl refl refl
+            (less-state found shared ∙ ap (λ n. n - 1) (sym (state-here stored start s p l)))
+            (less-version found shared ∙ sym (version-here stored start s p l));
+        core = refl;
+      })
+      (λ o x e m. absurd (may.home o x e)) (λ x. x) (λ q ne. refl)
+      (record { calls = λ m. (known.knows p).calls (unshared-calls (seat_of v p) m); shares = λ some'. (known.knows p).shares (omega (arith, some')) })
+      (λ m calls. known.owners p m (unshared-calls (seat_of v p) calls))
+      (λ q t. refl)
+      (λ q x. draft-stays stored keeps tied start tells s r id v there live p l q (sym (upd-keeps (λ (k : Seat). k.exclusive) (λ n. seat_of v n) p (unshared (seat_of v p)) refl q) ∙ x)))) in
       let w : View X = after_step stored keeps tied start tells s r words [] [] did (unshared_view p v) in (
         w,
-        subst (λ x. Ruled stored keeps tied start tells (became stored keeps tied start tells s (slice_set s.words p x) id w)) (sym (less-wraps (slice_index s.words p) below shared)) k.0,
+        subst (λ x. Ruled stored keeps tied start tells (became stored keeps tied start tells s (slice_set s.words p x) id w)) (sym (less-wraps found below shared)) k.0,
         record { brings = k.1; version = version-told stored keeps tied start tells s r id v there live p l; shared = shared },
       ))
 
@@ -211,18 +174,15 @@ module _ {X B : Type 0} (stored : B → Stored) (keeps : Start → Kept X → Ty
   unlock_shared-event start s id p found v w pass at may told =
       let r = pass.rule in
       let view = told.brings.view in
-      record {
-        legal = (names stored keeps tied start tells s r id v pass.there p at.0, may-unlock stored keeps tied start tells s r id v pass.there pass.live p at.0 may);
-        core = ap (λ (k : World). k.core)
-            (unlocks-step stored start s [] (λ _. []) id v w p (found - 2 ^ 56) r.wide.0 at.0 pass.there
-            (ap (λ (k : View X). k.out) view)
-            (ap (λ (k : View X). k.frames) view)
-            (ap (λ (k : View X). k.loads) view)
-            (ap (λ (k : View X). k.seats) view)
-            (less-state found told.shared ∙ ap (λ n. state_of n - 1) at.1 ∙ ap (λ n. n - 1) (sym (state-here stored start s p at.0)))
-            (less-version found told.shared ∙ ap version_of at.1 ∙ sym (version-here stored start s p at.0)));
-        sees = ap sights.Word (word-here stored start s p at.0 ∙ sym at.1);
-      }
+      is-event (names stored keeps tied start tells s r id v pass.there p at.0, may-unlock stored keeps tied start tells s r id v pass.there pass.live p at.0 may)
+      (unlocks-step stored start s [] (λ _. []) id v w p (found - 2 ^ 56) r.wide.0 at.0 pass.there
+      (ap (λ (k : View X). k.out) view)
+      (ap (λ (k : View X). k.frames) view)
+      (ap (λ (k : View X). k.loads) view)
+      (ap (λ (k : View X). k.seats) view)
+      (less-state found told.shared ∙ ap (λ n. state_of n - 1) at.1 ∙ ap (λ n. n - 1) (sym (state-here stored start s p at.0)))
+      (less-version found told.shared ∙ ap version_of at.1 ∙ sym (version-here stored start s p at.0)))
+      (ap sights.Word (word-here stored start s p at.0 ∙ sym at.1))
 
 -- ---- taken
 

@@ -5,75 +5,20 @@ use Rattle.vm_core.specs.declared.event.Seen.TheVariants as sights
 use Rattle.vm_rule.specs.declared.view.Place.TheVariants as places
 use Rattle.vm_step.proofs.{Asides.alone-silent, Asides.OnlyReads, Fit.fit, Here.frame-inside, Quiet.quiet-shows, Standing.allows-load}
 use Rattle.vm_step.proofs.{steps.Content.frame-known, Written.word-loaded}
-use Rattle.vm_step.proofs.Prelude.{[], after_step, AllowsStep, ap, at-bound, Bool, Brings, core_shown, Did, did_load, draft-is, Each, each-upd2}
-use Rattle.vm_step.proofs.Prelude.{frame_of, frame_read, framed, get_elem?, HoldsPage, is_pending, IsLocking, IsPlacedAt, Kept, KnowsAsBefore}
-use Rattle.vm_step.proofs.Prelude.{KnowsPage, KnowsPages, length, List, loads_at, mapping_of, may_call, no_held, no_seat, None, Open, Option, Origin}
-use Rattle.vm_step.proofs.Prelude.{Page, part-found, put_at, refl, Ruled, Seat, seat-here, seat_of, Shape, Shows, slice_index, Some, some, Stands}
-use Rattle.vm_step.proofs.Prelude.{stands_dirty, Start, State, steps, Stored, subst, sym, Table, TLoad, tload-step, tloaded_view, TloadIsItsEvent}
-use Rattle.vm_step.proofs.Prelude.{told_of, trans_word, translation-here, translation_of, TranslationHolds, TranslationTold, true, upd, upd-keeps}
-use Rattle.vm_step.proofs.Prelude.{upd-other, upd-same, View, Works, World, world_of, ℕ, ◌+◌, ◌<◌, ◌∙◌, ◌∷◌, ◌≡◌, ◌≤◌}
-use Rattle.vm_step.proofs.steps.Leaving.{apart, knows-still, LeavesOthers, LeavesOwn, only-of, others-tied, own-from, rest-of}
+use Rattle.vm_step.proofs.Prelude.{[], AllowsStep, ap, at-bound, Bool, core_shown, Did, did_load, draft-is, draft_of, Each, each-upd2, frame_of, frame_read}
+use Rattle.vm_step.proofs.Prelude.{framed, HoldsPage, IsLocking, IsPlacedAt, Kept, KnowsAsBefore, KnowsPage, length, List, loads_at, mapping_of, may_call}
+use Rattle.vm_step.proofs.Prelude.{no_held, no_seat, None, Open, Option, Origin, Page, part-found, put_at, refl, Seat, seat-here, seat_of, Shape, slice_index}
+use Rattle.vm_step.proofs.Prelude.{Some, Stands, stands_dirty, Start, steps, Stored, subst, sym, TLoad, tload-step, tloaded_view, TloadIsItsEvent, told_of}
+use Rattle.vm_step.proofs.Prelude.{trans_word, translation-here, translation_of, TranslationHolds, TranslationTold, true, upd, upd-keeps, upd-other, upd-same}
+use Rattle.vm_step.proofs.Prelude.{View, Works, ℕ, ◌+◌, ◌<◌, ◌∙◌, ◌∷◌, ◌≡◌, ◌≤◌}
+use Rattle.vm_step.proofs.steps.Event.{is-event}
+use Rattle.vm_step.proofs.steps.Leaving.{apart, knows-still, LeavesOthers, LeavesOwn, only-of, others-tied, own-from, works-of}
 
 -- the translation that an open read got holds: the word is the page's now
 translation-now : (pages : ℕ → Page) (p found : ℕ) (o : Option Open) → ((x : Open) → o ≡ Some x → x.version ≤ (pages p).version) → mapping_of found ≡ (pages p).trans
     → Each (TranslationHolds pages) (translation_of p found o)
 translation-now pages p found None old same = tt
 translation-now pages p found (Some x) old same = ((old x refl, λ _ _ _. ap frame_of same, λ _ _ _ d. ap stands_dirty same ∙ d), tt)
-
-module _ {X B : Type 0} (stored : B → Stored) (keeps : Start → Kept X → Type 0) (tied : Start → ℕ → List ℕ → ℕ → List ℕ → Type 0) (start : Origin) (tells : Bool) (s : Table (Option B) (View X)) (r : Ruled stored keeps tied start tells s) (id : ℕ) (v : View X) (p : ℕ) where
-  -- the word that stands there
-  abbrev pub tload-found : ℕ
-  tload-found = slice_index s.words (start.pages + p)
-
-  abbrev pub tload-did : Did
-  tload-did = did_load (places.Translation p) tload-found
-
-  abbrev pub tload-inner : View X
-  tload-inner = tloaded_view p tload-found v
-
-  abbrev pub tload-after : View X
-  tload-after = after_step stored keeps tied start tells s r s.words [] [] tload-did tload-inner
-
-  module _ (there : get_elem? s.views id ≡ some v) (live : v.live ≡ true) (l : p < start.pages) where
-    pub tload-shows : Shows stored keeps tied start tells s r id v s.words r.drafts [] [] tload-did tload-inner (TLoad id p)
-    tload-shows =
-        let c : State = core_shown stored start s in
-        let k : KnowsPages tied start (world_of stored start r.releases r.drafts s) (is_pending s.views) v = r.known id v there live in
-        let seat : Seat = record (seat_of v p) { reading = framed (seat_of v p).reading (mapping_of tload-found) } in
-        let page : Page = frame_read (c.pages p) id in
-        let owns : (q : ℕ) → (seat_of tload-inner q).exclusive ≡ (seat_of v q).exclusive = upd-keeps (λ (y : Seat). y.exclusive) (seat_of v) p seat refl in
-        quiet-shows stored keeps tied start tells s r id v s.words r.drafts tload-did tload-inner (TLoad id p) there live
-        (record {
-          word = word-loaded start s.words (places.Translation p) r.wide.0 r.spelled l;
-          legal = (record { actor = at-bound s.views id v there; page = l }, tt);
-          world = tload-step stored start s r.releases r.drafts id v tload-after p (mapping_of tload-found) l there refl refl refl (translation-here stored start s p l) refl;
-          leaves = refl;
-          calls = λ o x. upd-keeps may_call (seat_of v) p seat refl o.page ∙ (r.blocks.away id v o there x).1;
-          holds = λ q x. owns q ∙ x;
-          members = λ q _. refl;
-          next = refl;
-          knows = each-upd2 (λ q (y : Seat) (z : Page). KnowsPage y (put_at no_held v.held q) z) (seat_of v) c.pages p seat page (record { calls = (k.knows p).calls; shares = (k.knows p).shares }) (λ q _. k.knows q);
-          owners = λ q m x. k.owners q m (sym (upd-keeps may_call (seat_of v) p seat refl q) ∙ x);
-          contents = k.contents;
-          drafted = λ q x. k.drafts q (sym (owns q) ∙ x) ∙ draft-is start r.releases r.drafts q;
-          loaded = (
-            translation_of p tload-found (seat_of v p).reading,
-            refl,
-            translation-now (upd c.pages p page) p tload-found (seat_of v p).reading
-                (λ x e. subst (λ n. x.version ≤ n) (sym (upd-keeps (λ (y : Page). y.version) c.pages p page refl p)) (((r.inv.pages p).reads id).old x (ap (λ (y : Seat). y.reading) (seat-here stored start s id p v l there) ∙ e)))
-                (sym (upd-keeps (λ (y : Page). y.trans) c.pages p page refl p ∙ translation-here stored start s p l)),
-          );
-        })
-
-    pub tload-told : Brings tload-did [] [] v tload-inner tload-after → TranslationTold p tload-found v tload-after
-    tload-told brings =
-        let trans : ((core_shown stored start s).pages p).trans ≡ mapping_of tload-found = translation-here stored start s p l in
-        record {
-          brings = brings;
-          inside = λ m e. subst (λ (o : Origin). m.frame < o.frames) (sym (r.heard id v there live).same_start) (frame-inside stored keeps tied start tells s r p m (trans ∙ e));
-          locked = λ x. ap frame_of (sym trans) ∙ sym (frame-known (seat_of v p) (put_at no_held v.held p) ((core_shown stored start s).pages p) ((r.known id v there live).knows p) x);
-          called = λ x. sym trans ∙ sym (((r.known id v there live).knows p).calls x).0;
-        }
 
 module _ {X B : Type 0} (stored : B → Stored) (keeps : Start → Kept X → Type 0) (tied : Start → ℕ → List ℕ → ℕ → List ℕ → Type 0) (tells : Bool) where
   -- it keeps the rule of every table and tells what it is to tell
@@ -83,8 +28,47 @@ module _ {X B : Type 0} (stored : B → Stored) (keeps : Start → Kept X → Ty
       allows-load stored keeps tied shape tells slots id v i (places.Translation p) (TranslationTold p) live is (λ n w t. fit t.brings live)
       (λ start has s r there.
       let l : p < start.pages = subst (λ n. p < n) (sym has.pages) l' in
-      let k = steps stored keeps tied start tells s r id v s.words r.drafts [] [] _ _ (TLoad id p) there live number refl refl (tload-shows stored keeps tied start tells s r id v p there live l) in
-      (_, k.0, tload-told stored keeps tied start tells s r id v p there live l k.1))
+      let pages : ℕ → Page = (core_shown stored start s).pages in
+      let found : ℕ = slice_index s.words (start.pages + p) in
+      let did : Did = did_load (places.Translation p) found in
+      let inner : View X = tloaded_view p found v in
+      let known = r.known id v there live in
+      let trans : (pages p).trans ≡ mapping_of found = translation-here stored start s p l in
+      let seat : Seat = record (seat_of v p) { reading = framed (seat_of v p).reading (mapping_of found) } in
+      let page : Page = frame_read (pages p) id in
+      let owns : (q : ℕ) → (seat_of inner q).exclusive ≡ (seat_of v q).exclusive = upd-keeps (λ (y : Seat). y.exclusive) (seat_of v) p seat refl in
+      let k = steps stored keeps tied start tells s r id v s.words r.drafts [] [] did inner (TLoad id p) there live number refl refl
+      (quiet-shows stored keeps tied start tells s r id v s.words r.drafts did inner (TLoad id p) there live
+      (record {
+        word = word-loaded start s.words (places.Translation p) r.wide.0 r.spelled l;
+        legal = (record { actor = at-bound s.views id v there; page = l }, tt);
+        world = tload-step stored start s r.releases r.drafts id v _ p (mapping_of found) l there refl refl refl trans refl;
+        leaves = refl;
+        calls = λ o x. upd-keeps may_call (seat_of v) p seat refl o.page ∙ (r.blocks.away id v o there x).1;
+        holds = λ q x. owns q ∙ x;
+        members = λ q _. refl;
+        next = refl;
+        knows = each-upd2 (λ q (y : Seat) (z : Page). KnowsPage y (put_at no_held v.held q) z) (seat_of v) pages p seat page (record { calls = (known.knows p).calls; shares = (known.knows p).shares }) (λ q _. known.knows q);
+        owners = λ q m x. known.owners q m (sym (upd-keeps may_call (seat_of v) p seat refl q) ∙ x);
+        contents = known.contents;
+        drafted = λ q x. known.drafts q (sym (owns q) ∙ x) ∙ draft-is start r.releases r.drafts q;
+        loaded = (
+          translation_of p found (seat_of v p).reading,
+          refl,
+          translation-now (upd pages p page) p found (seat_of v p).reading
+              (λ x e. subst (λ n. x.version ≤ n) (sym (upd-keeps (λ (y : Page). y.version) pages p page refl p)) (((r.inv.pages p).reads id).old x (ap (λ (y : Seat). y.reading) (seat-here stored start s id p v l there) ∙ e)))
+              (sym (upd-keeps (λ (y : Page). y.trans) pages p page refl p ∙ trans)),
+        );
+      })) in (
+        _,
+        k.0,
+        record {
+          brings = k.1;
+          inside = λ m e. subst (λ (o : Origin). m.frame < o.frames) (sym (r.heard id v there live).same_start) (frame-inside stored keeps tied start tells s r p m (trans ∙ e));
+          locked = λ x. ap frame_of (sym trans) ∙ sym (frame-known (seat_of v p) (put_at no_held v.held p) (pages p) (known.knows p) x);
+          called = λ x. sym trans ∙ sym ((known.knows p).calls x).0;
+        },
+      ))
 
   pub tload-event : TloadIsItsEvent stored keeps tied tells
   tload-event start s id p found v w pass finds told =
@@ -92,13 +76,10 @@ module _ {X B : Type 0} (stored : B → Stored) (keeps : Start → Kept X → Ty
       let view = told.brings.view in
       let spelled : slice_index s.words (start.pages + p) ≡ trans_word (mapping_of (slice_index s.words (start.pages + p))) =
       subst (λ n. n ≡ trans_word (mapping_of n)) (part-found start.pages start.pages s.words p (start.pages + p) l refl) (pass.rule.spelled p l) in
-      record {
-        legal = (record { actor = at-bound s.views id v pass.there; page = l }, tt);
-        core = ap (λ (y : World). y.core)
-            (tload-step stored start s [] (λ _. []) id v w p (mapping_of found) l pass.there (ap (λ (y : View X). y.out) view) (ap (λ (y : View X). y.frames) view) (ap (λ (y : View X). y.loads) view)
-            (translation-here stored start s p l ∙ ap mapping_of (sym finds.1)) (ap (λ (y : View X). y.seats) view));
-        sees = ap sights.Word (ap trans_word (translation-here stored start s p l) ∙ sym spelled ∙ sym finds.1);
-      }
+      is-event (record { actor = at-bound s.views id v pass.there; page = l }, tt)
+      (tload-step stored start s [] (λ _. []) id v w p (mapping_of found) l pass.there (ap (λ (y : View X). y.out) view) (ap (λ (y : View X). y.frames) view) (ap (λ (y : View X). y.loads) view)
+      (translation-here stored start s p l ∙ ap mapping_of (sym finds.1)) (ap (λ (y : View X). y.seats) view))
+      (ap sights.Word (ap trans_word (translation-here stored start s p l) ∙ sym spelled ∙ sym finds.1))
 
 module _ {X : Type 0} {p found : ℕ} {v w : View X} (t : TranslationTold p found v w) where
   pub tload-others : (touched : ℕ → Type 0) → touched p → LeavesOthers touched (did_load (places.Translation p) found ∷ []) [] v w
@@ -127,14 +108,10 @@ module _ {X : Type 0} {p found : ℕ} {v w : View X} (t : TranslationTold p foun
 
   -- of a page without an open read it changes nothing
   pub tload-works : (seat_of v p).reading ≡ None → Works p (did_load (places.Translation p) found ∷ []) v w
-  tload-works closed = record {
-    leaves = rest-of (tload-others (λ q. q ≡ p) refl) tload-own;
-    seat = tload-seat ∙ (λ i. record (seat_of v p) { reading = framed (closed i) (mapping_of found) }) ∙ sym (λ i. record (seat_of v p) { reading = closed i });
-    loads = tload-loads p;
-    draft = ap (λ (x : View X). put_at [] x.drafts p) t.brings.view;
-    last = λ l. (tload-knows p l).last;
-    alone = (tload-others (λ q. q ≡ p) refl).runs;
-  }
+  tload-works closed =
+      works-of (tload-others (λ q. q ≡ p) refl) tload-own (tload-seat ∙ (λ i. record (seat_of v p) { reading = framed (closed i) (mapping_of found) }) ∙ sym (λ i. record (seat_of v p) { reading = closed i }))
+      (tload-loads p)
+      (ap (λ (x : View X). draft_of x p) t.brings.view) (λ l. (tload-knows p l).last)
 
 -- it changes no more than an open read
 pub translation-only : {X : Type 0} (touched : ℕ → Type 0) (p found : ℕ) (v w : View X) → touched p → TranslationTold p found v w → OnlyReads touched (did_load (places.Translation p) found ∷ []) v w

@@ -2,9 +2,9 @@
 -- word, the hand moved on.
 use Rattle.vm_rule.specs.declared.view.Place.TheVariants as places
 use Rattle.vm_step.proofs.{Asides.alone-silent, Asides.OnlyReads, Evidenced.lost-view}
-use Rattle.vm_step.proofs.Prelude.{[], ap, Brings, Did, did_change, did_exchange, draft_of, hand_more, HandTold, HoldsPage, if◌then◌else◌, IsLocking}
-use Rattle.vm_step.proofs.Prelude.{KnowsAsBefore, loads_at, MarkTold, None, refl, seat_of, View, Works, ℕ, ◌==◌, ◌∷◌, ◌≡◌, ◌≢◌}
-use Rattle.vm_step.proofs.steps.Leaving.{holds-still, knows-still, LeavesOwn, only-of, others-still, own-from, rest-of}
+use Rattle.vm_step.proofs.Prelude.{[], ap, Brings, Did, did_exchange, draft_of, HoldsPage, if◌then◌else◌, IsLocking, KnowsAsBefore, loads_at, MarkTold, None}
+use Rattle.vm_step.proofs.Prelude.{refl, seat_of, View, Works, ℕ, ◌==◌, ◌∷◌, ◌≡◌, ◌≢◌}
+use Rattle.vm_step.proofs.steps.Leaving.{holds-still, knows-still, LeavesOwn, only-of, others-still, own-from, works-of}
 
 module _ {X : Type 0} {did : Did} {v w : View X} (b : Brings did [] [] v v w) where
   pub still-own : LeavesOwn v w
@@ -23,14 +23,7 @@ module _ {X : Type 0} {did : Did} {v w : View X} (b : Brings did [] [] v v w) wh
   still-knows = knows-still b refl refl refl
 
   pub still-works : (p : ℕ) → Works p (did ∷ []) v w
-  still-works p = record {
-    leaves = rest-of (others-still b) still-own;
-    seat = still-seat p;
-    loads = still-loads p;
-    draft = ap (λ (x : View X). draft_of x p) b.view;
-    last = λ l. (still-knows p l).last;
-    alone = (others-still {touched = λ q. q ≡ p} b).runs;
-  }
+  still-works p = works-of (others-still b) still-own (still-seat p) (still-loads p) (ap (λ x. draft_of x p) b.view) (λ l. (still-knows p l).last)
 
 -- an exchange of any kind that was lost: with this, all of the above holds of it
 pub lost-brings : {X : Type 0} {did : Did} {expects found : ℕ} {v w : View X} (inner : View X) → found ≢ expects → Brings did [] [] v (if found == expects then inner else v) w → Brings did [] [] v v w
@@ -38,11 +31,8 @@ lost-brings {did = did} {expects = expects} {found = found} {v = v} {w = w} inne
 
 -- so such a step changes no more than open reads: the hand that is moved, a mark that is tried, an exchange of any kind that was lost
 module _ {X : Type 0} (touched : ℕ → Type 0) where
-  still-only : (did : Did) (v w : View X) → Brings did [] [] v v w → OnlyReads touched (did ∷ []) v w
+  pub still-only : (did : Did) (v w : View X) → Brings did [] [] v v w → OnlyReads touched (did ∷ []) v w
   still-only did v w b = only-of (others-still b) (still-own b) (still-holds b) (still-knows b) (alone-silent did None [] v v w b refl)
-
-  pub hand-only : (found : ℕ) (v w : View X) → HandTold found v w → OnlyReads touched (did_change places.Hand found (hand_more found) ∷ []) v w
-  hand-only found v w t = still-only _ v w t.brings
 
   pub mark-only : (p expects found new : ℕ) (v w : View X) → MarkTold p expects found new v w → OnlyReads touched (did_exchange (places.State p) expects found new ∷ []) v w
   mark-only p expects found new v w t = still-only _ v w t.brings

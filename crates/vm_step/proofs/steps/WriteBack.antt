@@ -3,74 +3,37 @@
 --
 -- What a lock for write-back leaves that was taken, and one that became exclusive: both speak of one page, whose open read is closed.
 use Rattle.vm_rule.specs.declared.view.Place.TheVariants as places
-use Rattle.vm_step.proofs.{Evidenced.taken-view, Fit.either-lives, Fit.fit, Here.last, Here.world, Quiet.ShowsQuiet, Standing.allows}
-use Rattle.vm_step.proofs.Exchange.{exchange-event, free-debt, free-member, free-unheld, held-at, IsExchange, known-held, lockw-exchange, opened}
+use Rattle.vm_step.proofs.{Evidenced.taken-view, Fit.either-lives, Fit.fit, Here.last, Here.world, Standing.allows}
+use Rattle.vm_step.proofs.Exchange.{exchange-event, free-debt, free-member, free-unheld, held-at, known-held, lockw-exchange, opened}
 use Rattle.vm_step.proofs.Exchange.{known-owner, owner-shows, page_held, sharer-shows, tried, tried-validates, upgrade-exchange}
-use Rattle.vm_step.proofs.Prelude.{[], AllowsStep, ap, arith, Bool, Brings, Did, did_exchange, draft_of, either, eqb, false, get_elem?, Held, held_at}
-use Rattle.vm_step.proofs.Prelude.{if◌then◌else◌, IsHeldAt, IsLocking, IsPlacedAt, Kept, last_of, LeavesRest, length, List, LOCKED, LockW}
-use Rattle.vm_step.proofs.Prelude.{LockWriteBackIsItsEvent, MARKED, MayRaiseLock, no_held, no_seat, None, Option, or_right, Origin, Page, page_at}
-use Rattle.vm_step.proofs.Prelude.{put, put_at, refl, Ruled, Seat, seat_of, Shape, share_count, slice_index, slice_set, some, Stands, Start}
-use Rattle.vm_step.proofs.Prelude.{state-here, state_of, Stored, subst, sym, Table, told_of, true, upd-other, upd-same, Upgrade, upgraded}
-use Rattle.vm_step.proofs.Prelude.{upgraded_view, UpgradeIsItsEvent, UpgradeTold, Version, version_of, View, word_of, write_locked, write_locked_view}
-use Rattle.vm_step.proofs.Prelude.{WriteLockTold, ℕ, ◌<◌, ◌∙◌, ◌∷◌, ◌≡◌, ◌≢◌}
+use Rattle.vm_step.proofs.Prelude.{[], AllowsStep, ap, arith, Bool, Brings, Did, did_exchange, draft_of, either, eqb, false, Held, held_at, if◌then◌else◌}
+use Rattle.vm_step.proofs.Prelude.{IsHeldAt, IsLocking, IsPlacedAt, Kept, last_of, LeavesRest, length, List, LOCKED, LockW, LockWriteBackIsItsEvent, MARKED}
+use Rattle.vm_step.proofs.Prelude.{may_call, MayRaiseLock, no_held, no_seat, None, or_right, Page, page_at, put, put_at, refl, Seat, seat_of, Shape}
+use Rattle.vm_step.proofs.Prelude.{share_count, slice_index, Stands, Start, state-here, state_of, Stored, subst, sym, told_of, true, upd-other, upd-same}
+use Rattle.vm_step.proofs.Prelude.{Upgrade, upgraded, upgraded_view, UpgradeIsItsEvent, UpgradeTold, Version, version_of, View, word_of, write_locked}
+use Rattle.vm_step.proofs.Prelude.{write_locked_view, WriteLockTold, ℕ, ◌<◌, ◌∙◌, ◌∷◌, ◌≡◌, ◌≢◌}
 use Rattle.vm_step.proofs.steps.Leaving.{apart, last-still, LeavesOthers, LeavesOwn, others-tied, own-from, rest-of}
 
-module _ {X B : Type 0} (stored : B → Stored) (keeps : Start → Kept X → Type 0) (tied : Start → ℕ → List ℕ → ℕ → List ℕ → Type 0) (start : Origin) (tells : Bool) (s : Table (Option B) (View X)) (r : Ruled stored keeps tied start tells s)
-    (id : ℕ) (v : View X) (there : get_elem? s.views id ≡ some v) (live : v.live ≡ true) (p expects : ℕ) (l : p < start.pages) where
-  -- ---- for write-back
-
-  abbrev write_inner : View X
-  write_inner = write_locked_view p (page_held stored keeps tied start tells s r p) v
-
-  abbrev write-is : state_of expects ≡ MARKED → IsExchange stored start s r.releases r.drafts id p expects (word_of 1 (version_of expects)) r.drafts write_inner (LockW id p expects) (write_locked ((world stored keeps tied start tells s r).core.pages p) id)
-  write-is may = lockw-exchange stored start s r.releases r.drafts id v p expects r.wide.0 l there may (page_held stored keeps tied start tells s r p)
-
-  write-shows : state_of expects ≡ MARKED → slice_index s.words p ≡ expects
-      → ShowsQuiet stored keeps tied start tells s r id v (slice_set s.words p (word_of 1 (version_of expects))) r.drafts (did_exchange (places.State p) expects (slice_index s.words p) (word_of 1 (version_of expects))) write_inner (LockW id p expects)
-  write-shows may hit =
-      let y : Page = write_locked ((world stored keeps tied start tells s r).core.pages p) id in
-      let seat : Seat = record (seat_of v p) { shares = 1; writing = true; reading = None } in
-      sharer-shows stored keeps tied start tells s r id v there live p l expects (word_of 1 (version_of expects)) hit (LockW id p expects) y seat (put p (page_held stored keeps tied start tells s r p) v.held) (write-is may)
-      (λ m. or_right (seat_of v p).exclusive true refl) refl
-      (λ q ne. upd-other (put_at no_held v.held) p (page_held stored keeps tied start tells s r p) q ne)
-      (known-held stored keeps tied start tells s r p l seat v.held y refl refl refl refl)
-      (known-owner stored keeps tied start tells s r p seat v.held)
-
-  -- ---- exclusive then
-
-  upgrade-free : MayRaiseLock v p expects → slice_index s.words p ≡ expects → ((world stored keeps tied start tells s r).core.pages p).state ≢ LOCKED
-  upgrade-free may hit e = let is : ((world stored keeps tied start tells s r).core.pages p).state ≡ 1 = state-here stored start s p l ∙ ap state_of hit ∙ may.state in omega (arith, is, e)
-
-  abbrev upgraded_inner : View X
-  upgraded_inner = upgraded_view p (last stored keeps tied start tells s r p).words v
-
-  abbrev upgrade-is : MayRaiseLock v p expects → IsExchange stored start s r.releases r.drafts id p expects (word_of LOCKED (version_of expects)) (opened stored keeps tied start tells s r p) upgraded_inner (Upgrade id p expects) (upgraded ((world stored keeps tied start tells s r).core.pages p) id)
-  upgrade-is may = upgrade-exchange stored start s r.releases r.drafts id v p expects r.wide.0 l there may (last stored keeps tied start tells s r p).words
-
-  upgrade-shows : MayRaiseLock v p expects → slice_index s.words p ≡ expects
-      → ShowsQuiet stored keeps tied start tells s r id v (slice_set s.words p (word_of LOCKED (version_of expects))) (opened stored keeps tied start tells s r p) (did_exchange (places.State p) expects (slice_index s.words p) (word_of LOCKED (version_of expects))) upgraded_inner (Upgrade id p expects)
-  upgrade-shows may hit =
-      owner-shows stored keeps tied start tells s r id v there live p l expects (word_of LOCKED (version_of expects)) hit (Upgrade id p expects) (upgraded ((world stored keeps tied start tells s r).core.pages p) id) (record { shares = 0; exclusive = true; writing = false; reading = None }) v.held (upgrade-is may)
-      refl (upgrade-free may hit)
-      (λ q ne. refl)
-      (record { calls = λ m. ((r.known id v there live).knows p).calls (or_right (seat_of v p).exclusive (seat_of v p).writing may.writes); shares = λ some'. absurd (omega arith) })
-      (λ m _. (r.known id v there live).owners p m (or_right (seat_of v p).exclusive (seat_of v p).writing may.writes))
-
-module _ {X B : Type 0} (stored : B → Stored) (keeps : Start → Kept X → Type 0) (tied : Start → ℕ → List ℕ → ℕ → List ℕ → Type 0) (shape : Shape) (tells : Bool)
-    (law : (start : Start) (kept : Kept X) (q p : ℕ) → keeps start kept → q < length kept.pages → p < length kept.pages → tied start q (page_at kept.pages q) p (page_at kept.pages p)) where
+module _ {X B : Type 0} (stored : B → Stored) (keeps : Start → Kept X → Type 0) (tied : Start → ℕ → List ℕ → ℕ → List ℕ → Type 0) (tells : Bool) where
   -- taken or lost, either keeps the rule of every table and tells what it is to tell
-  pub lock_write_back-allows : (slots id : ℕ) (v : View X) (i : ℕ) (p expects x : ℕ) → v.live ≡ true → 0 < length v.used → p < shape.pages → state_of expects ≡ MARKED → x ≡ (word_of 1 (version_of expects)) → IsPlacedAt shape (places.State p) i
+  pub lock_write_back-allows : (law : (start : Start) (kept : Kept X) (q p : ℕ) → keeps start kept → q < length kept.pages → p < length kept.pages → tied start q (page_at kept.pages q) p (page_at kept.pages p)) (shape : Shape) (slots id : ℕ) (v : View X) (i : ℕ) (p expects x : ℕ) → v.live ≡ true → 0 < length v.used → p < shape.pages → state_of expects ≡ MARKED → x ≡ (word_of 1 (version_of expects)) → IsPlacedAt shape (places.State p) i
       → AllowsStep (Stands stored keeps tied shape tells) slots id v i (λ n. either (eqb n expects) x n) (told_of shape tells (WriteLockTold tied p expects))
-  lock_write_back-allows slots id v i p expects x live number l' may spells is =
+  lock_write_back-allows law shape slots id v i p expects x live number l' may spells is =
       allows stored keeps tied shape tells slots id v i (places.State p) (λ n. either (eqb n expects) x n) (λ n. either (eqb n expects) (word_of 1 (version_of expects)) n) (WriteLockTold tied p expects) live is (λ n. ap (λ z. either (eqb n expects) z n) spells) (λ n w t. fit t.brings (either-lives _ _ v live live))
       (λ start has s r there _.
       let l : p < start.pages = subst (λ n. p < n) (sym has.pages) l' in
       let found-state : slice_index s.words p ≡ expects → ((world stored keeps tied start tells s r).core.pages p).state ≡ MARKED = (λ hit. state-here stored start s p l ∙ ap state_of hit ∙ may) in
       let free : slice_index s.words p ≡ expects → ((world stored keeps tied start tells s r).core.pages p).state ≢ LOCKED = (λ hit e. let is = found-state hit in omega (arith, is, e)) in
       let held : Held = page_held stored keeps tied start tells s r p in
-      let k = tried stored keeps tied start tells s r id v there live number p expects (word_of 1 (version_of expects)) l r.drafts (write_inner stored keeps tied start tells s r id v there live p expects l) (LockW id p expects) _ refl
-      (write-is stored keeps tied start tells s r id v there live p expects l may)
-      (write-shows stored keeps tied start tells s r id v there live p expects l may) in (
+      let page : Page = write_locked ((world stored keeps tied start tells s r).core.pages p) id in
+      let seat : Seat = record (seat_of v p) { shares = 1; writing = true; reading = None } in
+      let taken = lockw-exchange stored start s r.releases r.drafts id v p expects r.wide.0 l there may held in
+      let k = tried stored keeps tied start tells s r id v there live number p expects (word_of 1 (version_of expects)) l r.drafts (write_locked_view p held v) (LockW id p expects) _ refl taken
+      (λ hit. sharer-shows stored keeps tied start tells s r id v there live p l expects (word_of 1 (version_of expects)) hit (LockW id p expects) page seat (put p held v.held) taken
+      (λ m. or_right (seat_of v p).exclusive true refl) refl
+      (λ q ne. upd-other (put_at no_held v.held) p held q ne)
+      (known-held stored keeps tied start tells s r p l seat v.held page refl refl refl refl)
+      (known-owner stored keeps tied start tells s r p seat v.held)) in (
         k.0,
         k.1.rule,
         record {
@@ -87,16 +50,24 @@ module _ {X B : Type 0} (stored : B → Stored) (keeps : Start → Kept X → Ty
         },
       ))
 
-  pub upgrade-allows : (slots id : ℕ) (v : View X) (i : ℕ) (p expects x : ℕ) → v.live ≡ true → 0 < length v.used → p < shape.pages → MayRaiseLock v p expects → x ≡ (word_of LOCKED (version_of expects)) → IsPlacedAt shape (places.State p) i
+  pub upgrade-allows : (law : (start : Start) (kept : Kept X) (q p : ℕ) → keeps start kept → q < length kept.pages → p < length kept.pages → tied start q (page_at kept.pages q) p (page_at kept.pages p)) (shape : Shape) (slots id : ℕ) (v : View X) (i : ℕ) (p expects x : ℕ) → v.live ≡ true → 0 < length v.used → p < shape.pages → MayRaiseLock v p expects → x ≡ (word_of LOCKED (version_of expects)) → IsPlacedAt shape (places.State p) i
       → AllowsStep (Stands stored keeps tied shape tells) slots id v i (λ n. either (eqb n expects) x n) (told_of shape tells (UpgradeTold tied p expects))
-  upgrade-allows slots id v i p expects x live number l' may spells is =
+  upgrade-allows law shape slots id v i p expects x live number l' may spells is =
       allows stored keeps tied shape tells slots id v i (places.State p) (λ n. either (eqb n expects) x n) (λ n. either (eqb n expects) (word_of LOCKED (version_of expects)) n) (UpgradeTold tied p expects) live is (λ n. ap (λ z. either (eqb n expects) z n) spells) (λ n w t. fit t.brings (either-lives _ _ v live live))
       (λ start has s r there _.
       let l : p < start.pages = subst (λ n. p < n) (sym has.pages) l' in
-      let free : slice_index s.words p ≡ expects → ((world stored keeps tied start tells s r).core.pages p).state ≢ LOCKED = upgrade-free stored keeps tied start tells s r id v there live p expects l may in
-      let k = tried stored keeps tied start tells s r id v there live number p expects (word_of LOCKED (version_of expects)) l (opened stored keeps tied start tells s r p) (upgraded_inner stored keeps tied start tells s r id v there live p expects l) (Upgrade id p expects) _ refl
-      (upgrade-is stored keeps tied start tells s r id v there live p expects l may)
-      (upgrade-shows stored keeps tied start tells s r id v there live p expects l may) in (
+      let page : Page = (world stored keeps tied start tells s r).core.pages p in
+      let free : slice_index s.words p ≡ expects → page.state ≢ LOCKED = (λ hit e. let is : page.state ≡ 1 = state-here stored start s p l ∙ ap state_of hit ∙ may.state in omega (arith, is, e)) in
+      let known = r.known id v there live in
+      let calls : may_call (seat_of v p) ≡ true = or_right (seat_of v p).exclusive (seat_of v p).writing may.writes in
+      let words : List ℕ = (last stored keeps tied start tells s r p).words in
+      let taken = upgrade-exchange stored start s r.releases r.drafts id v p expects r.wide.0 l there may words in
+      let k = tried stored keeps tied start tells s r id v there live number p expects (word_of LOCKED (version_of expects)) l (opened stored keeps tied start tells s r p) (upgraded_view p words v) (Upgrade id p expects) _ refl taken
+      (λ hit. owner-shows stored keeps tied start tells s r id v there live p l expects (word_of LOCKED (version_of expects)) hit (Upgrade id p expects) (upgraded page id) (record { shares = 0; exclusive = true; writing = false; reading = None }) v.held taken
+      refl (free hit)
+      (λ q ne. refl)
+      (record { calls = λ m. (known.knows p).calls calls; shares = λ some'. absurd (omega arith) })
+      (λ m _. known.owners p m calls)) in (
         k.0,
         k.1.rule,
         record {
@@ -111,7 +82,6 @@ module _ {X B : Type 0} (stored : B → Stored) (keeps : Start → Kept X → Ty
         },
       ))
 
-module _ {X B : Type 0} (stored : B → Stored) (keeps : Start → Kept X → Type 0) (tied : Start → ℕ → List ℕ → ℕ → List ℕ → Type 0) (tells : Bool) where
   pub lock_write_back-event : LockWriteBackIsItsEvent stored keeps tied tells
   lock_write_back-event start s id p expects found v w pass at may told =
       exchange-event stored start keeps tied tells s id p expects found _ _ _ v _ w _ _ pass at (lockw-exchange stored start s [] (λ _. []) id v p expects pass.rule.wide.0 at.0 pass.there may told.held) told.brings refl

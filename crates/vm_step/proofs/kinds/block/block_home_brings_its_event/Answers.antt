@@ -1,8 +1,8 @@
 use Rattle.vm_step.proofs.kinds.block.block_home_brings_its_event.Goals as goal
-use Rattle.vm_step.proofs.steps.Block.{either_way, idle_shows, lifted_same, read-event, read_failed-event, write_failed-event, wrote-event}
+use Rattle.vm_step.proofs.steps.Block.{either_way, idle_shows, read-event, read_failed-event, shifted_same, write_failed-event, wrote-event}
 
 pub returns-clause-lifted : goal.returns-clause-lifted
-returns-clause-lifted g c start s id p found b v w = lifted_same _ start _ _ _ s id p found b v w
+returns-clause-lifted g c start s id p found b v w = shifted_same _ start _ _ _ s id p _ _ found b v w
 
 pub returns-clause-idle : goal.returns-clause-idle
 returns-clause-idle g c start s id p found old b v w = idle_shows _ start _ _ _ s id p found old b v w

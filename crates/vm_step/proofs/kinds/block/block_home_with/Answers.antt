@@ -1,20 +1,14 @@
-use Rattle.vm_step.proofs.Prelude.{ap, has-view, length, None, rest, ReturnTold, rules, Some, Sound, subst, sym, true, view, view_of, ◌<◌, ◌∙◌, ◌∷◌}
-use Rattle.vm_step.proofs.Prelude.{◌≡◌}
+use Rattle.vm_step.proofs.Prelude.{ap, length, None, rest, ReturnTold, rules, Sound, subst, sym, true, view, view_of, ◌<◌, ◌∙◌, ◌∷◌, ◌≡◌}
 use Rattle.vm_step.proofs.kinds.block.block_home_with.Goals as goal
-use Rattle.vm_step.proofs.steps.Block.{back-home, lift-allows, lifted, loaded, one-slot, return-allows, view-put}
-
-pub lift-seat-requires : goal.lift-seat-requires
-lift-seat-requires g c = has-view _ c.args.pass.now.one
+use Rattle.vm_step.proofs.steps.Block.{back-home, lift-allows, lifted, loaded, one-slot, return-allows}
 
 pub load-requires : goal.load-requires
 load-requires g c =
-    let is = ap view_of c.lift-seat.ensures.2 in
-    let at = c.fault_place-place.ensures.place in
-    let page = c.requires.page in (
+    let is = ap view_of c.lift-seat.ensures.2 in (
       search rules,
       c.fault_place-place.ensures.inside,
       rw (c.requires.given.0, c.requires.given.1, c.requires.given.2)
-          (lift-allows _ _ _ _ _ _ _ _ c.args.p _ c.requires.legal.0 (subst (λ v. v.live ≡ true) is c.args.pass.now.live) (subst (λ v. 0 < length v.used) is c.requires.pass.1) at
+          (lift-allows _ _ _ _ _ _ _ _ c.args.p _ c.requires.legal.0 (subst (λ v. v.live ≡ true) is c.args.pass.now.live) (subst (λ v. 0 < length v.used) is c.requires.pass.1) c.fault_place-place.ensures.place
           (ap (λ v. v.out) (sym is) ∙ c.requires.legal.1.out)),
     )
 
@@ -33,13 +27,11 @@ unreachable-requires g c =
 pub load-requires-2 : goal.load-requires-2
 load-requires-2 g c =
     let is = ap view_of c.lift-seat.ensures.2 in
-    let at = c.fault_place-place.ensures.place in
-    let page = c.requires.page in
     let n = loaded g.B.Block.stored c.args.p c.requires.legal.0 c.args.block g.M.Moved.page c.load.result (view c.args.pass.now) c.lift-seat.result.me c.load.new.seat.me c.exchange-empty.new.seat.me c.requires.given.2 is c.lift-seat.ensures.3 c.args.pass.now.live c.requires.pass.1 c.requires.legal.1 c.load.ensures.2.1 c.exchange-empty.ensures.3 in (
       search rules,
       c.fault_place-place.ensures.inside,
       rw (c.requires.given.0, c.requires.given.1, c.requires.given.2)
-          (return-allows _ _ _ _ _ _ _ _ c.args.p _ c.args.block c.requires.legal.0 n.live n.number at n.out n.carried n.did c.requires.legal.1.bound),
+          (return-allows _ _ _ _ _ _ _ _ c.args.p _ c.args.block c.requires.legal.0 n.live n.number c.fault_place-place.ensures.place n.out n.carried n.did c.requires.legal.1.bound),
     )
 
 pub into_badge-requires : goal.into_badge-requires
@@ -74,5 +66,5 @@ returns-clause-told g c old may =
       second = c.load-2.result;
       shift = l.0;
       back = subst (λ w. ReturnTold c.args.p (g.B.Block.stored c.args.block) c.load-2.result c.load.new.seat.me.0 w) (sym one)
-          (subst (λ v. ReturnTold c.args.p (g.B.Block.stored c.args.block) c.load-2.result v c.load-2.new.seat.me.0) (view-put c.load.new.seat.me c.exchange-empty.new.seat.me ((c.args.p, Some c.args.block) ∷ rest c.load.new.seat.me.1) c.exchange-empty.ensures.3) back);
+          (subst (λ v. ReturnTold c.args.p (g.B.Block.stored c.args.block) c.load-2.result v c.load-2.new.seat.me.0) (ap (λ m. m.0) c.exchange-empty.ensures.3) back);
     }

@@ -1,20 +1,15 @@
-use Rattle.vm_step.proofs.Prelude.{ap, false, has-view, length, may_call, None, rest, rules, seat_of, ShiftTold, SlotTold, Some, some-same, Sound}
-use Rattle.vm_step.proofs.Prelude.{subst, sym, true, view, view_of, ◌<◌, ◌∙◌, ◌∷◌, ◌≡◌}
+use Rattle.vm_step.proofs.Prelude.{ap, false, length, may_call, None, rest, rules, seat_of, ShiftTold, SlotTold, Some, some-same, Sound, subst, sym, true, view}
+use Rattle.vm_step.proofs.Prelude.{view_of, ◌<◌, ◌∙◌, ◌∷◌, ◌≡◌}
 use Rattle.vm_step.proofs.kinds.block.block_out_with.Goals as goal
-use Rattle.vm_step.proofs.steps.Block.{emptied, empty-allows, empty-home, one-slot, out-allows, taken, view-put}
-
-pub lift-seat-requires : goal.lift-seat-requires
-lift-seat-requires g c = has-view _ c.args.pass.now.one
+use Rattle.vm_step.proofs.steps.Block.{emptied, empty-allows, empty-home, one-slot, out-allows, taken}
 
 pub load-requires : goal.load-requires
 load-requires g c =
-    let is = ap view_of c.lift-seat.ensures.2 in
-    let at = c.fault_place-place.ensures.place in
-    let page = c.requires.page in (
+    let is = ap view_of c.lift-seat.ensures.2 in (
       search rules,
       c.fault_place-place.ensures.inside,
       rw (c.requires.given.0, c.requires.given.1, c.requires.given.2)
-          (out-allows _ _ _ _ _ _ _ _ c.args.p _ (subst (λ v. v.live ≡ true) is c.args.pass.now.live) (subst (λ v. 0 < length v.used) is c.requires.pass.1) page at
+          (out-allows _ _ _ _ _ _ _ _ c.args.p _ (subst (λ v. v.live ≡ true) is c.args.pass.now.live) (subst (λ v. 0 < length v.used) is c.requires.pass.1) c.requires.page c.fault_place-place.ensures.place
           (subst (λ v. may_call (seat_of v c.args.p) ≡ true) is c.requires.legal.calls) (subst (λ v. v.out ≡ None) is c.requires.legal.none)),
     )
 
@@ -25,13 +20,11 @@ exchange-block-requires g c =
 
 pub load-requires-2 : goal.load-requires-2
 load-requires-2 g c =
-    let at = c.fault_place-place.ensures.place in
-    let page = c.requires.page in
     let t = taken g.B.Block.stored c.args.p g.M.Moved.page c.requires.given.2 c.load.result (view c.args.pass.now) c.lift-seat.result.me c.load.new.seat.me (ap view_of c.lift-seat.ensures.2) c.lift-seat.ensures.3 c.load.ensures.2.1 in
     let n = emptied g.B.Block.stored c.args.p g.M.Moved.page c.requires.given.2 c.load.result (view c.args.pass.now) c.load.new.seat.me c.exchange-block.new.seat.me t.0 c.args.pass.now.live c.requires.pass.1 t.1 t.2 c.exchange-block.ensures.3 in (
       search rules,
       c.fault_place-place.ensures.inside,
-      rw c.requires.given.2 (empty-allows _ _ _ _ _ _ _ _ c.args.p _ (g.B.Block.stored t.0) n.live n.number at n.out n.carried),
+      rw c.requires.given.2 (empty-allows _ _ _ _ _ _ _ _ c.args.p _ (g.B.Block.stored t.0) n.live n.number c.fault_place-place.ensures.place n.out n.carried),
     )
 
 pub into_badge-requires : goal.into_badge-requires
@@ -67,5 +60,5 @@ returns-clause-told g c =
       slot = subst (λ b. SlotTold c.args.p (g.B.Block.stored b) c.load.result (view c.args.pass.now) c.load.new.seat.me.0) same t.1;
       shift = subst (λ b. ShiftTold c.args.p false (g.B.Block.stored b) c.load-2.result c.load.new.seat.me.0 (view_of c.into_badge.result.views)) same
           (subst (λ w. ShiftTold c.args.p false (g.B.Block.stored t.0) c.load-2.result c.load.new.seat.me.0 w) (sym one)
-          (subst (λ v. ShiftTold c.args.p false (g.B.Block.stored t.0) c.load-2.result v c.load-2.new.seat.me.0) (view-put c.load.new.seat.me c.exchange-block.new.seat.me ((c.args.p, None) ∷ rest c.load.new.seat.me.1) c.exchange-block.ensures.3) shift));
+          (subst (λ v. ShiftTold c.args.p false (g.B.Block.stored t.0) c.load-2.result v c.load-2.new.seat.me.0) (ap (λ m. m.0) c.exchange-block.ensures.3) shift));
     }

@@ -1,5 +1,4 @@
-use Rattle.std.specs.Prelude.{None}
-use Rattle.vm_step.proofs.Prelude.{LookTells, told_of}
+use Rattle.vm_step.proofs.Prelude.{LookTells, None, told_of}
 use Rattle.vm_step.proofs.kinds.look.look_silently.Given as goal
 
 abbrev pub ghosts-load : goal.ghosts-load

@@ -1,5 +1,4 @@
-use Rattle.std.specs.Prelude.{◌+◌}
-use Rattle.vm_step.proofs.Prelude.{OwnerTold, told_of}
+use Rattle.vm_step.proofs.Prelude.{OwnerTold, told_of, ◌+◌}
 use Rattle.vm_step.proofs.kinds.owner.own.Given as goal
 
 abbrev pub ghosts-store : goal.ghosts-store

@@ -4,19 +4,17 @@ use Rattle.vm_step.proofs.kinds.pass.split_pass.Goals as goal
 
 pub split_seat-other-requires : goal.split_seat-other-requires
 split_seat-other-requires g c =
-    let is = ap view_of c.lift-seat.ensures.2 in
-    let wide = c.args.words.now.wide.0 in (
+    let is = ap view_of c.lift-seat.ensures.2 in (
       c.lift-seat.ensures.0 ∙ c.requires.pass.0,
-      omega (arith, wide),
+      omega (arith, c.args.words.now.wide.0),
       splits-any _ _ _ _ _ _ true _ (subst (λ v. v.live ≡ true) is c.args.pass.now.live) (subst (λ v. 0 < length v.used) is c.requires.pass.1),
     )
 
 pub split_seat-other-requires-else-part : goal.split_seat-other-requires-else-part
 split_seat-other-requires-else-part g c =
-    let is = ap view_of c.lift-seat.ensures.2 in
-    let wide = c.args.words.now.wide.0 in (
+    let is = ap view_of c.lift-seat.ensures.2 in (
       c.lift-seat.ensures.0 ∙ c.requires.pass.0,
-      omega (arith, wide),
+      omega (arith, c.args.words.now.wide.0),
       splits-any _ _ _ _ _ _ false _ (subst (λ v. v.live ≡ true) is c.args.pass.now.live) (subst (λ v. 0 < length v.used) is c.requires.pass.1),
     )
 

@@ -1,5 +1,4 @@
-use Rattle.std.specs.Prelude.{[], None}
-use Rattle.vm_step.proofs.Prelude.{ReleaseTells, ReleaseTold, told_of}
+use Rattle.vm_step.proofs.Prelude.{[], None, ReleaseTells, ReleaseTold, told_of}
 use Rattle.vm_step.proofs.kinds.release.release_silently.Given as goal
 
 abbrev pub ghosts-store : goal.ghosts-store
