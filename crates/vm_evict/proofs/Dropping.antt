@@ -4,21 +4,17 @@ use Rattle.vm_evict.specs.declared.candidate.Phase.TheVariants as phases
 use Rattle.vm_evict.specs.declared.candidate.Stage.TheVariants as stages
 use Rattle.vm_evict.proofs.Evidenced.{locks-front, no-mapping, no-state, none-kept, not-emptied, not-fault, out-front, saved-front}
 use Rattle.vm_evict.proofs.Moving.{come-still}
-use Rattle.vm_step.specs.steps.Owner.{OwnerTold}
-use Rattle.vm_step.proofs.steps.Owner.{owner-held, owner-works}
-use Rattle.vm_evict.proofs.Prelude.{[], Advances, ap, append-none, append_assoc, arith, Bool, clean_in, clear-held, clear-works, ClearTold}
-use Rattle.vm_evict.proofs.Prelude.{contents_at, Did, did_load, did_store, Does, draft_of, Each, each-both, evict-alone, evict-leaves, evict-seat}
-use Rattle.vm_evict.proofs.Prelude.{EVICTED, evicted_view, EvictTold, false, false≢true, frame_in, frame_of, FramesCome, has, HasReleased, Held}
-use Rattle.vm_evict.proofs.Prelude.{held_at, home-both, inl, IsAlone, IsEmptied, IsLocking, IsOwning, IsPageFreed, KnowsStage, last_in, last_of}
-use Rattle.vm_evict.proofs.Prelude.{LeavesRest, List, LOCKED, mapping_of, MARKED, MAX_VERSION, MayEvict, Moves, nat_tests, no-fault, None, none-some}
-use Rattle.vm_evict.proofs.Prelude.{or_left, Origin, owning_seat, put_at, refl, Release, release_at, rules, runs-one, same_Some, Seat, seat_of, Some}
-use Rattle.vm_evict.proofs.Prelude.{StandsClean, state_of, stays-alone, StaysHome, subst, sym, tload-works, trans_word, translation_of}
-use Rattle.vm_evict.proofs.Prelude.{TranslationTold, true, upd-other, Version, version_of, View, word-state, word_of, Works, works-then, ℕ, ◌++◌, ◌+◌}
-use Rattle.vm_evict.proofs.Prelude.{◌<◌, ◌||◌, ◌∙◌, ◌∷◌, ◌≡◌, ◌≢◌, ◌≤◌}
+use Rattle.vm_evict.proofs.Prelude.{[], Advances, ap, append-none, append_assoc, arith, Bool, clean_in, clear-held, clear-works, clears, ClearTold}
+use Rattle.vm_evict.proofs.Prelude.{contents_at, Did, did_load, did_store, disowns, Does, draft_of, Each, each-both, evict-alone, evict-leaves, evict-seat}
+use Rattle.vm_evict.proofs.Prelude.{EVICTED, evicted_view, EvictTold, false, false≢true, frame_in, frame_of, FramesCome, has, HasReleased, Held, held_at}
+use Rattle.vm_evict.proofs.Prelude.{home-both, inl, IsAlone, IsEmptied, IsLocking, IsOwning, IsPageFreed, KnowsStage, last_in, last_of, LeavesRest, List}
+use Rattle.vm_evict.proofs.Prelude.{loads, LOCKED, mapping_of, MARKED, MAX_VERSION, MayEvict, Moves, nat_tests, no-fault, None, none-some, or_left, Origin}
+use Rattle.vm_evict.proofs.Prelude.{owner-held, owner-works, OwnerTold, owning_seat, put_at, refl, Release, release_at, rules, runs-one, same_Some, Seat}
+use Rattle.vm_evict.proofs.Prelude.{seat_of, Some, StandsClean, StandsIn, state_of, stays-alone, StaysHome, subst, sym, tload-works, trans_word}
+use Rattle.vm_evict.proofs.Prelude.{translation_of, TranslationTold, true, upd-other, Version, version_of, View, word-state, word_of, Works, works-then, ℕ}
+use Rattle.vm_evict.proofs.Prelude.{◌++◌, ◌+◌, ◌<◌, ◌||◌, ◌∙◌, ◌∷◌, ◌≡◌, ◌≢◌, ◌≤◌}
 use Rattle.vm_evict.proofs.Tables.{kept-at, left-at, left-last, locked-on, state-left}
-use Rattle.vm_evict.proofs.Taken.{frame-said, free-rests, locks-now, taken-works}
-use Rattle.vm_evict.specs.Phases.Empties.{clears, disowns, loads}
-use Rattle.vm_rule.specs.Prelude.{StandsIn}
+use Rattle.vm_evict.proofs.Locking.{frame-said, free-rests, locks-now, taken-works}
 
 module _ {X : Type 0} (p word frame : ℕ) (written : Bool) (done : List Did) (v x : View X) (h : IsOwning p word frame written done v x) where
   locks : IsLocking (seat_of x p)

@@ -16,19 +16,19 @@ pub use Rattle.vm_rule.specs.Prelude.{AreApart, Brings, clean_in, CleanTold, Cle
 pub use Rattle.vm_rule.specs.Prelude.{draft_of, Each, EvictTold, frame_read_by, has, held_at, HomeTold, index_of, IsFoundAt, IsLocking, IsUnheld, IsWhole}
 pub use Rattle.vm_rule.specs.Prelude.{IsWritten, last_in, last_of, left_at, LoadTold, LockTold, LookTold, Mapping, MarkTold, may_call, MayBring}
 pub use Rattle.vm_rule.specs.Prelude.{MayRaiseLock, notes_of, Open, out_at, OutTold, put_at, RaiseTold, ReadIs, Seat, seat_of, stands_dirty, StandsClean}
-pub use Rattle.vm_rule.specs.Prelude.{Start, Stored, translation_of, TranslationTold, UnshareTold, upgraded_view, UpgradeTold, Within, words_held}
+pub use Rattle.vm_rule.specs.Prelude.{StandsIn, Start, Stored, translation_of, TranslationTold, UnshareTold, upgraded_view, UpgradeTold, Within, words_held}
 pub use Rattle.vm_rule.specs.Prelude.{WriteLockTold}
 pub use Rattle.vm_rule.proofs.{Entries.append-none, Entries.each-map, Facts.has-both, Found.part-found, Heard.each-both, Joining.has-left}
 pub use Rattle.vm_rule.proofs.WordFacts.{mapping-clean, version-within, word-made, word-state, word-version}
 pub use Rattle.vm_rule_laws.specs.Standing.{mapping_in, PageStands, state_in}
 pub use Rattle.vm_step.specs.{declared.choice.Looks.Looks, declared.took.Took.TheVariants.Lost, declared.took.Took.TheVariants.Taken}
-pub use Rattle.vm_step.specs.{declared.took.Took.Took}
+pub use Rattle.vm_step.specs.{declared.took.Took.Took, steps.Owner.OwnerTold}
 pub use Rattle.vm_step.specs.Prelude.{candidate_pages, Did, first_or, found_by, GoesOnce, HasGiven, HasWritten, HoldsPage, IsAlone, IsAsideOf}
 pub use Rattle.vm_step.specs.Prelude.{IsCalledOnce, IsCandidate, IsHeld, IsLost, IsNotOut, IsOfPage, IsReady, IsSamePass, IsToldOf, KeepsFrames}
 pub use Rattle.vm_step.specs.Prelude.{known_word_at, KnowsAsBefore, LeavesLast, LeavesRest, MayEvict, MayRaise, MayTakeOut, MayUnshare, Note, Origin}
 pub use Rattle.vm_step.specs.Prelude.{ReadsAsBefore, Release, RunsAlone, StaysHome, Tie, Translation, View, view, Works, WritesNone}
 pub use Rattle.vm_step.proofs.{After.knows-after, Releasing.each-has, steps.Content.load-works, steps.Raise.raise-held, steps.Raise.raise-works}
-pub use Rattle.vm_step.proofs.{Tables.else-knows}
+pub use Rattle.vm_step.proofs.{steps.Owner.owner-held, steps.Owner.owner-works, Tables.else-knows}
 pub use Rattle.vm_step.proofs.Alone.{runs-one, runs-self, runs-then, stays-alone, still-alone}
 pub use Rattle.vm_step.proofs.Asides.{alone-self, alone-then, aside-then, aside-within, holds-then, keeps-self, keeps-then, knows-then, only-then}
 pub use Rattle.vm_step.proofs.Asides.{OnlyReads, reads-then, starts-then, still-locking, whole-then}
@@ -56,7 +56,7 @@ pub use Rattle.vm_evict.specs.Evictions.{Unreleased, written_at}
 pub use Rattle.vm_evict.specs.Flushes.{clean, done_of, failed, first_noted, FlushVisits, gone, HasNoLock, held, IsCounted, IsFlushedAlone, IsFlushedTo}
 pub use Rattle.vm_evict.specs.Flushes.{IsLeft, IsNoted, IsSaved, IsSettled, IsUnwritten, IsVisit, KeepsPage, lost, Marks, noted_pages, nothing_flushed}
 pub use Rattle.vm_evict.specs.Flushes.{RisesFrom, SharesSeen, written}
-pub use Rattle.vm_evict.specs.Phases.{Does, DoesOne, gives_up, GivesUp, InPhases, Raises, Saves, shares, writes}
+pub use Rattle.vm_evict.specs.Phases.{clears, disowns, Does, DoesOne, Empties, gives_up, InPhases, loads, Raises, Saves, shares, writes}
 pub use Rattle.vm_evict.specs.Stages.{Adds, Advances, HasLockTaken, HasNoLockOf, IsAdded, IsAt, IsCleanAt, IsEmptied, IsOver, IsOwning, IsPhaseMade}
 pub use Rattle.vm_evict.specs.Stages.{IsSeenClean, IsUnderWay, IsWaiting, IsWriting, LeavesAll, MayBeginPhase, MayEnd, Moves, none_of, owning_seat, Rests}
 pub use Rattle.vm_evict.specs.Tables.{IsOfAny, KnowsKept, KnowsLocked, KnowsOn, KnowsStage}

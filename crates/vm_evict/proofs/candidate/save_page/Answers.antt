@@ -1,6 +1,6 @@
 use Rattle.vm_evict.specs.declared.candidate.Stage.TheVariants as stages
 use Rattle.vm_evict.proofs.{candidate.save_page.Goals.else-seen-word-via-else-seen-word}
-use Rattle.vm_evict.proofs.{candidate.save_page.Goals.else-seen-word-via-then-seen-word+else-is_none, FlushMarks.not-dirty, Moving.advances-after}
+use Rattle.vm_evict.proofs.{candidate.save_page.Goals.else-seen-word-via-then-seen-word+else-is_none, FlushVisits.not-dirty, Moving.advances-after}
 use Rattle.vm_evict.proofs.{Prelude.refl, Prelude.view}
 use Rattle.vm_evict.proofs.Saving.{clean-so, looked, shares-another, shares-dirty, waits-known, waits-on}
 use Rattle.vm_evict.proofs.candidate.save_page.Goals as goal

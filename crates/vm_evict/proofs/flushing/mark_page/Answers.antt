@@ -1,4 +1,4 @@
-use Rattle.vm_evict.proofs.FlushMarks.{marked-before, marked-now}
+use Rattle.vm_evict.proofs.FlushVisits.{marked-before, marked-now}
 use Rattle.vm_evict.proofs.Prelude.{sym, view, ◌∙◌}
 use Rattle.vm_evict.proofs.flushing.mark_page.Goals as goal
 

@@ -1,9 +1,6 @@
-use Rattle.vm_evict.proofs.Prelude.{ap, arith, length, ready-after, refl, view, ℕ, ◌∙◌, ◌≡◌, ◌≤◌}
+use Rattle.vm_evict.proofs.Prelude.{ap, arith, length, ready-after, refl, view, ◌∙◌}
 use Rattle.vm_evict.proofs.Writing.{copied, copies-more, copies-none, reads-same}
 use Rattle.vm_evict.proofs.write.copy_page.Goals as goal
-
-sixty-four : (i : ℕ) → 64 ≤ i → i ≤ 64 → i ≡ 64
-sixty-four i ge le = omega (arith, ge, le)
 
 pub load_at-requires-clause-pass : goal.load_at-requires-clause-pass
 load_at-requires-clause-pass g c =
@@ -29,4 +26,4 @@ returns-clause-ready g c = ready-after _ _ _ c.args.pass.now c.loop-i.pass c.arg
 
 pub returns-clause-copied : goal.returns-clause-copied
 returns-clause-copied g c =
-    copied c.args.p c.loop-i.i c.loop-i.page (view c.args.pass.now) (view c.loop-i.pass) (sixty-four c.loop-i.i c.loop-i-test.false c.loop-i.auto.i-end) c.requires.size c.loop-i.invariant.copies
+    copied c.args.p c.loop-i.i c.loop-i.page (view c.args.pass.now) (view c.loop-i.pass) (omega (arith, c.loop-i-test.false, c.loop-i.auto.i-end)) c.requires.size c.loop-i.invariant.copies

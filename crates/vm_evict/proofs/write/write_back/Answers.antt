@@ -1,6 +1,6 @@
 use Rattle.vm_evict.proofs.Prelude.{arith, ready-after, view, ◌∙◌}
-use Rattle.vm_evict.proofs.Writing.{cleaned, copies-frame, copies-shared, copies-size, may-clean, may-come-home, may-raise, may-take-out, refused}
-use Rattle.vm_evict.proofs.Writing.{work-called, work-cleaned, work-gone, work-raised}
+use Rattle.vm_evict.proofs.Writing.{cleaned, copies-frame, copies-shared, copies-size, gone, may-clean, may-come-home, may-raise, may-take-out, refused}
+use Rattle.vm_evict.proofs.Writing.{work-called, work-cleaned, work-raised}
 use Rattle.vm_evict.proofs.write.write_back.Goals as goal
 
 pub block_out-block-requires-clause-legal : goal.block_out-block-requires-clause-legal
@@ -8,7 +8,7 @@ block_out-block-requires-clause-legal g c = may-take-out c.args.p c.args.frame c
 
 pub copy_page-page-requires-clause-ready : goal.copy_page-page-requires-clause-ready
 copy_page-page-requires-clause-ready g c =
-    ready-after _ _ _ c.args.pass.now c.block_out-block.new.pass c.args.p _ (c.block_out-block.ensures.pass.0, c.block_out-block.ensures.pass.1) (work-gone c.args.p c.args.frame c.requires.legal.0 (view c.args.pass.now) c.requires.legal.1 _ (view c.block_out-block.new.pass) c.block_out-block.ensures.told).leaves c.requires.ready
+    ready-after _ _ _ c.args.pass.now c.block_out-block.new.pass c.args.p _ (c.block_out-block.ensures.pass.0, c.block_out-block.ensures.pass.1) (gone c.args.p c.args.frame c.requires.legal.0 (view c.args.pass.now) c.requires.legal.1 _ (view c.block_out-block.new.pass) c.block_out-block.ensures.told).works.leaves c.requires.ready
 
 pub copy_page-page-requires-clause-frame : goal.copy_page-page-requires-clause-frame
 copy_page-page-requires-clause-frame g c = copies-frame c.args.p c.args.frame c.requires.legal.0 (view c.args.pass.now) c.requires.legal.1 _ (view c.block_out-block.new.pass) c.block_out-block.ensures.told
