@@ -2,8 +2,8 @@
 use Rattle.vm_exmap.specs.declared.interface.Alloc.TheVariants as allocs
 use Rattle.vm_pool.specs.Brings.{Fetches as fetched, Gets as gets, GetsNone as none}
 use Rattle.vm_pool.proofs.Prelude.{[], Alloc, alone-then, append-none, aside-self, Bring, Did, Err, Fetches, holds-then, inl, inr, IsAlloc, IsAlone}
-use Rattle.vm_pool.proofs.Prelude.{IsAsideOf, IsFramed, IsFreed, IsSwept, KeepsLocks, knows-then, List, moved-aside, MovesFrames, Ok, refl, Report}
-use Rattle.vm_pool.proofs.Prelude.{Result, starts-then, StartsWith, still-alone, still-locking, subst, sym, View, ℕ, ◌∙◌, ◌∷◌, ◌≡◌}
+use Rattle.vm_pool.proofs.Prelude.{IsAsideOf, IsFramed, IsFreed, IsSwept, KeepsLocks, knows-then, List, moved-aside, MovesFrames, Ok, refl, Report, Result}
+use Rattle.vm_pool.proofs.Prelude.{starts-then, StartsWith, still-alone, still-locking, subst, sym, View, ℕ, ◌∙◌, ◌∷◌, ◌≡◌}
 
 same-start : {A : Type 0} (l m : List A) → l ≡ m → StartsWith l m
 same-start l m e = ([], e ∙ sym (append-none m))

@@ -1,6 +1,6 @@
 -- The second call and the read meet the premises of what is promised a pass that is alone, by what the call before them told.
 use Rattle.vm_pool.proofs.Prelude.{[], length, length-mapped, List, map, Shape, Stored, subst, sym, view, ℕ, ◌<◌, ◌∙◌, ◌≡◌}
-use Rattle.vm_pool.proofs.TwoPages.{reads-first, second-sure}
+use Rattle.vm_pool.proofs.FirstPage.{reads-first, second-sure}
 use Rattle.vm_pool.proofs.two_pages.open_two.Goals as goal
 
 pub open_page-requires : goal.open_page-requires

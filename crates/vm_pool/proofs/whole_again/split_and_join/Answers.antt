@@ -1,14 +1,13 @@
 use Rattle.vm_step.proofs.Together.{each-at}
 use Rattle.vm_pool.proofs.FirstPage.{first-alone}
-use Rattle.vm_pool.proofs.Prelude.{ap, arith, holds-none, HoldsNoPage, length, new-nothing, numbers-length, refl, split-current, split-still}
-use Rattle.vm_pool.proofs.Prelude.{still-nothing, subst, sym, view, whole-again, ◌∙◌, ◌≡◌, ◌≤◌}
+use Rattle.vm_pool.proofs.Prelude.{ap, arith, holds-none, HoldsNoPage, length, new-nothing, numbers-length, refl, split-current, split-still, still-nothing}
+use Rattle.vm_pool.proofs.Prelude.{subst, sym, view, whole-again, ◌∙◌, ◌≡◌}
 use Rattle.vm_pool.proofs.whole_again.split_and_join.Goals as goal
 
 pub split-requires-clause-parts : goal.split-requires-clause-parts
 split-requires-clause-parts g c =
     let many : length (view c.in_ok-pool.pass).fresh ≡ 4294967295 = ap (λ u. length u.fresh) c.in_ok-pool.ensures.view ∙ numbers-length 1 4294967295 in
-    let fits : c.args.n ≤ 4294967295 = c.requires.parts in
-    omega (arith, many, fits)
+    omega (arith, many, c.requires.parts)
 
 pub join_each-requires-clause-nothing : goal.join_each-requires-clause-nothing
 join_each-requires-clause-nothing g c k d l = let new = each-at _ (λ p. view p) c.in_ok-given.given.items c.in_ok-given.ensures.split.each k d l in holds-none _ (new-nothing _ _ _ _ _ new.new)

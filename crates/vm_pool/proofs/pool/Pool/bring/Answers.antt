@@ -1,5 +1,5 @@
 use Rattle.vm_pool.specs.Brings.{IsBring as is_bring}
-use Rattle.vm_pool.proofs.Asking.{answered-free, knows-asked}
+use Rattle.vm_pool.proofs.Knowing.{answered-free, knows-asked}
 use Rattle.vm_pool.proofs.Keeping.{fetches-keeps, framed-keeps, keeps-then}
 use Rattle.vm_pool.proofs.Prelude.{Err, Fetches, Gets, Ok, subst, sym, view, ◌<◌, ◌∙◌}
 use Rattle.vm_pool.proofs.pool.Pool.bring.Goals as goal
