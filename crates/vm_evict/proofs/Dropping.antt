@@ -2,19 +2,19 @@
 use Rattle.vm_rule.specs.declared.view.Place.TheVariants as places
 use Rattle.vm_evict.specs.declared.candidate.Phase.TheVariants as phases
 use Rattle.vm_evict.specs.declared.candidate.Stage.TheVariants as stages
-use Rattle.vm_evict.proofs.Evidenced.{locks-front, no-mapping, no-state, none-kept, not-emptied, not-fault, out-front, saved-front}
+use Rattle.vm_evict.proofs.Evidenced.{locks-front, no-mapping, none-kept, out-front, saved-front}
 use Rattle.vm_evict.proofs.Moving.{come-still}
 use Rattle.vm_evict.proofs.Prelude.{[], Advances, ap, append-none, append_assoc, arith, Bool, clean_in, clear-held, clear-works, clears, ClearTold}
 use Rattle.vm_evict.proofs.Prelude.{contents_at, Did, did_load, did_store, disowns, Does, draft_of, Each, each-both, evict-alone, evict-leaves, evict-seat}
 use Rattle.vm_evict.proofs.Prelude.{EVICTED, evicted_view, EvictTold, false, false≢true, frame_in, frame_of, FramesCome, has, HasReleased, Held, held_at}
-use Rattle.vm_evict.proofs.Prelude.{home-both, inl, IsAlone, IsEmptied, IsLocking, IsOwning, IsPageFreed, KnowsStage, last_in, last_of, LeavesRest, List}
-use Rattle.vm_evict.proofs.Prelude.{loads, LOCKED, mapping_of, MARKED, MAX_VERSION, MayEvict, Moves, nat_tests, no-fault, None, none-some, or_left, Origin}
-use Rattle.vm_evict.proofs.Prelude.{owner-held, owner-works, OwnerTold, owning_seat, put_at, refl, Release, release_at, rules, runs-one, same_Some, Seat}
-use Rattle.vm_evict.proofs.Prelude.{seat_of, Some, StandsClean, StandsIn, state_of, stays-alone, StaysHome, subst, sym, tload-works, trans_word}
+use Rattle.vm_evict.proofs.Prelude.{home-both, inl, is_dirty, IsAlone, IsEmptied, IsLocking, IsOwning, IsPageFreed, KnowsStage, last_in, last_of, LeavesRest}
+use Rattle.vm_evict.proofs.Prelude.{List, loads, LOCKED, mapping_of, MARKED, MAX_VERSION, MayEvict, Moves, nat_tests, no-fault, None, none-some, or_left}
+use Rattle.vm_evict.proofs.Prelude.{Origin, owner-held, owner-works, OwnerTold, owning_seat, put_at, refl, Release, release_at, rules, runs-one, same_Some}
+use Rattle.vm_evict.proofs.Prelude.{Seat, seat_of, Some, StandsClean, StandsIn, state_of, stays-alone, StaysHome, subst, sym, tload-works, trans_word}
 use Rattle.vm_evict.proofs.Prelude.{translation_of, TranslationTold, true, upd-other, Version, version_of, View, word-state, word_of, Works, works-then, ℕ}
 use Rattle.vm_evict.proofs.Prelude.{◌++◌, ◌+◌, ◌<◌, ◌||◌, ◌∙◌, ◌∷◌, ◌≡◌, ◌≢◌, ◌≤◌}
 use Rattle.vm_evict.proofs.Tables.{kept-at, left-at, left-last, locked-on, state-left}
-use Rattle.vm_evict.proofs.Locking.{frame-said, free-rests, locks-now, taken-works}
+use Rattle.vm_evict.proofs.Locking.{frame-of-parts, free-rests, locks-now, taken-works}
 
 module _ {X : Type 0} (p word frame : ℕ) (written : Bool) (done : List Did) (v x : View X) (h : IsOwning p word frame written done v x) where
   locks : IsLocking (seat_of x p)
@@ -34,7 +34,7 @@ module _ {X : Type 0} (p word frame : ℕ) (written : Bool) (done : List Did) (v
     said = l.called (or_left (seat_of x p).exclusive (seat_of x p).writing (ap (λ (s : Seat). s.exclusive) h.taken.now)) ∙ h.stands
 
     pub names : frame_in t ≡ Some frame
-    names = sym (frame-said t) ∙ ap frame_of said
+    names = sym (frame-of-parts (frame_in t) (is_dirty t)) ∙ ap frame_of said
 
     -- the frame is the one that the word names
     pub owning-there : (f : ℕ) → frame_in t ≡ Some f → IsOwning p word f written done v x
@@ -80,11 +80,7 @@ module _ {X : Type 0} (p word frame : ℕ) (written : Bool) (done : List Did) (v
         abbrev all : List Did
         all = done ++ worked
 
-        -- the steps did not make it clean
-        abbrev leaves-it : Did → Type 0
-        leaves-it d = d.at ≡ places.Translation p → d.wrote ≢ Some (trans_word (Some (clean_in frame)))
-
-        -- nor did they move its block
+        -- they did not move its block
         home-worked : StaysHome p worked
         home-worked = (no-fault p load-did refl, ((λ here. refl), ((λ here. refl), tt)))
 
@@ -95,12 +91,12 @@ module _ {X : Type 0} (p word frame : ℕ) (written : Bool) (done : List Did) (v
             locked = locks-front p word done worked h.locked;
             foreign =
                 each-both (λ (d : Did). d.at ≡ places.State p → d.wrote ≢ Some word) done worked h.foreign
-                ((λ here. absurd (no-state p (places.Translation p) refl here)), ((λ here. absurd (let no : places.Owner frame ≡ places.State p = here in cc)), ((λ here. absurd (no-state p (places.Translation p) refl here)), tt)));
+                ((λ here. absurd (let no : places.Translation p ≡ places.State p = here in cc)), ((λ here. absurd (let no : places.Owner frame ≡ places.State p = here in cc)), ((λ here. absurd (let no : places.Translation p ≡ places.State p = here in cc)), tt)));
             stood = (t, record { earlier = done; step = load-did; later = disown-did ∷ clear-did ∷ []; cut = refl; gives = (refl, refl) }, said);
             cleaned = λ e. saved-front p word frame done worked (h.cleaned e) home-worked;
             unwritten = λ e. (
-              each-both leaves-it done worked (none-kept done (places.Translation p) (trans_word (Some (clean_in frame))) (h.kept e).kept)
-                  ((λ here is. none-some (trans_word (Some (clean_in frame))) is), ((λ here. absurd (let no : places.Owner frame ≡ places.Translation p = here in cc)), ((λ here is. not-emptied frame (same_Some (trans_word None) (trans_word (Some (clean_in frame))) is)), tt))),
+              each-both _ done worked (none-kept done (places.Translation p) (trans_word (Some (clean_in frame))) (h.kept e).kept)
+                  ((λ here is. none-some (trans_word (Some (clean_in frame))) is), ((λ here. absurd (let no : places.Owner frame ≡ places.Translation p = here in cc)), ((λ here is. let none : 0 ≡ frame + 1 + 0 = same_Some (trans_word None) (trans_word (Some (clean_in frame))) is in absurd (omega (arith, none))), tt))),
               home-both p done worked (h.kept e).home home-worked,
             );
             disowned = record { earlier = done ++ load-did ∷ []; step = disown-did; later = clear-did ∷ []; cut = sym (append_assoc done (load-did ∷ []) (disown-did ∷ clear-did ∷ [])); place = refl; wrote = refl };
@@ -131,8 +127,8 @@ module _ {X : Type 0} (p word frame : ℕ) (written : Bool) (done : List Did) (v
         emptied-known alone page k =
             let start = work.leaves.start in (
               locked-on (p, word) LOCKED (version_of word) v x b
-                  (kept-at worked [] x b start work.alone alone (places.State p) page ((λ here. refl), ((λ here. absurd (let no : places.Owner frame ≡ places.State p = here in cc)), ((λ here. absurd (no-state p (places.Translation p) refl here)), tt)))) k.0,
-              kept-at worked [] x b start work.alone alone (places.Fault p) page ((λ here. refl), ((λ here. absurd (let no : places.Owner frame ≡ places.Fault p = here in cc)), ((λ here. absurd (not-fault p (places.Translation p) refl here)), tt))) ∙ k.1,
+                  (kept-at worked [] x b start work.alone alone (places.State p) page ((λ here. refl), ((λ here. absurd (let no : places.Owner frame ≡ places.State p = here in cc)), ((λ here. absurd (let no : places.Translation p ≡ places.State p = here in cc)), tt)))) k.0,
+              kept-at worked [] x b start work.alone alone (places.Fault p) page ((λ here. refl), ((λ here. absurd (let no : places.Owner frame ≡ places.Fault p = here in cc)), ((λ here. absurd (let no : places.Translation p ≡ places.Fault p = here in cc)), tt))) ∙ k.1,
               left-at worked [] x b start work.alone alone (places.Translation p) (trans_word None) (left-last (load-did ∷ disown-did ∷ []) clear-did (trans_word None) refl),
             )
 
@@ -148,12 +144,6 @@ module _ {X : Type 0} (p word frame : ℕ) (written : Bool) (done : List Did) (v
 -- ---- A page that the pass holds exclusively, and that was taken out of its frame, is released as evicted: nothing but its version is another then.
 
 module _ {X : Type 0} (p word frame : ℕ) (written : Bool) (marked : state_of word ≡ MARKED) (below : version_of word < MAX_VERSION) (done : List Did) (v b : View X) (h : IsEmptied p word frame written done v b) where
-  locked-now : IsLocking (seat_of b p)
-  locked-now = locks-now p word owning_seat (inl refl) v b h.taken
-
-  owns : (seat_of b p).exclusive ≡ true
-  owns = ap (λ (s : Seat). s.exclusive) h.taken.now
-
   pub may-evict : (version : ℕ) → version ≡ version_of word → b.out ≡ None → MayEvict b p version
   may-evict version is home = grind arith
 
@@ -170,12 +160,6 @@ module _ {X : Type 0} (p word frame : ℕ) (written : Bool) (marked : state_of w
     abbrev end-release : Release
     end-release = record { page = p; version = version_of word + 1; words = draft_of b p }
 
-    abbrev end-all : List Did
-    end-all = done ++ end-did ∷ []
-
-    seat-now : seat_of w p ≡ record { shares = 0; exclusive = false; writing = false; reading = None }
-    seat-now = evict-seat e ∙ ap (λ (s : Seat). record s { exclusive = false }) h.taken.now
-
     changes : LeavesRest p (end-did ∷ []) b w
     changes = evict-leaves e h.taken.next
 
@@ -191,11 +175,11 @@ module _ {X : Type 0} (p word frame : ℕ) (written : Bool) (marked : state_of w
         let first = ap (λ (y : View X). y.releases) e.brings.view ∙ ap (λ (r : List Release). r ++ end-release ∷ []) known in
         let now : w.releases ≡ ((v.releases ++ since) ++ item (last_of b p).words ∷ []) ++ [] = first ∙ ap (λ (k : List ℕ). (v.releases ++ since) ++ item k ∷ []) h.draft ∙ sym (append-none ((v.releases ++ since) ++ item (last_of b p).words ∷ [])) in
         let same : last_in v.start (v.releases ++ since) p ≡ record { version = version_of word; words = (last_of b p).words } =
-        ap (λ (r : List Release). last_in v.start r p) (sym known) ∙ ap (λ (o : Origin). last_in o (b.releases ++ e.brings.between) p) (sym h.taken.start) ∙ e.brings.kept p locked-now
+        ap (λ (r : List Release). last_in v.start r p) (sym known) ∙ ap (λ (o : Origin). last_in o (b.releases ++ e.brings.between) p) (sym h.taken.start) ∙ e.brings.kept p (locks-now p word owning_seat (inl refl) v b h.taken)
         ∙ ap (λ (n : ℕ). record { version = n; words = (last_of b p).words }) {x = (last_of b p).version} {y = version_of word} h.taken.at in
         search (rules, now, same)
 
-    freed : IsPageFreed p word frame written end-all v w
+    freed : IsPageFreed p word frame written (done ++ end-did ∷ []) v w
     freed = record {
       out =
           out-front p word frame written done (end-did ∷ []) h.out ((λ here is. evicted-else (same_Some (word_of EVICTED (version_of word + 1)) word is)), tt)
@@ -219,4 +203,4 @@ module _ {X : Type 0} (p word frame : ℕ) (written : Bool) (marked : state_of w
         let moves : Moves phases.Leave (p, word) (end-did ∷ []) b w = search (rules, changes, out, reads) in
         let left : release_at b (p, word) (stages.Freed frame written) ≡ end-release ∷ [] = ap (λ (k : List ℕ). record { page = p; version = version_of word + 1; words = k } ∷ []) (sym h.draft) in
         let come : FramesCome [] b w = come-still b w (ap (λ (y : View X). y.frames) e.brings.view) (ap (λ (y : View X). y.contents) e.brings.view) in
-        search (rules, moves, freed, free-rests p v w h.taken.before seat-now, runs, evict-alone e h.draft, left, notes, come, freed-known)
+        search (rules, moves, freed, free-rests p v w h.taken.before (evict-seat e ∙ ap (λ (s : Seat). record s { exclusive = false }) h.taken.now), runs, evict-alone e h.draft, left, notes, come, freed-known)

@@ -3,14 +3,14 @@ use Rattle.vm_evict.specs.declared.candidate.Phase.TheVariants as phases
 use Rattle.vm_evict.specs.declared.candidate.Stage.TheVariants as stages
 use Rattle.vm_evict.proofs.Gathering.{gathered-each, gathered-few, gathered-none, page-at}
 use Rattle.vm_evict.proofs.Moving.{come-still, phases-there}
-use Rattle.vm_evict.proofs.Passing.{all-self, Passes, rests-self}
+use Rattle.vm_evict.proofs.Passing.{Passes}
 use Rattle.vm_evict.proofs.Prelude.{[], alone-self, ap, append-none, append_assoc, arith, Bool, candidate_at, candidate_pages, cases_Bool, Counts, Did}
 use Rattle.vm_evict.proofs.Prelude.{DoesOne, Each, else-knows, Evicted, false, first_of, first_pair, frame_at, FramesCome, gathered, has, if◌then◌else◌}
 use Rattle.vm_evict.proofs.Prelude.{InPhases, IsAdded, IsAllowed, IsAlone, IsAsideOf, IsAt, IsBatch, IsEnd, IsOfAny, IsOver, IsPhaseMade, IsUnderWay}
 use Rattle.vm_evict.proofs.Prelude.{KnowsEvicted, KnowsStage, length, length-append, List, Looks, lost_at, None, none_of, Note, note_at, one_if, refl}
 use Rattle.vm_evict.proofs.Prelude.{release_at, Rests, rules, runs-self, RunsAlone, Stage, stage_at, subst, suc, sym, Tallies, true, View, Within, written_at}
 use Rattle.vm_evict.proofs.Prelude.{zero, ℕ, ⊎_elim, ◌++◌, ◌+◌, ◌<◌, ◌∙◌, ◌∷◌, ◌≡◌, ◌≤◌, ◌⊎◌}
-use Rattle.vm_evict.proofs.Tables.{each-two, kept-self}
+use Rattle.vm_evict.proofs.Tables.{each-two}
 
 -- the first that failed stays the first
 first-more : (ns : List Note) (p count : ℕ) → first_pair (first_of ns) (p, count) ≡ first_of (ns ++ record { page = p; count = count } ∷ [])
@@ -101,10 +101,10 @@ module _ {X : Type 0} where
 
   pub waiting-all : (list : List (ℕ × ℕ)) (ends : List Stage) (v : View X) → v.out ≡ None → ((n : ℕ) → n < length list → stage_at ends n ≡ stages.Waiting) → IsUnderWay list ends [] v v
   waiting-all list ends v none wait = record {
-    leaves = all-self list v;
+    leaves = search (rules, append-none);
     none = none;
     home = none;
-    each = λ n b. subst (λ (s : Stage). IsAt (candidate_at list n) s [] v v) (sym (wait n b)) record { quiet = tt; kept = record { kept = tt; home = tt }; rests = rests-self (candidate_at list n).0 v; start = refl; since = ([], sym (append-none v.releases)) };
+    each = λ n b. subst (λ (s : Stage). IsAt (candidate_at list n) s [] v v) (sym (wait n b)) record { quiet = tt; kept = record { kept = tt; home = tt }; rests = search rules; start = refl; since = ([], sym (append-none v.releases)) };
     runs =
         subst (λ l. RunsAlone [] l v v)
         (sym (gathered-none (release_at v) list (length list) ends (λ j b. ap (release_at v (candidate_at list j)) (wait j b))))
@@ -112,7 +112,7 @@ module _ {X : Type 0} where
     alone = alone-self v;
     noted = sym (ap (λ (l : List Note). v.notes ++ l) (gathered-none note_at list (length list) ends (λ j b. ap (note_at (candidate_at list j)) (wait j b))) ∙ append-none v.notes);
     frames = subst (λ (l : List ℕ). FramesCome l v v) (sym (gathered-none frame_at list (length list) ends (λ j b. ap (frame_at (candidate_at list j)) (wait j b)))) (come-still v v refl refl);
-    table = λ alone n b page. subst (λ (s : Stage). KnowsStage (candidate_at list n) s v v) (sym (wait n b)) (kept-self (candidate_at list n).0 v);
+    table = λ alone n b page. subst (λ (s : Stage). KnowsStage (candidate_at list n) s v v) (sym (wait n b)) record { state = refl; translation = refl; fault = refl };
   }
 
   -- ---- the end

@@ -2,19 +2,20 @@
 -- the step before left, so no exchange is lost, and the page is saved.
 use Rattle.vm_rule.specs.declared.view.Place.TheVariants as places
 use Rattle.vm_evict.proofs.{Locking.lock-now, Locking.unlocked-seat, Writing.no-state-written, Writing.stays-on}
-use Rattle.vm_evict.proofs.Evidenced.{dirty-front, has-lost, no-mapping, none-both, none-kept, none-silent, saved-under, unlocked, unsaved-both, unsaved-load}
+use Rattle.vm_evict.proofs.Evidenced.{dirty-front, has-lost, no-mapping, none-kept, none-silent, saved-under, unlocked, unsaved-both, unsaved-load}
 use Rattle.vm_evict.proofs.Evidenced.{unsaved-one, wrote-taken}
 use Rattle.vm_evict.proofs.Prelude.{[], ap, arith, aside-of, aside-self, aside-then, Bool, clean, Did, did_exchange, did_load, dirty_in, Each, each-both}
-use Rattle.vm_evict.proofs.Prelude.{EndsWrite, Err, EVICTED, failed, false, false≢true, Flushed, found_by, given-behind, given-front, GoesOnce, gone, HasGiven}
-use Rattle.vm_evict.proofs.Prelude.{HasNotSaved, HasTaken, HasWritten, held, home-both, inl, inr, is_some, IsAllowed, IsAlone, IsCounted, IsDirtyFrame}
-use Rattle.vm_evict.proofs.Prelude.{IsFoundDirty, IsHeld, IsLeft, IsOfPage, IsOwnPlace, IsSaved, IsStillLocked, IsUnheld, IsVisit, KeepsPage, known_word_at}
-use Rattle.vm_evict.proofs.Prelude.{KnowsClean, leaves-then, LeavesLast, LeavesRest, List, look-only, LookTold, Lost, lost, lost-only, mapping_in, mapping_of}
-use Rattle.vm_evict.proofs.Prelude.{mark-only, MARKED, Marks, MarkTold, no_seat, None, Ok, once-behind, once-front, OnlyReads, Option, Origin, part-found, refl}
-use Rattle.vm_evict.proofs.Prelude.{Result, rules, runs-one, runs-self, runs-then, RunsAlone, same_Some, seat_of, SharesSeen, Some, stands_dirty, Start}
-use Rattle.vm_evict.proofs.Prelude.{state_in, state_of, stays-alone, StaysOn, still-alone, subst, sym, Taken, Took, translation-only, TranslationTold, true}
-use Rattle.vm_evict.proofs.Prelude.{true≢false, UNLOCKED, unshare-did, unshare-leaves, unshare-others, UnshareTold, version-within, version_of, View, word-made}
-use Rattle.vm_evict.proofs.Prelude.{word-state, word-version, word_of, write_lock-did, write_lock-leaves, write_lock-others, WriteLockTold, WritesNone, written}
-use Rattle.vm_evict.proofs.Prelude.{written-behind, written-front, ℕ, ⊎_elim, ◌++◌, ◌+◌, ◌-◌, ◌<◌, ◌^◌, ◌∙◌, ◌∷◌, ◌≡◌, ◌≢◌, ◌⊎◌}
+use Rattle.vm_evict.proofs.Prelude.{EndsWrite, Err, EVICTED, failed, false, false≢true, Flushed, found_by, given-behind, given-front, GoesOnce, gone}
+use Rattle.vm_evict.proofs.Prelude.{HasGiven, HasNotSaved, HasTaken, HasWritten, held, home-both, inl, inr, is_some, IsAllowed, IsAlone, IsCounted}
+use Rattle.vm_evict.proofs.Prelude.{IsDirtyFrame, IsFoundDirty, IsHeld, IsLeft, IsOfPage, IsOwnPlace, IsSaved, IsStillLocked, IsUnheld, IsVisit, KeepsPage}
+use Rattle.vm_evict.proofs.Prelude.{known_word_at, KnowsClean, leaves-then, LeavesLast, LeavesRest, List, look-only, LookTold, Lost, lost, lost-only}
+use Rattle.vm_evict.proofs.Prelude.{mapping_in, mapping_of, mark-only, MARKED, Marks, MarkTold, no_seat, None, Ok, once-behind, once-front, OnlyReads, Option}
+use Rattle.vm_evict.proofs.Prelude.{Origin, part-found, refl, Result, rules, runs-one, runs-self, runs-then, RunsAlone, same_Some, seat_of, SharesSeen, Some}
+use Rattle.vm_evict.proofs.Prelude.{stands_dirty, Start, state_in, state_of, stays-alone, StaysOn, still-alone, subst, sym, Taken, Took, translation-only}
+use Rattle.vm_evict.proofs.Prelude.{TranslationTold, true, true≢false, UNLOCKED, unshare-did, unshare-leaves, unshare-others, UnshareTold, version-within}
+use Rattle.vm_evict.proofs.Prelude.{version_of, View, word-made, word-state, word-version, word_of, write_lock-did, write_lock-leaves, write_lock-others}
+use Rattle.vm_evict.proofs.Prelude.{WriteLockTold, WritesNone, written, written-behind, written-front, ℕ, ⊎_elim, ◌++◌, ◌+◌, ◌-◌, ◌<◌, ◌^◌, ◌∙◌, ◌∷◌, ◌≡◌}
+use Rattle.vm_evict.proofs.Prelude.{◌≢◌, ◌⊎◌}
 use Rattle.vm_evict.proofs.Tables.{found-first, kept-at, left-at, left-last, share-gone}
 
 -- a page without a dirty frame is not dirty
@@ -300,8 +301,7 @@ module _ {X : Type 0} (p : ℕ) (tied : Start → ℕ → List ℕ → ℕ → L
 
                 all-kept : WritesNone (places.Translation p) done → WritesNone (places.Translation p) all-did
                 all-kept kept =
-                    none-both (places.Translation p) front-did back-did front.unsaved.kept
-                    (none-both (places.Translation p) lock (done ++ end) lock-kept.kept (none-both (places.Translation p) done end kept end-kept.kept))
+                    each-both _ front-did back-did front.unsaved.kept (each-both _ lock (done ++ end) lock-kept.kept (each-both _ done end kept end-kept.kept))
 
                 abbrev share : SharesSeen p word all-did
                 share = record {

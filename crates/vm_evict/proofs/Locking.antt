@@ -3,22 +3,22 @@
 use Rattle.vm_rule.specs.declared.view.Place.TheVariants as places
 use Rattle.vm_evict.specs.declared.candidate.Phase.TheVariants as phases
 use Rattle.vm_evict.specs.declared.candidate.Stage.TheVariants as stages
-use Rattle.vm_evict.proofs.Evidenced.{frame-one, has-lost, has-taken, holds-same, lost-one, none-kept, none-stored, rests-on, saved-front, unlocked}
+use Rattle.vm_evict.proofs.Evidenced.{has-lost, has-taken, holds-same, lost-one, none-kept, none-stored, rests-on, saved-front, unlocked}
 use Rattle.vm_evict.proofs.Evidenced.{unsaved-both, unsaved-one, wrote-taken}
 use Rattle.vm_evict.proofs.Moving.{gives-nothing, GivesNothing, Quietly, quietly-then, quietly-to}
 use Rattle.vm_evict.proofs.Prelude.{[], Advances, ap, arith, Bool, Brings, by_share, cases_Bool, clean_in, Did, did_exchange, Does, Each, each-both, EVICTED}
-use Rattle.vm_evict.proofs.Prelude.{false, false≢true, frame_in, frame_of, has, HasLockTaken, HasLost, HasNoLockOf, Held, held_at, if◌then◌else◌, inl, inr}
-use Rattle.vm_evict.proofs.Prelude.{is_dirty, IsAlone, IsLocking, IsLost, IsMissed, IsNotOut, IsOwning, IsSavedFrom, IsSeenClean, IsSome, IsToldOf, IsToShare}
-use Rattle.vm_evict.proofs.Prelude.{IsUnderWriteBack, IsUnheld, IsWaiting, IsWriting, known_word_at, KnowsKept, KnowsLocked, KnowsOn, KnowsStage, last_of}
-use Rattle.vm_evict.proofs.Prelude.{LeavesOthers, LeavesOwn, LeavesRest, length, List, lock-brings, lock-did, lock-draft, lock-held, lock-others, lock-own}
-use Rattle.vm_evict.proofs.Prelude.{lock-seat, LOCKED, LocksFrom, LockTold, lost-view, Mapping, mapping_at, mapping_of, MARKED, MAX_VERSION, MayEnd}
-use Rattle.vm_evict.proofs.Prelude.{MayRaiseLock, MayUnshare, no-fault, no_seat, None, none-some, once, Option, others-still, owning_seat, Phase, Raises, refl}
-use Rattle.vm_evict.proofs.Prelude.{rest-of, Rests, rules, RunsAlone, same_Some, Seat, seat_of, shares, Some, Stage, stands_dirty, Start, starts-then, state_of}
+use Rattle.vm_evict.proofs.Prelude.{false, false≢true, frame_of, has, HasLockTaken, HasLost, HasNoLockOf, Held, held_at, if◌then◌else◌, inl, inr, IsAlone}
+use Rattle.vm_evict.proofs.Prelude.{IsLocking, IsLost, IsMissed, IsNotOut, IsOwning, IsSavedFrom, IsSeenClean, IsSome, IsToldOf, IsToShare, IsUnderWriteBack}
+use Rattle.vm_evict.proofs.Prelude.{IsUnheld, IsWaiting, IsWriting, known_word_at, KnowsKept, KnowsLocked, KnowsOn, KnowsStage, last_of, LeavesOthers}
+use Rattle.vm_evict.proofs.Prelude.{LeavesOwn, LeavesRest, length, List, lock-brings, lock-did, lock-draft, lock-held, lock-others, lock-own, lock-seat}
+use Rattle.vm_evict.proofs.Prelude.{LOCKED, LocksFrom, LockTold, lost-view, Mapping, mapping_at, mapping_of, MARKED, MAX_VERSION, MayEnd, MayRaiseLock}
+use Rattle.vm_evict.proofs.Prelude.{MayUnshare, no-fault, no_seat, None, none-some, once, Option, others-still, owning_seat, Phase, Raises, refl, rest-of}
+use Rattle.vm_evict.proofs.Prelude.{Rests, rules, RunsAlone, same_Some, Seat, seat_of, shares, Some, Stage, stands_dirty, Start, starts-then, state_of}
 use Rattle.vm_evict.proofs.Prelude.{still-own, still-works, subst, sym, Translation, true, Unreleased, unshare-did, unshare-others, unshare-own, unshare-seat}
-use Rattle.vm_evict.proofs.Prelude.{unshared, UnshareTold, upgrade-brings, upgrade-did, upgrade-draft, upgrade-held, upgrade-last, upgrade-others, upgrade-own}
-use Rattle.vm_evict.proofs.Prelude.{upgrade-seat, upgraded_view, UpgradeTold, version-within, version_of, View, word-state, word-version, word_of, WORDS, Works}
-use Rattle.vm_evict.proofs.Prelude.{write_lock-brings, write_lock-did, write_lock-held, write_lock-others, write_lock-own, write_lock-seat, WriteLockTold}
-use Rattle.vm_evict.proofs.Prelude.{writing_seat, ℕ, ⊎_elim, ◌++◌, ◌<◌, ◌==◌, ◌∙◌, ◌∷◌, ◌≡◌, ◌≢◌, ◌≤◌}
+use Rattle.vm_evict.proofs.Prelude.{unshared, UnshareTold, upgrade-brings, upgrade-did, upgrade-draft, upgrade-held, upgrade-last, upgrade-others}
+use Rattle.vm_evict.proofs.Prelude.{upgrade-own, upgrade-seat, upgraded_view, UpgradeTold, version-within, version_of, View, word-state, word-version}
+use Rattle.vm_evict.proofs.Prelude.{word_of, WORDS, Works, write_lock-brings, write_lock-did, write_lock-held, write_lock-others, write_lock-own}
+use Rattle.vm_evict.proofs.Prelude.{write_lock-seat, WriteLockTold, writing_seat, ℕ, ⊎_elim, ◌++◌, ◌<◌, ◌==◌, ◌∙◌, ◌∷◌, ◌≡◌, ◌≢◌, ◌≤◌}
 use Rattle.vm_evict.proofs.Tables.{found-first, kept-then, silent-page, state-left}
 
 module _ {X : Type 0} {tied : Start → ℕ → List ℕ → ℕ → List ℕ → Type 0} {p expects : ℕ} {v w : View X} (t : WriteLockTold tied p expects expects v w) where
@@ -37,22 +37,15 @@ unlocked-seat t seat = unshare-seat t ∙ ap unshared seat
 
 -- ---- A candidate that the pass has locked, as it works on it, and as it gives the lock up.
 
-frame-of-parts : (o : Option ℕ) (dirty : Bool) → frame_of (mapping_at o dirty) ≡ o
+-- the frame of what a translation word says is the one that it names
+pub frame-of-parts : (o : Option ℕ) (dirty : Bool) → frame_of (mapping_at o dirty) ≡ o
 frame-of-parts None dirty = refl
 frame-of-parts (Some f) dirty = refl
-
--- the frame of what a translation word says is the one that it names
-pub frame-said : (word : ℕ) → frame_of (mapping_of word) ≡ frame_in word
-frame-said word = frame-of-parts (frame_in word) (is_dirty word)
 
 module _ {X : Type 0} (p : ℕ) where
   -- nothing is out
   pub not-out : (v : View X) → v.out ≡ None → IsNotOut v p
   not-out v none o is = absurd (none-some o (sym none ∙ is))
-
-  -- what the pass holds of a page that it may rest on
-  pub works-rests : (more : List Did) (v x y : View X) → Works p more x y → held_at y p ≡ held_at x p → Rests p v x → Rests p v y
-  works-rests more v x y k same r = rests-on p v x y (holds-same p x y k.seat) (λ l. record { held = same; draft = k.draft; last = k.last l }) r
 
   -- a page that the pass has not locked, and had not at v
   pub was-free : (v x : View X) → Rests p v x → IsUnheld x p → HasNoLockOf v p
@@ -133,7 +126,7 @@ module _ {X : Type 0} (phase : Phase) (old : Stage) (p word found new : ℕ) (do
   pub lost-so : MayEnd phase (stages.Lost false) → GivesNothing phase (p, word) x old (stages.Lost false) → (KnowsStage (p, word) old v x → KnowsKept p v x) → Advances phase (p, word) old (stages.Lost false) done v x y
   lost-so ends gives from =
       quietly-to phase (p, word) old (stages.Lost false) done (tried ∷ []) v x y (lost-quiet p phase word tried x y still-brings does)
-      (missed, works-rests p (tried ∷ []) v x y work (ap (λ (z : View X). held_at z p) still-brings.view) h.rests)
+      (missed, rests-on p v x y (holds-same p x y work.seat) (λ l. record { held = ap (λ (z : View X). held_at z p) still-brings.view; draft = work.draft; last = work.last l }) h.rests)
       ends gives (λ alone page k. lost-known alone page (from k))
 
 -- ---- taken
@@ -195,10 +188,7 @@ module _ {X : Type 0} (tied : Start → ℕ → List ℕ → ℕ → List ℕ �
   own-did = lock-did refl t
 
   own-now : seat_of y p ≡ owning_seat
-  own-now =
-      lock-seat refl t
-      ∙ ap (λ (n : ℕ). record { shares = n; exclusive = true; writing = (seat_of x p).writing; reading = None }) {x = (seat_of x p).shares} {y = 0} (t.unheld refl).shares
-      ∙ ap (λ (b : Bool). record { shares = 0; exclusive = true; writing = b; reading = None }) {x = (seat_of x p).writing} {y = false} (t.unheld refl).writing
+  own-now = lock-seat refl t ∙ (λ i. record { shares = (t.unheld refl).shares i; exclusive = true; writing = (t.unheld refl).writing i; reading = None })
 
   -- the translation that was loaded at this version said so
   is-clean : stands_dirty t.held.mapping ≡ false
@@ -263,9 +253,6 @@ module _ {X : Type 0} (tied : Start → ℕ → List ℕ → ℕ → List ℕ �
     abbrev took : Did
     took = upgrade-did refl t
 
-    last-now : last_of y p ≡ last_of x p
-    last-now = upgrade-last refl t p locks
-
     quiet : Quietly phases.Raise (p, word) (took ∷ []) x y
     quiet = quiet-one p phases.Raise word (upgrade-others refl t (λ q. q ≡ p) refl) (upgrade-own refl t) [] (ap (λ (z : View X). z.translations) (upgrade-brings refl t).view) (raises-so expects expects is)
 
@@ -286,7 +273,7 @@ module _ {X : Type 0} (tied : Start → ℕ → List ℕ → ℕ → List ℕ �
 
     owning-raised : IsOwning p word frame written (done ++ took ∷ []) v y
     owning-raised = record {
-      taken = taken-on p p word writing_seat owning_seat (took ∷ []) v x y h.taken changes last-now (upgrade-seat refl t) (subst (λ (k : Held). k.fault ≡ k.block.count) (sym (upgrade-held refl t p)) h.taken.told);
+      taken = taken-on p p word writing_seat owning_seat (took ∷ []) v x y h.taken changes (upgrade-last refl t p locks) (upgrade-seat refl t) (subst (λ (k : Held). k.fault ≡ k.block.count) (sym (upgrade-held refl t p)) h.taken.told);
       locked = locked;
       foreign =
           each-both (λ (d : Did). d.at ≡ places.State p → d.wrote ≢ Some word) done (took ∷ []) (h.foreign word (not-marked word 1 version marked (omega arith) (version-within word)))
@@ -295,7 +282,7 @@ module _ {X : Type 0} (tied : Start → ℕ → List ℕ → ℕ → List ℕ �
       draft = upgrade-draft refl t;
       cleaned = λ e.
           let there = h.cleaned e in
-          let same : there.0 ≡ frame = frame-one there.0 frame (sym there.1 ∙ stands) in
+          let same : there.0 ≡ frame = same_Some there.0 frame (ap frame_of (sym there.1 ∙ stands)) in
           saved-front p word frame done (took ∷ []) (subst (λ (n : ℕ). IsSavedFrom p word n done) same there.2) (no-fault p took refl, tt);
       kept = λ e. unsaved-both p done (took ∷ []) (h.kept e) (unsaved-one p took refl refl);
     }
@@ -323,10 +310,6 @@ module _ {X : Type 0} (tied : Start → ℕ → List ℕ → ℕ → List ℕ �
 
     raise-tried-quiet : Quietly phases.Raise (p, word) (raise-tried ∷ []) x y
     raise-tried-quiet = lost-quiet p phases.Raise word raise-tried x y raise-brings (raises-so expects found is)
-
-    -- a pass that is alone has the one share that it knows of
-    not-lost : IsAlone x → KnowsStage (p, word) (stages.Shared written) v x → ⊥
-    not-lost alone k = ne (found-first raise-tried [] [] x y raise-work.alone alone found refl ∙ k.0.now ∙ sym is)
 
     held-on : HasLockTaken p word writing_seat v y
     held-on =
@@ -372,4 +355,5 @@ module _ {X : Type 0} (tied : Start → ℕ → List ℕ → ℕ → List ℕ �
           (quietly-then phases.Raise (p, word) (raise-tried ∷ []) (end-did ∷ []) x y w raise-tried-quiet gone)
           (missed-raise, given-rests p word v y held-on phases.Raise last w u)
           tt (gives-nothing refl refl refl)
-          (λ alone page k. absurd (not-lost alone k))
+          -- a pass that is alone has the one share that it knows of
+          (λ alone page k. absurd (ne (found-first raise-tried [] [] x y raise-work.alone alone found refl ∙ k.0.now ∙ sym is)))

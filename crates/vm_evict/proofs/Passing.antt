@@ -8,10 +8,10 @@ use Rattle.vm_evict.proofs.Prelude.{cases_eq, Did, Does, DoesOne, Each, each-bot
 use Rattle.vm_evict.proofs.Prelude.{get_or-set_other, get_or-set_same, has, HasLockTaken, HasNotSaved, HasReleased, Held, home-both, home-else, inl, inr}
 use Rattle.vm_evict.proofs.Prelude.{IsAlone, IsAt, IsCleanAt, IsEmptied, IsLocking, IsMissed, IsOwning, IsPageFreed, IsPhaseMade, IsSeenClean, IsSome}
 use Rattle.vm_evict.proofs.Prelude.{IsTakenOut, IsUnderWay, IsWaiting, IsWhole, IsWriteFailed, IsWriting, KnowsStage, last_of, LeavesAll, LeavesRest, length}
-use Rattle.vm_evict.proofs.Prelude.{List, MayBeginPhase, MayEnd, Moves, None, Note, note_at, once-front, Origin, owning_seat, Phase, reads-then, ReadsAsBefore}
-use Rattle.vm_evict.proofs.Prelude.{refl, Release, release_at, Rests, rules, runs-then, RunsAlone, Seat, slice_set, Some, Stage, stage_at, starts-then}
-use Rattle.vm_evict.proofs.Prelude.{StaysHome, still-alone, subst, sym, Tie, Translation, true, version_of, View, word_of, writing_seat, written-front, ℕ}
-use Rattle.vm_evict.proofs.Prelude.{⊎_elim, ◌++◌, ◌+◌, ◌<◌, ◌∙◌, ◌∷◌, ◌≡◌, ◌≢◌, ◌≤◌, ◌⊎◌}
+use Rattle.vm_evict.proofs.Prelude.{List, MayBeginPhase, MayEnd, Moves, None, Note, note_at, once-front, Origin, owning_seat, Phase, reads-then}
+use Rattle.vm_evict.proofs.Prelude.{ReadsAsBefore, refl, Release, release_at, Rests, rules, runs-then, RunsAlone, Seat, slice_set, Some, Stage, stage_at}
+use Rattle.vm_evict.proofs.Prelude.{starts-then, StaysHome, still-alone, subst, sym, Tie, Translation, true, version_of, View, word_of, writing_seat}
+use Rattle.vm_evict.proofs.Prelude.{written-front, ℕ, ⊎_elim, ◌++◌, ◌+◌, ◌<◌, ◌∙◌, ◌∷◌, ◌≡◌, ◌≢◌, ◌≤◌, ◌⊎◌}
 use Rattle.vm_rule.specs.declared.view.Place.TheVariants as places
 use Rattle.vm_evict.proofs.Evidenced.{dirty-front, each-else, holds-same, locks-front, out-front, rests-on, saved-front, shared-front, step-front}
 
@@ -125,12 +125,6 @@ module _ {X : Type 0} (phase : Phase) (c : ℕ × ℕ) (more : List Did) (x y : 
   stays (stages.Lost written) h = (missed written h.0, rests h.1)
 
 module _ {X : Type 0} where
-  pub rests-self : (q : ℕ) (v : View X) → Rests q v v
-  rests-self q v = search rules
-
-  pub all-self : (list : List (ℕ × ℕ)) (v : View X) → LeavesAll list [] v v
-  all-self list v = search (rules, append-none)
-
   all-then : (list : List (ℕ × ℕ)) (p : ℕ) → has p (candidate_pages list) ≡ true → (a b : List Did) (u v w : View X) → LeavesAll list a u v → LeavesRest p b v w → LeavesAll list (a ++ b) u w
   all-then list p among-them a b u v w f g =
       let ties : (more : List Tie) × (w.ties ≡ more ++ u.ties) = (g.ties.0 ++ f.ties.0, g.ties.1 ∙ ap (λ (t : List Tie). g.ties.0 ++ t) f.ties.1 ∙ sym (append_assoc g.ties.0 f.ties.0 u.ties)) in

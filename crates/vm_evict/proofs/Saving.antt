@@ -3,7 +3,7 @@ use Rattle.vm_rule.specs.declared.view.Place.TheVariants as places
 use Rattle.vm_evict.specs.declared.candidate.Phase.TheVariants as phases
 use Rattle.vm_evict.specs.declared.candidate.Stage.TheVariants as stages
 use Rattle.vm_evict.proofs.{Writing.no-state-written}
-use Rattle.vm_evict.proofs.Evidenced.{dirty-front, no-mapping, none-both, none-kept, none-silent, none-stored, rests-on, saved-behind, shared-front}
+use Rattle.vm_evict.proofs.Evidenced.{dirty-front, no-mapping, none-kept, none-silent, none-stored, rests-on, saved-behind, shared-front}
 use Rattle.vm_evict.proofs.Evidenced.{unsaved-both, unsaved-load, unsaved-one}
 use Rattle.vm_evict.proofs.Moving.{come-still, gives-nothing, moves-then, Quietly, quietly-then, quietly-to}
 use Rattle.vm_evict.proofs.Prelude.{[], Advances, alone-then, ap, append_assoc, arith, Bool, cases_eq, clean_in, Closed, cond-false, cond-true, Did, did_load}
@@ -178,7 +178,7 @@ module _ {X : Type 0} (p word : ℕ) (done : List Did) (v x y : View X) (h : IsW
         shared = shared-front p word done both h.shared;
         dirty = (r.frame, (dirty-on.0, given-behind h.shared.taken.later both (places.Translation p) dirty-on.0 dirty-on.1, dirty-on.2));
         block = once-behind p done both (h.kept refl).home (once-front p r.done (end-did ∷ []) r.block (no-fault p end-did refl, tt));
-        kept = none-both (places.Translation p) done both (h.kept refl).kept (none-both (places.Translation p) r.done (end-did ∷ []) r.kept (no-mapping p end-did refl, tt));
+        kept = each-both _ done both (h.kept refl).kept (each-both _ r.done (end-did ∷ []) r.kept (no-mapping p end-did refl, tt));
         raised = written-behind done both (places.Fault p) count (written-front r.done (end-did ∷ []) (places.Fault p) count r.raised);
         allowed = subst (λ (o : Origin). IsAllowed o p count) h.taken.start r.allowed;
         unreleased =

@@ -57,9 +57,6 @@ module _ {X : Type 0} where
 
   -- ---- a candidate
 
-  pub kept-self : (p : ℕ) (v : View X) → KnowsKept p v v
-  kept-self p v = record { state = refl; translation = refl; fault = refl }
-
   pub kept-then : (p : ℕ) (v x y : View X) → KnowsKept p v x → KnowsKept p x y → KnowsKept p v y
   kept-then p v x y f g = record { state = g.state ∙ f.state; translation = g.translation ∙ f.translation; fault = g.fault ∙ f.fault }
 

@@ -1,7 +1,7 @@
 -- A page is written back: its words are copied from its frame and written to its block, by the lock that the pass has for that.
 use Rattle.vm_rule.specs.declared.view.Place.TheVariants as places
 use Rattle.vm_step.proofs.Device.{Moves}
-use Rattle.vm_evict.proofs.Evidenced.{no-mapping, no-state, none-both, none-silent, not-fault}
+use Rattle.vm_evict.proofs.Evidenced.{no-mapping, none-silent}
 use Rattle.vm_evict.proofs.Prelude.{[], ap, arith, at, Bool, cases_eq, clean-held, clean-works, clean_in, cleans, CleanTold, comes-home, cond-false}
 use Rattle.vm_evict.proofs.Prelude.{CopiesWords, count_more, counts-one, Did, did_load, did_store, dirty_in, draft_of, Each, each-both, each-map, EndsWrite}
 use Rattle.vm_evict.proofs.Prelude.{Err, ext_get_or, false, frame_of, frame_read_by, get_or-set_other, get_or-set_same, goes-once, goes-out, GoesOnce}
@@ -27,8 +27,8 @@ stays-on p done e = each-map (WritesPage p) (λ d. IsOwnPlace p d.at) (written-o
 
 state-unwritten : (p : ℕ) (d : Did) → WritesPage p d → d.at ≡ places.State p → d.wrote ≡ None
 state-unwritten p d (reads own none quiet) here = quiet
-state-unwritten p d (cleans frame is) here = absurd (no-state p (places.Translation p) refl (sym (ap (λ (e : Did). e.at) is) ∙ here))
-state-unwritten p d (raises count is) here = absurd (no-state p (places.Fault p) refl (sym (ap (λ (e : Did). e.at) is) ∙ here))
+state-unwritten p d (cleans frame is) here = (let no : places.Translation p ≡ places.State p = sym (ap (λ (e : Did). e.at) is) ∙ here in cc)
+state-unwritten p d (raises count is) here = (let no : places.Fault p ≡ places.State p = sym (ap (λ (e : Did). e.at) is) ∙ here in cc)
 
 pub no-state-written : (p : ℕ) (done : List Did) → Each (WritesPage p) done → WritesNone (places.State p) done
 no-state-written p done e = each-map (WritesPage p) (λ d. d.at ≡ places.State p → d.wrote ≡ None) (state-unwritten p) done e
@@ -242,15 +242,14 @@ module _ {X : Type 0} (p f : ℕ) (v0 v : View X) (x : IsFoundToWrite p f v0 v) 
           -- ---- the write answered
 
           module _ (u : Unit {0}) (ok : result ≡ Ok u) where
-            stored : v.start.tells ≡ true → new.words ≡ (last_of v p).words
-            stored t = write.held (sym telling ∙ t) ∙ ap (λ (y : Result (Unit {0}) E). if is_ok y then page else old.words) ok ∙ page-is t
-
             count-same : new.count ≡ old.count
             count-same = write.count ∙ ap (λ (y : Result (Unit {0}) E). if is_ok y then old.count else count_more old.count) ok
 
             pub may-clean : IsWritten d p f
             may-clean =
-                let words = λ (t : d.start.tells ≡ true). ap (λ (h : Held). h.block.words) held-is ∙ stored (ap (λ (s : Origin). s.tells) (sym work-called.leaves.start) ∙ t) ∙ ap (λ (x : Version). x.words) (sym (work-called.last (inr shares))) in
+                let words = λ (t : d.start.tells ≡ true).
+                let before : v.start.tells ≡ true = ap (λ (s : Origin). s.tells) (sym work-called.leaves.start) ∙ t in
+                ap (λ (h : Held). h.block.words) held-is ∙ write.held (sym telling ∙ before) ∙ ap (λ (y : Result (Unit {0}) E). if is_ok y then page else old.words) ok ∙ page-is before ∙ ap (λ (x : Version). x.words) (sym (work-called.last (inr shares))) in
                 search (rules, writes-called, ap (λ (h : Held). h.mapping) held-is ∙ stands, words)
 
             module _ (w : View X) (t : CleanTold p f d w) where
@@ -279,7 +278,7 @@ module _ {X : Type 0} (p f : ℕ) (v0 v : View X) (x : IsFoundToWrite p f v0 v) 
                   dirty = found-dirty called-did;
                   block = once-called (clean-did ∷ []) ((λ here. refl), tt);
                 };
-                unraised = ((λ here. refl), none-both (places.Fault p) called-did (clean-did ∷ []) (none-silent (places.Fault p) called-did silent-called) ((λ here. absurd (not-fault p (places.Translation p) refl here)), tt));
+                unraised = ((λ here. refl), each-both _ called-did (clean-did ∷ []) (none-silent (places.Fault p) called-did silent-called) ((λ here. absurd (let no : places.Translation p ≡ places.Fault p = here in cc)), tt));
                 stands = ap (λ (h : Held). h.mapping) held-cleaned;
                 known = λ a page.
                     let word : ℕ = trans_word (Some (clean_in f)) in
@@ -336,7 +335,7 @@ module _ {X : Type 0} (p f : ℕ) (v0 v : View X) (x : IsFoundToWrite p f v0 v) 
                 frame = f;
                 dirty = found-dirty (called-did ++ raise-did ∷ []);
                 block = once-called (raise-did ∷ []) ((λ here. refl), tt);
-                kept = ((λ here. refl), none-both (places.Translation p) called-did (raise-did ∷ []) (none-silent (places.Translation p) called-did silent-called) (no-mapping p raise-did refl, tt));
+                kept = ((λ here. refl), each-both _ called-did (raise-did ∷ []) (none-silent (places.Translation p) called-did silent-called) (no-mapping p raise-did refl, tt));
                 raised = record { earlier = load-of ∷ called-did; step = raise-did; later = []; cut = refl; place = refl; wrote = refl };
                 ends = refl;
                 noted =
