@@ -8,9 +8,9 @@ use Rattle.vm_evict.proofs.Prelude.{[], Advances, ap, append-none, append_assoc,
 use Rattle.vm_evict.proofs.Prelude.{contents_at, Did, did_load, did_store, disowns, Does, draft_of, Each, each-both, evict-alone, evict-leaves, evict-seat}
 use Rattle.vm_evict.proofs.Prelude.{EVICTED, evicted_view, EvictTold, false, false≢true, frame_in, frame_of, FramesCome, has, HasReleased, Held, held_at}
 use Rattle.vm_evict.proofs.Prelude.{home-both, inl, is_dirty, IsAlone, IsEmptied, IsLocking, IsOwning, IsPageFreed, KnowsStage, last_in, last_of, LeavesRest}
-use Rattle.vm_evict.proofs.Prelude.{List, loads, LOCKED, mapping_of, MARKED, MAX_VERSION, MayEvict, Moves, nat_tests, no-fault, None, none-some, or_left}
-use Rattle.vm_evict.proofs.Prelude.{Origin, owner-held, owner-works, OwnerTold, owning_seat, put_at, refl, Release, release_at, rules, runs-one, same_Some}
-use Rattle.vm_evict.proofs.Prelude.{Seat, seat_of, Some, StandsClean, StandsIn, state_of, stays-alone, StaysHome, subst, sym, tload-works, trans_word}
+use Rattle.vm_evict.proofs.Prelude.{List, loads, LOCKED, mapping_of, MARKED, MAX_VERSION, Moves, nat_tests, no-fault, None, none-some, or_left, Origin}
+use Rattle.vm_evict.proofs.Prelude.{owner-held, owner-works, OwnerTold, owning_seat, put_at, refl, Release, release_at, rules, runs-one, same_Some, Seat}
+use Rattle.vm_evict.proofs.Prelude.{seat_of, Some, StandsClean, StandsIn, state_of, stays-alone, StaysHome, subst, sym, tload-works, trans_word}
 use Rattle.vm_evict.proofs.Prelude.{translation_of, TranslationTold, true, upd-other, Version, version_of, View, word-state, word_of, Works, works-then, ℕ}
 use Rattle.vm_evict.proofs.Prelude.{◌++◌, ◌+◌, ◌<◌, ◌||◌, ◌∙◌, ◌∷◌, ◌≡◌, ◌≢◌, ◌≤◌}
 use Rattle.vm_evict.proofs.Tables.{kept-at, left-at, left-last, locked-on, state-left}
@@ -144,9 +144,6 @@ module _ {X : Type 0} (p word frame : ℕ) (written : Bool) (done : List Did) (v
 -- ---- A page that the pass holds exclusively, and that was taken out of its frame, is released as evicted: nothing but its version is another then.
 
 module _ {X : Type 0} (p word frame : ℕ) (written : Bool) (marked : state_of word ≡ MARKED) (below : version_of word < MAX_VERSION) (done : List Did) (v b : View X) (h : IsEmptied p word frame written done v b) where
-  pub may-evict : (version : ℕ) → version ≡ version_of word → b.out ≡ None → MayEvict b p version
-  may-evict version is home = grind arith
-
   evicted-else : word_of EVICTED (version_of word + 1) ≢ word
   evicted-else e =
       let within : version_of word + 1 ≤ MAX_VERSION = omega (arith, below) in

@@ -5,17 +5,16 @@ use Rattle.vm_evict.proofs.{Locking.lock-now, Locking.unlocked-seat, Writing.no-
 use Rattle.vm_evict.proofs.Evidenced.{dirty-front, has-lost, no-mapping, none-kept, none-silent, saved-under, unlocked, unsaved-both, unsaved-load}
 use Rattle.vm_evict.proofs.Evidenced.{unsaved-one, wrote-taken}
 use Rattle.vm_evict.proofs.Prelude.{[], ap, arith, aside-of, aside-self, aside-then, Bool, clean, Did, did_exchange, did_load, dirty_in, Each, each-both}
-use Rattle.vm_evict.proofs.Prelude.{EndsWrite, Err, EVICTED, failed, false, false≢true, Flushed, found_by, given-behind, given-front, GoesOnce, gone}
-use Rattle.vm_evict.proofs.Prelude.{HasGiven, HasNotSaved, HasTaken, HasWritten, held, home-both, inl, inr, is_some, IsAllowed, IsAlone, IsCounted}
-use Rattle.vm_evict.proofs.Prelude.{IsDirtyFrame, IsFoundDirty, IsHeld, IsLeft, IsOfPage, IsOwnPlace, IsSaved, IsStillLocked, IsUnheld, IsVisit, KeepsPage}
-use Rattle.vm_evict.proofs.Prelude.{known_word_at, KnowsClean, leaves-then, LeavesLast, LeavesRest, List, look-only, LookTold, Lost, lost, lost-only}
-use Rattle.vm_evict.proofs.Prelude.{mapping_in, mapping_of, mark-only, MARKED, Marks, MarkTold, no_seat, None, Ok, once-behind, once-front, OnlyReads, Option}
-use Rattle.vm_evict.proofs.Prelude.{Origin, part-found, refl, Result, rules, runs-one, runs-self, runs-then, RunsAlone, same_Some, seat_of, SharesSeen, Some}
-use Rattle.vm_evict.proofs.Prelude.{stands_dirty, Start, state_in, state_of, stays-alone, StaysOn, still-alone, subst, sym, Taken, Took, translation-only}
-use Rattle.vm_evict.proofs.Prelude.{TranslationTold, true, true≢false, UNLOCKED, unshare-did, unshare-leaves, unshare-others, UnshareTold, version-within}
-use Rattle.vm_evict.proofs.Prelude.{version_of, View, word-made, word-state, word-version, word_of, write_lock-did, write_lock-leaves, write_lock-others}
-use Rattle.vm_evict.proofs.Prelude.{WriteLockTold, WritesNone, written, written-behind, written-front, ℕ, ⊎_elim, ◌++◌, ◌+◌, ◌-◌, ◌<◌, ◌^◌, ◌∙◌, ◌∷◌, ◌≡◌}
-use Rattle.vm_evict.proofs.Prelude.{◌≢◌, ◌⊎◌}
+use Rattle.vm_evict.proofs.Prelude.{EndsWrite, Err, EVICTED, failed, false, false≢true, Flushed, given-behind, given-front, GoesOnce, gone, HasGiven}
+use Rattle.vm_evict.proofs.Prelude.{HasNotSaved, HasTaken, HasWritten, held, home-both, inl, inr, is_some, IsAllowed, IsAlone, IsCounted, IsDirtyFrame}
+use Rattle.vm_evict.proofs.Prelude.{IsFoundDirty, IsHeld, IsLeft, IsOfPage, IsOwnPlace, IsSaved, IsStillLocked, IsUnheld, IsVisit, KeepsPage, known_word_at}
+use Rattle.vm_evict.proofs.Prelude.{KnowsClean, leaves-then, LeavesLast, LeavesRest, List, look-only, LookTold, Lost, lost, lost-only, mapping_in, mapping_of}
+use Rattle.vm_evict.proofs.Prelude.{MARKED, Marks, no_seat, None, Ok, once-behind, once-front, OnlyReads, Option, Origin, part-found, refl, Result, rules}
+use Rattle.vm_evict.proofs.Prelude.{runs-one, runs-self, runs-then, RunsAlone, same_Some, seat_of, SharesSeen, Some, stands_dirty, Start, state_in, state_of}
+use Rattle.vm_evict.proofs.Prelude.{stays-alone, StaysOn, still-alone, subst, sym, Taken, translation-only, TranslationTold, true, true≢false, UNLOCKED}
+use Rattle.vm_evict.proofs.Prelude.{unshare-did, unshare-leaves, unshare-others, UnshareTold, version-within, version_of, View, word-made, word-state}
+use Rattle.vm_evict.proofs.Prelude.{word-version, word_of, write_lock-did, write_lock-leaves, write_lock-others, WriteLockTold, WritesNone, written}
+use Rattle.vm_evict.proofs.Prelude.{written-behind, written-front, ℕ, ⊎_elim, ◌++◌, ◌+◌, ◌-◌, ◌<◌, ◌^◌, ◌∙◌, ◌∷◌, ◌≡◌, ◌≢◌, ◌⊎◌}
 use Rattle.vm_evict.proofs.Tables.{found-first, kept-at, left-at, left-last, share-gone}
 
 -- a page without a dirty frame is not dirty
@@ -50,15 +49,6 @@ module _ {X : Type 0} (p : ℕ) where
   marked-before word v e =
       let none : IsLeft p [] v v = record { keeps = record { own = tt; aside = aside-self (λ q. q ≡ p) v; frames = (refl, refl); alone = runs-self v }; notes = refl; unsaved = record { kept = tt; home = tt } } in
       ([], none, inl (refl, e))
-
-  left-mark : (word found : ℕ) (v w : View X) → MarkTold p word found (word_of MARKED (version_of word)) v w → IsLeft p (mark-did p word found ∷ []) v w
-  left-mark word found v w t =
-      let did : Did = mark-did p word found in
-      left-one did v w (mark-only (λ q. q ≡ p) p word found (word_of MARKED (version_of word)) v w t) (runs-one did _ [] [] v v w t.brings) refl (unsaved-one p did refl refl)
-
-  pub marked-now : (word : ℕ) (v w : View X) (took : Took) → MarkTold p word (found_by word took) (word_of MARKED (version_of word)) v w → ((x : ℕ) → took ≡ Lost x → x ≢ word) → Marks p word v w took
-  marked-now word v w Taken t other = (mark-did p word word ∷ [], left-mark word word v w t, inr refl)
-  marked-now word v w (Lost x) t other = (other x refl, left-mark word x v w t)
 
   module _ (word : ℕ) (v w : View X) (m : Marks p word v w Taken) where
     -- the mark alone was left there

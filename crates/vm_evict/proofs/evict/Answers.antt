@@ -1,13 +1,9 @@
-use Rattle.vm_evict.specs.declared.candidate.Phase.TheVariants as phases
 use Rattle.vm_evict.proofs.{Ended.ended, Ended.waiting-all, Gathering.each-at}
-use Rattle.vm_evict.proofs.Prelude.{[], candidate_at, Each, IsBatch, IsCandidate, List, MayBeginPhase, Stage, subst, sym, view, ℕ, ◌<◌}
+use Rattle.vm_evict.proofs.Prelude.{[], candidate_at, Each, IsBatch, IsCandidate, List, subst, sym, view, ℕ, ◌<◌}
 use Rattle.vm_evict.proofs.evict.Goals as goal
 
 pub pass_over-requires-clause-way : goal.pass_over-requires-clause-way
 pass_over-requires-clause-way g c = ((view c.args.pass.now), [], waiting-all c.as_slice-list.result.now c.waiting-stages.result (view c.args.pass.now) c.requires.home (λ n b. c.waiting-stages.ensures.waits n))
-
-pub pass_over-requires-clause-begins : goal.pass_over-requires-clause-begins
-pass_over-requires-clause-begins g c n b = subst (λ (s : Stage). MayBeginPhase phases.Save s) (sym (c.waiting-stages.ensures.waits n)) tt
 
 pub returns-clause-evicted : goal.returns-clause-evicted
 returns-clause-evicted g c =

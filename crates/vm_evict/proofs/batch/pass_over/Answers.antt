@@ -1,6 +1,5 @@
-use Rattle.vm_evict.proofs.Gathering.{each-at}
 use Rattle.vm_evict.proofs.Passing.{back-more, front-more, passed-more, passed-none}
-use Rattle.vm_evict.proofs.Prelude.{arith, IsCandidate, length, length-set, refl, view, ◌∙◌}
+use Rattle.vm_evict.proofs.Prelude.{arith, length, length-set, refl, view, ◌∙◌}
 use Rattle.vm_evict.proofs.batch.pass_over.Goals as goal
 
 pub loop-i-init : goal.loop-i-init
@@ -12,15 +11,6 @@ loop-i-init g c = record {
   front = λ j b. absurd (omega (arith, b));
   back = λ j le b. c.requires.begins j b;
 }
-
-pub advance-requires-clause-candidate : goal.advance-requires-clause-candidate
-advance-requires-clause-candidate g c = each-at (IsCandidate c.args.words.now.table.shared.key.pages) c.args.list.now c.loop-i.i c.loop-i-test.true c.requires.list.each
-
-pub advance-requires-clause-home : goal.advance-requires-clause-home
-advance-requires-clause-home g c = (c.loop-i.invariant.passed c.requires.way.0 c.requires.way.1 c.requires.way.2).after.home
-
-pub advance-requires-clause-begins : goal.advance-requires-clause-begins
-advance-requires-clause-begins g c = c.loop-i.invariant.back c.loop-i.i (omega arith) c.loop-i-test.true
 
 pub advance-requires-clause-at : goal.advance-requires-clause-at
 advance-requires-clause-at g c = (c.requires.way.0, _, (c.loop-i.invariant.passed c.requires.way.0 c.requires.way.1 c.requires.way.2).after.each c.loop-i.i c.loop-i-test.true)
@@ -40,9 +30,3 @@ loop-i-preserved g c =
       front = front-more c.args.phase c.loop-i.stages c.loop-i.i c.advance.result (omega (arith, c.loop-i-test.true, c.requires.few, inv.long)) one.ends inv.front;
       back = back-more c.args.phase c.loop-i.stages c.loop-i.i c.advance.result (length c.args.list.now) inv.back;
     }
-
-pub returns-clause-ends : goal.returns-clause-ends
-returns-clause-ends g c n b = c.loop-i.invariant.front n (omega (arith, c.loop-i-test.false, b))
-
-pub returns-clause-way : goal.returns-clause-way
-returns-clause-way g c = (c.requires.way.0, _, (c.loop-i.invariant.passed c.requires.way.0 c.requires.way.1 c.requires.way.2).after)

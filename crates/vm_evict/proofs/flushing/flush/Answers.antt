@@ -1,17 +1,10 @@
 -- Page after page gives each clause.
 use Rattle.vm_evict.proofs.FlushPages.{flushed-more, flushed-none}
-use Rattle.vm_evict.proofs.Prelude.{arith, done_of, IsFlushedTo, refl, subst, suc, sym, view, ◌+◌, ◌<◌, ◌∙◌, ◌≡◌, ◌≤◌}
+use Rattle.vm_evict.proofs.Prelude.{arith, IsFlushedTo, refl, subst, suc, sym, view, ◌+◌, ◌<◌, ◌∙◌, ◌≡◌}
 use Rattle.vm_evict.proofs.flushing.flush.Goals as goal
 
 pub loop-p-init : goal.loop-p-init
 loop-p-init g c = record { same = (refl, refl); ready = c.requires.ready; flushed = flushed-none (view c.args.pass.now) }
-
-pub visit-requires-clause-home : goal.visit-requires-clause-home
-visit-requires-clause-home g c = c.loop-p.invariant.flushed.aside.out ∙ c.requires.home
-
-pub visit-requires-clause-counts : goal.visit-requires-clause-counts
-visit-requires-clause-counts g c =
-    let counted : done_of c.loop-p.flushed ≤ c.loop-p.p = c.loop-p.invariant.flushed.all in omega (arith, counted, c.loop-p-test.true, c.args.words.now.shape.2)
 
 pub loop-p-preserved : goal.loop-p-preserved
 loop-p-preserved g c =
