@@ -34,17 +34,17 @@ pub use Rattle.vm_step.specs.Prelude.{AreCandidates, AreHeld, candidate_pages, D
 pub use Rattle.vm_step.specs.Prelude.{IsReady, IsSamePass, known_word_at, KnowsAll, KnowsAt, KnowsElse, KnowsSame, MayStep, Meets, Note, Origin, Out}
 pub use Rattle.vm_step.specs.Prelude.{PassesSplit, Release, Shape, Snapshot, StaysAlone, View, view}
 pub use Rattle.vm_step.proofs.{After.wide-after, Alone.same-word, Alone.still-alone, MetPasses.meets-then, MetPasses.met-known, MetPasses.met-still}
-pub use Rattle.vm_step.proofs.{steps.CatchUp.found-below, steps.CatchUp.version-below, steps.Leaving.aside-self, Still.still-nothing, Tables.else-same}
-pub use Rattle.vm_step.proofs.{Tables.else-self, Tables.else-then, Tables.else-within, Together.whole-again, Written.index-below}
-pub use Rattle.vm_step.proofs.Asides.{alone-then, holds-then, knows-then, starts-then, still-locking, whole-then}
-pub use Rattle.vm_step.proofs.Together.{all-snoc, caught-heard, caught-mine, cut-length, entries-heard, hears-on, holds-none, joined-number, joined-one}
-pub use Rattle.vm_step.proofs.Together.{new-nothing, new-number, numbers-length, ready-as, split-current, split-none, split-step, split-still, starts-on}
+pub use Rattle.vm_step.proofs.{steps.CatchUp.found-below, steps.CatchUp.version-below, steps.Leaving.aside-self, Still.still-nothing, Written.index-below}
+pub use Rattle.vm_step.proofs.Tables.{else-same, else-self, else-then, else-within}
+pub use Rattle.vm_step.proofs.Together.{all-snoc, caught-heard, caught-mine, cut-length, entries-heard, hears-on, holds-none, joined-one, new-nothing}
+pub use Rattle.vm_step.proofs.Together.{new-number, numbers-length, ready-as, split-none, split-step, split-still, starts-on, whole-again}
+pub use Rattle.vm_step.proofs.Asides.{alone-then, holds-then, knows-then, starts-then, still-locking}
 pub use Rattle.vm_exmap.specs.{declared.interface.Alloc.Alloc, Returns.IsFreed, Returns.KnowsGiven, Walks.IsAlloc, Walks.IsDry, Walks.TakesBits}
 pub use Rattle.vm_exmap.specs.Frames.{HasFree, IsBundleOf, MovesFrames}
 pub use Rattle.vm_exmap.proofs.FrameMoves.{moved-aside}
 pub use Rattle.vm_exmap.proofs.Handing.{apart-join, apart-not, apart-right, each-has, each-join, each-of, held-on, held-swap}
 pub use Rattle.vm_clock.specs.Clock.{IsChosen, IsPassed, IsWalked, KnowsWalked, passed_word}
-pub use Rattle.vm_guard.specs.{Guards.IsReleased, Guards.IsSet, Guards.IsSharing, Quiet.IsSteady, Sure.IsKnownFree, Sure.IsUnlockedWord, Sure.known_word}
+pub use Rattle.vm_guard.specs.{Guards.IsReleased, Guards.IsSet, Quiet.IsSteady, Sure.IsKnownFree, Sure.IsUnlockedWord, Sure.known_word}
 pub use Rattle.vm_fault.specs.Fetches.{IsBrought, IsFailed, IsKnownOut, IsOfBoth, KnowsReleased}
 pub use Rattle.vm_evict.specs.{declared.candidate.Stage.Stage, declared.report.Report.Report, Tables.IsOfAny, Tables.KnowsStage}
 pub use Rattle.vm_evict.specs.Evictions.{candidate_at, frame_at, FramesCome, gathered, IsBatch, IsEnd, stage_at}

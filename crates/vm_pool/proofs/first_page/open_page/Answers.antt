@@ -3,12 +3,6 @@ use Rattle.vm_pool.proofs.FirstPage.{first-of, first-sure, has-asked}
 use Rattle.vm_pool.proofs.Prelude.{ap, AreHeld, arith, length, length-mapped, List, map, Shape, Stored, subst, sym, view, ℕ, ◌<◌, ◌∙◌, ◌≡◌}
 use Rattle.vm_pool.proofs.first_page.open_page.Goals as goal
 
-pub start-requires : goal.start-requires
-start-requires g c = record { pages = c.requires.pages; fits = c.requires.fits; begins = c.requires.begins }
-
-pub new-iface-requires : goal.new-iface-requires
-new-iface-requires g c = (omega arith, omega arith)
-
 pub bring-answer-requires : goal.bring-answer-requires
 bring-answer-requires g c =
     let blocks : List Stored = map g.B.Block.stored c.args.blocks.items in

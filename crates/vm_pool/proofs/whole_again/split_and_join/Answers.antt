@@ -1,7 +1,7 @@
 use Rattle.vm_step.proofs.Together.{each-at}
 use Rattle.vm_pool.proofs.FirstPage.{first-alone}
-use Rattle.vm_pool.proofs.Prelude.{ap, arith, holds-none, HoldsNoPage, length, new-nothing, numbers-length, refl, split-current, split-still, still-nothing}
-use Rattle.vm_pool.proofs.Prelude.{subst, sym, view, whole-again, ◌∙◌, ◌≡◌}
+use Rattle.vm_pool.proofs.Prelude.{ap, arith, holds-none, HoldsNoPage, length, new-nothing, numbers-length, refl, split-still, still-nothing, subst, sym}
+use Rattle.vm_pool.proofs.Prelude.{view, whole-again, ◌∙◌, ◌≡◌}
 use Rattle.vm_pool.proofs.whole_again.split_and_join.Goals as goal
 
 pub split-requires-clause-parts : goal.split-requires-clause-parts
@@ -18,6 +18,3 @@ close-requires-clause-whole g c = whole-again _ _ _ _ _ c.in_ok-given.ensures.sp
 pub close-requires-clause-holds : goal.close-requires-clause-holds
 close-requires-clause-holds g c =
     c.join_each.ensures.joined.nothing (still-nothing _ _ (split-still _ _ _ c.in_ok-given.ensures.split) (subst HoldsNoPage (sym c.in_ok-pool.ensures.view) (record { shares = λ p. refl; exclusive = λ p. refl; writing = λ p. refl; out = refl })))
-
-pub close-requires-clause-current : goal.close-requires-clause-current
-close-requires-clause-current g c = c.join_each.ensures.joined.current (split-current _ _ _ c.in_ok-given.ensures.split)
