@@ -14,9 +14,6 @@ use Rattle.vm_clock.proofs.Visiting.{IsVisit, pages-end, visit-of}
 
 -- ---- the word of one page
 
-marks-it : (word : ℕ) → state_of word ≡ UNLOCKED → version_of word < MAX_VERSION → passed_word word ≡ word_of MARKED (version_of word)
-marks-it word free low = cond-true _ _ _ ((λ i. eq-eqb (state_of word) UNLOCKED free i && lt-ltb (version_of word) MAX_VERSION low i))
-
 leaves-state : (word : ℕ) → state_of word ≢ UNLOCKED → passed_word word ≡ word
 leaves-state word ne = cond-false _ _ _ (and_left _ _ (ne_eqb (state_of word) UNLOCKED ne))
 
@@ -55,7 +52,7 @@ module _ (start : Origin) where
   visit-words p steps chosen list old new a b (visits.marked word look state fresh e l) f =
       let g = subst (λ ds. Follows start ds a b) look.steps_are f in
       let wrote : b ≡ set_if (Some (word_of MARKED (version_of word))) p a = g.1.1 ∙ ap (λ o. set_if o p a) (cond-true (eqb word word) (Some (word_of MARKED (version_of word))) None (eq-eqb word word refl)) in
-      marks (wrote ∙ ap (λ n. slice_set a p n) (sym (marks-it word state fresh) ∙ ap passed_word g.0))
+      marks (wrote ∙ ap (λ n. slice_set a p n) (sym (cond-true _ _ _ (λ i. eq-eqb (state_of word) UNLOCKED state i && lt-ltb (version_of word) MAX_VERSION fresh i)) ∙ ap passed_word g.0))
 
   passed-other : (p q : ℕ) (chosen : List (ℕ × ℕ)) (a b : List ℕ) → q ≢ p → Passes chosen p a b → slice_index b q ≡ slice_index a q
   passed-other p q chosen a b ne (again is e) = ap (λ (l : List ℕ). slice_index l q) e
@@ -233,11 +230,8 @@ module _ {X : Type 0} (want drawn count : ℕ) (steps : List Did) (looks : Looks
   was-owned : (f : ℕ) → slice_index moved (index_of v.start (places.Owner f)) ≡ known_word_at v (places.Owner f)
   was-owned f = get_or-set_other v.snapshot.words (index_of v.start places.Hand) (index_of v.start (places.Owner f)) (hand_more drawn) 0 (omega arith)
 
-  owned-so : (q : ℕ) → IsOwnedAt v.start moved drawn count q → IsPassed v drawn count q
-  owned-so q (k, low, is) = (k, low, sym (was-owned ((drawn + k) % v.start.frames)) ∙ is)
-
   walked : Each (λ (d : Did). ((f : ℕ) × (f < v.start.frames) × (d.at ≡ places.Owner f) × (d.wrote ≡ None)) ⊎ ((q : ℕ) × (q < pages) × (d.at ≡ places.State q) × IsPassed v drawn count q)) steps
-  walked = each-map _ _ (λ d s. ⊎_elim (λ o. inl o) (λ t. inr (t.0, t.1, t.2, owned-so t.0 t.3)) s) steps left.steps
+  walked = each-map _ _ (λ d s. ⊎_elim (λ o. inl o) (λ t. inr (t.0, t.1, t.2, (t.3.0, t.3.1, sym (was-owned ((drawn + t.3.0) % v.start.frames)) ∙ t.3.2))) s) steps left.steps
 
   hand-stays : slice_index w.snapshot.words (index_of v.start places.Hand) ≡ slice_index moved (index_of v.start places.Hand)
   hand-stays =

@@ -1,6 +1,6 @@
 -- What the proofs of this crate cite from the crates below and from its own specs, passed on from one place. Declares nothing.
-pub use Rattle.std.proofs.Common.{[], add_assoc, ap, arith, Bool, eqb, false, inl, inr, length, List, None, refl, slice_index, slice_index_or, slice_set, Some}
-pub use Rattle.std.proofs.Common.{subst, suc, sym, take, true, zero, ℕ, ⊎_elim, ◌%◌, ◌&&◌, ◌*◌, ◌++◌, ◌+◌, ◌<◌, ◌||◌, ◌∙◌, ◌∷◌, ◌≡◌, ◌≢◌, ◌≤◌, ◌⊎◌}
+pub use Rattle.std.proofs.Common.{[], add_assoc, ap, arith, Bool, eqb, false, inl, inr, length, List, None, refl, rules, slice_index, slice_index_or, slice_set}
+pub use Rattle.std.proofs.Common.{Some, subst, suc, sym, take, true, zero, ℕ, ⊎_elim, ◌%◌, ◌&&◌, ◌*◌, ◌++◌, ◌+◌, ◌<◌, ◌||◌, ◌∙◌, ◌∷◌, ◌≡◌, ◌≢◌, ◌≤◌, ◌⊎◌}
 pub use Rattle.std.proofs.{lemmas.Bool.Decides.nat_tests, Math.Nat.mod-add-mod, Math.Nat.mod-lt}
 pub use Rattle.std.proofs.lemmas.Bool.{and_left, and_right, cases_eq, cases_lt, cond-false, cond-true, eq-eqb, le-ltb, lt-ltb, ne_eqb, true≢false}
 pub use Rattle.std.proofs.lemmas.List.{get_or-set_other, get_or-set_same, length-append, length-set}

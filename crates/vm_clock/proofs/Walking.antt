@@ -2,7 +2,7 @@
 use Rattle.vm_rule.specs.declared.view.Place.TheVariants as places
 use Rattle.vm_clock.proofs.Passing.{walked-knows}
 use Rattle.vm_clock.proofs.Prelude.{[], ap, AreCandidates, arith, aside-within, Did, did_change, FindsOwner, given-behind, given-front, hand_more, IsChosen}
-use Rattle.vm_clock.proofs.Prelude.{IsFrameVisited, length, length-append, List, Looks, looks_counted, mod-add-mod, only-then, OnlyReads, Origin, refl}
+use Rattle.vm_clock.proofs.Prelude.{IsFrameVisited, length, length-append, List, Looks, looks_counted, mod-add-mod, only-then, OnlyReads, Origin, refl, rules}
 use Rattle.vm_clock.proofs.Prelude.{runs-then, RunsAlone, subst, suc, sym, View, VisitsFrame, WalksFrames, zero, ℕ, ⊎_elim, ◌%◌, ◌*◌, ◌++◌, ◌+◌, ◌<◌, ◌∙◌}
 use Rattle.vm_clock.proofs.Prelude.{◌∷◌, ◌≡◌, ◌≤◌, ◌⊎◌}
 use Rattle.vm_clock.proofs.Visiting.{candidates-end, frame-visit, IsFrameVisit}
@@ -78,16 +78,4 @@ module _ {X : Type 0} (want drawn : ℕ) where
 
     -- the walk ends, since enough are chosen or since it has been round twice
     pub walked-chosen : k ≤ 2 * v.start.frames → (length list ≡ want) ⊎ (k ≡ 2 * v.start.frames) → IsChosen want looks list v w
-    walked-chosen most ends = record {
-      drawn = drawn;
-      count = k;
-      steps = walking.steps;
-      walk = walking.walk;
-      most = most;
-      ends = ends;
-      counted = walked-so.0;
-      aside = walking.only.aside;
-      keeps = walking.only.keeps;
-      alone = walking.alone;
-      table = λ a. walked-knows want drawn k walking.steps looks list v w walking.only.aside.start walking.walk most walking.alone a;
-    }
+    walked-chosen most ends = search (rules, walked-so.0, walked-knows want drawn k walking.steps looks list v w walking.only.aside.start walking.walk most walking.alone)

@@ -58,11 +58,7 @@ module _ {X : Type 0} (p word frame : ℕ) (written : Bool) (done : List Did) (v
       held-disowned = owner-held o ∙ ap (λ (k : Held). record k { owner = 0 }) held-loaded
 
       pub may-clear : StandsClean u p frame
-      may-clear = record {
-        owns = owns-then (load-did ∷ disown-did ∷ []) u disowned;
-        stands = ap (λ (k : Held). k.mapping) held-disowned ∙ h.stands;
-        disowned = ap (λ (k : Held). k.owner) held-disowned;
-      }
+      may-clear = search (rules, owns-then (load-did ∷ disown-did ∷ []) u disowned, ap (λ (k : Held). k.mapping) held-disowned ∙ h.stands, ap (λ (k : Held). k.owner) held-disowned)
 
       module _ (b : View X) (c : ClearTold p frame u b) where
         abbrev clear-did : Did
@@ -109,18 +105,13 @@ module _ {X : Type 0} (p word frame : ℕ) (written : Bool) (done : List Did) (v
         frames-before : u.frames ≡ x.frames
         frames-before = ap (λ (y : View X). y.frames) o.brings.view ∙ ap (λ (y : View X). y.frames) l.brings.view
 
-        frames-now : b.frames ≡ frame ∷ x.frames
-        frames-now = ap (λ (y : View X). y.frames) c.brings.view ∙ ap (λ (k : List ℕ). frame ∷ k) frames-before
-
-        was-none : has frame x.frames ≡ false
-        was-none = ap (has frame) (sym frames-before) ∙ c.new
-
         come : FramesCome (frame ∷ []) x b
         come =
+            let was-none : has frame x.frames ≡ false = ap (has frame) (sym frames-before) ∙ c.new in
             let words : (f : ℕ) → has f x.frames ≡ true → contents_at b f ≡ contents_at x f = λ f here.
             let ne : f ≢ frame = λ is. false≢true (sym was-none ∙ subst (λ (n : ℕ). has n x.frames ≡ true) is here) in
             ap (λ (y : View X). contents_at y f) c.brings.view ∙ upd-other (put_at [] u.contents) frame c.words f ne ∙ ap (λ (y : View X). contents_at y f) o.brings.view ∙ ap (λ (y : View X). contents_at y f) l.brings.view in
-            let all : (f : ℕ) → has f b.frames ≡ (has f (frame ∷ []) || has f x.frames) = λ f. (let now = ap (has f) frames-now in grind (arith, nat_tests, now)) in
+            let all : (f : ℕ) → has f b.frames ≡ (has f (frame ∷ []) || has f x.frames) = λ f. (let now = ap (has f) (ap (λ (y : View X). y.frames) c.brings.view ∙ ap (λ (k : List ℕ). frame ∷ k) frames-before) in grind (arith, nat_tests, now)) in
             search (rules, subst (λ (y : Origin). frame < y.frames) disowned.leaves.start c.inside, was-none, all, words)
 
         emptied-known : IsAlone x → p < x.start.pages → KnowsStage (p, word) (stages.Owned written) v x → KnowsStage (p, word) (stages.Emptied frame written) v b

@@ -65,12 +65,9 @@ module _ {X : Type 0} where
     ends : ((word : ℕ) × (count : ℕ) × IsUnwritten p word count done v w × (new ≡ record old { failed = old.failed + 1; first = first_or old.first p })) ⊎ IsCalm v w old new
 
   calm : (p : ℕ) (done : List Did) (v w : View X) (old new to : Flushed) → KeepsPage p done v w → w.notes ≡ v.notes → IsCalledOnce p done → new ≡ to → done_of to ≤ done_of old + 1 → to.failed ≡ old.failed → to.first ≡ old.first → FailsOrNot p v w old new
-  calm p done v w old new to k notes once e counted fails first = record {
-    done = done;
-    keeps = k;
-    once = once;
-    ends = inr record { counted = subst (λ (f : Flushed). done_of f ≤ done_of old + 1) (sym e) counted; failed = ap (λ (f : Flushed). f.failed) e ∙ fails; first = ap (λ (f : Flushed). f.first) e ∙ first; notes = notes };
-  }
+  calm p done v w old new to k notes once e counted fails first =
+      let so : IsCalm v w old new = record { counted = subst (λ (f : Flushed). done_of f ≤ done_of old + 1) (sym e) counted; failed = ap (λ (f : Flushed). f.failed) e ∙ fails; first = ap (λ (f : Flushed). f.first) e ∙ first; notes = notes } in
+      record { done = done; keeps = k; once = once; ends = inr so }
 
   passed-by : (p : ℕ) (v w : View X) (old new : Flushed) → FlushVisits p v w old new → FailsOrNot p v w old new
   passed-by p v w old new (gone done x l q g s e) = calm p done v w old new old l.keeps l.notes (inl l.unsaved.home) e (omega arith) refl refl

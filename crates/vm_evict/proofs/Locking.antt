@@ -58,11 +58,7 @@ module _ {X : Type 0} (p : ℕ) where
   -- one step that is one of the phase
   pub quiet-one : (phase : Phase) (word : ℕ) {did : Did} {x y : View X} → LeavesOthers (λ q. q ≡ p) (did ∷ []) [] x y → LeavesOwn x y → (newer : List Translation) → y.translations ≡ newer ++ x.translations → Does phase (p, word) did
       → Quietly phase (p, word) (did ∷ []) x y
-  quiet-one phase word f own newer reads does = record {
-    moves = record { leaves = rest-of f own; does = (does, tt); home = λ none. f.out ∙ none; newer = newer; reads = reads };
-    runs = f.runs;
-    keeps = f.keeps;
-  }
+  quiet-one phase word f own newer reads does = search (rules, rest-of f own)
 
   -- so is an exchange that was lost
   pub lost-quiet : (phase : Phase) (word : ℕ) (did : Did) (x y : View X) → Brings did [] [] x x y → Does phase (p, word) did → Quietly phase (p, word) (did ∷ []) x y

@@ -108,11 +108,7 @@ module _ {X : Type 0} (p word : ℕ) (done : List Did) (v x y : View X) (h : IsW
 
   -- the steps of the write are on the page alone, and keep it locked
   quiet-write : (more : List Did) → IsStillLocked p more x y → y.notes ≡ x.notes → Quietly phases.Save (p, word) more x y
-  quiet-write more k notes = record {
-    moves = moves-write more k;
-    runs = k.works.alone;
-    keeps = record { frames = k.frames.0; contents = k.frames.1; notes = notes };
-  }
+  quiet-write more k notes = search (rules, moves-write more k)
 
   -- it stays under write-back, and was written or not
   writing-on : (written : Bool) (more : List Did) → IsStillLocked p more x y → IsSome (held_at y p).mapping → (written ≡ false → HasNotSaved p more)

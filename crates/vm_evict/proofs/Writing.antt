@@ -11,9 +11,9 @@ use Rattle.vm_evict.proofs.Prelude.{IsUnderWriteBack, IsWritten, keeps-self, kee
 use Rattle.vm_evict.proofs.Prelude.{load-works, LoadTold, Mapping, mapping-clean, mapping_of, may-bring-written, may_call, MayBring, MayRaise, MayTakeOut}
 use Rattle.vm_evict.proofs.Prelude.{nat_lt, no-fault, None, noted-more, notes_of, Ok, once-behind, open_frame, Option, or_right, Origin, out_at, OutTold}
 use Rattle.vm_evict.proofs.Prelude.{raise-held, raise-works, raises, RaiseTold, reads, refl, Result, rules, Seat, seat_of, slice_index, slice_set, Some}
-use Rattle.vm_evict.proofs.Prelude.{stands_dirty, StaysHome, StaysOn, Stored, subst, sym, tload-works, trans_word, translation_of, TranslationTold, true}
-use Rattle.vm_evict.proofs.Prelude.{two-loads, Version, View, words_held, Works, works-none, works-then, Writes, WritesNone, WritesPage, writing_seat, ℕ}
-use Rattle.vm_evict.proofs.Prelude.{⊎_elim, ◌&&◌, ◌++◌, ◌+◌, ◌<◌, ◌^◌, ◌||◌, ◌∙◌, ◌∷◌, ◌≡◌, ◌≢◌, ◌≤◌}
+use Rattle.vm_evict.proofs.Prelude.{stands_dirty, StaysHome, StaysOn, Stored, subst, sym, tload-works, trans_word, Translation, translation_of}
+use Rattle.vm_evict.proofs.Prelude.{TranslationTold, true, two-loads, Version, View, words_held, Works, works-none, works-then, Writes, WritesNone}
+use Rattle.vm_evict.proofs.Prelude.{WritesPage, writing_seat, ℕ, ⊎_elim, ◌&&◌, ◌++◌, ◌+◌, ◌<◌, ◌^◌, ◌||◌, ◌∙◌, ◌∷◌, ◌≡◌, ◌≢◌, ◌≤◌}
 use Rattle.vm_evict.proofs.Tables.{found-first, kept-at, left-at, left-last}
 
 pub written-own : (p : ℕ) (d : Did) → WritesPage p d → IsOwnPlace p d.at
@@ -219,11 +219,8 @@ module _ {X : Type 0} (p f : ℕ) (v0 v : View X) (x : IsFoundToWrite p f v0 v) 
 
           reads-called : d.translations ≡ v.translations
           reads-called =
-              ap (λ (y : View X). y.translations) m.back.brings.view
-              ∙ ap (λ (y : View X). y.translations) m.shift.brings.view
-              ∙ k.from.reads
-              ∙ ap (λ (y : View X). y.translations) o.shift.brings.view
-              ∙ ap (λ (y : View X). y.translations) o.slot.brings.view
+              let seen : View X → List Translation = λ y. y.translations in
+              ap seen m.back.brings.view ∙ ap seen m.shift.brings.view ∙ k.from.reads ∙ ap seen o.shift.brings.view ∙ ap seen o.slot.brings.view
 
           keeps-called : KeepsFrames v d
           keeps-called = keeps-then v b d (keeps-then v a b gone.keeps k.from.keeps) back.keeps
@@ -242,9 +239,6 @@ module _ {X : Type 0} (p f : ℕ) (v0 v : View X) (x : IsFoundToWrite p f v0 v) 
           -- ---- the write answered
 
           module _ (u : Unit {0}) (ok : result ≡ Ok u) where
-            count-same : new.count ≡ old.count
-            count-same = write.count ∙ ap (λ (y : Result (Unit {0}) E). if is_ok y then old.count else count_more old.count) ok
-
             pub may-clean : IsWritten d p f
             may-clean =
                 let words = λ (t : d.start.tells ≡ true).
@@ -265,7 +259,7 @@ module _ {X : Type 0} (p f : ℕ) (v0 v : View X) (x : IsFoundToWrite p f v0 v) 
               locked-clean : IsStillLocked p (load-of ∷ (called-did ++ clean-did ∷ [])) v0 w
               locked-clean =
                   locked-end clean-did w (clean-works t) (cleans f refl) (ap (λ (y : View X). y.translations) t.brings.view)
-                  (subst (λ (h : Held). h.fault ≡ h.block.count) (sym held-cleaned) (loaded.told ∙ sym o.slot.block.count ∙ sym count-same))
+                  (subst (λ (h : Held). h.fault ≡ h.block.count) (sym held-cleaned) (loaded.told ∙ sym o.slot.block.count ∙ sym (write.count ∙ ap (λ (y : Result (Unit {0}) E). if is_ok y then old.count else count_more old.count) ok)))
                   (ap (λ (y : View X). y.out) t.brings.view) (ap (λ (y : View X). y.frames) t.brings.view, ap (λ (y : View X). y.contents) t.brings.view)
 
               pub cleaned : f < 2 ^ 32 → IsSavedNow p v0 w
@@ -292,18 +286,14 @@ module _ {X : Type 0} (p f : ℕ) (v0 v : View X) (x : IsFoundToWrite p f v0 v) 
 
           module _ (n : ℕ) (is : n ≡ new.count) where
             pub may-raise : MayRaise d p n
-            may-raise = record {
-              calls = or_right (seat_of d p).exclusive (seat_of d p).writing writes-called;
-              is = is ∙ ap (λ (h : Held). h.block.count) (sym held-is);
-            }
+            may-raise = search (rules, or_right (seat_of d p).exclusive (seat_of d p).writing writes-called, is ∙ ap (λ (h : Held). h.block.count) (sym held-is))
 
             module _ (u : E) (err : result ≡ Err u) (bounded : new.count ≤ new.bound) (w : View X) (t : RaiseTold p n d w) where
               abbrev raise-did : Did
               raise-did = did_store (places.Fault p) n
 
               held-raised : held_at w p ≡ record held-called { fault = n }
-              held-raised =
-                  raise-held t ∙ ap (λ (h : Held). record h { fault = n }) held-is
+              held-raised = raise-held t ∙ ap (λ (h : Held). record h { fault = n }) held-is
 
               count : new.count ≡ count_more old.count
               count = write.count ∙ ap (λ (y : Result (Unit {0}) E). if is_ok y then old.count else count_more old.count) err
