@@ -147,18 +147,14 @@ module _ (want drawn : ℕ) (start : Origin) where
           (this-or q own);
       either = λ q l.
           ⊎_elim
-          (λ same. passed-either q same l)
+          (λ same. ⊎_elim
+          (λ inside. inr (now q same inside))
+          (λ past. inl (get_or_past b q 0 (omega (arith, past, follows-length start more mid b f, long)) ∙ sym (get_or_past a q 0 past)))
+          (cases_lt q (length a)))
           (λ ne. ⊎_elim (λ e. inl (passed-other start p q chosen mid b ne passes ∙ e)) (λ e. inr (passed-other start p q chosen mid b ne passes ∙ e)) (so-far.either q l))
           (cases_eq q p);
       chosen = λ q c. ⊎_elim (λ old. owned-more start a drawn k q (so-far.chosen q old)) (λ e. subst (IsOwnedAt start a drawn (suc k)) (sym e) here) (chosen-more (visit-of p more chosen list old new visits) q c);
     }
-      where
-        passed-either : (q : ℕ) → q ≡ p → q < start.pages → (slice_index b q ≡ slice_index a q) ⊎ (slice_index b q ≡ passed_word (slice_index a q))
-        passed-either q same l =
-            ⊎_elim
-            (λ inside. inr (now q same inside))
-            (λ past. inl (get_or_past b q 0 (omega (arith, past, follows-length start more mid b f, long)) ∙ sym (get_or_past a q 0 past)))
-            (cases_lt q (length a))
 
   pub walk-left : (k : ℕ) (done : List Did) (looks : Looks) (list : List (ℕ × ℕ)) (a b : List ℕ) → k ≤ 2 * start.frames → WalksFrames want start.pages start.frames drawn k done looks list → Follows start done a b → IsLeft k done list a b
   walk-left zero done looks list a b most w f =

@@ -50,18 +50,11 @@ module _ {X : Type 0} (want drawn : ℕ) where
       let more : ℕ → Type 0 = FindsOwner (so-far.steps ++ visited.steps) in
       let all-steps : List Did = did_change places.Hand drawn (hand_more drawn) ∷ so-far.steps in
       let place : f ≡ (drawn + k) % v.start.frames = at ∙ mod-add-mod drawn v.start.frames k in
+      let visits : VisitsFrame v.start.pages chosen ((drawn + k) % v.start.frames) visited.steps old new list =
+      subst (λ g. VisitsFrame v.start.pages chosen g visited.steps old new list) place (subst (λ (o : Origin). VisitsFrame o.pages chosen f visited.steps old new list) so-far.only.aside.start visited.visits) in
       record {
         steps = so-far.steps ++ visited.steps;
-        walk = (
-          so-far.steps,
-          visited.steps,
-          old,
-          chosen,
-          refl,
-          so-far.walk,
-          room,
-          subst (λ g. VisitsFrame v.start.pages chosen g visited.steps old new list) place (subst (λ (o : Origin). VisitsFrame o.pages chosen f visited.steps old new list) so-far.only.aside.start visited.visits),
-        );
+        walk = (so-far.steps, visited.steps, old, chosen, refl, so-far.walk, room, visits);
         only = only-then more all-steps visited.steps v w x
             record { aside = aside-within (FindsOwner so-far.steps) more all-steps v w (λ q n. (n.0, given-front so-far.steps visited.steps (places.Owner n.0) (q + 1) n.1)) so-far.only.aside; keeps = so-far.only.keeps }
             record { aside = aside-within (FindsOwner visited.steps) more visited.steps w x (λ q n. (n.0, given-behind so-far.steps visited.steps (places.Owner n.0) (q + 1) n.1)) visited.aside; keeps = visited.keeps };
