@@ -4,8 +4,8 @@ pub use Rattle.std.specs.Mem.Slots.{slots_filled, slots_items, slots_len}
 pub use Rattle.std.proofs.{lemmas.Grind.common_steps, lemmas.Option.IfSome_then, Math.Nat.mod-lt, Math.Nat.pow-le-pow_right, Math.Seq.take-suc}
 pub use Rattle.std.proofs.lemmas.List.Sums.{sum_by-cons, sum_by-le-sum_by}
 pub use Rattle.std.proofs.Common.{[], ap, append_assoc, arith, bit_or, bit_xor, Bool, Err, false, get_or, IfSome, if◌then◌else◌, inl, inr, is_ok, IsOk, IsSome}
-pub use Rattle.std.proofs.Common.{length, length-append, List, map, max, min, nat_lt, None, Ok, Option, refl, Result, slice_index, slice_set, Some, subst, suc}
-pub use Rattle.std.proofs.Common.{sym, take, true, zero, ℕ, ⊎_elim, ◌%◌, ◌&&◌, ◌*◌, ◌++◌, ◌+◌, ◌-◌, ◌<◌, ◌==◌, ◌^◌, ◌∙◌, ◌∷◌, ◌≡◌, ◌≢◌, ◌≤◌, ◌⊎◌}
+pub use Rattle.std.proofs.Common.{length, length-append, List, map, max, min, nat_lt, None, Ok, Option, refl, Result, rules, slice_index, slice_set, Some}
+pub use Rattle.std.proofs.Common.{subst, suc, sym, take, true, zero, ℕ, ⊎_elim, ◌%◌, ◌&&◌, ◌*◌, ◌++◌, ◌+◌, ◌-◌, ◌<◌, ◌==◌, ◌^◌, ◌∙◌, ◌∷◌, ◌≡◌, ◌≢◌, ◌≤◌, ◌⊎◌}
 pub use Rattle.std.proofs.lemmas.Bool.{cases_Bool, cases_eq, cases_lt, eq-eqb, false≢true, lt-ltb, or_left, or_right, true≢false}
 pub use Rattle.std.proofs.lemmas.List.{get_or-set_other, get_or-set_same, nil_from_length, take_all}
 pub use Rattle.std.proofs.lemmas.Nat.Bits.{bit_at-lt, bit_at-zero, bit_at_ones, bit_at_xor}
@@ -18,8 +18,8 @@ pub use Rattle.vm_core.proofs.Upd.{sum_below-past}
 pub use Rattle.vm_owner.proofs.NumberLemmas.{has-without_other}
 pub use Rattle.vm_rule.specs.{Begun.begun, declared.view.Place.Place, Prelude.world_of, Reading.at_home}
 pub use Rattle.vm_rule.specs.Prelude.{AreApart, began_of, bounds_of, bundles_of, CaughtUp, core_shown, counts_of, did_load, draft_of, Each, entries_by, Entry}
-pub use Rattle.vm_rule.specs.Prelude.{first_part, giver, has, HasShape, HoldsNoPage, index_of, IsStarted, IsWhole, Kept, known, last_in, last_of, newcomer}
-pub use Rattle.vm_rule.specs.Prelude.{no_block, other_parts, out_of, out_or, owns, Ruled, seat_of, snapshot_of, Sound, Stands, Start, started_origin}
+pub use Rattle.vm_rule.specs.Prelude.{first_part, giver, has, HasShape, HoldsNoPage, index_of, IsLocking, IsStarted, IsWhole, Kept, known, last_in, last_of}
+pub use Rattle.vm_rule.specs.Prelude.{newcomer, no_block, other_parts, out_of, out_or, owns, Ruled, seat_of, snapshot_of, Sound, Stands, Start, started_origin}
 pub use Rattle.vm_rule.specs.Prelude.{started_shape, started_words, StartsWith, Stored, Table, table_words, times, unborn, view_from, view_of, width, without}
 pub use Rattle.vm_rule.proofs.{Entries.append-none, Found.part-found, Joining.times-joined, Parted.first-whole, Parts.listed-same, StartedWords.started-bundle}
 pub use Rattle.vm_rule.proofs.{StartedWords.started-state, Views.at-bound, Views.at-there}
