@@ -3,27 +3,19 @@ use Rattle.vm_rule.specs.declared.view.Place.TheVariants as places
 use Rattle.vm_clock.specs.Clock.{Visits as visits, VisitsFrame as frames}
 use Rattle.std.proofs.lemmas.List.{get_or_past}
 use Rattle.vm_step.specs.Prelude.{known_word_at}
-use Rattle.vm_step.proofs.Evidenced.{given-behind, given-front}
-use Rattle.vm_clock.proofs.Prelude.{[], and_left, and_right, ap, arith, candidate_pages, cases_eq, cases_lt, cond-false, cond-true, Did, did_change}
-use Rattle.vm_clock.proofs.Prelude.{did_load, Each, each-both, each-map, else-knows, eq-eqb, eqb, false, FindsOwner, Follows, follows-between}
-use Rattle.vm_clock.proofs.Prelude.{follows-kept, follows-length, get_or-set_other, get_or-set_same, hand_more, has, has-both, index_of, inl, inr}
-use Rattle.vm_clock.proofs.Prelude.{IsAlone, IsHeld, IsPassed, IsWalked, KnowsWalked, le-ltb, length, length-set, List, Looks, lt-ltb, MARKED}
-use Rattle.vm_clock.proofs.Prelude.{MAX_VERSION, mod-lt, nat_tests, ne_eqb, None, Origin, passed_word, refl, RunsAlone, set_if, slice_index}
-use Rattle.vm_clock.proofs.Prelude.{slice_set, Some, state_of, subst, suc, sym, true, true≢false, UNLOCKED, version-within, version_of, View, Visits}
-use Rattle.vm_clock.proofs.Prelude.{VisitsFrame, WalksFrames, Within, word-state, word_of, zero, ℕ, ⊎_elim, ◌%◌, ◌&&◌, ◌*◌, ◌++◌, ◌+◌, ◌<◌, ◌||◌, ◌∙◌}
-use Rattle.vm_clock.proofs.Prelude.{◌∷◌, ◌≡◌, ◌≢◌, ◌≤◌, ◌⊎◌}
+use Rattle.vm_clock.proofs.Prelude.{[], and_left, and_right, ap, arith, candidate_pages, cases_eq, cases_lt, cond-false, cond-true, Did, did_change, did_load}
+use Rattle.vm_clock.proofs.Prelude.{Each, each-both, each-map, else-knows, eq-eqb, eqb, false, Follows, follows-between, follows-kept, follows-length}
+use Rattle.vm_clock.proofs.Prelude.{get_or-set_other, get_or-set_same, hand_more, has, has-both, index_of, inl, inr, IsAlone, IsPassed, IsWalked, KnowsWalked}
+use Rattle.vm_clock.proofs.Prelude.{le-ltb, length, length-set, List, Looks, lt-ltb, MARKED, MAX_VERSION, mod-lt, nat_tests, ne_eqb, None, Origin}
+use Rattle.vm_clock.proofs.Prelude.{passed_word, refl, RunsAlone, set_if, slice_index, slice_set, Some, state_of, subst, suc, sym, true, true≢false, UNLOCKED}
+use Rattle.vm_clock.proofs.Prelude.{version-within, version_of, View, Visits, VisitsFrame, WalksFrames, Within, word-state, word_of, zero, ℕ, ⊎_elim, ◌%◌}
+use Rattle.vm_clock.proofs.Prelude.{◌&&◌, ◌*◌, ◌++◌, ◌+◌, ◌<◌, ◌||◌, ◌∙◌, ◌∷◌, ◌≡◌, ◌≢◌, ◌≤◌, ◌⊎◌}
 use Rattle.vm_clock.proofs.Visiting.{IsVisit, pages-end, visit-of}
 
 -- ---- the word of one page
 
-marks-it : (word : ℕ) → state_of word ≡ UNLOCKED → version_of word < MAX_VERSION → passed_word word ≡ word_of MARKED (version_of word)
-marks-it word free low = cond-true _ _ _ ((λ i. eq-eqb (state_of word) UNLOCKED free i && lt-ltb (version_of word) MAX_VERSION low i))
-
 leaves-state : (word : ℕ) → state_of word ≢ UNLOCKED → passed_word word ≡ word
 leaves-state word ne = cond-false _ _ _ (and_left _ _ (ne_eqb (state_of word) UNLOCKED ne))
-
-leaves-last : (word : ℕ) → version_of word ≡ MAX_VERSION → passed_word word ≡ word
-leaves-last word e = cond-false _ _ _ (and_right _ _ (le-ltb (version_of word) MAX_VERSION (omega (arith, e))))
 
 -- a page that was passed is as it would be left
 pass-twice : (word : ℕ) → passed_word (passed_word word) ≡ passed_word word
@@ -40,9 +32,6 @@ data Passes (chosen : List (ℕ × ℕ)) (p : ℕ) (a b : List ℕ) : Type 0 whe
   stays : passed_word (slice_index a p) ≡ slice_index a p → b ≡ a → Passes chosen p a b
   marks : b ≡ slice_set a p (passed_word (slice_index a p)) → Passes chosen p a b
 
-held-other : (word : ℕ) → IsHeld word → state_of word ≢ UNLOCKED
-held-other word h e = (let some : 1 ≤ state_of word = h.0 in omega (arith, some, e))
-
 module _ (start : Origin) where
   -- the look found the word, and left it
   looked : (p word : ℕ) (chosen : List (ℕ × ℕ)) (a b : List ℕ) → passed_word word ≡ word → (word ≡ slice_index a p) × (b ≡ a) → Passes chosen p a b
@@ -53,8 +42,8 @@ module _ (start : Origin) where
       again is (subst (λ ds. Follows start ds a b) steps_are f).1
   visit-words p steps chosen list old new a b (visits.gone word look state e l) f =
       looked p word chosen a b (leaves-state word (λ x. (let no : 255 ≡ 0 = sym state ∙ x in omega (arith, no)))) (subst (λ ds. Follows start ds a b) look.steps_are f)
-  visit-words p steps chosen list old new a b (visits.held word look held e l) f = looked p word chosen a b (leaves-state word (held-other word held)) (subst (λ ds. Follows start ds a b) look.steps_are f)
-  visit-words p steps chosen list old new a b (visits.worn word look state last e l) f = looked p word chosen a b (leaves-last word last) (subst (λ ds. Follows start ds a b) look.steps_are f)
+  visit-words p steps chosen list old new a b (visits.held word look held e l) f = looked p word chosen a b (leaves-state word (λ x. (let some : 1 ≤ state_of word = held.0 in absurd (omega (arith, some, x))))) (subst (λ ds. Follows start ds a b) look.steps_are f)
+  visit-words p steps chosen list old new a b (visits.worn word look state last e l) f = looked p word chosen a b (cond-false _ _ _ (and_right _ _ (le-ltb (version_of word) MAX_VERSION (omega (arith, last))))) (subst (λ ds. Follows start ds a b) look.steps_are f)
   visit-words p steps chosen list old new a b (visits.found word look state fresh e l) f =
       looked p word chosen a b (leaves-state word (λ x. (let no : 254 ≡ 0 = sym state ∙ x in omega (arith, no)))) (subst (λ ds. Follows start ds a b) look.steps_are f)
   visit-words p steps chosen list old new a b (visits.lost word other ne look state fresh e l) f =
@@ -63,7 +52,7 @@ module _ (start : Origin) where
   visit-words p steps chosen list old new a b (visits.marked word look state fresh e l) f =
       let g = subst (λ ds. Follows start ds a b) look.steps_are f in
       let wrote : b ≡ set_if (Some (word_of MARKED (version_of word))) p a = g.1.1 ∙ ap (λ o. set_if o p a) (cond-true (eqb word word) (Some (word_of MARKED (version_of word))) None (eq-eqb word word refl)) in
-      marks (wrote ∙ ap (λ n. slice_set a p n) (sym (marks-it word state fresh) ∙ ap passed_word g.0))
+      marks (wrote ∙ ap (λ n. slice_set a p n) (sym (cond-true _ _ _ (λ i. eq-eqb (state_of word) UNLOCKED state i && lt-ltb (version_of word) MAX_VERSION fresh i)) ∙ ap passed_word g.0))
 
   passed-other : (p q : ℕ) (chosen : List (ℕ × ℕ)) (a b : List ℕ) → q ≢ p → Passes chosen p a b → slice_index b q ≡ slice_index a q
   passed-other p q chosen a b ne (again is e) = ap (λ (l : List ℕ). slice_index l q) e
@@ -80,13 +69,6 @@ module _ (start : Origin) where
       ap (λ (l : List ℕ). slice_index l p) e ∙ get_or-set_same a p _ 0 inside ∙ ⊎_elim (λ same. ap passed_word same) (λ done. ap passed_word done ∙ pass-twice word) before
 
 -- ---- the walk
-
--- a page named by some of the steps is named by them all
-pub named-left : (a b : List Did) (p : ℕ) → FindsOwner a p → FindsOwner (a ++ b) p
-named-left a b p (f, h) = (f, given-front a b (places.Owner f) (p + 1) h)
-
-pub named-right : (a b : List Did) (p : ℕ) → FindsOwner b p → FindsOwner (a ++ b) p
-named-right a b p (f, h) = (f, given-behind a b (places.Owner f) (p + 1) h)
 
 -- a candidate was one before, or is the page that was visited
 chosen-more : {p : ℕ} {steps : List Did} {chosen list : List (ℕ × ℕ)} {old new : Looks} → IsVisit chosen p steps old new list → (q : ℕ) → has q (candidate_pages list) ≡ true → (has q (candidate_pages chosen) ≡ true) ⊎ (q ≡ p)
@@ -106,10 +88,6 @@ IsOwnedAt start words drawn count p = (k : ℕ) × (k < count) × (slice_index w
 
 owned-more : (start : Origin) (words : List ℕ) (drawn k q : ℕ) → IsOwnedAt start words drawn k q → IsOwnedAt start words drawn (suc k) q
 owned-more start words drawn k q (j, low, is) = (j, omega (arith, low), is)
-
--- the place of an owner word is that of no state word
-owner-apart : (start : Origin) (f q : ℕ) → q < start.pages → index_of start (places.Owner f) ≢ q
-owner-apart start f q l e = omega (arith, e, l)
 
 module _ (want drawn : ℕ) (start : Origin) where
   -- each step loads an owner word, or is at the state word of a page passed
@@ -162,25 +140,21 @@ module _ (want drawn : ℕ) (start : Origin) where
           each-both (IsWalkStep a (suc k)) before (owner ∷ more)
           (each-map (IsWalkStep a k) (IsWalkStep a (suc k)) (λ d s. ⊎_elim (λ o. inl o) (λ t. inr (t.0, t.1, t.2, owned-more start a drawn k t.0 t.3)) s) before so-far.steps)
           (inl ((drawn + k) % start.frames, frame, at, none), each-map _ (IsWalkStep a (suc k)) (λ (d : Did) is. inr (p, page, is, here)) more (visit-of p more chosen list old new visits).there);
-      owners = λ g. passed-other start p (index_of start (places.Owner g)) chosen mid b (owner-apart start g p page) passes ∙ so-far.owners g;
+      owners = λ g. passed-other start p (index_of start (places.Owner g)) chosen mid b (λ e. omega (arith, e, page)) passes ∙ so-far.owners g;
       passed = λ q l inside own.
           ⊎_elim (λ same. now q same inside)
           (λ earlier. ⊎_elim (λ same. now q same inside) (λ ne. passed-other start p q chosen mid b ne passes ∙ so-far.passed q l inside earlier) (cases_eq q p))
           (this-or q own);
       either = λ q l.
           ⊎_elim
-          (λ same. passed-either q same l)
+          (λ same. ⊎_elim
+          (λ inside. inr (now q same inside))
+          (λ past. inl (get_or_past b q 0 (omega (arith, past, follows-length start more mid b f, long)) ∙ sym (get_or_past a q 0 past)))
+          (cases_lt q (length a)))
           (λ ne. ⊎_elim (λ e. inl (passed-other start p q chosen mid b ne passes ∙ e)) (λ e. inr (passed-other start p q chosen mid b ne passes ∙ e)) (so-far.either q l))
           (cases_eq q p);
       chosen = λ q c. ⊎_elim (λ old. owned-more start a drawn k q (so-far.chosen q old)) (λ e. subst (IsOwnedAt start a drawn (suc k)) (sym e) here) (chosen-more (visit-of p more chosen list old new visits) q c);
     }
-      where
-        passed-either : (q : ℕ) → q ≡ p → q < start.pages → (slice_index b q ≡ slice_index a q) ⊎ (slice_index b q ≡ passed_word (slice_index a q))
-        passed-either q same l =
-            ⊎_elim
-            (λ inside. inr (now q same inside))
-            (λ past. inl (get_or_past b q 0 (omega (arith, past, follows-length start more mid b f, long)) ∙ sym (get_or_past a q 0 past)))
-            (cases_lt q (length a))
 
   pub walk-left : (k : ℕ) (done : List Did) (looks : Looks) (list : List (ℕ × ℕ)) (a b : List ℕ) → k ≤ 2 * start.frames → WalksFrames want start.pages start.frames drawn k done looks list → Follows start done a b → IsLeft k done list a b
   walk-left zero done looks list a b most w f =
@@ -205,8 +179,7 @@ module _ (want drawn : ℕ) (start : Origin) where
           let before-or : (q : ℕ) → IsOwnedAt start a drawn (suc k) q → IsOwnedAt start a drawn k q = λ q own.
           ⊎_elim (λ low. (own.0, low, own.2))
           (λ (past : k ≤ own.0).
-          let lt : own.0 < suc k = own.1 in
-          let same : own.0 ≡ k = omega (arith, past, lt) in
+          let same : own.0 ≡ k = (let lt : own.0 < suc k = own.1 in omega (arith, past, lt)) in
           let zero' : 0 ≡ q + 1 = sym none ∙ ap (λ n. slice_index a (index_of start (places.Owner ((drawn + n) % start.frames)))) (sym same) ∙ own.2 in
           absurd (omega (arith, zero')))
           (cases_lt own.0 k) in
@@ -253,11 +226,8 @@ module _ {X : Type 0} (want drawn count : ℕ) (steps : List Did) (looks : Looks
   was-owned : (f : ℕ) → slice_index moved (index_of v.start (places.Owner f)) ≡ known_word_at v (places.Owner f)
   was-owned f = get_or-set_other v.snapshot.words (index_of v.start places.Hand) (index_of v.start (places.Owner f)) (hand_more drawn) 0 (omega arith)
 
-  owned-so : (q : ℕ) → IsOwnedAt v.start moved drawn count q → IsPassed v drawn count q
-  owned-so q (k, low, is) = (k, low, sym (was-owned ((drawn + k) % v.start.frames)) ∙ is)
-
   walked : Each (λ (d : Did). ((f : ℕ) × (f < v.start.frames) × (d.at ≡ places.Owner f) × (d.wrote ≡ None)) ⊎ ((q : ℕ) × (q < pages) × (d.at ≡ places.State q) × IsPassed v drawn count q)) steps
-  walked = each-map _ _ (λ d s. ⊎_elim (λ o. inl o) (λ t. inr (t.0, t.1, t.2, owned-so t.0 t.3)) s) steps left.steps
+  walked = each-map _ _ (λ d s. ⊎_elim (λ o. inl o) (λ t. inr (t.0, t.1, t.2, (t.3.0, t.3.1, sym (was-owned ((drawn + t.3.0) % v.start.frames)) ∙ t.3.2))) s) steps left.steps
 
   hand-stays : slice_index w.snapshot.words (index_of v.start places.Hand) ≡ slice_index moved (index_of v.start places.Hand)
   hand-stays =

@@ -1,20 +1,17 @@
 -- The pages among the candidates, and what a visit comes to.
 use Rattle.vm_rule.specs.declared.view.Place.TheVariants as places
 use Rattle.vm_clock.specs.Clock.{Visits as visits, VisitsFrame as frames}
-use Rattle.std.proofs.lemmas.Bool.{false≢true}
-use Rattle.std.proofs.Common.{replicate}
 use Rattle.vm_core.specs.Prelude.{at, has_free_bit, upd}
 use Rattle.vm_core.proofs.Upd.{upd-other, upd-same}
 use Rattle.vm_step.specs.steps.Owner.{OwnerLoadTold}
 use Rattle.vm_step.proofs.{Asides.alone-silent, steps.Leaving.only-of, steps.Leaving.others-still}
 use Rattle.vm_step.proofs.steps.Unchanged.{still-holds, still-knows, still-own}
-use Rattle.vm_clock.proofs.Prelude.{[], ap, apart-end, AreApart, AreCandidates, arith, aside-within, Bool, candidate_pages, cases_eq, Did}
-use Rattle.vm_clock.proofs.Prelude.{did_exchange, did_load, Each, each-both, each-map, eq-eqb, eqb, false, FindsOwner, has, has-both, HoldsChosen}
-use Rattle.vm_clock.proofs.Prelude.{inl, inr, IsBelowLast, IsCandidate, IsFrameVisited, IsPageVisited, length, List, look-only, Looks, looks_counted}
-use Rattle.vm_clock.proofs.Prelude.{LooksAt, LookTold, mark-only, MARKED, MarkTold, MAX_VERSION, nat_tests, ne_eqb, None, only-then, OnlyReads, refl}
-use Rattle.vm_clock.proofs.Prelude.{runs-one, runs-then, RunsAlone, slice_index_or, Start, state_of, subst, suc, sym, take, true, version-within}
-use Rattle.vm_clock.proofs.Prelude.{version_of, View, Visits, VisitsFrame, word_of, zero, ℕ, ⊎_elim, ◌%◌, ◌++◌, ◌+◌, ◌<◌, ◌||◌, ◌∙◌, ◌∷◌, ◌≡◌, ◌≢◌}
-use Rattle.vm_clock.proofs.Prelude.{◌≤◌, ◌⊎◌}
+use Rattle.vm_clock.proofs.Prelude.{[], ap, apart-end, AreApart, AreCandidates, arith, aside-within, Bool, candidate_pages, cases_eq, Did, did_exchange}
+use Rattle.vm_clock.proofs.Prelude.{did_load, Each, each-both, each-map, eq-eqb, eqb, false, FindsOwner, has, has-both, HoldsChosen, inl, inr, IsBelowLast}
+use Rattle.vm_clock.proofs.Prelude.{IsCandidate, IsFrameVisited, IsPageVisited, length, List, look-only, Looks, looks_counted, LooksAt, LookTold, mark-only}
+use Rattle.vm_clock.proofs.Prelude.{MARKED, MarkTold, MAX_VERSION, nat_tests, ne_eqb, None, only-then, OnlyReads, refl, rules, runs-one, runs-then, RunsAlone}
+use Rattle.vm_clock.proofs.Prelude.{slice_index_or, Start, state_of, subst, suc, sym, take, true, version-within, version_of, View, Visits, VisitsFrame}
+use Rattle.vm_clock.proofs.Prelude.{word_of, zero, ℕ, ⊎_elim, ◌%◌, ◌++◌, ◌+◌, ◌<◌, ◌||◌, ◌∙◌, ◌∷◌, ◌≡◌, ◌≢◌, ◌≤◌, ◌⊎◌}
 
 -- one place further in the list
 pub has-next : (p : ℕ) (l : List (ℕ × ℕ)) (i : ℕ) (d : ℕ × ℕ) → i < length l → (slice_index_or l i d).0 ≢ p → has p (candidate_pages (take i l)) ≡ false → has p (candidate_pages (take (suc i) l)) ≡ false
@@ -41,9 +38,6 @@ candidates-end pages l c are new is = record {
   apart = subst AreApart (sym (pages-end l c)) (apart-end (candidate_pages l) c.0 are.apart new);
   each = each-both (IsCandidate pages) l (c ∷ []) are.each (is, tt);
 }
-
-pub no-candidates : (pages : ℕ) → AreCandidates pages []
-no-candidates pages = record { apart = tt; each = tt }
 
 -- ---- What a visit comes to, by the word that its look found and by the exchange that would mark the page.
 
@@ -100,13 +94,7 @@ module _ {X : Type 0} (tied : Start → ℕ → List ℕ → ℕ → List ℕ �
       let first : List Did = did_load (places.State p) word ∷ [] in
       let did : Did = did_exchange (places.State p) word found (word_of MARKED (version_of word)) in
       let both : OnlyReads touched (first ++ did ∷ []) v x = only-then touched first (did ∷ []) v w x looked (mark-only touched p word found (word_of MARKED (version_of word)) w x m) in
-      record {
-        steps = first ++ did ∷ [];
-        visits = visits;
-        aside = both.aside;
-        keeps = both.keeps;
-        alone = runs-then first (did ∷ []) [] [] v w x looked.aside.start looked.aside.parts look-runs (runs-one did _ [] [] w w x m.brings);
-      }
+      search (rules, both, runs-then first (did ∷ []) [] [] v w x looked.aside.start looked.aside.parts look-runs (runs-one did _ [] [] w w x m.brings))
 
 -- ---- a frame
 
@@ -153,14 +141,9 @@ module _ {X : Type 0} (f found : ℕ) (v w : View X) (t : OwnerLoadTold f found 
   -- the frame is nobody's
   pub by-none : found ≡ 0 → (chosen : List (ℕ × ℕ)) (old : Looks) → IsFrameVisited f old chosen (record old { gone = old.gone + 1 }) chosen v w
   by-none none chosen old =
-      let o = owner-only (FindsOwner (owner-did ∷ [])) in
-      record {
-        steps = owner-did ∷ [];
-        visits = frames.empty (ap (λ n. did_load (places.Owner f) n ∷ []) none) refl refl;
-        aside = o.aside;
-        keeps = o.keeps;
-        alone = owner-runs;
-      }
+      let steps : List Did = owner-did ∷ [] in
+      let visits : VisitsFrame v.start.pages chosen f steps old (record old { gone = old.gone + 1 }) chosen = frames.empty (ap (λ n. did_load (places.Owner f) n ∷ []) none) refl refl in
+      search (rules, visits, owner-only (FindsOwner steps), owner-runs)
 
   -- the page that it names was looked at
   pub by-page : (p : ℕ) → found ≡ p + 1 → (chosen list : List (ℕ × ℕ)) (old new : Looks) (x : View X) → IsPageVisited p old chosen new list w x → IsFrameVisited f old chosen new list v x
@@ -170,18 +153,10 @@ module _ {X : Type 0} (f found : ℕ) (v w : View X) (t : OwnerLoadTold f found 
       let own : OnlyReads (FindsOwner steps) steps v x = only-then (FindsOwner steps) (owner-did ∷ []) s.steps v w x (owner-only (FindsOwner steps))
       record { aside = aside-within (λ q. q ≡ p) (FindsOwner steps) s.steps w x (λ q e. subst (FindsOwner steps) (sym e) named) s.aside; keeps = s.keeps } in
       let inside : found ≤ v.start.pages = t.inside in
-      record {
-        steps = steps;
-        visits = frames.named p s.steps (omega (arith, inside, is)) (ap (λ n. did_load (places.Owner f) n ∷ s.steps) is) s.visits;
-        aside = own.aside;
-        keeps = own.keeps;
-        alone = runs-then (owner-did ∷ []) s.steps [] [] v w x (owner-only (λ _. ⊥)).aside.start (owner-only (λ _. ⊥)).aside.parts owner-runs s.alone;
-      }
+      let visits : VisitsFrame v.start.pages chosen f steps old new list = frames.named p s.steps (omega (arith, inside, is)) (ap (λ n. did_load (places.Owner f) n ∷ s.steps) is) s.visits in
+      search (rules, visits, own, runs-then (owner-did ∷ []) s.steps [] [] v w x (owner-only (λ _. ⊥)).aside.start (owner-only (λ _. ⊥)).aside.parts owner-runs s.alone)
 
 -- ---- the filter
-
-pub covers-none : HoldsChosen (replicate 16 0) []
-covers-none p e = absurd (false≢true e)
 
 -- one more is noted
 pub covers-more : (masks masks' : List ℕ) (list : List (ℕ × ℕ)) (c : ℕ × ℕ) → has_free_bit (at 0 masks') ≡ upd (has_free_bit (at 0 masks)) (c.0 % 1024) true → HoldsChosen masks list → HoldsChosen masks' (list ++ c ∷ [])

@@ -1,11 +1,11 @@
 -- A walk: the next visit makes it longer; each of its looks is counted; its candidates are pages of the table, each another.
 use Rattle.vm_rule.specs.declared.view.Place.TheVariants as places
-use Rattle.vm_clock.proofs.Passing.{named-left, named-right, walked-knows}
-use Rattle.vm_clock.proofs.Prelude.{[], ap, AreCandidates, arith, aside-within, Did, did_change, FindsOwner, hand_more, IsChosen, IsFrameVisited}
-use Rattle.vm_clock.proofs.Prelude.{length, length-append, List, Looks, looks_counted, mod-add-mod, only-then, OnlyReads, Origin, refl, runs-then}
-use Rattle.vm_clock.proofs.Prelude.{RunsAlone, subst, suc, sym, View, VisitsFrame, WalksFrames, zero, ℕ, ⊎_elim, ◌%◌, ◌*◌, ◌++◌, ◌+◌, ◌<◌, ◌∙◌, ◌∷◌}
-use Rattle.vm_clock.proofs.Prelude.{◌≡◌, ◌≤◌, ◌⊎◌}
-use Rattle.vm_clock.proofs.Visiting.{candidates-end, frame-visit, IsFrameVisit, no-candidates}
+use Rattle.vm_clock.proofs.Passing.{walked-knows}
+use Rattle.vm_clock.proofs.Prelude.{[], ap, AreCandidates, arith, aside-within, Did, did_change, FindsOwner, given-behind, given-front, hand_more, IsChosen}
+use Rattle.vm_clock.proofs.Prelude.{IsFrameVisited, length, length-append, List, Looks, looks_counted, mod-add-mod, only-then, OnlyReads, Origin, refl, rules}
+use Rattle.vm_clock.proofs.Prelude.{runs-then, RunsAlone, subst, suc, sym, View, VisitsFrame, WalksFrames, zero, ℕ, ⊎_elim, ◌%◌, ◌*◌, ◌++◌, ◌+◌, ◌<◌, ◌∙◌}
+use Rattle.vm_clock.proofs.Prelude.{◌∷◌, ◌≡◌, ◌≤◌, ◌⊎◌}
+use Rattle.vm_clock.proofs.Visiting.{candidates-end, frame-visit, IsFrameVisit}
 
 -- ---- one visit
 
@@ -27,20 +27,13 @@ module _ {pages : ℕ} {steps : List Did} {chosen list : List (ℕ × ℕ)} {old
 -- ---- the walk
 
 module _ (want pages frames drawn : ℕ) where
-  -- each look is counted once
-  pub all-counted : (k : ℕ) (done : List Did) (looks : Looks) (list : List (ℕ × ℕ)) → WalksFrames want pages frames drawn k done looks list → looks_counted looks ≡ k
-  all-counted zero done looks list w = ap looks_counted w.1
-  all-counted (suc k) done looks list (before, steps, old, chosen, cut, walk, room, visit) = (frame-visit _ _ _ _ _ _ _ visit).counted ∙ ap suc (all-counted k before old chosen walk)
-
-  -- no more are chosen than were wanted
-  pub few-chosen : (k : ℕ) (done : List Did) (looks : Looks) (list : List (ℕ × ℕ)) → WalksFrames want pages frames drawn k done looks list → length list ≤ want
-  few-chosen zero done looks list w = let n : length list ≡ 0 = ap (λ (l : List (ℕ × ℕ)). length l) w.2 in omega (arith, n)
-  few-chosen (suc k) done looks list (before, steps, old, chosen, cut, walk, room, visit) = let n = one-more (frame-visit _ _ _ _ _ _ _ visit) in omega (arith, n, room)
-
-  -- and those are candidates: each is a page that an owner word named
-  pub are-candidates : (k : ℕ) (done : List Did) (looks : Looks) (list : List (ℕ × ℕ)) → WalksFrames want pages frames drawn k done looks list → AreCandidates pages list
-  are-candidates zero done looks list w = subst (AreCandidates pages) (sym w.2) (no-candidates pages)
-  are-candidates (suc k) done looks list (before, steps, old, chosen, cut, walk, room, visit) = still-candidates (frame-visit _ _ _ _ _ _ _ visit) (are-candidates k before old chosen walk)
+  -- each look is counted once; no more are chosen than were wanted, and those are candidates: each is a page that an owner word named
+  walked : (k : ℕ) (done : List Did) (looks : Looks) (list : List (ℕ × ℕ)) → WalksFrames want pages frames drawn k done looks list → (looks_counted looks ≡ k) × (length list ≤ want) × AreCandidates pages list
+  walked zero done looks list w = (ap looks_counted w.1, (let n : length list ≡ 0 = ap (λ (l : List (ℕ × ℕ)). length l) w.2 in omega (arith, n)), subst (AreCandidates pages) (sym w.2) record { apart = tt; each = tt })
+  walked (suc k) done looks list (before, steps, old, chosen, cut, walk, room, visit) =
+      let v = frame-visit _ _ _ _ _ _ _ visit in
+      let rest = walked k before old chosen walk in
+      (v.counted ∙ ap suc rest.0, (let n = one-more v in omega (arith, n, room)), still-candidates v rest.2)
 
 module _ {X : Type 0} (want drawn : ℕ) where
   -- a walk of k visits so far, from the place drawn
@@ -57,47 +50,25 @@ module _ {X : Type 0} (want drawn : ℕ) where
       let more : ℕ → Type 0 = FindsOwner (so-far.steps ++ visited.steps) in
       let all-steps : List Did = did_change places.Hand drawn (hand_more drawn) ∷ so-far.steps in
       let place : f ≡ (drawn + k) % v.start.frames = at ∙ mod-add-mod drawn v.start.frames k in
+      let visits : VisitsFrame v.start.pages chosen ((drawn + k) % v.start.frames) visited.steps old new list =
+      subst (λ g. VisitsFrame v.start.pages chosen g visited.steps old new list) place (subst (λ (o : Origin). VisitsFrame o.pages chosen f visited.steps old new list) so-far.only.aside.start visited.visits) in
       record {
         steps = so-far.steps ++ visited.steps;
-        walk = (
-          so-far.steps,
-          visited.steps,
-          old,
-          chosen,
-          refl,
-          so-far.walk,
-          room,
-          subst (λ g. VisitsFrame v.start.pages chosen g visited.steps old new list) place (subst (λ (o : Origin). VisitsFrame o.pages chosen f visited.steps old new list) so-far.only.aside.start visited.visits),
-        );
+        walk = (so-far.steps, visited.steps, old, chosen, refl, so-far.walk, room, visits);
         only = only-then more all-steps visited.steps v w x
-            record { aside = aside-within (FindsOwner so-far.steps) more all-steps v w (λ q. named-left so-far.steps visited.steps q) so-far.only.aside; keeps = so-far.only.keeps }
-            record { aside = aside-within (FindsOwner visited.steps) more visited.steps w x (λ q. named-right so-far.steps visited.steps q) visited.aside; keeps = visited.keeps };
+            record { aside = aside-within (FindsOwner so-far.steps) more all-steps v w (λ q n. (n.0, given-front so-far.steps visited.steps (places.Owner n.0) (q + 1) n.1)) so-far.only.aside; keeps = so-far.only.keeps }
+            record { aside = aside-within (FindsOwner visited.steps) more visited.steps w x (λ q n. (n.0, given-behind so-far.steps visited.steps (places.Owner n.0) (q + 1) n.1)) visited.aside; keeps = visited.keeps };
         alone = runs-then all-steps visited.steps [] [] v w x so-far.only.aside.start so-far.only.aside.parts so-far.alone visited.alone;
       }
 
   -- what the looks and the candidates of a walk are, in a table of so many pages
   module _ (k : ℕ) (looks : Looks) (list : List (ℕ × ℕ)) (v w : View X) (walking : IsWalking k looks list v w) where
+    pub walked-so : (looks_counted looks ≡ k) × (length list ≤ want) × AreCandidates v.start.pages list
+    walked-so = walked want v.start.pages v.start.frames drawn k walking.steps looks list walking.walk
+
     pub walked-list : (pages : ℕ) → v.start.pages ≡ pages → AreCandidates pages list
-    walked-list pages is = subst (λ n. AreCandidates n list) is (are-candidates want v.start.pages v.start.frames drawn k walking.steps looks list walking.walk)
-
-    pub walked-looks : looks_counted looks ≡ k
-    walked-looks = all-counted want v.start.pages v.start.frames drawn k walking.steps looks list walking.walk
-
-    pub walked-few : length list ≤ want
-    walked-few = few-chosen want v.start.pages v.start.frames drawn k walking.steps looks list walking.walk
+    walked-list pages is = subst (λ n. AreCandidates n list) is walked-so.2
 
     -- the walk ends, since enough are chosen or since it has been round twice
     pub walked-chosen : k ≤ 2 * v.start.frames → (length list ≡ want) ⊎ (k ≡ 2 * v.start.frames) → IsChosen want looks list v w
-    walked-chosen most ends = record {
-      drawn = drawn;
-      count = k;
-      steps = walking.steps;
-      walk = walking.walk;
-      most = most;
-      ends = ends;
-      counted = walked-looks;
-      aside = walking.only.aside;
-      keeps = walking.only.keeps;
-      alone = walking.alone;
-      table = λ a. walked-knows want drawn k walking.steps looks list v w walking.only.aside.start walking.walk most walking.alone a;
-    }
+    walked-chosen most ends = search (rules, walked-so.0, walked-knows want drawn k walking.steps looks list v w walking.only.aside.start walking.walk most walking.alone)

@@ -2,23 +2,19 @@
 use Rattle.vm_rule.specs.declared.view.Place.TheVariants as places
 use Rattle.vm_evict.specs.declared.candidate.Phase.TheVariants as phases
 use Rattle.vm_evict.specs.declared.candidate.Stage.TheVariants as stages
-use Rattle.vm_evict.proofs.Evidenced.{locks-front, no-mapping, no-state, none-kept, not-emptied, not-fault, out-front, saved-front}
+use Rattle.vm_evict.proofs.Evidenced.{locks-front, no-mapping, none-kept, out-front, saved-front}
 use Rattle.vm_evict.proofs.Moving.{come-still}
-use Rattle.vm_step.specs.steps.Owner.{OwnerTold}
-use Rattle.vm_step.proofs.steps.Owner.{owner-held, owner-works}
-use Rattle.vm_evict.proofs.Prelude.{[], Advances, ap, append-none, append_assoc, arith, Bool, clean_in, clear-held, clear-works, ClearTold}
-use Rattle.vm_evict.proofs.Prelude.{contents_at, Did, did_load, did_store, Does, draft_of, Each, each-both, evict-alone, evict-leaves, evict-seat}
-use Rattle.vm_evict.proofs.Prelude.{EVICTED, evicted_view, EvictTold, false, false≢true, frame_in, frame_of, FramesCome, has, HasReleased, Held}
-use Rattle.vm_evict.proofs.Prelude.{held_at, home-both, inl, IsAlone, IsEmptied, IsLocking, IsOwning, IsPageFreed, KnowsStage, last_in, last_of}
-use Rattle.vm_evict.proofs.Prelude.{LeavesRest, List, LOCKED, mapping_of, MARKED, MAX_VERSION, MayEvict, Moves, nat_tests, no-fault, None, none-some}
-use Rattle.vm_evict.proofs.Prelude.{or_left, Origin, owning_seat, put_at, refl, Release, release_at, rules, runs-one, same_Some, Seat, seat_of, Some}
-use Rattle.vm_evict.proofs.Prelude.{StandsClean, state_of, stays-alone, StaysHome, subst, sym, tload-works, trans_word, translation_of}
-use Rattle.vm_evict.proofs.Prelude.{TranslationTold, true, upd-other, Version, version_of, View, word-state, word_of, Works, works-then, ℕ, ◌++◌, ◌+◌}
-use Rattle.vm_evict.proofs.Prelude.{◌<◌, ◌||◌, ◌∙◌, ◌∷◌, ◌≡◌, ◌≢◌, ◌≤◌}
+use Rattle.vm_evict.proofs.Prelude.{[], Advances, ap, append-none, append_assoc, arith, Bool, clean_in, clear-held, clear-works, clears, ClearTold}
+use Rattle.vm_evict.proofs.Prelude.{contents_at, Did, did_load, did_store, disowns, Does, draft_of, Each, each-both, evict-alone, evict-leaves, evict-seat}
+use Rattle.vm_evict.proofs.Prelude.{EVICTED, evicted_view, EvictTold, false, false≢true, frame_in, frame_of, FramesCome, has, HasReleased, Held, held_at}
+use Rattle.vm_evict.proofs.Prelude.{home-both, inl, is_dirty, IsAlone, IsEmptied, IsLocking, IsOwning, IsPageFreed, KnowsStage, last_in, last_of, LeavesRest}
+use Rattle.vm_evict.proofs.Prelude.{List, loads, LOCKED, mapping_of, MARKED, MAX_VERSION, Moves, nat_tests, no-fault, None, none-some, or_left, Origin}
+use Rattle.vm_evict.proofs.Prelude.{owner-held, owner-works, OwnerTold, owning_seat, put_at, refl, Release, release_at, rules, runs-one, same_Some, Seat}
+use Rattle.vm_evict.proofs.Prelude.{seat_of, Some, StandsClean, StandsIn, state_of, stays-alone, StaysHome, subst, sym, tload-works, trans_word}
+use Rattle.vm_evict.proofs.Prelude.{translation_of, TranslationTold, true, upd-other, Version, version_of, View, word-state, word_of, Works, works-then, ℕ}
+use Rattle.vm_evict.proofs.Prelude.{◌++◌, ◌+◌, ◌<◌, ◌||◌, ◌∙◌, ◌∷◌, ◌≡◌, ◌≢◌, ◌≤◌}
 use Rattle.vm_evict.proofs.Tables.{kept-at, left-at, left-last, locked-on, state-left}
-use Rattle.vm_evict.proofs.Taken.{frame-said, free-rests, locks-now, taken-works}
-use Rattle.vm_evict.specs.Phases.Empties.{clears, disowns, loads}
-use Rattle.vm_rule.specs.Prelude.{StandsIn}
+use Rattle.vm_evict.proofs.Locking.{frame-of-parts, free-rests, locks-now, taken-works}
 
 module _ {X : Type 0} (p word frame : ℕ) (written : Bool) (done : List Did) (v x : View X) (h : IsOwning p word frame written done v x) where
   locks : IsLocking (seat_of x p)
@@ -38,7 +34,7 @@ module _ {X : Type 0} (p word frame : ℕ) (written : Bool) (done : List Did) (v
     said = l.called (or_left (seat_of x p).exclusive (seat_of x p).writing (ap (λ (s : Seat). s.exclusive) h.taken.now)) ∙ h.stands
 
     pub names : frame_in t ≡ Some frame
-    names = sym (frame-said t) ∙ ap frame_of said
+    names = sym (frame-of-parts (frame_in t) (is_dirty t)) ∙ ap frame_of said
 
     -- the frame is the one that the word names
     pub owning-there : (f : ℕ) → frame_in t ≡ Some f → IsOwning p word f written done v x
@@ -62,11 +58,7 @@ module _ {X : Type 0} (p word frame : ℕ) (written : Bool) (done : List Did) (v
       held-disowned = owner-held o ∙ ap (λ (k : Held). record k { owner = 0 }) held-loaded
 
       pub may-clear : StandsClean u p frame
-      may-clear = record {
-        owns = owns-then (load-did ∷ disown-did ∷ []) u disowned;
-        stands = ap (λ (k : Held). k.mapping) held-disowned ∙ h.stands;
-        disowned = ap (λ (k : Held). k.owner) held-disowned;
-      }
+      may-clear = search (rules, owns-then (load-did ∷ disown-did ∷ []) u disowned, ap (λ (k : Held). k.mapping) held-disowned ∙ h.stands, ap (λ (k : Held). k.owner) held-disowned)
 
       module _ (b : View X) (c : ClearTold p frame u b) where
         abbrev clear-did : Did
@@ -84,11 +76,7 @@ module _ {X : Type 0} (p word frame : ℕ) (written : Bool) (done : List Did) (v
         abbrev all : List Did
         all = done ++ worked
 
-        -- the steps did not make it clean
-        abbrev leaves-it : Did → Type 0
-        leaves-it d = d.at ≡ places.Translation p → d.wrote ≢ Some (trans_word (Some (clean_in frame)))
-
-        -- nor did they move its block
+        -- they did not move its block
         home-worked : StaysHome p worked
         home-worked = (no-fault p load-did refl, ((λ here. refl), ((λ here. refl), tt)))
 
@@ -99,12 +87,12 @@ module _ {X : Type 0} (p word frame : ℕ) (written : Bool) (done : List Did) (v
             locked = locks-front p word done worked h.locked;
             foreign =
                 each-both (λ (d : Did). d.at ≡ places.State p → d.wrote ≢ Some word) done worked h.foreign
-                ((λ here. absurd (no-state p (places.Translation p) refl here)), ((λ here. absurd (let no : places.Owner frame ≡ places.State p = here in cc)), ((λ here. absurd (no-state p (places.Translation p) refl here)), tt)));
+                ((λ here. absurd (let no : places.Translation p ≡ places.State p = here in cc)), ((λ here. absurd (let no : places.Owner frame ≡ places.State p = here in cc)), ((λ here. absurd (let no : places.Translation p ≡ places.State p = here in cc)), tt)));
             stood = (t, record { earlier = done; step = load-did; later = disown-did ∷ clear-did ∷ []; cut = refl; gives = (refl, refl) }, said);
             cleaned = λ e. saved-front p word frame done worked (h.cleaned e) home-worked;
             unwritten = λ e. (
-              each-both leaves-it done worked (none-kept done (places.Translation p) (trans_word (Some (clean_in frame))) (h.kept e).kept)
-                  ((λ here is. none-some (trans_word (Some (clean_in frame))) is), ((λ here. absurd (let no : places.Owner frame ≡ places.Translation p = here in cc)), ((λ here is. not-emptied frame (same_Some (trans_word None) (trans_word (Some (clean_in frame))) is)), tt))),
+              each-both _ done worked (none-kept done (places.Translation p) (trans_word (Some (clean_in frame))) (h.kept e).kept)
+                  ((λ here is. none-some (trans_word (Some (clean_in frame))) is), ((λ here. absurd (let no : places.Owner frame ≡ places.Translation p = here in cc)), ((λ here is. let none : 0 ≡ frame + 1 + 0 = same_Some (trans_word None) (trans_word (Some (clean_in frame))) is in absurd (omega (arith, none))), tt))),
               home-both p done worked (h.kept e).home home-worked,
             );
             disowned = record { earlier = done ++ load-did ∷ []; step = disown-did; later = clear-did ∷ []; cut = sym (append_assoc done (load-did ∷ []) (disown-did ∷ clear-did ∷ [])); place = refl; wrote = refl };
@@ -117,26 +105,21 @@ module _ {X : Type 0} (p word frame : ℕ) (written : Bool) (done : List Did) (v
         frames-before : u.frames ≡ x.frames
         frames-before = ap (λ (y : View X). y.frames) o.brings.view ∙ ap (λ (y : View X). y.frames) l.brings.view
 
-        frames-now : b.frames ≡ frame ∷ x.frames
-        frames-now = ap (λ (y : View X). y.frames) c.brings.view ∙ ap (λ (k : List ℕ). frame ∷ k) frames-before
-
-        was-none : has frame x.frames ≡ false
-        was-none = ap (has frame) (sym frames-before) ∙ c.new
-
         come : FramesCome (frame ∷ []) x b
         come =
+            let was-none : has frame x.frames ≡ false = ap (has frame) (sym frames-before) ∙ c.new in
             let words : (f : ℕ) → has f x.frames ≡ true → contents_at b f ≡ contents_at x f = λ f here.
             let ne : f ≢ frame = λ is. false≢true (sym was-none ∙ subst (λ (n : ℕ). has n x.frames ≡ true) is here) in
             ap (λ (y : View X). contents_at y f) c.brings.view ∙ upd-other (put_at [] u.contents) frame c.words f ne ∙ ap (λ (y : View X). contents_at y f) o.brings.view ∙ ap (λ (y : View X). contents_at y f) l.brings.view in
-            let all : (f : ℕ) → has f b.frames ≡ (has f (frame ∷ []) || has f x.frames) = λ f. (let now = ap (has f) frames-now in grind (arith, nat_tests, now)) in
+            let all : (f : ℕ) → has f b.frames ≡ (has f (frame ∷ []) || has f x.frames) = λ f. (let now = ap (has f) (ap (λ (y : View X). y.frames) c.brings.view ∙ ap (λ (k : List ℕ). frame ∷ k) frames-before) in grind (arith, nat_tests, now)) in
             search (rules, subst (λ (y : Origin). frame < y.frames) disowned.leaves.start c.inside, was-none, all, words)
 
         emptied-known : IsAlone x → p < x.start.pages → KnowsStage (p, word) (stages.Owned written) v x → KnowsStage (p, word) (stages.Emptied frame written) v b
         emptied-known alone page k =
             let start = work.leaves.start in (
               locked-on (p, word) LOCKED (version_of word) v x b
-                  (kept-at worked [] x b start work.alone alone (places.State p) page ((λ here. refl), ((λ here. absurd (let no : places.Owner frame ≡ places.State p = here in cc)), ((λ here. absurd (no-state p (places.Translation p) refl here)), tt)))) k.0,
-              kept-at worked [] x b start work.alone alone (places.Fault p) page ((λ here. refl), ((λ here. absurd (let no : places.Owner frame ≡ places.Fault p = here in cc)), ((λ here. absurd (not-fault p (places.Translation p) refl here)), tt))) ∙ k.1,
+                  (kept-at worked [] x b start work.alone alone (places.State p) page ((λ here. refl), ((λ here. absurd (let no : places.Owner frame ≡ places.State p = here in cc)), ((λ here. absurd (let no : places.Translation p ≡ places.State p = here in cc)), tt)))) k.0,
+              kept-at worked [] x b start work.alone alone (places.Fault p) page ((λ here. refl), ((λ here. absurd (let no : places.Owner frame ≡ places.Fault p = here in cc)), ((λ here. absurd (let no : places.Translation p ≡ places.Fault p = here in cc)), tt))) ∙ k.1,
               left-at worked [] x b start work.alone alone (places.Translation p) (trans_word None) (left-last (load-did ∷ disown-did ∷ []) clear-did (trans_word None) refl),
             )
 
@@ -152,15 +135,6 @@ module _ {X : Type 0} (p word frame : ℕ) (written : Bool) (done : List Did) (v
 -- ---- A page that the pass holds exclusively, and that was taken out of its frame, is released as evicted: nothing but its version is another then.
 
 module _ {X : Type 0} (p word frame : ℕ) (written : Bool) (marked : state_of word ≡ MARKED) (below : version_of word < MAX_VERSION) (done : List Did) (v b : View X) (h : IsEmptied p word frame written done v b) where
-  locked-now : IsLocking (seat_of b p)
-  locked-now = locks-now p word owning_seat (inl refl) v b h.taken
-
-  owns : (seat_of b p).exclusive ≡ true
-  owns = ap (λ (s : Seat). s.exclusive) h.taken.now
-
-  pub may-evict : (version : ℕ) → version ≡ version_of word → b.out ≡ None → MayEvict b p version
-  may-evict version is home = grind arith
-
   evicted-else : word_of EVICTED (version_of word + 1) ≢ word
   evicted-else e =
       let within : version_of word + 1 ≤ MAX_VERSION = omega (arith, below) in
@@ -173,12 +147,6 @@ module _ {X : Type 0} (p word frame : ℕ) (written : Bool) (marked : state_of w
 
     abbrev end-release : Release
     end-release = record { page = p; version = version_of word + 1; words = draft_of b p }
-
-    abbrev end-all : List Did
-    end-all = done ++ end-did ∷ []
-
-    seat-now : seat_of w p ≡ record { shares = 0; exclusive = false; writing = false; reading = None }
-    seat-now = evict-seat e ∙ ap (λ (s : Seat). record s { exclusive = false }) h.taken.now
 
     changes : LeavesRest p (end-did ∷ []) b w
     changes = evict-leaves e h.taken.next
@@ -195,11 +163,11 @@ module _ {X : Type 0} (p word frame : ℕ) (written : Bool) (marked : state_of w
         let first = ap (λ (y : View X). y.releases) e.brings.view ∙ ap (λ (r : List Release). r ++ end-release ∷ []) known in
         let now : w.releases ≡ ((v.releases ++ since) ++ item (last_of b p).words ∷ []) ++ [] = first ∙ ap (λ (k : List ℕ). (v.releases ++ since) ++ item k ∷ []) h.draft ∙ sym (append-none ((v.releases ++ since) ++ item (last_of b p).words ∷ [])) in
         let same : last_in v.start (v.releases ++ since) p ≡ record { version = version_of word; words = (last_of b p).words } =
-        ap (λ (r : List Release). last_in v.start r p) (sym known) ∙ ap (λ (o : Origin). last_in o (b.releases ++ e.brings.between) p) (sym h.taken.start) ∙ e.brings.kept p locked-now
+        ap (λ (r : List Release). last_in v.start r p) (sym known) ∙ ap (λ (o : Origin). last_in o (b.releases ++ e.brings.between) p) (sym h.taken.start) ∙ e.brings.kept p (locks-now p word owning_seat (inl refl) v b h.taken)
         ∙ ap (λ (n : ℕ). record { version = n; words = (last_of b p).words }) {x = (last_of b p).version} {y = version_of word} h.taken.at in
         search (rules, now, same)
 
-    freed : IsPageFreed p word frame written end-all v w
+    freed : IsPageFreed p word frame written (done ++ end-did ∷ []) v w
     freed = record {
       out =
           out-front p word frame written done (end-did ∷ []) h.out ((λ here is. evicted-else (same_Some (word_of EVICTED (version_of word + 1)) word is)), tt)
@@ -223,4 +191,4 @@ module _ {X : Type 0} (p word frame : ℕ) (written : Bool) (marked : state_of w
         let moves : Moves phases.Leave (p, word) (end-did ∷ []) b w = search (rules, changes, out, reads) in
         let left : release_at b (p, word) (stages.Freed frame written) ≡ end-release ∷ [] = ap (λ (k : List ℕ). record { page = p; version = version_of word + 1; words = k } ∷ []) (sym h.draft) in
         let come : FramesCome [] b w = come-still b w (ap (λ (y : View X). y.frames) e.brings.view) (ap (λ (y : View X). y.contents) e.brings.view) in
-        search (rules, moves, freed, free-rests p v w h.taken.before seat-now, runs, evict-alone e h.draft, left, notes, come, freed-known)
+        search (rules, moves, freed, free-rests p v w h.taken.before (evict-seat e ∙ ap (λ (s : Seat). record s { exclusive = false }) h.taken.now), runs, evict-alone e h.draft, left, notes, come, freed-known)

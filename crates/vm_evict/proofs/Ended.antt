@@ -2,15 +2,15 @@
 use Rattle.vm_evict.specs.declared.candidate.Phase.TheVariants as phases
 use Rattle.vm_evict.specs.declared.candidate.Stage.TheVariants as stages
 use Rattle.vm_evict.proofs.Gathering.{gathered-each, gathered-few, gathered-none, page-at}
-use Rattle.vm_evict.proofs.Moving.{come-still}
-use Rattle.vm_evict.proofs.Passing.{all-self, Passes, rests-self}
-use Rattle.vm_evict.proofs.Prelude.{[], alone-self, ap, append-none, append_assoc, arith, Bool, candidate_at, candidate_pages, cases_Bool, Counts}
-use Rattle.vm_evict.proofs.Prelude.{Did, DoesOne, Each, else-knows, Evicted, false, first_of, first_pair, frame_at, FramesCome, gathered, has}
-use Rattle.vm_evict.proofs.Prelude.{if◌then◌else◌, InPhases, IsAdded, IsAllowed, IsAlone, IsAsideOf, IsAt, IsBatch, IsEnd, IsOfAny, IsOver}
-use Rattle.vm_evict.proofs.Prelude.{IsPhaseMade, IsUnderWay, KnowsEvicted, KnowsStage, length, length-append, List, Looks, lost_at, None, none_of}
-use Rattle.vm_evict.proofs.Prelude.{Note, note_at, one_if, refl, release_at, Rests, rules, runs-self, RunsAlone, Stage, stage_at, subst, suc, sym}
-use Rattle.vm_evict.proofs.Prelude.{Tallies, true, View, Within, written_at, zero, ℕ, ⊎_elim, ◌++◌, ◌+◌, ◌<◌, ◌∙◌, ◌∷◌, ◌≡◌, ◌≤◌, ◌⊎◌}
-use Rattle.vm_evict.proofs.Tables.{each-two, kept-self, phases-there}
+use Rattle.vm_evict.proofs.Moving.{come-still, phases-there}
+use Rattle.vm_evict.proofs.Passing.{Passes}
+use Rattle.vm_evict.proofs.Prelude.{[], alone-self, ap, append-none, append_assoc, arith, Bool, candidate_at, candidate_pages, cases_Bool, Counts, Did}
+use Rattle.vm_evict.proofs.Prelude.{DoesOne, Each, else-knows, Evicted, false, first_of, first_pair, frame_at, FramesCome, gathered, has, if◌then◌else◌}
+use Rattle.vm_evict.proofs.Prelude.{InPhases, IsAdded, IsAllowed, IsAlone, IsAsideOf, IsAt, IsBatch, IsEnd, IsOfAny, IsOver, IsPhaseMade, IsUnderWay}
+use Rattle.vm_evict.proofs.Prelude.{KnowsEvicted, KnowsStage, length, length-append, List, Looks, lost_at, None, none_of, Note, note_at, one_if, refl}
+use Rattle.vm_evict.proofs.Prelude.{release_at, Rests, rules, runs-self, RunsAlone, Stage, stage_at, subst, suc, sym, Tallies, true, View, Within, written_at}
+use Rattle.vm_evict.proofs.Prelude.{zero, ℕ, ⊎_elim, ◌++◌, ◌+◌, ◌<◌, ◌∙◌, ◌∷◌, ◌≡◌, ◌≤◌, ◌⊎◌}
+use Rattle.vm_evict.proofs.Tables.{each-two}
 
 -- the first that failed stays the first
 first-more : (ns : List Note) (p count : ℕ) → first_pair (first_of ns) (p, count) ≡ first_of (ns ++ record { page = p; count = count } ∷ [])
@@ -24,6 +24,10 @@ if-more : (l : List ℕ) (p : ℕ) (b : Bool) → length (l ++ (if b then p ∷ 
 if-more l p true = length-append l (p ∷ [])
 if-more l p false = none-more l ∙ omega arith
 
+if-one : (p : ℕ) (b : Bool) → length (if b then p ∷ [] else []) ≤ 1
+if-one p true = omega arith
+if-one p false = omega arith
+
 -- the first n are counted, and their frames taken
 pub record Reports (n : ℕ) (list : List (ℕ × ℕ)) (looks : Looks) (ends : List Stage) (e : Evicted) : Type 0 where
   pub counts : Counts n list looks ends e.report
@@ -36,45 +40,28 @@ reports-none list looks ends e is none = record {
 }
 
 -- one candidate more
-module _ (f w : List ℕ) (ns : List Note) (l : List ℕ) (looks : Looks) (c : ℕ × ℕ) (old new : Evicted) where
-  tallies-more : Tallies f w ns l looks old.report → (s : Stage) → IsAdded c.0 s old new → Tallies (f ++ frame_at c s) (w ++ written_at c s) (ns ++ note_at c s) (l ++ lost_at c s) looks new.report
-  tallies-more h (stages.Freed frame written) a = search (rules, ap, append-none, if-more w c.0 written, length-append f (frame ∷ []))
-  tallies-more h (stages.Failed count) a = grind (arith, none-more f, none-more w, none-more l, length-append ns (record { page = c.0; count = count } ∷ []), first-more ns c.0 count)
-  tallies-more h (stages.Lost written) a = (let none = none-more f in let noted = append-none ns in let if_written = if-more w c.0 written in let one = length-append l (c.0 ∷ []) in grind (arith, none, noted, if_written, one, a.0))
-  tallies-more h s a = absurd a
-
-  frames-more : old.frames ≡ f → (s : Stage) → IsAdded c.0 s old new → new.frames ≡ f ++ frame_at c s
-  frames-more e (stages.Freed frame written) a = a.1 ∙ ap (λ (k : List ℕ). k ++ frame ∷ []) e
-  frames-more e (stages.Failed count) a = a.1 ∙ e ∙ sym (append-none f)
-  frames-more e (stages.Lost written) a = a.1 ∙ e ∙ sym (append-none f)
-  frames-more e s a = absurd a
+module _ (f w : List ℕ) (ns : List Note) (l : List ℕ) (looks : Looks) (c : ℕ × ℕ) (old new : Evicted) (h : Tallies f w ns l looks old.report) (e : old.frames ≡ f) where
+  tallies-more : (s : Stage) → IsAdded c.0 s old new → Tallies (f ++ frame_at c s) (w ++ written_at c s) (ns ++ note_at c s) (l ++ lost_at c s) looks new.report × (new.frames ≡ f ++ frame_at c s)
+  tallies-more (stages.Freed frame written) a = (search (rules, ap, append-none, if-more w c.0 written, length-append f (frame ∷ [])), a.1 ∙ ap (λ (k : List ℕ). k ++ frame ∷ []) e)
+  tallies-more (stages.Failed count) a = (grind (arith, none-more f, none-more w, none-more l, length-append ns (record { page = c.0; count = count } ∷ []), first-more ns c.0 count), a.1 ∙ e ∙ sym (append-none f))
+  tallies-more (stages.Lost written) a =
+      ((let none = none-more f in let noted = append-none ns in let if_written = if-more w c.0 written in let one = length-append l (c.0 ∷ []) in grind (arith, none, noted, if_written, one, a.0)), a.1 ∙ e ∙ sym (append-none f))
+  tallies-more s a = absurd a
 
 pub reports-more : (n : ℕ) (list : List (ℕ × ℕ)) (looks : Looks) (ends : List Stage) (old new : Evicted) → Reports n list looks ends old → (m p : ℕ) → m ≡ n + 1 → p ≡ (candidate_at list n).0 → IsAdded p (stage_at ends n) old new → Reports m list looks ends new
 reports-more n list looks ends old new h m p is page a =
     let c : ℕ × ℕ = candidate_at list n in
     let added : IsAdded c.0 (stage_at ends n) old new = subst (λ (k : ℕ). IsAdded k (stage_at ends n) old new) page a in
     subst (λ (k : ℕ). Reports k list looks ends new) (let s : suc n ≡ m = omega (arith, is) in s)
-    record { counts = tallies-more _ _ _ _ looks c old new h.counts (stage_at ends n) added; frames = frames-more _ [] [] [] looks c old new h.frames (stage_at ends n) added }
+    (let more = tallies-more _ _ _ _ looks c old new h.counts h.frames (stage_at ends n) added in record { counts = more.0; frames = more.1 })
 
-one-frame : (c : ℕ × ℕ) (s : Stage) → length (frame_at c s) ≤ 1
-one-frame c (stages.Emptied frame written) = omega arith
-one-frame c (stages.Freed frame written) = omega arith
-one-frame c s = omega arith
-
-one-note : (c : ℕ × ℕ) (s : Stage) → length (note_at c s) ≤ 1
-one-note c (stages.Failed count) = omega arith
-one-note c s = omega arith
-
-one-lost : (c : ℕ × ℕ) (s : Stage) → length (lost_at c s) ≤ 1
-one-lost c (stages.Lost written) = omega arith
-one-lost c s = omega arith
-
-one-written : (c : ℕ × ℕ) (s : Stage) → length (written_at c s) ≤ 1
-one-written c (stages.Lost true) = omega arith
-one-written c (stages.Lost false) = omega arith
-one-written c (stages.Freed frame true) = omega arith
-one-written c (stages.Freed frame false) = omega arith
-one-written c s = omega arith
+-- each gives one of a kind at most
+one-each : (c : ℕ × ℕ) (s : Stage) → (length (frame_at c s) ≤ 1) × (length (written_at c s) ≤ 1) × (length (note_at c s) ≤ 1) × (length (lost_at c s) ≤ 1)
+one-each c (stages.Emptied frame written) = (omega arith, omega arith, omega arith, omega arith)
+one-each c (stages.Freed frame written) = (omega arith, if-one c.0 written, omega arith, omega arith)
+one-each c (stages.Failed count) = (omega arith, omega arith, omega arith, omega arith)
+one-each c (stages.Lost written) = (omega arith, if-one c.0 written, omega arith, omega arith)
+one-each c s = (omega arith, omega arith, omega arith, omega arith)
 
 few-fit : {A : Type 0} (give : ℕ × ℕ → Stage → List A) → ((c : ℕ × ℕ) (s : Stage) → length (give c s) ≤ 1) → (n : ℕ) (list : List (ℕ × ℕ)) (ends : List Stage) → n < 64 → (k : ℕ) → k ≡ length (gathered give n list ends) → k < 64
 few-fit give one n list ends low k is = let few = gathered-few give list one n ends in omega (arith, low, few, is)
@@ -83,11 +70,11 @@ few-fit give one n list ends low k is = let few = gathered-few give list one n e
 pub counts-fit : (n m : ℕ) (list : List (ℕ × ℕ)) (looks : Looks) (ends : List Stage) (e : Evicted) → n < m → m ≤ 64 → Reports n list looks ends e → (length e.frames < 64) × (e.report.freed < 64) × (e.report.written < 64) × (e.report.failed < 64) × (e.report.lost < 64)
 counts-fit n m list looks ends e below most h =
     let low : n < 64 = omega (arith, below, most) in (
-      few-fit frame_at one-frame n list ends low _ (ap length h.frames),
-      few-fit frame_at one-frame n list ends low _ h.counts.freed,
-      few-fit written_at one-written n list ends low _ h.counts.written,
-      few-fit note_at one-note n list ends low _ h.counts.failed,
-      few-fit lost_at one-lost n list ends low _ h.counts.lost,
+      few-fit frame_at (λ c s. (one-each c s).0) n list ends low _ (ap length h.frames),
+      few-fit frame_at (λ c s. (one-each c s).0) n list ends low _ h.counts.freed,
+      few-fit written_at (λ c s. (one-each c s).1) n list ends low _ h.counts.written,
+      few-fit note_at (λ c s. (one-each c s).2) n list ends low _ h.counts.failed,
+      few-fit lost_at (λ c s. (one-each c s).3) n list ends low _ h.counts.lost,
     )
 
 -- each that is over is freed, failed or lost
@@ -114,10 +101,10 @@ module _ {X : Type 0} where
 
   pub waiting-all : (list : List (ℕ × ℕ)) (ends : List Stage) (v : View X) → v.out ≡ None → ((n : ℕ) → n < length list → stage_at ends n ≡ stages.Waiting) → IsUnderWay list ends [] v v
   waiting-all list ends v none wait = record {
-    leaves = all-self list v;
+    leaves = search (rules, append-none);
     none = none;
     home = none;
-    each = λ n b. subst (λ (s : Stage). IsAt (candidate_at list n) s [] v v) (sym (wait n b)) record { quiet = tt; kept = record { kept = tt; home = tt }; rests = rests-self (candidate_at list n).0 v; start = refl; since = ([], sym (append-none v.releases)) };
+    each = λ n b. subst (λ (s : Stage). IsAt (candidate_at list n) s [] v v) (sym (wait n b)) record { quiet = tt; kept = record { kept = tt; home = tt }; rests = search rules; start = refl; since = ([], sym (append-none v.releases)) };
     runs =
         subst (λ l. RunsAlone [] l v v)
         (sym (gathered-none (release_at v) list (length list) ends (λ j b. ap (release_at v (candidate_at list j)) (wait j b))))
@@ -125,22 +112,16 @@ module _ {X : Type 0} where
     alone = alone-self v;
     noted = sym (ap (λ (l : List Note). v.notes ++ l) (gathered-none note_at list (length list) ends (λ j b. ap (note_at (candidate_at list j)) (wait j b))) ∙ append-none v.notes);
     frames = subst (λ (l : List ℕ). FramesCome l v v) (sym (gathered-none frame_at list (length list) ends (λ j b. ap (frame_at (candidate_at list j)) (wait j b)))) (come-still v v refl refl);
-    table = λ alone n b page. subst (λ (s : Stage). KnowsStage (candidate_at list n) s v v) (sym (wait n b)) (kept-self (candidate_at list n).0 v);
+    table = λ alone n b page. subst (λ (s : Stage). KnowsStage (candidate_at list n) s v v) (sym (wait n b)) record { state = refl; translation = refl; fault = refl };
   }
 
   -- ---- the end
 
-  end-of : (c : ℕ × ℕ) (s : Stage) (done : List Did) (v w : View X) → IsOver s → IsAt c s done v w → IsEnd c s done v w
-  end-of c (stages.Freed frame written) done v w o h = h.0
-  end-of c (stages.Failed count) done v w o h = h.0
-  end-of c (stages.Lost written) done v w o h = h.0
+  end-of : (c : ℕ × ℕ) (s : Stage) (done : List Did) (v w : View X) → IsOver s → IsAt c s done v w → IsEnd c s done v w × Rests c.0 v w
+  end-of c (stages.Freed frame written) done v w o h = h
+  end-of c (stages.Failed count) done v w o h = h
+  end-of c (stages.Lost written) done v w o h = h
   end-of c s done v w o h = absurd o
-
-  rests-of : (c : ℕ × ℕ) (s : Stage) (done : List Did) (v w : View X) → IsOver s → IsAt c s done v w → Rests c.0 v w
-  rests-of c (stages.Freed frame written) done v w o h = h.1
-  rests-of c (stages.Failed count) done v w o h = h.1
-  rests-of c (stages.Lost written) done v w o h = h.1
-  rests-of c s done v w o h = absurd o
 
   allowed-of : (c : ℕ × ℕ) (s : Stage) (done : List Did) (v w : View X) → IsEnd c s done v w → Each (λ n. IsAllowed v.start n.page n.count) (note_at c s)
   allowed-of c (stages.Failed count) done v w h = (h.allowed, tt)
@@ -152,7 +133,7 @@ module _ {X : Type 0} where
         ⊎_elim
         (λ (e : has q (candidate_pages list) ≡ true).
         let at = page-at list q e in
-        subst (λ (k : ℕ). Rests k v w) at.2 (rests-of (candidate_at list at.0) (stage_at ends at.0) done v w (over at.0 at.1) (h.each at.0 at.1)))
+        subst (λ (k : ℕ). Rests k v w) at.2 (end-of (candidate_at list at.0) (stage_at ends at.0) done v w (over at.0 at.1) (h.each at.0 at.1)).1)
         (λ (e : has q (candidate_pages list) ≡ false). (h.leaves.others q e).0)
         (cases_Bool (has q (candidate_pages list)))
 
@@ -169,7 +150,7 @@ module _ {X : Type 0} where
     batch inside looks e counts frames phases =
         let all : length (gathered frame_at (length list) list ends) + (length (gathered note_at (length list) list ends) + length (gathered lost_at (length list) list ends)) ≡ length list = over-all (length list) list ends over in
         let total : e.report.freed + (e.report.failed + e.report.lost) ≡ length list = (let a = counts.freed in let b = counts.failed in let c = counts.lost in omega (arith, all, a, b, c)) in
-        let each = λ (n : ℕ) (b : n < length list). end-of (candidate_at list n) (stage_at ends n) done v w (over n b) (h.each n b) in
+        let each = λ (n : ℕ) (b : n < length list). (end-of (candidate_at list n) (stage_at ends n) done v w (over n b) (h.each n b)).0 in
         let allowed = gathered-each note_at list (λ (n : Note). IsAllowed v.start n.page n.count) (length list) ends (λ j b. allowed-of (candidate_at list j) (stage_at ends j) done v w (each j b)) in
         let table : IsAlone v → KnowsEvicted list ends v w = λ a. record { each = λ n b. h.table a n b (inside n b); others = else-knows (IsOfAny (candidate_pages list)) done (gathered (release_at v) (length list) list ends) v w h.leaves.start h.runs (there phases) a } in
         search (rules, phases, each, counts, total, ap length frames ∙ sym counts.freed, frames, aside, subst (λ (l : List ℕ). FramesCome l v w) (sym frames) h.frames, h.noted, allowed, h.runs, table)

@@ -1,12 +1,11 @@
 -- Evidence in a longer list of steps, and what a pass leaves of a page that it locked and gave up again.
 use Rattle.vm_rule.specs.declared.view.Place.TheVariants as places
 use Rattle.vm_evict.proofs.Prelude.{[], ap, append_assoc, arith, Bool, by_share, clean_in, cond-false, cond-true, Did, did_exchange, did_load, Each}
-use Rattle.vm_evict.proofs.Prelude.{each-both, each-map, eq-eqb, eqb, false, false≢true, frame_of, given-behind, given-front, GoesOnce, HasLost}
-use Rattle.vm_evict.proofs.Prelude.{HasNotSaved, HasSaved, HasStep, HasTaken, holds-then, HoldsPage, home-both, if◌then◌else◌, is-fault, IsFoundDirty}
-use Rattle.vm_evict.proofs.Prelude.{IsLocking, IsLost, IsSavedFrom, IsSharedToSave, IsTakenOut, knows-then, KnowsAsBefore, List, LocksFrom, Mapping}
-use Rattle.vm_evict.proofs.Prelude.{ne_eqb, no-fault, None, none-some, once, once-behind, once-front, Option, Place, refl, Rests, same_Some, Seat}
-use Rattle.vm_evict.proofs.Prelude.{seat_of, Some, StaysHome, still-locking, sym, trans_word, true, View, WritesNone, written-front, ℕ, ⊎_elim, ◌++◌}
-use Rattle.vm_evict.proofs.Prelude.{◌+◌, ◌==◌, ◌∙◌, ◌∷◌, ◌≡◌, ◌≢◌, ◌≤◌}
+use Rattle.vm_evict.proofs.Prelude.{each-both, each-map, eq-eqb, eqb, false, false≢true, given-behind, given-front, GoesOnce, HasLost, HasNotSaved, HasSaved}
+use Rattle.vm_evict.proofs.Prelude.{HasStep, HasTaken, holds-then, HoldsPage, home-both, if◌then◌else◌, is-fault, IsFoundDirty, IsLocking, IsLost}
+use Rattle.vm_evict.proofs.Prelude.{IsSavedFrom, IsSharedToSave, IsTakenOut, knows-then, KnowsAsBefore, List, LocksFrom, ne_eqb, no-fault, None, none-some}
+use Rattle.vm_evict.proofs.Prelude.{once, once-behind, once-front, Place, refl, Rests, Seat, seat_of, Some, StaysHome, still-locking, sym, trans_word, true}
+use Rattle.vm_evict.proofs.Prelude.{View, WritesNone, written-front, ℕ, ⊎_elim, ◌++◌, ◌==◌, ◌∙◌, ◌∷◌, ◌≡◌, ◌≢◌, ◌≤◌}
 
 pub dirty-front : (p frame : ℕ) (a b : List Did) → IsFoundDirty p frame a → IsFoundDirty p frame (a ++ b)
 dirty-front p frame a b d = (d.0, given-front a b (places.Translation p) d.0 d.1, d.2)
@@ -77,14 +76,6 @@ saved-behind p word frame a b h home s = (
 
 -- ---- steps on words of a kind
 
-abbrev pub is-state : Place → Bool
-is-state (places.State p) = true
-is-state at = false
-
--- another kind of word is no state word
-pub no-state : (p : ℕ) (at : Place) → is-state at ≡ false → at ≢ places.State p
-no-state p at other e = false≢true (sym other ∙ ap is-state e)
-
 abbrev pub is-mapping : Place → Bool
 is-mapping (places.Translation p) = true
 is-mapping at = false
@@ -92,13 +83,6 @@ is-mapping at = false
 -- another kind of word is no translation word
 pub no-mapping : (p : ℕ) (d : Did) → is-mapping d.at ≡ false → d.at ≡ places.Translation p → d.wrote ≡ None
 no-mapping p d other e = absurd (false≢true (sym other ∙ ap is-mapping e))
-
--- another kind of word is no fault word
-pub not-fault : (p : ℕ) (at : Place) → is-fault at ≡ false → at ≢ places.Fault p
-not-fault p at other e = false≢true (sym other ∙ ap is-fault e)
-
-pub none-both : (at : Place) (a b : List Did) → WritesNone at a → WritesNone at b → WritesNone at (a ++ b)
-none-both at a b f g = each-both (λ (d : Did). d.at ≡ at → d.wrote ≡ None) a b f g
 
 -- ---- steps that leave no word, or not this one
 
@@ -121,7 +105,7 @@ none-kept a at found e = each-map (λ (d : Did). d.at ≡ at → d.wrote ≡ Non
 
 -- a page that was not written is not by steps on other words, nor by a load of its translation word
 pub unsaved-both : (p : ℕ) (a b : List Did) → HasNotSaved p a → HasNotSaved p b → HasNotSaved p (a ++ b)
-unsaved-both p a b f g = record { kept = none-both (places.Translation p) a b f.kept g.kept; home = home-both p a b f.home g.home }
+unsaved-both p a b f g = record { kept = each-both _ a b f.kept g.kept; home = home-both p a b f.home g.home }
 
 pub unsaved-one : (p : ℕ) (d : Did) → is-mapping d.at ≡ false → is-fault d.at ≡ false → HasNotSaved p (d ∷ [])
 unsaved-one p d mapping fault = record { kept = (no-mapping p d mapping, tt); home = (no-fault p d fault, tt) }
@@ -141,14 +125,6 @@ out-front p word frame written a b h foreign uncleaned home = record {
   disowned = written-front a b (places.Owner frame) 0 h.disowned;
   emptied = written-front a b (places.Translation p) (trans_word None) h.emptied;
 }
-
--- a page stands in one frame
-pub frame-one : (f g : ℕ) → ◌≡◌ {A = Option Mapping} (Some (clean_in f)) (Some (clean_in g)) → f ≡ g
-frame-one f g is = same_Some f g (ap frame_of is)
-
--- the word of a page that stands nowhere is not that of a clean one
-pub not-emptied : (f : ℕ) → trans_word None ≢ trans_word (Some (clean_in f))
-not-emptied f is = let none : 0 ≡ f + 1 + 0 = is in absurd (omega (arith, none))
 
 -- a seat without a share, and not exclusive, locks nothing
 pub unlocked : (s : Seat) → s.shares ≡ 0 → s.exclusive ≡ false → IsLocking s → ⊥

@@ -1,14 +1,13 @@
 -- The pages of a flush, one after another: what they come to together.
 use Rattle.vm_rule.specs.declared.view.Place.TheVariants as places
-use Rattle.vm_evict.proofs.{FlushMarks.mapping-shown, FlushMarks.state-shown, Moving.own-else, Tables.else-page}
-use Rattle.vm_evict.proofs.Prelude.{[], ap, append-none, append_assoc, arith, aside-then, aside-within, called-behind, called-front, cases_eq, clean}
-use Rattle.vm_evict.proofs.Prelude.{Did, done_of, Each, each-both, each-map, EVICTED, failed, false, first_noted, first_or, Flushed, FlushVisits}
-use Rattle.vm_evict.proofs.Prelude.{gone, has, has-last, has-left, HasNoLock, held, home-else, inl, inr, IsAllowed, IsAlone, IsAsideOf, IsCalledOnce}
-use Rattle.vm_evict.proofs.Prelude.{IsFlushedAlone, IsFlushedTo, IsNoted, IsOwnPlace, IsSaved, IsSettled, IsUnwritten, IsVisit, KeepsPage, KnowsKept}
-use Rattle.vm_evict.proofs.Prelude.{length-append, List, LOCKED, lost, Mapping, mapping_in, mapping_of, MARKED, Note, noted_pages, nothing_flushed}
-use Rattle.vm_evict.proofs.Prelude.{Option, Origin, PageStands, refl, RisesFrom, rules, seat_of, Some, some-is, stands_dirty, state_in, state_of}
-use Rattle.vm_evict.proofs.Prelude.{StaysHome, StaysOn, subst, suc, sym, true, UNLOCKED, View, whole-then, written, ℕ, ⊎_elim, ◌++◌, ◌+◌, ◌<◌, ◌∙◌}
-use Rattle.vm_evict.proofs.Prelude.{◌∷◌, ◌≡◌, ◌≢◌, ◌≤◌, ◌⊎◌}
+use Rattle.vm_evict.proofs.{FlushVisits.mapping-shown, FlushVisits.state-shown, Moving.own-else, Tables.else-page}
+use Rattle.vm_evict.proofs.Prelude.{[], ap, append-none, append_assoc, arith, aside-then, aside-within, called-behind, called-front, cases_eq, clean, Did}
+use Rattle.vm_evict.proofs.Prelude.{done_of, Each, each-both, each-map, EVICTED, failed, false, first_noted, first_or, Flushed, FlushVisits, gone, has}
+use Rattle.vm_evict.proofs.Prelude.{has-last, has-left, HasNoLock, held, home-else, inl, inr, IsAllowed, IsAlone, IsAsideOf, IsCalledOnce, IsFlushedAlone}
+use Rattle.vm_evict.proofs.Prelude.{IsFlushedTo, IsNoted, IsOwnPlace, IsSaved, IsSettled, IsUnwritten, IsVisit, KeepsPage, KnowsKept, length-append, List}
+use Rattle.vm_evict.proofs.Prelude.{LOCKED, lost, Mapping, mapping_in, mapping_of, MARKED, Note, noted_pages, nothing_flushed, Option, Origin, PageStands}
+use Rattle.vm_evict.proofs.Prelude.{refl, RisesFrom, rules, seat_of, Some, some-is, stands_dirty, state_in, state_of, StaysHome, StaysOn, subst, suc, sym}
+use Rattle.vm_evict.proofs.Prelude.{true, UNLOCKED, View, whole-then, written, ℕ, ⊎_elim, ◌++◌, ◌+◌, ◌<◌, ◌∙◌, ◌∷◌, ◌≡◌, ◌≢◌, ◌≤◌, ◌⊎◌}
 
 -- ---- notes by rising page
 
@@ -29,15 +28,9 @@ pages-end : (ns : List Note) (m : Note) → noted_pages (ns ++ m ∷ []) ≡ not
 pages-end [] m = refl
 pages-end (n ∷ ns) m = ap (λ (l : List ℕ). n.page ∷ l) (pages-end ns m)
 
-not-more : (old new : Flushed) → new.failed ≡ old.failed → new.failed ≡ old.failed + 1 → ⊥
-not-more old new same more = omega (arith, same, more)
-
 -- a step on the words of a page below n
 abbrev OnBelow : ℕ → Did → Type 0
 OnBelow n d = (p : ℕ) × (p < n) × IsOwnPlace p d.at
-
-on-below : (p : ℕ) (done : List Did) → StaysOn p done → Each (OnBelow (suc p)) done
-on-below p done e = each-map (λ (d : Did). IsOwnPlace p d.at) (OnBelow (suc p)) (λ d own. (p, omega arith, own)) done e
 
 below-more : (n : ℕ) (done : List Did) → Each (OnBelow n) done → Each (OnBelow (suc n)) done
 below-more n done e = each-map (OnBelow n) (OnBelow (suc n)) (λ d on. (on.0, (let l : on.0 < n = on.1 in omega (arith, l)), on.2)) done e
@@ -48,15 +41,12 @@ else-home n q le done e =
     home-else q done
     (each-map (OnBelow n) (λ (d : Did). d.at ≢ places.Fault q) (λ d on. (own-else on.0 q d.at (λ same. (let l : on.0 < n = on.1 in omega (arith, le, l, same))) on.2).2) done e)
 
-page-home : (p q : ℕ) → p ≢ q → (done : List Did) → StaysOn p done → StaysHome q done
-page-home p q ne done e = home-else q done (each-map (λ (d : Did). IsOwnPlace p d.at) (λ (d : Did). d.at ≢ places.Fault q) (λ d own. (own-else p q d.at ne own).2) done e)
-
 -- the page of the next visit is another one than those before
 once-more : (n : ℕ) (done more : List Did) → Each (OnBelow n) done → ((q : ℕ) → IsCalledOnce q done) → StaysOn n more → IsCalledOnce n more → (q : ℕ) → IsCalledOnce q (done ++ more)
 once-more n done more below once own next q =
     ⊎_elim
     (λ (e : q ≡ n). subst (λ (k : ℕ). IsCalledOnce k (done ++ more)) (sym e) (called-behind n done more (else-home n n (omega arith) done below) next))
-    (λ (ne : q ≢ n). called-front q done more (once q) (page-home n q (λ e. ne (sym e)) more own))
+    (λ (ne : q ≢ n). called-front q done more (once q) (home-else q more (each-map (λ (d : Did). IsOwnPlace n d.at) _ (λ d on. (own-else n q d.at (λ e. ne (sym e)) on).2) more own)))
     (cases_eq q n)
 
 module _ {X : Type 0} where
@@ -75,12 +65,9 @@ module _ {X : Type 0} where
     ends : ((word : ℕ) × (count : ℕ) × IsUnwritten p word count done v w × (new ≡ record old { failed = old.failed + 1; first = first_or old.first p })) ⊎ IsCalm v w old new
 
   calm : (p : ℕ) (done : List Did) (v w : View X) (old new to : Flushed) → KeepsPage p done v w → w.notes ≡ v.notes → IsCalledOnce p done → new ≡ to → done_of to ≤ done_of old + 1 → to.failed ≡ old.failed → to.first ≡ old.first → FailsOrNot p v w old new
-  calm p done v w old new to k notes once e counted fails first = record {
-    done = done;
-    keeps = k;
-    once = once;
-    ends = inr record { counted = subst (λ (f : Flushed). done_of f ≤ done_of old + 1) (sym e) counted; failed = ap (λ (f : Flushed). f.failed) e ∙ fails; first = ap (λ (f : Flushed). f.first) e ∙ first; notes = notes };
-  }
+  calm p done v w old new to k notes once e counted fails first =
+      let so : IsCalm v w old new = record { counted = subst (λ (f : Flushed). done_of f ≤ done_of old + 1) (sym e) counted; failed = ap (λ (f : Flushed). f.failed) e ∙ fails; first = ap (λ (f : Flushed). f.first) e ∙ first; notes = notes } in
+      record { done = done; keeps = k; once = once; ends = inr so }
 
   passed-by : (p : ℕ) (v w : View X) (old new : Flushed) → FlushVisits p v w old new → FailsOrNot p v w old new
   passed-by p v w old new (gone done x l q g s e) = calm p done v w old new old l.keeps l.notes (inl l.unsaved.home) e (omega arith) refl refl
@@ -117,7 +104,7 @@ module _ {X : Type 0} where
       })
       (λ r. record {
         now = record { notes = k.notes; after = r.notes ∙ k.after; each = k.each ∙ sym r.failed; rises = rises-more 0 n k.notes k.rises; first = r.first ∙ k.first; allowed = k.allowed };
-        failed = λ more. absurd (not-more old new r.failed more);
+        failed = λ more. (let same = r.failed in absurd (omega (arith, same, more)));
         still = λ p h. h;
       })
       by.ends
@@ -161,7 +148,7 @@ module _ {X : Type 0} where
         each = (v, old, f.each, x.ends);
         all = counted n n v w old new fails f.all;
         done = f.done ++ fails.done;
-        own = each-both (OnBelow (suc n)) f.done fails.done (below-more n f.done f.own) (on-below n fails.done by.own);
+        own = each-both (OnBelow (suc n)) f.done fails.done (below-more n f.done f.own) (each-map (λ (d : Did). IsOwnPlace n d.at) (OnBelow (suc n)) (λ d own. (n, omega arith, own)) fails.done by.own);
         once = once-more n f.done fails.done f.own f.once by.own fails.once;
         aside = aside-then (λ p. p < u.start.pages) f.done fails.done u v w f.aside wide;
         frames = (by.frames.0 ∙ f.frames.0, by.frames.1 ∙ f.frames.1);

@@ -1,22 +1,102 @@
--- The visit of one page by a flush, by the words that its steps found. To a pass that is alone each step gives the word that the step before left, so no
--- exchange is lost, and the page is saved.
+-- The visit of one page by a flush: its parts, and what it comes to, by the words that its steps found. To a pass that is alone each step gives the word that
+-- the step before left, so no exchange is lost, and the page is saved.
 use Rattle.vm_rule.specs.declared.view.Place.TheVariants as places
-use Rattle.vm_evict.proofs.{Taken.lock-now, Taken.unlocked-seat, Writing.no-state-written, Writing.stays-on}
-use Rattle.vm_evict.proofs.Evidenced.{dirty-front, has-lost, no-mapping, none-both, none-kept, none-silent, saved-under, unlocked, unsaved-load}
+use Rattle.vm_evict.proofs.{Locking.lock-now, Locking.unlocked-seat, Writing.no-state-written, Writing.stays-on}
+use Rattle.vm_evict.proofs.Evidenced.{dirty-front, has-lost, no-mapping, none-kept, none-silent, saved-under, unlocked, unsaved-both, unsaved-load}
 use Rattle.vm_evict.proofs.Evidenced.{unsaved-one, wrote-taken}
-use Rattle.vm_evict.proofs.FlushMarks.{left-one, left-then, mark-did, marked-from, marked-only, page-then, saved-clean, Stands, stands-left}
-use Rattle.vm_evict.proofs.FlushMarks.{stands-on, state-shown}
-use Rattle.vm_evict.proofs.Prelude.{[], ap, arith, aside-of, Bool, clean, Did, did_exchange, did_load, dirty_in, Each, each-both, EndsWrite, Err}
-use Rattle.vm_evict.proofs.Prelude.{EVICTED, failed, false, Flushed, given-behind, given-front, GoesOnce, gone, HasGiven, HasNotSaved, HasWritten}
-use Rattle.vm_evict.proofs.Prelude.{held, home-both, inl, inr, IsAllowed, IsAlone, IsCounted, IsFoundDirty, IsHeld, IsLeft, IsOwnPlace, IsSaved}
-use Rattle.vm_evict.proofs.Prelude.{IsStillLocked, IsUnheld, IsVisit, KeepsPage, known_word_at, KnowsClean, leaves-then, LeavesLast, LeavesRest, List}
-use Rattle.vm_evict.proofs.Prelude.{look-only, LookTold, Lost, lost, lost-only, mapping_of, MARKED, Marks, no_seat, None, Ok, once-behind, once-front}
-use Rattle.vm_evict.proofs.Prelude.{Origin, refl, Result, rules, runs-one, runs-then, RunsAlone, seat_of, SharesSeen, Some, stands_dirty, Start}
-use Rattle.vm_evict.proofs.Prelude.{state_of, stays-alone, StaysOn, subst, sym, Taken, translation-only, TranslationTold, true, UNLOCKED, unshare-did}
-use Rattle.vm_evict.proofs.Prelude.{unshare-leaves, unshare-others, UnshareTold, version-within, version_of, View, word-made, word-state}
+use Rattle.vm_evict.proofs.Prelude.{[], ap, arith, aside-of, aside-self, aside-then, Bool, clean, Did, did_exchange, did_load, dirty_in, Each, each-both}
+use Rattle.vm_evict.proofs.Prelude.{EndsWrite, Err, EVICTED, failed, false, false≢true, Flushed, given-behind, given-front, GoesOnce, gone, HasGiven}
+use Rattle.vm_evict.proofs.Prelude.{HasNotSaved, HasTaken, HasWritten, held, home-both, inl, inr, is_some, IsAllowed, IsAlone, IsCounted, IsDirtyFrame}
+use Rattle.vm_evict.proofs.Prelude.{IsFoundDirty, IsHeld, IsLeft, IsOfPage, IsOwnPlace, IsSaved, IsStillLocked, IsUnheld, IsVisit, KeepsPage, known_word_at}
+use Rattle.vm_evict.proofs.Prelude.{KnowsClean, leaves-then, LeavesLast, LeavesRest, List, look-only, LookTold, Lost, lost, lost-only, mapping_in, mapping_of}
+use Rattle.vm_evict.proofs.Prelude.{MARKED, Marks, no_seat, None, Ok, once-behind, once-front, OnlyReads, Option, Origin, part-found, refl, Result, rules}
+use Rattle.vm_evict.proofs.Prelude.{runs-one, runs-self, runs-then, RunsAlone, same_Some, seat_of, SharesSeen, Some, stands_dirty, Start, state_in, state_of}
+use Rattle.vm_evict.proofs.Prelude.{stays-alone, StaysOn, still-alone, subst, sym, Taken, translation-only, TranslationTold, true, true≢false, UNLOCKED}
+use Rattle.vm_evict.proofs.Prelude.{unshare-did, unshare-leaves, unshare-others, UnshareTold, version-within, version_of, View, word-made, word-state}
 use Rattle.vm_evict.proofs.Prelude.{word-version, word_of, write_lock-did, write_lock-leaves, write_lock-others, WriteLockTold, WritesNone, written}
 use Rattle.vm_evict.proofs.Prelude.{written-behind, written-front, ℕ, ⊎_elim, ◌++◌, ◌+◌, ◌-◌, ◌<◌, ◌^◌, ◌∙◌, ◌∷◌, ◌≡◌, ◌≢◌, ◌⊎◌}
-use Rattle.vm_evict.proofs.Tables.{found-first, kept-at, left-last, share-gone}
+use Rattle.vm_evict.proofs.Tables.{found-first, kept-at, left-at, left-last, share-gone}
+
+-- a page without a dirty frame is not dirty
+pub not-dirty : (word : ℕ) (o : Option ℕ) → IsDirtyFrame word o → is_some o ≡ false → stands_dirty (mapping_of word) ≡ false
+not-dirty word None d none = d
+not-dirty word (Some f) d none = absurd (true≢false none)
+
+-- a page with one is dirty in that frame
+pub dirty-there : (word : ℕ) (o : Option ℕ) → IsDirtyFrame word o → is_some o ≡ true → (frame : ℕ) × (mapping_of word ≡ Some (dirty_in frame))
+dirty-there word None d some = absurd (false≢true some)
+dirty-there word (Some f) d some = (f, d)
+
+abbrev pub mark-did : ℕ → ℕ → ℕ → Did
+mark-did p word found = did_exchange (places.State p) word found (word_of MARKED (version_of word))
+
+module _ {X : Type 0} (p : ℕ) where
+  -- ---- steps that leave the page
+
+  pub page-then : (a b : List Did) (u v w : View X) → KeepsPage p a u v → KeepsPage p b v w → KeepsPage p (a ++ b) u w
+  page-then a b u v w f g = search (rules, each-both (λ (d : Did). IsOwnPlace p d.at) a b f.own g.own, aside-then (λ q. q ≡ p) a b u v w f.aside g.aside, runs-then a b [] [] u v w f.aside.start f.aside.parts f.alone g.alone)
+
+  pub left-then : (a b : List Did) (u v w : View X) → IsLeft p a u v → IsLeft p b v w → IsLeft p (a ++ b) u w
+  left-then a b u v w f g = record { keeps = page-then a b u v w f.keeps g.keeps; notes = g.notes ∙ f.notes; unsaved = unsaved-both p a b f.unsaved g.unsaved }
+
+  -- one step on a word of the page
+  pub left-one : (d : Did) (v w : View X) → OnlyReads (λ q. q ≡ p) (d ∷ []) v w → RunsAlone (d ∷ []) [] v w → IsOfPage p d.at → HasNotSaved p (d ∷ []) → IsLeft p (d ∷ []) v w
+  left-one d v w r runs own unsaved = search rules
+
+  -- ---- the mark
+
+  pub marked-before : (word : ℕ) (v : View X) → state_of word ≡ MARKED → Marks p word v v Taken
+  marked-before word v e =
+      let none : IsLeft p [] v v = record { keeps = record { own = tt; aside = aside-self (λ q. q ≡ p) v; frames = (refl, refl); alone = runs-self v }; notes = refl; unsaved = record { kept = tt; home = tt } } in
+      ([], none, inl (refl, e))
+
+  module _ (word : ℕ) (v w : View X) (m : Marks p word v w Taken) where
+    -- the mark alone was left there
+    pub marked-only : (found : ℕ) → found ≢ word_of MARKED (version_of word) → Each (λ d. d.at ≡ places.State p → d.wrote ≢ Some found) m.0
+    marked-only found ne =
+        ⊎_elim
+        (λ none. rw none.0 tt)
+        (λ one. rw one ((λ here is. ne (sym (same_Some (word_of MARKED (version_of word)) found (sym (wrote-taken word (word_of MARKED (version_of word))) ∙ is)))), tt))
+        m.2
+
+    -- a page that was locked by nobody was marked already, or is marked now, behind these steps
+    pub marked-from : (a : List Did) → (state_of word ≡ UNLOCKED) ⊎ (state_of word ≡ MARKED) → (state_of word ≡ MARKED) ⊎ ((state_of word ≡ UNLOCKED) × HasTaken (a ++ m.0) (places.State p) word (word_of MARKED (version_of word)))
+    marked-from a unheld =
+        let taken : m.0 ≡ mark-did p word word ∷ [] → HasTaken (a ++ m.0) (places.State p) word (word_of MARKED (version_of word))
+        = λ one. record { earlier = a; step = mark-did p word word; later = []; cut = ap (λ (t : List Did). a ++ t) one; is = (refl, refl, refl, wrote-taken word (word_of MARKED (version_of word))) } in
+        ⊎_elim (λ none. inl none.1) (λ one. ⊎_elim (λ unlocked. inr (unlocked, taken one)) (λ marked. inl marked) unheld) m.2
+
+  -- ---- a pass that is alone
+
+  module _ (w : View X) (page : p < w.start.pages) where
+    -- the snapshot shows the words that the pass knows
+    pub state-shown : state_in w.start w.snapshot p ≡ state_of (known_word_at w (places.State p))
+    state-shown = ap state_of (part-found 0 w.start.pages w.snapshot.words p p page (omega arith))
+
+    pub mapping-shown : mapping_in w.start w.snapshot p ≡ mapping_of (known_word_at w (places.Translation p))
+    mapping-shown = ap mapping_of (part-found w.start.pages w.start.pages w.snapshot.words p (w.start.pages + p) page refl)
+
+  -- it knows the page's state word
+  pub record Stands (word : ℕ) (w : View X) : Type 0 where
+    pub alone : IsAlone w
+    pub page : p < w.start.pages
+    pub state : known_word_at w (places.State p) ≡ word
+
+  pub saved-clean : (word : ℕ) (w : View X) → Stands word w → (state_of word ≡ UNLOCKED) ⊎ (state_of word ≡ MARKED) → stands_dirty (mapping_of (known_word_at w (places.Translation p))) ≡ false → IsSaved w p
+  saved-clean word w s none plain =
+      let state = state-shown w s.page ∙ ap state_of s.state in
+      inr (⊎_elim (λ e. inl (state ∙ e)) (λ e. inr (state ∙ e)) none, ap stands_dirty (mapping-shown w s.page) ∙ plain)
+
+  -- after steps that left the word, or this one last
+  module _ (word : ℕ) (done : List Did) (v w : View X) (s : Stands word v) (start : w.start ≡ v.start) (parts : (w.used ≡ v.used) × (w.fresh ≡ v.fresh)) (runs : RunsAlone done [] v w) where
+    stands-now : (new : ℕ) → known_word_at w (places.State p) ≡ new → Stands new w
+    stands-now new is = record { alone = still-alone v w parts runs.current s.alone; page = subst (λ (o : Origin). p < o.pages) (sym start) s.page; state = is }
+
+    pub stands-on : WritesNone (places.State p) done → Stands word w
+    stands-on none = stands-now word (kept-at done [] v w start runs s.alone (places.State p) s.page none ∙ s.state)
+
+    pub stands-left : (new : ℕ) → LeavesLast done (places.State p) new → Stands new w
+    stands-left new last = stands-now new (left-at done [] v w start runs s.alone (places.State p) new last)
 
 module _ {X : Type 0} (p : ℕ) (tied : Start → ℕ → List ℕ → ℕ → List ℕ → Type 0) (word : ℕ) (v v1 : View X) (look : LookTold tied p None word v v1) (old : Flushed) where
   abbrev busy : Flushed
@@ -211,8 +291,7 @@ module _ {X : Type 0} (p : ℕ) (tied : Start → ℕ → List ℕ → ℕ → L
 
                 all-kept : WritesNone (places.Translation p) done → WritesNone (places.Translation p) all-did
                 all-kept kept =
-                    none-both (places.Translation p) front-did back-did front.unsaved.kept
-                    (none-both (places.Translation p) lock (done ++ end) lock-kept.kept (none-both (places.Translation p) done end kept end-kept.kept))
+                    each-both _ front-did back-did front.unsaved.kept (each-both _ lock (done ++ end) lock-kept.kept (each-both _ done end kept end-kept.kept))
 
                 abbrev share : SharesSeen p word all-did
                 share = record {

@@ -2,15 +2,12 @@ pub mod Prelude
 pub mod Writing
 pub mod Evidenced
 pub mod Tables
-pub mod FlushMarks
 pub mod FlushVisits
 pub mod FlushPages
 pub mod Moving
-pub mod Taken
 pub mod Dropping
 pub mod Locking
 pub mod Saving
-pub mod Staying
 pub mod Gathering
 pub mod Passing
 pub mod Ended

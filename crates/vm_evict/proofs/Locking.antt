@@ -1,26 +1,89 @@
 -- The locks of a candidate: the first, for write-back, or exclusive where the page was seen to be clean; the one for write-back as it becomes exclusive; or the
--- exchange was lost.
+-- exchange was lost. Before them what is known of a candidate as long as it is locked, and once the lock is given up.
 use Rattle.vm_rule.specs.declared.view.Place.TheVariants as places
 use Rattle.vm_evict.specs.declared.candidate.Phase.TheVariants as phases
 use Rattle.vm_evict.specs.declared.candidate.Stage.TheVariants as stages
-use Rattle.vm_evict.proofs.Evidenced.{frame-one, has-lost, has-taken, lost-one, none-kept, none-stored, saved-front, unsaved-both, unsaved-one}
-use Rattle.vm_evict.proofs.Evidenced.{wrote-taken}
+use Rattle.vm_evict.proofs.Evidenced.{has-lost, has-taken, holds-same, lost-one, none-kept, none-stored, rests-on, saved-front, unlocked}
+use Rattle.vm_evict.proofs.Evidenced.{unsaved-both, unsaved-one, wrote-taken}
 use Rattle.vm_evict.proofs.Moving.{gives-nothing, GivesNothing, Quietly, quietly-then, quietly-to}
-use Rattle.vm_evict.proofs.Prelude.{[], Advances, ap, arith, Bool, Brings, by_share, cases_Bool, clean_in, Did, did_exchange, Does, Each, each-both}
-use Rattle.vm_evict.proofs.Prelude.{EVICTED, false, false≢true, has, HasLockTaken, HasLost, Held, held_at, if◌then◌else◌, inl, inr, IsAlone}
-use Rattle.vm_evict.proofs.Prelude.{IsLocking, IsLost, IsMissed, IsOwning, IsSavedFrom, IsSeenClean, IsSome, IsToldOf, IsToShare, IsUnheld, IsWaiting}
-use Rattle.vm_evict.proofs.Prelude.{IsWriting, known_word_at, KnowsKept, KnowsLocked, KnowsOn, KnowsStage, last_of, LeavesRest, length, List}
-use Rattle.vm_evict.proofs.Prelude.{lock-brings, lock-did, lock-draft, lock-held, lock-others, lock-own, lock-seat, LOCKED, LocksFrom, LockTold}
-use Rattle.vm_evict.proofs.Prelude.{lost-view, Mapping, mapping_of, MARKED, MAX_VERSION, MayEnd, MayRaiseLock, MayUnshare, no-fault, None, none-some}
-use Rattle.vm_evict.proofs.Prelude.{once, Option, owning_seat, Phase, Raises, refl, rules, RunsAlone, same_Some, Seat, seat_of, shares, Some, Stage}
-use Rattle.vm_evict.proofs.Prelude.{stands_dirty, Start, starts-then, state_of, still-works, subst, sym, Translation, true, Unreleased, unshare-did}
-use Rattle.vm_evict.proofs.Prelude.{UnshareTold, upgrade-brings, upgrade-did, upgrade-draft, upgrade-held, upgrade-last, upgrade-others, upgrade-own}
-use Rattle.vm_evict.proofs.Prelude.{upgrade-seat, upgraded_view, UpgradeTold, version-within, version_of, View, word-state, word-version, word_of}
-use Rattle.vm_evict.proofs.Prelude.{WORDS, Works, write_lock-brings, write_lock-did, write_lock-held, write_lock-others, write_lock-own}
-use Rattle.vm_evict.proofs.Prelude.{WriteLockTold, writing_seat, ℕ, ⊎_elim, ◌++◌, ◌<◌, ◌==◌, ◌∙◌, ◌∷◌, ◌≡◌, ◌≢◌, ◌≤◌}
+use Rattle.vm_evict.proofs.Prelude.{[], Advances, ap, arith, Bool, Brings, by_share, cases_Bool, clean_in, Did, did_exchange, Does, Each, each-both, EVICTED}
+use Rattle.vm_evict.proofs.Prelude.{false, false≢true, frame_of, has, HasLockTaken, HasLost, HasNoLockOf, Held, held_at, if◌then◌else◌, inl, inr, IsAlone}
+use Rattle.vm_evict.proofs.Prelude.{IsLocking, IsLost, IsMissed, IsNotOut, IsOwning, IsSavedFrom, IsSeenClean, IsSome, IsToldOf, IsToShare, IsUnderWriteBack}
+use Rattle.vm_evict.proofs.Prelude.{IsUnheld, IsWaiting, IsWriting, known_word_at, KnowsKept, KnowsLocked, KnowsOn, KnowsStage, last_of, LeavesOthers}
+use Rattle.vm_evict.proofs.Prelude.{LeavesOwn, LeavesRest, length, List, lock-brings, lock-did, lock-draft, lock-held, lock-others, lock-own, lock-seat}
+use Rattle.vm_evict.proofs.Prelude.{LOCKED, LocksFrom, LockTold, lost-view, Mapping, mapping_at, mapping_of, MARKED, MAX_VERSION, MayEnd, MayRaiseLock}
+use Rattle.vm_evict.proofs.Prelude.{MayUnshare, no-fault, no_seat, None, none-some, once, Option, others-still, owning_seat, Phase, Raises, refl, rest-of}
+use Rattle.vm_evict.proofs.Prelude.{Rests, rules, RunsAlone, same_Some, Seat, seat_of, shares, Some, Stage, stands_dirty, Start, starts-then, state_of}
+use Rattle.vm_evict.proofs.Prelude.{still-own, still-works, subst, sym, Translation, true, Unreleased, unshare-did, unshare-others, unshare-own, unshare-seat}
+use Rattle.vm_evict.proofs.Prelude.{unshared, UnshareTold, upgrade-brings, upgrade-did, upgrade-draft, upgrade-held, upgrade-last, upgrade-others}
+use Rattle.vm_evict.proofs.Prelude.{upgrade-own, upgrade-seat, upgraded_view, UpgradeTold, version-within, version_of, View, word-state, word-version}
+use Rattle.vm_evict.proofs.Prelude.{word_of, WORDS, Works, write_lock-brings, write_lock-did, write_lock-held, write_lock-others, write_lock-own}
+use Rattle.vm_evict.proofs.Prelude.{write_lock-seat, WriteLockTold, writing_seat, ℕ, ⊎_elim, ◌++◌, ◌<◌, ◌==◌, ◌∙◌, ◌∷◌, ◌≡◌, ◌≢◌, ◌≤◌}
 use Rattle.vm_evict.proofs.Tables.{found-first, kept-then, silent-page, state-left}
-use Rattle.vm_evict.proofs.Taken.{given-quiet, given-rests, lock-now, locks-now, lost-quiet, may-unshare, quiet-one, taken-on, taken-works, was-free}
-use Rattle.vm_evict.proofs.Taken.{works-rests}
+
+module _ {X : Type 0} {tied : Start → ℕ → List ℕ → ℕ → List ℕ → Type 0} {p expects : ℕ} {v w : View X} (t : WriteLockTold tied p expects expects v w) where
+  pub lock-now : seat_of w p ≡ writing_seat
+  lock-now = write_lock-seat refl t ∙ ap (λ (e : Bool). record { shares = 1; exclusive = e; writing = true; reading = None }) {x = (seat_of v p).exclusive} {y = false} (t.unheld refl).exclusive
+
+  pub under-write-back : v.out ≡ None → IsUnderWriteBack p w
+  under-write-back home = search (rules, ap, lock-now, write_lock-held refl t, write_lock-brings refl t, t.stands refl)
+
+-- it may be given up, and nothing of the lock is left then
+pub may-unshare : {X : Type 0} (p : ℕ) (v : View X) → seat_of v p ≡ writing_seat → IsToldOf v p → v.out ≡ None → MayUnshare v p
+may-unshare p v seat told home = grind arith
+
+pub unlocked-seat : {X : Type 0} {p found : ℕ} {v w : View X} → UnshareTold p found v w → seat_of v p ≡ writing_seat → seat_of w p ≡ no_seat
+unlocked-seat t seat = unshare-seat t ∙ ap unshared seat
+
+-- ---- A candidate that the pass has locked, as it works on it, and as it gives the lock up.
+
+-- the frame of what a translation word says is the one that it names
+pub frame-of-parts : (o : Option ℕ) (dirty : Bool) → frame_of (mapping_at o dirty) ≡ o
+frame-of-parts None dirty = refl
+frame-of-parts (Some f) dirty = refl
+
+module _ {X : Type 0} (p : ℕ) where
+  -- nothing is out
+  pub not-out : (v : View X) → v.out ≡ None → IsNotOut v p
+  not-out v none o is = absurd (none-some o (sym none ∙ is))
+
+  -- a page that the pass has not locked, and had not at v
+  pub was-free : (v x : View X) → Rests p v x → IsUnheld x p → HasNoLockOf v p
+  was-free v x r u = record { shares = sym r.holds.shares ∙ u.shares; exclusive = sym r.holds.exclusive ∙ u.exclusive; writing = sym r.holds.writing ∙ u.writing }
+
+  -- it has no lock of it again
+  pub free-rests : (v x : View X) → HasNoLockOf v p → seat_of x p ≡ record { shares = 0; exclusive = false; writing = false; reading = None } → Rests p v x
+  free-rests v x f now = (let none = unlocked (seat_of v p) f.shares f.exclusive in grind (arith, none))
+
+  -- one step that is one of the phase
+  pub quiet-one : (phase : Phase) (word : ℕ) {did : Did} {x y : View X} → LeavesOthers (λ q. q ≡ p) (did ∷ []) [] x y → LeavesOwn x y → (newer : List Translation) → y.translations ≡ newer ++ x.translations → Does phase (p, word) did
+      → Quietly phase (p, word) (did ∷ []) x y
+  quiet-one phase word f own newer reads does = search (rules, rest-of f own)
+
+  -- so is an exchange that was lost
+  pub lost-quiet : (phase : Phase) (word : ℕ) (did : Did) (x y : View X) → Brings did [] [] x x y → Does phase (p, word) did → Quietly phase (p, word) (did ∷ []) x y
+  lost-quiet phase word did x y b does = quiet-one phase word (others-still b) (still-own b) [] (ap (λ (z : View X). z.translations) b.view) does
+
+  -- a page that was locked, after steps that speak of one page, so that the pass has this seat then
+  pub taken-on : (r word : ℕ) (seat now : Seat) (more : List Did) (v x y : View X) → HasLockTaken p word seat v x → LeavesRest r more x y → last_of y p ≡ last_of x p → seat_of y p ≡ now → IsToldOf y p → HasLockTaken p word now v y
+  taken-on r word seat now more v x y h leaves same is told = search (rules, ap, starts-then v.releases x.releases y.releases h.since leaves.releases)
+
+  module _ (word : ℕ) (seat : Seat) (locks : IsLocking seat) (v x : View X) (h : HasLockTaken p word seat v x) where
+    pub locks-now : IsLocking (seat_of x p)
+    locks-now = subst (λ (s : Seat). IsLocking s) (sym h.now) locks
+
+    -- steps on it as it stays locked
+    pub taken-works : (more : List Did) (y : View X) → Works p more x y → IsToldOf y p → HasLockTaken p word seat v y
+    taken-works more y k told = taken-on p word seat seat more v x y h k.leaves (k.last locks-now) (k.seat ∙ h.now) told
+
+  -- ---- the share is given up
+
+  module _ (word : ℕ) (v x : View X) (h : HasLockTaken p word writing_seat v x) (phase : Phase) (found : ℕ) (w : View X) (t : UnshareTold p found x w) where
+    pub given-rests : Rests p v w
+    given-rests = free-rests v w h.before (unlocked-seat t h.now)
+
+    pub given-quiet : Does phase (p, word) (unshare-did t) → Quietly phase (p, word) (unshare-did t ∷ []) x w
+    given-quiet does = quiet-one phase word (unshare-others t (λ q. q ≡ p) refl) (unshare-own t) [] (ap (λ (z : View X). z.translations) t.brings.view) does
 
 -- a word with a smaller state is not the marked one
 pub not-marked : (word state version : ℕ) → state_of word ≡ MARKED → state < MARKED → version ≤ MAX_VERSION → word ≢ word_of state version
@@ -59,7 +122,7 @@ module _ {X : Type 0} (phase : Phase) (old : Stage) (p word found new : ℕ) (do
   pub lost-so : MayEnd phase (stages.Lost false) → GivesNothing phase (p, word) x old (stages.Lost false) → (KnowsStage (p, word) old v x → KnowsKept p v x) → Advances phase (p, word) old (stages.Lost false) done v x y
   lost-so ends gives from =
       quietly-to phase (p, word) old (stages.Lost false) done (tried ∷ []) v x y (lost-quiet p phase word tried x y still-brings does)
-      (missed, works-rests p (tried ∷ []) v x y work (ap (λ (z : View X). held_at z p) still-brings.view) h.rests)
+      (missed, rests-on p v x y (holds-same p x y work.seat) (λ l. record { held = ap (λ (z : View X). held_at z p) still-brings.view; draft = work.draft; last = work.last l }) h.rests)
       ends gives (λ alone page k. lost-known alone page (from k))
 
 -- ---- taken
@@ -121,10 +184,7 @@ module _ {X : Type 0} (tied : Start → ℕ → List ℕ → ℕ → List ℕ �
   own-did = lock-did refl t
 
   own-now : seat_of y p ≡ owning_seat
-  own-now =
-      lock-seat refl t
-      ∙ ap (λ (n : ℕ). record { shares = n; exclusive = true; writing = (seat_of x p).writing; reading = None }) {x = (seat_of x p).shares} {y = 0} (t.unheld refl).shares
-      ∙ ap (λ (b : Bool). record { shares = 0; exclusive = true; writing = b; reading = None }) {x = (seat_of x p).writing} {y = false} (t.unheld refl).writing
+  own-now = lock-seat refl t ∙ (λ i. record { shares = (t.unheld refl).shares i; exclusive = true; writing = (t.unheld refl).writing i; reading = None })
 
   -- the translation that was loaded at this version said so
   is-clean : stands_dirty t.held.mapping ≡ false
@@ -189,9 +249,6 @@ module _ {X : Type 0} (tied : Start → ℕ → List ℕ → ℕ → List ℕ �
     abbrev took : Did
     took = upgrade-did refl t
 
-    last-now : last_of y p ≡ last_of x p
-    last-now = upgrade-last refl t p locks
-
     quiet : Quietly phases.Raise (p, word) (took ∷ []) x y
     quiet = quiet-one p phases.Raise word (upgrade-others refl t (λ q. q ≡ p) refl) (upgrade-own refl t) [] (ap (λ (z : View X). z.translations) (upgrade-brings refl t).view) (raises-so expects expects is)
 
@@ -212,7 +269,7 @@ module _ {X : Type 0} (tied : Start → ℕ → List ℕ → ℕ → List ℕ �
 
     owning-raised : IsOwning p word frame written (done ++ took ∷ []) v y
     owning-raised = record {
-      taken = taken-on p p word writing_seat owning_seat (took ∷ []) v x y h.taken changes last-now (upgrade-seat refl t) (subst (λ (k : Held). k.fault ≡ k.block.count) (sym (upgrade-held refl t p)) h.taken.told);
+      taken = taken-on p p word writing_seat owning_seat (took ∷ []) v x y h.taken changes (upgrade-last refl t p locks) (upgrade-seat refl t) (subst (λ (k : Held). k.fault ≡ k.block.count) (sym (upgrade-held refl t p)) h.taken.told);
       locked = locked;
       foreign =
           each-both (λ (d : Did). d.at ≡ places.State p → d.wrote ≢ Some word) done (took ∷ []) (h.foreign word (not-marked word 1 version marked (omega arith) (version-within word)))
@@ -221,7 +278,7 @@ module _ {X : Type 0} (tied : Start → ℕ → List ℕ → ℕ → List ℕ �
       draft = upgrade-draft refl t;
       cleaned = λ e.
           let there = h.cleaned e in
-          let same : there.0 ≡ frame = frame-one there.0 frame (sym there.1 ∙ stands) in
+          let same : there.0 ≡ frame = same_Some there.0 frame (ap frame_of (sym there.1 ∙ stands)) in
           saved-front p word frame done (took ∷ []) (subst (λ (n : ℕ). IsSavedFrom p word n done) same there.2) (no-fault p took refl, tt);
       kept = λ e. unsaved-both p done (took ∷ []) (h.kept e) (unsaved-one p took refl refl);
     }
@@ -249,10 +306,6 @@ module _ {X : Type 0} (tied : Start → ℕ → List ℕ → ℕ → List ℕ �
 
     raise-tried-quiet : Quietly phases.Raise (p, word) (raise-tried ∷ []) x y
     raise-tried-quiet = lost-quiet p phases.Raise word raise-tried x y raise-brings (raises-so expects found is)
-
-    -- a pass that is alone has the one share that it knows of
-    not-lost : IsAlone x → KnowsStage (p, word) (stages.Shared written) v x → ⊥
-    not-lost alone k = ne (found-first raise-tried [] [] x y raise-work.alone alone found refl ∙ k.0.now ∙ sym is)
 
     held-on : HasLockTaken p word writing_seat v y
     held-on =
@@ -298,4 +351,5 @@ module _ {X : Type 0} (tied : Start → ℕ → List ℕ → ℕ → List ℕ �
           (quietly-then phases.Raise (p, word) (raise-tried ∷ []) (end-did ∷ []) x y w raise-tried-quiet gone)
           (missed-raise, given-rests p word v y held-on phases.Raise last w u)
           tt (gives-nothing refl refl refl)
-          (λ alone page k. absurd (not-lost alone k))
+          -- a pass that is alone has the one share that it knows of
+          (λ alone page k. absurd (ne (found-first raise-tried [] [] x y raise-work.alone alone found refl ∙ k.0.now ∙ sym is)))

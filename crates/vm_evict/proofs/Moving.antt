@@ -1,79 +1,82 @@
 -- The steps of a phase on one candidate: they are on the candidate's own words, and one run of them behind another is one run.
-use Rattle.std.proofs.lemmas.Bool.{true≢false}
 use Rattle.vm_rule.specs.declared.view.Place.TheVariants as places
 use Rattle.vm_evict.specs.declared.candidate.Phase.TheVariants as phases
 use Rattle.vm_evict.specs.declared.candidate.Stage.TheVariants as stages
-use Rattle.vm_evict.proofs.{Gathering.apart-join, Writing.written-own}
-use Rattle.vm_evict.proofs.Prelude.{[], Adds, Advances, alone-then, ap, append-none, append_assoc, arith, Bool, cases_Bool, Did, Does, Each, inr, ◌⊎◌}
-use Rattle.vm_evict.proofs.Prelude.{each-both, each-has, each-map, false, frame_at, FramesCome, gives_up, GivesUp, has, has-both, inl, IsAlone, IsAt}
-use Rattle.vm_evict.proofs.Prelude.{IsOfPage, IsOwnPlace, keeps-self, keeps-then, KeepsFrames, KnowsStage, leaves-then, List, MayBeginPhase, MayEnd}
-use Rattle.vm_evict.proofs.Prelude.{Moves, nat_tests, Note, note_at, or_right, Origin, Phase, Place, put_at, refl, Release, release_at, rules}
-use Rattle.vm_evict.proofs.Prelude.{runs-self, runs-then, RunsAlone, Saves, shares, Stage, stays-alone, still-alone, subst, sym, Translation, true}
-use Rattle.vm_evict.proofs.Prelude.{View, works-none, writes, WritesPage, ℕ, ⊎_elim, ◌++◌, ◌<◌, ◌∙◌, ◌≡◌, ◌≢◌}
-use Rattle.vm_evict.specs.declared.candidate.Stage.TheVariants.{Emptied}
-use Rattle.vm_evict.specs.Phases.{Empties}
-use Rattle.vm_evict.specs.Phases.Empties.{clears, disowns, loads}
+use Rattle.vm_evict.proofs.{Gathering.apart-join, Gathering.has-page}
+use Rattle.vm_evict.proofs.Prelude.{[], Adds, Advances, alone-then, ap, append-none, append_assoc, arith, Bool, candidate_at, candidate_pages, cases_Bool}
+use Rattle.vm_evict.proofs.Prelude.{cleans, clears, Did, disowns, Does, DoesOne, Each, each-both, each-has, each-map, Empties, false, frame_at, FramesCome}
+use Rattle.vm_evict.proofs.Prelude.{gives_up, has, has-both, inl, InPhases, inr, IsAlone, IsAt, IsOfAny, IsOfPage, IsOwnPlace, keeps-self, keeps-then}
+use Rattle.vm_evict.proofs.Prelude.{KeepsFrames, KnowsStage, leaves-then, List, loads, MayBeginPhase, MayEnd, Moves, nat_tests, None, Note, note_at, or_right}
+use Rattle.vm_evict.proofs.Prelude.{Origin, Phase, Place, put_at, raises, reads, refl, Release, release_at, rules, runs-self, runs-then, RunsAlone, Saves}
+use Rattle.vm_evict.proofs.Prelude.{shares, Stage, stays-alone, still-alone, subst, sym, Translation, true, true≢false, View, works-none, writes, ℕ, ⊎_elim}
+use Rattle.vm_evict.proofs.Prelude.{◌++◌, ◌<◌, ◌∙◌, ◌≡◌, ◌≢◌, ◌⊎◌}
 
 -- ---- the words that a phase steps on
 
-given-own : (p : ℕ) (d : Did) → GivesUp p d → IsOwnPlace p d.at
-given-own p d g = inl (subst (λ (e : Did). IsOfPage p e.at) (sym g.1) refl)
-
-saved-own : (c : ℕ × ℕ) (d : Did) → Saves c d → IsOwnPlace c.0 d.at
-saved-own c d (writes w) = written-own c.0 d w
-saved-own c d (shares found is) = inl (subst (λ (e : Did). IsOfPage c.0 e.at) (sym is) refl)
-saved-own c d (gives_up g) = given-own c.0 d g
-
--- a place of the page or of a frame, or an owner word
-abbrev IsEvicted : ℕ → Place → Type 0
-IsEvicted p at = IsOwnPlace p at ⊎ ((f : ℕ) × (at ≡ places.Owner f))
-
-emptied-own : (c : ℕ × ℕ) (d : Did) → Empties c d → IsEvicted c.0 d.at
-emptied-own c d (loads found is) = inl (inl (subst (λ (e : Did). IsOfPage c.0 e.at) (sym is) refl))
-emptied-own c d (disowns frame is) = inr (frame, ap (λ (e : Did). e.at) is)
-emptied-own c d (clears is) = inl (inl (subst (λ (e : Did). IsOfPage c.0 e.at) (sym is) refl))
-
-does-own : (phase : Phase) (c : ℕ × ℕ) (d : Did) → Does phase c d → IsEvicted c.0 d.at
-does-own phases.Save c d s = inl (saved-own c d s)
-does-own phases.Lock c d s = inl (inl (subst (λ (e : Did). IsOfPage c.0 e.at) (sym s.1) refl))
-does-own phases.Raise c d s = inl (⊎_elim (λ t. inl (subst (λ (e : Did). IsOfPage c.0 e.at) (sym t.1) refl)) (λ g. given-own c.0 d g) s)
-does-own phases.Empty c d s = emptied-own c d s
-does-own phases.Leave c d s = inl (inl (subst (λ (e : Did). IsOfPage c.0 e.at) (sym s) refl))
-
--- a word of page q that is one of page p
-own-state : (p q : ℕ) → IsOwnPlace p (places.State q) → p ≡ q
-own-state p q own = ⊎_elim (λ (e : q ≡ p). sym e) (λ c. (let no : places.State q ≡ places.Content c.0 c.1 = c.2 in cc)) own
-
-own-translation : (p q : ℕ) → IsOwnPlace p (places.Translation q) → p ≡ q
-own-translation p q own = ⊎_elim (λ (e : q ≡ p). sym e) (λ c. (let no : places.Translation q ≡ places.Content c.0 c.1 = c.2 in cc)) own
-
-own-fault : (p q : ℕ) → IsOwnPlace p (places.Fault q) → p ≡ q
-own-fault p q own = ⊎_elim (λ (e : q ≡ p). sym e) (λ c. (let no : places.Fault q ≡ places.Content c.0 c.1 = c.2 in cc)) own
-
 -- a word of page p is none of the three words of another page
 pub own-else : (p q : ℕ) (at : Place) → p ≢ q → IsOwnPlace p at → (at ≢ places.State q) × (at ≢ places.Translation q) × (at ≢ places.Fault q)
-own-else p q at ne own =
-    let other : (b : Place) → (IsOwnPlace p b → p ≡ q) → at ≢ b = λ b same e. ne (same (subst (IsOwnPlace p) e own)) in
-    (other (places.State q) (own-state p q), other (places.Translation q) (own-translation p q), other (places.Fault q) (own-fault p q))
+own-else p q at ne (inl page) = ((λ e. ne (sym (subst (IsOfPage p) e page))), (λ e. ne (sym (subst (IsOfPage p) e page))), (λ e. ne (sym (subst (IsOfPage p) e page))))
+own-else p q at ne (inr (f, i, is)) =
+    ((λ e. let no : places.Content f i ≡ places.State q = sym is ∙ e in cc), (λ e. let no : places.Content f i ≡ places.Translation q = sym is ∙ e in cc), (λ e. let no : places.Content f i ≡ places.Fault q = sym is ∙ e in cc))
 
-module _ (phase : Phase) (c : ℕ × ℕ) (q : ℕ) (ne : q ≢ c.0) where
-  else-of : (d : Did) → Does phase c d → (d.at ≢ places.State q) × (d.at ≢ places.Translation q) × (d.at ≢ places.Fault q)
-  else-of d s =
-      ⊎_elim (own-else c.0 q d.at (λ e. ne (sym e)))
-      (λ o. ((λ e. let no : places.Owner o.0 ≡ places.State q = sym o.1 ∙ e in cc), (λ e. let no : places.Owner o.0 ≡ places.Translation q = sym o.1 ∙ e in cc), (λ e. let no : places.Owner o.0 ≡ places.Fault q = sym o.1 ∙ e in cc)))
-      (does-own phase c d s)
+-- a step on a word of page p or on an owner word, or a load of a word of a frame
+abbrev IsEvicting : ℕ → Did → Type 0
+IsEvicting p d = IsOfPage p d.at ⊎ (((f : ℕ) × (d.at ≡ places.Owner f)) ⊎ ((f : ℕ) × (i : ℕ) × (d.at ≡ places.Content f i) × (d.wrote ≡ None)))
 
-  pub no-words-of : (more : List Did) → Each (Does phase c) more → Each (λ d. (d.at ≢ places.State q) × (d.at ≢ places.Translation q) × (d.at ≢ places.Fault q)) more
-  no-words-of more s = each-map (Does phase c) _ else-of more s
+saves-own : (c : ℕ × ℕ) (d : Did) → Saves c d → IsEvicting c.0 d
+saves-own c d (writes (reads own none quiet)) = ⊎_elim (λ page. inl page) (λ at. inr (inr (at.0, at.1, at.2, quiet))) own
+saves-own c d (writes (cleans frame is)) = inl (subst (λ (e : Did). IsOfPage c.0 e.at) (sym is) refl)
+saves-own c d (writes (raises count is)) = inl (subst (λ (e : Did). IsOfPage c.0 e.at) (sym is) refl)
+saves-own c d (shares found is) = inl (subst (λ (e : Did). IsOfPage c.0 e.at) (sym is) refl)
+saves-own c d (gives_up g) = inl (subst (λ (e : Did). IsOfPage c.0 e.at) (sym g.1) refl)
 
--- steps of a write-back are steps of the first phase
-pub saves-all : (c : ℕ × ℕ) (done : List Did) → Each (WritesPage c.0) done → Each (Does phases.Save c) done
-saves-all c done e = each-map (WritesPage c.0) (Saves c) (λ d w. writes w) done e
+empties-own : (c : ℕ × ℕ) (d : Did) → Empties c d → IsEvicting c.0 d
+empties-own c d (loads found is) = inl (subst (λ (e : Did). IsOfPage c.0 e.at) (sym is) refl)
+empties-own c d (disowns frame is) = inr (inl (frame, ap (λ (e : Did). e.at) is))
+empties-own c d (clears is) = inl (subst (λ (e : Did). IsOfPage c.0 e.at) (sym is) refl)
+
+does-own : (phase : Phase) (c : ℕ × ℕ) (d : Did) → Does phase c d → IsEvicting c.0 d
+does-own phases.Save c d s = saves-own c d s
+does-own phases.Lock c d s = inl (subst (λ (e : Did). IsOfPage c.0 e.at) (sym s.1) refl)
+does-own phases.Raise c d s = inl (⊎_elim (λ t. subst (λ (e : Did). IsOfPage c.0 e.at) (sym t.1) refl) (λ g. subst (λ (e : Did). IsOfPage c.0 e.at) (sym g.1) refl) s)
+does-own phases.Empty c d s = empties-own c d s
+does-own phases.Leave c d s = inl (subst (λ (e : Did). IsOfPage c.0 e.at) (sym s) refl)
+
+-- so such a step is on none of the three words of another page
+pub no-words-of : (phase : Phase) (c : ℕ × ℕ) (q : ℕ) → q ≢ c.0 → (more : List Did) → Each (Does phase c) more → Each (λ d. (d.at ≢ places.State q) × (d.at ≢ places.Translation q) × (d.at ≢ places.Fault q)) more
+no-words-of phase c q ne more s =
+    each-map (Does phase c) _
+    (λ d does. ⊎_elim (λ page. own-else c.0 q d.at (λ e. ne (sym e)) (inl page))
+    (λ t. ⊎_elim
+    (λ o. ((λ e. let no : places.Owner o.0 ≡ places.State q = sym o.1 ∙ e in cc), (λ e. let no : places.Owner o.0 ≡ places.Translation q = sym o.1 ∙ e in cc), (λ e. let no : places.Owner o.0 ≡ places.Fault q = sym o.1 ∙ e in cc)))
+    (λ l. own-else c.0 q d.at (λ e. ne (sym e)) (inr (l.0, l.1, l.2))) t)
+    (does-own phase c d does)) more s
+
+-- and leaves no word, or one at a word of the candidates or at an owner word
+of-any : (pages : List ℕ) (p : ℕ) → has p pages ≡ true → (at : Place) → IsOfPage p at → IsOfAny pages at
+of-any pages p among (places.State q) is = subst (λ (n : ℕ). has n pages ≡ true) (sym is) among
+of-any pages p among (places.Translation q) is = subst (λ (n : ℕ). has n pages ≡ true) (sym is) among
+of-any pages p among (places.Fault q) is = subst (λ (n : ℕ). has n pages ≡ true) (sym is) among
+of-any pages p among at never = absurd never
+
+abbrev Touches : List (ℕ × ℕ) → Did → Type 0
+Touches list d = (d.wrote ≡ None) ⊎ IsOfAny (candidate_pages list) d.at
+
+phase-there : (phase : Phase) (list : List (ℕ × ℕ)) (done : List Did) → Each (DoesOne phase list) done → Each (Touches list) done
+phase-there phase list done e =
+    each-map (DoesOne phase list) (Touches list)
+    (λ d s. ⊎_elim (λ page. inr (of-any (candidate_pages list) (candidate_at list s.0).0 (has-page list s.0 s.1) d.at page))
+    (λ t. ⊎_elim (λ o. inr (subst (IsOfAny (candidate_pages list)) (sym o.1) tt)) (λ l. inl l.3) t) (does-own phase (candidate_at list s.0) d s.2)) done e
+
+pub phases-there : (list : List (ℕ × ℕ)) (done : List Did) → InPhases list done → Each (λ d. (d.wrote ≡ None) ⊎ IsOfAny (candidate_pages list) d.at) done
+phases-there list done p =
+    subst (Each (Touches list)) (sym p.cut)
+    (each-both (Touches list) p.saves _ (phase-there phases.Save list p.saves p.saving)
+    (each-both (Touches list) p.locks _ (phase-there phases.Lock list p.locks p.locking)
+    (each-both (Touches list) p.raises _ (phase-there phases.Raise list p.raises p.raising)
+    (each-both (Touches list) p.empties p.leaves (phase-there phases.Empty list p.empties p.emptying) (phase-there phases.Leave list p.leaves p.leaving)))))
 
 module _ {X : Type 0} where
-  pub moves-none : (phase : Phase) (c : ℕ × ℕ) (x : View X) → Moves phase c [] x x
-  moves-none phase c x = record { leaves = (works-none c.0 x).leaves; does = tt; home = λ e. e; newer = []; reads = refl }
-
   pub moves-then : (phase : Phase) (c : ℕ × ℕ) (a b : List Did) (x y z : View X) → Moves phase c a x y → Moves phase c b y z → Moves phase c (a ++ b) x z
   moves-then phase c a b x y z f g =
       search (rules, leaves-then c.0 a b x y z f.leaves g.leaves, each-both (Does phase c) a b f.does g.does, g.reads ∙ ap (λ (t : List Translation). g.newer ++ t) f.reads ∙ sym (append_assoc g.newer f.newer x.translations))
@@ -126,7 +129,7 @@ module _ {X : Type 0} where
   pub stays-so : (phase : Phase) (c : ℕ × ℕ) (s : Stage) (done : List Did) (v x : View X) → IsAt c s done v x → MayEnd phase s → Advances phase c s s done v x x
   stays-so phase c s done v x at ends =
       quietly-to phase c s s done [] v x x
-      record { moves = moves-none phase c x; runs = runs-self x; keeps = keeps-self x }
+      record { moves = record { leaves = (works-none c.0 x).leaves; does = tt; home = λ e. e; newer = []; reads = refl }; runs = runs-self x; keeps = keeps-self x }
       (subst (λ (t : List Did). IsAt c s t v x) (sym (append-none done)) at)
       ends (gives-nothing (sym (append-none (release_at x c s))) (sym (append-none (note_at c s))) (sym (append-none (frame_at c s)))) (λ a page k. k)
 

@@ -2,23 +2,23 @@
 use Rattle.vm_rule.specs.declared.view.Place.TheVariants as places
 use Rattle.vm_evict.specs.declared.candidate.Phase.TheVariants as phases
 use Rattle.vm_evict.specs.declared.candidate.Stage.TheVariants as stages
-use Rattle.vm_evict.proofs.{Locking.clean-of, Writing.no-state-written}
-use Rattle.vm_evict.proofs.Evidenced.{dirty-front, no-mapping, none-both, none-kept, none-silent, none-stored, rests-on, saved-behind, shared-front}
+use Rattle.vm_evict.proofs.{Writing.no-state-written}
+use Rattle.vm_evict.proofs.Evidenced.{dirty-front, no-mapping, none-kept, none-silent, none-stored, rests-on, saved-behind, shared-front}
 use Rattle.vm_evict.proofs.Evidenced.{unsaved-both, unsaved-load, unsaved-one}
-use Rattle.vm_evict.proofs.Moving.{come-still, gives-nothing, moves-then, Quietly, quietly-then, quietly-to, saves-all}
-use Rattle.vm_evict.proofs.Prelude.{[], Advances, alone-then, ap, append_assoc, arith, Bool, cases_eq, clean_in, Closed, cond-false, cond-true, Did}
-use Rattle.vm_evict.proofs.Prelude.{did_load, each-both, EndsWrite, eq-eqb, eqb, false, false≢true, given-behind, gives_up, HasLockTaken, HasNotSaved}
-use Rattle.vm_evict.proofs.Prelude.{HasSaved, Held, held_at, inl, inr, is_readable, is_some, IsAllowed, IsAlone, IsCleanAt, IsDirtyFrame}
-use Rattle.vm_evict.proofs.Prelude.{IsFoundClean, IsFoundDirty, IsLeftDirty, IsSavedNow, IsSeenClean, IsSome, IsStillLocked, IsToShare, IsWaiting}
-use Rattle.vm_evict.proofs.Prelude.{IsWriteFailed, IsWriting, known_word_at, KnowsKept, KnowsLocked, KnowsStage, left_at, left_open, List, look-only}
-use Rattle.vm_evict.proofs.Prelude.{look-others, look-own, LookTold, Mapping, mapping_of, MARKED, Moved, Moves, ne_eqb, no-fault, no_seat, None}
-use Rattle.vm_evict.proofs.Prelude.{none-some, Ok, once-behind, once-front, only-then, OnlyReads, Open, open_after, Opened, Option, Origin, put_at}
-use Rattle.vm_evict.proofs.Prelude.{ReadIs, reads, refl, rules, runs-then, Same, Seat, seat_of, Some, stands_dirty, Start, starts-then, state_of}
-use Rattle.vm_evict.proofs.Prelude.{stays-alone, still-alone, subst, sym, tload-others, tload-own, Translation, translation-only, translation_of}
-use Rattle.vm_evict.proofs.Prelude.{TranslationTold, true, unshare-did, UnshareTold, upd-same, version_of, View, writes, WritesNone, writing_seat}
-use Rattle.vm_evict.proofs.Prelude.{written-behind, written-front, ℕ, ⊎_elim, ◌++◌, ◌-◌, ◌<◌, ◌^◌, ◌∙◌, ◌∷◌, ◌≡◌, ◌≢◌}
+use Rattle.vm_evict.proofs.Moving.{come-still, gives-nothing, moves-then, Quietly, quietly-then, quietly-to}
+use Rattle.vm_evict.proofs.Prelude.{[], Advances, alone-then, ap, append_assoc, arith, Bool, cases_eq, clean_in, Closed, cond-false, cond-true, Did, did_load}
+use Rattle.vm_evict.proofs.Prelude.{each-both, each-map, EndsWrite, eq-eqb, eqb, false, false≢true, given-behind, gives_up, HasLockTaken, HasNotSaved}
+use Rattle.vm_evict.proofs.Prelude.{HasSaved, Held, held_at, inl, inr, is_readable, is_some, IsAllowed, IsAlone, IsCleanAt, IsDirtyFrame, IsFoundClean}
+use Rattle.vm_evict.proofs.Prelude.{IsFoundDirty, IsLeftDirty, IsSavedNow, IsSeenClean, IsSome, IsStillLocked, IsToShare, IsWaiting, IsWriteFailed, IsWriting}
+use Rattle.vm_evict.proofs.Prelude.{known_word_at, KnowsKept, KnowsLocked, KnowsStage, left_at, left_open, List, look-only, look-others, look-own, LookTold}
+use Rattle.vm_evict.proofs.Prelude.{Mapping, mapping_of, MARKED, Moved, Moves, ne_eqb, no-fault, no_seat, None, none-some, Ok, once-behind, once-front}
+use Rattle.vm_evict.proofs.Prelude.{only-then, OnlyReads, Open, open_after, Opened, Option, Origin, put_at, ReadIs, reads, refl, rules, runs-then, Same, Seat}
+use Rattle.vm_evict.proofs.Prelude.{seat_of, Some, stands_dirty, Start, starts-then, state_of, stays-alone, still-alone, subst, sym, tload-others, tload-own}
+use Rattle.vm_evict.proofs.Prelude.{Translation, translation-only, translation_of, TranslationTold, true, unshare-did, UnshareTold, upd-same, version_of}
+use Rattle.vm_evict.proofs.Prelude.{View, writes, WritesNone, WritesPage, writing_seat, written-behind, written-front, ℕ, ⊎_elim, ◌++◌, ◌-◌, ◌<◌, ◌^◌, ◌∙◌}
+use Rattle.vm_evict.proofs.Prelude.{◌∷◌, ◌≡◌, ◌≢◌}
 use Rattle.vm_evict.proofs.Tables.{found-first, kept-at, kept-then, left-at, locked-on, share-gone, silent-page, state-left, stays-known}
-use Rattle.vm_evict.proofs.Taken.{given-quiet, given-rests, quiet-one, taken-works}
+use Rattle.vm_evict.proofs.Locking.{clean-of, given-quiet, given-rests, quiet-one, taken-works}
 
 -- a look at a page that can be read leaves an open read at the version found
 opened-at : (found : ℕ) (o : Option Open) → is_readable (state_of found) ≡ true → (r : Open) × (open_after (left_at found o) o (version_of found) ≡ Some r) × (r.version ≡ version_of found)
@@ -104,15 +104,11 @@ module _ {X : Type 0} (tied : Start → ℕ → List ℕ → ℕ → List ℕ �
 
 module _ {X : Type 0} (p word : ℕ) (done : List Did) (v x y : View X) (h : IsWriting p word false done v x) where
   moves-write : (more : List Did) → IsStillLocked p more x y → Moves phases.Save (p, word) more x y
-  moves-write more k = record { leaves = k.works.leaves; does = saves-all (p, word) more k.does; home = λ e. k.home; newer = []; reads = k.reads }
+  moves-write more k = record { leaves = k.works.leaves; does = each-map (WritesPage p) _ (λ d w. writes w) more k.does; home = λ e. k.home; newer = []; reads = k.reads }
 
   -- the steps of the write are on the page alone, and keep it locked
   quiet-write : (more : List Did) → IsStillLocked p more x y → y.notes ≡ x.notes → Quietly phases.Save (p, word) more x y
-  quiet-write more k notes = record {
-    moves = moves-write more k;
-    runs = k.works.alone;
-    keeps = record { frames = k.frames.0; contents = k.frames.1; notes = notes };
-  }
+  quiet-write more k notes = search (rules, moves-write more k)
 
   -- it stays under write-back, and was written or not
   writing-on : (written : Bool) (more : List Did) → IsStillLocked p more x y → IsSome (held_at y p).mapping → (written ≡ false → HasNotSaved p more)
@@ -178,7 +174,7 @@ module _ {X : Type 0} (p word : ℕ) (done : List Did) (v x y : View X) (h : IsW
         shared = shared-front p word done both h.shared;
         dirty = (r.frame, (dirty-on.0, given-behind h.shared.taken.later both (places.Translation p) dirty-on.0 dirty-on.1, dirty-on.2));
         block = once-behind p done both (h.kept refl).home (once-front p r.done (end-did ∷ []) r.block (no-fault p end-did refl, tt));
-        kept = none-both (places.Translation p) done both (h.kept refl).kept (none-both (places.Translation p) r.done (end-did ∷ []) r.kept (no-mapping p end-did refl, tt));
+        kept = each-both _ done both (h.kept refl).kept (each-both _ r.done (end-did ∷ []) r.kept (no-mapping p end-did refl, tt));
         raised = written-behind done both (places.Fault p) count (written-front r.done (end-did ∷ []) (places.Fault p) count r.raised);
         allowed = subst (λ (o : Origin). IsAllowed o p count) h.taken.start r.allowed;
         unreleased =

@@ -1,16 +1,10 @@
 -- What a pass that is alone knows of a candidate's words over some steps: where none of them left a word it knows the word that it knew.
 use Rattle.vm_rule.specs.declared.view.Place.TheVariants as places
-use Rattle.vm_evict.specs.declared.candidate.Phase.TheVariants as phases
 use Rattle.vm_evict.specs.declared.candidate.Stage.TheVariants as stages
-use Rattle.vm_evict.proofs.{Evidenced.none-else, Evidenced.none-silent, Gathering.has-page}
-use Rattle.vm_evict.proofs.Prelude.{[], ap, arith, candidate_at, candidate_pages, cleans, Did, Does, DoesOne, Each, each-both, each-map, gives_up}
-use Rattle.vm_evict.proofs.Prelude.{GivesUp, has, index_of, inl, InPhases, inr, IsAlone, IsFoundAt, IsOfAny, known_word_at, knows-after, KnowsKept}
-use Rattle.vm_evict.proofs.Prelude.{KnowsLocked, KnowsOn, KnowsStage, LeavesLast, List, None, Option, Phase, Place, raises, reads, refl, Release}
-use Rattle.vm_evict.proofs.Prelude.{RunsAlone, Saves, shares, Some, Stage, subst, sym, true, UNLOCKED, View, Within, word_of, writes, WritesNone, ℕ}
-use Rattle.vm_evict.proofs.Prelude.{⊎_elim, ◌++◌, ◌-◌, ◌<◌, ◌^◌, ◌∙◌, ◌∷◌, ◌≡◌, ◌≢◌, ◌⊎◌}
-use Rattle.vm_evict.specs.declared.candidate.Stage.TheVariants.{Emptied}
-use Rattle.vm_evict.specs.Phases.{Empties}
-use Rattle.vm_evict.specs.Phases.Empties.{clears, disowns, loads}
+use Rattle.vm_evict.proofs.{Evidenced.none-else, Evidenced.none-silent}
+use Rattle.vm_evict.proofs.Prelude.{[], arith, Did, Each, each-map, index_of, IsAlone, IsFoundAt, known_word_at, knows-after, KnowsKept, KnowsLocked, KnowsOn}
+use Rattle.vm_evict.proofs.Prelude.{KnowsStage, LeavesLast, List, None, Option, Place, refl, Release, RunsAlone, Some, Stage, subst, sym, UNLOCKED, View}
+use Rattle.vm_evict.proofs.Prelude.{Within, word_of, WritesNone, ℕ, ◌++◌, ◌-◌, ◌<◌, ◌^◌, ◌∙◌, ◌∷◌, ◌≡◌, ◌≢◌}
 
 pub each-two : {A : Type 0} (P Q : A → Type 0) (l : List A) → Each P l → Each Q l → Each (λ x. P x × Q x) l
 each-two P Q [] f g = tt
@@ -63,9 +57,6 @@ module _ {X : Type 0} where
 
   -- ---- a candidate
 
-  pub kept-self : (p : ℕ) (v : View X) → KnowsKept p v v
-  kept-self p v = record { state = refl; translation = refl; fault = refl }
-
   pub kept-then : (p : ℕ) (v x y : View X) → KnowsKept p v x → KnowsKept p x y → KnowsKept p v y
   kept-then p v x y f g = record { state = g.state ∙ f.state; translation = g.translation ∙ f.translation; fault = g.fault ∙ f.fault }
 
@@ -82,46 +73,3 @@ module _ {X : Type 0} where
   stays-known c (stages.Freed frame written) v x y same k = (locked-on c _ _ v x y same.state k.0, same.fault ∙ k.1, same.translation ∙ k.2)
   stays-known c (stages.Failed count) v x y same k = (locked-on c _ _ v x y same.state k.0, same.translation ∙ k.1, same.fault ∙ k.2)
   stays-known c (stages.Lost written) v x y same k = (k.0, k.1, kept-then c.0 v x y k.2 same)
-
--- ---- the words that an eviction writes
-
--- the step left no word, or one at a word of these pages
-abbrev Touches : List ℕ → Did → Type 0
-Touches pages d = (d.wrote ≡ None) ⊎ IsOfAny pages d.at
-
-module _ (pages : List ℕ) (c : ℕ × ℕ) (among : has c.0 pages ≡ true) where
-  gives-up-there : (d : Did) → GivesUp c.0 d → Touches pages d
-  gives-up-there d g = inr (subst (λ (e : Did). IsOfAny pages e.at) (sym g.1) among)
-
-  saves-there : (d : Did) → Saves c d → Touches pages d
-  saves-there d (writes (reads own none quiet)) = inl quiet
-  saves-there d (writes (cleans frame is)) = inr (subst (λ (e : Did). IsOfAny pages e.at) (sym is) among)
-  saves-there d (writes (raises count is)) = inr (subst (λ (e : Did). IsOfAny pages e.at) (sym is) among)
-  saves-there d (shares found is) = inr (subst (λ (e : Did). IsOfAny pages e.at) (sym is) among)
-  saves-there d (gives_up g) = gives-up-there d g
-
-  empties-there : (d : Did) → Empties c d → Touches pages d
-  empties-there d (loads found is) = inl (ap (λ (e : Did). e.wrote) is)
-  empties-there d (disowns frame is) = inr (subst (λ (e : Did). IsOfAny pages e.at) (sym is) tt)
-  empties-there d (clears is) = inr (subst (λ (e : Did). IsOfAny pages e.at) (sym is) among)
-
-  does-there : (phase : Phase) (d : Did) → Does phase c d → Touches pages d
-  does-there phases.Save d s = saves-there d s
-  does-there phases.Lock d s = inr (subst (λ (e : Did). IsOfAny pages e.at) (sym s.1) among)
-  does-there phases.Raise d s = ⊎_elim (λ t. inr (subst (λ (e : Did). IsOfAny pages e.at) (sym t.1) among)) (λ g. gives-up-there d g) s
-  does-there phases.Empty d s = empties-there d s
-  does-there phases.Leave d s = inr (subst (λ (e : Did). IsOfAny pages e.at) (sym s) among)
-
-phase-there : (phase : Phase) (list : List (ℕ × ℕ)) (done : List Did) → Each (DoesOne phase list) done → Each (Touches (candidate_pages list)) done
-phase-there phase list [] e = tt
-phase-there phase list (d ∷ ds) e = (does-there (candidate_pages list) (candidate_at list e.0.0) (has-page list e.0.0 e.0.1) phase d e.0.2, phase-there phase list ds e.1)
-
-pub phases-there : (list : List (ℕ × ℕ)) (done : List Did) → InPhases list done → Each (λ d. (d.wrote ≡ None) ⊎ IsOfAny (candidate_pages list) d.at) done
-phases-there list done p =
-    let there : List Did → Type 0 = Each (Touches (candidate_pages list)) in
-    subst there (sym p.cut)
-    (each-both (Touches (candidate_pages list)) p.saves _ (phase-there phases.Save list p.saves p.saving)
-    (each-both (Touches (candidate_pages list)) p.locks _ (phase-there phases.Lock list p.locks p.locking)
-    (each-both (Touches (candidate_pages list)) p.raises _ (phase-there phases.Raise list p.raises p.raising)
-    (each-both (Touches (candidate_pages list)) p.empties p.leaves (phase-there phases.Empty list p.empties p.emptying)
-    (phase-there phases.Leave list p.leaves p.leaving)))))

@@ -1,20 +1,19 @@
 -- A page is written back: its words are copied from its frame and written to its block, by the lock that the pass has for that.
 use Rattle.vm_rule.specs.declared.view.Place.TheVariants as places
 use Rattle.vm_step.proofs.Device.{Moves}
-use Rattle.vm_evict.proofs.Evidenced.{no-mapping, no-state, none-both, none-silent, not-fault}
+use Rattle.vm_evict.proofs.Evidenced.{no-mapping, none-silent}
 use Rattle.vm_evict.proofs.Prelude.{[], ap, arith, at, Bool, cases_eq, clean-held, clean-works, clean_in, cleans, CleanTold, comes-home, cond-false}
-use Rattle.vm_evict.proofs.Prelude.{count_more, counts-one, Did, did_load, did_store, dirty_in, draft_of, Each, each-both, each-map, EndsWrite, Err}
-use Rattle.vm_evict.proofs.Prelude.{ext_get_or, false, frame_of, frame_read_by, get_or-set_other, get_or-set_same, goes-once, goes-out, GoesOnce}
-use Rattle.vm_evict.proofs.Prelude.{HasGiven, Held, held_at, home-else, HomeTold, if◌then◌else◌, inl, inr, is_ok, is_some, IsAllowed, IsCopied}
-use Rattle.vm_evict.proofs.Prelude.{IsFoundDirty, IsFoundToWrite, IsFrameLoad, IsLeftDirty, IsOfPage, IsOwnPlace, IsSavedNow, IsSome, IsStillLocked}
-use Rattle.vm_evict.proofs.Prelude.{IsToldOf, IsUnderWriteBack, IsWritten, keeps-self, keeps-then, KeepsFrames, KnowsClean, last_of, length}
-use Rattle.vm_evict.proofs.Prelude.{length-set, List, load-works, CopiesWords, LoadTold, Mapping, mapping-clean, mapping_of, may-bring-written}
-use Rattle.vm_evict.proofs.Prelude.{may_call, MayBring, MayRaise, MayTakeOut, nat_lt, no-fault, None, noted-more, notes_of, Ok, once-behind}
-use Rattle.vm_evict.proofs.Prelude.{open_frame, Option, or_right, Origin, out_at, OutTold, raise-held, raise-works, raises, RaiseTold, reads, refl}
-use Rattle.vm_evict.proofs.Prelude.{Result, rules, Seat, seat_of, slice_index, slice_set, Some, stands_dirty, StaysHome, StaysOn, Stored, subst, sym}
-use Rattle.vm_evict.proofs.Prelude.{tload-works, trans_word, translation_of, TranslationTold, true, two-loads, Version, View, words_held, Works}
-use Rattle.vm_evict.proofs.Prelude.{works-none, works-then, Writes, WritesNone, WritesPage, writing_seat, ℕ, ⊎_elim, ◌&&◌, ◌++◌, ◌+◌, ◌<◌, ◌^◌, ◌||◌}
-use Rattle.vm_evict.proofs.Prelude.{◌∙◌, ◌∷◌, ◌≡◌, ◌≢◌, ◌≤◌}
+use Rattle.vm_evict.proofs.Prelude.{CopiesWords, count_more, counts-one, Did, did_load, did_store, dirty_in, draft_of, Each, each-both, each-map, EndsWrite}
+use Rattle.vm_evict.proofs.Prelude.{Err, ext_get_or, false, frame_of, frame_read_by, get_or-set_other, get_or-set_same, goes-once, goes-out, GoesOnce}
+use Rattle.vm_evict.proofs.Prelude.{HasGiven, Held, held_at, home-else, HomeTold, if◌then◌else◌, inl, inr, is_ok, is_some, IsAllowed, IsCopied, IsFoundDirty}
+use Rattle.vm_evict.proofs.Prelude.{IsFoundToWrite, IsFrameLoad, IsLeftDirty, IsOfPage, IsOwnPlace, IsSavedNow, IsSome, IsStillLocked, IsToldOf}
+use Rattle.vm_evict.proofs.Prelude.{IsUnderWriteBack, IsWritten, keeps-self, keeps-then, KeepsFrames, KnowsClean, last_of, length, length-set, List}
+use Rattle.vm_evict.proofs.Prelude.{load-works, LoadTold, Mapping, mapping-clean, mapping_of, may-bring-written, may_call, MayBring, MayRaise, MayTakeOut}
+use Rattle.vm_evict.proofs.Prelude.{nat_lt, no-fault, None, noted-more, notes_of, Ok, once-behind, open_frame, Option, or_right, Origin, out_at, OutTold}
+use Rattle.vm_evict.proofs.Prelude.{raise-held, raise-works, raises, RaiseTold, reads, refl, Result, rules, Seat, seat_of, slice_index, slice_set, Some}
+use Rattle.vm_evict.proofs.Prelude.{stands_dirty, StaysHome, StaysOn, Stored, subst, sym, tload-works, trans_word, Translation, translation_of}
+use Rattle.vm_evict.proofs.Prelude.{TranslationTold, true, two-loads, Version, View, words_held, Works, works-none, works-then, Writes, WritesNone}
+use Rattle.vm_evict.proofs.Prelude.{WritesPage, writing_seat, ℕ, ⊎_elim, ◌&&◌, ◌++◌, ◌+◌, ◌<◌, ◌^◌, ◌||◌, ◌∙◌, ◌∷◌, ◌≡◌, ◌≢◌, ◌≤◌}
 use Rattle.vm_evict.proofs.Tables.{found-first, kept-at, left-at, left-last}
 
 pub written-own : (p : ℕ) (d : Did) → WritesPage p d → IsOwnPlace p d.at
@@ -28,25 +27,11 @@ stays-on p done e = each-map (WritesPage p) (λ d. IsOwnPlace p d.at) (written-o
 
 state-unwritten : (p : ℕ) (d : Did) → WritesPage p d → d.at ≡ places.State p → d.wrote ≡ None
 state-unwritten p d (reads own none quiet) here = quiet
-state-unwritten p d (cleans frame is) here = absurd (no-state p (places.Translation p) refl (sym (ap (λ (e : Did). e.at) is) ∙ here))
-state-unwritten p d (raises count is) here = absurd (no-state p (places.Fault p) refl (sym (ap (λ (e : Did). e.at) is) ∙ here))
+state-unwritten p d (cleans frame is) here = (let no : places.Translation p ≡ places.State p = sym (ap (λ (e : Did). e.at) is) ∙ here in cc)
+state-unwritten p d (raises count is) here = (let no : places.Fault p ≡ places.State p = sym (ap (λ (e : Did). e.at) is) ∙ here in cc)
 
 pub no-state-written : (p : ℕ) (done : List Did) → Each (WritesPage p) done → WritesNone (places.State p) done
 no-state-written p done e = each-map (WritesPage p) (λ d. d.at ≡ places.State p → d.wrote ≡ None) (state-unwritten p) done e
-
--- loads of a frame's words are such steps; they write nothing, and move no block
-pub loads-write : (p : ℕ) (done : List Did) → Each IsFrameLoad done → Each (WritesPage p) done
-loads-write p done e =
-    each-map IsFrameLoad (WritesPage p)
-    (λ d l. reads (inr (l.0, l.1, ap (λ (x : Did). x.at) l.3)) (ap (λ (x : Did). x.expects) l.3) (ap (λ (x : Did). x.wrote) l.3)) done e
-
-pub loads-silent : (done : List Did) → Each IsFrameLoad done → Each (λ d. d.wrote ≡ None) done
-loads-silent done e = each-map IsFrameLoad (λ d. d.wrote ≡ None) (λ d l. ap (λ (x : Did). x.wrote) l.3) done e
-
-pub loads-stay : (p : ℕ) (done : List Did) → Each IsFrameLoad done → StaysHome p done
-loads-stay p done e =
-    home-else p done
-    (each-map IsFrameLoad (λ d. d.at ≢ places.Fault p) (λ d l here. not-fault p (places.Content l.0 l.1) refl (sym (ap (λ (x : Did). x.at) l.3) ∙ here)) done e)
 
 -- the frame that is read, by the seat and by what is known of the page
 abbrev frame-by : Seat → Held → Option ℕ
@@ -156,11 +141,8 @@ module _ {X : Type 0} (p f : ℕ) (v0 v : View X) (x : IsFoundToWrite p f v0 v) 
     abbrev out-did : List Did
     out-did = two-loads p o.first o.second
 
-    gone : Moves p out-did (held_at v p) (Some (out_at p false old)) v a
+    pub gone : Moves p out-did (held_at v p) (Some (out_at p false old)) v a
     gone = goes-out p old v a o
-
-    pub work-gone : Works p out-did v a
-    work-gone = gone.works
 
     pub copies-frame : frame_read_by a p ≡ Some f
     copies-frame = reads-same p v a gone.works.seat gone.known ∙ reads-frame
@@ -181,12 +163,6 @@ module _ {X : Type 0} (p f : ℕ) (v0 v : View X) (x : IsFoundToWrite p f v0 v) 
       held-copied : held_at b p ≡ held_at v p
       held-copied = k.from.held ∙ gone.known
 
-      stands-copied : IsSome (held_at b p).mapping
-      stands-copied = subst (λ (h : Held). IsSome h.mapping) (sym held-copied) (subst (λ (m : Option Mapping). IsSome m) (sym stands) refl)
-
-      last-copied : last_of b p ≡ last_of v p
-      last-copied = work-copied.last (inr shares)
-
       -- the page has the words that stand in its frame
       page-is : v.start.tells ≡ true → page ≡ (last_of v p).words
       page-is tells = k.same (ap (λ (s : Origin). s.tells) gone.works.leaves.start ∙ tells) ∙ ap (λ (x : Version). x.words) (gone.works.last (inr shares))
@@ -194,13 +170,14 @@ module _ {X : Type 0} (p f : ℕ) (v0 v : View X) (x : IsFoundToWrite p f v0 v) 
       page-held : b.start.tells ≡ true → page ≡ words_held b p
       page-held tells =
           page-is (sym (ap (λ (s : Origin). s.tells) work-copied.leaves.start) ∙ tells)
-          ∙ ap (λ (x : Version). x.words) (sym last-copied)
+          ∙ ap (λ (x : Version). x.words) (sym (work-copied.last (inr shares)))
           ∙ sym (cond-false (seat_of b p).exclusive (draft_of b p) (last_of b p).words (ap (λ (s : Seat). s.exclusive) work-copied.seat ∙ ap (λ (s : Seat). s.exclusive) seat-is))
 
       module _ {E : Type 0} (tells : Bool) (telling : v.start.tells ≡ tells) (new : Stored) (result : Result (Unit {0}) E) (write : Writes tells old new page result) where
         pub may-come-home : MayBring b p old new
         may-come-home =
-            may-bring-written p tells b old new page (ap (λ (s : Origin). s.tells) work-copied.leaves.start ∙ telling) result write stands-copied page-held (k.from.out ∙ gone.away)
+            may-bring-written p tells b old new page (ap (λ (s : Origin). s.tells) work-copied.leaves.start ∙ telling) result write
+            (subst (λ (h : Held). IsSome h.mapping) (sym held-copied) (subst (λ (m : Option Mapping). IsSome m) (sym stands) refl)) page-held (k.from.out ∙ gone.away)
 
         module _ (d : View X) (home : (x : Stored) → MayBring b p x new → HomeTold p x new b d) where
           abbrev pub m : HomeTold p old new b d
@@ -224,35 +201,29 @@ module _ {X : Type 0} (p f : ℕ) (v0 v : View X) (x : IsFoundToWrite p f v0 v) 
           held-is : held_at d p ≡ held-called
           held-is = back.known ∙ ap (λ (h : Held). record h { block = new }) held-copied
 
-          silent-copy : Each (λ d. d.wrote ≡ None) k.from.done
-          silent-copy = loads-silent k.from.done k.from.loads
-
           silent-called : Each (λ d. d.wrote ≡ None) called-did
           silent-called =
-              each-both (λ (d : Did). d.wrote ≡ None) copied-did home-did (each-both (λ (d : Did). d.wrote ≡ None) out-did k.from.done (refl, (refl, tt)) silent-copy) (refl, (refl, tt))
+              each-both (λ (d : Did). d.wrote ≡ None) copied-did home-did
+              (each-both (λ (d : Did). d.wrote ≡ None) out-did k.from.done (refl, (refl, tt)) (each-map IsFrameLoad _ (λ d l. ap (λ (x : Did). x.wrote) l.3) k.from.done k.from.loads)) (refl, (refl, tt))
 
           -- the copy moves no block
           once-called : (later : List Did) → StaysHome p later → GoesOnce p (load-of ∷ (called-did ++ later))
-          once-called later home = once-behind p (load-of ∷ []) (called-did ++ later) (no-fault p load-of refl, tt) (goes-once p o.first o.second m.first m.second k.from.done later (loads-stay p k.from.done k.from.loads) home)
+          once-called later home =
+              let stay : StaysHome p k.from.done = home-else p k.from.done (each-map IsFrameLoad _ (λ d l here. (let no : places.Content l.0 l.1 ≡ places.Fault p = sym (ap (λ (x : Did). x.at) l.3) ∙ here in cc)) k.from.done k.from.loads) in
+              once-behind p (load-of ∷ []) (called-did ++ later) (no-fault p load-of refl, tt) (goes-once p o.first o.second m.first m.second k.from.done later stay home)
 
           does-called : Each (WritesPage p) called-did
           does-called =
-              each-both (WritesPage p) copied-did home-did (each-both (WritesPage p) out-did k.from.done (reads (inl refl) refl refl, (reads (inl refl) refl refl, tt)) (loads-write p k.from.done k.from.loads))
-              (reads (inl refl) refl refl, (reads (inl refl) refl refl, tt))
+              let copies = each-map IsFrameLoad (WritesPage p) (λ d l. reads (inr (l.0, l.1, ap (λ (x : Did). x.at) l.3)) (ap (λ (x : Did). x.expects) l.3) (ap (λ (x : Did). x.wrote) l.3)) k.from.done k.from.loads in
+              each-both (WritesPage p) copied-did home-did (each-both (WritesPage p) out-did k.from.done (reads (inl refl) refl refl, (reads (inl refl) refl refl, tt)) copies) (reads (inl refl) refl refl, (reads (inl refl) refl refl, tt))
 
           reads-called : d.translations ≡ v.translations
           reads-called =
-              ap (λ (y : View X). y.translations) m.back.brings.view
-              ∙ ap (λ (y : View X). y.translations) m.shift.brings.view
-              ∙ k.from.reads
-              ∙ ap (λ (y : View X). y.translations) o.shift.brings.view
-              ∙ ap (λ (y : View X). y.translations) o.slot.brings.view
+              let seen : View X → List Translation = λ y. y.translations in
+              ap seen m.back.brings.view ∙ ap seen m.shift.brings.view ∙ k.from.reads ∙ ap seen o.shift.brings.view ∙ ap seen o.slot.brings.view
 
           keeps-called : KeepsFrames v d
           keeps-called = keeps-then v b d (keeps-then v a b gone.keeps k.from.keeps) back.keeps
-
-          last-called : last_of d p ≡ last_of v p
-          last-called = work-called.last (inr shares)
 
           writes-called : (seat_of d p).writing ≡ true
           writes-called = ap (λ (s : Seat). s.writing) work-called.seat ∙ ap (λ (s : Seat). s.writing) seat-is
@@ -268,15 +239,11 @@ module _ {X : Type 0} (p f : ℕ) (v0 v : View X) (x : IsFoundToWrite p f v0 v) 
           -- ---- the write answered
 
           module _ (u : Unit {0}) (ok : result ≡ Ok u) where
-            stored : v.start.tells ≡ true → new.words ≡ (last_of v p).words
-            stored t = write.held (sym telling ∙ t) ∙ ap (λ (y : Result (Unit {0}) E). if is_ok y then page else old.words) ok ∙ page-is t
-
-            count-same : new.count ≡ old.count
-            count-same = write.count ∙ ap (λ (y : Result (Unit {0}) E). if is_ok y then old.count else count_more old.count) ok
-
             pub may-clean : IsWritten d p f
             may-clean =
-                let words = λ (t : d.start.tells ≡ true). ap (λ (h : Held). h.block.words) held-is ∙ stored (ap (λ (s : Origin). s.tells) (sym work-called.leaves.start) ∙ t) ∙ ap (λ (x : Version). x.words) (sym last-called) in
+                let words = λ (t : d.start.tells ≡ true).
+                let before : v.start.tells ≡ true = ap (λ (s : Origin). s.tells) (sym work-called.leaves.start) ∙ t in
+                ap (λ (h : Held). h.block.words) held-is ∙ write.held (sym telling ∙ before) ∙ ap (λ (y : Result (Unit {0}) E). if is_ok y then page else old.words) ok ∙ page-is before ∙ ap (λ (x : Version). x.words) (sym (work-called.last (inr shares))) in
                 search (rules, writes-called, ap (λ (h : Held). h.mapping) held-is ∙ stands, words)
 
             module _ (w : View X) (t : CleanTold p f d w) where
@@ -292,7 +259,7 @@ module _ {X : Type 0} (p f : ℕ) (v0 v : View X) (x : IsFoundToWrite p f v0 v) 
               locked-clean : IsStillLocked p (load-of ∷ (called-did ++ clean-did ∷ [])) v0 w
               locked-clean =
                   locked-end clean-did w (clean-works t) (cleans f refl) (ap (λ (y : View X). y.translations) t.brings.view)
-                  (subst (λ (h : Held). h.fault ≡ h.block.count) (sym held-cleaned) (loaded.told ∙ sym o.slot.block.count ∙ sym count-same))
+                  (subst (λ (h : Held). h.fault ≡ h.block.count) (sym held-cleaned) (loaded.told ∙ sym o.slot.block.count ∙ sym (write.count ∙ ap (λ (y : Result (Unit {0}) E). if is_ok y then old.count else count_more old.count) ok)))
                   (ap (λ (y : View X). y.out) t.brings.view) (ap (λ (y : View X). y.frames) t.brings.view, ap (λ (y : View X). y.contents) t.brings.view)
 
               pub cleaned : f < 2 ^ 32 → IsSavedNow p v0 w
@@ -305,7 +272,7 @@ module _ {X : Type 0} (p f : ℕ) (v0 v : View X) (x : IsFoundToWrite p f v0 v) 
                   dirty = found-dirty called-did;
                   block = once-called (clean-did ∷ []) ((λ here. refl), tt);
                 };
-                unraised = ((λ here. refl), none-both (places.Fault p) called-did (clean-did ∷ []) (none-silent (places.Fault p) called-did silent-called) ((λ here. absurd (not-fault p (places.Translation p) refl here)), tt));
+                unraised = ((λ here. refl), each-both _ called-did (clean-did ∷ []) (none-silent (places.Fault p) called-did silent-called) ((λ here. absurd (let no : places.Translation p ≡ places.Fault p = here in cc)), tt));
                 stands = ap (λ (h : Held). h.mapping) held-cleaned;
                 known = λ a page.
                     let word : ℕ = trans_word (Some (clean_in f)) in
@@ -319,18 +286,14 @@ module _ {X : Type 0} (p f : ℕ) (v0 v : View X) (x : IsFoundToWrite p f v0 v) 
 
           module _ (n : ℕ) (is : n ≡ new.count) where
             pub may-raise : MayRaise d p n
-            may-raise = record {
-              calls = or_right (seat_of d p).exclusive (seat_of d p).writing writes-called;
-              is = is ∙ ap (λ (h : Held). h.block.count) (sym held-is);
-            }
+            may-raise = search (rules, or_right (seat_of d p).exclusive (seat_of d p).writing writes-called, is ∙ ap (λ (h : Held). h.block.count) (sym held-is))
 
             module _ (u : E) (err : result ≡ Err u) (bounded : new.count ≤ new.bound) (w : View X) (t : RaiseTold p n d w) where
               abbrev raise-did : Did
               raise-did = did_store (places.Fault p) n
 
               held-raised : held_at w p ≡ record held-called { fault = n }
-              held-raised =
-                  raise-held t ∙ ap (λ (h : Held). record h { fault = n }) held-is
+              held-raised = raise-held t ∙ ap (λ (h : Held). record h { fault = n }) held-is
 
               count : new.count ≡ count_more old.count
               count = write.count ∙ ap (λ (y : Result (Unit {0}) E). if is_ok y then old.count else count_more old.count) err
@@ -362,7 +325,7 @@ module _ {X : Type 0} (p f : ℕ) (v0 v : View X) (x : IsFoundToWrite p f v0 v) 
                 frame = f;
                 dirty = found-dirty (called-did ++ raise-did ∷ []);
                 block = once-called (raise-did ∷ []) ((λ here. refl), tt);
-                kept = ((λ here. refl), none-both (places.Translation p) called-did (raise-did ∷ []) (none-silent (places.Translation p) called-did silent-called) (no-mapping p raise-did refl, tt));
+                kept = ((λ here. refl), each-both _ called-did (raise-did ∷ []) (none-silent (places.Translation p) called-did silent-called) (no-mapping p raise-did refl, tt));
                 raised = record { earlier = load-of ∷ called-did; step = raise-did; later = []; cut = refl; place = refl; wrote = refl };
                 ends = refl;
                 noted =

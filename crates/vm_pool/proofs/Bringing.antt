@@ -3,8 +3,8 @@ use Rattle.vm_exmap.specs.declared.interface.Alloc.TheVariants as allocs
 use Rattle.vm_pool.specs.Brings.{Gets as gets, GetsNone as none}
 use Rattle.vm_pool.specs.declared.bring.Bring.TheVariants as brings
 use Rattle.vm_pool.proofs.Prelude.{[], Alloc, ap, AreHeld, Bring, counted, Each, each-has, each-of, Gets, GetsNone, has, has-without_other, held-on}
-use Rattle.vm_pool.proofs.Prelude.{held-swap, IsAlloc, IsSwept, List, Origin, refl, Report, Saw, SaysDry, subst, sym, true, true≢false, View, without}
-use Rattle.vm_pool.proofs.Prelude.{ℕ, ◌++◌, ◌<◌, ◌∙◌, ◌∷◌, ◌≡◌, ◌≢◌}
+use Rattle.vm_pool.proofs.Prelude.{held-swap, IsAlloc, IsSwept, List, Origin, refl, Report, Saw, SaysDry, subst, sym, true, true≢false, View, without, ℕ}
+use Rattle.vm_pool.proofs.Prelude.{◌++◌, ◌<◌, ◌∙◌, ◌∷◌, ◌≡◌, ◌≢◌}
 
 module _ {X : Type 0} (f : ℕ) (frames : List ℕ) (v w : View X) (h : AreHeld (f ∷ frames) v) (start : w.start ≡ v.start) where
   -- the others are held once it is the pass's no more

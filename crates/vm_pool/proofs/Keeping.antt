@@ -2,45 +2,23 @@
 use Rattle.vm_exmap.specs.declared.interface.Alloc.TheVariants as allocs
 use Rattle.vm_pool.specs.Brings.{Fetches as fetched, Gets as gets, GetsNone as none}
 use Rattle.vm_pool.proofs.Prelude.{[], Alloc, alone-then, append-none, aside-self, Bring, Did, Err, Fetches, holds-then, inl, inr, IsAlloc, IsAlone}
-use Rattle.vm_pool.proofs.Prelude.{IsAsideOf, IsFramed, IsFreed, IsSwept, KeepsLocks, knows-then, List, moved-aside, MovesFrames, Ok, refl, Report}
-use Rattle.vm_pool.proofs.Prelude.{Result, starts-then, StartsWith, still-alone, still-locking, subst, sym, View, ℕ, ◌∙◌, ◌∷◌, ◌≡◌}
+use Rattle.vm_pool.proofs.Prelude.{IsAsideOf, IsFramed, IsFreed, IsLocking, IsSwept, KeepsLocks, knows-then, List, moved-aside, MovesFrames, Ok, refl, Report}
+use Rattle.vm_pool.proofs.Prelude.{Result, rules, seat_of, starts-then, StartsWith, still-alone, still-locking, subst, sym, View, ℕ, ◌∙◌, ◌∷◌, ◌≡◌}
 
 same-start : {A : Type 0} (l m : List A) → l ≡ m → StartsWith l m
 same-start l m e = ([], e ∙ sym (append-none m))
 
 module _ {X : Type 0} where
   pub keeps-then : (u v w : View X) → KeepsLocks u v → KeepsLocks v w → KeepsLocks u w
-  keeps-then u v w f g = record {
-    holds = λ q. holds-then u v w q (f.holds q) (g.holds q);
-    knows = λ q l. knows-then u v w q (f.knows q l) (g.knows q (still-locking u v q (f.holds q) l));
-    mine = g.mine ∙ f.mine;
-    out = g.out ∙ f.out;
-    start = g.start ∙ f.start;
-    parts = (g.parts.0 ∙ f.parts.0, g.parts.1 ∙ f.parts.1);
-    group = (g.group.0 ∙ f.group.0, g.group.1 ∙ f.group.1, g.group.2 ∙ f.group.2);
-    seen = starts-then u.seen v.seen w.seen f.seen g.seen;
-    notes = starts-then u.notes v.notes w.notes f.notes g.notes;
-    log = starts-then u.log v.log w.log f.log g.log;
-    alone = alone-then u v w f.parts f.alone g.alone;
-  }
+  keeps-then u v w f g =
+      let knows = λ (q : ℕ) (l : IsLocking (seat_of u q)). knows-then u v w q (f.knows q l) (g.knows q (still-locking u v q (f.holds q) l)) in
+      search (rules, (λ (q : ℕ). holds-then u v w q (f.holds q) (g.holds q)), knows, starts-then u.seen v.seen w.seen f.seen g.seen, starts-then u.notes v.notes w.notes f.notes g.notes, starts-then u.log v.log w.log f.log g.log, alone-then u v w f.parts f.alone g.alone)
 
   pub keeps-alone : {v w : View X} → KeepsLocks v w → IsAlone v → IsAlone w
   keeps-alone {v} {w} k = still-alone v w k.parts k.alone.current
 
   aside-keeps : (touched : ℕ → Type 0) (done : List Did) (v w : View X) → IsAsideOf touched done v w → StartsWith w.notes v.notes → KeepsLocks v w
-  aside-keeps touched done v w a noted = record {
-    holds = a.holds;
-    knows = a.knows;
-    mine = a.mine;
-    out = a.out;
-    start = a.start;
-    parts = a.parts;
-    group = a.group;
-    seen = a.seen;
-    notes = noted;
-    log = (done, a.log);
-    alone = a.alone;
-  }
+  aside-keeps touched done v w a noted = search rules
 
   moves-keeps : (done : List Did) (v w : View X) → MovesFrames done v w → KeepsLocks v w
   moves-keeps done v w m = aside-keeps (λ q. ⊥) done v w (moved-aside (λ q. ⊥) done v w m) (same-start w.notes v.notes m.notes)

@@ -1,15 +1,24 @@
--- What a pass that is alone knows of the table after it asked for a page: the words that the frame's coming left, and then those that the
--- page's coming left, or the frame's going back.
+-- What a pass that is alone knows of the table after it asked for a page, whether it knew of a free frame or not: the words that the frame's coming left, and
+-- then those that the page's coming left, or the frame's going back.
+use Rattle.vm_pool.specs.Brings.{Gets as gets, GetsNone as none, IsBring as is_bring}
+use Rattle.vm_pool.specs.Known.{KnowsAsked as asked}
+use Rattle.vm_pool.proofs.{Keeping.keeps-alone, Keeping.swept-keeps}
+use Rattle.vm_pool.proofs.Prelude.{[], ap, arith, at, Bring, bundles_of, Did, else-same, else-self, else-then, else-within, EVICTED, Fetches, frames_in}
+use Rattle.vm_pool.proofs.Prelude.{HasFree, inl, inr, is_readable, IsAlloc, IsAlone, IsAside, IsBring, IsBrought, IsBundleOf, IsDry, IsFailed, IsFreed}
+use Rattle.vm_pool.proofs.Prelude.{IsKnownOut, IsOfBoth, IsOfPage, IsStill, IsSure, IsSwept, known_version, known_word_at, KnowsAsked, KnowsBring}
+use Rattle.vm_pool.proofs.Prelude.{KnowsBrought, KnowsElse, KnowsFailed, KnowsReleased, KnowsSame, last_of, length, length-append, List, max, MAX_VERSION}
+use Rattle.vm_pool.proofs.Prelude.{min, mod-lt, Note, Origin, Place, refl, Report, state_of, still-alone, subst, sym, TakesBits, true, UNLOCKED, Version}
+use Rattle.vm_pool.proofs.Prelude.{version_of, View, word-state, word-version, word_of, ℕ, ⊎_elim, ◌++◌, ◌+◌, ◌-◌, ◌<◌, ◌∙◌, ◌∷◌, ◌≡◌, ◌≢◌, ◌≤◌, ◌⊎◌}
 use Rattle.vm_rule.specs.declared.view.Place.TheVariants as places
 use Rattle.vm_exmap.specs.declared.interface.Alloc.TheVariants as allocs
 use Rattle.vm_pool.specs.{Brings.Fetches as fetches, Known.KnowsBrought as brought}
 use Rattle.vm_pool.specs.declared.bring.Bring.TheVariants as brings
-use Rattle.vm_pool.proofs.Prelude.{[], ap, arith, at, Bring, bundles_of, Did, else-same, else-self, else-then, else-within, EVICTED, Fetches}
-use Rattle.vm_pool.proofs.Prelude.{frames_in, inl, inr, is_readable, IsAlloc, IsAlone, IsAside, IsBrought, IsBundleOf, IsFailed, IsFreed, IsKnownOut}
-use Rattle.vm_pool.proofs.Prelude.{IsOfBoth, IsOfPage, IsSure, known_version, known_word_at, KnowsBring, KnowsBrought, KnowsElse, KnowsFailed}
-use Rattle.vm_pool.proofs.Prelude.{KnowsReleased, KnowsSame, last_of, length, length-append, List, max, MAX_VERSION, min, mod-lt, Note, Origin, Place}
-use Rattle.vm_pool.proofs.Prelude.{refl, state_of, still-alone, subst, sym, TakesBits, true, UNLOCKED, Version, version_of, View, word-state}
-use Rattle.vm_pool.proofs.Prelude.{word-version, word_of, ℕ, ⊎_elim, ◌++◌, ◌+◌, ◌-◌, ◌<◌, ◌∙◌, ◌∷◌, ◌≡◌, ◌≢◌, ◌≤◌, ◌⊎◌}
+
+-- a bundle is no place of a page or of a frame
+pub not-of-both : (start : Origin) (p f g : ℕ) → g < bundles_of start.frames → IsOfBoth p f (places.Bundle g) → ⊥
+not-of-both start p f g inside (inl page-is) = page-is
+not-of-both start p f g inside (inr (inl e)) = subst (IsBundleOf start) e inside
+not-of-both start p f g inside (inr (inr c)) = subst (IsBundleOf start) c.2 inside
 
 module _ {X : Type 0} where
   -- an interface that gets frames has some
@@ -48,16 +57,12 @@ module _ {X : Type 0} where
     pub others : KnowsElse (IsBundleOf v.start) v x
 
 module _ {X : Type 0} (v : View X) (alone : IsAlone v) where
-  had-self : IsHad v v
-  had-self = record { now = alone; start = refl; notes = refl; others = else-self (IsBundleOf v.start) v }
-
   had : (home cap f : ℕ) (old kept : List ℕ) (x : View X) → IsAlloc home cap 1 old kept v x (allocs.Batch (f ∷ [])) → IsHad v x × Had cap f old kept v x
   had home cap f old kept x a =
       ⊎_elim
-      (λ own. (subst (IsHad v) (sym own.same) had-self, from_own own.hands.all own.same))
+      (λ own. (subst (IsHad v) (sym own.same) record { now = alone; start = refl; notes = refl; others = else-self (IsBundleOf v.start) v }, from_own own.hands.all own.same))
       (λ t.
-      let passed : t.takes.passed < bundles_of v.start.frames = t.takes.below in
-      let some : 0 < bundles_of v.start.frames = omega (arith, passed) in (
+      let some : 0 < bundles_of v.start.frames = omega (arith, t.takes.below) in (
         record { now = still-alone v x t.moves.parts t.moves.alone.current alone; start = t.moves.start; notes = t.moves.notes; others = t.moves.table alone },
         from_bundle t.g t.mask t.none t.hands.all (subst (λ n. n < bundles_of v.start.frames) (sym t.takes.bundle) (mod-lt (home + t.takes.passed) some)) (t.table alone),
       ))
@@ -77,12 +82,6 @@ module _ {X : Type 0} (v : View X) (alone : IsAlone v) where
         subst (λ n. KnowsReleased more state p n v w) (version-is x version h below k.before)
         (record { before = sym (page-same x h) ∙ k.before; now = k.now; others = else-then more v x w h.start before (else-within touched more x w wider k.others) })
 
-    -- a bundle is no place of the page or of the frame
-    not-of-both : (g f : ℕ) → g < bundles_of v.start.frames → IsOfBoth p f (places.Bundle g) → ⊥
-    not-of-both g f inside (inl page-is) = page-is
-    not-of-both g f inside (inr (inl e)) = subst (IsBundleOf v.start) e inside
-    not-of-both g f inside (inr (inr c)) = subst (IsBundleOf v.start) c.2 inside
-
     is-brought : (most f : ℕ) (old kept : List ℕ) (x w : View X) → IsHad v x → Had most f old kept v x → IsBrought p f x w → KnowsBrought most p old kept v w
     is-brought most f old kept x w h (from_own one same) b =
         brought.own f one (released (IsOfBoth p f) (IsOfBoth p f) UNLOCKED b.version x w h b.released.below (λ at t. t) (subst (KnowsElse (IsOfBoth p f) v) (sym same) (else-self (IsOfBoth p f) v)) (b.table h.now))
@@ -90,7 +89,7 @@ module _ {X : Type 0} (v : View X) (alone : IsAlone v) where
         let more : Place → Type 0 = (λ at. IsOfBoth p f at ⊎ (at ≡ places.Bundle g)) in
         let there : g < bundles_of x.start.frames = subst (λ (o : Origin). g < bundles_of o.frames) (sym h.start) inside in
         brought.taken f g mask empty are inside bits.lowest
-        ((b.table h.now).others.words (places.Bundle g) there (not-of-both g f inside) ∙ bits.left)
+        ((b.table h.now).others.words (places.Bundle g) there (not-of-both v.start p f g inside) ∙ bits.left)
         (released (IsOfBoth p f) more UNLOCKED b.version x w h b.released.below (λ at t. inl t) (else-within (λ at. at ≡ places.Bundle g) more v x (λ at t. inr t) bits.others) (b.table h.now))
 
     -- the frame went back: no word but the bundles' is another
@@ -136,8 +135,7 @@ module _ {X : Type 0} (v : View X) (alone : IsAlone v) where
             version = λ e. cc;
             sure = λ known.
                 let last : known_version v p ≡ MAX_VERSION = ap version_of (sym (page-same x h) ∙ t.2.known h.now) ∙ word-version EVICTED MAX_VERSION (omega arith) in
-                let low : known_version v p < MAX_VERSION = known.1 in
-                absurd (omega (arith, last, low));
+                absurd (omega (arith, last, known.1));
           }
       fetched f old kept new x w answer h got (fetches.device count y t r is) =
           record {
@@ -151,3 +149,47 @@ module _ {X : Type 0} (v : View X) (alone : IsAlone v) where
       answered-once home f old kept new x w answer a t =
           let got = had home cap f old kept x a in
           fetched f old kept new x w answer got.0 got.1 t
+
+module _ {X : Type 0} where
+  -- where the pass knew of a free frame it knows the words as from before the call
+  pub when-free : (cap p : ℕ) (old new : List ℕ) (v w : View X) (answer : Bring) → HasFree old v → KnowsAsked cap p old new v w answer → KnowsBring cap p old new v w answer
+  when-free cap p old new v w answer free (asked.at_once k) = k
+  when-free cap p old new v w answer free (asked.swept dried dry clean filled report still s k sure) = absurd (dried free)
+  when-free cap p old new v w answer free (asked.none dried dry clean filled report still s after same says) = absurd (dried free)
+
+  module _ (v : View X) (alone : IsAlone v) where
+    -- a free frame is not overlooked
+    not-dry : (home : ℕ) (old new : List ℕ) (w : View X) → HasFree old v → IsDry home old new v w → ⊥
+    not-dry home old new w free d = ⊎_elim (λ some. some d.refused.none) (λ b. b.2 (d.known alone b.0 b.1)) free
+
+    -- no frame was free: the pass is alone still, and knows the words as they were
+    dry-still : (home : ℕ) (old new : List ℕ) (w : View X) → IsDry home old new v w → IsStill v w
+    dry-still home old new w d = record { alone = still-alone v w d.refused.moves.parts d.refused.moves.alone.current alone; start = d.refused.moves.start; words = d.refused.table alone }
+
+    -- and after the sweep then
+    swept-still : (home cap : ℕ) (old emptied filled : List ℕ) (report : Report) (dry clean : View X) → IsDry home old emptied v dry → IsSwept cap cap emptied filled report dry clean → IsAlone clean × IsSwept cap cap [] filled report dry clean
+    swept-still home cap old emptied filled report dry clean d s =
+        (keeps-alone (swept-keeps cap cap emptied filled report dry clean s) (dry-still home old emptied dry d).alone, subst (λ (l : List ℕ). IsSwept cap cap l filled report dry clean) d.refused.same s)
+
+  module _ (v : View X) (alone : IsAlone v) (p : ℕ) (page : p < v.start.pages) (cap : ℕ) (some : 1 ≤ cap) (home before after : ℕ) (old new : List ℕ) (w : View X) (answer : Bring) where
+    pub knows-asked : IsBring home cap p old new before after v w answer → KnowsAsked cap p old new v w answer
+    knows-asked (is_bring.framed f kept x (gets.once a same) t) = asked.at_once (answered-once v alone p page cap some home f old kept new x w answer a t).knows
+    knows-asked (is_bring.framed f kept x (gets.swept dry clean emptied filled report d s a n) t) =
+        let again = swept-still v alone home cap old emptied filled report dry clean d s in
+        let there : p < clean.start.pages = subst (λ (o : Origin). p < o.pages) (sym ((swept-keeps cap cap emptied filled report dry clean s).start ∙ d.refused.moves.start)) page in
+        let got = answered-once clean again.0 p there cap some home f filled kept new x w answer a t in
+        asked.swept (λ free. not-dry v alone home old emptied dry free d) dry clean filled report (dry-still v alone home old emptied dry d) again.1 got.knows got.sure
+    knows-asked (is_bring.frameless (none.lost saw a same is)) = absurd (a.others alone)
+    knows-asked (is_bring.frameless (none.lost_then saw dry clean emptied filled report d s a n is)) = absurd (a.others (swept-still v alone home cap old emptied filled report dry clean d s).0)
+    knows-asked (is_bring.frameless (none.dry dry clean emptied filled report d s a n says)) =
+        let again = swept-still v alone home cap old emptied filled report dry clean d s in
+        asked.none (λ free. not-dry v alone home old emptied dry free d) dry clean filled report (dry-still v alone home old emptied dry d) again.1
+        (λ free. not-dry clean again.0 home filled new w free a) (dry-still clean again.0 home filled new w a) says
+
+    -- where a frame was free the answer came with it
+    pub answered-free : HasFree old v → IsBring home cap p old new before after v w answer → IsAnswered cap p old new v w answer
+    answered-free free (is_bring.framed f kept x (gets.once a same) t) = answered-once v alone p page cap some home f old kept new x w answer a t
+    answered-free free (is_bring.framed f kept x (gets.swept dry clean emptied filled report d s a n) t) = absurd (not-dry v alone home old emptied dry free d)
+    answered-free free (is_bring.frameless (none.lost saw a same is)) = absurd (a.others alone)
+    answered-free free (is_bring.frameless (none.lost_then saw dry clean emptied filled report d s a n is)) = absurd (not-dry v alone home old emptied dry free d)
+    answered-free free (is_bring.frameless (none.dry dry clean emptied filled report d s a n says)) = absurd (not-dry v alone home old emptied dry free d)

@@ -1,18 +1,51 @@
 -- The last state of a table that was closed with a pass that has all parts and holds no page: every block is at home, and the words and
--- blocks are those of the pass's snapshot.
-use Rattle.std.proofs.Common.{true≢false}
+-- blocks are those of the pass's snapshot. The blocks are taken out of their slots one after another.
 use mathlib.Core.Option as maybe
 use Rattle.vm_rule.specs.declared.view.Place.TheVariants as places
-use Rattle.vm_pool.proofs.HomeBlocks.{all-home}
-use Rattle.vm_pool.proofs.Prelude.{[], all-seen, ap, arith, at, at-any, at-listed, at-map, at_home, at_index, began_of, begun-ruled, block_in}
-use Rattle.vm_pool.proofs.Prelude.{block_of, Bool, bounds_of, bundles_of, cases_eq, core_shown, EVICTED, false, Final, found-below, get_elem?}
-use Rattle.vm_pool.proofs.Prelude.{HasShape, HasStepped, HoldsNoPage, index_of, IsClosed, IsSome, IsStored, IsWhole, Kept, kept_by, known, last_of}
-use Rattle.vm_pool.proofs.Prelude.{length, length-listed, length-mapped, List, listed, listed-long, listed-same, LOCKED, lt-ltb, map, Mapping}
-use Rattle.vm_pool.proofs.Prelude.{mapping_in, no_block, None, notes-stand, NotesStand, Option, Origin, others-have-nothing, Out, out_of, out_or}
-use Rattle.vm_pool.proofs.Prelude.{pages_from, PageStands, refl, Ruled, seat_of, Seen, Shape, Snapshot, snapshot_of, Some, some, some-injective}
-use Rattle.vm_pool.proofs.Prelude.{Stands, stands-known, stands_dirty, Start, state_in, Stored, subst, suc, sym, Table, table-known, table_words}
-use Rattle.vm_pool.proofs.Prelude.{true, version-below, version_in, version_of, View, what-is-kept, without-locks, world_of, zero, ℕ, ⊎_elim, ◌*◌}
-use Rattle.vm_pool.proofs.Prelude.{◌+◌, ◌<◌, ◌∙◌, ◌∷◌, ◌≡◌, ◌≢◌, ◌≤◌}
+use Rattle.vm_pool.proofs.Prelude.{[], all-seen, ap, arith, at, at-any, at-bound, at-listed, at-map, at-there, at_home, at_index, began_of, begun-ruled}
+use Rattle.vm_pool.proofs.Prelude.{block_in, block_of, Bool, bounds_of, bundles_of, cases_eq, clean-of, common_steps, core_shown, EVICTED, false, Filled}
+use Rattle.vm_pool.proofs.Prelude.{Final, found-below, get_elem?, get_or, get_or-set_other, HasShape, HasStepped, HoldsNoPage, if◌then◌else◌, index_of}
+use Rattle.vm_pool.proofs.Prelude.{IsClosed, IsSome, IsStored, IsWhole, Kept, kept_by, known, last_of, length, length-listed, length-mapped, List, listed}
+use Rattle.vm_pool.proofs.Prelude.{listed-long, listed-same, LOCKED, lt-ltb, map, map-append, mapping_in, no_block, None, notes-stand, NotesStand, Option}
+use Rattle.vm_pool.proofs.Prelude.{Origin, others-have-nothing, Out, out_of, out_or, pages_from, PageStands, refl, Ruled, seat_of, Seen, Shape, slice_set}
+use Rattle.vm_pool.proofs.Prelude.{Snapshot, snapshot_of, Some, some, some-injective, Stands, stands-known, Start, state_in, Stored, subst, suc, sym, Table}
+use Rattle.vm_pool.proofs.Prelude.{table-known, table_words, take, take-suc, true, true≢false, version-below, version_in, version_of, View, what-is-kept}
+use Rattle.vm_pool.proofs.Prelude.{without-locks, world_of, zero, ℕ, ⊎_elim, ◌*◌, ◌++◌, ◌+◌, ◌<◌, ◌∙◌, ◌∷◌, ◌≡◌, ◌≢◌, ◌≤◌}
+
+module _ {B : Type 0} where
+  -- one block more
+  pub taken-more : (before after : List B) (block : B) (pushed : Bool) (xs : List (Option B)) (p q : ℕ) → q ≡ suc p → map Some before ≡ take p xs → get_elem? xs p ≡ some (Some block) → after ≡ (if pushed then before ++ block ∷ [] else before) → pushed ≡ true → map Some after ≡ take q xs
+  unfolding at
+  taken-more before after block pushed xs p q next was here grown done =
+      ap (map Some) (grown ∙ ap (λ y. if y then before ++ block ∷ [] else before) done)
+      ∙ map-append Some before (block ∷ [])
+      ∙ ap (λ (l : List (Option B)). l ++ Some block ∷ []) was
+      ∙ ap (λ (o : Option B). take p xs ++ o ∷ []) (sym (at-there (Some block) xs p (Some block) here))
+      ∙ sym (ap (λ k. take k xs) next ∙ take-suc xs p (Some block) (at-bound xs p (Some block) here))
+
+  none-at : (items : List B) (k : ℕ) → get_elem? (map Some items) k ≡ some None → ⊥
+  none-at [] k e = absurd (maybe.some-ne-none None (sym e))
+  none-at (x ∷ xs) zero e = let bad : Some x ≡ None = some-injective (Some x) None e in cc
+  none-at (x ∷ xs) (suc k) e = none-at xs k e
+
+  -- no slot is empty
+  pub never-none : (xs : List (Option B)) → (items : List B) × (map Some items ≡ xs) → (k : ℕ) (slot : Option B) → get_elem? xs k ≡ some slot → slot ≡ None → ⊥
+  never-none xs home k slot e none = none-at home.0 k (ap (λ l. get_elem? l k) home.1 ∙ e ∙ ap some none)
+
+  -- where each slot has a block, these are the blocks
+  pub all-home : (xs : List (Option B)) → ((k : ℕ) → k < length xs → (b : B) × (get_elem? xs k ≡ some (Some b))) → (items : List B) × (map Some items ≡ xs)
+  all-home [] each = ([], refl)
+  all-home (x ∷ xs) each =
+      let b = each 0 (omega arith) in
+      let rest = all-home xs (λ k l. each (suc k) (omega arith)) in
+      (b.0 ∷ rest.0, λ i. sym (some-injective x (Some b.0) b.1) i ∷ rest.1 i)
+
+-- the place p is emptied
+pub filled-next : (fs : List Bool) (p n : ℕ) → Filled fs p n → Filled (slice_set fs p false) (p + 1) n
+filled-next fs p n full k le l = get_or-set_other fs p k false false (λ e. omega arith) ∙ full k (omega arith) l
+
+pub emptied-next : (fs : List Bool) (p : ℕ) → ((k : ℕ) → k < p → get_or fs k false ≡ false) → (k : ℕ) → k < p + 1 → get_or (slice_set fs p false) k false ≡ false
+emptied-next fs p before k l = grind (arith, common_steps, before k)
 
 -- ---- lists
 
@@ -36,11 +69,6 @@ home-some : {B : Type 0} (h : maybe.Option (Option B)) → IsSome (at_home h) �
 home-some maybe.none is = absurd (true≢false (sym is))
 home-some (maybe.some None) is = absurd (true≢false (sym is))
 home-some (maybe.some (Some b)) is = (b, refl, refl)
-
--- a page that is resident and not dirty is in a frame and clean
-clean-there : (o : Option Mapping) → IsSome o → stands_dirty o ≡ false → (m : Mapping) × (o ≡ Some m) × (m.dirty ≡ false)
-clean-there None is clean = absurd (true≢false (sym is))
-clean-there (Some m) is clean = (m, refl, clean)
 
 -- the version of a page of the table is its state word's
 version-there : {X B : Type 0} (stored : B → Stored) (start : Origin) (s : Table (Option B) (View X)) (p : ℕ) → p < start.pages → ((core_shown stored start s).pages p).version ≡ version_of ((table_words start s.words).states p)
@@ -159,8 +187,8 @@ module _ {X B : Type 0} (stored : B → Stored) (keeps : Start → Kept X → Ty
         ⊎_elim
         (λ (gone : state_in v.start v.snapshot p ≡ EVICTED). page.device t gone)
         (λ here.
-        let in_frame = clean-there (mapping_in v.start v.snapshot p) (page.resident free here) (⊎_elim (λ gone. absurd (here gone)) (λ clean. clean) is) in
-        page.clean t free in_frame.0 in_frame.1 in_frame.2)
+        let in_frame = clean-of (mapping_in v.start v.snapshot p) (page.resident free here) (⊎_elim (λ gone. absurd (here gone)) (λ clean. clean) is) in
+        page.clean t free _ in_frame.1 refl)
         (cases_eq (state_in v.start v.snapshot p) EVICTED)
 
     notes : NotesStand v.snapshot v.notes

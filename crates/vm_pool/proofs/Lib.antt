@@ -1,14 +1,11 @@
 pub mod Prelude
-pub mod HomeBlocks
 pub mod Sums
 pub mod Parting
 pub mod LastState
 pub mod Sweeping
 pub mod Bringing
-pub mod FirstPage
 pub mod Keeping
 pub mod Knowing
-pub mod Asking
-pub mod TwoPages
+pub mod FirstPage
 pub mod OnePage
 pub mod RoundTrip

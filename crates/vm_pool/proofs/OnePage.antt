@@ -1,26 +1,20 @@
 -- What a pass that is alone knows of a page that is resident and locked by nobody, over a sweep and over `bring`: after a sweep the page is as it was
 -- but for a mark, or it is evicted at its next version, and the interface has a frame; after `bring` it can be read, unless its device failed.
-use Rattle.std.proofs.lemmas.List.{length-append}
 use Rattle.vm_rule.specs.declared.view.Place.TheVariants as places
 use Rattle.vm_evict.specs.declared.candidate.Stage.TheVariants as stages
 use Rattle.vm_pool.specs.Known.{KnowsAsked as asked, KnowsBrought as brought}
 use Rattle.vm_pool.specs.declared.bring.Bring.TheVariants as brings
 use Rattle.vm_pool.proofs.{Keeping.swept-keeps, Knowing.can-be-read, Knowing.has-some}
-use Rattle.vm_pool.proofs.Prelude.{[], ap, arith, at, Bring, candidate_at, candidate_pages, cases_Bool, cases_eq, cases_lt, Did, EVICTED, false}
-use Rattle.vm_pool.proofs.Prelude.{false≢true, frame_at, gathered, has, if◌then◌else◌, index-below, index_of, inl, inr, is_readable, IsAlone, IsEnd}
-use Rattle.vm_pool.proofs.Prelude.{IsKnownOut, IsOfPage, IsPassed, IsStill, IsSure, IsSwept, IsUnlockedWord, IsWalked, known_word_at, KnowsAsked}
-use Rattle.vm_pool.proofs.Prelude.{KnowsBring, KnowsStage, KnowsWalked, length, List, MARKED, MAX_VERSION, nat_lt, Origin, page-at, passed_word, refl}
-use Rattle.vm_pool.proofs.Prelude.{Report, same-word, Stage, stage_at, state_of, subst, suc, sym, true, UNLOCKED, version-within, version_of, View}
-use Rattle.vm_pool.proofs.Prelude.{wide-after, width, word-state, word-version, word_of, zero, ℕ, ⊎_elim, ◌%◌, ◌&&◌, ◌++◌, ◌+◌, ◌<◌, ◌==◌, ◌∙◌, ◌≡◌}
-use Rattle.vm_pool.proofs.Prelude.{◌≢◌, ◌≤◌, ◌⊎◌}
+use Rattle.vm_pool.proofs.Prelude.{[], ap, arith, at, Bring, candidate_at, candidate_pages, cases_Bool, cases_eq, cases_lt, Did, EVICTED, false, false≢true}
+use Rattle.vm_pool.proofs.Prelude.{frame_at, gathered, has, if◌then◌else◌, index-below, index_of, inl, inr, is_readable, IsAlone, IsEnd, IsKnownOut, IsOfPage}
+use Rattle.vm_pool.proofs.Prelude.{IsPassed, IsStill, IsSure, IsSwept, IsUnlockedWord, IsWalked, known_word_at, KnowsAsked, KnowsBring, KnowsStage}
+use Rattle.vm_pool.proofs.Prelude.{KnowsWalked, length, length-append, List, MARKED, MAX_VERSION, nat_lt, Origin, page-at, passed_word, refl, Report}
+use Rattle.vm_pool.proofs.Prelude.{same-word, Stage, stage_at, state_of, subst, suc, sym, true, UNLOCKED, version-within, version_of, View, wide-after, width}
+use Rattle.vm_pool.proofs.Prelude.{word-state, word-version, word_of, zero, ℕ, ⊎_elim, ◌%◌, ◌&&◌, ◌++◌, ◌+◌, ◌<◌, ◌==◌, ◌∙◌, ◌≡◌, ◌≢◌, ◌≤◌, ◌⊎◌}
 
 -- ---- words
 
--- a page that is free is not evicted
-free-in : (word : ℕ) → IsUnlockedWord word → state_of word ≢ EVICTED
-free-in word f gone = omega arith
-
--- it can be read
+-- a page that is free can be read
 free-reads : (word : ℕ) → IsUnlockedWord word → is_readable (state_of word) ≡ true
 free-reads word f = ⊎_elim (λ e. ap is_readable e) (λ e. ap is_readable e) f
 
@@ -139,7 +133,9 @@ module _ {X : Type 0} where
   kept-free cap p old new v w answer page free k = by answer k
     where
       not-out : known_word_at v (places.State p) ≡ word_of EVICTED (version_of (known_word_at v (places.State p))) → ⊥
-      not-out is = free-in (known_word_at v (places.State p)) free (ap state_of is ∙ word-state EVICTED (version_of (known_word_at v (places.State p))) (version-within (known_word_at v (places.State p))))
+      not-out is =
+          let gone : state_of (known_word_at v (places.State p)) ≡ EVICTED = ap state_of is ∙ word-state EVICTED (version_of (known_word_at v (places.State p))) (version-within (known_word_at v (places.State p))) in
+          absurd (omega (arith, free, gone))
 
       by : (answer : Bring) → KnowsBring cap p old new v w answer → known_word_at w (places.State p) ≡ known_word_at v (places.State p)
       by brings.Brought (brought.own f is r) = absurd (not-out r.before)

@@ -1,12 +1,10 @@
 -- A pass that was split off, and one that was taken in, as callers see them.
-use Rattle.std.proofs.Common.{true≢false}
 use Rattle.vm_rule.specs.declared.view.Place.TheVariants as places
-use Rattle.vm_pool.proofs.Prelude.{[], ap, apart-not, apart-right, append-none, append_assoc, AreApart, arith, Bool, cases_Bool, caught-heard}
-use Rattle.vm_pool.proofs.Prelude.{caught-mine, CaughtUp, Did, did_load, entries-heard, entries_by, Entry, eq-eqb, false, first_part, giver, has}
-use Rattle.vm_pool.proofs.Prelude.{HaveMet, hears-on, if◌then◌else◌, Joins, KeepsAll, Kept, KnowsAll, length, length-append, List, Meets, met-known}
-use Rattle.vm_pool.proofs.Prelude.{met-still, newcomer, nil_from_length, other_parts, owns, refl, slice_index, Sound, Splits, Start, starts-on}
-use Rattle.vm_pool.proofs.Prelude.{StartsWith, subst, sym, TakesIn, times, times-joined, true, View, view_from, ℕ, ⊎_elim, ◌++◌, ◌+◌, ◌<◌, ◌∙◌, ◌∷◌}
-use Rattle.vm_pool.proofs.Prelude.{◌≡◌, ◌≤◌}
+use Rattle.vm_pool.proofs.Prelude.{[], ap, apart-not, apart-right, append-none, append_assoc, AreApart, arith, Bool, cases_Bool, caught-heard, caught-mine}
+use Rattle.vm_pool.proofs.Prelude.{CaughtUp, Did, did_load, entries-heard, entries_by, Entry, eq-eqb, false, first_part, giver, has, HaveMet, hears-on}
+use Rattle.vm_pool.proofs.Prelude.{if◌then◌else◌, Joins, KeepsAll, Kept, KnowsAll, length, length-append, List, Meets, met-known, met-still, newcomer}
+use Rattle.vm_pool.proofs.Prelude.{nil_from_length, other_parts, owns, refl, slice_index, Sound, Splits, Start, starts-on, StartsWith, subst, sym, TakesIn}
+use Rattle.vm_pool.proofs.Prelude.{times, times-joined, true, true≢false, View, view_from, ℕ, ⊎_elim, ◌++◌, ◌+◌, ◌<◌, ◌∙◌, ◌∷◌, ◌≡◌, ◌≤◌}
 
 cut-is : (l : List ℕ) → 0 < length l → (l ≡ slice_index l 0 ∷ other_parts l) × (first_part l ≡ slice_index l 0 ∷ [])
 cut-is [] h = absurd (omega (arith, h))

@@ -1,13 +1,13 @@
 -- A pass that is alone brings a page, writes and releases it, sweeps, and brings it again: the word that was set is the page's over calls that leave its
 -- last words; and the calls succeed where the page is far enough below the last version, and its block never fails.
 use Rattle.vm_rule.specs.declared.view.Place.TheVariants as places
-use Rattle.vm_pool.proofs.{Asking.when-free, Keeping.keeps-alone, Knowing.brought-word}
+use Rattle.vm_pool.proofs.{Keeping.keeps-alone, Knowing.brought-word, Knowing.when-free}
 use Rattle.vm_pool.proofs.OnePage.{asked-reads, is-out, no-fault, out-reads, swept-free}
-use Rattle.vm_pool.proofs.Prelude.{[], alone-then, ap, append-none, arith, at, Bool, Bring, Did, draft_of, false≢true, get_or-set_same, HasFree}
-use Rattle.vm_pool.proofs.Prelude.{IfSome, inl, is_readable, IsAlone, IsKnownFree, IsKnownOut, IsReleased, IsSet, IsSome, IsSteady, IsSure, IsSwept}
-use Rattle.vm_pool.proofs.Prelude.{KeepsLocks, known_version, known_word_at, KnowsAsked, KnowsBring, last_in, last_of, length, List, MAX_VERSION}
-use Rattle.vm_pool.proofs.Prelude.{None, Option, Origin, Release, Report, slice_index, slice_set, Some, state_of, StaysAlone, still-alone, subst, sym}
-use Rattle.vm_pool.proofs.Prelude.{true, UNLOCKED, Version, version_of, View, word-state, word-version, ℕ, ⊎_elim, ◌+◌, ◌<◌, ◌∙◌, ◌≡◌, ◌≤◌}
+use Rattle.vm_pool.proofs.Prelude.{[], alone-then, ap, append-none, arith, at, Bool, Bring, Did, draft_of, false≢true, get_or-set_same, HasFree, IfSome, inl}
+use Rattle.vm_pool.proofs.Prelude.{is_readable, IsAlone, IsKnownFree, IsKnownOut, IsReleased, IsSet, IsSome, IsSteady, IsSure, IsSwept, KeepsLocks}
+use Rattle.vm_pool.proofs.Prelude.{known_version, known_word_at, KnowsAsked, KnowsBring, last_in, last_of, length, List, MAX_VERSION, None, Option, Origin}
+use Rattle.vm_pool.proofs.Prelude.{Release, Report, slice_index, slice_set, Some, state_of, StaysAlone, still-alone, subst, sym, true, UNLOCKED, Version}
+use Rattle.vm_pool.proofs.Prelude.{version_of, View, word-state, word-version, ℕ, ⊎_elim, ◌+◌, ◌<◌, ◌∙◌, ◌≡◌, ◌≤◌}
 
 module _ {X : Type 0} where
   -- the calls of a guard leave it so

@@ -1,6 +1,6 @@
 -- Sums that stop at 2^64 - 1.
-use Rattle.vm_pool.proofs.Prelude.{[], ap, Each, length, List, map, min, refl, Stored, sum_by, sum_by-cons, sum_by-le-sum_by, sum_to_max, sym, take}
-use Rattle.vm_pool.proofs.Prelude.{take_all, ℕ, ◌+◌, ◌-◌, ◌^◌, ◌∙◌, ◌∷◌, ◌≡◌, ◌≤◌}
+use Rattle.vm_pool.proofs.Prelude.{[], ap, Each, length, List, map, min, refl, Stored, sum_by, sum_by-cons, sum_by-le-sum_by, sum_to_max, sym, take, take_all}
+use Rattle.vm_pool.proofs.Prelude.{ℕ, ◌+◌, ◌-◌, ◌^◌, ◌∙◌, ◌∷◌, ◌≡◌, ◌≤◌}
 
 module _ {B : Type 0} (stored : B → Stored) where
   sum-stored : (f : Stored → ℕ) (xs : List B) → sum_by f (map stored xs) ≡ sum_by (λ b. f (stored b)) xs

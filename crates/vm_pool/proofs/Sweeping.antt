@@ -1,11 +1,11 @@
 -- A sweep, by the calls that it makes: its report has the looks that found the candidates; the frames that came stand beside those that the pass
 -- holds; and a pass that is alone knows the words that the walk left, then those that the eviction left, then those that the frames' going back left.
 use Rattle.vm_rule.specs.declared.view.Place.TheVariants as places
-use Rattle.vm_pool.proofs.Prelude.{apart-join, AreCandidates, AreHeld, bit_or, bundles_of, candidate_at, candidate_pages, cases_Bool, Each, each-at}
-use Rattle.vm_pool.proofs.Prelude.{each-has, each-join, each-of, else-then, else-within, false, FramesCome, has, inl, inr, IsAlone, IsBatch}
-use Rattle.vm_pool.proofs.Prelude.{IsBundleOf, IsCandidate, IsChosen, IsFreed, IsOfAny, IsSwept, IsWalked, known_word_at, KnowsAt, KnowsElse}
-use Rattle.vm_pool.proofs.Prelude.{KnowsGiven, KnowsSwept, KnowsWalked, length, List, Looks, or_left, or_right, Origin, Place, Report, stage_at}
-use Rattle.vm_pool.proofs.Prelude.{stays-known, still-alone, subst, sym, true, true≢false, View, ℕ, ⊎_elim, ◌++◌, ◌<◌, ◌∙◌, ◌≡◌, ◌⊎◌}
+use Rattle.vm_pool.proofs.Prelude.{apart-join, AreCandidates, AreHeld, bit_or, bundles_of, candidate_at, candidate_pages, cases_Bool, Each, each-at, each-has}
+use Rattle.vm_pool.proofs.Prelude.{each-join, each-of, else-then, else-within, false, FramesCome, has, inl, inr, IsAlone, IsBatch, IsBundleOf, IsCandidate}
+use Rattle.vm_pool.proofs.Prelude.{IsChosen, IsFreed, IsOfAny, IsSwept, IsWalked, known_word_at, KnowsAt, KnowsElse, KnowsGiven, KnowsSwept, KnowsWalked}
+use Rattle.vm_pool.proofs.Prelude.{length, List, Looks, or_left, or_right, Origin, Place, Report, stage_at, stays-known, still-alone, subst, sym, true}
+use Rattle.vm_pool.proofs.Prelude.{true≢false, View, ℕ, ⊎_elim, ◌++◌, ◌<◌, ◌∙◌, ◌≡◌, ◌⊎◌}
 
 -- ---- what a pass that is alone knows
 

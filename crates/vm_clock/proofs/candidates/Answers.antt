@@ -1,7 +1,6 @@
 -- The walk so far gives each clause.
-use Rattle.vm_clock.proofs.Prelude.{add_assoc, ap, arith, inl, inr, length, looks_counted, mod-add-mod, subst, suc, sym, view, ◌%◌, ◌*◌, ◌+◌, ◌<◌}
-use Rattle.vm_clock.proofs.Prelude.{◌∙◌, ◌≡◌, ◌≤◌}
-use Rattle.vm_clock.proofs.Walking.{IsWalking, walked-chosen, walked-few, walked-list, walked-looks, walking-on}
+use Rattle.vm_clock.proofs.Prelude.{add_assoc, ap, arith, inl, inr, length, mod-add-mod, subst, suc, sym, view, ◌%◌, ◌*◌, ◌+◌, ◌<◌, ◌∙◌, ◌≡◌, ◌≤◌}
+use Rattle.vm_clock.proofs.Walking.{IsWalking, walked-chosen, walked-list, walked-so, walking-on}
 use Rattle.vm_clock.proofs.candidates.Goals as goal
 
 pub returns-then-len-want-clause-list : goal.returns-then-len-want-clause-list
@@ -9,31 +8,21 @@ returns-then-len-want-clause-list g c = walked-list _ _ _ _ _ _ _ c.loop-k.invar
 
 pub returns-then-len-want-clause-looks : goal.returns-then-len-want-clause-looks
 returns-then-len-want-clause-looks g c =
-    subst (λ n. n ≤ 2 * c.args.words.now.table.shared.key.frames) (sym (walked-looks _ _ _ _ _ _ _ c.loop-k.invariant.walking)) (subst (λ n. c.loop-k.k ≤ 2 * n) c.args.words.now.shape.1 c.loop-k.auto.k-end)
+    subst (λ n. n ≤ 2 * c.args.words.now.table.shared.key.frames) (sym (walked-so _ _ _ _ _ _ _ c.loop-k.invariant.walking).0) (subst (λ n. c.loop-k.k ≤ 2 * n) c.args.words.now.shape.1 c.loop-k.auto.k-end)
 
 pub visit_frame-requires-clause-room : goal.visit_frame-requires-clause-room
 visit_frame-requires-clause-room g c =
-    let few : length c.loop-k.chosen.list.items ≤ c.args.want = walked-few _ _ _ _ _ _ _ c.loop-k.invariant.walking in
-    let ne = c.if-len-want.false in
-    let len = c.len.ensures.value in
-    let most = c.requires.want.1 in
-    omega (arith, few, ne, len, most)
+    let few : length c.loop-k.chosen.list.items ≤ c.args.want = (walked-so _ _ _ _ _ _ _ c.loop-k.invariant.walking).1 in
+    omega (arith, few, c.if-len-want.false, c.len.ensures.value, c.requires.want.1)
 
 pub visit_frame-requires-clause-counts : goal.visit_frame-requires-clause-counts
 visit_frame-requires-clause-counts g c =
-    let counted : looks_counted c.loop-k.chosen.looks ≡ c.loop-k.k = walked-looks _ _ _ _ _ _ _ c.loop-k.invariant.walking in
-    let most : c.loop-k.k < 4294967295 =
-    let test = c.loop-k-test.true in
-    let frames = c.args.words.now.shape.3 in
-    omega (arith, test, frames) in
-    subst (λ n. n < 4294967295) (sym counted) most
+    subst (λ n. n < 4294967295) (sym (walked-so _ _ _ _ _ _ _ c.loop-k.invariant.walking).0) (omega (arith, c.loop-k-test.true, c.args.words.now.shape.3))
 
 pub loop-k-preserved : goal.loop-k-preserved
 loop-k-preserved g c =
-    let few : length c.loop-k.chosen.list.items ≤ c.args.want = walked-few _ _ _ _ _ _ _ c.loop-k.invariant.walking in
-    let ne = c.if-len-want.false in
-    let len = c.len.ensures.value in
-    let room : length c.loop-k.chosen.list.items < c.args.want = omega (arith, few, ne, len) in
+    let few : length c.loop-k.chosen.list.items ≤ c.args.want = (walked-so _ _ _ _ _ _ _ c.loop-k.invariant.walking).1 in
+    let room : length c.loop-k.chosen.list.items < c.args.want = omega (arith, few, c.if-len-want.false, c.len.ensures.value) in
     let frames : c.args.words.now.frames ≡ (view c.args.pass.now).start.frames = c.args.words.now.shape.1 ∙ sym c.requires.ready.table.is_shape.frames in
     let some : 0 < c.args.words.now.frames = omega (arith, c.loop-k-test.true) in
     let place : c.loop-k.frame ≡ (c.hand-drawn.result % (view c.args.pass.now).start.frames + c.loop-k.k) % (view c.args.pass.now).start.frames =
@@ -56,10 +45,10 @@ returns-clause-list g c = walked-list _ _ _ _ _ _ _ c.loop-k.invariant.walking _
 
 pub returns-clause-looks : goal.returns-clause-looks
 returns-clause-looks g c =
-    subst (λ n. n ≤ 2 * c.args.words.now.table.shared.key.frames) (sym (walked-looks _ _ _ _ _ _ _ c.loop-k.invariant.walking)) (subst (λ n. c.loop-k.k ≤ 2 * n) c.args.words.now.shape.1 c.loop-k.auto.k-end)
+    subst (λ n. n ≤ 2 * c.args.words.now.table.shared.key.frames) (sym (walked-so _ _ _ _ _ _ _ c.loop-k.invariant.walking).0) (subst (λ n. c.loop-k.k ≤ 2 * n) c.args.words.now.shape.1 c.loop-k.auto.k-end)
 
 pub returns-clause-few : goal.returns-clause-few
-returns-clause-few g c = walked-few _ _ _ _ _ _ _ c.loop-k.invariant.walking
+returns-clause-few g c = (walked-so _ _ _ _ _ _ _ c.loop-k.invariant.walking).1
 
 pub returns-then-len-want-clause-chosen : goal.returns-then-len-want-clause-chosen
 returns-then-len-want-clause-chosen g c =

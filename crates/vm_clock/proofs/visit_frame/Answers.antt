@@ -7,5 +7,4 @@ returns-then-owner-eq0-clause-visited g c = by-none _ _ _ _ c.oload-owner.ensure
 
 pub returns-clause-visited : goal.returns-clause-visited
 returns-clause-visited g c =
-    let some = c.if-owner-eq0.false in
-    by-page _ _ _ _ c.oload-owner.ensures.told _ (omega (arith, some)) _ _ _ _ _ c.visit.ensures.visited
+    by-page _ _ _ _ c.oload-owner.ensures.told _ (omega (arith, c.if-owner-eq0.false)) _ _ _ _ _ c.visit.ensures.visited

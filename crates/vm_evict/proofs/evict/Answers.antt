@@ -1,18 +1,9 @@
-use Rattle.vm_evict.specs.declared.candidate.Phase.TheVariants as phases
-use Rattle.vm_evict.specs.declared.candidate.Stage.TheVariants as stages
 use Rattle.vm_evict.proofs.{Ended.ended, Ended.waiting-all, Gathering.each-at}
-use Rattle.vm_evict.proofs.Prelude.{[], candidate_at, Each, IsBatch, IsCandidate, List, MayBeginPhase, Stage, stage_at, subst, sym, view, ℕ, ◌<◌, ◌≡◌}
+use Rattle.vm_evict.proofs.Prelude.{[], candidate_at, Each, IsBatch, IsCandidate, List, subst, sym, view, ℕ, ◌<◌}
 use Rattle.vm_evict.proofs.evict.Goals as goal
-
--- a candidate that waits may be saved
-may-save : (ends : List Stage) (n : ℕ) → stage_at ends n ≡ stages.Waiting → MayBeginPhase phases.Save (stage_at ends n)
-may-save ends n e = subst (λ (s : Stage). MayBeginPhase phases.Save s) (sym e) tt
 
 pub pass_over-requires-clause-way : goal.pass_over-requires-clause-way
 pass_over-requires-clause-way g c = ((view c.args.pass.now), [], waiting-all c.as_slice-list.result.now c.waiting-stages.result (view c.args.pass.now) c.requires.home (λ n b. c.waiting-stages.ensures.waits n))
-
-pub pass_over-requires-clause-begins : goal.pass_over-requires-clause-begins
-pass_over-requires-clause-begins g c n b = may-save c.waiting-stages.result n (c.waiting-stages.ensures.waits n)
 
 pub returns-clause-evicted : goal.returns-clause-evicted
 returns-clause-evicted g c =

@@ -1,26 +1,6 @@
-use Rattle.vm_evict.proofs.Gathering.{each-at}
 use Rattle.vm_evict.proofs.Passing.{back-more, front-more, passed-more, passed-none}
-use Rattle.vm_evict.proofs.Prelude.{arith, IsCandidate, length, length-set, refl, subst, sym, view, ℕ, ◌<◌, ◌∙◌, ◌≡◌, ◌≤◌}
+use Rattle.vm_evict.proofs.Prelude.{arith, length, length-set, refl, view, ◌∙◌}
 use Rattle.vm_evict.proofs.batch.pass_over.Goals as goal
-
--- there is a stage for each candidate
-fits : (n m : ℕ) → n ≤ 64 → m ≡ 64 → n ≤ m
-fits n m few long = omega (arith, few, long)
-
-under : (i n : ℕ) → i < n → n ≤ 64 → i < 64
-under i n below few = omega (arith, below, few)
-
-after-all : (j i n : ℕ) → n ≤ i → j < n → j < i
-after-all j i n le b = omega (arith, le, b)
-
-less : (i j : ℕ) → i < j → i ≤ j
-less i j up = omega (arith, up)
-
-same-le : (i : ℕ) → i ≤ i
-same-le i = omega arith
-
-none-below : (A : Type 0) (j : ℕ) → j < 0 → A
-none-below A j b = absurd (omega (arith, b))
 
 pub loop-i-init : goal.loop-i-init
 loop-i-init g c = record {
@@ -28,18 +8,9 @@ loop-i-init g c = record {
   ready = c.requires.ready;
   passed = λ v done h. passed-none c.args.phase c.args.list.now c.requires.list.apart c.args.stages.now done v (view c.args.pass.now) h;
   long = c.told-stages;
-  front = λ j b. none-below _ j b;
+  front = λ j b. absurd (omega (arith, b));
   back = λ j le b. c.requires.begins j b;
 }
-
-pub advance-requires-clause-candidate : goal.advance-requires-clause-candidate
-advance-requires-clause-candidate g c = each-at (IsCandidate c.args.words.now.table.shared.key.pages) c.args.list.now c.loop-i.i c.loop-i-test.true c.requires.list.each
-
-pub advance-requires-clause-home : goal.advance-requires-clause-home
-advance-requires-clause-home g c = (c.loop-i.invariant.passed c.requires.way.0 c.requires.way.1 c.requires.way.2).after.home
-
-pub advance-requires-clause-begins : goal.advance-requires-clause-begins
-advance-requires-clause-begins g c = c.loop-i.invariant.back c.loop-i.i (same-le c.loop-i.i) c.loop-i-test.true
 
 pub advance-requires-clause-at : goal.advance-requires-clause-at
 advance-requires-clause-at g c = (c.requires.way.0, _, (c.loop-i.invariant.passed c.requires.way.0 c.requires.way.1 c.requires.way.2).after.each c.loop-i.i c.loop-i-test.true)
@@ -48,21 +19,14 @@ pub loop-i-preserved : goal.loop-i-preserved
 loop-i-preserved g c =
     let inv = c.loop-i.invariant in
     let now = inv.passed c.requires.way.0 c.requires.way.1 c.requires.way.2 in
-    let below : c.loop-i.i < 64 = under c.loop-i.i _ c.loop-i-test.true c.requires.few in
     let one = c.advance.ensures.moved c.requires.way.0 _ (now.after.each c.loop-i.i c.loop-i-test.true) in
     record {
       same = (c.advance.ensures.pass.0 ∙ inv.same.0, c.advance.ensures.pass.1 ∙ inv.same.1);
       ready = c.advance.ensures.ready;
       passed = λ v done h.
-          passed-more c.args.phase c.args.list.now c.requires.list.apart c.loop-i.stages done v (view c.loop-i.pass) (inv.passed v done h) c.loop-i.i c.loop-i-test.true (fits _ _ c.requires.few inv.long) c.advance.result (view c.advance.new.pass)
-          (λ all at. c.advance.ensures.moved v all at) (λ j up b. inv.back j (less c.loop-i.i j up) b);
+          passed-more c.args.phase c.args.list.now c.requires.list.apart c.loop-i.stages done v (view c.loop-i.pass) (inv.passed v done h) c.loop-i.i c.loop-i-test.true (omega (arith, c.requires.few, inv.long)) c.advance.result (view c.advance.new.pass)
+          (λ all at. c.advance.ensures.moved v all at) (λ j up b. inv.back j (omega (arith, up)) b);
       long = length-set c.loop-i.stages c.loop-i.i c.advance.result ∙ inv.long;
-      front = front-more c.args.phase c.loop-i.stages c.loop-i.i c.advance.result (subst (λ (n : ℕ). c.loop-i.i < n) (sym inv.long) below) one.ends inv.front;
+      front = front-more c.args.phase c.loop-i.stages c.loop-i.i c.advance.result (omega (arith, c.loop-i-test.true, c.requires.few, inv.long)) one.ends inv.front;
       back = back-more c.args.phase c.loop-i.stages c.loop-i.i c.advance.result (length c.args.list.now) inv.back;
     }
-
-pub returns-clause-ends : goal.returns-clause-ends
-returns-clause-ends g c n b = c.loop-i.invariant.front n (after-all n c.loop-i.i _ c.loop-i-test.false b)
-
-pub returns-clause-way : goal.returns-clause-way
-returns-clause-way g c = (c.requires.way.0, _, (c.loop-i.invariant.passed c.requires.way.0 c.requires.way.1 c.requires.way.2).after)

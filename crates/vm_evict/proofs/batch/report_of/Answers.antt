@@ -1,9 +1,6 @@
 use Rattle.vm_evict.proofs.Ended.{counts-fit, Reports, reports-more, reports-none}
-use Rattle.vm_evict.proofs.Prelude.{arith, length, refl, subst, ℕ, ◌≡◌, ◌≤◌}
+use Rattle.vm_evict.proofs.Prelude.{arith, length, refl, subst, ℕ}
 use Rattle.vm_evict.proofs.batch.report_of.Goals as goal
-
-end : (n m : ℕ) → m ≤ n → n ≤ m → n ≡ m
-end n m ge le = omega (arith, ge, le)
 
 pub loop-i-init : goal.loop-i-init
 loop-i-init c = reports-none c.args.list.now c.args.looks c.args.stages.now c.none-evicted.result c.none-evicted.ensures.report c.none-evicted.ensures.frames
@@ -21,7 +18,7 @@ loop-i-preserved c = reports-more c.loop-i.i c.args.list.now c.args.looks c.args
 
 -- all of them
 all : (c : goal.After-loop-i) → Reports (length c.args.list.now) c.args.list.now c.args.looks c.args.stages.now c.loop-i.evicted
-all c = subst (λ (n : ℕ). Reports n c.args.list.now c.args.looks c.args.stages.now c.loop-i.evicted) (end c.loop-i.i _ c.loop-i-test.false c.loop-i.auto.i-end) c.loop-i.invariant
+all c = subst (λ (n : ℕ). Reports n c.args.list.now c.args.looks c.args.stages.now c.loop-i.evicted) (omega (arith, c.loop-i-test.false, c.loop-i.auto.i-end)) c.loop-i.invariant
 
 pub returns-clause-counts : goal.returns-clause-counts
 returns-clause-counts c = (all c).counts

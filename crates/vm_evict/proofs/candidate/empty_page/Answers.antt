@@ -12,17 +12,14 @@ clear-requires-clause-legal g c =
     let k = owning-there _ _ _ _ _ _ _ c.requires.at.2.1 _ _ c.tload-translation.ensures.told c.in-Some.frame (sym c.frame.ensures ∙ c.in-Some.is) in
     (c.in-Some.frame, may-clear _ _ _ _ _ _ _ k _ _ c.tload-translation.ensures.told _ c.disown.ensures.told)
 
-pub returns-clause-ready : goal.returns-clause-ready
-returns-clause-ready g c =
-    let k = owning-there _ _ _ _ _ _ _ c.requires.at.2.1 _ _ c.tload-translation.ensures.told c.in-Some.frame (sym c.frame.ensures ∙ c.in-Some.is) in
-    let now = emptied-so _ _ _ _ _ _ _ k _ _ c.tload-translation.ensures.told _ c.disown.ensures.told _
-    (c.clear.ensures.told c.in-Some.frame (may-clear _ _ _ _ _ _ _ k _ _ c.tload-translation.ensures.told _ c.disown.ensures.told)) in
-    ready-after _ _ _ c.args.pass.now c.clear.new.pass c.args.p _
-    (c.clear.ensures.pass.0 ∙ c.disown.ensures.pass.0 ∙ c.tload-translation.ensures.pass.0, c.clear.ensures.pass.1 ∙ c.disown.ensures.pass.1 ∙ c.tload-translation.ensures.pass.1)
-    now.moves.leaves c.requires.ready
-
 pub returns-clause-moved : goal.returns-clause-moved
 returns-clause-moved g c v done h =
     let k = owning-there _ _ _ _ _ _ _ h.1 _ _ c.tload-translation.ensures.told c.in-Some.frame (sym c.frame.ensures ∙ c.in-Some.is) in
     emptied-so _ _ _ _ _ _ _ k _ _ c.tload-translation.ensures.told _ c.disown.ensures.told _
     (c.clear.ensures.told c.in-Some.frame (may-clear _ _ _ _ _ _ _ k _ _ c.tload-translation.ensures.told _ c.disown.ensures.told))
+
+pub returns-clause-ready : goal.returns-clause-ready
+returns-clause-ready g c =
+    ready-after _ _ _ c.args.pass.now c.clear.new.pass c.args.p _
+    (c.clear.ensures.pass.0 ∙ c.disown.ensures.pass.0 ∙ c.tload-translation.ensures.pass.0, c.clear.ensures.pass.1 ∙ c.disown.ensures.pass.1 ∙ c.tload-translation.ensures.pass.1)
+    (returns-clause-moved g c c.requires.at.0 c.requires.at.1 c.requires.at.2).moves.leaves c.requires.ready

@@ -1,9 +1,6 @@
-use Rattle.vm_evict.proofs.Dropping.{freed-so, may-evict}
+use Rattle.vm_evict.proofs.Dropping.{freed-so}
 use Rattle.vm_evict.proofs.Prelude.{EvictTold, subst, view, ℕ}
 use Rattle.vm_evict.proofs.candidate.leave_page.Goals as goal
-
-pub release_evicted-requires-clause-legal : goal.release_evicted-requires-clause-legal
-release_evicted-requires-clause-legal g c = may-evict c.args.p c.args.word c.args.frame c.args.written c.requires.candidate.marked c.requires.candidate.below c.requires.at.1 c.requires.at.0 (view c.args.pass.now) c.requires.at.2 c.version.result c.version.ensures c.requires.home
 
 pub returns-clause-moved : goal.returns-clause-moved
 returns-clause-moved g c v done h =

@@ -1,9 +1,8 @@
 use Rattle.vm_evict.specs.declared.candidate.Phase.TheVariants as phases
 use Rattle.vm_evict.specs.declared.candidate.Stage.TheVariants as stages
 use Rattle.vm_evict.proofs.{Moving.advances-after, Moving.gives-nothing, Saving.failed-so, Saving.written-so}
-use Rattle.vm_evict.proofs.Locking.{lost-so, share-known, share-quiet, writing}
+use Rattle.vm_evict.proofs.Locking.{lock-now, lost-so, may-unshare, share-known, share-quiet, under-write-back, writing}
 use Rattle.vm_evict.proofs.Prelude.{false, refl, shares, view, ◌∙◌}
-use Rattle.vm_evict.proofs.Taken.{lock-now, may-unshare, under-write-back}
 use Rattle.vm_evict.proofs.candidate.save_marked.Goals as goal
 
 pub returns-in-Lost-clause-moved : goal.returns-in-Lost-clause-moved

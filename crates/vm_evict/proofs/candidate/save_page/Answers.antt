@@ -1,15 +1,12 @@
 use Rattle.vm_evict.specs.declared.candidate.Stage.TheVariants as stages
 use Rattle.vm_evict.proofs.{candidate.save_page.Goals.else-seen-word-via-else-seen-word}
-use Rattle.vm_evict.proofs.{candidate.save_page.Goals.else-seen-word-via-then-seen-word+else-is_none, FlushMarks.not-dirty, Moving.advances-after}
+use Rattle.vm_evict.proofs.{candidate.save_page.Goals.else-seen-word-via-then-seen-word+else-is_none, FlushVisits.not-dirty, Moving.advances-after}
 use Rattle.vm_evict.proofs.{Prelude.refl, Prelude.view}
 use Rattle.vm_evict.proofs.Saving.{clean-so, looked, shares-another, shares-dirty, waits-known, waits-on}
 use Rattle.vm_evict.proofs.candidate.save_page.Goals as goal
 
 pub returns-then-is_none-clause-moved : goal.returns-then-is_none-clause-moved
 returns-then-is_none-clause-moved g c v done h = clean-so g.U.Owner.tied c.args.p c.args.word c.look_silently-seen.result c.tload.result done v (view c.args.pass.now) (view c.look_silently-seen.new.pass) (view c.tload.new.pass) h c.look_silently-seen.ensures.told c.tload.ensures.told c.if-seen-word.true c.requires.candidate.marked (not-dirty _ _ c.dirty_frame-dirty.ensures c.if-is_none.ensures)
-
-pub save_marked-requires-clause-home : goal.save_marked-requires-clause-home
-save_marked-requires-clause-home g c = (looked g.U.Owner.tied c.args.p c.args.word c.look_silently-seen.result c.tload.result c.requires.at.1 c.requires.at.0 (view c.args.pass.now) (view c.look_silently-seen.new.pass) (view c.tload.new.pass) c.requires.at.2 c.look_silently-seen.ensures.told c.tload.ensures.told).moves.home c.requires.home
 
 pub save_marked-requires-clause-at : goal.save_marked-requires-clause-at
 save_marked-requires-clause-at g c = (

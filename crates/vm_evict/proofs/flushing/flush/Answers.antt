@@ -1,36 +1,23 @@
 -- Page after page gives each clause.
 use Rattle.vm_evict.proofs.FlushPages.{flushed-more, flushed-none}
-use Rattle.vm_evict.proofs.Prelude.{arith, done_of, IsFlushedTo, refl, subst, suc, sym, view, ◌+◌, ◌<◌, ◌∙◌, ◌≡◌, ◌≤◌}
+use Rattle.vm_evict.proofs.Prelude.{arith, IsFlushedTo, refl, subst, suc, sym, view, ◌+◌, ◌<◌, ◌∙◌, ◌≡◌}
 use Rattle.vm_evict.proofs.flushing.flush.Goals as goal
 
 pub loop-p-init : goal.loop-p-init
 loop-p-init g c = record { same = (refl, refl); ready = c.requires.ready; flushed = flushed-none (view c.args.pass.now) }
 
-pub visit-requires-clause-home : goal.visit-requires-clause-home
-visit-requires-clause-home g c = c.loop-p.invariant.flushed.aside.out ∙ c.requires.home
-
-pub visit-requires-clause-counts : goal.visit-requires-clause-counts
-visit-requires-clause-counts g c =
-    let counted : done_of c.loop-p.flushed ≤ c.loop-p.p = c.loop-p.invariant.flushed.all in
-    let test = c.loop-p-test.true in
-    let pages = c.args.words.now.shape.2 in
-    omega (arith, counted, test, pages)
-
 pub loop-p-preserved : goal.loop-p-preserved
 loop-p-preserved g c =
-    let next : suc c.loop-p.p ≡ c.loop-p.p + 1 = omega arith in
     let pages : c.args.words.now.pages ≡ (view c.args.pass.now).start.pages = c.args.words.now.shape.0 ∙ sym c.requires.ready.table.is_shape.pages in
     record {
       same = (c.visit.ensures.pass.0 ∙ c.loop-p.invariant.same.0, c.visit.ensures.pass.1 ∙ c.loop-p.invariant.same.1);
       ready = c.visit.ensures.ready;
-      flushed = subst (λ n. IsFlushedTo n c.visit.new.flushed (view c.args.pass.now) (view c.visit.new.pass)) next
+      flushed = subst (λ n. IsFlushedTo n c.visit.new.flushed (view c.args.pass.now) (view c.visit.new.pass)) (let next : suc c.loop-p.p ≡ c.loop-p.p + 1 = omega arith in next)
           (flushed-more _ _ _ _ _ _ (subst (λ n. c.loop-p.p < n) pages c.loop-p-test.true) c.loop-p.invariant.flushed c.visit.ensures.visited);
     }
 
 pub returns-clause-flushed : goal.returns-clause-flushed
 returns-clause-flushed g c =
     let pages : c.args.words.now.pages ≡ (view c.args.pass.now).start.pages = c.args.words.now.shape.0 ∙ sym c.requires.ready.table.is_shape.pages in
-    let most = c.loop-p.auto.p-end in
-    let test = c.loop-p-test.false in
-    let all : c.loop-p.p ≡ c.args.words.now.pages = omega (arith, most, test) in
+    let all : c.loop-p.p ≡ c.args.words.now.pages = omega (arith, c.loop-p.auto.p-end, c.loop-p-test.false) in
     subst (λ n. IsFlushedTo n c.loop-p.flushed (view c.args.pass.now) (view c.loop-p.pass)) (all ∙ pages) c.loop-p.invariant.flushed

@@ -1,9 +1,6 @@
-use Rattle.vm_evict.proofs.FlushMarks.{marked-before, marked-now}
+use Rattle.vm_evict.proofs.FlushVisits.{marked-before}
 use Rattle.vm_evict.proofs.Prelude.{sym, view, ◌∙◌}
 use Rattle.vm_evict.proofs.flushing.mark_page.Goals as goal
 
 pub returns-then-state-eq-MARKED-clause-marks : goal.returns-then-state-eq-MARKED-clause-marks
 returns-then-state-eq-MARKED-clause-marks g c = marked-before c.args.p c.args.word (view c.args.pass.now) (sym c.state.ensures ∙ c.if-state-eq-MARKED.true)
-
-pub returns-clause-marks : goal.returns-clause-marks
-returns-clause-marks g c = marked-now c.args.p c.args.word (view c.args.pass.now) (view c.mark.new.pass) c.mark.result c.mark.ensures.told c.mark.ensures.lost

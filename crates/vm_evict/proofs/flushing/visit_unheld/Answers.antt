@@ -1,8 +1,8 @@
 -- What the steps tell, in the order of the visit: the page that the look is at is one of the table.
-use Rattle.vm_evict.proofs.{FlushMarks.dirty-there, FlushMarks.not-dirty, Writing.still-locked}
-use Rattle.vm_evict.proofs.FlushVisits.{by-load-clean, by-lock-lost, by-mark-lost, by-write, home-front, page-before}
+use Rattle.vm_evict.proofs.FlushVisits.{by-load-clean, by-lock-lost, by-mark-lost, by-write, dirty-there, home-front, not-dirty, page-before}
+use Rattle.vm_evict.proofs.Locking.{lock-now, may-unshare, under-write-back}
 use Rattle.vm_evict.proofs.Prelude.{ap, MARKED, MAX_VERSION, refl, state_of, subst, sym, version-within, word-state, word_of, ℕ, ◌<◌, ◌∙◌, ◌≤◌}
-use Rattle.vm_evict.proofs.Taken.{lock-now, may-unshare, under-write-back}
+use Rattle.vm_evict.proofs.Writing.{still-locked}
 use Rattle.vm_evict.proofs.flushing.visit_unheld.Goals as goal
 
 pub returns-then-is_none-clause-visited : goal.returns-then-is_none-clause-visited

@@ -1,17 +1,6 @@
-use Rattle.vm_evict.proofs.Prelude.{ap, arith, length, ready-after, refl, view, ℕ, ◌∙◌, ◌≡◌, ◌≤◌}
-use Rattle.vm_evict.proofs.Writing.{copied, copies-more, copies-none, reads-same}
+use Rattle.vm_evict.proofs.Prelude.{ap, arith, length, refl, view, ◌∙◌}
+use Rattle.vm_evict.proofs.Writing.{copied, copies-more, copies-none}
 use Rattle.vm_evict.proofs.write.copy_page.Goals as goal
-
-sixty-four : (i : ℕ) → 64 ≤ i → i ≤ 64 → i ≡ 64
-sixty-four i ge le = omega (arith, ge, le)
-
-pub load_at-requires-clause-pass : goal.load_at-requires-clause-pass
-load_at-requires-clause-pass g c =
-    (ready-after _ _ _ c.args.pass.now c.loop-i.pass c.args.p _ c.loop-i.invariant.same c.loop-i.invariant.copies.from.works.leaves c.requires.ready).may
-
-pub load_at-requires-clause-frame : goal.load_at-requires-clause-frame
-load_at-requires-clause-frame g c =
-    reads-same c.args.p (view c.args.pass.now) (view c.loop-i.pass) c.loop-i.invariant.copies.from.works.seat c.loop-i.invariant.copies.from.held ∙ c.requires.frame
 
 pub loop-i-init : goal.loop-i-init
 loop-i-init g c = record { same = (refl, refl); copies = copies-none c.args.p c.zero-page.result (view c.args.pass.now) (ap length c.zero-page.ensures) }
@@ -24,9 +13,6 @@ loop-i-preserved g c = record {
       (copies-more c.args.p c.args.frame c.loop-i.i c.load_at.result c.loop-i.page (view c.args.pass.now) (view c.loop-i.pass) (view c.load_at.new.pass) c.loop-i.invariant.copies c.requires.shared.0 c.requires.shared.1 c.loop-i-test.true c.load_at.ensures.told);
 }
 
-pub returns-clause-ready : goal.returns-clause-ready
-returns-clause-ready g c = ready-after _ _ _ c.args.pass.now c.loop-i.pass c.args.p _ c.loop-i.invariant.same c.loop-i.invariant.copies.from.works.leaves c.requires.ready
-
 pub returns-clause-copied : goal.returns-clause-copied
 returns-clause-copied g c =
-    copied c.args.p c.loop-i.i c.loop-i.page (view c.args.pass.now) (view c.loop-i.pass) (sixty-four c.loop-i.i c.loop-i-test.false c.loop-i.auto.i-end) c.requires.size c.loop-i.invariant.copies
+    copied c.args.p c.loop-i.i c.loop-i.page (view c.args.pass.now) (view c.loop-i.pass) (omega (arith, c.loop-i-test.false, c.loop-i.auto.i-end)) c.requires.size c.loop-i.invariant.copies

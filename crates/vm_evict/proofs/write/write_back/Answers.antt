@@ -1,14 +1,10 @@
 use Rattle.vm_evict.proofs.Prelude.{arith, ready-after, view, ◌∙◌}
 use Rattle.vm_evict.proofs.Writing.{cleaned, copies-frame, copies-shared, copies-size, may-clean, may-come-home, may-raise, may-take-out, refused}
-use Rattle.vm_evict.proofs.Writing.{work-called, work-cleaned, work-gone, work-raised}
+use Rattle.vm_evict.proofs.Writing.{work-called, work-cleaned, work-raised}
 use Rattle.vm_evict.proofs.write.write_back.Goals as goal
 
 pub block_out-block-requires-clause-legal : goal.block_out-block-requires-clause-legal
 block_out-block-requires-clause-legal g c = may-take-out c.args.p c.args.frame c.requires.legal.0 (view c.args.pass.now) c.requires.legal.1
-
-pub copy_page-page-requires-clause-ready : goal.copy_page-page-requires-clause-ready
-copy_page-page-requires-clause-ready g c =
-    ready-after _ _ _ c.args.pass.now c.block_out-block.new.pass c.args.p _ (c.block_out-block.ensures.pass.0, c.block_out-block.ensures.pass.1) (work-gone c.args.p c.args.frame c.requires.legal.0 (view c.args.pass.now) c.requires.legal.1 _ (view c.block_out-block.new.pass) c.block_out-block.ensures.told).leaves c.requires.ready
 
 pub copy_page-page-requires-clause-frame : goal.copy_page-page-requires-clause-frame
 copy_page-page-requires-clause-frame g c = copies-frame c.args.p c.args.frame c.requires.legal.0 (view c.args.pass.now) c.requires.legal.1 _ (view c.block_out-block.new.pass) c.block_out-block.ensures.told
@@ -35,10 +31,6 @@ returns-in-Ok-clause-ready g c =
 
 pub returns-in-Ok-clause-written : goal.returns-in-Ok-clause-written
 returns-in-Ok-clause-written g c v found = cleaned c.args.p c.args.frame v (view c.args.pass.now) found _ (view c.block_out-block.new.pass) c.block_out-block.ensures.told _ (view c.copy_page-page.new.pass) c.copy_page-page.ensures.copied g.B.Block.tells c.requires.ready.table.tells_is _ c.write-wrote.result c.write-wrote.ensures (view c.block_home.new.pass) c.block_home.ensures.told _ c.in-Ok.is _ c.set_clean.ensures.told (omega (arith, c.ranges.frame))
-
-pub raise-requires-clause-pass : goal.raise-requires-clause-pass
-raise-requires-clause-pass g c =
-    (ready-after _ _ _ c.args.pass.now c.block_home.new.pass c.args.p _ (c.block_home.ensures.pass.0 ∙ c.copy_page-page.ensures.pass.0 ∙ c.block_out-block.ensures.pass.0, c.block_home.ensures.pass.1 ∙ c.copy_page-page.ensures.pass.1 ∙ c.block_out-block.ensures.pass.1) (work-called c.args.p c.args.frame c.requires.legal.0 (view c.args.pass.now) c.requires.legal.1 _ (view c.block_out-block.new.pass) c.block_out-block.ensures.told _ (view c.copy_page-page.new.pass) c.copy_page-page.ensures.copied g.B.Block.tells c.requires.ready.table.tells_is _ c.write-wrote.result c.write-wrote.ensures (view c.block_home.new.pass) c.block_home.ensures.told).leaves c.requires.ready).may
 
 pub raise-requires-clause-legal : goal.raise-requires-clause-legal
 raise-requires-clause-legal g c = may-raise c.args.p c.args.frame c.requires.legal.0 (view c.args.pass.now) c.requires.legal.1 _ (view c.block_out-block.new.pass) c.block_out-block.ensures.told _ (view c.copy_page-page.new.pass) c.copy_page-page.ensures.copied g.B.Block.tells c.requires.ready.table.tells_is _ c.write-wrote.result c.write-wrote.ensures (view c.block_home.new.pass) c.block_home.ensures.told _ c.faults-count.ensures

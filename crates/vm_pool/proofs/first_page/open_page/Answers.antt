@@ -1,13 +1,7 @@
 -- The first pass meets the premises of what `bring` promises.
-use Rattle.vm_pool.proofs.FirstPage.{first-home, first-of, first-sure, first-used, has-asked, none-held}
-use Rattle.vm_pool.proofs.Prelude.{arith, length, length-mapped, List, map, Shape, Stored, subst, sym, view, ℕ, ◌<◌, ◌∙◌, ◌≡◌}
+use Rattle.vm_pool.proofs.FirstPage.{first-of, first-sure, has-asked}
+use Rattle.vm_pool.proofs.Prelude.{ap, AreHeld, arith, length, length-mapped, List, map, Shape, Stored, subst, sym, view, ℕ, ◌<◌, ◌∙◌, ◌≡◌}
 use Rattle.vm_pool.proofs.first_page.open_page.Goals as goal
-
-pub start-requires : goal.start-requires
-start-requires g c = record { pages = c.requires.pages; fits = c.requires.fits; begins = c.requires.begins }
-
-pub new-iface-requires : goal.new-iface-requires
-new-iface-requires g c = (omega arith, omega arith)
 
 pub bring-answer-requires : goal.bring-answer-requires
 bring-answer-requires g c =
@@ -15,9 +9,9 @@ bring-answer-requires g c =
     let mapped : length blocks ≡ length c.args.blocks.items = length-mapped g.B.Block.stored c.args.blocks.items in
     let made = c.in_ok-pool.ensures in
     record {
-      ready = record { may = (made.pass, first-used _ _ _ _ blocks _ made.view); table = first-of _ _ _ _ blocks _ made.view _ made.key };
-      home = first-home _ _ _ _ blocks _ made.view;
-      frames = none-held (view c.in_ok-pool.pass) c.new-iface.result.frames c.new-iface.ensures.2;
+      ready = record { may = (made.pass, subst (λ x. 0 < length x.used) (sym made.view) (omega arith)); table = first-of _ _ _ _ blocks _ made.view _ made.key };
+      home = ap (λ x. x.out) made.view;
+      frames = subst (λ (l : List ℕ). AreHeld l (view c.in_ok-pool.pass)) (sym c.new-iface.ensures.2) record { apart = tt; inside = tt; held = tt };
       page = subst (λ (s : Shape). c.args.pid < s.pages) (sym made.key) (subst (λ (n : ℕ). c.args.pid < n) (c.requires.pages ∙ sym mapped) c.requires.page);
     }
 

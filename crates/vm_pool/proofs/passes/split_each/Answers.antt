@@ -1,6 +1,5 @@
 use Rattle.vm_pool.proofs.Prelude.{[], All, all-snoc, ap, arith, cut-length, if◌then◌else◌, is_ok, IsReady, length, length-append, map, map-append}
-use Rattle.vm_pool.proofs.Prelude.{new-number, PassesSplit, ready-as, split-step, subst, sym, true, vec_capacity, vec_len, view, ◌++◌, ◌+◌, ◌<◌, ◌∙◌}
-use Rattle.vm_pool.proofs.Prelude.{◌∷◌, ◌≡◌, ◌≤◌}
+use Rattle.vm_pool.proofs.Prelude.{new-number, PassesSplit, ready-as, split-step, subst, sym, true, vec_len, view, ◌++◌, ◌+◌, ◌<◌, ◌∙◌, ◌∷◌, ◌≡◌}
 use Rattle.vm_pool.proofs.passes.split_each.Goals as goal
 
 pub loop-i-preserved : goal.loop-i-preserved
@@ -9,16 +8,9 @@ loop-i-preserved g c =
     let same = c.split_pass.ensures.pass in
     let kept = c.split_pass.ensures.kept in
     let given = c.split_pass.ensures.given in
-    let inside : c.loop-i.i < c.args.n = c.loop-i-test.true in
-    let parts : c.args.n ≤ length (view c.args.pass.now).fresh = c.requires.parts in
-    let sum : c.loop-i.i + length (view c.loop-i.pass).fresh ≡ length (view c.args.pass.now).fresh = inv.5 in
-    let room : 0 < length (view c.loop-i.pass).fresh = omega (arith, inside, parts, sum) in
-    let count : vec_len c.loop-i.given ≡ c.loop-i.i = inv.7 in
-    let capacity : c.args.n ≤ vec_capacity c.loop-i.given = inv.6 in
-    let more : vec_capacity c.loop-i.given ≤ vec_capacity c.push.new.self = c.push.ensures.capacity in
-    let done : is_ok c.push.result ≡ true = c.push.ensures.succeeds (omega (arith, inside, count, capacity)) in
+    let room : 0 < length (view c.loop-i.pass).fresh = omega (arith, c.loop-i-test.true, c.requires.parts, inv.5) in
+    let done : is_ok c.push.result ≡ true = c.push.ensures.succeeds (omega (arith, c.loop-i-test.true, inv.7, inv.6)) in
     let items = c.push.ensures.items ∙ ap (λ y. if y then c.loop-i.given.items ++ c.split_pass.result ∷ [] else c.loop-i.given.items) done in
-    let long : length c.loop-i.given.items ≡ c.loop-i.i = inv.4 in
     let longer : length c.push.new.self.items ≡ length c.loop-i.given.items + 1 = ap length items ∙ length-append c.loop-i.given.items (c.split_pass.result ∷ []) in
     let cut : length (view c.split_pass.new.pass).fresh + 1 ≡ length (view c.loop-i.pass).fresh = ap (λ u. length u.fresh + 1) kept ∙ cut-length (view c.loop-i.pass).fresh room in (
       (same.0 ∙ inv.0.0, same.1 ∙ inv.0.1),
@@ -29,8 +21,8 @@ loop-i-preserved g c =
       subst (All (λ p. IsReady c.args.words.now.table.shared.key g.B.Block.tells c.args.words.now.table.shared.table_id p)) (sym items)
           (all-snoc (λ p. IsReady c.args.words.now.table.shared.key g.B.Block.tells c.args.words.now.table.shared.table_id p) c.loop-i.given.items c.split_pass.result inv.3
           (ready-as _ _ _ c.loop-i.pass c.split_pass.result inv.1 (c.split_pass.ensures.table ∙ sym inv.1.may.0) (subst (λ u. 0 < length u.used) (sym given) (new-number (view c.loop-i.pass) room)) (ap (λ u. u.start) given))),
-      omega (arith, long, longer),
-      omega (arith, sum, cut),
-      omega (arith, capacity, more),
-      c.push.ensures.len ∙ ap (λ y. if y then vec_len c.loop-i.given + 1 else vec_len c.loop-i.given) done ∙ ap (λ n. n + 1) count,
+      omega (arith, inv.4, longer),
+      omega (arith, inv.5, cut),
+      omega (arith, inv.6, c.push.ensures.capacity),
+      c.push.ensures.len ∙ ap (λ y. if y then vec_len c.loop-i.given + 1 else vec_len c.loop-i.given) done ∙ ap (λ n. n + 1) inv.7,
     )

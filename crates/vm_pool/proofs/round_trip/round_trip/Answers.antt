@@ -1,32 +1,18 @@
 -- The release made the draft the page's last words; the sweep, the second bringing and the read left them so. A pass that is alone has each call
 -- succeed, by what the calls before told it of the page.
-use Rattle.vm_pool.proofs.{Asking.answered-free, Asking.when-free, Keeping.keeps-alone, OnePage.no-fault}
-use Rattle.vm_pool.proofs.Prelude.{ap, arith, at, draft_of, false≢true, held-on, IfSome_then, is_readable, IsAlone, IsKnownFree, IsOk, known_version}
-use Rattle.vm_pool.proofs.Prelude.{known_word, last_of, length, List, MAX_VERSION, Origin, slice_set, state_of, subst, sym, true, version_of, view, ℕ}
-use Rattle.vm_pool.proofs.Prelude.{◌+◌, ◌<◌, ◌∙◌, ◌≡◌, ◌≤◌}
+use Rattle.vm_pool.proofs.{Keeping.keeps-alone, Knowing.answered-free, Knowing.when-free, OnePage.no-fault}
+use Rattle.vm_pool.proofs.Prelude.{ap, arith, at, draft_of, false≢true, IfSome_then, is_readable, IsAlone, IsKnownFree, IsOk, known_version, known_word}
+use Rattle.vm_pool.proofs.Prelude.{last_of, length, List, MAX_VERSION, Origin, slice_set, state_of, subst, sym, true, version_of, view, ℕ, ◌+◌, ◌<◌, ◌∙◌, ◌≡◌}
+use Rattle.vm_pool.proofs.Prelude.{◌≤◌}
 use Rattle.vm_pool.proofs.RoundTrip.{first-locks, reads-again, same-version, set-words, some-is, steady-alone, word-back}
 use Rattle.vm_pool.proofs.round_trip.round_trip.Goals as goal
 
-pub returns-in_default-clause-held : goal.returns-in_default-clause-held
-returns-in_default-clause-held g c =
-    let steady = c.in_default.ensures.denied.quiet.steady in
-    held-on _ (view c.bring.new.pass) (view c.take.new.pass) c.bring.ensures.held steady.start steady.frames.0
-
 pub returns-in_default-clause-sure : goal.returns-in_default-clause-sure
 returns-in_default-clause-sure g c can =
-    let low : known_version (view c.args.pass.now) c.args.pid + 3 < MAX_VERSION = can.below in
     let v0 = view c.args.pass.now in
     let v1 = view c.bring.new.pass in
-    let below : known_version v0 c.args.pid < MAX_VERSION = omega (arith, low) in
-    let locks = first-locks _ c.args.pid _ _ v0 v1 c.bring.result can.good below (c.bring.ensures.sure c.requires.alone can.out can.free) (when-free _ c.args.pid _ _ v0 v1 c.bring.result can.free (c.bring.ensures.table c.requires.alone)) in
-    absurd (false≢true (subst (λ r. IsOk r) c.in_default.is (c.take.ensures.sure (keeps-alone c.bring.ensures.keeps c.requires.alone) locks.0 (omega (arith, low, locks.1)))))
-
-pub sweep-requires-clause-frames : goal.sweep-requires-clause-frames
-sweep-requires-clause-frames g c =
-    let taken = c.in-Ok.ensures.taken.1.elsewhere.steady in
-    let is = c.set.ensures.set.elsewhere.steady in
-    let released = c.release.ensures.released.elsewhere.steady in
-    held-on _ (view c.bring.new.pass) (view c.release.new.pass) c.bring.ensures.held (released.start ∙ is.start ∙ taken.start) (released.frames.0 ∙ is.frames.0 ∙ taken.frames.0)
+    let locks = first-locks _ c.args.pid _ _ v0 v1 c.bring.result can.good (omega (arith, can.below)) (c.bring.ensures.sure c.requires.alone can.out can.free) (when-free _ c.args.pid _ _ v0 v1 c.bring.result can.free (c.bring.ensures.table c.requires.alone)) in
+    absurd (false≢true (subst (λ r. IsOk r) c.in_default.is (c.take.ensures.sure (keeps-alone c.bring.ensures.keeps c.requires.alone) locks.0 (omega (arith, can.below, locks.1)))))
 
 pub returns-clause-word : goal.returns-clause-word
 returns-clause-word g c =
@@ -38,11 +24,10 @@ returns-clause-word g c =
     let words : (last_of (view c.release.new.pass) c.args.pid).words ≡ slice_set draft c.args.i c.args.w =
     set-words c.args.pid c.args.i c.args.w c.in-Ok.guard.pid c.set.new.self.pid _ _ _ _ (view c.take.new.pass) (view c.set.new.pass) (view c.release.new.pass) taken.0 same c.set.ensures.set c.release.ensures.released in
     let long : length draft ≡ 64 = taken.1.holding.size in
-    let inside : c.args.i < 64 = c.requires.page.1 in
     IfSome_then c.read_word.result c.read_word.ensures.word
     (λ x is.
     is c.requires.tells
-    ∙ word-back c.args.pid c.args.i c.args.w draft (view c.release.new.pass) (view c.sweep.new.pass) (view c.bring-2.new.pass) (view c.read_word.new.pass) alone words (omega (arith, long, inside)) c.sweep.ensures.keeps c.bring-2.ensures.keeps c.read_word.ensures.alone)
+    ∙ word-back c.args.pid c.args.i c.args.w draft (view c.release.new.pass) (view c.sweep.new.pass) (view c.bring-2.new.pass) (view c.read_word.new.pass) alone words (omega (arith, long, c.requires.page.1)) c.sweep.ensures.keeps c.bring-2.ensures.keeps c.read_word.ensures.alone)
 
 pub returns-clause-sure : goal.returns-clause-sure
 returns-clause-sure g c can =
@@ -77,6 +62,3 @@ returns-clause-sure g c can =
     (subst (λ (o : Origin). at 0 o.bounds p ≡ 0) (sym start-then) can.good) c.sweep.ensures.swept c.sweep.ensures.keeps c.bring-2.ensures.sure c.bring-2.ensures.table in
     let last : IsAlone v6 = keeps-alone c.bring-2.ensures.keeps (keeps-alone c.sweep.ensures.keeps alone) in
     some-is c.read_word.result c.args.w (c.read_word.ensures.sure last reads) (returns-clause-word g c)
-
-pub returns-clause-held : goal.returns-clause-held
-returns-clause-held g c = held-on _ (view c.bring-2.new.pass) (view c.read_word.new.pass) c.bring-2.ensures.held c.read_word.ensures.frames.0 c.read_word.ensures.frames.1

@@ -1,14 +1,13 @@
 use Rattle.vm_step.proofs.Together.{each-at}
 use Rattle.vm_pool.proofs.FirstPage.{first-alone}
-use Rattle.vm_pool.proofs.Prelude.{ap, arith, holds-none, HoldsNoPage, length, new-nothing, numbers-length, refl, split-current, split-still}
-use Rattle.vm_pool.proofs.Prelude.{still-nothing, subst, sym, view, whole-again, ◌∙◌, ◌≡◌, ◌≤◌}
+use Rattle.vm_pool.proofs.Prelude.{ap, arith, holds-none, HoldsNoPage, length, new-nothing, numbers-length, refl, split-still, still-nothing, subst, sym}
+use Rattle.vm_pool.proofs.Prelude.{view, whole-again, ◌∙◌, ◌≡◌}
 use Rattle.vm_pool.proofs.whole_again.split_and_join.Goals as goal
 
 pub split-requires-clause-parts : goal.split-requires-clause-parts
 split-requires-clause-parts g c =
     let many : length (view c.in_ok-pool.pass).fresh ≡ 4294967295 = ap (λ u. length u.fresh) c.in_ok-pool.ensures.view ∙ numbers-length 1 4294967295 in
-    let fits : c.args.n ≤ 4294967295 = c.requires.parts in
-    omega (arith, many, fits)
+    omega (arith, many, c.requires.parts)
 
 pub join_each-requires-clause-nothing : goal.join_each-requires-clause-nothing
 join_each-requires-clause-nothing g c k d l = let new = each-at _ (λ p. view p) c.in_ok-given.given.items c.in_ok-given.ensures.split.each k d l in holds-none _ (new-nothing _ _ _ _ _ new.new)
@@ -19,6 +18,3 @@ close-requires-clause-whole g c = whole-again _ _ _ _ _ c.in_ok-given.ensures.sp
 pub close-requires-clause-holds : goal.close-requires-clause-holds
 close-requires-clause-holds g c =
     c.join_each.ensures.joined.nothing (still-nothing _ _ (split-still _ _ _ c.in_ok-given.ensures.split) (subst HoldsNoPage (sym c.in_ok-pool.ensures.view) (record { shares = λ p. refl; exclusive = λ p. refl; writing = λ p. refl; out = refl })))
-
-pub close-requires-clause-current : goal.close-requires-clause-current
-close-requires-clause-current g c = c.join_each.ensures.joined.current (split-current _ _ _ c.in_ok-given.ensures.split)

@@ -1,11 +1,8 @@
 use Rattle.vm_pool.specs.Brings.{IsBring as is_bring}
-use Rattle.vm_pool.proofs.Asking.{answered-free, knows-asked}
+use Rattle.vm_pool.proofs.Knowing.{answered-free, knows-asked}
 use Rattle.vm_pool.proofs.Keeping.{fetches-keeps, framed-keeps, keeps-then}
-use Rattle.vm_pool.proofs.Prelude.{Err, Fetches, Gets, Ok, subst, sym, view, ◌<◌, ◌∙◌}
+use Rattle.vm_pool.proofs.Prelude.{Err, Fetches, Gets, Ok, subst, sym, view, ◌<◌}
 use Rattle.vm_pool.proofs.pool.Pool.bring.Goals as goal
-
-pub bring_into-requires-clause-home : goal.bring_into-requires-clause-home
-bring_into-requires-clause-home g c = (framed-keeps _ _ _ _ _ _ _ _ (Ok _) c.in-Ok.ensures.framed).out ∙ c.requires.home
 
 pub returns-in-Ok-clause-answer : goal.returns-in-Ok-clause-answer
 returns-in-Ok-clause-answer g c =

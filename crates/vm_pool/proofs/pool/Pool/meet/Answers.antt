@@ -8,6 +8,4 @@ returns-clause-met g c =
 
 pub returns-clause-have : goal.returns-clause-have
 returns-clause-have g c =
-    have-met (view c.args.pass.now) (view c.args.other.now) _ _
-    (meets-then (view c.args.pass.now) (view c.args.other.now) _ _ (view c.hear_pass.new.pass) _ _ _
-    c.split_pass-theirs.ensures.kept c.split_pass-theirs.ensures.given c.hear_pass.ensures.told c.split_pass-mine.ensures.kept c.split_pass-mine.ensures.given c.follow_pass.ensures.told)
+    have-met (view c.args.pass.now) (view c.args.other.now) _ _ (returns-clause-met g c)
