@@ -1,17 +1,15 @@
 -- The rule after one step of a pass.
 use mathlib.Core.Option as maybe
-use Rattle.vm_rule.proofs.{Facts.blocks-still, Found.outside-here, Found.seat-here, Runs.event_law, Were.were-did, Were.were-moves, Worlds.draft-is}
-use Rattle.vm_rule.proofs.{Worlds.last-is}
+use Rattle.vm_rule.proofs.{Facts.blocks-still, Heard.Added, Heard.added, Heard.each-both, Heard.has-part, Heard.next-both, Heard.starts-more, Runs.event_law}
+use Rattle.vm_rule.proofs.{Views.at-bound, Views.at-there, Views.block-same, Views.set-each, Were.were-did, Were.were-moves, Worlds.draft-is, Worlds.last-is}
 use Rattle.vm_rule.proofs.Entries.{append-none, each-map, entries-both, entries-none, entries-within, mine-in, not-whole, starts-self, total-same}
-use Rattle.vm_rule.proofs.Heard.{Added, added, each-both, has-part, next-both, starts-more}
+use Rattle.vm_rule.proofs.Found.{outside-here, seat-here}
 use Rattle.vm_rule.proofs.Known.{any-gone, histories-outside, known-else, tie-moves, translation-moves}
-use Rattle.vm_rule.proofs.Prelude.{[], ap, append_assoc, arith, began_of, block_of, Bool, cases_Bool, Did, Each, entries_by, Entry, Event, EVICTED}
-use Rattle.vm_rule.proofs.Prelude.{false, FaultsFit, get_elem?, has, inl, Inv, is_pending, IsWhole, Kept, KnowsLists, KnowsPages, last_in, Leaves}
-use Rattle.vm_rule.proofs.Prelude.{length, List, listed, Option, Origin, owns, Page, PARTS, PartsFit, refl, Release, Ruled, set_here, slice_set}
-use Rattle.vm_rule.proofs.Prelude.{snapshot_of, some, spent, Start, Stored, subst, sym, Table, Tie, TieHolds, times, times_noted, TranslationHolds}
-use Rattle.vm_rule.proofs.Prelude.{true, true≢false, View, WereWords, World, world_after, world_of, ℕ, ⊎_elim, ◌++◌, ◌+◌, ◌<◌, ◌∙◌, ◌∷◌, ◌≡◌, ◌≢◌}
-use Rattle.vm_rule.proofs.Prelude.{◌≤◌}
-use Rattle.vm_rule.proofs.Views.{at-bound, at-there, block-same, set-each}
+use Rattle.vm_rule.proofs.Prelude.{[], ap, append_assoc, arith, began_of, block_of, Bool, cases_Bool, Did, Each, entries_by, Entry, Event, EVICTED, false}
+use Rattle.vm_rule.proofs.Prelude.{FaultsFit, get_elem?, has, inl, Inv, is_pending, IsWhole, Kept, KnowsLists, KnowsPages, last_in, Leaves, length, List}
+use Rattle.vm_rule.proofs.Prelude.{listed, Option, Origin, owns, Page, PARTS, PartsFit, refl, Release, Ruled, set_here, slice_set, snapshot_of, some, spent}
+use Rattle.vm_rule.proofs.Prelude.{Start, Stored, subst, sym, Table, Tie, TieHolds, times, times_noted, TranslationHolds, true, true≢false, View, WereWords}
+use Rattle.vm_rule.proofs.Prelude.{World, world_after, world_of, ℕ, ⊎_elim, ◌++◌, ◌+◌, ◌<◌, ◌∙◌, ◌∷◌, ◌≡◌, ◌≢◌, ◌≤◌}
 pub use Rattle.vm_rule.proofs.Showing.{after_more, became_more, world_more, ShowsMore, became, after_step, Shows}
 
 module _ {X B : Type 0} (stored : B → Stored) (keeps : Start → Kept X → Type 0) (tied : Start → ℕ → List ℕ → ℕ → List ℕ → Type 0) (start : Origin) (tells : Bool) where

@@ -3,10 +3,9 @@ use mathlib.Core.Option as maybe
 use Rattle.atomic_table.specs.Table.{keeps as stays}
 use Rattle.vm_rule.specs.declared.view.Place.TheVariants as places
 use Rattle.vm_rule.proofs.{Bringing.rested, Found.same-word, Sound.is-sound, StartedRule.only-view}
-use Rattle.vm_rule.proofs.Prelude.{[], Allows, ap, arith, begin_play, begun, block_of, Bool, brought, Did, did_load, first_view, get_elem?, HasShape}
-use Rattle.vm_rule.proofs.Prelude.{inl, Kept, length, List, listed, Me, NLoad, Option, Origin, refl, Ruled, Shape, slice_index, slice_set}
-use Rattle.vm_rule.proofs.Prelude.{snapshot_of, some, Stands, Start, step, Stored, subst, suc, sym, Table, unborn, View, zero, ℕ, ⊎_elim, ◌++◌, ◌∙◌}
-use Rattle.vm_rule.proofs.Prelude.{◌∷◌, ◌≡◌, ◌≤◌}
+use Rattle.vm_rule.proofs.Prelude.{[], Allows, ap, arith, begin_play, begun, block_of, Bool, brought, Did, did_load, first_view, get_elem?, HasShape, inl}
+use Rattle.vm_rule.proofs.Prelude.{Kept, length, List, listed, Me, NLoad, Option, Origin, refl, Ruled, Shape, slice_index, slice_set, snapshot_of, some}
+use Rattle.vm_rule.proofs.Prelude.{Stands, Start, step, Stored, subst, suc, sym, Table, unborn, View, zero, ℕ, ⊎_elim, ◌++◌, ◌∙◌, ◌∷◌, ◌≡◌, ◌≤◌}
 use Rattle.vm_rule.proofs.Resettling.{HasSome, KnowsHistory, KnowsReleases}
 
 only-place : {A : Type 0} (x : A) (j : ℕ) (y : A) → get_elem? (x ∷ []) j ≡ some y → j ≡ 0

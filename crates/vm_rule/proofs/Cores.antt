@@ -1,13 +1,11 @@
 -- A step of one pass on one word of the table: the core that is read changes as by the event.
 use Rattle.vm_rule.specs.declared.view.Place.TheVariants as places
+use Rattle.vm_rule.proofs.{Parts.frame-written, Parts.words-written, Views.at-there, Views.block-same, Views.field-still, Views.views-set}
 use Rattle.vm_rule.proofs.Pages.{page-changed, page-in, put-column}
-use Rattle.vm_rule.proofs.Parts.{frame-written, words-written}
-use Rattle.vm_rule.proofs.Prelude.{[], ap, at, block_of, Bool, core_from, core_shown, frames_held, fun_ext, get_elem?, has, index_of, length}
-use Rattle.vm_rule.proofs.Prelude.{length-set, List, loads_at, loads_of, mapping_of, no_seat, on_page, Option, Origin, page_from, pages_from, Place}
-use Rattle.vm_rule.proofs.Prelude.{put, put_at, refl, Seat, seat_of, seats_of, slice_set, some, spent, State, state_of, Stored, stored_at, sym, Table}
-use Rattle.vm_rule.proofs.Prelude.{table_words, upd, upd-map, upd-other, upd-same, version_of, View, width, with_word, Within, Words, ℕ, ◌<◌, ◌∙◌}
-use Rattle.vm_rule.proofs.Prelude.{◌≡◌}
-use Rattle.vm_rule.proofs.Views.{at-there, block-same, field-still, views-set}
+use Rattle.vm_rule.proofs.Prelude.{[], ap, at, block_of, Bool, core_from, core_shown, frames_held, fun_ext, get_elem?, has, index_of, length, length-set, List}
+use Rattle.vm_rule.proofs.Prelude.{loads_at, loads_of, mapping_of, no_seat, on_page, Option, Origin, page_from, pages_from, Place, put, put_at, refl, Seat}
+use Rattle.vm_rule.proofs.Prelude.{seat_of, seats_of, slice_set, some, spent, State, state_of, Stored, stored_at, sym, Table, table_words, upd, upd-map}
+use Rattle.vm_rule.proofs.Prelude.{upd-other, upd-same, version_of, View, width, with_word, Within, Words, ℕ, ◌<◌, ◌∙◌, ◌≡◌}
 
 module _ {X : Type 0} where
   -- what the pass has of page p changes

@@ -1,12 +1,11 @@
 -- What the rule says of who holds a page, of the blocks, and of the members still to be released.
 use mathlib.Core.Option as maybe
-use Rattle.vm_rule.proofs.Found.{seat-here}
+use Rattle.vm_rule.proofs.{Found.seat-here, Views.at-bound, Views.block-same, Views.out-same, Views.set-each}
 use Rattle.vm_rule.proofs.Prelude.{[], any, ap, arith, at, BlocksFit, Bool, cases_Bool, cases_eq, core_shown, false, false≢true, get_elem?, has}
-use Rattle.vm_rule.proofs.Prelude.{has-without_other, has-without_same, if◌then◌else◌, is_pending, Kept, length, List, LOCKED, locked-from_owner}
-use Rattle.vm_rule.proofs.Prelude.{LocksInv, may_call, OneHolder, Option, Origin, Out, owns, Page, refl, Ruled, Seat, seat_of, shared-state}
-use Rattle.vm_rule.proofs.Prelude.{slice_set, slot_of, Some, some, Start, Stored, suc, sum_below, sum_below-at, sym, Table, true, true≢false, upd}
-use Rattle.vm_rule.proofs.Prelude.{upd-other, upd-same, View, without, zero, ℕ, ⊎_elim, ◌<◌, ◌||◌, ◌∙◌, ◌∷◌, ◌≡◌, ◌≢◌, ◌≤◌}
-use Rattle.vm_rule.proofs.Views.{at-bound, block-same, out-same, set-each}
+use Rattle.vm_rule.proofs.Prelude.{has-without_other, has-without_same, if◌then◌else◌, is_pending, Kept, length, List, LOCKED, locked-from_owner, LocksInv}
+use Rattle.vm_rule.proofs.Prelude.{may_call, OneHolder, Option, Origin, Out, owns, Page, refl, Ruled, Seat, seat_of, shared-state, slice_set, slot_of, Some}
+use Rattle.vm_rule.proofs.Prelude.{some, Start, Stored, suc, sum_below, sum_below-at, sym, Table, true, true≢false, upd, upd-other, upd-same, View, without}
+use Rattle.vm_rule.proofs.Prelude.{zero, ℕ, ⊎_elim, ◌<◌, ◌||◌, ◌∙◌, ◌∷◌, ◌≡◌, ◌≢◌, ◌≤◌}
 pub use Rattle.vm_owner.proofs.NumberLemmas.{has-both}
 
 -- ---- lists of numbers

@@ -1,26 +1,20 @@
 -- The world that is read after a step on a translation word, a fault word, a frame that a pass holds, a bundle word, the next word or the
 -- hand: it is the world after the event.
 use Rattle.std.proofs.Common.{eq-eqb, ne_eqb}
-use Rattle.vm_core.specs.Inv.{Place as Standing}
 use Rattle.vm_rule.specs.declared.view.Place.TheVariants as places
 use Rattle.vm_rule.specs.declared.view.Release.{Release as Released}
-use Rattle.vm_rule.proofs.{Found.held-here, Parts.upd-is}
-use Rattle.vm_rule.proofs.Cores.{core-bundle, core-fault, core-hand, core-next, core-owner, core-step, core-translation, held-put, held-still}
-use Rattle.vm_rule.proofs.Cores.{loads-still, seats-still}
-use Rattle.vm_rule.proofs.Prelude.{ap, at_actor, at_page, bit_or, bit_xor, block_of, Bool, changed_at, Claim, Clean, Clear, core_from, core_shown}
-use Rattle.vm_rule.proofs.Prelude.{Dirty, false, frame_of, frames_held, fun_ext, gains, get_elem?, Give, given_by, Hand, hand_more, has, held-place}
-use Rattle.vm_rule.proofs.Prelude.{histories_of, if◌then◌else◌, in_mask, Install, Inv, length, List, Mapping, mapping_of, None, on_page, Option}
-use Rattle.vm_rule.proofs.Prelude.{Origin, owned, Place, Raise, refl, seats_of, slice_set, Some, some, stands_in, State, Store, Stored, sym, Table}
-use Rattle.vm_rule.proofs.Prelude.{table_words, Take, taken_by, true, upd, View, width, with_dirty, with_word, Within, World, world_after, world_of}
-use Rattle.vm_rule.proofs.Prelude.{ℕ, ◌+◌, ◌<◌, ◌∙◌, ◌≡◌, ◌≢◌}
-use Rattle.vm_rule.proofs.Worlds.{store-core, stores-else, worlds-same, wrote}
+use Rattle.vm_rule.proofs.{Found.held-here, Parts.upd-is, Worlds.store-core, Worlds.stores-else, Worlds.worlds-same, Worlds.wrote}
+use Rattle.vm_rule.proofs.Cores.{core-bundle, core-fault, core-hand, core-next, core-owner, core-step, core-translation, held-put, held-still, loads-still}
+use Rattle.vm_rule.proofs.Cores.{seats-still}
+use Rattle.vm_rule.proofs.Prelude.{ap, at_page, bit_or, bit_xor, block_of, Bool, changed_at, Claim, Clean, Clear, core_from, core_shown, Dirty, false, frame_of}
+use Rattle.vm_rule.proofs.Prelude.{frames_held, fun_ext, gains, get_elem?, Give, given_by, Hand, hand_more, has, held-place, histories_of, if◌then◌else◌}
+use Rattle.vm_rule.proofs.Prelude.{in_mask, Install, Inv, length, List, Mapping, mapping_of, None, on_page, Option, Origin, owned, Place, Raise, refl, seats_of}
+use Rattle.vm_rule.proofs.Prelude.{slice_set, Some, some, stands_in, State, Store, Stored, sym, Table, table_words, Take, taken_by, true, upd, View, width}
+use Rattle.vm_rule.proofs.Prelude.{with_dirty, with_word, Within, World, world_after, world_of, ℕ, ◌+◌, ◌<◌, ◌∙◌, ◌≡◌, ◌≢◌}
 
 -- a frame that an actor holds stands in no page
-no-page : (x : Standing) (a q : ℕ) → at_actor x a ≡ true → at_page x q ≡ false
-no-page x a q e = ap (λ y. at_page y q) (held-place x a e)
-
 pub stands-nowhere : (w : World) (f a q : ℕ) → Inv w → w.core.held a f ≡ true → stands_in (w.core.pages q).trans f ≡ false
-stands-nowhere w f a q inv e = (inv.frames f).mapped q ∙ no-page (inv.place f) a q (sym ((inv.frames f).holds a) ∙ e)
+stands-nowhere w f a q inv e = (inv.frames f).mapped q ∙ ap (λ y. at_page y q) (held-place (inv.place f) a (sym ((inv.frames f).holds a) ∙ e))
 
 module _ (w : World) (a : ℕ) where
   -- a lost exchange of a bundle word, and of the next word

@@ -1,10 +1,9 @@
 -- A core in which open reads are closed, frames go from one actor to another, and actors come that have nothing: it meets the invariant.
 use Rattle.std.proofs.Common.{eq-eqb, ne_eqb}
 use Rattle.vm_core.specs.Inv.{Place}
-use Rattle.vm_rule.proofs.Prelude.{ap, arith, at_actor, at_free, at_page, Bool, cases_Bool, cases_eq, false, FrameIsAt, Free, Held, held-place}
-use Rattle.vm_rule.proofs.Prelude.{History, if◌then◌else◌, Inv, IsFramePlace, List, LocksInv, Mapped, None, Nowhere, OneHolder, Open, Option, Page}
-use Rattle.vm_rule.proofs.Prelude.{PageInv, ReadInv, Seat, subst, suc, sum_below, sum_below-past, sym, true, World, zero, ℕ, ⊎_elim, ◌+◌, ◌<◌, ◌∙◌}
-use Rattle.vm_rule.proofs.Prelude.{◌≡◌, ◌≢◌, ◌≤◌, ◌⊎◌}
+use Rattle.vm_rule.proofs.Prelude.{ap, arith, at_actor, at_free, at_page, Bool, cases_Bool, cases_eq, false, FrameIsAt, Free, Held, held-place, History, Inv}
+use Rattle.vm_rule.proofs.Prelude.{IsFramePlace, List, LocksInv, Mapped, None, Nowhere, OneHolder, Open, Option, Page, PageInv, ReadInv, Seat, subst, suc}
+use Rattle.vm_rule.proofs.Prelude.{sum_below, sum_below-past, sym, true, World, zero, if◌then◌else◌, ℕ, ⊎_elim, ◌+◌, ◌<◌, ◌∙◌, ◌≡◌, ◌≢◌, ◌≤◌, ◌⊎◌}
 
 -- a seat with the same locks, whose open read is the same with the same loads, or closed
 pub record ReadsLess (s t : Seat) (l m : List (ℕ × ℕ)) : Type 0 where

@@ -1,15 +1,14 @@
 -- A pass takes over all that another one has, which holds no page and is spent then: the table meets the rule. So it does where a pass takes in
 -- another.
 use Rattle.vm_rule.proofs.{Bundled.with_contents-at, Facts.either-way, Gathering.ReadsLess, Heard.each-both, Known.known-with}
-use Rattle.vm_rule.proofs.Entries.{entries-union, has-joined, none-behind, none-left}
-use Rattle.vm_rule.proofs.Prelude.{[], any, ap, arith, at, at_set, Bool, cases_Bool, cases_eq, cases_lt, entries_by, Entry, false, false≢true}
-use Rattle.vm_rule.proofs.Prelude.{get_elem?, has, Hears, HoldsNoPage, if◌then◌else◌, inl, inr, is_pending, joined, Kept, knows_more, KnowsLists}
-use Rattle.vm_rule.proofs.Prelude.{KnowsPages, length, length-set, List, loads_at, lt-ltb, ltb-true, no_seat, Note, Option, Origin, owns, put_at}
-use Rattle.vm_rule.proofs.Prelude.{refl, Ruled, Seat, seat_of, set_else, set_here, slice_set, some, some-injective, spent, Start, Stored, subst, sym}
-use Rattle.vm_rule.proofs.Prelude.{Table, times_noted, total, true, true≢false, upd-other, View, world_of, ℕ, ⊎_elim, ◌++◌, ◌+◌, ◌<◌, ◌||◌, ◌∙◌, ◌∷◌}
-use Rattle.vm_rule.proofs.Prelude.{◌≡◌, ◌≢◌, ◌≤◌, ◌⊎◌}
+use Rattle.vm_rule.proofs.Entries.{entries-union, has-joined, none-each, none-left}
+use Rattle.vm_rule.proofs.Prelude.{[], any, ap, arith, at, at_set, Bool, cases_Bool, cases_eq, cases_lt, entries_by, Entry, false, false≢true, get_elem?, has}
+use Rattle.vm_rule.proofs.Prelude.{Hears, HoldsNoPage, inl, inr, is_pending, joined, Kept, knows_more, KnowsLists, KnowsPages, length, length-set, List}
+use Rattle.vm_rule.proofs.Prelude.{loads_at, lt-ltb, ltb-true, no_seat, Note, Option, Origin, owns, put_at, refl, Ruled, Seat, seat_of, set_else, set_here}
+use Rattle.vm_rule.proofs.Prelude.{slice_set, some, some-injective, spent, Start, Stored, subst, sym, Table, times_noted, total, true, true≢false, upd-other}
+use Rattle.vm_rule.proofs.Prelude.{View, world_of, if◌then◌else◌, ℕ, ⊎_elim, ◌++◌, ◌+◌, ◌<◌, ◌||◌, ◌∙◌, ◌∷◌, ◌≡◌, ◌≢◌, ◌≤◌, ◌⊎◌}
 use Rattle.vm_rule.proofs.Resettling.{fit-now, fit-spent, HasSome, IsFit, KnowsHistory, KnowsReleases, replaced-less, Resettles, seen-all}
-use Rattle.vm_rule.proofs.Resettling.{settled-past, settled-ruled, Settles}
+use Rattle.vm_rule.proofs.Resettling.{settled-ruled, Settles}
 use Rattle.vm_rule.proofs.Views.{any-same, at-bound, at-there, field-still, out-same, total-set, views-set}
 pub use Rattle.vm_rule.proofs.Heard.{times-joined}
 
@@ -93,7 +92,7 @@ module _ {X B : Type 0} (stored : B → Stored) (keeps : Start → Kept X → Ty
   not-held : (p : ℕ) (b : Bool) → (b ≡ true → (seat_of w p).exclusive ≡ true) → false ≡ b
   not-held p b f = ⊎_elim (λ t. absurd (true≢false (sym (f t) ∙ nothing.exclusive p))) (λ n. sym n) (cases_Bool b)
 
-  resettles : Resettles s.views after 0 other id
+  pub resettles : Resettles s.views after 0 other id
   resettles = record {
     count = (let same : length after ≡ length s.views = length-set (slice_set s.views id x) other spent ∙ length-set s.views id x in omega (arith, same));
     apart = λ e. apart (sym e);
@@ -110,7 +109,7 @@ module _ {X B : Type 0} (stored : B → Stored) (keeps : Start → Kept X → Ty
     owed = λ p. twice-any s.views id other v w x spent there apart at-other (λ y. has p y.owed) (ap (has p) ab.owed) (not-held p (has p w.owed) (λ t. (pages.owed p t).0));
   }
 
-  settles : Settles stored keeps tied start tells s r after 0 other id resettles
+  pub settles : Settles stored keeps tied start tells s r after 0 other id resettles
   settles =
       let mine = seen-all stored keeps tied start tells s r v (r.heard id v there live) settled-here in
       let theirs = seen-all stored keeps tied start tells s r w (r.heard other w at-other live') settled-other in
@@ -125,13 +124,8 @@ module _ {X B : Type 0} (stored : B → Stored) (keeps : Start → Kept X → Ty
         history = twice-some s.views id other v w x spent there apart at-other (KnowsHistory stored keeps tied start tells s r) (λ a. ab.history r.history (inl (mine.1 a))) (λ a. ab.history r.history (inr (theirs.1 a))) r.lists.longest;
       }
 
-  pub absorbs-ruled : Ruled stored keeps tied start tells (record { words = s.words; homes = s.homes; views = after })
+  unfoldable pub absorbs-ruled : Ruled stored keeps tied start tells (record { words = s.words; homes = s.homes; views = after })
   absorbs-ruled = settled-ruled stored keeps tied start tells s r after 0 other id resettles settles
-
-  -- the lists and the drafts are as they were
-  pub absorbs-past : (absorbs-ruled.releases ≡ r.releases) × (absorbs-ruled.history ≡ r.history) × (absorbs-ruled.drafts ≡ r.drafts)
-  unfolding absorbs-ruled
-  absorbs-past = settled-past stored keeps tied start tells s r after 0 other id resettles settles
 
 -- ---- lists
 
@@ -163,7 +157,7 @@ module _ {X : Type 0} where
   hears-longer : (h a b : List (Entry X)) (ns ms : List ℕ) (f : Hears h ns a) → Hears h ms b → length b ≤ length a → entries_by ms f.0 ≡ []
   hears-longer h a b ns ms f g le =
       let m = follows a b f.0 g.0 (sym f.1 ∙ g.1) le in
-      none-behind ms m.0 f.0 (ap (entries_by ms) (sym m.1) ∙ g.2)
+      (none-each ms m.0 f.0 (ap (entries_by ms) (sym m.1) ∙ g.2)).1
 
   -- what both heard, with the numbers of both; what the other heard; and which of the two has the whole history
   module _ (h : List (Entry X)) (v w : View X) where
@@ -258,5 +252,5 @@ module _ {X B : Type 0} (stored : B → Stored) (keeps : Start → Kept X → Ty
 
   -- the lists and the drafts are as they were
   pub joins-past : (joins-ruled.releases ≡ r.releases) × (joins-ruled.history ≡ r.history) × (joins-ruled.drafts ≡ r.drafts)
-  unfolding joins-ruled
-  joins-past = absorbs-past stored keeps tied start tells s r id other v w (joined v w) there apart at-other live live' settled-here settled-other nothing (joined-absorbs v w) joined-fit
+  unfolding joins-ruled absorbs-ruled settled-ruled
+  joins-past = (refl, refl, refl)

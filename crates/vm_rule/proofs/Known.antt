@@ -2,12 +2,11 @@
 use Rattle.vm_core.specs.declared.event.Event.TheVariants.{Release}
 use Rattle.vm_rule.specs.declared.view.Release.{Release as Released}
 use Rattle.vm_rule.proofs.{Entries.each-map, Facts.any-here, Facts.any-true, Heard.not-true, Views.at-bound, Were.were-moves}
-use Rattle.vm_rule.proofs.Prelude.{[], any, ap, arith, began_of, Bool, cases_eq, cases_lt, Did, Downgrade, Each, Entry, Event, EVICTED, false, None}
-use Rattle.vm_rule.proofs.Prelude.{get_elem?, has, histories_after, History, IsLocking, KnowsPage, KnowsPages, last_in, Leaves, LeavesActor, Legal}
-use Rattle.vm_rule.proofs.Prelude.{List, LockX, may_call, no_held, Note, Origin, Page, PageMoves, Put, put_at, refl, ReleaseE, Seat, seat_of, Some}
-use Rattle.vm_rule.proofs.Prelude.{set_else, set_here, slice_set, some, some-injective, Start, Store, subst, sym, Tie, TieHolds, Translation}
-use Rattle.vm_rule.proofs.Prelude.{TranslationHolds, true, true≢false, upd-other, Upgrade, Version, View, view_from, WereWords, World, ℕ, ⊎_elim, ◌<◌}
-use Rattle.vm_rule.proofs.Prelude.{none-some, ◌∙◌, ◌≡◌, ◌≤◌}
+use Rattle.vm_rule.proofs.Prelude.{[], any, ap, arith, began_of, Bool, cases_eq, cases_lt, Did, Downgrade, Each, Entry, Event, EVICTED, false, get_elem?, has}
+use Rattle.vm_rule.proofs.Prelude.{histories_after, History, IsLocking, KnowsPage, KnowsPages, last_in, Leaves, LeavesActor, Legal, List, LockX, may_call}
+use Rattle.vm_rule.proofs.Prelude.{no_held, None, none-some, Note, Origin, Page, PageMoves, Put, put_at, refl, ReleaseE, Seat, seat_of, set_else, set_here}
+use Rattle.vm_rule.proofs.Prelude.{slice_set, Some, some, some-injective, Start, Store, subst, sym, Tie, TieHolds, Translation, TranslationHolds, true}
+use Rattle.vm_rule.proofs.Prelude.{true≢false, upd-other, Upgrade, Version, View, view_from, WereWords, World, ℕ, ⊎_elim, ◌<◌, ◌∙◌, ◌≡◌, ◌≤◌}
 
 -- the versions and drafts of a page past the last one, which nobody holds, stay
 pub histories-outside : (w : World) (e : Event) → Legal w.core e → (p : ℕ) → w.core.shape.pages ≤ p → ((a : ℕ) → ((w.core.pages p).seats a).exclusive ≡ false) → histories_after w e p ≡ w.histories p

@@ -1,19 +1,15 @@
 -- A pass takes in another that only knows the two lists, and then takes over what it was told: the table meets the rule.
 use Rattle.vm_rule.specs.declared.view.Place.TheVariants as places
-use Rattle.vm_rule.proofs.{Found.next-here, Heard.each-both, Known.known-with}
-use Rattle.vm_rule.proofs.Entries.{append-none, entries-both, entries-none, none-before, none-behind, total-same}
-use Rattle.vm_rule.proofs.Joining.{Absorbs, absorbs-past, absorbs-ruled}
-use Rattle.vm_rule.proofs.Prelude.{[], ap, append_assoc, append_cancel_left, AreNext, arith, Bool, cases_eq, did_load, entries_by, follower}
-use Rattle.vm_rule.proofs.Prelude.{get_elem?, has, hearer, Hears, HoldsNoPage, HoldsNothing, index_of, inl, is_pending, IsLocking, Kept, KnowsLists}
-use Rattle.vm_rule.proofs.Prelude.{KnowsPages, last_in, length, length-set, List, loads_at, OnlyKnows, Option, Origin, owns, refl, Release, Ruled}
-use Rattle.vm_rule.proofs.Prelude.{Seat, seat_of, set_here, slice_index, slice_set, some, spent, Start, StartsWith, Stored, subst, sym, Table}
-use Rattle.vm_rule.proofs.Prelude.{TakesOver, times, times_noted, true, true≢false, Version, View, WereWords, world_of, ℕ, ⊎_elim, ◌++◌, ◌+◌, ◌||◌}
-use Rattle.vm_rule.proofs.Prelude.{◌∙◌, ◌∷◌, ◌≡◌, ◌≢◌, ◌≤◌}
-use Rattle.vm_rule.proofs.Resettling.{all-told, fit-now, IsFit, keeps-resettles, KnowsHistory, KnowsReleases, Resettles, set-some, settled-ruled}
-use Rattle.vm_rule.proofs.Resettling.{Settles}
-use Rattle.vm_rule.proofs.Sound.{is-sound, never-falls, next-front}
-use Rattle.vm_rule.proofs.Views.{any-same, at-bound, field-still, out-same, set-each}
-use Rattle.vm_rule.proofs.Worlds.{last-else, last-here, last-is}
+use Rattle.vm_rule.proofs.{Found.next-here, Heard.each-both, Known.known-with, Sound.is-sound, Sound.never-falls, Sound.next-front, Views.any-same}
+use Rattle.vm_rule.proofs.{Views.at-bound, Views.field-still, Views.out-same, Views.set-each, Worlds.last-else, Worlds.last-here, Worlds.last-is}
+use Rattle.vm_rule.proofs.Entries.{append-none, entries-both, entries-none, none-each, total-same}
+use Rattle.vm_rule.proofs.Joining.{Absorbs, absorbs-ruled}
+use Rattle.vm_rule.proofs.Prelude.{[], ap, append_assoc, append_cancel_left, AreNext, arith, Bool, cases_eq, did_load, entries_by, follower, get_elem?, has}
+use Rattle.vm_rule.proofs.Prelude.{hearer, Hears, HoldsNoPage, HoldsNothing, index_of, inl, is_pending, IsLocking, Kept, KnowsLists, KnowsPages, last_in}
+use Rattle.vm_rule.proofs.Prelude.{length, length-set, List, loads_at, OnlyKnows, Option, Origin, owns, refl, Release, Ruled, Seat, seat_of, set_here}
+use Rattle.vm_rule.proofs.Prelude.{slice_index, slice_set, some, spent, Start, StartsWith, Stored, subst, sym, Table, TakesOver, times, times_noted, true}
+use Rattle.vm_rule.proofs.Prelude.{true≢false, Version, View, WereWords, world_of, ℕ, ⊎_elim, ◌++◌, ◌+◌, ◌||◌, ◌∙◌, ◌∷◌, ◌≡◌, ◌≢◌, ◌≤◌}
+use Rattle.vm_rule.proofs.Resettling.{all-told, fit-now, IsFit, keeps-resettles, KnowsHistory, KnowsReleases, Resettles, set-some, settled-ruled, Settles}
 
 -- ---- lists
 
@@ -102,8 +98,8 @@ module _ {X B : Type 0} (stored : B → Stored) (keeps : Start → Kept X → Ty
 
     -- the lists and the drafts are as they were
     pub hears-past : (hears-ruled.releases ≡ r.releases) × (hears-ruled.history ≡ r.history) × (hears-ruled.drafts ≡ r.drafts)
-    unfolding hears-ruled
-    hears-past = absorbs-past stored keeps tied start tells s r id other v w (hearer v w) there apart at-other live live' settled-here settled-other holds-no-page hearer-absorbs hearer-fit
+    unfolding hears-ruled absorbs-ruled settled-ruled
+    hears-past = (refl, refl, refl)
 
   -- ---- it takes over what it was told
 
@@ -138,7 +134,7 @@ module _ {X B : Type 0} (stored : B → Stored) (keeps : Start → Kept X → Ty
     none-further = ap (entries_by v.used) (sym (append_cancel_left v.seen own-lists.heard.0 (on-seen.0 ++ own-lists.told.1.0) (sym own-lists.heard.1 ∙ own-lists.told.1.1 ∙ ap (λ l. l ++ own-lists.told.1.0) on-seen.1 ∙ append_assoc v.seen on-seen.0 own-lists.told.1.0))) ∙ own-lists.heard.2
 
     heard-told : Hears v.told v.used v.seen
-    heard-told = (on-seen.0, on-seen.1, none-before v.used on-seen.0 own-lists.told.1.0 none-further)
+    heard-told = (on-seen.0, on-seen.1, (none-each v.used on-seen.0 own-lists.told.1.0 none-further).0)
 
     kept-since : (p : ℕ) → IsLocking (seat_of v p) → last_in v.start v.told_releases p ≡ last_in v.start v.releases p
     kept-since p locks =
@@ -157,7 +153,7 @@ module _ {X B : Type 0} (stored : B → Stored) (keeps : Start → Kept X → Ty
           heard = λ _. record {
             same_start = own-lists.same_start;
             saw = own-lists.told.0;
-            heard = (own-lists.told.1.0, own-lists.told.1.1, none-behind v.used on-seen.0 own-lists.told.1.0 none-further);
+            heard = (own-lists.told.1.0, own-lists.told.1.1, (none-each v.used on-seen.0 own-lists.told.1.0 none-further).1);
             told = ((r.releases, refl), (r.history, refl, entries-none r.history), λ k e. absurd (true≢false (sym e)));
             mine = own-lists.mine ∙ sym (ap (entries_by v.used) heard-told.1 ∙ entries-both v.used v.seen heard-told.0 ∙ (λ i. entries_by v.used v.seen ++ heard-told.2 i) ∙ append-none (entries_by v.used v.seen));
             fresh = own-lists.fresh;

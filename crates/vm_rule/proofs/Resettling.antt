@@ -2,16 +2,15 @@
 -- the frames of one that goes. What the table shows meets the invariant, and what is known of its pages is as it was; the table meets the rule
 -- where each view that came is shown to be fit.
 use mathlib.Core.Option as maybe
-use Rattle.vm_rule.proofs.{Entries.append-none, Pages.page-in, Pages.page-out}
+use Rattle.vm_rule.proofs.{Entries.append-none, Pages.page-in, Pages.page-out, Views.at-bound, Views.at-there, Views.views-set}
 use Rattle.vm_rule.proofs.Gathering.{ReadsLess, regathered, regathered-inv, Regathers}
-use Rattle.vm_rule.proofs.Prelude.{[], ap, arith, at, began_of, block_of, Bool, cases_eq, cases_lt, chosen, core_shown, each-upd, Entry, false}
-use Rattle.vm_rule.proofs.Prelude.{FaultsFit, frames_held, fun_ext, get_elem?, has, histories_of, home, if◌then◌else◌, inl, inr, Inv, is_owed}
-use Rattle.vm_rule.proofs.Prelude.{is_pending, IsWhole, Kept, kept_of, known, KnowsLists, KnowsPages, length, length-append, List, listed, loads_at}
-use Rattle.vm_rule.proofs.Prelude.{loads_of, logical, may_call, nil_from_length, Option, Origin, Out, out_of, owns, pages_from, PartsFit, refl}
-use Rattle.vm_rule.proofs.Prelude.{Release, Ruled, Seat, seat_of, seats_of, set_else, set_here, slice_set, slot_of, snapshot_of, Some, some}
-use Rattle.vm_rule.proofs.Prelude.{some-injective, spent, Start, StartsWith, Stored, subst, sym, Table, table_words, times_noted, total, true, View}
-use Rattle.vm_rule.proofs.Prelude.{Words, World, world_of, ℕ, ⊎_elim, ◌++◌, ◌+◌, ◌<◌, ◌∙◌, ◌≡◌, ◌≢◌, ◌≤◌, ◌⊎◌}
-use Rattle.vm_rule.proofs.Views.{at-bound, at-there, views-set}
+use Rattle.vm_rule.proofs.Prelude.{[], ap, arith, at, began_of, block_of, Bool, cases_eq, cases_lt, chosen, core_shown, each-upd, Entry, false, FaultsFit}
+use Rattle.vm_rule.proofs.Prelude.{frames_held, fun_ext, get_elem?, has, histories_of, home, if◌then◌else◌, inl, inr, Inv, is_owed, is_pending, IsWhole, Kept}
+use Rattle.vm_rule.proofs.Prelude.{kept_of, known, KnowsLists, KnowsPages, length, length-append, List, listed, loads_at, loads_of, logical, may_call}
+use Rattle.vm_rule.proofs.Prelude.{nil_from_length, Option, Origin, Out, out_of, owns, pages_from, PartsFit, refl, Release, Ruled, Seat, seat_of, seats_of}
+use Rattle.vm_rule.proofs.Prelude.{set_else, set_here, slice_set, slot_of, snapshot_of, Some, some, some-injective, spent, Start, StartsWith, Stored, subst}
+use Rattle.vm_rule.proofs.Prelude.{sym, Table, table_words, times_noted, total, true, View, Words, World, world_of, ℕ, ⊎_elim, ◌++◌, ◌+◌, ◌<◌, ◌∙◌, ◌≡◌, ◌≢◌}
+use Rattle.vm_rule.proofs.Prelude.{◌≤◌, ◌⊎◌}
 pub use Rattle.vm_rule.proofs.ListFacts.{at-past}
 
 pub same-reads : (s : Seat) (l : List (ℕ × ℕ)) → ReadsLess s s l l
@@ -228,7 +227,7 @@ module _ {X B : Type 0} (stored : B → Stored) (keeps : Start → Kept X → Ty
       pub history : HasSome KnowsHistory views'
 
     module _ (f : Settles) where
-      pub settled-ruled : Ruled stored keeps tied start tells (settled stored start r.releases r.drafts s views' k from to g)
+      unfoldable pub settled-ruled : Ruled stored keeps tied start tells (settled stored start r.releases r.drafts s views' k from to g)
       settled-ruled = record {
         releases = r.releases;
         history = r.history;
@@ -261,8 +260,3 @@ module _ {X B : Type 0} (stored : B → Stored) (keeps : Start → Kept X → Ty
         known = λ j u there on. settled-known stored start r.releases r.drafts s views' k from to g tied u ((f.fit j u there).known on);
         owner = λ t. subst (keeps (began_of start)) (sym (settled-kept stored start r.releases r.drafts s views' k from to g r.history)) (r.owner t);
       }
-
-      -- the lists and the drafts are as they were
-      pub settled-past : (settled-ruled.releases ≡ r.releases) × (settled-ruled.history ≡ r.history) × (settled-ruled.drafts ≡ r.drafts)
-      unfolding settled-ruled
-      settled-past = (refl, refl, refl)

@@ -1,8 +1,7 @@
 -- What the rule keeps of a pass's own view, where the pass is split: of its view then, and of the new pass's.
-use Rattle.vm_rule.proofs.Joining.{has-either, has-left, has-right}
-use Rattle.vm_rule.proofs.Prelude.{[], AreApart, Bool, cases_Bool, false, first_part, given_part, giver, has, List, newcomer, other_parts, refl}
-use Rattle.vm_rule.proofs.Prelude.{Sound, sym, true, true≢false, View, ℕ, ⊎_elim, ◌++◌, ◌∙◌, ◌∷◌, ◌≡◌}
-use Rattle.vm_rule.proofs.Splitting.{cut-has, fresh-cut, none-given}
+use Rattle.vm_rule.proofs.{Joining.has-either, Joining.has-left, Joining.has-right, Splitting.cut-has, Splitting.fresh-cut, Splitting.none-given}
+use Rattle.vm_rule.proofs.Prelude.{[], AreApart, Bool, cases_Bool, false, first_part, given_part, giver, has, List, newcomer, other_parts, refl, Sound, sym}
+use Rattle.vm_rule.proofs.Prelude.{true, true≢false, View, ℕ, ⊎_elim, ◌++◌, ◌∙◌, ◌∷◌, ◌≡◌}
 
 -- ---- parts without the first of them
 

@@ -2,20 +2,19 @@
 -- has all parts and knows nothing yet, and the lists are empty.
 use mathlib.Core.Option as maybe
 use Rattle.vm_core.specs.Prelude.{start as start_of}
-use Rattle.vm_rule.proofs.{Known.known-nothing, Pages.page-in, Pages.page-out, Parted.opened, Parts.listed-same, Starts.evicted-inv}
-use Rattle.vm_rule.proofs.{Starts.start-frames}
+use Rattle.vm_rule.proofs.{Known.known-nothing, Pages.page-in, Pages.page-out, Parted.opened, Parts.listed-same, Starts.evicted-inv, Starts.start-frames}
 use Rattle.vm_rule.proofs.ListFacts.{at-any, at-map, length-mapped, listed-long}
-use Rattle.vm_rule.proofs.Prelude.{[], ap, arith, at, began_of, block_of, block_words, BlocksFit, Bool, cases_Bool, cases_lt, chosen, cond, none-some}
-use Rattle.vm_rule.proofs.Prelude.{contents_of, core_shown, CoreStart, counts_of, EVICTED, evicted_page, false, first_kept, first_view, FrameIsAt}
-use Rattle.vm_rule.proofs.Prelude.{Free, fun_ext, get_elem?, has, has_free_bit, histories_of, home, if◌then◌else◌, inl, inr, Inv, is_owed, is_pending}
-use Rattle.vm_rule.proofs.Prelude.{IsSome, IsStarted, IsWhole, Kept, kept_of, known, KnowsLists, KnowsPages, le-ltb, length, length-replicate, List}
-use Rattle.vm_rule.proofs.Prelude.{loads_at, logical, lt-ltb, ltb, map, mapping_of, MAX_COUNT, MayBegin, no_block, None, Nowhere, numbers, opening}
-use Rattle.vm_rule.proofs.Prelude.{Option, Origin, Page, PageInv, refl, replicate, Ruled, seat_of, seats_of, Shape, snapshot_of, Some, some}
-use Rattle.vm_rule.proofs.Prelude.{some-injective, spent, Stands, stands_in, Start, started_origin, started_shape, started_words, State, state_of}
-use Rattle.vm_rule.proofs.Prelude.{Stored, subst, subst₃, suc, sym, Table, table_words, times_noted, trans_word, true, true≢false, unborn, version_of}
-use Rattle.vm_rule.proofs.Prelude.{View, width_of, world_of, zero, ℕ, ⊎_elim, ◌++◌, ◌-◌, ◌<◌, ◌^◌, ◌∙◌, ◌∷◌, ◌≡◌, ◌≤◌}
-use Rattle.vm_rule.proofs.StartedWords.{started-bundle, started-fault, started-frame, started-next, started-state, started-translation, started-wide}
-use Rattle.vm_rule.proofs.StartedWords.{started-owner}
+use Rattle.vm_rule.proofs.Prelude.{[], ap, arith, at, began_of, block_of, block_words, BlocksFit, Bool, cases_Bool, cases_lt, chosen, cond, contents_of}
+use Rattle.vm_rule.proofs.Prelude.{core_shown, CoreStart, counts_of, EVICTED, evicted_page, false, first_kept, first_view, FrameIsAt, Free, fun_ext, get_elem?}
+use Rattle.vm_rule.proofs.Prelude.{has, has_free_bit, histories_of, home, if◌then◌else◌, inl, inr, Inv, is_owed, is_pending, IsSome, IsStarted, IsWhole, Kept}
+use Rattle.vm_rule.proofs.Prelude.{kept_of, known, KnowsLists, KnowsPages, le-ltb, length, length-replicate, List, loads_at, logical, lt-ltb, ltb, map}
+use Rattle.vm_rule.proofs.Prelude.{mapping_of, MAX_COUNT, MayBegin, no_block, None, none-some, Nowhere, numbers, opening, Option, Origin, Page, PageInv, refl}
+use Rattle.vm_rule.proofs.Prelude.{replicate, Ruled, seat_of, seats_of, Shape, snapshot_of, Some, some, some-injective, spent, Stands, stands_in, Start}
+use Rattle.vm_rule.proofs.Prelude.{started_origin, started_shape, started_words, State, state_of, Stored, subst, subst₃, suc, sym, Table, table_words}
+use Rattle.vm_rule.proofs.Prelude.{times_noted, trans_word, true, true≢false, unborn, version_of, View, width_of, world_of, zero, ℕ, ⊎_elim, ◌++◌, ◌-◌, ◌<◌}
+use Rattle.vm_rule.proofs.Prelude.{◌^◌, ◌∙◌, ◌∷◌, ◌≡◌, ◌≤◌}
+use Rattle.vm_rule.proofs.StartedWords.{started-bundle, started-fault, started-frame, started-next, started-owner, started-state, started-translation}
+use Rattle.vm_rule.proofs.StartedWords.{started-wide}
 use Rattle.vm_rule.proofs.WordFacts.{mapping-none, word-state, word-version}
 
 -- what the first view has as a spent one has it, each has

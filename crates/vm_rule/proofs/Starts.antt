@@ -1,9 +1,8 @@
 -- The start meets the invariant.
-use Rattle.vm_rule.proofs.Prelude.{[], ap, arith, at_free, begin, bit_at, bit_at_ones, bit_at_ones_above, Bool, cases_Bool, cases_lt, cond, none-some}
-use Rattle.vm_rule.proofs.Prelude.{core_block, core_start, CoreShape, CoreStart, eq-eqb, evicted_page, FrameIsAt, Free, full_bundle, has_free_bit}
-use Rattle.vm_rule.proofs.Prelude.{Inv, IsStart, le-ltb, length, length-map-range_with_len, length-replicate, List, locks-none, lt-ltb, ltb}
-use Rattle.vm_rule.proofs.Prelude.{MAX_VERSION, min, ne_eqb, Nowhere, PageInv, refl, replicate, start, true, ℕ, ⊎_elim, ◌%◌, ◌*◌, ◌+◌, ◌-◌, ◌/◌, ◌^◌}
-use Rattle.vm_rule.proofs.Prelude.{◌∙◌, ◌≡◌, ◌≤◌}
+use Rattle.vm_rule.proofs.Prelude.{[], ap, arith, at_free, begin, bit_at, bit_at_ones, bit_at_ones_above, Bool, cases_Bool, cases_lt, cond, core_block}
+use Rattle.vm_rule.proofs.Prelude.{core_start, CoreShape, CoreStart, eq-eqb, evicted_page, FrameIsAt, Free, full_bundle, has_free_bit, Inv, IsStart, le-ltb}
+use Rattle.vm_rule.proofs.Prelude.{length, length-map-range_with_len, length-replicate, List, locks-none, lt-ltb, ltb, MAX_VERSION, min, ne_eqb, none-some}
+use Rattle.vm_rule.proofs.Prelude.{Nowhere, PageInv, refl, replicate, start, true, ℕ, ⊎_elim, ◌%◌, ◌*◌, ◌+◌, ◌-◌, ◌/◌, ◌^◌, ◌∙◌, ◌≡◌, ◌≤◌}
 
 start-free : (frames f : ℕ) → has_free_bit (full_bundle frames) f ≡ at_free (cond (ltb f frames) Free Nowhere)
 unfolding has_free_bit full_bundle
@@ -22,10 +21,6 @@ start-frames s f =
       holds = λ a. ⊎_elim (λ e. rw e refl) (λ e. rw e refl) (cases_Bool (ltb f s.shape.frames));
       mapped = λ p. ⊎_elim (λ e. rw e refl) (λ e. rw e refl) (cases_Bool (ltb f s.shape.frames));
     }
-
--- a list of one number
-numbers-long : (n x : ℕ) → length (replicate n x) ≡ n
-numbers-long n x = length-replicate n x
 
 -- an evicted page with one version, which its block has, and no lock
 pub evicted-inv : (actors : ℕ) (tells : Bool) (words : ℕ → List ℕ) (version : ℕ) (block w : List ℕ) (count : ℕ) → version ≤ MAX_VERSION → length w ≡ 64 → (tells ≡ true → block ≡ w)
@@ -52,7 +47,7 @@ start_law s ok =
     record {
       place = λ f. cond (ltb f s.shape.frames) Free Nowhere;
       frames = start-frames s;
-      words = λ f. numbers-long 64 0;
+      words = λ f. length-replicate {A = ℕ} 64 0;
       next = ok.next;
       pages = λ p. evicted-inv s.shape.actors s.tells (λ f. replicate 64 0) s.first (s.blocks p) (s.blocks p) (s.counts p) ok.first (ok.blocks p) (λ _. refl);
       owners = record { named = λ f p e. absurd (omega (arith, e)); owned = λ p free m at. absurd (none-some m at) };
@@ -63,7 +58,7 @@ unfolding core_block
 block-long next p =
     ⊎_elim
     (λ lt. rw (lt-ltb p next lt) (length-map-range_with_len (λ i. 64 * p + i) 0 64))
-    (λ le. rw (le-ltb p next le) (numbers-long 64 0))
+    (λ le. rw (le-ltb p next le) (length-replicate {A = ℕ} 64 0))
     (cases_lt p next)
 
 pub core-start : (shape : CoreShape) → shape.next ≤ shape.pages → IsStart (core_start shape)
