@@ -2,19 +2,15 @@
 use mathlib.Core.Option as maybe
 use Rattle.atomic_table.specs.Table.{keeps as stays}
 use Rattle.vm_rule.specs.declared.view.Place.TheVariants as places
-use Rattle.vm_rule.proofs.{Bringing.rested, Found.same-word, Sound.is-sound, StartedRule.only-view}
-use Rattle.vm_rule.proofs.Prelude.{[], Allows, ap, arith, begin_play, begun, block_of, Bool, brought, Did, did_load, first_view, get_elem?, HasShape, inl}
-use Rattle.vm_rule.proofs.Prelude.{Kept, length, List, listed, Me, NLoad, Option, Origin, refl, Ruled, Shape, slice_index, slice_set, snapshot_of, some}
-use Rattle.vm_rule.proofs.Prelude.{Stands, Start, step, Stored, subst, suc, sym, Table, unborn, View, zero, ℕ, ⊎_elim, ◌++◌, ◌∙◌, ◌∷◌, ◌≡◌, ◌≤◌}
+use Rattle.vm_rule.proofs.{Bringing.rested, Found.same-word, Sound.is-sound, StartedRule.only-one}
+use Rattle.vm_rule.proofs.Prelude.{[], Allows, ap, arith, begin_play, begun, block_of, Bool, brought, Did, did_load, first_view, get_elem?, HasShape, inl, Kept}
+use Rattle.vm_rule.proofs.Prelude.{length, List, listed, Me, NLoad, Option, Origin, refl, Ruled, Shape, slice_index, slice_set, snapshot_of, some, Stands}
+use Rattle.vm_rule.proofs.Prelude.{Start, step, Stored, subst, sym, Table, unborn, View, ℕ, ⊎_elim, ◌++◌, ◌∙◌, ◌∷◌, ◌≡◌, ◌≤◌}
 use Rattle.vm_rule.proofs.Resettling.{HasSome, KnowsHistory, KnowsReleases}
-
-only-place : {A : Type 0} (x : A) (j : ℕ) (y : A) → get_elem? (x ∷ []) j ≡ some y → j ≡ 0
-only-place x zero y e = refl
-only-place x (suc j) y e = absurd (maybe.some-ne-none y (sym e))
 
 -- what some view of the one there is says, that one says
 first-says : {X : Type 0} (P : View X → Type 0) (v : View X) → HasSome P (v ∷ []) → P v
-first-says P v l = subst P (only-view v l.0 l.1 l.2) l.3
+first-says P v l = subst P (only-one v l.0 l.1 l.2).1 l.3
 
 module _ {X B : Type 0} (stored : B → Stored) (keeps : Start → Kept X → Type 0) (tied : Start → ℕ → List ℕ → ℕ → List ℕ → Type 0) (shape : Shape) (tells : Bool) where
   -- a view that does not live is spent, and that of the first pass is not
@@ -60,7 +56,7 @@ module _ {X B : Type 0} (stored : B → Stored) (keeps : Start → Kept X → Ty
       (λ s h many there fits. ⊎_elim
       (λ r. absurd (unborn-ruled h.start s id r there))
       (λ t.
-      let here : id ≡ 0 = only-place (unborn shape) id (unborn shape) (subst (λ l. get_elem? l id ≡ some (unborn shape)) t.0 there) in
+      let here : id ≡ 0 = (only-one (unborn shape) id (unborn shape) (subst (λ l. get_elem? l id ≡ some (unborn shape)) t.0 there)).0 in
       let w : View X = after h.start h.is_shape s t.1 t.2 t.0 page in
       let ruled = begins-ruled h.start h.is_shape s t.1 t.2 t.0 page in (
         w,

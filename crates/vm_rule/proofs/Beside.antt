@@ -33,16 +33,13 @@ open-state state le free none =
     (λ ge. ⊎_elim (λ e. inr (inl e)) (λ ne. inr (inr (omega (arith, le, free, ge, ne)))) (cases_eq state MARKED))
     (cases_lt state LOCKED)
 
-spent-holds-nothing : {X : Type 0} → HoldsNothing {X = X} spent
-spent-holds-nothing = record { shares = λ p. refl; exclusive = λ p. refl; writing = λ p. refl; frames = refl; out = refl }
-
 module _ {X B : Type 0} (stored : B → Stored) (keeps : Start → Kept X → Type 0) (tied : Start → ℕ → List ℕ → ℕ → List ℕ → Type 0) (start : Origin) (tells : Bool) (s : Table (Option B) (View X)) (r : Ruled stored keeps tied start tells s) (id : ℕ) (v : View X) (there : get_elem? s.views id ≡ some v) (whole : IsWhole v) where
   pub others-hold-nothing : (j : ℕ) (u : View X) → j ≢ id → get_elem? s.views j ≡ some u → HoldsNothing u
   others-hold-nothing j u ne at =
       let none : (k : ℕ) → 1 ≤ owns k u → ⊥ = λ k l. not-whole s.views id j v u r.parts.parts (λ e. ne (sym e)) there at (k, l) whole in
       ⊎_elim
       (λ on. (r.heard j u at on).idle (no-times u.used (λ n l. none n (more-left (times n u.used) (times n u.fresh) l))) (no-times u.fresh (λ n l. none n (more-right (times n u.used) (times n u.fresh) l))))
-      (λ off. subst HoldsNothing (sym (r.parts.spent j u at off)) spent-holds-nothing)
+      (λ off. subst HoldsNothing (sym (r.parts.spent j u at off)) (record { shares = λ p. refl; exclusive = λ p. refl; writing = λ p. refl; frames = refl; out = refl }))
       (cases_Bool u.live)
 
   module _ (p : ℕ) (l : p < start.pages) (alone : (seat_of v p).exclusive ≡ false) (none : (seat_of v p).shares ≡ 0) where

@@ -18,10 +18,7 @@ has-one : (f x : ℕ) (b : Bool) → has f (one-if b x) ≡ (eqb f x && b)
 has-one f x true = ⊎_elim (λ t. rw t refl) (λ n. rw n refl) (cases_Bool (eqb f x))
 has-one f x false = ⊎_elim (λ t. rw t refl) (λ n. rw n refl) (cases_Bool (eqb f x))
 
--- among the first n frames stands none, one more, and not the next one
-none-below : (g f : ℕ) (c : Bool) → (eqb (f / 64) g && (ltb (f % 64) 0 && c)) ≡ false
-none-below g f c = grind (arith, nat_tests)
-
+-- among the first frames stands one more, and not the next one
 one-more : (g f n : ℕ) (b c : Bool) → suc n ≤ 64 → (f ≡ 64 * g + n → c ≡ b) → ((eqb (f / 64) g && (ltb (f % 64) n && c)) || (eqb f (64 * g + n) && b)) ≡ (eqb (f / 64) g && (ltb (f % 64) (suc n) && c))
 one-more g f n b c le same = ⊎_elim (λ e. let q : f / 64 ≡ g = omega arith in let m : f % 64 ≡ n = omega arith in let s : c ≡ b = same e in grind (arith, nat_tests, e, q, m, s)) (λ ne. grind (arith, nat_tests, ne)) (cases_eq f (64 * g + n))
 
@@ -29,7 +26,7 @@ next-not : (g n : ℕ) (c : Bool) → n < 64 → (eqb ((64 * g + n) / 64) g && (
 next-not g n c l = let m : (64 * g + n) % 64 ≡ n = omega arith in grind (arith, nat_tests, m)
 
 has-below : (n g mask f : ℕ) → n ≤ 64 → has f (frames_below n g mask) ≡ (eqb (f / 64) g && (ltb (f % 64) n && eqb (bit_at mask (f % 64)) 1))
-has-below zero g mask f le = sym (none-below g f (eqb (bit_at mask (f % 64)) 1))
+has-below zero g mask f le = grind (arith, nat_tests)
 has-below (suc n) g mask f le =
     has-both f (frames_below n g mask) (one-if (eqb (bit_at mask n) 1) (64 * g + n))
     ∙ (λ i. has-below n g mask f (omega arith) i || has-one f (64 * g + n) (eqb (bit_at mask n) 1) i)

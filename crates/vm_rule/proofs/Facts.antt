@@ -38,17 +38,14 @@ module _ {X : Type 0} where
 
 -- ---- the seats of a page
 
--- no sum, no term
-sum-zero : (n : ℕ) (f : ℕ → ℕ) → sum_below n f ≡ 0 → (a : ℕ) → a < n → f a ≡ 0
-sum-zero n f e a l = let le : f a ≤ sum_below n f = sum_below-at n f a l in omega arith
-
 -- where one actor holds a page exclusively, the others have nothing of it
 pub alone : (actors state version : ℕ) (seats : ℕ → Seat) (a b : ℕ) → LocksInv actors state version seats → (seats a).exclusive ≡ true → b < actors → b ≢ a → (may_call (seats b) ≡ false) × ((seats b).shares ≡ 0)
 alone actors state version seats a b i owns l ne =
     let locked : state ≡ LOCKED = locked-from_owner i a owns in
     let one : OneHolder actors seats = i.held locked in
     let none : sum_below actors (λ k. (seats k).shares) ≡ 0 = i.shares ∙ rw locked refl in
-    let shares : (seats b).shares ≡ 0 = sum-zero actors (λ k. (seats k).shares) none b l in
+    let within : (seats b).shares ≤ sum_below actors (λ k. (seats k).shares) = sum_below-at actors (λ k. (seats k).shares) b l in
+    let shares : (seats b).shares ≡ 0 = omega (arith, none, within) in
     let exclusive : (seats b).exclusive ≡ false = ⊎_elim (λ t. absurd (ne (one.only b t ∙ sym (one.only a owns)))) (λ f. f) (cases_Bool (seats b).exclusive) in
     let writing : (seats b).writing ≡ false = ⊎_elim (λ t. absurd (let some' : 1 ≤ (seats b).shares = (i.writer b t).0 in omega arith)) (λ f. f) (cases_Bool (seats b).writing) in
     (rw (exclusive, writing) refl, shares)

@@ -35,11 +35,10 @@ unfolding chosen
 chosen-none zero f e = refl
 chosen-none (suc n) f e = rw (e n) (ap (λ (l : List ℕ). l ++ []) (chosen-none n f e))
 
-module _ {X : Type 0} where
-  -- the only view of a table that was just made
-  pub only-view : (v : View X) (j : ℕ) (u : View X) → get_elem? (v ∷ []) j ≡ some u → u ≡ v
-  only-view v zero u e = sym (some-injective v u e)
-  only-view v (suc j) u e = absurd (maybe.some-ne-none u (sym e))
+-- the only one of a list
+pub only-one : {A : Type 0} (x : A) (j : ℕ) (y : A) → get_elem? (x ∷ []) j ≡ some y → (j ≡ 0) × (y ≡ x)
+only-one x zero y e = (refl, sym (some-injective x y e))
+only-one x (suc j) y e = absurd (maybe.some-ne-none y (sym e))
 
 module _ (X : Type 0) {B : Type 0} (stored : B → Stored) (tells : Bool) (whole : (b : B) → tells ≡ true → length (stored b).words ≡ 64)
     (version next frames : ℕ) (items : List B) (ok : IsStarted version next frames (length items)) where
@@ -152,7 +151,7 @@ module _ (X : Type 0) {B : Type 0} (stored : B → Stored) (tells : Bool) (whole
     many-contents = length-mapped (λ (b : Stored). if tells then b.words else replicate 64 0) blocks
 
     only : (P : View X → Type 0) → P (first_view start) → (j : ℕ) (u : View X) → get_elem? table.views j ≡ some u → P u
-    only P p j u there = subst P (sym (only-view (first_view start) j u there)) p
+    only P p j u there = subst P (sym (only-one (first_view start) j u there).1) p
 
     last-words : (p : ℕ) → p < start.pages → (histories_of start [] (λ p. []) p).last.words ≡ at (replicate 64 0) start.contents p
     unfolding histories_of
