@@ -38,13 +38,6 @@ module _ (actors k : ℕ) (tells : Bool) (words : ℕ → List ℕ) (r : Page) (
     one_writer = λ a b e f. i.one_writer a b (sym (less a).writing ∙ e) (sym (less b).writing ∙ f);
   }
 
-  less-reads : (a : ℕ) → ReadInv words r.state r.version r.trans (r.seats a).reading (loads a) → ReadInv words r.state r.version r.trans (seats a).reading (loads' a)
-  less-reads a i =
-      ⊎_elim
-      (λ none. subst (λ (o : Option Open). ReadInv words r.state r.version r.trans o (loads' a)) (sym none) (record { old = λ o e. absurd cc; evicted = λ s o e. absurd cc; current = λ s t o e. absurd cc }))
-      (λ same. subst (λ (o : Option Open). ReadInv words r.state r.version r.trans o (loads' a)) (sym same.0) (subst (ReadInv words r.state r.version r.trans (r.seats a).reading) (sym same.1) i))
-      (less a).reading
-
   pub less-page : PageInv actors tells words r h loads → PageInv (k + actors) tells words (record r { seats = seats }) h loads'
   less-page i = record {
     locks = less-locks i.locks;
@@ -52,7 +45,10 @@ module _ (actors k : ℕ) (tells : Bool) (words : ℕ → List ℕ) (r : Page) (
     sizes = i.sizes;
     contents = i.contents;
     faults = λ free none. i.faults free (λ a. sym (less a).writing ∙ none a);
-    reads = λ a. less-reads a (i.reads a);
+    reads = λ a. ⊎_elim
+        (λ none. subst (λ (o : Option Open). ReadInv words r.state r.version r.trans o (loads' a)) (sym none) (record { old = λ o e. absurd cc; evicted = λ s o e. absurd cc; current = λ s t o e. absurd cc }))
+        (λ same. subst (λ (o : Option Open). ReadInv words r.state r.version r.trans o (loads' a)) (sym same.0) (subst (ReadInv words r.state r.version r.trans (r.seats a).reading) (sym same.1) (i.reads a)))
+        (less a).reading;
   }
 
 -- ---- frames

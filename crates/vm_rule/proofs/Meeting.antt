@@ -5,10 +5,10 @@ use Rattle.vm_rule.proofs.{Views.at-bound, Views.field-still, Views.out-same, Vi
 use Rattle.vm_rule.proofs.Entries.{append-none, entries-both, entries-none, none-each, total-same}
 use Rattle.vm_rule.proofs.Joining.{Absorbs, absorbs-ruled}
 use Rattle.vm_rule.proofs.Prelude.{[], ap, append_assoc, append_cancel_left, AreNext, arith, Bool, cases_eq, did_load, entries_by, follower, get_elem?, has}
-use Rattle.vm_rule.proofs.Prelude.{hearer, Hears, HoldsNoPage, HoldsNothing, index_of, inl, is_pending, IsLocking, Kept, KnowsLists, KnowsPages, last_in}
-use Rattle.vm_rule.proofs.Prelude.{length, length-set, List, loads_at, OnlyKnows, Option, Origin, owns, refl, Release, Ruled, Seat, seat_of, set_here}
-use Rattle.vm_rule.proofs.Prelude.{slice_index, slice_set, some, spent, Start, StartsWith, Stored, subst, sym, Table, TakesOver, times, times_noted, true}
-use Rattle.vm_rule.proofs.Prelude.{true≢false, Version, View, WereWords, world_of, ℕ, ⊎_elim, ◌++◌, ◌+◌, ◌||◌, ◌∙◌, ◌∷◌, ◌≡◌, ◌≢◌, ◌≤◌}
+use Rattle.vm_rule.proofs.Prelude.{hearer, Hears, HoldsNothing, index_of, inl, is_pending, IsLocking, Kept, KnowsLists, KnowsPages, last_in, length, length-set}
+use Rattle.vm_rule.proofs.Prelude.{List, loads_at, OnlyKnows, Option, Origin, owns, refl, Release, Ruled, Seat, seat_of, set_here, slice_index, slice_set, some}
+use Rattle.vm_rule.proofs.Prelude.{spent, Start, StartsWith, Stored, subst, sym, Table, TakesOver, times, times_noted, true, true≢false, Version, View}
+use Rattle.vm_rule.proofs.Prelude.{WereWords, world_of, ℕ, ⊎_elim, ◌++◌, ◌+◌, ◌||◌, ◌∙◌, ◌∷◌, ◌≡◌, ◌≢◌, ◌≤◌}
 use Rattle.vm_rule.proofs.Resettling.{all-told, fit-now, IsFit, keeps-resettles, KnowsHistory, KnowsReleases, Resettles, set-some, settled-ruled, Settles}
 
 -- ---- lists
@@ -55,9 +55,6 @@ module _ {X B : Type 0} (stored : B → Stored) (keeps : Start → Kept X → Ty
     nothing : HoldsNothing w
     nothing = theirs.idle only.used only.fresh
 
-    holds-no-page : HoldsNoPage w
-    holds-no-page = record { shares = nothing.shares; exclusive = nothing.exclusive; writing = nothing.writing; out = nothing.out }
-
     hearer-absorbs : Absorbs v w (hearer v w)
     hearer-absorbs = record {
       seats = refl;
@@ -94,7 +91,7 @@ module _ {X B : Type 0} (stored : B → Stored) (keeps : Start → Kept X → Ty
         }
 
     pub hears-ruled : Ruled stored keeps tied start tells (record { words = s.words; homes = s.homes; views = slice_set (slice_set s.views id (hearer v w)) other spent })
-    hears-ruled = absorbs-ruled stored keeps tied start tells s r id other v w (hearer v w) there apart at-other live live' settled-here settled-other holds-no-page hearer-absorbs hearer-fit
+    hears-ruled = absorbs-ruled stored keeps tied start tells s r id other v w (hearer v w) there apart at-other live live' settled-here settled-other (record { shares = nothing.shares; exclusive = nothing.exclusive; writing = nothing.writing; out = nothing.out }) hearer-absorbs hearer-fit
 
     -- the lists and the drafts are as they were
     pub hears-past : (hears-ruled.releases ≡ r.releases) × (hears-ruled.history ≡ r.history) × (hears-ruled.drafts ≡ r.drafts)

@@ -1,5 +1,5 @@
 -- The words with which a pool's table opens, laid one part after another, read by the layout.
-use Rattle.vm_rule.proofs.ListFacts.{at-left, at-listed, at-map, at-past, at-right, at-zeros, length-listed, length-mapped, zeros}
+use Rattle.vm_rule.proofs.ListFacts.{at-left, at-listed, at-map, at-past, at-right, at-zeros, length-listed, length-mapped}
 use Rattle.vm_rule.proofs.Parts.{listed-same}
 use Rattle.vm_rule.proofs.Prelude.{[], ap, append-nil, append_assoc, arith, at, Bool, bundles_of, cases_lt, counts_of, EVICTED, frame_words, full_bundle}
 use Rattle.vm_rule.proofs.Prelude.{le-ltb, length, length-append, List, listed, lt-ltb, min, Origin, part, refl, replicate, started_origin, started_words}
@@ -98,12 +98,11 @@ module _ (tells : Bool) (version next frames : ℕ) (blocks : List Stored) where
       ∙ at-map (λ (b : Stored). b.count) 0 b blocks p l
 
   pub started-frame : (f : ℕ) → frame_words (table_words start words).contents f ≡ replicate 64 0
-  unfolding frame_words
+  unfolding frame_words listed
   started-frame f =
       listed-same 64 (λ i. (table_words start words).contents (64 * f + i)) (λ i. 0) (λ i _.
       part-laid words rows _ (states ∷ blank (length blocks) ∷ counts_of blocks ∷ []) (blank (64 * frames)) (3 * length blocks) (64 * frames) words-laid refl (omega (arith, long.0, long.1, long.2)) long.3 (64 * f + i)
       ∙ at-zeros (64 * frames) (64 * f + i))
-      ∙ zeros
 
   pub started-bundle : (g : ℕ) → (table_words start words).bundles g ≡ full_bundle frames g
   started-bundle g =
