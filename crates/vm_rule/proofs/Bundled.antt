@@ -18,12 +18,9 @@ has-one : (f x : ℕ) (b : Bool) → has f (one-if b x) ≡ (eqb f x && b)
 has-one f x true = ⊎_elim (λ t. rw t refl) (λ n. rw n refl) (cases_Bool (eqb f x))
 has-one f x false = ⊎_elim (λ t. rw t refl) (λ n. rw n refl) (cases_Bool (eqb f x))
 
--- among the first frames stands one more, and not the next one
+-- among the first frames stands one more
 one-more : (g f n : ℕ) (b c : Bool) → suc n ≤ 64 → (f ≡ 64 * g + n → c ≡ b) → ((eqb (f / 64) g && (ltb (f % 64) n && c)) || (eqb f (64 * g + n) && b)) ≡ (eqb (f / 64) g && (ltb (f % 64) (suc n) && c))
 one-more g f n b c le same = ⊎_elim (λ e. let q : f / 64 ≡ g = omega arith in let m : f % 64 ≡ n = omega arith in let s : c ≡ b = same e in grind (arith, nat_tests, e, q, m, s)) (λ ne. grind (arith, nat_tests, ne)) (cases_eq f (64 * g + n))
-
-next-not : (g n : ℕ) (c : Bool) → n < 64 → (eqb ((64 * g + n) / 64) g && (ltb ((64 * g + n) % 64) n && c)) ≡ false
-next-not g n c l = let m : (64 * g + n) % 64 ≡ n = omega arith in grind (arith, nat_tests, m)
 
 has-below : (n g mask f : ℕ) → n ≤ 64 → has f (frames_below n g mask) ≡ (eqb (f / 64) g && (ltb (f % 64) n && eqb (bit_at mask (f % 64)) 1))
 has-below zero g mask f le = grind (arith, nat_tests)
@@ -46,7 +43,7 @@ below-apart : (n g mask : ℕ) → n ≤ 64 → AreApart (frames_below n g mask)
 below-apart zero g mask le = tt
 below-apart (suc n) g mask le =
     apart-snoc (frames_below n g mask) (64 * g + n) (eqb (bit_at mask n) 1) (below-apart n g mask (omega arith))
-    (has-below n g mask (64 * g + n) (omega arith) ∙ next-not g n (eqb (bit_at mask ((64 * g + n) % 64)) 1) le)
+    (has-below n g mask (64 * g + n) (omega arith) ∙ (let m : (64 * g + n) % 64 ≡ n = omega arith in grind (arith, nat_tests, m)))
 
 -- each frame of the mask stands once
 pub frames_in-apart : (g mask : ℕ) → AreApart (frames_in g mask)

@@ -1,23 +1,19 @@
 -- The start meets the invariant.
-use Rattle.vm_rule.proofs.Prelude.{[], ap, arith, at_free, begin, bit_at, bit_at_ones, bit_at_ones_above, Bool, cases_Bool, cases_lt, cond, core_block}
-use Rattle.vm_rule.proofs.Prelude.{core_start, CoreShape, CoreStart, eq-eqb, evicted_page, FrameIsAt, Free, full_bundle, has_free_bit, Inv, IsStart, le-ltb}
-use Rattle.vm_rule.proofs.Prelude.{length, length-map-range_with_len, length-replicate, List, locks-none, lt-ltb, ltb, MAX_VERSION, min, ne_eqb, none-some}
-use Rattle.vm_rule.proofs.Prelude.{Nowhere, PageInv, refl, replicate, start, true, ℕ, ⊎_elim, ◌%◌, ◌*◌, ◌+◌, ◌-◌, ◌/◌, ◌^◌, ◌∙◌, ◌≡◌, ◌≤◌}
-
-start-free : (frames f : ℕ) → has_free_bit (full_bundle frames) f ≡ at_free (cond (ltb f frames) Free Nowhere)
-unfolding has_free_bit full_bundle
-start-free frames f =
-    ⊎_elim
-    (λ lt. rw (lt-ltb f frames lt) (eq-eqb _ _ (bit_at_ones (min 64 (frames - 64 * (f / 64))) (f % 64) (omega arith))))
-    (λ le. rw (le-ltb f frames le) (ne_eqb (bit_at (2 ^ min 64 (frames - 64 * (f / 64)) - 1) (f % 64)) 1 (λ q. let z : bit_at (2 ^ min 64 (frames - 64 * (f / 64)) - 1) (f % 64) ≡ 0 = bit_at_ones_above (min 64 (frames - 64 * (f / 64))) (f % 64) (omega arith) in omega arith)))
-    (cases_lt f frames)
+use Rattle.vm_rule.proofs.Prelude.{[], ap, arith, begin, bit_at, bit_at_ones, bit_at_ones_above, Bool, cases_Bool, cases_lt, cond, core_block, core_start}
+use Rattle.vm_rule.proofs.Prelude.{CoreShape, CoreStart, eq-eqb, evicted_page, FrameIsAt, Free, full_bundle, has_free_bit, Inv, IsStart, le-ltb, length}
+use Rattle.vm_rule.proofs.Prelude.{length-map-range_with_len, length-replicate, List, locks-none, lt-ltb, ltb, MAX_VERSION, min, ne_eqb, none-some, Nowhere}
+use Rattle.vm_rule.proofs.Prelude.{PageInv, refl, replicate, start, true, ℕ, ⊎_elim, ◌%◌, ◌*◌, ◌+◌, ◌-◌, ◌/◌, ◌^◌, ◌∙◌, ◌≡◌, ◌≤◌}
 
 pub start-frames : (s : CoreStart) (f : ℕ) → FrameIsAt (start s) f (cond (ltb f s.shape.frames) Free Nowhere)
+unfolding has_free_bit full_bundle
 start-frames s f =
     record {
       inside = λ lt. rw (lt-ltb f s.shape.frames lt) tt;
       outside = λ le. rw (le-ltb f s.shape.frames le) refl;
-      free = start-free s.shape.frames f;
+      free = ⊎_elim
+          (λ lt. rw (lt-ltb f s.shape.frames lt) (eq-eqb _ _ (bit_at_ones (min 64 (s.shape.frames - 64 * (f / 64))) (f % 64) (omega arith))))
+          (λ le. rw (le-ltb f s.shape.frames le) (ne_eqb (bit_at (2 ^ min 64 (s.shape.frames - 64 * (f / 64)) - 1) (f % 64)) 1 (λ q. let z : bit_at (2 ^ min 64 (s.shape.frames - 64 * (f / 64)) - 1) (f % 64) ≡ 0 = bit_at_ones_above (min 64 (s.shape.frames - 64 * (f / 64))) (f % 64) (omega arith) in omega arith)))
+          (cases_lt f s.shape.frames);
       holds = λ a. ⊎_elim (λ e. rw e refl) (λ e. rw e refl) (cases_Bool (ltb f s.shape.frames));
       mapped = λ p. ⊎_elim (λ e. rw e refl) (λ e. rw e refl) (cases_Bool (ltb f s.shape.frames));
     }
@@ -53,13 +49,13 @@ start_law s ok =
       owners = record { named = λ f p e. absurd (omega (arith, e)); owned = λ p free m at. absurd (none-some m at) };
     }
 
-block-long : (next p : ℕ) → length (core_block next p) ≡ 64
-unfolding core_block
-block-long next p =
-    ⊎_elim
-    (λ lt. rw (lt-ltb p next lt) (length-map-range_with_len (λ i. 64 * p + i) 0 64))
-    (λ le. rw (le-ltb p next le) (length-replicate {A = ℕ} 64 0))
-    (cases_lt p next)
-
 pub core-start : (shape : CoreShape) → shape.next ≤ shape.pages → IsStart (core_start shape)
-core-start shape le = record { next = le; first = omega arith; blocks = block-long shape.next }
+unfolding core_block
+core-start shape le = record {
+  next = le;
+  first = omega arith;
+  blocks = λ p. ⊎_elim
+      (λ lt. rw (lt-ltb p shape.next lt) (length-map-range_with_len (λ i. 64 * p + i) 0 64))
+      (λ past. rw (le-ltb p shape.next past) (length-replicate {A = ℕ} 64 0))
+      (cases_lt p shape.next);
+}

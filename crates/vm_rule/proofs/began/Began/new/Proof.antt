@@ -1,26 +1,15 @@
 -- `new` makes the empty struct, with what the clause names.
 use base.Logic.{emp, ent, fst∗, SProp, via}
-use contract.Monad.{Fun}
-use contract.Running.{tables, tables_of}
-use denote.RattleType.{owns}
-use denote.Shadow.{pure_i}
-use denote.Triple.Entry.{alive, on_entry}
-use denote.Triple.Spec.{Meets, triple_of}
-use denote.Triple.Table.{entered}
+use contract.{Monad.Fun, Running.tables, Running.tables_of}
+use denote.{RattleType.owns, Shadow.pure_i, Triple.Entry.alive, Triple.Entry.on_entry, Triple.Spec.Meets, Triple.Spec.triple_of, Triple.Table.entered}
 use denote.Triple.Walked.{ends_at, says, Stays, walk_Meets, walk_of, walked, Walks}
-use mathlib.Core.List.{[], ◌∷◌}
-use mathlib.Core.Path.{refl}
+use mathlib.Core.{List.[], List.◌∷◌, Path.refl}
 use mir.Val.{vnil, vstruct}
-use prog.Memory.{Memory}
-use prog.Routine.{Routine}
-use prog.Wp.{Calls, Loops, Tables, WpFn}
+use prog.{Memory.Memory, Routine.Routine, Wp.Calls, Wp.Loops, Wp.Tables, Wp.WpFn}
 use seplogic.Ra.Ura.{Ura}
 use sound.WpLaws.{WpFn-mono}
-use types.ByLocal.{alloc_all, free_all, look_at, pass_all, sets}
+use types.{ByLocal.alloc_all, ByLocal.free_all, ByLocal.look_at, ByLocal.pass_all, ByLocal.sets, Logic.Logic, Part.agg, Run.enter, Run.no_more, Run.returns}
 use types.Kit.{ !, ‵, ◌$◌, ◌∵◌, done, move, qed, raw, suffices}
-use types.Logic.{Logic}
-use types.Part.{agg}
-use types.Run.{enter, no_more, returns}
 use Rattle.vm_rule.specs.{contracts.began.Began.new.Key.name as key, declared.began.Began.Began}
 use Rattle.vm_rule.specs.contracts.began.Began as made
 use Rattle.vm_rule.specs.contracts.began.Began.new as f
