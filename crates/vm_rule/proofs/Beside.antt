@@ -1,9 +1,10 @@
 -- Beside a pass with all parts every other has none, so it holds nothing: a page that such a pass has not locked is not locked.
+use Rattle.atomic_table.proofs.Lists.{at_index}
 use Rattle.vm_rule.proofs.{Entries.not-whole, Found.seat-here}
-use Rattle.vm_rule.proofs.Prelude.{[], ap, arith, Bool, cases_Bool, cases_eq, cases_lt, core_shown, eq-eqb, EVICTED, false, get_elem?, HoldsNothing}
-use Rattle.vm_rule.proofs.Prelude.{inl, inr, IsWhole, Kept, length, List, LOCKED, lt-ltb, MARKED, Option, Origin, owns, Page, refl, Ruled, Seat}
-use Rattle.vm_rule.proofs.Prelude.{seat_of, share_count, some, spent, Start, Stored, subst, suc, sum_below, sum_below-past, sym, Table, times}
-use Rattle.vm_rule.proofs.Prelude.{true≢false, UNLOCKED, View, zero, ℕ, ⊎_elim, ◌+◌, ◌<◌, ◌∙◌, ◌∷◌, ◌≡◌, ◌≢◌, ◌≤◌, ◌⊎◌}
+use Rattle.vm_rule.proofs.Prelude.{[], ap, arith, Bool, cases_Bool, cases_eq, cases_lt, core_shown, eq-eqb, EVICTED, false, get_elem?, get_or, get_or_default}
+use Rattle.vm_rule.proofs.Prelude.{HoldsNothing, inl, inr, IsWhole, Kept, length, List, LOCKED, lt-ltb, MARKED, Option, Origin, owns, Page, refl, Ruled, Seat}
+use Rattle.vm_rule.proofs.Prelude.{seat_of, share_count, some, spent, Start, Stored, subst, suc, sum_below, sum_below-past, sym, Table, times, true≢false}
+use Rattle.vm_rule.proofs.Prelude.{UNLOCKED, View, zero, ℕ, ⊎_elim, ◌+◌, ◌<◌, ◌∙◌, ◌∷◌, ◌≡◌, ◌≢◌, ◌≤◌, ◌⊎◌}
 
 pub no-times : (l : List ℕ) → ((n : ℕ) → 1 ≤ times n l → ⊥) → l ≡ []
 no-times [] none = refl
@@ -14,11 +15,6 @@ more-left a b l = omega arith
 
 pub more-right : (a b : ℕ) → 1 ≤ b → 1 ≤ a + b
 more-right a b l = omega arith
-
-some-there : {A : Type 0} (l : List A) (i : ℕ) → i < length l → (a : A) × (get_elem? l i ≡ some a)
-some-there [] i l = absurd (omega arith)
-some-there (x ∷ xs) zero l = (x, refl)
-some-there (x ∷ xs) (suc i) l = some-there xs i (omega arith)
 
 no-sum : (n : ℕ) → sum_below n (λ k. 0) ≡ 0
 unfolding sum_below
@@ -46,14 +42,15 @@ module _ {X B : Type 0} (stored : B → Stored) (keeps : Start → Kept X → Ty
     -- what any pass has of the page
     seats-open : (a : ℕ) → a < length s.views → ((((core_shown stored start s).pages p).seats a).exclusive ≡ false) × ((((core_shown stored start s).pages p).seats a).shares ≡ 0)
     seats-open a la =
-        let u = some-there s.views a la in
-        let here : ((core_shown stored start s).pages p).seats a ≡ seat_of u.0 p = seat-here stored start s a p u.0 l u.1 in
+        let u : View X = get_or s.views a spent in
+        let at : get_elem? s.views a ≡ some u = at_index s.views a u la (get_or_default s.views a spent u la) in
+        let here : ((core_shown stored start s).pages p).seats a ≡ seat_of u p = seat-here stored start s a p u l at in
         ⊎_elim
         (λ e.
         let mine : ((core_shown stored start s).pages p).seats id ≡ seat_of v p = seat-here stored start s id p v l there in
         let same : ((core_shown stored start s).pages p).seats a ≡ seat_of v p = ap ((core_shown stored start s).pages p).seats e ∙ mine in
         (ap (λ (k : Seat). k.exclusive) same ∙ alone, ap (λ (k : Seat). k.shares) same ∙ none))
-        (λ ne. let h = others-hold-nothing a u.0 ne u.1 in (ap (λ (k : Seat). k.exclusive) here ∙ h.exclusive p, ap (λ (k : Seat). k.shares) here ∙ h.shares p))
+        (λ ne. let h = others-hold-nothing a u ne at in (ap (λ (k : Seat). k.exclusive) here ∙ h.exclusive p, ap (λ (k : Seat). k.shares) here ∙ h.shares p))
         (cases_eq a id)
 
     -- so it is unlocked, marked or evicted

@@ -3,10 +3,10 @@
 use Rattle.vm_rule.proofs.{Bundled.with_contents-at, Facts.either-way, Gathering.ReadsLess, Heard.each-both, Known.known-with}
 use Rattle.vm_rule.proofs.Entries.{entries-union, has-joined, none-each, none-left}
 use Rattle.vm_rule.proofs.Prelude.{[], any, ap, arith, at, at_set, Bool, cases_Bool, cases_eq, cases_lt, entries_by, Entry, false, false≢true, get_elem?, has}
-use Rattle.vm_rule.proofs.Prelude.{Hears, HoldsNoPage, inl, inr, is_pending, joined, Kept, knows_more, KnowsLists, KnowsPages, length, length-set, List}
-use Rattle.vm_rule.proofs.Prelude.{loads_at, lt-ltb, ltb-true, no_seat, Note, Option, Origin, owns, put_at, refl, Ruled, Seat, seat_of, set_else, set_here}
-use Rattle.vm_rule.proofs.Prelude.{slice_set, some, some-injective, spent, Start, Stored, subst, sym, Table, times_noted, total, true, true≢false, upd-other}
-use Rattle.vm_rule.proofs.Prelude.{View, world_of, if◌then◌else◌, ℕ, ⊎_elim, ◌++◌, ◌+◌, ◌<◌, ◌||◌, ◌∙◌, ◌∷◌, ◌≡◌, ◌≢◌, ◌≤◌, ◌⊎◌}
+use Rattle.vm_rule.proofs.Prelude.{Hears, HoldsNoPage, if◌then◌else◌, inl, inr, is_pending, joined, Kept, knows_more, KnowsLists, KnowsPages, length}
+use Rattle.vm_rule.proofs.Prelude.{length-set, List, loads_at, lt-ltb, ltb-true, no_seat, Note, Option, or-true, Origin, owns, put_at, refl, Ruled, Seat}
+use Rattle.vm_rule.proofs.Prelude.{seat_of, set_else, set_here, slice_set, some, some-injective, spent, Start, Stored, subst, sym, Table, times_noted, total}
+use Rattle.vm_rule.proofs.Prelude.{true, true≢false, upd-other, View, world_of, ℕ, ⊎_elim, ◌++◌, ◌+◌, ◌<◌, ◌||◌, ◌∙◌, ◌∷◌, ◌≡◌, ◌≢◌, ◌≤◌, ◌⊎◌}
 use Rattle.vm_rule.proofs.Resettling.{fit-now, fit-spent, HasSome, IsFit, KnowsHistory, KnowsReleases, replaced-less, Resettles, seen-all}
 use Rattle.vm_rule.proofs.Resettling.{settled-ruled, Settles}
 use Rattle.vm_rule.proofs.Views.{any-same, at-bound, at-there, field-still, out-same, total-set, views-set}
@@ -136,15 +136,11 @@ noted-joined p n (x ∷ a) b = let h : times_noted p n (a ++ b) ≡ times_noted 
 pub has-either : (n : ℕ) (a b : List ℕ) → has n (a ++ b) ≡ true → (has n a ≡ true) ⊎ (has n b ≡ true)
 has-either n a b e = ⊎_elim inl (λ f. inr (sym (has-joined n a b ∙ ap (λ c. c || has n b) f) ∙ e)) (cases_Bool (has n a))
 
-pub or-right : (a b : Bool) → b ≡ true → (a || b) ≡ true
-or-right true b e = refl
-or-right false b e = e
-
 pub has-left : (n : ℕ) (a b : List ℕ) → has n a ≡ true → has n (a ++ b) ≡ true
 has-left n a b e = has-joined n a b ∙ rw e refl
 
 pub has-right : (n : ℕ) (a b : List ℕ) → has n b ≡ true → has n (a ++ b) ≡ true
-has-right n a b e = has-joined n a b ∙ or-right (has n a) (has n b) e
+has-right n a b e = has-joined n a b ∙ ap (λ c. has n a || c) e ∙ or-true (has n a)
 
 -- of two beginnings, what follows the shorter ends with what follows the longer
 follows : {A : Type 0} (a b r q : List A) → a ++ r ≡ b ++ q → length b ≤ length a → (m : List A) × (q ≡ m ++ r)

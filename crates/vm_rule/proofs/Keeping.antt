@@ -1,9 +1,9 @@
 -- Runs one after another, and what a replay keeps.
 use Rattle.vm_core.specs.declared.playing.ReplayFault.TheVariants as faults
 use Rattle.vm_rule.proofs.{Runs.run-core, Runs.run-one, Runs.run-tells, Runs.run_law, Starts.core-start, Starts.start_law, Tells.told_law}
-use Rattle.vm_rule.proofs.Prelude.{[], after_event, AllLegal, ap, begin, core_start, CoreStart, Err, Event, FaultsTold, FrameOnce, IfErr, IfOk, Inv, IsRunKept}
-use Rattle.vm_rule.proofs.Prelude.{IsStart, KeptFault, KeptFrom, List, Ok, refl, Replayed, ReplayFault, Result, run, RunsTo, start, State, subst, sym, take}
-use Rattle.vm_rule.proofs.Prelude.{Told, true, world_run, ◌++◌, ◌∙◌, ◌∷◌, ◌≡◌}
+use Rattle.vm_rule.proofs.Prelude.{[], after_event, AllLegal, ap, begin, core_start, CoreStart, Err, Event, FaultsTold, FrameOnce, Inv, IsRunKept, IsStart}
+use Rattle.vm_rule.proofs.Prelude.{KeptFault, KeptFrom, List, refl, Replayed, ReplayFault, run, RunsTo, start, State, subst, sym, take, Told, true, world_run}
+use Rattle.vm_rule.proofs.Prelude.{◌++◌, ◌∙◌, ◌∷◌, ◌≡◌}
 
 run-both : (c : State) (xs ys : List Event) → run c (xs ++ ys) ≡ run (run c xs) ys
 run-both c [] ys = refl
@@ -43,11 +43,3 @@ kept-more old new done r shape before le b =
 pub kept-fault : (old new : State) (events : List Event) (fault : ReplayFault) → Replayed old events (Err fault) new → KeptFault old events fault new
 kept-fault old new events (faults.Illegal index) r = kept-more old new (take index events) r.0
 kept-fault old new events faults.Memory r = r
-
-pub if_ok-map : {T : Type 0} → {E : Type 0} → (r : Result T E) (P Q : T → Type 0) → ((v : T) → P v → Q v) → IfOk r P → IfOk r Q
-if_ok-map (Ok v) P Q f h = f v h
-if_ok-map (Err e) P Q f h = h
-
-pub if_err-map : {T : Type 0} → {E : Type 0} → (r : Result T E) (P Q : E → Type 0) → ((e : E) → P e → Q e) → IfErr r P → IfErr r Q
-if_err-map (Ok v) P Q f h = h
-if_err-map (Err e) P Q f h = f e h

@@ -1,11 +1,11 @@
 -- What the proofs of this crate cite from the crates below and from its own specs, passed on from one place. Declares nothing.
 pub use Rattle.std.specs.{Int.bit_at, Prelude.bit_or, Prelude.bit_xor, Prelude.IfErr, Prelude.IfOk}
-pub use Rattle.std.proofs.{lemmas.Bool.Decides.nat_tests, lemmas.List.FromFn.length-map-range_with_len}
+pub use Rattle.std.proofs.{lemmas.Bool.Decides.nat_tests, lemmas.List.FromFn.length-map-range_with_len, Math.Bool.or-true}
 pub use Rattle.std.proofs.Common.{[], ap, append_assoc, arith, bit_and, Bool, cond, div-add-mod', eqb, Err, false, get_or, if◌then◌else◌, inl, inr}
 pub use Rattle.std.proofs.Common.{IsSome, length, length-append, length-set, List, ltb, map, min, None, Ok, Option, refl, replicate, Result, rules}
 pub use Rattle.std.proofs.Common.{slice_index, slice_set, Some, subst, suc, sym, take, true, true≢false, zero, ℕ, ⊎_elim, ◌%◌, ◌&&◌, ◌*◌, ◌++◌, ◌+◌, ◌-◌}
 pub use Rattle.std.proofs.Common.{◌/◌, ◌<◌, ◌==◌, ◌^◌, ◌||◌, ◌∙◌, ◌∷◌, ◌≡◌, ◌≢◌, ◌≤◌, ◌⊎◌}
-pub use Rattle.std.proofs.lemmas.Bool.{and_from, cases_Bool, cases_eq, cases_lt, eq-eqb, false≢true, le-ltb, lt-ltb, ltb-true, ne_eqb}
+pub use Rattle.std.proofs.lemmas.Bool.{and_from, cases_Bool, cases_eq, cases_lt, eq-eqb, false_from_ne_true, false≢true, le-ltb, lt-ltb, ltb-true, ne_eqb}
 pub use Rattle.std.proofs.lemmas.List.{append-nil, append_cancel_left, get_or-append_right, get_or-map, get_or_append_left, get_or_default, get_or_past}
 pub use Rattle.std.proofs.lemmas.List.{length-map, length-replicate, nil_from_length, set-get_or}
 pub use Rattle.std.proofs.lemmas.Nat.Bits.{bit_at-lt, bit_at-zero, bit_at_above, bit_at_and, bit_at_ones, bit_at_ones_above, same_from_bits}
@@ -43,20 +43,18 @@ pub use Rattle.vm_rule.specs.{Begun.begin_play, Begun.begun, Brought.IsStepOf, B
 pub use Rattle.vm_rule.specs.{declared.view.Origin.Origin, declared.view.Out.Out, declared.view.Place.Place, declared.view.Place.TheVariants.Next}
 pub use Rattle.vm_rule.specs.{declared.view.Put.Put, declared.view.Release.Release, declared.view.Shape.Shape, declared.view.Snapshot.Snapshot}
 pub use Rattle.vm_rule.specs.{declared.view.Tie.Tie, declared.view.Translation.Translation, declared.view.View.View, Hearing.follower, Joins.given_part}
-pub use Rattle.vm_rule.specs.{Joins.knows_more, Started.contents_of}
-pub use Rattle.vm_rule.specs.Kept.{IsRunKept, KeptFault, KeptFrom}
-pub use Rattle.vm_rule.specs.Prelude.{actor_of, after_releases, Allows, any, AreApart, AreNext, ArePlain, at_next, at_state, began_of, block_words}
-pub use Rattle.vm_rule.specs.Prelude.{BlocksFit, Brings, BringsWith, brought, bundle_count, bundles_of, core_from, core_shown, CoreShape, counts_of}
-pub use Rattle.vm_rule.specs.Prelude.{did_load, draft_of, Each, entries_by, entries_under, Entry, entry_of, Event, FaultsFit, first_history, first_part}
-pub use Rattle.vm_rule.specs.Prelude.{first_view, frames_below, frames_held, giver, has, HasShape, hearer, Hears, HoldsNoPage, HoldsNothing, home}
-pub use Rattle.vm_rule.specs.Prelude.{index_of, is_owed, is_pending, IsFoundAt, IsLocking, IsStarted, IsWhole, joined, Kept, kept_of, known, KnowsLists}
-pub use Rattle.vm_rule.specs.Prelude.{KnowsOwner, KnowsOwners}
-pub use Rattle.vm_rule.specs.Prelude.{KnowsPage, KnowsPages, last_in, Leaves, loads_at, loads_of, Mapping, may_call, MayBegin, Me, newcomer, no_block}
-pub use Rattle.vm_rule.specs.Prelude.{no_held, one_part, OnlyKnows, Open, opening, other_parts, out_of, out_or, owns, page_from, PARTS, PartsFit, pushed}
-pub use Rattle.vm_rule.specs.Prelude.{put, put_at, Ruled, Seat, seat_of, seats_of, set_if, slot_of, snapshot_of, Sound, spent, Stands, Start}
-pub use Rattle.vm_rule.specs.Prelude.{started_origin, started_shape, started_words, StartsWith, Stored, Table, table_words, TakesOver, TieHolds, times}
-pub use Rattle.vm_rule.specs.Prelude.{times_noted, total, TranslationHolds, unborn, view_from, WasNext, WasWord, WereWords, width, width_of}
-pub use Rattle.vm_rule.specs.Prelude.{with_contents, with_word, Within, without, without_all, Words, world_of}
+pub use Rattle.vm_rule.specs.{Joins.knows_more, Kept.IsRunKept, Kept.KeptFault, Kept.KeptFrom, Started.contents_of}
+pub use Rattle.vm_rule.specs.Prelude.{actor_of, after_releases, Allows, any, AreApart, AreNext, ArePlain, at_next, at_state, began_of, block_words, BlocksFit}
+pub use Rattle.vm_rule.specs.Prelude.{Brings, BringsWith, brought, bundle_count, bundles_of, core_from, core_shown, CoreShape, counts_of, did_load, draft_of}
+pub use Rattle.vm_rule.specs.Prelude.{Each, entries_by, entries_under, Entry, entry_of, Event, FaultsFit, first_history, first_part, first_view, frames_below}
+pub use Rattle.vm_rule.specs.Prelude.{frames_held, giver, has, HasShape, hearer, Hears, HoldsNoPage, HoldsNothing, home, index_of, is_owed, is_pending}
+pub use Rattle.vm_rule.specs.Prelude.{IsFoundAt, IsLocking, IsStarted, IsWhole, joined, Kept, kept_of, known, KnowsLists, KnowsOwners, KnowsPage, KnowsPages}
+pub use Rattle.vm_rule.specs.Prelude.{last_in, Leaves, loads_at, loads_of, Mapping, may_call, MayBegin, Me, newcomer, no_block, no_held, one_part, OnlyKnows}
+pub use Rattle.vm_rule.specs.Prelude.{Open, opening, other_parts, out_of, out_or, owns, page_from, PARTS, PartsFit, pushed, put, put_at, Ruled, Seat, seat_of}
+pub use Rattle.vm_rule.specs.Prelude.{seats_of, set_if, slot_of, snapshot_of, Sound, spent, Stands, Start, started_origin, started_shape, started_words}
+pub use Rattle.vm_rule.specs.Prelude.{StartsWith, Stored, Table, table_words, TakesOver, TieHolds, times, times_noted, total, TranslationHolds, unborn}
+pub use Rattle.vm_rule.specs.Prelude.{view_from, WasNext, WasWord, WereWords, width, width_of, with_contents, with_word, Within, without, without_all, Words}
+pub use Rattle.vm_rule.specs.Prelude.{world_of}
 unfoldable pub use Rattle.vm_core.specs.Prelude.{at, core_block, count_more, frame_in, full_bundle, hand_more, has_free_bit, in_mask, state_of, sum_below, upd}
 unfoldable pub use Rattle.vm_core.specs.Prelude.{version_of, word_of}
 unfoldable pub use Rattle.vm_rule.specs.Prelude.{block_of, chosen, frame_words, frames_in, histories_of, listed, logical, numbers, pages_from, part}

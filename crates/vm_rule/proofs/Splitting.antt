@@ -1,10 +1,10 @@
 -- A pass is split: the table meets the rule with the view of the new pass, which has one of its fresh parts or none.
-use Rattle.vm_rule.proofs.{Entries.entries-none, Entries.none-each, Joining.or-right, Known.known-nothing, Known.known-with}
+use Rattle.vm_rule.proofs.{Entries.entries-none, Entries.none-each, Known.known-nothing, Known.known-with}
 use Rattle.vm_rule.proofs.Prelude.{[], any, ap, arith, at, at_longer, at_set, at_snoc, Bool, entries_by, Entry, eq-eqb, eqb, false, false≢true, first_part}
 use Rattle.vm_rule.proofs.Prelude.{get_elem?, given_part, giver, has, inl, inr, is_pending, Kept, KnowsLists, KnowsPages, length, length-append, length-set}
-use Rattle.vm_rule.proofs.Prelude.{List, loads_at, newcomer, None, Option, Origin, other_parts, out_of, out_or, owns, refl, Ruled, Seat, seat_of, slice_set}
-use Rattle.vm_rule.proofs.Prelude.{some, spent, Start, Stored, subst, suc, sym, Table, times, times_noted, total, true, true≢false, View, world_of, zero, ℕ}
-use Rattle.vm_rule.proofs.Prelude.{⊎_elim, ◌++◌, ◌+◌, ◌<◌, ◌||◌, ◌∙◌, ◌∷◌, ◌≡◌, ◌≤◌, ◌⊎◌}
+use Rattle.vm_rule.proofs.Prelude.{List, loads_at, newcomer, None, Option, or-true, Origin, other_parts, out_of, out_or, owns, refl, Ruled, Seat, seat_of}
+use Rattle.vm_rule.proofs.Prelude.{slice_set, some, spent, Start, Stored, subst, suc, sym, Table, times, times_noted, total, true, true≢false, View, world_of}
+use Rattle.vm_rule.proofs.Prelude.{zero, ℕ, ⊎_elim, ◌++◌, ◌+◌, ◌<◌, ◌||◌, ◌∙◌, ◌∷◌, ◌≡◌, ◌≤◌, ◌⊎◌}
 use Rattle.vm_rule.proofs.Resettling.{fit-now, HasSome, IsFit, keeps-resettles, KnowsHistory, KnowsReleases, Resettles, set-some, settled-ruled, Settles}
 use Rattle.vm_rule.proofs.Views.{any-same, at-bound, field-still, out-same, total-set}
 
@@ -16,7 +16,7 @@ cut-times k (n ∷ l) = omega arith
 
 pub cut-has : (k : ℕ) (l : List ℕ) → has k (other_parts l) ≡ true → has k l ≡ true
 cut-has k [] e = e
-cut-has k (n ∷ l) e = or-right (eqb k n) (has k l) e
+cut-has k (n ∷ l) e = ap (λ c. eqb k n || c) e ∙ or-true (eqb k n)
 
 -- ---- one more at the end
 

@@ -4,9 +4,9 @@ use mathlib.Core.Option as maybe
 use Rattle.vm_core.specs.Prelude.{start as start_of}
 use Rattle.vm_rule.proofs.{Known.known-nothing, Pages.page-in, Pages.page-out, Parted.opened, Parts.listed-same, Starts.evicted-inv, Starts.start-frames}
 use Rattle.vm_rule.proofs.ListFacts.{at-any, at-map, length-mapped, listed-long}
-use Rattle.vm_rule.proofs.Prelude.{[], ap, arith, at, began_of, block_of, block_words, BlocksFit, Bool, cases_Bool, cases_lt, chosen, cond, contents_of}
-use Rattle.vm_rule.proofs.Prelude.{core_shown, CoreStart, counts_of, EVICTED, evicted_page, false, first_kept, first_view, FrameIsAt, Free, fun_ext, get_elem?}
-use Rattle.vm_rule.proofs.Prelude.{has, has_free_bit, histories_of, home, if◌then◌else◌, inl, inr, Inv, is_owed, is_pending, IsSome, IsStarted, IsWhole, Kept}
+use Rattle.vm_rule.proofs.Prelude.{[], ap, arith, at, began_of, block_of, block_words, Bool, cases_Bool, cases_lt, chosen, cond, contents_of, core_shown}
+use Rattle.vm_rule.proofs.Prelude.{CoreStart, counts_of, EVICTED, evicted_page, false, first_kept, first_view, FrameIsAt, Free, fun_ext, get_elem?, has}
+use Rattle.vm_rule.proofs.Prelude.{has_free_bit, histories_of, home, if◌then◌else◌, inl, inr, Inv, is_owed, is_pending, IsSome, IsStarted, IsWhole, Kept}
 use Rattle.vm_rule.proofs.Prelude.{kept_of, known, KnowsLists, KnowsPages, le-ltb, length, length-replicate, List, loads_at, logical, lt-ltb, ltb, map}
 use Rattle.vm_rule.proofs.Prelude.{mapping_of, MAX_COUNT, MayBegin, no_block, None, none-some, Nowhere, numbers, opening, Option, Origin, Page, PageInv, refl}
 use Rattle.vm_rule.proofs.Prelude.{replicate, Ruled, seat_of, seats_of, Shape, snapshot_of, Some, some, some-injective, spent, Stands, stands_in, Start}
@@ -162,13 +162,6 @@ module _ (X : Type 0) {B : Type 0} (stored : B → Stored) (tells : Bool) (whole
     starts-zero t p le l =
         last-words p l ∙ at-any (replicate 64 0) [] start.contents p (omega (arith, many-contents, l)) ∙ (begins t).zero p (omega (arith, next-is, le)) (omega (arith, many-contents, l))
 
-    starts-blocks : BlocksFit stored start table.homes table.views
-    starts-blocks = record {
-      away = λ j v o there e. absurd (let none : None ≡ Some o = only (λ y. None ≡ y.out) refl j v there ∙ e in cc);
-      home = λ p l _. subst IsSome (sym (item-there stored items p l).2) refl;
-      bounds = λ p l. ap (λ (b : Stored). b.bound) (first-block p l) ∙ sym (at-map (λ (b : Stored). b.bound) 0 no_block blocks p l);
-    }
-
     -- a page's fault word is its block's count, which is within its bound
     counted : (p : ℕ) → ((c.pages p).fault ≤ (c.pages p).count) × ((c.pages p).count ≤ MAX_COUNT)
     counted p =
@@ -179,17 +172,6 @@ module _ (X : Type 0) {B : Type 0} (stored : B → Stored) (tells : Bool) (whole
         rw (page-evicted p l) (omega arith, within))
         (λ le. rw (page-out start.pages (table_words start words) (block_of stored table.homes table.views) (seats_of table.views) p le) (omega arith, omega arith))
         (cases_lt p start.pages)
-
-    starts-heard : KnowsLists start [] [] (first_view {X = X} start)
-    starts-heard = record {
-      same_start = refl;
-      saw = ([], refl);
-      heard = ([], refl, refl);
-      told = (([], refl), ([], refl, refl), λ k e. absurd (true≢false (sym e)));
-      mine = refl;
-      fresh = λ k _. refl;
-      idle = λ none _. absurd (let e : 1 ≡ 0 = ap length none in omega arith);
-    }
 
     starts-kept : kept_of (world_of stored start [] (λ p. []) table) [] table.views ≡ first_kept (began_of start)
     unfolding logical
@@ -212,7 +194,11 @@ module _ (X : Type 0) {B : Type 0} (stored : B → Stored) (tells : Bool) (whole
       inv = started-inv;
       risen = omega (arith, next-is);
       zero = starts-zero;
-      blocks = starts-blocks;
+      blocks = record {
+        away = λ j v o there e. absurd (let none : None ≡ Some o = only (λ y. None ≡ y.out) refl j v there ∙ e in cc);
+        home = λ p l _. subst IsSome (sym (item-there stored items p l).2) refl;
+        bounds = λ p l. ap (λ (b : Stored). b.bound) (first-block p l) ∙ sym (at-map (λ (b : Stored). b.bound) 0 no_block blocks p l);
+      };
       faults = record {
         below = λ p. (counted p).0;
         capped = λ p. (counted p).1;
@@ -225,15 +211,17 @@ module _ (X : Type 0) {B : Type 0} (stored : B → Stored) (tells : Bool) (whole
         spent = only (λ y. y.live ≡ false → y ≡ spent) (λ off. absurd (true≢false off));
         whole = only (λ y. y.live ≡ true → IsWhole y → y.current ≡ true → (y.releases ≡ []) × (y.seen ≡ []) × (y.snapshot ≡ snapshot_of stored start table)) (λ _ _ current. absurd (true≢false (sym current)));
       };
-      heard = only (λ y. y.live ≡ true → KnowsLists start [] [] y) (λ _. starts-heard);
+      heard = only (λ y. y.live ≡ true → KnowsLists start [] [] y) (λ _. record {
+        same_start = refl;
+        saw = ([], refl);
+        heard = ([], refl, refl);
+        told = (([], refl), ([], refl, refl), λ k e. absurd (true≢false (sym e)));
+        mine = refl;
+        fresh = λ k _. refl;
+        idle = λ none _. absurd (let e : 1 ≡ 0 = ap length none in omega arith);
+      });
       known = only (λ y. y.live ≡ true → KnowsPages tied start (world_of stored start [] (λ p. []) table) (is_pending table.views) y) (λ _. known-nothing tied start _ _ true start (0 ∷ []) (numbers 1 4294967295) [] []);
       owner = λ t. subst (keeps (began_of start)) (sym starts-kept) (begins t).kept;
-    }
-
-    first-snapshot : snapshot_of stored start table ≡ shape.began.snapshot
-    first-snapshot = λ i. record {
-      words = words;
-      blocks = (listed-same start.pages (block_of stored table.homes table.views) (at no_block blocks) first-block ∙ listed-long no_block start.pages blocks refl) i;
     }
 
     first-stands : Stands stored keeps tied shape tells (opening words (map Some items) (unborn shape))
@@ -242,7 +230,14 @@ module _ (X : Type 0) {B : Type 0} (stored : B → Stored) (tells : Bool) (whole
         record {
           start = start;
           is_shape = record { same = refl; pages = refl; frames = refl; version = refl; next = refl };
-          rule = inr (refl, first-ruled, first-snapshot);
+          rule = inr (
+            refl,
+            first-ruled,
+            λ i. record {
+              words = words;
+              blocks = (listed-same start.pages (block_of stored table.homes table.views) (at no_block blocks) first-block ∙ listed-long no_block start.pages blocks refl) i;
+            },
+          );
         }
 
     -- the table meets its rule when it is made with the shape, the words and the slots that were made of these blocks; these are as many as the
