@@ -57,13 +57,8 @@ has-without_all f [] m = refl
 has-without_all f (q ∷ qs) m =
     has-without_all f qs (without q m)
     ∙ ⊎_elim
-    (λ e.
-    ap (λ b. if has f qs then false else b) (ap (λ n. has n (without q m)) e ∙ has-without_same q m)
-    ∙ none (has f qs)
-    ∙ sym (ap (λ b. if b || has f qs then false else has f m) (eq-eqb f q e)))
-    (λ ne.
-    ap (λ b. if has f qs then false else b) (has-without_other q f m ne)
-    ∙ sym (ap (λ b. if b || has f qs then false else has f m) (ne_eqb f q ne)))
+    (λ e. rw (eq-eqb f q e, ap (λ n. has n (without q m)) e ∙ has-without_same q m) (none (has f qs)))
+    (λ ne. rw (ne_eqb f q ne, has-without_other q f m ne) refl)
     (cases_eq f q)
   where
     none : (b : Bool) → (if b then false else false) ≡ false
@@ -76,15 +71,8 @@ pub with_contents-at : (words : ℕ → List ℕ) (l : List ℕ) (contents : Lis
 with_contents-at words [] contents f = refl
 with_contents-at words (q ∷ qs) contents f =
     ⊎_elim
-    (λ e.
-    ap (put_at [] (with_contents words (q ∷ qs) contents)) e
-    ∙ upd-same (put_at [] (with_contents words qs contents)) q (words q)
-    ∙ ap words (sym e)
-    ∙ sym (ap {B = List ℕ} (λ b. if b || has f qs then words f else put_at [] contents f) (eq-eqb f q e)))
-    (λ ne.
-    upd-other (put_at [] (with_contents words qs contents)) q (words q) f ne
-    ∙ with_contents-at words qs contents f
-    ∙ sym (ap {B = List ℕ} (λ b. if b || has f qs then words f else put_at [] contents f) (ne_eqb f q ne)))
+    (λ e. rw (eq-eqb f q e) (ap (put_at [] (with_contents words (q ∷ qs) contents)) e ∙ upd-same (put_at [] (with_contents words qs contents)) q (words q) ∙ ap words (sym e)))
+    (λ ne. rw (ne_eqb f q ne) (upd-other (put_at [] (with_contents words qs contents)) q (words q) f ne ∙ with_contents-at words qs contents f))
     (cases_eq f q)
 
 -- ---- where the frames of a bundle stand

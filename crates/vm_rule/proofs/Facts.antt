@@ -1,22 +1,18 @@
 -- What the rule says of who holds a page, of the blocks, and of the members still to be released.
 use mathlib.Core.Option as maybe
-use Rattle.vm_rule.proofs.{Found.seat-here, Views.at-bound, Views.block-same, Views.out-same, Views.set-each}
+use Rattle.vm_rule.proofs.{Found.seat-here, Parts.upd-is, Views.at-bound, Views.block-same, Views.out-same, Views.set-each}
 use Rattle.vm_rule.proofs.Prelude.{[], any, ap, arith, at, BlocksFit, Bool, cases_Bool, cases_eq, core_shown, false, false≢true, get_elem?, has}
 use Rattle.vm_rule.proofs.Prelude.{has-without_other, has-without_same, if◌then◌else◌, is_pending, Kept, length, List, LOCKED, locked-from_owner, LocksInv}
 use Rattle.vm_rule.proofs.Prelude.{may_call, OneHolder, Option, Origin, Out, owns, Page, refl, Ruled, Seat, seat_of, shared-state, slice_set, slot_of, Some}
-use Rattle.vm_rule.proofs.Prelude.{some, Start, Stored, suc, sum_below, sum_below-at, sym, Table, true, true≢false, upd, upd-other, upd-same, View, without}
-use Rattle.vm_rule.proofs.Prelude.{zero, ℕ, ⊎_elim, ◌<◌, ◌||◌, ◌∙◌, ◌∷◌, ◌≡◌, ◌≢◌, ◌≤◌}
+use Rattle.vm_rule.proofs.Prelude.{some, Start, Stored, suc, sum_below, sum_below-at, sym, Table, true, true≢false, upd, View, without, zero, ℕ, ⊎_elim, ◌<◌}
+use Rattle.vm_rule.proofs.Prelude.{◌||◌, ◌∙◌, ◌∷◌, ◌≡◌, ◌≢◌, ◌≤◌}
 pub use Rattle.vm_owner.proofs.NumberLemmas.{has-both}
 
 -- ---- lists of numbers
 
 -- the list without one number, as a function
 pub has-left : (f n : ℕ) (l : List ℕ) → has n (without f l) ≡ upd (λ k. has k l) f false n
-has-left f n l =
-    ⊎_elim
-    (λ e. ap (λ k. has k (without f l)) e ∙ has-without_same f l ∙ sym (ap (upd (λ k. has k l) f false) e ∙ upd-same (λ k. has k l) f false))
-    (λ ne. has-without_other f n l ne ∙ sym (upd-other (λ k. has k l) f false n ne))
-    (cases_eq n f)
+has-left f n l = ap (λ g. g n) (upd-is (λ k. has k l) (λ k. has k (without f l)) f false (has-without_same f l) (λ k ne. has-without_other f k l ne))
 
 pub either-way : (a b : Bool) → (a || b) ≡ (if a then true else b)
 either-way true b = refl

@@ -1,8 +1,8 @@
 -- What the proofs of this crate cite from the crates below and from its own specs, passed on from one place. Declares nothing.
-pub use Rattle.std.specs.{Int.bit_at, Prelude.bit_or, Prelude.bit_xor, Prelude.IfErr, Prelude.IfOk}
+pub use Rattle.std.specs.{Int.bit_at, Prelude.bit_or, Prelude.bit_xor}
 pub use Rattle.std.proofs.{lemmas.Bool.Decides.nat_tests, lemmas.List.FromFn.length-map-range_with_len, Math.Bool.or-true}
 pub use Rattle.std.proofs.Common.{[], ap, append_assoc, arith, bit_and, Bool, cond, div-add-mod', eqb, Err, false, get_or, if◌then◌else◌, inl, inr}
-pub use Rattle.std.proofs.Common.{IsSome, length, length-append, length-set, List, ltb, map, min, None, Ok, Option, refl, replicate, Result, rules}
+pub use Rattle.std.proofs.Common.{IsSome, length, length-append, length-set, List, ltb, map, min, None, Ok, Option, refl, replicate, rules}
 pub use Rattle.std.proofs.Common.{slice_index, slice_set, Some, subst, suc, sym, take, true, true≢false, zero, ℕ, ⊎_elim, ◌%◌, ◌&&◌, ◌*◌, ◌++◌, ◌+◌, ◌-◌}
 pub use Rattle.std.proofs.Common.{◌/◌, ◌<◌, ◌==◌, ◌^◌, ◌||◌, ◌∙◌, ◌∷◌, ◌≡◌, ◌≢◌, ◌≤◌, ◌⊎◌}
 pub use Rattle.std.proofs.lemmas.Bool.{and_from, cases_Bool, cases_eq, cases_lt, eq-eqb, false_from_ne_true, false≢true, le-ltb, lt-ltb, ltb-true, ne_eqb}

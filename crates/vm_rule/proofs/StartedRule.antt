@@ -227,17 +227,11 @@ module _ (X : Type 0) {B : Type 0} (stored : B → Stored) (tells : Bool) (whole
     first-stands : Stands stored keeps tied shape tells (opening words (map Some items) (unborn shape))
     unfolding block_of
     first-stands =
+        let same = listed-same start.pages (block_of stored table.homes table.views) (at no_block blocks) first-block ∙ listed-long no_block start.pages blocks refl in
         record {
           start = start;
           is_shape = record { same = refl; pages = refl; frames = refl; version = refl; next = refl };
-          rule = inr (
-            refl,
-            first-ruled,
-            λ i. record {
-              words = words;
-              blocks = (listed-same start.pages (block_of stored table.homes table.views) (at no_block blocks) first-block ∙ listed-long no_block start.pages blocks refl) i;
-            },
-          );
+          rule = inr (refl, first-ruled, λ i. record { words = words; blocks = same i });
         }
 
     -- the table meets its rule when it is made with the shape, the words and the slots that were made of these blocks; these are as many as the

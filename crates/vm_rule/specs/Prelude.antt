@@ -25,7 +25,7 @@ pub use Rattle.vm_rule.specs.Reading.{after_releases, core_from, core_shown, fir
 pub use Rattle.vm_rule.specs.Reading.{out_of, out_or, page_from, pushed, seats_of, world_of}
 pub use Rattle.vm_rule.specs.Releases.{change_of, changes_of, DowngradeTold, EvictTold, next_after, ReleaseTold, without_all}
 pub use Rattle.vm_rule.specs.Rule.{AreNext, ArePlain, began_of, BlocksFit, FaultsFit, HoldsNothing, is_owed, is_pending, kept_of, KnowsLists, KnowsOwner}
-pub use Rattle.vm_rule.specs.Rule.{KnowsOwners, KnowsPage, KnowsPages, ListsFit, no_held, PartsFit, Ruled, slot_of, snapshot_of, TieHolds, TranslationHolds}
+pub use Rattle.vm_rule.specs.Rule.{KnowsOwners, KnowsPage, KnowsPages, no_held, PartsFit, Ruled, slot_of, snapshot_of, TieHolds, TranslationHolds}
 pub use Rattle.vm_rule.specs.Rule.{WasNext, WasWord, WereWords}
 pub use Rattle.vm_rule.specs.Slots.{DeviceDid, HomeTold, MayBring, out_at, OutTold, ReturnTold, ShiftTold, SlotTold, words_held}
 pub use Rattle.vm_rule.specs.Started.{block_words, bounds_of, counts_of, IsStarted, MayBegin, started_origin, started_shape, started_words}
