@@ -31,15 +31,6 @@ stays-between start before (r ∷ rs) q p a e =
     ∙ here)
     (cases_eq p r.page)
 
--- so it has where the releases that were told end
-between-same : (start : Origin) (before all told : List Release) (p : ℕ) → AreNext start [] all → StartsWith all told → StartsWith told before → last_in start before p ≡ last_in start all p → last_in start told p ≡ last_in start before p
-between-same start before all told p a s t e =
-    let cut : all ≡ before ++ (t.0 ++ s.0) = s.1 ∙ ap (λ l. l ++ s.0) t.1 ∙ append_assoc before t.0 s.0 in
-    ap (λ l. last_in start l p) t.1
-    ∙ stays-between start before t.0 s.0 p
-    (next-front start [] before (t.0 ++ s.0) (subst (AreNext start []) cut a)).1
-    (ap (λ l. (last_in start l p).version) (sym cut) ∙ ap (λ (v : Version). v.version) (sym e))
-
 module _ {X B : Type 0} (stored : B → Stored) (keeps : Start → Kept X → Type 0) (tied : Start → ℕ → List ℕ → ℕ → List ℕ → Type 0) (start : Origin) (tells : Bool) where
   -- ---- a pass is told
 
@@ -135,9 +126,12 @@ module _ {X B : Type 0} (stored : B → Stored) (keeps : Start → Kept X → Ty
 
     kept-since : (p : ℕ) → IsLocking (seat_of v p) → last_in v.start v.told_releases p ≡ last_in v.start v.releases p
     kept-since p locks =
-        ap (λ (o : Origin). last_in o v.told_releases p) own-lists.same_start
-        ∙ between-same start v.releases r.releases v.told_releases p r.lists.rises own-lists.told.0 on-releases
-        (ap (λ (o : Origin). last_in o v.releases p) (sym own-lists.same_start) ∙ own-pages.latest p locks ∙ sym (last-is start r.releases r.drafts p))
+        let rest : List Release = on-releases.0 ++ own-lists.told.0.0 in
+        let cut : r.releases ≡ v.releases ++ rest = own-lists.told.0.1 ∙ ap (λ l. l ++ own-lists.told.0.0) on-releases.1 ∙ append_assoc v.releases on-releases.0 own-lists.told.0.0 in
+        let latest : last_in start v.releases p ≡ last_in start r.releases p = ap (λ (o : Origin). last_in o v.releases p) (sym own-lists.same_start) ∙ own-pages.latest p locks ∙ sym (last-is start r.releases r.drafts p) in
+        (λ i. last_in (own-lists.same_start i) (on-releases.1 i) p)
+        ∙ stays-between start v.releases on-releases.0 own-lists.told.0.0 p (next-front start [] v.releases rest (subst (AreNext start []) cut r.lists.rises)).1
+        (ap (λ l. (last_in start l p).version) (sym cut) ∙ ap (λ (v : Version). v.version) (sym latest))
         ∙ ap (λ (o : Origin). last_in o v.releases p) (sym own-lists.same_start)
 
     follower-fit : IsFit stored keeps tied start tells s r after
