@@ -2,7 +2,7 @@
 -- what the others know stays by what the step leaves, so it is the pass's own part alone. `Shows` is a step that is an event of the core and moves
 -- no block.
 use mathlib.Core.Option as maybe
-use Rattle.vm_rule.proofs.{Facts.blocks-still, Heard.Added, Heard.added, Heard.each-both, Heard.has-part, Heard.next-both, Heard.starts-more, Runs.event_law}
+use Rattle.vm_rule.proofs.{Facts.blocks-still, Heard.Added, Heard.added, Heard.each-both, Heard.has-first, Heard.next-both, Heard.starts-more, Heard.times-has, Runs.event_law}
 use Rattle.vm_rule.proofs.{Views.at-bound, Views.at-there, Views.block-same, Views.set-each, Were.were-did, Were.were-moves, Worlds.draft-is, Worlds.last-is}
 use Rattle.vm_rule.proofs.Entries.{append-none, each-map, entries-both, entries-none, entries-within, mine-in, not-whole, starts-self, total-same}
 use Rattle.vm_rule.proofs.Found.{outside-here, seat-here}
@@ -11,9 +11,9 @@ use Rattle.vm_rule.proofs.Prelude.{[], ap, append_assoc, AreNext, ArePlain, arit
 use Rattle.vm_rule.proofs.Prelude.{draft_of, Each, entries_by, Entry, entry_of, Event, EVICTED, false, FaultsFit, get_elem?, has, histories_of, index_of, inl}
 use Rattle.vm_rule.proofs.Prelude.{Inv, is_pending, IsFoundAt, IsWhole, Kept, kept_of, KnowsLists, KnowsOwners, KnowsPage, KnowsPages, last_in, Leaves, Legal}
 use Rattle.vm_rule.proofs.Prelude.{length, List, listed, may_call, no_held, Option, Origin, Out, owns, Page, PARTS, PartsFit, put_at, refl, Release, replicate}
-use Rattle.vm_rule.proofs.Prelude.{Ruled, seat_of, set_here, slice_set, snapshot_of, some, Some, spent, Start, Stored, subst, sym, Table, Tie, TieHolds, times}
-use Rattle.vm_rule.proofs.Prelude.{times_noted, Translation, TranslationHolds, true, true≢false, View, WereWords, width, Within, World, world_after, world_of}
-use Rattle.vm_rule.proofs.Prelude.{ℕ, ⊎_elim, ◌++◌, ◌+◌, ◌<◌, ◌∙◌, ◌∷◌, ◌≡◌, ◌≢◌, ◌≤◌, ◌⊎◌}
+use Rattle.vm_rule.proofs.Prelude.{Ruled, seat_of, set_here, slice_index, slice_set, snapshot_of, some, Some, spent, Start, Stored, subst, sym, Table, Tie}
+use Rattle.vm_rule.proofs.Prelude.{TieHolds, times, times_noted, Translation, TranslationHolds, true, true≢false, View, WereWords, width, Within, World}
+use Rattle.vm_rule.proofs.Prelude.{world_after, world_of, ℕ, ⊎_elim, ◌++◌, ◌+◌, ◌<◌, ◌∙◌, ◌∷◌, ◌≡◌, ◌≢◌, ◌≤◌, ◌⊎◌}
 
 module _ {X B : Type 0} (stored : B → Stored) (keeps : Start → Kept X → Type 0) (tied : Start → ℕ → List ℕ → ℕ → List ℕ → Type 0) (start : Origin) (tells : Bool) where
   module _ (s : Table (Option B) (View X)) (r : Ruled stored keeps tied start tells s) (id : ℕ) (v : View X) (words : List ℕ) (homes : List (maybe.Option (Option B))) (blocks : List Stored) (drafts : ℕ → List ℕ) (own : List Release) (entries : List (Entry X)) (did : Did) (inner : View X) where
@@ -90,7 +90,7 @@ module _ {X B : Type 0} (stored : B → Stored) (keeps : Start → Kept X → Ty
         spent = set-each (λ y. y.live ≡ false → y ≡ spent) s.views id after_more (λ off. absurd (true≢false (sym (sh.live ∙ live) ∙ off))) (λ j u _ e. r.parts.spent j u e);
         whole = set-each (λ y. y.live ≡ true → IsWhole y → y.current ≡ true → (y.releases ≡ r.releases ++ own) × (y.seen ≡ r.history ++ entries) × (y.snapshot ≡ snapshot_of stored start became_more)) s.views id after_more
             (λ _ _ _. (refl, refl, λ i. record { words = words; blocks = sym sh.told i }))
-            (λ j u ne e _ all _. absurd (not-whole s.views j id u v r.parts.parts ne e there (has-part v number) all));
+            (λ j u ne e _ all _. let one : 1 ≤ times (slice_index v.used 0) v.used = times-has (slice_index v.used 0) v.used (has-first v.used number) in absurd (not-whole s.views j id u v r.parts.parts ne e there (slice_index v.used 0, omega (arith, one)) all));
       }
 
       -- what the pass has heard, and another

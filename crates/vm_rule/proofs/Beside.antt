@@ -21,14 +21,6 @@ unfolding sum_below
 no-sum zero = refl
 no-sum (suc n) = let rest : sum_below n (λ k. 0) ≡ 0 = no-sum n in omega arith
 
--- a state that is not locked and counts no share
-open-state : (state : ℕ) → state ≤ EVICTED → state ≢ LOCKED → share_count state ≡ 0 → (state ≡ UNLOCKED) ⊎ ((state ≡ MARKED) ⊎ (state ≡ EVICTED))
-open-state state le free none =
-    ⊎_elim
-    (λ l. let is : share_count state ≡ state = rw (lt-ltb state LOCKED l) refl in inl (sym is ∙ none))
-    (λ ge. ⊎_elim (λ e. inr (inl e)) (λ ne. inr (inr (omega (arith, le, free, ge, ne)))) (cases_eq state MARKED))
-    (cases_lt state LOCKED)
-
 module _ {X B : Type 0} (stored : B → Stored) (keeps : Start → Kept X → Type 0) (tied : Start → ℕ → List ℕ → ℕ → List ℕ → Type 0) (start : Origin) (tells : Bool) (s : Table (Option B) (View X)) (r : Ruled stored keeps tied start tells s) (id : ℕ) (v : View X) (there : get_elem? s.views id ≡ some v) (whole : IsWhole v) where
   pub others-hold-nothing : (j : ℕ) (u : View X) → j ≢ id → get_elem? s.views j ≡ some u → HoldsNothing u
   others-hold-nothing j u ne at =
@@ -60,4 +52,8 @@ module _ {X B : Type 0} (stored : B → Stored) (keeps : Start → Kept X → Ty
         let locks = (r.inv.pages p).locks in
         let free : y.state ≢ LOCKED = (λ e. let h = locks.held e in true≢false (sym h.owns ∙ (seats-open h.holder h.named).0)) in
         let sum : sum_below (length s.views) (λ b. (y.seats b).shares) ≡ 0 = sum_below-past (length s.views) (λ b. (y.seats b).shares) (λ k. 0) (λ j lj. (seats-open j lj).1) ∙ no-sum (length s.views) in
-        open-state y.state locks.known free (sym locks.shares ∙ sum)
+        let known : y.state ≤ EVICTED = locks.known in
+        ⊎_elim
+        (λ below. let is : share_count y.state ≡ y.state = rw (lt-ltb y.state LOCKED below) refl in inl (sym is ∙ sym locks.shares ∙ sum))
+        (λ ge. ⊎_elim (λ e. inr (inl e)) (λ ne. inr (inr (omega (arith, known, free, ge, ne)))) (cases_eq y.state MARKED))
+        (cases_lt y.state LOCKED)

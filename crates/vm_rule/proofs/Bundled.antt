@@ -77,29 +77,20 @@ with_contents-at words (q ∷ qs) contents f =
 
 -- ---- where the frames of a bundle stand
 
-module _ (w : World) (f : ℕ) (inv : Inv w) where
-  -- a free frame is one of the core's, and no actor has it
-  pub free-frame : has_free_bit w.core.bundles f ≡ true → (f < w.core.shape.frames) × ((a : ℕ) → w.core.held a f ≡ false)
-  free-frame e =
-      let is : inv.place f ≡ Free = free-place (inv.place f) (sym (inv.frames f).free ∙ e) in (
-        ⊎_elim (λ l. l) (λ past. absurd (true≢false (ap at_free (sym is ∙ (inv.frames f).outside past)))) (cases_lt f w.core.shape.frames),
-        λ a. (inv.frames f).holds a ∙ ap (λ x. at_actor x a) is,
-      )
-
-  -- a frame that an actor has is not free
-  pub held-frame : (a : ℕ) → w.core.held a f ≡ true → has_free_bit w.core.bundles f ≡ false
-  held-frame a e = (inv.frames f).free ∙ ap at_free (held-place (inv.place f) a (sym ((inv.frames f).holds a) ∙ e))
-
 module _ (w : World) (g mask : ℕ) (inv : Inv w) where
-  -- the frames that are taken from a bundle were free
+  -- the frames that are taken from a bundle were free: a free frame is one of the core's, and no actor has it
   pub taken-frames : bit_and mask (w.core.bundles g) ≡ mask → (f : ℕ) → in_mask g mask f ≡ true → (f < w.core.shape.frames) × ((a : ℕ) → w.core.held a f ≡ false)
   taken-frames among f e =
       ⊎_elim
-      (λ t. free-frame w f inv t.1)
+      (λ t.
+      let is : inv.place f ≡ Free = free-place (inv.place f) (sym (inv.frames f).free ∙ t.1) in (
+        ⊎_elim (λ l. l) (λ past. absurd (true≢false (ap at_free (sym is ∙ (inv.frames f).outside past)))) (cases_lt f w.core.shape.frames),
+        λ a. (inv.frames f).holds a ∙ ap (λ x. at_actor x a) is,
+      ))
       (λ t. absurd (true≢false (sym e ∙ t.0)))
       (taken-free w.core.bundles g (w.core.bundles g) mask f refl among)
 
-  -- the bits of frames that an actor has are not set
+  -- the bits of frames that an actor has are not set: these are not free
   pub given-bits : (a : ℕ) → mask < 2 ^ 64 → ((f : ℕ) → in_mask g mask f ≡ true → w.core.held a f ≡ true) → bit_and (w.core.bundles g) mask ≡ 0
   unfolding in_mask has_free_bit
   given-bits a small holds =
@@ -118,7 +109,8 @@ module _ (w : World) (g mask : ℕ) (inv : Inv w) where
           let q : (64 * g + i) / 64 ≡ g = omega (arith, low) in
           let m : (64 * g + i) % 64 ≡ i = omega (arith, low) in
           let in-it : in_mask g mask (64 * g + i) ≡ true = and_from _ _ (eq-eqb _ _ q) (eq-eqb _ _ (ap (bit_at mask) m ∙ one)) in
-          let off : eqb (bit_at (w.core.bundles ((64 * g + i) / 64)) ((64 * g + i) % 64)) 1 ≡ false = held-frame w (64 * g + i) inv a (holds (64 * g + i) in-it) in
+          let f : ℕ = 64 * g + i in
+          let off : eqb (bit_at (w.core.bundles (f / 64)) (f % 64)) 1 ≡ false = (inv.frames f).free ∙ ap at_free (held-place (inv.place f) a (sym ((inv.frames f).holds a) ∙ holds f in-it)) in
           let here : eqb (bit_at (w.core.bundles g) i) 1 ≡ false = sym (λ j. eqb (bit_at (w.core.bundles (q j)) (m j)) 1) ∙ off in
           let ne : bit_at (w.core.bundles g) i ≢ 1 = λ set. true≢false (sym (eq-eqb _ _ set) ∙ here) in
           omega (arith, word, ne))

@@ -4,8 +4,7 @@ use Rattle.std.proofs.Common.{eq-eqb, ne_eqb}
 use Rattle.vm_rule.specs.declared.view.Place.TheVariants as places
 use Rattle.vm_rule.specs.declared.view.Release.{Release as Released}
 use Rattle.vm_rule.proofs.{Found.held-here, Parts.upd-is, Worlds.store-core, Worlds.stores-else, Worlds.worlds-same, Worlds.wrote}
-use Rattle.vm_rule.proofs.Cores.{core-fault, core-step, core-translation, held-put, held-still, loads-still}
-use Rattle.vm_rule.proofs.Cores.{seats-still}
+use Rattle.vm_rule.proofs.Cores.{core-fault, core-step, core-translation, held-put, held-still, loads-still, seats-still}
 use Rattle.vm_rule.proofs.Prelude.{ap, at_page, bit_or, bit_xor, block_of, Bool, changed_at, Claim, Clean, Clear, core_from, core_shown, Dirty, false, frame_of}
 use Rattle.vm_rule.proofs.Prelude.{frames_held, fun_ext, gains, get_elem?, Give, given_by, Hand, hand_more, has, held-place, histories_of, if◌then◌else◌}
 use Rattle.vm_rule.proofs.Prelude.{in_mask, Install, Inv, length, List, Mapping, mapping_of, None, on_page, Option, Origin, owned, pages_from, Place, Raise}

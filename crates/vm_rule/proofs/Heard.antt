@@ -30,10 +30,6 @@ pub has-first : (ns : List ℕ) → 0 < length ns → has (slice_index ns 0) ns 
 has-first [] l = absurd (omega arith)
 has-first (n ∷ ns) l = rw (eq-eqb n n refl) refl
 
--- a pass with a number has a part
-pub has-part : {X : Type 0} (v : View X) → 0 < length v.used → (k : ℕ) × (1 ≤ owns k v)
-has-part v l = let one : 1 ≤ times (slice_index v.used 0) v.used = times-has (slice_index v.used 0) v.used (has-first v.used l) in (slice_index v.used 0, omega (arith, one))
-
 pub one-most : (k : ℕ) → one_part k ≤ 1
 one-most k = ⊎_elim (λ l. rw (lt-ltb k PARTS l) (omega arith)) (λ le. rw (le-ltb k PARTS le) (omega arith)) (cases_lt k PARTS)
 

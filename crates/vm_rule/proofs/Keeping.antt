@@ -13,13 +13,6 @@ legal-both : (c : State) (xs ys : List Event) → AllLegal c xs → AllLegal (ru
 legal-both c [] ys m n = n
 legal-both c (x ∷ xs) ys m n = (m.0, legal-both (after_event c x) xs ys m.1 n)
 
-runs-both : (c c' c'' : State) (xs ys : List Event) → RunsTo c xs c' → RunsTo c' ys c'' → RunsTo c (xs ++ ys) c''
-runs-both c c' c'' xs ys r s =
-    record {
-      legal = legal-both c xs ys r.legal (subst (λ x. AllLegal x ys) r.state s.legal);
-      state = s.state ∙ ap (λ x. run x ys) r.state ∙ sym (run-both c xs ys);
-    }
-
 -- legal events from a start whose blocks tell their words are kept
 pub kept-run : (s : CoreStart) (events : List Event) (new : State) → IsStart s → s.tells ≡ true → RunsTo (start s) events new → KeptFrom s events new
 kept-run s events new ok t r =
@@ -38,7 +31,11 @@ kept-run s events new ok t r =
 
 pub kept-more : (old new : State) (done : List Event) → RunsTo old done new → IsRunKept old done new
 kept-more old new done r shape before le b =
-    kept-run (core_start shape) (before ++ done) new (core-start shape le) refl (runs-both (start (core_start shape)) old new before done b r)
+    let c : State = start (core_start shape) in
+    kept-run (core_start shape) (before ++ done) new (core-start shape le) refl (record {
+      legal = legal-both c before done b.legal (subst (λ x. AllLegal x done) b.state r.legal);
+      state = r.state ∙ ap (λ x. run x done) b.state ∙ sym (run-both c before done);
+    })
 
 pub kept-fault : (old new : State) (events : List Event) (fault : ReplayFault) → Replayed old events (Err fault) new → KeptFault old events fault new
 kept-fault old new events (faults.Illegal index) r = kept-more old new (take index events) r.0

@@ -18,11 +18,6 @@ at-else : (words : List ℕ) (i x j : ℕ) → j ≢ i → at 0 (slice_set words
 unfolding at
 at-else words i x j ne = get_or-set_other words i j x 0 ne
 
--- the value of a word within the table
-pub part-at : (base n : ℕ) (words : List ℕ) (k : ℕ) → k < n → part base n words k ≡ at 0 words (base + k)
-unfolding part
-part-at base n words k l = rw (lt-ltb k n l) refl
-
 -- the words, part by part, in the order of the layout
 words-as : {a a' b b' c c' d d' e e' h h' : ℕ → ℕ} {f f' g g' : ℕ} → a ≡ a' → b ≡ b' → c ≡ c' → d ≡ d' → e ≡ e' → f ≡ f' → g ≡ g' → h ≡ h'
     → ◌≡◌ {A = Words} (record { states = a; translations = b; faults = c; contents = d; bundles = e; next = f; hand = g; owners = h }) (record { states = a'; translations = b'; faults = c'; contents = d'; bundles = e'; next = f'; hand = g'; owners = h' })

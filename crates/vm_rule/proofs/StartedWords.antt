@@ -3,17 +3,12 @@ use Rattle.vm_rule.proofs.ListFacts.{at-left, at-listed, at-map, at-past, at-rig
 use Rattle.vm_rule.proofs.Parts.{listed-same}
 use Rattle.vm_rule.proofs.Prelude.{[], ap, append-nil, append_assoc, arith, at, Bool, bundles_of, cases_lt, counts_of, EVICTED, frame_words, full_bundle}
 use Rattle.vm_rule.proofs.Prelude.{le-ltb, length, length-append, List, listed, lt-ltb, min, Origin, part, refl, replicate, started_origin, started_words}
-use Rattle.vm_rule.proofs.Prelude.{Stored, sym, table_words, width, word_of, ℕ, ⊎_elim, ◌*◌, ◌++◌, ◌+◌, ◌-◌, ◌<◌, ◌^◌, ◌∙◌, ◌∷◌, ◌≡◌, ◌≤◌}
+use Rattle.vm_rule.proofs.Prelude.{Stored, sym, table_words, width, word_of, ℕ, ⊎_elim, ◌*◌, ◌++◌, ◌+◌, ◌-◌, ◌<◌, ◌^◌, ◌∙◌, ◌∷◌, ◌≡◌}
 
 -- the parts are pushed one after another
 pub pushed-parts : (states translations faults contents bundles : List ℕ) (next hand : ℕ) (owners w0 w1 w2 w3 w4 w5 w6 w7 w8 : List ℕ) → w0 ≡ [] → w1 ≡ w0 ++ states → w2 ≡ w1 ++ translations → w3 ≡ w2 ++ faults → w4 ≡ w3 ++ contents → w5 ≡ w4 ++ bundles → w6 ≡ w5 ++ next ∷ [] → w7 ≡ w6 ++ hand ∷ [] → w8 ≡ w7 ++ owners
     → w8 ≡ states ++ (translations ++ (faults ++ (contents ++ (bundles ++ (next ∷ (hand ∷ owners))))))
 pushed-parts a b c d e x y o w0 w1 w2 w3 w4 w5 w6 w7 w8 e0 e1 e2 e3 e4 e5 e6 e7 e8 = e8 ∙ rw (e7, e6, e5, e4, e3, e2, e1, e0) (simp append_assoc)
-
--- past the last frame a bundle has no bit
-empty-bundle : (frames g : ℕ) → bundles_of frames ≤ g → full_bundle frames g ≡ 0
-unfolding full_bundle
-empty-bundle frames g le = let none : min 64 (frames - 64 * g) ≡ 0 = omega arith in ap (λ n. 2 ^ n - 1) none
 
 -- rows laid one after another, and how long they are together
 abbrev laid : List (List ℕ) → List ℕ
@@ -105,9 +100,14 @@ module _ (tells : Bool) (version next frames : ℕ) (blocks : List Stored) where
       ∙ at-zeros (64 * frames) (64 * f + i))
 
   pub started-bundle : (g : ℕ) → (table_words start words).bundles g ≡ full_bundle frames g
+  unfolding full_bundle
   started-bundle g =
       part-laid words rows _ (states ∷ blank (length blocks) ∷ counts_of blocks ∷ blank (64 * frames) ∷ []) bundles (3 * length blocks + 64 * frames) (bundles_of frames) words-laid refl (omega (arith, long.0, long.1, long.2, long.3)) long.4 g
-      ∙ ⊎_elim (λ l. at-listed 0 (bundles_of frames) (full_bundle frames) g l) (λ le. at-past 0 bundles g (omega (arith, long.4, le)) ∙ sym (empty-bundle frames g le)) (cases_lt g (bundles_of frames))
+      ∙ ⊎_elim
+      (λ l. at-listed 0 (bundles_of frames) (full_bundle frames) g l)
+      -- past the last frame a bundle has no bit
+      (λ le. let none : min 64 (frames - 64 * g) ≡ 0 = omega arith in at-past 0 bundles g (omega (arith, long.4, le)) ∙ sym (ap (λ n. 2 ^ n - 1) none))
+      (cases_lt g (bundles_of frames))
 
   pub started-owner : (f : ℕ) → (table_words start words).owners f ≡ 0
   started-owner f =
