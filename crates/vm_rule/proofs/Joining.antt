@@ -77,56 +77,6 @@ module _ {X : Type 0} where
     pub releases : (x.releases ≡ v.releases) × (x.told_releases ≡ w.releases)
     pub history : (h : List (Entry X)) → (v.seen ≡ h) ⊎ (w.seen ≡ h) → (x.seen ≡ h) ⊎ (x.told ≡ h)
 
-module _ {X B : Type 0} (stored : B → Stored) (keeps : Start → Kept X → Type 0) (tied : Start → ℕ → List ℕ → ℕ → List ℕ → Type 0) (start : Origin) (tells : Bool) (s : Table (Option B) (View X)) (r : Ruled stored keeps tied start tells s)
-    (id other : ℕ) (v w x : View X) (there : get_elem? s.views id ≡ some v) (apart : other ≢ id) (at-other : get_elem? s.views other ≡ some w) (live : v.live ≡ true) (live' : w.live ≡ true)
-    (settled-here : (v.told_releases ≡ []) × (v.told ≡ [])) (settled-other : (w.told_releases ≡ []) × (w.told ≡ [])) (nothing : HoldsNoPage w) (ab : Absorbs v w x) (fit : IsFit stored keeps tied start tells s r x) where
-  abbrev after : List (View X)
-  after = twice s.views id other v w x spent there apart at-other
-
-  gone : get_elem? (slice_set s.views id x) other ≡ some w
-  gone = once-second s.views id other v w x spent there apart at-other
-
-  pages : KnowsPages tied start (world_of stored start r.releases r.drafts s) (is_pending s.views) w
-  pages = r.known other w at-other live'
-
-  not-held : (p : ℕ) (b : Bool) → (b ≡ true → (seat_of w p).exclusive ≡ true) → false ≡ b
-  not-held p b f = ⊎_elim (λ t. absurd (true≢false (sym (f t) ∙ nothing.exclusive p))) (λ n. sym n) (cases_Bool b)
-
-  pub resettles : Resettles s.views after 0 other id
-  resettles = record {
-    count = (let same : length after ≡ length s.views = length-set (slice_set s.views id x) other spent ∙ length-set s.views id x in omega (arith, same));
-    apart = λ e. apart (sym e);
-    named = at-bound s.views id v there;
-    less = λ p a. subst (λ (q : Seat × List (ℕ × ℕ)). ReadsLess q.0 (seat_of (at spent after a) p) q.1 (loads_at (at spent after a) p))
-        (field-still {A = Seat × List (ℕ × ℕ)} (λ y. (seat_of y p, loads_at y p)) s.views id v x there (λ i. (put_at no_seat (ab.seats i) p, put_at [] (ab.loads i) p)) a)
-        (replaced-less (slice_set s.views id x) other w spent gone (λ q. record { shares = sym (nothing.shares q); exclusive = sym (nothing.exclusive q); writing = sym (nothing.writing q); reading = inl refl }) p a);
-    gets = λ f. ap (λ (y : View X). has f y.frames) (at-first s.views id other v w x spent there apart at-other) ∙ ab.frames f ∙ either-way (has f w.frames) (has f v.frames)
-        ∙ (λ i. if has f (sym (at-there spent s.views other w at-other) i).frames then true else has f (sym (at-there spent s.views id v there) i).frames);
-    gives = λ f. ap (λ (y : View X). has f y.frames) (at-second s.views id other v w x spent there apart at-other);
-    keeps = λ a f n m. ap (λ (y : View X). has f y.frames) (at-neither s.views id other v w x spent there apart at-other a m n);
-    out = λ p. out-same (slice_set s.views id x) other w spent p gone (sym nothing.out) ∙ out-same s.views id v x p there ab.out;
-    pending = λ p. twice-any s.views id other v w x spent there apart at-other (λ y. has p y.pending) (ap (has p) ab.pending) (not-held p (has p w.pending) (λ t. (pages.pending p t).0));
-    owed = λ p. twice-any s.views id other v w x spent there apart at-other (λ y. has p y.owed) (ap (has p) ab.owed) (not-held p (has p w.owed) (λ t. (pages.owed p t).0));
-  }
-
-  pub settles : Settles stored keeps tied start tells s r after 0 other id resettles
-  settles =
-      let mine = seen-all stored keeps tied start tells s r v (r.heard id v there live) settled-here in
-      let theirs = seen-all stored keeps tied start tells s r w (r.heard other w at-other live') settled-other in
-      record {
-        fit = λ j u e. ⊎_elim
-            (λ t. subst (IsFit stored keeps tied start tells s r) t (fit-spent stored keeps tied start tells s r))
-            (λ t. ⊎_elim (λ q. subst (IsFit stored keeps tied start tells s r) q fit) (λ q. fit-now stored keeps tied start tells s r j u q) t)
-            (twice-at s.views id other v w x spent there apart at-other j u e);
-        notes = λ p n. twice-total s.views id other v w x spent there apart at-other (λ y. times_noted p n y.notes) (omega (arith, ab.notes p n));
-        parts = λ k. twice-total s.views id other v w x spent there apart at-other (owns k) (omega (arith, ab.parts k));
-        releases = twice-some s.views id other v w x spent there apart at-other (KnowsReleases stored keeps tied start tells s r) (λ a. inl (ab.releases.0 ∙ mine.0 a)) (λ a. inr (ab.releases.1 ∙ theirs.0 a)) r.lists.longest_releases;
-        history = twice-some s.views id other v w x spent there apart at-other (KnowsHistory stored keeps tied start tells s r) (λ a. ab.history r.history (inl (mine.1 a))) (λ a. ab.history r.history (inr (theirs.1 a))) r.lists.longest;
-      }
-
-  unfoldable pub absorbs-ruled : Ruled stored keeps tied start tells (record { words = s.words; homes = s.homes; views = after })
-  absorbs-ruled = settled-ruled stored keeps tied start tells s r after 0 other id resettles settles
-
 -- ---- lists
 
 noted-joined : (p n : ℕ) (a b : List Note) → times_noted p n (a ++ b) ≡ times_noted p n a + times_noted p n b
@@ -209,6 +159,55 @@ module _ {X : Type 0} where
 module _ {X B : Type 0} (stored : B → Stored) (keeps : Start → Kept X → Type 0) (tied : Start → ℕ → List ℕ → ℕ → List ℕ → Type 0) (start : Origin) (tells : Bool) (s : Table (Option B) (View X)) (r : Ruled stored keeps tied start tells s)
     (id other : ℕ) (v w : View X) (there : get_elem? s.views id ≡ some v) (apart : other ≢ id) (at-other : get_elem? s.views other ≡ some w) (live : v.live ≡ true) (live' : w.live ≡ true)
     (settled-here : (v.told_releases ≡ []) × (v.told ≡ [])) (settled-other : (w.told_releases ≡ []) × (w.told ≡ [])) (nothing : HoldsNoPage w) where
+  -- x absorbs both
+  module _ (x : View X) (ab : Absorbs v w x) (fit : IsFit stored keeps tied start tells s r x) where
+    abbrev after : List (View X)
+    after = twice s.views id other v w x spent there apart at-other
+
+    gone : get_elem? (slice_set s.views id x) other ≡ some w
+    gone = once-second s.views id other v w x spent there apart at-other
+
+    pages : KnowsPages tied start (world_of stored start r.releases r.drafts s) (is_pending s.views) w
+    pages = r.known other w at-other live'
+
+    not-held : (p : ℕ) (b : Bool) → (b ≡ true → (seat_of w p).exclusive ≡ true) → false ≡ b
+    not-held p b f = ⊎_elim (λ t. absurd (true≢false (sym (f t) ∙ nothing.exclusive p))) (λ n. sym n) (cases_Bool b)
+
+    pub resettles : Resettles s.views after 0 other id
+    resettles = record {
+      count = (let same : length after ≡ length s.views = length-set (slice_set s.views id x) other spent ∙ length-set s.views id x in omega (arith, same));
+      apart = λ e. apart (sym e);
+      named = at-bound s.views id v there;
+      less = λ p a. subst (λ (q : Seat × List (ℕ × ℕ)). ReadsLess q.0 (seat_of (at spent after a) p) q.1 (loads_at (at spent after a) p))
+          (field-still {A = Seat × List (ℕ × ℕ)} (λ y. (seat_of y p, loads_at y p)) s.views id v x there (λ i. (put_at no_seat (ab.seats i) p, put_at [] (ab.loads i) p)) a)
+          (replaced-less (slice_set s.views id x) other w spent gone (λ q. record { shares = sym (nothing.shares q); exclusive = sym (nothing.exclusive q); writing = sym (nothing.writing q); reading = inl refl }) p a);
+      gets = λ f. ap (λ (y : View X). has f y.frames) (at-first s.views id other v w x spent there apart at-other) ∙ ab.frames f ∙ either-way (has f w.frames) (has f v.frames)
+          ∙ (λ i. if has f (sym (at-there spent s.views other w at-other) i).frames then true else has f (sym (at-there spent s.views id v there) i).frames);
+      gives = λ f. ap (λ (y : View X). has f y.frames) (at-second s.views id other v w x spent there apart at-other);
+      keeps = λ a f n m. ap (λ (y : View X). has f y.frames) (at-neither s.views id other v w x spent there apart at-other a m n);
+      out = λ p. out-same (slice_set s.views id x) other w spent p gone (sym nothing.out) ∙ out-same s.views id v x p there ab.out;
+      pending = λ p. twice-any s.views id other v w x spent there apart at-other (λ y. has p y.pending) (ap (has p) ab.pending) (not-held p (has p w.pending) (λ t. (pages.pending p t).0));
+      owed = λ p. twice-any s.views id other v w x spent there apart at-other (λ y. has p y.owed) (ap (has p) ab.owed) (not-held p (has p w.owed) (λ t. (pages.owed p t).0));
+    }
+
+    pub settles : Settles stored keeps tied start tells s r after 0 other id resettles
+    settles =
+        let mine = seen-all stored keeps tied start tells s r v (r.heard id v there live) settled-here in
+        let theirs = seen-all stored keeps tied start tells s r w (r.heard other w at-other live') settled-other in
+        record {
+          fit = λ j u e. ⊎_elim
+              (λ t. subst (IsFit stored keeps tied start tells s r) t (fit-spent stored keeps tied start tells s r))
+              (λ t. ⊎_elim (λ q. subst (IsFit stored keeps tied start tells s r) q fit) (λ q. fit-now stored keeps tied start tells s r j u q) t)
+              (twice-at s.views id other v w x spent there apart at-other j u e);
+          notes = λ p n. twice-total s.views id other v w x spent there apart at-other (λ y. times_noted p n y.notes) (omega (arith, ab.notes p n));
+          parts = λ k. twice-total s.views id other v w x spent there apart at-other (owns k) (omega (arith, ab.parts k));
+          releases = twice-some s.views id other v w x spent there apart at-other (KnowsReleases stored keeps tied start tells s r) (λ a. inl (ab.releases.0 ∙ mine.0 a)) (λ a. inr (ab.releases.1 ∙ theirs.0 a)) r.lists.longest_releases;
+          history = twice-some s.views id other v w x spent there apart at-other (KnowsHistory stored keeps tied start tells s r) (λ a. ab.history r.history (inl (mine.1 a))) (λ a. ab.history r.history (inr (theirs.1 a))) r.lists.longest;
+        }
+
+    unfoldable pub absorbs-ruled : Ruled stored keeps tied start tells (record { words = s.words; homes = s.homes; views = after })
+    absorbs-ruled = settled-ruled stored keeps tied start tells s r after 0 other id resettles settles
+
   joined-lists : KnowsLists start r.releases r.history (joined v w)
   joined-lists =
       let mine = r.heard id v there live in
@@ -244,7 +243,7 @@ module _ {X B : Type 0} (stored : B → Stored) (keeps : Start → Kept X → Ty
       }
 
   pub joins-ruled : Ruled stored keeps tied start tells (record { words = s.words; homes = s.homes; views = twice s.views id other v w (joined v w) spent there apart at-other })
-  joins-ruled = absorbs-ruled stored keeps tied start tells s r id other v w (joined v w) there apart at-other live live' settled-here settled-other nothing (joined-absorbs v w) joined-fit
+  joins-ruled = absorbs-ruled (joined v w) (joined-absorbs v w) joined-fit
 
   -- the lists and the drafts are as they were
   pub joins-past : (joins-ruled.releases ≡ r.releases) × (joins-ruled.history ≡ r.history) × (joins-ruled.drafts ≡ r.drafts)

@@ -82,7 +82,7 @@ module _ {X B : Type 0} (stored : B → Stored) (keeps : Start → Kept X → Ty
         }
 
     pub hears-ruled : Ruled stored keeps tied start tells (record { words = s.words; homes = s.homes; views = slice_set (slice_set s.views id (hearer v w)) other spent })
-    hears-ruled = absorbs-ruled stored keeps tied start tells s r id other v w (hearer v w) there apart at-other live live' settled-here settled-other (record { shares = nothing.shares; exclusive = nothing.exclusive; writing = nothing.writing; out = nothing.out }) hearer-absorbs hearer-fit
+    hears-ruled = absorbs-ruled stored keeps tied start tells s r id other v w there apart at-other live live' settled-here settled-other (record { shares = nothing.shares; exclusive = nothing.exclusive; writing = nothing.writing; out = nothing.out }) (hearer v w) hearer-absorbs hearer-fit
 
     -- the lists and the drafts are as they were
     pub hears-past : (hears-ruled.releases ≡ r.releases) × (hears-ruled.history ≡ r.history) × (hears-ruled.drafts ≡ r.drafts)

@@ -5,14 +5,13 @@ use Rattle.vm_core.specs.Prelude.{start as start_of}
 use Rattle.vm_rule.proofs.{Known.known-nothing, Pages.page-in, Pages.page-out, Parted.opened, Parts.listed-same, Starts.evicted-inv, Starts.start-frames}
 use Rattle.vm_rule.proofs.ListFacts.{at-any, at-map, length-mapped, listed-long}
 use Rattle.vm_rule.proofs.Prelude.{[], ap, arith, at, began_of, block_of, block_words, Bool, cases_Bool, cases_lt, chosen, cond, contents_of, core_shown}
-use Rattle.vm_rule.proofs.Prelude.{CoreStart, counts_of, EVICTED, evicted_page, false, first_kept, first_view, FrameIsAt, Free, fun_ext, get_elem?, has}
-use Rattle.vm_rule.proofs.Prelude.{has_free_bit, histories_of, home, if◌then◌else◌, inl, inr, Inv, is_owed, is_pending, IsSome, IsStarted, IsWhole, Kept}
-use Rattle.vm_rule.proofs.Prelude.{kept_of, known, KnowsLists, KnowsPages, le-ltb, length, length-replicate, List, loads_at, logical, lt-ltb, ltb, map}
-use Rattle.vm_rule.proofs.Prelude.{mapping_of, MAX_COUNT, MayBegin, no_block, None, none-some, Nowhere, numbers, opening, Option, Origin, Page, PageInv, refl}
-use Rattle.vm_rule.proofs.Prelude.{replicate, Ruled, seat_of, seats_of, Shape, snapshot_of, Some, some, some-injective, spent, Stands, stands_in, Start}
-use Rattle.vm_rule.proofs.Prelude.{started_origin, started_shape, started_words, State, state_of, Stored, subst, subst₃, suc, sym, Table, table_words}
-use Rattle.vm_rule.proofs.Prelude.{times_noted, trans_word, true, true≢false, unborn, version_of, View, width_of, world_of, zero, ℕ, ⊎_elim, ◌++◌, ◌-◌, ◌<◌}
-use Rattle.vm_rule.proofs.Prelude.{◌^◌, ◌∙◌, ◌∷◌, ◌≡◌, ◌≤◌}
+use Rattle.vm_rule.proofs.Prelude.{CoreStart, counts_of, EVICTED, evicted_page, false, first_view, FrameIsAt, Free, fun_ext, get_elem?, has, has_free_bit}
+use Rattle.vm_rule.proofs.Prelude.{histories_of, home, if◌then◌else◌, inl, inr, Inv, is_owed, is_pending, IsSome, IsStarted, IsWhole, Kept, known, KnowsLists}
+use Rattle.vm_rule.proofs.Prelude.{KnowsPages, le-ltb, length, length-replicate, List, loads_at, logical, lt-ltb, ltb, map, mapping_of, MAX_COUNT, MayBegin}
+use Rattle.vm_rule.proofs.Prelude.{no_block, None, none-some, Nowhere, numbers, opening, Option, Origin, Page, PageInv, refl, replicate, Ruled, seat_of}
+use Rattle.vm_rule.proofs.Prelude.{seats_of, Shape, snapshot_of, Some, some, some-injective, spent, Stands, stands_in, Start, started_origin, started_shape}
+use Rattle.vm_rule.proofs.Prelude.{started_words, State, state_of, Stored, subst, subst₃, suc, sym, Table, table_words, times_noted, trans_word, true}
+use Rattle.vm_rule.proofs.Prelude.{true≢false, unborn, version_of, View, width_of, world_of, zero, ℕ, ⊎_elim, ◌++◌, ◌-◌, ◌<◌, ◌^◌, ◌∙◌, ◌∷◌, ◌≡◌, ◌≤◌}
 use Rattle.vm_rule.proofs.StartedWords.{started-bundle, started-fault, started-frame, started-next, started-owner, started-state, started-translation}
 use Rattle.vm_rule.proofs.StartedWords.{started-wide}
 use Rattle.vm_rule.proofs.WordFacts.{mapping-none, word-state, word-version}
@@ -157,11 +156,6 @@ module _ (X : Type 0) {B : Type 0} (stored : B → Stored) (tells : Bool) (whole
     unfolding histories_of
     last-words p l = rw (lt-ltb p start.pages l) refl
 
-    starts-zero : tells ≡ true → (p : ℕ) → c.next ≤ p → p < start.pages → (histories_of start [] (λ p. []) p).last.words ≡ replicate 64 0
-    unfolding at
-    starts-zero t p le l =
-        last-words p l ∙ at-any (replicate 64 0) [] start.contents p (omega (arith, many-contents, l)) ∙ (begins t).zero p (omega (arith, next-is, le)) (omega (arith, many-contents, l))
-
     -- a page's fault word is its block's count, which is within its bound
     counted : (p : ℕ) → ((c.pages p).fault ≤ (c.pages p).count) × ((c.pages p).count ≤ MAX_COUNT)
     counted p =
@@ -173,16 +167,8 @@ module _ (X : Type 0) {B : Type 0} (stored : B → Stored) (tells : Bool) (whole
         (λ le. rw (page-out start.pages (table_words start words) (block_of stored table.homes table.views) (seats_of table.views) p le) (omega arith, omega arith))
         (cases_lt p start.pages)
 
-    starts-kept : kept_of (world_of stored start [] (λ p. []) table) [] table.views ≡ first_kept (began_of start)
-    unfolding logical
-    starts-kept = λ i. record {
-      pages = (listed-same start.pages (logical (histories_of start [] (λ p. [])) (is_pending table.views)) (at (replicate 64 0) start.contents) last-words ∙ listed-long (replicate 64 0) start.pages start.contents many-contents) i;
-      next = next-is i;
-      owed = chosen-none start.pages (is_owed table.views) (λ p. refl) i;
-      history = [];
-    }
-
     first-ruled : Ruled stored keeps tied start tells table
+    unfolding at logical
     first-ruled = record {
       releases = [];
       history = [];
@@ -193,7 +179,7 @@ module _ (X : Type 0) {B : Type 0} (stored : B → Stored) (tells : Bool) (whole
       spelled = λ p l. let is = started-translation tells version next frames blocks p l in is ∙ sym (ap (λ w. trans_word (mapping_of w)) is ∙ ap trans_word mapping-none);
       inv = started-inv;
       risen = omega (arith, next-is);
-      zero = starts-zero;
+      zero = λ t p le l. last-words p l ∙ at-any (replicate 64 0) [] start.contents p (omega (arith, many-contents, l)) ∙ (begins t).zero p (omega (arith, next-is, le)) (omega (arith, many-contents, l));
       blocks = record {
         away = λ j v o there e. absurd (let none : None ≡ Some o = only (λ y. None ≡ y.out) refl j v there ∙ e in cc);
         home = λ p l _. subst IsSome (sym (item-there stored items p l).2) refl;
@@ -221,7 +207,14 @@ module _ (X : Type 0) {B : Type 0} (stored : B → Stored) (tells : Bool) (whole
         idle = λ none _. absurd (let e : 1 ≡ 0 = ap length none in omega arith);
       });
       known = only (λ y. y.live ≡ true → KnowsPages tied start (world_of stored start [] (λ p. []) table) (is_pending table.views) y) (λ _. known-nothing tied start _ _ true start (0 ∷ []) (numbers 1 4294967295) [] []);
-      owner = λ t. subst (keeps (began_of start)) (sym starts-kept) (begins t).kept;
+      owner = λ t. subst (keeps (began_of start))
+          (sym (λ i. record {
+            pages = (listed-same start.pages (logical (histories_of start [] (λ p. [])) (is_pending table.views)) (at (replicate 64 0) start.contents) last-words ∙ listed-long (replicate 64 0) start.pages start.contents many-contents) i;
+            next = next-is i;
+            owed = chosen-none start.pages (is_owed table.views) (λ p. refl) i;
+            history = [];
+          }))
+          (begins t).kept;
     }
 
     first-stands : Stands stored keeps tied shape tells (opening words (map Some items) (unborn shape))
