@@ -88,6 +88,7 @@ module _ {X B : Type 0} (stored : B → Stored) (keeps : Start → Kept X → Ty
       adds-parts = record {
         parts = λ k. total-same (owns k) s.views id v after_more there (λ i. times k (sh.used i) + times k (sh.fresh i)) ∙ r.parts.parts k;
         spent = set-each (λ y. y.live ≡ false → y ≡ spent) s.views id after_more (λ off. absurd (true≢false (sym (sh.live ∙ live) ∙ off))) (λ j u _ e. r.parts.spent j u e);
+        -- a pass with a number has a part, so no other is whole
         whole = set-each (λ y. y.live ≡ true → IsWhole y → y.current ≡ true → (y.releases ≡ r.releases ++ own) × (y.seen ≡ r.history ++ entries) × (y.snapshot ≡ snapshot_of stored start became_more)) s.views id after_more
             (λ _ _ _. (refl, refl, λ i. record { words = words; blocks = sym sh.told i }))
             (λ j u ne e _ all _. let one : 1 ≤ times (slice_index v.used 0) v.used = times-has (slice_index v.used 0) v.used (has-first v.used number) in absurd (not-whole s.views j id u v r.parts.parts ne e there (slice_index v.used 0, omega (arith, one)) all));

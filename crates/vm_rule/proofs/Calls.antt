@@ -13,6 +13,7 @@ pub record IsCalled (tells : Bool) (words : ℕ → List ℕ) (r : Page) (count 
   pub contents : tells ≡ true → (block ≡ r.block) ⊎ (IsSome r.trans × (block ≡ block_after words r.trans r.block))
   pub counts : (count ≡ r.count) ⊎ (count ≡ count_more r.count)
 
+-- the page is in order, and so is the world
 pub called-inv : (w : World) (a p count : ℕ) (block : List ℕ) → Inv w → MayCall (w.core.pages p) a → IsCalled w.core.tells w.core.words (w.core.pages p) count block
     → Inv (record w { core = on_page w.core p (called (w.core.pages p) count block) })
 called-inv w a p count block i m k =

@@ -159,7 +159,7 @@ module _ {X : Type 0} where
 module _ {X B : Type 0} (stored : B → Stored) (keeps : Start → Kept X → Type 0) (tied : Start → ℕ → List ℕ → ℕ → List ℕ → Type 0) (start : Origin) (tells : Bool) (s : Table (Option B) (View X)) (r : Ruled stored keeps tied start tells s)
     (id other : ℕ) (v w : View X) (there : get_elem? s.views id ≡ some v) (apart : other ≢ id) (at-other : get_elem? s.views other ≡ some w) (live : v.live ≡ true) (live' : w.live ≡ true)
     (settled-here : (v.told_releases ≡ []) × (v.told ≡ [])) (settled-other : (w.told_releases ≡ []) × (w.told ≡ [])) (nothing : HoldsNoPage w) where
-  -- x absorbs both
+  -- the pass takes all over in its view x, and the other is spent
   module _ (x : View X) (ab : Absorbs v w x) (fit : IsFit stored keeps tied start tells s r x) where
     abbrev after : List (View X)
     after = twice s.views id other v w x spent there apart at-other

@@ -124,6 +124,7 @@ module _ {X B : Type 0} (stored : B → Stored) (keeps : Start → Kept X → Ty
     heard-told : Hears v.told v.used v.seen
     heard-told = (on-seen.0, on-seen.1, (none-each v.used on-seen.0 own-lists.told.1.0 none-further).0)
 
+    -- a page that it has locked was not released between what it had seen and what it was told
     kept-since : (p : ℕ) → IsLocking (seat_of v p) → last_in v.start v.told_releases p ≡ last_in v.start v.releases p
     kept-since p locks =
         let rest : List Release = on-releases.0 ++ own-lists.told.0.0 in
