@@ -2,10 +2,10 @@
 -- what the others know stays by what the step leaves, so it is the pass's own part alone. `Shows` is a step that is an event of the core and moves
 -- no block.
 use mathlib.Core.Option as maybe
-use Rattle.vm_rule.proofs.{Facts.blocks-still, Heard.Added, Heard.added, Heard.each-both, Heard.has-first, Heard.next-both, Heard.starts-more, Heard.times-has, Runs.event_law}
-use Rattle.vm_rule.proofs.{Views.at-bound, Views.at-there, Views.block-same, Views.set-each, Were.were-did, Were.were-moves, Worlds.draft-is, Worlds.last-is}
+use Rattle.vm_rule.proofs.{Facts.blocks-still, Found.outside-here, Found.seat-here, Runs.event_law, Views.at-bound, Views.at-there, Views.block-same}
+use Rattle.vm_rule.proofs.{Views.set-each, Were.were-did, Were.were-moves, Worlds.draft-is, Worlds.last-is}
 use Rattle.vm_rule.proofs.Entries.{append-none, each-map, entries-both, entries-none, entries-within, mine-in, not-whole, starts-self, total-same}
-use Rattle.vm_rule.proofs.Found.{outside-here, seat-here}
+use Rattle.vm_rule.proofs.Heard.{Added, added, each-both, has-first, next-both, starts-more, times-has}
 use Rattle.vm_rule.proofs.Known.{any-gone, histories-outside, known-else, tie-moves, translation-moves}
 use Rattle.vm_rule.proofs.Prelude.{[], ap, append_assoc, AreNext, ArePlain, arith, began_of, block_of, BlocksFit, Bool, brought, cases_Bool, core_shown, Did}
 use Rattle.vm_rule.proofs.Prelude.{draft_of, Each, entries_by, Entry, entry_of, Event, EVICTED, false, FaultsFit, get_elem?, has, histories_of, index_of, inl}
