@@ -2,27 +2,17 @@
 use mathlib.Core.Option as maybe
 use Rattle.atomic_table.specs.Table.{keeps as stays}
 use Rattle.vm_rule.specs.declared.view.Place.TheVariants as places
-use Rattle.vm_rule.proofs.{Bringing.rested, Found.same-word, Sound.is-sound, StartedRule.only-view}
-use Rattle.vm_rule.proofs.Prelude.{[], Allows, ap, arith, begin_play, begun, block_of, Bool, brought, Did, did_load, first_view, get_elem?, HasShape}
-use Rattle.vm_rule.proofs.Prelude.{inl, Kept, length, List, listed, Me, NLoad, Option, Origin, refl, Ruled, Shape, slice_index, slice_set}
-use Rattle.vm_rule.proofs.Prelude.{snapshot_of, some, Stands, Start, step, Stored, subst, suc, sym, Table, unborn, View, zero, ℕ, ⊎_elim, ◌++◌, ◌∙◌}
-use Rattle.vm_rule.proofs.Prelude.{◌∷◌, ◌≡◌, ◌≤◌}
+use Rattle.vm_rule.proofs.{Bringing.rested, Found.same-word, Sound.is-sound, StartedRule.only-one}
+use Rattle.vm_rule.proofs.Prelude.{[], Allows, ap, arith, begin_play, begun, block_of, Bool, brought, Did, did_load, first_view, get_elem?, HasShape, inl, Kept}
+use Rattle.vm_rule.proofs.Prelude.{length, List, listed, Me, NLoad, Option, Origin, refl, Ruled, Shape, slice_index, slice_set, snapshot_of, some, Stands}
+use Rattle.vm_rule.proofs.Prelude.{Start, step, Stored, subst, sym, Table, unborn, View, ℕ, ⊎_elim, ◌++◌, ◌∙◌, ◌∷◌, ◌≡◌, ◌≤◌}
 use Rattle.vm_rule.proofs.Resettling.{HasSome, KnowsHistory, KnowsReleases}
-
-only-place : {A : Type 0} (x : A) (j : ℕ) (y : A) → get_elem? (x ∷ []) j ≡ some y → j ≡ 0
-only-place x zero y e = refl
-only-place x (suc j) y e = absurd (maybe.some-ne-none y (sym e))
 
 -- what some view of the one there is says, that one says
 first-says : {X : Type 0} (P : View X → Type 0) (v : View X) → HasSome P (v ∷ []) → P v
-first-says P v l = subst P (only-view v l.0 l.1 l.2) l.3
+first-says P v l = subst P (only-one v l.0 l.1 l.2).1 l.3
 
 module _ {X B : Type 0} (stored : B → Stored) (keeps : Start → Kept X → Type 0) (tied : Start → ℕ → List ℕ → ℕ → List ℕ → Type 0) (shape : Shape) (tells : Bool) where
-  -- a view that does not live is spent, and that of the first pass is not
-  unborn-ruled : (start : Origin) (s : Table (Option B) (View X)) (id : ℕ) → Ruled stored keeps tied start tells s → get_elem? s.views id ≡ some (unborn shape) → ⊥
-  unborn-ruled start s id r there =
-      absurd (let e : 1 ≡ 0 = ap (λ (y : View X). length y.used) (r.parts.spent id (unborn shape) there refl) in omega arith)
-
   module _ (start : Origin) (is : HasShape shape start) (s : Table (Option B) (View X)) (r : Ruled stored keeps tied start tells (record s { views = first_view start ∷ [] })) (first : snapshot_of stored start s ≡ shape.began.snapshot) (alone : s.views ≡ unborn shape ∷ []) (page : 1 ≤ shape.pages) where
     abbrev opened : Table (Option B) (View X)
     opened = record s { views = first_view start ∷ [] }
@@ -30,24 +20,18 @@ module _ {X B : Type 0} (stored : B → Stored) (keeps : Start → Kept X → Ty
     abbrev loads : Did
     loads = did_load (places.State 0) (slice_index s.words 0)
 
-    no-releases : r.releases ≡ []
-    no-releases = ⊎_elim sym sym (first-says (KnowsReleases stored keeps tied start tells opened r) (first_view start) r.lists.longest_releases)
-
-    no-history : r.history ≡ []
-    no-history = ⊎_elim sym sym (first-says (KnowsHistory stored keeps tied start tells opened r) (first_view start) r.lists.longest)
-
-    unborn-blocks : block_of {X = X} stored s.homes (first_view start ∷ []) ≡ block_of {X = X} stored s.homes (unborn shape ∷ [])
-    unfolding block_of
-    unborn-blocks = refl
-
     same-snapshot : snapshot_of stored start opened ≡ shape.began.snapshot
-    same-snapshot = (λ i. record { words = s.words; blocks = listed start.pages (unborn-blocks i) }) ∙ (λ i. record { words = s.words; blocks = listed start.pages (block_of stored s.homes (sym alone i)) }) ∙ first
+    unfolding block_of
+    same-snapshot = (λ i. record { words = s.words; blocks = listed start.pages (block_of stored s.homes (sym alone i)) }) ∙ first
 
     abbrev after : View X
     after = brought (first_view start) (r.releases ++ []) (r.history ++ []) (snapshot_of stored start opened) loads
 
     after-is : after ≡ begun (unborn shape)
-    after-is = λ i. brought (first_view (is.same i)) (no-releases i ++ []) (no-history i ++ []) (same-snapshot i) (did_load (places.State 0) (slice_index ((same-snapshot i).words) 0))
+    after-is =
+        let releases : r.releases ≡ [] = ⊎_elim sym sym (first-says (KnowsReleases stored keeps tied start tells opened r) (first_view start) r.lists.longest_releases) in
+        let history : r.history ≡ [] = ⊎_elim sym sym (first-says (KnowsHistory stored keeps tied start tells opened r) (first_view start) r.lists.longest) in
+        λ i. brought (first_view (is.same i)) (releases i ++ []) (history i ++ []) (same-snapshot i) (did_load (places.State 0) (slice_index ((same-snapshot i).words) 0))
 
     begins-ruled : Ruled stored keeps tied start tells (record { words = s.words; homes = s.homes; views = after ∷ [] })
     begins-ruled =
@@ -59,9 +43,10 @@ module _ {X B : Type 0} (stored : B → Stored) (keeps : Start → Kept X → Ty
   begin-allows-as id slots me e page =
       subst (λ (y : Me (Option B) (View X)). Allows (Stands stored keeps tied shape tells) slots id y 0 (λ n. n) (begin_play (step slots 0 0 0 maybe.none) y)) (sym e)
       (λ s h many there fits. ⊎_elim
-      (λ r. absurd (unborn-ruled h.start s id r there))
+      -- a view that does not live is spent, and that of the first pass is not
+      (λ r. absurd (let e : 1 ≡ 0 = ap (λ (y : View X). length y.used) (r.parts.spent id (unborn shape) there refl) in omega arith))
       (λ t.
-      let here : id ≡ 0 = only-place (unborn shape) id (unborn shape) (subst (λ l. get_elem? l id ≡ some (unborn shape)) t.0 there) in
+      let here : id ≡ 0 = (only-one (unborn shape) id (unborn shape) (subst (λ l. get_elem? l id ≡ some (unborn shape)) t.0 there)).0 in
       let w : View X = after h.start h.is_shape s t.1 t.2 t.0 page in
       let ruled = begins-ruled h.start h.is_shape s t.1 t.2 t.0 page in (
         w,

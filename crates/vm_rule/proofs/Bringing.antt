@@ -62,13 +62,15 @@ module _ {X B : Type 0} (stored : B → Stored) (keeps : Start → Kept X → Ty
       steps_more s r id v words s.homes (listed start.pages (block_of stored s.homes s.views)) None drafts own entries did inner there live number left refl
       (shows-more stored keeps tied start tells s r id v words drafts own entries did inner e there (subst (λ a. Leaves a old (world_after old e)) actor (leave_others old e r.inv sh.legal)) sh)
 
-  -- a step that is an event which changes nothing, with a view that keeps all but what any step brings
-  pub rests : (s : Table (Option B) (View X)) (r : Ruled stored keeps tied start tells s) (id : ℕ) (v : View X) (did : Did) (e : Event) → get_elem? s.views id ≡ some v → v.live ≡ true
+  -- so does a step that is an event which changes nothing, with a view that keeps all but what any step brings: an exchange that is lost, or a load
+  -- that no read is open for
+  pub rested : (s : Table (Option B) (View X)) (r : Ruled stored keeps tied start tells s) (id : ℕ) (v : View X) (did : Did) (e : Event) → get_elem? s.views id ≡ some v → v.live ≡ true → 0 < length v.used → actor_of e ≡ id
       → Legal (core_shown stored start s) e
       → world_after (world_of stored start r.releases r.drafts s) e ≡ world_of stored start r.releases r.drafts s
       → Within start did.at → IsFoundAt did.found (index_of start did.at) s.words → did.wrote ≡ None
-      → Shows stored keeps tied start tells s r id v s.words r.drafts [] [] did v e
-  rests s r id v did e there live legal lost inside found none =
+      → Ruled stored keeps tied start tells (became stored keeps tied start tells s s.words id (after_step stored keeps tied start tells s r s.words [] [] did v))
+      × Brings did [] [] v v (after_step stored keeps tied start tells s r s.words [] [] did v)
+  rested s r id v did e there live number actor legal lost inside found none =
       let w : View X = after_step stored keeps tied start tells s r s.words [] [] did v in
       let new : Table (Option B) (View X) = became stored keeps tied start tells s s.words id w in
       let k : KnowsPages tied start (world_of stored start r.releases r.drafts s) (is_pending s.views) v = r.known id v there live in
@@ -79,7 +81,9 @@ module _ {X B : Type 0} (stored : B → Stored) (keeps : Start → Kept X → Ty
       let world : world_of stored start (r.releases ++ []) r.drafts new ≡ world_of stored start r.releases r.drafts s = ap (λ l. world_of stored start l r.drafts new) releases ∙ still in
       let pending : is_pending (slice_set s.views id w) ≡ is_pending s.views = fun_ext (λ p. any-same (λ y. has p y.pending) s.views id v w there refl) in
       let owed : is_owed (slice_set s.views id w) ≡ is_owed s.views = fun_ext (λ p. any-same (λ y. has p y.owed) s.views id v w there refl) in
-      record {
+      steps s r id v s.words r.drafts [] [] did v e there live number actor
+      (sym (ap (λ o. set_if o (index_of start did.at) s.words) none))
+      (record {
         wide = r.wide.0;
         spelled = r.spelled;
         legal = legal;
@@ -115,16 +119,4 @@ module _ {X B : Type 0} (stored : B → Stored) (keeps : Start → Kept X → Ty
           owed = chosen start.pages (sym owed i);
           history = sym history i;
         });
-      }
-
-  -- so it keeps the rule and tells this much: an exchange that is lost, or a load that no read is open for
-  pub rested : (s : Table (Option B) (View X)) (r : Ruled stored keeps tied start tells s) (id : ℕ) (v : View X) (did : Did) (e : Event) → get_elem? s.views id ≡ some v → v.live ≡ true → 0 < length v.used → actor_of e ≡ id
-      → Legal (core_shown stored start s) e
-      → world_after (world_of stored start r.releases r.drafts s) e ≡ world_of stored start r.releases r.drafts s
-      → Within start did.at → IsFoundAt did.found (index_of start did.at) s.words → did.wrote ≡ None
-      → Ruled stored keeps tied start tells (became stored keeps tied start tells s s.words id (after_step stored keeps tied start tells s r s.words [] [] did v))
-      × Brings did [] [] v v (after_step stored keeps tied start tells s r s.words [] [] did v)
-  rested s r id v did e there live number actor legal lost inside found none =
-      steps s r id v s.words r.drafts [] [] did v e there live number actor
-      (sym (ap (λ o. set_if o (index_of start did.at) s.words) none))
-      (rests s r id v did e there live legal lost inside found none)
+      })

@@ -18,18 +18,12 @@ has-one : (f x : ℕ) (b : Bool) → has f (one-if b x) ≡ (eqb f x && b)
 has-one f x true = ⊎_elim (λ t. rw t refl) (λ n. rw n refl) (cases_Bool (eqb f x))
 has-one f x false = ⊎_elim (λ t. rw t refl) (λ n. rw n refl) (cases_Bool (eqb f x))
 
--- among the first n frames stands none, one more, and not the next one
-none-below : (g f : ℕ) (c : Bool) → (eqb (f / 64) g && (ltb (f % 64) 0 && c)) ≡ false
-none-below g f c = grind (arith, nat_tests)
-
+-- among the first frames stands one more
 one-more : (g f n : ℕ) (b c : Bool) → suc n ≤ 64 → (f ≡ 64 * g + n → c ≡ b) → ((eqb (f / 64) g && (ltb (f % 64) n && c)) || (eqb f (64 * g + n) && b)) ≡ (eqb (f / 64) g && (ltb (f % 64) (suc n) && c))
 one-more g f n b c le same = ⊎_elim (λ e. let q : f / 64 ≡ g = omega arith in let m : f % 64 ≡ n = omega arith in let s : c ≡ b = same e in grind (arith, nat_tests, e, q, m, s)) (λ ne. grind (arith, nat_tests, ne)) (cases_eq f (64 * g + n))
 
-next-not : (g n : ℕ) (c : Bool) → n < 64 → (eqb ((64 * g + n) / 64) g && (ltb ((64 * g + n) % 64) n && c)) ≡ false
-next-not g n c l = let m : (64 * g + n) % 64 ≡ n = omega arith in grind (arith, nat_tests, m)
-
 has-below : (n g mask f : ℕ) → n ≤ 64 → has f (frames_below n g mask) ≡ (eqb (f / 64) g && (ltb (f % 64) n && eqb (bit_at mask (f % 64)) 1))
-has-below zero g mask f le = sym (none-below g f (eqb (bit_at mask (f % 64)) 1))
+has-below zero g mask f le = grind (arith, nat_tests)
 has-below (suc n) g mask f le =
     has-both f (frames_below n g mask) (one-if (eqb (bit_at mask n) 1) (64 * g + n))
     ∙ (λ i. has-below n g mask f (omega arith) i || has-one f (64 * g + n) (eqb (bit_at mask n) 1) i)
@@ -49,7 +43,7 @@ below-apart : (n g mask : ℕ) → n ≤ 64 → AreApart (frames_below n g mask)
 below-apart zero g mask le = tt
 below-apart (suc n) g mask le =
     apart-snoc (frames_below n g mask) (64 * g + n) (eqb (bit_at mask n) 1) (below-apart n g mask (omega arith))
-    (has-below n g mask (64 * g + n) (omega arith) ∙ next-not g n (eqb (bit_at mask ((64 * g + n) % 64)) 1) le)
+    (has-below n g mask (64 * g + n) (omega arith) ∙ (let m : (64 * g + n) % 64 ≡ n = omega arith in grind (arith, nat_tests, m)))
 
 -- each frame of the mask stands once
 pub frames_in-apart : (g mask : ℕ) → AreApart (frames_in g mask)
@@ -63,13 +57,8 @@ has-without_all f [] m = refl
 has-without_all f (q ∷ qs) m =
     has-without_all f qs (without q m)
     ∙ ⊎_elim
-    (λ e.
-    ap (λ b. if has f qs then false else b) (ap (λ n. has n (without q m)) e ∙ has-without_same q m)
-    ∙ none (has f qs)
-    ∙ sym (ap (λ b. if b || has f qs then false else has f m) (eq-eqb f q e)))
-    (λ ne.
-    ap (λ b. if has f qs then false else b) (has-without_other q f m ne)
-    ∙ sym (ap (λ b. if b || has f qs then false else has f m) (ne_eqb f q ne)))
+    (λ e. rw (eq-eqb f q e, ap (λ n. has n (without q m)) e ∙ has-without_same q m) (none (has f qs)))
+    (λ ne. rw (ne_eqb f q ne, has-without_other q f m ne) refl)
     (cases_eq f q)
   where
     none : (b : Bool) → (if b then false else false) ≡ false
@@ -82,42 +71,26 @@ pub with_contents-at : (words : ℕ → List ℕ) (l : List ℕ) (contents : Lis
 with_contents-at words [] contents f = refl
 with_contents-at words (q ∷ qs) contents f =
     ⊎_elim
-    (λ e.
-    ap (put_at [] (with_contents words (q ∷ qs) contents)) e
-    ∙ upd-same (put_at [] (with_contents words qs contents)) q (words q)
-    ∙ ap words (sym e)
-    ∙ sym (ap {B = List ℕ} (λ b. if b || has f qs then words f else put_at [] contents f) (eq-eqb f q e)))
-    (λ ne.
-    upd-other (put_at [] (with_contents words qs contents)) q (words q) f ne
-    ∙ with_contents-at words qs contents f
-    ∙ sym (ap {B = List ℕ} (λ b. if b || has f qs then words f else put_at [] contents f) (ne_eqb f q ne)))
+    (λ e. rw (eq-eqb f q e) (ap (put_at [] (with_contents words (q ∷ qs) contents)) e ∙ upd-same (put_at [] (with_contents words qs contents)) q (words q) ∙ ap words (sym e)))
+    (λ ne. rw (ne_eqb f q ne) (upd-other (put_at [] (with_contents words qs contents)) q (words q) f ne ∙ with_contents-at words qs contents f))
     (cases_eq f q)
 
 -- ---- where the frames of a bundle stand
 
-module _ (w : World) (f : ℕ) (inv : Inv w) where
-  -- a free frame is one of the core's, and no actor has it
-  pub free-frame : has_free_bit w.core.bundles f ≡ true → (f < w.core.shape.frames) × ((a : ℕ) → w.core.held a f ≡ false)
-  free-frame e =
-      let is : inv.place f ≡ Free = free-place (inv.place f) (sym (inv.frames f).free ∙ e) in (
-        ⊎_elim (λ l. l) (λ past. absurd (true≢false (ap at_free (sym is ∙ (inv.frames f).outside past)))) (cases_lt f w.core.shape.frames),
-        λ a. (inv.frames f).holds a ∙ ap (λ x. at_actor x a) is,
-      )
-
-  -- a frame that an actor has is not free
-  pub held-frame : (a : ℕ) → w.core.held a f ≡ true → has_free_bit w.core.bundles f ≡ false
-  held-frame a e = (inv.frames f).free ∙ ap at_free (held-place (inv.place f) a (sym ((inv.frames f).holds a) ∙ e))
-
 module _ (w : World) (g mask : ℕ) (inv : Inv w) where
-  -- the frames that are taken from a bundle were free
+  -- the frames that are taken from a bundle were free: a free frame is one of the core's, and no actor has it
   pub taken-frames : bit_and mask (w.core.bundles g) ≡ mask → (f : ℕ) → in_mask g mask f ≡ true → (f < w.core.shape.frames) × ((a : ℕ) → w.core.held a f ≡ false)
   taken-frames among f e =
       ⊎_elim
-      (λ t. free-frame w f inv t.1)
+      (λ t.
+      let is : inv.place f ≡ Free = free-place (inv.place f) (sym (inv.frames f).free ∙ t.1) in (
+        ⊎_elim (λ l. l) (λ past. absurd (true≢false (ap at_free (sym is ∙ (inv.frames f).outside past)))) (cases_lt f w.core.shape.frames),
+        λ a. (inv.frames f).holds a ∙ ap (λ x. at_actor x a) is,
+      ))
       (λ t. absurd (true≢false (sym e ∙ t.0)))
       (taken-free w.core.bundles g (w.core.bundles g) mask f refl among)
 
-  -- the bits of frames that an actor has are not set
+  -- the bits of frames that an actor has are not set: these are not free
   pub given-bits : (a : ℕ) → mask < 2 ^ 64 → ((f : ℕ) → in_mask g mask f ≡ true → w.core.held a f ≡ true) → bit_and (w.core.bundles g) mask ≡ 0
   unfolding in_mask has_free_bit
   given-bits a small holds =
@@ -136,7 +109,8 @@ module _ (w : World) (g mask : ℕ) (inv : Inv w) where
           let q : (64 * g + i) / 64 ≡ g = omega (arith, low) in
           let m : (64 * g + i) % 64 ≡ i = omega (arith, low) in
           let in-it : in_mask g mask (64 * g + i) ≡ true = and_from _ _ (eq-eqb _ _ q) (eq-eqb _ _ (ap (bit_at mask) m ∙ one)) in
-          let off : eqb (bit_at (w.core.bundles ((64 * g + i) / 64)) ((64 * g + i) % 64)) 1 ≡ false = held-frame w (64 * g + i) inv a (holds (64 * g + i) in-it) in
+          let f : ℕ = 64 * g + i in
+          let off : eqb (bit_at (w.core.bundles (f / 64)) (f % 64)) 1 ≡ false = (inv.frames f).free ∙ ap at_free (held-place (inv.place f) a (sym ((inv.frames f).holds a) ∙ holds f in-it)) in
           let here : eqb (bit_at (w.core.bundles g) i) 1 ≡ false = sym (λ j. eqb (bit_at (w.core.bundles (q j)) (m j)) 1) ∙ off in
           let ne : bit_at (w.core.bundles g) i ≢ 1 = λ set. true≢false (sym (eq-eqb _ _ set) ∙ here) in
           omega (arith, word, ne))

@@ -1,13 +1,11 @@
 -- A step of one pass on one word of the table: the core that is read changes as by the event.
 use Rattle.vm_rule.specs.declared.view.Place.TheVariants as places
+use Rattle.vm_rule.proofs.{Parts.frame-written, Parts.words-written, Views.at-there, Views.block-same, Views.field-still, Views.views-set}
 use Rattle.vm_rule.proofs.Pages.{page-changed, page-in, put-column}
-use Rattle.vm_rule.proofs.Parts.{frame-written, words-written}
-use Rattle.vm_rule.proofs.Prelude.{[], ap, at, block_of, Bool, core_from, core_shown, frames_held, fun_ext, get_elem?, has, index_of, length}
-use Rattle.vm_rule.proofs.Prelude.{length-set, List, loads_at, loads_of, mapping_of, no_seat, on_page, Option, Origin, page_from, pages_from, Place}
-use Rattle.vm_rule.proofs.Prelude.{put, put_at, refl, Seat, seat_of, seats_of, slice_set, some, spent, State, state_of, Stored, stored_at, sym, Table}
-use Rattle.vm_rule.proofs.Prelude.{table_words, upd, upd-map, upd-other, upd-same, version_of, View, width, with_word, Within, Words, ℕ, ◌<◌, ◌∙◌}
-use Rattle.vm_rule.proofs.Prelude.{◌≡◌}
-use Rattle.vm_rule.proofs.Views.{at-there, block-same, field-still, views-set}
+use Rattle.vm_rule.proofs.Prelude.{[], ap, at, block_of, Bool, core_from, core_shown, frames_held, fun_ext, get_elem?, has, index_of, length, length-set, List}
+use Rattle.vm_rule.proofs.Prelude.{loads_at, loads_of, mapping_of, no_seat, on_page, Option, Origin, page_from, pages_from, Place, put, put_at, Seat, seat_of}
+use Rattle.vm_rule.proofs.Prelude.{seats_of, slice_set, some, spent, State, state_of, Stored, stored_at, sym, Table, table_words, upd, upd-map, upd-other}
+use Rattle.vm_rule.proofs.Prelude.{upd-same, version_of, View, width, with_word, Within, Words, ℕ, ◌<◌, ◌∙◌, ◌≡◌}
 
 module _ {X : Type 0} where
   -- what the pass has of page p changes
@@ -78,25 +76,6 @@ module _ (start : Origin) (actors : ℕ) (r : Words) (blocks : ℕ → Stored) (
   pub core-word : (f i x : ℕ) → i < 64 → core_from start actors (with_word r (places.Content f i) x) blocks seats held ≡ stored_at core f i x
   unfolding pages_from
   core-word f i x l = ap (λ words. record core { words = words }) (frame-written r.contents f i x l)
-
-  -- a bundle word, and the frames held
-  pub core-bundle : (g x : ℕ) (held' : ℕ → ℕ → Bool) → core_from start actors (with_word r (places.Bundle g) x) blocks seats held' ≡ record core { bundles = upd r.bundles g x; held = held' }
-  unfolding pages_from
-  core-bundle g x held' = refl
-
-  -- the next word, the hand
-  pub core-next : (x : ℕ) → core_from start actors (with_word r places.Next x) blocks seats held ≡ record core { next = x }
-  unfolding pages_from
-  core-next x = refl
-
-  pub core-hand : (x : ℕ) → core_from start actors (with_word r places.Hand x) blocks seats held ≡ record core { hand = x }
-  unfolding pages_from
-  core-hand x = refl
-
-  -- an owner word
-  pub core-owner : (f x : ℕ) → core_from start actors (with_word r (places.Owner f) x) blocks seats held ≡ record core { owners = upd r.owners f x }
-  unfolding pages_from
-  core-owner f x = refl
 
 module _ {X B : Type 0} (stored : B → Stored) (start : Origin) where
   -- the one word that a step writes, and the one view that it changes

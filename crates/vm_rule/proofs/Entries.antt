@@ -1,24 +1,18 @@
 -- The history, the numbers of the passes, and what is noted.
 use mathlib.Core.Option as maybe
-use Rattle.vm_rule.proofs.Prelude.{[], ap, arith, cases_Bool, cases_lt, Each, entries_by, Entry, eqb, false, get_elem?, has, if◌then◌else◌, IsWhole}
-use Rattle.vm_rule.proofs.Prelude.{le-ltb, length, List, lt-ltb, one_part, owns, PARTS, refl, slice_set, some, some-injective, StartsWith, suc, sym}
-use Rattle.vm_rule.proofs.Prelude.{total, true, true≢false, View, zero, ℕ, ⊎_elim, ◌++◌, ◌+◌, ◌||◌, ◌∙◌, ◌∷◌, ◌≡◌, ◌≢◌, ◌≤◌}
+use Rattle.vm_rule.proofs.Prelude.{[], ap, arith, cases_Bool, cases_lt, Each, entries_by, Entry, false, get_elem?, has, IsWhole, le-ltb, length, List, lt-ltb}
+use Rattle.vm_rule.proofs.Prelude.{one_part, owns, PARTS, refl, slice_set, some, some-injective, StartsWith, suc, sym, total, true, true≢false, View, zero}
+use Rattle.vm_rule.proofs.Prelude.{if◌then◌else◌, ℕ, ⊎_elim, ◌++◌, ◌+◌, ◌||◌, ◌∙◌, ◌∷◌, ◌≡◌, ◌≢◌, ◌≤◌}
 use Rattle.vm_rule.proofs.Views.{total-set}
+pub use Rattle.std.proofs.lemmas.List.{append-nil as append-none}
+pub use Rattle.vm_owner.proofs.NumberLemmas.{has-both as has-joined}
 
 pub each-map : {A : Type 0} (P Q : A → Type 0) → ((a : A) → P a → Q a) → (l : List A) → Each P l → Each Q l
 each-map P Q f [] e = tt
 each-map P Q f (x ∷ xs) e = (f x e.0, each-map P Q f xs e.1)
 
-pub append-none : {A : Type 0} (l : List A) → l ++ [] ≡ l
-append-none [] = refl
-append-none (x ∷ xs) = ap (λ (t : List _). x ∷ t) (append-none xs)
-
 pub starts-self : {A : Type 0} (l : List A) → StartsWith l l
 starts-self l = ([], sym (append-none l))
-
-pub has-joined : (n : ℕ) (l m : List ℕ) → has n (l ++ m) ≡ (has n l || has n m)
-has-joined n [] m = refl
-has-joined n (x ∷ xs) m = ⊎_elim (λ t. rw t refl) (λ f. rw f (has-joined n xs m)) (cases_Bool (eqb n x))
 
 -- a list that is empty when it is joined to another
 pub none-left : {A : Type 0} (a b : List A) → a ++ b ≡ [] → (a ≡ []) × (b ≡ [])
@@ -32,14 +26,8 @@ module _ {X : Type 0} where
       ⊎_elim (λ t. rw t (ap (λ (l : List (Entry X)). e ∷ l) (entries-both ns es b))) (λ f. rw f (entries-both ns es b)) (cases_Bool (has e.number ns))
 
   -- numbers that have no entry have none in either part
-  none-each : (ns : List ℕ) (m r : List (Entry X)) → entries_by ns (m ++ r) ≡ [] → (entries_by ns m ≡ []) × (entries_by ns r ≡ [])
+  pub none-each : (ns : List ℕ) (m r : List (Entry X)) → entries_by ns (m ++ r) ≡ [] → (entries_by ns m ≡ []) × (entries_by ns r ≡ [])
   none-each ns m r e = none-left (entries_by ns m) (entries_by ns r) (sym (entries-both ns m r) ∙ e)
-
-  pub none-before : (ns : List ℕ) (m r : List (Entry X)) → entries_by ns (m ++ r) ≡ [] → entries_by ns m ≡ []
-  none-before ns m r e = (none-each ns m r e).0
-
-  pub none-behind : (ns : List ℕ) (m r : List (Entry X)) → entries_by ns (m ++ r) ≡ [] → entries_by ns r ≡ []
-  none-behind ns m r e = (none-each ns m r e).1
 
   -- no number, no entry
   pub entries-none : (l : List (Entry X)) → entries_by [] l ≡ []

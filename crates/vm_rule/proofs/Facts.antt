@@ -1,23 +1,18 @@
 -- What the rule says of who holds a page, of the blocks, and of the members still to be released.
 use mathlib.Core.Option as maybe
-use Rattle.vm_rule.proofs.Found.{seat-here}
+use Rattle.vm_rule.proofs.{Found.seat-here, Parts.upd-is, Views.at-bound, Views.block-same, Views.out-same, Views.set-each}
 use Rattle.vm_rule.proofs.Prelude.{[], any, ap, arith, at, BlocksFit, Bool, cases_Bool, cases_eq, core_shown, false, false≢true, get_elem?, has}
-use Rattle.vm_rule.proofs.Prelude.{has-without_other, has-without_same, if◌then◌else◌, is_pending, Kept, length, List, LOCKED, locked-from_owner}
-use Rattle.vm_rule.proofs.Prelude.{LocksInv, may_call, OneHolder, Option, Origin, Out, owns, Page, refl, Ruled, Seat, seat_of, shared-state}
-use Rattle.vm_rule.proofs.Prelude.{slice_set, slot_of, Some, some, Start, Stored, suc, sum_below, sum_below-at, sym, Table, true, true≢false, upd}
-use Rattle.vm_rule.proofs.Prelude.{upd-other, upd-same, View, without, zero, ℕ, ⊎_elim, ◌<◌, ◌||◌, ◌∙◌, ◌∷◌, ◌≡◌, ◌≢◌, ◌≤◌}
-use Rattle.vm_rule.proofs.Views.{at-bound, block-same, out-same, set-each}
+use Rattle.vm_rule.proofs.Prelude.{has-without_other, has-without_same, if◌then◌else◌, is_pending, Kept, length, List, LOCKED, locked-from_owner, LocksInv}
+use Rattle.vm_rule.proofs.Prelude.{may_call, OneHolder, Option, Origin, Out, owns, Page, refl, Ruled, Seat, seat_of, shared-state, slice_set, slot_of, Some}
+use Rattle.vm_rule.proofs.Prelude.{some, Start, Stored, suc, sum_below, sum_below-at, sym, Table, true, true≢false, upd, View, without, zero, ℕ, ⊎_elim, ◌<◌}
+use Rattle.vm_rule.proofs.Prelude.{◌||◌, ◌∙◌, ◌∷◌, ◌≡◌, ◌≢◌, ◌≤◌}
 pub use Rattle.vm_owner.proofs.NumberLemmas.{has-both}
 
 -- ---- lists of numbers
 
 -- the list without one number, as a function
 pub has-left : (f n : ℕ) (l : List ℕ) → has n (without f l) ≡ upd (λ k. has k l) f false n
-has-left f n l =
-    ⊎_elim
-    (λ e. ap (λ k. has k (without f l)) e ∙ has-without_same f l ∙ sym (ap (upd (λ k. has k l) f false) e ∙ upd-same (λ k. has k l) f false))
-    (λ ne. has-without_other f n l ne ∙ sym (upd-other (λ k. has k l) f false n ne))
-    (cases_eq n f)
+has-left f n l = ap (λ g. g n) (upd-is (λ k. has k l) (λ k. has k (without f l)) f false (has-without_same f l) (λ k ne. has-without_other f k l ne))
 
 pub either-way : (a b : Bool) → (a || b) ≡ (if a then true else b)
 either-way true b = refl
@@ -39,17 +34,14 @@ module _ {X : Type 0} where
 
 -- ---- the seats of a page
 
--- no sum, no term
-sum-zero : (n : ℕ) (f : ℕ → ℕ) → sum_below n f ≡ 0 → (a : ℕ) → a < n → f a ≡ 0
-sum-zero n f e a l = let le : f a ≤ sum_below n f = sum_below-at n f a l in omega arith
-
 -- where one actor holds a page exclusively, the others have nothing of it
 pub alone : (actors state version : ℕ) (seats : ℕ → Seat) (a b : ℕ) → LocksInv actors state version seats → (seats a).exclusive ≡ true → b < actors → b ≢ a → (may_call (seats b) ≡ false) × ((seats b).shares ≡ 0)
 alone actors state version seats a b i owns l ne =
     let locked : state ≡ LOCKED = locked-from_owner i a owns in
     let one : OneHolder actors seats = i.held locked in
     let none : sum_below actors (λ k. (seats k).shares) ≡ 0 = i.shares ∙ rw locked refl in
-    let shares : (seats b).shares ≡ 0 = sum-zero actors (λ k. (seats k).shares) none b l in
+    let within : (seats b).shares ≤ sum_below actors (λ k. (seats k).shares) = sum_below-at actors (λ k. (seats k).shares) b l in
+    let shares : (seats b).shares ≡ 0 = omega (arith, none, within) in
     let exclusive : (seats b).exclusive ≡ false = ⊎_elim (λ t. absurd (ne (one.only b t ∙ sym (one.only a owns)))) (λ f. f) (cases_Bool (seats b).exclusive) in
     let writing : (seats b).writing ≡ false = ⊎_elim (λ t. absurd (let some' : 1 ≤ (seats b).shares = (i.writer b t).0 in omega arith)) (λ f. f) (cases_Bool (seats b).writing) in
     (rw (exclusive, writing) refl, shares)

@@ -1,10 +1,10 @@
 -- What the core that is read has at a place, in terms of the word that stands there, of the pass's view, and of the block.
 use Rattle.vm_rule.specs.declared.view.Place.TheVariants as places
-use Rattle.vm_rule.proofs.{Pages.page-in, Pages.page-out, Parts.part-at, Views.at-there, WordFacts.word-made}
-use Rattle.vm_rule.proofs.Prelude.{ap, arith, at-get, block_of, bundle_count, core_shown, frame_words, get_elem?, has, index_of, List, listed}
-use Rattle.vm_rule.proofs.Prelude.{loads_at, loads_of, mapping_of, Option, Origin, outside_page, Page, page_from, page_word, part, refl, seat_of}
-use Rattle.vm_rule.proofs.Prelude.{seats_of, set-get_or, slice_index, slice_set, some, spent, state_of, Stored, suc, Table, table_words, version_of}
-use Rattle.vm_rule.proofs.Prelude.{View, zero, ℕ, ◌*◌, ◌+◌, ◌<◌, ◌∙◌, ◌≡◌, ◌≤◌}
+use Rattle.vm_rule.proofs.{ListFacts.at-listed, Pages.page-in, Pages.page-out, Views.at-there, WordFacts.word-made}
+use Rattle.vm_rule.proofs.Prelude.{ap, arith, at-get, block_of, bundle_count, core_shown, frame_words, get_elem?, has, index_of, List, loads_at, loads_of}
+use Rattle.vm_rule.proofs.Prelude.{lt-ltb, mapping_of, Option, Origin, outside_page, Page, page_from, page_word, part, refl, seat_of, seats_of, set-get_or}
+use Rattle.vm_rule.proofs.Prelude.{slice_index, slice_set, some, spent, state_of, Stored, sym, Table, table_words, version_of, View, ℕ, ◌*◌, ◌+◌, ◌<◌, ◌∙◌, ◌≡◌}
+use Rattle.vm_rule.proofs.Prelude.{◌≤◌}
 
 -- a word that is written as it was
 pub same-word : (words : List ℕ) (i : ℕ) → slice_set words i (slice_index words i) ≡ words
@@ -12,18 +12,8 @@ same-word words i = set-get_or words i 0
 
 -- the k-th word of a part, as a step finds it
 pub part-found : (base n : ℕ) (words : List ℕ) (k i : ℕ) → k < n → base + k ≡ i → part base n words k ≡ slice_index words i
-part-found base n words k i l e = part-at base n words k l ∙ at-get 0 words (base + k) ∙ ap (slice_index words) e
-
--- the k-th of the values below n
-pub listed-at : (n : ℕ) (f : ℕ → ℕ) (k : ℕ) → k < n → slice_index (listed n f) k ≡ f k
-unfolding listed
-listed-at zero f k l = absurd (omega arith)
-listed-at (suc n) f zero l = refl
-listed-at (suc n) f (suc k) l = listed-at n (λ j. f (suc j)) k (omega arith)
-
-pub frame-at : (contents : ℕ → ℕ) (f i : ℕ) → i < 64 → slice_index (frame_words contents f) i ≡ contents (64 * f + i)
-unfolding frame_words
-frame-at contents f i l = listed-at 64 (λ k. contents (64 * f + k)) i l
+unfolding part
+part-found base n words k i l e = rw (lt-ltb k n l) refl ∙ at-get 0 words (base + k) ∙ ap (slice_index words) e
 
 module _ {X B : Type 0} (stored : B → Stored) (start : Origin) where
   -- a page of the table
@@ -68,7 +58,10 @@ module _ {X B : Type 0} (stored : B → Stored) (start : Origin) where
 
   -- a word of a frame
   pub content-here : (s : Table (Option B) (View X)) (f i : ℕ) → f < start.frames → i < 64 → slice_index ((core_shown stored start s).words f) i ≡ slice_index s.words (index_of start (places.Content f i))
-  content-here s f i lf li = frame-at (table_words start s.words).contents f i li ∙ part-found (3 * start.pages) (64 * start.frames) s.words (64 * f + i) (3 * start.pages + (64 * f + i)) (omega arith) refl
+  unfolding frame_words
+  content-here s f i lf li =
+      let contents : ℕ → ℕ = (table_words start s.words).contents in
+      sym (at-get 0 (frame_words contents f) i) ∙ at-listed 0 64 (λ k. contents (64 * f + k)) i li ∙ part-found (3 * start.pages) (64 * start.frames) s.words (64 * f + i) (3 * start.pages + (64 * f + i)) (omega arith) refl
 
   -- a bundle word, the next word, the hand
   pub bundle-here : (s : Table (Option B) (View X)) (g : ℕ) → g < bundle_count start → (core_shown stored start s).bundles g ≡ slice_index s.words (index_of start (places.Bundle g))

@@ -1,26 +1,19 @@
 -- The world that is read after a step on a translation word, a fault word, a frame that a pass holds, a bundle word, the next word or the
 -- hand: it is the world after the event.
 use Rattle.std.proofs.Common.{eq-eqb, ne_eqb}
-use Rattle.vm_core.specs.Inv.{Place as Standing}
 use Rattle.vm_rule.specs.declared.view.Place.TheVariants as places
 use Rattle.vm_rule.specs.declared.view.Release.{Release as Released}
-use Rattle.vm_rule.proofs.{Found.held-here, Parts.upd-is}
-use Rattle.vm_rule.proofs.Cores.{core-bundle, core-fault, core-hand, core-next, core-owner, core-step, core-translation, held-put, held-still}
-use Rattle.vm_rule.proofs.Cores.{loads-still, seats-still}
-use Rattle.vm_rule.proofs.Prelude.{ap, at_actor, at_page, bit_or, bit_xor, block_of, Bool, changed_at, Claim, Clean, Clear, core_from, core_shown}
-use Rattle.vm_rule.proofs.Prelude.{Dirty, false, frame_of, frames_held, fun_ext, gains, get_elem?, Give, given_by, Hand, hand_more, has, held-place}
-use Rattle.vm_rule.proofs.Prelude.{histories_of, if◌then◌else◌, in_mask, Install, Inv, length, List, Mapping, mapping_of, None, on_page, Option}
-use Rattle.vm_rule.proofs.Prelude.{Origin, owned, Place, Raise, refl, seats_of, slice_set, Some, some, stands_in, State, Store, Stored, sym, Table}
-use Rattle.vm_rule.proofs.Prelude.{table_words, Take, taken_by, true, upd, View, width, with_dirty, with_word, Within, World, world_after, world_of}
-use Rattle.vm_rule.proofs.Prelude.{ℕ, ◌+◌, ◌<◌, ◌∙◌, ◌≡◌, ◌≢◌}
-use Rattle.vm_rule.proofs.Worlds.{store-core, stores-else, worlds-same, wrote}
+use Rattle.vm_rule.proofs.{Found.held-here, Parts.upd-is, Worlds.store-core, Worlds.stores-else, Worlds.worlds-same, Worlds.wrote}
+use Rattle.vm_rule.proofs.Cores.{core-fault, core-step, core-translation, held-put, held-still, loads-still, seats-still}
+use Rattle.vm_rule.proofs.Prelude.{ap, at_page, bit_or, bit_xor, block_of, Bool, changed_at, Claim, Clean, Clear, core_from, core_shown, Dirty, false, frame_of}
+use Rattle.vm_rule.proofs.Prelude.{frames_held, fun_ext, gains, get_elem?, Give, given_by, Hand, hand_more, has, held-place, histories_of, if◌then◌else◌}
+use Rattle.vm_rule.proofs.Prelude.{in_mask, Install, Inv, length, List, Mapping, mapping_of, None, on_page, Option, Origin, owned, pages_from, Place, Raise}
+use Rattle.vm_rule.proofs.Prelude.{refl, seats_of, slice_set, Some, some, stands_in, State, Store, Stored, sym, Table, table_words, Take, taken_by, true, upd}
+use Rattle.vm_rule.proofs.Prelude.{View, width, with_dirty, with_word, Within, World, world_after, world_of, ℕ, ◌+◌, ◌<◌, ◌∙◌, ◌≡◌, ◌≢◌}
 
 -- a frame that an actor holds stands in no page
-no-page : (x : Standing) (a q : ℕ) → at_actor x a ≡ true → at_page x q ≡ false
-no-page x a q e = ap (λ y. at_page y q) (held-place x a e)
-
 pub stands-nowhere : (w : World) (f a q : ℕ) → Inv w → w.core.held a f ≡ true → stands_in (w.core.pages q).trans f ≡ false
-stands-nowhere w f a q inv e = (inv.frames f).mapped q ∙ no-page (inv.place f) a q (sym ((inv.frames f).holds a) ∙ e)
+stands-nowhere w f a q inv e = (inv.frames f).mapped q ∙ ap (λ y. at_page y q) (held-place (inv.place f) a (sym ((inv.frames f).holds a) ∙ e))
 
 module _ (w : World) (a : ℕ) where
   -- a lost exchange of a bundle word, and of the next word
@@ -113,10 +106,10 @@ module _ {X B : Type 0} (stored : B → Stored) (start : Origin) (s : Table (Opt
   -- a bundle word, and the frames of the pass, which are f of what they were
   moved-bundle : (g x : ℕ) (f : (ℕ → Bool) → ℕ → Bool) (word : ℕ) (held' : ℕ → ℕ → Bool) → Writes (places.Bundle g) (w.out ≡ v.out → w.seats ≡ v.seats → w.loads ≡ v.loads → Moves f (x ≡ word → upd held id (f (held id)) ≡ held' →
       Becomes (places.Bundle g) x (record old { core = record c { bundles = upd c.bundles g word; held = held' } })))
+  unfolding pages_from
   moved-bundle g x f word held' wide l there out seats loads frames is now =
       worlds-same
       (core-step stored start s id v w (places.Bundle g) x wide l there out _ _ (seats-still s.views id v w there seats) (held-now f there frames)
-      ∙ core-bundle start (length s.views) (table_words start s.words) (block_of stored s.homes s.views) (seats_of s.views) held g x (upd held id (f (held id)))
       ∙ (λ i. record c { bundles = upd c.bundles g (is i); held = now i }))
       refl (loads-still s.views id v w there loads)
 
@@ -146,21 +139,24 @@ module _ {X B : Type 0} (stored : B → Stored) (start : Origin) (s : Table (Opt
   -- ---- the next word, and the hand
 
   pub claim-step : (x n y : ℕ) → length s.words ≡ width start → get_elem? s.views id ≡ some v → Keeps (c.next ≡ x → y ≡ x + n → Becomes places.Next y (world_after old (Claim id x n)))
+  unfolding pages_from
   claim-step x n y wide there out frames seats loads finding is =
       rw (eq-eqb c.next x finding) (written places.Next y _
-      (core-next start (length s.views) (table_words start s.words) (block_of stored s.homes s.views) (seats_of s.views) held y ∙ (λ j. record c { next = is j }))
+      (λ j. record c { next = is j })
       wide tt there out frames seats loads)
 
   pub hand-step : (y : ℕ) → length s.words ≡ width start → get_elem? s.views id ≡ some v → Keeps (y ≡ hand_more c.hand → Becomes places.Hand y (world_after old (Hand id)))
+  unfolding pages_from
   hand-step y wide there out frames seats loads is =
       written places.Hand y _
-      (core-hand start (length s.views) (table_words start s.words) (block_of stored s.homes s.views) (seats_of s.views) held y ∙ (λ j. record c { hand = is j }))
+      (λ j. record c { hand = is j })
       wide tt there out frames seats loads
 
   -- ---- the owner word of a page's frame
 
   pub owner-step : (p f x : ℕ) → Writes (places.Owner f) (Keeps (frame_of (c.pages p).trans ≡ Some f → Becomes (places.Owner f) x (record old { core = owned c p x })))
+  unfolding pages_from
   owner-step p f x wide l there out frames seats loads stands =
       written (places.Owner f) x _
-      (core-owner start (length s.views) (table_words start s.words) (block_of stored s.homes s.views) (seats_of s.views) held f x ∙ (λ j. record c { owners = changed_at c.owners (sym stands j) x }))
+      (λ j. record c { owners = changed_at c.owners (sym stands j) x })
       wide l there out frames seats loads

@@ -1,10 +1,9 @@
 -- A core in which open reads are closed, frames go from one actor to another, and actors come that have nothing: it meets the invariant.
 use Rattle.std.proofs.Common.{eq-eqb, ne_eqb}
 use Rattle.vm_core.specs.Inv.{Place}
-use Rattle.vm_rule.proofs.Prelude.{ap, arith, at_actor, at_free, at_page, Bool, cases_Bool, cases_eq, false, FrameIsAt, Free, Held, held-place}
-use Rattle.vm_rule.proofs.Prelude.{History, if◌then◌else◌, Inv, IsFramePlace, List, LocksInv, Mapped, None, Nowhere, OneHolder, Open, Option, Page}
-use Rattle.vm_rule.proofs.Prelude.{PageInv, ReadInv, Seat, subst, suc, sum_below, sum_below-past, sym, true, World, zero, ℕ, ⊎_elim, ◌+◌, ◌<◌, ◌∙◌}
-use Rattle.vm_rule.proofs.Prelude.{◌≡◌, ◌≢◌, ◌≤◌, ◌⊎◌}
+use Rattle.vm_rule.proofs.Prelude.{ap, arith, at_actor, at_free, at_page, Bool, cases_Bool, cases_eq, false, FrameIsAt, Free, Held, held-place, History}
+use Rattle.vm_rule.proofs.Prelude.{if◌then◌else◌, Inv, IsFramePlace, List, Mapped, None, Nowhere, OneHolder, Open, Option, Page, PageInv, ReadInv, Seat, subst}
+use Rattle.vm_rule.proofs.Prelude.{suc, sum_below, sum_below-past, sym, true, World, zero, ℕ, ⊎_elim, ◌+◌, ◌<◌, ◌∙◌, ◌≡◌, ◌≢◌, ◌≤◌, ◌⊎◌}
 
 -- a seat with the same locks, whose open read is the same with the same loads, or closed
 pub record ReadsLess (s t : Seat) (l m : List (ℕ × ℕ)) : Type 0 where
@@ -20,40 +19,33 @@ sum-more n zero f none = let e : 0 + n ≡ n = omega arith in ap (λ m. sum_belo
 sum-more n (suc k) f none = let e : suc k + n ≡ suc (k + n) = omega arith in ap (λ m. sum_below m f) e ∙ (let rest : sum_below (k + n) f ≡ sum_below n f = sum-more n k f none in let zero' : f (k + n) ≡ 0 = none (k + n) (omega arith) in omega arith)
 
 module _ (actors k : ℕ) (tells : Bool) (words : ℕ → List ℕ) (r : Page) (h : History) (loads loads' : ℕ → List (ℕ × ℕ)) (seats : ℕ → Seat) (less : (a : ℕ) → ReadsLess (r.seats a) (seats a) (loads a) (loads' a)) (past : (a : ℕ) → actors ≤ a → (r.seats a).shares ≡ 0) where
-  less-locks : LocksInv actors r.state r.version r.seats → LocksInv (k + actors) r.state r.version seats
-  less-locks i = record {
-    known = i.known;
-    in_range = i.in_range;
-    shares = sum-more actors k (λ a. (seats a).shares) (λ a le. (less a).shares ∙ past a le)
-        ∙ sum_below-past actors (λ a. (seats a).shares) (λ a. (r.seats a).shares) (λ a l. (less a).shares) ∙ i.shares;
-    unheld = λ free a. (less a).exclusive ∙ i.unheld free a;
-    held = λ locked.
-        let o : OneHolder actors r.seats = i.held locked in
-        let named : o.holder < actors = o.named in
-        record { holder = o.holder; named = omega (arith, named); owns = (less o.holder).exclusive ∙ o.owns; only = λ b e. o.only b (sym (less b).exclusive ∙ e) };
-    below = i.below;
-    writer = λ a e.
-        let w = i.writer a (sym (less a).writing ∙ e) in
-        let named : a < actors = w.1 in
-        (subst (λ n. 1 ≤ n) (sym (less a).shares) w.0, omega (arith, named));
-    one_writer = λ a b e f. i.one_writer a b (sym (less a).writing ∙ e) (sym (less b).writing ∙ f);
-  }
-
-  less-reads : (a : ℕ) → ReadInv words r.state r.version r.trans (r.seats a).reading (loads a) → ReadInv words r.state r.version r.trans (seats a).reading (loads' a)
-  less-reads a i =
-      ⊎_elim
-      (λ none. subst (λ (o : Option Open). ReadInv words r.state r.version r.trans o (loads' a)) (sym none) (record { old = λ o e. absurd cc; evicted = λ s o e. absurd cc; current = λ s t o e. absurd cc }))
-      (λ same. subst (λ (o : Option Open). ReadInv words r.state r.version r.trans o (loads' a)) (sym same.0) (subst (ReadInv words r.state r.version r.trans (r.seats a).reading) (sym same.1) i))
-      (less a).reading
-
   pub less-page : PageInv actors tells words r h loads → PageInv (k + actors) tells words (record r { seats = seats }) h loads'
   less-page i = record {
-    locks = less-locks i.locks;
+    locks = record {
+      known = i.locks.known;
+      in_range = i.locks.in_range;
+      shares = sum-more actors k (λ a. (seats a).shares) (λ a le. (less a).shares ∙ past a le)
+          ∙ sum_below-past actors (λ a. (seats a).shares) (λ a. (r.seats a).shares) (λ a l. (less a).shares) ∙ i.locks.shares;
+      unheld = λ free a. (less a).exclusive ∙ i.locks.unheld free a;
+      held = λ locked.
+          let o : OneHolder actors r.seats = i.locks.held locked in
+          let named : o.holder < actors = o.named in
+          record { holder = o.holder; named = omega (arith, named); owns = (less o.holder).exclusive ∙ o.owns; only = λ b e. o.only b (sym (less b).exclusive ∙ e) };
+      below = i.locks.below;
+      writer = λ a e.
+          let w = i.locks.writer a (sym (less a).writing ∙ e) in
+          let named : a < actors = w.1 in
+          (subst (λ n. 1 ≤ n) (sym (less a).shares) w.0, omega (arith, named));
+      one_writer = λ a b e f. i.locks.one_writer a b (sym (less a).writing ∙ e) (sym (less b).writing ∙ f);
+    };
     stands = i.stands;
     sizes = i.sizes;
     contents = i.contents;
     faults = λ free none. i.faults free (λ a. sym (less a).writing ∙ none a);
-    reads = λ a. less-reads a (i.reads a);
+    reads = λ a. ⊎_elim
+        (λ none. subst (λ (o : Option Open). ReadInv words r.state r.version r.trans o (loads' a)) (sym none) (record { old = λ o e. absurd cc; evicted = λ s o e. absurd cc; current = λ s t o e. absurd cc }))
+        (λ same. subst (λ (o : Option Open). ReadInv words r.state r.version r.trans o (loads' a)) (sym same.0) (subst (ReadInv words r.state r.version r.trans (r.seats a).reading) (sym same.1) (i.reads a)))
+        (less a).reading;
   }
 
 -- ---- frames

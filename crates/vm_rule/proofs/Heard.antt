@@ -1,10 +1,10 @@
 -- What a step adds to the lists: an entry is the pass's own, with the next count of one of its numbers, which no other pass has; the
 -- releases have the next versions.
 use Rattle.vm_rule.proofs.Entries.{append-none, total-at, total-two}
-use Rattle.vm_rule.proofs.Prelude.{[], ap, append_assoc, AreCounted, AreNext, arith, Bool, cases_Bool, cases_eq, cases_lt, counted-more, Each}
-use Rattle.vm_rule.proofs.Prelude.{entries_by, entries_under, Entry, entry_of, eq-eqb, false, get_elem?, has, if◌then◌else◌, le-ltb, length, List}
-use Rattle.vm_rule.proofs.Prelude.{lt-ltb, ne_eqb, one_part, Origin, owns, PARTS, refl, Release, slice_index, some, StartsWith, subst, sym, times}
-use Rattle.vm_rule.proofs.Prelude.{total, true, true≢false, View, ℕ, ⊎_elim, ◌++◌, ◌+◌, ◌<◌, ◌==◌, ◌∙◌, ◌∷◌, ◌≡◌, ◌≢◌, ◌≤◌, ◌⊎◌}
+use Rattle.vm_rule.proofs.Prelude.{[], ap, append_assoc, AreCounted, AreNext, arith, cases_Bool, cases_eq, cases_lt, counted-more, Each, entries_by}
+use Rattle.vm_rule.proofs.Prelude.{entries_under, Entry, entry_of, eq-eqb, false, false_from_ne_true, get_elem?, has, if◌then◌else◌, inl, inr, le-ltb, length}
+use Rattle.vm_rule.proofs.Prelude.{List, lt-ltb, ne_eqb, one_part, Origin, owns, PARTS, refl, Release, slice_index, some, StartsWith, subst, sym, times, total}
+use Rattle.vm_rule.proofs.Prelude.{true, true≢false, View, ℕ, ⊎_elim, ◌++◌, ◌+◌, ◌<◌, ◌==◌, ◌∙◌, ◌∷◌, ◌≡◌, ◌≢◌, ◌≤◌, ◌⊎◌}
 
 pub each-both : {A : Type 0} (P : A → Type 0) (l m : List A) → Each P l → Each P m → Each P (l ++ m)
 each-both P [] m e f = f
@@ -30,16 +30,8 @@ pub has-first : (ns : List ℕ) → 0 < length ns → has (slice_index ns 0) ns 
 has-first [] l = absurd (omega arith)
 has-first (n ∷ ns) l = rw (eq-eqb n n refl) refl
 
--- a pass with a number has a part
-pub has-part : {X : Type 0} (v : View X) → 0 < length v.used → (k : ℕ) × (1 ≤ owns k v)
-has-part v l = let one : 1 ≤ times (slice_index v.used 0) v.used = times-has (slice_index v.used 0) v.used (has-first v.used l) in (slice_index v.used 0, omega (arith, one))
-
 pub one-most : (k : ℕ) → one_part k ≤ 1
 one-most k = ⊎_elim (λ l. rw (lt-ltb k PARTS l) (omega arith)) (λ le. rw (le-ltb k PARTS le) (omega arith)) (cases_lt k PARTS)
-
-pub not-true : (b : Bool) → (b ≡ true → ⊥) → b ≡ false
-not-true true f = absurd (f refl)
-not-true false f = refl
 
 -- the releases that come have the next versions
 pub next-both : (start : Origin) (before done own : List Release) → AreNext start before done → AreNext start (before ++ done) own → AreNext start before (done ++ own)
@@ -72,39 +64,29 @@ module _ {X : Type 0} where
     pub numbered : Each (λ e. e.number < PARTS) es
     pub counted : AreCounted (λ _. 0) history → AreCounted (λ _. 0) (history ++ es)
 
-  added-none : (views : List (View X)) (id : ℕ) (v : View X) (history : List (Entry X)) → Added views id v history []
-  added-none views id v history = record {
+  -- a step adds no entry, or one
+  pub added : (views : List (View X)) (id : ℕ) (v : View X) (history entries : List (Entry X)) → (entries ≡ []) ⊎ ((x : X) × (entries ≡ entry_of v x ∷ [])) → get_elem? views id ≡ some v → ((k : ℕ) → total (owns k) views ≡ one_part k) → 0 < length v.used → v.mine ≡ entries_by v.used history
+      → Added views id v history entries
+  added views id v history entries (inl none) there parts number mine = subst (Added views id v history) (sym none) (record {
     own = refl;
     own_fresh = λ k _. refl;
     others = λ j u _ _. refl;
     others_fresh = λ j u _ _ k _. refl;
     numbered = tt;
     counted = subst (AreCounted (λ _. 0)) (sym (append-none history));
-  }
-
-  added-one : (views : List (View X)) (id : ℕ) (v : View X) (history : List (Entry X)) (x : X) → get_elem? views id ≡ some v → ((k : ℕ) → total (owns k) views ≡ one_part k) → 0 < length v.used → v.mine ≡ entries_by v.used history
-      → Added views id v history (entry_of v x ∷ [])
-  added-one views id v history x there parts number mine =
+  })
+  added views id v history entries (inr one) there parts number mine =
       let n : ℕ = slice_index v.used 0 in
       let in_used : has n v.used ≡ true = has-first v.used number in
       let first : 1 ≤ times n v.used = times-has n v.used in_used in
       let single : (k : ℕ) → k ≢ n → has n (k ∷ []) ≡ false = λ k ne. rw (ne_eqb n k (λ e. ne (sym e))) refl in
       let all : total (owns n) views ≡ one_part n = parts n in
       let at : owns n v ≤ total (owns n) views = total-at (owns n) views id v there in
-      record {
+      subst (Added views id v history) (sym one.1) (record {
         own = rw in_used refl;
         own_fresh = λ k e. rw (single k (λ i. let fresh : 1 ≤ times n v.fresh = times-has n v.fresh (ap (λ m. has m v.fresh) (sym i) ∙ e) in let most : one_part n ≤ 1 = one-most n in absurd (omega arith))) refl;
-        others = λ j u ne e. rw (not-true (has n u.used) (λ t. let theirs : 1 ≤ times n u.used = times-has n u.used t in one-owner views j id u v n all ne e there (omega arith) (omega arith))) refl;
+        others = λ j u ne e. rw (false_from_ne_true (has n u.used) (λ t. let theirs : 1 ≤ times n u.used = times-has n u.used t in one-owner views j id u v n all ne e there (omega arith) (omega arith))) refl;
         others_fresh = λ j u ne e k t. rw (single k (λ i. let theirs : 1 ≤ times n u.fresh = times-has n u.fresh (ap (λ m. has m u.fresh) (sym i) ∙ t) in one-owner views j id u v n all ne e there (omega arith) (omega arith))) refl;
         numbered = (⊎_elim (λ l. l) (λ le. let none : one_part n ≡ 0 = rw (le-ltb n PARTS le) refl in absurd (omega arith)) (cases_lt n PARTS), tt);
-        counted = λ c. counted-more (λ _. 0) history (entry_of v x) c (let same : entries_under n v.mine ≡ entries_under n history = ap (entries_under n) mine ∙ calls-by n v.used history in_used in omega arith);
-      }
-
-  -- a step adds no entry, or one
-  pub added : (views : List (View X)) (id : ℕ) (v : View X) (history entries : List (Entry X)) → (entries ≡ []) ⊎ ((x : X) × (entries ≡ entry_of v x ∷ [])) → get_elem? views id ≡ some v → ((k : ℕ) → total (owns k) views ≡ one_part k) → 0 < length v.used → v.mine ≡ entries_by v.used history
-      → Added views id v history entries
-  added views id v history entries said there parts number mine =
-      ⊎_elim
-      (λ e. subst (Added views id v history) (sym e) (added-none views id v history))
-      (λ e. subst (Added views id v history) (sym e.1) (added-one views id v history e.0 there parts number mine))
-      said
+        counted = λ c. counted-more (λ _. 0) history (entry_of v one.0) c (let same : entries_under n v.mine ≡ entries_under n history = ap (entries_under n) mine ∙ calls-by n v.used history in_used in omega arith);
+      })

@@ -1,15 +1,14 @@
 -- A pass takes over all that another one has, which holds no page and is spent then: the table meets the rule. So it does where a pass takes in
 -- another.
 use Rattle.vm_rule.proofs.{Bundled.with_contents-at, Facts.either-way, Gathering.ReadsLess, Heard.each-both, Known.known-with}
-use Rattle.vm_rule.proofs.Entries.{entries-union, has-joined, none-behind, none-left}
-use Rattle.vm_rule.proofs.Prelude.{[], any, ap, arith, at, at_set, Bool, cases_Bool, cases_eq, cases_lt, entries_by, Entry, false, false≢true}
-use Rattle.vm_rule.proofs.Prelude.{get_elem?, has, Hears, HoldsNoPage, if◌then◌else◌, inl, inr, is_pending, joined, Kept, knows_more, KnowsLists}
-use Rattle.vm_rule.proofs.Prelude.{KnowsPages, length, length-set, List, loads_at, lt-ltb, ltb-true, no_seat, Note, Option, Origin, owns, put_at}
-use Rattle.vm_rule.proofs.Prelude.{refl, Ruled, Seat, seat_of, set_else, set_here, slice_set, some, some-injective, spent, Start, Stored, subst, sym}
-use Rattle.vm_rule.proofs.Prelude.{Table, times_noted, total, true, true≢false, upd-other, View, world_of, ℕ, ⊎_elim, ◌++◌, ◌+◌, ◌<◌, ◌||◌, ◌∙◌, ◌∷◌}
-use Rattle.vm_rule.proofs.Prelude.{◌≡◌, ◌≢◌, ◌≤◌, ◌⊎◌}
+use Rattle.vm_rule.proofs.Entries.{entries-union, has-joined, none-each, none-left}
+use Rattle.vm_rule.proofs.Prelude.{[], any, ap, arith, at, at_set, Bool, cases_Bool, cases_eq, cases_lt, entries_by, Entry, false, false≢true, get_elem?, has}
+use Rattle.vm_rule.proofs.Prelude.{Hears, HoldsNoPage, if◌then◌else◌, inl, inr, is_pending, joined, Kept, knows_more, KnowsLists, KnowsPages, length}
+use Rattle.vm_rule.proofs.Prelude.{length-set, List, loads_at, lt-ltb, ltb-true, no_seat, Note, Option, or-true, Origin, owns, put_at, refl, Ruled, Seat}
+use Rattle.vm_rule.proofs.Prelude.{seat_of, set_else, set_here, slice_set, some, some-injective, spent, Start, Stored, subst, sym, Table, times_noted, total}
+use Rattle.vm_rule.proofs.Prelude.{true, true≢false, upd-other, View, world_of, ℕ, ⊎_elim, ◌++◌, ◌+◌, ◌<◌, ◌||◌, ◌∙◌, ◌∷◌, ◌≡◌, ◌≢◌, ◌≤◌, ◌⊎◌}
 use Rattle.vm_rule.proofs.Resettling.{fit-now, fit-spent, HasSome, IsFit, KnowsHistory, KnowsReleases, replaced-less, Resettles, seen-all}
-use Rattle.vm_rule.proofs.Resettling.{settled-past, settled-ruled, Settles}
+use Rattle.vm_rule.proofs.Resettling.{settled-ruled, Settles}
 use Rattle.vm_rule.proofs.Views.{any-same, at-bound, at-there, field-still, out-same, total-set, views-set}
 pub use Rattle.vm_rule.proofs.Heard.{times-joined}
 
@@ -78,61 +77,6 @@ module _ {X : Type 0} where
     pub releases : (x.releases ≡ v.releases) × (x.told_releases ≡ w.releases)
     pub history : (h : List (Entry X)) → (v.seen ≡ h) ⊎ (w.seen ≡ h) → (x.seen ≡ h) ⊎ (x.told ≡ h)
 
-module _ {X B : Type 0} (stored : B → Stored) (keeps : Start → Kept X → Type 0) (tied : Start → ℕ → List ℕ → ℕ → List ℕ → Type 0) (start : Origin) (tells : Bool) (s : Table (Option B) (View X)) (r : Ruled stored keeps tied start tells s)
-    (id other : ℕ) (v w x : View X) (there : get_elem? s.views id ≡ some v) (apart : other ≢ id) (at-other : get_elem? s.views other ≡ some w) (live : v.live ≡ true) (live' : w.live ≡ true)
-    (settled-here : (v.told_releases ≡ []) × (v.told ≡ [])) (settled-other : (w.told_releases ≡ []) × (w.told ≡ [])) (nothing : HoldsNoPage w) (ab : Absorbs v w x) (fit : IsFit stored keeps tied start tells s r x) where
-  abbrev after : List (View X)
-  after = twice s.views id other v w x spent there apart at-other
-
-  gone : get_elem? (slice_set s.views id x) other ≡ some w
-  gone = once-second s.views id other v w x spent there apart at-other
-
-  pages : KnowsPages tied start (world_of stored start r.releases r.drafts s) (is_pending s.views) w
-  pages = r.known other w at-other live'
-
-  not-held : (p : ℕ) (b : Bool) → (b ≡ true → (seat_of w p).exclusive ≡ true) → false ≡ b
-  not-held p b f = ⊎_elim (λ t. absurd (true≢false (sym (f t) ∙ nothing.exclusive p))) (λ n. sym n) (cases_Bool b)
-
-  resettles : Resettles s.views after 0 other id
-  resettles = record {
-    count = (let same : length after ≡ length s.views = length-set (slice_set s.views id x) other spent ∙ length-set s.views id x in omega (arith, same));
-    apart = λ e. apart (sym e);
-    named = at-bound s.views id v there;
-    less = λ p a. subst (λ (q : Seat × List (ℕ × ℕ)). ReadsLess q.0 (seat_of (at spent after a) p) q.1 (loads_at (at spent after a) p))
-        (field-still {A = Seat × List (ℕ × ℕ)} (λ y. (seat_of y p, loads_at y p)) s.views id v x there (λ i. (put_at no_seat (ab.seats i) p, put_at [] (ab.loads i) p)) a)
-        (replaced-less (slice_set s.views id x) other w spent gone (λ q. record { shares = sym (nothing.shares q); exclusive = sym (nothing.exclusive q); writing = sym (nothing.writing q); reading = inl refl }) p a);
-    gets = λ f. ap (λ (y : View X). has f y.frames) (at-first s.views id other v w x spent there apart at-other) ∙ ab.frames f ∙ either-way (has f w.frames) (has f v.frames)
-        ∙ (λ i. if has f (sym (at-there spent s.views other w at-other) i).frames then true else has f (sym (at-there spent s.views id v there) i).frames);
-    gives = λ f. ap (λ (y : View X). has f y.frames) (at-second s.views id other v w x spent there apart at-other);
-    keeps = λ a f n m. ap (λ (y : View X). has f y.frames) (at-neither s.views id other v w x spent there apart at-other a m n);
-    out = λ p. out-same (slice_set s.views id x) other w spent p gone (sym nothing.out) ∙ out-same s.views id v x p there ab.out;
-    pending = λ p. twice-any s.views id other v w x spent there apart at-other (λ y. has p y.pending) (ap (has p) ab.pending) (not-held p (has p w.pending) (λ t. (pages.pending p t).0));
-    owed = λ p. twice-any s.views id other v w x spent there apart at-other (λ y. has p y.owed) (ap (has p) ab.owed) (not-held p (has p w.owed) (λ t. (pages.owed p t).0));
-  }
-
-  settles : Settles stored keeps tied start tells s r after 0 other id resettles
-  settles =
-      let mine = seen-all stored keeps tied start tells s r v (r.heard id v there live) settled-here in
-      let theirs = seen-all stored keeps tied start tells s r w (r.heard other w at-other live') settled-other in
-      record {
-        fit = λ j u e. ⊎_elim
-            (λ t. subst (IsFit stored keeps tied start tells s r) t (fit-spent stored keeps tied start tells s r))
-            (λ t. ⊎_elim (λ q. subst (IsFit stored keeps tied start tells s r) q fit) (λ q. fit-now stored keeps tied start tells s r j u q) t)
-            (twice-at s.views id other v w x spent there apart at-other j u e);
-        notes = λ p n. twice-total s.views id other v w x spent there apart at-other (λ y. times_noted p n y.notes) (omega (arith, ab.notes p n));
-        parts = λ k. twice-total s.views id other v w x spent there apart at-other (owns k) (omega (arith, ab.parts k));
-        releases = twice-some s.views id other v w x spent there apart at-other (KnowsReleases stored keeps tied start tells s r) (λ a. inl (ab.releases.0 ∙ mine.0 a)) (λ a. inr (ab.releases.1 ∙ theirs.0 a)) r.lists.longest_releases;
-        history = twice-some s.views id other v w x spent there apart at-other (KnowsHistory stored keeps tied start tells s r) (λ a. ab.history r.history (inl (mine.1 a))) (λ a. ab.history r.history (inr (theirs.1 a))) r.lists.longest;
-      }
-
-  pub absorbs-ruled : Ruled stored keeps tied start tells (record { words = s.words; homes = s.homes; views = after })
-  absorbs-ruled = settled-ruled stored keeps tied start tells s r after 0 other id resettles settles
-
-  -- the lists and the drafts are as they were
-  pub absorbs-past : (absorbs-ruled.releases ≡ r.releases) × (absorbs-ruled.history ≡ r.history) × (absorbs-ruled.drafts ≡ r.drafts)
-  unfolding absorbs-ruled
-  absorbs-past = settled-past stored keeps tied start tells s r after 0 other id resettles settles
-
 -- ---- lists
 
 noted-joined : (p n : ℕ) (a b : List Note) → times_noted p n (a ++ b) ≡ times_noted p n a + times_noted p n b
@@ -142,15 +86,11 @@ noted-joined p n (x ∷ a) b = let h : times_noted p n (a ++ b) ≡ times_noted 
 pub has-either : (n : ℕ) (a b : List ℕ) → has n (a ++ b) ≡ true → (has n a ≡ true) ⊎ (has n b ≡ true)
 has-either n a b e = ⊎_elim inl (λ f. inr (sym (has-joined n a b ∙ ap (λ c. c || has n b) f) ∙ e)) (cases_Bool (has n a))
 
-pub or-right : (a b : Bool) → b ≡ true → (a || b) ≡ true
-or-right true b e = refl
-or-right false b e = e
-
 pub has-left : (n : ℕ) (a b : List ℕ) → has n a ≡ true → has n (a ++ b) ≡ true
 has-left n a b e = has-joined n a b ∙ rw e refl
 
 pub has-right : (n : ℕ) (a b : List ℕ) → has n b ≡ true → has n (a ++ b) ≡ true
-has-right n a b e = has-joined n a b ∙ or-right (has n a) (has n b) e
+has-right n a b e = has-joined n a b ∙ ap (λ c. has n a || c) e ∙ or-true (has n a)
 
 -- of two beginnings, what follows the shorter ends with what follows the longer
 follows : {A : Type 0} (a b r q : List A) → a ++ r ≡ b ++ q → length b ≤ length a → (m : List A) × (q ≡ m ++ r)
@@ -163,7 +103,7 @@ module _ {X : Type 0} where
   hears-longer : (h a b : List (Entry X)) (ns ms : List ℕ) (f : Hears h ns a) → Hears h ms b → length b ≤ length a → entries_by ms f.0 ≡ []
   hears-longer h a b ns ms f g le =
       let m = follows a b f.0 g.0 (sym f.1 ∙ g.1) le in
-      none-behind ms m.0 f.0 (ap (entries_by ms) (sym m.1) ∙ g.2)
+      (none-each ms m.0 f.0 (ap (entries_by ms) (sym m.1) ∙ g.2)).1
 
   -- what both heard, with the numbers of both; what the other heard; and which of the two has the whole history
   module _ (h : List (Entry X)) (v w : View X) where
@@ -219,6 +159,55 @@ module _ {X : Type 0} where
 module _ {X B : Type 0} (stored : B → Stored) (keeps : Start → Kept X → Type 0) (tied : Start → ℕ → List ℕ → ℕ → List ℕ → Type 0) (start : Origin) (tells : Bool) (s : Table (Option B) (View X)) (r : Ruled stored keeps tied start tells s)
     (id other : ℕ) (v w : View X) (there : get_elem? s.views id ≡ some v) (apart : other ≢ id) (at-other : get_elem? s.views other ≡ some w) (live : v.live ≡ true) (live' : w.live ≡ true)
     (settled-here : (v.told_releases ≡ []) × (v.told ≡ [])) (settled-other : (w.told_releases ≡ []) × (w.told ≡ [])) (nothing : HoldsNoPage w) where
+  -- the pass takes all over in its view x, and the other is spent
+  module _ (x : View X) (ab : Absorbs v w x) (fit : IsFit stored keeps tied start tells s r x) where
+    abbrev after : List (View X)
+    after = twice s.views id other v w x spent there apart at-other
+
+    gone : get_elem? (slice_set s.views id x) other ≡ some w
+    gone = once-second s.views id other v w x spent there apart at-other
+
+    pages : KnowsPages tied start (world_of stored start r.releases r.drafts s) (is_pending s.views) w
+    pages = r.known other w at-other live'
+
+    not-held : (p : ℕ) (b : Bool) → (b ≡ true → (seat_of w p).exclusive ≡ true) → false ≡ b
+    not-held p b f = ⊎_elim (λ t. absurd (true≢false (sym (f t) ∙ nothing.exclusive p))) (λ n. sym n) (cases_Bool b)
+
+    pub resettles : Resettles s.views after 0 other id
+    resettles = record {
+      count = (let same : length after ≡ length s.views = length-set (slice_set s.views id x) other spent ∙ length-set s.views id x in omega (arith, same));
+      apart = λ e. apart (sym e);
+      named = at-bound s.views id v there;
+      less = λ p a. subst (λ (q : Seat × List (ℕ × ℕ)). ReadsLess q.0 (seat_of (at spent after a) p) q.1 (loads_at (at spent after a) p))
+          (field-still {A = Seat × List (ℕ × ℕ)} (λ y. (seat_of y p, loads_at y p)) s.views id v x there (λ i. (put_at no_seat (ab.seats i) p, put_at [] (ab.loads i) p)) a)
+          (replaced-less (slice_set s.views id x) other w spent gone (λ q. record { shares = sym (nothing.shares q); exclusive = sym (nothing.exclusive q); writing = sym (nothing.writing q); reading = inl refl }) p a);
+      gets = λ f. ap (λ (y : View X). has f y.frames) (at-first s.views id other v w x spent there apart at-other) ∙ ab.frames f ∙ either-way (has f w.frames) (has f v.frames)
+          ∙ (λ i. if has f (sym (at-there spent s.views other w at-other) i).frames then true else has f (sym (at-there spent s.views id v there) i).frames);
+      gives = λ f. ap (λ (y : View X). has f y.frames) (at-second s.views id other v w x spent there apart at-other);
+      keeps = λ a f n m. ap (λ (y : View X). has f y.frames) (at-neither s.views id other v w x spent there apart at-other a m n);
+      out = λ p. out-same (slice_set s.views id x) other w spent p gone (sym nothing.out) ∙ out-same s.views id v x p there ab.out;
+      pending = λ p. twice-any s.views id other v w x spent there apart at-other (λ y. has p y.pending) (ap (has p) ab.pending) (not-held p (has p w.pending) (λ t. (pages.pending p t).0));
+      owed = λ p. twice-any s.views id other v w x spent there apart at-other (λ y. has p y.owed) (ap (has p) ab.owed) (not-held p (has p w.owed) (λ t. (pages.owed p t).0));
+    }
+
+    pub settles : Settles stored keeps tied start tells s r after 0 other id resettles
+    settles =
+        let mine = seen-all stored keeps tied start tells s r v (r.heard id v there live) settled-here in
+        let theirs = seen-all stored keeps tied start tells s r w (r.heard other w at-other live') settled-other in
+        record {
+          fit = λ j u e. ⊎_elim
+              (λ t. subst (IsFit stored keeps tied start tells s r) t (fit-spent stored keeps tied start tells s r))
+              (λ t. ⊎_elim (λ q. subst (IsFit stored keeps tied start tells s r) q fit) (λ q. fit-now stored keeps tied start tells s r j u q) t)
+              (twice-at s.views id other v w x spent there apart at-other j u e);
+          notes = λ p n. twice-total s.views id other v w x spent there apart at-other (λ y. times_noted p n y.notes) (omega (arith, ab.notes p n));
+          parts = λ k. twice-total s.views id other v w x spent there apart at-other (owns k) (omega (arith, ab.parts k));
+          releases = twice-some s.views id other v w x spent there apart at-other (KnowsReleases stored keeps tied start tells s r) (λ a. inl (ab.releases.0 ∙ mine.0 a)) (λ a. inr (ab.releases.1 ∙ theirs.0 a)) r.lists.longest_releases;
+          history = twice-some s.views id other v w x spent there apart at-other (KnowsHistory stored keeps tied start tells s r) (λ a. ab.history r.history (inl (mine.1 a))) (λ a. ab.history r.history (inr (theirs.1 a))) r.lists.longest;
+        }
+
+    unfoldable pub absorbs-ruled : Ruled stored keeps tied start tells (record { words = s.words; homes = s.homes; views = after })
+    absorbs-ruled = settled-ruled stored keeps tied start tells s r after 0 other id resettles settles
+
   joined-lists : KnowsLists start r.releases r.history (joined v w)
   joined-lists =
       let mine = r.heard id v there live in
@@ -254,9 +243,9 @@ module _ {X B : Type 0} (stored : B → Stored) (keeps : Start → Kept X → Ty
       }
 
   pub joins-ruled : Ruled stored keeps tied start tells (record { words = s.words; homes = s.homes; views = twice s.views id other v w (joined v w) spent there apart at-other })
-  joins-ruled = absorbs-ruled stored keeps tied start tells s r id other v w (joined v w) there apart at-other live live' settled-here settled-other nothing (joined-absorbs v w) joined-fit
+  joins-ruled = absorbs-ruled (joined v w) (joined-absorbs v w) joined-fit
 
   -- the lists and the drafts are as they were
   pub joins-past : (joins-ruled.releases ≡ r.releases) × (joins-ruled.history ≡ r.history) × (joins-ruled.drafts ≡ r.drafts)
-  unfolding joins-ruled
-  joins-past = absorbs-past stored keeps tied start tells s r id other v w (joined v w) there apart at-other live live' settled-here settled-other nothing (joined-absorbs v w) joined-fit
+  unfolding joins-ruled absorbs-ruled settled-ruled
+  joins-past = (refl, refl, refl)

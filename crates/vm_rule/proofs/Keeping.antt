@@ -1,8 +1,9 @@
--- Runs one after_event another.
-use Rattle.vm_rule.proofs.{Starts.core-start, Starts.start_law, Tells.told_law}
-use Rattle.vm_rule.proofs.Prelude.{[], after_event, AllLegal, ap, begin, core_start, CoreStart, Event, FaultsTold, FrameOnce, Inv, IsRunKept, IsStart}
-use Rattle.vm_rule.proofs.Prelude.{KeptFrom, List, refl, run, RunsTo, start, State, subst, sym, Told, true, world_run, ◌++◌, ◌∙◌, ◌∷◌, ◌≡◌}
-use Rattle.vm_rule.proofs.Runs.{run-core, run-one, run-tells, run_law}
+-- Runs one after another, and what a replay keeps.
+use Rattle.vm_core.specs.declared.playing.ReplayFault.TheVariants as faults
+use Rattle.vm_rule.proofs.{Runs.run-core, Runs.run-one, Runs.run-tells, Runs.run_law, Starts.core-start, Starts.start_law, Tells.told_law}
+use Rattle.vm_rule.proofs.Prelude.{[], after_event, AllLegal, ap, begin, core_start, CoreStart, Err, Event, FaultsTold, FrameOnce, Inv, IsRunKept, IsStart}
+use Rattle.vm_rule.proofs.Prelude.{KeptFault, KeptFrom, List, refl, Replayed, ReplayFault, run, RunsTo, start, State, subst, sym, take, Told, true, world_run}
+use Rattle.vm_rule.proofs.Prelude.{◌++◌, ◌∙◌, ◌∷◌, ◌≡◌}
 
 run-both : (c : State) (xs ys : List Event) → run c (xs ++ ys) ≡ run (run c xs) ys
 run-both c [] ys = refl
@@ -11,13 +12,6 @@ run-both c (x ∷ xs) ys = run-both (after_event c x) xs ys
 legal-both : (c : State) (xs ys : List Event) → AllLegal c xs → AllLegal (run c xs) ys → AllLegal c (xs ++ ys)
 legal-both c [] ys m n = n
 legal-both c (x ∷ xs) ys m n = (m.0, legal-both (after_event c x) xs ys m.1 n)
-
-runs-both : (c c' c'' : State) (xs ys : List Event) → RunsTo c xs c' → RunsTo c' ys c'' → RunsTo c (xs ++ ys) c''
-runs-both c c' c'' xs ys r s =
-    record {
-      legal = legal-both c xs ys r.legal (subst (λ x. AllLegal x ys) r.state s.legal);
-      state = s.state ∙ ap (λ x. run x ys) r.state ∙ sym (run-both c xs ys);
-    }
 
 -- legal events from a start whose blocks tell their words are kept
 pub kept-run : (s : CoreStart) (events : List Event) (new : State) → IsStart s → s.tells ≡ true → RunsTo (start s) events new → KeptFrom s events new
@@ -37,4 +31,12 @@ kept-run s events new ok t r =
 
 pub kept-more : (old new : State) (done : List Event) → RunsTo old done new → IsRunKept old done new
 kept-more old new done r shape before le b =
-    kept-run (core_start shape) (before ++ done) new (core-start shape le) refl (runs-both (start (core_start shape)) old new before done b r)
+    let c : State = start (core_start shape) in
+    kept-run (core_start shape) (before ++ done) new (core-start shape le) refl (record {
+      legal = legal-both c before done b.legal (subst (λ x. AllLegal x done) b.state r.legal);
+      state = r.state ∙ ap (λ x. run x done) b.state ∙ sym (run-both c before done);
+    })
+
+pub kept-fault : (old new : State) (events : List Event) (fault : ReplayFault) → Replayed old events (Err fault) new → KeptFault old events fault new
+kept-fault old new events (faults.Illegal index) r = kept-more old new (take index events) r.0
+kept-fault old new events faults.Memory r = r

@@ -1,13 +1,12 @@
 -- What a pass knows of pages stays true after an event of another pass; and so does what any pass knows of translations and ties.
 use Rattle.vm_core.specs.declared.event.Event.TheVariants.{Release}
 use Rattle.vm_rule.specs.declared.view.Release.{Release as Released}
-use Rattle.vm_rule.proofs.{Entries.each-map, Facts.any-here, Facts.any-true, Heard.not-true, Views.at-bound, Were.were-moves}
-use Rattle.vm_rule.proofs.Prelude.{[], any, ap, arith, began_of, Bool, cases_eq, cases_lt, Did, Downgrade, Each, Entry, Event, EVICTED, false, None}
-use Rattle.vm_rule.proofs.Prelude.{get_elem?, has, histories_after, History, IsLocking, KnowsPage, KnowsPages, last_in, Leaves, LeavesActor, Legal}
-use Rattle.vm_rule.proofs.Prelude.{List, LockX, may_call, no_held, Note, Origin, Page, PageMoves, Put, put_at, refl, ReleaseE, Seat, seat_of, Some}
-use Rattle.vm_rule.proofs.Prelude.{set_else, set_here, slice_set, some, some-injective, Start, Store, subst, sym, Tie, TieHolds, Translation}
-use Rattle.vm_rule.proofs.Prelude.{TranslationHolds, true, true≢false, upd-other, Upgrade, Version, View, view_from, WereWords, World, ℕ, ⊎_elim, ◌<◌}
-use Rattle.vm_rule.proofs.Prelude.{none-some, ◌∙◌, ◌≡◌, ◌≤◌}
+use Rattle.vm_rule.proofs.{Entries.each-map, Facts.any-here, Facts.any-true, Prelude.◌≤◌, Views.at-bound, Were.were-moves}
+use Rattle.vm_rule.proofs.Prelude.{[], any, ap, arith, began_of, Bool, cases_eq, cases_lt, Did, Downgrade, Each, Entry, Event, EVICTED, false}
+use Rattle.vm_rule.proofs.Prelude.{false_from_ne_true, get_elem?, has, histories_after, History, IsLocking, KnowsPage, KnowsPages, last_in, Leaves, LeavesActor}
+use Rattle.vm_rule.proofs.Prelude.{Legal, List, LockX, may_call, no_held, None, none-some, Note, Origin, Page, PageMoves, Put, put_at, refl, ReleaseE, Seat}
+use Rattle.vm_rule.proofs.Prelude.{seat_of, set_else, set_here, slice_set, Some, some, some-injective, Start, Store, subst, sym, Tie, TieHolds, Translation}
+use Rattle.vm_rule.proofs.Prelude.{TranslationHolds, true, true≢false, upd-other, Upgrade, Version, View, view_from, WereWords, World, ℕ, ⊎_elim, ◌<◌, ◌∙◌, ◌≡◌}
 
 -- the versions and drafts of a page past the last one, which nobody holds, stay
 pub histories-outside : (w : World) (e : Event) → Legal w.core e → (p : ℕ) → w.core.shape.pages ≤ p → ((a : ℕ) → ((w.core.pages p).seats a).exclusive ≡ false) → histories_after w e p ≡ w.histories p
@@ -110,7 +109,7 @@ module _ {X : Type 0} where
             (λ e. ap f (some-injective v k.1 (sym there ∙ ap (get_elem? views) (sym e) ∙ k.2)) ∙ k.3)
             (λ ne. absurd (none k.0 k.1 (set_else views id k.0 w ne ∙ k.2) k.3))
             (cases_eq k.0 id),
-        not-true (f w) (none id w (set_here views id w (at-bound views id v there))),
+        false_from_ne_true (f w) (none id w (set_here views id w (at-bound views id v there))),
       )
 
   module _ (tied : Start → ℕ → List ℕ → ℕ → List ℕ → Type 0) (start : Origin) where

@@ -1,7 +1,7 @@
 -- Lists read as functions: one behind another, and the values of a function.
 use Rattle.vm_rule.proofs.Prelude.{[], ap, append-nil, append_assoc, arith, at, cases_lt, get_or, get_or-append_right, get_or-map, get_or_append_left}
-use Rattle.vm_rule.proofs.Prelude.{get_or_default, get_or_past, length, length-map, List, listed, map, refl, replicate, suc, sym, zero, ℕ, ⊎_elim}
-use Rattle.vm_rule.proofs.Prelude.{◌++◌, ◌+◌, ◌-◌, ◌<◌, ◌∙◌, ◌∷◌, ◌≡◌, ◌≤◌}
+use Rattle.vm_rule.proofs.Prelude.{get_or_default, get_or_past, length, length-map, List, listed, map, refl, suc, sym, zero, ℕ, ⊎_elim, ◌++◌, ◌+◌, ◌-◌, ◌<◌}
+use Rattle.vm_rule.proofs.Prelude.{◌∙◌, ◌∷◌, ◌≡◌, ◌≤◌}
 
 -- behind the first list, and in it
 pub at-right : {A : Type 0} (d : A) (xs ys : List A) (i k : ℕ) → i ≡ length xs + k → at d (xs ++ ys) i ≡ at d ys k
@@ -72,7 +72,3 @@ listed-all d (x ∷ xs) = ap (λ (l : List _). x ∷ l) (listed-all d xs)
 
 pub listed-long : {A : Type 0} (d : A) (n : ℕ) (xs : List A) → length xs ≡ n → listed n (at d xs) ≡ xs
 listed-long d n xs e = ap (λ k. listed k (at d xs)) (sym e) ∙ listed-all d xs
-
-pub zeros : listed {A = ℕ} 64 (λ i. 0) ≡ replicate 64 0
-unfolding listed
-zeros = refl

@@ -1,19 +1,15 @@
 -- A pass takes in another that only knows the two lists, and then takes over what it was told: the table meets the rule.
 use Rattle.vm_rule.specs.declared.view.Place.TheVariants as places
-use Rattle.vm_rule.proofs.{Found.next-here, Heard.each-both, Known.known-with}
-use Rattle.vm_rule.proofs.Entries.{append-none, entries-both, entries-none, none-before, none-behind, total-same}
-use Rattle.vm_rule.proofs.Joining.{Absorbs, absorbs-past, absorbs-ruled}
-use Rattle.vm_rule.proofs.Prelude.{[], ap, append_assoc, append_cancel_left, AreNext, arith, Bool, cases_eq, did_load, entries_by, follower}
-use Rattle.vm_rule.proofs.Prelude.{get_elem?, has, hearer, Hears, HoldsNoPage, HoldsNothing, index_of, inl, is_pending, IsLocking, Kept, KnowsLists}
-use Rattle.vm_rule.proofs.Prelude.{KnowsPages, last_in, length, length-set, List, loads_at, OnlyKnows, Option, Origin, owns, refl, Release, Ruled}
-use Rattle.vm_rule.proofs.Prelude.{Seat, seat_of, set_here, slice_index, slice_set, some, spent, Start, StartsWith, Stored, subst, sym, Table}
-use Rattle.vm_rule.proofs.Prelude.{TakesOver, times, times_noted, true, true≢false, Version, View, WereWords, world_of, ℕ, ⊎_elim, ◌++◌, ◌+◌, ◌||◌}
-use Rattle.vm_rule.proofs.Prelude.{◌∙◌, ◌∷◌, ◌≡◌, ◌≢◌, ◌≤◌}
-use Rattle.vm_rule.proofs.Resettling.{all-told, fit-now, IsFit, keeps-resettles, KnowsHistory, KnowsReleases, Resettles, set-some, settled-ruled}
-use Rattle.vm_rule.proofs.Resettling.{Settles}
-use Rattle.vm_rule.proofs.Sound.{is-sound, never-falls, next-front}
-use Rattle.vm_rule.proofs.Views.{any-same, at-bound, field-still, out-same, set-each}
-use Rattle.vm_rule.proofs.Worlds.{last-else, last-here, last-is}
+use Rattle.vm_rule.proofs.{Found.next-here, Heard.each-both, Known.known-with, Sound.is-sound, Sound.never-falls, Sound.next-front, Views.any-same}
+use Rattle.vm_rule.proofs.{Views.at-bound, Views.field-still, Views.out-same, Views.set-each, Worlds.last-else, Worlds.last-here, Worlds.last-is}
+use Rattle.vm_rule.proofs.Entries.{append-none, entries-both, entries-none, none-each, total-same}
+use Rattle.vm_rule.proofs.Joining.{Absorbs, absorbs-ruled}
+use Rattle.vm_rule.proofs.Prelude.{[], ap, append_assoc, append_cancel_left, AreNext, arith, Bool, cases_eq, did_load, entries_by, follower, get_elem?, has}
+use Rattle.vm_rule.proofs.Prelude.{hearer, Hears, HoldsNothing, index_of, inl, is_pending, IsLocking, Kept, KnowsLists, KnowsPages, last_in, length, length-set}
+use Rattle.vm_rule.proofs.Prelude.{List, loads_at, OnlyKnows, Option, Origin, owns, refl, Release, Ruled, Seat, seat_of, set_here, slice_index, slice_set, some}
+use Rattle.vm_rule.proofs.Prelude.{spent, Start, StartsWith, Stored, subst, sym, Table, TakesOver, times, times_noted, true, true≢false, Version, View}
+use Rattle.vm_rule.proofs.Prelude.{WereWords, world_of, ℕ, ⊎_elim, ◌++◌, ◌+◌, ◌||◌, ◌∙◌, ◌∷◌, ◌≡◌, ◌≢◌, ◌≤◌}
+use Rattle.vm_rule.proofs.Resettling.{all-told, fit-now, IsFit, keeps-resettles, KnowsHistory, KnowsReleases, Resettles, set-some, settled-ruled, Settles}
 
 -- ---- lists
 
@@ -35,15 +31,6 @@ stays-between start before (r ∷ rs) q p a e =
     ∙ here)
     (cases_eq p r.page)
 
--- so it has where the releases that were told end
-between-same : (start : Origin) (before all told : List Release) (p : ℕ) → AreNext start [] all → StartsWith all told → StartsWith told before → last_in start before p ≡ last_in start all p → last_in start told p ≡ last_in start before p
-between-same start before all told p a s t e =
-    let cut : all ≡ before ++ (t.0 ++ s.0) = s.1 ∙ ap (λ l. l ++ s.0) t.1 ∙ append_assoc before t.0 s.0 in
-    ap (λ l. last_in start l p) t.1
-    ∙ stays-between start before t.0 s.0 p
-    (next-front start [] before (t.0 ++ s.0) (subst (AreNext start []) cut a)).1
-    (ap (λ l. (last_in start l p).version) (sym cut) ∙ ap (λ (v : Version). v.version) (sym e))
-
 module _ {X B : Type 0} (stored : B → Stored) (keeps : Start → Kept X → Type 0) (tied : Start → ℕ → List ℕ → ℕ → List ℕ → Type 0) (start : Origin) (tells : Bool) where
   -- ---- a pass is told
 
@@ -58,9 +45,6 @@ module _ {X B : Type 0} (stored : B → Stored) (keeps : Start → Kept X → Ty
     -- the one that told it held nothing
     nothing : HoldsNothing w
     nothing = theirs.idle only.used only.fresh
-
-    holds-no-page : HoldsNoPage w
-    holds-no-page = record { shares = nothing.shares; exclusive = nothing.exclusive; writing = nothing.writing; out = nothing.out }
 
     hearer-absorbs : Absorbs v w (hearer v w)
     hearer-absorbs = record {
@@ -98,12 +82,12 @@ module _ {X B : Type 0} (stored : B → Stored) (keeps : Start → Kept X → Ty
         }
 
     pub hears-ruled : Ruled stored keeps tied start tells (record { words = s.words; homes = s.homes; views = slice_set (slice_set s.views id (hearer v w)) other spent })
-    hears-ruled = absorbs-ruled stored keeps tied start tells s r id other v w (hearer v w) there apart at-other live live' settled-here settled-other holds-no-page hearer-absorbs hearer-fit
+    hears-ruled = absorbs-ruled stored keeps tied start tells s r id other v w there apart at-other live live' settled-here settled-other (record { shares = nothing.shares; exclusive = nothing.exclusive; writing = nothing.writing; out = nothing.out }) (hearer v w) hearer-absorbs hearer-fit
 
     -- the lists and the drafts are as they were
     pub hears-past : (hears-ruled.releases ≡ r.releases) × (hears-ruled.history ≡ r.history) × (hears-ruled.drafts ≡ r.drafts)
-    unfolding hears-ruled
-    hears-past = absorbs-past stored keeps tied start tells s r id other v w (hearer v w) there apart at-other live live' settled-here settled-other holds-no-page hearer-absorbs hearer-fit
+    unfolding hears-ruled absorbs-ruled settled-ruled
+    hears-past = (refl, refl, refl)
 
   -- ---- it takes over what it was told
 
@@ -138,13 +122,17 @@ module _ {X B : Type 0} (stored : B → Stored) (keeps : Start → Kept X → Ty
     none-further = ap (entries_by v.used) (sym (append_cancel_left v.seen own-lists.heard.0 (on-seen.0 ++ own-lists.told.1.0) (sym own-lists.heard.1 ∙ own-lists.told.1.1 ∙ ap (λ l. l ++ own-lists.told.1.0) on-seen.1 ∙ append_assoc v.seen on-seen.0 own-lists.told.1.0))) ∙ own-lists.heard.2
 
     heard-told : Hears v.told v.used v.seen
-    heard-told = (on-seen.0, on-seen.1, none-before v.used on-seen.0 own-lists.told.1.0 none-further)
+    heard-told = (on-seen.0, on-seen.1, (none-each v.used on-seen.0 own-lists.told.1.0 none-further).0)
 
+    -- a page that it has locked was not released between what it had seen and what it was told
     kept-since : (p : ℕ) → IsLocking (seat_of v p) → last_in v.start v.told_releases p ≡ last_in v.start v.releases p
     kept-since p locks =
-        ap (λ (o : Origin). last_in o v.told_releases p) own-lists.same_start
-        ∙ between-same start v.releases r.releases v.told_releases p r.lists.rises own-lists.told.0 on-releases
-        (ap (λ (o : Origin). last_in o v.releases p) (sym own-lists.same_start) ∙ own-pages.latest p locks ∙ sym (last-is start r.releases r.drafts p))
+        let rest : List Release = on-releases.0 ++ own-lists.told.0.0 in
+        let cut : r.releases ≡ v.releases ++ rest = own-lists.told.0.1 ∙ ap (λ l. l ++ own-lists.told.0.0) on-releases.1 ∙ append_assoc v.releases on-releases.0 own-lists.told.0.0 in
+        let latest : last_in start v.releases p ≡ last_in start r.releases p = ap (λ (o : Origin). last_in o v.releases p) (sym own-lists.same_start) ∙ own-pages.latest p locks ∙ sym (last-is start r.releases r.drafts p) in
+        (λ i. last_in (own-lists.same_start i) (on-releases.1 i) p)
+        ∙ stays-between start v.releases on-releases.0 own-lists.told.0.0 p (next-front start [] v.releases rest (subst (AreNext start []) cut r.lists.rises)).1
+        (ap (λ l. (last_in start l p).version) (sym cut) ∙ ap (λ (v : Version). v.version) (sym latest))
         ∙ ap (λ (o : Origin). last_in o v.releases p) (sym own-lists.same_start)
 
     follower-fit : IsFit stored keeps tied start tells s r after
@@ -157,7 +145,7 @@ module _ {X B : Type 0} (stored : B → Stored) (keeps : Start → Kept X → Ty
           heard = λ _. record {
             same_start = own-lists.same_start;
             saw = own-lists.told.0;
-            heard = (own-lists.told.1.0, own-lists.told.1.1, none-behind v.used on-seen.0 own-lists.told.1.0 none-further);
+            heard = (own-lists.told.1.0, own-lists.told.1.1, (none-each v.used on-seen.0 own-lists.told.1.0 none-further).1);
             told = ((r.releases, refl), (r.history, refl, entries-none r.history), λ k e. absurd (true≢false (sym e)));
             mine = own-lists.mine ∙ sym (ap (entries_by v.used) heard-told.1 ∙ entries-both v.used v.seen heard-told.0 ∙ (λ i. entries_by v.used v.seen ++ heard-told.2 i) ∙ append-none (entries_by v.used v.seen));
             fresh = own-lists.fresh;

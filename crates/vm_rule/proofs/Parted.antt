@@ -1,18 +1,12 @@
 -- The parts at the start: the first pass has each, once.
-use Rattle.vm_rule.proofs.Prelude.{[], arith, eqb, first_view, if◌then◌else◌, IsWhole, lt-ltb, ltb, nat_tests, numbers, one_part, Origin, owns, PARTS}
-use Rattle.vm_rule.proofs.Prelude.{refl, suc, times, total, zero, ℕ, ◌+◌, ◌∷◌, ◌≡◌}
-
-times-none : (k a : ℕ) → times k [] ≡ (if ltb k a then 0 else if ltb k (a + 0) then 1 else 0)
-times-none k a = grind (arith, nat_tests)
-
-times-more : (k a n t : ℕ) → t ≡ (if ltb k (suc a) then 0 else if ltb k (suc a + n) then 1 else 0) → (if eqb a k then 1 else 0) + t ≡ (if ltb k a then 0 else if ltb k (a + suc n) then 1 else 0)
-times-more k a n t e = grind (arith, nat_tests, e)
+use Rattle.vm_rule.proofs.Prelude.{[], arith, first_view, if◌then◌else◌, IsWhole, lt-ltb, ltb, nat_tests, numbers, one_part, Origin, owns, PARTS, refl, suc}
+use Rattle.vm_rule.proofs.Prelude.{times, total, zero, ℕ, ◌+◌, ◌∷◌, ◌≡◌}
 
 -- each of the numbers from a on stands once
 times-numbers : (k a n : ℕ) → times k (numbers a n) ≡ (if ltb k a then 0 else if ltb k (a + n) then 1 else 0)
 unfolding numbers
-times-numbers k a zero = times-none k a
-times-numbers k a (suc n) = times-more k a n (times k (numbers (suc a) n)) (times-numbers k (suc a) n)
+times-numbers k a zero = grind (arith, nat_tests)
+times-numbers k a (suc n) = grind (arith, nat_tests, times-numbers k (suc a) n)
 
 -- 0 and the numbers from 1 on, m of them
 all-parts : (k m n : ℕ) → suc m ≡ n → times k (0 ∷ []) + times k (numbers 1 m) ≡ (if ltb k n then 1 else 0)

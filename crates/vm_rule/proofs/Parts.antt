@@ -1,9 +1,10 @@
 -- A word of the table is with_word: the words of its kind change at one place, and all others stay.
+use Rattle.std.proofs.lemmas.List.{get_or-set_other}
 use Rattle.vm_core.proofs.At.{at_set}
 use Rattle.vm_rule.specs.declared.view.Place.TheVariants as places
-use Rattle.vm_rule.proofs.Prelude.{ap, arith, at, bundle_count, cases_eq, cases_lt, frame_words, fun_ext, index_of, inl, inr, le-ltb, length, List}
-use Rattle.vm_rule.proofs.Prelude.{listed, lt-ltb, Origin, part, Place, refl, slice_set, suc, sym, table_words, upd, upd-other, upd-same, width}
-use Rattle.vm_rule.proofs.Prelude.{with_word, Within, Words, zero, ℕ, ⊎_elim, ◌*◌, ◌+◌, ◌<◌, ◌∙◌, ◌∷◌, ◌≡◌, ◌≢◌, ◌≤◌, ◌⊎◌}
+use Rattle.vm_rule.proofs.Prelude.{ap, arith, at, bundle_count, cases_eq, cases_lt, frame_words, fun_ext, index_of, le-ltb, length, List, listed, lt-ltb}
+use Rattle.vm_rule.proofs.Prelude.{Origin, part, Place, refl, slice_set, suc, sym, table_words, upd, upd-other, upd-same, width, with_word, Within, Words, zero}
+use Rattle.vm_rule.proofs.Prelude.{ℕ, ⊎_elim, ◌*◌, ◌+◌, ◌<◌, ◌∙◌, ◌∷◌, ◌≡◌, ◌≢◌, ◌⊎◌}
 
 -- a function that differs from f at k alone
 pub upd-is : {A : Type 0} (f g : ℕ → A) (k : ℕ) (x : A) → g k ≡ x → ((j : ℕ) → j ≢ k → g j ≡ f j) → g ≡ upd f k x
@@ -13,106 +14,81 @@ upd-is f g k x here there =
 at-here : (words : List ℕ) (i x : ℕ) → i < length words → at 0 (slice_set words i x) i ≡ x
 at-here words i x lt = ap (λ f. f i) (at_set 0 words i x lt) ∙ upd-same (at 0 words) i x
 
-at-else : (words : List ℕ) (i x j : ℕ) → i < length words → j ≢ i → at 0 (slice_set words i x) j ≡ at 0 words j
-at-else words i x j lt ne = ap (λ f. f j) (at_set 0 words i x lt) ∙ upd-other (at 0 words) i x j ne
-
--- the word is not one of the part
-part-else : (base n : ℕ) (words : List ℕ) (i x : ℕ) → i < length words → (i < base) ⊎ (base + n ≤ i) → part base n (slice_set words i x) ≡ part base n words
-unfolding part
-part-else base n words i x lt out =
-    fun_ext (λ k. ⊎_elim
-    (λ l. rw (lt-ltb k n l) (at-else words i x (base + k) lt (λ e. ⊎_elim (λ o. absurd (omega arith)) (λ o. absurd (omega arith)) out)))
-    (λ le. rw (le-ltb k n le) refl)
-    (cases_lt k n))
-
--- the word is the k-th of the part
-pub part-here : (base n : ℕ) (words : List ℕ) (k i x : ℕ) → k < n → i < length words → base + k ≡ i → part base n (slice_set words i x) ≡ upd (part base n words) k x
-unfolding part
-part-here base n words k i x l lt e =
-    upd-is (part base n words) (part base n (slice_set words i x)) k x
-    (rw (lt-ltb k n l) (ap (at 0 (slice_set words i x)) e ∙ at-here words i x lt))
-    (λ j ne. ⊎_elim
-    (λ l'. rw (lt-ltb j n l') (at-else words i x (base + j) lt (λ e'. ne (omega arith))))
-    (λ le. rw (le-ltb j n le) refl)
-    (cases_lt j n))
-
--- the value of a word within the table
-pub part-at : (base n : ℕ) (words : List ℕ) (k : ℕ) → k < n → part base n words k ≡ at 0 words (base + k)
-unfolding part
-part-at base n words k l = rw (lt-ltb k n l) refl
+at-else : (words : List ℕ) (i x j : ℕ) → j ≢ i → at 0 (slice_set words i x) j ≡ at 0 words j
+unfolding at
+at-else words i x j ne = get_or-set_other words i j x 0 ne
 
 -- the words, part by part, in the order of the layout
 words-as : {a a' b b' c c' d d' e e' h h' : ℕ → ℕ} {f f' g g' : ℕ} → a ≡ a' → b ≡ b' → c ≡ c' → d ≡ d' → e ≡ e' → f ≡ f' → g ≡ g' → h ≡ h'
     → ◌≡◌ {A = Words} (record { states = a; translations = b; faults = c; contents = d; bundles = e; next = f; hand = g; owners = h }) (record { states = a'; translations = b'; faults = c'; contents = d'; bundles = e'; next = f'; hand = g'; owners = h' })
 words-as a b c d e f g h i = record { states = a i; translations = b i; faults = c i; contents = d i; bundles = e i; next = f i; hand = g i; owners = h i }
 
--- one word is written: its part changes there, and the others are as they were
+-- one word is written, the word k
+module _ (start : Origin) (words : List ℕ) (x k : ℕ) (wide : length words ≡ width start) where
+  -- it is not one of the part
+  other : (base n : ℕ) → ((j : ℕ) → j < n → base + j ≢ k) → part base n (slice_set words k x) ≡ part base n words
+  unfolding part
+  other base n ne = fun_ext (λ j. ⊎_elim (λ l. rw (lt-ltb j n l) (at-else words k x (base + j) (ne j l))) (λ le. rw (le-ltb j n le) refl) (cases_lt j n))
+
+  -- it is the i-th of the part
+  own : (base n i : ℕ) → i < n → k < length words → base + i ≡ k → part base n (slice_set words k x) ≡ upd (part base n words) i x
+  unfolding part
+  own base n i l lt e =
+      upd-is (part base n words) (part base n (slice_set words k x)) i x
+      (rw (lt-ltb i n l) (ap (at 0 (slice_set words k x)) e ∙ at-here words k x lt))
+      (λ j ne. ⊎_elim (λ l'. rw (lt-ltb j n l') (at-else words k x (base + j) (λ e'. ne (omega arith)))) (λ le. rw (le-ltb j n le) refl) (cases_lt j n))
+
+  -- where the bundle words begin
+  abbrev bundles-from : ℕ
+  bundles-from = 3 * start.pages + 64 * start.frames
+
+  -- its part changes there, and the others are as they were
+  placed : (w : Place) → Within start w → index_of start w ≡ k → table_words start (slice_set words k x) ≡ with_word (table_words start words) w x
+  placed (places.State p) l e =
+      words-as
+      (own 0 start.pages p l (omega arith) (omega arith)) (other start.pages start.pages (λ j below same. omega arith)) (other (2 * start.pages) start.pages (λ j below same. omega arith))
+      (other (3 * start.pages) (64 * start.frames) (λ j below same. omega arith)) (other bundles-from (bundle_count start) (λ j below same. omega arith))
+      (at-else words k x (index_of start places.Next) (λ same. omega arith)) (at-else words k x (index_of start places.Hand) (λ same. omega arith)) (other (bundles-from + bundle_count start + 2) start.frames (λ j below same. omega arith))
+  placed (places.Translation p) l e =
+      words-as
+      (other 0 start.pages (λ j below same. omega arith)) (own start.pages start.pages p l (omega arith) (omega arith)) (other (2 * start.pages) start.pages (λ j below same. omega arith))
+      (other (3 * start.pages) (64 * start.frames) (λ j below same. omega arith)) (other bundles-from (bundle_count start) (λ j below same. omega arith))
+      (at-else words k x (index_of start places.Next) (λ same. omega arith)) (at-else words k x (index_of start places.Hand) (λ same. omega arith)) (other (bundles-from + bundle_count start + 2) start.frames (λ j below same. omega arith))
+  placed (places.Fault p) l e =
+      words-as
+      (other 0 start.pages (λ j below same. omega arith)) (other start.pages start.pages (λ j below same. omega arith)) (own (2 * start.pages) start.pages p l (omega arith) (omega arith))
+      (other (3 * start.pages) (64 * start.frames) (λ j below same. omega arith)) (other bundles-from (bundle_count start) (λ j below same. omega arith))
+      (at-else words k x (index_of start places.Next) (λ same. omega arith)) (at-else words k x (index_of start places.Hand) (λ same. omega arith)) (other (bundles-from + bundle_count start + 2) start.frames (λ j below same. omega arith))
+  placed (places.Content f n) l e =
+      let frame : f < start.frames = l.0 in
+      let inside : n < 64 = l.1 in
+      words-as
+      (other 0 start.pages (λ j below same. omega arith)) (other start.pages start.pages (λ j below same. omega arith)) (other (2 * start.pages) start.pages (λ j below same. omega arith))
+      (own (3 * start.pages) (64 * start.frames) (64 * f + n) (omega arith) (omega arith) (omega arith)) (other bundles-from (bundle_count start) (λ j below same. omega arith))
+      (at-else words k x (index_of start places.Next) (λ same. omega arith)) (at-else words k x (index_of start places.Hand) (λ same. omega arith)) (other (bundles-from + bundle_count start + 2) start.frames (λ j below same. omega arith))
+  placed (places.Bundle g) l e =
+      words-as
+      (other 0 start.pages (λ j below same. omega arith)) (other start.pages start.pages (λ j below same. omega arith)) (other (2 * start.pages) start.pages (λ j below same. omega arith))
+      (other (3 * start.pages) (64 * start.frames) (λ j below same. omega arith)) (own bundles-from (bundle_count start) g l (omega arith) (omega arith))
+      (at-else words k x (index_of start places.Next) (λ same. omega arith)) (at-else words k x (index_of start places.Hand) (λ same. omega arith)) (other (bundles-from + bundle_count start + 2) start.frames (λ j below same. omega arith))
+  placed places.Next l e =
+      words-as
+      (other 0 start.pages (λ j below same. omega arith)) (other start.pages start.pages (λ j below same. omega arith)) (other (2 * start.pages) start.pages (λ j below same. omega arith))
+      (other (3 * start.pages) (64 * start.frames) (λ j below same. omega arith)) (other bundles-from (bundle_count start) (λ j below same. omega arith))
+      (ap (at 0 (slice_set words k x)) e ∙ at-here words k x (omega arith)) (at-else words k x (index_of start places.Hand) (λ same. omega arith)) (other (bundles-from + bundle_count start + 2) start.frames (λ j below same. omega arith))
+  placed places.Hand l e =
+      words-as
+      (other 0 start.pages (λ j below same. omega arith)) (other start.pages start.pages (λ j below same. omega arith)) (other (2 * start.pages) start.pages (λ j below same. omega arith))
+      (other (3 * start.pages) (64 * start.frames) (λ j below same. omega arith)) (other bundles-from (bundle_count start) (λ j below same. omega arith))
+      (at-else words k x (index_of start places.Next) (λ same. omega arith)) (ap (at 0 (slice_set words k x)) e ∙ at-here words k x (omega arith)) (other (bundles-from + bundle_count start + 2) start.frames (λ j below same. omega arith))
+  placed (places.Owner f) l e =
+      words-as
+      (other 0 start.pages (λ j below same. omega arith)) (other start.pages start.pages (λ j below same. omega arith)) (other (2 * start.pages) start.pages (λ j below same. omega arith))
+      (other (3 * start.pages) (64 * start.frames) (λ j below same. omega arith)) (other bundles-from (bundle_count start) (λ j below same. omega arith))
+      (at-else words k x (index_of start places.Next) (λ same. omega arith)) (at-else words k x (index_of start places.Hand) (λ same. omega arith)) (own (bundles-from + bundle_count start + 2) start.frames f l (omega arith) (omega arith))
+
 pub words-written : (start : Origin) (words : List ℕ) (w : Place) (x : ℕ) → length words ≡ width start → Within start w → table_words start (slice_set words (index_of start w) x) ≡ with_word (table_words start words) w x
-words-written start words (places.State p) x wide l =
-    let lt : p < length words = omega arith in
-    words-as
-    (part-here 0 start.pages words p p x l lt (omega arith)) (part-else start.pages start.pages words p x lt (inl (omega arith))) (part-else (2 * start.pages) start.pages words p x lt (inl (omega arith)))
-    (part-else (3 * start.pages) (64 * start.frames) words p x lt (inl (omega arith))) (part-else (3 * start.pages + 64 * start.frames) (bundle_count start) words p x lt (inl (omega arith)))
-    (at-else words p x (index_of start places.Next) lt (λ e. absurd (omega arith))) (at-else words p x (index_of start places.Hand) lt (λ e. absurd (omega arith)))
-    (part-else (3 * start.pages + 64 * start.frames + bundle_count start + 2) start.frames words p x lt (inl (omega arith)))
-words-written start words (places.Translation p) x wide l =
-    let k : ℕ = start.pages + p in
-    let lt : k < length words = omega arith in
-    words-as
-    (part-else 0 start.pages words k x lt (inr (omega arith))) (part-here start.pages start.pages words p k x l lt refl) (part-else (2 * start.pages) start.pages words k x lt (inl (omega arith)))
-    (part-else (3 * start.pages) (64 * start.frames) words k x lt (inl (omega arith))) (part-else (3 * start.pages + 64 * start.frames) (bundle_count start) words k x lt (inl (omega arith)))
-    (at-else words k x (index_of start places.Next) lt (λ e. absurd (omega arith))) (at-else words k x (index_of start places.Hand) lt (λ e. absurd (omega arith)))
-    (part-else (3 * start.pages + 64 * start.frames + bundle_count start + 2) start.frames words k x lt (inl (omega arith)))
-words-written start words (places.Fault p) x wide l =
-    let k : ℕ = 2 * start.pages + p in
-    let lt : k < length words = omega arith in
-    words-as
-    (part-else 0 start.pages words k x lt (inr (omega arith))) (part-else start.pages start.pages words k x lt (inr (omega arith))) (part-here (2 * start.pages) start.pages words p k x l lt refl)
-    (part-else (3 * start.pages) (64 * start.frames) words k x lt (inl (omega arith))) (part-else (3 * start.pages + 64 * start.frames) (bundle_count start) words k x lt (inl (omega arith)))
-    (at-else words k x (index_of start places.Next) lt (λ e. absurd (omega arith))) (at-else words k x (index_of start places.Hand) lt (λ e. absurd (omega arith)))
-    (part-else (3 * start.pages + 64 * start.frames + bundle_count start + 2) start.frames words k x lt (inl (omega arith)))
-words-written start words (places.Content f n) x wide l =
-    let k : ℕ = 3 * start.pages + (64 * f + n) in
-    let frame : f < start.frames = l.0 in
-    let inside : n < 64 = l.1 in
-    let lt : k < length words = omega arith in
-    words-as
-    (part-else 0 start.pages words k x lt (inr (omega arith))) (part-else start.pages start.pages words k x lt (inr (omega arith))) (part-else (2 * start.pages) start.pages words k x lt (inr (omega arith)))
-    (part-here (3 * start.pages) (64 * start.frames) words (64 * f + n) k x (omega arith) lt refl) (part-else (3 * start.pages + 64 * start.frames) (bundle_count start) words k x lt (inl (omega arith)))
-    (at-else words k x (index_of start places.Next) lt (λ e. absurd (omega arith))) (at-else words k x (index_of start places.Hand) lt (λ e. absurd (omega arith)))
-    (part-else (3 * start.pages + 64 * start.frames + bundle_count start + 2) start.frames words k x lt (inl (omega arith)))
-words-written start words (places.Bundle g) x wide l =
-    let k : ℕ = 3 * start.pages + 64 * start.frames + g in
-    let lt : k < length words = omega arith in
-    words-as
-    (part-else 0 start.pages words k x lt (inr (omega arith))) (part-else start.pages start.pages words k x lt (inr (omega arith))) (part-else (2 * start.pages) start.pages words k x lt (inr (omega arith)))
-    (part-else (3 * start.pages) (64 * start.frames) words k x lt (inr (omega arith))) (part-here (3 * start.pages + 64 * start.frames) (bundle_count start) words g k x l lt refl)
-    (at-else words k x (index_of start places.Next) lt (λ e. absurd (omega arith))) (at-else words k x (index_of start places.Hand) lt (λ e. absurd (omega arith)))
-    (part-else (3 * start.pages + 64 * start.frames + bundle_count start + 2) start.frames words k x lt (inl (omega arith)))
-words-written start words places.Next x wide l =
-    let k : ℕ = index_of start places.Next in
-    let lt : k < length words = omega arith in
-    words-as
-    (part-else 0 start.pages words k x lt (inr (omega arith))) (part-else start.pages start.pages words k x lt (inr (omega arith))) (part-else (2 * start.pages) start.pages words k x lt (inr (omega arith)))
-    (part-else (3 * start.pages) (64 * start.frames) words k x lt (inr (omega arith))) (part-else (3 * start.pages + 64 * start.frames) (bundle_count start) words k x lt (inr (omega arith)))
-    (at-here words k x lt) (at-else words k x (index_of start places.Hand) lt (λ e. absurd (omega arith)))
-    (part-else (3 * start.pages + 64 * start.frames + bundle_count start + 2) start.frames words k x lt (inl (omega arith)))
-words-written start words places.Hand x wide l =
-    let k : ℕ = index_of start places.Hand in
-    let lt : k < length words = omega arith in
-    words-as
-    (part-else 0 start.pages words k x lt (inr (omega arith))) (part-else start.pages start.pages words k x lt (inr (omega arith))) (part-else (2 * start.pages) start.pages words k x lt (inr (omega arith)))
-    (part-else (3 * start.pages) (64 * start.frames) words k x lt (inr (omega arith))) (part-else (3 * start.pages + 64 * start.frames) (bundle_count start) words k x lt (inr (omega arith)))
-    (at-else words k x (index_of start places.Next) lt (λ e. absurd (omega arith))) (at-here words k x lt)
-    (part-else (3 * start.pages + 64 * start.frames + bundle_count start + 2) start.frames words k x lt (inl (omega arith)))
-words-written start words (places.Owner f) x wide l =
-    let k : ℕ = 3 * start.pages + 64 * start.frames + bundle_count start + 2 + f in
-    let lt : k < length words = omega arith in
-    words-as
-    (part-else 0 start.pages words k x lt (inr (omega arith))) (part-else start.pages start.pages words k x lt (inr (omega arith))) (part-else (2 * start.pages) start.pages words k x lt (inr (omega arith)))
-    (part-else (3 * start.pages) (64 * start.frames) words k x lt (inr (omega arith))) (part-else (3 * start.pages + 64 * start.frames) (bundle_count start) words k x lt (inr (omega arith)))
-    (at-else words k x (index_of start places.Next) lt (λ e. absurd (omega arith))) (at-else words k x (index_of start places.Hand) lt (λ e. absurd (omega arith)))
-    (part-here (3 * start.pages + 64 * start.frames + bundle_count start + 2) start.frames words f k x l lt refl)
+words-written start words w x wide l = placed start words x (index_of start w) wide w l refl
 
 -- the values below n, of functions that agree there
 pub listed-same : {A : Type 0} (n : ℕ) (f g : ℕ → A) → ((k : ℕ) → k < n → f k ≡ g k) → listed n f ≡ listed n g

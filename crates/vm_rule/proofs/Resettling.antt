@@ -2,16 +2,14 @@
 -- the frames of one that goes. What the table shows meets the invariant, and what is known of its pages is as it was; the table meets the rule
 -- where each view that came is shown to be fit.
 use mathlib.Core.Option as maybe
-use Rattle.vm_rule.proofs.{Entries.append-none, Pages.page-in, Pages.page-out}
+use Rattle.vm_rule.proofs.{Entries.append-none, Pages.page-in, Pages.page-out, Views.at-bound, Views.at-there, Views.views-set}
 use Rattle.vm_rule.proofs.Gathering.{ReadsLess, regathered, regathered-inv, Regathers}
-use Rattle.vm_rule.proofs.Prelude.{[], ap, arith, at, began_of, block_of, Bool, cases_eq, cases_lt, chosen, core_shown, each-upd, Entry, false}
-use Rattle.vm_rule.proofs.Prelude.{FaultsFit, frames_held, fun_ext, get_elem?, has, histories_of, home, if◌then◌else◌, inl, inr, Inv, is_owed}
-use Rattle.vm_rule.proofs.Prelude.{is_pending, IsWhole, Kept, kept_of, known, KnowsLists, KnowsPages, length, length-append, List, listed, loads_at}
-use Rattle.vm_rule.proofs.Prelude.{loads_of, logical, may_call, nil_from_length, Option, Origin, Out, out_of, owns, pages_from, PartsFit, refl}
-use Rattle.vm_rule.proofs.Prelude.{Release, Ruled, Seat, seat_of, seats_of, set_else, set_here, slice_set, slot_of, snapshot_of, Some, some}
-use Rattle.vm_rule.proofs.Prelude.{some-injective, spent, Start, StartsWith, Stored, subst, sym, Table, table_words, times_noted, total, true, View}
-use Rattle.vm_rule.proofs.Prelude.{Words, World, world_of, ℕ, ⊎_elim, ◌++◌, ◌+◌, ◌<◌, ◌∙◌, ◌≡◌, ◌≢◌, ◌≤◌, ◌⊎◌}
-use Rattle.vm_rule.proofs.Views.{at-bound, at-there, views-set}
+use Rattle.vm_rule.proofs.Prelude.{[], ap, arith, at, began_of, block_of, Bool, cases_eq, cases_lt, chosen, core_shown, each-upd, false, FaultsFit, frames_held}
+use Rattle.vm_rule.proofs.Prelude.{fun_ext, get_elem?, has, histories_of, home, if◌then◌else◌, inl, inr, Inv, is_owed, is_pending, IsWhole, Kept, known}
+use Rattle.vm_rule.proofs.Prelude.{KnowsLists, KnowsPages, length, length-append, List, listed, loads_at, loads_of, logical, may_call, nil_from_length, Option}
+use Rattle.vm_rule.proofs.Prelude.{Origin, Out, out_of, owns, pages_from, PartsFit, refl, Release, Ruled, Seat, seat_of, seats_of, set_else, set_here}
+use Rattle.vm_rule.proofs.Prelude.{slice_set, slot_of, snapshot_of, Some, some, some-injective, spent, Start, StartsWith, Stored, subst, sym, Table}
+use Rattle.vm_rule.proofs.Prelude.{table_words, times_noted, total, true, View, Words, World, world_of, ℕ, ⊎_elim, ◌++◌, ◌+◌, ◌<◌, ◌∙◌, ◌≡◌, ◌≢◌, ◌≤◌, ◌⊎◌}
 pub use Rattle.vm_rule.proofs.ListFacts.{at-past}
 
 pub same-reads : (s : Seat) (l : List (ℕ × ℕ)) → ReadsLess s s l l
@@ -79,9 +77,6 @@ module _ {X B : Type 0} (stored : B → Stored) (start : Origin) (releases : Lis
   unfolding block_of
   settled-blocks = fun_ext (λ p. ap (known stored (home s.homes p)) (g.out p))
 
-  pub settled-snapshot : snapshot_of stored start settled ≡ snapshot_of stored start s
-  settled-snapshot i = record { words = s.words; blocks = listed start.pages (settled-blocks i) }
-
   abbrev rows : ℕ → ℕ → Seat
   rows p = (pages_from start.pages (table_words start s.words) (block_of stored s.homes s.views) (seats_of views') p).seats
 
@@ -104,7 +99,7 @@ module _ {X B : Type 0} (stored : B → Stored) (start : Origin) (releases : Lis
       (record { shares = refl; exclusive = refl; writing = refl; reading = inl refl }))
       (cases_lt p start.pages)
 
-  regathers : Regathers old k from to rows (frames_held views') (loads_of views')
+  pub regathers : Regathers old k from to rows (frames_held views') (loads_of views')
   regathers = record {
     apart = g.apart;
     named = g.named;
@@ -117,13 +112,6 @@ module _ {X B : Type 0} (stored : B → Stored) (start : Origin) (releases : Lis
     gives = g.gives;
     keeps = g.keeps;
   }
-
-  pub settled-inv : Inv old → Inv (world_of stored start releases drafts settled)
-  settled-inv i = subst Inv (sym settled-world) (regathered-inv old k from to rows (frames_held views') (loads_of views') regathers i)
-
-  -- the fault words and counts
-  pub settled-faults : FaultsFit old.core.pages views' → FaultsFit (core_shown stored start settled).pages views'
-  settled-faults q = subst (λ (y : World). FaultsFit y.core.pages views') (sym settled-world) (record { below = q.below; capped = q.capped; noted = q.noted; once = q.once })
 
   -- what a pass knows of pages
   pub settled-known : (tied : Start → ℕ → List ℕ → ℕ → List ℕ → Type 0) (u : View X) → KnowsPages tied start old (is_pending s.views) u → KnowsPages tied start (world_of stored start releases drafts settled) (is_pending views') u
@@ -143,15 +131,6 @@ module _ {X B : Type 0} (stored : B → Stored) (start : Origin) (releases : Lis
         words = q.words;
         ties = q.ties;
       }))
-
-  -- what the layer above keeps
-  pub settled-kept : (history : List (Entry X)) → kept_of (world_of stored start releases drafts settled) history views' ≡ kept_of old history s.views
-  settled-kept history i = record {
-    pages = listed start.pages (logical (histories_of start releases drafts) (λ p. g.pending p i));
-    next = (core_shown stored start s).next;
-    owed = chosen start.pages (λ p. g.owed p i);
-    history = history;
-  }
 
 -- the list has an element of which this holds
 abbrev pub HasSome : {A : Type 0} → (A → Type 0) → List A → Type 0
@@ -228,41 +207,46 @@ module _ {X B : Type 0} (stored : B → Stored) (keeps : Start → Kept X → Ty
       pub history : HasSome KnowsHistory views'
 
     module _ (f : Settles) where
-      pub settled-ruled : Ruled stored keeps tied start tells (settled stored start r.releases r.drafts s views' k from to g)
-      settled-ruled = record {
-        releases = r.releases;
-        history = r.history;
-        drafts = r.drafts;
-        telling = r.telling;
-        wide = r.wide;
-        sized = r.sized;
-        spelled = r.spelled;
-        inv = settled-inv stored start r.releases r.drafts s views' k from to g r.inv;
-        risen = r.risen;
-        zero = r.zero;
-        blocks = record {
-          away = λ j u o there. (f.fit j u there).away o;
-          home = λ p l e. r.blocks.home p l (sym (g.out p) ∙ e);
-          bounds = λ p l. ap (λ b. (b p).bound) (settled-blocks stored start r.releases r.drafts s views' k from to g) ∙ r.blocks.bounds p l;
-        };
-        faults = settled-faults stored start r.releases r.drafts s views' k from to g (record {
-          below = r.faults.below;
-          capped = r.faults.capped;
-          noted = λ j u there. (f.fit j u there).noted;
-          once = λ p n ne. subst (λ m. m ≤ 1) (sym (f.notes p n)) (r.faults.once p n ne);
-        });
-        lists = record { longest_releases = f.releases; longest = f.history; numbered = r.lists.numbered; counted = r.lists.counted; rises = r.lists.rises };
-        parts = subst (λ y. PartsFit r.releases r.history y views') (sym (settled-snapshot stored start r.releases r.drafts s views' k from to g)) (record {
-          parts = λ n. f.parts n ∙ r.parts.parts n;
-          spent = λ j u there. (f.fit j u there).gone;
-          whole = λ j u there. (f.fit j u there).whole;
-        });
-        heard = λ j u there. (f.fit j u there).heard;
-        known = λ j u there on. settled-known stored start r.releases r.drafts s views' k from to g tied u ((f.fit j u there).known on);
-        owner = λ t. subst (keeps (began_of start)) (sym (settled-kept stored start r.releases r.drafts s views' k from to g r.history)) (r.owner t);
-      }
-
-      -- the lists and the drafts are as they were
-      pub settled-past : (settled-ruled.releases ≡ r.releases) × (settled-ruled.history ≡ r.history) × (settled-ruled.drafts ≡ r.drafts)
-      unfolding settled-ruled
-      settled-past = (refl, refl, refl)
+      unfoldable pub settled-ruled : Ruled stored keeps tied start tells (settled stored start r.releases r.drafts s views' k from to g)
+      settled-ruled =
+          let world = settled-world stored start r.releases r.drafts s views' k from to g in
+          let blocks = settled-blocks stored start r.releases r.drafts s views' k from to g in
+          record {
+            releases = r.releases;
+            history = r.history;
+            drafts = r.drafts;
+            telling = r.telling;
+            wide = r.wide;
+            sized = r.sized;
+            spelled = r.spelled;
+            inv = subst Inv (sym world) (regathered-inv _ k from to _ _ _ (regathers stored start r.releases r.drafts s views' k from to g) r.inv);
+            risen = r.risen;
+            zero = r.zero;
+            blocks = record {
+              away = λ j u o there. (f.fit j u there).away o;
+              home = λ p l e. r.blocks.home p l (sym (g.out p) ∙ e);
+              bounds = λ p l. ap (λ b. (b p).bound) blocks ∙ r.blocks.bounds p l;
+            };
+            faults = subst (λ (y : World). FaultsFit y.core.pages views') (sym world) (record {
+              below = r.faults.below;
+              capped = r.faults.capped;
+              noted = λ j u there. (f.fit j u there).noted;
+              once = λ p n ne. subst (λ m. m ≤ 1) (sym (f.notes p n)) (r.faults.once p n ne);
+            });
+            lists = record { longest_releases = f.releases; longest = f.history; numbered = r.lists.numbered; counted = r.lists.counted; rises = r.lists.rises };
+            parts = subst (λ y. PartsFit r.releases r.history y views') (λ i. record { words = s.words; blocks = listed start.pages (sym blocks i) }) (record {
+              parts = λ n. f.parts n ∙ r.parts.parts n;
+              spent = λ j u there. (f.fit j u there).gone;
+              whole = λ j u there. (f.fit j u there).whole;
+            });
+            heard = λ j u there. (f.fit j u there).heard;
+            known = λ j u there on. settled-known stored start r.releases r.drafts s views' k from to g tied u ((f.fit j u there).known on);
+            owner = λ t. subst (keeps (began_of start))
+                (λ i. record {
+                  pages = listed start.pages (logical (histories_of start r.releases r.drafts) (λ p. sym (g.pending p) i));
+                  next = (core_shown stored start s).next;
+                  owed = chosen start.pages (λ p. sym (g.owed p) i);
+                  history = r.history;
+                })
+                (r.owner t);
+          }

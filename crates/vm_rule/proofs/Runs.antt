@@ -1,14 +1,13 @@
 -- Lists of events keep the invariant, and each validated read saw one version.
 use Rattle.vm_core.specs.declared.event.Event.TheVariants.{Release}
-use Rattle.vm_rule.proofs.Prelude.{[], after_event, AllLegal, AllReadOne, BLoad, bundle_load_law, cases_Bool, Claim, claim_law, Clean, clean_law}
-use Rattle.vm_rule.proofs.Prelude.{Clear, clear_law, Dirty, dirty_law, Disown, disown_law, Downgrade, downgrade_law, eqb, Event, Give, give_law, Hand}
-use Rattle.vm_rule.proofs.Prelude.{hand_law, Install, install_law, Inv, Keeps, List, Load, load_law, lock_exclusive_law, lock_exclusive_validates}
-use Rattle.vm_rule.proofs.Prelude.{lock_shared_law, lock_shared_validates, lock_write_back_law, lock_write_back_validates, LockS, LockW, LockX, Look}
-use Rattle.vm_rule.proofs.Prelude.{look_law, look_validates, Mark, mark_law, next_load_law, NLoad, OLoad, Own, own_law, owner_load_law, Raise}
-use Rattle.vm_rule.proofs.Prelude.{raise_law, Read, read_fault_law, read_law, refl, release_evicted_law, release_law, ReleaseE, RFail, run, State}
-use Rattle.vm_rule.proofs.Prelude.{Store, store_law, Take, take_law, TLoad, translation_load_law, true, unlock_shared_law, UnlockS, Unmark}
-use Rattle.vm_rule.proofs.Prelude.{unmark_law, Upgrade, upgrade_law, upgrade_validates, Validates, WFail, World, world_after, world_run, Write}
-use Rattle.vm_rule.proofs.Prelude.{write_fault_law, write_law, ⊎_elim, ◌∙◌, ◌∷◌, ◌≡◌}
+use Rattle.vm_rule.proofs.Prelude.{[], after_event, AllLegal, AllReadOne, BLoad, bundle_load_law, cases_Bool, Claim, claim_law, Clean, clean_law, Clear}
+use Rattle.vm_rule.proofs.Prelude.{clear_law, Dirty, dirty_law, Disown, disown_law, Downgrade, downgrade_law, eqb, Event, Give, give_law, Hand, hand_law}
+use Rattle.vm_rule.proofs.Prelude.{Install, install_law, Inv, Keeps, List, Load, load_law, lock_exclusive_law, lock_exclusive_validates, lock_shared_law}
+use Rattle.vm_rule.proofs.Prelude.{lock_shared_validates, lock_write_back_law, lock_write_back_validates, LockS, LockW, LockX, Look, look_law, look_validates}
+use Rattle.vm_rule.proofs.Prelude.{Mark, mark_law, next_load_law, NLoad, OLoad, Own, own_law, owner_load_law, Raise, raise_law, Read, read_fault_law}
+use Rattle.vm_rule.proofs.Prelude.{read_law, refl, release_evicted_law, release_law, ReleaseE, RFail, run, State, Store, store_law, Take, take_law, TLoad}
+use Rattle.vm_rule.proofs.Prelude.{translation_load_law, true, unlock_shared_law, UnlockS, Unmark, unmark_law, Upgrade, upgrade_law, upgrade_validates}
+use Rattle.vm_rule.proofs.Prelude.{Validates, WFail, World, world_after, world_run, Write, write_fault_law, write_law, ⊎_elim, ◌∙◌, ◌∷◌, ◌≡◌}
 
 pub event_law : (w : World) (e : Event) → Keeps w e
 event_law w (Look a p) i m = look_law w a p i m

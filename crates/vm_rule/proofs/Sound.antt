@@ -1,11 +1,10 @@
 -- The rule keeps of each live view what is read off that view alone.
-use Rattle.vm_rule.proofs.Entries.{append-none, none-before, total-at}
-use Rattle.vm_rule.proofs.Heard.{one-most, times-has, times-joined}
-use Rattle.vm_rule.proofs.Prelude.{[], ap, append_assoc, AreApart, AreCounted, AreNext, arith, Bool, cases_Bool, cases_eq, Each, entries_by, Entry}
-use Rattle.vm_rule.proofs.Prelude.{eq-eqb, get_elem?, has, if◌then◌else◌, Kept, KnowsLists, last_in, List, one_part, Option, Origin, owns, PARTS}
-use Rattle.vm_rule.proofs.Prelude.{refl, Release, Ruled, some, Sound, Start, Stored, subst, sym, Table, times, total, true, Version, View, ℕ, ⊎_elim}
-use Rattle.vm_rule.proofs.Prelude.{◌++◌, ◌+◌, ◌<◌, ◌==◌, ◌∙◌, ◌∷◌, ◌≡◌, ◌≢◌, ◌≤◌}
-use Rattle.vm_rule.proofs.Worlds.{last-else, last-here, last-is}
+use Rattle.vm_rule.proofs.{Heard.one-most, Heard.times-has, Heard.times-joined, Worlds.last-else, Worlds.last-here, Worlds.last-is}
+use Rattle.vm_rule.proofs.Entries.{append-none, none-each, total-at}
+use Rattle.vm_rule.proofs.Prelude.{[], ap, append_assoc, AreApart, AreCounted, AreNext, arith, Bool, cases_Bool, cases_eq, Each, entries_by, Entry, eq-eqb}
+use Rattle.vm_rule.proofs.Prelude.{get_elem?, has, if◌then◌else◌, Kept, KnowsLists, last_in, List, one_part, Option, Origin, owns, PARTS, refl, Release, Ruled}
+use Rattle.vm_rule.proofs.Prelude.{some, Sound, Start, Stored, subst, sym, Table, times, total, true, Version, View, ℕ, ⊎_elim, ◌++◌, ◌+◌, ◌<◌, ◌==◌, ◌∙◌, ◌∷◌}
+use Rattle.vm_rule.proofs.Prelude.{◌≡◌, ◌≢◌, ◌≤◌}
 
 -- the last version never falls
 pub never-falls : (start : Origin) (before more : List Release) (p : ℕ) → AreNext start before more → (last_in start before p).version ≤ (last_in start (before ++ more) p).version
@@ -55,7 +54,7 @@ module _ {X B : Type 0} (stored : B → Stored) (keeps : Start → Kept X → Ty
       let rises : AreNext start [] v.releases × AreNext start v.releases g.saw.0 = next-front start [] v.releases g.saw.0 (subst (AreNext start []) g.saw.1 r.lists.rises) in
       record {
         mine = g.mine;
-        fresh = λ k x. none-before (k ∷ []) v.seen g.heard.0 (ap (entries_by (k ∷ [])) (sym g.heard.1) ∙ g.fresh k x);
+        fresh = λ k x. (none-each (k ∷ []) v.seen g.heard.0 (ap (entries_by (k ∷ [])) (sym g.heard.1) ∙ g.fresh k x)).0;
         apart = once-apart (v.used ++ v.fresh) (λ k.
             let both : times k (v.used ++ v.fresh) ≡ times k v.used + times k v.fresh = times-joined k v.used v.fresh in
             let one : owns k v ≤ total (owns k) s.views = total-at (owns k) s.views id v there in

@@ -1,13 +1,11 @@
 -- A pass is split: the table meets the rule with the view of the new pass, which has one of its fresh parts or none.
-use Rattle.vm_rule.proofs.{Joining.or-right, Known.known-nothing, Known.known-with}
-use Rattle.vm_rule.proofs.Entries.{entries-none, none-before, none-behind}
-use Rattle.vm_rule.proofs.Prelude.{[], any, ap, arith, at, at_longer, at_set, at_snoc, Bool, entries_by, Entry, eq-eqb, eqb, false, false≢true}
-use Rattle.vm_rule.proofs.Prelude.{first_part, get_elem?, given_part, giver, has, inl, inr, is_pending, Kept, KnowsLists, KnowsPages, length}
-use Rattle.vm_rule.proofs.Prelude.{length-append, length-set, List, loads_at, newcomer, None, Option, Origin, other_parts, out_of, out_or, owns, refl}
-use Rattle.vm_rule.proofs.Prelude.{Ruled, Seat, seat_of, slice_set, some, spent, Start, Stored, subst, suc, sym, Table, times, times_noted, total}
-use Rattle.vm_rule.proofs.Prelude.{true, true≢false, View, world_of, zero, ℕ, ⊎_elim, ◌++◌, ◌+◌, ◌<◌, ◌||◌, ◌∙◌, ◌∷◌, ◌≡◌, ◌≤◌, ◌⊎◌}
-use Rattle.vm_rule.proofs.Resettling.{fit-now, HasSome, IsFit, keeps-resettles, KnowsHistory, KnowsReleases, Resettles, set-some, settled-past}
-use Rattle.vm_rule.proofs.Resettling.{settled-ruled, Settles}
+use Rattle.vm_rule.proofs.{Entries.entries-none, Entries.none-each, Known.known-nothing, Known.known-with}
+use Rattle.vm_rule.proofs.Prelude.{[], any, ap, arith, at, at_longer, at_set, at_snoc, Bool, entries_by, Entry, eq-eqb, eqb, false, false≢true, first_part}
+use Rattle.vm_rule.proofs.Prelude.{get_elem?, given_part, giver, has, inl, inr, is_pending, Kept, KnowsLists, KnowsPages, length, length-append, length-set}
+use Rattle.vm_rule.proofs.Prelude.{List, loads_at, newcomer, None, Option, or-true, Origin, other_parts, out_of, out_or, owns, refl, Ruled, Seat, seat_of}
+use Rattle.vm_rule.proofs.Prelude.{slice_set, some, spent, Start, Stored, subst, suc, sym, Table, times, times_noted, total, true, true≢false, View, world_of}
+use Rattle.vm_rule.proofs.Prelude.{zero, ℕ, ⊎_elim, ◌++◌, ◌+◌, ◌<◌, ◌||◌, ◌∙◌, ◌∷◌, ◌≡◌, ◌≤◌, ◌⊎◌}
+use Rattle.vm_rule.proofs.Resettling.{fit-now, HasSome, IsFit, keeps-resettles, KnowsHistory, KnowsReleases, Resettles, set-some, settled-ruled, Settles}
 use Rattle.vm_rule.proofs.Views.{any-same, at-bound, field-still, out-same, total-set}
 
 -- ---- parts
@@ -18,7 +16,7 @@ cut-times k (n ∷ l) = omega arith
 
 pub cut-has : (k : ℕ) (l : List ℕ) → has k (other_parts l) ≡ true → has k l ≡ true
 cut-has k [] e = e
-cut-has k (n ∷ l) e = or-right (eqb k n) (has k l) e
+cut-has k (n ∷ l) e = ap (λ c. eqb k n || c) e ∙ or-true (eqb k n)
 
 -- ---- one more at the end
 
@@ -144,9 +142,9 @@ module _ {X B : Type 0} (stored : B → Stored) (keeps : Start → Kept X → Ty
         heard = λ _. record {
           same_start = mine.same_start;
           saw = mine.saw;
-          heard = (mine.heard.0, mine.heard.1, none-behind (given_part part v) v.seen mine.heard.0 cut);
+          heard = (mine.heard.0, mine.heard.1, (none-each (given_part part v) v.seen mine.heard.0 cut).1);
           told = ((r.releases, refl), (r.history, refl, entries-none r.history), λ k e. absurd (true≢false (sym e)));
-          mine = sym (none-before (given_part part v) v.seen mine.heard.0 cut);
+          mine = sym (none-each (given_part part v) v.seen mine.heard.0 cut).0;
           fresh = λ k e. absurd (true≢false (sym e));
           idle = λ _ _. record { shares = λ p. refl; exclusive = λ p. refl; writing = λ p. refl; frames = refl; out = refl };
         };
@@ -171,5 +169,5 @@ module _ {X B : Type 0} (stored : B → Stored) (keeps : Start → Kept X → Ty
 
   -- the lists and the drafts are as they were
   pub splits-past : (splits-ruled.releases ≡ r.releases) × (splits-ruled.history ≡ r.history) × (splits-ruled.drafts ≡ r.drafts)
-  unfolding splits-ruled
-  splits-past = settled-past stored keeps tied start tells s r after 1 (length s.views) id resettles settles
+  unfolding splits-ruled settled-ruled
+  splits-past = (refl, refl, refl)

@@ -2,20 +2,18 @@
 -- has all parts and knows nothing yet, and the lists are empty.
 use mathlib.Core.Option as maybe
 use Rattle.vm_core.specs.Prelude.{start as start_of}
-use Rattle.vm_rule.proofs.{Known.known-nothing, Pages.page-in, Pages.page-out, Parted.opened, Parts.listed-same, Starts.evicted-inv}
-use Rattle.vm_rule.proofs.{Starts.start-frames}
+use Rattle.vm_rule.proofs.{Known.known-nothing, Pages.page-in, Pages.page-out, Parted.opened, Parts.listed-same, Starts.evicted-inv, Starts.start-frames}
 use Rattle.vm_rule.proofs.ListFacts.{at-any, at-map, length-mapped, listed-long}
-use Rattle.vm_rule.proofs.Prelude.{[], ap, arith, at, began_of, block_of, block_words, BlocksFit, Bool, cases_Bool, cases_lt, chosen, cond, none-some}
-use Rattle.vm_rule.proofs.Prelude.{contents_of, core_shown, CoreStart, counts_of, EVICTED, evicted_page, false, first_kept, first_view, FrameIsAt}
-use Rattle.vm_rule.proofs.Prelude.{Free, fun_ext, get_elem?, has, has_free_bit, histories_of, home, if◌then◌else◌, inl, inr, Inv, is_owed, is_pending}
-use Rattle.vm_rule.proofs.Prelude.{IsSome, IsStarted, IsWhole, Kept, kept_of, known, KnowsLists, KnowsPages, le-ltb, length, length-replicate, List}
-use Rattle.vm_rule.proofs.Prelude.{loads_at, logical, lt-ltb, ltb, map, mapping_of, MAX_COUNT, MayBegin, no_block, None, Nowhere, numbers, opening}
-use Rattle.vm_rule.proofs.Prelude.{Option, Origin, Page, PageInv, refl, replicate, Ruled, seat_of, seats_of, Shape, snapshot_of, Some, some}
-use Rattle.vm_rule.proofs.Prelude.{some-injective, spent, Stands, stands_in, Start, started_origin, started_shape, started_words, State, state_of}
-use Rattle.vm_rule.proofs.Prelude.{Stored, subst, subst₃, suc, sym, Table, table_words, times_noted, trans_word, true, true≢false, unborn, version_of}
-use Rattle.vm_rule.proofs.Prelude.{View, width_of, world_of, zero, ℕ, ⊎_elim, ◌++◌, ◌-◌, ◌<◌, ◌^◌, ◌∙◌, ◌∷◌, ◌≡◌, ◌≤◌}
-use Rattle.vm_rule.proofs.StartedWords.{started-bundle, started-fault, started-frame, started-next, started-state, started-translation, started-wide}
-use Rattle.vm_rule.proofs.StartedWords.{started-owner}
+use Rattle.vm_rule.proofs.Prelude.{[], ap, arith, at, began_of, block_of, block_words, Bool, cases_Bool, cases_lt, chosen, cond, contents_of, core_shown}
+use Rattle.vm_rule.proofs.Prelude.{CoreStart, counts_of, EVICTED, evicted_page, false, first_view, FrameIsAt, Free, fun_ext, get_elem?, has, has_free_bit}
+use Rattle.vm_rule.proofs.Prelude.{histories_of, home, if◌then◌else◌, inl, inr, Inv, is_owed, is_pending, IsSome, IsStarted, IsWhole, Kept, known, KnowsLists}
+use Rattle.vm_rule.proofs.Prelude.{KnowsPages, le-ltb, length, length-replicate, List, loads_at, logical, lt-ltb, ltb, map, mapping_of, MAX_COUNT, MayBegin}
+use Rattle.vm_rule.proofs.Prelude.{no_block, None, none-some, Nowhere, numbers, opening, Option, Origin, Page, PageInv, refl, replicate, Ruled, seat_of}
+use Rattle.vm_rule.proofs.Prelude.{seats_of, Shape, snapshot_of, Some, some, some-injective, spent, Stands, stands_in, Start, started_origin, started_shape}
+use Rattle.vm_rule.proofs.Prelude.{started_words, State, state_of, Stored, subst, subst₃, suc, sym, Table, table_words, times_noted, trans_word, true}
+use Rattle.vm_rule.proofs.Prelude.{true≢false, unborn, version_of, View, width_of, world_of, zero, ℕ, ⊎_elim, ◌++◌, ◌-◌, ◌<◌, ◌^◌, ◌∙◌, ◌∷◌, ◌≡◌, ◌≤◌}
+use Rattle.vm_rule.proofs.StartedWords.{started-bundle, started-fault, started-frame, started-next, started-owner, started-state, started-translation}
+use Rattle.vm_rule.proofs.StartedWords.{started-wide}
 use Rattle.vm_rule.proofs.WordFacts.{mapping-none, word-state, word-version}
 
 -- what the first view has as a spent one has it, each has
@@ -36,11 +34,10 @@ unfolding chosen
 chosen-none zero f e = refl
 chosen-none (suc n) f e = rw (e n) (ap (λ (l : List ℕ). l ++ []) (chosen-none n f e))
 
-module _ {X : Type 0} where
-  -- the only view of a table that was just made
-  pub only-view : (v : View X) (j : ℕ) (u : View X) → get_elem? (v ∷ []) j ≡ some u → u ≡ v
-  only-view v zero u e = sym (some-injective v u e)
-  only-view v (suc j) u e = absurd (maybe.some-ne-none u (sym e))
+-- the only one of a list
+pub only-one : {A : Type 0} (x : A) (j : ℕ) (y : A) → get_elem? (x ∷ []) j ≡ some y → (j ≡ 0) × (y ≡ x)
+only-one x zero y e = (refl, sym (some-injective x y e))
+only-one x (suc j) y e = absurd (maybe.some-ne-none y (sym e))
 
 module _ (X : Type 0) {B : Type 0} (stored : B → Stored) (tells : Bool) (whole : (b : B) → tells ≡ true → length (stored b).words ≡ 64)
     (version next frames : ℕ) (items : List B) (ok : IsStarted version next frames (length items)) where
@@ -153,23 +150,11 @@ module _ (X : Type 0) {B : Type 0} (stored : B → Stored) (tells : Bool) (whole
     many-contents = length-mapped (λ (b : Stored). if tells then b.words else replicate 64 0) blocks
 
     only : (P : View X → Type 0) → P (first_view start) → (j : ℕ) (u : View X) → get_elem? table.views j ≡ some u → P u
-    only P p j u there = subst P (sym (only-view (first_view start) j u there)) p
+    only P p j u there = subst P (sym (only-one (first_view start) j u there).1) p
 
     last-words : (p : ℕ) → p < start.pages → (histories_of start [] (λ p. []) p).last.words ≡ at (replicate 64 0) start.contents p
     unfolding histories_of
     last-words p l = rw (lt-ltb p start.pages l) refl
-
-    starts-zero : tells ≡ true → (p : ℕ) → c.next ≤ p → p < start.pages → (histories_of start [] (λ p. []) p).last.words ≡ replicate 64 0
-    unfolding at
-    starts-zero t p le l =
-        last-words p l ∙ at-any (replicate 64 0) [] start.contents p (omega (arith, many-contents, l)) ∙ (begins t).zero p (omega (arith, next-is, le)) (omega (arith, many-contents, l))
-
-    starts-blocks : BlocksFit stored start table.homes table.views
-    starts-blocks = record {
-      away = λ j v o there e. absurd (let none : None ≡ Some o = only (λ y. None ≡ y.out) refl j v there ∙ e in cc);
-      home = λ p l _. subst IsSome (sym (item-there stored items p l).2) refl;
-      bounds = λ p l. ap (λ (b : Stored). b.bound) (first-block p l) ∙ sym (at-map (λ (b : Stored). b.bound) 0 no_block blocks p l);
-    }
 
     -- a page's fault word is its block's count, which is within its bound
     counted : (p : ℕ) → ((c.pages p).fault ≤ (c.pages p).count) × ((c.pages p).count ≤ MAX_COUNT)
@@ -182,27 +167,8 @@ module _ (X : Type 0) {B : Type 0} (stored : B → Stored) (tells : Bool) (whole
         (λ le. rw (page-out start.pages (table_words start words) (block_of stored table.homes table.views) (seats_of table.views) p le) (omega arith, omega arith))
         (cases_lt p start.pages)
 
-    starts-heard : KnowsLists start [] [] (first_view {X = X} start)
-    starts-heard = record {
-      same_start = refl;
-      saw = ([], refl);
-      heard = ([], refl, refl);
-      told = (([], refl), ([], refl, refl), λ k e. absurd (true≢false (sym e)));
-      mine = refl;
-      fresh = λ k _. refl;
-      idle = λ none _. absurd (let e : 1 ≡ 0 = ap length none in omega arith);
-    }
-
-    starts-kept : kept_of (world_of stored start [] (λ p. []) table) [] table.views ≡ first_kept (began_of start)
-    unfolding logical
-    starts-kept = λ i. record {
-      pages = (listed-same start.pages (logical (histories_of start [] (λ p. [])) (is_pending table.views)) (at (replicate 64 0) start.contents) last-words ∙ listed-long (replicate 64 0) start.pages start.contents many-contents) i;
-      next = next-is i;
-      owed = chosen-none start.pages (is_owed table.views) (λ p. refl) i;
-      history = [];
-    }
-
     first-ruled : Ruled stored keeps tied start tells table
+    unfolding at logical
     first-ruled = record {
       releases = [];
       history = [];
@@ -213,8 +179,12 @@ module _ (X : Type 0) {B : Type 0} (stored : B → Stored) (tells : Bool) (whole
       spelled = λ p l. let is = started-translation tells version next frames blocks p l in is ∙ sym (ap (λ w. trans_word (mapping_of w)) is ∙ ap trans_word mapping-none);
       inv = started-inv;
       risen = omega (arith, next-is);
-      zero = starts-zero;
-      blocks = starts-blocks;
+      zero = λ t p le l. last-words p l ∙ at-any (replicate 64 0) [] start.contents p (omega (arith, many-contents, l)) ∙ (begins t).zero p (omega (arith, next-is, le)) (omega (arith, many-contents, l));
+      blocks = record {
+        away = λ j v o there e. absurd (let none : None ≡ Some o = only (λ y. None ≡ y.out) refl j v there ∙ e in cc);
+        home = λ p l _. subst IsSome (sym (item-there stored items p l).2) refl;
+        bounds = λ p l. ap (λ (b : Stored). b.bound) (first-block p l) ∙ sym (at-map (λ (b : Stored). b.bound) 0 no_block blocks p l);
+      };
       faults = record {
         below = λ p. (counted p).0;
         capped = λ p. (counted p).1;
@@ -227,24 +197,34 @@ module _ (X : Type 0) {B : Type 0} (stored : B → Stored) (tells : Bool) (whole
         spent = only (λ y. y.live ≡ false → y ≡ spent) (λ off. absurd (true≢false off));
         whole = only (λ y. y.live ≡ true → IsWhole y → y.current ≡ true → (y.releases ≡ []) × (y.seen ≡ []) × (y.snapshot ≡ snapshot_of stored start table)) (λ _ _ current. absurd (true≢false (sym current)));
       };
-      heard = only (λ y. y.live ≡ true → KnowsLists start [] [] y) (λ _. starts-heard);
+      heard = only (λ y. y.live ≡ true → KnowsLists start [] [] y) (λ _. record {
+        same_start = refl;
+        saw = ([], refl);
+        heard = ([], refl, refl);
+        told = (([], refl), ([], refl, refl), λ k e. absurd (true≢false (sym e)));
+        mine = refl;
+        fresh = λ k _. refl;
+        idle = λ none _. absurd (let e : 1 ≡ 0 = ap length none in omega arith);
+      });
       known = only (λ y. y.live ≡ true → KnowsPages tied start (world_of stored start [] (λ p. []) table) (is_pending table.views) y) (λ _. known-nothing tied start _ _ true start (0 ∷ []) (numbers 1 4294967295) [] []);
-      owner = λ t. subst (keeps (began_of start)) (sym starts-kept) (begins t).kept;
-    }
-
-    first-snapshot : snapshot_of stored start table ≡ shape.began.snapshot
-    first-snapshot = λ i. record {
-      words = words;
-      blocks = (listed-same start.pages (block_of stored table.homes table.views) (at no_block blocks) first-block ∙ listed-long no_block start.pages blocks refl) i;
+      owner = λ t. subst (keeps (began_of start))
+          (sym (λ i. record {
+            pages = (listed-same start.pages (logical (histories_of start [] (λ p. [])) (is_pending table.views)) (at (replicate 64 0) start.contents) last-words ∙ listed-long (replicate 64 0) start.pages start.contents many-contents) i;
+            next = next-is i;
+            owed = chosen-none start.pages (is_owed table.views) (λ p. refl) i;
+            history = [];
+          }))
+          (begins t).kept;
     }
 
     first-stands : Stands stored keeps tied shape tells (opening words (map Some items) (unborn shape))
     unfolding block_of
     first-stands =
+        let same = listed-same start.pages (block_of stored table.homes table.views) (at no_block blocks) first-block ∙ listed-long no_block start.pages blocks refl in
         record {
           start = start;
           is_shape = record { same = refl; pages = refl; frames = refl; version = refl; next = refl };
-          rule = inr (refl, first-ruled, first-snapshot);
+          rule = inr (refl, first-ruled, λ i. record { words = words; blocks = same i });
         }
 
     -- the table meets its rule when it is made with the shape, the words and the slots that were made of these blocks; these are as many as the

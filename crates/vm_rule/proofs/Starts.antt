@@ -1,31 +1,22 @@
 -- The start meets the invariant.
-use Rattle.vm_rule.proofs.Prelude.{[], ap, arith, at_free, begin, bit_at, bit_at_ones, bit_at_ones_above, Bool, cases_Bool, cases_lt, cond, none-some}
-use Rattle.vm_rule.proofs.Prelude.{core_block, core_start, CoreShape, CoreStart, eq-eqb, evicted_page, FrameIsAt, Free, full_bundle, has_free_bit}
-use Rattle.vm_rule.proofs.Prelude.{Inv, IsStart, le-ltb, length, length-map-range_with_len, length-replicate, List, locks-none, lt-ltb, ltb}
-use Rattle.vm_rule.proofs.Prelude.{MAX_VERSION, min, ne_eqb, Nowhere, PageInv, refl, replicate, start, true, ℕ, ⊎_elim, ◌%◌, ◌*◌, ◌+◌, ◌-◌, ◌/◌, ◌^◌}
-use Rattle.vm_rule.proofs.Prelude.{◌∙◌, ◌≡◌, ◌≤◌}
-
-start-free : (frames f : ℕ) → has_free_bit (full_bundle frames) f ≡ at_free (cond (ltb f frames) Free Nowhere)
-unfolding has_free_bit full_bundle
-start-free frames f =
-    ⊎_elim
-    (λ lt. rw (lt-ltb f frames lt) (eq-eqb _ _ (bit_at_ones (min 64 (frames - 64 * (f / 64))) (f % 64) (omega arith))))
-    (λ le. rw (le-ltb f frames le) (ne_eqb (bit_at (2 ^ min 64 (frames - 64 * (f / 64)) - 1) (f % 64)) 1 (λ q. let z : bit_at (2 ^ min 64 (frames - 64 * (f / 64)) - 1) (f % 64) ≡ 0 = bit_at_ones_above (min 64 (frames - 64 * (f / 64))) (f % 64) (omega arith) in omega arith)))
-    (cases_lt f frames)
+use Rattle.vm_rule.proofs.Prelude.{[], ap, arith, begin, bit_at, bit_at_ones, bit_at_ones_above, Bool, cases_Bool, cases_lt, cond, core_block, core_start}
+use Rattle.vm_rule.proofs.Prelude.{CoreShape, CoreStart, eq-eqb, evicted_page, FrameIsAt, Free, full_bundle, has_free_bit, Inv, IsStart, le-ltb, length}
+use Rattle.vm_rule.proofs.Prelude.{length-map-range_with_len, length-replicate, List, locks-none, lt-ltb, ltb, MAX_VERSION, min, ne_eqb, none-some, Nowhere}
+use Rattle.vm_rule.proofs.Prelude.{PageInv, refl, replicate, start, true, ℕ, ⊎_elim, ◌%◌, ◌*◌, ◌+◌, ◌-◌, ◌/◌, ◌^◌, ◌∙◌, ◌≡◌, ◌≤◌}
 
 pub start-frames : (s : CoreStart) (f : ℕ) → FrameIsAt (start s) f (cond (ltb f s.shape.frames) Free Nowhere)
+unfolding has_free_bit full_bundle
 start-frames s f =
     record {
       inside = λ lt. rw (lt-ltb f s.shape.frames lt) tt;
       outside = λ le. rw (le-ltb f s.shape.frames le) refl;
-      free = start-free s.shape.frames f;
+      free = ⊎_elim
+          (λ lt. rw (lt-ltb f s.shape.frames lt) (eq-eqb _ _ (bit_at_ones (min 64 (s.shape.frames - 64 * (f / 64))) (f % 64) (omega arith))))
+          (λ le. rw (le-ltb f s.shape.frames le) (ne_eqb (bit_at (2 ^ min 64 (s.shape.frames - 64 * (f / 64)) - 1) (f % 64)) 1 (λ q. let z : bit_at (2 ^ min 64 (s.shape.frames - 64 * (f / 64)) - 1) (f % 64) ≡ 0 = bit_at_ones_above (min 64 (s.shape.frames - 64 * (f / 64))) (f % 64) (omega arith) in omega arith)))
+          (cases_lt f s.shape.frames);
       holds = λ a. ⊎_elim (λ e. rw e refl) (λ e. rw e refl) (cases_Bool (ltb f s.shape.frames));
       mapped = λ p. ⊎_elim (λ e. rw e refl) (λ e. rw e refl) (cases_Bool (ltb f s.shape.frames));
     }
-
--- a list of one number
-numbers-long : (n x : ℕ) → length (replicate n x) ≡ n
-numbers-long n x = length-replicate n x
 
 -- an evicted page with one version, which its block has, and no lock
 pub evicted-inv : (actors : ℕ) (tells : Bool) (words : ℕ → List ℕ) (version : ℕ) (block w : List ℕ) (count : ℕ) → version ≤ MAX_VERSION → length w ≡ 64 → (tells ≡ true → block ≡ w)
@@ -52,19 +43,19 @@ start_law s ok =
     record {
       place = λ f. cond (ltb f s.shape.frames) Free Nowhere;
       frames = start-frames s;
-      words = λ f. numbers-long 64 0;
+      words = λ f. length-replicate {A = ℕ} 64 0;
       next = ok.next;
       pages = λ p. evicted-inv s.shape.actors s.tells (λ f. replicate 64 0) s.first (s.blocks p) (s.blocks p) (s.counts p) ok.first (ok.blocks p) (λ _. refl);
       owners = record { named = λ f p e. absurd (omega (arith, e)); owned = λ p free m at. absurd (none-some m at) };
     }
 
-block-long : (next p : ℕ) → length (core_block next p) ≡ 64
-unfolding core_block
-block-long next p =
-    ⊎_elim
-    (λ lt. rw (lt-ltb p next lt) (length-map-range_with_len (λ i. 64 * p + i) 0 64))
-    (λ le. rw (le-ltb p next le) (numbers-long 64 0))
-    (cases_lt p next)
-
 pub core-start : (shape : CoreShape) → shape.next ≤ shape.pages → IsStart (core_start shape)
-core-start shape le = record { next = le; first = omega arith; blocks = block-long shape.next }
+unfolding core_block
+core-start shape le = record {
+  next = le;
+  first = omega arith;
+  blocks = λ p. ⊎_elim
+      (λ lt. rw (lt-ltb p shape.next lt) (length-map-range_with_len (λ i. 64 * p + i) 0 64))
+      (λ past. rw (le-ltb p shape.next past) (length-replicate {A = ℕ} 64 0))
+      (cases_lt p shape.next);
+}

@@ -1,6 +1,6 @@
 -- What the invariant tells, in full.
 use Rattle.vm_core.specs.Inv.{Place}
-use Rattle.vm_rule.proofs.Prelude.{eq-eqb, FrameIsAt, FrameOnce, Free, free-place, Held, held-place, Inv, Mapped, mapped-place, Nowhere, refl}
+use Rattle.vm_rule.proofs.Prelude.{eq-eqb, FrameIsAt, Free, free-place, Held, held-place, Inv, Mapped, mapped-place, Nowhere, refl}
 use Rattle.vm_rule.proofs.Prelude.{StandsAt, State, subst, sym, Told, World, ℕ, ◌<◌, ◌∙◌, ◌≡◌}
 
 at-place : (c : State) (f : ℕ) (x : Place) → f < c.shape.frames → FrameIsAt c f x → StandsAt c f x
@@ -15,20 +15,13 @@ only-place c f x i Free s = sym (free-place x (sym i.free ∙ s))
 only-place c f x i (Held a) s = sym (held-place x a (sym (i.holds a) ∙ s.1))
 only-place c f x i (Mapped p) s = sym (mapped-place x p (sym (i.mapped p) ∙ s.1))
 
-outside-place : (c : State) (f : ℕ) (x : Place) → x ≡ Nowhere → FrameIsAt c f x → (y : Place) → StandsAt c f y → ⊥
-outside-place c f x e i y s = subst (StandsAt c f) (only-place c f x i y s ∙ e) s
-
-frame-once : (w : World) → Inv w → FrameOnce w.core
-frame-once w i =
-    record {
-      each = λ f lt. record { place = i.place f; stands = at-place w.core f (i.place f) lt (i.frames f); only = only-place w.core f (i.place f) (i.frames f) };
-      past = λ f le. outside-place w.core f (i.place f) ((i.frames f).outside le) (i.frames f);
-    }
-
 pub told_law : (w : World) → Inv w → Told w
 told_law w i =
     record {
-      frames = frame-once w i;
+      frames = record {
+        each = λ f lt. record { place = i.place f; stands = at-place w.core f (i.place f) lt (i.frames f); only = only-place w.core f (i.place f) (i.frames f) };
+        past = λ f le y s. subst (StandsAt w.core f) (only-place w.core f (i.place f) (i.frames f) y s ∙ (i.frames f).outside le) s;
+      };
       device = λ t p. record {
         evicted = ((i.pages p).contents t).device;
         clean = λ m e d ne. sym (((i.pages p).contents t).clean m e d) ∙ ((i.pages p).contents t).logical ne m e;

@@ -5,9 +5,6 @@ use Rattle.vm_rule.proofs.Prelude.{ap, arith, at_next, at_state, cases_Bool, cor
 use Rattle.vm_rule.proofs.Prelude.{nat_tests, Next, None, Option, Origin, Page, PageMoves, Place, Some, state_of, Stored, sym, Table, true}
 use Rattle.vm_rule.proofs.Prelude.{true≢false, version_of, View, WasNext, WasWord, WereWords, Within, World, ℕ, ⊎_elim, ◌<◌, ◌∙◌, ◌≡◌, ◌≢◌, ◌≤◌}
 
-readable-free : (state : ℕ) → is_readable state ≡ true → (state ≢ LOCKED) × (state ≢ EVICTED)
-readable-free state e = ((λ l. grind (arith, nat_tests, e, l)), (λ l. grind (arith, nat_tests, e, l)))
-
 free-readable : (state : ℕ) → state ≤ EVICTED → state ≢ LOCKED → state ≢ EVICTED → is_readable state ≡ true
 free-readable state known locked evicted = grind (arith, nat_tests, known, locked, evicted)
 
@@ -21,8 +18,7 @@ word-moves r r' moves known (Some word) was =
           let same : r'.version ≡ r.version = omega arith in
           ⊎_elim
           (λ readable.
-          let free = readable-free r'.state readable in
-          let before = moves.still same free.0 free.1 in
+          let before = moves.still same (λ l. grind (arith, nat_tests, readable, l)) (λ l. grind (arith, nat_tests, readable, l)) in
           absurd (true≢false (sym (free-readable r.state known before.0 before.1) ∙ was.1 closed (at ∙ same))))
           (λ f. f)
           (cases_Bool (is_readable r'.state)),

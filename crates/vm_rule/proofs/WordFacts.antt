@@ -48,11 +48,8 @@ bare-version n l = omega arith
 pub finds-hit : (r : Page) (n expects : ℕ) → r.state ≡ state_of n → r.version ≡ version_of n → n ≡ expects → finds r expects ≡ true
 finds-hit r n expects s v e = and_from _ _ (eq-eqb r.state (state_of expects) (s ∙ ap state_of e)) (eq-eqb r.version (version_of expects) (v ∙ ap version_of e))
 
-pub finds-same : (r : Page) (n expects : ℕ) → r.state ≡ state_of n → r.version ≡ version_of n → finds r expects ≡ true → n ≡ expects
-finds-same r n expects s v e = let k = found r expects e in word-is n expects (sym s ∙ k.0) (sym v ∙ k.1)
-
 pub finds-miss : (r : Page) (n expects : ℕ) → r.state ≡ state_of n → r.version ≡ version_of n → n ≢ expects → finds r expects ≡ false
-finds-miss r n expects s v ne = ⊎_elim (λ t. absurd (ne (finds-same r n expects s v t))) (λ f. f) (cases_Bool (finds r expects))
+finds-miss r n expects s v ne = ⊎_elim (λ t. let k = found r expects t in absurd (ne (word-is n expects (sym s ∙ k.0) (sym v ∙ k.1)))) (λ f. f) (cases_Bool (finds r expects))
 
 -- a translation word that is written: no frame, a clean page in frame f, a dirty one
 pub mapping-none : mapping_of 0 ≡ None

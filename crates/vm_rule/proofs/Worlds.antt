@@ -1,19 +1,18 @@
 -- The world that is read after a step of one pass: it is the world after the event.
 use Rattle.std.proofs.Common.{eq-eqb, ne_eqb}
-use Rattle.vm_core.specs.{declared.event.Event.TheVariants.Release, History.stored as store_history, Inv.Place as Standing}
+use Rattle.vm_core.specs.{declared.event.Event.TheVariants.Release, History.stored as store_history}
 use Rattle.vm_rule.specs.declared.view.Place.TheVariants as places
 use Rattle.vm_rule.specs.declared.view.Release.{Release as Released}
-use Rattle.vm_rule.proofs.{Parts.upd-is, Views.block-same}
+use Rattle.vm_rule.proofs.{Found.content-here, Found.loads-here, Found.seat-here, Found.seats-here, Parts.upd-is, Views.block-same}
 use Rattle.vm_rule.proofs.Cores.{core-seat, core-state, core-step, core-word, held-still, loads-put, loads-still, seats-put, seats-still}
-use Rattle.vm_rule.proofs.Found.{content-here, loads-here, seat-here, seats-here}
-use Rattle.vm_rule.proofs.Prelude.{[], after_releases, ap, appended, at_page, block_of, Bool, cases_Bool, core_from, core_shown, Downgrade, drafted}
-use Rattle.vm_rule.proofs.Prelude.{eqb, EVICTED, false, finds, first_history, found, framed, frames_held, get_elem?, histories_of, History}
-use Rattle.vm_rule.proofs.Prelude.{if◌then◌else◌, index_of, Inv, kept_loads, last_in, left_of, length, length-set, List, Load, load_frame, loads_at}
-use Rattle.vm_rule.proofs.Prelude.{loads_more, loads_of, LOCKED, LockS, LockW, LockX, Look, mapped-place, Mapping, Mark, MARKED, None, on_page}
-use Rattle.vm_rule.proofs.Prelude.{one_share_more, open_after, open_frame, Option, Origin, Page, Place, pushed, put, refl, ReleaseE, Seat, seat_of}
-use Rattle.vm_rule.proofs.Prelude.{seated, seats_of, slice_index, slice_set, Some, some, stands_in, State, state_of, Store, Stored, stored_at, sym}
-use Rattle.vm_rule.proofs.Prelude.{Table, table_words, TLoad, true, UNLOCKED, UnlockS, Unmark, unshared, upd, upd-other, upd-same, upd-self, Upgrade}
-use Rattle.vm_rule.proofs.Prelude.{version_of, View, width, word_at, World, world_after, world_of, ℕ, ⊎_elim, ◌++◌, ◌+◌, ◌-◌, ◌<◌, ◌∙◌, ◌∷◌, ◌≡◌, ◌≢◌}
+use Rattle.vm_rule.proofs.Prelude.{[], after_releases, ap, appended, at_page, block_of, Bool, cases_Bool, core_from, core_shown, Downgrade, drafted, eqb}
+use Rattle.vm_rule.proofs.Prelude.{EVICTED, false, finds, first_history, found, framed, frames_held, get_elem?, histories_of, History, if◌then◌else◌, index_of}
+use Rattle.vm_rule.proofs.Prelude.{Inv, kept_loads, last_in, left_of, length, length-set, List, Load, load_frame, loads_at, loads_more, loads_of, LOCKED, LockS}
+use Rattle.vm_rule.proofs.Prelude.{LockW, LockX, Look, mapped-place, Mapping, Mark, MARKED, None, on_page, one_share_more, open_after, open_frame, Option}
+use Rattle.vm_rule.proofs.Prelude.{Origin, Page, Place, pushed, put, refl, ReleaseE, Seat, seat_of, seated, seats_of, slice_index, slice_set, Some, some}
+use Rattle.vm_rule.proofs.Prelude.{stands_in, State, state_of, Store, Stored, stored_at, sym, Table, table_words, TLoad, true, UNLOCKED, UnlockS, Unmark}
+use Rattle.vm_rule.proofs.Prelude.{unshared, upd, upd-other, upd-same, upd-self, Upgrade, version_of, View, width, word_at, World, world_after, world_of, ℕ}
+use Rattle.vm_rule.proofs.Prelude.{⊎_elim, ◌++◌, ◌+◌, ◌-◌, ◌<◌, ◌∙◌, ◌∷◌, ◌≡◌, ◌≢◌}
 
 -- ---- histories
 
@@ -114,11 +113,8 @@ module _ (w : World) (a p expects : ℕ) (lost : finds (w.core.pages p) expects 
 -- ---- where a frame stands
 
 -- a frame that stands in a page stands in no other
-one-page : (x : Standing) (p q : ℕ) → at_page x p ≡ true → q ≢ p → at_page x q ≡ false
-one-page x p q e ne = ap (λ y. at_page y q) (mapped-place x p e) ∙ ne_eqb q p ne
-
 pub stands-one : (w : World) (f p q : ℕ) → Inv w → stands_in (w.core.pages p).trans f ≡ true → q ≢ p → stands_in (w.core.pages q).trans f ≡ false
-stands-one w f p q inv e ne = (inv.frames f).mapped q ∙ one-page (inv.place f) p q (sym ((inv.frames f).mapped p) ∙ e) ne
+stands-one w f p q inv e ne = (inv.frames f).mapped q ∙ ap (λ y. at_page y q) (mapped-place (inv.place f) p (sym ((inv.frames f).mapped p) ∙ e)) ∙ ne_eqb q p ne
 
 -- who stores into the frame of its page writes that page's draft, and no other
 pub stores-else : (r : Page) (h : History) (a f i x : ℕ) → stands_in r.trans f ≡ false → store_history r h a f i x ≡ h

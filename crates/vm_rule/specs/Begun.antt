@@ -5,9 +5,8 @@ use Rattle.atomic_table.specs.Table.{Me, State as Table, Step}
 use Rattle.vm_block.specs.declared.stored.Stored.{Stored}
 use Rattle.vm_owner.specs.Kept.{Kept, Start}
 use Rattle.vm_rule.specs.{Brought.brought, declared.view.Origin.Origin, declared.view.Shape.Shape, declared.view.View.View, Log.did_load, Rule.Ruled}
-use Rattle.vm_rule.specs.{Rule.snapshot_of, Sound.Sound}
+use Rattle.vm_rule.specs.{Rule.snapshot_of, Sound.Sound, Views.first_view, Views.numbers, Views.view_from}
 use Rattle.vm_rule.specs.declared.view.Place.TheVariants as places
-use Rattle.vm_rule.specs.Views.{first_view, numbers, view_from}
 
 -- the shape of a table without pages
 abbrev pub no_shape : Shape

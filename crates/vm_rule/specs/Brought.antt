@@ -3,8 +3,7 @@ use Rattle.std.specs.Prelude.{[], ◌++◌, ◌+◌, ◌∷◌, ◌≡◌, lengt
 use Rattle.vm_block.specs.declared.stored.Stored.{Stored}
 use Rattle.vm_owner.specs.{declared.Entry.Entry, Kept.entries_under}
 use Rattle.vm_rule.specs.{declared.view.Did.Did, declared.view.Origin.Origin, declared.view.Release.Release, declared.view.Snapshot.Snapshot}
-use Rattle.vm_rule.specs.{declared.view.View.View, Reading.last_in, Reading.last_of, Sound.Sound}
-use Rattle.vm_rule.specs.Layout.{index_of, width, Within}
+use Rattle.vm_rule.specs.{declared.view.View.View, Layout.index_of, Layout.width, Layout.Within, Reading.last_in, Reading.last_of, Sound.Sound}
 use Rattle.vm_rule.specs.Views.{entries_by, Hears, IsLocking, IsWhole, seat_of, StartsWith}
 
 -- the number, if there is one, at this place of the list

@@ -1,10 +1,8 @@
 -- What the steps on a bundle word and on the hand tell. Frames that are taken come to the pass with their words; frames that are given back
 -- leave it.
 use Rattle.std.specs.Int.{bit_at}
-use Rattle.std.specs.Prelude.{[], ◌*◌, ◌++◌, ◌+◌, ◌<◌, ◌==◌, ◌∷◌, ◌≡◌, bit_and, bit_or, bit_xor, false, if◌then◌else◌, length, List, suc, true, zero}
-use Rattle.std.specs.Prelude.{ℕ}
-use Rattle.vm_core.specs.Prelude.{hand_more, in_mask, WORDS}
-use Rattle.vm_core.specs.declared.words.TheConstants.{FRAMES}
+use Rattle.std.specs.Prelude.{[], bit_and, bit_or, bit_xor, false, if◌then◌else◌, length, List, suc, true, zero, ℕ, ◌*◌, ◌++◌, ◌+◌, ◌<◌, ◌==◌, ◌∷◌, ◌≡◌}
+use Rattle.vm_core.specs.{declared.words.TheConstants.FRAMES, Prelude.hand_more, Prelude.in_mask, Prelude.WORDS}
 use Rattle.vm_owner.specs.Numbers.{has}
 use Rattle.vm_rule.specs.{Brought.Brings, declared.view.Put.Put, declared.view.View.View, Puts.put, Releases.without_all}
 use Rattle.vm_rule.specs.declared.view.Place.TheVariants as places

@@ -1,8 +1,7 @@
 -- Where each word of the table stands: P state words, P translation words, P fault words, 64 words for each frame, a word for each
 -- bundle of 64 frames, the next word, the hand word, an owner word for each frame.
 use Rattle.std.specs.Prelude.{◌*◌, ◌+◌, ◌-◌, ◌/◌, ◌<◌, if◌then◌else◌, List, nat_lt, ℕ}
-use Rattle.vm_core.specs.Prelude.{at, upd, WORDS}
-use Rattle.vm_core.specs.declared.words.TheConstants.{FRAMES}
+use Rattle.vm_core.specs.{declared.words.TheConstants.FRAMES, Prelude.at, Prelude.upd, Prelude.WORDS}
 use Rattle.vm_rule.specs.{declared.view.Origin.Origin, declared.view.Place.Place}
 use Rattle.vm_rule.specs.declared.view.Place.TheVariants.{Bundle, Content, Fault, Hand, Next, Owner, State, Translation}
 

@@ -1,12 +1,10 @@
 -- What a load tells: of a translation word, or of a word of a page's frame.
-use Rattle.std.specs.Prelude.{[], ◌&&◌, ◌++◌, ◌<◌, ◌||◌, ◌∷◌, ◌≡◌, ◌≤◌, if◌then◌else◌, is_some, IsSome, List, nat_lt, None, Option, slice_index, Some}
-use Rattle.std.specs.Prelude.{true, ℕ}
+use Rattle.std.specs.Prelude.{[], if◌then◌else◌, is_some, IsSome, List, nat_lt, None, Option, slice_index, Some, true, ℕ, ◌&&◌, ◌++◌, ◌<◌, ◌||◌, ◌∷◌, ◌≡◌, ◌≤◌}
 use Rattle.vm_core.specs.Prelude.{frame_of, framed, loads_more, mapping_of, open_frame}
 use Rattle.vm_core.specs.{declared.event.Mapping.Mapping, declared.event.Open.Open}
-use Rattle.vm_rule.specs.{Brought.Brings, declared.view.Translation.Translation, declared.view.View.View, Log.did_load, Puts.put, Puts.put_at}
-use Rattle.vm_rule.specs.{Reading.last_of, Rule.no_held}
+use Rattle.vm_rule.specs.{Brought.Brings, declared.view.Translation.Translation, declared.view.View.View, Log.did_load, Puts.put, Puts.put_at, Reading.last_of}
+use Rattle.vm_rule.specs.{Rule.no_held, Views.draft_of, Views.IsLocking, Views.loads_at, Views.may_call, Views.seat_of}
 use Rattle.vm_rule.specs.declared.view.Place.TheVariants as places
-use Rattle.vm_rule.specs.Views.{draft_of, IsLocking, loads_at, may_call, seat_of}
 
 -- the translation word of p was loaded: an open read without a frame gets the frame that it names
 abbrev pub translation_of : ℕ → ℕ → Option Open → List Translation

@@ -1,15 +1,13 @@
 -- What the steps on locks tell: an exclusive lock, a share or a lock for write-back that is tried, a share that is given up, and a lock for
 -- write-back that becomes exclusive. So do the steps on marks. A step that expects a word changes the view only where it found that word.
-use Rattle.std.specs.Prelude.{[], ◌+◌, ◌-◌, ◌<◌, ◌==◌, ◌^◌, ◌||◌, ◌≡◌, ◌≢◌, ◌≤◌, Bool, false, if◌then◌else◌, IsSome, length, List, nat_lt, None, Some}
-use Rattle.std.specs.Prelude.{true, ℕ}
+use Rattle.std.specs.Prelude.{[], Bool, false, if◌then◌else◌, IsSome, length, List, nat_lt, None, Some, true, ℕ, ◌+◌, ◌-◌, ◌<◌, ◌==◌, ◌^◌, ◌||◌, ◌≡◌, ◌≢◌, ◌≤◌}
 use Rattle.vm_core.specs.Prelude.{EVICTED, LoadsAre, LOCKED, mapping_of, MAX_VERSION, one_share_more, state_of, unshared, version_of, word_of, WORDS}
 use Rattle.vm_core.specs.{declared.event.Mapping.Mapping, declared.event.Open.Open, declared.event.Seat.Seat}
 use Rattle.vm_laws_others.specs.Leaves.{stands_dirty}
 use Rattle.vm_owner.specs.{Kept.Start, Numbers.has}
-use Rattle.vm_rule.specs.{Brought.Brings, declared.view.Held.Held, declared.view.View.View, Log.did_change, Log.did_exchange, Looks.IsOlder}
-use Rattle.vm_rule.specs.{Looks.IsSinceAll, Puts.put, Puts.put_at, Reading.last_of, Rule.began_of, Rule.no_held}
+use Rattle.vm_rule.specs.{Brought.Brings, declared.view.Held.Held, declared.view.View.View, Log.did_change, Log.did_exchange, Looks.IsOlder, Looks.IsSinceAll}
+use Rattle.vm_rule.specs.{Puts.put, Puts.put_at, Reading.last_of, Rule.began_of, Rule.no_held, Views.Each, Views.loads_at, Views.seat_of}
 use Rattle.vm_rule.specs.declared.view.Place.TheVariants as places
-use Rattle.vm_rule.specs.Views.{Each, loads_at, seat_of}
 
 -- what a lock of page p tells that was taken at this word, while the page had these last words: whether the page is resident, and where; that
 -- its frame's owner word names it; its fault word; and that the block of a page that is clean or not resident has its last words

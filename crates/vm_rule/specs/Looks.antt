@@ -6,9 +6,8 @@ use Rattle.vm_core.specs.{declared.event.Open.Open, declared.event.ReadIs.ReadIs
 use Rattle.vm_core.specs.declared.event.ReadIs.TheVariants.{Closed, Same}
 use Rattle.vm_owner.specs.Kept.{Start}
 use Rattle.vm_rule.specs.{Brought.Brings, Brought.entries_of, declared.view.Did.Did, declared.view.Tie.Tie, declared.view.View.View, Layout.at_state}
-use Rattle.vm_rule.specs.{Log.did_load, Puts.put, Reading.last_of, Rule.began_of}
+use Rattle.vm_rule.specs.{Log.did_load, Puts.put, Reading.last_of, Rule.began_of, Views.Each, Views.IsWhole, Views.loads_at, Views.seat_of}
 use Rattle.vm_rule.specs.declared.view.Place.TheVariants as places
-use Rattle.vm_rule.specs.Views.{Each, IsWhole, loads_at, seat_of}
 
 -- what a look that found this word leaves of an open read
 abbrev pub left_at : ℕ → Option Open → ReadIs

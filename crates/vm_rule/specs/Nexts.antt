@@ -2,10 +2,9 @@
 -- word which the pass knows can't be lost.
 use Rattle.std.specs.Prelude.{[], ◌++◌, ◌+◌, ◌<◌, ◌==◌, ◌≡◌, ◌≤◌, if◌then◌else◌, List, None, replicate, Some, true, ℕ}
 use Rattle.vm_core.specs.Prelude.{WORDS}
-use Rattle.vm_rule.specs.{Brought.Brings, declared.view.Did.Did, declared.view.View.View, Layout.at_next, Log.did_exchange, Log.did_load}
-use Rattle.vm_rule.specs.{Reading.last_of, Rule.WasNext}
+use Rattle.vm_rule.specs.{Brought.Brings, declared.view.Did.Did, declared.view.View.View, Layout.at_next, Log.did_exchange, Log.did_load, Reading.last_of}
+use Rattle.vm_rule.specs.{Rule.WasNext, Views.Each, Views.numbers, Views.seat_of}
 use Rattle.vm_rule.specs.declared.view.Place.TheVariants as places
-use Rattle.vm_rule.specs.Views.{Each, numbers, seat_of}
 
 -- the next word found now is no lower than each that the steps of the log found and left
 abbrev pub IsLatest : ℕ → List Did → Type 0

@@ -6,9 +6,8 @@ use Rattle.vm_block.specs.declared.stored.Stored.{Stored}
 use Rattle.vm_core.specs.Prelude.{at, History, mapping_of, outside_page, Page, State, state_of, Version, version_of, WORDS, World}
 use Rattle.vm_core.specs.declared.event.Seat.{Seat}
 use Rattle.vm_owner.specs.Numbers.{has}
-use Rattle.vm_rule.specs.{declared.view.Origin.Origin, declared.view.Out.Out, declared.view.Release.Release, declared.view.View.View}
-use Rattle.vm_rule.specs.{Layout.table_words, Layout.Words, Puts.listed}
-use Rattle.vm_rule.specs.Views.{loads_at, seat_of, spent}
+use Rattle.vm_rule.specs.{declared.view.Origin.Origin, declared.view.Out.Out, declared.view.Release.Release, declared.view.View.View, Layout.table_words}
+use Rattle.vm_rule.specs.{Layout.Words, Puts.listed, Views.loads_at, Views.seat_of, Views.spent}
 
 -- ---- pages and frames
 

@@ -3,8 +3,7 @@
 use Rattle.std.specs.Prelude.{[], ◌++◌, ◌+◌, ◌==◌, ◌∷◌, ◌≡◌, false, if◌then◌else◌, List, None, Option, Some, true, ℕ}
 use Rattle.vm_core.specs.Prelude.{EVICTED, word_of}
 use Rattle.vm_owner.specs.{Kept.Change, Numbers.has, Numbers.without}
-use Rattle.vm_rule.specs.{Brought.Brings, Brought.entries_of, declared.view.View.View, Log.did_store, Puts.put, Reading.last_of, Views.draft_of}
-use Rattle.vm_rule.specs.{Views.seat_of}
+use Rattle.vm_rule.specs.{Brought.Brings, Brought.entries_of, declared.view.View.View, Log.did_store, Puts.put, Reading.last_of, Views.draft_of, Views.seat_of}
 use Rattle.vm_rule.specs.declared.view.Place.TheVariants as places
 
 -- without all of these

@@ -8,16 +8,13 @@ use Rattle.vm_core.specs.Prelude.{at, EVICTED, frame_of, get_elem?, History, Inv
 use Rattle.vm_core.specs.Prelude.{trans_word, version_of, WORDS, World}
 use Rattle.vm_core.specs.declared.event.{Mapping.Mapping, Seat.Seat}
 use Rattle.vm_laws_others.specs.Leaves.{stands_dirty}
-use Rattle.vm_owner.specs.{declared.Entry.Entry, Numbers.has}
-use Rattle.vm_owner.specs.Kept.{AreCounted, Kept, Start}
-use Rattle.vm_rule.specs.{declared.view.Did.Did, declared.view.Held.Held, declared.view.Origin.Origin, declared.view.Out.Out}
-use Rattle.vm_rule.specs.{declared.view.Release.Release, declared.view.Snapshot.Snapshot, declared.view.Tie.Tie}
-use Rattle.vm_rule.specs.{declared.view.Translation.Translation, declared.view.View.View}
-use Rattle.vm_rule.specs.Layout.{at_next, at_state, table_words, width}
-use Rattle.vm_rule.specs.Puts.{chosen, listed, put_at}
+use Rattle.vm_owner.specs.{declared.Entry.Entry, Kept.AreCounted, Kept.Kept, Kept.Start, Numbers.has}
+use Rattle.vm_rule.specs.{declared.view.Did.Did, declared.view.Held.Held, declared.view.Origin.Origin, declared.view.Out.Out, declared.view.Release.Release}
+use Rattle.vm_rule.specs.{declared.view.Snapshot.Snapshot, declared.view.Tie.Tie, declared.view.Translation.Translation, declared.view.View.View}
+use Rattle.vm_rule.specs.{Layout.at_next, Layout.at_state, Layout.table_words, Layout.width, Puts.chosen, Puts.listed, Puts.put_at}
 use Rattle.vm_rule.specs.Reading.{block_of, core_shown, histories_of, home, last_in, last_of, no_block, out_of, world_of}
-use Rattle.vm_rule.specs.Views.{any, draft_of, Each, entries_by, Hears, IsLocking, IsWhole, may_call, one_part, owns, PARTS, seat_of, spent}
-use Rattle.vm_rule.specs.Views.{StartsWith, times_noted, total}
+use Rattle.vm_rule.specs.Views.{any, draft_of, Each, entries_by, Hears, IsLocking, IsWhole, may_call, one_part, owns, PARTS, seat_of, spent, StartsWith}
+use Rattle.vm_rule.specs.Views.{times_noted, total}
 
 -- the slot of a block that is out: empty at home, or with the pass that moves it
 abbrev pub slot_of : {B : Type 0} → Out → maybe.Option (Option B)
