@@ -6,13 +6,13 @@ use Rattle.vm_guard.specs.declared.given.Fresh.TheVariants as answers
 use Rattle.vm_guard.proofs.Amid.{amid-reads, next-known, nload-amid, others-known}
 use Rattle.vm_guard.proofs.FreshNone.{bracket, denied-nil, nil-then, nload-nil, not-next, not-state, saw-within, seized-on, worn-within}
 use Rattle.vm_guard.proofs.FreshNumbers.{apart-first, both-first, both-second, numbers-one, numbers-two, within-second}
-use Rattle.vm_guard.proofs.Prelude.{[], AgainOrWorn, ap, append-none, append_assoc, AreHeld, arith, Bool, cases_eq, cond-false, cond-true, Deny, Did}
-use Rattle.vm_guard.proofs.Prelude.{did_load, Each, each-both, each-map, eq-eqb, eqb, false, Fresh, GivesBack, has, held-on, if◌then◌else◌, inl, inr}
-use Rattle.vm_guard.proofs.Prelude.{IsAmid, IsBegun, IsEvidence, IsFreshAnswer, IsFull, IsNil, IsNotSeized, IsQuiet, IsReady, IsSamePass, IsSaw}
-use Rattle.vm_guard.proofs.Prelude.{IsSeized, IsSpared, IsToTry, IsWornOut, List, Mapping, ne_eqb, next_after, next_view, NextTold, nload-others}
-use Rattle.vm_guard.proofs.Prelude.{None, none-some, NoWord, numbers, numbers-has, Option, Origin, Pass, read, ready-on, refl, same_Some, Saw, Seat}
-use Rattle.vm_guard.proofs.Prelude.{seat_of, Seizes, Shape, Some, subst, sym, TableId, true, true≢false, UnlockedExpected, View, view, words-known, ℕ}
-use Rattle.vm_guard.proofs.Prelude.{⊎_elim, ◌++◌, ◌+◌, ◌<◌, ◌||◌, ◌∙◌, ◌∷◌, ◌≡◌, ◌≢◌, ◌≤◌, ◌⊎◌}
+use Rattle.vm_guard.proofs.Prelude.{[], AgainOrWorn, ap, append-none, append_assoc, AreHeld, arith, Bool, cases_eq, cond-false, cond-true, Deny, Did, did_load}
+use Rattle.vm_guard.proofs.Prelude.{Each, each-both, each-map, eq-eqb, eqb, false, Fresh, GivesBack, has, held-on, if◌then◌else◌, inl, inr, IsAmid, IsBegun}
+use Rattle.vm_guard.proofs.Prelude.{IsEvidence, IsFreshAnswer, IsFull, IsNil, IsNotSeized, IsQuiet, IsReady, IsSamePass, IsSaw, IsSeized, IsSpared, IsToTry}
+use Rattle.vm_guard.proofs.Prelude.{IsWornOut, List, Mapping, ne_eqb, next_after, next_view, NextTold, nload-others, None, none-some, NoWord, numbers}
+use Rattle.vm_guard.proofs.Prelude.{numbers-has, Option, Origin, Pass, read, ready-on, refl, same_Some, Saw, Seat, seat_of, Seizes, Shape, Some, subst, sym}
+use Rattle.vm_guard.proofs.Prelude.{TableId, true, true≢false, UnlockedExpected, View, view, words-known, ℕ, ⊎_elim, ◌++◌, ◌+◌, ◌<◌, ◌||◌, ◌∙◌, ◌∷◌, ◌≡◌, ◌≢◌}
+use Rattle.vm_guard.proofs.Prelude.{◌≤◌, ◌⊎◌}
 use Rattle.vm_guard.proofs.Seizing.{self-has}
 
 -- two loads of the next word that differ
@@ -70,14 +70,7 @@ module _ {X : Type 0} where
 
   -- what a pass that is alone knows then
   spares : (pages : List ℕ) (x : ℕ) (done : List Did) (v w : View X) → IsNil pages done v w → (more : List Did) × (done ≡ did_load places.Next x ∷ more) → ((q : ℕ) → w.next ≡ Some q → (seat_of v q).exclusive ≡ true) → w.current ≡ true → IsSpared pages x done v w
-  spares pages x done v w nil loaded next current = record {
-    nil = nil;
-    loaded = loaded;
-    next = next;
-    same_next = next-known pages done v w nil.amid nil.unmoved;
-    others = others-known pages done v w nil.amid;
-    current = current;
-  }
+  spares pages x done v w nil loaded next current = search (next-known pages done v w nil.amid nil.unmoved, others-known pages done v w nil.amid)
 
   -- ---- the first page could not be locked
 

@@ -1,17 +1,16 @@
 -- The fresh pages that a call gives, one or two: each is locked, put into a frame, and all are claimed together.
 use Rattle.vm_rule.specs.declared.view.Place.TheVariants as places
-use Rattle.vm_guard.proofs.{FreshNone.seized-on, Groups.each-page, Groups.or-none, GuardSteps.still-held, Lockings.unheld-same}
+use Rattle.vm_guard.proofs.{FreshNone.seized-on, Groups.each-page, GuardSteps.still-held, Lockings.unheld-same}
 use Rattle.vm_guard.proofs.Amid.{amid-alone, amid-then, claim-amid, claim-silent, IsSilent, known-on, known-states, nload-amid, nload-silent}
 use Rattle.vm_guard.proofs.Amid.{others-known, put-known, silent-then, silent-within}
 use Rattle.vm_guard.proofs.FreshNumbers.{apart-first, apart-second, numbers-one, numbers-two, within-first, within-second}
 use Rattle.vm_guard.proofs.Prelude.{[], ap, append_assoc, AreFresh, AreHeld, arith, Bool, cases_eq, claim-brings, claimed_view, ClaimTold, cond-true}
-use Rattle.vm_guard.proofs.Prelude.{contents_at, Did, did_exchange, did_load, draft_of, Each, each-map, eq-eqb, eqb, ExclusiveGuard, false, Furnishes}
-use Rattle.vm_guard.proofs.Prelude.{has, has-both, held-on, held_at, holds-still, if◌then◌else◌, index-below, inl, inr, IsAlone, IsAmid, IsHolding}
-use Rattle.vm_guard.proofs.Prelude.{IsSeized, IsSome, IsUnheld, keeps-then, KeepsFrames, known_word_at, KnowsAt, last-known, last_of, List, LOCKED}
-use Rattle.vm_guard.proofs.Prelude.{Mapping, NextTold, nload-others, None, none-some, numbers, Option, Origin, PassMayClaim, pids_of, Place, put_at}
-use Rattle.vm_guard.proofs.Prelude.{refl, replicate, reverse, reverse-append, Seat, seat_of, Seizes, Some, subst, sym, true, Version, View}
-use Rattle.vm_guard.proofs.Prelude.{wide-after, Within, without, without_all, word_of, written-behind, ℕ, ⊎_elim, ◌++◌, ◌+◌, ◌<◌, ◌==◌, ◌∙◌, ◌∷◌, ◌≡◌}
-use Rattle.vm_guard.proofs.Prelude.{◌≢◌, ◌≤◌}
+use Rattle.vm_guard.proofs.Prelude.{contents_at, Did, did_exchange, did_load, draft_of, Each, each-map, eq-eqb, eqb, ExclusiveGuard, false, Furnishes, has}
+use Rattle.vm_guard.proofs.Prelude.{has-both, held-on, held_at, holds-still, if◌then◌else◌, index-below, inl, inr, IsAlone, IsAmid, IsHolding, IsSeized, IsSome}
+use Rattle.vm_guard.proofs.Prelude.{IsUnheld, keeps-then, KeepsFrames, known_word_at, KnowsAt, last-known, last_of, List, LOCKED, Mapping, NextTold}
+use Rattle.vm_guard.proofs.Prelude.{nload-others, None, none-some, numbers, Option, or_parts, Origin, PassMayClaim, pids_of, Place, put_at, refl, replicate}
+use Rattle.vm_guard.proofs.Prelude.{reverse, reverse-append, rules, Seat, seat_of, Seizes, Some, subst, sym, true, Version, View, wide-after, Within, without}
+use Rattle.vm_guard.proofs.Prelude.{without_all, word_of, written-behind, ℕ, ⊎_elim, ◌++◌, ◌+◌, ◌<◌, ◌==◌, ◌∙◌, ◌∷◌, ◌≡◌, ◌≢◌, ◌≤◌}
 
 module _ {X : Type 0} where
   -- a page that is held stays so while the call works on others
@@ -21,14 +20,8 @@ module _ {X : Type 0} where
   -- a page that was not known before the first load
   unheld-before : (x : ℕ) (v v1 : View X) → v.next ≡ None → NextTold x v v1 → (p : ℕ) → IsUnheld v1 p → IsUnheld v p
   unheld-before x v v1 none t p h =
-      let e : seat_of v1 p ≡ seat_of v p = ap (λ (y : View X). seat_of y p) t.brings.view in
-      record {
-        exclusive = ap (λ (k : Seat). k.exclusive) (sym e) ∙ h.exclusive;
-        shares = ap (λ (k : Seat). k.shares) (sym e) ∙ h.shares;
-        writing = ap (λ (k : Seat). k.writing) (sym e) ∙ h.writing;
-        paid = ap (λ (y : View X). has p y.owed) (sym t.brings.view) ∙ h.paid;
-        next = λ k. none-some p (sym none ∙ k);
-      }
+      let e : seat_of v p ≡ seat_of v1 p = ap (λ (y : View X). seat_of y p) (sym t.brings.view) in
+      search (rules, ap, e, ap (λ (y : View X). has p y.owed) (sym t.brings.view), (λ (k : v.next ≡ Some p). none-some p (sym none ∙ k)))
 
   -- ---- the claim
 
@@ -69,7 +62,7 @@ module _ {X : Type 0} where
     pub group : (y.owed ≡ z.owed) × (y.next ≡ z.next)
 
   put-one : {p frame version : ℕ} {dirty : Bool} {before after : List ℕ} {z y : View X} → Furnishes p frame version dirty before after z y → ArePut before after z y
-  put-one f = record { taken = f.taken; cut = f.cut; frames = f.frames; own = f.own; contents = f.contents; group = f.group }
+  put-one f = search
 
   put-then : {before mid after : List ℕ} {z y w : View X} → ArePut before mid z y → ArePut mid after y w → ArePut before after z w
   put-then {after = after} {z = z} f g = record {
@@ -77,7 +70,7 @@ module _ {X : Type 0} where
     cut = f.cut ∙ ap (λ (l : List ℕ). l ++ reverse f.taken) g.cut ∙ append_assoc after (reverse g.taken) (reverse f.taken) ∙ ap (λ (l : List ℕ). after ++ l) (sym (reverse-append f.taken g.taken));
     frames = g.frames ∙ ap (without_all g.taken) f.frames ∙ both f.taken g.taken z.frames;
     own = g.own;
-    contents = λ q left. let none = or-none (has q f.taken) (has q g.taken) (sym (has-both q f.taken g.taken) ∙ left) in g.contents q none.1 ∙ f.contents q none.0;
+    contents = λ q left. let none = or_parts (has q f.taken) (has q g.taken) (sym (has-both q f.taken g.taken) ∙ left) in g.contents q none.1 ∙ f.contents q none.0;
     group = (g.group.0 ∙ f.group.0, g.group.1 ∙ f.group.1);
   }
     where

@@ -3,11 +3,10 @@
 use Rattle.vm_core.proofs.PageFacts.{none-some}
 use Rattle.vm_rule.specs.declared.view.Place.TheVariants as places
 use Rattle.vm_step.specs.declared.saw.At.TheVariants as ats
-use Rattle.vm_guard.proofs.Prelude.{[], ap, AreQuiet, AreUnmarking, arith, Begins, BeginsReading, cases_eq, cond-false, cond-true, Did, did_exchange}
-use Rattle.vm_guard.proofs.Prelude.{did_load, Each, each-both, eq-eqb, eqb, Gives, inl, inr, IsSaw, IsUnmarked, List, LOCKED, MARKED, MarkTold}
-use Rattle.vm_guard.proofs.Prelude.{ne_eqb, None, OnlyUnmarks, Place, refl, Some, some-same, state_of, still-loads, still-seat, subst, sym, UNLOCKED}
-use Rattle.vm_guard.proofs.Prelude.{version-within, version_of, View, WhyAgain, word-state, word-version, word_of, ℕ, ⊎_elim, ◌++◌, ◌∙◌, ◌∷◌, ◌≡◌}
-use Rattle.vm_guard.proofs.Prelude.{◌≢◌, ◌⊎◌}
+use Rattle.vm_guard.proofs.Prelude.{[], ap, AreQuiet, AreUnmarking, arith, Begins, cases_eq, cond-false, cond-true, Did, did_exchange, did_load, Each}
+use Rattle.vm_guard.proofs.Prelude.{each-both, eq-eqb, eqb, Gives, inr, IsQuiet, IsSaw, IsUnmarked, List, LOCKED, MARKED, MarkTold, ne_eqb, None, OnlyUnmarks}
+use Rattle.vm_guard.proofs.Prelude.{Place, refl, rules, Some, some-same, state_of, still-loads, still-seat, subst, sym, UNLOCKED, version-within, version_of}
+use Rattle.vm_guard.proofs.Prelude.{View, WhyAgain, word-state, word-version, word_of, ℕ, ⊎_elim, ◌++◌, ◌∙◌, ◌∷◌, ◌≡◌, ◌≢◌, ◌⊎◌}
 use Rattle.vm_guard.proofs.QuietSteps.{quiet-none, still-quiet}
 
 -- an exchange leaves no word but the new one
@@ -71,25 +70,14 @@ unmarking-unmarks p first done steps =
     ((λ x e. (refl, ap state_of (sym (exchange-left (places.State p) first y.1.0 (word_of UNLOCKED (version_of first)) x e)) ∙ word-state UNLOCKED (version_of first) (version-within first))), tt))
     steps
 
--- so the steps of an optimistic guard that begins
-pub begun-unmarks : {X : Type 0} (p word frame : ℕ) (v w : View X) (b : BeginsReading p word frame v w) → OnlyUnmarks p b.done
-begun-unmarks p word frame v w b =
-    let later : List Did = did_load (places.Translation p) b.translation ∷ did_load (places.State p) word ∷ [] in
-    subst (λ (d : List Did). OnlyUnmarks p d) (sym b.cut) (
-      load-unmarks p (places.State p) b.first,
-      unmarks-both p b.clearing later (unmarking-unmarks p b.first b.clearing b.clears) (load-unmarks p (places.Translation p) b.translation, (load-unmarks p (places.State p) word, tt)),
-    )
-
 module _ {X : Type 0} where
   -- the exchange, whatever it found
   pub unmarked : (p word found : ℕ) (v w : View X) → state_of word ≡ MARKED → MarkTold p word found (word_of UNLOCKED (version_of word)) v w → IsUnmarked p word v w
-  unmarked p word found v w is t = record {
-    done = did_exchange (places.State p) word found (word_of UNLOCKED (version_of word)) ∷ [];
-    quiet = still-quiet t.brings;
-    reads = record { reading = ap (λ s. s.reading) (still-seat t.brings p); loads = still-loads t.brings p };
-    clears = inr (is, (found, refl));
-  }
+  unmarked p word found v w is t =
+      let quiet : IsQuiet p (did_exchange (places.State p) word found (word_of UNLOCKED (version_of word)) ∷ []) v w = still-quiet t.brings in
+      let clears : AreUnmarking p word (did_exchange (places.State p) word found (word_of UNLOCKED (version_of word)) ∷ []) = inr (is, (found, refl)) in
+      search (rules, quiet, ap (λ s. s.reading) (still-seat t.brings p), still-loads t.brings p, clears)
 
   -- no step
   pub not-marked : (p word : ℕ) (v : View X) → state_of word ≢ MARKED → IsUnmarked p word v v
-  not-marked p word v other = record { done = []; quiet = quiet-none p v; reads = record { reading = refl; loads = refl }; clears = inl (other, refl) }
+  not-marked p word v other = search (rules, quiet-none p v, other)
