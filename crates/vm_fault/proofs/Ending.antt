@@ -2,19 +2,18 @@
 -- brought.
 use Rattle.vm_rule.specs.declared.view.Place.TheVariants as places
 use Rattle.vm_step.specs.declared.saw.At.TheVariants as ats
-use Rattle.vm_fault.proofs.Prelude.{[], alone-then, ap, append_assoc, arith, aside-of, Brings, cases_eq, cond-false, Did, did_exchange, did_load}
-use Rattle.vm_fault.proofs.Prelude.{did_store, draft_of, Each, each-both, each-map, else-knows, eqb, evict-alone, evict-last, evict-others}
-use Rattle.vm_fault.proofs.Prelude.{evict-seat, evict-silent, EVICTED, EvictedExpected, EvictTold, false, false≢true, follows-inside, found-known}
-use Rattle.vm_fault.proofs.Prelude.{given-front, has, HasGiven, HasWritten, Held, held_at, home-both, home-else, inl, inr, IsAlone, IsAside}
-use Rattle.vm_fault.proofs.Prelude.{IsFetchToTry, IsFetchWorn, IsFoundEvicted, IsHeldAt, IsLocking, IsOfBoth, IsOfPage, IsReleasedAs, IsUnheld}
-use Rattle.vm_fault.proofs.Prelude.{KeepsFrames, known_word_at, KnowsElse, KnowsReleased, last-known, last_in, last_of, leaves-then, LeavesOthers}
-use Rattle.vm_fault.proofs.Prelude.{LeavesOwn, LeavesRest, length, List, lock-brings, lock-draft, lock-held, lock-leaves, lock-others, lock-seat}
-use Rattle.vm_fault.proofs.Prelude.{LOCKED, locked_view, LockTold, look-leaves, look-only, LookTold, lost-only, lost-saw, Mapping, MAX_VERSION}
-use Rattle.vm_fault.proofs.Prelude.{ne_eqb, None, none-some, only-then, OnlyReads, Origin, Place, ReadsOnce, refl, Release, release-alone}
-use Rattle.vm_fault.proofs.Prelude.{release-last, release-others, release-seat, release-silent, ReleaseTold, rest-of, rules, runs-one, runs-then}
-use Rattle.vm_fault.proofs.Prelude.{RunsAlone, same-word, Seat, seat_of, Some, Start, state_of, stays-alone, StaysAlone, StaysHome, still-alone}
-use Rattle.vm_fault.proofs.Prelude.{stores-did, subst, sym, true, two-loads, UNLOCKED, Version, version-within, version_of, View, Within, word-made}
-use Rattle.vm_fault.proofs.Prelude.{word-state, word-version, word_of, words-known, Works, ℕ, ⊎_elim, ◌++◌, ◌+◌, ◌<◌, ◌∙◌, ◌∷◌, ◌≡◌, ◌≢◌, ◌≤◌, ◌⊎◌}
+use Rattle.vm_fault.proofs.Prelude.{[], alone-then, ap, append_assoc, arith, aside-of, Brings, cases_eq, cond-false, Did, did_exchange, did_load, did_store}
+use Rattle.vm_fault.proofs.Prelude.{draft_of, Each, each-both, each-map, else-knows, eqb, evict-alone, evict-last, evict-others, evict-seat, evict-silent}
+use Rattle.vm_fault.proofs.Prelude.{EVICTED, EvictedExpected, EvictTold, false, false≢true, follows-inside, found-known, given-front, has, HasGiven, HasWritten}
+use Rattle.vm_fault.proofs.Prelude.{Held, held_at, home-both, home-else, inl, inr, IsAlone, IsAside, IsFetchToTry, IsFetchWorn, IsFoundEvicted, IsHeldAt}
+use Rattle.vm_fault.proofs.Prelude.{IsLocking, IsLostTo, IsOfBoth, IsOfPage, IsReleasedAs, IsUnheld, IsWornIn, KeepsFrames, known_word_at, KnowsElse}
+use Rattle.vm_fault.proofs.Prelude.{KnowsReleased, last-known, last_in, last_of, leaves-then, LeavesOthers, LeavesOwn, LeavesRest, length, List, lock-brings}
+use Rattle.vm_fault.proofs.Prelude.{lock-draft, lock-held, lock-leaves, lock-others, lock-seat, LOCKED, locked_view, LockTold, look-leaves, look-only, LookTold}
+use Rattle.vm_fault.proofs.Prelude.{lost-only, lost-saw, Mapping, MAX_VERSION, ne_eqb, None, none-some, only-then, OnlyReads, Origin, Place, ReadsOnce, refl}
+use Rattle.vm_fault.proofs.Prelude.{Release, release-alone, release-last, release-others, release-seat, release-silent, ReleaseTold, rest-of, rules, runs-one}
+use Rattle.vm_fault.proofs.Prelude.{runs-then, RunsAlone, same-word, Seat, seat_of, Some, Start, state_of, stays-alone, StaysAlone, StaysHome, still-alone}
+use Rattle.vm_fault.proofs.Prelude.{stores-did, subst, sym, true, two-loads, UNLOCKED, Version, version-within, version_of, View, Within, word-made, word-state}
+use Rattle.vm_fault.proofs.Prelude.{word-version, word_of, words-known, Works, ℕ, ⊎_elim, ◌++◌, ◌+◌, ◌<◌, ◌∙◌, ◌∷◌, ◌≡◌, ◌≢◌, ◌≤◌, ◌⊎◌}
 
 module _ {X : Type 0} where
   -- the pass, which had none of page p at v, holds it exclusively at x: it is not resident, its draft is its last words, and its block has them
@@ -123,17 +122,11 @@ module _ {X : Type 0} (tied : Start → ℕ → List ℕ → ℕ → List ℕ �
   }
 
   pub worn-in : (first : ℕ) → first ≡ word_of EVICTED MAX_VERSION → version_of word ≡ MAX_VERSION → word ≢ first → IsFetchToTry p (record { at = ats.Page p; first = first; seen = word }) v u
-  worn-in first is last ne = record {
-    done = try-did ∷ [];
-    aside = tried.aside;
-    keeps = tried.keeps;
-    steps = (refl, tt);
-    alone = look-runs;
-    table = λ a. (look-known a).1;
-    at = refl;
-    why = inr record { given = record { earlier = []; step = try-did; later = []; cut = refl; gives = (refl, refl) }; foreign = tt; last = last; other = other-state word MAX_VERSION last (λ e. ne (e ∙ sym is)); first = is };
-    known = λ a. ((look-known a).0, other-state word MAX_VERSION last (λ e. ne (e ∙ sym is)));
-  }
+  worn-in first is last ne =
+      let given : HasGiven (try-did ∷ []) (places.State p) word = record { earlier = []; step = try-did; later = []; cut = refl; gives = (refl, refl) } in
+      let other = other-state word MAX_VERSION last (λ e. ne (e ∙ sym is)) in
+      let why : IsWornIn (try-did ∷ []) p (record { at = ats.Page p; first = first; seen = word }) = record { given = given; foreign = tt; last = last; other = other; first = is } in
+      search (rules, tried, look-runs, (λ (a : IsAlone v). (look-known a).1), why, (λ (a : IsAlone v). (look-known a).0), other)
 
   pub lost : (first found n : ℕ) (w : View X) → first ≡ word_of EVICTED n → version_of word ≡ n → found ≢ first → LockTold tied p first found u w → IsFetchToTry p (record { at = ats.Page p; first = first; seen = found }) v w
   lost first found n w is at ne lock =
@@ -143,30 +136,24 @@ module _ {X : Type 0} (tied : Start → ℕ → List ℕ → ℕ → List ℕ �
       = ⊎_elim (λ (gone : state_of word ≡ EVICTED). inl (sym (word-made word) ∙ ap (λ (s : ℕ). word_of s (version_of word)) gone ∙ as-evicted)) (λ not. inr (not, sym as-evicted)) (cases_eq (state_of word) EVICTED) in
       let k : OnlyReads (λ q. q ≡ p) (try-did ∷ did ∷ []) v w
       = only-then (λ q. q ≡ p) (try-did ∷ []) (did ∷ []) v u w tried (lost-only (λ q. q ≡ p) did first found u (locked_view p lock.held (last_of w p).words u) w ne lock.brings) in
-      record {
-        done = try-did ∷ did ∷ [];
-        aside = k.aside;
-        keeps = k.keeps;
-        steps = (refl, (refl, tt));
-        alone = runs-then (try-did ∷ []) (did ∷ []) [] [] v u w tried.aside.start tried.aside.parts look-runs (runs-one did None [] [] u _ w lock.brings);
-        table = λ a.
-            words-known did None [] [] u _ w lock.brings (cond-false (eqb found first) _ _ (ne_eqb found first ne)) (still-alone v u tried.aside.parts tried.aside.alone.current a) ∙ (look-known a).1;
-        at = refl;
-        why = inl record {
-          evidence = lost-saw EvictedExpected p word first found (word_of LOCKED (version_of first)) from ne;
-          earlier = try-did ∷ [];
-          step = did;
-          later = [];
-          cut = refl;
-          lost = record { gives = (refl, refl); expected = refl; other = ne; left = cond-false (eqb found first) _ _ (ne_eqb found first ne) };
-          first = ap state_of is ∙ word-state EVICTED n (subst (λ (k : ℕ). k ≤ MAX_VERSION) at (version-within word));
-        };
-        known = λ a.
-            let now : IsAlone u = still-alone v u tried.aside.parts tried.aside.alone.current a in
-            let there : found ≡ known_word_at v (places.State p) = found-known did found None [] [] u _ w lock.brings refl now ∙ same-word v u tried.aside.start (look-known a).1 (places.State p) in
-            let same : version_of found ≡ n = ap version_of (there ∙ sym (look-known a).0) ∙ at in
-            (there, other-state found n same (λ e. ne (e ∙ sym is)));
-      }
+      let unwritten = cond-false (eqb found first) (Some (word_of LOCKED (version_of first))) None (ne_eqb found first ne) in
+      let now : IsAlone v → IsAlone u = still-alone v u tried.aside.parts tried.aside.alone.current in
+      let runs = runs-then (try-did ∷ []) (did ∷ []) [] [] v u w tried.aside.start tried.aside.parts look-runs (runs-one did None [] [] u _ w lock.brings) in
+      let table = λ (a : IsAlone v). words-known did None [] [] u _ w lock.brings unwritten (now a) ∙ (look-known a).1 in
+      let why : IsLostTo (try-did ∷ did ∷ []) p (record { at = ats.Page p; first = first; seen = found }) = record {
+        evidence = lost-saw EvictedExpected p word first found (word_of LOCKED (version_of first)) from ne;
+        earlier = try-did ∷ [];
+        step = did;
+        later = [];
+        cut = refl;
+        lost = record { gives = (refl, refl); expected = refl; other = ne; left = unwritten };
+        first = ap state_of is ∙ word-state EVICTED n (subst (λ (k : ℕ). k ≤ MAX_VERSION) at (version-within word));
+      } in
+      let known : IsAlone v → (found ≡ known_word_at v (places.State p)) × (state_of found ≢ EVICTED) = λ a.
+      let there : found ≡ known_word_at v (places.State p) = found-known did found None [] [] u _ w lock.brings refl (now a) ∙ same-word v u tried.aside.start (look-known a).1 (places.State p) in
+      let same : version_of found ≡ n = ap version_of (there ∙ sym (look-known a).0) ∙ at in
+      (there, other-state found n same (λ e. ne (e ∙ sym is))) in
+      search (rules, k, runs, table, why, known)
 
 -- ---- The release of a page that was found evicted and locked: nothing but its version is another then, and the pass holds what it held.
 
